@@ -1,7 +1,7 @@
 -- The least assignment of a program is one.
 use Rattle.std.proofs.Common.{◌≡◌, ℕ, ◌<◌, true, List, Option, Some, None, refl, ap, sym, ◌∙◌, subst, ext_get_or}
 use Rattle.sharc_tree.specs.{declared.ctype.Mode.Mode, declared.ctype.Mode.TheVariants.Private}
-use Rattle.sharc_graph.specs.{declared.graph.NodeFinding.NodeFinding, declared.graph.NodeFinding.TheVariants.{Apart, Source, Behind}, Findings.finding_at, declared.place.PositionKind.PositionKind, Flow.{flow_of, place_at, is_unwritten, AreInferred}}
+use Rattle.sharc_graph.specs.{declared.graph.NodeFinding.NodeFinding, declared.graph.NodeFinding.TheVariants.Source, Findings.finding_at, declared.place.PositionKind.PositionKind, Flow.{flow_of, place_at, is_unwritten, AreInferred}}
 use Rattle.sharc_graph.specs.declared.place.PositionKind.TheVariants as place
 use Rattle.sharc_ctype.specs.Resolved.{Resolution}
 use Rattle.sharc_mode.specs.{declared.position.Reason.Reason, declared.position.Reason.TheVariants.{Touched, Spawned, From}, Flows.{IsUnsettledPlace, IsPlaceFor, ArePlaces, links_of, inferred_mode, mode_found, IsRootReason, IsReasonBy, IsReasonFor, IsLeastAssignment}, Moded.{Assignment, position_count, reason_at}, Settled.settled_at}
@@ -12,17 +12,12 @@ use Rattle.sharc_infer_laws.specs.Laws.{FindingsAreOne, IsOneRoot}
 unsettled : (r : Resolution) (p : ℕ) (x y : PositionKind) → IsUnsettledPlace r p x → IsUnsettledPlace r p y → x ≡ y
 unsettled r p place.Root place.Root l h = refl
 unsettled r p place.Root place.Unwritten l h = absurd (h l)
-unsettled r p place.Root place.Dynamic l h = absurd h
-unsettled r p place.Root place.Private l h = absurd h
-unsettled r p place.Root place.Other l h = absurd h
 unsettled r p place.Unwritten place.Root l h = absurd (l h)
 unsettled r p place.Unwritten place.Unwritten l h = refl
-unsettled r p place.Unwritten place.Dynamic l h = absurd h
-unsettled r p place.Unwritten place.Private l h = absurd h
-unsettled r p place.Unwritten place.Other l h = absurd h
 unsettled r p place.Dynamic y l h = absurd l
 unsettled r p place.Private y l h = absurd l
 unsettled r p place.Other y l h = absurd l
+unsettled r p _ _ l h = absurd h
 
 one_place : (r : Resolution) (p : ℕ) (o : Option Mode) (x y : PositionKind) → IsPlaceFor r p o x → IsPlaceFor r p o y → x ≡ y
 one_place r p None x y l h = unsettled r p x y l h
@@ -34,9 +29,7 @@ same_places r x y a b = ext_get_or place.Private x y (a.size ∙ sym b.size) (λ
 is_open : (r : Resolution) (p : ℕ) (x : PositionKind) → IsUnsettledPlace r p x → is_unwritten x ≡ true
 is_open r p place.Root is = refl
 is_open r p place.Unwritten is = refl
-is_open r p place.Dynamic is = absurd is
-is_open r p place.Private is = absurd is
-is_open r p place.Other is = absurd is
+is_open r p _ is = absurd is
 
 -- ---- modes and reasons of one position
 
@@ -48,19 +41,15 @@ module _ (r : Resolution) (p : ℕ) (root : IsOneRoot r p) where
   one_root_reason : (s t : Option Reason) → IsRootReason r p s → IsRootReason r p t → s ≡ t
   one_root_reason None t l h = absurd l
   one_root_reason (Some (From n)) t l h = absurd l
-  one_root_reason (Some (Touched f)) None l h = absurd h
-  one_root_reason (Some (Touched f)) (Some (From n)) l h = absurd h
   one_root_reason (Some (Touched f)) (Some (Touched g)) l h = ap (λ (n : ℕ). Some (Touched n)) (root.touched f g l h)
   one_root_reason (Some (Touched f)) (Some (Spawned g)) l h = absurd (root.apart f g l h)
-  one_root_reason (Some (Spawned f)) None l h = absurd h
-  one_root_reason (Some (Spawned f)) (Some (From n)) l h = absurd h
   one_root_reason (Some (Spawned f)) (Some (Touched g)) l h = absurd (root.apart g f h l)
   one_root_reason (Some (Spawned f)) (Some (Spawned g)) l h = ap (λ (n : ℕ). Some (Spawned n)) (root.passed f g l h)
+  one_root_reason _ _ l h = absurd h
 
   one_reason_by : (x : NodeFinding) (s t : Option Reason) → IsReasonBy r p x s → IsReasonBy r p x t → s ≡ t
-  one_reason_by Apart s t l h = l ∙ sym h
   one_reason_by Source s t l h = one_root_reason s t l h
-  one_reason_by (Behind rank other) s t l h = l ∙ sym h
+  one_reason_by _ s t l h = l ∙ sym h
 
   one_reason : (o : Option Mode) (x y : NodeFinding) (s t : Option Reason) → (o ≡ None → x ≡ y) → IsReasonFor r p o x s → IsReasonFor r p o y t → s ≡ t
   one_reason None x y s t same l h = one_reason_by x s t l (subst (λ (z : NodeFinding). IsReasonBy r p z t) (sym (same refl)) h)

@@ -1,8 +1,8 @@
 -- The lock paths among the modes of a type are those that are written in it.
 use Rattle.std.proofs.{Common.{◌≡◌, ℕ, zero, suc, ◌+◌, ◌<◌, ◌≤◌, Bool, true, false, cond, List, [], ◌∷◌, ◌++◌, length, drop, get_or, Option, Some, None, Contains, ◌⊎◌, inl, inr, ⊎_elim, refl, ap, sym, ◌∙◌, subst, arith}, lemmas.List.{get_or-append-add, get_or_append_left, length-append}}
 use Rattle.std.specs.Option.{option_or}
-use Rattle.sharc_tree.specs.{declared.ctype.Base.Base, declared.ctype.Mode.Mode, declared.ctype.Mode.TheVariants.{Private, Readonly, Locked, Racy, Dynamic}, declared.ctype.Path.Path}
-use Rattle.sharc_graph.specs.{declared.graph.NodeFinding.NodeFinding, declared.graph.NodeFinding.TheVariants.{Apart, Source, Behind}, Findings.finding_at}
+use Rattle.sharc_tree.specs.{declared.ctype.Base.Base, declared.ctype.Mode.Mode, declared.ctype.Mode.TheVariants.{Private, Locked, Racy, Dynamic}, declared.ctype.Path.Path}
+use Rattle.sharc_graph.specs.{declared.graph.NodeFinding.NodeFinding, declared.graph.NodeFinding.TheVariants.Apart, Findings.finding_at}
 use Rattle.sharc_names.specs.declared.types.Role.{Role}
 use Rattle.sharc_names.specs.declared.types.Role.TheVariants as role
 use Rattle.sharc_ctype.specs.{declared.entity.Entity.Entity, declared.entity.Numbered.Numbered, Entities.{entities_in, first_depth, numbered, numbered_from, positions_of, written_modes}}
@@ -80,18 +80,12 @@ behind_drop (suc k) [] x c = c
 behind_drop (suc k) (level ∷ below) x c = contains_behind level below x (behind_drop k below x c)
 
 target_written : (levels : List (Option Mode)) (path : Path) → field_target levels ≡ Locked path → Contains levels (Some (Locked path))
-target_written [] path is = absurd (dynamic_apart path is)
-target_written (None ∷ below) path is = absurd (dynamic_apart path is)
 target_written (Some x ∷ below) path is = subst (λ (o : Mode). Contains (Some x ∷ below) (Some o)) is (head_there (Some x) below)
+target_written _ path is = absurd (dynamic_apart path is)
 
 otherwise_written : (what : Role) (levels : List (Option Mode)) (path : Path) → otherwise_of what levels ≡ Some (Locked path) → Contains levels (Some (Locked path))
 otherwise_written role.Field levels path is = target_written levels path (one_mode (field_target levels) (Locked path) is)
-otherwise_written role.Global levels path is = absurd (no_mode (Locked path) is)
-otherwise_written role.Local levels path is = absurd (no_mode (Locked path) is)
-otherwise_written role.Parameter levels path is = absurd (no_mode (Locked path) is)
-otherwise_written role.Result levels path is = absurd (no_mode (Locked path) is)
-otherwise_written role.Cast levels path is = absurd (no_mode (Locked path) is)
-otherwise_written role.Made levels path is = absurd (no_mode (Locked path) is)
+otherwise_written _ levels path is = absurd (no_mode (Locked path) is)
 
 of_entity : (e : Entity) (depth : ℕ) (path : Path) → get_or (settled_modes e) depth (Some Private) ≡ Some (Locked path) → Contains e.written.ctype.levels (Some (Locked path))
 of_entity e depth path is =
@@ -101,13 +95,8 @@ of_entity e depth path is =
 -- what is inferred is no lock path
 found_written : (levels : List (Option Mode)) (o : Option Mode) (f : NodeFinding) → ((path : Path) → o ≡ Some (Locked path) → Contains levels (Some (Locked path))) → IsWrittenLock levels (mode_found o f)
 found_written levels None Apart written = tt
-found_written levels None Source written = tt
-found_written levels None (Behind rank other) written = tt
-found_written levels (Some Private) f written = tt
-found_written levels (Some Readonly) f written = tt
 found_written levels (Some (Locked path)) f written = written path refl
-found_written levels (Some Racy) f written = tt
-found_written levels (Some Dynamic) f written = tt
+found_written levels _ _ written = tt
 
 pub least_has_written_locks : SettledAreCounted → LeastHasWrittenLocks
 least_has_written_locks counted m least n at depth within =

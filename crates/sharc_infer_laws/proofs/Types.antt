@@ -6,18 +6,16 @@ use Rattle.sharc_tree.specs.declared.ctype.Base.TheVariants as base
 use Rattle.sharc_names.specs.declared.types.Role.{Role}
 use Rattle.sharc_names.specs.declared.types.Role.TheVariants as role
 use Rattle.sharc_ctype.specs.{declared.entity.Entity.Entity, declared.entity.Numbered.Numbered, Entities.{entities_in, first_depth, numbered, numbered_from, positions_of, written_modes}}
-use Rattle.sharc_mode.specs.{declared.error.ErrorCode.ErrorCode, declared.error.ErrorCode.TheVariants.{PrivateTarget, LockPathNotConstant, ModeNotAllowed, PrivateField}, declared.finding.Finding.Finding, declared.finding.Finding.TheVariants.{Wrong, Names, Takes}, Flows.IsLeastAssignment, Laws.{SettledStay, SettledAreCounted}, Moded.{Assignment, position_count}, Notes.{error, mismatch, no_type, error_where, top_levels, position_levels, levels_of, printed_type, private_notes, path_notes, mode_notes, is_private_level, is_field_role, private_field_notes, names_of, names_in, names_in_level, type_notes}, Settled.{is_mutex, settled, field_target, otherwise_of, settled_modes, settled_in}, Sharings.{Sharing, private, readonly, locked, racy, dynamic, sharing_of, text_at, object_of}, WellFormed.{place_of, is_private_mode, begins_private, holds_private, meant, first_unfit_path, first_unfit_mode, lowest}}
+use Rattle.sharc_mode.specs.{declared.error.ErrorCode.ErrorCode, declared.error.ErrorCode.TheVariants.{PrivateTarget, LockPathNotConstant, ModeNotAllowed, PrivateField}, declared.finding.Finding.Finding, declared.finding.Finding.TheVariants.Wrong, Flows.IsLeastAssignment, Laws.{SettledStay, SettledAreCounted}, Moded.{Assignment, position_count}, Notes.{error, mismatch, no_type, error_where, top_levels, position_levels, levels_of, printed_type, private_notes, path_notes, mode_notes, is_private_level, is_field_role, private_field_notes, names_of, names_in, names_in_level, type_notes}, Settled.{is_mutex, settled, field_target, otherwise_of, settled_modes, settled_in}, Sharings.{Sharing, locked, sharing_of, text_at, object_of}, WellFormed.{place_of, is_private_mode, begins_private, holds_private, meant, first_unfit_path, first_unfit_mode, lowest}}
 use Rattle.sharc_infer_laws.specs.Types.{code_of, IsTold, TypesAreTold}
 
 -- ---- levels that are known more of than others
 
 abbrev Agrees : List (Option Mode) → List (Option Mode) → Type 0
 Agrees [] [] = Unit {0}
-Agrees [] (y ∷ ys) = ⊥
-Agrees (None ∷ xs) [] = ⊥
-Agrees (Some x ∷ xs) [] = ⊥
 Agrees (None ∷ xs) (y ∷ ys) = Agrees xs ys
 Agrees (Some x ∷ xs) (y ∷ ys) = (y ≡ Some x) × Agrees xs ys
+Agrees _ _ = ⊥
 
 or_kept : (a b c d : Bool) → (a ≡ true → c ≡ true) → (b ≡ true → d ≡ true) → (a || b) ≡ true → (c || d) ≡ true
 or_kept true b c d left right is = or_left c d (left refl)
@@ -41,14 +39,12 @@ holds_later (Some m) b is = or_right (not (is_private_mode m) && begins_private 
 -- a private target below a level that is not stays one
 holds_kept : (a b : List (Option Mode)) → Agrees a b → holds_private a ≡ true → holds_private b ≡ true
 holds_kept [] [] h is = is
-holds_kept [] (y ∷ b) h is = absurd h
-holds_kept (None ∷ a) [] h is = absurd h
 holds_kept (None ∷ a) (y ∷ b) h is = holds_later y b (holds_kept a b h is)
-holds_kept (Some x ∷ a) [] h is = absurd h
 holds_kept (Some x ∷ a) (y ∷ b) h is =
     ap (λ (l : Option Mode). holds_private (l ∷ b)) h.0
     ∙ or_kept (not (is_private_mode x) && begins_private a) (holds_private a) (not (is_private_mode x) && begins_private b) (holds_private b)
     (and_kept (not (is_private_mode x)) (begins_private a) (begins_private b) (begins_kept a b h.1)) (holds_kept a b h.1) is
+holds_kept _ _ h is = absurd h
 
 -- ---- the modes of the positions agree with what is settled of them
 
@@ -57,11 +53,9 @@ known = map (λ mode. Some mode)
 
 all_agree : (s : List (Option Mode)) (ms : List Mode) → length s ≡ length ms → ((i : ℕ) → i < length s → (x : Mode) → get_or s i (Some Private) ≡ Some x → get_or ms i Private ≡ x) → Agrees s (known ms)
 all_agree [] [] size h = tt
-all_agree [] (y ∷ ms) size h = absurd (omega (arith, size))
-all_agree (None ∷ s) [] size h = absurd (omega (arith, size))
-all_agree (Some x ∷ s) [] size h = absurd (omega (arith, size))
 all_agree (None ∷ s) (y ∷ ms) size h = all_agree s ms (omega (arith, size)) (λ i low x is. h (suc i) (omega (arith, low)) x is)
 all_agree (Some x ∷ s) (y ∷ ms) size h = (ap Some (h zero (omega arith) x refl), all_agree s ms (omega (arith, size)) (λ i low z is. h (suc i) (omega (arith, low)) z is))
+all_agree _ _ size h = absurd (omega (arith, size))
 
 in_front : (a b : List (Option Mode)) (ms : List Mode) → Agrees (a ++ b) (known ms) → Agrees a (known (take (length a) ms))
 in_front [] b ms h = tt
@@ -107,12 +101,8 @@ positions_agree stay counted m least n at =
 -- ---- M3
 
 no_mutex : (b : Base) (x : Option Mode) (l : List (Option Mode)) → is_mutex b (x ∷ l) ≡ false
-no_mutex base.Int x l = refl
-no_mutex base.Char x l = refl
-no_mutex base.Long x l = refl
-no_mutex base.Mutex x l = refl
-no_mutex base.Void x l = refl
 no_mutex (base.Struct name) x l = refl
+no_mutex _ x l = refl
 
 single_by : (b : Bool) → ((not b && false) || false) ≡ false
 single_by true = refl
@@ -139,20 +129,14 @@ or_private top x is = ap (λ (t : Option Mode). option_or t (Some Private)) is
 
 holds_by : (what : Role) (b : Base) (levels ps : List (Option Mode)) → Agrees (settled b (otherwise_of what levels) (drop (first_depth what) levels)) ps → holds_private (meant (place_of what) b levels) ≡ true
     → holds_private (top_levels what levels ++ ps) ≡ true
-holds_by role.Global b [] ps h is = absurd (false≢true is)
 holds_by role.Global b (top ∷ below) ps h is = holds_kept (settled b None (top ∷ below)) ps h is
-holds_by role.Field b [] ps h is = absurd (false≢true is)
 holds_by role.Field b (top ∷ below) ps h is = topped b top top (Some (field_target (top ∷ below))) below ps (λ x same. same) h is
-holds_by role.Local b [] ps h is = absurd (false≢true is)
 holds_by role.Local b (top ∷ below) ps h is = topped b top (option_or top (Some Private)) None below ps (or_private top) h is
-holds_by role.Parameter b [] ps h is = absurd (false≢true is)
 holds_by role.Parameter b (top ∷ below) ps h is = topped b top (option_or top (Some Private)) None below ps (or_private top) h is
-holds_by role.Result b [] ps h is = absurd (false≢true is)
 holds_by role.Result b (top ∷ below) ps h is = topped b top top None below ps (λ x same. same) h is
-holds_by role.Cast b [] ps h is = absurd (false≢true is)
 holds_by role.Cast b (top ∷ below) ps h is = topped b top top None below ps (λ x same. same) h is
-holds_by role.Made b [] ps h is = absurd (false≢true is)
 holds_by role.Made b (top ∷ below) ps h is = topped b top top None below ps (λ x same. same) h is
+holds_by _ b [] ps h is = absurd (false≢true is)
 
 -- ---- what is reported
 
@@ -259,8 +243,7 @@ module _ (m : Assignment) (n : Numbered) where
 
   abbrev IsOther : Finding → Type 0
   IsOther (Wrong e) = (e.code ≡ LockPathNotConstant → ⊥) × (e.code ≡ ModeNotAllowed → ⊥)
-  IsOther (Names x) = Unit {0}
-  IsOther (Takes s x) = Unit {0}
+  IsOther _ = Unit {0}
 
   others_at : (l : List Finding) (x : Finding) (k : ℕ) → k < length l → get_or l k x ≡ x → AllByRecursion IsOther l → IsOther x
   others_at [] x k low is all = absurd (omega (arith, low))
@@ -296,11 +279,8 @@ module _ (m : Assignment) (n : Numbered) where
   name_other (Some x) = (tt, tt)
 
   sharing_other : (s : Sharing) → AllByRecursion IsOther (names_in m.typed s)
-  sharing_other private = tt
-  sharing_other readonly = tt
   sharing_other (locked l) = name_other (object_of m.typed l)
-  sharing_other racy = tt
-  sharing_other dynamic = tt
+  sharing_other _ = tt
 
   level_other : (level : Option Mode) → AllByRecursion IsOther (names_in_level m.typed level)
   level_other None = tt
