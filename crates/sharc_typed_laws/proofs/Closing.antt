@@ -1,49 +1,9 @@
 -- Code after which nothing is asked: it ends with a line that is typed whatever is said after it.
-use Rattle.std.proofs.Common.{◌≡◌, ℕ, ◌+◌, true, List, [], ◌∷◌, ◌++◌, length, Some, refl, sym, subst, arith, length-append}
-use Rattle.sharc_code.specs.{declared.instr.Width.Width, declared.instr.Width.TheVariants.Int}
+use Rattle.std.proofs.Common.{◌≡◌, ℕ, ◌+◌, List, [], ◌∷◌, ◌++◌, length, Some, refl, sym, subst, arith, length-append}
 use Rattle.sharc_flat.specs.declared.op.Op.{Op}
-use Rattle.sharc_invariant.specs.{Types.Lock, Types.Lock.Through, Labels.{Entry, Refers, Number, Anything, Within, Gate, Closed, Sole, Label, Itself, IsCopy, SameLock, AllSame, LessEntry, Narrower, LessNumber, LessGate, Less, IsScoped}, Typed.{ints_in, refs_in}}
+use Rattle.sharc_invariant.specs.{Labels.IsScoped, Typed.{ints_in, refs_in}}
 use Rattle.sharc_typed_laws.specs.{Stretches.{Mark, Setting, Fits, IsLine, Agrees, AreLines, first, AreWithin, Way, LeadsFrom}, Functions.FunctionLines}
 use Rattle.sharc_typed_laws.proofs.Fitting.{fits_same}
-
--- ---- a label says no more than itself
-same_lock : (l : Label) (r : ℕ) (a : Lock) → SameLock l r a a
-same_lock l r (Through q j) = (refl, Itself refl)
-same_lock l r _ = refl
-
-same_locks : (l : Label) (r : ℕ) (xs : List Lock) → AllSame (SameLock l r) xs xs
-same_locks l r [] = tt
-same_locks l r (x ∷ xs) = (same_lock l r x, same_locks l r xs)
-
-less_entry : (l : Label) (r : ℕ) (e : Entry) → LessEntry l r e e
-less_entry l r (Refers s) = record { target = refl; locks = same_locks l r s.locks }
-less_entry l r _ = refl
-
-narrower : (w : Width) → Narrower w w
-narrower Int = tt
-narrower _ = tt
-
-less_number : (n : Number) → LessNumber n n
-less_number Anything = tt
-less_number (Within w) = narrower w
-less_number _ = refl
-
-less_gate : (g : Gate) → LessGate g g
-less_gate Closed = tt
-less_gate (Sole r true) = refl
-less_gate _ = refl
-
-less_same : (l : Label) → Less l l
-less_same l = record {
-  function = refl;
-  env = λ r. less_entry l r (l.env r);
-  same = λ r. IsCopy refl;
-  known = λ r e. e;
-  ints = λ r. less_number (l.ints r);
-  gate = less_gate l.gate;
-  passed = λ p h. h;
-  room = λ e. e;
-}
 
 -- ---- lists of lines
 pub within_left : (ints refs : ℕ) (xs ys : List Op) → AreWithin ints refs (xs ++ ys) → AreWithin ints refs xs

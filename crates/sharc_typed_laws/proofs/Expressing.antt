@@ -1,6 +1,6 @@
 -- The code of an expression is typed, by what the types of the source say of it.
 use Rattle.std.proofs.{Common.{◌≡◌, ℕ, ◌+◌, ◌<◌, ◌≤◌, ◌⊎◌, Bool, true, false, cond, List, [], ◌∷◌, ◌++◌, Option, Some, None, refl, sym, ap, ◌∙◌, subst, inl, inr, ⊎_elim, arith, append_assoc, drop, codes, bytes_eq}, lemmas.Bool.{false≢true, cases_eq, cases_lt}}
-use Rattle.sharc_tree.specs.{declared.token.Site.Site, declared.token.Span.Span, declared.tree.declaration.Identifier.Identifier, declared.tree.declaration.WrittenType.WrittenType, declared.tree.expression.FieldOperator.TheVariants.{Dot, Arrow}, declared.tree.expression.BinaryOperator.BinaryOperator, declared.tree.expression.BinaryOperator.TheVariants.{LogicalOr, LogicalAnd, BitOr, BitXor, BitAnd, Equal, NotEqual, Less, Greater, LessOrEqual, GreaterOrEqual, ShiftLeft, ShiftRight, Add, Subtract, Multiply, Divide, Remainder}, declared.tree.expression.Constant.Constant, declared.tree.expression.PlaceCall.TheVariants.{Lock, Unlock, Free}, declared.tree.expression.UnaryOperator.TheVariants.{Negate, Not, Complement, Dereference}, declared.tree.expression.ValueCall.TheVariants.{Join, Print}, Spans.span_of, Tree.{Expression, identifier, constant, parentheses, call, spawn, on_value, on_place, cast, index, field, unary, binary, Arguments, no_arguments, argument}}
+use Rattle.sharc_tree.specs.{declared.token.Site.Site, declared.token.Span.Span, declared.tree.declaration.Identifier.Identifier, declared.tree.declaration.WrittenType.WrittenType, declared.tree.expression.FieldOperator.TheVariants.{Dot, Arrow}, declared.tree.expression.BinaryOperator.BinaryOperator, declared.tree.expression.BinaryOperator.TheVariants.{LogicalOr, LogicalAnd}, declared.tree.expression.Constant.Constant, declared.tree.expression.PlaceCall.TheVariants.{Lock, Unlock, Free}, declared.tree.expression.UnaryOperator.TheVariants.{Negate, Not, Complement, Dereference}, declared.tree.expression.ValueCall.TheVariants.{Join, Print}, Spans.span_of, Tree.{Expression, identifier, constant, parentheses, call, spawn, on_value, on_place, cast, index, field, unary, binary, Arguments, no_arguments, argument}}
 use Rattle.sharc_names.specs.{declared.fault.Named.Named, Kinds.{Kind, is_array, is_integer, element_kind, promoted, declared_kinds}}
 use Rattle.sharc_names.specs.declared.fault.Named.TheVariants as named
 use Rattle.sharc_code.specs.{declared.code.Use.Use, declared.instr.Register.Register, declared.instr.Width.Width, declared.instr.Width.TheVariants.{Char, Int}, Runs.put}
@@ -1124,22 +1124,7 @@ module _ (around : Setting) (f : ℕ) (ways : List Way) (y : Typing) (c : Contex
     expressions from i r l fr (binary s LogicalOr at a b) h = entered from i r l fr _ (binary s LogicalOr at a b)
         (either_value from i r l fr (binary s LogicalOr at a b) (expression_code c i r a ++ truth_code (is_ref c a) i r) (expression_code c i r b ++ truth_code (is_ref c b) i r) h.4 (truth_of from i r l fr a (expression_code c i r a) h.1 (expressions from i r l fr a h.0))
         (λ l2 f2. truth_of from i r l2 f2 b (expression_code c i r b) h.3 (expressions from i r l2 f2 b h.2)))
-    expressions from i r l fr (binary s BitOr at a b) h = entered from i r l fr _ (binary s BitOr at a b) (computed from i r l fr (binary s BitOr at a b) at BitOr a b (expression_code c i r a) (λ i2 r2. expression_code c i2 r2 b) h.4.0 h.4.1 h.1 h.3 (expressions from i r l fr a h.0) (λ i2 r2 l2 f2. expressions from i2 r2 l2 f2 b h.2))
-    expressions from i r l fr (binary s BitXor at a b) h = entered from i r l fr _ (binary s BitXor at a b) (computed from i r l fr (binary s BitXor at a b) at BitXor a b (expression_code c i r a) (λ i2 r2. expression_code c i2 r2 b) h.4.0 h.4.1 h.1 h.3 (expressions from i r l fr a h.0) (λ i2 r2 l2 f2. expressions from i2 r2 l2 f2 b h.2))
-    expressions from i r l fr (binary s BitAnd at a b) h = entered from i r l fr _ (binary s BitAnd at a b) (computed from i r l fr (binary s BitAnd at a b) at BitAnd a b (expression_code c i r a) (λ i2 r2. expression_code c i2 r2 b) h.4.0 h.4.1 h.1 h.3 (expressions from i r l fr a h.0) (λ i2 r2 l2 f2. expressions from i2 r2 l2 f2 b h.2))
-    expressions from i r l fr (binary s Equal at a b) h = entered from i r l fr _ (binary s Equal at a b) (computed from i r l fr (binary s Equal at a b) at Equal a b (expression_code c i r a) (λ i2 r2. expression_code c i2 r2 b) h.4.0 h.4.1 h.1 h.3 (expressions from i r l fr a h.0) (λ i2 r2 l2 f2. expressions from i2 r2 l2 f2 b h.2))
-    expressions from i r l fr (binary s NotEqual at a b) h = entered from i r l fr _ (binary s NotEqual at a b) (computed from i r l fr (binary s NotEqual at a b) at NotEqual a b (expression_code c i r a) (λ i2 r2. expression_code c i2 r2 b) h.4.0 h.4.1 h.1 h.3 (expressions from i r l fr a h.0) (λ i2 r2 l2 f2. expressions from i2 r2 l2 f2 b h.2))
-    expressions from i r l fr (binary s Less at a b) h = entered from i r l fr _ (binary s Less at a b) (computed from i r l fr (binary s Less at a b) at Less a b (expression_code c i r a) (λ i2 r2. expression_code c i2 r2 b) h.4.0 h.4.1 h.1 h.3 (expressions from i r l fr a h.0) (λ i2 r2 l2 f2. expressions from i2 r2 l2 f2 b h.2))
-    expressions from i r l fr (binary s Greater at a b) h = entered from i r l fr _ (binary s Greater at a b) (computed from i r l fr (binary s Greater at a b) at Greater a b (expression_code c i r a) (λ i2 r2. expression_code c i2 r2 b) h.4.0 h.4.1 h.1 h.3 (expressions from i r l fr a h.0) (λ i2 r2 l2 f2. expressions from i2 r2 l2 f2 b h.2))
-    expressions from i r l fr (binary s LessOrEqual at a b) h = entered from i r l fr _ (binary s LessOrEqual at a b) (computed from i r l fr (binary s LessOrEqual at a b) at LessOrEqual a b (expression_code c i r a) (λ i2 r2. expression_code c i2 r2 b) h.4.0 h.4.1 h.1 h.3 (expressions from i r l fr a h.0) (λ i2 r2 l2 f2. expressions from i2 r2 l2 f2 b h.2))
-    expressions from i r l fr (binary s GreaterOrEqual at a b) h = entered from i r l fr _ (binary s GreaterOrEqual at a b) (computed from i r l fr (binary s GreaterOrEqual at a b) at GreaterOrEqual a b (expression_code c i r a) (λ i2 r2. expression_code c i2 r2 b) h.4.0 h.4.1 h.1 h.3 (expressions from i r l fr a h.0) (λ i2 r2 l2 f2. expressions from i2 r2 l2 f2 b h.2))
-    expressions from i r l fr (binary s ShiftLeft at a b) h = entered from i r l fr _ (binary s ShiftLeft at a b) (computed from i r l fr (binary s ShiftLeft at a b) at ShiftLeft a b (expression_code c i r a) (λ i2 r2. expression_code c i2 r2 b) h.4.0 h.4.1 h.1 h.3 (expressions from i r l fr a h.0) (λ i2 r2 l2 f2. expressions from i2 r2 l2 f2 b h.2))
-    expressions from i r l fr (binary s ShiftRight at a b) h = entered from i r l fr _ (binary s ShiftRight at a b) (computed from i r l fr (binary s ShiftRight at a b) at ShiftRight a b (expression_code c i r a) (λ i2 r2. expression_code c i2 r2 b) h.4.0 h.4.1 h.1 h.3 (expressions from i r l fr a h.0) (λ i2 r2 l2 f2. expressions from i2 r2 l2 f2 b h.2))
-    expressions from i r l fr (binary s Add at a b) h = entered from i r l fr _ (binary s Add at a b) (computed from i r l fr (binary s Add at a b) at Add a b (expression_code c i r a) (λ i2 r2. expression_code c i2 r2 b) h.4.0 h.4.1 h.1 h.3 (expressions from i r l fr a h.0) (λ i2 r2 l2 f2. expressions from i2 r2 l2 f2 b h.2))
-    expressions from i r l fr (binary s Subtract at a b) h = entered from i r l fr _ (binary s Subtract at a b) (computed from i r l fr (binary s Subtract at a b) at Subtract a b (expression_code c i r a) (λ i2 r2. expression_code c i2 r2 b) h.4.0 h.4.1 h.1 h.3 (expressions from i r l fr a h.0) (λ i2 r2 l2 f2. expressions from i2 r2 l2 f2 b h.2))
-    expressions from i r l fr (binary s Multiply at a b) h = entered from i r l fr _ (binary s Multiply at a b) (computed from i r l fr (binary s Multiply at a b) at Multiply a b (expression_code c i r a) (λ i2 r2. expression_code c i2 r2 b) h.4.0 h.4.1 h.1 h.3 (expressions from i r l fr a h.0) (λ i2 r2 l2 f2. expressions from i2 r2 l2 f2 b h.2))
-    expressions from i r l fr (binary s Divide at a b) h = entered from i r l fr _ (binary s Divide at a b) (computed from i r l fr (binary s Divide at a b) at Divide a b (expression_code c i r a) (λ i2 r2. expression_code c i2 r2 b) h.4.0 h.4.1 h.1 h.3 (expressions from i r l fr a h.0) (λ i2 r2 l2 f2. expressions from i2 r2 l2 f2 b h.2))
-    expressions from i r l fr (binary s Remainder at a b) h = entered from i r l fr _ (binary s Remainder at a b) (computed from i r l fr (binary s Remainder at a b) at Remainder a b (expression_code c i r a) (λ i2 r2. expression_code c i2 r2 b) h.4.0 h.4.1 h.1 h.3 (expressions from i r l fr a h.0) (λ i2 r2 l2 f2. expressions from i2 r2 l2 f2 b h.2))
+    expressions from i r l fr (binary s o at a b) h = entered from i r l fr _ (binary s o at a b) (computed from i r l fr (binary s o at a b) at o a b (expression_code c i r a) (λ i2 r2. expression_code c i2 r2 b) h.4.0 h.4.1 h.1 h.3 (expressions from i r l fr a h.0) (λ i2 r2 l2 f2. expressions from i2 r2 l2 f2 b h.2))
 
     pub places : (from i r : ℕ) (l : Label) → F from i r l → (site : Site) (own guard : Option ℕ) (e : Expression) → PlaceTyped own guard e → PlaceValue from i r l (place_code c i r site own guard e) (target c.program.typed own e) guard (ground_of around f y c e)
     places from i r l fr site own guard (identifier s x) h = entered_place from i r l fr [] _ guard _ (named_place from i r l fr (what_names c x.site.token) (own_field own 0) guard _ refl refl)
