@@ -1,7 +1,7 @@
 -- The lock path of the type of an element leads to a mutex: it is that of the type of the pointer through which the lvalue leads.
 use Rattle.std.proofs.Common.{◌≡◌, Bool, true, false, cond, List, [], ◌∷◌, refl, subst, Option, Some, None}
 use Rattle.std.specs.List.{AllByRecursion}
-use Rattle.sharc_tree.specs.{declared.tree.expression.FieldOperator.TheVariants.{Dot, Arrow}, declared.tree.expression.UnaryOperator.TheVariants.{Negate, Not, Complement, Dereference}, Measures.expressions, Tree.{Expression, identifier, constant, parentheses, call, spawn, on_value, on_place, cast, index, field, unary, binary}}
+use Rattle.sharc_tree.specs.{declared.tree.expression.FieldOperator.TheVariants.{Dot, Arrow}, declared.tree.expression.UnaryOperator.TheVariants.Dereference, Measures.expressions, Tree.{Expression, parentheses, index, field, unary}}
 use Rattle.sharc_names.specs.Kinds.{is_array}
 use Rattle.sharc_ctype.specs.Resolved.{Resolution, named_at, kind_at}
 use Rattle.sharc_mode.specs.{Rows.modes_at, Sharings.{Lock, Sharing, locked}}

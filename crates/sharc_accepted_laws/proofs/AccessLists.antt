@@ -1,9 +1,7 @@
 -- Lists of which each member has a property, and what is found in them.
-use Rattle.std.proofs.Common.{◌≡◌, ℕ, zero, suc, List, [], ◌∷◌, ◌++◌, slice_get, subst, arith, Some, Contains}
+use Rattle.std.proofs.Common.{◌≡◌, ℕ, zero, suc, List, [], ◌∷◌, ◌++◌, slice_get, subst, Some}
 use Rattle.std.specs.List.{AllByRecursion}
-use Rattle.sharc_tree.specs.{Measures.expressions, Tree.{Expression, identifier, constant, parentheses, call, spawn, on_value, on_place, cast, index, field, unary, binary}}
 use Rattle.sharc_lemmas.proofs.Options.{same_some, none_some}
-use Rattle.sharc_accepted_laws.proofs.{TargetLists.place_there as there_at, Members.first_of as self}
 
 pub each_at : {A : Type 0} (P : A → Type 0) (list : List A) (k : ℕ) (x : A) → AllByRecursion P list → slice_get list k ≡ Some x → P x
 each_at P [] k x all is = absurd (none_some x is)

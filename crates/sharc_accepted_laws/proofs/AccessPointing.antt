@@ -1,10 +1,9 @@
 -- The reference in the cell of an lvalue has the type that the source gives it.
 use Rattle.std.proofs.{Common.{◌≡◌, inl, inr, ⊎_elim, ℕ, zero, suc, ◌==◌, Bool, true, false, cond, List, [], ◌∷◌, map, refl, ap, sym, ◌∙◌, subst, arith, eqb-true, option_map, Option, Some, None}, lemmas.Bool.{false≢true, ltb-true}}
-use Rattle.sharc_tree.specs.{declared.ctype.Base.Base, declared.tree.expression.FieldOperator.TheVariants.{Dot, Arrow}, declared.tree.expression.UnaryOperator.TheVariants.{Negate, Not, Complement, Dereference}, Tree.{Expression, identifier, constant, parentheses, call, spawn, on_value, on_place, cast, index, field, unary, binary}}
+use Rattle.sharc_tree.specs.{declared.ctype.Base.Base, declared.tree.expression.FieldOperator.TheVariants.{Dot, Arrow}, declared.tree.expression.UnaryOperator.TheVariants.Dereference, Tree.{Expression, identifier, parentheses, index, field, unary}}
 use Rattle.sharc_tree.specs.declared.ctype.Base.TheVariants as base
 use Rattle.sharc_names.specs.declared.fault.Named.TheVariants as named
-use Rattle.sharc_names.specs.Kinds.{Kind, object, array, is_array, is_pointer}
-use Rattle.sharc_names.specs.Kinds as kinds
+use Rattle.sharc_names.specs.Kinds.{Kind, object, is_array, is_pointer}
 use Rattle.sharc_code.specs.declared.code.Code.{Code}
 use Rattle.sharc_ctype.specs.Resolved.{named_at, kind_at}
 use Rattle.sharc_mode.specs.{Cells.{is_mutex_kind, cell_at}, Moded.Assignment, Notes.base_of, Rows.{Targets, row_at, modes_of, modes_at, constant_use, is_constant_named}, Sharings.Sharing}

@@ -1,7 +1,7 @@
 -- What no thread reaches, and that private globals are named there alone.
 use Rattle.std.proofs.{Common.{◌≡◌, ◌⊎◌, inl, inr, ⊎_elim, ℕ, zero, suc, ◌+◌, ◌<◌, ◌≤◌, Bool, true, false, cond, ◌&&◌, List, [], ◌∷◌, ◌++◌, length, slice_get, refl, ap, sym, ◌∙◌, subst, arith, Option, Some, None, IsSomeAnd, Contains}, lemmas.Bool.{false≢true, and_parts}}
 use Rattle.std.specs.{Prelude.slice_index_or, List.AllByRecursion, Option.option_or}
-use Rattle.sharc_tree.specs.{declared.ctype.Base.Base, declared.ctype.Mode.Mode, declared.ctype.Mode.TheVariants.{Private, Readonly, Locked, Racy, Dynamic}, declared.token.Span.Span, declared.tree.declaration.Declaration.Declaration, declared.tree.declaration.Identifier.Identifier, declared.tree.declaration.WrittenType.WrittenType, declared.tree.expression.FieldOperator.TheVariants.{Dot, Arrow}, declared.tree.expression.UnaryOperator.TheVariants.{Negate, Not, Complement, Dereference}, declared.tree.item.GlobalDefinition.GlobalDefinition, Low.LowItems, Measures.{expressions, in_function}, Tree.{Expression, Function, Item, structure, global, function}}
+use Rattle.sharc_tree.specs.{declared.ctype.Base.Base, declared.ctype.Mode.Mode, declared.ctype.Mode.TheVariants.{Private, Readonly, Locked, Racy}, declared.token.Span.Span, declared.tree.declaration.Declaration.Declaration, declared.tree.declaration.Identifier.Identifier, declared.tree.declaration.WrittenType.WrittenType, declared.tree.expression.FieldOperator.TheVariants.Dot, declared.tree.expression.UnaryOperator.TheVariants.Dereference, declared.tree.item.GlobalDefinition.GlobalDefinition, Measures.{expressions, in_function}, Tree.{Expression, Function, global}}
 use Rattle.sharc_tree.specs.Tree as tree
 use Rattle.sharc_names.specs.{declared.fault.Named.Named, Kinds.{Kind, is_array, declared_kind}}
 use Rattle.sharc_names.specs.declared.fault.Named.TheVariants as named
@@ -9,12 +9,12 @@ use Rattle.sharc_names.specs.declared.types.Role.TheVariants as role
 use Rattle.sharc_ctype.specs.{declared.entity.Entity.Entity, declared.entity.Numbered.Numbered, Entities.{declared, entities_in, numbered, is_told_by, positions_of}, Reaches.{Names, Spawns, Runs, Leads, IsReached, tokens_of}, Resolved.{Resolution, named_at, global_at, function_at, declaration_at, globals_in, functions_in, structs_in, kind_at}}
 use Rattle.sharc_ctype_laws.specs.{Constraints.{HasType, Callee, of_program, of_conditions, a_variable, a_global, a_function, a_field}, Declared.IsItself, Found.{IsFound, EachTypeFound}, Laws.{EachNamesItself, EachPathFound, MeetsConstraints}}
 use Rattle.sharc_graph.specs.{declared.graph.NodeFinding.NodeFinding, Findings.finding_at}
-use Rattle.sharc_mode.specs.{Cells.{is_mutex_kind, is_behind_pointer, written_cell, top_of, field_cell, declared_cell, field_named, first_mode, global_cell, named_cell, pointed, cell_at}, Flows.{IsFirst, Touches, IsRoot, mode_found}, Laws.LinkLaws, Moded.{Assignment, position_count}, Rows.row_at, Settled.{is_mutex, settled, settled_modes, settled_in, settled_at}, Sharings.{Sharing, private, readonly, locked, racy, dynamic, lock_of, sharing_of, is_private, is_dynamic}}
+use Rattle.sharc_mode.specs.{Cells.{is_mutex_kind, is_behind_pointer, written_cell, top_of, field_cell, declared_cell, field_named, first_mode, global_cell, named_cell, pointed, cell_at}, Flows.{IsFirst, Touches, IsRoot, mode_found}, Laws.LinkLaws, Moded.{Assignment, position_count}, Rows.row_at, Settled.{is_mutex, settled, settled_modes, settled_in, settled_at}, Sharings.{Sharing, private, readonly, locked, racy, lock_of, sharing_of, is_private, is_dynamic}}
 use Rattle.sharc_check.specs.{RuleLaws.{RulesAreMet, ReachedAreTold}, Rules.MeetsRules}
 use Rattle.sharc_flat.specs.Places.{in_global, in_global_at, in_object_at, global_of, own_field, named_target, target}
 use Rattle.sharc_accepted_laws.specs.{Alone.{IsInside, AreAlone, SomeAreAlone}, StaticLaws.IsAccepted}
 use Rattle.sharc_accepted_laws.proofs.{Arrays.{IsNameOf, array_name}, Places.{InFile, FileKnown, FieldInFile, file_known, struct_fields, field_found, at_number, IfSome}, Tokens.{Named as IsAmong, names_among}, Written.{Position, position_there, found_there}, TargetLists.place_there, Found.global_low}
-use Rattle.sharc_lemmas.proofs.{Options.none_some, Lists.{front, each, head_or_tail, of_each}, Equal.none_there}
+use Rattle.sharc_lemmas.proofs.{Options.none_some, Lists.{front, each, of_each}}
 
 -- ---- what is reached
 module _ (r : Resolution) where

@@ -1,13 +1,13 @@
 -- Arrays are globals that are named.
 use Rattle.std.proofs.{Common.{◌≡◌, ℕ, Bool, true, false, cond, refl, ap, sym, ◌∙◌, Option, Some, None}, lemmas.Bool.false≢true}
 use Rattle.std.specs.List.{AllByRecursion}
-use Rattle.sharc_tree.specs.{declared.token.NumberType.NumberType, declared.token.Span.Span, declared.tree.declaration.Declaration.Declaration, declared.tree.declaration.Identifier.Identifier, declared.tree.expression.FieldOperator.FieldOperator, declared.tree.expression.UnaryOperator.TheVariants.{Negate, Not, Complement, Dereference}, Measures.expressions, Tree.{Expression, Function}}
+use Rattle.sharc_tree.specs.{declared.token.NumberType.NumberType, declared.token.Span.Span, declared.tree.declaration.Declaration.Declaration, declared.tree.declaration.Identifier.Identifier, declared.tree.expression.FieldOperator.FieldOperator, declared.tree.expression.UnaryOperator.TheVariants.{Negate, Complement, Dereference}, Measures.expressions, Tree.{Expression, Function}}
 use Rattle.sharc_tree.specs.declared.token.NumberType.TheVariants as width
 use Rattle.sharc_tree.specs.declared.tree.expression.Constant.TheVariants as constants
 use Rattle.sharc_tree.specs.Tree as tree
-use Rattle.sharc_names.specs.{declared.fault.Named.Named, Kinds.{Kind, object, array, null, function, is_array, is_long, long, int, element_kind}}
+use Rattle.sharc_names.specs.{declared.fault.Named.Named, Kinds.{Kind, array, is_array, is_long, long, int, element_kind}}
 use Rattle.sharc_names.specs.declared.fault.Named.TheVariants as named
-use Rattle.sharc_ctype.specs.{declared.expr.OperatorClass.OperatorClass, declared.expr.OperatorClass.TheVariants.{Logical, Equality, Relation, Shift, Arithmetic}, Expressions.{number_kind, class_of, binary_result}, Resolved.{Resolution, named_at, declaration_at, variable_kind, result_kind_of, named_kind, called_kind, function_at, kind_at}}
+use Rattle.sharc_ctype.specs.{declared.expr.OperatorClass.OperatorClass, declared.expr.OperatorClass.TheVariants.{Shift, Arithmetic}, Expressions.{number_kind, class_of, binary_result}, Resolved.{Resolution, named_at, declaration_at, variable_kind, result_kind_of, named_kind, called_kind, function_at, kind_at}}
 use Rattle.sharc_ctype_laws.specs.Constraints.{HasType, a_field, a_field_behind}
 
 -- the name of a global, in parentheses or not

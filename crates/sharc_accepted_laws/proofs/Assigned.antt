@@ -10,7 +10,7 @@ use Rattle.sharc_ctype_laws.specs.Rules.{IsHeld, MeetsSimple}
 use Rattle.sharc_meaning.specs.{Cells.element_cells, References.{is_pointer_in, made_at, types_made}, State.is_reference}
 use Rattle.sharc_mode.specs.{Cells.{cell_at, pointed}, Moded.Assignment, Notes.base_of, Rows.{Targets as ModeTargets, row_at, modes_of, modes_at}, Sharings.Sharing}
 use Rattle.sharc_check.specs.Constructs.{IsExpression, IsAssigned}
-use Rattle.sharc_flat.specs.{Flattened.{kind_of, is_ref, target_of}, Places.{Target, variable, in_global, in_global_at, in_object, in_object_at, width_of}, Scope.{Context, slot_kind, register_of, number_in}, Suits.{PlaceSuits, LeftSuits, RightSuits, SimpleSuits, CountSuits, IfThere, is_cell}}
+use Rattle.sharc_flat.specs.{Flattened.{kind_of, is_ref, target_of}, Places.{Target, variable, width_of}, Scope.{Context, slot_kind, register_of, number_in}, Suits.{PlaceSuits, LeftSuits, RightSuits, SimpleSuits, CountSuits, IfThere, is_cell}}
 use Rattle.sharc_invariant.specs.{Types.{Targets, StaticType, cells_of}, Labels.Refers}
 use Rattle.sharc_typed_laws.specs.{Lines.PointersMadeAt, Stretches.Setting, Typable.{GoesTo, type_by, IsTypeIn, IsTypable, VariableTyped}, Stated.{IsMade, CountTypable, ValueGoes, RightTypable, VariableAssigned, CellAssigned, Assigned, Dropped, SimpleTypable}}
 use Rattle.sharc_accepted_laws.specs.{Held.{HeldLaws, held_at}, StaticLaws.GivenLaws, Scopes.{ScopeLaws, AllStand}, Standing.{ExpressionStands, ExpressionsStand}, Static.{static_of, entry_by, entry_of}, TargetLaws.{IsRowOf, NumbersFound, ExpressionsFound}, Pointees.{pointee, PointeesFit}, Pointers.PointeesPoint, Shapes.row_shape, Targets.targets_of, TypableLaws.{IsAt, ValueLaws}, Typing.typing, Statements.{IsPlaceIn, IsThere, AreExpressionsTypable}}

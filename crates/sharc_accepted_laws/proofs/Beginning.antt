@@ -11,7 +11,7 @@ use Rattle.sharc_ctype_laws.specs.{Constraints.IsInteger, Initials.{IsHeldBy, Me
 use Rattle.sharc_meaning.specs.{Reference.constant_value, Store.form_value}
 use Rattle.sharc_mode.specs.Moded.{Assignment}
 use Rattle.sharc_flat.specs.{Places.base_as_width, Tables.{cells_in, granules_in, first_words, all_first_words}}
-use Rattle.sharc_invariant.specs.{Types.{FieldMode, Content, Integer, MutexWord, Waiters, Pointer, Field, no_field}, Typed.Initial}
+use Rattle.sharc_invariant.specs.{Types.{FieldMode, Content, Integer, Pointer, Field, no_field}, Typed.Initial}
 use Rattle.sharc_accepted_laws.specs.{TargetLaws.{IsCounted, CountedForm, GlobalsBegin}, Targets.{declared_content, base_fields, top_mode, global_element, repeated, global_fields, all_global_fields}}
 use Rattle.sharc_accepted_laws.proofs.Laying.{global_count}
 use Rattle.sharc_lemmas.proofs.Options.{same_some, none_some}

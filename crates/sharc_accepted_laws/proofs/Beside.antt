@@ -11,10 +11,10 @@ use Rattle.sharc_ctype.specs.{declared.entity.Entity.Entity, Entities.entity_at,
 use Rattle.sharc_ctype_laws.specs.{Declared.IsItself, Found.EachTypeFound, Laws.{EachNameOnce, OnlyNames, EachNamesItself}}
 use Rattle.sharc_check.specs.{RuleLaws.RulesAreMet, Paths.{IsAllowed, global_mutex, sibling_mutex, sibling_pointer, through_constant}}
 use Rattle.sharc_meaning.specs.Cells.{field_place, field_place_named}
-use Rattle.sharc_mode.specs.{Cells.{is_mutex_kind, is_behind_pointer, top_of, first_mode}, Moded.Assignment, Rows.{written, declared_row, modes_of}, Notes.base_of, WellFormed.place_of, Sharings.{Lock, Sharing, private, readonly, locked, racy, dynamic, lock_of, is_field}}
+use Rattle.sharc_mode.specs.{Cells.{is_mutex_kind, is_behind_pointer, top_of, first_mode}, Moded.Assignment, Rows.{written, declared_row, modes_of}, Notes.base_of, WellFormed.place_of, Sharings.{Lock, Sharing, readonly, locked, lock_of, is_field}}
 use Rattle.sharc_mode.specs.declared.place.Place.TheVariants as place
-use Rattle.sharc_invariant.specs.{Types.{OfType, OfGlobals, OfElement, FieldMode, Under, MutexWord, Pointer, Field, Target, no_field, row_of, FieldMode as field}, Typed.PointsToMutex}
-use Rattle.sharc_accepted_laws.specs.{Beside.{BesideFits, AreLockedBeside, LocksStandBeside}, Shapes.{Form, private_form, readonly_form, locked_form, racy_form, dynamic_form, form_of, stars_in, number}, TargetLaws.IsRowOf, Pointees.{pointee, PointeeFits}, Targets.{lock_named, field_lock, field_locks, own_mode, global_mode, is_private_mode, locked_mode, written_mode, field_mode, base_content, pointer_content, declared_content, single, member, members, struct_fields, base_fields, lock_count, type_locks, shape_fields, top_mode, global_element, targets_of}}
+use Rattle.sharc_invariant.specs.{Types.{OfElement, FieldMode, Under, MutexWord, Pointer, Field, Target, no_field, row_of, FieldMode as field}, Typed.PointsToMutex}
+use Rattle.sharc_accepted_laws.specs.{Beside.{BesideFits, AreLockedBeside, LocksStandBeside}, Shapes.{Form, racy_form, form_of, stars_in, number}, TargetLaws.IsRowOf, Pointees.{pointee, PointeeFits}, Targets.{lock_named, field_lock, field_locks, own_mode, global_mode, is_private_mode, locked_mode, written_mode, field_mode, base_content, pointer_content, declared_content, single, member, members, struct_fields, base_fields, lock_count, type_locks, shape_fields, top_mode, global_element, targets_of}}
 use Rattle.sharc_accepted_laws.proofs.{TargetCells.member_count, Expressing.variable_row, Freeing.past_end, Moding.{not_field, not_pointer}, Pointees.{pointees_fit, many_modes}, Ready.global_lock, Whole.known as known_of, Found.field_found, TargetLists.place_there, TargetMembers.{members_at, top_written, field_readonly}, Numbers.numbers_found, Rows.{IsKnown, top_there}}
 use Rattle.sharc_lemmas.proofs.{Options.same_some, Lists.{head_there, place_of_element, some_there, of_each, tail_there, there_is as below_there}}
 

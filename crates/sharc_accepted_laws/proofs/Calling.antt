@@ -15,7 +15,7 @@ use Rattle.sharc_check.specs.Constructs.{IsFunction}
 use Rattle.sharc_invariant.specs.{Types.StaticType, Labels.{Refers, Label, HasCopy}, Typed.Passes}
 use Rattle.sharc_typed_laws.specs.{Stretches.Setting, Premises.{IsCopyIn, IsCopyNamed, IsCopyOf}, Typable.{ArgumentAt, ArgumentsAt}}
 use Rattle.sharc_accepted_laws.proofs.TypableRegisters.{reference_found}
-use Rattle.sharc_lemmas.proofs.{Options.{same_some, none_some}, Lists.{front, each, head_there, tail_there, of_each}, Equal.none_there}
+use Rattle.sharc_lemmas.proofs.{Options.{same_some, none_some}, Lists.{front, each, head_there, tail_there, of_each}}
 
 pointer_low : (list : List Slot) (p : ℕ) → p < ref_count list → (x : ℕ) × (slice_get (pointers list) p ≡ Some x)
 pointer_low [] p low = absurd (omega (arith, low))

@@ -1,5 +1,5 @@
 -- Calls of the program's functions.
-use Rattle.std.proofs.Common.{◌≡◌, ℕ, zero, suc, ◌+◌, ◌≤◌, nat_lt, ltb-true, ltb-false, Bool, true, false, cond, List, [], ◌∷◌, ◌++◌, refl, ap, sym, ◌∙◌, subst, arith, Option, Some, None, IsSomeAnd, Contains}
+use Rattle.std.proofs.Common.{◌≡◌, ℕ, zero, suc, ◌+◌, ◌≤◌, nat_lt, ltb-true, ltb-false, Bool, true, false, cond, List, [], ◌∷◌, refl, ap, sym, ◌∙◌, subst, arith, Option, Some, None, IsSomeAnd, Contains}
 use Rattle.sharc_tree.specs.{declared.token.Span.Span, declared.tree.declaration.Identifier.Identifier, Measures.in_function, Tree.{Expression, Arguments, call, Function}}
 use Rattle.sharc_names.specs.declared.fault.Named.TheVariants as named
 use Rattle.sharc_names.specs.Kinds.{is_integer, is_null, declared_kind, declared_kinds}
@@ -15,7 +15,7 @@ use Rattle.sharc_invariant.specs.{Types.StaticType, Labels.{Empty, Refers, Anyth
 use Rattle.sharc_typed_laws.specs.{Places.IsPlain, Stretches.Setting, Typable.{type_by, ArgumentsAt, AreFree, refs_behind, IsTypeIn, ResultTyped, CallTyped}}
 use Rattle.sharc_accepted_laws.specs.{Typed.IsOf, Calls.AreStanding, StaticLaws.IsAccepted, Static.{result_type, variable_entry}, Calling.wants_of, Typing.typing, Setting.{function_signature, signature_by, setting_of, IsSet}}
 use Rattle.sharc_accepted_laws.proofs.{Arguments.{AllGo, all_go, refs_counted, integer_passed, parameters_declared}, Facts.{Laws, expression_of, is_at, has_type}, Forms.{reference_pointer, call_typed, function_parameters}, TargetLists.{place_there, left_there, right_there}}
-use Rattle.sharc_lemmas.proofs.{Lists.{head_there, tail_there}, Equal.none_there}
+use Rattle.sharc_lemmas.proofs.{Lists.head_there, Equal.none_there}
 
 pub narrower_same : (w : Width) → Narrower w w
 narrower_same widths.Int = tt

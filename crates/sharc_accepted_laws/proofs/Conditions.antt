@@ -1,14 +1,13 @@
 -- Calls of `wait`, `signal` and `broadcast`.
 use Rattle.std.proofs.{Common.{◌≡◌, inl, inr, ℕ, zero, suc, Bool, true, false, List, [], ◌∷◌, ◌++◌, refl, ap, sym, ◌∙◌, subst, option_map, Some, None, bytes_eq, codes, if◌then◌else◌}, lemmas.Bool.false≢true}
-use Rattle.sharc_tree.specs.{declared.token.NumberType.NumberType, declared.token.Span.Span, declared.tree.declaration.Identifier.Identifier, declared.tree.item.GlobalForm.GlobalForm, Measures.{expressions, in_arguments}, Tree.{Expression, call, Arguments, no_arguments, argument, Function}, declared.ctype.Base.Base}
+use Rattle.sharc_tree.specs.{declared.token.NumberType.NumberType, declared.token.Span.Span, declared.tree.declaration.Identifier.Identifier, Measures.{expressions, in_arguments}, Tree.{Expression, call, Arguments, no_arguments, argument, Function}, declared.ctype.Base.Base}
 use Rattle.sharc_tree.specs.declared.token.NumberType.TheVariants as number_types
 use Rattle.sharc_tree.specs.declared.tree.expression.Constant.TheVariants as constants
-use Rattle.sharc_tree.specs.declared.tree.item.GlobalForm.TheVariants as forms
 use Rattle.sharc_names.specs.declared.fault.Named.TheVariants as named
-use Rattle.sharc_names.specs.{declared.meaning.ConditionCall.TheVariants.{Wait, Signal, Broadcast}, Kinds.{Kind, object, null, is_pointer, is_null, condition_pointer, mutex_pointer}, Names.global_kind}
+use Rattle.sharc_names.specs.{declared.meaning.ConditionCall.TheVariants.{Wait, Signal, Broadcast}, Kinds.{Kind, object, null, is_pointer, is_null, condition_pointer, mutex_pointer}}
 use Rattle.sharc_code.specs.declared.code.Code.{Code}
 use Rattle.sharc_ctype.specs.{Expressions.number_kind, Resolved.{Resolution, named_at, function_at, kind_at}}
-use Rattle.sharc_ctype_laws.specs.Constraints.{HasType, HaveTypes, none_left, one_more, Callee, of_program, of_conditions, Assignable, integer, pointer, null_pointer, Common, both_shorter, left_long, right_long, a_variable, a_global, a_function, a_constant, in_parentheses, element_of_pointer, element_of_array, a_call, a_field, a_field_behind, negated, complemented, denied, pointed_to, arithmetic, shifted, related, equated, joined, spawned, printed_or_joined, locked, unlocked, freed, a_cast}
+use Rattle.sharc_ctype_laws.specs.Constraints.{HasType, HaveTypes, none_left, one_more, Callee, of_program, of_conditions, Assignable, integer, pointer, null_pointer, Common, both_shorter, a_global, a_function, a_constant, in_parentheses, a_call, negated, complemented, arithmetic, shifted}
 use Rattle.sharc_meaning.specs.State.{is_reference}
 use Rattle.sharc_mode.specs.{Moded.Assignment, Rows.{modes_of, row_at}}
 use Rattle.sharc_flat.specs.{Flattened.{kind_of, is_ref}, Scope.Context, Suits.{Either, ReferencesSuit}}

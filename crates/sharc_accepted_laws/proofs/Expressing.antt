@@ -1,20 +1,20 @@
 -- The rows of expressions and of what is declared: how many targets they have, and that the first one's shape is one of the program.
-use Rattle.std.proofs.{Common.{◌≡◌, ℕ, zero, suc, ◌+◌, ◌-◌, ◌<◌, ◌≤◌, ◌==◌, eqb-true, Bool, true, false, cond, List, [], ◌∷◌, length, map, take, drop, refl, ap, sym, ◌∙◌, subst, arith, Option, Some, None, Contains, bytes_eq}, lemmas.Bool.eqb-false}
+use Rattle.std.proofs.{Common.{◌≡◌, ℕ, zero, suc, ◌+◌, ◌-◌, ◌<◌, ◌≤◌, ◌==◌, eqb-true, Bool, true, false, cond, List, [], ◌∷◌, length, map, take, drop, refl, ap, sym, ◌∙◌, subst, arith, Option, Some, None, Contains}, lemmas.Bool.eqb-false}
 use Rattle.std.specs.List.{AllByRecursion}
-use Rattle.sharc_tree.specs.{declared.ctype.Base.Base, declared.ctype.Mode.Mode, declared.tree.declaration.Declaration.Declaration, declared.tree.declaration.WrittenType.WrittenType, declared.tree.declaration.Identifier.Identifier, declared.tree.expression.FieldOperator.TheVariants.{Dot, Arrow}, declared.tree.expression.Constant.Constant, declared.tree.expression.Constant.TheVariants.{Number, Character, Null}, declared.token.NumberType.NumberType, declared.tree.item.GlobalDefinition.GlobalDefinition, declared.tree.item.GlobalForm.GlobalForm, declared.tree.item.GlobalForm.TheVariants.{Plain, Array, Initial}, declared.tree.item.StructDefinition.StructDefinition, Measures.{expressions, in_function}, Tree.{Expression, Function}}
+use Rattle.sharc_tree.specs.{declared.ctype.Base.Base, declared.ctype.Mode.Mode, declared.tree.declaration.Declaration.Declaration, declared.tree.declaration.WrittenType.WrittenType, declared.tree.declaration.Identifier.Identifier, declared.tree.expression.FieldOperator.TheVariants.{Dot, Arrow}, declared.tree.expression.Constant.Constant, declared.tree.expression.Constant.TheVariants.{Number, Character, Null}, declared.token.NumberType.NumberType, declared.tree.item.GlobalDefinition.GlobalDefinition, declared.tree.item.GlobalForm.GlobalForm, declared.tree.item.GlobalForm.TheVariants.Array, Measures.{expressions, in_function}, Tree.{Expression, Function}}
 use Rattle.sharc_tree.specs.declared.token.NumberType.TheVariants as number_type
 use Rattle.sharc_names.specs.declared.fault.Named.TheVariants as named
-use Rattle.sharc_names.specs.{declared.types.Role.Role, Kinds.{Kind, object, array, is_array, declared_kind, int}, Names.{global_kind, field_of}}
+use Rattle.sharc_names.specs.{declared.types.Role.Role, Kinds.{Kind, object, array, is_array, declared_kind, int}, Names.global_kind}
 use Rattle.sharc_names.specs.declared.types.Role.TheVariants as role
 use Rattle.sharc_names.specs.Kinds as kinds
 use Rattle.sharc_ctype.specs.{declared.entity.Entity.Entity, declared.entity.Numbered.Numbered, Entities.{declared, cast_entity, result_of, entities_in, entity_at, positions_of, first_depth}, Expressions.{constant_kind, number_kind}, Resolved.{Resolution, named_at, declaration_at, globals_in, functions_in, structs_in, kind_at}}
-use Rattle.sharc_ctype_laws.specs.{Constraints.{Callee, of_program, of_conditions, Common, both_shorter, left_long, right_long, HasType, struct_named, IsMemberOf}, Found.{IsFound, EachTypeFound}, Laws.{MeetsConstraints, OneType}}
+use Rattle.sharc_ctype_laws.specs.{Constraints.{Callee, of_program, of_conditions, Common, both_shorter, HasType, IsMemberOf}, Found.{IsFound, EachTypeFound}, Laws.{MeetsConstraints, OneType}}
 use Rattle.sharc_ctype_laws.specs.Constraints as typing
 use Rattle.sharc_mode.specs.{Moded.{Assignment, position_count}, Notes.base_of, Rows.{PathReading, written, Targets, no_row, deeper, targets_from, entity_row, declared_row, global_row, named_row, result_row, called_row, behind, constant_row, reading_through, base_use, row_at, modes_of}}
 use Rattle.sharc_check.specs.Constructs.{IsEntity}
 use Rattle.sharc_accepted_laws.specs.{TargetLaws.{IsRowOf, ExpressionsFound, VariablesFound, ResultsFound}, Shapes.{Form, form_of, row_shape, shapes, stars_in}}
 use Rattle.sharc_accepted_laws.proofs.{Fits.entity_there, TargetForms.{mode_form, row_forms, row_length, same_forms}, Found.{IsThere, is_there, field_found, global_found}, TargetLists.place_there, Numbers.shapes_closed, Settling.{positioned, dropped_length}, TargetWalk.{CastFound, declaration_found, function_casts, function_closed, result_found}, Laying.named_there as struct_there, StaticSiblings.found_there as member_there}
-use Rattle.sharc_lemmas.proofs.{Options.{same_some, none_some}, Lists.{front, head_there, of_each, to_each, tail_there}}
+use Rattle.sharc_lemmas.proofs.{Options.{same_some, none_some}, Lists.{front, of_each, to_each}}
 
 -- ---- one level further
 tail_forms : (count first : ℕ) (modes : List Mode) → first + suc count ≤ length modes → (f : Form) × (map mode_form (take (suc count) (drop first modes)) ≡ f ∷ map mode_form (take count (drop (first + 1) modes)))

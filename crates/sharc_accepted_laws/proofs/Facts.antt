@@ -9,8 +9,8 @@ use Rattle.sharc_ctype_laws.specs.{Constraints.{HasType as IsOfType}, Laws.{Meet
 use Rattle.sharc_meaning.specs.Cells.{element_cells}
 use Rattle.sharc_mode.specs.{Moded.Assignment, Rows.{Targets, modes_of, row_at, modes_at}, Sharings.Sharing}
 use Rattle.sharc_check.specs.Constructs.{IsFunction, IsExpression, IsTaken}
-use Rattle.sharc_flat.specs.{Flattened.{kind_of, is_ref, target_of, mode_of, lvalue_in, guard_of}, Places.{Target, variable, in_global, in_global_at, in_object, in_object_at}, Scope.Context, Suits.{IsScalar, is_cell, TakeSuits}}
-use Rattle.sharc_invariant.specs.{Types.{StaticType, cells_of}, Labels.{Empty, Refers}}
+use Rattle.sharc_flat.specs.{Flattened.{kind_of, is_ref, target_of, mode_of, lvalue_in, guard_of}, Places.{Target, variable}, Scope.Context, Suits.{IsScalar, is_cell, TakeSuits}}
+use Rattle.sharc_invariant.specs.{Types.{StaticType, cells_of}, Labels.Refers}
 use Rattle.sharc_typed_laws.specs.{Stretches.Setting, Premises.ReferenceTyped, Typable.{type_by, ground_of, IsPointer, CellTyped, ValueTyped, Takes}}
 use Rattle.sharc_accepted_laws.specs.{Joined.BaseStands, Typed.{IsOf, BasesStand}, Calls.ArgumentsFit, StaticLaws.IsAccepted, Results.ResultLaws, Scopes.ScopeLaws, Standing.{ExpressionStands, FunctionsStand}, Starting.SpawnedBegin, Static.{static_of, entry_by, entry_of}, Beside.LocksStandBeside, TargetLaws.{ExpressionsFound, GlobalsAre}, Lvalues.{LvaluesFit, ArraysFit}, Pointees.{pointee, PointeesFit}, Targets.targets_of, Calling.CallingLaws, TypableLaws.{IsAt, ValueLaws}, Taking.TakingLaws, Threads.ThreadsPass, Typing.typing, Expressions.CellsTyped, Setting.{setting_of, IsSet}}
 use Rattle.sharc_accepted_laws.proofs.{Forms.{lvalue_some, reference_pointer}, Members.first_of, Wholes.{facts_of, variable_named}, TargetLists.place_there, AccessFirsts.no_entry as none_refers}

@@ -7,10 +7,10 @@ use Rattle.sharc_ctype_laws.specs.{Initials.MeetsGlobal, Laws.MeetsGlobals}
 use Rattle.sharc_meaning.specs.Cells.{field_place}
 use Rattle.sharc_mode.specs.{Cells.{is_mutex_kind, cell_at}, Moded.Assignment, Rows.{modes_of, modes_at}, Sharings.{Lock, Sharing, locked}}
 use Rattle.sharc_check.specs.Constructs.{IsExpression}
-use Rattle.sharc_flat.specs.{Flattened.{kind_of, guard_of}, Places.{Target, variable, in_global, in_global_at, in_object, in_object_at, target, beside_named, beside_field}, Scope.Context}
+use Rattle.sharc_flat.specs.{Flattened.{kind_of, guard_of}, Places.{Target, in_global, in_global_at, in_object, in_object_at, target, beside_named, beside_field}, Scope.Context}
 use Rattle.sharc_invariant.specs.Types.{Field, FieldMode, no_field, row_of, cells_of, field_at}
 use Rattle.sharc_typed_laws.specs.{Stretches.Setting, Typable.{type_by, AreFields}}
-use Rattle.sharc_accepted_laws.specs.{Accesses.{list_or, modes_of_pointer, cells_in_each}, Joined.{LockLeads, to_global, to_variable, PathLeads}, StaticLaws.IsAccepted, Static.{entry_by, entry_of}, Beside.{BesideFits, AreLockedBeside, LocksStandBeside}, TargetLaws.{ExpressionsFound, GlobalsAre}, Lvalues.{pointer_of, IsOfObject, IsOfGlobal, ModeFits, is_private, is_readonly, is_racy, is_dynamic, locked_by_type, locked_by_global, locked_by_sibling, locked_behind, FieldFits, IsBehindPointer, IsInFile, NamesCell, no_cell, of_object, of_global, LvaluesFit}, Shapes.{expression_shape, shapes, number}, Targets.{global_element, targets_of}, Typing.typing}
+use Rattle.sharc_accepted_laws.specs.{Accesses.{list_or, modes_of_pointer, cells_in_each}, Joined.{LockLeads, to_global, to_variable, PathLeads}, StaticLaws.IsAccepted, Static.{entry_by, entry_of}, Beside.{BesideFits, AreLockedBeside, LocksStandBeside}, TargetLaws.{ExpressionsFound, GlobalsAre}, Lvalues.{pointer_of, IsOfObject, IsOfGlobal, ModeFits, locked_by_type, locked_by_global, locked_by_sibling, locked_behind, FieldFits, IsBehindPointer, IsInFile, NamesCell, no_cell, of_object, of_global, LvaluesFit}, Shapes.{expression_shape, shapes, number}, Targets.{global_element, targets_of}, Typing.typing}
 use Rattle.sharc_accepted_laws.proofs.{TargetLists.place_there, AccessLeading.no_modes}
 use Rattle.sharc_lemmas.proofs.{Options.{same_some, none_some}, Lists.of_each}
 

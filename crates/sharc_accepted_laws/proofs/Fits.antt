@@ -1,14 +1,14 @@
 -- In a well-moded program no shape has a racy pointer or struct, nor a private target below one that is not.
 use Rattle.std.proofs.{Common.{◌≡◌, ◌⊎◌, inl, inr, ⊎_elim, ℕ, zero, suc, ◌+◌, ◌-◌, ◌<◌, true, List, [], ◌∷◌, length, map, slice_index_or, refl, ap, sym, ◌∙◌, subst, arith, Option, Some, None, Contains}, lemmas.Bool.{false≢true, cases_lt}}
 use Rattle.std.specs.{List.AllByRecursion, Prelude.slice_get}
-use Rattle.sharc_tree.specs.{declared.ctype.Base.Base, declared.ctype.Mode.Mode, declared.ctype.Mode.TheVariants.{Private, Readonly, Locked, Racy, Dynamic}}
+use Rattle.sharc_tree.specs.{declared.ctype.Base.Base, declared.ctype.Mode.Mode, declared.ctype.Mode.TheVariants.{Private, Racy, Dynamic}}
 use Rattle.sharc_tree.specs.declared.ctype.Base.TheVariants as base
 use Rattle.sharc_names.specs.declared.types.Role.TheVariants as role
 use Rattle.sharc_names.specs.Kinds.{is_struct_base}
 use Rattle.sharc_ctype.specs.{declared.entity.Numbered.Numbered, Entities.{entities_in, numbered, positions_of, written_modes, first_depth}}
 use Rattle.sharc_mode.specs.{Flows.IsLeastAssignment, Moded.Assignment, Pairs.IsBelow, Rows.{written, entity_row, modes_of}, Settled.{settled, field_target, otherwise_of, settled_modes}}
 use Rattle.sharc_check.specs.{Constructs.{IsEntity, IsWritten}, Rules.MeetsRules}
-use Rattle.sharc_accepted_laws.specs.{Shapes.{Form, private_form, readonly_form, locked_form, racy_form, dynamic_form, Shape, form_of, shapes_down, entity_shapes, shapes_of, shapes}, Targets.is_private_form}
+use Rattle.sharc_accepted_laws.specs.{Shapes.{Form, private_form, racy_form, dynamic_form, Shape, form_of, shapes_down, entity_shapes, shapes_of, shapes}, Targets.is_private_form}
 use Rattle.sharc_accepted_laws.proofs.{TargetForms.{mode_form, IsLevel, skipped, level_of}, TargetLists.{left_there, right_there}, Settling.{positioned, racy_found, private_found, SettledAt, settled_by, IsLast, SettledBy, a_mutex, is_written, is_meant, settled_from, never_open, get_dropped, dropped_length, otherwise_top}}
 use Rattle.sharc_lemmas.proofs.{Lists.{both, head_there, head_or_tail, tail_there}, Equal.none_there}
 

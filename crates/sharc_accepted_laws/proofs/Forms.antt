@@ -4,9 +4,9 @@ use Rattle.sharc_tree.specs.{declared.ctype.Base.Base, declared.token.Span.Span,
 use Rattle.sharc_tree.specs.declared.ctype.Base.TheVariants as base
 use Rattle.sharc_tree.specs.declared.tree.item.GlobalForm.TheVariants as forms
 use Rattle.sharc_names.specs.declared.fault.Named.TheVariants as named
-use Rattle.sharc_names.specs.{Kinds.{Kind, object, array, null, function, void, mutex, is_integral, is_integer, is_pointer, is_null, is_array, declared_kind, declared_kinds}, Names.global_kind}
+use Rattle.sharc_names.specs.{Kinds.{Kind, object, array, void, mutex, is_integral, is_integer, is_pointer, is_null, is_array, declared_kind, declared_kinds}, Names.global_kind}
 use Rattle.sharc_ctype.specs.Resolved.{Resolution, named_at, function_at, kind_at}
-use Rattle.sharc_ctype_laws.specs.Constraints.{HasType, HaveTypes, Callee, of_program, of_conditions, IsInteger, IsPointer, Assignable, integer, pointer, null_pointer, a_variable, a_global, a_function, a_constant, in_parentheses, element_of_pointer, element_of_array, a_call, a_field, a_field_behind, negated, complemented, denied, pointed_to, arithmetic, shifted, related, equated, joined, spawned, printed_or_joined, locked, unlocked, freed, a_cast}
+use Rattle.sharc_ctype_laws.specs.Constraints.{HasType, HaveTypes, Callee, of_program, of_conditions, IsInteger, IsPointer, Assignable, integer, pointer, null_pointer, a_variable, a_global, a_function, in_parentheses, element_of_pointer, element_of_array, a_call, a_field, a_field_behind, pointed_to, spawned, locked, unlocked, freed, a_cast}
 use Rattle.sharc_meaning.specs.State.{is_reference}
 use Rattle.sharc_flat.specs.Suits.{IsScalar, Passes}
 use Rattle.sharc_lemmas.proofs.Options.{same_some}

@@ -1,20 +1,18 @@
 -- What is assigned, begun with and returned has the type of what it is given to.
-use Rattle.std.proofs.{Common.{◌≡◌, inl, inr, ℕ, ◌==◌, Bool, true, false, cond, List, ◌++◌, refl, ap, sym, ◌∙◌, subst, option_map, arith, eqb-true, Option, Some, None, Contains}, lemmas.Bool.{false≢true, and_parts, ltb-true}, lemmas.Slice.Eq.bytes_eq-Decides}
+use Rattle.std.proofs.{Common.{◌≡◌, inl, inr, ℕ, ◌==◌, Bool, true, false, cond, List, ◌++◌, refl, ap, sym, ◌∙◌, subst, option_map, arith, eqb-true, Option, Some, None, Contains}, lemmas.Bool.{false≢true, and_parts, ltb-true}}
 use Rattle.std.specs.List.{AllByRecursion}
-use Rattle.sharc_tree.specs.{declared.ctype.Base.Base, declared.token.NumberType.NumberType, declared.tree.declaration.Declaration.Declaration, declared.tree.expression.Constant.TheVariants.{Number, Character, Null}, declared.tree.expression.UnaryOperator.TheVariants.{Negate, Not, Complement, Dereference}, declared.tree.item.GlobalForm.GlobalForm, declared.tree.item.GlobalForm.TheVariants.{Plain, Array, Initial}, declared.tree.item.GlobalDefinition.GlobalDefinition, Tree.{Expression, value, Local, Function}}
-use Rattle.sharc_tree.specs.declared.ctype.Base.TheVariants as base
-use Rattle.sharc_tree.specs.declared.token.NumberType.TheVariants as width
+use Rattle.sharc_tree.specs.{declared.ctype.Base.Base, declared.tree.declaration.Declaration.Declaration, declared.tree.expression.Constant.TheVariants.{Number, Null}, declared.tree.expression.UnaryOperator.TheVariants.{Negate, Complement, Dereference}, declared.tree.item.GlobalForm.GlobalForm, declared.tree.item.GlobalForm.TheVariants.Array, declared.tree.item.GlobalDefinition.GlobalDefinition, Tree.{Expression, value, Local, Function}}
 use Rattle.sharc_tree.specs.Tree as tree
 use Rattle.sharc_names.specs.{declared.fault.Named.Named, Kinds.{Kind, object, array, null, function, same_base, same_kind, is_integer, is_integral, is_pointer, is_null, is_long, is_array, long, int, agrees, element_kind, declared_kind}, Names.global_kind}
 use Rattle.sharc_names.specs.declared.fault.Named.TheVariants as named
-use Rattle.sharc_ctype.specs.{declared.expr.OperatorClass.OperatorClass, declared.expr.OperatorClass.TheVariants.{Logical, Equality, Relation, Shift, Arithmetic}, Expressions.{number_kind, class_of, binary_result}, Resolved.{Resolution, named_at, global_at, function_at, declaration_at, functions_in, variable_kind, global_kind_of, result_kind_of, named_kind, called_kind, kind_at}, Transfers.{Transfer, lvalue, variable, result, function_transfers, IsFair}, Statements.{locals_in_all as declared_in_all}}
+use Rattle.sharc_ctype.specs.{declared.expr.OperatorClass.OperatorClass, declared.expr.OperatorClass.TheVariants.{Shift, Arithmetic}, Expressions.{class_of, binary_result}, Resolved.{Resolution, named_at, global_at, function_at, declaration_at, functions_in, variable_kind, global_kind_of, result_kind_of, named_kind, called_kind, kind_at}, Transfers.{Transfer, lvalue, variable, result, function_transfers, IsFair}, Statements.locals_in_all as declared_in_all}
 use Rattle.sharc_mode.specs.{Moded.Assignment, Notes.base_of, Rows.{written, declared_row, behind, row_at, modes_of, modes_at}, Sharings.{Sharing, same_all}}
 use Rattle.sharc_check.specs.{Constructs.{IsFunction, IsGiven, assigned, initial, returned, locals_in_all}, RuleLaws.RulesAreMet, Rules.MeetsRules}
 use Rattle.sharc_ctype_laws.specs.{Declared.IsItself, Laws.{EachNamesItself, AllFair}}
 use Rattle.sharc_flat.specs.Scope.{Context}
 use Rattle.sharc_accepted_laws.specs.{Static.{static_of, entry_by, entry_of, GoesTo}, StaticLaws.{IsAccepted, AssignedGoes, BegunGoes, ReturnedGoes, GivenLaws}}
 use Rattle.sharc_invariant.specs.Labels.{Refers}
-use Rattle.sharc_accepted_laws.proofs.{Same.type_of_same, Transferred.{Begins, locals_begin}, StaticLocals.{OfLocal, in_each}, Alike.base_is as same_bases, Sorts.one_kind as same_kinds, Conditions.{object_no_null as no_object, number_no_null as no_number}}
+use Rattle.sharc_accepted_laws.proofs.{Same.type_of_same, Transferred.{Begins, locals_begin}, Locals.{OfLocal, in_each}, Alike.base_is as same_bases, Conditions.{object_no_null as no_object, number_no_null as no_number}}
 use Rattle.sharc_lemmas.proofs.{Options.none_some, Lists.{front, back, of_each}}
 
 -- ---- kinds

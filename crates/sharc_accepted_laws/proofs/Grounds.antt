@@ -1,7 +1,7 @@
 -- What lvalues name, as sharc_typed_laws reads it off them.
 use Rattle.std.proofs.{Common.{◌≡◌, ℕ, Bool, true, false, cond, List, refl, ap, sym, ◌∙◌, Option, Some, None}, lemmas.Bool.false≢true}
 use Rattle.std.specs.List.{AllByRecursion}
-use Rattle.sharc_tree.specs.{declared.tree.expression.FieldOperator.TheVariants.{Dot, Arrow}, declared.tree.expression.UnaryOperator.TheVariants.{Negate, Not, Complement, Dereference}, Measures.expressions, Tree.{Expression, identifier, constant, parentheses, call, spawn, on_value, on_place, cast, index, field, unary, binary}}
+use Rattle.sharc_tree.specs.{declared.tree.expression.FieldOperator.TheVariants.{Dot, Arrow}, declared.tree.expression.UnaryOperator.TheVariants.{Negate, Dereference}, Measures.expressions, Tree.{Expression, identifier, parentheses, index, field, unary}}
 use Rattle.sharc_names.specs.{declared.fault.Named.Named, Kinds.is_array}
 use Rattle.sharc_names.specs.declared.fault.Named.TheVariants as named
 use Rattle.sharc_ctype.specs.Resolved.{Resolution, named_at, global_at, kind_at}

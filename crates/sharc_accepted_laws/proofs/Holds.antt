@@ -1,13 +1,13 @@
 -- Lock paths lead through variables that are held: constant ones, by M4, of which nothing takes the reference, by M10.
 use Rattle.std.proofs.{Common.{◌≡◌, inl, inr, ℕ, ◌<◌, ◌==◌, Bool, true, false, cond, ◌&&◌, ◌||◌, not, List, [], ◌∷◌, refl, ap, sym, ◌∙◌, subst, option_to_list, eqb-true, Option, Some, None, is_some, Contains}, lemmas.Bool.{false≢true, and_from, and_left as constant_not}}
 use Rattle.std.specs.List.{AllByRecursion, list_any}
-use Rattle.sharc_tree.specs.{declared.ctype.Mode.TheVariants.Locked, declared.ctype.Path.Path, declared.token.Span.Span, declared.tree.declaration.Identifier.Identifier, declared.tree.expression.FieldOperator.FieldOperator, declared.tree.expression.PlaceCall.TheVariants.{Lock as LockCall, Unlock, Free}, Forms.without_parentheses, Measures.{expressions, in_function}, Tree.{Expression, Right, Function}}
+use Rattle.sharc_tree.specs.{declared.ctype.Mode.TheVariants.Locked, declared.ctype.Path.Path, declared.token.Span.Span, declared.tree.declaration.Identifier.Identifier, declared.tree.expression.FieldOperator.FieldOperator, declared.tree.expression.PlaceCall.TheVariants.Free, Forms.without_parentheses, Measures.{expressions, in_function}, Tree.{Expression, Right}}
 use Rattle.sharc_tree.specs.Tree as tree
 use Rattle.sharc_names.specs.declared.fault.Named.{Named}
 use Rattle.sharc_names.specs.declared.fault.Named.TheVariants as named
 use Rattle.sharc_ctype.specs.{declared.entity.Entity.Entity, declared.entity.Numbered.Numbered, Constants.{is_among, is_assigned_by, is_assigned_in, is_assigned, is_constant}, Resolved.{Resolution, named_at, functions_in}, Transfers.{lvalue, function_transfers}, Variables.{variable as variables, variable_of}}
 use Rattle.sharc_mode.specs.{Moded.Assignment, Notes.taken_variable, Rows.{written, base_use, path_variable, declared_row, modes_of, modes_at}, Sharings.{Lock, Sharing, private, readonly, locked, racy, dynamic, lock_of, variable_named, object_named, object_of, text_at}}
-use Rattle.sharc_check.specs.{Constructs.{IsExpression, IsEntity, IsTaken, cast_away, freed, IsAssigned}, RuleLaws.RulesAreMet, Paths.{IsAllowed, global_mutex, sibling_mutex, sibling_pointer, through_constant, IsThroughConstant, through, IsSiblingUse, IsNamedByPath, is_written, is_made}}
+use Rattle.sharc_check.specs.{Constructs.{IsExpression, IsEntity, IsTaken, cast_away, freed, IsAssigned}, RuleLaws.RulesAreMet, Paths.{IsAllowed, through_constant, IsThroughConstant, through, IsSiblingUse, IsNamedByPath, is_written, is_made}}
 use Rattle.sharc_flat.specs.{Scope.{Context, slot_kind, ref_count}, Suits.PathNamed}
 use Rattle.sharc_invariant.specs.Types.{Names, SomeNames}
 use Rattle.sharc_accepted_laws.specs.{StaticLaws.IsAccepted, Held.{taken_by, is_taken, is_held, held_named, held_at, IsHeldPath, AllHeld, AssignedIsNotHeld, TakenIsNotHeld, HeldLaws}, Scopes.AllStand, Static.{register, lock_named, locks_at}}

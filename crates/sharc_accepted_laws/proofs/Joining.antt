@@ -2,7 +2,7 @@
 use Rattle.std.proofs.{Common.{◌≡◌, ◌⊎◌, inl, inr, ℕ, zero, suc, ◌+◌, ◌<◌, ◌≤◌, ◌==◌, ◌&&◌, Bool, true, false, List, refl, ap, sym, ◌∙◌, subst, arith, eqb-true, Option, Some, None}, lemmas.Bool.false≢true}
 use Rattle.sharc_tree.specs.{declared.ctype.Base.Base, declared.token.Site.Site, Tree.Expression}
 use Rattle.sharc_tree.specs.declared.ctype.Base.TheVariants as base
-use Rattle.sharc_names.specs.Kinds.{Kind, object, array, mutex, is_integer, is_pointer}
+use Rattle.sharc_names.specs.Kinds.{Kind, object, mutex, is_integer, is_pointer}
 use Rattle.sharc_names.specs.Kinds as kinds
 use Rattle.sharc_code.specs.{declared.code.Code.Code, declared.code.Use.Use, declared.instr.Cell.Cell}
 use Rattle.sharc_ctype.specs.Resolved.{global_at, kind_at}

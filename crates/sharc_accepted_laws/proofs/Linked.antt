@@ -1,6 +1,6 @@
 -- What statements ask of expressions, from what holds of cells.
 use Rattle.std.proofs.{Common.{◌≡◌, inl, inr, ℕ, ◌+◌, Bool, true, false, List, refl, ap, sym, ◌∙◌, subst, ◌&&◌, Option, Some, None}, lemmas.Bool.false≢true}
-use Rattle.sharc_tree.specs.{declared.ctype.Base.Base, declared.ctype.Base.TheVariants.{Int, Char, Long, Mutex, Void, Struct}, Spans.span_of, Tree.{Expression, Right, Function}}
+use Rattle.sharc_tree.specs.{declared.ctype.Base.Base, declared.ctype.Base.TheVariants.{Mutex, Void, Struct}, Spans.span_of, Tree.{Expression, Right, Function}}
 use Rattle.sharc_names.specs.Kinds.{Kind, object, is_integral, is_pointer, is_array, is_struct_base, is_struct_behind}
 use Rattle.sharc_code.specs.declared.code.Use.TheVariants as uses
 use Rattle.sharc_ctype_laws.specs.Rules.{IsHeld}

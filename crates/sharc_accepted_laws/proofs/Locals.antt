@@ -1,7 +1,7 @@
 -- What holds of the declarations of a function's locals holds of the locals.
 use Rattle.std.proofs.Common.{List}
 use Rattle.std.specs.List.{AllByRecursion}
-use Rattle.sharc_tree.specs.{declared.tree.declaration.Declaration.Declaration, Tree.{Local, First, nothing, declares, does, Statement, Statements, no_statements, statement}}
+use Rattle.sharc_tree.specs.{declared.tree.declaration.Declaration.Declaration, Tree.{Local, First, declares, Statement, Statements, no_statements, statement}}
 use Rattle.sharc_tree.specs.Tree as tree
 use Rattle.sharc_ctype.specs.Statements.{first_locals}
 use Rattle.sharc_ctype.specs.Statements as declared

@@ -1,7 +1,7 @@
 -- Each lvalue that is no struct names a variable, or a cell that the table has with its content and its mode.
 use Rattle.std.proofs.{Common.{◌≡◌, inl, inr, ℕ, zero, suc, ◌+◌, ◌-◌, ◌<◌, ◌≤◌, true, false, cond, ◌&&◌, eq-eqb, List, [], ◌∷◌, ◌++◌, length, map, take, drop, slice_index_or, refl, ap, sym, ◌∙◌, subst, arith, Option, Some, None, Contains}, lemmas.Bool.{true≢false, lt-ltb, ne_eqb}}
 use Rattle.std.specs.Prelude.{option_map}
-use Rattle.sharc_tree.specs.{declared.ctype.Base.Base, declared.ctype.Mode.Mode, declared.ctype.Path.Path, declared.tree.declaration.Declaration.Declaration, declared.tree.declaration.Identifier.Identifier, declared.tree.expression.FieldOperator.TheVariants.{Dot, Arrow}, declared.tree.expression.Constant.TheVariants.{Number, Character, Null}, declared.tree.expression.UnaryOperator.TheVariants.Dereference, declared.tree.item.GlobalDefinition.GlobalDefinition, declared.tree.item.GlobalForm.GlobalForm, declared.tree.item.StructDefinition.StructDefinition, Measures.{expressions, in_arguments}, Tree.Expression}
+use Rattle.sharc_tree.specs.{declared.ctype.Base.Base, declared.ctype.Mode.Mode, declared.ctype.Path.Path, declared.tree.declaration.Declaration.Declaration, declared.tree.declaration.Identifier.Identifier, declared.tree.expression.FieldOperator.TheVariants.{Dot, Arrow}, declared.tree.expression.Constant.TheVariants.{Number, Null}, declared.tree.expression.UnaryOperator.TheVariants.Dereference, declared.tree.item.GlobalDefinition.GlobalDefinition, declared.tree.item.GlobalForm.GlobalForm, declared.tree.item.StructDefinition.StructDefinition, Measures.{expressions, in_arguments}, Tree.Expression}
 use Rattle.sharc_tree.specs.declared.ctype.Base.TheVariants as base
 use Rattle.sharc_tree.specs.declared.ctype.Mode.TheVariants as mode
 use Rattle.sharc_tree.specs.declared.token.NumberType.TheVariants as number_type
@@ -11,7 +11,7 @@ use Rattle.sharc_names.specs.declared.fault.Named.TheVariants as named
 use Rattle.sharc_names.specs.{Kinds.{Kind, object, array, is_array, is_null, is_pointer, is_struct_base, is_struct_behind, declared_kind}, Names.{global_kind, field_of}}
 use Rattle.sharc_names.specs.Kinds as kinds
 use Rattle.sharc_ctype.specs.{Expressions.{constant_kind, number_kind}, Resolved.{Resolution, named_at, named_kind, declaration_at, global_at, kind_at, structs_in}}
-use Rattle.sharc_ctype_laws.specs.Constraints.{HasType, Common, both_shorter, left_long, right_long, struct_named, IsMemberOf, Callee, of_program, of_conditions}
+use Rattle.sharc_ctype_laws.specs.Constraints.{HasType, Common, both_shorter, struct_named, IsMemberOf, Callee, of_program, of_conditions}
 use Rattle.sharc_ctype_laws.specs.Constraints as typing
 use Rattle.sharc_mode.specs.{Cells.{is_mutex_kind, top_of, field_cell, first_of, pointed, named_cell, global_cell, declared_cell, field_named, cell_at}, Moded.Assignment, Notes.base_of, Rows.{PathReading, written, Targets, constant_row, deeper, declared_row, global_row, named_row, reading_through, base_use, behind, row_at, read, modes_of, modes_at}, Sharings.{Lock, Sharing, locked, lock_of, sharing_of}}
 use Rattle.sharc_mode.specs.Sharings as sharings

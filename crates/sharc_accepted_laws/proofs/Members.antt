@@ -1,10 +1,9 @@
 -- What holds of each element of a list, and what is an element.
-use Rattle.std.proofs.{Common.{◌≡◌, ◌⊎◌, ⊎_elim, ◌<◌, ◌||◌, Bool, true, false, List, [], ◌∷◌, ◌++◌, refl, ap, sym, ◌∙◌, subst, Option, Some, None, Contains}, lemmas.Bool.false≢true, lemmas.List.Elements.{Contains-append_left, Contains-append_right}}
-use Rattle.std.specs.List.{AllByRecursion, list_any, flat_map, filter_map}
+use Rattle.std.proofs.{Common.{◌≡◌, ◌⊎◌, ⊎_elim, ◌<◌, List, [], ◌∷◌, ◌++◌, refl, ap, sym, ◌∙◌, subst, Option, Some, None, Contains}, lemmas.List.Elements.{Contains-append_left, Contains-append_right}}
+use Rattle.std.specs.List.{AllByRecursion, flat_map, filter_map}
 use Rattle.sharc_tree.specs.{Measures.expressions, Tree.Expression}
 use Rattle.sharc_tree.specs.Tree as tree
 use Rattle.sharc_lemmas.proofs.{Lists.{each, head_there, head_or_tail, to_each, tail_there}, Equal.none_there}
-use Rattle.sharc_accepted_laws.proofs.StaticLists.{passes_by as any_passes}
 
 -- of what each element gives
 pub flat_there : {A B : Type 0} (f : A → List B) (list : List A) (x : A) (y : B) → Contains list x → Contains (f x) y → Contains (flat_map f list) y

@@ -16,7 +16,7 @@ use Rattle.sharc_flat.specs.{declared.op.Spot.Spot, Machine.first_cell, Scope.Co
 use Rattle.sharc_invariant.specs.{Types.{StaticType, Lock as TypeLock, OfType, OfGlobals, OfElement, FieldMode, Under, Content, MutexWord, Field, no_field, FieldMode as own}, Labels.{Refers, Closed, Loaded, Label, Labels, Itself}, Typed.{IsInGlobal, HasField, IsMode, IsLockMode, IsLockCell, IsTypeMode, IsTypeLock, PointsToMutex, no_lock}}
 use Rattle.sharc_invariant.specs.Types as types
 use Rattle.sharc_typed_laws.specs.{Inside.lock_of, Lines.{IsLockedBy, MayPass}}
-use Rattle.sharc_accepted_laws.specs.{Static.{register, lock_named, lock_at, locks_at}, Beside.BesideFits, TargetLaws.{HasTables, GlobalsAre}, Lvalues.{ModeFits, is_private, is_readonly, is_racy, is_dynamic, locked_by_type, locked_by_global, locked_by_sibling, locked_behind}, Targets.{single, base_fields, declared_content, top_mode, global_element, targets_of}, Accesses.{Reaches, Guards, IsGated, LockStands, of_global, of_variable, IsFairAccess}}
+use Rattle.sharc_accepted_laws.specs.{Static.{register, lock_named, lock_at, locks_at}, Beside.BesideFits, TargetLaws.{HasTables, GlobalsAre}, Lvalues.{ModeFits, is_private, is_readonly, locked_by_type, locked_by_global, locked_by_sibling, locked_behind}, Targets.{single, base_fields, declared_content, top_mode, global_element, targets_of}, Accesses.{Reaches, Guards, IsGated, LockStands, of_global, of_variable, IsFairAccess}}
 use Rattle.sharc_accepted_laws.proofs.{AccessCells.{IsCellOf, ArePairOf, first_low, global_cell_at}, Beginning.is_some_base as base_is}
 use Rattle.sharc_lemmas.proofs.Options.{no_guard, some_is}
 

@@ -2,7 +2,7 @@
 use Rattle.std.proofs.Common.{◌≡◌, ◌⊎◌, inl, inr, ⊎_elim, ℕ, ◌+◌, ◌==◌, Bool, true, false, cond, List, [], ◌∷◌, ◌++◌, length, refl, ap, sym, ◌∙◌, subst, Option, Some, None, Contains}
 use Rattle.std.specs.List.{AllByRecursion}
 use Rattle.sharc_tree.specs.declared.ctype.Base.TheVariants as base
-use Rattle.sharc_tree.specs.{declared.ctype.Mode.Mode, declared.ctype.Mode.TheVariants.{Private, Readonly, Locked, Racy, Dynamic}, declared.ctype.Path.Path, declared.ctype.Path.TheVariants.{One, Through}, declared.tree.declaration.Declaration.Declaration, declared.tree.declaration.WrittenType.WrittenType, Low.IsLow, Placed.IsPlaced, Tree.{Local, First, nothing, declares, does, Statement, Statements, no_statements, statement, Function, Item, structure, global, function}}
+use Rattle.sharc_tree.specs.{declared.ctype.Mode.Mode, declared.ctype.Mode.TheVariants.Locked, declared.ctype.Path.Path, declared.ctype.Path.TheVariants.{One, Through}, declared.tree.declaration.Declaration.Declaration, declared.tree.declaration.WrittenType.WrittenType, Low.IsLow, Placed.IsPlaced, Tree.{Local, First, declares, Statement, Statements, no_statements, statement, Function, Item, structure, global, function}}
 use Rattle.sharc_tree.specs.Tree as tree
 use Rattle.sharc_names.specs.{declared.fault.FaultCode.FaultCode, declared.fault.Named.Named, declared.scope.Scope.Scope, declared.types.Role.Role, Kinds.{object, declared_kind}, Names.{Entry, Meaning, StructTable, StructMeaning, look_up, named_of, struct_of, named_struct}, Notes.{Note, fault, refers, yields, faults, referred}, Types.{name_notes, path_notes, mode_notes, modes_notes, struct_note, base_notes, type_notes}}
 use Rattle.sharc_names.specs.declared.fault.Named.TheVariants as named

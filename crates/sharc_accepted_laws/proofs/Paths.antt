@@ -1,8 +1,8 @@
 -- A lock path that leads through a variable leads to a mutex of the table.
-use Rattle.std.proofs.Common.{◌≡◌, ℕ, zero, suc, ◌+◌, ◌<◌, ◌≤◌, Bool, true, false, cond, not, List, [], ◌∷◌, length, map, take, drop, slice_index_or, slice_get, unwrap_or, refl, ap, sym, ◌∙◌, subst, arith, lt-ltb, nat_lt, bytes_eq, Some, None, Contains}
+use Rattle.std.proofs.Common.{◌≡◌, ℕ, zero, suc, ◌+◌, ◌<◌, ◌≤◌, Bool, true, false, cond, not, List, [], ◌∷◌, length, map, take, drop, slice_index_or, slice_get, unwrap_or, refl, ap, sym, ◌∙◌, subst, arith, lt-ltb, nat_lt, bytes_eq, Some, None}
 use Rattle.std.specs.List.{position, position_or_len}
 use Rattle.sharc_tree.specs.declared.ctype.Base.TheVariants as base
-use Rattle.sharc_tree.specs.{declared.ctype.Mode.Mode, declared.tree.declaration.Declaration.Declaration, declared.tree.item.StructDefinition.StructDefinition}
+use Rattle.sharc_tree.specs.{declared.ctype.Mode.Mode, declared.tree.declaration.Declaration.Declaration}
 use Rattle.sharc_names.specs.{Kinds.{object, mutex, is_pointer, declared_kind}, Names.field_of}
 use Rattle.sharc_ctype.specs.Resolved.{Resolution, variable_kind, structs_in}
 use Rattle.sharc_ctype_laws.specs.Constraints.{struct_named}
@@ -13,19 +13,19 @@ use Rattle.sharc_flat.specs.Scope.{Context}
 use Rattle.sharc_invariant.specs.Types.{MutexWord, Field, no_field, row_of, field_at}
 use Rattle.sharc_accepted_laws.specs.{StaticLaws.IsAccepted, Static.{static_of, variable_type}, Fields.FieldsPlaced, TargetLaws.{VariablesFound, MembersAre, IsRowOf, IsMemberAt}, Pointees.{PointeesFit, pointee}, Shapes.{form_of, stars_in}, Targets.{own_mode, base_content, pointer_content, declared_content, base_fields, shape_fields, targets_of}, Paths.{IsMutexThere, MutexesBehind}}
 use Rattle.sharc_accepted_laws.proofs.{Laying.named_there as struct_there, TargetLists.place_there as there_at}
-use Rattle.sharc_lemmas.proofs.Options.{same_some, none_some}
+use Rattle.sharc_lemmas.proofs.Options.{none_some}
 
 -- ---- a field by its name
-abbrev place_of : List ℕ → List Declaration → ℕ
+abbrev pub place_of : List ℕ → List Declaration → ℕ
 place_of name list = position_or_len (λ (e : Declaration). bytes_eq e.name.text name) list
 
-record IsPlace (list : List Declaration) (name : List ℕ) (d : Declaration) : Type 0 where
-  place : ℕ
-  low : place < length list
-  at : slice_get list place ≡ Some d
-  first : position_or_len (λ (e : Declaration). bytes_eq e.name.text name) list ≡ place
+pub record IsPlace (list : List Declaration) (name : List ℕ) (d : Declaration) : Type 0 where
+  pub place : ℕ
+  pub low : place < length list
+  pub at : slice_get list place ≡ Some d
+  pub first : position_or_len (λ (e : Declaration). bytes_eq e.name.text name) list ≡ place
 
-place_named : (list : List Declaration) (name : List ℕ) (d : Declaration) → field_of list name ≡ Some d → IsPlace list name d
+pub place_named : (list : List Declaration) (name : List ℕ) (d : Declaration) → field_of list name ≡ Some d → IsPlace list name d
 place_named [] name d is = absurd (none_some d is)
 place_named (x ∷ rest) name d is = by (bytes_eq x.name.text name) refl is (place_named rest name d)
   where
@@ -38,7 +38,7 @@ place_named (x ∷ rest) name d is = by (bytes_eq x.name.text name) refl is (pla
         let next : 1 + place_of name rest ≡ suc p.place = omega (arith, first) in
         record { place = suc p.place; low = omega (arith, low); at = p.at; first = ap (λ b. cond (not b) (1 + place_of name rest) 0) other ∙ next }
 
-position_is : (list : List Declaration) (name : List ℕ) (d : Declaration) (p : IsPlace list name d) → position (λ (e : Declaration). bytes_eq e.name.text name) list ≡ Some p.place
+pub position_is : (list : List Declaration) (name : List ℕ) (d : Declaration) (p : IsPlace list name d) → position (λ (e : Declaration). bytes_eq e.name.text name) list ≡ Some p.place
 position_is list name d p = ap (λ i. cond (nat_lt i (length list)) (Some i) None) p.first ∙ ap (λ b. cond b (Some p.place) None) (lt-ltb p.place (length list) p.low)
 
 -- ---- one target

@@ -2,7 +2,7 @@
 use Rattle.std.proofs.{Common.{◌≡◌, ◌⊎◌, inl, inr, ℕ, zero, suc, Bool, true, false, cond, List, [], ◌∷◌, map, refl, ap, sym, ◌∙◌, subst, arith, lt-ltb, slice_get, option_map, bytes_eq, Option, Some, None}, lemmas.Bool.false≢true}
 use Rattle.std.specs.List.{AllByRecursion}
 use Rattle.sharc_tree.specs.declared.ctype.Base.TheVariants as base
-use Rattle.sharc_tree.specs.{declared.ctype.Mode.Mode, declared.ctype.Mode.TheVariants.{Private, Readonly, Locked, Racy, Dynamic}, declared.ctype.Path.Path, declared.ctype.Path.TheVariants.{One, Through}, declared.token.Span.Span, declared.tree.declaration.Declaration.Declaration, declared.tree.declaration.Identifier.Identifier, declared.tree.expression.FieldOperator.FieldOperator, declared.tree.expression.UnaryOperator.TheVariants.{Negate, Not, Complement, Dereference}, declared.tree.item.GlobalDefinition.GlobalDefinition, declared.tree.item.StructDefinition.StructDefinition, Measures.{expressions, in_arguments}, Tree.{Expression, Arguments, no_arguments, argument, Function, Item, structure, global, function}}
+use Rattle.sharc_tree.specs.{declared.ctype.Mode.Mode, declared.ctype.Mode.TheVariants.{Private, Readonly, Locked, Racy, Dynamic}, declared.ctype.Path.Path, declared.ctype.Path.TheVariants.{One, Through}, declared.token.Span.Span, declared.tree.declaration.Declaration.Declaration, declared.tree.declaration.Identifier.Identifier, declared.tree.expression.FieldOperator.FieldOperator, declared.tree.expression.UnaryOperator.TheVariants.Dereference, declared.tree.item.GlobalDefinition.GlobalDefinition, declared.tree.item.StructDefinition.StructDefinition, Measures.{expressions, in_arguments}, Tree.{Expression, Arguments, no_arguments, argument, Function, Item, structure, global, function}}
 use Rattle.sharc_tree.specs.declared.tree.expression.Constant.TheVariants as constants
 use Rattle.sharc_tree.specs.Tree as tree
 use Rattle.sharc_names.specs.{declared.fault.Named.Named, declared.scope.Scope.Scope, Kinds.{Kind, object, is_array, is_pointer}, Names.{Entry, Meaning, field_of, look_up, named_of}}

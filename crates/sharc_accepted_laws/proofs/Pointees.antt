@@ -3,16 +3,15 @@ use Rattle.std.proofs.{Common.{◌≡◌, ℕ, zero, suc, ◌+◌, ◌-◌, ◌<
 use Rattle.std.specs.List.{AllByRecursion}
 use Rattle.sharc_tree.specs.{declared.ctype.Base.Base, declared.tree.declaration.Declaration.Declaration, declared.tree.item.StructDefinition.StructDefinition}
 use Rattle.sharc_tree.specs.declared.ctype.Base.TheVariants as base
-use Rattle.sharc_names.specs.{declared.fault.Named.Named, Kinds.{Kind, object, array, null, is_pointer, element_kind, declared_kind}}
+use Rattle.sharc_names.specs.{declared.fault.Named.Named, Kinds.{Kind, object, is_pointer, element_kind, declared_kind}}
 use Rattle.sharc_names.specs.declared.fault.Named.TheVariants as named
-use Rattle.sharc_names.specs.Kinds as kinds
 use Rattle.sharc_ctype.specs.Resolved.{Resolution, named_at, structs_in}
 use Rattle.sharc_mode.specs.{Cells.first_of, Moded.Assignment, Notes.base_of, Rows.{Targets, written, declared_row, modes_of}, Sharings.{Sharing, private, readonly, locked, racy, dynamic, same, same_all}}
 use Rattle.sharc_mode.specs.Sharings as sharings
 use Rattle.sharc_meaning.specs.Cells.{element_cells}
 use Rattle.sharc_flat.specs.Flattened.{layout_of}
 use Rattle.sharc_invariant.specs.Types.{FieldMode, Content, Pointer, Field, Target, no_field, field_at}
-use Rattle.sharc_accepted_laws.specs.{TargetLaws.IsRowOf, Pointees.{pointee, PointeeFits, PointeesFit, IsPlainLock, HasPlainLocks, IsRecast, is_same, of_types, RecastFits, RecastsFit, SameForms}, Shapes.{Form, form_of, shape_of, row_shape, kind_of, number, stars_in}, Targets.{lock_named, field_locks, lock_count, type_locks, own_mode, is_private_form, starts_private, base_content, pointer_content, declared_content, single, members, struct_fields, base_fields, shape_fields, targets_of}}
+use Rattle.sharc_accepted_laws.specs.{TargetLaws.IsRowOf, Pointees.{pointee, PointeeFits, PointeesFit, IsPlainLock, HasPlainLocks, IsRecast, is_same, of_types, RecastFits, RecastsFit, SameForms}, Shapes.{form_of, shape_of, row_shape, kind_of, number, stars_in}, Targets.{lock_named, field_locks, lock_count, type_locks, own_mode, is_private_form, starts_private, base_content, pointer_content, declared_content, single, members, struct_fields, base_fields, shape_fields, targets_of}}
 use Rattle.sharc_accepted_laws.proofs.{TargetCells.cells_are, TargetForms.row_length, Numbers.numbers_found, Alike.two}
 use Rattle.sharc_lemmas.proofs.Lists.{map_length, no_cons}
 

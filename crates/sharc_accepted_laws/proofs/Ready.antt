@@ -1,22 +1,21 @@
 -- What the cells of lvalues stand on, by the laws of typed programs and of modes.
-use Rattle.std.proofs.{Common.{◌≡◌, ℕ, ◌+◌, ◌-◌, ◌<◌, ◌==◌, ◌&&◌, ◌||◌, Bool, true, false, cond, List, [], ◌∷◌, length, map, slice_index_or, refl, ap, sym, ◌∙◌, subst, arith, Option, Some, None, Contains, bytes_eq}, lemmas.Bool.{false≢true, ne_eqb, ltb-true}}
+use Rattle.std.proofs.{Common.{◌≡◌, ℕ, ◌+◌, ◌-◌, ◌<◌, ◌==◌, ◌&&◌, ◌||◌, Bool, true, false, cond, [], length, map, slice_index_or, refl, ap, sym, ◌∙◌, subst, arith, Option, Some, None, Contains}, lemmas.Bool.{false≢true, ne_eqb, ltb-true}}
 use Rattle.std.specs.{List.AllByRecursion, Prelude.{slice_get, nat_lt}}
 use Rattle.sharc_tree.specs.{declared.ctype.Base.Base, declared.ctype.Mode.Mode, declared.ctype.Path.Path, declared.tree.declaration.Declaration.Declaration, declared.tree.declaration.WrittenType.WrittenType, declared.tree.item.GlobalDefinition.GlobalDefinition, declared.tree.item.StructDefinition.StructDefinition, Low.IsLow, Placed.IsPlaced, Measures.in_function}
 use Rattle.sharc_tree.specs.declared.ctype.Base.TheVariants as base
 use Rattle.sharc_tree.specs.declared.ctype.Mode.TheVariants as mode
 use Rattle.sharc_names.specs.declared.fault.Named.TheVariants as named
-use Rattle.sharc_names.specs.{declared.types.Role.Role, Kinds.{Kind, object, array, is_array, element_kind, is_struct_base, is_struct_behind, mutex}, Names.field_of, Types.{is_allowed, allowed_there}}
+use Rattle.sharc_names.specs.{declared.types.Role.Role, Kinds.{Kind, object, array, is_array, element_kind, is_struct_base, is_struct_behind, mutex}, Types.{is_allowed, allowed_there}}
 use Rattle.sharc_names.specs.declared.types.Role.TheVariants as role
-use Rattle.sharc_names.specs.Kinds as kinds
 use Rattle.sharc_ctype.specs.{declared.entity.Entity.Entity, declared.entity.Numbered.Numbered, Entities.{declared, entities_in, entity_at, positions_of, written_modes, first_depth}, Resolved.{Resolution, IsResolved, named_at, kind_at, global_at, structs_in, globals_in, functions_in, named_kind}}
 use Rattle.sharc_ctype_laws.specs.{Constraints.HasType, Declared.IsItself, Found.EachTypeFound, Laws.{EachNameOnce, OnlyNames, EachNamesItself, MeetsConstraints, OneType}}
-use Rattle.sharc_graph.specs.declared.graph.NodeFinding.TheVariants.{Apart, Source, Behind}
+use Rattle.sharc_graph.specs.declared.graph.NodeFinding.TheVariants.{Apart}
 use Rattle.sharc_mode.specs.{Cells.{top_of, first_mode, global_cell}, Flows.{IsLeastAssignment, mode_found}, WellModed.WellModed, Moded.Assignment, Rows.{PathReading, written, targets_from, entity_row, modes_of}, Settled.otherwise_of, Sharings.{Lock, locked, lock_of, sharing_of}, WellFormed.place_of}
 use Rattle.sharc_mode.specs.declared.place.Place.TheVariants as place
 use Rattle.sharc_check.specs.{Constructs.{IsExpression, IsWritten}, RuleLaws.RulesAreMet, Paths.{IsAllowed, global_mutex, sibling_mutex, sibling_pointer, through_constant}}
 use Rattle.sharc_accepted_laws.specs.{Lvalues.{LvaluesFit, IsArrayOf, ArraysFit}, Shapes.form_of}
 use Rattle.sharc_accepted_laws.proofs.{Expressing.expressions_found, TargetForms.same_forms, Found.{IsThere, field_found, global_found, global_low}, Laying.{named_there, members_are}, TargetLists.place_there, Lvalues.{AreReady, names_cell, array_base}, TargetMembers.top_written, Moding.{PathNames, field_or_global}, Rows.IsKnown, Settling.{positioned, settled_by, SettledBy, a_mutex, is_written, is_meant, settled_from, get_dropped, dropped_length}, TargetSiblings.field_allowed, Whole.known, Globals.index_get, Origins.{same_lock, private_path as private_locked}, StaticSiblings.found_there as member_there}
-use Rattle.sharc_lemmas.proofs.{Bools.{or_false, and_false}, Options.{same_some, none_some}, Lists.{head_there, of_each, tail_there}}
+use Rattle.sharc_lemmas.proofs.{Bools.{or_false, and_false}, Options.none_some, Lists.of_each}
 
 plain_by : (b : Base) (n : ℕ) → (is_struct_base b ≡ true → nat_lt 0 n ≡ true) → is_struct_behind 0 (object b n) ≡ false
 plain_by (base.Struct name) n some = let low = ltb-true 0 n (some refl) in ap (λ z. z && true) (ne_eqb n 0 (λ none. omega (arith, low, none)))

@@ -11,7 +11,7 @@ use Rattle.sharc_ctype_laws.specs.{Constraints.{HasType, a_cast}, Laws.{MeetsCon
 use Rattle.sharc_mode.specs.{Cells.pointed, Moded.Assignment, Notes.base_of, RowLaws.RowLaws, Rows.{Targets, written, deeper, cast_row, declared_row, row_at, modes_of, modes_at}, Sharings.{Sharing, private, readonly, locked, racy, dynamic, same_all}}
 use Rattle.sharc_check.specs.{Constructs.IsExpression, RuleLaws.RulesAreMet}
 use Rattle.sharc_flat.specs.Scope.{Context}
-use Rattle.sharc_invariant.specs.{Types.{Lock as TypeLock, FieldLock, OfType, OfGlobals, OfElement, FieldMode, Content, StaticType, no_field, field_at}, Types.Lock.{Global, Through, Self}, Labels.{Label, Itself, SameLock, AllSame}, Typed.{no_lock, IsSameFieldLock, IsSameContent, Recasts}}
+use Rattle.sharc_invariant.specs.{Types.{Lock as TypeLock, FieldLock, OfType, OfGlobals, OfElement, FieldMode, Content, StaticType, no_field, field_at}, Types.Lock.Through, Labels.{Label, Itself, SameLock, AllSame}, Typed.{no_lock, IsSameFieldLock, IsSameContent, Recasts}}
 use Rattle.sharc_accepted_laws.specs.{Casting.CastsRecast, StaticLaws.IsAccepted, Static.{lock_at, locks_at, static_of}, TargetLaws.{NumbersFound, ExpressionsFound}, Shapes.{Shape, stars_in, form_of, shape_of, row_shape, shapes, number}, Targets.{field_lock, field_locks, lock_named as table_lock, type_locks, lock_count, own_mode, base_content, pointer_content, declared_content, single, members, struct_fields, base_fields, shape_fields, shape_row, targets_of}}
 use Rattle.sharc_accepted_laws.proofs.{Points.nth, Same.{forms_of_same, locks_of_same}}
 use Rattle.sharc_lemmas.proofs.{Options.{same_some, none_some}, Lists.of_each}

@@ -1,8 +1,8 @@
 -- Which kinds are integers, pointers and references, and how many cells an element has.
-use Rattle.std.proofs.{Common.{◌≡◌, inl, inr, ℕ, zero, suc, ◌+◌, ◌-◌, ◌≤◌, ◌==◌, Bool, true, false, ◌||◌, cond, List, [], ◌∷◌, length, refl, ap, ap₂, sym, ◌∙◌, subst, arith, lt-ltb, eqb-true, bytes_eq}, lemmas.Bool.{false≢true, and_parts}, lemmas.Slice.Eq.bytes_eq-Decides}
-use Rattle.sharc_tree.specs.{declared.ctype.Base.Base, declared.ctype.Base.TheVariants.{Int, Char, Long, Mutex, Void, Struct}, declared.tree.declaration.WrittenType.WrittenType, Low.LowItems, Tree.{Item, structure, global}}
+use Rattle.std.proofs.{Common.{◌≡◌, inl, inr, ℕ, ◌+◌, ◌-◌, ◌≤◌, ◌==◌, Bool, true, false, ◌||◌, cond, List, [], ◌∷◌, length, refl, ap, ap₂, sym, ◌∙◌, subst, arith, lt-ltb, eqb-true, bytes_eq}, lemmas.Bool.{false≢true, and_parts}}
+use Rattle.sharc_tree.specs.{declared.ctype.Base.Base, declared.ctype.Base.TheVariants.Struct, declared.tree.declaration.WrittenType.WrittenType, Low.LowItems, Tree.{Item, structure, global}}
 use Rattle.sharc_tree.specs.Tree as tree
-use Rattle.sharc_names.specs.Kinds.{Kind, object, array, null, function, is_integer, is_pointer, is_null, is_integral, same_base, same_kind, agrees, stars_of, declared_kind, element_kind}
+use Rattle.sharc_names.specs.Kinds.{Kind, object, array, function, is_integer, is_pointer, is_null, same_kind, agrees, stars_of, declared_kind, element_kind}
 use Rattle.sharc_ctype.specs.{Resolved.{Resolution, structs_in}, Statements.made}
 use Rattle.sharc_ctype_laws.specs.{Constraints.{IsInteger, IsPointer}, Rules.IsHeld}
 use Rattle.sharc_meaning.specs.{Cells.{element_cells, base_cells, struct_cells}, State.is_reference}

@@ -1,6 +1,6 @@
 -- The cell of an lvalue is there, with what stands beside it in its element.
 use Rattle.std.proofs.Common.{◌≡◌, inl, inr, ⊎_elim, ℕ, ◌+◌, ◌<◌, Bool, true, false, List, [], ◌∷◌, length, slice_index_or, refl, ap, sym, ◌∙◌, subst, arith, cond, option_map, Option, Some, None}
-use Rattle.sharc_tree.specs.{declared.token.Span.Span, declared.tree.expression.FieldOperator.TheVariants.{Dot, Arrow}, declared.tree.expression.UnaryOperator.TheVariants.{Negate, Not, Complement, Dereference}, Tree.{Expression, identifier, constant, parentheses, call, spawn, on_value, on_place, cast, index, field, unary, binary}}
+use Rattle.sharc_tree.specs.{declared.token.Span.Span, declared.tree.expression.FieldOperator.TheVariants.{Dot, Arrow}, declared.tree.expression.UnaryOperator.TheVariants.Dereference, Tree.{Expression, parentheses, index, field, unary}}
 use Rattle.sharc_names.specs.Kinds.{is_array}
 use Rattle.sharc_code.specs.{declared.code.Code.Code, declared.instr.Cell.Cell}
 use Rattle.sharc_code.specs.declared.instr.Cell.TheVariants as cells

@@ -1,6 +1,6 @@
 -- The name of a sibling in the type of a field names the field of that name of its struct, which stands there at the place that it has in the struct.
-use Rattle.std.proofs.{Common.{◌≡◌, ⊎_elim, ℕ, zero, suc, ◌+◌, ◌<◌, not, Bool, true, false, cond, List, [], ◌∷◌, ◌++◌, length, get_or, slice_get, refl, ap, sym, ◌∙◌, subst, arith, bytes_eq, Option, Some, None, Contains}, lemmas.Bool.lt-ltb}
-use Rattle.std.specs.{Prelude.{nat_lt, unwrap_or}, List.{AllByRecursion, position, position_or_len}}
+use Rattle.std.proofs.{Common.{◌≡◌, ⊎_elim, ℕ, zero, suc, ◌<◌, Bool, true, false, cond, List, [], ◌∷◌, ◌++◌, length, get_or, slice_get, refl, ap, sym, ◌∙◌, subst, arith, bytes_eq, Option, Some, None, Contains}}
+use Rattle.std.specs.{Prelude.unwrap_or, List.{AllByRecursion, position}}
 use Rattle.sharc_tree.specs.declared.ctype.Base.TheVariants as base
 use Rattle.sharc_tree.specs.{declared.ctype.Mode.Mode, declared.ctype.Mode.TheVariants.Locked, declared.ctype.Path.TheVariants.One, declared.token.Token.Token, declared.tree.declaration.Declaration.Declaration, declared.tree.item.StructDefinition.StructDefinition, Marks.{Mark, a_name, level_marks, levels_marks, base_marks, IsMark, AreMarks}, Placed.{IsPlaced, PlacedType, PlacedDeclarations, PlacedItems}, Tree.{Item, structure, global, function}}
 use Rattle.sharc_names.specs.declared.fault.Named.TheVariants as named
@@ -12,7 +12,7 @@ use Rattle.sharc_ctype_laws.specs.Constraints.{IsMemberOf, struct_named}
 use Rattle.sharc_meaning.specs.Cells.{field_place, field_place_behind}
 use Rattle.sharc_mode.specs.{Sharings.{text_of, text_at}, WellFormed.{fields_of, fields_named, fields_behind}}
 use Rattle.sharc_accepted_laws.specs.Fields.{FieldsPlaced}
-use Rattle.sharc_accepted_laws.proofs.{Noted.{Says, AllSay, items_say, BaseSays, declarations_base, declared_has, named_by, base_of_kind}, Structs.in_file, Laying.named_there as struct_there}
+use Rattle.sharc_accepted_laws.proofs.{Noted.{Says, AllSay, items_say, BaseSays, declarations_base, declared_has, named_by, base_of_kind}, Structs.in_file, Laying.named_there as struct_there, Paths.{IsPlace, place_named, position_is}}
 use Rattle.sharc_lemmas.proofs.{Options.{same_some, none_some}, Lists.{front, back, head_there, head_or_tail, of_each, tail_there}, Equal.none_there}
 
 abbrev pub SiblingsAre : Resolution → Type 0
@@ -66,31 +66,6 @@ found_there (x ∷ rest) name d is = by (bytes_eq x.name.text name) is (found_th
     by : (b : Bool) → cond b (Some x) (field_of rest name) ≡ Some d → (field_of rest name ≡ Some d → Contains rest d) → Contains (x ∷ rest) d
     by true is later = subst (Contains (x ∷ rest)) (same_some x d is) (head_there x rest)
     by false is later = tail_there x d rest (later is)
-
-abbrev place_of : List ℕ → List Declaration → ℕ
-place_of name list = position_or_len (λ (e : Declaration). bytes_eq e.name.text name) list
-
-record IsPlace (list : List Declaration) (name : List ℕ) (d : Declaration) : Type 0 where
-  place : ℕ
-  low : place < length list
-  at : slice_get list place ≡ Some d
-  first : position_or_len (λ (e : Declaration). bytes_eq e.name.text name) list ≡ place
-
-place_named : (list : List Declaration) (name : List ℕ) (d : Declaration) → field_of list name ≡ Some d → IsPlace list name d
-place_named [] name d is = absurd (none_some d is)
-place_named (x ∷ rest) name d is = by (bytes_eq x.name.text name) refl is (place_named rest name d)
-  where
-    by : (b : Bool) → bytes_eq x.name.text name ≡ b → cond b (Some x) (field_of rest name) ≡ Some d → (field_of rest name ≡ Some d → IsPlace rest name d) → IsPlace (x ∷ rest) name d
-    by true same is more = record { place = 0; low = omega arith; at = is; first = ap (λ b. cond (not b) (1 + place_of name rest) 0) same }
-    by false other is more =
-        let p = more is in
-        let low = p.low in
-        let first = p.first in
-        let next : 1 + place_of name rest ≡ suc p.place = omega (arith, first) in
-        record { place = suc p.place; low = omega (arith, low); at = p.at; first = ap (λ b. cond (not b) (1 + place_of name rest) 0) other ∙ next }
-
-position_is : (list : List Declaration) (name : List ℕ) (d : Declaration) (p : IsPlace list name d) → position (λ (e : Declaration). bytes_eq e.name.text name) list ≡ Some p.place
-position_is list name d p = ap (λ i. cond (nat_lt i (length list)) (Some i) None) p.first ∙ ap (λ b. cond b (Some p.place) None) (lt-ltb p.place (length list) p.low)
 
 -- ---- what is said of the types of fields
 module _ (r : Resolution) where

@@ -7,7 +7,7 @@ use Rattle.sharc_code.specs.declared.code.Parameter.TheVariants as parameters
 use Rattle.sharc_ctype.specs.{Reaches.Spawns, Resolved.{function_at, functions_in, declaration_at, variable_kind}}
 use Rattle.sharc_ctype_laws.specs.{Callable.IsThread, Laws.{AllFair, EachNamesItself, SpawnsThreads}}
 use Rattle.sharc_meaning.specs.State.{is_reference}
-use Rattle.sharc_mode.specs.{Cells.pointed, Moded.Assignment, Notes.base_of, RowLaws.RowLaws, Rows.{written, deeper, declared_row, modes_of}, Sharings.{Sharing, private, readonly, locked, racy, dynamic}}
+use Rattle.sharc_mode.specs.{Cells.pointed, Moded.Assignment, Notes.base_of, RowLaws.RowLaws, Rows.{written, deeper, declared_row, modes_of}, Sharings.{Sharing, private}}
 use Rattle.sharc_check.specs.RuleLaws.{RulesAreMet}
 use Rattle.sharc_flat.specs.{Flattened.{parameters_scope, parameter_of, in_function}, Scope.Context}
 use Rattle.sharc_invariant.specs.{Labels.{Empty, Refers, EntryMentions}, Types.{Targets, row_of, globals_target, is_private}, Typed.IsShared}

@@ -1,7 +1,7 @@
 -- A table is one of targets where each of its fields is good, by itself and beside the others of its element.
 use Rattle.std.proofs.{Common.{◌≡◌, ℕ, zero, suc, ◌+◌, ◌-◌, ◌*◌, ◌/◌, ◌%◌, ◌<◌, ◌≤◌, ◌==◌, Bool, true, false, List, [], ◌∷◌, length, map, slice_index_or, refl, ap, sym, ◌∙◌, subst, arith, ne_eqb, ⊎_elim}, lemmas.Bool.{true≢false, false≢true, cases_lt}, lemmas.Nat.div-add-mod', Math.Nat.{mod-eq_of_lt, mul-add-mod_self_right}}
 use Rattle.std.specs.List.{AllByRecursion}
-use Rattle.sharc_invariant.specs.Types.{Mutex, ObjectType, nothing, field_mutex, OfType, OfGlobals, OfElement, FieldMode, Under, FieldType, Content, Integer, MutexWord, Waiters, Pointer, Field, Target, Targets, no_field, no_target, row_of, cells_of, field_at, field_of_cell, global_field, mode_in, type_in, globals_target, field_in, mode_at, type_at, is_private, is_mutex, is_pointer, AreTargets, FieldMode as field, CellMode as cell}
+use Rattle.sharc_invariant.specs.Types.{Mutex, ObjectType, nothing, field_mutex, OfElement, FieldMode, Under, FieldType, Content, Integer, Pointer, Field, Target, Targets, no_field, no_target, row_of, cells_of, field_at, field_of_cell, global_field, mode_in, type_in, globals_target, field_in, mode_at, type_at, is_private, is_mutex, is_pointer, AreTargets, FieldMode as field, CellMode as cell}
 use Rattle.sharc_code.specs.declared.instr.Width.TheVariants.{Long}
 use Rattle.sharc_accepted_laws.proofs.TargetLists.{at_place}
 

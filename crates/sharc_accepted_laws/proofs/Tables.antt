@@ -1,7 +1,7 @@
 -- The tables of code that is made of a program.
 use Rattle.std.proofs.{Common.{◌≡◌, ℕ, zero, suc, pos, ◌+◌, ◌^◌, ◌<◌, ◌≤◌, Bool, List, [], ◌∷◌, length, map, slice_get, slice_index, slice_index_or, refl, ap, sym, ◌∙◌, subst, arith, Some}, lemmas.List.length-map}
 use Rattle.std.specs.Prelude.{unsigned_abs}
-use Rattle.sharc_tree.specs.{declared.token.Number.Number, declared.token.Span.Span, declared.tree.item.GlobalDefinition.GlobalDefinition, declared.tree.item.GlobalForm.GlobalForm, declared.tree.item.GlobalForm.TheVariants.{Plain, Array, Initial}, Tree.Function}
+use Rattle.sharc_tree.specs.{declared.token.Number.Number, declared.token.Span.Span, declared.tree.item.GlobalDefinition.GlobalDefinition, declared.tree.item.GlobalForm.GlobalForm, declared.tree.item.GlobalForm.TheVariants.Initial, Tree.Function}
 use Rattle.sharc_tree.specs.declared.tree.expression.Constant.TheVariants as constants
 use Rattle.sharc_code.specs.{declared.code.Code.Code, declared.code.Function.{Function as Row}, declared.code.GlobalCells.GlobalCells, Machine.no_function, Ranges.GlobalsFit}
 use Rattle.sharc_ctype.specs.Resolved.{globals_in, functions_in, function_at}

@@ -5,7 +5,7 @@ use Rattle.sharc_tree.specs.declared.ctype.Mode.{Mode}
 use Rattle.sharc_names.specs.declared.types.Role.{Role}
 use Rattle.sharc_names.specs.declared.types.Role.TheVariants as role
 use Rattle.sharc_ctype.specs.{declared.entity.Numbered.Numbered, Entities.positions_of, Resolved.Resolution}
-use Rattle.sharc_mode.specs.{Moded.Assignment, Rows.{PathReading, written, Targets, targets_from, entity_row, read, modes_of}, Sharings.{Sharing, private, readonly, locked, racy, dynamic, sharing_of}}
+use Rattle.sharc_mode.specs.{Moded.Assignment, Rows.{PathReading, written, Targets, targets_from, entity_row, read, modes_of}, Sharings.sharing_of}
 use Rattle.sharc_accepted_laws.specs.Shapes.{Form, form_of}
 use Rattle.sharc_lemmas.proofs.Options.{same_some}
 use Rattle.sharc_accepted_laws.proofs.Passed.{form_read as read_form}

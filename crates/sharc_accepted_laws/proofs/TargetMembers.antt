@@ -4,13 +4,11 @@ use Rattle.std.specs.{List.AllByRecursion, Prelude.slice_get}
 use Rattle.sharc_tree.specs.{declared.ctype.Base.Base, declared.ctype.Mode.Mode, declared.ctype.Path.Path, declared.tree.declaration.Declaration.Declaration, declared.tree.declaration.WrittenType.WrittenType}
 use Rattle.sharc_tree.specs.declared.ctype.Base.TheVariants as base
 use Rattle.sharc_tree.specs.declared.ctype.Mode.TheVariants as mode
-use Rattle.sharc_names.specs.Kinds.{Kind, object, array, null, is_pointer, declared_kind}
-use Rattle.sharc_names.specs.Kinds as kinds
+use Rattle.sharc_names.specs.Kinds.{Kind, object, is_pointer, declared_kind}
 use Rattle.sharc_ctype.specs.Resolved.{Resolution, named_at}
 use Rattle.sharc_meaning.specs.Cells.{field_place_named}
 use Rattle.sharc_mode.specs.{Cells.{is_mutex_kind, is_behind_pointer, top_of}, Moded.Assignment, Rows.{written, declared_row, modes_of}, Sharings.{Lock, lock_of}}
 use Rattle.sharc_invariant.specs.Types.{FieldMode, Under, Field, no_field, FieldMode as field}
-use Rattle.sharc_invariant.specs.Types as types
 use Rattle.sharc_accepted_laws.specs.{Shapes.{form_of, shape_of, shapes}, Targets.{is_private_mode, starts_private, locked_mode, written_mode, field_mode, base_content, pointer_content, member, members, targets_of, field_lock}}
 use Rattle.sharc_accepted_laws.proofs.{TargetCells.member_count, Good.{IsOwn, AreGood, private_mode_is, private_racy, not_pointer, mutex_base, plain_good, pointer_good, readonly_behind, dynamic_behind, private_behind, readonly_private, dynamic_private, readonly_racy, dynamic_racy, under_private, under_racy, under_behind}, TargetLists.place_there, Table.{IsGood, IsBeside, AreBeside, racy_behind, mode_racy as racy_private}}
 use Rattle.sharc_lemmas.proofs.{Options.{same_some, none_some}, Lists.{head_there, some_there, tail_there, there_is as below_there}}

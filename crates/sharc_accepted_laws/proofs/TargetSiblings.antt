@@ -1,7 +1,7 @@
 -- A lock path in the type of a field that names a field names one of the same struct.
-use Rattle.std.proofs.Common.{◌≡◌, ⊎_elim, ℕ, Bool, true, false, cond, List, [], ◌∷◌, ◌++◌, length, refl, sym, ◌∙◌, subst, Option, Some, None, Contains, bytes_eq}
+use Rattle.std.proofs.Common.{◌≡◌, ⊎_elim, ℕ, Bool, true, false, List, [], ◌∷◌, ◌++◌, length, refl, sym, ◌∙◌, subst, Option, Some, None, Contains}
 use Rattle.sharc_tree.specs.{declared.ctype.Mode.Mode, declared.ctype.Mode.TheVariants.Locked, declared.ctype.Path.Path, declared.ctype.Path.TheVariants.{One, Through}, declared.tree.declaration.Declaration.Declaration, declared.tree.declaration.WrittenType.WrittenType, declared.tree.item.StructDefinition.StructDefinition, Low.IsLow, Placed.IsPlaced, Tree.{Item, structure, global, function}}
-use Rattle.sharc_names.specs.{declared.fault.FaultCode.FaultCode, declared.fault.FaultCode.TheVariants.{UnknownName, TypeNotAllowed}, declared.fault.Named.Named, declared.scope.Scope.Scope, Names.{Entry, Meaning, look_up, field_of, named_of}, Notes.{Note, fault, refers, yields, fault_unless, faults, referred}, Types.{first_notes, main_notes, name_notes, path_notes, mode_notes, modes_notes, base_notes, allowed_there, type_notes}}
+use Rattle.sharc_names.specs.{declared.fault.FaultCode.TheVariants.{UnknownName, TypeNotAllowed}, declared.fault.Named.Named, declared.scope.Scope.Scope, Names.{Entry, Meaning, look_up, field_of, named_of}, Notes.{Note, fault, refers, fault_unless}, Types.{first_notes, main_notes, name_notes, path_notes, mode_notes, modes_notes, base_notes, allowed_there, type_notes}}
 use Rattle.sharc_names.specs.declared.fault.Named.TheVariants as named
 use Rattle.sharc_names.specs.declared.types.Role.TheVariants as role
 use Rattle.sharc_names.specs.Names as meaning
@@ -9,7 +9,7 @@ use Rattle.sharc_ctype.specs.{Globals.sizes_notes, Heads.{heads_notes, no_heads}
 use Rattle.sharc_mode.specs.Sharings.{lock_of}
 use Rattle.sharc_ctype_laws.specs.Laws.{Tells, IsToldOnce, EachNameOnce, OnlyNames}
 use Rattle.sharc_accepted_laws.proofs.{TargetLists.{left_there, right_there, either_there}, StaticSiblings.found_there, Noted.{referred_there, no_faults, one_thing}}
-use Rattle.sharc_lemmas.proofs.{Options.{same_some, none_some}, Lists.{head_there, head_or_tail, tail_there}, Equal.none_there}
+use Rattle.sharc_lemmas.proofs.{Options.none_some, Lists.{head_there, head_or_tail}, Equal.none_there}
 
 -- ---- what a note of the program says is so
 -- the field of this token is one of these

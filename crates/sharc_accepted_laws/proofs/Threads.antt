@@ -6,7 +6,7 @@ use Rattle.sharc_names.specs.declared.fault.Named.TheVariants as named
 use Rattle.sharc_ctype.specs.{Resolved.{Resolution, named_at}, Transfers.{variable, passed}}
 use Rattle.sharc_mode.specs.{Rows.{constant_use, argument_use, written, declared_row, modes_of}, Sharings.{Sharing, private, readonly, locked, racy, dynamic}}
 use Rattle.sharc_flat.specs.{Flattened.{parameters_scope, in_function}, Scope.Context}
-use Rattle.sharc_invariant.specs.{Types.{Lock as TypeLock, Names, SomeNames}, Types.Lock.{Global, Through, Self}, Labels.{Refers, Label, EntryMentions, HasCopy, AllSame}, Typed.{PassesLock, Passes}}
+use Rattle.sharc_invariant.specs.{Types.{Lock as TypeLock, Names, SomeNames}, Types.Lock.Global, Labels.{Refers, Label, EntryMentions, HasCopy, AllSame}, Typed.{PassesLock, Passes}}
 use Rattle.sharc_accepted_laws.specs.{Calls.{argument_type, AreCopies, ArgumentsFit}, Starting.SpawnedBegin, Static.{register, lock_named, locks_at, variable_type, pointers, entry_named}, Threads.ThreadsPass}
 use Rattle.sharc_lemmas.proofs.Options.{none_some}
 

@@ -1,15 +1,14 @@
 -- Values, pointers, variables, constants and operators.
 use Rattle.std.proofs.{Common.{◌≡◌, inl, inr, ℕ, zero, suc, ◌+◌, ◌<◌, ◌==◌, eqb-true, ◌||◌, Bool, true, false, cond, List, [], ◌∷◌, refl, ap, sym, ◌∙◌, subst, arith, option_map, Option, Some, None}, lemmas.Bool.{false≢true, and_parts, or_right, or_left}}
 use Rattle.std.specs.List.{AllByRecursion}
-use Rattle.sharc_tree.specs.{declared.ctype.Base.Base, declared.token.Site.Site, declared.token.Span.Span, declared.tree.declaration.Identifier.Identifier, declared.tree.expression.BinaryOperator.BinaryOperator, declared.tree.expression.BinaryOperator.TheVariants.{LogicalOr, LogicalAnd, BitOr, BitXor, BitAnd, Equal, NotEqual, Less, Greater, LessOrEqual, GreaterOrEqual, ShiftLeft, ShiftRight, Add, Subtract, Multiply, Divide, Remainder}, declared.tree.expression.Constant.Constant, declared.tree.expression.UnaryOperator.UnaryOperator, declared.tree.expression.UnaryOperator.TheVariants.{Negate, Not, Complement, Dereference}, declared.token.NumberType.NumberType, Measures.{expressions, in_function}, Tree.Expression}
+use Rattle.sharc_tree.specs.{declared.ctype.Base.Base, declared.token.Site.Site, declared.token.Span.Span, declared.tree.declaration.Identifier.Identifier, declared.tree.expression.BinaryOperator.BinaryOperator, declared.tree.expression.BinaryOperator.TheVariants.{LogicalOr, LogicalAnd, Equal, NotEqual, Less, Greater, LessOrEqual, GreaterOrEqual, ShiftLeft, ShiftRight}, declared.tree.expression.Constant.Constant, declared.tree.expression.UnaryOperator.UnaryOperator, declared.tree.expression.UnaryOperator.TheVariants.{Negate, Not, Complement, Dereference}, declared.token.NumberType.NumberType, Measures.{expressions, in_function}, Tree.Expression}
 use Rattle.sharc_tree.specs.declared.ctype.Base.TheVariants as base
 use Rattle.sharc_tree.specs.declared.tree.expression.Constant.TheVariants as constants
 use Rattle.sharc_tree.specs.declared.token.NumberType.TheVariants as number_types
 use Rattle.sharc_tree.specs.Tree as tree
 use Rattle.sharc_names.specs.declared.fault.Named.TheVariants as named
-use Rattle.sharc_names.specs.Kinds.{Kind, object, array, null, function, is_integral, is_integer, is_pointer, is_null, is_long, int, long, promoted}
-use Rattle.sharc_code.specs.{declared.instr.Register.TheVariants.Int, declared.instr.Width.Width, Arithmetic.holds}
-use Rattle.sharc_code.specs.declared.instr.Width.TheVariants as widths
+use Rattle.sharc_names.specs.Kinds.{Kind, object, array, null, is_integral, is_integer, is_pointer, is_null, is_long, int, long, promoted}
+use Rattle.sharc_code.specs.{declared.instr.Register.TheVariants.Int, Arithmetic.holds}
 use Rattle.sharc_ctype.specs.{declared.expr.OperatorClass.TheVariants.{Shift, Arithmetic}, Expressions.{number_kind, constant_kind, class_of, binary_result}, Resolved.{Resolution, named_at, named_kind, declaration_at, variable_kind, functions_in, kind_at}}
 use Rattle.sharc_meaning.specs.{Reference.constant_value, State.is_reference}
 use Rattle.sharc_invariant.specs.{Typed.{is_shift, is_comparison}, Types.StaticType, Labels.{Refers, Narrower}}

@@ -8,7 +8,7 @@ use Rattle.sharc_names.specs.declared.fault.Named.TheVariants as named
 use Rattle.sharc_names.specs.Kinds.{Kind, is_array, is_struct_base, same_base, declared_kind}
 use Rattle.sharc_names.specs.Kinds as kinds
 use Rattle.sharc_ctype.specs.{Expressions.{constant_kind, number_kind}, Resolved.{Resolution, functions_in, function_at, declaration_at, kind_at, named_at}, Statements.{is_aggregate, locals_in_all}}
-use Rattle.sharc_ctype_laws.specs.{Constraints.{HasType, Callee, of_program, of_conditions, Common, both_shorter, left_long, right_long, IsPointer, a_variable, a_global, a_function, a_constant, in_parentheses, element_of_pointer, element_of_array, a_call, a_field, a_field_behind, negated, complemented, denied, pointed_to, arithmetic, shifted, related, equated, joined, spawned, printed_or_joined, locked, unlocked, freed, a_cast}, Declared.{IsItself, NamesOwn}, Laws.{EachNamesItself, EachNamesOwn, ArePlain, IsPlain, MeetsConstraints}}
+use Rattle.sharc_ctype_laws.specs.{Constraints.{HasType, Callee, of_program, of_conditions, Common, both_shorter, IsPointer, a_variable, a_global, a_function, a_constant, in_parentheses, element_of_pointer, element_of_array, a_call, a_field, a_field_behind, negated, complemented, pointed_to, arithmetic, shifted, a_cast}, Declared.{IsItself, NamesOwn}, Laws.{EachNamesItself, EachNamesOwn, ArePlain, IsPlain, MeetsConstraints}}
 use Rattle.sharc_flat.specs.{Places.{Target, variable, in_global_at, in_object_at, target, named_target, own_field}, Suits.is_cell}
 use Rattle.sharc_accepted_laws.specs.StaticLaws.{IsAccepted}
 use Rattle.sharc_mode.specs.Moded.{Assignment}

@@ -5,7 +5,7 @@ use Rattle.sharc_tree.specs.{declared.ctype.Base.Base, declared.ctype.Mode.Mode,
 use Rattle.sharc_names.specs.declared.types.Role.{Role}
 use Rattle.sharc_names.specs.declared.types.Role.TheVariants as role
 use Rattle.sharc_ctype.specs.{declared.entity.Entity.Entity, declared.entity.Numbered.Numbered, Entities.{entities_in, numbered_from, positions_of, positions_in, written_modes, first_depth}}
-use Rattle.sharc_graph.specs.{declared.graph.NodeFinding.NodeFinding, declared.graph.NodeFinding.TheVariants.{Apart, Source, Behind}, Findings.finding_at}
+use Rattle.sharc_graph.specs.{declared.graph.NodeFinding.NodeFinding, declared.graph.NodeFinding.TheVariants.Apart, Findings.finding_at}
 use Rattle.sharc_mode.specs.{Flows.{IsLeastAssignment, mode_found}, Moded.Assignment, Rows.{PathReading, Targets, deeper, targets_from, entity_row}, Settled.{is_mutex, settled, field_target, otherwise_of, settled_modes, settled_in, settled_at}, WellFormed.leaves_open}
 use Rattle.sharc_check.specs.Constructs.{IsEntity}
 use Rattle.sharc_accepted_laws.proofs.Settling.{settled_length}
