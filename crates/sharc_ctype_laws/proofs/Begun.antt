@@ -1,7 +1,7 @@
 -- A global of which no fault is noted has an element, and begins at a value of its type.
 use Rattle.std.proofs.{Common.{◌≡◌, ◌⊎◌, inl, inr, ℕ, ◌≤◌, ◌==◌, Bool, true, false, cond, List, [], ◌∷◌, ◌++◌, refl, ap, sym, ◌∙◌, subst, arith, eqb-true, ltb-true, leb-true, lt-ltb, Some, unsigned_abs, nat_lt}, lemmas.Bool.{false≢true, eqb-false}}
 use Rattle.std.specs.List.{AllByRecursion}
-use Rattle.sharc_tree.specs.{declared.ctype.Base.Base, declared.ctype.Base.TheVariants.{Int, Char, Long, Mutex, Void, Struct}, declared.tree.declaration.WrittenType.WrittenType, declared.tree.expression.Constant.Constant, declared.tree.expression.Constant.TheVariants.{Number, Character, Null}, declared.tree.item.GlobalDefinition.GlobalDefinition, declared.tree.item.GlobalForm.GlobalForm, declared.tree.item.GlobalForm.TheVariants.{Plain, Array, Initial}, Tree.{Item, structure, global, function}}
+use Rattle.sharc_tree.specs.{declared.ctype.Base.Base, declared.ctype.Base.TheVariants.{Int, Char, Long, Mutex, Void, Struct}, declared.tree.declaration.WrittenType.WrittenType, declared.tree.expression.Constant.Constant, declared.tree.expression.Constant.TheVariants.{Number, Character, Null}, declared.tree.item.GlobalDefinition.GlobalDefinition, declared.tree.item.GlobalForm.GlobalForm, declared.tree.item.GlobalForm.TheVariants.{Array, Initial}, Tree.{Item, structure, global, function}}
 use Rattle.sharc_names.specs.{declared.fault.FaultCode.TheVariants.{TypeMismatch, TypeNotAllowed}, declared.scope.Scope.Scope, Kinds.{object, stars_of, declared_kind}, Notes.fault_unless, Types.{is_allowed, allowed_there, type_notes}}
 use Rattle.sharc_names.specs.declared.types.Role.TheVariants as role
 use Rattle.sharc_ctype.specs.{Globals.{elements_of, length_notes, holds, holds_constant, is_null_constant, base_initial_notes, initial_notes, global_notes}, Items.{item_notes, items_notes}, Resolved.globals_in}

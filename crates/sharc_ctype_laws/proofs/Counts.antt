@@ -2,8 +2,7 @@
 use Rattle.std.proofs.Common.{◌≡◌, ℕ, ◌+◌, ◌≤◌, ◌==◌, Bool, true, false, cond, List, [], ◌∷◌, ◌++◌, refl, sym, ◌∙◌, arith, Option, Some, None}
 use Rattle.sharc_tree.specs.{Marks.{Mark, a_name, a_cast}, Tree.Expression, declared.ctype.Base.Base}
 use Rattle.sharc_tree.specs.declared.ctype.Base.TheVariants as base
-use Rattle.sharc_names.specs.{declared.fault.FaultCode.FaultCode, declared.fault.Named.Named, declared.need.Need.Need, Kinds.{Kind, object, array, null}, Needs.{called, used_call, misfit_of, misfit, fits, unmet, unagreed}, Notes.{Note, fault, refers, yields, fault_unless, fault_where}}
-use Rattle.sharc_names.specs.Kinds as kinds
+use Rattle.sharc_names.specs.{declared.fault.FaultCode.FaultCode, declared.fault.Named.Named, declared.need.Need.Need, Kinds.{Kind, object}, Needs.{called, used_call, misfit_of, misfit, fits, unmet, unagreed}, Notes.{Note, fault, refers, yields, fault_unless, fault_where}}
 
 unfoldable pub one : ℕ → ℕ → ℕ
 one token n = cond (n == token) 1 0

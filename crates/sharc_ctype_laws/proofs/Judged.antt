@@ -2,11 +2,11 @@
 use Rattle.std.proofs.{Common.{◌≡◌, ◌⊎◌, inl, inr, ⊎_elim, ℕ, ◌+◌, ◌==◌, Bool, true, false, ◌&&◌, ◌||◌, not, cond, nat_lt, List, [], ◌∷◌, length, drop, refl, ap, ap₂, sym, ◌∙◌, subst, eqb-true, Option, Some, None, is_some, arith, codes}, lemmas.Bool.{false≢true, and_parts, or_cases, not-true}, lemmas.Slice.Eq.bytes_eq-Decides}
 use Rattle.std.specs.List.{AllByRecursion}
 use Rattle.sharc_tree.specs.declared.ctype.Base.TheVariants as base
-use Rattle.sharc_tree.specs.{declared.token.Site.Site, declared.token.Span.Span, declared.tree.declaration.Identifier.Identifier, declared.tree.declaration.WrittenType.WrittenType, declared.tree.declaration.Declaration.Declaration, declared.token.NumberType.NumberType, declared.tree.expression.Constant.Constant, declared.tree.expression.FieldOperator.FieldOperator, declared.tree.expression.FieldOperator.TheVariants.{Dot, Arrow}, declared.tree.expression.BinaryOperator.BinaryOperator, declared.tree.expression.UnaryOperator.UnaryOperator, declared.tree.expression.UnaryOperator.TheVariants.{Negate, Not, Complement, Dereference}, declared.tree.expression.ValueCall.ValueCall, declared.tree.expression.PlaceCall.PlaceCall, declared.tree.expression.PlaceCall.TheVariants.{Lock, Unlock, Free}, declared.tree.item.StructDefinition.StructDefinition, declared.tree.item.GlobalForm.GlobalForm, declared.tree.item.GlobalForm.TheVariants.{Plain, Array, Initial}, Forms.{is_lvalue, without_parentheses}, Tree.{Expression, Arguments, no_arguments, argument, Function}}
+use Rattle.sharc_tree.specs.{declared.token.Site.Site, declared.token.Span.Span, declared.tree.declaration.Identifier.Identifier, declared.tree.declaration.WrittenType.WrittenType, declared.tree.declaration.Declaration.Declaration, declared.token.NumberType.NumberType, declared.tree.expression.Constant.Constant, declared.tree.expression.FieldOperator.FieldOperator, declared.tree.expression.FieldOperator.TheVariants.{Dot, Arrow}, declared.tree.expression.BinaryOperator.BinaryOperator, declared.tree.expression.UnaryOperator.UnaryOperator, declared.tree.expression.UnaryOperator.TheVariants.{Negate, Not, Complement, Dereference}, declared.tree.expression.ValueCall.ValueCall, declared.tree.expression.PlaceCall.PlaceCall, declared.tree.expression.PlaceCall.TheVariants.{Lock, Unlock, Free}, declared.tree.item.StructDefinition.StructDefinition, declared.tree.item.GlobalForm.GlobalForm, declared.tree.item.GlobalForm.TheVariants.Array, Forms.{is_lvalue, without_parentheses}, Tree.{Expression, Arguments, no_arguments, argument, Function}}
 use Rattle.sharc_tree.specs.declared.token.NumberType.TheVariants as width
 use Rattle.sharc_tree.specs.declared.tree.expression.Constant.TheVariants as constants
 use Rattle.sharc_tree.specs.Tree as tree
-use Rattle.sharc_names.specs.{declared.fault.FaultCode.TheVariants.{TypeMismatch, NoLvalue, BadForm, ArgumentCount}, declared.need.Need.Need, declared.scope.Scope.Scope, Kinds.{Kind, object, array, null, int, long, void, mutex, is_pointer, is_struct_behind, same_kind, agrees, declared_kind, declared_kinds, element_kind}, Names.{StructTable, StructMeaning, struct_of, fields_of, field_of, defined, known, Entry, Meaning, Signature, look_up, named_of, kind_of, global_kind, is_main, parameters_of, result_of, condition_parameters}, Needs.{place, fits, met, unmet, agreed, unagreed}, Notes.{fault, fault_unless}, Types.{name_kind, name_notes, field_in, field_among, field_kind, field_notes, is_fine}, Wants.first_wanted}
+use Rattle.sharc_names.specs.{declared.fault.FaultCode.TheVariants.{TypeMismatch, NoLvalue, BadForm, ArgumentCount}, declared.need.Need.Need, declared.scope.Scope.Scope, Kinds.{Kind, object, array, int, long, void, mutex, is_pointer, is_struct_behind, same_kind, agrees, declared_kind, declared_kinds, element_kind}, Names.{StructTable, StructMeaning, struct_of, fields_of, field_of, defined, known, Entry, Meaning, Signature, look_up, named_of, kind_of, global_kind, is_main, parameters_of, result_of, condition_parameters}, Needs.{place, fits, met, unmet, agreed, unagreed}, Notes.{fault, fault_unless}, Types.{name_kind, name_notes, field_in, field_among, field_kind, field_notes, is_fine}, Wants.first_wanted}
 use Rattle.sharc_names.specs.declared.fault.Named.TheVariants as named
 use Rattle.sharc_names.specs.declared.need.Need.TheVariants as need
 use Rattle.sharc_names.specs.declared.types.Role.TheVariants as role

@@ -1,8 +1,7 @@
 -- Kinds: which are integers, pointers and scalars, and which agree.
 use Rattle.std.proofs.{Common.{◌≡◌, inl, inr, ◌+◌, ◌-◌, Bool, true, false, ◌&&◌, ◌||◌, cond, refl, ap, ap₂, sym, ◌∙◌, subst, eqb-true, ⊎_elim}, lemmas.Bool.{false≢true, and_parts, or_cases}, lemmas.Slice.Eq.bytes_eq-Decides}
 use Rattle.sharc_tree.specs.{declared.ctype.Base.Base, declared.ctype.Base.TheVariants.{Int, Char, Long, Mutex, Void, Struct}}
-use Rattle.sharc_names.specs.{declared.need.Need.TheVariants.Value, Kinds.{Kind, object, array, null, int, long, is_integer, is_pointer, is_null, is_long, same_base, same_kind, agrees, comparable, promoted, common}, Needs.fits}
-use Rattle.sharc_names.specs.Kinds as kinds
+use Rattle.sharc_names.specs.{declared.need.Need.TheVariants.Value, Kinds.{Kind, object, null, int, long, is_integer, is_pointer, is_null, is_long, same_base, same_kind, agrees, comparable, promoted, common}, Needs.fits}
 use Rattle.sharc_ctype_laws.specs.Constraints.{IsInteger, IsPointer, IsScalar, Common, both_shorter, left_long, right_long, Comparable, integers, pointers, pointer_and_null, null_and_pointer, Assignable, integer, pointer, null_pointer}
 use Rattle.sharc_lemmas.proofs.Numbers.{one_less}
 

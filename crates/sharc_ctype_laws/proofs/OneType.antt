@@ -4,10 +4,10 @@ use Rattle.std.specs.List.{AllByRecursion}
 use Rattle.sharc_tree.specs.declared.ctype.Base.TheVariants as base
 use Rattle.sharc_tree.specs.{declared.tree.declaration.Declaration.Declaration, declared.tree.declaration.Identifier.Identifier, declared.tree.item.StructDefinition.StructDefinition, Tree.Expression}
 use Rattle.sharc_names.specs.declared.fault.Named.TheVariants as named
-use Rattle.sharc_names.specs.{Kinds.{Kind, object, array, null, int, long, is_long, promoted, common, element_kind, declared_kind}, Names.field_of}
+use Rattle.sharc_names.specs.{Kinds.{Kind, object, int, long, is_long, promoted, common, element_kind, declared_kind}, Names.field_of}
 use Rattle.sharc_names.specs.Kinds as kinds
 use Rattle.sharc_ctype.specs.{declared.expr.OperatorClass.OperatorClass, declared.expr.OperatorClass.TheVariants.{Shift, Arithmetic}, Expressions.binary_result, Resolved.{Resolution, structs_in, named_at, variable_kind, global_kind_of, result_kind_of, named_kind, called_kind, kind_at}}
-use Rattle.sharc_ctype_laws.specs.{Constraints.{HasType, Callee, of_program, of_conditions, Common, both_shorter, left_long, right_long, IsMemberOf, struct_named, a_variable, a_global, a_function, a_constant, in_parentheses, element_of_pointer, element_of_array, a_call, a_field, a_field_behind, negated, complemented, denied, pointed_to, arithmetic, shifted, related, equated, joined, spawned, printed_or_joined, locked, unlocked, freed, a_cast}, Declared.{IsItself, NameThemselves}}
+use Rattle.sharc_ctype_laws.specs.{Constraints.{HasType, Callee, of_program, of_conditions, Common, both_shorter, left_long, right_long, IsMemberOf, struct_named, a_variable, a_global, a_function, in_parentheses, element_of_pointer, element_of_array, a_call, a_field, a_field_behind, negated, complemented, pointed_to, arithmetic, shifted, related, equated, joined}, Declared.{IsItself, NameThemselves}}
 use Rattle.sharc_ctype_laws.proofs.Scenes.{found_or_later}
 
 -- members are found by their tokens

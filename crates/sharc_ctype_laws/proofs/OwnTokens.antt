@@ -1,7 +1,7 @@
 -- In a tree at its tokens no two names have one token: so notes without a fault say what the tokens name, and each declaration is found by its token.
 use Rattle.std.proofs.{Common.{◌≡◌, ⊎_elim, ℕ, ◌+◌, ◌≤◌, ◌<◌, zero, suc, Bool, true, false, cond, List, [], ◌∷◌, ◌++◌, length, fold, get_or, replicate, refl, ap, sym, ◌∙◌, subst, arith, Some, eq-eqb, ne_eqb, get_or-set_other, get_or-set_same, length-set, set}, lemmas.Bool.{cases_eq, cases_lt}, lemmas.List.length-replicate}
 use Rattle.std.specs.List.{AllByRecursion}
-use Rattle.sharc_tree.specs.{declared.token.Keyword.Keyword, declared.token.Keyword.TheVariants.Scast, declared.token.Token.Token, declared.token.TokenKind.TokenKind, declared.tree.declaration.Declaration.Declaration, Low.IsLow, Marks.{Mark, keyword_marks, kind_marks, marks_from, name_marks, type_marks, declaration_marks, declarations_marks, marks, option_marks, right_marks, simple_marks, local_marks, first_marks, head_marks, statement_marks, statements_marks, item_marks, items_marks}, Placed.IsPlaced, Tree.{Local, First, nothing, declares, does, Statement, Statements, no_statements, statement, Item, Program}}
+use Rattle.sharc_tree.specs.{declared.token.Keyword.Keyword, declared.token.Keyword.TheVariants.Scast, declared.token.Token.Token, declared.token.TokenKind.TokenKind, declared.tree.declaration.Declaration.Declaration, Low.IsLow, Marks.{Mark, keyword_marks, kind_marks, marks_from, name_marks, type_marks, declaration_marks, declarations_marks, marks, option_marks, right_marks, simple_marks, local_marks, first_marks, head_marks, statement_marks, statements_marks, item_marks, items_marks}, Placed.IsPlaced, Tree.{Local, First, declares, Statement, Statements, no_statements, statement, Item, Program}}
 use Rattle.sharc_tree.specs.declared.token.TokenKind.TheVariants as kind
 use Rattle.sharc_tree.specs.Tree as tree
 use Rattle.sharc_names.specs.{declared.fault.Named.Named, Notes.{Note, fault, refers, yields, Findings, is_free, noted, faults}}

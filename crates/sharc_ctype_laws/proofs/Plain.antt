@@ -1,7 +1,7 @@
 -- No parameter, local or result is a struct or a mutex.
 use Rattle.std.proofs.{Common.{◌≡◌, ℕ, ◌+◌, ◌==◌, Bool, true, false, ◌&&◌, ◌||◌, List, [], ◌∷◌, length, refl, ap, sym, ◌∙◌, eqb-true}, lemmas.Bool.false≢true}
 use Rattle.std.specs.List.{AllByRecursion}
-use Rattle.sharc_tree.specs.{declared.ctype.Base.Base, declared.tree.declaration.WrittenType.WrittenType, declared.tree.declaration.Declaration.Declaration, Tree.{First, nothing, declares, does, Statement, Statements, no_statements, statement, Function}}
+use Rattle.sharc_tree.specs.{declared.ctype.Base.Base, declared.tree.declaration.WrittenType.WrittenType, declared.tree.declaration.Declaration.Declaration, Tree.{First, declares, Statement, Statements, no_statements, statement, Function}}
 use Rattle.sharc_tree.specs.declared.ctype.Base.TheVariants as base
 use Rattle.sharc_tree.specs.Tree as tree
 use Rattle.sharc_names.specs.{declared.fault.FaultCode.TheVariants.TypeNotAllowed, declared.scope.Scope.Scope, declared.types.Role.Role, Kinds.{is_struct_base, same_base, declared_kind, stars_of}, Types.{holds_struct, holds_mutex, is_allowed, allowed_there, type_notes}}

@@ -1,6 +1,6 @@
 -- The statements of a function of which no fault is noted meet the rules.
 use Rattle.std.proofs.{Common.{◌≡◌, inl, inr, ℕ, zero, suc, true, false, [], ◌∷◌, length, refl, ap, sym, ◌∙◌, lt-ltb, arith, Option, Some, None, IfSome}, lemmas.Bool.{false≢true, true≢false}}
-use Rattle.sharc_tree.specs.{declared.ctype.Base.Base, declared.tree.declaration.WrittenType.WrittenType, declared.tree.declaration.Declaration.Declaration, declared.tree.item.GlobalForm.GlobalForm, declared.tree.item.GlobalForm.TheVariants.{Plain, Array, Initial}, Forms.is_lvalue, Tree.{Expression, Right, value, malloc, Simple, assign, does_call, Local, First, nothing, declares, does, Head, Statement, Statements, no_statements, statement, Function}}
+use Rattle.sharc_tree.specs.{declared.ctype.Base.Base, declared.tree.declaration.WrittenType.WrittenType, declared.tree.declaration.Declaration.Declaration, declared.tree.item.GlobalForm.GlobalForm, declared.tree.item.GlobalForm.TheVariants.Array, Forms.is_lvalue, Tree.{Expression, Right, value, malloc, Simple, assign, does_call, Local, First, nothing, declares, does, Head, Statement, Statements, no_statements, statement, Function}}
 use Rattle.sharc_tree.specs.declared.ctype.Base.TheVariants as base
 use Rattle.sharc_tree.specs.Tree as tree
 use Rattle.sharc_names.specs.{declared.fault.FaultCode.TheVariants.BadForm, declared.scope.Scope.Scope, Kinds.{Kind, object, array, null, void, mutex, same_kind, declared_kind}, Names.{StructTable, global_kind}}
@@ -8,7 +8,7 @@ use Rattle.sharc_names.specs.declared.need.Need.TheVariants as need
 use Rattle.sharc_names.specs.declared.types.Role.TheVariants as role
 use Rattle.sharc_names.specs.Kinds as kinds
 use Rattle.sharc_ctype.specs.{Expressions.{type_of, place_kind}, Items.{in_body, function_notes}, Resolved.{Resolution, kind_at, declarations_of}, Statements.{Around, opened, looping, with_names, declared, is_aggregate, test_notes, count_notes, right_notes, simple_notes, initial_notes, local_notes, return_notes, first_notes, behind_first, tests_notes, step_notes, in_head, head_notes, after, notes_in, notes_in_all, first_locals, locals_in, locals_in_all}}
-use Rattle.sharc_ctype_laws.specs.{Constraints.{HasType, IsInteger, IsScalar, a_variable, a_global, a_function, a_constant, in_parentheses, element_of_pointer, element_of_array, a_call, a_field, a_field_behind, negated, complemented, denied, pointed_to, arithmetic, shifted, related, equated, joined, spawned, printed_or_joined, locked, unlocked, freed, a_cast}, Rules.{IsHeld, MeetsRight, MeetsSimple, MeetsLocal, MeetsTest, MeetsFirst, MeetsHead, MeetsReturn, Meets, AllMeet, MeetsRules}}
+use Rattle.sharc_ctype_laws.specs.{Constraints.{HasType, IsInteger, IsScalar, a_variable, a_global, a_function, in_parentheses, element_of_pointer, element_of_array, a_field, a_field_behind, pointed_to}, Rules.{IsHeld, MeetsRight, MeetsSimple, MeetsLocal, MeetsTest, MeetsFirst, MeetsHead, MeetsReturn, Meets, AllMeet, MeetsRules}}
 use Rattle.sharc_ctype_laws.proofs.{FileScene.body_scene, Held.{Held, left, right, well, not_wrong}, Judged.{judged, met_by, lvalue_by}, KindLemmas.{integer_is, scalar_is, pointer_is, one_kind}, Scenes.{Stands, IsSolid, IsScene, need_fits, type_solid}, Walked.{AreDeclared, local_scene, head_scene, after_scene}, Standings.lvalue_held}
 use Rattle.sharc_lemmas.proofs.Lists.{front, back}
 

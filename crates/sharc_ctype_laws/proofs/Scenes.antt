@@ -1,10 +1,9 @@
 -- Scopes in which each name means what the program's declarations say.
 use Rattle.std.proofs.{Common.{◌≡◌, ◌⊎◌, inl, inr, ℕ, ◌==◌, Bool, true, false, ◌&&◌, cond, List, [], ◌∷◌, refl, ap, sym, ◌∙◌, subst, eqb-true, Option, Some, None, is_some, bytes_eq, codes}, lemmas.Bool.{false≢true, and_parts}, lemmas.Slice.Eq.bytes_eq-Decides}
 use Rattle.std.specs.List.{AllByRecursion}
-use Rattle.sharc_tree.specs.{declared.ctype.Base.Base, declared.ctype.Base.TheVariants.{Int, Char, Long, Mutex, Void, Struct}, declared.tree.declaration.WrittenType.WrittenType, declared.tree.declaration.Declaration.Declaration, declared.tree.item.StructDefinition.StructDefinition, Tree.{Expression, Function}}
-use Rattle.sharc_names.specs.{declared.fault.FaultCode.TheVariants.{TypeNotAllowed, BadForm}, declared.need.Need.Need, declared.scope.Scope.Scope, declared.types.Role.Role, Kinds.{Kind, object, array, null, void, declared_kind, stars_of}, Names.{StructTable, StructMeaning, defined, known, struct_of, field_of, Entry, Meaning, look_up}, Needs.{called, fits, met, unmet, misfit, misfit_of, mismatch, used_call}, Types.{is_known, holds_void, is_allowed, allowed_there, base_notes, struct_note, type_notes, is_fine}}
+use Rattle.sharc_tree.specs.{declared.ctype.Base.Base, declared.ctype.Base.TheVariants.{Void, Struct}, declared.tree.declaration.WrittenType.WrittenType, declared.tree.declaration.Declaration.Declaration, declared.tree.item.StructDefinition.StructDefinition, Tree.{Expression, Function}}
+use Rattle.sharc_names.specs.{declared.fault.FaultCode.TheVariants.{TypeNotAllowed, BadForm}, declared.need.Need.Need, declared.scope.Scope.Scope, declared.types.Role.Role, Kinds.{Kind, object, array, void, declared_kind, stars_of}, Names.{StructTable, StructMeaning, defined, known, struct_of, field_of, Entry, Meaning, look_up}, Needs.{called, fits, met, unmet, misfit, misfit_of, mismatch, used_call}, Types.{is_known, holds_void, is_allowed, allowed_there, base_notes, struct_note, type_notes, is_fine}}
 use Rattle.sharc_names.specs.declared.types.Role.TheVariants as role
-use Rattle.sharc_names.specs.Kinds as kinds
 use Rattle.sharc_names.specs.Names as meaning
 use Rattle.sharc_ctype_laws.specs.Constraints.{struct_named, name_of}
 use Rattle.sharc_ctype.specs.{Heads.signature_of, Resolved.{Resolution, structs_in, struct_at, declaration_at, global_at, function_at}}

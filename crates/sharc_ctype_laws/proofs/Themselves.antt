@@ -1,7 +1,7 @@
 -- In a program of which no fault is noted the name of each declaration names it.
 use Rattle.std.proofs.Common.{◌≡◌, ℕ, zero, suc, ◌+◌, List, [], ◌∷◌, ◌++◌, length, slice_get, sym, subst, arith, add-zero, Some}
 use Rattle.std.specs.List.{AllByRecursion}
-use Rattle.sharc_tree.specs.{declared.tree.declaration.Declaration.Declaration, declared.tree.item.StructDefinition.StructDefinition, declared.tree.item.GlobalDefinition.GlobalDefinition, Tree.{Local, First, nothing, declares, does, Statement, Statements, no_statements, statement, Function, Item, structure, global, function}}
+use Rattle.sharc_tree.specs.{declared.tree.declaration.Declaration.Declaration, declared.tree.item.StructDefinition.StructDefinition, declared.tree.item.GlobalDefinition.GlobalDefinition, Tree.{Local, First, declares, Statement, Statements, no_statements, statement, Function, Item, structure, global, function}}
 use Rattle.sharc_tree.specs.Tree as tree
 use Rattle.sharc_names.specs.{declared.fault.Named.Named, declared.scope.Scope.Scope, Types.type_notes}
 use Rattle.sharc_names.specs.declared.fault.Named.TheVariants as named

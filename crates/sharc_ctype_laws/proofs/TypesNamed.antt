@@ -1,7 +1,7 @@
 -- The names in the written types of a program of which no fault is noted name what they spell.
 use Rattle.std.proofs.{Common.{◌≡◌, inl, inr, ℕ, ◌+◌, Bool, true, false, cond, List, [], ◌∷◌, ◌++◌, length, drop, refl, ap, sym, ◌∙◌, subst, Option, Some, None, is_some, bytes_eq}, lemmas.Bool.false≢true, lemmas.Slice.Eq.bytes_eq-Decides}
 use Rattle.std.specs.List.{AllByRecursion}
-use Rattle.sharc_tree.specs.{declared.ctype.Base.Base, declared.ctype.Mode.Mode, declared.ctype.Mode.TheVariants.{Private, Readonly, Locked, Racy, Dynamic}, declared.ctype.Path.Path, declared.ctype.Path.TheVariants.{One, Through}, declared.tree.declaration.WrittenType.WrittenType, declared.tree.declaration.Declaration.Declaration, Tree.{Expression, Arguments, no_arguments, argument, Right, value, malloc, Simple, assign, does_call, Local, First, nothing, declares, does, Head, Statement, Statements, no_statements, statement, Item}}
+use Rattle.sharc_tree.specs.{declared.ctype.Base.Base, declared.ctype.Mode.Mode, declared.ctype.Mode.TheVariants.Locked, declared.ctype.Path.Path, declared.ctype.Path.TheVariants.{One, Through}, declared.tree.declaration.WrittenType.WrittenType, declared.tree.declaration.Declaration.Declaration, Tree.{Expression, Arguments, no_arguments, argument, Right, value, malloc, Simple, assign, does_call, Local, First, nothing, declares, does, Head, Statement, Statements, no_statements, statement, Item}}
 use Rattle.sharc_tree.specs.declared.ctype.Base.TheVariants as base
 use Rattle.sharc_tree.specs.Tree as tree
 use Rattle.sharc_names.specs.{declared.fault.FaultCode.TheVariants.BadForm, declared.scope.Scope.Scope, declared.types.Role.Role, Kinds.{Kind, object, is_struct_behind, declared_kind}, Names.{is_main, StructTable, StructMeaning, defined, known, struct_of, Entry, Meaning, look_up, field_of, named_of, named_struct, kind_of}, Types.{name_kind, name_notes, field_in, field_notes, first_kind, first_notes, second_in, second_notes, path_notes, mode_notes, modes_notes, struct_note, base_notes, type_notes}}
