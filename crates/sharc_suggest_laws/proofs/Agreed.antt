@@ -1,7 +1,7 @@
 -- The mismatches reported in a program are those reported of each giving.
 use Rattle.std.proofs.Common.{◌≡◌, ℕ, ◌+◌, zero, suc, Bool, List, [], ◌∷◌, ◌++◌, drop, Option, Some, None, refl, arith}
 use Rattle.std.specs.List.{flat_map}
-use Rattle.sharc_tree.specs.{declared.tree.declaration.Declaration.Declaration, Tree.{Expression, identifier, constant, parentheses, call, spawn, on_value, on_place, cast, index, field, unary, binary, Arguments, no_arguments, argument, Right, value, malloc, Simple, assign, does_call, Local, First, nothing, declares, does, Head, Statement, Statements, no_statements, statement, Item, structure, global, function}}
+use Rattle.sharc_tree.specs.{declared.tree.declaration.Declaration.Declaration, Tree.{Expression, parentheses, call, spawn, on_value, on_place, cast, index, field, unary, binary, Arguments, no_arguments, argument, Right, value, malloc, Simple, assign, does_call, Local, First, nothing, declares, does, Head, Statement, Statements, no_statements, statement, Item, function}}
 use Rattle.sharc_tree.specs.Tree as tree
 use Rattle.sharc_names.specs.Names.{Entry}
 use Rattle.sharc_ctype.specs.{Entities.{entities_in, numbered}, Resolved.{named_at, globals_in, functions_in}, Transfers.parameters_named}
@@ -50,8 +50,6 @@ value_told t m scope r e inner = both t m (notes_of m e) (agree_notes m (wanted 
 
 mutual
   inside : (t : ℕ) (m : Assignment) (scope : List Entry) (e : Expression) → ones t (notes_of m e) ≡ told_in t m (givings scope e)
-  inside t m scope (identifier s i) = refl
-  inside t m scope (constant s k) = refl
   inside t m scope (parentheses s a) = inside t m scope a
   inside t m scope (call s f all) =
       let ds : List Declaration = parameters_named m.typed (named_at m.typed f.site.token) in
@@ -73,6 +71,7 @@ mutual
       (inside t m scope a) (field_quiet t m.typed s (base_use m.typed w a) (modes_of m (named_row m.typed written (named_at m.typed n.site.token))))
   inside t m scope (unary s o a) = inside t m scope a
   inside t m scope (binary s o at a b) = both t m (notes_of m a) (notes_of m b) (givings scope a) (givings scope b) (inside t m scope a) (inside t m scope b)
+  inside t m scope _ = refl
 
   inside_all : (t : ℕ) (m : Assignment) (scope : List Entry) (f : ℕ) (all : Arguments) (k : ℕ) (rest : Arguments)
       → ones t (notes_of_all m (parameters_named m.typed (named_at m.typed f)) all (beyond k (parameters_named m.typed (named_at m.typed f))) rest) ≡ told_in t m (all_givings scope f all k rest)
@@ -127,11 +126,9 @@ in_returned t m scope f (Some e) = value_told t m scope (of_declared f) e (insid
 
 mutual
   in_statement : (t : ℕ) (m : Assignment) (scope : List Entry) (f : ℕ) (s : Statement) → ones t (notes_in m f s) ≡ told_in t m (givings_in scope f s)
-  in_statement t m scope f (tree.empty s) = refl
   in_statement t m scope f (tree.block s all) = in_statements t m scope f all
   in_statement t m scope f (tree.declare s l) = in_local t m scope l
   in_statement t m scope f (tree.simple s x) = in_simple t m scope x
-  in_statement t m scope f (tree.jump s j) = refl
   in_statement t m scope f (tree.return s e) = in_returned t m scope f e
   in_statement t m scope f (tree.if_then s e a) = both t m (notes_of m e) (notes_in m f a) (givings scope e) (givings_in scope f a) (inside t m scope e) (in_statement t m scope f a)
   in_statement t m scope f (tree.if_then_else s e a b) =
@@ -140,6 +137,7 @@ mutual
   in_statement t m scope f (tree.while s e a) = both t m (notes_of m e) (notes_in m f a) (givings scope e) (givings_in scope f a) (inside t m scope e) (in_statement t m scope f a)
   in_statement t m scope f (tree.for s h a) =
       both t m (head_notes m h) (notes_in m f a) (head_givings scope h) (givings_in (behind_first scope h.first) f a) (in_head t m scope h) (in_statement t m (behind_first scope h.first) f a)
+  in_statement t m scope f _ = refl
 
   in_statements : (t : ℕ) (m : Assignment) (scope : List Entry) (f : ℕ) (all : Statements) → ones t (notes_in_all m f all) ≡ told_in t m (givings_in_all scope f all)
   in_statements t m scope f no_statements = refl
@@ -147,9 +145,8 @@ mutual
       both t m (notes_in m f a) (notes_in_all m f rest) (givings_in scope f a) (givings_in_all (after scope a) f rest) (in_statement t m scope f a) (in_statements t m (after scope a) f rest)
 
 in_item : (t : ℕ) (m : Assignment) (i : Item) → ones t (item_notes m i) ≡ told_in t m (item_givings i)
-in_item t m (structure s) = refl
-in_item t m (global g) = refl
 in_item t m (function f) = in_statements t m (with_parameters [] f.parameters) f.name.site.token f.statements
+in_item t m _ = refl
 
 in_items : (t : ℕ) (m : Assignment) (items : List Item) → ones t (items_notes m items) ≡ told_in t m (items_givings items)
 in_items t m [] = refl

@@ -1,7 +1,7 @@
 -- What is given to a parameter is an argument of its call, and at most this many of its arguments meet a test.
 use Rattle.std.proofs.Common.{◌≡◌, ℕ, zero, suc, ◌+◌, ◌<◌, ◌≤◌, Bool, true, List, [], ◌∷◌, ◌++◌, Option, Some, None, refl, ap, sym, ◌∙◌, arith}
 use Rattle.std.specs.List.{AllByRecursion}
-use Rattle.sharc_tree.specs.Tree.{Expression, identifier, constant, parentheses, call, spawn, on_value, on_place, cast, index, field, unary, binary, Arguments, no_arguments, argument, Right, value, malloc, Simple, assign, does_call, Local, First, nothing, declares, does, Head, Statement, Statements, no_statements, statement, Item, structure, global, function}
+use Rattle.sharc_tree.specs.Tree.{Expression, parentheses, call, spawn, on_value, on_place, cast, index, field, unary, binary, Arguments, no_arguments, argument, Right, value, malloc, Simple, assign, does_call, Local, First, nothing, declares, does, Head, Statement, Statements, no_statements, statement, Item, function}
 use Rattle.sharc_tree.specs.Tree as tree
 use Rattle.sharc_names.specs.Names.{Entry}
 use Rattle.sharc_suggest.specs.{Givings.{behind_first, after, with_parameters, Receiver, of_declared, of_left, of_parameter, Giving, one_giving, givings, all_givings, option_givings, value_givings, right_givings, simple_givings, local_givings, first_givings, head_givings, givings_in, givings_in_all, item_givings, items_givings}, Repairs.entry_of}
@@ -67,9 +67,8 @@ one_nth test (argument x rest) few (suc j) (suc k) a b at there holds_a holds_b 
 -- ---- what is given to a parameter
 
 abbrev IsArgument : (Expression → Bool) → ℕ → Receiver → Expression → Type 0
-IsArgument test n (of_declared token) e = Unit {0}
-IsArgument test n (of_left u) e = Unit {0}
 IsArgument test n (of_parameter f args k) e = (args_met test args ≤ n) × (j : ℕ) × (nth j args ≡ Some e)
+IsArgument test n _ e = Unit {0}
 
 abbrev pub IsGivenTo : (Expression → Bool) → ℕ → Giving → Type 0
 IsGivenTo test n g = IsArgument test n g.receiver g.given
@@ -88,8 +87,6 @@ right a b n h = omega (arith, h)
 
 mutual
   inside : (test : Expression → Bool) (n : ℕ) (scope : List Entry) (e : Expression) → met_inside test e ≤ n → AreGivenTo test n (givings scope e)
-  inside test n scope (identifier s i) h = tt
-  inside test n scope (constant s k) h = tt
   inside test n scope (parentheses s a) h = inside test n scope a h
   inside test n scope (call s f all) h =
       let few : args_met test all ≤ met_inside_all test all = args_few test all in
@@ -108,6 +105,7 @@ mutual
   inside test n scope (unary s o a) h = inside test n scope a h
   inside test n scope (binary s o at a b) h =
       joint (IsGivenTo test n) (givings scope a) (givings scope b) (inside test n scope a (left (met_inside test a) (met_inside test b) n h)) (inside test n scope b (right (met_inside test a) (met_inside test b) n h))
+  inside test n scope _ h = tt
 
   inside_all : (test : Expression → Bool) (n : ℕ) (scope : List Entry) (f : ℕ) (all : Arguments) → args_met test all ≤ n → (k : ℕ) (rest : Arguments) → met_inside_all test rest ≤ n
       → ((e : Expression) (j : ℕ) → nth j rest ≡ Some e → (i : ℕ) × (nth i all ≡ Some e)) → AreGivenTo test n (all_givings scope f all k rest)
@@ -162,11 +160,9 @@ in_returned test n scope f (Some e) h = in_value test n scope (of_declared f) e 
 
 mutual
   in_statement : (test : Expression → Bool) (n : ℕ) (scope : List Entry) (f : ℕ) (s : Statement) → met_in_statement test s ≤ n → AreGivenTo test n (givings_in scope f s)
-  in_statement test n scope f (tree.empty s) h = tt
   in_statement test n scope f (tree.block s all) h = in_statements test n scope f all h
   in_statement test n scope f (tree.declare s l) h = in_local test n scope l h
   in_statement test n scope f (tree.simple s x) h = in_simple test n scope x h
-  in_statement test n scope f (tree.jump s j) h = tt
   in_statement test n scope f (tree.return s e) h = in_returned test n scope f e h
   in_statement test n scope f (tree.if_then s e a) h =
       joint (IsGivenTo test n) (givings scope e) (givings_in scope f a) (inside test n scope e (left (met_inside test e) (met_in_statement test a) n h)) (in_statement test n scope f a (right (met_inside test e) (met_in_statement test a) n h))
@@ -180,6 +176,7 @@ mutual
   in_statement test n scope f (tree.for s x a) h =
       joint (IsGivenTo test n) (head_givings scope x) (givings_in (behind_first scope x.first) f a) (in_head test n scope x (left (met_in_head test x) (met_in_statement test a) n h))
       (in_statement test n (behind_first scope x.first) f a (right (met_in_head test x) (met_in_statement test a) n h))
+  in_statement test n scope f _ h = tt
 
   in_statements : (test : Expression → Bool) (n : ℕ) (scope : List Entry) (f : ℕ) (all : Statements) → met_in_statements test all ≤ n → AreGivenTo test n (givings_in_all scope f all)
   in_statements test n scope f no_statements h = tt
@@ -188,9 +185,8 @@ mutual
       (in_statements test n (after scope a) f rest (right (met_in_statement test a) (met_in_statements test rest) n h))
 
 in_item : (test : Expression → Bool) (n : ℕ) (i : Item) → met_in_item test i ≤ n → AreGivenTo test n (item_givings i)
-in_item test n (structure s) h = tt
-in_item test n (global g) h = tt
 in_item test n (function f) h = in_statements test n (with_parameters [] f.parameters) f.name.site.token f.statements h
+in_item test n _ h = tt
 
 pub in_items : (test : Expression → Bool) (n : ℕ) (items : List Item) → met_in_items test items ≤ n → AllByRecursion (IsGivenTo test n) (items_givings items)
 in_items test n [] h = tt

@@ -1,7 +1,7 @@
 -- What holds of all written types of a program holds of all that has a type; what holds of all that has a type holds of what is declared, and of the casts in what is given.
 use Rattle.std.proofs.Common.{ℕ, zero, suc, List, [], ◌∷◌, ◌++◌, map, Option, Some, None, sym, subst}
 use Rattle.std.specs.List.{AllByRecursion}
-use Rattle.sharc_tree.specs.{declared.tree.declaration.WrittenType.WrittenType, declared.tree.declaration.Declaration.Declaration, declared.tree.item.GlobalDefinition.GlobalDefinition, Measures.{expressions, in_arguments, in_option, in_right, in_simple, in_local}, Tree.{Expression, identifier, constant, parentheses, call, spawn, on_value, on_place, cast, index, field, unary, binary, Arguments, no_arguments, argument, Right, value, malloc, Simple, assign, does_call, Local, First, nothing, declares, does, Head, Statement, Statements, no_statements, statement, Function, Item, structure, global, function}}
+use Rattle.sharc_tree.specs.{declared.tree.declaration.WrittenType.WrittenType, declared.tree.declaration.Declaration.Declaration, declared.tree.item.GlobalDefinition.GlobalDefinition, Measures.{expressions, in_arguments, in_option, in_right, in_simple, in_local}, Tree.{Expression, parentheses, call, spawn, on_value, on_place, cast, index, field, unary, binary, Arguments, no_arguments, argument, Right, value, malloc, Simple, assign, does_call, Local, First, nothing, declares, does, Head, Statement, Statements, no_statements, statement, Function, Item, structure, global, function}}
 use Rattle.sharc_tree.specs.Tree as tree
 use Rattle.sharc_names.specs.{Names.Entry, declared.types.Role.Role}
 use Rattle.sharc_names.specs.declared.types.Role.TheVariants as role
@@ -40,8 +40,6 @@ last_casts Q a b h = last_have Q (casts a) (casts b) (subst (Have Q) (casts_appe
 
 mutual
   of_expression : (Q : WrittenType → Type 0) (e : Expression) → AllByRecursion Q (types_in e) → HaveCasts Q (expressions e)
-  of_expression Q (identifier s i) h = tt
-  of_expression Q (constant s c) h = tt
   of_expression Q (parentheses s a) h = of_expression Q a h
   of_expression Q (call s f all) h = of_arguments Q all h
   of_expression Q (spawn s f a) h = of_expression Q a h
@@ -52,6 +50,7 @@ mutual
   of_expression Q (field s a w n) h = of_expression Q a h
   of_expression Q (unary s o a) h = of_expression Q a h
   of_expression Q (binary s o at a b) h = both_casts Q (expressions a) (expressions b) (of_expression Q a (front Q (types_in a) (types_in b) h)) (of_expression Q b (back Q (types_in a) (types_in b) h))
+  of_expression Q _ h = tt
 
   of_arguments : (Q : WrittenType → Type 0) (all : Arguments) → AllByRecursion Q (types_in_arguments all) → HaveCasts Q (in_arguments all)
   of_arguments Q no_arguments h = tt
@@ -93,11 +92,9 @@ of_head Q x h =
 
 mutual
   of_statement : (Q : WrittenType → Type 0) (s : Statement) → AllByRecursion Q (types_in_statement s) → Have Q (statement_entities s)
-  of_statement Q (tree.empty s) h = tt
   of_statement Q (tree.block s all) h = of_statements Q all h
   of_statement Q (tree.declare s l) h = (h.0, of_initial Q l.initial h.1)
   of_statement Q (tree.simple s x) h = of_simple Q x h
-  of_statement Q (tree.jump s j) h = tt
   of_statement Q (tree.return s e) h = of_option Q e h
   of_statement Q (tree.if_then s e a) h =
       both_have Q (casts (expressions e)) (statement_entities a) (of_expression Q e (front Q (types_in e) (types_in_statement a) h)) (of_statement Q a (back Q (types_in e) (types_in_statement a) h))
@@ -110,6 +107,7 @@ mutual
       both_have Q (casts (expressions e)) (statement_entities a) (of_expression Q e (front Q (types_in e) (types_in_statement a) h)) (of_statement Q a (back Q (types_in e) (types_in_statement a) h))
   of_statement Q (tree.for s x a) h =
       both_have Q (head_entities x) (statement_entities a) (of_head Q x (front Q (types_in_head x) (types_in_statement a) h)) (of_statement Q a (back Q (types_in_head x) (types_in_statement a) h))
+  of_statement Q _ h = tt
 
   of_statements : (Q : WrittenType → Type 0) (all : Statements) → AllByRecursion Q (types_in_statements all) → Have Q (statements_entities all)
   of_statements Q no_statements h = tt
@@ -149,8 +147,6 @@ value_given Q scope r e h inner = joint (IsGiven Q) (givings scope e) (one_givin
 
 mutual
   given_in : (Q : WrittenType → Type 0) (scope : List Entry) (e : Expression) → HaveCasts Q (expressions e) → AreGiven Q (givings scope e)
-  given_in Q scope (identifier s i) h = tt
-  given_in Q scope (constant s c) h = tt
   given_in Q scope (parentheses s a) h = given_in Q scope a h
   given_in Q scope (call s f all) h = given_in_all Q scope f.site.token all zero all h
   given_in Q scope (spawn s f a) h = value_given Q scope (of_parameter f.site.token (argument a no_arguments) zero) a h (given_in Q scope a h)
@@ -163,6 +159,7 @@ mutual
   given_in Q scope (unary s o a) h = given_in Q scope a h
   given_in Q scope (binary s o at a b) h =
       joint (IsGiven Q) (givings scope a) (givings scope b) (given_in Q scope a (first_casts Q (expressions a) (expressions b) h)) (given_in Q scope b (last_casts Q (expressions a) (expressions b) h))
+  given_in Q scope _ h = tt
 
   given_in_all : (Q : WrittenType → Type 0) (scope : List Entry) (f : ℕ) (all : Arguments) (k : ℕ) (rest : Arguments) → HaveCasts Q (in_arguments rest) → AreGiven Q (all_givings scope f all k rest)
   given_in_all Q scope f all k no_arguments h = tt
@@ -229,11 +226,9 @@ given_returned Q scope f (Some e) h = value_given Q scope (of_declared f) e h (g
 
 mutual
   statement_holds : (Q : WrittenType → Type 0) (scope : List Entry) (f : ℕ) (s : Statement) → Have Q (statement_entities s) → Holds Q (locals_in s) (givings_in scope f s)
-  statement_holds Q scope f (tree.empty s) h = record { locals = tt; given = tt }
   statement_holds Q scope f (tree.block s all) h = statements_hold Q scope f all h
   statement_holds Q scope f (tree.declare s l) h = record { locals = (h.0, tt); given = given_local Q scope l h.1 }
   statement_holds Q scope f (tree.simple s x) h = only_given Q (simple_givings scope x) (given_simple Q scope x h)
-  statement_holds Q scope f (tree.jump s j) h = record { locals = tt; given = tt }
   statement_holds Q scope f (tree.return s e) h = only_given Q _ (given_returned Q scope f e h)
   statement_holds Q scope f (tree.if_then s e a) h =
       both_hold Q [] (locals_in a) (givings scope e) (givings_in scope f a) (only_given Q (givings scope e) (given_in Q scope e (first_have Q (casts (expressions e)) (statement_entities a) h)))
@@ -250,6 +245,7 @@ mutual
   statement_holds Q scope f (tree.for s x a) h =
       both_hold Q (first_locals x.first) (locals_in a) (head_givings scope x) (givings_in (behind_first scope x.first) f a) (head_holds Q scope x (first_have Q (head_entities x) (statement_entities a) h))
       (statement_holds Q (behind_first scope x.first) f a (last_have Q (head_entities x) (statement_entities a) h))
+  statement_holds Q scope f _ h = record { locals = tt; given = tt }
 
   statements_hold : (Q : WrittenType → Type 0) (scope : List Entry) (f : ℕ) (all : Statements) → Have Q (statements_entities all) → Holds Q (locals_in_all all) (givings_in_all scope f all)
   statements_hold Q scope f no_statements h = record { locals = tt; given = tt }

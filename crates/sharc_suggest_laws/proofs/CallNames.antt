@@ -1,7 +1,7 @@
 -- The variables that are named by the paths of a call are named by paths of the program.
 use Rattle.std.proofs.{Common.{◌≡◌, ℕ, zero, suc, ◌==◌, Bool, true, false, ◌||◌, List, [], ◌∷◌, ◌++◌, drop, Option, Some, None, refl}, lemmas.Bool.{false≢true, or_right}}
 use Rattle.std.specs.List.{flat_map, AllByRecursion}
-use Rattle.sharc_tree.specs.{declared.tree.declaration.Declaration.Declaration, Tree.{Expression, identifier, constant, parentheses, call, spawn, on_value, on_place, cast, index, field, unary, binary, Arguments, no_arguments, argument, Right, value, malloc, Simple, assign, does_call, Local, First, nothing, declares, does, Head, Statement, Statements, no_statements, statement, Item, structure, global, function}}
+use Rattle.sharc_tree.specs.{declared.tree.declaration.Declaration.Declaration, Tree.{Expression, parentheses, call, spawn, on_value, on_place, cast, index, field, unary, binary, Arguments, no_arguments, argument, Right, value, malloc, Simple, assign, does_call, Local, First, nothing, declares, does, Head, Statement, Statements, no_statements, statement, Item, function}}
 use Rattle.sharc_tree.specs.Tree as tree
 use Rattle.sharc_names.specs.Names.{Entry}
 use Rattle.sharc_ctype.specs.{Entities.{entities_in, numbered}, Resolved.named_at, Transfers.parameters_named}
@@ -38,9 +38,8 @@ right a b all h = λ x is. h x (named_right x a b is)
 
 -- of a giving to a parameter: what is said of the call
 abbrev SaidTo : Assignment → List Finding → Receiver → Type 0
-SaidTo m all (of_declared token) = Unit {0}
-SaidTo m all (of_left u) = Unit {0}
 SaidTo m all (of_parameter f args k) = Says (names_at_call m (parameters_named m.typed (named_at m.typed f)) args (parameters_named m.typed (named_at m.typed f))) all
+SaidTo m all _ = Unit {0}
 
 abbrev pub IsSaid : Assignment → List Finding → Giving → Type 0
 IsSaid m all g = SaidTo m all g.receiver
@@ -53,8 +52,6 @@ value_said m all scope r e said inner = joint (IsSaid m all) (givings scope e) (
 
 mutual
   inside : (m : Assignment) (all : List Finding) (scope : List Entry) (e : Expression) → Says (notes_of m e) all → AreSaid m all (givings scope e)
-  inside m all scope (identifier s i) h = tt
-  inside m all scope (constant s k) h = tt
   inside m all scope (parentheses s a) h = inside m all scope a h
   inside m all scope (call s f args) h =
       let ds : List Declaration = parameters_named m.typed (named_at m.typed f.site.token) in
@@ -79,6 +76,7 @@ mutual
   inside m all scope (unary s o a) h = inside m all scope a h
   inside m all scope (binary s o at a b) h =
       joint (IsSaid m all) (givings scope a) (givings scope b) (inside m all scope a (left (notes_of m a) (notes_of m b) all h)) (inside m all scope b (right (notes_of m a) (notes_of m b) all h))
+  inside m all scope _ h = tt
 
   inside_all : (m : Assignment) (all : List Finding) (scope : List Entry) (f : ℕ) (args : Arguments) (k : ℕ) (rest : Arguments)
       → Says (names_at_call m (parameters_named m.typed (named_at m.typed f)) args (parameters_named m.typed (named_at m.typed f))) all
@@ -137,11 +135,9 @@ in_returned m all scope f (Some e) h = value_said m all scope (of_declared f) e 
 
 mutual
   in_statement : (m : Assignment) (all : List Finding) (scope : List Entry) (f : ℕ) (s : Statement) → Says (notes_in m f s) all → AreSaid m all (givings_in scope f s)
-  in_statement m all scope f (tree.empty s) h = tt
   in_statement m all scope f (tree.block s inner) h = in_statements m all scope f inner h
   in_statement m all scope f (tree.declare s l) h = in_local m all scope l h
   in_statement m all scope f (tree.simple s x) h = in_simple m all scope x h
-  in_statement m all scope f (tree.jump s j) h = tt
   in_statement m all scope f (tree.return s e) h = in_returned m all scope f e h
   in_statement m all scope f (tree.if_then s e a) h =
       joint (IsSaid m all) (givings scope e) (givings_in scope f a) (inside m all scope e (left (notes_of m e) (notes_in m f a) all h)) (in_statement m all scope f a (right (notes_of m e) (notes_in m f a) all h))
@@ -155,6 +151,7 @@ mutual
   in_statement m all scope f (tree.for s x a) h =
       joint (IsSaid m all) (head_givings scope x) (givings_in (behind_first scope x.first) f a) (in_head m all scope x (left (head_notes m x) (notes_in m f a) all h))
       (in_statement m all (behind_first scope x.first) f a (right (head_notes m x) (notes_in m f a) all h))
+  in_statement m all scope f _ h = tt
 
   in_statements : (m : Assignment) (all : List Finding) (scope : List Entry) (f : ℕ) (inner : Statements) → Says (notes_in_all m f inner) all → AreSaid m all (givings_in_all scope f inner)
   in_statements m all scope f no_statements h = tt
@@ -163,9 +160,8 @@ mutual
       (in_statements m all (after scope a) f rest (right (notes_in m f a) (notes_in_all m f rest) all h))
 
 in_item : (m : Assignment) (all : List Finding) (i : Item) → Says (item_notes m i) all → AreSaid m all (item_givings i)
-in_item m all (structure s) h = tt
-in_item m all (global g) h = tt
 in_item m all (function f) h = in_statements m all (with_parameters [] f.parameters) f.name.site.token f.statements h
+in_item m all _ h = tt
 
 in_items : (m : Assignment) (all : List Finding) (items : List Item) → Says (items_notes m items) all → AreSaid m all (items_givings items)
 in_items m all [] h = tt

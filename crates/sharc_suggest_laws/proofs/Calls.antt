@@ -8,7 +8,7 @@ use Rattle.sharc_names.specs.Names as meaning
 use Rattle.sharc_ctype.specs.{Condition.{defines_condition, call_entry, with_conditions}, Heads.{Heading, with_struct, with_entry, global_entry, function_entry, behind, behind_all, no_heads}, Items.{file_scope, notes_about, named_in}, Resolved.{Resolution, named_at}}
 use Rattle.sharc_mode.specs.Sharings.{is_field}
 use Rattle.sharc_suggest.specs.Repairs.{is_call_name, is_call_at}
-use Rattle.sharc_suggest_laws.proofs.{Folded.{seen, named_seen, named_past, IsOwnAt}, Noted.{IsHarmless, Noted, done, kept, added, old_fault, new_fault}}
+use Rattle.sharc_suggest_laws.proofs.{Folded.{seen, named_seen, named_past, IsOwnAt}, Noted.{IsHarmless, Noted, done, kept, added, old_fault, new_fault}, Filed.no_entry}
 
 -- ---- a file that knows something that it does not define
 
@@ -80,9 +80,6 @@ items_defined h (i ∷ rest) all = items_defined (behind h i) rest (item_defined
 pub none_defined : IsDefined no_heads.scope
 none_defined = record { names = λ text e found known. no_entry e found; structs = λ name found. no_struct found }
   where
-    no_entry : (e : Entry) → None ≡ Some e → ⊥
-    no_entry e h = cc
-
     no_struct : None ≡ Some meaning.known → ⊥
     no_struct h = cc
 

@@ -1,7 +1,7 @@
 -- The same variables are constant in a program with a cast written in it, where its names name what they named.
 use Rattle.std.proofs.{Common.{◌≡◌, inl, inr, ℕ, Bool, true, false, not, ◌&&◌, ◌||◌, cond, List, [], ◌∷◌, ◌++◌, map, Option, Some, None, option_map, is_some, refl, ap, ap₂, sym, ◌∙◌}, lemmas.Bool.false≢true, lemmas.List.Folds.list_any-append}
 use Rattle.std.specs.List.{list_any}
-use Rattle.sharc_tree.specs.{declared.tree.declaration.WrittenType.WrittenType, declared.tree.declaration.Declaration.Declaration, Forms.without_parentheses, Tree.{Expression, identifier, constant, parentheses, call, spawn, on_value, on_place, cast, index, field, unary, binary, Arguments, no_arguments, argument, Right, value, malloc, Simple, assign, does_call, Local, First, nothing, declares, does, Head, Statement, Statements, no_statements, statement, Function, Item, structure, global, function, Program}}
+use Rattle.sharc_tree.specs.{declared.tree.declaration.WrittenType.WrittenType, declared.tree.declaration.Declaration.Declaration, Forms.without_parentheses, Tree.{Expression, identifier, parentheses, call, spawn, on_value, on_place, cast, index, field, unary, binary, Arguments, no_arguments, argument, Right, value, malloc, Simple, assign, does_call, Local, First, nothing, declares, does, Head, Statement, Statements, no_statements, statement, Function, Item, function, Program}}
 use Rattle.sharc_tree.specs.Tree as tree
 use Rattle.sharc_names.specs.declared.fault.Named.{Named}
 use Rattle.sharc_names.specs.declared.fault.Named.TheVariants as named
@@ -23,34 +23,29 @@ begins c l = by l.initial
     by (Some x) = refl
 
 first_begins : (c : Recast) (f : First) → initialised_first (first_with_cast c f) ≡ initialised_first f
-first_begins c nothing = refl
 first_begins c (declares l) = begins c l
-first_begins c (does x) = refl
+first_begins c _ = refl
 
 both : (a b x y : List ℕ) → a ≡ x → b ≡ y → a ++ b ≡ x ++ y
 both a b x y left right = ap₂ (λ (s t : List ℕ). s ++ t) left right
 
 mutual
   begin_in : (c : Recast) (s : Statement) → initialised_in (statement_with_cast c s) ≡ initialised_in s
-  begin_in c (tree.empty s) = refl
   begin_in c (tree.block s all) = begin_in_all c all
   begin_in c (tree.declare s l) = begins c l
-  begin_in c (tree.simple s x) = refl
-  begin_in c (tree.jump s j) = refl
-  begin_in c (tree.return s e) = refl
   begin_in c (tree.if_then s e a) = begin_in c a
   begin_in c (tree.if_then_else s e a b) = both _ _ _ _ (begin_in c a) (begin_in c b)
   begin_in c (tree.while s e a) = begin_in c a
   begin_in c (tree.for s h a) = both _ _ _ _ (first_begins c h.first) (begin_in c a)
+  begin_in c _ = refl
 
   begin_in_all : (c : Recast) (all : Statements) → initialised_in_all (statements_with_cast c all) ≡ initialised_in_all all
   begin_in_all c no_statements = refl
   begin_in_all c (statement a rest) = both _ _ _ _ (begin_in c a) (begin_in_all c rest)
 
 item_begins : (c : Recast) (i : Item) → with_value (item_with_cast c i) ≡ with_value i
-item_begins c (structure s) = refl
-item_begins c (global g) = refl
 item_begins c (function f) = ap (λ (l : List ℕ). map (λ (d : Declaration). d.name.site.token) f.parameters ++ l) (begin_in_all c f.statements)
+item_begins c _ = refl
 
 all_begin : (c : Recast) (items : List Item) → all_with_value (map (item_with_cast c) items) ≡ all_with_value items
 all_begin c [] = refl
@@ -59,12 +54,8 @@ all_begin c (i ∷ rest) = both _ _ _ _ (item_begins c i) (all_begin c rest)
 -- ---- what is assigned
 
 dull_none : (v : Named) → is_dull v ≡ true → variable_in v ≡ []
-dull_none (named.Struct n) is = refl
-dull_none (named.Global n) is = refl
-dull_none (named.Function n) is = refl
 dull_none (named.Variable x) is = absurd (false≢true is)
-dull_none (named.Field f) is = refl
-dull_none named.Known is = refl
+dull_none _ is = refl
 
 variable_kept : (v w : Named) → KeepsName v w → variable_in w ≡ variable_in v
 variable_kept v w (inl same) = ap variable_in (sym same)
@@ -72,17 +63,8 @@ variable_kept v w (inr p) = dull_none w p.1 ∙ sym (dull_none v p.0)
 
 left_same : (r now : Resolution) (c : Recast) → AllKept r now → (u : Expression) → variable_of now.named (without_parentheses (with_cast c u)) ≡ variable_of r.named (without_parentheses u)
 left_same r now c kept (identifier s i) = variable_kept (named_at r i.site.token) (named_at now i.site.token) (kept i.site.token)
-left_same r now c kept (constant s k) = refl
 left_same r now c kept (parentheses s a) = left_same r now c kept a
-left_same r now c kept (call s f all) = refl
-left_same r now c kept (spawn s f a) = refl
-left_same r now c kept (on_value s w a) = refl
-left_same r now c kept (on_place s w a) = refl
-left_same r now c kept (cast s t a) = refl
-left_same r now c kept (index s a i) = refl
-left_same r now c kept (field s a w n) = refl
-left_same r now c kept (unary s o a) = refl
-left_same r now c kept (binary s o at a b) = refl
+left_same r now c kept _ = refl
 
 abbrev assigns : Resolution → ℕ → List Transfer → Bool
 assigns r x l = list_any (is_assigned_by r x) l
@@ -98,8 +80,6 @@ passed_none r x (d ∷ rest) (argument a more) = passed_none r x rest more
 -- nothing in an expression
 mutual
   none_in : (r : Resolution) (x : ℕ) (e : Expression) → assigns r x (transfers r e) ≡ false
-  none_in r x (identifier s i) = refl
-  none_in r x (constant s k) = refl
   none_in r x (parentheses s a) = none_in r x a
   none_in r x (call s f all) = none_both r x (passed (parameters_named r (named_at r f.site.token)) all) (argument_transfers r all) (passed_none r x (parameters_named r (named_at r f.site.token)) all) (none_in_all r x all)
   none_in r x (spawn s f a) =
@@ -111,6 +91,7 @@ mutual
   none_in r x (field s a w n) = none_in r x a
   none_in r x (unary s o a) = none_in r x a
   none_in r x (binary s o at a b) = none_both r x (transfers r a) (transfers r b) (none_in r x a) (none_in r x b)
+  none_in r x _ = refl
 
   none_in_all : (r : Resolution) (x : ℕ) (all : Arguments) → assigns r x (argument_transfers r all) ≡ false
   none_in_all r x no_arguments = refl
@@ -162,11 +143,9 @@ tests r now c x e = neither _ _ (none_in r x e) (none_in now x (with_cast c e))
 
 mutual
   in_statement : (r now : Resolution) (c : Recast) → AllKept r now → (x : ℕ) (w : WrittenType) (s : Statement) → assigns now x (statement_transfers now w (statement_with_cast c s)) ≡ assigns r x (statement_transfers r w s)
-  in_statement r now c kept x w (tree.empty s) = refl
   in_statement r now c kept x w (tree.block s all) = in_statements r now c kept x w all
   in_statement r now c kept x w (tree.declare s l) = neither _ _ (none_initial r x l.declaration l.initial) (none_initial now x l.declaration (option_map (right_with_cast c) l.initial))
   in_statement r now c kept x w (tree.simple s y) = in_simple r now c kept x y
-  in_statement r now c kept x w (tree.jump s j) = refl
   in_statement r now c kept x w (tree.return s e) =
       neither _ _ (none_returned r x (result w) e (λ y. refl)) (none_returned now x (result w) (option_map (λ a. around c (with_cast c a)) e) (λ y. refl))
   in_statement r now c kept x w (tree.if_then s e a) = same_both r now x (transfers r e) (statement_transfers r w a) (transfers now (with_cast c e)) (statement_transfers now w (statement_with_cast c a)) (tests r now c x e) (in_statement r now c kept x w a)
@@ -181,6 +160,7 @@ mutual
       (neither _ _ (none_option r x h.test) (none_option now x (option_map (with_cast c) h.test))))
       (in_step r now c kept x h.step))
       (in_statement r now c kept x w a)
+  in_statement r now c kept x w _ = refl
 
   in_statements : (r now : Resolution) (c : Recast) → AllKept r now → (x : ℕ) (w : WrittenType) (all : Statements) → assigns now x (statements_transfers now w (statements_with_cast c all)) ≡ assigns r x (statements_transfers r w all)
   in_statements r now c kept x w no_statements = refl

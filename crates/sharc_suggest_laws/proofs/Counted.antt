@@ -1,6 +1,6 @@
 -- How many givings meet a test, as they are listed.
 use Rattle.std.proofs.Common.{◌≡◌, ℕ, ◌+◌, zero, suc, Bool, List, [], ◌∷◌, ◌++◌, Option, Some, None, refl, arith}
-use Rattle.sharc_tree.specs.Tree.{Expression, identifier, constant, parentheses, call, spawn, on_value, on_place, cast, index, field, unary, binary, Arguments, no_arguments, argument, Right, value, malloc, Simple, assign, does_call, Local, First, nothing, declares, does, Head, Statement, Statements, no_statements, statement, Item, structure, global, function}
+use Rattle.sharc_tree.specs.Tree.{Expression, parentheses, call, spawn, on_value, on_place, cast, index, field, unary, binary, Arguments, no_arguments, argument, Right, value, malloc, Simple, assign, does_call, Local, First, nothing, declares, does, Head, Statement, Statements, no_statements, statement, Item, function}
 use Rattle.sharc_tree.specs.Tree as tree
 use Rattle.sharc_names.specs.Names.{Entry}
 use Rattle.sharc_suggest.specs.{Givings.{behind_first, after, with_parameters, Receiver, of_declared, of_left, of_parameter, Giving, one_giving, givings, all_givings, option_givings, value_givings, right_givings, simple_givings, local_givings, first_givings, head_givings, givings_in, givings_in_all, item_givings, items_givings}, Repairs.entry_of}
@@ -30,8 +30,6 @@ value_counted test scope r e inner = both test (givings scope e) (one_giving sco
 
 mutual
   inside : (test : Expression → Bool) (scope : List Entry) (e : Expression) → met_inside test e ≡ counted test (givings scope e)
-  inside test scope (identifier s i) = refl
-  inside test scope (constant s k) = refl
   inside test scope (parentheses s a) = inside test scope a
   inside test scope (call s f all) = inside_all test scope f.site.token all zero all
   inside test scope (spawn s f a) = value_counted test scope (of_parameter f.site.token (argument a no_arguments) zero) a (inside test scope a)
@@ -42,6 +40,7 @@ mutual
   inside test scope (field s a w n) = inside test scope a
   inside test scope (unary s o a) = inside test scope a
   inside test scope (binary s o at a b) = both test (givings scope a) (givings scope b) (met_inside test a) (met_inside test b) (inside test scope a) (inside test scope b)
+  inside test scope _ = refl
 
   inside_all : (test : Expression → Bool) (scope : List Entry) (f : ℕ) (all : Arguments) (k : ℕ) (rest : Arguments) → met_inside_all test rest ≡ counted test (all_givings scope f all k rest)
   inside_all test scope f all k no_arguments = refl
@@ -91,11 +90,9 @@ in_returned test scope f (Some e) = value_counted test scope (of_declared f) e (
 
 mutual
   in_statement : (test : Expression → Bool) (scope : List Entry) (f : ℕ) (s : Statement) → met_in_statement test s ≡ counted test (givings_in scope f s)
-  in_statement test scope f (tree.empty s) = refl
   in_statement test scope f (tree.block s all) = in_statements test scope f all
   in_statement test scope f (tree.declare s l) = in_local test scope l
   in_statement test scope f (tree.simple s x) = in_simple test scope x
-  in_statement test scope f (tree.jump s j) = refl
   in_statement test scope f (tree.return s e) = in_returned test scope f e
   in_statement test scope f (tree.if_then s e a) = both test (givings scope e) (givings_in scope f a) (met_inside test e) (met_in_statement test a) (inside test scope e) (in_statement test scope f a)
   in_statement test scope f (tree.if_then_else s e a b) =
@@ -104,6 +101,7 @@ mutual
   in_statement test scope f (tree.while s e a) = both test (givings scope e) (givings_in scope f a) (met_inside test e) (met_in_statement test a) (inside test scope e) (in_statement test scope f a)
   in_statement test scope f (tree.for s h a) =
       both test (head_givings scope h) (givings_in (behind_first scope h.first) f a) (met_in_head test h) (met_in_statement test a) (in_head test scope h) (in_statement test (behind_first scope h.first) f a)
+  in_statement test scope f _ = refl
 
   pub in_statements : (test : Expression → Bool) (scope : List Entry) (f : ℕ) (all : Statements) → met_in_statements test all ≡ counted test (givings_in_all scope f all)
   in_statements test scope f no_statements = refl
@@ -111,9 +109,8 @@ mutual
       both test (givings_in scope f a) (givings_in_all (after scope a) f rest) (met_in_statement test a) (met_in_statements test rest) (in_statement test scope f a) (in_statements test (after scope a) f rest)
 
 in_item : (test : Expression → Bool) (i : Item) → met_in_item test i ≡ counted test (item_givings i)
-in_item test (structure s) = refl
-in_item test (global g) = refl
 in_item test (function f) = in_statements test (with_parameters [] f.parameters) f.name.site.token f.statements
+in_item test _ = refl
 
 pub in_items : (test : Expression → Bool) (items : List Item) → met_in_items test items ≡ counted test (items_givings items)
 in_items test [] = refl

@@ -1,6 +1,6 @@
 -- What is declared in a program with a cast written in it.
 use Rattle.std.proofs.Common.{◌≡◌, List, [], ◌∷◌, ◌++◌, map, refl, ap, ap₂}
-use Rattle.sharc_tree.specs.{declared.tree.declaration.Declaration.Declaration, declared.tree.item.GlobalDefinition.GlobalDefinition, declared.tree.item.StructDefinition.StructDefinition, Tree.{First, nothing, declares, does, Statement, Statements, no_statements, statement, Function, Item, structure, global, function}}
+use Rattle.sharc_tree.specs.{declared.tree.declaration.Declaration.Declaration, declared.tree.item.GlobalDefinition.GlobalDefinition, declared.tree.item.StructDefinition.StructDefinition, Tree.{First, does, Statement, Statements, no_statements, statement, Function, Item, structure, global, function}}
 use Rattle.sharc_tree.specs.Tree as tree
 use Rattle.sharc_suggest_laws.specs.{declared.written.Recast.Recast, Recast.{first_with_cast, statement_with_cast, statements_with_cast, item_with_cast, function_with_cast}, Kept.DeclarationsStay}
 use Rattle.sharc_ctype.specs.{Statements.{first_locals, locals_in, locals_in_all}, Resolved.{structs_in, globals_in, functions_in, declarations_of, declarations_in}}
@@ -9,22 +9,17 @@ both : (a b x y : List Declaration) → a ≡ x → b ≡ y → a ++ b ≡ x ++ 
 both a b x y left right = ap₂ (λ (s t : List Declaration). s ++ t) left right
 
 first_same : (c : Recast) (f : First) → first_locals (first_with_cast c f) ≡ first_locals f
-first_same c nothing = refl
-first_same c (declares l) = refl
 first_same c (does x) = refl
+first_same c _ = refl
 
 mutual
   locals_same : (c : Recast) (s : Statement) → locals_in (statement_with_cast c s) ≡ locals_in s
-  locals_same c (tree.empty s) = refl
   locals_same c (tree.block s all) = all_locals_same c all
-  locals_same c (tree.declare s l) = refl
-  locals_same c (tree.simple s x) = refl
-  locals_same c (tree.jump s j) = refl
-  locals_same c (tree.return s e) = refl
   locals_same c (tree.if_then s e a) = locals_same c a
   locals_same c (tree.if_then_else s e a b) = both (locals_in (statement_with_cast c a)) (locals_in (statement_with_cast c b)) (locals_in a) (locals_in b) (locals_same c a) (locals_same c b)
   locals_same c (tree.while s e a) = locals_same c a
   locals_same c (tree.for s h a) = both (first_locals (first_with_cast c h.first)) (locals_in (statement_with_cast c a)) (first_locals h.first) (locals_in a) (first_same c h.first) (locals_same c a)
+  locals_same c _ = refl
 
   pub all_locals_same : (c : Recast) (all : Statements) → locals_in_all (statements_with_cast c all) ≡ locals_in_all all
   all_locals_same c no_statements = refl
@@ -32,9 +27,8 @@ mutual
       both (locals_in (statement_with_cast c a)) (locals_in_all (statements_with_cast c rest)) (locals_in a) (locals_in_all rest) (locals_same c a) (all_locals_same c rest)
 
 declarations_same : (c : Recast) (i : Item) → declarations_of (item_with_cast c i) ≡ declarations_of i
-declarations_same c (structure s) = refl
-declarations_same c (global g) = refl
 declarations_same c (function f) = ap (λ (locals : List Declaration). f.parameters ++ locals) (all_locals_same c f.statements)
+declarations_same c _ = refl
 
 same_structs : (c : Recast) (items : List Item) → structs_in (map (item_with_cast c) items) ≡ structs_in items
 same_structs c [] = refl

@@ -4,7 +4,7 @@ use Rattle.sharc_tree.specs.{declared.ctype.CType.CType, declared.ctype.Mode.Mod
 use Rattle.sharc_names.specs.declared.fault.Named.{Named}
 use Rattle.sharc_names.specs.declared.fault.Named.TheVariants as named
 use Rattle.sharc_ctype.specs.Resolved.{Resolution, named_at, kind_at}
-use Rattle.sharc_mode.specs.{Moded.Assignment, Notes.{agree, base_of}, Rows.{Targets, written, read, entity_row, cast_row, modes_of}, Sharings.{Sharing, private, readonly, locked, racy, dynamic, lock_of, path_with, sharing_of, mode_of, same, same_named, same_text, same_first, same_second, same_all, text_at}}
+use Rattle.sharc_mode.specs.{Moded.Assignment, Notes.{agree, base_of}, Rows.{Targets, written, read, entity_row, cast_row, modes_of}, Sharings.{Sharing, locked, lock_of, path_with, sharing_of, mode_of, same, same_named, same_text, same_first, same_second, same_all, text_at}}
 use Rattle.sharc_suggest_laws.specs.{Applied.{written_or, targets, inserted, first_of, first_new, resolution_with, assignment_with}, Expected.{IsCastAt, HasExpected, Agrees, CastHasExpected}}
 use Rattle.sharc_suggest.specs.Repairs.{cast_to}
 use Rattle.sharc_suggest_laws.proofs.{Inserted.stretch_added, Rows.{row_of, all_read}, Stands.suggested_stands, Types.targets_counted}
@@ -16,11 +16,8 @@ lock_back first text None = refl
 lock_back first text (Some m) = refl
 
 sharing_back : (r : Resolution) (s : Sharing) → sharing_of (mode_of r s) ≡ s
-sharing_back r private = refl
-sharing_back r readonly = refl
 sharing_back r (locked l) = ap locked (lock_back l.first (text_at r l.first) l.second)
-sharing_back r racy = refl
-sharing_back r dynamic = refl
+sharing_back r _ = refl
 
 modes_back : (r : Resolution) (modes : List Sharing) → map sharing_of (map written_or (map (λ s. Some (mode_of r s)) modes)) ≡ modes
 modes_back r [] = refl
@@ -61,23 +58,16 @@ name_itself (named.Field f) = eq-eqb f f refl
 name_itself named.Known = refl
 
 text_itself : (n : Named) (text : List ℕ) → same_text n text text ≡ true
-text_itself (named.Struct n) text = refl
-text_itself (named.Global g) text = refl
-text_itself (named.Function f) text = refl
-text_itself (named.Variable x) text = refl
-text_itself (named.Field f) text = refl
 text_itself named.Known text = (bytes_eq-Decides text text).1 refl
+text_itself _ text = refl
 
 first_itself : (r : Resolution) (token : ℕ) → same_first r token token ≡ true
 first_itself r token =
     and_from (same_named (named_at r token) (named_at r token)) (same_text (named_at r token) (text_at r token) (text_at r token)) (name_itself (named_at r token)) (text_itself (named_at r token) (text_at r token))
 
 same_itself : (r : Resolution) (s : Sharing) → same r s s ≡ true
-same_itself r private = refl
-same_itself r readonly = refl
 same_itself r (locked l) = and_from (same_first r l.first l.first) (same_second l.second l.second) (first_itself r l.first) (second_itself l.second)
-same_itself r racy = refl
-same_itself r dynamic = refl
+same_itself r _ = refl
 
 all_same : (r : Resolution) (modes : List Sharing) → same_all r modes modes ≡ true
 all_same r [] = refl

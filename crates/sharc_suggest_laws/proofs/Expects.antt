@@ -2,38 +2,25 @@
 -- paths lead to something.
 use Rattle.std.proofs.{Common.{◌≡◌, ℕ, zero, suc, ◌+◌, ◌==◌, Bool, true, false, cond, List, [], ◌∷◌, drop, Option, Some, None, option_map, refl, ap, sym, subst, ◌∙◌, eqb-true, arith}, lemmas.Bool.{false≢true, and_parts}}
 use Rattle.std.specs.List.{AllByRecursion}
-use Rattle.sharc_tree.specs.{declared.ctype.Base.Base, declared.tree.declaration.Declaration.Declaration, declared.tree.declaration.Identifier.Identifier, declared.tree.declaration.WrittenType.WrittenType, Tree.{Expression, identifier, constant, parentheses, call, spawn, on_value, on_place, cast, index, field, unary, binary, Arguments, no_arguments, argument, Function}}
-use Rattle.sharc_names.specs.{declared.fault.Named.Named, Kinds.{Kind, object, array, null, agrees, is_integer, is_integral, is_null, is_pointer, same_kind, stars_of, declared_kind}}
+use Rattle.sharc_tree.specs.{declared.ctype.Base.Base, declared.tree.declaration.Declaration.Declaration, declared.tree.declaration.Identifier.Identifier, declared.tree.declaration.WrittenType.WrittenType, Tree.{Expression, identifier, Arguments, no_arguments, argument, Function}}
+use Rattle.sharc_names.specs.{declared.fault.Named.Named, Kinds.{Kind, object, null, agrees, is_integer, is_integral, is_null, is_pointer, same_kind, stars_of, declared_kind}}
 use Rattle.sharc_names.specs.declared.fault.Named.TheVariants as named
-use Rattle.sharc_names.specs.Kinds as kinds
 use Rattle.sharc_ctype.specs.{declared.entity.Entity.Entity, Entities.{declared, entity_at}, Resolved.{Resolution, functions_in, declaration_at, function_at, named_at, named_kind, variable_kind, kind_at}, Transfers.{IsFair, parameters_of, parameters_named, passed}}
 use Rattle.sharc_ctype_laws.specs.Declared.{IsItself}
 use Rattle.sharc_infer_laws.specs.Locks.{HasWrittenLocks}
 use Rattle.sharc_mode.specs.{Expressions.expected, Moded.{Assignment, IsWhole}, Rows.{written, at_call, Targets, argument_use, constant_use, declared_row, entity_row, is_constant_named, modes_of, row_at}, Sharings.Sharing}
 use Rattle.sharc_suggest.specs.Givings.{beyond, Receiver, of_declared, of_left, of_parameter, wanted}
 use Rattle.sharc_suggest_laws.proofs.{Given.{Declares, FirstFits, Receives, IsWellFunction}, Leads.{ArgumentsFit, IsVariableAt}, ModesKept.{HasModes, modes_of_row}, Retyped.one_kind, Targets.{IsRow, IsRowOf, IsKnownProgram, own_row, targets_of}}
-use Rattle.sharc_lemmas.proofs.Lists.{at_place}
+use Rattle.sharc_lemmas.proofs.{Lists.at_place, Options.some_is as one_some}
 
 -- ---- what agrees with what (6.5.16.1)
 
 -- what receives a value is an object
 pub receiver_object : (want k : Kind) → agrees want k ≡ true → (b : Base) × (n : ℕ) × (want ≡ object b n)
 receiver_object (object b n) k is = (b, n, refl)
-receiver_object (array b n) k is = absurd (false≢true (by (is_null k) (is_integer k) is))
+receiver_object j k is = absurd (false≢true (by (is_null k) (is_integer k) is))
   where
-    by : (x y : Bool) → cond x (is_pointer (array b n)) (cond y (is_integer (array b n)) (same_kind (array b n) k)) ≡ true → false ≡ true
-    by true y h = h
-    by false true h = h
-    by false false h = h
-receiver_object null k is = absurd (false≢true (by (is_null k) (is_integer k) is))
-  where
-    by : (x y : Bool) → cond x (is_pointer null) (cond y (is_integer null) (same_kind null k)) ≡ true → false ≡ true
-    by true y h = h
-    by false true h = h
-    by false false h = h
-receiver_object kinds.function k is = absurd (false≢true (by (is_null k) (is_integer k) is))
-  where
-    by : (x y : Bool) → cond x (is_pointer kinds.function) (cond y (is_integer kinds.function) (same_kind kinds.function k)) ≡ true → false ≡ true
+    by : (x y : Bool) → cond x (is_pointer j) (cond y (is_integer j) (same_kind j k)) ≡ true → false ≡ true
     by true y h = h
     by false true h = h
     by false false h = h
@@ -51,9 +38,8 @@ object_agreed b c n j false integer is = same (sym (one_kind (object b n) (objec
 
 pub agreed : (b : Base) (n : ℕ) (k : Kind) → is_null k ≡ false → agrees (object b n) k ≡ true → Agreed b n k
 agreed b n (object c j) other is = object_agreed b c n j (is_integer (object c j)) refl is
-agreed b n (array c j) other is = absurd (false≢true is)
 agreed b n null other is = absurd (false≢true (sym other))
-agreed b n kinds.function other is = absurd (false≢true is)
+agreed b n _ other is = absurd (false≢true is)
 
 -- ---- arguments that are constant variables
 
@@ -61,7 +47,7 @@ variable_not_null : (o : Option Declaration) → is_null (variable_kind o) ≡ f
 variable_not_null None = refl
 variable_not_null (Some d) = refl
 
-no_star_less : (n : ℕ) → n + 1 ≡ 0 → ⊥
+pub no_star_less : (n : ℕ) → n + 1 ≡ 0 → ⊥
 no_star_less n is = omega (arith, is)
 
 pointer_agreed : (b : Base) (n : ℕ) (k : Kind) → Agreed b (n + 1) k → k ≡ object b (n + 1)
@@ -71,33 +57,10 @@ pointer_agreed b n k (integers c none is) = absurd (no_star_less n none)
 -- one that is used as such
 use_fits : (r : Resolution) (i : Identifier) (v : Named) → named_at r i.site.token ≡ v → (y : ℕ) → cond (is_constant_named r v) (Some i.site.token) None ≡ Some y → (b : Base) (n : ℕ) → agrees (object b (n + 1)) (named_kind r v) ≡ true
     → IsVariableAt r y × (named_kind r (named_at r y) ≡ object b (n + 1))
-use_fits r i (named.Struct x) at y is b n fit = absurd (none_some y is)
-  where
-    none_some : (y : ℕ) → None ≡ Some y → ⊥
-    none_some y h = cc
-use_fits r i (named.Global x) at y is b n fit = absurd (none_some y is)
-  where
-    none_some : (y : ℕ) → None ≡ Some y → ⊥
-    none_some y h = cc
-use_fits r i (named.Function x) at y is b n fit = absurd (none_some y is)
-  where
-    none_some : (y : ℕ) → None ≡ Some y → ⊥
-    none_some y h = cc
-use_fits r i (named.Field x) at y is b n fit = absurd (none_some y is)
-  where
-    none_some : (y : ℕ) → None ≡ Some y → ⊥
-    none_some y h = cc
-use_fits r i named.Known at y is b n fit = absurd (none_some y is)
-  where
-    none_some : (y : ℕ) → None ≡ Some y → ⊥
-    none_some y h = cc
 use_fits r i (named.Variable x) at y is b n fit = by (is_constant_named r (named.Variable x)) is
   where
     none_some : None ≡ Some y → ⊥
     none_some h = cc
-
-    one_some : (a b : ℕ) → Some a ≡ Some b → a ≡ b
-    one_some a b h = cc
 
     by : (z : Bool) → cond z (Some i.site.token) None ≡ Some y → IsVariableAt r y × (named_kind r (named_at r y) ≡ object b (n + 1))
     by true h =
@@ -105,20 +68,14 @@ use_fits r i (named.Variable x) at y is b n fit = by (is_constant_named r (named
         let name : named_at r y ≡ named.Variable x = ap (named_at r) (sym there) ∙ at in
         ((x, name), ap (named_kind r) name ∙ pointer_agreed b n (named_kind r (named.Variable x)) (agreed b (n + 1) (named_kind r (named.Variable x)) (variable_not_null (declaration_at r x)) fit))
     by false h = absurd (none_some h)
+use_fits r i _ at y is b n fit = absurd (none_some y is)
+  where
+    none_some : (y : ℕ) → None ≡ Some y → ⊥
+    none_some y h = cc
 
 argument_fits : (r : Resolution) (a : Expression) (y : ℕ) → constant_use r a ≡ Some y → (b : Base) (n : ℕ) → agrees (object b (n + 1)) (kind_at r a) ≡ true → IsVariableAt r y × (named_kind r (named_at r y) ≡ object b (n + 1))
 argument_fits r (identifier s i) y is b n fit = use_fits r i (named_at r i.site.token) refl y is b n fit
-argument_fits r (constant s c) y is b n fit = absurd (cc)
-argument_fits r (parentheses s a) y is b n fit = absurd (cc)
-argument_fits r (call s f all) y is b n fit = absurd (cc)
-argument_fits r (spawn s f a) y is b n fit = absurd (cc)
-argument_fits r (on_value s w a) y is b n fit = absurd (cc)
-argument_fits r (on_place s w a) y is b n fit = absurd (cc)
-argument_fits r (cast s t a) y is b n fit = absurd (cc)
-argument_fits r (index s a i) y is b n fit = absurd (cc)
-argument_fits r (field s a w x) y is b n fit = absurd (cc)
-argument_fits r (unary s o a) y is b n fit = absurd (cc)
-argument_fits r (binary s o at a c) y is b n fit = absurd (cc)
+argument_fits r _ y is b n fit = absurd (cc)
 
 pub arguments_fit : (r : Resolution) (ds : List Declaration) (all : Arguments) → AllByRecursion (IsItself r named.Variable) ds → AllByRecursion (IsFair r) (passed ds all) → ArgumentsFit r ds all
 arguments_fit r [] all own fair = λ t y is b n kind. absurd (none_some y is)
@@ -143,16 +100,12 @@ arguments_fit r (d ∷ rest) (argument a more) own fair = λ t y is b n kind. by
 -- ---- parameters
 
 parameters_own : (r : Resolution) → AllByRecursion (IsWellFunction r) (functions_in r.program.items) → (v : Named) → AllByRecursion (IsItself r named.Variable) (parameters_named r v)
-parameters_own r all (named.Struct n) = tt
-parameters_own r all (named.Global n) = tt
 parameters_own r all (named.Function n) = by (function_at r n) refl
   where
     by : (o : Option Function) → function_at r n ≡ o → AllByRecursion (IsItself r named.Variable) (parameters_of o)
     by None is = tt
     by (Some f) is = (at_place (IsWellFunction r) (functions_in r.program.items) n f all is).parameters
-parameters_own r all (named.Variable x) = tt
-parameters_own r all (named.Field x) = tt
-parameters_own r all named.Known = tt
+parameters_own r all _ = tt
 
 beyond_own : (r : Resolution) (k : ℕ) (ds : List Declaration) → AllByRecursion (IsItself r named.Variable) ds → AllByRecursion (IsItself r named.Variable) (beyond k ds)
 beyond_own r zero ds own = own
@@ -170,10 +123,10 @@ pub record IsExpected (m : Assignment) (e : Expression) (modes : List Sharing) :
   pub fits : agrees (object base stars) (kind_at m.typed e) ≡ true
   pub has : HasModes m stars modes
 
-no_modes : (l : List Sharing) → None ≡ Some l → ⊥
+pub no_modes : (l : List Sharing) → None ≡ Some l → ⊥
 no_modes l h = cc
 
-same_modes : (a b : List Sharing) → Some a ≡ Some b → a ≡ b
+pub same_modes : (a b : List Sharing) → Some a ≡ Some b → a ≡ b
 same_modes a b h = cc
 
 of_row : (m : Assignment) → IsWhole m → HasWrittenLocks m → (e : Expression) (b : Base) (n : ℕ) → agrees (object b n) (kind_at m.typed e) ≡ true → (row : Targets) → IsRow m.typed n row → (modes : List Sharing) → Some (modes_of m row) ≡ Some modes

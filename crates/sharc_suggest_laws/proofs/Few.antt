@@ -1,6 +1,6 @@
 -- In a program at its tokens one value at most begins at a token: no other part begins there, and no value inside of it does.
 use Rattle.std.proofs.Common.{◌≡◌, ℕ, ◌+◌, ◌<◌, ◌≤◌, Bool, true, false, ◌⊎◌, inl, inr, List, [], ◌∷◌, ◌++◌, Option, Some, None, IfSome, length, refl, eqb-true, arith}
-use Rattle.sharc_tree.specs.{declared.token.Span.Span, declared.token.Token.Token, Placed.{Follow, IsWhole, point, option_spans, argument_spans, first_spans, head_spans, statement_spans, declaration_spans, item_spans, Placed, AllPlaced, PlacedRight, PlacedSimple, PlacedLocal, PlacedFirst, PlacedHead, PlacedStatement, PlacedStatements, PlacedItem, PlacedItems}, Spans.{span_of, span_of_right, span_of_simple, span_of_statement, span_of_item}, Tree.{Expression, identifier, constant, parentheses, call, spawn, on_value, on_place, cast, index, field, unary, binary, Arguments, no_arguments, argument, Right, value, malloc, Simple, assign, does_call, Local, First, nothing, declares, does, Head, Statement, Statements, no_statements, statement, Function, Item, structure, global, function}}
+use Rattle.sharc_tree.specs.{declared.token.Span.Span, declared.token.Token.Token, Placed.{Follow, IsWhole, point, option_spans, argument_spans, first_spans, head_spans, statement_spans, declaration_spans, item_spans, Placed, AllPlaced, PlacedRight, PlacedSimple, PlacedLocal, PlacedFirst, PlacedHead, PlacedStatement, PlacedStatements, PlacedItem, PlacedItems}, Spans.{span_of, span_of_right, span_of_simple, span_of_statement, span_of_item}, Tree.{Expression, constant, parentheses, call, spawn, on_value, on_place, cast, index, field, unary, binary, Arguments, no_arguments, argument, Right, value, malloc, Simple, assign, does_call, Local, First, nothing, declares, does, Head, Statement, Statements, no_statements, statement, Function, Item, structure, global, function}}
 use Rattle.sharc_tree.specs.Tree as tree
 use Rattle.sharc_suggest_laws.proofs.Follows.{split}
 use Rattle.sharc_suggest_laws.specs.Values.{count_of, met_inside, met_inside_all, met_at, of_option, met_in_right, met_in_simple, met_in_local, met_in_first, met_in_head, met_in_statement, met_in_statements, met_in_item, met_in_items, begins_at, ValuesBeginApart}
@@ -107,18 +107,8 @@ with_itself c s n true is order (inr w) =
     absurd (omega (arith, at, begins))
 
 ordered : (all : List Token) (e : Expression) → Placed all e → (span_of e).first.token ≤ (span_of e).last.token
-ordered all (identifier s i) placed = placed.0.0.order
 ordered all (constant s k) placed = placed.0.order
-ordered all (parentheses s a) placed = placed.0.0.order
-ordered all (call s f args) placed = placed.0.0.order
-ordered all (spawn s f a) placed = placed.0.0.order
-ordered all (on_value s w a) placed = placed.0.0.order
-ordered all (on_place s w a) placed = placed.0.0.order
-ordered all (cast s t a) placed = placed.0.0.order
-ordered all (index s a i) placed = placed.0.0.order
-ordered all (field s a w n) placed = placed.0.0.order
-ordered all (unary s o a) placed = placed.0.0.order
-ordered all (binary s o at a b) placed = placed.0.0.order
+ordered all _ placed = placed.0.0.order
 
 value_at : (all : List Token) (c : Test) (e : Expression) → Placed all e → IsInner c (span_of e) (met_inside c.test e) → AtMostOnce c (span_of e).first.token ((span_of e).last.token + 1) (met_at c.test e)
 value_at all c e placed inner = with_itself c (span_of e) (met_inside c.test e) (c.test e) (c.begins e) (ordered all e placed) inner
@@ -131,8 +121,6 @@ value_few all c e placed inner from until le follow =
 
 mutual
   inside : (all : List Token) (c : Test) (e : Expression) → Placed all e → IsInner c (span_of e) (met_inside c.test e)
-  inside all c (identifier s i) placed = inl refl
-  inside all c (constant s k) placed = inl refl
   inside all c (parentheses s a) placed = inner_part all c s (span_of a) (met_inside c.test a) placed.0.1 (inside all c a placed.1)
   inside all c (call s f args) placed =
       let named : s.first.token ≤ f.site.token = placed.0.1.1 in
@@ -178,6 +166,7 @@ mutual
       (wider c ((span_of a).first.token + 1) ((span_of a).last.token + 1) (s.first.token + 1) ((span_of a).last.token + 1) (met_inside c.test a) (inside all c a placed.1) (omega (arith, begins)) (omega arith))
       (wider c ((span_of b).first.token + 1) ((span_of b).last.token + 1) ((span_of a).last.token + 1) (s.last.token + 1) (met_inside c.test b) (inside all c b placed.2) (omega (arith, middle, next)) (omega (arith, last)))
       (omega (arith, order, begins)) (omega (arith, ends))
+  inside all c _ placed = inl refl
 
   inside_all : (all : List Token) (c : Test) (args : Arguments) → AllPlaced all args → Few all c (argument_spans args) (met_inside_all c.test args)
   inside_all all c no_arguments placed = none all c []

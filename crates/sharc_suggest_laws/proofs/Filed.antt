@@ -85,7 +85,7 @@ calls_meant r file false all = λ text e found. by text e (bytes_eq (codes "broa
     by text e false false true is = subst (λ (w : Entry). IsMeant r w.meaning) (one_some (call_entry (codes "wait") Wait) e is) (call_meant r Wait)
     by text e false false false is = all text e is
 
-no_entry : (e : Entry) → None ≡ Some e → ⊥
+pub no_entry : (e : Entry) → None ≡ Some e → ⊥
 no_entry e h = cc
 
 pub file_meant : (r : Resolution) → AreMeant r (file_scope r.program.items).names
@@ -131,8 +131,7 @@ struct_stays structs n s name x is = by (is_some (struct_of structs s.name.text)
 
 behind_stays : (h : Heading) (i : Item) (name : List ℕ) (x : StructMeaning) → struct_of h.scope.structs name ≡ Some x → struct_of (behind h i).scope.structs name ≡ Some x
 behind_stays h (structure s) name x is = struct_stays h.scope.structs h.structs s name x is
-behind_stays h (global g) name x is = is
-behind_stays h (function f) name x is = is
+behind_stays h _ name x is = is
 
 all_stay : (h : Heading) (items : List Item) (name : List ℕ) (x : StructMeaning) → struct_of h.scope.structs name ≡ Some x → struct_of (behind_all h items).scope.structs name ≡ Some x
 all_stay h [] name x is = is

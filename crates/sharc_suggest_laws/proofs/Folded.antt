@@ -82,28 +82,18 @@ IsOwnAt t v (refers n w) = n ≡ t → w ≡ v
 IsOwnAt t v (yields n w) = n ≡ t → w ≡ v
 
 field_dull : (v : Named) → is_field v ≡ true → is_dull v ≡ true
-field_dull (named.Struct n) is = refl
 field_dull (named.Global n) is = absurd (false≢true is)
 field_dull (named.Function n) is = absurd (false≢true is)
 field_dull (named.Variable x) is = absurd (false≢true is)
-field_dull (named.Field f) is = refl
-field_dull named.Known is = refl
+field_dull _ is = refl
 
 pub field_taken : (v : Named) → is_field v ≡ true → is_free v ≡ false
-field_taken (named.Struct n) is = refl
-field_taken (named.Global n) is = refl
-field_taken (named.Function n) is = refl
-field_taken (named.Variable x) is = refl
-field_taken (named.Field f) is = refl
 field_taken named.Known is = absurd (false≢true is)
+field_taken _ is = refl
 
 free_known : (v : Named) → is_free v ≡ true → v ≡ named.Known
-free_known (named.Struct n) is = absurd (false≢true is)
-free_known (named.Global n) is = absurd (false≢true is)
-free_known (named.Function n) is = absurd (false≢true is)
-free_known (named.Variable x) is = absurd (false≢true is)
-free_known (named.Field f) is = absurd (false≢true is)
 free_known named.Known is = refl
+free_known _ is = absurd (false≢true is)
 
 -- a note of both
 kept_refers : (v w x y : Named) (b : Bool) → (b ≡ true → w ≡ v) → Beside v x y → Beside v (cond b w x) (cond b w y)

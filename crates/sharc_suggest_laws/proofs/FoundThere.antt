@@ -65,24 +65,19 @@ has_names r resolved placed clean once = record {
 found_by : (r : Resolution) (file names scope : List Entry) → HasNames r file → AreMeant r file → AreMeant r scope → (token : ℕ) → (v : Named) → named_at r token ≡ v → (c : Option Entry) → look_up scope (text_at r token) ≡ c → keeps_named (is_call_at r token) v c ≡ true
     → IsFoundAs c (look_up names (text_at r token)) (look_up file (text_at r token)) → (e : Entry) × (look_up names (text_at r token) ≡ Some e) × IsMeant r e.meaning
 found_by r file names scope has meant own token (named.Struct n) is None at kept found = absurd (false≢true kept)
-found_by r file names scope has meant own token (named.Struct n) is (Some x) at kept found = absurd (false≢true kept)
 found_by r file names scope has meant own token (named.Global n) is None at kept found =
     let there = has.filed token (ap is_filed is) in
     (there.0, found ∙ there.1, meant (text_at r token) there.0 there.1)
-found_by r file names scope has meant own token (named.Global n) is (Some x) at kept found = absurd (false≢true kept)
 found_by r file names scope has meant own token (named.Function n) is None at kept found =
     let there = has.filed token (ap is_filed is) in
     (there.0, found ∙ there.1, meant (text_at r token) there.0 there.1)
-found_by r file names scope has meant own token (named.Function n) is (Some x) at kept found = absurd (false≢true kept)
-found_by r file names scope has meant own token (named.Variable x) is None at kept found = absurd (false≢true kept)
 found_by r file names scope has meant own token (named.Variable x) is (Some c) at kept found =
     (found.0, found.1, subst (IsMeant r) (sym found.2) (own (text_at r token) c at))
 found_by r file names scope has meant own token (named.Field f) is None at kept found = absurd (false≢true kept)
-found_by r file names scope has meant own token (named.Field f) is (Some x) at kept found = absurd (false≢true kept)
 found_by r file names scope has meant own token named.Known is None at kept found =
     let there = has.called token is kept in
     (there.0, found ∙ there.1, meant (text_at r token) there.0 there.1)
-found_by r file names scope has meant own token named.Known is (Some x) at kept found = absurd (false≢true kept)
+found_by r file names scope has meant own token _ is _ at kept found = absurd (false≢true kept)
 
 pub found_there : (r : Resolution) (file names scope : List Entry) → IsSpelled r file → HasNames r file → AreMeant r file → AreMeant r scope → Scoped file names scope → (token : ℕ) → keeps_first r scope token ≡ true → IsFoundIn r names token
 found_there r file names scope spelled has meant own scoped token kept =

@@ -2,7 +2,7 @@
 -- are those that their names name.
 use Rattle.std.proofs.Common.{◌≡◌, ℕ, zero, suc, false, List, [], ◌∷◌, ◌++◌, drop, Option, Some, None, refl}
 use Rattle.std.specs.{Prelude.IsTrue, List.AllByRecursion}
-use Rattle.sharc_tree.specs.{declared.tree.declaration.Declaration.Declaration, declared.tree.declaration.WrittenType.WrittenType, Measures.{expressions, in_arguments, in_option, in_right, in_simple, in_first, in_head, in_statement, in_statements, in_function}, Tree.{Expression, identifier, constant, parentheses, call, spawn, on_value, on_place, cast, index, field, unary, binary, Arguments, no_arguments, argument, Right, value, malloc, Simple, assign, does_call, Local, First, nothing, declares, does, Head, Statement, Statements, no_statements, statement, Function, Item, structure, global, function}}
+use Rattle.sharc_tree.specs.{declared.tree.declaration.Declaration.Declaration, declared.tree.declaration.WrittenType.WrittenType, Measures.{expressions, in_arguments, in_option, in_right, in_simple, in_first, in_head, in_statement, in_statements, in_function}, Tree.{Expression, parentheses, call, spawn, on_value, on_place, cast, index, field, unary, binary, Arguments, no_arguments, argument, Right, value, malloc, Simple, assign, does_call, Local, First, nothing, declares, does, Head, Statement, Statements, no_statements, statement, Function, Item, structure, global, function}}
 use Rattle.sharc_tree.specs.Tree as tree
 use Rattle.sharc_names.specs.{Kinds.{agrees, declared_kind}, Names.Entry}
 use Rattle.sharc_names.specs.declared.fault.Named.TheVariants as named
@@ -72,8 +72,6 @@ later_passed r (d ∷ left) a rest fair = fair.1
 
 mutual
   inside : (r : Resolution) (scope : List Entry) → AreOwn r scope → (e : Expression) → AreKnown r (expressions e) → AreFair r (transfers r e) → AreWell r (givings scope e)
-  inside r scope own (identifier s i) known fair = tt
-  inside r scope own (constant s c) known fair = tt
   inside r scope own (parentheses s a) known fair = inside r scope own a known.1 fair
   inside r scope own (call s f all) known fair =
       let ds : List Declaration = parameters_named r (named_at r f.site.token) in
@@ -95,6 +93,7 @@ mutual
   inside r scope own (binary s o at a b) known fair =
       both_well r (givings scope a) (givings scope b) (inside r scope own a (front (IsKnown r) (expressions a) (expressions b) known.1) (front (IsFair r) (transfers r a) (transfers r b) fair))
       (inside r scope own b (back (IsKnown r) (expressions a) (expressions b) known.1) (back (IsFair r) (transfers r a) (transfers r b) fair))
+  inside r scope own _ known fair = tt
 
   inside_all : (r : Resolution) (scope : List Entry) → AreOwn r scope → (f : ℕ) (all : Arguments) → AreFair r (passed (parameters_named r (named_at r f)) all) → (k : ℕ) (rest : Arguments) → AreKnown r (in_arguments rest)
       → AreFair r (passed (beyond k (parameters_named r (named_at r f))) rest) → AreFair r (argument_transfers r rest) → AreWell r (all_givings scope f all k rest)
@@ -170,21 +169,12 @@ step_well r scope own None known fair = tt
 step_well r scope own (Some x) known fair = simple_well r scope own x known fair
 
 own_behind : (r : Resolution) (scope : List Entry) → AreOwn r scope → (f : First) → AllByRecursion (IsOwnLocal r) (first_locals f) → AreOwn r (behind_first scope f)
-own_behind r scope own nothing is = own
 own_behind r scope own (declares l) is = own_entry r scope l.declaration is.0.0 own
-own_behind r scope own (does x) is = own
+own_behind r scope own _ is = own
 
 own_after : (r : Resolution) (scope : List Entry) → AreOwn r scope → (s : Statement) → AllByRecursion (IsOwnLocal r) (locals_in s) → AreOwn r (after scope s)
-own_after r scope own (tree.empty s) is = own
-own_after r scope own (tree.block s all) is = own
 own_after r scope own (tree.declare s l) is = own_entry r scope l.declaration is.0.0 own
-own_after r scope own (tree.simple s x) is = own
-own_after r scope own (tree.jump s j) is = own
-own_after r scope own (tree.return s e) is = own
-own_after r scope own (tree.if_then s e a) is = own
-own_after r scope own (tree.if_then_else s e a b) is = own
-own_after r scope own (tree.while s e a) is = own
-own_after r scope own (tree.for s h a) is = own
+own_after r scope own _ is = own
 
 -- the heads of loops: what is declared, tested and done
 head_well : (r : Resolution) (scope : List Entry) → AreOwn r scope → (h : Head) → AllByRecursion (IsOwnLocal r) (first_locals h.first) → AreKnown r (in_head h)
@@ -212,11 +202,9 @@ returned_well r scope own f w declares_it (Some e) known fair = value_well r sco
 mutual
   statement_well : (r : Resolution) (f : ℕ) (w : WrittenType) → Declares r f w → (scope : List Entry) → AreOwn r scope → (s : Statement) → AllByRecursion (IsOwnLocal r) (locals_in s) → AreKnown r (in_statement s) → AreFair r (statement_transfers r w s)
       → AreWell r (givings_in scope f s)
-  statement_well r f w of_result scope own (tree.empty s) is known fair = tt
   statement_well r f w of_result scope own (tree.block s all) is known fair = statements_well r f w of_result scope own all is known fair
   statement_well r f w of_result scope own (tree.declare s l) is known fair = local_well r scope own l is.0 known fair
   statement_well r f w of_result scope own (tree.simple s x) is known fair = simple_well r scope own x known fair
-  statement_well r f w of_result scope own (tree.jump s j) is known fair = tt
   statement_well r f w of_result scope own (tree.return s e) is known fair = returned_well r scope own f w of_result e known fair
   statement_well r f w of_result scope own (tree.if_then s e a) is known fair =
       both_well r (givings scope e) (givings_in scope f a) (inside r scope own e (front (IsKnown r) (expressions e) (in_statement a) known) (front (IsFair r) (transfers r e) (statement_transfers r w a) fair))
@@ -239,6 +227,7 @@ mutual
       (head_well r scope own h first_is (front (IsKnown r) (in_head h) (in_statement a) known) (front (IsFair r) heads (statement_transfers r w a) fair))
       (statement_well r f w of_result (behind_first scope h.first) (own_behind r scope own h.first first_is) a (back (IsOwnLocal r) (first_locals h.first) (locals_in a) is) (back (IsKnown r) (in_head h) (in_statement a) known)
       (back (IsFair r) heads (statement_transfers r w a) fair))
+  statement_well r f w of_result scope own _ is known fair = tt
 
   statements_well : (r : Resolution) (f : ℕ) (w : WrittenType) → Declares r f w → (scope : List Entry) → AreOwn r scope → (all : Statements) → AllByRecursion (IsOwnLocal r) (locals_in_all all) → AreKnown r (in_statements all)
       → AreFair r (statements_transfers r w all) → AreWell r (givings_in_all scope f all)

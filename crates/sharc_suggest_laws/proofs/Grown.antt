@@ -126,18 +126,8 @@ joined_casts all c xs ys n k old new old' new' left right from until le follow =
     (joined all c xs ys n k (casts old) (casts new) (casts old') (casts new') left right from until le follow)
 
 pub span_same : (c : Recast) (e : Expression) → span_of (with_cast c e) ≡ span_of e
-span_same c (identifier s i) = refl
-span_same c (constant s k) = refl
-span_same c (parentheses s a) = refl
-span_same c (call s f all) = refl
-span_same c (spawn s f a) = refl
-span_same c (on_value s w a) = refl
-span_same c (on_place s w a) = refl
 span_same c (cast s t a) = refl
-span_same c (index s a i) = refl
-span_same c (field s a w n) = refl
-span_same c (unary s o a) = refl
-span_same c (binary s o at a b) = refl
+span_same c _ = refl
 
 -- with the cast round it, or without
 around_by : (c : Recast) (n from until : ℕ) (old : List Entity) (e : Expression) (b : Bool) → is_there c e ≡ b → from ≤ (span_of e).first.token → (span_of e).first.token < until

@@ -65,11 +65,9 @@ head_in P h all =
 
 mutual
   statement_in : (P : Entity → Type 0) (s : Statement) → AllByRecursion P (statement_entities s) → InBody P (in_statement s) (locals_in s)
-  statement_in P (tree.empty s) h = record { casts = tt; locals = tt }
   statement_in P (tree.block s all) h = statements_in P all h
   statement_in P (tree.declare s l) h = record { casts = of_casts P (in_option in_right l.initial) h.1; locals = (h.0, tt) }
   statement_in P (tree.simple s x) h = only_casts P (in_simple x) h
-  statement_in P (tree.jump s j) h = record { casts = tt; locals = tt }
   statement_in P (tree.return s e) h = only_casts P (in_option expressions e) h
   statement_in P (tree.if_then s e a) h =
       both_in P (expressions e) (in_statement a) [] (locals_in a) (only_casts P (expressions e) (front P (casts (expressions e)) (statement_entities a) h)) (statement_in P a (back P (casts (expressions e)) (statement_entities a) h))
@@ -82,6 +80,7 @@ mutual
       both_in P (expressions e) (in_statement a) [] (locals_in a) (only_casts P (expressions e) (front P (casts (expressions e)) (statement_entities a) h)) (statement_in P a (back P (casts (expressions e)) (statement_entities a) h))
   statement_in P (tree.for s x a) h =
       both_in P (in_head x) (in_statement a) (first_locals x.first) (locals_in a) (head_in P x (front P (head_entities x) (statement_entities a) h)) (statement_in P a (back P (head_entities x) (statement_entities a) h))
+  statement_in P _ h = record { casts = tt; locals = tt }
 
   statements_in : (P : Entity → Type 0) (all : Statements) → AllByRecursion P (statements_entities all) → InBody P (in_statements all) (locals_in_all all)
   statements_in P no_statements h = record { casts = tt; locals = tt }
@@ -91,13 +90,8 @@ mutual
 -- ---- of a program
 
 abbrev pub is_global : Role → Bool
-is_global role.Field = false
 is_global role.Global = true
-is_global role.Local = false
-is_global role.Parameter = false
-is_global role.Result = false
-is_global role.Cast = false
-is_global role.Made = false
+is_global _ = false
 
 -- a declaration has it in its role, which is not that of a global
 abbrev pub IsDeclaredAs : (Entity → Type 0) → Declaration → Type 0

@@ -8,9 +8,10 @@ use Rattle.sharc_names.specs.{declared.fault.FaultCode.FaultCode, declared.fault
 use Rattle.sharc_names.specs.declared.fault.Named.TheVariants as named
 use Rattle.sharc_ctype.specs.{Resolved.{Resolution, structs_in, named_at, function_at, named_kind, variable_kind, global_kind_of}, Statements.with_names}
 use Rattle.sharc_ctype_laws.specs.{Constraints.{struct_named, IsMemberOf}, WrittenTypes.{FirstNames, a_field, a_variable, a_global, a_function, a_known_call, IsNamedPath}}
-use Rattle.sharc_mode.specs.{Rows.{argument_use, lock_through, with_base, path_variable, lock_for}, Sharings.{Lock, Sharing, private, readonly, locked, racy, dynamic, lock_of, text_at, path_with, path_of, mode_of, is_sibling_lock, variable_named}}
+use Rattle.sharc_mode.specs.{Rows.{argument_use, lock_through, with_base, path_variable, lock_for}, Sharings.{Lock, Sharing, locked, lock_of, text_at, path_with, path_of, mode_of, is_sibling_lock, variable_named}}
 use Rattle.sharc_suggest.specs.Repairs.{keeps_first, keeps, keeps_all}
 use Rattle.sharc_suggest_laws.proofs.{Filed.{IsMeant, IsFiled}, Noted.{Clean, none, joined, referring}}
+use Rattle.sharc_lemmas.proofs.{Options.{no_guard as no_token, some_is as one_token}, Bools.yes as true_no}
 
 -- ---- no fault among notes
 
@@ -20,9 +21,6 @@ clean_yields token what rest h = h
 
 clean_where : (b : Bool) (place : ℕ) (code : FaultCode) → b ≡ false → Clean (fault_where b place code)
 clean_where true place code is = absurd (true_no is)
-  where
-    true_no : true ≡ false → ⊥
-    true_no h = cc
 clean_where false place code is = none
 
 -- ---- a lock path that leads to something
@@ -43,11 +41,8 @@ pub record IsSoundLock (r : Resolution) (l : Lock) : Type 0 where
   pub second : SecondLeads r (named_at r l.first) l.second
 
 abbrev pub IsSoundSharing : Resolution → Sharing → Type 0
-IsSoundSharing r private = Unit {0}
-IsSoundSharing r readonly = Unit {0}
 IsSoundSharing r (locked l) = IsSoundLock r l
-IsSoundSharing r racy = Unit {0}
-IsSoundSharing r dynamic = Unit {0}
+IsSoundSharing r _ = Unit {0}
 
 -- ---- as it is written
 
@@ -115,30 +110,8 @@ abbrev pub ArgumentsFit : Resolution → List Declaration → Arguments → Type
 ArgumentsFit r ds all = (t y : ℕ) → argument_use r ds all t ≡ Some y → (b : Base) (n : ℕ) → named_kind r (named.Variable t) ≡ object b (n + 1) → IsVariableAt r y × (named_kind r (named_at r y) ≡ object b (n + 1))
 
 variable_is : (v : Named) (t : ℕ) → variable_named v ≡ Some t → v ≡ named.Variable t
-variable_is (named.Struct n) t is = absurd (no_token t is)
-  where
-    no_token : (t : ℕ) → None ≡ Some t → ⊥
-    no_token t h = cc
-variable_is (named.Global n) t is = absurd (no_token t is)
-  where
-    no_token : (t : ℕ) → None ≡ Some t → ⊥
-    no_token t h = cc
-variable_is (named.Function n) t is = absurd (no_token t is)
-  where
-    no_token : (t : ℕ) → None ≡ Some t → ⊥
-    no_token t h = cc
 variable_is (named.Variable x) t is = ap named.Variable (one_token x t is)
-  where
-    one_token : (a b : ℕ) → Some a ≡ Some b → a ≡ b
-    one_token a b h = cc
-variable_is (named.Field x) t is = absurd (no_token t is)
-  where
-    no_token : (t : ℕ) → None ≡ Some t → ⊥
-    no_token t h = cc
-variable_is named.Known t is = absurd (no_token t is)
-  where
-    no_token : (t : ℕ) → None ≡ Some t → ⊥
-    no_token t h = cc
+variable_is _ t is = absurd (no_token t is)
 
 pub call_sound : (r : Resolution) (ds : List Declaration) (all : Arguments) (path : Path) → IsNamedPath r path → ArgumentsFit r ds all → IsSoundLock r (lock_for r ds all (path_variable r (lock_of path)) (lock_of path))
 call_sound r ds all (One m token) names fit = written_sound r (One m token) names
@@ -206,11 +179,8 @@ path_clean r file knows names l sound found = by l.second sound.second
 
 mode_clean : (r : Resolution) (file : Scope) → KnowsStructs r file.structs → (names scope : List Entry) → ((token : ℕ) → keeps_first r scope token ≡ true → IsFoundIn r names token) → (s : Sharing) → IsSoundSharing r s → keeps r scope s ≡ true
     → Clean (mode_notes (with_names file names) [] (Some (mode_of r s)))
-mode_clean r file knows names scope found private sound kept = none
-mode_clean r file knows names scope found readonly sound kept = none
 mode_clean r file knows names scope found (locked l) sound kept = path_clean r file knows names l sound (found l.first kept)
-mode_clean r file knows names scope found racy sound kept = none
-mode_clean r file knows names scope found dynamic sound kept = none
+mode_clean r file knows names scope found _ sound kept = none
 
 pub modes_clean : (r : Resolution) (file : Scope) → KnowsStructs r file.structs → (names scope : List Entry) → ((token : ℕ) → keeps_first r scope token ≡ true → IsFoundIn r names token) → (modes : List Sharing)
     → AllByRecursion (IsSoundSharing r) modes → keeps_all r scope modes ≡ true → Clean (modes_notes (with_names file names) [] (map (λ s. Some (mode_of r s)) modes))

@@ -1,9 +1,9 @@
 -- What receives a value comes before it, and a left side has a type by names that name what they named.
 use Rattle.std.proofs.Common.{◌≡◌, ◌⊎◌, inl, inr, ℕ, zero, suc, ◌+◌, ◌<◌, ◌≤◌, Bool, true, false, cond, List, [], ◌∷◌, ◌++◌, length, Option, Some, None, IfSome, refl, ap, subst, ◌∙◌, arith}
 use Rattle.std.specs.List.{AllByRecursion}
-use Rattle.sharc_tree.specs.{declared.token.Span.Span, Measures.{expressions, in_option, in_simple}, Placed.{Follow, option_spans, Placed, PlacedSimple, PlacedLocal, PlacedFirst, PlacedStatement, PlacedStatements, PlacedItem, PlacedItems}, Spans.{span_of, span_of_right}, Tree.{Expression, identifier, constant, parentheses, call, spawn, on_value, on_place, cast, index, field, unary, binary, Arguments, no_arguments, argument, Right, value, malloc, Simple, assign, does_call, Local, First, nothing, declares, does, Statement, Statements, no_statements, statement, Function, Item, structure, global, function}}
+use Rattle.sharc_tree.specs.{declared.token.Span.Span, Measures.{expressions, in_option, in_simple}, Placed.{Follow, option_spans, Placed, PlacedSimple, PlacedLocal, PlacedFirst, PlacedStatement, PlacedStatements, PlacedItem, PlacedItems}, Spans.{span_of, span_of_right}, Tree.{Expression, parentheses, call, spawn, on_value, on_place, cast, index, field, unary, binary, Arguments, no_arguments, argument, Right, value, malloc, Simple, assign, does_call, Local, First, nothing, declares, does, Statement, Statements, no_statements, statement, Function, Item, structure, global, function}}
 use Rattle.sharc_tree.specs.Tree as tree
-use Rattle.sharc_names.specs.{declared.fault.FaultCode.FaultCode, declared.fault.FaultCode.TheVariants.NoLvalue, declared.need.Need.TheVariants.Value, declared.scope.Scope.Scope, Kinds.{Kind, object, array, null, declared_kind}, Names.Entry, Needs.{place, met, unmet}, Notes.{Note, fault_unless}, Types.type_notes}
+use Rattle.sharc_names.specs.{declared.fault.FaultCode.FaultCode, declared.fault.FaultCode.TheVariants.NoLvalue, declared.need.Need.TheVariants.Value, declared.scope.Scope.Scope, Kinds.{Kind, declared_kind}, Names.Entry, Needs.{place, met, unmet}, Notes.{Note, fault_unless}, Types.type_notes}
 use Rattle.sharc_names.specs.declared.types.Role.TheVariants as role
 use Rattle.sharc_names.specs.Kinds as kinds
 use Rattle.sharc_ctype.specs.{declared.expr.Standing.TheVariants.AsLvalue, Expressions.{is_place, place_kind, place_notes, type_of, notes_at}, Items.{in_body, item_notes, items_notes, function_notes, parameters_notes, beyond}, Resolved.{Resolution, kind_at, functions_in}, Statements.{Around, opened, looping, with_names, test_notes, right_notes, simple_notes, first_notes, behind_first, tests_notes, step_notes, in_head, head_notes, after, notes_in, notes_in_all, locals_in_all}}
@@ -20,10 +20,8 @@ abbrev pub IsTypedIn : Resolution → Scope → Expression → Type 0
 IsTypedIn r scope e = type_of scope e ≡ Some (kind_at r e)
 
 abbrev pub is_function : Kind → Bool
-is_function (object b n) = false
-is_function (array b n) = false
-is_function null = false
 is_function kinds.function = true
+is_function _ = false
 
 -- it comes before the value, and each expression in it has its type, by notes that are strong
 pub record IsLeft (r now : Resolution) (u e : Expression) : Type 0 where
@@ -39,24 +37,13 @@ no_fault r now true at code h = refl
 no_fault r now false at code h = absurd h.0
 
 fit_by : (r now : Resolution) (u : Expression) (k : Kind) → AreStrong r now (unmet Value u (Some k)) → is_function k ≡ false
-fit_by r now u (object b n) h = refl
-fit_by r now u (array b n) h = refl
-fit_by r now u null h = refl
 fit_by r now u kinds.function h = absurd h.0
+fit_by r now u _ h = refl
 
 itself : (r : Resolution) (scope : Scope) (u : Expression) → AllByRecursion (IsTypedIn r scope) (expressions u) → IsTypedIn r scope u
-itself r scope (identifier s i) h = h.0
-itself r scope (constant s k) h = h.0
-itself r scope (parentheses s a) h = h.0
-itself r scope (call s f all) h = h.0
-itself r scope (spawn s f a) h = h.0
-itself r scope (on_value s w a) h = h.0
-itself r scope (on_place s w a) h = h.0
 itself r scope (cast s t a) h = h.0
-itself r scope (index s a i) h = h.0
-itself r scope (field s a w n) h = h.0
-itself r scope (unary s o a) h = h.0
 itself r scope (binary s o at a b) h = h.0
+itself r scope _ h = h.0
 
 pub typed_itself : (r : Resolution) (scope : Scope) (u : Expression) → AllByRecursion (IsTypedIn r scope) (expressions u) → type_of scope u ≡ Some (kind_at r u)
 typed_itself r scope u h = itself r scope u h
@@ -82,8 +69,6 @@ AreReceived r now f gs = AllByRecursion (IsReceived r now f) gs
 
 mutual
   plain : (r now : Resolution) (f : ℕ) (scope : List Entry) (e : Expression) → AreReceived r now f (givings scope e)
-  plain r now f scope (identifier s i) = tt
-  plain r now f scope (constant s k) = tt
   plain r now f scope (parentheses s a) = plain r now f scope a
   plain r now f scope (call s g all) = plain_all r now f scope g.site.token all zero all
   plain r now f scope (spawn s g a) = joint (IsReceived r now f) (givings scope a) (one_giving scope (of_parameter g.site.token (argument a no_arguments) zero) a) (plain r now f scope a) (tt, tt)
@@ -94,6 +79,7 @@ mutual
   plain r now f scope (field s a w n) = plain r now f scope a
   plain r now f scope (unary s o a) = plain r now f scope a
   plain r now f scope (binary s o at a b) = joint (IsReceived r now f) (givings scope a) (givings scope b) (plain r now f scope a) (plain r now f scope b)
+  plain r now f scope _ = tt
 
   plain_all : (r now : Resolution) (f : ℕ) (scope : List Entry) (g : ℕ) (all : Arguments) (k : ℕ) (rest : Arguments) → AreReceived r now f (all_givings scope g all k rest)
   plain_all r now f scope g all k no_arguments = tt
@@ -177,11 +163,9 @@ in_returned r now f scope (Some e) = in_value r now f scope (of_declared f) e (i
 
 mutual
   in_statement : (r now : Resolution) (f : ℕ) (around : Around) (σ : Scope) (scope : List Entry) (s : Statement) → PlacedStatement r.program.tokens.list s → AreTyped r (places_in around σ s) → AreStrong r now (notes_in around σ s) → AreReceived r now f (givings_in scope f s)
-  in_statement r now f around σ scope (tree.empty s) placed typed strong = tt
   in_statement r now f around σ scope (tree.block s all) placed typed strong = in_statements r now f (opened around σ.names) σ scope all placed.1 typed strong
   in_statement r now f around σ scope (tree.declare s l) placed typed strong = in_local r now f scope l placed.1
   in_statement r now f around σ scope (tree.simple s x) placed typed strong = in_simple_statement r now f σ scope x placed.1 typed strong
-  in_statement r now f around σ scope (tree.jump s j) placed typed strong = tt
   in_statement r now f around σ scope (tree.return s e) placed typed strong = in_returned r now f scope e
   in_statement r now f around σ scope (tree.if_then s e a) placed typed strong =
       joint (IsReceived r now f) (givings scope e) (givings_in scope f a) (plain r now f scope e)
@@ -223,6 +207,7 @@ mutual
       (back (IsStrong r now) (first_notes outer σ h.first ++ tests_notes inner h.test) (step_notes inner h.step) head_strong)))
       (in_statement r now f body inner below a placed.2 (back (λ (p : Placing). IsTypedIn r p.scope p.expression) (begins ++ at inner later) (places_in body inner a) typed)
       (back (IsStrong r now) (head_notes outer σ h) (notes_in body inner a) strong))
+  in_statement r now f around σ scope _ placed typed strong = tt
 
   in_statements : (r now : Resolution) (f : ℕ) (around : Around) (σ : Scope) (scope : List Entry) (all : Statements) → PlacedStatements r.program.tokens.list all → AreTyped r (places_in_all around σ all) → AreStrong r now (notes_in_all around σ all)
       → AreReceived r now f (givings_in_all scope f all)

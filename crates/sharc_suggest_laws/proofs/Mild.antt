@@ -7,7 +7,7 @@ use Rattle.sharc_names.specs.declared.fault.Named.TheVariants as named
 use Rattle.sharc_names.specs.declared.types.Role.TheVariants as role
 use Rattle.sharc_names.specs.Names as meaning
 use Rattle.sharc_ctype.specs.{Resolved.{Resolution, named_at}, Statements.with_names}
-use Rattle.sharc_mode.specs.Sharings.{Sharing, private, readonly, locked, racy, dynamic, is_field, same_named, mode_of, path_with, text_at}
+use Rattle.sharc_mode.specs.Sharings.{Sharing, locked, is_field, same_named, mode_of, path_with, text_at}
 use Rattle.sharc_suggest.specs.Repairs.{is_call_at, keeps_named, keeps, keeps_all}
 use Rattle.sharc_suggest_laws.specs.Names.{is_dull}
 use Rattle.sharc_suggest_laws.proofs.{Words.calls_apart, Noted.{Clean, left, right, no_fault, Noted, done, added, both, more_faults, new_fault, quiet, main_faults, unless_faults}, Scoped.{IsFoundAs, Scoped}}
@@ -28,32 +28,23 @@ pub record IsSpelled (r : Resolution) (file : List Entry) : Type 0 where
 -- ---- the first name of a lock path
 
 variable_is : (x : ℕ) (w : Named) → same_named (named.Variable x) w ≡ true → named.Variable x ≡ w
-variable_is x (named.Struct n) is = absurd (false≢true is)
-variable_is x (named.Global n) is = absurd (false≢true is)
-variable_is x (named.Function n) is = absurd (false≢true is)
 variable_is x (named.Variable y) is = ap named.Variable (eqb-true x y is)
-variable_is x (named.Field f) is = absurd (false≢true is)
-variable_is x named.Known is = absurd (false≢true is)
+variable_is x _ is = absurd (false≢true is)
 
 -- what it names at the cast is what it names where it is written
 pub named_there : (r : Resolution) (file names : List Entry) (token : ℕ) → IsSpelled r file → (v : Named) → named_at r token ≡ v → (c : Option Entry) → keeps_named (is_call_at r token) v c ≡ true
     → IsFoundAs c (look_up names (text_at r token)) (look_up file (text_at r token)) → (e : Entry) → look_up names (text_at r token) ≡ Some e → named_at r token ≡ named_of e.meaning
 named_there r file names token spelled (named.Struct n) is None kept found e at = absurd (false≢true kept)
-named_there r file names token spelled (named.Struct n) is (Some x) kept found e at = absurd (false≢true kept)
 named_there r file names token spelled (named.Global n) is None kept found e at = sym (spelled.filed token (ap is_filed is) e (sym found ∙ at))
-named_there r file names token spelled (named.Global n) is (Some x) kept found e at = absurd (false≢true kept)
 named_there r file names token spelled (named.Function n) is None kept found e at = sym (spelled.filed token (ap is_filed is) e (sym found ∙ at))
-named_there r file names token spelled (named.Function n) is (Some x) kept found e at = absurd (false≢true kept)
-named_there r file names token spelled (named.Variable x) is None kept found e at = absurd (false≢true kept)
 named_there r file names token spelled (named.Variable x) is (Some c) kept found e at =
     is ∙ variable_is x (named_of c.meaning) kept ∙ ap named_of (sym found.2) ∙ ap (λ (z : Entry). named_of z.meaning) (one_some found.0 e (sym found.1 ∙ at))
   where
     one_some : (a b : Entry) → Some a ≡ Some b → a ≡ b
     one_some a b h = cc
 named_there r file names token spelled (named.Field f) is None kept found e at = absurd (false≢true kept)
-named_there r file names token spelled (named.Field f) is (Some x) kept found e at = absurd (false≢true kept)
 named_there r file names token spelled named.Known is None kept found e at = is ∙ sym (spelled.called token is kept e (sym found ∙ at))
-named_there r file names token spelled named.Known is (Some x) kept found e at = absurd (false≢true kept)
+named_there r file names token spelled _ is _ kept found e at = absurd (false≢true kept)
 
 name_mild : (r : Resolution) (token : ℕ) (o : Option Entry) → ((e : Entry) → o ≡ Some e → named_at r token ≡ named_of e.meaning) → Clean (name_notes token o) → Noted r [] (name_notes token o)
 name_mild r token None is clean = absurd (no_fault _ _ _ clean)
@@ -67,14 +58,12 @@ second_mild r token apart (Some (Some d)) = added (refl, apart) done
 -- where the first name of a path is kept, no path begins where its second name is looked for
 seconds_apart : (r : Resolution) (file : List Entry) (token : ℕ) → IsSpelled r file → (v : Named) → named_at r token ≡ v → (c : Option Entry) → keeps_named (is_call_at r token) v c ≡ true → is_call_at r (token + 2) ≡ false
 seconds_apart r file token spelled (named.Struct n) is None kept = absurd (false≢true kept)
-seconds_apart r file token spelled (named.Struct n) is (Some e) kept = absurd (false≢true kept)
 seconds_apart r file token spelled (named.Global n) is c kept = spelled.apart token (ap is_dull is)
 seconds_apart r file token spelled (named.Function n) is c kept = spelled.apart token (ap is_dull is)
 seconds_apart r file token spelled (named.Variable x) is c kept = spelled.apart token (ap is_dull is)
 seconds_apart r file token spelled (named.Field f) is None kept = absurd (false≢true kept)
-seconds_apart r file token spelled (named.Field f) is (Some e) kept = absurd (false≢true kept)
 seconds_apart r file token spelled named.Known is None kept = calls_apart r token kept
-seconds_apart r file token spelled named.Known is (Some e) kept = absurd (false≢true kept)
+seconds_apart r file token spelled _ is _ kept = absurd (false≢true kept)
 
 path_mild : (r : Resolution) (scope : Scope) (token : ℕ) (text : List ℕ) (second : Option (List ℕ)) → is_call_at r (token + 2) ≡ false
     → ((e : Entry) → look_up scope.names text ≡ Some e → named_at r token ≡ named_of e.meaning) → Clean (path_notes scope [] (path_with token text second)) → Noted r [] (path_notes scope [] (path_with token text second))
@@ -85,14 +74,11 @@ path_mild r scope token text (Some m) apart is clean =
 
 mode_mild : (r : Resolution) (file : Scope) (names scope : List Entry) → IsSpelled r file.names → Scoped file.names names scope → (s : Sharing) → keeps r scope s ≡ true
     → Clean (mode_notes (with_names file names) [] (Some (mode_of r s))) → Noted r [] (mode_notes (with_names file names) [] (Some (mode_of r s)))
-mode_mild r file names scope spelled scoped private kept clean = done
-mode_mild r file names scope spelled scoped readonly kept clean = done
 mode_mild r file names scope spelled scoped (locked l) kept clean =
     path_mild r (with_names file names) l.first (text_at r l.first) l.second
     (seconds_apart r file.names l.first spelled (named_at r l.first) refl (look_up scope (text_at r l.first)) kept)
     (named_there r file.names names l.first spelled (named_at r l.first) refl (look_up scope (text_at r l.first)) kept (scoped (text_at r l.first))) clean
-mode_mild r file names scope spelled scoped racy kept clean = done
-mode_mild r file names scope spelled scoped dynamic kept clean = done
+mode_mild r file names scope spelled scoped _ kept clean = done
 
 modes_mild : (r : Resolution) (file : Scope) (names scope : List Entry) → IsSpelled r file.names → Scoped file.names names scope → (modes : List Sharing) → keeps_all r scope modes ≡ true
     → Clean (modes_notes (with_names file names) [] (map (λ s. Some (mode_of r s)) modes)) → Noted r [] (modes_notes (with_names file names) [] (map (λ s. Some (mode_of r s)) modes))
@@ -121,12 +107,8 @@ struct_mild r token None is = new_fault done
 struct_mild r token (Some s) is = added (inr (is.0, is.1, struct_dull s, struct_apart s)) done
 
 base_mild : (r : Resolution) (structs : StructTable) (token : ℕ) (b : Base) → NamesBase r token b → Noted r [] (base_notes structs token b)
-base_mild r structs token base.Int is = done
-base_mild r structs token base.Char is = done
-base_mild r structs token base.Long is = done
-base_mild r structs token base.Mutex is = done
-base_mild r structs token base.Void is = done
 base_mild r structs token (base.Struct name) is = struct_mild r token (struct_of structs name) is
+base_mild r structs token _ is = done
 
 -- ---- the type
 

@@ -2,7 +2,7 @@
 -- something.
 use Rattle.std.proofs.{Common.{◌≡◌, ◌⊎◌, inl, inr, ⊎_elim, ℕ, zero, suc, ◌+◌, ◌-◌, ◌<◌, ◌≤◌, true, false, List, [], ◌∷◌, length, map, take, drop, get_or, Contains, Some, ap, sym, subst, ◌∙◌, arith}, lemmas.Bool.{false≢true, and_parts}, lemmas.List.{get_or-drop, length-drop, length-take-le}}
 use Rattle.std.specs.List.{AllByRecursion}
-use Rattle.sharc_tree.specs.{declared.ctype.Mode.Mode, declared.ctype.Mode.TheVariants.{Private, Readonly, Locked, Racy, Dynamic}, declared.ctype.Path.Path, declared.ctype.Path.TheVariants.{One, Through}, declared.tree.declaration.Declaration.Declaration, declared.tree.declaration.WrittenType.WrittenType}
+use Rattle.sharc_tree.specs.{declared.ctype.Mode.Mode, declared.ctype.Mode.TheVariants.{Private, Locked}, declared.ctype.Path.Path, declared.ctype.Path.TheVariants.{One, Through}, declared.tree.declaration.Declaration.Declaration, declared.tree.declaration.WrittenType.WrittenType}
 use Rattle.sharc_ctype.specs.{declared.entity.Entity.Entity, declared.entity.Numbered.Numbered, Entities.{entities_in, numbered_from, positions_in, positions_of}, Resolved.{Resolution, named_at}}
 use Rattle.sharc_ctype_laws.specs.WrittenTypes.{IsNamedPath, IsNamedLevel, IsNamedType}
 use Rattle.sharc_infer_laws.specs.Locks.{IsWrittenLock, HasWrittenLocks}
@@ -34,11 +34,8 @@ lock_read r e names how reading path has = by how reading
     by (at_call ds all) reading = call_sound r ds all path named_path reading
 
 mode_read : (r : Resolution) (e : Entity) → IsNamedType r e.written → (how : PathReading) → IsReading r e how → (mode : Mode) → IsWrittenLock e.written.ctype.levels mode → IsSoundSharing r (read r how (sharing_of mode))
-mode_read r e names how reading Private has = tt
-mode_read r e names how reading Readonly has = tt
 mode_read r e names how reading (Locked path) has = lock_read r e names how reading path has
-mode_read r e names how reading Racy has = tt
-mode_read r e names how reading Dynamic has = tt
+mode_read r e names how reading _ has = tt
 
 -- ---- the modes of targets
 

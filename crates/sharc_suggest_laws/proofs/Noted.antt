@@ -1,14 +1,14 @@
 -- Notes with others among them, faults apart: what a cast adds to what is to be said of a program.
 use Rattle.std.proofs.Common.{◌≡◌, ◌∙◌, ◌⊎◌, ℕ, ◌==◌, Bool, true, false, not, ◌||◌, cond, List, [], ◌∷◌, ◌++◌, Option, Some, None, refl}
 use Rattle.std.specs.List.{AllByRecursion}
-use Rattle.sharc_tree.specs.{declared.ctype.Base.Base, declared.ctype.Mode.Mode, declared.ctype.Mode.TheVariants.{Private, Readonly, Locked, Racy, Dynamic}, declared.ctype.Path.Path, declared.ctype.Path.TheVariants.{One, Through}, declared.tree.declaration.WrittenType.WrittenType, declared.tree.declaration.Declaration.Declaration, declared.tree.expression.PlaceCall.PlaceCall, Tree.Expression}
+use Rattle.sharc_tree.specs.{declared.ctype.Base.Base, declared.ctype.Mode.Mode, declared.ctype.Mode.TheVariants.Locked, declared.ctype.Path.Path, declared.ctype.Path.TheVariants.{One, Through}, declared.tree.declaration.WrittenType.WrittenType, declared.tree.declaration.Declaration.Declaration, declared.tree.expression.PlaceCall.PlaceCall, Tree.Expression}
 use Rattle.sharc_tree.specs.declared.ctype.Base.TheVariants as base
-use Rattle.sharc_names.specs.{declared.fault.FaultCode.FaultCode, declared.fault.FaultCode.TheVariants.{TypeMismatch, ArgumentCount, NoLvalue, TypeNotAllowed, BadForm}, declared.fault.Named.Named, declared.need.Need.Need, declared.scope.Scope.Scope, declared.types.Role.Role, Kinds.{Kind, object, array, null, is_pointer, stars_of}, Names.{Entry, Meaning, StructMeaning, look_up, field_of, struct_of, is_main}, Needs.{place, called, fits, unmet, misfit, misfit_of, mismatch, used_call, agreed, unagreed}, Notes.{Note, fault, refers, yields, fault_unless, fault_where, faults}, Types.{main_notes, name_notes, field_notes, first_notes, first_kind, second_in, second_notes, path_notes, mode_notes, modes_notes, struct_note, base_notes, allowed_there, type_notes}}
-use Rattle.sharc_names.specs.Kinds as kinds
+use Rattle.sharc_names.specs.{declared.fault.FaultCode.FaultCode, declared.fault.FaultCode.TheVariants.{TypeMismatch, ArgumentCount, NoLvalue, TypeNotAllowed, BadForm}, declared.fault.Named.Named, declared.need.Need.Need, declared.scope.Scope.Scope, declared.types.Role.Role, Kinds.{Kind, object, is_pointer, stars_of}, Names.{Entry, Meaning, StructMeaning, look_up, field_of, struct_of, is_main}, Needs.{place, called, fits, unmet, misfit, misfit_of, mismatch, used_call, agreed, unagreed}, Notes.{Note, fault, refers, yields, fault_unless, fault_where, faults}, Types.{main_notes, name_notes, field_notes, first_notes, first_kind, second_in, second_notes, path_notes, mode_notes, modes_notes, struct_note, base_notes, allowed_there, type_notes}}
 use Rattle.sharc_ctype.specs.{declared.expr.Standing.Standing, declared.expr.Standing.TheVariants.{AsValue, AsLvalue}, declared.expr.OperatorClass.OperatorClass, Expressions.{is_place, place_notes, suits, place_call_notes, keeps_kind, cast_notes, count_notes, may_join, binary_notes}, Resolved.{Resolution, named_at}}
 use Rattle.sharc_mode.specs.Sharings.{is_field}
 use Rattle.sharc_suggest.specs.Repairs.{is_call_at}
 use Rattle.sharc_suggest_laws.specs.Names.{is_dull}
+use Rattle.sharc_lemmas.proofs.Bools.{no_cell as no}
 
 -- ---- no fault among them
 
@@ -83,9 +83,6 @@ faultless (yields token what ∷ rest) h = faultless rest h
 pub unless : (b : Bool) (place : ℕ) (code : FaultCode) → b ≡ true → Clean (fault_unless b place code)
 unless true place code is = none
 unless false place code is = absurd (no is)
-  where
-    no : false ≡ true → ⊥
-    no h = cc
 
 pub moved : (a b : Bool) (place at : ℕ) (code : FaultCode) → b ≡ a → Clean (fault_unless a place code) → Clean (fault_unless b at code)
 moved a b place at code same h = unless b at code (same ∙ well a place code h)
@@ -130,8 +127,7 @@ same r (n ∷ rest) tame = kept tame.0 (same r rest tame.1)
 
 abbrev pub IsFault : Note → Type 0
 IsFault (fault place code) = Unit {0}
-IsFault (refers token what) = ⊥
-IsFault (yields token what) = ⊥
+IsFault _ = ⊥
 
 abbrev pub AreFaults : List Note → Type 0
 AreFaults l = AllByRecursion IsFault l
@@ -139,8 +135,7 @@ AreFaults l = AllByRecursion IsFault l
 new_faults : (r : Resolution) (b : List Note) → AreFaults b → Noted r [] b
 new_faults r [] g = done
 new_faults r (fault place code ∷ rest) g = new_fault (new_faults r rest g.1)
-new_faults r (refers token what ∷ rest) g = absurd g.0
-new_faults r (yields token what ∷ rest) g = absurd g.0
+new_faults r _ g = absurd g.0
 
 pub more_faults : (r : Resolution) (a b c : List Note) → Noted r a b → AreFaults c → Noted r a (b ++ c)
 more_faults r _ _ c done f = new_faults r c f
@@ -152,8 +147,7 @@ more_faults r _ _ c (new_fault {place = place} {code = code} {old = a} {new = b}
 pub quiet : (r : Resolution) (a b : List Note) → AreFaults a → AreFaults b → Noted r a b
 quiet r [] b f g = new_faults r b g
 quiet r (fault place code ∷ rest) b f g = old_fault (quiet r rest b f.1 g)
-quiet r (refers token what ∷ rest) b f g = absurd f.0
-quiet r (yields token what ∷ rest) b f g = absurd f.0
+quiet r _ b f g = absurd f.0
 
 pub unless_faults : (b : Bool) (place : ℕ) (code : FaultCode) → AreFaults (fault_unless b place code)
 unless_faults true place code = tt
@@ -168,12 +162,8 @@ used_faults None = tt
 used_faults (Some word) = (tt, tt)
 
 base_faults : (b : Base) (e : Expression) → AreFaults (misfit_of b e)
-base_faults base.Int e = (tt, tt)
-base_faults base.Char e = (tt, tt)
-base_faults base.Long e = (tt, tt)
-base_faults base.Mutex e = (tt, tt)
 base_faults base.Void e = used_faults (called e)
-base_faults (base.Struct name) e = (tt, tt)
+base_faults _ e = (tt, tt)
 
 object_faults : (b : Base) (e : Expression) (z : Bool) → AreFaults (cond z (misfit_of b e) (mismatch e))
 object_faults b e true = base_faults b e
@@ -181,9 +171,7 @@ object_faults b e false = (tt, tt)
 
 misfit_faults : (k : Kind) (e : Expression) → AreFaults (misfit k e)
 misfit_faults (object b stars) e = object_faults b e (stars == 0)
-misfit_faults (array b stars) e = (tt, tt)
-misfit_faults null e = (tt, tt)
-misfit_faults kinds.function e = (tt, tt)
+misfit_faults _ e = (tt, tt)
 
 unfit_faults : (k : Kind) (e : Expression) (b : Bool) → AreFaults (cond b [] (misfit k e))
 unfit_faults k e true = tt
@@ -263,12 +251,8 @@ path_tame scope siblings (Through x token m) =
     append_tame (first_notes token (field_of siblings x) (look_up scope.names x)) _ (first_tame token (field_of siblings x) (look_up scope.names x)) (second_tame _ (second_in scope.structs m (first_kind (field_of siblings x) (look_up scope.names x))))
 
 mode_tame : (scope : Scope) (siblings : List Declaration) (m : Option Mode) → AllByRecursion IsTame (mode_notes scope siblings m)
-mode_tame scope siblings None = tt
-mode_tame scope siblings (Some Private) = tt
-mode_tame scope siblings (Some Readonly) = tt
 mode_tame scope siblings (Some (Locked path)) = path_tame scope siblings path
-mode_tame scope siblings (Some Racy) = tt
-mode_tame scope siblings (Some Dynamic) = tt
+mode_tame scope siblings _ = tt
 
 modes_tame : (scope : Scope) (siblings : List Declaration) (l : List (Option Mode)) → AllByRecursion IsTame (modes_notes scope siblings l)
 modes_tame scope siblings [] = tt
@@ -279,12 +263,8 @@ struct_tame token None = (tt, tt)
 struct_tame token (Some s) = (tt, tt)
 
 base_tame : (scope : Scope) (token : ℕ) (b : Base) → AllByRecursion IsTame (base_notes scope.structs token b)
-base_tame scope token base.Int = tt
-base_tame scope token base.Char = tt
-base_tame scope token base.Long = tt
-base_tame scope token base.Mutex = tt
-base_tame scope token base.Void = tt
 base_tame scope token (base.Struct name) = struct_tame token (struct_of scope.structs name)
+base_tame scope token _ = tt
 
 pub type_tame : (scope : Scope) (siblings : List Declaration) (where_it_stands : Role) (w : WrittenType) → AllByRecursion IsTame (type_notes scope siblings where_it_stands w)
 type_tame scope siblings where_it_stands w =

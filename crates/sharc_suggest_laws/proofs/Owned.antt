@@ -16,8 +16,7 @@ none_told t v (yields n w ∷ rest) not_so = ((λ same. absurd (not_so (0, omega
 
 told_so : (t : ℕ) (v : Named) (n : Note) → Tells n t v → IsOwnAt t v n
 told_so t v (fault place code) tells = tt
-told_so t v (refers n w) tells = λ same. tells.1
-told_so t v (yields n w) tells = λ same. tells.1
+told_so t v _ tells = λ same. tells.1
 
 one_told : (r : Resolution) (t : ℕ) → IsToldOnce r t → AllByRecursion (IsOwnAt t (named_at r t)) (notes_about r.program)
 one_told r t once =

@@ -1,43 +1,33 @@
 -- Where a cast is suggested its type has as many stars as the expression, and its lock paths name what is there.
 use Rattle.std.proofs.{Common.{◌≡◌, ℕ, zero, suc, ◌+◌, ◌&&◌, not, Bool, true, false, List, [], ◌∷◌, ◌++◌, cond, length, map, bytes_eq, Option, Some, None, option_map, refl, ap, sym, subst, ◌∙◌, arith}, lemmas.Bool.{false≢true, and_parts}}
 use Rattle.std.specs.List.{AllByRecursion}
-use Rattle.sharc_tree.specs.{declared.ctype.Base.Base, declared.ctype.Mode.Mode, declared.tree.declaration.Declaration.Declaration, declared.tree.expression.FieldOperator.TheVariants.{Dot, Arrow}, declared.tree.expression.UnaryOperator.TheVariants.{Negate, Not, Complement, Dereference}, declared.tree.item.GlobalForm.GlobalForm, declared.tree.item.GlobalForm.TheVariants.{Plain, Array, Initial}, Forms.{without_parentheses, is_lvalue}, Low.IsLow, Measures.expressions, Placed.IsPlaced, Tree.{Expression, identifier, constant, parentheses, call, spawn, on_value, on_place, cast, index, field, unary, binary}}
+use Rattle.sharc_tree.specs.{declared.ctype.Base.Base, declared.ctype.Mode.Mode, declared.tree.declaration.Declaration.Declaration, declared.tree.expression.FieldOperator.TheVariants.{Dot, Arrow}, declared.tree.expression.UnaryOperator.TheVariants.Dereference, declared.tree.item.GlobalForm.GlobalForm, declared.tree.item.GlobalForm.TheVariants.Array, Forms.{without_parentheses, is_lvalue}, Low.IsLow, Measures.expressions, Placed.IsPlaced, Tree.{Expression, identifier, parentheses, cast, index, field, unary}}
 use Rattle.sharc_names.specs.{declared.scope.Scope.Scope, Kinds.{Kind, object, is_null}, Names.{Entry, look_up, global_kind}, Types.modes_notes}
 use Rattle.sharc_ctype.specs.{Items.{file_scope, notes_about}, Resolved.{Resolution, IsResolved, functions_in, variable_kind, kind_at}, Statements.with_names}
 use Rattle.sharc_ctype_laws.specs.Constraints.{HasType, a_variable, a_global, a_function, in_parentheses, element_of_pointer, element_of_array, a_field, a_field_behind, pointed_to}
 use Rattle.sharc_infer_laws.specs.Locks.{HasWrittenLocks}
 use Rattle.sharc_mode.specs.{declared.error.Cast.Cast, Cells.cell_at, Moded.{Assignment, IsWhole}, Notes.taken_variable, Rows.{Targets, modes_of, row_at}, Sharings.{Sharing, is_readonly, mode_of}}
 use Rattle.sharc_suggest.specs.{Givings.{Giving, items_givings}, Repairs.{differ_first, is_free, keeps_first, keeps_all, may_be_cast}}
-use Rattle.sharc_suggest_laws.proofs.{Expects.{Agreed, same, integers, agreed, IsExpected, expected_of}, Filed.{IsMeant, AreMeant, file_meant, file_structs}, FoundThere.{HasNames, has_names, found_there}, Given.{AreKnown, AreOwn, IsWell, givings_well, IsWellFunction}, Leads.{IsFoundIn, modes_clean}, Mild.IsSpelled, ModesKept.modes_of_row, Noted.{Clean, clean_from}, ReadySite.{PathsRead, IsPointed}, Site.IsFor, SpelledAll.spelled, Targets.{IsRowOf, IsKnownProgram, targets_of}, World.{TypedLaws, known_program, known_functions}}
+use Rattle.sharc_suggest_laws.proofs.{Expects.{Agreed, same, integers, agreed, IsExpected, expected_of, same_modes}, Filed.{IsMeant, AreMeant, file_meant, file_structs, no_entry as none_some}, FoundThere.{HasNames, has_names, found_there}, Given.{AreKnown, AreOwn, IsWell, givings_well, IsWellFunction}, Leads.{IsFoundIn, modes_clean}, Mild.IsSpelled, ModesKept.modes_of_row, Noted.{Clean, clean_from}, ReadySite.{PathsRead, IsPointed}, Site.IsFor, SpelledAll.spelled, Targets.{IsRowOf, IsKnownProgram, targets_of}, World.{TypedLaws, known_program, known_functions}}
 use Rattle.sharc_lemmas.proofs.Lists.{back}
 
 -- ---- what may be cast is no NULL
 
 global_not_null : (f : GlobalForm) (b : Base) (n : ℕ) → is_null (global_kind f (object b n)) ≡ false
-global_not_null Plain b n = refl
 global_not_null (Array at k) b n = refl
-global_not_null (Initial at minus c) b n = refl
+global_not_null _ b n = refl
 
 not_null : (r : Resolution) (e : Expression) (k : Kind) → HasType r e k → is_lvalue e ≡ true → is_null k ≡ false
 not_null r (identifier s i) _ (a_variable at is text) there = refl
 not_null r (identifier s i) _ (a_global {g = g} at is text) there = global_not_null g.form _ _
 not_null r (identifier s i) _ (a_function callee) there = refl
-not_null r (constant s c) k typed there = absurd (false≢true there)
 not_null r (parentheses s a) _ (in_parentheses typed) there = not_null r a _ typed there
-not_null r (call s f all) k typed there = absurd (false≢true there)
-not_null r (spawn s f a) k typed there = absurd (false≢true there)
-not_null r (on_value s w a) k typed there = absurd (false≢true there)
-not_null r (on_place s w a) k typed there = absurd (false≢true there)
-not_null r (cast s t a) k typed there = absurd (false≢true there)
 not_null r (index s a i) _ (element_of_pointer typed other integer) there = refl
 not_null r (index s a i) _ (element_of_array typed other integer) there = refl
 not_null r (field s a Dot n) _ (a_field typed member names) there = refl
 not_null r (field s a Arrow n) _ (a_field_behind typed member names) there = refl
-not_null r (unary s Negate a) k typed there = absurd (false≢true there)
-not_null r (unary s Not a) k typed there = absurd (false≢true there)
-not_null r (unary s Complement a) k typed there = absurd (false≢true there)
 not_null r (unary s Dereference a) _ (pointed_to typed) there = refl
-not_null r (binary s o at a b) k typed there = absurd (false≢true there)
+not_null r _ k typed there = absurd (false≢true there)
 
 -- ---- what is repairable
 
@@ -64,12 +54,6 @@ never_differ r a b none also is = false≢true (ap (λ (l : List Sharing). diffe
 
 -- ---- so the expression is a pointer with as many stars
 
-no_modes : (l : List Sharing) → None ≡ Some l → ⊥
-no_modes l h = cc
-
-same_modes : (a b : List Sharing) → Some a ≡ Some b → a ≡ b
-same_modes a b h = cc
-
 found_many : (m : Assignment) → IsWhole m → HasWrittenLocks m → (b : Base) (n : ℕ) (o : Option Targets) → IsRowOf m.typed (object b n) o → (found : List Sharing) → option_map (modes_of m) o ≡ Some found → length found ≡ n
 found_many m whole locks b n None is found has = absurd is
 found_many m whole locks b n (Some row) is found has = ap length (sym (same_modes (modes_of m row) found has)) ∙ (modes_of_row m whole locks n row is).many
@@ -85,27 +69,14 @@ stars_by m e modes found b n differ many finds (integers c none is) = absurd (ne
 -- ---- the giving
 
 itself : (r : Resolution) (e : Expression) → AreKnown r (expressions e) → HasType r e (kind_at r e)
-itself r (identifier s i) h = h.0.0
-itself r (constant s c) h = h.0.0
-itself r (parentheses s a) h = h.0.0
-itself r (call s f all) h = h.0.0
-itself r (spawn s f a) h = h.0.0
-itself r (on_value s w a) h = h.0.0
-itself r (on_place s w a) h = h.0.0
 itself r (cast s t a) h = h.0.0
-itself r (index s a i) h = h.0.0
-itself r (field s a w n) h = h.0.0
-itself r (unary s o a) h = h.0.0
-itself r (binary s o at a b) h = h.0.0
+itself r _ h = h.0.0
 
 well_site : (r : Resolution) (before behind gs : List Giving) (g : Giving) → gs ≡ before ++ g ∷ behind → AllByRecursion (IsWell r) gs → IsWell r g
 well_site r before behind gs g split all = (back (IsWell r) before (g ∷ behind) (subst (AllByRecursion (IsWell r)) split all)).0
 
 own_meant : (r : Resolution) (scope : List Entry) → AreOwn r scope → AreMeant r scope
 own_meant r [] own text e found = absurd (none_some e found)
-  where
-    none_some : (e : Entry) → None ≡ Some e → ⊥
-    none_some e h = cc
 own_meant r (x ∷ rest) own text e found = by (bytes_eq x.name text) found (own_meant r rest own.1 text e)
   where
     one_some : (a b : Entry) → Some a ≡ Some b → a ≡ b

@@ -9,10 +9,10 @@ use Rattle.sharc_suggest_laws.proofs.{Grown.{IsCastOf, Grown, grown_items}, Inse
 
 -- ---- the first that is determined by the cast's tokens has a number that is not past the old ones
 
-some_here : (here x : Numbered) → Some here ≡ Some x → here ≡ x
+pub some_here : (here x : Numbered) → Some here ≡ Some x → here ≡ x
 some_here here x is = cc
 
-no_more : (x : Numbered) → None ≡ Some x → ⊥
+pub no_more : (x : Numbered) → None ≡ Some x → ⊥
 no_more x is = cc
 
 pub cast_is_told : (c : Recast) (k : ℕ) (e : Entity) → IsCastOf c e → is_told_by c.from c.until (record { entity = e; first = k }) ≡ true

@@ -1,16 +1,15 @@
 -- What is said of a construct without a mismatch of what is given to something.
 use Rattle.std.proofs.{Common.{◌≡◌, ℕ, ◌+◌, ◌==◌, Bool, true, false, ◌&&◌, cond, List, [], ◌∷◌, ◌++◌, drop, Option, Some, None, refl, arith}, lemmas.Bool.{and_left, true≢false}}
 use Rattle.std.specs.List.{flat_map, list_any}
-use Rattle.sharc_tree.specs.{declared.ctype.Base.Base, declared.ctype.Mode.Mode, declared.ctype.Path.Path, declared.token.Span.Span, declared.tree.declaration.Declaration.Declaration, declared.tree.item.GlobalDefinition.GlobalDefinition, declared.tree.expression.PlaceCall.PlaceCall, declared.tree.expression.PlaceCall.TheVariants.{Lock, Unlock, Free}, Forms.without_parentheses, Spans.span_of, Tree.{Expression, Arguments, Function}}
+use Rattle.sharc_tree.specs.{declared.ctype.Base.Base, declared.ctype.Mode.Mode, declared.ctype.Path.Path, declared.token.Span.Span, declared.tree.declaration.Declaration.Declaration, declared.tree.item.GlobalDefinition.GlobalDefinition, declared.tree.expression.PlaceCall.PlaceCall, declared.tree.expression.PlaceCall.TheVariants.Free, Forms.without_parentheses, Spans.span_of, Tree.{Expression, Arguments, Function}}
 use Rattle.sharc_ctype.specs.{declared.entity.Numbered.Numbered, Resolved.{Resolution, named_at}}
-use Rattle.sharc_mode.specs.{declared.error.ErrorCode.ErrorCode, declared.error.ErrorCode.TheVariants.{ReadonlyWrite, PrivateTarget, PrivateField, PrivateReachesThread, CastChangesInnerMode, ReadonlySource}, declared.finding.Finding.Finding, declared.finding.Finding.TheVariants.{Wrong, Names, Takes}, Cells.{cell_at, top_of}, Errors.is_mismatch, Expressions.place_notes, Moded.Assignment, Notes.{span_text, error_where, write_notes, private_notes, path_notes, mode_notes, is_private_level, is_field_role, private_field_notes, names_of, names_in, names_in_all, names_in_level, type_notes, unmet_notes, first_unmet, names_read, parameter_names, names_at_call, call_notes, cast_notes, taken_variable, takes, source_notes, sibling_notes, field_notes, levels_of, printed_type, mismatch, shown}, Rows.{PathReading, at_call, read, declared_row, modes_of, written}, Sharings.{Lock as LockPath, Sharing, private, readonly, locked, racy, dynamic, sharing_of, text_at, same_all, is_readonly, is_sibling, variable_named, object_of}, WellFormed.{place_of, holds_private, first_unfit_path, first_unfit_mode}, WellModed.{is_spawned, has_private_target, parameter_notes, spawned_notes, touched_notes}}
+use Rattle.sharc_mode.specs.{declared.error.ErrorCode.ErrorCode, declared.error.ErrorCode.TheVariants.{ReadonlyWrite, PrivateTarget, PrivateField, PrivateReachesThread, CastChangesInnerMode, ReadonlySource}, declared.finding.Finding.Finding, declared.finding.Finding.TheVariants.Wrong, Cells.{cell_at, top_of}, Errors.is_mismatch, Expressions.place_notes, Moded.Assignment, Notes.{span_text, error_where, write_notes, private_notes, path_notes, mode_notes, is_private_level, is_field_role, private_field_notes, names_of, names_in, names_in_all, names_in_level, type_notes, unmet_notes, first_unmet, names_read, parameter_names, names_at_call, call_notes, cast_notes, taken_variable, takes, source_notes, sibling_notes, field_notes, levels_of, printed_type, mismatch, shown}, Rows.{PathReading, at_call, read, declared_row, modes_of, written}, Sharings.{Lock as LockPath, Sharing, locked, sharing_of, text_at, same_all, is_readonly, is_sibling, variable_named, object_of}, WellFormed.{place_of, holds_private, first_unfit_path, first_unfit_mode}, WellModed.{is_spawned, has_private_target, parameter_notes, spawned_notes, touched_notes}}
 use Rattle.sharc_suggest_laws.specs.Mismatches.{is_mismatch_at}
 
 -- how many mismatches at a token are said
 abbrev pub one : ℕ → Finding → ℕ
 one t (Wrong e) = cond (is_mismatch_at t e) 1 0
-one t (Names x) = 0
-one t (Takes s x) = 0
+one t _ = 0
 
 abbrev pub ones : ℕ → List Finding → ℕ
 ones t [] = 0
@@ -53,9 +52,8 @@ source_quiet t m a =
     (where_quiet t (is_readonly (cell_at m a)) ReadonlySource (span_of a) (span_text m.typed (span_of a)) refl) (takes_quiet t (span_of a) (taken_variable m.typed (without_parentheses a)))
 
 pub place_quiet : (t : ℕ) (m : Assignment) (w : PlaceCall) (a : Expression) → ones t (place_notes m w a) ≡ 0
-place_quiet t m Lock a = refl
-place_quiet t m Unlock a = refl
 place_quiet t m Free a = source_quiet t m a
+place_quiet t m _ a = refl
 
 deep_by : (t : ℕ) (r : Resolution) (s : Span) (b : Base) (to from : List Sharing) (same : Bool) → ones t (cond same [] (mismatch CastChangesInnerMode s (shown r b to) (shown r b from) ∷ [])) ≡ 0
 deep_by t r s b to from true = refl
@@ -70,11 +68,8 @@ names_quiet t None = refl
 names_quiet t (Some x) = refl
 
 names_in_quiet : (t : ℕ) (r : Resolution) (s : Sharing) → ones t (names_in r s) ≡ 0
-names_in_quiet t r private = refl
-names_in_quiet t r readonly = refl
 names_in_quiet t r (locked l) = names_quiet t (object_of r l)
-names_in_quiet t r racy = refl
-names_in_quiet t r dynamic = refl
+names_in_quiet t r _ = refl
 
 read_quiet : (t : ℕ) (r : Resolution) (how : PathReading) (level : Option Mode) → ones t (names_read r how level) ≡ 0
 read_quiet t r how None = refl

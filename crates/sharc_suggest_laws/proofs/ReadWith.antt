@@ -32,14 +32,12 @@ in_items w (function f ∷ rest) ready typed clean =
 -- ---- the globals are as large as they were
 
 cells_same : (c : Recast) (structs : StructTable) (i : Item) → item_cells structs (item_with_cast c i) ≡ item_cells structs i
-cells_same c structs (structure s) = refl
 cells_same c structs (global g) = refl
-cells_same c structs (function f) = refl
+cells_same c structs _ = refl
 
 size_same : (c : Recast) (structs : StructTable) (before : ℕ) (i : Item) → item_size_notes structs before (item_with_cast c i) ≡ item_size_notes structs before i
-size_same c structs before (structure s) = refl
 size_same c structs before (global g) = refl
-size_same c structs before (function f) = refl
+size_same c structs before _ = refl
 
 sizes_same : (c : Recast) (structs : StructTable) (before : ℕ) (items : List Item) → sizes_notes structs before (map (item_with_cast c) items) ≡ sizes_notes structs before items
 sizes_same c structs before [] = refl

@@ -9,7 +9,7 @@ use Rattle.sharc_suggest_laws.specs.{Recast.type_at, Applied.recast_of}
 use Rattle.sharc_ctype.specs.{Items.{file_scope, notes_about}, Resolved.{Resolution, kind_at}, Statements.with_names}
 use Rattle.sharc_mode.specs.{declared.error.Cast.Cast, Cells.cell_at, Moded.Assignment, Notes.{base_of, taken_variable}, Sharings.{Sharing, mode_of, is_readonly}}
 use Rattle.sharc_suggest.specs.{Repairs.{differ_first, may_be_cast, is_free, keeps_all}, Givings.{Giving, items_givings}}
-use Rattle.sharc_suggest_laws.proofs.{Noted.{Clean, none, joined, unless, referring}, Reread.setting_of, Scoped.Scoped, Site.IsFor, Sound.{IsBare, IsSound, stars_in, IsGivenSound, given_sound}, TypedWith.IsReady}
+use Rattle.sharc_suggest_laws.proofs.{Noted.{Clean, none, joined, unless, referring}, Reread.setting_of, Scoped.Scoped, Site.IsFor, Sound.{IsBare, IsSound, stars_in, IsGivenSound, given_sound}, TypedWith.IsReady, Expects.no_star_less as no_star}
 use Rattle.sharc_lemmas.proofs.{Lists.{back, map_length}, Numbers.is_below}
 
 -- the lock paths of its type name what is there
@@ -31,27 +31,18 @@ struct_clean token None is = absurd (false≢true is)
 struct_clean token (Some s) is = referring token (named_struct s) [] none
 
 base_clean : (structs : StructTable) (token : ℕ) (b : Base) → is_known structs b ≡ true → Clean (base_notes structs token b)
-base_clean structs token base.Int is = none
-base_clean structs token base.Char is = none
-base_clean structs token base.Long is = none
-base_clean structs token base.Mutex is = none
-base_clean structs token base.Void is = none
 base_clean structs token (base.Struct name) is = struct_clean token (struct_of structs name) is
+base_clean structs token _ is = none
 
 or_true : (b : Bool) → (b || true) ≡ true
 or_true true = refl
 or_true false = refl
 
-no_star : (n : ℕ) → n + 1 ≡ 0 → ⊥
-no_star n is = omega (arith, is)
-
 pointer_allowed : (b : Base) (n : ℕ) → IsBare b (n + 1) → is_allowed role.Cast b (n + 1) ≡ true
-pointer_allowed base.Int n h = refl
-pointer_allowed base.Char n h = refl
-pointer_allowed base.Long n h = refl
 pointer_allowed base.Mutex n h = or_true (nat_lt 0 (n + 1))
 pointer_allowed base.Void n h = absurd (no_star n h)
 pointer_allowed (base.Struct name) n h = or_true (nat_lt 0 (n + 1))
+pointer_allowed _ n h = refl
 
 below_any : (n : ℕ) → nat_lt 0 (n + 1) ≡ true
 below_any n = is_below 0 (n + 1) (omega arith)

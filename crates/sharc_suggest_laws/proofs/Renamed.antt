@@ -1,13 +1,12 @@
 -- What tokens name in a program with a suggested cast written in it.
 use Rattle.std.proofs.{Common.{◌≡◌, ◌⊎◌, inl, inr, ℕ, ◌+◌, ◌==◌, zero, suc, Bool, true, false, cond, List, [], ◌∷◌, Some, slice_get, refl, ap, sym, subst, ◌∙◌}, lemmas.Bool.false≢true, lemmas.Slice.Eq.bytes_eq-Decides}
 use Rattle.std.specs.List.{AllByRecursion}
-use Rattle.sharc_tree.specs.{declared.ctype.Base.Base, declared.token.Site.Site, declared.tree.declaration.WrittenType.WrittenType, declared.tree.declaration.Declaration.Declaration, declared.tree.item.GlobalDefinition.GlobalDefinition, declared.tree.item.GlobalForm.GlobalForm, declared.tree.item.GlobalForm.TheVariants.{Plain, Array, Initial}, declared.tree.expression.Constant.Constant, declared.tree.expression.Constant.TheVariants.{Number, Character, Null}, declared.tree.expression.UnaryOperator.UnaryOperator, declared.tree.expression.UnaryOperator.TheVariants.{Negate, Not, Complement, Dereference}, declared.token.NumberType.NumberType, Measures.expressions, Tree.{Expression, identifier, constant, parentheses, call, spawn, on_value, on_place, cast, index, field, unary, binary, Function}}
+use Rattle.sharc_tree.specs.{declared.ctype.Base.Base, declared.token.Site.Site, declared.tree.declaration.WrittenType.WrittenType, declared.tree.declaration.Declaration.Declaration, declared.tree.item.GlobalDefinition.GlobalDefinition, declared.tree.item.GlobalForm.GlobalForm, declared.tree.item.GlobalForm.TheVariants.Array, declared.tree.expression.Constant.Constant, declared.tree.expression.Constant.TheVariants.{Number, Character, Null}, declared.tree.expression.UnaryOperator.UnaryOperator, declared.tree.expression.UnaryOperator.TheVariants.{Not, Dereference}, declared.token.NumberType.NumberType, Measures.expressions, Tree.{Expression, identifier, constant, parentheses, call, spawn, cast, index, field, unary, binary, Function}}
 use Rattle.sharc_tree.specs.declared.ctype.Base.TheVariants as base
 use Rattle.sharc_tree.specs.declared.token.NumberType.TheVariants as width
-use Rattle.sharc_names.specs.{declared.fault.Named.Named, Kinds.{Kind, object, array, null, is_long, declared_kind, element_kind, promoted, common, int, long}, Names.global_kind}
+use Rattle.sharc_names.specs.{declared.fault.Named.Named, Kinds.{Kind, array, is_long, declared_kind, element_kind, promoted, common, int, long}, Names.global_kind}
 use Rattle.sharc_names.specs.declared.fault.Named.TheVariants as named
-use Rattle.sharc_names.specs.Kinds as kinds
-use Rattle.sharc_ctype.specs.{declared.entity.Entity.Entity, declared.expr.OperatorClass.OperatorClass, declared.expr.OperatorClass.TheVariants.{Logical, Equality, Relation, Shift, Arithmetic}, Entities.{entities_in, numbered, numbered_from, positions_of}, Expressions.{number_kind, constant_kind, unary_result, class_of, binary_result}, Resolved.{Resolution, named_at, globals_in, functions_in, declarations_in, declared_at, variable_kind, global_kind_of, result_kind_of, named_kind, called_kind, kind_at}}
+use Rattle.sharc_ctype.specs.{declared.entity.Entity.Entity, declared.expr.OperatorClass.OperatorClass, declared.expr.OperatorClass.TheVariants.{Shift, Arithmetic}, Entities.{entities_in, numbered, numbered_from, positions_of}, Expressions.{number_kind, constant_kind, unary_result, class_of, binary_result}, Resolved.{Resolution, named_at, globals_in, functions_in, declarations_in, declared_at, variable_kind, global_kind_of, result_kind_of, named_kind, called_kind, kind_at}}
 use Rattle.sharc_mode.specs.{Notes.base_of, Sharings.is_field}
 use Rattle.sharc_ctype_laws.specs.WrittenTypes.{NamesStruct, IsNamedBase, IsNamedType}
 use Rattle.sharc_suggest_laws.specs.{Applied.{names_struct, base_site}, Names.is_dull}
@@ -59,24 +58,16 @@ struct_named_dull r token name (inl s) = (ap is_dull s.2, ap is_field s.2)
 struct_named_dull r token name (inr s) = (ap is_dull s.0, ap is_field s.0)
 
 dull_by : (r : Resolution) (token : ℕ) (b : Base) (name : List ℕ) → names_struct b (base.Struct name) ≡ true → IsNamedBase r token b → (is_dull (named_at r token) ≡ true) × (is_field (named_at r token) ≡ false)
-dull_by r token base.Int name is h = absurd (false≢true is)
-dull_by r token base.Char name is h = absurd (false≢true is)
-dull_by r token base.Long name is h = absurd (false≢true is)
-dull_by r token base.Mutex name is h = absurd (false≢true is)
-dull_by r token base.Void name is h = absurd (false≢true is)
 dull_by r token (base.Struct other) name is h = struct_named_dull r token other h
+dull_by r token _ name is h = absurd (false≢true is)
 
 -- the token of the base of a cast names a struct
 pub base_named : (r : Resolution) (b : Base) (s : Site) → Have (IsNamedType r) (entities_in r.program.items) → HasBase (entities_in r.program.items) b → NamesBase r (base_site (numbered (entities_in r.program.items)) b s).token b
-base_named r base.Int s have has = tt
-base_named r base.Char s have has = tt
-base_named r base.Long s have has = tt
-base_named r base.Mutex s have has = tt
-base_named r base.Void s have has = tt
 base_named r (base.Struct name) s have has =
     let at : IsSiteOf (IsNamedType r) (base.Struct name) (base_site (numbered_from 0 (entities_in r.program.items)) (base.Struct name) s) = site_of (IsNamedType r) 0 (entities_in r.program.items) (base.Struct name) s have (has name refl) in
     let dull = dull_by r at.written.base.token at.written.ctype.base name at.has at.holds.base in
     subst (λ (x : Site). (is_dull (named_at r x.token) ≡ true) × (is_field (named_at r x.token) ≡ false)) (sym at.is) dull
+base_named r _ s have has = tt
 
 -- ---- the base of the type of an expression is that of a type that something has
 
@@ -104,12 +95,8 @@ of_declaration r (d ∷ rest) token all = by (d.name.site.token == token) (of_de
     by false more = more
 
 global_base : (f : GlobalForm) (k : Kind) → base_of (global_kind f k) ≡ base_of k
-global_base Plain k = refl
-global_base (Array at n) (object b stars) = refl
 global_base (Array at n) (array b stars) = refl
-global_base (Array at n) null = refl
-global_base (Array at n) kinds.function = refl
-global_base (Initial at minus c) k = refl
+global_base _ _ = refl
 
 of_global : (r : Resolution) (gs : List GlobalDefinition) (n : ℕ) → AllByRecursion (λ (g : GlobalDefinition). HasBase (entities_in r.program.items) g.declaration.written.ctype.base) gs → IsBased r (global_kind_of (slice_get gs n))
 of_global r [] n all = no_struct (entities_in r.program.items) base.Void not_void
@@ -125,20 +112,16 @@ abbrev AllBased : Resolution → Type 0
 AllBased r = HoldInAll (λ (w : WrittenType). HasBase (entities_in r.program.items) w.ctype.base) r.program.items
 
 name_based : (r : Resolution) → AllBased r → (n : Named) → IsBased r (named_kind r n)
-name_based r all (named.Struct n) = no_struct (entities_in r.program.items) base.Void not_void
 name_based r all (named.Global n) = of_global r (globals_in r.program.items) n all.globals
-name_based r all (named.Function n) = no_struct (entities_in r.program.items) base.Void not_void
 name_based r all (named.Variable token) = of_declaration r (declarations_in r.program.items) token all.declarations
 name_based r all (named.Field token) = of_declaration r (declarations_in r.program.items) token all.declarations
-name_based r all named.Known = no_struct (entities_in r.program.items) base.Void not_void
+name_based r all _ = no_struct (entities_in r.program.items) base.Void not_void
 
 called_based : (r : Resolution) → AllBased r → (n : Named) → IsBased r (called_kind r n)
-called_based r all (named.Struct n) = no_struct (entities_in r.program.items) base.Void not_void
-called_based r all (named.Global n) = no_struct (entities_in r.program.items) base.Void not_void
 called_based r all (named.Function n) = of_result r (functions_in r.program.items) n all.results
 called_based r all (named.Variable token) = no_struct (entities_in r.program.items) base.Void not_void
 called_based r all (named.Field token) = no_struct (entities_in r.program.items) base.Void not_void
-called_based r all named.Known = no_struct (entities_in r.program.items) base.Void not_void
+called_based r all _ = no_struct (entities_in r.program.items) base.Void not_void
 
 either_int : (r : Resolution) (b : Bool) → IsBased r (cond b long int)
 either_int r true = no_struct (entities_in r.program.items) base.Long not_long
@@ -154,23 +137,18 @@ constant_based r (Character byte) = no_struct (entities_in r.program.items) base
 constant_based r Null = no_struct (entities_in r.program.items) base.Void not_void
 
 element_based : (r : Resolution) (k : Kind) → IsBased r k → IsBased r (element_kind k)
-element_based r (object b n) h = h
 element_based r (array b n) h = h
-element_based r null h = h
-element_based r kinds.function h = h
+element_based r _ h = h
 
 unary_based : (r : Resolution) (o : UnaryOperator) (k : Kind) → IsBased r k → IsBased r (unary_result o k)
-unary_based r Negate k h = either_int r (is_long k)
 unary_based r Not k h = no_struct (entities_in r.program.items) base.Int not_int
-unary_based r Complement k h = either_int r (is_long k)
 unary_based r Dereference k h = element_based r k h
+unary_based r _ k h = either_int r (is_long k)
 
 binary_based : (r : Resolution) (o : OperatorClass) (j k : Kind) → IsBased r (binary_result o j k)
-binary_based r Logical j k = no_struct (entities_in r.program.items) base.Int not_int
-binary_based r Equality j k = no_struct (entities_in r.program.items) base.Int not_int
-binary_based r Relation j k = no_struct (entities_in r.program.items) base.Int not_int
 binary_based r Shift j k = either_int r (is_long j)
 binary_based r Arithmetic j k = either_int r _
+binary_based r _ j k = no_struct (entities_in r.program.items) base.Int not_int
 
 expression_based : (r : Resolution) → AllBased r → (e : Expression) → HaveCasts (λ (w : WrittenType). HasBase (entities_in r.program.items) w.ctype.base) (expressions e) → IsBased r (kind_at r e)
 expression_based r all (identifier s i) h = name_based r all (named_at r i.site.token)
@@ -178,13 +156,12 @@ expression_based r all (constant s c) h = constant_based r c
 expression_based r all (parentheses s a) h = expression_based r all a h
 expression_based r all (call s f args) h = called_based r all (named_at r f.site.token)
 expression_based r all (spawn s f a) h = no_struct (entities_in r.program.items) base.Int not_int
-expression_based r all (on_value s w a) h = no_struct (entities_in r.program.items) base.Void not_void
-expression_based r all (on_place s w a) h = no_struct (entities_in r.program.items) base.Void not_void
 expression_based r all (cast s t a) h = h.0
 expression_based r all (index s a i) h = element_based r (kind_at r a) (expression_based r all a (first_casts (λ (w : WrittenType). HasBase (entities_in r.program.items) w.ctype.base) (expressions a) (expressions i) h))
 expression_based r all (field s a w n) h = name_based r all (named_at r n.site.token)
 expression_based r all (unary s o a) h = unary_based r o (kind_at r a) (expression_based r all a h)
 expression_based r all (binary s o at a b) h = binary_based r (class_of o) (kind_at r a) (kind_at r b)
+expression_based r all _ h = no_struct (entities_in r.program.items) base.Void not_void
 
 pub given_based : (r : Resolution) (e : Expression) → HaveCasts (λ (w : WrittenType). HasBase (entities_in r.program.items) w.ctype.base) (expressions e) → HasBase (entities_in r.program.items) (base_of (kind_at r e))
 given_based r e h =

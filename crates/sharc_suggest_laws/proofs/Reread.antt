@@ -1,7 +1,7 @@
 -- A program with a cast written in it, as C typing sees it.
 use Rattle.std.proofs.Common.{◌≡◌, ℕ, ◌+◌, ◌-◌, ◌==◌, Bool, true, false, cond, List, [], ◌∷◌, ◌++◌, length, map, is_some, refl, ap, ap₂, sym, subst, ◌∙◌, codes}
 use Rattle.std.specs.List.{AllByRecursion}
-use Rattle.sharc_tree.specs.{declared.ctype.Base.Base, declared.ctype.Base.TheVariants.{Int, Char, Long, Mutex, Void, Struct}, declared.tree.declaration.Declaration.Declaration, declared.tree.expression.Constant.Constant, declared.tree.item.GlobalDefinition.GlobalDefinition, declared.tree.item.GlobalForm.GlobalForm, declared.tree.item.GlobalForm.TheVariants.{Plain, Array, Initial}, Tree.{Function, Item, structure, global, function}}
+use Rattle.sharc_tree.specs.{declared.ctype.Base.Base, declared.ctype.Base.TheVariants.{Mutex, Void, Struct}, declared.tree.declaration.Declaration.Declaration, declared.tree.expression.Constant.Constant, declared.tree.item.GlobalDefinition.GlobalDefinition, declared.tree.item.GlobalForm.GlobalForm, declared.tree.item.GlobalForm.TheVariants.{Array, Initial}, Tree.{Function, Item, structure, global, function}}
 use Rattle.sharc_names.specs.{declared.fault.FaultCode.TheVariants.{DefinedTwice, LimitPassed, NoMain}, declared.scope.Scope.Scope, Kinds.{declared_kind, stars_of}, Names.{Entry, StructTable, field_of, struct_of, look_up}, Notes.{Note, fault_unless, fault_where}, Types.type_notes}
 use Rattle.sharc_names.specs.declared.types.Role.TheVariants as role
 use Rattle.sharc_suggest_laws.specs.{declared.written.Recast.Recast, Recast.{statements_with_cast, function_with_cast, item_with_cast, program_with_cast}}
@@ -33,27 +33,23 @@ fields_tame scope all earlier [] = tt
 fields_tame scope all earlier (d ∷ rest) = append_tame (field_notes scope all earlier d) _ (field_tame scope all earlier d) (fields_tame scope all (earlier ++ d ∷ []) rest)
 
 pub length_faults : (f : GlobalForm) → AreFaults (length_notes f)
-length_faults Plain = tt
 length_faults (Array at count) = where_faults _ at.token _
-length_faults (Initial span minus constant) = tt
+length_faults _ = tt
 
 base_faults : (b : Base) (name at : ℕ) (minus : Bool) (c : Constant) → AreFaults (base_initial_notes b name at minus c)
-base_faults Int name at minus c = unless_faults _ at _
-base_faults Char name at minus c = unless_faults _ at _
-base_faults Long name at minus c = unless_faults _ at _
 base_faults Mutex name at minus c = (tt, tt)
 base_faults Void name at minus c = tt
 base_faults (Struct s) name at minus c = (tt, tt)
+base_faults _ name at minus c = unless_faults _ at _
 
 either_faults : (b : Bool) (x y : List Note) → AreFaults x → AreFaults y → AreFaults (cond b x y)
 either_faults true x y f g = f
 either_faults false x y f g = g
 
 pub initial_faults : (g : GlobalDefinition) (f : GlobalForm) → AreFaults (initial_notes g f)
-initial_faults g Plain = tt
-initial_faults g (Array at count) = tt
 initial_faults g (Initial span minus c) =
     either_faults (stars_of g.declaration.written == 0) _ _ (base_faults g.declaration.written.ctype.base g.declaration.name.site.token span.first.token minus c) (unless_faults _ span.first.token _)
+initial_faults g _ = tt
 
 global_tame : (scope : Scope) (g : GlobalDefinition) → AllByRecursion IsTame (global_notes scope g)
 global_tame scope g =
@@ -71,9 +67,8 @@ heads_tame h [] = tt
 heads_tame h (i ∷ rest) = append_tame (head_notes h i) _ (head_tame h i) (heads_tame (behind h i) rest)
 
 size_faults : (structs : StructTable) (before : ℕ) (i : Item) → AreFaults (item_size_notes structs before i)
-size_faults structs before (structure s) = tt
 size_faults structs before (global g) = unless_faults _ g.declaration.name.site.token LimitPassed
-size_faults structs before (function f) = tt
+size_faults structs before _ = tt
 
 pub sizes_faults : (structs : StructTable) (before : ℕ) (items : List Item) → AreFaults (sizes_notes structs before items)
 sizes_faults structs before [] = tt
@@ -86,9 +81,8 @@ beyond_faults room (d ∷ rest) = joint _ (fault_where (room == 0) d.name.site.t
 -- ---- what is known of the file is the same
 
 behind_same : (c : Recast) (h : Heading) (i : Item) → behind h (item_with_cast c i) ≡ behind h i
-behind_same c h (structure s) = refl
 behind_same c h (global g) = refl
-behind_same c h (function f) = refl
+behind_same c h _ = refl
 
 behind_all_same : (c : Recast) (h : Heading) (items : List Item) → behind_all h (map (item_with_cast c) items) ≡ behind_all h items
 behind_all_same c h [] = refl
@@ -98,9 +92,8 @@ pub file_same : (c : Recast) (items : List Item) → file_scope (map (item_with_
 file_same c items = ap (λ (h : Heading). known_in h.scope) (behind_all_same c no_heads items)
 
 head_same : (c : Recast) (h : Heading) (i : Item) → head_notes h (item_with_cast c i) ≡ head_notes h i
-head_same c h (structure s) = refl
 head_same c h (global g) = refl
-head_same c h (function f) = refl
+head_same c h _ = refl
 
 heads_same : (c : Recast) (h : Heading) (items : List Item) → heads_notes h (map (item_with_cast c) items) ≡ heads_notes h items
 heads_same c h [] = refl

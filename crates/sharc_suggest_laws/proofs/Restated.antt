@@ -99,15 +99,13 @@ in_step w names scope scoped (Some x) mild clean = in_simple w names scope scope
 -- what is in scope afterwards
 
 pub first_names : (c : Recast) (surroundings : Around) (names : List Entry) (f : First) → behind_first surroundings names (first_with_cast c f) ≡ behind_first surroundings names f
-first_names c surroundings names nothing = refl
-first_names c surroundings names (declares l) = refl
 first_names c surroundings names (does x) = refl
+first_names c surroundings names _ = refl
 
 pub first_scoped : (w : Setting) (names scope : List Entry) → Scoped w.file.names names scope → (surroundings : Around) (f : First) → Clean (first_notes surroundings (with_names w.file names) (first_with_cast w.recast f))
     → Scoped w.file.names (behind_first surroundings names f) (scopes.behind_first scope f)
-first_scoped w names scope scoped surroundings nothing clean = scoped
 first_scoped w names scope scoped surroundings (declares l) clean = scoped_with w.file.names names scope l.declaration surroundings.block scoped (right _ _ (left _ _ clean))
-first_scoped w names scope scoped surroundings (does x) clean = scoped
+first_scoped w names scope scoped surroundings _ clean = scoped
 
 in_for_head : (w : Setting) (names scope : List Entry) → Scoped w.file.names names scope → (surroundings : Around) (h : Head) → AreMild w (head_givings scope h) → Clean (head_notes surroundings (with_names w.file names) (head_with_cast w.recast h))
     → Noted w.resolution (head_notes surroundings (with_names w.file names) h) (head_notes surroundings (with_names w.file names) (head_with_cast w.recast h))
@@ -143,28 +141,12 @@ in_returned w names scope scoped surroundings word f (Some e) mild clean =
 
 pub after_names : (c : Recast) (surroundings : Around) (names : List Entry) (s : Statement) → after surroundings names (statement_with_cast c s) ≡ after surroundings names s
 after_names c surroundings names (tree.empty s) = refl
-after_names c surroundings names (tree.block s all) = refl
-after_names c surroundings names (tree.declare s l) = refl
-after_names c surroundings names (tree.simple s x) = refl
-after_names c surroundings names (tree.jump s j) = refl
-after_names c surroundings names (tree.return s e) = refl
-after_names c surroundings names (tree.if_then s e a) = refl
-after_names c surroundings names (tree.if_then_else s e a b) = refl
-after_names c surroundings names (tree.while s e a) = refl
-after_names c surroundings names (tree.for s h a) = refl
+after_names c surroundings names _ = refl
 
 pub after_scoped : (w : Setting) (names scope : List Entry) → Scoped w.file.names names scope → (surroundings : Around) (s : Statement) → Clean (notes_in surroundings (with_names w.file names) (statement_with_cast w.recast s))
     → Scoped w.file.names (after surroundings names s) (scopes.after scope s)
-after_scoped w names scope scoped surroundings (tree.empty s) clean = scoped
-after_scoped w names scope scoped surroundings (tree.block s all) clean = scoped
 after_scoped w names scope scoped surroundings (tree.declare s l) clean = scoped_with w.file.names names scope l.declaration surroundings.block scoped (right _ _ (left _ _ clean))
-after_scoped w names scope scoped surroundings (tree.simple s x) clean = scoped
-after_scoped w names scope scoped surroundings (tree.jump s j) clean = scoped
-after_scoped w names scope scoped surroundings (tree.return s e) clean = scoped
-after_scoped w names scope scoped surroundings (tree.if_then s e a) clean = scoped
-after_scoped w names scope scoped surroundings (tree.if_then_else s e a b) clean = scoped
-after_scoped w names scope scoped surroundings (tree.while s e a) clean = scoped
-after_scoped w names scope scoped surroundings (tree.for s h a) clean = scoped
+after_scoped w names scope scoped surroundings _ clean = scoped
 
 mutual
   in_statement : (w : Setting) (names scope : List Entry) → Scoped w.file.names names scope → (surroundings : Around) (f : ℕ) (s : Statement) → AreMild w (givings_in scope f s)

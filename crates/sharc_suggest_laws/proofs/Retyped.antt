@@ -44,12 +44,8 @@ known_by token None h = absurd (no_fault _ _ _ h)
 known_by token (Some m) h = refl
 
 pub base_known : (structs : StructTable) (token : ℕ) (b : Base) → Clean (base_notes structs token b) → is_known structs b ≡ true
-base_known structs token Int h = refl
-base_known structs token Char h = refl
-base_known structs token Long h = refl
-base_known structs token Mutex h = refl
-base_known structs token Void h = refl
 base_known structs token (Struct name) h = known_by token (struct_of structs name) h
+base_known structs token _ h = refl
 
 pub cast_fine : (scope : Scope) (t : WrittenType) → Clean (type_notes scope [] role.Cast t) → is_fine scope.structs role.Cast t ≡ true
 cast_fine scope t h =
@@ -113,32 +109,12 @@ value_by w names scope scoped r e mild inner true is_so clean =
 
 -- it has the form that it had
 bare_same : (c : Recast) (names : List Entry) (e : Expression) → names_function names (without_parentheses (with_cast c e)) ≡ names_function names (without_parentheses e)
-bare_same c names (identifier s i) = refl
-bare_same c names (constant s k) = refl
 bare_same c names (parentheses s a) = bare_same c names a
-bare_same c names (call s f all) = refl
-bare_same c names (spawn s f a) = refl
-bare_same c names (on_value s w a) = refl
-bare_same c names (on_place s w a) = refl
-bare_same c names (cast s t a) = refl
-bare_same c names (index s a i) = refl
-bare_same c names (field s a w n) = refl
-bare_same c names (unary s o a) = refl
-bare_same c names (binary s o at a b) = refl
+bare_same c names _ = refl
 
 lvalue_same : (c : Recast) (e : Expression) → is_lvalue (with_cast c e) ≡ is_lvalue e
-lvalue_same c (identifier s i) = refl
-lvalue_same c (constant s k) = refl
 lvalue_same c (parentheses s a) = lvalue_same c a
-lvalue_same c (call s f all) = refl
-lvalue_same c (spawn s f a) = refl
-lvalue_same c (on_value s w a) = refl
-lvalue_same c (on_place s w a) = refl
-lvalue_same c (cast s t a) = refl
-lvalue_same c (index s a i) = refl
-lvalue_same c (field s a w n) = refl
-lvalue_same c (unary s o a) = refl
-lvalue_same c (binary s o at a b) = refl
+lvalue_same c _ = refl
 
 pub place_same : (c : Recast) (names : List Entry) (e : Expression) → is_place names (with_cast c e) ≡ is_place names e
 place_same c names e = ap₂ (λ (b f : Bool). b && not f) (lvalue_same c e) (bare_same c names e)

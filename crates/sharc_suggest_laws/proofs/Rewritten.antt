@@ -1,6 +1,6 @@
 -- What is given in a program with a cast written in it: what was given, each with the cast round it where it has its tokens.
 use Rattle.std.proofs.{Common.{◌≡◌, ℕ, zero, suc, Bool, true, false, cond, List, [], ◌∷◌, ◌++◌, map, Option, Some, None, option_map, refl, ap, ap₂, sym, ◌∙◌}, lemmas.List.map-append}
-use Rattle.sharc_tree.specs.{Spans.span_of, Tree.{Expression, identifier, constant, parentheses, call, spawn, on_value, on_place, cast, index, field, unary, binary, Arguments, no_arguments, argument, Right, value, malloc, Simple, assign, does_call, Local, First, nothing, declares, does, Head, Statement, Statements, no_statements, statement, Item, structure, global, function}}
+use Rattle.sharc_tree.specs.{Spans.span_of, Tree.{Expression, parentheses, call, spawn, on_value, on_place, cast, index, field, unary, binary, Arguments, no_arguments, argument, Right, value, malloc, Simple, assign, does_call, Local, First, nothing, declares, does, Head, Statement, Statements, no_statements, statement, Item, function}}
 use Rattle.sharc_tree.specs.Tree as tree
 use Rattle.sharc_names.specs.Names.{Entry}
 use Rattle.sharc_suggest_laws.specs.{declared.written.Recast.Recast, Recast.{type_at, is_there, around, with_cast, all_with_cast, right_with_cast, simple_with_cast, local_with_cast, first_with_cast, head_with_cast, statement_with_cast, statements_with_cast, item_with_cast}, Givings.{receiver_with, giving_with}}
@@ -25,8 +25,6 @@ value_written c scope r e inner =
 
 mutual
   inside : (c : Recast) (scope : List Entry) (e : Expression) → givings scope (with_cast c e) ≡ givings_with c (givings scope e)
-  inside c scope (identifier s i) = refl
-  inside c scope (constant s k) = refl
   inside c scope (parentheses s a) = inside c scope a
   inside c scope (call s f all) = inside_all c scope f.site.token all zero all
   inside c scope (spawn s f a) = value_written c scope (of_parameter f.site.token (argument a no_arguments) zero) a (inside c scope a)
@@ -37,6 +35,7 @@ mutual
   inside c scope (field s a w n) = inside c scope a
   inside c scope (unary s o a) = inside c scope a
   inside c scope (binary s o at a b) = both c (givings scope a) (givings scope b) (givings scope (with_cast c a)) (givings scope (with_cast c b)) (inside c scope a) (inside c scope b)
+  inside c scope _ = refl
 
   inside_all : (c : Recast) (scope : List Entry) (f : ℕ) (all : Arguments) (k : ℕ) (rest : Arguments) → all_givings scope f (all_with_cast c all) k (all_with_cast c rest) ≡ givings_with c (all_givings scope f all k rest)
   inside_all c scope f all k no_arguments = refl
@@ -76,21 +75,12 @@ in_step c scope (Some x) = in_simple c scope x
 
 -- the same variables are in scope
 pub first_same : (c : Recast) (scope : List Entry) (f : First) → behind_first scope (first_with_cast c f) ≡ behind_first scope f
-first_same c scope nothing = refl
-first_same c scope (declares l) = refl
 first_same c scope (does x) = refl
+first_same c scope _ = refl
 
 pub after_same : (c : Recast) (scope : List Entry) (s : Statement) → after scope (statement_with_cast c s) ≡ after scope s
 after_same c scope (tree.empty s) = refl
-after_same c scope (tree.block s all) = refl
-after_same c scope (tree.declare s l) = refl
-after_same c scope (tree.simple s x) = refl
-after_same c scope (tree.jump s j) = refl
-after_same c scope (tree.return s e) = refl
-after_same c scope (tree.if_then s e a) = refl
-after_same c scope (tree.if_then_else s e a b) = refl
-after_same c scope (tree.while s e a) = refl
-after_same c scope (tree.for s h a) = refl
+after_same c scope _ = refl
 
 in_head : (c : Recast) (scope : List Entry) (h : Head) → head_givings scope (head_with_cast c h) ≡ givings_with c (head_givings scope h)
 in_head c scope h =
@@ -111,11 +101,9 @@ in_returned c scope f (Some e) = value_written c scope (of_declared f) e (inside
 
 mutual
   in_statement : (c : Recast) (scope : List Entry) (f : ℕ) (s : Statement) → givings_in scope f (statement_with_cast c s) ≡ givings_with c (givings_in scope f s)
-  in_statement c scope f (tree.empty s) = refl
   in_statement c scope f (tree.block s all) = in_statements c scope f all
   in_statement c scope f (tree.declare s l) = in_local c scope l
   in_statement c scope f (tree.simple s x) = in_simple c scope x
-  in_statement c scope f (tree.jump s j) = refl
   in_statement c scope f (tree.return s e) = in_returned c scope f e
   in_statement c scope f (tree.if_then s e a) =
       both c (givings scope e) (givings_in scope f a) (givings scope (with_cast c e)) (givings_in scope f (statement_with_cast c a)) (inside c scope e) (in_statement c scope f a)
@@ -127,6 +115,7 @@ mutual
   in_statement c scope f (tree.for s h a) =
       both c (head_givings scope h) (givings_in (behind_first scope h.first) f a) (head_givings scope (head_with_cast c h)) (givings_in (behind_first scope (first_with_cast c h.first)) f (statement_with_cast c a))
       (in_head c scope h) (ap (λ (l : List Entry). givings_in l f (statement_with_cast c a)) (first_same c scope h.first) ∙ in_statement c (behind_first scope h.first) f a)
+  in_statement c scope f _ = refl
 
   in_statements : (c : Recast) (scope : List Entry) (f : ℕ) (all : Statements) → givings_in_all scope f (statements_with_cast c all) ≡ givings_with c (givings_in_all scope f all)
   in_statements c scope f no_statements = refl
@@ -135,9 +124,8 @@ mutual
       (in_statement c scope f a) (ap (λ (l : List Entry). givings_in_all l f (statements_with_cast c rest)) (after_same c scope a) ∙ in_statements c (after scope a) f rest)
 
 in_item : (c : Recast) (i : Item) → item_givings (item_with_cast c i) ≡ givings_with c (item_givings i)
-in_item c (structure s) = refl
-in_item c (global g) = refl
 in_item c (function f) = in_statements c (with_parameters [] f.parameters) f.name.site.token f.statements
+in_item c _ = refl
 
 pub in_items : (c : Recast) (items : List Item) → items_givings (map (item_with_cast c) items) ≡ givings_with c (items_givings items)
 in_items c [] = refl

@@ -4,7 +4,7 @@ use Rattle.sharc_tree.specs.declared.ctype.Mode.{Mode}
 use Rattle.sharc_names.specs.declared.types.Role.{Role}
 use Rattle.sharc_names.specs.declared.types.Role.TheVariants as role
 use Rattle.sharc_ctype.specs.{Resolved.Resolution, declared.entity.Entity.Entity, declared.entity.Numbered.Numbered, Entities.positions_of}
-use Rattle.sharc_mode.specs.{Moded.Assignment, Rows.{Targets, written, read, targets_from, entity_row, modes_of}, Sharings.{Sharing, private, readonly, locked, racy, dynamic, sharing_of}}
+use Rattle.sharc_mode.specs.{Moded.Assignment, Rows.{Targets, written, read, targets_from, entity_row, modes_of}, Sharings.{Sharing, locked, sharing_of}}
 use Rattle.sharc_suggest_laws.specs.Applied.{inserted}
 use Rattle.sharc_suggest_laws.proofs.{Found.{IsMoved, AreMoved}, Inserted.{stretch_before, stretch_behind}}
 
@@ -14,11 +14,8 @@ abbrev pub row_of : ℕ → ℕ → Targets
 row_of first count = record { first = first; count = count; reading = written }
 
 read_written : (r : Resolution) (s : Sharing) → read r written s ≡ s
-read_written r private = refl
-read_written r readonly = refl
 read_written r (locked l) = refl
-read_written r racy = refl
-read_written r dynamic = refl
+read_written r _ = refl
 
 pub all_read : (r : Resolution) (modes : List Mode) → map (λ mode. read r written (sharing_of mode)) modes ≡ map sharing_of modes
 all_read r [] = refl

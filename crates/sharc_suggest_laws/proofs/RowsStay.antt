@@ -1,8 +1,8 @@
 -- An expression that comes before the cast points to what it pointed to, with the modes that it had.
 use Rattle.std.proofs.{Common.{◌≡◌, ◌⊎◌, inl, inr, ℕ, zero, suc, ◌+◌, ◌-◌, ◌<◌, ◌≤◌, ◌==◌, Bool, true, false, cond, List, [], ◌∷◌, length, Option, Some, None, option_map, slice_get, refl, ap, sym, subst, ◌∙◌, eqb-true, arith}, lemmas.Bool.{false≢true, true≢false, eqb-false}, lemmas.Option.slice_get-map}
 use Rattle.std.specs.List.{AllByRecursion}
-use Rattle.sharc_tree.specs.{declared.tree.declaration.Declaration.Declaration, declared.tree.item.GlobalDefinition.GlobalDefinition, declared.tree.expression.FieldOperator.FieldOperator, declared.tree.expression.FieldOperator.TheVariants.{Dot, Arrow}, declared.tree.expression.Constant.Constant, declared.tree.expression.Constant.TheVariants.{Number, Character, Null}, declared.tree.expression.UnaryOperator.UnaryOperator, declared.tree.expression.UnaryOperator.TheVariants.{Negate, Not, Complement, Dereference}, Tree.{Expression, identifier, constant, parentheses, call, spawn, on_value, on_place, cast, index, field, unary, binary, Function}}
-use Rattle.sharc_names.specs.{declared.fault.Named.Named, declared.need.Need.TheVariants.Indexed, declared.types.Role.Role, Kinds.{Kind, object, array, null}, Needs.met}
+use Rattle.sharc_tree.specs.{declared.tree.declaration.Declaration.Declaration, declared.tree.item.GlobalDefinition.GlobalDefinition, declared.tree.expression.FieldOperator.FieldOperator, declared.tree.expression.FieldOperator.TheVariants.{Dot, Arrow}, declared.tree.expression.Constant.Constant, declared.tree.expression.Constant.TheVariants.Null, declared.tree.expression.UnaryOperator.UnaryOperator, declared.tree.expression.UnaryOperator.TheVariants.{Negate, Dereference}, Tree.{Expression, identifier, Function}}
+use Rattle.sharc_names.specs.{declared.fault.Named.Named, declared.need.Need.TheVariants.Indexed, declared.types.Role.Role, Kinds.Kind, Needs.met}
 use Rattle.sharc_names.specs.declared.fault.Named.TheVariants as named
 use Rattle.sharc_names.specs.declared.types.Role.TheVariants as role
 use Rattle.sharc_names.specs.Kinds as kinds
@@ -125,23 +125,19 @@ declarations_same : (m : Assignment) (c : Cast) (t : ℕ) → declaration_at (no
 declarations_same m c t = ap (λ (l : List Declaration). declared_at l t) (same_declarations (recast_of m.typed c) m.typed.program.items)
 
 pub named_kind_same : (m : Assignment) (c : Cast) (v : Named) → named_kind (now m c) v ≡ named_kind m.typed v
-named_kind_same m c (named.Struct n) = refl
 named_kind_same m c (named.Global n) = ap global_kind_of (globals_same m c n)
-named_kind_same m c (named.Function n) = refl
 named_kind_same m c (named.Variable t) = ap variable_kind (declarations_same m c t)
 named_kind_same m c (named.Field t) = ap variable_kind (declarations_same m c t)
-named_kind_same m c named.Known = refl
+named_kind_same m c _ = refl
 
 pub named_moved : (m : Assignment) (c : Cast) (frame : Frame m c) (how : PathReading) (v : Named) → is_function (named_kind m.typed v) ≡ false
     → IsRowMoved (first_at m c frame) (many c) how how (named_row m.typed how v) (named_row (now m c) how v)
-named_moved m c frame how (named.Struct n) held = absurd (true≢false held)
 named_moved m c frame how (named.Global n) held =
     subst (λ (o : Option GlobalDefinition). IsRowMoved (first_at m c frame) (many c) how how (global_row m.typed how (global_at m.typed n)) (global_row (now m c) how o)) (sym (globals_same m c n))
     (global_moved m c frame how how (globals_in m.typed.program.items) n frame.clear.globals)
-named_moved m c frame how (named.Function n) held = absurd (true≢false held)
 named_moved m c frame how (named.Variable t) held = clear_moved m c frame how how t (declaration_clear m (declarations_in m.typed.program.items) t frame.clear.declarations held)
 named_moved m c frame how (named.Field t) held = clear_moved m c frame how how t (declaration_clear m (declarations_in m.typed.program.items) t frame.clear.declarations held)
-named_moved m c frame how named.Known held = absurd (true≢false held)
+named_moved m c frame how _ held = absurd (true≢false held)
 
 result_kind_same : (c : Recast) (o : Option Function) → result_kind_of (option_map (function_with_cast c) o) ≡ result_kind_of o
 result_kind_same c None = refl
@@ -149,38 +145,22 @@ result_kind_same c (Some f) = refl
 
 -- of a call: what its name names is still a function, or was not one and is not one
 called_kinds : (m : Assignment) (c : Cast) (v : Named) → called_kind (now m c) v ≡ called_kind m.typed v
-called_kinds m c (named.Struct n) = refl
-called_kinds m c (named.Global n) = refl
 called_kinds m c (named.Function n) = ap result_kind_of (functions_same m c n) ∙ result_kind_same (recast_of m.typed c) (function_at m.typed n)
-called_kinds m c (named.Variable t) = refl
-called_kinds m c (named.Field t) = refl
-called_kinds m c named.Known = refl
+called_kinds m c _ = refl
 
 called_moved : (m : Assignment) (c : Cast) (frame : Frame m c) (v : Named) → IsRowMoved (first_at m c frame) (many c) written written (called_row m.typed v) (called_row (now m c) v)
-called_moved m c frame (named.Struct n) = none_moved (first_at m c frame) (many c) written written
-called_moved m c frame (named.Global n) = none_moved (first_at m c frame) (many c) written written
 called_moved m c frame (named.Function n) =
     subst (λ (o : Option Function). IsRowMoved (first_at m c frame) (many c) written written (result_row m.typed (function_at m.typed n)) (result_row (now m c) o)) (sym (functions_same m c n))
     (result_moved m c frame (functions_in m.typed.program.items) n frame.clear.functions)
-called_moved m c frame (named.Variable t) = none_moved (first_at m c frame) (many c) written written
-called_moved m c frame (named.Field t) = none_moved (first_at m c frame) (many c) written written
-called_moved m c frame named.Known = none_moved (first_at m c frame) (many c) written written
+called_moved m c frame _ = none_moved (first_at m c frame) (many c) written written
 
 dull_called : (r : Resolution) (v : Named) → is_dull v ≡ true → called_row r v ≡ no_row
-dull_called r (named.Struct n) is = refl
-dull_called r (named.Global n) is = refl
 dull_called r (named.Function n) is = absurd (false≢true is)
-dull_called r (named.Variable t) is = refl
-dull_called r (named.Field t) is = refl
-dull_called r named.Known is = refl
+dull_called r _ is = refl
 
 dull_result : (r : Resolution) (v : Named) → is_dull v ≡ true → called_kind r v ≡ kinds.void
-dull_result r (named.Struct n) is = refl
-dull_result r (named.Global n) is = refl
 dull_result r (named.Function n) is = absurd (false≢true is)
-dull_result r (named.Variable t) is = refl
-dull_result r (named.Field t) is = refl
-dull_result r named.Known is = refl
+dull_result r _ is = refl
 
 pub call_moved : (m : Assignment) (c : Cast) (frame : Frame m c) (v w : Named) → KeepsName v w → IsRowMoved (first_at m c frame) (many c) written written (called_row m.typed v) (called_row (now m c) w)
 call_moved m c frame v w (inl same) = subst (λ (x : Named). IsRowMoved (first_at m c frame) (many c) written written (called_row m.typed v) (called_row (now m c) x)) same (called_moved m c frame v)
@@ -195,20 +175,12 @@ call_kind_same m c v w (inr p) = dull_result (now m c) w p.1 ∙ sym (dull_resul
 -- ---- constant variables
 
 dull_constant : (r : Resolution) (v : Named) → is_dull v ≡ true → is_constant_named r v ≡ false
-dull_constant r (named.Struct n) is = refl
-dull_constant r (named.Global n) is = refl
-dull_constant r (named.Function n) is = refl
 dull_constant r (named.Variable t) is = absurd (false≢true is)
-dull_constant r (named.Field t) is = refl
-dull_constant r named.Known is = refl
+dull_constant r _ is = refl
 
 named_constant : (m : Assignment) (c : Cast) → AllKept m.typed (now m c) → (v : Named) → is_constant_named (now m c) v ≡ is_constant_named m.typed v
-named_constant m c kept (named.Struct n) = refl
-named_constant m c kept (named.Global n) = refl
-named_constant m c kept (named.Function n) = refl
 named_constant m c kept (named.Variable t) = constants_same m.typed (now m c) (recast_of m.typed c) refl kept t
-named_constant m c kept (named.Field t) = refl
-named_constant m c kept named.Known = refl
+named_constant m c kept _ = refl
 
 constant_kept : (m : Assignment) (c : Cast) → AllKept m.typed (now m c) → (v w : Named) → KeepsName v w → is_constant_named (now m c) w ≡ is_constant_named m.typed v
 constant_kept m c kept v w (inl same) = ap (is_constant_named (now m c)) (sym same) ∙ named_constant m c kept v
@@ -217,17 +189,7 @@ constant_kept m c kept v w (inr p) = dull_constant (now m c) w p.1 ∙ sym (dull
 pub use_same : (m : Assignment) (c : Cast) → AllKept m.typed (now m c) → (e : Expression) → constant_use (now m c) (with_cast (recast_of m.typed c) e) ≡ constant_use m.typed e
 use_same m c kept (identifier s i) =
     ap (λ (b : Bool). cond b (Some i.site.token) None) (constant_kept m c kept (named_at m.typed i.site.token) (named_at (now m c) i.site.token) (kept i.site.token))
-use_same m c kept (constant s k) = refl
-use_same m c kept (parentheses s a) = refl
-use_same m c kept (call s f all) = refl
-use_same m c kept (spawn s f a) = refl
-use_same m c kept (on_value s w a) = refl
-use_same m c kept (on_place s w a) = refl
-use_same m c kept (cast s t a) = refl
-use_same m c kept (index s a i) = refl
-use_same m c kept (field s a w n) = refl
-use_same m c kept (unary s o a) = refl
-use_same m c kept (binary s o at a b) = refl
+use_same m c kept _ = refl
 
 pub base_same : (m : Assignment) (c : Cast) → AllKept m.typed (now m c) → (w : FieldOperator) (a : Expression) → base_use (now m c) w (with_cast (recast_of m.typed c) a) ≡ base_use m.typed w a
 base_same m c kept Dot a = refl
@@ -285,29 +247,20 @@ pub no_rows : (first count : ℕ) → AreRowsMoved first count (Some no_row) (So
 no_rows first count = (None, none_moved first count written written)
 
 pub unary_moved : (first count : ℕ) (op : UnaryOperator) (o n : Option Targets) → AreRowsMoved first count o n → AreRowsMoved first count (unary_row op o) (unary_row op n)
-unary_moved first count Negate o n h = no_rows first count
-unary_moved first count Not o n h = no_rows first count
-unary_moved first count Complement o n h = no_rows first count
 unary_moved first count Dereference o n h = behind_moved first count o n h
+unary_moved first count _ o n h = no_rows first count
 
 pub constant_moved : (first count : ℕ) (k : Constant) → AreRowsMoved first count (constant_row k) (constant_row k)
-constant_moved first count (Number n) = no_rows first count
-constant_moved first count (Character byte) = no_rows first count
 constant_moved first count Null = tt
+constant_moved first count _ = no_rows first count
 
 -- what is needed of a part is no name of a function
 
 pub element_held : (k : Kind) (i : Option Kind) (whole : Kind) → element_of (met Indexed (Some k)) i ≡ Some whole → is_function k ≡ false
-element_held (object b n) i whole is = refl
-element_held (array b n) i whole is = refl
-element_held null i whole is = refl
 element_held kinds.function i whole is = absurd (none_some whole is)
+element_held _ i whole is = refl
 
 pub operand_held : (o : UnaryOperator) (k whole : Kind) → unary_kind o (met (operand_need o) (Some k)) ≡ Some whole → is_function k ≡ false
-operand_held o (object b n) whole is = refl
-operand_held o (array b n) whole is = refl
-operand_held o null whole is = refl
 operand_held Negate kinds.function whole is = absurd (none_some whole is)
-operand_held Not kinds.function whole is = absurd (none_some whole is)
-operand_held Complement kinds.function whole is = absurd (none_some whole is)
-operand_held Dereference kinds.function whole is = absurd (none_some whole is)
+operand_held _ kinds.function whole is = absurd (none_some whole is)
+operand_held o _ whole is = refl

@@ -6,6 +6,7 @@ use Rattle.sharc_names.specs.Names as meaning
 use Rattle.sharc_ctype.specs.Statements.{is_here, declared, declared_notes}
 use Rattle.sharc_suggest.specs.Repairs.{entry_of}
 use Rattle.sharc_suggest_laws.proofs.Noted.{Clean, behind_head, not_wrong}
+use Rattle.sharc_lemmas.proofs.Bools.{yes as true_no}
 
 -- a variable is the same, and what is not one is what the file has of that name
 abbrev pub IsFoundAs : Option Entry → Option Entry → Option Entry → Type 0
@@ -26,9 +27,6 @@ found_behind file d from false scope names is = is
 scoped_by : (file names scope : List Entry) (d : Declaration) (from : ℕ) → Scoped file names scope → (b : Bool) → b ≡ false
     → Scoped file (cond b names (record { name = d.name.text; block = from; meaning = meaning.variable d } ∷ names)) (entry_of d ∷ scope)
 scoped_by file names scope d from is true not_so text = absurd (true_no not_so)
-  where
-    true_no : true ≡ false → ⊥
-    true_no h = cc
 scoped_by file names scope d from is false not_so text = found_behind (look_up file text) d from (bytes_eq d.name.text text) (look_up scope text) (look_up names text) (is text)
 
 -- after a declaration of which no fault is reported

@@ -1,7 +1,7 @@
 -- In the type of a field a path that names a sibling by its name alone has that name, and the struct has a field of it.
 use Rattle.std.proofs.{Common.{◌≡◌, ℕ, Bool, true, false, List, [], ◌∷◌, ◌++◌, Option, Some, None, refl, ap, sym, ◌∙◌}, lemmas.Bool.false≢true}
 use Rattle.std.specs.List.{AllByRecursion}
-use Rattle.sharc_tree.specs.{declared.ctype.Mode.Mode, declared.ctype.Mode.TheVariants.{Private, Readonly, Locked, Racy, Dynamic}, declared.ctype.Path.Path, declared.ctype.Path.TheVariants.{One, Through}, declared.tree.declaration.Declaration.Declaration, declared.tree.item.StructDefinition.StructDefinition, declared.tree.declaration.WrittenType.WrittenType, Marks.{Mark, path_marks, level_marks, levels_marks, base_marks, AreMarks}, Placed.{PlacedDeclarations, PlacedItems, PlacedType}, Tree.{Item, structure, global, function}}
+use Rattle.sharc_tree.specs.{declared.ctype.Mode.Mode, declared.ctype.Mode.TheVariants.Locked, declared.ctype.Path.Path, declared.ctype.Path.TheVariants.{One, Through}, declared.tree.declaration.Declaration.Declaration, declared.tree.item.StructDefinition.StructDefinition, declared.tree.declaration.WrittenType.WrittenType, Marks.{Mark, path_marks, level_marks, levels_marks, base_marks, AreMarks}, Placed.{PlacedDeclarations, PlacedItems, PlacedType}, Tree.{Item, structure, global, function}}
 use Rattle.sharc_names.specs.{declared.scope.Scope.Scope, Names.{Entry, Meaning, look_up, field_of, named_of}, Notes.{Note, fault, refers, yields, fault_unless}, Types.{name_notes, first_notes, path_notes, mode_notes, modes_notes, base_notes, allowed_there, type_notes}, declared.fault.FaultCode.TheVariants.TypeNotAllowed}
 use Rattle.sharc_names.specs.declared.types.Role.TheVariants as role
 use Rattle.sharc_names.specs.Names as meaning
@@ -33,18 +33,12 @@ IsSiblingPath r fields (One m token) = is_field (named_at r token) ≡ true → 
 IsSiblingPath r fields (Through x token m) = Unit {0}
 
 abbrev pub IsSiblingLevel : Resolution → List Declaration → Option Mode → Type 0
-IsSiblingLevel r fields None = Unit {0}
-IsSiblingLevel r fields (Some Private) = Unit {0}
-IsSiblingLevel r fields (Some Readonly) = Unit {0}
 IsSiblingLevel r fields (Some (Locked path)) = IsSiblingPath r fields path
-IsSiblingLevel r fields (Some Racy) = Unit {0}
-IsSiblingLevel r fields (Some Dynamic) = Unit {0}
+IsSiblingLevel r fields _ = Unit {0}
 
 means_no_field : (m : Meaning) → is_field (named_of m) ≡ true → ⊥
 means_no_field (meaning.variable d) is = false≢true is
-means_no_field (meaning.global n g) is = false≢true is
-means_no_field (meaning.function n f) is = false≢true is
-means_no_field (meaning.condition c) is = false≢true is
+means_no_field _ is = false≢true is
 
 name_no_field : (r : Resolution) (token : ℕ) (o : Option Entry) → AreTrueOf r (name_notes token o) → is_field (named_at r token) ≡ true → ⊥
 name_no_field r token None holds is = holds.0
@@ -61,12 +55,8 @@ path_sibling r scope fields (One m token) marks holds = λ is.
 path_sibling r scope fields (Through x token m) marks holds = tt
 
 level_sibling : (r : Resolution) (scope : Scope) (fields : List Declaration) (l : Option Mode) → AreMarks r.program.tokens.list (level_marks l) → AreTrueOf r (mode_notes scope fields l) → IsSiblingLevel r fields l
-level_sibling r scope fields None marks holds = tt
-level_sibling r scope fields (Some Private) marks holds = tt
-level_sibling r scope fields (Some Readonly) marks holds = tt
 level_sibling r scope fields (Some (Locked path)) marks holds = path_sibling r scope fields path marks holds
-level_sibling r scope fields (Some Racy) marks holds = tt
-level_sibling r scope fields (Some Dynamic) marks holds = tt
+level_sibling r scope fields _ marks holds = tt
 
 levels_sibling : (r : Resolution) (scope : Scope) (fields : List Declaration) (first : Bool) (bases : List Mark) (l : List (Option Mode)) → AreMarks r.program.tokens.list (levels_marks first bases l) → AreTrueOf r (modes_notes scope fields l)
     → AllByRecursion (IsSiblingLevel r fields) l

@@ -2,7 +2,7 @@
 -- `void`.
 use Rattle.std.proofs.{Common.{◌≡◌, ℕ, zero, suc, slice_get, ◌+◌, ◌-◌, ◌==◌, Bool, true, false, cond, List, [], ◌∷◌, ◌++◌, length, Option, Some, None, refl, eqb-true, arith}, lemmas.Bool.and_parts}
 use Rattle.std.specs.List.{AllByRecursion}
-use Rattle.sharc_tree.specs.{declared.ctype.Base.Base, declared.tree.declaration.Declaration.Declaration, declared.tree.declaration.WrittenType.WrittenType, declared.token.NumberType.NumberType, declared.tree.item.GlobalDefinition.GlobalDefinition, declared.tree.item.GlobalForm.GlobalForm, declared.tree.item.GlobalForm.TheVariants.{Plain, Array, Initial}, declared.tree.expression.Constant.Constant, declared.tree.expression.Constant.TheVariants.{Number, Character, Null}, declared.tree.expression.UnaryOperator.UnaryOperator, declared.tree.expression.UnaryOperator.TheVariants.{Negate, Not, Complement, Dereference}, Measures.expressions, Tree.{Function, Expression, identifier, constant, parentheses, call, spawn, on_value, on_place, cast, index, field, unary, binary, Arguments, no_arguments, argument, Right, value, malloc, Simple, assign, does_call, Local, First, nothing, declares, does, Head, Statement, Statements, no_statements, statement, Item, structure, global, function}}
+use Rattle.sharc_tree.specs.{declared.ctype.Base.Base, declared.tree.declaration.Declaration.Declaration, declared.tree.declaration.WrittenType.WrittenType, declared.token.NumberType.NumberType, declared.tree.item.GlobalDefinition.GlobalDefinition, declared.tree.item.GlobalForm.GlobalForm, declared.tree.item.GlobalForm.TheVariants.{Plain, Array, Initial}, declared.tree.expression.Constant.Constant, declared.tree.expression.Constant.TheVariants.{Number, Character, Null}, declared.tree.expression.UnaryOperator.UnaryOperator, declared.tree.expression.UnaryOperator.TheVariants.{Not, Dereference}, Measures.expressions, Tree.{Function, Expression, identifier, constant, parentheses, call, spawn, on_value, on_place, cast, index, field, unary, binary, Arguments, no_arguments, argument, Right, value, malloc, Simple, assign, does_call, Local, First, nothing, declares, does, Head, Statement, Statements, no_statements, statement, Item, structure, global, function}}
 use Rattle.sharc_tree.specs.Tree as tree
 use Rattle.sharc_tree.specs.declared.ctype.Base.TheVariants as base
 use Rattle.sharc_names.specs.{declared.fault.FaultCode.TheVariants.TypeNotAllowed, declared.fault.Named.Named, declared.scope.Scope.Scope, declared.types.Role.Role, Kinds.{Kind, object, array, null, int, long, is_long, stars_of, declared_kind, element_kind}, Names.{global_kind, StructTable, look_up}, Types.{is_known, holds_void, is_allowed, allowed_there, type_notes}}
@@ -10,7 +10,7 @@ use Rattle.sharc_tree.specs.declared.token.NumberType.TheVariants as width
 use Rattle.sharc_names.specs.declared.fault.Named.TheVariants as named
 use Rattle.sharc_names.specs.declared.types.Role.TheVariants as role
 use Rattle.sharc_names.specs.Kinds as kinds
-use Rattle.sharc_ctype.specs.{declared.expr.OperatorClass.OperatorClass, declared.expr.OperatorClass.TheVariants.{Logical, Equality, Relation, Shift, Arithmetic}, declared.expr.Standing.Standing, declared.expr.Standing.TheVariants.{AsValue, AsLvalue}, Expressions.{number_kind, constant_kind, unary_result, class_of, binary_result, count, notes_at, notes_of_all, wanted}, Globals.sizes_notes, Heads.{heads_notes, no_heads}, Items.{fields_notes, parameters_notes, item_notes, items_notes, in_body, main_missing, file_scope, notes_about}, Resolved.{Resolution, named_at, globals_in, functions_in, declarations_in, declared_at, variable_kind, global_kind_of, result_kind_of, named_kind, called_kind, kind_at}, Statements.{Around, opened, looping, with_names, declared, count_notes, right_notes, simple_notes, initial_notes, local_notes, return_notes, first_notes, behind_first, in_head, tests_notes, step_notes, head_notes, after, notes_in, notes_in_all}}
+use Rattle.sharc_ctype.specs.{declared.expr.OperatorClass.OperatorClass, declared.expr.OperatorClass.TheVariants.{Shift, Arithmetic}, declared.expr.Standing.Standing, declared.expr.Standing.TheVariants.{AsValue, AsLvalue}, Expressions.{number_kind, constant_kind, unary_result, class_of, binary_result, count, notes_at, notes_of_all, wanted}, Globals.sizes_notes, Heads.{heads_notes, no_heads}, Items.{fields_notes, parameters_notes, item_notes, items_notes, in_body, main_missing, file_scope, notes_about}, Resolved.{Resolution, named_at, globals_in, functions_in, declarations_in, declared_at, variable_kind, global_kind_of, result_kind_of, named_kind, called_kind, kind_at}, Statements.{Around, opened, looping, with_names, declared, count_notes, right_notes, simple_notes, initial_notes, local_notes, return_notes, first_notes, behind_first, in_head, tests_notes, step_notes, head_notes, after, notes_in, notes_in_all}}
 use Rattle.sharc_ctype_laws.specs.WrittenTypes.{types_in, types_in_arguments, types_in_option, types_in_right, types_in_simple, types_in_local, types_in_first, types_in_head, types_in_statement, types_in_statements, types_in_declarations, types_in_item, types_in_items}
 use Rattle.sharc_mode.specs.Notes.{base_of}
 use Rattle.sharc_suggest.specs.Givings.{Giving, items_givings}
@@ -22,8 +22,7 @@ use Rattle.sharc_lemmas.proofs.Lists.{both as joint, each}
 abbrev pub stars_in : Kind → ℕ
 stars_in (object b n) = n
 stars_in (array b n) = n
-stars_in null = 0
-stars_in kinds.function = 0
+stars_in _ = 0
 
 abbrev pub IsBare : Base → ℕ → Type 0
 IsBare base.Void stars = stars ≡ 0
@@ -40,12 +39,8 @@ abbrev AreSound : StructTable → List WrittenType → Type 0
 AreSound structs l = AllByRecursion (IsSoundType structs) l
 
 bare_by : (what : Role) (b : Base) (stars : ℕ) → is_allowed what b stars ≡ true → IsBare b stars
-bare_by what base.Int stars h = tt
-bare_by what base.Char stars h = tt
-bare_by what base.Long stars h = tt
-bare_by what base.Mutex stars h = tt
 bare_by what base.Void stars h = eqb-true stars 0 (and_parts (stars == 0) (holds_void what) h).0
-bare_by what (base.Struct name) stars h = tt
+bare_by what _ stars h = tt
 
 type_sound : (scope : Scope) (siblings : List Declaration) (what : Role) (w : WrittenType) → Clean (type_notes scope siblings what w) → IsSoundType scope.structs w
 type_sound scope siblings what w h = record {
@@ -60,8 +55,6 @@ two structs a b f g = joint (IsSoundType structs) a b f g
 
 mutual
   in_expression : (σ : Scope) (stands : Standing) (e : Expression) → Clean (notes_at stands σ e) → AreSound σ.structs (types_in e)
-  in_expression σ stands (identifier s i) h = tt
-  in_expression σ stands (constant s k) h = tt
   in_expression σ stands (parentheses s a) h = in_expression σ stands a h
   in_expression σ stands (call s f all) h = in_arguments σ (wanted (count all) (look_up σ.names f.text)) all (right _ _ h)
   in_expression σ stands (spawn s f a) h = in_expression σ AsValue a (left _ _ (left _ _ (left _ _ h)))
@@ -76,6 +69,7 @@ mutual
   in_expression σ stands (unary s o a) h = in_expression σ AsValue a (left _ _ h)
   in_expression σ stands (binary s o at a b) h =
       two σ.structs (types_in a) (types_in b) (in_expression σ AsValue a (left _ _ (left _ _ (left _ _ (left _ _ h))))) (in_expression σ AsValue b (right _ _ (left _ _ (left _ _ h))))
+  in_expression σ stands _ h = tt
 
   in_arguments : (σ : Scope) (wanting : List Kind) (all : Arguments) → Clean (notes_of_all σ wanting all) → AreSound σ.structs (types_in_arguments all)
   in_arguments σ wanting no_arguments h = tt
@@ -130,11 +124,9 @@ in_returned surroundings σ word (Some e) h = in_expression σ AsValue e (right 
 
 mutual
   in_statement : (surroundings : Around) (σ : Scope) (s : Statement) → Clean (notes_in surroundings σ s) → AreSound σ.structs (types_in_statement s)
-  in_statement surroundings σ (tree.empty s) h = tt
   in_statement surroundings σ (tree.block s all) h = in_statements (opened surroundings σ.names) σ all h
   in_statement surroundings σ (tree.declare s l) h = in_local surroundings σ l h
   in_statement surroundings σ (tree.simple s x) h = in_simple σ x h
-  in_statement surroundings σ (tree.jump s j) h = tt
   in_statement surroundings σ (tree.return s e) h = in_returned surroundings σ s.first.token e h
   in_statement surroundings σ (tree.if_then s e a) h =
       two σ.structs (types_in e) (types_in_statement a) (in_expression σ AsValue e (left _ _ (left _ _ h))) (in_statement (opened surroundings σ.names) σ a (right _ _ h))
@@ -148,6 +140,7 @@ mutual
       let outer : Around = opened surroundings σ.names in
       two σ.structs (types_in_head x) (types_in_statement a) (in_for_head outer σ x (left _ _ h))
       (in_statement (looping (opened outer (behind_first outer σ.names x.first))) (in_head outer σ x) a (right _ _ h))
+  in_statement surroundings σ _ h = tt
 
   in_statements : (surroundings : Around) (σ : Scope) (all : Statements) → Clean (notes_in_all surroundings σ all) → AreSound σ.structs (types_in_statements all)
   in_statements surroundings σ no_statements h = tt
@@ -210,20 +203,16 @@ of_result structs (f ∷ rest) zero all = all.0
 of_result structs (f ∷ rest) (suc n) all = of_result structs rest n all.1
 
 name_sound : (structs : StructTable) (r : Resolution) → HoldInAll (IsSoundType structs) r.program.items → (n : Named) → IsSound structs (named_kind r n)
-name_sound structs r all (named.Struct n) = record { known = refl; bare = refl }
 name_sound structs r all (named.Global n) = of_global structs (globals_in r.program.items) n all.globals
-name_sound structs r all (named.Function n) = record { known = refl; bare = refl }
 name_sound structs r all (named.Variable token) = of_declaration structs (declarations_in r.program.items) token all.declarations
 name_sound structs r all (named.Field token) = of_declaration structs (declarations_in r.program.items) token all.declarations
-name_sound structs r all named.Known = record { known = refl; bare = refl }
+name_sound structs r all _ = record { known = refl; bare = refl }
 
 called_sound : (structs : StructTable) (r : Resolution) → HoldInAll (IsSoundType structs) r.program.items → (n : Named) → IsSound structs (called_kind r n)
-called_sound structs r all (named.Struct n) = record { known = refl; bare = refl }
-called_sound structs r all (named.Global n) = record { known = refl; bare = refl }
 called_sound structs r all (named.Function n) = of_result structs (functions_in r.program.items) n all.results
 called_sound structs r all (named.Variable token) = record { known = refl; bare = refl }
 called_sound structs r all (named.Field token) = record { known = refl; bare = refl }
-called_sound structs r all named.Known = record { known = refl; bare = refl }
+called_sound structs r all _ = record { known = refl; bare = refl }
 
 either_sound : (structs : StructTable) (b : Bool) → IsSound structs (cond b long int)
 either_sound structs true = record { known = refl; bare = tt }
@@ -239,31 +228,23 @@ constant_sound structs (Character byte) = record { known = refl; bare = tt }
 constant_sound structs Null = record { known = refl; bare = refl }
 
 bare_below : (b : Base) (n : ℕ) → IsBare b n → IsBare b (n - 1)
-bare_below base.Int n h = tt
-bare_below base.Char n h = tt
-bare_below base.Long n h = tt
-bare_below base.Mutex n h = tt
 bare_below base.Void n h = omega (arith, h)
-bare_below (base.Struct name) n h = tt
+bare_below _ n h = tt
 
 element_sound : (structs : StructTable) (k : Kind) → IsSound structs k → IsSound structs (element_kind k)
 element_sound structs (object b n) h = record { known = h.known; bare = bare_below b n h.bare }
 element_sound structs (array b n) h = record { known = h.known; bare = h.bare }
-element_sound structs null h = h
-element_sound structs kinds.function h = h
+element_sound structs _ h = h
 
 unary_sound : (structs : StructTable) (o : UnaryOperator) (k : Kind) → IsSound structs k → IsSound structs (unary_result o k)
-unary_sound structs Negate k h = either_sound structs (is_long k)
 unary_sound structs Not k h = record { known = refl; bare = tt }
-unary_sound structs Complement k h = either_sound structs (is_long k)
 unary_sound structs Dereference k h = element_sound structs k h
+unary_sound structs _ k h = either_sound structs (is_long k)
 
 binary_sound : (structs : StructTable) (o : OperatorClass) (j k : Kind) → IsSound structs (binary_result o j k)
-binary_sound structs Logical j k = record { known = refl; bare = tt }
-binary_sound structs Equality j k = record { known = refl; bare = tt }
-binary_sound structs Relation j k = record { known = refl; bare = tt }
 binary_sound structs Shift j k = either_sound structs (is_long j)
 binary_sound structs Arithmetic j k = either_sound structs _
+binary_sound structs _ j k = record { known = refl; bare = tt }
 
 kind_sound : (structs : StructTable) (r : Resolution) → HoldInAll (IsSoundType structs) r.program.items → (e : Expression) → HaveCasts (IsSoundType structs) (expressions e) → IsSound structs (kind_at r e)
 kind_sound structs r all (identifier s i) h = name_sound structs r all (named_at r i.site.token)
@@ -271,13 +252,12 @@ kind_sound structs r all (constant s c) h = constant_sound structs c
 kind_sound structs r all (parentheses s a) h = kind_sound structs r all a h
 kind_sound structs r all (call s f args) h = called_sound structs r all (named_at r f.site.token)
 kind_sound structs r all (spawn s f a) h = record { known = refl; bare = tt }
-kind_sound structs r all (on_value s w a) h = record { known = refl; bare = refl }
-kind_sound structs r all (on_place s w a) h = record { known = refl; bare = refl }
 kind_sound structs r all (cast s t a) h = h.0
 kind_sound structs r all (index s a i) h = element_sound structs (kind_at r a) (kind_sound structs r all a (first_casts (IsSoundType structs) (expressions a) (expressions i) h))
 kind_sound structs r all (field s a w n) h = name_sound structs r all (named_at r n.site.token)
 kind_sound structs r all (unary s o a) h = unary_sound structs o (kind_at r a) (kind_sound structs r all a h)
 kind_sound structs r all (binary s o at a b) h = binary_sound structs (class_of o) (kind_at r a) (kind_at r b)
+kind_sound structs r all _ h = record { known = refl; bare = refl }
 
 -- what is given in a typed program has such a type
 abbrev pub IsGivenSound : Resolution → Giving → Type 0

@@ -2,7 +2,7 @@
 -- shows that the file knows the calls of condition variables.
 use Rattle.std.proofs.{Common.{◌≡◌, ◌⊎◌, inl, inr, ⊎_elim, ℕ, zero, suc, ◌+◌, ◌<◌, Bool, true, false, cond, List, [], ◌∷◌, ◌++◌, length, drop, get_or, Option, Some, None, slice_get, bytes_eq, refl, ap, sym, ◌∙◌, arith}, lemmas.Bool.false≢true}
 use Rattle.std.specs.List.{AllByRecursion}
-use Rattle.sharc_tree.specs.{declared.ctype.Base.Base, declared.ctype.Mode.Mode, declared.ctype.Mode.TheVariants.{Private, Readonly, Locked, Racy, Dynamic}, declared.ctype.Path.Path, declared.ctype.Path.TheVariants.{One, Through}, declared.token.Token.Token, declared.tree.declaration.WrittenType.WrittenType, declared.tree.declaration.Declaration.Declaration, Marks.{Mark, a_name, path_marks, level_marks, levels_marks, base_marks, IsMark, AreMarks}, Placed.{PlacedType, Placed, AllPlaced}, Tree.{Expression, identifier, constant, parentheses, call, spawn, on_value, on_place, cast, index, field, unary, binary, Arguments, no_arguments, argument}}
+use Rattle.sharc_tree.specs.{declared.ctype.Base.Base, declared.ctype.Mode.Mode, declared.ctype.Mode.TheVariants.Locked, declared.ctype.Path.Path, declared.ctype.Path.TheVariants.{One, Through}, declared.token.Token.Token, declared.tree.declaration.WrittenType.WrittenType, declared.tree.declaration.Declaration.Declaration, Marks.{Mark, a_name, path_marks, level_marks, levels_marks, base_marks, IsMark, AreMarks}, Placed.{PlacedType, Placed, AllPlaced}, Tree.{Expression, identifier, constant, parentheses, call, spawn, on_value, on_place, cast, index, field, unary, binary, Arguments, no_arguments, argument}}
 use Rattle.sharc_tree.specs.declared.ctype.Base.TheVariants as base
 use Rattle.sharc_names.specs.{declared.fault.Named.Named, declared.scope.Scope.Scope, declared.types.Role.Role, Kinds.Kind, Names.{Entry, Meaning, StructMeaning, StructTable, look_up, named_of, struct_of, field_of}, Notes.{Note, fault, refers, yields}, Needs.met, Wants.first_wanted, declared.need.Need.TheVariants.{Value, Integer, Indexed}, Types.{is_fine, field_in, name_notes, main_notes, field_notes, first_notes, first_kind, second_in, second_notes, path_notes, mode_notes, modes_notes, struct_note, base_notes, type_notes}}
 use Rattle.sharc_names.specs.declared.fault.Named.TheVariants as named
@@ -36,20 +36,16 @@ not_filed r file token what not_so is = absurd (false≢true (sym not_so ∙ is)
 
 -- a variable, a field or a struct of the program
 abbrev pub is_plain : Named → Bool
-is_plain (named.Struct n) = true
 is_plain (named.Global n) = false
 is_plain (named.Function n) = false
-is_plain (named.Variable x) = true
-is_plain (named.Field f) = true
 is_plain named.Known = false
+is_plain _ = true
 
 pub plainly : (r : Resolution) (file : Scope) (token : ℕ) (what : Named) → is_plain what ≡ true → IsSaid r file token what
 plainly r file token (named.Struct n) plain = ((λ filed. absurd (false≢true filed)), λ known. absurd (other known))
   where
     other : named.Struct n ≡ named.Known → ⊥
     other h = cc
-plainly r file token (named.Global n) plain = absurd (false≢true plain)
-plainly r file token (named.Function n) plain = absurd (false≢true plain)
 plainly r file token (named.Variable x) plain = ((λ filed. absurd (false≢true filed)), λ known. absurd (other known))
   where
     other : named.Variable x ≡ named.Known → ⊥
@@ -58,7 +54,7 @@ plainly r file token (named.Field f) plain = ((λ filed. absurd (false≢true fi
   where
     other : named.Field f ≡ named.Known → ⊥
     other h = cc
-plainly r file token named.Known plain = absurd (false≢true plain)
+plainly r file token _ plain = absurd (false≢true plain)
 
 fault_spelt : (r : Resolution) (file : Scope) (n : Note) → IsFault n → IsSpelt r file n
 fault_spelt r file (fault place code) f = tt
@@ -108,15 +104,11 @@ over_with file names d from over = over_if file names d from (is_here from names
 
 variable_not_filed : (m : Meaning) → is_variable m ≡ true → is_filed (named_of m) ≡ true → ⊥
 variable_not_filed (meaning.variable d) is filed = false≢true filed
-variable_not_filed (meaning.global k g) is filed = false≢true is
-variable_not_filed (meaning.function k f) is filed = false≢true is
-variable_not_filed (meaning.condition c) is filed = false≢true is
+variable_not_filed _ is filed = false≢true is
 
 variable_not_known : (m : Meaning) → is_variable m ≡ true → named_of m ≡ named.Known → ⊥
 variable_not_known (meaning.variable d) is known = cc
-variable_not_known (meaning.global k g) is known = false≢true is
-variable_not_known (meaning.function k f) is known = false≢true is
-variable_not_known (meaning.condition c) is known = false≢true is
+variable_not_known _ is known = false≢true is
 
 -- a name that is found in scope
 found_spelt : (r : Resolution) (file : Scope) (names : List Entry) → IsOver file.names names → (token : ℕ) (text : List ℕ) → text_at r token ≡ text → (e : Entry) → look_up names text ≡ Some e → IsSaid r file token (named_of e.meaning)
@@ -164,12 +156,8 @@ path_spelt r file scope over siblings (Through x token m) marks =
     (second_spelt r file (token + 2) (second_in scope.structs m (first_kind (field_of siblings x) (look_up scope.names x))))
 
 mode_spelt : (r : Resolution) (file scope : Scope) → IsOver file.names scope.names → (siblings : List Declaration) (m : Option Mode) → AreMarks r.program.tokens.list (level_marks m) → AreSpelt r file (mode_notes scope siblings m)
-mode_spelt r file scope over siblings None marks = tt
-mode_spelt r file scope over siblings (Some Private) marks = tt
-mode_spelt r file scope over siblings (Some Readonly) marks = tt
 mode_spelt r file scope over siblings (Some (Locked path)) marks = path_spelt r file scope over siblings path marks
-mode_spelt r file scope over siblings (Some Racy) marks = tt
-mode_spelt r file scope over siblings (Some Dynamic) marks = tt
+mode_spelt r file scope over siblings _ marks = tt
 
 pub front_marks : (all : List Token) (a b : List Mark) → AreMarks all (a ++ b) → AreMarks all a
 front_marks all [] b h = tt
@@ -198,12 +186,8 @@ struct_spelt r file token name (Some meaning.known) at = (((λ filed. absurd (fa
 
 -- the structs in scope are those of the file
 base_spelt : (r : Resolution) (file scope : Scope) → scope.structs ≡ file.structs → (token : ℕ) (b : Base) → AreSpelt r file (base_notes scope.structs token b)
-base_spelt r file scope same token base.Int = tt
-base_spelt r file scope same token base.Char = tt
-base_spelt r file scope same token base.Long = tt
-base_spelt r file scope same token base.Mutex = tt
-base_spelt r file scope same token base.Void = tt
 base_spelt r file scope same token (base.Struct name) = struct_spelt r file token name (struct_of scope.structs name) (ap (λ (t : StructTable). struct_of t name) (sym same))
+base_spelt r file scope same token _ = tt
 
 pub type_spelt : (r : Resolution) (file scope : Scope) → IsOver file.names scope.names → scope.structs ≡ file.structs → (siblings : List Declaration) (where_it_stands : Role) (w : WrittenType) → PlacedType r.program.tokens.list w → AreSpelt r file (type_notes scope siblings where_it_stands w)
 type_spelt r file scope over same siblings where_it_stands w placed =

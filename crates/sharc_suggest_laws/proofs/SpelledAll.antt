@@ -50,9 +50,8 @@ in_first r file names over around (declares l) placed = in_local r file names ov
 in_first r file names over around (does x) placed = in_simple r file names over x placed
 
 first_over : (file names : List Entry) → IsOver file names → (around : Around) (f : First) → IsOver file (behind_first around names f)
-first_over file names over around nothing = over
 first_over file names over around (declares l) = over_with file names l.declaration around.block over
-first_over file names over around (does x) = over
+first_over file names over around _ = over
 
 in_tests : (r : Resolution) (file : Scope) (names : List Entry) → IsOver file.names names → (e : Option Expression) → IfSome e (Placed r.program.tokens.list) → AreSpelt r file (tests_notes (with_names file names) e)
 in_tests r file names over None placed = tt
@@ -69,16 +68,8 @@ in_returned r file names over around word (Some e) placed =
     (behind_faults r file _ _ (joint (IsSpelt r file) _ _ (faults_spelt r file _ (where_faults (same_kind around.result void) word BadForm)) (inside r file names over AsValue e placed)) (unmet_faults Value e (type_of (with_names file names) e))) (unagreed_faults (returned_as around.result) e (met Value (type_of (with_names file names) e)))
 
 after_over : (file names : List Entry) → IsOver file names → (around : Around) (s : Statement) → IsOver file (after around names s)
-after_over file names over around (tree.empty s) = over
-after_over file names over around (tree.block s all) = over
 after_over file names over around (tree.declare s l) = over_with file names l.declaration around.block over
-after_over file names over around (tree.simple s x) = over
-after_over file names over around (tree.jump s j) = over
-after_over file names over around (tree.return s e) = over
-after_over file names over around (tree.if_then s e a) = over
-after_over file names over around (tree.if_then_else s e a b) = over
-after_over file names over around (tree.while s e a) = over
-after_over file names over around (tree.for s h a) = over
+after_over file names over around _ = over
 
 mutual
   in_statement : (r : Resolution) (file : Scope) (names : List Entry) → IsOver file.names names → (around : Around) (s : Statement) → PlacedStatement r.program.tokens.list s → AreSpelt r file (notes_in around (with_names file names) s)
@@ -245,12 +236,9 @@ chosen r file t true w y first later = first refl
 chosen r file t false w y first later = later
 
 field_not_filed : (r : Resolution) (file : List Entry) (t : ℕ) (w : Named) → is_field w ≡ true → IsFiledAs r file t w
-field_not_filed r file t (named.Struct n) f = not_filed r file t (named.Struct n) refl
 field_not_filed r file t (named.Global n) f = absurd (false≢true f)
 field_not_filed r file t (named.Function n) f = absurd (false≢true f)
-field_not_filed r file t (named.Variable y) f = not_filed r file t (named.Variable y) refl
-field_not_filed r file t (named.Field y) f = not_filed r file t (named.Field y) refl
-field_not_filed r file t named.Known f = not_filed r file t named.Known refl
+field_not_filed r file t k f = not_filed r file t k refl
 
 pub seen_spelt : (r : Resolution) (file : Scope) (t : ℕ) (l : List Note) (x : Named) → AreSpelt r file l → IsFiledAs r file.names t x → IsFiledAs r file.names t (seen t l x)
 seen_spelt r file t [] x all is = is

@@ -1,12 +1,12 @@
 -- What an expression that comes before the cast points to, and its type.
 use Rattle.std.proofs.{Common.{◌≡◌, ℕ, ◌+◌, ◌<◌, ◌≤◌, false, cond, ◌++◌, Option, Some, None, refl, ap, ap₂, sym, subst, ◌∙◌, arith}, lemmas.Bool.true≢false}
 use Rattle.std.specs.List.{AllByRecursion}
-use Rattle.sharc_tree.specs.{declared.token.Span.Span, declared.tree.declaration.Declaration.Declaration, Measures.expressions, Placed.Placed, Spans.span_of, Tree.{Expression, identifier, constant, parentheses, call, spawn, on_value, on_place, cast, index, field, unary, binary}}
-use Rattle.sharc_names.specs.{declared.fault.Named.Named, declared.need.Need.Need, declared.need.Need.TheVariants.{Integer, Indexed}, declared.scope.Scope.Scope, Kinds.{Kind, object, array, null, is_array, element_kind}, Names.{Entry, Meaning, look_up, named_of}, Needs.{met, unmet}, Types.{name_notes, field_in, field_kind, field_notes}}
+use Rattle.sharc_tree.specs.{declared.token.Span.Span, declared.tree.declaration.Declaration.Declaration, Measures.expressions, Placed.Placed, Spans.span_of, Tree.{Expression, identifier, constant, parentheses, call, cast, index, field, unary, binary}}
+use Rattle.sharc_names.specs.{declared.fault.Named.Named, declared.need.Need.Need, declared.need.Need.TheVariants.{Integer, Indexed}, declared.scope.Scope.Scope, Kinds.{Kind, is_array, element_kind}, Names.{Entry, Meaning, look_up, named_of}, Needs.{met, unmet}, Types.{name_notes, field_in, field_kind, field_notes}}
 use Rattle.sharc_names.specs.Kinds as kinds
 use Rattle.sharc_names.specs.Names as meaning
 use Rattle.sharc_suggest_laws.specs.{Recast.with_cast, Applied.recast_of, Names.is_dull}
-use Rattle.sharc_ctype.specs.{declared.expr.OperatorClass.OperatorClass, declared.expr.OperatorClass.TheVariants.{Logical, Equality, Relation, Shift, Arithmetic}, declared.expr.Standing.Standing, declared.expr.Standing.TheVariants.AsValue, Expressions.{element_of, access_need, operand_need, unary_result, unary_kind, class_of, operands_need, binary_result, binary_kind, binary_notes, type_of, notes_at}, Resolved.{named_at, named_kind, kind_at}}
+use Rattle.sharc_ctype.specs.{declared.expr.OperatorClass.OperatorClass, declared.expr.OperatorClass.TheVariants.Shift, declared.expr.Standing.Standing, declared.expr.Standing.TheVariants.AsValue, Expressions.{element_of, access_need, operand_need, unary_result, unary_kind, class_of, operands_need, binary_result, binary_kind, binary_notes, type_of, notes_at}, Resolved.{named_at, named_kind, kind_at}}
 use Rattle.sharc_mode.specs.{declared.error.Cast.Cast, Moded.Assignment, Rows.{written, named_row, behind, reading_through, base_use, row_at}}
 use Rattle.sharc_suggest_laws.proofs.{Lefts.{IsTypedIn, is_function, typed_itself}, RowsStay.{Frame, now, many, first_at, IsRowMoved, AreRowsMoved, other_moved, named_kind_same, named_moved, call_moved, call_kind_same, base_same, element_moved, no_rows, unary_moved, constant_moved, element_held, operand_held}, Strong.{IsStrong, AreStrong}}
 use Rattle.sharc_lemmas.proofs.{Options.none_some, Lists.{front, back}}
@@ -20,10 +20,8 @@ pub record IsSpine (m : Assignment) (c : Cast) (frame : Frame m c) (e : Expressi
 
 name_still : (m : Assignment) (c : Cast) (t : ℕ) (mean : Meaning) → named_at m.typed t ≡ named_of mean → (is_dull (named_of mean) ≡ false → named_at (now m c) t ≡ named_of mean) → is_function (named_kind m.typed (named_at m.typed t)) ≡ false
     → named_at (now m c) t ≡ named_at m.typed t
-name_still m c t (meaning.variable d) is still held = still refl ∙ sym is
-name_still m c t (meaning.global n g) is still held = still refl ∙ sym is
-name_still m c t (meaning.function n f) is still held = still refl ∙ sym is
 name_still m c t (meaning.condition k) is still held = absurd (true≢false (ap (λ (v : Named). is_function (named_kind m.typed v)) (sym is) ∙ held))
+name_still m c t _ is still held = still refl ∙ sym is
 
 name_same : (m : Assignment) (c : Cast) (t : ℕ) (o : Option Entry) → AreStrong m.typed (now m c) (name_notes t o) → is_function (named_kind m.typed (named_at m.typed t)) ≡ false → named_at (now m c) t ≡ named_at m.typed t
 name_same m c t None strong held = absurd strong.0
@@ -42,24 +40,18 @@ named_spine m c frame at later v w same also held = (
 )
 
 field_still : (m : Assignment) (c : Cast) (t : ℕ) (o : Option (Option Declaration)) (whole : Kind) → field_kind o ≡ Some whole → AreStrong m.typed (now m c) (field_notes t o) → named_at (now m c) t ≡ named_at m.typed t
-field_still m c t None whole is strong = absurd (none_some whole is)
-field_still m c t (Some None) whole is strong = absurd (none_some whole is)
 field_still m c t (Some (Some d)) whole is strong = strong.0.2 refl ∙ sym strong.0.0
+field_still m c t _ whole is strong = absurd (none_some whole is)
 
 -- ---- operands
 
 part_held : (need : Need) (k : Kind) → met need (Some kinds.function) ≡ None → (other : Option Kind → Option Kind) → ((x : Kind) → other None ≡ Some x → ⊥) → (whole : Kind) → other (met need (Some k)) ≡ Some whole → is_function k ≡ false
-part_held need (object b n) never other none whole is = refl
-part_held need (array b n) never other none whole is = refl
-part_held need null never other none whole is = refl
 part_held need kinds.function never other none whole is = absurd (none whole (ap other (sym never) ∙ is))
+part_held need _ never other none whole is = refl
 
 no_operand : (o : OperatorClass) → met (operands_need o) (Some kinds.function) ≡ None
-no_operand Logical = refl
-no_operand Equality = refl
-no_operand Relation = refl
 no_operand Shift = refl
-no_operand Arithmetic = refl
+no_operand _ = refl
 
 no_second : (o : OperatorClass) (a : Option Kind) (x : Kind) → binary_kind o a None ≡ Some x → ⊥
 no_second o None x is = none_some x is
@@ -86,9 +78,6 @@ spine m c frame σ stands (call s f all) placed low typed strong held = record {
   rows = (None, call_moved m c frame (named_at m.typed f.site.token) (named_at (now m c) f.site.token) (frame.kept f.site.token));
   kind = call_kind_same m c (named_at m.typed f.site.token) (named_at (now m c) f.site.token) (frame.kept f.site.token);
 }
-spine m c frame σ stands (spawn s f a) placed low typed strong held = record { rows = no_rows (first_at m c frame) (many c); kind = refl }
-spine m c frame σ stands (on_value s w a) placed low typed strong held = record { rows = no_rows (first_at m c frame) (many c); kind = refl }
-spine m c frame σ stands (on_place s w a) placed low typed strong held = record { rows = no_rows (first_at m c frame) (many c); kind = refl }
 spine m c frame σ stands (cast s t a) placed low typed strong held =
     let order : s.first.token ≤ s.last.token = placed.0.0.order in
     record {
@@ -146,3 +135,4 @@ spine m c frame σ stands (binary s o at a b) placed low typed strong held =
     let h = spine m c frame σ AsValue a placed.1 (narrower m c s (span_of a) placed.0.1.2 low) first strong_a held_a in
     let k = spine m c frame σ AsValue b placed.2 (narrower m c s (span_of b) order_b low) second strong_b held_b in
     record { rows = no_rows (first_at m c frame) (many c); kind = ap₂ (binary_result (class_of o)) h.kind k.kind }
+spine m c frame σ stands _ placed low typed strong held = record { rows = no_rows (first_at m c frame) (many c); kind = refl }

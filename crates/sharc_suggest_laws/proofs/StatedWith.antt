@@ -127,11 +127,9 @@ in_returned w names scope scoped surroundings word f (Some e) ready typed clean 
 mutual
   in_statement : (w : Setting) (names scope : List Entry) → Scoped w.file.names names scope → (surroundings : Around) (f : ℕ) (s : Statement) → AreReady w (givings_in scope f s)
       → AreTyped w (places_in surroundings (with_names w.file names) s) → Clean (notes_in surroundings (with_names w.file names) s) → Clean (notes_in surroundings (with_names w.file names) (statement_with_cast w.recast s))
-  in_statement w names scope scoped surroundings f (tree.empty s) ready typed clean = clean
   in_statement w names scope scoped surroundings f (tree.block s all) ready typed clean = in_statements w names scope scoped (opened surroundings names) f all ready typed clean
   in_statement w names scope scoped surroundings f (tree.declare s l) ready typed clean = in_local w names scope scoped surroundings l ready typed clean
   in_statement w names scope scoped surroundings f (tree.simple s x) ready typed clean = in_simple_statement w names scope scoped x ready (unplaced w.resolution (with_names w.file names) (in_simple x) typed) clean
-  in_statement w names scope scoped surroundings f (tree.jump s j) ready typed clean = clean
   in_statement w names scope scoped surroundings f (tree.return s e) ready typed clean =
       in_returned w names scope scoped surroundings s.first.token f e ready (unplaced w.resolution (with_names w.file names) (in_option expressions e) typed) clean
   in_statement w names scope scoped surroundings f (tree.if_then s e a) ready typed clean =
@@ -178,6 +176,7 @@ mutual
       (subst (λ (l : List Entry). Clean (notes_in (looping (opened outer l)) (with_names w.file l) (statement_with_cast w.recast a))) (sym same_names)
       (in_statement w inner below (first_scoped w names scope scoped outer h.first (left _ _ (left _ _ head_clean))) body f a (back (IsReady w) (head_givings scope h) (givings_in below f a) ready)
       (back (IsPlacedTyped w) (begins ++ at in_it later) (places_in body in_it a) typed) (right _ _ clean)))
+  in_statement w names scope scoped surroundings f _ ready typed clean = clean
 
   pub in_statements : (w : Setting) (names scope : List Entry) → Scoped w.file.names names scope → (surroundings : Around) (f : ℕ) (all : Statements) → AreReady w (givings_in_all scope f all)
       → AreTyped w (places_in_all surroundings (with_names w.file names) all) → Clean (notes_in_all surroundings (with_names w.file names) all) → Clean (notes_in_all surroundings (with_names w.file names) (statements_with_cast w.recast all))

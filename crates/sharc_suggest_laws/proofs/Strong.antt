@@ -38,16 +38,14 @@ stays r t y _ _ is own (new_fault {old = old} {new = new} more) same = stays r t
 
 -- what a name says of its token, whatever that named before
 abbrev IsFieldAt : List Note → Note → Type 0
-IsFieldAt new (fault place code) = Unit {0}
 IsFieldAt new (refers t v) = is_field v ≡ true → (y : Named) → seen t new y ≡ v
-IsFieldAt new (yields t v) = Unit {0}
+IsFieldAt new _ = Unit {0}
 
 lift : (n m : Note) (new : List Note) → IsFieldAt new n → IsFieldAt (m ∷ new) n
-lift (fault place code) m new h = tt
 lift (refers t v) (fault place code) new h = λ is y. h is y
 lift (refers t v) (refers k w) new h = λ is y. h is (cond (k == t) w y)
 lift (refers t v) (yields k w) new h = λ is y. h is (cond (k == t) (cond (is_free y) w y) y)
-lift (yields t v) m new h = tt
+lift _ m new h = tt
 
 lift_all : (m : Note) (new old : List Note) → AllByRecursion (IsFieldAt new) old → AllByRecursion (IsFieldAt (m ∷ new)) old
 lift_all m new [] h = tt
@@ -57,11 +55,10 @@ abbrev AllOwn : Resolution → List Note → Type 0
 AllOwn r l = (t : ℕ) → AllByRecursion (IsOwnAt t (named_at r t)) l
 
 here : (r : Resolution) (n : Note) (old new : List Note) → AllOwn r (n ∷ old) → Noted r old new → IsFieldAt (n ∷ new) n
-here r (fault place code) old new own more = tt
 here r (refers t v) old new own more = λ is y.
     let same : v ≡ named_at r t = (own t).0 refl in
     stays r t (cond (t == t) v y) old new (ap is_field (sym same) ∙ is) (own t).1 more (ap (λ (b : Bool). cond b v y) (eq-eqb t t refl) ∙ same) ∙ sym same
-here r (yields t v) old new own more = tt
+here r _ old new own more = tt
 
 fields_at : (r : Resolution) (old new : List Note) → AllOwn r old → Noted r old new → AllByRecursion (IsFieldAt new) old
 fields_at r _ _ own done = tt

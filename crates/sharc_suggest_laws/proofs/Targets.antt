@@ -1,17 +1,17 @@
 -- The targets of an expression of a typed program: as many as its type has stars, positions of one type that is written
 -- in the program, whose lock paths are read by a use of it.
 use Rattle.std.proofs.{Common.{◌≡◌, ◌⊎◌, inl, inr, ⊎_elim, ℕ, zero, suc, ◌+◌, ◌-◌, ◌≤◌, ◌==◌, Bool, true, false, cond, List, [], ◌∷◌, ◌++◌, length, find, Contains, Option, Some, None, refl, ap, sym, subst, ◌∙◌, arith, eqb-true}, lemmas.Bool.false≢true, lemmas.List.length-drop}
-use Rattle.sharc_tree.specs.{declared.ctype.Base.Base, declared.token.NumberType.NumberType, declared.token.Span.Span, declared.tree.declaration.Declaration.Declaration, declared.tree.declaration.Identifier.Identifier, declared.tree.declaration.WrittenType.WrittenType, declared.tree.expression.FieldOperator.FieldOperator, declared.tree.expression.FieldOperator.TheVariants.{Dot, Arrow}, declared.tree.expression.Constant.Constant, declared.tree.expression.Constant.TheVariants.{Number, Character, Null}, declared.tree.expression.UnaryOperator.TheVariants.{Negate, Not, Complement, Dereference}, declared.tree.item.GlobalDefinition.GlobalDefinition, declared.tree.item.GlobalForm.GlobalForm, declared.tree.item.GlobalForm.TheVariants.{Plain, Array, Initial}, declared.tree.item.StructDefinition.StructDefinition, Measures.expressions, Tree.{Expression, identifier, constant, parentheses, call, spawn, on_value, on_place, cast, index, field, unary, binary, Function}}
+use Rattle.sharc_tree.specs.{declared.ctype.Base.Base, declared.token.NumberType.NumberType, declared.token.Span.Span, declared.tree.declaration.Declaration.Declaration, declared.tree.declaration.Identifier.Identifier, declared.tree.declaration.WrittenType.WrittenType, declared.tree.expression.FieldOperator.FieldOperator, declared.tree.expression.FieldOperator.TheVariants.{Dot, Arrow}, declared.tree.expression.Constant.Constant, declared.tree.expression.Constant.TheVariants.{Number, Character, Null}, declared.tree.expression.UnaryOperator.TheVariants.{Negate, Complement, Dereference}, declared.tree.item.GlobalDefinition.GlobalDefinition, declared.tree.item.GlobalForm.GlobalForm, declared.tree.item.GlobalForm.TheVariants.Array, declared.tree.item.StructDefinition.StructDefinition, Measures.expressions, Tree.{Expression, identifier, constant, parentheses, call, cast, index, field, unary, binary, Function}}
 use Rattle.sharc_tree.specs.declared.ctype.Base.TheVariants as base
 use Rattle.sharc_tree.specs.declared.token.NumberType.TheVariants as width
 use Rattle.sharc_names.specs.{declared.fault.Named.Named, declared.types.Role.Role, Kinds.{Kind, object, array, null, is_array, is_long, declared_kind, element_kind, stars_of, int, long}, Names.{field_of, global_kind}}
 use Rattle.sharc_names.specs.declared.fault.Named.TheVariants as named
 use Rattle.sharc_names.specs.declared.types.Role.TheVariants as role
 use Rattle.sharc_names.specs.Kinds as kinds
-use Rattle.sharc_ctype.specs.{declared.entity.Entity.Entity, declared.entity.Numbered.Numbered, declared.expr.OperatorClass.OperatorClass, declared.expr.OperatorClass.TheVariants.{Logical, Equality, Relation, Shift, Arithmetic}, Entities.{declared, cast_entity, entities_in, entity_at, first_depth, is_told_by, numbered, positions_of, result_of, written_modes}, Expressions.{number_kind, constant_kind, class_of, binary_result}, Resolved.{Resolution, structs_in, declaration_at, global_at, function_at, named_at, named_kind, variable_kind, global_kind_of, result_kind_of, called_kind, kind_at}}
+use Rattle.sharc_ctype.specs.{declared.entity.Entity.Entity, declared.entity.Numbered.Numbered, declared.expr.OperatorClass.OperatorClass, declared.expr.OperatorClass.TheVariants.{Shift, Arithmetic}, Entities.{declared, cast_entity, entities_in, entity_at, first_depth, is_told_by, numbered, positions_of, result_of, written_modes}, Expressions.{number_kind, constant_kind, class_of, binary_result}, Resolved.{Resolution, structs_in, declaration_at, global_at, function_at, named_at, named_kind, variable_kind, global_kind_of, result_kind_of, called_kind, kind_at}}
 use Rattle.sharc_ctype_laws.specs.{Constraints.{HasType, a_field, a_field_behind, pointed_to, struct_named}, Found.IsFound, WrittenTypes.IsNamedType}
 use Rattle.sharc_mode.specs.Rows.{PathReading, written, through, at_call, Targets, no_row, deeper, targets_from, entity_row, declared_row, global_row, named_row, result_row, called_row, behind, constant_row, reading_through, row_at, base_use, constant_use, is_constant_named}
-use Rattle.sharc_suggest_laws.proofs.{Given.AreKnown, Holders.is_global, Leads.{ArgumentsFit, IsVariableAt, Leads}, Siblings.HasSiblings}
+use Rattle.sharc_suggest_laws.proofs.{Given.AreKnown, Holders.is_global, Leads.{ArgumentsFit, IsVariableAt, Leads}, Siblings.HasSiblings, Positions.{some_here as one_number, no_more as no_number}}
 use Rattle.sharc_lemmas.proofs.Lists.{contains_behind, head_there}
 
 -- ---- where targets are, and how their lock paths are read
@@ -41,12 +41,11 @@ pub record IsRow (r : Resolution) (n : ℕ) (row : Targets) : Type 0 where
   pub from : (n ≡ 0) ⊎ IsOf r row
 
 abbrev pub IsRowOf : Resolution → Kind → Option Targets → Type 0
-IsRowOf r (object b n) None = ⊥
 IsRowOf r (object b n) (Some row) = IsRow r n row
-IsRowOf r (array b n) None = ⊥
 IsRowOf r (array b n) (Some row) = IsRow r n row
 IsRowOf r null row = Unit {0}
 IsRowOf r kinds.function row = Unit {0}
+IsRowOf r _ None = ⊥
 
 no_targets : (r : Resolution) → IsRow r 0 no_row
 no_targets r = record { count = refl; from = inl refl }
@@ -55,35 +54,19 @@ no_targets r = record { count = refl; from = inl refl }
 
 found_contained : (test : Numbered → Bool) (l : List Numbered) (n : Numbered) → find test l ≡ Some n → Contains l n
 found_contained test [] n is = absurd (no_number n is)
-  where
-    no_number : (n : Numbered) → None ≡ Some n → ⊥
-    no_number n h = cc
 found_contained test (x ∷ rest) n is = by (test x) is (found_contained test rest n)
   where
-    one_number : (a b : Numbered) → Some a ≡ Some b → a ≡ b
-    one_number a b h = cc
-
     by : (b : Bool) → cond b (Some x) (find test rest) ≡ Some n → (find test rest ≡ Some n → Contains rest n) → Contains (x ∷ rest) n
     by true at more = subst (Contains (x ∷ rest)) (one_number x n at) (head_there x rest)
     by false at more = contains_behind x rest n (more at)
 
 other_depth : (what : Role) → is_global what ≡ false → first_depth what ≡ 1
-other_depth role.Field is = refl
 other_depth role.Global is = absurd (false≢true (sym is))
-other_depth role.Local is = refl
-other_depth role.Parameter is = refl
-other_depth role.Result is = refl
-other_depth role.Cast is = refl
-other_depth role.Made is = refl
+other_depth _ is = refl
 
 other_targets : (what : Role) (row : Targets) → is_global what ≡ false → targets_from what row ≡ row
-other_targets role.Field row is = refl
 other_targets role.Global row is = absurd (false≢true (sym is))
-other_targets role.Local row is = refl
-other_targets role.Parameter row is = refl
-other_targets role.Result row is = refl
-other_targets role.Cast row is = refl
-other_targets role.Made row is = refl
+other_targets _ row is = refl
 
 abbrev whole_row : PathReading → Numbered → Targets
 whole_row how n = record { first = n.first; count = positions_of n.entity; reading = how }
@@ -190,9 +173,8 @@ variable_row r known token (Some d) is =
     subst (λ (t : ℕ). IsRow r (stars_of d.written) (declared_row r written t)) found.2 (own_row r (declared found.0 d) found.1 found.3 written tt)
 
 by_form : (r : Resolution) (f : GlobalForm) (b : Base) (n : ℕ) (row : Targets) → IsRow r n row → IsRowOf r (global_kind f (object b n)) (Some row)
-by_form r Plain b n row is = is
 by_form r (Array at k) b n row is = is
-by_form r (Initial at minus c) b n row is = is
+by_form r _ b n row is = is
 
 global_row_of : (r : Resolution) → IsKnownProgram r → (n : ℕ) (o : Option GlobalDefinition) → global_at r n ≡ o → IsRowOf r (global_kind_of o) (Some (global_row r written o))
 global_row_of r known n None is = tt
@@ -201,24 +183,20 @@ global_row_of r known n (Some g) is =
     by_form r g.form w.ctype.base (stars_of w) (global_row r written (Some g)) (global_targets r (declared role.Global g.declaration) refl (known.globals n g is))
 
 name_row : (r : Resolution) → IsKnownProgram r → (v : Named) → IsRowOf r (named_kind r v) (Some (named_row r written v))
-name_row r known (named.Struct n) = tt
 name_row r known (named.Global n) = global_row_of r known n (global_at r n) refl
-name_row r known (named.Function n) = tt
 name_row r known (named.Variable token) = variable_row r known token (declaration_at r token) refl
 name_row r known (named.Field token) = variable_row r known token (declaration_at r token) refl
-name_row r known named.Known = tt
+name_row r known _ = tt
 
 result_row_of : (r : Resolution) → IsKnownProgram r → (n : ℕ) (o : Option Function) → function_at r n ≡ o → IsRowOf r (result_kind_of o) (Some (result_row r o))
 result_row_of r known n None is = no_targets r
 result_row_of r known n (Some f) is = own_row r (result_of f) refl (known.results n f is) written tt
 
 call_row : (r : Resolution) → IsKnownProgram r → (v : Named) → IsRowOf r (called_kind r v) (Some (called_row r v))
-call_row r known (named.Struct n) = no_targets r
-call_row r known (named.Global n) = no_targets r
 call_row r known (named.Function n) = result_row_of r known n (function_at r n) refl
 call_row r known (named.Variable token) = no_targets r
 call_row r known (named.Field token) = no_targets r
-call_row r known named.Known = no_targets r
+call_row r known _ = no_targets r
 
 either_row : (r : Resolution) (b : Bool) → IsRowOf r (cond b long int) (Some no_row)
 either_row r true = no_targets r
@@ -234,20 +212,17 @@ constant_row_of r (Character byte) = no_targets r
 constant_row_of r Null = tt
 
 binary_row : (r : Resolution) (o : OperatorClass) (j k : Kind) → IsRowOf r (binary_result o j k) (Some no_row)
-binary_row r Logical j k = no_targets r
-binary_row r Equality j k = no_targets r
-binary_row r Relation j k = no_targets r
 binary_row r Shift j k = either_row r (is_long j)
 binary_row r Arithmetic j k = either_row r _
+binary_row r _ j k = no_targets r
 
 -- an element
 element_row : (r : Resolution) (k : Kind) (o : Option Targets) → IsRowOf r k o → IsRowOf r (element_kind k) (cond (is_array k) o (behind o))
-element_row r (object b n) None h = absurd h
 element_row r (object b n) (Some row) h = deeper_row r n row h
-element_row r (array b n) None h = absurd h
 element_row r (array b n) (Some row) h = h
 element_row r null o h = tt
 element_row r kinds.function o h = tt
+element_row r _ None h = absurd h
 
 -- what an array leads to is written as an element
 no_array : (b : Base) (n : ℕ) (c : Base) (k : ℕ) → array b n ≡ object c k → ⊥
@@ -257,8 +232,7 @@ pointed_row : (r : Resolution) (k : Kind) (o : Option Targets) → ((b : Base) (
 pointed_row r (object b n) None other h = absurd h
 pointed_row r (object b n) (Some row) other h = deeper_row r n row h
 pointed_row r (array b n) o other h = absurd (other b n refl)
-pointed_row r null o other h = tt
-pointed_row r kinds.function o other h = tt
+pointed_row r _ o other h = tt
 
 never_array : (r : Resolution) → IsKnownProgram r → (s : Span) (a : Expression) (k : Kind) → HasType r (unary s Dereference a) k → (b : Base) (n : ℕ) → kind_at r a ≡ array b n → ⊥
 never_array r known s a _ (pointed_to {b = c} {n = m} typed) b n is = no_array b n c (m + 1) (sym is ∙ known.one a (object c (m + 1)) typed)
@@ -271,12 +245,8 @@ IsUse r fields None = Unit {0}
 IsUse r fields (Some at) = IsVariableAt r at × ((m : List ℕ) (f : Declaration) → field_of fields m ≡ Some f → Leads r (named_at r at) m)
 
 constant_variable : (r : Resolution) (v : Named) → is_constant_named r v ≡ true → (x : ℕ) × (v ≡ named.Variable x)
-constant_variable r (named.Struct n) is = absurd (false≢true is)
-constant_variable r (named.Global n) is = absurd (false≢true is)
-constant_variable r (named.Function n) is = absurd (false≢true is)
 constant_variable r (named.Variable x) is = (x, refl)
-constant_variable r (named.Field f) is = absurd (false≢true is)
-constant_variable r named.Known is = absurd (false≢true is)
+constant_variable r _ is = absurd (false≢true is)
 
 use_by : (r : Resolution) (fields : List Declaration) (i : Identifier) (b : Bool) → is_constant_named r (named_at r i.site.token) ≡ b → ((m : List ℕ) (f : Declaration) → field_of fields m ≡ Some f → Leads r (named_at r i.site.token) m)
     → IsUse r fields (cond b (Some i.site.token) None)
@@ -285,17 +255,7 @@ use_by r fields i false is leads = tt
 
 arrow_use : (r : Resolution) (struct : List ℕ) (s : StructDefinition) → struct_named (structs_in r.program.items) struct ≡ Some s → (a : Expression) → kind_at r a ≡ object (base.Struct struct) 1 → IsUse r s.fields (constant_use r a)
 arrow_use r struct s named_so (identifier t i) kind = use_by r s.fields i (is_constant_named r (named_at r i.site.token)) refl (λ m f has. (struct, f, kind, (s, named_so, has)))
-arrow_use r struct s named_so (constant t c) kind = tt
-arrow_use r struct s named_so (parentheses t a) kind = tt
-arrow_use r struct s named_so (call t f all) kind = tt
-arrow_use r struct s named_so (spawn t f a) kind = tt
-arrow_use r struct s named_so (on_value t w a) kind = tt
-arrow_use r struct s named_so (on_place t w a) kind = tt
-arrow_use r struct s named_so (cast t w a) kind = tt
-arrow_use r struct s named_so (index t a i) kind = tt
-arrow_use r struct s named_so (field t a w n) kind = tt
-arrow_use r struct s named_so (unary t o a) kind = tt
-arrow_use r struct s named_so (binary t o at a b) kind = tt
+arrow_use r struct s named_so _ kind = tt
 
 use_reading : (r : Resolution) (d : Declaration) (fields : List Declaration) → HasSiblings r fields d → (o : Option ℕ) → IsUse r fields o → IsReading r (declared role.Field d) (reading_through o)
 use_reading r d fields siblings None used = tt
@@ -320,9 +280,6 @@ targets_of r known (identifier s i) h = name_row r known (named_at r i.site.toke
 targets_of r known (constant s c) h = constant_row_of r c
 targets_of r known (parentheses s a) h = targets_of r known a h.1
 targets_of r known (call s f all) h = call_row r known (named_at r f.site.token)
-targets_of r known (spawn s f a) h = no_targets r
-targets_of r known (on_value s w a) h = no_targets r
-targets_of r known (on_place s w a) h = no_targets r
 targets_of r known (cast s t a) h = own_row r (cast_entity s t) refl h.0.1 written tt
 targets_of r known (index s a i) h = element_row r (kind_at r a) (row_at r a) (targets_of r known a (front_known r (expressions a) (expressions i) h.1))
   where
@@ -331,7 +288,7 @@ targets_of r known (index s a i) h = element_row r (kind_at r a) (row_at r a) (t
     front_known r (e ∷ x) y all = (all.0, front_known r x y all.1)
 targets_of r known (field s a w n) h = field_row r known s a w n (kind_at r (field s a w n)) h.0.0
 targets_of r known (unary s Negate a) h = either_row r (is_long (kind_at r a))
-targets_of r known (unary s Not a) h = no_targets r
 targets_of r known (unary s Complement a) h = either_row r (is_long (kind_at r a))
 targets_of r known (unary s Dereference a) h = pointed_row r (kind_at r a) (row_at r a) (never_array r known s a (kind_at r (unary s Dereference a)) h.0.0) (targets_of r known a h.1)
 targets_of r known (binary s o at a b) h = binary_row r (class_of o) (kind_at r a) (kind_at r b)
+targets_of r known _ h = no_targets r

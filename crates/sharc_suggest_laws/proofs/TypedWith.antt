@@ -1,14 +1,14 @@
 -- An expression with a cast written in it has no fault where it had none, and the type that it had.
 use Rattle.std.proofs.{Common.{◌≡◌, ◌⊎◌, inl, inr, ℕ, ◌==◌, Bool, true, false, not, ◌&&◌, ◌||◌, cond, List, [], ◌∷◌, ◌++◌, zero, suc, drop, Option, Some, None, refl, ap, ap₂, sym, subst, ◌∙◌, eq-eqb}, lemmas.Bool.false≢true, lemmas.Slice.Eq.bytes_eq-Decides}
 use Rattle.std.specs.List.{AllByRecursion}
-use Rattle.sharc_tree.specs.{declared.ctype.Base.Base, declared.token.Span.Span, declared.tree.declaration.WrittenType.WrittenType, declared.tree.declaration.Declaration.Declaration, Forms.{without_parentheses, is_lvalue}, Measures.{expressions, in_arguments}, Spans.span_of, Tree.{Expression, identifier, constant, parentheses, call, spawn, on_value, on_place, cast, index, field, unary, binary, Arguments, no_arguments, argument}}
+use Rattle.sharc_tree.specs.{declared.ctype.Base.Base, declared.token.Span.Span, declared.tree.declaration.WrittenType.WrittenType, declared.tree.declaration.Declaration.Declaration, Forms.{without_parentheses, is_lvalue}, Measures.{expressions, in_arguments}, Spans.span_of, Tree.{Expression, identifier, parentheses, call, spawn, on_value, on_place, cast, index, field, unary, binary, Arguments, no_arguments, argument}}
 use Rattle.sharc_tree.specs.declared.ctype.Base.TheVariants as base
-use Rattle.sharc_names.specs.{declared.fault.FaultCode.TheVariants.{TypeMismatch, NoLvalue, BadForm}, declared.need.Need.Need, declared.need.Need.TheVariants.{Value, Integer, Indexed}, declared.scope.Scope.Scope, Kinds.{Kind, object, array, null, is_pointer, same_base, same_kind, declared_kind}, Names.{Entry, Meaning, look_up, is_function, is_main, kind_of, parameters_of}, Needs.{place, called, fits, met, unmet, misfit, misfit_of, mismatch, used_call, agreed, unagreed}, Notes.{fault, fault_unless}, Types.{name_kind, main_notes, field_in, field_kind, field_notes, type_notes, is_fine}, Wants.first_wanted}
+use Rattle.sharc_names.specs.{declared.fault.FaultCode.TheVariants.{TypeMismatch, NoLvalue, BadForm}, declared.need.Need.Need, declared.need.Need.TheVariants.{Value, Integer, Indexed}, declared.scope.Scope.Scope, Kinds.{Kind, object, is_pointer, same_base, same_kind, declared_kind}, Names.{Entry, Meaning, look_up, is_function, is_main, kind_of, parameters_of}, Needs.{place, called, fits, met, unmet, misfit, misfit_of, mismatch, used_call, agreed, unagreed}, Notes.{fault, fault_unless}, Types.{name_kind, main_notes, field_in, field_kind, field_notes, type_notes, is_fine}, Wants.first_wanted}
 use Rattle.sharc_names.specs.declared.types.Role.TheVariants as role
 use Rattle.sharc_names.specs.Kinds as kinds
 use Rattle.sharc_names.specs.Names as meaning
 use Rattle.sharc_ctype.specs.{declared.expr.Standing.Standing, declared.expr.Standing.TheVariants.{AsValue, AsLvalue}, declared.expr.OperatorClass.OperatorClass, Expressions.{element_of, access_need, operand_need, unary_kind, class_of, operands_need, binary_kind, binary_notes, may_join, names_function, is_function_name, is_place, place_kind, place_notes, place_call_notes, value_call_kind, place_call_kind, keeps_kind, cast_kind, cast_notes, count, count_notes, callee_notes, wanted, call_result, call_kind, may_spawn, spawn_wanted, spawn_kind, type_of, are_fine, notes_at, notes_of_all}, Resolved.kind_at, Statements.with_names}
-use Rattle.sharc_suggest_laws.specs.{declared.written.Recast.Recast, Recast.{type_at, is_there, around, with_cast, all_with_cast}}
+use Rattle.sharc_suggest_laws.specs.{Recast.{type_at, is_there, around, with_cast, all_with_cast}}
 use Rattle.sharc_suggest.specs.Givings.{Receiver, of_parameter, Giving, one_giving, givings, all_givings, value_givings}
 use Rattle.sharc_suggest_laws.proofs.{Grown.span_same, Lefts.{IsTypedIn, typed_itself}, Noted.{Clean, left, right, no_fault, behind_head, none, joined, unless, moved, referring}, Retyped.{Setting, cast_fine, count_same, fine_both, place_same}, Scoped.Scoped}
 use Rattle.sharc_lemmas.proofs.Lists.{front, back}
@@ -45,12 +45,8 @@ used_clean None (Some x) (inr gone) h = absurd (some_none x gone)
 used_clean (Some y) (Some x) q h = absurd (no_fault _ _ _ h)
 
 base_clean : (b : Base) (e new : Expression) → IsQuieter e new → Clean (misfit_of b e) → Clean (misfit_of b new)
-base_clean base.Int e new q h = absurd (no_fault _ _ _ h)
-base_clean base.Char e new q h = absurd (no_fault _ _ _ h)
-base_clean base.Long e new q h = absurd (no_fault _ _ _ h)
-base_clean base.Mutex e new q h = absurd (no_fault _ _ _ h)
 base_clean base.Void e new q h = used_clean (called e) (called new) q h
-base_clean (base.Struct name) e new q h = absurd (no_fault _ _ _ h)
+base_clean _ e new q h = absurd (no_fault _ _ _ h)
 
 object_clean : (b : Base) (z : Bool) (e new : Expression) → IsQuieter e new → Clean (cond z (misfit_of b e) (mismatch e)) → Clean (cond z (misfit_of b new) (mismatch new))
 object_clean b true e new q h = base_clean b e new q h
@@ -58,9 +54,7 @@ object_clean b false e new q h = absurd (no_fault _ _ _ h)
 
 misfit_clean : (k : Kind) (e new : Expression) → IsQuieter e new → Clean (misfit k e) → Clean (misfit k new)
 misfit_clean (object b stars) e new q h = object_clean b (stars == 0) e new q h
-misfit_clean (array b stars) e new q h = absurd (no_fault _ _ _ h)
-misfit_clean null e new q h = absurd (no_fault _ _ _ h)
-misfit_clean kinds.function e new q h = absurd (no_fault _ _ _ h)
+misfit_clean _ e new q h = absurd (no_fault _ _ _ h)
 
 fit_clean : (b : Bool) (k : Kind) (e new : Expression) → IsQuieter e new → Clean (cond b [] (misfit k e)) → Clean (cond b [] (misfit k new))
 fit_clean true k e new q h = none
@@ -102,18 +96,9 @@ callee_left token n (Some e) h =
 
 -- what has no fault as a value has none as a place
 as_left : (σ : Scope) (e : Expression) → Clean (notes_at AsValue σ e) → Clean (notes_at AsLvalue σ e)
-as_left σ (identifier s i) h = h
-as_left σ (constant s k) h = h
 as_left σ (parentheses s a) h = as_left σ a h
 as_left σ (call s f all) h = joined _ _ (callee_left f.site.token (count all) (look_up σ.names f.text) (left _ _ h)) (right _ _ h)
-as_left σ (spawn s f a) h = h
-as_left σ (on_value s w a) h = h
-as_left σ (on_place s w a) h = h
-as_left σ (cast s t a) h = h
-as_left σ (index s a i) h = h
-as_left σ (field s a w n) h = h
-as_left σ (unary s o a) h = h
-as_left σ (binary s o at a b) h = h
+as_left σ _ h = h
 
 -- a pointer is no name of a function
 
@@ -128,10 +113,9 @@ of_function false k is pointer = false≢true (ap is_pointer (same_some kinds.fu
     same_some i j h = cc
 
 meant : (m : Meaning) (k : Kind) → cond (is_main m) None (Some (kind_of m)) ≡ Some k → is_pointer k ≡ true → is_function m ≡ false
-meant (meaning.variable d) k is pointer = refl
-meant (meaning.global n g) k is pointer = refl
 meant (meaning.function n f) k is pointer = absurd (of_function (is_main (meaning.function n f)) k is pointer)
 meant (meaning.condition c) k is pointer = absurd (of_function false k is pointer)
+meant _ k is pointer = refl
 
 name_meant : (o : Option Entry) (k : Kind) → name_kind o ≡ Some k → is_pointer k ≡ true → is_function_name o ≡ false
 name_meant None k is pointer = refl
@@ -139,33 +123,18 @@ name_meant (Some x) k is pointer = meant x.meaning k is pointer
 
 no_function : (σ : Scope) (e : Expression) (k : Kind) → type_of σ e ≡ Some k → is_pointer k ≡ true → names_function σ.names (without_parentheses e) ≡ false
 no_function σ (identifier s i) k is pointer = name_meant (look_up σ.names i.text) k is pointer
-no_function σ (constant s c) k is pointer = refl
 no_function σ (parentheses s a) k is pointer = no_function σ a k is pointer
-no_function σ (call s f all) k is pointer = refl
-no_function σ (spawn s f a) k is pointer = refl
-no_function σ (on_value s w a) k is pointer = refl
-no_function σ (on_place s w a) k is pointer = refl
-no_function σ (cast s t a) k is pointer = refl
-no_function σ (index s a i) k is pointer = refl
-no_function σ (field s a w n) k is pointer = refl
-no_function σ (unary s o a) k is pointer = refl
-no_function σ (binary s o at a b) k is pointer = refl
+no_function σ _ k is pointer = refl
 
 -- a cast of a pointer to its own type
 
 base_itself : (b : Base) → same_base b b ≡ true
-base_itself base.Int = refl
-base_itself base.Char = refl
-base_itself base.Long = refl
-base_itself base.Mutex = refl
-base_itself base.Void = refl
 base_itself (base.Struct name) = (bytes_eq-Decides name name).1 refl
+base_itself _ = refl
 
 kind_itself : (k : Kind) → is_pointer k ≡ true → same_kind k k ≡ true
 kind_itself (object b n) pointer = ap₂ (λ (x y : Bool). x && y) (base_itself b) (eq-eqb n n refl)
-kind_itself (array b n) pointer = absurd (false≢true pointer)
-kind_itself null pointer = absurd (false≢true pointer)
-kind_itself kinds.function pointer = absurd (false≢true pointer)
+kind_itself _ pointer = absurd (false≢true pointer)
 
 keeps_itself : (t : WrittenType) → is_pointer (declared_kind t) ≡ true → cast_kind true t (Some (declared_kind t)) ≡ Some (declared_kind t)
 keeps_itself t pointer = ap₂ (λ (x y : Bool). cond (x && y) (Some (declared_kind t)) None) pointer (kind_itself (declared_kind t) pointer)
@@ -207,20 +176,6 @@ value_by w names scope scoped r e ready known h true is_so =
 
 -- ---- in each production
 
-called_same : (c : Recast) (e : Expression) → called (with_cast c e) ≡ called e
-called_same c (identifier s i) = refl
-called_same c (constant s k) = refl
-called_same c (parentheses s a) = called_same c a
-called_same c (call s f all) = refl
-called_same c (spawn s f a) = refl
-called_same c (on_value s w a) = refl
-called_same c (on_place s w a) = refl
-called_same c (cast s t a) = refl
-called_same c (index s a i) = refl
-called_same c (field s a w n) = refl
-called_same c (unary s o a) = refl
-called_same c (binary s o at a b) = refl
-
 -- of arguments that are given to parameters of these kinds
 record AreWell (w : Setting) (names : List Entry) (wanting : List Kind) (all : Arguments) : Type 0 where
   fine : are_fine (with_names w.file names) wanting (all_with_cast w.recast all) ≡ are_fine (with_names w.file names) wanting all
@@ -248,8 +203,6 @@ binary_moved o e new (Some a) (Some b) h = moved (may_join o a b) (may_join o a 
 mutual
   pub inside : (w : Setting) (names scope : List Entry) → Scoped w.file.names names scope → (stands : Standing) (e : Expression) → AreReady w (givings scope e) → AreTypedIn w names (expressions e)
       → Clean (notes_at stands (with_names w.file names) e) → IsWell w names stands e (with_cast w.recast e)
-  inside w names scope scoped stands (identifier s i) ready typed clean = record { typed = refl; clean = clean; quieter = inl refl }
-  inside w names scope scoped stands (constant s k) ready typed clean = record { typed = refl; clean = clean; quieter = inl refl }
   inside w names scope scoped stands (parentheses s a) ready typed clean =
       let h = inside w names scope scoped stands a ready typed.1 clean in
       record { typed = h.typed; clean = h.clean; quieter = h.quieter }
@@ -346,6 +299,7 @@ mutual
             (subst (λ (y : Option Kind). Clean (binary_notes (class_of o) b (met need (type_of (with_names w.file names) a)) (met need y))) (sym k.typed) (right _ _ clean))));
         quieter = inl refl;
       }
+  inside w names scope scoped stands _ ready typed clean = record { typed = refl; clean = clean; quieter = inl refl }
 
   inside_all : (w : Setting) (names scope : List Entry) → Scoped w.file.names names scope → (f : ℕ) (all : Arguments) (k : ℕ) (rest : Arguments) → AreReady w (all_givings scope f all k rest) → AreTypedIn w names (in_arguments rest)
       → (wanting : List Kind) → Clean (notes_of_all (with_names w.file names) wanting rest) → AreWell w names wanting rest

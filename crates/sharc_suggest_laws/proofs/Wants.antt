@@ -1,14 +1,14 @@
 -- What is expected at the cast is what was expected.
 use Rattle.std.proofs.{Common.{◌≡◌, ◌⊎◌, inl, inr, ℕ, zero, suc, ◌≤◌, ◌==◌, Bool, true, false, not, ◌&&◌, ◌||◌, cond, List, [], ◌∷◌, map, length, take, drop, Option, Some, None, option_map, is_some, is_none, slice_get, refl, ap, ap₂, sym, subst, ◌∙◌, eq-eqb}, lemmas.Bool.{false≢true, and_parts}}
 use Rattle.std.specs.List.{AllByRecursion, flat_map}
-use Rattle.sharc_tree.specs.{declared.ctype.Mode.Mode, declared.tree.declaration.Declaration.Declaration, Forms.without_parentheses, Tree.{Expression, identifier, constant, parentheses, call, spawn, on_value, on_place, cast, index, field, unary, binary, Arguments, no_arguments, argument, Function}, Spans.span_of}
+use Rattle.sharc_tree.specs.{declared.ctype.Mode.Mode, declared.tree.declaration.Declaration.Declaration, Forms.without_parentheses, Tree.{Expression, identifier, cast, Arguments, no_arguments, argument, Function}, Spans.span_of}
 use Rattle.sharc_names.specs.{declared.fault.Named.Named, Names.{Entry, look_up}}
 use Rattle.sharc_names.specs.declared.fault.Named.TheVariants as named
 use Rattle.sharc_suggest_laws.specs.{declared.written.Recast.Recast, Recast.{is_there, around, with_cast, all_with_cast, function_with_cast, type_at}, Applied.{recast_of, targets, inserted, assignment_with}, Names.{is_dull, KeepsName}}
 use Rattle.sharc_ctype.specs.{Resolved.{Resolution, named_at, function_at, functions_in}, Transfers.{parameters_of, parameters_named}}
-use Rattle.sharc_mode.specs.{declared.error.Cast.Cast, declared.finding.Finding.Finding, declared.finding.Finding.TheVariants.Names, Expressions.expected, Moded.Assignment, Notes.{is_named, names_of, names_in, names_in_all, names_read, parameter_names, taken_variable}, Rows.{PathReading, at_call, Targets, is_constant_named, constant_use, argument_use, lock_through, with_base, lock_for, read_lock, read, reading_through, declared_row, modes_of}, Sharings.{Lock, Sharing, private, readonly, locked, racy, dynamic, sharing_of, is_field, variable_named, object_named, text_at}}
+use Rattle.sharc_mode.specs.{declared.error.Cast.Cast, declared.finding.Finding.Finding, declared.finding.Finding.TheVariants.Names, Expressions.expected, Moded.Assignment, Notes.{is_named, names_of, names_in, names_in_all, names_read, parameter_names, taken_variable}, Rows.{PathReading, at_call, Targets, is_constant_named, constant_use, argument_use, lock_through, with_base, lock_for, read_lock, read, reading_through, declared_row, modes_of}, Sharings.{Lock, Sharing, locked, sharing_of, is_field, variable_named, object_named, text_at}}
 use Rattle.sharc_suggest.specs.{Repairs.{is_free, is_call_at, keeps_named, keeps, keeps_all}, Givings.beyond}
-use Rattle.sharc_suggest_laws.proofs.{Arguments.{nth, args_met, one_nth}, CallNames.{named_left, named_right}, Grown.span_same, Rows.{IsShifted, same_stretch}, RowsStay.{Frame, now, many, first_at, IsRowMoved, AreRowsMoved, IsClearOf, clear_moved, functions_same, use_same}, Stands.first_is}
+use Rattle.sharc_suggest_laws.proofs.{Arguments.{nth, args_met, one_nth}, CallNames.{named_left, named_right}, Grown.span_same, Rows.{IsShifted, same_stretch}, RowsStay.{Frame, now, many, first_at, IsRowMoved, AreRowsMoved, IsClearOf, clear_moved, functions_same, use_same}, Stands.first_is, Expects.{no_modes, same_modes as one_modes}}
 use Rattle.sharc_lemmas.proofs.Options.{no_guard as no_use, some_is as one_use}
 
 -- ---- the modes of a row that was moved, where its lock paths are read alike
@@ -18,11 +18,8 @@ abbrev pub ReadAlike : Resolution → Resolution → (Sharing → Type 0) → Pa
 ReadAlike r new good how later = (l : Lock) → good (locked (read_lock r how l)) → read_lock new later l ≡ read_lock r how l
 
 read_one : (r new : Resolution) (good : Sharing → Type 0) (how later : PathReading) → ReadAlike r new good how later → (s : Sharing) → good (read r how s) → read new later s ≡ read r how s
-read_one r new good how later alike private is = refl
-read_one r new good how later alike readonly is = refl
 read_one r new good how later alike (locked l) is = ap locked (alike l is)
-read_one r new good how later alike racy is = refl
-read_one r new good how later alike dynamic is = refl
+read_one r new good how later alike _ is = refl
 
 read_all : (r new : Resolution) (good : Sharing → Type 0) (how later : PathReading) → ReadAlike r new good how later → (l : List Mode) → AllByRecursion good (map (λ mode. read r how (sharing_of mode)) l)
     → map (λ mode. read new later (sharing_of mode)) l ≡ map (λ mode. read r how (sharing_of mode)) l
@@ -103,12 +100,6 @@ reads_alike : (m : Assignment) (c : Cast) → Frame m c → (scope : List Entry)
 reads_alike m c frame scope None l good = refl
 reads_alike m c frame scope (Some at) l good = through_by m c frame scope at l (is_field (named_at m.typed l.first)) refl good
 
-no_modes : (l : List Sharing) → None ≡ Some l → ⊥
-no_modes l is = cc
-
-one_modes : (a b : List Sharing) → Some a ≡ Some b → a ≡ b
-one_modes a b is = cc
-
 pub left_wanted : (m : Assignment) (c : Cast) (frame : Frame m c) → first_at m c frame ≤ length m.modes → (scope : List Entry) (want : List Sharing) → keeps_all m.typed scope want ≡ true → (old new : Option Targets)
     → AreRowsMoved (first_at m c frame) (many c) old new → option_map (modes_of m) old ≡ Some want → option_map (modes_of (assignment_with c m)) new ≡ Some want
 left_wanted m c frame fits scope want kept None new moved is = absurd (no_modes want is)
@@ -122,24 +113,18 @@ left_wanted m c frame fits scope want kept (Some old) (Some new) moved is =
 
 -- the parameters are the same
 dull_parameters : (r : Resolution) (v : Named) → is_dull v ≡ true → parameters_named r v ≡ []
-dull_parameters r (named.Struct n) is = refl
 dull_parameters r (named.Global n) is = absurd (false≢true is)
 dull_parameters r (named.Function n) is = absurd (false≢true is)
 dull_parameters r (named.Variable t) is = absurd (false≢true is)
-dull_parameters r (named.Field t) is = refl
-dull_parameters r named.Known is = refl
+dull_parameters r _ is = refl
 
 of_option_same : (c : Recast) (o : Option Function) → parameters_of (option_map (function_with_cast c) o) ≡ parameters_of o
 of_option_same c None = refl
 of_option_same c (Some f) = refl
 
 of_name_same : (m : Assignment) (c : Cast) (v : Named) → parameters_named (now m c) v ≡ parameters_named m.typed v
-of_name_same m c (named.Struct n) = refl
-of_name_same m c (named.Global n) = refl
 of_name_same m c (named.Function n) = ap parameters_of (functions_same m c n) ∙ of_option_same (recast_of m.typed c) (function_at m.typed n)
-of_name_same m c (named.Variable t) = refl
-of_name_same m c (named.Field t) = refl
-of_name_same m c named.Known = refl
+of_name_same m c _ = refl
 
 parameters_by : (m : Assignment) (c : Cast) (v w : Named) → KeepsName v w → parameters_named (now m c) w ≡ parameters_named m.typed v
 parameters_by m c v w (inl same) = ap (parameters_named (now m c)) (sym same) ∙ of_name_same m c v
@@ -157,12 +142,8 @@ of_functions m (f ∷ rest) zero all = all.0
 of_functions m (f ∷ rest) (suc n) all = of_functions m rest n all.1
 
 pub parameters_clear : (m : Assignment) (c : Cast) → Frame m c → (v : Named) → AreClearOf m (parameters_named m.typed v)
-parameters_clear m c frame (named.Struct n) = tt
-parameters_clear m c frame (named.Global n) = tt
 parameters_clear m c frame (named.Function n) = of_functions m (functions_in m.typed.program.items) n frame.clear.parameters
-parameters_clear m c frame (named.Variable t) = tt
-parameters_clear m c frame (named.Field t) = tt
-parameters_clear m c frame named.Known = tt
+parameters_clear m c frame _ = tt
 
 dropped : {A : Type 0} (P : A → Type 0) (l : List A) → AllByRecursion P l → AllByRecursion P (drop 1 l)
 dropped P [] h = tt
@@ -230,12 +211,8 @@ named_itself : (z : ℕ) → is_named z (Names z ∷ []) ≡ true
 named_itself z = ap (λ (b : Bool). b || false) (eq-eqb z z refl)
 
 constant_variable : (r : Resolution) (tells : ℕ → Bool) (v : Named) → is_constant_named r v ≡ true → is_free tells (object_named r v) ≡ true → ((z : ℕ) → is_named z (names_of (object_named r v)) ≡ true → tells z ≡ true) → ⊥
-constant_variable r tells (named.Struct n) is free told = false≢true is
-constant_variable r tells (named.Global n) is free told = false≢true is
-constant_variable r tells (named.Function n) is free told = false≢true is
 constant_variable r tells (named.Variable z) is free told = false≢true (sym (ap not (told z (named_itself z))) ∙ free)
-constant_variable r tells (named.Field f) is free told = false≢true is
-constant_variable r tells named.Known is free told = false≢true is
+constant_variable r tells _ is free told = false≢true is
 
 free_use : (r : Resolution) (tells : ℕ → Bool) (a : Expression) (y : ℕ) → constant_use r a ≡ Some y → is_free tells (taken_variable r (without_parentheses a)) ≡ true → ((z : ℕ) → is_named z (names_of (object_named r (named_at r y))) ≡ true → tells z ≡ true) → ⊥
 free_use r tells (identifier s i) y is free told = by (is_constant_named r (named_at r i.site.token)) refl is
@@ -245,17 +222,7 @@ free_use r tells (identifier s i) y is free told = by (is_constant_named r (name
         let at : i.site.token ≡ y = one_use i.site.token y same in
         constant_variable r tells (named_at r i.site.token) constant_so free (λ z h. told z (subst (λ (k : ℕ). is_named z (names_of (object_named r (named_at r k))) ≡ true) at h))
     by false constant_so same = no_use y same
-free_use r tells (constant s k) y is free told = no_use y is
-free_use r tells (parentheses s a) y is free told = no_use y is
-free_use r tells (call s f all) y is free told = no_use y is
-free_use r tells (spawn s f a) y is free told = no_use y is
-free_use r tells (on_value s w a) y is free told = no_use y is
-free_use r tells (on_place s w a) y is free told = no_use y is
-free_use r tells (cast s t a) y is free told = no_use y is
-free_use r tells (index s a i) y is free told = no_use y is
-free_use r tells (field s a w n) y is free told = no_use y is
-free_use r tells (unary s o a) y is free told = no_use y is
-free_use r tells (binary s o at a b) y is free told = no_use y is
+free_use r tells _ y is free told = no_use y is
 
 -- the call, where the value is one of its arguments, and the only one with the tokens of the cast
 pub record IsCall (m : Assignment) (c : Cast) (tells : ℕ → Bool) (all : Arguments) (e : Expression) : Type 0 where
@@ -278,12 +245,8 @@ variable_read m c frame tells ds all e at l x w is good =
 -- a path that begins with no variable stays as it is
 
 dull_none : (w : Named) → is_dull w ≡ true → variable_named w ≡ None
-dull_none (named.Struct n) dull = refl
-dull_none (named.Global n) dull = refl
-dull_none (named.Function n) dull = refl
 dull_none (named.Variable x) dull = absurd (false≢true dull)
-dull_none (named.Field f) dull = refl
-dull_none named.Known dull = refl
+dull_none _ dull = refl
 
 none_later : (v w : Named) → KeepsName v w → variable_named v ≡ None → variable_named w ≡ None
 none_later v w (inl same) none = ap variable_named (sym same) ∙ none
@@ -303,11 +266,7 @@ lock_read m c frame tells ds all e at l (named.Variable x) w is later h good =
     same_variable : (x : ℕ) (w : Named) → KeepsName (named.Variable x) w → w ≡ named.Variable x
     same_variable x w (inl same) = sym same
     same_variable x w (inr p) = absurd (false≢true p.0)
-lock_read m c frame tells ds all e at l (named.Struct n) w is later h good = plain_lock m c ds all l (named.Struct n) w h refl
-lock_read m c frame tells ds all e at l (named.Global n) w is later h good = plain_lock m c ds all l (named.Global n) w h refl
-lock_read m c frame tells ds all e at l (named.Function n) w is later h good = plain_lock m c ds all l (named.Function n) w h refl
-lock_read m c frame tells ds all e at l (named.Field n) w is later h good = plain_lock m c ds all l (named.Field n) w h refl
-lock_read m c frame tells ds all e at l named.Known w is later h good = plain_lock m c ds all l named.Known w h refl
+lock_read m c frame tells ds all e at l k w is later h good = plain_lock m c ds all l k w h refl
 
 call_alike : (m : Assignment) (c : Cast) (frame : Frame m c) (tells : ℕ → Bool) (ds : List Declaration) (all : Arguments) (e : Expression) → IsCall m c tells all e
     → ReadAlike m.typed (now m c) (IsGood m tells) (at_call ds all) (at_call ds (all_with_cast (recast_of m.typed c) all))

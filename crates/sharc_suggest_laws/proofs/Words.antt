@@ -31,11 +31,7 @@ call_text r t is = call_name (slice_get r.program.tokens.list (t - 2)) (slice_ge
 
 kind_apart : (k : TokenKind) → is_identifier k ≡ true → is_locked k ≡ false
 kind_apart kind.Identifier is = refl
-kind_apart (kind.Keyword w) is = absurd (false≢true is)
-kind_apart (kind.Number v) is = absurd (false≢true is)
-kind_apart (kind.Character v) is = absurd (false≢true is)
-kind_apart (kind.Punctuator p) is = absurd (false≢true is)
-kind_apart kind.LeftOut is = absurd (false≢true is)
+kind_apart _ is = absurd (false≢true is)
 
 word_apart : (before name : Option Token) → is_word before ≡ true → begins_call before name ≡ false
 word_apart None name is = absurd (false≢true is)
@@ -60,11 +56,7 @@ split n t list (suc k, low, is) = inr (k, omega (arith, low), is)
 
 first_named : (n : ℕ) (k : TokenKind) (text : List ℕ) (more : List Mark) → is_identifier k ≡ true → Contains (name_tokens (kind_marks k text n ++ more)) n
 first_named n kind.Identifier text more is = (0, omega arith, refl)
-first_named n (kind.Keyword w) text more is = absurd (false≢true is)
-first_named n (kind.Number v) text more is = absurd (false≢true is)
-first_named n (kind.Character v) text more is = absurd (false≢true is)
-first_named n (kind.Punctuator p) text more is = absurd (false≢true is)
-first_named n kind.LeftOut text more is = absurd (false≢true is)
+first_named n _ text more is = absurd (false≢true is)
 
 -- a keyword is no name
 word_same : (n : ℕ) (w : Keyword) (more : List Mark) → name_tokens (keyword_marks w n ++ more) ≡ name_tokens more
@@ -74,19 +66,13 @@ word_same n _ more = refl
 skip_kind : (n t : ℕ) (k : TokenKind) (text : List ℕ) (more : List Mark) → Contains (name_tokens more) t → Contains (name_tokens (kind_marks k text n ++ more)) t
 skip_kind n t kind.Identifier text more c = later n t (name_tokens more) c
 skip_kind n t (kind.Keyword w) text more c = subst (λ (l : List ℕ). Contains l t) (sym (word_same n w more)) c
-skip_kind n t (kind.Number v) text more c = c
-skip_kind n t (kind.Character v) text more c = c
-skip_kind n t (kind.Punctuator p) text more c = c
-skip_kind n t kind.LeftOut text more c = c
+skip_kind n t _ text more c = c
 
 -- it is this one, an identifier, or a later one
 either_kind : (n t : ℕ) (k : TokenKind) (text : List ℕ) (more : List Mark) → Contains (name_tokens (kind_marks k text n ++ more)) t → ((n ≡ t) × (is_identifier k ≡ true)) ⊎ Contains (name_tokens more) t
 either_kind n t kind.Identifier text more c = ⊎_elim (λ same. inl (same, refl)) (λ there. inr there) (split n t (name_tokens more) c)
 either_kind n t (kind.Keyword w) text more c = inr (subst (λ (l : List ℕ). Contains l t) (word_same n w more) c)
-either_kind n t (kind.Number v) text more c = inr c
-either_kind n t (kind.Character v) text more c = inr c
-either_kind n t (kind.Punctuator p) text more c = inr c
-either_kind n t kind.LeftOut text more c = inr c
+either_kind n t _ text more c = inr c
 
 from_below : (n t : ℕ) (l : List Token) → Contains (name_tokens (marks_from n l)) t → n ≤ t
 from_below n t [] c = absurd (none t c)
