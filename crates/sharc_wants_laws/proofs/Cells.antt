@@ -4,7 +4,7 @@ use Rattle.sharc_tree.specs.declared.event.Object.TheVariants as objects
 use Rattle.sharc_tree.specs.{declared.event.CellAt.CellAt, declared.event.CellMode.CellMode}
 use Rattle.sharc_tree.specs.declared.event.CellMode.TheVariants as modes
 use Rattle.sharc_meaning.specs.{Cells.through, Events.Access, Reference.{is_null, number_of}}
-use Rattle.sharc_code.specs.{declared.code.Code.Code, declared.code.GlobalCells.GlobalCells, declared.code.SourcePlace.SourcePlace, declared.code.PlaceMode.PlaceMode, declared.code.PlaceMode.TheVariants.{Private, Readonly, Racy, Dynamic, LockedGlobal, LockedSibling, LockedThrough, LockedLoaded}, declared.instr.Cell.Cell, declared.instr.Cell.TheVariants.{Global, GlobalAt, Object as InObject, ObjectAt}, declared.shape.Shape.Shape, Arithmetic.word_of, Machine.{Machine, int, ref}, Says.{cell_at, global_cell, mode_of, no_global, made_cell, place_at, reference, lock_through}}
+use Rattle.sharc_code.specs.{declared.code.Code.Code, declared.code.GlobalCells.GlobalCells, declared.code.SourcePlace.SourcePlace, declared.code.PlaceMode.PlaceMode, declared.code.PlaceMode.TheVariants.{LockedGlobal, LockedThrough, LockedLoaded}, declared.instr.Cell.Cell, declared.instr.Cell.TheVariants.{Global, GlobalAt, Object as InObject, ObjectAt}, declared.shape.Shape.Shape, Arithmetic.word_of, Machine.{Machine, int, ref}, Says.{cell_at, global_cell, mode_of, no_global, made_cell, place_at, reference, lock_through}}
 use Rattle.sharc_guard.specs.Machine as Form
 use Rattle.sharc_guard.specs.Machine.{Program, Thread, source_at}
 use Rattle.sharc_compile.specs.{Consistent.{Elements, IsNumber}, Related.{IsReference, Same}}
@@ -20,7 +20,7 @@ null_is (suc n) e = not_zero (suc n + 2 ^ 32 * e) (omega arith) ∙ sym (ne_eq (
     not_zero zero lt = absurd (omega arith)
     not_zero (suc k) lt = refl
 
-number_is : (n e : ℕ) → IsNumber n → number_of (reference n e) ≡ n
+pub number_is : (n e : ℕ) → IsNumber n → number_of (reference n e) ≡ n
 number_is zero e h = refl
 number_is (suc n) e h = let lt : suc n < 2 ^ 32 = h in omega arith
 
@@ -61,14 +61,10 @@ module _ (code : Code) (p : Program) (globals : p.globals ≡ code.globals.items
   cell_is (ObjectAt r at) = ap (λ n. made_cell n (word_of (Form.int a at))) (number_at r) ∙ ap (λ z. made_cell (ref m r) (word_of z)) (int_is at)
 
   mode_is : (c : CellAt) (mode : PlaceMode) → Form.mode_of p a c mode ≡ mode_of code m c mode
-  mode_is c Private = refl
-  mode_is c Readonly = refl
-  mode_is c Racy = refl
-  mode_is c Dynamic = refl
   mode_is c (LockedGlobal g place) = ap (λ d. modes.Locked (Some d)) (global_is g place)
-  mode_is c (LockedSibling field mutex) = refl
   mode_is c (LockedThrough r place) = ap modes.Locked (through_is T (ref m r) place (Form.ref a r) (ref_is r))
   mode_is c LockedLoaded = ap modes.Locked (through_is T m.pending 0 a.pending h.loaded)
+  mode_is c _ = refl
 
   -- an access of guarded code at a site
   pub access_is : (c : Cell) (site : ℕ) (write : Bool) (b : Access) → b.cell ≡ Form.cell_at p a c → b.mode ≡ Form.mode_of p a (Form.cell_at p a c) (source_at p site).mode → b.is_write ≡ write → b ≡ access_at code m c site write

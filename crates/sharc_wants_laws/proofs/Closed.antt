@@ -4,8 +4,8 @@ use Rattle.sharc_tree.specs.{declared.event.Act.Act, declared.event.Object.Objec
 use Rattle.sharc_names.specs.{declared.fault.Named.Named, Kinds.{Kind, is_pointer, is_array, element_kind, declared_kind, declared_kinds, promoted}}
 use Rattle.sharc_names.specs.declared.fault.Named.TheVariants as named
 use Rattle.sharc_ctype.specs.{Resolved.{Resolution, named_at, kind_at, function_at}, Expressions.{class_of, binary_result}, Transfers.parameters_named}
-use Rattle.sharc_mode.specs.{Moded.Assignment, Sharings.{Sharing, private, readonly, locked, racy, dynamic}, Cells.{cell_at, pointed}, Rows.{written, row_at, declared_row, cast_row}}
-use Rattle.sharc_meaning.specs.{Cells.{cell_of, element_cells, Guard, mutex, behind, nothing as no_mutex, guard_of, instance_mode}, Arithmetic.{bits_of, fits, is_zero, truth, operated, negated, complement}, Events.{held_mutexes, holds_mutex}, Reference.{NULL, is_null, number_of, elements_of, constant_value}, declared.given.GivenUp.GivenUp, declared.given.GivenUp.TheVariants.{Emptied, Released, Replaced}, References.taken_to_free, State.{Frame, Use, writes, nulls, go, new_variable, with_value, with_temporary, without_temporaries, Run, Step, ◌>>=◌, give, stop, unless_stop, entered, answered, performs, gives_up, drops, holds, holds_reference, moves, moves_on, is_reference, temporarily, value_of, looks_at, traces, sets, reads_variable, writes_variable, begins_with, in_block}, Places.{StorePlace, variable, cell, no_place, place_named, pointee, based, element, element_of_array, index_place, pointee_place, field_place, unary_place, guarding, access_mode, fetched, stored, taken_from, cast_to}, Waiting.{cell_at_place, moves_base, gives_up_base, lock_call, unlock_call, wait_call, signal_call, broadcast_call, condition_call}, Expressions.{Calls, resulting, tested, operand, fitting, passed, named_value, called, number_named, value_act, spawned, value_called, place_called, cast_value, place_value, unary_value, binary_value, eval, eval_all, place_of}, Statements.{Flow, next, broken, continued, returned, on_next, loop, left_by, elements_made, is_positive, right_value, done_simple, initialised, declared, done_first, done_step, done_test, return_with, exec, exec_all}, Meaning.{parameters_begin, left_at, in_frame, run_function, call_value, calls, goes_away, run_thread}}
+use Rattle.sharc_mode.specs.{Moded.Assignment, Sharings.{Sharing, private, locked}, Cells.{cell_at, pointed}, Rows.{written, row_at, declared_row, cast_row}}
+use Rattle.sharc_meaning.specs.{Cells.{cell_of, element_cells, Guard, mutex, behind, nothing as no_mutex, guard_of, instance_mode}, Arithmetic.{bits_of, fits, is_zero, truth, operated, negated, complement}, Events.{held_mutexes, holds_mutex}, Reference.{NULL, is_null, number_of, elements_of, constant_value}, declared.given.GivenUp.GivenUp, declared.given.GivenUp.TheVariants.{Emptied, Released, Replaced}, References.taken_to_free, State.{Frame, Use, writes, nulls, go, new_variable, with_value, with_temporary, without_temporaries, Run, Step, ◌>>=◌, give, stop, unless_stop, entered, answered, performs, gives_up, drops, holds, holds_reference, moves, moves_on, is_reference, temporarily, value_of, looks_at, traces, sets, reads_variable, writes_variable, begins_with, in_block}, Places.{StorePlace, variable, cell, no_place, place_named, pointee, based, element, element_of_array, index_place, pointee_place, field_place, unary_place, guarding, access_mode, fetched, stored, taken_from, cast_to}, Waiting.{cell_at_place, moves_base, gives_up_base, lock_call, unlock_call, wait_call, signal_call, broadcast_call, condition_call}, Expressions.{Calls, resulting, tested, operand, fitting, passed, named_value, called, number_named, value_act, spawned, value_called, place_called, cast_value, place_value, unary_value, binary_value, eval, eval_all, place_of}, Statements.{Flow, next, returned, on_next, loop, left_by, elements_made, is_positive, right_value, done_simple, initialised, declared, done_first, done_step, done_test, return_with, exec, exec_all}, Meaning.{parameters_begin, left_at, in_frame, run_function, call_value, calls, goes_away, run_thread}}
 use Rattle.sharc_tree.specs.declared.event.Act.TheVariants as acts
 use Rattle.sharc_tree.specs.declared.event.Taken.TheVariants as taken
 use Rattle.sharc_tree.specs.declared.trap.Trap.TheVariants as traps
@@ -90,8 +90,7 @@ module _ (Q : (A : Type 0) → Run A → Type 0) (q : Closed Q) where
 
   array_kept : (r : Resolution) (site : Site) (cells : ℕ) (p : StorePlace) (i : ℤ) → Keeps (element_of_array r site cells p i)
   array_kept r site cells (cell (Global g) first c) i = element_kept site (Global g) cells _ i
-  array_kept r site cells (cell (Made n) first c) i = q.give _ _
-  array_kept r site cells (variable x) i = q.give _ _
+  array_kept r site cells _ i = q.give _ _
 
   index_kept : (r : Resolution) (site : Site) (a : Expression) (array : Run StorePlace) (pointer i : Run ℤ) → Keeps array → Keeps pointer → Keeps i → Keeps (index_place r site a array pointer i)
   index_kept r site a array pointer i ha hp hi = either (is_array (kind_at r a)) _ _ _
@@ -107,9 +106,7 @@ module _ (Q : (A : Type 0) → Run A → Type 0) (q : Closed Q) where
 
   unary_place_kept : (r : Resolution) (site : Site) (o : UnaryOperator) (a : Expression) (pointer : Run ℤ) → Keeps pointer → Keeps (unary_place r site o a pointer)
   unary_place_kept r site Dereference a pointer h = pointee_kept r site a pointer h
-  unary_place_kept r site Negate a pointer h = q.give _ _
-  unary_place_kept r site Not a pointer h = q.give _ _
-  unary_place_kept r site Complement a pointer h = q.give _ _
+  unary_place_kept r site _ a pointer h = q.give _ _
 
   -- ---- accesses
   guarding_kept : (site : Site) (g : Guard) → Keeps (guarding site g)
@@ -118,11 +115,8 @@ module _ (Q : (A : Type 0) → Run A → Type 0) (q : Closed Q) where
   guarding_kept site no_mutex = q.stop _ _ site
 
   mode_kept : (r : Resolution) (site : Site) (mode : Sharing) (o : Object) (first : ℕ) → Keeps (access_mode r site mode o first)
-  mode_kept r site private o first = q.give _ _
-  mode_kept r site readonly o first = q.give _ _
   mode_kept r site (locked l) o first = q.binds _ _ _ _ q.values (λ held. q.binds _ _ _ _ (guarding_kept site (guard_of r held o first l)) (λ c. q.give _ (Locked (Some c))))
-  mode_kept r site racy o first = q.give _ _
-  mode_kept r site dynamic o first = q.give _ _
+  mode_kept r site _ o first = q.give _ _
 
   fetched_kept : (r : Resolution) (site : Site) (mode : Sharing) (p : StorePlace) → Keeps (fetched r site mode p)
   fetched_kept r site mode (variable x) = reads_kept site x
@@ -144,13 +138,11 @@ module _ (Q : (A : Type 0) → Run A → Type 0) (q : Closed Q) where
   -- ---- mutexes and condition variables
   moves_base_kept : (p : StorePlace) → Keeps (moves_base p)
   moves_base_kept (cell (Made n) first c) = moved_kept 1
-  moves_base_kept (cell (Global g) first c) = q.give _ tt
-  moves_base_kept (variable x) = q.give _ tt
+  moves_base_kept _ = q.give _ tt
 
   gives_up_base_kept : (p : StorePlace) → Keeps (gives_up_base p)
   gives_up_base_kept (cell (Made n) first c) = q.given (Released n ∷ []) (tt, tt)
-  gives_up_base_kept (cell (Global g) first c) = q.give _ tt
-  gives_up_base_kept (variable x) = q.give _ tt
+  gives_up_base_kept _ = q.give _ tt
 
   lock_kept : (site : Site) (p : StorePlace) → Keeps (lock_call site p)
   lock_kept site p = q.binds _ _ _ _ q.events (λ own. q.binds _ _ _ _ (unless (not (holds_mutex own (cell_at_place p))) traps.MutexAlreadyHeld site) (λ _.
@@ -197,10 +189,7 @@ module _ (Q : (A : Type 0) → Run A → Type 0) (q : Closed Q) where
   named_kept : (r : Resolution) (mode : Sharing) (site : Site) (n : Named) → Keeps (named_value r mode site n)
   named_kept r mode site (named.Variable token) = reads_kept site token
   named_kept r mode site (named.Global n) = fetched_kept r site mode (cell (Global n) 0 0)
-  named_kept r mode site (named.Struct n) = q.give _ (pos 0)
-  named_kept r mode site (named.Function n) = q.give _ (pos 0)
-  named_kept r mode site (named.Field n) = q.give _ (pos 0)
-  named_kept r mode site named.Known = q.give _ (pos 0)
+  named_kept r mode site _ = q.give _ (pos 0)
 
   spawned_kept : (r : Resolution) (site : Site) (f : Named) (a : Expression) (of_a : Run ℤ) → Keeps of_a → Keeps (spawned r site f a of_a)
   spawned_kept r site f a of_a h = q.scope _ _ (q.binds _ _ _ _ (passed_kept r (declared_kinds (parameters_named r f)) a of_a h) (λ v.
@@ -242,10 +231,7 @@ module _ (Q : (A : Type 0) → Run A → Type 0) (q : Closed Q) where
     called_kept : (site : Site) (n : Named) (name : List ℕ) (vs : List ℤ) → Keeps (called on_call site n name vs)
     called_kept site (named.Function f) name vs = hc f site vs
     called_kept site named.Known name vs = q.binds _ _ _ _ (condition_kept site name vs) (λ _. q.give _ (pos 0))
-    called_kept site (named.Struct n) name vs = q.give _ (pos 0)
-    called_kept site (named.Global n) name vs = q.give _ (pos 0)
-    called_kept site (named.Variable n) name vs = q.give _ (pos 0)
-    called_kept site (named.Field n) name vs = q.give _ (pos 0)
+    called_kept site _ name vs = q.give _ (pos 0)
 
     mutual
       pub eval_kept : (e : Expression) → Q ℤ (eval on_call m e)
@@ -272,13 +258,7 @@ module _ (Q : (A : Type 0) → Run A → Type 0) (q : Closed Q) where
       place_kept site (index s a i) = q.enters _ _ (index_kept m.typed site a _ _ _ ((place_kept site a)) ((eval_kept a)) ((eval_kept i)))
       place_kept site (field s a w n) = q.enters _ _ (field_kept m.typed site a w (named_at m.typed n.site.token) _ _ ((place_kept site a)) ((eval_kept a)))
       place_kept site (unary s o a) = q.enters _ _ (unary_place_kept m.typed site o a _ ((eval_kept a)))
-      place_kept site (constant s c) = q.enters _ _ (q.give _ no_place)
-      place_kept site (call s f all) = q.enters _ _ (q.give _ no_place)
-      place_kept site (spawn s f a) = q.enters _ _ (q.give _ no_place)
-      place_kept site (on_value s w a) = q.enters _ _ (q.give _ no_place)
-      place_kept site (on_place s w a) = q.enters _ _ (q.give _ no_place)
-      place_kept site (cast s t a) = q.enters _ _ (q.give _ no_place)
-      place_kept site (binary s o at a b) = q.enters _ _ (q.give _ no_place)
+      place_kept site _ = q.enters _ _ (q.give _ no_place)
 
     value_kept : (e : Expression) → Keeps (eval on_call m e)
     value_kept e = (eval_kept e)
@@ -286,9 +266,7 @@ module _ (Q : (A : Type 0) → Run A → Type 0) (q : Closed Q) where
     -- ---- statements
     next_kept : (flow : Flow) (rest : Run Flow) → Keeps rest → Keeps (on_next flow rest)
     next_kept next rest h = h
-    next_kept broken rest h = q.give _ broken
-    next_kept continued rest h = q.give _ continued
-    next_kept (returned site v) rest h = q.give _ (returned site v)
+    next_kept k rest h = q.give _ k
 
     elements_kept : (n : Option Expression) → Keeps (elements_made on_call m n)
     elements_kept None = q.give _ (pos 1)

@@ -18,8 +18,7 @@ AreFrom m m2 = (k n : ℕ) → refers n (m2.refs k) ≡ true → (j : ℕ) × (r
 
 abbrev IsFrom : At → Turn → Type 0
 IsFrom m (goes m2) = AreFrom m m2
-IsFrom m (asks m2 site act held go) = Unit {0}
-IsFrom m (halts o) = Unit {0}
+IsFrom m _ = Unit {0}
 
 same : (m : At) → AreFrom m m
 same m k n is = (k, is)
@@ -120,9 +119,8 @@ line_from flat (Some o) m = op_from flat o m
 line_from flat None m = by_place (m.pc - length flat.lines)
   where
     by_place : (n : ℕ) → IsFrom m (end_turn flat m n)
-    by_place zero = tt
-    by_place (suc zero) = tt
     by_place (suc (suc n)) = tt
+    by_place _ = tt
 
 -- ---- some turns
 pub quietly_from : (flat : Flat) (turns : ℕ) (m m2 : At) → Quietly flat turns m m2 → AreFrom m m2

@@ -23,10 +23,7 @@ named_parameter : (bytes : List ℕ) (told : List Row) (names : List (List ℕ))
 named_parameter bytes [] [] [] n h = refl
 named_parameter bytes (x ∷ xs) (k ∷ ks) (y ∷ ys) zero h = ap (λ (r : Row). r.parameter) h.0.is
 named_parameter bytes (x ∷ xs) (k ∷ ks) (y ∷ ys) (suc n) h = named_parameter bytes xs ks ys n h.1
-named_parameter bytes [] [] (y ∷ ys) n h = absurd h
-named_parameter bytes [] (k ∷ ks) ys n h = absurd h
-named_parameter bytes (x ∷ xs) [] ys n h = absurd h
-named_parameter bytes (x ∷ xs) (k ∷ ks) [] n h = absurd h
+named_parameter bytes _ _ _ n h = absurd h
 
 takes_first : (ds : List Declaration) → parameter_of ds ≡ parameters.Reference → takes_reference ds ≡ true
 takes_first [] e = absurd (let z : parameters.None ≡ parameters.Reference = e in cc)

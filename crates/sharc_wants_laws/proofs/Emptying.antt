@@ -1,5 +1,5 @@
 -- Where the pointer cells of a freed object are emptied, flat code gives them up, and wants the Freed of the object.
-use Rattle.std.proofs.{Common.{◌≡◌, ℕ, zero, suc, ℤ, pos, negsuc, ◌+◌, ◌-◌, ◌*◌, Bool, true, false, not, List, [], ◌∷◌, ◌++◌, length, refl, sym, ap, ◌∙◌, subst, Some, None, Option, Ok, Err, Result, nat_lt, cond, slice_get}, lemmas.Bool.false≢true}
+use Rattle.std.proofs.{Common.{◌≡◌, ℕ, suc, ℤ, pos, negsuc, ◌+◌, ◌-◌, ◌*◌, Bool, true, false, not, List, [], ◌∷◌, ◌++◌, length, refl, sym, ap, ◌∙◌, subst, Some, None, Option, Ok, Err, Result, nat_lt, cond, slice_get}, lemmas.Bool.false≢true}
 use Rattle.std.specs.Prelude.{slice_index}
 use Rattle.sharc_tree.specs.{declared.event.Act.Act, declared.event.CellAt.CellAt, declared.event.CellMode.CellMode, declared.trap.Trap.Trap}
 use Rattle.sharc_tree.specs.declared.event.Act.TheVariants as acts
@@ -7,7 +7,7 @@ use Rattle.sharc_tree.specs.declared.event.Taken.TheVariants as taken
 use Rattle.sharc_tree.specs.declared.trap.Trap.TheVariants as traps
 use Rattle.sharc_meaning.specs.{declared.given.GivenUp.TheVariants.{Emptied, Replaced}, Events.{held_mutexes, holds_mutex}, Meaning.Asked, Reference.{is_null, elements_of, number_of}, Statements.is_positive}
 use Rattle.sharc_code.specs.{Arithmetic.{computed, negated, holds}, declared.code.Code.Code, declared.code.GlobalCells.GlobalCells, declared.instr.Cell.Cell, declared.code.Function.{Function as Row}, declared.instr.Instr.Instr, declared.instr.Instr.TheVariants.Free, declared.shape.Shape.Shape, declared.state.Stage.Stage, declared.state.Stage.TheVariants.{Empties, Lowers, FreeLooks, FreeClears, Uncounts, Links}, Machine.{Machine, instr_at}}
-use Rattle.sharc_flat.specs.{declared.op.Op.Op, declared.op.Spot.Spot, Machine.{Flat, At, Caller, Turn, goes, asks, halts, int, ref, goes_on, next, stops, asserts, with_result, set_int, set_ref, gives_up, take_kind_of, cell_at, cell_mode_of, accessed, accesses, lock_is_null, indexed, takes_local, returned, called, op_turn, end_turn, line_turn, turn, on_turn, exec}}
+use Rattle.sharc_flat.specs.{declared.op.Op.Op, declared.op.Spot.Spot, Machine.{Flat, At, Caller, Turn, goes, asks, int, ref, goes_on, next, stops, asserts, with_result, set_int, set_ref, gives_up, take_kind_of, cell_at, cell_mode_of, accessed, accesses, lock_is_null, indexed, takes_local, returned, called, op_turn, end_turn, line_turn, turn, on_turn, exec}}
 use Rattle.sharc_flat.specs.declared.op.Op.TheVariants as op
 use Rattle.sharc_guard.specs.Machine as Form
 use Rattle.sharc_guard.specs.{Machine.{Program, Thread, statement_at}, Counted.Tells}
@@ -24,9 +24,8 @@ no_freed act v other is = false≢true (sym other ∙ ap is_freed is)
 
 -- a turn that asks for the Freed of this reference gives up the cells of its object before
 abbrev IsFreed : At → ℤ → Turn → Type 0
-IsFreed m v (goes m2) = Unit {0}
 IsFreed m v (asks m2 site act held go) = act ≡ acts.Freed v → m2.given ≡ m.given ++ Emptied (number_of v) ∷ []
-IsFreed m v (halts o) = Unit {0}
+IsFreed m v _ = Unit {0}
 
 module _ (v : ℤ) where
   other : (m m2 : At) (act : Act) → is_freed act ≡ false → act ≡ acts.Freed v → m2.given ≡ m.given ++ Emptied (number_of v) ∷ []
@@ -104,16 +103,14 @@ module _ (v : ℤ) where
   line_freed flat None m = by_place (m.pc - length flat.lines)
     where
       by_place : (n : ℕ) → IsFreed m v (end_turn flat m n)
-      by_place zero = λ is. absurd (false≢true (ap is_freed is))
-      by_place (suc zero) = λ is. absurd (false≢true (ap is_freed is))
       by_place (suc (suc n)) = tt
+      by_place _ = λ is. absurd (false≢true (ap is_freed is))
 
   -- so it stands where it wants the Freed
   given_there : (flat : Flat) (p : Program) (a : Thread) (m : At) (more register layout site : ℕ) (t : Turn) → Form.ref a register ≡ v → Tells p (Form.step p (Free register layout site) a) t → IsFreed m v t
       → (on_turn t [] m (exec flat more)).at.given ≡ m.given ++ Emptied (number_of v) ∷ []
-  given_there flat p a m more register layout site (goes m2) is h q = absurd h
   given_there flat p a m more register layout site (asks m2 place act held go) is h q = q (sym h.1 ∙ ap acts.Freed is)
-  given_there flat p a m more register layout site (halts o) is h q = absurd h
+  given_there flat p a m more register layout site _ is h q = absurd h
 
 -- ---- at the Free
 pub emptying : (flat : Flat) (p : Program) (m : At) (a : Thread) (code : Code) (at : Machine) (x : Asked) (more register layout site : ℕ) → instr_at code at.at.pc ≡ Free register layout site

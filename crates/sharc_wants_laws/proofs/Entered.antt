@@ -2,7 +2,7 @@
 use Rattle.std.proofs.{Common.{◌≡◌, ℕ, zero, suc, ◌+◌, Bool, true, false, List, [], ◌∷◌, ◌++◌, map, refl, sym, ap, ◌∙◌, subst, arith}, lemmas.List.map-append}
 use Rattle.std.specs.Prelude.{slice_index_or}
 use Rattle.sharc_ctype.specs.Resolved.{functions_in}
-use Rattle.sharc_code.specs.{declared.code.Function.Function, declared.code.PlaceMode.PlaceMode, declared.code.PlaceMode.TheVariants.{Private, Readonly, Racy, Dynamic, LockedGlobal, LockedSibling, LockedThrough, LockedLoaded}, declared.instr.Cell.Cell, declared.instr.Operator.Operator, declared.instr.Width.Width, declared.instr.Width.TheVariants.{Char, Int, Long}, declared.instr.Instr.Instr}
+use Rattle.sharc_code.specs.{declared.code.Function.Function, declared.code.PlaceMode.PlaceMode, declared.code.PlaceMode.TheVariants.{Private, Readonly, Racy, Dynamic}, declared.instr.Cell.Cell, declared.instr.Operator.Operator, declared.instr.Width.Width, declared.instr.Width.TheVariants.Int, declared.instr.Instr.Instr}
 use Rattle.sharc_code.specs.declared.instr.Instr.TheVariants as instrs
 use Rattle.sharc_flat.specs.{declared.op.Op.Op, declared.op.Spot.Spot, Made.flat_of, Flattened.flattened, Tables.globals_of}
 use Rattle.sharc_flat.specs.declared.op.Op.TheVariants as op
@@ -72,28 +72,19 @@ module _ (fs : List Function) where
   under true dynamic spot n Readonly it tail rest d h = h
   under true dynamic spot n Racy it tail rest d h = h
   under true dynamic spot n Dynamic it tail rest d h = h
-  under true dynamic spot n (LockedGlobal g p) it tail rest d h = (tt, h)
-  under true dynamic spot n (LockedSibling q m) it tail rest d h = (tt, h)
-  under true dynamic spot n (LockedThrough r p) it tail rest d h = (tt, h)
-  under true dynamic spot n LockedLoaded it tail rest d h = (tt, h)
   under false dynamic spot n Private it tail rest d h = h
   under false dynamic spot n Readonly it tail rest d h = h
   under false dynamic spot n Racy it tail rest d h = h
   under false dynamic spot n Dynamic it tail rest d h = (d _, h)
-  under false dynamic spot n (LockedGlobal g p) it tail rest d h = (tt, h)
-  under false dynamic spot n (LockedSibling q m) it tail rest d h = (tt, h)
-  under false dynamic spot n (LockedThrough r p) it tail rest d h = (tt, h)
-  under false dynamic spot n LockedLoaded it tail rest d h = (tt, h)
+  under _ dynamic spot n _ it tail rest d h = (tt, h)
 
   computed : (w : Width) (operator : Operator) (i a b n : ℕ) (rest : List Instr) → AllNext rest → AllNext (f (compute w operator i a b n) ∷ rest)
-  computed Char operator i a b n rest h = (tt, h)
   computed Int operator i a b n rest h = (tt, h)
-  computed Long operator i a b n rest h = (tt, h)
+  computed _ operator i a b n rest h = (tt, h)
 
   negated : (w : Width) (i a n : ℕ) (rest : List Instr) → AllNext rest → AllNext (f (negate w i a n) ∷ rest)
-  negated Char i a n rest h = (tt, h)
   negated Int i a n rest h = (tt, h)
-  negated Long i a n rest h = (tt, h)
+  negated _ i a n rest h = (tt, h)
 
   abbrev Waited : Op → List Instr → Type 0
   Waited (op.CondEnter c spot) is = IsNext c is

@@ -1,7 +1,7 @@
 -- In flat code each CondEnter is followed by an Unlock and a CondWait of the same cell.
 use Rattle.std.proofs.Common.{◌≡◌, ℕ, ◌+◌, Bool, true, false, List, [], ◌∷◌, ◌++◌, length, take, drop, Option, Some, None, if◌then◌else◌, refl, sym, ap, ◌∙◌, subst}
 use Rattle.std.specs.{Prelude.codes, Str.bytes_eq}
-use Rattle.sharc_tree.specs.{declared.token.Site.Site, declared.token.Span.Span, declared.tree.declaration.Declaration.Declaration, declared.tree.declaration.Identifier.Identifier, declared.tree.expression.FieldOperator.FieldOperator, declared.tree.expression.FieldOperator.TheVariants.{Dot, Arrow}, declared.tree.expression.BinaryOperator.BinaryOperator, declared.tree.expression.Constant.Constant, declared.tree.expression.PlaceCall.PlaceCall, declared.tree.expression.PlaceCall.TheVariants.{Lock, Unlock, Free}, declared.tree.expression.UnaryOperator.UnaryOperator, declared.tree.expression.UnaryOperator.TheVariants.{Negate, Not, Complement, Dereference}, declared.tree.expression.ValueCall.ValueCall, declared.tree.expression.ValueCall.TheVariants.{Join, Print}, declared.tree.statement.Jump.Jump, declared.tree.statement.Jump.TheVariants.{Break, Continue}, Spans.span_of, Tree.{Expression, identifier, constant, parentheses, call, spawn, on_value, on_place, cast, index, field, unary, binary, Arguments, no_arguments, argument, Right, value, malloc, Simple, assign, does_call, Local, First, nothing, declares, does, Statement, empty, block, declare, simple, jump, return, if_then, if_then_else, while, for, Statements, no_statements, statement, Function}}
+use Rattle.sharc_tree.specs.{declared.token.Site.Site, declared.token.Span.Span, declared.tree.declaration.Declaration.Declaration, declared.tree.declaration.Identifier.Identifier, declared.tree.expression.FieldOperator.FieldOperator, declared.tree.expression.FieldOperator.TheVariants.{Dot, Arrow}, declared.tree.expression.BinaryOperator.BinaryOperator, declared.tree.expression.Constant.Constant, declared.tree.expression.PlaceCall.PlaceCall, declared.tree.expression.PlaceCall.TheVariants.{Lock, Unlock, Free}, declared.tree.expression.UnaryOperator.UnaryOperator, declared.tree.expression.UnaryOperator.TheVariants.{Not, Dereference}, declared.tree.expression.ValueCall.ValueCall, declared.tree.expression.ValueCall.TheVariants.{Join, Print}, declared.tree.statement.Jump.Jump, declared.tree.statement.Jump.TheVariants.{Break, Continue}, Spans.span_of, Tree.{Expression, identifier, constant, parentheses, call, spawn, on_value, on_place, cast, index, field, unary, binary, Arguments, no_arguments, argument, Right, value, malloc, Simple, assign, does_call, Local, First, nothing, declares, does, Statement, empty, block, declare, simple, jump, return, if_then, if_then_else, while, for, Statements, no_statements, statement, Function}}
 use Rattle.sharc_tree.specs.declared.tree.expression.BinaryOperator.TheVariants as bop
 use Rattle.sharc_names.specs.{declared.fault.Named.Named, Kinds.{Kind, is_integer, is_array, element_kind, declared_kind, declared_kinds}}
 use Rattle.sharc_names.specs.declared.fault.Named.TheVariants as named
@@ -164,10 +164,9 @@ module _ (c : Context) where
   all_either i a b h k = join a _ h (more tt (more tt (join b _ k (more tt (more tt none)))))
 
   all_unary : (i r : ℕ) (s : Span) (o : UnaryOperator) (a : Expression) (code : List Op) → Waits code → Waits (unary_code c i r s o a code)
-  all_unary i r s Negate a code h = join code _ h (more tt none)
   all_unary i r s Not a code h = join code _ h (join (truth_code _ i r) (op.IsFalse i i ∷ []) (all_truth _ i r) (more tt none))
-  all_unary i r s Complement a code h = join code _ h (more tt none)
   all_unary i r s Dereference a code h = join (pointee_code r s.first code) _ (all_pointee r s.first code h) (all_value i r s.first (lvalue_in c (unary s Dereference a)) (mode_of c (unary s Dereference a)) (is_ref c (unary s Dereference a)) (target_of c (unary s Dereference a)))
+  all_unary i r s _ a code h = join code _ h (more tt none)
 
   all_other : (i r : ℕ) (b : Bool) (o : BinaryOperator) (x : Op) (of_a of_b : List Op) → ((os : List Op) → IsEntered x os) → Waits of_a → Waits of_b → Waits (of_a ++ (of_b ++ (if b then compare_code o i r else x ∷ [])))
   all_other i r b o x of_a of_b plain h k = join of_a _ h (join of_b _ k (choose b _ _ (all_compare o i r) (more (plain []) none)))
@@ -253,7 +252,6 @@ module _ (c : Context) where
     all_arguments (argument a rest) i r kinds = join (expression_code c i r a) _ (all_expression a i r) (join (passed_code i kinds _) _ (all_passed i kinds _) (all_arguments rest _ _ _))
 
     all_place : (e : Expression) (i r : ℕ) (site : Site) (f guard : Option ℕ) → Waits (place_code c i r site f guard e)
-    all_place (identifier s x) i r site f guard = (more tt none)
     all_place (parentheses s a) i r site f guard = (more tt (all_place a i r site f guard))
     all_place (index s a n) i r site f guard = (more tt (all_index i r site f guard a _ _ _ (all_place a i r site None None) (all_expression a i r) (λ d. all_expression n i d)))
     all_place (field s a w n) i r site f guard = (more tt (all_field r site f w n _ _ (λ g. all_place a i r site g guard) (all_expression a i r)))

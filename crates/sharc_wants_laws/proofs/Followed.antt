@@ -1,7 +1,7 @@
 -- In guarded code a check is directly before its access, and so in the code that is made of it.
 use Rattle.std.proofs.{Common.{◌≡◌, ℕ, zero, suc, ◌+◌, Bool, true, false, List, [], ◌∷◌, ◌++◌, map, refl, sym, ap, ◌∙◌, subst, arith}, lemmas.List.map-append}
 use Rattle.std.specs.Prelude.{slice_index_or}
-use Rattle.sharc_code.specs.{declared.code.Code.Code, declared.code.Function.Function, declared.code.PlaceMode.PlaceMode, declared.code.PlaceMode.TheVariants.{Private, Readonly, Racy, Dynamic, LockedGlobal, LockedSibling, LockedThrough, LockedLoaded}, declared.code.SourcePlace.SourcePlace, declared.instr.Cell.Cell, declared.instr.Operator.Operator, declared.instr.Width.Width, declared.instr.Width.TheVariants.{Char, Int, Long}, declared.instr.Instr.Instr, Says.{place_at, no_place}}
+use Rattle.sharc_code.specs.{declared.code.Code.Code, declared.code.Function.Function, declared.code.PlaceMode.PlaceMode, declared.code.PlaceMode.TheVariants.{Dynamic, LockedGlobal, LockedSibling, LockedThrough, LockedLoaded}, declared.code.SourcePlace.SourcePlace, declared.instr.Cell.Cell, declared.instr.Operator.Operator, declared.instr.Width.Width, declared.instr.Width.TheVariants.Int, declared.instr.Instr.Instr, Says.{place_at, no_place}}
 use Rattle.sharc_code.specs.declared.instr.Instr.TheVariants as instrs
 use Rattle.sharc_flat.specs.{declared.flat.Flat.{Flat as FlatCode}, declared.op.Op.Op, declared.op.Spot.Spot, Made.flat_of}
 use Rattle.sharc_flat.specs.declared.op.Op.TheVariants as op
@@ -35,32 +35,24 @@ module _ (code : Code) where
     under : (drop : Bool) (dynamic : Instr) (spot : Spot) (n : ℕ) (mode : PlaceMode) (it tail rest : List Instr) → (place_at code n).mode ≡ mode → (write : Bool) (c : Cell) → Accesses write c n (next_of (map f (it ++ tail) ++ rest))
         → (mode ≡ Dynamic → IsFollowed code (f dynamic) (next_of (map f (it ++ tail) ++ rest))) → AllFollowed (map f (it ++ tail) ++ rest)
         → AllFollowed (map f ((check_under drop dynamic spot n mode ++ it) ++ tail) ++ rest)
-    under true dynamic spot n Private it tail rest e write c a d h = h
-    under true dynamic spot n Readonly it tail rest e write c a d h = h
-    under true dynamic spot n Racy it tail rest e write c a d h = h
-    under true dynamic spot n Dynamic it tail rest e write c a d h = h
     under true dynamic spot n (LockedGlobal g p) it tail rest e write c a d h = ((subst IsLocked (sym e) tt, (write, c, a)), h)
     under true dynamic spot n (LockedSibling q m) it tail rest e write c a d h = ((subst IsLocked (sym e) tt, (write, c, a)), h)
     under true dynamic spot n (LockedThrough r p) it tail rest e write c a d h = ((subst IsLocked (sym e) tt, (write, c, a)), h)
     under true dynamic spot n LockedLoaded it tail rest e write c a d h = ((e, (write, c, a)), h)
-    under false dynamic spot n Private it tail rest e write c a d h = h
-    under false dynamic spot n Readonly it tail rest e write c a d h = h
-    under false dynamic spot n Racy it tail rest e write c a d h = h
     under false dynamic spot n Dynamic it tail rest e write c a d h = (d refl, h)
     under false dynamic spot n (LockedGlobal g p) it tail rest e write c a d h = ((subst IsLocked (sym e) tt, (write, c, a)), h)
     under false dynamic spot n (LockedSibling q m) it tail rest e write c a d h = ((subst IsLocked (sym e) tt, (write, c, a)), h)
     under false dynamic spot n (LockedThrough r p) it tail rest e write c a d h = ((subst IsLocked (sym e) tt, (write, c, a)), h)
     under false dynamic spot n LockedLoaded it tail rest e write c a d h = ((e, (write, c, a)), h)
+    under _ dynamic spot n _ it tail rest e write c a d h = h
 
     computed : (w : Width) (operator : Operator) (i a b n : ℕ) (rest : List Instr) → AllFollowed rest → AllFollowed (f (compute w operator i a b n) ∷ rest)
-    computed Char operator i a b n rest h = (tt, h)
     computed Int operator i a b n rest h = (tt, h)
-    computed Long operator i a b n rest h = (tt, h)
+    computed _ operator i a b n rest h = (tt, h)
 
     negated : (w : Width) (i a n : ℕ) (rest : List Instr) → AllFollowed rest → AllFollowed (f (negate w i a n) ∷ rest)
-    negated Char i a n rest h = (tt, h)
     negated Int i a n rest h = (tt, h)
-    negated Long i a n rest h = (tt, h)
+    negated _ i a n rest h = (tt, h)
 
     -- what an operation becomes
     piece : (drop : Bool) (pl : ℕ → ℕ) (n : ℕ) (o : Op) (rest : List Instr) → (place_at code n).mode ≡ (source_of o).mode → AllFollowed rest → AllFollowed (map f (expand pl drop n o) ++ rest)

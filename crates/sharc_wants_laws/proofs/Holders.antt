@@ -9,7 +9,7 @@ use Rattle.sharc_ctype.specs.Globals.{elements_of}
 use Rattle.sharc_meaning.specs.{Events.{latest, makes}, References.{Holder, References, in_argument, in_cell, in_mutex, in_thread, is_pointer_of, is_pointer_of_made, is_taken_to_free, refers}, Store.{form_value, global_value, initial_value, value_after}}
 use Rattle.sharc_code.specs.{declared.code.Code.Code, declared.shape.Shape.Shape, Arithmetic.int_of, Layout.Fits, Ranges.{IsInGlobal, first_place}, Runs.Turn, Says.no_global, Whole.CheckedRun}
 use Rattle.sharc_flat.specs.Tables.{globals_of}
-use Rattle.sharc_invariant.specs.{Types.{Content, Integer, MutexWord, Waiters, Pointer, is_pointer, global_field}, Labels.Labels, Typed.{Initial, IsWellTyped}, State.IsSmall}
+use Rattle.sharc_invariant.specs.{Types.{Content, Pointer, is_pointer, global_field}, Labels.Labels, Typed.{Initial, IsWellTyped}, State.IsSmall}
 use Rattle.sharc_history_laws.specs.{History.history_of, Kept.{GlobalPointersAreKept, MadePointersAreKept, OthersAreInitial}, Stores.BeginsWith}
 use Rattle.sharc_accepted_laws.specs.{Pointers.{GlobalsPoint, IsPointerInTable}, TargetLaws.HasTables, Targets.targets_of}
 use Rattle.sharc_wants_laws.specs.{Alone.{Passes, tested_object}, Only.{ArgumentsHoldNone, CellsHoldNone, FreedAreTaken, MutexesHoldNone, ThreadsHoldNone}}
@@ -18,9 +18,7 @@ use Rattle.sharc_lemmas.proofs.Bools.{yes}
 -- a pointer begins as NULL
 null_word : (a : Content) (v : ℕ) → is_pointer a ≡ true → Initial a v → v ≡ 0
 null_word (Pointer f) v is h = h
-null_word (Integer w) v is h = absurd (yes (sym is))
-null_word MutexWord v is h = absurd (yes (sym is))
-null_word Waiters v is h = absurd (yes (sym is))
+null_word _ v is h = absurd (yes (sym is))
 
 in_own : (t u which : ℕ) → (u ≡ t) × (which ≡ 0) → in_thread u which ≡ in_thread t 0
 in_own t u which h = ap (λ v. in_thread v which) h.0 ∙ ap (in_thread t) h.1
@@ -62,14 +60,13 @@ module _ (kept : MadePointersAreKept) (globals : GlobalPointersAreKept) (others 
     begins_null = ap global_value t.is ∙ by t.definition.form refl
       where
         by : (f : GlobalForm) → t.definition.form ≡ f → form_value t.definition.form ≡ pos 0
-        by forms.Plain is = ap form_value is
-        by (forms.Array at count) is = ap form_value is
         by (forms.Initial span minus c) is =
             let some : 0 < elements_of t.definition.form = subst (λ f. 0 < elements_of f) (sym is) (omega arith) in
             let near = first_place code.globals.items k + t.near in
             let begin = first k near (tabled t.near (t.there some)) in
             let null = null_word (global_field (targets_of m) (near - 2)).holds (slice_index code.initial.items (near - 2)) (pointer_there t.near (t.pointer some)) (wt.globals.initial (near - 2)) in
             sym (ap global_value t.is) ∙ sym begin ∙ ap int_of null
+        by _ is = ap form_value is
 
     none_beside : (IsInGlobal code.globals.items k (first_place code.globals.items k + cell) → ⊥) → refers n (value_after m.typed (history_of code s earlier) (record { object = objects.Global k; cell = cell })) ≡ true → ⊥
     none_beside beside there =

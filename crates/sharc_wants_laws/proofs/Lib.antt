@@ -34,7 +34,6 @@ pub mod Registering
 pub mod Seeing
 pub mod Silent
 pub mod SoleCells
-pub mod SoleQuiet
 pub mod SoleTelling
 pub mod Tables
 pub mod Telling

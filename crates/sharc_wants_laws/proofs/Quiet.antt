@@ -1,58 +1,73 @@
--- Flat code by what its events answer: the same path by those answers.
-use Rattle.std.proofs.{Common.{◌≡◌, ℕ, zero, suc, ℤ, pos, negsuc, ◌+◌, ◌-◌, ◌*◌, ◌≤◌, ◌⊎◌, inl, inr, Bool, true, false, not, List, [], ◌∷◌, ◌++◌, length, refl, sym, ap, ◌∙◌, arith, Some, None, Option, Ok, Err, Result, nat_lt, cond, slice_get, append_assoc, append-nil}, lemmas.List.map-append}
+-- Flat code by what its events answer, and what it gives up on its way.
+use Rattle.std.proofs.{Common.{◌≡◌, ℕ, zero, suc, ℤ, pos, negsuc, ◌+◌, ◌-◌, ◌*◌, ◌≤◌, ◌⊎◌, inl, inr, Bool, true, false, not, List, [], ◌∷◌, ◌++◌, length, refl, sym, ap, ◌∙◌, subst, arith, Some, None, Option, Ok, Err, Result, nat_lt, cond, slice_get, append_assoc, append-nil}, lemmas.List.map-append}
 use Rattle.sharc_tree.specs.{declared.event.Act.Act, declared.event.CellAt.CellAt, declared.event.CellMode.CellMode, declared.event.SourceEvent.SourceEvent, declared.trap.Trap.Trap}
 use Rattle.sharc_tree.specs.declared.event.Act.TheVariants as acts
 use Rattle.sharc_tree.specs.declared.event.Taken.TheVariants as taken
 use Rattle.sharc_tree.specs.declared.trap.Trap.TheVariants as traps
-use Rattle.sharc_meaning.specs.{declared.given.GivenUp.TheVariants.Replaced, Arithmetic.is_zero, Events.{held_mutexes, holds_mutex}, Reference.{is_null, elements_of}, Runs.answers_of, State.{answer_of, event_of}, Statements.is_positive}
-use Rattle.sharc_code.specs.{Arithmetic.{computed, negated, holds}, declared.code.GlobalCells.GlobalCells, declared.instr.Cell.Cell}
+use Rattle.sharc_meaning.specs.{declared.given.GivenUp.GivenUp, declared.given.GivenUp.TheVariants.{Emptied, Released, Replaced}, Arithmetic.is_zero, Events.{held_mutexes, holds_mutex}, Reference.{is_null, elements_of, number_of}, State.{answer_of, event_of}, Statements.is_positive, Runs.answers_of}
+use Rattle.sharc_code.specs.{Arithmetic.{computed, negated, holds}, declared.code.GlobalCells.GlobalCells, declared.instr.Cell.Cell, declared.code.Parameter.Parameter, declared.instr.Register.Register}
+use Rattle.sharc_flat.specs.{declared.op.Op.Op, declared.op.Spot.Spot, Machine.{Flat, At, Caller, Turn, goes, asks, halts, int, ref, goes_on, next, over_lines, stops, asserts, with_result, set_int, set_ref, gives_up, take_kind_of, cell_at, cell_mode_of, accessed, accesses, lock_is_null, indexed, takes_local, returned, called, op_turn, end_turn, line_turn, turn, on_turn, exec, start, begun, first_at, function_of, handed, with_event, without_base}, Path.{after, at_after, may_go, asked, asked_by, IsPath, PathsAreRuns}}
+use Rattle.sharc_flat.specs.declared.op.Op.TheVariants as op
 use Rattle.sharc_code.specs.declared.code.Parameter.TheVariants as parameters
 use Rattle.sharc_code.specs.declared.instr.Cell.TheVariants as cells
 use Rattle.sharc_code.specs.declared.instr.Register.TheVariants as registers
-use Rattle.sharc_flat.specs.{declared.op.Op.Op, declared.op.Spot.Spot, Machine.{Flat, At, Caller, Turn, goes, asks, halts, int, ref, goes_on, next, over_lines, stops, asserts, with_result, set_int, set_ref, gives_up, take_kind_of, cell_at, cell_mode_of, accessed, accesses, lock_is_null, indexed, takes_local, returned, called, op_turn, end_turn, line_turn, turn, on_turn, exec, start, with_event}, Path.{after, at_after, asked, asked_by, IsPath, PathsAreRuns}}
-use Rattle.sharc_flat.specs.declared.op.Op.TheVariants as op
-use Rattle.sharc_wants_laws.proofs.SoleQuiet.{given_same, no_events, base_events, handed_events}
 
--- ---- what reports no event
--- a turn before it is answered; and what comes with the answer reports none besides
+-- ---- events, and what is given up
+-- no event is told, and nothing is taken back of what was given up
+abbrev pub IsStill : At → At → Type 0
+IsStill m m2 = (m2.events ≡ m.events) × (extra : List GivenUp) × (m2.given ≡ m.given ++ extra)
+
+-- nor by a turn before it is answered; and what comes with the answer tells no other event
 abbrev pub IsQuiet : At → Turn → Type 0
-IsQuiet m (goes m2) = m2.events ≡ m.events
-IsQuiet m (asks m2 site act held go) = (m2.events ≡ m.events) × ((v : ℤ) (n : At) → (go v n).events ≡ n.events)
+IsQuiet m (goes m2) = IsStill m m2
+IsQuiet m (asks m2 site act held go) = IsStill m m2 × (m2.refs ≡ m.refs) × ((v : ℤ) (n : At) → (go v n).events ≡ n.events)
 IsQuiet m (halts o) = Unit {0}
+
+-- as much is given up
+pub same_given : (m : At) → m.given ≡ m.given ++ []
+same_given m = sym (append-nil m.given)
 
 cond_quiet : (b : Bool) (x y : Turn) (m : At) → IsQuiet m x → IsQuiet m y → IsQuiet m (cond b x y)
 cond_quiet true x y m p q = p
 cond_quiet false x y m p q = q
 
 asserts_quiet : (b : Bool) (trap : Trap) (spot : Spot) (m : At) → IsQuiet m (asserts b trap spot m)
-asserts_quiet b trap spot m = cond_quiet b (goes_on m) (stops trap spot) m refl tt
+asserts_quiet b trap spot m = cond_quiet b (goes_on m) (stops trap spot) m (refl, [], same_given m) tt
 
 result_quiet : (i : ℕ) (spot : Spot) (m : At) (r : Result ℤ Trap) → IsQuiet m (with_result i spot m r)
-result_quiet i spot m (Ok v) = refl
+result_quiet i spot m (Ok v) = (refl, [], same_given m)
 result_quiet i spot m (Err code) = tt
 
 indexed_quiet : (i cells field : ℕ) (v : ℤ) (elements : ℕ) (spot : Spot) (m : At) → IsQuiet m (indexed i cells field v elements spot m)
-indexed_quiet i cells field (pos n) elements spot m = cond_quiet (nat_lt n elements) (goes_on (set_int i (pos (n * cells + field)) m)) (stops traps.IndexOutOfBounds spot) m refl tt
+indexed_quiet i cells field (pos n) elements spot m = cond_quiet (nat_lt n elements) (goes_on (set_int i (pos (n * cells + field)) m)) (stops traps.IndexOutOfBounds spot) m (refl, [], same_given m) tt
 indexed_quiet i cells field (negsuc n) elements spot m = tt
 
-skip_quiet : (b : Bool) (n : ℕ) (m : At) → (cond b (over_lines n m) (next m)).events ≡ m.events
-skip_quiet true n m = refl
-skip_quiet false n m = refl
+skip_quiet : (b : Bool) (n : ℕ) (m : At) → IsStill m (cond b (over_lines n m) (next m))
+skip_quiet true n m = (refl, [], same_given m)
+skip_quiet false n m = (refl, [], same_given m)
 
 accesses_quiet : (globals : List GlobalCells) (cell : Cell) (spot : Spot) (act : CellAt → CellMode → Act) (then_ : CellAt → ℤ → At → At) (m : At) → ((c : CellAt) (v : ℤ) (n : At) → (then_ c v n).events ≡ n.events)
     → IsQuiet m (accesses globals cell spot act then_ m)
 accesses_quiet globals cell spot act then_ m k =
     cond_quiet (lock_is_null m spot spot.mode) (stops traps.NullPointer spot)
     (asks m spot.site (act (cell_at globals m cell) (cell_mode_of globals m (cell_at globals m cell) spot.mode)) (pos 0) (λ v n. accessed (next (then_ (cell_at globals m cell) v n)))) m tt
-    (refl, k (cell_at globals m cell))
+    ((refl, [], same_given m), refl, k (cell_at globals m cell))
 
 returned_quiet : (flat : Flat) (frames : List Caller) (spot : Spot) (m : At) → IsQuiet m (returned flat frames spot m)
-returned_quiet flat [] spot m = cond_quiet (not (nat_lt 0 (length (held_mutexes m.events)))) (goes (record m { pc = length flat.lines })) (stops traps.ReturnWithLockHeld spot) m refl tt
-returned_quiet flat (c ∷ rest) spot m = refl
+returned_quiet flat [] spot m = cond_quiet (not (nat_lt 0 (length (held_mutexes m.events)))) (goes (record m { pc = length flat.lines })) (stops traps.ReturnWithLockHeld spot) m (refl, [], same_given m) tt
+returned_quiet flat (c ∷ rest) spot m = (refl, [], same_given m)
 
 takes_quiet : (r x : ℕ) (spot : Spot) (m : At) (b : Bool) → IsQuiet m (takes_local r x spot m b)
-takes_quiet r x spot m true = refl
-takes_quiet r x spot m false = (refl, λ v n. refl)
+takes_quiet r x spot m true = (refl, [], same_given m)
+takes_quiet r x spot m false = ((refl, [], same_given m), refl, λ v n. refl)
+
+pub base_events : (cell : Cell) (n : At) → (without_base cell n).events ≡ n.events
+base_events (cells.Object r k) n = refl
+base_events _ n = refl
+
+pub handed_events : (from : Register) (n : At) → (handed from n).events ≡ n.events
+handed_events (registers.Int i) n = refl
+handed_events (registers.Reference r) n = refl
 
 op_quiet : (flat : Flat) (o : Op) (m : At) → IsQuiet m (op_turn flat o m)
 op_quiet flat (op.Compute width o i a b spot) m = result_quiet i spot m (computed width o (int m a) (int m b))
@@ -60,7 +75,7 @@ op_quiet flat (op.Negate width i a spot) m = result_quiet i spot m (negated widt
 op_quiet flat (op.ChkWidth width i spot) m = asserts_quiet (holds width (int m i)) traps.OutOfRange spot m
 op_quiet flat (op.SkipIfZero i n) m = skip_quiet (is_zero (int m i)) n m
 op_quiet flat (op.SkipIfNull r n) m = skip_quiet (is_null (ref m r)) n m
-op_quiet flat (op.Call f ints refs spot) m = cond_quiet (nat_lt (length m.frames) 255) (goes (called flat f ints refs m)) (stops traps.CallDepth spot) m refl tt
+op_quiet flat (op.Call f ints refs spot) m = cond_quiet (nat_lt (length m.frames) 255) (goes (called flat f ints refs m)) (stops traps.CallDepth spot) m (refl, [], same_given m) tt
 op_quiet flat (op.Return spot) m = returned_quiet flat m.frames spot m
 op_quiet flat (op.ChkNull r spot) m = asserts_quiet (not (is_null (ref m r))) traps.NullPointer spot m
 op_quiet flat (op.ChkPositive i spot) m = asserts_quiet (is_positive (int m i)) traps.SizeNotPositive spot m
@@ -75,61 +90,75 @@ op_quiet flat (op.LoadRef r cell spot) m = accesses_quiet flat.globals cell spot
 op_quiet flat (op.StoreRef r cell spot) m = accesses_quiet flat.globals cell spot (λ c mode. acts.Write c mode (ref m r)) (λ c v n. gives_up (Replaced c) (set_ref r (pos 0) n)) m (λ c v n. refl)
 op_quiet flat (op.TakeCell r cell spot) m = accesses_quiet flat.globals cell spot (λ c mode. acts.Take (taken.Cell c mode) (take_kind_of spot.at)) (λ c v. set_ref r v) m (λ c v n. refl)
 op_quiet flat (op.TakeLocal r x spot) m = takes_quiet r x spot m (is_null (ref m x))
-op_quiet flat (op.Free r layout spot) m = (refl, λ v n. refl)
-op_quiet flat (op.LoadGuard cell spot) m = (refl, λ v n. refl)
-op_quiet flat (op.New r count cells spot) m = (refl, λ v n. refl)
-op_quiet flat (op.Give r cells spot) m = (refl, λ v n. refl)
-op_quiet flat (op.Lock cell spot) m = (refl, λ v n. base_events cell n)
-op_quiet flat (op.Unlock r cell spot) m = (refl, λ v n. refl)
-op_quiet flat (op.CondEnter cell spot) m = (refl, λ v n. refl)
-op_quiet flat (op.CondWait cell spot) m = (refl, λ v n. refl)
-op_quiet flat (op.CondSignal cell spot) m = (refl, λ v n. refl)
-op_quiet flat (op.CondBroadcast cell spot) m = (refl, λ v n. refl)
-op_quiet flat (op.Spawn i f from spot) m = (refl, λ v n. handed_events from n)
-op_quiet flat (op.Join i spot) m = (refl, λ v n. refl)
-op_quiet flat (op.Print i spot) m = (refl, λ v n. refl)
-op_quiet flat _ m = refl
+op_quiet flat (op.Pop r) m = (refl, Released (number_of (ref m r)) ∷ [], refl)
+op_quiet flat (op.Settle x from) m = (refl, Released (number_of (ref m x)) ∷ [], refl)
+op_quiet flat (op.Free r layout spot) m = ((refl, Emptied (number_of (ref m r)) ∷ [], refl), refl, λ v n. refl)
+op_quiet flat (op.LoadGuard cell spot) m = ((refl, [], same_given m), refl, λ v n. refl)
+op_quiet flat (op.New r count cells spot) m = ((refl, [], same_given m), refl, λ v n. refl)
+op_quiet flat (op.Give r cells spot) m = ((refl, [], same_given m), refl, λ v n. refl)
+op_quiet flat (op.Lock cell spot) m = ((refl, [], same_given m), refl, λ v n. base_events cell n)
+op_quiet flat (op.Unlock r cell spot) m = ((refl, [], same_given m), refl, λ v n. refl)
+op_quiet flat (op.CondEnter cell spot) m = ((refl, [], same_given m), refl, λ v n. refl)
+op_quiet flat (op.CondWait cell spot) m = ((refl, [], same_given m), refl, λ v n. refl)
+op_quiet flat (op.CondSignal cell spot) m = ((refl, [], same_given m), refl, λ v n. refl)
+op_quiet flat (op.CondBroadcast cell spot) m = ((refl, [], same_given m), refl, λ v n. refl)
+op_quiet flat (op.Spawn i f from spot) m = ((refl, [], same_given m), refl, λ v n. handed_events from n)
+op_quiet flat (op.Join i spot) m = ((refl, [], same_given m), refl, λ v n. refl)
+op_quiet flat (op.Print i spot) m = ((refl, [], same_given m), refl, λ v n. refl)
+op_quiet flat _ m = (refl, [], same_given m)
 
-line_quiet : (flat : Flat) (o : Option Op) (m : At) → IsQuiet m (line_turn flat o m)
+pub line_quiet : (flat : Flat) (o : Option Op) (m : At) → IsQuiet m (line_turn flat o m)
 line_quiet flat (Some o) m = op_quiet flat o m
 line_quiet flat None m = by_place (m.pc - length flat.lines)
   where
     by_place : (n : ℕ) → IsQuiet m (end_turn flat m n)
-    by_place zero = (refl, λ v n. refl)
-    by_place (suc zero) = (refl, λ v n. refl)
     by_place (suc (suc n)) = tt
-
-turn_quiet : (flat : Flat) (m : At) → IsQuiet m (turn flat m)
-turn_quiet flat m = line_quiet flat (slice_get flat.lines m.pc) m
+    by_place _ = ((refl, [], same_given m), refl, λ v n. refl)
 
 -- so what is not answered leaves the events as they are
 pub still : (flat : Flat) (k : ℕ) (m : At) → (exec flat k [] m).at.events ≡ m.events
 still flat zero m = refl
-still flat (suc k) m = by_turn (turn flat m) (turn_quiet flat m) (still flat k)
+still flat (suc k) m = by_turn (turn flat m) (line_quiet flat (slice_get flat.lines m.pc) m) (still flat k)
   where
     by_turn : (t : Turn) → IsQuiet m t → ((m2 : At) → (exec flat k [] m2).at.events ≡ m2.events) → (on_turn t [] m (exec flat k)).at.events ≡ m.events
-    by_turn (goes m2) q rec = rec m2 ∙ q
-    by_turn (asks m2 site act held go) q rec = q.0
+    by_turn (goes m2) q rec = rec m2 ∙ q.0
+    by_turn (asks m2 site act held go) q rec = q.0.0
     by_turn (halts o) q rec = refl
 
--- ---- a path by what its events answer
--- what a turn answers, by what it was given
+-- what a turn answers, by what it was told
 abbrev given_by : Turn → ℤ → ℤ
-given_by (goes m2) x = x
 given_by (asks m2 site act held go) x = answer_of (λ token. held) act x
-given_by (halts o) x = x
+given_by _ x = x
 
 abbrev pub given_in : Flat → At → List ℤ → List ℤ
 given_in flat m [] = []
 given_in flat m (x ∷ earlier) = given_by (turn flat (at_after flat m earlier)) x ∷ given_in flat m earlier
 
--- each turn that asks reports one event, with this answer
+pub again : (held : ℤ) (act : Act) (x : ℤ) → answer_of (λ token. held) act (answer_of (λ token. held) act x) ≡ answer_of (λ token. held) act x
+again held (acts.Take (taken.Cell c mode) kind) x = refl
+again held _ x = refl
+
+pub same_after : (m : At) (t : Turn) (x : ℤ) → after m t (given_by t x) ≡ after m t x
+same_after m (asks m2 site act held go) x = ap (λ a. go a (with_event (event_of site act a) m2)) (again held act x)
+same_after m _ x = refl
+
+pub given_same : (flat : Flat) (m : At) (answers : List ℤ) → at_after flat m (given_in flat m answers) ≡ at_after flat m answers
+given_same flat m [] = refl
+given_same flat m (x ∷ earlier) =
+    let t = turn flat (at_after flat m earlier) in
+    ap (λ n. after n (turn flat n) (given_by t x)) (given_same flat m earlier) ∙ same_after (at_after flat m earlier) t x
+
+pub given_path : (flat : Flat) (m : At) (answers : List ℤ) → IsPath flat m answers → IsPath flat m (given_in flat m answers)
+given_path flat m [] path = tt
+given_path flat m (x ∷ earlier) path = (given_path flat m earlier path.0, subst (λ n. may_go (turn flat n) ≡ true) (sym (given_same flat m earlier)) path.1)
+
+-- each turn that asks tells one event, with this answer
 told_one : (t : Turn) (now : At) (x : ℤ) → IsQuiet now t → answers_of (after now t x).events ≡ answers_of now.events ++ asked_by t (given_by t x)
-told_one (goes m2) now x q = ap answers_of q ∙ sym (append-nil (answers_of now.events))
+told_one (goes m2) now x q = ap answers_of q.0 ∙ sym (append-nil (answers_of now.events))
 told_one (asks m2 site act held go) now x q =
     let answer = answer_of (λ token. held) act x in
     let e = event_of site act answer in
-    ap answers_of (q.1 answer (with_event e m2)) ∙ map-append (λ (e : SourceEvent). e.answer) m2.events (e ∷ []) ∙ ap (λ es. answers_of es ++ answer ∷ []) q.0
+    ap answers_of (q.2 answer (with_event e m2)) ∙ map-append (λ (e : SourceEvent). e.answer) m2.events (e ∷ []) ∙ ap (λ es. answers_of es ++ answer ∷ []) q.0.0
 told_one (halts o) now x q = sym (append-nil (answers_of now.events))
 
 told_all : (flat : Flat) (m : At) (answers : List ℤ) → answers_of (at_after flat m answers).events ≡ answers_of m.events ++ asked flat m (given_in flat m answers)
@@ -137,23 +166,29 @@ told_all flat m [] = sym (append-nil (answers_of m.events))
 told_all flat m (x ∷ earlier) =
     let now = at_after flat m earlier in
     let t = turn flat now in
-    told_one t now x (turn_quiet flat now) ∙ ap (λ xs. xs ++ asked_by t (given_by t x)) (told_all flat m earlier)
+    told_one t now x (line_quiet flat (slice_get flat.lines now.pc) now) ∙ ap (λ xs. xs ++ asked_by t (given_by t x)) (told_all flat m earlier)
     ∙ append_assoc (answers_of m.events) (asked flat m (given_in flat m earlier)) (asked_by t (given_by t x))
     ∙ ap (λ n. answers_of m.events ++ (asked flat m (given_in flat m earlier) ++ asked_by (turn flat n) (given_by t x))) (sym (given_same flat m earlier))
 
--- the answers are those of the path's own events
+pub no_events : (flat : Flat) (f : ℕ) (v : ℤ) → (start flat f v).events ≡ []
+no_events flat f v = by (function_of flat f).parameter
+  where
+    by : (q : Parameter) → (begun q v (first_at flat f)).events ≡ []
+    by parameters.Int = refl
+    by _ = refl
+
+-- ---- a path and its beginnings
 pub are_own : (flat : Flat) (f : ℕ) (v : ℤ) (answers : List ℤ) → asked flat (start flat f v) (given_in flat (start flat f v) answers) ≡ answers_of (at_after flat (start flat f v) answers).events
 are_own flat f v answers =
     let st = start flat f v in
     sym (told_all flat st answers ∙ ap (λ es. answers_of es ++ asked flat st (given_in flat st answers)) (no_events flat f v))
 
--- ---- beyond a path
 module _ (runs : PathsAreRuns) (flat : Flat) (st : At) (answers : List ℤ) (path : IsPath flat st answers) where
-  -- past it nothing is answered
+  -- past the path nothing is answered
   goes_beyond : (k : ℕ) → exec flat (length answers + k) (asked flat st answers) st ≡ exec flat k [] (at_after flat st answers)
   goes_beyond k = ap (λ xs. exec flat (length answers + k) xs st) (sym (append-nil (asked flat st answers))) ∙ runs flat st answers path k []
 
-  -- this many turns lead one turn beyond it at least
+  -- so many turns lead one turn beyond the path at least
   pub record IsBeyond (later : ℕ) : Type 0 where
     pub more : ℕ
     pub is : exec flat later (asked flat st answers) st ≡ exec flat (suc more) [] (at_after flat st answers)

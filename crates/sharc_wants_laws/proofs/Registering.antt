@@ -5,15 +5,15 @@ use Rattle.sharc_tree.specs.{declared.event.Act.TheVariants.Started, declared.ev
 use Rattle.sharc_ctype.specs.Resolved.{function_at}
 use Rattle.sharc_mode.specs.Moded.{Assignment}
 use Rattle.sharc_meaning.specs.Meaning as Meaning
-use Rattle.sharc_meaning.specs.{Reference.{is_null, number_of}, References.refers, Runs.{IsNamedAt, answers_of}, State.{Outcome, wants, ended, stopped, spent}}
-use Rattle.sharc_code.specs.{declared.code.Code.Code, declared.code.Function.Function, declared.instr.Instr.Instr, declared.instr.Instr.TheVariants.{Exit, Free, Lower, MoveReference, RaiseLoaded, TestSole}, declared.shape.Shape.Shape, declared.state.Stage.Stage, declared.state.Stage.TheVariants.Links, declared.state.TurnState.TurnState, declared.state.TurnState.TheVariants.{Runs, Tries, Stopped, Ended}, declared.state.Stop.Stop, declared.state.Stop.TheVariants.{Conflict, NoLock, NotSole, Trap as Trapped}, Machine.{Machine, instr_at, no_function, function_of}, Path.may_go, Says.reference}
+use Rattle.sharc_meaning.specs.{Reference.{is_null, number_of}, References.refers, Runs.{IsNamedAt, answers_of}, State.{Outcome, spent}}
+use Rattle.sharc_code.specs.{declared.code.Code.Code, declared.code.Function.Function, declared.instr.Instr.Instr, declared.instr.Instr.TheVariants.{Exit, Free, Lower, MoveReference, RaiseLoaded, TestSole}, declared.shape.Shape.Shape, declared.state.Stage.Stage, declared.state.Stage.TheVariants.Links, declared.state.TurnState.TurnState, declared.state.TurnState.TheVariants.{Stopped, Ended}, declared.state.Stop.Stop, declared.state.Stop.TheVariants.Trap as Trapped, Machine.{Machine, instr_at, no_function, function_of}, Path.may_go, Says.reference}
 use Rattle.sharc_flat.specs.{Machine.{Flat, At, Came, exec, start, turn}, Path.{at_after, asked, PathsAreRuns}, Correct.{AsksTheSame, MayStart, SameAs}}
 use Rattle.sharc_guard.specs.{declared.guarded.Guarded.Guarded, Machine.{Program, Thread, statement_at}, Path.{started, thread_after}, Counted.{GuardedCounts, HasCome as Comes, Held, IsSettling, LocksStand, Tells}, Guard.{entered_at, guarded, place}, Level.IsLevel}
 use Rattle.sharc_guard.specs.Machine as Form
 use Rattle.sharc_compile.specs.{Consistent.{Elements, IsNumber}, Correct.{by, begins, HasCome}, Generated.{IsGenerated, instr_of, program_of}, Related.{IsAt, IsAtStage, IsLinking, IsOver, Refuses, StopsAt}}
 use Rattle.sharc_invariant.specs.Words.{is_freed, register_of}
 use Rattle.sharc_wants_laws.specs.Registered.{IsLoadedHere, IsRegistered}
-use Rattle.sharc_wants_laws.proofs.{Copying.{quietly_from, more_turns}, Holding.{Way, way, number_is}, SoleQuiet.{given_in, given_same, given_path, are_own, beyond, IsBeyond}, Testing.{Wants, test_is, no_free, stays, wants_it}, Wanting.{mapped_at, answers_by}}
+use Rattle.sharc_wants_laws.proofs.{Copying.{quietly_from, more_turns}, Holding.{Way, way}, Quiet.{given_in, given_same, given_path, are_own, beyond, IsBeyond}, Testing.{Wants, test_is, no_free, stays, wants_it}, Wanting.{mapped_at, answers_by}, Cells.number_is}
 use Rattle.sharc_lemmas.proofs.Lists.{set_null as set_none}
 
 -- ---- references and numbers
@@ -30,7 +30,6 @@ refers_as n a b same is = subst (λ v. refers n v ≡ true) same is
 -- ---- registers that are not freed
 not_linking : (i : Instr) (stage : Stage) (base k : ℕ) → ((e : ℕ) → stage ≡ Links e → ⊥) → is_freed i stage base k ≡ false
 not_linking (Free r layout site) (Links e) base k never = absurd (never e refl)
-not_linking (Free r layout site) _ base k never = refl
 not_linking _ stage base k never = refl
 
 at_no_link : (m : Machine) (i : Instr) (stage : Stage) → IsAtStage m i stage → (e : ℕ) → stage ≡ Links e → ⊥
@@ -51,23 +50,20 @@ module _ (p : Program) (a : Thread) (register : ℕ) (raises : statement_at p a.
   goes_on = (_, ap (λ i. Form.step p i a) raises)
 
   no_stop : (stop : Stop) → StopsAt p a stop → ⊥
-  no_stop (Conflict c) h = goes_no_check goes_on.0 h.1.next _ _ (sym goes_on.1 ∙ h.1.checks)
-  no_stop (NoLock site mutex) h = goes_no_check goes_on.0 h.1.next _ _ (sym goes_on.1 ∙ h.1.checks)
-  no_stop (NotSole site count) h = goes_no_check goes_on.0 h.1.next _ _ (sym goes_on.1 ∙ h.1.checks)
   no_stop (Trapped trap site) h = ⊎_elim
       (λ halts. goes_no_halt goes_on.0 _ (sym goes_on.1 ∙ halts))
       (λ refuses. subst (λ i. Refuses i trap site) raises refuses)
       h
+  no_stop _ h = goes_no_check goes_on.0 h.1.next _ _ (sym goes_on.1 ∙ h.1.checks)
 
   not_stopped : (stop : Option Stop) → IsSomeAnd stop (StopsAt p a) → ⊥
   not_stopped None h = h
   not_stopped (Some stop) h = no_stop stop h
 
   pub on : (state : TurnState) (stop : Option Stop) → IsOver p a state stop → may_go state ≡ true
-  on Runs stop h = refl
-  on Tries stop h = refl
   on Stopped stop h = absurd (not_stopped stop h)
   on Ended stop h = absurd (goes_no_halt goes_on.0 _ (sym goes_on.1 ∙ h))
+  on _ stop h = refl
 
 -- ---- what flat code holds, guarded code counts, but for what was loaded
 record IsLoaded (p : Program) (a : Thread) (n : ℕ) : Type 0 where
@@ -102,10 +98,8 @@ no_settling p m a register site tests held k = ⊎_elim
 
 -- ---- an outcome
 is_spent : (o : Outcome) → (o ≡ spent) ⊎ (o ≡ spent → ⊥)
-is_spent (wants e) = inr (λ h. cc)
-is_spent ended = inr (λ h. cc)
-is_spent (stopped trap site) = inr (λ h. cc)
 is_spent spent = inl refl
+is_spent _ = inr (λ h. cc)
 
 -- ---- by the path of a thread
 -- the same of what is asked for by these events

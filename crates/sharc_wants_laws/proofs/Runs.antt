@@ -2,7 +2,7 @@
 use Rattle.std.proofs.Common.{◌≡◌, ℕ, zero, suc, ◌+◌, ◌<◌, ◌≤◌, Bool, true, false, cond, List, [], ◌∷◌, ◌++◌, refl, sym, ap, ◌∙◌, subst, arith, length, take, drop, take_at, append-nil}
 use Rattle.std.specs.{List.AllByRecursion, Prelude.ℤ}
 use Rattle.sharc_ctype.specs.Resolved.{Resolution}
-use Rattle.sharc_meaning.specs.{declared.variable.Variable.Variable, State.{Frame, State, Outcome, wants, ended, stopped, spent, Out, go, over, Run, Step, then_on, ◌>>=◌, ◌>>◌, give, entered, enters_with, all_released, pointers_among, ends_temporaries, temporarily, ends_variables, in_block}, Statements.{Flow, next, broken, continued, returned, on_turn, turns, loop}}
+use Rattle.sharc_meaning.specs.{declared.variable.Variable.Variable, State.{Frame, State, Outcome, wants, spent, Out, go, over, Run, Step, then_on, ◌>>=◌, ◌>>◌, give, entered, enters_with, all_released, pointers_among, ends_temporaries, temporarily, ends_variables, in_block}, Statements.{Flow, next, broken, returned, on_turn, turns, loop}}
 use Rattle.sharc_wants_laws.proofs.Counts.{Declared, total, cut_temporaries, cut_variables}
 
 abbrev pub state_of : {A : Type 0} → Out A → State
@@ -58,11 +58,10 @@ moves_level true e w v h = omega arith
 moves_on : (a b c : Bool) (e w f v g u : ℕ) → Moves a b e w f v → Moves b c f v g u → Moves a c e w g u
 moves_on false false false e w f v g u h k = up_on e w f v g u h k
 moves_on false false true e w f v g u h k = let a : e ≤ f = h.events in omega arith
-moves_on false true false e w f v g u h k = absurd k
 moves_on false true true e w f v g u h k = omega arith
 moves_on true false c e w f v g u h k = absurd h
-moves_on true true false e w f v g u h k = absurd k
 moves_on true true true e w f v g u h k = omega arith
+moves_on _ true false e w f v g u h k = absurd k
 
 -- it ends after such a move
 moves_over : (a b : Bool) (e w f v g u : ℕ) → Moves a b e w f v → Moves b b f v g u → Moves a a e w g u
@@ -133,9 +132,7 @@ module _ (r : Resolution) (n : ℕ) where
     -- where the fuel was spent it goes on, and loses nothing
     abbrev pub Past : {A : Type 0} → Outcome → State → Out A → Type 0
     Past spent t o' = Up t (state_of o')
-    Past (wants e) t o' = o' ≡ over (wants e) (more t)
-    Past ended t o' = o' ≡ over ended (more t)
-    Past (stopped trap site) t o' = o' ≡ over (stopped trap site) (more t)
+    Past k t o' = o' ≡ over k (more t)
 
     abbrev pub Goes : {A : Type 0} → Out A → Out A → Type 0
     Goes (go x t) o' = o' ≡ go x (more t)
@@ -143,9 +140,7 @@ module _ (r : Resolution) (n : ℕ) where
 
     past_steady : (A : Type 0) (o : Outcome) (t : State) → Past {A = A} o t (over o (more t))
     past_steady A spent t = up_level _ _ _ (omega arith)
-    past_steady A (wants e) t = refl
-    past_steady A ended t = refl
-    past_steady A (stopped trap site) t = refl
+    past_steady A _ t = refl
 
     pub goes_steady : {A : Type 0} (o o' : Out A) → o' ≡ more_out o → Goes o o'
     goes_steady (go x t) o' h = h
@@ -156,8 +151,7 @@ module _ (r : Resolution) (n : ℕ) where
     past_then spent t (go x u) f p q e w callers h k l = up_on _ _ _ _ _ _ h (ran_up _ _ u.callers q (f x u) (l x u.frame.temporaries k.after u (refl, k.declared)))
     past_then spent t (over o2 u) f p q e w callers h k l = h
     past_then (wants z) t o' f p q e w callers h k l = ap (λ z. then_on z f) h
-    past_then ended t o' f p q e w callers h k l = ap (λ z. then_on z f) h
-    past_then (stopped trap site) t o' f p q e w callers h k l = ap (λ z. then_on z f) h
+    past_then _ t o' f p q e w callers h k l = ap (λ z. then_on z f) h
 
     -- run by run, the second with more fuel
     pub goes_then : {A B : Type 0} (o o' : Out A) (f f' : A → Run B) (p : A → List ℤ → Type 0) (q : B → List ℤ → Type 0) (e w : ℕ) (callers : List Frame) → Goes o o' → RanBy false false e w callers p o → RanBy false false e w callers p o'
@@ -209,9 +203,7 @@ module _ (r : Resolution) (n : ℕ) where
 
     past_after : {A : Type 0} (W : Out A → Out A) (o : Outcome) (t : State) (o' : Out A) → ((o : Outcome) (s : State) → W (over o s) ≡ over o s) → Up (state_of o') (state_of (W o')) → Past o t o' → Past o t (W o')
     past_after W spent t o' ends up h = up_on _ _ _ _ _ _ h up
-    past_after W (wants e) t o' ends up h = ap W h ∙ ends (wants e) (more t)
-    past_after W ended t o' ends up h = ap W h ∙ ends ended (more t)
-    past_after W (stopped trap site) t o' ends up h = ap W h ∙ ends (stopped trap site) (more t)
+    past_after W k t o' ends up h = ap W h ∙ ends k (more t)
 
     pub goes_after : {A : Type 0} (W : Out A → Out A) (w : State → State) (o o' : Out A) → ((x : A) (s : State) → W (go x s) ≡ go x (w s)) → ((o : Outcome) (s : State) → W (over o s) ≡ over o s) → ((s : State) → w (more s) ≡ more (w s))
         → Up (state_of o') (state_of (W o')) → Goes o o' → Goes (W o) (W o')
@@ -278,16 +270,14 @@ module _ (r : Resolution) (n : ℕ) where
     ran_give ts x s at = record { moves = up_level _ _ _ (omega arith); callers_same = refl; declared = at.1; after = at.0 }
 
     ran_turn : (ts : List ℤ) (fl : Flow) (m : Run Flow) (s : State) → At ts s → Ran false false s (Same ts) (m s) → Ran false false s (Same ts) (on_turn fl m s)
-    ran_turn ts next m s at h = h
-    ran_turn ts continued m s at h = h
     ran_turn ts broken m s at h = ran_give ts next s at
     ran_turn ts (returned site v) m s at h = ran_give ts (returned site v) s at
+    ran_turn ts _ m s at h = h
 
     goes_turn : (fl : Flow) (m m' : Run Flow) (s : State) → Goes (m s) (m' (more s)) → Goes (on_turn fl m s) (on_turn fl m' (more s))
-    goes_turn next m m' s h = h
-    goes_turn continued m m' s h = h
     goes_turn broken m m' s h = refl
     goes_turn (returned site v) m m' s h = refl
+    goes_turn _ m m' s h = h
 
     ran_either : {A : Type 0} (b : Bool) (x y : Run A) (s : State) (p : A → List ℤ → Type 0) → Ran false false s p (x s) → Ran false false s p (y s) → Ran false false s p (cond b x y s)
     ran_either true x y s p hx hy = hx

@@ -1,5 +1,5 @@
 -- From what a thread's registers have to the references of its history.
-use Rattle.std.proofs.{Common.{◌≡◌, ℕ, zero, suc, ℤ, pos, negsuc, ◌+◌, ◌-◌, ◌<◌, ◌≤◌, ◌⊎◌, inl, inr, Bool, true, false, cond, List, [], ◌∷◌, ◌++◌, refl, sym, ap, ◌∙◌, subst, arith, eq-eqb, get_or, nat_lt, ltb-true, ltb-false, Option, Some, None}, lemmas.List.Elements.filter-append}
+use Rattle.std.proofs.{Common.{◌≡◌, ℕ, zero, ℤ, pos, ◌+◌, ◌-◌, ◌<◌, ◌≤◌, ◌⊎◌, inl, inr, Bool, true, false, cond, List, [], ◌∷◌, ◌++◌, refl, sym, ap, ◌∙◌, subst, arith, eq-eqb, get_or, nat_lt, ltb-true, ltb-false, Option, Some, None}, lemmas.List.Elements.filter-append}
 use Rattle.std.specs.Prelude.{slice_index}
 use Rattle.sharc_tree.specs.{declared.event.Act.TheVariants.Started, declared.event.SourceEvent.SourceEvent, declared.token.Site.Site, Low.IsLow, Placed.IsPlaced, Tree.Function}
 use Rattle.sharc_names.specs.declared.fault.Named.TheVariants as named
@@ -17,8 +17,7 @@ use Rattle.sharc_wants_laws.proofs.{Counting.{one_there, twice}, Given.left_is_g
 -- ---- one of a list
 number_refers : (n : ℕ) (v : ℤ) → number_of v ≡ n → 0 < n → refers n v ≡ true
 number_refers n (pos zero) is some = let none : 0 ≡ n = is in absurd (omega (arith, none, some))
-number_refers n (pos (suc k)) is some = eq-eqb (number_of (pos (suc k))) n is
-number_refers n (negsuc k) is some = eq-eqb (number_of (negsuc k)) n is
+number_refers n j is some = eq-eqb (number_of j) n is
 
 -- ---- the first event of a thread
 pub first_event : (thread : ℕ) (R before : List SourceEvent) (e : SourceEvent) (after : List SourceEvent) → R ≡ before ++ e ∷ after → events_of thread before ≡ [] → e.thread ≡ thread → events_of thread R ≡ e ∷ events_of thread after

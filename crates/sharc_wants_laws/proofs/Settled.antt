@@ -6,7 +6,7 @@ use Rattle.sharc_tree.specs.declared.event.Act.TheVariants as acts
 use Rattle.sharc_tree.specs.declared.event.Taken.TheVariants as taken
 use Rattle.sharc_ctype.specs.Resolved.{Resolution}
 use Rattle.sharc_mode.specs.{Cells.cell_at, Moded.Assignment, Sharings.Sharing}
-use Rattle.sharc_meaning.specs.{Cells.cell_of, Reference.{is_null, number_of}, References.taken_to_free, declared.given.GivenUp.GivenUp, declared.given.GivenUp.TheVariants.Emptied, State.{Frame, State, Outcome, wants, Out, go, over, Run, Step, then_on, ◌>>◌, give, done, enters_with, happens, answered, answer_of, value_of, event_of, ends_temporaries, ends_variables, without_temporaries, all_released, pointers_among}, Places.{StorePlace, variable, cell, access_mode, nulled, taken_from, freed}, Expressions.place_called, Statements.{Flow, next, broken, continued, returned, on_turn, turns}, Meaning.{back_in, with_frame}}
+use Rattle.sharc_meaning.specs.{Cells.cell_of, Reference.{is_null, number_of}, References.taken_to_free, declared.given.GivenUp.GivenUp, declared.given.GivenUp.TheVariants.Emptied, State.{Frame, State, Outcome, wants, Out, go, over, Run, Step, then_on, ◌>>◌, give, done, enters_with, happens, answered, answer_of, value_of, event_of, ends_temporaries, ends_variables, without_temporaries, all_released, pointers_among}, Places.{StorePlace, variable, cell, access_mode, nulled, taken_from, freed}, Expressions.place_called, Statements.{Flow, next, broken, returned, on_turn, turns}, Meaning.{back_in, with_frame}}
 use Rattle.sharc_wants_laws.specs.Freeing.{takes_something}
 use Rattle.sharc_wants_laws.proofs.Closed.{NotEmptied, Closed}
 
@@ -137,10 +137,9 @@ calm_then (go x s) g h k = k x s h
 calm_then (over o s) g h k = h
 
 calm_turn : (f : Flow) (m : Run Flow) (s : State) → Still s → Calm (m s) → Calm (on_turn f m s)
-calm_turn next m s h q = q
-calm_turn continued m s h q = q
 calm_turn broken m s h q = h
 calm_turn (returned site v) m s h q = h
+calm_turn _ m s h q = q
 
 calm_cond : {A : Type 0} (b : Bool) (m k : Run A) (s : State) → Calm (m s) → Calm (k s) → Calm (cond b m k s)
 calm_cond true m k s h l = h

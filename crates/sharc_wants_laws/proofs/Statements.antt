@@ -2,14 +2,14 @@
 use Rattle.std.proofs.Common.{ℕ, Bool, true, false, List, [], ◌∷◌, ◌++◌, refl, sym, ap, ◌∙◌, Option, Some, None, unsigned_abs}
 use Rattle.std.specs.{Prelude.{ℤ, pos, IfSome}, List.AllByRecursion}
 use Rattle.sharc_tree.specs.declared.event.Act.TheVariants as acts
-use Rattle.sharc_tree.specs.{declared.event.Object.TheVariants.{Global, Made}, declared.token.Site.Site, declared.tree.declaration.Declaration.Declaration, declared.tree.declaration.WrittenType.WrittenType, Measures.{expressions, in_option, in_right, in_simple, in_local, in_first, in_head, in_statement, in_statements}, Spans.span_of, Tree.{Expression, identifier, constant, parentheses, call, spawn, on_value, on_place, cast, index, field, unary, binary, Right, value, malloc, Simple, assign, does_call, Local, First, nothing, declares, does, Statement, empty, block, declare, simple, jump, return, if_then, if_then_else, while, for, Statements, no_statements, statement}}
+use Rattle.sharc_tree.specs.{declared.event.Object.TheVariants.{Global, Made}, declared.token.Site.Site, declared.tree.declaration.Declaration.Declaration, declared.tree.declaration.WrittenType.WrittenType, Measures.{expressions, in_option, in_right, in_simple, in_local, in_first, in_head, in_statement, in_statements}, Spans.span_of, Tree.{Expression, cast, Right, value, malloc, Simple, assign, does_call, Local, First, nothing, declares, does, Statement, empty, block, declare, simple, jump, return, if_then, if_then_else, while, for, Statements, no_statements, statement}}
 use Rattle.sharc_tree.specs.declared.trap.Trap.TheVariants as traps
 use Rattle.sharc_names.specs.declared.fault.Named.TheVariants as named
 use Rattle.sharc_names.specs.Kinds.{Kind, is_pointer, declared_kind}
 use Rattle.sharc_ctype.specs.{Resolved.{Resolution, kind_at, variable_kind}, Statements.{first_locals, locals_in, locals_in_all}}
 use Rattle.sharc_mode.specs.{Cells.{cell_at, pointed}, Moded.Assignment, Rows.{written, row_at, declared_row}, Sharings.{Sharing, private}}
 use Rattle.sharc_ctype_laws.specs.{Constraints.HasType, Declared.IsItself, Rules.{MeetsSimple, MeetsFirst, Meets, AllMeet}}
-use Rattle.sharc_meaning.specs.{Cells.{element_cells, instance_mode}, State.Run, Places.{StorePlace, variable, cell, stored}, Expressions.{Calls, tested, eval}, Statements.{Flow, next, broken, continued, returned, on_next, left_by, elements_made, is_positive, right_value, done_simple, initialised, declared, done_first, done_step, done_test, return_with, exec, exec_all}}
+use Rattle.sharc_meaning.specs.{Cells.{element_cells, instance_mode}, State.Run, Places.{StorePlace, variable, cell, stored}, Expressions.{Calls, tested, eval}, Statements.{Flow, next, returned, on_next, left_by, elements_made, is_positive, right_value, done_simple, initialised, declared, done_first, done_step, done_test, return_with, exec, exec_all}}
 use Rattle.sharc_wants_laws.proofs.Runs as runs
 use Rattle.sharc_wants_laws.proofs.{Runs.{Same, Starts, starts_on}, Typed.{Facts, Names, names_start, declared_reference, no_function_held}, Expressions.{Kept, Keeps, kept_give, kept_either, tested_kept, fitting_kept, CallsKeep, eval_kept, place_kept}}
 use Rattle.sharc_wants_laws.proofs.Steps as steps
@@ -27,18 +27,8 @@ abbrev pub Own : Resolution → List Declaration → Type 0
 Own r list = AllByRecursion (IsItself r named.Variable) list
 
 itself : (P : Expression → Type 0) (e : Expression) → AllByRecursion P (expressions e) → P e
-itself P (identifier s i) h = h.0
-itself P (constant s c) h = h.0
-itself P (parentheses s a) h = h.0
-itself P (call s f all) h = h.0
-itself P (spawn s f a) h = h.0
-itself P (on_value s w a) h = h.0
-itself P (on_place s w a) h = h.0
 itself P (cast s t a) h = h.0
-itself P (index s a i) h = h.0
-itself P (field s a w x) h = h.0
-itself P (unary s o a) h = h.0
-itself P (binary s o at a b) h = h.0
+itself P _ h = h.0
 
 module _ (m : Assignment) (n d : ℕ) (on_call : Calls) (hc : CallsKeep m n d on_call) (w : Facts m.typed) where
   typed_kept : (e : Expression) → AreTyped m.typed (expressions e) → Keeps m n d (eval on_call m e)
@@ -103,9 +93,7 @@ module _ (m : Assignment) (n d : ℕ) (on_call : Calls) (hc : CallsKeep m n d on
 
   next_kept : (ts : List ℤ) (flow : Flow) (rest : Run Flow) → Kept m n d ts rest (Same ts) → Kept m n d ts (on_next flow rest) (Same ts)
   next_kept ts next rest h = h
-  next_kept ts broken rest h = kept_give m n d ts broken (Same ts) refl
-  next_kept ts continued rest h = kept_give m n d ts continued (Same ts) refl
-  next_kept ts (returned site v) rest h = kept_give m n d ts (returned site v) (Same ts) refl
+  next_kept ts k rest h = kept_give m n d ts k (Same ts) refl
 
   -- ---- statements
 

@@ -8,7 +8,7 @@ use Rattle.sharc_tree.specs.declared.trap.Trap.TheVariants as traps
 use Rattle.sharc_names.specs.{declared.fault.Named.Named, Kinds.{Kind, is_pointer}}
 use Rattle.sharc_names.specs.declared.fault.Named.TheVariants as named
 use Rattle.sharc_ctype.specs.Resolved.{Resolution, declaration_at, variable_kind}
-use Rattle.sharc_mode.specs.Sharings.{Sharing, private, readonly, locked, racy, dynamic}
+use Rattle.sharc_mode.specs.Sharings.{Sharing, locked}
 use Rattle.sharc_meaning.specs.{Cells.{cell_of, Guard, mutex, behind, nothing as no_mutex, guard_of, instance_mode}, Events.{held_mutexes, holds_mutex}, Reference.{NULL, is_null, number_of}, declared.given.GivenUp.GivenUp, declared.given.GivenUp.TheVariants.{Released, Replaced, Emptied}, declared.variable.Variable.Variable, State.{State, Use, reads, writes, nulls, go, Run, then_on, ◌>>=◌, give, done, stop, unless_stop, happens, answered, performs, all_released, gives_up, drops, holds, holds_reference, moves, moves_on, is_reference, with_value, value_in, value_of, looks_at, traces, sets, reads_variable, new_variable, begins_with}, Places.{StorePlace, variable, cell, pointee, based, element, guarding, access_mode, fetched, stored, nulled, taken_from, cast_to, freed}, Waiting.{cell_at_place, lock_call, unlock_call, wait_call, signal_call, broadcast_call, condition_call, moves_base, gives_up_base}, Expressions.{resulting, named_value}}
 use Rattle.sharc_wants_laws.proofs.{Counts.{Declared, refs, rel, vars, one, gone, one_gone, one_null, refs_append, rel_append, vars_append, set_loses, set_keeps, still_declared}, Runs.{Same, moves_level, up_level}}
 use Rattle.sharc_wants_laws.proofs.Runs as runs
@@ -173,12 +173,9 @@ module _ (r : Resolution) (n d : ℕ) where
   atom_guarding b ts site no_mutex = atom_stop b b ts _ site (Same ts)
 
   atom_mode : (b : Bool) (ts : List ℤ) (r2 : Resolution) (site : Site) (mode : Sharing) (o : Object) (first : ℕ) → Atom b b ts (access_mode r2 site mode o first) (Same ts)
-  atom_mode b ts r2 site private o first = atom_give b ts _ (Same ts) refl
-  atom_mode b ts r2 site readonly o first = atom_give b ts _ (Same ts) refl
   atom_mode b ts r2 site (locked l) o first = runs.atom_next r n d b b b ts ts _ _ (Same ts) (atom_values b ts) (λ held.
       runs.atom_next r n d b b b ts ts _ _ (Same ts) (atom_guarding b ts site (guard_of r2 held o first l)) (λ c. atom_give b ts (Locked (Some c)) (Same ts) refl))
-  atom_mode b ts r2 site racy o first = atom_give b ts _ (Same ts) refl
-  atom_mode b ts r2 site dynamic o first = atom_give b ts _ (Same ts) refl
+  atom_mode b ts r2 site _ o first = atom_give b ts _ (Same ts) refl
 
   pub atom_fetched : (b : Bool) (ts : List ℤ) (r2 : Resolution) (site : Site) (mode : Sharing) (p : StorePlace) → Atom b b ts (fetched r2 site mode p) (Same ts)
   atom_fetched b ts r2 site mode (variable x) = atom_reads b ts site x
@@ -187,10 +184,7 @@ module _ (r : Resolution) (n d : ℕ) where
   pub atom_named : (b : Bool) (ts : List ℤ) (r2 : Resolution) (mode : Sharing) (site : Site) (k : Named) → Atom b b ts (named_value r2 mode site k) (Same ts)
   atom_named b ts r2 mode site (named.Variable token) = atom_reads b ts site token
   atom_named b ts r2 mode site (named.Global k) = atom_fetched b ts r2 site mode (cell (Global k) 0 0)
-  atom_named b ts r2 mode site (named.Struct k) = atom_give b ts (pos 0) (Same ts) refl
-  atom_named b ts r2 mode site (named.Function k) = atom_give b ts (pos 0) (Same ts) refl
-  atom_named b ts r2 mode site (named.Field k) = atom_give b ts (pos 0) (Same ts) refl
-  atom_named b ts r2 mode site named.Known = atom_give b ts (pos 0) (Same ts) refl
+  atom_named b ts r2 mode site _ = atom_give b ts (pos 0) (Same ts) refl
 
   -- A value that moves into a variable: the old one is given up, if the variable is a pointer.
 
@@ -312,8 +306,7 @@ module _ (r : Resolution) (n d : ℕ) where
 
   base_given : (b : Bool) (ts : List ℤ) (p : StorePlace) → Atom b b ts (gives_up_base p) (Same ts)
   base_given b ts (cell (Made k) first c) = atom_given b ts (Released k ∷ [])
-  base_given b ts (cell (Global g) first c) = atom_done b ts
-  base_given b ts (variable x) = atom_done b ts
+  base_given b ts _ = atom_done b ts
 
   pub atom_unlock : (ts : List ℤ) (site : Site) (p : StorePlace) → Atom false false ts (unlock_call site p) (Same ts)
   atom_unlock ts site p = runs.atom_next r n d false false false ts ts _ _ (Same ts) (atom_events false ts) (λ own.

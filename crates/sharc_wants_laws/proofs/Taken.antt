@@ -7,6 +7,7 @@ use Rattle.sharc_meaning.specs.{Events.{Stands, is_of, events_of, makes, frees, 
 use Rattle.sharc_meaning.specs.Runs as Runs
 use Rattle.sharc_wants_laws.specs.Freeing.{takes_something, EmptiesAtNext, FreesFollowIn, IsBeingTaken, TakenAreBeingTaken, LastTakersFree, EmptiersTookLast}
 use Rattle.sharc_wants_laws.proofs.Freeing.{frees_follow, emptied_were_taken}
+use Rattle.sharc_lemmas.proofs.Bools.{not_true as no_null}
 
 -- ---- lists
 
@@ -209,10 +210,6 @@ taken_are_being_taken m R n live taken = by_event (find (made_or_taken n) (rever
 -- ---- a thread whose last event takes something to free it
 refers_to : (n : ℕ) (v : ℤ) → refers n v ≡ true → (is_null v ≡ false) × (number_of v ≡ n)
 refers_to n v h = let p = and_parts (not (is_null v)) (number_of v == n) h in (no_null (is_null v) p.0, eqb-true (number_of v) n p.1)
-  where
-    no_null : (b : Bool) → not b ≡ true → b ≡ false
-    no_null true h = absurd (cc)
-    no_null false h = refl
 
 pub last_takers_free : LastTakersFree
 last_takers_free m R thread n t b = by asked_there.after refl

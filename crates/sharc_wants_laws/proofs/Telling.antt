@@ -11,7 +11,7 @@ use Rattle.sharc_wants_laws.specs.Wants.{IsThere, IsThereIn, IsNotThere, IsWhere
 use Rattle.sharc_lemmas.proofs.{Lists.reverse_cons, Numbers.same_test}
 
 -- ---- lists
-pub filter_reverse : (f : SourceEvent → Bool) (xs : List SourceEvent) → filter f (reverse xs) ≡ reverse (filter f xs)
+filter_reverse : (f : SourceEvent → Bool) (xs : List SourceEvent) → filter f (reverse xs) ≡ reverse (filter f xs)
 filter_reverse f [] = refl
 filter_reverse f (x ∷ xs) =
     ap (filter f) (reverse_cons x xs) ∙ filter-append f (reverse xs) (x ∷ []) ∙ ap (λ ys. ys ++ filter f (x ∷ [])) (filter_reverse f xs) ∙ by_test (f x)
@@ -25,15 +25,15 @@ abbrev AreOf : ℕ → List SourceEvent → Type 0
 AreOf t [] = Unit {0}
 AreOf t (e ∷ es) = (e.thread ≡ t) × AreOf t es
 
-pub of_append : (t : ℕ) (xs ys : List SourceEvent) → AreOf t xs → AreOf t ys → AreOf t (xs ++ ys)
+of_append : (t : ℕ) (xs ys : List SourceEvent) → AreOf t xs → AreOf t ys → AreOf t (xs ++ ys)
 of_append t [] ys a b = b
 of_append t (x ∷ xs) ys a b = (a.0, of_append t xs ys a.1 b)
 
-pub of_reverse : (t : ℕ) (xs : List SourceEvent) → AreOf t xs → AreOf t (reverse xs)
+of_reverse : (t : ℕ) (xs : List SourceEvent) → AreOf t xs → AreOf t (reverse xs)
 of_reverse t [] h = tt
 of_reverse t (x ∷ xs) h = subst (AreOf t) (sym (reverse_cons x xs)) (of_append t (reverse xs) (x ∷ []) (of_reverse t xs h.1) (h.0, tt))
 
-pub of_map : (t : ℕ) (es : List SourceEvent) → AreOf t (map (by t) es)
+of_map : (t : ℕ) (es : List SourceEvent) → AreOf t (map (by t) es)
 of_map t [] = tt
 of_map t (e ∷ es) = (refl, of_map t es)
 
@@ -42,7 +42,7 @@ abbrev AreSaidByOwn : List (Said SourceEvent) → Type 0
 AreSaidByOwn [] = Unit {0}
 AreSaidByOwn (s ∷ says) = (s.told.thread ≡ s.thread) × AreSaidByOwn says
 
-pub all_own : (says : List (Said SourceEvent)) → ((t : ℕ) → AreOf t (told_in (said_by t says))) → AreSaidByOwn says
+all_own : (says : List (Said SourceEvent)) → ((t : ℕ) → AreOf t (told_in (said_by t says))) → AreSaidByOwn says
 all_own [] h = tt
 all_own (s ∷ says) h = (head, all_own says (λ t. drops t (nat_eq t s.thread) (h t)))
   where
@@ -56,7 +56,7 @@ all_own (s ∷ says) h = (head, all_own says (λ t. drops t (nat_eq t s.thread) 
     drops t true k = k.1
     drops t false k = k
 
-pub filtered : (t : ℕ) (says : List (Said SourceEvent)) → AreSaidByOwn says → filter (is_of t) (told_in says) ≡ told_in (said_by t says)
+filtered : (t : ℕ) (says : List (Said SourceEvent)) → AreSaidByOwn says → filter (is_of t) (told_in says) ≡ told_in (said_by t says)
 filtered t [] h = refl
 filtered t (s ∷ says) h =
     ap (λ b. cond b (s.told ∷ filter (is_of t) (told_in says)) (filter (is_of t) (told_in says))) (ap (λ n. n == t) h.0 ∙ same_test s.thread t)
@@ -67,14 +67,14 @@ filtered t (s ∷ says) h =
     by_test false = refl
 
 -- ---- where its first event is
-record IsSplit (t : ℕ) (R : List SourceEvent) (e : SourceEvent) (es : List SourceEvent) : Type 0 where
-  before : List SourceEvent
-  after : List SourceEvent
-  is : R ≡ before ++ e ∷ after
-  none : events_of t before ≡ []
-  rest : events_of t after ≡ es
+pub record IsSplit (t : ℕ) (R : List SourceEvent) (e : SourceEvent) (es : List SourceEvent) : Type 0 where
+  pub before : List SourceEvent
+  pub after : List SourceEvent
+  pub is : R ≡ before ++ e ∷ after
+  pub none : events_of t before ≡ []
+  pub rest : events_of t after ≡ es
 
-split : (t : ℕ) (R : List SourceEvent) (e : SourceEvent) (es : List SourceEvent) → events_of t R ≡ e ∷ es → IsSplit t R e es
+pub split : (t : ℕ) (R : List SourceEvent) (e : SourceEvent) (es : List SourceEvent) → events_of t R ≡ e ∷ es → IsSplit t R e es
 split t [] e es q = absurd (cc)
 split t (x ∷ R) e es q = by_test (is_of t x) refl q (split t R e es)
   where
@@ -90,46 +90,52 @@ split t (x ∷ R) e es q = by_test (is_of t x) refl q (split t R e es)
           rest = h.rest;
         }
 
+-- ---- a thread of a run
+abbrev pub history_of : Code → Shape → List Turn → List SourceEvent
+history_of code s run = reverse (told_in (Erase code s run))
+
+abbrev pub machine_of : Code → Shape → List Turn → ℕ → Machine
+machine_of code s run t = machine_after code s (begun code s t) (founds_of (turns_of t run))
+
+abbrev pub said_of : Code → Shape → List Turn → ℕ → List SourceEvent
+said_of code s run t = said_in code s (begun code s t) (elements_before code s t run) (founds_of (turns_of t run))
+
+-- it has not begun
+abbrev pub IsAtStart : Code → Shape → List Turn → ℕ → Type 0
+IsAtStart code s run t = IsBeginning (machine_of code s run t) (said_of code s run t) (paced_in code s (begun code s t) (founds_of (turns_of t run)))
+
+pub start_own : (code : Code) (s : Shape) (run : List Turn) (t : ℕ) → IsAtStart code s run t → AreOf t (said_of code s run t)
+start_own code s run t b = subst (AreOf t) (sym b.nothing) tt
+
+pub begun_own : (t : ℕ) (begins : SourceEvent) (after said : List SourceEvent) → said ≡ begins ∷ map (by t) after → begins.thread ≡ t → AreOf t said
+begun_own t begins after said starts own = subst (AreOf t) (sym starts) (own, of_map t after)
+
+-- where all that each thread says is its own, the events of a thread are what it says
+pub own_events : RunsHavePaths → (code : Code) (s : Shape) (run : List Turn) → CheckedRun code s run → ((t : ℕ) → AreOf t (said_of code s run t)) → (t : ℕ) → events_of t (history_of code s run) ≡ said_of code s run t
+own_events paths code s run checked own t =
+    filter_reverse (is_of t) (told_in (Erase code s run)) ∙ ap reverse (filtered t (Erase code s run) (all_own (Erase code s run) owned) ∙ (paths code s t run checked).said) ∙ reverse-reverse (said_of code s run t)
+  where
+    owned : (u : ℕ) → AreOf u (told_in (said_by u (Erase code s run)))
+    owned u = subst (AreOf u) (sym (paths code s u run checked).said) (of_reverse u (said_of code s run u) (own u))
+
 -- ---- all together
 module _ (paths : RunsHavePaths) (m : Assignment) (code : Code) (wants : PathsWant m code) (s : Shape) (run : List Turn) (checked : CheckedRun code s run)
     (consistent : (t : ℕ) → IsConsistent code s (begun code s t) (elements_before code s t run) (founds_of (turns_of t run))) where
-  abbrev R : List SourceEvent
-  R = reverse (told_in (Erase code s run))
-
-  abbrev at_end : ℕ → Machine
-  at_end t = machine_after code s (begun code s t) (founds_of (turns_of t run))
-
-  abbrev said : ℕ → List SourceEvent
-  said t = said_in code s (begun code s t) (elements_before code s t run) (founds_of (turns_of t run))
-
-  abbrev IsOne : ℕ → Type 0
-  IsOne t = IsBeginning (at_end t) (said t) (paced_in code s (begun code s t) (founds_of (turns_of t run))) ⊎ IsThere m code t (at_end t) (said t)
-
-  one : (t : ℕ) → IsOne t
+  one : (t : ℕ) → IsAtStart code s run t ⊎ IsThere m code t (machine_of code s run t) (said_of code s run t)
   one t = wants s t (elements_before code s t run) (founds_of (turns_of t run)) (paths code s t run checked).path (consistent t)
 
-  said_own : (t : ℕ) → AreOf t (said t)
-  said_own t = ⊎_elim
-      (λ (b : IsBeginning (at_end t) (said t) (paced_in code s (begun code s t) (founds_of (turns_of t run)))). subst (AreOf t) (sym b.nothing) tt)
-      (λ (h : IsThere m code t (at_end t) (said t)). subst (AreOf t) (sym h.starts) (h.own, of_map t h.after))
-      (one t)
+  events_are : (t : ℕ) → events_of t (history_of code s run) ≡ said_of code s run t
+  events_are = own_events paths code s run checked (λ t. ⊎_elim (start_own code s run t) (λ (h : IsThere m code t (machine_of code s run t) (said_of code s run t)). begun_own t h.begins h.after (said_of code s run t) h.starts h.own) (one t))
 
-  owned : (t : ℕ) → AreOf t (told_in (said_by t (Erase code s run)))
-  owned t = subst (AreOf t) (sym (paths code s t run checked).said) (of_reverse t (said t) (said_own t))
-
-  events_are : (t : ℕ) → events_of t R ≡ said t
-  events_are t =
-      filter_reverse (is_of t) (told_in (Erase code s run)) ∙ ap reverse (filtered t (Erase code s run) (all_own (Erase code s run) owned) ∙ (paths code s t run checked).said) ∙ reverse-reverse (said t)
-
-  place_is : (t : ℕ) → (place_after code s run).threads t ≡ at_end t
+  place_is : (t : ℕ) → (place_after code s run).threads t ≡ machine_of code s run t
   place_is t = (paths code s t run checked).machine
 
-  there_in : (t : ℕ) → IsThere m code t (at_end t) (said t) → IsThereIn m code R t ((place_after code s run).threads t)
+  there_in : (t : ℕ) → IsThere m code t (machine_of code s run t) (said_of code s run t) → IsThereIn m code (history_of code s run) t ((place_after code s run).threads t)
   there_in t h =
-      let sp = split t R h.begins (map (by t) h.after) (events_are t ∙ h.starts) in
+      let sp = split t (history_of code s run) h.begins (map (by t) h.after) (events_are t ∙ h.starts) in
       let stands : MayStart m h.function → IsWhere m code t h.function h.argument (events_of t sp.after) ((place_after code s run).threads t) = λ may.
       subst (IsWhere m code t h.function h.argument (events_of t sp.after)) (sym (place_is t))
-      (subst (λ (es : List SourceEvent). IsWhere m code t h.function h.argument es (at_end t)) (sym sp.rest) (h.stands may))
+      (subst (λ (es : List SourceEvent). IsWhere m code t h.function h.argument es (machine_of code s run t)) (sym sp.rest) (h.stands may))
       in
       record {
         tells = record {
@@ -149,9 +155,9 @@ module _ (paths : RunsHavePaths) (m : Assignment) (code : Code) (wants : PathsWa
         stands = stands;
       }
 
-  pub placed : (t : ℕ) → IsNotThere R t ((place_after code s run).threads t) ⊎ IsThereIn m code R t ((place_after code s run).threads t)
+  pub placed : (t : ℕ) → IsNotThere (history_of code s run) t ((place_after code s run).threads t) ⊎ IsThereIn m code (history_of code s run) t ((place_after code s run).threads t)
   placed t = ⊎_elim
-      (λ (b : IsBeginning (at_end t) (said t) (paced_in code s (begun code s t) (founds_of (turns_of t run)))).
+      (λ (b : IsAtStart code s run t).
       inl (record { nothing = events_are t ∙ b.nothing; first = ap (λ (m : Machine). m.at.pc) (place_is t) ∙ b.pc_is }))
-      (λ (h : IsThere m code t (at_end t) (said t)). inr (there_in t h))
+      (λ (h : IsThere m code t (machine_of code s run t) (said_of code s run t)). inr (there_in t h))
       (one t)

@@ -1,10 +1,10 @@
 -- Where a reference is tested, flat code wants what comes after the test, and its registers are those of the code.
-use Rattle.std.proofs.Common.{◌≡◌, ℕ, zero, suc, ℤ, pos, negsuc, ◌+◌, ◌<◌, ⊎_elim, true, false, not, ◌&&◌, ◌==◌, List, [], refl, sym, ap, ◌∙◌, subst, arith, eq-eqb, get_or}
+use Rattle.std.proofs.Common.{◌≡◌, ℕ, zero, suc, ℤ, pos, ◌+◌, ◌<◌, ⊎_elim, true, false, not, ◌&&◌, ◌==◌, List, [], refl, sym, ap, ◌∙◌, subst, arith, eq-eqb, get_or}
 use Rattle.std.specs.Prelude.{slice_index}
 use Rattle.sharc_tree.specs.{declared.event.Act.Act, declared.event.Act.TheVariants.{Freed, Give}, declared.token.Site.Site}
 use Rattle.sharc_meaning.specs.{Arithmetic.is_zero, Meaning.Asked, Reference.number_of, References.refers, State.event_of}
 use Rattle.sharc_code.specs.{declared.code.Function.{Function as Row}, declared.instr.Instr.Instr, declared.instr.Instr.TheVariants.{Call, Free, TestSole}, Machine.{Machine, ref}}
-use Rattle.sharc_flat.specs.Machine.{Flat, At, Turn, goes, asks, halts, turn, on_turn, exec}
+use Rattle.sharc_flat.specs.Machine.{Flat, At, Turn, goes, asks, turn, on_turn, exec}
 use Rattle.sharc_guard.specs.Machine as Form
 use Rattle.sharc_guard.specs.{Machine.{Program, Thread, IsSole, statement_at}, Counted.{Held, IsGivenAway, IsSettling, Quietly, Tells}}
 use Rattle.sharc_compile.specs.Generated.{instr_of}
@@ -13,8 +13,7 @@ use Rattle.sharc_wants_laws.specs.Holding.{IsTested}
 -- ---- references
 no_zero : (v : ℤ) (n : ℕ) → number_of v ≡ n → 0 < n → is_zero v ≡ false
 no_zero (pos zero) n is some = let e : 0 ≡ n = is in absurd (omega (arith, e, some))
-no_zero (pos (suc k)) n is some = refl
-no_zero (negsuc k) n is some = refl
+no_zero _ n is some = refl
 
 refers_is : (v : ℤ) (n : ℕ) → number_of v ≡ n → 0 < n → refers n v ≡ true
 refers_is v n is some = ap (λ b. not b && (number_of v == n)) (no_zero v n is some) ∙ ap (λ k. k == n) is ∙ eq-eqb n n refl
@@ -41,9 +40,8 @@ pub record Wants (v : ℤ) (t : Turn) : Type 0 where
   away : IsGivenAway v act
 
 pub wants_it : (p : Program) (v : ℤ) (n : ℕ) (b : Thread) (t : Turn) → Tells p (Form.Checks (IsSole v) n b) t → Wants v t
-wants_it p v n b (goes m) h = absurd h
 wants_it p v n b (asks m site act held go) h = record { from = m; place = site; act = act; held = held; go = go; is = refl; away = h.1 }
-wants_it p v n b (halts o) h = absurd h
+wants_it p v n b _ h = absurd h
 
 -- one reference is given or freed
 one_away : (v w : ℤ) (act : Act) → IsGivenAway v act → IsGivenAway w act → w ≡ v

@@ -9,7 +9,7 @@ use Rattle.sharc_names.specs.{declared.fault.Named.Named, Kinds.{Kind, object, a
 use Rattle.sharc_names.specs.declared.fault.Named.TheVariants as named
 use Rattle.sharc_names.specs.Kinds as kinds
 use Rattle.sharc_ctype.specs.{Expressions.{constant_kind, number_kind}, Resolved.{Resolution, kind_at, function_at, declaration_at, variable_kind}}
-use Rattle.sharc_ctype_laws.specs.{Constraints.{HasType, Callee, of_program, of_conditions, IsInteger, IsPointer, Common, both_shorter, left_long, right_long, Assignable, integer, pointer, null_pointer, a_variable, a_global, a_function, a_constant, in_parentheses, element_of_pointer, element_of_array, a_call, a_field, a_field_behind, negated, complemented, denied, pointed_to, arithmetic, shifted, related, equated, joined, spawned, printed_or_joined, locked, unlocked, freed, a_cast}, Rules.IsHeld}
+use Rattle.sharc_ctype_laws.specs.{Constraints.{HasType, Callee, of_program, of_conditions, IsInteger, IsPointer, Common, both_shorter, Assignable, integer, pointer, null_pointer, a_variable, a_global, a_function, a_constant, in_parentheses, element_of_pointer, element_of_array, a_call, a_field, a_field_behind, negated, complemented, pointed_to, arithmetic, shifted, a_cast}, Rules.IsHeld}
 use Rattle.sharc_meaning.specs.{State.is_reference, Places.{StorePlace, variable, cell, place_named, field_in}}
 use Rattle.sharc_wants_laws.proofs.Runs.{Starts}
 use Rattle.sharc_lemmas.proofs.{Bools.{or_false, no}, Numbers.some_star}
@@ -69,13 +69,11 @@ constant_whole (constants.Number n) = by n.number_type
     by : (w : NumberType) → is_whole (number_kind w) ≡ false
     by width.Int = refl
     by width.Long = refl
-constant_whole (constants.Character byte) = refl
-constant_whole constants.Null = refl
+constant_whole _ = refl
 
 common_whole : (j k t : Kind) → Common j k t → is_whole t ≡ false
 common_whole _ _ _ (both_shorter a b) = refl
-common_whole _ _ _ left_long = refl
-common_whole _ _ _ right_long = refl
+common_whole _ _ _ _ = refl
 
 result_whole : (r : Resolution) → Facts r → (i : Identifier) (ps : List Kind) (result : Kind) → Callee r i ps result → is_whole result ≡ false
 result_whole r w i _ _ (of_program {n = n} f is at spelled other) = ap (λ b. b || false) (w.results n f at)
@@ -97,19 +95,11 @@ whole_left r w _ _ (a_field a m is) h = refl
 whole_left r w _ _ (a_field_behind a m is) h = refl
 whole_left r w _ _ (negated a i x) h = no _ _ (common_whole _ _ _ x) h
 whole_left r w _ _ (complemented a i x) h = no _ _ (common_whole _ _ _ x) h
-whole_left r w _ _ (denied a s) h = absurd (false≢true h)
 whole_left r w _ _ (pointed_to a) h = refl
 whole_left r w _ _ (arithmetic is a b l m x) h = no _ _ (common_whole _ _ _ x) h
 whole_left r w _ _ (shifted is a b l m x) h = no _ _ (common_whole _ _ _ x) h
-whole_left r w _ _ (related is a b l m) h = absurd (false≢true h)
-whole_left r w _ _ (equated is a b x) h = absurd (false≢true h)
-whole_left r w _ _ (joined is a b l m) h = absurd (false≢true h)
-whole_left r w _ _ (spawned q a) h = absurd (false≢true h)
-whole_left r w _ _ (printed_or_joined a i) h = absurd (false≢true h)
-whole_left r w _ _ (locked m a) h = absurd (false≢true h)
-whole_left r w _ _ (unlocked m a) h = absurd (false≢true h)
-whole_left r w _ _ (freed m a p) h = absurd (false≢true h)
 whole_left r w _ _ (a_cast m a p) h = no _ _ (pointer_whole _ p) h
+whole_left r w _ _ _ h = absurd (false≢true h)
 
 -- ---- what an lvalue of a type names
 

@@ -11,13 +11,13 @@ use Rattle.sharc_ctype.specs.Resolved.{function_at}
 use Rattle.sharc_mode.specs.Moded.{Assignment}
 use Rattle.sharc_meaning.specs.{Events.{Access, access_by, held_mutexes}, Runs.{IsNamedAt, answers_of}, Reference.{is_null, number_of}, State.{Outcome, wants, ended, stopped, event_of}}
 use Rattle.sharc_meaning.specs.Meaning as Meaning
-use Rattle.sharc_code.specs.{declared.code.Code.Code, declared.code.Function.Function, declared.code.SourcePlace.SourcePlace, declared.instr.Cell.Cell, declared.instr.Instr.Instr, declared.instr.Instr.TheVariants.{Lock, Join, CondWait, Load, Store, LoadRef, Exchange, TakeCell, ChkRead, ChkWrite, ChkLock, ChkLockLoaded, Call, Exit}, declared.shape.Shape.Shape, declared.state.TurnState.TheVariants.{Runs, Stopped, Ended}, declared.state.Stop.Stop, declared.state.Stop.TheVariants.{Conflict, NoLock, NotSole, Trap}, Machine.{Machine, int, instr_at, no_function, function_of}, Says.{cell_at, kind_of, made_cell, place_at, no_place}}
-use Rattle.sharc_flat.specs.{Machine.{Flat, At, Came, Turn, goes, asks, halts, turn, on_turn, exec, start}, Path.{at_after, asked, PathsAreRuns}, Correct.{AsksTheSame, MayStart}}
+use Rattle.sharc_code.specs.{declared.code.Code.Code, declared.code.Function.Function, declared.code.SourcePlace.SourcePlace, declared.instr.Cell.Cell, declared.instr.Instr.Instr, declared.instr.Instr.TheVariants.{Lock, Join, CondWait, Load, Store, LoadRef, Exchange, TakeCell, ChkRead, ChkWrite, ChkLock, ChkLockLoaded, Exit}, declared.shape.Shape.Shape, declared.state.TurnState.TheVariants.{Runs, Stopped, Ended}, declared.state.Stop.Stop, declared.state.Stop.TheVariants.{Conflict, NoLock, NotSole, Trap}, Machine.{Machine, int, instr_at, no_function, function_of}, Says.{cell_at, kind_of, made_cell, place_at, no_place}}
+use Rattle.sharc_flat.specs.{Machine.{Flat, At, Came, Turn, asks, halts, turn, on_turn, exec, start}, Path.{at_after, asked, PathsAreRuns}, Correct.{AsksTheSame, MayStart}}
 use Rattle.sharc_guard.specs.{declared.guarded.Guarded.Guarded, Machine.{Program, Thread, Check, Accesses, Locks, IsSole, is_held, source_at, statement_at}, Path.{started, thread_after}, Counted.{Guards, IsAccess, IsOf, IsUnder, Tells}, Logged.LogsAreHeld}
 use Rattle.sharc_guard.specs.Machine as Form
 use Rattle.sharc_compile.specs.{Consistent.Elements, Correct.{by, begins, HasCome}, Generated.{IsGenerated, instr_of, program_of}, Related.{IsAt, IsLinking, IsOver, Same, StopsAt, ChecksNext}, Refused.{IsRefused, IsReport, WantsRefused, site_of}}
 use Rattle.sharc_wants_laws.specs.Wants.{WantsAct, WantsAccess, WantsBy, StopsOrWantsUnder, IsWhere, IsThere, access_at, access_tested}
-use Rattle.sharc_wants_laws.proofs.{Quiet.{still, given_in, are_own, beyond}, Cells.{int_is, cell_is, access_is, pending_number}, SoleQuiet.{given_same, given_path}}
+use Rattle.sharc_wants_laws.proofs.{Quiet.{still, given_in, given_same, given_path, are_own, beyond}, Cells.{int_is, cell_is, access_is, pending_number}}
 
 -- ---- instructions
 pub mapped_at : (f : Instr → Instr) (xs : List Instr) (n : ℕ) → f Exit ≡ Exit → slice_index_or (map f xs) n Exit ≡ f (slice_index_or xs n Exit)
@@ -36,23 +36,20 @@ module _ (flat : Flat) (m2 : At) (k : ℕ) (p : Program) where
 
   -- what guarded code asks for it wants
   asked_wants : (site : Site) (act : Act) (go : ℤ → Thread) (t : Turn) → turn flat m2 ≡ t → Tells p (Form.Asks site act go) t → o ≡ wants (event_of site act (pos 0))
-  asked_wants site act go (goes m3) e h = absurd h
   asked_wants site act go (asks m3 site2 act2 held f) e h =
       ap (λ t. (on_turn t [] m2 (exec flat k)).outcome) e ∙ ap (λ s. wants (event_of s act2 (pos 0))) (sym h.0) ∙ ap (λ c. wants (event_of site c (pos 0))) (sym h.1)
-  asked_wants site act go (halts x) e h = absurd h
+  asked_wants site act go _ e h = absurd h
 
   -- and what it checks
   checked_wants : (check : Check) (n : ℕ) (b : Thread) (t : Turn) → turn flat m2 ≡ t → Tells p (Form.Checks check n b) t
       → (act : Act) × (o ≡ wants (event_of (source_at p n).site act (pos 0))) × IsOf check act
-  checked_wants check n b (goes m3) e h = absurd h
   checked_wants check n b (asks m3 site act held go) e h =
       (act, ap (λ t. (on_turn t [] m2 (exec flat k)).outcome) e ∙ ap (λ s. wants (event_of s act (pos 0))) (sym h.0), h.1)
-  checked_wants check n b (halts x) e h = absurd h
+  checked_wants check n b _ e h = absurd h
 
   halted : (t : Turn) → turn flat m2 ≡ t → Tells p (Form.Halts Form.Ended) t → o ≡ ended
-  halted (goes m3) e h = absurd h
-  halted (asks m3 site act held go) e h = absurd h
   halted (halts x) e h = ap (λ t. (on_turn t [] m2 (exec flat k)).outcome) e ∙ h
+  halted _ e h = absurd h
 
 -- how a thread goes on with what it is answered
 abbrev go_of : Form.Turn → ℤ → Thread
@@ -89,9 +86,8 @@ module _ (flat : Flat) (m2 : At) (k : ℕ) (code : Code) (p : Program) (globals 
   lock_wanted true mutex mutex' site e h = inl (ends_at (turn flat m2) refl h ∙ ap (λ (q : SourcePlace). stopped traps.NullPointer q.site) (sites site))
     where
       ends_at : (t : Turn) → turn flat m2 ≡ t → Tells p (Form.Halts (Form.Stopped traps.NullPointer site)) t → o flat m2 k p ≡ stopped traps.NullPointer (source_at p site).site
-      ends_at (goes m3) q h = absurd h
-      ends_at (asks m3 site act held go) q h = absurd h
       ends_at (halts x) q h = ap (λ t. (on_turn t [] m2 (exec flat k)).outcome) q ∙ h
+      ends_at _ q h = absurd h
   lock_wanted false mutex mutex' site e h =
       let w = checked_wants flat m2 k p (Locks mutex) site (Form.next a) (turn flat m2) refl h in
       inr (w.0, w.1 ∙ ap (λ (q : SourcePlace). wants (event_of q.site w.0 (pos 0))) (sites site), subst (λ c. IsUnder c w.0) e w.2)
@@ -120,7 +116,6 @@ module _ (flat : Flat) (m2 : At) (k : ℕ) (code : Code) (p : Program) (globals 
       writes act (inr e) = ap access_by e.1
   wants_by (ChkLock c site) h = lock_wanted (Form.is_of_null a c) (Form.cell_at p a c) (cell_at code at c) site (cell_is code p globals sites s T at a same c) h
   wants_by (ChkLockLoaded site) h = lock_wanted (is_null a.pending) (made_cell (number_of a.pending) 0) (made_cell at.pending 0) site (ap (λ n. made_cell n 0) (pending_number code p globals sites s T at a same)) h
-  wants_by (Call f ints refs site) h = tt
   wants_by _ h = tt
 
   -- ---- why it was refused
