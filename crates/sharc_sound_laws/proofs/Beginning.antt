@@ -1,7 +1,7 @@
 -- The first words of the globals, one after the other, are those that their definitions say.
 use Rattle.std.proofs.{Common.{◌≡◌, ℕ, ℤ, pos, negsuc, zero, suc, ◌+◌, ◌-◌, ◌*◌, ◌^◌, ◌<◌, ◌≤◌, inl, inr, Bool, true, false, cond, length, List, [], ◌∷◌, ◌++◌, take, Some, None, refl, sym, ap, ◌∙◌, subst, arith}, lemmas.Bool.Decides.nat_tests}
 use Rattle.std.specs.{Prelude.{◌==◌, nat_lt, slice_index, slice_get, replicate, neg_ℤ, unsigned_abs}, List.AllByRecursion}
-use Rattle.sharc_tree.specs.{declared.ctype.Base.Base, declared.ctype.Base.TheVariants.{Int, Char, Long, Mutex, Void, Struct}, declared.tree.declaration.WrittenType.WrittenType, declared.tree.expression.Constant.Constant, declared.tree.expression.Constant.TheVariants.{Number, Character, Null}, declared.tree.item.GlobalDefinition.GlobalDefinition, declared.tree.item.GlobalForm.GlobalForm, declared.tree.item.GlobalForm.TheVariants.{Plain, Array, Initial}}
+use Rattle.sharc_tree.specs.{declared.ctype.Base.Base, declared.ctype.Base.TheVariants.{Mutex, Void, Struct}, declared.tree.declaration.WrittenType.WrittenType, declared.tree.expression.Constant.Constant, declared.tree.expression.Constant.TheVariants.{Number, Character, Null}, declared.tree.item.GlobalDefinition.GlobalDefinition, declared.tree.item.GlobalForm.GlobalForm, declared.tree.item.GlobalForm.TheVariants.Initial}
 use Rattle.sharc_names.specs.Kinds.{declared_kind}
 use Rattle.sharc_ctype.specs.Resolved.{Resolution, globals_in}
 use Rattle.sharc_ctype_laws.specs.{Initials.{IsHeldBy, MeetsInitial, MeetsGlobal}, Laws.MeetsGlobals}
@@ -45,20 +45,12 @@ minus_back (suc n) le =
     ap (λ b. sign_of b (pos (2 ^ 64 - suc n)) (negsuc (2 ^ 64 - suc (2 ^ 64 - suc n)))) e ∙ ap negsuc q
 
 held_plus : (b : Base) (n : ℕ) → IsHeldBy b false n → n < 2 ^ 63
-held_plus Int n h = omega arith
-held_plus Char n h = omega arith
-held_plus Long n h = omega arith
-held_plus Mutex n h = omega arith
-held_plus Void n h = omega arith
 held_plus (Struct s) n h = omega arith
+held_plus _ n h = omega arith
 
 held_minus : (b : Base) (n : ℕ) → IsHeldBy b true n → n ≤ 2 ^ 63
-held_minus Int n h = omega arith
-held_minus Char n h = omega arith
-held_minus Long n h = omega arith
-held_minus Mutex n h = omega arith
-held_minus Void n h = omega arith
 held_minus (Struct s) n h = omega arith
+held_minus _ n h = omega arith
 
 signed_back : (b : Base) (minus : Bool) (n : ℕ) → IsHeldBy b minus n → int_of (word_of (cond minus (neg_ℤ (pos n)) (pos n))) ≡ cond minus (neg_ℤ (pos n)) (pos n)
 signed_back b true n h = minus_back n (held_minus b n h)
@@ -76,8 +68,6 @@ null_back true = refl
 null_back false = refl
 
 form_back : (w : WrittenType) (form : GlobalForm) → IsUnsigned form → MeetsInitial w form → int_of (word_of (form_value form)) ≡ form_value form
-form_back w Plain u h = refl
-form_back w (Array at count) u h = refl
 form_back w (Initial span minus (Number k)) u (inl h) =
     let same : unsigned_abs k.value ≡ h.1 = cc in
     let n : u.0 ≡ h.1 = ap unsigned_abs (sym u.1) ∙ same in
@@ -85,6 +75,7 @@ form_back w (Initial span minus (Number k)) u (inl h) =
 form_back w (Initial span minus (Character byte)) u (inl h) = let same : byte ≡ h.1 = cc in constant_back w.ctype.base minus (Character byte) byte refl (subst (IsHeldBy w.ctype.base minus) (sym same) h.3)
 form_back w (Initial span minus Null) u (inl h) = absurd (let f : None ≡ Some h.1 = h.2 in cc)
 form_back w (Initial span minus c) u (inr h) = subst (λ c. int_of (word_of (cond minus (neg_ℤ (constant_value c)) (constant_value c))) ≡ cond minus (neg_ℤ (constant_value c)) (constant_value c)) (sym h.1) (null_back minus)
+form_back w _ u h = refl
 
 -- ---- one global
 -- but for the first cell it begins at 0: one that has an initial value has one cell
@@ -98,20 +89,16 @@ module _ (r : Resolution) (g : GlobalDefinition) (unsigned : IsUnsigned g.form) 
           omega arith
 
       by : (f : GlobalForm) → g.form ≡ f → MeetsInitial g.declaration.written f → form_value g.form ≡ pos 0
-      by Plain is h = ap form_value is
-      by (Array at count) is h = ap form_value is
       by (Initial span minus c) is (inl h) = absurd (single span minus c is (integer_cells h.0))
         where
           integer_cells : Rattle.sharc_ctype_laws.specs.Constraints.IsInteger (declared_kind g.declaration.written) → element_cells r (declared_kind g.declaration.written) ≡ 1
           integer_cells k = ap (element_cells r) k.2 ∙ integral k.0 k.1
             where
               integral : (b : Base) → Rattle.std.specs.Prelude.IsTrue (Rattle.sharc_names.specs.Kinds.is_integral b) → element_cells r (Rattle.sharc_names.specs.Kinds.object b 0) ≡ 1
-              integral Int h = refl
-              integral Char h = refl
-              integral Long h = refl
               integral Mutex h = absurd (let f : false ≡ true = h in cc)
               integral Void h = absurd (let f : false ≡ true = h in cc)
               integral (Struct s) h = absurd (let f : false ≡ true = h in cc)
+              integral _ h = refl
       by (Initial span minus c) is (inr h) = absurd (single span minus c is (pointer_cells h.0))
         where
           pointer_cells : Rattle.sharc_ctype_laws.specs.Constraints.IsPointer (declared_kind g.declaration.written) → element_cells r (declared_kind g.declaration.written) ≡ 1
@@ -119,6 +106,7 @@ module _ (r : Resolution) (g : GlobalDefinition) (unsigned : IsUnsigned g.form) 
             where
               some : (n : ℕ) → (n + 1 == 0) ≡ false
               some n = grind (arith, nat_tests)
+      by _ is h = ap form_value is
 
   granules_hold : cells_in r g ≤ 2 * granules_in r g
   granules_hold = omega arith
@@ -160,11 +148,8 @@ module _ (r : Resolution) where
       ∙ all_begin (at + granules_in r g) rest (λ n d e. u (suc n) d e) meets.1 n place inside
 
 unsigned_form : (f : GlobalForm) → ((span : _) (minus : Bool) (k : _) → f ≡ Initial span minus (Number k) → (n : ℕ) × (k.value ≡ pos n)) → IsUnsigned f
-unsigned_form Plain h = tt
-unsigned_form (Array at count) h = tt
 unsigned_form (Initial span minus (Number k)) h = h span minus k refl
-unsigned_form (Initial span minus (Character byte)) h = tt
-unsigned_form (Initial span minus Null) h = tt
+unsigned_form _ h = tt
 
 pub begins_with : MeetsGlobals → MadeCodeBegins
 begins_with meets m resolved unsigned flat flattens code is g place inside =

@@ -18,10 +18,7 @@ entered_same : (bytes : List ℕ) (pl ql : ℕ → ℕ) → ((n : ℕ) → pl n 
 entered_same bytes pl ql same [] [] [] named = refl
 entered_same bytes pl ql same (x ∷ xs) (n ∷ ns) (y ∷ ys) named = ap2 (λ z zs. z ∷ zs)
     (ap (λ f. unnamed (entered_at pl f)) named.0.is ∙ ap (λ e. unnamed (record x { entry = e })) (same x.entry)) (entered_same bytes pl ql same xs ns ys named.1)
-entered_same bytes pl ql same [] [] (y ∷ ys) named = absurd named
-entered_same bytes pl ql same [] (n ∷ ns) ys named = absurd named
-entered_same bytes pl ql same (x ∷ xs) [] ys named = absurd named
-entered_same bytes pl ql same (x ∷ xs) (n ∷ ns) [] named = absurd named
+entered_same bytes pl ql same _ _ _ named = absurd named
 
 instr_same : (fs gs : List Function) → map unnamed fs ≡ map unnamed gs → (i : Instr) → instr_of fs i ≡ instr_of gs i
 instr_same fs gs same (Call f ints refs site) = ap (λ (g : Function). Call g.entry ints refs site) (element_of unnamed fs gs f no_function same)

@@ -6,7 +6,7 @@ use Rattle.sharc_tree.specs.declared.event.Act.TheVariants as acts
 use Rattle.sharc_ctype_laws.specs.Declared.{NameThemselves}
 use Rattle.sharc_mode.specs.Moded.{Assignment}
 use Rattle.sharc_meaning.specs.{Events.{events_of, is_of}, Laws.AskLaws, Obeys.History, Runs.{Follows, IsFirst, IsSpawned, SourceRun}, State.{Outcome, wants, ended, spent, event_of}, Store.{MayCome, is_gone, is_natural, is_spawn, spawns, was_spawned, went}}
-use Rattle.sharc_code.specs.{declared.code.Code.Code, declared.instr.Instr.Instr, declared.instr.Instr.TheVariants.{Lock, Join, CondWait, Start}, declared.shape.Shape.Shape, declared.state.TurnState.TurnState, declared.state.TurnState.TheVariants.{Runs, Tries, Stopped, Ended}, Machine.{Machine, instr_at, int}, Path.may_go, Runs.Turn, Says.{cell_at, place_at}, Waits.{asks_for, held_up}, Whole.{IsOn, Stuck, Waits, place_after}}
+use Rattle.sharc_code.specs.{declared.code.Code.Code, declared.instr.Instr.Instr, declared.instr.Instr.TheVariants.{Lock, Join, CondWait, Start}, declared.shape.Shape.Shape, declared.state.TurnState.TurnState, declared.state.TurnState.TheVariants.{Stopped, Ended}, Machine.{Machine, instr_at, int}, Path.may_go, Runs.Turn, Says.{cell_at, place_at}, Waits.{asks_for, held_up}, Whole.{IsOn, Stuck, Waits, place_after}}
 use Rattle.sharc_history_laws.specs.{History.history_of, Stuck.act_awaited, Threads.ThreadsAreTold}
 use Rattle.sharc_wants_laws.specs.Wants.{IsNotThere, WantsBy}
 use Rattle.sharc_sound_laws.specs.Standing.{IsPlaced}
@@ -164,7 +164,6 @@ module _ (ask : AskLaws) (m : Assignment) (names : NameThemselves m.typed) (code
   deadlocked running = by_state at.at.state refl
     where
       by_state : (st : TurnState) → ((place_after code s run).threads e.thread).at.state ≡ st → ⊥
-      by_state Runs is = waiting (started, ap may_go is)
-      by_state Tries is = waiting (started, ap may_go is)
       by_state Stopped is = running is
       by_state Ended is = no_more is
+      by_state _ is = waiting (started, ap may_go is)

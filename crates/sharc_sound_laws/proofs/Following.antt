@@ -59,7 +59,25 @@ module _ (m : Assignment) (code : Code) (names : NameThemselves m.typed) (main :
       inr (subst (λ f. IsSpawned tells.before thread f tells.argument) same (subst (λ t. IsSpawned tells.before t started.function tells.argument) tells.own k)))
       started.right
 
-  -- where the code is placed, with the fuel with which the thread has asked for its events
+  -- with the fuel with which it has asked for its events
+  abbrev with_fuel : (fuel : ℕ) → map (by thread) (asks m tells.function tells.argument (answers_of (events_of thread tells.after)) fuel).events ≡ events_of thread tells.after → Follows m R fuel thread
+  with_fuel fuel asked = record {
+    function = tells.function;
+    argument = tells.argument;
+    before = tells.before;
+    begins = tells.begins;
+    after = tells.after;
+    stands = tells.stands;
+    own = tells.own;
+    first = tells.first;
+    act = tells.act;
+    answer = tells.answer;
+    site = tells.site;
+    by_right = right;
+    asked = asked;
+  }
+
+  -- where the code is placed
   pub placed : (at : Machine) → IsWhere m code thread tells.function tells.argument (events_of thread tells.after) at → IsPlaced m code R thread at
   placed at w =
       let come = asks m tells.function tells.argument (answers_of (events_of thread tells.after)) w.fuel in
@@ -67,21 +85,7 @@ module _ (m : Assignment) (code : Code) (names : NameThemselves m.typed) (main :
         come = come;
         stands = record {
           fuel = w.fuel;
-          own = record {
-            function = tells.function;
-            argument = tells.argument;
-            before = tells.before;
-            begins = tells.begins;
-            after = tells.after;
-            stands = tells.stands;
-            own = tells.own;
-            first = tells.first;
-            act = tells.act;
-            answer = tells.answer;
-            site = tells.site;
-            by_right = right;
-            asked = w.events;
-          };
+          own = with_fuel w.fuel w.events;
           is = refl;
         };
         next = w.next;
@@ -93,21 +97,4 @@ module _ (m : Assignment) (code : Code) (names : NameThemselves m.typed) (main :
       }
 
   pub follows : (fuel : ℕ) × Follows m R fuel thread
-  follows = let asked = tells.asked may in (
-    asked.0,
-    record {
-      function = tells.function;
-      argument = tells.argument;
-      before = tells.before;
-      begins = tells.begins;
-      after = tells.after;
-      stands = tells.stands;
-      own = tells.own;
-      first = tells.first;
-      act = tells.act;
-      answer = tells.answer;
-      site = tells.site;
-      by_right = right;
-      asked = asked.1;
-    },
-  )
+  follows = let asked = tells.asked may in (asked.0, with_fuel asked.0 asked.1)

@@ -8,7 +8,7 @@ use Rattle.sharc_tree.specs.declared.event.Object.TheVariants as objects
 use Rattle.sharc_tree.specs.declared.event.Taken.TheVariants as takens
 use Rattle.sharc_locks.specs.Waiters.{lowest_of, waits_in}
 use Rattle.sharc_heap.specs.{State.NewView, declared.stage.NewStage.NewStage, declared.stage.NewStage.TheVariants.Length}
-use Rattle.sharc_code.specs.{declared.code.Code.Code, declared.code.Function.Function, declared.code.GlobalCells.GlobalCells, declared.code.PlaceMode.PlaceMode, declared.code.PlaceMode.TheVariants.{Private, Readonly, Racy, Dynamic, LockedGlobal, LockedSibling, LockedThrough, LockedLoaded}, declared.code.Use.Use, declared.instr.Cell.Cell, declared.instr.Cell.TheVariants.{Global, GlobalAt, Object, ObjectAt}, declared.instr.Instr.Instr, declared.instr.Instr.TheVariants.{Load, Store, LoadRef, Exchange, New, TakeCell, TakeLocal, Give, Free, Lock, Unlock, Spawn, Join, Print, Start, Exit, CondEnter, CondWait, CondSignal, CondBroadcast}, declared.instr.Register.Register, declared.shape.Shape.Shape, declared.state.Stage.Stage, declared.state.Stage.TheVariants.{Makes, Uncounts, Begins, Enters, Withdraws, WithdrawsFrom, Leaves, Wakes}, Arithmetic.{int_of, word_of}, Machine.{Machine, instr_at, int, ref}, Runs.{Said, Turn, result_of, with_told}, Says.{access, cell_at, elements_in, event, event_at, global_cell, in_exit, in_free, in_new, in_signal, in_spawn, in_start, kind_of, made_cell, mode_of, new_event, no_global, nobody, own_event, place_at, reference, said, speaks_of, started_with, take_local, variable_of}, Whole.{Erase, place_after}}
+use Rattle.sharc_code.specs.{declared.code.Code.Code, declared.code.Function.Function, declared.code.GlobalCells.GlobalCells, declared.code.PlaceMode.PlaceMode, declared.code.PlaceMode.TheVariants.LockedGlobal, declared.code.Use.Use, declared.instr.Cell.Cell, declared.instr.Cell.TheVariants.{Global, GlobalAt}, declared.instr.Instr.Instr, declared.instr.Instr.TheVariants.{Load, Store, LoadRef, Exchange, New, TakeCell, TakeLocal, Give, Free, Lock, Unlock, Spawn, Join, Print, Start, Exit, CondEnter, CondWait, CondSignal, CondBroadcast}, declared.instr.Register.Register, declared.shape.Shape.Shape, declared.state.Stage.Stage, declared.state.Stage.TheVariants.{Makes, Uncounts, Begins, Enters, Withdraws, WithdrawsFrom, Leaves, Wakes}, Arithmetic.{int_of, word_of}, Machine.{Machine, instr_at, int, ref}, Runs.{Said, Turn, result_of, with_told}, Says.{access, cell_at, elements_in, event, event_at, global_cell, in_exit, in_free, in_new, in_signal, in_spawn, in_start, kind_of, made_cell, mode_of, new_event, no_global, nobody, own_event, place_at, reference, said, speaks_of, started_with, take_local, variable_of}, Whole.{Erase, place_after}}
 use Rattle.sharc_sound_laws.specs.{Alike.AreAlike, AlikeLaws.HistoriesAreAlike}
 use Rattle.sharc_sound_laws.proofs.{Lists.ap2, Places.{checked_same, chosen_same, enabled_same, place_same}, Turns.{by_function, instr_same}}
 
@@ -27,18 +27,11 @@ module _ (a b : Code) (alike : AreAlike a b) where
     cell_same : (c : Cell) → cell_at a m c ≡ cell_at b m c
     cell_same (Global global cell) = global_same global cell
     cell_same (GlobalAt global r) = global_same global (word_of (int m r))
-    cell_same (Object r cell) = refl
-    cell_same (ObjectAt r at) = refl
+    cell_same _ = refl
 
     mode_by : (cell : CellAt) (mode : PlaceMode) → mode_of a m cell mode ≡ mode_of b m cell mode
-    mode_by cell Private = refl
-    mode_by cell Readonly = refl
-    mode_by cell Racy = refl
-    mode_by cell Dynamic = refl
     mode_by cell (LockedGlobal global place) = ap (λ (c : CellAt). modes.Locked (Some c)) (global_same global place)
-    mode_by cell (LockedSibling field mutex) = refl
-    mode_by cell (LockedThrough r place) = refl
-    mode_by cell LockedLoaded = refl
+    mode_by cell _ = refl
 
     -- with the mode of a site
     mode_same : (cell : CellAt) (site : ℕ) → mode_of a m cell (place_at a site).mode ≡ mode_of b m cell (place_at b site).mode

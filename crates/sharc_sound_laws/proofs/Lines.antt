@@ -85,10 +85,7 @@ module _ (r : Resolution) (bytes : List ℕ) where
   entry_same : (xs : List Function) (names : List (List ℕ)) (ys : List Function) → AreNamed bytes xs names ys → (to : ℕ) → is_entry ys to ≡ is_entry xs to
   entry_same [] [] [] named to = refl
   entry_same (x ∷ xs) (n ∷ ns) (z ∷ zs) named to = ap2 (λ (f : Function) b. to == f.entry || b) named.0.is (entry_same xs ns zs named.1 to)
-  entry_same [] [] (z ∷ zs) named to = absurd named
-  entry_same [] (n ∷ ns) zs named to = absurd named
-  entry_same (x ∷ xs) [] zs named to = absurd named
-  entry_same (x ∷ xs) (n ∷ ns) [] named to = absurd named
+  entry_same _ _ _ named to = absurd named
 
   -- ---- what is known before each line, and which checks are dropped
   module _ (told made : Flat) (laid : AreLaid r bytes told.lines made.lines) (names : List (List ℕ)) (named : AreNamed bytes told.functions names made.functions) where

@@ -3,7 +3,7 @@ use Rattle.std.proofs.{Common.{◌≡◌, ℕ, zero, suc, ◌+◌, ◌<◌, ◌�
 use Rattle.std.specs.{Prelude.{◌==◌, slice_index_or}, List.{range_with_len, All}}
 use Rattle.sharc_word.specs.declared.step.TheConstants.{THREADS}
 use Rattle.sharc_heap.specs.{declared.shadow_word.Kind.Kind, declared.shadow_word.Kind.TheVariants.{Read, Write}, Notes.{blank, of_kind}, Accesses.{note_of, site_at}, Functions.{lowest_from, lowest_other}, ShadowWord.{stands, is_written}}
-use Rattle.sharc_code.specs.{declared.code.Code.Code, declared.shape.Shape.Shape, declared.state.ConflictAt.ConflictAt, declared.state.Stop.Stop, declared.state.Stop.TheVariants.{Conflict, NoLock, NotSole, Trap}, Layout.{Fits, granules}, Machine.Machine, Path.begun, Runs.Global}
+use Rattle.sharc_code.specs.{declared.code.Code.Code, declared.shape.Shape.Shape, declared.state.ConflictAt.ConflictAt, declared.state.Stop.Stop, declared.state.Stop.TheVariants.Conflict, Layout.{Fits, granules}, Machine.Machine, Path.begun, Runs.Global}
 use Rattle.sharc_cpu.specs.Thread.{ThreadView}
 use Rattle.sharc_threads.specs.Ends.{IsAt, AreStarted}
 use Rattle.sharc_history_laws.specs.Causes.{noted_site, Stood, IsNamed, OfWrite, OfRead, OfStop, OfFirst, HasNamed}
@@ -127,9 +127,6 @@ refused_now c d o is a b = ap (refused_by c) is ∙ ap (λ b. if b then Some d e
 
 refused_back : (c d : ConflictAt) (o : Option Stop) → refused_by c o ≡ Some d → (o ≡ Some (Conflict d)) × (d.granule ≡ c.granule) × (d.epoch ≡ c.epoch)
 refused_back c d None e = absurd (let f : None ≡ Some d = e in cc)
-refused_back c d (Some (NoLock site word)) e = absurd (let f : None ≡ Some d = e in cc)
-refused_back c d (Some (NotSole site count)) e = absurd (let f : None ≡ Some d = e in cc)
-refused_back c d (Some (Trap trap site)) e = absurd (let f : None ≡ Some d = e in cc)
 refused_back c d (Some (Conflict b)) e = elim (is_same_place c b) as (λ y. is_same_place c b ≡ y → (if y then Some b else None) ≡ Some d → (Some (Conflict b) ≡ Some (Conflict d)) × (d.granule ≡ c.granule) × (d.epoch ≡ c.epoch)) [
   | true ↦ λ q z. let same : b ≡ d = cc in let k = places b.granule c.granule b.epoch c.epoch q in (ap (λ d. Some (Conflict d)) same, ap (λ (d : ConflictAt). d.granule) (sym same) ∙ k.0, ap (λ (d : ConflictAt). d.epoch) (sym same) ∙ k.1)
   | false ↦ λ _ z. absurd (let f : None ≡ Some d = z in cc)
@@ -137,6 +134,7 @@ refused_back c d (Some (Conflict b)) e = elim (is_same_place c b) as (λ y. is_s
   where
     places : (a b p q : ℕ) → ((a == b) && (p == q)) ≡ true → (a ≡ b) × (p ≡ q)
     places a b p q e = ((grind (arith, nat_tests)), (grind (arith, nat_tests)))
+refused_back c d _ e = absurd (let f : None ≡ Some d = e in cc)
 
 -- ---- threads that were not started
 blank_at : (n p : ℕ) → slice_index_or (replicate n blank) p blank ≡ blank
@@ -221,13 +219,11 @@ module _ (code : Code) (s : Shape) (g : Global Machine) (threads : List ThreadVi
   wrote_parts v e = by (number_of v == t) refl (stands c.old (number_of v)) refl (noted c Write v) refl e
     where
       by : (a : Bool) → (number_of v == t) ≡ a → (b : Bool) → stands c.old (number_of v) ≡ b → (o : Option ℕ) → noted c Write v ≡ o → (not a && (b && is_some o)) ≡ true → (number_of v ≢ t) × (stands c.old (number_of v) ≡ true) × ((z : ℕ) × (noted c Write v ≡ Some z))
-      by true q b r o w e = absurd (yes (sym e))
-      by false q false r o w e = absurd (yes (sym e))
-      by false q true r None w e = absurd (yes (sym e))
       by false q true r (Some z) w e = ((λ same. yes (sym (same_number (number_of v) t same) ∙ q)), r, (z, w))
         where
           same_number : (a b : ℕ) → a ≡ b → (a == b) ≡ true
           same_number a b e = grind (arith, nat_tests)
+      by _ q _ r _ w e = absurd (yes (sym e))
 
   wrote_yes : (v : ThreadView) (z : ℕ) → number_of v ≢ t → stands c.old (number_of v) ≡ true → noted c Write v ≡ Some z → wrote_before c t v ≡ true
   wrote_yes v z ne bit e = ap (λ b. not b && (stands c.old (number_of v) && is_some (noted c Write v))) (differ (number_of v) t ne) ∙ ap (λ b. b && is_some (noted c Write v)) bit ∙ ap (λ (o : Option ℕ). is_some o) e

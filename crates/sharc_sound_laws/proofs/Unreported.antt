@@ -6,7 +6,7 @@ use Rattle.sharc_tree.specs.declared.event.CellMode.TheVariants as modes
 use Rattle.sharc_tree.specs.declared.event.Taken.TheVariants as taken
 use Rattle.sharc_mode.specs.Moded.{Assignment}
 use Rattle.sharc_meaning.specs.{Events.{Access, access_by, events_of, holds_mutex}, Laws.{AskLaws, RunLaws}, Meaning.Asked, Obeys.{AlwaysObeys, History, Obeys, until_gone}, Runs.SourceRun, State.{Outcome, wants, ended, stopped}}
-use Rattle.sharc_code.specs.{declared.code.Code.Code, declared.code.PlaceMode.PlaceMode, declared.code.PlaceMode.TheVariants.Dynamic, declared.instr.Cell.Cell, declared.instr.Instr.Instr, declared.instr.Instr.TheVariants.{Start, ChkRead, ChkWrite, ChkLock, ChkLockLoaded, Load, Store, LoadRef, Exchange, TakeCell}, declared.shape.Shape.Shape, declared.state.TurnState.TurnState, declared.state.TurnState.TheVariants.{Runs, Tries, Stopped, Ended}, declared.state.Stop.TheVariants.NoLock, Machine.{Machine, instr_at}, Path.may_go, Runs.Turn, Says.{cell_at, mode_of, place_at}, Whole.place_after}
+use Rattle.sharc_code.specs.{declared.code.Code.Code, declared.code.PlaceMode.PlaceMode, declared.code.PlaceMode.TheVariants.Dynamic, declared.instr.Cell.Cell, declared.instr.Instr.Instr, declared.instr.Instr.TheVariants.{Start, ChkRead, ChkWrite, ChkLock, ChkLockLoaded, Load, Store, LoadRef, Exchange, TakeCell}, declared.shape.Shape.Shape, declared.state.TurnState.TurnState, declared.state.TurnState.TheVariants.{Stopped, Ended}, declared.state.Stop.TheVariants.NoLock, Machine.{Machine, instr_at}, Path.may_go, Runs.Turn, Says.{cell_at, mode_of, place_at}, Whole.place_after}
 use Rattle.sharc_guard.specs.Counted.{IsUnder}
 use Rattle.sharc_history_laws.specs.{Causes.{BreaksRules, GoesOn, WasMade, IsNextOf}, Conflicts.site_of_check, Followed.{Accesses, ChecksAreFollowed, IsFollowed, access_of, access_to}, History.history_of, Reports.{IsLockCheck, LacksLock}}
 use Rattle.sharc_wants_laws.specs.Wants.{IsNotThere, WantsAccess, WantsBy, StopsOrWantsUnder, access_tested}
@@ -49,7 +49,6 @@ checks code at o a site _ next follows is at_site w = cc
 -- a check is no access
 no_both : (code : Code) (at : Machine) (b : Access) (site : ℕ) (i : Instr) → site_of_check i ≡ Some site → access_of code at i ≡ Some b → ⊥
 no_both code at b site (ChkRead c n) e q = cc
-no_both code at b site (ChkWrite c n) e q = cc
 no_both code at b site _ e q = cc
 
 -- an access under a mutex
@@ -57,7 +56,6 @@ under : (mutex : CellAt) (act : Act) → IsUnder mutex act → (a : Access) × (
 under mutex (acts.Read c mode) h = (record { cell = c; mode = mode; is_write = false }, refl, h)
 under mutex (acts.Write c mode v) h = (record { cell = c; mode = mode; is_write = true }, refl, h)
 under mutex (acts.Take (taken.Cell c mode) kind) h = (record { cell = c; mode = mode; is_write = true }, refl, h)
-under mutex (acts.Take (taken.Local x) kind) h = absurd h
 under mutex _ h = absurd h
 
 -- a check of a lock has not ended
@@ -162,7 +160,6 @@ module _ (ask : AskLaws) (laws : RunLaws) (m : Assignment) (always : AlwaysObeys
         placed
       where
         by_state : IsPlaced m code H t ((place_after code s run).threads t) → (st : TurnState) → ((place_after code s run).threads t).at.state ≡ st → ⊥
-        by_state p Runs is = let z : true ≡ false = ap may_go (sym is) ∙ halts in cc
-        by_state p Tries is = let z : true ≡ false = ap may_go (sym is) ∙ halts in cc
         by_state p Stopped is = refused p is
         by_state p Ended is = not_ended code here p.come.outcome site lacks.mutex (instr_at code here.at.pc) lacks.check p.next (p.gone is)
+        by_state p _ is = let z : true ≡ false = ap may_go (sym is) ∙ halts in cc

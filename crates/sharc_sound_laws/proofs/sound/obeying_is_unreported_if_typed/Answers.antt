@@ -1,5 +1,5 @@
 use Rattle.std.proofs.Common.{◌≡◌, ℕ, Some, List, ◌∷◌, ◌++◌, refl, subst}
-use Rattle.sharc_code.specs.{declared.state.ConflictAt.ConflictAt, declared.state.Stop.Stop, declared.state.Stop.TheVariants.{Conflict, NoLock, NotSole, Trap}, Opening.opening_words, Runs.{IsRun, Turn, opening_of}, Whole.{CheckedRun, bounds, one_thread, place_after}}
+use Rattle.sharc_code.specs.{declared.state.ConflictAt.ConflictAt, declared.state.Stop.Stop, declared.state.Stop.TheVariants.{Conflict, NoLock}, Opening.opening_words, Runs.{IsRun, Turn, opening_of}, Whole.{CheckedRun, bounds, one_thread, place_after}}
 use Rattle.sharc_sound_laws.specs.Obeying.{IsAccessReport}
 use Rattle.sharc_sound_laws.proofs.{Starts.first_is, Unreported.{unbroken, unlocked}}
 use Rattle.sharc_sound_laws.proofs.sound.obeying_is_unreported_if_typed.Goals as goal
@@ -27,5 +27,4 @@ returns c = λ m typed unsigned flat flattens fits code is x ls wt always s shap
     by_stop : (stop : Stop) → ((d : ConflictAt) → stop ≡ Conflict d → ⊥) → ((site word : ℕ) → stop ≡ NoLock site word → ⊥) → IsAccessReport stop → ⊥
     by_stop (Conflict d) a b h = a d refl
     by_stop (NoLock site word) a b h = b site word refl
-    by_stop (NotSole site count) a b h = h
-    by_stop (Trap x site) a b h = h
+    by_stop _ a b h = h
