@@ -1,28 +1,17 @@
 -- What a reply is to the words of `load`, where its source is a program with accepted modes.
-use Rattle.std.proofs.{Common.{◌≡◌, ℕ, ◌+◌, ◌<◌, ◌≤◌, Bool, true, false, List, ◌++◌, length, Option, Some, None, is_some, refl, ap, sym, ◌∙◌, subst}, lemmas.Bool.false≢true}
+use Rattle.std.proofs.{Common.{◌≡◌, ℕ, ◌+◌, ◌<◌, ◌≤◌, Bool, true, false, List, ◌++◌, length, Option, Some, None, refl, ap, sym, ◌∙◌, subst}, lemmas.Bool.false≢true}
 use Rattle.sharc_mode.specs.Moded.{Assignment}
 use Rattle.sharc_check.specs.Rules.{MeetsRules}
 use Rattle.sharc_cli.specs.{Commands.commands, declared.command.Command.Command, declared.command.Command.TheVariants.{Audit, Load, Record, Replay}}
 use Rattle.sharc_load.specs.Source.{source_of}
 use Rattle.sharc_front_end.specs.Front.{IsFront}
-use Rattle.sharc_top.specs.{declared.ran.RunNumbers.RunNumbers, declared.status.Status.Status, declared.task.SourceTask.SourceTask, Answers.{Answers, faulty, program}, Limits.source_limit, Loading.{LoadReplies, load_numbers, long, size_lines, loaded as was_loaded}, Reply.{Replies, answered, audited, loaded, recorded, replayed, task_in, too_long, usage}, Running.{Runs, not_run, ran}, Verdict.Does}
+use Rattle.sharc_top.specs.{declared.ran.RunNumbers.RunNumbers, declared.status.Status.Status, Answers.{Answers, faulty, program}, Limits.source_limit, Loading.{LoadReplies, load_numbers, long, size_lines, loaded as was_loaded}, Reply.{Replies, answered, audited, loaded, recorded, replayed, task_in, too_long, usage}, Running.{Runs, not_run, ran}, Verdict.Does}
 use Rattle.sharc_top.specs.declared.task.SourceTask.TheVariants as task
 use Rattle.sharc_reply_laws.specs.Laws.{IsRunning, SourceLaws}
 use Rattle.sharc_lemmas.proofs.Numbers.{not_long}
+use Rattle.sharc_reply_laws.proofs.Recorded.{command_or_none, task_or_none, no_reader, same_command}
 
 -- ---- the words
-command_or_none : (o : Option Command) (c : Command) → o ≡ Some c → o ≡ None → ⊥
-command_or_none o c is not = cc
-
-task_or_none : (o : Option SourceTask) (t : SourceTask) → o ≡ Some t → o ≡ None → ⊥
-task_or_none o t is not = cc
-
-no_reader : (o : Option SourceTask) → o ≡ None → is_some o ≡ true → ⊥
-no_reader o none reads = false≢true (sym (ap is_some none) ∙ reads)
-
-same_command : (o : Option Command) (a b : Command) → o ≡ Some a → o ≡ Some b → a ≡ b
-same_command o a b is also = cc
-
 abbrev is_load : Command → Bool
 is_load (Load number workers) = true
 is_load _ = false
@@ -55,7 +44,7 @@ of_load words input number workers s text asked (loaded n w z other is reply) =
     subst (λ k. LoadReplies number k z other) (ap workers_in same) (subst (λ k. LoadReplies k w z other) (ap number_in same) reply)
 
 -- ---- the source
-only_ran : (n : RunNumbers) (m : Assignment) (s : Status) (text : List ℕ) → MeetsRules m → Runs n m s text → IsRunning n m s text
+pub only_ran : (n : RunNumbers) (m : Assignment) (s : Status) (text : List ℕ) → MeetsRules m → Runs n m s text → IsRunning n m s text
 only_ran n m s text meets (not_run t is) = absurd (is.breaks_rules meets)
 only_ran n m s text meets (ran code run also compiled fit is) = record { code = code; compiled = compiled; fits = fit; ran = run; runs = is; ends = refl; written = refl }
 

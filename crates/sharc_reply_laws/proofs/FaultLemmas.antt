@@ -12,15 +12,8 @@ code_of n =
 
 code_back : (c : FaultCode) → code_of (digit c) ≡ c
 unfolding code_of
-code_back UnknownName = refl
-code_back DefinedTwice = refl
-code_back TypeMismatch = refl
-code_back ArgumentCount = refl
-code_back NoLvalue = refl
-code_back TypeNotAllowed = refl
-code_back BadForm = refl
 code_back NoMain = refl
-code_back LimitPassed = refl
+code_back _ = refl
 
 -- of two places with digits neither of which comes before the other
 not_before : (p q c d : ℕ) → (nat_lt p q || (p == q && nat_lt c d)) ≡ false → q ≤ p

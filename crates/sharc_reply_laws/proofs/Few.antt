@@ -1,16 +1,14 @@
 -- A thread that is chosen has made fewer events than the limit.
 use Rattle.std.proofs.{Common.{◌≡◌, ℕ, ◌+◌, ◌<◌, ◌≤◌, ⊎_elim, true, not, ◌&&◌, List, [], ◌∷◌, length, sym, subst, arith}, lemmas.Bool.cases_eq}
 use Rattle.std.specs.Prelude.{nat_lt}
-use Rattle.sharc_code.specs.{declared.code.Code.Code, declared.shape.Shape.Shape, declared.state.TurnState.TurnState, declared.state.TurnState.TheVariants.{Runs, Tries, Stopped, Ended}, Laws.RunLaws, Path.{counted, may_go}, Runs.Turn, Waits.waits_now, Whole.{bounds, place_after}}
+use Rattle.sharc_code.specs.{declared.code.Code.Code, declared.shape.Shape.Shape, declared.state.TurnState.TurnState, declared.state.TurnState.TheVariants.Runs, Laws.RunLaws, Path.{counted, may_go}, Runs.Turn, Waits.waits_now, Whole.{bounds, place_after}}
 use Rattle.sharc_threads.specs.Ends.{Standing, is_enabled}
 use Rattle.sharc_seq.specs.{Laws.EnabledLaws, Run.{AreChosen, IsChosen, enabled}}
 use Rattle.sharc_lemmas.proofs.{Bools.{and_left as left, and_right as right}, Numbers.{lt_true as below}}
 
 counts_few : (state : TurnState) → counted state ≤ 1
 counts_few Runs = omega arith
-counts_few Tries = omega arith
-counts_few Stopped = omega arith
-counts_few Ended = omega arith
+counts_few _ = omega arith
 
 bounded : (x y c limit : ℕ) → x ≡ y + c → y < limit → c ≤ 1 → x ≤ limit
 bounded x y c limit e low few = omega arith

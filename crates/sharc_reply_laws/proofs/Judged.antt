@@ -66,7 +66,6 @@ module _ (laws : FileReplyLaws) where
       (subst (λ (n : ℕ). JudgesSource other n events s text) same.1 (subst (λ (l : List ℕ). JudgesSource l fuel events s text) same.0 is))
 
   pub one_file_reply : (input : List ℕ) (s z : Status) (text other : List ℕ) → FileReplies input s text → FileReplies input z other → Same s z text other
-  one_file_reply input s z text other (long_file long) (long_file long') = (refl, refl)
   one_file_reply input s z text other (long_file long) (no_file n short bad) = absurd (not_long file_limit input long short)
   one_file_reply input s z text other (long_file long) (many_events short many) = absurd (not_long file_limit input long short)
   one_file_reply input s z text other (long_file long) (long_source source fuel events f big) = absurd (not_long file_limit input long f.short)
@@ -78,13 +77,11 @@ module _ (laws : FileReplyLaws) where
   one_file_reply input s z text other (no_file n short bad) (source_judged source fuel events f small y t is) = absurd (bad_or_few input source fuel events n bad f)
   one_file_reply input s z text other (many_events short many) (long_file long) = absurd (not_long file_limit input long short)
   one_file_reply input s z text other (many_events short many) (no_file n short' bad) = absurd (laws.files.faultless (text_lines input) many.source many.fuel many.events n many.file bad)
-  one_file_reply input s z text other (many_events short many) (many_events short' many') = (refl, refl)
   one_file_reply input s z text other (many_events short many) (long_source source fuel events f big) = absurd (many_or_few input source fuel events many f)
   one_file_reply input s z text other (many_events short many) (source_judged source fuel events f small y t is) = absurd (many_or_few input source fuel events many f)
   one_file_reply input s z text other (long_source source fuel events f big) (long_file long) = absurd (not_long file_limit input long f.short)
   one_file_reply input s z text other (long_source source fuel events f big) (no_file n short bad) = absurd (bad_or_few input source fuel events n bad f)
   one_file_reply input s z text other (long_source source fuel events f big) (many_events short many) = absurd (many_or_few input source fuel events many f)
-  one_file_reply input s z text other (long_source source fuel events f big) (long_source source' fuel' events' f' big') = (refl, refl)
   one_file_reply input s z text other (long_source source fuel events f big) (source_judged source' fuel' events' f' small y t is) = absurd (long_or_short input source source' fuel fuel' events events' f f' big small)
   one_file_reply input s z text other (source_judged source fuel events f small y t is) (long_file long) = absurd (not_long file_limit input long f.short)
   one_file_reply input s z text other (source_judged source fuel events f small y t is) (no_file n short bad) = absurd (bad_or_few input source fuel events n bad f)
@@ -92,6 +89,7 @@ module _ (laws : FileReplyLaws) where
   one_file_reply input s z text other (source_judged source fuel events f small y t is) (long_source source' fuel' events' f' big) = absurd (long_or_short input source' source fuel' fuel events' events f' f big small)
   one_file_reply input s z text other (source_judged source fuel events f small y t is) (source_judged source' fuel' events' f' small' x u also) =
       one_source source' fuel' events' y x t u (moved input source source' fuel fuel' events events' y t f f' is) also
+  one_file_reply input s z text other _ _ = (refl, refl)
 
   -- ---- of a program whose modes are accepted
   judged_only : (m : Assignment) (fuel : ℕ) (events : List EventLine) (s : Status) (text : List ℕ) → MeetsRules m → Judges m fuel events s text → IsVerdict m fuel events s text

@@ -8,7 +8,7 @@ use Rattle.sharc_cpu.specs.Thread.{ThreadView}
 use Rattle.sharc_threads.specs.Ends.{AreStarted, IsAt, Standing, is_enabled}
 use Rattle.sharc_load.specs.Source.{source_of}
 use Rattle.sharc_schedule.specs.{File.written, Schedule.stored}
-use Rattle.sharc_run.specs.{declared.outcome.Outcome.Outcome, declared.run.Ran.Ran, Outcome.{HasOutcome, done, limited, reported, stopped, stuck}, Run.IsEnd}
+use Rattle.sharc_run.specs.{declared.outcome.Outcome.Outcome, declared.run.Ran.Ran, Outcome.{HasOutcome, stopped, stuck}, Run.IsEnd}
 use Rattle.sharc_seq.specs.Choice.{seeded}
 use Rattle.sharc_invariant.specs.Labels.{Labels}
 use Rattle.sharc_build.specs.Built.{IsBuilt}
@@ -20,11 +20,8 @@ use Rattle.sharc_reply_laws.proofs.Asked.{loading}
 
 -- status 5 is that of a run that is stuck
 stuck_is : (code : Code) (s : Shape) (limit : ℕ) (g : Standing) (threads : List ThreadView) (outcome : Outcome) → HasOutcome code s limit g threads outcome → status_of outcome ≡ status.Stuck → IsStuck code s g
-stuck_is code s limit g threads outcome (reported a) e = absurd (cc)
-stuck_is code s limit g threads outcome (stopped a b) e = absurd (cc)
 stuck_is code s limit g threads outcome (stuck a is) e = is
-stuck_is code s limit g threads outcome (limited a b c) e = absurd (cc)
-stuck_is code s limit g threads outcome (done a b) e = absurd (cc)
+stuck_is code s limit g threads outcome _ e = absurd (cc)
 
 -- ---- the lines of threads
 module _ (stops : StopsAreStopped) (m : Assignment) (code : Code) (s : Shape) (ls : Labels) (run : List Turn) (checked : CheckedRun code s run) (tells : RunTells m code s ls run)

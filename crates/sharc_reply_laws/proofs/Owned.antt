@@ -5,7 +5,7 @@ use Rattle.sharc_tree.specs.declared.event.SourceEvent.{SourceEvent}
 use Rattle.sharc_locks.specs.Waiters.{waits_in}
 use Rattle.sharc_heap.specs.{State.NewView, declared.stage.NewStage.NewStage}
 use Rattle.sharc_heap.specs.declared.stage.NewStage.TheVariants as news
-use Rattle.sharc_code.specs.{declared.code.Code.Code, declared.instr.Cell.Cell, declared.instr.Register.Register, declared.instr.Instr.Instr, declared.instr.Instr.TheVariants.{Load, Store, LoadRef, Exchange, New, TakeCell, TakeLocal, Give, Free, Lock, Unlock, Spawn, Join, Print, Start, Exit, CondEnter, CondWait, CondSignal, CondBroadcast}, declared.shape.Shape.Shape, declared.state.Stage.Stage, declared.state.Stage.TheVariants.{Makes, Uncounts, Begins, Enters, Withdraws, WithdrawsFrom, Leaves, Wakes}, Machine.{Machine, ref, instr_at}, Runs.{Said, Turn, result_of, said_by, told_by, with_told}, Says.{elements_in, in_exit, in_free, in_new, in_signal, in_spawn, in_start, new_event, nobody, said, speaks_of, take_local}, StandingLaws.StandingLaws, Whole.{Erase, one_thread, place_after}}
+use Rattle.sharc_code.specs.{declared.code.Code.Code, declared.instr.Cell.Cell, declared.instr.Register.Register, declared.instr.Instr.Instr, declared.instr.Instr.TheVariants.{Load, Store, LoadRef, Exchange, New, TakeCell, TakeLocal, Give, Free, Lock, Unlock, Spawn, Join, Print, Start, Exit, CondEnter, CondWait, CondSignal, CondBroadcast}, declared.shape.Shape.Shape, declared.state.Stage.Stage, declared.state.Stage.TheVariants.{Makes, Uncounts, Begins, Enters, Withdraws, WithdrawsFrom, Wakes}, Machine.{Machine, ref, instr_at}, Runs.{Said, Turn, result_of, said_by, told_by, with_told}, Says.{elements_in, in_exit, in_free, in_new, in_signal, in_spawn, in_start, new_event, nobody, said, speaks_of, take_local}, StandingLaws.StandingLaws, Whole.{Erase, one_thread, place_after}}
 use Rattle.sharc_lemmas.proofs.{Lists.reverse_cons, Numbers.same_test}
 
 -- ---- one turn
@@ -49,7 +49,6 @@ module _ (code : Code) (m : Machine) where
   of_exit : (stage : Stage) → IsOwn (in_exit code m stage)
   of_exit (Withdraws row) = tt
   of_exit (WithdrawsFrom row seen) = tt
-  of_exit Leaves = refl
   of_exit _ = refl
 
   of_nobody : (cell : Cell) (site found : ℕ) → IsOwn (nobody code m cell site found)

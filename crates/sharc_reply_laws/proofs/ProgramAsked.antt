@@ -8,7 +8,7 @@ use Rattle.sharc_top.specs.{declared.status.Status.Status, declared.task.SourceT
 use Rattle.sharc_top.specs.declared.status.Status.TheVariants as status
 use Rattle.sharc_top.specs.declared.task.SourceTask.TheVariants as task
 use Rattle.sharc_reply_laws.specs.Laws.{SourceLaws, IsAsked, IsAcceptance, IsExplanation, IsRunning}
-use Rattle.sharc_reply_laws.proofs.Replying.{is_answer}
+use Rattle.sharc_reply_laws.proofs.{Replying.is_answer, Asked.only_ran}
 
 -- what is written for a source that is this program is written for it
 does_of : SourceLaws → (t : SourceTask) (source : List ℕ) (m : Assignment) (s : Status) (text : List ℕ) → IsFront source m → Answers t source s text → Does t m s text
@@ -23,10 +23,6 @@ only_explained : (m : Assignment) (s : Status) (text : List ℕ) → MeetsRules 
 only_explained m s text meets (explained z verdict is) =
     let only = only_accepted m z verdict meets is in
     (only.0, record { verdict = verdict; accepts = only.1; written = refl })
-
-only_ran : (n : RunNumbers) (m : Assignment) (s : Status) (text : List ℕ) → MeetsRules m → Runs n m s text → IsRunning n m s text
-only_ran n m s text meets (not_run t is) = absurd (is.breaks_rules meets)
-only_ran n m s text meets (ran code run also compiled fit is) = record { code = code; compiled = compiled; fits = fit; ran = run; runs = is; ends = refl; written = refl }
 
 check_refused : (m : Assignment) (s : Status) (text : List ℕ) → ¬ (MeetsRules m) → Checks m s text → s ≡ status.ModesRefused
 check_refused m s text ill (accepted w meets are) = absurd (ill meets)

@@ -4,7 +4,7 @@ use Rattle.sharc_tree.specs.declared.event.CellAt.{CellAt}
 use Rattle.sharc_heap.specs.declared.shadow_word.Kind.{Kind}
 use Rattle.sharc_mode.specs.Moded.{Assignment}
 use Rattle.sharc_meaning.specs.Events.{Access, access_by}
-use Rattle.sharc_code.specs.{declared.code.Code.Code, declared.code.PlaceMode.PlaceMode, declared.instr.Cell.Cell, declared.instr.Cell.TheVariants.{Global, GlobalAt, Object as InObject, ObjectAt}, declared.instr.Instr.Instr, declared.instr.Instr.TheVariants.{ChkRead, ChkWrite, Exchange, Load, LoadRef, Start, Store, TakeCell}, declared.shape.Shape.Shape, declared.state.ConflictAt.ConflictAt, declared.state.TurnState.TheVariants.Stopped, declared.state.Stop.Stop, declared.state.Stop.TheVariants.Conflict, Machine.{Machine, instr_at, stopped}, Path.may_go, Runs.Turn, Says.{cell_at, mode_of, place_at}, Whole.{CheckedRun, place_after}}
+use Rattle.sharc_code.specs.{declared.code.Code.Code, declared.code.PlaceMode.PlaceMode, declared.instr.Cell.Cell, declared.instr.Cell.TheVariants.GlobalAt, declared.instr.Instr.Instr, declared.instr.Instr.TheVariants.{ChkRead, ChkWrite, Exchange, Load, LoadRef, Start, Store, TakeCell}, declared.shape.Shape.Shape, declared.state.ConflictAt.ConflictAt, declared.state.TurnState.TheVariants.Stopped, declared.state.Stop.Stop, declared.state.Stop.TheVariants.Conflict, Machine.{Machine, instr_at, stopped}, Path.may_go, Runs.Turn, Says.{cell_at, mode_of, place_at}, Whole.{CheckedRun, place_after}}
 use Rattle.sharc_code.specs.declared.code.PlaceMode.TheVariants as modes
 use Rattle.sharc_invariant.specs.Bits.{CheckOf, touch_of}
 use Rattle.sharc_history_laws.specs.{Causes.ShowsCause, Conflicts.site_of_check, Followed.{ChecksAreFollowed, access_of, access_to}, History.history_of}
@@ -17,20 +17,12 @@ use Rattle.sharc_lemmas.proofs.Options.{no_guard as no_site}
 -- ---- a thread that is stopped would make the access that it would have made
 module _ (code : Code) (m : Machine) (stop : Stop) where
   cell_same : (c : Cell) → cell_at code (stopped m stop) c ≡ cell_at code m c
-  cell_same (Global g cell) = refl
   cell_same (GlobalAt g r) = refl
-  cell_same (InObject r cell) = refl
-  cell_same (ObjectAt r at) = refl
+  cell_same _ = refl
 
   mode_same : (cell : CellAt) (mode : PlaceMode) → mode_of code (stopped m stop) cell mode ≡ mode_of code m cell mode
-  mode_same cell modes.Private = refl
-  mode_same cell modes.Readonly = refl
-  mode_same cell modes.Racy = refl
-  mode_same cell modes.Dynamic = refl
   mode_same cell (modes.LockedGlobal g place) = refl
-  mode_same cell (modes.LockedSibling field mutex) = refl
-  mode_same cell (modes.LockedThrough r place) = refl
-  mode_same cell modes.LockedLoaded = refl
+  mode_same cell _ = refl
 
   abbrev with_mode : (write : Bool) (site : ℕ) → CellAt → Access
   with_mode write site cell = record { cell = cell; mode = mode_of code m cell (place_at code site).mode; is_write = write }

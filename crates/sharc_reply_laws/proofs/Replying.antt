@@ -3,7 +3,7 @@ use Rattle.std.proofs.{Common.{◌≡◌, ℕ, ◌<◌, ◌≤◌, Bool, true, f
 use Rattle.sharc_mode.specs.Moded.{Assignment}
 use Rattle.sharc_check.specs.Laws.{CheckLaws}
 use Rattle.sharc_suggest.specs.Laws.{SuggestLaws}
-use Rattle.sharc_cli.specs.{Commands.commands, declared.command.Command.Command, declared.command.Command.TheVariants.{Check, Explain, Run, Load, Record, Replay, Audit}}
+use Rattle.sharc_cli.specs.{Commands.commands, declared.command.Command.Command, declared.command.Command.TheVariants.{Check, Explain, Load, Record, Replay, Audit}}
 use Rattle.sharc_report.specs.Refusals.{refusal_line}
 use Rattle.sharc_top.specs.{declared.status.Status.Status, declared.task.SourceTask.SourceTask, Answers.{Answers, faulty, program}, EventFiles.FileReplies, Limits.source_limit, Reply.{task_in, Replies, usage, too_long, answered, loaded, recorded, replayed, audited, IsReply}, Verdict.Does}
 use Rattle.sharc_top.specs.declared.task.SourceTask.TheVariants as task
@@ -79,11 +79,8 @@ runs_nothing : (o : Option Command) (t : SourceTask) → ¬ (MakesRun o) → tas
 runs_nothing None t nothing e = absurd (no_task t e)
 runs_nothing (Some Check) t nothing e = subst RunsNothing (some_task task.Check t e) tt
 runs_nothing (Some Explain) t nothing e = subst RunsNothing (some_task task.Explain t e) tt
-runs_nothing (Some (Run workers granules events seed)) t nothing e = absurd (nothing tt)
-runs_nothing (Some (Load number workers)) t nothing e = absurd (nothing tt)
-runs_nothing (Some (Record workers granules events)) t nothing e = absurd (nothing tt)
-runs_nothing (Some Replay) t nothing e = absurd (nothing tt)
 runs_nothing (Some Audit) t nothing e = absurd (no_task t e)
+runs_nothing _ t nothing e = absurd (nothing tt)
 
 not_long : (input : List ℕ) → source_limit < length input → length input ≤ source_limit → ⊥
 not_long input long short = omega (arith, long, short)

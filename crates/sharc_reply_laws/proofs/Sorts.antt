@@ -6,9 +6,9 @@ use Rattle.sharc_tree.specs.declared.trap.Trap.TheVariants as traps
 use Rattle.sharc_word.specs.{declared.step.TheConstants.THREADS, declared.step.WordOp.WordOp, declared.step.WordStep.WordStep, Words.word_after}
 use Rattle.sharc_word.specs.declared.step.WordOp.TheVariants as ops
 use Rattle.sharc_locks.specs.Waiters.{waits_in}
-use Rattle.sharc_heap.specs.{declared.shadow_word.Kind.Kind, declared.shadow_word.Kind.TheVariants.{Read, Write}, Accesses.{note_of, site_at}, ShadowWord.epoch_of, Functions.{conflicts_in, noted}, State.{NewView, told, turn_of}, Asks.word_number, Stages.turn_of_stage, declared.arguments.NewArguments.NewArguments, declared.stage.NewStage.NewStage, declared.stage.NewTurn.NewTurn, declared.stage.NewTurn.TheVariants.{Do, Made, HeapFull}}
+use Rattle.sharc_heap.specs.{declared.shadow_word.Kind.Kind, declared.shadow_word.Kind.TheVariants.{Read, Write}, Accesses.{note_of, site_at}, ShadowWord.epoch_of, Functions.{conflicts_in, noted}, State.{NewView, told, turn_of}, Asks.word_number, Stages.turn_of_stage, declared.arguments.NewArguments.NewArguments, declared.stage.NewStage.NewStage, declared.stage.NewTurn.NewTurn, declared.stage.NewTurn.TheVariants.Do}
 use Rattle.sharc_heap.specs.declared.stage.NewStage.TheVariants as news
-use Rattle.sharc_code.specs.{declared.code.Code.Code, declared.code.Layout.Layout, declared.code.Parameter.Parameter, declared.instr.Cell.Cell, declared.instr.Register.Register, declared.instr.Width.TheVariants.{Int, Long}, declared.instr.Instr.Instr, declared.instr.Instr.TheVariants.{Constant, Move, MoveReference, Null, ComputeInt, ComputeLong, NegateInt, NegateLong, Complement, Not, SameReference, ChkWidth, Jump, JumpIfZero, JumpIfNull, Call, Return, ChkNull, ChkHeld, ChkNotHeld, ChkPositive, ChkRoom, ChkLock, ChkLockLoaded, Bounds, GlobalBounds, ChkRead, ChkWrite, Load, Store, LoadRef, Exchange, Raise, RaiseLoaded, Lower, New, TakeCell, TakeLocal, TestSole, Clear, Give, Free, Lock, Unlock, Spawn, Join, Print, Start, Exit, CondEnter, CondWait, CondSignal, CondBroadcast}, declared.shape.Shape.Shape, declared.state.Print.{Print as PrintAt}, declared.state.Stage.Stage, declared.state.Stage.TheVariants.{Rests, Looks, Clears, Makes, Empties, Lowers, FreeLooks, FreeClears, Uncounts, Links, Names, Hands, Begins, Enters, Withdraws, WithdrawsFrom, Leaves, Wakes}, Arithmetic.{computed, negated, is_zero, holds}, Layout.{granule_at, granule_of, words_of, cell_of, cell_word, shadow_word, count_word, first_cell, first_shadow, state_word, prints_word}, Machine.{Machine, Own, Turn, act, int, ref, goes, goes_to, asserts, with_result, has_room, called, returned, holds_none, is_of_null, is_held, indexed, wrote, with_note, checked, lock_checked, raise, lower, test, tested, after_new, asks_new, new, new_state, elements_of, looks, clear, data_granules, free_looks, empties, emptied, free, layout_at, spawn, with_parameter, entered, start, function_of, withdraws, exit, wakes, signal, is_positive, fields, largest, at_stage, place, set_ref, accessed, move_ref, numbered, trapped, locked, joined, join, woken, word, handed, Local, Asks, step_of}, Path.{after, asked_by}, Says.{said, take_local, new_event, in_new, in_free, in_spawn, in_start, in_exit, in_signal, nobody}, Stages.IsStageOf}
+use Rattle.sharc_code.specs.{declared.code.Code.Code, declared.code.Layout.Layout, declared.code.Parameter.Parameter, declared.instr.Cell.Cell, declared.instr.Register.Register, declared.instr.Width.TheVariants.{Int, Long}, declared.instr.Instr.Instr, declared.instr.Instr.TheVariants.{Move, ComputeInt, ComputeLong, NegateInt, NegateLong, ChkWidth, JumpIfZero, JumpIfNull, Call, Return, ChkNull, ChkHeld, ChkNotHeld, ChkPositive, ChkRoom, ChkLock, ChkLockLoaded, Bounds, GlobalBounds, ChkRead, ChkWrite, Load, Store, LoadRef, Exchange, Raise, RaiseLoaded, Lower, New, TakeCell, TakeLocal, TestSole, Clear, Give, Free, Lock, Unlock, Spawn, Join, Print, Start, Exit, CondEnter, CondWait, CondSignal, CondBroadcast}, declared.shape.Shape.Shape, declared.state.Print.Print as PrintAt, declared.state.Stage.Stage, declared.state.Stage.TheVariants.{Rests, Looks, Clears, Makes, Empties, Lowers, FreeLooks, FreeClears, Uncounts, Links, Names, Hands, Begins, Enters, Withdraws, WithdrawsFrom, Leaves, Wakes}, Arithmetic.{computed, negated, is_zero, holds}, Layout.{granule_at, granule_of, words_of, cell_of, cell_word, shadow_word, count_word, first_cell, first_shadow, state_word, prints_word}, Machine.{Machine, Own, Turn, act, int, ref, goes, goes_to, asserts, with_result, has_room, called, returned, holds_none, is_of_null, is_held, indexed, wrote, with_note, checked, lock_checked, raise, lower, test, tested, after_new, asks_new, new, new_state, elements_of, looks, clear, data_granules, free_looks, empties, emptied, free, layout_at, spawn, with_parameter, entered, start, function_of, withdraws, exit, wakes, signal, is_positive, fields, largest, at_stage, place, set_ref, accessed, move_ref, numbered, trapped, locked, joined, join, woken, word, handed, Local, Asks, step_of}, Path.{after, asked_by}, Says.{said, take_local, new_event, in_new, in_free, in_spawn, in_start, in_exit, in_signal, nobody}, Stages.IsStageOf}
 use Rattle.sharc_code.specs.declared.code.Parameter.TheVariants as parameters
 use Rattle.sharc_code.specs.declared.instr.Register.TheVariants as registers
 use Rattle.sharc_reply_laws.specs.Prints.{printed_by}
@@ -144,27 +144,23 @@ module _ (code : Code) (s : Shape) (m : Machine) where
   -- a New
   at_after_new : (r site : ℕ) (state : NewView) (t : NewTurn) → Kept (after_new m r site state t)
   at_after_new r site state (Do step) = refl
-  at_after_new r site state (Made header) = refl
-  at_after_new r site state HeapFull = refl
+  at_after_new r site state _ = refl
 
   at_ask_new : (r site : ℕ) (state : NewView) (t : NewTurn) (found : ℕ) → Kept (after (asks_new m r site state t) found)
   at_ask_new r site state (Do step) found = at_after_new r site (told state found) (turn_of (told state found))
-  at_ask_new r site state (Made header) found = refl
-  at_ask_new r site state HeapFull found = refl
+  at_ask_new r site state _ found = refl
 
   top_other : IsOther 1
   top_other = record { apart = λ e. omega (arith, e) }
 
   to_stage : (r site : ℕ) (state : NewView) (a : NewArguments) (stage : NewStage) → a.first ≡ first_cell s → Elsewhere (asked_by (asks_new m r site state (turn_of_stage a stage)))
-  to_stage r site state a news.Begins e = tt
   to_stage r site state a news.Link e = apart _ _ (of_new s a (a.first + 2 * a.head + 1) e (omega arith))
   to_stage r site state a (news.Cell cell) e = apart _ _ (of_new s a (a.first + 2 * a.head + 2 + cell) e (omega arith))
   to_stage r site state a news.Top e = apart _ _ top_other
   to_stage r site state a (news.Move top moved) e = apart _ _ top_other
   to_stage r site state a (news.Count header) e = apart _ _ (of_new s a (a.first + 2 * header) e (omega arith))
   to_stage r site state a (news.Length header) e = apart _ _ (of_new s a (a.first + 2 * header + 1) e (omega arith))
-  to_stage r site state a (news.Made header) e = tt
-  to_stage r site state a news.Full e = tt
+  to_stage r site state a _ e = tt
 
   at_new : (r elements cells site : ℕ) (stage : Stage) → IsStageOf s stage → IsQuiet (new s m r elements cells site stage)
   at_new r elements cells site (Makes state) is = record { step = to_stage r site state state.arguments state.stage is.0; kept = λ found. at_ask_new r site state (turn_of state) found }
@@ -243,9 +239,8 @@ module _ (code : Code) (s : Shape) (m : Machine) where
 
   -- the beginning and the end of a thread
   parameter_prints : (x : Machine) (p : Parameter) (argument : ℕ) → (with_parameter x p argument).own.prints ≡ x.own.prints
-  parameter_prints x parameters.None argument = refl
   parameter_prints x parameters.Int argument = refl
-  parameter_prints x parameters.Reference argument = refl
+  parameter_prints x _ argument = refl
 
   at_enter : (function site argument : ℕ) → Kept (entered code m function site argument)
   at_enter function site argument =
@@ -301,8 +296,6 @@ module _ (code : Code) (s : Shape) (m : Machine) where
 
   tells_exit : (stage : Stage) → printed_of (in_exit code m stage) ≡ None
   tells_exit (Withdraws row) = refl
-  tells_exit (WithdrawsFrom row seen) = refl
-  tells_exit Leaves = refl
   tells_exit _ = refl
 
   tells_nobody : (cell : Cell) (site found : ℕ) → printed_of (nobody code m cell site found) ≡ None
@@ -318,19 +311,11 @@ module _ (code : Code) (s : Shape) (m : Machine) where
   still x h = record { step = tt; kept = λ found. h }
 
   pub sorted : (i : Instr) → IsStageOf s m.own.stage → Sort i
-  sorted (Constant r v) is = Quiet (λ found. refl) (still _ refl) (λ found elements. refl)
-  sorted (Move r from) is = Quiet (λ found. refl) (still _ refl) (λ found elements. refl)
-  sorted (MoveReference r from) is = Quiet (λ found. refl) (still _ refl) (λ found elements. refl)
-  sorted (Null r) is = Quiet (λ found. refl) (still _ refl) (λ found elements. refl)
   sorted (ComputeInt operator r a b site) is = Quiet (λ found. refl) (still _ (at_result r site (computed Int operator (int m a) (int m b)))) (λ found elements. refl)
   sorted (ComputeLong operator r a b site) is = Quiet (λ found. refl) (still _ (at_result r site (computed Long operator (int m a) (int m b)))) (λ found elements. refl)
   sorted (NegateInt r a site) is = Quiet (λ found. refl) (still _ (at_result r site (negated Int (int m a)))) (λ found elements. refl)
   sorted (NegateLong r a site) is = Quiet (λ found. refl) (still _ (at_result r site (negated Long (int m a)))) (λ found elements. refl)
-  sorted (Complement r a) is = Quiet (λ found. refl) (still _ refl) (λ found elements. refl)
-  sorted (Not r a) is = Quiet (λ found. refl) (still _ refl) (λ found elements. refl)
-  sorted (SameReference r a b) is = Quiet (λ found. refl) (still _ refl) (λ found elements. refl)
   sorted (ChkWidth width r site) is = Quiet (λ found. refl) (still _ (at_assert (holds width (int m r)) traps.OutOfRange site)) (λ found elements. refl)
-  sorted (Jump pc) is = Quiet (λ found. refl) (still _ refl) (λ found elements. refl)
   sorted (JumpIfZero r pc) is = Quiet (λ found. refl) (still _ (at_jump (is_zero (int m r)) pc)) (λ found elements. refl)
   sorted (JumpIfNull r pc) is = Quiet (λ found. refl) (still _ (at_jump (ref m r == 0) pc)) (λ found elements. refl)
   sorted (Call pc ints refs site) is = Quiet (λ found. refl) (still _ (at_call m pc ints refs site refl)) (λ found elements. refl)
@@ -371,3 +356,4 @@ module _ (code : Code) (s : Shape) (m : Machine) where
   sorted (CondWait cell site) is = Quiet (λ found. refl) (record { step = loads _; kept = λ found. at_woken found }) (λ found elements. choice (waits_in found m.own.number) _ _ refl refl)
   sorted (CondSignal cell site) is = Quiet (λ found. refl) (at_signal (word s m cell) m.own.stage (of_cell s _)) (λ found elements. tells_signal cell site found m.own.stage)
   sorted (CondBroadcast cell site) is = Quiet (λ found. refl) (record { step = apart _ _ (of_cell s _); kept = λ found. refl }) (λ found elements. refl)
+  sorted _ is = Quiet (λ found. refl) (still _ refl) (λ found elements. refl)

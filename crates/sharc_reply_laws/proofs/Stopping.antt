@@ -7,7 +7,7 @@ use Rattle.sharc_word.specs.declared.step.TheConstants.{THREADS}
 use Rattle.sharc_word.specs.declared.step.WordOp.TheVariants as ops
 use Rattle.sharc_locks.specs.Waiters.{waits_in}
 use Rattle.sharc_heap.specs.{declared.shadow_word.Kind.Kind, declared.shadow_word.Kind.TheVariants.{Read, Write}, Accesses.{note_of, site_at}, ShadowWord.epoch_of, Functions.{conflicts_in, noted}, State.{NewView, told, turn_of}, declared.stage.NewTurn.NewTurn, declared.stage.NewTurn.TheVariants.{Do, Made, HeapFull}}
-use Rattle.sharc_code.specs.{declared.code.Code.Code, declared.code.Layout.Layout, declared.code.Parameter.Parameter, declared.instr.Cell.Cell, declared.instr.Register.Register, declared.instr.Width.TheVariants.{Int, Long}, declared.instr.Instr.Instr, declared.instr.Instr.TheVariants.{Constant, Move, MoveReference, Null, ComputeInt, ComputeLong, NegateInt, NegateLong, Complement, Not, SameReference, ChkWidth, Jump, JumpIfZero, JumpIfNull, Call, Return, ChkNull, ChkHeld, ChkNotHeld, ChkPositive, ChkRoom, ChkLock, ChkLockLoaded, Bounds, GlobalBounds, ChkRead, ChkWrite, Load, Store, LoadRef, Exchange, Raise, RaiseLoaded, Lower, New, TakeCell, TakeLocal, TestSole, Clear, Give, Free, Lock, Unlock, Spawn, Join, Print, Start, Exit, CondEnter, CondWait, CondSignal, CondBroadcast}, declared.shape.Shape.Shape, declared.state.Stage.Stage, declared.state.Stage.TheVariants.{Rests, Looks, Clears, Makes, Empties, Lowers, FreeLooks, FreeClears, Uncounts, Links, Names, Hands, Begins, Enters, Withdraws, WithdrawsFrom, Leaves, Wakes}, Arithmetic.{computed, negated, is_zero, holds}, Layout.{granule_at, granule_of, cell_of, cell_word, state_word}, Machine.{Machine, instr_at, Own, act, int, ref, goes, goes_to, asserts, with_result, has_room, called, returned, holds_none, is_of_null, is_held, indexed, wrote, with_note, checked, lock_checked, raise, lower, test, tested, after_new, asks_new, new, new_state, elements_of, looks, clear, data_granules, free_looks, empties, emptied, free, layout_at, spawn, with_parameter, entered, start, function_of, withdraws, exit, wakes, signal, is_positive, fields, largest, at_stage, place, set_ref, accessed, move_ref, numbered, trapped, locked, joined, join, woken, word, handed, Local, Asks, step_of}, Path.{after, may_go, turn}, declared.state.TurnState.TurnState, declared.state.TurnState.TheVariants.Stopped, declared.state.Stop.Stop, Opening.opening_words, Runs.{Global, IsRun, Turn as RunTurn, opening_of, put, result_of}, Whole.{bounds, one_thread, place_after}}
+use Rattle.sharc_code.specs.{declared.code.Code.Code, declared.code.Layout.Layout, declared.code.Parameter.Parameter, declared.instr.Cell.Cell, declared.instr.Register.Register, declared.instr.Width.TheVariants.{Int, Long}, declared.instr.Instr.Instr, declared.instr.Instr.TheVariants.{ComputeInt, ComputeLong, NegateInt, NegateLong, ChkWidth, JumpIfZero, JumpIfNull, Call, Return, ChkNull, ChkHeld, ChkNotHeld, ChkPositive, ChkRoom, ChkLock, ChkLockLoaded, Bounds, GlobalBounds, ChkRead, ChkWrite, Load, Raise, RaiseLoaded, Lower, New, TakeLocal, TestSole, Clear, Free, Lock, Spawn, Join, Start, Exit, CondWait, CondSignal}, declared.shape.Shape.Shape, declared.state.Stage.Stage, declared.state.Stage.TheVariants.{Rests, Looks, Clears, Makes, Empties, Lowers, FreeLooks, FreeClears, Uncounts, Links, Names, Hands, Begins, Enters, Withdraws, WithdrawsFrom, Leaves, Wakes}, Arithmetic.{computed, negated, is_zero, holds}, Layout.{granule_at, granule_of, cell_of, cell_word, state_word}, Machine.{Machine, instr_at, Own, act, int, ref, goes, goes_to, asserts, with_result, has_room, called, returned, holds_none, is_of_null, is_held, indexed, wrote, with_note, checked, lock_checked, raise, lower, test, tested, after_new, asks_new, new, new_state, elements_of, looks, clear, data_granules, free_looks, empties, emptied, free, layout_at, spawn, with_parameter, entered, start, function_of, withdraws, exit, wakes, signal, is_positive, fields, largest, at_stage, place, set_ref, accessed, move_ref, numbered, trapped, locked, joined, join, woken, word, handed, Local, Asks, step_of}, Path.{after, may_go, turn}, declared.state.TurnState.TurnState, declared.state.TurnState.TheVariants.Stopped, declared.state.Stop.Stop, Opening.opening_words, Runs.{Global, IsRun, Turn as RunTurn, opening_of, put, result_of}, Whole.{bounds, one_thread, place_after}}
 use Rattle.sharc_code.specs.declared.code.Parameter.TheVariants as parameters
 use Rattle.sharc_code.specs.declared.instr.Register.TheVariants as registers
 use Rattle.sharc_lemmas.proofs.Numbers.{ne_eq, eq_refl}
@@ -149,9 +149,8 @@ module _ (code : Code) (s : Shape) (m : Machine) where
 
   -- the beginning and the end of a thread
   parameter_stop : (x : Machine) (p : Parameter) (argument : ℕ) → (with_parameter x p argument).own.stop ≡ x.own.stop
-  parameter_stop x parameters.None argument = refl
   parameter_stop x parameters.Int argument = refl
-  parameter_stop x parameters.Reference argument = refl
+  parameter_stop x _ argument = refl
 
   at_enter : (function site argument : ℕ) → Stays (entered code m function site argument)
   at_enter function site argument =
@@ -182,19 +181,11 @@ module _ (code : Code) (s : Shape) (m : Machine) where
 
   -- ---- each instruction
   pub stays : (i : Instr) (found : ℕ) → Stays (after (act code s i m) found)
-  stays (Constant r v) found = inl refl
-  stays (Move r from) found = inl refl
-  stays (MoveReference r from) found = inl refl
-  stays (Null r) found = inl refl
   stays (ComputeInt operator r a b site) found = at_result r site (computed Int operator (int m a) (int m b))
   stays (ComputeLong operator r a b site) found = at_result r site (computed Long operator (int m a) (int m b))
   stays (NegateInt r a site) found = at_result r site (negated Int (int m a))
   stays (NegateLong r a site) found = at_result r site (negated Long (int m a))
-  stays (Complement r a) found = inl refl
-  stays (Not r a) found = inl refl
-  stays (SameReference r a b) found = inl refl
   stays (ChkWidth width r site) found = at_assert (holds width (int m r)) traps.OutOfRange site
-  stays (Jump pc) found = inl refl
   stays (JumpIfZero r pc) found = at_jump (is_zero (int m r)) pc
   stays (JumpIfNull r pc) found = at_jump (ref m r == 0) pc
   stays (Call pc ints refs site) found = at_call m pc ints refs site refl
@@ -210,31 +201,22 @@ module _ (code : Code) (s : Shape) (m : Machine) where
   stays (GlobalBounds r elements cells field site) found = at_index r (int m r) cells field site elements
   stays (ChkRead cell site) found = at_check Read (granule_at s (granule_of (place m cell))) site found
   stays (ChkWrite cell site) found = at_check Write (granule_at s (granule_of (place m cell))) site found
-  stays (Load r cell site) found = inl refl
-  stays (Store r cell site) found = inl refl
-  stays (LoadRef cell site) found = inl refl
-  stays (Exchange r cell site) found = inl refl
   stays (Raise r from) found = at_raise (ref m from) (goes (set_ref m r (ref m from))) found (inl refl)
   stays (RaiseLoaded r) found = at_raise m.pending (goes (accessed (set_ref m r m.pending))) found (inl refl)
   stays (Lower r) found = at_lower (ref m r) (goes (set_ref m r 0)) found (inl refl)
   stays (New r count cells site) found = at_new r (elements_of (int m count)) cells site m.own.stage found
-  stays (TakeCell r cell site) found = inl refl
   stays (TakeLocal r from site) found = at_test (ref m from) (goes (move_ref m r from)) found (inl refl)
   stays (TestSole r site) found = at_sole site found
   stays (Clear r cells) found = at_clear (ref m r) cells m.own.stage found
-  stays (Give r site) found = inl refl
   stays (Free r layout site) found = at_free r (layout_at code layout) m.own.stage found
   stays (Lock cell site) found = at_lock cell (word s m cell) found
-  stays (Unlock r cell site) found = inl refl
   stays (Spawn r function from site) found = at_spawn r function from site m.own.stage found
   stays (Join r site) found = at_join (int m r) site found
-  stays (Print r site) found = inl refl
   stays (Start site) found = at_start site m.own.stage found
   stays Exit found = at_exit m.own.stage found
-  stays (CondEnter cell site) found = inl refl
   stays (CondWait cell site) found = at_woken found
   stays (CondSignal cell site) found = at_signal (word s m cell) m.own.stage found
-  stays (CondBroadcast cell site) found = inl refl
+  stays _ found = inl refl
 
 -- ---- runs
 abbrev pub IsStop : Machine → Type 0

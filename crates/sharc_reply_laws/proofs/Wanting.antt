@@ -13,6 +13,7 @@ use Rattle.sharc_history_laws.specs.{Conflicts.site_of_check, Followed.{Accesses
 use Rattle.sharc_wants_laws.specs.Wants.{IsNotThere, StopsOrWantsUnder, WantsAct, WantsBy, access_tested}
 use Rattle.sharc_sound_laws.specs.Standing.{IsPlaced}
 use Rattle.sharc_reply_laws.specs.Reports.{ThreadWantsAccess, ThreadWantsMutex}
+use Rattle.sharc_lemmas.proofs.Options.{some_is as site_eq}
 
 -- ---- the first instruction
 pub first_is : (flat : FlatCode) (code : Code) → IsCodeOf flat code → instr_at code 0 ≡ Start 0
@@ -50,9 +51,6 @@ module _ (code : Code) (m : Machine) where
 
   moved : (o : Outcome) (site at : ℕ) (a b : Access) → at ≡ site → a ≡ b → WantsThat o at b → WantsThat o site a
   moved o site at a b sites same w = subst (λ k. WantsThat o k a) sites (subst (WantsThat o at) (sym same) w)
-
-  site_eq : (a b : ℕ) → Some a ≡ Some b → a ≡ b
-  site_eq a b e = cc
 
   no_site : (site : ℕ) → None ≡ Some site → ⊥
   no_site site e = cc
