@@ -2,7 +2,7 @@
 use Rattle.std.proofs.Common.{◌≡◌, ℕ, ℤ, pos, zero, suc, ◌+◌, Bool, true, false, ◌||◌, ◌==◌, List, [], ◌∷◌, ◌++◌, map, reverse, None, Some, refl, sym, ap, subst, ◌∙◌}
 use Rattle.std.specs.Prelude.{Option, if◌then◌else◌}
 use Rattle.sharc_tree.specs.declared.event.SourceEvent.{SourceEvent}
-use Rattle.sharc_code.specs.{declared.code.Code.Code, declared.instr.Instr.Instr, declared.instr.Instr.TheVariants.{Load, Store, LoadRef, Exchange, New, TakeCell, TakeLocal, Give, Free, Lock, Unlock, Spawn, Join, Print, Start, Exit, CondEnter, CondWait, CondSignal, CondBroadcast}, declared.shape.Shape.Shape, declared.state.Stage.Stage, declared.state.Stage.TheVariants.{Makes, Uncounts, Begins, Enters, Withdraws, WithdrawsFrom, Leaves, Wakes}, declared.instr.Cell.Cell, declared.instr.Register.Register, Machine.{Machine, instr_at, ref}, Runs.{Said, Turn, Owns, paired, result_of, told_by, with_told}, Says.{in_exit, in_free, in_new, in_signal, in_spawn, in_start, new_event, nobody, said, take_local}, StandingLaws.NumbersAreOwn, Whole.{Erase, one_thread, place_after}}
+use Rattle.sharc_code.specs.{declared.code.Code.Code, declared.instr.Instr.Instr, declared.instr.Instr.TheVariants.{Load, Store, LoadRef, Exchange, New, TakeCell, TakeLocal, Give, Free, Lock, Unlock, Spawn, Join, Print, Start, Exit, CondEnter, CondWait, CondSignal, CondBroadcast}, declared.shape.Shape.Shape, declared.state.Stage.Stage, declared.state.Stage.TheVariants.{Makes, Uncounts, Begins, Enters, Withdraws, WithdrawsFrom, Wakes}, declared.instr.Cell.Cell, declared.instr.Register.Register, Machine.{Machine, instr_at, ref}, Runs.{Said, Turn, Owns, paired, result_of, told_by, with_told}, Says.{in_exit, in_free, in_new, in_signal, in_spawn, in_start, new_event, nobody, said, take_local}, StandingLaws.NumbersAreOwn, Whole.{Erase, one_thread, place_after}}
 use Rattle.sharc_locks.specs.Waiters.{waits_in}
 use Rattle.sharc_heap.specs.{State.NewView, declared.stage.NewStage.NewStage, declared.stage.NewStage.TheVariants.Length}
 use Rattle.sharc_compile.specs.OfRuns.{told_in}
@@ -51,7 +51,6 @@ module _ (code : Code) (m : Machine) (found elements : ℕ) where
   of_exit : (stage : Stage) → Is m.own.number (in_exit code m stage)
   of_exit (Withdraws row) = tt
   of_exit (WithdrawsFrom row seen) = tt
-  of_exit Leaves = refl
   of_exit _ = refl
 
   of_nobody : (cell : Cell) (site seen : ℕ) → Is m.own.number (nobody code m cell site seen)

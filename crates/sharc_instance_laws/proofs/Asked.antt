@@ -5,10 +5,6 @@ use Rattle.sharc_instance_laws.proofs.{Guarded.{AreGuarded, always_obeys}, Locki
 
 -- The program enters one statement or expression after the other, and asks for one event after the other: each clause is a place where the fuel or the answers may come to an end.
 of_worker : (thread : ℕ) (v : ℤ) (answers : List ℤ) (fuel : ℕ) → AreGuarded [] (map (by thread) (asks locking 0 v answers fuel).events)
-of_worker thread v answers zero = tt
-of_worker thread v answers (suc zero) = tt
-of_worker thread v answers (suc (suc zero)) = tt
-of_worker thread v answers (suc (suc (suc zero))) = tt
 of_worker thread v [] (suc (suc (suc (suc fuel)))) = tt
 of_worker thread v (a ∷ answers) (suc (suc (suc (suc zero)))) = (tt, tt)
 of_worker thread v (a ∷ answers) (suc (suc (suc (suc (suc zero))))) = (tt, tt)
@@ -21,12 +17,9 @@ of_worker thread v (a ∷ b ∷ []) (suc (suc (suc (suc (suc (suc (suc (suc (suc
 of_worker thread v (a ∷ b ∷ c ∷ []) (suc (suc (suc (suc (suc (suc (suc (suc (suc (suc fuel)))))))))) = (tt, (record { cell = refl; mode = refl; held = refl }, (tt, tt)))
 of_worker thread v (a ∷ b ∷ c ∷ d ∷ []) (suc (suc (suc (suc (suc (suc (suc (suc (suc (suc fuel)))))))))) = (tt, (record { cell = refl; mode = refl; held = refl }, (tt, (tt, tt))))
 of_worker thread v (a ∷ b ∷ c ∷ d ∷ e ∷ answers) (suc (suc (suc (suc (suc (suc (suc (suc (suc (suc fuel)))))))))) = (tt, (record { cell = refl; mode = refl; held = refl }, (tt, (tt, (tt, tt)))))
+of_worker thread v answers _ = tt
 
 of_main : (thread : ℕ) (v : ℤ) (answers : List ℤ) (fuel : ℕ) → AreGuarded [] (map (by thread) (asks locking 1 v answers fuel).events)
-of_main thread v answers zero = tt
-of_main thread v answers (suc zero) = tt
-of_main thread v answers (suc (suc zero)) = tt
-of_main thread v answers (suc (suc (suc zero))) = tt
 of_main thread v [] (suc (suc (suc (suc fuel)))) = tt
 of_main thread v (a ∷ answers) (suc (suc (suc (suc zero)))) = (tt, tt)
 of_main thread v (a ∷ answers) (suc (suc (suc (suc (suc zero))))) = (tt, tt)
@@ -47,6 +40,7 @@ of_main thread v (a ∷ b ∷ c ∷ d ∷ e ∷ answers) (suc (suc (suc (suc (su
 of_main thread v (a ∷ b ∷ c ∷ d ∷ e ∷ []) (suc (suc (suc (suc (suc (suc (suc (suc (suc (suc (suc (suc (suc (suc (suc (suc fuel)))))))))))))))) = (tt, (record { cell = refl; mode = refl; held = refl }, (tt, (tt, (tt, tt)))))
 of_main thread v (a ∷ b ∷ c ∷ d ∷ e ∷ f ∷ []) (suc (suc (suc (suc (suc (suc (suc (suc (suc (suc (suc (suc (suc (suc (suc (suc fuel)))))))))))))))) = (tt, (record { cell = refl; mode = refl; held = refl }, (tt, (tt, (tt, (tt, tt))))))
 of_main thread v (a ∷ b ∷ c ∷ d ∷ e ∷ f ∷ g ∷ answers) (suc (suc (suc (suc (suc (suc (suc (suc (suc (suc (suc (suc (suc (suc (suc (suc fuel)))))))))))))))) = (tt, (record { cell = refl; mode = refl; held = refl }, (tt, (tt, (tt, (tt, (tt, tt)))))))
+of_main thread v answers _ = tt
 
 of_all : (thread f : ℕ) (v : ℤ) (answers : List ℤ) (fuel : ℕ) → AreGuarded [] (map (by thread) (asks locking f v answers fuel).events)
 of_all thread zero v answers fuel = of_worker thread v answers fuel

@@ -9,7 +9,7 @@ use Rattle.sharc_flat.specs.{declared.flat.Flat.{Flat as FlatCode}, declared.op.
 use Rattle.sharc_guard.specs.{Guard.guarded, Known.dropped, declared.guarded.Guarded.Guarded, Machine.Program}
 use Rattle.sharc_compile.specs.{Generated.generated, Made.IsCodeOf}
 use Rattle.sharc_front_end.specs.Compiled.{IsCompiled}
-use Rattle.sharc_instance_laws.proofs.Laying.{are_laid, are_named, behind_lines, behind_names, laid, named, names_behind}
+use Rattle.sharc_instance_laws.proofs.Laying.{are_laid, are_named, behind_lines, behind_names, laid, named, further_names as names_behind}
 use Rattle.sharc_lemmas.proofs.Numbers.{lt_true as below, le_true as within}
 
 module _ (alloc : Global) where

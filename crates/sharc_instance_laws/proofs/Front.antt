@@ -1,5 +1,5 @@
 -- The locking source is that program, with its least modes.
-use Rattle.std.proofs.Common.{◌≡◌, ℕ, zero, suc, ◌<◌, [], ◌∷◌, refl, arith}
+use Rattle.std.proofs.Common.{◌≡◌, ℕ, suc, ◌<◌, [], ◌∷◌, refl, arith}
 use Rattle.sharc_graph.specs.{declared.graph.NodeFinding.TheVariants.Apart, Findings.finding_at, Flow.{IsInferred, IsUnwritten, flow_of, place_at}}
 use Rattle.sharc_graph.specs.declared.place.PositionKind.TheVariants as place
 use Rattle.sharc_lex.specs.{Grammar.reading, Words.keywords}
@@ -31,25 +31,21 @@ resolved = record { typed = refl; named = refl }
 
 -- each position has its mode written, or is that of a mutex
 places_are : (position : ℕ) → IsPlaceFor resolution position (settled_at resolution position) (place_at (place.Other ∷ place.Other ∷ []) position)
-places_are zero = refl
-places_are (suc zero) = refl
 places_are (suc (suc n)) = refl
+places_are _ = refl
 
 none_unwritten : (position : ℕ) → IsUnwritten (flow_of (place.Other ∷ place.Other ∷ []) (links_of resolution)) position
     → IsInferred (flow_of (place.Other ∷ place.Other ∷ []) (links_of resolution)) position (finding_at (Apart ∷ Apart ∷ []) position)
-none_unwritten zero e = absurd (clash e)
-none_unwritten (suc zero) e = absurd (clash e)
 none_unwritten (suc (suc n)) e = absurd (clash e)
+none_unwritten _ e = absurd (clash e)
 
 modes_are : (position : ℕ) → position < 2 → slice_index_or modes position Private ≡ mode_found (settled_at resolution position) (finding_at (Apart ∷ Apart ∷ []) position)
-modes_are zero less = refl
-modes_are (suc zero) less = refl
 modes_are (suc (suc n)) less = beyond n less
+modes_are _ less = refl
 
 reasons_are : (position : ℕ) → position < 2 → IsReasonFor resolution position (settled_at resolution position) (finding_at (Apart ∷ Apart ∷ []) position) (reason_at locking position)
-reasons_are zero less = refl
-reasons_are (suc zero) less = refl
 reasons_are (suc (suc n)) less = beyond n less
+reasons_are _ less = refl
 
 least : IsLeastAssignment locking
 least = record {

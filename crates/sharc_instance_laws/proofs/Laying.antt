@@ -90,7 +90,7 @@ abbrev pub behind_names : List ℕ → List (List ℕ) → List ℕ
 behind_names pre [] = pre
 behind_names pre (n ∷ names) = behind_names (pre ++ n) names
 
-further_names : (pre : List ℕ) (names : List (List ℕ)) → (post : List ℕ) × (behind_names pre names ≡ pre ++ post)
+pub further_names : (pre : List ℕ) (names : List (List ℕ)) → (post : List ℕ) × (behind_names pre names ≡ pre ++ post)
 further_names pre [] = ([], sym (append-nil pre))
 further_names pre (n ∷ names) = let w = further_names (pre ++ n) names in (n ++ w.0, w.1 ∙ append_assoc pre n w.0)
 
@@ -106,6 +106,3 @@ are_named m globals bytes pre pc (f ∷ fs) is =
       },
       are_named m globals bytes (pre ++ f.name.text) (pc + length (function_code m globals pc f)) fs is,
     )
-
-pub names_behind : (pre : List ℕ) (names : List (List ℕ)) → (post : List ℕ) × (behind_names pre names ≡ pre ++ post)
-names_behind = further_names

@@ -1,7 +1,7 @@
 -- Where a run is stuck, and where a thread of it has stopped at a cast or `free`: tests of a place, and what they say.
-use Rattle.std.proofs.{Common.{◌≡◌, ℕ, zero, suc, ◌<◌, Bool, true, false, not, ◌&&◌, ◌||◌, List, [], ◌∷◌, None, Some, refl, sym, subst, arith, ⊎_elim}, lemmas.Bool.{cases_eq, and_from as both}}
+use Rattle.std.proofs.{Common.{◌≡◌, ℕ, zero, suc, ◌<◌, Bool, true, false, not, ◌&&◌, ◌||◌, List, [], ◌∷◌, Some, refl, sym, subst, arith, ⊎_elim}, lemmas.Bool.{cases_eq, and_from as both}}
 use Rattle.std.specs.Prelude.{Option, nat_lt}
-use Rattle.sharc_code.specs.{declared.code.Code.Code, declared.shape.Shape.Shape, declared.state.Stop.Stop, declared.state.Stop.TheVariants.{Conflict, NoLock, NotSole, Trap}, Machine.Machine, Opening.opening_words, Path.may_go, Runs.{Turn, Global, is_started}, Waits.waits_now, Whole.{IsStuck, bounds, place_after}}
+use Rattle.sharc_code.specs.{declared.code.Code.Code, declared.shape.Shape.Shape, declared.state.Stop.Stop, declared.state.Stop.TheVariants.NotSole, Machine.Machine, Opening.opening_words, Path.may_go, Runs.{Turn, Global, is_started}, Waits.waits_now, Whole.{IsStuck, bounds, place_after}}
 use Rattle.sharc_lemmas.proofs.{Bools.{and_left as left, and_right as right, either}, Numbers.{lt_true as below}}
 
 -- ---- a test of all numbers below one
@@ -69,8 +69,5 @@ pub record Reported (o : Option Stop) : Type 0 where
   pub stop : o ≡ Some (NotSole site count)
 
 pub reported : (o : Option Stop) → is_not_sole o ≡ true → Reported o
-reported None e = cc
-reported (Some (Conflict c)) e = cc
-reported (Some (NoLock site word)) e = cc
 reported (Some (NotSole site count)) e = record { site = site; count = count; stop = refl }
-reported (Some (Trap trap site)) e = cc
+reported _ e = cc

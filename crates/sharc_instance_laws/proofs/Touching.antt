@@ -6,13 +6,12 @@ use Rattle.sharc_names.specs.declared.fault.Named.TheVariants as named
 use Rattle.sharc_ctype.specs.{Reaches.{IsReached, Names, NamesGlobal}, Resolved.named_at}
 use Rattle.sharc_mode.specs.WellModed.{TellsTouched, WellModed}
 use Rattle.sharc_instance_laws.proofs.{Testing.all_pass, Locking.{locking, resolution}}
-use Rattle.sharc_lemmas.proofs.{Bools.{and_left as left, and_right as right}, Numbers.{lt_true as below}}
+use Rattle.sharc_lemmas.proofs.{Bools.{and_left as left, and_right as right, no_cell as clash}, Numbers.lt_true as below}
 
 -- ---- which tokens name what
 abbrev touched : ℕ → Bool
-touched zero = true
-touched (suc zero) = true
 touched (suc (suc g)) = false
+touched _ = true
 
 abbrev is_few : Named → Bool
 is_few (named.Global g) = nat_lt g 2
@@ -50,9 +49,6 @@ tells : TellsTouched resolution touched
 tells zero = (λ e. record { by = 0; reached = reached; names = (20, (2, below 2 5 refl, refl), refl) }, λ t. refl)
 tells (suc zero) = (λ e. record { by = 0; reached = reached; names = (23, (3, below 3 5 refl, refl), refl) }, λ t. refl)
 tells (suc (suc g)) = (λ e. absurd (clash e), λ t. absurd (not_named t.by g t.names))
-  where
-    clash : false ≡ true → ⊥
-    clash e = cc
 
 pub well_moded : WellModed locking
 well_moded = record { touched = touched; tells = tells; are = refl }
