@@ -1,9 +1,10 @@
 -- Which mutexes are held after one more event.
 use Rattle.std.proofs.Common.{◌≡◌, Bool, true, false, cond, not, ◌||◌, List, [], ◌∷◌, ◌++◌, refl, ap, ◌∙◌}
 use Rattle.std.specs.{Prelude.{Option, Some, None, filter}, List.list_any}
-use Rattle.sharc_tree.specs.{declared.event.Act.Act, declared.event.Act.TheVariants.{Read, Write, New, Take, Give, Freed, Lock, Unlock, Spawn, Started, Join, Print, Return, Gone, Enter, Woken, Signal, Broadcast}, declared.event.CellAt.CellAt, declared.event.SourceEvent.SourceEvent}
+use Rattle.sharc_tree.specs.{declared.event.Act.Act, declared.event.Act.TheVariants.{Lock, Unlock}, declared.event.CellAt.CellAt, declared.event.SourceEvent.SourceEvent}
 use Rattle.sharc_meaning.specs.Events.{same_cell, is_cell, locked_by, unlocked_by, unlocks, unless_unlocked, held_mutexes}
 use Rattle.sharc_ask.specs.StepView.{held_after}
+use Rattle.sharc_lemmas.proofs.Bools.{or_false as or_none}
 
 either_later : (a b c : Bool) (f : Bool) → a ≡ (b || c) → (f || a) ≡ ((f || b) || c)
 either_later a b c true h = refl
@@ -21,10 +22,6 @@ any_last f (y ∷ l) x = either_later (list_any f (l ++ x ∷ [])) (list_any f l
 module _ (x : SourceEvent) (no_lock : locked_by x.act ≡ None) (no_unlock : unlocked_by x.act ≡ None) where
   none_more : (c : CellAt) (later : List SourceEvent) → list_any (unlocks c) (later ++ x ∷ []) ≡ list_any (unlocks c) later
   none_more c later = any_last (unlocks c) later x ∙ ap (λ u. list_any (unlocks c) later || is_cell c u) no_unlock ∙ or_none (list_any (unlocks c) later)
-    where
-      or_none : (b : Bool) → (b || false) ≡ b
-      or_none true = refl
-      or_none false = refl
 
   unless_same : (later : List SourceEvent) (o : Option CellAt) (h k : List CellAt) → h ≡ k → unless_unlocked (later ++ x ∷ []) o h ≡ unless_unlocked later o k
   unless_same later None h k e = e
@@ -69,22 +66,7 @@ module _ (x : SourceEvent) (c : CellAt) (no_lock : locked_by x.act ≡ None) (un
 by_act : (x : SourceEvent) (act : Act) → x.act ≡ act → (events : List SourceEvent) → held_mutexes (events ++ x ∷ []) ≡ held_after act (held_mutexes events)
 by_act x (Lock c) h events = held_more x c (ap locked_by h) (ap unlocked_by h) events
 by_act x (Unlock c) h events = held_less x c (ap locked_by h) (ap unlocked_by h) events
-by_act x (Read c m) h events = held_same x (ap locked_by h) (ap unlocked_by h) events
-by_act x (Write c m v) h events = held_same x (ap locked_by h) (ap unlocked_by h) events
-by_act x (New a b m) h events = held_same x (ap locked_by h) (ap unlocked_by h) events
-by_act x (Take p k) h events = held_same x (ap locked_by h) (ap unlocked_by h) events
-by_act x (Give r m) h events = held_same x (ap locked_by h) (ap unlocked_by h) events
-by_act x (Freed r) h events = held_same x (ap locked_by h) (ap unlocked_by h) events
-by_act x (Spawn f v) h events = held_same x (ap locked_by h) (ap unlocked_by h) events
-by_act x (Started v) h events = held_same x (ap locked_by h) (ap unlocked_by h) events
-by_act x (Join v) h events = held_same x (ap locked_by h) (ap unlocked_by h) events
-by_act x (Print v) h events = held_same x (ap locked_by h) (ap unlocked_by h) events
-by_act x Return h events = held_same x (ap locked_by h) (ap unlocked_by h) events
-by_act x Gone h events = held_same x (ap locked_by h) (ap unlocked_by h) events
-by_act x (Enter c) h events = held_same x (ap locked_by h) (ap unlocked_by h) events
-by_act x (Woken c) h events = held_same x (ap locked_by h) (ap unlocked_by h) events
-by_act x (Signal c) h events = held_same x (ap locked_by h) (ap unlocked_by h) events
-by_act x (Broadcast c) h events = held_same x (ap locked_by h) (ap unlocked_by h) events
+by_act x _ h events = held_same x (ap locked_by h) (ap unlocked_by h) events
 
 pub held_behind : (events : List SourceEvent) (x : SourceEvent) → held_mutexes (events ++ x ∷ []) ≡ held_after x.act (held_mutexes events)
 held_behind events x = by_act x x.act refl events

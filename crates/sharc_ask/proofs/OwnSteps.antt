@@ -8,14 +8,12 @@ use Rattle.sharc_ask.specs.declared.state.RunEnd.TheVariants as ends
 pub does_then : {A B : Type 0} (k k1 k2 : Known) (x : A) (r : Result B RunEnd) (m : Run A) (f : A → Run B) → Does k (Ok x) k1 m → Does k1 r k2 (f x) → Does k r k2 (m >>= f)
 does_then k k1 k2 x r m f h later = λ s is. let w = h s is in subst (λ o. Ends r k2 (then_on o f)) (sym w.is) (later w.state w.looks)
 
-over_same : {A B : Type 0} (e : RunEnd) (k : Known) (a : Out A) (b : Out B) → ((o : Outcome) (t : State) → a ≡ over o t → b ≡ over o t) → Over e k a → Over e k b
+pub over_same : {A B : Type 0} (e : RunEnd) (k : Known) (a : Out A) (b : Out B) → ((o : Outcome) (t : State) → a ≡ over o t → b ≡ over o t) → Over e k a → Over e k b
 over_same e k a b same w = record { outcome = w.outcome; state = w.state; is = same w.outcome w.state w.is; ends_so = w.ends_so; looks = w.looks }
 
 ends_same : {A B : Type 0} (e : RunEnd) (k : Known) (a : Out A) (b : Out B) → ((o : Outcome) (t : State) → a ≡ over o t → b ≡ over o t) → Ends {A = A} (Err e) k a → Ends {A = B} (Err e) k b
 ends_same ends.Memory k a b same h = tt
-ends_same (ends.Wants x) k a b same h = over_same (ends.Wants x) k a b same h
-ends_same (ends.Stopped trap site) k a b same h = over_same (ends.Stopped trap site) k a b same h
-ends_same ends.Spent k a b same h = over_same ends.Spent k a b same h
+ends_same j k a b same h = over_same j k a b same h
 
 -- a step that is over, and with it what it begins
 pub over_then : {A B : Type 0} (k k1 : Known) (e : RunEnd) (m : Run A) (f : A → Run B) → Does {A = A} k (Err e) k1 m → Does {A = B} k (Err e) k1 (m >>= f)

@@ -28,9 +28,7 @@ over_from e k out G same w = record { outcome = w.outcome; state = w.state; is =
 -- what a part is over by, the whole is
 pub reached_from : {A : Type 0} (m : Assignment) (e : RunEnd) (k : Known) (stack : List Left) (out : Out A) (G : Out A → Out Value) → ((o : Outcome) (t : State) → G (over o t) ≡ over o t) → Ends {A = A} (Err e) k out → Reached m (Err e) stack k (G out)
 reached_from m ends.Memory k stack out G same h = tt
-reached_from m (ends.Wants x) k stack out G same h = over_from (ends.Wants x) k out G same h
-reached_from m (ends.Stopped trap site) k stack out G same h = over_from (ends.Stopped trap site) k out G same h
-reached_from m ends.Spent k stack out G same h = over_from ends.Spent k out G same h
+reached_from m j k stack out G same h = over_from j k out G same h
 
 -- ---- plans
 
@@ -41,9 +39,7 @@ plan_moves m n k k1 p stack run h = λ s behind is stands.
 
 pub plan_reached : (on_call : Calls) (m : Assignment) (e : RunEnd) (k : Known) (stack : List Left) (out : Out Value) (f : Behind) → PlanEnds on_call m (Err e) k out → Reached m (Err e) stack k (then_on out f)
 plan_reached on_call m ends.Memory k stack out f h = tt
-plan_reached on_call m (ends.Wants x) k stack out f h = over_bound (ends.Wants x) k out f h
-plan_reached on_call m (ends.Stopped trap site) k stack out f h = over_bound (ends.Stopped trap site) k out f h
-plan_reached on_call m ends.Spent k stack out f h = over_bound ends.Spent k out f h
+plan_reached on_call m j k stack out f h = over_bound j k out f h
 
 pub plan_ends : (on_call : Calls) (m : Assignment) (k k1 : Known) (e : RunEnd) (stack stack1 : List Left) (run : Run Value) → Plans on_call m k (Err e) k1 run → Moves m k stack (Err e) k1 stack1 run
 plan_ends on_call m k k1 e stack stack1 run h = λ s behind is stands. plan_reached on_call m e k1 stack1 (run s) (all_behind behind) (h s is)
@@ -74,10 +70,7 @@ task_moves m n k k1 t rests.Same p stack h = λ s behind is stands.
       looks = a.looks;
       stands = stands;
     }
-task_moves m n k k1 t (rests.Value e w) p stack h = pushed_moves m n k k1 t (rests.Value e w) p stack h
-task_moves m n k k1 t (rests.Place e w) p stack h = pushed_moves m n k k1 t (rests.Place e w) p stack h
-task_moves m n k k1 t (rests.Number w) p stack h = pushed_moves m n k k1 t (rests.Number w) p stack h
-task_moves m n k k1 t (rests.After w) p stack h = pushed_moves m n k k1 t (rests.After w) p stack h
+task_moves m n k k1 t j p stack h = pushed_moves m n k k1 t j p stack h
 
 pub task_ends : (m : Assignment) (n : ℕ) (k k1 : Known) (t : Task) (w : Rest) (e : RunEnd) (stack stack1 : List Left) → Plans (calls m n) m k (Err e) k1 (task_means (calls m n) m t) → Moves m k stack (Err e) k1 stack1 (plan_means (calls m n) m (plans.Goes t w))
 task_ends m n k k1 t w e stack stack1 h = λ s behind is stands.
@@ -107,9 +100,7 @@ popped_moves m at l v k k1 stack0 stack stack1 r done top h =
 
 step_over : (m : Assignment) (e : RunEnd) (k : Known) (stack : List Left) (out : Out Value) → Reached m (Err e) stack k out → StepEnds m (Err e) stack k out
 step_over m ends.Memory k stack out h = tt
-step_over m (ends.Wants x) k stack out h = h
-step_over m (ends.Stopped trap site) k stack out h = h
-step_over m ends.Spent k stack out h = h
+step_over m _ k stack out h = h
 
 pub step_ends : (m : Assignment) (k k1 : Known) (e : RunEnd) (stack stack1 : List Left) (run : Run Value) → Moves m k stack (Err e) k1 stack1 run → Steps m k stack (Err e) k1 stack1 run
 step_ends m k k1 e stack stack1 run h = λ s behind is stands. step_over m e k1 stack1 (then_on (run s) (all_behind behind)) (h s behind is stands)
@@ -121,9 +112,7 @@ step_on m at next k k1 k2 stack stack1 r h later = λ s behind is stands.
 
 come_over : (m : Assignment) (e : RunEnd) (k : Known) (stack : List Left) (out : Out Value) → StepEnds m (Err e) stack k out → EndsAs view_value (Err e) k out
 come_over m ends.Memory k stack out h = tt
-come_over m (ends.Wants x) k stack out h = h
-come_over m (ends.Stopped trap site) k stack out h = h
-come_over m ends.Spent k stack out h = h
+come_over m _ k stack out h = h
 
 pub comes_whole : (m : Assignment) (at : At) (k k1 : Known) (stack stack1 : List Left) (v : RustValue) → Steps m k stack (Ok (stepped.Whole v)) k1 stack1 (at_means m at) → Comes m at stack k (Ok v) k1
 comes_whole m at k k1 stack stack1 v h = λ s behind is stands. h s behind is stands
@@ -140,9 +129,7 @@ whole_does m at k k1 k2 stack r run h later = λ s is.
 
 reached_as : (m : Assignment) (e : RunEnd) (k : Known) (stack : List Left) (out : Out Value) → Reached m (Err e) stack k (then_on out (λ v. give v)) → EndsAs view_value (Err e) k out
 reached_as m ends.Memory k stack out h = tt
-reached_as m (ends.Wants x) k stack out h = subst (EndsAs view_value (Err (ends.Wants x)) k) (sym (out_given out)) h
-reached_as m (ends.Stopped trap site) k stack out h = subst (EndsAs view_value (Err (ends.Stopped trap site)) k) (sym (out_given out)) h
-reached_as m ends.Spent k stack out h = subst (EndsAs view_value (Err ends.Spent) k) (sym (out_given out)) h
+reached_as m j k stack out h = subst (EndsAs view_value (Err j) k) (sym (out_given out)) h
 
 pub whole_over : (m : Assignment) (k k1 : Known) (stack : List Left) (e : RunEnd) (run : Run Value) → Moves m k [] (Err e) k1 stack run → DoesAs view_value k (Err e) k1 run
 whole_over m k k1 stack e run h = λ s is. reached_as m e k1 stack (run s) (h s [] is tt)

@@ -1,17 +1,14 @@
 -- How the code's steps are put together.
-use Rattle.std.proofs.Common.{◌≡◌, [], ◌∷◌, Result, Ok, Err, refl, sym, ap, ◌∙◌, subst}
+use Rattle.std.proofs.Common.{◌≡◌, [], ◌∷◌, Err, refl, ap, ◌∙◌}
 use Rattle.std.specs.Prelude.{ℤ}
-use Rattle.sharc_tree.specs.{declared.token.Site.Site, declared.tree.expression.BinaryOperator.BinaryOperator, declared.tree.expression.BinaryOperator.TheVariants.{LogicalOr, LogicalAnd, BitOr, BitXor, BitAnd, Equal, NotEqual, Less, Greater, LessOrEqual, GreaterOrEqual, ShiftLeft, ShiftRight, Add, Subtract, Multiply, Divide, Remainder}, Tree.{Expression, Statement, empty}}
+use Rattle.sharc_tree.specs.{declared.token.Site.Site, declared.tree.expression.BinaryOperator.BinaryOperator, declared.tree.expression.BinaryOperator.TheVariants.Add, Tree.{Expression, Statement, empty}}
 use Rattle.sharc_names.specs.Kinds.{Kind}
 use Rattle.sharc_ctype.specs.{Expressions.{class_of, binary_result}, Resolved.{Resolution, kind_at}}
 use Rattle.sharc_mode.specs.Moded.{Assignment}
-use Rattle.sharc_ask.specs.{declared.state.RunEnd.RunEnd, StepView.{Known, Over, Ends, EndsAs, Does, DoesAs}, View.{logic_of, binary_by}}
+use Rattle.sharc_ask.specs.{declared.state.RunEnd.RunEnd, StepView.{Known, Ends, EndsAs, Does, DoesAs}, View.{logic_of, binary_by}}
 use Rattle.sharc_ask.specs.declared.state.RunEnd.TheVariants as ends
 use Rattle.sharc_meaning.specs.{Arithmetic.bits_of, Expressions.{Calls, binary_value}, State.{State, Outcome, Out, over, Run, then_on, ◌>>=◌, enters}, Statements.exec}
-
--- one step, and the next with its value
-pub does_then : {A B : Type 0} (k k1 k2 : Known) (x : A) (r : Result B RunEnd) (m : Run A) (f : A → Run B) → Does k (Ok x) k1 m → Does k1 r k2 (f x) → Does k r k2 (m >>= f)
-does_then k k1 k2 x r m f h later = λ s is. let w = h s is in subst (λ o. Ends r k2 (then_on o f)) (sym w.is) (later w.state w.looks)
+use Rattle.sharc_ask.proofs.OwnSteps.{over_same}
 
 -- ---- what stops where it is entered
 
@@ -19,20 +16,13 @@ pub exec_over : (on_call : Calls) (m : Assignment) (kind : Kind) (a : Statement)
 exec_over on_call m kind (empty x) s t o h = rw h refl
 exec_over on_call m kind _ s t o h = rw h refl
 
-over_same : {A B : Type 0} (e : RunEnd) (k : Known) (a : Out A) (b : Out B) → ((o : Outcome) (t : State) → a ≡ over o t → b ≡ over o t) → Over e k a → Over e k b
-over_same e k a b same w = record { outcome = w.outcome; state = w.state; is = same w.outcome w.state w.is; ends_so = w.ends_so; looks = w.looks }
-
 pub ends_same : {A B : Type 0} (e : RunEnd) (k : Known) (a : Out A) (b : Out B) → ((o : Outcome) (t : State) → a ≡ over o t → b ≡ over o t) → Ends {A = A} (Err e) k a → Ends {A = B} (Err e) k b
 ends_same ends.Memory k a b same h = tt
-ends_same (ends.Wants x) k a b same h = over_same (ends.Wants x) k a b same h
-ends_same (ends.Stopped trap site) k a b same h = over_same (ends.Stopped trap site) k a b same h
-ends_same ends.Spent k a b same h = over_same ends.Spent k a b same h
+ends_same j k a b same h = over_same j k a b same h
 
 pub ends_as_same : {A B C : Type 0} (v : B → C) (e : RunEnd) (k : Known) (a : Out A) (b : Out C) → ((o : Outcome) (t : State) → a ≡ over o t → b ≡ over o t) → Ends {A = A} (Err e) k a → EndsAs v (Err e) k b
 ends_as_same v ends.Memory k a b same h = tt
-ends_as_same v (ends.Wants x) k a b same h = over_same (ends.Wants x) k a b same h
-ends_as_same v (ends.Stopped trap site) k a b same h = over_same (ends.Stopped trap site) k a b same h
-ends_as_same v ends.Spent k a b same h = over_same ends.Spent k a b same h
+ends_as_same v j k a b same h = over_same j k a b same h
 
 -- a step that is over, and with it what it begins
 
@@ -44,31 +34,13 @@ over_then_as u k k1 e m f h = λ s is. ends_as_same u e k1 (m s) (then_on (m s) 
 
 pub plainly_over : {B C : Type 0} (u : C → B) (k k1 : Known) (e : RunEnd) (m : Run B) → DoesAs u k (Err e) k1 m → Does {A = B} k (Err e) k1 m
 plainly_over u k k1 ends.Memory m h = λ s is. tt
-plainly_over u k k1 (ends.Wants x) m h = λ s is. h s is
-plainly_over u k k1 (ends.Stopped trap site) m h = λ s is. h s is
-plainly_over u k k1 ends.Spent m h = λ s is. h s is
+plainly_over u k k1 _ m h = λ s is. h s is
 
 -- ---- variables that end with a run
 
 -- an operator by whether it looks at both operands
 pub binary_is : (r : Resolution) (at : Site) (o : BinaryOperator) (a b : Expression) (x y : Run ℤ) → binary_by (logic_of o) r (bits_of (binary_result (class_of o) (kind_at r a) (kind_at r b))) at o a b x y ≡ binary_value r at o a b x y
-binary_is r at LogicalOr a b x y = refl
-binary_is r at LogicalAnd a b x y = refl
-binary_is r at BitOr a b x y = refl
-binary_is r at BitXor a b x y = refl
-binary_is r at BitAnd a b x y = refl
-binary_is r at Equal a b x y = refl
-binary_is r at NotEqual a b x y = refl
-binary_is r at Less a b x y = refl
-binary_is r at Greater a b x y = refl
-binary_is r at LessOrEqual a b x y = refl
-binary_is r at GreaterOrEqual a b x y = refl
-binary_is r at ShiftLeft a b x y = refl
-binary_is r at ShiftRight a b x y = refl
 binary_is r at Add a b x y = refl
-binary_is r at Subtract a b x y = refl
-binary_is r at Multiply a b x y = refl
-binary_is r at Divide a b x y = refl
-binary_is r at Remainder a b x y = refl
+binary_is r at _ a b x y = refl
 
 -- ---- arguments

@@ -251,22 +251,7 @@ pub fn logic_of(operator: BinaryOperator) -> Option<bool>
     match operator {
         BinaryOperator::LogicalAnd => Some(true),
         BinaryOperator::LogicalOr => Some(false),
-        BinaryOperator::BitOr => None,
-        BinaryOperator::BitXor => None,
-        BinaryOperator::BitAnd => None,
-        BinaryOperator::Equal => None,
-        BinaryOperator::NotEqual => None,
-        BinaryOperator::Less => None,
-        BinaryOperator::Greater => None,
-        BinaryOperator::LessOrEqual => None,
-        BinaryOperator::GreaterOrEqual => None,
-        BinaryOperator::ShiftLeft => None,
-        BinaryOperator::ShiftRight => None,
-        BinaryOperator::Add => None,
-        BinaryOperator::Subtract => None,
-        BinaryOperator::Multiply => None,
-        BinaryOperator::Divide => None,
-        BinaryOperator::Remainder => None,
+        _ => None,
     }
 }
 

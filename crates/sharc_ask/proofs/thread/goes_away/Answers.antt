@@ -3,7 +3,7 @@ use Rattle.std.specs.Prelude.{◌==◌}
 use Rattle.sharc_tree.specs.declared.trap.Trap.TheVariants as traps
 use Rattle.sharc_meaning.specs.{State.unless_stop, Meaning.goes_away}
 use Rattle.sharc_ask.specs.{StepView.{view_state, Does}, View.leaves}
-use Rattle.sharc_ask.proofs.{Steps.{does_then, over_then}, Telling.goes_when_free}
+use Rattle.sharc_ask.proofs.{Steps.over_then, Telling.goes_when_free, OwnSteps.does_then}
 use Rattle.sharc_ask.proofs.thread.goes_away.Goals as goal
 
 pub returns : goal.returns
