@@ -1,6 +1,6 @@
 -- The code of an expression is that of its operands, and then its own.
 use Rattle.std.proofs.Common.{◌≡◌, ℕ, ◌+◌, Bool, true, false, List, [], ◌∷◌, ◌++◌, length, Option, None, if◌then◌else◌, refl, ap, sym, ◌∙◌, append_assoc}
-use Rattle.sharc_tree.specs.{declared.token.Site.Site, declared.tree.expression.BinaryOperator.BinaryOperator, declared.tree.expression.BinaryOperator.TheVariants.{LogicalOr, LogicalAnd, BitOr, BitXor, BitAnd, Equal, NotEqual, Less, Greater, LessOrEqual, GreaterOrEqual, ShiftLeft, ShiftRight, Add, Subtract, Multiply, Divide, Remainder}, declared.token.Span.Span, declared.tree.declaration.Declaration.Declaration, declared.tree.declaration.Identifier.Identifier, Tree.{Expression, Arguments, call, index, binary}}
+use Rattle.sharc_tree.specs.{declared.token.Site.Site, declared.tree.expression.BinaryOperator.BinaryOperator, declared.tree.expression.BinaryOperator.TheVariants.{LogicalOr, LogicalAnd}, declared.token.Span.Span, declared.tree.declaration.Declaration.Declaration, declared.tree.declaration.Identifier.Identifier, Tree.{Expression, Arguments, call, index, binary}}
 use Rattle.sharc_names.specs.{declared.fault.Named.Named, Kinds.{declared_kinds, is_array, element_kind}}
 use Rattle.sharc_ctype.specs.{Resolved.{named_at, kind_at, global_at}, Transfers.parameters_named}
 use Rattle.sharc_flat.specs.{declared.op.Spot.Spot, declared.op.Op.Op, Machine.first_cell, Scope.{Context, at_site}, Places.{bounds_code, global_of, index_code, own_field, target}, Flattened.{is_ref, truth_code, binary_code, expression_code, arguments_code, called_code, place_code, guard_of, lvalue_code}}
@@ -17,22 +17,7 @@ binary_split c i r at LogicalAnd a b of_a of_b =
     let t = truth_code (is_ref c a) i r in
     let u = of_b i r ++ truth_code (is_ref c b) i r in
     append_assoc of_a t (op.SkipIfZero i (length u) ∷ (u ++ (op.IsFalse i i ∷ op.IsFalse i i ∷ [])))
-binary_split c i r at BitOr a b of_a of_b = refl
-binary_split c i r at BitXor a b of_a of_b = refl
-binary_split c i r at BitAnd a b of_a of_b = refl
-binary_split c i r at Equal a b of_a of_b = refl
-binary_split c i r at NotEqual a b of_a of_b = refl
-binary_split c i r at Less a b of_a of_b = refl
-binary_split c i r at Greater a b of_a of_b = refl
-binary_split c i r at LessOrEqual a b of_a of_b = refl
-binary_split c i r at GreaterOrEqual a b of_a of_b = refl
-binary_split c i r at ShiftLeft a b of_a of_b = refl
-binary_split c i r at ShiftRight a b of_a of_b = refl
-binary_split c i r at Add a b of_a of_b = refl
-binary_split c i r at Subtract a b of_a of_b = refl
-binary_split c i r at Multiply a b of_a of_b = refl
-binary_split c i r at Divide a b of_a of_b = refl
-binary_split c i r at Remainder a b of_a of_b = refl
+binary_split c i r at _ a b of_a of_b = refl
 
 -- what is indexed, the index, and the element
 abbrev of_global : Context → ℕ → Site → Option ℕ → Option ℕ → Expression → List Op

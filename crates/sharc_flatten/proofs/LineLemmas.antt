@@ -54,11 +54,8 @@ laid_more r bytes (q ∷ told) (s ∷ made) o p all one = (all.0, laid_more r by
 pub named_more : (bytes : List ℕ) (told : List Row) (names : List (List ℕ)) (made : List Row) (x : Row) (name : List ℕ) (y : Row) → AreNamed bytes told names made → IsNamed bytes x y name
     → AreNamed bytes (told ++ x ∷ []) (names ++ name ∷ []) (made ++ y ∷ [])
 named_more bytes [] [] [] x name y all one = (one, tt)
-named_more bytes [] [] (z ∷ made) x name y all one = absurd all
-named_more bytes [] (n ∷ names) made x name y all one = absurd all
-named_more bytes (w ∷ told) [] made x name y all one = absurd all
-named_more bytes (w ∷ told) (n ∷ names) [] x name y all one = absurd all
 named_more bytes (w ∷ told) (n ∷ names) (z ∷ made) x name y all one = (all.0, named_more bytes told names made x name y all.1 one)
+named_more bytes _ _ _ x name y all one = absurd all
 
 -- ---- one more of a list that is changed in place, from its first element on
 pub lay_more : (r : Resolution) (old new : List ℕ) (told lines : List Op) (n : ℕ) (o p : Op) → n < length lines → length lines ≡ length told → drop n lines ≡ drop n told → o ≡ get_or lines n o → Grows old new

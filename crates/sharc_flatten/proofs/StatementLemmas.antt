@@ -1,6 +1,6 @@
 -- Statements one after the other, and the variables that they begin.
 use Rattle.std.proofs.{Common.{◌≡◌, ◌+◌, ◌<◌, List, [], ◌∷◌, ◌++◌, length, take, refl, ap, sym, ◌∙◌, append_assoc}, lemmas.List.append-nil}
-use Rattle.sharc_tree.specs.Tree.{Statement, empty, block, declare, simple, jump, return, if_then, if_then_else, while, for, Statements, no_statements, statement}
+use Rattle.sharc_tree.specs.Tree.{Statement, declare, Statements, no_statements, statement}
 use Rattle.sharc_flat.specs.{declared.slot.Slot.Slot, Scope.{Context, slot_of}, Flattened.{behind_statement, behind_statements}}
 use Rattle.sharc_flatten.specs.{declared.source.PlacedProgram.PlacedProgram, View.context}
 use Rattle.sharc_flatten.proofs.WalkLemmas.{kept_first}
@@ -16,16 +16,8 @@ none c = ap (in_scope c) (sym (append-nil c.scope))
 
 -- what a statement begins
 pub grown : (c : Context) (x : Statement) → (zs : List Slot) × (behind_statement c x ≡ record c { scope = c.scope ++ zs })
-grown c (empty s) = ([], none c)
-grown c (block s all) = ([], none c)
 grown c (declare s l) = (slot_of l.declaration ∷ [], refl)
-grown c (simple s x) = ([], none c)
-grown c (jump s j) = ([], none c)
-grown c (return s e) = ([], none c)
-grown c (if_then s e x) = ([], none c)
-grown c (if_then_else s e x y) = ([], none c)
-grown c (while s e x) = ([], none c)
-grown c (for s h x) = ([], none c)
+grown c _ = ([], none c)
 
 pub grown_all : (c : Context) (all : Statements) → (zs : List Slot) × (behind_statements c all ≡ record c { scope = c.scope ++ zs })
 grown_all c no_statements = ([], none c)
