@@ -5,6 +5,7 @@ pub mod Keeps
 pub mod Merged
 pub mod Moving
 pub mod Opened
+pub mod Outcomes
 pub mod Paths
 pub mod Places
 pub mod Ranging

@@ -5,7 +5,7 @@ use Rattle.sharc_word.specs.{declared.step.TheConstants.THREADS, declared.step.W
 use Rattle.sharc_word.specs.declared.step.WordOp.TheVariants as ops
 use Rattle.sharc_heap.specs.{declared.shadow_word.Kind.Kind, declared.shadow_word.Kind.TheVariants.{Read, Write}, State.{NewView, told}, Asks.word_number, declared.arguments.NewArguments.NewArguments, declared.stage.NewStage.NewStage, Stages.turn_of_stage}
 use Rattle.sharc_heap.specs.declared.stage.NewStage.TheVariants as news
-use Rattle.sharc_code.specs.{declared.code.Code.Code, declared.code.Layout.Layout, declared.instr.Register.Register, declared.instr.Instr.Instr, declared.instr.Instr.TheVariants.{Constant, Move, MoveReference, Null, ComputeInt, ComputeLong, NegateInt, NegateLong, Complement, Not, SameReference, ChkWidth, Jump, JumpIfZero, JumpIfNull, Call, Return, ChkNull, ChkHeld, ChkNotHeld, ChkPositive, ChkRoom, ChkLock, ChkLockLoaded, Bounds, GlobalBounds, ChkRead, ChkWrite, Load, Store, LoadRef, Exchange, Raise, RaiseLoaded, Lower, New, TakeCell, TakeLocal, TestSole, Clear, Give, Free, Lock, Unlock, Spawn, Join, Print, Start, Exit, CondEnter, CondWait, CondSignal, CondBroadcast}, declared.shape.Shape.Shape, declared.state.Stage.Stage, declared.state.Stage.TheVariants.{Looks, Clears, Makes, Empties, Lowers, FreeLooks, FreeClears, Uncounts, Links, Names, Hands, Begins, Enters, Withdraws, WithdrawsFrom, Leaves, Wakes}, Layout.{granule_at, granule_of, words_of, cell_word, shadow_word, count_word, first_cell, first_shadow, state_word}, Machine.{Machine, Turn, Local, Asks, step_of, act, int, ref, place, word, check, raise, lower, test, new, asks_new, new_state, elements_of, clear, free, layout_at, spawn, join, start, exit, signal, goes, set_ref, accessed, move_ref, joined, trapped, instr_at}, Path.turn, Stages.{IsStageOf, begins_of}}
+use Rattle.sharc_code.specs.{declared.code.Code.Code, declared.code.Layout.Layout, declared.instr.Register.Register, declared.instr.Instr.Instr, declared.instr.Instr.TheVariants.{Move, Bounds, ChkRead, ChkWrite, Load, Store, LoadRef, Exchange, Raise, RaiseLoaded, Lower, New, TakeCell, TakeLocal, TestSole, Clear, Give, Free, Lock, Unlock, Spawn, Join, Print, Start, Exit, CondEnter, CondWait, CondSignal, CondBroadcast}, declared.shape.Shape.Shape, declared.state.Stage.Stage, declared.state.Stage.TheVariants.{Looks, Clears, Makes, Empties, Lowers, FreeLooks, FreeClears, Uncounts, Links, Names, Hands, Begins, Enters, Withdraws, WithdrawsFrom, Leaves, Wakes}, Layout.{granule_at, granule_of, words_of, cell_word, shadow_word, count_word, first_cell, first_shadow, state_word}, Machine.{Machine, Turn, Local, Asks, step_of, act, int, ref, place, word, check, raise, lower, test, new, asks_new, new_state, elements_of, clear, free, layout_at, spawn, join, start, exit, signal, goes, set_ref, accessed, move_ref, joined, trapped, instr_at}, Path.turn, Stages.{IsStageOf, begins_of}}
 
 -- ---- words that are no state word of a thread
 abbrev IsOther : ℕ → Type 0
@@ -131,32 +131,7 @@ module _ (code : Code) (s : Shape) (m : Machine) (t : ℕ) (low : t < THREADS) w
   at_signal cond _ h = λ e. Leaves_it (λ v. refl)
 
   at_instr : (i : Instr) → IsStageOf s m.own.stage → Touches m t (act code s i m)
-  at_instr (Constant r v) is = tt
-  at_instr (Move r from) is = tt
-  at_instr (MoveReference r from) is = tt
-  at_instr (Null r) is = tt
-  at_instr (ComputeInt operator r a b site) is = tt
-  at_instr (ComputeLong operator r a b site) is = tt
-  at_instr (NegateInt r a site) is = tt
-  at_instr (NegateLong r a site) is = tt
-  at_instr (Complement r a) is = tt
-  at_instr (Not r a) is = tt
-  at_instr (SameReference r a b) is = tt
-  at_instr (ChkWidth width r site) is = tt
-  at_instr (Jump pc) is = tt
-  at_instr (JumpIfZero r pc) is = tt
-  at_instr (JumpIfNull r pc) is = tt
-  at_instr (Call pc ints refs site) is = tt
-  at_instr (Return site) is = tt
-  at_instr (ChkNull r site) is = tt
-  at_instr (ChkHeld cell site) is = tt
-  at_instr (ChkNotHeld cell site) is = tt
-  at_instr (ChkPositive r site) is = tt
-  at_instr (ChkRoom site) is = tt
-  at_instr (ChkLock cell site) is = tt
-  at_instr (ChkLockLoaded site) is = tt
   at_instr (Bounds r base cells field site) is = λ e. Leaves_it (λ v. refl)
-  at_instr (GlobalBounds r elements cells field site) is = tt
   at_instr (ChkRead cell site) is = at_check Read (granule_of (place m cell)) site
   at_instr (ChkWrite cell site) is = at_check Write (granule_of (place m cell)) site
   at_instr (Load r cell site) is = λ e. Leaves_it (λ v. refl)
@@ -184,6 +159,7 @@ module _ (code : Code) (s : Shape) (m : Machine) (t : ℕ) (low : t < THREADS) w
   at_instr (CondWait cell site) is = λ e. Leaves_it (λ v. refl)
   at_instr (CondSignal cell site) is = at_signal (word s m cell) m.own.stage (of_cell s (place m cell))
   at_instr (CondBroadcast cell site) is = λ e. absurd (of_cell s (place m cell) t low e)
+  at_instr _ is = tt
 
   pub touches : IsStageOf s m.own.stage → Touches m t (turn code s m)
   touches = at_instr (instr_at code m.at.pc)

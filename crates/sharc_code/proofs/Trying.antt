@@ -5,50 +5,20 @@ use Rattle.sharc_tree.specs.declared.trap.Trap.TheVariants as traps
 use Rattle.sharc_word.specs.declared.step.WordOp.TheVariants as ops
 use Rattle.sharc_word.specs.declared.step.TheConstants.{THREADS}
 use Rattle.sharc_locks.specs.Waiters.{waits_in}
-use Rattle.sharc_code.specs.{declared.code.Code.Code, declared.instr.Instr.Instr, declared.shape.Shape.Shape, declared.state.TurnState.TheVariants.Tries, Layout.state_word, Machine.{Machine, Local, Asks, step_of, act, int, word, fails, goes, trapped, joined, join, instr_at}, Path.{after, may_go}, Waits.{asks_for, joins, held_up, waits_now}, ThreadLaws.{found_now, behind}}
+use Rattle.sharc_code.specs.{declared.code.Code.Code, declared.instr.Instr.Instr, declared.shape.Shape.Shape, declared.state.TurnState.TheVariants.Tries, Layout.state_word, Machine.{Machine, Local, Asks, step_of, act, int, word, fails, goes, trapped, joined, join, instr_at}, Outcomes.{TurnOutcome, Fails, state_after, IsStill}, Path.{after, may_go}, Waits.{asks_for, joins, held_up, waits_now}, ThreadLaws.{found_now, behind}}
 use Rattle.sharc_code.specs.declared.state.Wait.TheVariants as waits
-use Rattle.sharc_code.proofs.Moving.{Moves, is_try, Sorted, Other, Locks, Joins, Conds, sorted}
+use Rattle.sharc_code.proofs.{Moving.{is_try, Sorted, Other, Locks, Joins, Conds, sorted}, Outcomes.comes_out}
 
 untried : (m x : Machine) → is_try x.at.state ≡ false → x.at.state ≡ Tries → ⊥
 untried m x off is = let e : is_try Tries ≡ false = ap is_try (sym is) ∙ off in cc
 
 -- ---- a failed try changes nothing
-pub record Trying (m x : Machine) : Type 0 where
-  pub number : x.own.number ≡ m.own.number
-  pub same : x.at.state ≡ Tries → x ≡ fails m
+failed : (m x : Machine) (o : TurnOutcome) → IsStill o m x → state_after o ≡ Tries → x ≡ fails m
+failed m x Fails still is = still
+failed m x _ still is = absurd (cc)
 
-moved : (m x : Machine) → Moves m x → Trying m x
-moved m x h = record { number = h.number; same = λ is. absurd (untried m x h.untried is) }
-
-failed : (m : Machine) → Trying m (fails m)
-failed m = record { number = refl; same = λ is. refl }
-
-either : (m : Machine) (b : Bool) (x y : Machine) → Trying m x → Trying m y → Trying m (if b then x else y)
-either m true x y h k = h
-either m false x y h k = k
-
-at_joined : (m : Machine) (site found : ℕ) → Trying m (joined m site found)
-at_joined m site found = either m (found == 0) _ _ (moved m _ (record { number = refl; untried = refl }))
-    (either m (found == 1 || found == 2) _ _ (failed m) (moved m _ (record { number = refl; untried = refl })))
-
-at_join : (m : Machine) (z : ℤ) (site found : ℕ) → Trying m (after (join m z site) found)
-at_join m (pos n) site found =
-    elim (nat_lt n THREADS) as (λ b. Trying m (after (if b then Asks (step_of (state_word n) ops.Load) (joined m site) else Local (trapped m traps.NoSuchThread site)) found)) [
-      | true ↦ at_joined m site found
-      | false ↦ moved m _ (record { number = refl; untried = refl })
-    ]
-at_join m (negsuc n) site found = moved m _ (record { number = refl; untried = refl })
-
-pub trying : (code : Code) (s : Shape) (m : Machine) (i : Instr) (found : ℕ) → Trying m (after (act code s i m) found)
-trying code s m i found = by i (sorted code s m i)
-  where
-    by : (i : Instr) → Sorted code s m i → Trying m (after (act code s i m) found)
-    by i (Other none moves) = moved m _ (moves found)
-    by i (Locks cell site is) = subst (λ i. Trying m (after (act code s i m) found)) (sym is)
-        (either m (found == 0) _ _ (moved m _ (record { number = refl; untried = refl })) (failed m))
-    by i (Joins r site is) = subst (λ i. Trying m (after (act code s i m) found)) (sym is) (at_join m (int m r) site found)
-    by i (Conds cell site is) = subst (λ i. Trying m (after (act code s i m) found)) (sym is)
-        (either m (waits_in found m.own.number) _ _ (failed m) (moved m _ (record { number = refl; untried = refl })))
+pub trying : (code : Code) (s : Shape) (m : Machine) (i : Instr) (found : ℕ) → (after (act code s i m) found).at.state ≡ Tries → after (act code s i m) found ≡ fails m
+trying code s m i found is = let out = comes_out code s m i found in failed m _ out.outcome out.still (sym out.state ∙ is)
 
 -- ---- waiting
 no_wait : (m x : Machine) (b : Bool) → b ≡ false → is_try x.at.state ≡ false → (b ≡ true) ↔ (x.at.state ≡ Tries)
@@ -84,7 +54,7 @@ module _ (code : Code) (s : Shape) (words : List ℕ) (m : Machine) where
   at_join_waits (negsuc n) site = no_wait m (trapped m traps.NoSuchThread site) false refl refl
 
   asks_waits : (i : Instr) → Sorted code s m i → (held_up words m.own.number (asks_for s i m) ≡ true) ↔ ((after (act code s i m) (found_now words (act code s i m))).at.state ≡ Tries)
-  asks_waits i (Other none moves) = no_wait m (after (act code s i m) (found_now words (act code s i m))) (held_up words m.own.number (asks_for s i m)) (ap (held_up words m.own.number) none) (moves (found_now words (act code s i m))).untried
+  asks_waits i (Other none moves) = no_wait m (after (act code s i m) (found_now words (act code s i m))) (held_up words m.own.number (asks_for s i m)) (ap (held_up words m.own.number) none) (moves (found_now words (act code s i m)))
   asks_waits i (Locks cell site is) =
       subst (λ i. (held_up words m.own.number (asks_for s i m) ≡ true) ↔ ((after (act code s i m) (found_now words (act code s i m))).at.state ≡ Tries)) (sym is)
       (unless m (slice_index words (word s m cell) == 0) _ refl)

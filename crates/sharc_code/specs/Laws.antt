@@ -9,6 +9,7 @@ use Rattle.sharc_code.specs.Runs.{IsPath, Owns, Parts, Round, OneThread, Bounds,
 use Rattle.sharc_code.specs.Runs.{MayTurn, opening_of, at, after_turn, state_now, state_after, made_in, turns_of}
 use Rattle.sharc_code.specs.Runs.{word_events, was_started, erase, said_by, path_says, pairs_of, scheduled, threads_of}
 use Rattle.sharc_code.specs.{Opening.opening_words, Whole.{turns_by, one_thread, bounds, CheckedRun}}
+use Rattle.sharc_code.specs.ThreadLaws.{ThreadLaws}
 
 -- a checked run is a run by turns of the whole machine, and the other way round
 abbrev pub CheckedRunsAreRuns : Type 0
@@ -111,7 +112,7 @@ RoundsAreRuns = (b : Bounds) (code : Code) (s : Shape) (from : Global Machine) (
     → Parts n paths history → Round b (one_thread code s) from paths history
     → IsMerged b (one_thread code s) from paths history
 
--- the laws of checked runs together
+-- the laws of checked runs together, with those of each turn
 pub record RunLaws : Type 0 where
   pub checked : CheckedRunsAreRuns
   pub from_places : RunsFromPlaces
@@ -126,3 +127,4 @@ pub record RunLaws : Type 0 where
   pub is_scheduled : RunsAreScheduled
   pub paths : PathsAreTurns
   pub rounds : RoundsAreRuns
+  pub turns : ThreadLaws

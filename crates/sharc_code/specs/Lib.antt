@@ -4,6 +4,7 @@ pub mod Layout
 pub mod Listing
 pub mod Machine
 pub mod Opening
+pub mod Outcomes
 pub mod Paced
 pub mod Path
 pub mod Ranges

@@ -13,11 +13,12 @@ use sharc_word::history_laws;
 /// What holds of every checked run: it is a run by turns of the whole machine, and the other way round; runs join;
 /// where a run has got to is determined by its parts; a turn changes no other thread, counts as an event where it is no
 /// failed try, and comes from no thread that is stopped or gone; the source events are by thread those of the paths;
-/// and a run is that of its schedule.
+/// and a run is that of its schedule. And what holds of each turn.
 pub fn run_laws()
     ensures { RunLaws }
 {
     history_laws();
+    thread_laws();
 }
 
 /// A shape that fits a code has words with numbers of 32 bits.
@@ -27,9 +28,10 @@ pub fn fits_law(code: &Code, shape: &Shape)
     ensures { IsShape shape.now }
 {}
 
-/// What holds of each turn of a thread: its number stays, and so do the rows of its table, its prints and that its
-/// stage is one of the shape; it waits exactly where its next turn would be a failed try; a failed try changes nothing
-/// else and leaves the words as they are; and a turn does not look at whether the one before was a failed try.
+/// What holds of each turn of a thread: it has one of eleven outcomes, each of certain instructions; its number stays,
+/// and so do the rows of its table, its prints and that its stage is one of the shape; it waits exactly where its next
+/// turn would be a failed try; a failed try changes nothing else and leaves the words as they are; and a turn does not
+/// look at whether the one before was a failed try.
 #[inline(always)]
 pub fn thread_laws()
     ensures { ThreadLaws }

@@ -37,4 +37,5 @@ returns c = let laws = c.history_laws.ensures in record {
         words = round_words laws b m from paths history x;
         threads = round_threads laws b m from paths history x;
       };
+  turns = c.thread_laws.ensures;
 }

@@ -1,13 +1,14 @@
 use Rattle.sharc_code.specs.Machine.{instr_at}
-use Rattle.sharc_code.proofs.{Failing.failed_stays, Keeps.keeps_turn, Settled.same_turn, Trying.{trying, waits_where}}
+use Rattle.sharc_code.proofs.{Failing.failed_stays, Keeps.keeps_turn, Outcomes.comes_out, Settled.same_turn, Trying.{trying, waits_where}}
 use Rattle.sharc_code.proofs.laws.thread_laws.Goals as goal
 
 pub returns : goal.returns
 returns c = record {
-  number = λ code s m found. (trying code s m (instr_at code m.at.pc) found).number;
-  tries = λ code s m found is. (trying code s m (instr_at code m.at.pc) found).same is;
+  number = λ code s m found. (keeps_turn code s m found).number;
+  tries = λ code s m found is. trying code s m (instr_at code m.at.pc) found is;
   waits = λ code s words m on. waits_where code s words m on;
   words = λ code s words m event asks answered is. failed_stays code s words m event asks answered is;
   forgets = λ code s m. same_turn code s m;
   keeps = λ code s m found. keeps_turn code s m found;
+  outcomes = λ code s i m found. comes_out code s m i found;
 }
