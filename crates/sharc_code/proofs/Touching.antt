@@ -5,7 +5,7 @@ use Rattle.sharc_word.specs.{declared.step.TheConstants.THREADS, declared.step.W
 use Rattle.sharc_word.specs.declared.step.WordOp.TheVariants as ops
 use Rattle.sharc_heap.specs.{declared.shadow_word.Kind.Kind, declared.shadow_word.Kind.TheVariants.{Read, Write}, State.{NewView, told}, Asks.word_number, declared.arguments.NewArguments.NewArguments, declared.stage.NewStage.NewStage, Stages.turn_of_stage}
 use Rattle.sharc_heap.specs.declared.stage.NewStage.TheVariants as news
-use Rattle.sharc_code.specs.{declared.code.Code.Code, declared.code.Layout.Layout, declared.instr.Register.Register, declared.instr.Instr.Instr, declared.instr.Instr.TheVariants.{Move, Bounds, ChkRead, ChkWrite, Load, Store, LoadRef, Exchange, Raise, RaiseLoaded, Lower, New, TakeCell, TakeLocal, TestSole, Clear, Give, Free, Lock, Unlock, Spawn, Join, Print, Start, Exit, CondEnter, CondWait, CondSignal, CondBroadcast}, declared.shape.Shape.Shape, declared.state.Stage.Stage, declared.state.Stage.TheVariants.{Looks, Clears, Makes, Empties, Lowers, FreeLooks, FreeClears, Uncounts, Links, Names, Hands, Begins, Enters, Withdraws, WithdrawsFrom, Leaves, Wakes}, Layout.{granule_at, granule_of, words_of, cell_word, shadow_word, count_word, first_cell, first_shadow, state_word}, Machine.{Machine, Turn, Local, Asks, step_of, act, int, ref, place, word, check, raise, lower, test, new, asks_new, new_state, elements_of, clear, free, layout_at, spawn, join, start, exit, signal, goes, set_ref, accessed, move_ref, joined, trapped, instr_at}, Path.turn, Stages.{IsStageOf, begins_of}}
+use Rattle.sharc_code.specs.{declared.code.Code.Code, declared.code.Layout.Layout, declared.instr.Register.Register, declared.instr.Instr.Instr, declared.instr.Instr.TheVariants.{Bounds, ChkRead, ChkWrite, Load, Store, LoadRef, Exchange, Raise, RaiseLoaded, Lower, New, TakeCell, TakeLocal, TestSole, Clear, Give, Free, Lock, Unlock, Spawn, Join, Print, Start, Exit, CondEnter, CondWait, CondSignal, CondBroadcast}, declared.shape.Shape.Shape, declared.state.Stage.Stage, declared.state.Stage.TheVariants.{Looks, Clears, Makes, Empties, Lowers, FreeLooks, FreeClears, Uncounts, Links, Names, Hands, Begins, Enters, Withdraws, WithdrawsFrom, Leaves, Wakes}, Layout.{granule_at, granule_of, words_of, cell_word, shadow_word, count_word, first_cell, first_shadow, state_word}, Machine.{Machine, Turn, Local, Asks, step_of, act, int, ref, place, word, check, raise, lower, test, new, asks_new, new_state, elements_of, clear, free, layout_at, spawn, join, start, exit, signal, goes, set_ref, accessed, move_ref, joined, trapped, instr_at}, Path.turn, Stages.{IsStageOf, begins_of}}
 
 -- ---- words that are no state word of a thread
 abbrev IsOther : ℕ → Type 0

@@ -3,10 +3,10 @@ use Rattle.std.proofs.{Common.{◌≡◌, ℕ, suc, ◌+◌, ◌*◌, ◌<◌, �
 use Rattle.std.specs.Prelude.{length, take, slice_index, slice_set, nat_lt, nat_eq, is_some, bit_or, ◌==◌, if◌then◌else◌}
 use Rattle.sharc_word.specs.{declared.step.TheConstants.THREADS, declared.step.WordOp.TheVariants.{Load, Swap, Or, Cas}, declared.step.WordStep.WordStep, History.MayFollow, Words.word_after}
 use Rattle.sharc_heap.specs.{declared.shadow_word.Kind.Kind, declared.shadow_word.Kind.TheVariants.{Read, Write}, Accesses.{note_of, site_at}, ShadowWord.{epoch_of, is_of, is_written, stands, Withdraws as WithdrawsWord, AddsAccess}, Functions.{bits_of, cleared_of, withdrawn_of, conflicts_in, noted}, ShadowLaws.ShadowLaws}
-use Rattle.sharc_code.specs.{declared.code.Code.Code, declared.instr.Instr.Instr, declared.instr.Instr.TheVariants.{ChkRead, ChkWrite, Clear, Free, New, Spawn, Exit}, declared.instr.Register.Register, declared.shape.Shape.Shape, declared.state.Stage.Stage, declared.state.Stage.TheVariants.{Rests, Clears, Makes, FreeClears, Names, Hands, Begins, Withdraws, WithdrawsFrom, Leaves}, declared.state.TurnState.{TurnState as PlaceState}, declared.state.TurnState.TheVariants.{Runs as RunsOn, Tries, Stopped, Ended}, declared.state.Stop.Stop, declared.state.Stop.TheVariants.Conflict, Layout.{Fits, granules, granule_at, granule_of, first_shadow, first_cell, shadow_word, state_word}, Machine.{Machine, Own, Turn as StepTurn, Local, Asks, step_of, act, instr_at, place, ref, at_stage, ends, stopped, with_own, with_note, wrote, checked, check, clear, looks, free, free_looks, layout_at, data_granule, exit, withdraws, withdrew, row_of, without_own}, Path.{may_go, turn, asked_by}, Runs.{Turn, Global, put, at, MayTurn, IsRun, Answered, after_turn, result_of}, Whole.{one_thread, bounds}}
+use Rattle.sharc_code.specs.{declared.code.Code.Code, declared.code.Layout.Layout, declared.instr.Instr.Instr, declared.instr.Instr.TheVariants.{ChkRead, ChkWrite, Clear, Free, New, Spawn, Exit}, declared.instr.Register.Register, declared.shape.Shape.Shape, declared.state.Stage.Stage, declared.state.Stage.TheVariants.{Rests, Looks, Clears, Makes, FreeLooks, FreeClears, Uncounts, Names, Hands, Begins, Withdraws, WithdrawsFrom, Leaves}, declared.state.TurnState.{TurnState as PlaceState}, declared.state.TurnState.TheVariants.{Runs as RunsOn, Tries, Stopped, Ended}, declared.state.Stop.Stop, declared.state.Stop.TheVariants.Conflict, Layout.{Fits, granules, granule_at, granule_of, first_shadow, first_cell, shadow_word, state_word}, Machine.{Machine, Own, Turn as StepTurn, Local, Asks, step_of, act, instr_at, place, ref, at_stage, ends, stopped, with_own, with_note, wrote, checked, check, clear, looks, free, free_looks, layout_at, data_granule, data_granules, rests, exit, withdraws, withdrew, row_of, without_own}, Outcomes.TurnsComeOut, Path.{may_go, turn, asked_by, after as after_step}, Runs.{Turn, Global, put, at, MayTurn, IsRun, Answered, after_turn, result_of}, Whole.{one_thread, bounds}}
 use Rattle.sharc_code.proofs.Places.{put_same, put_other, put_all}
 use Rattle.sharc_invariant.specs.{Bits.{Touch, Untouched, CheckOf, ClearOf, WithdrawOf, Marks, no_marks, with_check, without_thread, cleared_by, freed_by, withdrawn_by, touch_of, marks_by, marks_now, marks_after, BitsStand, AllBitsStand}, Granules.Passed, Types.Targets, Labels.Labels, Typed.IsWellTyped, World.World, Blocks.Heap, Words.{shadow_at, is_ended, is_withdrawing, has_withdrawn, note_number, noted_by}, Opened.first_place, Turns.made_turn, State.{State, IsSmall, StageStands, OnNew, OnSpawn, OnExit}, Laws.{RunsFromTheBeginning, RunsBits}}
-use Rattle.sharc_invariant.proofs.{Stores.index_put, Turns.{local_turn, asks_turn, some_step}, Checks.{noted_numbers, same_kind, other_put}, Withdrawn.{is_row, one_more, row_low, first_row, noted_withdraws, wrote_now}, Opened.shadow_zero, Marked.{MarkedAt, at_same, at_clear, at_read, at_write, at_withdraw}, Touched.{IsFit, fit_calm, IsPlain, KeepsNotes, Leaves_all, leaves, at_looks, at_free_looks}}
+use Rattle.sharc_invariant.proofs.{Stores.index_put, Turns.{local_turn, asks_turn, some_step}, Checks.{noted_numbers, same_kind, other_put}, Withdrawn.{is_row, one_more, row_low, first_row, noted_withdraws, wrote_now}, Opened.shadow_zero, Marked.{MarkedAt, at_same, at_clear, at_read, at_write, at_withdraw}, Touched.{IsFit, fit_calm, IsPlain, KeepsNotes, LeavesWords, leaves, keeps_notes}}
 use Rattle.sharc_lemmas.proofs.Numbers.{ne_eq, eq_refl}
 
 -- ---- numbers
@@ -172,24 +172,24 @@ module _ (x : Targets) (code : Code) (s : Shape) (ls : Labels) (laws : ShadowLaw
       → ((kind : Kind) (p : ℕ) → noted_by m' kind p ≡ noted_by (g.threads tr.thread) kind p) → Kept Untouched
   left words m' done same notes = subst (λ y. AllMarked s y marks) (sym done) (left_marked s g t words m' marks go same notes h)
 
-  plain_turn : (T : StepTurn) → turn code s (g.threads tr.thread) ≡ T → is_withdrawing (g.threads tr.thread).own.stage ≡ false → Leaves_all s (g.threads tr.thread) T → Kept Untouched
-  plain_turn (Local m') e calm k = left g.words m' (local_turn code s g tr may m' e) (λ p lt. refl) (keeps_noted m m' calm going k)
-  plain_turn (Asks step next) e calm k =
+  plain_turn : (T : StepTurn) → turn code s (g.threads tr.thread) ≡ T → is_withdrawing (g.threads tr.thread).own.stage ≡ false → LeavesWords s T → ((found : ℕ) → KeepsNotes (g.threads tr.thread) (after_step T found)) → Kept Untouched
+  plain_turn (Local m') e calm k notes = left g.words m' (local_turn code s g tr may m' e) (λ p lt. refl) (keeps_noted m m' calm going (notes 0))
+  plain_turn (Asks step next) e calm k notes =
       let done = asks_turn code s g tr may step next e in
       let found = slice_index g.words step.word in
       let words = slice_set g.words step.word (word_after step.op found) in
       left words (next found) done.0
       (λ p lt. ⊎_elim
-      (λ (q : step.word ≡ shadow_at s p). same_word step.word (word_after step.op found) (shadow_at s p) done.1 (k.0 p lt q found))
+      (λ (q : step.word ≡ shadow_at s p). same_word step.word (word_after step.op found) (shadow_at s p) done.1 (k p lt q found))
       (λ (ne : step.word ≡ shadow_at s p → ⊥). off_word step.word (word_after step.op found) (shadow_at s p) done.1 (λ q. ne (sym q)))
       (cases_eq step.word (shadow_at s p)))
-      (keeps_noted m (next found) calm going (k.1 found))
+      (keeps_noted m (next found) calm going (notes found))
 
-  plain_kept : (i : Instr) → instr_at code (g.threads tr.thread).at.pc ≡ i → IsNoExit i → IsPlain i (g.threads tr.thread).own.stage → Kept Untouched
-  plain_kept i is n p =
+  plain_kept : TurnsComeOut → (i : Instr) → instr_at code (g.threads tr.thread).at.pc ≡ i → IsNoExit i → IsPlain i (g.threads tr.thread).own.stage → Kept Untouched
+  plain_kept outs i is n p =
       let fit = fit_of code s st.elements world st.heap g.words t m i m.own.stage n (subst (λ i. StageStands code s st.elements world st.heap g.words t m i m.own.stage) is stage_here) in
       let calm = fit_calm s m.own.stage fit in
-      plain_turn (act code s i m) (ap (λ i. act code s i m) is) calm (leaves code s m calm going i fit p)
+      plain_turn (act code s i m) (ap (λ i. act code s i m) is) calm (leaves code s m i fit p) (λ found. keeps_notes s i found m _ (outs code s i m found) calm p)
 
   -- ---- a Swap to `cleared`
   swapped : (d seen : ℕ) (m' : Machine) → turn code s (g.threads tr.thread) ≡ Asks (step_of (shadow_word s d) (Swap (cleared_of seen))) (λ found. m') → ((kind : Kind) (p : ℕ) → noted_by m' kind p ≡ noted_by (g.threads tr.thread) kind p)
@@ -203,18 +203,27 @@ module _ (x : Targets) (code : Code) (s : Shape) (ls : Labels) (laws : ShadowLaw
       (set_marked s g t d0 v m' marks no_marks go (at_low s d) done.1 (λ kind p _. notes kind p)
       (at_clear v (λ k. noted_by (put g.threads t m' k) Read d0) (λ k. noted_by (put g.threads t m' k) Write d0) (λ k. may_go (put g.threads t m' k).at.state) c.threads c.written) h)
 
-  clear_kept : (r cells : ℕ) → instr_at code (g.threads tr.thread).at.pc ≡ Clear r cells → (y : Stage) → (g.threads tr.thread).own.stage ≡ y → Kept (cleared_by s (ref (g.threads tr.thread) r) y)
-  clear_kept r cells is (Clears done all seen) e =
-      let calm : is_withdrawing m.own.stage ≡ false = ap is_withdrawing e in
-      swapped (data_granule (ref m r) done) seen (looks m (done + 1) all) (ap (λ i. act code s i m) is ∙ ap (clear s m (ref m r) cells) e) (keeps_noted m (looks m (done + 1) all) calm going (at_looks code s m calm going (done + 1) all))
-  clear_kept r cells is y e = plain_kept (Clear r cells) is tt (subst (IsPlain (Clear r cells)) (sym e) tt)
+  staged_notes : (stage : Stage) → is_withdrawing stage ≡ false → KeepsNotes (g.threads tr.thread) (at_stage (g.threads tr.thread) stage)
+  staged_notes stage calm = record { table = refl; stage = calm; ended = refl }
 
-  free_kept : (r layout site : ℕ) → instr_at code (g.threads tr.thread).at.pc ≡ Free r layout site → (y : Stage) → (g.threads tr.thread).own.stage ≡ y → Kept (freed_by s (ref (g.threads tr.thread) r) y)
-  free_kept r layout site is (FreeClears done elements seen) e =
+  cleared_notes : (done all : ℕ) → KeepsNotes (g.threads tr.thread) (looks (g.threads tr.thread) done all)
+  cleared_notes done all = elim (nat_lt done all) as (λ b. KeepsNotes m (if b then at_stage m (Looks done all) else rests m)) [ true ↦ staged_notes (Looks done all) refl | false ↦ record { table = refl; stage = refl; ended = refl } ]
+
+  freed_notes : (l : Layout) (done elements : ℕ) → KeepsNotes (g.threads tr.thread) (free_looks (g.threads tr.thread) l done elements)
+  freed_notes l done elements = elim (nat_lt done (data_granules elements l.cells)) as (λ b. KeepsNotes m (if b then at_stage m (FreeLooks done elements) else at_stage m (Uncounts elements))) [ true ↦ staged_notes (FreeLooks done elements) refl | false ↦ staged_notes (Uncounts elements) refl ]
+
+  clear_kept : TurnsComeOut → (r cells : ℕ) → instr_at code (g.threads tr.thread).at.pc ≡ Clear r cells → (y : Stage) → (g.threads tr.thread).own.stage ≡ y → Kept (cleared_by s (ref (g.threads tr.thread) r) y)
+  clear_kept outs r cells is (Clears done all seen) e =
+      let calm : is_withdrawing m.own.stage ≡ false = ap is_withdrawing e in
+      swapped (data_granule (ref m r) done) seen (looks m (done + 1) all) (ap (λ i. act code s i m) is ∙ ap (clear s m (ref m r) cells) e) (keeps_noted m (looks m (done + 1) all) calm going (cleared_notes (done + 1) all))
+  clear_kept outs r cells is y e = plain_kept outs (Clear r cells) is tt (subst (IsPlain (Clear r cells)) (sym e) tt)
+
+  free_kept : TurnsComeOut → (r layout site : ℕ) → instr_at code (g.threads tr.thread).at.pc ≡ Free r layout site → (y : Stage) → (g.threads tr.thread).own.stage ≡ y → Kept (freed_by s (ref (g.threads tr.thread) r) y)
+  free_kept outs r layout site is (FreeClears done elements seen) e =
       let calm : is_withdrawing m.own.stage ≡ false = ap is_withdrawing e in
       let l = layout_at code layout in
-      swapped (data_granule (ref m r) done) seen (free_looks m l (done + 1) elements) (ap (λ i. act code s i m) is ∙ ap (free code s m r l) e) (keeps_noted m (free_looks m l (done + 1) elements) calm going (at_free_looks code s m calm going l (done + 1) elements))
-  free_kept r layout site is y e = plain_kept (Free r layout site) is tt (subst (IsPlain (Free r layout site)) (sym e) tt)
+      swapped (data_granule (ref m r) done) seen (free_looks m l (done + 1) elements) (ap (λ i. act code s i m) is ∙ ap (free code s m r l) e) (keeps_noted m (free_looks m l (done + 1) elements) calm going (freed_notes l (done + 1) elements))
+  free_kept outs r layout site is y e = plain_kept outs (Free r layout site) is tt (subst (IsPlain (Free r layout site)) (sym e) tt)
 
   -- ---- a check
   checked_notes : (kind : Kind) (p old site : ℕ) (stop : Stop) → is_withdrawing (g.threads tr.thread).own.stage ≡ false → p < granules s → (b : Bool)
@@ -356,16 +365,16 @@ module _ (x : Targets) (code : Code) (s : Shape) (ls : Labels) (laws : ShadowLaw
   pub check_calm : (i : Instr) → instr_at code (g.threads tr.thread).at.pc ≡ i → IsNoExit i → is_withdrawing (g.threads tr.thread).own.stage ≡ false
   check_calm i is n = fit_calm s m.own.stage (fit_of code s st.elements world st.heap g.words t m i m.own.stage n (subst (λ i. StageStands code s st.elements world st.heap g.words t m i m.own.stage) is stage_here))
 
-  by_instr : (i : Instr) → instr_at code (g.threads tr.thread).at.pc ≡ i → Kept (touch_of s i (g.threads tr.thread) (result_of tr.event) ((after_turn bounds (one_thread code s) g tr).threads tr.thread))
-  by_instr (ChkRead cell site) is = check_kept Read (granule_of (place m cell)) site (check_calm (ChkRead cell site) is tt) (ap (λ i. act code s i m) is)
-  by_instr (ChkWrite cell site) is = check_kept Write (granule_of (place m cell)) site (check_calm (ChkWrite cell site) is tt) (ap (λ i. act code s i m) is)
-  by_instr (Clear r cells) is = clear_kept r cells is m.own.stage refl
-  by_instr (Free r layout site) is = free_kept r layout site is m.own.stage refl
-  by_instr Exit is = exit_kept is m.own.stage refl (subst (λ i. StageStands code s st.elements world st.heap g.words t m i m.own.stage) is stage_here)
-  by_instr i is = plain_kept i is tt tt
+  by_instr : TurnsComeOut → (i : Instr) → instr_at code (g.threads tr.thread).at.pc ≡ i → Kept (touch_of s i (g.threads tr.thread) (result_of tr.event) ((after_turn bounds (one_thread code s) g tr).threads tr.thread))
+  by_instr outs (ChkRead cell site) is = check_kept Read (granule_of (place m cell)) site (check_calm (ChkRead cell site) is tt) (ap (λ i. act code s i m) is)
+  by_instr outs (ChkWrite cell site) is = check_kept Write (granule_of (place m cell)) site (check_calm (ChkWrite cell site) is tt) (ap (λ i. act code s i m) is)
+  by_instr outs (Clear r cells) is = clear_kept outs r cells is m.own.stage refl
+  by_instr outs (Free r layout site) is = free_kept outs r layout site is m.own.stage refl
+  by_instr outs Exit is = exit_kept is m.own.stage refl (subst (λ i. StageStands code s st.elements world st.heap g.words t m i m.own.stage) is stage_here)
+  by_instr outs i is = plain_kept outs i is tt tt
 
-  pub marked_turn : AllMarked s (after_turn bounds (one_thread code s) g tr) (marks_now code s g tr marks)
-  marked_turn = by_instr (instr_at code m.at.pc) refl
+  pub marked_turn : TurnsComeOut → AllMarked s (after_turn bounds (one_thread code s) g tr) (marks_now code s g tr marks)
+  marked_turn outs = by_instr outs (instr_at code m.at.pc) refl
 
 -- ---- what stands of the bits
 module _ (x : Targets) (code : Code) (s : Shape) (ls : Labels) (g : Global Machine) (world : World) (st : State x code s ls g world) (marks : ℕ → Marks) (h : AllMarked s g marks) where
@@ -423,16 +432,16 @@ first_marked x code s ls wt fits laws p lt =
     at_clear (slice_index g0.words (shadow_at s p)) (λ k. noted_by (g0.threads k) Read p) (λ k. noted_by (g0.threads k) Write p) (λ k. may_go (g0.threads k).at.state)
     (λ k. ap (λ v. stands v k) zero' ∙ laws.empty.threads k) (ap is_written zero' ∙ laws.empty.written)
 
-pub marked_after : ShadowLaws → RunsFromTheBeginning → (x : Targets) (code : Code) (s : Shape) (ls : Labels) → IsWellTyped x code ls → Fits code s → IsSmall code s
+pub marked_after : TurnsComeOut → ShadowLaws → RunsFromTheBeginning → (x : Targets) (code : Code) (s : Shape) (ls : Labels) → IsWellTyped x code ls → Fits code s → IsSmall code s
     → (turns : List Turn) → IsRun bounds (one_thread code s) (first_place code s) turns → AllMarked s (at bounds (one_thread code s) (first_place code s) turns) (marks_after code s (first_place code s) turns)
-marked_after laws runs x code s ls wt fits small [] run = first_marked x code s ls wt fits laws
-marked_after laws runs x code s ls wt fits small (tr ∷ earlier) run =
+marked_after outs laws runs x code s ls wt fits small [] run = first_marked x code s ls wt fits laws
+marked_after outs laws runs x code s ls wt fits small (tr ∷ earlier) run =
     let r = runs x code s ls wt fits small earlier run.0 in
     let g = at bounds (one_thread code s) (first_place code s) earlier in
-    marked_turn x code s ls laws g r.stands.world r.stands.state tr run.1 (marks_after code s (first_place code s) earlier) (marked_after laws runs x code s ls wt fits small earlier run.0)
+    marked_turn x code s ls laws g r.stands.world r.stands.state tr run.1 (marks_after code s (first_place code s) earlier) (marked_after outs laws runs x code s ls wt fits small earlier run.0) outs
 
-pub runs_bits : ShadowLaws → RunsFromTheBeginning → RunsBits
-runs_bits laws runs x code s ls wt fits small turns run =
+pub runs_bits : TurnsComeOut → ShadowLaws → RunsFromTheBeginning → RunsBits
+runs_bits outs laws runs x code s ls wt fits small turns run =
     let r = runs x code s ls wt fits small turns run in
     let g = at bounds (one_thread code s) (first_place code s) turns in
-    bits_stand x code s ls g r.stands.world r.stands.state (marks_after code s (first_place code s) turns) (marked_after laws runs x code s ls wt fits small turns run)
+    bits_stand x code s ls g r.stands.world r.stands.state (marks_after code s (first_place code s) turns) (marked_after outs laws runs x code s ls wt fits small turns run)

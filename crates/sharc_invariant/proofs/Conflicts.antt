@@ -3,7 +3,7 @@ use Rattle.std.proofs.{Common.{◌≡◌, ℕ, suc, ◌+◌, ◌<◌, ◌≢◌,
 use Rattle.std.specs.Prelude.{slice_index, nat_eq, if◌then◌else◌}
 use Rattle.sharc_word.specs.declared.step.WordOp.TheVariants.{Or}
 use Rattle.sharc_heap.specs.{declared.shadow_word.Kind.Kind, declared.shadow_word.Kind.TheVariants.{Read, Write}, ShadowWord.{epoch_of, is_of, is_written, stands, Conflicts}, Functions.{bits_of, conflicts_in}, ShadowLaws.ShadowLaws}
-use Rattle.sharc_code.specs.{declared.code.Code.Code, declared.instr.Instr.Instr, declared.instr.Instr.TheVariants.{ChkRead, ChkWrite, Clear, Free, Exit}, declared.shape.Shape.Shape, declared.state.Stage.Stage, declared.state.Stage.TheVariants.{Clears, FreeClears, WithdrawsFrom}, declared.state.Stop.Stop, declared.state.Stop.TheVariants.Conflict, Layout.{granules, granule_at, granule_of, shadow_word}, Machine.{Machine, Own, step_of, act, instr_at, place, stopped, with_own, with_note, wrote, checked, check, row_of, ref}, Path.{may_go, turn}, Runs.{Turn, Global, at, MayTurn, after_turn, result_of}, Whole.{one_thread, bounds}}
+use Rattle.sharc_code.specs.{declared.code.Code.Code, declared.instr.Instr.Instr, declared.instr.Instr.TheVariants.{ChkRead, ChkWrite, Clear, Free, Exit}, declared.shape.Shape.Shape, declared.state.Stage.Stage, declared.state.Stage.TheVariants.{Clears, FreeClears, WithdrawsFrom}, declared.state.Stop.Stop, declared.state.Stop.TheVariants.Conflict, Layout.{granules, granule_at, granule_of, shadow_word}, Machine.{Machine, Own, step_of, act, instr_at, place, stopped, with_own, with_note, wrote, checked, check, row_of, ref}, Outcomes.TurnsComeOut, Path.{may_go, turn}, Runs.{Turn, Global, at, MayTurn, after_turn, result_of}, Whole.{one_thread, bounds}}
 use Rattle.sharc_code.proofs.Places.{put_same}
 use Rattle.sharc_invariant.specs.{Bits.{Touch, Untouched, CheckOf, WithdrawOf, Marks, cleared_by, freed_by, withdrawn_by, touch_of, marks_after}, Reports.{CheckStands, RunsConflict, touch_at}, Granules.Passed, Types.Targets, Labels.Labels, World.World, Words.{shadow_at, is_withdrawing, noted_by}, Opened.first_place, State.State, Laws.RunsFromTheBeginning}
 use Rattle.sharc_invariant.proofs.{Turns.asks_turn, Withdrawn.wrote_now, BitTurns.{AllMarked, IsNoExit, in_low, at_low, going_on, noted_calm, check_calm, owned, bit_here, written_here, marked_after}}
@@ -154,8 +154,8 @@ module _ (x : Targets) (code : Code) (s : Shape) (ls : Labels) (laws : ShadowLaw
   pub conflict_turn : (kind : Kind) (p : ℕ) (ok : Bool) → touch_at code s g tr ≡ CheckOf kind p ok → CheckStands tr.thread kind (slice_index g.words (shadow_word s p)) (marks p) ok
   conflict_turn kind p ok e = by_instr (instr_at code m.at.pc) refl kind p ok (parts (touch_at code s g tr) kind p ok e)
 
-pub runs_conflict : ShadowLaws → RunsFromTheBeginning → RunsConflict
-runs_conflict laws runs x code s ls wt fits small turns tr run =
+pub runs_conflict : TurnsComeOut → ShadowLaws → RunsFromTheBeginning → RunsConflict
+runs_conflict outs laws runs x code s ls wt fits small turns tr run =
     let r = runs x code s ls wt fits small turns run.0 in
     let g = at bounds (one_thread code s) (first_place code s) turns in
-    conflict_turn x code s ls laws g r.stands.world r.stands.state tr run.1 (marks_after code s (first_place code s) turns) (marked_after laws runs x code s ls wt fits small turns run.0)
+    conflict_turn x code s ls laws g r.stands.world r.stands.state tr run.1 (marks_after code s (first_place code s) turns) (marked_after outs laws runs x code s ls wt fits small turns run.0)

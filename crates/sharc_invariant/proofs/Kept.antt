@@ -1,11 +1,11 @@
 -- Each turn keeps the invariant.
 use Rattle.std.proofs.Common.{◌≡◌, refl, ap, Bool, true, false, sym, ◌∙◌, subst}
 use Rattle.sharc_heap.specs.{ShadowLaws.ShadowLaws, declared.shadow_word.Kind.TheVariants.{Read, Write}, NewLaws.NewLaws}
-use Rattle.sharc_code.specs.{declared.code.Code.Code, declared.instr.Instr.Instr, declared.shape.Shape.Shape, Layout.Fits, Machine.{Machine, instr_at, act}, Runs.{Turn, Global, MayTurn, result_of, after_turn}, Whole.{one_thread, bounds}, declared.state.Stage.Stage, declared.state.Stage.TheVariants.{Withdraws, WithdrawsFrom, Leaves}, Path.after}
+use Rattle.sharc_code.specs.{declared.code.Code.Code, declared.instr.Instr.Instr, declared.shape.Shape.Shape, Layout.Fits, Machine.{Machine, instr_at, act}, Outcomes.{TurnsComeOut, is_exit}, Runs.{Turn, Global, MayTurn, result_of, after_turn}, Whole.{one_thread, bounds}, declared.state.Stage.Stage, declared.state.Stage.TheVariants.{Withdraws, WithdrawsFrom, Leaves}, Path.after}
 use Rattle.sharc_code.specs.declared.instr.Instr.TheVariants as instrs
 use Rattle.sharc_code.specs.declared.instr.Register.TheVariants as registers
 use Rattle.sharc_invariant.specs.{Types.{Targets, is_pointer}, Labels.Labels, Typed.IsWellTyped, World.World, State.{State, IsSmall, StageStands, OnExit}, Laws.{Turned, Followed, Keeps}, Words.{is_withdrawing, has_returned, lang_of}, Objects.{changes_objects, objects_now}}
-use Rattle.sharc_invariant.proofs.{Own.fine, Counts.{Raise_keeps, Lower_keeps}, Steps.{of_turn, Constant_keeps, Move_keeps, Negate_int_keeps, Negate_long_keeps, Not_keeps, Same_keeps, Width_keeps, Jump_keeps, Jump_zero_keeps, Jump_null_keeps, Null_check_keeps, Not_held_keeps, Positive_keeps, Room_keeps}, Held.{Held_keeps, Lock_check_keeps, Lock_check_loaded_keeps}, Checked.check_keeps, Loads.Raise_loaded_keeps, Swaps.{Exchange_keeps, Take_cell_keeps}, Sole.{Test_sole_keeps, Null_keeps}, Indexes.{Bounds_keeps, Global_bounds_keeps}, Waits.{Cond_enter_keeps, Join_keeps, Cond_wait_keeps, Cond_broadcast_keeps}, Moves.{Move_reference_keeps, Take_local_keeps}, Calls.Call_keeps, Returns.Return_keeps, Computes.{fits_now, Compute_int_keeps, Compute_long_keeps, Complement_keeps}, Locked.{Lock_keeps, Unlock_keeps}, Signals.Cond_signal_keeps, Prints.Print_keeps, Gives.Give_keeps, ClearTurns.Clear_keeps, Starts.Start_keeps, Spawns.{Spawn_number_keeps, Spawn_reference_keeps}, Accesses.{Load_keeps, Store_keeps, LoadRef_keeps}, Makings.New_keeps, Links.Free_keeps, Exits.Exit_follows, Ends.{is_exit, goes_on}, Owned.{effect_objects, behind_same}}
+use Rattle.sharc_invariant.proofs.{Own.fine, Counts.{Raise_keeps, Lower_keeps}, Steps.{of_turn, Constant_keeps, Move_keeps, Negate_int_keeps, Negate_long_keeps, Not_keeps, Same_keeps, Width_keeps, Jump_keeps, Jump_zero_keeps, Jump_null_keeps, Null_check_keeps, Not_held_keeps, Positive_keeps, Room_keeps}, Held.{Held_keeps, Lock_check_keeps, Lock_check_loaded_keeps}, Checked.check_keeps, Loads.Raise_loaded_keeps, Swaps.{Exchange_keeps, Take_cell_keeps}, Sole.{Test_sole_keeps, Null_keeps}, Indexes.{Bounds_keeps, Global_bounds_keeps}, Waits.{Cond_enter_keeps, Join_keeps, Cond_wait_keeps, Cond_broadcast_keeps}, Moves.{Move_reference_keeps, Take_local_keeps}, Calls.Call_keeps, Returns.Return_keeps, Computes.{fits_now, Compute_int_keeps, Compute_long_keeps, Complement_keeps}, Locked.{Lock_keeps, Unlock_keeps}, Signals.Cond_signal_keeps, Prints.Print_keeps, Gives.Give_keeps, ClearTurns.Clear_keeps, Starts.Start_keeps, Spawns.{Spawn_number_keeps, Spawn_reference_keeps}, Accesses.{Load_keeps, Store_keeps, LoadRef_keeps}, Makings.New_keeps, Links.Free_keeps, Exits.Exit_follows, Ends.goes_on, Owned.{effect_objects, behind_same}}
 use Rattle.sharc_code.proofs.Places.{put_same}
 
 -- an instruction that may make, give or free an object
@@ -15,7 +15,7 @@ is_of_objects (instrs.Give r site) = true
 is_of_objects (instrs.Free r layout site) = true
 is_of_objects _ = false
 
-module _ (x : Targets) (code : Code) (s : Shape) (ls : Labels) (wt : IsWellTyped x code ls) (fits : Fits code s) (few : IsSmall code s) (laws : ShadowLaws) (blocks : NewLaws) (g : Global Machine) (world : World) (st : State x code s ls g world) (tr : Turn)
+module _ (x : Targets) (code : Code) (s : Shape) (ls : Labels) (wt : IsWellTyped x code ls) (fits : Fits code s) (few : IsSmall code s) (outs : TurnsComeOut) (laws : ShadowLaws) (blocks : NewLaws) (g : Global Machine) (world : World) (st : State x code s ls g world) (tr : Turn)
     (may : MayTurn bounds (one_thread code s) g tr) where
   one : (i : Instr) → instr_at code (g.threads tr.thread).at.pc ≡ i → is_exit i ≡ false → is_of_objects i ≡ false → Turned x code s ls g world tr
   one (instrs.Constant r v) is k o = Constant_keeps x code s ls wt g world st tr may r v is
@@ -129,7 +129,7 @@ module _ (x : Targets) (code : Code) (s : Shape) (ls : Labels) (wt : IsWellTyped
       let m = g.threads tr.thread in
       let w = staged i e m.own.stage (subst (λ i. StageStands code s st.elements world st.heap g.words tr.thread m i m.own.stage) is ((st.threads tr.thread).runs may.started may.next.runs).stage) in
       let now = put_same g.threads tr.thread ((one_thread code s).goes m (result_of tr.event)) in
-      let on = subst (λ i. has_returned (after (act code s i m) (result_of tr.event)) ≡ false) (sym is) (goes_on m w code s (result_of tr.event) i e) in
+      let on = subst (λ i. has_returned (after (act code s i m) (result_of tr.event)) ≡ false) (sym is) (goes_on s i (result_of tr.event) m _ (outs code s i m (result_of tr.event)) w e) in
       let d = each i is e in record { turned = d.0; objects = d.1; ends = λ r. let z : true ≡ false = sym r ∙ ap has_returned now ∙ on in absurd (cc) }
 
   all_follow : (b : Bool) → is_exit (instr_at code (g.threads tr.thread).at.pc) ≡ b → Followed x code s ls g world tr
@@ -140,5 +140,5 @@ module _ (x : Targets) (code : Code) (s : Shape) (ls : Labels) (wt : IsWellTyped
       exit_is _ e = absurd (cc)
   all_follow false e = follows (instr_at code (g.threads tr.thread).at.pc) refl e
 
-pub kept : ShadowLaws → NewLaws → Keeps
-kept laws blocks x code s ls wt fits few g world st tr may = all_follow x code s ls wt fits few laws blocks g world st tr may (is_exit (instr_at code (g.threads tr.thread).at.pc)) refl
+pub kept : TurnsComeOut → ShadowLaws → NewLaws → Keeps
+kept outs laws blocks x code s ls wt fits few g world st tr may = all_follow x code s ls wt fits few outs laws blocks g world st tr may (is_exit (instr_at code (g.threads tr.thread).at.pc)) refl

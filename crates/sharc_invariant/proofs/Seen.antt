@@ -1,5 +1,5 @@
 -- What the machine does to its words and registers is what the proof's world does.
-use Rattle.std.proofs.{Common.{◌≡◌, ℕ, ◌+◌, ◌*◌, ◌<◌, ◌⊎◌, ◌≢◌, true, false, refl, sym, ap, ◌∙◌, subst, ⊎_elim, arith, ◌≤◌}, lemmas.Bool.{cases_eq, cases_order}}
+use Rattle.std.proofs.{Common.{◌≡◌, ℕ, ◌+◌, ◌*◌, ◌<◌, ◌≢◌, true, false, refl, sym, ap, ◌∙◌, subst, ⊎_elim, arith, ◌≤◌}, lemmas.Bool.{cases_eq, cases_order}}
 use Rattle.sharc_code.specs.{declared.shape.Shape.Shape, Runs.put, Layout.granules}
 use Rattle.sharc_code.proofs.Places.{put_same, put_other, put_all}
 use Rattle.sharc_invariant.specs.{Granules.GranuleState, Types.{Targets, Content, field_in, is_mutex, is_pointer}, Types.Content.{Integer, MutexWord, Waiters, Pointer}, World.{TypedReference, Holder, RegisterOf, ArgumentOf, LogOf, Staged, In, Cell, World, in_ref, place, put2, ObjectState}, Words.{MachineView, Shows, Apart, FitsContent, Reads, shadow_at, count_at, length_at, cell_at, store, set_reg, AreStale}}

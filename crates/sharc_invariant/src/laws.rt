@@ -5,6 +5,7 @@ ghost use Rattle.sharc_invariant.specs.Laws.{RunsBits, StateStands, CellsAreTher
 ghost use Rattle.sharc_invariant.specs.Laws.{AccessesAreAllowed, NothingYet, SampleIsTyped};
 ghost use Rattle.sharc_invariant.specs.Reports.{RunsConflict, RunsTest};
 
+use sharc_code::thread_laws;
 use sharc_heap::{new_laws, shadow_laws};
 
 /// A code opens in the invariant.
@@ -19,6 +20,7 @@ pub fn begins()
 pub fn keeps()
     ensures { Keeps }
 {
+    thread_laws();
     shadow_laws();
     new_laws();
 }
@@ -57,6 +59,7 @@ pub fn runs_stand()
 pub fn runs_bits()
     ensures { RunsBits }
 {
+    thread_laws();
     shadow_laws();
     runs_stay();
 }
@@ -67,6 +70,7 @@ pub fn runs_report()
     ensures conflicts { RunsConflict }
     ensures tests { RunsTest }
 {
+    thread_laws();
     shadow_laws();
     runs_stay();
 }
