@@ -5,6 +5,5 @@ pub mod Silent
 pub mod Settling
 pub mod Erased
 pub mod Scheduled
-pub mod Matching
-pub mod Cutting
-pub mod Listing
+pub mod Naming
+pub mod Joining

@@ -5,6 +5,6 @@ pub mod History
 pub mod Going
 pub mod Lasts
 pub mod Laws
-pub mod Writing
-pub mod Cut
-pub mod EventFileLaws
+pub mod Cells
+pub mod Names
+pub mod Places

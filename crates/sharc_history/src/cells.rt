@@ -9,7 +9,7 @@ use sharc_cpu::Thread;
 use sharc_tree::token::Site;
 
 /// A cell of an object, counted from 0 over all its elements.
-#[derive(Clone, Copy, PartialEq, Eq)]
+#[derive(Clone, Copy)]
 pub enum Where {
     /// Of the global of this number.
     Global(u32, u64),

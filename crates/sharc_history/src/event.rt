@@ -15,21 +15,21 @@ use sharc_locks::waits;
 use sharc_word::THREADS;
 
 /// A reference: the number of its object and the elements of that. NULL has number 0.
-#[derive(Clone, Copy, PartialEq, Eq)]
+#[derive(Clone, Copy)]
 pub struct Reference {
     pub number: u64,
     pub elements: u64,
 }
 
 /// What a cell, a print or a thread is given.
-#[derive(Clone, Copy, PartialEq, Eq)]
+#[derive(Clone, Copy)]
 pub enum GivenValue {
     Int(i64),
     Reference(Reference),
 }
 
 /// What an event does, without the modes of cells.
-#[derive(Clone, Copy, PartialEq, Eq)]
+#[derive(Clone, Copy)]
 pub enum Deed {
     Reads(Where, GivenValue),
     Writes(Where, GivenValue),

@@ -13,10 +13,18 @@ use sharc_word::THREADS;
 use std::alloc::{AllocError, Global};
 
 /// The events of a run that has ended, in their order, and the threads that then wait or were stopped.
-#[derive(Drop)]
 pub struct History {
     pub events: Vec<Event>,
     pub lasts: Vec<Last>,
+}
+
+/// A drop that is written out is proved here once; one that is derived is proved in each crate that drops a history.
+impl Drop for History {
+    fn drop(self) {
+        let History { events, lasts } = self;
+        drop(events);
+        drop(lasts);
+    }
 }
 
 /// The events of the run of this code in which turn `i` is made by the thread at the place that is written for it, if

@@ -12,35 +12,29 @@
 //! `specs/History.antt` says what they are to the run. The law of src/laws.rt says that the run of a recorded run's
 //! schedule tells what that run does.
 //!
-//! The event file of a run: which of its events it has, and its text.
+//! The lines of that run in the words of its source.
 //!
-//! `front_of` answers how many of the first events have lines that `audit` accepts (`IsFront` of specs/Cut.antt), and
-//! `file_text` the text of the file with these (specs/Writing.antt).
+//! `places_text` writes one for each event and one for each thread that waits or was stopped (specs/Places.antt).
 #![tactic(auto)]
 
 mod cells;
-mod cut;
 mod elements;
 mod event;
-mod file;
-mod file_laws;
 mod going;
 mod history;
 mod last;
 mod laws;
-mod lines;
 mod next;
 mod pieces;
+mod places;
 mod refused;
 
 pub use cells::{Origin, Where, place_at};
-pub use cut::{Cut, EventPrefix, front_of};
 pub use event::{Deed, Event, GivenValue, Reference, event_of};
-pub use file::file_text;
-pub use file_laws::lines_are_of_sources;
 pub use history::{History, history_by_schedule};
 pub use last::{Halt, Last};
 pub use laws::history_laws;
 pub use next::{Argument, Coming, Next, function_of, next_of};
 pub use pieces::{put_cell, put_number, put_reference, put_signed};
+pub use places::places_text;
 pub use refused::refused_at;

@@ -1,15 +1,13 @@
-//! Texts of cells, values and functions, as event files have them.
+//! Texts of numbers, cells and references.
 
 ghost use Rattle.std.specs.Prelude.{◌≡◌, ◌++◌, ◌∷◌, decimal};
 ghost use Rattle.std.specs.Fmt.{signed_decimal};
-ghost use Rattle.sharc_ctype.specs.Resolved.{function_at};
 ghost use Rattle.sharc_tree.specs.Texts.{Appends};
-ghost use Rattle.sharc_history.specs.Writing.{cell_text, reference_text, value_text, name_in};
+ghost use Rattle.sharc_history.specs.Cells.{cell_text, reference_text};
 
 use crate::cells::Where;
-use crate::event::{GivenValue, Reference};
+use crate::event::Reference;
 use itoa::Buffer;
-use sharc_ctype::typed::Typed;
 use std::alloc::AllocError;
 
 pub fn put_number(text: &mut Vec<u8>, number: u64) -> Result<(), AllocError>
@@ -56,23 +54,4 @@ pub fn put_reference(text: &mut Vec<u8>, reference: Reference) -> Result<(), All
     put_number(text, reference.number)?;
     text.push(b':')?;
     put_number(text, reference.elements)
-}
-
-pub(crate) fn put_value(text: &mut Vec<u8>, value: GivenValue) -> Result<(), AllocError>
-    ensures { Appends result (value_text value) text.old.items text.new.items }
-{
-    match value {
-        GivenValue::Int(value) => put_signed(text, value),
-        GivenValue::Reference(reference) => put_reference(text, reference),
-    }
-}
-
-/// The name of a function; nothing where there is no function of this number.
-pub(crate) fn put_name(text: &mut Vec<u8>, typed: &Typed, function: u32) -> Result<(), AllocError>
-    ensures { Appends result (name_in (function_at typed.now function)) text.old.items text.new.items }
-{
-    match typed.function_at(function) {
-        Some(definition) => text.extend_from_slice(definition.name.text.as_slice()),
-        None => Ok(()),
-    }
 }

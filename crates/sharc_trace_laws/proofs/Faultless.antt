@@ -7,7 +7,8 @@ use Rattle.sharc_code.specs.declared.code.Code.{Code}
 use Rattle.sharc_audit.specs.{declared.line.EventLine.EventLine, Lines.AreLines, Running.RunsNeverFail}
 use Rattle.sharc_build.specs.Laws.{FrontsAreTyped}
 use Rattle.sharc_sound_laws.specs.{BuiltSound.BuiltIsSound, Sound.KeepsTo}
-use Rattle.sharc_history.specs.{declared.cut.Cut.Cut, declared.cut.Cut.TheVariants.Refused, Cut.IsEnd, EventFileLaws.LinesAreOfSources, Writing.AreLinesOf, declared.event.Event.Event, Told.{told, told_of_event}}
+use Rattle.sharc_traced.specs.{declared.cut.Cut.Cut, declared.cut.Cut.TheVariants.Refused, Cut.IsEnd, EventFileLaws.LinesAreOfSources, Writing.AreLinesOf}
+use Rattle.sharc_history.specs.{declared.event.Event.Event, Told.{told, told_of_event}}
 use Rattle.sharc_traced.specs.Replies.{history}
 use Rattle.sharc_trace_laws.specs.Laws.{NoneIsAtFault}
 use Rattle.sharc_lemmas.proofs.Lists.{map_take}

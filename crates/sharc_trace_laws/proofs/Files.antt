@@ -3,7 +3,8 @@ use Rattle.std.proofs.{Common.{◌≡◌, ℕ, ◌*◌, ◌<◌, ◌≤◌, Bool
 use Rattle.std.specs.{Prelude.{nat_eq, codes, decimal}, List.{list_any, slice_split, join_with_byte, onto_first, starts_with}}
 use Rattle.sharc_ctype.specs.Resolved.{Resolution}
 use Rattle.sharc_audit.specs.{declared.line.EventLine.EventLine, Grammar.{Text, mark, without_empty_end, text_lines, AreEventLines, IsEventFile}}
-use Rattle.sharc_history.specs.{declared.event.Event.Event, Writing.{IsLineOf, AreLinesOf, event_text, events_text, file_text}}
+use Rattle.sharc_history.specs.declared.event.Event.{Event}
+use Rattle.sharc_traced.specs.Writing.{IsLineOf, AreLinesOf, event_text, events_text, file_text}
 use Rattle.sharc_source_laws.specs.Laws.{HoldsNoEvents}
 use Rattle.sharc_trace_laws.proofs.{Pieces.{IsPiece, own, join, byte_on, decimal_piece, deed_piece}, Grammar.event_line}
 

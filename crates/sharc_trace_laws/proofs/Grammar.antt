@@ -6,7 +6,8 @@ use Rattle.sharc_ctype.specs.Resolved.{Resolution, function_at}
 use Rattle.sharc_code.specs.Says.{reference}
 use Rattle.sharc_audit.specs.{declared.line.EventLine.EventLine, declared.line.LineAct.LineAct, Grammar.{IsCell, IsPair, IsReference, IsValue, IsThread, IsAct, IsEventLine, thread_most}, Lines.spawned_by}
 use Rattle.sharc_audit.specs.declared.line.LineAct.TheVariants as line
-use Rattle.sharc_history.specs.{declared.cells.Where.Where, declared.event.Deed.Deed, declared.event.Event.Event, declared.event.Reference.Reference, declared.event.GivenValue.GivenValue, Told.{at, numbered, valued, shown}, Writing.{IsFitCell, IsFitReference, IsFitValue, IsFunctionOf, Writable, line_of, IsLineOf, cell_text, reference_text, value_text, deed_text, event_text}}
+use Rattle.sharc_history.specs.{declared.cells.Where.Where, declared.event.Deed.Deed, declared.event.Event.Event, declared.event.Reference.Reference, declared.event.GivenValue.GivenValue, Told.{at, numbered, valued, shown}, Cells.{cell_text, reference_text}}
+use Rattle.sharc_traced.specs.Writing.{IsFitCell, IsFitReference, IsFitValue, IsFunctionOf, Writable, line_of, IsLineOf, value_text, deed_text, event_text}
 use Rattle.sharc_history.specs.declared.cells.Where.TheVariants as places
 use Rattle.sharc_history.specs.declared.event.Deed.TheVariants as deeds
 use Rattle.sharc_history.specs.declared.event.GivenValue.TheVariants as values

@@ -3,7 +3,8 @@ use Rattle.std.proofs.{Common.{◌≡◌, inl, inr, ℕ, suc, ◌+◌, ◌<◌, 
 use Rattle.std.specs.{Prelude.{ℤ, pos, negsuc, nat_eq, decimal, codes, FitsSigned, if◌then◌else◌}, Fmt.signed_decimal, Int.w64, List.{list_any, list_all}, Str.all_ascii_digits, Char.is_ascii_digit}
 use Rattle.sharc_ctype.specs.Resolved.{Resolution, function_at}
 use Rattle.sharc_audit.specs.Grammar.{read_on, is_digit, is_letter, IsName}
-use Rattle.sharc_history.specs.{declared.cells.Where.Where, declared.event.Deed.Deed, declared.event.Reference.Reference, declared.event.GivenValue.GivenValue, Writing.{IsFitCell, IsFitReference, IsFitPair, IsFitValue, IsFunctionOf, Writable, cell_text, reference_text, value_text, name_in, deed_text}}
+use Rattle.sharc_history.specs.{declared.cells.Where.Where, declared.event.Deed.Deed, declared.event.Reference.Reference, declared.event.GivenValue.GivenValue, Cells.{cell_text, reference_text}}
+use Rattle.sharc_traced.specs.Writing.{IsFitCell, IsFitReference, IsFitPair, IsFitValue, IsFunctionOf, Writable, value_text, name_in, deed_text}
 use Rattle.sharc_history.specs.declared.cells.Where.TheVariants as places
 use Rattle.sharc_history.specs.declared.event.Deed.TheVariants as deeds
 use Rattle.sharc_history.specs.declared.event.GivenValue.TheVariants as values

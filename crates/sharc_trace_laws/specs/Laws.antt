@@ -7,7 +7,7 @@ use Rattle.sharc_code.specs.{declared.code.Code.Code, declared.shape.Shape.Shape
 use Rattle.sharc_audit.specs.declared.audit.EventFault.{EventFault}
 use Rattle.sharc_build.specs.{declared.building.Built.Built, Built.IsBuilt}
 use Rattle.sharc_cli.specs.{Commands.commands, declared.command.Command.TheVariants.Audit}
-use Rattle.sharc_history.specs.declared.cut.Cut.TheVariants.{Refused}
+use Rattle.sharc_traced.specs.declared.cut.Cut.TheVariants.{Refused}
 use Rattle.sharc_schedule.specs.File.{FileView, written}
 use Rattle.sharc_replay.specs.Run.{IsRecordedRun, file_of}
 use Rattle.sharc_run.specs.declared.run.Ran.{Ran}

@@ -4,13 +4,14 @@ ghost use Rattle.sharc_trace_laws.specs.Laws.{FilesAreAudited, FilesAreEventFile
 
 use sharc_audit::laws::runs_never_fail;
 use sharc_build::fronts_are_typed;
-use sharc_history::{history_laws, lines_are_of_sources};
+use sharc_history::history_laws;
 use sharc_meaning::laws::run_laws;
 use sharc_replay::replay_laws;
 use sharc_reply_laws::replies::{audits_are_told, records_are_told, sources_are_one};
 use sharc_sound_laws::built::built_is_sound;
 use sharc_sound_laws::{compiled_are_alike, histories_are_alike};
 use sharc_source_laws::laws::{programs_hold_no_events, programs_hold_no_schedule};
+use sharc_traced::lines_are_of_sources;
 
 /// What is written of a run of a program is an event file of its source with the greatest fuel and the lines of the
 /// run's first events.

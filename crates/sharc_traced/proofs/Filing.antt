@@ -3,7 +3,8 @@ use Rattle.std.proofs.Common.{◌≡◌, ℕ, List, [], ◌∷◌, map, take, ap
 use Rattle.sharc_tree.specs.declared.event.SourceEvent.{SourceEvent}
 use Rattle.sharc_mode.specs.Moded.{Assignment}
 use Rattle.sharc_code.specs.declared.code.Code.{Code}
-use Rattle.sharc_history.specs.{declared.event.Event.Event, Told.{told, told_of_event}, declared.cut.EventPrefix.EventPrefix, Cut.IsFront, Writing.file_text, EventFileLaws.LinesAreOfSources}
+use Rattle.sharc_history.specs.{declared.event.Event.Event, Told.{told, told_of_event}}
+use Rattle.sharc_traced.specs.{declared.cut.EventPrefix.EventPrefix, Cut.IsFront, Writing.file_text, EventFileLaws.LinesAreOfSources}
 use Rattle.sharc_traced.specs.{declared.reply.Reply.Reply, Replies.{status_by, why_by, IsFileOf}}
 use Rattle.sharc_lemmas.proofs.Lists.{map_take}
 

@@ -1,5 +1,6 @@
+pub mod Matching
+pub mod Cutting
+pub mod Listing
 pub mod Filing
-pub mod Naming
-pub mod Joining
 pub mod Replying
 pub mod Calling

@@ -5,8 +5,9 @@ use Rattle.sharc_build.specs.{declared.building.Built.Built, Built.IsBuilt}
 use Rattle.sharc_code.specs.{declared.shape.Shape.Shape, Layout.Fits, Runs.Turn}
 use Rattle.sharc_schedule.specs.{Schedule.Stored, File.{FileView, IsFile}}
 use Rattle.sharc_seq.specs.Run.{AreChosen}
-use Rattle.sharc_history.specs.{declared.history.History.History, History.{IsAccountOf, IsHistory}, declared.cut.Cut.Cut}
-use Rattle.sharc_history.specs.declared.cut.Cut.TheVariants as cuts
+use Rattle.sharc_history.specs.{declared.history.History.History, History.{IsAccountOf, IsHistory}}
+use Rattle.sharc_traced.specs.declared.cut.Cut.{Cut}
+use Rattle.sharc_traced.specs.declared.cut.Cut.TheVariants as cuts
 use Rattle.sharc_top.specs.{declared.reply.Reply.{Reply as Answer}, Limits.source_limit, Refused.IsBuiltOrRefused, Text.line}
 use Rattle.sharc_top.specs.declared.status.Status.TheVariants as answers
 use Rattle.sharc_traced.specs.{declared.reply.Reply.Reply, declared.words.Form.Form, Replies.{status_by, history, IsFileOf, IsPlacesOf, IsRunOf, IsOfRun, IsTraced, IsPlain, FileReplies, InputReplies, IsOfReply}}

@@ -1,3 +1,4 @@
-pub mod Names
-pub mod Places
+pub mod Writing
+pub mod Cut
+pub mod EventFileLaws
 pub mod Replies

@@ -13,13 +13,14 @@ use Rattle.sharc_build.specs.{declared.building.Built.Built, Built.IsBuilt}
 use Rattle.sharc_audit.specs.Lines.{AreLines}
 use Rattle.sharc_history.specs.{declared.event.Event.Event, Told.{told, told_of_event}}
 use Rattle.sharc_history.specs.{declared.history.History.History, History.{told_events, IsAccountOf}}
-use Rattle.sharc_history.specs.{declared.cut.Cut.Cut, declared.cut.Cut.TheVariants.{Whole as uncut}}
-use Rattle.sharc_history.specs.{declared.cut.EventPrefix.EventPrefix, Cut.IsFront, Writing.file_text}
+use Rattle.sharc_traced.specs.{declared.cut.Cut.Cut, declared.cut.Cut.TheVariants.{Whole as uncut}}
+use Rattle.sharc_traced.specs.{declared.cut.EventPrefix.EventPrefix, Cut.IsFront, Writing.file_text}
 use Rattle.sharc_top.specs.{declared.status.Status.{Status as Answer}, Limits.{source_limit, recording_limit}}
 use Rattle.sharc_top.specs.{Recording.bad_file_line, Refused.Refuses, Status.{code_of as code_of_answer}, Text.line}
 use Rattle.sharc_top.specs.declared.status.Status.TheVariants as answers
 use Rattle.sharc_traced.specs.{declared.call.Ended.Ended, declared.reply.Reply.Reply, declared.reply.Stopped.Stopped}
-use Rattle.sharc_traced.specs.{declared.status.Status.Status, declared.words.Form.Form, Places.places_text}
+use Rattle.sharc_traced.specs.{declared.status.Status.Status, declared.words.Form.Form}
+use Rattle.sharc_history.specs.Places.{places_text}
 use Rattle.sharc_traced.specs.declared.status.Status.TheVariants as status
 use Rattle.sharc_traced.specs.declared.words.Form.TheVariants as form
 

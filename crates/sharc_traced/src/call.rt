@@ -16,7 +16,7 @@ use sharc_top::status::Status as AnswerStatus;
 use std::alloc::{AllocError, Global};
 
 /// How the call ended, and why not all events were written, if they were not.
-#[derive(Clone, Copy, Debug, PartialEq, Eq)]
+#[derive(Clone, Copy)]
 pub struct Ended {
     pub status: Status,
     pub why: Option<Stopped>,

@@ -2,22 +2,22 @@
 //! source.
 //!
 //! A program calls [`sharc_trace`]; `TraceReplies` of specs/Replies.antt says what it writes and with which status it
-//! ends.
+//! ends. specs/Cut.antt says which events an event file has, and specs/Writing.antt its text.
 #![tactic(auto)]
 
 mod call;
-mod deeds;
-mod lasts;
-mod lvalues;
-mod names;
+mod cut;
+mod file;
+mod file_laws;
+mod lines;
 mod pieces;
-mod places;
 mod reply;
 mod status;
 mod traced;
 mod words;
 
 pub use call::{Ended, sharc_trace};
+pub use cut::{Cut, EventPrefix};
+pub use file_laws::lines_are_of_sources;
 pub use reply::Stopped;
-pub use sharc_history::Cut;
 pub use status::Status;

@@ -4,14 +4,14 @@ ghost use Rattle.std.specs.Prelude.{◌≡◌, ◌≤◌, IfOk};
 ghost use Rattle.sharc_top.specs.Text.{line};
 ghost use Rattle.sharc_traced.specs.Replies.{status_by, why_by, IsPlain};
 
+use crate::cut::{Cut, EventPrefix};
 use crate::status::Status;
-use sharc_history::{Cut, EventPrefix};
 use sharc_top::reply::{Reply as Answer, line_reply};
 use sharc_top::status::Status as AnswerStatus;
 use std::alloc::{AllocError, Global};
 
 /// What is written, how the call then ends, and why the text has not all events, if it has not.
-#[derive(Debug, Drop)]
+#[derive(Drop)]
 pub struct Reply {
     pub status: Status,
     pub text: Vec<u8>,
@@ -19,7 +19,7 @@ pub struct Reply {
 }
 
 /// The number of the first event that is not written, from 1, and why it is not.
-#[derive(Clone, Copy, Debug, PartialEq, Eq)]
+#[derive(Clone, Copy)]
 pub struct Stopped {
     pub event: usize,
     pub cut: Cut,

@@ -8,7 +8,7 @@ ghost use Rattle.sharc_traced.specs.Replies.{code_of};
 use sharc_top::status::Status as Answer;
 
 /// How a call ends.
-#[derive(Clone, Copy, Debug, PartialEq, Eq)]
+#[derive(Clone, Copy)]
 pub enum Status {
     /// All events of the run are written.
     Whole,

@@ -9,13 +9,15 @@ ghost use Rattle.sharc_schedule.specs.Shown.{FaultIs, view_of};
 ghost use Rattle.sharc_top.specs.Recording.{IsWithinFile, bad_file_line};
 ghost use Rattle.sharc_traced.specs.Replies.{history, IsFileOf, IsPlacesOf, IsTraced, FileReplies, InputReplies};
 
-use crate::places::places_text;
+use crate::cut::front_of;
+use crate::file::file_text;
+use crate::file_laws::lines_are_of_sources;
 use crate::reply::{Reply, answered, status_of, too_long, why_of};
 use crate::status::Status;
 use crate::words::Form;
 use sharc_build::Built;
 use sharc_code::Code;
-use sharc_history::{History, file_text, front_of, history_by_schedule, lines_are_of_sources};
+use sharc_history::{History, history_by_schedule, places_text};
 use sharc_run::shape_of;
 use sharc_schedule::{FileFault, RecordFile, file_laws, read_file};
 use sharc_top::built::built;

@@ -1,5 +1,6 @@
 use Rattle.std.proofs.Common.{List, take, ap, subst, ◌∙◌}
-use Rattle.sharc_history.specs.{Cut.IsFront, Writing.file_text, declared.event.Event.Event}
+use Rattle.sharc_traced.specs.{Cut.IsFront, Writing.file_text}
+use Rattle.sharc_history.specs.declared.event.Event.{Event}
 use Rattle.sharc_mode.specs.Moded.{Assignment}
 use Rattle.sharc_traced.specs.Replies.{history}
 use Rattle.sharc_traced.proofs.Filing.{file_of}
