@@ -44,7 +44,7 @@ const NO_PLACE: SourcePlace = SourcePlace {
 };
 
 /// The site of this number.
-pub fn place_at(code: &Code, site: u32) -> SourcePlace
+pub(crate) fn place_at(code: &Code, site: u32) -> SourcePlace
     ensures { result ≡ place_at code.now site }
 {
     match code.sites.get(site as usize).copied() {

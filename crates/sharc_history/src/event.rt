@@ -180,7 +180,7 @@ fn deed_of(next: Next, thread: u32, found: u64, elements: u64) -> Option<Deed>
 
 impl Coming {
     /// The number of the object of which its event speaks, where its step found this.
-    pub fn speaks_of(&self, found: u64) -> u64
+    pub(crate) fn speaks_of(&self, found: u64) -> u64
         ensures { result ≡ spoken self.now.next found }
     {
         match self.next {
@@ -195,7 +195,7 @@ impl Coming {
 
 /// The event of a turn of this thread, if it is one, where its step found this, and the object of which it speaks has
 /// this many elements.
-pub fn event_of(coming: Coming, thread: u32, found: u64, elements: u64) -> Option<Event>
+pub(crate) fn event_of(coming: Coming, thread: u32, found: u64, elements: u64) -> Option<Event>
     requires { thread < THREADS }
     ensures told { (code : Code) → option_map (told code) result ≡ comes code thread coming found elements }
     ensures origin { IfSome result (λ e. e.origin ≡ coming.origin) }

@@ -29,12 +29,11 @@ mod pieces;
 mod places;
 mod refused;
 
-pub use cells::{Origin, Where, place_at};
-pub use event::{Deed, Event, GivenValue, Reference, event_of};
+pub use cells::{Origin, Where};
+pub use event::{Deed, Event, GivenValue, Reference};
 pub use history::{History, history_by_schedule};
 pub use last::{Halt, Last};
 pub use laws::history_laws;
-pub use next::{Argument, Coming, Next, function_of, next_of};
+pub use next::{Argument, Coming, Next};
 pub use pieces::{put_cell, put_number, put_reference, put_signed};
 pub use places::places_text;
-pub use refused::refused_at;

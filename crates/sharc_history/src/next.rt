@@ -77,7 +77,7 @@ const NO_FUNCTION: Function = Function {
 };
 
 /// The function of this number.
-pub fn function_of(code: &Code, function: u64) -> Function
+pub(crate) fn function_of(code: &Code, function: u64) -> Function
     ensures { result ≡ function_of code.now function }
 {
     match code.functions.get(function as usize).copied() {
@@ -243,7 +243,7 @@ fn entered(code: &Code, thread: &Thread, cell: Cell, site: u32) -> Coming
 }
 
 /// What the thread's next turn is.
-pub fn next_of(code: &Code, thread: &Thread) -> Coming
+pub(crate) fn next_of(code: &Code, thread: &Thread) -> Coming
     ensures coming { IsComing code.now (instr_at code.now thread.now.machine.at.pc) thread.now.machine result }
     ensures origin { result.origin ≡ origin_at code.now thread.now.machine }
 {

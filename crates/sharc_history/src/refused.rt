@@ -25,7 +25,7 @@ fn accessed(code: &Code, thread: &Thread, instr: Instr) -> Option<Where>
 }
 
 /// What the check at which the thread is looks at: the cell of its access, or the first cell of the object of its cast.
-pub fn refused_at(code: &Code, thread: &Thread) -> Option<Where>
+pub(crate) fn refused_at(code: &Code, thread: &Thread) -> Option<Where>
     ensures { option_map at result ≡ refused_at code.now thread.now.machine }
 {
     let pc = thread.pc();
