@@ -34,15 +34,15 @@ module _ (workers : List Worker) (w : ℕ) (old new : Worker) (n : ℕ) (x : Opt
 
 -- ---- one worker's hands, one after the other
 module _ (P : Option Hand → Option Hand → Type 0) (first now next : List (Option Hand)) (n : ℕ) (x : Option Hand)
-    (low : n < length now) (is : next ≡ set (set now n None) n x) where
+    (low : n < length now) (is : next ≡ set now n x) where
   pub at_it : get_or next n None ≡ x
-  at_it = ap (λ (ys : List (Option Hand)). get_or ys n None) is ∙ get_or-set_same (set now n None) n x None (omega (arith, low, length-set now n None))
+  at_it = ap (λ (ys : List (Option Hand)). get_or ys n None) is ∙ get_or-set_same now n x None low
 
   pub off_it : (m : ℕ) → (m ≡ n → ⊥) → get_or next m None ≡ get_or now m None
-  off_it m ne = ap (λ (ys : List (Option Hand)). get_or ys m None) is ∙ get_or-set_other (set now n None) n m x None ne ∙ get_or-set_other now n m None None ne
+  off_it m ne = ap (λ (ys : List (Option Hand)). get_or ys m None) is ∙ get_or-set_other now n m x None ne
 
   pub same_length : length next ≡ length now
-  same_length = ap (λ (ys : List (Option Hand)). length ys) is ∙ length-set (set now n None) n x ∙ length-set now n None
+  same_length = ap (λ (ys : List (Option Hand)). length ys) is ∙ length-set now n x
 
   pub done_more : ((m : ℕ) → m < n → P (get_or first m None) (get_or now m None)) → P (get_or first n None) x → (m : ℕ) → m < n + 1 → P (get_or first m None) (get_or next m None)
   done_more done this m h =
@@ -68,9 +68,9 @@ module _ {X : Type 0} (all xs ys : List X) (n : ℕ) (x : X) (is : xs ≡ x ∷ 
   drawn_length most e = let f : length xs ≡ suc (length ys) = ap (λ zs. length zs) is in omega (arith, e, f)
 
 -- ---- what may run, and what has run
-pub may_at : (code : Code) (s : Shape) (limit : ℕ) (bus : BusView) (x : Option Hand) → ((hand : Hand) → x ≡ Some hand → MayRun code s limit bus hand) → MayRunAt code s limit bus x
-may_at code s limit bus None h = tt
-may_at code s limit bus (Some hand) h = h hand refl
+pub may_at : (code : Code) (s : Shape) (limit : ℕ) (bus : BusView) (turns : ℕ) (x : Option Hand) → ((hand : Hand) → x ≡ Some hand → MayRun code s limit bus turns hand) → MayRunAt code s limit bus turns x
+may_at code s limit bus turns None h = tt
+may_at code s limit bus turns (Some hand) h = h hand refl
 
 pub has_at : (code : Code) (s : Shape) (limit : ℕ) (x y : Option Hand) (old : Hand) → x ≡ Some old → HasRunAt code s limit x y → (new : Hand) × (y ≡ Some new)
 has_at code s limit None y old e h = absurd (let f : None ≡ Some old = e in cc)

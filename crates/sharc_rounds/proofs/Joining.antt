@@ -1,11 +1,10 @@
--- Two stints of a thread, one after the other, are one.
-use Rattle.std.proofs.{Common.{◌≡◌, ℕ, ◌+◌, true, List, [], ◌∷◌, ◌++◌, Option, Some, None, get_or, refl, sym, ap, ◌∙◌, subst, append_assoc, arith}, lemmas.List.append-nil}
+-- Two stints of a thread, one after the other, are one; and who may make the second.
+use Rattle.std.proofs.{Common.{◌≡◌, ℕ, ◌+◌, ◌≤◌, true, List, [], ◌∷◌, ◌++◌, Option, Some, None, get_or, refl, sym, ap, ◌∙◌, subst, append_assoc, arith}, lemmas.List.append-nil}
 use Rattle.sharc_word.specs.declared.step.WordEvent.{WordEvent}
 use Rattle.sharc_code.specs.{declared.code.Code.Code, declared.shape.Shape.Shape, Machine.Machine, Path.{turn, after, events_of_turn, may_go, counted, machine_after, events_of_path, made_in, IsPath}}
 use Rattle.sharc_cpu.specs.Thread.{ThreadView}
 use Rattle.sharc_bus.specs.Bus.{BusView}
-use Rattle.sharc_rounds.specs.{declared.hand.Hand.Hand, declared.worker.Worker.Worker, Round.{Seat, MadeQuantum, MadeQuantumAt, MayQuantumAt, MayBeginAt, MayRun, MayRunAt, MayAllRun, HasRun, HasRunAt, HaveAllRun, HasRoomAt, MayGoOn, MayGoOnAt, MayAllGoOn}}
-use Rattle.sharc_rounds.proofs.Rounding.{without_room, fits_at}
+use Rattle.sharc_rounds.specs.{declared.hand.Hand.Hand, declared.worker.Worker.Worker, Round.{Seat, MadeQuantum, MadeQuantumAt, MayTurnAt, KeepsRoom, MayRun, MayRunAt, MayAllRun, HasRun, HasRunAt, HaveAllRun, KeepsRoomAt, KeepAllRoom}}
 
 -- ---- paths
 module _ (code : Code) (s : Shape) (m : Machine) (earlier : List ℕ) where
@@ -67,16 +66,6 @@ module _ (code : Code) (s : Shape) (limit : ℕ) where
   made_both_at None None (Some new) first second q r = absurd r
   made_both_at None None None first second q r = ap (λ (es : List WordEvent). es ++ second) q ∙ r
 
-  begins_again : (n : ℕ) (old new : Seat) (events : List WordEvent) → MayBeginAt code s limit n old → MadeQuantumAt code s limit old new events → MayBeginAt code s limit n new
-  begins_again n (Some old) (Some new) events may q = record { thread_is = q.thread; number = q.number ∙ may.number; within = q.within }
-  begins_again n (Some old) None events may q = absurd q
-  begins_again n None (Some new) events may q = absurd q
-  begins_again n None None events may q = tt
-
-  begins : (number : ℕ) (seat : Seat) → MayQuantumAt code s limit seat number → MayBeginAt code s limit number seat
-  begins number (Some thread) may = record { thread_is = may.thread_is; number = sym may.number_is; within = may.within }
-  begins number None may = tt
-
   -- ---- hands
   has_both : (old mid new : Hand) → HasRun code s limit old mid → HasRun code s limit mid new → HasRun code s limit old new
   has_both old mid new h k = record {
@@ -98,38 +87,39 @@ module _ (code : Code) (s : Shape) (limit : ℕ) where
   pub have_both : (old mid new : Worker) → HaveAllRun code s limit old mid → HaveAllRun code s limit mid new → HaveAllRun code s limit old new
   have_both old mid new h k = λ n. has_both_at (get_or old.hands.items n None) (get_or mid.hands.items n None) (get_or new.hands.items n None) (h n) (k n)
 
-  -- with room made first
-  pub ran_with_room : (old room : Seat) (hand new : Hand) → old ≡ hand.seat → HasRoomAt old room → HasRun code s limit record { seat = room; port = hand.port } new → HasRun code s limit hand new
-  ran_with_room old room hand new e r h = record {
-    events = h.events;
-    made = subst (λ (x : Seat). MadeQuantumAt code s limit x new.seat h.events) e (without_room code s limit old room new.seat h.events r h.made);
-    bus_is = h.bus_is;
-    number = h.number;
-    events_are = h.events_are;
-  }
-
+  -- ---- who may make more turns
   module _ (bus : BusView) where
-    pub may_with_room : (hand : Hand) (room : Seat) → MayGoOn code s limit bus hand → HasRoomAt hand.seat room → MayRun code s limit bus record { seat = room; port = hand.port }
-    may_with_room hand room may r = record { bus_is = may.bus_is; may = fits_at code s limit hand.port.number hand.port.number hand.seat room refl may.may r }
+    may_at_seat : (turns more number : ℕ) (old new : Seat) (events : List WordEvent) → MayTurnAt code s limit (turns + more) old number → MadeQuantumAt code s limit old new events → KeepsRoom turns old new → MayTurnAt code s limit more new number
+    may_at_seat turns more number (Some old) (Some new) events may q keeps = record { thread_is = q.thread; number_is = may.number_is ∙ sym q.number; within = q.within; room = keeps more may.room }
+    may_at_seat turns more number (Some old) None events may q keeps = tt
+    may_at_seat turns more number None (Some new) events may q keeps = absurd q
+    may_at_seat turns more number None None events may q keeps = tt
 
-    goes_on : (old new : Hand) → MayGoOn code s limit bus old → HasRun code s limit old new → MayGoOn code s limit bus new
-    goes_on old new may h = record {
+    may_more : (turns more : ℕ) (old new : Hand) → MayRun code s limit bus (turns + more) old → HasRun code s limit old new → KeepsRoom turns old.seat new.seat → MayRun code s limit bus more new
+    may_more turns more old new may h keeps = record {
       bus_is = h.bus_is ∙ may.bus_is;
-      may = subst (λ (n : ℕ). MayBeginAt code s limit n new.seat) (sym h.number) (begins_again old.port.number old.seat new.seat h.events may.may h.made);
+      may = subst (MayTurnAt code s limit more new.seat) (sym h.number) (may_at_seat turns more old.port.number old.seat new.seat h.events may.may h.made keeps);
     }
 
-    goes_on_at : (old new : Option Hand) → MayGoOnAt code s limit bus old → HasRunAt code s limit old new → MayGoOnAt code s limit bus new
-    goes_on_at (Some old) (Some new) may h = goes_on old new may h
-    goes_on_at (Some old) None may h = tt
-    goes_on_at None (Some new) may h = absurd h
-    goes_on_at None None may h = tt
+    may_more_at : (turns more : ℕ) (old new : Option Hand) → MayRunAt code s limit bus (turns + more) old → HasRunAt code s limit old new → KeepsRoomAt turns old new → MayRunAt code s limit bus more new
+    may_more_at turns more (Some old) (Some new) may h keeps = may_more turns more old new may h keeps
+    may_more_at turns more (Some old) None may h keeps = tt
+    may_more_at turns more None (Some new) may h keeps = absurd h
+    may_more_at turns more None None may h keeps = tt
 
-    pub all_go_on : (old new : Worker) → MayAllGoOn code s limit bus old → HaveAllRun code s limit old new → MayAllGoOn code s limit bus new
-    all_go_on old new may h = λ n. goes_on_at (get_or old.hands.items n None) (get_or new.hands.items n None) (may n) (h n)
+    -- behind a stint all may make those that are left
+    pub all_may_more : (turns more both : ℕ) (old new : Worker) → both ≡ turns + more → MayAllRun code s limit bus both old → HaveAllRun code s limit old new → KeepAllRoom turns old new → MayAllRun code s limit bus more new
+    all_may_more turns more both old new e may h keeps = λ n.
+        may_more_at turns more (get_or old.hands.items n None) (get_or new.hands.items n None) (subst (λ k. MayRunAt code s limit bus k (get_or old.hands.items n None)) e (may n)) (h n) (keeps n)
 
-    may_go_on_at : (hand : Option Hand) → MayRunAt code s limit bus hand → MayGoOnAt code s limit bus hand
-    may_go_on_at None may = tt
-    may_go_on_at (Some hand) may = record { bus_is = may.bus_is; may = begins hand.port.number hand.seat may.may }
+    fewer_at_seat : (few turns number : ℕ) (seat : Seat) → few ≤ turns → MayTurnAt code s limit turns seat number → MayTurnAt code s limit few seat number
+    fewer_at_seat few turns number (Some thread) le may = record { thread_is = may.thread_is; number_is = may.number_is; within = may.within; room = λ on. let r = may.room on in omega (arith, r, le) }
+    fewer_at_seat few turns number None le may = tt
 
-    pub all_may_go_on : (worker : Worker) → MayAllRun code s limit bus worker → MayAllGoOn code s limit bus worker
-    all_may_go_on worker may = λ n. may_go_on_at (get_or worker.hands.items n None) (may n)
+    fewer_at : (few turns : ℕ) (hand : Option Hand) → few ≤ turns → MayRunAt code s limit bus turns hand → MayRunAt code s limit bus few hand
+    fewer_at few turns None le may = tt
+    fewer_at few turns (Some hand) le may = record { bus_is = may.bus_is; may = fewer_at_seat few turns hand.port.number hand.seat le may.may }
+
+    -- who may make so many turns may make fewer
+    pub all_fewer : (few turns : ℕ) (worker : Worker) → few ≤ turns → MayAllRun code s limit bus turns worker → MayAllRun code s limit bus few worker
+    all_fewer few turns worker le may = λ n. fewer_at few turns (get_or worker.hands.items n None) le (may n)

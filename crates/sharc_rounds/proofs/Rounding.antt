@@ -4,7 +4,7 @@ use Rattle.std.specs.List.{All}
 use Rattle.sharc_word.specs.{declared.step.WordEvent.WordEvent, declared.step.TheConstants.THREADS}
 use Rattle.sharc_code.specs.{declared.code.Code.Code, declared.shape.Shape.Shape, Machine.Machine, Path.{IsPath, machine_after, events_of_path, made_in, may_go}}
 use Rattle.sharc_bus.specs.Bus.{BusView, SeatView, AreSeatsOf, OneHistory, lists_of}
-use Rattle.sharc_rounds.specs.{declared.hand.Hand.Hand, declared.worker.Worker.Worker, Round.{Seat, MadeQuantum, MadeQuantumAt, MayQuantumAt, MayRun, HasRun, MayBegin, MayBeginAt, HasRoom, HasRoomAt, MadeRound, HaveAllRun, hand_at}}
+use Rattle.sharc_rounds.specs.{declared.hand.Hand.Hand, declared.worker.Worker.Worker, declared.stint.TheConstants.QUANTUM, Round.{Seat, MadeQuantum, MadeQuantumAt, MayTurnAt, MayRun, HasRun, MayBegin, MayBeginAt, HasRoom, HasRoomAt, MadeRound, HaveAllRun, hand_at}}
 use Rattle.sharc_rounds.proofs.{Places.at_place, Dealing.{has_at, has_run}}
 use Rattle.sharc_cpu.specs.Thread.{ThreadView}
 use Rattle.sharc_lemmas.proofs.Lists.{any_default}
@@ -35,7 +35,7 @@ without_room code s limit None None (Some new) events h q = absurd q
 without_room code s limit None None None events h q = q
 
 -- a thread with room may make a quantum
-pub fits_at : (code : Code) (s : Shape) (limit n number : ℕ) (old room : Seat) → number ≡ n → MayBeginAt code s limit n old → HasRoomAt old room → MayQuantumAt code s limit room number
+pub fits_at : (code : Code) (s : Shape) (limit n number : ℕ) (old room : Seat) → number ≡ n → MayBeginAt code s limit n old → HasRoomAt old room → MayTurnAt code s limit QUANTUM room number
 fits_at code s limit n number (Some old) (Some room) e may h = record {
   thread_is = h.thread code s may.thread_is;
   number_is = e ∙ sym may.number ∙ ap (λ (m : Machine). m.own.number) (sym h.machine);
@@ -49,15 +49,15 @@ fits_at code s limit n number None None e may h = tt
 module _ (code : Code) (s : Shape) (limit : ℕ) (bus : BusView) (old seats : List Seat) (ports : List SeatView)
     (begin : MayBegin code s limit old) (count : length seats ≡ length old) (room : (n : ℕ) → n < length old → HasRoomAt (get_or old n None) (get_or seats n None))
     (are : AreSeatsOf bus ports) (as_many : bus.ports ≡ THREADS) (fresh : All (λ (p : SeatView). p.events ≡ []) ports) where
-  pub fit : (n : ℕ) (hand : Hand) → n < THREADS → hand ≡ hand_of (get_or seats n hand.seat) (get_or ports n hand.port) → MayRun code s limit bus hand
-  fit n hand low is = subst (MayRun code s limit bus) (sym is) (
+  pub fit : (n : ℕ) (hand : Hand) → n < THREADS → hand ≡ hand_of (get_or seats n hand.seat) (get_or ports n hand.port) → MayRun code s limit bus QUANTUM hand
+  fit n hand low is = subst (MayRun code s limit bus QUANTUM) (sym is) (
       let port : SeatView = get_or ports n hand.port in
       let within : n < length old = omega (arith, low, begin.count) in
       let there : n < length ports = omega (arith, low, are.all, as_many) in
       let same : get_or seats n None ≡ get_or seats n hand.seat = any_default seats n None hand.seat (omega (arith, within, count)) in
-      let here : MayRun code s limit bus (hand_of (get_or seats n hand.seat) port) = record {
+      let here : MayRun code s limit bus QUANTUM (hand_of (get_or seats n hand.seat) port) = record {
         bus_is = are.bus_is n hand.port there;
-        may = subst (λ (x : Seat). MayQuantumAt code s limit x port.number) same
+        may = subst (λ (x : Seat). MayTurnAt code s limit QUANTUM x port.number) same
             (fits_at code s limit n port.number (get_or old n None) (get_or seats n None) (are.number_is n hand.port there) (begin.each n within) (room n within));
       } in
       here)

@@ -1,11 +1,11 @@
 -- What a quantum over a port of a bus makes of a thread and of its seat.
-use Rattle.std.proofs.{Common.{◌≡◌, ℕ, ◌+◌, ◌<◌, ◌≤◌, ◌==◌, Bool, true, false, List, [], ◌++◌, length, Some, None, refl, sym, ap, ◌∙◌, subst, arith}, lemmas.List.append-nil}
+use Rattle.std.proofs.{Common.{◌≡◌, ℕ, ◌+◌, ◌<◌, ◌≤◌, ◌==◌, Bool, true, false, List, [], ◌++◌, length, Option, Some, None, refl, sym, ap, ◌∙◌, subst, arith}, lemmas.List.append-nil}
 use Rattle.std.specs.Prelude.{if◌then◌else◌}
 use Rattle.sharc_word.specs.{Place.{PortState, LeadsInEvents, place_of_events}, Laws.PlaceLaws}
 use Rattle.sharc_code.specs.{declared.code.Code.Code, declared.shape.Shape.Shape, declared.state.TurnState.TurnState, declared.state.TurnState.TheVariants.{Runs, Tries, Stopped, Ended}, Machine.Machine, Path.{may_go, machine_after, events_of_path, made_in}}
 use Rattle.sharc_cpu.specs.{Thread.{ThreadView, IsThread}, Quantum.{IsQuantum, pause_of}, declared.quantum.Pause.Pause, declared.quantum.Pause.TheVariants.{Ran, Spent}}
-use Rattle.sharc_bus.specs.Bus.{SeatView}
-use Rattle.sharc_rounds.specs.Round.{Seat, HasRun}
+use Rattle.sharc_bus.specs.Bus.{BusView, SeatView}
+use Rattle.sharc_rounds.specs.{declared.hand.Hand.Hand, Round.{Seat, HasRun, MayRunAt, HasRunAt, KeepsRoom, KeepsRoomAt, goes_on}}
 use Rattle.sharc_lemmas.proofs.Numbers.{below}
 
 ran_or_spent : (b : Bool) → b ≡ false → (if b then Spent else Ran) ≡ Ran
@@ -49,6 +49,16 @@ module _ (code : Code) (s : Shape) (limit : ℕ) where
     number = refl;
     events_are = sym (append-nil port.events);
   }
+
+  -- at a place where none goes on, all stays as it is
+  idle_at : (bus : BusView) (turns : ℕ) (seat : Seat) (port : SeatView) → MayRunAt code s limit bus turns (Some record { seat = seat; port = port }) → goes_on (Some record { seat = seat; port = port }) ≡ false
+      → HasRun code s limit record { seat = seat; port = port } record { seat = seat; port = port }
+  idle_at bus turns (Some thread) port may off = idle thread port may.may.thread_is may.may.within off
+  idle_at bus turns None port may off = nobody None port refl
+
+  pub stays : (bus : BusView) (turns : ℕ) (hand : Option Hand) → MayRunAt code s limit bus turns hand → goes_on hand ≡ false → HasRunAt code s limit hand hand
+  stays bus turns None may off = tt
+  stays bus turns (Some hand) may off = idle_at bus turns hand.seat hand.port may off
 
   module _ (laws : PlaceLaws) (serves : ℕ → Type 0) (turns : ℕ) (some : 0 < turns) (old new : ThreadView) (port after : SeatView) (pause : Pause)
       (q : IsQuantum serves LeadsInEvents code s turns limit old new (place_of_events port.events) (place_of_events after.events) pause) where
@@ -109,3 +119,20 @@ widened code s most limit old new port after less more h = record {
   number = h.number;
   events_are = h.events_are;
 }
+
+-- ---- room
+same_room : (turns : ℕ) (seat : Seat) → KeepsRoom turns seat seat
+same_room turns None = tt
+same_room turns (Some thread) = λ more h on. let r = h on in omega (arith, r)
+
+pub same_room_at : (turns : ℕ) (hand : Option Hand) → KeepsRoomAt turns hand hand
+same_room_at turns None = tt
+same_room_at turns (Some hand) = same_room turns hand.seat
+
+-- at no place there is nothing to keep
+pub no_room : (turns : ℕ) (old new : Seat) → old ≡ None → KeepsRoom turns old new
+no_room turns None new e = tt
+no_room turns (Some old) new e = absurd (let f : Some old ≡ None = e in cc)
+
+pub room_left : (turns : ℕ) (old new : ThreadView) → may_go old.machine.at.state ≡ true → old.room ≤ new.room + turns → KeepsRoom turns (Some old) (Some new)
+room_left turns old new on left = λ more h off. let r = h on in omega (arith, r, left)

@@ -1,5 +1,5 @@
 -- What a round makes of the threads and of the words.
-use Rattle.std.specs.Prelude.{ℕ, ◌≡◌, ◌≢◌, ◌<◌, ◌≤◌, ◌+◌, ◌++◌, true, List, [], length, Option, Some, None}
+use Rattle.std.specs.Prelude.{ℕ, ◌≡◌, ◌≢◌, ◌<◌, ◌≤◌, ◌+◌, ◌++◌, Bool, true, false, List, [], length, Option, Some, None}
 use Rattle.std.specs.Prelude.{slice_index_or}
 use Rattle.sharc_word.specs.{declared.step.WordEvent.WordEvent, declared.step.TheConstants.THREADS}
 use Rattle.sharc_code.specs.{declared.code.Code.Code, declared.shape.Shape.Shape, declared.state.Wait.Wait}
@@ -40,21 +40,25 @@ MadeQuantumAt code s limit None None events = events ≡ []
 MadeQuantumAt code s limit (Some old) None events = ⊥
 MadeQuantumAt code s limit None (Some new) events = ⊥
 
--- a thread may make a quantum over the port of this seat of the bus
-pub record MayQuantum (code : Code) (s : Shape) (limit : ℕ) (thread : ThreadView) (number : ℕ) : Type 0 where
+-- there is room for what the thread prints in so many turns, if it goes on
+abbrev pub HasRoomFor : ℕ → ThreadView → Type 0
+HasRoomFor turns thread = may_go thread.machine.at.state ≡ true → turns ≤ thread.room
+
+-- a thread may make so many turns over the port of this seat of the bus
+pub record MayTurn (code : Code) (s : Shape) (limit turns : ℕ) (thread : ThreadView) (number : ℕ) : Type 0 where
   pub thread_is : IsThread code s thread
   pub number_is : number ≡ thread.machine.own.number
   pub within : thread.made ≤ limit
-  pub room : may_go thread.machine.at.state ≡ true → QUANTUM ≤ thread.room
+  pub room : HasRoomFor turns thread
 
-abbrev pub MayQuantumAt : Code → Shape → ℕ → Seat → ℕ → Type 0
-MayQuantumAt code s limit (Some thread) number = MayQuantum code s limit thread number
-MayQuantumAt code s limit None number = Unit {0}
+abbrev pub MayTurnAt : Code → Shape → ℕ → ℕ → Seat → ℕ → Type 0
+MayTurnAt code s limit turns (Some thread) number = MayTurn code s limit turns thread number
+MayTurnAt code s limit turns None number = Unit {0}
 
--- a hand of this bus may make a quantum
-pub record MayRun (code : Code) (s : Shape) (limit : ℕ) (bus : BusView) (hand : Hand) : Type 0 where
+-- a hand of this bus may make so many turns
+pub record MayRun (code : Code) (s : Shape) (limit : ℕ) (bus : BusView) (turns : ℕ) (hand : Hand) : Type 0 where
   pub bus_is : hand.port.bus ≡ bus.id
-  pub may : MayQuantumAt code s limit hand.seat hand.port.number
+  pub may : MayTurnAt code s limit turns hand.seat hand.port.number
 
 -- its thread made a quantum, and its port the events of that
 pub record HasRun (code : Code) (s : Shape) (limit : ℕ) (old new : Hand) : Type 0 where
@@ -64,11 +68,22 @@ pub record HasRun (code : Code) (s : Shape) (limit : ℕ) (old new : Hand) : Typ
   pub number : new.port.number ≡ old.port.number
   pub events_are : new.port.events ≡ old.port.events ++ events
 
+-- where a thread had room for so many turns and for more, it has room for these
+abbrev pub KeepsRoom : ℕ → Seat → Seat → Type 0
+KeepsRoom turns (Some old) (Some new) = (more : ℕ) → HasRoomFor (turns + more) old → HasRoomFor more new
+KeepsRoom turns (Some old) None = Unit {0}
+KeepsRoom turns None new = Unit {0}
+
+-- whether a thread is there that is neither gone nor stopped
+abbrev pub is_on : Seat → Bool
+is_on None = false
+is_on (Some thread) = may_go thread.machine.at.state
+
 -- ---- workers
 -- so it is of the hand at a place, if there is one
-abbrev pub MayRunAt : Code → Shape → ℕ → BusView → Option Hand → Type 0
-MayRunAt code s limit bus None = Unit {0}
-MayRunAt code s limit bus (Some hand) = MayRun code s limit bus hand
+abbrev pub MayRunAt : Code → Shape → ℕ → BusView → ℕ → Option Hand → Type 0
+MayRunAt code s limit bus turns None = Unit {0}
+MayRunAt code s limit bus turns (Some hand) = MayRun code s limit bus turns hand
 
 abbrev pub HasRunAt : Code → Shape → ℕ → Option Hand → Option Hand → Type 0
 HasRunAt code s limit None None = Unit {0}
@@ -76,12 +91,27 @@ HasRunAt code s limit (Some old) (Some new) = HasRun code s limit old new
 HasRunAt code s limit None (Some new) = ⊥
 HasRunAt code s limit (Some old) None = ⊥
 
-abbrev pub MayAllRun : Code → Shape → ℕ → BusView → Worker → Type 0
-MayAllRun code s limit bus worker = (n : ℕ) → MayRunAt code s limit bus (slice_index_or worker.hands.items n None)
+abbrev pub KeepsRoomAt : ℕ → Option Hand → Option Hand → Type 0
+KeepsRoomAt turns (Some old) (Some new) = KeepsRoom turns old.seat new.seat
+KeepsRoomAt turns (Some old) None = Unit {0}
+KeepsRoomAt turns None new = Unit {0}
+
+abbrev pub MayAllRun : Code → Shape → ℕ → BusView → ℕ → Worker → Type 0
+MayAllRun code s limit bus turns worker = (n : ℕ)
+    → MayRunAt code s limit bus turns (slice_index_or worker.hands.items n None)
 
 abbrev pub HaveAllRun : Code → Shape → ℕ → Worker → Worker → Type 0
 HaveAllRun code s limit old new = (n : ℕ)
     → HasRunAt code s limit (slice_index_or old.hands.items n None) (slice_index_or new.hands.items n None)
+
+abbrev pub KeepAllRoom : ℕ → Worker → Worker → Type 0
+KeepAllRoom turns old new = (n : ℕ)
+    → KeepsRoomAt turns (slice_index_or old.hands.items n None) (slice_index_or new.hands.items n None)
+
+-- whether a thread is at a place that is neither gone nor stopped
+abbrev pub goes_on : Option Hand → Bool
+goes_on None = false
+goes_on (Some hand) = is_on hand.seat
 
 -- the hand of this number at this worker
 abbrev pub hand_at : List Worker → ℕ → ℕ → Worker → Option Hand
@@ -125,18 +155,6 @@ HasRoomAt (Some old) (Some new) = HasRoom old new
 HasRoomAt None None = Unit {0}
 HasRoomAt (Some old) None = ⊥
 HasRoomAt None (Some new) = ⊥
-
--- a hand of this bus may go on, once there is room for what its thread prints
-pub record MayGoOn (code : Code) (s : Shape) (limit : ℕ) (bus : BusView) (hand : Hand) : Type 0 where
-  pub bus_is : hand.port.bus ≡ bus.id
-  pub may : MayBeginAt code s limit hand.port.number hand.seat
-
-abbrev pub MayGoOnAt : Code → Shape → ℕ → BusView → Option Hand → Type 0
-MayGoOnAt code s limit bus None = Unit {0}
-MayGoOnAt code s limit bus (Some hand) = MayGoOn code s limit bus hand
-
-abbrev pub MayAllGoOn : Code → Shape → ℕ → BusView → Worker → Type 0
-MayAllGoOn code s limit bus worker = (n : ℕ) → MayGoOnAt code s limit bus (slice_index_or worker.hands.items n None)
 
 -- ---- between two rounds
 -- they are on the bus of the threads, and none is looked at that is not there

@@ -1,10 +1,11 @@
 //! A thread in a round.
 
-ghost use Rattle.std.specs.Prelude.{◌≡◌, ◌≤◌, true, length};
+ghost use Rattle.std.specs.Prelude.{◌≡◌, ◌<◌, ◌≤◌, true, Some, length};
 ghost use Rattle.sharc_word.specs.declared.step.TheConstants.{THREADS as threads};
 ghost use Rattle.sharc_code.specs.Layout.{Fits, words_of};
+ghost use Rattle.sharc_code.specs.Path.{may_go};
 ghost use Rattle.sharc_cpu.specs.Rows.{IsPlan};
-ghost use Rattle.sharc_rounds.specs.Round.{MayQuantum, HasRun, MayRun};
+ghost use Rattle.sharc_rounds.specs.Round.{MayTurn, HasRun, MayRun, KeepsRoom, is_on};
 
 use crate::gate::{Gate, GatedPort};
 use crate::share::most_events;
@@ -12,7 +13,6 @@ use crate::stint::Stint;
 use sharc_bus::{Bus, BusPort, BusSeat, name_laws};
 use sharc_code::{Code, Shape};
 use sharc_cpu::{RowPlan, Thread, run_trying};
-use sharc_threads::is_on;
 use sharc_word::place_laws;
 
 /// A place of the table of threads, and its seat on the bus of the round.
@@ -22,7 +22,7 @@ pub(crate) struct Hand {
     pub(crate) port: BusSeat,
 }
 
-// One stint of a thread, if it is neither gone nor stopped.
+// One stint of a thread that is neither gone nor stopped.
 fn run_thread<G: Gate>(
     mut thread: Thread,
     port: BusSeat,
@@ -39,17 +39,14 @@ fn run_thread<G: Gate>(
     requires fits { Fits code.now shape.now }
     requires words { length bus.now.opening ≡ words_of shape.now }
     requires bus { port.bus ≡ bus.now.id }
-    requires may { MayQuantum code.now shape.now limit thread port.number }
-    ensures { HasRun code.now shape.now limit record { seat = Some thread; port = port } result }
+    requires some { 0 < stint.turns }
+    requires on { may_go thread.machine.at.state ≡ true }
+    requires may { MayTurn code.now shape.now limit stint.turns thread port.number }
+    ensures ran { HasRun code.now shape.now limit record { seat = Some thread; port = port } result }
+    ensures room { KeepsRoom stint.turns (Some thread) result.seat }
 {
     name_laws();
     place_laws();
-    if !is_on(&thread) {
-        return Hand {
-            seat: Some(thread),
-            port,
-        };
-    }
     let most = most_events(thread.made(), limit);
     let mut port = GatedPort {
         port: BusPort::of(bus, port),
@@ -63,9 +60,9 @@ fn run_thread<G: Gate>(
         shape,
         &mut thread,
         &mut port,
-        stint.turns(),
+        stint.turns,
         most,
-        stint.tries(),
+        stint.tries,
     );
     let GatedPort { port, .. } = port;
     Hand {
@@ -75,7 +72,7 @@ fn run_thread<G: Gate>(
 }
 
 impl Hand {
-    /// One stint of the thread, if one is there that is neither gone nor stopped.
+    /// One stint of the thread, which is neither gone nor stopped.
     pub(crate) fn run<G: Gate>(
         self,
         code: &Code,
@@ -90,8 +87,11 @@ impl Hand {
         requires plan { IsPlan code.now plan.now }
         requires fits { Fits code.now shape.now }
         requires words { length bus.now.opening ≡ words_of shape.now }
-        requires may { MayRun code.now shape.now limit bus.now self }
-        ensures { HasRun code.now shape.now limit self result }
+        requires some { 0 < stint.turns }
+        requires on { is_on self.seat ≡ true }
+        requires may { MayRun code.now shape.now limit bus.now stint.turns self }
+        ensures ran { HasRun code.now shape.now limit self result }
+        ensures room { KeepsRoom stint.turns self.seat result.seat }
     {
         let Hand { seat, port } = self;
         match seat {

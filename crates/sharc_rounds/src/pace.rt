@@ -1,9 +1,13 @@
 //! Who makes a round: workers at the same time, or the caller alone, by how fast the rounds of both were.
 
 ghost use Rattle.std.specs.Prelude.{◌≡◌, ◌<◌, None, IsSome};
-ghost use Rattle.sharc_rounds.specs.Pace.{is_as_high, or_others, next_makers};
+ghost use Rattle.sharc_rounds.specs.declared.stint.TheConstants.{QUANTUM as quantum};
+ghost use Rattle.sharc_rounds.specs.Pace.{made_by, keeps_up, or_others, next_makers};
+ghost use Rattle.sharc_rounds.specs.Pace.{three_quarters, speed_of, speed_with, since_with, pace_with, pace_after};
 
 use crate::busy::Busy;
+use crate::stint::{QUANTUM, Stint};
+use sharc_cpu::Thread;
 
 /// Who makes a round.
 #[derive(Clone, Copy, PartialEq, Eq)]
@@ -41,8 +45,22 @@ pub(crate) struct Pace {
     pub(crate) since: u64,
 }
 
-/// Whoever is not the faster one is tried again behind this many times the time that it took last.
-pub(crate) const APART: u64 = 32;
+/// Workers are tried once the caller has gone on for this many times the time of its last rounds.
+pub(crate) const FIRST: u64 = 4;
+
+/// Who did not make the last rounds is tried again once the others have gone on for this many times as long as its own
+/// last rounds took.
+pub(crate) const APART: u64 = 16;
+
+/// The events that the thread which is there has made.
+pub(crate) fn made_by(seat: &Option<Thread>) -> u64
+    ensures { result ≡ made_by seat.now }
+{
+    match seat {
+        None => 0,
+        Some(thread) => thread.made(),
+    }
+}
 
 impl Makers {
     /// To how many workers the threads are dealt, where so many would be needed.
@@ -56,11 +74,34 @@ impl Makers {
             Makers::CallerByParts => 1,
         }
     }
+
+    /// In how many threads of the system so many workers work.
+    pub(crate) fn threads(self, workers: usize) -> usize
+        requires { 0 < workers }
+        ensures some { 0 < result }
+    {
+        match self {
+            Makers::Workers => workers,
+            Makers::Caller | Makers::CallerByParts => 1,
+        }
+    }
+
+    /// What each thread makes in one go, where it makes its quantum so.
+    pub(crate) fn stint(self) -> Stint
+        ensures { result.turns ≡ quantum }
+    {
+        match self {
+            Makers::Workers => Stint::beside(),
+            Makers::Caller | Makers::CallerByParts => Stint::alone(QUANTUM),
+        }
+    }
 }
 
 impl Lap {
     // How fast it was, if the time was told.
-    fn speed(self) -> Option<Speed> {
+    fn speed(self) -> Option<Speed>
+        ensures { result ≡ speed_of self.events self.begun self.ended }
+    {
         match (self.begun, self.ended) {
             (Some(begun), Some(ended)) => Some(Speed {
                 events: self.events,
@@ -71,32 +112,42 @@ impl Lap {
     }
 }
 
+fn three_quarters(n: u64) -> u64
+    ensures { result ≡ three_quarters n }
+{
+    n - n / 4
+}
+
 impl Speed {
-    // Whether it is at least as high.
-    fn is_as_high(self, other: Speed) -> bool
-        ensures { result ≡ is_as_high self other }
+    // Whether it is at least eight ninths of the other one.
+    fn keeps_up(self, other: Speed) -> bool
+        ensures { result ≡ keeps_up self other }
     {
-        u128::from(self.events) * u128::from(other.nanoseconds)
-            >= u128::from(other.events) * u128::from(self.nanoseconds)
+        let one = u128::from(self.events) * u128::from(other.nanoseconds);
+        let other = u128::from(other.events) * u128::from(self.nanoseconds);
+        other - other / 9 <= one
     }
 
-    // With one more round: the last one counts as much as all before it.
-    fn with(before: Option<Speed>, round: Speed) -> Speed {
+    // With one more round: what was before it counts a quarter less.
+    fn with(before: Option<Speed>, round: Speed) -> Speed
+        ensures { result ≡ speed_with before round }
+    {
         match before {
             None => round,
             Some(before) => Speed {
-                events: (before.events / 2).saturating_add(round.events),
-                nanoseconds: (before.nanoseconds / 2).saturating_add(round.nanoseconds),
+                events: three_quarters(before.events).saturating_add(round.events),
+                nanoseconds: three_quarters(before.nanoseconds).saturating_add(round.nanoseconds),
             },
         }
     }
 }
 
-// The faster ones, or the others, if these took so long and the faster ones have gone on for that long.
-fn or_others(faster: Makers, others: Makers, took: u64, since: u64) -> Makers
-    ensures { result ≡ or_others faster others took since }
+// These, or the others, if these have gone on for more than so many times as long as the others took.
+fn or_others(these: Makers, others: Makers, times: u64, took: u64, since: u64) -> Makers
+    requires { 0 < times }
+    ensures { result ≡ or_others these others times took since }
 {
-    if took < since / APART { others } else { faster }
+    if took < since / times { others } else { these }
 }
 
 impl Pace {
@@ -114,24 +165,15 @@ impl Pace {
     fn next(self) -> Makers
         ensures { result ≡ next_makers self.parts self.workers self.since }
     {
+        let (caller, workers) = (Makers::CallerByParts, Makers::Workers);
         match (self.parts, self.workers) {
-            (None, _) => Makers::CallerByParts,
-            (_, None) => Makers::Workers,
-            (Some(parts), Some(workers)) => {
-                if parts.is_as_high(workers) {
-                    or_others(
-                        Makers::CallerByParts,
-                        Makers::Workers,
-                        workers.nanoseconds,
-                        self.since,
-                    )
+            (None, _) => caller,
+            (Some(parts), None) => or_others(caller, workers, FIRST, parts.nanoseconds, self.since),
+            (Some(one), Some(other)) => {
+                if one.keeps_up(other) {
+                    or_others(caller, workers, APART, other.nanoseconds, self.since)
                 } else {
-                    or_others(
-                        Makers::Workers,
-                        Makers::CallerByParts,
-                        parts.nanoseconds,
-                        self.since,
-                    )
+                    or_others(workers, caller, APART, one.nanoseconds, self.since)
                 }
             }
         }
@@ -151,13 +193,23 @@ impl Pace {
         }
     }
 
+    // How long those who made the last round have gone on, where these made one more that took so long.
+    fn since_with(self, makers: Makers, took: u64) -> u64
+        ensures { result ≡ since_with makers self.last self.since took }
+    {
+        match (makers, self.last) {
+            (Makers::Workers, Makers::Workers) | (Makers::CallerByParts, Makers::CallerByParts) => {
+                self.since.saturating_add(took)
+            }
+            _ => took,
+        }
+    }
+
     // After a round that these made so fast.
-    fn with(self, makers: Makers, round: Speed) -> Pace {
-        let since = if makers == self.last {
-            self.since.saturating_add(round.nanoseconds)
-        } else {
-            round.nanoseconds
-        };
+    fn with(self, makers: Makers, round: Speed) -> Pace
+        ensures { result ≡ pace_with self makers round }
+    {
+        let since = self.since_with(makers, round.nanoseconds);
         match makers {
             Makers::Workers => Pace {
                 parts: self.parts,
@@ -176,7 +228,9 @@ impl Pace {
     }
 
     /// After a round that these made, where so many workers were busy. It counts only where several were.
-    pub(crate) fn after(self, busy: Busy, makers: Makers, lap: Lap) -> Pace {
+    pub(crate) fn after(self, busy: Busy, makers: Makers, lap: Lap) -> Pace
+        ensures { result ≡ pace_after self busy makers (speed_of lap.events lap.begun lap.ended) }
+    {
         match (busy, lap.speed()) {
             (Busy::Several, Some(round)) => self.with(makers, round),
             _ => self,

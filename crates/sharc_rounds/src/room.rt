@@ -18,8 +18,8 @@ fn make_room(thread: &mut Thread) -> Result<(), AllocError>
     Ok(())
 }
 
-/// Makes room for the prints of a quantum of the thread that is there, if it goes on.
-pub(crate) fn make_room_at(seat: &mut Option<Thread>) -> Result<(), AllocError>
+// Makes room for the prints of a quantum of the thread that is there, if it goes on.
+fn make_room_at(seat: &mut Option<Thread>) -> Result<(), AllocError>
     ensures { OnOk result (HasRoomAt seat.old seat.new) }
 {
     match seat {

@@ -1,16 +1,16 @@
 //! One round.
 
-ghost use Rattle.std.specs.Prelude.{◌≡◌, ◌<◌, ℕ, length, IfOk, OnOk, slice_index_or};
+ghost use Rattle.std.specs.Prelude.{◌≡◌, ◌<◌, ℕ, length, IfOk, slice_index_or};
 ghost use Rattle.sharc_word.specs.declared.step.TheConstants.{THREADS as threads};
 ghost use Rattle.sharc_code.specs.Layout.{Fits, words_of};
 ghost use Rattle.sharc_cpu.specs.Rows.{IsPlan};
+ghost use Rattle.sharc_rounds.specs.declared.stint.TheConstants.{QUANTUM as quantum};
 ghost use Rattle.sharc_rounds.specs.declared.worker.Worker.{Worker};
 ghost use Rattle.sharc_rounds.specs.Round.{MayBegin, MayAllRun, HaveAllRun, MadeRound, AreWords, KeptBus};
 
 use crate::gate::Gate;
 use crate::pace::Makers;
 use crate::room::reserve;
-use crate::stint::Stint;
 use crate::words::Words;
 use crate::worker::{Worker, deal, gather, run_all, workers_needed};
 use sharc_bus::Bus;
@@ -39,7 +39,7 @@ fn work<R: Threads + Sync, G: Gate + Sync>(
     limit: u64,
     crew: &mut Vec<Worker>,
     makers: Makers,
-) -> Result<(), AllocError>
+)
     requires plan { IsPlan code.now plan.now }
     requires fits { Fits code.now shape.now }
     requires words { length bus.now.opening ≡ words_of shape.now }
@@ -47,48 +47,19 @@ fn work<R: Threads + Sync, G: Gate + Sync>(
     requires some { 0 < length crew.old.items }
     requires alone { makers ≡ Makers.CallerByParts → length crew.old.items ≡ 1 }
     requires may { (w : ℕ) (d : Worker) → w < length crew.old.items
-        → MayAllRun code.now shape.now limit bus.now (slice_index_or crew.old.items w d) }
+        → MayAllRun code.now shape.now limit bus.now quantum (slice_index_or crew.old.items w d) }
     ensures count { length crew.new.items ≡ length crew.old.items }
-    ensures each { OnOk result ((w : ℕ) (d : Worker) → w < length crew.old.items → HaveAllRun code.now shape.now limit
-        (slice_index_or crew.old.items w d) (slice_index_or crew.new.items w d)) }
+    ensures each { (w : ℕ) (d : Worker) → w < length crew.old.items → HaveAllRun code.now shape.now limit
+        (slice_index_or crew.old.items w d) (slice_index_or crew.new.items w d) }
 {
     match makers {
-        Makers::Workers => {
-            let threads = crew.len();
+        Makers::CallerByParts => crew[0].run_by_parts(code, plan, shape, bus, gate, workers, limit),
+        Makers::Workers | Makers::Caller => {
+            let threads = makers.threads(crew.len());
+            let stint = makers.stint();
             run_all(
-                rt,
-                code,
-                plan,
-                shape,
-                bus,
-                gate,
-                workers,
-                limit,
-                crew,
-                threads,
-                Stint::Beside,
+                rt, code, plan, shape, bus, gate, workers, limit, crew, threads, stint,
             );
-            Ok(())
-        }
-        Makers::Caller => {
-            run_all(
-                rt,
-                code,
-                plan,
-                shape,
-                bus,
-                gate,
-                workers,
-                limit,
-                crew,
-                1,
-                Stint::Alone,
-            );
-            Ok(())
-        }
-        Makers::CallerByParts => {
-            crew[0].run_by_parts(code, plan, shape, bus, gate, workers, limit)?;
-            Ok(())
         }
     }
 }
@@ -128,7 +99,7 @@ impl Rounds {
         let mut crew = deal(alloc, count, seats, ports)?;
         work(
             rt, code, plan, shape, &bus, gate, workers, limit, &mut crew, makers,
-        )?;
+        );
         let (seats, ports) = gather(alloc, crew)?;
         let rest = bus.end(round, ports);
         Ok(Rounds {

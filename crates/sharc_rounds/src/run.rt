@@ -5,11 +5,12 @@ ghost use Rattle.sharc_code.specs.Layout.{Fits};
 ghost use Rattle.sharc_threads.specs.Seats.{left, may_turn_at};
 ghost use Rattle.sharc_cpu.specs.Rows.{IsPlan};
 ghost use Rattle.sharc_rounds.specs.Round.{AreRounds};
+ghost use Rattle.sharc_rounds.specs.Pace.{events_of};
 ghost use Rattle.sharc_rounds.specs.Run.{IsRoundsRun};
 
 use crate::gate::Gate;
 use crate::laws::round_laws;
-use crate::pace::{Lap, Makers, Pace};
+use crate::pace::{Lap, Makers, Pace, made_by};
 use crate::round::Rounds;
 use crate::words::Words;
 use sharc_code::{Code, Shape, fits_law, opening, run_laws};
@@ -26,14 +27,6 @@ pub struct RoundsRun {
     pub end: End,
 }
 
-// The events that the thread which is there has made.
-fn events_at(seat: &Option<Thread>) -> u64 {
-    match seat {
-        None => 0,
-        Some(thread) => thread.made(),
-    }
-}
-
 impl Rounds {
     // Before the first round.
     fn new(alloc: Global, code: &Code, shape: &Shape, limit: u64) -> Result<Rounds, AllocError>
@@ -46,10 +39,12 @@ impl Rounds {
     }
 
     // The events that the threads have made.
-    fn events(&self) -> u64 {
+    fn events(&self) -> u64
+        ensures { result ≡ events_of self.now.threads.seats.items }
+    {
         let mut all: u64 = 0;
         for n in 0..self.threads.seats.len() {
-            all = all.saturating_add(events_at(&self.threads.seats[n]));
+            all = all.saturating_add(made_by(&self.threads.seats[n]));
         }
         all
     }

@@ -1,6 +1,6 @@
 //! How many turns a thread makes in one go.
 
-ghost use Rattle.std.specs.Prelude.{◌≡◌, ◌≤◌, ◌<◌};
+ghost use Rattle.std.specs.Prelude.{◌≡◌};
 ghost use Rattle.sharc_rounds.specs.declared.stint.TheConstants.{QUANTUM as quantum};
 
 /// The turns of a quantum.
@@ -10,34 +10,28 @@ pub const QUANTUM: u32 = 50_000;
 /// waits for may go on meanwhile.
 const TRIES: u32 = 64;
 
-/// What a thread makes in one go.
+/// What a thread makes in one go: at most so many turns, and so many failed tries in a row behind the first one.
 #[derive(Clone, Copy)]
-pub(crate) enum Stint {
-    /// A quantum, while others work.
-    Beside,
-    /// A quantum, while nobody else works.
-    Alone,
-    /// A part of a quantum of so many turns, while nobody else works.
-    Part(u32),
+pub(crate) struct Stint {
+    pub(crate) turns: u32,
+    pub(crate) tries: u32,
 }
 
 impl Stint {
-    /// The turns of it.
-    pub(crate) fn turns(self) -> u32
-        ensures some { 0 < result }
-        ensures few { result ≤ quantum }
+    /// A quantum, while others work.
+    pub(crate) fn beside() -> Stint
+        ensures { result.turns ≡ quantum }
     {
-        match self {
-            Stint::Beside | Stint::Alone => QUANTUM,
-            Stint::Part(turns) => turns.max(1).min(QUANTUM),
+        Stint {
+            turns: QUANTUM,
+            tries: TRIES,
         }
     }
 
-    /// The failed tries that a thread makes behind the first one. Where nobody else works, nobody goes on meanwhile.
-    pub(crate) fn tries(self) -> u32 {
-        match self {
-            Stint::Beside => TRIES,
-            Stint::Alone | Stint::Part(_) => 0,
-        }
+    /// So many turns, while nobody else works. Nobody goes on meanwhile, so no failed try is made again.
+    pub(crate) fn alone(turns: u32) -> Stint
+        ensures { result.turns ≡ turns }
+    {
+        Stint { turns, tries: 0 }
     }
 }

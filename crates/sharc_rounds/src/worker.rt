@@ -8,7 +8,8 @@ ghost use Rattle.sharc_bus.specs.Bus.{SeatView};
 ghost use Rattle.sharc_cpu.specs.Rows.{IsPlan};
 ghost use Rattle.sharc_rounds.specs.declared.hand.Hand.{Hand};
 ghost use Rattle.sharc_rounds.specs.declared.worker.Worker.{Worker};
-ghost use Rattle.sharc_rounds.specs.Round.{MayRunAt, HasRunAt, MayAllRun, HaveAllRun, Seat, hand_at};
+ghost use Rattle.sharc_rounds.specs.Round.{MayRunAt, HasRunAt, KeepsRoomAt, MayAllRun, HaveAllRun, KeepAllRoom};
+ghost use Rattle.sharc_rounds.specs.Round.{Seat, goes_on, hand_at};
 ghost use Rattle.sharc_rounds.specs.Shares.{needed};
 
 use crate::gate::Gate;
@@ -17,6 +18,7 @@ use crate::stint::Stint;
 use sharc_bus::{Bus, BusSeat};
 use sharc_code::{Code, Shape};
 use sharc_cpu::{RowPlan, Thread};
+use sharc_threads::is_on;
 use sharc_word::THREADS;
 use std::alloc::{AllocError, Global};
 use std::thread;
@@ -49,9 +51,22 @@ pub fn workers_needed(seats: &[Option<Thread>], workers: u32) -> u32
     }
 }
 
-// One stint of the thread at a place, if there is one.
+// Whether a thread is at the place that is neither gone nor stopped.
+fn goes_on(hand: &Option<Hand>) -> bool
+    ensures { result ≡ goes_on hand.now }
+{
+    match hand {
+        None => false,
+        Some(hand) => match &hand.seat {
+            None => false,
+            Some(thread) => is_on(thread),
+        },
+    }
+}
+
+// One stint of the thread at a place, if one is there that is neither gone nor stopped.
 fn run_at<G: Gate>(
-    hand: Option<Hand>,
+    hand: &mut Option<Hand>,
     code: &Code,
     plan: &RowPlan,
     shape: &Shape,
@@ -60,17 +75,22 @@ fn run_at<G: Gate>(
     number: u32,
     limit: u64,
     stint: Stint,
-) -> Option<Hand>
+)
     requires plan { IsPlan code.now plan.now }
     requires fits { Fits code.now shape.now }
     requires words { length bus.now.opening ≡ words_of shape.now }
-    requires may { MayRunAt code.now shape.now limit bus.now hand }
-    ensures { HasRunAt code.now shape.now limit hand result }
+    requires some { 0 < stint.turns }
+    requires may { MayRunAt code.now shape.now limit bus.now stint.turns hand.old }
+    ensures ran { HasRunAt code.now shape.now limit hand.old hand.new }
+    ensures room { KeepsRoomAt stint.turns hand.old hand.new }
 {
-    match hand {
+    if !goes_on(hand) {
+        return;
+    }
+    *hand = match hand.take() {
         None => None,
         Some(hand) => Some(hand.run(code, plan, shape, bus, gate, number, limit, stint)),
-    }
+    };
 }
 
 impl Worker {
@@ -86,8 +106,8 @@ impl Worker {
         Ok(Worker { hands })
     }
 
-    // One stint of each thread, in rising order of their numbers.
-    fn run<G: Gate>(
+    /// One stint of each thread, in rising order of their numbers.
+    pub(crate) fn run<G: Gate>(
         &mut self,
         code: &Code,
         plan: &RowPlan,
@@ -102,13 +122,24 @@ impl Worker {
         requires plan { IsPlan code.now plan.now }
         requires fits { Fits code.now shape.now }
         requires words { length bus.now.opening ≡ words_of shape.now }
-        requires may { MayAllRun code.now shape.now limit bus.now self.old }
-        ensures { HaveAllRun code.now shape.now limit self.old self.new }
+        requires some { 0 < stint.turns }
+        requires may { MayAllRun code.now shape.now limit bus.now stint.turns self.old }
+        ensures ran { HaveAllRun code.now shape.now limit self.old self.new }
+        ensures room { KeepAllRoom stint.turns self.old self.new }
     {
         for n in 0..self.hands.len() {
-            let hand = self.hands[n].take();
             let worker = (n % workers as usize) as u32;
-            self.hands[n] = run_at(hand, code, plan, shape, bus, gate, worker, limit, stint);
+            run_at(
+                &mut self.hands[n],
+                code,
+                plan,
+                shape,
+                bus,
+                gate,
+                worker,
+                limit,
+                stint,
+            );
         }
     }
 }
@@ -176,8 +207,9 @@ pub(crate) fn run_all<R: Threads + Sync, G: Gate + Sync>(
     requires words { length bus.now.opening ≡ words_of shape.now }
     requires workers { 0 < workers }
     requires threads { 0 < threads }
+    requires some { 0 < stint.turns }
     requires may { (w : ℕ) (d : Worker) → w < length crew.old.items
-        → MayAllRun code.now shape.now limit bus.now (slice_index_or crew.old.items w d) }
+        → MayAllRun code.now shape.now limit bus.now stint.turns (slice_index_or crew.old.items w d) }
     ensures count { length crew.new.items ≡ length crew.old.items }
     ensures each { (w : ℕ) (d : Worker) → w < length crew.old.items → HaveAllRun code.now shape.now limit
         (slice_index_or crew.old.items w d) (slice_index_or crew.new.items w d) }
@@ -191,7 +223,8 @@ pub(crate) fn run_all<R: Threads + Sync, G: Gate + Sync>(
             requires fits { Fits code.now shape.now }
             requires words { length bus.now.opening ≡ words_of shape.now }
             requires workers { 0 < workers }
-            requires may { MayAllRun code.now shape.now limit bus.now worker.old }
+            requires some { 0 < stint.turns }
+            requires may { MayAllRun code.now shape.now limit bus.now stint.turns worker.old }
             ensures { HaveAllRun code.entry.now shape.entry.now limit worker.old worker.new }
         { worker.run(code, plan, shape, bus, gate, workers, limit, stint) },
     );

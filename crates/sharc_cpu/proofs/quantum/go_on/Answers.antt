@@ -12,7 +12,8 @@ tries-init g c = record {
   failed = omega arith;
   within = c.requires.within;
   number = refl;
-  room = omega (arith, c.requires.room);
+  prints = omega arith;
+  capacity = refl;
   port = record { words = refl; same = refl; served = λ thread h. h };
 }
 
@@ -30,7 +31,8 @@ tries-preserved g c =
       failed = again.failed c.if-not-again.false;
       within = told.within;
       number = told.number ∙ old.number;
-      room = omega (arith, told.prints, told.capacity, old.room);
+      prints = omega (arith, told.prints, old.prints);
+      capacity = told.capacity ∙ old.capacity;
       port = record {
         words = told.port.words ∙ old.port.words;
         same = told.port.same ∙ old.port.same;
@@ -61,6 +63,12 @@ returns-then-not-again-clause-none g c = λ e lt.
     let m = c.remaining-most.ensures.most (omega (arith, none, told.events, lt, z)) in
     omega (arith, z, m, before)
 
+pub returns-then-not-again-clause-prints : goal.returns-then-not-again-clause-prints
+returns-then-not-again-clause-prints g c = omega (arith, c.go-more.ensures.prints, c.tries.invariant.prints)
+
+pub returns-then-not-again-clause-capacity : goal.returns-then-not-again-clause-capacity
+returns-then-not-again-clause-capacity g c = c.go-more.ensures.capacity ∙ c.tries.invariant.capacity
+
 pub returns-then-not-again-clause-number : goal.returns-then-not-again-clause-number
 returns-then-not-again-clause-number g c = c.go-more.ensures.number ∙ c.tries.invariant.number
 
@@ -85,7 +93,7 @@ pub go-more-requires-clause-within : goal.go-more-requires-clause-within
 go-more-requires-clause-within g c = c.tries.invariant.within
 
 pub go-more-requires-clause-room : goal.go-more-requires-clause-room
-go-more-requires-clause-room g c = omega (arith, c.tries.invariant.room, c.remaining-most.ensures.turns)
+go-more-requires-clause-room g c = omega (arith, c.requires.room, c.tries.invariant.prints, c.tries.invariant.capacity, c.remaining-most.ensures.turns)
 
 pub go-more-requires-clause-words : goal.go-more-requires-clause-words
 go-more-requires-clause-words g c = c.tries.invariant.port.words ∙ c.requires.words

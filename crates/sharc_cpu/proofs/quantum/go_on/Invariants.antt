@@ -12,7 +12,8 @@ invariant-tries g l = record {
   failed : l.failed ≤ l.tries;
   within : IsWithin l.shape (rest_of l.parts).own;
   number : l.parts.number ≡ l.fn.parts.number;
-  room : vec_len l.parts.prints + l.turns ≤ vec_capacity l.parts.prints + l.went.turns;
+  prints : vec_len l.parts.prints ≤ vec_len l.fn.parts.prints + l.went.turns;
+  capacity : vec_capacity l.parts.prints ≡ vec_capacity l.fn.parts.prints;
   port : KeepsPort g.P.Port.count g.P.Port.name g.P.Port.serves l.fn.port l.port;
 }
 

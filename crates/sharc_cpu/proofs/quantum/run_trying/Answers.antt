@@ -1,4 +1,4 @@
-use Rattle.std.proofs.Common.{◌≡◌, ◌+◌, ℕ, sym, ap, ◌∙◌, subst, arith}
+use Rattle.std.proofs.Common.{◌≡◌, ◌+◌, ◌-◌, ◌≤◌, ℕ, vec_len, vec_capacity, sym, ap, ◌∙◌, subst, arith}
 use Rattle.sharc_code.specs.{declared.state.TurnState.TurnState, Machine.Machine, Waits.wait_of}
 use Rattle.sharc_code.specs.declared.state.TurnState.TheVariants as states
 use Rattle.sharc_cpu.specs.{Thread.ThreadView, declared.parts.ThreadParts.ThreadParts, View.{machine_of, rest_of, IsWithin}, Quantum.{GoesWhere, pause_of}}
@@ -78,3 +78,13 @@ returns-clause-stopped g c =
     (ap (λ (n : ℕ). n + c.go_on-went.result.made) (ap (λ (v : ThreadView). v.made) c.thread.view_is))
     (subst (λ (p : ThreadParts). c.wait_of-thread-inside.result ≡ wait_of c.args.code.now c.args.shape.now (machine_of c.go_on-went.result.at p)) c.deref.ensures c.wait_of-thread-inside.ensures))
     c.answer.ensures
+
+pub returns-clause-room : goal.returns-clause-room
+returns-clause-room g c =
+    let same = c.deref_mut.ensures.value in
+    let new : ThreadParts = c.go_on-went.new.parts in
+    let was : ThreadParts = c.thread.inside.parts.value in
+    let capacity : vec_capacity new.prints ≡ vec_capacity was.prints = c.go_on-went.ensures.capacity ∙ ap (λ (p : ThreadParts). vec_capacity p.prints) same in
+    let prints : vec_len new.prints ≤ vec_len was.prints + c.go_on-went.result.turns = subst (λ (p : ThreadParts). vec_len new.prints ≤ vec_len p.prints + c.go_on-went.result.turns) same c.go_on-went.ensures.prints in
+    let room : vec_capacity was.prints - vec_len was.prints ≡ c.args.thread.now.room = ap (λ (v : ThreadView). v.room) c.thread.view_is in
+    omega (arith, capacity, prints, room, c.go_on-went.ensures.few)

@@ -1,21 +1,14 @@
 use Rattle.std.proofs.Common.{◌≡◌, ℕ, Some, sym, ap, ◌∙◌, subst, arith}
 use Rattle.sharc_bus.specs.Bus.{SeatView, PortView, NamesTell}
 use Rattle.sharc_rounds.specs.Round.{HasRun}
-use Rattle.sharc_rounds.proofs.Running.{idle, ran, widened}
+use Rattle.sharc_rounds.proofs.Running.{ran, widened, room_left}
 use Rattle.sharc_rounds.proofs.hand.run_thread.Goals as goal
 
-pub returns-then-not-is_on : goal.returns-then-not-is_on
-returns-then-not-is_on g c =
-    idle c.args.code.now c.args.shape.now c.args.limit c.args.thread c.args.port c.requires.may.thread_is c.requires.may.within (sym c.is_on.ensures ∙ c.if-not-is_on.true)
-
 pub run_trying-requires-clause-room : goal.run_trying-requires-clause-room
-run_trying-requires-clause-room g c =
-    let room = c.requires.may.room (sym c.is_on.ensures ∙ c.if-not-is_on.false) in
-    let few = c.turns.ensures.few in
-    omega (arith, room, few)
+run_trying-requires-clause-room g c = c.requires.may.room c.requires.on
 
-pub returns : goal.returns
-returns g c =
+pub returns-clause-ran : goal.returns-clause-ran
+returns-clause-ran g c =
     let code = c.args.code.now in
     let s = c.args.shape.now in
     let port : SeatView = c.args.port in
@@ -27,8 +20,11 @@ returns g c =
     let serves : c.args.thread.machine.own.number ≡ was.number = sym c.requires.may.number_is ∙ ap (λ (p : SeatView). p.number) (sym same) in
     let run : HasRun code s c.args.limit record { seat = Some c.args.thread; port = was } record { seat = Some c.run_trying.new.thread; port = after } =
     widened code s c.most_events-most.result c.args.limit c.args.thread c.run_trying.new.thread was after c.most_events-most.ensures.within (λ low. let e = c.made.ensures in let more = c.most_events-most.ensures.more (omega (arith, low, e)) in omega (arith, more, e))
-    (ran code s c.most_events-most.result c.place_laws.ensures (λ (t : ℕ). t ≡ was.number) c.turns.result c.turns.ensures.some c.args.thread c.run_trying.new.thread was after c.run_trying.result c.run_trying.ensures.quantum
+    (ran code s c.most_events-most.result c.place_laws.ensures (λ (t : ℕ). t ≡ was.number) c.args.stint.turns c.requires.some c.args.thread c.run_trying.new.thread was after c.run_trying.result c.run_trying.ensures.quantum
     c.run_trying.ensures.thread c.run_trying.ensures.number serves name.0 name.1) in
     let there : HasRun code s c.args.limit record { seat = Some c.args.thread; port = port } record { seat = Some c.run_trying.new.thread; port = after } =
     subst (λ (p : SeatView). HasRun code s c.args.limit record { seat = Some c.args.thread; port = p } record { seat = Some c.run_trying.new.thread; port = after }) same run in
     subst (λ (p : SeatView). HasRun code s c.args.limit record { seat = Some c.args.thread; port = port } record { seat = Some c.run_trying.new.thread; port = p }) (sym c.into_seat.ensures) there
+
+pub returns-clause-room : goal.returns-clause-room
+returns-clause-room g c = room_left c.args.stint.turns c.args.thread c.run_trying.new.thread c.requires.on c.run_trying.ensures.room

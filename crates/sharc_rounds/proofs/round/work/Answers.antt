@@ -1,6 +1,5 @@
 use Rattle.std.proofs.{Common.{◌≡◌, get_or, set, sym, ◌∙◌, subst, arith}, lemmas.List.{get_or-set_same}}
-use Rattle.sharc_rounds.specs.{declared.worker.Worker.Worker, Round.{MayAllRun, HaveAllRun}}
-use Rattle.sharc_rounds.proofs.Joining.{all_may_go_on}
+use Rattle.sharc_rounds.specs.{declared.worker.Worker.Worker, declared.stint.TheConstants.QUANTUM, Round.{MayAllRun, HaveAllRun}}
 use Rattle.sharc_rounds.proofs.round.work.Goals as goal
 use Rattle.sharc_lemmas.proofs.Lists.{any_default}
 
@@ -9,11 +8,10 @@ run_by_parts-requires-clause-may g c =
     let code = c.args.code.now in
     let s = c.args.shape.now in
     let first : Worker = c.index_mut.result.now in
-    all_may_go_on code s c.args.limit c.args.bus.now first
-    (subst (λ (w : Worker). MayAllRun code s c.args.limit c.args.bus.now w) (sym c.index_mut.ensures.value) (c.requires.may 0 first c.requires.some))
+    subst (λ (w : Worker). MayAllRun code s c.args.limit c.args.bus.now QUANTUM w) (sym c.index_mut.ensures.value) (c.requires.may 0 first c.requires.some)
 
-pub returns-in_ok-run_by_parts-in-CallerByParts-clause-each : goal.returns-in_ok-run_by_parts-in-CallerByParts-clause-each
-returns-in_ok-run_by_parts-in-CallerByParts-clause-each g c = λ w d low.
+pub returns-in-CallerByParts-clause-each : goal.returns-in-CallerByParts-clause-each
+returns-in-CallerByParts-clause-each g c = λ w d low.
     let code = c.args.code.now in
     let s = c.args.shape.now in
     let all = c.args.crew.now.items in
@@ -25,4 +23,4 @@ returns-in_ok-run_by_parts-in-CallerByParts-clause-each g c = λ w d low.
     let was : first ≡ get_or all 0 d = c.index_mut.ensures.value ∙ any_default all 0 first d c.requires.some in
     let is : get_or (set all 0 new) 0 d ≡ new = get_or-set_same all 0 new d c.requires.some in
     subst (λ k. P (get_or all k d) (get_or (set all 0 new) k d)) e
-    (subst (λ y. P (get_or all 0 d) y) (sym is) (subst (λ x. P x new) was c.in_ok-run_by_parts-in-CallerByParts.ensures))
+    (subst (λ y. P (get_or all 0 d) y) (sym is) (subst (λ x. P x new) was c.run_by_parts.ensures))

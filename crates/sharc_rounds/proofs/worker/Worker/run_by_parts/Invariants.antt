@@ -1,5 +1,15 @@
-use Rattle.sharc_rounds.specs.Round.{HaveAllRun}
+use Rattle.std.proofs.Common.{◌≤◌, ◌<◌}
+use Rattle.sharc_rounds.specs.{declared.worker.Worker.Worker, declared.stint.TheConstants.QUANTUM, Round.{MayAllRun, HaveAllRun}}
 use Rattle.sharc_rounds.proofs.worker.Worker.run_by_parts.Given as goal
 
-abbrev pub invariant-loop-n : goal.invariant-loop-n
-invariant-loop-n g l = HaveAllRun l.code l.shape l.limit l.fn.self l.self
+abbrev pub invariant-parts : goal.invariant-parts
+invariant-parts g l = record {
+  may : MayAllRun l.code l.shape l.limit l.bus l.left l.self;
+  ran : (new : Worker) → HaveAllRun l.code l.shape l.limit l.self new → HaveAllRun l.code l.shape l.limit l.fn.self new;
+  some : 0 < l.left;
+  few : l.left ≤ QUANTUM;
+  part : 0 < l.part;
+}
+
+abbrev pub decreases-parts : goal.decreases-parts
+decreases-parts g l = l.left
