@@ -3,12 +3,11 @@
 
 Usage: programs.py [PROGRAM [PART..]]     (default: crates/sharc/out/sharc, which ./sharc builds)
 
-Parts: instructions, loops, rounds, neighbours, examples, load; all, if none is named. Each prints rows of a table. A time is the
-least of some runs (RUNS of the environment, else 5), in milliseconds by the clock on the wall, with the processor time
-(user and system) of that run in brackets. Runs by 1, 2 and 4 workers take turns, so that what else a machine does meets
-all of them. The load of the machine is printed with each part. Turns are told by the
-least number for `--events` with which a run of a small loop ends. C is compiled by gcc with include/sharc.h: plain at
--O0, with -fsanitize=thread, and plain under helgrind.
+Parts: instructions, loops, rounds, neighbours, examples, load; all, if none is named. Each prints rows of a table. A
+time is the least of some runs (RUNS of the environment, else 5), in milliseconds by the clock on the wall, with the
+processor time (user and system) of that run in brackets. Runs by 1, 2 and 4 workers are made in turn. The load of the
+machine is printed with each part. Turns are told by the least number for `--events` with which a run of a small loop
+ends. C is compiled by gcc with include/sharc.h: plain at -O0, with -fsanitize=thread, and plain under helgrind.
 """
 
 import os
@@ -42,24 +41,28 @@ class Run:
         self.status, self.text = done.returncode, done.stdout.decode()
 
     def __str__(self):
-        return f"{self.wall:.0f} ({self.used:.0f})"
+        return f"{shown(self.wall)} ({shown(self.used)})"
 
 
-def ended_well(words, text=""):
-    run = Run(words, text)
-    if run.status != 0:
-        sys.exit(f"{words}: status {run.status}, {run.text[-200:]!r}")
-    return run
+def shown(time):
+    """Milliseconds, with a tenth where it tells."""
+    return f"{time:.1f}" if time < 50 else f"{time:.0f}"
+
+
+def best_of_each(commands, text=""):
+    """The least of some runs of each command, made in turn: what else the machine does then meets all of them alike."""
+    least = {}
+    for _ in range(RUNS):
+        for place, words in enumerate(commands):
+            run = Run(words, text)
+            if run.status != 0:
+                sys.exit(f"{words}: status {run.status}, {run.text[-200:]!r}")
+            least[place] = min(least.get(place, run), run, key=lambda run: run.wall)
+    return [least[place] for place in range(len(commands))]
 
 
 def best(words, text=""):
     return best_of_each([words], text)[0]
-
-
-def best_of_each(commands, text=""):
-    """The best run of each command, where the commands take turns."""
-    sittings = [[ended_well(words, text) for words in commands] for _ in range(RUNS)]
-    return [min(runs, key=lambda run: run.wall) for runs in zip(*sittings)]
 
 
 def heading(text):
