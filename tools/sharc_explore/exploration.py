@@ -9,7 +9,7 @@ from multiprocessing.pool import ThreadPool
 from . import orders, overlap, references
 from .findings import MEANING, findings, parse
 from .lanes import Lanes
-from .program import Program, path_of, read_source
+from .program import Program, heap_for, path_of, read_source
 from .reached import unreached
 from .schedules import Ways
 from .shrink import Shrinker, shortest
@@ -25,7 +25,7 @@ class Exploration:
 
     def __init__(self, options):
         self.path, self.jobs = options.program, options.jobs
-        self.program = Program(read_source(self.path), options.granules, options.events)
+        self.program = Program(read_source(self.path), options.granules or heap_for(self.path), options.events)
         self.status, self.checked = self.program.check()
         self.statuses, self.found, self.tried = collections.Counter(), {}, collections.Counter()
         self.unreached, self.traced, self.budget = [], 0, TRACES
@@ -125,7 +125,7 @@ class Exploration:
             how = "predicted, and reached by a schedule made for it"
         again = f"{shlex.quote(path_of('sharc'))} replay < {shlex.quote(finding.file or '')}"
         if not finding.file:
-            limits = f" --granules {self.program.granules}" * (self.program.granules != 4096)
+            limits = f" --granules {self.program.granules}" * (self.program.granules != heap_for(self.path))
             limits += f" --events {self.program.events}" * (self.program.events != 100000)
             tool = os.path.join(os.path.dirname(sys.argv[0]), "sharc-explore")
             again = f"{tool} --from {finding.first} -n 1{limits} {shlex.quote(self.path)}"

@@ -24,7 +24,7 @@ class Arguments(argparse.ArgumentParser):
         self.add_argument("-n", type=int, default=1000, metavar="RUNS", help="how many runs (1000)")
         self.add_argument("--from", type=int, default=0, dest="first", metavar="N", help="the number of the first (0)")
         self.add_argument("--jobs", type=int, default=os.cpu_count(), help="how many at a time (processors)")
-        self.add_argument("--granules", type=int, default=4096, help="size of the heap, as of run (4096)")
+        self.add_argument("--granules", type=int, help="size of the heap, as of run or sharc-c run (4096; 65536)")
         self.add_argument("--events", type=int, default=100000, help="steps of a thread, at most 200000 (100000)")
         if name == "sharc-show":
             self.add_argument("-o", metavar="FILE", help="the page (PROGRAM.html)")

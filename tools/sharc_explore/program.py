@@ -8,6 +8,7 @@ from collections import namedtuple
 from .events import Trace
 
 TOOLS = os.path.dirname(os.path.dirname(os.path.realpath(__file__)))
+FRONT = os.path.join(TOOLS, "sharc-c")
 LONGEST = 200000                    # events of a thread, the most that replay takes
 Run = namedtuple("Run", "number status text")
 
@@ -20,16 +21,26 @@ def path_of(name):
     return os.environ.get(variable) or (beside if os.access(beside, os.X_OK) else name)
 
 
-def read_source(path):
-    """A file .c goes through the front for pthread C if it is there and wanted, else through gcc."""
+def is_for_front(path):
+    """Whether a file is C with pthreads, and the front for that is there."""
+    if not (path.endswith(".c") and os.path.isfile(FRONT)):
+        return False
     with open(path, "rb") as file:
-        source = file.read()
+        return re.search(rb"#[ \t]*include[ \t]*<pthread\.h>", file.read()) is not None
+
+
+def read_source(path):
+    """A file .c goes through the front or through gcc; any other is taken as it is."""
     if not path.endswith(".c"):
-        return source
-    front = os.path.join(TOOLS, "sharc-c")
-    wanted = re.search(rb"#[ \t]*include[ \t]*<pthread\.h>", source) and os.path.isfile(front)
-    words = [front, path] if wanted else ["gcc", "-E", "-DSHARC", path]
+        with open(path, "rb") as file:
+            return file.read()
+    words = [FRONT, path] if is_for_front(path) else ["gcc", "-E", "-DSHARC", path]
     return subprocess.run(words, stdout=subprocess.PIPE, check=True).stdout
+
+
+def heap_for(path):
+    """The granules of a heap that nobody asks for: as of run, or as of sharc-c run."""
+    return 65536 if is_for_front(path) else 4096
 
 
 def called(words, data):
