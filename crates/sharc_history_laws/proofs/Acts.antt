@@ -113,39 +113,6 @@ module _ (code : Code) (m : Machine) where
     pub freed : (r layout site all : ℕ) → i ≡ instrs.Free r layout site → m.own.stage ≡ Uncounts all → ref m r < 2 ^ 32
 
   pub about : (i : Instr) (found elements : ℕ) → AreLow i → About m.own.number (header_of i m.own.stage) (given_at i m) (freed_at i m) (said code i m found elements)
-  about (instrs.Constant r v) found elements low = none
-  about (instrs.Move r from) found elements low = none
-  about (instrs.MoveReference r from) found elements low = none
-  about (instrs.Null r) found elements low = none
-  about (instrs.ComputeInt operator r a b site) found elements low = none
-  about (instrs.ComputeLong operator r a b site) found elements low = none
-  about (instrs.NegateInt r a site) found elements low = none
-  about (instrs.NegateLong r a site) found elements low = none
-  about (instrs.Complement r a) found elements low = none
-  about (instrs.Not r a) found elements low = none
-  about (instrs.SameReference r a b) found elements low = none
-  about (instrs.ChkWidth width r site) found elements low = none
-  about (instrs.Jump pc) found elements low = none
-  about (instrs.JumpIfZero r pc) found elements low = none
-  about (instrs.JumpIfNull r pc) found elements low = none
-  about (instrs.Call pc ints refs site) found elements low = none
-  about (instrs.Return site) found elements low = none
-  about (instrs.ChkNull r site) found elements low = none
-  about (instrs.ChkHeld c site) found elements low = none
-  about (instrs.ChkNotHeld c site) found elements low = none
-  about (instrs.ChkPositive r site) found elements low = none
-  about (instrs.ChkRoom site) found elements low = none
-  about (instrs.ChkLock c site) found elements low = none
-  about (instrs.ChkLockLoaded site) found elements low = none
-  about (instrs.Bounds r base count field site) found elements low = none
-  about (instrs.GlobalBounds r all count field site) found elements low = none
-  about (instrs.ChkRead c site) found elements low = none
-  about (instrs.ChkWrite c site) found elements low = none
-  about (instrs.Raise r from) found elements low = none
-  about (instrs.RaiseLoaded r) found elements low = none
-  about (instrs.Lower r) found elements low = none
-  about (instrs.TestSole r site) found elements low = none
-  about (instrs.Clear r cells) found elements low = none
   about (instrs.Load r c site) found elements low = record { thread = refl; makes = refl; gives = refl; frees = refl }
   about (instrs.Store r c site) found elements low = record { thread = refl; makes = refl; gives = refl; frees = refl }
   about (instrs.LoadRef c site) found elements low = record { thread = refl; makes = refl; gives = refl; frees = refl }
@@ -166,6 +133,7 @@ module _ (code : Code) (m : Machine) where
   about instrs.Exit found elements low = at_exit m.own.stage
   about (instrs.CondWait c site) found elements low = either m.own.number None None None (waits_in found m.own.number) _ _ none (record { thread = refl; makes = refl; gives = refl; frees = refl })
   about (instrs.CondSignal c site) found elements low = at_signal c site found m.own.stage
+  about _ found elements low = none
 
 -- ---- accesses
 abbrev pub is_access : Instr → Bool
@@ -223,44 +191,6 @@ module _ (code : Code) (m : Machine) where
   silent_new site cells _ = refl
 
   pub no_access : (i : Instr) (found elements : ℕ) → is_access i ≡ false → access_said (said code i m found elements) ≡ None
-  no_access (instrs.Constant r v) found elements e = refl
-  no_access (instrs.Move r from) found elements e = refl
-  no_access (instrs.MoveReference r from) found elements e = refl
-  no_access (instrs.Null r) found elements e = refl
-  no_access (instrs.ComputeInt operator r a b site) found elements e = refl
-  no_access (instrs.ComputeLong operator r a b site) found elements e = refl
-  no_access (instrs.NegateInt r a site) found elements e = refl
-  no_access (instrs.NegateLong r a site) found elements e = refl
-  no_access (instrs.Complement r a) found elements e = refl
-  no_access (instrs.Not r a) found elements e = refl
-  no_access (instrs.SameReference r a b) found elements e = refl
-  no_access (instrs.ChkWidth width r site) found elements e = refl
-  no_access (instrs.Jump pc) found elements e = refl
-  no_access (instrs.JumpIfZero r pc) found elements e = refl
-  no_access (instrs.JumpIfNull r pc) found elements e = refl
-  no_access (instrs.Call pc ints refs site) found elements e = refl
-  no_access (instrs.Return site) found elements e = refl
-  no_access (instrs.ChkNull r site) found elements e = refl
-  no_access (instrs.ChkHeld c site) found elements e = refl
-  no_access (instrs.ChkNotHeld c site) found elements e = refl
-  no_access (instrs.ChkPositive r site) found elements e = refl
-  no_access (instrs.ChkRoom site) found elements e = refl
-  no_access (instrs.ChkLock c site) found elements e = refl
-  no_access (instrs.ChkLockLoaded site) found elements e = refl
-  no_access (instrs.Bounds r base count field site) found elements e = refl
-  no_access (instrs.GlobalBounds r all count field site) found elements e = refl
-  no_access (instrs.ChkRead c site) found elements e = refl
-  no_access (instrs.ChkWrite c site) found elements e = refl
-  no_access (instrs.Raise r from) found elements e = refl
-  no_access (instrs.RaiseLoaded r) found elements e = refl
-  no_access (instrs.Lower r) found elements e = refl
-  no_access (instrs.TestSole r site) found elements e = refl
-  no_access (instrs.Clear r cells) found elements e = refl
-  no_access (instrs.Unlock r c site) found elements e = refl
-  no_access (instrs.Print r site) found elements e = refl
-  no_access (instrs.CondEnter c site) found elements e = refl
-  no_access (instrs.CondBroadcast c site) found elements e = refl
-  no_access (instrs.Give r site) found elements e = refl
   no_access (instrs.Load r c site) found elements e = absurd (let f : true ≡ false = e in cc)
   no_access (instrs.Store r c site) found elements e = absurd (let f : true ≡ false = e in cc)
   no_access (instrs.LoadRef c site) found elements e = absurd (let f : true ≡ false = e in cc)
@@ -276,6 +206,7 @@ module _ (code : Code) (m : Machine) where
   no_access instrs.Exit found elements e = silent_exit m.own.stage
   no_access (instrs.CondWait c site) found elements e = either_none (waits_in found m.own.number) _ _ refl refl
   no_access (instrs.CondSignal c site) found elements e = silent_signal c site found m.own.stage
+  no_access _ found elements e = refl
 
 -- the access that a turn of typed code tells
 abbrev pub access_at : Code → Machine → Cell → ℕ → Bool → Access

@@ -178,7 +178,7 @@ module _ (laws : TheLaws) (x : Targets) (code : Code) (s : Shape) (ls : Labels) 
   -- a check that was refused has stopped its thread
   refused_stops : (one : Turn) (earlier : List Turn) (run : RunOf code s (one ∷ earlier)) (kind : Kind) (p : ℕ) → touch_at code s (place_after code s earlier) one ≡ CheckOf kind p false
       → (d : ConflictAt) × (((place_after code s (one ∷ earlier)).threads one.thread).own.stop ≡ Some (Conflict d))
-  refused_stops one earlier run kind p touch = by (does code s (place_after code s earlier) one run.1 (fresh_of laws x code s ls typed one earlier run (whole laws x code s ls typed earlier run.0).halting))
+  refused_stops one earlier run kind p touch = by (does laws.run.turns.outcomes code s (place_after code s earlier) one run.1 (fresh_of laws x code s ls typed one earlier run (whole laws x code s ls typed earlier run.0).halting))
     where
       by : Does s (λ q. slice_index (place_after code s earlier).words (first_shadow + q)) ((place_after code s earlier).threads one.thread) (instr_at code ((place_after code s earlier).threads one.thread).at.pc) (touch_at code s (place_after code s earlier) one) ((place_after code s (one ∷ earlier)).threads one.thread)
           → (d : ConflictAt) × (((place_after code s (one ∷ earlier)).threads one.thread).own.stop ≡ Some (Conflict d))

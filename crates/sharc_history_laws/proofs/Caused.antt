@@ -1,14 +1,14 @@
 -- The check that a report may name is its cause, and there is one.
-use Rattle.std.proofs.{Common.{◌≡◌, ℕ, zero, suc, ◌+◌, ◌*◌, ◌/◌, ◌<◌, ◌≤◌, ◌≢◌, ◌⊎◌, inl, inr, Bool, true, false, ◌||◌, ◌&&◌, List, [], ◌∷◌, ◌++◌, Option, Some, None, if◌then◌else◌, refl, sym, ap, ◌∙◌, subst, ⊎_elim, arith}, lemmas.Bool.{cases_eq, cases_lt, or_right}, lemmas.Bool.Decides.nat_tests}
+use Rattle.std.proofs.{Common.{◌≡◌, ℕ, zero, suc, ◌+◌, ◌*◌, ◌/◌, ◌<◌, ◌≤◌, ◌≢◌, ◌⊎◌, inl, inr, Bool, true, false, ◌&&◌, List, [], ◌∷◌, ◌++◌, Option, Some, None, if◌then◌else◌, refl, sym, ap, ◌∙◌, subst, ⊎_elim, arith}, lemmas.Bool.{cases_eq, cases_lt, or_right}, lemmas.Bool.Decides.nat_tests}
 use Rattle.std.specs.Prelude.{slice_index, nat_lt, ◌==◌}
 use Rattle.sharc_tree.specs.declared.event.CellAt.{CellAt}
 use Rattle.sharc_word.specs.declared.step.TheConstants.{THREADS}
 use Rattle.sharc_heap.specs.{declared.shadow_word.Kind.Kind, declared.shadow_word.Kind.TheVariants.{Read, Write}, declared.access_table.Note.Note, Accesses.{note_of, site_at}, Functions.conflicts_in, ShadowWord.{epoch_of, is_of, stands, HasOther, Conflicts}}
-use Rattle.sharc_code.specs.{declared.code.Code.Code, declared.instr.Cell.Cell, declared.shape.Shape.Shape, declared.state.ConflictAt.ConflictAt, declared.state.Stop.TheVariants.Conflict, Layout.{granules, first_shadow, shadow_word}, Machine.{Machine, instr_at, wrote, stopped}, Runs.{Turn, Global}, Says.cell_at, Whole.place_after}
+use Rattle.sharc_code.specs.{declared.code.Code.Code, declared.instr.Cell.Cell, declared.shape.Shape.Shape, declared.state.ConflictAt.ConflictAt, declared.state.Stop.TheVariants.Conflict, Layout.{granules, first_shadow, shadow_word}, Machine.{Machine, instr_at, wrote, stopped}, Outcomes.check_of, Runs.{Turn, Global}, Says.cell_at, Whole.place_after}
 use Rattle.sharc_meaning.specs.Events.{granule_of as granule_in}
 use Rattle.sharc_invariant.specs.{Bits.CheckOf, Labels.Labels, Reports.touch_at, State.{object_of_cell, number_in}, Types.Targets}
 use Rattle.sharc_history_laws.specs.{Causes.{noted_site, Stood, StoppedThere, IsNamed, OfWrite, OfRead, OfStop, OfFirst, NothingBetween, IsCause, HasNamed}, Conflicts.{site_of_check, IsCheck}, Followed.ChecksAreFollowed}
-use Rattle.sharc_history_laws.proofs.{Checks.{CheckCell, check_cell, cell_of_access, checked_here, adds, live_then, inside_then}, Conflicting.accesses_show, Doing.{check_of, IsCheckAt}, Followed.of_check, Noting.notes_told, Remaining.{word_at, site_now, Reason, Writes, Written, stop_is}, Shadows.at_low, Spots.{Spot, SameSpot, same_spot, object_is}, Walking.along, Wholes.{TheLaws, Typed, RunOf, Whole, whole, halting, fresh_of}}
+use Rattle.sharc_history_laws.proofs.{Checks.{CheckCell, check_cell, cell_of_access, checked_here, adds, live_then, inside_then}, Conflicting.accesses_show, Doing.IsCheckAt, Followed.of_check, Noting.notes_told, Remaining.{word_at, site_now, Reason, Writes, Written, stop_is}, Shadows.at_low, Spots.{Spot, SameSpot, same_spot, object_is}, Walking.along, Wholes.{TheLaws, Typed, RunOf, Whole, whole, halting, fresh_of}}
 use Rattle.sharc_history_laws.proofs.Remaining as remaining
 use Rattle.sharc_lemmas.proofs.{Numbers.same_is, Bools.yes, Options.some_or}
 
@@ -77,7 +77,7 @@ module _ (laws : TheLaws) (x : Targets) (code : Code) (s : Shape) (ls : Labels) 
 
     pub the_report : Report
     the_report =
-        let a = stop_is laws.shadow laws.cells x code s ls typed.wt typed.fits g w.consists.world w.consists.state report run.1 fresh w.remains c stop in
+        let a = stop_is laws.run.turns.outcomes laws.shadow laws.cells x code s ls typed.wt typed.fits g w.consists.world w.consists.state report run.1 fresh w.remains c stop in
         of a.0 a.1 a.2 a.3 a.4 a.5 a.6 a.7
       where
         site_now_is : (kind : Kind) (cell : Cell) (site : ℕ) → site_of_check (check_of kind cell site) ≡ Some site
@@ -229,14 +229,14 @@ module _ (laws : TheLaws) (x : Targets) (code : Code) (s : Shape) (ls : Labels) 
       by_note : (j : ℕ) (kind : Kind) (site : ℕ) → noted_site (place_after code s before) c j kind ≡ Some site → Stood c report.thread j → (c.kind ≡ Write) ⊎ (kind ≡ Write) → IsCause code s before report c j kind site
       by_note j kind site is stood write =
           let n = some_note (note_of ((place_after code s before).threads j).own.table at_p kind) c.epoch site is in
-          let k = notes_told code s before run.0 j at_p kind n.0 n.1 in
+          let k = notes_told laws.run.turns.outcomes code s before run.0 j at_p kind n.0 n.1 in
           found k.later k.check k.earlier k.parts j kind site true (subst (λ z. IsCheck code s k.earlier k.check j kind at_p z true) n.2 k.is_check) stood.0 write (k.epoch ∙ n.3) (ap (λ v. stands v j) (sym reports.word) ∙ stood.1)
 
       -- by a stop
       by_stop : (j : ℕ) (d : ConflictAt) → StoppedThere (place_after code s before) c j d → (kind : Kind) (site : ℕ) → d.kind ≡ kind → d.site ≡ site → j ≢ report.thread → (c.kind ≡ Write) ⊎ (kind ≡ Write) → stands (word_at (place_after code s before) c.granule) j ≡ true
           → IsCause code s before report c j kind site
       by_stop j d at kind site kind_is site_is ne write bit =
-          let k = accesses_show laws.conflicts laws.bits x code s ls typed.wt typed.fits typed.few (halting laws x code s ls typed) before run.0 j d at.is in
+          let k = accesses_show laws.run.turns.outcomes laws.conflicts laws.bits x code s ls typed.wt typed.fits typed.few (halting laws x code s ls typed) before run.0 j d at.is in
           let check = subst (λ q. IsCheck code s k.earlier k.check j kind q site false) at.granule (subst (λ z. IsCheck code s k.earlier k.check j kind d.granule z false) site_is (subst (λ y. IsCheck code s k.earlier k.check j y d.granule d.site false) kind_is k.is_check)) in
           found k.later k.check k.earlier k.parts j kind site false check ne write
           (ap (λ q. epoch_of (slice_index (place_after code s k.earlier).words (shadow_word s q))) (sym at.granule) ∙ ap epoch_of k.word ∙ k.epoch ∙ at.epoch) bit

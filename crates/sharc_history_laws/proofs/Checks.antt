@@ -1,11 +1,11 @@
 -- A turn that is a check: its cell, the bit that it sets, and the access that it is of.
-use Rattle.std.proofs.Common.{◌≡◌, ℕ, ◌+◌, ◌*◌, ◌<◌, Bool, true, false, List, ◌∷◌, Some, None, if◌then◌else◌, refl, sym, ap, ◌∙◌, subst}
+use Rattle.std.proofs.Common.{◌≡◌, ℕ, ◌+◌, ◌*◌, ◌<◌, Bool, true, false, List, ◌∷◌, Some, None, refl, sym, ap, ◌∙◌, subst}
 use Rattle.sharc_heap.specs.{declared.shadow_word.Kind.Kind, declared.shadow_word.Kind.TheVariants.{Read, Write}, ShadowWord.{AddsAccess, is_write}}
-use Rattle.sharc_code.specs.{declared.code.Code.Code, declared.instr.Cell.Cell, declared.instr.Instr.Instr, declared.shape.Shape.Shape, Layout.{granules, granule_at, granule_of}, Machine.{Machine, instr_at, place}, Runs.{Turn, Global, result_of, after_turn}, Says.cell_at, Whole.{one_thread, bounds, place_after}}
+use Rattle.sharc_code.specs.{declared.code.Code.Code, declared.instr.Cell.Cell, declared.instr.Instr.Instr, declared.shape.Shape.Shape, Layout.{granules, granule_at, granule_of}, Machine.{Machine, instr_at, place}, Outcomes.check_of, Runs.{Turn, Global, result_of, after_turn}, Says.cell_at, Whole.{one_thread, bounds, place_after}}
 use Rattle.sharc_meaning.specs.Events.{Access}
 use Rattle.sharc_invariant.specs.{Bits.CheckOf, Labels.{Label, Labels}, MachineInvariant.IsOn, Reports.touch_at, State.{State, StageStands, OnHold}, Typed.{Fine, HasCell}, Types.{Targets, Field}, World.World}
 use Rattle.sharc_history_laws.specs.Followed.{Accesses, IsFollowed, ChecksAreFollowed, access_to, access_checked}
-use Rattle.sharc_history_laws.proofs.{Consists.Consists, Doing.{check_of, granule_low}, Followed.{IsCheckBy, OfRead, OfWrite, check_by, accessed_is}, Remaining.{word_at, check_bit}, Single.{single, rests_hold}, Spots.{IsChecked, is_checked}, Staying.{StillThere, kept_calm}, Tables.header_of, Acts.{given_at, freed_at}, Wholes.{TheLaws, Typed, RunOf, Whole, whole, whole_next, fresh_of}}
+use Rattle.sharc_history_laws.proofs.{Consists.Consists, Doing.granule_low, Followed.{IsCheckBy, OfRead, OfWrite, check_by, accessed_is}, Remaining.{word_at, check_bit}, Single.{single, rests_hold}, Spots.{IsChecked, is_checked}, Staying.{StillThere, kept_calm}, Tables.header_of, Acts.{given_at, freed_at}, Wholes.{TheLaws, Typed, RunOf, Whole, whole, whole_next, fresh_of}}
 
 -- the cell of a check
 pub record CheckCell (code : Code) (s : Shape) (g : Global Machine) (one : Turn) (kind : Kind) (p : ℕ) : Type 0 where
@@ -126,7 +126,7 @@ module _ (laws : TheLaws) (x : Targets) (code : Code) (s : Shape) (ls : Labels) 
 
     -- the bit that it sets
     pub adds : (ok : Bool) → touch_at code s (place_after code s earlier) one ≡ CheckOf kind p ok → AddsAccess (word_at (place_after code s earlier) p) (word_at (place_after code s (one ∷ earlier)) p) one.thread kind
-    adds ok touch = check_bit laws.shadow laws.cells x code s ls typed.wt typed.fits g world st one run.1 fresh w.remains kind p ok k.low touch
+    adds ok touch = check_bit laws.run.turns.outcomes laws.shadow laws.cells x code s ls typed.wt typed.fits g world st one run.1 fresh w.remains kind p ok k.low touch
 
     -- its object is there behind it
     pub there_then : (o j : ℕ) (live : (world.obj o).live ≡ true) (inside : 2 * j < st.cells o) → StillThere laws x code s ls typed one earlier run w o j live inside

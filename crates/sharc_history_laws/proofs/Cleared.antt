@@ -2,12 +2,12 @@
 use Rattle.std.proofs.{Common.{◌≡◌, ℕ, zero, suc, ◌+◌, ◌*◌, ◌/◌, ◌^◌, ◌<◌, ◌≤◌, ◌≢◌, Bool, true, false, ◌&&◌, not, min, None, if◌then◌else◌, refl, sym, ap, ◌∙◌, subst, ⊎_elim, arith}, lemmas.Bool.{cases_eq, cases_lt}, lemmas.Bool.Decides.nat_tests}
 use Rattle.std.specs.Prelude.{slice_index, nat_lt, ◌==◌}
 use Rattle.sharc_heap.specs.{declared.shadow_word.Kind.Kind, declared.shadow_word.Kind.TheVariants.{Read, Write}, ShadowLaws.ShadowLaws, ShadowWord.stands}
-use Rattle.sharc_code.specs.{declared.code.Code.Code, declared.instr.Cell.Cell, declared.instr.Instr.Instr, declared.shape.Shape.Shape, declared.state.Stage.Stage, declared.state.Stage.TheVariants.{Rests, Looks, Clears, Empties, Lowers, FreeLooks, FreeClears, Uncounts, Links}, Layout.{Fits, granules, first_shadow, granule_at, granule_of, length_word}, Machine.{Machine, instr_at, act, ref, place, at_stage, looks, clear, rests, free, free_looks, freed, empties, emptied, fields, layout_at, data_granules, data_granule, largest, step_of, wrote}, Path.{begun, turn, after, may_go, asked_by}, Runs.{Turn, Global, MayTurn, after_turn, state_now, result_of}, Whole.{one_thread, bounds}}
+use Rattle.sharc_code.specs.{declared.code.Code.Code, declared.instr.Cell.Cell, declared.instr.Instr.Instr, declared.shape.Shape.Shape, declared.state.Stage.Stage, declared.state.Stage.TheVariants.{Rests, Looks, Clears, Empties, Lowers, FreeLooks, FreeClears, Uncounts, Links}, Layout.{Fits, granules, first_shadow, granule_at, granule_of, length_word}, Machine.{Machine, instr_at, act, ref, place, at_stage, looks, clear, rests, free, free_looks, freed, empties, emptied, fields, layout_at, data_granules, data_granule, largest, step_of, wrote}, Outcomes.{TurnsComeOut, check_of}, Path.{begun, turn, after, may_go, asked_by}, Runs.{Turn, Global, MayTurn, after_turn, state_now, result_of}, Whole.{one_thread, bounds}}
 use Rattle.sharc_code.specs.declared.instr.Cell.TheVariants as cells
 use Rattle.sharc_code.specs.declared.instr.Instr.TheVariants as instrs
 use Rattle.sharc_word.specs.declared.step.WordOp.TheVariants as ops
 use Rattle.sharc_invariant.specs.{Bits.{Touch, Untouched, CheckOf, ClearOf, WithdrawOf, cleared_by, freed_by, touch_of}, History.Closing, Labels.{Gate, Sole, Entry, Refers, Label, Labels, Leads, LessGate, LessEntry, gated, empty}, Laws.{CellsAreThere, PointersAreThere, StateStands}, MachineInvariant.IsOn, Reports.touch_at, State.{State, Runs, StageStands, GateStands, OnClear, OnFree, OnHold, granules_freed, object_of_cell, number_in, view_of}, Typed.{IsWellTyped, Fine, HasCell}, Types.{Targets, StaticType, Field, cells_of}, Words.length_at, World.{World, Sole as IsSole}}
-use Rattle.sharc_history_laws.proofs.{Arriving.{IsUncleared, less_uncleared, walks, is_clearing, Arrives, arriving}, Consists.found_is, Doing.{IsCheckAt, check_of, Does, Plain, Passes, Refuses, IsNoCheck, does}, Remaining.{word_at, Remains}, Rules.{put_same, put_other}, Shadows.{IsNext, WordBy, word_by, at_low, in_cells}, Shared.closing_own, Single.{single, rests_hold}, Stands.{there, gate, granules_low, reads_ref, sole_ref, live_ref, target_ref}, Tables.length_kept, Writes.writes}
+use Rattle.sharc_history_laws.proofs.{Arriving.{IsUncleared, less_uncleared, walks, is_clearing, Arrives, arriving}, Consists.found_is, Doing.{IsCheckAt, Does, Plain, Passes, Refuses, IsNoCheck, does}, Remaining.{word_at, Remains}, Rules.{put_same, put_other}, Shadows.{IsNext, WordBy, word_by, at_low, in_cells}, Shared.closing_own, Single.{single, rests_hold}, Stands.{there, gate, granules_low, reads_ref, sole_ref, live_ref, target_ref}, Tables.length_kept, Writes.writes}
 use Rattle.sharc_lemmas.proofs.{Numbers.not_below, Bools.yes}
 
 -- ---- what is said of a thread that clears an object or gives it
@@ -68,7 +68,7 @@ same_target : (l : Label) (r : ℕ) (old new : Entry) (a b : StaticType) → old
 same_target l r old new a b e h f = sym ((subst (LessEntry l r (Refers a)) f (subst (λ old. LessEntry l r old new) e h)).target)
 
 -- ---- one turn
-module _ (laws : ShadowLaws) (state_law : StateStands) (cell_laws : CellsAreThere) (pointer_laws : PointersAreThere) (x : Targets) (code : Code) (s : Shape) (ls : Labels) (wt : IsWellTyped x code ls) (fits : Fits code s) (g : Global Machine) (world : World)
+module _ (outs : TurnsComeOut) (laws : ShadowLaws) (state_law : StateStands) (cell_laws : CellsAreThere) (pointer_laws : PointersAreThere) (x : Targets) (code : Code) (s : Shape) (ls : Labels) (wt : IsWellTyped x code ls) (fits : Fits code s) (g : Global Machine) (world : World)
     (st : State x code s ls g world) (tr : Turn) (may : MayTurn bounds (one_thread code s) g tr) (fresh : (g.threads tr.thread).own.stop ≡ None) (remains : Remains s g) where
   abbrev t : ℕ
   t = tr.thread
@@ -157,7 +157,7 @@ module _ (laws : ShadowLaws) (state_law : StateStands) (cell_laws : CellsAreTher
     by_cell (cells.ObjectAt q p) hold e = no_other t q hold e
 
     check_own : (kind : Kind) (j : ℕ) (ok : Bool) → 2 * j < st.cells o → touch ≡ CheckOf kind (o + 1 + j) ok → tr.thread ≡ u
-    check_own kind j ok inside q = by (does code s g tr may fresh)
+    check_own kind j ok inside q = by (does outs code s g tr may fresh)
       where
         granule : (k kind : Kind) (a p : ℕ) (b ok : Bool) → CheckOf k a b ≡ CheckOf kind p ok → a ≡ p
         granule k kind a p b ok e = cc

@@ -1,14 +1,13 @@
 -- A refused check of an access comes from checks that others made, in a run of typed code.
 use Rattle.std.proofs.{Common.{◌≡◌, ℕ, ◌+◌, ◌<◌, inl, inr, Bool, true, false, List, [], ◌∷◌, Option, Some, None, is_some, nat_lt, if◌then◌else◌, refl, sym, ap, ◌∙◌, subst, ⊎_elim, arith}, lemmas.Bool.cases_eq, lemmas.Bool.Decides.nat_tests}
 use Rattle.std.specs.Prelude.{slice_index, ◌==◌}
-use Rattle.sharc_tree.specs.declared.trap.Trap.TheVariants as traps
-use Rattle.sharc_heap.specs.{declared.shadow_word.Kind.Kind, declared.shadow_word.Kind.TheVariants.{Read, Write}, Accesses.{note_of, site_at}, ShadowWord.{epoch_of, stands}, Functions.{bits_of, conflicts_in, noted}}
+use Rattle.sharc_heap.specs.{declared.shadow_word.Kind.Kind, declared.shadow_word.Kind.TheVariants.{Read, Write}, ShadowWord.{epoch_of, stands}, Functions.bits_of}
 use Rattle.sharc_word.specs.declared.step.WordOp.TheVariants as ops
-use Rattle.sharc_code.specs.{declared.code.Code.Code, declared.instr.Cell.Cell, declared.instr.Instr.Instr, declared.shape.Shape.Shape, declared.state.ConflictAt.ConflictAt, declared.state.Stage.Stage, declared.state.Stage.TheVariants.{Clears, FreeClears, WithdrawsFrom}, declared.state.Stop.Stop, declared.state.Stop.TheVariants.{Conflict, NoLock, NotSole, Trap}, Layout.{Fits, granules, cell_of, cell_word, granule_at, granule_of, shadow_word}, Machine.{Machine, Own, instr_at, act, place, word, ref, is_held, is_of_null, goes, stopped, checked, lock_checked, tested, with_own, wrote, with_note, step_of}, Opening.opening_words, Path.{turn, after, may_go, asked_by}, Runs.{Turn, Global, IsRun, MayTurn, after_turn, put, state_now, result_of, opening_of}, Whole.{one_thread, bounds, place_after}}
+use Rattle.sharc_code.specs.{declared.code.Code.Code, declared.instr.Cell.Cell, declared.instr.Instr.Instr, declared.shape.Shape.Shape, declared.state.ConflictAt.ConflictAt, declared.state.Stage.Stage, declared.state.Stage.TheVariants.{Clears, FreeClears, WithdrawsFrom}, declared.state.Stop.Stop, declared.state.Stop.TheVariants.Conflict, Layout.{Fits, granules, granule_at, granule_of, shadow_word}, Machine.{Machine, instr_at, act, place, word, ref, stopped, step_of}, Opening.opening_words, Outcomes.{TurnsComeOut, MayStop, check_of}, Path.{turn, after, may_go, asked_by}, Runs.{Turn, Global, IsRun, MayTurn, after_turn, put, state_now, result_of, opening_of}, Whole.{one_thread, bounds, place_after}}
 use Rattle.sharc_code.specs.declared.instr.Instr.TheVariants as instrs
 use Rattle.sharc_invariant.specs.{Types.Targets, Labels.Labels, Typed.IsWellTyped, State.IsSmall, Opened.first_place, Bits.{Touch, Untouched, CheckOf, ClearOf, WithdrawOf, Marks, cleared_by, freed_by, withdrawn_by, touch_of, with_check, without_thread, marks_by, marks_after}, Reports.{RunsConflict, CheckStands, touch_at}, Laws.RunsBits}
 use Rattle.sharc_history_laws.specs.Conflicts.{site_of_check, Past, MadeSince, Opposes, ShowsConflict}
-use Rattle.sharc_history_laws.proofs.{Consists.found_is, Rules.{put_same, put_other}, Quits.{Quits, Still, Traps, is_trap, is_reporting, quits}, Sole.{Halting, stop_none}}
+use Rattle.sharc_history_laws.proofs.{Consists.found_is, Outcomes.reports, Rules.{put_same, put_other}, Sole.{Halting, stop_none}}
 use Rattle.sharc_lemmas.proofs.Bools.{yes}
 
 -- ---- a turn that is a check has a site
@@ -141,62 +140,6 @@ module _ (code : Code) (s : Shape) (j p : ℕ) where
   write_since (one ∷ earlier) is = write_touch one earlier (marks_after code s (first_place code s) earlier) (touch_at code s (place_after code s earlier) one) refl (write_since earlier) is
 
 -- ---- the turn that stopped there
-pub data Refused (s : Shape) (m : Machine) (found : ℕ) (i : Instr) (c : ConflictAt) : Type 0 where
-  OfRead : (cell : Cell) → i ≡ instrs.ChkRead cell c.site → c.kind ≡ Read → c.granule ≡ granule_at s (granule_of (place m cell)) → c.old ≡ found → c.epoch ≡ epoch_of found → Refused s m found i c
-  OfWrite : (cell : Cell) → i ≡ instrs.ChkWrite cell c.site → c.kind ≡ Write → c.granule ≡ granule_at s (granule_of (place m cell)) → c.old ≡ found → c.epoch ≡ epoch_of found → Refused s m found i c
-
-module _ (code : Code) (s : Shape) (m : Machine) (fresh : m.own.stop ≡ None) (found : ℕ) (c : ConflictAt) where
-  abbrev IsThat : Machine → Type 0
-  IsThat y = y.own.stop ≡ Some (Conflict c)
-
-  not_none : (y : Machine) → y.own.stop ≡ None → IsThat y → ⊥
-  not_none y e is = let f : None ≡ Some (Conflict c) = sym e ∙ is in cc
-
-  lock_check : (b : Bool) (mutex at : ℕ) → IsThat (lock_checked m b mutex at) → ⊥
-  lock_check true mutex at is = let f : Some (Trap traps.NullPointer at) ≡ Some (Conflict c) = is in cc
-  lock_check false mutex at is = elim (is_held m mutex) as (λ b. IsThat (if b then goes m else stopped m (NoLock at mutex)) → ⊥) [
-    | true ↦ λ z. not_none (goes m) fresh z
-    | false ↦ λ z. let f : Some (NoLock at mutex) ≡ Some (Conflict c) = z in cc
-  ] is
-
-  sole_test : (at : ℕ) → IsThat (tested m at found) → ⊥
-  sole_test at is = elim (found == 1) as (λ b. IsThat (if b then goes m else stopped m (NotSole at found)) → ⊥) [
-    | true ↦ λ z. not_none (goes m) fresh z
-    | false ↦ λ z. let f : Some (NotSole at found) ≡ Some (Conflict c) = z in cc
-  ] is
-
-  abbrev report : Kind → ℕ → ℕ → ConflictAt
-  report kind granule at = record { kind = kind; site = at; granule = granule; epoch = epoch_of found; old = found }
-
-  check : (kind : Kind) (granule at : ℕ) → IsThat (checked m kind granule at found) → report kind granule at ≡ c
-  check kind granule at is = elim (conflicts_in found m.own.number kind (wrote m granule found)) as (λ b. IsThat (if b then stopped m (Conflict (report kind granule at)) else with_own m (with_note m.own granule kind (epoch_of found) at)) → report kind granule at ≡ c) [
-    | true ↦ λ z. let f : Some (Conflict (report kind granule at)) ≡ Some (Conflict c) = z in cc
-    | false ↦ λ z. absurd (not_none (with_own m (with_note m.own granule kind (epoch_of found) at)) (note_stop m.own granule kind (epoch_of found) at ∙ fresh) z)
-  ] is
-    where
-      note_stop : (own : Own) (granule : ℕ) (kind : Kind) (epoch site : ℕ) → (with_note own granule kind epoch site).stop ≡ own.stop
-      note_stop own granule kind epoch site =
-          elim (is_some (site_at (note_of own.table granule kind) epoch)) as (λ b. (if b then own else record own { table = noted own.table granule kind record { epoch = epoch; site = site } }).stop ≡ own.stop) [ true ↦ refl | false ↦ refl ]
-
-  quiet : (i : Instr) → is_reporting i ≡ false → IsThat (after (act code s i m) found) → ⊥
-  quiet i other is = by (quits code s m i found other)
-    where
-      by : Quits m (after (act code s i m) found) → ⊥
-      by (Still e) = not_none (after (act code s i m) found) (e ∙ fresh) is
-      by (Traps e go) = yes (sym e ∙ ap is_trap is)
-
-  pub conflict_stop : (i : Instr) → IsThat (after (act code s i m) found) → Refused s m found i c
-  conflict_stop (instrs.ChkLock cell at) is = absurd (lock_check (is_of_null m cell) (word s m cell) at is)
-  conflict_stop (instrs.ChkLockLoaded at) is = absurd (lock_check (m.pending == 0) (cell_word s (cell_of m.pending 0)) at is)
-  conflict_stop (instrs.ChkRead cell at) is =
-      let e = check Read (granule_at s (granule_of (place m cell))) at is in
-      OfRead cell (ap (λ (c : ConflictAt). instrs.ChkRead cell c.site) e) (ap (λ (c : ConflictAt). c.kind) (sym e)) (ap (λ (c : ConflictAt). c.granule) (sym e)) (ap (λ (c : ConflictAt). c.old) (sym e)) (ap (λ (c : ConflictAt). c.epoch) (sym e))
-  conflict_stop (instrs.ChkWrite cell at) is =
-      let e = check Write (granule_at s (granule_of (place m cell))) at is in
-      OfWrite cell (ap (λ (c : ConflictAt). instrs.ChkWrite cell c.site) e) (ap (λ (c : ConflictAt). c.kind) (sym e)) (ap (λ (c : ConflictAt). c.granule) (sym e)) (ap (λ (c : ConflictAt). c.old) (sym e)) (ap (λ (c : ConflictAt). c.epoch) (sym e))
-  conflict_stop (instrs.TestSole r at) is = absurd (sole_test at is)
-  conflict_stop i is = absurd (quiet i refl is)
-
 granule_low : (s : Shape) (g : ℕ) → granule_at s g < granules s
 granule_low s g = elim (nat_lt g (granules s)) as (λ b. nat_lt g (granules s) ≡ b → (if b then g else 0) < granules s) [
   | true ↦ λ e. grind (arith, nat_tests)
@@ -210,7 +153,7 @@ granule_same s g = let lt = granule_low s g in let e : nat_lt (granule_at s g) (
     below a b lt = grind (arith, nat_tests)
 
 -- ---- runs
-module _ (conflicts : RunsConflict) (bits : RunsBits) (x : Targets) (code : Code) (s : Shape) (ls : Labels) (wt : IsWellTyped x code ls) (fits : Fits code s) (few : IsSmall code s)
+module _ (outs : TurnsComeOut) (conflicts : RunsConflict) (bits : RunsBits) (x : Targets) (code : Code) (s : Shape) (ls : Labels) (wt : IsWellTyped x code ls) (fits : Fits code s) (few : IsSmall code s)
     (all : (run : List Turn) → IsRun bounds (one_thread code s) (opening_of bounds (one_thread code s) (opening_words code s)) run → Halting code s run) where
   abbrev RunOf : List Turn → Type 0
   RunOf run = IsRun bounds (one_thread code s) (opening_of bounds (one_thread code s) (opening_words code s)) run
@@ -271,11 +214,14 @@ module _ (conflicts : RunsConflict) (bits : RunsBits) (x : Targets) (code : Code
         }
 
     pub shows_conflict : ShowsConflict code s (one ∷ earlier) one.thread c
-    shows_conflict = by (conflict_stop code s m fresh (result_of one.event) c i is)
+    shows_conflict = by c.kind refl
       where
-        by : Refused s m (result_of one.event) i c → ShowsConflict code s (one ∷ earlier) one.thread c
-        by (OfRead cell at kind granule old epoch) = shows_of Read cell (ap (λ j. touch_of s j m (result_of one.event) m') at) (ap site_of_check at) (ap (λ j. asked_by (act code s j m)) at) kind granule old epoch
-        by (OfWrite cell at kind granule old epoch) = shows_of Write cell (ap (λ j. touch_of s j m (result_of one.event) m') at) (ap site_of_check at) (ap (λ j. asked_by (act code s j m)) at) kind granule old epoch
+        k : MayStop s i m (result_of one.event) (Conflict c)
+        k = (reports s i (result_of one.event) m _ (outs code s i m (result_of one.event)) (Conflict c) refl fresh is).0
+
+        by : (kind : Kind) → c.kind ≡ kind → ShowsConflict code s (one ∷ earlier) one.thread c
+        by Read e = let at = k.1 ∙ ap (λ kind. check_of kind k.0 c.site) e in shows_of Read k.0 (ap (λ j. touch_of s j m (result_of one.event) m') at) (ap site_of_check at) (ap (λ j. asked_by (act code s j m)) at) e k.2 k.4 k.3
+        by Write e = let at = k.1 ∙ ap (λ kind. check_of kind k.0 c.site) e in shows_of Write k.0 (ap (λ j. touch_of s j m (result_of one.event) m') at) (ap site_of_check at) (ap (λ j. asked_by (act code s j m)) at) e k.2 k.4 k.3
 
   further : (one : Turn) (earlier : List Turn) (t : ℕ) (c : ConflictAt) → ShowsConflict code s earlier t c → ShowsConflict code s (one ∷ earlier) t c
   further one earlier t c k = record {

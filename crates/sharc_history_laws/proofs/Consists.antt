@@ -376,9 +376,9 @@ module _ (laws : RunLaws) (keeps : Keeps) (cells : CellsAreThere) (pointers : Po
         world = k.turned.0;
         state = k.turned.1;
         table = table_then k.turned.0.obj k.objects;
-        loaded = put_all (λ u m. LoadedStands ls m) g.threads t now (loaded_still x code s ls m i found (wt.fine m.at.pc) (h.loaded t)) (λ u _. h.loaded u);
+        loaded = put_all (λ u m. LoadedStands ls m) g.threads t now (loaded_still x code s ls m laws.turns.outcomes i found (wt.fine m.at.pc) (h.loaded t)) (λ u _. h.loaded u);
         links = put_all (λ u m. (e : ℕ) → m.own.stage ≡ Links e → may_go m.at.state ≡ true) g.threads t now
-            (links_still code s m h.state.elements h.world h.state.heap g.words t found ((h.state.threads t).runs on.0 on.1).stage) (λ u _. h.links u);
+            (links_still code s m laws.turns.outcomes h.state.elements h.world h.state.heap g.words t found ((h.state.threads t).runs on.0 on.1).stage) (λ u _. h.links u);
         paths = paths_then;
       }
 

@@ -3,11 +3,11 @@ use Rattle.std.proofs.{Common.{◌≡◌, ℕ, zero, suc, ◌+◌, ◌<◌, ◌�
 use Rattle.std.specs.Prelude.{slice_index, slice_index_or, slice_set, nat_lt, ◌==◌}
 use Rattle.sharc_heap.specs.{declared.shadow_word.Kind.Kind, declared.shadow_word.Kind.TheVariants.{Read, Write}, declared.access_table.Note.Note, declared.access_table.GranuleNotes.GranuleNotes, Notes.{blank, of_kind, with_note}, Accesses.{Accesses, note_of, site_at}, ShadowWord.epoch_of, Functions.{bits_of, conflicts_in, noted}}
 use Rattle.sharc_word.specs.declared.step.WordOp.TheVariants as ops
-use Rattle.sharc_code.specs.{declared.code.Code.Code, declared.instr.Cell.Cell, declared.instr.Instr.Instr, declared.shape.Shape.Shape, declared.state.ConflictAt.ConflictAt, declared.state.Stage.Stage, declared.state.Stage.TheVariants.{Clears, FreeClears, WithdrawsFrom}, declared.state.Stop.TheVariants.Conflict, Layout.{granules, first_shadow, granule_at, granule_of, shadow_word}, Machine.{Machine, Own, instr_at, act, place, ref, row_of, checked, stopped, with_own, wrote, step_of}, Path.{turn, after, may_go, asked_by}, Runs.{Turn, Global, MayTurn, after_turn, state_now, result_of}, Whole.{one_thread, bounds}}
+use Rattle.sharc_code.specs.{declared.code.Code.Code, declared.instr.Cell.Cell, declared.instr.Instr.Instr, declared.shape.Shape.Shape, declared.state.ConflictAt.ConflictAt, declared.state.Stage.Stage, declared.state.Stage.TheVariants.{Clears, FreeClears, WithdrawsFrom}, declared.state.Stop.TheVariants.Conflict, Layout.{granules, first_shadow, granule_at, granule_of, shadow_word}, Outcomes.{TurnsComeOut, check_of}, Machine.{Machine, Own, instr_at, act, place, ref, row_of, checked, stopped, with_own, wrote, step_of}, Path.{turn, after, may_go, asked_by}, Runs.{Turn, Global, MayTurn, after_turn, state_now, result_of}, Whole.{one_thread, bounds}}
 use Rattle.sharc_code.specs.declared.instr.Instr.TheVariants as instrs
 use Rattle.sharc_code.specs.Machine as machines
 use Rattle.sharc_invariant.specs.{Bits.{Touch, Untouched, CheckOf, WithdrawOf, cleared_by, freed_by, withdrawn_by, touch_of}, Reports.touch_at}
-use Rattle.sharc_history_laws.proofs.{Conflicting.{Refused, OfRead, OfWrite, conflict_stop}, Consists.found_is, Rules.put_same, Tabled.{is_access_check, tabled}}
+use Rattle.sharc_history_laws.proofs.{Consists.found_is, Outcomes.{is_access_check, is_check, tabled, reports}, Rules.put_same}
 use Rattle.sharc_lemmas.proofs.Bools.{yes}
 
 -- ---- tables
@@ -148,10 +148,6 @@ no_check s (instrs.Free r layout site) m found m' e = free_no s (ref m r) m.own.
 no_check s instrs.Exit m found m' e = exit_no s m found m.own.stage
 no_check s _ m found m' e = tt
 
-abbrev pub check_of : Kind → Cell → ℕ → Instr
-check_of Read c site = instrs.ChkRead c site
-check_of Write c site = instrs.ChkWrite c site
-
 -- the check of a cell of this granule
 pub record IsCheckAt (s : Shape) (m : Machine) (i : Instr) (kind : Kind) (q site : ℕ) : Type 0 where
   pub cell : Cell
@@ -173,7 +169,7 @@ pub data Does (s : Shape) (words : ℕ → ℕ) (m : Machine) (i : Instr) (touch
   Refuses : (kind : Kind) (q site : ℕ) → IsCheckAt s m i kind q site → touch ≡ CheckOf kind q false → conflicts_in (words q) m.own.number kind (wrote m q (words q)) ≡ true
       → m' ≡ stopped m (Conflict record { kind = kind; site = site; granule = q; epoch = epoch_of (words q); old = words q }) → Does s words m i touch m'
 
-module _ (code : Code) (s : Shape) (g : Global Machine) (tr : Turn) (may : MayTurn bounds (one_thread code s) g tr) (fresh : (g.threads tr.thread).own.stop ≡ None) where
+module _ (outs : TurnsComeOut) (code : Code) (s : Shape) (g : Global Machine) (tr : Turn) (may : MayTurn bounds (one_thread code s) g tr) (fresh : (g.threads tr.thread).own.stop ≡ None) where
   abbrev m : Machine
   m = g.threads tr.thread
 
@@ -213,12 +209,11 @@ module _ (code : Code) (s : Shape) (g : Global Machine) (tr : Turn) (may : MayTu
         ] refl now
 
   plain : is_access_check i ≡ false → Does s words m i (touch_of s i m found m') m'
-  plain other = Plain (no_check s i m found m' other) (ap (λ (n : Machine). n.own.table) now_is ∙ (tabled code s m i found other).table)
-      (λ d is. stop (conflict_stop code s m fresh found d i (ap (λ (n : Machine). n.own.stop) (sym now_is) ∙ is)))
-    where
-      stop : {d : ConflictAt} → Refused s m found i d → ⊥
-      stop (OfRead c e kind granule old epoch) = yes (sym (ap is_access_check e) ∙ other)
-      stop (OfWrite c e kind granule old epoch) = yes (sym (ap is_access_check e) ∙ other)
+  plain other =
+      let out = outs code s i m found in
+      Plain (no_check s i m found m' other) (ap (λ (n : Machine). n.own.table) now_is ∙ tabled s i found m _ out other) (λ d is.
+      let k = (reports s i found m _ out (Conflict d) refl fresh (ap (λ (n : Machine). n.own.stop) (sym now_is) ∙ is)).0 in
+      yes (sym (is_check d.kind k.0 d.site) ∙ ap is_access_check (sym k.1) ∙ other))
 
   by_instr : (j : Instr) → i ≡ j → Does s words m i (touch_of s i m found m') m'
   by_instr (instrs.ChkRead c site) is = checks Read c site is (ap (λ j. touch_of s j m found m') is) (ap (λ j. after (act code s j m) found) is) (ap (λ j. asked_by (act code s j m)) is)

@@ -2,13 +2,13 @@
 use Rattle.std.proofs.{Common.{◌≡◌, ℕ, pos, ◌⊎◌, ◌↔◌, Bool, true, false, ◌&&◌, List, [], ◌∷◌, Option, Some, None, refl, sym, ap, ◌∙◌, subst, ⊎_elim, arith, eqb-true}, lemmas.Bool.{cases_eq, false_from_ne_true as unset, true_from_ne_false as some_true}}
 use Rattle.std.specs.Prelude.{slice_index}
 use Rattle.sharc_tree.specs.declared.event.SourceEvent.{SourceEvent}
-use Rattle.sharc_code.specs.{declared.code.Code.Code, declared.instr.Instr.Instr, declared.shape.Shape.Shape, declared.state.TurnState.TheVariants.Ended, Laws.RunLaws, Layout.{Fits, state_word}, Machine.{Machine, instr_at, act, exit}, Opening.opening_words, Path.{turn, after, may_go}, Runs.{Turn, Global, IsRun, opening_of, result_of, state_now}, Says.said, Whole.{one_thread, bounds, place_after}}
+use Rattle.sharc_code.specs.{declared.code.Code.Code, declared.instr.Instr.Instr, declared.shape.Shape.Shape, declared.state.TurnState.TheVariants.Ended, Laws.RunLaws, Layout.{Fits, state_word}, Machine.{Machine, instr_at, act, exit}, Opening.opening_words, Outcomes.is_exit, Path.{turn, after, may_go}, Runs.{Turn, Global, IsRun, opening_of, result_of, state_now}, Says.said, Whole.{one_thread, bounds, place_after}}
 use Rattle.sharc_code.specs.declared.instr.Instr.TheVariants as instrs
 use Rattle.sharc_compile.specs.{Consistent.said_now, OfRuns.table_of}
 use Rattle.sharc_meaning.specs.Store.{is_gone, is_natural, went}
 use Rattle.sharc_invariant.specs.{Labels.Labels, Laws.{Keeps, Begins as CodeBegins, CellsAreThere, PointersAreThere, AccessesAreAllowed}, State.IsSmall, Typed.IsWellTyped, Types.Targets}
 use Rattle.sharc_history_laws.specs.History.{history_of}
-use Rattle.sharc_history_laws.proofs.{Acts.thread_said, Broken.{AllOf, all_reverse, none_any}, Consists.consists, Going.is_exit, Leaving.{gone_said, not_gone, leaves_at}, Lists.Newest, Rules.{pushed, newest, newest_now, about_now, number_is, put_same, put_other}}
+use Rattle.sharc_history_laws.proofs.{Acts.thread_said, Broken.{AllOf, all_reverse, none_any}, Consists.consists, Leaving.{gone_said, not_gone, leaves_at}, Lists.Newest, Rules.{pushed, newest, newest_now, about_now, number_is, put_same, put_other}}
 use Rattle.sharc_lemmas.proofs.Bools.{yes}
 
 -- the event says that thread n is gone

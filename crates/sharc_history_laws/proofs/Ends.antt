@@ -1,5 +1,5 @@
 -- What a report may name by the notes and stops at the end of a run is what it may name by those that were there when the check was refused.
-use Rattle.std.proofs.{Common.{◌≡◌, ℕ, ◌≢◌, ◌⊎◌, true, false, List, [], ◌∷◌, ◌++◌, Option, Some, None, refl, sym, ap, ◌∙◌, subst, ⊎_elim}, lemmas.Bool.cases_eq}
+use Rattle.std.proofs.{Common.{◌≡◌, ℕ, ◌≢◌, true, false, List, [], ◌∷◌, ◌++◌, Option, Some, None, refl, sym, ap, ◌∙◌, subst, ⊎_elim}, lemmas.Bool.cases_eq}
 use Rattle.sharc_heap.specs.{declared.shadow_word.Kind.Kind, declared.shadow_word.Kind.TheVariants.{Read, Write}, Accesses.{note_of, site_at}, ShadowWord.{epoch_of, is_of, is_written, stands, Conflicts}}
 use Rattle.sharc_code.specs.{declared.code.Code.Code, declared.shape.Shape.Shape, declared.state.ConflictAt.ConflictAt, declared.state.Stop.TheVariants.Conflict, Machine.{Machine, wrote}, Runs.{Turn, Global, state_now}, Whole.{one_thread, place_after}}
 use Rattle.sharc_invariant.specs.{Labels.Labels, Types.Targets}

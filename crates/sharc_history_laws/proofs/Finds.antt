@@ -9,7 +9,7 @@ use Rattle.sharc_code.specs.declared.code.Parameter.TheVariants as parameters
 use Rattle.sharc_code.specs.declared.instr.Cell.TheVariants as cells
 use Rattle.sharc_code.specs.declared.instr.Instr.TheVariants as instrs
 use Rattle.sharc_compile.specs.Consistent.{Elements, IsNumber, IsApart, IsThere, IsMutex, IsLock, IsFree, IsHeld, IsLength, IsNewIn, IsNewAt, IsArgument, IsArgumentAt, MayFind}
-use Rattle.sharc_invariant.specs.{Types.{Targets, ObjectType, StaticType, Field, FieldType, Content, cells_of, field_in, is_pointer, is_mutex, type_at}, Types.Content.{MutexWord, Pointer}, Labels.{Loaded, OfGlobal, Label, Labels}, Typed.{IsWellTyped, Fine, HasField, HasCell, PointsToMutex}, World.{RegisterOf, ArgumentOf, In, Slot, Cell as CellOf, Loaded as IsLoaded, World, WinOk, in_ref}, Words.{cell_at, length_at, lang_of, if_reference, is_unread, argument_of}, Blocks.{Built, Live}, State.{State, Runs, StageStands, GateStands, NumberStands, BuildsAt, OnHold, object_of_cell, number_in, base_of_cell, refs_at, types_at}, MachineInvariant.IsOn, Laws.CellsAreThere}
+use Rattle.sharc_invariant.specs.{Types.{Targets, ObjectType, Field, FieldType, Content, cells_of, field_in, is_pointer, is_mutex, type_at}, Types.Content.Pointer, Labels.{Loaded, OfGlobal, Label, Labels}, Typed.{IsWellTyped, Fine, HasField, HasCell, PointsToMutex}, World.{RegisterOf, ArgumentOf, In, Slot, Cell as CellOf, Loaded as IsLoaded, World, WinOk, in_ref}, Words.{cell_at, length_at, lang_of, if_reference, is_unread, argument_of}, Blocks.{Built, Live}, State.{State, Runs, StageStands, GateStands, NumberStands, BuildsAt, OnHold, object_of_cell, number_in, base_of_cell, refs_at, types_at}, MachineInvariant.IsOn, Laws.CellsAreThere}
 use Rattle.sharc_history_laws.proofs.{Gates.{LoadedStands, no_pending}, Single.{single, rests_hold}, Stands.{register_is, live_slot, live_low, top, gate, known_ref, some_base, there, live_ref, target_ref}}
 
 module _ (there_laws : CellsAreThere) (x : Targets) (code : Code) (s : Shape) (ls : Labels) (wt : IsWellTyped x code ls) (fits : Fits code s) (g : Global Machine) (world : World) (st : State x code s ls g world) where
@@ -326,47 +326,7 @@ module _ (there_laws : CellsAreThere) (x : Targets) (code : Code) (s : Shape) (l
       by_instr (instrs.ChkLockLoaded site) is = let i = instrs.ChkLockLoaded site in let f = fine i is in λ lt. loaded_apart (rest i is refl) f.0 f.1 f.2 f.3 f.4 lt
       by_instr (instrs.Lock c site) is = λ z. free_at c site is z
       by_instr (instrs.Unlock r c site) is = held_at r c site is
-      by_instr (instrs.Constant r v) is = tt
-      by_instr (instrs.Move r from) is = tt
-      by_instr (instrs.MoveReference r from) is = tt
-      by_instr (instrs.Null r) is = tt
-      by_instr (instrs.ComputeInt operator r a b site) is = tt
-      by_instr (instrs.ComputeLong operator r a b site) is = tt
-      by_instr (instrs.NegateInt r a site) is = tt
-      by_instr (instrs.NegateLong r a site) is = tt
-      by_instr (instrs.Complement r a) is = tt
-      by_instr (instrs.Not r a) is = tt
-      by_instr (instrs.SameReference r a b) is = tt
-      by_instr (instrs.ChkWidth width r site) is = tt
-      by_instr (instrs.Jump pc) is = tt
-      by_instr (instrs.JumpIfZero r pc) is = tt
-      by_instr (instrs.JumpIfNull r pc) is = tt
-      by_instr (instrs.Call pc ints refs site) is = tt
-      by_instr (instrs.Return site) is = tt
-      by_instr (instrs.ChkNull r site) is = tt
-      by_instr (instrs.ChkPositive r site) is = tt
-      by_instr (instrs.ChkRoom site) is = tt
-      by_instr (instrs.GlobalBounds r all count field site) is = tt
-      by_instr (instrs.ChkRead c site) is = tt
-      by_instr (instrs.ChkWrite c site) is = tt
-      by_instr (instrs.Load r c site) is = tt
-      by_instr (instrs.Store r c site) is = tt
-      by_instr (instrs.Raise r from) is = tt
-      by_instr (instrs.RaiseLoaded r) is = tt
-      by_instr (instrs.Lower r) is = tt
-      by_instr (instrs.TakeLocal r from site) is = tt
-      by_instr (instrs.TestSole r site) is = tt
-      by_instr (instrs.Clear r cells) is = tt
-      by_instr (instrs.Give r site) is = tt
-      by_instr (instrs.Free r layout site) is = tt
-      by_instr (instrs.Spawn r function from site) is = tt
-      by_instr (instrs.Join r site) is = tt
-      by_instr (instrs.Print r site) is = tt
-      by_instr instrs.Exit is = tt
-      by_instr (instrs.CondEnter c site) is = tt
-      by_instr (instrs.CondWait c site) is = tt
-      by_instr (instrs.CondSignal c site) is = tt
-      by_instr (instrs.CondBroadcast c site) is = tt
+      by_instr _ is = tt
 
       pub finds : MayFind code s T (g.threads t) found (instr_at code (g.threads t).at.pc)
       finds = by_instr (instr_at code m.at.pc) refl

@@ -131,32 +131,7 @@ module _ (s : Shape) (n : ℕ) (few : n < THREADS) where
     to_spawn r f site from _ h = first 2 _ (omega arith)
 
     by_instr : (i : Instr) → Here i → K (act code s i m)
-    by_instr (instrs.Constant r v) h = tt
-    by_instr (instrs.Move r from) h = tt
-    by_instr (instrs.MoveReference r from) h = tt
-    by_instr (instrs.Null r) h = tt
-    by_instr (instrs.ComputeInt operator r a b site) h = tt
-    by_instr (instrs.ComputeLong operator r a b site) h = tt
-    by_instr (instrs.NegateInt r a site) h = tt
-    by_instr (instrs.NegateLong r a site) h = tt
-    by_instr (instrs.Complement r a) h = tt
-    by_instr (instrs.Not r a) h = tt
-    by_instr (instrs.SameReference r a b) h = tt
-    by_instr (instrs.ChkWidth width r site) h = tt
-    by_instr (instrs.Jump pc) h = tt
-    by_instr (instrs.JumpIfZero r pc) h = tt
-    by_instr (instrs.JumpIfNull r pc) h = tt
-    by_instr (instrs.Call pc ints refs site) h = tt
-    by_instr (instrs.Return site) h = tt
-    by_instr (instrs.ChkNull r site) h = tt
-    by_instr (instrs.ChkHeld c site) h = tt
-    by_instr (instrs.ChkNotHeld c site) h = tt
-    by_instr (instrs.ChkPositive r site) h = tt
-    by_instr (instrs.ChkRoom site) h = tt
-    by_instr (instrs.ChkLock c site) h = tt
-    by_instr (instrs.ChkLockLoaded site) h = tt
     by_instr (instrs.Bounds r base count field site) h = Leaves (λ v. refl)
-    by_instr (instrs.GlobalBounds r all count field site) h = tt
     by_instr (instrs.ChkRead c site) h = of_shadow _ _
     by_instr (instrs.ChkWrite c site) h = of_shadow _ _
     by_instr (instrs.Load r c site) h = Leaves (λ v. refl)
@@ -184,6 +159,7 @@ module _ (s : Shape) (n : ℕ) (few : n < THREADS) where
     by_instr (instrs.CondWait c site) h = Leaves (λ v. refl)
     by_instr (instrs.CondSignal c site) h = to_signal m (place m c) m.own.stage
     by_instr (instrs.CondBroadcast c site) h = of_cell (place m c) _
+    by_instr _ h = tt
 
     pub spares_given : Here (instr_at code m.at.pc) → K (turn code s m)
     spares_given h = by_instr (instr_at code m.at.pc) h

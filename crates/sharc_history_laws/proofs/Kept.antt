@@ -1,6 +1,6 @@
 -- A mutex that is locked by the events is in a held log; and what a Spawn has given a thread that has had no event is
 -- the argument that it is to read.
-use Rattle.std.proofs.{Common.{◌≡◌, ◌≢◌, ℕ, ℤ, pos, zero, suc, ◌^◌, ◌<◌, ◌≤◌, ◌⊎◌, inl, inr, ⊎_elim, Bool, true, false, not, ◌&&◌, ◌||◌, length, List, [], ◌∷◌, ◌++◌, reverse, Some, if◌then◌else◌, refl, sym, ap, ◌∙◌, subst, arith, eqb-true, append_assoc}, lemmas.Bool.{and_parts, cases_lt, or_right}, lemmas.Bool.Decides.nat_tests, lemmas.List.{get_or_append_left, get_or_push, length_push}}
+use Rattle.std.proofs.{Common.{◌≡◌, ◌≢◌, ℕ, ℤ, pos, zero, suc, ◌^◌, ◌<◌, ◌≤◌, ◌⊎◌, inl, inr, ⊎_elim, Bool, true, false, not, ◌&&◌, length, List, [], ◌∷◌, ◌++◌, reverse, Some, if◌then◌else◌, refl, sym, ap, ◌∙◌, subst, arith, eqb-true, append_assoc}, lemmas.Bool.{and_parts, cases_lt, or_right}, lemmas.Bool.Decides.nat_tests, lemmas.List.{get_or_append_left, get_or_push, length_push}}
 use Rattle.std.specs.{Prelude.{Any, Contains, slice_index, nat_lt, ◌==◌}, List.list_any}
 use Rattle.sharc_word.specs.declared.step.TheConstants.{THREADS}
 use Rattle.sharc_tree.specs.declared.event.Act.TheVariants as acts

@@ -5,10 +5,9 @@ use Rattle.sharc_tree.specs.declared.event.SourceEvent.{SourceEvent}
 use Rattle.sharc_heap.specs.{State.NewView, declared.stage.NewStage.NewStage}
 use Rattle.sharc_heap.specs.declared.stage.NewStage.TheVariants as news
 use Rattle.sharc_locks.specs.Waiters.{waits_in}
-use Rattle.sharc_code.specs.{declared.code.Code.Code, declared.instr.Cell.Cell, declared.instr.Register.Register, declared.instr.Instr.Instr, declared.state.Stage.Stage, declared.state.Stage.TheVariants.{Makes, Uncounts, Begins, Enters, Withdraws, WithdrawsFrom, Leaves as Leaving, Wakes}, Machine.{Machine, ref}, Says.{said, take_local, nobody, in_signal, in_exit, in_spawn, in_start, in_free, in_new, new_event}}
+use Rattle.sharc_code.specs.{declared.code.Code.Code, declared.instr.Cell.Cell, declared.instr.Register.Register, declared.instr.Instr.Instr, declared.state.Stage.Stage, declared.state.Stage.TheVariants.{Makes, Uncounts, Begins, Enters, Withdraws, WithdrawsFrom, Leaves as Leaving, Wakes}, Machine.{Machine, ref}, Outcomes.is_exit, Says.{said, take_local, nobody, in_signal, in_exit, in_spawn, in_start, in_free, in_new, new_event}}
 use Rattle.sharc_code.specs.declared.instr.Instr.TheVariants as instrs
 use Rattle.sharc_meaning.specs.Store.{is_gone}
-use Rattle.sharc_history_laws.proofs.Going.{is_exit}
 
 abbrev pub gone_said : Option SourceEvent → Bool
 gone_said None = false
@@ -55,49 +54,6 @@ module _ (code : Code) (m : Machine) where
   stays_new site cells _ = refl
 
   pub not_gone : (i : Instr) (found elements : ℕ) → is_exit i ≡ false → gone_said (said code i m found elements) ≡ false
-  not_gone (instrs.Constant r v) found elements e = refl
-  not_gone (instrs.Move r from) found elements e = refl
-  not_gone (instrs.MoveReference r from) found elements e = refl
-  not_gone (instrs.Null r) found elements e = refl
-  not_gone (instrs.ComputeInt operator r a b site) found elements e = refl
-  not_gone (instrs.ComputeLong operator r a b site) found elements e = refl
-  not_gone (instrs.NegateInt r a site) found elements e = refl
-  not_gone (instrs.NegateLong r a site) found elements e = refl
-  not_gone (instrs.Complement r a) found elements e = refl
-  not_gone (instrs.Not r a) found elements e = refl
-  not_gone (instrs.SameReference r a b) found elements e = refl
-  not_gone (instrs.ChkWidth width r site) found elements e = refl
-  not_gone (instrs.Jump pc) found elements e = refl
-  not_gone (instrs.JumpIfZero r pc) found elements e = refl
-  not_gone (instrs.JumpIfNull r pc) found elements e = refl
-  not_gone (instrs.Call pc ints refs site) found elements e = refl
-  not_gone (instrs.Return site) found elements e = refl
-  not_gone (instrs.ChkNull r site) found elements e = refl
-  not_gone (instrs.ChkHeld c site) found elements e = refl
-  not_gone (instrs.ChkNotHeld c site) found elements e = refl
-  not_gone (instrs.ChkPositive r site) found elements e = refl
-  not_gone (instrs.ChkRoom site) found elements e = refl
-  not_gone (instrs.ChkLock c site) found elements e = refl
-  not_gone (instrs.ChkLockLoaded site) found elements e = refl
-  not_gone (instrs.Bounds r base count field site) found elements e = refl
-  not_gone (instrs.GlobalBounds r all count field site) found elements e = refl
-  not_gone (instrs.ChkRead c site) found elements e = refl
-  not_gone (instrs.ChkWrite c site) found elements e = refl
-  not_gone (instrs.Raise r from) found elements e = refl
-  not_gone (instrs.RaiseLoaded r) found elements e = refl
-  not_gone (instrs.Lower r) found elements e = refl
-  not_gone (instrs.TestSole r site) found elements e = refl
-  not_gone (instrs.Clear r cells) found elements e = refl
-  not_gone (instrs.Unlock r c site) found elements e = refl
-  not_gone (instrs.Print r site) found elements e = refl
-  not_gone (instrs.CondEnter c site) found elements e = refl
-  not_gone (instrs.CondBroadcast c site) found elements e = refl
-  not_gone (instrs.Give r site) found elements e = refl
-  not_gone (instrs.Load r c site) found elements e = refl
-  not_gone (instrs.Store r c site) found elements e = refl
-  not_gone (instrs.LoadRef c site) found elements e = refl
-  not_gone (instrs.Exchange r c site) found elements e = refl
-  not_gone (instrs.TakeCell r c site) found elements e = refl
   not_gone (instrs.TakeLocal r from site) found elements e = stays_local site (ref m from) elements
   not_gone (instrs.New r count cells site) found elements e = stays_new site cells m.own.stage
   not_gone (instrs.Free r layout site) found elements e = stays_free r site elements m.own.stage
@@ -108,6 +64,7 @@ module _ (code : Code) (m : Machine) where
   not_gone instrs.Exit found elements e = absurd (let f : true ≡ false = e in cc)
   not_gone (instrs.CondWait c site) found elements e = either_no (waits_in found m.own.number) _ _ refl refl
   not_gone (instrs.CondSignal c site) found elements e = stays_signal c site found m.own.stage
+  not_gone _ found elements e = refl
 
   -- at this stage of an Exit
   pub leaves_at : (stage : Stage) → gone_said (in_exit code m stage) ≡ true → stage ≡ Leaving

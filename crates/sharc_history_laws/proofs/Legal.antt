@@ -10,14 +10,14 @@ use Rattle.sharc_heap.specs.declared.stage.NewStage.{NewStage}
 use Rattle.sharc_heap.specs.declared.stage.NewStage.TheVariants as news
 use Rattle.sharc_locks.specs.{Waiters.waits_in, declared.held_log.HeldMutex.HeldMutex, HeldLog.object_of}
 use Rattle.sharc_ctype.specs.Resolved.{Resolution}
-use Rattle.sharc_code.specs.{declared.code.Code.Code, declared.instr.Cell.Cell, declared.instr.Instr.Instr, declared.instr.Register.Register, declared.shape.Shape.Shape, declared.state.Stage.Stage, declared.state.Stage.TheVariants.{Makes, Uncounts, Begins, Enters, Withdraws, WithdrawsFrom, Leaves, Wakes}, Laws.RunLaws, Arithmetic.int_of, Layout.{Fits, first_cell, state_word}, Machine.{Machine, step_of, instr_at, int, ref, word, act, place, object, is_held, join, joined, trapped, Local, Asks}, Path.{turn, asked_by}, Runs.{Turn, Global, MayTurn, result_of}, Says.{said, cell_at, speaks_of, take_local, nobody, in_signal, in_exit, in_spawn, in_start, in_free, in_new, new_event, event_at, reference}, Whole.{one_thread, bounds, place_after}}
+use Rattle.sharc_code.specs.{declared.code.Code.Code, declared.instr.Cell.Cell, declared.instr.Instr.Instr, declared.instr.Register.Register, declared.shape.Shape.Shape, declared.state.Stage.Stage, declared.state.Stage.TheVariants.{Makes, Uncounts, Begins, Enters, Withdraws, WithdrawsFrom, Leaves, Wakes}, Laws.RunLaws, Arithmetic.int_of, Layout.{Fits, first_cell, state_word}, Machine.{Machine, step_of, instr_at, int, ref, word, act, place, object, is_held, join, joined, trapped, Local, Asks}, Outcomes.is_locking, Path.{turn, asked_by}, Runs.{Turn, Global, MayTurn, result_of}, Says.{said, cell_at, speaks_of, take_local, nobody, in_signal, in_exit, in_spawn, in_start, in_free, in_new, new_event, event_at, reference}, Whole.{one_thread, bounds, place_after}}
 use Rattle.sharc_code.specs.declared.instr.Instr.TheVariants as instrs
 use Rattle.sharc_history_laws.specs.{Told.{state_of, TellsState}, Stores.is_about_waiters}
 use Rattle.sharc_compile.specs.{Consistent.{Elements, MayFind}, OfRuns.table_of}
 use Rattle.sharc_meaning.specs.{Events.{is_cell, locked_by, unlocked_by}, Obeys.History, Store.{MayCome, IsFresh, was_spawned, went, was_locked_by, value_after}}
 use Rattle.sharc_invariant.specs.{Types.{Targets, Field}, Labels.Labels, Typed.{IsWellTyped, Fine, Accesses}, Words.is_ended, State.{IsSmall, StageStands, OnHold}, MachineInvariant.IsOn, Laws.{Keeps, CellsAreThere, PointersAreThere, AccessesAreAllowed, StateStands}}
 use Rattle.sharc_invariant.specs.Words as Words
-use Rattle.sharc_history_laws.proofs.{Consists.{Consists, found_is, quiet_is, own_turn, header_built, built_low, live_not_built}, Contents.{value_is, newest_value, value_held, content_of, word_of_cell, Contents}, Emptying.IsEmptied, Holding.{cell_eq, holds_in}, Lists.{Newest, live_in, is_live_in}, Living.LivesTold, Locked.{IsIn, LogTold, names_cell, one_place, held_told}, Locking.word_is, Logged.{LogHas, is_logged}, Mutual.{Mutual, MayMutex, no_lock, locked_in, locked_by_in, locked_is, locked_by_is}, Mutexless.{mutex_said, no_mutex, not_locked}, Logs.is_locking, Rules.number_is, Shared.number_of, Single.{single, rests_hold}, Sparing.is_value, Tables.header_of, Threaded.ThreadsTold, Unemptied.not_emptied}
+use Rattle.sharc_history_laws.proofs.{Consists.{Consists, found_is, quiet_is, own_turn, header_built, built_low, live_not_built}, Contents.{value_is, newest_value, value_held, content_of, word_of_cell, Contents}, Emptying.IsEmptied, Holding.{cell_eq, holds_in}, Lists.{Newest, live_in, is_live_in}, Living.LivesTold, Locked.{IsIn, LogTold, names_cell, one_place, held_told}, Locking.word_is, Logged.{LogHas, is_logged}, Mutual.{Mutual, MayMutex, no_lock, locked_in, locked_by_in, locked_is, locked_by_is}, Mutexless.{mutex_said, no_mutex, not_locked}, Rules.number_is, Shared.number_of, Single.{single, rests_hold}, Sparing.is_value, Tables.header_of, Threaded.ThreadsTold, Unemptied.not_emptied}
 use Rattle.sharc_history_laws.proofs.Placed as Placed
 use Rattle.sharc_lemmas.proofs.Bools.{yes}
 

@@ -8,7 +8,6 @@ pub mod Born
 pub mod Arriving
 pub mod Awaited
 pub mod Broken
-pub mod Calm
 pub mod Carried
 pub mod Caused
 pub mod Checks
@@ -24,7 +23,6 @@ pub mod Finds
 pub mod Followed
 pub mod Gates
 pub mod Given
-pub mod Going
 pub mod Holding
 pub mod Legal
 pub mod Keeping
@@ -38,7 +36,6 @@ pub mod LockShown
 pub mod Locked
 pub mod Locking
 pub mod Logged
-pub mod Logs
 pub mod Modes
 pub mod ModesKept
 pub mod Mutexless
@@ -47,7 +44,7 @@ pub mod Named
 pub mod Noting
 pub mod OneMode
 pub mod Opening
-pub mod Quits
+pub mod Outcomes
 pub mod Remaining
 pub mod Rules
 pub mod SeenCells
@@ -63,7 +60,6 @@ pub mod Stands
 pub mod Started
 pub mod Stored
 pub mod Staying
-pub mod Tabled
 pub mod Tables
 pub mod Telling
 pub mod Threaded

@@ -1,11 +1,9 @@
 -- A lock check that is refused is of an access whose mode names the mutex that the check looks for.
-use Rattle.std.proofs.{Common.{◌≡◌, ℕ, zero, suc, ◌+◌, Bool, true, false, List, [], ◌∷◌, ◌++◌, Some, None, is_some, if◌then◌else◌, refl, sym, ap, ◌∙◌, subst, ⊎_elim}, lemmas.Bool.cases_eq}
+use Rattle.std.proofs.{Common.{◌≡◌, ℕ, inl, inr, zero, suc, ◌+◌, Bool, true, false, List, [], ◌∷◌, ◌++◌, Some, None, refl, sym, ap, ◌∙◌, subst, ⊎_elim}, lemmas.Bool.cases_eq}
 use Rattle.std.specs.Prelude.{◌==◌}
 use Rattle.sharc_tree.specs.{declared.event.CellAt.CellAt, declared.event.SourceEvent.SourceEvent}
 use Rattle.sharc_tree.specs.declared.event.CellMode.TheVariants as modes
-use Rattle.sharc_tree.specs.declared.trap.Trap.TheVariants as traps
-use Rattle.sharc_heap.specs.{declared.shadow_word.Kind.Kind, declared.shadow_word.Kind.TheVariants.{Read, Write}, Accesses.{note_of, site_at}, ShadowWord.epoch_of, Functions.{conflicts_in, noted}}
-use Rattle.sharc_code.specs.{declared.code.Code.Code, declared.code.PlaceMode.PlaceMode, declared.instr.Cell.Cell, declared.instr.Instr.Instr, declared.shape.Shape.Shape, declared.state.Stop.Stop, declared.state.Stop.TheVariants.{Conflict, NoLock, NotSole, Trap}, Layout.{Fits, cell_of, cell_word, granule_at, granule_of}, Machine.{Machine, Own, instr_at, act, place, word, is_held, is_of_null, goes, stopped, checked, lock_checked, tested, with_own, wrote, with_note}, Opening.opening_words, Path.{turn, after}, Runs.{Turn, Global, IsRun, MayTurn, put, state_now, result_of, opening_of}, Says.{cell_at, made_cell, mode_of, place_at, lock_through}, Whole.{one_thread, bounds, place_after}}
+use Rattle.sharc_code.specs.{declared.code.Code.Code, declared.code.PlaceMode.PlaceMode, declared.instr.Cell.Cell, declared.instr.Instr.Instr, declared.shape.Shape.Shape, declared.state.Stop.Stop, declared.state.Stop.TheVariants.NoLock, Layout.Fits, Machine.{Machine, instr_at, word, is_of_null, stopped}, Opening.opening_words, Outcomes.{TurnsComeOut, MayStop}, Path.{turn, after}, Runs.{Turn, Global, IsRun, MayTurn, put, state_now, result_of, opening_of}, Says.{cell_at, made_cell, mode_of, place_at, lock_through}, Whole.{one_thread, bounds, place_after}}
 use Rattle.sharc_code.specs.declared.code.PlaceMode.TheVariants as places
 use Rattle.sharc_code.specs.declared.instr.Cell.TheVariants as cells
 use Rattle.sharc_code.specs.declared.instr.Instr.TheVariants as instrs
@@ -13,67 +11,8 @@ use Rattle.sharc_compile.specs.Consistent.{IsThere}
 use Rattle.sharc_meaning.specs.{Events.{Access, access_by, events_of, holds_mutex}, Obeys.{History, Obeys, Until}}
 use Rattle.sharc_invariant.specs.{Types.{Targets, Field, FieldMode, Content}, Labels.{Gate, Closed, Checked, Holds, Loaded, HoldsLoaded, Sole, Label, Labels, LessGate, LessNumber, SameReference, gated}, Typed.{IsWellTyped, Fine, Accesses as TypedAccess, MayAccess, IsMode, knows_base}, State.{State, OnHold}, MachineInvariant.IsOn, Laws.CellsAreThere}
 use Rattle.sharc_history_laws.specs.{Reports.{IsLockCheck, LacksLock}, Followed.{Accesses, IsLocked, IsFollowed, ChecksAreFollowed, access_to, access_of, access_checked, ShowsLock}}
-use Rattle.sharc_history_laws.proofs.{Consists.Consists, Finds.is_there, Followed.accessed_is, LockModes.{same_copies, lock_mode_now}, Quits.{Quits, Still, Traps, is_trap, is_reporting, quits}, Rules.{put_same, put_other}, Single.rests_hold, Sole.{Halting, stop_none}}
+use Rattle.sharc_history_laws.proofs.{Consists.Consists, Finds.is_there, Followed.accessed_is, LockModes.{same_copies, lock_mode_now}, Outcomes.reports, Rules.{put_same, put_other}, Single.rests_hold, Sole.{Halting, stop_none}}
 use Rattle.sharc_lemmas.proofs.Bools.{yes}
-
--- ---- the turn that stopped there
-pub data LockStop (s : Shape) (m : Machine) (i : Instr) (site mutex : ℕ) (y : Machine) : Type 0 where
-  OfCell : (c : Cell) → i ≡ instrs.ChkLock c site → is_of_null m c ≡ false → y ≡ stopped m (NoLock site mutex) → LockStop s m i site mutex y
-  OfLoaded : i ≡ instrs.ChkLockLoaded site → (m.pending == 0) ≡ false → y ≡ stopped m (NoLock site mutex) → LockStop s m i site mutex y
-
-module _ (code : Code) (s : Shape) (m : Machine) (fresh : m.own.stop ≡ None) (found site mutex : ℕ) where
-  abbrev IsThat : Machine → Type 0
-  IsThat y = y.own.stop ≡ Some (NoLock site mutex)
-
-  not_none : (y : Machine) → y.own.stop ≡ None → IsThat y → ⊥
-  not_none y e is = let f : None ≡ Some (NoLock site mutex) = sym e ∙ is in cc
-
-  record Refused (null : Bool) (at : ℕ) (y : Machine) : Type 0 where
-    pub some : null ≡ false
-    pub at_site : at ≡ site
-    pub is : y ≡ stopped m (NoLock site mutex)
-
-  lock_check : (b : Bool) (own at : ℕ) → IsThat (lock_checked m b own at) → Refused b at (lock_checked m b own at)
-  lock_check true own at is = absurd (let f : Some (Trap traps.NullPointer at) ≡ Some (NoLock site mutex) = is in cc)
-  lock_check false own at is = elim (is_held m own) as (λ b. IsThat (if b then goes m else stopped m (NoLock at own)) → Refused false at (if b then goes m else stopped m (NoLock at own))) [
-    | true ↦ λ z. absurd (not_none (goes m) fresh z)
-    | false ↦ λ z.
-        let f : Some (NoLock at own) ≡ Some (NoLock site mutex) = z in
-        let a : at ≡ site = cc in
-        let b : NoLock at own ≡ NoLock site mutex = cc in
-        record { some = refl; at_site = a; is = ap (stopped m) b }
-  ] is
-
-  sole_test : (at : ℕ) → IsThat (tested m at found) → ⊥
-  sole_test at is = elim (found == 1) as (λ b. IsThat (if b then goes m else stopped m (NotSole at found)) → ⊥) [
-    | true ↦ λ z. not_none (goes m) fresh z
-    | false ↦ λ z. let f : Some (NotSole at found) ≡ Some (NoLock site mutex) = z in cc
-  ] is
-
-  access_check : (kind : Kind) (granule at : ℕ) → IsThat (checked m kind granule at found) → ⊥
-  access_check kind granule at is = elim (conflicts_in found m.own.number kind (wrote m granule found)) as (λ b. IsThat (if b then stopped m (Conflict record { kind = kind; site = at; granule = granule; epoch = epoch_of found; old = found }) else with_own m (with_note m.own granule kind (epoch_of found) at)) → ⊥) [
-    | true ↦ λ z. let f : Some (Conflict record { kind = kind; site = at; granule = granule; epoch = epoch_of found; old = found }) ≡ Some (NoLock site mutex) = z in cc
-    | false ↦ λ z. not_none (with_own m (with_note m.own granule kind (epoch_of found) at)) (note_stop m.own granule kind (epoch_of found) at ∙ fresh) z
-  ] is
-    where
-      note_stop : (own : Own) (granule : ℕ) (kind : Kind) (epoch site : ℕ) → (with_note own granule kind epoch site).stop ≡ own.stop
-      note_stop own granule kind epoch site =
-          elim (is_some (site_at (note_of own.table granule kind) epoch)) as (λ b. (if b then own else record own { table = noted own.table granule kind record { epoch = epoch; site = site } }).stop ≡ own.stop) [ true ↦ refl | false ↦ refl ]
-
-  quiet : (i : Instr) → is_reporting i ≡ false → IsThat (after (act code s i m) found) → ⊥
-  quiet i other is = by (quits code s m i found other)
-    where
-      by : Quits m (after (act code s i m) found) → ⊥
-      by (Still e) = not_none (after (act code s i m) found) (e ∙ fresh) is
-      by (Traps e go) = yes (sym e ∙ ap is_trap is)
-
-  pub lock_stop : (i : Instr) → IsThat (after (act code s i m) found) → LockStop s m i site mutex (after (act code s i m) found)
-  lock_stop (instrs.ChkLock c at) is = let k = lock_check (is_of_null m c) (word s m c) at is in OfCell c (ap (instrs.ChkLock c) k.at_site) k.some k.is
-  lock_stop (instrs.ChkLockLoaded at) is = let k = lock_check (m.pending == 0) (cell_word s (cell_of m.pending 0)) at is in OfLoaded (ap instrs.ChkLockLoaded k.at_site) k.some k.is
-  lock_stop (instrs.ChkRead c at) is = absurd (access_check Read (granule_at s (granule_of (place m c))) at is)
-  lock_stop (instrs.ChkWrite c at) is = absurd (access_check Write (granule_at s (granule_of (place m c))) at is)
-  lock_stop (instrs.TestSole r at) is = absurd (sole_test at is)
-  lock_stop i is = absurd (quiet i refl is)
 
 -- ---- the access that the check is of
 -- of the instruction, which accesses this cell at this site
@@ -237,7 +176,7 @@ module _ (code : Code) (m : Machine) (stop : Stop) where
   same_access _ = refl
 
 -- ---- runs
-module _ (cell_laws : CellsAreThere) (x : Targets) (code : Code) (s : Shape) (ls : Labels) (wt : IsWellTyped x code ls) (fits : Fits code s) (followed : ChecksAreFollowed code)
+module _ (outs : TurnsComeOut) (cell_laws : CellsAreThere) (x : Targets) (code : Code) (s : Shape) (ls : Labels) (wt : IsWellTyped x code ls) (fits : Fits code s) (followed : ChecksAreFollowed code)
     (all : (run : List Turn) → IsRun bounds (one_thread code s) (opening_of bounds (one_thread code s) (opening_words code s)) run → Halting code s run)
     (stands : (run : List Turn) → IsRun bounds (one_thread code s) (opening_of bounds (one_thread code s) (opening_words code s)) run → Consists x code s ls run) where
   abbrev RunOf : List Turn → Type 0
@@ -276,8 +215,11 @@ module _ (cell_laws : CellsAreThere) (x : Targets) (code : Code) (s : Shape) (ls
     abbrev st : State x code s ls (place_after code s earlier) (stands earlier run.0).world
     st = (stands earlier run.0).state
 
-    names_now : LockStop s ((place_after code s earlier).threads one.thread) i site word now → Names now site
-    names_now (OfCell c is some y) =
+    names_now : MayStop s i ((place_after code s earlier).threads one.thread) (result_of one.event) (NoLock site word) → now ≡ stopped ((place_after code s earlier).threads one.thread) (NoLock site word) → Names now site
+    names_now (inl stop_at) y =
+        let c = stop_at.0 in
+        let is = stop_at.1 in
+        let some = stop_at.2 in
         let k = of_cell cell_laws x code s ls wt fits followed g (stands earlier run.0).world st one.thread on c site is some in
         let stop = NoLock site word in
         subst (λ y. Names y site) (sym y) (record {
@@ -287,7 +229,9 @@ module _ (cell_laws : CellsAreThere) (x : Targets) (code : Code) (s : Shape) (ls
           is = same_access code checker stop (instr_at code (checker.at.pc + 1)) ∙ k.is;
           mode = k.mode;
         })
-    names_now (OfLoaded is some y) =
+    names_now (inr stop_at) y =
+        let is = stop_at.0 in
+        let some = stop_at.1 in
         let k = of_loaded cell_laws x code s ls wt fits followed g (stands earlier run.0).world st one.thread on site is some in
         let stop = NoLock site word in
         subst (λ y. Names y site) (sym y) (record {
@@ -299,7 +243,7 @@ module _ (cell_laws : CellsAreThere) (x : Targets) (code : Code) (s : Shape) (ls
         })
 
     pub names_then : now.own.stop ≡ Some (NoLock site word) → Names now site
-    names_then is = names_now (lock_stop code s checker fresh (result_of one.event) site word i is)
+    names_then is = let k = reports s i (result_of one.event) checker now (outs code s i checker (result_of one.event)) (NoLock site word) refl fresh is in names_now k.0 k.1
 
   pub locks_named : (run : List Turn) → RunOf run → (t site word : ℕ) → ((place_after code s run).threads t).own.stop ≡ Some (NoLock site word) → Names ((place_after code s run).threads t) site
   locks_named [] run t site word is = absurd (let f : None ≡ Some (NoLock site word) = is in cc)

@@ -6,13 +6,13 @@ use Rattle.sharc_tree.specs.{declared.event.SourceEvent.SourceEvent, declared.ev
 use Rattle.sharc_tree.specs.declared.event.CellMode.TheVariants as modes
 use Rattle.sharc_tree.specs.declared.event.Object.TheVariants as objects
 use Rattle.sharc_locks.specs.{declared.held_log.HeldMutex.HeldMutex, HeldLog.{with_mutex, without}}
-use Rattle.sharc_code.specs.{declared.code.Code.Code, declared.code.PlaceMode.PlaceMode, declared.instr.Cell.Cell, declared.instr.Instr.Instr, declared.shape.Shape.Shape, Laws.RunLaws, Layout.{Fits, first_cell, words_of, cell_of}, Machine.{Machine, instr_at, place, object, word, is_held, taken, act, locked, goes, fails}, Opening.opening_words, Path.{turn, after}, Runs.{Turn, Global, IsRun, MayTurn, after_turn, put, state_now, result_of, opening_of}, Whole.{one_thread, bounds, place_after}, Says.{said, cell_at, mode_of, place_at, speaks_of, event_at, lock_through}}
+use Rattle.sharc_code.specs.{declared.code.Code.Code, declared.code.PlaceMode.PlaceMode, declared.instr.Cell.Cell, declared.instr.Instr.Instr, declared.shape.Shape.Shape, Laws.RunLaws, Layout.{Fits, first_cell, words_of, cell_of}, Machine.{Machine, instr_at, place, object, word, is_held, taken, act, locked, goes, fails}, Opening.opening_words, Outcomes.is_locking, Path.{turn, after}, Runs.{Turn, Global, IsRun, MayTurn, after_turn, put, state_now, result_of, opening_of}, Whole.{one_thread, bounds, place_after}, Says.{said, cell_at, mode_of, place_at, speaks_of, event_at, lock_through}}
 use Rattle.sharc_code.specs.declared.instr.Instr.TheVariants as instrs
 use Rattle.sharc_compile.specs.{Consistent.{said_now, IsMutex}, OfRuns.table_of}
 use Rattle.sharc_meaning.specs.{Events.{Access, same_object, same_cell, is_cell, locks, unlocks, is_of}, Obeys.{History, IsAccess}}
 use Rattle.sharc_invariant.specs.{Types.{Targets, FieldMode}, Labels.Labels, Typed.{IsWellTyped, Fine, MayAccess, IsMode}, World.World, State.{IsSmall, StageStands, GateStands, OnHold}, MachineInvariant.IsOn, Laws.{Keeps, Begins as CodeBegins, CellsAreThere, PointersAreThere, AccessesAreAllowed}}
 use Rattle.sharc_history_laws.specs.History.{history_of}
-use Rattle.sharc_history_laws.proofs.{Single.rests_hold, Stands.gate, Finds.{mutex_cell, pending_apart}, Consists.{Consists, consists_then, at_first}, Acts.{access_said, thread_said, is_access, no_access, access_at, IsAccess as TellsAccess, access_of}, Lists.{Newest, EachAccess, no_event, each_push}, Rules.{pushed, newest, newest_now, number_is, about_now, hold_access, put_same, put_other}, Holding.{cell_eq, holds_in, holds_other, holds_own}, Logs.{is_locking, logs}, Mutexless.{mutex_said, no_mutex, not_locked}, Locked.{IsIn, in_append, in_without, Names, names_one, names_cell, one_place, LogTold, held_told, mutex_names, lock_eq, through_is}}
+use Rattle.sharc_history_laws.proofs.{Single.rests_hold, Stands.gate, Finds.{mutex_cell, pending_apart}, Consists.{Consists, consists_then, at_first}, Acts.{access_said, thread_said, is_access, no_access, access_at, IsAccess as TellsAccess, access_of}, Lists.{Newest, EachAccess, no_event, each_push}, Rules.{pushed, newest, newest_now, number_is, about_now, hold_access, put_same, put_other}, Holding.{cell_eq, holds_in, holds_other, holds_own}, Outcomes.logs, Mutexless.{mutex_said, no_mutex, not_locked}, Locked.{IsIn, in_append, in_without, Names, names_one, names_cell, one_place, LogTold, held_told, mutex_names, lock_eq, through_is}}
 use Rattle.sharc_lemmas.proofs.Numbers.{is_below}
 
 object_refl : (a : Object) → same_object a a ≡ true
@@ -175,7 +175,7 @@ module _ (cell_laws : CellsAreThere) (pointers : PointersAreThere) (rights : Acc
 
       others : is_locking i ≡ false → LogTold code s (pushed ev L) one.thread (after (turn code s ((place_after code s earlier).threads one.thread)) found).own.held
       others never =
-          let held = (logs code s m i found never).held in
+          let held = logs s i found m _ (laws.turns.outcomes code s i m found) never in
           let quiet : mutex_said ev ≡ false = ap mutex_said (sym e) ∙ no_mutex code m i found elements never in
           subst (LogTold code s (pushed ev L) t) (sym held) (told_quiet L old ev e quiet)
 

@@ -3,17 +3,15 @@ use Rattle.std.proofs.{Common.{◌≡◌, ℕ, pos, zero, suc, ◌+◌, ◌<◌,
 use Rattle.std.specs.Prelude.{nat_lt, ◌==◌}
 use Rattle.sharc_tree.specs.declared.event.Act.TheVariants as acts
 use Rattle.sharc_tree.specs.{declared.event.SourceEvent.SourceEvent, declared.event.CellAt.CellAt}
-use Rattle.sharc_tree.specs.declared.trap.Trap.TheVariants as traps
 use Rattle.sharc_locks.specs.{declared.held_log.HeldMutex.HeldMutex, HeldLog.{with_mutex, without, object_of}}
-use Rattle.sharc_code.specs.{declared.code.Code.Code, declared.instr.Cell.Cell, declared.instr.Instr.Instr, declared.shape.Shape.Shape, declared.state.Stop.Stop, declared.state.Stop.TheVariants.{Conflict, NoLock, NotSole, Trap}, Laws.RunLaws, Layout.{Fits, first_cell, words_of, cell_of, cell_word, granule_at, granule_of}, Machine.{Machine, Own, instr_at, ref, place, object, word, is_held, is_of_null, taken, act, locked, goes, fails, checked, lock_checked, tested, stopped, with_own, wrote, with_note}, Opening.opening_words, Path.{turn, after, may_go}, Runs.{Turn, Global, IsRun, MayTurn, after_turn, put, state_now, result_of, opening_of}, Whole.{one_thread, bounds, place_after}, Says.{said, cell_at, made_cell, speaks_of, event_at}}
+use Rattle.sharc_code.specs.{declared.code.Code.Code, declared.instr.Cell.Cell, declared.instr.Instr.Instr, declared.shape.Shape.Shape, declared.state.Stop.TheVariants.NoLock, Laws.RunLaws, Layout.{Fits, first_cell, words_of, cell_of, cell_word}, Machine.{Machine, instr_at, ref, place, object, word, is_held, is_of_null, taken, act, locked, goes, fails, stopped}, Opening.opening_words, Outcomes.{MayStop, is_locking}, Path.{turn, after, may_go}, Runs.{Turn, Global, IsRun, MayTurn, after_turn, put, state_now, result_of, opening_of}, Whole.{one_thread, bounds, place_after}, Says.{said, cell_at, made_cell, speaks_of, event_at}}
 use Rattle.sharc_code.specs.declared.instr.Cell.TheVariants as cells
 use Rattle.sharc_code.specs.declared.instr.Instr.TheVariants as instrs
-use Rattle.sharc_heap.specs.{declared.shadow_word.Kind.Kind, declared.shadow_word.Kind.TheVariants.{Read, Write}, Accesses.{note_of, site_at}, ShadowWord.epoch_of, Functions.{conflicts_in, noted}}
 use Rattle.sharc_compile.specs.{Consistent.{said_now, MayFind, IsLock, IsMutex, IsApart, IsFree}, OfRuns.table_of}
 use Rattle.sharc_meaning.specs.Events.{same_cell, is_cell, locks, unlocks, is_of}
 use Rattle.sharc_invariant.specs.{Types.Targets, Labels.Labels, Typed.IsWellTyped, State.IsSmall, Laws.{Keeps, Begins as CodeBegins, CellsAreThere, PointersAreThere, AccessesAreAllowed}}
 use Rattle.sharc_history_laws.specs.{History.history_of, Reports.{IsLockCheck, LacksLock}}
-use Rattle.sharc_history_laws.proofs.{Consists.{Consists, consists_then, own_turn, at_first}, Lists.Newest, Rules.{pushed, newest, newest_now, put_same, put_other}, Holding.{cell_eq, holds_in, holds_other, holds_own}, Logs.{is_locking, logs}, Mutexless.{mutex_said, no_mutex, not_locked}, Locked.{IsIn, all_in, Names, names_one, names_cell, one_place}, Locking.{cell_refl, is_own, is_others, word_is, lock_event, unlock_event}, Quits.{Quits, Still, Traps, is_trap, is_reporting, quits}, Sole.stop_none}
+use Rattle.sharc_history_laws.proofs.{Consists.{Consists, consists_then, own_turn, at_first}, Lists.Newest, Rules.{pushed, newest, newest_now, put_same, put_other}, Holding.{cell_eq, holds_in, holds_other, holds_own}, Mutexless.{mutex_said, no_mutex, not_locked}, Locked.{IsIn, all_in, Names, names_one, names_cell, one_place}, Locking.{cell_refl, is_own, is_others, word_is, lock_event, unlock_event}, Outcomes.{logs, reports, halts}, Sole.stop_none}
 use Rattle.sharc_lemmas.proofs.{Numbers.is_below, Bools.yes}
 
 above : (n : ℕ) → (n == 0) ≡ false → 0 < n
@@ -177,7 +175,7 @@ module _ (cell_laws : CellsAreThere) (pointers : PointersAreThere) (rights : Acc
 
       others : is_locking i ≡ false → LogHas code s (pushed ev L) one.thread (after (turn code s ((place_after code s earlier).threads one.thread)) found).own.held
       others never =
-          let held = (logs code s m i found never).held in
+          let held = logs s i found m _ (laws.turns.outcomes code s i m found) never in
           let quiet : mutex_said ev ≡ false = ap mutex_said (sym e) ∙ no_mutex code m i found elements never in
           subst (LogHas code s (pushed ev L) t) (sym held) (has_quiet L old ev e quiet)
 
@@ -237,48 +235,6 @@ module _ (cell_laws : CellsAreThere) (pointers : PointersAreThere) (rights : Acc
     abbrev Shows : Machine → Type 0
     Shows y = (site word : ℕ) → y.own.stop ≡ Some (NoLock site word) → LacksLock code (reverse (pushed event L)) one.thread y site
 
-    abbrev Halts : Machine → Type 0
-    Halts y = is_some y.own.stop ≡ true → may_go y.at.state ≡ false
-
-    -- one that has none
-    shows_none : (y : Machine) → y.own.stop ≡ None → Shows y
-    shows_none y e site word is = absurd (let f : None ≡ Some (NoLock site word) = sym e ∙ is in cc)
-
-    halts_none : (y : Machine) → y.own.stop ≡ None → Halts y
-    halts_none y e is = absurd (let f : false ≡ true = ap (λ (o : Option Stop). is_some o) (sym e) ∙ is in cc)
-
-    quiet_shows : is_reporting i ≡ false → Shows now × Halts now
-    quiet_shows other = by (quits code s m i found other)
-      where
-        by : Quits m now → Shows now × Halts now
-        by (Still e) = (shows_none now (e ∙ fresh), halts_none now (e ∙ fresh))
-        by (Traps e go) = (λ site word is. absurd (yes (sym e ∙ ap is_trap is)), λ _. go)
-
-    at_check : (kind : Kind) (granule site' old : ℕ) → Shows (checked m kind granule site' old) × Halts (checked m kind granule site' old)
-    at_check kind granule site' old = elim (conflicts_in old m.own.number kind (wrote m granule old)) as (λ b. Shows (if b then stopped m (Conflict record { kind = kind; site = site'; granule = granule; epoch = epoch_of old; old = old }) else with_own m (with_note m.own granule kind (epoch_of old) site'))
-        × Halts (if b then stopped m (Conflict record { kind = kind; site = site'; granule = granule; epoch = epoch_of old; old = old }) else with_own m (with_note m.own granule kind (epoch_of old) site'))) [
-          | true ↦ (λ site word is. absurd (let f : Some (Conflict record { kind = kind; site = site'; granule = granule; epoch = epoch_of old; old = old }) ≡ Some (NoLock site word) = is in cc), λ _. refl)
-          | false ↦ (shows_none (with_own m (with_note m.own granule kind (epoch_of old) site')) (note_stop m.own granule kind (epoch_of old) site' ∙ fresh), halts_none (with_own m (with_note m.own granule kind (epoch_of old) site')) (note_stop m.own granule kind (epoch_of old) site' ∙ fresh))
-        ]
-      where
-        note_stop : (own : Own) (granule : ℕ) (kind : Kind) (epoch site : ℕ) → (with_note own granule kind epoch site).stop ≡ own.stop
-        note_stop own granule kind epoch site =
-            elim (is_some (site_at (note_of own.table granule kind) epoch)) as (λ b. (if b then own else record own { table = noted own.table granule kind record { epoch = epoch; site = site } }).stop ≡ own.stop) [ true ↦ refl | false ↦ refl ]
-
-    at_sole : (at n : ℕ) → Shows (tested m at n) × Halts (tested m at n)
-    at_sole at n = elim (n == 1) as (λ b. Shows (if b then goes m else stopped m (NotSole at n)) × Halts (if b then goes m else stopped m (NotSole at n))) [
-      | true ↦ (shows_none (goes m) fresh, halts_none (goes m) fresh)
-      | false ↦ (λ site word is. absurd (let f : Some (NotSole at n) ≡ Some (NoLock site word) = is in cc), λ _. refl)
-    ]
-
-    at_lock_check : (b : Bool) (mutex at : ℕ) → (b ≡ false → is_held ((place_after code s earlier).threads one.thread) mutex ≡ false → LacksLock code (reverse (pushed event L)) one.thread (stopped ((place_after code s earlier).threads one.thread) (NoLock at mutex)) at)
-        → Shows (lock_checked ((place_after code s earlier).threads one.thread) b mutex at) × Halts (lock_checked ((place_after code s earlier).threads one.thread) b mutex at)
-    at_lock_check true mutex at lacks = (λ site word is. absurd (let f : Some (Trap traps.NullPointer at) ≡ Some (NoLock site word) = is in cc), λ _. refl)
-    at_lock_check false mutex at lacks = elim (is_held m mutex) as (λ b. is_held m mutex ≡ b → Shows (if b then goes m else stopped m (NoLock at mutex)) × Halts (if b then goes m else stopped m (NoLock at mutex))) [
-      | true ↦ λ e. (shows_none (goes m) fresh, halts_none (goes m) fresh)
-      | false ↦ λ e. (λ site word is. let same : at ≡ site = let f : Some (NoLock at mutex) ≡ Some (NoLock site word) = is in cc in subst (LacksLock code (reverse (pushed event L)) t (stopped m (NoLock at mutex))) same (lacks refl e), λ _. refl)
-    ] refl
-
     mutex_of : (c : Cell) → IsLock code s ((place_after code s earlier).threads one.thread) c → is_of_null ((place_after code s earlier).threads one.thread) c ≡ false → IsMutex code s ((place_after code s earlier).threads one.thread) c
     mutex_of (cells.Global q p) k e = k
     mutex_of (cells.GlobalAt q r) k e = k
@@ -312,21 +268,14 @@ module _ (cell_laws : CellsAreThere) (pointers : PointersAreThere) (rights : Acc
           unheld = ap (λ ev. holds_in (pushed ev L) t (made_cell m.pending 0)) none ∙ unheld_pending L old m.pending k refused;
         }
 
-    pub shows : Shows now × Halts now
-    shows = by i refl
+    pub shows : Shows now
+    shows site word is =
+        let k = reports s i found m now (laws.turns.outcomes code s i m found) (NoLock site word) refl fresh is in
+        subst (λ y. LacksLock code (reverse (pushed event L)) t y site) (sym k.1) (by k.0)
       where
-        at_instr : (j : Instr) → i ≡ j → Shows (after (act code s j ((place_after code s earlier).threads one.thread)) found) × Halts (after (act code s j ((place_after code s earlier).threads one.thread)) found) → Shows now × Halts now
-        at_instr j is k = subst (λ y. Shows y × Halts y) (sym (ap (λ j. after (act code s j m) found) is)) k
-
-        by : (j : Instr) → i ≡ j → Shows now × Halts now
-        by (instrs.ChkLock c at) is = at_instr (instrs.ChkLock c at) is (at_lock_check (is_of_null m c) (word s m c) at
-            (λ e refused. lacks_cell c at (word s m c) is (mutex_of c (may_find (instrs.ChkLock c at) is) e) refused))
-        by (instrs.ChkLockLoaded at) is = at_instr (instrs.ChkLockLoaded at) is (at_lock_check (m.pending == 0) (cell_word s (cell_of m.pending 0)) at
-            (λ e refused. lacks_loaded at (cell_word s (cell_of m.pending 0)) is (may_find (instrs.ChkLockLoaded at) is (above m.pending e)) refused))
-        by (instrs.ChkRead c at) is = at_instr (instrs.ChkRead c at) is (at_check Read (granule_at s (granule_of (place m c))) at found)
-        by (instrs.ChkWrite c at) is = at_instr (instrs.ChkWrite c at) is (at_check Write (granule_at s (granule_of (place m c))) at found)
-        by (instrs.TestSole r at) is = at_instr (instrs.TestSole r at) is (at_sole at found)
-        by _ is = quiet_shows (ap is_reporting is)
+        by : MayStop s i ((place_after code s earlier).threads one.thread) found (NoLock site word) → LacksLock code (reverse (pushed event L)) one.thread (stopped ((place_after code s earlier).threads one.thread) (NoLock site word)) site
+        by (inl k) = lacks_cell k.0 site word k.1 (mutex_of k.0 (may_find (instrs.ChkLock k.0 site) k.1) k.2) (subst (λ w. is_held m w ≡ false) k.3 k.4)
+        by (inr k) = lacks_loaded site word k.0 (may_find (instrs.ChkLockLoaded site) k.0 (above m.pending k.1)) (subst (λ w. is_held m w ≡ false) k.2 k.3)
 
   -- all threads
   abbrev ShowsOf : Newest → ℕ → Machine → Type 0
@@ -334,14 +283,14 @@ module _ (cell_laws : CellsAreThere) (pointers : PointersAreThere) (rights : Acc
 
   pub shows_then : (L : Newest) → ((u : ℕ) → LogHas code s L u ((place_after code s earlier).threads u).own.held) → ((place_after code s earlier).threads one.thread).own.stop ≡ None
       → ((u : ℕ) → ShowsOf L u ((place_after code s earlier).threads u)) → (u : ℕ) → ShowsOf (pushed event L) u ((after_turn bounds (one_thread code s) (place_after code s earlier) one).threads u)
-  shows_then L has fresh old = all_then (ShowsOf (pushed event L)) ((shows L (has t) fresh).0) (λ u ne site word is.
+  shows_then L has fresh old = all_then (ShowsOf (pushed event L)) (shows L (has t) fresh) (λ u ne site word is.
       let k = old u site word is in
       record { mutex = k.mutex; check = k.check; unheld = others_same event refl L u ne k.mutex ∙ k.unheld })
 
-  pub halts_then : (L : Newest) → ((u : ℕ) → LogHas code s L u ((place_after code s earlier).threads u).own.held) → ((place_after code s earlier).threads one.thread).own.stop ≡ None
+  pub halts_then : ((place_after code s earlier).threads one.thread).own.stop ≡ None
       → ((u : ℕ) → is_some ((place_after code s earlier).threads u).own.stop ≡ true → may_go ((place_after code s earlier).threads u).at.state ≡ false)
       → (u : ℕ) → is_some ((after_turn bounds (one_thread code s) (place_after code s earlier) one).threads u).own.stop ≡ true → may_go ((after_turn bounds (one_thread code s) (place_after code s earlier) one).threads u).at.state ≡ false
-  halts_then L has fresh old = all_then (λ u (y : Machine). is_some y.own.stop ≡ true → may_go y.at.state ≡ false) ((shows L (has t) fresh).1) (λ u ne. old u)
+  halts_then fresh old = all_then (λ u (y : Machine). is_some y.own.stop ≡ true → may_go y.at.state ≡ false) (halts s i found m now (laws.turns.outcomes code s i m found) fresh) (λ u ne. old u)
 
 -- ---- runs
 pub record Lacking (x : Targets) (code : Code) (s : Shape) (ls : Labels) (run : List Turn) : Type 0 where
@@ -372,7 +321,7 @@ module _ (cell_laws : CellsAreThere) (pointers : PointersAreThere) (rights : Acc
         consists = consists_then laws keeps cell_laws pointers x code s ls wt fits few one earlier h may;
         has = subst (λ (L : Newest). (u : ℕ) → LogHas code s L u ((place_after code s (one ∷ earlier)).threads u).own.held) (sym now)
             (has_then cell_laws pointers rights laws keeps x code s ls wt fits few one earlier h may L old.has ev refl);
-        halts = halts_then cell_laws pointers rights laws keeps x code s ls wt fits few one earlier h may L old.has fresh old.halts;
+        halts = halts_then cell_laws pointers rights laws keeps x code s ls wt fits few one earlier h may fresh old.halts;
         shows = subst (λ (L : Newest). (u site word : ℕ) → ((place_after code s (one ∷ earlier)).threads u).own.stop ≡ Some (NoLock site word) → LacksLock code (reverse L) u ((place_after code s (one ∷ earlier)).threads u) site) (sym now)
             (shows_then cell_laws pointers rights laws keeps x code s ls wt fits few one earlier h may L old.has fresh old.shows);
       }

@@ -5,11 +5,10 @@ use Rattle.sharc_tree.specs.{declared.event.SourceEvent.SourceEvent, declared.ev
 use Rattle.sharc_heap.specs.{State.NewView, declared.stage.NewStage.NewStage}
 use Rattle.sharc_heap.specs.declared.stage.NewStage.TheVariants as news
 use Rattle.sharc_locks.specs.Waiters.{waits_in}
-use Rattle.sharc_code.specs.{declared.code.Code.Code, declared.instr.Cell.Cell, declared.instr.Register.Register, declared.instr.Instr.Instr, declared.state.Stage.Stage, declared.state.Stage.TheVariants.{Makes, Uncounts, Begins, Enters, Withdraws, WithdrawsFrom, Leaves as Leaving, Wakes}, Machine.{Machine, ref}, Says.{said, take_local, nobody, in_signal, in_exit, in_spawn, in_start, in_free, in_new, new_event}}
+use Rattle.sharc_code.specs.{declared.code.Code.Code, declared.instr.Cell.Cell, declared.instr.Register.Register, declared.instr.Instr.Instr, declared.state.Stage.Stage, declared.state.Stage.TheVariants.{Makes, Uncounts, Begins, Enters, Withdraws, WithdrawsFrom, Leaves as Leaving, Wakes}, Machine.{Machine, ref}, Outcomes.is_locking, Says.{said, take_local, nobody, in_signal, in_exit, in_spawn, in_start, in_free, in_new, new_event}}
 use Rattle.sharc_code.specs.declared.instr.Instr.TheVariants as instrs
 use Rattle.sharc_tree.specs.declared.event.Act.TheVariants as acts
 use Rattle.sharc_meaning.specs.Events.{locked_by, unlocked_by}
-use Rattle.sharc_history_laws.proofs.Logs.{is_locking}
 
 abbrev pub is_mutex_act : Act → Bool
 is_mutex_act (acts.Lock c) = true
@@ -72,49 +71,7 @@ module _ (code : Code) (m : Machine) where
   mutexless_new site cells _ = refl
 
   pub no_mutex : (i : Instr) (found elements : ℕ) → is_locking i ≡ false → mutex_said (said code i m found elements) ≡ false
-  no_mutex (instrs.Constant r v) found elements e = refl
-  no_mutex (instrs.Move r from) found elements e = refl
-  no_mutex (instrs.MoveReference r from) found elements e = refl
-  no_mutex (instrs.Null r) found elements e = refl
-  no_mutex (instrs.ComputeInt operator r a b site) found elements e = refl
-  no_mutex (instrs.ComputeLong operator r a b site) found elements e = refl
-  no_mutex (instrs.NegateInt r a site) found elements e = refl
-  no_mutex (instrs.NegateLong r a site) found elements e = refl
-  no_mutex (instrs.Complement r a) found elements e = refl
-  no_mutex (instrs.Not r a) found elements e = refl
-  no_mutex (instrs.SameReference r a b) found elements e = refl
-  no_mutex (instrs.ChkWidth width r site) found elements e = refl
-  no_mutex (instrs.Jump pc) found elements e = refl
-  no_mutex (instrs.JumpIfZero r pc) found elements e = refl
-  no_mutex (instrs.JumpIfNull r pc) found elements e = refl
-  no_mutex (instrs.Call pc ints refs site) found elements e = refl
-  no_mutex (instrs.Return site) found elements e = refl
-  no_mutex (instrs.ChkNull r site) found elements e = refl
-  no_mutex (instrs.ChkHeld c site) found elements e = refl
-  no_mutex (instrs.ChkNotHeld c site) found elements e = refl
-  no_mutex (instrs.ChkPositive r site) found elements e = refl
-  no_mutex (instrs.ChkRoom site) found elements e = refl
-  no_mutex (instrs.ChkLock c site) found elements e = refl
-  no_mutex (instrs.ChkLockLoaded site) found elements e = refl
-  no_mutex (instrs.Bounds r base count field site) found elements e = refl
-  no_mutex (instrs.GlobalBounds r all count field site) found elements e = refl
-  no_mutex (instrs.ChkRead c site) found elements e = refl
-  no_mutex (instrs.ChkWrite c site) found elements e = refl
-  no_mutex (instrs.Raise r from) found elements e = refl
-  no_mutex (instrs.RaiseLoaded r) found elements e = refl
-  no_mutex (instrs.Lower r) found elements e = refl
-  no_mutex (instrs.TestSole r site) found elements e = refl
-  no_mutex (instrs.Clear r cells) found elements e = refl
   no_mutex (instrs.Unlock r c site) found elements e = absurd (let f : true ≡ false = e in cc)
-  no_mutex (instrs.Print r site) found elements e = refl
-  no_mutex (instrs.CondEnter c site) found elements e = refl
-  no_mutex (instrs.CondBroadcast c site) found elements e = refl
-  no_mutex (instrs.Give r site) found elements e = refl
-  no_mutex (instrs.Load r c site) found elements e = refl
-  no_mutex (instrs.Store r c site) found elements e = refl
-  no_mutex (instrs.LoadRef c site) found elements e = refl
-  no_mutex (instrs.Exchange r c site) found elements e = refl
-  no_mutex (instrs.TakeCell r c site) found elements e = refl
   no_mutex (instrs.TakeLocal r from site) found elements e = mutexless_local site (ref m from) elements
   no_mutex (instrs.New r count cells site) found elements e = mutexless_new site cells m.own.stage
   no_mutex (instrs.Free r layout site) found elements e = mutexless_free r site elements m.own.stage
@@ -125,3 +82,4 @@ module _ (code : Code) (m : Machine) where
   no_mutex instrs.Exit found elements e = mutexless_exit m.own.stage
   no_mutex (instrs.CondWait c site) found elements e = either_no (waits_in found m.own.number) _ _ refl refl
   no_mutex (instrs.CondSignal c site) found elements e = mutexless_signal c site found m.own.stage
+  no_mutex _ found elements e = refl

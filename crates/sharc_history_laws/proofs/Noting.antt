@@ -3,12 +3,12 @@ use Rattle.std.proofs.{Common.{◌≡◌, ℕ, zero, suc, ◌+◌, ◌⊎◌, in
 use Rattle.std.specs.Prelude.{slice_index, slice_index_or, slice_set, replicate}
 use Rattle.sharc_heap.specs.{declared.shadow_word.Kind.Kind, declared.shadow_word.Kind.TheVariants.{Read, Write}, declared.access_table.Note.Note, declared.access_table.GranuleNotes.GranuleNotes, Notes.{blank, of_kind, with_note}, Accesses.{Accesses, note_of, site_at}, ShadowWord.epoch_of, Functions.{bits_of, conflicts_in, noted}}
 use Rattle.sharc_word.specs.declared.step.WordOp.TheVariants as ops
-use Rattle.sharc_code.specs.{declared.code.Code.Code, declared.instr.Cell.Cell, declared.instr.Instr.Instr, declared.shape.Shape.Shape, declared.state.Stop.TheVariants.Conflict, Layout.{granules, granule_at, granule_of, shadow_word}, Machine.{Machine, instr_at, act, place, checked, stopped, with_own, wrote, step_of}, Opening.opening_words, Path.{turn, after, may_go, asked_by}, Runs.{Turn, Global, IsRun, MayTurn, after_turn, put, state_now, result_of, opening_of}, Whole.{one_thread, bounds, place_after}}
+use Rattle.sharc_code.specs.{declared.code.Code.Code, declared.instr.Cell.Cell, declared.instr.Instr.Instr, declared.shape.Shape.Shape, declared.state.Stop.TheVariants.Conflict, Layout.{granules, granule_at, granule_of, shadow_word}, Machine.{Machine, instr_at, act, place, checked, stopped, with_own, wrote, step_of}, Opening.opening_words, Outcomes.TurnsComeOut, Path.{turn, after, may_go, asked_by}, Runs.{Turn, Global, IsRun, MayTurn, after_turn, put, state_now, result_of, opening_of}, Whole.{one_thread, bounds, place_after}}
 use Rattle.sharc_code.specs.declared.instr.Instr.TheVariants as instrs
 use Rattle.sharc_code.specs.Machine as machines
 use Rattle.sharc_invariant.specs.Bits.{CheckOf, touch_of}
 use Rattle.sharc_history_laws.specs.Conflicts.{site_of_check, IsNoted}
-use Rattle.sharc_history_laws.proofs.{Conflicting.granule_same, Consists.found_is, Rules.{put_same, put_other}, Tabled.{is_access_check, tabled}}
+use Rattle.sharc_history_laws.proofs.{Conflicting.granule_same, Consists.found_is, Outcomes.{is_access_check, tabled}, Rules.{put_same, put_other}}
 
 -- ---- tables
 set_at_most : (xs : List GranuleNotes) (q : ℕ) (v : GranuleNotes) → (slice_index_or (slice_set xs q v) q blank ≡ v) ⊎ (slice_index_or (slice_set xs q v) q blank ≡ slice_index_or xs q blank)
@@ -49,7 +49,7 @@ blank_none Read note e = let f : None ≡ Some note = e in cc
 blank_none Write note e = let f : None ≡ Some note = e in cc
 
 -- ---- runs
-module _ (code : Code) (s : Shape) where
+module _ (outs : TurnsComeOut) (code : Code) (s : Shape) where
   abbrev RunOf : List Turn → Type 0
   RunOf run = IsRun bounds (one_thread code s) (opening_of bounds (one_thread code s) (opening_words code s)) run
 
@@ -129,7 +129,7 @@ module _ (code : Code) (s : Shape) where
         by : (j : Instr) → i ≡ j → Has m ⊎ New
         by (instrs.ChkRead cell site) is = at_check Read cell site (ap site_of_check is) (ap (λ j. touch_of s j m found ((after_turn bounds (one_thread code s) g one).threads one.thread)) is) (ap (λ j. asked_by (act code s j m)) is) (ap (λ j. after (act code s j m) found) is) has
         by (instrs.ChkWrite cell site) is = at_check Write cell site (ap site_of_check is) (ap (λ j. touch_of s j m found ((after_turn bounds (one_thread code s) g one).threads one.thread)) is) (ap (λ j. asked_by (act code s j m)) is) (ap (λ j. after (act code s j m) found) is) has
-        by _ is = inl (ap (λ (t : Accesses). note_of t p kind) (sym (tabled code s m i found (ap is_access_check is)).table) ∙ has)
+        by _ is = inl (ap (λ (t : Accesses). note_of t p kind) (sym (tabled s i found m _ (outs code s i m found) (ap is_access_check is))) ∙ has)
 
   further : (one : Turn) (earlier : List Turn) (j p : ℕ) (kind : Kind) (note : Note) → IsNoted code s earlier j p kind note → IsNoted code s (one ∷ earlier) j p kind note
   further one earlier j p kind note k = record {

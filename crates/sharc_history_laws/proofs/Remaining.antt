@@ -1,12 +1,12 @@
 -- What remains of checks in shadow words, access tables and stops: why a bit and the written bit stand.
-use Rattle.std.proofs.{Common.{◌≡◌, ℕ, suc, ◌+◌, ◌*◌, ◌/◌, ◌<◌, ◌≤◌, ◌⊎◌, inl, inr, Bool, true, false, not, ◌||◌, ◌&&◌, Option, Some, None, is_some, if◌then◌else◌, refl, sym, ap, ◌∙◌, subst, ⊎_elim, arith}, lemmas.Bool.{cases_eq, or_right, false_from_ne_true as unset}}
+use Rattle.std.proofs.{Common.{◌≡◌, ℕ, suc, ◌+◌, ◌*◌, ◌/◌, ◌<◌, ◌≤◌, ◌⊎◌, inl, inr, Bool, true, false, not, ◌&&◌, Option, Some, None, is_some, if◌then◌else◌, refl, sym, ap, ◌∙◌, subst, ⊎_elim, arith}, lemmas.Bool.{cases_eq, or_right, false_from_ne_true as unset}}
 use Rattle.std.specs.Prelude.{slice_index, ◌==◌}
 use Rattle.sharc_heap.specs.{declared.shadow_word.Kind.Kind, declared.shadow_word.Kind.TheVariants.{Read, Write}, declared.access_table.Note.Note, Accesses.{note_of, site_at}, Functions.conflicts_in, ShadowLaws.ShadowLaws, ShadowWord.{epoch_of, is_of, is_write, is_written, stands, AddsAccess, Conflicts, Withdraws as WithdrawsWord}}
-use Rattle.sharc_code.specs.{declared.code.Code.Code, declared.instr.Cell.Cell, declared.instr.Instr.Instr, declared.shape.Shape.Shape, declared.state.ConflictAt.ConflictAt, declared.state.Stop.TheVariants.Conflict, Layout.{Fits, granules, first_shadow, granule_at, granule_of}, Machine.{Machine, instr_at, place, wrote, stopped, with_own}, Runs.{Turn, Global, MayTurn, after_turn, state_now}, Whole.{one_thread, bounds}}
+use Rattle.sharc_code.specs.{declared.code.Code.Code, declared.instr.Cell.Cell, declared.instr.Instr.Instr, declared.shape.Shape.Shape, declared.state.ConflictAt.ConflictAt, declared.state.Stop.TheVariants.Conflict, Layout.{Fits, granules, first_shadow, granule_at, granule_of}, Machine.{Machine, instr_at, place, wrote, stopped, with_own}, Outcomes.{TurnsComeOut, check_of}, Runs.{Turn, Global, MayTurn, after_turn, state_now}, Whole.{one_thread, bounds}}
 use Rattle.sharc_code.specs.declared.instr.Instr.TheVariants as instrs
 use Rattle.sharc_code.specs.Machine as machines
 use Rattle.sharc_invariant.specs.{Bits.{Touch, Untouched, CheckOf, ClearOf, WithdrawOf}, Granules.Passed, Labels.Labels, Laws.CellsAreThere, MachineInvariant.IsOn, Reports.touch_at, State.{State, StageStands, OnHold, object_of_cell, number_in}, Typed.{IsWellTyped, Fine, HasCell}, Types.{Targets, Field}, Words.{note_number, noted_by}, World.World}
-use Rattle.sharc_history_laws.proofs.{Doing.{Does, Plain, Passes, Refuses, IsCheckAt, check_of, IsNoCheck, site_still, site_new, note_from, does}, Rules.put_other, Shadows.{IsNext, WordBy, word_by, at_low}, Single.rests_hold, Stands.there, Withdrawing.{has_left, Noted, leaving}, Threaded.or_left}
+use Rattle.sharc_history_laws.proofs.{Doing.{Does, Plain, Passes, Refuses, IsCheckAt, IsNoCheck, site_still, site_new, note_from, does}, Rules.put_other, Shadows.{IsNext, WordBy, word_by, at_low}, Single.rests_hold, Stands.there, Withdrawing.{has_left, Noted, leaving}, Threaded.or_left}
 use Rattle.sharc_lemmas.proofs.{Numbers.{same_is, eqb_other as ne_of, same_number as eq_of}, Bools.{and_left, or_split as or_cases, yes}}
 
 -- ---- what remains
@@ -106,7 +106,7 @@ became (CheckOf kind q ok) t p old new w h = ⊎_elim (λ (e : p ≡ q). Checked
 became (ClearOf q) t p old new w h = ⊎_elim (λ (e : p ≡ q). Cleared (h.0 e)) (λ ne. Same (h.1 ne) (λ e. cc)) (cases_eq p q)
 became (WithdrawOf q) t p old new w h = ⊎_elim (λ (e : p ≡ q). Withdrew (ap WithdrawOf (sym e)) (h.0 e)) (λ ne. Same (h.1 ne) (λ e. ne (let f : q ≡ p = cc in sym f))) (cases_eq p q)
 
-module _ (laws : ShadowLaws) (cell_laws : CellsAreThere) (x : Targets) (code : Code) (s : Shape) (ls : Labels) (wt : IsWellTyped x code ls) (fits : Fits code s) (g : Global Machine) (world : World) (st : State x code s ls g world) (tr : Turn)
+module _ (outs : TurnsComeOut) (laws : ShadowLaws) (cell_laws : CellsAreThere) (x : Targets) (code : Code) (s : Shape) (ls : Labels) (wt : IsWellTyped x code ls) (fits : Fits code s) (g : Global Machine) (world : World) (st : State x code s ls g world) (tr : Turn)
     (may : MayTurn bounds (one_thread code s) g tr) (fresh : (g.threads tr.thread).own.stop ≡ None) (h : Remains s g) where
   abbrev t : ℕ
   t = tr.thread
@@ -136,7 +136,7 @@ module _ (laws : ShadowLaws) (cell_laws : CellsAreThere) (x : Targets) (code : C
   DoesIt = Does s (λ q. slice_index g.words (first_shadow + q)) m i touch m'
 
   did : DoesIt
-  did = does code s g tr may fresh
+  did = does outs code s g tr may fresh
 
   on : IsOn g tr.thread
   on = (may.started, may.next.runs)
@@ -431,7 +431,7 @@ module _ (laws : ShadowLaws) (cell_laws : CellsAreThere) (x : Targets) (code : C
         | true ↦ λ _ z. absurd (omega (arith, z))
         | false ↦ λ gone z.
             let n = number_some (note_of m'.own.table p Write) (epoch_of (new_at p)) z in
-            let before : has_left m p ≡ false = unset (has_left m p) (λ q. yes (sym ((leaving x code s ls g world st tr may).still p q) ∙ gone)) in
+            let before : has_left m p ≡ false = unset (has_left m p) (λ q. yes (sym ((leaving outs x code s ls g world st tr may).still p q) ∙ gone)) in
             ⊎_elim
             (λ (was : note_of m.own.table p Write ≡ Some n.0). ap (λ b. if b then 0 else note_number (note_of m.own.table p Write)) before ∙ ap note_number was ∙ ap suc (n.2 ∙ same))
             (λ now. absurd (never now.0))
@@ -468,7 +468,7 @@ module _ (laws : ShadowLaws) (cell_laws : CellsAreThere) (x : Targets) (code : C
           let own : is_of (wrote m p (old_at p)) (epoch_of (old_at p)) ≡ false = unset (is_of (wrote m p (old_at p)) (epoch_of (old_at p))) (λ z.
           let site = wrote_site m p (old_at p) z in
           let n = some_site (note_of m.own.table p Write) (epoch_of (old_at p)) site.0 site.1 in
-          let here : has_left m p ≡ false = (leaving x code s ls g world st tr may).once p q in
+          let here : has_left m p ≡ false = (leaving outs x code s ls g world st tr may).once p q in
           none t (ap (λ b. if b then 0 else note_number (note_of m.own.table p Write)) here ∙ ap note_number n.1 ∙ ap suc n.2)) in
           a.written ∙ and_both (is_written (old_at p)) (not (is_of (wrote m p (old_at p)) (epoch_of (old_at p)))) e (not_no (is_of (wrote m p (old_at p)) (epoch_of (old_at p))) own)
 
@@ -533,7 +533,7 @@ module _ (laws : ShadowLaws) (cell_laws : CellsAreThere) (x : Targets) (code : C
       (stop_was k p d e)
 
   -- ---- who has withdrawn
-  noted_of : (p : ℕ) → Reason g tr.thread p → Noted x code s ls g world st tr may p
+  noted_of : (p : ℕ) → Reason g tr.thread p → Noted outs x code s ls g world st tr may p
   noted_of p (ByNote kind z e) = (kind, epoch_of (old_at p), z, e)
   noted_of p (ByStop d e) = absurd (let f : None ≡ Some (Conflict d) = sym fresh ∙ e.is in cc)
 
@@ -549,8 +549,8 @@ module _ (laws : ShadowLaws) (cell_laws : CellsAreThere) (x : Targets) (code : C
       mine : stands (new_at p) tr.thread ≡ true → Became touch tr.thread p (old_at p) (new_at p) (wrote (g.threads tr.thread) p (old_at p)) → has_left m' p ≡ false
       mine e (Same q ne) =
           let was : stands (old_at p) t ≡ true = ap (λ v. stands v t) (sym q) ∙ e in
-          (leaving x code s ls g world st tr may).others p ne (noted_of p (h.reason t p lt was)) (h.left t p lt was)
-      mine e (Checked kind ok q a) = (leaving x code s ls g world st tr may).checks kind p ok q p
+          (leaving outs x code s ls g world st tr may).others p ne (noted_of p (h.reason t p lt was)) (h.left t p lt was)
+      mine e (Checked kind ok q a) = (leaving outs x code s ls g world st tr may).checks kind p ok q p
       mine e (Cleared a) = absurd (yes (sym e ∙ a.threads t))
       mine e (Withdrew q a) = absurd (yes (sym (same_is t) ∙ not_yes (t == t) (and_right (stands (old_at p) t) (not (t == t)) (sym (a.threads t) ∙ e))))
 
@@ -584,12 +584,12 @@ module _ (laws : ShadowLaws) (cell_laws : CellsAreThere) (x : Targets) (code : C
       by (Checked kind ok q a) = inl (a.threads k ∙ or_left (stands (old_at p) k) (k == t) e)
       by (Cleared a) = absurd (let b = a.epoch in omega (arith, b, same))
       by (Withdrew q a) = ⊎_elim
-          (λ (mine : k ≡ t). inr (ap (λ k. has_left (g'.threads k) p) mine ∙ (leaving x code s ls g world st tr may).then_ p q))
+          (λ (mine : k ≡ t). inr (ap (λ k. has_left (g'.threads k) p) mine ∙ (leaving outs x code s ls g world st tr may).then_ p q))
           (λ (ne : k ≡ t → ⊥). inl (a.threads k ∙ and_both (stands (old_at p) k) (not (k == t)) e (not_no (k == t) (ne_of k t ne))))
           (cases_eq k t)
 
   pub left_still : (k p : ℕ) → has_left (g.threads k) p ≡ true → has_left ((after_turn bounds (one_thread code s) g tr).threads k) p ≡ true
-  left_still k p e = each (λ k (y : Machine). has_left (g.threads k) p ≡ true → has_left y p ≡ true) (λ e. (leaving x code s ls g world st tr may).still p e) (λ k _ e. e) k e
+  left_still k p e = each (λ k (y : Machine). has_left (g.threads k) p ≡ true → has_left y p ≡ true) (λ e. (leaving outs x code s ls g world st tr may).still p e) (λ k _ e. e) k e
 
   -- no write check passes where the bit of another thread stands
   pub refused : (k p : ℕ) → (k ≡ tr.thread → ⊥) → stands (word_at g p) k ≡ true → touch_at code s g tr ≡ CheckOf Write p true → ⊥

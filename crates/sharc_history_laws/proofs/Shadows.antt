@@ -365,32 +365,7 @@ module _ (laws : ShadowLaws) (x : Targets) (code : Code) (s : Shape) (ls : Label
   to_new r count cells site _ h = let a = new_state s m (elements_of (int m count)) cells in to_first s m r site (told a 0) (a.arguments.head == 0)
 
   rest_spares : (j : Instr) → i ≡ j → is_touching j ≡ false → SparesAll s (act code s j (g.threads tr.thread))
-  rest_spares (instrs.Constant r v) is other = tt
-  rest_spares (instrs.Move r from) is other = tt
-  rest_spares (instrs.MoveReference r from) is other = tt
-  rest_spares (instrs.Null r) is other = tt
-  rest_spares (instrs.ComputeInt operator r a b site) is other = tt
-  rest_spares (instrs.ComputeLong operator r a b site) is other = tt
-  rest_spares (instrs.NegateInt r a site) is other = tt
-  rest_spares (instrs.NegateLong r a site) is other = tt
-  rest_spares (instrs.Complement r a) is other = tt
-  rest_spares (instrs.Not r a) is other = tt
-  rest_spares (instrs.SameReference r a b) is other = tt
-  rest_spares (instrs.ChkWidth width r site) is other = tt
-  rest_spares (instrs.Jump pc) is other = tt
-  rest_spares (instrs.JumpIfZero r pc) is other = tt
-  rest_spares (instrs.JumpIfNull r pc) is other = tt
-  rest_spares (instrs.Call pc ints refs site) is other = tt
-  rest_spares (instrs.Return site) is other = tt
-  rest_spares (instrs.ChkNull r site) is other = tt
-  rest_spares (instrs.ChkHeld c site) is other = tt
-  rest_spares (instrs.ChkNotHeld c site) is other = tt
-  rest_spares (instrs.ChkPositive r site) is other = tt
-  rest_spares (instrs.ChkRoom site) is other = tt
-  rest_spares (instrs.ChkLock c site) is other = tt
-  rest_spares (instrs.ChkLockLoaded site) is other = tt
   rest_spares (instrs.Bounds r base count field site) is other = Leaves (λ v. refl)
-  rest_spares (instrs.GlobalBounds r elements count field site) is other = tt
   rest_spares (instrs.ChkRead c site) is other = absurd (let e : true ≡ false = other in cc)
   rest_spares (instrs.ChkWrite c site) is other = absurd (let e : true ≡ false = other in cc)
   rest_spares (instrs.Load r c site) is other = Leaves (λ v. refl)
@@ -418,6 +393,7 @@ module _ (laws : ShadowLaws) (x : Targets) (code : Code) (s : Shape) (ls : Label
   rest_spares (instrs.CondWait c site) is other = Leaves (λ v. refl)
   rest_spares (instrs.CondSignal c site) is other = to_signal s m (place m c) m.own.stage
   rest_spares (instrs.CondBroadcast c site) is other = of_cell s (place m c) _
+  rest_spares _ is other = tt
 
   by_instr : (j : Instr) → i ≡ j → (p : ℕ) → p < granules s → By (touch_of s j (g.threads tr.thread) (result_of tr.event) m') p
   by_instr (instrs.ChkRead c site) is p lt = by_check Read (granule_of (place m c)) site (may_go m'.at.state) (ap (λ j. act code s j m) is) p

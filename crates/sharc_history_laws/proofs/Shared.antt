@@ -5,14 +5,14 @@ use Rattle.sharc_tree.specs.declared.event.Act.TheVariants as acts
 use Rattle.sharc_tree.specs.{declared.event.SourceEvent.SourceEvent, declared.event.Object.Object}
 use Rattle.sharc_tree.specs.declared.event.CellMode.TheVariants as modes
 use Rattle.sharc_tree.specs.declared.event.Object.TheVariants as objects
-use Rattle.sharc_code.specs.{declared.code.Code.Code, declared.instr.Cell.Cell, declared.instr.Instr.Instr, declared.shape.Shape.Shape, declared.state.Stage.Stage, declared.state.Stage.TheVariants.{Rests, Makes, Uncounts, Links, Withdraws, WithdrawsFrom, Leaves}, Laws.RunLaws, Layout.Fits, Machine.{Machine, instr_at, ref, place, act}, Opening.opening_words, Path.{turn, after, may_go}, Runs.{Turn, Global, IsRun, MayTurn, after_turn, put, state_now, result_of, opening_of}, Whole.{one_thread, bounds, place_after}, Says.{said, cell_at, place_at, speaks_of, in_exit, no_global}}
+use Rattle.sharc_code.specs.{declared.code.Code.Code, declared.instr.Cell.Cell, declared.instr.Instr.Instr, declared.shape.Shape.Shape, declared.state.Stage.Stage, declared.state.Stage.TheVariants.{Rests, Makes, Uncounts, Links, Withdraws, WithdrawsFrom, Leaves}, Laws.RunLaws, Layout.Fits, Machine.{Machine, instr_at, ref, place, act}, Opening.opening_words, Outcomes.is_exit, Path.{turn, after, may_go}, Runs.{Turn, Global, IsRun, MayTurn, after_turn, put, state_now, result_of, opening_of}, Whole.{one_thread, bounds, place_after}, Says.{said, cell_at, place_at, speaks_of, in_exit, no_global}}
 use Rattle.sharc_code.specs.declared.instr.Cell.TheVariants as cells
 use Rattle.sharc_code.specs.declared.instr.Instr.TheVariants as instrs
 use Rattle.sharc_code.specs.declared.state.TurnState.TheVariants as states
 use Rattle.sharc_compile.specs.{Consistent.said_now, OfRuns.table_of}
 use Rattle.sharc_meaning.specs.{Events.{Access, granule_of, makes, gives, begins, is_of, access_by}, Obeys.{until_return, ends}}
 use Rattle.sharc_invariant.specs.{Granules.Passed, Types.{Targets, Field, FieldMode}, Labels.{Gate, Closed, Checked, Holds, Loaded, HoldsLoaded, Sole, Labels}, Typed.{IsWellTyped, Fine, IsNotSole}, World.{RegisterOf, ObjectState, Shut, Sole as IsSole, World, WinOk, in_ref}, Words.{lang_of, has_returned, is_withdrawing, is_ended}, History.{Closing, Without}, Objects.{changes_objects, makes_object, frees_object, objects_behind}, State.{State, Runs, IsSmall, StageStands, GateStands, StopStands, OnHold, OnExit, object_of_cell, number_in, label_now, size_of_run}, MachineInvariant.{IsOn, MachineInvariant, IsAlone, WindowStands, label_of}, Laws.{Keeps, Begins as CodeBegins, CellsAreThere, PointersAreThere, AccessesAreAllowed, StateStands}}
-use Rattle.sharc_history_laws.proofs.{Single.{single, rests_hold}, Stands.{register_is, gate, reads_ref}, Finds.is_there, Tables.{header_of, was_live}, Consists.{Consists, consists_then, objects_then, effect_then, given, at_first}, Acts.{access_said, thread_said, given_at, freed_in, freed_at, About, is_access, no_access, access_at, IsAccess as TellsAccess, access_of}, Lists.Newest, Modes.dynamic_field, Rules.{pushed, newest, newest_now, number_is, about_now, hold_access, cell_is, can_mode, freed_gone, number_yes, put_same, put_other}, Sets.{IsHere, Goes, InSet, NoConflict, Clean}, Carried.{Stands, carried}, Going.{is_exit, going}}
+use Rattle.sharc_history_laws.proofs.{Single.{single, rests_hold}, Stands.{register_is, gate, reads_ref}, Finds.is_there, Tables.{header_of, was_live}, Consists.{Consists, consists_then, objects_then, effect_then, given, at_first}, Acts.{access_said, thread_said, given_at, freed_in, freed_at, About, is_access, no_access, access_at, IsAccess as TellsAccess, access_of}, Lists.Newest, Modes.dynamic_field, Rules.{pushed, newest, newest_now, number_is, about_now, hold_access, cell_is, can_mode, freed_gone, number_yes, put_same, put_other}, Sets.{IsHere, Goes, InSet, NoConflict, Clean}, Carried.{Stands, carried}, Outcomes.{unended, withdraws_still}}
 use Rattle.sharc_lemmas.proofs.Bools.{yes}
 
 -- ---- objects and granules as the world has them
@@ -430,9 +430,9 @@ module _ (state_law : StateStands) (cell_laws : CellsAreThere) (pointers : Point
 
         not_exit : is_exit i ≡ false → ⊥
         not_exit never =
-            let k = going code s m i found never in
-            let w : is_withdrawing (after (turn code s m) found).own.stage ≡ true = parts (is_withdrawing (after (turn code s m) found).own.stage) (is_ended (after (turn code s m) found).at.state) is k.on in
-            no_exit i never m.own.stage (k.withdraws w) rn.stage
+            let out = laws.turns.outcomes code s i m found in
+            let w : is_withdrawing (after (turn code s m) found).own.stage ≡ true = parts (is_withdrawing (after (turn code s m) found).own.stage) (is_ended (after (turn code s m) found).at.state) is (unended s i found m _ out never) in
+            no_exit i never m.own.stage (withdraws_still s i found m _ out never w) rn.stage
           where
             parts : (a b : Bool) → (a || b) ≡ true → b ≡ false → a ≡ true
             parts true b e f = refl

@@ -1,14 +1,13 @@
 -- A thread that stopped at a test of a sole reference found the number of references to its object, of which there is another one.
-use Rattle.std.proofs.{Common.{◌≡◌, ℕ, zero, suc, ◌+◌, ◌*◌, ◌<◌, ◌≤◌, ◌⊎◌, inl, inr, Bool, true, false, List, [], ◌∷◌, Option, Some, None, is_some, if◌then◌else◌, refl, sym, ap, ◌∙◌, subst, ⊎_elim, arith, eqb-true}, lemmas.Bool.cases_eq}
-use Rattle.std.specs.Prelude.{nat_eq, slice_index, ◌==◌}
-use Rattle.sharc_tree.specs.declared.trap.Trap.TheVariants as traps
+use Rattle.std.proofs.{Common.{◌≡◌, ℕ, zero, suc, ◌+◌, ◌*◌, ◌<◌, ◌≤◌, ◌⊎◌, inl, inr, true, false, List, [], ◌∷◌, Option, Some, None, is_some, if◌then◌else◌, refl, sym, ap, ◌∙◌, subst, ⊎_elim, arith, eqb-true}, lemmas.Bool.cases_eq}
+use Rattle.std.specs.Prelude.{nat_eq, slice_index}
 use Rattle.sharc_word.specs.declared.step.TheConstants.{THREADS}
-use Rattle.sharc_heap.specs.{Count.test_of, declared.shadow_word.Kind.Kind, declared.shadow_word.Kind.TheVariants.{Read, Write}, Accesses.{note_of, site_at}, ShadowWord.epoch_of, Functions.{conflicts_in, noted}}
-use Rattle.sharc_code.specs.{declared.state.TheConstants.FRAMES, declared.code.Code.Code, declared.instr.Instr.Instr, declared.shape.Shape.Shape, declared.state.Stop.Stop, declared.state.Stop.TheVariants.{Conflict, NoLock, NotSole, Trap}, Layout.{Fits, granules, words_of, cell_of, cell_word, count_word, granule_at, granule_of}, Machine.{Machine, Own, instr_at, act, ref, place, word, is_held, is_of_null, goes, stopped, checked, lock_checked, tested, with_own, wrote, with_note}, Opening.opening_words, Path.{turn, after, may_go, most_refs, asked_by}, Runs.{Turn, Global, IsRun, MayTurn, after_turn, put, state_now, result_of, opening_of}, Whole.{one_thread, bounds, place_after}}
+use Rattle.sharc_heap.specs.{Count.test_of}
+use Rattle.sharc_code.specs.{declared.state.TheConstants.FRAMES, declared.code.Code.Code, declared.shape.Shape.Shape, declared.state.Stop.Stop, declared.state.Stop.TheVariants.NotSole, Layout.{Fits, granules, words_of, count_word}, Machine.{Machine, instr_at, act, ref}, Opening.opening_words, Outcomes.{TurnsComeOut, MayStop}, Path.{turn, after, may_go, most_refs, asked_by}, Runs.{Turn, Global, IsRun, MayTurn, after_turn, put, state_now, result_of, opening_of}, Whole.{one_thread, bounds, place_after}}
 use Rattle.sharc_code.specs.declared.instr.Instr.TheVariants as instrs
 use Rattle.sharc_invariant.specs.{Granules.{one, sum_to}, Types.Targets, Labels.Labels, Typed.{IsWellTyped, Fine}, World.ObjectState, Words.argument_of, State.{IsSmall, StageStands}, Opened.{first_world, first_place}, Objects.objects_after, MachineInvariant.{register_refers, log_refers, hand_refers, cell_refers, references_to}, Reports.{RunsTest, TestStands}}
 use Rattle.sharc_history_laws.specs.Reports.{OtherReference, InRegister, InArgument, InLog, InHand, InCell, FindsOthers}
-use Rattle.sharc_history_laws.proofs.{Consists.{Consists, found_is}, Rules.{put_same, put_other}, Quits.{Quits, Still, Traps, is_trap, is_reporting, quits}, Single.rests_hold, Stands.known_ref}
+use Rattle.sharc_history_laws.proofs.{Consists.{Consists, found_is}, Outcomes.reports, Rules.{put_same, put_other}, Single.rests_hold, Stands.known_ref}
 use Rattle.sharc_lemmas.proofs.Bools.{yes}
 
 -- ---- sums
@@ -121,52 +120,6 @@ module _ (x : Targets) (code : Code) (s : Shape) (g : Global Machine) (obj : ℕ
   pub other_reference : 2 ≤ references_to x code s g obj o → Other
   other_reference le = another _ _ _ _ _ refl refl refl refl refl le
 
--- ---- the turn that stopped there
-module _ (code : Code) (s : Shape) (m : Machine) (fresh : m.own.stop ≡ None) (found site count : ℕ) where
-  abbrev IsThat : Machine → Type 0
-  IsThat y = y.own.stop ≡ Some (NotSole site count)
-
-  not_none : (y : Machine) → y.own.stop ≡ None → IsThat y → ⊥
-  not_none y e is = let f : None ≡ Some (NotSole site count) = sym e ∙ is in cc
-
-  lock_check : (b : Bool) (mutex at : ℕ) → IsThat (lock_checked m b mutex at) → ⊥
-  lock_check true mutex at is = let f : Some (Trap traps.NullPointer at) ≡ Some (NotSole site count) = is in cc
-  lock_check false mutex at is = elim (is_held m mutex) as (λ b. IsThat (if b then goes m else stopped m (NoLock at mutex)) → ⊥) [
-    | true ↦ λ z. not_none (goes m) fresh z
-    | false ↦ λ z. let f : Some (NoLock at mutex) ≡ Some (NotSole site count) = z in cc
-  ] is
-
-  check : (kind : Kind) (granule at old : ℕ) → IsThat (checked m kind granule at old) → ⊥
-  check kind granule at old is = elim (conflicts_in old m.own.number kind (wrote m granule old)) as (λ b. IsThat (if b then stopped m (Conflict record { kind = kind; site = at; granule = granule; epoch = epoch_of old; old = old }) else with_own m (with_note m.own granule kind (epoch_of old) at)) → ⊥) [
-    | true ↦ λ z. let f : Some (Conflict record { kind = kind; site = at; granule = granule; epoch = epoch_of old; old = old }) ≡ Some (NotSole site count) = z in cc
-    | false ↦ λ z. not_none (with_own m (with_note m.own granule kind (epoch_of old) at)) (note_stop m.own granule kind (epoch_of old) at ∙ fresh) z
-  ] is
-    where
-      note_stop : (own : Own) (granule : ℕ) (kind : Kind) (epoch site : ℕ) → (with_note own granule kind epoch site).stop ≡ own.stop
-      note_stop own granule kind epoch site =
-          elim (is_some (site_at (note_of own.table granule kind) epoch)) as (λ b. (if b then own else record own { table = noted own.table granule kind record { epoch = epoch; site = site } }).stop ≡ own.stop) [ true ↦ refl | false ↦ refl ]
-
-  sole_test : (at : ℕ) → IsThat (tested m at found) → (at ≡ site) × (found ≡ count)
-  sole_test at is = elim (found == 1) as (λ b. IsThat (if b then goes m else stopped m (NotSole at found)) → (at ≡ site) × (found ≡ count)) [
-    | true ↦ λ z. absurd (not_none (goes m) fresh z)
-    | false ↦ λ z. let f : Some (NotSole at found) ≡ Some (NotSole site count) = z in (cc, cc)
-  ] is
-
-  quiet : (i : Instr) → is_reporting i ≡ false → IsThat (after (act code s i m) found) → ⊥
-  quiet i other is = by (quits code s m i found other)
-    where
-      by : Quits m (after (act code s i m) found) → ⊥
-      by (Still e) = not_none (after (act code s i m) found) (e ∙ fresh) is
-      by (Traps e go) = yes (sym e ∙ ap is_trap is)
-
-  pub sole_stop : (i : Instr) → IsThat (after (act code s i m) found) → (r : ℕ) × ((i ≡ instrs.TestSole r site) × (found ≡ count))
-  sole_stop (instrs.ChkLock c at) is = absurd (lock_check (is_of_null m c) (word s m c) at is)
-  sole_stop (instrs.ChkLockLoaded at) is = absurd (lock_check (m.pending == 0) (cell_word s (cell_of m.pending 0)) at is)
-  sole_stop (instrs.ChkRead c at) is = absurd (check Read (granule_at s (granule_of (place m c))) at found is)
-  sole_stop (instrs.ChkWrite c at) is = absurd (check Write (granule_at s (granule_of (place m c))) at found is)
-  sole_stop (instrs.TestSole r at) is = let k = sole_test at is in (r, (ap (λ n. instrs.TestSole r n) k.0, k.1))
-  sole_stop i is = absurd (quiet i refl is)
-
 -- ---- runs
 pub record Halting (code : Code) (s : Shape) (run : List Turn) : Type 0 where
   pub halts : (u : ℕ) → is_some ((place_after code s run).threads u).own.stop ≡ true → may_go ((place_after code s run).threads u).at.state ≡ false
@@ -175,7 +128,7 @@ pub stop_none : (o : Option Stop) → (is_some o ≡ true → ⊥) → o ≡ Non
 stop_none None h = refl
 stop_none (Some w) h = absurd (h refl)
 
-module _ (tests : RunsTest) (x : Targets) (code : Code) (s : Shape) (ls : Labels) (wt : IsWellTyped x code ls) (fits : Fits code s) (few : IsSmall code s)
+module _ (outs : TurnsComeOut) (tests : RunsTest) (x : Targets) (code : Code) (s : Shape) (ls : Labels) (wt : IsWellTyped x code ls) (fits : Fits code s) (few : IsSmall code s)
     (all : (run : List Turn) → IsRun bounds (one_thread code s) (opening_of bounds (one_thread code s) (opening_words code s)) run → Halting code s run)
     (each : (run : List Turn) → IsRun bounds (one_thread code s) (opening_of bounds (one_thread code s) (opening_words code s)) run → Consists x code s ls run) where
   abbrev RunOf : List Turn → Type 0
@@ -195,21 +148,21 @@ module _ (tests : RunsTest) (x : Targets) (code : Code) (s : Shape) (ls : Labels
     fresh : ((place_after code s earlier).threads one.thread).own.stop ≡ None
     fresh = stop_none m.own.stop (λ z. yes (sym may.next.runs ∙ (all earlier run.0).halts one.thread z))
 
-    stop : (r : ℕ) × ((instr_at code ((place_after code s earlier).threads one.thread).at.pc ≡ instrs.TestSole r site) × (result_of one.event ≡ count))
-    stop = sole_stop code s m fresh (result_of one.event) site count (instr_at code m.at.pc) is
+    stop : MayStop s (instr_at code ((place_after code s earlier).threads one.thread).at.pc) ((place_after code s earlier).threads one.thread) (result_of one.event) (NotSole site count)
+    stop = (reports s (instr_at code m.at.pc) (result_of one.event) m _ (outs code s (instr_at code m.at.pc) m (result_of one.event)) (NotSole site count) refl fresh is).0
 
     stands : TestStands (result_of one.event)
         (references_to x code s (place_after code s earlier) (objects_after code s ls (first_place code s) (first_world x).obj earlier) (ref ((place_after code s earlier).threads one.thread) stop.0))
         (may_go ((after_turn bounds (one_thread code s) (place_after code s earlier) one).threads one.thread).at.state)
-    stands = tests x code s ls wt fits few earlier one run stop.0 site stop.1.0
+    stands = tests x code s ls wt fits few earlier one run stop.0 site stop.1
 
     stopped_now : may_go ((after_turn bounds (one_thread code s) (place_after code s earlier) one).threads one.thread).at.state ≡ false
     stopped_now = (all (one ∷ earlier) run).halts one.thread (ap (λ (y : Machine). is_some y.own.stop) (put_same g.threads one.thread (state_now (one_thread code s) g one)) ∙ ap (λ (o : Option Stop). is_some o) is)
 
     word_is : slice_index (place_after code s earlier).words (count_word s (ref ((place_after code s earlier).threads one.thread) stop.0)) ≡ count
     word_is =
-        let asked : asked_by (turn code s m) ≡ Some (test_of (count_word s (ref m stop.0))) = ap (λ j. asked_by (act code s j m)) stop.1.0 in
-        sym (found_is g.words one.event (test_of (count_word s (ref m stop.0))) (may.next.asks ∙ asked) may.answered) ∙ stop.1.1
+        let asked : asked_by (turn code s m) ≡ Some (test_of (count_word s (ref m stop.0))) = ap (λ j. asked_by (act code s j m)) stop.1 in
+        sym (found_is g.words one.event (test_of (count_word s (ref m stop.0))) (may.next.asks ∙ asked) may.answered) ∙ stop.2
 
     -- its register is known not to be NULL
     some : 0 < ref ((place_after code s earlier).threads one.thread) stop.0
@@ -217,9 +170,9 @@ module _ (tests : RunsTest) (x : Targets) (code : Code) (s : Shape) (ls : Labels
         let h = each earlier run.0 in
         let rn = (h.state.threads one.thread).runs may.started may.next.runs in
         let test = instrs.TestSole stop.0 site in
-        let stands = subst (λ i. StageStands code s h.state.elements h.world h.state.heap g.words one.thread m i m.own.stage) stop.1.0 rn.stage in
+        let stands = subst (λ i. StageStands code s h.state.elements h.world h.state.heap g.words one.thread m i m.own.stage) stop.1 rn.stage in
         let hold = rests_hold code s h.state.elements h.world h.state.heap g.words one.thread m test m.own.stage refl stands in
-        let fine = subst (Fine x code ls m.at.pc (ls.at m.at.pc)) stop.1.0 (wt.fine m.at.pc) in
+        let fine = subst (Fine x code ls m.at.pc (ls.at m.at.pc)) stop.1 (wt.fine m.at.pc) in
         above (ref m stop.0) (known_ref x code s ls wt fits g h.world h.state one.thread (may.started, may.next.runs) hold stop.0 fine.2)
       where
         above : (k : ℕ) → (k ≡ 0 → ⊥) → 0 < k
@@ -230,7 +183,7 @@ module _ (tests : RunsTest) (x : Targets) (code : Code) (s : Shape) (ls : Labels
     finds_others =
         let obj = objects_after code s ls (first_place code s) (first_world x).obj earlier in
         let two : 2 ≤ references_to x code s g obj (ref m stop.0) = stands.refused stopped_now in
-        let number : count ≡ references_to x code s g obj (ref m stop.0) = sym stop.1.1 ∙ stands.number in
+        let number : count ≡ references_to x code s g obj (ref m stop.0) = sym stop.2 ∙ stands.number in
         record {
           later = [];
           test = one;
@@ -238,7 +191,7 @@ module _ (tests : RunsTest) (x : Targets) (code : Code) (s : Shape) (ls : Labels
           parts = refl;
           thread = refl;
           register = stop.0;
-          is_test = stop.1.0;
+          is_test = stop.1;
           some = some;
           counts = record {
             word = word_is;

@@ -8,7 +8,7 @@ use Rattle.sharc_word.specs.declared.step.WordOp.TheVariants as ops
 use Rattle.sharc_locks.specs.Waiters.{waits_in}
 use Rattle.sharc_heap.specs.{declared.shadow_word.Kind.Kind, declared.shadow_word.Kind.TheVariants.{Read, Write}, Accesses.{note_of, site_at}, ShadowWord.epoch_of, Functions.{conflicts_in, noted}, State.{NewView, told, turn_of}, Asks.word_number, Stages.turn_of_stage, declared.arguments.NewArguments.NewArguments, declared.stage.NewStage.NewStage, declared.stage.NewTurn.NewTurn, declared.stage.NewTurn.TheVariants.{Do, Made, HeapFull}}
 use Rattle.sharc_heap.specs.declared.stage.NewStage.TheVariants as news
-use Rattle.sharc_code.specs.{declared.code.Code.Code, declared.code.Layout.Layout, declared.code.Parameter.Parameter, declared.instr.Cell.Cell, declared.instr.Register.Register, declared.instr.Width.TheVariants.{Int, Long}, declared.instr.Instr.Instr, declared.instr.Instr.TheVariants.{Constant, Move, MoveReference, Null, ComputeInt, ComputeLong, NegateInt, NegateLong, Complement, Not, SameReference, ChkWidth, Jump, JumpIfZero, JumpIfNull, Call, Return, ChkNull, ChkHeld, ChkNotHeld, ChkPositive, ChkRoom, ChkLock, ChkLockLoaded, Bounds, GlobalBounds, ChkRead, ChkWrite, Load, Store, LoadRef, Exchange, Raise, RaiseLoaded, Lower, New, TakeCell, TakeLocal, TestSole, Clear, Give, Free, Lock, Unlock, Spawn, Join, Print, Start, Exit, CondEnter, CondWait, CondSignal, CondBroadcast}, declared.shape.Shape.Shape, declared.state.TurnState.TurnState, declared.state.TurnState.TheVariants.{Runs, Tries, Stopped, Ended}, declared.state.Stage.Stage, declared.state.Stage.TheVariants.{Rests, Looks, Clears, Makes, Empties, Lowers, FreeLooks, FreeClears, Uncounts, Links, Names, Hands, Begins, Enters, Withdraws, WithdrawsFrom, Leaves, Wakes}, Arithmetic.{computed, negated, is_zero, holds}, Layout.{granule_at, granule_of, words_of, cell_of, cell_word, shadow_word, count_word, first_cell, first_shadow, state_word, next_thread_word}, Machine.{Machine, Own, Turn, act, int, ref, goes, goes_to, asserts, with_result, has_room, called, returned, holds_none, is_of_null, is_held, indexed, wrote, with_note, checked, lock_checked, raise, lower, test, tested, after_new, asks_new, new, new_state, elements_of, looks, clear, data_granules, free_looks, empties, emptied, free, layout_at, spawn, with_parameter, entered, start, function_of, withdraws, exit, wakes, signal, is_positive, fields, largest, at_stage, place, set_ref, accessed, move_ref, numbered, trapped, locked, joined, join, woken, word, Local, Asks, step_of, instr_at}, Path.{after, turn, asked_by, counted}, Stages.{IsStageOf, drawn_of}}
+use Rattle.sharc_code.specs.{declared.code.Code.Code, declared.code.Layout.Layout, declared.code.Parameter.Parameter, declared.instr.Cell.Cell, declared.instr.Register.Register, declared.instr.Width.TheVariants.{Int, Long}, declared.instr.Instr.Instr, declared.instr.Instr.TheVariants.{ComputeInt, ComputeLong, NegateInt, NegateLong, ChkWidth, JumpIfZero, JumpIfNull, Call, Return, ChkNull, ChkHeld, ChkNotHeld, ChkPositive, ChkRoom, ChkLock, ChkLockLoaded, Bounds, GlobalBounds, ChkRead, ChkWrite, Load, Store, LoadRef, Exchange, Raise, RaiseLoaded, Lower, New, TakeCell, TakeLocal, TestSole, Clear, Give, Free, Lock, Unlock, Spawn, Join, Print, Start, Exit, CondEnter, CondWait, CondSignal, CondBroadcast}, declared.shape.Shape.Shape, declared.state.TurnState.TurnState, declared.state.TurnState.TheVariants.{Runs, Tries, Stopped, Ended}, declared.state.Stage.Stage, declared.state.Stage.TheVariants.{Rests, Looks, Clears, Makes, Empties, Lowers, FreeLooks, FreeClears, Uncounts, Links, Names, Hands, Begins, Enters, Withdraws, WithdrawsFrom, Leaves, Wakes}, Arithmetic.{computed, negated, is_zero, holds}, Layout.{granule_at, granule_of, words_of, cell_of, cell_word, shadow_word, count_word, first_cell, first_shadow, state_word, next_thread_word}, Machine.{Machine, Own, Turn, act, int, ref, goes, goes_to, asserts, with_result, has_room, called, returned, holds_none, is_of_null, is_held, indexed, wrote, with_note, checked, lock_checked, raise, lower, test, tested, after_new, asks_new, new, new_state, elements_of, looks, clear, data_granules, free_looks, empties, emptied, free, layout_at, spawn, with_parameter, entered, start, function_of, withdraws, exit, wakes, signal, is_positive, fields, largest, at_stage, place, set_ref, accessed, move_ref, numbered, trapped, locked, joined, join, woken, word, Local, Asks, step_of, instr_at}, Path.{after, turn, asked_by, counted}, Stages.{IsStageOf, drawn_of}}
 use Rattle.sharc_code.specs.declared.code.Parameter.TheVariants as parameters
 
 abbrev pub is_ended : TurnState → Bool
@@ -299,19 +299,11 @@ module _ (code : Code) (s : Shape) (m : Machine) where
   quiet x h = Ordinary tt (λ found. h)
 
   at_instr : (i : Instr) → IsStageOf s m.own.stage → Sort m (act code s i m)
-  at_instr (Constant r v) is = quiet _ (same _ refl refl)
-  at_instr (Move r from) is = quiet _ (same _ refl refl)
-  at_instr (MoveReference r from) is = quiet _ (same _ refl refl)
-  at_instr (Null r) is = quiet _ (same _ refl refl)
   at_instr (ComputeInt operator r a b site) is = quiet _ (at_result r site (computed Int operator (int m a) (int m b)))
   at_instr (ComputeLong operator r a b site) is = quiet _ (at_result r site (computed Long operator (int m a) (int m b)))
   at_instr (NegateInt r a site) is = quiet _ (at_result r site (negated Int (int m a)))
   at_instr (NegateLong r a site) is = quiet _ (at_result r site (negated Long (int m a)))
-  at_instr (Complement r a) is = quiet _ (same _ refl refl)
-  at_instr (Not r a) is = quiet _ (same _ refl refl)
-  at_instr (SameReference r a b) is = quiet _ (same _ refl refl)
   at_instr (ChkWidth width r site) is = quiet _ (at_assert (holds width (int m r)) traps.OutOfRange site)
-  at_instr (Jump pc) is = quiet _ (same _ refl refl)
   at_instr (JumpIfZero r pc) is = quiet _ (at_jump (is_zero (int m r)) pc)
   at_instr (JumpIfNull r pc) is = quiet _ (at_jump (ref m r == 0) pc)
   at_instr (Call pc ints refs site) is = quiet _ (at_call m m pc ints refs site (λ n e. e))
@@ -352,6 +344,7 @@ module _ (code : Code) (s : Shape) (m : Machine) where
   at_instr (CondWait cell site) is = Ordinary (loads _) (λ found. at_woken found)
   at_instr (CondSignal cell site) is = at_signal (word s m cell) m.own.stage (of_cell s _)
   at_instr (CondBroadcast cell site) is = Ordinary (apart _ _ (of_cell s _)) (λ found. same _ refl refl)
+  at_instr _ is = quiet _ (same _ refl refl)
 
   pub sorted : IsStageOf s m.own.stage → Sort m (turn code s m)
   sorted = at_instr (instr_at code m.at.pc)

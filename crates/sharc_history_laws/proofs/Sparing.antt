@@ -363,32 +363,7 @@ module _ (there_laws : CellsAreThere) (pointer_laws : PointersAreThere) (x : Tar
   fine_of i is = subst (Fine x code ls m.at.pc here) is (wt.fine m.at.pc)
 
   by_instr : (i : Instr) → instr_at code (g.threads t).at.pc ≡ i → Written (act code s i (g.threads t))
-  by_instr (instrs.Constant r v) is = tt
-  by_instr (instrs.Move r from) is = tt
-  by_instr (instrs.MoveReference r from) is = tt
-  by_instr (instrs.Null r) is = tt
-  by_instr (instrs.ComputeInt operator r a b site) is = tt
-  by_instr (instrs.ComputeLong operator r a b site) is = tt
-  by_instr (instrs.NegateInt r a site) is = tt
-  by_instr (instrs.NegateLong r a site) is = tt
-  by_instr (instrs.Complement r a) is = tt
-  by_instr (instrs.Not r a) is = tt
-  by_instr (instrs.SameReference r a b) is = tt
-  by_instr (instrs.ChkWidth width r site) is = tt
-  by_instr (instrs.Jump pc) is = tt
-  by_instr (instrs.JumpIfZero r pc) is = tt
-  by_instr (instrs.JumpIfNull r pc) is = tt
-  by_instr (instrs.Call pc ints refs site) is = tt
-  by_instr (instrs.Return site) is = tt
-  by_instr (instrs.ChkNull r site) is = tt
-  by_instr (instrs.ChkHeld c site) is = tt
-  by_instr (instrs.ChkNotHeld c site) is = tt
-  by_instr (instrs.ChkPositive r site) is = tt
-  by_instr (instrs.ChkRoom site) is = tt
-  by_instr (instrs.ChkLock c site) is = tt
-  by_instr (instrs.ChkLockLoaded site) is = tt
   by_instr (instrs.Bounds r base count field site) is = Leaves (λ v. refl)
-  by_instr (instrs.GlobalBounds r elements count field site) is = tt
   by_instr (instrs.ChkRead c site) is = of_shadow P s target high _ _
   by_instr (instrs.ChkWrite c site) is = of_shadow P s target high _ _
   by_instr (instrs.Load r c site) is = Leaves (λ v. refl)
@@ -431,6 +406,7 @@ module _ (there_laws : CellsAreThere) (pointer_laws : PointersAreThere) (x : Tar
       signal_hold (Links all) h = absurd h
       signal_hold _ h = tt
   by_instr (instrs.CondBroadcast c site) is = let i = instrs.CondBroadcast c site in let f = fine_of i is in to_waited c f.1.0 _ (rest i is refl) (ap waited_cell is) f.1.1 f.1.2
+  by_instr _ is = tt
 
   pub spares_cell : Written (turn code s (g.threads t))
   spares_cell = by_instr (instr_at code m.at.pc) refl

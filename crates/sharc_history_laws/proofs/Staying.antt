@@ -1,14 +1,14 @@
 -- An object in whose granules bits stand stays, and no event of a turn is about its beginning or its end.
-use Rattle.std.proofs.{Common.{◌≡◌, ℕ, ◌+◌, ◌*◌, ◌<◌, ◌≢◌, Bool, true, false, ◌||◌, List, ◌∷◌, Option, Some, None, refl, sym, ap, ◌∙◌, subst, ⊎_elim, arith}, lemmas.Bool.{cases_eq, or_from as or_no}, lemmas.Bool.Decides.nat_tests}
+use Rattle.std.proofs.{Common.{◌≡◌, ℕ, ◌+◌, ◌*◌, ◌<◌, ◌≢◌, Bool, true, false, List, ◌∷◌, Option, Some, None, refl, sym, ap, ◌∙◌, subst, ⊎_elim, arith}, lemmas.Bool.{cases_eq, or_from as or_no}, lemmas.Bool.Decides.nat_tests}
 use Rattle.std.specs.Prelude.{◌==◌}
 use Rattle.sharc_tree.specs.{declared.event.Object.Object, declared.event.SourceEvent.SourceEvent}
 use Rattle.sharc_tree.specs.declared.event.Object.TheVariants as objects
 use Rattle.sharc_heap.specs.ShadowWord.{stands}
-use Rattle.sharc_code.specs.{declared.code.Code.Code, declared.instr.Instr.Instr, declared.shape.Shape.Shape, declared.state.Stage.Stage, declared.state.Stage.TheVariants.{Uncounts, Leaves as Leaving}, Layout.granules, Machine.{Machine, instr_at, ref}, Path.turn, Runs.{Turn, Global, result_of, paired, told_by, after_turn}, Says.said, Whole.{Erase, one_thread, bounds, place_after}}
+use Rattle.sharc_code.specs.{declared.code.Code.Code, declared.instr.Instr.Instr, declared.shape.Shape.Shape, declared.state.Stage.Stage, declared.state.Stage.TheVariants.{Uncounts, Leaves as Leaving}, Layout.granules, Machine.{Machine, instr_at, ref}, Outcomes.is_exit, Path.turn, Runs.{Turn, Global, result_of, paired, told_by, after_turn}, Says.said, Whole.{Erase, one_thread, bounds, place_after}}
 use Rattle.sharc_code.specs.declared.instr.Instr.TheVariants as instrs
 use Rattle.sharc_meaning.specs.{Events.{begins, frees, is_number, made_by, given_by, freed_by}, Store.is_gone}
 use Rattle.sharc_invariant.specs.{Blocks.{Built, Live}, Labels.Labels, MachineInvariant.IsOn, State.State, Types.{Targets, cells_of}, Words.{has_withdrawn, is_ended}, World.{World, ObjectState}}
-use Rattle.sharc_history_laws.proofs.{Acts.{given_at, freed_in, freed_at, About, about}, Cleared.{given_cleared, freed_cleared}, Consists.{Consists, objects_then, header_built}, Going.is_exit, Leaving.{gone_said, not_gone, leaves_at}, Remaining.word_at, Rules.{same_behind, low_numbers}, Tables.{header_of, length_kept}, Wholes.{TheLaws, Typed, RunOf, Whole, fresh_of, next_consists}, Withdrawing.has_left, Writes.writes}
+use Rattle.sharc_history_laws.proofs.{Acts.{given_at, freed_in, freed_at, About, about}, Cleared.{given_cleared, freed_cleared}, Consists.{Consists, objects_then, header_built}, Leaving.{gone_said, not_gone, leaves_at}, Remaining.word_at, Rules.{same_behind, low_numbers}, Tables.{header_of, length_kept}, Wholes.{TheLaws, Typed, RunOf, Whole, fresh_of, next_consists}, Withdrawing.has_left, Writes.writes}
 use Rattle.sharc_lemmas.proofs.Bools.{yes}
 
 number_no : (n : ℕ) (o : Option ℕ) → (o ≡ Some n → ⊥) → is_number n o ≡ false
@@ -95,7 +95,7 @@ module _ (laws : TheLaws) (x : Targets) (code : Code) (s : Shape) (ls : Labels) 
     ungiven (instrs.Give r site) is e =
         let same : ref m r ≡ o = cc in
         let low : 2 * k < st.cells (ref m r) = subst (λ o. 2 * k < st.cells o) (sym same) inside in
-        let none = given_cleared laws.shadow laws.state laws.cells laws.pointers x code s ls typed.wt typed.fits g world st one run.1 fresh w.remains w.cleared r site is k low u in
+        let none = given_cleared laws.run.turns.outcomes laws.shadow laws.state laws.cells laws.pointers x code s ls typed.wt typed.fits g world st one run.1 fresh w.remains w.cleared r site is k low u in
         yes (sym bit ∙ ap (λ o. stands (word_at g (o + 1 + k)) u) (sym same) ∙ none)
     ungiven _ is e = let f : None ≡ Some o = e in cc
 
@@ -103,7 +103,7 @@ module _ (laws : TheLaws) (x : Targets) (code : Code) (s : Shape) (ls : Labels) 
     unfreed_at r layout site is (Uncounts all) at e =
         let same : ref m r ≡ o = cc in
         let low : 2 * k < st.cells (ref m r) = subst (λ o. 2 * k < st.cells o) (sym same) inside in
-        let none = freed_cleared laws.shadow laws.state laws.cells laws.pointers x code s ls typed.wt typed.fits g world st one run.1 fresh w.remains w.cleared r layout site all is at k low u in
+        let none = freed_cleared laws.run.turns.outcomes laws.shadow laws.state laws.cells laws.pointers x code s ls typed.wt typed.fits g world st one run.1 fresh w.remains w.cleared r layout site all is at k low u in
         yes (sym bit ∙ ap (λ o. stands (word_at g (o + 1 + k)) u) (sym same) ∙ none)
     unfreed_at r layout site is _ at e = let f : None ≡ Some o = e in cc
 

@@ -1,5 +1,5 @@
 -- The elements of objects by the source events are those that the length words of live objects hold.
-use Rattle.std.proofs.{Common.{◌≡◌, ℕ, zero, suc, ◌+◌, ◌*◌, ◌%◌, ◌^◌, ◌<◌, ◌≤◌, ◌≢◌, ◌⊎◌, inl, inr, Bool, true, false, List, [], ◌∷◌, Option, Some, None, if◌then◌else◌, refl, sym, ap, ◌∙◌, subst, ⊎_elim, arith, eqb-true}, lemmas.Bool.{cases_eq, cases_lt}, lemmas.Bool.Decides.nat_tests, lemmas.List.get_or-set_other}
+use Rattle.std.proofs.{Common.{◌≡◌, ℕ, zero, suc, ◌+◌, ◌*◌, ◌%◌, ◌^◌, ◌<◌, ◌≤◌, ◌≢◌, ◌⊎◌, inl, inr, Bool, true, false, List, Option, Some, None, if◌then◌else◌, refl, sym, ap, ◌∙◌, subst, ⊎_elim, arith, eqb-true}, lemmas.Bool.{cases_eq, cases_lt}, lemmas.Bool.Decides.nat_tests, lemmas.List.get_or-set_other}
 use Rattle.std.specs.Prelude.{slice_index, nat_eq, ◌==◌, ◌||◌}
 use Rattle.sharc_word.specs.{declared.step.WordStep.WordStep, declared.step.WordEvent.WordEvent, Words.{word_after, words_after_step}}
 use Rattle.sharc_tree.specs.declared.event.SourceEvent.{SourceEvent}
@@ -86,49 +86,6 @@ module _ (T : Elements) (n : ℕ) where
 
   -- a turn that does not make the object tells no other number of elements
   pub told_other : (code : Code) (i : Instr) (m : Machine) (found elements : ℕ) → ((header : ℕ) → header_of i m.own.stage ≡ Some header → (header < 2 ^ 32) × (header ≢ n)) → Kept (said code i m found elements)
-  told_other code (instrs.Constant r v) m found elements h = refl
-  told_other code (instrs.Move r from) m found elements h = refl
-  told_other code (instrs.MoveReference r from) m found elements h = refl
-  told_other code (instrs.Null r) m found elements h = refl
-  told_other code (instrs.ComputeInt operator r a b site) m found elements h = refl
-  told_other code (instrs.ComputeLong operator r a b site) m found elements h = refl
-  told_other code (instrs.NegateInt r a site) m found elements h = refl
-  told_other code (instrs.NegateLong r a site) m found elements h = refl
-  told_other code (instrs.Complement r a) m found elements h = refl
-  told_other code (instrs.Not r a) m found elements h = refl
-  told_other code (instrs.SameReference r a b) m found elements h = refl
-  told_other code (instrs.ChkWidth width r site) m found elements h = refl
-  told_other code (instrs.Jump pc) m found elements h = refl
-  told_other code (instrs.JumpIfZero r pc) m found elements h = refl
-  told_other code (instrs.JumpIfNull r pc) m found elements h = refl
-  told_other code (instrs.Call pc ints refs site) m found elements h = refl
-  told_other code (instrs.Return site) m found elements h = refl
-  told_other code (instrs.ChkNull r site) m found elements h = refl
-  told_other code (instrs.ChkHeld c site) m found elements h = refl
-  told_other code (instrs.ChkNotHeld c site) m found elements h = refl
-  told_other code (instrs.ChkPositive r site) m found elements h = refl
-  told_other code (instrs.ChkRoom site) m found elements h = refl
-  told_other code (instrs.ChkLock c site) m found elements h = refl
-  told_other code (instrs.ChkLockLoaded site) m found elements h = refl
-  told_other code (instrs.Bounds r base count field site) m found elements h = refl
-  told_other code (instrs.GlobalBounds r all count field site) m found elements h = refl
-  told_other code (instrs.ChkRead c site) m found elements h = refl
-  told_other code (instrs.ChkWrite c site) m found elements h = refl
-  told_other code (instrs.Load r c site) m found elements h = refl
-  told_other code (instrs.Store r c site) m found elements h = refl
-  told_other code (instrs.LoadRef c site) m found elements h = refl
-  told_other code (instrs.Exchange r c site) m found elements h = refl
-  told_other code (instrs.Raise r from) m found elements h = refl
-  told_other code (instrs.RaiseLoaded r) m found elements h = refl
-  told_other code (instrs.Lower r) m found elements h = refl
-  told_other code (instrs.TakeCell r c site) m found elements h = refl
-  told_other code (instrs.TestSole r site) m found elements h = refl
-  told_other code (instrs.Clear r cells) m found elements h = refl
-  told_other code (instrs.Give r site) m found elements h = refl
-  told_other code (instrs.Unlock r c site) m found elements h = refl
-  told_other code (instrs.Print r site) m found elements h = refl
-  told_other code (instrs.CondEnter c site) m found elements h = refl
-  told_other code (instrs.CondBroadcast c site) m found elements h = refl
   told_other code (instrs.New r count cells site) m found elements h = at_new code m site cells m.own.stage h
   told_other code (instrs.TakeLocal r from site) m found elements h = at_local code m site (ref m from) elements
   told_other code (instrs.Free r layout site) m found elements h = at_free code m r site elements m.own.stage
@@ -139,6 +96,7 @@ module _ (T : Elements) (n : ℕ) where
   told_other code instrs.Exit m found elements h = at_exit code m m.own.stage
   told_other code (instrs.CondWait c site) m found elements h = either (waits_in found m.own.number) _ _ refl refl
   told_other code (instrs.CondSignal c site) m found elements h = at_signal code m c site found m.own.stage
+  told_other code _ m found elements h = refl
 
   made_stage : (code : Code) (m : Machine) (site cells : ℕ) (v : NewView) (stage : NewStage) → header_at stage ≡ Some n → n < 2 ^ 32 → elements_told (new_event code m site cells v stage) T n ≡ v.arguments.elements
   made_stage code m site cells v (news.Length header) e lt =

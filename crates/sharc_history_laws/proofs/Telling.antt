@@ -68,49 +68,6 @@ module _ (code : Code) (m : Machine) where
   threadless_new site cells _ = refl
 
   pub no_thread : (i : Instr) (found elements : ℕ) → is_threading i ≡ false → threads_said (said code i m found elements) ≡ false
-  no_thread (instrs.Constant r v) found elements e = refl
-  no_thread (instrs.Move r from) found elements e = refl
-  no_thread (instrs.MoveReference r from) found elements e = refl
-  no_thread (instrs.Null r) found elements e = refl
-  no_thread (instrs.ComputeInt operator r a b site) found elements e = refl
-  no_thread (instrs.ComputeLong operator r a b site) found elements e = refl
-  no_thread (instrs.NegateInt r a site) found elements e = refl
-  no_thread (instrs.NegateLong r a site) found elements e = refl
-  no_thread (instrs.Complement r a) found elements e = refl
-  no_thread (instrs.Not r a) found elements e = refl
-  no_thread (instrs.SameReference r a b) found elements e = refl
-  no_thread (instrs.ChkWidth width r site) found elements e = refl
-  no_thread (instrs.Jump pc) found elements e = refl
-  no_thread (instrs.JumpIfZero r pc) found elements e = refl
-  no_thread (instrs.JumpIfNull r pc) found elements e = refl
-  no_thread (instrs.Call pc ints refs site) found elements e = refl
-  no_thread (instrs.Return site) found elements e = refl
-  no_thread (instrs.ChkNull r site) found elements e = refl
-  no_thread (instrs.ChkHeld c site) found elements e = refl
-  no_thread (instrs.ChkNotHeld c site) found elements e = refl
-  no_thread (instrs.ChkPositive r site) found elements e = refl
-  no_thread (instrs.ChkRoom site) found elements e = refl
-  no_thread (instrs.ChkLock c site) found elements e = refl
-  no_thread (instrs.ChkLockLoaded site) found elements e = refl
-  no_thread (instrs.Bounds r base count field site) found elements e = refl
-  no_thread (instrs.GlobalBounds r all count field site) found elements e = refl
-  no_thread (instrs.ChkRead c site) found elements e = refl
-  no_thread (instrs.ChkWrite c site) found elements e = refl
-  no_thread (instrs.Raise r from) found elements e = refl
-  no_thread (instrs.RaiseLoaded r) found elements e = refl
-  no_thread (instrs.Lower r) found elements e = refl
-  no_thread (instrs.TestSole r site) found elements e = refl
-  no_thread (instrs.Clear r cells) found elements e = refl
-  no_thread (instrs.Unlock r c site) found elements e = refl
-  no_thread (instrs.Print r site) found elements e = refl
-  no_thread (instrs.CondEnter c site) found elements e = refl
-  no_thread (instrs.CondBroadcast c site) found elements e = refl
-  no_thread (instrs.Give r site) found elements e = refl
-  no_thread (instrs.Load r c site) found elements e = refl
-  no_thread (instrs.Store r c site) found elements e = refl
-  no_thread (instrs.LoadRef c site) found elements e = refl
-  no_thread (instrs.Exchange r c site) found elements e = refl
-  no_thread (instrs.TakeCell r c site) found elements e = refl
   no_thread (instrs.TakeLocal r from site) found elements e = threadless_local site (ref m from) elements
   no_thread (instrs.New r count cells site) found elements e = threadless_new site cells m.own.stage
   no_thread (instrs.Free r layout site) found elements e = threadless_free r site elements m.own.stage
@@ -121,6 +78,7 @@ module _ (code : Code) (m : Machine) where
   no_thread instrs.Exit found elements e = absurd (let z : true ≡ false = e in cc)
   no_thread (instrs.CondWait c site) found elements e = either_no (waits_in found m.own.number) _ _ refl refl
   no_thread (instrs.CondSignal c site) found elements e = threadless_signal c site found m.own.stage
+  no_thread _ found elements e = refl
 
 -- ---- cells
 -- an event that is no access changes no cell but those of an object that it makes

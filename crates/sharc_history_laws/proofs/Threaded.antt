@@ -1,16 +1,16 @@
 -- Who was started, and who has ended, by the events of a run.
-use Rattle.std.proofs.{Common.{◌≡◌, ℕ, ℤ, pos, ◌+◌, ◌<◌, ◌⊎◌, Bool, true, false, ◌||◌, ◌&&◌, length, List, [], ◌∷◌, reverse, Option, Some, None, if◌then◌else◌, refl, sym, ap, ◌∙◌, subst, ⊎_elim, arith, eqb-true}, lemmas.Bool.{cases_eq, or_right}, lemmas.Bool.Decides.nat_tests}
+use Rattle.std.proofs.{Common.{◌≡◌, ℕ, ℤ, pos, ◌+◌, ◌<◌, Bool, true, false, ◌||◌, ◌&&◌, length, List, [], ◌∷◌, reverse, Option, Some, None, if◌then◌else◌, refl, sym, ap, ◌∙◌, subst, ⊎_elim, arith, eqb-true}, lemmas.Bool.{cases_eq, or_right}, lemmas.Bool.Decides.nat_tests}
 use Rattle.std.specs.{Prelude.{slice_index, nat_lt, nat_eq, ◌==◌}, List.list_any}
 use Rattle.sharc_word.specs.declared.step.TheConstants.{THREADS}
 use Rattle.sharc_word.specs.declared.step.WordOp.TheVariants as ops
 use Rattle.sharc_tree.specs.declared.event.Act.TheVariants as acts
 use Rattle.sharc_tree.specs.declared.event.SourceEvent.{SourceEvent}
-use Rattle.sharc_code.specs.{declared.code.Code.Code, declared.instr.Instr.Instr, declared.instr.Register.Register, declared.shape.Shape.Shape, declared.state.Stage.Stage, declared.state.Stage.TheVariants.{Begins, Withdraws, WithdrawsFrom, Leaves}, Laws.RunLaws, Layout.{Fits, state_word}, Machine.{Machine, instr_at, act, exit, spawn, withdraws, withdrew, at_stage}, Path.{turn, after, asked_by}, Runs.{Turn, Global, MayTurn, after_turn, put, state_now, result_of, words_now, is_started}, Says.{said, speaks_of, in_exit, in_spawn}, Whole.{one_thread, bounds, place_after}}
+use Rattle.sharc_code.specs.{declared.code.Code.Code, declared.instr.Instr.Instr, declared.instr.Register.Register, declared.shape.Shape.Shape, declared.state.Stage.Stage, declared.state.Stage.TheVariants.{Begins, Withdraws, WithdrawsFrom, Leaves}, Laws.RunLaws, Layout.{Fits, state_word}, Machine.{Machine, instr_at, act, exit, spawn, withdraws, withdrew, at_stage}, Outcomes.is_exit, Path.{turn, after, asked_by}, Runs.{Turn, Global, MayTurn, after_turn, put, state_now, result_of, words_now, is_started}, Says.{said, speaks_of, in_exit, in_spawn}, Whole.{one_thread, bounds, place_after}}
 use Rattle.sharc_code.specs.declared.instr.Instr.TheVariants as instrs
 use Rattle.sharc_compile.specs.OfRuns.{table_of}
 use Rattle.sharc_meaning.specs.{Obeys.History, Store.{spawns, is_spawn, is_natural, is_gone, was_spawned, went}}
 use Rattle.sharc_invariant.specs.{Types.Targets, Labels.Labels, Typed.IsWellTyped, Words.is_ended, State.{IsSmall, StageStands}, Laws.{Keeps, CellsAreThere, PointersAreThere, AccessesAreAllowed}}
-use Rattle.sharc_history_laws.proofs.{Consists.{Consists, after_set}, Going.{is_exit, going}, Holding.any_push, Lists.{Newest, reverse_push}, Rules.{pushed, number_is, put_same, put_other}, Telling.{threads_said, is_threading, neither, no_thread}}
+use Rattle.sharc_history_laws.proofs.{Consists.{Consists, after_set}, Outcomes.unended, Holding.any_push, Lists.{Newest, reverse_push}, Rules.{pushed, number_is, put_same, put_other}, Telling.{threads_said, is_threading, neither, no_thread}}
 use Rattle.sharc_lemmas.proofs.{Numbers.same_is, Bools.{or_split as or_cases, yes}}
 
 pub or_left : (a b : Bool) → a ≡ true → (a || b) ≡ true
@@ -158,7 +158,7 @@ module _ (cell_laws : CellsAreThere) (pointers : PointersAreThere) (rights : Acc
       by instrs.Exit is =
           let now : is_ended (after (exit s m m.own.stage) found).at.state ≡ true = ap (λ j. is_ended (after (act code s j m) found).at.state) (sym is) ∙ ended in
           at_exit is m.own.stage refl (leaving s m found m.own.stage now)
-      by _ is = absurd (yes (sym ended ∙ (going code s m i found (ap is_exit is)).on))
+      by _ is = absurd (yes (sym ended ∙ unended s i found m _ (laws.turns.outcomes code s i m found) (ap is_exit is)))
 
   -- ---- all of them
   module _ (L : Newest) (old : ThreadsTold L (place_after code s earlier)) where

@@ -14,7 +14,7 @@ use Rattle.sharc_compile.specs.OfRuns.{table_of}
 use Rattle.sharc_meaning.specs.{Events.{is_cell, same_cell}, Store.{entered, takes_away}}
 use Rattle.sharc_invariant.specs.{Types.{Targets, Field, Content, Integer, MutexWord, Waiters, Pointer, field_in}, Labels.{Gate, Closed, Labels}, Typed.{IsWellTyped, Fine, Accesses, HasCell, IsNotSole}, World.{In, RegisterOf, ObjectState, World}, State.{IsSmall, StageStands, EntryStands, OnHold, object_of_cell, number_in, view_of, refs_at, types_at}, MachineInvariant.IsOn, Laws.{Keeps, CellsAreThere, PointersAreThere, AccessesAreAllowed, StateStands}}
 use Rattle.sharc_history_laws.specs.Waiters.{WaitsFollow}
-use Rattle.sharc_history_laws.proofs.{Acts.{freed_at, thread_said}, Born.born, Consists.{Consists, consists_then, objects_then, after_set, found_is, headed, live_not_built, header_built}, Contents.{IsCellOf, content_of, word_of_cell, one_cell}, Emptying.{IsFreeing, IsEmptied, is_emptying, emptied_then}, Going.wakes_nobody, Holding.cell_eq, Lists.Newest, Locking.cell_refl, ModesKept.word_spared, OneMode.{place_of, numbers_now}, Queued.{waits_by, waits_behind, waiter_behind, other_event, is_condition, no_condition, condition_elsewhere, no_enter, woken_leaves, is_enter, enterless}, Rules.{pushed, about_now, number_is, decide, freed_gone, put_same, put_other}, Shared.number_of, Single.{single, rests_hold}, Sparing.{holds_waiters, is_mutex, waited_cell, written_cell, spares_cell}, Stands.{register_is, live_slot, some_base, there, top, reads_ref}, Tables.header_of, Unemptied.not_emptied, Valued.cell_named, Values.{Kept, kept}}
+use Rattle.sharc_history_laws.proofs.{Acts.{freed_at, thread_said}, Born.born, Consists.{Consists, consists_then, objects_then, after_set, found_is, headed, live_not_built, header_built}, Contents.{IsCellOf, content_of, word_of_cell, one_cell}, Emptying.{IsFreeing, IsEmptied, is_emptying, emptied_then}, Holding.cell_eq, Lists.Newest, Locking.cell_refl, ModesKept.word_spared, OneMode.{place_of, numbers_now}, Queued.{waits_by, waits_behind, waiter_behind, other_event, is_condition, no_condition, condition_elsewhere, no_enter, woken_leaves, is_enter, enterless}, Outcomes.wakes_nobody, Rules.{pushed, about_now, number_is, decide, freed_gone, put_same, put_other}, Shared.number_of, Single.{single, rests_hold}, Sparing.{holds_waiters, is_mutex, waited_cell, written_cell, spares_cell}, Stands.{register_is, live_slot, some_base, there, top, reads_ref}, Tables.header_of, Unemptied.not_emptied, Valued.cell_named, Values.{Kept, kept}}
 use Rattle.sharc_history_laws.proofs.Placed as Placed
 use Rattle.sharc_lemmas.proofs.{Numbers.{same_is, eqb_other as other_is}, Bools.yes}
 

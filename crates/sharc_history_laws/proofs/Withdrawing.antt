@@ -2,10 +2,10 @@
 use Rattle.std.proofs.{Common.{◌≡◌, ℕ, zero, suc, ◌+◌, ◌<◌, ◌≤◌, Bool, true, false, ◌||◌, length, List, [], ◌∷◌, Option, Some, None, is_some, if◌then◌else◌, refl, sym, ap, ◌∙◌, subst, ⊎_elim, arith, eqb-true}, lemmas.Bool.{cases_eq, false_from_ne_true as unset}, lemmas.Bool.Decides.nat_tests}
 use Rattle.std.specs.{Prelude.{slice_index, slice_index_or, take, nat_lt, ◌==◌}, List.list_any}
 use Rattle.sharc_heap.specs.{declared.shadow_word.Kind.Kind, declared.shadow_word.Kind.TheVariants.{Read, Write}, declared.access_table.Note.Note, declared.access_table.GranuleNotes.GranuleNotes, Notes.{blank, has_note, of_kind}, Accesses.{Accesses, ListsNoted, note_of, site_at}}
-use Rattle.sharc_code.specs.{declared.code.Code.Code, declared.instr.Instr.Instr, declared.shape.Shape.Shape, declared.state.Stage.Stage, declared.state.Stage.TheVariants.{Clears, FreeClears, Withdraws, WithdrawsFrom, Leaves}, declared.state.TurnState.{TurnState as PlaceState}, declared.state.TurnState.TheVariants.{Runs, Tries, Stopped, Ended}, Layout.{granules, granule_at}, Machine.{Machine, instr_at, act, exit, withdraws, withdrew, at_stage, row_of, ref}, Path.{turn, after, may_go}, Runs.{Turn, Global, MayTurn, after_turn, state_now, result_of}, Whole.{one_thread, bounds}}
+use Rattle.sharc_code.specs.{declared.code.Code.Code, declared.instr.Instr.Instr, declared.shape.Shape.Shape, declared.state.Stage.Stage, declared.state.Stage.TheVariants.{Clears, FreeClears, Withdraws, WithdrawsFrom, Leaves}, declared.state.TurnState.{TurnState as PlaceState}, declared.state.TurnState.TheVariants.{Runs, Tries, Stopped, Ended}, Layout.{granules, granule_at}, Machine.{Machine, instr_at, act, exit, withdraws, withdrew, at_stage, row_of, ref}, Outcomes.{TurnsComeOut, is_exit}, Path.{turn, after, may_go}, Runs.{Turn, Global, MayTurn, after_turn, state_now, result_of}, Whole.{one_thread, bounds}}
 use Rattle.sharc_code.specs.declared.instr.Instr.TheVariants as instrs
 use Rattle.sharc_invariant.specs.{Bits.{Touch, Untouched, CheckOf, WithdrawOf, cleared_by, freed_by, withdrawn_by, touch_of}, Blocks.Heap, Labels.Labels, Reports.touch_at, State.{State, StageStands, OnExit}, Types.Targets, Words.{has_withdrawn, is_withdrawing, is_ended}, World.World}
-use Rattle.sharc_history_laws.proofs.{Going.{is_exit, going}, Rules.put_same, Shadows.{row_low, at_low}}
+use Rattle.sharc_history_laws.proofs.{Outcomes.{unended, withdraws_still}, Rules.put_same, Shadows.{row_low, at_low}}
 use Rattle.sharc_lemmas.proofs.{Numbers.same_is, Bools.yes, Lists.same_or}
 
 -- the thread has withdrawn from the granule
@@ -92,7 +92,7 @@ going_on Stopped e = refl
 going_on Ended e = absurd (yes (sym e))
 
 -- ---- one turn
-module _ (x : Targets) (code : Code) (s : Shape) (ls : Labels) (g : Global Machine) (world : World) (st : State x code s ls g world) (tr : Turn) (may : MayTurn bounds (one_thread code s) g tr) where
+module _ (outs : TurnsComeOut) (x : Targets) (code : Code) (s : Shape) (ls : Labels) (g : Global Machine) (world : World) (st : State x code s ls g world) (tr : Turn) (may : MayTurn bounds (one_thread code s) g tr) where
   abbrev t : ℕ
   t = tr.thread
 
@@ -268,12 +268,12 @@ module _ (x : Targets) (code : Code) (s : Shape) (ls : Labels) (g : Global Machi
   other : is_exit i ≡ false → Leaving (touch_at code s g tr) m'
   other e =
       let calm = calm_stage code s st.elements world st.heap g.words t m i m.own.stage e ((st.threads t).runs may.started may.next.runs).stage in
-      let k = going code s m i found e in
+      let out = outs code s i m found in
       let y = after (turn code s m) found in
-      let y_calm : is_withdrawing y.own.stage ≡ false = unset (is_withdrawing y.own.stage) (λ z. yes (sym (k.withdraws z) ∙ calm)) in
+      let y_calm : is_withdrawing y.own.stage ≡ false = unset (is_withdrawing y.own.stage) (λ z. yes (sym (withdraws_still s i found m _ out e z) ∙ calm)) in
       plain (touch_at code s g tr) m' (other_touch i e)
       (λ p. calm_left m.own.stage order (is_ended m.at.state) p calm ∙ going')
-      (λ p. ap (λ (z : Machine). has_left z p) (is_at y refl) ∙ calm_left y.own.stage y.own.table.order (is_ended y.at.state) p y_calm ∙ k.on)
+      (λ p. ap (λ (z : Machine). has_left z p) (is_at y refl) ∙ calm_left y.own.stage y.own.table.order (is_ended y.at.state) p y_calm ∙ unended s i found m _ out e)
 
   pub leaving : Leaving (touch_at code s g tr) m'
   leaving = by i refl

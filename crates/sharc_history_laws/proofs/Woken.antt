@@ -1,5 +1,5 @@
 -- The source events of each run of typed code that tell who waits may come after those before them.
-use Rattle.std.proofs.{Common.{◌≡◌, ℕ, pos, zero, suc, ◌+◌, ◌<◌, ◌^◌, ◌⊎◌, inl, inr, Bool, true, false, List, [], ◌∷◌, reverse, length, nat_lt, Option, Some, None, if◌then◌else◌, refl, sym, ap, ◌∙◌, subst, ⊎_elim, arith, eqb-true}, lemmas.Bool.{cases_eq, false_from_ne_true as not_true}, lemmas.Bool.Decides.nat_tests}
+use Rattle.std.proofs.{Common.{◌≡◌, ℕ, pos, zero, suc, ◌+◌, ◌<◌, ◌^◌, ◌⊎◌, inl, inr, Bool, true, false, List, [], ◌∷◌, reverse, Option, Some, None, if◌then◌else◌, refl, sym, ap, ◌∙◌, subst, ⊎_elim, arith, eqb-true}, lemmas.Bool.{cases_eq, false_from_ne_true as not_true}, lemmas.Bool.Decides.nat_tests}
 use Rattle.std.specs.Prelude.{slice_index, ◌==◌}
 use Rattle.sharc_word.specs.declared.step.WordOp.{WordOp}
 use Rattle.sharc_word.specs.declared.step.WordOp.TheVariants as ops
@@ -8,34 +8,14 @@ use Rattle.sharc_tree.specs.declared.event.Act.TheVariants as acts
 use Rattle.sharc_tree.specs.declared.event.Object.TheVariants as objects
 use Rattle.sharc_ctype.specs.Resolved.{Resolution}
 use Rattle.sharc_locks.specs.{Laws.WaitersLaws, Waiters.{waits_in, lowest_of, without_lowest}}
-use Rattle.sharc_code.specs.{declared.code.Code.Code, declared.instr.Cell.Cell, declared.instr.Instr.Instr, declared.shape.Shape.Shape, declared.state.Stage.Stage, declared.state.Stage.TheVariants.{Withdraws, WithdrawsFrom, Leaves, Wakes}, Laws.RunLaws, Layout.Fits, Machine.{Machine, instr_at, word, act, exit, withdraws, withdrew, signal, at_stage, step_of}, Opening.opening_words, Path.{turn, after, asked_by}, Runs.{Turn, Global, IsRun, MayTurn, after_turn, put, state_now, result_of, opening_of}, Says.{said, cell_at, speaks_of, nobody, in_signal, event_at}, Whole.{one_thread, bounds, place_after}}
+use Rattle.sharc_code.specs.{declared.code.Code.Code, declared.instr.Cell.Cell, declared.instr.Instr.Instr, declared.shape.Shape.Shape, declared.state.Stage.Stage, declared.state.Stage.TheVariants.Wakes, Laws.RunLaws, Layout.Fits, Machine.{Machine, instr_at, word, act, signal, step_of}, Opening.opening_words, Path.{turn, after, asked_by}, Runs.{Turn, Global, IsRun, MayTurn, after_turn, put, state_now, result_of, opening_of}, Says.{said, cell_at, speaks_of, nobody, in_signal, event_at}, Whole.{one_thread, bounds, place_after}}
 use Rattle.sharc_code.specs.declared.instr.Instr.TheVariants as instrs
 use Rattle.sharc_compile.specs.{Consistent.said_now, OfRuns.table_of}
 use Rattle.sharc_meaning.specs.{Events.Stands, Obeys.History, Store.{MayCome, is_waiter}}
 use Rattle.sharc_invariant.specs.{Types.Targets, Labels.Labels, Typed.IsWellTyped, State.IsSmall, Laws.{Keeps, Begins as CodeBegins, CellsAreThere, PointersAreThere, AccessesAreAllowed, StateStands}}
 use Rattle.sharc_history_laws.specs.{History.history_of, Stores.{BeginsWith, is_about_waiters}, Waiters.WaitsFollow}
-use Rattle.sharc_history_laws.proofs.{Consists.{Consists, consists_then, at_first, found_is}, Contents.{IsCellOf, content_of, word_of_cell}, Emptying.IsEmptied, Going.{is_exit, going, wakes_nobody}, Lists.{Newest, Split, Last, Earlier, split}, Opening.{waiters_first, only_globals}, Queued.{waits_by, waiter_is, condition_of, condition_said, is_condition, no_condition}, Rules.{pushed, newest, newest_now, put_same, put_other}, Shared.number_of, Sparing.{waited_cell, holds_waiters}, Waiting.{WaitersStand, WordsTell, Here, here, here_at_wait, bit_here, words_then, stands_then}}
+use Rattle.sharc_history_laws.proofs.{Consists.{Consists, consists_then, at_first, found_is}, Contents.{IsCellOf, content_of, word_of_cell}, Emptying.IsEmptied, Outcomes.{wakes_still, wakes_nobody}, Lists.{Newest, Split, Last, Earlier, split}, Opening.{waiters_first, only_globals}, Queued.{waits_by, waiter_is, condition_of, condition_said, is_condition, no_condition}, Rules.{pushed, newest, newest_now, put_same, put_other}, Shared.number_of, Sparing.{waited_cell, holds_waiters}, Waiting.{WaitersStand, WordsTell, Here, here, here_at_wait, bit_here, words_then, stands_then}}
 use Rattle.sharc_lemmas.proofs.Bools.{yes}
-
--- ---- a turn of Exit wakes nobody
-module _ (s : Shape) (m : Machine) (found : ℕ) where
-  withdraws_only : (row : ℕ) → wakes_nobody (withdraws m row).own.stage ≡ false
-  withdraws_only row = elim (nat_lt row (length m.own.table.order)) as (λ b. wakes_nobody (if b then at_stage m (Withdraws row) else at_stage m Leaves).own.stage ≡ false) [
-    | true ↦ refl
-    | false ↦ refl
-  ]
-
-  withdrew_only : (row seen : ℕ) → wakes_nobody (withdrew m row seen found).own.stage ≡ false
-  withdrew_only row seen = elim (found == seen) as (λ b. wakes_nobody (if b then withdraws m (row + 1) else at_stage m (WithdrawsFrom row found)).own.stage ≡ false) [
-    | true ↦ withdraws_only (row + 1)
-    | false ↦ refl
-  ]
-
-  exit_only : (stage : Stage) → wakes_nobody (after (exit s m stage) found).own.stage ≡ false
-  exit_only (Withdraws row) = refl
-  exit_only (WithdrawsFrom row seen) = withdrew_only row seen
-  exit_only Leaves = refl
-  exit_only _ = withdraws_only 0
 
 -- ---- one turn
 module _ (bits : WaitersLaws) (state_law : StateStands) (cell_laws : CellsAreThere) (pointers : PointersAreThere) (rights : AccessesAreAllowed) (laws : RunLaws) (keeps : Keeps) (x : Targets) (code : Code) (s : Shape) (ls : Labels) (wt : IsWellTyped x code ls) (fits : Fits code s) (few : IsSmall code s)
@@ -64,11 +44,7 @@ module _ (bits : WaitersLaws) (state_law : StateStands) (cell_laws : CellsAreThe
 
   -- ---- stages
   own_wakes : wakes_nobody (after (turn code s ((place_after code s earlier).threads one.thread)) found).own.stage ≡ false
-  own_wakes = by i refl
-    where
-      by : (j : Instr) → i ≡ j → wakes_nobody (after (act code s i ((place_after code s earlier).threads one.thread)) found).own.stage ≡ false
-      by instrs.Exit is = subst (λ j. wakes_nobody (after (act code s j m) found).own.stage ≡ false) (sym is) (exit_only s m found m.own.stage)
-      by _ is = not_true _ (λ w. yes (sym ((going code s m i found (ap is_exit is)).wakes w) ∙ wake t))
+  own_wakes = not_true _ (λ w. yes (sym (wakes_still s i found m _ (laws.turns.outcomes code s i m found) w) ∙ wake t))
 
   pub wakes_then : (u : ℕ) → wakes_nobody ((after_turn bounds (one_thread code s) (place_after code s earlier) one).threads u).own.stage ≡ false
   wakes_then u =

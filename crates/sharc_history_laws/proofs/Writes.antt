@@ -8,7 +8,7 @@ use Rattle.sharc_heap.specs.{State.{NewView, told}, Asks.word_number, Stages.tur
 use Rattle.sharc_heap.specs.declared.stage.NewStage.TheVariants as news
 use Rattle.sharc_code.specs.{declared.code.Code.Code, declared.instr.Cell.Cell, declared.instr.Register.Register, declared.instr.Instr.Instr, declared.shape.Shape.Shape, declared.state.Stage.Stage, declared.state.Stage.TheVariants.{Looks, Clears, Makes, Empties, Lowers, FreeLooks, FreeClears, Uncounts, Links, Names, Hands, Begins, Enters, Withdraws, WithdrawsFrom, Leaves as Leaving, Wakes}, Layout.{Fits, granules, granule_at, words_of, cell_word, cell_of, shadow_word, count_word, length_word, first_cell, first_shadow, state_word}, Machine.{Machine, Turn, Local, Asks, step_of, act, int, ref, word, raise, lower, test, new, asks_new, new_state, elements_of, clear, free, layout_at, spawn, join, start, exit, signal, goes, set_ref, accessed, move_ref, joined, trapped, instr_at, pointer_cell}, Path.turn, Runs.Global}
 use Rattle.sharc_code.specs.declared.instr.Instr.TheVariants as instrs
-use Rattle.sharc_invariant.specs.{Types.{Targets, Field}, Labels.{Label, Labels}, Typed.{IsWellTyped, Fine, HasCell}, World.{World, ObjectState}, Words.cell_at, Blocks.{Heap, Built, Live}, State.{State, Runs, StageStands, BuildsAt, all_pointers, OnHold, object_of_cell, number_in}, MachineInvariant.IsOn, Laws.{CellsAreThere, PointersAreThere}}
+use Rattle.sharc_invariant.specs.{Types.{Targets, Field}, Labels.{Label, Labels}, Typed.{IsWellTyped, Fine, HasCell}, World.{World, ObjectState}, Words.cell_at, Blocks.{Heap, Built}, State.{State, Runs, StageStands, BuildsAt, all_pointers, OnHold, object_of_cell, number_in}, MachineInvariant.IsOn, Laws.{CellsAreThere, PointersAreThere}}
 use Rattle.sharc_history_laws.proofs.{Single.{single, rests_hold}, Stands.{there, sole_ref, live_ref, target_ref}}
 
 pub data Wrote (s : Shape) (obj : ℕ → ObjectState) (cells : ℕ → ℕ) (heap : Heap) (t : ℕ) (step : WordStep) : Type 0 where
@@ -234,32 +234,7 @@ module _ (there_laws : CellsAreThere) (pointer_laws : PointersAreThere) (x : Tar
   fine_of i is = subst (Fine x code ls m.at.pc here) is (wt.fine m.at.pc)
 
   by_instr : (i : Instr) → instr_at code (g.threads t).at.pc ≡ i → Written (act code s i (g.threads t))
-  by_instr (instrs.Constant r v) is = tt
-  by_instr (instrs.Move r from) is = tt
-  by_instr (instrs.MoveReference r from) is = tt
-  by_instr (instrs.Null r) is = tt
-  by_instr (instrs.ComputeInt operator r a b site) is = tt
-  by_instr (instrs.ComputeLong operator r a b site) is = tt
-  by_instr (instrs.NegateInt r a site) is = tt
-  by_instr (instrs.NegateLong r a site) is = tt
-  by_instr (instrs.Complement r a) is = tt
-  by_instr (instrs.Not r a) is = tt
-  by_instr (instrs.SameReference r a b) is = tt
-  by_instr (instrs.ChkWidth width r site) is = tt
-  by_instr (instrs.Jump pc) is = tt
-  by_instr (instrs.JumpIfZero r pc) is = tt
-  by_instr (instrs.JumpIfNull r pc) is = tt
-  by_instr (instrs.Call pc ints refs site) is = tt
-  by_instr (instrs.Return site) is = tt
-  by_instr (instrs.ChkNull r site) is = tt
-  by_instr (instrs.ChkHeld c site) is = tt
-  by_instr (instrs.ChkNotHeld c site) is = tt
-  by_instr (instrs.ChkPositive r site) is = tt
-  by_instr (instrs.ChkRoom site) is = tt
-  by_instr (instrs.ChkLock c site) is = tt
-  by_instr (instrs.ChkLockLoaded site) is = tt
   by_instr (instrs.Bounds r base count field site) is = Leaves (λ v. refl)
-  by_instr (instrs.GlobalBounds r elements count field site) is = tt
   by_instr (instrs.ChkRead c site) is = of_shadow s world.obj st.cells st.heap t _ _
   by_instr (instrs.ChkWrite c site) is = of_shadow s world.obj st.cells st.heap t _ _
   by_instr (instrs.Load r c site) is = Leaves (λ v. refl)
@@ -292,6 +267,7 @@ module _ (there_laws : CellsAreThere) (pointer_laws : PointersAreThere) (x : Tar
       signal_hold (Links all) h = absurd h
       signal_hold _ h = tt
   by_instr (instrs.CondBroadcast c site) is = let i = instrs.CondBroadcast c site in let f = fine_of i is in to_cell c f.1.0 _ (rest i is refl) f.1.1
+  by_instr _ is = tt
 
   pub writes : Written (turn code s (g.threads t))
   writes = by_instr (instr_at code m.at.pc) refl
