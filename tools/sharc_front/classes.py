@@ -5,20 +5,33 @@ taken are some), as numbers of elements of one global (1 is element 0, 0 is NULL
 integers that a `void *` carries.
 """
 
-from .value import Refusal
+from .ctype import Refusal
 
 HEAP = ("heap", "boxes")
+
+
+def unify(one, other):
+    """The pointers in two compatible types may point to the same."""
+    if one.kind == other.kind == "ptr":
+        one.node.unite(other.node)
+    elif one.kind == other.kind and one.kind in ("func", "array"):
+        unify(one.to, other.to)
+        for pair in zip(one.params or (), other.params or ()):
+            unify(*pair)
 
 
 class Node:
     """A class, or a part of one that was united with another: `find` gives the whole."""
 
-    def __init__(self, place=None):
-        self.parent, self.place, self.mixed = self, place, False
+    def __init__(self, every, to=None):
+        self.every, self.parent, self.mixed = every, self, False
         self.globals, self.functions, self.types = {}, {}, {}  # {(symbol, path of members): place}, ..
         # {heap, integer, order, or indexed (another element than the one that is pointed to is used): place}
         self.seen = {}
-        self.parts = {}  # target: the class of what is pointed to; element: of pointers to other elements; members ..
+        self.parts = {}  # the classes of pointers to other elements ("element",), and to members ("member", ..)
+        every.append(self)
+        if to:
+            self.point_to(to)
 
     def find(self):
         node = self
@@ -27,9 +40,10 @@ class Node:
         return node
 
     def part(self, *key):
-        """target; element; member, struct, member; argument, number; result."""
         root = self.find()
-        return root.parts.setdefault(key, Node(root.place)).find()
+        if key not in root.parts:
+            root.parts[key] = Node(self.every)
+        return root.parts[key].find()
 
     def known(self, *key):
         """The same, or None where nothing has asked for it."""
@@ -45,19 +59,19 @@ class Node:
     def point_to(self, kind):
         """The C type of what is pointed to, as far as it is known; rows of arrays count by their elements."""
         kind = kind.base()
-        if kind.kind not in ("void", "func"):
-            self.find().types.setdefault(kind.key(), kind)
-        if kind.kind == "ptr":
-            self.part("target").point_to(kind.to)
+        if kind.kind != "void":
+            unify(self.find().types.setdefault(kind.key(), kind), kind)
 
     def unite(self, other):
         one, other = self.find(), other.find()
         if one is other:
             return
         other.parent = one
-        for name in ("globals", "functions", "types"):
-            getattr(one, name).update(getattr(other, name))
+        one.globals.update(other.globals)
+        one.functions.update(other.functions)
         one.seen = {**other.seen, **one.seen}
+        for kind in list(other.types.values()):
+            one.point_to(kind)
         for key, node in list(other.parts.items()):
             one.find().parts.setdefault(key, node).unite(node)
 
@@ -72,7 +86,7 @@ class Node:
         kinds = [kind for kind in words if words[kind]]
         if len(kinds) > 1:
             raise Refusal((place, "pointer " + " and ".join(words[kind] for kind in kinds)))
-        if kinds != ["heap"] and (kinds or not root.types):
+        if kinds != ["heap"] and (kinds or not set(kind[0] for kind in root.types) - {"func"}):
             return kinds[0] if kinds else "none"
         element = root.known("element")
         if element is root:
@@ -101,19 +115,8 @@ class Classes:
         self.nodes, self.structs = [], structs
         self.firsts = []  # (class of &a[0], class of a): a pointer to the array, unless others of its elements have one
 
-    def new(self, place=None):
-        self.nodes.append(Node(place))
-        return self.nodes[-1]
-
     def everything(self):
-        """The roots of all classes, also of those that were made as parts of others."""
-        seen, todo = set(), list(self.nodes)
-        while todo:
-            root = todo.pop().find()
-            if root not in seen:
-                seen.add(root)
-                todo += root.parts.values()
-        return seen
+        return list(dict.fromkeys(node.find() for node in self.nodes))
 
     def settle(self):
         """Goes on until elements and members of globals are known: element i of a global is in its class."""
@@ -140,20 +143,20 @@ class Classes:
     def settled_members(self, root):
         """The same for pointers to members: `made` is the class of those in objects of the heap."""
         root, changed = root.find(), False
+        in_heap = root.has("heap") and not root.globals
         for (_, struct, name), node in [item for item in root.parts.items() if item[0][0] == "member"]:
             node, made = node.find(), self.structs[struct].fields[name].made
             for (symbol, path), place in list(root.globals.items()):
-                if self.part_type(symbol, path).name == struct and (symbol, path + (name,)) not in node.globals:
+                if self.part(symbol.type, path).base().name == struct and (symbol, path + (name,)) not in node.globals:
                     node.globals[(symbol, path + (name,))] = place
                     changed = True
-            if root.has("heap") and not root.globals:
-                changed |= not node.has("heap") or made.find() is not node
+            if in_heap and (not node.has("heap") or made.find() is not node):
                 node.mark("heap", root.seen["heap"])
                 made.unite(node)
-        for kind in list(root.types.values()) if root.has("heap") and not root.globals else []:
-            for made in self.arrays_in(kind):
-                changed |= not made.has("heap")
-                made.mark("heap", root.seen["heap"])
+                changed = True
+        for made in [made for kind in root.types.values() for made in self.arrays_in(kind)] if in_heap else []:
+            changed |= not made.has("heap")
+            made.mark("heap", root.seen["heap"])
         return changed
 
     def arrays_in(self, kind):
@@ -163,11 +166,10 @@ class Classes:
                 yield field.made
             yield from self.arrays_in(field.type)
 
-    def part_type(self, symbol, path):
-        """The type of a part of a variable, or of the elements of that part."""
-        kind = symbol.type.base()
+    def part(self, kind, path):
+        """The type of a part: members and indices."""
         for step in path:
-            kind = self.structs[kind.name].fields[step].type.base()
+            kind = kind.to if isinstance(step, int) else self.structs[kind.base().name].fields[step].type
         return kind
 
     def merge(self, group):

@@ -7,9 +7,16 @@ UNSIGNED = {"bool", "uchar", "ushort", "uint", "ulong"}
 # the type of the cell that holds each: SharC has only signed types; an unsigned long is held by its 64 bits
 CELL = {"bool": "int", "char": "char", "uchar": "int", "short": "int", "ushort": "int", "int": "int", "uint": "long",
         "long": "long", "ulong": "long"}
-INT_RANGE, LONG_RANGE = (-(1 << 31), (1 << 31) - 1), (-(1 << 63), (1 << 63) - 1)
 SIZES = {"mutex": 40, "cond": 8, "sem_t": 32, "pthread_cond_t": 48, "pthread_barrier_t": 32, "pthread_rwlock_t": 56,
          "ptr": 8, "void": 1}  # in glibc
+
+
+class Refusal(Exception):
+    """Places, as (file, line), each with what is refused there; that is None where it was said already."""
+
+    def __init__(self, *all):
+        super().__init__(*all)
+        self.all = all
 
 
 @dataclass(frozen=True)
@@ -19,19 +26,20 @@ class Type:
     to: "Type" = None  # what a pointer points to, the element of an array, the result of a function
     length: int = None  # of an array; None where it is not known
     params: tuple = None  # of a function; None for `()`
-    mode: str = None  # the mark, as it is written in SharC
+    mode: tuple = None  # the mark as it is written in SharC, and the scopes there
     atomic: bool = False
     const: bool = False
+    node: object = None  # of a pointer: the class of all pointers that may point to the same
 
     def key(self):
-        """What is equal for compatible types: the type without its marks."""
+        """What is equal for compatible types: the type without marks and classes."""
         return (self.kind, self.name, self.length, self.to and self.to.key())
 
     def with_(self, **changes):
         return replace(self, **changes)
 
     def bare(self):
-        return replace(self, mode=None, to=self.to and self.to.bare())
+        return replace(self, mode=None, atomic=False, to=self.to and self.to.bare())
 
     def base(self):
         """The element of an array, of whatever dimensions."""
@@ -51,19 +59,15 @@ INT, UINT, LONG, ULONG, CHAR = (Type("int", name) for name in ("int", "uint", "l
 VOID, MUTEX, COND, BAD = (Type(kind) for kind in ("void", "mutex", "cond", "bad"))
 
 
-def pointer(to):
-    return Type("ptr", to=to)
-
-
 def array(to, length):
     return Type("array", to=to, length=length)
 
 
 def limits(name):
     """The least and greatest number that a cell of this C type holds."""
-    if name in ("ulong", "long"):
-        return LONG_RANGE
-    return (0, (1 << BITS[name]) - 1) if name in UNSIGNED else (-(1 << BITS[name] - 1), (1 << BITS[name] - 1) - 1)
+    if name in UNSIGNED and name != "ulong":
+        return (0, (1 << BITS[name]) - 1)
+    return (-(1 << BITS[name] - 1), (1 << BITS[name] - 1) - 1)
 
 
 def wrapped(value, name):

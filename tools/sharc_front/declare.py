@@ -2,9 +2,8 @@
 
 from pycparser import c_ast as A
 
-from .classes import Classes
-from .ctype import BAD, BITS, COND, INT, MUTEX, SIZES, UINT, VOID, Type, array, pointer
-from .value import Late, Refusal
+from .classes import Classes, Node, unify
+from .ctype import BAD, BITS, COND, INT, MUTEX, SIZES, UINT, VOID, Refusal, Type, array
 
 OPAQUE = {"pthread_mutex_t": MUTEX, "pthread_spinlock_t": MUTEX, "__sharc_cond": COND}
 
@@ -12,27 +11,24 @@ OPAQUE = {"pthread_mutex_t": MUTEX, "pthread_spinlock_t": MUTEX, "__sharc_cond":
 class Symbol:
     """A variable, parameter or function."""
 
-    def __init__(self, name, kind, type, place, classes):
+    def __init__(self, name, kind, type, place, address=None, out=None, own=False):
         self.name, self.kind, self.type, self.place = name, kind, type, place
-        self.out = name  # its name in the text that is written
-        self.content = classes.new(place)  # class of the pointers that it holds, or of those that a function gives
-        self.address = classes.new(place)  # class of the pointers to it, or to its elements if it is an array
-        self.boxed = False  # whether its address is taken: then it is an object of the heap
-        self.initial, self.uses, self.own = [], 0, False  # [(path, value or steps)]; own: it is none of the user's
+        self.address = address  # class of the pointers to it, or to its elements if it is an array
+        self.out, self.own = out or name, own  # its name in the text that is written; whether it is none of the user's
+        self.boxed, self.uses = False, 0  # boxed: its address is taken, so it is an object of the heap
+        # [(path, value)]; of a global the constants of its parts, and [(path, whether it is constant, lines of main)]
+        self.initial, self.constants, self.rest = [], {}, []
         self.loop, self.started = 0, []  # how many loops are around it, and around each pthread_create of its address
-        # of a function
-        self.params, self.definition, self.lines = [], None, []
-        self.gives, self.called, self.header = False, False, False
-        self.constants, self.rest = {}, []  # of a global: constants of its parts, and lines of main
+        self.params, self.definition, self.lines = [], None, []  # of a function, as the next three
+        self.gives, self.called, self.header = False, False, False  # gives: a pointer that is not NULL
 
 
 class Field:
     """A member of a struct; `alone` if its address is taken in an object of the heap: it is an array of one element."""
 
-    def __init__(self, type, place, classes, alone):
+    def __init__(self, type, place, alone, made):
         self.type, self.place, self.alone = type, place, alone
-        self.content = classes.new(place)
-        self.made = classes.new(place)  # for an array: the class of pointers to the elements, in objects of the heap
+        self.made = made  # for an array: the class of pointers to the elements, in objects of the heap
 
 
 class Struct:
@@ -45,13 +41,12 @@ def place_of(node, otherwise=("", 0)):
     return (coord.file, coord.line) if coord is not None and coord.file else otherwise
 
 
-class Declarations(Late):
+class Declarations:
     def __init__(self, source, alone):
-        super().__init__()
-        self.source, self.function, self.alone = source, None, alone
+        self.source, self.function, self.alone, self.here, self.scopes = source, None, alone, ("", 0), [{}]
         self.structs, self.globals, self.functions, self.refusals = {}, [], {}, []
         self.classes = Classes(self.structs)
-        self.struct_nodes, self.typedef_names = {}, {}  # tags are in self.scopes with a blank before them
+        self.tags, self.typedef_names = {}, {}  # by their nodes; in self.scopes they are with a blank before them
         self.names, self.unions = set(source.words), set()
 
     def refuse(self, node, what):
@@ -61,9 +56,10 @@ class Declarations(Late):
         if condition:
             self.refuse(node or self.here, what)
 
-    def report(self, place, what):
-        if what and (place, what) not in self.refusals:
-            self.refusals.append((place, what))
+    def report(self, refusal):
+        for place, what in refusal.all:
+            if what and (place, what) not in self.refusals:
+                self.refusals.append((place, what))
 
     def fresh(self, name):
         """A name that nothing has, of at most 60 bytes."""
@@ -74,10 +70,17 @@ class Declarations(Late):
         self.names.add(made)
         return made
 
-    def scoped(self, act):
+    def node(self, to=None):
+        return Node(self.classes.nodes, to)
+
+    def pointer(self, to, **more):
+        """A pointer of a class of its own."""
+        return Type("ptr", to=to, node=self.node(to), **more)
+
+    def scoped(self, act, *arguments):
         self.scopes.append({})
         try:
-            return act()
+            return act(*arguments)
         finally:
             self.scopes.pop()
 
@@ -93,7 +96,7 @@ class Declarations(Late):
             case A.TypeDecl():
                 return self.qualified(node, self.type(node.type))
             case A.PtrDecl():
-                return self.qualified(node, pointer(self.type(node.type)))
+                return self.qualified(node, self.pointer(self.type(node.type)))
             case A.Union():
                 known = node.decls is None and node.name in self.unions
                 self.unions.add(node.name)
@@ -102,17 +105,26 @@ class Declarations(Late):
                 read = getattr(self, "t_" + type(node).__name__, None)
                 return read(node) if read else self.refuse(node, f"type ({type(node).__name__})")
 
+    def qualified(self, node, kind):
+        words = node.quals or []
+        self.refuse_if("_Atomic" in words and kind.kind != "int", f"_Atomic {kind.shown()}", node)
+        mode = self.source.mode(words)
+        return kind.with_(mode=(mode, self.scopes[:]) if mode else kind.mode, atomic=kind.atomic or "_Atomic" in words,
+                          const=kind.const or "const" in words)
+
     def t_FuncDecl(self, node):
-        params, result = node.args.params if node.args else None, self.type(node.type)
+        params, result = node.args.params if node.args else None, self.adjusted(self.type(node.type))
         if params and isinstance(params[-1], A.EllipsisParam):
             return Type("func", name="...", to=result)
         kinds = [self.adjusted(self.type(param.type)) for param in params or [] if not isinstance(param, A.ID)]
-        return Type("func", to=result, params=() if kinds == [VOID] else None if params is None else tuple(kinds))
+        none = [kind.kind for kind in kinds] == ["void"]
+        return Type("func", to=result, params=() if none else None if params is None else tuple(kinds))
 
-    @staticmethod
-    def adjusted(kind):
-        """The type of a parameter (C11 6.7.6.3)."""
-        return pointer(kind.to) if kind.kind == "array" else pointer(kind) if kind.kind == "func" else kind
+    def adjusted(self, kind):
+        """The type of a parameter or result (C11 6.7.6.3); a struct goes as a pointer to a copy."""
+        if kind.kind == "struct":
+            return self.pointer(kind, name="value")
+        return self.pointer(kind.to if kind.kind == "array" else kind) if kind.kind in ("array", "func") else kind
 
     def t_ArrayDecl(self, node):
         kind, length = self.type(node.type), None
@@ -121,12 +133,6 @@ class Declarations(Late):
         if kind.kind in ("void", "func") or kind.kind == "array" and kind.length is None or (length or 1) < 1:
             self.refuse(node, "array of no elements" if length is not None else "array of this type")
         return array(kind, length)
-
-    def qualified(self, node, kind):
-        mode, words = self.source.qualified(node.quals)
-        self.refuse_if("_Atomic" in words and kind.kind != "int", f"_Atomic {kind.shown()}", node)
-        return kind.with_(mode=mode or kind.mode, atomic=kind.atomic or "_Atomic" in words,
-                          const=kind.const or "const" in words)
 
     def constant(self, node, what):
         value = self.peeked(node)
@@ -137,22 +143,22 @@ class Declarations(Late):
         if len(words) == 1 and words[0] in OPAQUE:
             return OPAQUE[words[0]]
         named = self.lookup(words[0], self.scopes) if len(words) == 1 else None
+        if isinstance(named, A.Typedef):  # each time with classes of its own
+            return self.type(named.type)
         if isinstance(named, Type):
             return named if named.kind != "bad" else self.refuse(node, None)
         self.refuse_if({"float", "double"} & set(words), "floating point", node)
-        if words == ["void"]:
-            return VOID
         unsigned = "u" * ("unsigned" in words)
         for word in ("char", "short", "long", "_Bool"):
             if word in words:
                 return Type("int", "bool" if word == "_Bool" else unsigned + word)
-        self.refuse_if(words not in ([], ["unsigned"]), "type " + " ".join(node.names), node)
-        return UINT if unsigned else INT
+        self.refuse_if(words not in ([], ["unsigned"], ["void"]), "type " + " ".join(node.names), node)
+        return VOID if words == ["void"] else UINT if unsigned else INT
 
     def t_Enum(self, node):
         """gcc gives an enumerated type without a negative number the type unsigned int."""
-        if node.values is None:
-            return self.lookup(f" {node.name}", self.scopes) or UINT
+        if node.values is None or id(node) in self.tags:
+            return self.tags.get(id(node)) or self.lookup(f" {node.name}", self.scopes) or UINT
         number, least = 0, 0
         for item in node.values.enumerators:
             if item.value is not None:
@@ -160,21 +166,18 @@ class Declarations(Late):
             self.refuse_if(not -(1 << 31) <= number < 1 << 31, "enumerator that is no int", item)
             self.scopes[-1][item.name] = number
             number, least = number + 1, min(number, least)
-        self.scopes[-1][f" {node.name}"] = kind = INT if least < 0 else UINT
-        return kind
+        self.scopes[-1][f" {node.name}"] = self.tags[id(node)] = INT if least < 0 else UINT
+        return self.tags[id(node)]
 
     def t_Struct(self, node):
         """Its name, as it is written; its members are read where they are given."""
-        name, tag = self.struct_nodes.get(id(node)), f" {node.name}"
-        scopes = self.scopes if node.decls is None else self.scopes[-1:]
+        tag, scopes = f" {node.name}", self.scopes if node.decls is None else self.scopes[-1:]
+        name = self.tags.get(id(node))
         if name is None:
             name = self.lookup(tag, scopes) if node.name else None
-            self.refuse_if(name and node.decls is not None and self.structs[name].complete,
-                           f"struct {node.name}, which is defined twice", node)
             wanted = node.name or self.typedef_names.get(id(node), "anonymous")
-            if name is None:
-                name = self.fresh(wanted) if wanted in self.structs or wanted == "anonymous" else wanted
-        self.struct_nodes[id(node)] = name
+            name = name or (self.fresh(wanted) if wanted in self.structs or wanted == "anonymous" else wanted)
+            self.tags[id(node)] = name
         if node.name and self.lookup(tag, scopes) is None:
             self.scopes[-1][tag] = name
         struct = self.structs.setdefault(name, Struct(name, place_of(node, self.here)))
@@ -185,29 +188,20 @@ class Declarations(Late):
         return Type("struct", name)
 
     def field(self, struct, decl):
+        name, kind = getattr(decl, "name", None), BAD
         try:
-            if not isinstance(decl, A.Decl) or decl.name is None or decl.bitsize is not None:
-                self.refuse(decl, "#pragma" if isinstance(decl, A.Pragma) else "member without a name"
-                            if decl.name is None else "bit field")
-            kind = self.type(decl.type)
-            self.refuse_if(kind.kind == "array" and kind.length is None, "array without a length in a struct", decl)
-            self.complete(kind, decl)
+            if not isinstance(decl, A.Decl) or name is None or decl.bitsize is not None:
+                self.refuse(decl, "#pragma" if isinstance(decl, A.Pragma) else "bit field" if name else
+                            "member without a name")
+            read = self.type(decl.type)
+            self.refuse_if(read.kind == "array" and read.length is None, "array without a length in a struct", decl)
+            self.complete(read, decl)
+            kind = read
         except Refusal as refusal:
-            self.report(*refusal.all[0])
-            kind = BAD
-        alone = (struct.name, decl.name) in self.alone and kind.kind in ("int", "ptr", "struct")
+            self.report(refusal)
+        alone = (struct.name, name) in self.alone and kind.kind in ("int", "ptr", "struct")
         kind = array(kind, 1) if alone else kind
-        struct.fields[decl.name or ""] = field = Field(kind, place_of(decl, self.here), self.classes, alone)
-        self.holds(kind, field.content, field.made)
-
-    @staticmethod
-    def holds(kind, content, address):
-        """What a variable or field of this type means for the classes of its content and of pointers to it."""
-        base = kind.base()
-        if base.kind == "ptr":
-            content.point_to(base.to)
-            address.part("target").unite(content)
-        address.point_to(base)
+        struct.fields[name or ""] = Field(kind, place_of(decl, self.here), alone, self.node(kind))
 
     def complete(self, kind, node):
         base = kind.base()
@@ -242,28 +236,21 @@ class Declarations(Late):
             elif field.type.kind != "bad":
                 yield path + (name,), field.type, kind.name, field
 
-    def has(self, kind, *kinds):
-        """Whether something of these kinds is in an object of this type."""
+    def has(self, kind, wanted):
+        """Whether something of this kind is in an object of this type."""
         base = kind.base()
         inner = (leaf for _, leaf, _, _ in self.leaves(base)) if base.kind == "struct" else ()
-        return base.kind in kinds or any(self.has(leaf, *kinds) for leaf in inner)
-
-    def part(self, kind, path):
-        """The type of a part: members and indices."""
-        for step in path:
-            self.refuse_if(isinstance(step, str) and step not in self.structs[kind.name].fields, f"member {step}")
-            kind = kind.to if isinstance(step, int) else self.structs[kind.name].fields[step].type
-        return kind
+        return base.kind == wanted or any(self.has(leaf, wanted) for leaf in inner)
 
     def declare(self, name, kind, type, node):
-        """A new variable in the innermost scope."""
+        """A new variable."""
         self.complete(type, node)
-        symbol = Symbol(name, kind, type, place_of(node, self.here), self.classes)
-        self.holds(type, symbol.content, symbol.address)
+        place = place_of(node, self.here) if not isinstance(node, tuple) else node
+        symbol = Symbol(name, kind, type, place, self.node(type))
         if kind == "global":
-            symbol.address.globals[(symbol, ())] = symbol.place
+            symbol.address.globals[(symbol, ())] = place
         else:
-            symbol.address.mark("heap", symbol.place)
+            symbol.address.mark("heap", place)
         symbol.boxed = kind != "global" and self.has(type, "mutex")
         return symbol
 
@@ -282,6 +269,7 @@ class Declarations(Late):
         self.scopes[-1][decl.name] = symbol
         if symbol.type.kind == "array" and symbol.type.length is None:
             symbol.type = type
+        unify(symbol.type, type)
         if symbol.kind == "global" and symbol not in self.globals and not ("extern" in storage and bare):
             self.globals.append(symbol)
             symbol.out = self.fresh(f"{self.function.name}_{decl.name}") if len(self.scopes) > 1 else symbol.out

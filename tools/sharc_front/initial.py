@@ -45,19 +45,16 @@ class Initialisers(Declarations):
             return
         steps, at = self.steps_of(kind), 0
         while items:
-            item = items[0]
+            item, inner_act = items[0], self.one
             if isinstance(item, A.NamedInitializer):
                 name = item.name[0]
-                step = name.name if kind.kind == "struct" and isinstance(name, A.ID) else \
-                    self.constant(name, "designator that is not constant")
-                at = steps.index(step) if step in steps else self.refuse(item, f"member {step}")
-                items[0] = item = A.NamedInitializer(item.name[1:], item.expr) if item.name[1:] else item.expr
+                at = steps.index(name.name if kind.kind == "struct" else
+                                 self.constant(name, "designator that is not constant"))
+                items[0] = A.NamedInitializer(item.name[1:], item.expr) if item.name[1:] else item.expr
+                inner_act = self.braced if item.name[1:] else self.one
             self.refuse_if(at >= len(steps), "initialiser with too many values", item)
-            inner = self.part(kind, steps[at : at + 1])
-            if isinstance(item, A.NamedInitializer):
-                self.braced(inner, [items.pop(0)], path + (steps[at],), found)
-            else:
-                self.one(inner, items, path + (steps[at],), found)
+            taken = [items.pop(0)] if inner_act == self.braced else items
+            inner_act(self.classes.part(kind, steps[at : at + 1]), taken, path + (steps[at],), found)
             at += 1
 
     def one(self, kind, items, path, found):
@@ -75,7 +72,7 @@ class Initialisers(Declarations):
         else:
             for step in self.steps_of(kind):
                 if items and not isinstance(items[0], A.NamedInitializer):
-                    self.one(self.part(kind, (step,)), items, path + (step,), found)
+                    self.one(self.classes.part(kind, (step,)), items, path + (step,), found)
 
     def string_bytes(self, node):
         self.refuse_if(not node.value.startswith('"'), "wide string", node)

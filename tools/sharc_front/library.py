@@ -4,37 +4,30 @@ import re
 
 from pycparser import c_ast as A
 
-from .arithmetic import binary, convert, helper, number
-from .ctype import INT, VOID, pointer
-from .initial import byte_constant
+from .ctype import INT, VOID
+from .express import Line
 from .statements import Statements
-from .value import PRIMARY, Value
+from .tree import PLACES, Expr, binary, convert, helper, number
 
 CONVERSION = re.compile(r"%([-+ 0#]*)(\d*|\*)(?:\.(\d*|\*))?(hh|h|ll|l|z|j|t|q)?([a-zA-Z%])")
-SYNCHRONISED = {"pthread_mutex_lock": "lock(&{})", "pthread_mutex_unlock": "unlock(&{})"}
-STREAMS = ("__sharc_stdout", "__sharc_stderr")
 
 
 class Library(Statements):
     def library(self, node, name, args):
         """A call of a function that is neither in the program nor in the headers."""
-        if name in SYNCHRONISED:
-            place = self.deref(self.value(args[0]))
-            self.refuse_if(place.type.kind != "mutex", "lock of what is no mutex")
-            self.emit(SYNCHRONISED[name].format(self.place_text(place)) + ";")
-            self.locksets.changed(place, name == "pthread_mutex_lock")
-            return number(0)
-        handler = getattr(self, "l_" + name.removeprefix("__builtin_").strip("_"), None)
+        handler = getattr(self, "l_" + name.removeprefix("__builtin_").strip("_").replace("Exit", "exit"), None)
         self.refuse_if(handler is None, f"call of {name.replace('__sharc_', '')}, which is not known", node)
         return handler(args) or number(0)
 
-    def note(self, what):
-        if (self.here, what) not in self.notes:
-            self.notes.append((self.here, what))
-
     def l_sharc_do(self, args):
-        """A call of the language: its name, and pointers."""
-        self.emit(f"{args[0].name}({', '.join(self.value(arg).text for arg in args[1:])});")
+        """A call of the language: its name, and pointers; for a lock the mutex itself."""
+        name, values = args[0].name, [self.value(arg) for arg in args[1:]]
+        if name in ("lock", "unlock"):
+            place = self.deref(values[0])
+            self.refuse_if(place.type.kind != "mutex", "lock of what is no mutex")
+            self.emit(name + "(&%s);", place)
+        else:
+            self.emit("%s;", Expr("call", (name, *values), VOID))
 
     def format(self, arg, rest):
         """The text of a format, and its conversions."""
@@ -45,23 +38,20 @@ class Library(Statements):
                        "format that has other values, or a width of *", arg)
         return text, found
 
-    def l_printf(self, args, shown=True):
-        rest, (_, found) = args[1:], self.format(args[0], args[1:])
+    def l_printf(self, args, shown="diuxXoc"):
+        rest, (_, found), values = args[1:], self.format(args[0], args[1:]), []
         for part, arg in zip(found, rest):
             self.refuse_if(part[4] not in "diuxXocsp", f"conversion %{part[4]}")
-            if part[4] in "sp" or not shown:
+            if part[4] in shown:
+                values.append(self.shown_number(part, self.value(arg)))
+            else:
                 self.effect(arg)
-        parts = [(part, arg) for part, arg in zip(found, rest) if part[4] not in "sp" and shown]
-        values = self.in_order(*(arg for _, arg in parts))
-        values = [self.shown_number(part, value) for (part, _), value in zip(parts, values)]
-        several = len(values) > 1 and any(value.calls for value in values)
-        for value in [self.spilled(value) for value in values] if several else values:
-            self.emit(f"print({value.text});")
-        return number(0).typed(VOID)
+        for value in [self.direct(values[0])] if len(values) == 1 else values:
+            self.emit("print(%s);", value)
+        return number(0).with_(type=VOID)
 
-    def l_fprintf(self, args):
-        self.refuse_if(not isinstance(args[0], A.ID) or args[0].name not in STREAMS, "fprintf to a file", args[0])
-        return self.l_printf(args[1:], args[0].name == "__sharc_stdout")
+    def l_sharc_fprintf_stderr(self, args):
+        return self.l_printf(args, "")
 
     def shown_number(self, part, value):
         """The number that a conversion shows of its argument."""
@@ -73,155 +63,125 @@ class Library(Statements):
 
     def l_snprintf(self, args):
         """Piece after piece, by functions of headers/stdio.h that give the place of the next one."""
-        text, _ = self.format(args[2], args[3:])
-        s, room, *values = map(self.stable, self.in_order(*args[:2], *args[3:]))
-        at, last = number(0), 0
-        for found in [*CONVERSION.finditer(text), None]:
-            plain = (text[last : found.start()] if found else text[last:]) + "%" * bool(found and found[5] == "%")
-            if plain:
-                data = tuple((ord(char) ^ 128) - 128 for char in plain) + (0,)
-                at = self.spilled(self.header_call("__sharc_put_text", s, room, at, self.string(data)))
-            if found and found[5] != "%":
-                at = self.spilled(self.conversion([part or "" for part in found.groups()], values.pop(0), s, room, at))
-            last = found.end() if found else last
-        return self.header_call("__sharc_end", s, room, at)
+        pieces, at = CONVERSION.split(self.format(args[2], args[3:])[0]), number(0)
+        s, room, *values = (self.stable(self.value(arg)) for arg in [*args[:2], *args[3:]])
+        for text, *part in (pieces[start : start + 6] for start in range(0, len(pieces), 6)):
+            part = [word or "" for word in part] or [""] * 5
+            text += "%" * (part[4] == "%")
+            calls = [("put_text", self.string(text.encode("latin-1")))] if text else []
+            calls += [self.conversion(part, values.pop(0))] if part[4] not in ("", "%") else []
+            for name, *more in calls:
+                at = self.stable(self.inlined(self.functions["__sharc_" + name], [s, room, at, *more]))
+        return self.inlined(self.functions["__sharc_end"], [s, room, at])
 
-    def l_sprintf(self, args):
-        return self.l_snprintf([args[0], byte_constant(65536), *args[1:]])
-
-    def header_call(self, name, *values):
-        return self.inlined(self.functions[name], list(values))
-
-    def conversion(self, part, value, *into):
-        """The call that writes a conversion."""
+    def conversion(self, part, value):
+        """The function that writes a conversion, and its arguments."""
         if part[4] == "s" and not part[0] + part[1] + part[2]:
-            return self.header_call("__sharc_put_text", *into, value)
+            return "put_text", value
         self.refuse_if(part[4] not in "diuc" or part[2] or set(part[0]) - {"0"},
                        f"conversion %{part[4]} with these flags in sprintf")
         value = self.shown_number(part, value)
-        if part[4] == "c":
-            return self.header_call("__sharc_put", *into, value)
-        return self.header_call("__sharc_put_number", *into, value, number(int(part[1] or 0)), number("0" in part[0]))
+        return ("put", value) if part[4] == "c" else \
+            ("put_number", value, number(int(part[1] or 0)), number("0" in part[0]))
 
     def l_memcpy(self, args):
-        to, source, size = self.in_order(*args)
-        to, source = self.stable(to), self.stable(source)
+        to, source = self.stable(self.value(args[0])), self.stable(self.value(args[1]))
         self.refuse_if(to.type.to.base().key() != source.type.to.base().key(), "memcpy between different types")
-        self.counting(self.elements(to, size), lambda at: self.copy(self.deref(to, at), self.deref(source, at)))
+        self.counting(self.elements(to, args[2]), lambda at: self.copy(self.deref(to, at), self.deref(source, at)))
         return to
 
     def l_memset(self, args):
-        to, byte, size = self.in_order(*args)
-        to, byte = self.stable(to), self.stable(byte)
+        to, byte = self.stable(self.value(args[0])), self.stable(self.value(args[1]))
         self.refuse_if(not byte.null() and self.size(to.type.to)[0] != 1, "memset with another value than 0")
-        set_one = self.zero if byte.null() else lambda place: self.put(place, byte)
-        self.counting(self.elements(to, size), lambda at: set_one(self.deref(to, at)))
+        act = self.copy if byte.null() else lambda place: self.put(place, byte)
+        self.counting(self.elements(to, args[2]), lambda at: act(self.deref(to, at)))
         return to
 
     def elements(self, to, size):
         """How many elements of what a pointer points to a size in bytes is."""
-        kind = to.type.to
-        bytes_of_one, made = self.size(kind)[0], size
-        if size.unit and size.unit[0].base().key() == kind.base().key():
-            made = self.product(number(size.unit[0].cells() // kind.cells()), size.unit[1])
-        elif size.number is not None and bytes_of_one and size.number % bytes_of_one == 0:
-            made = number(size.number // bytes_of_one)
-        elif bytes_of_one != 1:
-            self.refuse(self.here, "size that is not a number of elements")
-        one = to.place and to.type.to.key() == to.place.type.key()
+        made, place = self.stable(self.length(to.type.to, *self.factors(size))), to.place()
+        one = place and to.type.to.key() == place.type.key()
         self.refuse_if(one and made.number != 1, "size of more than the object")
-        return self.stable(made)
+        return made
 
-    @staticmethod
-    def product(length, factors):
+    def factors(self, node):
+        """The type of the sizeof in a size in bytes, if there is one, and the values that are multiplied with it."""
+        while isinstance(node, A.Cast):
+            node = node.expr
+        if isinstance(node, A.UnaryOp) and node.op == "sizeof":
+            return self.sized(node), []
+        if isinstance(node, A.BinaryOp) and node.op == "*":
+            (left, some), (right, more) = self.factors(node.left), self.factors(node.right)
+            return left or right, some + more + ([number(self.size(right)[0])] if left and right else [])
+        return None, [self.stable(self.value(node))]
+
+    def length(self, to, unit, factors):
+        """How many objects of a type such a size is."""
+        size, made = self.size(to)[0], number(1)
+        if unit is not None and unit.base().key() == to.base().key():
+            made, size = number(unit.cells() // to.cells()), 1
+        elif unit is not None:
+            factors = [*factors, number(self.size(unit)[0] or 0)]
         for factor in factors:
-            length = factor if length.number == 1 else binary("*", length, factor, "long")
-        return length
+            made = factor if made.number == 1 else binary("*", made, factor, "long")
+        if made.number is not None and size and made.number % size == 0:
+            return number(made.number // size, made.type.name)
+        self.refuse_if(size != 1, "size that is not a number of elements of one type")
+        return made
 
     def l_malloc(self, args):
         """malloc within an expression: by a variable, which is cast away."""
-        content = self.classes.new(self.here)
-        made = self.temporary(pointer(VOID), content)
-        self.allocate(made, [self.value(arg) for arg in args])
-        return self.taken(made, pointer(VOID), content)
+        made = self.temporary(self.pointer(VOID))
+        self.allocate(made, A.FuncCall(None, A.ExprList(args)))
+        return self.result(Expr("scast", (made,), made.type))
 
     l_calloc = l_malloc
 
-    def taken(self, place, kind, content):
-        """SCAST(type, place)."""
-        text = self.late(lambda: self.type_text(kind, content))
-        return Value(f"SCAST({text}, {self.place_text(place)})", kind, PRIMARY, content, calls=True)
-
-    def allocate(self, place, sizes):
+    def allocate(self, place, call):
         """place = malloc(..)."""
         self.refuse_if(place.type.kind != "ptr", "pointer as a number")
-        place.node.mark("heap", self.here)
-        unit = next((size.unit for size in sizes if size.unit), None)
-        factors = [size for size in sizes if not size.unit and size.number != 1] + (unit[1] if unit else [])
-        factors = [self.stable(factor) for factor in factors]
-        self.locksets.access(place, True)
-        target = self.place_text(place)
-        self.emit(self.late(lambda: self.allocated(target, place, unit, factors)))
+        node, here = place.type.node, self.here
+        node.mark("heap", here)
+        args = call.args.exprs
+        unit, factors = self.factors(args[0] if len(args) == 1 else A.BinaryOp("*", *args))
 
-    def allocated(self, target, place, unit, factors):
-        to = place.type.to if place.type.to.kind != "void" else place.node.pointee_type(self.here)
-        element, size = (unit[0] if unit else to), self.size(to)[0]
-        if unit is None and size != 1:
-            known = len(factors) == 1 and factors[0].number is not None and size and factors[0].number % size == 0
-            self.refuse_if(not known, "malloc of a size that is not a number of one type")
-            factors = [number(factors[0].number // size)] if factors[0].number != size else []
-        self.refuse_if(element.base().key() != to.base().key(), f"malloc of {element.shown()} for {to.shown()}")
-        return self.new_object(target, element.base(), self.product(number(element.cells()), factors), place.node)
+        def allocated():
+            to = place.type.to if place.type.to.kind != "void" else node.pointee_type(here)
+            length = binary("*", number(to.cells()), self.length(to, unit, factors), "long")
+            return self.new_object(self.text(place), to.base(), length, node)
+        self.later(allocated, place)
 
     def l_free(self, args):
         value = self.value(args[0])
-        if not value.null():
-            value = value if re.fullmatch("\0\\d+\0", value.text) and not value.place else self.spilled(value)
-            self.emit(self.late(lambda: self.freed(value)))
+        if value.null():
+            return
+        value = value.bare() if value.bare().op in PLACES and not value.bare().once else self.spilled(value)
 
-    def freed(self, value):
-        how = self.how(value.node)
-        self.refuse_if(how not in ("heap", "boxes", "none"), "free of a pointer to a global")
-        return f"free({value.text});" if how != "none" else ";"
+        def freed():
+            how = self.how(self.class_of(value))
+            self.refuse_if(how not in ("heap", "boxes", "none"), "free of a pointer to a global")
+            return f"free({self.text(value)});" if how != "none" else ";"
+        self.later(freed, value)
 
-    def stopped(self, what):
+    def l_sharc_stop(self, args):
         """Stops the thread, by a division by 0 in a file whose name says what it stands for."""
         zero, (file, line) = self.own_name("zero"), self.here
-        self.emit("{")
-        self.emit(f"int {zero} = 0; {zero} = 1 / {zero};", place=(f"{file}: {what}", line))
-        self.emit("}")
-        self.locksets.stop()
+        self.lines.append(Line((f"{file}: {args[0].value[1:-1]}", line),
+                               f"{{ int {zero} = 0; {zero} = 1 / {zero}; }}"))
+        return number(0).with_(type=VOID)
 
     def l_exit(self, args):
         code = self.value(args[0])
         if code.number:
-            self.stopped(f"exit({code.number})")
-        elif self.function.name == "main":
-            self.emit(f"return {self.fitting(code, INT).text};")
-        else:
-            self.refuse(self.here, "exit outside main that may be no failure")
-
-    l_Exit = l_exit
-
-    def l_abort(self, _):
-        self.stopped("abort()")
-
-    def l_sharc_assert(self, args):
-        test = self.condition(args[0])
-        self.branch(test, [], self.locksets.either(lambda: self.captured(self.stopped, "assert")[0])[0])
+            return self.l_sharc_stop([A.Constant("string", f'"exit({code.number})"')])
+        self.refuse_if(self.function.name != "main", "exit outside main that may be no failure")
+        self.emit("return %s;", self.fitting(code, INT))
+        return number(0).with_(type=VOID)
 
     def l_sharc_scast(self, args):
-        kind, place = self.type(args[0].to_type), self.place(args[1])
-        self.refuse_if(place.type.kind != "ptr" or kind.kind != "ptr", "SCAST of no pointer")
-        self.locksets.access(place, True)
-        place.node.point_to(kind.to)
-        return self.taken(place, kind, place.node)
+        kind, place = self.type(args[0].to_type), self.visit(args[1])
+        place.type.node.unite(kind.node)
+        return self.result(Expr("scast", (place,), kind))
 
     def l_sharc_give(self, args):
-        value = self.value(args[0])
-        return self.given(value)
-
-    def l_sharc_null(self, args):
-        """Calls that do nothing: the object is evaluated, and the attributes have to be NULL."""
-        self.value(args[0])
-        self.refuse_if(not self.value(args[1]).null(), "attributes that are not NULL")
+        return self.given(self.value(args[0]))

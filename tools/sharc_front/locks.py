@@ -1,75 +1,100 @@
 """Which locks are held at the accesses of globals and members, to propose marks.
 
-Locks are compared by their text in C. A function begins with the locks that all its callers hold, with the names of its
-parameters for those of the arguments; what it locks and unlocks from then on is followed while it is lowered.
+Locks are compared by their text in C. A function begins with the locks that all its callers hold; what it locks and
+unlocks from then on is followed through its lines.
 """
 
 from collections import Counter, namedtuple
 
 from pycparser import c_generator
 
+from .tree import PLACES, Expr
+
 GENERATOR = c_generator.CGenerator()
-NONE = (frozenset(), frozenset())
-# a call or access: what it is about, where, whether it writes, the locks that were locked and unlocked before it
-Event = namedtuple("Event", "about function place written locks")
+# a call of a function, or an access of what is called `about`, whose struct is at `prefix`: where, whether it writes,
+# and the locks that were locked and unlocked before it
+Event = namedtuple("Event", "about prefix function place written locks")
 
 
 def spelled(place):
     """A place as in C."""
     if place.source is not None:
         return " ".join(GENERATOR.visit(place.source).split())
-    base = place.parts[0]
+    base = place.args[0]
     if place.op == "variable":
         return base.name
     inner = "?" if place.op == "at" else spelled(base)
-    return f"{inner}.{place.parts[1]}" if place.op == "member" else inner
+    return f"{inner}.{place.args[1]}" if place.op == "member" else inner
 
 
 class Locksets:
     def __init__(self, front):
-        self.front, self.function, self.state, self.calls, self.accesses = front, None, NONE, [], {}
+        self.front, self.calls, self.accesses, self.entry = front, [], {}, {}
         self.pointers = {}  # {text of a lock: (class of the pointer to its struct, its name)}
+        for self.function in front.functions.values():
+            self.state = (frozenset(), frozenset())
+            self.follow(iter(self.function.lines))
 
-    def begin(self, function):
-        self.function, self.state = function, NONE
-
-    def stop(self):
-        """What follows is not reached."""
-        self.state = None
+    def follow(self, lines):
+        """The lines up to the end of a block, which is given; self.state is None where nothing is reached."""
+        for line in lines:
+            for at, part in enumerate(line.parts):
+                if isinstance(part, Expr):
+                    self.event(part, line, at == 0 and line.text.startswith("%s = "))
+            if line.text[0] == "}":
+                return line
+            if line.text[-1] == "{":
+                before, end = self.state, self.follow(lines)
+                ends = [self.state] + [before] * (line.text != "{" and end.text == "}")
+                if end.text != "}":
+                    self.state = before
+                    self.follow(lines)
+                    ends.append(self.state)
+                ends = [end for end in ends if end]
+                self.state = (frozenset.intersection(*(added for added, _ in ends)),
+                              frozenset.union(*(removed for _, removed in ends))) if ends else None
+            elif line.text.startswith(("lock(&%s", "unlock(&%s")) and self.state:
+                self.changed(line.parts[0], line.text[0] == "l")
+            elif line.text.startswith(("return", "break", "continue")) or " = 1 / " in line.text:
+                self.state = None
+        return None
 
     def changed(self, place, locked):
-        if self.state:
-            (added, removed), text, base = self.state, spelled(place), place.parts[0]
-            if place.op == "member" and base.op == "at":
-                self.pointers[text] = (base.parts[0].node, place.parts[1])
-            key = {text}
-            self.state = (added | key, removed - key) if locked else (added - key, removed | key)
-
-    def either(self, *acts):
-        """What the acts give, of which one is executed, or none if there is only one."""
-        before, made, ends = self.state, [], []
-        for act in acts:
-            self.state = before
-            made.append(act())
-            ends.append(self.state)
-        ends = [end for end in ends + [before] * (len(acts) == 1) if end]
-        self.state = (frozenset.intersection(*(added for added, _ in ends)),
-                      frozenset.union(*(removed for _, removed in ends))) if ends else None
-        return made
-
-    def call(self, symbol):
-        self.calls.append(Event(symbol, self.function, self.front.here, False, self.state or NONE))
-
-    def access(self, place, written=False):
-        if self.function is None or self.front.pinned:
+        (added, removed), text, base = self.state, spelled(place), place.args[0]
+        if text.startswith("__sharc"):
             return
-        while place.op == "element":
-            place = place.parts[0]
-        if place.op == "member" or place.op == "variable" and place.parts[0].kind == "global" and \
-                not place.parts[0].own:
-            key = (self.function, id(place.source or place))
-            written |= key in self.accesses and self.accesses[key].written
-            self.accesses[key] = Event(place, self.function, self.front.here, written, self.state or NONE)
+        if place.op == "member" and base.op == "at":
+            self.pointers[text] = (base.args[0].type.node, place.args[1])
+        key = {text}
+        self.state = (added | key, removed - key) if locked else (added - key, removed | key)
+
+    def event(self, tree, line, written):
+        """The calls and accesses in a tree."""
+        state = self.state or (frozenset(), frozenset())
+        if tree.op == "call" and hasattr(tree.args[0], "params"):
+            self.calls.append(Event(tree.args[0], None, self.function, line.place, False, state))
+        place = base = tree
+        while base.op in ("member", "element"):
+            for arg in base.args[1:] if base.op == "element" else ():
+                self.event(arg, line, False)
+            base = base.args[0]
+            place = base if place.op == "element" else place
+        for arg in base.args:
+            if isinstance(arg, Expr):
+                self.event(arg, line, tree.op == "text")
+        if tree.op not in PLACES or line.header and not tree.source or place.type.base().kind not in ("int", "ptr"):
+            return
+        key, name, prefix = (self.function, id(place.source or place)), spelled(place), None
+        if place.op == "member":
+            struct, member = place.args[0].type.name, place.args[1]
+            prefix, name = name[: -len(member)], f"struct {struct}.{member}"
+            field = self.front.structs[struct].fields[member]
+            if field.type.mode or self.front.in_headers(field.place):
+                return
+        elif place.op != "variable" or place.args[0].kind != "global" or place.args[0].own:
+            return
+        written |= key in self.accesses and self.accesses[key].written
+        self.accesses[key] = Event(name, prefix, self.function, line.place, written, state)
 
     def held(self, event):
         added, removed = event.locks
@@ -77,14 +102,11 @@ class Locksets:
 
     def entries(self):
         """The locks that are held where functions begin: until they no longer change."""
-        begun = self.front.thread_functions()
-        self.entry = {}
         for _ in range(8):
-            found = {symbol: frozenset() for symbol in begun}
+            found = {symbol: frozenset() for symbol in self.front.thread_functions()}
             for event in self.calls:
-                symbol = event.about
                 known = frozenset(map(self.everywhere, self.held(event))) - {None}
-                found[symbol] = found[symbol] & known if symbol in found else known
+                found[event.about] = found.get(event.about, known) & known
             self.entry = found
 
     def everywhere(self, text):
@@ -101,17 +123,8 @@ class Locksets:
         for _ in self.front.functions:
             threads |= {event.about for event in self.calls if event.function in threads}
         for event in self.accesses.values():
-            place, prefix, name = event.about, None, spelled(event.about)
-            if place.type.base().kind not in ("int", "ptr"):
-                continue
-            if place.op == "member":
-                struct, member = place.member()
-                prefix, name = name[: -len(member)], f"struct {struct}.{member}"
-                field = self.front.structs[struct].fields[member]
-                if field.type.mode or self.front.in_headers(field.place):
-                    continue
-            locks = {self.named(text, prefix) for text in self.held(event)}
-            found.setdefault(name, []).append((event, event.function in threads, locks))
+            locks = {self.named(text, event.prefix) for text in self.held(event)} - {None}
+            found.setdefault(event.about, []).append((event, event.function in threads, locks))
         for name, events in sorted(found.items()):
             yield from self.proposal(name, events)
 
@@ -129,7 +142,7 @@ class Locksets:
             if written:
                 yield f"{name}: written by main alone (line {', '.join(map(str, written))}), read by threads"
             return
-        counts = Counter(lock for _, locks in threads for lock in locks - {None})
+        counts = Counter(lock for _, locks in threads for lock in locks)
         best = max(counts, key=lambda lock: (counts[lock], lock), default=None)
         if best is None or counts[best] < 0.6 * len(threads) and not 1 <= counts[best] == len(threads) - 1:
             return

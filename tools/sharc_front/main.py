@@ -11,21 +11,18 @@ import subprocess
 import sys
 
 from .source import HERE, Source  # first: it says where pycparser is missing
+from .locks import Locksets
 from .names import Names
-from .output import Front, text_of
-from .value import Refusal
+from .output import Front
+from .ctype import Refusal
 
 COMMANDS = ("check", "explain", "run", "record", "--locks")
 USAGE = "usage: sharc-c [check | explain | run | record | --locks] [-I DIR] [-D NAME] FILE.c [OPTIONS OF run] " \
     "[-- ARGUMENTS]\n"
 
 
-class Usage(Exception):
-    pass
-
-
 class Words:
-    """The words of the command line."""
+    """The words of the command line, with a file that is None where they are not as the usage says."""
 
     def __init__(self, words):
         at = words.index("--") if "--" in words else len(words)
@@ -38,10 +35,9 @@ class Words:
             elif word in COMMANDS and self.command is None:
                 self.command = word
             else:
-                self.file = word
+                self.file = word if word[0] != "-" and (not words or self.command in ("run", "record")) else None
+                break
         self.rest = words
-        if self.file is None or self.file.startswith("-") or self.rest and self.command not in ("run", "record"):
-            raise Usage
 
 
 def lowered(words):
@@ -51,27 +47,24 @@ def lowered(words):
         names = Names()
         front = Front(source, words.file, words.arguments, frozenset(alone), names)
         if words.command == "--locks" and not front.refusals:
-            return "\n".join([*front.locksets.proposals(), ""]), names, []
-        text = text_of(front.everything()) if not front.refusals else ""
+            return "\n".join([*Locksets(front).proposals(), ""]), names, []
+        text = front.program() if not front.refusals else ""
+        if len(text) > 1048576:
+            front.refusals.append(((words.file, 1), "program whose lowered text is over 1048576 bytes"))
         if front.refusals:
             raise Refusal(*front.refusals)
         if front.wanted_alone <= alone:
-            break
+            return text, names, front.notes
         alone |= front.wanted_alone
-    if len(text) > 1048576:
-        raise Refusal(((words.file, 1), "program whose lowered text is over 1048576 bytes"))
-    return text, names, front.notes
 
 
 def guarded(words):
-    """The same; whatever else goes wrong is a refusal too."""
+    """The same; whatever else goes wrong is a refusal too: no program of C may end in a traceback."""
     sys.setrecursionlimit(20000)
     try:
         return lowered(words)
-    except Refusal:
-        raise
-    except Exception as error:  # no program of C may end in a traceback
-        if os.environ.get("SHARC_FRONT_DEBUG"):
+    except Exception as error:
+        if isinstance(error, Refusal) or os.environ.get("SHARC_FRONT_DEBUG"):
             raise
         what = f"program that the front does not understand ({type(error).__name__}: {error})"
         raise Refusal(((words.file, 1), what)) from None
@@ -97,12 +90,12 @@ def answered(words, text, names, notes):
 
 
 def main(arguments):
-    try:
-        words = Words(arguments)
-        made = guarded(words)
-    except Usage:
+    words = Words(arguments)
+    if words.file is None:
         sys.stderr.write(USAGE)
         return 8
+    try:
+        made = guarded(words)
     except Refusal as refused:
         for (file, line), what in sorted({refusal for refusal in refused.all if refusal[1]}):
             sys.stderr.write(f"{file or '?'}:{line}: refused: {what}\n")

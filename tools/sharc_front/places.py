@@ -1,12 +1,11 @@
-"""Names, places, pointers and types as text, when it is known how the pointers of each class are represented."""
+"""Names, places, values and types as text, when it is known how the pointers of each class are represented."""
 
 import re
 
-from .arithmetic import number, plus, times
 from .classes import HEAP
 from .ctype import CELL
-from .initial import Initialisers
-from .value import Place
+from .threads import Threads
+from .tree import LEVELS, Expr, number, plus, times, variable
 
 RESERVED = set("private readonly locked racy dynamic SCAST mutex spawn join lock unlock print cond wait signal main "
                "broadcast malloc free sizeof NULL int char long void struct if else while for break continue return "
@@ -26,46 +25,57 @@ class Spot:
         self.path, self.inner, self.top = (), (), None
 
 
-class Places(Initialisers):
+class Places(Threads):
     def how(self, node):
         return node.representation(self.here)
 
+    def name(self, key, base, renamed, told):
+        """The name in the text for a thing, which is none of SharC's words; `told`: how it is called in C."""
+        if key not in self.out_names:
+            reserved = base in RESERVED
+            self.out_names[key] = made = self.fresh(base + "_" * reserved) if renamed or reserved else base
+            if told and made != told:
+                self.user.words[made] = told
+        return self.out_names[key]
+
     def piece_name(self, symbol, path):
         """The variable for a part of a variable."""
-        if (symbol, path) not in self.pieces:
-            base = "_".join((symbol.out,) + path)
-            if path or base in RESERVED:
-                base = self.fresh(base + "_" * (base in RESERVED))
-            self.pieces[(symbol, path)] = base
-            if base != symbol.name and not symbol.own:
-                self.user.words[base] = ".".join((symbol.name,) + path)
-        return self.pieces[(symbol, path)]
+        told = None if symbol.own else ".".join((symbol.name,) + path)
+        return self.name((symbol, path), "_".join((symbol.out,) + path), bool(path), told)
 
     def leaf(self, struct, path):
         """The field for a part of a struct in an object: structs in structs are laid open."""
-        table, made = self.leaf_names.setdefault(struct, {}), "_".join(path)
-        if path not in table:
-            made += "_" * (made in RESERVED)
-            while made in table.values():
-                made += "_"
-            table[path] = made
-            self.user.words.setdefault(made, ".".join(path))
-        return table[path]
+        return self.name((struct, path), "_".join(path), len(path) > 1, ".".join(path))
 
     def struct_name(self, struct):
-        if struct not in self.struct_names:
-            self.struct_names[struct] = self.fresh(struct + "_") if struct in RESERVED else struct
-        return self.struct_names[struct]
+        return self.name(struct, struct, False, None)
+
+    def function_name(self, symbol):
+        self.refuse_if(symbol.definition is None, f"function {symbol.name}, which is not defined here", symbol.place)
+        return self.piece_name(symbol, ())
+
+    def called_name(self, callee, value=None):
+        """What is called: a function of the language, or of the program, or the one that calls one of several."""
+        if isinstance(callee, str):
+            return callee
+        if hasattr(callee, "params"):
+            return self.function_name(callee)
+        self.refuse_if(self.how(callee) != "function", "call through a pointer that is always NULL")
+        key = callee.find()
+        if key not in self.calls_by:
+            self.calls_by[key] = (self.fresh("call"), value.type.to, key, self.here)
+        return self.calls_by[key][0]
 
     def spot(self, place):
+        base, *rest = place.args
         if place.op == "variable":
-            return self.variable_spot(place.parts[0])
+            return self.variable_spot(base)
         if place.op == "at":
-            return self.pointed(*place.parts, place.type)
-        spot, step = self.spot(place.parts[0]), place.parts[1]
+            return self.pointed(base, rest[0], place.type)
+        spot = self.spot(base)
         if place.op == "member":
-            return self.entered(spot, *place.member())
-        spot.index = plus(spot.index, times(step, place.type.cells()))
+            return self.entered(spot, base.type.name, rest[0])
+        spot.index = plus(spot.index, times(rest[0], place.type.cells()))
         return spot
 
     def variable_spot(self, symbol):
@@ -105,22 +115,23 @@ class Places(Initialisers):
 
     def pointed(self, pointer, index, kind):
         """Where the element `index` of what a pointer points to is."""
-        how = self.how(pointer.node)
+        node = self.class_of(pointer)
+        how = self.how(node)
         if how in HEAP:
-            pointer.node.pointee_type(self.here)
-            return Spot(None, times(index, kind.cells()), pointer.text, how == "boxes")
+            node.pointee_type(self.here)
+            return Spot(None, times(index, kind.cells()), self.text(pointer), how == "boxes")
         self.refuse_if(how != "global",
                        "use of a pointer that is always NULL" if how == "none" else "dereference of a number")
-        symbol, path = next(iter(pointer.node.find().globals))
+        symbol, path = next(iter(node.find().globals))
         self.reads_strings |= symbol is self.strings
-        spot, inner, moves = self.variable_spot(symbol), symbol.type, pointer.node.has("order")
+        spot, inner, moves = self.variable_spot(symbol), symbol.type, node.has("order")
         array_at = 0 if inner.kind == "array" else None
         for at, step in enumerate(path):
             spot, inner = self.entered(spot, inner.base().name, step), self.structs[inner.base().name].fields[step].type
             array_at = at + 1 if inner.kind == "array" else array_at
         self.refuse_if(inner.base().key() != kind.base().key(),
                        f"pointer to {inner.base().shown()} used for {kind.shown()}")
-        self.refuse_if(array_at is None and (not index.null() or moves and not pointer.place),
+        self.refuse_if(array_at is None and (not index.null() or moves and not pointer.place()),
                        "arithmetic on a pointer to a single object")
         self.refuse_if(array_at is not None and moves and array_at < len(path), "arithmetic on a pointer to a member")
         if array_at is not None:
@@ -129,13 +140,14 @@ class Places(Initialisers):
 
     def as_number(self, pointer):
         """A pointer to an element of a global as the number that it is, from 1."""
-        if pointer.moved:
-            base, op, index = pointer.moved
+        inner = pointer.bare()
+        if inner.op == "moved":
+            base, op, index = inner.args
             return plus(self.as_number(base), times(index, base.type.to.cells()), op)
-        if pointer.place and pointer.type.kind == "ptr":
-            spot = self.spot(pointer.place)
+        if inner.place():
+            spot = self.spot(inner.place())
             return number(1) if spot.index is None else plus(spot.index, number(1))
-        return pointer
+        return inner
 
     def spot_text(self, spot):
         """The lvalue at a spot."""
@@ -143,94 +155,114 @@ class Places(Initialisers):
         if spot.index is None:
             return name
         if spot.boxes:
-            name = f"{name}[{spot.index.text}]"
-        index = "0" if spot.boxes else spot.index.text
+            name = f"{name}[{self.text(spot.index)}]"
+        index = "0" if spot.boxes else self.text(spot.index)
         if spot.inner:
             alone = spot.boxes or spot.pointer and spot.index.null()
             return name + ("->" if alone else f"[{index}].") + self.leaf(spot.top, spot.inner)
         return f"{name}[{index}]"
 
-    def place_text(self, place):
-        """The lvalue for a cell, whose name in C is kept."""
-        def text():
-            made = self.finished(self.spot_text(self.spot(place)))
-            if place.source is not None:
-                self.user.lvalue(self.here, made, place.source)
-            return made
-        return self.late(text)
+    def text(self, value, level=0):
+        """A value, in parentheses where it binds less than `level`."""
+        op, args, tight = value.op, value.args, 12
+        match op:
+            case "cast":
+                return self.text(args[0], level)
+            case "variable" | "member" | "element" | "at":
+                made = self.spot_text(self.spot(value))
+                if value.source is not None:
+                    self.user.lvalue(self.here, made, value.source)
+            case "number":
+                made = f"{value.number}{'L' * value.wide}"
+                made, tight = made if value.number != -(1 << 63) else f"(-{(1 << 63) - 1}L - 1)", 12 - (made[0] == "-")
+            case "!" | "~":
+                tight, made = 11, op + self.text(args[0], 11)
+            case "helper":
+                self.helpers.add(args[0])
+                made = f"__sharc_{args[0]}({', '.join(map(self.text, args[1:]))})"
+            case "null":
+                made = self.null_text(value.type.node)
+            case "string":  # the number of its first character in an array of all literals
+                made = str(self.text_pool.setdefault(args[0], sum(map(len, self.text_pool))) + 1)
+            case "function":
+                made = str(self.numbers[args[0]])
+            case "call":
+                made = f"{self.called_name(*args[:2])}({', '.join(map(self.text, args[1:]))})"
+            case "scast":
+                made = f"SCAST({self.type_text(value.type)}, {self.text(args[0])})"
+            case "address" | "decay" | "moved":
+                made = self.pointer_text(value)
+            case "text":
+                made = args[0]()
+            case "ordered":
+                made = self.text(args[0])
+                self.refuse_if(self.how(self.class_of(args[0])) != "global",
+                               "order of pointers to objects of the heap or locals")
+            case _:
+                tight = LEVELS[op]
+                made = f"{self.text(args[0], tight)} {op} {self.text(args[1], tight + 1)}"
+        return made if tight >= level else f"({made})"
 
     def null_text(self, node):
         return "NULL" if self.how(node) in HEAP else "0"
 
     def pointer_text(self, value):
-        """The address of an object, an array as a pointer, or a pointer to another element: from here on the address
-        counts as taken."""
-        node, symbol = value.node, value.place and value.type.to.key() == value.place.type.key() and value.place.local()
-        node.point_to(value.type.to)
-        if symbol:
-            symbol.boxed = True
+        """The address of an object, an array as a pointer, or a pointer to another element."""
+        node, inner = self.class_of(value), value.args
+        if self.how(node) == "global":
+            return self.text(self.as_number(value), 12)
+        if value.op == "moved":
+            base, op, index = inner
+            if index.null() and node.find() is base.type.node.find():
+                return self.text(base)
+            self.refuse_if(self.how(base.type.node) != "boxes", MOVED)
+            spot = self.spot(base.place()) if base.place() else Spot(None, number(0), self.text(base))
+            return f"{spot.pointer}[{self.text(plus(spot.index, index, op))}]"
+        spot, is_array = self.spot(inner[0]), inner[0].type.kind == "array"
+        if spot.inner and not is_array and inner[0].op == "member":
+            self.wanted_alone.add((inner[0].args[0].type.name, inner[0].args[1]))
+            return "?"
+        self.refuse_if(spot.pointer is None or spot.inner or not spot.boxes and not spot.index.null(),
+                       "address of this form (a member or element of an object of the heap)")
+        return f"{spot.pointer}[{self.text(spot.index)}]" if spot.boxes and not is_array else spot.pointer
 
-        def text():
-            how = self.how(node)
-            if how == "global":
-                made = self.as_number(value)
-                return made.tight(12)
-            if value.moved:
-                return self.moved_text(node, *value.moved)
-            spot = self.spot(value.place)
-            is_array = value.place.type.kind == "array"
-            if spot.inner and not is_array and value.place.op == "member":
-                self.wanted_alone.add(value.place.member())
-                return "?"
-            self.refuse_if(spot.pointer is None or spot.inner or not spot.boxes and not spot.index.null(),
-                           "address of this form (a member or element of an object of the heap)")
-            return f"{spot.pointer}[{spot.index.text}]" if spot.boxes and not is_array else spot.pointer
-        return self.late(text)
-
-    def moved_text(self, node, base, op, index):
-        if index.null() and node.find() is base.node.find():
-            return base.text
-        self.refuse_if(self.how(base.node) != "boxes", MOVED)
-        spot = self.spot(base.place) if base.place else Spot(None, number(0), base.text)
-        return f"{spot.pointer}[{plus(spot.index, index, op).text}]"
-
-    def lock_path(self, path, context):
+    def lock_path(self, path, scopes, context):
         """A lock path of a mark. `context`: the struct around it, and what gives the names of its fields."""
         head, *steps = re.split(r"->|\.", path)
         if context and not steps and head in self.structs[context[0]].fields:
             return context[1](head)
-        symbol = self.lookup(head, self.scopes)
+        symbol = self.lookup(head, scopes)
         self.refuse_if(not hasattr(symbol, "address"), f"lock {path}, which is not known")
         symbol.uses += 1
-        place = self.variable_place(symbol)
-        place = Place("at", (self.loaded(place), number(0)), symbol.type.to) if symbol.type.kind == "ptr" else place
+        place = variable(symbol)
+        place = Expr("at", (place, number(0)), symbol.type.to) if symbol.type.kind == "ptr" else place
         spot = self.spot(self.inner_place(place, steps))
         self.refuse_if(spot.index is not None and not spot.pointer, f"lock {path}, which is an element of an array")
         return self.spot_text(spot)
 
-    def type_text(self, kind, node=None, context=None, local=True):
-        """The type of a cell or pointer with its modes; node: the class of what it holds."""
-        mode = " " + kind.mode if kind.mode else ""
-        if mode.startswith(" locked("):
-            mode = f" locked({self.lock_path(kind.mode[7:-1], context)})"
+    def type_text(self, kind, context=None, local=True):
+        """The type of a cell or pointer with its modes."""
+        mode, scopes = kind.mode or ("", None)
+        if mode.startswith("locked("):
+            mode = f"locked({self.lock_path(mode[7:-1], scopes, context)})"
+        mode = mode and " " + mode
         if kind.kind == "int":
             return CELL[kind.name] + (mode or " racy" * (kind.atomic and not local))
-        if kind.kind == "mutex":
-            return "mutex" + mode.replace(" dynamic", "")
-        if kind.kind in ("void", "cond"):
-            return ("struct cond" + mode) if kind.kind == "cond" else kind.kind
+        if kind.kind in ("mutex", "void"):
+            return kind.kind + mode.replace(" dynamic", "")
+        if kind.kind == "cond":
+            return "struct cond" + mode
         if kind.kind == "struct":
             self.complete(kind, self.here)
             return "struct " + self.struct_name(kind.name) + mode
         self.refuse_if(kind.kind != "ptr", f"type {kind.shown()}")
-        how = self.how(node)
+        how = self.how(kind.node)
         if how not in HEAP:
             return ("long" if how == "integer" else "int") + mode
-        known = node.pointee_type(self.here)
+        known = kind.node.pointee_type(self.here)
         to = (kind.to if kind.to.kind != "void" else known.with_(mode=kind.to.mode)).base()
-        inner = self.type_text(to, node.part("target") if to.kind == "ptr" else None, context, False)
-        return inner + " *" * (2 if how == "boxes" else 1) + mode
+        return self.type_text(to, context, False) + " *" * (2 if how == "boxes" else 1) + mode
 
-    def plain_type(self, kind, node=None):
+    def plain_type(self, kind):
         """The same without modes, as sizeof takes it."""
-        return self.type_text(kind.bare(), node).replace(" racy", "")
+        return self.type_text(kind.bare()).replace(" racy", "")

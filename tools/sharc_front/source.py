@@ -10,23 +10,17 @@ try:
 except ImportError:
     sys.stderr.write("sharc-c needs pycparser: apt-get install python3-pycparser, or pip install pycparser\n")
     sys.exit(2)
-from .value import Refusal
+from .ctype import Refusal
 
 HERE = os.path.dirname(os.path.abspath(__file__))
 HEADERS, INCLUDE = os.path.join(HERE, "headers"), os.path.join(HERE, "..", "..", "include")
 TOKEN = re.compile(
-    r'(?P<marker># (?P<line>\d+) "(?P<file>(?:\\.|[^"\\])*)"[^\n]*)|(?P<directive>#[^\n]*)|(?P<newline>\n)'
-    r'|"(?:\\.|[^"\\\n])*"' r"|'(?:\\.|[^'\\\n])*'" r"|\.?\d[\w.]*"
-    r"|__attribute(?:__)?\s*\(\((?P<attributes>(?:[^()]|\((?:[^()]|\([^()]*\))*\))*)\)\)"
+    r'# (?P<line>\d+) "(?P<file>(?:\\.|[^"\\])*)"[^\n]*|(?P<directive>#[^\n]*)|(?P<newline>\n)'
+    r'|__sharc_refuse\("(?P<refused>[^"]*)"\)|"(?:\\.|[^"\\\n])*"' r"|'(?:\\.|[^'\\\n])*'" r"|\.?\d[\w.]*"
+    r"|__attribute__\s*\(\((?P<attributes>(?:[^()]|\((?:[^()]|\([^()]*\))*\))*)\)\)"
     r"|__mode_(?P<mode>locked\s*\([^()]*\)|[a-z]+)|(?P<word>[A-Za-z_$][\w$]*)")
-# words and attributes that change nothing that the front looks at
-SPELT = {"__extension__": "", "restrict": "", "__restrict": "", "__restrict__": "", "_Noreturn": "",
-         "__inline": "inline", "__inline__": "inline", "__signed__": "signed", "__const": "const", "__const__": "const",
-         "__volatile": "volatile", "__volatile__": "volatile", "__func__": '""', "__FUNCTION__": '""'}
 HARMLESS = set("unused noreturn format const pure noinline always_inline cold hot malloc nonnull warn_unused_result "
                "used deprecated returns_nonnull flatten leaf nothrow fallthrough may_alias noclone alloc_size".split())
-REFUSED = {"_Thread_local": "variable of each thread", "__thread": "variable of each thread", "_Alignas": "_Alignas",
-           "__builtin_va_arg": "variable arguments", "asm": "inline assembler", "__asm__": "inline assembler"}
 
 
 def preprocessed(path, options):
@@ -64,42 +58,26 @@ class Source:
             raise Refusal(((path, 1), "syntax that pycparser does not read")) from None
 
     def token(self, found):
-        """A token made ready for pycparser: marks become qualifiers, and GNU words go."""
-        kind, token = found.lastgroup, found[0]
-        blank = "\n" * token.count("\n")
+        """A token made ready for pycparser: attributes go, and a mark becomes as many `volatile` as its number says,
+        which stand where qualifiers may."""
+        kind, token, blank = found.lastgroup, found[0], "\n" * found[0].count("\n")
         self.line += len(blank)
-        if found["marker"]:
+        if kind == "file":
             self.file, self.line = found["file"], int(found["line"]) - 1
             return f'# {found["line"]} "{found["file"]}"'
-        if kind == "directive":
-            self.refuse(token.strip())
-        elif kind == "attributes":
-            for name in re.findall(r"[A-Za-z_]\w*", re.sub(r"\((?:[^()]|\([^()]*\))*\)", "", found["attributes"])):
-                if name.strip("_") not in HARMLESS:
-                    self.refuse(f"attribute {name}")
-            return blank
-        elif kind == "mode":  # a number in binary between two `restrict`, so that it stands where qualifiers may
+        if kind == "mode":
             self.modes.append(re.sub(r"\s", "", found["mode"]))
-            bits = f"{len(self.modes) - 1:b}".replace("1", "volatile ").replace("0", "const ")
-            return f" restrict {bits}restrict " + blank
-        elif kind == "word":
+            return " volatile" * len(self.modes) + " " + blank
+        if kind == "word":
             self.words.add(token)
-            if token in REFUSED:
-                self.refuse(REFUSED[token])
-            return SPELT.get(token, token)
-        return token
+        refused = [found["refused"] or token.strip()] if kind in ("directive", "refused") else []
+        if kind == "attributes":
+            names = re.findall(r"[A-Za-z_]\w*", re.sub(r"\((?:[^()]|\([^()]*\))*\)", "", found["attributes"]))
+            refused = [f"attribute {name}" for name in names if name.strip("_") not in HARMLESS]
+        self.refused += [((self.file, self.line), what) for what in refused]
+        return blank if refused or kind == "attributes" else token
 
-    def refuse(self, what):
-        self.refused.append(((self.file, self.line), what))
-
-    def qualified(self, qualifiers):
-        """The mark among qualifiers, if any, and the qualifiers of C that are left."""
-        bits, kept, inside = "", [], False
-        for qualifier in qualifiers or []:
-            if qualifier == "restrict":
-                inside = not inside
-            elif inside:
-                bits += "1" if qualifier == "volatile" else "0"
-            else:
-                kept.append(qualifier)
-        return self.modes[int(bits, 2)] if bits else None, kept
+    def mode(self, qualifiers):
+        """The mark among qualifiers, if any."""
+        count = qualifiers.count("volatile")
+        return self.modes[count - 1] if count else None

@@ -2,8 +2,9 @@
 
 from pycparser import c_ast as A
 
-from .ctype import VOID, pointer
+from .ctype import VOID
 from .library import Library
+from .tree import Expr, number
 
 # a thread function `work` is called by one that has the record; the argument is taken out of it, so that what it points
 # to has one reference
@@ -12,6 +13,9 @@ RECORD = """struct {record} {{ {argument} argument; {result} result; }};
 record->argument = {none}; return argument; }}
 void {start}(struct {record} * record) {{ record->result = {function}({take}(record)); }}
 struct {record} dynamic * {table}[32];"""
+START = """{{ struct {record} private * {own} = malloc(sizeof(struct {record})); {own}->argument = {argument}; \
+struct {record} dynamic * {given} = SCAST(struct {record} dynamic *, {own}); \
+{target} = spawn({start}, {given}); {table}[{target}] = {given}; }}"""
 
 
 class Threads(Library):
@@ -22,106 +26,100 @@ class Threads(Library):
         self.blocked(self.created, *args)
 
     def created(self, target, attributes, start, arg):
-        self.refuse_if(not self.value(attributes).null() and not isinstance(attributes, A.UnaryOp),
-                       "attributes of a thread")
-        start, value = self.in_order(start, arg)
-        self.refuse_if(start.type.kind != "ptr" or start.type.to.kind != "func", "thread function of this form")
-        self.started.append(start.node)
-        content = start.node.part("argument", 0)
-        symbol = value.place.local() if value.place and value.place.op == "variable" else None
+        self.value(attributes)  # those that can be set change nothing here
+        place, start = self.stable_place(self.deref(self.value(target))), self.stable(self.value(start))
+        kind = start.type.to if start.type.kind == "ptr" else VOID
+        self.refuse_if(kind.kind != "func" or len(kind.params or ()) != 1, "thread function of this form")
+        self.started.append(start.type.node)
+        value = self.value(arg)
+        symbol = value.place() and value.place().op == "variable" and value.place().local()
         if symbol:
             symbol.started.append(len(self.loops))
-        value = self.fitting(value, pointer(VOID), content)
-        place = self.stable_place(self.deref(self.value(target)))
-        start, target, text = self.stable(start), self.place_text(place), self.given(value, True).text
-        self.emit(self.late(lambda: self.spawned(target, start, text)))
+        value = self.given(self.fitting(value, kind.params[0]), True)
+
+        def lines():
+            """Starts one of the functions that `start` may be."""
+            texts = []
+            for symbol in start.type.node.find().functions:
+                text = START.format(**self.record(symbol), own=self.own_name("own"), given=self.own_name("given"),
+                                    target=self.text(place), argument=self.text(value))
+                texts.append(text if start.bare().op == "function" else
+                             f"if ({self.text(start)} == {self.numbers[symbol]}) {text}")
+            return " ".join(texts)
+        self.later(lines, place, value)
 
     def given(self, value, automatic=False):
         """Hands over what `value` points to: a cast whose result is put back. Without a mark this is done for the
         address of an object that this thread alone has."""
-        text, name = value.text, self.own_name("t")
-        self.refuse_if(value.calls and not automatic, "call within what is handed over")
+        call, node = self.direct(value), self.class_of(value)
+        if call.bare().op in ("call", "scast"):
+            self.refuse_if(not automatic, "call within what is handed over")
+            return call
+        name, kind = self.own_name("t"), value.type.with_(node=node)
 
         def lines():
-            kind = self.type_text(value.type, value.node)
-            self.refuse_if(self.how(value.node) not in ("heap", "boxes") and not automatic, "SHARC_GIVE of a number")
+            self.refuse_if(self.how(node) not in ("heap", "boxes") and not automatic, "SHARC_GIVE of a number")
             if automatic and not self.handed(value):
                 return ";"
-            self.note("what the argument of the thread points to is handed over (SCAST)")
-            return f"{kind} {name} = SCAST({kind}, {text}); {text} = {name};"
-        self.emit(self.late(lines), True)
-        return value.with_(written=self.late(lambda: text if automatic and not self.handed(value) else name),
-                           place=None, moved=None)
+            self.notes.append((self.here, "what the argument of the thread points to is handed over (SCAST)"))
+            kind_text, text = self.type_text(kind), self.text(value)
+            return f"{kind_text} {name} = SCAST({kind_text}, {text}); {text} = {name};"
+        self.later(lines, declares=True)
+        return Expr("text", (lambda: self.text(value) if automatic and not self.handed(value) else name, value), kind)
 
     def handed(self, value):
         """Whether the argument of a thread is the address of an object of this thread alone."""
-        if self.how(value.node) not in ("heap", "boxes"):
+        inner, place = value.bare(), value.place()
+        if self.how(value.type.node) not in ("heap", "boxes"):
             return False
-        if value.moved:
-            base = value.moved[0].place
-            return bool(base and base.op == "variable" and base.local()) and self.how(value.moved[0].node) == "boxes"
-        symbol = value.place and value.place.op == "variable" and value.place.type.kind != "array" and \
-            value.place.local()
+        if inner.op == "moved":
+            base = inner.args[0].place()
+            return bool(base and base.op == "variable" and base.local()) and \
+                self.how(inner.args[0].type.node) == "boxes"
+        symbol = place and place.op == "variable" and place.type.kind != "array" and place.local()
         return bool(symbol) and symbol.started == [symbol.loop]
-
-    def spawned(self, target, start, text):
-        """The lines that start one of the functions that `start` may be."""
-        texts = []
-        for symbol in start.node.find().functions:
-            record, start_function, _, table = self.record(symbol)
-            own, given = self.own_name("own"), self.own_name("start")
-            lines = f"{{ struct {record} private * {own} = malloc(sizeof(struct {record})); " \
-                f"{own}->argument = {text}; " \
-                f"struct {record} dynamic * {given} = SCAST(struct {record} dynamic *, {own}); " \
-                f"{target} = spawn({start_function}, {given}); {table}[{target}] = {given}; }}"
-            texts.append(lines if start.text.isdigit() else f"if ({start.text} == {self.numbers[symbol]}) {lines}")
-        return " ".join(texts)
 
     def record(self, symbol):
         """Names: of the struct, the function that is spawned, the one that takes the argument, the table of starts."""
         if symbol not in self.records:
-            self.records[symbol] = [self.fresh(f"{name}_{symbol.name}") for name in ("record", "start", "take", "of")]
-            self.user.own.update(self.records[symbol])
+            self.records[symbol] = {name: self.fresh(f"{name}_{symbol.name}")
+                                    for name in ("record", "start", "take", "table")}
+            self.user.own.update(self.records[symbol].values())
         return self.records[symbol]
 
     def record_lines(self, symbol):
         self.refuse_if(len(symbol.params) != 1 or symbol.params[0].type.kind != "ptr" or symbol.type.to.kind != "ptr",
                        f"thread function {symbol.name} whose parameter or result is no pointer", symbol.place)
-        param, (record, start, take, table) = symbol.params[0], self.record(symbol)
-        return RECORD.format(
-            record=record, start=start, take=take, table=table, none=self.null_text(param.content),
-            argument=self.type_text(param.type.bare(), param.content), function=self.function_name(symbol),
-            result=self.type_text(symbol.type.to.bare(), symbol.content))
+        kind = symbol.params[0].type
+        return RECORD.format(**self.record(symbol), none=self.null_text(kind.node), function=self.function_name(symbol),
+                             argument=self.type_text(kind.bare()), result=self.type_text(symbol.type.to.bare()))
 
     def l_pthread_join(self, args):
         thread, result = self.stable(self.value(args[0])), args[1]
         while isinstance(result, A.Cast) and not isinstance(result.expr, A.Constant):
             result = result.expr
-        self.emit(f"join({thread.text});")
+        self.emit("join(%s);", thread)
         if not isinstance(result, A.UnaryOp) or result.op != "&":
             self.refuse_if(not self.peeked(result).null(), "result of a thread taken in this form")
             return
-        place = self.stable_place(self.place(result.expr))
+        place = self.stable_place(self.visit(result.expr))
         self.refuse_if(place.type.kind != "ptr", "result of a thread taken in this form")
-        self.joins.append(place.node)
-        target, none = self.place_text(place), self.null(place.type, place.node).text
-        self.emit(f"{target} = {none};")
-        self.emit(self.late(lambda: self.joined_lines(thread.text, target, none)))
+        self.joins.append(place.type.node)
+        self.put(place, number(0))
 
-    def joined_lines(self, thread, target, none):
-        tables = [f"{self.record(symbol)[3]}[{thread}]" for symbol in self.thread_functions() if symbol.gives]
-        return " ".join(f"if ({at} != NULL) {{ {target} = {at}->result; {at}->result = {none}; }}"
-                        for at in tables) or ";"
+        def lines():
+            given = [f"{self.record(symbol)['table']}[{self.text(thread)}]" for symbol in self.thread_functions()
+                     if symbol.gives]
+            target, none = self.text(place), self.null_text(place.type.node)
+            return " ".join(f"if ({at} != NULL) {{ {target} = {at}->result; {at}->result = {none}; }}"
+                            for at in given) or ";"
+        self.later(lines, place)
 
     def l_pthread_exit(self, args):
         """In main its end, else that of the thread function."""
-        symbol, value = self.function, self.value(args[0])
-        self.locksets.stop()
-        if symbol.name == "main":
+        if self.function.name == "main":
             self.emit("return 0;")
             return
-        self.refuse_if(symbol.type.to.kind != "ptr", "pthread_exit outside a thread function")
-        symbol.gives |= not value.null()
-        value = self.fitting(value, symbol.type.to, symbol.content)
-        self.ends.append((symbol, self.here))
-        self.emit(f"return {value.text};")
+        self.refuse_if(self.function.type.to.kind != "ptr", "pthread_exit outside a thread function")
+        self.ends.append((self.function, self.here))
+        self.s_Return(A.Return(args[0]))

@@ -4,6 +4,8 @@
 #include <sched.h>
 #include <time.h>
 #include <sharc_front.h>
+#define pthread_mutex_lock(m) __sharc_do(lock, m)
+#define pthread_mutex_unlock(m) __sharc_do(unlock, m)
 /* the names of these three are what the front looks at */
 typedef unsigned long __sharc_cond;
 typedef unsigned long pthread_spinlock_t;
@@ -69,24 +71,24 @@ typedef struct { pthread_mutex_t guard; int __LOCKED done; } pthread_once_t;
 #define PTHREAD_SCOPE_SYSTEM 0
 #define PTHREAD_PROCESS_PRIVATE 0
 #define PTHREAD_CANCELED ((void *) -1)
-#define pthread_mutex_init(m, attributes) __sharc_null(m, attributes)
-#define pthread_mutex_destroy(m) __sharc_null(m, 0)
-#define pthread_cond_init(c, attributes) __sharc_null(c, attributes)
-#define pthread_cond_destroy(c) __sharc_null(c, 0)
-#define pthread_spin_init(m, shared) __sharc_null(m, ((void) (shared), 0))
-#define pthread_spin_destroy(m) __sharc_null(m, 0)
+#define pthread_mutex_init(m, attributes) __sharc_attributes(m, attributes)
+#define pthread_mutex_destroy(m) __sharc_attributes(m, 0)
+#define pthread_cond_init(c, attributes) __sharc_attributes(c, attributes)
+#define pthread_cond_destroy(c) __sharc_attributes(c, 0)
+#define pthread_spin_init(m, shared) __sharc_attributes(m, ((void) (shared), 0))
+#define pthread_spin_destroy(m) __sharc_attributes(m, 0)
 #define pthread_spin_lock(m) pthread_mutex_lock(m)
 #define pthread_spin_unlock(m) pthread_mutex_unlock(m)
-#define pthread_attr_init(a) __sharc_null(a, 0)
-#define pthread_attr_destroy(a) __sharc_null(a, 0)
-#define pthread_attr_setdetachstate(a, state) __sharc_null(a, ((void) (state), 0))
-#define pthread_attr_setstacksize(a, size) __sharc_null(a, ((void) (size), 0))
-#define pthread_attr_setscope(a, scope) __sharc_null(a, ((void) (scope), 0))
+#define pthread_attr_init(a) __sharc_attributes(a, 0)
+#define pthread_attr_destroy(a) __sharc_attributes(a, 0)
+#define pthread_attr_setdetachstate(a, state) __sharc_attributes(a, ((void) (state), 0))
+#define pthread_attr_setstacksize(a, size) __sharc_attributes(a, ((void) (size), 0))
+#define pthread_attr_setscope(a, scope) __sharc_attributes(a, ((void) (scope), 0))
 static inline int pthread_detach(pthread_t thread) { return 0; }
 static inline int pthread_setconcurrency(int level) { return 0; }
-#define pthread_rwlock_init(l, attributes) __sharc_null(l, attributes)
-#define pthread_rwlock_destroy(l) __sharc_null(l, 0)
-#define pthread_barrier_destroy(b) __sharc_null(b, 0)
+#define pthread_rwlock_init(l, attributes) __sharc_attributes(l, attributes)
+#define pthread_rwlock_destroy(l) __sharc_attributes(l, 0)
+#define pthread_barrier_destroy(b) __sharc_attributes(b, 0)
 static inline int pthread_rwlock_rdlock(pthread_rwlock_t *l)
 {
     pthread_mutex_lock(&l->guard);

@@ -2,7 +2,7 @@
 #define SHARC_FRONT_SEMAPHORE_H
 #include <pthread.h>
 typedef struct { pthread_mutex_t guard; pthread_cond_t changed; int __LOCKED count; } sem_t;
-#define sem_destroy(s) __sharc_null(s, 0)
+#define sem_destroy(s) __sharc_attributes(s, 0)
 static inline int sem_init(sem_t *s, int shared, unsigned n)
 {
     pthread_mutex_lock(&s->guard);

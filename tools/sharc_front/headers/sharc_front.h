@@ -1,16 +1,41 @@
 /* What the other headers are made of.
  *
  * The body of a C function of these headers is written in place of a call; in it __sharc_value is the type that the
- * first argument points to. It returns at its end alone. An argument for a parameter `none` has to be NULL,
- * and so has the second one of __sharc_null. __sharc_do(f, x ..) is the call f(x ..) of the language.
+ * first argument points to. It returns at its end alone. An argument for a parameter `none` has to be NULL.
+ * __sharc_do(f, x ..) is the call f(x ..) of the language; __sharc_stop(what) stops the thread.
  */
 #ifndef SHARC_FRONT_H
 #define SHARC_FRONT_H
 typedef long __sharc_value;
 typedef unsigned long pthread_mutex_t;
 static pthread_mutex_t __sharc_atomics;
-#define __sharc_lock_atomics() pthread_mutex_lock(&__sharc_atomics)
-#define __sharc_unlock_atomics() pthread_mutex_unlock(&__sharc_atomics)
+static inline int __sharc_attributes(void *object, void *none) { return 0; }
+#define __sharc_lock_atomics() __sharc_do(lock, &__sharc_atomics)
+#define __sharc_unlock_atomics() __sharc_do(unlock, &__sharc_atomics)
+/* words that change nothing that the front looks at */
+#define __extension__
+#define restrict
+#define __restrict
+#define __restrict__
+#define _Noreturn
+#define __inline inline
+#define __inline__ inline
+#define __signed__ signed
+#define __const const
+#define __const__ const
+#define volatile
+#define __volatile
+#define __volatile__
+#define __func__ ""
+#define __FUNCTION__ ""
+/* and what is refused */
+#define _Thread_local __sharc_refuse("variable of each thread")
+#define __thread __sharc_refuse("variable of each thread")
+#define _Alignas __sharc_refuse("_Alignas")
+#define __builtin_va_arg __sharc_refuse("variable arguments")
+#define asm __sharc_refuse("inline assembler")
+#define __asm__ __sharc_refuse("inline assembler")
+#define __attribute __attribute__
 #define __FETCH(name, operator) \
     static inline __sharc_value name(__sharc_value *p, long v) \
     { \

@@ -3,14 +3,19 @@
 #include <stddef.h>
 typedef struct __sharc_file FILE;
 typedef long ssize_t;
-#define stdin __sharc_stdin
-#define stdout __sharc_stdout
-#define stderr __sharc_stderr
+extern FILE *stdin, *stdout, *stderr;
+#define stdin stdin
+#define stdout stdout
+#define stderr stderr
 #define EOF (-1)
 #define BUFSIZ 8192
 #define _IOLBF 1
 #define _IONBF 2
 #define fflush(file) 0
+/* to these streams alone: for another one there is no such function */
+#define fprintf(file, ...) __sharc_fprintf_##file(__VA_ARGS__)
+#define __sharc_fprintf_stdout(...) printf(__VA_ARGS__)
+#define sprintf(s, ...) snprintf(s, 65536, __VA_ARGS__)
 #define setbuf(file, buffer) ((void) 0)
 #define fputs(text, file) puts(text)
 #define fputc(c, file) putchar(c)

@@ -4,6 +4,7 @@
 #define EXIT_SUCCESS 0
 #define EXIT_FAILURE 1
 #define RAND_MAX 2147483647
+#define abort() __sharc_stop("abort()")
 static int abs(int n) { return n < 0 ? -n : n; }
 static long labs(long n) { return n < 0 ? -n : n; }
 static long llabs(long n) { return n < 0 ? -n : n; }
