@@ -42,10 +42,11 @@ class Library(Statements):
         rest, (_, found), values = args[1:], self.format(args[0], args[1:]), []
         for part, arg in zip(found, rest):
             self.refuse_if(part[4] not in "diuxXocsp", f"conversion %{part[4]}")
+            value = self.value(arg)
             if part[4] in shown:
-                values.append(self.shown_number(part, self.value(arg)))
-            else:
-                self.effect(arg)
+                values.append(self.shown_number(part, value))
+            elif value.height > 2 and (value.type.kind == "int" or value.bare().op in PLACES):
+                self.spilled(value)  # what it reads is read, though nothing is printed
         for value in [self.direct(values[0])] if len(values) == 1 else values:
             self.emit("print(%s);", value)
         return number(0).with_(type=VOID)

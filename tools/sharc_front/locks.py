@@ -89,9 +89,10 @@ class Locksets:
             struct, member = place.args[0].type.name, place.args[1]
             prefix, name = name[: -len(member)], f"struct {struct}.{member}"
             field = self.front.structs[struct].fields[member]
-            if field.type.mode or self.front.in_headers(field.place):
+            if field.type.mode or field.type.base().atomic or self.front.in_headers(field.place):
                 return
-        elif place.op != "variable" or place.args[0].kind != "global" or place.args[0].own:
+        elif place.op != "variable" or place.args[0].kind != "global" or place.args[0].own or \
+                place.args[0].type.base().atomic:
             return
         written |= key in self.accesses and self.accesses[key].written
         self.accesses[key] = Event(name, prefix, self.function, line.place, written, state)

@@ -27,17 +27,19 @@ class Words:
     def __init__(self, words):
         at = words.index("--") if "--" in words else len(words)
         words, self.arguments = list(words[:at]), words[at + 1 :]
-        self.command, self.options, self.file = None, [], None
-        while words and self.file is None:
+        self.command, self.options, self.file, self.rest = None, [], None, []
+        while words:
             word = words.pop(0)
             if word[:2] in ("-I", "-D", "-U"):
                 self.options += [word] + ([words.pop(0)] if len(word) == 2 and words else [])
+            elif self.file is not None:
+                self.rest.append(word)
             elif word in COMMANDS and self.command is None:
                 self.command = word
             else:
-                self.file = word if word[0] != "-" and (not words or self.command in ("run", "record")) else None
-                break
-        self.rest = words
+                self.file = word
+        if (self.file or "-").startswith("-") or self.rest and self.command not in ("run", "record"):
+            self.file = None
 
 
 def lowered(words):

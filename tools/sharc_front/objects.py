@@ -10,7 +10,7 @@ class Objects(Places):
         """A local: a variable; one for each member of a struct; or an object, for an array and what has an address."""
         kind = symbol.type
         if kind.kind == "struct" and not symbol.boxed:
-            return " ".join(self.local_part(symbol, path, leaf) for path, leaf, _, _ in self.leaves(kind))
+            return " ".join(self.local_part(symbol, path, leaf.with_(mode=None)) for path, leaf, _, _ in self.leaves(kind))
         if kind.kind == "array" or symbol.boxed:
             return self.local_part(symbol, (), kind if kind.kind == "array" else array(kind, 1))
         return f"{self.type_text(kind)} {self.piece_name(symbol, ())};"
