@@ -59,10 +59,15 @@ since_with Workers Workers since took = at_most_64_bits (since + took)
 since_with CallerByParts CallerByParts since took = at_most_64_bits (since + took)
 since_with makers last since took = took
 
+-- how fast the workers were, if they made the last round too: what they made longer ago were other turns
+abbrev pub workers_lately : Option Speed → Makers → Option Speed
+workers_lately workers Workers = workers
+workers_lately workers last = None
+
 abbrev pub pace_with : Pace → Makers → Speed → Pace
 pace_with pace Workers round = record {
   parts = pace.parts;
-  workers = Some (speed_with pace.workers round);
+  workers = Some (speed_with (workers_lately pace.workers pace.last) round);
   last = Workers;
   since = since_with Workers pace.last pace.since round.nanoseconds;
 }
@@ -81,10 +86,10 @@ pace_after pace Several makers None = pace
 pace_after pace One makers round = pace
 pace_after pace Nobody makers round = pace
 
--- the turns of the part of a quantum behind one of so many: where nobody waited, four times those; else
+-- the turns of the part of a quantum behind one of so many: where nobody waited, eight times those; else
 -- more than the least
 abbrev pub next_part : ℕ → Bool → ℕ
-next_part turns waited = if waited then LEAST + turns % LEAST + 1 else turns * 4
+next_part turns waited = if waited then LEAST + turns % LEAST + 1 else turns * 8
 
 -- the events that the thread at a place has made
 abbrev pub made_by : Option ThreadView → ℕ

@@ -3,7 +3,8 @@
 ghost use Rattle.std.specs.Prelude.{◌≡◌, ◌<◌, None, IsSome};
 ghost use Rattle.sharc_rounds.specs.declared.stint.TheConstants.{QUANTUM as quantum};
 ghost use Rattle.sharc_rounds.specs.Pace.{made_by, keeps_up, or_others, next_makers};
-ghost use Rattle.sharc_rounds.specs.Pace.{three_quarters, speed_of, speed_with, since_with, pace_with, pace_after};
+ghost use Rattle.sharc_rounds.specs.Pace.{three_quarters, speed_of, speed_with, since_with, workers_lately};
+ghost use Rattle.sharc_rounds.specs.Pace.{pace_with, pace_after};
 
 use crate::busy::Busy;
 use crate::stint::{QUANTUM, Stint};
@@ -50,7 +51,7 @@ pub(crate) const FIRST: u64 = 4;
 
 /// Who did not make the last rounds is tried again once the others have gone on for this many times as long as its own
 /// last rounds took.
-pub(crate) const APART: u64 = 16;
+pub(crate) const APART: u64 = 32;
 
 /// The events that the thread which is there has made.
 pub(crate) fn made_by(seat: &Option<Thread>) -> u64
@@ -205,6 +206,16 @@ impl Pace {
         }
     }
 
+    // How fast the workers were, if they made the last round too. What they made longer ago were other turns.
+    fn workers_lately(self) -> Option<Speed>
+        ensures { result ≡ workers_lately self.workers self.last }
+    {
+        match self.last {
+            Makers::Workers => self.workers,
+            Makers::Caller | Makers::CallerByParts => None,
+        }
+    }
+
     // After a round that these made so fast.
     fn with(self, makers: Makers, round: Speed) -> Pace
         ensures { result ≡ pace_with self makers round }
@@ -213,7 +224,7 @@ impl Pace {
         match makers {
             Makers::Workers => Pace {
                 parts: self.parts,
-                workers: Some(Speed::with(self.workers, round)),
+                workers: Some(Speed::with(self.workers_lately(), round)),
                 last: makers,
                 since,
             },

@@ -17,10 +17,10 @@ use sharc_code::{Code, Shape};
 use sharc_cpu::{RowPlan, Wait};
 
 // The turns of the first part of a quantum.
-pub(crate) const LEAST: u32 = 700;
+pub(crate) const LEAST: u32 = 1_000;
 
-// The turns of the part behind one of so many: four times those, or, once a thread waited for another, about the least.
-// Then it is one more each time, so that no loop of a thread is at the same place at the end of each.
+// The turns of the part behind one of so many: eight times those, or, once a thread waited for another, about the
+// least. Then it is one more each time, so that no loop of a thread is at the same place at the end of each.
 fn next_part(turns: u32, waited: bool) -> u32
     requires few { turns ≤ quantum }
     ensures { result ≡ next_part turns waited }
@@ -28,7 +28,7 @@ fn next_part(turns: u32, waited: bool) -> u32
     if waited {
         LEAST + turns % LEAST + 1
     } else {
-        turns * 4
+        turns * 8
     }
 }
 
@@ -105,8 +105,8 @@ impl Worker {
         let mut left = QUANTUM;
         let mut part = LEAST;
         let mut waited = false;
+        let mut before = self.events();
         'parts: loop {
-            let before = self.events();
             let turns = part.min(left);
             self.run(
                 code,
@@ -119,9 +119,11 @@ impl Worker {
                 Stint::alone(turns),
             );
             left -= turns;
-            if left == 0 || self.events() == before {
+            let events = self.events();
+            if left == 0 || events == before {
                 return;
             }
+            before = events;
             waited = waited || self.waits();
             part = next_part(turns, waited);
         }
