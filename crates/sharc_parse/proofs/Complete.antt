@@ -26,10 +26,8 @@ takes o x k y h =
     ∙ ap (λ b. then_on (cond b (to (Want (right_of x o k))) (counted o x k)) (λ n. reads y n) (Stuck (mark (operator_mark o) ∷ y))) (le_true (floor k) (strength o) h)
 
 pub prefixed : (u : UnaryOperator) (k : Cont) (y : List Word) → reads_at (mark (unary_mark u) ∷ y) (Want k) ≡ reads_at y (Want (beneath u k))
-prefixed Negate k y = refl
 prefixed Not k y = refl
-prefixed Complement k y = refl
-prefixed Dereference k y = refl
+prefixed _ k y = refl
 
 -- what an expression may begin with
 abbrev pub IsFirst : Word → Type 0
@@ -256,8 +254,7 @@ sharing_first private y = record { first = keyword key.Private; is_first = tt; r
 sharing_first readonly y = record { first = keyword key.Readonly; is_first = tt; rest = _; is = refl }
 sharing_first racy y = record { first = keyword key.Racy; is_first = tt; rest = _; is = refl }
 sharing_first dynamic y = record { first = keyword key.Dynamic; is_first = tt; rest = _; is = refl }
-sharing_first (locked m) y = record { first = keyword key.Locked; is_first = tt; rest = _; is = refl }
-sharing_first (locked_through x m) y = record { first = keyword key.Locked; is_first = tt; rest = _; is = refl }
+sharing_first _ y = record { first = keyword key.Locked; is_first = tt; rest = _; is = refl }
 
 base_first : (b : Base) (y : List Word) → First IsTypeFirst (base_words b y)
 base_first base.Int y = record { first = keyword key.Int; is_first = tt; rest = _; is = refl }
@@ -356,20 +353,12 @@ mode_at p first b below e (keyword key.Locked) h = ap (λ c. cond c (mode_step (
 mode_at p first b below e _ h = absurd h
 
 base_reads : (p : TypePlace) (b : Base) (y : List Word) → reads_at (base_words b y) (TypeWant p) ≡ reads_at y (based p None b)
-base_reads p base.Int y = ap (λ o. then_on o (λ n. reads y n) (Stuck (base_words base.Int y))) (idle (takes_modes p) _)
-base_reads p base.Char y = ap (λ o. then_on o (λ n. reads y n) (Stuck (base_words base.Char y))) (idle (takes_modes p) _)
-base_reads p base.Long y = ap (λ o. then_on o (λ n. reads y n) (Stuck (base_words base.Long y))) (idle (takes_modes p) _)
-base_reads p base.Mutex y = ap (λ o. then_on o (λ n. reads y n) (Stuck (base_words base.Mutex y))) (idle (takes_modes p) _)
-base_reads p base.Void y = ap (λ o. then_on o (λ n. reads y n) (Stuck (base_words base.Void y))) (idle (takes_modes p) _)
 base_reads p (base.Struct s) y = ap (λ o. then_on o (λ n. reads (name s ∷ y) n) (Stuck (base_words (base.Struct s) y))) (idle (takes_modes p) (to (StructWant p None)))
+base_reads p k y = ap (λ o. then_on o (λ n. reads y n) (Stuck (base_words k y))) (idle (takes_modes p) _)
 
 base_reads_after : (p : TypePlace) (m : Sharing) (b : Base) (y : List Word) → reads_at (base_words b y) (ModeFirst p m) ≡ reads_at y (based p (Some m) b)
-base_reads_after p m base.Int y = refl
-base_reads_after p m base.Char y = refl
-base_reads_after p m base.Long y = refl
-base_reads_after p m base.Mutex y = refl
-base_reads_after p m base.Void y = refl
 base_reads_after p m (base.Struct s) y = refl
+base_reads_after p m _ y = refl
 
 -- where no modes are taken none is written
 abbrev pub ModesFit : TypePlace → Bool → List (Option Sharing) → Type 0
@@ -427,18 +416,13 @@ size_read v c o first b (m ∷ below) w h y = levels_read (sizing v c o) first b
 
 constant_reads : (c : Constant) (k : Cont) (y : List Word) → reads_at (constant_word c ∷ y) (Want k) ≡ reads_at y (Have (constant c) k)
 constant_reads (constants.Number n) k y = refl
-constant_reads (constants.Character c) k y = refl
-constant_reads constants.Null k y = refl
+constant_reads _ k y = refl
 
 front_reads : (f : Front) → FitsFront f → (k : Cont) (y : List Word) → reads_at (front_words f y) (Want k) ≡ reads_at y (Want (fronted f k))
-front_reads parenthesis w k y = refl
-front_reads (of_spawn f) w k y = refl
 front_reads (of_value value_call.Join) w k y = refl
-front_reads (of_value value_call.Print) w k y = refl
 front_reads (of_place place_call.Lock) w k y = refl
-front_reads (of_place place_call.Unlock) w k y = refl
-front_reads (of_place place_call.Free) w k y = refl
 front_reads (of_cast t) w k y = cast_read k t.mode_first t.base t.levels w y
+front_reads _ w k y = refl
 
 access_reads : (a : FieldOperator) (x : Phrase) (n : List ℕ) (k : Cont) (y : List Word) → reads_at (mark (access_mark a) ∷ (name n ∷ y)) (Have x k) ≡ reads_at y (Have (field x a n) k)
 access_reads access.Dot x n k y = refl
@@ -462,12 +446,10 @@ grip_rest (more e rest) y = refl
 
 mutual
   pub reads_phrase : (x : Phrase) → Fits x → (k : Cont) → floor k ≤ level x → (y : List Word) → grip y ≤ level x → reads_at (words x y) (Want k) ≡ reads_at y (Have x k)
-  reads_phrase (identifier n) w k f y g = refl
   reads_phrase (constant c) w k f y g = constant_reads c k y
   reads_phrase (enclosed h a) w k f y g =
       front_reads h w.0 k _
       ∙ reads_phrase a w.2 (fronted h k) w.1 _ (omega arith)
-  reads_phrase (call n none) w k f y g = refl
   reads_phrase (call n (more a rest)) w k f y g =
       opens a n k _
       ∙ reads_phrase a w.0 (arguments n none k) (omega arith) _ (omega (arith, grip_rest rest y))
@@ -487,6 +469,7 @@ mutual
       ∙ takes o a k _ f
       ∙ reads_phrase b w.3 (right_of a o k) w.1 y (omega arith)
       ∙ whole_binary y a b o k g
+  reads_phrase _ w k f y g = refl
 
   reads_rest : (rest : Phrases) → FitAll rest → (f : List ℕ) (before : Phrases) (e : Phrase) (k : Cont) (y : List Word) → reads_at (words_of_rest rest (mark CloseParenthesis ∷ y)) (Have e (arguments f before k)) ≡ reads_at y (Have (call f (joined before (more e rest))) k)
   reads_rest none w f before e k y = refl

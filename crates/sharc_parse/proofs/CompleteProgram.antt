@@ -4,7 +4,7 @@ use Rattle.sharc_tree.specs.declared.token.Keyword.TheVariants as key
 use Rattle.sharc_tree.specs.{declared.token.Punctuator.TheVariants.{OpenParenthesis, CloseParenthesis, OpenBrace, CloseBrace, Semicolon, Star}, declared.tree.statement.Jump.Jump, declared.tree.expression.Constant.Constant}
 use Rattle.sharc_tree.specs.declared.tree.statement.Jump.TheVariants as jumps
 use Rattle.sharc_tree.specs.declared.tree.expression.Constant.TheVariants as constants
-use Rattle.sharc_parse.specs.{Grammar.{Word, name, keyword, mark, Typing, Declaring, declaring_words, FitsType, Phrase, identifier, constant, enclosed, call, index, field, unary, binary, constant_word, words, level, Fits, Value, value, malloc, Doing, assign, invoke, Line, nothing, does, declares, Sentence, line, jump, return, block, under, Sentences, no_more, sentence, Opening, if_of, else_of, while_of, for_of, option_words, count_words, value_words, doing_words, initial_words, line_words, step_words, jump_word, written, written_all, opening_words, is_call, is_declaring, is_declaration, takes_else, FitsOption, FitsCount, FitsValue, FitsDoing, FitsInitial, FitsLine, FitsStep, FitsAs, FitAllAs, FitsOpening, Form, single, array, initially, Part, structure, global, function, form_words, fields_words, further_words, parameters_words, part_words, program_words, FitAllDeclaring, FitsForm, FitsFields, FitsPart, IsProgram}, Machine.{Outer, body, items, inside, LinePlace, as_statement, as_first, DoingPlace, in_line, as_step, ValuePlace, of_doing, of_local, by_if, by_while, condition, returning, testing, subject, valued, counting, part, on_top, field_of, parameter_of, local, naming, sizing, Core, Want, Have, Start, Done, Returning, ForOpen, ForTest, ForStep, Malloced, Valued, TypeWant, Named, Fields, InitialWant, Top, State, At, to, grip, want, lined, loop, doing_end, local_line, begin_type, declaring_of, with_part, with_declaring, fields, with_item, holds_items, may_declare, is_else, done, core_step, Read, Stuck, then_on, reads, reads_at}}
+use Rattle.sharc_parse.specs.{Grammar.{Word, name, keyword, mark, Typing, Declaring, declaring_words, FitsType, Phrase, enclosed, call, constant_word, words, level, Fits, Value, value, malloc, Doing, assign, invoke, Line, nothing, does, declares, Sentence, line, jump, return, block, under, Sentences, no_more, sentence, Opening, if_of, else_of, while_of, for_of, option_words, count_words, value_words, doing_words, initial_words, line_words, step_words, jump_word, written, written_all, opening_words, is_call, is_declaring, is_declaration, takes_else, FitsOption, FitsCount, FitsValue, FitsDoing, FitsInitial, FitsLine, FitsStep, FitsAs, FitAllAs, FitsOpening, Form, initially, Part, structure, global, function, form_words, fields_words, further_words, parameters_words, part_words, program_words, FitAllDeclaring, FitsForm, FitsFields, FitsPart, IsProgram}, Machine.{Outer, body, items, inside, LinePlace, as_statement, as_first, DoingPlace, in_line, as_step, ValuePlace, of_doing, of_local, by_if, by_while, condition, returning, testing, subject, valued, counting, part, on_top, field_of, parameter_of, local, naming, sizing, Core, Want, Have, Start, Done, Returning, ForOpen, ForTest, ForStep, Malloced, Valued, TypeWant, Named, Fields, InitialWant, Top, State, At, to, grip, want, lined, loop, doing_end, local_line, begin_type, declaring_of, with_part, with_declaring, fields, with_item, holds_items, may_declare, is_else, done, core_step, Read, Stuck, then_on, reads, reads_at}}
 use Rattle.sharc_parse.proofs.Complete.{IsFirst, IsTypeFirst, first, doing_first, list_first, same_step, returned_at, test_at, step_at, malloced_at, line_start_at, start_at, start_declares_at, declares_at, fields_at, never, reads_declaring, size_read, reads_phrase}
 
 pub data Ender : Type 0 where
@@ -44,13 +44,8 @@ reads_value (malloc n t) w v o e y =
 
 call_level : (e : Phrase) → is_call e ≡ true → 11 ≤ level e
 call_level (call f all) h = omega arith
-call_level (identifier n) h = cc
-call_level (constant n) h = cc
 call_level (enclosed f a) h = omega arith
-call_level (index a i) h = cc
-call_level (field a v n) h = cc
-call_level (unary u a) h = cc
-call_level (binary o a b) h = cc
+call_level _ h = cc
 
 invoked : (e : Phrase) (d : DoingPlace) (o : Outer) (y : List Word) → is_call e ≡ true → reads_at (place_end d ∷ y) (Have e (part (subject d) o)) ≡ reads y (doing_done d (invoke e) o)
 invoked e (in_line p) o y h = ap (λ b. then_on (cond b (doing_end (in_line p) (invoke e) o (mark Semicolon)) None) (λ n. reads y n) (Stuck (mark Semicolon ∷ y))) h
@@ -158,13 +153,8 @@ no_else_line (declares l) w y =
 no_else : (s : Sentence) → FitsAs s → (y : List Word) → NoElse (written s y)
 no_else (line l) w y = no_else_line l w y
 no_else (jump jumps.Break) w y = refl
-no_else (jump jumps.Continue) w y = refl
-no_else (return e) w y = refl
-no_else (block all) w y = refl
 no_else (under (if_of e) s) w y = refl
-no_else (under (else_of e a) s) w y = refl
-no_else (under (while_of e) s) w y = refl
-no_else (under (for_of h) s) w y = refl
+no_else _ w y = refl
 
 no_else_all : (all : Sentences) → FitAllAs all → (y : List Word) → NoElse (written_all all (mark CloseBrace ∷ y))
 no_else_all no_more w y = refl
@@ -176,19 +166,12 @@ MayStand o b = b ≡ true → holds_items o ≡ true
 
 pub whole_under : (y : List Word) (w : Opening) (s : Sentence) (o : Outer) → (takes_else (under w s) ≡ true → NoElse y) → reads_at y (Done s (inside w o)) ≡ reads_at y (Done (under w s) o)
 whole_under [] (if_of e) s o h = refl
-whole_under [] (else_of e a) s o h = refl
-whole_under [] (while_of e) s o h = refl
-whole_under [] (for_of l) s o h = refl
 whole_under (t ∷ y) (if_of e) s o h = ap (λ b. then_on (cond b (to (Start (inside (else_of e s) o))) (done (under (if_of e) s) o t)) (λ n. reads y n) (Stuck (t ∷ y))) (h refl)
-whole_under (t ∷ y) (else_of e a) s o h = refl
-whole_under (t ∷ y) (while_of e) s o h = refl
-whole_under (t ∷ y) (for_of l) s o h = refl
+whole_under _ _ s o h = refl
 
 pub takes_inner : (w : Opening) (s : Sentence) → takes_else s ≡ true → takes_else (under w s) ≡ true
 takes_inner (if_of e) s h = refl
-takes_inner (else_of e a) s h = h
-takes_inner (while_of e) s h = h
-takes_inner (for_of l) s h = h
+takes_inner _ s h = h
 
 -- what holds statements: a block, or the body of a function
 pub data Holder : Type 0 where
@@ -271,16 +254,12 @@ struct_reads (d ∷ rest) w all n y =
 
 initial_constant : (c : Constant) (all : List Part) (d : Declaring) (y : List Word) → reads_at (constant_word c ∷ (mark Semicolon ∷ y)) (InitialWant all d) ≡ reads_at y (Top (with_part all (global d (initially false c))))
 initial_constant (constants.Number n) all d y = refl
-initial_constant (constants.Character c) all d y = refl
-initial_constant constants.Null all d y = refl
+initial_constant _ all d y = refl
 
 form_reads : (form : Form) → FitsForm form → (all : List Part) (d : Declaring) (y : List Word) → reads_at (form_words form (mark Semicolon ∷ y)) (Named (on_top all) d.typing d.named) ≡ reads_at y (Top (with_part all (global d form)))
-form_reads single w all d y = refl
-form_reads (array n) w all d y = refl
-form_reads (initially true (constants.Number n)) w all d y = refl
-form_reads (initially true (constants.Character c)) w all d y = refl
 form_reads (initially true constants.Null) w all d y = absurd w
 form_reads (initially false c) w all d y = initial_constant c all d y
+form_reads _ w all d y = refl
 
 further_reads : (rest : List Declaring) → FitAllDeclaring rest → (all : List Part) (r : Typing) (f : List ℕ) (before : List Declaring) (d : Declaring) (y : List Word) → reads_at (further_words rest (mark CloseParenthesis ∷ (mark OpenBrace ∷ y))) (Named (parameter_of all r f before) d.typing d.named) ≡ reads_at y (Start (body all r f (before ++ d ∷ rest) no_more))
 further_reads [] w all r f before d y = refl

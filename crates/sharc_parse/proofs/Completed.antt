@@ -206,8 +206,7 @@ low_declares as_first d i o s l r m h = ((s, l), r, h)
 
 pub around_most : (o : Outer) → LowOuter o → around_it o ≤ 64
 around_most (body all r f given s) l = omega arith
-around_most (items all o) l = omega (arith, l.1)
-around_most (inside w o) l = omega (arith, l.1)
+around_most _ l = omega (arith, l.1)
 
 complete_doing : (d : DoingPlace) (x : Doing) (o : Outer) → FitsDoing x → DoingAt d → Outside o → Completed (λ y. outside o (doing_place_words d (doing_words x y))) (LowDoing x × LowDoingPlace d o × LowOuter o)
 complete_doing (in_line p) x o w h a =
@@ -353,11 +352,7 @@ complete_global all d form before front a w v e =
 
 pub depth_most : (k : Cont) → LowAround k → depth k ≤ 64
 depth_most (part p o) l = omega arith
-depth_most (beneath u k) l = omega (arith, l.0)
-depth_most (right_of a o k) l = omega (arith, l.0)
-depth_most (fronted f k) l = omega (arith, l.0)
-depth_most (indexing a k) l = omega (arith, l.0)
-depth_most (arguments f all k) l = omega (arith, l.0)
+depth_most _ l = omega (arith, l.0)
 
 pub completed : (c : Core) → Sound c → Completed (so_far c) (LowCore c)
 completed (Want k) a =

@@ -9,9 +9,8 @@ pub array_number : (all : List Part) (d : Declaring) (n : Number) (y : List Word
 array_number all d n y = refl
 
 pub no_number : (all : List Part) (d : Declaring) (ts : List Word) → NoNumber ts → reads_within ts (At [] (ArrayWant all d)) ≡ StuckAt ts
-no_number all d [] h = refl
 no_number all d (number n ∷ y) h = absurd h
-no_number all d (_ ∷ y) h = refl
+no_number all d _ h = refl
 
 pub array_ends : (all : List Part) (y : List Word) → reads_within (mark CloseBracket ∷ y) (At (a_bracket ∷ (a_semicolon ∷ [])) (Top all)) ≡ reads_within y (At (a_semicolon ∷ []) (Top all))
 array_ends all y = refl
@@ -23,20 +22,17 @@ pub minus_goes : (all : List Part) (d : Declaring) (y : List Word) → reads_wit
 minus_goes all d y = refl
 
 pub signed_goes : (all : List Part) (d : Declaring) (c : Constant) (y : List Word) → IsSigned c → reads_within (constant_word c ∷ y) (At [] (InitialNegative all d)) ≡ reads_within y (At (a_semicolon ∷ []) (Top (with_form all d (initially true c))))
-signed_goes all d (constants.Number n) y h = refl
-signed_goes all d (constants.Character c) y h = refl
 signed_goes all d constants.Null y h = absurd h
+signed_goes all d _ y h = refl
 
 pub no_signed : (all : List Part) (d : Declaring) (ts : List Word) → NoSigned ts → reads_within ts (At [] (InitialNegative all d)) ≡ StuckAt ts
-no_signed all d [] h = refl
 no_signed all d (number n ∷ y) h = absurd h
 no_signed all d (character n ∷ y) h = absurd h
-no_signed all d (_ ∷ y) h = refl
+no_signed all d _ h = refl
 
 pub constant_goes : (all : List Part) (d : Declaring) (c : Constant) (y : List Word) → reads_within (constant_word c ∷ y) (At [] (InitialWant all d)) ≡ reads_within y (At (a_semicolon ∷ []) (Top (with_form all d (initially false c))))
 constant_goes all d (constants.Number n) y = refl
-constant_goes all d (constants.Character c) y = refl
-constant_goes all d constants.Null y = refl
+constant_goes all d _ y = refl
 
 no_constant_step : (all : List Part) (d : Declaring) (t : Word) → (t ≡ mark Minus → ⊥) → ((c : Constant) → t ≡ constant_word c → ⊥) → initial_want all d t ≡ None
 no_constant_step all d (mark Minus) m h = absurd (m refl)

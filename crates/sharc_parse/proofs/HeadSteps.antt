@@ -1,7 +1,7 @@
 -- The machine's steps over the head of a `for`, and over what a `return` gives.
 use Rattle.std.proofs.{Common.{◌≡◌, ℕ, ◌+◌, ◌≤◌, ◌<◌, List, [], ◌∷◌, Option, Some, None, refl, ap, ◌∙◌, arith, true, false}, lemmas.Bool.lt-leb}
 use Rattle.sharc_tree.specs.{declared.token.Punctuator.TheVariants.{Semicolon, OpenParenthesis, CloseParenthesis}, declared.token.Token.Token, declared.tree.expression.Expr.Expr, declared.tree.statement.Simple.Simple, declared.tree.statement.ForFirst.ForFirst, View.{view_expr, view_option, view_simple, view_first}}
-use Rattle.sharc_parse.specs.{Grammar.{Word, mark, Phrase, Doing, Line}, Machine.{Outer, inside, as_first, as_step, Cont, part, subject, Want, Have, Start, ForOpen, ForTest, ForStep, an_open, At, leave, loop, doing_end, floor, grip}, Limits.{StuckAt, next_within, reads_within, around_it, depth, crowded}, Places.{site_in, line_size, option_size, first_at, option_at, step_at}, Goes.{NotAt, NoMalloc, from, Past}, Simples.{doing_state, EndsDoing, doing_within}, Lines.{line_within, line_of, ReadsLine, IsLinePlaced}, Heads.{Tail, by_return, by_test, tail_place, before_tail, behind_tail, ReadsTail, IsTailPlaced, step_of, ReadsStep, IsStepPlaced, ReadsHead, IsHeadPlaced}, declared.token.ReadingFault.ReadingFault, declared.token.ReadingFault.TheVariants.{Memory, Wrong, Deep}, Rights.option_of}
+use Rattle.sharc_parse.specs.{Grammar.{Word, mark, Phrase, Doing, Line}, Machine.{Outer, inside, as_first, as_step, Cont, part, subject, Want, Have, Start, ForOpen, ForTest, ForStep, an_open, At, leave, loop, doing_end, floor, grip}, Limits.{StuckAt, next_within, reads_within, around_it, depth, crowded}, Places.{site_in, line_size, option_size, first_at, option_at, step_at}, Goes.{NotAt, NoMalloc, from, Past}, Simples.{doing_state, EndsDoing, doing_within}, Lines.{line_within, line_of, ReadsLine, IsLinePlaced}, Heads.{Tail, by_return, by_test, tail_place, before_tail, behind_tail, ReadsTail, IsTailPlaced, step_of, ReadsStep, IsStepPlaced, ReadsHead, IsHeadPlaced}, declared.token.ReadingFault.ReadingFault, declared.token.ReadingFault.TheVariants.Memory, Rights.option_of}
 use Rattle.std.specs.Prelude.{Ok, Err}
 use Rattle.sharc_tree.specs.Tree as tree
 use Rattle.sharc_parse.proofs.{Steps.{passes, fixed_goes}, RightSteps.ends_place, SimpleSteps.doing_ends}
@@ -16,12 +16,9 @@ pub tail_empty : (q : Tail) (o : Outer) (ts y : List Word) → ts ≡ mark Semic
 tail_empty q o ts y e = ap (λ ts. reads_within ts (before_tail q o)) e ∙ empty_goes q o y
 
 pub tail_begins : (q : Tail) (o : Outer) (ts : List Word) → NotAt (mark Semicolon) ts → reads_within ts (before_tail q o) ≡ reads_within ts (At [] (Want (part (tail_place q) o)))
-tail_begins by_return o [] n = refl
-tail_begins (by_test l) o [] n = refl
 tail_begins by_return o (mark Semicolon ∷ y) n = absurd (n refl)
-tail_begins by_return o (_ ∷ y) n = refl
 tail_begins (by_test l) o (mark Semicolon ∷ y) n = absurd (n refl)
-tail_begins (by_test l) o (_ ∷ y) n = refl
+tail_begins _ o _ n = refl
 
 pub record FitsThere (k : Cont) (all : List Word) : Type 0 where
   pub floor_is : floor k ≤ 1
@@ -46,9 +43,8 @@ tail_ends q o x ts y e =
 
 tail_no : (q : Tail) (o : Outer) (x : Phrase) (t : Word) → (t ≡ mark Semicolon → ⊥) → leave (tail_place q) x o t ≡ None
 tail_no by_return o x (mark Semicolon) n = absurd (n refl)
-tail_no by_return o x _ n = refl
 tail_no (by_test l) o x (mark Semicolon) n = absurd (n refl)
-tail_no (by_test l) o x _ n = refl
+tail_no _ o x _ n = refl
 
 -- the `;` is missing
 pub tail_stuck : (q : Tail) (o : Outer) (x : Phrase) (ts : List Word) → grip ts < 1 → NotAt (mark Semicolon) ts → reads_within ts (At [] (Have x (part (tail_place q) o))) ≡ StuckAt ts
@@ -64,9 +60,8 @@ pub step_empty : (l : Line) (e : Option Phrase) (o : Outer) (ts y : List Word) �
 step_empty l e o ts y is h = ap (λ ts. reads_within ts (At [] (ForStep l e o))) is ∙ closes l e None o y h
 
 pub step_begins : (l : Line) (e : Option Phrase) (o : Outer) (ts : List Word) → NotAt (mark CloseParenthesis) ts → reads_within ts (At [] (ForStep l e o)) ≡ reads_within ts (At [] (Want (part (subject (as_step l e)) o)))
-step_begins l e o [] n = refl
 step_begins l e o (mark CloseParenthesis ∷ y) n = absurd (n refl)
-step_begins l e o (_ ∷ y) n = refl
+step_begins l e o _ n = refl
 
 pub step_ends : (l : Line) (e : Option Phrase) (o : Outer) (x : Doing) (ts y : List Word) → ts ≡ mark CloseParenthesis ∷ y → EndsDoing x ts → around_it o < 63 → reads_within ts (doing_state (as_step l e) o x) ≡ reads_within y (At [] (Start (inside (loop l e (Some x)) o)))
 step_ends l e o x ts y is f h = doing_ends (as_step l e) o x ts f ∙ ap (doing_within (as_step l e) x o) is ∙ closes l e (Some x) o y h
@@ -101,17 +96,15 @@ head_first tokens old mid new f s r o h =
     ∙ r as_first o refl refl
 
 pub head_test_wrong : (e : ReadingFault) (tokens : List Token) (old mid next new : ℕ) (f : ForFirst) → Past (mark OpenParenthesis) tokens old mid → ReadsLine true false (Ok f) (from tokens mid) (from tokens next) → ReadsTail (Err e) (from tokens next) (from tokens new) → ReadsHead (Err e) (from tokens old) (from tokens new)
-head_test_wrong Wrong tokens old mid next new f s r t o h = head_first tokens old mid next f s r o h ∙ t (by_test (line_of f)) o
-head_test_wrong Deep tokens old mid next new f s r t o h = head_first tokens old mid next f s r o h ∙ t (by_test (line_of f)) o
 head_test_wrong Memory tokens old mid next new f s r t o h = tt
+head_test_wrong _ tokens old mid next new f s r t o h = head_first tokens old mid next f s r o h ∙ t (by_test (line_of f)) o
 
 head_second : (tokens : List Token) (old mid next new : ℕ) (f : ForFirst) (x : Option Expr) → Past (mark OpenParenthesis) tokens old mid → ReadsLine true false (Ok f) (from tokens mid) (from tokens next) → ReadsTail (Ok x) (from tokens next) (from tokens new) → (o : Outer) → around_it o < 63 → reads_within (from tokens old) (At (an_open ∷ []) (ForOpen o)) ≡ reads_within (from tokens new) (At [] (ForStep (line_of f) (option_of x) o))
 head_second tokens old mid next new f x s r t o h = head_first tokens old mid next f s r o h ∙ t (by_test (line_of f)) o
 
 pub head_step_wrong : (e : ReadingFault) (tokens : List Token) (old mid next last new : ℕ) (f : ForFirst) (x : Option Expr) → Past (mark OpenParenthesis) tokens old mid → ReadsLine true false (Ok f) (from tokens mid) (from tokens next) → ReadsTail (Ok x) (from tokens next) (from tokens last) → ReadsStep (Err e) (from tokens last) (from tokens new) → ReadsHead (Err e) (from tokens old) (from tokens new)
-head_step_wrong Wrong tokens old mid next last new f x s r t z o h = head_second tokens old mid next last f x s r t o h ∙ z (line_of f) (option_of x) o h
-head_step_wrong Deep tokens old mid next last new f x s r t z o h = head_second tokens old mid next last f x s r t o h ∙ z (line_of f) (option_of x) o h
 head_step_wrong Memory tokens old mid next last new f x s r t z o h = tt
+head_step_wrong _ tokens old mid next last new f x s r t z o h = head_second tokens old mid next last f x s r t o h ∙ z (line_of f) (option_of x) o h
 
 pub head_done : (tokens : List Token) (old mid next last new : ℕ) (f : ForFirst) (x : Option Expr) (y : Option Simple) → Past (mark OpenParenthesis) tokens old mid → ReadsLine true false (Ok f) (from tokens mid) (from tokens next) → ReadsTail (Ok x) (from tokens next) (from tokens last) → ReadsStep (Ok y) (from tokens last) (from tokens new) → ReadsHead (Ok (record { first = f; test = x; step = y })) (from tokens old) (from tokens new)
 head_done tokens old mid next last new f x y s r t z o h = head_second tokens old mid next last f x s r t o h ∙ z (line_of f) (option_of x) o h

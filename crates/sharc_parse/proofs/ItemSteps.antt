@@ -3,7 +3,7 @@ use Rattle.std.proofs.Common.{◌≡◌, ℕ, ◌+◌, List, [], ◌∷◌, refl
 use Rattle.std.specs.Prelude.{Result, Ok, Err, None}
 use Rattle.sharc_tree.specs.Tree as tree
 use Rattle.sharc_tree.specs.{declared.token.Token.Token, declared.token.Site.Site, declared.token.Span.Span, declared.token.Punctuator.TheVariants.OpenBrace, declared.tree.declaration.Identifier.Identifier, declared.tree.declaration.WrittenType.WrittenType, declared.tree.declaration.Declaration.Declaration, declared.tree.statement.Stmt.Stmt, declared.tree.item.Item.Item}
-use Rattle.sharc_parse.specs.{Grammar.{mark, Typing, Part, structure, no_more}, Machine.{on_top, body, parameter_of, naming, TypeWant, Start, Top, a_brace, At, with_part, function_of}, Limits.reads_within, Places.{span_at, name_at, fields_size, part_size, declarations_at, item_at}, declared.token.ReadingFault.ReadingFault, declared.token.ReadingFault.TheVariants.{Memory, Wrong, Deep}, View.bare_type, Goes.{from, Past, NotAt, Goes}, Types.{ReadsType, EndsType}, Locals.struct_type, Fields.declared, Statements.sentences_of, Nested.ReadsStatements, Parameters.ReadsParameters, Items.{part_of, OpensStruct, ReadsFunction, ReadsNamed, ReadsItem}}
+use Rattle.sharc_parse.specs.{Grammar.{mark, Typing, Part, structure, no_more}, Machine.{on_top, body, parameter_of, naming, TypeWant, Start, Top, a_brace, At, with_part, function_of}, Limits.reads_within, Places.{span_at, name_at, fields_size, part_size, declarations_at, item_at}, declared.token.ReadingFault.ReadingFault, declared.token.ReadingFault.TheVariants.Memory, View.bare_type, Goes.{from, Past, NotAt, Goes}, Types.{ReadsType, EndsType}, Locals.struct_type, Fields.declared, Statements.sentences_of, Nested.ReadsStatements, Parameters.ReadsParameters, Items.{part_of, OpensStruct, ReadsFunction, ReadsNamed, ReadsItem}}
 
 abbrev made_struct : Span → Identifier → List Declaration → tree.Item
 made_struct sp name fields = tree.structure (record { span = sp; name = name; fields = fields })
@@ -27,9 +27,8 @@ function_begins see v t n tokens old mid next r e all = r all t n ∙ ap (λ ts.
 
 -- the body is wrong
 pub function_wrong : {A B : Type 0} (see : A → List Declaration) (look : B → List Stmt) (v : A) (e : ReadingFault) (t : Typing) (n : List ℕ) (tokens : List Token) (old mid next new : ℕ) → ReadsParameters see (Ok v) (from tokens old) (from tokens mid) → Past (mark OpenBrace) tokens mid next → ReadsStatements look 63 (Err e) (from tokens next) (from tokens new) → ReadsFunction t n (Err e) (from tokens old) (from tokens new)
-function_wrong see look v Wrong t n tokens old mid next new r p b all = function_begins see v t n tokens old mid next r p all ∙ b (body all t n (declared (see v)) no_more) refl refl
-function_wrong see look v Deep t n tokens old mid next new r p b all = function_begins see v t n tokens old mid next r p all ∙ b (body all t n (declared (see v)) no_more) refl refl
 function_wrong see look v Memory t n tokens old mid next new r p b all = tt
+function_wrong see look v _ t n tokens old mid next new r p b all = function_begins see v t n tokens old mid next r p all ∙ b (body all t n (declared (see v)) no_more) refl refl
 
 pub function_read : {A B : Type 0} (see : A → List Declaration) (look : B → List Stmt) (v : A) (w : B) (given : List Declaration) (t : Typing) (n : List ℕ) (tokens : List Token) (old mid next new : ℕ) → given ≡ see v → ReadsParameters see (Ok v) (from tokens old) (from tokens mid) → Past (mark OpenBrace) tokens mid next → ReadsStatements look 63 (Ok w) (from tokens next) (from tokens new) → (all : List Part) → reads_within (from tokens old) (At [] (TypeWant (naming (parameter_of all t n [])))) ≡ reads_within (from tokens new) (At [] (Top (with_part all (function_of t n (declared given) (sentences_of (look w))))))
 function_read see look v w given t n tokens old mid next new is r p b all =

@@ -5,27 +5,19 @@ use Rattle.sharc_tree.specs.declared.ctype.Base.TheVariants as base
 use Rattle.sharc_tree.specs.declared.tree.expression.ValueCall.TheVariants as value_call
 use Rattle.sharc_tree.specs.declared.tree.expression.PlaceCall.TheVariants as place_call
 use Rattle.sharc_tree.specs.declared.token.Keyword.TheVariants as key
-use Rattle.sharc_parse.specs.{Grammar.{Word, name, keyword, mark, Sharing, private, readonly, racy, dynamic, locked, locked_through, Typing, Declaring, Front, parenthesis, of_spawn, of_value, of_place, of_cast, Phrase, identifier, constant, enclosed, call, index, field, unary, binary, Phrases, none, more, Value, value, malloc, Doing, assign, invoke, Line, nothing, does, declares, Loop, Sentence, line, jump, return, block, under, Sentences, no_more, sentence, Opening, if_of, else_of, while_of, for_of, Form, single, array, initially, Part, structure, global, function, sharing_words, level_words, base_words, levels_words, list_words, type_words, declaring_words, front_words, words, words_of_all, words_of_rest, access_mark, operator_mark, option_words, count_words, value_words, doing_words, initial_words, line_words, step_words, loop_words, written, written_all, opening_words, form_words, fields_words, parameters_words, part_words, program_words}, Places.{sharing_size, level_size, base_size, levels_size, type_size, declaring_size, front_size, size, sizes, rest_size, option_size, count_size, value_size, doing_size, initial_size, line_size, step_size, sentence_size, all_size, opening_size, fields_size, parameters_size, form_size, part_size}}
+use Rattle.sharc_parse.specs.{Grammar.{Word, name, keyword, mark, Sharing, locked, Typing, Declaring, Front, of_value, of_place, of_cast, Phrase, enclosed, call, index, field, unary, binary, Phrases, none, more, Value, value, malloc, Doing, assign, invoke, Line, nothing, does, declares, Loop, Sentence, line, jump, return, block, under, Sentences, no_more, sentence, Opening, if_of, else_of, while_of, for_of, Form, array, initially, Part, structure, global, function, sharing_words, level_words, base_words, levels_words, list_words, type_words, declaring_words, front_words, words, words_of_all, words_of_rest, access_mark, operator_mark, option_words, count_words, value_words, doing_words, initial_words, line_words, step_words, loop_words, written, written_all, opening_words, form_words, fields_words, parameters_words, part_words, program_words}, Places.{sharing_size, level_size, base_size, levels_size, type_size, declaring_size, front_size, size, sizes, rest_size, option_size, count_size, value_size, doing_size, initial_size, line_size, step_size, sentence_size, all_size, opening_size, fields_size, parameters_size, form_size, part_size}}
 
 sharing_length : (x : Sharing) (y : List Word) → length (sharing_words x y) ≡ sharing_size x + length y
-sharing_length private y = omega arith
-sharing_length readonly y = omega arith
-sharing_length racy y = omega arith
-sharing_length dynamic y = omega arith
 sharing_length (locked m) y = omega arith
-sharing_length (locked_through x m) y = omega arith
+sharing_length _ y = omega arith
 
 level_length : (x : Option Sharing) (y : List Word) → length (level_words x y) ≡ level_size x + length y
 level_length None y = omega arith
 level_length (Some x) y = sharing_length x y
 
 base_length : (b : Base) (y : List Word) → length (base_words b y) ≡ base_size b + length y
-base_length base.Int y = omega arith
-base_length base.Char y = omega arith
-base_length base.Long y = omega arith
-base_length base.Mutex y = omega arith
-base_length base.Void y = omega arith
 base_length (base.Struct x) y = omega arith
+base_length _ y = omega arith
 
 levels_length : (first : Bool) (b : Base) (m : Option Sharing) (below : List (Option Sharing)) (y : List Word) → length (levels_words first b m below y) ≡ levels_size b (m ∷ below) + length y
 levels_length true b m [] y = omega (arith, level_length m (base_words b y), base_length b y)
@@ -43,25 +35,20 @@ declaring_length : (d : Declaring) (y : List Word) → length (declaring_words d
 declaring_length d y = omega (arith, type_length d.typing (name d.named ∷ y))
 
 front_length : (f : Front) (y : List Word) → length (front_words f y) ≡ front_size f + length y
-front_length parenthesis y = omega arith
-front_length (of_spawn x) y = omega arith
 front_length (of_value value_call.Join) y = omega arith
-front_length (of_value value_call.Print) y = omega arith
 front_length (of_place place_call.Lock) y = omega arith
-front_length (of_place place_call.Unlock) y = omega arith
-front_length (of_place place_call.Free) y = omega arith
 front_length (of_cast t) y = omega (arith, type_length t (mark Comma ∷ y))
+front_length _ y = omega arith
 
 mutual
   words_length : (x : Phrase) (y : List Word) → length (words x y) ≡ size x + length y
-  words_length (identifier n) y = omega arith
-  words_length (constant c) y = omega arith
   words_length (enclosed f a) y = omega (arith, front_length f (words a (mark CloseParenthesis ∷ y)), words_length a (mark CloseParenthesis ∷ y))
   words_length (call f all) y = omega (arith, all_length all (mark CloseParenthesis ∷ y))
   words_length (index a i) y = omega (arith, words_length a (mark OpenBracket ∷ words i (mark CloseBracket ∷ y)), words_length i (mark CloseBracket ∷ y))
   words_length (field a w n) y = omega (arith, words_length a (mark (access_mark w) ∷ (name n ∷ y)))
   words_length (unary o a) y = omega (arith, words_length a y)
   words_length (binary o a b) y = omega (arith, words_length a (mark (operator_mark o) ∷ words b y), words_length b y)
+  words_length _ y = omega arith
 
   all_length : (all : Phrases) (y : List Word) → length (words_of_all all y) ≡ sizes all + length y
   all_length none y = omega arith
@@ -126,10 +113,9 @@ mutual
   opening_length (for_of h) y = loop_length h y
 
 form_length : (x : Form) (y : List Word) → length (form_words x y) ≡ form_size x + length y
-form_length single y = omega arith
 form_length (array n) y = omega arith
 form_length (initially true c) y = omega arith
-form_length (initially false c) y = omega arith
+form_length _ y = omega arith
 
 fields_length : (all : List Declaring) (y : List Word) → length (fields_words all y) ≡ fields_size all + length y
 fields_length [] y = omega arith

@@ -87,7 +87,6 @@ abbrev crowd : LinePlace → Outer → Cont
 crowd p o = part (subject (in_line p)) o
 
 crowded_operand : (p : LinePlace) (o : Outer) (ts : List Word) → crowded_line p o ≡ true → reads_within ts (At [] (Want (crowd p o))) ≡ cond (starts_operand ts) (Over ts) (StuckAt ts)
-crowded_operand p o [] c = refl
 crowded_operand p o (name n ∷ y) c = fails (At [] (Have (identifier n) (crowd p o))) y (name n ∷ y) c
 crowded_operand p o (number n ∷ y) c = fails (At [] (Have (constant (constants.Number n)) (crowd p o))) y (number n ∷ y) c
 crowded_operand p o (character n ∷ y) c = fails (At [] (Have (constant (constants.Character n)) (crowd p o))) y (character n ∷ y) c
@@ -104,7 +103,7 @@ crowded_operand p o (keyword key.Lock ∷ y) c = fails (At (an_open ∷ (an_ampe
 crowded_operand p o (keyword key.Unlock ∷ y) c = fails (At (an_open ∷ (an_ampersand ∷ [])) (Want (fronted (of_place place_call.Unlock) (crowd p o)))) y (keyword key.Unlock ∷ y) (ap (λ b. cond b true false) c)
 crowded_operand p o (keyword key.Free ∷ y) c = fails (At (an_open ∷ []) (Want (fronted (of_place place_call.Free) (crowd p o)))) y (keyword key.Free ∷ y) (ap (λ b. cond b true false) c)
 crowded_operand p o (keyword key.Scast ∷ y) c = fails (At (an_open ∷ []) (TypeWant (casting (crowd p o)))) y (keyword key.Scast ∷ y) (ap (λ b. cond b true false) c)
-crowded_operand p o (_ ∷ y) c = refl
+crowded_operand p o _ c = refl
 
 abbrev IsOther : Word → Type 0
 IsOther (mark Semicolon) = ⊥

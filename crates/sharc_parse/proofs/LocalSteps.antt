@@ -3,7 +3,7 @@ use Rattle.std.proofs.Common.{◌≡◌, ℕ, ◌+◌, List, [], ◌∷◌, Opti
 use Rattle.std.specs.Prelude.{map, Ok}
 use Rattle.sharc_tree.specs.{declared.token.Site.Site, declared.token.Span.Span, declared.token.Punctuator.TheVariants.{Assign, Star, Comma, CloseParenthesis, OpenBrace}, declared.ctype.Base.Base, declared.tree.declaration.WrittenType.WrittenType, declared.tree.declaration.Declaration.Declaration}
 use Rattle.sharc_tree.specs.declared.ctype.Base.TheVariants as base
-use Rattle.sharc_parse.specs.{Grammar.{Word, name, mark, Sharing, Typing, Part}, Machine.{Outer, LinePlace, NamePlace, on_top, field_of, parameter_of, local, naming, of_local, part, valued, Want, Named, At, typed, close_type, open_type, declaring_of}, Limits.{StuckAt, next_within, reads_within}, Places.{span_at, type_size, type_at, declaring_size, declaration_at}, View.{bare_level, bare_type, bare_declaration}, Goes.NoName, Types.{EndsLevel, EndsLevels, EndsType, typed_levels, typed_state}, Locals.{void_type, struct_type, IsPlainAt, IsPlainPlace}}
+use Rattle.sharc_parse.specs.{Grammar.{Word, name, mark, Sharing, Typing, Part}, Machine.{Outer, LinePlace, NamePlace, on_top, parameter_of, local, naming, of_local, part, valued, Want, Named, At, typed, close_type, open_type, declaring_of}, Limits.{StuckAt, next_within, reads_within}, Places.{span_at, type_size, type_at, declaring_size, declaration_at}, View.{bare_level, bare_type, bare_declaration}, Goes.NoName, Types.{EndsLevel, EndsLevels, EndsType, typed_levels, typed_state}, Locals.{void_type, struct_type, IsPlainAt, IsPlainPlace}}
 use Rattle.sharc_parse.proofs.TypeSteps.{no_level}
 
 abbrev typing_with : Bool → Base → List (Option Sharing) → Typing
@@ -26,17 +26,12 @@ no_open all false (base.Struct x) None [] n = absurd (n x refl)
 no_open all _ _ _ _ n = refl
 
 close_none : (p : NamePlace) (first : Bool) (b : Base) (m : Option Sharing) (below : List (Option Sharing)) (y : List Word) → IsPlainAt p (typing_with first b (m ∷ below)) (mark CloseParenthesis ∷ y) → close_type (naming p) first b m below ≡ None
-close_none (on_top all) first b m below y h = refl
-close_none (field_of all s f) first b m below y h = refl
 close_none (parameter_of all r f []) first b m below y h = no_close all r f first b m below (λ e. h e refl)
-close_none (parameter_of all r f (d ∷ rest)) first b m below y h = refl
-close_none (local l o) first b m below y h = refl
+close_none _ first b m below y h = refl
 
 open_none : (p : NamePlace) (first : Bool) (b : Base) (m : Option Sharing) (below : List (Option Sharing)) (y : List Word) → IsPlainAt p (typing_with first b (m ∷ below)) (mark OpenBrace ∷ y) → open_type (naming p) first b m below ≡ None
 open_none (on_top all) first b m below y h = no_open all first b m below (λ x e. h x e refl)
-open_none (field_of all s f) first b m below y h = refl
-open_none (parameter_of all r f before) first b m below y h = refl
-open_none (local l o) first b m below y h = refl
+open_none _ first b m below y h = refl
 
 named_ends : (p : NamePlace) (first : Bool) (b : Base) (m : Option Sharing) (below : List (Option Sharing)) (t : Word) (y : List Word) → EndsLevel true m (t ∷ y) → (t ≡ mark Star → ⊥) → NoName (t ∷ y) → IsPlainAt p (typing_with first b (m ∷ below)) (t ∷ y) → typed (naming p) first b m below t ≡ None
 named_ends p first b m below (mark Star) y e s n h = absurd (s refl)
@@ -57,10 +52,8 @@ no_name_there p t ts e n h = stuck_levels p t.mode_first t.ctype.base (map bare_
 
 pub plain_there : (p : NamePlace) (t : Typing) (ts : List Word) → IsPlainPlace p → IsPlainAt p t ts
 plain_there (on_top all) t ts h = absurd h
-plain_there (field_of all s f) t ts h = tt
 plain_there (parameter_of all r f []) t ts h = absurd h
-plain_there (parameter_of all r f (d ∷ rest)) t ts h = tt
-plain_there (local l o) t ts h = tt
+plain_there _ t ts h = tt
 
 pub initial_goes : (p : LinePlace) (o : Outer) (t : Typing) (n : List ℕ) (y : List Word) → reads_within (mark Assign ∷ y) (At [] (Named (local p o) t n)) ≡ reads_within y (At [] (Want (part (valued (of_local p (declaring_of t n))) o)))
 initial_goes p o t n y = refl

@@ -9,7 +9,7 @@ use Rattle.sharc_tree.specs.declared.tree.expression.ValueCall.TheVariants as va
 use Rattle.sharc_tree.specs.declared.tree.expression.PlaceCall.TheVariants as place_call
 use Rattle.sharc_tree.specs.declared.tree.statement.Jump.TheVariants as jumps
 use Rattle.sharc_tree.specs.declared.token.Keyword.TheVariants as key
-use Rattle.sharc_parse.specs.{Grammar.{Word, name, keyword, mark, Sharing, private, readonly, racy, dynamic, locked, locked_through, Typing, Declaring, Front, parenthesis, of_spawn, of_value, of_place, of_cast, Phrase, identifier, constant, enclosed, call, index, field, unary, binary, Phrases, none, more, Value, value, malloc, Doing, assign, invoke, Declared, Line, nothing, does, declares, Loop, Sentence, line, jump, return, block, under, Sentences, no_more, sentence, Opening, if_of, else_of, while_of, for_of, Form, single, array, initially, Callable, Part, structure, global, function, sharing_words, level_words, base_words, levels_words, list_words, type_words, declaring_words, access_mark, operator_mark, jump_word, constant_word, front_words, words, words_of_all, words_of_rest, option_words, count_words, value_words, doing_words, initial_words, line_words, step_words, loop_words, written, written_all, opening_words, form_words, fields_words, parameters_words, part_words, program_words}, Places.{kind_word, words_of, sharing_size, level_size, base_size, levels_size, type_size, declaring_size, front_size, size, sizes, rest_size, option_size, count_size, value_size, doing_size, initial_size, local_size, line_size, step_size, sentence_size, all_size, opening_size, fields_size, parameters_size, form_size, part_size, mode_at, level_at, levels_at, base_name, base_place, type_at, declaration_at, front_at, expression_at, arguments_at, option_at, value_at, doing_at, initial_at, local_at, first_at, step_at, head_at, line_at, statement_at, statements_at, under_at, declarations_at, item_at, items_at}}
+use Rattle.sharc_parse.specs.{Grammar.{Word, name, keyword, mark, Sharing, locked, locked_through, Typing, Declaring, Front, parenthesis, of_spawn, of_value, of_place, of_cast, Phrase, identifier, constant, enclosed, call, index, field, unary, binary, Phrases, none, more, Value, value, malloc, Doing, assign, invoke, Declared, Line, nothing, does, declares, Loop, Sentence, line, jump, return, block, under, Sentences, no_more, sentence, Opening, if_of, else_of, while_of, for_of, Form, single, array, initially, Callable, Part, structure, global, function, sharing_words, level_words, base_words, levels_words, list_words, type_words, declaring_words, access_mark, operator_mark, jump_word, constant_word, front_words, words, words_of_all, words_of_rest, option_words, count_words, value_words, doing_words, initial_words, line_words, step_words, loop_words, written, written_all, opening_words, form_words, fields_words, parameters_words, part_words, program_words}, Places.{kind_word, words_of, sharing_size, level_size, base_size, levels_size, type_size, declaring_size, front_size, size, sizes, rest_size, option_size, count_size, value_size, doing_size, initial_size, local_size, line_size, step_size, sentence_size, all_size, opening_size, fields_size, parameters_size, form_size, part_size, mode_at, level_at, levels_at, base_name, base_place, type_at, declaration_at, front_at, expression_at, arguments_at, option_at, value_at, doing_at, initial_at, local_at, first_at, step_at, head_at, line_at, statement_at, statements_at, under_at, declarations_at, item_at, items_at}}
 
 abbrev pub word_marks : Word → ℕ → List Mark
 word_marks (name t) n = a_name n t ∷ []
@@ -22,12 +22,8 @@ marked n [] = []
 marked n (w ∷ ws) = word_marks w n ++ marked (n + 1) ws
 
 kind_same : (k : TokenKind) (text : List ℕ) (n : ℕ) → kind_marks k text n ≡ word_marks (kind_word k text) n
-kind_same (kind.Keyword k) text n = refl
-kind_same kind.Identifier text n = refl
 kind_same (kind.Number v) text n = refl
-kind_same (kind.Character c) text n = refl
-kind_same (kind.Punctuator p) text n = refl
-kind_same kind.LeftOut text n = refl
+kind_same _ text n = refl
 
 joined : (a b c d : List Mark) → a ≡ b → c ≡ d → a ++ c ≡ b ++ d
 joined a b c d h k = ap (λ z. z ++ c) h ∙ ap (λ z. b ++ z) k
@@ -60,14 +56,11 @@ also_named a b t l r h e = ap (λ z. a_name z t ∷ l) h ∙ ap (λ z. a_name b 
 -- types
 
 sharing_marked : (s : ℕ → Site) (v : Numbered s) (n i m : ℕ) (x : Sharing) (y : List Word) → i ≡ n → m ≡ n + sharing_size x → mode_marks (mode_at s n x) ++ marked m y ≡ marked i (sharing_words x y)
-sharing_marked s v n i m private y p q = renumbered m (i + 1) y (omega arith)
-sharing_marked s v n i m readonly y p q = renumbered m (i + 1) y (omega arith)
-sharing_marked s v n i m racy y p q = renumbered m (i + 1) y (omega arith)
-sharing_marked s v n i m dynamic y p q = renumbered m (i + 1) y (omega arith)
 sharing_marked s v n i m (locked t) y p q = named (s (n + 2)).token (i + 1 + 1) m (i + 1 + 1 + 1 + 1) t y (let e = v (n + 2) in omega (arith, e, p)) (omega arith)
 sharing_marked s v n i m (locked_through x t) y p q =
     also_named (s (n + 2)).token (i + 1 + 1) x _ _ (let e = v (n + 2) in omega (arith, e, p))
     (named ((s (n + 2)).token + 2) (i + 1 + 1 + 1 + 1) m (i + 1 + 1 + 1 + 1 + 1 + 1) t y (let e = v (n + 2) in omega (arith, e, p)) (omega arith))
+sharing_marked s v n i m _ y p q = renumbered m (i + 1) y (omega arith)
 
 level_marked : (s : ℕ → Site) (v : Numbered s) (n i m : ℕ) (x : Option Sharing) (y : List Word) → i ≡ n → m ≡ n + level_size x → level_marks (level_at s n x) ++ marked m y ≡ marked i (level_words x y)
 level_marked s v n i m None y p q = renumbered m i y (omega arith)
@@ -75,12 +68,8 @@ level_marked s v n i m (Some x) y p q = sharing_marked s v n i m x y p q
 
 -- a base at n, whose name has the number k
 base_marked : (n i m k : ℕ) (b : Base) (y : List Word) → i ≡ n → m ≡ n + base_size b → k ≡ base_name b n → base_marks b k ++ marked m y ≡ marked i (base_words b y)
-base_marked n i m k base.Int y p q r = renumbered m (i + 1) y (omega arith)
-base_marked n i m k base.Char y p q r = renumbered m (i + 1) y (omega arith)
-base_marked n i m k base.Long y p q r = renumbered m (i + 1) y (omega arith)
-base_marked n i m k base.Mutex y p q r = renumbered m (i + 1) y (omega arith)
-base_marked n i m k base.Void y p q r = renumbered m (i + 1) y (omega arith)
 base_marked n i m k (base.Struct x) y p q r = named k (i + 1) m (i + 1 + 1) x y (omega (arith, p, r)) (omega arith)
+base_marked n i m k _ y p q r = renumbered m (i + 1) y (omega arith)
 
 -- the levels below come before the star of the level above them
 more_level : (s : ℕ → Site) (n : ℕ) (first : Bool) (b : Base) (l : Option Mode) (all : List Mark) (k : Option Sharing) (below : List (Option Sharing)) → levels_marks first all (l ∷ levels_at s n first b (k ∷ below)) ≡ levels_marks first all (levels_at s n first b (k ∷ below)) ++ level_marks l
@@ -123,8 +112,7 @@ declaration_marked s v n i m d y p q =
 
 constant_marked : (i m : ℕ) (c : Constant) (y : List Word) → m ≡ i + 1 → marked m y ≡ marked i (constant_word c ∷ y)
 constant_marked i m (constants.Number k) y q = renumbered m (i + 1) y q
-constant_marked i m (constants.Character k) y q = renumbered m (i + 1) y q
-constant_marked i m constants.Null y q = renumbered m (i + 1) y q
+constant_marked i m _ y q = renumbered m (i + 1) y q
 
 -- what is marked after the front of an expression
 abbrev pub Behind : List Mark → ℕ → List Word → Type 0
@@ -134,16 +122,15 @@ front_marked : (s : ℕ → Site) (v : Numbered s) (n i : ℕ) (span : Span) (f 
 front_marked s v n i span parenthesis e r z p h b = b (i + 1) (omega (arith, p))
 front_marked s v n i span (of_spawn x) e r z p h b = also_named (s (n + 2)).token (i + 1 + 1) x _ _ (let t = v (n + 2) in omega (arith, t, p)) (b (i + 1 + 1 + 1 + 1) (omega (arith, p)))
 front_marked s v n i span (of_value value_call.Join) e r z p h b = b (i + 1 + 1) (omega (arith, p))
-front_marked s v n i span (of_value value_call.Print) e r z p h b = b (i + 1 + 1) (omega (arith, p))
 front_marked s v n i span (of_place place_call.Lock) e r z p h b = b (i + 1 + 1 + 1) (omega (arith, p))
 front_marked s v n i span (of_place place_call.Unlock) e r z p h b = b (i + 1 + 1 + 1) (omega (arith, p))
-front_marked s v n i span (of_place place_call.Free) e r z p h b = b (i + 1 + 1) (omega (arith, p))
 front_marked s v n i span (of_cast t) e r z p h b =
     let at = n + 2 + type_size t in
     let there : span.first.token ≡ i = omega (arith, p, h) in
     ap (λ k. a_cast k ∷ ((type_marks (type_at s (n + 2) t) ++ marks e) ++ r)) there
     ∙ ap (λ l. a_cast i ∷ l)
     (two (type_marks (type_at s (n + 2) t)) (marks e) r _ _ (b (at + 1) (omega arith)) (type_marked s v (n + 2) (i + 1 + 1) at t (mark Comma ∷ z) (omega (arith, p)) refl))
+front_marked s v n i span _ e r z p h b = b (i + 1 + 1) (omega (arith, p))
 
 mutual
   expression_marked : (s : ℕ → Site) (v : Numbered s) (n i m : ℕ) (x : Phrase) (y : List Word) → i ≡ n → m ≡ n + size x → marks (expression_at s n x) ++ marked m y ≡ marked i (words x y)
@@ -234,8 +221,7 @@ first_marked s v n i m (declares x) y p q = shifted _ _ m (n + local_size x + 1)
 
 line_marked : (s : ℕ → Site) (v : Numbered s) (n i m : ℕ) (x : Line) (y : List Word) → i ≡ n → m ≡ n + line_size x → statement_marks (line_at s n x) ++ marked m y ≡ marked i (line_words x y)
 line_marked s v n i m nothing y p q = renumbered m (i + 1) y (omega (arith, p, q))
-line_marked s v n i m (does x) y p q = first_marked s v n i m (does x) y p q
-line_marked s v n i m (declares x) y p q = first_marked s v n i m (declares x) y p q
+line_marked s v n i m k y p q = first_marked s v n i m k y p q
 
 step_marked : (s : ℕ → Site) (v : Numbered s) (n i m : ℕ) (x : Option Doing) (y : List Word) → i ≡ n → m ≡ n + step_size x → option_marks simple_marks (step_at s n x) ++ marked m y ≡ marked i (step_words x y)
 step_marked s v n i m None y p q = renumbered m i y (omega (arith, p, q))

@@ -21,10 +21,7 @@ keyword_stands all n _ text rest h s = from_earlier all n (n + 1) rest (omega ar
 kind_stands : (all : List Token) (n : ℕ) (k : TokenKind) (text : List ℕ) (rest : List Mark) → HasKind all n k text → Stand all (n + 1) rest → Stand all n (kind_marks k text n ++ rest)
 kind_stands all n (kind.Keyword k) text rest h s = keyword_stands all n k text rest h s
 kind_stands all n kind.Identifier text rest h s = (omega arith, h, s)
-kind_stands all n (kind.Number v) text rest h s = from_earlier all n (n + 1) rest (omega arith) s
-kind_stands all n (kind.Character c) text rest h s = from_earlier all n (n + 1) rest (omega arith) s
-kind_stands all n (kind.Punctuator p) text rest h s = from_earlier all n (n + 1) rest (omega arith) s
-kind_stands all n kind.LeftOut text rest h s = from_earlier all n (n + 1) rest (omega arith) s
+kind_stands all n _ text rest h s = from_earlier all n (n + 1) rest (omega arith) s
 
 marks_stand : (all : List Token) (n : ℕ) (l : List Token) → drop n all ≡ l → Stand all n (marks_from n l)
 marks_stand all n [] is = tt
@@ -107,30 +104,13 @@ pub printable : (all : List Token) (s : Span) → IsSpan all s → (s.first.toke
 printable all s h = (h.order, h.last.below)
 
 pub expression_span : (all : List Token) (e : tree.Expression) → Placed all e → IsSpan all (span_of e)
-expression_span all (tree.identifier s i) p = p.0.0
 expression_span all (tree.constant s c) p = p.0
-expression_span all (tree.parentheses s a) p = p.0.0
-expression_span all (tree.call s f given) p = p.0.0
-expression_span all (tree.spawn s f a) p = p.0.0
-expression_span all (tree.on_value s w a) p = p.0.0
-expression_span all (tree.on_place s w a) p = p.0.0
-expression_span all (tree.cast s t a) p = p.0.0
-expression_span all (tree.index s a i) p = p.0.0
-expression_span all (tree.field s a w n) p = p.0.0
-expression_span all (tree.unary s o a) p = p.0.0
-expression_span all (tree.binary s o at a b) p = p.0.0
+expression_span all _ p = p.0.0
 
 pub statement_span : (all : List Token) (a : tree.Statement) → PlacedStatement all a → IsSpan all (span_of_statement a)
 statement_span all (tree.empty s) p = p.0
-statement_span all (tree.block s inner) p = p.0.0
-statement_span all (tree.declare s l) p = p.0.0
-statement_span all (tree.simple s x) p = p.0.0
 statement_span all (tree.jump s j) p = p.0
-statement_span all (tree.return s e) p = p.0.0
-statement_span all (tree.if_then s e a) p = p.0.0
-statement_span all (tree.if_then_else s e a b) p = p.0.0
-statement_span all (tree.while s e a) p = p.0.0
-statement_span all (tree.for s h a) p = p.0.0
+statement_span all _ p = p.0.0
 
 pub expression_printable : (all : List Token) (e : tree.Expression) → Placed all e → ((span_of e).first.token ≤ (span_of e).last.token) × ((span_of e).last.token < length all)
 expression_printable all e p = printable all (span_of e) (expression_span all e p)

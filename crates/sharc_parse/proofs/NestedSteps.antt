@@ -4,7 +4,7 @@ use Rattle.std.specs.Prelude.{Result, Ok, Err}
 use Rattle.sharc_tree.specs.Tree as tree
 use Rattle.sharc_tree.specs.{Children.view_statements-push, View.{view_stmt, view_statements}, declared.token.Token.Token, declared.token.Site.Site, declared.token.Span.Span, declared.token.Punctuator.TheVariants.{OpenBrace, CloseBrace}, declared.tree.statement.Stmt.Stmt}
 use Rattle.sharc_tree.specs.declared.token.Keyword.TheVariants as key
-use Rattle.sharc_parse.specs.{Grammar.{Word, keyword, mark, Phrase, Loop, Sentence, under, Sentences, no_more, sentence, if_of, else_of, Opening, while_of, for_of}, Machine.{Outer, body, items, inside, as_statement, Start, Done, At, start, line_start, done, is_else, holds_items, with_item}, Limits.{Over, next_within, reads_within, around_it}, Places.{site_in, size, sentence_size, all_size, opening_size, span_at, expression_at, head_at, statement_at, statements_at}, declared.token.ReadingFault.ReadingFault, declared.token.ReadingFault.TheVariants.{Memory, Wrong, Deep}, View.bare, Goes.{from, Past, NotAt, IsAt}, Lines.line_within, declared.word.StatementWord.StatementWord, declared.word.StatementWord.TheVariants.{If, While, For, Return, Break, Continue}, Words.{statement_word, NoStatement}, Heads.bare_head, Statements.{bare_statement, sentence_of, sentences_of, ReadsStatement, BuildsStatement, IsRestPlaced}, Nested.{IsOpen, holding, closed, ReadsStatements}}
+use Rattle.sharc_parse.specs.{Grammar.{Word, keyword, mark, Phrase, Loop, Sentence, under, Sentences, no_more, sentence, if_of, else_of, Opening, while_of, for_of}, Machine.{Outer, body, items, inside, as_statement, Start, Done, At, start, line_start, done, is_else, holds_items, with_item}, Limits.{Over, next_within, reads_within, around_it}, Places.{site_in, size, sentence_size, all_size, opening_size, span_at, expression_at, head_at, statement_at, statements_at}, declared.token.ReadingFault.ReadingFault, declared.token.ReadingFault.TheVariants.Memory, View.bare, Goes.{from, Past, NotAt, IsAt}, Lines.line_within, declared.word.StatementWord.StatementWord, declared.word.StatementWord.TheVariants.{If, While, For, Return, Break, Continue}, Words.{statement_word, NoStatement}, Heads.bare_head, Statements.{bare_statement, sentence_of, sentences_of, ReadsStatement, BuildsStatement, IsRestPlaced}, Nested.{IsOpen, holding, closed, ReadsStatements}}
 use Rattle.sharc_parse.proofs.{Steps.{passes, fails}, WordSteps.line_there, PlainSteps.over_statement}
 
 -- blocks
@@ -35,14 +35,12 @@ inside_step w o (keyword key.Return) h a = absurd (h Return refl)
 inside_step w o (keyword key.Break) h a = absurd (h Break refl)
 inside_step w o (keyword key.Continue) h a = absurd (h Continue refl)
 inside_step w o (mark OpenBrace) h a = absurd (a refl)
-inside_step w o (mark CloseBrace) h a = refl
 inside_step w o _ h a = refl
 
 line_inside : (o : Outer) (ts : List Word) → holds_items o ≡ false → NoStatement ts → NotAt (mark OpenBrace) ts → reads_within ts (At [] (Start o)) ≡ line_within as_statement o ts
 line_inside o [] h n a = refl
-line_inside (body before r f given all) (t ∷ y) h n a = absurd (true≢false h)
-line_inside (items all o) (t ∷ y) h n a = absurd (true≢false h)
 line_inside (inside w o) (t ∷ y) h n a = ap (λ z. next_within z (λ s. reads_within y s) (t ∷ y)) (inside_step w o t n a)
+line_inside _ (t ∷ y) h n a = absurd (true≢false h)
 
 -- any other statement is a line
 pub line_anywhere : (may : Bool) (o : Outer) (ts : List Word) → holds_items o ≡ may → IsOpen may ts → NoStatement ts → NotAt (mark OpenBrace) ts → reads_within ts (At [] (Start o)) ≡ line_within as_statement o ts
@@ -119,9 +117,8 @@ inside_room : (a room : ℕ) → 0 < room → a + room ≡ 64 → a + 1 + (room 
 inside_room a room h e = omega (arith, h, e)
 
 pub block_wrong : {A : Type 0} (list : A → List Stmt) (x : ReadingFault) (may : Bool) (room : ℕ) (tokens : List Token) (old mid new : ℕ) → Past (mark OpenBrace) tokens old mid → 0 < room → ReadsStatements list (room - 1) (Err x) (from tokens mid) (from tokens new) → ReadsStatement may room (Err x) (from tokens old) (from tokens new)
-block_wrong list Wrong may room tokens old mid new p h r = λ o m e. block_enters tokens old mid o room p h e ∙ r (items no_more o) refl (inside_room (around_it o) room h e)
-block_wrong list Deep may room tokens old mid new p h r = λ o m e. block_enters tokens old mid o room p h e ∙ r (items no_more o) refl (inside_room (around_it o) room h e)
 block_wrong list Memory may room tokens old mid new p h r = λ o m e. tt
+block_wrong list _ may room tokens old mid new p h r = λ o m e. block_enters tokens old mid o room p h e ∙ r (items no_more o) refl (inside_room (around_it o) room h e)
 
 pub block_reads : {A : Type 0} (list : A → List Stmt) (v : A) (s : Stmt) (sp : Span) (may : Bool) (room : ℕ) (tokens : List Token) (old mid new : ℕ) → view_stmt s ≡ tree.block sp (view_statements (list v)) → Past (mark OpenBrace) tokens old mid → 0 < room → ReadsStatements list (room - 1) (Ok v) (from tokens mid) (from tokens new) → ReadsStatement may room (Ok s) (from tokens old) (from tokens new)
 block_reads list v s sp may room tokens old mid new is p h r = λ o m e.
@@ -132,14 +129,12 @@ block_reads list v s sp may room tokens old mid new is p h r = λ o m e.
 -- the statements that were read so far
 
 holding_around : (o : Outer) (s : Sentences) → around_it (holding o s) ≡ around_it o
-holding_around (body before r f given all) s = refl
-holding_around (items all o) s = refl
 holding_around (inside w o) s = refl
+holding_around _ s = refl
 
 holding_holds : (o : Outer) (s : Sentences) → holds_items (holding o s) ≡ holds_items o
-holding_holds (body before r f given all) s = refl
-holding_holds (items all o) s = refl
 holding_holds (inside w o) s = refl
+holding_holds _ s = refl
 
 -- after a statement of a block the next may begin
 item_done : (o : Outer) (all : Sentences) (s : Sentence) (ts : List Word) → holds_items o ≡ true → reads_within ts (At [] (Done s (holding o all))) ≡ reads_within ts (At [] (Start (holding o (with_item all s))))

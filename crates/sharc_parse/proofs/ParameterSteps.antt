@@ -2,7 +2,7 @@
 use Rattle.std.proofs.Common.{◌≡◌, ℕ, ◌+◌, List, [], ◌∷◌, ◌++◌, Some, None, refl, sym, ap, ◌∙◌, arith}
 use Rattle.std.specs.Prelude.{Ok, Err}
 use Rattle.sharc_tree.specs.{declared.token.Token.Token, declared.token.Punctuator.TheVariants.{Comma, CloseParenthesis}, declared.tree.declaration.Declaration.Declaration}
-use Rattle.sharc_parse.specs.{Grammar.{Word, mark, Typing, Declaring, Part, no_more}, Machine.{body, parameter_of, naming, TypeWant, Named, Start, a_brace, At, with_declaring, named_parameter}, Limits.{StuckAt, next_within, reads_within}, Places.{site_in, fields_size, declaring_size, declarations_at, parameters_size}, declared.token.ReadingFault.ReadingFault, declared.token.ReadingFault.TheVariants.{Memory, Wrong, Deep}, View.bare_declaration, Goes.{NotAt, from, Past}, Locals.{IsPlainPlace, ReadsDeclaration, IsDeclarationPlaced}, Fields.declared, Parameters.{ReadsFirst, IsFirstPlaced, ReadsParameters, AreParametersPlaced}}
+use Rattle.sharc_parse.specs.{Grammar.{Word, mark, Typing, Declaring, Part, no_more}, Machine.{body, parameter_of, naming, TypeWant, Named, Start, a_brace, At, with_declaring, named_parameter}, Limits.{StuckAt, next_within, reads_within}, Places.{site_in, fields_size, declaring_size, declarations_at, parameters_size}, declared.token.ReadingFault.ReadingFault, declared.token.ReadingFault.TheVariants.{Memory, Wrong}, View.bare_declaration, Goes.{NotAt, from, Past}, Locals.{IsPlainPlace, ReadsDeclaration, IsDeclarationPlaced}, Fields.declared, Parameters.{ReadsFirst, IsFirstPlaced, ReadsParameters, AreParametersPlaced}}
 use Rattle.sharc_parse.proofs.FieldSteps.{declared_more, fields_size_more, declarations_more}
 
 parameter_goes : (all : List Part) (r : Typing) (f : List ℕ) (before : List Declaring) (d : Declaring) (ts y : List Word) → ts ≡ mark Comma ∷ y → reads_within ts (At [] (Named (parameter_of all r f before) d.typing d.named)) ≡ reads_within y (At [] (TypeWant (naming (parameter_of all r f (with_declaring before d)))))
@@ -26,9 +26,8 @@ plain_parameter all r f [] d = tt
 plain_parameter all r f (a ∷ rest) d = tt
 
 parameters_size_more : (before : List Declaring) (d : Declaring) → parameters_size (with_declaring before d) ≡ fields_size before + declaring_size d
-parameters_size_more [] d = omega arith
-parameters_size_more (a ∷ []) d = omega arith
 parameters_size_more (a ∷ (b ∷ rest)) d = omega (arith, parameters_size_more (b ∷ rest) d)
+parameters_size_more _ d = omega arith
 
 -- the parameters that were read so far, up to the name of the last
 pub record GivenSoFar (tokens : List Token) (n at : ℕ) (list : List Declaration) : Type 0 where
@@ -74,9 +73,8 @@ one_given_more tokens n old mid new list all d is z e r p =
 
 -- the next parameter is wrong
 pub given_wrong : {A : Type 0} (see : A → List Declaration) (e : ReadingFault) (tokens : List Token) (n old mid new : ℕ) (list : List Declaration) → GivenSoFar tokens n old list → Past (mark Comma) tokens old mid → ReadsDeclaration (Err e) (from tokens mid) (from tokens new) → ReadsParameters see (Err e) (from tokens n) (from tokens new)
-given_wrong see Wrong tokens n old mid new list z e r all t f = given_comma tokens n old mid list z e all t f ∙ r (parameter_of all t f (with_declaring z.before z.last)) (plain_parameter all t f z.before z.last)
-given_wrong see Deep tokens n old mid new list z e r all t f = given_comma tokens n old mid list z e all t f ∙ r (parameter_of all t f (with_declaring z.before z.last)) (plain_parameter all t f z.before z.last)
 given_wrong see Memory tokens n old mid new list z e r all t f = tt
+given_wrong see _ tokens n old mid new list z e r all t f = given_comma tokens n old mid list z e all t f ∙ r (parameter_of all t f (with_declaring z.before z.last)) (plain_parameter all t f z.before z.last)
 
 pub given_stuck : {A : Type 0} (see : A → List Declaration) (tokens : List Token) (n at : ℕ) (list : List Declaration) → GivenSoFar tokens n at list → NotAt (mark Comma) (from tokens at) → NotAt (mark CloseParenthesis) (from tokens at) → ReadsParameters see (Err Wrong) (from tokens n) (from tokens at)
 given_stuck see tokens n at list z a b all r f = z.reads all r f ∙ parameter_stuck all r f z.before z.last (from tokens at) a b

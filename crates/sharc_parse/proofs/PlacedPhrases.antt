@@ -4,18 +4,14 @@ use Rattle.sharc_tree.specs.Tree as tree
 use Rattle.sharc_tree.specs.{Spans.span_of, Marks.{name_marks, type_marks, declaration_marks, declarations_marks, marks, arguments_marks, option_marks, AreMarks}, Placed.{point, option_spans, argument_spans, declaration_spans, PlacedType, PlacedDeclaration, PlacedDeclarations, Placed, AllPlaced}, declared.token.Site.Site, declared.token.Span.Span, declared.token.Token.Token, declared.ctype.Base.Base}
 use Rattle.sharc_tree.specs.declared.ctype.Base.TheVariants as base
 use Rattle.sharc_tree.specs.declared.tree.expression.PlaceCall.TheVariants as place_call
-use Rattle.sharc_parse.specs.{Grammar.{Sharing, Typing, Declaring, Front, parenthesis, of_spawn, of_value, of_place, of_cast, Phrase, identifier, constant, enclosed, call, index, field, unary, binary, Phrases, none, more, FitsList, FitsType, FitsFront, Fits, FitAll, FitsOption, FitAllDeclaring}, Places.{span_at, name_at, level_size, base_size, levels_size, type_size, declaring_size, front_size, size, sizes, rest_size, option_size, fields_size, base_name, base_place, type_at, declaration_at, front_at, expression_at, arguments_at, option_at, declarations_at}}
+use Rattle.sharc_parse.specs.{Grammar.{Sharing, Typing, Declaring, Front, parenthesis, of_spawn, of_place, of_cast, Phrase, identifier, constant, enclosed, call, index, field, unary, binary, Phrases, none, more, FitsList, FitsType, FitsFront, Fits, FitAll, FitsOption, FitAllDeclaring}, Places.{span_at, name_at, level_size, base_size, levels_size, type_size, declaring_size, front_size, size, sizes, rest_size, option_size, fields_size, base_name, base_place, type_at, declaration_at, front_at, expression_at, arguments_at, option_at, declarations_at}}
 use Rattle.sharc_parse.proofs.{Marks.{left, right}, Standing.{Standing, Lies, lies, lies_point, Row, part, last, whole}}
 
 -- types
 
 base_some : (b : Base) (n : ℕ) → (n ≤ base_name b n) × (base_name b n + 1 ≤ n + base_size b)
-base_some base.Int n = (omega arith, omega arith)
-base_some base.Char n = (omega arith, omega arith)
-base_some base.Long n = (omega arith, omega arith)
-base_some base.Mutex n = (omega arith, omega arith)
-base_some base.Void n = (omega arith, omega arith)
 base_some (base.Struct x) n = (omega arith, omega arith)
+base_some _ n = (omega arith, omega arith)
 
 -- the name of the base is in the type
 base_within : (first : Bool) (b : Base) (n : ℕ) (all : List (Option Sharing)) → FitsList first all → (n ≤ base_place first b all n) × (base_place first b all n + 1 ≤ n + levels_size b all)
@@ -69,21 +65,14 @@ placed_declarations all s h n (d ∷ rest) f q w =
 -- expressions
 
 front_span : (s : ℕ → Site) (n : ℕ) (span : Span) (f : Front) (a : tree.Expression) → span_of (front_at s n span f a) ≡ span
-front_span s n span parenthesis a = refl
-front_span s n span (of_spawn x) a = refl
-front_span s n span (of_value w) a = refl
-front_span s n span (of_place w) a = refl
 front_span s n span (of_cast t) a = refl
+front_span s n span _ a = refl
 
 pub lies_expression : (s : ℕ → Site) (n : ℕ) (x : Phrase) → Lies s n (size x) (span_of (expression_at s n x))
 lies_expression s n (identifier x) = lies s n 1 (omega arith)
 lies_expression s n (constant c) = lies s n 1 (omega arith)
 lies_expression s n (enclosed f a) = record { there = front_span s n _ f _; some = omega arith }
-lies_expression s n (call f all) = lies s n (size (call f all)) (omega arith)
-lies_expression s n (index a i) = lies s n (size (index a i)) (omega arith)
-lies_expression s n (field a w x) = lies s n (size (field a w x)) (omega arith)
-lies_expression s n (unary o a) = lies s n (size (unary o a)) (omega arith)
-lies_expression s n (binary o a b) = lies s n (size (binary o a b)) (omega arith)
+lies_expression s n k = lies s n (size k) (omega arith)
 
 -- the last part of a whole, and the one before it
 last_part : (all : List Token) (s : ℕ → Site) (h : Standing all s) (from n until : ℕ) (x : Phrase) → from ≤ n → n + size x ≤ until → until ≤ length all → Row all from until (span_of (expression_at s n x) ∷ [])
@@ -93,11 +82,9 @@ last_point : (all : List Token) (s : ℕ → Site) (h : Standing all s) (from n 
 last_point all s h from n until a b c = last all s h from n 1 until _ (lies_point s n) a b c
 
 behind_front : (all : List Token) (s : ℕ → Site) (n : ℕ) (span : Span) (f : Front) (e : tree.Expression) → AreMarks all (marks (front_at s n span f e)) → AreMarks all (marks e)
-behind_front all s n span parenthesis e w = w
 behind_front all s n span (of_spawn x) e w = w.1
-behind_front all s n span (of_value v) e w = w
-behind_front all s n span (of_place v) e w = w
 behind_front all s n span (of_cast t) e w = right all (type_marks (type_at s (n + 2) t)) (marks e) w.1
+behind_front all s n span _ e w = w
 
 placed_front : (all : List Token) (s : ℕ → Site) (h : Standing all s) (n : ℕ) (f : Front) (a : Phrase) → FitsFront f → n + size (enclosed f a) ≤ length all → AreMarks all (marks (expression_at s n (enclosed f a))) → Placed all (expression_at s (n + front_size f) a) → Placed all (expression_at s n (enclosed f a))
 placed_front all s h n parenthesis a f q w p =
@@ -111,18 +98,12 @@ placed_front all s h n (of_spawn x) a f q w p =
       w.0,
       p,
     )
-placed_front all s h n (of_value v) a f q w p =
-    let k = 2 + size a + 1 in
-    (whole all s h n k _ (omega arith) q (last_part all s h n (n + 2) (n + k) a (omega arith) (omega arith) q), p)
 placed_front all s h n (of_place place_call.Lock) a f q w p =
     let k = 3 + size a + 1 in
     (whole all s h n k _ (omega arith) q (last_part all s h n (n + 3) (n + k) a (omega arith) (omega arith) q), p)
 placed_front all s h n (of_place place_call.Unlock) a f q w p =
     let k = 3 + size a + 1 in
     (whole all s h n k _ (omega arith) q (last_part all s h n (n + 3) (n + k) a (omega arith) (omega arith) q), p)
-placed_front all s h n (of_place place_call.Free) a f q w p =
-    let k = 2 + size a + 1 in
-    (whole all s h n k _ (omega arith) q (last_part all s h n (n + 2) (n + k) a (omega arith) (omega arith) q), p)
 placed_front all s h n (of_cast t) a f q w p =
     let k = type_size t + 3 + size a + 1 in (
       whole all s h n k _ (omega arith) q
@@ -131,6 +112,9 @@ placed_front all s h n (of_cast t) a f q w p =
       placed_type all s h (n + 2) t f (omega (arith, q)) (left all (type_marks (type_at s (n + 2) t)) (marks (expression_at s (n + (type_size t + 3)) a)) w.1),
       p,
     )
+placed_front all s h n _ a f q w p =
+    let k = 2 + size a + 1 in
+    (whole all s h n k _ (omega arith) q (last_part all s h n (n + 2) (n + k) a (omega arith) (omega arith) q), p)
 
 few_rest : (all : Phrases) → rest_size all ≤ sizes all + 1
 few_rest none = omega arith

@@ -134,20 +134,15 @@ placed_line all s h n (declares x) f q w =
 
 under_span : (s : ℕ → Site) (n : ℕ) (w : Opening) (span : Span) (a : tree.Statement) → span_of_statement (under_at s n w span a) ≡ span
 under_span s n (if_of e) span a = refl
-under_span s n (else_of e b) span a = refl
-under_span s n (while_of e) span a = refl
-under_span s n (for_of x) span a = refl
+under_span s n _ span a = refl
 
 lies_line : (s : ℕ → Site) (n : ℕ) (x : Line) → Lies s n (line_size x) (span_of_statement (line_at s n x))
 lies_line s n nothing = lies s n 1 (omega arith)
-lies_line s n (does x) = lies s n (line_size (does x)) (omega arith)
-lies_line s n (declares x) = lies s n (line_size (declares x)) (omega arith)
+lies_line s n k = lies s n (line_size k) (omega arith)
 
 opening_some : (w : Opening) → 0 < opening_size w
 opening_some (if_of e) = omega arith
-opening_some (else_of e b) = omega arith
-opening_some (while_of e) = omega arith
-opening_some (for_of x) = omega arith
+opening_some _ = omega arith
 
 lies_statement : (s : ℕ → Site) (n : ℕ) (a : Sentence) → Lies s n (sentence_size a) (span_of_statement (statement_at s n a))
 lies_statement s n (line x) = lies_line s n x
@@ -235,14 +230,13 @@ follow_form all s h n until (array k) b c = last all s h n (n + 1) 1 until _ (li
 follow_form all s h n until (initially true k) b c = last all s h n (n + 1) 2 until _ (lies s (n + 1) 2 (omega arith)) (omega arith) (omega (arith, b)) c
 follow_form all s h n until (initially false k) b c = last all s h n (n + 1) 1 until _ (lies s (n + 1) 1 (omega arith)) (omega arith) (omega (arith, b)) c
 
-fields_fit : (all : List Declaring) → FitsFields all → FitAllDeclaring all
+pub fields_fit : (all : List Declaring) → FitsFields all → FitAllDeclaring all
 fields_fit [] f = absurd f
 fields_fit (d ∷ rest) f = f
 
 few_parameters : (all : List Declaring) → fields_size all ≤ parameters_size all + 1
-few_parameters [] = omega arith
-few_parameters (d ∷ []) = omega arith
 few_parameters (d ∷ (e ∷ rest)) = omega (arith, few_parameters (e ∷ rest))
+few_parameters _ = omega arith
 
 placed_function : (all : List Token) (s : ℕ → Site) (h : Standing all s) (n : ℕ) (f : Callable) → FitsPart (function f) → n + part_size (function f) ≤ length all → AreMarks all (item_marks (item_at s n (function f))) → PlacedItem all (item_at s n (function f))
 placed_function all s h n f g q w =
@@ -290,9 +284,8 @@ placed_item all s h n (global d x) f q w =
 placed_item all s h n (function f) g q w = placed_function all s h n f g q w
 
 lies_item : (s : ℕ → Site) (n : ℕ) (x : Part) → Lies s n (part_size x) (span_of_item (item_at s n x))
-lies_item s n (structure x given) = lies s n (part_size (structure x given)) (omega arith)
 lies_item s n (global d x) = lies s n (part_size (global d x)) (omega arith)
-lies_item s n (function f) = lies s n (part_size (function f)) (omega arith)
+lies_item s n k = lies s n (part_size k) (omega arith)
 
 follow_items : (all : List Token) (s : ℕ → Site) (h : Standing all s) (n until : ℕ) (given : List Part) → n + parts_size given ≤ until → until ≤ length all → Row all n until (item_spans (items_at s n given))
 follow_items all s h n until [] b c = record { follow = tt }

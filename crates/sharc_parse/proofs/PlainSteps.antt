@@ -2,7 +2,7 @@
 use Rattle.std.proofs.{Common.{◌≡◌, ℕ, inl, inr, ◌+◌, ◌<◌, List, [], ◌∷◌, sym, ap, ◌∙◌, arith, Bool, true, false, Option, subst}, lemmas.Bool.Decides.eqb_tells, lemmas.Bool.{lt-leb, le-leb}}
 use Rattle.std.specs.Prelude.{◌==◌, ◌⊎◌, ◌≢◌, Result, Ok, Err}
 use Rattle.sharc_tree.specs.{declared.token.Punctuator.TheVariants.Semicolon, declared.tree.statement.Jump.Jump, View.{view_expr, view_option, view_stmt}, declared.token.Token.Token, declared.token.Site.Site, declared.token.Span.Span, declared.tree.expression.Expr.Expr, declared.tree.statement.Stmt.Stmt}
-use Rattle.sharc_parse.specs.{Grammar.{Word, mark, jump}, Machine.{Outer, as_statement, Done, a_semicolon, At, holds_items, may_declare}, Limits.{reads_within, around_it, crowded_line}, Places.{site_in, option_size, option_at, span_at, statement_at, sentence_size}, declared.token.ReadingFault.ReadingFault, declared.token.ReadingFault.TheVariants.{Memory, Wrong, Deep}, Rights.option_of, Heads.{by_return, ReadsTail, IsTailPlaced}, Statements.{bare_statement, sentence_of, BuildsStatement, ReadsReturn, IsRestPlaced}}
+use Rattle.sharc_parse.specs.{Grammar.{Word, mark, jump}, Machine.{Outer, as_statement, Done, a_semicolon, At, holds_items, may_declare}, Limits.{reads_within, around_it, crowded_line}, Places.{site_in, option_size, option_at, span_at, statement_at, sentence_size}, declared.token.ReadingFault.ReadingFault, declared.token.ReadingFault.TheVariants.Memory, Rights.option_of, Heads.{by_return, ReadsTail, IsTailPlaced}, Statements.{bare_statement, sentence_of, BuildsStatement, ReadsReturn, IsRestPlaced}}
 use Rattle.sharc_tree.specs.Tree as tree
 use Rattle.sharc_parse.proofs.Steps.{fixed_goes}
 
@@ -21,15 +21,13 @@ pub jump_ends : (j : Jump) (o : Outer) (y : List Word) → around_it o < 64 → 
 jump_ends j o y h = fixed_goes a_semicolon [] (Done (jump j) o) y (lt-leb 64 (around_it o) h)
 
 pub return_wrong : (e : ReadingFault) (old new : List Word) → ReadsTail (Err e) old new → ReadsReturn (Err e) old new
-return_wrong Wrong old new t = λ o. t by_return o
-return_wrong Deep old new t = λ o. t by_return o
 return_wrong Memory old new t = λ o. tt
+return_wrong _ old new t = λ o. t by_return o
 
 pub return_reads : (result : Result Stmt ReadingFault) (sp : Span) (x : Option Expr) (old new : List Word) → BuildsStatement result (tree.return sp (view_option view_expr x)) → ReadsTail (Ok x) old new → ReadsReturn result old new
 return_reads (Ok s) sp x old new b t = λ o. t by_return o ∙ ap (λ v. reads_within new (At [] (Done (bare_statement v) o))) (sym b)
 return_reads (Err Memory) sp x old new b t = λ o. tt
-return_reads (Err Wrong) sp x old new b t = absurd b
-return_reads (Err Deep) sp x old new b t = absurd b
+return_reads _ sp x old new b t = absurd b
 
 pub over_statement : (s : ℕ → Site) (n : ℕ) (v w : tree.Statement) → v ≡ w → w ≡ statement_at s n (bare_statement w) → v ≡ statement_at s n (bare_statement v)
 over_statement s n v w e h = subst (λ v. v ≡ statement_at s n (bare_statement v)) (sym e) h

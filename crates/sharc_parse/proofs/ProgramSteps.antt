@@ -72,9 +72,8 @@ items_read tokens at list z h = z.reads ∙ ap (λ ts. reads_within ts (At [] (T
 
 -- where the next item is not read, neither is the program
 pub item_fails : {A : Type 0} (see : A → List Item) (result : Result A ReadingFault) (fault : ReadingFault) (tokens : List Token) (old new : ℕ) (list : List Item) → result ≡ Err fault → ItemsSoFar tokens old list → old < length tokens → ReadsItem (Err fault) (from tokens old) (from tokens new) → ReadsItems see result tokens new
-item_fails see result Wrong tokens old new list is z h r = subst (λ o. ReadsItems see o tokens new) (sym is) (item_there tokens old list z h ∙ r (parts_of list))
-item_fails see result Deep tokens old new list is z h r = subst (λ o. ReadsItems see o tokens new) (sym is) (item_there tokens old list z h ∙ r (parts_of list))
 item_fails see result NoMemory tokens old new list is z h r = subst (λ o. ReadsItems see o tokens new) (sym is) tt
+item_fails see result _ tokens old new list is z h r = subst (λ o. ReadsItems see o tokens new) (sym is) (item_there tokens old list z h ∙ r (parts_of list))
 
 -- the program, and the first fault, by the laws of sharc_parse
 

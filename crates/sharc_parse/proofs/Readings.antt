@@ -3,7 +3,7 @@ use Rattle.std.proofs.{Common.{◌≡◌, ℕ, ◌+◌, ◌-◌, ◌≤◌, List
 use Rattle.sharc_tree.specs.Tree as tree
 use Rattle.sharc_tree.specs.Measures as measures
 use Rattle.sharc_tree.specs.{declared.token.Site.Site, declared.token.Span.Span, declared.token.Tokens.Tokens}
-use Rattle.sharc_parse.specs.{Grammar.{Word, Front, parenthesis, of_spawn, of_value, of_place, of_cast, Phrase, identifier, constant, enclosed, call, index, field, unary, binary, Phrases, none, more, Line, nothing, does, declares, Sentence, line, jump, return, block, under, Sentences, no_more, sentence, Opening, if_of, else_of, while_of, for_of, Callable, Part, program_words, IsProgram}, Limits.{height, highest, line_nesting, nesting, deepest, nesting_before, BeginsWithin, StuckAt, Over, reads_within}, Machine.{Read, reads, first_state}, Places.{Reads, site_in, items_at, size, sentence_size, expression_at, arguments_at, front_at, statement_at, statements_at, under_at, line_at, function_at}, Faults.{IsFault, wrong_code}, declared.fault.GrammarFault.TheVariants.Deep}
+use Rattle.sharc_parse.specs.{Grammar.{Word, Front, of_cast, Phrase, enclosed, call, index, field, unary, binary, Phrases, none, more, Line, does, Sentence, line, block, under, Sentences, no_more, sentence, Opening, else_of, Callable, Part, program_words, IsProgram}, Limits.{height, highest, line_nesting, nesting, deepest, nesting_before, BeginsWithin, StuckAt, Over, reads_within}, Machine.{Read, reads, first_state}, Places.{Reads, site_in, items_at, size, sentence_size, expression_at, arguments_at, front_at, statement_at, statements_at, under_at, line_at, function_at}, Faults.{IsFault, wrong_code}, declared.fault.GrammarFault.TheVariants.Deep}
 use Rattle.sharc_parse.proofs.{Whole.only, WithinLaws.{first_wrong, first_excess}}
 
 same_program : (p q : List Part) → IsProgram p → IsProgram q → program_words p [] ≡ program_words q [] → p ≡ q
@@ -26,49 +26,41 @@ both_same : (a b c d : ℕ) → a ≡ b → c ≡ d → max a c ≡ max b d
 both_same a b c d e f = omega (arith, e, f)
 
 front_height : (s : ℕ → Site) (n : ℕ) (span : Span) (f : Front) (a : tree.Expression) → measures.height (front_at s n span f a) ≡ measures.height a + 1
-front_height s n span parenthesis a = refl
-front_height s n span (of_spawn f) a = refl
-front_height s n span (of_value w) a = refl
-front_height s n span (of_place w) a = refl
 front_height s n span (of_cast t) a = refl
+front_height s n span _ a = refl
 
 mutual
   pub same_height : (s : ℕ → Site) (n : ℕ) (x : Phrase) → measures.height (expression_at s n x) ≡ height x
-  same_height s n (identifier x) = refl
-  same_height s n (constant c) = refl
   same_height s n (enclosed f a) = front_height s n _ f _ ∙ ap (λ z. z + 1) (same_height s _ a)
   same_height s n (call f all) = ap (λ z. z + 1) (same_highest s _ all)
   same_height s n (index a i) = ap (λ z. z + 1) (both_same _ _ _ _ (same_height s n a) (same_height s (n + size a + 1) i))
   same_height s n (field a w x) = ap (λ z. z + 1) (same_height s _ a)
   same_height s n (unary o a) = ap (λ z. z + 1) (same_height s _ a)
   same_height s n (binary o a b) = ap (λ z. z + 1) (both_same _ _ _ _ (same_height s n a) (same_height s (n + size a + 1) b))
+  same_height s n _ = refl
 
   same_highest : (s : ℕ → Site) (n : ℕ) (all : Phrases) → measures.highest (arguments_at s n all) ≡ highest all
   same_highest s n none = refl
   same_highest s n (more a rest) = both_same _ _ _ _ (same_height s n a) (same_highest s (n + size a + 1) rest)
 
 line_same : (s : ℕ → Site) (n : ℕ) (l : Line) → measures.nesting (line_at s n l) ≡ line_nesting l
-line_same s n nothing = refl
 line_same s n (does x) = refl
-line_same s n (declares l) = refl
+line_same s n _ = refl
 
 mutual
   pub same_nesting : (s : ℕ → Site) (n : ℕ) (a : Sentence) → measures.nesting (statement_at s n a) ≡ nesting a
   same_nesting s n (line l) = line_same s n l
-  same_nesting s n (jump j) = refl
-  same_nesting s n (return e) = refl
   same_nesting s n (block all) = ap (λ z. z + 1) (same_deepest s _ all)
   same_nesting s n (under w a) = under_same s n w _ _ (nesting a) (same_nesting s _ a)
+  same_nesting s n _ = refl
 
   pub same_deepest : (s : ℕ → Site) (n : ℕ) (all : Sentences) → measures.deepest (statements_at s n all) ≡ deepest all
   same_deepest s n no_more = refl
   same_deepest s n (sentence a rest) = both_same _ _ _ _ (same_nesting s n a) (same_deepest s (n + sentence_size a) rest)
 
   under_same : (s : ℕ → Site) (n : ℕ) (w : Opening) (span : Span) (a : tree.Statement) (m : ℕ) → measures.nesting a ≡ m → measures.nesting (under_at s n w span a) ≡ max (nesting_before w) m + 1
-  under_same s n (if_of e) span a m h = omega (arith, h)
   under_same s n (else_of e b) span a m h = omega (arith, h, same_nesting s (n + size e + 3) b)
-  under_same s n (while_of e) span a m h = omega (arith, h)
-  under_same s n (for_of l) span a m h = omega (arith, h)
+  under_same s n _ span a m h = omega (arith, h)
 
 pub same_function : (s : ℕ → Site) (n : ℕ) (f : Callable) → measures.nesting_of (function_at s n f) ≡ deepest f.body + 1
 same_function s n f = ap (λ z. z + 1) (same_deepest s _ f.body)

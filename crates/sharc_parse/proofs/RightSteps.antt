@@ -3,7 +3,7 @@ use Rattle.std.proofs.Common.{◌≡◌, ◌≤◌, ◌<◌, List, [], ◌∷◌
 use Rattle.std.specs.Prelude.{map, Ok}
 use Rattle.sharc_tree.specs.declared.token.Keyword.TheVariants as key
 use Rattle.sharc_tree.specs.{declared.token.Punctuator.TheVariants.{OpenParenthesis, CloseParenthesis, OpenBrace, OpenBracket, Dot, Arrow, Comma, Star}, declared.ctype.Base.Base, declared.tree.declaration.WrittenType.WrittenType}
-use Rattle.sharc_parse.specs.{Grammar.{Word, name, keyword, mark, Sharing, Typing, Phrase, Value, value, malloc}, Machine.{Outer, ValuePlace, ExpressionPlace, part, valued, counting, Want, Have, Malloced, Valued, TypeWant, sizing, an_open, a_close, a_sizeof, At, Role, Calling, Indexing, Accessing, Operating, Ending, role, grip_of, grip, have, leave, typed, level_step}, Limits.{StuckAt, next_within, reads_within}, View.{bare_level, bare_type}, Goes.NotAt, Types.{EndsLevels, EndsType, typed_levels, typed_state}, Rights.{EndsValue, valued_state, value_within}}
+use Rattle.sharc_parse.specs.{Grammar.{Word, name, keyword, mark, Sharing, Typing, Phrase, Value, value, malloc}, Machine.{Outer, ValuePlace, ExpressionPlace, part, valued, counting, Want, Have, Malloced, Valued, TypeWant, sizing, an_open, a_close, a_sizeof, At, Role, Operating, Ending, role, grip_of, grip, have, leave, typed, level_step}, Limits.{StuckAt, next_within, reads_within}, View.{bare_level, bare_type}, Goes.NotAt, Types.{EndsLevels, EndsType, typed_levels, typed_state}, Rights.{EndsValue, valued_state, value_within}}
 use Rattle.sharc_parse.proofs.Steps.{some_strength}
 
 pub malloc_goes : (v : ValuePlace) (o : Outer) (y : List Word) → reads_within (keyword key.Malloc ∷ y) (At [] (Want (part (valued v) o))) ≡ reads_within y (At (an_open ∷ []) (Malloced v o))
@@ -15,9 +15,8 @@ malloc_opens v o y = refl
 -- counts
 
 pub count_begins : (v : ValuePlace) (o : Outer) (ts : List Word) → NotAt (keyword key.Sizeof) ts → reads_within ts (At [] (Malloced v o)) ≡ reads_within ts (At [] (Want (part (counting v) o)))
-count_begins v o [] h = refl
 count_begins v o (keyword key.Sizeof ∷ y) h = absurd (h refl)
-count_begins v o (_ ∷ y) h = refl
+count_begins v o _ h = refl
 
 pub sizeof_goes : (v : ValuePlace) (o : Outer) (y : List Word) → reads_within (keyword key.Sizeof ∷ y) (At [] (Malloced v o)) ≡ reads_within y (At (an_open ∷ []) (TypeWant (sizing v None o)))
 sizeof_goes v o y = refl
@@ -83,11 +82,9 @@ malloc_closes v o r y = refl
 -- the end of a value
 
 ending_role : (r : Role) (p : ExpressionPlace) (o : Outer) (x : Phrase) (t : Word) → grip_of r < 1 → have r x (part p o) t ≡ leave p x o t
-ending_role Calling p o x t g = absurd (omega (arith, g))
-ending_role Indexing p o x t g = absurd (omega (arith, g))
-ending_role (Accessing a) p o x t g = absurd (omega (arith, g))
 ending_role (Operating b) p o x t g = absurd (omega (arith, g, some_strength b))
 ending_role Ending p o x t g = refl
+ending_role _ p o x t g = absurd (omega (arith, g))
 
 pub ends_place : (p : ExpressionPlace) (o : Outer) (x : Phrase) (t : Word) (y : List Word) → grip (t ∷ y) < 1 → reads_within (t ∷ y) (At [] (Have x (part p o))) ≡ next_within (leave p x o t) (λ s. reads_within y s) (t ∷ y)
 ends_place p o x t y g = ap (λ n. next_within n (λ s. reads_within y s) (t ∷ y)) (ending_role (role t) p o x t g)

@@ -1,7 +1,7 @@
 -- The machine's steps over assignments and calls.
 use Rattle.std.proofs.Common.{◌≡◌, ◌≤◌, List, [], ◌∷◌, None, refl, sym, ap, ◌∙◌, arith, true, false, cond}
 use Rattle.sharc_tree.specs.declared.token.Punctuator.TheVariants.{Assign, Semicolon, CloseParenthesis}
-use Rattle.sharc_parse.specs.{Grammar.{Word, mark, Phrase, Value, Doing, assign, invoke, is_call}, Machine.{Outer, DoingPlace, in_line, as_step, of_doing, part, subject, valued, Want, Have, At, Role, Calling, Indexing, Accessing, Operating, Ending, role, grip_of, grip, have, subject_end, doing_end}, Limits.{StuckAt, next_within, reads_within}, Operators.weak, Goes.NotAt, Rights.value_within, Simples.{doing_state, EndsDoing, doing_within}}
+use Rattle.sharc_parse.specs.{Grammar.{Word, mark, Phrase, Value, Doing, assign, invoke, is_call}, Machine.{Outer, DoingPlace, in_line, as_step, of_doing, part, subject, valued, Want, Have, At, Role, Operating, Ending, role, grip_of, grip, have, subject_end, doing_end}, Limits.{StuckAt, next_within, reads_within}, Operators.weak, Goes.NotAt, Rights.value_within, Simples.{doing_state, EndsDoing, doing_within}}
 use Rattle.sharc_parse.proofs.{Steps.{some_strength, closed_operator}, RightSteps.value_ends}
 
 pub assign_goes : (d : DoingPlace) (o : Outer) (x : Phrase) (y : List Word) → reads_within (mark Assign ∷ y) (At [] (Have x (part (subject d) o))) ≡ reads_within y (At [] (Want (part (valued (of_doing d x)) o)))
@@ -9,27 +9,22 @@ assign_goes d o x y = refl
 
 doing_not : (d : DoingPlace) (x : Doing) (o : Outer) (t : Word) → 1 ≤ grip_of (role t) → doing_end d x o t ≡ None
 doing_not (in_line p) x o (mark Semicolon) g = absurd (omega (arith, g))
-doing_not (in_line p) x o _ g = refl
 doing_not (as_step l e) x o (mark CloseParenthesis) g = absurd (omega (arith, g))
-doing_not (as_step l e) x o _ g = refl
+doing_not _ x o _ g = refl
 
 subject_ends : (d : DoingPlace) (o : Outer) (x : Phrase) (t : Word) → (t ≡ mark Assign → ⊥) → subject_end d x o t ≡ cond (is_call x) (doing_end d (invoke x) o t) None
 subject_ends d o x (mark Assign) n = absurd (n refl)
 subject_ends d o x _ n = refl
 
 call_role : (r : Role) (d : DoingPlace) (o : Outer) (x : Phrase) (t : Word) → role t ≡ r → grip_of r ≤ 11 → (t ≡ mark Assign → ⊥) → is_call x ≡ true → have r x (part (subject d) o) t ≡ doing_end d (invoke x) o t
-call_role Calling d o x t e g n i = absurd (omega (arith, g))
-call_role Indexing d o x t e g n i = absurd (omega (arith, g))
-call_role (Accessing a) d o x t e g n i = absurd (omega (arith, g))
 call_role (Operating b) d o x t e g n i = closed_operator b x (part (subject d) o) tt (weak b) ∙ sym (doing_not d (invoke x) o t (omega (arith, ap grip_of e, some_strength b)))
 call_role Ending d o x t e g n i = subject_ends d o x t n ∙ ap (λ c. cond c (doing_end d (invoke x) o t) None) i
+call_role _ d o x t e g n i = absurd (omega (arith, g))
 
 no_call_role : (r : Role) (d : DoingPlace) (o : Outer) (x : Phrase) (t : Word) → grip_of r ≤ 11 → (t ≡ mark Assign → ⊥) → is_call x ≡ false → have r x (part (subject d) o) t ≡ None
-no_call_role Calling d o x t g n i = absurd (omega (arith, g))
-no_call_role Indexing d o x t g n i = absurd (omega (arith, g))
-no_call_role (Accessing a) d o x t g n i = absurd (omega (arith, g))
 no_call_role (Operating b) d o x t g n i = closed_operator b x (part (subject d) o) tt (weak b)
 no_call_role Ending d o x t g n i = subject_ends d o x t n ∙ ap (λ c. cond c (doing_end d (invoke x) o t) None) i
+no_call_role _ d o x t g n i = absurd (omega (arith, g))
 
 -- what is no call is no statement
 pub no_call_there : (d : DoingPlace) (o : Outer) (x : Phrase) (ts : List Word) → grip ts ≤ 11 → NotAt (mark Assign) ts → is_call x ≡ false → reads_within ts (At [] (Have x (part (subject d) o))) ≡ StuckAt ts

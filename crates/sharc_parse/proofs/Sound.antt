@@ -1,13 +1,13 @@
 -- What the machine has read fits, and has the words that were read.
-use Rattle.std.proofs.{Common.{◌≡◌, ℕ, ◌≤◌, ◌<◌, List, [], ◌∷◌, Option, Some, None, refl, sym, ap, ◌∙◌, arith, Bool, true, false, cond}, lemmas.Bool.leb-true}
+use Rattle.std.proofs.{Common.{◌≡◌, ℕ, ◌≤◌, ◌<◌, List, [], ◌∷◌, Option, Some, None, refl, sym, subst, ap, ◌∙◌, arith, Bool, true, false, cond}, lemmas.Bool.leb-true}
 use Rattle.std.specs.Prelude.{nat_le}
 use Rattle.sharc_tree.specs.declared.token.Keyword.TheVariants as key
-use Rattle.sharc_tree.specs.{declared.token.Punctuator.TheVariants.{OpenParenthesis, CloseParenthesis, OpenBrace, CloseBrace, OpenBracket, CloseBracket, Semicolon, Comma, Dot, Arrow, Assign, Equal, NotEqual, Less, Greater, LessOrEqual, GreaterOrEqual, ShiftLeft, ShiftRight, Plus, Minus, Star, Slash, Percent, Ampersand, AndAnd, Bar, OrOr, Caret, Exclamation, Tilde}, declared.ctype.Base.Base, declared.tree.expression.BinaryOperator.BinaryOperator, declared.tree.expression.FieldOperator.FieldOperator}
+use Rattle.sharc_tree.specs.{declared.token.Punctuator.TheVariants.{OpenParenthesis, CloseParenthesis, OpenBrace, CloseBrace, OpenBracket, CloseBracket, Semicolon, Comma, Arrow, Assign, Minus, Star, Exclamation, Tilde}, declared.ctype.Base.Base, declared.tree.expression.BinaryOperator.BinaryOperator, declared.tree.expression.FieldOperator.FieldOperator}
 use Rattle.sharc_tree.specs.declared.ctype.Base.TheVariants as base
 use Rattle.sharc_tree.specs.declared.tree.expression.BinaryOperator.TheVariants as op
 use Rattle.sharc_tree.specs.declared.tree.expression.Constant.TheVariants as constants
-use Rattle.sharc_parse.specs.{Grammar.{Word, name, keyword, mark, number, character, Sharing, private, readonly, racy, dynamic, locked, locked_through, Typing, Declaring, sharing_words, level_words, base_words, levels_words, type_words, declaring_words, FitsLevels, FitsType, Front, Phrase, identifier, unary, binary, Phrases, none, more, operator_mark, unary_mark, access_mark, strength, front_words, words, words_of_all, words_of_rest, level, front_level, FitsFront, Fits, FitAll, Value, value, Doing, assign, invoke, Line, nothing, does, Sentence, under, Sentences, no_more, sentence, if_of, else_of, while_of, for_of, option_words, count_words, value_words, doing_words, line_words, written, written_all, opening_words, is_call, is_declaring, is_declaration, takes_else, FitsOption, FitsCount, FitsValue, FitsDoing, FitsLine, FitsAs, FitAllAs, FitsOpening, single, array, initially, Part, structure, global, fields_words, further_words, parameters_words, part_words, program_words, FitAllDeclaring, FitsFields, FitsPart, IsProgram}, Machine.{Outer, body, items, inside, LinePlace, as_statement, as_first, DoingPlace, in_line, as_step, ValuePlace, of_doing, of_local, Asked, by_if, by_while, ExpressionPlace, condition, returning, testing, subject, valued, counting, Cont, part, beneath, right_of, fronted, indexing, arguments, NamePlace, on_top, field_of, parameter_of, local, TypePlace, naming, casting, sizing, ModePlace, before_base, at_level, Core, Want, Have, Called, Dotted, Spawning, Start, Done, Returning, ForOpen, ForTest, ForStep, Malloced, Valued, TypeWant, ModeFirst, StructWant, Typed, PathWant, PathNamed, PathThrough, Named, Fields, ArrayWant, InitialWant, InitialNegative, Top, Fixed, a_semicolon, a_bracket, State, At, fixed_words, or_else, to, Operating, Ending, role, joined, with_last, floor, settle, mallocs, want, open_call, lined, doing_end, local_line, local_end, value_end, subject_end, condition_end, return_end, test_end, leave, front_end, index_end, argument_end, end_at, counted, shift, have, dotted, called, spawning, typing_of, takes_modes, moded, mode_step, based, base_step, begin_type, struct_want, level_step, name_step, comma_step, close_type, open_type, typed, path_want, path_named, path_through, declaring_of, with_part, with_declaring, named_top, named_field, named_parameter, named_local, named, fields, array_want, initial_negative, initial_want, with_item, function_of, close_block, may_declare, line_start, start, is_else, done, returned, for_test, for_step, malloced, core_step}, Operators.{weak, floor_most}}
-use Rattle.sharc_parse.proofs.{Complete.{ModesFit, never}, CompleteProgram.MayStand}
+use Rattle.sharc_parse.specs.{Grammar.{Word, name, keyword, mark, number, character, Sharing, private, readonly, racy, dynamic, locked, locked_through, Typing, Declaring, sharing_words, level_words, base_words, levels_words, type_words, declaring_words, FitsLevels, FitsType, Front, Phrase, identifier, unary, binary, Phrases, none, more, operator_mark, unary_mark, access_mark, strength, front_words, words, words_of_all, words_of_rest, level, front_level, FitsFront, Fits, FitAll, Value, value, Doing, assign, invoke, Line, nothing, does, Sentence, under, Sentences, no_more, sentence, if_of, else_of, while_of, for_of, option_words, count_words, value_words, doing_words, line_words, written, written_all, opening_words, is_call, is_declaring, is_declaration, takes_else, FitsOption, FitsCount, FitsValue, FitsDoing, FitsLine, FitsAs, FitAllAs, FitsOpening, single, array, initially, Part, structure, global, fields_words, further_words, parameters_words, part_words, program_words, FitAllDeclaring, FitsFields, FitsPart, IsProgram}, Machine.{Outer, body, items, inside, LinePlace, as_statement, as_first, DoingPlace, in_line, as_step, ValuePlace, of_doing, of_local, Asked, by_if, by_while, ExpressionPlace, condition, returning, testing, subject, valued, counting, Cont, part, beneath, right_of, fronted, indexing, arguments, NamePlace, on_top, field_of, parameter_of, local, TypePlace, naming, casting, sizing, ModePlace, before_base, at_level, Core, Want, Have, Called, Dotted, Spawning, Start, Done, Returning, ForOpen, ForTest, ForStep, Malloced, Valued, TypeWant, ModeFirst, StructWant, Typed, PathWant, PathNamed, PathThrough, Named, Fields, ArrayWant, InitialWant, InitialNegative, Top, Fixed, a_semicolon, a_bracket, State, At, fixed_words, or_else, to, Role, Calling, Indexing, Accessing, Operating, Ending, role, joined, with_last, floor, settle, mallocs, want, open_call, lined, doing_end, local_line, local_end, value_end, subject_end, condition_end, return_end, test_end, leave, front_end, index_end, argument_end, end_at, counted, shift, have, dotted, called, spawning, typing_of, takes_modes, moded, mode_step, based, base_step, begin_type, struct_want, level_step, name_step, comma_step, close_type, open_type, typed, path_want, path_named, path_through, declaring_of, with_part, with_declaring, named_top, named_field, named_parameter, named_local, named, fields, array_want, initial_negative, initial_want, with_item, function_of, close_block, may_declare, line_start, start, is_else, done, returned, for_test, for_step, malloced, core_step}, Operators.{weak, floor_most}}
+use Rattle.sharc_parse.proofs.{Complete.{ModesFit, never}, CompleteProgram.MayStand, Placing.fields_fit}
 
 -- the arguments so far, with a comma after each
 abbrev pub list_so_far : Phrases → List Word → List Word
@@ -114,12 +114,11 @@ ValueAt (of_doing d u) o = DoingAt d × (11 ≤ level u) × Fits u
 ValueAt (of_local p d) o = (may_declare p o ≡ true) × FitsType d.typing
 
 abbrev pub PlaceAt : ExpressionPlace → Outer → Type 0
-PlaceAt (condition q) o = Unit {0}
-PlaceAt returning o = Unit {0}
 PlaceAt (testing l) o = FitsLine l
 PlaceAt (subject d) o = DoingAt d
 PlaceAt (valued v) o = ValueAt v o
 PlaceAt (counting v) o = ValueAt v o
+PlaceAt _ o = Unit {0}
 
 abbrev pub Around : Cont → Type 0
 Around (part p o) = PlaceAt p o × Outside o
@@ -227,10 +226,6 @@ pub some_field : (all : List Declaring) (d : Declaring) → FitAllDeclaring all 
 some_field [] d a w = (w, tt)
 some_field (b ∷ rest) d a w = (a.0, declaring_more rest d a.1 w)
 
-pub fields_fit : (all : List Declaring) → FitsFields all → FitAllDeclaring all
-fields_fit [] w = tt
-fields_fit (d ∷ rest) w = w
-
 rest_more : (rest : Phrases) (x : Phrase) (y : List Word) → words_of_rest (joined rest (more x none)) y ≡ words_of_rest rest (mark Comma ∷ words x y)
 rest_more none x y = refl
 rest_more (more a rest) x y = ap (λ z. mark Comma ∷ words a z) (rest_more rest x y)
@@ -317,13 +312,11 @@ level_goes p first b (Some s) below a t = tt
 
 name_goes : (p : TypePlace) (first : Bool) (b : Base) (m : Option Sharing) (below : List (Option Sharing)) → Sound (Typed p first b m below) → (n : List ℕ) → Goes (so_far (Typed p first b m below)) (name n) (name_step p (typing_of first b m below) n)
 name_goes (naming p) first b m below a n = ((a.0, a.1), λ y. refl)
-name_goes (casting k) first b m below a n = tt
-name_goes (sizing v c o) first b m below a n = tt
+name_goes _ first b m below a n = tt
 
 comma_goes : (p : TypePlace) (first : Bool) (b : Base) (m : Option Sharing) (below : List (Option Sharing)) → Sound (Typed p first b m below) → Goes (so_far (Typed p first b m below)) (mark Comma) (comma_step p (typing_of first b m below))
 comma_goes (casting k) first b m below a = ((a.1, a.0), λ y. refl)
-comma_goes (naming p) first b m below a = tt
-comma_goes (sizing v c o) first b m below a = tt
+comma_goes _ first b m below a = tt
 
 close_goes : (p : TypePlace) (first : Bool) (b : Base) (m : Option Sharing) (below : List (Option Sharing)) → Sound (Typed p first b m below) → Goes (so_far (Typed p first b m below)) (mark CloseParenthesis) (close_type p first b m below)
 close_goes (sizing v n o) first b m below a = ((a.0.0, (a.0.1, a.1, a.2 refl), a.0.2), λ y. refl)
@@ -417,10 +410,7 @@ settled l x (beneath u k) w a v m f =
     record { fits = r.fits; around_fits = r.around_fits; under_it = r.under_it; over_it = r.over_it; says = r.says }
 settled l x (right_of b o k) w a u m f =
     settled_at (nat_le l (strength o)) l x b o k refl w a u f (λ h. settled l (binary o b x) k (a.0, f, a.2, w) a.3 h m a.1)
-settled l x (part p o) w a u m f = stays l x (part p o) w a u f
-settled l x (fronted h k) w a u m f = stays l x (fronted h k) w a u f
-settled l x (indexing b k) w a u m f = stays l x (indexing b k) w a u f
-settled l x (arguments g all k) w a u m f = stays l x (arguments g all k) w a u f
+settled l x j w a u m f = stays l x j w a u f
 
 pub may : (o : Outer) → MayStand o false
 may o h = cc
@@ -490,8 +480,7 @@ end_goes x (fronted h k) w f a t = front_goes h x k w f a.0 a.1 t
 end_goes x (indexing b k) w f a t = index_goes b x k w a t
 end_goes x (arguments g all k) w f a t = argument_goes g all x k w a t
 end_goes x (part p o) w f a t = leave_goes p x o w f a t
-end_goes x (beneath u k) w f a t = tt
-end_goes x (right_of b o k) w f a t = tt
+end_goes x _ w f a t = tt
 
 ending : (x : Phrase) (k : Cont) → Sound (Have x k) → (t : Word) → Goes (so_far (Have x k)) t (have Ending x k t)
 ending x k a t =
@@ -517,30 +506,27 @@ open_call_goes : (x : Phrase) (k : Cont) → Sound (Have x k) → Goes (so_far (
 open_call_goes (identifier f) k a = (a.2, λ y. refl)
 open_call_goes _ k a = tt
 
+-- the word of what it does after an operand
+abbrev Spells : Word → Role → Type 0
+Spells t Calling = t ≡ mark OpenParenthesis
+Spells t Indexing = t ≡ mark OpenBracket
+Spells t (Accessing w) = t ≡ mark (access_mark w)
+Spells t (Operating o) = t ≡ mark (operator_mark o)
+Spells t Ending = t ≡ t
+
+spells : (t : Word) → Spells t (role t)
+spells (mark OpenParenthesis) = refl
+spells _ = refl
+
+role_goes : (r : Role) (x : Phrase) (k : Cont) → Sound (Have x k) → (t : Word) → Spells t r → Goes (so_far (Have x k)) t (have r x k t)
+role_goes Calling x k a t h = subst (λ w. Goes (so_far (Have x k)) w (have Calling x k w)) (sym h) (open_call_goes x k a)
+role_goes Indexing x k a t h = subst (λ w. Goes (so_far (Have x k)) w (have Indexing x k w)) (sym h) (a, λ y. refl)
+role_goes (Accessing f) x k a t h = subst (λ w. Goes (so_far (Have x k)) w (have (Accessing f) x k w)) (sym h) (a, λ y. refl)
+role_goes (Operating o) x k a t h = subst (λ w. Goes (so_far (Have x k)) w (have (Operating o) x k w)) (sym h) (operator_goes o x k a)
+role_goes Ending x k a t h = ending x k a t
+
 have_goes : (x : Phrase) (k : Cont) → Sound (Have x k) → (t : Word) → Goes (so_far (Have x k)) t (have (role t) x k t)
-have_goes x k a (mark OpenParenthesis) = open_call_goes x k a
-have_goes x k a (mark OpenBracket) = (a, λ y. refl)
-have_goes x k a (mark Dot) = (a, λ y. refl)
-have_goes x k a (mark Arrow) = (a, λ y. refl)
-have_goes x k a (mark OrOr) = operator_goes op.LogicalOr x k a
-have_goes x k a (mark AndAnd) = operator_goes op.LogicalAnd x k a
-have_goes x k a (mark Bar) = operator_goes op.BitOr x k a
-have_goes x k a (mark Caret) = operator_goes op.BitXor x k a
-have_goes x k a (mark Ampersand) = operator_goes op.BitAnd x k a
-have_goes x k a (mark Equal) = operator_goes op.Equal x k a
-have_goes x k a (mark NotEqual) = operator_goes op.NotEqual x k a
-have_goes x k a (mark Less) = operator_goes op.Less x k a
-have_goes x k a (mark Greater) = operator_goes op.Greater x k a
-have_goes x k a (mark LessOrEqual) = operator_goes op.LessOrEqual x k a
-have_goes x k a (mark GreaterOrEqual) = operator_goes op.GreaterOrEqual x k a
-have_goes x k a (mark ShiftLeft) = operator_goes op.ShiftLeft x k a
-have_goes x k a (mark ShiftRight) = operator_goes op.ShiftRight x k a
-have_goes x k a (mark Plus) = operator_goes op.Add x k a
-have_goes x k a (mark Minus) = operator_goes op.Subtract x k a
-have_goes x k a (mark Star) = operator_goes op.Multiply x k a
-have_goes x k a (mark Slash) = operator_goes op.Divide x k a
-have_goes x k a (mark Percent) = operator_goes op.Remainder x k a
-have_goes x k a t = ending x k a t
+have_goes x k a t = role_goes (role t) x k a t (spells t)
 
 -- Statements.
 

@@ -8,7 +8,7 @@ use Rattle.sharc_tree.specs.declared.tree.expression.FieldOperator.TheVariants a
 use Rattle.sharc_tree.specs.declared.tree.expression.ValueCall.TheVariants as value_call
 use Rattle.sharc_tree.specs.declared.tree.expression.PlaceCall.TheVariants as place_call
 use Rattle.sharc_tree.specs.declared.tree.expression.Constant.TheVariants as constants
-use Rattle.sharc_parse.specs.{Grammar.{Word, name, keyword, mark, number, character, Front, of_place, Phrase, identifier, constant, enclosed, call, index, field, unary, binary, Phrases, none, more, operator_mark, unary_mark, access_mark, constant_word, strength, front_level}, Machine.{condition, returning, testing, subject, valued, counting, Cont, part, beneath, right_of, fronted, indexing, arguments, Core, Want, Have, Called, Dotted, Fixed, an_open, a_close, a_semicolon, a_comma, a_brace, a_bracket, an_ampersand, a_sizeof, State, At, fixed_word, is_fixed, to, Role, Calling, Indexing, Accessing, Operating, Ending, role, grip_of, grip, with_last, floor, settle, mallocs, want, open_call, front_end, end_at, counted, shift, have}, Limits.{height, highest, depth, crowded, over_core, over, Limited, StuckAt, Over, next_within, reads_within}, Operators.{weak, operating, settle_stops, role_binary, role_unary, floor_most}, Places.{size, sizes, rest_size, expression_at, arguments_at, site_in, span_at, name_at, front_size, type_size, type_at}, declared.token.ParsedExpr.ParsedExpr, declared.token.ReadingFault.ReadingFault, declared.expr.Front.{Front as ParsedFront}, Goes.{Builds, IsPlaced, StandsFront, bare_front, front_tree, NotAt, IsAt, NoName, NoConstant, NoUnary, NoFront, NoCall, NoMalloc, NoAccess, front_word, after_front}, View.{bare, bare_type, phrase_of, phrases_of}, declared.token.FrontWord.FrontWord}
+use Rattle.sharc_parse.specs.{Grammar.{Word, name, keyword, mark, number, character, Front, of_place, Phrase, identifier, constant, call, field, unary, binary, Phrases, none, more, operator_mark, unary_mark, access_mark, constant_word, strength, front_level}, Machine.{valued, counting, Cont, part, beneath, right_of, fronted, indexing, arguments, Core, Want, Have, Called, Dotted, Fixed, an_open, a_close, a_semicolon, a_comma, a_brace, a_bracket, an_ampersand, a_sizeof, State, At, fixed_word, is_fixed, to, Role, Operating, Ending, role, grip_of, grip, with_last, floor, settle, mallocs, want, open_call, front_end, end_at, counted, shift, have}, Limits.{height, highest, depth, crowded, over_core, over, Limited, StuckAt, Over, next_within, reads_within}, Operators.{weak, operating, settle_stops, role_binary, role_unary, floor_most}, Places.{size, sizes, rest_size, expression_at, arguments_at, site_in, span_at, name_at, front_size, type_size, type_at}, declared.token.ParsedExpr.ParsedExpr, declared.token.ReadingFault.ReadingFault, declared.expr.Front.Front as ParsedFront, Goes.{Builds, IsPlaced, StandsFront, bare_front, front_tree, NotAt, IsAt, NoName, NoConstant, NoUnary, NoFront, NoCall, NoMalloc, NoAccess, front_word, after_front}, View.{bare, bare_type, phrase_of, phrases_of}, declared.token.FrontWord.FrontWord}
 use Rattle.sharc_tree.specs.Tree as tree
 use Rattle.sharc_parse.specs.declared.expr.Front.TheVariants as fronts
 use Rattle.sharc_parse.specs.declared.token.FrontWord.TheVariants as begins
@@ -32,13 +32,7 @@ not_fine k m c h = ap (λ b. cond b true (nat_le 64 m)) c ∙ le-leb 64 m h
 
 fixed_here : (f : Fixed) → is_fixed f (fixed_word f) ≡ true
 fixed_here an_open = refl
-fixed_here a_close = refl
-fixed_here a_semicolon = refl
-fixed_here a_comma = refl
-fixed_here a_brace = refl
-fixed_here a_bracket = refl
-fixed_here an_ampersand = refl
-fixed_here a_sizeof = refl
+fixed_here _ = refl
 
 pub fixed_goes : (f : Fixed) (fs : List Fixed) (c : Core) (y : List Word) → over_core c ≡ false → reads_within (fixed_word f ∷ y) (At (f ∷ fs) c) ≡ reads_within y (At fs c)
 fixed_goes f fs c y e = ap (λ b. next_within (cond b (Some (At fs c)) None) (λ s. reads_within y s) (fixed_word f ∷ y)) (fixed_here f) ∙ passes (At fs c) y (fixed_word f ∷ y) e
@@ -61,23 +55,14 @@ fixed_stuck f fs c (t ∷ y) h = ap (λ b. next_within (cond b (Some (At fs c)) 
 -- what an expression that a `)` ends begins with
 
 front_step : (w : FrontWord) (k : Cont) → want k (front_word w) ≡ Some (after_front w k)
-front_step begins.Parenthesis k = refl
-front_step begins.Spawn k = refl
 front_step (begins.Value value_call.Join) k = refl
-front_step (begins.Value value_call.Print) k = refl
 front_step (begins.Place place_call.Lock) k = refl
-front_step (begins.Place place_call.Unlock) k = refl
-front_step (begins.Place place_call.Free) k = refl
-front_step begins.Cast k = refl
+front_step _ k = refl
 
 front_over : (w : FrontWord) (k : Cont) → over (after_front w k) ≡ cond (crowded k) true (nat_le 64 (depth k))
-front_over begins.Parenthesis k = refl
-front_over begins.Spawn k = refl
 front_over (begins.Value w) k = refl
 front_over (begins.Place place_call.Lock) k = refl
-front_over (begins.Place place_call.Unlock) k = refl
-front_over (begins.Place place_call.Free) k = refl
-front_over begins.Cast k = refl
+front_over _ k = refl
 
 pub front_goes : (w : FrontWord) (k : Cont) (y : List Word) → crowded k ≡ false → depth k < 64 → reads_within (front_word w ∷ y) (At [] (Want k)) ≡ reads_within y (after_front w k)
 front_goes w k y c h = ap (λ o. next_within o (λ s. reads_within y s) (front_word w ∷ y)) (front_step w k) ∙ passes (after_front w k) y (front_word w ∷ y) (front_over w k ∙ fine k (depth k) c h)
@@ -92,10 +77,8 @@ front_deep w k (t ∷ y) a c h =
 -- operators
 
 unary_step : (u : UnaryOperator) (k : Cont) → want k (mark (unary_mark u)) ≡ to (Want (beneath u k))
-unary_step Negate k = refl
 unary_step Not k = refl
-unary_step Complement k = refl
-unary_step Dereference k = refl
+unary_step _ k = refl
 
 pub unary_goes : (u : UnaryOperator) (k : Cont) (y : List Word) → crowded k ≡ false → depth k < 64 → reads_within (mark (unary_mark u) ∷ y) (At [] (Want k)) ≡ reads_within y (At [] (Want (beneath u k)))
 unary_goes u k y c h = ap (λ o. next_within o (λ s. reads_within y s) (mark (unary_mark u) ∷ y)) (unary_step u k) ∙ passes (At [] (Want (beneath u k))) y (mark (unary_mark u) ∷ y) (fine k (depth k) c h)
@@ -140,8 +123,7 @@ binary_read old y new a b c o k is e f w d r g = e ∙ operator_goes o a k y f w
 
 constant_step : (c : Constant) (k : Cont) → want k (constant_word c) ≡ to (Have (constant c) k)
 constant_step (constants.Number n) k = refl
-constant_step (constants.Character c) k = refl
-constant_step constants.Null k = refl
+constant_step _ k = refl
 
 pub constant_goes : (c : Constant) (k : Cont) (y : List Word) → crowded k ≡ false → reads_within (constant_word c ∷ y) (At [] (Want k)) ≡ reads_within y (At [] (Have (constant c) k))
 constant_goes c k y w = ap (λ o. next_within o (λ s. reads_within y s) (constant_word c ∷ y)) (constant_step c k) ∙ passes (At [] (Have (constant c) k)) y (constant_word c ∷ y) w
@@ -156,16 +138,7 @@ call_deep n k (t ∷ y) a h =
 -- nothing that begins an operand; a `malloc` begins one nowhere but right of `=`
 no_malloc : (k : Cont) (y : List Word) → NoMalloc k (keyword key.Malloc ∷ y) → mallocs k ≡ None
 no_malloc (part (valued v) o) y h = absurd (h refl)
-no_malloc (part (condition q) o) y h = refl
-no_malloc (part returning o) y h = refl
-no_malloc (part (testing l) o) y h = refl
-no_malloc (part (subject d) o) y h = refl
-no_malloc (part (counting v) o) y h = refl
-no_malloc (beneath u k) y h = refl
-no_malloc (right_of a o k) y h = refl
-no_malloc (fronted f k) y h = refl
-no_malloc (indexing a k) y h = refl
-no_malloc (arguments f all k) y h = refl
+no_malloc _ y h = refl
 
 no_want : (k : Cont) (t : Word) (y : List Word) → NoMalloc k (t ∷ y) → ((u : UnaryOperator) → t ≡ mark (unary_mark u) → ⊥) → ((w : FrontWord) → t ≡ front_word w → ⊥) → ((n : List ℕ) → t ≡ name n → ⊥) → ((c : Constant) → t ≡ constant_word c → ⊥) → want k t ≡ None
 no_want k (name n) y v u w m c = absurd (m n refl)
@@ -196,24 +169,8 @@ no_operand k [] v u w m c = refl
 no_operand k (t ∷ y) v u w m c = ap (λ o. next_within o (λ s. reads_within y s) (t ∷ y)) (no_want k t y v u w (λ n e. name_not n t y m e) c)
 
 pub some_strength : (o : BinaryOperator) → 1 ≤ strength o
-some_strength op.LogicalOr = omega arith
-some_strength op.LogicalAnd = omega arith
-some_strength op.BitOr = omega arith
-some_strength op.BitXor = omega arith
-some_strength op.BitAnd = omega arith
-some_strength op.Equal = omega arith
-some_strength op.NotEqual = omega arith
-some_strength op.Less = omega arith
-some_strength op.Greater = omega arith
-some_strength op.LessOrEqual = omega arith
-some_strength op.GreaterOrEqual = omega arith
-some_strength op.ShiftLeft = omega arith
-some_strength op.ShiftRight = omega arith
 some_strength op.Add = omega arith
-some_strength op.Subtract = omega arith
-some_strength op.Multiply = omega arith
-some_strength op.Divide = omega arith
-some_strength op.Remainder = omega arith
+some_strength _ = omega arith
 
 -- what ends an expression
 
@@ -226,10 +183,7 @@ IsClosed _ = Unit {0}
 closed_settles : (l : ℕ) (x : Phrase) (k : Cont) → IsClosed k → settle l x k ≡ (x, k)
 closed_settles l x (beneath u k) h = absurd h
 closed_settles l x (right_of a o k) h = absurd h
-closed_settles l x (part p o) h = refl
-closed_settles l x (fronted f k) h = refl
-closed_settles l x (indexing a k) h = refl
-closed_settles l x (arguments f all k) h = refl
+closed_settles l x _ h = refl
 
 closed_counts : (o : BinaryOperator) (x : Phrase) (k : Cont) → IsClosed k → counted o x k ≡ None
 closed_counts op.Multiply x (part (counting v) o) h = absurd h
@@ -272,19 +226,12 @@ pub field_goes : (x : Phrase) (a : FieldOperator) (n : List ℕ) (k : Cont) (y :
 field_goes x a n k y c = passes (At [] (Have (field x a n) k)) y (name n ∷ y) c
 
 pub no_field : (x : Phrase) (a : FieldOperator) (k : Cont) (ts : List Word) → NoName ts → reads_within ts (At [] (Dotted x a k)) ≡ StuckAt ts
-no_field x a k [] h = refl
 no_field x a k (name n ∷ y) h = absurd h
-no_field x a k (_ ∷ y) h = refl
+no_field x a k _ h = refl
 
 not_open : (x : Phrase) (k : Cont) (t : Word) (y : List Word) → NoCall x (t ∷ y) → t ≡ mark OpenParenthesis → open_call x k ≡ None
 not_open (identifier n) k t y h a = absurd (h a)
-not_open (constant c) k t y h a = refl
-not_open (enclosed f b) k t y h a = refl
-not_open (call f all) k t y h a = refl
-not_open (index b i) k t y h a = refl
-not_open (field b w n) k t y h a = refl
-not_open (unary u b) k t y h a = refl
-not_open (binary o b c) k t y h a = refl
+not_open _ k t y h a = refl
 
 -- what is no call is not called
 pub no_call : (x : Phrase) (k : Cont) (ts : List Word) → NoCall x ts → IsAt (mark OpenParenthesis) ts → reads_within ts (At [] (Have x k)) ≡ StuckAt ts
@@ -314,14 +261,12 @@ EndsNot k x [] = Unit {0}
 EndsNot k x (t ∷ y) = end_at x k t ≡ None
 
 closed_role : (r : Role) (k : Cont) (x : Phrase) (t : Word) → role t ≡ r → IsClosed k → grip_of r < max 1 (floor k) → end_at x k t ≡ None → have r x k t ≡ None
-closed_role Calling k x t i h g e = absurd (omega (arith, floor_most k))
-closed_role Indexing k x t i h g e = absurd (omega (arith, floor_most k))
-closed_role (Accessing a) k x t i h g e = absurd (omega (arith, floor_most k))
 closed_role (Operating o) k x t i h g e =
     ap (λ (s : Phrase × Cont). shift o s.0 s.1) (closed_settles (strength o) x k h)
     ∙ ap (λ b. cond b (to (Want (right_of x o k))) (counted o x k)) (lt-leb (floor k) (strength o) (omega (arith, some_strength o)))
     ∙ closed_counts o x k h
 closed_role Ending k x t i h g e = ap (λ (s : Phrase × Cont). end_at s.0 s.1 t) (closed_settles 0 x k h) ∙ e
+closed_role _ k x t i h g e = absurd (omega (arith, floor_most k))
 
 closed_word : (k : Cont) (x : Phrase) (t : Word) → IsClosed k → grip_of (role t) < max 1 (floor k) → end_at x k t ≡ None → have (role t) x k t ≡ None
 closed_word k x t h g e = closed_role (role t) k x t refl h g e

@@ -5,7 +5,7 @@ use Rattle.sharc_tree.specs.Tree as tree
 use Rattle.sharc_tree.specs.Measures as measures
 use Rattle.sharc_tree.specs.{Low.{is_cast, is_call as is_call_of, is_unary, low_height, low_highest, stars, LowType, NoModes as NoModesOf, LowTypes, AllLowTypes, LowExpression, LowRight, LowSimple, LowLocal, LowFirst, LowHead, is_statement, LowStatement, LowStatements, LowDeclarations, LowForm, LowItem, LowItems, IsLow}, declared.token.Site.Site, declared.token.Span.Span, declared.token.Tokens.Tokens, declared.ctype.Base.Base, declared.ctype.Mode.Mode, declared.tree.declaration.WrittenType.WrittenType}
 use Rattle.sharc_tree.specs.declared.tree.expression.Constant.TheVariants as constants
-use Rattle.sharc_parse.specs.{Grammar.{Sharing, Typing, Declaring, Front, parenthesis, of_spawn, of_value, of_place, of_cast, Phrase, identifier, constant, enclosed, call, index, field, unary, binary, Phrases, none, more, Value, value, malloc, Doing, assign, invoke, Declared, Line, nothing, does, declares, Loop, Sentence, line, jump, return, block, under, Sentences, no_more, sentence, Opening, if_of, else_of, while_of, for_of, Form, single, array, initially, Part, structure, global, function, IsProgram, level, front_level, is_declaring, FitsList, FitsType, NoModes, FitsFront, Fits, FitAll, is_call, is_declaration, FitsOption, FitsCount, FitsValue, FitsDoing, FitsInitial, FitsLine, FitsStep, FitsAs, FitAllAs, FitsOpening, FitAllDeclaring, FitsForm, FitsFields, FitsPart}, Limits.{stars_in, FewStars, FewFront, Few, FewAll, Low, LowOption, LowValue, LowDoing, LowInitial, LowLine, LowStep, LowSentence, LowAll, LowOpening, FewGiven, LowPart, LowProgram}, Places.{Reads, site_in, base_size, levels_size, type_size, size, declaring_size, levels_at, bottom_at, level_at, type_at, front_at, expression_at, arguments_at, option_at, value_at, doing_at, initial_at, step_at, front_size, local_at, first_at, head_at, line_at, statement_at, statements_at, under_at, declarations_at, form_at, item_at, items_at, count_size, line_size, option_size, sentence_size, part_size}, Operators.weak}
+use Rattle.sharc_parse.specs.{Grammar.{Sharing, Typing, Declaring, Front, of_spawn, of_value, of_place, of_cast, Phrase, enclosed, call, index, field, unary, binary, Phrases, none, more, Value, value, malloc, Doing, assign, invoke, Declared, Line, nothing, does, declares, Loop, Sentence, line, jump, return, block, under, Sentences, no_more, sentence, Opening, if_of, else_of, while_of, for_of, Form, initially, Part, structure, global, function, IsProgram, level, front_level, is_declaring, FitsList, FitsType, NoModes, FitsFront, Fits, FitAll, is_call, is_declaration, FitsOption, FitsCount, FitsValue, FitsDoing, FitsInitial, FitsLine, FitsStep, FitsAs, FitAllAs, FitsOpening, FitAllDeclaring, FitsForm, FitsFields, FitsPart}, Limits.{stars_in, FewStars, FewFront, Few, FewAll, Low, LowOption, LowValue, LowDoing, LowInitial, LowLine, LowStep, LowSentence, LowAll, LowOpening, FewGiven, LowPart, LowProgram}, Places.{Reads, site_in, base_size, levels_size, type_size, size, declaring_size, levels_at, bottom_at, level_at, type_at, front_at, expression_at, arguments_at, option_at, value_at, doing_at, initial_at, step_at, front_size, local_at, first_at, head_at, line_at, statement_at, statements_at, under_at, declarations_at, form_at, item_at, items_at, count_size, line_size, option_size, sentence_size, part_size}, Operators.weak}
 use Rattle.sharc_parse.proofs.Readings.{same_height, same_function}
 
 -- the height that is limited is at most that of the tree
@@ -25,8 +25,6 @@ one_more a b h = omega (arith, h)
 
 mutual
   pub low_most : (e : tree.Expression) → low_height e ≤ measures.height e
-  low_most (tree.identifier s i) = omega arith
-  low_most (tree.constant s c) = omega arith
   low_most (tree.parentheses s a) = one_more _ _ (low_most a)
   low_most (tree.call s f all) = one_more _ _ (low_highest_most all)
   low_most (tree.spawn s f a) = one_more _ _ (low_most a)
@@ -37,6 +35,7 @@ mutual
   low_most (tree.field s a w n) = one_more _ _ (low_most a)
   low_most (tree.unary s o a) = one_more _ _ (low_most a)
   low_most (tree.binary s o at a b) = one_more _ _ (max_most _ _ _ _ (low_most a) (low_most b))
+  low_most _ = omega arith
 
   low_highest_most : (all : tree.Arguments) → low_highest all ≤ measures.highest all
   low_highest_most tree.no_arguments = omega arith
@@ -45,9 +44,8 @@ mutual
 -- types
 
 levels_length : (s : ℕ → Site) (n : ℕ) (first : Bool) (b : Base) (all : List (Option Sharing)) → length (levels_at s n first b all) ≡ length all
-levels_length s n first b [] = refl
-levels_length s n first b (m ∷ []) = refl
 levels_length s n first b (m ∷ (k ∷ below)) = let e = levels_length s n first b (k ∷ below) in omega (arith, e)
+levels_length s n first b _ = refl
 
 low_levels : (s : ℕ → Site) (n : ℕ) (first : Bool) (b : Base) (all : List (Option Sharing)) → FitsList first all → stars_in all ≤ 8 → (0 < length (levels_at s n first b all)) × (stars (levels_at s n first b all) ≤ 8)
 low_levels s n first b [] f l = absurd f
@@ -73,55 +71,37 @@ no_modes s n first b (m ∷ (k ∷ below)) h = no_more_level s (n + levels_size 
 -- what holds together as tightly as a `unary` is no binary operator
 
 front_unary : (s : ℕ → Site) (n : ℕ) (span : Span) (f : Front) (a : tree.Expression) → is_unary (front_at s n span f a) ≡ true
-front_unary s n span parenthesis a = refl
-front_unary s n span (of_spawn f) a = refl
-front_unary s n span (of_value w) a = refl
-front_unary s n span (of_place w) a = refl
 front_unary s n span (of_cast t) a = refl
+front_unary s n span _ a = refl
 
 unary_at : (s : ℕ → Site) (n : ℕ) (x : Phrase) → 11 ≤ level x → is_unary (expression_at s n x) ≡ true
-unary_at s n (identifier x) h = refl
-unary_at s n (constant c) h = refl
 unary_at s n (enclosed f a) h = front_unary s n _ f _
-unary_at s n (call f all) h = refl
-unary_at s n (index a i) h = refl
-unary_at s n (field a w x) h = refl
-unary_at s n (unary o a) h = refl
 unary_at s n (binary o a b) h = absurd (omega (arith, h, weak o))
+unary_at s n _ h = refl
 
 call_at : (s : ℕ → Site) (n : ℕ) (x : Phrase) → is_call x ≡ true → is_call_of (expression_at s n x) ≡ true
-call_at s n (identifier x) h = cc
-call_at s n (constant c) h = cc
-call_at s n (enclosed parenthesis a) h = cc
 call_at s n (enclosed (of_spawn f) a) h = refl
 call_at s n (enclosed (of_value w) a) h = refl
 call_at s n (enclosed (of_place w) a) h = refl
-call_at s n (enclosed (of_cast t) a) h = cc
 call_at s n (call f all) h = refl
-call_at s n (index a i) h = cc
-call_at s n (field a w x) h = cc
-call_at s n (unary o a) h = cc
-call_at s n (binary o a b) h = cc
+call_at s n _ h = cc
 
 -- expressions
 
 front_types : (s : ℕ → Site) (n k : ℕ) (span : Span) (f : Front) (a : Phrase) → FitsFront f → front_level f ≤ level a → FewFront f → LowTypes (expression_at s k a) → LowTypes (front_at s n span f (expression_at s k a))
-front_types s n k span parenthesis a f h l t = t
-front_types s n k span (of_spawn x) a f h l t = t
-front_types s n k span (of_value w) a f h l t = t
 front_types s n k span (of_place w) a f h l t = (unary_at s k a h, t)
 front_types s n k span (of_cast ty) a f h l t = (low_type s (n + 2) ty f l, unary_at s k a h, t)
+front_types s n k span _ a f h l t = t
 
 mutual
   low_types : (s : ℕ → Site) (n : ℕ) (x : Phrase) → Fits x → Few x → LowTypes (expression_at s n x)
-  low_types s n (identifier x) f l = tt
-  low_types s n (constant c) f l = tt
   low_types s n (enclosed w a) f l = front_types s n (n + front_size w) _ w a f.0 f.1 l.0 (low_types s (n + front_size w) a f.2 l.1)
   low_types s n (call x all) f l = all_low_types s (n + 2) all f l
   low_types s n (index a i) f l = (low_types s n a f.1 l.0, low_types s (n + size a + 1) i f.2 l.1)
   low_types s n (field a w x) f l = low_types s n a f.1 l
   low_types s n (unary o a) f l = low_types s (n + 1) a f.1 l
   low_types s n (binary o a b) f l = (low_types s n a f.2 l.0, low_types s (n + size a + 1) b f.3 l.1)
+  low_types s n _ f l = tt
 
   all_low_types : (s : ℕ → Site) (n : ℕ) (all : Phrases) → FitAll all → FewAll all → AllLowTypes (arguments_at s n all)
   all_low_types s n none f l = tt
@@ -175,22 +155,17 @@ low_line s n (declares x) f l = low_local s n x f l
 -- statements
 
 line_stands : (s : ℕ → Site) (n : ℕ) (x : Line) → is_declaring x ≡ false → is_statement (line_at s n x) ≡ true
-line_stands s n nothing h = refl
-line_stands s n (does x) h = refl
 line_stands s n (declares x) h = cc
+line_stands s n _ h = refl
 
 under_stands : (s : ℕ → Site) (n : ℕ) (w : Opening) (span : Span) (a : tree.Statement) → is_statement (under_at s n w span a) ≡ true
 under_stands s n (if_of e) span a = refl
-under_stands s n (else_of e b) span a = refl
-under_stands s n (while_of e) span a = refl
-under_stands s n (for_of x) span a = refl
+under_stands s n _ span a = refl
 
 stands : (s : ℕ → Site) (n : ℕ) (a : Sentence) → is_declaration a ≡ false → is_statement (statement_at s n a) ≡ true
 stands s n (line x) h = line_stands s n x h
-stands s n (jump j) h = refl
-stands s n (return e) h = refl
-stands s n (block all) h = refl
 stands s n (under w a) h = under_stands s n w _ _
+stands s n _ h = refl
 
 mutual
   low_statement : (s : ℕ → Site) (n : ℕ) (a : Sentence) → FitsAs a → LowSentence a → LowStatement (statement_at s n a)
@@ -221,12 +196,8 @@ low_fields s n [] f l = absurd f
 low_fields s n (d ∷ rest) f l = (omega arith, low_declarations s n (d ∷ rest) f l)
 
 low_form : (s : ℕ → Site) (n : ℕ) (x : Form) → FitsForm x → LowForm (form_at s n x)
-low_form s n single f = tt
-low_form s n (array k) f = tt
-low_form s n (initially true (constants.Number k)) f = tt
-low_form s n (initially true (constants.Character k)) f = tt
 low_form s n (initially true constants.Null) f = absurd f
-low_form s n (initially false c) f = tt
+low_form s n _ f = tt
 
 low_item : (s : ℕ → Site) (n : ℕ) (p : Part) → FitsPart p → LowPart p → LowItem (item_at s n p)
 low_item s n (structure x all) f l = low_fields s (n + 3) all f l

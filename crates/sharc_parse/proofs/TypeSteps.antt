@@ -3,11 +3,11 @@ use Rattle.std.proofs.{Common.{◌≡◌, ℕ, suc, ◌+◌, ◌≤◌, ◌<◌,
 use Rattle.sharc_tree.specs.declared.token.Keyword.TheVariants as key
 use Rattle.sharc_tree.specs.{declared.token.Punctuator.TheVariants.{OpenParenthesis, CloseParenthesis, OpenBrace, Comma, Arrow, Star}, declared.ctype.Base.Base, declared.token.Token.Token, declared.token.Site.Site, declared.token.Span.Span, declared.ctype.Mode.Mode, declared.tree.declaration.WrittenType.WrittenType}
 use Rattle.sharc_tree.specs.declared.ctype.Base.TheVariants as base
-use Rattle.sharc_parse.specs.{Grammar.{Word, name, keyword, mark, Sharing, private, readonly, racy, dynamic, locked, locked_through, Typing, of_cast}, Machine.{Cont, Want, fronted, ModePlace, before_base, at_level, moded, TypePlace, casting, takes_modes, TypeWant, ModeFirst, StructWant, Typed, PathWant, PathNamed, PathThrough, an_open, a_close, State, At, or_else, mode_step, base_step, based, begin_type, typed, level_step, path_named}, Limits.{StuckAt, Over, next_within, reads_within, over_core, over, depth, crowded}, Places.{site_in, level_size, levels_size, levels_at, level_at, base_place, span_at, type_size}, declared.types.ModeWord.ModeWord, declared.types.BaseWord.BaseWord, Goes.{NotAt, IsAt, NoName, from, Past}, declared.token.ReadingFault.ReadingFault, declared.token.ReadingFault.TheVariants.{Memory, Wrong, Deep}, declared.types.Bottom.Bottom, View.{bare_level, bare_type}, Types.{typed_levels, typed_state, ReadsLevel, IsModeRestPlaced, IsModePlaced, ReadsBottom, EndsBottom, IsBottomPlaced, ReadsType, EndsType, IsTypePlaced, ReadsCast, mode_word, NoMode, HasMode, IsOpen, mode_within, after_mode, base_word, NoBase, base_within, EndsLevel, EndsLevels}}
+use Rattle.sharc_parse.specs.{Grammar.{Word, name, keyword, mark, Sharing, private, readonly, racy, dynamic, locked, locked_through, Typing, of_cast}, Machine.{Cont, Want, fronted, ModePlace, before_base, at_level, moded, TypePlace, casting, takes_modes, TypeWant, ModeFirst, StructWant, Typed, PathWant, PathNamed, PathThrough, an_open, a_close, At, or_else, mode_step, base_step, based, begin_type, typed, level_step, path_named}, Limits.{StuckAt, Over, next_within, reads_within, over_core, over, depth, crowded}, Places.{site_in, level_size, levels_size, levels_at, level_at, base_place, span_at, type_size}, declared.types.ModeWord.ModeWord, declared.types.BaseWord.BaseWord, Goes.{NotAt, IsAt, NoName, from, Past}, declared.token.ReadingFault.ReadingFault, declared.token.ReadingFault.TheVariants.{Memory, Wrong}, declared.types.Bottom.Bottom, View.{bare_level, bare_type}, Types.{typed_levels, typed_state, ReadsLevel, IsModeRestPlaced, IsModePlaced, ReadsBottom, EndsBottom, IsBottomPlaced, ReadsType, EndsType, IsTypePlaced, ReadsCast, mode_word, NoMode, HasMode, IsOpen, mode_within, after_mode, base_word, NoBase, base_within, EndsLevel, EndsLevels}}
 use Rattle.sharc_parse.specs.declared.types.ModeWord.TheVariants as modes
 use Rattle.sharc_parse.specs.declared.types.BaseWord.TheVariants as bases
 use Rattle.std.specs.Prelude.{map, insert, Ok, Err}
-use Rattle.sharc_parse.proofs.Steps.{passes, fails, fixed_goes, fine}
+use Rattle.sharc_parse.proofs.{Steps.{passes, fails, fixed_goes, fine}, Complete.idle as cond_none}
 
 -- there is a level, and so the mode passes no limit
 pub moded_fine : (p : ModePlace) (s : Sharing) → IsOpen p → over_core (moded p s) ≡ false
@@ -23,9 +23,8 @@ pub path_name : (p : ModePlace) (n : List ℕ) (y : List Word) → reads_within 
 path_name p n y = refl
 
 pub no_path_name : (p : ModePlace) (ts : List Word) → NoName ts → reads_within ts (At [] (PathWant p)) ≡ StuckAt ts
-no_path_name p [] h = refl
 no_path_name p (name n ∷ y) h = absurd h
-no_path_name p (_ ∷ y) h = refl
+no_path_name p _ h = refl
 
 pub path_arrow : (p : ModePlace) (n : List ℕ) (y : List Word) → reads_within (mark Arrow ∷ y) (At [] (PathNamed p n)) ≡ reads_within y (At [] (PathThrough p n))
 path_arrow p n y = refl
@@ -46,9 +45,8 @@ pub path_second : (p : ModePlace) (x m : List ℕ) (y : List Word) → IsOpen p 
 path_second p x m y h = passes (At (a_close ∷ []) (moded p (locked_through x m))) y (name m ∷ y) (moded_fine p (locked_through x m) h)
 
 pub no_path_second : (p : ModePlace) (x : List ℕ) (ts : List Word) → NoName ts → reads_within ts (At [] (PathThrough p x)) ≡ StuckAt ts
-no_path_second p x [] h = refl
 no_path_second p x (name n ∷ y) h = absurd h
-no_path_second p x (_ ∷ y) h = refl
+no_path_second p x _ h = refl
 
 pub path_closes : (p : ModePlace) (s : Sharing) (y : List Word) → IsOpen p → reads_within (mark CloseParenthesis ∷ y) (At (a_close ∷ []) (moded p s)) ≡ reads_within y (At [] (moded p s))
 path_closes p s y h = fixed_goes a_close [] (moded p s) y (moded_fine p s h)
@@ -56,11 +54,8 @@ path_closes p s y h = fixed_goes a_close [] (moded p s) y (moded_fine p s h)
 -- modes
 
 mode_steps : (w : ModeWord) (p : ModePlace) → mode_step p (mode_word w) ≡ Some (after_mode w p)
-mode_steps modes.Private p = refl
-mode_steps modes.Readonly p = refl
 mode_steps modes.Racy p = refl
-mode_steps modes.Dynamic p = refl
-mode_steps modes.Locked p = refl
+mode_steps _ p = refl
 
 after_fine : (w : ModeWord) (p : ModePlace) → IsOpen p → over (after_mode w p) ≡ false
 after_fine modes.Private p h = moded_fine p private h
@@ -114,9 +109,8 @@ pub struct_named : (p : TypePlace) (m : Option Sharing) (n : List ℕ) (y : List
 struct_named p m n y = passes (At [] (based p m (base.Struct n))) y (name n ∷ y) (based_fine p m (base.Struct n))
 
 pub no_struct : (p : TypePlace) (m : Option Sharing) (ts : List Word) → NoName ts → reads_within ts (At [] (StructWant p m)) ≡ StuckAt ts
-no_struct p m [] h = refl
 no_struct p m (name n ∷ y) h = absurd h
-no_struct p m (_ ∷ y) h = refl
+no_struct p m _ h = refl
 
 pub no_base_step : (p : TypePlace) (m : Option Sharing) (t : Word) → ((w : BaseWord) → t ≡ base_word w → ⊥) → base_step p m t ≡ None
 no_base_step p m (keyword key.Int) h = absurd (h bases.Int refl)
@@ -134,15 +128,8 @@ no_base p m (t ∷ y) h = ap (λ o. next_within o (λ s. reads_within y s) (t �
 -- the bottom
 
 begin_some : (w : ModeWord) (p : TypePlace) → or_else (mode_step (before_base p) (mode_word w)) (base_step p None (mode_word w)) ≡ mode_step (before_base p) (mode_word w)
-begin_some modes.Private p = refl
-begin_some modes.Readonly p = refl
 begin_some modes.Racy p = refl
-begin_some modes.Dynamic p = refl
-begin_some modes.Locked p = refl
-
-cond_none : (b : Bool) (o : Option State) → or_else (cond b None None) o ≡ o
-cond_none true o = refl
-cond_none false o = refl
+begin_some _ p = refl
 
 begin_mode : (p : TypePlace) (w : ModeWord) → takes_modes p ≡ true → begin_type p (mode_word w) ≡ mode_step (before_base p) (mode_word w)
 begin_mode p w e = ap (λ b. or_else (cond b (mode_step (before_base p) (mode_word w)) None) (base_step p None (mode_word w))) e ∙ begin_some w p
@@ -285,16 +272,12 @@ levels_deep modes tokens n at first b place (l ∷ levels) z a h p e = z.reads p
 
 -- the mode after a star is not one
 pub level_wrong : (modes : Bool) (tokens : List Token) (n old mid new : ℕ) (first : Bool) (b : Base) (place : Site) (levels : List (Option Mode)) (e : ReadingFault) → SoFar modes tokens n old first b place levels → Past (mark Star) tokens old mid → length levels < 9 → ReadsLevel modes (Err e) (from tokens mid) (from tokens new) → ReadsType modes (Err e) (from tokens n) (from tokens new)
-level_wrong true tokens n old mid new first b place levels Wrong z s h r p t =
-    after_star true tokens n old mid first b place levels z s h p t
-    ∙ mode_behind p first b (map bare_level levels) (from tokens mid) t r.0
-    ∙ r.1 (at_level p first b (map bare_level levels)) (omega (arith, h, count_map levels))
-level_wrong true tokens n old mid new first b place levels Deep z s h r p t =
-    after_star true tokens n old mid first b place levels z s h p t
-    ∙ mode_behind p first b (map bare_level levels) (from tokens mid) t r.0
-    ∙ r.1 (at_level p first b (map bare_level levels)) (omega (arith, h, count_map levels))
 level_wrong true tokens n old mid new first b place levels Memory z s h r p t = tt
 level_wrong false tokens n old mid new first b place levels e z s h r p t = absurd r
+level_wrong true tokens n old mid new first b place levels _ z s h r p t =
+    after_star true tokens n old mid first b place levels z s h p t
+    ∙ mode_behind p first b (map bare_level levels) (from tokens mid) t r.0
+    ∙ r.1 (at_level p first b (map bare_level levels)) (omega (arith, h, count_map levels))
 
 pub type_reads : (modes : Bool) (tokens : List Token) (n at : ℕ) (t : WrittenType) → SoFar modes tokens n at t.mode_first t.ctype.base t.base t.ctype.levels → ReadsType modes (Ok t) (from tokens n) (from tokens at)
 type_reads modes tokens n at t z = z.reads

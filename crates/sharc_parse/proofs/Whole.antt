@@ -49,8 +49,7 @@ ReadsSo f ts (Stuck rest) = Unit {0}
 
 finish_so : (f : List Word → List Word) (s : State) → Reached f s → ReadsSo f [] (finish s)
 finish_so f (At [] (Top all)) h = (h.0, h.1 [])
-finish_so f (At [] _) h = tt
-finish_so f (At (w ∷ fs) c) h = tt
+finish_so f _ h = tt
 
 same_so : (f : List Word → List Word) (t : Word) (ts : List Word) (o : Outcome) → ReadsSo (λ y. f (t ∷ y)) ts o → ReadsSo f (t ∷ ts) o
 same_so f t ts (Read p) h = h

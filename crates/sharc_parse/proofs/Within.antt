@@ -8,7 +8,7 @@ use Rattle.sharc_tree.specs.declared.tree.expression.BinaryOperator.TheVariants 
 use Rattle.sharc_tree.specs.declared.tree.expression.ValueCall.TheVariants as value_call
 use Rattle.sharc_tree.specs.declared.tree.expression.PlaceCall.TheVariants as place_call
 use Rattle.sharc_tree.specs.declared.tree.expression.Constant.TheVariants as constants
-use Rattle.sharc_parse.specs.{Grammar.{Word, name, keyword, mark, number, character, Sharing, private, readonly, racy, dynamic, locked, locked_through, Typing, Declaring, Front, parenthesis, of_value, of_place, Phrase, identifier, constant, unary, binary, Phrases, none, strength, Value, value, Doing, assign, invoke, Line, nothing, does, declares, Sentence, line, jump, return, block, under, Opening, if_of, else_of, while_of, for_of, is_call, Form, single, array, initially, Part, structure, global}, Machine.{Outer, body, items, inside, LinePlace, as_statement, as_first, DoingPlace, in_line, as_step, ValuePlace, of_doing, of_local, Asked, by_if, by_while, ExpressionPlace, condition, returning, testing, subject, valued, counting, Cont, part, beneath, right_of, fronted, indexing, arguments, NamePlace, on_top, field_of, parameter_of, local, TypePlace, naming, casting, sizing, ModePlace, before_base, at_level, Core, Want, Have, Called, Dotted, Spawning, Start, Done, Returning, ForOpen, ForTest, ForStep, Malloced, Valued, TypeWant, ModeFirst, StructWant, Typed, PathWant, PathNamed, PathThrough, Named, Fields, ArrayWant, InitialWant, InitialNegative, Top, Fixed, a_semicolon, a_bracket, State, At, or_else, to, Role, Calling, Indexing, Accessing, Operating, Ending, role, floor, settle, mallocs, want, open_call, lined, doing_end, local_line, local_end, value_end, subject_end, condition_end, return_end, test_end, leave, front_end, index_end, argument_end, end_at, counted, shift, have, dotted, called, spawning, typing_of, takes_modes, moded, mode_step, based, base_step, begin_type, struct_want, level_step, name_step, comma_step, close_type, open_type, typed, path_want, path_named, path_through, declaring_of, with_part, named_top, named_field, named_parameter, named_local, named, fields, array_want, initial_negative, initial_want, with_item, function_of, close_block, holds_items, line_start, start, is_else, done, returned, for_test, for_step, malloced, core_step}, Limits.{height, FewStars, FewFront, Few, LowValue, LowDoing, LowInitial, line_nesting, nesting, LowPart, LowProgram, depth, around_it, crowded_line, crowded_doing, crowded_place, crowded, over_place, over_at, over_start, over_done, over_cast, over_core}}
+use Rattle.sharc_parse.specs.{Grammar.{Word, name, keyword, mark, number, character, Sharing, private, readonly, racy, dynamic, locked, locked_through, Typing, Declaring, Front, parenthesis, of_value, of_place, Phrase, identifier, constant, unary, binary, Phrases, none, strength, Value, value, Doing, assign, invoke, Line, nothing, does, Sentence, line, jump, under, Opening, if_of, else_of, while_of, for_of, is_call, Form, single, array, initially, Part, structure, global}, Machine.{Outer, body, items, inside, LinePlace, as_statement, as_first, DoingPlace, in_line, as_step, ValuePlace, of_doing, of_local, Asked, by_if, by_while, ExpressionPlace, condition, returning, testing, subject, valued, counting, Cont, part, beneath, right_of, fronted, indexing, arguments, NamePlace, on_top, field_of, parameter_of, local, TypePlace, naming, casting, sizing, ModePlace, before_base, at_level, Core, Want, Have, Called, Dotted, Spawning, Start, Done, Returning, ForOpen, ForTest, ForStep, Malloced, Valued, TypeWant, ModeFirst, StructWant, Typed, PathWant, PathNamed, PathThrough, Named, Fields, ArrayWant, InitialWant, InitialNegative, Top, Fixed, a_semicolon, a_bracket, State, At, or_else, to, Role, Calling, Indexing, Accessing, Operating, Ending, role, floor, settle, mallocs, want, open_call, lined, doing_end, local_line, local_end, value_end, subject_end, condition_end, return_end, test_end, leave, front_end, index_end, argument_end, end_at, counted, shift, have, dotted, called, spawning, typing_of, takes_modes, moded, mode_step, based, base_step, begin_type, struct_want, level_step, name_step, comma_step, close_type, open_type, typed, path_want, path_named, path_through, declaring_of, with_part, named_top, named_field, named_parameter, named_local, named, fields, array_want, initial_negative, initial_want, with_item, function_of, close_block, holds_items, line_start, start, is_else, done, returned, for_test, for_step, malloced, core_step}, Limits.{height, FewStars, FewFront, Few, LowValue, LowDoing, LowInitial, line_nesting, nesting, LowPart, LowProgram, depth, around_it, crowded_line, crowded_doing, crowded_place, crowded, over_place, over_at, over_start, over_done, over_cast, over_core}}
 use Rattle.sharc_parse.proofs.Completed.{LowOuter, Room, RoomToDeclare, LowDoingPlace, LowValuePlace, LowPlace, LowAround, LowName, LowType, LowMode, LowStart, LowCore, low_part_more, low_part_less, few_given_more, few_given_less, low_item_more, low_item_less, deepest_more, highest_more, few_more, few_less, around_most, depth_most}
 use Rattle.sharc_lemmas.proofs.Numbers.{test_down}
 
@@ -64,11 +64,7 @@ not_crowded_doing (as_step l e) o r = refl
 
 not_crowded_place : (p : ExpressionPlace) (o : Outer) → LowPlace p o → crowded_place p o ≡ false
 not_crowded_place (subject d) o r = not_crowded_doing d o r
-not_crowded_place (condition q) o r = refl
-not_crowded_place returning o r = refl
-not_crowded_place (testing l) o r = refl
-not_crowded_place (valued v) o r = refl
-not_crowded_place (counting v) o r = refl
+not_crowded_place _ o r = refl
 
 pub not_crowded : (k : Cont) → LowAround k → crowded k ≡ false
 not_crowded (part p o) l = not_crowded_place p o l.0
@@ -80,11 +76,7 @@ not_crowded (arguments f all k) l = not_crowded k l.2
 
 not_over_place : (p : ExpressionPlace) (o : Outer) → LowPlace p o → over_place p o ≡ false
 not_over_place (condition q) o r = lt-leb 63 (around_it o) r
-not_over_place (subject d) o r = refl
-not_over_place returning o r = refl
-not_over_place (testing l) o r = refl
-not_over_place (valued v) o r = refl
-not_over_place (counting v) o r = refl
+not_over_place _ o r = refl
 
 not_over_at : (k : Cont) → LowAround k → over_at k ≡ false
 not_over_at (part p o) l = not_over_place p o l.0
@@ -101,20 +93,16 @@ not_over_start (body all r f given b) s l = refl
 
 not_over_line : (x : Line) (o : Outer) → around_it o + line_nesting x ≤ 64 → over_done (line x) o ≡ false
 not_over_line nothing o l = test_down (around_it o) (omega (arith, l))
-not_over_line (does x) o l = refl
-not_over_line (declares x) o l = refl
+not_over_line _ o l = refl
 
 not_over_done : (s : Sentence) (o : Outer) → around_it o + nesting s ≤ 64 → over_done s o ≡ false
 not_over_done (line x) o l = not_over_line x o l
 not_over_done (jump j) o l = test_down (around_it o) (omega (arith, l))
-not_over_done (return e) o l = refl
-not_over_done (block all) o l = refl
-not_over_done (under w s) o l = refl
+not_over_done _ o l = refl
 
 not_over_cast : (p : TypePlace) → LowType p → over_cast p ≡ false
 not_over_cast (casting k) l = both_off (crowded k) (nat_le 64 (depth k)) (not_crowded k l.1) (test_down (depth k) l.0)
-not_over_cast (naming p) l = refl
-not_over_cast (sizing v n o) l = refl
+not_over_cast _ l = refl
 
 pub not_over : (c : Core) → LowCore c → over_core c ≡ false
 not_over (Want k) l = both_off (crowded k) (over_at k) (not_crowded k l) (not_over_at k l)
@@ -128,21 +116,7 @@ not_over (Returning o) l = test_down (around_it o) l.0
 not_over (ForOpen o) l = lt-leb 63 (around_it o) l.0
 not_over (TypeWant p) l = not_over_cast p l
 not_over (Typed p first b m below) l = lt-leb 9 (length below) (omega (arith, l.0))
-not_over (ForTest x o) l = refl
-not_over (ForStep x e o) l = refl
-not_over (Malloced v o) l = refl
-not_over (Valued v r o) l = refl
-not_over (ModeFirst p s) l = refl
-not_over (StructWant p m) l = refl
-not_over (PathWant p) l = refl
-not_over (PathNamed p n) l = refl
-not_over (PathThrough p n) l = refl
-not_over (Named p ty n) l = refl
-not_over (Fields all s before) l = refl
-not_over (ArrayWant all d) l = refl
-not_over (InitialWant all d) l = refl
-not_over (InitialNegative all d) l = refl
-not_over (Top all) l = refl
+not_over _ l = refl
 
 -- Expressions.
 
@@ -231,10 +205,7 @@ settled_same l x (beneath u k) =
     let r = settled_same l (unary u x) k in
     record { up = λ h. r.up (omega (arith, h.0), h.1, h.2.1); down = λ h. let d = r.down h in (omega (arith, d.0), d.1, (omega (arith, d.0), d.2)) }
 settled_same l x (right_of a o k) = settled_at (nat_le l (strength o)) l x a o k (settled_same l (binary o a x) k)
-settled_same l x (part p o) = same_as x (part p o)
-settled_same l x (fronted f k) = same_as x (fronted f k)
-settled_same l x (indexing a k) = same_as x (indexing a k)
-settled_same l x (arguments f all k) = same_as x (arguments f all k)
+settled_same l x j = same_as x j
 
 -- a line that ends
 lined_moves : (p : LinePlace) (x : Doing) (o : Outer) (P : Type 0) → (P → LowDoing x × Room p o × LowOuter o) → (LowDoing x × Room p o × LowOuter o → P) → MovesTo P (Some (lined p (does x) o))
@@ -341,8 +312,7 @@ end_moves x (fronted h k) t = front_end_moves h x k t
 end_moves x (indexing a k) t = index_moves a x k t
 end_moves x (arguments f all k) t = argument_moves f all x k t
 end_moves x (part p o) t = leave_moves p x o t
-end_moves x (beneath u k) t = tt
-end_moves x (right_of a o k) t = tt
+end_moves x _ t = tt
 
 counted_moves : (o : BinaryOperator) (x : Phrase) (k : Cont) → MovesTo (LowCore (Have x k)) (counted o x k)
 counted_moves op.Multiply x (part (counting v) o) = record {
@@ -432,13 +402,11 @@ level_moves p first b (Some s) below t = tt
 
 name_moves : (p : TypePlace) (first : Bool) (b : Base) (m : Option Sharing) (below : List (Option Sharing)) (n : List ℕ) → MovesTo ((length below ≤ 8) × LowType p) (name_step p (typing_of first b m below) n)
 name_moves (naming p) first b m below n = alike ((length below ≤ 8) × LowName p) (Named p (typing_of first b m below) n) (λ l. l) (λ l. l)
-name_moves (casting k) first b m below n = tt
-name_moves (sizing v c o) first b m below n = tt
+name_moves _ first b m below n = tt
 
 comma_moves : (p : TypePlace) (first : Bool) (b : Base) (m : Option Sharing) (below : List (Option Sharing)) → MovesTo ((length below ≤ 8) × LowType p) (comma_step p (typing_of first b m below))
 comma_moves (casting k) first b m below = record { up = λ l v. (l.1.0, l.0, l.1.1); down = λ l. (l.1, (l.0, l.2)) }
-comma_moves (naming p) first b m below = tt
-comma_moves (sizing v c o) first b m below = tt
+comma_moves _ first b m below = tt
 
 close_moves : (p : TypePlace) (first : Bool) (b : Base) (m : Option Sharing) (below : List (Option Sharing)) → MovesTo ((length below ≤ 8) × LowType p) (close_type p first b m below)
 close_moves (sizing v n o) first b m below = record { up = λ l w. (l.1.0, (l.1.1, l.0), l.1.2); down = λ l. (l.1.1, (l.0, l.1.0, l.2)) }
@@ -483,8 +451,7 @@ close_block_moves (inside w o) = tt
 -- room for a statement is room for one that is under another
 start_room : (o : Outer) → around_it o < 64 → LowStart o
 start_room (inside w o) h = omega (arith, h)
-start_room (items all o) h = tt
-start_room (body all r f given s) h = tt
+start_room _ h = tt
 
 expression_moves : (o : Outer) (n : Option State) → TestsRoom (part (subject (in_line as_statement)) o) n → MovesTo (LowAround (part (subject (in_line as_statement)) o)) n → MovesTo (LowStart o × LowOuter o) n
 expression_moves o None h m = tt
@@ -495,8 +462,7 @@ expression_moves o (Some (At fs n)) h m = record {
 
 declaration_moves : (o : Outer) (t : Word) → MovesTo (LowStart o × LowOuter o) (cond (holds_items o) (begin_type (naming (local as_statement o)) t) None)
 declaration_moves (inside w o) t = tt
-declaration_moves (items all o) t = moves_from (Unit {0} × LowOuter (items all o)) (Unit {0} × LowOuter (items all o)) (begin_type (naming (local as_statement (items all o))) t) (λ l. l) (λ l. l) (begin_moves (naming (local as_statement (items all o))) t)
-declaration_moves (body all r f given s) t = moves_from (Unit {0} × LowOuter (body all r f given s)) (Unit {0} × LowOuter (body all r f given s)) (begin_type (naming (local as_statement (body all r f given s))) t) (λ l. l) (λ l. l) (begin_moves (naming (local as_statement (body all r f given s))) t)
+declaration_moves k t = moves_from (Unit {0} × LowOuter k) (Unit {0} × LowOuter k) (begin_type (naming (local as_statement k)) t) (λ l. l) (λ l. l) (begin_moves (naming (local as_statement k)) t)
 
 statement_moves : (o : Outer) (t : Word) → MovesTo (LowStart o × LowOuter o) (line_start as_statement o t)
 statement_moves o (mark Semicolon) = record { up = λ l v. (tt, omega (arith, test_up (around_it o) v), l.1); down = λ l. (start_room o (omega (arith, l.1)), l.2) }

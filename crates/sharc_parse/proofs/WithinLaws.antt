@@ -1,6 +1,6 @@
 -- The machine within the limits: what it reads, and its first faults.
 use Rattle.std.proofs.Common.{◌≡◌, List, [], ◌∷◌, ◌++◌, Option, Some, None, refl, sym, ap, ◌∙◌, append_assoc, subst, Bool, true, false, cond}
-use Rattle.sharc_parse.specs.{Grammar.{Word, Part, program_words, IsProgram}, Machine.{Core, Want, Have, Called, Dotted, Spawning, Start, Done, Returning, ForOpen, ForTest, ForStep, Malloced, Valued, TypeWant, ModeFirst, StructWant, Typed, PathWant, PathNamed, PathThrough, Named, Fields, ArrayWant, InitialWant, InitialNegative, Top, Fixed, State, At, is_fixed, core_step, step, Read, Stuck, core_finish, finish, then_on, reads, first_state}, Limits.{LowProgram, BeginsWithin, FirstWrong, Exceeds, FirstExcess, over, Limited, ReadWithin, StuckAt, Over, lifted, next_within, reads_within}}
+use Rattle.sharc_parse.specs.{Grammar.{Word, Part, program_words, IsProgram}, Machine.{Core, Top, Fixed, State, At, is_fixed, core_step, step, Read, Stuck, core_finish, finish, then_on, reads, first_state}, Limits.{LowProgram, BeginsWithin, FirstWrong, Exceeds, FirstExcess, over, Limited, ReadWithin, StuckAt, Over, lifted, next_within, reads_within}}
 use Rattle.sharc_parse.proofs.{Completed.LowCore, Within.{MovesTo, core_moves, not_over}, Whole.{only, found, Reached, ReachedNext, step_reached, first_reached, LowState, completed_at, Stops, ends}}
 
 -- from one state to the next
@@ -24,31 +24,7 @@ step_steps (At (w ∷ fs) c) t = fixed_steps (is_fixed w t) fs c
 
 core_finish_low : (c : Core) (p : List Part) → core_finish c ≡ Read p → LowProgram p → LowCore c
 core_finish_low (Top all) p e l = let is : p ≡ all = cc in subst LowProgram is l
-core_finish_low (Want k) p e l = cc
-core_finish_low (Have x k) p e l = cc
-core_finish_low (Called f k) p e l = cc
-core_finish_low (Dotted x a k) p e l = cc
-core_finish_low (Spawning k) p e l = cc
-core_finish_low (Start o) p e l = cc
-core_finish_low (Done s o) p e l = cc
-core_finish_low (Returning o) p e l = cc
-core_finish_low (ForOpen o) p e l = cc
-core_finish_low (ForTest x o) p e l = cc
-core_finish_low (ForStep x t o) p e l = cc
-core_finish_low (Malloced v o) p e l = cc
-core_finish_low (Valued v r o) p e l = cc
-core_finish_low (TypeWant q) p e l = cc
-core_finish_low (ModeFirst q s) p e l = cc
-core_finish_low (StructWant q m) p e l = cc
-core_finish_low (Typed q first b m below) p e l = cc
-core_finish_low (PathWant q) p e l = cc
-core_finish_low (PathNamed q n) p e l = cc
-core_finish_low (PathThrough q n) p e l = cc
-core_finish_low (Named q ty n) p e l = cc
-core_finish_low (Fields all s before) p e l = cc
-core_finish_low (ArrayWant all d) p e l = cc
-core_finish_low (InitialWant all d) p e l = cc
-core_finish_low (InitialNegative all d) p e l = cc
+core_finish_low _ p e l = cc
 
 finish_low : (s : State) (p : List Part) → finish s ≡ Read p → LowProgram p → LowState s
 finish_low (At [] c) p e l = core_finish_low c p e l
@@ -114,31 +90,7 @@ forward_on f t ts s None is a l x m ih = here Stops f (t ∷ ts) s a l is
 
 core_finish_on : (f : List Word → List Word) (c : Core) → Reached f (At [] c) → LowCore c → GivesWithin f [] (At [] c) (lifted (core_finish c))
 core_finish_on f (Top all) a l = (refl, l)
-core_finish_on f (Want k) a l = here Stops f [] (At [] (Want k)) a l refl
-core_finish_on f (Have x k) a l = here Stops f [] (At [] (Have x k)) a l refl
-core_finish_on f (Called g k) a l = here Stops f [] (At [] (Called g k)) a l refl
-core_finish_on f (Dotted x w k) a l = here Stops f [] (At [] (Dotted x w k)) a l refl
-core_finish_on f (Spawning k) a l = here Stops f [] (At [] (Spawning k)) a l refl
-core_finish_on f (Start o) a l = here Stops f [] (At [] (Start o)) a l refl
-core_finish_on f (Done s o) a l = here Stops f [] (At [] (Done s o)) a l refl
-core_finish_on f (Returning o) a l = here Stops f [] (At [] (Returning o)) a l refl
-core_finish_on f (ForOpen o) a l = here Stops f [] (At [] (ForOpen o)) a l refl
-core_finish_on f (ForTest x o) a l = here Stops f [] (At [] (ForTest x o)) a l refl
-core_finish_on f (ForStep x t o) a l = here Stops f [] (At [] (ForStep x t o)) a l refl
-core_finish_on f (Malloced v o) a l = here Stops f [] (At [] (Malloced v o)) a l refl
-core_finish_on f (Valued v r o) a l = here Stops f [] (At [] (Valued v r o)) a l refl
-core_finish_on f (TypeWant q) a l = here Stops f [] (At [] (TypeWant q)) a l refl
-core_finish_on f (ModeFirst q s) a l = here Stops f [] (At [] (ModeFirst q s)) a l refl
-core_finish_on f (StructWant q m) a l = here Stops f [] (At [] (StructWant q m)) a l refl
-core_finish_on f (Typed q first b m below) a l = here Stops f [] (At [] (Typed q first b m below)) a l refl
-core_finish_on f (PathWant q) a l = here Stops f [] (At [] (PathWant q)) a l refl
-core_finish_on f (PathNamed q n) a l = here Stops f [] (At [] (PathNamed q n)) a l refl
-core_finish_on f (PathThrough q n) a l = here Stops f [] (At [] (PathThrough q n)) a l refl
-core_finish_on f (Named q ty n) a l = here Stops f [] (At [] (Named q ty n)) a l refl
-core_finish_on f (Fields all s before) a l = here Stops f [] (At [] (Fields all s before)) a l refl
-core_finish_on f (ArrayWant all d) a l = here Stops f [] (At [] (ArrayWant all d)) a l refl
-core_finish_on f (InitialWant all d) a l = here Stops f [] (At [] (InitialWant all d)) a l refl
-core_finish_on f (InitialNegative all d) a l = here Stops f [] (At [] (InitialNegative all d)) a l refl
+core_finish_on f j a l = here Stops f [] (At [] j) a l refl
 
 finish_on : (f : List Word → List Word) (s : State) → Reached f s → LowState s → GivesWithin f [] s (lifted (finish s))
 finish_on f (At [] c) a l = core_finish_on f c a l

@@ -7,27 +7,19 @@ use Rattle.sharc_parse.proofs.{Steps.{passes, fails, fixed_goes}, RightSteps.end
 
 start_step : (w : StatementWord) (o : Outer) → start o (statement_word w) ≡ Some (after_word w o)
 start_step If o = refl
-start_step While o = refl
-start_step For o = refl
-start_step Return o = refl
-start_step Break o = refl
-start_step Continue o = refl
+start_step _ o = refl
 
 word_fine : (w : StatementWord) (o : Outer) (room : ℕ) → around_it o + room ≡ 64 → room_of w ≤ room → over (after_word w o) ≡ false
-word_fine If o room e h = lt-leb 63 (around_it o) (omega (arith, e, h))
-word_fine While o room e h = lt-leb 63 (around_it o) (omega (arith, e, h))
-word_fine For o room e h = lt-leb 63 (around_it o) (omega (arith, e, h))
 word_fine Return o room e h = lt-leb 64 (around_it o) (omega (arith, e, h))
 word_fine Break o room e h = lt-leb 64 (around_it o) (omega (arith, e, h))
 word_fine Continue o room e h = lt-leb 64 (around_it o) (omega (arith, e, h))
+word_fine _ o room e h = lt-leb 63 (around_it o) (omega (arith, e, h))
 
 word_deep : (w : StatementWord) (o : Outer) (room : ℕ) → around_it o + room ≡ 64 → room < room_of w → over (after_word w o) ≡ true
-word_deep If o room e h = le-leb 63 (around_it o) (omega (arith, e, h))
-word_deep While o room e h = le-leb 63 (around_it o) (omega (arith, e, h))
-word_deep For o room e h = le-leb 63 (around_it o) (omega (arith, e, h))
 word_deep Return o room e h = le-leb 64 (around_it o) (omega (arith, e, h))
 word_deep Break o room e h = le-leb 64 (around_it o) (omega (arith, e, h))
 word_deep Continue o room e h = le-leb 64 (around_it o) (omega (arith, e, h))
+word_deep _ o room e h = le-leb 63 (around_it o) (omega (arith, e, h))
 
 pub word_goes : (w : StatementWord) (o : Outer) (room : ℕ) (y : List Word) → around_it o + room ≡ 64 → room_of w ≤ room → reads_within (statement_word w ∷ y) (At [] (Start o)) ≡ reads_within y (after_word w o)
 word_goes w o room y e h = ap (λ n. next_within n (λ s. reads_within y s) (statement_word w ∷ y)) (start_step w o) ∙ passes (after_word w o) y (statement_word w ∷ y) (word_fine w o room e h)

@@ -14,44 +14,12 @@ use Rattle.sharc_parse.specs.Machine.{Operating, Ending, role, grip_of, floor, s
 -- no operator binds as tightly as one before its operand
 pub weak : (o : BinaryOperator) → strength o < 11
 weak op.LogicalOr = lit< tt
-weak op.LogicalAnd = lit< tt
-weak op.BitOr = lit< tt
-weak op.BitXor = lit< tt
-weak op.BitAnd = lit< tt
-weak op.Equal = lit< tt
-weak op.NotEqual = lit< tt
-weak op.Less = lit< tt
-weak op.Greater = lit< tt
-weak op.LessOrEqual = lit< tt
-weak op.GreaterOrEqual = lit< tt
-weak op.ShiftLeft = lit< tt
-weak op.ShiftRight = lit< tt
-weak op.Add = lit< tt
-weak op.Subtract = lit< tt
-weak op.Multiply = lit< tt
-weak op.Divide = lit< tt
-weak op.Remainder = lit< tt
+weak _ = lit< tt
 
 -- after an operand its mark is that operator
 pub operating : (o : BinaryOperator) → role (mark (operator_mark o)) ≡ Operating o
 operating op.LogicalOr = refl
-operating op.LogicalAnd = refl
-operating op.BitOr = refl
-operating op.BitXor = refl
-operating op.BitAnd = refl
-operating op.Equal = refl
-operating op.NotEqual = refl
-operating op.Less = refl
-operating op.Greater = refl
-operating op.LessOrEqual = refl
-operating op.GreaterOrEqual = refl
-operating op.ShiftLeft = refl
-operating op.ShiftRight = refl
-operating op.Add = refl
-operating op.Subtract = refl
-operating op.Multiply = refl
-operating op.Divide = refl
-operating op.Remainder = refl
+operating _ = refl
 
 -- an operator takes nothing of what is around an operand that holds together as tightly
 pub settle_stops : (l : ℕ) (x : Phrase) (k : Cont) → l < 11 → floor k ≤ l → settle l x k ≡ (x, k)
