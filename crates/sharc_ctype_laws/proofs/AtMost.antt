@@ -1,14 +1,7 @@
 -- Notes refer to a token at most as often as the tree has a name there.
-use Rattle.std.proofs.Common.{◌≡◌, ℕ, ◌+◌, ◌-◌, ◌≤◌, ◌<◌, ◌==◌, Bool, true, false, List, [], ◌∷◌, ◌++◌, length, drop, refl, ap, ◌∙◌, arith, Option, Some, None, IfSome, is_some, nat_lt, codes}
-use Rattle.sharc_tree.specs.{declared.ctype.Base.Base, declared.ctype.Mode.Mode, declared.ctype.Path.Path, declared.ctype.Path.TheVariants.{One, Through}, declared.tree.declaration.Identifier.Identifier, declared.tree.declaration.WrittenType.WrittenType, declared.tree.declaration.Declaration.Declaration, declared.tree.expression.Constant.Constant, declared.tree.item.GlobalDefinition.GlobalDefinition, declared.tree.item.GlobalForm.GlobalForm, declared.tree.item.GlobalForm.TheVariants.{Array, Initial}, declared.tree.expression.PlaceCall.PlaceCall, Low.{is_unary, LowType, LowTypes, AllLowTypes, LowExpression, LowRight, LowSimple, LowLocal, LowFirst, LowHead, LowStatement, LowStatements, LowDeclarations, LowItem, LowItems}, Marks.{Mark, a_name, a_cast, name_marks, path_marks, level_marks, base_marks, levels_marks, type_marks, declaration_marks, declarations_marks, marks, arguments_marks, option_marks, right_marks, simple_marks, local_marks, first_marks, head_marks, statement_marks, statements_marks, item_marks, items_marks}, Tree.{Expression, Arguments, no_arguments, argument, Right, value, malloc, Simple, assign, does_call, Local, First, nothing, declares, does, Head, Statement, Statements, no_statements, statement, Function, Item}}
-use Rattle.sharc_tree.specs.declared.ctype.Base.TheVariants as base
-use Rattle.sharc_tree.specs.declared.ctype.Mode.TheVariants as modes
+use Rattle.sharc_ctype_laws.proofs.{Imports.{◌≡◌, ℕ, ◌+◌, ◌-◌, ◌≤◌, ◌<◌, ◌==◌, Bool, true, false, List, [], ◌∷◌, ◌++◌, length, drop, refl, ap, ◌∙◌, arith, Option, Some, None, IfSome, is_some, nat_lt, codes, Base, Mode, Path, One, Through, Identifier, WrittenType, Declaration, Constant, GlobalDefinition, GlobalForm, Array, Initial, PlaceCall, is_unary, LowType, LowTypes, AllLowTypes, LowExpression, LowRight, LowSimple, LowLocal, LowFirst, LowHead, LowStatement, LowStatements, LowDeclarations, LowItem, LowItems, Mark, a_name, a_cast, name_marks, path_marks, level_marks, base_marks, levels_marks, type_marks, declaration_marks, declarations_marks, marks, arguments_marks, option_marks, right_marks, simple_marks, local_marks, first_marks, head_marks, statement_marks, statements_marks, item_marks, items_marks, Expression, Arguments, no_arguments, argument, Right, value, malloc, Simple, assign, does_call, Local, First, nothing, declares, does, Head, Statement, Statements, no_statements, statement, Function, Item, FaultCode, TypeNotAllowed, NoLvalue, BadForm, LimitPassed, NoMain, Named, Field, Scope, Role, Kind, void, is_pointer, same_kind, declared_kind, stars_of, StructTable, StructMeaning, Entry, Meaning, look_up, struct_of, field_of, parameters_of, place, met, Note, fault, refers, fault_unless, name_notes, main_notes, field_in, field_notes, first_kind, second_in, second_notes, path_notes, mode_notes, modes_notes, struct_note, base_notes, allowed_there, type_notes, is_fine, first_wanted, Need, OperatorClass, Heads, item_head_notes, heads_notes, behind as heads_behind, no_heads, twice, Standing, AsValue, AsLvalue, uncalled_notes, type_of, notes_at, notes_of_all, is_place, access_need, operand_need, place_notes, place_kind, place_call_notes, cast_notes, count, arguments_count_notes, callee_notes, wanted, spawn_notes, spawn_wanted, class_of, operands_need, binary_notes, length_notes, constant_notes, base_initial_notes, item_size_notes, sizes_notes, item_cells, in_body, fields_notes, one_field_notes, parameters_notes, beyond, item_notes, items_notes, file_scope, has_main, program_notes, Around, is_here, is_aggregate, returned_as, locals_in_all, opened, looping, with_names, declared, declared_notes, test_notes, count_notes, right_notes, simple_notes, local_notes, initial_notes, return_notes, first_notes as first_part_notes, behind_first, tests_notes, step_notes, in_head, head_notes, after, notes_in, notes_in_all}, Counts.{one, told, written, told-append, written-append, told_refers, told_yields, told_none, written_one, written_cast, written_none, quiet_fault, quiet_unless, quiet_where, quiet_if, quiet_unmet, quiet_unagreed, quiet_both, side, crossed, behind, before, none_most}}
 use Rattle.sharc_tree.specs.Tree as tree
-use Rattle.sharc_names.specs.{declared.fault.FaultCode.FaultCode, declared.fault.FaultCode.TheVariants.{TypeNotAllowed, NoLvalue, BadForm, LimitPassed, NoMain}, declared.fault.Named.Named, declared.fault.Named.TheVariants.Field, declared.scope.Scope.Scope, declared.types.Role.Role, Kinds.{Kind, void, is_pointer, same_kind, declared_kind, stars_of}, Names.{StructTable, StructMeaning, Entry, Meaning, look_up, struct_of, field_of, parameters_of}, Needs.{place, met}, Notes.{Note, fault, refers, fault_unless}, Types.{name_notes, main_notes, field_in, field_notes, first_kind, first_notes, second_in, second_notes, path_notes, mode_notes, modes_notes, struct_note, base_notes, allowed_there, type_notes, is_fine}, Wants.first_wanted}
-use Rattle.sharc_names.specs.declared.need.Need.TheVariants as need
-use Rattle.sharc_names.specs.declared.types.Role.TheVariants as role
-use Rattle.sharc_ctype.specs.{declared.expr.OperatorClass.OperatorClass, Heads.{Heading as Heads, head_notes as item_head_notes, heads_notes, behind as heads_behind, no_heads, twice}, declared.expr.Standing.Standing, declared.expr.Standing.TheVariants.{AsValue, AsLvalue}, Expressions.{uncalled_notes, type_of, notes_at, notes_of_all, is_place, access_need, operand_need, place_notes, place_kind, place_call_notes, cast_notes, count, count_notes as arguments_count_notes, callee_notes, wanted, spawn_notes, spawn_wanted, class_of, operands_need, binary_notes}, Globals.{length_notes, initial_notes as constant_notes, base_initial_notes, item_size_notes, sizes_notes, item_cells}, Items.{in_body, fields_notes, field_notes as one_field_notes, parameters_notes, beyond, item_notes, items_notes, file_scope, has_main, program_notes}, Statements.{Around, is_here, is_aggregate, returned_as, locals_in_all, opened, looping, with_names, declared, declared_notes, test_notes, count_notes, right_notes, simple_notes, local_notes, initial_notes, return_notes, first_notes as first_part_notes, behind_first, tests_notes, step_notes, in_head, head_notes, after, notes_in, notes_in_all}}
-use Rattle.sharc_ctype_laws.proofs.Counts.{one, told, written, told-append, written-append, told_refers, told_yields, told_none, written_one, written_cast, written_none, quiet_fault, quiet_unless, quiet_where, quiet_if, quiet_unmet, quiet_unagreed, quiet_both, side, crossed, behind, before, none_most}
+use Rattle.sharc_names.specs.Types.{first_notes}
 
 -- quiet parts
 
@@ -75,7 +68,7 @@ of_name t n text m h = let e = written_one t n text in omega (arith, e, h)
 -- written types
 
 base_most : (t : ℕ) (structs : StructTable) (token : ℕ) (b : Base) → told t (base_notes structs token b) ≤ written t (base_marks b token)
-base_most t structs token (base.Struct name) = of_name t token name _ (by (struct_of structs name))
+base_most t structs token (Base.Struct name) = of_name t token name _ (by (struct_of structs name))
   where
     by : (o : Option StructMeaning) → told t (struct_note token o) ≤ one t token
     by None = fault_most t _ _ _
@@ -94,7 +87,7 @@ path_most t scope siblings (Through x token m) =
     (of_name t (token + 2) m _ (second_most t (token + 2) (second_in scope.structs m (first_kind (field_of siblings x) (look_up scope.names x)))))
 
 mode_most : (t : ℕ) (scope : Scope) (siblings : List Declaration) (m : Option Mode) → told t (mode_notes scope siblings m) ≤ written t (level_marks m)
-mode_most t scope siblings (Some (modes.Locked path)) = path_most t scope siblings path
+mode_most t scope siblings (Some (Mode.Locked path)) = path_most t scope siblings path
 mode_most t scope siblings _ = none_most t _
 
 -- the marks of all levels
@@ -145,17 +138,17 @@ mutual
       (most_all t scope (wanted (count all) (look_up scope.names f.text)) all l)
   most stands t scope (tree.spawn s f a) l =
       behind t _ _ _
-      (crossed t _ _ (name_marks f) (marks a) (behind t _ _ _ (most AsValue t scope a l) (quiet_unmet t need.Value a (type_of scope a))) (of_name t _ _ _ (spawn_most t s.first.token f.site.token (look_up scope.names f.text))))
-      (quiet_unagreed t (spawn_wanted (look_up scope.names f.text)) a (met need.Value (type_of scope a)))
-  most stands t scope (tree.on_value s w a) l = behind t _ _ _ (most AsValue t scope a l) (quiet_unmet t need.Integer a (type_of scope a))
+      (crossed t _ _ (name_marks f) (marks a) (behind t _ _ _ (most AsValue t scope a l) (quiet_unmet t Need.Value a (type_of scope a))) (of_name t _ _ _ (spawn_most t s.first.token f.site.token (look_up scope.names f.text))))
+      (quiet_unagreed t (spawn_wanted (look_up scope.names f.text)) a (met Need.Value (type_of scope a)))
+  most stands t scope (tree.on_value s w a) l = behind t _ _ _ (most AsValue t scope a l) (quiet_unmet t Need.Integer a (type_of scope a))
   most stands t scope (tree.on_place s w a) l =
       behind t _ _ _ (behind t _ _ _ (most AsLvalue t scope a l.1) (quiet_place t scope.names a)) (quiet_place_call t s.first.token w (place_kind scope.names a (type_of scope a)))
   most stands t scope (tree.cast s w a) l =
       past_cast t s.first.token _ (type_marks w ++ marks a)
-      (behind t _ _ _ (behind t _ _ _ (side t _ _ (type_marks w) (marks a) (type_most t scope [] role.Cast w l.0) (most AsLvalue t scope a l.2)) (quiet_place t scope.names a))
-      (quiet_cast t s.first.token (is_fine scope.structs role.Cast w) w a (place_kind scope.names a (type_of scope a))))
+      (behind t _ _ _ (behind t _ _ _ (side t _ _ (type_marks w) (marks a) (type_most t scope [] Role.Cast w l.0) (most AsLvalue t scope a l.2)) (quiet_place t scope.names a))
+      (quiet_cast t s.first.token (is_fine scope.structs Role.Cast w) w a (place_kind scope.names a (type_of scope a))))
   most stands t scope (tree.index s a i) l =
-      behind t _ _ _ (side t _ _ (marks a) (marks i) (behind t _ _ _ (most AsValue t scope a l.0) (quiet_unmet t need.Indexed a (type_of scope a))) (most AsValue t scope i l.1)) (quiet_unmet t need.Integer i (type_of scope i))
+      behind t _ _ _ (side t _ _ (marks a) (marks i) (behind t _ _ _ (most AsValue t scope a l.0) (quiet_unmet t Need.Indexed a (type_of scope a))) (most AsValue t scope i l.1)) (quiet_unmet t Need.Integer i (type_of scope i))
   most stands t scope (tree.field s a w n) l =
       side t _ _ (marks a) (name_marks n) (behind t _ _ _ (most AsValue t scope a l) (quiet_unmet t (access_need w) a (type_of scope a)))
       (of_name t _ _ _ (member_most t n.site.token (field_in scope.structs n.text (met (access_need w) (type_of scope a)))))
@@ -169,23 +162,23 @@ mutual
   most_all t scope want no_arguments l = none_most t _
   most_all t scope want (argument a rest) l =
       side t _ _ (marks a) (arguments_marks rest)
-      (behind t _ _ _ (behind t _ _ _ (most AsValue t scope a l.0) (quiet_unmet t need.Value a (type_of scope a))) (quiet_unagreed t (first_wanted want) a (met need.Value (type_of scope a))))
+      (behind t _ _ _ (behind t _ _ _ (most AsValue t scope a l.0) (quiet_unmet t Need.Value a (type_of scope a))) (quiet_unagreed t (first_wanted want) a (met Need.Value (type_of scope a))))
       (most_all t scope (drop 1 want) rest l.1)
 
 -- statements
 
 most_count : (t : ℕ) (scope : Scope) (n : Option Expression) → IfSome n (λ e. (is_unary e ≡ true) × LowExpression e) → told t (count_notes scope n) ≤ written t (option_marks marks n)
 most_count t scope None l = none_most t _
-most_count t scope (Some e) l = behind t _ _ _ (most AsValue t scope e l.1.1) (quiet_unmet t need.Integer e (type_of scope e))
+most_count t scope (Some e) l = behind t _ _ _ (most AsValue t scope e l.1.1) (quiet_unmet t Need.Integer e (type_of scope e))
 
 most_right : (t : ℕ) (scope : Scope) (want : Option Kind) (x : Right) → LowRight x → told t (right_notes scope want x) ≤ written t (right_marks x)
-most_right t scope want (value e) l = behind t _ _ _ (behind t _ _ _ (most AsValue t scope e l.1) (quiet_unmet t need.Value e (type_of scope e))) (quiet_unagreed t want e (met need.Value (type_of scope e)))
-most_right t scope want (malloc s n w) l = behind t _ _ _ (side t _ _ (option_marks marks n) (type_marks w) (most_count t scope n l.0) (type_most t scope [] role.Made w l.1)) (quiet_unless t _ _ _)
+most_right t scope want (value e) l = behind t _ _ _ (behind t _ _ _ (most AsValue t scope e l.1) (quiet_unmet t Need.Value e (type_of scope e))) (quiet_unagreed t want e (met Need.Value (type_of scope e)))
+most_right t scope want (malloc s n w) l = behind t _ _ _ (side t _ _ (option_marks marks n) (type_marks w) (most_count t scope n l.0) (type_most t scope [] Role.Made w l.1)) (quiet_unless t _ _ _)
 
 most_simple : (t : ℕ) (scope : Scope) (x : Simple) → LowSimple x → told t (simple_notes scope x) ≤ written t (simple_marks x)
 most_simple t scope (assign s u x) l =
     side t _ _ (marks u) (right_marks x)
-    (behind t _ _ _ (behind t _ _ _ (most AsLvalue t scope u l.1.1) (quiet_place t scope.names u)) (quiet_unmet t need.Value u (place_kind scope.names u (type_of scope u))))
+    (behind t _ _ _ (behind t _ _ _ (most AsLvalue t scope u l.1.1) (quiet_place t scope.names u)) (quiet_unmet t Need.Value u (place_kind scope.names u (type_of scope u))))
     (most_right t scope _ x l.2)
 most_simple t scope (does_call e) l = most AsValue t scope e l.1.1
 
@@ -202,7 +195,7 @@ most_initial t scope d (Some x) l = before t _ _ _ (quiet_where t (is_aggregate 
 most_local : (t : ℕ) (around : Around) (scope : Scope) (l : Local) → LowLocal l → told t (local_notes around scope l) ≤ written t (local_marks l)
 most_local t around scope l low =
     side t _ _ (declaration_marks l.declaration) (option_marks right_marks l.initial)
-    (side t _ _ (type_marks l.declaration.written) (name_marks l.declaration.name) (type_most t scope [] role.Local l.declaration.written low.0) (declared_most t around.block l.declaration scope.names))
+    (side t _ _ (type_marks l.declaration.written) (name_marks l.declaration.name) (type_most t scope [] Role.Local l.declaration.written low.0) (declared_most t around.block l.declaration scope.names))
     (most_initial t _ l.declaration l.initial low.1)
 
 most_first : (t : ℕ) (around : Around) (scope : Scope) (f : First) → LowFirst f → told t (first_part_notes around scope f) ≤ written t (first_marks f)
@@ -211,7 +204,7 @@ most_first t around scope (declares x) l = most_local t around scope x l
 most_first t around scope (does x) l = most_simple t scope x l
 
 most_test : (t : ℕ) (scope : Scope) (e : Expression) → LowExpression e → told t (test_notes scope e) ≤ written t (marks e)
-most_test t scope e l = behind t _ _ _ (most AsValue t scope e l.1) (quiet_unmet t need.Value e (type_of scope e))
+most_test t scope e l = behind t _ _ _ (most AsValue t scope e l.1) (quiet_unmet t Need.Value e (type_of scope e))
 
 most_tests : (t : ℕ) (scope : Scope) (e : Option Expression) → IfSome e LowExpression → told t (tests_notes scope e) ≤ written t (option_marks marks e)
 most_tests t scope None l = none_most t _
@@ -230,8 +223,8 @@ most_head t around scope h l =
 most_return : (t : ℕ) (around : Around) (scope : Scope) (word : ℕ) (e : Option Expression) → IfSome e LowExpression → told t (return_notes around scope word e) ≤ written t (option_marks marks e)
 most_return t around scope word None l = let e = quiet_unless t (same_kind around.result void) word BadForm in omega (arith, e)
 most_return t around scope word (Some e) l =
-    behind t _ _ _ (behind t _ _ _ (before t _ _ _ (quiet_where t (same_kind around.result void) word BadForm) (most AsValue t scope e l.1)) (quiet_unmet t need.Value e (type_of scope e)))
-    (quiet_unagreed t (returned_as around.result) e (met need.Value (type_of scope e)))
+    behind t _ _ _ (behind t _ _ _ (before t _ _ _ (quiet_where t (same_kind around.result void) word BadForm) (most AsValue t scope e l.1)) (quiet_unmet t Need.Value e (type_of scope e)))
+    (quiet_unagreed t (returned_as around.result) e (met Need.Value (type_of scope e)))
 
 jump_most : (t : ℕ) (b : Bool) (place n : ℕ) → told t (fault_unless b place BadForm) ≤ n
 jump_most t b place n = let e = quiet_unless t b place BadForm in omega (arith, e)
@@ -263,7 +256,7 @@ mutual
 
 field_most : (t : ℕ) (scope : Scope) (all earlier : List Declaration) (d : Declaration) → LowType d.written → told t (one_field_notes scope all earlier d) ≤ written t (declaration_marks d)
 field_most t scope all earlier d l =
-    side t _ _ (type_marks d.written) (name_marks d.name) (type_most t scope all role.Field d.written l)
+    side t _ _ (type_marks d.written) (name_marks d.name) (type_most t scope all Role.Field d.written l)
     (of_name t d.name.site.token d.name.text _ (one_most t d.name.site.token _ _ d.name.site.token refl (quiet_both t _ _ (quiet_twice t (is_some (field_of earlier d.name.text)) d.name.site.token) (quiet_unless t _ _ _))))
 
 fields_most : (t : ℕ) (scope : Scope) (all earlier rest : List Declaration) → LowDeclarations rest → told t (fields_notes scope all earlier rest) ≤ written t (declarations_marks rest)
@@ -274,7 +267,7 @@ parameters_most : (t block n : ℕ) (scope : Scope) (list : List Declaration) �
 parameters_most t block n scope [] l = none_most t _
 parameters_most t block n scope (d ∷ rest) l =
     side t _ _ (declaration_marks d) (declarations_marks rest)
-    (behind t _ _ _ (side t _ _ (type_marks d.written) (name_marks d.name) (type_most t scope [] role.Parameter d.written l.0) (declared_most t block d scope.names)) (quiet_unless t (nat_lt n 16) d.name.site.token LimitPassed))
+    (behind t _ _ _ (side t _ _ (type_marks d.written) (name_marks d.name) (type_most t scope [] Role.Parameter d.written l.0) (declared_most t block d scope.names)) (quiet_unless t (nat_lt n 16) d.name.site.token LimitPassed))
     (parameters_most t block (n + 1) (with_names scope (declared block d scope.names)) rest l.1)
 
 pub quiet_beyond : (t room : ℕ) (list : List Declaration) → told t (beyond room list) ≡ 0
@@ -282,9 +275,9 @@ quiet_beyond t room [] = told_none t
 quiet_beyond t room (d ∷ rest) = quiet_both t _ _ (quiet_where t (room == 0) _ _) (quiet_beyond t (room - 1) rest)
 
 quiet_base_initial : (t : ℕ) (b : Base) (name at : ℕ) (minus : Bool) (c : Constant) → told t (base_initial_notes b name at minus c) ≡ 0
-quiet_base_initial t base.Mutex name at minus c = quiet_fault t _ _
-quiet_base_initial t base.Void name at minus c = told_none t
-quiet_base_initial t (base.Struct s) name at minus c = quiet_fault t _ _
+quiet_base_initial t Base.Mutex name at minus c = quiet_fault t _ _
+quiet_base_initial t Base.Void name at minus c = told_none t
+quiet_base_initial t (Base.Struct s) name at minus c = quiet_fault t _ _
 quiet_base_initial t _ name at minus c = quiet_unless t _ _ _
 
 pub quiet_constant : (t : ℕ) (g : GlobalDefinition) (f : GlobalForm) → told t (constant_notes g f) ≡ 0
@@ -321,11 +314,11 @@ item_written t (tree.function f) =
 
 item_most : (t : ℕ) (file : Scope) (i : Item) → LowItem i → told t (item_notes file i) ≤ written t (other_marks i)
 item_most t file (tree.structure s) l = fields_most t file s.fields [] s.fields l.1
-item_most t file (tree.global g) l = behind t _ _ _ (behind t _ _ _ (type_most t file [] role.Global g.declaration.written l.0) (quiet_length t g.form)) (quiet_constant t g g.form)
+item_most t file (tree.global g) l = behind t _ _ _ (behind t _ _ _ (type_most t file [] Role.Global g.declaration.written l.0) (quiet_length t g.form)) (quiet_constant t g g.form)
 item_most t file (tree.function f) l =
     behind t _ _ _
     (side t _ _ (type_marks f.result ++ declarations_marks f.parameters) (statements_marks f.statements)
-    (side t _ _ (type_marks f.result) (declarations_marks f.parameters) (type_most t file [] role.Result f.result l.0) (parameters_most t (length file.names) 0 file f.parameters l.1))
+    (side t _ _ (type_marks f.result) (declarations_marks f.parameters) (type_most t file [] Role.Result f.result l.0) (parameters_most t (length file.names) 0 file f.parameters l.1))
     (most_statements t (record { result = declared_kind f.result; in_loop = false; block = length file.names }) (in_body file f) f.statements l.2))
     (quiet_beyond t 200 (locals_in_all f.statements))
 

@@ -1,12 +1,5 @@
 -- A global of which no fault is noted has an element, and begins at a value of its type.
-use Rattle.std.proofs.{Common.{◌≡◌, ◌⊎◌, inl, inr, ℕ, ◌≤◌, ◌==◌, Bool, true, false, cond, List, [], ◌∷◌, ◌++◌, refl, ap, sym, ◌∙◌, subst, arith, eqb-true, ltb-true, leb-true, lt-ltb, Some, unsigned_abs, nat_lt}, lemmas.Bool.{false≢true, eqb-false}}
-use Rattle.std.specs.List.{AllByRecursion}
-use Rattle.sharc_tree.specs.{declared.ctype.Base.Base, declared.ctype.Base.TheVariants.{Int, Char, Long, Mutex, Void, Struct}, declared.tree.declaration.WrittenType.WrittenType, declared.tree.expression.Constant.Constant, declared.tree.expression.Constant.TheVariants.{Number, Character, Null}, declared.tree.item.GlobalDefinition.GlobalDefinition, declared.tree.item.GlobalForm.GlobalForm, declared.tree.item.GlobalForm.TheVariants.{Array, Initial}, Tree.{Item, structure, global, function}}
-use Rattle.sharc_names.specs.{declared.fault.FaultCode.TheVariants.{TypeMismatch, TypeNotAllowed}, declared.scope.Scope.Scope, Kinds.{object, stars_of, declared_kind}, Notes.fault_unless, Types.{is_allowed, allowed_there, type_notes}}
-use Rattle.sharc_names.specs.declared.types.Role.TheVariants as role
-use Rattle.sharc_ctype.specs.{Globals.{elements_of, length_notes, holds, holds_constant, is_null_constant, base_initial_notes, initial_notes, global_notes}, Items.{item_notes, items_notes}, Resolved.globals_in}
-use Rattle.sharc_ctype_laws.specs.{Constraints.{IsInteger, IsPointer}, Initials.{IsHeldBy, number_of, MeetsInitial, MeetsGlobal}}
-use Rattle.sharc_ctype_laws.proofs.{Held.{Clean, clean_left, clean_right, clean_well, clean_not_wrong, clean_fault}, KindLemmas.pointer_is}
+use Rattle.sharc_ctype_laws.proofs.{Imports.{◌≡◌, ◌⊎◌, inl, inr, ℕ, ◌≤◌, ◌==◌, Bool, true, false, cond, List, [], ◌∷◌, ◌++◌, refl, ap, sym, ◌∙◌, subst, arith, eqb-true, ltb-true, leb-true, lt-ltb, Some, unsigned_abs, nat_lt, false≢true, eqb-false, AllByRecursion, Base, Int, Char, Long, Mutex, Void, Struct, WrittenType, Constant, Number, Character, Null, GlobalDefinition, GlobalForm, Array, Initial, Item, structure, global, function, TypeMismatch, TypeNotAllowed, Scope, object, stars_of, declared_kind, fault_unless, is_allowed, allowed_there, type_notes, Role, elements_of, length_notes, holds, holds_constant, is_null_constant, base_initial_notes, constant_notes as initial_notes, global_notes, item_notes, items_notes, globals_in, IsInteger, IsPointer, IsHeldBy, number_of, MeetsInitial, MeetsGlobal}, Held.{Clean, clean_left, clean_right, clean_well, clean_not_wrong, clean_fault}, KindLemmas.pointer_is}
 
 -- lengths
 
@@ -28,7 +21,7 @@ held_constant b minus (Number n) h = (unsigned_abs n.value, refl, held_number b 
 held_constant b minus (Character byte) h = (byte, refl, held_number b minus byte h)
 held_constant b minus Null h = absurd (false≢true h)
 
-integer_begins : (b : Base) (name at : ℕ) (minus : Bool) (c : Constant) → is_allowed role.Global b 0 ≡ true → Clean (base_initial_notes b name at minus c) → IsInteger (object b 0) × (n : ℕ) × (number_of c ≡ Some n) × IsHeldBy b minus n
+integer_begins : (b : Base) (name at : ℕ) (minus : Bool) (c : Constant) → is_allowed Role.Global b 0 ≡ true → Clean (base_initial_notes b name at minus c) → IsInteger (object b 0) × (n : ℕ) × (number_of c ≡ Some n) × IsHeldBy b minus n
 integer_begins Int name at minus c a h = let p = held_constant Int minus c (clean_well _ at TypeMismatch h) in ((Int, refl, refl), p.0, p.1, p.2)
 integer_begins Char name at minus c a h = let p = held_constant Char minus c (clean_well _ at TypeMismatch h) in ((Char, refl, refl), p.0, p.1, p.2)
 integer_begins Long name at minus c a h = let p = held_constant Long minus c (clean_well _ at TypeMismatch h) in ((Long, refl, refl), p.0, p.1, p.2)
@@ -44,24 +37,24 @@ null_is _ h = absurd (false≢true h)
 some_stars : (n : ℕ) → (n == 0) ≡ false → nat_lt 0 n ≡ true
 some_stars n h = let e = eqb-false n 0 h in lt-ltb 0 n (omega (arith, e))
 
-begins_by : (w : WrittenType) (name at : ℕ) (minus : Bool) (c : Constant) (z : Bool) → (stars_of w == 0) ≡ z → allowed_there role.Global w ≡ true → Clean (cond z (base_initial_notes w.ctype.base name at minus c) (fault_unless (is_null_constant c) at TypeMismatch))
+begins_by : (w : WrittenType) (name at : ℕ) (minus : Bool) (c : Constant) (z : Bool) → (stars_of w == 0) ≡ z → allowed_there Role.Global w ≡ true → Clean (cond z (base_initial_notes w.ctype.base name at minus c) (fault_unless (is_null_constant c) at TypeMismatch))
     → (IsInteger (declared_kind w) × (n : ℕ) × (number_of c ≡ Some n) × IsHeldBy w.ctype.base minus n) ⊎ (IsPointer (declared_kind w) × (c ≡ Null))
 begins_by w name at minus c true is a h =
     let none = eqb-true (stars_of w) 0 is in
-    let p = integer_begins w.ctype.base name at minus c (ap (is_allowed role.Global w.ctype.base) (sym none) ∙ a) h in
+    let p = integer_begins w.ctype.base name at minus c (ap (is_allowed Role.Global w.ctype.base) (sym none) ∙ a) h in
     inl (subst (λ k. IsInteger (object w.ctype.base k)) (sym none) p.0, p.1, p.2, p.3)
 begins_by w name at minus c false is a h = inr (pointer_is (declared_kind w) (some_stars (stars_of w) is), null_is c (clean_well (is_null_constant c) at TypeMismatch h))
 
-begins : (g : GlobalDefinition) (f : GlobalForm) → allowed_there role.Global g.declaration.written ≡ true → Clean (initial_notes g f) → MeetsInitial g.declaration.written f
+begins : (g : GlobalDefinition) (f : GlobalForm) → allowed_there Role.Global g.declaration.written ≡ true → Clean (initial_notes g f) → MeetsInitial g.declaration.written f
 begins g (Initial span minus c) a h = begins_by g.declaration.written g.declaration.name.site.token span.first.token minus c (stars_of g.declaration.written == 0) refl a h
 begins g _ a h = tt
 
 global_meets : (file : Scope) (g : GlobalDefinition) → Clean (global_notes file g) → MeetsGlobal g
 global_meets file g h =
-    let type = clean_left (type_notes file [] role.Global g.declaration.written) (length_notes g.form) (clean_left (type_notes file [] role.Global g.declaration.written ++ length_notes g.form) (initial_notes g g.form) h) in
+    let type = clean_left (type_notes file [] Role.Global g.declaration.written) (length_notes g.form) (clean_left (type_notes file [] Role.Global g.declaration.written ++ length_notes g.form) (initial_notes g g.form) h) in
     record {
-      elements = some_elements g.form (clean_right (type_notes file [] role.Global g.declaration.written) (length_notes g.form) (clean_left (type_notes file [] role.Global g.declaration.written ++ length_notes g.form) (initial_notes g g.form) h));
-      initial = begins g g.form (clean_well (allowed_there role.Global g.declaration.written) g.declaration.written.span.first.token TypeNotAllowed (clean_right _ _ (clean_left _ _ type))) (clean_right (type_notes file [] role.Global g.declaration.written ++ length_notes g.form) (initial_notes g g.form) h);
+      elements = some_elements g.form (clean_right (type_notes file [] Role.Global g.declaration.written) (length_notes g.form) (clean_left (type_notes file [] Role.Global g.declaration.written ++ length_notes g.form) (initial_notes g g.form) h));
+      initial = begins g g.form (clean_well (allowed_there Role.Global g.declaration.written) g.declaration.written.span.first.token TypeNotAllowed (clean_right _ _ (clean_left _ _ type))) (clean_right (type_notes file [] Role.Global g.declaration.written ++ length_notes g.form) (initial_notes g g.form) h);
     }
 
 pub globals_meet : (file : Scope) (items : List Item) → Clean (items_notes file items) → AllByRecursion MeetsGlobal (globals_in items)

@@ -1,33 +1,25 @@
 -- What lock paths name is in scope where their types are read, and stays in scope as long as what has the type.
-use Rattle.std.proofs.{Common.{◌≡◌, inl, inr, ℕ, ◌+◌, Bool, true, false, cond, List, [], ◌∷◌, ◌++◌, length, refl, ap, sym, ◌∙◌, subst, Option, Some, None, is_some, bytes_eq}, lemmas.Bool.false≢true}
-use Rattle.std.specs.List.{AllByRecursion}
-use Rattle.sharc_tree.specs.{declared.ctype.Mode.Mode, declared.ctype.Mode.TheVariants.Locked, declared.ctype.Path.Path, declared.ctype.Path.TheVariants.{One, Through}, declared.tree.declaration.Declaration.Declaration, declared.tree.declaration.WrittenType.WrittenType, Measures.{expressions, in_option, in_simple}, Tree.{Expression, Local, First, nothing, declares, does, Head, Statement, Statements, no_statements, statement, Function, Item, structure, global, function}}
+use Rattle.sharc_ctype_laws.proofs.{Imports.{◌≡◌, inl, inr, ℕ, ◌+◌, Bool, true, false, cond, List, [], ◌∷◌, ◌++◌, length, refl, ap, sym, ◌∙◌, subst, Option, Some, None, is_some, bytes_eq, false≢true, AllByRecursion, Mode, Locked, Path, One, Through, Declaration, WrittenType, expressions, in_option, in_simple, Expression, Local, First, nothing, declares, does, Head, Statement, Statements, no_statements, statement, Function, Item, structure, global, function, Named, Scope, Role, Entry, Meaning, look_up, field_of, named_of, name_notes, path_notes, mode_notes, modes_notes, type_notes, notes_of, with_parameters, in_body, parameters_notes, fields_notes, function_notes, items_notes, Resolution, named_at, functions_in, Around, opened, looping, with_names, is_here, declared, local_notes, first_notes as first_part_notes, behind_first, in_head, head_notes, after, notes_in, notes_in_all, meaning_token, IsVariableIn, IsAmong, PathStands, LevelStands, TypeStands, EntryStands, IsClosed, CastStands, FirstStands, LocalsStand, AllLocalsStand, around_in, BodyStands, file_types, Placing, at, places_in_local, places_in_first, places_in, places_in_all, places_of, places_of_all, both, each, mapped}, Held.{Held, left, right, no_fault, head_named}, OwnVariables.{IsVariable, AreVariables, same_variable, no_global, no_function, no_known}, Scenes.found_or_later}
 use Rattle.sharc_tree.specs.Tree as tree
-use Rattle.sharc_names.specs.{declared.fault.Named.Named, declared.scope.Scope.Scope, declared.types.Role.Role, Names.{Entry, Meaning, look_up, field_of, named_of}, Types.{name_notes, first_notes, path_notes, mode_notes, modes_notes, type_notes}}
-use Rattle.sharc_names.specs.declared.fault.Named.TheVariants as named
-use Rattle.sharc_names.specs.declared.types.Role.TheVariants as role
+use Rattle.sharc_names.specs.Types.{first_notes}
 use Rattle.sharc_names.specs.Names as meaning
-use Rattle.sharc_ctype.specs.{Expressions.notes_of, Items.{with_parameters, in_body, parameters_notes, fields_notes, function_notes, items_notes}, Resolved.{Resolution, named_at, functions_in}, Statements.{Around, opened, looping, with_names, is_here, declared, local_notes, first_notes as first_part_notes, behind_first, in_head, head_notes, after, notes_in, notes_in_all}}
-use Rattle.sharc_ctype_laws.specs.{Paths.{meaning_token, IsVariableIn, IsAmong, PathStands, LevelStands, TypeStands, EntryStands, IsClosed, CastStands, FirstStands, LocalsStand, AllLocalsStand, around_in, BodyStands, file_types}, Places.{Placing, at, places_in_local, places_in_first, places_in, places_in_all, places_of, places_of_all}}
-use Rattle.sharc_ctype_laws.proofs.{Held.{Held, left, right, no_fault, head_named}, OwnVariables.{IsVariable, AreVariables, same_variable, no_global, no_function, no_known}, Scenes.found_or_later}
-use Rattle.sharc_lemmas.proofs.Lists.{both, each, mapped_each as mapped}
 
 -- what is found
 
-token_of : (m : Meaning) (t : ℕ) → named_of m ≡ named.Variable t → meaning_token m ≡ Some t
+token_of : (m : Meaning) (t : ℕ) → named_of m ≡ Named.Variable t → meaning_token m ≡ Some t
 token_of (meaning.variable d) t is = ap Some (same_variable _ _ is)
 token_of (meaning.global n g) t is = absurd (no_global _ _ is)
 token_of (meaning.function n s) t is = absurd (no_function _ _ is)
 token_of (meaning.condition c) t is = absurd (no_known _ is)
 
-found_variable : (names : List Entry) (name : List ℕ) (e : Entry) (t : ℕ) → look_up names name ≡ Some e → named_of e.meaning ≡ named.Variable t → IsVariableIn names t
+found_variable : (names : List Entry) (name : List ℕ) (e : Entry) (t : ℕ) → look_up names name ≡ Some e → named_of e.meaning ≡ Named.Variable t → IsVariableIn names t
 found_variable [] name e t is v = absurd (false≢true (ap is_some is))
 found_variable (x ∷ rest) name e t is v =
-    found_or_later (λ (z : Entry). named_of z.meaning ≡ named.Variable t → IsVariableIn (x ∷ rest) t) x e (look_up rest name) (bytes_eq x.name name) is
+    found_or_later (λ (z : Entry). named_of z.meaning ≡ Named.Variable t → IsVariableIn (x ∷ rest) t) x e (look_up rest name) (bytes_eq x.name name) is
     (λ b w. inl (token_of x.meaning t w)) (λ h w. inr (found_variable rest name e t h w)) v
 
-among : (names : List Entry) (w : Named) → ((t : ℕ) → w ≡ named.Variable t → IsVariableIn names t) → IsAmong names w
-among names (named.Variable t) f = f t refl
+among : (names : List Entry) (w : Named) → ((t : ℕ) → w ≡ Named.Variable t → IsVariableIn names t) → IsAmong names w
+among names (Named.Variable t) f = f t refl
 among names _ f = tt
 
 -- paths
@@ -65,7 +57,7 @@ closed_declared : (r : Resolution) (block : ℕ) (d : Declaration) (names : List
 closed_declared r block d names all p = either r names (record { name = d.name.text; block = block; meaning = meaning.variable d }) (is_here block names d) all p
 
 local_type : (r : Resolution) (around : Around) (scope : Scope) (l : Local) → Held r (local_notes around scope l) → TypeStands r scope.names l.declaration.written
-local_type r around scope l h = type_stands r scope [] role.Local l.declaration.written (left r _ _ (left r _ _ h))
+local_type r around scope l h = type_stands r scope [] Role.Local l.declaration.written (left r _ _ (left r _ _ h))
 
 closed_local : (r : Resolution) (around : Around) (scope : Scope) → IsClosed r scope.names → (l : Local) → Held r (local_notes around scope l) → IsClosed r (declared around.block l.declaration scope.names)
 closed_local r around scope all l h = closed_declared r around.block l.declaration scope.names all (local_type r around scope l h)
@@ -85,7 +77,7 @@ closed_parameters : (r : Resolution) (block before : ℕ) (scope : Scope) → Is
 closed_parameters r block before scope all [] h = all
 closed_parameters r block before scope all (x ∷ rest) h =
     closed_parameters r block (before + 1) (with_names scope (declared block x scope.names))
-    (closed_declared r block x scope.names all (type_stands r scope [] role.Parameter x.written (left r _ _ (left r _ _ (left r _ _ h))))) rest (right r _ _ h)
+    (closed_declared r block x scope.names all (type_stands r scope [] Role.Parameter x.written (left r _ _ (left r _ _ (left r _ _ h))))) rest (right r _ _ h)
 
 closed_body : (r : Resolution) (file : Scope) → IsClosed r file.names → (f : Function) → Held r (function_notes file f) → IsClosed r (with_parameters (length file.names) file.names f.parameters)
 closed_body r file all f h = closed_parameters r (length file.names) 0 file all f.parameters (right r _ _ (left r _ _ (left r _ _ h)))
@@ -171,7 +163,7 @@ items_closed r file all (function f ∷ rest) h = both (ClosedAt r) (places_of f
 -- a cast
 
 pub cast_stands : (r : Resolution) (scope : Scope) (e : Expression) → Held r (notes_of scope e) → CastStands r scope.names e
-cast_stands r scope (tree.cast s t a) h = type_stands r scope [] role.Cast t (left r _ _ (left r _ _ (left r _ _ h)))
+cast_stands r scope (tree.cast s t a) h = type_stands r scope [] Role.Cast t (left r _ _ (left r _ _ (left r _ _ h)))
 cast_stands r scope _ h = tt
 
 -- the file has no variables
@@ -197,7 +189,7 @@ none_in (e ∷ rest) t all (inl is) = none_meant e.meaning t all.0 is
 none_in (e ∷ rest) t all (inr later) = none_in rest t all.1 later
 
 alone : (names : List Entry) → HasNone names → (w : Named) → IsAmong names w → IsAmong [] w
-alone names all (named.Variable t) h = none_in names t all h
+alone names all (Named.Variable t) h = none_in names t all h
 alone names all _ h = tt
 
 level_alone : (r : Resolution) (names : List Entry) → HasNone names → (m : Option Mode) → LevelStands r names m → LevelStands r [] m
@@ -210,11 +202,11 @@ type_alone r names all w h = each (LevelStands r names) (LevelStands r []) (leve
 field_types : (r : Resolution) (file : Scope) → HasNone file.names → (siblings earlier list : List Declaration) → Held r (fields_notes file siblings earlier list) → AllByRecursion (λ (d : Declaration). TypeStands r [] d.written) list
 field_types r file none siblings earlier [] h = tt
 field_types r file none siblings earlier (d ∷ rest) h =
-    (type_alone r file.names none d.written (type_stands r file siblings role.Field d.written (left r _ _ (left r _ _ h))), field_types r file none siblings (earlier ++ d ∷ []) rest (right r _ _ h))
+    (type_alone r file.names none d.written (type_stands r file siblings Role.Field d.written (left r _ _ (left r _ _ h))), field_types r file none siblings (earlier ++ d ∷ []) rest (right r _ _ h))
 
 pub all_types : (r : Resolution) (file : Scope) → HasNone file.names → (items : List Item) → Held r (items_notes file items) → AllByRecursion (TypeStands r []) (file_types items)
 all_types r file none [] h = tt
 all_types r file none (structure s ∷ rest) h =
     both (TypeStands r []) _ (file_types rest) (mapped (TypeStands r []) (λ (d : Declaration). d.written) s.fields (field_types r file none s.fields [] s.fields (left r _ _ h))) (all_types r file none rest (right r _ _ h))
-all_types r file none (global g ∷ rest) h = (type_alone r file.names none g.declaration.written (type_stands r file [] role.Global g.declaration.written (left r _ _ (left r _ _ (left r _ _ h)))), all_types r file none rest (right r _ _ h))
-all_types r file none (function f ∷ rest) h = (type_alone r file.names none f.result (type_stands r file [] role.Result f.result (left r _ _ (left r _ _ (left r _ _ (left r _ _ h))))), all_types r file none rest (right r _ _ h))
+all_types r file none (global g ∷ rest) h = (type_alone r file.names none g.declaration.written (type_stands r file [] Role.Global g.declaration.written (left r _ _ (left r _ _ (left r _ _ h)))), all_types r file none rest (right r _ _ h))
+all_types r file none (function f ∷ rest) h = (type_alone r file.names none f.result (type_stands r file [] Role.Result f.result (left r _ _ (left r _ _ (left r _ _ (left r _ _ h))))), all_types r file none rest (right r _ _ h))

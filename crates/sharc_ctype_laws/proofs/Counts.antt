@@ -1,8 +1,5 @@
 -- How often notes refer to a token, and how often a tree has a name there.
-use Rattle.std.proofs.Common.{◌≡◌, ℕ, ◌+◌, ◌≤◌, ◌==◌, Bool, true, false, cond, List, [], ◌∷◌, ◌++◌, refl, sym, ◌∙◌, arith, Option, Some, None}
-use Rattle.sharc_tree.specs.{Marks.{Mark, a_name, a_cast}, Tree.Expression, declared.ctype.Base.Base}
-use Rattle.sharc_tree.specs.declared.ctype.Base.TheVariants as base
-use Rattle.sharc_names.specs.{declared.fault.FaultCode.FaultCode, declared.fault.Named.Named, declared.need.Need.Need, Kinds.{Kind, object}, Needs.{called, used_call, misfit_of, misfit, fits, unmet, unagreed}, Notes.{Note, fault, refers, yields, fault_unless, fault_where}}
+use Rattle.sharc_ctype_laws.proofs.Imports.{◌≡◌, ℕ, ◌+◌, ◌≤◌, ◌==◌, Bool, true, false, cond, List, [], ◌∷◌, ◌++◌, refl, sym, ◌∙◌, arith, Option, Some, None, Mark, a_name, a_cast, Expression, Base, FaultCode, Named, Need, Kind, object, called, used_call, misfit_of, misfit, fits, unmet, unagreed, Note, fault, refers, yields, fault_unless, fault_where}
 
 unfoldable pub one : ℕ → ℕ → ℕ
 one token n = cond (n == token) 1 0
@@ -92,7 +89,7 @@ quiet_used t None = told_none t
 quiet_used t (Some word) = quiet_fault t _ _
 
 quiet_misfit_of : (t : ℕ) (b : Base) (e : Expression) → told t (misfit_of b e) ≡ 0
-quiet_misfit_of t base.Void e = quiet_used t (called e)
+quiet_misfit_of t Base.Void e = quiet_used t (called e)
 quiet_misfit_of t _ e = quiet_fault t _ _
 
 pub quiet_if : (t : ℕ) (b : Bool) (x y : List Note) → told t x ≡ 0 → told t y ≡ 0 → told t (cond b x y) ≡ 0

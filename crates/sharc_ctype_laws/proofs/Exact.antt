@@ -1,16 +1,7 @@
 -- Where no fault is noted, notes refer to a token exactly as often as the tree has a name there.
-use Rattle.std.proofs.Common.{◌≡◌, ℕ, ◌+◌, Bool, true, false, cond, List, [], ◌∷◌, ◌++◌, length, drop, refl, ap, sym, ◌∙◌, subst, arith, Option, Some, None, IfSome, is_some, nat_lt, codes}
-use Rattle.std.specs.List.{AllByRecursion}
-use Rattle.sharc_tree.specs.{declared.ctype.Base.Base, declared.ctype.Mode.Mode, declared.ctype.Path.Path, declared.ctype.Path.TheVariants.{One, Through}, declared.tree.declaration.WrittenType.WrittenType, declared.tree.declaration.Declaration.Declaration, Low.{is_unary, LowType, LowTypes, AllLowTypes, LowExpression, LowRight, LowSimple, LowLocal, LowFirst, LowHead, LowStatement, LowStatements, LowDeclarations, LowItem, LowItems}, Marks.{a_name, name_marks, path_marks, level_marks, base_marks, type_marks, declaration_marks, declarations_marks, marks, arguments_marks, option_marks, right_marks, simple_marks, local_marks, first_marks, head_marks, statement_marks, statements_marks, item_marks, items_marks}, Tree.{Expression, Arguments, no_arguments, argument, Right, value, malloc, Simple, assign, does_call, Local, First, nothing, declares, does, Head, Statement, Statements, no_statements, statement, Item}}
-use Rattle.sharc_tree.specs.declared.ctype.Base.TheVariants as base
-use Rattle.sharc_tree.specs.declared.ctype.Mode.TheVariants as modes
+use Rattle.sharc_ctype_laws.proofs.{Imports.{◌≡◌, ℕ, ◌+◌, Bool, true, false, cond, List, [], ◌∷◌, ◌++◌, length, drop, refl, ap, sym, ◌∙◌, subst, arith, Option, Some, None, IfSome, is_some, nat_lt, codes, AllByRecursion, Base, Mode, Path, One, Through, WrittenType, Declaration, is_unary, LowType, LowTypes, AllLowTypes, LowExpression, LowRight, LowSimple, LowLocal, LowFirst, LowHead, LowStatement, LowStatements, LowDeclarations, LowItem, LowItems, a_name, name_marks, path_marks, level_marks, base_marks, type_marks, declaration_marks, declarations_marks, marks, arguments_marks, option_marks, right_marks, simple_marks, local_marks, first_marks, head_marks, statement_marks, statements_marks, item_marks, items_marks, Expression, Arguments, no_arguments, argument, Right, value, malloc, Simple, assign, does_call, Local, First, nothing, declares, does, Head, Statement, Statements, no_statements, statement, Item, TypeNotAllowed, BadForm, LimitPassed, NoMain, Named, Scope, Role, Kind, void, is_struct_behind, same_kind, declared_kind, StructTable, StructMeaning, Entry, look_up, struct_of, field_of, parameters_of, kind_of, is_main, met, Note, refers, fault_unless, name_kind, name_notes, field_in, field_notes, first_kind, second_in, second_notes, path_notes, mode_notes, modes_notes, struct_note, base_notes, allowed_there, type_notes, is_fine, first_wanted, Need, Heads, item_head_notes, heads_notes, behind as heads_behind, no_heads, Standing, AsValue, AsLvalue, notes_at, type_of, notes_of_all, access_need, operand_need, place_kind, count, callee_notes, wanted, spawn_notes, spawn_wanted, class_of, operands_need, in_body, fields_notes, one_field_notes, parameters_notes, item_notes, items_notes, file_scope, has_main, program_notes, Resolution, declarations_of, declarations_in, Around, is_here, is_aggregate, returned_as, locals_in, locals_in_all, first_locals, opened, looping, with_names, declared, declared_notes, test_notes, count_notes, right_notes, simple_notes, local_notes, initial_notes, return_notes, first_notes as first_part_notes, behind_first, tests_notes, step_notes, in_head, head_notes, after, notes_in, notes_in_all, front, back}, AtMost.{quiet_main, quiet_place, quiet_place_call, quiet_cast, quiet_binary, quiet_count, quiet_twice, quiet_beyond, quiet_constant, quiet_length, quiet_sizes, all_levels, type_written, other_marks, item_written, head_told}, Counts.{one, told, written, told-append, written-append, told_refers, told_one, told_second, told_none, written_one, written_cast, written_none, quiet_unless, quiet_where, quiet_unmet, quiet_unagreed, quiet_both, side_is, crossed_is, behind_is, before_is, none_is}, FileScene.{fields_are, body_scene}, Held.{Held, left, right, no_fault, not_wrong, behind_head, second_held}, Judged.{solid_meaning, member_of, struct_behind_is, judged, field_member}, Scenes.{IsSolid, IsField, IsScene, found_name, found_field, type_solid}, Walked.{AreDeclared, scene_with, declared_meant, local_scene, head_scene, after_scene}}
 use Rattle.sharc_tree.specs.Tree as tree
-use Rattle.sharc_names.specs.{declared.fault.FaultCode.TheVariants.{TypeNotAllowed, BadForm, LimitPassed, NoMain}, declared.fault.Named.Named, declared.scope.Scope.Scope, declared.types.Role.Role, Kinds.{Kind, void, is_struct_behind, same_kind, declared_kind}, Names.{StructTable, StructMeaning, Entry, look_up, struct_of, field_of, parameters_of, kind_of, is_main}, Needs.met, Notes.{Note, refers, fault_unless}, Types.{name_kind, name_notes, field_in, field_notes, first_kind, first_notes, second_in, second_notes, path_notes, mode_notes, modes_notes, struct_note, base_notes, allowed_there, type_notes, is_fine}, Wants.first_wanted}
-use Rattle.sharc_names.specs.declared.need.Need.TheVariants as need
-use Rattle.sharc_names.specs.declared.types.Role.TheVariants as role
-use Rattle.sharc_ctype.specs.{Heads.{Heading as Heads, head_notes as item_head_notes, heads_notes, behind as heads_behind, no_heads}, declared.expr.Standing.Standing, declared.expr.Standing.TheVariants.{AsValue, AsLvalue}, Expressions.{notes_at, type_of, notes_of_all, access_need, operand_need, place_kind, count, callee_notes, wanted, spawn_notes, spawn_wanted, class_of, operands_need}, Items.{in_body, fields_notes, field_notes as one_field_notes, parameters_notes, item_notes, items_notes, file_scope, has_main, program_notes}, Resolved.{Resolution, declarations_of, declarations_in}, Statements.{Around, is_here, is_aggregate, returned_as, locals_in, locals_in_all, first_locals, opened, looping, with_names, declared, declared_notes, test_notes, count_notes, right_notes, simple_notes, local_notes, initial_notes, return_notes, first_notes as first_part_notes, behind_first, tests_notes, step_notes, in_head, head_notes, after, notes_in, notes_in_all}}
-use Rattle.sharc_ctype_laws.proofs.{AtMost.{quiet_main, quiet_place, quiet_place_call, quiet_cast, quiet_binary, quiet_count, quiet_twice, quiet_beyond, quiet_constant, quiet_length, quiet_sizes, all_levels, type_written, other_marks, item_written, head_told}, Counts.{one, told, written, told-append, written-append, told_refers, told_one, told_second, told_none, written_one, written_cast, written_none, quiet_unless, quiet_where, quiet_unmet, quiet_unagreed, quiet_both, side_is, crossed_is, behind_is, before_is, none_is}, FileScene.{fields_are, body_scene}, Held.{Held, left, right, no_fault, not_wrong, behind_head, second_held}, Judged.{solid_meaning, member_of, struct_behind_is, judged, field_member}, Scenes.{IsSolid, IsField, IsScene, found_name, found_field, type_solid}, Walked.{AreDeclared, scene_with, declared_meant, local_scene, head_scene, after_scene}}
-use Rattle.sharc_lemmas.proofs.Lists.{front, back}
+use Rattle.sharc_names.specs.Types.{first_notes}
 
 -- names
 
@@ -45,7 +36,7 @@ struct_is t r token None h = absurd (no_fault r _ _ _ h)
 struct_is t r token (Some m) h = told_one t token _
 
 base_is : (t : ℕ) (r : Resolution) (structs : StructTable) (token : ℕ) (b : Base) → Held r (base_notes structs token b) → told t (base_notes structs token b) ≡ written t (base_marks b token)
-base_is t r structs token (base.Struct name) h = of_name t token name _ (struct_is t r token (struct_of structs name) h)
+base_is t r structs token (Base.Struct name) h = of_name t token name _ (struct_is t r token (struct_of structs name) h)
 base_is t r structs token _ h = none_is t
 
 -- what the first name of a lock path is
@@ -94,7 +85,7 @@ path_is t r scope scene siblings all (Through x token m) h =
     (of_name t (token + 2) m _ (second_is t r scope scene (token + 2) m (first_kind (field_of siblings x) (look_up scope.names x)) (path_kind r scope scene siblings all token x (field_of siblings x) refl (left r _ _ h)) (right r _ _ h)))
 
 mode_is : (t : ℕ) (r : Resolution) (scope : Scope) → IsScene r scope → (siblings : List Declaration) → AllByRecursion (IsField r scope.structs) siblings → (m : Option Mode) → Held r (mode_notes scope siblings m) → told t (mode_notes scope siblings m) ≡ written t (level_marks m)
-mode_is t r scope scene siblings all (Some (modes.Locked path)) h = path_is t r scope scene siblings all path h
+mode_is t r scope scene siblings all (Some (Mode.Locked path)) h = path_is t r scope scene siblings all path h
 mode_is t r scope scene siblings all _ h = none_is t
 
 levels_is : (t : ℕ) (r : Resolution) (scope : Scope) → IsScene r scope → (siblings : List Declaration) → AllByRecursion (IsField r scope.structs) siblings → (levels : List (Option Mode)) → Held r (modes_notes scope siblings levels)
@@ -121,21 +112,21 @@ mutual
       (exact_all t r scope scene (wanted (count all) (look_up scope.names f.text)) all l (right r _ _ h))
   exact stands t r scope scene (tree.spawn s f a) l h =
       behind_is t _ _ _
-      (crossed_is t _ _ (name_marks f) (marks a) (behind_is t _ _ _ (exact AsValue t r scope scene a l (left r _ _ (left r _ _ (left r _ _ h)))) (quiet_unmet t need.Value a (type_of scope a)))
+      (crossed_is t _ _ (name_marks f) (marks a) (behind_is t _ _ _ (exact AsValue t r scope scene a l (left r _ _ (left r _ _ (left r _ _ h)))) (quiet_unmet t Need.Value a (type_of scope a)))
       (of_name t _ _ _ (spawn_is t r s.first.token f.site.token (look_up scope.names f.text) (right r _ _ (left r _ _ h)))))
-      (quiet_unagreed t (spawn_wanted (look_up scope.names f.text)) a (met need.Value (type_of scope a)))
-  exact stands t r scope scene (tree.on_value s w a) l h = behind_is t _ _ _ (exact AsValue t r scope scene a l (left r _ _ h)) (quiet_unmet t need.Integer a (type_of scope a))
+      (quiet_unagreed t (spawn_wanted (look_up scope.names f.text)) a (met Need.Value (type_of scope a)))
+  exact stands t r scope scene (tree.on_value s w a) l h = behind_is t _ _ _ (exact AsValue t r scope scene a l (left r _ _ h)) (quiet_unmet t Need.Integer a (type_of scope a))
   exact stands t r scope scene (tree.on_place s w a) l h =
       behind_is t _ _ _ (behind_is t _ _ _ (exact AsLvalue t r scope scene a l.1 (left r _ _ (left r _ _ h))) (quiet_place t scope.names a)) (quiet_place_call t s.first.token w (place_kind scope.names a (type_of scope a)))
   exact stands t r scope scene (tree.cast s w a) l h =
       behind_is t _ _ _
-      (behind_is t _ _ _ (side_is t _ _ (type_marks w) (marks a) (type_is t r scope scene [] tt role.Cast w l.0 (left r _ _ (left r _ _ (left r _ _ h)))) (exact AsLvalue t r scope scene a l.2 (right r _ _ (left r _ _ (left r _ _ h))))) (quiet_place t scope.names a))
-      (quiet_cast t s.first.token (is_fine scope.structs role.Cast w) w a (place_kind scope.names a (type_of scope a)))
+      (behind_is t _ _ _ (side_is t _ _ (type_marks w) (marks a) (type_is t r scope scene [] tt Role.Cast w l.0 (left r _ _ (left r _ _ (left r _ _ h)))) (exact AsLvalue t r scope scene a l.2 (right r _ _ (left r _ _ (left r _ _ h))))) (quiet_place t scope.names a))
+      (quiet_cast t s.first.token (is_fine scope.structs Role.Cast w) w a (place_kind scope.names a (type_of scope a)))
       ∙ sym (written_cast t s.first.token (type_marks w ++ marks a))
   exact stands t r scope scene (tree.index s a i) l h =
       behind_is t _ _ _
-      (side_is t _ _ (marks a) (marks i) (behind_is t _ _ _ (exact AsValue t r scope scene a l.0 (left r _ _ (left r _ _ (left r _ _ h)))) (quiet_unmet t need.Indexed a (type_of scope a))) (exact AsValue t r scope scene i l.1 (right r _ _ (left r _ _ h))))
-      (quiet_unmet t need.Integer i (type_of scope i))
+      (side_is t _ _ (marks a) (marks i) (behind_is t _ _ _ (exact AsValue t r scope scene a l.0 (left r _ _ (left r _ _ (left r _ _ h)))) (quiet_unmet t Need.Indexed a (type_of scope a))) (exact AsValue t r scope scene i l.1 (right r _ _ (left r _ _ h))))
+      (quiet_unmet t Need.Integer i (type_of scope i))
   exact stands t r scope scene (tree.field s a w n) l h =
       let f = field_member r scope scene s a w n (judged r scope scene a (left r _ _ (left r _ _ h))) h in
       side_is t _ _ (marks a) (name_marks n) (behind_is t _ _ _ (exact AsValue t r scope scene a l (left r _ _ (left r _ _ h))) (quiet_unmet t (access_need w) a (type_of scope a)))
@@ -153,27 +144,27 @@ mutual
   exact_all t r scope scene want no_arguments l h = none_is t
   exact_all t r scope scene want (argument a rest) l h =
       side_is t _ _ (marks a) (arguments_marks rest)
-      (behind_is t _ _ _ (behind_is t _ _ _ (exact AsValue t r scope scene a l.0 (left r _ _ (left r _ _ (left r _ _ h)))) (quiet_unmet t need.Value a (type_of scope a))) (quiet_unagreed t (first_wanted want) a (met need.Value (type_of scope a))))
+      (behind_is t _ _ _ (behind_is t _ _ _ (exact AsValue t r scope scene a l.0 (left r _ _ (left r _ _ (left r _ _ h)))) (quiet_unmet t Need.Value a (type_of scope a))) (quiet_unagreed t (first_wanted want) a (met Need.Value (type_of scope a))))
       (exact_all t r scope scene (drop 1 want) rest l.1 (right r _ _ h))
 
 -- statements
 
 exact_count : (t : ℕ) (r : Resolution) (scope : Scope) → IsScene r scope → (n : Option Expression) → IfSome n (λ e. (is_unary e ≡ true) × LowExpression e) → Held r (count_notes scope n) → told t (count_notes scope n) ≡ written t (option_marks marks n)
 exact_count t r scope scene None l h = none_is t
-exact_count t r scope scene (Some e) l h = behind_is t _ _ _ (exact AsValue t r scope scene e l.1.1 (left r _ _ h)) (quiet_unmet t need.Integer e (type_of scope e))
+exact_count t r scope scene (Some e) l h = behind_is t _ _ _ (exact AsValue t r scope scene e l.1.1 (left r _ _ h)) (quiet_unmet t Need.Integer e (type_of scope e))
 
 exact_right : (t : ℕ) (r : Resolution) (scope : Scope) → IsScene r scope → (want : Option Kind) (x : Right) → LowRight x → Held r (right_notes scope want x) → told t (right_notes scope want x) ≡ written t (right_marks x)
 exact_right t r scope scene want (value e) l h =
-    behind_is t _ _ _ (behind_is t _ _ _ (exact AsValue t r scope scene e l.1 (left r _ _ (left r _ _ h))) (quiet_unmet t need.Value e (type_of scope e))) (quiet_unagreed t want e (met need.Value (type_of scope e)))
+    behind_is t _ _ _ (behind_is t _ _ _ (exact AsValue t r scope scene e l.1 (left r _ _ (left r _ _ h))) (quiet_unmet t Need.Value e (type_of scope e))) (quiet_unagreed t want e (met Need.Value (type_of scope e)))
 exact_right t r scope scene want (malloc s n w) l h =
     behind_is t _ _ _
-    (side_is t _ _ (option_marks marks n) (type_marks w) (exact_count t r scope scene n l.0 (left r _ _ (left r _ _ h))) (type_is t r scope scene [] tt role.Made w l.1 (right r _ _ (left r _ _ h))))
+    (side_is t _ _ (option_marks marks n) (type_marks w) (exact_count t r scope scene n l.0 (left r _ _ (left r _ _ h))) (type_is t r scope scene [] tt Role.Made w l.1 (right r _ _ (left r _ _ h))))
     (quiet_unless t _ _ _)
 
 exact_simple : (t : ℕ) (r : Resolution) (scope : Scope) → IsScene r scope → (x : Simple) → LowSimple x → Held r (simple_notes scope x) → told t (simple_notes scope x) ≡ written t (simple_marks x)
 exact_simple t r scope scene (assign s u x) l h =
     side_is t _ _ (marks u) (right_marks x)
-    (behind_is t _ _ _ (behind_is t _ _ _ (exact AsLvalue t r scope scene u l.1.1 (left r _ _ (left r _ _ (left r _ _ h)))) (quiet_place t scope.names u)) (quiet_unmet t need.Value u (place_kind scope.names u (type_of scope u))))
+    (behind_is t _ _ _ (behind_is t _ _ _ (exact AsLvalue t r scope scene u l.1.1 (left r _ _ (left r _ _ (left r _ _ h)))) (quiet_place t scope.names u)) (quiet_unmet t Need.Value u (place_kind scope.names u (type_of scope u))))
     (exact_right t r scope scene _ x l.2 (right r _ _ h))
 exact_simple t r scope scene (does_call e) l h = exact AsValue t r scope scene e l.1.1 h
 
@@ -187,7 +178,7 @@ exact_initial t r scope scene d (Some x) l h = before_is t _ _ _ (quiet_where t 
 exact_local : (t : ℕ) (r : Resolution) (around : Around) (scope : Scope) → IsScene r scope → (l : Local) → LowLocal l → AreDeclared r (l.declaration ∷ []) → Held r (local_notes around scope l) → told t (local_notes around scope l) ≡ written t (local_marks l)
 exact_local t r around scope scene l low d h =
     side_is t _ _ (declaration_marks l.declaration) (option_marks right_marks l.initial)
-    (side_is t _ _ (type_marks l.declaration.written) (name_marks l.declaration.name) (type_is t r scope scene [] tt role.Local l.declaration.written low.0 (left r _ _ (left r _ _ h))) (declared_is t around.block l.declaration scope.names))
+    (side_is t _ _ (type_marks l.declaration.written) (name_marks l.declaration.name) (type_is t r scope scene [] tt Role.Local l.declaration.written low.0 (left r _ _ (left r _ _ h))) (declared_is t around.block l.declaration scope.names))
     (exact_initial t r (with_names scope (declared around.block l.declaration scope.names)) (local_scene r around scope scene l d.0 h) l.declaration l.initial low.1 (right r _ _ h))
 
 exact_first : (t : ℕ) (r : Resolution) (around : Around) (scope : Scope) → IsScene r scope → (f : First) → LowFirst f → AreDeclared r (first_locals f) → Held r (first_part_notes around scope f) → told t (first_part_notes around scope f) ≡ written t (first_marks f)
@@ -196,7 +187,7 @@ exact_first t r around scope scene (declares x) l d h = exact_local t r around s
 exact_first t r around scope scene (does x) l d h = exact_simple t r scope scene x l h
 
 exact_test : (t : ℕ) (r : Resolution) (scope : Scope) → IsScene r scope → (e : Expression) → LowExpression e → Held r (test_notes scope e) → told t (test_notes scope e) ≡ written t (marks e)
-exact_test t r scope scene e l h = behind_is t _ _ _ (exact AsValue t r scope scene e l.1 (left r _ _ h)) (quiet_unmet t need.Value e (type_of scope e))
+exact_test t r scope scene e l h = behind_is t _ _ _ (exact AsValue t r scope scene e l.1 (left r _ _ h)) (quiet_unmet t Need.Value e (type_of scope e))
 
 exact_tests : (t : ℕ) (r : Resolution) (scope : Scope) → IsScene r scope → (e : Option Expression) → IfSome e LowExpression → Held r (tests_notes scope e) → told t (tests_notes scope e) ≡ written t (option_marks marks e)
 exact_tests t r scope scene None l h = none_is t
@@ -216,8 +207,8 @@ exact_head t r around scope scene x l d h =
 exact_return : (t : ℕ) (r : Resolution) (around : Around) (scope : Scope) → IsScene r scope → (word : ℕ) (e : Option Expression) → IfSome e LowExpression → Held r (return_notes around scope word e) → told t (return_notes around scope word e) ≡ written t (option_marks marks e)
 exact_return t r around scope scene word None l h = quiet_unless t (same_kind around.result void) word BadForm ∙ sym (written_none t)
 exact_return t r around scope scene word (Some e) l h =
-    behind_is t _ _ _ (behind_is t _ _ _ (before_is t _ _ _ (quiet_where t (same_kind around.result void) word BadForm) (exact AsValue t r scope scene e l.1 (right r _ _ (left r _ _ (left r _ _ h))))) (quiet_unmet t need.Value e (type_of scope e)))
-    (quiet_unagreed t (returned_as around.result) e (met need.Value (type_of scope e)))
+    behind_is t _ _ _ (behind_is t _ _ _ (before_is t _ _ _ (quiet_where t (same_kind around.result void) word BadForm) (exact AsValue t r scope scene e l.1 (right r _ _ (left r _ _ (left r _ _ h))))) (quiet_unmet t Need.Value e (type_of scope e)))
+    (quiet_unagreed t (returned_as around.result) e (met Need.Value (type_of scope e)))
 
 mutual
   exact_statement : (t : ℕ) (r : Resolution) (around : Around) (scope : Scope) → IsScene r scope → (a : Statement) → LowStatement a → AreDeclared r (locals_in a) → Held r (notes_in around scope a) → told t (notes_in around scope a) ≡ written t (statement_marks a)
@@ -254,7 +245,7 @@ mutual
 field_is : (t : ℕ) (r : Resolution) (scope : Scope) → IsScene r scope → (all earlier : List Declaration) → AllByRecursion (IsField r scope.structs) all → (d : Declaration) → LowType d.written → Held r (one_field_notes scope all earlier d)
     → told t (one_field_notes scope all earlier d) ≡ written t (declaration_marks d)
 field_is t r scope scene all earlier fields d l h =
-    side_is t _ _ (type_marks d.written) (name_marks d.name) (type_is t r scope scene all fields role.Field d.written l (left r _ _ h))
+    side_is t _ _ (type_marks d.written) (name_marks d.name) (type_is t r scope scene all fields Role.Field d.written l (left r _ _ h))
     (of_name t d.name.site.token d.name.text _ (one_is t d.name.site.token _ _ (quiet_both t _ _ (quiet_twice t (is_some (field_of earlier d.name.text)) d.name.site.token) (quiet_unless t _ _ _))))
 
 fields_is : (t : ℕ) (r : Resolution) (scope : Scope) → IsScene r scope → (all earlier : List Declaration) → AllByRecursion (IsField r scope.structs) all → (rest : List Declaration) → LowDeclarations rest → Held r (fields_notes scope all earlier rest)
@@ -267,20 +258,20 @@ parameters_is : (t : ℕ) (r : Resolution) (block n : ℕ) (scope : Scope) → I
     → told t (parameters_notes block n scope list) ≡ written t (declarations_marks list)
 parameters_is t r block n scope scene [] l d h = none_is t
 parameters_is t r block n scope scene (x ∷ rest) l d h =
-    let m = declared_meant r scope.structs block x scope.names scene.names d.0 (type_solid r scope [] role.Parameter x.written refl (left r _ _ (left r _ _ (left r _ _ h)))) in
+    let m = declared_meant r scope.structs block x scope.names scene.names d.0 (type_solid r scope [] Role.Parameter x.written refl (left r _ _ (left r _ _ (left r _ _ h)))) in
     side_is t _ _ (declaration_marks x) (declarations_marks rest)
-    (behind_is t _ _ _ (side_is t _ _ (type_marks x.written) (name_marks x.name) (type_is t r scope scene [] tt role.Parameter x.written l.0 (left r _ _ (left r _ _ (left r _ _ h)))) (declared_is t block x scope.names)) (quiet_unless t (nat_lt n 16) x.name.site.token LimitPassed))
+    (behind_is t _ _ _ (side_is t _ _ (type_marks x.written) (name_marks x.name) (type_is t r scope scene [] tt Role.Parameter x.written l.0 (left r _ _ (left r _ _ (left r _ _ h)))) (declared_is t block x scope.names)) (quiet_unless t (nat_lt n 16) x.name.site.token LimitPassed))
     (parameters_is t r block (n + 1) (with_names scope (declared block x scope.names)) (scene_with r scope scene (declared block x scope.names) m) rest l.1 d.1 (right r _ _ h))
 
 item_is : (t : ℕ) (r : Resolution) (file : Scope) → IsScene r file → (i : Item) → LowItem i → AreDeclared r (declarations_of i) → Held r (item_notes file i) → told t (item_notes file i) ≡ written t (other_marks i)
 item_is t r file scene (tree.structure s) l d h = fields_is t r file scene s.fields [] (fields_are r file s.fields [] s.fields d h) s.fields l.1 h
 item_is t r file scene (tree.global g) l d h =
-    behind_is t _ _ _ (behind_is t _ _ _ (type_is t r file scene [] tt role.Global g.declaration.written l.0 (left r _ _ (left r _ _ h))) (quiet_length t g.form)) (quiet_constant t g g.form)
+    behind_is t _ _ _ (behind_is t _ _ _ (type_is t r file scene [] tt Role.Global g.declaration.written l.0 (left r _ _ (left r _ _ h))) (quiet_length t g.form)) (quiet_constant t g g.form)
 item_is t r file scene (tree.function f) l d h =
     let d1 = front _ f.parameters (locals_in_all f.statements) d in
     behind_is t _ _ _
     (side_is t _ _ (type_marks f.result ++ declarations_marks f.parameters) (statements_marks f.statements)
-    (side_is t _ _ (type_marks f.result) (declarations_marks f.parameters) (type_is t r file scene [] tt role.Result f.result l.0 (left r _ _ (left r _ _ (left r _ _ h)))) (parameters_is t r (length file.names) 0 file scene f.parameters l.1 d1 (right r _ _ (left r _ _ (left r _ _ h)))))
+    (side_is t _ _ (type_marks f.result) (declarations_marks f.parameters) (type_is t r file scene [] tt Role.Result f.result l.0 (left r _ _ (left r _ _ (left r _ _ h)))) (parameters_is t r (length file.names) 0 file scene f.parameters l.1 d1 (right r _ _ (left r _ _ (left r _ _ h)))))
     (exact_statements t r (record { result = declared_kind f.result; in_loop = false; block = length file.names }) (in_body file f) (body_scene r file scene f d1 h) f.statements l.2 (back _ f.parameters (locals_in_all f.statements) d) (right r _ _ (left r _ _ h))))
     (quiet_beyond t 200 (locals_in_all f.statements))
 

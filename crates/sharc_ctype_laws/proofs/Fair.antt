@@ -1,14 +1,7 @@
 -- What is assigned, initialised, passed and returned agrees, where no fault is noted.
-use Rattle.std.proofs.{Common.{◌≡◌, ◌⊎◌, inl, inr, ℕ, Bool, true, false, not, ◌||◌, cond, List, [], ◌∷◌, ◌++◌, length, drop, refl, ap, sym, ◌∙◌, subst, Option, Some, None}, lemmas.Bool.false≢true}
-use Rattle.std.specs.List.{AllByRecursion}
-use Rattle.sharc_tree.specs.{declared.token.Span.Span, declared.tree.declaration.Identifier.Identifier, declared.tree.declaration.WrittenType.WrittenType, declared.tree.declaration.Declaration.Declaration, Tree.{Expression, Arguments, no_arguments, argument, Right, value, malloc, Simple, assign, does_call, Local, First, nothing, declares, does, Statement, Statements, no_statements, statement, Function}}
+use Rattle.sharc_ctype_laws.proofs.{Imports.{◌≡◌, ◌⊎◌, inl, inr, ℕ, Bool, true, false, not, ◌||◌, cond, List, [], ◌∷◌, ◌++◌, length, drop, refl, ap, sym, ◌∙◌, subst, Option, Some, None, false≢true, AllByRecursion, Span, Identifier, WrittenType, Declaration, Expression, Arguments, no_arguments, argument, Right, value, malloc, Simple, assign, does_call, Local, First, nothing, declares, does, Statement, Statements, no_statements, statement, Function, TypeMismatch, BadForm, Scope, Kind, void, same_kind, agrees, declared_kind, declared_kinds, look_up, met, unagreed, fault_unless, is_fine, Need, Role, type_of, notes_of, notes_of_all, count, wanted, place_kind, in_body, function_notes, Resolution, named_at, kind_at, declarations_of, Around, opened, looping, with_names, declared, count_notes, made, is_made, right_notes, simple_notes, wanted_by, initial_notes, local_notes, returned_as, return_notes, first_notes, behind_first, tests_notes, step_notes, in_head, after, notes_in, notes_in_all, first_locals, locals_in, locals_in_all, lvalue, variable, result, gives, parameters_named, passed, transfers, argument_transfers, right_transfers, simple_transfers, local_transfers, first_transfers, statement_transfers, statements_transfers, function_transfers, Agrees, IsFair, front, back, both}, FileScene.body_scene, Held.{Held, left, right, well, not_wrong}, Judged.{judged, met_by, lvalue_by, argument_agrees, call_callee, spawn_callee, spawn_agrees}, Scenes.{IsScene, type_fine, need_fits, need_met}, Walked.{AreDeclared, local_scene, head_scene, after_scene}, Standings.lvalue_held}
 use Rattle.sharc_tree.specs.Tree as tree
-use Rattle.sharc_names.specs.{declared.fault.FaultCode.TheVariants.{TypeMismatch, BadForm}, declared.scope.Scope.Scope, Kinds.{Kind, void, same_kind, agrees, declared_kind, declared_kinds}, Names.look_up, Needs.{met, unagreed}, Notes.fault_unless, Types.is_fine}
-use Rattle.sharc_names.specs.declared.need.Need.TheVariants as need
-use Rattle.sharc_names.specs.declared.types.Role.TheVariants as role
-use Rattle.sharc_ctype.specs.{Expressions.{type_of, notes_of, notes_of_all, count, wanted, place_kind}, Items.{in_body, function_notes}, Resolved.{Resolution, named_at, kind_at, declarations_of}, Statements.{Around, opened, looping, with_names, declared, count_notes, made, is_made, right_notes, simple_notes, wanted_by, initial_notes, local_notes, returned_as, return_notes, first_notes, behind_first, tests_notes, step_notes, in_head, after, notes_in, notes_in_all, first_locals, locals_in, locals_in_all}, Transfers.{lvalue, variable, result, gives, parameters_named, passed, transfers, argument_transfers, in_option, right_transfers, simple_transfers, local_transfers, first_transfers, statement_transfers, statements_transfers, function_transfers, Agrees, IsFair}}
-use Rattle.sharc_ctype_laws.proofs.{FileScene.body_scene, Held.{Held, left, right, well, not_wrong}, Judged.{judged, met_by, lvalue_by, argument_agrees, call_callee, spawn_callee, spawn_agrees}, Scenes.{IsScene, type_fine, need_fits, need_met}, Walked.{AreDeclared, local_scene, head_scene, after_scene}, Standings.lvalue_held}
-use Rattle.sharc_lemmas.proofs.Lists.{front, back, both}
+use Rattle.sharc_ctype.specs.Transfers.{in_option}
 
 -- calls
 
@@ -16,7 +9,7 @@ fair_passed : (r : Resolution) (scope : Scope) → IsScene r scope → (list : L
 fair_passed r scope scene [] all h = tt
 fair_passed r scope scene (d ∷ rest) no_arguments h = tt
 fair_passed r scope scene (d ∷ rest) (argument a more) h = (
-  argument_agrees r scope (Some (declared_kind d.written)) a (met_by r scope need.Value a (judged r scope scene a (left r _ _ (left r _ _ (left r _ _ h)))) (right r _ _ (left r _ _ (left r _ _ h)))) (right r _ _ (left r _ _ h)),
+  argument_agrees r scope (Some (declared_kind d.written)) a (met_by r scope Need.Value a (judged r scope scene a (left r _ _ (left r _ _ (left r _ _ h)))) (right r _ _ (left r _ _ (left r _ _ h)))) (right r _ _ (left r _ _ h)),
   fair_passed r scope scene rest more (right r _ _ h),
 )
 
@@ -28,7 +21,7 @@ fair_spawn : (r : Resolution) (scope : Scope) → IsScene r scope → (s : Span)
     → AllByRecursion (IsFair r) (passed (parameters_named r (named_at r f.site.token)) (argument a no_arguments))
 fair_spawn r scope scene s f a h =
     let c = spawn_callee r scope scene s f a h in
-    let m = met_by r scope need.Value a (judged r scope scene a (left r _ _ (left r _ _ (left r _ _ h)))) (right r _ _ (left r _ _ (left r _ _ h))) in
+    let m = met_by r scope Need.Value a (judged r scope scene a (left r _ _ (left r _ _ (left r _ _ h)))) (right r _ _ (left r _ _ (left r _ _ h))) in
     let agree : agrees (declared_kind c.declared.written) (kind_at r a) ≡ true = ap (λ k. agrees k (kind_at r a)) c.is ∙ spawn_agrees r scope s f a c m h in
     subst (λ l. AllByRecursion (IsFair r) (passed l (argument a no_arguments))) (sym c.names) (agree, tt)
 
@@ -70,33 +63,33 @@ made_agrees false fine w h = absurd (false≢true (sym (ap not w) ∙ h))
 
 right_agrees : (r : Resolution) (scope : Scope) → IsScene r scope → (want : Kind) (given : Option Kind) (x : Right) → given ≡ Some want → Held r (right_notes scope given x) → Agrees r want x
 right_agrees r scope scene want given (value e) is h =
-    argument_agrees r scope (Some want) e (met_by r scope need.Value e (judged r scope scene e (left r _ _ (left r _ _ h))) (right r _ _ (left r _ _ h)))
-    (subst (λ g. Held r (unagreed g e (met need.Value (type_of scope e)))) is (right r _ _ h))
+    argument_agrees r scope (Some want) e (met_by r scope Need.Value e (judged r scope scene e (left r _ _ (left r _ _ h))) (right r _ _ (left r _ _ h)))
+    (subst (λ g. Held r (unagreed g e (met Need.Value (type_of scope e)))) is (right r _ _ h))
 right_agrees r scope scene want given (malloc s n w) is h =
-    made_agrees (same_kind want (made w)) (is_fine scope.structs role.Made w) (type_fine r scope [] role.Made w (right r _ _ (left r _ _ h)))
-    (well r _ s.first.token TypeMismatch (subst (λ g. Held r (fault_unless (is_made g w || not (is_fine scope.structs role.Made w)) s.first.token TypeMismatch)) is (right r _ _ h)))
+    made_agrees (same_kind want (made w)) (is_fine scope.structs Role.Made w) (type_fine r scope [] Role.Made w (right r _ _ (left r _ _ h)))
+    (well r _ s.first.token TypeMismatch (subst (λ g. Held r (fault_unless (is_made g w || not (is_fine scope.structs Role.Made w)) s.first.token TypeMismatch)) is (right r _ _ h)))
 
 fair_simple : (r : Resolution) (scope : Scope) → IsScene r scope → (x : Simple) → Held r (simple_notes scope x) → AllByRecursion (IsFair r) (simple_transfers r x)
 fair_simple r scope scene (assign s u x) h =
     let j = judged r scope scene u (lvalue_held r scope u (left r _ _ (left r _ _ (left r _ _ h))) (right r _ _ (left r _ _ (left r _ _ h)))) in
     let l = lvalue_by r scope u j (right r _ _ (left r _ _ (left r _ _ h))) in
-    let f = need_fits r scope.structs need.Value u (kind_at r u) (place_kind scope.names u (type_of scope u)) l.kind j.valued (right r _ _ (left r _ _ h)) in
-    let m = need_met need.Value (kind_at r u) (place_kind scope.names u (type_of scope u)) l.kind f in
+    let f = need_fits r scope.structs Need.Value u (kind_at r u) (place_kind scope.names u (type_of scope u)) l.kind j.valued (right r _ _ (left r _ _ h)) in
+    let m = need_met Need.Value (kind_at r u) (place_kind scope.names u (type_of scope u)) l.kind f in
     both (IsFair r) (gives (lvalue u) x ++ transfers r u) (right_transfers r x)
-    (right_agrees r scope scene (kind_at r u) (met need.Value (place_kind scope.names u (type_of scope u))) x m (right r _ _ h), fair r scope scene u (lvalue_held r scope u (left r _ _ (left r _ _ (left r _ _ h))) (right r _ _ (left r _ _ (left r _ _ h)))))
+    (right_agrees r scope scene (kind_at r u) (met Need.Value (place_kind scope.names u (type_of scope u))) x m (right r _ _ h), fair r scope scene u (lvalue_held r scope u (left r _ _ (left r _ _ (left r _ _ h))) (right r _ _ (left r _ _ (left r _ _ h)))))
     (fair_right r scope scene _ x (right r _ _ h))
 fair_simple r scope scene (does_call e) h = fair r scope scene e h
 
-fair_initial : (r : Resolution) (scope : Scope) → IsScene r scope → (d : Declaration) (x : Option Right) → is_fine scope.structs role.Local d.written ≡ true → Held r (initial_notes scope d x)
+fair_initial : (r : Resolution) (scope : Scope) → IsScene r scope → (d : Declaration) (x : Option Right) → is_fine scope.structs Role.Local d.written ≡ true → Held r (initial_notes scope d x)
     → AllByRecursion (IsFair r) (in_option (λ y. gives (variable d) y ++ right_transfers r y) x)
 fair_initial r scope scene d None fine h = tt
 fair_initial r scope scene d (Some x) fine h =
-    (right_agrees r scope scene (declared_kind d.written) (wanted_by (is_fine scope.structs role.Local d.written) d.written) x (ap (λ b. wanted_by b d.written) fine) (right r _ _ h), fair_right r scope scene _ x (right r _ _ h))
+    (right_agrees r scope scene (declared_kind d.written) (wanted_by (is_fine scope.structs Role.Local d.written) d.written) x (ap (λ b. wanted_by b d.written) fine) (right r _ _ h), fair_right r scope scene _ x (right r _ _ h))
 
 fair_local : (r : Resolution) (around : Around) (scope : Scope) → IsScene r scope → (l : Local) → AreDeclared r (l.declaration ∷ []) → Held r (local_notes around scope l) → AllByRecursion (IsFair r) (local_transfers r l)
 fair_local r around scope scene l d h =
     fair_initial r (with_names scope (declared around.block l.declaration scope.names)) (local_scene r around scope scene l d.0 h) l.declaration l.initial
-    (type_fine r scope [] role.Local l.declaration.written (left r _ _ (left r _ _ h))) (right r _ _ h)
+    (type_fine r scope [] Role.Local l.declaration.written (left r _ _ (left r _ _ h))) (right r _ _ h)
 
 -- statements
 
@@ -120,8 +113,8 @@ fair_return r around scope scene w word (Some e) is h =
     let held = right r _ _ (left r _ _ (left r _ _ h)) in
     let no_void = not_wrong r (same_kind around.result void) word BadForm (left r _ _ (left r _ _ (left r _ _ h))) in
     let returned : returned_as around.result ≡ Some (declared_kind w) = ap (λ b. cond b None (Some around.result)) no_void ∙ ap Some is in
-    let m = met_by r scope need.Value e (judged r scope scene e held) (right r _ _ (left r _ _ h)) in
-    (argument_agrees r scope (Some (declared_kind w)) e m (subst (λ g. Held r (unagreed g e (met need.Value (type_of scope e)))) returned (right r _ _ h)), fair r scope scene e held)
+    let m = met_by r scope Need.Value e (judged r scope scene e held) (right r _ _ (left r _ _ h)) in
+    (argument_agrees r scope (Some (declared_kind w)) e m (subst (λ g. Held r (unagreed g e (met Need.Value (type_of scope e)))) returned (right r _ _ h)), fair r scope scene e held)
 
 mutual
   fair_statement : (r : Resolution) (w : WrittenType) (around : Around) (scope : Scope) → IsScene r scope → around.result ≡ declared_kind w → (a : Statement) → AreDeclared r (locals_in a) → Held r (notes_in around scope a)

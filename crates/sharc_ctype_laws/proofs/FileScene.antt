@@ -1,13 +1,6 @@
 -- The scope of a file, and of each function's body, of which no fault is noted: each name means what the program's declarations say.
-use Rattle.std.proofs.{Common.{◌≡◌, ℕ, zero, suc, ◌+◌, Bool, true, false, cond, List, [], ◌∷◌, ◌++◌, length, drop, slice_get, refl, ap, sym, ◌∙◌, Option, Some, None, is_some, add-one, bytes_eq}, lemmas.Bool.{true≢false, false_from_ne_true}, lemmas.Slice.Eq.bytes_eq-Decides}
-use Rattle.std.specs.List.{AllByRecursion}
-use Rattle.sharc_tree.specs.{declared.tree.declaration.Declaration.Declaration, declared.tree.item.StructDefinition.StructDefinition, Tree.{Function, Item, structure, global, function}}
-use Rattle.sharc_names.specs.{declared.scope.Scope.Scope, Names.{StructTable, StructMeaning, defined, struct_of, Entry, look_up}}
-use Rattle.sharc_names.specs.declared.types.Role.TheVariants as role
-use Rattle.sharc_ctype.specs.{Heads.{Heading as Heads, with_struct, with_entry, global_entry, function_entry, behind, behind_all, no_heads}, Condition.{defines_condition, with_conditions}, Items.{fields_notes, parameters_notes, with_parameters, in_body, function_notes, items_notes, file_scope}, Resolved.{Resolution, structs_in, globals_in, functions_in, declarations_in, declarations_of}, Statements.{with_names, declared, locals_in_all}}
-use Rattle.sharc_ctype_laws.specs.{Constraints.struct_named, Places.{places_of, places_of_all}}
-use Rattle.sharc_ctype_laws.proofs.{Held.{Held, left, right}, Scenes.{IsMeant, AreMeant, IsField, IsStruct, AreStructs, IsScene, type_solid, type_result}, Walked.{AreDeclared, scene_with, declared_meant, JudgedAt, places_all}}
-use Rattle.sharc_lemmas.proofs.Lists.{front, back, both, bytes_same, no_cons as none_left}
+use Rattle.sharc_ctype_laws.proofs.{Imports.{◌≡◌, ℕ, zero, suc, ◌+◌, Bool, true, false, cond, List, [], ◌∷◌, ◌++◌, length, drop, slice_get, refl, ap, sym, ◌∙◌, Option, Some, None, is_some, add-one, bytes_eq, true≢false, false_from_ne_true, bytes_eq-Decides, AllByRecursion, Declaration, StructDefinition, Function, Item, structure, global, function, Scope, StructTable, StructMeaning, defined, struct_of, Entry, look_up, Role, Heads, with_struct, with_entry, global_entry, function_entry, behind, behind_all, no_heads, defines_condition, with_conditions, fields_notes, parameters_notes, with_parameters, in_body, function_notes, items_notes, file_scope, Resolution, structs_in, globals_in, functions_in, declarations_in, declarations_of, with_names, declared, locals_in_all, struct_named, places_of, places_of_all, front, back, both, bytes_same}, Held.{Held, left, right}, Scenes.{IsMeant, AreMeant, IsField, IsStruct, AreStructs, IsScene, type_solid, type_result}, Walked.{AreDeclared, scene_with, declared_meant, JudgedAt, places_all}}
+use Rattle.sharc_lemmas.proofs.Lists.{no_cons as none_left}
 
 -- what is at the head of what is left
 
@@ -36,7 +29,7 @@ next_there list n x rest h = ap (λ m. drop m list) (add-one n) ∙ behind_there
 
 pub fields_are : (r : Resolution) (file : Scope) (all earlier rest : List Declaration) → AreDeclared r rest → Held r (fields_notes file all earlier rest) → AllByRecursion (IsField r file.structs) rest
 fields_are r file all earlier [] d h = tt
-fields_are r file all earlier (x ∷ rest) d h = ((d.0, type_solid r file all role.Field x.written refl (left r _ _ (left r _ _ h))), fields_are r file all (earlier ++ x ∷ []) rest d.1 (right r _ _ h))
+fields_are r file all earlier (x ∷ rest) d h = ((d.0, type_solid r file all Role.Field x.written refl (left r _ _ (left r _ _ h))), fields_are r file all (earlier ++ x ∷ []) rest d.1 (right r _ _ h))
 
 -- the names of the file
 
@@ -113,7 +106,7 @@ heads_meant r file h (global x ∷ rest) a d n =
     heads_meant r file (behind h (global x)) rest
     (record {
       names = entry_meant r file.structs h.scope.names (global_entry h.globals x) a.names
-          (refl, there (globals_in r.program.items) h.globals x (globals_in rest) a.next_global, type_solid r file [] role.Global x.declaration.written refl (left r _ _ (left r _ _ (left r _ _ n))));
+          (refl, there (globals_in r.program.items) h.globals x (globals_in rest) a.next_global, type_solid r file [] Role.Global x.declaration.written refl (left r _ _ (left r _ _ (left r _ _ n))));
       structs = a.structs;
       first_structs = a.first_structs;
       next_struct = a.next_struct;
@@ -155,7 +148,7 @@ file_scene r d h =
 parameters_meant : (r : Resolution) (block before : ℕ) (scope : Scope) → IsScene r scope → (list : List Declaration) → AreDeclared r list → Held r (parameters_notes block before scope list) → AreMeant r scope.structs (with_parameters block scope.names list)
 parameters_meant r block before scope scene [] d h = scene.names
 parameters_meant r block before scope scene (x ∷ rest) d h =
-    let m = declared_meant r scope.structs block x scope.names scene.names d.0 (type_solid r scope [] role.Parameter x.written refl (left r _ _ (left r _ _ (left r _ _ h)))) in
+    let m = declared_meant r scope.structs block x scope.names scene.names d.0 (type_solid r scope [] Role.Parameter x.written refl (left r _ _ (left r _ _ (left r _ _ h)))) in
     parameters_meant r block (before + 1) (with_names scope (declared block x scope.names)) (scene_with r scope scene (declared block x scope.names) m) rest d.1 (right r _ _ h)
 
 pub body_scene : (r : Resolution) (file : Scope) → IsScene r file → (f : Function) → AreDeclared r f.parameters → Held r (function_notes file f) → IsScene r (in_body file f)

@@ -1,12 +1,6 @@
 -- What holds of the expressions of a function at their places holds of them.
-use Rattle.std.proofs.Common.{List, [], ◌∷◌, ◌++◌}
-use Rattle.std.specs.List.{AllByRecursion}
-use Rattle.sharc_tree.specs.{Tree.{Expression, First, nothing, declares, does, Statement, Statements, no_statements, statement, Function}, Measures.{expressions, in_option, in_simple, in_local, in_first, in_statement, in_statements, in_function}}
+use Rattle.sharc_ctype_laws.proofs.Imports.{List, [], ◌∷◌, ◌++◌, AllByRecursion, Expression, First, nothing, declares, does, Statement, Statements, no_statements, statement, Function, expressions, in_option, in_simple, in_local, in_first, in_statement, in_statements, in_function, Scope, Around, opened, looping, with_names, behind_first, in_head, after, Placing, at, places_in_first, places_in, places_in_all, places_of, front, back, both}
 use Rattle.sharc_tree.specs.Tree as tree
-use Rattle.sharc_names.specs.declared.scope.Scope.{Scope}
-use Rattle.sharc_ctype.specs.Statements.{Around, opened, looping, with_names, behind_first, in_head, after}
-use Rattle.sharc_ctype_laws.specs.Places.{Placing, at, places_in_first, places_in, places_in_all, places_of}
-use Rattle.sharc_lemmas.proofs.Lists.{front, back, both}
 
 abbrev Of : (Expression → Type 0) → Placing → Type 0
 Of Q p = Q p.expression

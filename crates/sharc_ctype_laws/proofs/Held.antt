@@ -1,8 +1,5 @@
 -- Notes without a fault, each of which says what its token names.
-use Rattle.std.proofs.Common.{◌≡◌, ℕ, Bool, true, false, List, [], ◌∷◌, ◌++◌, Option, Some, refl}
-use Rattle.sharc_names.specs.{declared.fault.Fault.Fault, declared.fault.FaultCode.FaultCode, declared.fault.Named.Named, Notes.{Note, fault, refers, yields, fault_unless, fault_where, faults}, Types.{field_notes, second_notes}}
-use Rattle.sharc_tree.specs.declared.tree.declaration.Declaration.{Declaration}
-use Rattle.sharc_ctype.specs.Resolved.{Resolution, named_at}
+use Rattle.sharc_ctype_laws.proofs.Imports.{◌≡◌, ℕ, Bool, true, false, List, [], ◌∷◌, ◌++◌, Option, Some, refl, Fault, FaultCode, Named, Note, fault, refers, yields, fault_unless, fault_where, faults, field_notes, second_notes, Declaration, Resolution, named_at}
 
 unfoldable pub Held : Resolution → List Note → Type 0
 Held r [] = Unit {0}

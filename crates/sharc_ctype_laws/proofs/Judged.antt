@@ -1,21 +1,10 @@
 -- Expressions of which no fault is noted: their type in the scope is the one that their names give, and C11 gives it too.
-use Rattle.std.proofs.{Common.{◌≡◌, ◌⊎◌, inl, inr, ⊎_elim, ℕ, ◌+◌, ◌==◌, Bool, true, false, ◌&&◌, ◌||◌, not, cond, nat_lt, List, [], ◌∷◌, length, drop, refl, ap, ap₂, sym, ◌∙◌, subst, eqb-true, Option, Some, None, is_some, arith, codes}, lemmas.Bool.{false≢true, and_parts, or_cases, not-true}, lemmas.Slice.Eq.bytes_eq-Decides}
-use Rattle.std.specs.List.{AllByRecursion}
-use Rattle.sharc_tree.specs.declared.ctype.Base.TheVariants as base
-use Rattle.sharc_tree.specs.{declared.token.Site.Site, declared.token.Span.Span, declared.tree.declaration.Identifier.Identifier, declared.tree.declaration.WrittenType.WrittenType, declared.tree.declaration.Declaration.Declaration, declared.token.NumberType.NumberType, declared.tree.expression.Constant.Constant, declared.tree.expression.FieldOperator.FieldOperator, declared.tree.expression.FieldOperator.TheVariants.{Dot, Arrow}, declared.tree.expression.BinaryOperator.BinaryOperator, declared.tree.expression.UnaryOperator.UnaryOperator, declared.tree.expression.UnaryOperator.TheVariants.{Negate, Not, Complement, Dereference}, declared.tree.expression.ValueCall.ValueCall, declared.tree.expression.PlaceCall.PlaceCall, declared.tree.expression.PlaceCall.TheVariants.{Lock, Unlock, Free}, declared.tree.item.StructDefinition.StructDefinition, declared.tree.item.GlobalForm.GlobalForm, declared.tree.item.GlobalForm.TheVariants.Array, Forms.{is_lvalue, without_parentheses}, Tree.{Expression, Arguments, no_arguments, argument, Function}}
-use Rattle.sharc_tree.specs.declared.token.NumberType.TheVariants as width
-use Rattle.sharc_tree.specs.declared.tree.expression.Constant.TheVariants as constants
+use Rattle.sharc_ctype_laws.proofs.{Imports.{◌≡◌, ◌⊎◌, inl, inr, ⊎_elim, ℕ, ◌+◌, ◌==◌, Bool, true, false, ◌&&◌, ◌||◌, not, cond, nat_lt, List, [], ◌∷◌, length, drop, refl, ap, ap₂, sym, ◌∙◌, subst, eqb-true, Option, Some, None, is_some, arith, codes, false≢true, and_parts, or_cases, not-true, bytes_eq-Decides, AllByRecursion, Base, Site, Span, Identifier, WrittenType, Declaration, NumberType, Constant, FieldOperator, Dot, Arrow, BinaryOperator, UnaryOperator, Negate, Not, Complement, Dereference, ValueCall, PlaceCall, Lock, Unlock, Free, StructDefinition, GlobalForm, Array, is_lvalue, without_parentheses, Expression, Arguments, no_arguments, argument, Function, TypeMismatch, NoLvalue, BadForm, ArgumentCount, Need, Scope, Kind, object, array, int, long, void, mutex, is_pointer, is_struct_behind, same_kind, agrees, declared_kind, declared_kinds, element_kind, StructTable, StructMeaning, struct_of, fields_of, field_of, defined, known, Entry, Meaning, Signature, look_up, named_of, kind_of, global_kind, is_main, parameters_of, condition_parameters, place, fits, met, unmet, agreed, unagreed, fault, fault_unless, name_kind, name_notes, field_in, field_among, field_kind, field_notes, is_fine, first_wanted, Named, Role, OperatorClass, Logical, Equality, Relation, Shift, Arithmetic, number_kind, constant_kind, element_of, access_need, operand_need, unary_result, unary_kind, class_of, operands_need, binary_result, may_join, binary_kind, binary_notes, is_place, names_function, place_kind, place_notes, value_call_kind, suits, place_call_kind, place_call_notes, cast_kind, cast_notes, count, takes, arguments_count_notes as count_notes, callee_notes, wanted_if, wanted, call_result, call_kind, can_spawn, spawn_notes, may_spawn, spawn_wanted, spawn_kind, type_of, are_fine, notes_of, notes_of_all, signature_of, Resolution, structs_in, named_at, function_at, variable_kind, global_kind_of, result_kind_of, named_kind, called_kind, kind_at, parameters_named, parameters_of_function, AsValue, struct_named, IsMemberOf, HasType, HaveTypes, Callee, of_program, of_conditions, IsInteger, a_variable, a_global, a_function, a_constant, in_parentheses, element_of_pointer, element_of_array, a_call, a_field, a_field_behind, negated, complemented, denied, pointed_to, arithmetic, shifted, related, equated, joined, spawned, printed_or_joined, locked, unlocked, freed, none_left, one_more, one_less}, Held.{Held, left, right, no_fault, head_named, behind_head, well, not_wrong}, KindLemmas.{one_kind, integer_is, pointer_is, scalar_is, common_is, promoted_is, comparable_is, assignable_is}, Scenes.{IsSolid, IsResult, IsValued, IsMeant, AreMeant, IsField, IsStruct, AreStructs, IsScene, found_name, found_struct, found_field, need_fits, need_met, type_fine}, Standings.lvalue_held}
 use Rattle.sharc_tree.specs.Tree as tree
-use Rattle.sharc_names.specs.{declared.fault.FaultCode.TheVariants.{TypeMismatch, NoLvalue, BadForm, ArgumentCount}, declared.need.Need.Need, declared.scope.Scope.Scope, Kinds.{Kind, object, array, int, long, void, mutex, is_pointer, is_struct_behind, same_kind, agrees, declared_kind, declared_kinds, element_kind}, Names.{StructTable, StructMeaning, struct_of, fields_of, field_of, defined, known, Entry, Meaning, Signature, look_up, named_of, kind_of, global_kind, is_main, parameters_of, result_of, condition_parameters}, Needs.{place, fits, met, unmet, agreed, unagreed}, Notes.{fault, fault_unless}, Types.{name_kind, name_notes, field_in, field_among, field_kind, field_notes, is_fine}, Wants.first_wanted}
-use Rattle.sharc_names.specs.declared.fault.Named.TheVariants as named
-use Rattle.sharc_names.specs.declared.need.Need.TheVariants as need
-use Rattle.sharc_names.specs.declared.types.Role.TheVariants as role
+use Rattle.sharc_names.specs.Names.{result_of}
 use Rattle.sharc_names.specs.Kinds as kinds
 use Rattle.sharc_names.specs.Names as meaning
-use Rattle.sharc_ctype.specs.{declared.expr.OperatorClass.OperatorClass, declared.expr.OperatorClass.TheVariants.{Logical, Equality, Relation, Shift, Arithmetic}, Expressions.{number_kind, constant_kind, element_of, access_need, operand_need, unary_result, unary_kind, class_of, operands_need, binary_result, may_join, binary_kind, binary_notes, is_place, names_function, place_kind, place_notes, value_call_kind, suits, place_call_kind, place_call_notes, cast_kind, cast_notes, count, takes, count_notes, callee_notes, wanted_if, wanted, call_result, call_kind, can_spawn, spawn_notes, may_spawn, spawn_wanted, spawn_kind, type_of, are_fine, notes_of, notes_of_all}, Heads.signature_of, Resolved.{Resolution, structs_in, named_at, function_at, variable_kind, global_kind_of, result_kind_of, named_kind, called_kind, kind_at}, Transfers.{parameters_named, parameters_of as parameters_of_function}, declared.expr.Standing.TheVariants.AsValue}
-use Rattle.sharc_ctype_laws.specs.Constraints.{struct_named, IsMemberOf, HasType, HaveTypes, Callee, of_program, of_conditions, IsInteger, a_variable, a_global, a_function, a_constant, in_parentheses, element_of_pointer, element_of_array, a_call, a_field, a_field_behind, negated, complemented, denied, pointed_to, arithmetic, shifted, related, equated, joined, spawned, printed_or_joined, locked, unlocked, freed, a_cast, none_left, one_more}
-use Rattle.sharc_ctype_laws.proofs.{Held.{Held, left, right, no_fault, head_named, behind_head, well, not_wrong}, KindLemmas.{one_kind, integer_is, pointer_is, scalar_is, common_is, promoted_is, comparable_is, assignable_is}, Scenes.{IsSolid, IsResult, IsValued, IsMeant, AreMeant, IsField, IsStruct, AreStructs, IsScene, found_name, found_struct, found_field, need_fits, need_met, type_fine}, Standings.lvalue_held}
-use Rattle.sharc_lemmas.proofs.Numbers.{one_less}
+use Rattle.sharc_ctype_laws.specs.Constraints.{a_cast}
 
 pub record IsJudged (r : Resolution) (scope : Scope) (e : Expression) : Type 0 where
   pub typed : type_of scope e ≡ Some (kind_at r e)
@@ -54,7 +43,7 @@ solid_meaning r structs name _ h = tt
 pub not_main_text : (n : ℕ) (f : Function) (s : Signature) (text : List ℕ) → signature_of f ≡ s → f.name.text ≡ text → is_main (meaning.function n s) ≡ false → text ≡ codes "main" → ⊥
 not_main_text n f s text same spelled other is = false≢true (sym other ∙ (bytes_eq-Decides s.name.text (codes "main")).1 (ap (λ (z : Signature). z.name.text) (sym same) ∙ spelled ∙ is))
 
-callee_of : (r : Resolution) (i : Identifier) (n : ℕ) (f : Function) (s : Signature) → named_at r i.site.token ≡ named.Function n → function_at r n ≡ Some f → signature_of f ≡ s → f.name.text ≡ i.text → is_main (meaning.function n s) ≡ false
+callee_of : (r : Resolution) (i : Identifier) (n : ℕ) (f : Function) (s : Signature) → named_at r i.site.token ≡ Named.Function n → function_at r n ≡ Some f → signature_of f ≡ s → f.name.text ≡ i.text → is_main (meaning.function n s) ≡ false
     → Callee r i (declared_kinds s.parameters) (declared_kind s.result)
 callee_of r i n f s is at same spelled other = subst (λ (z : Signature). Callee r i (declared_kinds z.parameters) (declared_kind z.result)) same (of_program f is at spelled (not_main_text n f s i.text same spelled other))
 
@@ -80,11 +69,11 @@ name_judged r scope scene s i h =
 -- forms with parts that have been judged
 
 constant_solid : (structs : StructTable) (c : Constant) → IsSolid structs (constant_kind c)
-constant_solid structs (constants.Number n) = by n.number_type
+constant_solid structs (Constant.Number n) = by n.number_type
   where
     by : (w : NumberType) → IsSolid structs (number_kind w)
-    by width.Int = tt
-    by width.Long = tt
+    by NumberType.Int = tt
+    by NumberType.Long = tt
 constant_solid structs _ = tt
 
 parentheses_judged : (r : Resolution) (scope : Scope) (s : Span) (a : Expression) → IsJudged r scope a → IsJudged r scope (tree.parentheses s a)
@@ -102,7 +91,7 @@ met_by r scope n a j h =
 
 value_call_judged : (r : Resolution) (scope : Scope) (s : Span) (w : ValueCall) (a : Expression) → IsJudged r scope a → Held r (notes_of scope (tree.on_value s w a)) → IsJudged r scope (tree.on_value s w a)
 value_call_judged r scope s w a j h =
-    let m = met_by r scope need.Integer a j (right r _ _ h) in
+    let m = met_by r scope Need.Integer a j (right r _ _ h) in
     judge r scope (tree.on_value s w a) void refl (ap value_call_kind m.met) (inr (refl, s.first.token, refl)) (printed_or_joined j.has (integer_is (kind_at r a) m.fits))
 
 -- lvalues
@@ -142,13 +131,13 @@ kept_by r word at t k false p h = absurd (no_fault r _ _ _ h)
 
 cast_judged : (r : Resolution) (scope : Scope) (s : Span) (t : WrittenType) (a : Expression) → IsJudged r scope a → Held r (notes_of scope (tree.cast s t a)) → IsJudged r scope (tree.cast s t a)
 cast_judged r scope s t a j h =
-    let fine = type_fine r scope [] role.Cast t (left r _ _ (left r _ _ (left r _ _ h))) in
+    let fine = type_fine r scope [] Role.Cast t (left r _ _ (left r _ _ (left r _ _ h))) in
     let l = lvalue_by r scope a j (right r _ _ (left r _ _ h)) in
-    let n = subst (λ b. Held r (cast_notes s.first.token b t a (Some (kind_at r a)))) fine (subst (λ k. Held r (cast_notes s.first.token (is_fine scope.structs role.Cast t) t a k)) l.kind (right r _ _ h)) in
+    let n = subst (λ b. Held r (cast_notes s.first.token b t a (Some (kind_at r a)))) fine (subst (λ k. Held r (cast_notes s.first.token (is_fine scope.structs Role.Cast t) t a k)) l.kind (right r _ _ h)) in
     let k = kept_by r s.first.token (place a) t (kind_at r a) (is_pointer (kind_at r a)) refl n in
     let same = one_kind (kind_at r a) (declared_kind t) k.kept in
     let typed : type_of scope (tree.cast s t a) ≡ Some (declared_kind t) =
-    ap (cast_kind (is_fine scope.structs role.Cast t) t) l.kind ∙ ap (λ b. cast_kind b t (Some (kind_at r a))) fine
+    ap (cast_kind (is_fine scope.structs Role.Cast t) t) l.kind ∙ ap (λ b. cast_kind b t (Some (kind_at r a))) fine
     ∙ ap (λ b. cond (b && same_kind (kind_at r a) (declared_kind t)) (Some (declared_kind t)) None) k.pointer ∙ ap (λ b. cond b (Some (declared_kind t)) None) k.kept in
     judge r scope (tree.cast s t a) (declared_kind t) refl typed
     (solid_cast (kind_at r a) same k.pointer j.valued)
@@ -160,7 +149,7 @@ cast_judged r scope s t a j h =
 
 -- elements
 
-has_index : (r : Resolution) (s : Span) (a i : Expression) (k m : Kind) → fits need.Indexed k ≡ true → HasType r a k → HasType r i m → IsInteger m → HasType r (tree.index s a i) (element_kind k)
+has_index : (r : Resolution) (s : Span) (a i : Expression) (k m : Kind) → fits Need.Indexed k ≡ true → HasType r a k → HasType r i m → IsInteger m → HasType r (tree.index s a i) (element_kind k)
 has_index r s a i (object b n) m f ha hi im = element_of_pointer (subst (λ z. HasType r a (object b z)) (one_less n (⊎_elim (λ e. e) (λ e. absurd (false≢true e)) (or_cases (nat_lt 0 n) false f))) ha) hi im
 has_index r s a i (array b n) m f ha hi im = element_of_array ha hi im
 has_index r s a i _ m f ha hi im = absurd (false≢true f)
@@ -176,10 +165,10 @@ solid_fit structs e n k (inr is) f v = absurd (false≢true (sym v ∙ ap (fits 
 
 index_judged : (r : Resolution) (scope : Scope) (s : Span) (a i : Expression) → IsJudged r scope a → IsJudged r scope i → Held r (notes_of scope (tree.index s a i)) → IsJudged r scope (tree.index s a i)
 index_judged r scope s a i ja ji h =
-    let m = met_by r scope need.Indexed a ja (right r _ _ (left r _ _ (left r _ _ h))) in
-    let n = met_by r scope need.Integer i ji (right r _ _ h) in
+    let m = met_by r scope Need.Indexed a ja (right r _ _ (left r _ _ (left r _ _ h))) in
+    let n = met_by r scope Need.Integer i ji (right r _ _ h) in
     judge r scope (tree.index s a i) (element_kind (kind_at r a)) refl (ap₂ element_of m.met n.met)
-    (inl (solid_element scope.structs (kind_at r a) (solid_fit scope.structs a need.Indexed (kind_at r a) ja.valued m.fits refl)))
+    (inl (solid_element scope.structs (kind_at r a) (solid_fit scope.structs a Need.Indexed (kind_at r a) ja.valued m.fits refl)))
     (has_index r s a i (kind_at r a) (kind_at r i) m.fits ja.has ji.has (integer_is (kind_at r i) n.fits))
 
 -- operators
@@ -197,7 +186,7 @@ has_unary r s Dereference a _ f h = absurd (false≢true f)
 
 solid_unary : (structs : StructTable) (o : UnaryOperator) (a : Expression) (k : Kind) → fits (operand_need o) k ≡ true → IsValued structs a k → IsSolid structs (unary_result o k)
 solid_unary structs Not a k f v = tt
-solid_unary structs Dereference a k f v = solid_element structs k (solid_fit structs a need.Pointer k v f refl)
+solid_unary structs Dereference a k f v = solid_element structs k (solid_fit structs a Need.Pointer k v f refl)
 solid_unary structs _ a k f v = solid_long structs (kinds.is_long k)
 
 unary_judged : (r : Resolution) (scope : Scope) (s : Span) (o : UnaryOperator) (a : Expression) → IsJudged r scope a → Held r (notes_of scope (tree.unary s o a)) → IsJudged r scope (tree.unary s o a)
@@ -236,26 +225,26 @@ binary_judged r scope s o at a b ja jb h =
 
 -- fields
 
-pub struct_behind_is : (n : ℕ) (k : Kind) → is_struct_behind n k ≡ true → (x : List ℕ) × (k ≡ object (base.Struct x) n)
-struct_behind_is n (object base.Int m) h = absurd (false≢true (and_parts (m == n) false h).1)
-struct_behind_is n (object base.Char m) h = absurd (false≢true (and_parts (m == n) false h).1)
-struct_behind_is n (object base.Long m) h = absurd (false≢true (and_parts (m == n) false h).1)
-struct_behind_is n (object base.Mutex m) h = absurd (false≢true (and_parts (m == n) false h).1)
-struct_behind_is n (object base.Void m) h = absurd (false≢true (and_parts (m == n) false h).1)
-struct_behind_is n (object (base.Struct x) m) h = (x, ap (object (base.Struct x)) (eqb-true m n (and_parts (m == n) true h).0))
+pub struct_behind_is : (n : ℕ) (k : Kind) → is_struct_behind n k ≡ true → (x : List ℕ) × (k ≡ object (Base.Struct x) n)
+struct_behind_is n (object Base.Int m) h = absurd (false≢true (and_parts (m == n) false h).1)
+struct_behind_is n (object Base.Char m) h = absurd (false≢true (and_parts (m == n) false h).1)
+struct_behind_is n (object Base.Long m) h = absurd (false≢true (and_parts (m == n) false h).1)
+struct_behind_is n (object Base.Mutex m) h = absurd (false≢true (and_parts (m == n) false h).1)
+struct_behind_is n (object Base.Void m) h = absurd (false≢true (and_parts (m == n) false h).1)
+struct_behind_is n (object (Base.Struct x) m) h = (x, ap (object (Base.Struct x)) (eqb-true m n (and_parts (m == n) true h).0))
 struct_behind_is n _ h = absurd (false≢true h)
 
-void_is_no_struct : (x : List ℕ) (n : ℕ) → void ≡ object (base.Struct x) n → ⊥
+void_is_no_struct : (x : List ℕ) (n : ℕ) → void ≡ object (Base.Struct x) n → ⊥
 void_is_no_struct x n h = cc
 
-struct_known : (structs : StructTable) (e : Expression) (k : Kind) (x : List ℕ) (n : ℕ) → IsValued structs e k → k ≡ object (base.Struct x) n → (m : StructMeaning) × (struct_of structs x ≡ Some m)
+struct_known : (structs : StructTable) (e : Expression) (k : Kind) (x : List ℕ) (n : ℕ) → IsValued structs e k → k ≡ object (Base.Struct x) n → (m : StructMeaning) × (struct_of structs x ≡ Some m)
 struct_known structs e k x n (inl s) is = subst (IsSolid structs) is s
 struct_known structs e k x n (inr v) is = absurd (void_is_no_struct x n (sym v.0 ∙ is))
 
 pub record IsMember (r : Resolution) (structs : StructTable) (struct name : List ℕ) (token : ℕ) (o : Option (Option Declaration)) : Type 0 where
   pub member : Declaration
   pub found : o ≡ Some (Some member)
-  pub names : named_at r token ≡ named.Field member.name.site.token
+  pub names : named_at r token ≡ Named.Field member.name.site.token
   pub is : IsField r structs member
   pub of : IsMemberOf r struct name member
 
@@ -270,7 +259,7 @@ member_in r structs token name x (defined n fields) i h = member_by r structs x 
 member_in r structs token name x known i h = absurd (no_fault r _ _ _ h)
 
 pub member_of : (r : Resolution) (structs : StructTable) (token : ℕ) (name x : List ℕ) (n : ℕ) (m : StructMeaning) → AreStructs r structs structs → struct_of structs x ≡ Some m
-    → Held r (field_notes token (field_in structs name (Some (object (base.Struct x) n)))) → IsMember r structs x name token (field_in structs name (Some (object (base.Struct x) n)))
+    → Held r (field_notes token (field_in structs name (Some (object (Base.Struct x) n)))) → IsMember r structs x name token (field_in structs name (Some (object (Base.Struct x) n)))
 member_of r structs token name x n m all is h =
     subst (λ o. IsMember r structs x name token (field_among name o)) (sym is)
     (member_in r structs token name x m (found_struct r structs structs x m all is) (subst (λ o. Held r (field_notes token (field_among name o))) is h))
@@ -283,14 +272,14 @@ behind_access : (w : FieldOperator) (k : Kind) → fits (access_need w) k ≡ tr
 behind_access Dot k h = h
 behind_access Arrow k h = h
 
-has_field : (r : Resolution) (s : Span) (a : Expression) (w : FieldOperator) (name : Identifier) (x : List ℕ) (d : Declaration) → HasType r a (object (base.Struct x) (stars_before w)) → IsMemberOf r x name.text d
-    → named_at r name.site.token ≡ named.Field d.name.site.token → HasType r (tree.field s a w name) (declared_kind d.written)
+has_field : (r : Resolution) (s : Span) (a : Expression) (w : FieldOperator) (name : Identifier) (x : List ℕ) (d : Declaration) → HasType r a (object (Base.Struct x) (stars_before w)) → IsMemberOf r x name.text d
+    → named_at r name.site.token ≡ Named.Field d.name.site.token → HasType r (tree.field s a w name) (declared_kind d.written)
 has_field r s a Dot name x d h of is = a_field h of is
 has_field r s a Arrow name x d h of is = a_field_behind h of is
 
 pub record IsFieldUse (r : Resolution) (scope : Scope) (a : Expression) (w : FieldOperator) (n : Identifier) : Type 0 where
   pub name : List ℕ
-  pub of : kind_at r a ≡ object (base.Struct name) (stars_before w)
+  pub of : kind_at r a ≡ object (Base.Struct name) (stars_before w)
   pub known : StructMeaning
   pub knows : struct_of scope.structs name ≡ Some known
   pub found : IsMember r scope.structs name n.text n.site.token (field_in scope.structs n.text (met (access_need w) (type_of scope a)))
@@ -299,7 +288,7 @@ pub field_member : (r : Resolution) (scope : Scope) → IsScene r scope → (s :
 field_member r scope scene s a w n j h =
     let m = met_by r scope (access_need w) a j (right r _ _ (left r _ _ h)) in
     let b = struct_behind_is (stars_before w) (kind_at r a) (behind_access w (kind_at r a) m.fits) in
-    let met_is : met (access_need w) (type_of scope a) ≡ Some (object (base.Struct b.0) (stars_before w)) = m.met ∙ ap Some b.1 in
+    let met_is : met (access_need w) (type_of scope a) ≡ Some (object (Base.Struct b.0) (stars_before w)) = m.met ∙ ap Some b.1 in
     let k = struct_known scope.structs a (kind_at r a) b.0 (stars_before w) j.valued b.1 in
     record {
       name = b.0;
@@ -392,7 +381,7 @@ pub rest_many : (want : List Kind) (n : ℕ) → length want ≡ n + 1 → lengt
 rest_many [] n many = absurd (omega (arith, many))
 rest_many (p ∷ rest) n many = omega (arith, many)
 
-one_argument : (r : Resolution) (scope : Scope) (want : List Kind) (a : Expression) (rest : Arguments) → length want ≡ count rest + 1 → IsJudged r scope a → IsMet r scope need.Value a → agreed (first_wanted want) (Some (kind_at r a)) ≡ true
+one_argument : (r : Resolution) (scope : Scope) (want : List Kind) (a : Expression) (rest : Arguments) → length want ≡ count rest + 1 → IsJudged r scope a → IsMet r scope Need.Value a → agreed (first_wanted want) (Some (kind_at r a)) ≡ true
     → AreJudged r scope (drop 1 want) rest → AreJudged r scope want (argument a rest)
 one_argument r scope [] a rest many j m w later = absurd (omega (arith, many))
 one_argument r scope (p ∷ more) a rest many j m w later =
@@ -401,13 +390,13 @@ one_argument r scope (p ∷ more) a rest many j m w later =
       have = one_more j.has (assignable_is p (kind_at r a) m.fits w) later.have;
     }
 
-pub argument_agrees : (r : Resolution) (scope : Scope) (want : Option Kind) (a : Expression) → IsMet r scope need.Value a → Held r (unagreed want a (met need.Value (type_of scope a))) → agreed want (Some (kind_at r a)) ≡ true
+pub argument_agrees : (r : Resolution) (scope : Scope) (want : Option Kind) (a : Expression) → IsMet r scope Need.Value a → Held r (unagreed want a (met Need.Value (type_of scope a))) → agreed want (Some (kind_at r a)) ≡ true
 argument_agrees r scope want a m h = well r (agreed want (Some (kind_at r a))) (place a) TypeMismatch (subst (λ t. Held r (unagreed want a t)) m.met h)
 
 argument_judged : (r : Resolution) (scope : Scope) (want : List Kind) (a : Expression) (rest : Arguments) → length want ≡ count rest + 1 → IsJudged r scope a → AreJudged r scope (drop 1 want) rest → Held r (notes_of_all scope want (argument a rest))
     → AreJudged r scope want (argument a rest)
 argument_judged r scope want a rest many j later h =
-    let m = met_by r scope need.Value a j (right r _ _ (left r _ _ (left r _ _ h))) in
+    let m = met_by r scope Need.Value a j (right r _ _ (left r _ _ (left r _ _ h))) in
     one_argument r scope want a rest many j m (argument_agrees r scope (first_wanted want) a m (right r _ _ (left r _ _ h))) later
 
 -- `spawn`
@@ -448,31 +437,31 @@ spawn_by r structs names word i (Some e) all is h =
     spawned_by r structs i e.name e.block e.meaning (found_name r structs names i.text e all is) (head_named r _ _ _ h) (well r (can_spawn e.meaning) word BadForm (right r _ _ (behind_head r _ _ _ h)))
 
 -- its name is that of a function
-spawn_names : (r : Resolution) (word : ℕ) (i : Identifier) (o : Option Entry) → Held r (spawn_notes word i.site.token o) → (n : ℕ) × (named_at r i.site.token ≡ named.Function n)
+spawn_names : (r : Resolution) (word : ℕ) (i : Identifier) (o : Option Entry) → Held r (spawn_notes word i.site.token o) → (n : ℕ) × (named_at r i.site.token ≡ Named.Function n)
 spawn_names r word i None h = absurd (no_fault r _ _ _ h)
 spawn_names r word i (Some e) h = by e.meaning (head_named r _ _ _ h) (well r (can_spawn e.meaning) word BadForm (right r _ _ (behind_head r _ _ _ h)))
   where
-    by : (m : Meaning) → named_at r i.site.token ≡ named_of m → can_spawn m ≡ true → (n : ℕ) × (named_at r i.site.token ≡ named.Function n)
+    by : (m : Meaning) → named_at r i.site.token ≡ named_of m → can_spawn m ≡ true → (n : ℕ) × (named_at r i.site.token ≡ Named.Function n)
     by (meaning.function k f) is can = (k, is)
     by _ is can = absurd (false≢true can)
 
-pub spawned_name : (r : Resolution) (scope : Scope) (s : Span) (f : Identifier) (a : Expression) → Held r (notes_of scope (tree.spawn s f a)) → (n : ℕ) × (named_at r f.site.token ≡ named.Function n)
+pub spawned_name : (r : Resolution) (scope : Scope) (s : Span) (f : Identifier) (a : Expression) → Held r (notes_of scope (tree.spawn s f a)) → (n : ℕ) × (named_at r f.site.token ≡ Named.Function n)
 spawned_name r scope s f a h = spawn_names r s.first.token f (look_up scope.names f.text) (right r _ _ (left r _ _ h))
 
 pub spawn_callee : (r : Resolution) (scope : Scope) → IsScene r scope → (s : Span) (f : Identifier) (a : Expression) → Held r (notes_of scope (tree.spawn s f a)) → IsSpawned r f (look_up scope.names f.text)
 spawn_callee r scope scene s f a h = spawn_by r scope.structs scope.names s.first.token f (look_up scope.names f.text) scene.names refl (right r _ _ (left r _ _ h))
 
-pub spawn_agrees : (r : Resolution) (scope : Scope) (s : Span) (f : Identifier) (a : Expression) (c : IsSpawned r f (look_up scope.names f.text)) → IsMet r scope need.Value a → Held r (notes_of scope (tree.spawn s f a)) → agrees c.parameter (kind_at r a) ≡ true
-spawn_agrees r scope s f a c m h = argument_agrees r scope (Some c.parameter) a m (subst (λ w. Held r (unagreed w a (met need.Value (type_of scope a)))) c.wants (right r _ _ h))
+pub spawn_agrees : (r : Resolution) (scope : Scope) (s : Span) (f : Identifier) (a : Expression) (c : IsSpawned r f (look_up scope.names f.text)) → IsMet r scope Need.Value a → Held r (notes_of scope (tree.spawn s f a)) → agrees c.parameter (kind_at r a) ≡ true
+spawn_agrees r scope s f a c m h = argument_agrees r scope (Some c.parameter) a m (subst (λ w. Held r (unagreed w a (met Need.Value (type_of scope a)))) c.wants (right r _ _ h))
 
 spawn_judged : (r : Resolution) (scope : Scope) → IsScene r scope → (s : Span) (f : Identifier) (a : Expression) → IsJudged r scope a → Held r (notes_of scope (tree.spawn s f a)) → IsJudged r scope (tree.spawn s f a)
 spawn_judged r scope scene s f a j h =
-    let m = met_by r scope need.Value a j (right r _ _ (left r _ _ (left r _ _ h))) in
+    let m = met_by r scope Need.Value a j (right r _ _ (left r _ _ (left r _ _ h))) in
     let c = spawn_callee r scope scene s f a h in
     let agree = spawn_agrees r scope s f a c m h in
     let typed : type_of scope (tree.spawn s f a) ≡ Some int =
-    ap (λ b. spawn_kind b (agreed (spawn_wanted (look_up scope.names f.text)) (met need.Value (type_of scope a))) (met need.Value (type_of scope a))) c.may
-    ∙ ap (λ w. spawn_kind true (agreed w (met need.Value (type_of scope a))) (met need.Value (type_of scope a))) c.wants
+    ap (λ b. spawn_kind b (agreed (spawn_wanted (look_up scope.names f.text)) (met Need.Value (type_of scope a))) (met Need.Value (type_of scope a))) c.may
+    ∙ ap (λ w. spawn_kind true (agreed w (met Need.Value (type_of scope a))) (met Need.Value (type_of scope a))) c.wants
     ∙ ap (λ t. spawn_kind true (agreed (Some c.parameter) t) t) m.met ∙ ap (λ b. spawn_kind true b (Some (kind_at r a))) agree in
     judge r scope (tree.spawn s f a) int refl typed (inl tt) (spawned c.callee (one_more j.has (assignable_is c.parameter (kind_at r a) m.fits agree) none_left))
 

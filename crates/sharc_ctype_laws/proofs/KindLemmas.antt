@@ -1,9 +1,5 @@
 -- Kinds: which are integers, pointers and scalars, and which agree.
-use Rattle.std.proofs.{Common.{◌≡◌, inl, inr, ◌+◌, ◌-◌, Bool, true, false, ◌&&◌, ◌||◌, cond, refl, ap, ap₂, sym, ◌∙◌, subst, eqb-true, ⊎_elim}, lemmas.Bool.{false≢true, and_parts, or_cases}, lemmas.Slice.Eq.bytes_eq-Decides}
-use Rattle.sharc_tree.specs.{declared.ctype.Base.Base, declared.ctype.Base.TheVariants.{Int, Char, Long, Mutex, Void, Struct}}
-use Rattle.sharc_names.specs.{declared.need.Need.TheVariants.Value, Kinds.{Kind, object, null, int, long, is_integer, is_pointer, is_null, is_long, same_base, same_kind, agrees, comparable, promoted, common}, Needs.fits}
-use Rattle.sharc_ctype_laws.specs.Constraints.{IsInteger, IsPointer, IsScalar, Common, both_shorter, left_long, right_long, Comparable, integers, pointers, pointer_and_null, null_and_pointer, Assignable, integer, pointer, null_pointer}
-use Rattle.sharc_lemmas.proofs.Numbers.{one_less}
+use Rattle.sharc_ctype_laws.proofs.Imports.{◌≡◌, inl, inr, ◌+◌, ◌-◌, Bool, true, false, ◌&&◌, ◌||◌, cond, refl, ap, ap₂, sym, ◌∙◌, subst, eqb-true, ⊎_elim, false≢true, and_parts, or_cases, bytes_eq-Decides, Base, Int, Char, Long, Mutex, Void, Struct, Value, Kind, object, null, int, long, is_integer, is_pointer, is_null, is_long, same_base, same_kind, agrees, comparable, promoted, common, fits, IsInteger, IsPointer, IsScalar, Common, both_shorter, left_long, right_long, Comparable, integers, pointers, pointer_and_null, null_and_pointer, Assignable, integer, pointer, null_pointer, one_less}
 
 -- tests that decide equality
 

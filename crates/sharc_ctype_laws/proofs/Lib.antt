@@ -1,3 +1,4 @@
+mod Imports
 pub mod AllLemmas
 pub mod AtMost
 pub mod Begun

@@ -1,14 +1,6 @@
 -- A program of which no fault is noted is within the limits, and has its `main`.
-use Rattle.std.proofs.{Common.{◌≡◌, ℕ, suc, ◌+◌, ◌-◌, ◌≤◌, ◌<◌, ◌==◌, Bool, true, ◌&&◌, nat_lt, nat_le, List, [], ◌∷◌, ◌++◌, length, refl, ap, sym, ◌∙◌, arith, Option, Some, None, codes, length-append, ltb-true, leb-true, eqb-true, eq-eqb, is_some}, lemmas.Bool.{false≢true, true≢false, and_parts}}
-use Rattle.std.specs.List.{AllByRecursion}
-use Rattle.sharc_tree.specs.{declared.tree.declaration.Declaration.Declaration, Tree.{Function, Item, structure, global, function}}
-use Rattle.sharc_names.specs.{declared.fault.FaultCode.TheVariants.{LimitPassed, NoMain}, declared.scope.Scope.Scope, Kinds.{int, same_kind, declared_kind}, Names.{StructTable, Entry, Meaning, Signature, look_up, struct_of, field_of}, Types.type_notes, declared.fault.Named.Named, Notes.{refers, fault_where}}
-use Rattle.sharc_names.specs.declared.types.Role.TheVariants as role
-use Rattle.sharc_names.specs.declared.fault.Named.TheVariants as named
+use Rattle.sharc_ctype_laws.proofs.{Imports.{◌≡◌, ℕ, suc, ◌+◌, ◌-◌, ◌≤◌, ◌<◌, ◌==◌, Bool, true, ◌&&◌, nat_lt, nat_le, List, [], ◌∷◌, ◌++◌, length, refl, ap, sym, ◌∙◌, arith, Option, Some, None, codes, length-append, ltb-true, leb-true, eqb-true, eq-eqb, is_some, false≢true, true≢false, and_parts, AllByRecursion, Declaration, Function, Item, structure, global, function, LimitPassed, NoMain, Scope, int, same_kind, declared_kind, StructTable, Entry, Meaning, Signature, look_up, struct_of, field_of, type_notes, Named, refers, fault_where, Role, Heads, twice, within, behind, item_head_notes, heads_notes, elements_of, global_cells, item_cells, cells_of_all, item_size_notes, sizes_notes, one_field_notes, fields_notes, parameters_notes, beyond, function_notes, item_notes, items_notes, is_main_meaning, has_main, main_missing, Resolution, structs_in, globals_in, functions_in, with_names, declared, declared_notes, locals_in_all, IsMain}, Held.{Held, well, Clean, clean_left, clean_right, clean_behind, clean_well, clean_not_wrong}, KindLemmas.one_kind, Scenes.{IsMeant, AreMeant, IsScene, found_name}}
 use Rattle.sharc_names.specs.Names as meaning
-use Rattle.sharc_ctype.specs.{Heads.{Heading as Heads, twice, within, behind, head_notes as item_head_notes, heads_notes}, Globals.{elements_of, global_cells, item_cells, cells_of_all, item_size_notes, sizes_notes}, Items.{field_notes as one_field_notes, fields_notes, parameters_notes, beyond, function_notes, item_notes, items_notes, is_main_meaning, has_main, main_missing}, Resolved.{Resolution, structs_in, globals_in, functions_in}, Statements.{with_names, declared, declared_notes, locals_in_all}}
-use Rattle.sharc_ctype_laws.specs.Limits.{IsMain}
-use Rattle.sharc_ctype_laws.proofs.{Held.{Held, well, Clean, clean_left, clean_right, clean_behind, clean_well, clean_not_wrong}, KindLemmas.one_kind, Scenes.{IsMeant, AreMeant, IsScene, found_name}}
 
 -- how many there are of each kind of item
 
@@ -26,17 +18,17 @@ pub record AreFew (h : Heads) (rest : List Item) : Type 0 where
 pub few : (h : Heads) (rest : List Item) → h.structs ≤ 256 → h.globals ≤ 4096 → h.functions ≤ 16384 → Clean (heads_notes h rest) → AreFew h rest
 few h [] s g f n = record { structs = omega (arith, s); globals = omega (arith, g); functions = omega (arith, f) }
 few h (structure x ∷ rest) s g f n =
-    let less = in_head x.name.site.token (named.Struct h.structs) (is_some (struct_of h.scope.structs x.name.text)) 256 h.structs x.name.site.token (clean_left (item_head_notes h (structure x)) (heads_notes (behind h (structure x)) rest) n) in
+    let less = in_head x.name.site.token (Named.Struct h.structs) (is_some (struct_of h.scope.structs x.name.text)) 256 h.structs x.name.site.token (clean_left (item_head_notes h (structure x)) (heads_notes (behind h (structure x)) rest) n) in
     let later = few (behind h (structure x)) rest (omega (arith, less)) g f (clean_right (item_head_notes h (structure x)) (heads_notes (behind h (structure x)) rest) n) in
     let many = later.structs in
     record { structs = omega (arith, many); globals = later.globals; functions = later.functions }
 few h (global x ∷ rest) s g f n =
-    let less = in_head x.declaration.name.site.token (named.Global h.globals) (is_some (look_up h.scope.names x.declaration.name.text)) 4096 h.globals x.declaration.name.site.token (clean_left (item_head_notes h (global x)) (heads_notes (behind h (global x)) rest) n) in
+    let less = in_head x.declaration.name.site.token (Named.Global h.globals) (is_some (look_up h.scope.names x.declaration.name.text)) 4096 h.globals x.declaration.name.site.token (clean_left (item_head_notes h (global x)) (heads_notes (behind h (global x)) rest) n) in
     let later = few (behind h (global x)) rest s (omega (arith, less)) f (clean_right (item_head_notes h (global x)) (heads_notes (behind h (global x)) rest) n) in
     let many = later.globals in
     record { structs = later.structs; globals = omega (arith, many); functions = later.functions }
 few h (function x ∷ rest) s g f n =
-    let less = in_head x.name.site.token (named.Function h.functions) (is_some (look_up h.scope.names x.name.text)) 16384 h.functions x.name.site.token (clean_left (item_head_notes h (function x)) (heads_notes (behind h (function x)) rest) n) in
+    let less = in_head x.name.site.token (Named.Function h.functions) (is_some (look_up h.scope.names x.name.text)) 16384 h.functions x.name.site.token (clean_left (item_head_notes h (function x)) (heads_notes (behind h (function x)) rest) n) in
     let later = few (behind h (function x)) rest s g (omega (arith, less)) (clean_right (item_head_notes h (function x)) (heads_notes (behind h (function x)) rest) n) in
     let many = later.functions in
     record { structs = later.structs; globals = later.globals; functions = omega (arith, many) }
@@ -46,7 +38,7 @@ few h (function x ∷ rest) s g f n =
 few_fields : (scope : Scope) (all earlier rest : List Declaration) → length earlier ≤ 256 → Clean (fields_notes scope all earlier rest) → length earlier + length rest ≤ 256
 few_fields scope all earlier [] s h = omega (arith, s)
 few_fields scope all earlier (d ∷ rest) s h =
-    let less = in_head d.name.site.token (named.Field d.name.site.token) (is_some (field_of earlier d.name.text)) 256 (length earlier) d.name.site.token (clean_right (type_notes scope all role.Field d.written) _ (clean_left (one_field_notes scope all earlier d) (fields_notes scope all (earlier ++ d ∷ []) rest) h)) in
+    let less = in_head d.name.site.token (Named.Field d.name.site.token) (is_some (field_of earlier d.name.text)) 256 (length earlier) d.name.site.token (clean_right (type_notes scope all Role.Field d.written) _ (clean_left (one_field_notes scope all earlier d) (fields_notes scope all (earlier ++ d ∷ []) rest) h)) in
     let longer = length-append earlier (d ∷ []) in
     let later = few_fields scope all (earlier ++ d ∷ []) rest (omega (arith, less, longer)) (clean_right (one_field_notes scope all earlier d) (fields_notes scope all (earlier ++ d ∷ []) rest) h) in
     omega (arith, later, longer)
@@ -58,8 +50,8 @@ few_parameters : (block before : ℕ) (scope : Scope) (list : List Declaration) 
 few_parameters block before scope [] s h = omega (arith, s)
 few_parameters block before scope (d ∷ rest) s h =
     let parts = parameters_notes block (before + 1) (with_names scope (declared block d scope.names)) rest in
-    let less = below 16 before d.name.site.token (clean_right (type_notes scope [] role.Parameter d.written ++ declared_notes block d scope.names) (within 16 before d.name.site.token) (clean_left (type_notes scope [] role.Parameter d.written ++ declared_notes block d scope.names ++ within 16 before d.name.site.token) parts h)) in
-    one_more before rest (few_parameters block (before + 1) (with_names scope (declared block d scope.names)) rest (omega (arith, less)) (clean_right (type_notes scope [] role.Parameter d.written ++ declared_notes block d scope.names ++ within 16 before d.name.site.token) parts h))
+    let less = below 16 before d.name.site.token (clean_right (type_notes scope [] Role.Parameter d.written ++ declared_notes block d scope.names) (within 16 before d.name.site.token) (clean_left (type_notes scope [] Role.Parameter d.written ++ declared_notes block d scope.names ++ within 16 before d.name.site.token) parts h)) in
+    one_more before rest (few_parameters block (before + 1) (with_names scope (declared block d scope.names)) rest (omega (arith, less)) (clean_right (type_notes scope [] Role.Parameter d.written ++ declared_notes block d scope.names ++ within 16 before d.name.site.token) parts h))
 
 few_locals : (room : ℕ) (list : List Declaration) → Clean (beyond room list) → length list ≤ room
 few_locals room [] h = omega arith

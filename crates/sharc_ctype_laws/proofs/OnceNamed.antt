@@ -1,13 +1,6 @@
 -- No two functions have one name, where no fault is noted.
-use Rattle.std.proofs.{Common.{◌≡◌, ℕ, zero, suc, Bool, true, false, List, [], ◌∷◌, ◌++◌, Some, refl, ap, ◌∙◌, rules, is_some}, lemmas.Bool.both_ways}
-use Rattle.std.specs.{Prelude.{slice_get, if◌then◌else◌}, Str.bytes_eq}
-use Rattle.sharc_tree.specs.Tree.{Function, Item, structure, global, function}
-use Rattle.sharc_names.specs.{declared.fault.FaultCode.TheVariants.DefinedTwice, Names.{Entry, look_up}}
-use Rattle.sharc_names.specs.declared.fault.Named.TheVariants as named
-use Rattle.sharc_ctype.specs.{Globals.sizes_notes, Heads.{Heading as Heads, with_entry, global_entry, function_entry, behind, twice, within, head_notes, heads_notes, no_heads}, Items.{items_notes, file_scope, notes_about}, Resolved.functions_in}
-use Rattle.sharc_ctype_laws.specs.Laws.{OneFunctionOfName}
-use Rattle.sharc_ctype_laws.proofs.Held.{Clean, clean, clean_left, clean_right, clean_behind, clean_not_wrong}
-use Rattle.sharc_lemmas.proofs.Lists.{same_bytes}
+use Rattle.sharc_ctype_laws.proofs.{Imports.{◌≡◌, ℕ, zero, suc, Bool, true, false, List, [], ◌∷◌, ◌++◌, Some, refl, ap, ◌∙◌, rules, is_some, both_ways, slice_get, if◌then◌else◌, Function, Item, structure, global, function, DefinedTwice, Entry, look_up, Named, sizes_notes, Heads, with_entry, global_entry, function_entry, behind, twice, within, item_head_notes as head_notes, heads_notes, no_heads, items_notes, file_scope, notes_about, functions_in, OneFunctionOfName, same_bytes}, Held.{Clean, clean, clean_left, clean_right, clean_behind, clean_not_wrong}}
+use Rattle.std.specs.Str.{bytes_eq}
 
 module _ (x : List ℕ) where
   abbrev knows : List Entry → Bool
@@ -31,7 +24,7 @@ module _ (x : List ℕ) where
   is_new h f c =
       let notes = twice (is_some (look_up h.scope.names f.name.text)) f.name.site.token in
       let rest = within 16384 h.functions f.name.site.token in
-      clean_not_wrong (is_some (look_up h.scope.names f.name.text)) f.name.site.token DefinedTwice (clean_left notes rest (clean_behind f.name.site.token (named.Function h.functions) (notes ++ rest) c))
+      clean_not_wrong (is_some (look_up h.scope.names f.name.text)) f.name.site.token DefinedTwice (clean_left notes rest (clean_behind f.name.site.token (Named.Function h.functions) (notes ++ rest) c))
 
   head_clean : (h : Heads) (i : Item) (rest : List Item) → Clean (heads_notes h (i ∷ rest)) → Clean (head_notes h i)
   head_clean h i rest c = clean_left (head_notes h i) (heads_notes (behind h i) rest) c

@@ -1,14 +1,6 @@
 -- The rules give an expression no other type than the one that its names give.
-use Rattle.std.proofs.{Common.{◌≡◌, ℕ, ◌+◌, ◌-◌, Bool, true, false, ◌||◌, cond, List, [], ◌∷◌, refl, ap, ap₂, ◌∙◌, eqb-true, arith, Some, is_some, bytes_eq}, lemmas.Bool.false≢true}
-use Rattle.std.specs.List.{AllByRecursion}
-use Rattle.sharc_tree.specs.declared.ctype.Base.TheVariants as base
-use Rattle.sharc_tree.specs.{declared.tree.declaration.Declaration.Declaration, declared.tree.declaration.Identifier.Identifier, declared.tree.item.StructDefinition.StructDefinition, Tree.Expression}
-use Rattle.sharc_names.specs.declared.fault.Named.TheVariants as named
-use Rattle.sharc_names.specs.{Kinds.{Kind, object, int, long, is_long, promoted, common, element_kind, declared_kind}, Names.field_of}
+use Rattle.sharc_ctype_laws.proofs.{Imports.{◌≡◌, ℕ, ◌+◌, ◌-◌, Bool, true, false, ◌||◌, cond, List, [], ◌∷◌, refl, ap, ap₂, ◌∙◌, eqb-true, arith, Some, is_some, bytes_eq, false≢true, AllByRecursion, Base, Declaration, Identifier, StructDefinition, Expression, Named, Kind, object, int, long, is_long, promoted, common, element_kind, declared_kind, field_of, OperatorClass, Shift, Arithmetic, binary_result, Resolution, structs_in, named_at, variable_kind, global_kind_of, result_kind_of, named_kind, called_kind, kind_at, HasType, Callee, of_program, of_conditions, Common, both_shorter, left_long, right_long, IsMemberOf, struct_named, a_variable, a_global, a_function, in_parentheses, element_of_pointer, element_of_array, a_call, a_field, a_field_behind, negated, complemented, pointed_to, arithmetic, shifted, related, equated, joined, IsItself, NameThemselves}, Scenes.found_or_later}
 use Rattle.sharc_names.specs.Kinds as kinds
-use Rattle.sharc_ctype.specs.{declared.expr.OperatorClass.OperatorClass, declared.expr.OperatorClass.TheVariants.{Shift, Arithmetic}, Expressions.binary_result, Resolved.{Resolution, structs_in, named_at, variable_kind, global_kind_of, result_kind_of, named_kind, called_kind, kind_at}}
-use Rattle.sharc_ctype_laws.specs.{Constraints.{HasType, Callee, of_program, of_conditions, Common, both_shorter, left_long, right_long, IsMemberOf, struct_named, a_variable, a_global, a_function, in_parentheses, element_of_pointer, element_of_array, a_call, a_field, a_field_behind, negated, complemented, pointed_to, arithmetic, shifted, related, equated, joined}, Declared.{IsItself, NameThemselves}}
-use Rattle.sharc_ctype_laws.proofs.Scenes.{found_or_later}
 
 -- members are found by their tokens
 
@@ -21,17 +13,17 @@ found_member : (P : Declaration → Type 0) (list : List Declaration) (name : Li
 found_member P [] name d all is = absurd (false≢true (ap is_some is))
 found_member P (y ∷ rest) name d all is = found_or_later P y d (field_of rest name) (bytes_eq y.name.text name) is (λ t. all.0) (λ h. found_member P rest name d all.1 h)
 
-member_kind : (r : Resolution) → NameThemselves r → (x : List ℕ) (name : Identifier) (d : Declaration) → IsMemberOf r x name.text d → named_at r name.site.token ≡ named.Field d.name.site.token
+member_kind : (r : Resolution) → NameThemselves r → (x : List ℕ) (name : Identifier) (d : Declaration) → IsMemberOf r x name.text d → named_at r name.site.token ≡ Named.Field d.name.site.token
     → named_kind r (named_at r name.site.token) ≡ declared_kind d.written
 member_kind r n x name d m is =
-    let fields = found_fields (IsItself r named.Field) (structs_in r.program.items) x m.0 n.fields m.1 in
-    let itself = found_member (IsItself r named.Field) m.0.fields name.text d fields m.2 in
+    let fields = found_fields (IsItself r Named.Field) (structs_in r.program.items) x m.0 n.fields m.1 in
+    let itself = found_member (IsItself r Named.Field) m.0.fields name.text d fields m.2 in
     ap (named_kind r) is ∙ ap variable_kind itself.1
 
 -- common types
 
 long_is : (k : Kind) → is_long k ≡ true → k ≡ long
-long_is (object base.Long n) h = ap (object base.Long) (eqb-true n 0 h)
+long_is (object Base.Long n) h = ap (object Base.Long) (eqb-true n 0 h)
 long_is _ h = absurd (false≢true h)
 
 shorter : (k : Kind) (b : Bool) → is_long k ≡ b → (k ≡ long → ⊥) → b ≡ false

@@ -1,14 +1,6 @@
 -- In a tree at its tokens no two names have one token: so notes without a fault say what the tokens name, and each declaration is found by its token.
-use Rattle.std.proofs.{Common.{◌≡◌, ⊎_elim, ℕ, ◌+◌, ◌≤◌, ◌<◌, zero, suc, Bool, true, false, cond, List, [], ◌∷◌, ◌++◌, length, fold, get_or, replicate, refl, ap, sym, ◌∙◌, subst, arith, Some, eq-eqb, ne_eqb, get_or-set_other, get_or-set_same, length-set, set}, lemmas.Bool.{cases_eq, cases_lt}, lemmas.List.length-replicate}
-use Rattle.std.specs.List.{AllByRecursion}
-use Rattle.sharc_tree.specs.{declared.token.Keyword.Keyword, declared.token.Keyword.TheVariants.Scast, declared.token.Token.Token, declared.token.TokenKind.TokenKind, declared.tree.declaration.Declaration.Declaration, Low.IsLow, Marks.{Mark, keyword_marks, kind_marks, marks_from, name_marks, type_marks, declaration_marks, declarations_marks, marks, option_marks, right_marks, simple_marks, local_marks, first_marks, head_marks, statement_marks, statements_marks, item_marks, items_marks}, Placed.IsPlaced, Tree.{Local, First, declares, Statement, Statements, no_statements, statement, Item, Program}}
-use Rattle.sharc_tree.specs.declared.token.TokenKind.TheVariants as kind
+use Rattle.sharc_ctype_laws.proofs.{Imports.{◌≡◌, ⊎_elim, ℕ, ◌+◌, ◌≤◌, ◌<◌, zero, suc, Bool, true, false, cond, List, [], ◌∷◌, ◌++◌, length, fold, get_or, replicate, refl, ap, sym, ◌∙◌, subst, arith, Some, eq-eqb, ne_eqb, get_or-set_other, get_or-set_same, length-set, set, cases_eq, cases_lt, length-replicate, AllByRecursion, Keyword, Scast, Token, TokenKind, Declaration, IsLow, Mark, keyword_marks, kind_marks, marks_from, name_marks, type_marks, declaration_marks, declarations_marks, marks, option_marks, right_marks, simple_marks, local_marks, first_marks, head_marks, statement_marks, statements_marks, item_marks, items_marks, IsPlaced, Local, First, declares, Statement, Statements, no_statements, statement, Item, Program, Named, Note, fault, refers, yields, Findings, is_free, noted, faults, notes_about, nothing_found, Resolution, IsResolved, declarations_of, declarations_in, declared_at, named_at, first_locals, locals_in, locals_in_all, together}, AtMost.program_most, Counts.{one, told, written, written-append, told_refers, told_yields, written_one, written_cast, written_none}, Held.{Held, no_faults}, Walked.AreDeclared}
 use Rattle.sharc_tree.specs.Tree as tree
-use Rattle.sharc_names.specs.{declared.fault.Named.Named, Notes.{Note, fault, refers, yields, Findings, is_free, noted, faults}}
-use Rattle.sharc_names.specs.declared.fault.Named.TheVariants as named
-use Rattle.sharc_ctype.specs.{Items.{notes_about, nothing_found}, Resolved.{Resolution, IsResolved, declarations_of, declarations_in, declared_at, named_at}, Statements.{first_locals, locals_in, locals_in_all}}
-use Rattle.sharc_ctype_laws.proofs.{AtMost.program_most, Counts.{one, told, written, written-append, told_refers, told_yields, written_one, written_cast, written_none}, Held.{Held, no_faults}, Walked.AreDeclared}
-use Rattle.sharc_lemmas.proofs.Lists.{together}
 
 pub one_same : (t : ℕ) → one t t ≡ 1
 unfolding one
@@ -28,8 +20,8 @@ keyword_low t n Scast = written_cast t n [] ∙ written_none t
 keyword_low t n _ = written_none t
 
 kind_low : (t n : ℕ) (k : TokenKind) (text : List ℕ) → written t (kind_marks k text n) ≤ one t n
-kind_low t n (kind.Keyword k) text = let e = keyword_low t n k in omega (arith, e)
-kind_low t n kind.Identifier text = let e = written_one t n text in omega (arith, e)
+kind_low t n (TokenKind.Keyword k) text = let e = keyword_low t n k in omega (arith, e)
+kind_low t n TokenKind.Identifier text = let e = written_one t n text in omega (arith, e)
 kind_low t n _ text = let e = written_none t in omega (arith, e)
 
 record AreFew (t n : ℕ) (list : List Token) : Type 0 where
@@ -79,7 +71,7 @@ free_other false all n t what d other = refl
 length_kept : (f : Findings) (n : Note) → length (noted f n).named ≡ length f.named
 length_kept f (fault place code) = refl
 length_kept f (refers token what) = length-set f.named token what
-length_kept f (yields token what) = free_length (is_free (get_or f.named token named.Known)) f.named token what
+length_kept f (yields token what) = free_length (is_free (get_or f.named token Named.Known)) f.named token what
 
 untold : (t : ℕ) (d : Named) (f : Findings) (list : List Note) → told t list ≡ 0 → get_or (fold noted f list).named t d ≡ get_or f.named t d
 unfolding told
@@ -90,17 +82,17 @@ untold t d f (refers n what ∷ rest) h =
     ∙ get_or-set_other f.named n t what d (λ is. let e = one_same t in let g = ap (one t) (sym is) in omega (arith, h, e, g))
 untold t d f (yields n what ∷ rest) h =
     untold t d (noted f (yields n what)) rest (omega (arith, h))
-    ∙ free_other (is_free (get_or f.named n named.Known)) f.named n t what d (λ is. let e = one_same t in let g = ap (one t) (sym is) in omega (arith, h, e, g))
+    ∙ free_other (is_free (get_or f.named n Named.Known)) f.named n t what d (λ is. let e = one_same t in let g = ap (one t) (sym is) in omega (arith, h, e, g))
 
 apart_from : (n t : ℕ) (rest : List Note) → told n rest ≡ 0 → 0 < told t rest → (t ≡ n → ⊥)
 apart_from n t rest none some is = let e = ap (λ x. told x rest) is in omega (arith, none, some, e)
 
 -- nothing is named where nothing is said yet
 abbrev IsOpen : Findings → List Note → Type 0
-IsOpen f list = (t : ℕ) → 0 < told t list → get_or f.named t named.Known ≡ named.Known
+IsOpen f list = (t : ℕ) → 0 < told t list → get_or f.named t Named.Known ≡ Named.Known
 
 held_by : (r : Resolution) (f : Findings) (list : List Note) → ((t : ℕ) → told t list ≤ 1) → ((t : ℕ) → 0 < told t list → t < length f.named) → IsOpen f list → faults list ≡ []
-    → ((t : ℕ) → named_at r t ≡ get_or (fold noted f list).named t named.Known) → Held r list
+    → ((t : ℕ) → named_at r t ≡ get_or (fold noted f list).named t Named.Known) → Held r list
 unfolding Held
 held_by r f [] once within free clean is = tt
 held_by r f (fault place code ∷ rest) once within free clean is = absurd (no_faults _ _ clean)
@@ -108,22 +100,22 @@ held_by r f (refers n what ∷ rest) once within free clean is =
     let more : (t : ℕ) → told t (refers n what ∷ rest) ≡ one t n + told t rest = λ t. told_refers t n what rest in
     let none : told n rest ≡ 0 = let e = more n in let o = once n in let s = one_same n in omega (arith, e, o, s) in
     let low : n < length f.named = within n (let e = more n in let s = one_same n in omega (arith, e, s)) in (
-      is n ∙ untold n named.Known (noted f (refers n what)) rest none ∙ get_or-set_same f.named n what named.Known low,
+      is n ∙ untold n Named.Known (noted f (refers n what)) rest none ∙ get_or-set_same f.named n what Named.Known low,
       held_by r (noted f (refers n what)) rest (λ t. let e = more t in let o = once t in omega (arith, e, o))
           (λ t h. let l = length_kept f (refers n what) in let w = within t (let e = more t in omega (arith, e, h)) in omega (arith, l, w))
-          (λ t h. get_or-set_other f.named n t what named.Known (apart_from n t rest none h) ∙ free t (let e = more t in omega (arith, e, h))) clean is,
+          (λ t h. get_or-set_other f.named n t what Named.Known (apart_from n t rest none h) ∙ free t (let e = more t in omega (arith, e, h))) clean is,
     )
 held_by r f (yields n what ∷ rest) once within free clean is =
     let more : (t : ℕ) → told t (yields n what ∷ rest) ≡ one t n + told t rest = λ t. told_yields t n what rest in
     let none : told n rest ≡ 0 = let e = more n in let o = once n in let s = one_same n in omega (arith, e, o, s) in
     let some : 0 < told n (yields n what ∷ rest) = let e = more n in let s = one_same n in omega (arith, e, s) in (
-      is n ∙ untold n named.Known (noted f (yields n what)) rest none ∙ ap (λ x. get_or (cond (is_free x) (set f.named n what) f.named) n named.Known) (free n some) ∙ get_or-set_same f.named n what named.Known (within n some),
+      is n ∙ untold n Named.Known (noted f (yields n what)) rest none ∙ ap (λ x. get_or (cond (is_free x) (set f.named n what) f.named) n Named.Known) (free n some) ∙ get_or-set_same f.named n what Named.Known (within n some),
       held_by r (noted f (yields n what)) rest (λ t. let e = more t in let o = once t in omega (arith, e, o))
           (λ t h. let l = length_kept f (yields n what) in let w = within t (let e = more t in omega (arith, e, h)) in omega (arith, l, w))
-          (λ t h. free_other (is_free (get_or f.named n named.Known)) f.named n t what named.Known (apart_from n t rest none h) ∙ free t (let e = more t in omega (arith, e, h))) clean is,
+          (λ t h. free_other (is_free (get_or f.named n Named.Known)) f.named n t what Named.Known (apart_from n t rest none h) ∙ free t (let e = more t in omega (arith, e, h))) clean is,
     )
 
-blank : (n t : ℕ) → get_or (replicate n named.Known) t named.Known ≡ named.Known
+blank : (n t : ℕ) → get_or (replicate n Named.Known) t Named.Known ≡ Named.Known
 blank zero t = refl
 blank (suc n) zero = refl
 blank (suc n) (suc t) = blank n t
@@ -132,10 +124,10 @@ pub all_held : (r : Resolution) → IsResolved r → HasOwnTokens r.program → 
 all_held r resolved own low =
     held_by r (nothing_found (length r.program.tokens.list)) (notes_about r.program)
     (λ t. let m = program_most t (length r.program.tokens.list) r.program.items low in let o = own.once t in omega (arith, m, o))
-    (λ t h. let m = program_most t (length r.program.tokens.list) r.program.items low in let w = own.within t (omega (arith, m, h)) in let l = length-replicate (length r.program.tokens.list) named.Known in omega (arith, w, l))
+    (λ t h. let m = program_most t (length r.program.tokens.list) r.program.items low in let w = own.within t (omega (arith, m, h)) in let l = length-replicate (length r.program.tokens.list) Named.Known in omega (arith, w, l))
     (λ t h. blank (length r.program.tokens.list) t)
     resolved.typed
-    (λ t. ap (λ l. get_or l t named.Known) resolved.named)
+    (λ t. ap (λ l. get_or l t Named.Known) resolved.named)
 
 -- declarations
 

@@ -1,15 +1,7 @@
 -- The variables in scope in a function are its own parameters and locals: so are those that it names.
-use Rattle.std.proofs.{Common.{◌≡◌, ℕ, Bool, true, false, cond, List, [], ◌∷◌, ◌++◌, map, length, refl, ap, sym, ◌∙◌, subst, arith, Some, is_some, bytes_eq, Contains}, lemmas.Bool.false≢true}
-use Rattle.std.specs.List.{AllByRecursion}
-use Rattle.sharc_tree.specs.{declared.tree.declaration.Declaration.Declaration, Measures.{expressions, in_option, in_simple}, Tree.{Expression, Local, First, nothing, declares, does, Statement, Statements, no_statements, statement, Function, Item, structure, global, function}}
+use Rattle.sharc_ctype_laws.proofs.{Imports.{◌≡◌, ℕ, Bool, true, false, cond, List, [], ◌∷◌, ◌++◌, map, length, refl, ap, sym, ◌∙◌, subst, arith, Some, is_some, bytes_eq, Contains, false≢true, AllByRecursion, Declaration, expressions, in_option, in_simple, Expression, Local, First, nothing, declares, does, Statement, Statements, no_statements, statement, Function, Item, structure, global, function, Named, Scope, Entry, Meaning, look_up, named_of, notes_of, defines_condition, with_conditions, Heads, global_entry, function_entry, behind, behind_all, no_heads, with_parameters, in_body, file_scope, Resolution, Around, opened, looping, with_names, is_here, declared, behind_first, in_head, after, first_locals, locals_in, locals_in_all, NamesOwn, NamesOwnVariables, Placing, at, places_in_local, places_in_first, places_in, places_in_all, places_of, front, back, both, together, later}, Forgotten.in_function_all, Held.Held, Judged.named_by, Scenes.found_or_later, Walked.JudgedAt}
 use Rattle.sharc_tree.specs.Tree as tree
-use Rattle.sharc_names.specs.declared.fault.Named.TheVariants as named
-use Rattle.sharc_names.specs.{declared.scope.Scope.Scope, Names.{Entry, Meaning, look_up, named_of}}
 use Rattle.sharc_names.specs.Names as meaning
-use Rattle.sharc_ctype.specs.{Expressions.notes_of, Condition.{defines_condition, with_conditions}, Heads.{Heading as Heads, global_entry, function_entry, behind, behind_all, no_heads}, Items.{with_parameters, in_body, file_scope}, Resolved.Resolution, Statements.{Around, opened, looping, with_names, is_here, declared, behind_first, in_head, after, first_locals, locals_in, locals_in_all}}
-use Rattle.sharc_ctype_laws.specs.{Declared.{NamesOwn, NamesOwnVariables}, Places.{Placing, at, places_in_local, places_in_first, places_in, places_in_all, places_of}}
-use Rattle.sharc_ctype_laws.proofs.{Forgotten.in_function_all, Held.Held, Judged.named_by, Scenes.found_or_later, Walked.JudgedAt}
-use Rattle.sharc_lemmas.proofs.Lists.{front, back, both, together, later}
 
 -- what holds of the variables in scope
 
@@ -109,19 +101,19 @@ found P (x ∷ rest) name e all is =
 abbrev Among : List Declaration → Declaration → Type 0
 Among own d = Contains (map (λ x. x.name.site.token) own) d.name.site.token
 
-pub same_variable : (t u : ℕ) → named.Variable t ≡ named.Variable u → t ≡ u
+pub same_variable : (t u : ℕ) → Named.Variable t ≡ Named.Variable u → t ≡ u
 same_variable t u h = cc
 
-pub no_global : (n u : ℕ) → named.Global n ≡ named.Variable u → ⊥
+pub no_global : (n u : ℕ) → Named.Global n ≡ Named.Variable u → ⊥
 no_global n u h = cc
 
-pub no_function : (n u : ℕ) → named.Function n ≡ named.Variable u → ⊥
+pub no_function : (n u : ℕ) → Named.Function n ≡ Named.Variable u → ⊥
 no_function n u h = cc
 
-pub no_known : (u : ℕ) → named.Known ≡ named.Variable u → ⊥
+pub no_known : (u : ℕ) → Named.Known ≡ Named.Variable u → ⊥
 no_known u h = cc
 
-among : (own : List Declaration) (m : Meaning) (token : ℕ) → IsVariable (Among own) m → named_of m ≡ named.Variable token → Contains (map (λ d. d.name.site.token) own) token
+among : (own : List Declaration) (m : Meaning) (token : ℕ) → IsVariable (Among own) m → named_of m ≡ Named.Variable token → Contains (map (λ d. d.name.site.token) own) token
 among own (meaning.variable d) token p is = subst (Contains (map (λ x. x.name.site.token) own)) (same_variable _ _ is) p
 among own (meaning.global n g) token p is = absurd (no_global _ _ is)
 among own (meaning.function n s) token p is = absurd (no_function _ _ is)

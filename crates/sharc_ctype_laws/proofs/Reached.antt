@@ -1,13 +1,6 @@
 -- What is spawned, called and reached, where each expression meets the constraints.
-use Rattle.std.proofs.{Common.{◌≡◌, ⊎_elim, ℕ, zero, suc, List, [], ◌∷◌, length, refl, ap, sym, ◌∙◌, subst, arith, Some, Contains}, lemmas.List.Elements.Contains-append_cases}
-use Rattle.std.specs.List.{AllByRecursion}
-use Rattle.sharc_tree.specs.{declared.token.Span.Span, declared.tree.declaration.Declaration.Declaration, declared.tree.declaration.Identifier.Identifier, Measures.in_function, Tree.{Expression, Arguments, Function}}
+use Rattle.sharc_ctype_laws.proofs.Imports.{◌≡◌, ⊎_elim, ℕ, zero, suc, List, [], ◌∷◌, length, refl, ap, sym, ◌∙◌, subst, arith, Some, Contains, Contains-append_cases, AllByRecursion, Span, Declaration, Identifier, in_function, Expression, Arguments, Function, Named, Kind, void, declared_kind, declared_kinds, Resolution, functions_in, function_at, named_at, kind_at, runs, spawns, of_all, Names, Spawns, Runs, Leads, IsReached, HasType, Callee, of_program, of_conditions, a_call, spawned, IsCallable, IsThread, some_there, at_place, none_there}
 use Rattle.sharc_tree.specs.Tree as tree
-use Rattle.sharc_names.specs.declared.fault.Named.TheVariants as named
-use Rattle.sharc_names.specs.Kinds.{Kind, void, declared_kind, declared_kinds}
-use Rattle.sharc_ctype.specs.{Resolved.{Resolution, functions_in, function_at, named_at, kind_at}, Reaches.{runs, spawns, of_all, Names, Spawns, Runs, Leads, IsReached}}
-use Rattle.sharc_ctype_laws.specs.{Constraints.{HasType, Callee, of_program, of_conditions, a_call, spawned}, Callable.{IsCallable, IsThread}}
-use Rattle.sharc_lemmas.proofs.{Options.some_there, Lists.at_place, Numbers.none_there}
 
 -- in lists
 
@@ -30,13 +23,13 @@ record IsCalled (r : Resolution) (m : ℕ) (parameters : List Kind) (result : Ki
   takes : declared_kinds function.parameters ≡ parameters
   gives : declared_kind function.result ≡ result
 
-same_number : (n m : ℕ) → named.Function n ≡ named.Function m → n ≡ m
+same_number : (n m : ℕ) → Named.Function n ≡ Named.Function m → n ≡ m
 same_number n m h = cc
 
-no_known : (m : ℕ) → named.Known ≡ named.Function m → ⊥
+no_known : (m : ℕ) → Named.Known ≡ Named.Function m → ⊥
 no_known m h = cc
 
-called_by : (r : Resolution) (i : Identifier) (parameters : List Kind) (result : Kind) → Callee r i parameters result → (m : ℕ) → named_at r i.site.token ≡ named.Function m → IsCalled r m parameters result
+called_by : (r : Resolution) (i : Identifier) (parameters : List Kind) (result : Kind) → Callee r i parameters result → (m : ℕ) → named_at r i.site.token ≡ Named.Function m → IsCalled r m parameters result
 called_by r i _ _ (of_program f is at spelled other) m h =
     record { function = f; callable = record { at = subst (λ k. function_at r k ≡ Some f) (same_number _ _ (sym is ∙ h)) at; not_main = λ main. other (sym spelled ∙ main) }; takes = refl; gives = refl }
 called_by r i _ _ (of_conditions c is spelled) m h = absurd (no_known m (sym is ∙ h))
@@ -55,13 +48,13 @@ one_parameter (d ∷ (e ∷ rest)) p h = let n = ap length h in absurd (omega (a
 thread_of : (r : Resolution) (m : ℕ) (p : Kind) → IsCalled r m (p ∷ []) void → (f : Function) × IsThread r m f
 thread_of r m p c = let d = one_parameter c.function.parameters p c.takes in (c.function, record { callable = c.callable; result = c.gives; parameter = d.0; parameters = d.1 })
 
-spawned_by : (r : Resolution) (e : Expression) → HasType r e (kind_at r e) → (t m : ℕ) → Contains (spawns e) t → named_at r t ≡ named.Function m → (f : Function) × IsThread r m f
+spawned_by : (r : Resolution) (e : Expression) → HasType r e (kind_at r e) → (t m : ℕ) → Contains (spawns e) t → named_at r t ≡ Named.Function m → (f : Function) × IsThread r m f
 spawned_by r (tree.spawn s f a) h t m c is =
     let x = spawn_callee r s f a _ h in
     thread_of r m x.0 (called_by r f (x.0 ∷ []) void x.1 m (ap (named_at r) (only_one f.site.token t c) ∙ is))
 spawned_by r _ h t m c is = absurd (none_there t c)
 
-run_by : (r : Resolution) (e : Expression) → HasType r e (kind_at r e) → (t m : ℕ) → Contains (runs e) t → named_at r t ≡ named.Function m → (f : Function) × IsCallable r m f
+run_by : (r : Resolution) (e : Expression) → HasType r e (kind_at r e) → (t m : ℕ) → Contains (runs e) t → named_at r t ≡ Named.Function m → (f : Function) × IsCallable r m f
 run_by r (tree.call s f all) h t m c is =
     let x = call_callee r s f all _ h in
     let y = called_by r f x.0 x.1 x.2 m (ap (named_at r) (only_one f.site.token t c) ∙ is) in
@@ -73,14 +66,14 @@ run_by r _ h t m c is = absurd (none_there t c)
 
 pub spawned_thread : (r : Resolution) → AreTyped r → (n m : ℕ) → Spawns r n m → (f : Function) × IsThread r m f
 spawned_thread r typed n m h =
-    let at = some_there (λ f. Names r (named.Function m) (of_all spawns (in_function f))) (function_at r n) h in
+    let at = some_there (λ f. Names r (Named.Function m) (of_all spawns (in_function f))) (function_at r n) h in
     let all = at_place (λ f. AllByRecursion (λ e. HasType r e (kind_at r e)) (in_function f)) (functions_in r.program.items) n at.0 typed at.1 in
     let e = pick (λ e. HasType r e (kind_at r e)) spawns (in_function at.0) all at.2.0 at.2.1 in
     spawned_by r e.0 e.1 at.2.0 m e.2 at.2.2
 
 run_function : (r : Resolution) → AreTyped r → (n m : ℕ) → Runs r n m → (f : Function) × IsCallable r m f
 run_function r typed n m h =
-    let at = some_there (λ f. Names r (named.Function m) (of_all runs (in_function f))) (function_at r n) h in
+    let at = some_there (λ f. Names r (Named.Function m) (of_all runs (in_function f))) (function_at r n) h in
     let all = at_place (λ f. AllByRecursion (λ e. HasType r e (kind_at r e)) (in_function f)) (functions_in r.program.items) n at.0 typed at.1 in
     let e = pick (λ e. HasType r e (kind_at r e)) runs (in_function at.0) all at.2.0 at.2.1 in
     run_by r e.0 e.1 at.2.0 m e.2 at.2.2

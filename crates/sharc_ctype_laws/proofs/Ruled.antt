@@ -1,16 +1,7 @@
 -- The statements of a function of which no fault is noted meet the rules.
-use Rattle.std.proofs.{Common.{◌≡◌, inl, inr, ℕ, zero, suc, true, false, [], ◌∷◌, length, refl, ap, sym, ◌∙◌, lt-ltb, arith, Option, Some, None, IfSome}, lemmas.Bool.{false≢true, true≢false}}
-use Rattle.sharc_tree.specs.{declared.ctype.Base.Base, declared.tree.declaration.WrittenType.WrittenType, declared.tree.declaration.Declaration.Declaration, declared.tree.item.GlobalForm.GlobalForm, declared.tree.item.GlobalForm.TheVariants.Array, Forms.is_lvalue, Tree.{Expression, Right, value, malloc, Simple, assign, does_call, Local, First, nothing, declares, does, Head, Statement, Statements, no_statements, statement, Function}}
-use Rattle.sharc_tree.specs.declared.ctype.Base.TheVariants as base
+use Rattle.sharc_ctype_laws.proofs.{Imports.{◌≡◌, inl, inr, ℕ, zero, suc, true, false, [], ◌∷◌, length, refl, ap, sym, ◌∙◌, lt-ltb, arith, Option, Some, None, IfSome, false≢true, true≢false, Base, WrittenType, Declaration, GlobalForm, Array, is_lvalue, Expression, Right, value, malloc, Simple, assign, does_call, Local, First, nothing, declares, does, Head, Statement, Statements, no_statements, statement, Function, BadForm, Scope, Kind, object, array, null, void, mutex, same_kind, declared_kind, StructTable, global_kind, Need, Role, type_of, place_kind, in_body, function_notes, Resolution, kind_at, declarations_of, Around, opened, looping, with_names, declared, is_aggregate, test_notes, count_notes, right_notes, simple_notes, initial_notes, local_notes, return_notes, first_notes, behind_first, tests_notes, step_notes, in_head, head_notes, after, notes_in, notes_in_all, first_locals, locals_in, locals_in_all, HasType, IsInteger, IsScalar, a_variable, a_global, a_function, in_parentheses, element_of_pointer, element_of_array, a_field, a_field_behind, pointed_to, IsHeld, MeetsRight, MeetsSimple, MeetsLocal, MeetsTest, MeetsFirst, MeetsHead, MeetsReturn, Meets, AllMeet, MeetsRules, front, back}, FileScene.body_scene, Held.{Held, left, right, well, not_wrong}, Judged.{judged, met_by, lvalue_by}, KindLemmas.{integer_is, scalar_is, pointer_is, one_kind}, Scenes.{Stands, IsSolid, IsScene, need_fits, type_solid}, Walked.{AreDeclared, local_scene, head_scene, after_scene}, Standings.lvalue_held}
 use Rattle.sharc_tree.specs.Tree as tree
-use Rattle.sharc_names.specs.{declared.fault.FaultCode.TheVariants.BadForm, declared.scope.Scope.Scope, Kinds.{Kind, object, array, null, void, mutex, same_kind, declared_kind}, Names.{StructTable, global_kind}}
-use Rattle.sharc_names.specs.declared.need.Need.TheVariants as need
-use Rattle.sharc_names.specs.declared.types.Role.TheVariants as role
 use Rattle.sharc_names.specs.Kinds as kinds
-use Rattle.sharc_ctype.specs.{Expressions.{type_of, place_kind}, Items.{in_body, function_notes}, Resolved.{Resolution, kind_at, declarations_of}, Statements.{Around, opened, looping, with_names, declared, is_aggregate, test_notes, count_notes, right_notes, simple_notes, initial_notes, local_notes, return_notes, first_notes, behind_first, tests_notes, step_notes, in_head, head_notes, after, notes_in, notes_in_all, first_locals, locals_in, locals_in_all}}
-use Rattle.sharc_ctype_laws.specs.{Constraints.{HasType, IsInteger, IsScalar, a_variable, a_global, a_function, in_parentheses, element_of_pointer, element_of_array, a_field, a_field_behind, pointed_to}, Rules.{IsHeld, MeetsRight, MeetsSimple, MeetsLocal, MeetsTest, MeetsFirst, MeetsHead, MeetsReturn, Meets, AllMeet, MeetsRules}}
-use Rattle.sharc_ctype_laws.proofs.{FileScene.body_scene, Held.{Held, left, right, well, not_wrong}, Judged.{judged, met_by, lvalue_by}, KindLemmas.{integer_is, scalar_is, pointer_is, one_kind}, Scenes.{Stands, IsSolid, IsScene, need_fits, type_solid}, Walked.{AreDeclared, local_scene, head_scene, after_scene}, Standings.lvalue_held}
-use Rattle.sharc_lemmas.proofs.Lists.{front, back}
 
 -- an lvalue is no NULL
 
@@ -48,26 +39,26 @@ held_scalar k (inr (inr z)) n = absurd (n z)
 
 held_object : (structs : StructTable) (b : Base) (n : ℕ) → Stands structs b → is_aggregate (object b n) ≡ false → IsHeld (object b n)
 held_object structs b (suc n) s h = inr (pointer_is (object b (suc n)) (lt-ltb 0 (suc n) (omega arith)))
-held_object structs base.Mutex zero s h = absurd (true≢false h)
-held_object structs base.Void zero s h = absurd s
-held_object structs (base.Struct x) zero s h = absurd (true≢false h)
+held_object structs Base.Mutex zero s h = absurd (true≢false h)
+held_object structs Base.Void zero s h = absurd s
+held_object structs (Base.Struct x) zero s h = absurd (true≢false h)
 held_object structs k zero s h = inl (integer_is (object k 0) refl)
 
 -- right sides
 
 meets_count : (r : Resolution) (scope : Scope) → IsScene r scope → (n : Option Expression) → Held r (count_notes scope n) → IfSome n (λ e. IsInteger (kind_at r e))
 meets_count r scope scene None h = tt
-meets_count r scope scene (Some e) h = integer_is (kind_at r e) (met_by r scope need.Integer e (judged r scope scene e (left r _ _ h)) (right r _ _ h)).fits
+meets_count r scope scene (Some e) h = integer_is (kind_at r e) (met_by r scope Need.Integer e (judged r scope scene e (left r _ _ h)) (right r _ _ h)).fits
 
 meets_right : (r : Resolution) (scope : Scope) → IsScene r scope → (want : Option Kind) (x : Right) → Held r (right_notes scope want x) → MeetsRight r x
-meets_right r scope scene want (value e) h = scalar_is (kind_at r e) (met_by r scope need.Value e (judged r scope scene e (left r _ _ (left r _ _ h))) (right r _ _ (left r _ _ h))).fits
+meets_right r scope scene want (value e) h = scalar_is (kind_at r e) (met_by r scope Need.Value e (judged r scope scene e (left r _ _ (left r _ _ h))) (right r _ _ (left r _ _ h))).fits
 meets_right r scope scene want (malloc s n w) h = meets_count r scope scene n (left r _ _ (left r _ _ h))
 
 meets_simple : (r : Resolution) (scope : Scope) → IsScene r scope → (x : Simple) → Held r (simple_notes scope x) → MeetsSimple r x
 meets_simple r scope scene (assign s u x) h =
     let j = judged r scope scene u (lvalue_held r scope u (left r _ _ (left r _ _ (left r _ _ h))) (right r _ _ (left r _ _ (left r _ _ h)))) in
     let l = lvalue_by r scope u j (right r _ _ (left r _ _ (left r _ _ h))) in
-    let f = need_fits r scope.structs need.Value u (kind_at r u) (place_kind scope.names u (type_of scope u)) l.kind j.valued (right r _ _ (left r _ _ h)) in
+    let f = need_fits r scope.structs Need.Value u (kind_at r u) (place_kind scope.names u (type_of scope u)) l.kind j.valued (right r _ _ (left r _ _ h)) in
     (l.lvalue, held_scalar (kind_at r u) (scalar_is (kind_at r u) f) (lvalue_not_null r u (kind_at r u) j.has l.lvalue), meets_right r scope scene _ x (right r _ _ h))
 meets_simple r scope scene (does_call e) h = tt
 
@@ -78,12 +69,12 @@ meets_initial r scope scene d (Some x) solid h = (held_object scope.structs _ _ 
 meets_local : (r : Resolution) (around : Around) (scope : Scope) → IsScene r scope → (l : Local) → AreDeclared r (l.declaration ∷ []) → Held r (local_notes around scope l) → MeetsLocal r l
 meets_local r around scope scene l d h =
     meets_initial r (with_names scope (declared around.block l.declaration scope.names)) (local_scene r around scope scene l d.0 h) l.declaration l.initial
-    (type_solid r scope [] role.Local l.declaration.written refl (left r _ _ (left r _ _ h))) (right r _ _ h)
+    (type_solid r scope [] Role.Local l.declaration.written refl (left r _ _ (left r _ _ h))) (right r _ _ h)
 
 -- statements
 
 meets_test : (r : Resolution) (scope : Scope) → IsScene r scope → (e : Expression) → Held r (test_notes scope e) → MeetsTest r e
-meets_test r scope scene e h = scalar_is (kind_at r e) (met_by r scope need.Value e (judged r scope scene e (left r _ _ h)) (right r _ _ h)).fits
+meets_test r scope scene e h = scalar_is (kind_at r e) (met_by r scope Need.Value e (judged r scope scene e (left r _ _ h)) (right r _ _ h)).fits
 
 meets_first : (r : Resolution) (around : Around) (scope : Scope) → IsScene r scope → (f : First) → AreDeclared r (first_locals f) → Held r (first_notes around scope f) → MeetsFirst r f
 meets_first r around scope scene nothing d h = tt
@@ -108,7 +99,7 @@ meets_return r around scope scene w word None is h = sym is ∙ one_kind around.
 meets_return r around scope scene w word (Some e) is h =
     let no_void = not_wrong r (same_kind around.result void) word BadForm (left r _ _ (left r _ _ (left r _ _ h))) in (
       λ v. true≢false (sym (ap (λ k. same_kind k void) (is ∙ v)) ∙ no_void),
-      scalar_is (kind_at r e) (met_by r scope need.Value e (judged r scope scene e (right r _ _ (left r _ _ (left r _ _ h)))) (right r _ _ (left r _ _ h))).fits,
+      scalar_is (kind_at r e) (met_by r scope Need.Value e (judged r scope scene e (right r _ _ (left r _ _ (left r _ _ h)))) (right r _ _ (left r _ _ h))).fits,
     )
 
 mutual

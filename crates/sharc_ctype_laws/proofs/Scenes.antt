@@ -1,14 +1,6 @@
 -- Scopes in which each name means what the program's declarations say.
-use Rattle.std.proofs.{Common.{◌≡◌, ◌⊎◌, inl, inr, ℕ, ◌==◌, Bool, true, false, ◌&&◌, cond, List, [], ◌∷◌, refl, ap, sym, ◌∙◌, subst, eqb-true, Option, Some, None, is_some, bytes_eq, codes}, lemmas.Bool.{false≢true, and_parts}, lemmas.Slice.Eq.bytes_eq-Decides}
-use Rattle.std.specs.List.{AllByRecursion}
-use Rattle.sharc_tree.specs.{declared.ctype.Base.Base, declared.ctype.Base.TheVariants.{Void, Struct}, declared.tree.declaration.WrittenType.WrittenType, declared.tree.declaration.Declaration.Declaration, declared.tree.item.StructDefinition.StructDefinition, Tree.{Expression, Function}}
-use Rattle.sharc_names.specs.{declared.fault.FaultCode.TheVariants.{TypeNotAllowed, BadForm}, declared.need.Need.Need, declared.scope.Scope.Scope, declared.types.Role.Role, Kinds.{Kind, object, array, void, declared_kind, stars_of}, Names.{StructTable, StructMeaning, defined, known, struct_of, field_of, Entry, Meaning, look_up}, Needs.{called, fits, met, unmet, misfit, misfit_of, mismatch, used_call}, Types.{is_known, holds_void, is_allowed, allowed_there, base_notes, struct_note, type_notes, is_fine}}
-use Rattle.sharc_names.specs.declared.types.Role.TheVariants as role
+use Rattle.sharc_ctype_laws.proofs.{Imports.{◌≡◌, ◌⊎◌, inl, inr, ℕ, ◌==◌, Bool, true, false, ◌&&◌, cond, List, [], ◌∷◌, refl, ap, sym, ◌∙◌, subst, eqb-true, Option, Some, None, is_some, bytes_eq, codes, false≢true, and_parts, bytes_eq-Decides, AllByRecursion, Base, Void, Struct, WrittenType, Declaration, StructDefinition, Expression, Function, TypeNotAllowed, BadForm, Need, Scope, Role, Kind, object, array, void, declared_kind, stars_of, StructTable, StructMeaning, defined, known, struct_of, field_of, Entry, Meaning, look_up, called, fits, met, unmet, misfit, misfit_of, mismatch, used_call, is_known, holds_void, is_allowed, allowed_there, base_notes, struct_note, type_notes, is_fine, struct_named, name_of, signature_of, Resolution, structs_in, struct_at, declaration_at, global_at, function_at, same_some}, Held.{Held, left, right, no_fault, well}}
 use Rattle.sharc_names.specs.Names as meaning
-use Rattle.sharc_ctype_laws.specs.Constraints.{struct_named, name_of}
-use Rattle.sharc_ctype.specs.{Heads.signature_of, Resolved.{Resolution, structs_in, struct_at, declaration_at, global_at, function_at}}
-use Rattle.sharc_ctype_laws.proofs.Held.{Held, left, right, no_fault, well}
-use Rattle.sharc_lemmas.proofs.Options.{same_some}
 
 -- a base that objects have: no `void`, and no struct that is not known
 abbrev pub Stands : StructTable → Base → Type 0
@@ -123,7 +115,7 @@ base_stands r structs token where_ Void stars v h a = false≢true (sym v ∙ (a
 base_stands r structs token where_ (Struct name) stars v h a = a_struct_known r token (struct_of structs name) h
 base_stands r structs token where_ _ stars v h a = tt
 
-result_stands : (r : Resolution) (structs : StructTable) (token : ℕ) (b : Base) (stars : ℕ) → Held r (base_notes structs token b) → is_allowed role.Result b stars ≡ true → IsResult structs (object b stars)
+result_stands : (r : Resolution) (structs : StructTable) (token : ℕ) (b : Base) (stars : ℕ) → Held r (base_notes structs token b) → is_allowed Role.Result b stars ≡ true → IsResult structs (object b stars)
 result_stands r structs token Void stars h a = inr (ap (object Void) (eqb-true stars 0 (and_parts (stars == 0) true a).0))
 result_stands r structs token (Struct name) stars h a = inl (a_struct_known r token (struct_of structs name) h)
 result_stands r structs token _ stars h a = inl tt
@@ -141,5 +133,5 @@ type_fine r scope siblings where_ w h =
 pub type_solid : (r : Resolution) (scope : Scope) (siblings : List Declaration) (where_ : Role) (w : WrittenType) → holds_void where_ ≡ false → Held r (type_notes scope siblings where_ w) → IsSolid scope.structs (declared_kind w)
 type_solid r scope siblings where_ w v h = base_stands r scope.structs w.base.token where_ w.ctype.base (stars_of w) v (type_base r scope siblings where_ w h) (type_allowed r scope siblings where_ w h)
 
-pub type_result : (r : Resolution) (scope : Scope) (siblings : List Declaration) (w : WrittenType) → Held r (type_notes scope siblings role.Result w) → IsResult scope.structs (declared_kind w)
-type_result r scope siblings w h = result_stands r scope.structs w.base.token w.ctype.base (stars_of w) (type_base r scope siblings role.Result w h) (type_allowed r scope siblings role.Result w h)
+pub type_result : (r : Resolution) (scope : Scope) (siblings : List Declaration) (w : WrittenType) → Held r (type_notes scope siblings Role.Result w) → IsResult scope.structs (declared_kind w)
+type_result r scope siblings w h = result_stands r scope.structs w.base.token w.ctype.base (stars_of w) (type_base r scope siblings Role.Result w h) (type_allowed r scope siblings Role.Result w h)

@@ -1,12 +1,5 @@
 -- The table of structs says of each struct what its definition says, so the cells of globals are counted by either.
-use Rattle.std.proofs.{Common.{◌≡◌, ℕ, ◌*◌, ◌==◌, ◌≤◌, Bool, true, false, cond, List, [], ◌∷◌, ◌++◌, length, refl, ap, sym, ◌∙◌, subst, Option, Some, None, is_some, bytes_eq, codes, arith, append_assoc}, lemmas.Bool.{true≢false, false_from_ne_true}, lemmas.Slice.Eq.bytes_eq-Decides}
-use Rattle.sharc_tree.specs.{declared.ctype.Base.Base, declared.tree.declaration.WrittenType.WrittenType, declared.tree.item.StructDefinition.StructDefinition, Tree.{Item, structure, global, function}}
-use Rattle.sharc_tree.specs.declared.ctype.Base.TheVariants as base
-use Rattle.sharc_names.specs.declared.types.Role.TheVariants as role
-use Rattle.sharc_names.specs.{Kinds.{declared_kind, stars_of}, Names.{StructTable, StructMeaning, defined, known, struct_of}}
-use Rattle.sharc_ctype.specs.{Condition.{defines_condition, with_conditions}, Globals.{elements_of, struct_cells, base_cells, type_cells, cells_of_all}, Heads.{Heading as Heads, with_struct, behind, behind_all, no_heads}, Items.{item_notes, items_notes, file_scope}, Resolved.{Resolution, structs_in, globals_in}}
-use Rattle.sharc_ctype_laws.specs.{Constraints.struct_named, Sizes.{struct_size, base_size, global_size, all_sizes, CellsAreFew}}
-use Rattle.sharc_ctype_laws.proofs.{Held.{Held, left, right}, OwnTokens.own_tokens, Scenes.{Stands, IsSolid, type_solid}, TypedLaws.{sound, within_limits}}
+use Rattle.sharc_ctype_laws.proofs.{Imports.{◌≡◌, ℕ, ◌*◌, ◌==◌, ◌≤◌, Bool, true, false, cond, List, [], ◌∷◌, ◌++◌, length, refl, ap, sym, ◌∙◌, subst, Option, Some, None, is_some, bytes_eq, codes, arith, append_assoc, true≢false, false_from_ne_true, bytes_eq-Decides, Base, WrittenType, StructDefinition, Item, structure, global, function, Role, declared_kind, stars_of, StructTable, StructMeaning, defined, known, struct_of, defines_condition, with_conditions, elements_of, struct_cells, base_cells, type_cells, cells_of_all, Heads, with_struct, behind, behind_all, no_heads, item_notes, items_notes, file_scope, Resolution, structs_in, globals_in, struct_named, struct_size, base_size, global_size, all_sizes, CellsAreFew}, Held.{Held, left, right}, OwnTokens.own_tokens, Scenes.{Stands, IsSolid, type_solid}, TypedLaws.{sound, within_limits}}
 
 -- ---- the first that is found
 abbrev or_else : {A : Type 0} → Option A → Option A → Option A
@@ -117,7 +110,7 @@ file_sized items y = by (defines_condition (behind_all no_heads items).scope)
         (sized_or (struct_of (behind_all no_heads items).scope.structs y) (struct_named (structs_in items) y) (bytes_eq y (codes "cond")) (found y))
 
 base_sized : (items : List Item) (b : Base) → Stands (file_scope items).structs b → base_size (structs_in items) b ≡ base_cells (file_scope items).structs b
-base_sized items (base.Struct name) s = file_sized items name s.0 s.1
+base_sized items (Base.Struct name) s = file_sized items name s.0 s.1
 base_sized items _ s = refl
 
 type_sized : (items : List Item) (w : WrittenType) (b : Bool) → Stands (file_scope items).structs w.ctype.base → cond b (base_size (structs_in items) w.ctype.base) 1 ≡ cond b (base_cells (file_scope items).structs w.ctype.base) 1
@@ -129,7 +122,7 @@ items_sized r items (structure s ∷ rest) h = let later = items_sized r items r
 items_sized r items (function f ∷ rest) h = let later = items_sized r items rest (right r (item_notes (file_scope items) (function f)) (items_notes (file_scope items) rest) h) in omega (arith, later)
 items_sized r items (global x ∷ rest) h =
     let later = items_sized r items rest (right r (item_notes (file_scope items) (global x)) (items_notes (file_scope items) rest) h) in
-    let solid : IsSolid (file_scope items).structs (declared_kind x.declaration.written) = type_solid r (file_scope items) [] role.Global x.declaration.written refl (left r _ _ (left r _ _ (left r _ _ h))) in
+    let solid : IsSolid (file_scope items).structs (declared_kind x.declaration.written) = type_solid r (file_scope items) [] Role.Global x.declaration.written refl (left r _ _ (left r _ _ (left r _ _ h))) in
     let same : global_size (structs_in items) x ≡ elements_of x.form * type_cells (file_scope items).structs x.declaration.written = ap (λ n. elements_of x.form * n) (type_sized items x.declaration.written (stars_of x.declaration.written == 0) solid) in
     omega (arith, later, same)
 

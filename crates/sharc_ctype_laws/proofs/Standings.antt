@@ -1,11 +1,6 @@
 -- Where an lvalue is needed and no fault is noted, there is none where the value is needed.
-use Rattle.std.proofs.Common.{◌≡◌, true}
-use Rattle.sharc_tree.specs.Tree.{Expression}
+use Rattle.sharc_ctype_laws.proofs.{Imports.{◌≡◌, true, Expression, NoLvalue, Scope, place, AsLvalue, notes_at, notes_of, is_place, place_notes, Resolution, no_call}, Held.{Held, well}}
 use Rattle.sharc_tree.specs.Tree as tree
-use Rattle.sharc_names.specs.{declared.fault.FaultCode.TheVariants.NoLvalue, declared.scope.Scope.Scope, Needs.place}
-use Rattle.sharc_ctype.specs.{declared.expr.Standing.TheVariants.AsLvalue, Expressions.{notes_at, notes_of, is_place, place_notes}, Resolved.Resolution}
-use Rattle.sharc_ctype_laws.proofs.Held.{Held, well}
-use Rattle.sharc_lemmas.proofs.Bools.{no_cell as no_call}
 
 as_value : (r : Resolution) (scope : Scope) (a : Expression) → is_place scope.names a ≡ true → Held r (notes_at AsLvalue scope a) → Held r (notes_of scope a)
 as_value r scope (tree.parentheses s a) is h = as_value r scope a is h

@@ -1,15 +1,6 @@
 -- In a program of which no fault is noted the name of each declaration names it.
-use Rattle.std.proofs.Common.{◌≡◌, ℕ, zero, suc, ◌+◌, List, [], ◌∷◌, ◌++◌, length, slice_get, sym, subst, arith, add-zero, Some}
-use Rattle.std.specs.List.{AllByRecursion}
-use Rattle.sharc_tree.specs.{declared.tree.declaration.Declaration.Declaration, declared.tree.item.StructDefinition.StructDefinition, declared.tree.item.GlobalDefinition.GlobalDefinition, Tree.{Local, First, declares, Statement, Statements, no_statements, statement, Function, Item, structure, global, function}}
+use Rattle.sharc_ctype_laws.proofs.{Imports.{◌≡◌, ℕ, zero, suc, ◌+◌, List, [], ◌∷◌, ◌++◌, length, slice_get, sym, subst, arith, add-zero, Some, AllByRecursion, Declaration, StructDefinition, GlobalDefinition, Local, First, declares, Statement, Statements, no_statements, statement, Function, Item, structure, global, function, Named, Scope, type_notes, Role, Heads, behind, item_head_notes, heads_notes, in_body, one_field_notes, fields_notes, parameters_notes, function_notes, item_notes, items_notes, Resolution, named_at, structs_in, globals_in, functions_in, declarations_of, declarations_in, Around, opened, looping, with_names, declared, local_notes, first_notes, behind_first, in_head, after, notes_in, notes_in_all, first_locals, locals_in, locals_in_all, IsItself, NameThemselves, same_some, no_some, front, back, both, together}, Held.{Held, left, right, head_named}, Walked.AreDeclared}
 use Rattle.sharc_tree.specs.Tree as tree
-use Rattle.sharc_names.specs.{declared.fault.Named.Named, declared.scope.Scope.Scope, Types.type_notes}
-use Rattle.sharc_names.specs.declared.fault.Named.TheVariants as named
-use Rattle.sharc_names.specs.declared.types.Role.TheVariants as role
-use Rattle.sharc_ctype.specs.{Heads.{Heading as Heads, behind, head_notes as item_head_notes, heads_notes}, Items.{in_body, field_notes as one_field_notes, fields_notes, parameters_notes, function_notes, item_notes, items_notes}, Resolved.{Resolution, named_at, structs_in, globals_in, functions_in, declarations_of, declarations_in}, Statements.{Around, opened, looping, with_names, declared, local_notes, first_notes, behind_first, in_head, after, notes_in, notes_in_all, first_locals, locals_in, locals_in_all}}
-use Rattle.sharc_ctype_laws.specs.Declared.{IsItself, NameThemselves}
-use Rattle.sharc_ctype_laws.proofs.{Held.{Held, left, right, head_named}, Walked.AreDeclared}
-use Rattle.sharc_lemmas.proofs.{Options.{same_some, none_some as no_some}, Lists.{front, back, both, together}}
 
 -- numbers
 
@@ -37,13 +28,13 @@ from_none P list h k x is = subst (P x) (none_more k) (h k x is)
     none_more i = omega arith
 
 abbrev StructNamed : Resolution → StructDefinition → ℕ → Type 0
-StructNamed r s n = named_at r s.name.site.token ≡ named.Struct n
+StructNamed r s n = named_at r s.name.site.token ≡ Named.Struct n
 
 abbrev GlobalNamed : Resolution → GlobalDefinition → ℕ → Type 0
-GlobalNamed r g n = named_at r g.declaration.name.site.token ≡ named.Global n
+GlobalNamed r g n = named_at r g.declaration.name.site.token ≡ Named.Global n
 
 abbrev FunctionNamed : Resolution → Function → ℕ → Type 0
-FunctionNamed r f n = named_at r f.name.site.token ≡ named.Function n
+FunctionNamed r f n = named_at r f.name.site.token ≡ Named.Function n
 
 record AreHeadsNamed (r : Resolution) (h : Heads) (rest : List Item) : Type 0 where
   structs : AreNumbered (StructNamed r) h.structs (structs_in rest)
@@ -67,61 +58,61 @@ heads_named r h (function f ∷ rest) n =
 abbrev Own : Resolution → (ℕ → Named) → Declaration → Type 0
 Own r form d = named_at r d.name.site.token ≡ form d.name.site.token
 
-own_fields : (r : Resolution) (scope : Scope) (all earlier rest : List Declaration) → Held r (fields_notes scope all earlier rest) → AllByRecursion (Own r named.Field) rest
+own_fields : (r : Resolution) (scope : Scope) (all earlier rest : List Declaration) → Held r (fields_notes scope all earlier rest) → AllByRecursion (Own r Named.Field) rest
 own_fields r scope all earlier [] h = tt
 own_fields r scope all earlier (d ∷ rest) h =
-    (head_named r _ _ _ (right r (type_notes scope all role.Field d.written) _ (left r (one_field_notes scope all earlier d) (fields_notes scope all (earlier ++ d ∷ []) rest) h)), own_fields r scope all (earlier ++ d ∷ []) rest (right r _ _ h))
+    (head_named r _ _ _ (right r (type_notes scope all Role.Field d.written) _ (left r (one_field_notes scope all earlier d) (fields_notes scope all (earlier ++ d ∷ []) rest) h)), own_fields r scope all (earlier ++ d ∷ []) rest (right r _ _ h))
 
-own_parameters : (r : Resolution) (block n : ℕ) (scope : Scope) (list : List Declaration) → Held r (parameters_notes block n scope list) → AllByRecursion (Own r named.Variable) list
+own_parameters : (r : Resolution) (block n : ℕ) (scope : Scope) (list : List Declaration) → Held r (parameters_notes block n scope list) → AllByRecursion (Own r Named.Variable) list
 own_parameters r block n scope [] h = tt
 own_parameters r block n scope (d ∷ rest) h =
-    (head_named r _ _ _ (right r (type_notes scope [] role.Parameter d.written) _ (left r _ _ (left r _ _ h))), own_parameters r block (n + 1) (with_names scope (declared block d scope.names)) rest (right r _ _ h))
+    (head_named r _ _ _ (right r (type_notes scope [] Role.Parameter d.written) _ (left r _ _ (left r _ _ h))), own_parameters r block (n + 1) (with_names scope (declared block d scope.names)) rest (right r _ _ h))
 
-own_local : (r : Resolution) (around : Around) (scope : Scope) (l : Local) → Held r (local_notes around scope l) → AllByRecursion (Own r named.Variable) (l.declaration ∷ [])
-own_local r around scope l h = (head_named r _ _ _ (right r (type_notes scope [] role.Local l.declaration.written) _ (left r _ _ h)), tt)
+own_local : (r : Resolution) (around : Around) (scope : Scope) (l : Local) → Held r (local_notes around scope l) → AllByRecursion (Own r Named.Variable) (l.declaration ∷ [])
+own_local r around scope l h = (head_named r _ _ _ (right r (type_notes scope [] Role.Local l.declaration.written) _ (left r _ _ h)), tt)
 
-own_first : (r : Resolution) (around : Around) (scope : Scope) (f : First) → Held r (first_notes around scope f) → AllByRecursion (Own r named.Variable) (first_locals f)
+own_first : (r : Resolution) (around : Around) (scope : Scope) (f : First) → Held r (first_notes around scope f) → AllByRecursion (Own r Named.Variable) (first_locals f)
 own_first r around scope (declares l) h = own_local r around scope l h
 own_first r around scope _ h = tt
 
 mutual
-  own_locals : (r : Resolution) (around : Around) (scope : Scope) (a : Statement) → Held r (notes_in around scope a) → AllByRecursion (Own r named.Variable) (locals_in a)
+  own_locals : (r : Resolution) (around : Around) (scope : Scope) (a : Statement) → Held r (notes_in around scope a) → AllByRecursion (Own r Named.Variable) (locals_in a)
   own_locals r around scope (tree.block s all) h = all_own_locals r (opened around scope.names) scope all h
   own_locals r around scope (tree.declare s l) h = own_local r around scope l h
   own_locals r around scope (tree.if_then s e a) h = own_locals r (opened around scope.names) scope a (right r _ _ h)
   own_locals r around scope (tree.if_then_else s e a b) h =
-      both (Own r named.Variable) (locals_in a) (locals_in b) (own_locals r (opened around scope.names) scope a (right r _ _ (left r _ _ h))) (own_locals r (opened around scope.names) scope b (right r _ _ h))
+      both (Own r Named.Variable) (locals_in a) (locals_in b) (own_locals r (opened around scope.names) scope a (right r _ _ (left r _ _ h))) (own_locals r (opened around scope.names) scope b (right r _ _ h))
   own_locals r around scope (tree.while s e a) h = own_locals r (looping (opened around scope.names)) scope a (right r _ _ h)
   own_locals r around scope (tree.for s x a) h =
-      both (Own r named.Variable) (first_locals x.first) (locals_in a) (own_first r (opened around scope.names) scope x.first (left r _ _ (left r _ _ (left r _ _ h))))
+      both (Own r Named.Variable) (first_locals x.first) (locals_in a) (own_first r (opened around scope.names) scope x.first (left r _ _ (left r _ _ (left r _ _ h))))
       (own_locals r (looping (opened around (behind_first (opened around scope.names) scope.names x.first))) (in_head (opened around scope.names) scope x) a (right r _ _ h))
   own_locals r around scope _ h = tt
 
-  all_own_locals : (r : Resolution) (around : Around) (scope : Scope) (all : Statements) → Held r (notes_in_all around scope all) → AllByRecursion (Own r named.Variable) (locals_in_all all)
+  all_own_locals : (r : Resolution) (around : Around) (scope : Scope) (all : Statements) → Held r (notes_in_all around scope all) → AllByRecursion (Own r Named.Variable) (locals_in_all all)
   all_own_locals r around scope no_statements h = tt
   all_own_locals r around scope (statement a rest) h =
-      both (Own r named.Variable) (locals_in a) (locals_in_all rest) (own_locals r around scope a (left r _ _ h)) (all_own_locals r around (with_names scope (after around scope.names a)) rest (right r _ _ h))
+      both (Own r Named.Variable) (locals_in a) (locals_in_all rest) (own_locals r around scope a (left r _ _ h)) (all_own_locals r around (with_names scope (after around scope.names a)) rest (right r _ _ h))
 
 itself : (r : Resolution) (form : ℕ → Named) (list : List Declaration) → AllByRecursion (Own r form) list → AreDeclared r list → AllByRecursion (IsItself r form) list
 itself r form list o d = together (Own r form) _ (IsItself r form) (λ x p q. (p, q)) list o d
 
 record AreItemsNamed (r : Resolution) (rest : List Item) : Type 0 where
-  fields : AllByRecursion (λ s. AllByRecursion (IsItself r named.Field) s.fields) (structs_in rest)
-  variables : AllByRecursion (λ f. AllByRecursion (IsItself r named.Variable) (f.parameters ++ locals_in_all f.statements)) (functions_in rest)
+  fields : AllByRecursion (λ s. AllByRecursion (IsItself r Named.Field) s.fields) (structs_in rest)
+  variables : AllByRecursion (λ f. AllByRecursion (IsItself r Named.Variable) (f.parameters ++ locals_in_all f.statements)) (functions_in rest)
 
 items_named : (r : Resolution) (file : Scope) (rest : List Item) → AreDeclared r (declarations_in rest) → Held r (items_notes file rest) → AreItemsNamed r rest
 items_named r file [] d h = record { fields = tt; variables = tt }
 items_named r file (structure s ∷ rest) d h =
     let later = items_named r file rest (back _ s.fields (declarations_in rest) d) (right r (item_notes file (structure s)) (items_notes file rest) h) in
-    record { fields = (itself r named.Field s.fields (own_fields r file s.fields [] s.fields (left r (item_notes file (structure s)) (items_notes file rest) h)) (front _ s.fields (declarations_in rest) d), later.fields); variables = later.variables }
+    record { fields = (itself r Named.Field s.fields (own_fields r file s.fields [] s.fields (left r (item_notes file (structure s)) (items_notes file rest) h)) (front _ s.fields (declarations_in rest) d), later.fields); variables = later.variables }
 items_named r file (global g ∷ rest) d h =
     let later = items_named r file rest d (right r (item_notes file (global g)) (items_notes file rest) h) in
     record { fields = later.fields; variables = later.variables }
 items_named r file (function f ∷ rest) d h =
     let later = items_named r file rest (back _ (declarations_of (function f)) (declarations_in rest) d) (right r (function_notes file f) (items_notes file rest) h) in
     let n = left r (function_notes file f) (items_notes file rest) h in
-    let own = both (Own r named.Variable) f.parameters (locals_in_all f.statements) (own_parameters r (length file.names) 0 file f.parameters (right r _ _ (left r _ _ (left r _ _ n)))) (all_own_locals r _ (in_body file f) f.statements (right r _ _ (left r _ _ n))) in
-    record { fields = later.fields; variables = (itself r named.Variable (f.parameters ++ locals_in_all f.statements) own (front _ (declarations_of (function f)) (declarations_in rest) d), later.variables) }
+    let own = both (Own r Named.Variable) f.parameters (locals_in_all f.statements) (own_parameters r (length file.names) 0 file f.parameters (right r _ _ (left r _ _ (left r _ _ n)))) (all_own_locals r _ (in_body file f) f.statements (right r _ _ (left r _ _ n))) in
+    record { fields = later.fields; variables = (itself r Named.Variable (f.parameters ++ locals_in_all f.statements) own (front _ (declarations_of (function f)) (declarations_in rest) d), later.variables) }
 
 pub themselves : (r : Resolution) (h : Heads) (file : Scope) → h.structs ≡ 0 → h.globals ≡ 0 → h.functions ≡ 0 → AreDeclared r (declarations_in r.program.items) → Held r (heads_notes h r.program.items) → Held r (items_notes file r.program.items) → NameThemselves r
 themselves r h file s g f d n m =

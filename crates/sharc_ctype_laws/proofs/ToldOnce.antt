@@ -1,11 +1,5 @@
 -- From how often notes refer to a token to the one note that does.
-use Rattle.std.proofs.{Common.{◌≡◌, ⊎_elim, ℕ, zero, suc, ◌<◌, List, [], ◌∷◌, ◌++◌, length, get_or, refl, ap, sym, ◌∙◌, arith, Contains}, lemmas.Bool.cases_eq}
-use Rattle.sharc_tree.specs.Marks.{Mark, a_name, a_cast}
-use Rattle.sharc_names.specs.{declared.fault.Named.Named, Notes.{Note, fault, refers, yields, referred}}
-use Rattle.sharc_ctype.specs.{Items.notes_about, Reaches.name_tokens, Resolved.{Resolution, named_at}}
-use Rattle.sharc_ctype_laws.specs.Laws.{Tells, IsToldOnce}
-use Rattle.sharc_ctype_laws.proofs.{Counts.{one, told, written, told-append, told_refers, told_yields, told_fault, told_none, written_name, written_cast, written_none}, Held.{Held, no_fault, head_named, behind_head, yielded, behind_yielded}, OwnTokens.{one_same, one_other}}
-use Rattle.sharc_lemmas.proofs.Lists.{later}
+use Rattle.sharc_ctype_laws.proofs.{Imports.{◌≡◌, ⊎_elim, ℕ, zero, suc, ◌<◌, List, [], ◌∷◌, ◌++◌, length, get_or, refl, ap, sym, ◌∙◌, arith, Contains, cases_eq, Mark, a_name, a_cast, Named, Note, fault, refers, yields, referred, notes_about, name_tokens, Resolution, named_at, Tells, IsToldOnce, later}, Counts.{one, told, written, told-append, told_refers, told_yields, told_fault, told_none, written_name, written_cast, written_none}, Held.{Held, no_fault, head_named, behind_head, yielded, behind_yielded}, OwnTokens.{one_same, one_other}}
 
 -- what is in a list is counted in it, and what is counted is in it
 

@@ -1,14 +1,7 @@
 -- The laws of typed programs.
-use Rattle.std.proofs.Common.{◌≡◌, ◌++◌, length, Some, arith, refl}
-use Rattle.std.specs.List.{AllByRecursion}
-use Rattle.sharc_tree.specs.{Low.IsLow, Marks.items_marks, Measures.in_function, Tree.Expression}
+use Rattle.sharc_ctype_laws.proofs.{Imports.{◌≡◌, ◌++◌, length, Some, arith, refl, AllByRecursion, IsLow, items_marks, in_function, Expression, HasType, NamesOwnVariables, MeetsRules, MeetsGlobals, SpawnsByName, SpawnsNameFunctions, SpawnsThreads, ReachesFunctions, OneType, EachNameOnce, OnlyNames, EachNamesItself, EachNamesOwn, NamesFound, EachNamesFound, EachPathFound, IsPlain, ArePlain, NamesInTypes, SameKinds, MeetsConstraints, MeetsStatements, AllFair, WithinLimits, HasMain, IsClosed, PathsAt, BodyStands, Placing, places_of, places_of_all, EachTypeFound, look_up, type_of, notes_of, IsFair, function_transfers, file_scope, items_notes, notes_about, main_missing, sizes_notes, heads_notes, no_heads, Resolution, IsResolved, functions_in, declarations_in, kind_at, each, together}, AtMost.program_most, Closed.{items_closed, body_stands, cast_stands, none_closed, all_types}, Exact.program_is, Begun.globals_meet, Fair.fair_function, FileScene.{file_scene, items_places, function_places, each_function}, Forgotten.in_function_all, Held.{Held, left, right, clean, clean_left, clean_right}, Judged.{named_by, spawned_name}, Limited.{few, small, few_cells, main_is}, TypesFound.each_found, OwnTokens.{HasOwnTokens, own_tokens, all_held, all_declared}, Plain.plain_function, Reached.{spawned_thread, reached_function}, Ruled.function_meets, OwnVariables.{own_variables, none_in_file}, Scenes.IsScene, Themselves.themselves, ToldOnce.{counted, name_counted, name_there, told_once}, TypesNamed.named_items, Walked.{AreDeclared, JudgedAt}}
 use Rattle.sharc_tree.specs.Tree as tree
-use Rattle.sharc_ctype_laws.specs.{Constraints.HasType, Declared.NamesOwnVariables, Rules.MeetsRules, Laws.{MeetsGlobals, SpawnsByName, SpawnsNameFunctions, SpawnsThreads, ReachesFunctions, OneType, EachNameOnce, OnlyNames, EachNamesItself, EachNamesOwn, NamesFound, EachNamesFound, EachPathFound, IsPlain, ArePlain, NamesInTypes, SameKinds, MeetsConstraints, MeetsStatements, AllFair, WithinLimits, HasMain}, Paths.{IsClosed, PathsAt, BodyStands}, Places.{Placing, places_of, places_of_all}, Found.EachTypeFound}
-use Rattle.sharc_names.specs.Names.{look_up}
-use Rattle.sharc_ctype.specs.{Expressions.{type_of, notes_of}, Transfers.{IsFair, function_transfers}, Items.{file_scope, items_notes, notes_about, main_missing}, Globals.sizes_notes, Heads.{heads_notes, no_heads}, Resolved.{Resolution, IsResolved, functions_in, declarations_in, kind_at}}
-use Rattle.sharc_ctype_laws.proofs.{AtMost.program_most, Closed.{items_closed, body_stands, cast_stands, none_closed, all_types}, Exact.program_is, Begun.globals_meet, Fair.fair_function, FileScene.{file_scene, items_places, function_places, each_function}, Forgotten.in_function_all, Held.{Held, left, right, clean, clean_left, clean_right}, Judged.{named_by, spawned_name}, Limited.{few, small, few_cells, main_is}, TypesFound.each_found, OwnTokens.{HasOwnTokens, own_tokens, all_held, all_declared}, Plain.plain_function, Reached.{spawned_thread, reached_function}, Ruled.function_meets, OwnVariables.{own_variables, none_in_file}, Scenes.IsScene, Themselves.themselves, ToldOnce.{counted, name_counted, name_there, told_once}, TypesNamed.named_items, Walked.{AreDeclared, JudgedAt}}
 use Rattle.sharc_ctype_laws.proofs.OneType as types
-use Rattle.sharc_lemmas.proofs.Lists.{each, together}
 
 -- what is known of a typed program whose names have tokens of their own
 pub record IsSound (r : Resolution) : Type 0 where

@@ -1,15 +1,8 @@
 -- In a tree at its tokens what has a type begins at a token of its own, so it is found by its tokens.
-use Rattle.std.proofs.{Common.{◌≡◌, ⊎_elim, ℕ, ◌+◌, ◌<◌, ◌≤◌, ◌==◌, ◌&&◌, cond, List, [], ◌∷◌, ◌++◌, map, refl, ap, sym, ◌∙◌, subst, arith, Option, Some, None, eq-eqb, ne_eqb}, lemmas.Bool.{and_from, and_left, cases_eq, cond-false}}
-use Rattle.std.specs.List.{AllByRecursion, find}
-use Rattle.sharc_tree.specs.{declared.token.Keyword.Keyword, declared.token.Keyword.TheVariants.Scast, declared.token.Token.Token, declared.token.TokenKind.TokenKind, declared.tree.declaration.Declaration.Declaration, declared.tree.declaration.WrittenType.WrittenType, Marks.{Mark, a_name, a_cast, number_of, keyword_marks, kind_marks, marks_from, name_marks, type_marks, declaration_marks, declarations_marks, marks, arguments_marks, option_marks, right_marks, simple_marks, local_marks, first_marks, head_marks, statement_marks, statements_marks, item_marks, items_marks}, Measures.{expressions, in_arguments, in_option, in_right, in_simple}, Placed.IsPlaced, Tree.{Expression, Arguments, no_arguments, argument, Right, value, malloc, Simple, assign, does_call, Local, First, nothing, declares, does, Head, Statement, Statements, no_statements, statement, Item, Program}}
-use Rattle.sharc_tree.specs.declared.token.TokenKind.TheVariants as kind
+use Rattle.sharc_ctype_laws.proofs.{Imports.{◌≡◌, ⊎_elim, ℕ, ◌+◌, ◌<◌, ◌≤◌, ◌==◌, ◌&&◌, cond, List, [], ◌∷◌, ◌++◌, map, refl, ap, sym, ◌∙◌, subst, arith, Option, Some, None, eq-eqb, ne_eqb, and_from, and_left, cases_eq, cond-false, AllByRecursion, find, Keyword, Scast, Token, TokenKind, Declaration, WrittenType, Mark, a_name, a_cast, keyword_marks, kind_marks, marks_from, name_marks, type_marks, declaration_marks, declarations_marks, marks, arguments_marks, option_marks, right_marks, simple_marks, local_marks, first_marks, head_marks, statement_marks, statements_marks, item_marks, items_marks, expressions, in_arguments, in_option, in_right, in_simple, IsPlaced, Expression, Arguments, no_arguments, argument, Right, value, malloc, Simple, assign, does_call, Local, First, nothing, declares, does, Head, Statement, Statements, no_statements, statement, Item, Program, Role, Entity, Numbered, cast_entity, casts, local_entities, first_entities, head_entities, statement_entities, statements_entities, result_of, item_entities, entities_in, positions_of, numbered_from, is_told_by, Resolution, IsFound, types_in, types_in_arguments, types_in_option, types_in_right, types_in_simple, types_in_local, types_in_first, types_in_head, types_in_statement, types_in_statements, types_in_declarations, types_in_item, types_in_items, IsNamedType, front, back, both, together}, Counts.one, OwnTokens.{one_same, one_other, one_low}}
+use Rattle.sharc_tree.specs.Marks.{number_of}
 use Rattle.sharc_tree.specs.Tree as tree
-use Rattle.sharc_names.specs.declared.types.Role.{Role}
-use Rattle.sharc_names.specs.declared.types.Role.TheVariants as role
-use Rattle.sharc_ctype.specs.{declared.entity.Entity.Entity, declared.entity.Numbered.Numbered, Entities.{declared, cast_entity, casts, local_entities, first_entities, head_entities, statement_entities, statements_entities, result_of, item_entities, entities_in, positions_of, numbered_from, is_told_by}, Resolved.Resolution}
-use Rattle.sharc_ctype_laws.specs.{Found.IsFound, WrittenTypes.{types_in, types_in_arguments, types_in_option, types_in_right, types_in_simple, types_in_local, types_in_first, types_in_head, types_in_statement, types_in_statements, types_in_declarations, types_in_item, types_in_items, IsNamedType}}
-use Rattle.sharc_ctype_laws.proofs.{Counts.one, OwnTokens.{one_same, one_other, one_low}}
-use Rattle.sharc_lemmas.proofs.Lists.{front, back, both, together}
+use Rattle.sharc_ctype.specs.Entities.{declared}
 
 -- how many marks are at a token, and how much begins there that has a type
 
@@ -40,7 +33,7 @@ keyword_low t n _ = omega arith
 
 kind_low : (t n : ℕ) (k : TokenKind) (text : List ℕ) → marked t (kind_marks k text n) ≤ one t n
 unfolding marked
-kind_low t n (kind.Keyword k) text = keyword_low t n k
+kind_low t n (TokenKind.Keyword k) text = keyword_low t n k
 kind_low t n _ text = omega arith
 
 unmarked : (t : ℕ) → marked t [] ≡ 0
@@ -137,7 +130,7 @@ declarations_most t where_ [] = none_most t _
 declarations_most t where_ (d ∷ rest) = side t (declared where_ d ∷ []) (map (declared where_) rest) (declaration_marks d) (declarations_marks rest) (declared_most t where_ d) (declarations_most t where_ rest)
 
 local_most : (t : ℕ) (l : Local) → begun t (local_entities l) ≤ marked t (local_marks l)
-local_most t l = side t (declared role.Local l.declaration ∷ []) (casts (in_option in_right l.initial)) (declaration_marks l.declaration) (option_marks right_marks l.initial) (declared_most t role.Local l.declaration) (rights_most t l.initial)
+local_most t l = side t (declared Role.Local l.declaration ∷ []) (casts (in_option in_right l.initial)) (declaration_marks l.declaration) (option_marks right_marks l.initial) (declared_most t Role.Local l.declaration) (rights_most t l.initial)
 
 first_most : (t : ℕ) (f : First) → begun t (first_entities f) ≤ marked t (first_marks f)
 first_most t nothing = none_most t _
@@ -168,13 +161,13 @@ mutual
   statements_most t (statement a rest) = side t (statement_entities a) (statements_entities rest) (statement_marks a) (statements_marks rest) (statement_most t a) (statements_most t rest)
 
 item_most : (t : ℕ) (i : Item) → begun t (item_entities i) ≤ marked t (item_marks i)
-item_most t (tree.structure s) = behind t (map (declared role.Field) s.fields) (name_marks s.name) (declarations_marks s.fields) (declarations_most t role.Field s.fields)
-item_most t (tree.global g) = declared_most t role.Global g.declaration
+item_most t (tree.structure s) = behind t (map (declared Role.Field) s.fields) (name_marks s.name) (declarations_marks s.fields) (declarations_most t Role.Field s.fields)
+item_most t (tree.global g) = declared_most t Role.Global g.declaration
 item_most t (tree.function f) =
-    side t (result_of f ∷ map (declared role.Parameter) f.parameters) (statements_entities f.statements) (type_marks f.result ++ name_marks f.name ++ declarations_marks f.parameters) (statements_marks f.statements)
-    (side t (result_of f ∷ []) (map (declared role.Parameter) f.parameters) (type_marks f.result ++ name_marks f.name) (declarations_marks f.parameters)
+    side t (result_of f ∷ map (declared Role.Parameter) f.parameters) (statements_entities f.statements) (type_marks f.result ++ name_marks f.name ++ declarations_marks f.parameters) (statements_marks f.statements)
+    (side t (result_of f ∷ []) (map (declared Role.Parameter) f.parameters) (type_marks f.result ++ name_marks f.name) (declarations_marks f.parameters)
     (behind t (result_of f ∷ []) (type_marks f.result) (name_marks f.name) (headed t (result_of f) (a_name f.name.site.token f.name.text) [] [] refl (none_most t _)))
-    (declarations_most t role.Parameter f.parameters))
+    (declarations_most t Role.Parameter f.parameters))
     (statements_most t f.statements)
 
 items_most : (t : ℕ) (items : List Item) → begun t (entities_in items) ≤ marked t (items_marks items)
@@ -306,10 +299,10 @@ module _ (P : WrittenType → Type 0) where
   declarations_types where_ (d ∷ rest) h = (h.0, declarations_types where_ rest h.1)
 
   item_types : (i : Item) → AllByRecursion P (types_in_item i) → AllByRecursion Q (item_entities i)
-  item_types (tree.structure s) h = declarations_types role.Field s.fields h
+  item_types (tree.structure s) h = declarations_types Role.Field s.fields h
   item_types (tree.global g) h = h
-  item_types (tree.function f) h = both Q (result_of f ∷ map (declared role.Parameter) f.parameters) (statements_entities f.statements)
-      (h.0, declarations_types role.Parameter f.parameters (front P (types_in_declarations f.parameters) (types_in_statements f.statements) h.1))
+  item_types (tree.function f) h = both Q (result_of f ∷ map (declared Role.Parameter) f.parameters) (statements_entities f.statements)
+      (h.0, declarations_types Role.Parameter f.parameters (front P (types_in_declarations f.parameters) (types_in_statements f.statements) h.1))
       (statements_types f.statements (back P (types_in_declarations f.parameters) (types_in_statements f.statements) h.1))
 
   items_types : (items : List Item) → AllByRecursion P (types_in_items items) → AllByRecursion Q (entities_in items)

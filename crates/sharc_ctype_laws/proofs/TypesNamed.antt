@@ -1,17 +1,9 @@
 -- The names in the written types of a program of which no fault is noted name what they spell.
-use Rattle.std.proofs.{Common.{◌≡◌, inl, inr, ℕ, ◌+◌, Bool, true, false, cond, List, [], ◌∷◌, ◌++◌, length, drop, refl, ap, sym, ◌∙◌, subst, Option, Some, None, is_some, bytes_eq}, lemmas.Bool.false≢true, lemmas.Slice.Eq.bytes_eq-Decides}
-use Rattle.std.specs.List.{AllByRecursion}
-use Rattle.sharc_tree.specs.{declared.ctype.Base.Base, declared.ctype.Mode.Mode, declared.ctype.Mode.TheVariants.Locked, declared.ctype.Path.Path, declared.ctype.Path.TheVariants.{One, Through}, declared.tree.declaration.WrittenType.WrittenType, declared.tree.declaration.Declaration.Declaration, Tree.{Expression, Arguments, no_arguments, argument, Right, value, malloc, Simple, assign, does_call, Local, First, nothing, declares, does, Head, Statement, Statements, no_statements, statement, Item}}
-use Rattle.sharc_tree.specs.declared.ctype.Base.TheVariants as base
+use Rattle.sharc_ctype_laws.proofs.{Imports.{◌≡◌, inl, inr, ℕ, ◌+◌, Bool, true, false, cond, List, [], ◌∷◌, ◌++◌, length, drop, refl, ap, sym, ◌∙◌, subst, Option, Some, None, is_some, bytes_eq, false≢true, bytes_eq-Decides, AllByRecursion, Base, Mode, Locked, Path, One, Through, WrittenType, Declaration, Expression, Arguments, no_arguments, argument, Right, value, malloc, Simple, assign, does_call, Local, First, nothing, declares, does, Head, Statement, Statements, no_statements, statement, Item, BadForm, Scope, Role, Kind, object, is_struct_behind, declared_kind, is_main, StructTable, StructMeaning, defined, known, struct_of, Entry, Meaning, look_up, field_of, named_of, named_struct, kind_of, name_kind, name_notes, field_in, field_notes, first_kind, second_in, second_notes, path_notes, mode_notes, modes_notes, struct_note, base_notes, type_notes, Named, notes_of, notes_of_all, count, wanted, in_body, fields_notes, parameters_notes, item_notes, items_notes, Resolution, named_at, declarations_of, declarations_in, Around, opened, looping, with_names, declared, count_notes, right_notes, simple_notes, initial_notes, local_notes, return_notes, first_notes as first_part_notes, behind_first, tests_notes, step_notes, in_head, head_notes, after, notes_in, notes_in_all, first_locals, locals_in, locals_in_all, IsMemberOf, types_in, types_in_arguments, types_in_option, types_in_right, types_in_simple, types_in_local, types_in_first, types_in_head, types_in_statement, types_in_statements, types_in_declarations, types_in_item, types_in_items, NamesStruct, IsNamedBase, FirstNames, a_known_call, IsNamedPath, IsNamedLevel, IsNamedType, same_some, front, back, both}, Exact.path_kind, FileScene.{fields_are, body_scene}, Held.{Held, left, right, no_fault, not_wrong, head_named, behind_head, second_held}, Judged.{not_main_text, struct_behind_is, member_of, not_main_kind as kind_is}, Scenes.{IsSolid, IsMeant, IsField, IsStruct, IsScene, found_or_later, found_name, found_struct, found_field, type_solid}, Walked.{AreDeclared, scene_with, declared_meant, local_scene, head_scene, after_scene}, Standings.lvalue_held}
 use Rattle.sharc_tree.specs.Tree as tree
-use Rattle.sharc_names.specs.{declared.fault.FaultCode.TheVariants.BadForm, declared.scope.Scope.Scope, declared.types.Role.Role, Kinds.{Kind, object, is_struct_behind, declared_kind}, Names.{is_main, StructTable, StructMeaning, defined, known, struct_of, Entry, Meaning, look_up, field_of, named_of, named_struct, kind_of}, Types.{name_kind, name_notes, field_in, field_notes, first_kind, first_notes, second_in, second_notes, path_notes, mode_notes, modes_notes, struct_note, base_notes, type_notes}}
-use Rattle.sharc_names.specs.declared.fault.Named.TheVariants as named
-use Rattle.sharc_names.specs.declared.types.Role.TheVariants as role
+use Rattle.sharc_names.specs.Types.{first_notes}
 use Rattle.sharc_names.specs.Names as meaning
-use Rattle.sharc_ctype.specs.{Expressions.{notes_of, notes_of_all, count, wanted}, Items.{in_body, fields_notes, parameters_notes, item_notes, items_notes}, Resolved.{Resolution, named_at, declarations_of, declarations_in}, Statements.{Around, opened, looping, with_names, declared, count_notes, right_notes, simple_notes, initial_notes, local_notes, return_notes, first_notes as first_part_notes, behind_first, tests_notes, step_notes, in_head, head_notes, after, notes_in, notes_in_all, first_locals, locals_in, locals_in_all}}
-use Rattle.sharc_ctype_laws.specs.{Constraints.IsMemberOf, WrittenTypes.{types_in, types_in_arguments, types_in_option, types_in_right, types_in_simple, types_in_local, types_in_first, types_in_head, types_in_statement, types_in_statements, types_in_declarations, types_in_item, types_in_items, NamesStruct, IsNamedBase, FirstNames, a_field, a_variable, a_global, a_function, a_known_call, IsNamedPath, IsNamedLevel, IsNamedType}}
-use Rattle.sharc_ctype_laws.proofs.{Exact.path_kind, FileScene.{fields_are, body_scene}, Held.{Held, left, right, no_fault, not_wrong, head_named, behind_head, second_held}, Judged.{not_main_text, struct_behind_is, member_of, not_main_kind as kind_is}, Scenes.{IsSolid, IsMeant, IsField, IsStruct, IsScene, found_or_later, found_name, found_struct, found_field, type_solid}, Walked.{AreDeclared, scene_with, declared_meant, local_scene, head_scene, after_scene}, Standings.lvalue_held}
-use Rattle.sharc_lemmas.proofs.{Options.same_some, Lists.{front, back, both}}
+use Rattle.sharc_ctype_laws.specs.WrittenTypes.{a_field, a_variable, a_global, a_function}
 
 -- bases
 
@@ -24,7 +16,7 @@ struct_by r scope scene token name None is h = absurd (no_fault r _ _ _ h)
 struct_by r scope scene token name (Some m) is h = struct_meant r scope.structs token name m (found_struct r scope.structs scope.structs name m scene.structs is) (head_named r _ _ _ h)
 
 base_named : (r : Resolution) (scope : Scope) → IsScene r scope → (token : ℕ) (b : Base) → Held r (base_notes scope.structs token b) → IsNamedBase r token b
-base_named r scope scene token (base.Struct name) h = struct_by r scope scene token name (struct_of scope.structs name) refl h
+base_named r scope scene token (Base.Struct name) h = struct_by r scope scene token name (struct_of scope.structs name) refl h
 base_named r scope scene token _ h = tt
 
 -- lock paths
@@ -54,10 +46,10 @@ first_names r scope scene siblings all token name k (Some d) is kind h =
 
 record IsSecond (r : Resolution) (token : ℕ) (name : List ℕ) (k : Kind) : Type 0 where
   struct : List ℕ
-  is : k ≡ object (base.Struct struct) 1
+  is : k ≡ object (Base.Struct struct) 1
   member : Declaration
   of : IsMemberOf r struct name member
-  names : named_at r token ≡ named.Field member.name.site.token
+  names : named_at r token ≡ Named.Field member.name.site.token
 
 second_by : (r : Resolution) (scope : Scope) → IsScene r scope → (token : ℕ) (name : List ℕ) (k : Kind) (b : Bool) → is_struct_behind 1 k ≡ b → IsSolid scope.structs k → Held r (second_notes token (cond b (field_in scope.structs name (Some k)) (Some None))) → IsSecond r token name k
 second_by r scope scene token name k false is s h = absurd (no_fault r _ _ _ h)
@@ -96,7 +88,7 @@ mutual
   named_types r scope scene (tree.spawn s f a) h = named_types r scope scene a (left r _ _ (left r _ _ (left r _ _ h)))
   named_types r scope scene (tree.on_value s w a) h = named_types r scope scene a (left r _ _ h)
   named_types r scope scene (tree.on_place s w a) h = named_types r scope scene a (lvalue_held r scope a (left r _ _ (left r _ _ h)) (right r _ _ (left r _ _ h)))
-  named_types r scope scene (tree.cast s t a) h = (type_named r scope scene [] tt role.Cast t (left r _ _ (left r _ _ (left r _ _ h))), named_types r scope scene a (lvalue_held r scope a (right r _ _ (left r _ _ (left r _ _ h))) (right r _ _ (left r _ _ h))))
+  named_types r scope scene (tree.cast s t a) h = (type_named r scope scene [] tt Role.Cast t (left r _ _ (left r _ _ (left r _ _ h))), named_types r scope scene a (lvalue_held r scope a (right r _ _ (left r _ _ (left r _ _ h))) (right r _ _ (left r _ _ h))))
   named_types r scope scene (tree.index s a i) h = both (IsNamedType r) (types_in a) (types_in i) (named_types r scope scene a (left r _ _ (left r _ _ (left r _ _ h)))) (named_types r scope scene i (right r _ _ (left r _ _ h)))
   named_types r scope scene (tree.field s a w n) h = named_types r scope scene a (left r _ _ (left r _ _ h))
   named_types r scope scene (tree.unary s o a) h = named_types r scope scene a (left r _ _ h)
@@ -115,7 +107,7 @@ named_count r scope scene (Some e) h = named_types r scope scene e (left r _ _ h
 
 named_right : (r : Resolution) (scope : Scope) → IsScene r scope → (want : Option Kind) (x : Right) → Held r (right_notes scope want x) → AllByRecursion (IsNamedType r) (types_in_right x)
 named_right r scope scene want (value e) h = named_types r scope scene e (left r _ _ (left r _ _ h))
-named_right r scope scene want (malloc s n w) h = both (IsNamedType r) (types_in_option types_in n) (w ∷ []) (named_count r scope scene n (left r _ _ (left r _ _ h))) (type_named r scope scene [] tt role.Made w (right r _ _ (left r _ _ h)), tt)
+named_right r scope scene want (malloc s n w) h = both (IsNamedType r) (types_in_option types_in n) (w ∷ []) (named_count r scope scene n (left r _ _ (left r _ _ h))) (type_named r scope scene [] tt Role.Made w (right r _ _ (left r _ _ h)), tt)
 
 named_simple : (r : Resolution) (scope : Scope) → IsScene r scope → (x : Simple) → Held r (simple_notes scope x) → AllByRecursion (IsNamedType r) (types_in_simple x)
 named_simple r scope scene (assign s u x) h = both (IsNamedType r) (types_in u) (types_in_right x) (named_types r scope scene u (lvalue_held r scope u (left r _ _ (left r _ _ (left r _ _ h))) (right r _ _ (left r _ _ (left r _ _ h))))) (named_right r scope scene _ x (right r _ _ h))
@@ -127,7 +119,7 @@ named_initial r scope scene d (Some x) h = named_right r scope scene _ x (right 
 
 named_local : (r : Resolution) (around : Around) (scope : Scope) → IsScene r scope → (l : Local) → AreDeclared r (l.declaration ∷ []) → Held r (local_notes around scope l) → AllByRecursion (IsNamedType r) (types_in_local l)
 named_local r around scope scene l d h = (
-  type_named r scope scene [] tt role.Local l.declaration.written (left r _ _ (left r _ _ h)),
+  type_named r scope scene [] tt Role.Local l.declaration.written (left r _ _ (left r _ _ h)),
   named_initial r (with_names scope (declared around.block l.declaration scope.names)) (local_scene r around scope scene l d.0 h) l.declaration l.initial (right r _ _ h),
 )
 
@@ -189,21 +181,21 @@ mutual
 
 named_fields : (r : Resolution) (scope : Scope) → IsScene r scope → (all earlier : List Declaration) → AllByRecursion (IsField r scope.structs) all → (rest : List Declaration) → Held r (fields_notes scope all earlier rest) → AllByRecursion (IsNamedType r) (types_in_declarations rest)
 named_fields r scope scene all earlier fields [] h = tt
-named_fields r scope scene all earlier fields (d ∷ rest) h = (type_named r scope scene all fields role.Field d.written (left r _ _ (left r _ _ h)), named_fields r scope scene all (earlier ++ d ∷ []) fields rest (right r _ _ h))
+named_fields r scope scene all earlier fields (d ∷ rest) h = (type_named r scope scene all fields Role.Field d.written (left r _ _ (left r _ _ h)), named_fields r scope scene all (earlier ++ d ∷ []) fields rest (right r _ _ h))
 
 named_parameters : (r : Resolution) (block n : ℕ) (scope : Scope) → IsScene r scope → (list : List Declaration) → AreDeclared r list → Held r (parameters_notes block n scope list) → AllByRecursion (IsNamedType r) (types_in_declarations list)
 named_parameters r block n scope scene [] d h = tt
 named_parameters r block n scope scene (x ∷ rest) d h =
     let t = left r _ _ (left r _ _ (left r _ _ h)) in
-    let m = declared_meant r scope.structs block x scope.names scene.names d.0 (type_solid r scope [] role.Parameter x.written refl t) in
-    (type_named r scope scene [] tt role.Parameter x.written t, named_parameters r block (n + 1) (with_names scope (declared block x scope.names)) (scene_with r scope scene (declared block x scope.names) m) rest d.1 (right r _ _ h))
+    let m = declared_meant r scope.structs block x scope.names scene.names d.0 (type_solid r scope [] Role.Parameter x.written refl t) in
+    (type_named r scope scene [] tt Role.Parameter x.written t, named_parameters r block (n + 1) (with_names scope (declared block x scope.names)) (scene_with r scope scene (declared block x scope.names) m) rest d.1 (right r _ _ h))
 
 named_item : (r : Resolution) (file : Scope) → IsScene r file → (i : Item) → AreDeclared r (declarations_of i) → Held r (item_notes file i) → AllByRecursion (IsNamedType r) (types_in_item i)
 named_item r file scene (tree.structure s) d h = named_fields r file scene s.fields [] (fields_are r file s.fields [] s.fields d h) s.fields h
-named_item r file scene (tree.global g) d h = (type_named r file scene [] tt role.Global g.declaration.written (left r _ _ (left r _ _ h)), tt)
+named_item r file scene (tree.global g) d h = (type_named r file scene [] tt Role.Global g.declaration.written (left r _ _ (left r _ _ h)), tt)
 named_item r file scene (tree.function f) d h =
     let d1 = front _ f.parameters (locals_in_all f.statements) d in (
-      type_named r file scene [] tt role.Result f.result (left r _ _ (left r _ _ (left r _ _ h))),
+      type_named r file scene [] tt Role.Result f.result (left r _ _ (left r _ _ (left r _ _ h))),
       both (IsNamedType r) (types_in_declarations f.parameters) (types_in_statements f.statements) (named_parameters r (length file.names) 0 file scene f.parameters d1 (right r _ _ (left r _ _ (left r _ _ h))))
           (named_statements r (record { result = declared_kind f.result; in_loop = false; block = length file.names }) (in_body file f) (body_scene r file scene f d1 h) f.statements (back _ f.parameters (locals_in_all f.statements) d) (right r _ _ (left r _ _ h))),
     )

@@ -1,15 +1,7 @@
 -- All expressions of a program of which no fault is noted are judged, each in its scope.
-use Rattle.std.proofs.Common.{◌≡◌, ℕ, Bool, true, false, cond, List, [], ◌∷◌, ◌++◌, drop, refl, Option, Some, None}
-use Rattle.std.specs.List.{AllByRecursion}
-use Rattle.sharc_tree.specs.{declared.tree.declaration.Declaration.Declaration, Tree.{Expression, Arguments, no_arguments, argument, Right, value, malloc, Simple, assign, does_call, Local, First, nothing, declares, does, Head, Statement, Statements, no_statements, statement}, Measures.{expressions, in_arguments, in_option, in_right, in_simple}}
+use Rattle.sharc_ctype_laws.proofs.{Imports.{◌≡◌, ℕ, Bool, true, false, cond, List, [], ◌∷◌, ◌++◌, drop, refl, Option, Some, None, AllByRecursion, Declaration, Expression, Arguments, no_arguments, argument, Right, value, malloc, Simple, assign, does_call, Local, First, nothing, declares, does, Head, Statement, Statements, no_statements, statement, expressions, in_arguments, in_option, in_right, in_simple, Scope, Kind, declared_kind, StructTable, Entry, look_up, Role, notes_of, notes_of_all, count, wanted, Around, opened, looping, with_names, is_here, declared, count_notes, right_notes, simple_notes, local_notes, initial_notes, return_notes, first_notes, behind_first, tests_notes, step_notes, in_head, head_notes, after, notes_in, notes_in_all, first_locals, locals_in, locals_in_all, Resolution, declaration_at, Placing, at, places_in_local, places_in_first, places_in, places_in_all, front, back, both, mapped}, Held.{Held, left, right}, Judged.{IsJudged, judged}, Scenes.{IsSolid, IsMeant, AreMeant, IsScene, type_solid}, Standings.lvalue_held}
 use Rattle.sharc_tree.specs.Tree as tree
-use Rattle.sharc_names.specs.{declared.scope.Scope.Scope, Kinds.{Kind, declared_kind}, Names.{StructTable, Entry, look_up}}
-use Rattle.sharc_names.specs.declared.types.Role.TheVariants as role
 use Rattle.sharc_names.specs.Names as meaning
-use Rattle.sharc_ctype.specs.{Expressions.{notes_of, notes_of_all, count, wanted}, Statements.{Around, opened, looping, with_names, is_here, declared, count_notes, right_notes, simple_notes, local_notes, initial_notes, return_notes, first_notes, behind_first, tests_notes, step_notes, in_head, head_notes, after, notes_in, notes_in_all, first_locals, locals_in, locals_in_all}, Resolved.{Resolution, declaration_at}}
-use Rattle.sharc_ctype_laws.specs.Places.{Placing, at, places_in_local, places_in_first, places_in, places_in_all}
-use Rattle.sharc_ctype_laws.proofs.{Held.{Held, left, right}, Judged.{IsJudged, judged}, Scenes.{IsSolid, IsMeant, AreMeant, IsScene, type_solid}, Standings.lvalue_held}
-use Rattle.sharc_lemmas.proofs.Lists.{front, back, both, mapped_each as mapped}
 
 -- an expression of which no fault is noted is judged
 pub record IsSeen (r : Resolution) (scope : Scope) (e : Expression) : Type 0 where
@@ -73,7 +65,7 @@ declared_meant r structs block d names all is s = either r structs names (record
 
 local_meant : (r : Resolution) (around : Around) (scope : Scope) → IsScene r scope → (l : Local) → declaration_at r l.declaration.name.site.token ≡ Some l.declaration → Held r (local_notes around scope l)
     → AreMeant r scope.structs (declared around.block l.declaration scope.names)
-local_meant r around scope scene l is h = declared_meant r scope.structs around.block l.declaration scope.names scene.names is (type_solid r scope [] role.Local l.declaration.written refl (left r _ _ (left r _ _ h)))
+local_meant r around scope scene l is h = declared_meant r scope.structs around.block l.declaration scope.names scene.names is (type_solid r scope [] Role.Local l.declaration.written refl (left r _ _ (left r _ _ h)))
 
 pub local_scene : (r : Resolution) (around : Around) (scope : Scope) → IsScene r scope → (l : Local) → declaration_at r l.declaration.name.site.token ≡ Some l.declaration → Held r (local_notes around scope l)
     → IsScene r (with_names scope (declared around.block l.declaration scope.names))

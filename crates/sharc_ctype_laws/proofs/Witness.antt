@@ -1,29 +1,21 @@
 -- `int main(void) { return 0; }` is a typed program at its tokens in the forms of the grammar: so the laws speak of something.
-use Rattle.std.proofs.Common.{ℕ, ◌≤◌, List, [], ◌∷◌, refl, arith, Some, None, codes, pos, false}
-use Rattle.sharc_tree.specs.declared.ctype.Base.TheVariants as base
-use Rattle.sharc_tree.specs.{declared.token.Site.Site, declared.token.Span.Span, declared.token.Token.Token, declared.token.Punctuator.TheVariants.{OpenParenthesis, CloseParenthesis, OpenBrace, CloseBrace, Semicolon}, declared.token.TokenKind.TokenKind, Low.IsLow, Placed.{IsSite, IsSpan, IsWhole, IsPlaced}, Tree.{Function, Program, function, statement, no_statements, return, constant}}
-use Rattle.sharc_tree.specs.declared.token.Keyword.TheVariants as key
-use Rattle.sharc_tree.specs.declared.token.NumberType.TheVariants as width
-use Rattle.sharc_tree.specs.declared.token.TokenKind.TheVariants as kind
-use Rattle.sharc_tree.specs.declared.tree.expression.Constant.TheVariants as constants
-use Rattle.sharc_ctype.specs.{Items.named_in, Resolved.{Resolution, IsResolved}}
-use Rattle.sharc_ctype_laws.specs.Laws.{SomeTyped}
+use Rattle.sharc_ctype_laws.proofs.Imports.{ℕ, ◌≤◌, List, [], ◌∷◌, refl, arith, Some, None, codes, pos, false, Base, Site, Span, Token, OpenParenthesis, CloseParenthesis, OpenBrace, CloseBrace, Semicolon, TokenKind, IsLow, IsSite, IsSpan, IsWhole, IsPlaced, Function, Program, function, statement, no_statements, return, constant, Keyword, NumberType, Constant, named_in, Resolution, IsResolved, SomeTyped}
 
 abbrev a_token : TokenKind → List ℕ → ℕ → ℕ → Token
 a_token k text from until = record { kind = k; text = text; from = from; until = until; file = 0; line = 1 }
 
 abbrev words : List Token
 words =
-    a_token (kind.Keyword key.Int) (codes "int") 0 3
-    ∷ (a_token kind.Identifier (codes "main") 4 8
-    ∷ (a_token (kind.Punctuator OpenParenthesis) (codes "(") 8 9
-    ∷ (a_token (kind.Keyword key.Void) (codes "void") 9 13
-    ∷ (a_token (kind.Punctuator CloseParenthesis) (codes ")") 13 14
-    ∷ (a_token (kind.Punctuator OpenBrace) (codes "{") 15 16
-    ∷ (a_token (kind.Keyword key.Return) (codes "return") 17 23
-    ∷ (a_token (kind.Number (record { value = pos 0; number_type = width.Int })) (codes "0") 24 25
-    ∷ (a_token (kind.Punctuator Semicolon) (codes ";") 25 26
-    ∷ (a_token (kind.Punctuator CloseBrace) (codes "}") 27 28 ∷ [])))))))))
+    a_token (TokenKind.Keyword Keyword.Int) (codes "int") 0 3
+    ∷ (a_token TokenKind.Identifier (codes "main") 4 8
+    ∷ (a_token (TokenKind.Punctuator OpenParenthesis) (codes "(") 8 9
+    ∷ (a_token (TokenKind.Keyword Keyword.Void) (codes "void") 9 13
+    ∷ (a_token (TokenKind.Punctuator CloseParenthesis) (codes ")") 13 14
+    ∷ (a_token (TokenKind.Punctuator OpenBrace) (codes "{") 15 16
+    ∷ (a_token (TokenKind.Keyword Keyword.Return) (codes "return") 17 23
+    ∷ (a_token (TokenKind.Number (record { value = pos 0; number_type = NumberType.Int })) (codes "0") 24 25
+    ∷ (a_token (TokenKind.Punctuator Semicolon) (codes ";") 25 26
+    ∷ (a_token (TokenKind.Punctuator CloseBrace) (codes "}") 27 28 ∷ [])))))))))
 
 abbrev place : ℕ → Site
 place n = record { file = 0; line = 1; token = n }
@@ -34,11 +26,11 @@ span m n = record { first = place m; last = place n }
 abbrev main : Function
 main = record {
   span = span 0 9;
-  result = record { span = span 0 0; mode_first = false; base = place 0; ctype = record { base = base.Int; levels = None ∷ [] } };
+  result = record { span = span 0 0; mode_first = false; base = place 0; ctype = record { base = Base.Int; levels = None ∷ [] } };
   name = record { site = place 1; text = codes "main" };
   parameters = [];
   body = span 5 9;
-  statements = statement (return (span 6 8) (Some (constant (span 7 7) (constants.Number (record { value = pos 0; number_type = width.Int }))))) no_statements;
+  statements = statement (return (span 6 8) (Some (constant (span 7 7) (Constant.Number (record { value = pos 0; number_type = NumberType.Int }))))) no_statements;
 }
 
 abbrev program : Program

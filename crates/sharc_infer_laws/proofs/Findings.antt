@@ -1,6 +1,5 @@
 -- What is found of a position is one.
-use Rattle.std.proofs.Common.{◌≡◌, ℕ, [], refl, ap, sym, ◌∙◌, subst, arith}
-use Rattle.sharc_graph.specs.{declared.graph.NodeFinding.NodeFinding, declared.graph.NodeFinding.TheVariants.{Apart, Source, Behind}, Flow.{Flow, IsOrigin, FlowsTo, IsInferredRank, IsRankFor, IsInferredReason, IsInferred}}
+use Rattle.sharc_infer_laws.proofs.Imports.{◌≡◌, ℕ, [], refl, ap, sym, ◌∙◌, subst, arith, NodeFinding, Apart, Source, Behind, Flow, IsOrigin, FlowsTo, IsInferredRank, IsRankFor, IsInferredReason, IsInferred}
 
 module _ (f : Flow) where
   -- a source leads to itself

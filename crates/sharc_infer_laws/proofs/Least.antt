@@ -1,22 +1,16 @@
 -- The least assignment of a program is one.
-use Rattle.std.proofs.Common.{◌≡◌, ℕ, ◌<◌, true, List, Option, Some, None, refl, ap, sym, ◌∙◌, subst, ext_get_or}
-use Rattle.sharc_tree.specs.{declared.ctype.Mode.Mode, declared.ctype.Mode.TheVariants.Private}
-use Rattle.sharc_graph.specs.{declared.graph.NodeFinding.NodeFinding, declared.graph.NodeFinding.TheVariants.Source, Findings.finding_at, declared.place.PositionKind.PositionKind, Flow.{flow_of, place_at, is_unwritten, AreInferred}}
-use Rattle.sharc_graph.specs.declared.place.PositionKind.TheVariants as place
-use Rattle.sharc_ctype.specs.Resolved.{Resolution}
-use Rattle.sharc_mode.specs.{declared.position.Reason.Reason, declared.position.Reason.TheVariants.{Touched, Spawned, From}, Flows.{IsUnsettledPlace, IsPlaceFor, ArePlaces, links_of, inferred_mode, mode_found, IsRootReason, IsReasonBy, IsReasonFor, IsLeastAssignment}, Moded.{Assignment, position_count, reason_at}, Settled.settled_at}
-use Rattle.sharc_infer_laws.specs.Laws.{FindingsAreOne, IsOneRoot}
+use Rattle.sharc_infer_laws.proofs.Imports.{◌≡◌, ℕ, ◌<◌, true, List, Option, Some, None, refl, ap, sym, ◌∙◌, subst, ext_get_or, Mode, Private, NodeFinding, Source, finding_at, PositionKind, flow_of, place_at, is_unwritten, AreInferred, Resolution, Reason, Touched, Spawned, From, IsUnsettledPlace, IsPlaceFor, ArePlaces, links_of, inferred_mode, mode_found, IsRootReason, IsReasonBy, IsReasonFor, IsLeastAssignment, Assignment, position_count, reason_at, settled_at, FindingsAreOne, IsOneRoot}
 
 -- ---- places
 
 unsettled : (r : Resolution) (p : ℕ) (x y : PositionKind) → IsUnsettledPlace r p x → IsUnsettledPlace r p y → x ≡ y
-unsettled r p place.Root place.Root l h = refl
-unsettled r p place.Root place.Unwritten l h = absurd (h l)
-unsettled r p place.Unwritten place.Root l h = absurd (l h)
-unsettled r p place.Unwritten place.Unwritten l h = refl
-unsettled r p place.Dynamic y l h = absurd l
-unsettled r p place.Private y l h = absurd l
-unsettled r p place.Other y l h = absurd l
+unsettled r p PositionKind.Root PositionKind.Root l h = refl
+unsettled r p PositionKind.Root PositionKind.Unwritten l h = absurd (h l)
+unsettled r p PositionKind.Unwritten PositionKind.Root l h = absurd (l h)
+unsettled r p PositionKind.Unwritten PositionKind.Unwritten l h = refl
+unsettled r p PositionKind.Dynamic y l h = absurd l
+unsettled r p PositionKind.Private y l h = absurd l
+unsettled r p PositionKind.Other y l h = absurd l
 unsettled r p _ _ l h = absurd h
 
 one_place : (r : Resolution) (p : ℕ) (o : Option Mode) (x y : PositionKind) → IsPlaceFor r p o x → IsPlaceFor r p o y → x ≡ y
@@ -24,11 +18,11 @@ one_place r p None x y l h = unsettled r p x y l h
 one_place r p (Some m) x y l h = l ∙ sym h
 
 same_places : (r : Resolution) (x y : List PositionKind) → ArePlaces r x → ArePlaces r y → x ≡ y
-same_places r x y a b = ext_get_or place.Private x y (a.size ∙ sym b.size) (λ p low. one_place r p (settled_at r p) (place_at x p) (place_at y p) (a.each p) (b.each p))
+same_places r x y a b = ext_get_or PositionKind.Private x y (a.size ∙ sym b.size) (λ p low. one_place r p (settled_at r p) (place_at x p) (place_at y p) (a.each p) (b.each p))
 
 is_open : (r : Resolution) (p : ℕ) (x : PositionKind) → IsUnsettledPlace r p x → is_unwritten x ≡ true
-is_open r p place.Root is = refl
-is_open r p place.Unwritten is = refl
+is_open r p PositionKind.Root is = refl
+is_open r p PositionKind.Unwritten is = refl
 is_open r p _ is = absurd is
 
 -- ---- modes and reasons of one position

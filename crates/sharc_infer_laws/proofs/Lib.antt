@@ -1,3 +1,4 @@
+mod Imports
 pub mod Findings
 pub mod Least
 pub mod Locks

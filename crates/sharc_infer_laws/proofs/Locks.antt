@@ -1,15 +1,5 @@
 -- The lock paths among the modes of a type are those that are written in it.
-use Rattle.std.proofs.{Common.{◌≡◌, ℕ, zero, suc, ◌+◌, ◌<◌, ◌≤◌, Bool, true, false, cond, List, [], ◌∷◌, ◌++◌, length, drop, get_or, Option, Some, None, Contains, ◌⊎◌, inl, inr, ⊎_elim, refl, ap, sym, ◌∙◌, subst, arith}, lemmas.List.{get_or-append-add, get_or_append_left, length-append}}
-use Rattle.std.specs.Option.{option_or}
-use Rattle.sharc_tree.specs.{declared.ctype.Base.Base, declared.ctype.Mode.Mode, declared.ctype.Mode.TheVariants.{Private, Locked, Racy, Dynamic}, declared.ctype.Path.Path}
-use Rattle.sharc_graph.specs.{declared.graph.NodeFinding.NodeFinding, declared.graph.NodeFinding.TheVariants.Apart, Findings.finding_at}
-use Rattle.sharc_names.specs.declared.types.Role.{Role}
-use Rattle.sharc_names.specs.declared.types.Role.TheVariants as role
-use Rattle.sharc_ctype.specs.{declared.entity.Entity.Entity, declared.entity.Numbered.Numbered, Entities.{entities_in, first_depth, numbered, numbered_from, positions_of, written_modes}}
-use Rattle.sharc_mode.specs.{Flows.{IsLeastAssignment, mode_found}, Laws.SettledAreCounted, Moded.{Assignment, position_count}, Settled.{is_mutex, settled, field_target, otherwise_of, settled_modes, settled_in}}
-use Rattle.sharc_infer_laws.specs.Locks.{IsWrittenLock, HasWrittenLocks, LeastHasWrittenLocks}
-use Rattle.sharc_infer_laws.proofs.Types.{modes_size}
-use Rattle.sharc_lemmas.proofs.Lists.{contains_behind, head_there}
+use Rattle.sharc_infer_laws.proofs.{Imports.{◌≡◌, ℕ, zero, suc, ◌+◌, ◌<◌, ◌≤◌, Bool, true, false, cond, List, [], ◌∷◌, ◌++◌, length, drop, get_or, Option, Some, None, Contains, ◌⊎◌, inl, inr, ⊎_elim, refl, ap, sym, ◌∙◌, subst, arith, get_or-append-add, get_or_append_left, length-append, option_or, Base, Mode, Private, Locked, Racy, Dynamic, Path, NodeFinding, Apart, finding_at, Role, Entity, Numbered, entities_in, first_depth, numbered, numbered_from, positions_of, written_modes, IsLeastAssignment, mode_found, SettledAreCounted, Assignment, position_count, is_mutex, settled, field_target, otherwise_of, settled_modes, settled_in, IsWrittenLock, HasWrittenLocks, LeastHasWrittenLocks, contains_behind, head_there}, Types.modes_size}
 
 -- ---- what is settled of a position is what is settled of it in its type
 
@@ -84,7 +74,7 @@ target_written (Some x ∷ below) path is = subst (λ (o : Mode). Contains (Some
 target_written _ path is = absurd (dynamic_apart path is)
 
 otherwise_written : (what : Role) (levels : List (Option Mode)) (path : Path) → otherwise_of what levels ≡ Some (Locked path) → Contains levels (Some (Locked path))
-otherwise_written role.Field levels path is = target_written levels path (one_mode (field_target levels) (Locked path) is)
+otherwise_written Role.Field levels path is = target_written levels path (one_mode (field_target levels) (Locked path) is)
 otherwise_written _ levels path is = absurd (no_mode (Locked path) is)
 
 of_entity : (e : Entity) (depth : ℕ) (path : Path) → get_or (settled_modes e) depth (Some Private) ≡ Some (Locked path) → Contains e.written.ctype.levels (Some (Locked path))

@@ -1,7 +1,5 @@
 -- A position determines its entity: the positions of each come after those of the ones before it.
-use Rattle.std.proofs.Common.{◌≡◌, ℕ, ◌+◌, ◌<◌, ◌≤◌, Bool, true, false, cond, List, [], ◌∷◌, Option, Some, None, refl, ap, sym, ◌∙◌, arith}
-use Rattle.std.specs.List.{find}
-use Rattle.sharc_ctype.specs.{declared.entity.Entity.Entity, declared.entity.Numbered.Numbered, Entities.{numbered_from, positions_of}}
+use Rattle.sharc_infer_laws.proofs.Imports.{◌≡◌, ℕ, ◌+◌, ◌<◌, ◌≤◌, Bool, true, false, cond, List, [], ◌∷◌, Option, Some, None, refl, ap, sym, ◌∙◌, arith, find, Entity, Numbered, numbered_from, positions_of}
 
 -- what is found is the first element, or is found after it
 some_here : (here x : Numbered) → Some here ≡ Some x → here ≡ x

@@ -1,8 +1,5 @@
 -- The name of a parameter lies in one function.
-use Rattle.std.proofs.Common.{◌≡◌, ℕ, zero, suc, ◌+◌, ◌<◌, ◌≤◌, List, [], ◌∷◌, ◌++◌, length, get_or, Some, None, refl, ap, sym, subst, arith, Contains}
-use Rattle.std.specs.Prelude.{slice_get}
-use Rattle.sharc_tree.specs.{declared.token.Span.Span, declared.token.Token.Token, declared.tree.declaration.Declaration.Declaration, Placed.{Follow, declaration_spans, item_spans, PlacedDeclaration, PlacedDeclarations, PlacedItem, PlacedItems}, Tree.{Function, Item, structure, global, function}}
-use Rattle.sharc_ctype.specs.Resolved.{functions_in}
+use Rattle.sharc_infer_laws.proofs.Imports.{◌≡◌, ℕ, zero, suc, ◌+◌, ◌<◌, ◌≤◌, List, [], ◌∷◌, ◌++◌, length, get_or, Some, None, refl, ap, sym, subst, arith, Contains, slice_get, Span, Token, Declaration, Follow, declaration_spans, item_spans, PlacedDeclaration, PlacedDeclarations, PlacedItem, PlacedItems, Function, Item, structure, global, function, functions_in}
 
 -- the name of a declaration lies in its span
 named_within : (all : List Token) (d : Declaration) → PlacedDeclaration all d → (d.span.first.token ≤ d.name.site.token) × (d.name.site.token ≤ d.span.last.token)

@@ -1,18 +1,10 @@
 -- A root is one thing to one function.
-use Rattle.std.proofs.{Common.{◌≡◌, ℕ, ◌<◌, ◌==◌, [], ◌∷◌, ◌++◌, length, Some, ap, sym, ◌∙◌, subst, arith, eqb-true, Contains}, lemmas.Bool.and_parts, lemmas.List.Elements.{All-from_recursion, All-contains, Contains-append_left}}
-use Rattle.std.specs.List.{AllByRecursion}
-use Rattle.sharc_tree.specs.{declared.tree.declaration.Declaration.Declaration, declared.tree.item.GlobalDefinition.GlobalDefinition, Placed.IsPlaced, Tree.Function}
-use Rattle.sharc_names.specs.declared.fault.Named.TheVariants as named
-use Rattle.sharc_ctype.specs.{declared.entity.Numbered.Numbered, Entities.{entities_in, is_told_by, numbered, entity_at, positions_of}, Resolved.{Resolution, named_at, functions_in, function_at, global_at}, Statements.locals_in_all}
-use Rattle.sharc_ctype_laws.specs.Declared.{IsItself, NameThemselves}
-use Rattle.sharc_mode.specs.Flows.{IsFirst, Touches, IsTouchedIn, IsPassedTo}
-use Rattle.sharc_infer_laws.proofs.{Numbers.{passes, one_at}, Owners.one_owner}
-use Rattle.sharc_lemmas.proofs.{Options.some_and, Lists.{at_place as at_get}}
+use Rattle.sharc_infer_laws.proofs.{Imports.{◌≡◌, ℕ, ◌<◌, ◌==◌, [], ◌∷◌, ◌++◌, length, Some, ap, sym, ◌∙◌, subst, arith, eqb-true, Contains, and_parts, All-from_recursion, All-contains, Contains-append_left, AllByRecursion, Declaration, GlobalDefinition, IsPlaced, Function, Named, Numbered, entities_in, is_told_by, numbered, entity_at, positions_of, Resolution, named_at, functions_in, function_at, global_at, locals_in_all, IsItself, NameThemselves, IsFirst, Touches, IsTouchedIn, IsPassedTo, some_and, at_get}, Numbers.{passes, one_at}, Owners.one_owner}
 
-same_global : (n m : ℕ) → named.Global n ≡ named.Global m → n ≡ m
+same_global : (n m : ℕ) → Named.Global n ≡ Named.Global m → n ≡ m
 same_global n m is = cc
 
-not_variable : (n m : ℕ) → named.Global n ≡ named.Variable m → ⊥
+not_variable : (n m : ℕ) → Named.Global n ≡ Named.Variable m → ⊥
 not_variable n m is = cc
 
 module _ (r : Resolution) where
@@ -65,12 +57,12 @@ module _ (r : Resolution) where
       (record { owner = left.owner; is = left.is; has = left.has }) (record { owner = right.owner; is = right.is; has = right.has }) token
 
   -- the name of a parameter names a variable
-  is_variable : NameThemselves r → (p f : ℕ) (has : HasParameter p f) → named_at r has.declaration.name.site.token ≡ named.Variable has.declaration.name.site.token
+  is_variable : NameThemselves r → (p f : ℕ) (has : HasParameter p f) → named_at r has.declaration.name.site.token ≡ Named.Variable has.declaration.name.site.token
   is_variable names p f has =
-      let Own : Function → Type 0 = λ d. AllByRecursion (IsItself r named.Variable) (d.parameters ++ locals_in_all d.statements) in
+      let Own : Function → Type 0 = λ d. AllByRecursion (IsItself r Named.Variable) (d.parameters ++ locals_in_all d.statements) in
       let own = at_get Own (functions_in r.program.items) f has.owner names.variables has.is in
-      let all = All-from_recursion (IsItself r named.Variable) (has.owner.parameters ++ locals_in_all has.owner.statements) own in
-      (All-contains (IsItself r named.Variable) (has.owner.parameters ++ locals_in_all has.owner.statements) has.declaration all (Contains-append_left has.owner.parameters (locals_in_all has.owner.statements) has.declaration has.has)).0
+      let all = All-from_recursion (IsItself r Named.Variable) (has.owner.parameters ++ locals_in_all has.owner.statements) own in
+      (All-contains (IsItself r Named.Variable) (has.owner.parameters ++ locals_in_all has.owner.statements) has.declaration all (Contains-append_left has.owner.parameters (locals_in_all has.owner.statements) has.declaration has.has)).0
 
   pub apart : NameThemselves r → (p f g : ℕ) → IsTouchedIn r p f → IsPassedTo r p g → ⊥
   apart names p f g a b =

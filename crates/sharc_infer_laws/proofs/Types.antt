@@ -1,13 +1,5 @@
 -- What `well_formed` says of the type of an entity is reported of it.
-use Rattle.std.proofs.{Common.{◌≡◌, ℕ, zero, suc, ◌+◌, ◌<◌, Bool, true, false, not, ◌&&◌, ◌||◌, cond, List, [], ◌∷◌, ◌++◌, length, map, take, drop, get_or, Option, Some, None, is_some, refl, ap, sym, ◌∙◌, subst, arith}, lemmas.Bool.{false≢true, or_right, or_left}, lemmas.List.drop-drop}
-use Rattle.std.specs.{Prelude.Contains, List.{AllByRecursion, flat_map, list_any}, Option.option_or}
-use Rattle.sharc_tree.specs.{declared.ctype.Base.Base, declared.ctype.Path.Path, declared.ctype.Mode.Mode, declared.ctype.Mode.TheVariants.{Private, Racy}, declared.token.Span.Span, Texts.{path_text, mode_text}}
-use Rattle.sharc_tree.specs.declared.ctype.Base.TheVariants as base
-use Rattle.sharc_names.specs.declared.types.Role.{Role}
-use Rattle.sharc_names.specs.declared.types.Role.TheVariants as role
-use Rattle.sharc_ctype.specs.{declared.entity.Entity.Entity, declared.entity.Numbered.Numbered, Entities.{entities_in, first_depth, numbered, numbered_from, positions_of, written_modes}}
-use Rattle.sharc_mode.specs.{declared.error.ErrorCode.ErrorCode, declared.error.ErrorCode.TheVariants.{PrivateTarget, LockPathNotConstant, ModeNotAllowed, PrivateField}, declared.finding.Finding.Finding, declared.finding.Finding.TheVariants.Wrong, Flows.IsLeastAssignment, Laws.{SettledStay, SettledAreCounted}, Moded.{Assignment, position_count}, Notes.{error, mismatch, no_type, error_where, top_levels, position_levels, levels_of, printed_type, private_notes, path_notes, mode_notes, is_private_level, is_field_role, private_field_notes, names_of, names_in, names_in_level, type_notes}, Settled.{is_mutex, settled, field_target, otherwise_of, settled_modes, settled_in}, Sharings.{Sharing, locked, sharing_of, text_at, object_of}, WellFormed.{place_of, is_private_mode, begins_private, holds_private, meant, first_unfit_path, first_unfit_mode, lowest}}
-use Rattle.sharc_infer_laws.specs.Types.{code_of, IsTold, TypesAreTold}
+use Rattle.sharc_infer_laws.proofs.Imports.{◌≡◌, ℕ, zero, suc, ◌+◌, ◌<◌, Bool, true, false, not, ◌&&◌, ◌||◌, cond, List, [], ◌∷◌, ◌++◌, length, map, take, drop, get_or, Option, Some, None, is_some, refl, ap, sym, ◌∙◌, subst, arith, false≢true, or_right, or_left, drop-drop, Contains, AllByRecursion, flat_map, list_any, option_or, Base, Path, Mode, Private, Racy, Span, path_text, mode_text, Role, Entity, Numbered, entities_in, first_depth, numbered, numbered_from, positions_of, written_modes, ErrorCode, PrivateTarget, LockPathNotConstant, ModeNotAllowed, PrivateField, Finding, Wrong, IsLeastAssignment, SettledStay, SettledAreCounted, Assignment, position_count, error, mismatch, no_type, error_where, top_levels, position_levels, levels_of, printed_type, private_notes, path_notes, mode_notes, is_private_level, is_field_role, private_field_notes, names_of, names_in, names_in_level, type_notes, is_mutex, settled, field_target, otherwise_of, settled_modes, settled_in, Sharing, locked, sharing_of, text_at, object_of, place_of, is_private_mode, begins_private, holds_private, meant, first_unfit_path, first_unfit_mode, lowest, code_of, IsTold, TypesAreTold}
 
 -- ---- levels that are known more of than others
 
@@ -101,7 +93,7 @@ positions_agree stay counted m least n at =
 -- ---- M3
 
 no_mutex : (b : Base) (x : Option Mode) (l : List (Option Mode)) → is_mutex b (x ∷ l) ≡ false
-no_mutex (base.Struct name) x l = refl
+no_mutex (Base.Struct name) x l = refl
 no_mutex _ x l = refl
 
 single_by : (b : Bool) → ((not b && false) || false) ≡ false
@@ -129,13 +121,13 @@ or_private top x is = ap (λ (t : Option Mode). option_or t (Some Private)) is
 
 holds_by : (what : Role) (b : Base) (levels ps : List (Option Mode)) → Agrees (settled b (otherwise_of what levels) (drop (first_depth what) levels)) ps → holds_private (meant (place_of what) b levels) ≡ true
     → holds_private (top_levels what levels ++ ps) ≡ true
-holds_by role.Global b (top ∷ below) ps h is = holds_kept (settled b None (top ∷ below)) ps h is
-holds_by role.Field b (top ∷ below) ps h is = topped b top top (Some (field_target (top ∷ below))) below ps (λ x same. same) h is
-holds_by role.Local b (top ∷ below) ps h is = topped b top (option_or top (Some Private)) None below ps (or_private top) h is
-holds_by role.Parameter b (top ∷ below) ps h is = topped b top (option_or top (Some Private)) None below ps (or_private top) h is
-holds_by role.Result b (top ∷ below) ps h is = topped b top top None below ps (λ x same. same) h is
-holds_by role.Cast b (top ∷ below) ps h is = topped b top top None below ps (λ x same. same) h is
-holds_by role.Made b (top ∷ below) ps h is = topped b top top None below ps (λ x same. same) h is
+holds_by Role.Global b (top ∷ below) ps h is = holds_kept (settled b None (top ∷ below)) ps h is
+holds_by Role.Field b (top ∷ below) ps h is = topped b top top (Some (field_target (top ∷ below))) below ps (λ x same. same) h is
+holds_by Role.Local b (top ∷ below) ps h is = topped b top (option_or top (Some Private)) None below ps (or_private top) h is
+holds_by Role.Parameter b (top ∷ below) ps h is = topped b top (option_or top (Some Private)) None below ps (or_private top) h is
+holds_by Role.Result b (top ∷ below) ps h is = topped b top top None below ps (λ x same. same) h is
+holds_by Role.Cast b (top ∷ below) ps h is = topped b top top None below ps (λ x same. same) h is
+holds_by Role.Made b (top ∷ below) ps h is = topped b top top None below ps (λ x same. same) h is
 holds_by _ b [] ps h is = absurd (false≢true is)
 
 -- ---- what is reported

@@ -1,11 +1,5 @@
 -- Runs along code: what a run does to its locals is a way through the code, and so is what each call does that it makes.
-use Rattle.std.proofs.Common.{◌≡◌, ◌≢◌, ℕ, ◌<◌, ◌≤◌, Bool, true, false, ◌==◌, List, [], ◌∷◌, ◌++◌, ◌⊎◌, inl, inr, Contains, refl, sym, ap, ◌∙◌, subst, arith, append_assoc, append-nil, length}
-use Rattle.sharc_tree.specs.Tree.{Function}
-use Rattle.sharc_ctype.specs.Resolved.{Resolution, functions_in}
-use Rattle.sharc_dataflow.specs.{Flow.{Act, Reads, Nulls, Writes, To, Next, Ends}, Code.{Code, first_then}}
-use Rattle.sharc_live.specs.Flows.{goes_on, function_flow}
-use Rattle.sharc_meaning.specs.State.{Use, reads, writes, nulls, Traced, State, Out, go, over, Run, then_on, ◌>>=◌, give, ends_temporaries, temporarily, ends_variables, in_block}
-use Rattle.sharc_live_laws.proofs.Ways.{Way, way_cut, way_then, way_leaves, idle_ends, idle_before, idle_behind}
+use Rattle.sharc_live_laws.proofs.{Imports.{◌≡◌, ◌≢◌, ℕ, ◌<◌, ◌≤◌, Bool, true, false, ◌==◌, List, [], ◌∷◌, ◌++◌, ◌⊎◌, inl, inr, Contains, refl, sym, ap, ◌∙◌, subst, arith, append_assoc, append-nil, length, Function, Resolution, functions_in, Act, Reads, Nulls, Writes, To, Next, Ends, Code, first_then, goes_on, function_flow, Use, reads, writes, nulls, Traced, State, Out, go, over, Run, then_on, ◌>>=◌, give, ends_temporaries, temporarily, ends_variables, in_block}, Ways.{Way, way_cut, way_then, way_leaves, idle_ends, idle_before, idle_behind}}
 
 -- ---- what a trace shows of a variable in a call
 

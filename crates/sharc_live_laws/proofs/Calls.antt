@@ -1,16 +1,5 @@
 -- Calls and threads: a call is a frame of its own, with a way through its function.
-use Rattle.std.proofs.{Common.{◌≡◌, ℕ, zero, suc, ◌+◌, ◌<◌, false, ◌==◌, List, [], ◌∷◌, ◌⊎◌, inl, inr, Contains, Option, Some, None, refl, sym, subst, arith}, lemmas.Bool.cases_eq}
-use Rattle.std.specs.Prelude.{ℤ, pos}
-use Rattle.sharc_tree.specs.{declared.token.Site.Site, declared.tree.declaration.Declaration.Declaration, Tree.Function}
-use Rattle.sharc_tree.specs.declared.trap.Trap.TheVariants as traps
-use Rattle.sharc_names.specs.Kinds.{declared_kind}
-use Rattle.sharc_ctype.specs.Resolved.{functions_in, function_at}
-use Rattle.sharc_mode.specs.Moded.{Assignment}
-use Rattle.sharc_dataflow.specs.{Flow.{To, Next, Ends}, Code.Code}
-use Rattle.sharc_live.specs.Flows.{goes_on, parameters_flow, function_flow}
-use Rattle.sharc_meaning.specs.{State.{Frame, Traced, State, Out, go, over, Run, then_on, ◌>>=◌, ◌>>◌, give, entered, in_block, without_temporaries}, Expressions.Calls, Statements.exec_all, Meaning.{parameters_begin, left_at, pointers_passed, with_frame, back_in, in_frame, run_function, call_value, calls, goes_away, run_thread, start, asked_by, asks}}
-use Rattle.sharc_live_laws.proofs.{Ways.{Way, way_goes, way_stays}, Along.{Any, onward, shown, Other, Moved, Reached, Along, along_cut, binds, blocked}, Calm.{idle, calm_give, calm_done, calm_stop, calm_away, Kept, Same}, Locals.begins_along, Places.{entered_along, then_calm}, Values.Runs, Statements.exec_all_along}
-use Rattle.sharc_lemmas.proofs.Lists.{in_list}
+use Rattle.sharc_live_laws.proofs.{Imports.{◌≡◌, ℕ, zero, suc, ◌+◌, ◌<◌, false, ◌==◌, List, [], ◌∷◌, ◌⊎◌, inl, inr, Contains, Option, Some, None, refl, sym, subst, arith, cases_eq, ℤ, pos, Site, Declaration, Function, Trap, declared_kind, functions_in, function_at, Assignment, To, Next, Ends, Code, goes_on, parameters_flow, function_flow, Frame, Traced, State, Out, go, over, Run, then_on, ◌>>=◌, ◌>>◌, give, entered, in_block, without_temporaries, Calls, exec_all, parameters_begin, left_at, pointers_passed, with_frame, back_in, in_frame, run_function, call_value, calls, goes_away, run_thread, start, asked_by, asks, in_list}, Ways.{Way, way_goes, way_stays}, Along.{Any, onward, shown, Other, Moved, Reached, Along, along_cut, binds, blocked}, Calm.{idle, calm_give, calm_done, calm_stop, calm_away, Kept, Same}, Locals.begins_along, Places.{entered_along, then_calm}, Values.Runs, Statements.exec_all_along}
 
 -- what a trace shows of each call is a way through a function
 pub record Told (m : Assignment) (x : ℕ) (trace : List Traced) : Type 0 where
@@ -88,7 +77,7 @@ module _ (m : Assignment) (x : ℕ) where
       call_value_along (Some f) h vs = then_calm m.typed x (function_along f (h f refl) vs) (λ left. calm_give left.1)
 
     calls_along : (n f : ℕ) (site : Site) (vs : List ℤ) → Runs m x goes_on (calls m n f site vs)
-    calls_along zero f site vs = idle m.typed x (calm_stop traps.CallDepth site)
+    calls_along zero f site vs = idle m.typed x (calm_stop Trap.CallDepth site)
     calls_along (suc n) f site vs = call_value_along (calls m n) (calls_along n) (function_at m.typed f) (λ g e. in_list (functions_in m.typed.program.items) f g e) vs
 
     -- ---- a thread

@@ -1,16 +1,7 @@
 -- Runs that do nothing with locals and make no calls.
-use Rattle.std.proofs.Common.{◌≡◌, ℕ, zero, suc, Bool, true, false, cond, List, [], ◌∷◌, refl, ◌∙◌, length}
-use Rattle.std.specs.{Prelude.{ℤ, not, Some, Result, Ok, Err, nat_lt, codes, slice_index_or}, Str.bytes_eq}
-use Rattle.sharc_tree.specs.{declared.event.Act.Act, declared.event.CellMode.TheVariants.{Readonly, Locked}, declared.event.Object.Object, declared.event.Object.TheVariants.Made, declared.token.Site.Site, declared.trap.Trap.Trap}
-use Rattle.sharc_tree.specs.declared.event.Act.TheVariants as events
-use Rattle.sharc_tree.specs.declared.trap.Trap.TheVariants as traps
-use Rattle.sharc_names.specs.Kinds.{Kind}
-use Rattle.sharc_ctype.specs.Resolved.{Resolution}
-use Rattle.sharc_mode.specs.Sharings.{Sharing, locked}
-use Rattle.sharc_meaning.specs.{Cells.{cell_of, Guard, mutex, behind, nothing, guard_of, instance_mode}, Events.{held_mutexes, holds_mutex}, Reference.{NULL, is_null, number_of}, declared.given.GivenUp.GivenUp, declared.given.GivenUp.TheVariants.{Released, Emptied}, State.{State, Out, go, over, Run, then_on, ◌>>=◌, give, done, stop, unless_stop, enters, enters_with, happens, answered, performs, gives_up, drops, holds, holds_reference, moves, moves_on, is_reference, value_of, looks_at, sets, stands}, declared.variable.Variable.Variable, Places.{StorePlace, cell, pointee, based, guarding, access_mode, cast_to, freed}, Waiting.{cell_at_place, moves_base, gives_up_base, lock_call, unlock_call, wait_call, signal_call, broadcast_call, condition_call}, Expressions.resulting, Meaning.goes_away}
-use Rattle.sharc_dataflow.specs.Flow.{Next, Ends}
-use Rattle.sharc_live.specs.Flows.{goes_on}
-use Rattle.sharc_live_laws.proofs.{Ways.{way_goes, way_stays}, Along.{Any, onward, Along, Reached, moved_not}}
+use Rattle.sharc_live_laws.proofs.{Imports.{◌≡◌, ℕ, zero, suc, Bool, true, false, cond, List, [], ◌∷◌, refl, ◌∙◌, length, ℤ, not, Some, Result, Ok, Err, nat_lt, codes, slice_index_or, bytes_eq, Readonly, Locked, Object, Made, Site, Trap, Kind, Resolution, Sharing, locked, cell_of, Guard, mutex, nothing, guard_of, instance_mode, held_mutexes, holds_mutex, NULL, is_null, number_of, GivenUp, Released, Emptied, State, Out, go, over, Run, then_on, ◌>>=◌, give, stop, unless_stop, enters, enters_with, happens, answered, performs, gives_up, drops, holds, holds_reference, moves, moves_on, is_reference, value_of, looks_at, sets, stands, Variable, StorePlace, cell, pointee, based, guarding, access_mode, cast_to, freed, cell_at_place, moves_base, gives_up_base, lock_call, unlock_call, wait_call, signal_call, broadcast_call, condition_call, resulting, goes_away, Next, Ends, goes_on}, Ways.{way_goes, way_stays}, Along.{Any, onward, Along, Reached, moved_not}}
+use Rattle.sharc_tree.specs.declared.event.Act.{Act}
+use Rattle.sharc_meaning.specs.{Cells.behind, State.done}
 
 -- the trace, the number of calls and the frame are what they were
 abbrev pub Same : State → State → Type 0
@@ -110,22 +101,22 @@ calm_resulting site (Err trap) = calm_stop trap site
 -- ---- places
 
 pub calm_based : (site : Site) (kind : Kind) (p : ℤ) → Calm (based site kind p)
-calm_based site kind p = calm_then (calm_holds kind p) (λ v. calm_unless (not (is_null p)) traps.NullPointer site)
+calm_based site kind p = calm_then (calm_holds kind p) (λ v. calm_unless (not (is_null p)) Trap.NullPointer site)
 
 calm_guarding : (site : Site) (g : Guard) → Calm (guarding site g)
 calm_guarding site (mutex c) = calm_give c
-calm_guarding site (behind c) = calm_then (calm_answered site (events.Read c Readonly)) (λ p. calm_then (calm_unless (not (is_null p)) traps.NullPointer site) (λ v. calm_give (cell_of (Made (number_of p)) 0)))
-calm_guarding site nothing = calm_stop traps.NullPointer site
+calm_guarding site (behind c) = calm_then (calm_answered site (Act.Read c Readonly)) (λ p. calm_then (calm_unless (not (is_null p)) Trap.NullPointer site) (λ v. calm_give (cell_of (Made (number_of p)) 0)))
+calm_guarding site nothing = calm_stop Trap.NullPointer site
 
 pub calm_mode : (r : Resolution) (site : Site) (mode : Sharing) (o : Object) (first : ℕ) → Calm (access_mode r site mode o first)
 calm_mode r site (locked l) o first = calm_then (calm_looks value_of) (λ held. calm_then (calm_guarding site (guard_of r held o first l)) (λ c. calm_give (Locked (Some c))))
 calm_mode r site _ o first = calm_give _
 
 pub calm_cast : (r : Resolution) (site : Site) (mode : Sharing) (v : ℤ) → Calm (cast_to r site mode v)
-calm_cast r site mode v = calm_then (calm_holds_reference v) (λ a. calm_then (calm_looks value_of) (λ held. calm_then (calm_performs site (events.Give v (instance_mode r held mode))) (λ b. calm_then (calm_moves_on 1) (λ c. calm_give v))))
+calm_cast r site mode v = calm_then (calm_holds_reference v) (λ a. calm_then (calm_looks value_of) (λ held. calm_then (calm_performs site (Act.Give v (instance_mode r held mode))) (λ b. calm_then (calm_moves_on 1) (λ c. calm_give v))))
 
 pub calm_freed : (site : Site) (v : ℤ) → Calm (freed site v)
-calm_freed site v = calm_then (calm_gives_up (Emptied (number_of v) ∷ [])) (λ a. calm_then (calm_holds_reference v) (λ b. calm_then (calm_performs site (events.Freed v)) (λ c. calm_moves_on 1)))
+calm_freed site v = calm_then (calm_gives_up (Emptied (number_of v) ∷ [])) (λ a. calm_then (calm_holds_reference v) (λ b. calm_then (calm_performs site (Act.Freed v)) (λ c. calm_moves_on 1)))
 
 -- ---- mutexes and condition variables
 
@@ -138,29 +129,29 @@ calm_gives_up_base (cell (Made n) first c) = calm_gives_up (Released n ∷ [])
 calm_gives_up_base _ = calm_done
 
 pub calm_lock : (site : Site) (p : StorePlace) → Calm (lock_call site p)
-calm_lock site p = calm_then (calm_looks (λ s. s.events)) (λ own. calm_then (calm_unless (not (holds_mutex own (cell_at_place p))) traps.MutexAlreadyHeld site) (λ a.
-    calm_then (calm_unless (nat_lt (length (held_mutexes own)) 16) traps.TooManyLocks site) (λ b. calm_then (calm_performs site (events.Lock (cell_at_place p))) (λ c. calm_moves_base p))))
+calm_lock site p = calm_then (calm_looks (λ s. s.events)) (λ own. calm_then (calm_unless (not (holds_mutex own (cell_at_place p))) Trap.MutexAlreadyHeld site) (λ a.
+    calm_then (calm_unless (nat_lt (length (held_mutexes own)) 16) Trap.TooManyLocks site) (λ b. calm_then (calm_performs site (Act.Lock (cell_at_place p))) (λ c. calm_moves_base p))))
 
 pub calm_unlock : (site : Site) (p : StorePlace) → Calm (unlock_call site p)
-calm_unlock site p = calm_then (calm_looks (λ s. s.events)) (λ own. calm_then (calm_unless (holds_mutex own (cell_at_place p)) traps.MutexNotHeld site) (λ a.
-    calm_then (calm_performs site (events.Unlock (cell_at_place p))) (λ b. calm_gives_up_base p)))
+calm_unlock site p = calm_then (calm_looks (λ s. s.events)) (λ own. calm_then (calm_unless (holds_mutex own (cell_at_place p)) Trap.MutexNotHeld site) (λ a.
+    calm_then (calm_performs site (Act.Unlock (cell_at_place p))) (λ b. calm_gives_up_base p)))
 
 calm_wait : (site : Site) (c m : ℤ) → Calm (wait_call site c m)
-calm_wait site c m = calm_then (calm_unless (not (is_null c)) traps.NullPointer site) (λ a. calm_then (calm_unless (not (is_null m)) traps.NullPointer site) (λ b. calm_then (calm_looks (λ s. s.events)) (λ own.
-    calm_then (calm_unless (holds_mutex own (cell_at_place (pointee m))) traps.MutexNotHeld site) (λ d. calm_then (calm_performs site (events.Enter (cell_at_place (pointee c)))) (λ e.
-    calm_then (calm_performs site (events.Unlock (cell_at_place (pointee m)))) (λ f. calm_then (calm_holds_reference m) (λ g. calm_then (calm_performs site (events.Woken (cell_at_place (pointee c)))) (λ h.
-    calm_then (calm_performs site (events.Lock (cell_at_place (pointee m)))) (λ i. calm_moves_on 1)))))))))
+calm_wait site c m = calm_then (calm_unless (not (is_null c)) Trap.NullPointer site) (λ a. calm_then (calm_unless (not (is_null m)) Trap.NullPointer site) (λ b. calm_then (calm_looks (λ s. s.events)) (λ own.
+    calm_then (calm_unless (holds_mutex own (cell_at_place (pointee m))) Trap.MutexNotHeld site) (λ d. calm_then (calm_performs site (Act.Enter (cell_at_place (pointee c)))) (λ e.
+    calm_then (calm_performs site (Act.Unlock (cell_at_place (pointee m)))) (λ f. calm_then (calm_holds_reference m) (λ g. calm_then (calm_performs site (Act.Woken (cell_at_place (pointee c)))) (λ h.
+    calm_then (calm_performs site (Act.Lock (cell_at_place (pointee m)))) (λ i. calm_moves_on 1)))))))))
 
 calm_signal : (site : Site) (c : ℤ) → Calm (signal_call site c)
-calm_signal site c = calm_then (calm_unless (not (is_null c)) traps.NullPointer site) (λ a. calm_then (calm_answered site (events.Signal (cell_at_place (pointee c)))) (λ v. calm_done))
+calm_signal site c = calm_then (calm_unless (not (is_null c)) Trap.NullPointer site) (λ a. calm_then (calm_answered site (Act.Signal (cell_at_place (pointee c)))) (λ v. calm_done))
 
 calm_broadcast : (site : Site) (c : ℤ) → Calm (broadcast_call site c)
-calm_broadcast site c = calm_then (calm_unless (not (is_null c)) traps.NullPointer site) (λ a. calm_performs site (events.Broadcast (cell_at_place (pointee c))))
+calm_broadcast site c = calm_then (calm_unless (not (is_null c)) Trap.NullPointer site) (λ a. calm_performs site (Act.Broadcast (cell_at_place (pointee c))))
 
 pub calm_condition : (site : Site) (name : List ℕ) (vs : List ℤ) → Calm (condition_call site name vs)
 calm_condition site name vs = calm_either (bytes_eq name (codes "wait")) (calm_wait site (slice_index_or vs 0 NULL) (slice_index_or vs 1 NULL))
     (calm_either (bytes_eq name (codes "signal")) (calm_signal site (slice_index_or vs 0 NULL)) (calm_broadcast site (slice_index_or vs 0 NULL)))
 
 pub calm_away : (name site : Site) → Calm (goes_away name site)
-calm_away name site = calm_then (calm_looks (λ s. s.events)) (λ own. calm_then (calm_unless (not (nat_lt 0 (length (held_mutexes own)))) traps.ReturnWithLockHeld site) (λ a.
-    calm_then (calm_performs name events.Return) (λ b. calm_performs name events.Gone)))
+calm_away name site = calm_then (calm_looks (λ s. s.events)) (λ own. calm_then (calm_unless (not (nat_lt 0 (length (held_mutexes own)))) Trap.ReturnWithLockHeld site) (λ a.
+    calm_then (calm_performs name Act.Return) (λ b. calm_performs name Act.Gone)))

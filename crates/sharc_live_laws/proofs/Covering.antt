@@ -1,6 +1,5 @@
 -- Actions that cover others: what stands, shows or hits in these does so in those.
-use Rattle.std.proofs.Common.{ℕ, List, [], ◌∷◌, ◌++◌, ◌⊎◌, inl, inr}
-use Rattle.sharc_dataflow.specs.Flow.{Act, Writes, Spares, Clear, NullingStands, Shows, Hits}
+use Rattle.sharc_live_laws.proofs.Imports.{ℕ, List, [], ◌∷◌, ◌++◌, ◌⊎◌, inl, inr, Act, Writes, Spares, Clear, NullingStands, Shows, Hits}
 
 module _ (x : ℕ) where
   -- ---- what holds of two lists in turn

@@ -1,3 +1,4 @@
+mod Imports
 pub mod Along
 pub mod Calls
 pub mod Calm

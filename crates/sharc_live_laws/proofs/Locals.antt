@@ -1,17 +1,7 @@
 -- What is done at places: where a place is a local, its use is that of the flow.
-use Rattle.std.proofs.{Common.{◌≡◌, ◌≢◌, ℕ, Bool, true, false, ◌==◌, List, [], ◌∷◌, inl, Option, Some, None, refl, sym, ap, ◌∙◌, subst, arith, eq-eqb, ne_eqb, eqb-true, append-nil}, lemmas.Bool.eqb-false}
-use Rattle.std.specs.Prelude.{ℤ}
+use Rattle.sharc_live_laws.proofs.{Imports.{◌≡◌, ◌≢◌, ℕ, Bool, true, false, ◌==◌, List, [], ◌∷◌, inl, Option, Some, None, refl, sym, ap, ◌∙◌, subst, arith, eq-eqb, ne_eqb, eqb-true, append-nil, eqb-false, ℤ, Taken, TakeKind, Site, Declaration, Kind, is_pointer, Resolution, Sharing, Act, Reads, Nulls, Writes, Spares, To, Next, goes, done, through, Code, acts, first_then, goes_on, declares_flow, NULL, is_null, Use, reads, writes, nulls, Run, traces, reads_variable, writes_variable, value_of, new_variable, begins_with, StorePlace, variable, cell, fetched, stored, nulled, taken_from}, Covering.{Covers, covers_same, covers_both, covers_spared, covers_twice}, Ways.{Way, way_goes, way_does, idle_ends, idle_behind}, Along.{act_of, only_if, shown_if, Any, onward, Along, along_as, then_idle, idle_then, shown}, Calm.{Calm, calm_then, idle, calm_give, calm_looks, calm_sets, calm_stands, calm_either, calm_answered, calm_performs, calm_drops, calm_holds, calm_moves, calm_gives_up, calm_done, calm_mode}}
 use Rattle.sharc_tree.specs.declared.event.Act.TheVariants as events
-use Rattle.sharc_tree.specs.declared.event.Taken.TheVariants as taken
-use Rattle.sharc_tree.specs.{declared.event.TakeKind.TakeKind, declared.token.Site.Site, declared.tree.declaration.Declaration.Declaration}
-use Rattle.sharc_names.specs.Kinds.{Kind, is_pointer}
-use Rattle.sharc_ctype.specs.Resolved.{Resolution}
-use Rattle.sharc_mode.specs.Sharings.{Sharing}
-use Rattle.sharc_dataflow.specs.{Flow.{Act, Reads, Nulls, Writes, Spares, To, Next, goes, done, through}, Code.{Code, acts, first_then}}
-use Rattle.sharc_live.specs.Flows.{goes_on, declares_flow}
 use Rattle.sharc_live.specs.Flows as flows
-use Rattle.sharc_meaning.specs.{Reference.{NULL, is_null}, State.{Use, reads, writes, nulls, Run, traces, reads_variable, writes_variable, value_of, new_variable, begins_with}, Places.{StorePlace, variable, cell, fetched, stored, nulled, taken_from}}
-use Rattle.sharc_live_laws.proofs.{Covering.{Covers, covers_same, covers_both, covers_spared, covers_twice}, Ways.{Way, way_goes, way_does, idle_ends, idle_behind}, Along.{act_of, only_if, shown_if, Any, onward, Along, along_as, then_idle, idle_then, shown}, Calm.{Calm, calm_then, idle, calm_give, calm_looks, calm_sets, calm_stands, calm_either, calm_answered, calm_performs, calm_drops, calm_holds, calm_moves, calm_gives_up, calm_done, calm_mode}}
 
 -- the code of a use of the local, if it is one
 abbrev pub use_flow : Use → Option ℕ → ℕ → Code
@@ -120,7 +110,7 @@ module _ (r : Resolution) (x : ℕ) where
       calm_then (calm_performs site _) (λ b. calm_then (calm_moves kind) (λ d. calm_either (is_pointer kind) (calm_gives_up _) calm_done)))))
 
   pub taken_along : (token site : Site) (mode : Sharing) (kind : TakeKind) (p : StorePlace) (o : Option ℕ) → is_at p x ≡ is_named o x → Along r x (flows.nulls o token.token) onward Any (taken_from r token site mode kind p)
-  taken_along token site mode kind (variable y) o e = idle_then r x (idle r x (calm_looks (λ s. value_of s y))) (λ v k. idle_then r x (idle r x (calm_either (is_null v) (calm_give v) (calm_answered site (events.Take (taken.Local y) kind)))) (λ a l.
+  taken_along token site mode kind (variable y) o e = idle_then r x (idle r x (calm_looks (λ s. value_of s y))) (λ v k. idle_then r x (idle r x (calm_either (is_null v) (calm_give v) (calm_answered site (events.Take (Taken.Local y) kind)))) (λ a l.
       then_idle r x (nulls_along token y o e) (λ b n. idle r x (calm_give v))))
   taken_along token site mode kind (cell object first c) o e = along_unnamed nulls o token.token (sym e) (calm_then (calm_mode r site mode object first) (λ under. calm_answered site _))
 

@@ -1,10 +1,5 @@
 -- Loops: each turn goes along the code of a turn, and all of them along that of the loop.
-use Rattle.std.proofs.Common.{◌≡◌, ℕ, zero, suc, ◌<◌, Bool, true, false, cond, List, [], Some, None, refl, ◌∙◌, subst, append-nil}
-use Rattle.sharc_ctype.specs.Resolved.{Resolution}
-use Rattle.sharc_dataflow.specs.{Flow.{Act, To, Next, Broken, Continued, Ends, Leaves}, Code.{Code, goes_to, first_then, one_of, catches, repeats}}
-use Rattle.sharc_live.specs.Flows.{turn_flow}
-use Rattle.sharc_meaning.specs.{State.{State, Out, go, over, Run, Step, then_on, ◌>>=◌, ◌>>◌, give}, Statements.{Flow, next, broken, continued, returned, on_turn, turns, loop}}
-use Rattle.sharc_live_laws.proofs.{Ways.{Way, way_goes, way_then, way_leaves, way_stays, way_one, way_other, way_as_is, way_caught, way_left, way_ended, way_again}, Along.{Any, onward, Moved, Went, Reached, Along, Mix, moved_both, moved_as, moved_not, reached_behind, still_ready}}
+use Rattle.sharc_live_laws.proofs.{Imports.{◌≡◌, ℕ, zero, suc, ◌<◌, Bool, true, false, cond, List, [], Some, None, refl, ◌∙◌, subst, append-nil, Resolution, Act, To, Next, Broken, Continued, Ends, Leaves, Code, goes_to, first_then, one_of, catches, repeats, turn_flow, State, Out, go, over, Run, Step, then_on, ◌>>=◌, ◌>>◌, give, Flow, next, broken, continued, returned, on_turn, turns, loop}, Ways.{Way, way_goes, way_then, way_leaves, way_stays, way_one, way_other, way_as_is, way_caught, way_left, way_ended, way_again}, Along.{Any, onward, Moved, Went, Reached, Along, Mix, moved_both, moved_as, moved_not, reached_behind, still_ready}}
 
 -- the exit of a statement that is left so
 abbrev pub exit_of : Flow → To

@@ -1,16 +1,7 @@
 -- Places: the code that finds one, and the local that it is.
-use Rattle.std.proofs.{Common.{◌≡◌, ℕ, Bool, true, false, cond, ◌==◌, List, [], Option, Some, None, refl, ◌∙◌, subst, append-nil}, lemmas.Bool.both_ways}
-use Rattle.std.specs.Prelude.{ℤ, pos, negsuc, nat_lt}
-use Rattle.sharc_tree.specs.{declared.event.Object.Object, declared.event.Object.TheVariants.{Global, Made}, declared.token.Site.Site, declared.token.Span.Span, declared.tree.expression.FieldOperator.FieldOperator, declared.tree.expression.FieldOperator.TheVariants.{Dot, Arrow}, declared.tree.expression.UnaryOperator.UnaryOperator, declared.tree.expression.UnaryOperator.TheVariants.{Not, Dereference}, declared.trap.Trap.Trap, Tree.{Expression, identifier, constant, parentheses, call, index, field, unary, binary, Function}}
-use Rattle.sharc_tree.specs.declared.trap.Trap.TheVariants as traps
-use Rattle.sharc_names.specs.{declared.fault.Named.Named, Kinds.{Kind, is_array, element_kind, int, long}}
-use Rattle.sharc_names.specs.declared.fault.Named.TheVariants as named
-use Rattle.sharc_ctype.specs.{declared.expr.OperatorClass.OperatorClass, declared.expr.OperatorClass.TheVariants.{Shift, Arithmetic}, Expressions.{class_of, binary_result}, Resolved.{Resolution, named_at, kind_at, global_at, function_at, result_kind_of, called_kind}}
-use Rattle.sharc_dataflow.specs.{Flow.{Act, To, Next, Ends}, Code.{Code, first_then, one_of}}
-use Rattle.sharc_live.specs.Flows.{goes_on, variable_named, variable_of, through, of_base, of_operand, flow, place_flow}
+use Rattle.sharc_live_laws.proofs.{Imports.{◌≡◌, ℕ, Bool, true, false, cond, ◌==◌, List, [], Option, Some, None, refl, ◌∙◌, subst, append-nil, both_ways, ℤ, pos, negsuc, nat_lt, Object, Global, Made, Site, Span, FieldOperator, Dot, Arrow, UnaryOperator, Not, Dereference, Trap, Expression, identifier, constant, parentheses, call, index, field, unary, binary, Function, Named, Kind, is_array, element_kind, int, long, OperatorClass, Shift, Arithmetic, class_of, binary_result, Resolution, named_at, kind_at, global_at, function_at, result_kind_of, called_kind, Act, To, Next, Ends, Code, first_then, one_of, goes_on, variable_named, variable_of, of_base, of_operand, flow, place_flow, element_cells, global_elements, field_place_named, number_of, elements_of, Run, ◌>>=◌, ◌>>◌, give, stop, entered, StorePlace, variable, cell, no_place, place_named, pointee, field_in, based, element, element_of_array, index_place, pointee_place, field_place, unary_place}, Ways.{Way, way_goes, way_stays, way_then, way_leaves, way_one, way_other}, Along.{Any, onward, Along, along_as, moved_not, gives, binds, then_idle, idle_then}, Calm.{Calm, calm_enters, calm_based, idle}, Locals.{is_named, is_at, unseen, way_read_more}}
+use Rattle.sharc_live.specs.Flows.{through}
 use Rattle.sharc_live.specs.Flows as flows
-use Rattle.sharc_meaning.specs.{Cells.{element_cells, global_elements, field_place_named}, Reference.{number_of, elements_of}, State.{Run, ◌>>=◌, ◌>>◌, give, stop, entered}, Places.{StorePlace, variable, cell, no_place, place_named, pointee, field_in, based, element, element_of_array, index_place, pointee_place, field_place, unary_place}}
-use Rattle.sharc_live_laws.proofs.{Ways.{Way, way_goes, way_stays, way_then, way_leaves, way_one, way_other}, Along.{Any, onward, Along, along_as, moved_not, gives, binds, then_idle, idle_then}, Calm.{Calm, calm_enters, calm_based, idle}, Locals.{is_named, is_at, unseen, way_read_more}}
 
 -- ---- what no array is
 
@@ -28,9 +19,9 @@ given_no_array None = refl
 given_no_array (Some f) = refl
 
 called_no_array : (r : Resolution) (n : Named) → is_array (called_kind r n) ≡ false
-called_no_array r (named.Function n) = given_no_array (function_at r n)
-called_no_array r (named.Variable token) = refl
-called_no_array r (named.Field token) = refl
+called_no_array r (Named.Function n) = given_no_array (function_at r n)
+called_no_array r (Named.Variable token) = refl
+called_no_array r (Named.Field token) = refl
 called_no_array r _ = refl
 
 module _ (r : Resolution) (x : ℕ) where
@@ -64,8 +55,8 @@ module _ (r : Resolution) (x : ℕ) where
   gives_place p b h = gives r x goes_on onward (Spot b) p (way_goes x Next) h
 
   element_along : (site : Site) (o : Object) (cells elements : ℕ) (i : ℤ) → Along r x goes_on onward (Spot false) (element site o cells elements i)
-  element_along site o cells elements (pos n) = either_along (nat_lt n elements) (gives_place _ false refl) (stops goes_on onward (Spot false) traps.IndexOutOfBounds site)
-  element_along site o cells elements (negsuc n) = stops goes_on onward (Spot false) traps.IndexOutOfBounds site
+  element_along site o cells elements (pos n) = either_along (nat_lt n elements) (gives_place _ false refl) (stops goes_on onward (Spot false) Trap.IndexOutOfBounds site)
+  element_along site o cells elements (negsuc n) = stops goes_on onward (Spot false) Trap.IndexOutOfBounds site
 
   pub pointee_along : (site : Site) (a : Expression) (pointer : Run ℤ) (c : Code) → Along r x c onward Any pointer → Along r x c onward (Spot false) (pointee_place r site a pointer)
   pointee_along site a pointer c h = then_idle r x h (λ p k. idle_then r x (idle r x (calm_based site (kind_at r a) p)) (λ v l. gives_place (pointee p) false refl))
@@ -128,8 +119,8 @@ module _ (r : Resolution) (x : ℕ) where
         by_kind false e = binds r x hp (λ p k. idle_then r x (idle r x (calm_based site (kind_at r a) p)) (λ v l. then_idle r x hi (λ n q. element_along site (Made (number_of p)) _ (elements_of p) n)))
 
     pub named_along : (n : Named) → Along r x goes_on onward (Spot (is_named (variable_named n) x)) (give (place_named n))
-    named_along (named.Variable token) = gives_place (variable token) (token == x) refl
-    named_along (named.Global n) = gives_place (cell (Global n) 0 0) false refl
+    named_along (Named.Variable token) = gives_place (variable token) (token == x) refl
+    named_along (Named.Global n) = gives_place (cell (Global n) 0 0) false refl
     named_along _ = gives_place no_place false is_local
 
     pub no_place_along : Along r x goes_on onward (Spot false) (give no_place)

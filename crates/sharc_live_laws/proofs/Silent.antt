@@ -1,13 +1,5 @@
 -- No read of a nulled local is without a warning.
-use Rattle.std.proofs.Common.{◌≡◌, ℕ, suc, Bool, true, false, ◌==◌, List, [], ◌∷◌, ◌++◌, inl, inr, refl, sym, ap, ◌∙◌, subst, arith, eq-eqb, ne_eqb, eqb-true}
-use Rattle.std.specs.Prelude.{All}
-use Rattle.sharc_tree.specs.declared.token.Site.{Site}
-use Rattle.sharc_mode.specs.Moded.{Assignment}
-use Rattle.sharc_dataflow.specs.Flow.{Ends, Clear, Shows, Hits}
-use Rattle.sharc_meaning.specs.{Events.events_of, Runs.answers_of, State.{Use, reads, nulls, Traced}, Meaning.asks}
-use Rattle.sharc_live.specs.{Uses.IsUseIn, Flows.function_flow}
-use Rattle.sharc_live_laws.specs.Traces.{traced, Untouched, SilentReadsAreSafe, SilentReadsInRunsAreSafe}
-use Rattle.sharc_live_laws.proofs.{Covering.{shows_second, hits_second}, Ways.inside, Along.{act_of, only_if, shown_if, shown_one, shown, Other}, Calls.{Told, asked_told}}
+use Rattle.sharc_live_laws.proofs.{Imports.{◌≡◌, ℕ, suc, Bool, true, false, ◌==◌, List, [], ◌∷◌, ◌++◌, inl, inr, refl, sym, ap, ◌∙◌, subst, arith, eq-eqb, ne_eqb, eqb-true, All, Site, Assignment, Ends, Clear, Shows, Hits, events_of, answers_of, Use, reads, nulls, Traced, asks, IsUseIn, function_flow, traced, Untouched, SilentReadsAreSafe, SilentReadsInRunsAreSafe}, Covering.{shows_second, hits_second}, Ways.inside, Along.{act_of, only_if, shown_if, shown_one, shown, Other}, Calls.{Told, asked_told}}
 
 module _ (x call : ℕ) where
   -- an entry that leaves the variable as it is

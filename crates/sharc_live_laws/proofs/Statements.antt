@@ -1,16 +1,7 @@
 -- Statements: each goes along its code, and is left by its exit.
-use Rattle.std.proofs.Common.{◌≡◌, ℕ, ◌<◌, false, ◌==◌, List, [], Option, Some, None, refl}
-use Rattle.std.specs.Prelude.{ℤ, pos, unsigned_abs}
-use Rattle.sharc_tree.specs.declared.event.Act.TheVariants as events
-use Rattle.sharc_tree.specs.{declared.token.Site.Site, declared.tree.declaration.Declaration.Declaration, declared.tree.statement.Jump.Jump, declared.tree.statement.Jump.TheVariants.{Break, Continue}, Spans.span_of, Tree.{Expression, Right, value, malloc, Simple, assign, does_call, Local, First, nothing, declares, does, Statement, empty, block, declare, simple, jump, return, if_then, if_then_else, while, for, Statements, no_statements, statement}}
-use Rattle.sharc_tree.specs.declared.trap.Trap.TheVariants as traps
-use Rattle.sharc_names.specs.Kinds.{Kind, declared_kind}
-use Rattle.sharc_ctype.specs.Resolved.{kind_at}
-use Rattle.sharc_mode.specs.{Cells.{cell_at, pointed}, Moded.Assignment, Rows.{written, row_at, declared_row}, Sharings.{Sharing, private}}
-use Rattle.sharc_dataflow.specs.{Flow.{Next, Broken, Continued, Ends}, Code.{Code, goes_to, first_then, catches}}
-use Rattle.sharc_live.specs.Flows.{goes_on, variable_of, flow, of_option, right_flow, simple_flow, declares_flow, local_flow, first_flow, turn_flow, test_flow, jump_flow, statement_flow, statements_flow}
-use Rattle.sharc_meaning.specs.{Cells.{element_cells, instance_mode}, State.{State, Out, go, over, Run, then_on, ◌>>=◌, ◌>>◌, give, done, value_of, begins_with}, Places.variable, Expressions.{Calls, tested, eval}, Statements.{Flow, next, broken, continued, returned, on_next, elements_made, is_positive, right_value, done_simple, initialised, declared, done_first, done_step, done_test, left_by, return_with, exec, exec_all}}
-use Rattle.sharc_live_laws.proofs.{Ways.{way_goes, way_then, way_leaves}, Along.{Any, Reached, Along, moved_as, reached_behind, still_ready, gives, binds, then_idle, scoped, blocked}, Calm.{calm_then, idle, calm_give, calm_done, calm_unless, calm_looks, calm_answered, calm_drops}, Locals.{stored_along, begins_along, begins_alone}, Places.{either_along, one_along, other_along, entered_along, then_calm}, Values.{Runs, tested_along, fitting_along, eval_along, place_along}, Loops.{exit_of, Trying, tries_none, tries_some, loop_along}}
+use Rattle.sharc_live_laws.proofs.{Imports.{◌≡◌, ℕ, ◌<◌, false, ◌==◌, List, [], Option, Some, None, refl, ℤ, pos, unsigned_abs, Site, Declaration, Jump, Break, Continue, span_of, Expression, Right, value, malloc, Simple, assign, does_call, Local, First, declares, does, Statement, empty, block, declare, simple, jump, return, if_then, if_then_else, while, for, Statements, no_statements, statement, Trap, Kind, declared_kind, kind_at, cell_at, pointed, Assignment, written, row_at, declared_row, Sharing, private, Next, Broken, Continued, Ends, Code, goes_to, first_then, catches, goes_on, variable_of, flow, of_option, right_flow, simple_flow, declares_flow, local_flow, first_flow, turn_flow, test_flow, jump_flow, statement_flow, statements_flow, element_cells, instance_mode, State, Out, go, over, Run, then_on, ◌>>=◌, ◌>>◌, give, value_of, begins_with, variable, Calls, tested, eval, Flow, next, broken, continued, returned, on_next, elements_made, is_positive, right_value, done_simple, initialised, declared, done_first, done_step, done_test, left_by, return_with, exec, exec_all}, Ways.{way_goes, way_then, way_leaves}, Along.{Any, Reached, Along, moved_as, reached_behind, still_ready, gives, binds, then_idle, scoped, blocked}, Calm.{calm_then, idle, calm_give, calm_done, calm_unless, calm_looks, calm_answered, calm_drops}, Locals.{stored_along, begins_along, begins_alone}, Places.{either_along, one_along, other_along, entered_along, then_calm}, Values.{Runs, tested_along, fitting_along, eval_along, place_along}, Loops.{exit_of, Trying, tries_none, tries_some, loop_along}}
+use Rattle.sharc_tree.specs.{declared.event.Act.Act, Tree.nothing}
+use Rattle.sharc_meaning.specs.State.{done}
 
 module _ (m : Assignment) (x : ℕ) where
   -- a run that is left by an exit
@@ -52,8 +43,8 @@ module _ (m : Assignment) (x : ℕ) where
 
     right_along : (kind : Kind) (target : Sharing) (y : Right) → Runs m x (right_flow m.typed y) (right_value on_call m kind target y)
     right_along kind target (value e) = fitting_along m x kind e (eval on_call m e) (flow m.typed e) (value_of_along e)
-    right_along kind target (malloc s n w) = entered_along m.typed x (then_calm m.typed x (elements_along n) (λ elements. calm_then (calm_unless (is_positive elements) traps.SizeNotPositive s.first) (λ k.
-        calm_then (calm_looks value_of) (λ held. calm_answered s.first (events.New (element_cells m.typed (declared_kind w)) (unsigned_abs elements) (instance_mode m.typed held target))))))
+    right_along kind target (malloc s n w) = entered_along m.typed x (then_calm m.typed x (elements_along n) (λ elements. calm_then (calm_unless (is_positive elements) Trap.SizeNotPositive s.first) (λ k.
+        calm_then (calm_looks value_of) (λ held. calm_answered s.first (Act.New (element_cells m.typed (declared_kind w)) (unsigned_abs elements) (instance_mode m.typed held target))))))
 
     simple_along : (y : Simple) → Runs m x (simple_flow m.typed y) (done_simple on_call m y)
     simple_along (assign s u y) = scoped m.typed x (binds m.typed x (place_along m x is_local on_call called_quietly (span_of u).first u) (λ p e.

@@ -1,18 +1,8 @@
 -- Expressions: the value of each goes along its code, and so does the place that it names.
-use Rattle.std.proofs.Common.{◌≡◌, ℕ, true, false, ◌==◌, List, [], ◌∷◌, Option, Some, None, refl}
-use Rattle.std.specs.Prelude.{ℤ, pos, not, drop}
-use Rattle.sharc_tree.specs.declared.event.Act.TheVariants as events
-use Rattle.sharc_tree.specs.{declared.event.Object.TheVariants.Global, declared.event.TakeKind.TakeKind, declared.event.TakeKind.TheVariants.{Cast, Free as ToFree}, declared.token.Site.Site, declared.token.Span.Span, declared.tree.expression.BinaryOperator.BinaryOperator, declared.tree.expression.BinaryOperator.TheVariants.{LogicalOr, LogicalAnd}, declared.tree.expression.PlaceCall.PlaceCall, declared.tree.expression.PlaceCall.TheVariants.{Lock, Unlock, Free}, declared.tree.expression.UnaryOperator.UnaryOperator, declared.tree.expression.UnaryOperator.TheVariants.{Negate, Not, Complement, Dereference}, declared.tree.expression.ValueCall.ValueCall, Spans.span_of, Tree.{Expression, identifier, constant, parentheses, call, spawn, on_value, on_place, cast, index, field, unary, binary, Arguments, no_arguments, argument}}
-use Rattle.sharc_tree.specs.declared.trap.Trap.TheVariants as traps
-use Rattle.sharc_names.specs.{declared.fault.Named.Named, Kinds.{Kind, declared_kinds, promoted}}
-use Rattle.sharc_names.specs.declared.fault.Named.TheVariants as named
-use Rattle.sharc_ctype.specs.{Expressions.{class_of, binary_result}, Resolved.{named_at, kind_at}, Transfers.parameters_named}
-use Rattle.sharc_mode.specs.{Cells.{cell_at, pointed}, Moded.Assignment, Rows.cast_row, Sharings.Sharing}
-use Rattle.sharc_dataflow.specs.Code.{Code, first_then}
-use Rattle.sharc_live.specs.Flows.{goes_on, variable_named, variable_of, through, of_operands, of_place_call, of_base, flow, flow_all, place_flow}
+use Rattle.sharc_live_laws.proofs.{Imports.{◌≡◌, ℕ, true, false, ◌==◌, List, [], ◌∷◌, Option, Some, None, refl, ℤ, pos, not, drop, Global, TakeKind, Cast, ToFree, Site, Span, BinaryOperator, LogicalOr, LogicalAnd, PlaceCall, Lock, Unlock, Free, UnaryOperator, Negate, Not, Complement, Dereference, ValueCall, span_of, Expression, identifier, constant, parentheses, call, spawn, on_value, on_place, cast, index, field, unary, binary, Arguments, no_arguments, argument, Trap, Named, Kind, declared_kinds, promoted, class_of, binary_result, named_at, kind_at, parameters_named, cell_at, pointed, Assignment, cast_row, Sharing, Code, first_then, goes_on, variable_named, variable_of, of_operands, of_place_call, of_base, flow, flow_all, place_flow, bits_of, fits, is_zero, truth, operated, negated, complement, is_null, constant_value, Run, ◌>>=◌, temporarily, StorePlace, cell, pointee_place, Calls, tested, operand, fitting, passed, named_value, called, number_named, value_act, resulting, spawned, value_called, taking, place_called, cast_value, place_value, unary_value, binary_value, eval, eval_all, place_of}, Along.{Any, onward, Along, binds, then_idle, scoped}, Calm.{calm_then, idle, calm_give, calm_done, calm_unless, calm_either, calm_answered, calm_performs, calm_drops, calm_holds, calm_moves, calm_resulting, calm_cast, calm_freed, calm_lock, calm_unlock, calm_condition}, Locals.{is_named, reads_along, fetched_along, taken_along}, Places.{Spot, names, either_along, one_along, other_along, entered_along, then_calm, pointee_along, field_along, index_along, named_along, no_place_along, unary_place_along}}
+use Rattle.sharc_tree.specs.declared.event.Act.{Act}
+use Rattle.sharc_live.specs.Flows.{through}
 use Rattle.sharc_live.specs.Flows as flows
-use Rattle.sharc_meaning.specs.{Arithmetic.{bits_of, fits, is_zero, truth, operated, negated, complement}, Reference.{is_null, constant_value}, State.{Run, ◌>>=◌, temporarily}, Places.{StorePlace, cell, pointee_place}, Expressions.{Calls, tested, operand, fitting, passed, named_value, called, number_named, value_act, resulting, spawned, value_called, taking, place_called, cast_value, place_value, unary_value, binary_value, eval, eval_all, place_of}}
-use Rattle.sharc_live_laws.proofs.{Along.{Any, onward, Along, binds, then_idle, scoped}, Calm.{calm_then, idle, calm_give, calm_done, calm_unless, calm_either, calm_answered, calm_performs, calm_drops, calm_holds, calm_moves, calm_resulting, calm_cast, calm_freed, calm_lock, calm_unlock, calm_condition}, Locals.{is_named, reads_along, fetched_along, taken_along}, Places.{Spot, names, either_along, one_along, other_along, entered_along, then_calm, pointee_along, field_along, index_along, named_along, no_place_along, unary_place_along}}
 
 module _ (m : Assignment) (x : ℕ) where
   abbrev pub Runs : {A : Type 0} → Code → Run A → Type 0
@@ -25,20 +15,20 @@ module _ (m : Assignment) (x : ℕ) where
   operand_along a of_a c h = then_calm m.typed x h (λ v. calm_then (calm_holds (kind_at m.typed a) v) (λ k. calm_give v))
 
   pub fitting_along : (kind : Kind) (a : Expression) (of_a : Run ℤ) (c : Code) → Runs c of_a → Runs c (fitting kind a of_a)
-  fitting_along kind a of_a c h = then_calm m.typed x h (λ v. calm_then (calm_unless (fits kind v) traps.OutOfRange (span_of a).first) (λ k. calm_give v))
+  fitting_along kind a of_a c h = then_calm m.typed x h (λ v. calm_then (calm_unless (fits kind v) Trap.OutOfRange (span_of a).first) (λ k. calm_give v))
 
   passed_along : (kinds : List Kind) (a : Expression) (of_a : Run ℤ) (c : Code) → Runs c of_a → Runs c (passed m.typed kinds a of_a)
   passed_along [] a of_a c h = operand_along a of_a c h
   passed_along (kind ∷ rest) a of_a c h = operand_along a (fitting kind a of_a) c (fitting_along kind a of_a c h)
 
   value_along : (mode : Sharing) (site : Site) (n : Named) → Runs (flows.reads (variable_named n) site.token) (named_value m.typed mode site n)
-  value_along mode site (named.Variable token) = reads_along m.typed x site token (Some token) refl
-  value_along mode site (named.Global n) = fetched_along m.typed x site mode (cell (Global n) 0 0) None refl
+  value_along mode site (Named.Variable token) = reads_along m.typed x site token (Some token) refl
+  value_along mode site (Named.Global n) = fetched_along m.typed x site mode (cell (Global n) 0 0) None refl
   value_along mode site _ = idle m.typed x (calm_give (pos 0))
 
   spawned_along : (site : Site) (f : Named) (a : Expression) (of_a : Run ℤ) (c : Code) → Runs c of_a → Runs c (spawned m.typed site f a of_a)
   spawned_along site f a of_a c h = scoped m.typed x (then_calm m.typed x (passed_along (declared_kinds (parameters_named m.typed f)) a of_a c h) (λ v.
-      calm_then (calm_answered site (events.Spawn (number_named f) v)) (λ t. calm_then (calm_moves (kind_at m.typed a)) (λ k. calm_give t))))
+      calm_then (calm_answered site (Act.Spawn (number_named f) v)) (λ t. calm_then (calm_moves (kind_at m.typed a)) (λ k. calm_give t))))
 
   value_called_along : (site : Site) (w : ValueCall) (of_a : Run ℤ) (c : Code) → Runs c of_a → Runs c (value_called site w of_a)
   value_called_along site w of_a c h = then_calm m.typed x h (λ v. calm_then (calm_performs site (value_act w v)) (λ k. calm_give (pos 0)))
@@ -91,8 +81,8 @@ module _ (m : Assignment) (x : ℕ) where
 
   module _ (is_local : (0 == x) ≡ false) (on_call : Calls) (called_quietly : (f : ℕ) (site : Site) (vs : List ℤ) → Runs goes_on (on_call f site vs)) where
     called_along : (site : Site) (n : Named) (name : List ℕ) (vs : List ℤ) → Runs goes_on (called on_call site n name vs)
-    called_along site (named.Function f) name vs = called_quietly f site vs
-    called_along site named.Known name vs = idle m.typed x (calm_then (calm_condition site name vs) (λ k. calm_give (pos 0)))
+    called_along site (Named.Function f) name vs = called_quietly f site vs
+    called_along site Named.Known name vs = idle m.typed x (calm_then (calm_condition site name vs) (λ k. calm_give (pos 0)))
     called_along site _ name vs = idle m.typed x (calm_give (pos 0))
 
     mutual

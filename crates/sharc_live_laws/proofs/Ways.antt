@@ -1,8 +1,5 @@
 -- Ways through code: paths from its start whose actions cover those that were seen.
-use Rattle.std.proofs.Common.{◌≡◌, ℕ, List, [], ◌∷◌, ◌++◌, inl, inr, refl, sym, subst, append-nil}
-use Rattle.sharc_dataflow.specs.{Flow.{Act, From, Start, Inside, To, Next, Broken, Continued, Ends, Piece, Leaves, Goes, goes, before, Does, done, ended, before as not_yet, Then, through, leaves, behind, Either, Caught, on, as_is, Loop, left, ended as loop_ended, again}, Code.{Code, goes_to, acts, first_then, one_of, catches, repeats, paths}}
-use Rattle.sharc_live.specs.Flows.{goes_on}
-use Rattle.sharc_live_laws.proofs.Covering.{Covers, covers_same, covers_both}
+use Rattle.sharc_live_laws.proofs.{Imports.{◌≡◌, ℕ, List, [], ◌∷◌, ◌++◌, inl, inr, refl, sym, subst, append-nil, Act, From, Start, Inside, To, Next, Broken, Continued, Ends, Piece, Leaves, Goes, goes, before, Does, done, ended, before as not_yet, Then, through, leaves, behind, Either, Caught, on, as_is, Loop, left, ended as loop_ended, again, Code, goes_to, acts, first_then, one_of, catches, repeats, paths, goes_on}, Covering.{Covers, covers_same, covers_both}}
 
 -- ---- paths of code
 

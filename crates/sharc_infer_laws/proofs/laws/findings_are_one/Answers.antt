@@ -1,5 +1,4 @@
-use Rattle.sharc_graph.specs.Findings.{finding_at}
-use Rattle.sharc_infer_laws.proofs.Findings.{one_finding}
+use Rattle.sharc_infer_laws.proofs.{Imports.finding_at, Findings.one_finding}
 use Rattle.sharc_infer_laws.proofs.laws.findings_are_one.Goals as goal
 
 pub returns : goal.returns

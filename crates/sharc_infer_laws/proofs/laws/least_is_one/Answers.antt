@@ -1,5 +1,4 @@
-use Rattle.std.proofs.Common.{refl, sym}
-use Rattle.sharc_infer_laws.proofs.Least.{same_assignments}
+use Rattle.sharc_infer_laws.proofs.{Imports.{refl, sym}, Least.same_assignments}
 use Rattle.sharc_infer_laws.proofs.laws.least_is_one.Goals as goal
 
 pub returns : goal.returns
