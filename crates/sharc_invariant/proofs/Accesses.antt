@@ -1,15 +1,6 @@
 -- Loads and stores of cells, from the real words up.
-use Rattle.std.proofs.{Common.{◌≡◌, ℕ, ℤ, pos, negsuc, suc, ◌+◌, ◌-◌, ◌^◌, ◌<◌, Bool, true, false, List, Some, None, refl, sym, ap, ◌∙◌, subst, arith, ltb-true}, lemmas.Bool.Decides.nat_tests, lemmas.List.{length-set, set-get_or}}
-use mathlib.Core.Path.{fun_ext}
-use Rattle.std.specs.Prelude.{length, slice_index, slice_set, nat_lt}
-use Rattle.sharc_word.specs.declared.step.WordOp.TheVariants.{Load, Swap}
-use Rattle.sharc_code.specs.{declared.code.Code.Code, declared.instr.Cell.Cell, declared.instr.Width.Width, declared.instr.Width.TheVariants.{Char, Int, Long}, declared.instr.Instr.Instr, declared.shape.Shape.Shape, declared.state.At.At, declared.state.Frame.Frame, Arithmetic.{word_of, int_of, holds, value_bits}, Layout.{Fits, first_cell}, Machine.{Own as Own', Machine, next, Asks, step_of, instr_at, int, word, goes, accessed, set_int}, Path.{may_go, turn}, Runs.{Turn, Global, put, MayTurn, after_turn}, Whole.{one_thread, bounds}}
-use Rattle.sharc_code.specs.declared.instr.Cell.TheVariants as cells
-use Rattle.sharc_code.proofs.Places.{put_same, put_other}
-use Rattle.sharc_heap.specs.Accesses.{ListsNoted}
-use Rattle.sharc_locks.specs.declared.held_log.HeldMutex.{HeldMutex}
-use Rattle.sharc_invariant.specs.{Types.{Targets, Field, field_in, is_mutex, is_pointer}, Types.Content.Integer, Labels.{Within, Gate, Closed, Checked, Holds, Loaded, HoldsLoaded, Sole as SoleGate, Label, Labels, LessGate, Leads, gated, set_number}, Typed.{IsNotSole, IsWellTyped, HasCell, IsInt, Accesses as IsAccess}, World.{RegisterOf, Cell as CellOf, World, Window, Shut, Sole, Loaded as IsLoaded, WinOk, Right, base_of, in_ref, set_win}, Blocks.{Built, InBlock}, Words.{lang_of, conc_of, Shows, register_of, FitsContent, cell_at, is_ended, has_returned}, Turns.made_turn, Cells.IsThere, Effect.{Silent, Effect, Accesses}, State.{State, View, view_of, TopStands, FramesStand, GateStands, size_of_run, base_of_cell, object_of_cell, number_in}, Objects.changes_objects}
-use Rattle.sharc_invariant.proofs.{Effects.set_win_ok, Quiet.{KeepsOwn, KeepsWords, heap_now, quiet_state, noted_same, conc_plain, put_self}, Turns.{asks_turn, room_of}, Own.{is_single, int_inside, runs, rests, top, gate, fine, not_begun, begun_before, runs_at}, Frames.less_stands, Plain.{register_plain, going, same_words, number_top, vals_below, view_set}, Stores.{index_put, cell_store, stored_words, stored_within}, Seen.integer_stored, Cells.cell_there, CheckTurns.sim_win, Rights.right, Others.loses}
+use Rattle.sharc_invariant.proofs.{Imports.{◌≡◌, ℕ, ℤ, pos, negsuc, suc, ◌+◌, ◌-◌, ◌^◌, ◌<◌, Bool, true, false, List, Some, None, refl, sym, ap, ◌∙◌, subst, arith, ltb-true, nat_tests, length-set, set-get_or, fun_ext, length, slice_index, slice_set, nat_lt, Load, Swap, Code, Cell, Width, Char, Int, Long, Instr, Shape, At, Frame, word_of, int_of, holds, value_bits, Fits, first_cell, Own as Own', Machine, next, Asks, step_of, instr_at, int, word, goes, accessed, set_int, may_go, turn, Turn, Global, put, MayTurn, after_turn, one_thread, bounds, put_same, put_other, ListsNoted, HeldMutex, Targets, Field, field_in, is_mutex, is_pointer, Integer, Within, Gate, Closed, Checked, Holds, Loaded, HoldsLoaded, SoleGate, Label, Labels, LessGate, Leads, gated, set_number, IsNotSole, IsWellTyped, HasCell, IsInt, IsAccess, RegisterOf, CellOf, World, Window, Shut, Sole, IsLoaded, WinOk, Right, base_of, in_ref, set_win, Built, InBlock, lang_of, conc_of, Shows, register_of, FitsContent, cell_at, is_ended, has_returned, made_turn, IsThere, Silent, Effect, State, View, view_of, TopStands, FramesStand, GateStands, size_of_run, base_of_cell, object_of_cell, number_in, changes_objects}, Effects.set_win_ok, Quiet.{KeepsOwn, KeepsWords, heap_now, quiet_state, noted_same, conc_plain, put_self}, Turns.{asks_turn, room_of}, Own.{is_single, int_inside, runs, rests, top, gate, fine, not_begun, begun_before, runs_at}, Frames.less_stands, Plain.{register_plain, going, same_words, number_top, vals_below, view_set}, Stores.{index_put, cell_store, stored_words, stored_within}, Seen.integer_stored, Cells.cell_there, CheckTurns.sim_win, Rights.right, Others.loses}
+use Rattle.sharc_invariant.specs.Effect.{Accesses}
 
 abbrev sign_of : Bool → ℤ → ℤ → ℤ
 sign_of true a b = a
@@ -253,7 +244,7 @@ module _ (x : Targets) (code : Code) (s : Shape) (ls : Labels) (wt : IsWellTyped
       below_pending found = elim here.function as (λ f. FramesStand x code ls tr.thread view (g.threads tr.thread) f → FramesStand x code ls tr.thread view (goes (record (g.threads tr.thread) { pending = found })) f) [ None ↦ λ h. h | Some f ↦ λ h. h ] below_here
 
       loaded_window : (found : ℕ) (c : Cell) → GateStands s (set_win world tr.thread (IsLoaded (base_of_cell (g.threads tr.thread) c) (number_in (g.threads tr.thread) c) found)) tr.thread (goes (record (g.threads tr.thread) { pending = found })) (Loaded c)
-      loaded_window found (cells.Global a b) = put_same world.win t (IsLoaded (base_of_cell m (cells.Global a b)) (number_in m (cells.Global a b)) found)
-      loaded_window found (cells.GlobalAt a b) = put_same world.win t (IsLoaded (base_of_cell m (cells.GlobalAt a b)) (number_in m (cells.GlobalAt a b)) found)
-      loaded_window found (cells.Object a b) = put_same world.win t (IsLoaded (base_of_cell m (cells.Object a b)) (number_in m (cells.Object a b)) found)
-      loaded_window found (cells.ObjectAt a b) = put_same world.win t (IsLoaded (base_of_cell m (cells.ObjectAt a b)) (number_in m (cells.ObjectAt a b)) found)
+      loaded_window found (Cell.Global a b) = put_same world.win t (IsLoaded (base_of_cell m (Cell.Global a b)) (number_in m (Cell.Global a b)) found)
+      loaded_window found (Cell.GlobalAt a b) = put_same world.win t (IsLoaded (base_of_cell m (Cell.GlobalAt a b)) (number_in m (Cell.GlobalAt a b)) found)
+      loaded_window found (Cell.Object a b) = put_same world.win t (IsLoaded (base_of_cell m (Cell.Object a b)) (number_in m (Cell.Object a b)) found)
+      loaded_window found (Cell.ObjectAt a b) = put_same world.win t (IsLoaded (base_of_cell m (Cell.ObjectAt a b)) (number_in m (Cell.ObjectAt a b)) found)

@@ -1,10 +1,5 @@
 -- A thread that is begun and has made no turn stands at the first place.
-use Rattle.std.proofs.{Common.{◌≡◌, ℕ, pos, ◌+◌, ◌*◌, true, false, refl, sym, ap, ◌∙◌, subst, arith}, lemmas.List.length-replicate}
-use Rattle.std.specs.Prelude.{slice_index}
-use Rattle.sharc_heap.specs.Notes.{blank}
-use Rattle.sharc_code.specs.{declared.state.TheConstants.FRAMES, declared.code.Code.Code, declared.shape.Shape.Shape, Layout.granules, Machine.{Machine, no_frame}, Path.{begun, may_go, most_refs, most_ints}, Runs.Global}
-use Rattle.sharc_invariant.specs.{Types.Targets, Labels.{Empty, Anything, Labels}, Typed.{IsWellTyped, refs_in, ints_in}, World.{World, RegisterOf, Shut, in_ref}, Blocks.Heap, State.{State, View, view_of, EntryStands, NumberStands, TopStands, FramesStand, GateStands, Runs, IsThread, ThreadStands, refs_at, types_at}}
-use Rattle.sharc_invariant.proofs.{Own.runs_at, Plain.register_plain, Opened.{nth_replicate, no_passes, no_note}}
+use Rattle.sharc_invariant.proofs.{Imports.{◌≡◌, ℕ, pos, ◌+◌, ◌*◌, true, false, refl, sym, ap, ◌∙◌, subst, arith, length-replicate, slice_index, blank, FRAMES, Code, Shape, granules, Machine, no_frame, begun, may_go, most_refs, most_ints, Global, Targets, Empty, Anything, Labels, IsWellTyped, refs_in, ints_in, World, RegisterOf, Shut, in_ref, Heap, State, View, view_of, EntryStands, NumberStands, TopStands, FramesStand, GateStands, Runs, IsThread, ThreadStands, refs_at, types_at}, Own.runs_at, Plain.register_plain, Opened.{nth_replicate, no_passes, no_note}}
 
 module _ (x : Targets) (code : Code) (s : Shape) (ls : Labels) (wt : IsWellTyped x code ls) where
   begun_top : (t : ℕ) (v : View) → ((r : ℕ) → v.refs r ≡ 0) → TopStands x t v 0 0 (λ n. pos 0) (ls.at 0)

@@ -1,15 +1,5 @@
 -- The turns of a New before its last: the world stays, and a word of the thread's own block or the top may change.
-use Rattle.std.proofs.{Common.{◌≡◌, ℕ, zero, suc, ◌+◌, ◌^◌, ◌<◌, ◌≤◌, ◌≢◌, Bool, true, false, cond, List, Option, None, Some, refl, sym, ap, ◌∙◌, subst, ⊎_elim, arith}, lemmas.Bool.cases_order, lemmas.List.length-set}
-use mathlib.Core.Path.{fun_ext}
-use Rattle.std.specs.Prelude.{length, slice_index, slice_set, ◌==◌}
-use Rattle.sharc_word.specs.declared.step.TheConstants.{THREADS}
-use Rattle.sharc_heap.specs.{Accesses.note_of, ShadowWord.epoch_of, declared.shadow_word.Kind.Kind, declared.shadow_word.Kind.TheVariants.{Read, Write}}
-use Rattle.sharc_code.specs.{declared.code.Code.Code, declared.shape.Shape.Shape, declared.state.TurnState.{TurnState as StateOf}, declared.state.TurnState.TheVariants.{Runs as RunsOn, Tries, Stopped, Ended}, declared.state.Stop.Stop, declared.state.Stage.Stage, declared.state.Stage.TheVariants.{Rests, Makes, Lowers, Links, Names, Hands, Begins, Withdraws, WithdrawsFrom, Leaves}, Layout.{Fits as FitsShape, granules, top_word}, Machine.{Machine, instr_at}, Path.{may_go, counted}, Runs.{Turn, Global, put, MayTurn}, Whole.{one_thread, bounds}}
-use Rattle.sharc_code.specs.declared.instr.Instr.TheVariants as instrs
-use Rattle.sharc_code.proofs.Places.{put_other, put_all}
-use Rattle.sharc_invariant.specs.{Granules.sum_to, Types.Targets, Labels.{Label, Labels}, Typed.{Fine, IsWellTyped}, World.{World, Shut}, Blocks.{Heap, Kept, Built, InBlock, IsListed}, Words.{conc_of, Shows, head_of, is_ended, has_withdrawn, note_number, noted_by, register_of, staged_of}, Turns.{made_turn, KeepsOthers}, State.{StopStands, State, Runs, View, view_of, StageStands, SpawnsNow, FramesStand, GateStands, HeapStands, TopStands, label_now}}
-use Rattle.sharc_invariant.proofs.{Listed.{store_ok, within_block, in_use}, Others.{OnHold, loses}, Quiet.{heap_now, put_self, sum_up, label_held, freed_held, locks_same}, Changes.{KeepsPart, KeepsLower, conc_now, changed_state}, Stores.{index_put, arena}, Heaps.{apart_stored, built_size, block_word, low_block, built_dead}}
-use Rattle.sharc_lemmas.proofs.Numbers.{ne_eq}
+use Rattle.sharc_invariant.proofs.{Imports.{◌≡◌, ℕ, zero, suc, ◌+◌, ◌^◌, ◌<◌, ◌≤◌, ◌≢◌, Bool, true, false, cond, List, Option, None, Some, refl, sym, ap, ◌∙◌, subst, ⊎_elim, arith, cases_order, length-set, fun_ext, length, slice_index, slice_set, ◌==◌, THREADS, note_of, epoch_of, Kind, Read, Write, Code, Shape, StateOf, RunsOn, Tries, Stopped, Ended, Stop, Stage, Rests, Makes, Lowers, Links, Names, Hands, Begins, Withdraws, WithdrawsFrom, Leaves, Fits as FitsShape, granules, top_word, Machine, instr_at, may_go, counted, Turn, Global, put, MayTurn, one_thread, bounds, Instr, put_other, put_all, sum_to, Targets, Label, Labels, Fine, IsWellTyped, World, Shut, Heap, Kept, Built, InBlock, IsListed, conc_of, Shows, head_of, is_ended, has_withdrawn, note_number, noted_by, register_of, staged_of, made_turn, KeepsOthers, StopStands, State, Runs, View, view_of, StageStands, SpawnsNow, FramesStand, GateStands, HeapStands, TopStands, label_now, ne_eq}, Listed.{store_ok, within_block, in_use}, Others.{OnHold, loses}, Quiet.{heap_now, put_self, sum_up, label_held, freed_held, locks_same}, Changes.{KeepsPart, KeepsLower, conc_now, changed_state}, Stores.{index_put, arena}, Heaps.{apart_stored, built_size, block_word, low_block, built_dead}}
 
 abbrev pub IsMaking : Stage → Type 0
 IsMaking Rests = Unit {0}
@@ -37,7 +27,7 @@ making_withdrawn Leaves h order b p = absurd h
 making_withdrawn _ h order b p = refl
 
 module _ (x : Targets) (code : Code) (s : Shape) (ls : Labels) (wt : IsWellTyped x code ls) (fits : FitsShape code s) (g : Global Machine) (world : World) (st : State x code s ls g world) (tr : Turn)
-    (may : MayTurn bounds (one_thread code s) g tr) (r count cells site : ℕ) (is : instr_at code (g.threads tr.thread).at.pc ≡ instrs.New r count cells site) (making : IsMaking (g.threads tr.thread).own.stage) where
+    (may : MayTurn bounds (one_thread code s) g tr) (r count cells site : ℕ) (is : instr_at code (g.threads tr.thread).at.pc ≡ Instr.New r count cells site) (making : IsMaking (g.threads tr.thread).own.stage) where
   abbrev t : ℕ
   t = tr.thread
 
@@ -47,13 +37,13 @@ module _ (x : Targets) (code : Code) (s : Shape) (ls : Labels) (wt : IsWellTyped
   abbrev pub here : Label
   here = ls.at (g.threads tr.thread).at.pc
 
-  pub new_fine : Fine x code ls (g.threads tr.thread).at.pc here (instrs.New r count cells site)
+  pub new_fine : Fine x code ls (g.threads tr.thread).at.pc here (Instr.New r count cells site)
   new_fine = subst (Fine x code ls m.at.pc here) is (wt.fine m.at.pc)
 
   pub in_function : here.function ≢ None
   in_function e = ⊎_elim
-      (λ (z : m.at.pc ≡ 0). let q : instrs.New r count cells site ≡ instrs.Start wt.begin.0 = sym is ∙ ap (instr_at code) z ∙ wt.begin.1 in cc)
-      (λ z. let q : instrs.New r count cells site ≡ instrs.Exit = sym is ∙ z in cc)
+      (λ (z : m.at.pc ≡ 0). let q : Instr.New r count cells site ≡ Instr.Start wt.begin.0 = sym is ∙ ap (instr_at code) z ∙ wt.begin.1 in cc)
+      (λ z. let q : Instr.New r count cells site ≡ Instr.Exit = sym is ∙ z in cc)
       (wt.placed m.at.pc e)
 
   pub new_begun : (pc : ℕ) → (ls.at pc).function ≡ here.function → (pc == 0) ≡ false
@@ -74,7 +64,7 @@ module _ (x : Targets) (code : Code) (s : Shape) (ls : Labels) (wt : IsWellTyped
   pub new_shut : world.win tr.thread ≡ Shut
   new_shut = subst (GateStands s world t m) new_fine.0 (subst (λ (l : Label). GateStands s world t m l.gate) now_here rn.gate)
 
-  pub new_stage : StageStands code s st.elements world st.heap g.words tr.thread (g.threads tr.thread) (instrs.New r count cells site) (g.threads tr.thread).own.stage
+  pub new_stage : StageStands code s st.elements world st.heap g.words tr.thread (g.threads tr.thread) (Instr.New r count cells site) (g.threads tr.thread).own.stage
   new_stage = subst (λ i. StageStands code s st.elements world st.heap g.words t m i m.own.stage) is rn.stage
 
   pub new_on : tr.thread < THREADS
@@ -130,7 +120,7 @@ module _ (x : Targets) (code : Code) (s : Shape) (ls : Labels) (wt : IsWellTyped
 
     pub builds_state : (heap' : Heap) → KeepsOthers s world world st.heap heap' g.words words tr.thread → HeapStands s st.cells now world.obj heap'
         → Shows x s st.cells st.elements (record (conc_of code g) { words = λ j. slice_index words j }) world → ((i : ℕ) → i < granules s → slice_index words (97 + i) ≡ slice_index g.words (97 + i))
-        → (may_go q ≡ true → StageStands code s st.elements world heap' words tr.thread (with_stage q y z) (instrs.New r count cells site) y) → g.made tr.thread + counted q ≤ 100000000
+        → (may_go q ≡ true → StageStands code s st.elements world heap' words tr.thread (with_stage q y z) (Instr.New r count cells site) y) → g.made tr.thread + counted q ≤ 100000000
         → State x code s ls now world
     builds_state heap' others stands sim same stage few =
         let hl = label_held here (instr_at code m.at.pc) y (making_hold y making') in
@@ -204,7 +194,7 @@ module _ (x : Targets) (code : Code) (s : Shape) (ls : Labels) (wt : IsWellTyped
 
     -- it stays where it was, at the next stage
     pub own_state : (y : Stage) → IsMaking y → ((n : ℕ) → head_of (with_stage RunsOn y (g.threads tr.thread).own.stop) n ≡ head_of (g.threads tr.thread) n)
-        → StageStands code s st.elements world (heap_now st.heap stored) stored tr.thread (with_stage RunsOn y (g.threads tr.thread).own.stop) (instrs.New r count cells site) y → g.made tr.thread + 1 ≤ 100000000
+        → StageStands code s st.elements world (heap_now st.heap stored) stored tr.thread (with_stage RunsOn y (g.threads tr.thread).own.stop) (Instr.New r count cells site) y → g.made tr.thread + 1 ≤ 100000000
         → State x code s ls (made_turn g tr.thread stored (with_stage RunsOn y (g.threads tr.thread).own.stop)) world
     own_state y my heads stage few =
         let h = st.heap_stands in

@@ -1,12 +1,7 @@
 -- A call keeps the invariant: the callee's frame stands above the caller's.
-use Rattle.std.proofs.{Common.{◌≡◌, ℕ, ℤ, zero, suc, ◌+◌, ◌^◌, ◌<◌, ◌≤◌, Bool, true, false, cond, ◌&&◌, List, [], ◌∷◌, Some, None, refl, sym, ap, ◌∙◌, subst, inl, inr, ⊎_elim, arith, ltb-true}, lemmas.Bool.Decides.nat_tests, lemmas.List.{length-set, get_or-set_same, get_or-set_other}}
-use Rattle.std.specs.Prelude.{length, filter, map, nat_lt, slice_set, ◌==◌}
+use Rattle.sharc_invariant.proofs.{Imports.{◌≡◌, ℕ, ℤ, zero, suc, ◌+◌, ◌^◌, ◌<◌, ◌≤◌, Bool, true, false, cond, ◌&&◌, List, [], ◌∷◌, Some, None, refl, sym, ap, ◌∙◌, subst, inl, inr, ⊎_elim, arith, ltb-true, nat_tests, length-set, get_or-set_same, get_or-set_other, length, filter, map, nat_lt, slice_set, ◌==◌, FRAMES, Code, Shape, Frame, RunsOn, Trap, Fits, Machine, Local, instr_at, has_room, stopped, no_frame, turn, counted, Turn, Global, MayTurn, one_thread, bounds, Instr, Targets, ObjectType, Lock, mutex_of, Entry, Empty, Refers, Unknown, Number, Anything, Exactly, Within, Indexes, OfElement, OfGlobal, Closed, Pass, IsIn, Label, Labels, Leads, Less, HasBase, IsWellTyped, Calls, Passes, PassesLock, called_label, entry_label, below, below_number, below_pass, World, Silently, made_turn, State, View, view_of, frame_at, EntryStands, NumberStands, FrameStands, TopStands, StartStands, CallerStands, BelowStands, FramesStand, GateStands, refs_at, types_at, Turned, ne_eq}, Frames.{map_same, at_cell, with_locks, same_ref, less_number, number_kept, less_stands}, Quiet.heap_now, Turns.{local_turn, room_of}, Own.{runs, rests, top, fine, begun_before, closed_less, runs_at}, Plain.{is_shut, going, plain_state, stop_state}}
 use Rattle.sharc_tree.specs.declared.trap.Trap.TheVariants as traps
-use Rattle.sharc_code.specs.{declared.state.TheConstants.FRAMES, declared.code.Code.Code, declared.shape.Shape.Shape, declared.state.Frame.Frame, declared.state.TurnState.TheVariants.{Runs as RunsOn}, declared.state.Stop.TheVariants.Trap, Layout.Fits, Machine.{Machine, Local, instr_at, has_room, stopped, no_frame}, Path.{turn, counted}, Runs.{Turn, Global, MayTurn}, Whole.{one_thread, bounds}}
-use Rattle.sharc_code.specs.declared.instr.Instr.TheVariants as instrs
-use Rattle.sharc_invariant.specs.{Types.{Targets, ObjectType, Lock, Global as OfGlobals, Through, Self, mutex_of}, Labels.{Entry, Empty, Refers, Unknown, Number, Anything, Exactly, Within, Indexes, OfElement, OfGlobal, Closed, Pass, IsIn, Label, Labels, Leads, Less, HasBase}, Typed.{IsWellTyped, Calls, Passes, PassesLock, called_label, entry_label, below, below_number, below_pass}, World.World, Effect.Silently, Turns.made_turn, State.{State, View, view_of, frame_at, EntryStands, NumberStands, FrameStands, TopStands, StartStands, CallerStands, BelowStands, FramesStand, GateStands, refs_at, types_at}, Laws.Turned}
-use Rattle.sharc_invariant.proofs.{Frames.{map_same, at_cell, with_locks, same_ref, less_number, number_kept, less_stands}, Quiet.heap_now, Turns.{local_turn, room_of}, Own.{runs, rests, top, fine, begun_before, closed_less, runs_at}, Plain.{is_shut, going, plain_state, stop_state}}
-use Rattle.sharc_lemmas.proofs.Numbers.{ne_eq}
+use Rattle.sharc_invariant.specs.Types.{Global as OfGlobals, Through, Self}
 
 -- ---- the caller's frame
 pub below_at : {A : Type 0} (k : ℕ) (f : ℕ → A) (a b : A) (r : ℕ) → r < k → below k f a b r ≡ f r
@@ -113,7 +108,7 @@ module _ (x : Targets) (code : Code) (s : Shape) (ls : Labels) (wt : IsWellTyped
   both false b h = absurd (cc)
 
   -- the frames with the caller's on top
-  stacked : (to ints refs site f : ℕ) → instr_at code (g.threads tr.thread).at.pc ≡ instrs.Call to ints refs site → Calls code ls here to ints refs f → Leads ls ((g.threads tr.thread).at.pc + 1) (called_label ls here f ints refs)
+  stacked : (to ints refs site f : ℕ) → instr_at code (g.threads tr.thread).at.pc ≡ Instr.Call to ints refs site → Calls code ls here to ints refs f → Leads ls ((g.threads tr.thread).at.pc + 1) (called_label ls here f ints refs)
       → (names : ℕ → ℤ) → TopStands x tr.thread view (g.threads tr.thread).at.refs (g.threads tr.thread).at.ints names here → (caller : ℕ) → here.function ≡ Some caller → (d : ℕ) → (g.threads tr.thread).at.depth ≡ d → d < length (g.threads tr.thread).frames
       → BelowStands x code ls tr.thread view (g.threads tr.thread).frames d (g.threads tr.thread).at.refs (g.threads tr.thread).at.ints caller → ((ls.signature caller).alone ≡ true → tr.thread ≡ 0)
       → BelowStands x code ls tr.thread view (slice_set (g.threads tr.thread).frames d record { pc = (g.threads tr.thread).at.pc + 1; ints = (g.threads tr.thread).at.ints; refs = (g.threads tr.thread).at.refs }) (suc d) ((g.threads tr.thread).at.refs + refs) ((g.threads tr.thread).at.ints + ints) f
@@ -142,9 +137,9 @@ module _ (x : Targets) (code : Code) (s : Shape) (ls : Labels) (wt : IsWellTyped
       } in
       (caller, subst (λ y. CallerStands x code ls t view y (m.at.refs + refs) (m.at.ints + ints) f caller) at c, subst (λ (y : Frame). BelowStands x code ls t view frames (suc d) y.refs y.ints caller) at rest)
 
-  pub Call_keeps : (to ints refs site : ℕ) → instr_at code (g.threads tr.thread).at.pc ≡ instrs.Call to ints refs site → Turned x code s ls g world tr
+  pub Call_keeps : (to ints refs site : ℕ) → instr_at code (g.threads tr.thread).at.pc ≡ Instr.Call to ints refs site → Turned x code s ls g world tr
   Call_keeps to ints refs site is =
-      let i = instrs.Call to ints refs site in
+      let i = Instr.Call to ints refs site in
       let on = may.started in
       let go = may.next.runs in
       let fi = fine x code s ls wt g world st t on go i is refl in

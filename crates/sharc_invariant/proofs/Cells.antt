@@ -1,10 +1,6 @@
 -- The cells that instructions name are there.
-use Rattle.std.proofs.{Common.{◌≡◌, ℕ, ℤ, pos, suc, ◌+◌, ◌-◌, ◌*◌, ◌%◌, ◌<◌, ◌≤◌, ◌≢◌, true, false, cond, refl, sym, ap, ◌∙◌, subst, ⊎_elim, arith}, lemmas.Bool.cases_eq, lemmas.Bool.Decides.nat_tests, Math.Nat.{mul-le-mul_right, suc-mul}, lemmas.Nat.mod-mul-add}
-use Rattle.std.specs.Prelude.{length, nat_lt, ◌==◌}
-use Rattle.sharc_code.specs.{declared.code.Code.Code, declared.instr.Cell.Cell, declared.shape.Shape.Shape, Arithmetic.word_of, Layout.{Fits, words_of, first_cell, cell_word, word_at, cell_of}, Machine.{Machine, place, word, ref, int}, Runs.Global}
-use Rattle.sharc_code.specs.declared.instr.Cell.TheVariants as cells
-use Rattle.sharc_invariant.specs.{Types.{Targets, ObjectType, StaticType, Field, field_in, field_at, field_of_cell, global_field, cells_of}, Labels.{Refers, OfElement, OfGlobal, Label, Labels}, Typed.{IsWellTyped, HasCell, IsInGlobal}, World.{ObjectState, RegisterOf, In, World, Based, base_of, in_ref}, Words.cell_at, State.{State, View, view_of, EntryStands, NumberStands, TopStands, refs_at, types_at, base_of_cell, object_of_cell, number_in}, Cells.IsThere}
-use Rattle.sharc_lemmas.proofs.Numbers.{ne_eq, eq_refl}
+use Rattle.sharc_invariant.proofs.Imports.{◌≡◌, ℕ, ℤ, pos, suc, ◌+◌, ◌-◌, ◌*◌, ◌%◌, ◌<◌, ◌≤◌, ◌≢◌, true, false, cond, refl, sym, ap, ◌∙◌, subst, ⊎_elim, arith, cases_eq, nat_tests, mul-le-mul_right, suc-mul, mod-mul-add, length, nat_lt, ◌==◌, Code, Cell, Shape, word_of, Fits, words_of, first_cell, cell_word, word_at, cell_of, Machine, word, ref, int, Global, Targets, ObjectType, StaticType, Field, field_in, field_at, field_of_cell, global_field, cells_of, Refers, OfElement, OfGlobal, Label, Labels, IsWellTyped, HasCell, IsInGlobal, ObjectState, RegisterOf, In, World, Based, base_of, in_ref, cell_at, State, View, view_of, EntryStands, NumberStands, TopStands, refs_at, types_at, base_of_cell, object_of_cell, number_in, IsThere, ne_eq, eq_refl}
+use Rattle.sharc_code.specs.Machine.{place}
 
 module _ (x : Targets) (code : Code) (s : Shape) (ls : Labels) (wt : IsWellTyped x code ls) (fits : Fits code s) (g : Global Machine) (world : World) (st : State x code s ls g world) (t : ℕ) (m : Machine) (names : ℕ → ℤ) (l : Label)
     (top : TopStands x t (view_of st.elements world t m) m.at.refs m.at.ints names l) (reads : (r : ℕ) → ref m r ≡ in_ref world (RegisterOf t (m.at.refs + r))) where
@@ -73,24 +69,24 @@ module _ (x : Targets) (code : Code) (s : Shape) (ls : Labels) (wt : IsWellTyped
       )
 
   pub cell_there : (c : Cell) (f : Field) → HasCell x code l c f → IsThere x s st.cells world t m c f
-  cell_there (cells.Global h p) f k =
+  cell_there (Cell.Global h p) f k =
       let a = in_globals h p k.field.0 in
-      there (cells.Global h p) 0 (p - 2) f refl a.2 global_live.0 a.1 (field_zero (p - 2) ∙ sym k.field.1) global_live refl
-  cell_there (cells.GlobalAt h i) f k =
+      there (Cell.Global h p) 0 (p - 2) f refl a.2 global_live.0 a.1 (field_zero (p - 2) ∙ sym k.field.1) global_live refl
+  cell_there (Cell.GlobalAt h i) f k =
       let q = k.field in
       let nm : NumberStands x st.elements (refs_at view m.at.refs) (types_at view m.at.refs) names (int m i) (OfGlobal q.0 q.1 q.2 q.3) = subst (NumberStands x st.elements (refs_at view m.at.refs) (types_at view m.at.refs) names (int m i)) q.4 ((top 0 (suc i)).numbers i (omega arith)) in
       let p = q.0 + nm.0 * q.1 in
       let inside = q.5 nm.0 nm.1 in
       let a = in_globals h p inside.0 in
-      let pl : place m (cells.GlobalAt h i) ≡ p = ap word_of nm.2 in
-      there (cells.GlobalAt h i) 0 (p - 2) f refl (pl ∙ a.2) global_live.0 a.1 (field_zero (p - 2) ∙ sym inside.1) global_live refl
-  cell_there (cells.Object r i) f k =
+      let pl : place m (Cell.GlobalAt h i) ≡ p = ap word_of nm.2 in
+      there (Cell.GlobalAt h i) 0 (p - 2) f refl (pl ∙ a.2) global_live.0 a.1 (field_zero (p - 2) ∙ sym inside.1) global_live refl
+  cell_there (Cell.Object r i) f k =
       let q = k.field.1 in
       let a = object_at r q.0 q.1 k.base in
       let whole = st.whole (ref m r) a.0 a.1 in
       let b = in_object r i q.0 0 i q.1 k.base q.2 whole.0 (omega arith) in
-      there (cells.Object r i) (ref m r) i f refl refl b.0 b.1 (b.2 ∙ sym q.3) (λ z. a.0 (reads r ∙ z)) (sym (reads r))
-  cell_there (cells.ObjectAt r i) f k =
+      there (Cell.Object r i) (ref m r) i f refl refl b.0 b.1 (b.2 ∙ sym q.3) (λ z. a.0 (reads r ∙ z)) (sym (reads r))
+  cell_there (Cell.ObjectAt r i) f k =
       let q = k.field.1 in
       let ty = q.0 in
       let field = q.1 in
@@ -101,4 +97,4 @@ module _ (x : Targets) (code : Code) (s : Shape) (ls : Labels) (wt : IsWellTyped
       let j = n * cells_of x ty.target + field in
       let b = in_object r j ty n field q.3 k.base q.5 ln refl in
       let pl : word_of (int m i) ≡ j = ap word_of nm.2 ∙ ap (λ y. word_of (pos (n * cells_of x y + field))) a.3 in
-      there (cells.ObjectAt r i) (ref m r) j f refl (ap (cell_of (ref m r)) pl) b.0 b.1 (b.2 ∙ sym q.6) (λ z. a.0 (reads r ∙ z)) (sym (reads r))
+      there (Cell.ObjectAt r i) (ref m r) j f refl (ap (cell_of (ref m r)) pl) b.0 b.1 (b.2 ∙ sym q.6) (λ z. a.0 (reads r ∙ z)) (sym (reads r))

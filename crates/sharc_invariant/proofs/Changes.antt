@@ -1,14 +1,5 @@
 -- A turn that changes an object, a block or what the thread is in the middle of: what it leaves of the invariant is the same for all.
-use Rattle.std.proofs.{Common.{◌≡◌, ℕ, ◌+◌, ◌*◌, ◌^◌, ◌<◌, ◌≤◌, ◌≢◌, ◌||◌, ◌&&◌, Bool, true, false, cond, List, Option, Some, None, refl, sym, ap, ◌∙◌, subst, inl, inr, ⊎_elim, arith, ltb-true}, lemmas.Bool.cases_eq}
-use mathlib.Core.Path.{fun_ext}
-use Rattle.std.specs.Prelude.{length, slice_index, nat_eq, nat_lt, ◌==◌}
-use Rattle.sharc_word.specs.declared.step.TheConstants.{THREADS}
-use Rattle.sharc_locks.specs.{declared.held_log.HeldMutex.HeldMutex, HeldLog.{IsHeldLog, object_of}}
-use Rattle.sharc_heap.specs.{declared.shadow_word.Kind.TheVariants.{Read, Write}, declared.shadow_word.Kind.Kind, Accesses.ListsNoted, ShadowWord.epoch_of}
-use Rattle.sharc_code.specs.{declared.code.Code.Code, declared.shape.Shape.Shape, declared.instr.Instr.Instr, declared.state.Stage.Stage, declared.state.Stage.TheVariants.{Rests, Looks, Clears, Makes, Empties, Lowers, FreeLooks, FreeClears, Uncounts, Links, Names, Hands, Begins, Enters, Withdraws, WithdrawsFrom, Leaves, Wakes}, Layout.{next_thread_word, state_word, function_word, argument_word, granules}, Machine.{Machine, data_granules, reference_of, function_of, instr_at, ref}, Path.{may_go, counted}, Runs.{Global, put, is_started}, Whole.bounds}
-use Rattle.sharc_code.proofs.Places.{put_same, put_other, put_all}
-use Rattle.sharc_invariant.specs.{Granules.sum_to, Types.{Targets, cells_of}, Labels.{Gate, Closed, Checked, Holds, Loaded, HoldsLoaded, Sole as SoleGate, Label, Labels}, Typed.IsWellTyped, World.{RegisterOf, ArgumentOf, In, TypedReference, Sole, World, in_ref, WorldInvariant}, Blocks.Heap, Words.{is_first, if_reference, conc_of, Shows, Apart, register_of, argument_of, is_unread, staged_of, noted_by, logged, lang_of}, Turns.{made_turn, made_conc, KeepsOthers}, State.{StopStands, State, View, view_of, HeapStands, Locks, Threads, ThreadStands, IsThread, Runs, SpawnsNow, EntryStands, FramesStand, GateStands, label_now, size_of_run, StageStands}}
-use Rattle.sharc_invariant.proofs.{Frames.{Agrees, Always, top_agrees, callers_agree}, Others.{stop_kept, stage_kept, operand, OnHold, map_clear, map_free}, Quiet.{firsts_stay, reserves_kept, sole_gate, label_held, freed_held}}
+use Rattle.sharc_invariant.proofs.{Imports.{◌≡◌, ℕ, ◌+◌, ◌*◌, ◌^◌, ◌<◌, ◌≤◌, ◌≢◌, ◌||◌, ◌&&◌, Bool, true, false, cond, List, Option, Some, None, refl, sym, ap, ◌∙◌, subst, inl, inr, ⊎_elim, arith, ltb-true, cases_eq, fun_ext, length, slice_index, nat_eq, nat_lt, ◌==◌, THREADS, HeldMutex, IsHeldLog, object_of, Read, Write, Kind, ListsNoted, epoch_of, Code, Shape, Instr, Stage, Rests, Looks, Clears, Makes, Empties, Lowers, FreeLooks, FreeClears, Uncounts, Links, Names, Hands, Begins, Enters, Withdraws, WithdrawsFrom, Leaves, Wakes, next_thread_word, state_word, function_word, argument_word, granules, Machine, data_granules, reference_of, function_of, instr_at, ref, may_go, counted, Global, put, is_started, bounds, put_same, put_other, put_all, sum_to, Targets, cells_of, Gate, Closed, Checked, Holds, Loaded, HoldsLoaded, SoleGate, Label, Labels, IsWellTyped, RegisterOf, ArgumentOf, In, TypedReference, Sole, World, in_ref, WorldInvariant, Heap, is_first, if_reference, conc_of, Shows, Apart, register_of, argument_of, is_unread, staged_of, noted_by, logged, lang_of, made_turn, made_conc, KeepsOthers, StopStands, State, View, view_of, HeapStands, Locks, Threads, ThreadStands, IsThread, Runs, SpawnsNow, EntryStands, FramesStand, GateStands, label_now, size_of_run, StageStands}, Frames.{Agrees, Always, top_agrees, callers_agree}, Others.{stop_kept, stage_kept, operand, OnHold, map_clear, map_free}, Quiet.{firsts_stay, reserves_kept, sole_gate, label_held, freed_held}}
 
 -- what the thread of the turn keeps for itself
 pub record KeepsPart (m m' : Machine) : Type 0 where

@@ -1,14 +1,6 @@
 -- The turn of a check, from the real words up: it passes, or it is refused.
-use Rattle.std.proofs.{Common.{◌≡◌, ℕ, ℤ, suc, ◌+◌, ◌*◌, ◌/◌, ◌^◌, ◌<◌, ◌⊎◌, ◌≢◌, Bool, true, false, cond, List, refl, sym, ap, ◌∙◌, subst, inl, inr, ⊎_elim, arith}, lemmas.Bool.cases_eq, lemmas.Bool.Decides.nat_tests}
-use mathlib.Core.Path.{fun_ext}
-use Rattle.std.specs.Prelude.{length, slice_index, slice_set, nat_lt, bit_or, is_some, if◌then◌else◌}
-use Rattle.sharc_word.specs.{declared.step.TheConstants.THREADS, declared.step.WordOp.TheVariants.Or}
-use Rattle.sharc_heap.specs.{declared.shadow_word.Kind.Kind, declared.shadow_word.Kind.TheVariants.{Read, Write}, Accesses.{Accesses, note_of, site_at}, ShadowWord.{epoch_of, is_write}, Functions.{bits_of, conflicts_in, noted}, ShadowLaws.ShadowLaws}
-use Rattle.sharc_code.specs.{declared.code.Code.Code, declared.instr.Cell.Cell, declared.instr.Instr.Instr, declared.shape.Shape.Shape, declared.state.Stage.TheVariants.Rests, declared.state.Stop.TheVariants.Conflict, Layout.{Fits, granules, granule_at, granule_of}, Machine.{Own as Own', Machine, Asks, instr_at, place, check, checked, wrote, with_note, with_own, stopped, step_of}, Path.{may_go, turn}, Runs.{Turn, Global, put, MayTurn, after_turn}, Whole.{one_thread, bounds}}
-use Rattle.sharc_code.proofs.Places.{put_same, put_other, put_all}
-use Rattle.sharc_invariant.specs.{Granules.{GranuleState, Passed, Clean, marked, passed}, Types.{Targets, Field, FieldMode, CellMode, mode_at, mode_in}, Labels.{Closed, Label, Labels}, Typed.{IsWellTyped, HasCell}, World.{TypedReference, RegisterOf, In, Slot, Cell as CellOf, World, Window, Shut, May, Sole, base_of, in_ref, put2, set_gran, set_win, WorldInvariant}, Words.{lang_of, MachineView, conc_of, Shows, register_of, noted_by, note_number, is_ended, has_withdrawn, Reads}, Turns.{made_turn, made_conc, KeepsOthers}, Cells.IsThere, State.{StopStands, Runs, State, size_of_run, base_of_cell, object_of_cell, number_in}}
-use Rattle.sharc_invariant.proofs.{Effects.{put2_all, base_other, sole_at, refuse_ok, pass_ok, set_win_ok, keeps_passed}, Quiet.{KeepsOwn, KeepsWords, heap_now, quiet_state, noted_same, conc_plain, put_self}, Turns.{asks_turn, room_of}, Own.{is_single, runs, rests, top, begun_before}, Plain.{register_plain, is_shut, going}, Stores.{index_put, shadow_store, stored_words, stored_within}, Seen.{shadow_stored, put2_off}, Cells.cell_there, Checks.{marked_reads, passed_reads, clean_check, noted_numbers, noted_table, same_kind, other_put}, Others.loses}
-use Rattle.sharc_lemmas.proofs.Numbers.{ne_eq}
+use Rattle.sharc_invariant.proofs.{Imports.{◌≡◌, ℕ, ℤ, suc, ◌+◌, ◌*◌, ◌/◌, ◌^◌, ◌<◌, ◌⊎◌, ◌≢◌, Bool, true, false, cond, List, refl, sym, ap, ◌∙◌, subst, inl, inr, ⊎_elim, arith, cases_eq, nat_tests, fun_ext, length, slice_index, slice_set, nat_lt, bit_or, is_some, if◌then◌else◌, THREADS, Or, Kind, Read, Write, Accesses, note_of, site_at, epoch_of, is_write, bits_of, conflicts_in, noted, ShadowLaws, Code, Cell, Instr, Shape, Rests, Conflict, Fits, granules, granule_at, granule_of, Own as Own', Machine, Asks, instr_at, check, checked, wrote, with_note, with_own, stopped, step_of, may_go, turn, Turn, Global, put, MayTurn, after_turn, one_thread, bounds, put_same, put_other, put_all, GranuleState, Passed, Clean, marked, passed, Targets, Field, FieldMode, CellMode, mode_at, mode_in, Closed, Label, Labels, IsWellTyped, HasCell, TypedReference, RegisterOf, In, Slot, CellOf, World, Window, Shut, May, Sole, base_of, in_ref, put2, set_gran, set_win, WorldInvariant, lang_of, MachineView, conc_of, Shows, register_of, noted_by, note_number, is_ended, has_withdrawn, Reads, made_turn, made_conc, KeepsOthers, IsThere, StopStands, Runs, State, size_of_run, base_of_cell, object_of_cell, number_in, ne_eq}, Effects.{put2_all, base_other, sole_at, refuse_ok, pass_ok, set_win_ok, keeps_passed}, Quiet.{KeepsOwn, KeepsWords, heap_now, quiet_state, noted_same, conc_plain, put_self}, Turns.{asks_turn, room_of}, Own.{is_single, runs, rests, top, begun_before}, Plain.{register_plain, is_shut, going}, Stores.{index_put, shadow_store, stored_words, stored_within}, Seen.{shadow_stored, put2_off}, Cells.cell_there, Checks.{marked_reads, passed_reads, clean_check, noted_numbers, noted_table, same_kind, other_put}, Others.loses}
+use Rattle.sharc_code.specs.Machine.{place}
 
 pub put_put : {A : Type 0} (f : ℕ → A) (t : ℕ) (a b : A) → put (put f t a) t b ≡ put f t b
 put_put f t a b = fun_ext (λ u. ⊎_elim (λ (e : u ≡ t). ap (put (put f t a) t b) e ∙ put_same (put f t a) t b ∙ sym (ap (put f t b) e ∙ put_same f t b)) (λ (ne : u ≡ t → ⊥). put_other (put f t a) t u b ne ∙ put_other f t u a ne ∙ sym (put_other f t u b ne)) (cases_eq u t))

@@ -1,12 +1,6 @@
 -- The checks of accesses keep the invariant.
-use Rattle.std.proofs.Common.{◌≡◌, ℕ, ℤ, suc, ◌+◌, ◌/◌, ◌<◌, ◌⊎◌, Bool, true, false, cond, List, ◌∷◌, Some, None, refl, sym, ap, ◌∙◌, subst, inl, inr, ⊎_elim}
-use Rattle.std.specs.Prelude.{length, slice_index, is_some}
-use Rattle.sharc_heap.specs.{declared.shadow_word.Kind.Kind, Accesses.{Accesses, note_of, site_at}, ShadowWord.{epoch_of, is_write}, Functions.{conflicts_in, noted}, ShadowLaws.ShadowLaws}
-use Rattle.sharc_code.specs.{declared.code.Code.Code, declared.instr.Cell.Cell, declared.instr.Instr.Instr, declared.shape.Shape.Shape, declared.state.Stage.TheVariants.Rests, Layout.{Fits, granule_of}, Machine.{Own as Own', Machine, instr_at, place, check, wrote, with_note, with_own, ref}, Path.turn, Runs.{Turn, Global, put, MayTurn}, Whole.{one_thread, bounds}}
-use Rattle.sharc_code.specs.declared.instr.Cell.TheVariants as cells
-use Rattle.sharc_code.proofs.Places.{put_same, put_other}
-use Rattle.sharc_invariant.specs.{Granules.{GranuleState, Passed, marked, passed}, Types.{Targets, Field, FieldMode}, Labels.{Gate, Closed, Checked, Holds, Loaded, HoldsLoaded, Sole as SoleGate, Pass, Label, Labels, Leads, LessGate, gated}, Typed.{IsWellTyped, HasCell, IsPlace, LeadsChecked}, World.{World, Window, Shut, May, RegisterOf, in_ref, put2, set_gran, set_win}, Effect.{Silent, Silently}, Turns.made_turn, State.{Runs, State, View, view_of, TopStands, FramesStand, PassStands, GateStands, base_of_cell, object_of_cell, number_in, refs_at}, Laws.Turned}
-use Rattle.sharc_invariant.proofs.{Effects.put2_all, Frames.{Agrees, Always, Low, top_agrees, callers_agree, less_stands}, Quiet.heap_now, Own.{is_single, runs, rests, top, gate, runs_at}, Plain.{is_shut, register_plain}, CheckTurns.{refused, passes_state, all_kept}, Rights.pass_at}
+use Rattle.sharc_invariant.proofs.{Imports.{◌≡◌, ℕ, ℤ, suc, ◌+◌, ◌/◌, ◌<◌, ◌⊎◌, Bool, true, false, cond, List, ◌∷◌, Some, None, refl, sym, ap, ◌∙◌, subst, inl, inr, ⊎_elim, length, slice_index, is_some, Kind, Accesses, note_of, site_at, epoch_of, is_write, conflicts_in, noted, ShadowLaws, Code, Cell, Instr, Shape, Rests, Fits, granule_of, Own as Own', Machine, instr_at, check, wrote, with_note, with_own, ref, turn, Turn, Global, put, MayTurn, one_thread, bounds, put_same, put_other, GranuleState, Passed, marked, passed, Targets, Field, FieldMode, Gate, Closed, Checked, Holds, Loaded, HoldsLoaded, SoleGate, Pass, Label, Labels, Leads, LessGate, gated, IsWellTyped, HasCell, IsPlace, LeadsChecked, World, Window, Shut, May, RegisterOf, in_ref, put2, set_gran, set_win, Silent, Silently, made_turn, Runs, State, View, view_of, TopStands, FramesStand, PassStands, GateStands, base_of_cell, object_of_cell, number_in, refs_at, Turned}, Effects.put2_all, Frames.{Agrees, Always, Low, top_agrees, callers_agree, less_stands}, Quiet.heap_now, Own.{is_single, runs, rests, top, gate, runs_at}, Plain.{is_shut, register_plain}, CheckTurns.{refused, passes_state, all_kept}, Rights.pass_at}
+use Rattle.sharc_code.specs.Machine.{place}
 
 put2_same : {A : Type 0} (f : ℕ → ℕ → A) (o i : ℕ) (v : A) → put2 f o i v o i ≡ v
 put2_same f o i v = ap (λ g. g i) (put_same f o (put (f o) i v)) ∙ put_same (f o) i v
@@ -130,10 +124,10 @@ module _ (x : Targets) (code : Code) (s : Shape) (ls : Labels) (wt : IsWellTyped
   never r q = let z : Shut ≡ Window.Sole r = sym shut ∙ q in cc
 
   same_window : (c : Cell) (w : World) (e : w.win tr.thread ≡ May (is_write kind) (base_of_cell (g.threads tr.thread) c) (number_in (g.threads tr.thread) c)) → GateStands s w tr.thread m' (Checked (is_write kind) c)
-  same_window (cells.Global a b) w e = e
-  same_window (cells.GlobalAt a b) w e = e
-  same_window (cells.Object a b) w e = e
-  same_window (cells.ObjectAt a b) w e = e
+  same_window (Cell.Global a b) w e = e
+  same_window (Cell.GlobalAt a b) w e = e
+  same_window (Cell.Object a b) w e = e
+  same_window (Cell.ObjectAt a b) w e = e
 
   passes_with : conflicts_in found tr.thread kind (wrote (g.threads tr.thread) p found) ≡ false → (k : Label) → Leads ls ((g.threads tr.thread).at.pc + 1) k → k.function ≡ here.function → k.room ≡ here.room → k.gate ≡ Checked (is_write kind) c
       → TopStands x tr.thread view' (g.threads tr.thread).at.refs (g.threads tr.thread).at.ints names k → Turned x code s ls g world tr

@@ -1,12 +1,6 @@
 -- The checks of reads and writes: one that passes, and one that is refused.
-use Rattle.std.proofs.{Common.{◌≡◌, ℕ, zero, suc, ◌<◌, ◌≢◌, ◌||◌, ◌&&◌, not, Bool, true, false, cond, List, [], ◌∷◌, Option, Some, None, refl, sym, ap, ◌∙◌, subst, inl, inr, ⊎_elim, arith, eqb-true}, lemmas.Bool.cases_eq, lemmas.Bool.Decides.nat_tests, lemmas.List.{get_or-set_same, get_or-set_other, length-set}, lemmas.List.Elements.{Contains-append_left, Contains-append_right, Contains-get_or}, lemmas.List.Quantifiers.all_pairs_push}
-use Rattle.std.specs.Prelude.{length, slice_index_or, slice_set, nat_eq, is_some, bit_or, ◌++◌, Contains, if◌then◌else◌}
-use Rattle.sharc_word.specs.declared.step.TheConstants.{THREADS}
-use Rattle.sharc_heap.specs.{declared.shadow_word.Kind.Kind, declared.shadow_word.Kind.TheVariants.{Read, Write}, declared.access_table.Note.Note, declared.access_table.GranuleNotes.GranuleNotes, Notes.{blank, has_note, with_note, of_kind}, Accesses.{Accesses, ListsNoted, is_noted, note_of, site_at}, ShadowWord.{epoch_of, is_written, stands, is_write, is_of, HasOther}, Functions.{bits_of, conflicts_in, lowest_other, noted}, ShadowLaws.ShadowLaws}
-use Rattle.sharc_code.specs.{Machine.{Own, Machine, wrote, with_note as with_note_of}, Runs.put}
-use Rattle.sharc_code.proofs.Places.{put_same, put_other, put_all}
-use Rattle.sharc_invariant.specs.{Granules.{GranuleState, Alone, Clean, marked, passed}, Words.{Reads, note_number}}
-use Rattle.sharc_lemmas.proofs.Numbers.{eq_refl}
+use Rattle.sharc_invariant.proofs.Imports.{◌≡◌, ℕ, zero, suc, ◌<◌, ◌≢◌, ◌||◌, ◌&&◌, not, Bool, true, false, cond, List, [], ◌∷◌, Option, Some, None, refl, sym, ap, ◌∙◌, subst, inl, inr, ⊎_elim, arith, eqb-true, cases_eq, nat_tests, get_or-set_same, get_or-set_other, length-set, Contains-append_left, Contains-append_right, Contains-get_or, all_pairs_push, length, slice_index_or, slice_set, nat_eq, is_some, bit_or, ◌++◌, Contains, if◌then◌else◌, THREADS, Kind, Read, Write, Note, GranuleNotes, blank, has_note, of_kind, Accesses, ListsNoted, is_noted, note_of, site_at, epoch_of, is_written, stands, is_write, is_of, HasOther, bits_of, conflicts_in, lowest_other, noted, ShadowLaws, Own, Machine, wrote, with_note as with_note_of, put, put_same, put_other, put_all, GranuleState, Alone, Clean, marked, passed, Reads, note_number, eq_refl}
+use Rattle.sharc_heap.specs.Notes.{with_note}
 
 -- ---- one granule
 -- the word behind a refused check

@@ -1,15 +1,5 @@
 -- Clear keeps the invariant: it loads how many elements there are, and for each granule its shadow word, and swaps it.
-use Rattle.std.proofs.{Common.{◌≡◌, ℕ, suc, ◌+◌, ◌*◌, ◌<◌, ◌≤◌, ◌≢◌, true, false, cond, List, None, refl, sym, ap, ◌∙◌, subst, ⊎_elim, arith, ltb-true}, lemmas.Bool.cases_eq, lemmas.Bool.Decides.nat_tests, lemmas.List.set-get_or}
-use mathlib.Core.Path.{fun_ext}
-use Rattle.std.specs.Prelude.{length, slice_index, slice_set, nat_lt, ◌==◌}
-use Rattle.sharc_word.specs.{declared.step.TheConstants.THREADS, declared.step.WordOp.TheVariants.{Load, Swap}}
-use Rattle.sharc_heap.specs.{ShadowLaws.ShadowLaws, ShadowWord.epoch_of, Functions.cleared_of}
-use Rattle.sharc_code.specs.{declared.code.Code.Code, declared.shape.Shape.Shape, declared.state.Stage.Stage, declared.state.Stage.TheVariants.{Rests, Looks, Clears}, Layout.{granules, granule_at, first_cell, length_word, shadow_word}, Machine.{Machine, step_of, instr_at, ref, looks, clear, data_granules, data_granule, at_stage, act, rests}, Path.{turn, counted}, Runs.{Turn, Global, put, MayTurn, after_turn}, Whole.{one_thread, bounds}}
-use Rattle.sharc_code.specs.declared.instr.Instr.TheVariants as instrs
-use Rattle.sharc_code.proofs.Places.{put_same, put_all}
-use Rattle.sharc_invariant.specs.{Granules.{Passed, cleared, sum_to}, Types.{Targets, ObjectType, cells_of}, Labels.{Label, Labels}, Typed.{Fine, IsWellTyped}, World.{RegisterOf, In, World, Sole, put2, set_gran}, Blocks.{Built, InBlock}, Words.{lang_of, conc_of, Shows, length_at, shadow_at, staged_of}, Turns.made_turn, Effect.{Silently, Clears as ClearsOf}, State.{State, view_of, EntryStands, GateStands, StageStands, AreCleared, refs_at, types_at, size_of_run}, Laws.Turned}
-use Rattle.sharc_invariant.proofs.{Effects.clear_ok, Plain.same_words, Quiet.{heap_now, label_held}, Changes.KeepsLow, Walks.{IsWalk, walk_hold}, Turns.{asks_turn, room_of}, Stores.{index_put, shadow_store, stored_within}, Seen.{shadow_stored, put2_off}, Clears.{in_cells, sum_more, epochs_low, cleared_small, cleared_reads, part_words, clear_cases, object, walk_top, walk_reads, some, live, stays_on, goes_on}}
-use Rattle.sharc_lemmas.proofs.Numbers.{ne_eq}
+use Rattle.sharc_invariant.proofs.{Imports.{◌≡◌, ℕ, suc, ◌+◌, ◌*◌, ◌<◌, ◌≤◌, ◌≢◌, true, false, cond, List, None, refl, sym, ap, ◌∙◌, subst, ⊎_elim, arith, ltb-true, cases_eq, nat_tests, set-get_or, fun_ext, length, slice_index, slice_set, nat_lt, ◌==◌, THREADS, Load, Swap, ShadowLaws, epoch_of, cleared_of, Code, Shape, Stage, Rests, Looks, Clears, granules, granule_at, first_cell, length_word, shadow_word, Machine, step_of, instr_at, ref, looks, clear, data_granules, data_granule, at_stage, act, rests, turn, counted, Turn, Global, put, MayTurn, after_turn, one_thread, bounds, Instr, put_same, put_all, Passed, cleared, sum_to, Targets, ObjectType, cells_of, Label, Labels, Fine, IsWellTyped, RegisterOf, In, World, Sole, put2, set_gran, Built, InBlock, lang_of, conc_of, Shows, length_at, shadow_at, staged_of, made_turn, Silently, ClearsOf, State, view_of, EntryStands, GateStands, StageStands, AreCleared, refs_at, types_at, size_of_run, Turned, ne_eq}, Effects.clear_ok, Plain.same_words, Quiet.{heap_now, label_held}, Changes.KeepsLow, Walks.{IsWalk, walk_hold}, Turns.{asks_turn, room_of}, Stores.{index_put, shadow_store, stored_within}, Seen.{shadow_stored, put2_off}, Clears.{in_cells, sum_more, epochs_low, cleared_small, cleared_reads, part_words, clear_cases, object, walk_top, walk_reads, some, live, stays_on, goes_on}}
 
 -- ---- what stands of a granule behind its clear
 pub cleared_more : (w : World) (o done : ℕ) → ((u : ℕ) → (w.gran o done).read_note u ≤ suc (w.gran o done).epoch) → ((u : ℕ) → (w.gran o done).write_note u ≤ suc (w.gran o done).epoch)
@@ -23,7 +13,7 @@ cleared_more w o done rl wl old g lt u p = ⊎_elim
     (cases_eq g done)
 
 module _ (x : Targets) (code : Code) (s : Shape) (ls : Labels) (wt : IsWellTyped x code ls) (laws : ShadowLaws) (g : Global Machine) (world : World) (st : State x code s ls g world) (tr : Turn)
-    (may : MayTurn bounds (one_thread code s) g tr) (r n : ℕ) (is : instr_at code (g.threads tr.thread).at.pc ≡ instrs.Clear r n) where
+    (may : MayTurn bounds (one_thread code s) g tr) (r n : ℕ) (is : instr_at code (g.threads tr.thread).at.pc ≡ Instr.Clear r n) where
   abbrev t : ℕ
   t = tr.thread
 
@@ -39,13 +29,13 @@ module _ (x : Targets) (code : Code) (s : Shape) (ls : Labels) (wt : IsWellTyped
   abbrev base : ℕ
   base = (g.threads tr.thread).at.refs
 
-  fine : Fine x code ls (g.threads tr.thread).at.pc here (instrs.Clear r n)
+  fine : Fine x code ls (g.threads tr.thread).at.pc here (Instr.Clear r n)
   fine = subst (Fine x code ls m.at.pc here) is (wt.fine m.at.pc)
 
   in_function : here.function ≢ None
   in_function e = ⊎_elim
-      (λ (z : m.at.pc ≡ 0). let q : instrs.Clear r n ≡ instrs.Start wt.begin.0 = sym is ∙ ap (instr_at code) z ∙ wt.begin.1 in cc)
-      (λ z. let q : instrs.Clear r n ≡ instrs.Exit = sym is ∙ z in cc)
+      (λ (z : m.at.pc ≡ 0). let q : Instr.Clear r n ≡ Instr.Start wt.begin.0 = sym is ∙ ap (instr_at code) z ∙ wt.begin.1 in cc)
+      (λ z. let q : Instr.Clear r n ≡ Instr.Exit = sym is ∙ z in cc)
       (wt.placed m.at.pc e)
 
   begun_at : (pc : ℕ) → (ls.at pc).function ≡ here.function → (pc == 0) ≡ false
@@ -151,7 +141,7 @@ module _ (x : Targets) (code : Code) (s : Shape) (ls : Labels) (wt : IsWellTyped
         (λ lt. loaded_stays (Looks 0 all) tt (sym (ap staged_of e)) (subst (λ i. StageStands code s st.elements world (heap_now st.heap g.words) g.words t m i (Looks 0 all)) (sym is) (all_is, (lt, λ h l. absurd (omega arith)))) few)
         (loaded_goes (ap staged_of e) few))
 
-    clear_looks : (done all : ℕ) → StageStands code s st.elements world st.heap g.words tr.thread (g.threads tr.thread) (instrs.Clear r n) (Looks done all) → (g.threads tr.thread).own.stage ≡ Looks done all → Turned x code s ls g world tr
+    clear_looks : (done all : ℕ) → StageStands code s st.elements world st.heap g.words tr.thread (g.threads tr.thread) (Instr.Clear r n) (Looks done all) → (g.threads tr.thread).own.stage ≡ Looks done all → Turned x code s ls g world tr
     clear_looks done all h e =
         let lt : done < data_granules (st.elements o) n = subst (λ c. done < c) (elements_of_it all h.0) h.1.0 in
         let k = shadow_word s (data_granule (ref m r) done) in
@@ -164,7 +154,7 @@ module _ (x : Targets) (code : Code) (s : Shape) (ls : Labels) (wt : IsWellTyped
         (subst (λ i. StageStands code s st.elements world (heap_now st.heap g.words) g.words t m i (Clears done all found)) (sym is) (h.0, (h.1.0, h.1.1, ep)))
         (few_of (slice_set g.words k found) m' done0.0 refl))
 
-    clear_swaps : (done all seen : ℕ) → StageStands code s st.elements world st.heap g.words tr.thread (g.threads tr.thread) (instrs.Clear r n) (Clears done all seen) → (g.threads tr.thread).own.stage ≡ Clears done all seen → Turned x code s ls g world tr
+    clear_swaps : (done all seen : ℕ) → StageStands code s st.elements world st.heap g.words tr.thread (g.threads tr.thread) (Instr.Clear r n) (Clears done all seen) → (g.threads tr.thread).own.stage ≡ Clears done all seen → Turned x code s ls g world tr
     clear_swaps done all seen h e =
         let lt : done < data_granules (st.elements o) n = subst (λ c. done < c) (elements_of_it all h.0) h.1.0 in
         let v = cleared_of seen in

@@ -1,15 +1,5 @@
 -- The granules of an object that a thread has alone are cleared.
-use Rattle.std.proofs.{Common.{◌≡◌, ℕ, ℤ, zero, suc, ◌+◌, ◌*◌, ◌/◌, ◌^◌, ◌<◌, ◌≤◌, ◌≢◌, Bool, true, false, List, Some, None, refl, sym, ap, ◌∙◌, subst, ⊎_elim, arith}, lemmas.Bool.cases_eq, lemmas.List.length-set}
-use mathlib.Core.Path.{fun_ext}
-use Rattle.std.specs.Prelude.{length, slice_index, slice_set, min, ◌==◌}
-use Rattle.sharc_word.specs.declared.step.TheConstants.{THREADS}
-use Rattle.sharc_heap.specs.{ShadowLaws.ShadowLaws, ShadowWord.epoch_of, Functions.cleared_of}
-use Rattle.sharc_code.specs.{declared.code.Code.Code, declared.shape.Shape.Shape, declared.state.Stage.Stage, declared.state.Stage.TheVariants.{Rests, Looks, Clears}, Layout.{granules, first_cell}, Machine.{Machine, instr_at, ref, largest}, Runs.{Turn, Global, put, MayTurn}, Whole.{one_thread, bounds}}
-use Rattle.sharc_code.specs.declared.instr.Instr.TheVariants as instrs
-use Rattle.sharc_code.proofs.Places.{put_same, put_other, put_all}
-use Rattle.sharc_invariant.specs.{Granules.{GranuleState, Passed, cleared, sum_to}, Types.Targets, Labels.{Gate, Label, Labels, Leads, gated, Sole as SoleGate}, Typed.{IsWellTyped, IsUnpassed}, World.{RegisterOf, In, Slot, World, Sole, in_ref, WorldInvariant}, Blocks.{Heap, Kept, Built, InBlock}, Words.{lang_of, conc_of, Shows, Reads, staged_of}, Turns.{made_turn, KeepsOthers}, State.{State, View, view_of, TopStands, FramesStand, PassStands, GateStands, StageStands, refs_at, size_of_run}}
-use Rattle.sharc_invariant.proofs.{Effects.{sole_at, only_slot}, Frames.{Agrees, Low, callers_agree, less_stands}, Accesses.gate_top, Own.runs_at, Quiet.{heap_now, label_held}, Changes.KeepsLow, Walks.{IsWalk, walk_hold, walk_register, walk_state, walked, conc_walked}, Stores.{index_put, arena, MayStore}, Listed.store_ok, Sums.sum_one, Others.loses}
-use Rattle.sharc_lemmas.proofs.Numbers.{times_more as suc_times}
+use Rattle.sharc_invariant.proofs.{Imports.{◌≡◌, ℕ, ℤ, zero, suc, ◌+◌, ◌*◌, ◌/◌, ◌^◌, ◌<◌, ◌≤◌, ◌≢◌, Bool, true, false, List, Some, None, refl, sym, ap, ◌∙◌, subst, ⊎_elim, arith, cases_eq, length-set, fun_ext, length, slice_index, slice_set, min, ◌==◌, THREADS, ShadowLaws, epoch_of, cleared_of, Code, Shape, Stage, Rests, Looks, Clears, granules, first_cell, Machine, instr_at, ref, largest, Turn, Global, put, MayTurn, one_thread, bounds, Instr, put_same, put_other, put_all, GranuleState, Passed, cleared, sum_to, Targets, Gate, Label, Labels, Leads, gated, SoleGate, IsWellTyped, IsUnpassed, RegisterOf, In, Slot, World, Sole, in_ref, WorldInvariant, Heap, Kept, Built, InBlock, lang_of, conc_of, Shows, Reads, staged_of, made_turn, KeepsOthers, State, View, view_of, TopStands, FramesStand, PassStands, GateStands, StageStands, refs_at, size_of_run, suc_times}, Effects.{sole_at, only_slot}, Frames.{Agrees, Low, callers_agree, less_stands}, Accesses.gate_top, Own.runs_at, Quiet.{heap_now, label_held}, Changes.KeepsLow, Walks.{IsWalk, walk_hold, walk_register, walk_state, walked, conc_walked}, Stores.{index_put, arena, MayStore}, Listed.store_ok, Sums.sum_one, Others.loses}
 
 -- ---- numbers
 pub cleared_small : (v : ℕ) → cleared_of v < 2 ^ 64
@@ -64,9 +54,9 @@ part_words x code s ls g world st k v may lt small =
 
 -- ---- the stages
 pub clear_cases : (code : Code) (s : Shape) (elements : ℕ → ℕ) (w : World) (heap : Heap) (words : List ℕ) (t : ℕ) (m : Machine) (r n : ℕ) (C : Stage → Type 0) → C Rests
-    → ((done all : ℕ) → StageStands code s elements w heap words t m (instrs.Clear r n) (Looks done all) → C (Looks done all))
-    → ((done all seen : ℕ) → StageStands code s elements w heap words t m (instrs.Clear r n) (Clears done all seen) → C (Clears done all seen))
-    → (y : Stage) → StageStands code s elements w heap words t m (instrs.Clear r n) y → C y
+    → ((done all : ℕ) → StageStands code s elements w heap words t m (Instr.Clear r n) (Looks done all) → C (Looks done all))
+    → ((done all seen : ℕ) → StageStands code s elements w heap words t m (Instr.Clear r n) (Clears done all seen) → C (Clears done all seen))
+    → (y : Stage) → StageStands code s elements w heap words t m (Instr.Clear r n) y → C y
 clear_cases code s elements w heap words t m r n C a b c Rests h = a
 clear_cases code s elements w heap words t m r n C a b c (Looks done all) h = b done all h
 clear_cases code s elements w heap words t m r n C a b c (Clears done all seen) h = c done all seen h

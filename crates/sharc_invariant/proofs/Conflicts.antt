@@ -1,13 +1,6 @@
 -- What checks find.
-use Rattle.std.proofs.{Common.{◌≡◌, ℕ, suc, ◌+◌, ◌<◌, ◌≢◌, ◌⊎◌, Bool, true, false, cond, refl, sym, ap, ◌∙◌, subst, inl, inr, ⊎_elim}, lemmas.Bool.{cases_Bool, eqb-true}}
-use Rattle.std.specs.Prelude.{slice_index, nat_eq, if◌then◌else◌}
-use Rattle.sharc_word.specs.declared.step.WordOp.TheVariants.{Or}
-use Rattle.sharc_heap.specs.{declared.shadow_word.Kind.Kind, declared.shadow_word.Kind.TheVariants.{Read, Write}, ShadowWord.{epoch_of, is_of, is_written, stands, Conflicts}, Functions.{bits_of, conflicts_in}, ShadowLaws.ShadowLaws}
-use Rattle.sharc_code.specs.{declared.code.Code.Code, declared.instr.Instr.Instr, declared.instr.Instr.TheVariants.{ChkRead, ChkWrite, Clear, Free, Exit}, declared.shape.Shape.Shape, declared.state.Stage.Stage, declared.state.Stage.TheVariants.{Clears, FreeClears, WithdrawsFrom}, declared.state.Stop.Stop, declared.state.Stop.TheVariants.Conflict, Layout.{granules, granule_at, granule_of, shadow_word}, Machine.{Machine, Own, step_of, act, instr_at, place, stopped, with_own, with_note, wrote, checked, check, row_of, ref}, Outcomes.TurnsComeOut, Path.{may_go, turn}, Runs.{Turn, Global, at, MayTurn, after_turn, result_of}, Whole.{one_thread, bounds}}
-use Rattle.sharc_code.proofs.Places.{put_same}
-use Rattle.sharc_invariant.specs.{Bits.{Touch, Untouched, CheckOf, WithdrawOf, Marks, cleared_by, freed_by, withdrawn_by, touch_of, marks_after}, Reports.{CheckStands, RunsConflict, touch_at}, Granules.Passed, Types.Targets, Labels.Labels, World.World, Words.{shadow_at, is_withdrawing, noted_by}, Opened.first_place, State.State, Laws.RunsFromTheBeginning}
-use Rattle.sharc_invariant.proofs.{Turns.asks_turn, Withdrawn.wrote_now, BitTurns.{AllMarked, IsNoExit, in_low, at_low, going_on, noted_calm, check_calm, owned, bit_here, written_here, marked_after}}
-use Rattle.sharc_lemmas.proofs.Numbers.{eq_refl}
+use Rattle.sharc_invariant.proofs.{Imports.{◌≡◌, ℕ, suc, ◌+◌, ◌<◌, ◌≢◌, ◌⊎◌, Bool, true, false, cond, refl, sym, ap, ◌∙◌, subst, inl, inr, ⊎_elim, cases_Bool, eqb-true, slice_index, nat_eq, if◌then◌else◌, Or, Kind, Read, Write, epoch_of, is_of, is_written, stands, Conflicts, bits_of, conflicts_in, ShadowLaws, Code, Instr, ChkRead, ChkWrite, Clear, Free, Exit, Shape, Stage, Clears, FreeClears, WithdrawsFrom, Stop, Conflict, granules, granule_at, granule_of, shadow_word, Machine, Own, step_of, act, instr_at, stopped, with_own, with_note, wrote, checked, check, row_of, ref, TurnsComeOut, may_go, turn, Turn, Global, at, MayTurn, after_turn, result_of, one_thread, bounds, put_same, Touch, Untouched, CheckOf, WithdrawOf, Marks, cleared_by, freed_by, withdrawn_by, touch_of, marks_after, CheckStands, RunsConflict, touch_at, Passed, Targets, Labels, World, shadow_at, is_withdrawing, noted_by, first_place, State, RunsFromTheBeginning, eq_refl}, Turns.asks_turn, Withdrawn.wrote_now, BitTurns.{AllMarked, IsNoExit, in_low, at_low, going_on, noted_calm, check_calm, owned, bit_here, written_here, marked_after}}
+use Rattle.sharc_code.specs.Machine.{place}
 
 -- a check goes on where it finds no conflict
 checked_goes : (m : Machine) (stop : Stop) (own : Own) (b : Bool) → may_go (if b then stopped m stop else with_own m own).at.state ≡ cond b false true

@@ -1,15 +1,6 @@
 -- Raise and Lower of a register, and what moves references between registers.
-use Rattle.std.proofs.{Common.{◌≡◌, ℕ, ℤ, zero, suc, ◌+◌, ◌-◌, ◌%◌, ◌^◌, ◌<◌, ◌≤◌, ◌≢◌, true, refl, sym, ap, ◌∙◌, subst, inl, inr, ⊎_elim, arith, List, [], ◌∷◌, Bool, false, cond, ◌||◌}, lemmas.Bool.cases_eq, lemmas.Bool.Decides.nat_tests}
-use mathlib.Core.Path.{fun_ext}
-use Rattle.std.specs.Prelude.{length, slice_index, slice_set, nat_lt, ◌==◌}
-use Rattle.sharc_word.specs.{declared.step.WordOp.TheVariants.{Add, Sub}, Words.word_after}
-use Rattle.sharc_heap.specs.Count.{raise_of, lower_of}
-use Rattle.sharc_code.specs.{declared.code.Code.Code, declared.instr.Instr.Instr, declared.shape.Shape.Shape, Layout.{granules, granule_at, count_word}, Machine.{Machine, Local, Asks, instr_at, goes, set_ref, ref, raise, lower}, Path.turn, Runs.{Turn, Global, put, MayTurn, after_turn}, Whole.{one_thread, bounds}}
-use Rattle.sharc_code.specs.declared.instr.Instr.TheVariants as instrs
-use Rattle.sharc_code.proofs.Places.{put_same, put_other}
-use Rattle.sharc_invariant.specs.{Types.Lock.{Global as OfGlobals, Through, Self}, Types.{nothing, Targets, type_of, Lock, Names, SomeNames}, Labels.{Empty, Refers, Unknown, Closed, Label, Labels, Leads, fill, empty, Entry, EntryMentions, IsFree, forgets, forgotten, some_names}, Typed.{IsWellTyped, IsRef}, World.{TypedReference, RegisterOf, World, Shut, Sole, In, Slot, in_ref, place, null, none, grow, drop, set_win, set_slot, Fits, WorldInvariant}, Words.{lang_of, conc_of, Shows, count_at, store, set_reg, has_returned}, Granules.{GranuleState, Passed}, Effect.{Silent, Effect, Silently}, Turns.made_turn, State.{State, View, view_of, EntryStands, TopStands, refs_at, types_at, IsSmall, size_of_run}, Objects.changes_objects}
-use Rattle.sharc_invariant.proofs.{Effects.{set_slot_ok, grow_ok, drop_ok, set_win_ok, count_pos, place_other}, Frames.{filled, FilledStands, fill_stands, empty_stands}, Small.total_low, Stores.{index_put, count_store, stored_words, stored_within}, Seen.{count_stored, reg_stored}, Turns.{local_turn, asks_turn, room_of}, Own.{is_single, runs, rests, top, fine}, Plain.{register_plain, is_shut, same_words}, Filled.{SetsRef, filled_state, inside_world, free_shut}}
-use Rattle.sharc_lemmas.proofs.Numbers.{eq_refl}
+use Rattle.sharc_invariant.proofs.{Imports.{◌≡◌, ℕ, ℤ, zero, suc, ◌+◌, ◌-◌, ◌%◌, ◌^◌, ◌<◌, ◌≤◌, ◌≢◌, true, refl, sym, ap, ◌∙◌, subst, inl, inr, ⊎_elim, arith, List, [], ◌∷◌, Bool, false, cond, ◌||◌, cases_eq, nat_tests, fun_ext, length, slice_index, slice_set, nat_lt, ◌==◌, Add, Sub, word_after, raise_of, lower_of, Code, Instr, Shape, granules, granule_at, count_word, Machine, Local, Asks, instr_at, goes, set_ref, ref, raise, lower, turn, Turn, Global, put, MayTurn, after_turn, one_thread, bounds, put_same, put_other, Through, Self, nothing, Targets, type_of, Lock, SomeNames, Empty, Refers, Unknown, Closed, Label, Labels, Leads, fill, empty, Entry, EntryMentions, IsFree, forgets, forgotten, some_names, IsWellTyped, IsRef, TypedReference, RegisterOf, World, Shut, Sole, In, Slot, in_ref, place, null, none, grow, drop, set_win, set_slot, FitsType as Fits, WorldInvariant, lang_of, conc_of, Shows, count_at, store, set_reg, has_returned, GranuleState, Passed, Silent, Effect, Silently, made_turn, State, View, view_of, EntryStands, TopStands, refs_at, types_at, IsSmall, size_of_run, changes_objects, eq_refl}, Effects.{set_slot_ok, grow_ok, drop_ok, set_win_ok, count_pos, place_other}, Frames.{filled, FilledStands, fill_stands, empty_stands}, Small.total_low, Stores.{index_put, count_store, stored_words, stored_within}, Seen.{count_stored, reg_stored}, Turns.{local_turn, asks_turn, room_of}, Own.{is_single, runs, rests, top, fine}, Plain.{register_plain, is_shut, same_words}, Filled.{SetsRef, filled_state, inside_world, free_shut}}
+use Rattle.sharc_invariant.specs.{Types.Lock.{Global as OfGlobals}, Types.Names}
 
 pub raise_zero : (s : Shape) (n : ℕ) (m : Machine) → n ≡ 0 → raise s n m ≡ Local m
 raise_zero s n m e = ap (λ n. raise s n m) e
@@ -163,9 +154,9 @@ module _ (x : Targets) (code : Code) (s : Shape) (ls : Labels) (wt : IsWellTyped
       (free_shut closed t q closed_shut))
       sim4 tp leads fn gt room (room_of code s g tr may words m' done))
 
-  pub Raise_keeps : (d from : ℕ) → instr_at code (g.threads tr.thread).at.pc ≡ instrs.Raise d from → Turned
+  pub Raise_keeps : (d from : ℕ) → instr_at code (g.threads tr.thread).at.pc ≡ Instr.Raise d from → Turned
   Raise_keeps d from is =
-      let i = instrs.Raise d from in
+      let i = Instr.Raise d from in
       let on = may.started in
       let go = may.next.runs in
       let f = fine x code s ls wt g world st t on go i is refl in
@@ -209,10 +200,10 @@ module _ (x : Targets) (code : Code) (s : Shape) (ls : Labels) (wt : IsWellTyped
       (cases_eq (ref m from) 0)
 
   -- a reference is given up, where these entries are known
-  lowered : (r : ℕ) (is : instr_at code (g.threads tr.thread).at.pc ≡ instrs.Lower r) (e : ℕ → Entry) → here.gate ≡ Closed → IsRef code here r → TopStands x t view base m.at.ints (names (instrs.Lower r) is refl) (record here { env = e })
+  lowered : (r : ℕ) (is : instr_at code (g.threads tr.thread).at.pc ≡ Instr.Lower r) (e : ℕ → Entry) → here.gate ≡ Closed → IsRef code here r → TopStands x t view base m.at.ints (names (Instr.Lower r) is refl) (record here { env = e })
       → ((q : ℕ) → q ≢ r → EntryMentions (e q) r → ⊥) → Leads ls ((g.threads tr.thread).at.pc + 1) (empty (record here { env = e }) r) → Turned
   lowered r is e closed within top0 free0 leads0 =
-      let i = instrs.Lower r in
+      let i = Instr.Lower r in
       let on = may.started in
       let go = may.next.runs in
       let k = base + r in
@@ -276,9 +267,9 @@ module _ (x : Targets) (code : Code) (s : Shape) (ls : Labels) (wt : IsWellTyped
       (cases_eq (ref m r) 0)
 
   -- what names a register is forgotten before that is NULL
-  tops_forgetting : (r : ℕ) (is : instr_at code (g.threads tr.thread).at.pc ≡ instrs.Lower r) → TopStands x t view base m.at.ints (names (instrs.Lower r) is refl) (forgets here r)
+  tops_forgetting : (r : ℕ) (is : instr_at code (g.threads tr.thread).at.pc ≡ Instr.Lower r) → TopStands x t view base m.at.ints (names (Instr.Lower r) is refl) (forgets here r)
   tops_forgetting r is n k =
-      let f = tops (instrs.Lower r) is refl n k in
+      let f = tops (Instr.Lower r) is refl n k in
       record { env = λ q lt. forgets_stands r q (here.env q) (f.env q lt); same = f.same; known = f.known; numbers = f.numbers; passed = f.passed }
     where
       forgets_stands : (r q : ℕ) (e : Entry) → EntryStands (refs_at view base) (types_at view base) q e → EntryStands (refs_at view base) (types_at view base) q (forgotten r e)
@@ -287,9 +278,9 @@ module _ (x : Targets) (code : Code) (s : Shape) (ls : Labels) (wt : IsWellTyped
       forgets_stands r q (Refers s) h = elim (some_names r s.locks) as (λ b. EntryStands (refs_at view base) (types_at view base) q (cond b Unknown (Refers s))) [ true ↦ tt | false ↦ h ]
 
   -- a reference is given up
-  pub Lower_keeps : (r : ℕ) → instr_at code (g.threads tr.thread).at.pc ≡ instrs.Lower r → Turned
+  pub Lower_keeps : (r : ℕ) → instr_at code (g.threads tr.thread).at.pc ≡ Instr.Lower r → Turned
   Lower_keeps r is =
-      let i = instrs.Lower r in
+      let i = Instr.Lower r in
       let f = fine x code s ls wt g world st t may.started may.next.runs i is refl in
       ⊎_elim
       (λ (h : IsFree here r × Leads ls ((g.threads tr.thread).at.pc + 1) (empty here r)). lowered r is here.env f.0 f.1 (tops i is refl) h.0.paths h.1)

@@ -1,11 +1,6 @@
 -- Each effect of a turn keeps the invariant of the world.
-use Rattle.std.proofs.{Common.{◌≡◌, ℕ, suc, ◌+◌, ◌-◌, ◌<◌, ◌≤◌, ◌⊎◌, ◌≢◌, Bool, true, false, refl, sym, ap, ◌∙◌, subst, inl, inr, ⊎_elim, arith, eqb-true}, lemmas.Bool.{cases_eq, and_parts}}
-use Rattle.std.specs.Prelude.{nat_eq}
-use Rattle.sharc_code.specs.Runs.{put}
-use Rattle.sharc_code.proofs.Places.{put_same, put_other, put_all}
-use Rattle.sharc_invariant.specs.{Granules.{GranuleState, Bits, one, sum_to, Passed, Clean, cleared, marked, passed, withdrawn}, Types.{ObjectType, nothing, CellMode}, Types.CellMode.{Private, Readonly, Racy, Dynamic, Locked, Sibling, Behind}, World.{TypeRules, Laws, TypedReference, Holder, RegisterOf, ArgumentOf, LogOf, Staged, Slot, In, Cell, ObjectState, Base, By, Global, Window, Shut, May, Loaded, Sole, World, put2, same_own, same_slot, place, none, null, thread_of, in_ref, Size, total, Inside, base_of, Based, CanBy, Can, Right, WinOk, Uses, Opens, Free, who, Fits, Words, WorldInvariant, set_slot, grow, drop, shift, set_win, swap, set_gran, set_mutex, give, retype, make, freed}}
-use Rattle.sharc_invariant.proofs.{Sums.{sum_zero, sum_ext, sum_one, one_same, one_other}, Granules.{up, down, bits_cleared, bits_marked, bits_passed, bits_withdrawn}}
-use Rattle.sharc_lemmas.proofs.Numbers.{eq_refl}
+use Rattle.sharc_invariant.proofs.{Imports.{◌≡◌, ℕ, suc, ◌+◌, ◌-◌, ◌<◌, ◌≤◌, ◌⊎◌, ◌≢◌, Bool, true, false, refl, sym, ap, ◌∙◌, subst, inl, inr, ⊎_elim, arith, eqb-true, cases_eq, and_parts, nat_eq, put, put_same, put_other, put_all, GranuleState, Bits, one, sum_to, Passed, Clean, cleared, marked, passed, withdrawn, ObjectType, nothing, CellMode, Private, Readonly, Racy, Dynamic, Locked, Sibling, Behind, TypeRules, Laws, TypedReference, Holder, RegisterOf, ArgumentOf, LogOf, Staged, Slot, In, CellOf as Cell, ObjectState, Base, By, Window, Shut, May, IsLoaded as Loaded, Sole, World, put2, same_own, same_slot, place, none, null, thread_of, in_ref, Size, total, Inside, base_of, Based, CanBy, Can, Right, WinOk, Uses, Opens, who, FitsType as Fits, Words, WorldInvariant, set_slot, grow, drop, shift, set_win, swap, set_gran, set_mutex, give, retype, make, freed, eq_refl}, Sums.{sum_zero, sum_ext, sum_one, one_same, one_other}, Granules.{up, down, bits_cleared, bits_marked, bits_passed, bits_withdrawn}}
+use Rattle.sharc_invariant.specs.World.{Global, Free}
 
 own_eq : (a b : Holder) → same_own a b ≡ true → a ≡ b
 own_eq (RegisterOf t r) (RegisterOf u q) h = let p = and_parts (nat_eq t u) (nat_eq r q) h in ap (λ x. RegisterOf x r) (eqb-true t u p.0) ∙ ap (λ x. RegisterOf u x) (eqb-true r q p.1)

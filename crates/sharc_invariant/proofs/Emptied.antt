@@ -1,9 +1,6 @@
 -- An object whose pointers are all empty has no reference in it.
-use Rattle.std.proofs.{Common.{◌≡◌, ℕ, ◌+◌, ◌-◌, ◌*◌, ◌/◌, ◌%◌, ◌^◌, ◌<◌, ◌≤◌, ◌≢◌, true, false, refl, ap, ◌∙◌, subst, ⊎_elim, arith, sym, List, [], ◌∷◌, zero, suc}, lemmas.Bool.{cases_eq, cases_order, cases_lt}, lemmas.Nat.{mod-mul-add, div-mul-add}, Math.Nat.{mul-le-mul_right, suc-mul}}
-use Rattle.std.specs.Prelude.{length, slice_index, min, ◌==◌, slice_index_or}
-use Rattle.sharc_code.specs.{declared.code.Code.Code, declared.shape.Shape.Shape, Layout.Fits, Machine.{Machine, layout_at, pointer_cell, fields, largest, field_of}, Runs.Global}
-use Rattle.sharc_invariant.specs.{Types.{Targets, ObjectType, cells_of, field_at, field_in, field_of_cell, is_pointer, Field, no_field, row_of}, Labels.Labels, Typed.{IsWellTyped, IsLayout}, World.{Cell, World}, State.{State, AreEmpty, all_pointers}}
-use Rattle.sharc_lemmas.proofs.Numbers.{ne_eq}
+use Rattle.sharc_invariant.proofs.Imports.{◌≡◌, ℕ, ◌+◌, ◌-◌, ◌*◌, ◌/◌, ◌%◌, ◌^◌, ◌<◌, ◌≤◌, ◌≢◌, true, false, refl, ap, ◌∙◌, subst, ⊎_elim, arith, sym, List, [], ◌∷◌, zero, suc, cases_eq, cases_order, cases_lt, mod-mul-add, div-mul-add, mul-le-mul_right, suc-mul, length, slice_index, min, ◌==◌, slice_index_or, Code, Shape, Fits, Machine, layout_at, pointer_cell, fields, largest, field_of, Global, Targets, ObjectType, cells_of, field_at, field_in, field_of_cell, is_pointer, Field, no_field, Labels, IsWellTyped, IsLayout, CellOf as Cell, World, State, AreEmpty, all_pointers, ne_eq}
+use Rattle.sharc_invariant.specs.Types.{row_of}
 
 split : (i c : ℕ) → c ≢ 0 → i ≡ i / c * c + i % c
 split i c nz = grind arith

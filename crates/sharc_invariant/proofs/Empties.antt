@@ -1,15 +1,6 @@
 -- The turns of a Free that empty the pointers of its object, and lower what they held.
-use Rattle.std.proofs.{Common.{◌≡◌, ℕ, zero, suc, ◌+◌, ◌-◌, ◌*◌, ◌%◌, ◌^◌, ◌<◌, ◌≤◌, ◌≢◌, true, false, cond, List, None, Some, refl, sym, ap, ◌∙◌, subst, ⊎_elim, arith, ltb-true, ◌/◌}, lemmas.Bool.cases_eq, lemmas.Bool.Decides.nat_tests}
-use mathlib.Core.Path.{fun_ext}
-use Rattle.std.specs.Prelude.{length, slice_index, slice_set, nat_lt, min, ◌==◌}
-use Rattle.sharc_word.specs.{declared.step.TheConstants.THREADS, declared.step.WordOp.TheVariants.{Swap, Sub}, Words.word_after}
-use Rattle.sharc_heap.specs.{ShadowLaws.ShadowLaws, ShadowWord.epoch_of, Count.lower_of}
-use Rattle.sharc_code.specs.{declared.code.Code.Code, declared.code.Layout.Layout, declared.shape.Shape.Shape, declared.state.Stage.Stage, declared.state.Stage.TheVariants.{Empties, Lowers, FreeLooks, Uncounts}, Layout.{Fits as FitsShape, granules, words_of, first_cell, cell_word, cell_of, count_word}, Machine.{Machine, step_of, instr_at, ref, at_stage, largest, empties, emptied, free, layout_at, fields, pointer_cell}, Path.counted, Runs.{Turn, Global, put, MayTurn, after_turn}, Whole.{one_thread, bounds}}
-use Rattle.sharc_code.specs.declared.instr.Instr.TheVariants as instrs
-use Rattle.sharc_code.proofs.Places.{put_other}
-use Rattle.sharc_invariant.specs.{Granules.sum_to, Types.{Targets, ObjectType, type_at}, Labels.{Label, Labels}, Typed.{Fine, IsWellTyped}, World.{RegisterOf, ArgumentOf, Staged, Slot, In, TypedReference, Cell as CellOf, World, Sole, WorldInvariant, in_ref, place, null, none, set_slot, swap, drop, Free}, Blocks.{Built, InBlock, Kept}, Words.{lang_of, conc_of, Shows, cell_at, count_at, staged_of, store}, Turns.{made_turn, KeepsOthers}, Effect.Silently, State.{State, Runs, View, view_of, StageStands, EntryStands, FramesStand, TopStands, GateStands, AreEmpty, Emptying, all_pointers, label_now, refs_at, types_at, IsSmall, size_of_run}, Laws.Turned}
-use Rattle.sharc_invariant.proofs.{Effects.{set_slot_ok, empty_ok, drop_ok, count_pos, place_same, place_other, slot_cases}, Small.total_low, Quiet.{heap_now, label_held}, Changes.KeepsLow, Walks.{IsWalk, walk_hold, walk_state, walked, conc_held}, Turns.asks_turn, Stores.{index_put, arena, cell_store, count_store, stored_within}, Seen.{cell_stored, count_stored, staged_stored}, Counts.count_is, Clears.{part_words, sum_more, alone, walk_top}, Emptied.{pointer_there, some_cells}, Loads.lang_laws, Frees.{few_of, empties_counted, at_free, granules_split, free_fine, free_win, free_reads, free_some, free_live, free_cells, free_begun, free_act}, Others.loses}
-use Rattle.sharc_lemmas.proofs.Numbers.{not_below as not_less}
+use Rattle.sharc_invariant.proofs.{Imports.{◌≡◌, ℕ, zero, suc, ◌+◌, ◌-◌, ◌*◌, ◌%◌, ◌^◌, ◌<◌, ◌≤◌, ◌≢◌, true, false, cond, List, None, Some, refl, sym, ap, ◌∙◌, subst, ⊎_elim, arith, ltb-true, ◌/◌, cases_eq, nat_tests, fun_ext, length, slice_index, slice_set, nat_lt, min, ◌==◌, THREADS, Swap, Sub, word_after, ShadowLaws, epoch_of, lower_of, Code, Layout, Shape, Stage, Empties, Lowers, FreeLooks, Uncounts, Fits as FitsShape, granules, words_of, first_cell, cell_word, cell_of, count_word, Machine, step_of, instr_at, ref, at_stage, largest, empties, emptied, free, layout_at, fields, pointer_cell, counted, Turn, Global, put, MayTurn, after_turn, one_thread, bounds, Instr, put_other, sum_to, Targets, ObjectType, type_at, Label, Labels, Fine, IsWellTyped, RegisterOf, ArgumentOf, Staged, Slot, In, TypedReference, CellOf, World, Sole, WorldInvariant, in_ref, place, null, none, set_slot, swap, drop, Built, InBlock, Kept, lang_of, conc_of, Shows, cell_at, count_at, staged_of, store, made_turn, KeepsOthers, Silently, State, Runs, View, view_of, StageStands, EntryStands, FramesStand, TopStands, GateStands, AreEmpty, Emptying, all_pointers, label_now, refs_at, types_at, IsSmall, size_of_run, Turned, not_less}, Effects.{set_slot_ok, empty_ok, drop_ok, count_pos, place_same, place_other, slot_cases}, Small.total_low, Quiet.{heap_now, label_held}, Changes.KeepsLow, Walks.{IsWalk, walk_hold, walk_state, walked, conc_held}, Turns.asks_turn, Stores.{index_put, arena, cell_store, count_store, stored_within}, Seen.{cell_stored, count_stored, staged_stored}, Counts.count_is, Clears.{part_words, sum_more, alone, walk_top}, Emptied.{pointer_there, some_cells}, Loads.lang_laws, Frees.{few_of, empties_counted, at_free, granules_split, free_fine, free_win, free_reads, free_some, free_live, free_cells, free_begun, free_act}, Others.loses}
+use Rattle.sharc_invariant.specs.World.{Free}
 
 emptied_next : (i p : ℕ) → i ≤ p → p < 2 ^ 63 → nat_lt i (min p largest) ≡ false → i ≡ p
 emptied_next i p le low e = let a = not_less i (min p largest) e in omega arith
@@ -37,7 +28,7 @@ none_below : (i : ℕ) → i < 0 → ⊥
 none_below i lt = omega arith
 
 module _ (x : Targets) (code : Code) (s : Shape) (ls : Labels) (wt : IsWellTyped x code ls) (fits : FitsShape code s) (few : IsSmall code s) (laws : ShadowLaws) (g : Global Machine) (world : World) (st : State x code s ls g world) (tr : Turn)
-    (may : MayTurn bounds (one_thread code s) g tr) (r layout site : ℕ) (is : instr_at code (g.threads tr.thread).at.pc ≡ instrs.Free r layout site) (walk : IsWalk (g.threads tr.thread).own.stage) where
+    (may : MayTurn bounds (one_thread code s) g tr) (r layout site : ℕ) (is : instr_at code (g.threads tr.thread).at.pc ≡ Instr.Free r layout site) (walk : IsWalk (g.threads tr.thread).own.stage) where
   abbrev t : ℕ
   t = tr.thread
 
@@ -59,7 +50,7 @@ module _ (x : Targets) (code : Code) (s : Shape) (ls : Labels) (wt : IsWellTyped
   abbrev lay : Layout
   lay = layout_at code layout
 
-  f : Fine x code ls (g.threads tr.thread).at.pc here (instrs.Free r layout site)
+  f : Fine x code ls (g.threads tr.thread).at.pc here (Instr.Free r layout site)
   f = free_fine x code s ls wt laws g world st tr may r layout site is
 
   win : world.win tr.thread ≡ Sole k
@@ -130,7 +121,7 @@ module _ (x : Targets) (code : Code) (s : Shape) (ls : Labels) (wt : IsWellTyped
         λ i. record view { refs = fr i; types = ft i }
 
     on_stage : (y : Stage) → IsWalk y → Shows x s st.cells st.elements (conc_of code (made_turn g tr.thread words (at_y y))) w'
-        → StageStands code s st.elements w' (heap_now st.heap words) words tr.thread (g.threads tr.thread) (instrs.Free r layout site) y → State x code s ls (made_turn g tr.thread words (at_stage (g.threads tr.thread) y)) w'
+        → StageStands code s st.elements w' (heap_now st.heap words) words tr.thread (g.threads tr.thread) (Instr.Free r layout site) y → State x code s ls (made_turn g tr.thread words (at_stage (g.threads tr.thread) y)) w'
     on_stage y wy sim stage =
         let i = instr_at code m.at.pc in
         let hl = label_held here i y (walk_hold y wy) in
@@ -179,7 +170,7 @@ module _ (x : Targets) (code : Code) (s : Shape) (ls : Labels) (wt : IsWellTyped
       (cases_eq n 0)
 
   -- a pointer's cell is emptied, and what it held is in the thread's hands
-  pub free_empties : (i all : ℕ) → StageStands code s st.elements world st.heap g.words tr.thread (g.threads tr.thread) (instrs.Free r layout site) (Empties i all) → (g.threads tr.thread).own.stage ≡ Empties i all → Turned x code s ls g world tr
+  pub free_empties : (i all : ℕ) → StageStands code s st.elements world st.heap g.words tr.thread (g.threads tr.thread) (Instr.Free r layout site) (Empties i all) → (g.threads tr.thread).own.stage ≡ Empties i all → Turned x code s ls g world tr
   free_empties i all h e =
       let c = pointer_cell code lay i in
       let el : all ≡ st.elements o = h.0.0 ∙ ap st.elements reads in
@@ -259,7 +250,7 @@ module _ (x : Targets) (code : Code) (s : Shape) (ls : Labels) (wt : IsWellTyped
           (slot_cases q (CellOf p c))
 
   -- and it is given up
-  pub free_lowers : (i all found : ℕ) → StageStands code s st.elements world st.heap g.words tr.thread (g.threads tr.thread) (instrs.Free r layout site) (Lowers i all found) → (g.threads tr.thread).own.stage ≡ Lowers i all found → Turned x code s ls g world tr
+  pub free_lowers : (i all found : ℕ) → StageStands code s st.elements world st.heap g.words tr.thread (g.threads tr.thread) (Instr.Free r layout site) (Lowers i all found) → (g.threads tr.thread).own.stage ≡ Lowers i all found → Turned x code s ls g world tr
   free_lowers i all found h e =
       let is_staged : in_ref world (Staged t) ≡ found = st.sim.staged t ∙ ap staged_of e in
       let nzs : in_ref world (Staged t) ≢ 0 = λ z. h.1 (sym is_staged ∙ z) in

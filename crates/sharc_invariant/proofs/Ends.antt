@@ -1,13 +1,9 @@
 -- Only an Exit makes a thread one that has returned.
-use Rattle.std.proofs.Common.{◌≡◌, ℕ, ◌||◌, true, false, refl, sym, ap, ◌∙◌}
-use Rattle.sharc_code.specs.{declared.instr.Instr.Instr, declared.shape.Shape.Shape, declared.state.Stage.Stage, declared.state.Stage.TheVariants.{Withdraws, WithdrawsFrom, Leaves}, Machine.{Machine, Own}, Outcomes.{TurnOutcome, Stays, Rested, Begun, Refused, Gone, own_after, state_after, MayComeOut, ComesOut, has_stage, is_exit}}
-use Rattle.sharc_code.specs.declared.instr.Instr.TheVariants as instrs
-use Rattle.sharc_invariant.specs.Words.{has_returned, is_ended, is_withdrawing}
-use Rattle.sharc_lemmas.proofs.Bools.{yes}
+use Rattle.sharc_invariant.proofs.Imports.{◌≡◌, ℕ, ◌||◌, true, false, refl, sym, ap, ◌∙◌, Instr, Shape, Stage, Withdraws, WithdrawsFrom, Leaves, Machine, Own, TurnOutcome, Stays, Rested, Begun, Refused, Gone, own_after, state_after, MayComeOut, ComesOut, has_stage, is_exit, has_returned, is_ended, is_withdrawing, yes}
 
 -- no stage of another instruction withdraws
 pub calm_stage : (i : Instr) (stage : Stage) → has_stage i stage ≡ true → is_exit i ≡ false → is_withdrawing stage ≡ false
-calm_stage instrs.Exit stage has other = absurd (yes other)
+calm_stage Instr.Exit stage has other = absurd (yes other)
 calm_stage _ (Withdraws row) has other = absurd (yes (sym has))
 calm_stage _ (WithdrawsFrom row seen) has other = absurd (yes (sym has))
 calm_stage _ Leaves has other = absurd (yes (sym has))

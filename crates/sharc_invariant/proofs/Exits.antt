@@ -1,15 +1,5 @@
 -- The turns of an Exit: it says that the thread returned, withdraws from each granule of its table, and says that it is gone.
-use Rattle.std.proofs.{Common.{◌≡◌, ℕ, zero, suc, ◌+◌, ◌*◌, ◌^◌, ◌<◌, ◌≤◌, ◌≢◌, ◌⊎◌, ◌||◌, ◌&&◌, Bool, true, false, cond, List, [], None, refl, sym, ap, ◌∙◌, subst, inl, inr, ⊎_elim, arith, ltb-true}, lemmas.Bool.{cases_eq, cases_lt}, lemmas.Bool.Decides.nat_tests, lemmas.List.{set-get_or, length-set}}
-use mathlib.Core.Path.{fun_ext}
-use Rattle.std.specs.Prelude.{length, slice_index, slice_set, take, nat_lt, nat_eq, ◌==◌}
-use Rattle.sharc_word.specs.{declared.step.TheConstants.THREADS, declared.step.WordOp.TheVariants.{Load, Swap, Cas}}
-use Rattle.sharc_heap.specs.{ShadowLaws.ShadowLaws, Accesses.note_of, Functions.withdrawn_of, ShadowWord.epoch_of, declared.shadow_word.Kind.Kind, declared.shadow_word.Kind.TheVariants.{Read, Write}}
-use Rattle.sharc_code.specs.{declared.code.Code.Code, declared.shape.Shape.Shape, declared.state.TurnState.{TurnState as StateOf}, declared.state.TurnState.TheVariants.{Runs as RunsOn, Tries, Stopped, Ended}, declared.state.Stage.Stage, declared.state.Stage.TheVariants.{Rests, Makes, Lowers, Links, Names, Hands, Begins, Withdraws, WithdrawsFrom, Leaves}, Arithmetic.int_of, Layout.{Fits as FitsShape, granules, granule_at, top_word, shadow_word, next_thread_word, state_word, function_word, argument_word}, Machine.{Machine, instr_at, function_of, step_of, at_stage, exit, withdraws, withdrew, row_of, without_own}, Path.{turn, may_go, counted}, Runs.{Turn, Global, put, MayTurn, after_turn, is_started}, Whole.{one_thread, bounds}}
-use Rattle.sharc_code.specs.declared.instr.Instr.TheVariants as instrs
-use Rattle.sharc_code.proofs.Places.{put_same, put_other, put_all}
-use Rattle.sharc_invariant.specs.{Granules.{GranuleState, Passed, withdrawn}, Types.{Targets, nothing}, Labels.{Label, Labels, IsIn}, Typed.{Fine, IsWellTyped}, World.{In, RegisterOf, ArgumentOf, TypedReference, World, Shut, WorldInvariant, in_ref, put2, set_gran}, Blocks.{Heap, Kept, Built, InBlock}, Words.{lang_of, conc_of, MachineView, Shows, Reads, store, has_returned, is_withdrawing, has_withdrawn, is_ended, is_unread, is_first, if_reference, argument_of, making_of, note_number, noted_by, register_of, staged_of, logged, shadow_at, cell_at, count_at, length_at}, Turns.{made_turn, KeepsOthers}, Effect.{Effect, Silently, Returns, Withdraws as WithdrawsOf, events_of}, State.{StopStands, State, Runs, View, view_of, StageStands, SpawnsNow, NumberStands, EntryStands, FramesStand, GateStands, Threads, Firsts, TopStands, label_now, size_of_run}, Laws.Followed, Objects.{changes_objects, objects_now}}
-use Rattle.sharc_invariant.proofs.{Effects.withdraw_ok, Listed.store_ok, Others.{OnHold, loses}, Quiet.{KeepsThread, KeepsMost, heap_now, put_self, sum_up, label_held, freed_held, locks_same, most_state}, Changes.{KeepsPart, KeepsLow, lower, conc_now, changed_state}, Turns.{asks_turn, room_of}, Stores.{index_put, arena, shadow_store, stored_within}, Seen.{shadow_stored, put2_off}, Heaps.apart_stored, Clears.part_words, Uncounted.granule_cases, Withdrawn.{is_row, one_more, row_low, first_row, noted_withdraws, wrote_now, withdrawn_reads, withdrawn_small}, Owned.{effect_objects, behind_same}, Spawns.no_argument}
-use Rattle.sharc_lemmas.proofs.Numbers.{ne_eq, eq_refl}
+use Rattle.sharc_invariant.proofs.{Imports.{◌≡◌, ℕ, zero, suc, ◌+◌, ◌*◌, ◌^◌, ◌<◌, ◌≤◌, ◌≢◌, ◌⊎◌, ◌||◌, ◌&&◌, Bool, true, false, cond, List, [], None, refl, sym, ap, ◌∙◌, subst, inl, inr, ⊎_elim, arith, ltb-true, cases_eq, cases_lt, nat_tests, set-get_or, length-set, fun_ext, length, slice_index, slice_set, take, nat_lt, nat_eq, ◌==◌, THREADS, Load, Swap, Cas, ShadowLaws, note_of, withdrawn_of, epoch_of, Kind, Read, Write, Code, Shape, StateOf, RunsOn, Tries, Stopped, Ended, Stage, Rests, Makes, Lowers, Links, Names, Hands, Begins, Withdraws, WithdrawsFrom, Leaves, int_of, Fits as FitsShape, granules, granule_at, top_word, shadow_word, next_thread_word, state_word, function_word, argument_word, Machine, instr_at, function_of, step_of, at_stage, exit, withdraws, withdrew, row_of, without_own, turn, may_go, counted, Turn, Global, put, MayTurn, after_turn, is_started, one_thread, bounds, Instr, put_same, put_other, put_all, GranuleState, Passed, withdrawn, Targets, nothing, Label, Labels, IsIn, Fine, IsWellTyped, In, RegisterOf, ArgumentOf, TypedReference, World, Shut, WorldInvariant, in_ref, put2, set_gran, Heap, Kept, Built, InBlock, lang_of, conc_of, MachineView, Shows, Reads, store, has_returned, is_withdrawing, has_withdrawn, is_ended, is_unread, is_first, if_reference, argument_of, making_of, note_number, noted_by, register_of, staged_of, logged, shadow_at, cell_at, count_at, length_at, made_turn, KeepsOthers, Effect, Silently, Returns, WithdrawsOf, events_of, StopStands, State, Runs, View, view_of, StageStands, SpawnsNow, NumberStands, EntryStands, FramesStand, GateStands, Threads, Firsts, TopStands, label_now, size_of_run, Followed, changes_objects, objects_now, ne_eq, eq_refl}, Effects.withdraw_ok, Listed.store_ok, Others.{OnHold, loses}, Quiet.{KeepsThread, KeepsMost, heap_now, put_self, sum_up, label_held, freed_held, locks_same, most_state}, Changes.{KeepsPart, KeepsLow, lower, conc_now, changed_state}, Turns.{asks_turn, room_of}, Stores.{index_put, arena, shadow_store, stored_within}, Seen.{shadow_stored, put2_off}, Heaps.apart_stored, Clears.part_words, Uncounted.granule_cases, Withdrawn.{is_row, one_more, row_low, first_row, noted_withdraws, wrote_now, withdrawn_reads, withdrawn_small}, Owned.{effect_objects, behind_same}, Spawns.no_argument}
 
 -- ---- the stages
 abbrev pub IsExiting : Stage → Type 0
@@ -64,7 +54,7 @@ find_granule w cells p (suc n) = ⊎_elim
     smaller o n lt ne = ⊎_elim (λ (l : o < n). l) (λ (ge : n ≤ o). absurd (ne (omega arith))) (cases_lt o n)
 
 module _ (x : Targets) (code : Code) (s : Shape) (ls : Labels) (wt : IsWellTyped x code ls) (fits : FitsShape code s) (laws : ShadowLaws) (g : Global Machine) (world : World) (st : State x code s ls g world) (tr : Turn)
-    (may : MayTurn bounds (one_thread code s) g tr) (is : instr_at code (g.threads tr.thread).at.pc ≡ instrs.Exit) (exiting : IsExiting (g.threads tr.thread).own.stage) where
+    (may : MayTurn bounds (one_thread code s) g tr) (is : instr_at code (g.threads tr.thread).at.pc ≡ Instr.Exit) (exiting : IsExiting (g.threads tr.thread).own.stage) where
   abbrev t : ℕ
   t = tr.thread
 
@@ -77,11 +67,11 @@ module _ (x : Targets) (code : Code) (s : Shape) (ls : Labels) (wt : IsWellTyped
   abbrev after : Global Machine
   after = after_turn bounds (one_thread code s) g tr
 
-  f : Fine x code ls (g.threads tr.thread).at.pc here instrs.Exit
+  f : Fine x code ls (g.threads tr.thread).at.pc here Instr.Exit
   f = subst (Fine x code ls m.at.pc here) is (wt.fine m.at.pc)
 
   begun : ((g.threads tr.thread).at.pc == 0) ≡ false
-  begun = ne_eq m.at.pc 0 (λ z. let q : instrs.Exit ≡ instrs.Start wt.begin.0 = sym is ∙ ap (instr_at code) z ∙ wt.begin.1 in cc)
+  begun = ne_eq m.at.pc 0 (λ z. let q : Instr.Exit ≡ Instr.Start wt.begin.0 = sym is ∙ ap (instr_at code) z ∙ wt.begin.1 in cc)
 
   abbrev rn : Runs x code s ls st.elements world st.heap g tr.thread (g.threads tr.thread)
   rn = (st.threads tr.thread).runs may.started may.next.runs
@@ -117,7 +107,7 @@ module _ (x : Targets) (code : Code) (s : Shape) (ls : Labels) (wt : IsWellTyped
       ∙ sym (ap (λ b. cond b 0 (slice_index m.refs i)) (freed_held (instr_at code m.at.pc) m.own.stage m.at.refs i (exiting_hold m.own.stage exiting)))
 
   -- it goes on as it stood, but for passed checks, of which none is remembered
-  runs_on : (q : StateOf) (y : Stage) → IsExiting y → (w' : World) → w'.slots ≡ world.slots → w'.win ≡ world.win → (heap' : Heap) (g' : Global Machine) → StageStands code s st.elements w' heap' g'.words tr.thread (with_stage q y) instrs.Exit y
+  runs_on : (q : StateOf) (y : Stage) → IsExiting y → (w' : World) → w'.slots ≡ world.slots → w'.win ≡ world.win → (heap' : Heap) (g' : Global Machine) → StageStands code s st.elements w' heap' g'.words tr.thread (with_stage q y) Instr.Exit y
       → Runs x code s ls st.elements w' heap' g' tr.thread (with_stage q y)
   runs_on q y ey w' es ew heap' g' stage =
       let m' = with_stage q y in
@@ -290,7 +280,7 @@ module _ (x : Targets) (code : Code) (s : Shape) (ls : Labels) (wt : IsWellTyped
           few = (let a = st.firsts.few in let b = next_same in let c = sum_up THREADS g.made t (counted m'.at.state) in omega arith);
         }
 
-    says_state : g.made tr.thread + counted q ≤ 100000000 → (may_go q ≡ true → StageStands code s st.elements world (heap_now st.heap words) words tr.thread m' instrs.Exit y) → State x code s ls now world
+    says_state : g.made tr.thread + counted q ≤ 100000000 → (may_go q ≡ true → StageStands code s st.elements world (heap_now st.heap words) words tr.thread m' Instr.Exit y) → State x code s ls now world
     says_state room stage =
         most_state x code s ls g world st t may.started words m' own most world refl refl
         (record {
@@ -334,7 +324,7 @@ module _ (x : Targets) (code : Code) (s : Shape) (ls : Labels) (wt : IsWellTyped
 
     row_state : (w' : World) → w'.slots ≡ world.slots → w'.win ≡ world.win → w'.obj ≡ world.obj → w'.mutex ≡ world.mutex → KeepsOthers s world w' st.heap (heap_now st.heap words) g.words words tr.thread
         → WorldInvariant (size_of_run code s) (lang_of x) w' → Shows x s st.cells st.elements (conc_of code (made_turn g tr.thread words m1)) w' → ((i : ℕ) → i < granules s → epoch_of (slice_index words (97 + i)) ≡ epoch_of (slice_index g.words (97 + i)))
-        → StageStands code s st.elements w' (heap_now st.heap words) words tr.thread m1 instrs.Exit y → g.made tr.thread + 1 ≤ 100000000 → State x code s ls (made_turn g tr.thread words m1) w'
+        → StageStands code s st.elements w' (heap_now st.heap words) words tr.thread m1 Instr.Exit y → g.made tr.thread + 1 ≤ 100000000 → State x code s ls (made_turn g tr.thread words m1) w'
     row_state w' es ew eo em others inv sim epochs stage few =
         let h = st.heap_stands in
         let now = made_turn g t words m1 in
@@ -370,7 +360,7 @@ module _ (x : Targets) (code : Code) (s : Shape) (ls : Labels) (wt : IsWellTyped
   same_kept = subst (λ h. Kept (arena s) (record st.heap { words = h })) (fun_ext st.heap_stands.words) st.heap_stands.kept
 
   stage_state : (y : Stage) (ey : IsExiting y) → ((kind : Kind) (p : ℕ) → noted_by (with_stage RunsOn y) kind p ≡ noted_by (g.threads tr.thread) kind p)
-      → StageStands code s st.elements world (heap_now st.heap g.words) g.words tr.thread (with_stage RunsOn y) instrs.Exit y → g.made tr.thread + 1 ≤ 100000000
+      → StageStands code s st.elements world (heap_now st.heap g.words) g.words tr.thread (with_stage RunsOn y) Instr.Exit y → g.made tr.thread + 1 ≤ 100000000
       → State x code s ls (made_turn g tr.thread g.words (with_stage RunsOn y)) world
   stage_state y ey same stage few =
       let n : (kind : Kind) → put (λ u. noted_by (g.threads u) kind) t (noted_by (with_stage RunsOn y) kind) ≡ (λ u. noted_by (g.threads u) kind) = λ kind. fun_ext (put_self (λ u. noted_by (g.threads u) kind) t (noted_by (with_stage RunsOn y) kind) (fun_ext (same kind))) in
@@ -548,7 +538,7 @@ module _ (x : Targets) (code : Code) (s : Shape) (ls : Labels) (wt : IsWellTyped
           }
 
       withdraws_state : (y : Stage) (ey : IsExiting y) → ((kind : Kind) (q : ℕ) → noted_by (with_stage RunsOn y) kind q ≡ put (noted_by (g.threads tr.thread) kind) p 0 q)
-          → ((w' : World) → StageStands code s st.elements w' (heap_now st.heap new_words) new_words tr.thread (with_stage RunsOn y) instrs.Exit y) → g.made tr.thread + 1 ≤ 100000000 → has_returned (g.threads tr.thread) ≡ true
+          → ((w' : World) → StageStands code s st.elements w' (heap_now st.heap new_words) new_words tr.thread (with_stage RunsOn y) Instr.Exit y) → g.made tr.thread + 1 ≤ 100000000 → has_returned (g.threads tr.thread) ≡ true
           → (w' : World) × (State x code s ls (made_turn g tr.thread new_words (with_stage RunsOn y)) w' × ((e : Effect (lang_of x) tr.thread (has_returned (g.threads tr.thread)) (changes_objects (instr_at code (g.threads tr.thread).at.pc) (g.threads tr.thread)) world w') × (events_of (lang_of x) tr.thread (has_returned (g.threads tr.thread)) (changes_objects (instr_at code (g.threads tr.thread).at.pc) (g.threads tr.thread)) world w' e ≡ [])))
       withdraws_state y ey notes stage few back =
           let n : (kind : Kind) → put (λ u. noted_by (g.threads u) kind) t (noted_by (with_stage RunsOn y) kind) ≡ put2 (λ u. noted_by (g.threads u) kind) t p 0 = λ kind. ap (put (λ u. noted_by (g.threads u) kind) t) (fun_ext (notes kind)) in
@@ -579,7 +569,7 @@ module _ (x : Targets) (code : Code) (s : Shape) (ls : Labels) (wt : IsWellTyped
 
 -- ---- all turns of an Exit
 module _ (x : Targets) (code : Code) (s : Shape) (ls : Labels) (wt : IsWellTyped x code ls) (fits : FitsShape code s) (laws : ShadowLaws) (g : Global Machine) (world : World) (st : State x code s ls g world) (tr : Turn)
-    (may : MayTurn bounds (one_thread code s) g tr) (is : instr_at code (g.threads tr.thread).at.pc ≡ instrs.Exit) where
+    (may : MayTurn bounds (one_thread code s) g tr) (is : instr_at code (g.threads tr.thread).at.pc ≡ Instr.Exit) where
   abbrev n : Machine
   n = g.threads tr.thread
 
@@ -720,7 +710,7 @@ module _ (x : Targets) (code : Code) (s : Shape) (ls : Labels) (wt : IsWellTyped
       three_low : (k : ℕ) → 3 < 2 ^ 64
       three_low k = omega arith
 
-  by_stage : (y : Stage) → (g.threads tr.thread).own.stage ≡ y → StageStands code s st.elements world st.heap g.words tr.thread (g.threads tr.thread) instrs.Exit y → Followed x code s ls g world tr
+  by_stage : (y : Stage) → (g.threads tr.thread).own.stage ≡ y → StageStands code s st.elements world st.heap g.words tr.thread (g.threads tr.thread) Instr.Exit y → Followed x code s ls g world tr
   by_stage Rests e h = exit_says e
   by_stage (Withdraws row) e h = exit_looks row e h
   by_stage (WithdrawsFrom row seen) e h = exit_withdraws row seen e h

@@ -1,13 +1,6 @@
 -- Turns that put a reference into a register of the frame on top, or take it away, perhaps with a store of one word.
-use Rattle.std.proofs.{Common.{◌≡◌, ℕ, ℤ, pos, ◌+◌, ◌<◌, ◌≤◌, ◌≢◌, true, List, Option, Some, None, refl, sym, ap, ◌∙◌, subst, arith}, lemmas.List.{get_or-set_same, get_or-set_other, length-set}}
-use mathlib.Core.Path.{fun_ext}
-use Rattle.std.specs.Prelude.{length, slice_index, slice_index_or, slice_set}
-use Rattle.sharc_code.specs.{declared.state.TheConstants.FRAMES, declared.code.Code.Code, declared.instr.Instr.Instr, declared.shape.Shape.Shape, declared.state.Frame.Frame, declared.state.Stage.TheVariants.Rests, Layout.first_cell, declared.state.At.At, Machine.{Own as Own', next, Machine, instr_at}, Path.{may_go, counted}, Runs.{Global, put}}
-use Rattle.sharc_heap.specs.Accesses.{ListsNoted}
-use Rattle.sharc_locks.specs.declared.held_log.HeldMutex.{HeldMutex}
-use Rattle.sharc_code.proofs.Places.{put_other, put_all}
-use Rattle.sharc_invariant.specs.{Granules.{GranuleState, Passed}, Types.{Targets, ObjectType}, Labels.{Closed, Label, Labels, Less, Leads}, Typed.{IsWellTyped, IsRef}, World.{TypedReference, Holder, RegisterOf, ArgumentOf, World, Window, Shut, Sole, In, Slot, Cell, in_ref, place, Free, Uses, WorldInvariant, By, put2}, Blocks.{Heap, Built, InBlock}, Words.{lang_of, conc_of, Shows, register_of, is_ended, set_reg}, Turns.{made_turn, made_conc, KeepsOthers}, State.{State, View, view_of, vals_of, BelowStands, TopStands, FramesStand, size_of_run}}
-use Rattle.sharc_invariant.proofs.{Effects.{place_same, place_other}, Frames.{Agrees, Low, callers_agree, filled}, Quiet.{KeepsOwn, KeepsWords, heap_now, quiet_state, noted_same, conc_plain}, Own.{is_single, ref_inside, runs, rests, not_begun, begun_before}, Plain.{register_plain, next_runs, going}, Others.loses}
+use Rattle.sharc_invariant.proofs.{Imports.{◌≡◌, ℕ, ℤ, pos, ◌+◌, ◌<◌, ◌≤◌, ◌≢◌, true, List, Option, Some, None, refl, sym, ap, ◌∙◌, subst, arith, get_or-set_same, get_or-set_other, length-set, fun_ext, length, slice_index, slice_index_or, slice_set, FRAMES, Code, Instr, Shape, Frame, Rests, first_cell, At, Own as Own', next, Machine, instr_at, may_go, counted, Global, put, ListsNoted, HeldMutex, put_other, put_all, GranuleState, Passed, Targets, ObjectType, Closed, Label, Labels, Less, Leads, IsWellTyped, IsRef, TypedReference, Holder, RegisterOf, ArgumentOf, World, Window, Shut, Sole, In, Slot, CellOf as Cell, in_ref, place, Uses, WorldInvariant, By, put2, Heap, Built, InBlock, lang_of, conc_of, Shows, register_of, is_ended, set_reg, made_turn, made_conc, KeepsOthers, State, View, view_of, vals_of, BelowStands, TopStands, FramesStand, size_of_run}, Effects.{place_same, place_other}, Frames.{Agrees, Low, callers_agree, filled}, Quiet.{KeepsOwn, KeepsWords, heap_now, quiet_state, noted_same, conc_plain}, Own.{is_single, ref_inside, runs, rests, not_begun, begun_before}, Plain.{register_plain, next_runs, going}, Others.loses}
+use Rattle.sharc_invariant.specs.World.{Free}
 
 -- ---- the registers of a machine in which one is set
 pub refs_set : (code : Code) (m m' : Machine) (k o : ℕ) → m.own.stage ≡ Rests → m'.own.stage ≡ Rests → m'.refs ≡ slice_set m.refs k o → k < length m.refs → (j : ℕ) → register_of code m' j ≡ put (register_of code m) k o j

@@ -1,10 +1,6 @@
 -- Frames: what a label says of registers, when it says less, and when registers change.
-use Rattle.std.proofs.{Common.{◌≡◌, ℕ, ℤ, pos, negsuc, zero, suc, ◌+◌, ◌<◌, ◌≤◌, ◌⊎◌, ◌≢◌, Bool, true, false, cond, List, [], ◌∷◌, Some, None, refl, sym, ap, ◌∙◌, subst, inl, inr, ⊎_elim, arith}, lemmas.Bool.{eqb-false, ltb-true}, lemmas.Bool.Decides.nat_tests}
-use Rattle.std.specs.Prelude.{map, nat_eq, nat_lt, ◌*◌, ◌/◌, ◌&&◌, not, filter}
-use Rattle.sharc_code.specs.{declared.instr.Width.Width, declared.instr.Width.TheVariants.{Char, Int, Long}, Arithmetic.holds, declared.code.Code.Code, declared.state.Frame.Frame, Runs.put}
-use Rattle.sharc_code.proofs.Places.{put_same, put_other, put_all}
-use Rattle.sharc_invariant.specs.{Granules.Passed, Types.{Targets, ObjectType, Mutex, Lock, StaticType, mutex_of, type_of, SomeNames, Mentions, cells_of}, Types.Lock.{Global, Through, Self}, Labels.{Entry, Empty, Refers, Unknown, Element, Number, Anything, Exactly, Within, Indexes, OfElement, OfGlobal, Pass, IsIn, Label, Labels, SameReference, Itself, IsCopy, HasCopy, Copies, Chained, SameLock, AllSame, SameType, LessEntry, Narrower, LessNumber, Less, EntryMentions, HasBase, IsScoped, fill, empty, without_copies, without_index, without_base, is_base}, Typed.{below, below_copy, below_number, below_pass, called_label, Calls}, State.{frame_at, BelowStands, View, EntryStands, NumberStands, PassStands, FrameStands, TopStands, refs_at, types_at}}
-use Rattle.sharc_lemmas.proofs.Numbers.{eq_refl}
+use Rattle.sharc_invariant.proofs.Imports.{◌≡◌, ℕ, ℤ, pos, negsuc, zero, suc, ◌+◌, ◌<◌, ◌≤◌, ◌⊎◌, ◌≢◌, Bool, true, false, cond, List, [], ◌∷◌, Some, None, refl, sym, ap, ◌∙◌, subst, inl, inr, ⊎_elim, arith, eqb-false, ltb-true, nat_tests, map, nat_eq, nat_lt, ◌*◌, ◌/◌, ◌&&◌, not, filter, Width, Char, Int, Long, holds, Code, Frame, put, put_same, put_other, put_all, Passed, Targets, ObjectType, Mutex, Lock, StaticType, mutex_of, type_of, SomeNames, Mentions, cells_of, Through, Self, Entry, Empty, Refers, Unknown, Element, Number, Anything, Exactly, Within, Indexes, OfElement, OfGlobal, Pass, IsIn, Label, Labels, SameReference, Itself, IsCopy, HasCopy, Copies, Chained, SameLock, AllSame, SameType, LessEntry, Narrower, LessNumber, Less, EntryMentions, HasBase, IsScoped, fill, empty, without_copies, without_index, without_base, is_base, below, below_copy, below_number, below_pass, called_label, Calls, frame_at, BelowStands, View, EntryStands, NumberStands, PassStands, FrameStands, TopStands, refs_at, types_at, eq_refl}
+use Rattle.sharc_invariant.specs.Types.Lock.{Global}
 
 -- ---- the same reference, lock, type
 pub same_ref : (l : Label) (refs : ℕ → ℕ) → ((r : ℕ) → refs (l.same r) ≡ refs r) → (a b : ℕ) → SameReference l a b → refs a ≡ refs b

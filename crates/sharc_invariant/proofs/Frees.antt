@@ -1,15 +1,5 @@
 -- The turns of a Free that load and clear: how many elements there are, and each granule.
-use Rattle.std.proofs.{Common.{◌≡◌, ℕ, suc, ◌+◌, ◌*◌, ◌<◌, ◌≤◌, ◌≢◌, true, false, cond, List, None, refl, sym, ap, ◌∙◌, subst, ⊎_elim, arith, ltb-true}, lemmas.Bool.Decides.nat_tests, lemmas.List.set-get_or}
-use mathlib.Core.Path.{fun_ext}
-use Rattle.std.specs.Prelude.{length, slice_index, slice_set, nat_lt, ◌==◌, min}
-use Rattle.sharc_word.specs.{declared.step.TheConstants.THREADS, declared.step.WordOp.TheVariants.{Load, Swap}}
-use Rattle.sharc_heap.specs.{ShadowLaws.ShadowLaws, ShadowWord.epoch_of, Functions.cleared_of}
-use Rattle.sharc_code.specs.{declared.code.Code.Code, declared.shape.Shape.Shape, declared.state.Stage.Stage, declared.state.Stage.TheVariants.{Rests, Empties, FreeLooks, FreeClears, Uncounts}, Layout.{granules, granule_at, first_cell, length_word, shadow_word}, Machine.{Machine, step_of, instr_at, ref, data_granules, data_granule, at_stage, act, largest, free, free_looks, empties, layout_at, fields}, Path.{turn, counted}, Runs.{Turn, Global, put, MayTurn, after_turn}, Whole.{one_thread, bounds}, declared.code.Layout.Layout}
-use Rattle.sharc_code.specs.declared.instr.Instr.TheVariants as instrs
-use Rattle.sharc_code.proofs.Places.{put_all}
-use Rattle.sharc_invariant.specs.{Granules.{cleared, sum_to}, Types.{Targets, ObjectType, cells_of}, Labels.{Label, Labels}, Typed.{Fine, IsWellTyped}, World.{RegisterOf, In, World, Sole, put2, set_gran}, Blocks.{Built, InBlock, Heap}, Words.{lang_of, conc_of, Shows, length_at, shadow_at, staged_of}, Turns.made_turn, Effect.{Silently, Clears as ClearsOf}, State.{State, view_of, EntryStands, GateStands, StageStands, AreCleared, refs_at, types_at, size_of_run, all_pointers, granules_freed, Emptying}, Laws.Turned}
-use Rattle.sharc_invariant.proofs.{Effects.clear_ok, Plain.same_words, Quiet.{heap_now, label_held}, Changes.KeepsLow, Walks.{IsWalk, walk_hold}, Turns.{asks_turn, room_of}, Stores.{index_put, shadow_store, stored_within}, Seen.{shadow_stored, put2_off}, Clears.{in_cells, sum_more, epochs_low, cleared_small, cleared_reads, part_words, object, walk_top, walk_reads, some, live, stays_on}, ClearTurns.cleared_more}
-use Rattle.sharc_lemmas.proofs.Numbers.{ne_eq, not_below as not_less, zero_le}
+use Rattle.sharc_invariant.proofs.{Imports.{◌≡◌, ℕ, suc, ◌+◌, ◌*◌, ◌<◌, ◌≤◌, ◌≢◌, true, false, cond, List, None, refl, sym, ap, ◌∙◌, subst, ⊎_elim, arith, ltb-true, nat_tests, set-get_or, fun_ext, length, slice_index, slice_set, nat_lt, ◌==◌, min, THREADS, Load, Swap, ShadowLaws, epoch_of, cleared_of, Code, Shape, Stage, Rests, Empties, FreeLooks, FreeClears, Uncounts, granules, granule_at, first_cell, length_word, shadow_word, Machine, step_of, instr_at, ref, data_granules, data_granule, at_stage, act, largest, free, free_looks, empties, layout_at, fields, turn, counted, Turn, Global, put, MayTurn, after_turn, one_thread, bounds, Layout, Instr, put_all, cleared, sum_to, Targets, ObjectType, cells_of, Label, Labels, Fine, IsWellTyped, RegisterOf, In, World, Sole, put2, set_gran, Built, InBlock, Heap, lang_of, conc_of, Shows, length_at, shadow_at, staged_of, made_turn, Silently, ClearsOf, State, view_of, EntryStands, GateStands, StageStands, AreCleared, refs_at, types_at, size_of_run, all_pointers, granules_freed, Emptying, Turned, ne_eq, not_less, zero_le}, Effects.clear_ok, Plain.same_words, Quiet.{heap_now, label_held}, Changes.KeepsLow, Walks.{IsWalk, walk_hold}, Turns.{asks_turn, room_of}, Stores.{index_put, shadow_store, stored_within}, Seen.{shadow_stored, put2_off}, Clears.{in_cells, sum_more, epochs_low, cleared_small, cleared_reads, part_words, object, walk_top, walk_reads, some, live, stays_on}, ClearTurns.cleared_more}
 
 pub length_is : (s : Shape) (o : ℕ) → o < granules s → length_word s o ≡ length_at s o
 length_is s o lt = let e : nat_lt o (granules s) ≡ true = grind (arith, nat_tests) in let q : granule_at s o ≡ o = rw e refl in omega arith
@@ -27,7 +17,7 @@ zero_is : (n : ℕ) → nat_lt 0 (min n largest) ≡ false → n ≡ 0
 zero_is n e = let a = not_less 0 (min n largest) e in omega arith
 
 module _ (x : Targets) (code : Code) (s : Shape) (ls : Labels) (wt : IsWellTyped x code ls) (laws : ShadowLaws) (g : Global Machine) (world : World) (st : State x code s ls g world) (tr : Turn)
-    (may : MayTurn bounds (one_thread code s) g tr) (r layout site : ℕ) (is : instr_at code (g.threads tr.thread).at.pc ≡ instrs.Free r layout site) where
+    (may : MayTurn bounds (one_thread code s) g tr) (r layout site : ℕ) (is : instr_at code (g.threads tr.thread).at.pc ≡ Instr.Free r layout site) where
   abbrev t : ℕ
   t = tr.thread
 
@@ -46,13 +36,13 @@ module _ (x : Targets) (code : Code) (s : Shape) (ls : Labels) (wt : IsWellTyped
   abbrev pub lay : Layout
   lay = layout_at code layout
 
-  pub free_fine : Fine x code ls (g.threads tr.thread).at.pc here (instrs.Free r layout site)
+  pub free_fine : Fine x code ls (g.threads tr.thread).at.pc here (Instr.Free r layout site)
   free_fine = subst (Fine x code ls m.at.pc here) is (wt.fine m.at.pc)
 
   in_function : here.function ≢ None
   in_function e = ⊎_elim
-      (λ (z : m.at.pc ≡ 0). let q : instrs.Free r layout site ≡ instrs.Start wt.begin.0 = sym is ∙ ap (instr_at code) z ∙ wt.begin.1 in cc)
-      (λ z. let q : instrs.Free r layout site ≡ instrs.Exit = sym is ∙ z in cc)
+      (λ (z : m.at.pc ≡ 0). let q : Instr.Free r layout site ≡ Instr.Start wt.begin.0 = sym is ∙ ap (instr_at code) z ∙ wt.begin.1 in cc)
+      (λ z. let q : Instr.Free r layout site ≡ Instr.Exit = sym is ∙ z in cc)
       (wt.placed m.at.pc e)
 
   pub free_begun : (pc : ℕ) → (ls.at pc).function ≡ here.function → (pc == 0) ≡ false
@@ -74,7 +64,7 @@ module _ (x : Targets) (code : Code) (s : Shape) (ls : Labels) (wt : IsWellTyped
   free_act y e = ap (λ i. act code s i m) is ∙ ap (free code s m r lay) e
 
   -- what a stage of the next place wants, by its instruction
-  pub at_free : (w : World) (heap : Heap) (words : List ℕ) (y : Stage) → StageStands code s st.elements w heap words tr.thread (g.threads tr.thread) (instrs.Free r layout site) y
+  pub at_free : (w : World) (heap : Heap) (words : List ℕ) (y : Stage) → StageStands code s st.elements w heap words tr.thread (g.threads tr.thread) (Instr.Free r layout site) y
       → StageStands code s st.elements w heap words tr.thread (g.threads tr.thread) (instr_at code (g.threads tr.thread).at.pc) y
   at_free w heap words y h = subst (λ i. StageStands code s st.elements w heap words t m i y) (sym is) h
 
@@ -127,7 +117,7 @@ module _ (x : Targets) (code : Code) (s : Shape) (ls : Labels) (wt : IsWellTyped
     later : (i : ℕ) → i < granules s → epoch_of (slice_index g.words (97 + i)) ≤ sum_to THREADS (put g.made tr.thread (g.made tr.thread + 1))
     later i lt = let a = st.epochs i lt in let b = sum_more g.made t 1 (st.begins.few t may.started) in omega arith
 
-    loaded_stays : (y : Stage) → IsWalk y → staged_of y ≡ staged_of (g.threads tr.thread).own.stage → StageStands code s st.elements world (heap_now st.heap g.words) g.words tr.thread (g.threads tr.thread) (instrs.Free r layout site) y → g.made tr.thread + 1 ≤ 100000000
+    loaded_stays : (y : Stage) → IsWalk y → staged_of y ≡ staged_of (g.threads tr.thread).own.stage → StageStands code s st.elements world (heap_now st.heap g.words) g.words tr.thread (g.threads tr.thread) (Instr.Free r layout site) y → g.made tr.thread + 1 ≤ 100000000
         → State x code s ls (made_turn g tr.thread g.words (at_stage (g.threads tr.thread) y)) world
     loaded_stays y wy same h = stays_on x code s ls wt g world st tr may walk begun r free_win free_fine.2 world.gran (λ q h _. refl) g.words same_low (same_words x code s ls g world st).kept (λ u b j _ _. refl) st.inv st.sim later y wy same
         (at_free world (heap_now st.heap g.words) g.words y h)
@@ -174,7 +164,7 @@ module _ (x : Targets) (code : Code) (s : Shape) (ls : Labels) (wt : IsWellTyped
         ] refl in
         quietly m' lw done0.0 st'
 
-    pub free_looks_turn : (done all : ℕ) → StageStands code s st.elements world st.heap g.words tr.thread (g.threads tr.thread) (instrs.Free r layout site) (FreeLooks done all) → (g.threads tr.thread).own.stage ≡ FreeLooks done all → Turned x code s ls g world tr
+    pub free_looks_turn : (done all : ℕ) → StageStands code s st.elements world st.heap g.words tr.thread (g.threads tr.thread) (Instr.Free r layout site) (FreeLooks done all) → (g.threads tr.thread).own.stage ≡ FreeLooks done all → Turned x code s ls g world tr
     free_looks_turn done all h e =
         let lt : done < data_granules (st.elements o) lay.cells = subst (λ c. done < c) (granules_of all h.0.0) h.1.0 in
         let k = shadow_word s (data_granule (ref m r) done) in
@@ -185,7 +175,7 @@ module _ (x : Targets) (code : Code) (s : Shape) (ls : Labels) (wt : IsWellTyped
         let ep : epoch_of found ≡ (world.gran (ref m r) done).epoch = ap (λ k. epoch_of (slice_index g.words k)) (word_is done lt) ∙ sym rd.epoch ∙ ap (λ h. (world.gran h done).epoch) (sym free_reads) in
         quietly m' k done0.0 (loaded_stays (FreeClears done all found) tt (sym (ap staged_of e)) (h.0, (h.1.0, h.1.1, ep)) (few_of (slice_set g.words k found) m' done0.0 refl))
 
-    pub free_swaps : (done all seen : ℕ) → StageStands code s st.elements world st.heap g.words tr.thread (g.threads tr.thread) (instrs.Free r layout site) (FreeClears done all seen) → (g.threads tr.thread).own.stage ≡ FreeClears done all seen → Turned x code s ls g world tr
+    pub free_swaps : (done all seen : ℕ) → StageStands code s st.elements world st.heap g.words tr.thread (g.threads tr.thread) (Instr.Free r layout site) (FreeClears done all seen) → (g.threads tr.thread).own.stage ≡ FreeClears done all seen → Turned x code s ls g world tr
     free_swaps done all seen h e =
         let lt : done < data_granules (st.elements o) lay.cells = subst (λ c. done < c) (granules_of all h.0.0) h.1.0 in
         let v = cleared_of seen in
@@ -223,7 +213,7 @@ module _ (x : Targets) (code : Code) (s : Shape) (ls : Labels) (wt : IsWellTyped
         let bits = st.inv.bits o done in
         let cl : AreCleared w' (ref m r) (done + 1) = subst (λ h. AreCleared w' h (done + 1)) (sym free_reads) (cleared_more world o done bits.read_low bits.write_low (subst (λ h. AreCleared world h done) free_reads h.1.1)) in
         let within : (u b j : ℕ) → st.heap.state b ≡ Built u → InBlock (record { first = 1 + s.globals; words = first_cell s }) st.heap b j → slice_index words j ≡ slice_index g.words j = stored_within x code s ls g world st k v ms on in
-        let on_stage : (y : Stage) → IsWalk y → staged_of y ≡ staged_of m.own.stage → StageStands code s st.elements w' (heap_now st.heap words) words t m (instrs.Free r layout site) y → State x code s ls (made_turn g t words (at_stage m y)) w' = λ y wy same sh.
+        let on_stage : (y : Stage) → IsWalk y → staged_of y ≡ staged_of m.own.stage → StageStands code s st.elements w' (heap_now st.heap words) words t m (Instr.Free r layout site) y → State x code s ls (made_turn g t words (at_stage m y)) w' = λ y wy same sh.
         stays_on x code s ls wt g world st tr may walk begun r free_win free_fine.2 G off words pw.0 pw.1 within inv sim2 epochs y wy same (at_free w' (heap_now st.heap words) words y sh) few in
         let st' : State x code s ls (made_turn g t words m') w' = granules_split words w' (done + 1) all cl
         (λ l. on_stage (FreeLooks (done + 1) all) tt (sym (ap staged_of e)) (h.0, (l, cl)))

@@ -1,17 +1,8 @@
 -- Give keeps the invariant: the object that a thread has alone comes to stand under another type, whose cells are the same.
-use Rattle.std.proofs.{Common.{◌≡◌, ℕ, ℤ, suc, ◌+◌, ◌<◌, ◌≢◌, true, false, refl, sym, ap, ◌∙◌, subst, inl, arith, ◌*◌, ◌≤◌}, lemmas.List.set-get_or}
-use Rattle.std.specs.Prelude.{length, slice_index, ◌↔◌, ◌==◌, is_some, Contains}
-use Rattle.sharc_code.specs.{declared.code.Code.Code, declared.shape.Shape.Shape, Layout.{Fits, granules, count_word}, Machine.{Machine, instr_at, goes, ref, act}, Runs.{Turn, Global, put, MayTurn, after_turn}, Whole.{one_thread, bounds}, declared.state.Stage.TheVariants.Rests}
-use Rattle.sharc_code.specs.declared.instr.Instr.TheVariants as instrs
-use Rattle.sharc_code.proofs.Places.{put_same, put_other, put_all}
-use Rattle.sharc_invariant.specs.{Types.{Targets, ObjectType, StaticType, type_at, type_of, Mentions, cells_of, field_in}, Labels.{Empty, Refers, Label, Labels, fill, empty, Unknown, LessEntry}, Typed.{IsWellTyped, refs_in, ints_in, Fine, Recasts}, World.{TypedReference, RegisterOf, In, Slot, Cell as CellOf, World, Shut, Sole, WorldInvariant, in_ref, ArgumentOf, give, LogOf, Staged, ObjectState}, Words.{lang_of, conc_of, Shows, cell_at, Apart, head_of}, Turns.{made_turn, KeepsOthers}, State.{State, View, view_of, TopStands, EntryStands, GateStands, refs_at, types_at, size_of_run, HeapStands, Locks, Runs, FramesStand}, Laws.Turned, Granules.sum_to, Effect.Gives, Blocks.Heap, Objects.{changes_objects, objects_now, objects_behind, owned, type_held}}
-use Rattle.sharc_invariant.proofs.{Effects.{place_other, place_all, sole_at, place_same, give_ok}, Frames.{filled, fill_stands, empty_stands, type_kept, put_base}, Turns.{asks_turn, room_of}, Plain.{same_words, register_plain, next_runs}, CheckTurns.put_put, Scoped.scoped_empty, Loads.lang_laws, Quiet.heap_now, Changes.{KeepsPart, KeepsLow, lower, held_same, changed_state}, Walks.{IsWalk, conc_walked}, Clears.sum_more, Filled.{view_filled, below_filled}, Own.{begun_before, not_begun, fine, runs, rests, top, gate}, Recasts.{IsAlike, recast_types, recast_alike}, Others.loses, Owned.owned_is}
-use Rattle.sharc_word.specs.declared.step.TheConstants.{THREADS}
-use Rattle.sharc_locks.specs.HeldLog.{object_of}
-use Rattle.sharc_heap.specs.{ShadowWord.epoch_of, Count.test_of}
+use Rattle.sharc_invariant.proofs.{Imports.{◌≡◌, ℕ, ℤ, suc, ◌+◌, ◌<◌, ◌≢◌, true, false, refl, sym, ap, ◌∙◌, subst, inl, arith, ◌*◌, ◌≤◌, set-get_or, length, slice_index, ◌↔◌, ◌==◌, is_some, Contains, Code, Shape, Fits, granules, count_word, Machine, instr_at, goes, ref, act, Turn, Global, put, MayTurn, after_turn, one_thread, bounds, Rests, Instr, put_same, put_other, put_all, Targets, ObjectType, StaticType, type_at, type_of, Mentions, cells_of, field_in, Empty, Refers, Label, Labels, fill, empty, Unknown, LessEntry, IsWellTyped, refs_in, ints_in, Fine, Recasts, TypedReference, RegisterOf, In, Slot, CellOf, World, Shut, Sole, WorldInvariant, in_ref, ArgumentOf, give, LogOf, Staged, ObjectState, lang_of, conc_of, Shows, cell_at, Apart, head_of, made_turn, KeepsOthers, State, View, view_of, TopStands, EntryStands, GateStands, refs_at, types_at, size_of_run, HeapStands, Locks, Runs, FramesStand, Turned, sum_to, Gives, Heap, changes_objects, objects_now, objects_behind, owned, type_held, THREADS, object_of, epoch_of, test_of}, Effects.{place_other, place_all, sole_at, place_same, give_ok}, Frames.{filled, fill_stands, empty_stands, type_kept, put_base}, Turns.{asks_turn, room_of}, Plain.{same_words, register_plain, next_runs}, CheckTurns.put_put, Scoped.scoped_empty, Loads.lang_laws, Quiet.heap_now, Changes.{KeepsPart, KeepsLow, lower, held_same, changed_state}, Walks.{IsWalk, conc_walked}, Clears.sum_more, Filled.{view_filled, below_filled}, Own.{begun_before, not_begun, fine, runs, rests, top, gate}, Recasts.{IsAlike, recast_types, recast_alike}, Others.loses, Owned.owned_is}
 
 module _ (x : Targets) (code : Code) (s : Shape) (ls : Labels) (wt : IsWellTyped x code ls) (fits : Fits code s) (g : Global Machine) (world : World) (st : State x code s ls g world) (tr : Turn)
-    (may : MayTurn bounds (one_thread code s) g tr) (r site : ℕ) (is : instr_at code (g.threads tr.thread).at.pc ≡ instrs.Give r site) where
+    (may : MayTurn bounds (one_thread code s) g tr) (r site : ℕ) (is : instr_at code (g.threads tr.thread).at.pc ≡ Instr.Give r site) where
   abbrev t : ℕ
   t = tr.thread
 
@@ -39,20 +30,20 @@ module _ (x : Targets) (code : Code) (s : Shape) (ls : Labels) (wt : IsWellTyped
   abbrev m' : Machine
   m' = goes (g.threads tr.thread)
 
-  f : Fine x code ls (g.threads tr.thread).at.pc here (instrs.Give r site)
-  f = fine x code s ls wt g world st t may.started may.next.runs (instrs.Give r site) is refl
+  f : Fine x code ls (g.threads tr.thread).at.pc here (Instr.Give r site)
+  f = fine x code s ls wt g world st t may.started may.next.runs (Instr.Give r site) is refl
 
   rest : (g.threads tr.thread).own.stage ≡ Rests
-  rest = rests x code s ls wt g world st t may.started may.next.runs (instrs.Give r site) is refl
+  rest = rests x code s ls wt g world st t may.started may.next.runs (Instr.Give r site) is refl
 
   abbrev names : ℕ → ℤ
-  names = (runs x code s ls wt g world st tr.thread may.started may.next.runs (instrs.Give r site) is refl).names
+  names = (runs x code s ls wt g world st tr.thread may.started may.next.runs (Instr.Give r site) is refl).names
 
   tp : TopStands x tr.thread view (g.threads tr.thread).at.refs (g.threads tr.thread).at.ints names here
-  tp = top x code s ls wt g world st t may.started may.next.runs (instrs.Give r site) is refl
+  tp = top x code s ls wt g world st t may.started may.next.runs (Instr.Give r site) is refl
 
   win : world.win tr.thread ≡ Sole k
-  win = subst (GateStands s world t m) f.0 (gate x code s ls wt g world st t may.started may.next.runs (instrs.Give r site) is refl)
+  win = subst (GateStands s world t m) f.0 (gate x code s ls wt g world st t may.started may.next.runs (Instr.Give r site) is refl)
 
   abbrev was : StaticType
   was = f.2.0
@@ -134,10 +125,10 @@ module _ (x : Targets) (code : Code) (s : Shape) (ls : Labels) (wt : IsWellTyped
   low = record { count = refl; low = λ j _ _. refl; are_words = st.are_words }
 
   begun : ((g.threads tr.thread).at.pc == 0) ≡ false
-  begun = begun_before x code s ls wt g world st t may.started may.next.runs (instrs.Give r site) is refl
+  begun = begun_before x code s ls wt g world st t may.started may.next.runs (Instr.Give r site) is refl
 
   begun' : ((g.threads tr.thread).at.pc + 1 == 0) ≡ false
-  begun' = not_begun x code s ls wt g world st t may.started may.next.runs (instrs.Give r site) is refl (m.at.pc + 1) f.2.5.function
+  begun' = not_begun x code s ls wt g world st t may.started may.next.runs (Instr.Give r site) is refl (m.at.pc + 1) f.2.5.function
 
   walk : IsWalk (g.threads tr.thread).own.stage
   walk = subst IsWalk (sym rest) tt
@@ -210,8 +201,8 @@ module _ (x : Targets) (code : Code) (s : Shape) (ls : Labels) (wt : IsWellTyped
 
   runs_now : Runs x code s ls st.elements w' heap' now tr.thread m'
   runs_now =
-      let rn = runs x code s ls wt g world st t may.started may.next.runs (instrs.Give r site) is refl in
-      next_runs x code s ls wt g world st t may.started may.next.runs (instrs.Give r site) is refl w' heap' now m' names k' rest refl refl f.2.5 top_now
+      let rn = runs x code s ls wt g world st t may.started may.next.runs (Instr.Give r site) is refl in
+      next_runs x code s ls wt g world st t may.started may.next.runs (Instr.Give r site) is refl w' heap' now m' names k' rest refl refl f.2.5 top_now
       (subst (λ v. FramesStand x code ls t v m' here.function) (sym same_view) (below_filled x code ls t view m m' r o T refl refl refl refl here.function rn.below))
       (put_same world.win t Shut) rn.room
 

@@ -1,10 +1,5 @@
 -- Words of blocks that no object has, and the sizes of blocks.
-use Rattle.std.proofs.{Common.{◌≡◌, ℕ, ◌+◌, ◌*◌, ◌^◌, ◌<◌, ◌≤◌, ◌≢◌, true, sym, ap, ◌∙◌, subst, ⊎_elim, arith}, lemmas.Bool.{cases_eq, cases_order}, Math.Pow.pow-lt, lemmas.Nat.pow_pos, lemmas.Nat.Bits.{bit_at-pow_other, bit_at-trailing_zeros}}
-use Rattle.std.specs.Int.{w64, trailing_zeros}
-use Rattle.sharc_code.specs.{declared.shape.Shape.Shape, Layout.{granules, first_cell}, Machine.{Machine, size_of}, Runs.{Global, put}}
-use Rattle.sharc_code.proofs.Places.{put_other}
-use Rattle.sharc_invariant.specs.{Types.{Targets, field_in}, World.{World, ObjectState}, Blocks.{Built, Listed, Heap, InBlock}, Words.{MachineView, Shows, Apart, FitsContent, Reads, store, cell_at, count_at, length_at, shadow_at}, State.HeapStands}
-use Rattle.sharc_invariant.proofs.{Stores.arena, Seen.stale_off}
+use Rattle.sharc_invariant.proofs.{Imports.{◌≡◌, ℕ, ◌+◌, ◌*◌, ◌^◌, ◌<◌, ◌≤◌, ◌≢◌, true, sym, ap, ◌∙◌, subst, ⊎_elim, arith, cases_eq, cases_order, pow-lt, pow_pos, bit_at-pow_other, bit_at-trailing_zeros, w64, trailing_zeros, Shape, granules, first_cell, Machine, size_of, Global, put, put_other, Targets, field_in, World, ObjectState, Built, Listed, Heap, InBlock, MachineView, Shows, Apart, FitsContent, Reads, store, cell_at, count_at, length_at, shadow_at, HeapStands}, Stores.arena, Seen.stale_off}
 
 -- ---- sizes
 pub trailing_power : (p : ℕ) → p < 64 → trailing_zeros w64 (2 ^ p) ≡ p

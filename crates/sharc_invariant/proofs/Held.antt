@@ -1,13 +1,6 @@
 -- The checks of mutexes.
-use Rattle.std.proofs.Common.{◌≡◌, ℕ, ℤ, ◌+◌, ◌⊎◌, ◌≢◌, true, false, cond, Some, None, refl, sym, ap, ◌∙◌, subst, inl, inr, ⊎_elim}
-use Rattle.std.specs.Prelude.{◌==◌}
+use Rattle.sharc_invariant.proofs.{Imports.{◌≡◌, ℕ, ℤ, ◌+◌, ◌⊎◌, ◌≢◌, true, false, cond, Some, None, refl, sym, ap, ◌∙◌, subst, inl, inr, ⊎_elim, ◌==◌, Code, Cell, Instr, Shape, Stop, Trap, NoLock, Fits, cell_word, cell_of, Machine, Local, instr_at, ref, goes, stopped, lock_checked, is_held, is_of_null, word, turn, Turn, Global, MayTurn, one_thread, bounds, put_same, put_other, Targets, Gate, Closed, Checked, Holds, Loaded, HoldsLoaded, SoleGate, Label, Labels, Leads, LessGate, gated, IsWellTyped, knows_base, World, Window, Shut, IsLoaded, WinOk, RegisterOf, in_ref, set_win, lang_of, Silently, StopStands, State, view_of, TopStands, FramesStand, GateStands, base_of_cell, number_in, Turned}, Turns.{local_turn, room_of}, Own.{is_single, runs, rests, top, gate, fine, begun_before}, Quiet.KeepsOwn, Plain.{plain_state, is_shut, same_words, going}, Accesses.{gate_top, windowed_state}, Steps.{knows_top, stops, asserted, of_turn, reads}}
 use Rattle.sharc_tree.specs.declared.trap.Trap.TheVariants as traps
-use Rattle.sharc_code.specs.{declared.code.Code.Code, declared.instr.Cell.Cell, declared.instr.Instr.Instr, declared.shape.Shape.Shape, declared.state.Stop.Stop, declared.state.Stop.TheVariants.{Trap, NoLock}, Layout.{Fits, cell_word, cell_of}, Machine.{Machine, Local, instr_at, ref, goes, stopped, lock_checked, is_held, is_of_null, word}, Path.turn, Runs.{Turn, Global, MayTurn}, Whole.{one_thread, bounds}}
-use Rattle.sharc_code.specs.declared.instr.Cell.TheVariants as cells
-use Rattle.sharc_code.specs.declared.instr.Instr.TheVariants as instrs
-use Rattle.sharc_code.proofs.Places.{put_same, put_other}
-use Rattle.sharc_invariant.specs.{Types.Targets, Labels.{Gate, Closed, Checked, Holds, Loaded, HoldsLoaded, Sole as SoleGate, Label, Labels, Leads, LessGate, gated}, Typed.{IsWellTyped, knows_base}, World.{World, Window, Shut, Loaded as IsLoaded, WinOk, RegisterOf, in_ref, set_win}, Words.lang_of, Effect.Silently, State.{StopStands, State, view_of, TopStands, FramesStand, GateStands, base_of_cell, number_in}, Laws.Turned}
-use Rattle.sharc_invariant.proofs.{Turns.{local_turn, room_of}, Own.{is_single, runs, rests, top, gate, fine, begun_before}, Quiet.KeepsOwn, Plain.{plain_state, is_shut, same_words, going}, Accesses.{gate_top, windowed_state}, Steps.{knows_top, stops, asserted, of_turn, reads}}
 
 pub held_gate : (c : Cell) (y : Gate) → LessGate (Holds c) y → (y ≡ Closed) ⊎ (y ≡ Holds c)
 held_gate c Closed h = inl refl
@@ -56,22 +49,22 @@ module _ (x : Targets) (code : Code) (s : Shape) (ls : Labels) (wt : IsWellTyped
         never e r q = let z : Shut ≡ Window.Sole r = sym e ∙ q in cc
 
         same_held : (c : Cell) → is_held (g.threads tr.thread) (word s (g.threads tr.thread) c) ≡ true → is_held (goes (g.threads tr.thread)) (word s (goes (g.threads tr.thread)) c) ≡ true
-        same_held (cells.Global a p) h = h
-        same_held (cells.GlobalAt a p) h = h
-        same_held (cells.Object a p) h = h
-        same_held (cells.ObjectAt a p) h = h
+        same_held (Cell.Global a p) h = h
+        same_held (Cell.GlobalAt a p) h = h
+        same_held (Cell.Object a p) h = h
+        same_held (Cell.ObjectAt a p) h = h
 
         below_goes : FramesStand x code ls tr.thread (view_of st.elements world tr.thread (g.threads tr.thread)) (goes (g.threads tr.thread)) here.function
         below_goes = elim here.function as (λ f. FramesStand x code ls tr.thread (view_of st.elements world tr.thread (g.threads tr.thread)) (g.threads tr.thread) f → FramesStand x code ls tr.thread (view_of st.elements world tr.thread (g.threads tr.thread)) (goes (g.threads tr.thread)) f) [ None ↦ λ h. h | Some f ↦ λ h. h ]
             (runs x code s ls wt g world st t may.started may.next.runs i is single).below
 
-  pub Held_keeps : (c : Cell) (site : ℕ) → instr_at code (g.threads tr.thread).at.pc ≡ instrs.ChkHeld c site → Done
-  Held_keeps c site is = let i = instrs.ChkHeld c site in let f = fine x code s ls wt g world st tr.thread may.started may.next.runs i is refl in
+  pub Held_keeps : (c : Cell) (site : ℕ) → instr_at code (g.threads tr.thread).at.pc ≡ Instr.ChkHeld c site → Done
+  Held_keeps c site is = let i = Instr.ChkHeld c site in let f = fine x code s ls wt g world st tr.thread may.started may.next.runs i is refl in
       asserted x code s ls wt g world st tr may i is refl (is_held m (word s m c)) traps.MutexNotHeld site (of_turn x code s ls wt g world st tr may i is refl _ refl) f.0
       (λ b e. go_held i is refl c here e f.0 b f.2 refl refl (top x code s ls wt g world st t may.started may.next.runs i is refl))
 
-  pub Lock_check_keeps : (c : Cell) (site : ℕ) → instr_at code (g.threads tr.thread).at.pc ≡ instrs.ChkLock c site → Done
-  Lock_check_keeps c site is = let i = instrs.ChkLock c site in let f = fine x code s ls wt g world st tr.thread may.started may.next.runs i is refl in
+  pub Lock_check_keeps : (c : Cell) (site : ℕ) → instr_at code (g.threads tr.thread).at.pc ≡ Instr.ChkLock c site → Done
+  Lock_check_keeps c site is = let i = Instr.ChkLock c site in let f = fine x code s ls wt g world st tr.thread may.started may.next.runs i is refl in
       let names = (runs x code s ls wt g world st t may.started may.next.runs i is refl).names in
       let view = view_of st.elements world t m in
       let tp = top x code s ls wt g world st t may.started may.next.runs i is refl in
@@ -89,16 +82,16 @@ module _ (x : Targets) (code : Code) (s : Shape) (ls : Labels) (wt : IsWellTyped
       base_leads c h = h
 
       base_function : (c : Cell) → (knows_base here c).function ≡ here.function
-      base_function (cells.Global a p) = refl
-      base_function (cells.GlobalAt a p) = refl
-      base_function (cells.Object r p) = refl
-      base_function (cells.ObjectAt r p) = refl
+      base_function (Cell.Global a p) = refl
+      base_function (Cell.GlobalAt a p) = refl
+      base_function (Cell.Object r p) = refl
+      base_function (Cell.ObjectAt r p) = refl
 
       base_room : (c : Cell) → (knows_base here c).room ≡ here.room
-      base_room (cells.Global a p) = refl
-      base_room (cells.GlobalAt a p) = refl
-      base_room (cells.Object r p) = refl
-      base_room (cells.ObjectAt r p) = refl
+      base_room (Cell.Global a p) = refl
+      base_room (Cell.GlobalAt a p) = refl
+      base_room (Cell.Object r p) = refl
+      base_room (Cell.ObjectAt r p) = refl
 
       not_null : (r : ℕ) → (ref (g.threads tr.thread) r == 0) ≡ false → ref (g.threads tr.thread) r ≡ in_ref world (RegisterOf tr.thread ((g.threads tr.thread).at.refs + r)) → in_ref world (RegisterOf tr.thread ((g.threads tr.thread).at.refs + r)) ≢ 0
       not_null r n e z = let q : ref (g.threads tr.thread) r ≡ 0 = e ∙ z in let k : (ref (g.threads tr.thread) r == 0) ≡ true = ap (λ n. n == 0) q in cc
@@ -106,10 +99,10 @@ module _ (x : Targets) (code : Code) (s : Shape) (ls : Labels) (wt : IsWellTyped
       base_top : (c : Cell) (names : ℕ → ℤ) → is_of_null (g.threads tr.thread) c ≡ false → ((r : ℕ) → ref (g.threads tr.thread) r ≡ in_ref world (RegisterOf tr.thread ((g.threads tr.thread).at.refs + r)))
           → TopStands x tr.thread (view_of st.elements world tr.thread (g.threads tr.thread)) (g.threads tr.thread).at.refs (g.threads tr.thread).at.ints names here
           → TopStands x tr.thread (view_of st.elements world tr.thread (g.threads tr.thread)) (g.threads tr.thread).at.refs (g.threads tr.thread).at.ints names (knows_base here c)
-      base_top (cells.Global a p) names n rd tp = tp
-      base_top (cells.GlobalAt a p) names n rd tp = tp
-      base_top (cells.Object r p) names n rd tp = knows_top x tr.thread (view_of st.elements world tr.thread (g.threads tr.thread)) (g.threads tr.thread).at.refs (g.threads tr.thread).at.ints names here r (not_null r n (rd r)) tp
-      base_top (cells.ObjectAt r p) names n rd tp = knows_top x tr.thread (view_of st.elements world tr.thread (g.threads tr.thread)) (g.threads tr.thread).at.refs (g.threads tr.thread).at.ints names here r (not_null r n (rd r)) tp
+      base_top (Cell.Global a p) names n rd tp = tp
+      base_top (Cell.GlobalAt a p) names n rd tp = tp
+      base_top (Cell.Object r p) names n rd tp = knows_top x tr.thread (view_of st.elements world tr.thread (g.threads tr.thread)) (g.threads tr.thread).at.refs (g.threads tr.thread).at.ints names here r (not_null r n (rd r)) tp
+      base_top (Cell.ObjectAt r p) names n rd tp = knows_top x tr.thread (view_of st.elements world tr.thread (g.threads tr.thread)) (g.threads tr.thread).at.refs (g.threads tr.thread).at.ints names here r (not_null r n (rd r)) tp
 
   -- a stop where a reference was loaded: the window stays as it is
   module _ (i : Instr) (is : instr_at code (g.threads tr.thread).at.pc ≡ i) (single : is_single i ≡ true) where
@@ -145,14 +138,14 @@ module _ (x : Targets) (code : Code) (s : Shape) (ls : Labels) (wt : IsWellTyped
       where
         still : (c : Cell) → world.win tr.thread ≡ IsLoaded (base_of_cell (g.threads tr.thread) c) (number_in (g.threads tr.thread) c) (g.threads tr.thread).pending
             → world.win tr.thread ≡ IsLoaded (base_of_cell (stopped (g.threads tr.thread) why) c) (number_in (stopped (g.threads tr.thread) why) c) (g.threads tr.thread).pending
-        still (cells.Global a p) h = h
-        still (cells.GlobalAt a p) h = h
-        still (cells.Object r p) h = h
-        still (cells.ObjectAt r p) h = h
+        still (Cell.Global a p) h = h
+        still (Cell.GlobalAt a p) h = h
+        still (Cell.Object r p) h = h
+        still (Cell.ObjectAt r p) h = h
 
-  pub Lock_check_loaded_keeps : (site : ℕ) → instr_at code (g.threads tr.thread).at.pc ≡ instrs.ChkLockLoaded site → Done
+  pub Lock_check_loaded_keeps : (site : ℕ) → instr_at code (g.threads tr.thread).at.pc ≡ Instr.ChkLockLoaded site → Done
   Lock_check_loaded_keeps site is =
-      let i = instrs.ChkLockLoaded site in
+      let i = Instr.ChkLockLoaded site in
       let f = fine x code s ls wt g world st tr.thread may.started may.next.runs i is refl in
       let c = f.0 in
       let names = (runs x code s ls wt g world st t may.started may.next.runs i is refl).names in
@@ -182,11 +175,11 @@ module _ (x : Targets) (code : Code) (s : Shape) (ls : Labels) (wt : IsWellTyped
     where
       below_plain : FramesStand x code ls tr.thread (view_of st.elements world tr.thread (g.threads tr.thread)) (goes (g.threads tr.thread)) here.function
       below_plain = elim here.function as (λ f. FramesStand x code ls tr.thread (view_of st.elements world tr.thread (g.threads tr.thread)) (g.threads tr.thread) f → FramesStand x code ls tr.thread (view_of st.elements world tr.thread (g.threads tr.thread)) (goes (g.threads tr.thread)) f) [ None ↦ λ h. h | Some f ↦ λ h. h ]
-          (runs x code s ls wt g world st t may.started may.next.runs (instrs.ChkLockLoaded site) is refl).below
+          (runs x code s ls wt g world st t may.started may.next.runs (Instr.ChkLockLoaded site) is refl).below
 
       same_window : (c : Cell) → (set_win world tr.thread (IsLoaded (base_of_cell (g.threads tr.thread) c) (number_in (g.threads tr.thread) c) (g.threads tr.thread).pending)).win tr.thread
           ≡ IsLoaded (base_of_cell (goes (g.threads tr.thread)) c) (number_in (goes (g.threads tr.thread)) c) (g.threads tr.thread).pending
-      same_window (cells.Global a b) = put_same world.win t (IsLoaded (base_of_cell m (cells.Global a b)) (number_in m (cells.Global a b)) m.pending)
-      same_window (cells.GlobalAt a b) = put_same world.win t (IsLoaded (base_of_cell m (cells.GlobalAt a b)) (number_in m (cells.GlobalAt a b)) m.pending)
-      same_window (cells.Object a b) = put_same world.win t (IsLoaded (base_of_cell m (cells.Object a b)) (number_in m (cells.Object a b)) m.pending)
-      same_window (cells.ObjectAt a b) = put_same world.win t (IsLoaded (base_of_cell m (cells.ObjectAt a b)) (number_in m (cells.ObjectAt a b)) m.pending)
+      same_window (Cell.Global a b) = put_same world.win t (IsLoaded (base_of_cell m (Cell.Global a b)) (number_in m (Cell.Global a b)) m.pending)
+      same_window (Cell.GlobalAt a b) = put_same world.win t (IsLoaded (base_of_cell m (Cell.GlobalAt a b)) (number_in m (Cell.GlobalAt a b)) m.pending)
+      same_window (Cell.Object a b) = put_same world.win t (IsLoaded (base_of_cell m (Cell.Object a b)) (number_in m (Cell.Object a b)) m.pending)
+      same_window (Cell.ObjectAt a b) = put_same world.win t (IsLoaded (base_of_cell m (Cell.ObjectAt a b)) (number_in m (Cell.ObjectAt a b)) m.pending)

@@ -1,13 +1,6 @@
 -- Indexes are within their objects.
-use Rattle.std.proofs.{Common.{◌≡◌, ℕ, ℤ, pos, negsuc, suc, ◌+◌, ◌-◌, ◌*◌, ◌/◌, ◌^◌, ◌<◌, ◌≤◌, ◌≢◌, true, false, cond, refl, sym, ap, ◌∙◌, subst, ⊎_elim, arith, ltb-true}, lemmas.Bool.cases_eq, lemmas.Bool.Decides.nat_tests, Math.Nat.{mul-le-mul_left, mul_comm}}
-use Rattle.std.specs.Prelude.{slice_index, nat_lt}
+use Rattle.sharc_invariant.proofs.{Imports.{◌≡◌, ℕ, ℤ, pos, negsuc, suc, ◌+◌, ◌-◌, ◌*◌, ◌/◌, ◌^◌, ◌<◌, ◌≤◌, ◌≢◌, true, false, cond, refl, sym, ap, ◌∙◌, subst, ⊎_elim, arith, ltb-true, cases_eq, nat_tests, mul-le-mul_left, mul_comm, slice_index, nat_lt, Load, Code, Instr, Long, Shape, Trap, int_of, Fits, granules, granule_at, length_word, Machine, Local, Asks, instr_at, int, ref, goes, set_int, indexed, field_of, largest, stopped, step_of, Turn, Global, put, MayTurn, after_turn, one_thread, bounds, put_same, Targets, ObjectType, cells_of, Element, Named, Nth, Fresh, Number, Anything, Within, Exactly, Indexes, OfElement, OfGlobal, Closed, Label, Labels, Leads, set_number, IsWellTyped, IsInt, IsElement, World, RegisterOf, In, in_ref, length_at, Silently, made_turn, State, View, view_of, NumberStands, ElementStands, EntryStands, TopStands, refs_at, types_at, Turned}, Turns.{asks_turn, local_turn, room_of}, Own.{is_single, runs, rests, top, fine}, Plain.{register_plain, is_shut, stop_state, numbers_state}, Accesses.{back_again, loaded_words}, Steps.number_named}
 use Rattle.sharc_tree.specs.declared.trap.Trap.TheVariants as traps
-use Rattle.sharc_word.specs.declared.step.WordOp.TheVariants.{Load}
-use Rattle.sharc_code.specs.{declared.code.Code.Code, declared.instr.Instr.Instr, declared.instr.Width.TheVariants.Long, declared.shape.Shape.Shape, declared.state.Stop.TheVariants.Trap, Arithmetic.int_of, Layout.{Fits, granules, granule_at, length_word}, Machine.{Machine, Local, Asks, instr_at, int, ref, goes, set_int, indexed, field_of, largest, stopped, step_of}, Runs.{Turn, Global, put, MayTurn, after_turn}, Whole.{one_thread, bounds}}
-use Rattle.sharc_code.specs.declared.instr.Instr.TheVariants as instrs
-use Rattle.sharc_code.proofs.Places.{put_same}
-use Rattle.sharc_invariant.specs.{Types.{Targets, ObjectType, cells_of}, Labels.{Element, Named, Nth, Fresh, Number, Anything, Within, Exactly, Indexes, OfElement, OfGlobal, Closed, Label, Labels, Leads, set_number}, Typed.{IsWellTyped, IsInt, IsElement}, World.{World, RegisterOf, In, in_ref}, Words.length_at, Effect.Silently, Turns.made_turn, State.{State, View, view_of, NumberStands, ElementStands, EntryStands, TopStands, refs_at, types_at}, Laws.Turned}
-use Rattle.sharc_invariant.proofs.{Turns.{asks_turn, local_turn, room_of}, Own.{is_single, runs, rests, top, fine}, Plain.{register_plain, is_shut, stop_state, numbers_state}, Accesses.{back_again, loaded_words}, Steps.number_named}
 
 -- a new name for a value
 fresh_top : (x : Targets) (t : ℕ) (v : View) (base ints : ℕ) (names : ℕ → ℤ) (l : Label) (name : ℕ) (z : ℤ) → Fresh l name → TopStands x t v base ints names l → TopStands x t v base ints (put names name z) l
@@ -104,18 +97,18 @@ module _ (x : Targets) (code : Code) (s : Shape) (ls : Labels) (wt : IsWellTyped
           | false ↦ λ b e. stops_at site gt e
         ] refl e
 
-  pub Global_bounds_keeps : (r elements count field site : ℕ) → instr_at code (g.threads tr.thread).at.pc ≡ instrs.GlobalBounds r elements count field site → Turned x code s ls g world tr
+  pub Global_bounds_keeps : (r elements count field site : ℕ) → instr_at code (g.threads tr.thread).at.pc ≡ Instr.GlobalBounds r elements count field site → Turned x code s ls g world tr
   Global_bounds_keeps r elements count field site is =
-      let i = instrs.GlobalBounds r elements count field site in
+      let i = Instr.GlobalBounds r elements count field site in
       let f = fine x code s ls wt g world st t may.started may.next.runs i is refl in
       let d = f.3.0 in
       indexed_keeps i is refl r count field site elements (OfGlobal field count elements) d f.0 f.1 f.3.1 f.3.2
       (λ n lt names q. let le = times_le n elements count lt in let h = f.2 in (n, lt, field_number n count field (omega arith) ∙ ap pos (omega arith), q))
       (int m r) refl (local_turn code s g tr may (indexed m r (int m r) count field site elements) (ap (λ i. Rattle.sharc_code.specs.Machine.act code s i m) is))
 
-  pub Bounds_keeps : (r base count field site : ℕ) → instr_at code (g.threads tr.thread).at.pc ≡ instrs.Bounds r base count field site → Turned x code s ls g world tr
+  pub Bounds_keeps : (r base count field site : ℕ) → instr_at code (g.threads tr.thread).at.pc ≡ Instr.Bounds r base count field site → Turned x code s ls g world tr
   Bounds_keeps r base count field site is =
-      let i = instrs.Bounds r base count field site in
+      let i = Instr.Bounds r base count field site in
       let f = fine x code s ls wt g world st t may.started may.next.runs i is refl in
       let d = f.5.0 in
       let ty = f.4.0 in

@@ -1,3 +1,4 @@
+mod Imports
 pub mod Effects
 pub mod Frames
 pub mod Granules

@@ -1,15 +1,5 @@
 -- The last turn of a Free: the block of the dead object goes to the thread's list.
-use Rattle.std.proofs.{Common.{◌≡◌, ℕ, suc, ◌+◌, ◌*◌, ◌^◌, ◌<◌, ◌≤◌, ◌≢◌, true, false, cond, List, None, Some, refl, sym, ap, ◌∙◌, subst, ⊎_elim, arith}, lemmas.Bool.{cases_eq, cases_order}, lemmas.List.{get_or-set_same, get_or-set_other, length-set}}
-use mathlib.Core.Path.{fun_ext}
-use Rattle.std.specs.Prelude.{length, slice_index, slice_set, ◌==◌}
-use Rattle.sharc_word.specs.{declared.step.TheConstants.THREADS, declared.step.WordOp.TheVariants.Swap}
-use Rattle.sharc_heap.specs.{ShadowLaws.ShadowLaws, Accesses.note_of, ShadowWord.epoch_of, declared.shadow_word.Kind.Kind, declared.shadow_word.Kind.TheVariants.{Read, Write}}
-use Rattle.sharc_code.specs.{declared.code.Code.Code, declared.code.Layout.Layout, declared.instr.Instr.Instr, declared.shape.Shape.Shape, declared.state.Stage.Stage, declared.state.Stage.TheVariants.{Rests, Empties, Lowers, FreeLooks, FreeClears, Uncounts, Links}, declared.state.TurnState.TheVariants.{Runs as RunsOn, Tries, Stopped, Ended}, Layout.{Fits as FitsShape, granules, top_word, length_word}, Machine.{Machine, step_of, instr_at, ref, layout_at, size_of, free_size, free_head, freed as freed_machine}, Path.may_go, Runs.{Turn, Global, put, MayTurn, after_turn}, Whole.{one_thread, bounds}}
-use Rattle.sharc_code.specs.declared.instr.Instr.TheVariants as instrs
-use Rattle.sharc_code.proofs.Places.{put_same, put_other, put_all}
-use Rattle.sharc_invariant.specs.{Granules.sum_to, Types.Targets, Labels.{Label, Labels, empty}, Typed.{Fine, IsWellTyped}, World.{World, Shut, put2}, Blocks.{Heap, Kept, Built, Live, Listed, pushed}, Words.{lang_of, conc_of, Shows, head_of, head_with, making_of, is_freed, is_ended, has_withdrawn, note_number, noted_by, register_of, staged_of, length_at, has_returned}, Turns.{made_turn, KeepsOthers}, Effect.Silently, State.{State, Runs, View, view_of, StageStands, FramesStand, GateStands, HeapStands, TopStands, label_now, block_for, IsSmall}, Laws.Turned, Objects.{changes_objects, objects_now, frees_object}}
-use Rattle.sharc_invariant.proofs.{Listed.{push_ok, put2_same, put2_other}, Quiet.{put_self, locks_same}, Changes.{KeepsPart, KeepsLower, conc_now, changed_state}, Turns.{asks_turn, room_of}, Stores.{index_put, arena}, Clears.sum_more, Frames.less_stands, Own.{runs_at, closed_less}, Heaps.{size_power, same_power, apart_stored, built_size, block_word, low_block, listed_size, built_dead}, Frees.{free_fine, free_begun, free_act, length_is, free_first, free_looks_turn, free_swaps}, Empties.{free_empties, free_lowers}, Uncounted.free_uncounts, Walks.IsWalk, Others.loses, Owned.{effect_objects, behind_same}}
-use Rattle.sharc_lemmas.proofs.{Numbers.{ne_eq, eq_refl}, Lists.set_null}
+use Rattle.sharc_invariant.proofs.{Imports.{◌≡◌, ℕ, suc, ◌+◌, ◌*◌, ◌^◌, ◌<◌, ◌≤◌, ◌≢◌, true, false, cond, List, None, Some, refl, sym, ap, ◌∙◌, subst, ⊎_elim, arith, cases_eq, cases_order, get_or-set_same, get_or-set_other, length-set, fun_ext, length, slice_index, slice_set, ◌==◌, THREADS, Swap, ShadowLaws, note_of, epoch_of, Kind, Read, Write, Code, Layout, Instr, Shape, Stage, Rests, Empties, Lowers, FreeLooks, FreeClears, Uncounts, Links, RunsOn, Tries, Stopped, Ended, Fits as FitsShape, granules, top_word, length_word, Machine, step_of, instr_at, ref, layout_at, size_of, free_size, free_head, freed_machine, may_go, Turn, Global, put, MayTurn, after_turn, one_thread, bounds, put_same, put_other, put_all, sum_to, Targets, Label, Labels, empty, Fine, IsWellTyped, World, Shut, put2, Heap, Kept, Built, Live, Listed, pushed, lang_of, conc_of, Shows, head_of, head_with, making_of, is_freed, is_ended, has_withdrawn, note_number, noted_by, register_of, staged_of, length_at, has_returned, made_turn, KeepsOthers, Silently, State, Runs, View, view_of, StageStands, FramesStand, GateStands, HeapStands, TopStands, label_now, block_for, IsSmall, Turned, changes_objects, objects_now, frees_object, ne_eq, eq_refl, set_null}, Listed.{push_ok, put2_same, put2_other}, Quiet.{put_self, locks_same}, Changes.{KeepsPart, KeepsLower, conc_now, changed_state}, Turns.{asks_turn, room_of}, Stores.{index_put, arena}, Clears.sum_more, Frames.less_stands, Own.{runs_at, closed_less}, Heaps.{size_power, same_power, apart_stored, built_size, block_word, low_block, listed_size, built_dead}, Frees.{free_fine, free_begun, free_act, length_is, free_first, free_looks_turn, free_swaps}, Empties.{free_empties, free_lowers}, Uncounted.free_uncounts, Walks.IsWalk, Others.loses, Owned.{effect_objects, behind_same}}
 
 -- the size of the list is that of the block for the cells
 size_for : (all c : ℕ) → size_of (Rattle.sharc_heap.specs.Block.block_of (Rattle.sharc_code.specs.Machine.all_cells all c)) ≡ size_of (block_for (all * c))
@@ -17,7 +7,7 @@ unfolding block_for
 size_for all c = refl
 
 module _ (x : Targets) (code : Code) (s : Shape) (ls : Labels) (wt : IsWellTyped x code ls) (fits : FitsShape code s) (laws : ShadowLaws) (g : Global Machine) (world : World) (st : State x code s ls g world) (tr : Turn)
-    (may : MayTurn bounds (one_thread code s) g tr) (r layout site : ℕ) (is : instr_at code (g.threads tr.thread).at.pc ≡ instrs.Free r layout site) (all : ℕ) (at_stage_is : (g.threads tr.thread).own.stage ≡ Links all) where
+    (may : MayTurn bounds (one_thread code s) g tr) (r layout site : ℕ) (is : instr_at code (g.threads tr.thread).at.pc ≡ Instr.Free r layout site) (all : ℕ) (at_stage_is : (g.threads tr.thread).own.stage ≡ Links all) where
   abbrev t : ℕ
   t = tr.thread
 
@@ -40,17 +30,17 @@ module _ (x : Targets) (code : Code) (s : Shape) (ls : Labels) (wt : IsWellTyped
   abbrev b : ℕ
   b = ref (g.threads tr.thread) r
 
-  f : Fine x code ls (g.threads tr.thread).at.pc here (instrs.Free r layout site)
+  f : Fine x code ls (g.threads tr.thread).at.pc here (Instr.Free r layout site)
   f = free_fine x code s ls wt laws g world st tr may r layout site is
 
   abbrev rn : Runs x code s ls st.elements world st.heap g tr.thread (g.threads tr.thread)
   rn = (st.threads tr.thread).runs may.started may.next.runs
 
-  stage_now : StageStands code s st.elements world st.heap g.words tr.thread (g.threads tr.thread) (instrs.Free r layout site) (Links all)
-  stage_now = subst (StageStands code s st.elements world st.heap g.words t m (instrs.Free r layout site)) at_stage_is (subst (λ i. StageStands code s st.elements world st.heap g.words t m i m.own.stage) is rn.stage)
+  stage_now : StageStands code s st.elements world st.heap g.words tr.thread (g.threads tr.thread) (Instr.Free r layout site) (Links all)
+  stage_now = subst (StageStands code s st.elements world st.heap g.words t m (Instr.Free r layout site)) at_stage_is (subst (λ i. StageStands code s st.elements world st.heap g.words t m i m.own.stage) is rn.stage)
 
   is_label : label_now here (instr_at code (g.threads tr.thread).at.pc) (g.threads tr.thread).own.stage ≡ empty here r
-  is_label = ap (λ i. label_now here i m.own.stage) is ∙ ap (label_now here (instrs.Free r layout site)) at_stage_is
+  is_label = ap (λ i. label_now here i m.own.stage) is ∙ ap (label_now here (Instr.Free r layout site)) at_stage_is
 
   abbrev view : View
   view = view_of st.elements world tr.thread (g.threads tr.thread)
@@ -227,7 +217,7 @@ module _ (x : Targets) (code : Code) (s : Shape) (ls : Labels) (wt : IsWellTyped
   -- what is seen of the thread
   same_regs : (i : ℕ) → register_of code m' i ≡ register_of code (g.threads tr.thread) i
   same_regs i =
-      let old_is : register_of code m i ≡ cond (i == base + r) 0 (slice_index m.refs i) = ap (λ ins. cond (is_freed ins m.own.stage base i) 0 (slice_index m.refs i)) is ∙ ap (λ y. cond (is_freed (instrs.Free r layout site) y base i) 0 (slice_index m.refs i)) at_stage_is in
+      let old_is : register_of code m i ≡ cond (i == base + r) 0 (slice_index m.refs i) = ap (λ ins. cond (is_freed ins m.own.stage base i) 0 (slice_index m.refs i)) is ∙ ap (λ y. cond (is_freed (Instr.Free r layout site) y base i) 0 (slice_index m.refs i)) at_stage_is in
       let new_is : register_of code m' i ≡ slice_index (slice_set m.refs k 0) i = no_freed (instr_at code (m.at.pc + 1)) i in
       new_is ∙ ⊎_elim
       (λ (e : i ≡ k). ap (slice_index (slice_set m.refs k 0)) e ∙ set_zero m.refs k ∙ sym (ap (λ c. cond c 0 (slice_index m.refs i)) (ap (λ i. i == k) e ∙ eq_refl k)))
@@ -235,7 +225,7 @@ module _ (x : Targets) (code : Code) (s : Shape) (ls : Labels) (wt : IsWellTyped
       (cases_eq i k) ∙ sym old_is
     where
       no_freed : (ins : Instr) (i : ℕ) → cond (is_freed ins Rests base i) 0 (slice_index (slice_set (g.threads tr.thread).refs k 0) i) ≡ slice_index (slice_set (g.threads tr.thread).refs k 0) i
-      no_freed (instrs.Free a c d) i = refl
+      no_freed (Instr.Free a c d) i = refl
       no_freed _ i = refl
 
       set_zero : (l : List ℕ) (n : ℕ) → slice_index (slice_set l n 0) n ≡ 0
@@ -288,7 +278,7 @@ module _ (x : Targets) (code : Code) (s : Shape) (ls : Labels) (wt : IsWellTyped
 
 -- ---- all turns of a Free
 module _ (x : Targets) (code : Code) (s : Shape) (ls : Labels) (wt : IsWellTyped x code ls) (fits : FitsShape code s) (few : IsSmall code s) (laws : ShadowLaws) (g : Global Machine) (world : World) (st : State x code s ls g world) (tr : Turn)
-    (may : MayTurn bounds (one_thread code s) g tr) (r layout site : ℕ) (is : instr_at code (g.threads tr.thread).at.pc ≡ instrs.Free r layout site) where
+    (may : MayTurn bounds (one_thread code s) g tr) (r layout site : ℕ) (is : instr_at code (g.threads tr.thread).at.pc ≡ Instr.Free r layout site) where
   abbrev Done : Type 0
   Done = (k : Turned x code s ls g world tr) × (k.0.obj ≡ objects_now code s ls g tr world.obj)
 
@@ -300,7 +290,7 @@ module _ (x : Targets) (code : Code) (s : Shape) (ls : Labels) (wt : IsWellTyped
       let c : changes_objects i m ≡ false = ap (λ i. changes_objects i m) is ∙ e in
       (k, effect_objects (lang_of x) tr.thread (has_returned m) (changes_objects i m) world k.0 k.2 c ∙ sym (behind_same ls tr.thread i m ((after_turn bounds (one_thread code s) g tr).threads tr.thread) world.obj c))
 
-  by_stage : (y : Stage) → (g.threads tr.thread).own.stage ≡ y → StageStands code s st.elements world st.heap g.words tr.thread (g.threads tr.thread) (instrs.Free r layout site) y → Done
+  by_stage : (y : Stage) → (g.threads tr.thread).own.stage ≡ y → StageStands code s st.elements world st.heap g.words tr.thread (g.threads tr.thread) (Instr.Free r layout site) y → Done
   by_stage Rests e h = plain (ap frees_object e) (free_first x code s ls wt laws g world st tr may r layout site is (subst IsWalk (sym e) tt) e)
   by_stage (Empties i all) e h = plain (ap frees_object e) (free_empties x code s ls wt fits few laws g world st tr may r layout site is (subst IsWalk (sym e) tt) i all h e)
   by_stage (Lowers i all found) e h = plain (ap frees_object e) (free_lowers x code s ls wt fits few laws g world st tr may r layout site is (subst IsWalk (sym e) tt) i all found h e)

@@ -1,8 +1,6 @@
 -- New and Free keep blocks apart and the lists of freed blocks threaded.
-use Rattle.std.proofs.{Common.{◌≡◌, ℕ, suc, ◌+◌, ◌*◌, ◌<◌, ◌≤◌, ◌⊎◌, ◌≢◌, refl, sym, ap, ◌∙◌, subst, inl, inr, ⊎_elim, arith}, lemmas.Bool.{cases_eq, cases_order}}
-use Rattle.sharc_code.specs.Runs.{put}
-use Rattle.sharc_invariant.specs.{World.put2, Blocks.{State, Unused, Built, Listed, Arena, Heap, length_at, Begins, Kept, popped, carved, stored, restated, pushed, IsListed, InBlock}}
-use Rattle.sharc_code.proofs.Places.{put_same, put_other, put_all}
+use Rattle.sharc_invariant.proofs.Imports.{◌≡◌, ℕ, suc, ◌+◌, ◌*◌, ◌<◌, ◌≤◌, ◌⊎◌, ◌≢◌, refl, sym, ap, ◌∙◌, subst, inl, inr, ⊎_elim, arith, cases_eq, cases_order, put, put2, BlockState as State, Unused, Built, Listed, Arena, Heap, link_at as length_at, Kept, popped, carved, stored, restated, pushed, IsListed, InBlock, put_same, put_other, put_all}
+use Rattle.sharc_invariant.specs.Blocks.{Begins}
 
 -- a function of two numbers, changed at one place
 pub put2_all : (P : ℕ → ℕ → ℕ → Type 0) (f : ℕ → ℕ → ℕ) (t i v : ℕ) → P t i v → ((u j : ℕ) → (u ≡ t → j ≡ i → ⊥) → P u j (f u j)) → (u j : ℕ) → P u j (put2 f t i v u j)

@@ -1,11 +1,5 @@
 -- A reference that was loaded from a cell is raised.
-use Rattle.std.proofs.{Common.{◌≡◌, ℕ, suc, ◌+◌, Bool, false, refl, sym, ap, ◌∙◌, subst, inl, ⊎_elim, arith}, lemmas.Bool.cases_eq}
-use Rattle.std.specs.Prelude.{slice_set}
-use Rattle.sharc_code.specs.{declared.code.Code.Code, declared.instr.Cell.Cell, declared.shape.Shape.Shape, Layout.Fits, Machine.{Machine, Local, Asks, instr_at, goes, accessed, set_ref, ref, raise}, Path.turn, Runs.{Turn, Global, MayTurn}, Whole.{one_thread, bounds}}
-use Rattle.sharc_code.specs.declared.instr.Instr.TheVariants as instrs
-use Rattle.sharc_code.proofs.Places.{put_other}
-use Rattle.sharc_invariant.specs.{Types.{Targets, type_at, type_of}, Labels.{Refers, Label, Labels, fill}, Typed.{IsWellTyped, refs_in, ints_in}, World.{Laws, TypedReference, RegisterOf, In, Cell as CellOf, World, Shut, Loaded, Sole, WinOk, Right, CanBy, base_of, in_ref, null, set_win, set_slot, grow, Fits as FitsType}, Words.{lang_of, conc_of}, Effect.Silently, Cells.IsThere, State.{State, View, view_of, TopStands, EntryStands, GateStands, IsSmall, refs_at, types_at, size_of_run, base_of_cell, object_of_cell, number_in}, Laws.Turned}
-use Rattle.sharc_invariant.proofs.{Effects.{set_slot_ok, cell_fits}, Frames.{filled, fill_stands}, Turns.{local_turn, room_of}, Own.{runs, rests, top, gate, fine}, Plain.{register_plain, same_words}, Seen.reg_stored, Filled.{filled_state, inside_world, free_shut}, Counts.{raise_zero, raise_some, raised_state, filled_silent, closed_inv, closed_shut, closed_sim}, Cells.cell_there, Rights.points_to}
+use Rattle.sharc_invariant.proofs.{Imports.{◌≡◌, ℕ, suc, ◌+◌, Bool, false, refl, sym, ap, ◌∙◌, subst, inl, ⊎_elim, arith, cases_eq, slice_set, Code, Cell, Shape, Fits, Machine, Local, Asks, instr_at, goes, accessed, set_ref, ref, raise, turn, Turn, Global, MayTurn, one_thread, bounds, Instr, put_other, Targets, type_at, type_of, Refers, Label, Labels, fill, IsWellTyped, refs_in, ints_in, Laws, TypedReference, RegisterOf, In, CellOf, World, Shut, IsLoaded as Loaded, Sole, WinOk, Right, CanBy, base_of, in_ref, null, set_win, set_slot, grow, FitsType, lang_of, conc_of, Silently, IsThere, State, View, view_of, TopStands, EntryStands, GateStands, IsSmall, refs_at, types_at, size_of_run, base_of_cell, object_of_cell, number_in, Turned}, Effects.{set_slot_ok, cell_fits}, Frames.{filled, fill_stands}, Turns.{local_turn, room_of}, Own.{runs, rests, top, gate, fine}, Plain.{register_plain, same_words}, Seen.reg_stored, Filled.{filled_state, inside_world, free_shut}, Counts.{raise_zero, raise_some, raised_state, filled_silent, closed_inv, closed_shut, closed_sim}, Cells.cell_there, Rights.points_to}
 
 -- the table of targets has the laws that the world asks for
 pub lang_laws : (x : Targets) (code : Code) (ls : Labels) → IsWellTyped x code ls → Laws (lang_of x)
@@ -42,9 +36,9 @@ module _ (x : Targets) (code : Code) (s : Shape) (ls : Labels) (wt : IsWellTyped
       let h : world.slots (CellOf o j) ≡ record { ty = type_at x (world.obj o).ty o j; reference = v } = λ i. record { ty = ty i; reference = e i } in
       subst (FitsType (lang_of x) world.obj t) h a1
 
-  pub Raise_loaded_keeps : (r : ℕ) → instr_at code (g.threads tr.thread).at.pc ≡ instrs.RaiseLoaded r → Turned x code s ls g world tr
+  pub Raise_loaded_keeps : (r : ℕ) → instr_at code (g.threads tr.thread).at.pc ≡ Instr.RaiseLoaded r → Turned x code s ls g world tr
   Raise_loaded_keeps r is =
-      let i = instrs.RaiseLoaded r in
+      let i = Instr.RaiseLoaded r in
       let on = may.started in
       let go = may.next.runs in
       let f = fine x code s ls wt g world st t on go i is refl in

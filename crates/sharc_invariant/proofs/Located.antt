@@ -1,11 +1,5 @@
 -- A cell that an instruction names, whose base is not NULL, is there.
-use Rattle.std.proofs.Common.{◌≡◌, ℕ, ◌+◌, Bool, true, false, cond, sym, ap, ◌∙◌, subst}
-use Rattle.std.specs.Prelude.{slice_index, ◌==◌}
-use Rattle.sharc_code.specs.{declared.code.Code.Code, declared.instr.Cell.Cell, declared.shape.Shape.Shape, Layout.Fits, Machine.{Machine, instr_at, ref, is_of_null}, Runs.Global}
-use Rattle.sharc_code.specs.declared.instr.Cell.TheVariants as cells
-use Rattle.sharc_code.proofs.Places.{put_same}
-use Rattle.sharc_invariant.specs.{Types.{Targets, Field}, Labels.{Label, Labels, knows}, Typed.{IsWellTyped, HasField, Accesses}, World.{RegisterOf, World, Right, in_ref}, Words.lang_of, State.{State, Runs, View, TopStands, GateStands, OnHold, base_of_cell, number_in, view_of}, Cells.IsThere, MachineInvariant.IsOn}
-use Rattle.sharc_invariant.proofs.{Quiet.{label_held, freed_held}, Steps.knows_top, Cells.cell_there, Rights.right}
+use Rattle.sharc_invariant.proofs.{Imports.{◌≡◌, ℕ, ◌+◌, Bool, true, false, cond, sym, ap, ◌∙◌, subst, slice_index, ◌==◌, Code, Cell, Shape, Fits, Machine, instr_at, ref, is_of_null, Global, put_same, Targets, Field, Label, Labels, knows, IsWellTyped, HasField, IsAccess as Accesses, RegisterOf, World, Right, in_ref, lang_of, State, Runs, View, TopStands, GateStands, OnHold, base_of_cell, number_in, view_of, IsThere, IsOn}, Quiet.{label_held, freed_held}, Steps.knows_top, Cells.cell_there, Rights.right}
 
 module _ (x : Targets) (code : Code) (s : Shape) (ls : Labels) (wt : IsWellTyped x code ls) (fits : Fits code s) (g : Global Machine) (world : World) (st : State x code s ls g world) (t : ℕ) (on : IsOn g t) (hold : OnHold (g.threads t).own.stage) where
   abbrev m : Machine
@@ -33,12 +27,12 @@ module _ (x : Targets) (code : Code) (s : Shape) (ls : Labels) (wt : IsWellTyped
   known_top r some = knows_top x t view m.at.refs m.at.ints rn.names here r (some_ref r some) top
 
   pub located : (c : Cell) (f : Field) → HasField x code here c f → is_of_null (g.threads t) c ≡ false → IsThere x s st.cells world t (g.threads t) c f
-  located (cells.Global h p) f field some = cell_there x code s ls wt fits g world st t m rn.names here top reads (cells.Global h p) f record { field = field; base = tt }
-  located (cells.GlobalAt h i) f field some = cell_there x code s ls wt fits g world st t m rn.names here top reads (cells.GlobalAt h i) f record { field = field; base = tt }
-  located (cells.Object r i) f field some =
-      cell_there x code s ls wt fits g world st t m rn.names (knows here r) (known_top r some) reads (cells.Object r i) f record { field = field; base = put_same here.known r true }
-  located (cells.ObjectAt r i) f field some =
-      cell_there x code s ls wt fits g world st t m rn.names (knows here r) (known_top r some) reads (cells.ObjectAt r i) f record { field = field; base = put_same here.known r true }
+  located (Cell.Global h p) f field some = cell_there x code s ls wt fits g world st t m rn.names here top reads (Cell.Global h p) f record { field = field; base = tt }
+  located (Cell.GlobalAt h i) f field some = cell_there x code s ls wt fits g world st t m rn.names here top reads (Cell.GlobalAt h i) f record { field = field; base = tt }
+  located (Cell.Object r i) f field some =
+      cell_there x code s ls wt fits g world st t m rn.names (knows here r) (known_top r some) reads (Cell.Object r i) f record { field = field; base = put_same here.known r true }
+  located (Cell.ObjectAt r i) f field some =
+      cell_there x code s ls wt fits g world st t m rn.names (knows here r) (known_top r some) reads (Cell.ObjectAt r i) f record { field = field; base = put_same here.known r true }
 
   gate_now : GateStands s world t (g.threads t) here.gate
   gate_now = subst (λ (l : Label). GateStands s world t m l.gate) (label_held here (instr_at code m.at.pc) m.own.stage hold) rn.gate

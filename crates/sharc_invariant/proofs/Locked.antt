@@ -1,17 +1,7 @@
 -- Taking a mutex and giving it back keep the invariant: the reference of the base goes to the log, and comes back from it.
-use Rattle.std.proofs.{Common.{◌≡◌, ◌≢◌, ℕ, ℤ, suc, ◌+◌, ◌^◌, ◌<◌, Bool, true, false, cond, List, [], ◌∷◌, ◌++◌, Option, Some, None, refl, sym, ap, ◌∙◌, subst, inl, inr, ⊎_elim, arith, eqb-true}, lemmas.List.length-set, lemmas.Bool.cases_eq, lemmas.Bool.Decides.nat_tests}
-use mathlib.Core.Path.{fun_ext}
-use Rattle.std.specs.Prelude.{length, slice_index, slice_set, nat_lt, is_some, Contains, ◌==◌}
-use Rattle.sharc_word.specs.{declared.step.TheConstants.THREADS, declared.step.WordOp.TheVariants.{Cas, Swap}}
-use Rattle.sharc_heap.specs.{declared.shadow_word.Kind.Kind, declared.shadow_word.Kind.TheVariants.{Read, Write}}
-use Rattle.sharc_locks.specs.{declared.held_log.HeldMutex.HeldMutex, HeldLog.{IsHeldLog, object_of, with_mutex, without}}
-use Rattle.sharc_code.specs.{declared.code.Code.Code, declared.instr.Cell.Cell, declared.instr.Instr.Instr, declared.shape.Shape.Shape, Layout.{Fits, words_of}, Machine.{Machine, instr_at, ref, word, object, next, goes, fails, is_held, taken, locked, unlocked, without_base, reference_of, step_of}, Runs.{Turn, Global, put, MayTurn, after_turn}, Whole.{one_thread, bounds}}
-use Rattle.sharc_code.specs.declared.instr.Cell.TheVariants as cells
-use Rattle.sharc_code.specs.declared.instr.Instr.TheVariants as instrs
-use Rattle.sharc_code.proofs.Places.{put_all}
-use Rattle.sharc_invariant.specs.{Types.{Targets, Field, nothing, field_in, is_mutex, type_of}, Labels.{Closed, Holds, Empty, Refers, Unknown, Label, Labels, Leads, IsFree, empty, fill}, Typed.{IsWellTyped, IsRef, IsVacant, IsBaseFree, HasCell, refs_in, ints_in, without_base_of, unlocked_label}, World.{TypedReference, Slot, RegisterOf, ArgumentOf, LogOf, In, Cell as CellOf, Shut, Sole, World, WorldInvariant, in_ref, none, place, put2, shift}, Words.{conc_of, lang_of, Shows, cell_at, logged, noted_by, register_of, set_reg, has_returned}, Effect.{Effect, Silent, Locks, Unlocks}, Turns.{made_turn, made_conc}, State.{State, View, view_of, FramesStand, GateStands, TopStands, EntryStands, object_of_cell, number_in, refs_at, types_at, size_of_run}, Laws.Turned, Objects.changes_objects}
-use Rattle.sharc_invariant.proofs.{Effects.{place_other, shift_ok, lock_ok, unlock_ok}, Frames.{filled, FilledStands, fill_stands, empty_stands}, Quiet.{KeepsSelf, loud_state, heap_now, noted_same, put_self}, Turns.{asks_turn, room_of}, Own.{is_single, runs, rests, top, gate, fine, begun_before, not_begun}, Plain.{register_plain, is_shut, going, next_runs}, Stores.{index_put, cell_store, stored_words, stored_within}, Seen.{reg_stored, cell_cell}, Cells.cell_there, Filled.{refs_set, view_filled, below_filled, free_shut, inside, inside_world}, Accesses.loaded_words, Waits.tries_again, Logs.{found_in, append_other, append_same, contains_append, append_log, without_other, without_same, contains_without, without_lower, without_log}, Mutexes.{mutex_stored, log_stored, locks_changed, Changes, IsLogged}, Others.loses}
-use Rattle.sharc_lemmas.proofs.Options.{some_of}
+use Rattle.sharc_invariant.proofs.{Imports.{◌≡◌, ◌≢◌, ℕ, ℤ, suc, ◌+◌, ◌^◌, ◌<◌, Bool, true, false, cond, List, [], ◌∷◌, ◌++◌, Option, Some, None, refl, sym, ap, ◌∙◌, subst, inl, inr, ⊎_elim, arith, eqb-true, length-set, cases_eq, nat_tests, fun_ext, length, slice_index, slice_set, nat_lt, is_some, Contains, ◌==◌, THREADS, Cas, Swap, Kind, Read, Write, HeldMutex, IsHeldLog, object_of, with_mutex, without, Code, Cell, Instr, Shape, Fits, words_of, Machine, instr_at, ref, word, object, next, goes, fails, is_held, taken, locked, unlocked, reference_of, step_of, Turn, Global, put, MayTurn, after_turn, one_thread, bounds, put_all, Targets, Field, nothing, field_in, is_mutex, type_of, Closed, Holds, Empty, Refers, Unknown, Label, Labels, Leads, IsFree, empty, fill, IsWellTyped, IsRef, IsVacant, IsBaseFree, HasCell, refs_in, ints_in, without_base_of, unlocked_label, TypedReference, Slot, RegisterOf, ArgumentOf, LogOf, In, CellOf, Shut, Sole, World, WorldInvariant, in_ref, none, place, put2, shift, conc_of, lang_of, Shows, cell_at, logged, noted_by, register_of, set_reg, has_returned, Effect, Silent, Unlocks, made_turn, made_conc, State, View, view_of, FramesStand, GateStands, TopStands, EntryStands, object_of_cell, number_in, refs_at, types_at, size_of_run, Turned, changes_objects, some_of}, Effects.{place_other, shift_ok, lock_ok, unlock_ok}, Frames.{filled, FilledStands, fill_stands, empty_stands}, Quiet.{KeepsSelf, loud_state, heap_now, noted_same, put_self}, Turns.{asks_turn, room_of}, Own.{is_single, runs, rests, top, gate, fine, begun_before, not_begun}, Plain.{register_plain, is_shut, going, next_runs}, Stores.{index_put, cell_store, stored_words, stored_within}, Seen.{reg_stored, cell_cell}, Cells.cell_there, Filled.{refs_set, view_filled, below_filled, free_shut, inside, inside_world}, Accesses.loaded_words, Waits.tries_again, Logs.{found_in, append_other, append_same, contains_append, append_log, without_other, without_same, contains_without, without_lower, without_log}, Mutexes.{mutex_stored, log_stored, locks_changed, Changes, IsLogged}, Others.loses}
+use Rattle.sharc_code.specs.Machine.{without_base}
+use Rattle.sharc_invariant.specs.Effect.{Locks}
 
 none_of : (o : Option ℕ) → is_some o ≡ false → o ≡ None
 none_of None e = refl
@@ -22,10 +12,10 @@ room_top : (x : Targets) (t : ℕ) (v : View) (base ints : ℕ) (names : ℕ →
 room_top x t v base ints names l b tp n k = let h = tp n k in record { env = h.env; same = h.same; known = h.known; numbers = h.numbers; passed = h.passed }
 
 same_object : (m : Machine) (c : Cell) → object m c ≡ object_of_cell m c
-same_object m (cells.Global a p) = refl
-same_object m (cells.GlobalAt a p) = refl
-same_object m (cells.Object a p) = refl
-same_object m (cells.ObjectAt a p) = refl
+same_object m (Cell.Global a p) = refl
+same_object m (Cell.GlobalAt a p) = refl
+same_object m (Cell.Object a p) = refl
+same_object m (Cell.ObjectAt a p) = refl
 
 module _ (x : Targets) (code : Code) (s : Shape) (ls : Labels) (wt : IsWellTyped x code ls) (fits : Fits code s) (g : Global Machine) (world : World) (st : State x code s ls g world) (tr : Turn)
     (may : MayTurn bounds (one_thread code s) g tr) (i : Instr) (is : instr_at code (g.threads tr.thread).at.pc ≡ i) (single : is_single i ≡ true) where
@@ -332,19 +322,19 @@ module _ (x : Targets) (code : Code) (s : Shape) (ls : Labels) (wt : IsWellTyped
       (zero_now : world.mutex o j ≡ 0) (free_word : object_of (g.threads tr.thread).own.held (cell_at s o j) ≡ None) (room_now : length (g.threads tr.thread).own.held < 16) → o ≡ object_of_cell (g.threads tr.thread) c
       → after ≡ made_turn g tr.thread (slice_set g.words (cell_at s o j) (suc tr.thread)) (goes (record (without_base (g.threads tr.thread) c) { own = record (g.threads tr.thread).own { held = (g.threads tr.thread).own.held ++ record { word = cell_at s o j; object = o } ∷ [] } }))
       → (fld : Field) → HasCell x code here c fld → IsBaseFree here c → here.gate ≡ Closed → Leads ls ((g.threads tr.thread).at.pc + 1) (record (without_base_of here c) { room = false }) → Turned x code s ls g world tr
-  lock_cell (cells.Global a p) o j lo lj mx shut lt z n r eo e fld h free gt leads = lock_global o j lo lj mx shut lt z n r eo e gt leads
-  lock_cell (cells.GlobalAt a p) o j lo lj mx shut lt z n r eo e fld h free gt leads = lock_global o j lo lj mx shut lt z n r eo e gt leads
-  lock_cell (cells.Object b p) o j lo lj mx shut lt z n r eo e fld h free gt leads = lock_object o j lo lj mx shut lt z n r b eo e h.field.0 free leads
-  lock_cell (cells.ObjectAt b p) o j lo lj mx shut lt z n r eo e fld h free gt leads = lock_object o j lo lj mx shut lt z n r b eo e h.field.0 free leads
+  lock_cell (Cell.Global a p) o j lo lj mx shut lt z n r eo e fld h free gt leads = lock_global o j lo lj mx shut lt z n r eo e gt leads
+  lock_cell (Cell.GlobalAt a p) o j lo lj mx shut lt z n r eo e fld h free gt leads = lock_global o j lo lj mx shut lt z n r eo e gt leads
+  lock_cell (Cell.Object b p) o j lo lj mx shut lt z n r eo e fld h free gt leads = lock_object o j lo lj mx shut lt z n r b eo e h.field.0 free leads
+  lock_cell (Cell.ObjectAt b p) o j lo lj mx shut lt z n r eo e fld h free gt leads = lock_object o j lo lj mx shut lt z n r b eo e h.field.0 free leads
 
   unlock_cell : (c : Cell) (o j : ℕ) (lo : (world.obj o).live ≡ true) (lj : j < st.cells o) (mx : is_mutex (field_in x (world.obj o).ty j).holds ≡ true) (shut : world.win tr.thread ≡ Shut) (lt : cell_at s o j < length g.words)
       (is_mine : world.mutex o j ≡ suc tr.thread) (in_log : object_of (g.threads tr.thread).own.held (cell_at s o j) ≡ Some o) → o ≡ object_of_cell (g.threads tr.thread) c
       → (r : ℕ) → after ≡ made_turn g tr.thread (slice_set g.words (cell_at s o j) 0) (moved (slice_set (g.threads tr.thread).refs (base + r) o) (without (g.threads tr.thread).own.held (cell_at s o j)))
       → (fld : Field) → HasCell x code here c fld → IsVacant code here r → Leads ls ((g.threads tr.thread).at.pc + 1) (unlocked_label here r c) → Turned x code s ls g world tr
-  unlock_cell (cells.Global a p) o j lo lj mx shut lt mu n eo r e fld h vacant leads = unlock_global o j lo lj mx shut lt mu n eo r e vacant leads
-  unlock_cell (cells.GlobalAt a p) o j lo lj mx shut lt mu n eo r e fld h vacant leads = unlock_global o j lo lj mx shut lt mu n eo r e vacant leads
-  unlock_cell (cells.Object b p) o j lo lj mx shut lt mu n eo r e fld h vacant leads = unlock_object o j lo lj mx shut lt mu n b eo h.base r e vacant leads
-  unlock_cell (cells.ObjectAt b p) o j lo lj mx shut lt mu n eo r e fld h vacant leads = unlock_object o j lo lj mx shut lt mu n b eo h.base r e vacant leads
+  unlock_cell (Cell.Global a p) o j lo lj mx shut lt mu n eo r e fld h vacant leads = unlock_global o j lo lj mx shut lt mu n eo r e vacant leads
+  unlock_cell (Cell.GlobalAt a p) o j lo lj mx shut lt mu n eo r e fld h vacant leads = unlock_global o j lo lj mx shut lt mu n eo r e vacant leads
+  unlock_cell (Cell.Object b p) o j lo lj mx shut lt mu n eo r e fld h vacant leads = unlock_object o j lo lj mx shut lt mu n b eo h.base r e vacant leads
+  unlock_cell (Cell.ObjectAt b p) o j lo lj mx shut lt mu n eo r e fld h vacant leads = unlock_object o j lo lj mx shut lt mu n b eo h.base r e vacant leads
 
 module _ (x : Targets) (code : Code) (s : Shape) (ls : Labels) (wt : IsWellTyped x code ls) (fits : Fits code s) (g : Global Machine) (world : World) (st : State x code s ls g world) (tr : Turn)
     (may : MayTurn bounds (one_thread code s) g tr) where
@@ -357,9 +347,9 @@ module _ (x : Targets) (code : Code) (s : Shape) (ls : Labels) (wt : IsWellTyped
   abbrev now : Label
   now = ls.at (g.threads tr.thread).at.pc
 
-  pub Lock_keeps : (c : Cell) (site : ℕ) → instr_at code (g.threads tr.thread).at.pc ≡ instrs.Lock c site → Turned x code s ls g world tr
+  pub Lock_keeps : (c : Cell) (site : ℕ) → instr_at code (g.threads tr.thread).at.pc ≡ Instr.Lock c site → Turned x code s ls g world tr
   Lock_keeps c site is =
-      let i = instrs.Lock c site in
+      let i = Instr.Lock c site in
       let on = may.started in
       let go = may.next.runs in
       let f = fine x code s ls wt g world st who on go i is refl in
@@ -395,9 +385,9 @@ module _ (x : Targets) (code : Code) (s : Shape) (ls : Labels) (wt : IsWellTyped
         | false ↦ λ q e. tries_again x code s ls wt fits g world st tr may i is refl f.0 (loaded_words x code s ls wt fits g world st tr may i is refl w (fails mm) e)
       ] refl a.0
 
-  pub Unlock_keeps : (r : ℕ) (c : Cell) (site : ℕ) → instr_at code (g.threads tr.thread).at.pc ≡ instrs.Unlock r c site → Turned x code s ls g world tr
+  pub Unlock_keeps : (r : ℕ) (c : Cell) (site : ℕ) → instr_at code (g.threads tr.thread).at.pc ≡ Instr.Unlock r c site → Turned x code s ls g world tr
   Unlock_keeps r c site is =
-      let i = instrs.Unlock r c site in
+      let i = Instr.Unlock r c site in
       let on = may.started in
       let go = may.next.runs in
       let f = fine x code s ls wt g world st who on go i is refl in

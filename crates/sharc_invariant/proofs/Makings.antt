@@ -1,21 +1,11 @@
 -- The last turn of a New: the length is written, and the object is there.
-use Rattle.std.proofs.{Common.{◌≡◌, ℕ, suc, ◌+◌, ◌*◌, ◌^◌, ◌<◌, ◌≤◌, ◌≢◌, ◌⊎◌, true, false, cond, List, None, Some, refl, sym, ap, ◌∙◌, subst, inl, ⊎_elim, arith}, lemmas.Bool.{cases_eq, eqb-true, eqb-false}, lemmas.List.{get_or-set_same, get_or-set_other, length-set}}
-use mathlib.Core.Path.{fun_ext}
-use Rattle.std.specs.Prelude.{length, slice_index, slice_set, nat_lt, min, max, pos, ◌==◌, ◌↔◌, is_some, Contains}
-use Rattle.sharc_word.specs.{declared.step.TheConstants.THREADS, declared.step.WordOp.TheVariants.Swap}
-use Rattle.sharc_heap.specs.{NewLaws.NewLaws, State.{NewView, told}, Asks.{step_of, length_word}, declared.arguments.NewArguments.NewArguments, ShadowWord.epoch_of, declared.shadow_word.Kind.Kind, declared.shadow_word.Kind.TheVariants.{Read, Write}}
-use Rattle.sharc_heap.specs.declared.stage.NewStage.TheVariants as news
-use Rattle.sharc_locks.specs.HeldLog.{object_of}
-use Rattle.sharc_code.specs.{declared.code.Code.Code, declared.shape.Shape.Shape, declared.state.TurnState.TheVariants.{Runs as RunsOn}, declared.state.Stage.TheVariants.{Rests, Makes}, Layout.{Fits as FitsShape, granules, top_word, first_cell}, Machine.{Machine, instr_at, int, elements_of, size_of, new_state, asks_new, goes_on_new, made as made_machine}, Path.turn, Runs.{Turn, Global, put, MayTurn, after_turn}, Whole.{one_thread, bounds}}
-use Rattle.sharc_code.specs.declared.instr.Instr.TheVariants as instrs
-use Rattle.sharc_code.proofs.Places.{put_same, put_other, put_all}
-use Rattle.sharc_invariant.specs.{Granules.{GranuleState, Bits, Passed, sum_to}, Types.{Targets, ObjectType, field_in, is_mutex, type_at, type_of, cells_of}, Labels.{Label, Labels, Refers, fill, Unknown, LessEntry}, Typed.{Fine, IsWellTyped, refs_in, ints_in}, World.{In, RegisterOf, Cell as CellOf, TypedReference, ObjectState, World, Shut, WorldInvariant, in_ref, make, null, place, put2}, Blocks.{Heap, Kept, Built, Live, InBlock, IsListed, restated}, Words.{Apart, MachineView, IsNobodys, lang_of, conc_of, Shows, shown, set_reg, store, cell_at, count_at, length_at, head_of, head_with, making_of, register_of, staged_of, noted_by, has_returned}, Opened.fresh_granule, Turns.{made_turn, KeepsOthers}, Effect.{Makes as MakesOf}, State.{State, View, Runs, view_of, BuildsAt, HeapStands, Locks, TopStands, FramesStand, EntryStands, refs_at, types_at, block_for, size_of_run}, Laws.Turned, Objects.{changes_objects, objects_now, objects_behind, owned, makes_object, is_length, new_behind, made_behind}}
-use Rattle.sharc_invariant.proofs.{Effects.{make_ok, place_same, place_other}, Frames.{Agrees, Always, Low, filled, fill_stands, top_agrees, callers_agree, less_stands}, Filled.below_filled, Listed.restate_ok, Quiet.{heap_now, put_self, sum_up}, Changes.{KeepsPart, conc_now, changed_state, held_same}, Turns.{asks_turn, room_of}, Own.{runs_at, closed_less, ref_inside}, Seen.reg_stored, Stores.arena, Unlogged.logged_entry, Heaps.{IsApart, apart_stored, block_word, built_size, low_block, built_dead}, Builds.{IsMaking, new_fine, new_begun, new_top, new_shut, new_register, new_noted, own_at, own_off, own_low, own_kept, own_others, own_epochs}, News.{IsGiven, is_given, word_in, new_first, clears_cell, counts_one, moves_top}, Objects.{block_is, stale_sound, found_granules, made_sim, positive, factor_low}, Others.loses, Owned.{owned_is, effect_objects, behind_same}}
+use Rattle.sharc_invariant.proofs.{Imports.{◌≡◌, ℕ, suc, ◌+◌, ◌*◌, ◌^◌, ◌<◌, ◌≤◌, ◌≢◌, ◌⊎◌, true, false, cond, List, None, Some, refl, sym, ap, ◌∙◌, subst, inl, ⊎_elim, arith, cases_eq, eqb-true, eqb-false, get_or-set_same, get_or-set_other, length-set, fun_ext, length, slice_index, slice_set, nat_lt, min, max, pos, ◌==◌, ◌↔◌, is_some, Contains, THREADS, Swap, NewLaws, NewView, told, NewArguments, epoch_of, Kind, Read, Write, NewStage, object_of, Code, Shape, RunsOn, Rests, Makes, Fits as FitsShape, granules, top_word, first_cell, Machine, instr_at, int, elements_of, size_of, new_state, asks_new, goes_on_new, made_machine, turn, Turn, Global, put, MayTurn, after_turn, one_thread, bounds, Instr, put_same, put_other, put_all, GranuleState, Bits, Passed, sum_to, Targets, ObjectType, field_in, is_mutex, type_at, type_of, cells_of, Label, Labels, Refers, fill, Unknown, LessEntry, Fine, IsWellTyped, refs_in, ints_in, In, RegisterOf, CellOf, TypedReference, ObjectState, World, Shut, WorldInvariant, in_ref, make, null, place, put2, Heap, Kept, Built, Live, InBlock, IsListed, restated, Apart, MachineView, IsNobodys, lang_of, conc_of, Shows, shown, set_reg, store, cell_at, count_at, length_at, head_of, head_with, making_of, register_of, staged_of, noted_by, has_returned, fresh_granule, made_turn, KeepsOthers, MakesOf, State, View, Runs, view_of, BuildsAt, HeapStands, Locks, TopStands, FramesStand, EntryStands, refs_at, types_at, block_for, size_of_run, Turned, changes_objects, objects_now, objects_behind, owned, makes_object, is_length, new_behind, made_behind}, Effects.{make_ok, place_same, place_other}, Frames.{Agrees, Always, Low, filled, fill_stands, top_agrees, callers_agree, less_stands}, Filled.below_filled, Listed.restate_ok, Quiet.{heap_now, put_self, sum_up}, Changes.{KeepsPart, conc_now, changed_state, held_same}, Turns.{asks_turn, room_of}, Own.{runs_at, closed_less, ref_inside}, Seen.reg_stored, Stores.arena, Unlogged.logged_entry, Heaps.{IsApart, apart_stored, block_word, built_size, low_block, built_dead}, Builds.{IsMaking, new_fine, new_begun, new_top, new_shut, new_register, new_noted, own_at, own_off, own_low, own_kept, own_others, own_epochs}, News.{IsGiven, is_given, word_in, new_first, clears_cell, counts_one, moves_top}, Objects.{block_is, stale_sound, found_granules, made_sim, positive, factor_low}, Others.loses, Owned.{owned_is, effect_objects, behind_same}}
+use Rattle.sharc_heap.specs.Asks.{step_of, length_word}
 
 module _ (x : Targets) (code : Code) (s : Shape) (ls : Labels) (wt : IsWellTyped x code ls) (fits : FitsShape code s) (laws : NewLaws) (g : Global Machine) (world : World) (st : State x code s ls g world) (tr : Turn)
-    (may : MayTurn bounds (one_thread code s) g tr) (r count cells site : ℕ) (is : instr_at code (g.threads tr.thread).at.pc ≡ instrs.New r count cells site) (making : IsMaking (g.threads tr.thread).own.stage)
+    (may : MayTurn bounds (one_thread code s) g tr) (r count cells site : ℕ) (is : instr_at code (g.threads tr.thread).at.pc ≡ Instr.New r count cells site) (making : IsMaking (g.threads tr.thread).own.stage)
     (v : NewView) (at_v : (g.threads tr.thread).own.stage ≡ Makes v) (ea : v.arguments ≡ (new_state s (g.threads tr.thread) (elements_of (int (g.threads tr.thread) count)) cells).arguments)
-    (b : ℕ) (at_b : v.stage ≡ news.Length b) (h : BuildsAt g.words st.heap tr.thread v (news.Length b)) where
+    (b : ℕ) (at_b : v.stage ≡ NewStage.Length b) (h : BuildsAt g.words st.heap tr.thread v (NewStage.Length b)) where
   abbrev t : ℕ
   t = tr.thread
 
@@ -40,7 +30,7 @@ module _ (x : Targets) (code : Code) (s : Shape) (ls : Labels) (wt : IsWellTyped
   given : IsGiven s (g.threads tr.thread) E cells v.arguments
   given = is_given s m E cells a ea
 
-  f : Fine x code ls (g.threads tr.thread).at.pc here (instrs.New r count cells site)
+  f : Fine x code ls (g.threads tr.thread).at.pc here (Instr.New r count cells site)
   f = new_fine x code s ls wt fits g world st tr may r count cells site is making
 
   on_t : tr.thread < THREADS
@@ -112,7 +102,7 @@ module _ (x : Targets) (code : Code) (s : Shape) (ls : Labels) (wt : IsWellTyped
   words = slice_set g.words (length_at s b) E
 
   abbrev m' : Machine
-  m' = made_machine (g.threads tr.thread) r (record { arguments = v.arguments; stage = news.Made b; head = v.head }) b
+  m' = made_machine (g.threads tr.thread) r (record { arguments = v.arguments; stage = NewStage.Made b; head = v.head }) b
 
   word_is : length_word v.arguments b ≡ length_at s b
   word_is =
@@ -121,11 +111,11 @@ module _ (x : Targets) (code : Code) (s : Shape) (ls : Labels) (wt : IsWellTyped
 
   done : (after_turn bounds (one_thread code s) g tr ≡ made_turn g tr.thread words m') × (length_at s b < length g.words)
   done =
-      let act : turn code s m ≡ asks_new m r site v (Rattle.sharc_heap.specs.Stages.turn_of_stage a (news.Length b)) =
+      let act : turn code s m ≡ asks_new m r site v (Rattle.sharc_heap.specs.Stages.turn_of_stage a (NewStage.Length b)) =
       ap (λ i. Rattle.sharc_code.specs.Machine.act code s i m) is ∙ ap (Rattle.sharc_code.specs.Machine.new s m r E cells site) at_v ∙ ap (λ y. asks_new m r site v (Rattle.sharc_heap.specs.Stages.turn_of_stage a y)) at_b in
       let d = asks_turn code s g tr may (step_of (length_word a b) (Swap a.elements)) (λ found. goes_on_new m r site (told v found)) act in
       let found = slice_index g.words (length_word a b) in
-      let told_is : told v found ≡ record { arguments = a; stage = news.Made b; head = v.head } =
+      let told_is : told v found ≡ record { arguments = a; stage = NewStage.Made b; head = v.head } =
       ap (λ y. record { arguments = a; stage = Rattle.sharc_heap.specs.Stages.next_stage a y found; head = Rattle.sharc_heap.specs.Stages.next_head a y v.head found }) at_b in (
         d.0 ∙ ap (λ v. made_turn g t (slice_set g.words (length_word a b) a.elements) (goes_on_new m r site v)) told_is
             ∙ ap (λ e. made_turn g t (slice_set g.words (length_word a b) e) m') given.elements_are ∙ ap (λ k. made_turn g t (slice_set g.words k E) m') word_is,
@@ -347,7 +337,7 @@ module _ (x : Targets) (code : Code) (s : Shape) (ls : Labels) (wt : IsWellTyped
       ∙ put_all (λ i y. slice_index (slice_set m.refs k b) i ≡ y) (register_of code m) k b (get_or-set_same m.refs k b 0 lt) (λ i ne. get_or-set_other m.refs k i b 0 ne ∙ sym (reg i)) i
     where
       no_freed : (ins : Rattle.sharc_code.specs.declared.instr.Instr.Instr) (i : ℕ) → cond (Rattle.sharc_invariant.specs.Words.is_freed ins Rests base i) 0 (slice_index (slice_set (g.threads tr.thread).refs k b) i) ≡ slice_index (slice_set (g.threads tr.thread).refs k b) i
-      no_freed (instrs.Free a c d) i = refl
+      no_freed (Instr.Free a c d) i = refl
       no_freed _ i = refl
 
   conc_is : conc_of code now ≡ c1
@@ -509,7 +499,7 @@ module _ (x : Targets) (code : Code) (s : Shape) (ls : Labels) (wt : IsWellTyped
 
 -- ---- all turns of a New
 module _ (x : Targets) (code : Code) (s : Shape) (ls : Labels) (wt : IsWellTyped x code ls) (fits : FitsShape code s) (laws : NewLaws) (g : Global Machine) (world : World) (st : State x code s ls g world) (tr : Turn)
-    (may : MayTurn bounds (one_thread code s) g tr) (r count cells site : ℕ) (is : instr_at code (g.threads tr.thread).at.pc ≡ instrs.New r count cells site) where
+    (may : MayTurn bounds (one_thread code s) g tr) (r count cells site : ℕ) (is : instr_at code (g.threads tr.thread).at.pc ≡ Instr.New r count cells site) where
   abbrev Done : Type 0
   Done = (k : Turned x code s ls g world tr) × (k.0.obj ≡ objects_now code s ls g tr world.obj)
 
@@ -522,7 +512,7 @@ module _ (x : Targets) (code : Code) (s : Shape) (ls : Labels) (wt : IsWellTyped
       (k, effect_objects (lang_of x) tr.thread (has_returned m) (changes_objects i m) world k.0 k.2 c ∙ sym (behind_same ls tr.thread i m ((after_turn bounds (one_thread code s) g tr).threads tr.thread) world.obj c))
 
   by_stage : (y : Rattle.sharc_code.specs.declared.state.Stage.Stage) → (g.threads tr.thread).own.stage ≡ y
-      → Rattle.sharc_invariant.specs.State.StageStands code s st.elements world st.heap g.words tr.thread (g.threads tr.thread) (instrs.New r count cells site) y → Done
+      → Rattle.sharc_invariant.specs.State.StageStands code s st.elements world st.heap g.words tr.thread (g.threads tr.thread) (Instr.New r count cells site) y → Done
   by_stage Rests e h = plain (ap makes_object e) (new_first x code s ls wt fits laws g world st tr may r count cells site is (subst IsMaking (sym e) tt) e)
   by_stage (Makes v) e h = by_step v.stage refl h.1
     where
@@ -530,10 +520,10 @@ module _ (x : Targets) (code : Code) (s : Shape) (ls : Labels) (wt : IsWellTyped
       mk = subst IsMaking (sym e) tt
 
       by_step : (y : Rattle.sharc_heap.specs.declared.stage.NewStage.NewStage) → v.stage ≡ y → BuildsAt g.words st.heap tr.thread v y → Done
-      by_step (news.Cell c) q b = plain (ap makes_object e ∙ ap is_length q) (clears_cell x code s ls wt fits laws g world st tr may r count cells site is mk v e h.0 c q b)
-      by_step (news.Count c) q b = plain (ap makes_object e ∙ ap is_length q) (counts_one x code s ls wt fits laws g world st tr may r count cells site is mk v e h.0 c q b)
-      by_step (news.Move top moved) q b = plain (ap makes_object e ∙ ap is_length q) (moves_top x code s ls wt fits laws g world st tr may r count cells site is mk v e h.0 top moved q b)
-      by_step (news.Length c) q b = new_makes x code s ls wt fits laws g world st tr may r count cells site is mk v e h.0 c q b
+      by_step (NewStage.Cell c) q b = plain (ap makes_object e ∙ ap is_length q) (clears_cell x code s ls wt fits laws g world st tr may r count cells site is mk v e h.0 c q b)
+      by_step (NewStage.Count c) q b = plain (ap makes_object e ∙ ap is_length q) (counts_one x code s ls wt fits laws g world st tr may r count cells site is mk v e h.0 c q b)
+      by_step (NewStage.Move top moved) q b = plain (ap makes_object e ∙ ap is_length q) (moves_top x code s ls wt fits laws g world st tr may r count cells site is mk v e h.0 top moved q b)
+      by_step (NewStage.Length c) q b = new_makes x code s ls wt fits laws g world st tr may r count cells site is mk v e h.0 c q b
       by_step _ q b = absurd b
   by_stage _ e h = absurd h
 

@@ -1,11 +1,5 @@
 -- The bits of one shadow word, with the notes of threads, behind each kind of turn on it.
-use Rattle.std.proofs.{Common.{◌≡◌, ℕ, suc, ◌⊎◌, ◌||◌, ◌&&◌, Bool, true, false, sym, ap, ◌∙◌, inl, inr, ⊎_elim}, lemmas.Bool.{cases_eq, and_parts, or_right as or_second, or_left as or_first}}
-use Rattle.std.specs.Prelude.{nat_eq, not, ◌==◌, Option}
-use Rattle.sharc_heap.specs.{declared.shadow_word.Kind.Kind, declared.shadow_word.Kind.TheVariants.{Read, Write}, ShadowWord.{epoch_of, is_of, is_written, stands, AddsAccess, Withdraws}}
-use Rattle.sharc_code.specs.Runs.{put}
-use Rattle.sharc_code.proofs.Places.{put_same, put_other, put_all}
-use Rattle.sharc_invariant.specs.Bits.{Marks, no_marks, with_check, without_thread}
-use Rattle.sharc_lemmas.proofs.{Bools.{or_split as or_true, not_true}, Numbers.{ne_eq, eq_refl}}
+use Rattle.sharc_invariant.proofs.Imports.{◌≡◌, ℕ, suc, ◌⊎◌, ◌||◌, ◌&&◌, Bool, true, false, sym, ap, ◌∙◌, inl, inr, ⊎_elim, cases_eq, and_parts, or_second, or_first, nat_eq, not, ◌==◌, Option, Kind, Read, Write, epoch_of, is_of, is_written, stands, AddsAccess, WithdrawsWord as Withdraws, put, put_same, put_other, put_all, Marks, no_marks, with_check, without_thread, or_true, not_true, ne_eq, eq_refl}
 
 -- a word, and by thread the numbers of its notes and whether it may go on
 pub record MarkedAt (v : ℕ) (rn wn : ℕ → ℕ) (goes : ℕ → Bool) (f : Marks) : Type 0 where

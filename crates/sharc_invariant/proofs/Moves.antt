@@ -1,13 +1,5 @@
 -- A reference goes from one register to another.
-use Rattle.std.proofs.{Common.{◌≡◌, ℕ, ℤ, zero, suc, ◌+◌, ◌<◌, ◌⊎◌, ◌≢◌, true, false, cond, refl, sym, ap, ◌∙◌, subst, inl, inr, ⊎_elim, arith}, lemmas.Bool.Decides.nat_tests, lemmas.List.{length-set, set-set, set-get_or}}
-use mathlib.Core.Path.{fun_ext}
-use Rattle.std.specs.Prelude.{length, slice_index, slice_set, ◌==◌}
-use Rattle.sharc_heap.specs.Count.{test_of}
-use Rattle.sharc_code.specs.{declared.code.Code.Code, declared.instr.Instr.Instr, declared.shape.Shape.Shape, Layout.{Fits, count_word}, Machine.{Machine, Local, Asks, instr_at, goes, set_ref, move_ref, test, ref}, Path.turn, Runs.{Turn, Global, put, MayTurn, after_turn}, Whole.{one_thread, bounds}}
-use Rattle.sharc_code.specs.declared.instr.Instr.TheVariants as instrs
-use Rattle.sharc_code.proofs.Places.{put_same, put_other}
-use Rattle.sharc_invariant.specs.{Types.{Targets, nothing, Mentions}, Labels.{Empty, Refers, Unknown, Closed, Label, Labels, Leads, EntryMentions, fill, empty, IsFree}, Typed.{IsWellTyped, IsRef, IsVacant, refs_in, ints_in, moved_copy}, World.{TypedReference, RegisterOf, ArgumentOf, In, Slot, Cell as CellOf, World, Shut, Sole, in_ref, none, place, put2, shift}, Words.{lang_of, conc_of, Shows, register_of, set_reg}, Effect.Silently, Turns.made_turn, State.{State, View, view_of, EntryStands, TopStands, FramesStand, refs_at, types_at, size_of_run}, Laws.Turned}
-use Rattle.sharc_invariant.proofs.{Effects.{place_other, shift_ok}, Frames.{filled, FilledStands, fill_stands, empty_stands, type_kept, put_base}, Quiet.{KeepsOwn, heap_now, quiet_state, noted_same, conc_plain}, Turns.{local_turn, asks_turn, room_of}, Own.{is_single, runs, rests, top, fine, not_begun, begun_before}, Plain.{register_plain, is_shut, going, next_runs, same_words}, Seen.reg_stored, Filled.{refs_set, view_filled, below_filled, free_shut, inside, inside_world}, CheckTurns.put_put, Accesses.loaded_words, Scoped.scoped_empty, Steps.{leads as stays}, Others.loses}
+use Rattle.sharc_invariant.proofs.{Imports.{◌≡◌, ℕ, ℤ, zero, suc, ◌+◌, ◌<◌, ◌⊎◌, ◌≢◌, true, false, cond, refl, sym, ap, ◌∙◌, subst, inl, inr, ⊎_elim, arith, nat_tests, length-set, set-set, set-get_or, fun_ext, length, slice_index, slice_set, ◌==◌, test_of, Code, Instr, Shape, Fits, count_word, Machine, Local, Asks, instr_at, goes, set_ref, move_ref, test, ref, turn, Turn, Global, put, MayTurn, after_turn, one_thread, bounds, put_same, put_other, Targets, nothing, Mentions, Empty, Refers, Unknown, Closed, Label, Labels, Leads, EntryMentions, fill, empty, IsFree, IsWellTyped, IsRef, IsVacant, refs_in, ints_in, moved_copy, TypedReference, RegisterOf, ArgumentOf, In, Slot, CellOf, World, Shut, Sole, in_ref, none, place, put2, shift, lang_of, conc_of, Shows, register_of, set_reg, Silently, made_turn, State, View, view_of, EntryStands, TopStands, FramesStand, refs_at, types_at, size_of_run, Turned}, Effects.{place_other, shift_ok}, Frames.{filled, FilledStands, fill_stands, empty_stands, type_kept, put_base}, Quiet.{KeepsOwn, heap_now, quiet_state, noted_same, conc_plain}, Turns.{local_turn, asks_turn, room_of}, Own.{is_single, runs, rests, top, fine, not_begun, begun_before}, Plain.{register_plain, is_shut, going, next_runs, same_words}, Seen.reg_stored, Filled.{refs_set, view_filled, below_filled, free_shut, inside, inside_world}, CheckTurns.put_put, Accesses.loaded_words, Scoped.scoped_empty, Steps.{leads as stays}, Others.loses}
 
 module _ (x : Targets) (code : Code) (s : Shape) (ls : Labels) (wt : IsWellTyped x code ls) (fits : Fits code s) (g : Global Machine) (world : World) (st : State x code s ls g world) (tr : Turn)
     (may : MayTurn bounds (one_thread code s) g tr) (i : Instr) (is : instr_at code (g.threads tr.thread).at.pc ≡ i) (single : is_single i ≡ true) (r from : ℕ) (gt : (ls.at (g.threads tr.thread).at.pc).gate ≡ Closed)
@@ -180,9 +172,9 @@ module _ (x : Targets) (code : Code) (s : Shape) (ls : Labels) (wt : IsWellTyped
   abbrev mm : Machine
   mm = g.threads tr.thread
 
-  pub Move_reference_keeps : (r from : ℕ) → instr_at code (g.threads tr.thread).at.pc ≡ instrs.MoveReference r from → Turned x code s ls g world tr
+  pub Move_reference_keeps : (r from : ℕ) → instr_at code (g.threads tr.thread).at.pc ≡ Instr.MoveReference r from → Turned x code s ls g world tr
   Move_reference_keeps r from is =
-      let i = instrs.MoveReference r from in
+      let i = Instr.MoveReference r from in
       let f = fine x code s ls wt g world st tr.thread may.started may.next.runs i is refl in
       let e : turn code s (g.threads tr.thread) ≡ Local (goes (move_ref mm r from)) = ap (λ i. Rattle.sharc_code.specs.Machine.act code s i mm) is in
       ⊎_elim
@@ -190,9 +182,9 @@ module _ (x : Targets) (code : Code) (s : Shape) (ls : Labels) (wt : IsWellTyped
       (λ h. moved_state x code s ls wt fits g world st tr may i is refl r from f.0 h.0 h.1 h.2 h.3 h.4 h.5 (local_turn code s g tr may (goes (move_ref mm r from)) e))
       f.1
 
-  pub Take_local_keeps : (r from site : ℕ) → instr_at code (g.threads tr.thread).at.pc ≡ instrs.TakeLocal r from site → Turned x code s ls g world tr
+  pub Take_local_keeps : (r from site : ℕ) → instr_at code (g.threads tr.thread).at.pc ≡ Instr.TakeLocal r from site → Turned x code s ls g world tr
   Take_local_keeps r from site is =
-      let i = instrs.TakeLocal r from site in
+      let i = Instr.TakeLocal r from site in
       let f = fine x code s ls wt g world st tr.thread may.started may.next.runs i is refl in
       let m' = goes (move_ref mm r from) in
       by_count (ref mm from) m' (ap (λ i. Rattle.sharc_code.specs.Machine.act code s i mm) is)

@@ -1,12 +1,5 @@
 -- A mutex is taken or given back: what the words and the logs then show of the world, and who holds which.
-use Rattle.std.proofs.Common.{◌≡◌, ℕ, suc, ◌+◌, ◌<◌, ◌≢◌, true, List, sym, ap, ◌∙◌, subst, ⊎_elim, arith}
-use Rattle.std.specs.Prelude.{◌↔◌, is_some, Contains}
-use Rattle.sharc_word.specs.declared.step.TheConstants.{THREADS}
-use Rattle.sharc_locks.specs.{declared.held_log.HeldMutex.HeldMutex, HeldLog.object_of}
-use Rattle.sharc_code.specs.{declared.shape.Shape.Shape, Machine.Machine, Runs.{Global, put}}
-use Rattle.sharc_code.proofs.Places.{put_same, put_other, put_all}
-use Rattle.sharc_invariant.specs.{Types.{Targets, Content, field_in, is_mutex}, Types.Content.{Integer, MutexWord, Waiters, Pointer}, World.{TypedReference, Slot, LogOf, In, World, place, put2}, Words.{MachineView, Shows, Apart, FitsContent, Reads, shadow_at, count_at, length_at, cell_at, store}, Turns.made_turn, State.Locks}
-use Rattle.sharc_invariant.proofs.{Effects.{place_same, place_other}, Seen.{pointer_no_mutex, put2_at, put2_off, cell_cell, cell_count, cell_length, stale_off}, Listed.pair_cases}
+use Rattle.sharc_invariant.proofs.{Imports.{◌≡◌, ℕ, suc, ◌+◌, ◌<◌, ◌≢◌, true, List, sym, ap, ◌∙◌, subst, ⊎_elim, arith, ◌↔◌, is_some, Contains, THREADS, HeldMutex, object_of, Shape, Machine, Global, put, put_same, put_other, put_all, Targets, Content, field_in, is_mutex, Integer, MutexWord, Waiters, Pointer, TypedReference, Slot, LogOf, In, World, place, put2, MachineView, Shows, Apart, FitsContent, Reads, shadow_at, count_at, length_at, cell_at, store, made_turn, Locks}, Effects.{place_same, place_other}, Seen.{pointer_no_mutex, put2_at, put2_off, cell_cell, cell_count, cell_length, stale_off}, Listed.pair_cases}
 
 mutex_fits : (h : Content) (v : ℕ) → is_mutex h ≡ true → FitsContent h v
 mutex_fits (Integer w) v e = absurd (cc)

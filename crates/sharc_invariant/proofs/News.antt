@@ -1,17 +1,7 @@
 -- The turns of a New before its last: from the thread's own list, or from the top.
-use Rattle.std.proofs.{Common.{◌≡◌, ℕ, zero, suc, ◌+◌, ◌*◌, ◌^◌, ◌<◌, ◌≤◌, ◌≢◌, Bool, true, false, cond, List, None, Some, refl, sym, ap, ◌∙◌, subst, ⊎_elim, arith, ltb-true}, lemmas.Bool.{cases_eq, cases_lt, eqb-true, eqb-false}, lemmas.Bool.Decides.nat_tests, lemmas.List.{set-get_or, get_or_past, length-set}, Math.Pow.pow_mono}
-use mathlib.Core.Path.{fun_ext}
-use Rattle.std.specs.Prelude.{length, slice_index, slice_set, nat_lt, nat_le, nat_eq, ◌==◌}
+use Rattle.sharc_invariant.proofs.{Imports.{◌≡◌, ℕ, zero, suc, ◌+◌, ◌*◌, ◌^◌, ◌<◌, ◌≤◌, ◌≢◌, Bool, true, false, cond, List, None, Some, refl, sym, ap, ◌∙◌, subst, ⊎_elim, arith, ltb-true, cases_eq, cases_lt, eqb-true, eqb-false, nat_tests, set-get_or, get_or_past, length-set, pow_mono, fun_ext, length, slice_index, slice_set, nat_lt, nat_le, nat_eq, ◌==◌, THREADS, Load, Swap, Cas, NewLaws, block_of, NewView, told, turn_of, turn_of_stage, next_stage, next_head, try_from, after_cell, word_number, granule_number, top_number, NewArguments, Do, NewStage, Code, Shape, RunsOn, Stopped, Trap, Stage, Rests, Makes, Fits as FitsShape, granules, granule_at, top_word, first_cell, Machine, instr_at, int, elements_of, all_cells, size_of, new_state, new, asks_new, after_new, goes_on_new, at_stage, trapped, turn, Turn, Global, put, MayTurn, after_turn, one_thread, bounds, Instr, put_same, put_other, put_all, Targets, Labels, IsWellTyped, World, put2, Heap, Kept, Built, Live, Listed, InBlock, popped, carved, conc_of, Shows, head_of, head_with, making_of, length_at, made_turn, KeepsOthers, Silently, State, BuildsAt, HeapStands, Turned, ne_eq, eq_refl, not_less as not_lt, le_true}, Listed.{pop_ok, carve_ok, store_ok, below_blocks, put2_same, put2_other}, Quiet.heap_now, Changes.KeepsLower, Turns.{asks_turn, room_of}, Stores.{index_put, arena}, Heaps.{size_power, same_power, apart_stored, built_size, listed_size, low_block}, Builds.{IsMaking, builds_state, own_state, own_off, own_at}, Others.loses}
 use Rattle.sharc_tree.specs.declared.trap.Trap.TheVariants as traps
-use Rattle.sharc_word.specs.{declared.step.TheConstants.THREADS, declared.step.WordOp.TheVariants.{Load, Swap, Cas}}
-use Rattle.sharc_heap.specs.{NewLaws.NewLaws, Block.block_of, State.{NewView, told, turn_of}, Stages.{turn_of_stage, next_stage, next_head, try_from, after_cell}, Asks.{word_number, granule_number, step_of, cell_word, count_word, length_word, top_word as top_number}, declared.arguments.NewArguments.NewArguments, declared.stage.NewTurn.TheVariants.Do, declared.stage.NewStage.NewStage}
-use Rattle.sharc_heap.specs.declared.stage.NewStage.TheVariants as news
-use Rattle.sharc_code.specs.{declared.code.Code.Code, declared.shape.Shape.Shape, declared.state.TurnState.TheVariants.{Runs as RunsOn, Stopped}, declared.state.Stop.TheVariants.Trap, declared.state.Stage.Stage, declared.state.Stage.TheVariants.{Rests, Makes}, Layout.{Fits as FitsShape, granules, granule_at, top_word, first_cell}, Machine.{Machine, instr_at, int, elements_of, all_cells, size_of, new_state, new, asks_new, after_new, goes_on_new, at_stage, trapped}, Path.turn, Runs.{Turn, Global, put, MayTurn, after_turn}, Whole.{one_thread, bounds}}
-use Rattle.sharc_code.specs.declared.instr.Instr.TheVariants as instrs
-use Rattle.sharc_code.proofs.Places.{put_same, put_other, put_all}
-use Rattle.sharc_invariant.specs.{Types.Targets, Labels.Labels, Typed.IsWellTyped, World.{World, put2}, Blocks.{Heap, Kept, Built, Live, Listed, InBlock, popped, carved}, Words.{conc_of, Shows, head_of, head_with, making_of, length_at}, Turns.{made_turn, KeepsOthers}, Effect.Silently, State.{State, BuildsAt, HeapStands}, Laws.Turned}
-use Rattle.sharc_invariant.proofs.{Listed.{pop_ok, carve_ok, store_ok, below_blocks, put2_same, put2_other}, Quiet.heap_now, Changes.KeepsLower, Turns.{asks_turn, room_of}, Stores.{index_put, arena}, Heaps.{size_power, same_power, apart_stored, built_size, listed_size, low_block}, Builds.{IsMaking, builds_state, own_state, own_off, own_at}, Others.loses}
-use Rattle.sharc_lemmas.proofs.Numbers.{ne_eq, eq_refl, not_below as not_lt, le_true}
+use Rattle.sharc_heap.specs.Asks.{step_of, cell_word, count_word, length_word}
 
 -- ---- blocks
 pub record IsBlockOf (c n : ℕ) : Type 0 where
@@ -59,7 +49,7 @@ pub granule_here : (s : Shape) (n : ℕ) → n < granules s → granule_at s n �
 granule_here s n lt = let e : nat_lt n (granules s) ≡ true = grind (arith, nat_tests) in rw e refl
 
 module _ (x : Targets) (code : Code) (s : Shape) (ls : Labels) (wt : IsWellTyped x code ls) (fits : FitsShape code s) (laws : NewLaws) (g : Global Machine) (world : World) (st : State x code s ls g world) (tr : Turn)
-    (may : MayTurn bounds (one_thread code s) g tr) (r count cells site : ℕ) (is : instr_at code (g.threads tr.thread).at.pc ≡ instrs.New r count cells site) (making : IsMaking (g.threads tr.thread).own.stage) where
+    (may : MayTurn bounds (one_thread code s) g tr) (r count cells site : ℕ) (is : instr_at code (g.threads tr.thread).at.pc ≡ Instr.New r count cells site) (making : IsMaking (g.threads tr.thread).own.stage) where
   abbrev t : ℕ
   t = tr.thread
 
@@ -156,7 +146,7 @@ module _ (x : Targets) (code : Code) (s : Shape) (ls : Labels) (wt : IsWellTyped
       → after ≡ made_turn g tr.thread g.words (after_new (g.threads tr.thread) r site v (turn_of v)) → Turned x code s ls g world tr
   try_next v ea heads found ev done =
       let a = v.arguments in
-      elim (nat_le (found + a.block) a.end) as (λ c. nat_le (found + a.block) a.end ≡ c → v.stage ≡ cond c (news.Move found (found + a.block)) news.Full → Turned x code s ls g world tr) [
+      elim (nat_le (found + a.block) a.end) as (λ c. nat_le (found + a.block) a.end ≡ c → v.stage ≡ cond c (NewStage.Move found (found + a.block)) NewStage.Full → Turned x code s ls g world tr) [
         | true ↦ λ le e.
             let m' = at_stage m (Makes v) in
             let d : after ≡ made_turn g t g.words m' = done ∙ ap (λ y. made_turn g t g.words (after_new m r site v (turn_of_stage a y))) e in
@@ -170,7 +160,7 @@ module _ (x : Targets) (code : Code) (s : Shape) (ls : Labels) (wt : IsWellTyped
       ] refl ev
 
   abbrev first_view : Bool → NewView
-  first_view b = record { arguments = a0; stage = cond b news.Top news.Link; head = a0.head }
+  first_view b = record { arguments = a0; stage = cond b NewStage.Top NewStage.Link; head = a0.head }
 
   first_turn : (rest : (g.threads tr.thread).own.stage ≡ Rests) → (b : Bool) → nat_eq a0.head 0 ≡ b → turn code s (g.threads tr.thread) ≡ asks_new (g.threads tr.thread) r site (first_view b) (turn_of (first_view b))
   first_turn rest b e = turn_is Rests rest ∙ ap (λ b. asks_new m r site (first_view b) (turn_of (first_view b))) e
@@ -353,15 +343,15 @@ module _ (x : Targets) (code : Code) (s : Shape) (ls : Labels) (wt : IsWellTyped
           )
           (room_of code s g tr may words m' d))
 
-    pub clears_cell : (c : ℕ) → v.stage ≡ news.Cell c → BuildsAt g.words st.heap tr.thread v (news.Cell c) → Turned x code s ls g world tr
+    pub clears_cell : (c : ℕ) → v.stage ≡ NewStage.Cell c → BuildsAt g.words st.heap tr.thread v (NewStage.Cell c) → Turned x code s ls g world tr
     clears_cell c e h =
         let b = a.head in
         let lt = h.3 in
         let v' : NewView = record { arguments = a; stage = after_cell a c; head = v.head } in
         let next : after_new m r site v' (turn_of v') ≡ at_stage m (Makes v') =
-        elim (nat_lt (c + 1) a.cells) as (λ q. after_new m r site (record { arguments = a; stage = cond q (news.Cell (c + 1)) (news.Count a.head); head = v.head }) (turn_of_stage a (cond q (news.Cell (c + 1)) (news.Count a.head)))
-        ≡ at_stage m (Makes (record { arguments = a; stage = cond q (news.Cell (c + 1)) (news.Count a.head); head = v.head }))) [ true ↦ refl | false ↦ refl ] in
-        goes b h.0 h.1 h.2 (2 + c) 0 (omega arith) (omega arith) (cell_word a b c) (cell_place c lt h) (news.Cell c) e refl v' (λ found. told_is (news.Cell c) found e) refl refl next
+        elim (nat_lt (c + 1) a.cells) as (λ q. after_new m r site (record { arguments = a; stage = cond q (NewStage.Cell (c + 1)) (NewStage.Count a.head); head = v.head }) (turn_of_stage a (cond q (NewStage.Cell (c + 1)) (NewStage.Count a.head)))
+        ≡ at_stage m (Makes (record { arguments = a; stage = cond q (NewStage.Cell (c + 1)) (NewStage.Count a.head); head = v.head }))) [ true ↦ refl | false ↦ refl ] in
+        goes b h.0 h.1 h.2 (2 + c) 0 (omega arith) (omega arith) (cell_word a b c) (cell_place c lt h) (NewStage.Cell c) e refl v' (λ found. told_is (NewStage.Cell c) found e) refl refl next
         (λ words off here.
         let zero' : (i : ℕ) → i < c + 1 → slice_index words (a.first + 2 * b + 2 + i) ≡ 0 = λ i l.
         let f = given.first_is in
@@ -369,7 +359,7 @@ module _ (x : Targets) (code : Code) (s : Shape) (ls : Labels) (wt : IsWellTyped
         (λ (q : i ≡ c). ap (slice_index words) (let z : a.first + 2 * b + 2 + i ≡ first_cell s + 2 * b + (2 + c) = omega arith in z) ∙ here)
         (λ (ne : i ≡ c → ⊥). off (a.first + 2 * b + 2 + i) (λ z. ne (omega arith)) ∙ h.4 i (lower_cell i c l ne))
         (cases_eq i c) in
-        elim (nat_lt (c + 1) a.cells) as (λ q. nat_lt (c + 1) a.cells ≡ q → BuildsAt words (heap_now st.heap words) t (record { arguments = a; stage = cond q (news.Cell (c + 1)) (news.Count a.head); head = v.head }) (cond q (news.Cell (c + 1)) (news.Count a.head))) [
+        elim (nat_lt (c + 1) a.cells) as (λ q. nat_lt (c + 1) a.cells ≡ q → BuildsAt words (heap_now st.heap words) t (record { arguments = a; stage = cond q (NewStage.Cell (c + 1)) (NewStage.Count a.head); head = v.head }) (cond q (NewStage.Cell (c + 1)) (NewStage.Count a.head))) [
           | true ↦ λ q. (h.0, h.1, h.2, ltb-true (c + 1) a.cells q, zero')
           | false ↦ λ q. (h.0, h.1, h.2, λ i l. zero' i (let z = not_lt (c + 1) a.cells q in omega arith))
         ] refl)
@@ -377,49 +367,49 @@ module _ (x : Targets) (code : Code) (s : Shape) (ls : Labels) (wt : IsWellTyped
         lower_cell : (i c : ℕ) → i < c + 1 → (i ≡ c → ⊥) → i < c
         lower_cell i c l ne = ⊎_elim (λ (z : i < c). z) (λ (z : c ≤ i). absurd (ne (omega arith))) (cases_lt i c)
 
-        cell_place : (c : ℕ) → c < v.arguments.cells → BuildsAt g.words st.heap tr.thread v (news.Cell c) → cell_word v.arguments v.arguments.head c ≡ first_cell s + 2 * v.arguments.head + (2 + c)
+        cell_place : (c : ℕ) → c < v.arguments.cells → BuildsAt g.words st.heap tr.thread v (NewStage.Cell c) → cell_word v.arguments v.arguments.head c ≡ first_cell s + 2 * v.arguments.head + (2 + c)
         cell_place c lt h = ap (word_number a) (let z : a.first + 2 * a.head + 2 + c ≡ a.first + 2 * a.head + (2 + c) = omega arith in z) ∙ place a.head h.0 h.1 h.2 (2 + c) (omega arith)
 
-    pub counts_one : (b : ℕ) → v.stage ≡ news.Count b → BuildsAt g.words st.heap tr.thread v (news.Count b) → Turned x code s ls g world tr
+    pub counts_one : (b : ℕ) → v.stage ≡ NewStage.Count b → BuildsAt g.words st.heap tr.thread v (NewStage.Count b) → Turned x code s ls g world tr
     counts_one b e h =
-        let v' : NewView = record { arguments = a; stage = news.Length b; head = v.head } in
-        goes b h.0 h.1 h.2 0 1 (omega arith) (omega arith) (count_word a b) (count_place b h) (news.Count b) e refl v' (λ found. told_is (news.Count b) found e) refl refl refl
+        let v' : NewView = record { arguments = a; stage = NewStage.Length b; head = v.head } in
+        goes b h.0 h.1 h.2 0 1 (omega arith) (omega arith) (count_word a b) (count_place b h) (NewStage.Count b) e refl v' (λ found. told_is (NewStage.Count b) found e) refl refl refl
         (λ words off here.
         let f = given.first_is in
         (h.0, h.1, h.2, (λ i l. off (a.first + 2 * b + 2 + i) (λ z. omega arith) ∙ h.3 i l), ap (slice_index words) (let z : a.first + 2 * b ≡ first_cell s + 2 * b + 0 = omega arith in z) ∙ here))
       where
-        count_place : (b : ℕ) → BuildsAt g.words st.heap tr.thread v (news.Count b) → count_word v.arguments b ≡ first_cell s + 2 * b + 0
+        count_place : (b : ℕ) → BuildsAt g.words st.heap tr.thread v (NewStage.Count b) → count_word v.arguments b ≡ first_cell s + 2 * b + 0
         count_place b h = ap (word_number a) (let z : a.first + 2 * b ≡ a.first + 2 * b + 0 = omega arith in z) ∙ place b h.0 h.1 h.2 0 (omega arith)
 
     -- ---- the top is moved
-    pub moves_top : (top moved : ℕ) → v.stage ≡ news.Move top moved → BuildsAt g.words st.heap tr.thread v (news.Move top moved) → Turned x code s ls g world tr
+    pub moves_top : (top moved : ℕ) → v.stage ≡ NewStage.Move top moved → BuildsAt g.words st.heap tr.thread v (NewStage.Move top moved) → Turned x code s ls g world tr
     moves_top top moved e h =
         let h' = st.heap_stands in
         let found = slice_index g.words top_word in
-        let d0 = asks_turn code s g tr may (step_of top_number (Cas top moved)) (λ found. goes_on_new m r site (told v found)) (next_turn (news.Move top moved) e) in
-        let d1 : after ≡ made_turn g t (slice_set g.words top_word (cond (found == top) moved found)) (goes_on_new m r site (record { arguments = a; stage = next_stage a (news.Move top moved) found; head = v.head })) =
-        d0.0 ∙ ap (λ v. made_turn g t (slice_set g.words top_word (cond (found == top) moved found)) (goes_on_new m r site v)) (told_is (news.Move top moved) found e) in
+        let d0 = asks_turn code s g tr may (step_of top_number (Cas top moved)) (λ found. goes_on_new m r site (told v found)) (next_turn (NewStage.Move top moved) e) in
+        let d1 : after ≡ made_turn g t (slice_set g.words top_word (cond (found == top) moved found)) (goes_on_new m r site (record { arguments = a; stage = next_stage a (NewStage.Move top moved) found; head = v.head })) =
+        d0.0 ∙ ap (λ v. made_turn g t (slice_set g.words top_word (cond (found == top) moved found)) (goes_on_new m r site v)) (told_is (NewStage.Move top moved) found e) in
         ⊎_elim
         (λ (q : found ≡ top).
-        let v' : NewView = record { arguments = a; stage = news.Count top; head = v.head } in
+        let v' : NewView = record { arguments = a; stage = NewStage.Count top; head = v.head } in
         let m' = at_stage m (Makes v') in
         let words = slice_set g.words top_word moved in
         let t1 : (found == top) ≡ true = ap (λ k. k == top) q ∙ eq_refl top in
         let t2 : nat_eq top found ≡ true = ap (nat_eq top) q ∙ eq_refl top in
-        let d : after ≡ made_turn g t words m' = d1 ∙ ap (λ c. made_turn g t (slice_set g.words top_word (cond c moved found)) (goes_on_new m r site (record { arguments = a; stage = next_stage a (news.Move top moved) found; head = v.head }))) t1
-        ∙ ap (λ c. made_turn g t words (goes_on_new m r site (record { arguments = a; stage = cond c (news.Count top) (try_from a found); head = v.head }))) t2 in
+        let d : after ≡ made_turn g t words m' = d1 ∙ ap (λ c. made_turn g t (slice_set g.words top_word (cond c moved found)) (goes_on_new m r site (record { arguments = a; stage = next_stage a (NewStage.Move top moved) found; head = v.head }))) t1
+        ∙ ap (λ c. made_turn g t words (goes_on_new m r site (record { arguments = a; stage = cond c (NewStage.Count top) (try_from a found); head = v.head }))) t2 in
         silent (made_turn g t words m') d (carves top moved h (h'.top ∙ q) v' refl refl refl d0.1 (room_of code s g tr may words m' d)))
         (λ (ne : found ≡ top → ⊥).
         let v' : NewView = record { arguments = a; stage = try_from a found; head = v.head } in
         let t1 : (found == top) ≡ false = ne_eq found top ne in
         let t2 : nat_eq top found ≡ false = ne_eq top found (λ z. ne (sym z)) in
-        let d : after ≡ made_turn g t g.words (after_new m r site v' (turn_of v')) = d1 ∙ ap (λ c. made_turn g t (slice_set g.words top_word (cond c moved found)) (goes_on_new m r site (record { arguments = a; stage = next_stage a (news.Move top moved) found; head = v.head }))) t1
-        ∙ ap (λ c. made_turn g t (slice_set g.words top_word found) (goes_on_new m r site (record { arguments = a; stage = cond c (news.Count top) (try_from a found); head = v.head }))) t2
+        let d : after ≡ made_turn g t g.words (after_new m r site v' (turn_of v')) = d1 ∙ ap (λ c. made_turn g t (slice_set g.words top_word (cond c moved found)) (goes_on_new m r site (record { arguments = a; stage = next_stage a (NewStage.Move top moved) found; head = v.head }))) t1
+        ∙ ap (λ c. made_turn g t (slice_set g.words top_word found) (goes_on_new m r site (record { arguments = a; stage = cond c (NewStage.Count top) (try_from a found); head = v.head }))) t2
         ∙ ap (λ ws. made_turn g t ws (after_new m r site v' (turn_of v'))) (set-get_or g.words top_word 0) in
         try_next v' ea (λ k _. same_heads v' refl refl k) found refl d)
         (cases_eq found top)
       where
-        carves : (top moved : ℕ) → BuildsAt g.words st.heap tr.thread v (news.Move top moved) → st.heap.top ≡ top → (v' : NewView) → v'.arguments ≡ v.arguments → v'.head ≡ v.head → v'.stage ≡ news.Count top → top_word < length g.words → g.made tr.thread + 1 ≤ 100000000
+        carves : (top moved : ℕ) → BuildsAt g.words st.heap tr.thread v (NewStage.Move top moved) → st.heap.top ≡ top → (v' : NewView) → v'.arguments ≡ v.arguments → v'.head ≡ v.head → v'.stage ≡ NewStage.Count top → top_word < length g.words → g.made tr.thread + 1 ≤ 100000000
             → State x code s ls (made_turn g tr.thread (slice_set g.words top_word moved) (at_stage (g.threads tr.thread) (Makes v'))) world
         carves top moved h is_top v' ea' eh ev long few =
             let hs = st.heap_stands in

@@ -1,10 +1,6 @@
 -- The source events of a run obey the sharing rules.
-use Rattle.std.proofs.{Common.{◌≡◌, ℕ, suc, ◌⊎◌, Bool, true, false, List, ◌∷◌, refl, sym, ap, ◌∙◌, subst, inl, inr, ⊎_elim}, lemmas.Bool.cases_eq}
-use Rattle.std.specs.Prelude.{◌++◌}
-use Rattle.sharc_code.specs.Runs.{put}
-use Rattle.sharc_code.proofs.Places.{put_same, put_other}
-use Rattle.sharc_invariant.specs.{Granules.{GranuleState, Passed, cleared, withdrawn}, Types.{ObjectType, nothing, CellMode}, Types.CellMode.{Private, Readonly, Racy, Dynamic, Locked, Sibling, Behind}, World.{TypeRules, TypedReference, Holder, RegisterOf, In, ObjectState, Base, Shut, Sole, World, put2, in_ref, Size, base_of, CanBy, Right, WorldInvariant, set_gran, set_mutex, give, make, freed, none, thread_of, retype}, History.{Event, Access, New, Give, Freed, Lock, Unlock, Return, mutex_of, IsInAccessSet, Held, Ok, NoConflict, Closing, Without, Tied}, Effect.{Silent, Effect, Silently, Accesses, Clears, Gives, Frees, Makes, Locks, Unlocks, Returns, Withdraws, NoneOf, events_of}}
-use Rattle.sharc_invariant.proofs.Effects.{place_other, put2_all, base_other, sole_at, base_live}
+use Rattle.sharc_invariant.proofs.{Imports.{◌≡◌, ℕ, suc, ◌⊎◌, Bool, true, false, List, ◌∷◌, refl, sym, ap, ◌∙◌, subst, inl, inr, ⊎_elim, cases_eq, ◌++◌, put, put_same, put_other, GranuleState, Passed, cleared, withdrawn, ObjectType, nothing, CellMode, Private, Readonly, Racy, Dynamic, Locked, Sibling, Behind, TypeRules, TypedReference, Holder, RegisterOf, In, ObjectState, Base, Shut, Sole, World, put2, in_ref, Size, base_of, CanBy, Right, WorldInvariant, set_gran, set_mutex, give, make, freed, none, thread_of, retype, Event, Access, Freed, Return, IsInAccessSet, Held, NoConflict, Closing, Without, Tied, Silent, Effect, Silently, ClearsOf as Clears, Gives, Frees, MakesOf as Makes, Unlocks, Returns, WithdrawsOf as Withdraws, NoneOf, events_of}, Effects.{place_other, put2_all, base_other, sole_at, base_live}}
+use Rattle.sharc_invariant.specs.{History.{New, Give, Lock, Unlock, mutex_of, Ok}, Effect.{Accesses, Locks}}
 
 passed_read : (g : GranuleState) (t : ℕ) (k : Bool) → Passed g t k → Passed g t false
 passed_read g t true h = inr h

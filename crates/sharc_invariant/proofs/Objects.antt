@@ -1,10 +1,5 @@
 -- An object comes: what its words and its granules are.
-use Rattle.std.proofs.{Common.{◌≡◌, ℕ, ◌+◌, ◌*◌, ◌^◌, ◌<◌, ◌≤◌, true, false, cond, refl, sym, ap, ◌∙◌, subst, ⊎_elim, arith}, lemmas.Bool.cases_eq, lemmas.Bool.Decides.nat_tests}
-use Rattle.std.specs.Prelude.{nat_lt, min, max}
-use Rattle.sharc_heap.specs.Block.{block_of}
-use Rattle.sharc_code.specs.{declared.instr.Width.TheVariants.{Char, Int, Long}, declared.shape.Shape.Shape, Runs.put}
-use Rattle.sharc_code.proofs.Places.{put_same, put_other}
-use Rattle.sharc_invariant.specs.{Granules.{GranuleState, Bits}, Types.{Targets, ObjectType, Content, field_in, is_pointer, is_mutex, type_at}, Types.Content.{Integer, MutexWord, Waiters, Pointer}, World.{In, RegisterOf, Cell as CellOf, TypedReference, ObjectState, World, make, null, place}, Words.{MachineView, Reads, FitsContent, lang_of, Shows, shown, cell_at, count_at, length_at, shadow_at}, Opened.fresh_granule, State.block_for}
+use Rattle.sharc_invariant.proofs.Imports.{◌≡◌, ℕ, ◌+◌, ◌*◌, ◌^◌, ◌<◌, ◌≤◌, true, false, cond, refl, sym, ap, ◌∙◌, subst, ⊎_elim, arith, cases_eq, nat_tests, nat_lt, min, max, block_of, Char, Int, Long, Shape, put, put_same, put_other, GranuleState, Bits, Targets, ObjectType, Content, field_in, is_pointer, is_mutex, type_at, Integer, MutexWord, Waiters, Pointer, In, RegisterOf, CellOf, TypedReference, ObjectState, World, make, null, place, MachineView, Reads, FitsContent, lang_of, Shows, shown, cell_at, count_at, length_at, shadow_at, fresh_granule, block_for}
 
 -- ---- what zeros are
 pub zero_fits : (h : Content) → FitsContent h 0

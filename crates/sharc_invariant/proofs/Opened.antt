@@ -1,13 +1,5 @@
 -- The invariant holds where no turn was made.
-use Rattle.std.proofs.{Common.{◌≡◌, ℕ, pos, ◌+◌, ◌-◌, ◌*◌, ◌^◌, ◌<◌, ◌≤◌, ◌≢◌, ◌&&◌, true, false, cond, List, [], ◌∷◌, refl, sym, ap, ◌∙◌, subst, inl, ⊎_elim, arith, eqb-true, ltb-true}, lemmas.Bool.{cases_eq, cases_lt, and_parts}, lemmas.Bool.Decides.nat_tests, lemmas.List.{get_or-replicate, get_or_past, length-replicate}, lemmas.List.FromFn.{get_or-map-range_with_len, length-map-range_with_len}}
-use Rattle.std.specs.Prelude.{length, slice_index, slice_index_or, nat_eq, nat_lt, nat_le, ◌==◌, replicate, if◌then◌else◌}
-use Rattle.sharc_word.specs.declared.step.TheConstants.{THREADS}
-use Rattle.sharc_heap.specs.{Accesses.{ListsNoted, is_noted, note_of}, Notes.{blank, has_note}, ShadowWord.{IsBlank, epoch_of}, declared.shadow_word.Kind.Kind, declared.shadow_word.Kind.TheVariants.{Read, Write}, declared.access_table.GranuleNotes.GranuleNotes}
-use Rattle.sharc_code.specs.{declared.code.Code.Code, declared.shape.Shape.Shape, declared.code.Parameter.Parameter, declared.state.TheConstants.FRAMES, Arithmetic.int_of, Layout.{Fits, words_of, granules, state_word, function_word, argument_word, next_thread_word, top_word}, Opening.{opening_words, opens_with, opening_cell, first_global, first_heap as first_heap_word}, Machine.{Machine, function_of, no_frame}, Path.{most_refs, most_ints}, Runs.{Global, is_started}, Whole.bounds}
-use Rattle.sharc_code.specs.declared.code.Parameter.TheVariants as parameters
-use Rattle.sharc_invariant.specs.{Types.{Targets, ObjectType, Content, Field, field_in, global_field, type_at, is_mutex, is_pointer, nothing}, Types.Content.{Integer, MutexWord, Waiters, Pointer}, Labels.{Entry, Empty, Refers, Unknown, Labels, Pass, IsIn, Anything}, Typed.{refs_in, ints_in, IsWellTyped, Initial}, World.{In, Cell, Slot, ObjectState, World, WorldInvariant}, Words.{if_reference, note_number, conc_of, Shows, FitsContent, Reads, argument_of, cell_at, lang_of}, State.{FramesStand, GateStands, NumberStands, vals_of, State, Runs, ThreadStands, Locks, Threads, Firsts, HeapStands, EntryStands, TopStands, view_of, size_of_run}, Opened.{first_slots, no_object, fresh_granule, first_world, first_heap, first_place}}
-use Rattle.sharc_invariant.proofs.{Own.runs_at, Plain.register_plain}
-use Rattle.sharc_lemmas.proofs.Numbers.{ne_eq, eq_refl}
+use Rattle.sharc_invariant.proofs.{Imports.{◌≡◌, ℕ, pos, ◌+◌, ◌-◌, ◌*◌, ◌^◌, ◌<◌, ◌≤◌, ◌≢◌, ◌&&◌, true, false, cond, List, [], ◌∷◌, refl, sym, ap, ◌∙◌, subst, inl, ⊎_elim, arith, eqb-true, ltb-true, cases_eq, cases_lt, and_parts, nat_tests, get_or-replicate, get_or_past, length-replicate, get_or-map-range_with_len, length-map-range_with_len, length, slice_index, slice_index_or, nat_eq, nat_lt, nat_le, ◌==◌, replicate, if◌then◌else◌, THREADS, ListsNoted, is_noted, note_of, blank, has_note, IsBlank, epoch_of, Kind, Read, Write, GranuleNotes, Code, Shape, Parameter, FRAMES, int_of, Fits, words_of, granules, state_word, function_word, argument_word, next_thread_word, top_word, opening_words, opens_with, opening_cell, first_global, first_heap_word, Machine, function_of, no_frame, most_refs, most_ints, Global, is_started, bounds, Targets, ObjectType, Content, Field, field_in, global_field, type_at, is_mutex, is_pointer, nothing, Integer, MutexWord, Waiters, Pointer, Entry, Empty, Refers, Unknown, Labels, Pass, IsIn, Anything, refs_in, ints_in, IsWellTyped, Initial, In, CellOf as Cell, Slot, ObjectState, World, WorldInvariant, if_reference, note_number, conc_of, Shows, FitsContent, Reads, argument_of, cell_at, lang_of, FramesStand, GateStands, NumberStands, vals_of, State, Runs, ThreadStands, Locks, Threads, Firsts, HeapStands, EntryStands, TopStands, view_of, size_of_run, first_slots, no_object, fresh_granule, first_world, first_heap, first_place, ne_eq, eq_refl}, Own.runs_at, Plain.register_plain}
 
 -- ---- the opening words
 module _ (code : Code) (s : Shape) where
@@ -68,9 +60,9 @@ no_passes [] p e h = h
 no_passes (q ∷ ps) p e h = absurd (cc)
 
 reference_zero : (p : Parameter) → if_reference p 0 ≡ 0
-reference_zero parameters.None = refl
-reference_zero parameters.Int = refl
-reference_zero parameters.Reference = refl
+reference_zero Parameter.None = refl
+reference_zero Parameter.Int = refl
+reference_zero Parameter.Reference = refl
 
 note_zero : (n g : ℕ) (kind : Kind) → note_number (note_of (record { notes = replicate n blank; order = [] }) g kind) ≡ 0
 note_zero n g Read = ap (λ (r : GranuleNotes). note_number r.read) (nth_blank n g blank)

@@ -1,10 +1,5 @@
 -- A thread that does not make the turn stays as it stood.
-use Rattle.std.proofs.Common.{◌≡◌, ℕ, ◌+◌, ◌*◌, ◌<◌, ◌≤◌, ◌≢◌, List, Option, Some, None, refl, sym, ap, ◌∙◌, subst, arith}
-use Rattle.std.specs.Prelude.{slice_index}
-use Rattle.sharc_heap.specs.{State.NewView, declared.arguments.NewArguments.NewArguments, declared.stage.NewStage.NewStage}
-use Rattle.sharc_heap.specs.declared.stage.NewStage.TheVariants as news
-use Rattle.sharc_code.specs.{declared.code.Code.Code, declared.instr.Instr.Instr, declared.instr.Instr.TheVariants.{Clear, New, Free, Spawn, Start}, declared.instr.Register.Register, declared.shape.Shape.Shape, declared.state.Stage.Stage, declared.state.Stage.TheVariants.{Rests, Looks, Clears, Makes, Empties, Lowers, FreeLooks, FreeClears, Uncounts, Links, Names, Hands, Begins, Enters, Withdraws, WithdrawsFrom, Leaves, Wakes}, Layout.{function_word, argument_word, first_cell}, Machine.{Machine, ref, pointer_cell, layout_at}}
-use Rattle.sharc_invariant.specs.{Granules.GranuleState, Labels.{Gate, Closed, Checked, Holds, Loaded, HoldsLoaded, Sole as SoleGate}, World.{RegisterOf, Cell, Sole, Shut, Loaded as IsLoaded, World, in_ref}, Blocks.{Heap, Built}, Turns.{KeepsOthers, OnlyLoses}, State.{StopStands, GateStands, base_of_cell, number_in, StageStands, OnClear, OnNew, OnFree, OnSpawn, OnStart, AreCleared, Swapping, Emptying, Reserves, SpawnsNow, BuildsAt, all_pointers, granules_freed}}
+use Rattle.sharc_invariant.proofs.Imports.{◌≡◌, ℕ, ◌+◌, ◌*◌, ◌<◌, ◌≤◌, ◌≢◌, List, Option, Some, None, refl, sym, ap, ◌∙◌, subst, arith, slice_index, NewView, NewArguments, NewStage, Code, Instr, Clear, New, Free, Spawn, Start, Register, Shape, Stage, Rests, Looks, Clears, Makes, Empties, Lowers, FreeLooks, FreeClears, Uncounts, Links, Names, Hands, Begins, Enters, Withdraws, WithdrawsFrom, Leaves, Wakes, function_word, argument_word, first_cell, Machine, ref, pointer_cell, layout_at, GranuleState, Gate, Closed, Checked, Holds, Loaded, HoldsLoaded, SoleGate, RegisterOf, CellOf as Cell, Sole, Shut, IsLoaded, World, in_ref, Heap, Built, KeepsOthers, OnlyLoses, StopStands, GateStands, base_of_cell, number_in, StageStands, OnClear, OnNew, OnFree, OnSpawn, OnStart, AreCleared, Swapping, Emptying, Reserves, SpawnsNow, BuildsAt, all_pointers, granules_freed}
 pub use Rattle.sharc_invariant.specs.State.{OnHold}
 
 -- a granule that is as it was loses nothing
@@ -80,25 +75,25 @@ module _ (code : Code) (s : Shape) (elements : ℕ → ℕ) (w w' : World) (heap
   built_words h j b lo hi = k.within u ne h b j (lo, hi)
 
   builds_kept : (v : NewView) (x : NewStage) → v.arguments.first ≡ first_cell s → BuildsAt words heap u v x → BuildsAt words' heap' u v x
-  builds_kept v news.Begins e h = absurd h
-  builds_kept v news.Link e h = absurd h
-  builds_kept v (news.Cell cell) e h =
+  builds_kept v NewStage.Begins e h = absurd h
+  builds_kept v NewStage.Link e h = absurd h
+  builds_kept v (NewStage.Cell cell) e h =
       let b = k.built u ne v.arguments.head h.1 in
       let size = h.2 in
       (h.0, b.0, b.1 ∙ h.2, h.3, λ j lt. built_words v.arguments.head (v.arguments.first + 2 * v.arguments.head + 2 + j) h.1 (omega arith) (let r = h.0 in let c = h.3 in omega arith) ∙ h.4 j lt)
-  builds_kept v news.Top e h = absurd h
-  builds_kept v (news.Move top moved) e h = h
-  builds_kept v (news.Count b) e h =
+  builds_kept v NewStage.Top e h = absurd h
+  builds_kept v (NewStage.Move top moved) e h = h
+  builds_kept v (NewStage.Count b) e h =
       let x = k.built u ne b h.1 in
       let size = h.2 in
       (h.0, x.0, x.1 ∙ h.2, λ j lt. built_words b (v.arguments.first + 2 * b + 2 + j) h.1 (omega arith) (let r = h.0 in omega arith) ∙ h.3 j lt)
-  builds_kept v (news.Length b) e h =
+  builds_kept v (NewStage.Length b) e h =
       let x = k.built u ne b h.1 in
       let size = h.2 in
       let r = h.0 in
       (h.0, x.0, x.1 ∙ h.2, (λ j lt. built_words b (v.arguments.first + 2 * b + 2 + j) h.1 (omega arith) (omega arith) ∙ h.3 j lt), built_words b (v.arguments.first + 2 * b) h.1 (omega arith) (omega arith) ∙ h.4)
-  builds_kept v (news.Made b) e h = absurd h
-  builds_kept v news.Full e h = absurd h
+  builds_kept v (NewStage.Made b) e h = absurd h
+  builds_kept v NewStage.Full e h = absurd h
 
   pub stage_kept : (x : Stage) → m.own.stage ≡ x → StageStands code s elements w heap words u m i x → StageStands code s elements w' heap' words' u m i x
   stage_kept Rests q = λ h. tt

@@ -1,49 +1,43 @@
 -- The thread that makes the turn: where it stands, and where it comes to stand.
-use Rattle.std.proofs.{Common.{◌≡◌, ℕ, ℤ, zero, suc, ◌+◌, ◌*◌, ◌<◌, ◌≤◌, ◌≢◌, max, Bool, true, false, List, [], ◌∷◌, Option, Some, None, refl, sym, ap, ◌∙◌, subst, ⊎_elim, arith}, Math.Nat.{mul-le-mul_left, mul_comm}}
-use Rattle.std.specs.Prelude.{length, slice_index_or, fold, ◌==◌}
-use Rattle.sharc_code.specs.{declared.state.TheConstants.FRAMES, declared.code.Code.Code, declared.code.Function.Function, declared.instr.Instr.Instr, declared.instr.Register.Register, declared.shape.Shape.Shape, declared.state.Frame.Frame, declared.state.Stage.Stage, declared.state.Stage.TheVariants.{Rests, Looks, Clears, Makes, Empties, Lowers, FreeLooks, FreeClears, Uncounts, Links, Names, Hands, Begins, Enters, Withdraws, WithdrawsFrom, Leaves, Wakes}, Machine.{Machine, instr_at, function_of, no_function}, Path.{most_ints, most_refs, may_go}, Runs.Global}
-use Rattle.sharc_code.specs.declared.instr.Instr.TheVariants as instrs
-use Rattle.sharc_invariant.specs.{Types.Targets, Labels.{Gate, Closed, Label, Labels, LessGate}, Typed.{Fine, IsWellTyped, refs_in, ints_in}, World.World, Blocks.Heap, State.{State, View, BelowStands, FramesStand, frame_at, StageStands, OnClear, OnNew, OnFree, OnSpawn, OnStart, OnExit, OnSignal, Runs, GateStands, TopStands, label_now, view_of}}
-use Rattle.sharc_invariant.proofs.{Quiet.label_held, Others.OnHold}
-use Rattle.sharc_lemmas.proofs.Numbers.{ne_eq, times_more as suc_times}
+use Rattle.sharc_invariant.proofs.{Imports.{◌≡◌, ℕ, ℤ, zero, suc, ◌+◌, ◌*◌, ◌<◌, ◌≤◌, ◌≢◌, max, Bool, true, false, List, [], ◌∷◌, Option, Some, None, refl, sym, ap, ◌∙◌, subst, ⊎_elim, arith, mul-le-mul_left, mul_comm, length, slice_index_or, fold, ◌==◌, FRAMES, Code, Function, Instr, Register, Shape, Frame, Stage, Rests, Looks, Clears, Makes, Empties, Lowers, FreeLooks, FreeClears, Uncounts, Links, Names, Hands, Begins, Enters, Withdraws, WithdrawsFrom, Leaves, Wakes, Machine, instr_at, function_of, no_function, most_ints, most_refs, may_go, Global, Targets, Gate, Closed, Label, Labels, LessGate, Fine, IsWellTyped, refs_in, ints_in, World, Heap, State, View, BelowStands, FramesStand, frame_at, StageStands, OnClear, OnNew, OnFree, OnSpawn, OnStart, OnExit, OnSignal, Runs, GateStands, TopStands, label_now, view_of, ne_eq, suc_times}, Quiet.label_held, Others.OnHold}
 
 -- ---- instructions of one turn
 abbrev pub is_single : Instr → Bool
-is_single (instrs.Clear r n) = false
-is_single (instrs.New r c n site) = false
-is_single (instrs.Free r l site) = false
-is_single (instrs.Spawn r f from site) = false
-is_single (instrs.Start site) = false
-is_single instrs.Exit = false
-is_single (instrs.CondSignal c site) = false
+is_single (Instr.Clear r n) = false
+is_single (Instr.New r c n site) = false
+is_single (Instr.Free r l site) = false
+is_single (Instr.Spawn r f from site) = false
+is_single (Instr.Start site) = false
+is_single Instr.Exit = false
+is_single (Instr.CondSignal c site) = false
 is_single _ = true
 
 no_clear : (P : ℕ → ℕ → Type 0) (i : Instr) → is_single i ≡ true → OnClear P i → ⊥
-no_clear P (instrs.Clear r n) e h = absurd (cc)
+no_clear P (Instr.Clear r n) e h = absurd (cc)
 no_clear P _ e h = h
 
 no_new : (P : ℕ → ℕ → ℕ → Type 0) (i : Instr) → is_single i ≡ true → OnNew P i → ⊥
-no_new P (instrs.New r c n site) e h = absurd (cc)
+no_new P (Instr.New r c n site) e h = absurd (cc)
 no_new P _ e h = h
 
 no_free : (P : ℕ → ℕ → Type 0) (i : Instr) → is_single i ≡ true → OnFree P i → ⊥
-no_free P (instrs.Free r l site) e h = absurd (cc)
+no_free P (Instr.Free r l site) e h = absurd (cc)
 no_free P _ e h = h
 
 no_spawn : (P : ℕ → Register → Type 0) (i : Instr) → is_single i ≡ true → OnSpawn P i → ⊥
-no_spawn P (instrs.Spawn r f from site) e h = absurd (cc)
+no_spawn P (Instr.Spawn r f from site) e h = absurd (cc)
 no_spawn P _ e h = h
 
 no_start : (P : Type 0) (i : Instr) → is_single i ≡ true → OnStart P i → ⊥
-no_start P (instrs.Start site) e h = absurd (cc)
+no_start P (Instr.Start site) e h = absurd (cc)
 no_start P _ e h = h
 
 no_exit : (P : Type 0) (i : Instr) → is_single i ≡ true → OnExit P i → ⊥
-no_exit P instrs.Exit e h = absurd (cc)
+no_exit P Instr.Exit e h = absurd (cc)
 no_exit P _ e h = h
 
 no_signal : (i : Instr) → is_single i ≡ true → OnSignal i → ⊥
-no_signal (instrs.CondSignal c site) e h = absurd (cc)
+no_signal (Instr.CondSignal c site) e h = absurd (cc)
 no_signal _ e h = h
 
 pub single_rests : (code : Code) (s : Shape) (elements : ℕ → ℕ) (w : World) (heap : Heap) (words : List ℕ) (t : ℕ) (m : Machine) (i : Instr) (stage : Stage) → is_single i ≡ true → StageStands code s elements w heap words t m i stage → stage ≡ Rests
@@ -165,10 +159,10 @@ module _ (x : Targets) (code : Code) (s : Shape) (ls : Labels) (wt : IsWellTyped
   pub fine : Fine x code ls m.at.pc here i
   fine = subst (Fine x code ls m.at.pc here) is (wt.fine m.at.pc)
 
-  start_not_single : (site : ℕ) → i ≡ instrs.Start site → ⊥
+  start_not_single : (site : ℕ) → i ≡ Instr.Start site → ⊥
   start_not_single site e = let q : is_single i ≡ false = ap is_single e in cc
 
-  exit_not_single : i ≡ instrs.Exit → ⊥
+  exit_not_single : i ≡ Instr.Exit → ⊥
   exit_not_single e = let q : is_single i ≡ false = ap is_single e in cc
 
   -- it is in a function

@@ -1,13 +1,6 @@
 -- Which objects there are behind a turn.
-use Rattle.std.proofs.Common.{◌≡◌, ℕ, suc, ◌+◌, ◌≢◌, ◌||◌, Bool, true, false, List, refl, sym, ap, ◌∙◌, subst, arith}
-use mathlib.Core.Path.{fun_ext}
-use Rattle.sharc_heap.specs.declared.stage.NewStage.{NewStage}
-use Rattle.sharc_heap.specs.declared.stage.NewStage.TheVariants as news
-use Rattle.sharc_code.specs.{declared.code.Code.Code, declared.instr.Instr.Instr, declared.shape.Shape.Shape, declared.state.Stage.Stage, declared.state.Stage.TheVariants.{Rests, Makes, Uncounts}, Machine.{Machine, instr_at, ref}, Path.may_go, Runs.{Global, Turn, after_turn, is_started}, Whole.{one_thread, bounds}}
-use Rattle.sharc_code.specs.declared.instr.Instr.TheVariants as instrs
-use Rattle.sharc_invariant.specs.{Types.{Targets, type_of, ObjectType}, Labels.{Empty, Refers, Unknown, Labels}, World.{TypeRules, RegisterOf, In, World, ObjectState, in_ref, TypedReference}, Effect.{Effect, Silently, Accesses, Clears, Gives, Frees, Makes as MakesOf, Locks, Unlocks, Returns, Withdraws}, Objects.{changes_objects, makes_object, frees_object, is_length, new_behind, made_behind, freed_behind, objects_behind, type_held, entry_type}, State.{State, View, view_of, EntryStands, TopStands, label_now, refs_at, types_at}, Turns.made_turn}
-use Rattle.sharc_invariant.proofs.{Others.OnHold, Quiet.label_held, Plain.register_plain}
-use Rattle.sharc_code.proofs.Places.{put_same}
+use Rattle.sharc_invariant.proofs.{Imports.{◌≡◌, ℕ, suc, ◌+◌, ◌≢◌, ◌||◌, Bool, true, false, List, refl, sym, ap, ◌∙◌, subst, arith, fun_ext, NewStage, Code, Instr, Shape, Stage, Rests, Makes, Uncounts, Machine, instr_at, ref, may_go, Global, Turn, after_turn, is_started, one_thread, bounds, Targets, type_of, ObjectType, Empty, Refers, Unknown, Labels, TypeRules, RegisterOf, In, World, ObjectState, in_ref, TypedReference, Effect, Silently, ClearsOf as Clears, Gives, Frees, MakesOf, Unlocks, Returns, WithdrawsOf as Withdraws, changes_objects, makes_object, frees_object, is_length, new_behind, made_behind, freed_behind, objects_behind, type_held, entry_type, State, View, view_of, EntryStands, TopStands, label_now, refs_at, types_at, made_turn, put_same}, Others.OnHold, Quiet.label_held, Plain.register_plain}
+use Rattle.sharc_invariant.specs.Effect.{Accesses, Locks}
 
 -- ---- an effect without a change of objects
 pub effect_objects : (l : TypeRules) (t : ℕ) (returned changes : Bool) (w w' : World) → Effect l t returned changes w w' → changes ≡ false → w'.obj ≡ w.obj
@@ -24,7 +17,7 @@ effect_objects l t returned changes w w' (Withdraws o g r q) e = ap (λ (v : Wor
 
 -- ---- a turn without one
 new_same : (ls : Labels) (t r : ℕ) (m' : Machine) (y : NewStage) (f : ℕ → ObjectState) → is_length y ≡ false → new_behind ls t r m' y f ≡ f
-new_same ls t r m' (news.Length h) f e = absurd (cc)
+new_same ls t r m' (NewStage.Length h) f e = absurd (cc)
 new_same ls t r m' _ f e = refl
 
 made_same : (ls : Labels) (t r : ℕ) (m' : Machine) (y : Stage) (f : ℕ → ObjectState) → makes_object y ≡ false → made_behind ls t r m' y f ≡ f
@@ -36,9 +29,9 @@ freed_same o (Uncounts all) f e = absurd (cc)
 freed_same o _ f e = refl
 
 pub behind_same : (ls : Labels) (t : ℕ) (i : Instr) (m m' : Machine) (f : ℕ → ObjectState) → changes_objects i m ≡ false → objects_behind ls t i m m' f ≡ f
-behind_same ls t (instrs.New r count cells site) m m' f e = made_same ls t r m' m.own.stage f e
-behind_same ls t (instrs.Give r site) m m' f e = absurd (cc)
-behind_same ls t (instrs.Free r layout site) m m' f e = freed_same (ref m r) m.own.stage f e
+behind_same ls t (Instr.New r count cells site) m m' f e = made_same ls t r m' m.own.stage f e
+behind_same ls t (Instr.Give r site) m m' f e = absurd (cc)
+behind_same ls t (Instr.Free r layout site) m m' f e = freed_same (ref m r) m.own.stage f e
 behind_same ls t _ m m' f e = refl
 
 -- ---- the type of what a register refers to is the one that the place says

@@ -1,14 +1,5 @@
 -- A print keeps the invariant: the count of prints is nobody's word.
-use Rattle.std.proofs.{Common.{◌≡◌, ℕ, ◌+◌, ◌%◌, ◌^◌, ◌<◌, Some, None, refl, sym, ap, ◌∙◌, subst, arith}, lemmas.List.length-set}
-use mathlib.Core.Path.{fun_ext}
-use Rattle.std.specs.Prelude.{length, slice_index, slice_set}
-use Rattle.sharc_word.specs.declared.step.WordOp.TheVariants.{Add}
-use Rattle.sharc_heap.specs.ShadowWord.{epoch_of}
-use Rattle.sharc_code.specs.{declared.code.Code.Code, declared.shape.Shape.Shape, Layout.{Fits, first_cell, prints_word}, Machine.{Machine, Asks, instr_at, int, printed, step_of}, Runs.{Turn, Global, put, MayTurn, after_turn}, Whole.{one_thread, bounds}}
-use Rattle.sharc_code.specs.declared.instr.Instr.TheVariants as instrs
-use Rattle.sharc_code.proofs.Places.{put_other, put_all}
-use Rattle.sharc_invariant.specs.{Types.{Targets, field_in}, Labels.{Label, Labels}, Typed.IsWellTyped, World.World, Blocks.Kept, Words.{MachineView, conc_of, Shows, FitsContent, Reads, register_of, store, cell_at, count_at, length_at, shadow_at}, Effect.Silently, Turns.made_turn, State.{State, View, view_of, FramesStand}, Laws.Turned}
-use Rattle.sharc_invariant.proofs.{Listed.store_ok, Quiet.{KeepsOwn, KeepsWords, heap_now, quiet_state, noted_same, conc_plain, put_self}, Turns.{asks_turn, room_of}, Own.{runs, rests, top, fine, begun_before, not_begun}, Plain.{register_plain, is_shut, going, next_runs}, Stores.index_put, Seen.stale_off, Others.loses}
+use Rattle.sharc_invariant.proofs.{Imports.{◌≡◌, ℕ, ◌+◌, ◌%◌, ◌^◌, ◌<◌, Some, None, refl, sym, ap, ◌∙◌, subst, arith, length-set, fun_ext, length, slice_index, slice_set, Add, epoch_of, Code, Shape, Fits, first_cell, prints_word, Machine, Asks, instr_at, int, printed, step_of, Turn, Global, put, MayTurn, after_turn, one_thread, bounds, Instr, put_other, put_all, Targets, field_in, Label, Labels, IsWellTyped, World, Kept, MachineView, conc_of, Shows, FitsContent, Reads, register_of, store, cell_at, count_at, length_at, shadow_at, Silently, made_turn, State, View, view_of, FramesStand, Turned}, Listed.store_ok, Quiet.{KeepsOwn, KeepsWords, heap_now, quiet_state, noted_same, conc_plain, put_self}, Turns.{asks_turn, room_of}, Own.{runs, rests, top, fine, begun_before, not_begun}, Plain.{register_plain, is_shut, going, next_runs}, Stores.index_put, Seen.stale_off, Others.loses}
 
 -- word 3 shows nothing of the world
 low_stored : (x : Targets) (s : Shape) (cells elements : ℕ → ℕ) (c : MachineView) (w : World) (v : ℕ) → Shows x s cells elements c w → Shows x s cells elements (store c 3 v) w
@@ -43,9 +34,9 @@ module _ (x : Targets) (code : Code) (s : Shape) (ls : Labels) (wt : IsWellTyped
   abbrev view : View
   view = view_of st.elements world tr.thread (g.threads tr.thread)
 
-  pub Print_keeps : (r site : ℕ) → instr_at code (g.threads tr.thread).at.pc ≡ instrs.Print r site → Turned x code s ls g world tr
+  pub Print_keeps : (r site : ℕ) → instr_at code (g.threads tr.thread).at.pc ≡ Instr.Print r site → Turned x code s ls g world tr
   Print_keeps r site is =
-      let i = instrs.Print r site in
+      let i = Instr.Print r site in
       let on = may.started in
       let go = may.next.runs in
       let f = fine x code s ls wt g world st t on go i is refl in

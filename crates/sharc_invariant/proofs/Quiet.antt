@@ -1,14 +1,5 @@
 -- A turn that changes no thread's words, no object, no mutex and no block: what it leaves of the invariant is the same for all.
-use Rattle.std.proofs.{Common.{◌≡◌, ℕ, pos, zero, suc, ◌+◌, ◌*◌, ◌^◌, ◌<◌, ◌≤◌, ◌≢◌, ◌⊎◌, ◌||◌, ◌&&◌, Bool, true, false, cond, List, Option, Some, None, refl, sym, ap, ◌∙◌, subst, inl, inr, ⊎_elim, arith, ltb-true}, lemmas.Bool.cases_eq}
-use mathlib.Core.Path.{fun_ext}
-use Rattle.std.specs.Prelude.{length, slice_index, nat_eq, nat_lt, ◌↔◌, ◌==◌, is_some, Contains}
-use Rattle.sharc_word.specs.declared.step.TheConstants.{THREADS}
-use Rattle.sharc_locks.specs.{declared.held_log.HeldMutex.HeldMutex, HeldLog.{IsHeldLog, object_of}}
-use Rattle.sharc_heap.specs.{declared.shadow_word.Kind.TheVariants.{Read, Write}, declared.shadow_word.Kind.Kind, Accesses.{note_of, Accesses, ListsNoted}, ShadowWord.epoch_of}
-use Rattle.sharc_code.specs.{declared.code.Code.Code, declared.shape.Shape.Shape, declared.instr.Instr.Instr, declared.instr.Instr.TheVariants.{Clear, Free}, declared.state.Stage.Stage, declared.state.Stage.TheVariants.{Rests, Links}, Arithmetic.int_of, Layout.{top_word, next_thread_word, state_word, function_word, argument_word, granules, first_cell}, Machine.{Machine, reference_of, function_of, instr_at, ref}, Path.{may_go, counted}, Runs.{Global, put, is_started}, Whole.bounds}
-use Rattle.sharc_code.proofs.Places.{put_same, put_other, put_all}
-use Rattle.sharc_invariant.specs.{Granules.sum_to, Types.{Targets, nothing, field_in, is_mutex, cells_of}, Labels.{Gate, Closed, Checked, Holds, Loaded, HoldsLoaded, Sole as SoleGate, Label, Labels}, Typed.{Fine, IsWellTyped}, World.{RegisterOf, ArgumentOf, In, TypedReference, ObjectState, Sole, World, in_ref, WorldInvariant}, Blocks.{Heap, Kept, Live}, Words.{is_freed, is_first, if_reference, note_number, conc_of, Shows, Apart, register_of, argument_of, is_unread, staged_of, noted_by, logged, is_ended, has_withdrawn, lang_of, cell_at, making_of, head_of, head_with}, Turns.{made_turn, made_conc, KeepsOthers}, State.{StopStands, block_for, State, View, view_of, HeapStands, Locks, Threads, Firsts, NumberStands, ThreadStands, IsThread, Runs, SpawnsNow, Reserves, EntryStands, FramesStand, GateStands, label_now, size_of_run}}
-use Rattle.sharc_invariant.proofs.{Frames.{Agrees, Always, top_agrees, callers_agree}, Others.{stop_kept, stage_kept, operand, OnHold}}
+use Rattle.sharc_invariant.proofs.{Imports.{◌≡◌, ℕ, pos, zero, suc, ◌+◌, ◌*◌, ◌^◌, ◌<◌, ◌≤◌, ◌≢◌, ◌⊎◌, ◌||◌, ◌&&◌, Bool, true, false, cond, List, Option, Some, None, refl, sym, ap, ◌∙◌, subst, inl, inr, ⊎_elim, arith, ltb-true, cases_eq, fun_ext, length, slice_index, nat_eq, nat_lt, ◌↔◌, ◌==◌, is_some, Contains, THREADS, HeldMutex, IsHeldLog, object_of, Read, Write, Kind, note_of, Accesses, ListsNoted, epoch_of, Code, Shape, Instr, Clear, Free, Stage, Rests, Links, int_of, top_word, next_thread_word, state_word, function_word, argument_word, granules, first_cell, Machine, reference_of, function_of, instr_at, ref, may_go, counted, Global, put, is_started, bounds, put_same, put_other, put_all, sum_to, Targets, nothing, field_in, is_mutex, cells_of, Gate, Closed, Checked, Holds, Loaded, HoldsLoaded, SoleGate, Label, Labels, Fine, IsWellTyped, RegisterOf, ArgumentOf, In, TypedReference, ObjectState, Sole, World, in_ref, WorldInvariant, Heap, Kept, Live, is_freed, is_first, if_reference, note_number, conc_of, Shows, Apart, register_of, argument_of, is_unread, staged_of, noted_by, logged, is_ended, has_withdrawn, lang_of, cell_at, making_of, head_of, head_with, made_turn, made_conc, KeepsOthers, StopStands, block_for, State, View, view_of, HeapStands, Locks, Threads, Firsts, NumberStands, ThreadStands, IsThread, Runs, SpawnsNow, Reserves, EntryStands, FramesStand, GateStands, label_now, size_of_run}, Frames.{Agrees, Always, top_agrees, callers_agree}, Others.{stop_kept, stage_kept, operand, OnHold}}
 
 -- what every turn keeps of its thread here
 pub record KeepsThread (m m' : Machine) : Type 0 where

@@ -1,9 +1,6 @@
 -- What a cast leaves of the cells: what they are, and what they refer to.
-use Rattle.std.proofs.{Common.{◌≡◌, ℕ, zero, suc, ◌+◌, ◌-◌, ◌%◌, ◌<◌, ◌≢◌, false, List, [], ◌∷◌, refl, sym, ap, ◌∙◌, subst, ⊎_elim, arith}, lemmas.Bool.cases_eq}
-use Rattle.std.specs.Prelude.{length, map, slice_index_or, ◌==◌}
-use Rattle.sharc_invariant.specs.{Types.{Targets, Field, ObjectType, StaticType, Mutex, FieldLock, Content, cells_of, field_at, field_in, field_of_cell, row_of, no_field, no_mutex, lock_number, mutex_of, field_mutex, type_in, type_at, type_of, is_mutex, is_pointer}, Types.FieldLock.{OfType, OfGlobals, OfElement as OfSameElement}, Types.Content.{Integer, MutexWord, Waiters, Pointer}, Labels.Label, Typed.{Recasts, IsSameContent, IsSameFieldLock, no_lock}, Words.FitsContent}
-use Rattle.sharc_invariant.proofs.Frames.{same_lock, map_same}
-use Rattle.sharc_lemmas.proofs.Numbers.{ne_eq}
+use Rattle.sharc_invariant.proofs.{Imports.{◌≡◌, ℕ, zero, suc, ◌+◌, ◌-◌, ◌%◌, ◌<◌, ◌≢◌, false, List, [], ◌∷◌, refl, sym, ap, ◌∙◌, subst, ⊎_elim, arith, cases_eq, length, map, slice_index_or, ◌==◌, Targets, Field, ObjectType, StaticType, Mutex, FieldLock, Content, cells_of, field_at, field_in, field_of_cell, no_field, no_mutex, lock_number, mutex_of, field_mutex, type_in, type_at, type_of, is_mutex, is_pointer, OfType, OfGlobals, OfSameElement, Integer, MutexWord, Waiters, Pointer, Label, Recasts, IsSameContent, IsSameFieldLock, no_lock, FitsContent, ne_eq}, Frames.{same_lock, map_same}}
+use Rattle.sharc_invariant.specs.Types.{row_of}
 
 map_at : {A B : Type 0} (f : A → B) (xs : List A) (j : ℕ) (d : B) (e : A) → j < length xs → slice_index_or (map f xs) j d ≡ f (slice_index_or xs j e)
 map_at f [] j d e lt = absurd (omega arith)

@@ -1,12 +1,7 @@
 -- A return keeps the invariant: what the callee gives back comes to stand in the caller's frame.
-use Rattle.std.proofs.{Common.{◌≡◌, ℕ, ℤ, zero, suc, ◌+◌, ◌-◌, ◌<◌, ◌≤◌, ◌≢◌, true, false, cond, ◌&&◌, not, List, [], ◌∷◌, Some, None, refl, sym, ap, ◌∙◌, subst, ⊎_elim, arith}, lemmas.Bool.{cases_eq, cases_order}, lemmas.Bool.Decides.nat_tests}
-use Rattle.std.specs.Prelude.{length, nat_lt, slice_index_or, ◌==◌}
+use Rattle.sharc_invariant.proofs.{Imports.{◌≡◌, ℕ, ℤ, zero, suc, ◌+◌, ◌-◌, ◌<◌, ◌≤◌, ◌≢◌, true, false, cond, ◌&&◌, not, List, [], ◌∷◌, Some, None, refl, sym, ap, ◌∙◌, subst, ⊎_elim, arith, cases_eq, cases_order, nat_tests, length, nat_lt, slice_index_or, ◌==◌, FRAMES, Code, Instr, Shape, Frame, Trap, Fits, Machine, Local, instr_at, back_to, goes_to, holds_none, stopped, no_frame, turn, counted, Turn, Global, MayTurn, one_thread, bounds, Targets, ObjectType, type_of, Entry, Empty, Refers, Unknown, Named, Nth, HasName, HasBase, Number, Anything, Exactly, Within, Indexes, OfElement, OfGlobal, Closed, IsIn, Label, Labels, Leads, EntryMentions, IsWellTyped, Fine, IsPlain, called_label, below, below_copy, below_number, World, Shut, Silently, made_turn, State, View, view_of, frame_at, EntryStands, NumberStands, FrameStands, TopStands, BelowStands, FramesStand, GateStands, refs_at, types_at, Turned, ne_eq}, Frames.{type_kept, less_entry, less_number, number_kept, less_stands}, Quiet.heap_now, Turns.{local_turn, room_of}, Own.{runs, rests, top, fine, begun_before, closed_less, runs_at}, Plain.{is_shut, going, plain_state, stop_state}, Calls.number_below}
 use Rattle.sharc_tree.specs.declared.trap.Trap.TheVariants as traps
-use Rattle.sharc_code.specs.{declared.state.TheConstants.FRAMES, declared.code.Code.Code, declared.instr.Instr.Instr, declared.shape.Shape.Shape, declared.state.Frame.Frame, declared.state.Stop.TheVariants.Trap, Layout.Fits, Machine.{Machine, Local, instr_at, back_to, goes_to, holds_none, stopped, no_frame}, Path.{turn, counted}, Runs.{Turn, Global, MayTurn}, Whole.{one_thread, bounds}}
-use Rattle.sharc_code.specs.declared.instr.Instr.TheVariants as instrs
-use Rattle.sharc_invariant.specs.{Types.{Targets, ObjectType, type_of}, Labels.{Entry, Empty, Refers, Unknown, Named, Nth, HasName, HasBase, Number, Anything, Exactly, Within, Indexes, OfElement, OfGlobal, Closed, IsIn, Label, Labels, Leads, EntryMentions}, Typed.{IsWellTyped, Fine, IsPlain, Returns, called_label, below, below_copy, below_number}, World.{World, Shut}, Effect.Silently, Turns.made_turn, State.{State, View, view_of, frame_at, EntryStands, NumberStands, FrameStands, TopStands, BelowStands, FramesStand, GateStands, refs_at, types_at}, Laws.Turned}
-use Rattle.sharc_invariant.proofs.{Frames.{type_kept, less_entry, less_number, number_kept, less_stands}, Quiet.heap_now, Turns.{local_turn, room_of}, Own.{runs, rests, top, fine, begun_before, closed_less, runs_at}, Plain.{is_shut, going, plain_state, stop_state}, Calls.number_below}
-use Rattle.sharc_lemmas.proofs.Numbers.{ne_eq}
+use Rattle.sharc_invariant.specs.Typed.{Returns}
 
 below_here : {A : Type 0} (k : ℕ) (f : ℕ → A) (a b : A) (r : ℕ) → r ≡ k → below k f a b r ≡ a
 below_here k f a b r e = let e1 : nat_lt r k ≡ false = grind (arith, nat_tests) in let e2 : (r == k) ≡ true = grind (arith, nat_tests) in ap (λ x. cond x (f r) (cond (r == k) a b)) e1 ∙ ap (λ x. cond x a b) e2
@@ -92,7 +87,7 @@ module _ (x : Targets) (t : ℕ) (v : View) (base ints : ℕ) (names names' : �
   }
 
 module _ (x : Targets) (code : Code) (s : Shape) (ls : Labels) (wt : IsWellTyped x code ls) (fits : Fits code s) (g : Global Machine) (world : World) (st : State x code s ls g world) (tr : Turn)
-    (may : MayTurn bounds (one_thread code s) g tr) (site : ℕ) (is : instr_at code (g.threads tr.thread).at.pc ≡ instrs.Return site) where
+    (may : MayTurn bounds (one_thread code s) g tr) (site : ℕ) (is : instr_at code (g.threads tr.thread).at.pc ≡ Instr.Return site) where
   abbrev t : ℕ
   t = tr.thread
 
@@ -100,7 +95,7 @@ module _ (x : Targets) (code : Code) (s : Shape) (ls : Labels) (wt : IsWellTyped
   m = g.threads tr.thread
 
   abbrev i : Instr
-  i = instrs.Return site
+  i = Instr.Return site
 
   abbrev here : Label
   here = ls.at (g.threads tr.thread).at.pc
@@ -111,7 +106,7 @@ module _ (x : Targets) (code : Code) (s : Shape) (ls : Labels) (wt : IsWellTyped
   abbrev Done : Type 0
   Done = Turned x code s ls g world tr
 
-  f_now : Fine x code ls (g.threads tr.thread).at.pc here (instrs.Return site)
+  f_now : Fine x code ls (g.threads tr.thread).at.pc here (Instr.Return site)
   f_now = fine x code s ls wt g world st t may.started may.next.runs i is refl
 
   shut : world.win tr.thread ≡ Shut
@@ -168,7 +163,7 @@ module _ (x : Targets) (code : Code) (s : Shape) (ls : Labels) (wt : IsWellTyped
       let q = subst (EntryStands (refs_at view m.at.refs) (types_at view m.at.refs) r) empty ((tops (suc r) 0).env r (omega arith)) in
       let e : base' + r ≡ m.at.refs + r = omega arith in ap view.refs e ∙ q
 
-  start_fine : Fine x code ls 0 (ls.at 0) (instrs.Start wt.begin.0)
+  start_fine : Fine x code ls 0 (ls.at 0) (Instr.Start wt.begin.0)
   start_fine = subst (Fine x code ls 0 (ls.at 0)) wt.begin.1 (wt.fine 0)
 
   abbrev goes_back : ℕ → Machine

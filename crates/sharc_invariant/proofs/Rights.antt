@@ -1,11 +1,7 @@
 -- A thread at a place may make the access that its label lets it make.
-use Rattle.std.proofs.{Common.{◌≡◌, ℕ, ℤ, pos, zero, suc, ◌+◌, ◌-◌, ◌*◌, ◌/◌, ◌<◌, ◌≤◌, ◌⊎◌, ◌≢◌, Bool, true, false, List, [], ◌∷◌, Option, Some, None, refl, sym, ap, ◌∙◌, subst, inl, inr, ⊎_elim, arith}, Math.Nat.{mod-eq_of_lt, mul-le-mul_right, suc-mul}}
-use Rattle.std.specs.Prelude.{length, slice_index_or, map}
-use Rattle.sharc_word.specs.declared.step.TheConstants.{THREADS}
-use Rattle.sharc_code.specs.{declared.code.Code.Code, declared.instr.Cell.Cell, declared.shape.Shape.Shape, Arithmetic.word_of, Layout.{Fits, cell_word, cell_of}, Machine.{Machine, ref, int, word, place, is_held}, Runs.{Global as Place}}
-use Rattle.sharc_code.specs.declared.instr.Cell.TheVariants as cells
-use Rattle.sharc_invariant.specs.{Granules.{GranuleState, Passed}, Types.{Targets, ObjectType, StaticType, Mutex, Lock, FieldLock, FieldMode, CellMode, Field, mode_at, mode_in, lock_mode, lock_number, no_mutex, field_mutex, type_at, cells_of, field_at, field_of_cell, type_in, field_in, is_mutex, is_private, mutex_of, type_of}, Types.Lock.{Global, Through, Self}, Types.FieldLock.{OfType, OfGlobals, OfElement}, Types.FieldMode.{Private, Readonly, Racy, Dynamic, Under, Behind}, Types.Content.MutexWord, Labels.{Refers, Element, Named, Nth, Number, OfElement as OfElementCell, OfGlobal as OfGlobalCells, HoldsLoaded, Label, Labels, SameReference}, Typed.{PointsTo, AreFieldLocks, IsGlobalLock, IsAnyGlobalLock, IsFieldLock, IsAnyLock, IsPlace, PointsToMutex, IsWellTyped, HasCell, MayAccess, IsChecked, Directly, Earlier, Covers, IsOwn, IsMutexOf, IsLockCell, IsSibling, no_lock}, World.{TypeRules, ObjectState, TypedReference, Holder, RegisterOf, In, Slot, World, Window, May, Based, base_of, CanBy, Can, Right, in_ref, Base}, World.Base.{By, Global as OfGlobal}, Words.lang_of, Cells.IsThere, State.{PassStands, NumberStands, ElementStands, State, View, view_of, TopStands, FramesStand, GateStands, EntryStands, refs_at, types_at, base_of_cell, object_of_cell, number_in}}
-use Rattle.sharc_invariant.proofs.{Frames.{same_ref, same_lock, map_same, with_locks}, Cells.{cell_there, cell_word_is, field_row}}
+use Rattle.sharc_invariant.proofs.{Imports.{◌≡◌, ℕ, ℤ, pos, zero, suc, ◌+◌, ◌-◌, ◌*◌, ◌/◌, ◌<◌, ◌≤◌, ◌⊎◌, ◌≢◌, Bool, true, false, List, [], ◌∷◌, Option, Some, None, refl, sym, ap, ◌∙◌, subst, inl, inr, ⊎_elim, arith, mod-eq_of_lt, mul-le-mul_right, suc-mul, length, slice_index_or, map, THREADS, Code, Cell, Shape, word_of, Fits, cell_word, cell_of, Machine, ref, int, word, is_held, Global as Place, GranuleState, Passed, Targets, ObjectType, StaticType, Mutex, Lock, FieldLock, FieldMode, CellMode, Field, mode_at, mode_in, lock_mode, lock_number, no_mutex, field_mutex, type_at, cells_of, field_at, field_of_cell, type_in, field_in, is_mutex, is_private, mutex_of, type_of, Through, Self, OfType, OfGlobals, OfSameElement as OfElement, Under, MutexWord, Refers, Element, Named, Nth, Number, OfElement as OfElementCell, OfGlobal as OfGlobalCells, HoldsLoaded, Label, Labels, SameReference, PointsTo, AreFieldLocks, IsGlobalLock, IsAnyGlobalLock, IsFieldLock, IsAnyLock, IsPlace, PointsToMutex, IsWellTyped, HasCell, MayAccess, IsChecked, Directly, Earlier, Covers, IsOwn, IsMutexOf, IsLockCell, IsSibling, no_lock, TypeRules, ObjectState, TypedReference, Holder, RegisterOf, In, Slot, World, Window, May, Based, base_of, CanBy, Can, Right, in_ref, Base, lang_of, IsThere, PassStands, NumberStands, ElementStands, State, View, view_of, TopStands, FramesStand, GateStands, EntryStands, refs_at, types_at, base_of_cell, object_of_cell, number_in}, Frames.{same_ref, same_lock, map_same, with_locks}, Cells.{cell_there, cell_word_is, field_row}}
+use Rattle.sharc_code.specs.Machine.{place}
+use Rattle.sharc_invariant.specs.{Types.Lock.Global, Types.FieldMode.{Private, Readonly, Racy, Dynamic, Behind}, World.Base.{By, Global as OfGlobal}}
 
 nth_map : {A B : Type 0} (f : A → B) (xs : List A) (k : ℕ) (a : A) (b : B) → k < length xs → slice_index_or (map f xs) k b ≡ f (slice_index_or xs k a)
 nth_map f [] k a b lt = absurd (omega arith)
@@ -61,21 +57,21 @@ module _ (x : Targets) (code : Code) (s : Shape) (ls : Labels) (wt : IsWellTyped
   -- the mutex of an element stands beside the cell
   sibling : (field other : ℕ) (c d : Cell) (f h : Field) → HasCell x code l c f → HasCell x code l d h → IsSibling l field other c d
       → (object_of_cell m d ≡ object_of_cell m c) × (number_in m d ≡ number_in m c - field + other)
-  sibling field other (cells.Global a p) (cells.Global b q) f h hc hd k = (refl, (let a = k.1 in let b = k.2 in omega arith))
-  sibling field other (cells.GlobalAt a i) (cells.GlobalAt b j) f h hc hd k =
+  sibling field other (Cell.Global a p) (Cell.Global b q) f h hc hd k = (refl, (let a = k.1 in let b = k.2 in omega arith))
+  sibling field other (Cell.GlobalAt a i) (Cell.GlobalAt b j) f h hc hd k =
       let q = k.1 in
       let ni = number_at i (OfGlobalCells q.0 q.1 q.2 q.3) q.4 in
       let nj = number_at j (OfGlobalCells (q.0 - field + other) q.1 q.2 q.3) q.6 in
       let same : nj.0 ≡ ni.0 = one_element q.3 nj.0 ni.0 nj.3 ni.3 in
       let times : nj.0 * q.1 ≡ ni.0 * q.1 = ap (λ n. n * q.1) same in
-      let pi : place m (cells.GlobalAt a i) ≡ q.0 + ni.0 * q.1 = ap word_of ni.2 in
-      let pj : place m (cells.GlobalAt b j) ≡ q.0 - field + other + nj.0 * q.1 = ap word_of nj.2 in
+      let pi : place m (Cell.GlobalAt a i) ≡ q.0 + ni.0 * q.1 = ap word_of ni.2 in
+      let pj : place m (Cell.GlobalAt b j) ≡ q.0 - field + other + nj.0 * q.1 = ap word_of nj.2 in
       let lo = q.5 in
       (refl, omega arith)
-  sibling field other (cells.Object r i) (cells.Object q j) f h hc hd k =
+  sibling field other (Cell.Object r i) (Cell.Object q j) f h hc hd k =
       let e = same_refs r q k.0 in
-      (sym e, (let a : number_in m (cells.Object q j) ≡ j = omega arith in let b : number_in m (cells.Object r i) ≡ i = omega arith in a ∙ k.2 ∙ ap (λ n. n - field + other) (sym b)))
-  sibling field other (cells.ObjectAt r i) (cells.ObjectAt q j) f h hc hd k =
+      (sym e, (let a : number_in m (Cell.Object q j) ≡ j = omega arith in let b : number_in m (Cell.Object r i) ≡ i = omega arith in a ∙ k.2 ∙ ap (λ n. n - field + other) (sym b)))
+  sibling field other (Cell.ObjectAt r i) (Cell.ObjectAt q j) f h hc hd k =
       let e = k.1 in
       let ni = number_at i (OfElementCell r field e.0) e.1 in
       let nj = number_at j (OfElementCell q other e.0) e.2 in
@@ -86,18 +82,18 @@ module _ (x : Targets) (code : Code) (s : Shape) (ls : Labels) (wt : IsWellTyped
       let pi : word_of (int m i) ≡ ni.0 * cells_of x (types_at view m.at.refs r).target + field = ap word_of ni.2 in
       let pj : word_of (int m j) ≡ nj.0 * cells_of x (types_at view m.at.refs q).target + other = ap word_of nj.2 in
       (sym eo, omega arith)
-  sibling field other (cells.Global a p) (cells.GlobalAt b q) f h hc hd k = absurd k
-  sibling field other (cells.Global a p) (cells.Object b q) f h hc hd k = absurd k
-  sibling field other (cells.Global a p) (cells.ObjectAt b q) f h hc hd k = absurd k
-  sibling field other (cells.GlobalAt a p) (cells.Global b q) f h hc hd k = absurd k
-  sibling field other (cells.GlobalAt a p) (cells.Object b q) f h hc hd k = absurd k
-  sibling field other (cells.GlobalAt a p) (cells.ObjectAt b q) f h hc hd k = absurd k
-  sibling field other (cells.Object a p) (cells.Global b q) f h hc hd k = absurd k
-  sibling field other (cells.Object a p) (cells.GlobalAt b q) f h hc hd k = absurd k
-  sibling field other (cells.Object a p) (cells.ObjectAt b q) f h hc hd k = absurd k
-  sibling field other (cells.ObjectAt a p) (cells.Global b q) f h hc hd k = absurd k
-  sibling field other (cells.ObjectAt a p) (cells.GlobalAt b q) f h hc hd k = absurd k
-  sibling field other (cells.ObjectAt a p) (cells.Object b q) f h hc hd k = absurd k
+  sibling field other (Cell.Global a p) (Cell.GlobalAt b q) f h hc hd k = absurd k
+  sibling field other (Cell.Global a p) (Cell.Object b q) f h hc hd k = absurd k
+  sibling field other (Cell.Global a p) (Cell.ObjectAt b q) f h hc hd k = absurd k
+  sibling field other (Cell.GlobalAt a p) (Cell.Global b q) f h hc hd k = absurd k
+  sibling field other (Cell.GlobalAt a p) (Cell.Object b q) f h hc hd k = absurd k
+  sibling field other (Cell.GlobalAt a p) (Cell.ObjectAt b q) f h hc hd k = absurd k
+  sibling field other (Cell.Object a p) (Cell.Global b q) f h hc hd k = absurd k
+  sibling field other (Cell.Object a p) (Cell.GlobalAt b q) f h hc hd k = absurd k
+  sibling field other (Cell.Object a p) (Cell.ObjectAt b q) f h hc hd k = absurd k
+  sibling field other (Cell.ObjectAt a p) (Cell.Global b q) f h hc hd k = absurd k
+  sibling field other (Cell.ObjectAt a p) (Cell.GlobalAt b q) f h hc hd k = absurd k
+  sibling field other (Cell.ObjectAt a p) (Cell.Object b q) f h hc hd k = absurd k
 
   -- the lock of the type of the object in a register
   type_lock : (r : ℕ) (ty : StaticType) (k : ℕ) → l.env r ≡ Refers ty → l.known r ≡ true → k < length ty.locks → lock_number (world.obj (ref (g.threads t) r)).ty k ≡ mutex_of refs (refs r) (slice_index_or ty.locks k no_lock)
@@ -111,18 +107,18 @@ module _ (x : Targets) (code : Code) (s : Shape) (ls : Labels) (wt : IsWellTyped
   -- the cell that a lock names is where its mutex is
   lock_cell : (r : ℕ) (lock : Lock) (d : Cell) (h : Field) → HasCell x code l d h → IsLockCell code l r lock d
       → ((mutex_of refs (refs r) lock).object ≡ object_of_cell (g.threads t) d) × ((mutex_of refs (refs r) lock).cell ≡ number_in (g.threads t) d)
-  lock_cell r (Global j) (cells.Global a p) h hd k = (refl, (let a = k.0 in omega arith))
-  lock_cell r (Through q j) (cells.Object a i) h hd k = (sym (reads q) ∙ sym (same_refs a q k.1), (let b : number_in m (cells.Object a i) ≡ i = omega arith in sym k.0 ∙ sym b))
-  lock_cell r (Self j) (cells.Object a i) h hd k = (sym (reads r) ∙ sym (same_refs a r k.1), (let b : number_in m (cells.Object a i) ≡ i = omega arith in sym k.0 ∙ sym b))
-  lock_cell r (Global j) (cells.GlobalAt a p) h hd k = absurd k
-  lock_cell r (Global j) (cells.Object a p) h hd k = absurd k
-  lock_cell r (Global j) (cells.ObjectAt a p) h hd k = absurd k
-  lock_cell r (Through q j) (cells.Global a p) h hd k = absurd k
-  lock_cell r (Through q j) (cells.GlobalAt a p) h hd k = absurd k
-  lock_cell r (Through q j) (cells.ObjectAt a p) h hd k = absurd k
-  lock_cell r (Self j) (cells.Global a p) h hd k = absurd k
-  lock_cell r (Self j) (cells.GlobalAt a p) h hd k = absurd k
-  lock_cell r (Self j) (cells.ObjectAt a p) h hd k = absurd k
+  lock_cell r (Global j) (Cell.Global a p) h hd k = (refl, (let a = k.0 in omega arith))
+  lock_cell r (Through q j) (Cell.Object a i) h hd k = (sym (reads q) ∙ sym (same_refs a q k.1), (let b : number_in m (Cell.Object a i) ≡ i = omega arith in sym k.0 ∙ sym b))
+  lock_cell r (Self j) (Cell.Object a i) h hd k = (sym (reads r) ∙ sym (same_refs a r k.1), (let b : number_in m (Cell.Object a i) ≡ i = omega arith in sym k.0 ∙ sym b))
+  lock_cell r (Global j) (Cell.GlobalAt a p) h hd k = absurd k
+  lock_cell r (Global j) (Cell.Object a p) h hd k = absurd k
+  lock_cell r (Global j) (Cell.ObjectAt a p) h hd k = absurd k
+  lock_cell r (Through q j) (Cell.Global a p) h hd k = absurd k
+  lock_cell r (Through q j) (Cell.GlobalAt a p) h hd k = absurd k
+  lock_cell r (Through q j) (Cell.ObjectAt a p) h hd k = absurd k
+  lock_cell r (Self j) (Cell.Global a p) h hd k = absurd k
+  lock_cell r (Self j) (Cell.GlobalAt a p) h hd k = absurd k
+  lock_cell r (Self j) (Cell.ObjectAt a p) h hd k = absurd k
 
   -- a lock in a cell's mode is held where the mutex in that cell is
   lock_held : (write : Bool) (c d : Cell) (f h : Field) (lock : FieldLock) → HasCell x code l c f → HasCell x code l d h → IsMutexOf code l lock c d → world.mutex (object_of_cell (g.threads t) d) (number_in (g.threads t) d) ≡ suc t
@@ -133,31 +129,31 @@ module _ (x : Targets) (code : Code) (s : Shape) (ls : Labels) (wt : IsWellTyped
   lock_held write c d f h (OfGlobals j) hc hd k held =
       let e = lock_cell 0 (Global j) d h hd k in
       ap (λ o. world.mutex o j) e.0 ∙ ap (world.mutex (object_of_cell m d)) e.1 ∙ held
-  lock_held write (cells.Object r i) d f h (OfType n) hc hd k held =
+  lock_held write (Cell.Object r i) d f h (OfType n) hc hd k held =
       let e = lock_cell r (slice_index_or k.0.locks n no_lock) d h hd k.3 in
       let q = type_lock r k.0 n k.1 hc.base k.2 in
       let P : Mutex → Type 0 = λ u. world.mutex u.object u.cell ≡ suc t in
       subst P (sym q) (ap (λ o. world.mutex o (mutex_of refs (refs r) (slice_index_or k.0.locks n no_lock)).cell) e.0 ∙ ap (world.mutex (object_of_cell m d)) e.1 ∙ held)
-  lock_held write (cells.ObjectAt r i) d f h (OfType n) hc hd k held =
+  lock_held write (Cell.ObjectAt r i) d f h (OfType n) hc hd k held =
       let e = lock_cell r (slice_index_or k.0.locks n no_lock) d h hd k.3 in
       let q = type_lock r k.0 n k.1 hc.base k.2 in
       let P : Mutex → Type 0 = λ u. world.mutex u.object u.cell ≡ suc t in
       subst P (sym q) (ap (λ o. world.mutex o (mutex_of refs (refs r) (slice_index_or k.0.locks n no_lock)).cell) e.0 ∙ ap (world.mutex (object_of_cell m d)) e.1 ∙ held)
-  lock_held write (cells.Global a p) d f h (OfType n) hc hd k held = absurd k
-  lock_held write (cells.GlobalAt a p) d f h (OfType n) hc hd k held = absurd k
+  lock_held write (Cell.Global a p) d f h (OfType n) hc hd k held = absurd k
+  lock_held write (Cell.GlobalAt a p) d f h (OfType n) hc hd k held = absurd k
 
   -- a private cell's object is the thread's
   owner_is : (c : Cell) (f : Field) → HasCell x code l c f → IsOwn ls l c → is_private x (world.obj (object_of_cell (g.threads t) c)).ty ≡ true → (world.obj (object_of_cell (g.threads t) c)).owner ≡ t
-  owner_is (cells.Global a p) f hc own priv = ap (λ (y : ObjectState). y.owner) st.globals ∙ sym ((subst (FramesStand x code ls t view m) own.1.0 below).2 own.1.1)
-  owner_is (cells.GlobalAt a p) f hc own priv = ap (λ (y : ObjectState). y.owner) st.globals ∙ sym ((subst (FramesStand x code ls t view m) own.1.0 below).2 own.1.1)
-  owner_is (cells.Object r i) f hc own priv = owner_in r hc.base priv
+  owner_is (Cell.Global a p) f hc own priv = ap (λ (y : ObjectState). y.owner) st.globals ∙ sym ((subst (FramesStand x code ls t view m) own.1.0 below).2 own.1.1)
+  owner_is (Cell.GlobalAt a p) f hc own priv = ap (λ (y : ObjectState). y.owner) st.globals ∙ sym ((subst (FramesStand x code ls t view m) own.1.0 below).2 own.1.1)
+  owner_is (Cell.Object r i) f hc own priv = owner_in r hc.base priv
     where
       owner_in : (r : ℕ) → l.known r ≡ true → is_private x (world.obj (ref m r)).ty ≡ true → (world.obj (ref m r)).owner ≡ t
       owner_in r k priv =
           let nz : in_ref world (RegisterOf t (m.at.refs + r)) ≢ 0 = (top (suc r) 0).known r (omega arith) k in
           let fit = st.inv.words.fits (In (RegisterOf t (m.at.refs + r))) nz in
           ap (λ o. (world.obj o).owner) (reads r) ∙ fit.own (sym (ap (is_private x) (ap (λ o. (world.obj o).ty) (reads r) ∙ fit.typed)) ∙ priv)
-  owner_is (cells.ObjectAt r i) f hc own priv = owner_in r hc.base priv
+  owner_is (Cell.ObjectAt r i) f hc own priv = owner_in r hc.base priv
     where
       owner_in : (r : ℕ) → l.known r ≡ true → is_private x (world.obj (ref m r)).ty ≡ true → (world.obj (ref m r)).owner ≡ t
       owner_in r k priv =
@@ -168,20 +164,20 @@ module _ (x : Targets) (code : Code) (s : Shape) (ls : Labels) (wt : IsWellTyped
   -- the cell of a check that is remembered
   pub pass_at : (c : Cell) (f : Field) (b : Option ℕ) (n : ℕ) → HasCell x code l c f → IsPlace x l c b n
       → (number_in (g.threads t) c ≡ n) × (((b ≡ None) × (object_of_cell (g.threads t) c ≡ 0)) ⊎ ((v : ℕ) × ((b ≡ Some v) × ((refs v ≡ object_of_cell (g.threads t) c) × (refs v ≢ 0)))))
-  pass_at (cells.Global a p) f b n hc k = ((let e = k.1 in omega arith), inl (k.0, refl))
-  pass_at (cells.GlobalAt a i) f b n hc k =
+  pass_at (Cell.Global a p) f b n hc k = ((let e = k.1 in omega arith), inl (k.0, refl))
+  pass_at (Cell.GlobalAt a i) f b n hc k =
       let q = k.1 in
       let ni = number_at i (OfGlobalCells q.0 q.1 q.2 (Nth q.3)) q.4 in
-      let pl : place m (cells.GlobalAt a i) ≡ q.0 + ni.0 * q.1 = ap word_of ni.2 in
+      let pl : place m (Cell.GlobalAt a i) ≡ q.0 + ni.0 * q.1 = ap word_of ni.2 in
       let e : ni.0 * q.1 ≡ q.3 * q.1 = ap (λ n. n * q.1) ni.3 in
       let is = q.5 in
       (omega arith, inl (k.0, refl))
-  pass_at (cells.Object r i) f b n hc k =
+  pass_at (Cell.Object r i) f b n hc k =
       let v = k.1.0 in
       let nz : in_ref world (RegisterOf t (m.at.refs + r)) ≢ 0 = (top (suc r) 0).known r (omega arith) hc.base in
       let e : refs v ≡ ref m r = sym (same_ref l refs alls r v k.1.2) ∙ sym (reads r) in
-      ((let z : number_in m (cells.Object r i) ≡ i = omega arith in z ∙ k.0), inr (v, (k.1.1, (e, λ z. nz (same_ref l refs alls r v k.1.2 ∙ z)))))
-  pass_at (cells.ObjectAt r i) f b n hc k =
+      ((let z : number_in m (Cell.Object r i) ≡ i = omega arith in z ∙ k.0), inr (v, (k.1.1, (e, λ z. nz (same_ref l refs alls r v k.1.2 ∙ z)))))
+  pass_at (Cell.ObjectAt r i) f b n hc k =
       let v = k.0 in
       let nz : in_ref world (RegisterOf t (m.at.refs + r)) ≢ 0 = (top (suc r) 0).known r (omega arith) hc.base in
       let e : refs v ≡ ref m r = sym (same_ref l refs alls r v k.5) ∙ sym (reads r) in
@@ -315,16 +311,16 @@ module _ (x : Targets) (code : Code) (s : Shape) (ls : Labels) (wt : IsWellTyped
 
   locks_are : (c : Cell) (f : Field) (v : ℕ) (locks : List Lock) (fields : List FieldLock) → HasCell x code l c f → AreFieldLocks l c locks fields
       → map (mutex_of refs v) locks ≡ map (field_mutex (world.obj (object_of_cell (g.threads t) c)).ty (object_of_cell (g.threads t) c) (number_in (g.threads t) c)) fields
-  locks_are (cells.Global a p) f v locks fields hc h =
-      map_same (IsGlobalLock p) (mutex_of refs v) (field_mutex (world.obj 0).ty 0 (number_in m (cells.Global a p)))
+  locks_are (Cell.Global a p) f v locks fields hc h =
+      map_same (IsGlobalLock p) (mutex_of refs v) (field_mutex (world.obj 0).ty 0 (number_in m (Cell.Global a p)))
       (λ x y k. global_lock (world.obj 0).ty v p x y k) locks fields h
-  locks_are (cells.GlobalAt a p) f v locks fields hc h =
-      map_same IsAnyGlobalLock (mutex_of refs v) (field_mutex (world.obj 0).ty 0 (number_in m (cells.GlobalAt a p))) (λ x y k. any_global_lock (world.obj 0).ty v (number_in m (cells.GlobalAt a p)) x y k) locks fields h
-  locks_are (cells.Object r i) f v locks fields hc h =
-      map_same (IsFieldLock l r i h.0) (mutex_of refs v) (field_mutex (world.obj (ref m r)).ty (ref m r) (number_in m (cells.Object r i)))
-      (λ x y k. object_lock r h.0 v i h.1 hc.base x y k ∙ ap (λ i. field_mutex (world.obj (ref m r)).ty (ref m r) i y) (let e : i ≡ number_in m (cells.Object r i) = omega arith in e)) locks fields h.2
-  locks_are (cells.ObjectAt r i) f v locks fields hc h =
-      map_same (IsAnyLock l r h.0) (mutex_of refs v) (field_mutex (world.obj (ref m r)).ty (ref m r) (number_in m (cells.ObjectAt r i))) (λ x y k. any_lock r h.0 v (number_in m (cells.ObjectAt r i)) h.1 hc.base x y k) locks fields h.2
+  locks_are (Cell.GlobalAt a p) f v locks fields hc h =
+      map_same IsAnyGlobalLock (mutex_of refs v) (field_mutex (world.obj 0).ty 0 (number_in m (Cell.GlobalAt a p))) (λ x y k. any_global_lock (world.obj 0).ty v (number_in m (Cell.GlobalAt a p)) x y k) locks fields h
+  locks_are (Cell.Object r i) f v locks fields hc h =
+      map_same (IsFieldLock l r i h.0) (mutex_of refs v) (field_mutex (world.obj (ref m r)).ty (ref m r) (number_in m (Cell.Object r i)))
+      (λ x y k. object_lock r h.0 v i h.1 hc.base x y k ∙ ap (λ i. field_mutex (world.obj (ref m r)).ty (ref m r) i y) (let e : i ≡ number_in m (Cell.Object r i) = omega arith in e)) locks fields h.2
+  locks_are (Cell.ObjectAt r i) f v locks fields hc h =
+      map_same (IsAnyLock l r h.0) (mutex_of refs v) (field_mutex (world.obj (ref m r)).ty (ref m r) (number_in m (Cell.ObjectAt r i))) (λ x y k. any_lock r h.0 v (number_in m (Cell.ObjectAt r i)) h.1 hc.base x y k) locks fields h.2
 
   pub points_to : (c : Cell) (f : Field) (ty : StaticType) (v : ℕ) → HasCell x code l c f → PointsTo l c f ty
       → type_at x (world.obj (object_of_cell (g.threads t) c)).ty (object_of_cell (g.threads t) c) (number_in (g.threads t) c) ≡ type_of refs v ty

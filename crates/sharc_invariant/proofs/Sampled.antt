@@ -1,12 +1,7 @@
 -- The sample is well typed.
-use Rattle.std.proofs.{Common.{◌≡◌, ℕ, pos, zero, suc, ◌+◌, ◌%◌, ◌<◌, ◌≤◌, ◌⊎◌, ◌≢◌, Bool, true, false, List, [], ◌∷◌, Some, None, refl, sym, ap, ◌∙◌, subst, inl, inr, arith}, lemmas.Bool.eqb-false}
-use Rattle.std.specs.Prelude.{length, slice_index, slice_index_or, nat_eq}
-use Rattle.sharc_code.specs.{declared.code.Code.Code, declared.code.GlobalCells.GlobalCells, declared.instr.Instr.Instr, declared.instr.Instr.TheVariants.{Constant, MoveReference, JumpIfNull, Return, ChkNull, ChkHeld, ChkNotHeld, ChkRoom, ChkLock, ChkWrite, Store, Raise, Lower, New, TakeLocal, TestSole, Clear, Give, Lock, Unlock, Spawn, Exit}, declared.instr.Width.TheVariants.{Char, Int, Long}, Machine.{instr_at, function_of}, Runs.put}
-use Rattle.sharc_code.specs.declared.instr.Cell.TheVariants as cells
-use Rattle.sharc_code.specs.declared.instr.Register.TheVariants as registers
-use Rattle.sharc_code.proofs.Places.{put_other, put_all}
-use Rattle.sharc_invariant.specs.{Types.{FieldMode, type_in, AreTargets, ObjectType, Field, Content, CellMode, field_at, field_in, field_of_cell, global_field, mode_in, is_private, is_pointer, is_mutex, row_of, cells_of, nothing}, Types.FieldMode.{Private, Readonly, Racy, Dynamic, Under, Behind}, Types.FieldLock.{OfType, OfGlobals, OfElement}, Types.Content.{Integer, MutexWord, Waiters, Pointer}, Labels.{Entry, Empty, Refers, Number, Anything, Exactly, Within, Gate, Closed, Checked, Holds, Sole, Label, Labels, Less, Leads, SameReference, Itself, IsCopy, LessEntry, EntryMentions, IsScoped, IsFree, HasBase as BaseOf, fill, empty, gated, knows, set_number}, Typed.{IsPlain, IsWellTyped, AreGlobals, Initial, Fine, HasCell, IsVacant, IsSameContent, MayStart, Directly, refs_in, ints_in, entry_label}, Sample.{the_targets, the_private, the_dynamic, the_instrs, the_labels, the_labels_list, outside, raised, w2, w4, w5, w8, w10, w13, w15, w16, w17, w19, w21, w22, w23, w24, w25, w26, m27, m28, m29, m30, m31, m32, m33, m34, given, m35, m36, m37, m38, m39, m40, m41, IsSample}}
-use Rattle.sharc_invariant.proofs.Scoped.{less_refl, scoped_gate, scoped_room, scoped_knows, scoped_forgets, scoped_number, scoped_fill, scoped_empty}
+use Rattle.sharc_invariant.proofs.{Imports.{◌≡◌, ℕ, pos, zero, suc, ◌+◌, ◌%◌, ◌<◌, ◌≤◌, ◌⊎◌, ◌≢◌, Bool, true, false, List, [], ◌∷◌, Some, None, refl, sym, ap, ◌∙◌, subst, inl, inr, arith, eqb-false, length, slice_index, slice_index_or, nat_eq, Code, GlobalCells, Instr, Constant, MoveReference, JumpIfNull, ChkNull, ChkHeld, ChkNotHeld, ChkRoom, ChkLock, ChkWrite, Store, Raise, Lower, New, TakeLocal, TestSole, Clear, Give, Unlock, Spawn, Exit, Char, Int, Long, instr_at, function_of, put, Cell, Register, put_other, put_all, FieldMode, type_in, AreTargets, ObjectType, Field, Content, CellMode, field_at, field_in, field_of_cell, global_field, mode_in, is_private, is_pointer, is_mutex, cells_of, nothing, Under, OfType, OfGlobals, OfSameElement as OfElement, Integer, MutexWord, Waiters, Pointer, Entry, Empty, Refers, Number, Anything, Exactly, Within, Gate, Closed, Checked, Holds, SoleGate as Sole, Label, Labels, Less, Leads, SameReference, Itself, IsCopy, LessEntry, EntryMentions, IsScoped, IsFree, HasBase as BaseOf, fill, empty, gated, knows, set_number, IsPlain, IsWellTyped, AreGlobals, Initial, Fine, HasCell, IsVacant, IsSameContent, MayStart, Directly, refs_in, ints_in, entry_label, the_targets, the_private, the_dynamic, the_instrs, the_labels, the_labels_list, outside, raised, w2, w4, w5, w8, w10, w13, w15, w16, w17, w19, w21, w22, w23, w24, w25, w26, m27, m28, m29, m30, m31, m32, m33, m34, given, m35, m36, m37, m38, m39, m40, m41, IsSample}, Scoped.{less_refl, scoped_gate, scoped_room, scoped_knows, scoped_forgets, scoped_number, scoped_fill, scoped_empty}}
+use Rattle.sharc_code.specs.declared.instr.Instr.TheVariants.{Return, Lock}
+use Rattle.sharc_invariant.specs.{Types.row_of, Types.FieldMode.{Private, Readonly, Racy, Dynamic, Behind}}
 
 -- ---- no type has a lock
 abbrev Lockless : (ℕ → Entry) → Type 0
@@ -109,14 +104,14 @@ s4 = scoped_knows 1 3 (raised w2 1 0) 1 (λ e. cc) s3
 s5 : IsScoped 1 3 w5
 s5 = scoped_number 1 3 w4 0 (Exactly (pos 1)) (omega arith) (λ b h. absurd h) s4
 
-s6 : IsScoped 1 3 (gated w5 (Checked true (cells.Object 1 2)))
-s6 = scoped_gate 1 3 w5 (Checked true (cells.Object 1 2)) s5
+s6 : IsScoped 1 3 (gated w5 (Checked true (Cell.Object 1 2)))
+s6 = scoped_gate 1 3 w5 (Checked true (Cell.Object 1 2)) s5
 
-s7 : IsScoped 1 3 (gated (gated w5 (Checked true (cells.Object 1 2))) Closed)
-s7 = scoped_gate 1 3 (gated w5 (Checked true (cells.Object 1 2))) Closed s6
+s7 : IsScoped 1 3 (gated (gated w5 (Checked true (Cell.Object 1 2))) Closed)
+s7 = scoped_gate 1 3 (gated w5 (Checked true (Cell.Object 1 2))) Closed s6
 
 s8 : IsScoped 1 3 w8
-s8 = scoped_empty 1 3 (gated (gated w5 (Checked true (cells.Object 1 2))) Closed) 1 (λ r _ m. k3 r 1 m) s7
+s8 = scoped_empty 1 3 (gated (gated w5 (Checked true (Cell.Object 1 2))) Closed) 1 (λ r _ m. k3 r 1 m) s7
 
 s9 : IsScoped 1 3 (raised w8 1 0)
 s9 = scoped_fill 1 3 w8 1 the_dynamic (w8.same 0) (w8.known 0) (omega arith) (λ q h. absurd h) (inr (λ e. cc)) s8
@@ -140,7 +135,7 @@ s16 : IsScoped 1 3 w16
 s16 = scoped_number 1 3 w15 0 (Exactly (pos 2)) (omega arith) (λ b h. absurd h) s15
 
 s17 : IsScoped 1 3 w17
-s17 = scoped_gate 1 3 (knows w16 1) (Holds (cells.Object 1 0)) (scoped_knows 1 3 w16 1 (λ e. cc) s16)
+s17 = scoped_gate 1 3 (knows w16 1) (Holds (Cell.Object 1 0)) (scoped_knows 1 3 w16 1 (λ e. cc) s16)
 
 s18 : IsScoped 1 3 (gated w17 Closed)
 s18 = scoped_gate 1 3 w17 Closed s17
@@ -155,7 +150,7 @@ s21 : IsScoped 1 3 w21
 s21 = scoped_knows 1 3 (raised w19 1 0) 1 (λ e. cc) s20
 
 s22 : IsScoped 1 3 w22
-s22 = scoped_gate 1 3 w21 (Holds (cells.Object 1 0)) s21
+s22 = scoped_gate 1 3 w21 (Holds (Cell.Object 1 0)) s21
 
 s23 : IsScoped 1 3 w23
 s23 = scoped_room 1 3 (fill w22 2 (w22.env 1) (w22.same 1) true) true (scoped_fill 1 3 w22 2 the_dynamic (w22.same 1) true (omega arith) (λ q h. absurd h) (inr (λ e. cc)) s22)
@@ -332,7 +327,7 @@ module _ (code : Code) (is : IsSample code) where
   ints_m = (is.functions 0).1
 
   -- a cell of the object in register 1
-  has_cell : (l : Label) (j : ℕ) (f : Field) → l.function ≡ Some 1 → l.env 1 ≡ Refers the_dynamic → l.known 1 ≡ true → j < 3 → f ≡ field_at the_targets 2 j → HasCell the_targets code l (cells.Object 1 j) f
+  has_cell : (l : Label) (j : ℕ) (f : Field) → l.function ≡ Some 1 → l.env 1 ≡ Refers the_dynamic → l.known 1 ≡ true → j < 3 → f ≡ field_at the_targets 2 j → HasCell the_targets code l (Cell.Object 1 j) f
   has_cell l j f ef e k lt ff = record { field = (let a = ap (refs_in code) ef in let b = refs_w in omega arith, (the_dynamic, e, lt, ff)); base = k }
 
   vacant : (l : Label) (r : ℕ) → 3 ≡ refs_in code l.function → r < 3 → l.env r ≡ Empty → IsVacant code l r
@@ -365,14 +360,14 @@ module _ (code : Code) (is : IsSample code) where
   p4 : Right 4 w4 (Constant 0 (pos 1))
   p4 = w 4 w4 (Constant 0 (pos 1)) refl (refl, (let b = ints_w in omega arith), less_refl w5) s4
 
-  p5 : Right 5 w5 (ChkWrite (cells.Object 1 2) 1)
-  p5 = w 5 w5 (ChkWrite (cells.Object 1 2) 1) refl (refl, (f_dynamic, (has_cell w5 2 f_dynamic refl refl refl (omega arith) refl), refl), inl (less_refl (gated w5 (Checked true (cells.Object 1 2))))) s5
+  p5 : Right 5 w5 (ChkWrite (Cell.Object 1 2) 1)
+  p5 = w 5 w5 (ChkWrite (Cell.Object 1 2) 1) refl (refl, (f_dynamic, (has_cell w5 2 f_dynamic refl refl refl (omega arith) refl), refl), inl (less_refl (gated w5 (Checked true (Cell.Object 1 2))))) s5
 
-  p6 : Right 6 (gated w5 (Checked true (cells.Object 1 2))) (Store 0 (cells.Object 1 2) 1)
-  p6 = w 6 (gated w5 (Checked true (cells.Object 1 2))) (Store 0 (cells.Object 1 2) 1) refl (f_dynamic, Int, record { cell = (has_cell (gated w5 (Checked true (cells.Object 1 2))) 2 f_dynamic refl refl refl (omega arith) refl); may = Directly true refl tt; apart = tt; mode = is.sites.0 }, refl, refl, less_refl (gated (gated w5 (Checked true (cells.Object 1 2))) Closed)) s6
+  p6 : Right 6 (gated w5 (Checked true (Cell.Object 1 2))) (Store 0 (Cell.Object 1 2) 1)
+  p6 = w 6 (gated w5 (Checked true (Cell.Object 1 2))) (Store 0 (Cell.Object 1 2) 1) refl (f_dynamic, Int, record { cell = (has_cell (gated w5 (Checked true (Cell.Object 1 2))) 2 f_dynamic refl refl refl (omega arith) refl); may = Directly true refl tt; apart = tt; mode = is.sites.0 }, refl, refl, less_refl (gated (gated w5 (Checked true (Cell.Object 1 2))) Closed)) s6
 
-  p7 : Right 7 (gated (gated w5 (Checked true (cells.Object 1 2))) Closed) (Lower 1)
-  p7 = w 7 (gated (gated w5 (Checked true (cells.Object 1 2))) Closed) (Lower 1) refl (refl, (let b = refs_w in omega arith), inl (free_by (gated (gated w5 (Checked true (cells.Object 1 2))) Closed) 1 k3, less_refl w8)) s7
+  p7 : Right 7 (gated (gated w5 (Checked true (Cell.Object 1 2))) Closed) (Lower 1)
+  p7 = w 7 (gated (gated w5 (Checked true (Cell.Object 1 2))) Closed) (Lower 1) refl (refl, (let b = refs_w in omega arith), inl (free_by (gated (gated w5 (Checked true (Cell.Object 1 2))) Closed) 1 k3, less_refl w8)) s7
 
   p8 : Right 8 w8 (Raise 1 0)
   p8 = w 8 w8 (Raise 1 0) refl (refl, vacant w8 1 (sym refs_w) (omega arith) refl, (let b = refs_w in omega arith), less_refl (raised w8 1 0)) s8
@@ -380,14 +375,14 @@ module _ (code : Code) (is : IsSample code) where
   p9 : Right 9 (raised w8 1 0) (ChkNull 1 0)
   p9 = w 9 (raised w8 1 0) (ChkNull 1 0) refl (refl, less_refl w10) s9
 
-  p10 : Right 10 w10 (ChkNotHeld (cells.Object 1 0) 0)
-  p10 = w 10 w10 (ChkNotHeld (cells.Object 1 0) 0) refl (refl, (f_mutex, (has_cell w10 0 f_mutex refl refl refl (omega arith) refl), refl), less_refl w10) s10
+  p10 : Right 10 w10 (ChkNotHeld (Cell.Object 1 0) 0)
+  p10 = w 10 w10 (ChkNotHeld (Cell.Object 1 0) 0) refl (refl, (f_mutex, (has_cell w10 0 f_mutex refl refl refl (omega arith) refl), refl), less_refl w10) s10
 
   p11 : Right 11 w10 (ChkRoom 0)
   p11 = w 11 w10 (ChkRoom 0) refl (refl, less_refl (record w10 { room = true })) s10
 
-  p12 : Right 12 (record w10 { room = true }) (Lock (cells.Object 1 0) 0)
-  p12 = w 12 (record w10 { room = true }) (Lock (cells.Object 1 0) 0) refl (refl, refl, (f_mutex, (has_cell (record w10 { room = true }) 0 f_mutex refl refl refl (omega arith) refl), refl), free_by (record w10 { room = true }) 1 k9, less_refl w13) s12
+  p12 : Right 12 (record w10 { room = true }) (Lock (Cell.Object 1 0) 0)
+  p12 = w 12 (record w10 { room = true }) (Lock (Cell.Object 1 0) 0) refl (refl, refl, (f_mutex, (has_cell (record w10 { room = true }) 0 f_mutex refl refl refl (omega arith) refl), refl), free_by (record w10 { room = true }) 1 k9, less_refl w13) s12
 
   p13 : Right 13 w13 (Raise 1 0)
   p13 = w 13 w13 (Raise 1 0) refl (refl, vacant w13 1 (sym refs_w) (omega arith) refl, (let b = refs_w in omega arith), less_refl (raised w13 1 0)) s13
@@ -398,11 +393,11 @@ module _ (code : Code) (is : IsSample code) where
   p15 : Right 15 w15 (Constant 0 (pos 2))
   p15 = w 15 w15 (Constant 0 (pos 2)) refl (refl, (let b = ints_w in omega arith), less_refl w16) s15
 
-  p16 : Right 16 w16 (ChkLock (cells.Object 1 0) 2)
-  p16 = w 16 w16 (ChkLock (cells.Object 1 0) 2) refl (refl, (f_mutex, (has_cell w16 0 f_mutex refl refl refl (omega arith) refl).field, refl), less_refl w17) s16
+  p16 : Right 16 w16 (ChkLock (Cell.Object 1 0) 2)
+  p16 = w 16 w16 (ChkLock (Cell.Object 1 0) 2) refl (refl, (f_mutex, (has_cell w16 0 f_mutex refl refl refl (omega arith) refl).field, refl), less_refl w17) s16
 
-  p17 : Right 17 w17 (Store 0 (cells.Object 1 1) 2)
-  p17 = w 17 w17 (Store 0 (cells.Object 1 1) 2) refl (f_locked, Int, record { cell = (has_cell w17 1 f_locked refl refl refl (omega arith) refl); may = (cells.Object 1 0, f_mutex, refl, (has_cell w17 0 f_mutex refl refl refl (omega arith) refl), refl, (Itself refl, omega arith, omega arith)); apart = tt; mode = (is.sites.1, tt) }, refl, refl, less_refl (gated w17 Closed)) s17
+  p17 : Right 17 w17 (Store 0 (Cell.Object 1 1) 2)
+  p17 = w 17 w17 (Store 0 (Cell.Object 1 1) 2) refl (f_locked, Int, record { cell = (has_cell w17 1 f_locked refl refl refl (omega arith) refl); may = (Cell.Object 1 0, f_mutex, refl, (has_cell w17 0 f_mutex refl refl refl (omega arith) refl), refl, (Itself refl, omega arith, omega arith)); apart = tt; mode = (is.sites.1, tt) }, refl, refl, less_refl (gated w17 Closed)) s17
 
   p18 : Right 18 (gated w17 Closed) (Lower 1)
   p18 = w 18 (gated w17 Closed) (Lower 1) refl (refl, (let b = refs_w in omega arith), inl (free_by (gated w17 Closed) 1 k14, less_refl w19)) s18
@@ -413,11 +408,11 @@ module _ (code : Code) (is : IsSample code) where
   p20 : Right 20 (raised w19 1 0) (ChkNull 1 0)
   p20 = w 20 (raised w19 1 0) (ChkNull 1 0) refl (refl, less_refl w21) s20
 
-  p21 : Right 21 w21 (ChkHeld (cells.Object 1 0) 0)
-  p21 = w 21 w21 (ChkHeld (cells.Object 1 0) 0) refl (refl, (f_mutex, (has_cell w21 0 f_mutex refl refl refl (omega arith) refl), refl), less_refl w22) s21
+  p21 : Right 21 w21 (ChkHeld (Cell.Object 1 0) 0)
+  p21 = w 21 w21 (ChkHeld (Cell.Object 1 0) 0) refl (refl, (f_mutex, (has_cell w21 0 f_mutex refl refl refl (omega arith) refl), refl), less_refl w22) s21
 
-  p22 : Right 22 w22 (Unlock 2 (cells.Object 1 0) 0)
-  p22 = w 22 w22 (Unlock 2 (cells.Object 1 0) 0) refl (refl, vacant w22 2 (sym refs_w) (omega arith) refl, (f_mutex, (has_cell w22 0 f_mutex refl refl refl (omega arith) refl), refl), less_refl w23) s22
+  p22 : Right 22 w22 (Unlock 2 (Cell.Object 1 0) 0)
+  p22 = w 22 w22 (Unlock 2 (Cell.Object 1 0) 0) refl (refl, vacant w22 2 (sym refs_w) (omega arith) refl, (f_mutex, (has_cell w22 0 f_mutex refl refl refl (omega arith) refl), refl), less_refl w23) s22
 
   p23 : Right 23 w23 (Lower 2)
   p23 = w 23 w23 (Lower 2) refl (refl, (let b = refs_w in omega arith), inl (free_by w23 2 k23, less_refl w24)) s23
@@ -461,8 +456,8 @@ module _ (code : Code) (is : IsSample code) where
   p36 : Right 36 m36 (Raise 2 1)
   p36 = m 36 m36 (Raise 2 1) refl (refl, vacant m36 2 (sym refs_m) (omega arith) refl, (let b = refs_m in omega arith), less_refl m37) s36
 
-  p37 : Right 37 m37 (Spawn 1 1 (registers.Reference 2) 0)
-  p37 = m 37 m37 (Spawn 1 1 (registers.Reference 2) 0) refl (refl, (let b = ints_m in omega arith), (let b = is.number in omega arith), refl, refl, (is.parameters.1, (let b = refs_m in omega arith), free_by m37 2 k37, (λ q h. h), (refl, tt), refl), less_refl m38) s37
+  p37 : Right 37 m37 (Spawn 1 1 (Register.Reference 2) 0)
+  p37 = m 37 m37 (Spawn 1 1 (Register.Reference 2) 0) refl (refl, (let b = ints_m in omega arith), (let b = is.number in omega arith), refl, refl, (is.parameters.1, (let b = refs_m in omega arith), free_by m37 2 k37, (λ q h. h), (refl, tt), refl), less_refl m38) s37
 
   p38 : Right 38 m38 (Lower 1)
   p38 = m 38 m38 (Lower 1) refl (refl, (let b = refs_m in omega arith), inl (free_by m38 1 k38, less_refl m39)) s38

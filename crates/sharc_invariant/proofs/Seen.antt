@@ -1,10 +1,5 @@
 -- What the machine does to its words and registers is what the proof's world does.
-use Rattle.std.proofs.{Common.{◌≡◌, ℕ, ◌+◌, ◌*◌, ◌<◌, ◌≢◌, true, false, refl, sym, ap, ◌∙◌, subst, ⊎_elim, arith, ◌≤◌}, lemmas.Bool.{cases_eq, cases_order}}
-use Rattle.sharc_code.specs.{declared.shape.Shape.Shape, Runs.put, Layout.granules}
-use Rattle.sharc_code.proofs.Places.{put_same, put_other, put_all}
-use Rattle.sharc_invariant.specs.{Granules.GranuleState, Types.{Targets, Content, field_in, is_mutex, is_pointer}, Types.Content.{Integer, MutexWord, Waiters, Pointer}, World.{TypedReference, Holder, RegisterOf, ArgumentOf, LogOf, Staged, In, Cell, World, in_ref, place, put2, ObjectState}, Words.{MachineView, Shows, Apart, FitsContent, Reads, shadow_at, count_at, length_at, cell_at, store, set_reg, AreStale}}
-use Rattle.sharc_invariant.proofs.{Effects.{place_same, place_other, place_all, slot_cases}, Listed.pair_cases}
-use Rattle.sharc_heap.specs.ShadowWord.{epoch_of}
+use Rattle.sharc_invariant.proofs.{Imports.{◌≡◌, ℕ, ◌+◌, ◌*◌, ◌<◌, ◌≢◌, true, false, refl, sym, ap, ◌∙◌, subst, ⊎_elim, arith, ◌≤◌, cases_eq, cases_order, Shape, put, granules, put_same, put_other, put_all, GranuleState, Targets, Content, field_in, is_mutex, is_pointer, Integer, MutexWord, Waiters, Pointer, TypedReference, Holder, RegisterOf, ArgumentOf, LogOf, Staged, In, CellOf as Cell, World, in_ref, place, put2, ObjectState, MachineView, Shows, Apart, FitsContent, Reads, shadow_at, count_at, length_at, cell_at, store, set_reg, AreStale, epoch_of}, Effects.{place_same, place_other, place_all, slot_cases}, Listed.pair_cases}
 
 put2_away : (f : ℕ → ℕ → ℕ) (t i v u j : ℕ) → (u ≡ t → j ≡ i → ⊥) → f u j ≡ put2 f t i v u j
 put2_away f t i v u j ne = ⊎_elim

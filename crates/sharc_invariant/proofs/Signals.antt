@@ -1,15 +1,5 @@
 -- A signal keeps the invariant: in one turn it reads who waits, in others it takes the lowest waiter away.
-use Rattle.std.proofs.{Common.{◌≡◌, ℕ, ◌+◌, ◌-◌, ◌^◌, ◌<◌, ◌⊎◌, Bool, true, false, cond, List, Some, None, refl, sym, ap, ◌∙◌, subst, inl, inr, ⊎_elim, arith, eqb-true}, lemmas.Nat.and_le_l}
-use mathlib.Core.Path.{fun_ext}
-use Rattle.std.specs.Prelude.{length, slice_index, slice_set, ◌==◌}
-use Rattle.sharc_word.specs.declared.step.WordOp.TheVariants.{Load, Cas}
-use Rattle.sharc_heap.specs.{declared.shadow_word.Kind.Kind, declared.shadow_word.Kind.TheVariants.{Read, Write}, Accesses.Accesses}
-use Rattle.sharc_locks.specs.Waiters.{without_lowest}
-use Rattle.sharc_code.specs.{declared.code.Code.Code, declared.instr.Cell.Cell, declared.shape.Shape.Shape, declared.state.TurnState.TheVariants.{Runs as RunsOn, Tries, Stopped, Ended}, declared.state.Stage.Stage, declared.state.Stage.TheVariants.{Rests, Looks, Clears, Makes, Empties, Lowers, FreeLooks, FreeClears, Uncounts, Links, Names, Hands, Begins, Enters, Withdraws, WithdrawsFrom, Leaves, Wakes}, Layout.Fits, Machine.{Machine, instr_at, word, wakes, rests, at_stage, step_of}, Path.{turn, may_go}, Runs.{Turn, Global, put, MayTurn, after_turn}, Whole.{one_thread, bounds}}
-use Rattle.sharc_code.specs.declared.instr.Instr.TheVariants as instrs
-use Rattle.sharc_invariant.specs.{Types.{Targets, Field, field_in, is_pointer, is_mutex}, Types.Content.Waiters, Labels.{Label, Labels, LessGate, Closed}, Typed.{Fine, IsWellTyped}, World.{World, RegisterOf, in_ref}, Blocks.Heap, Words.{conc_of, Shows, FitsContent, cell_at, is_ended, staged_of, logged, noted_by, register_of, making_of}, Effect.Silently, Turns.{made_turn, made_conc}, State.{State, View, view_of, FramesStand, GateStands, TopStands, Runs, StageStands, OnSignal, SpawnsNow, label_now, object_of_cell, number_in}, Laws.Turned}
-use Rattle.sharc_invariant.proofs.{Frames.less_stands, Others.{OnHold, loses}, Quiet.{KeepsSelf, loud_state, heap_now, label_held, freed_held, noted_of, put_self, locks_kept}, Turns.{asks_turn, room_of}, Own.{closed_less, runs_at}, Stores.{index_put, cell_store, stored_words, stored_within}, Seen.integer_stored, Cells.cell_there}
-use Rattle.sharc_lemmas.proofs.Numbers.{ne_eq}
+use Rattle.sharc_invariant.proofs.{Imports.{◌≡◌, ℕ, ◌+◌, ◌-◌, ◌^◌, ◌<◌, ◌⊎◌, Bool, true, false, cond, List, Some, None, refl, sym, ap, ◌∙◌, subst, inl, inr, ⊎_elim, arith, eqb-true, and_le_l, fun_ext, length, slice_index, slice_set, ◌==◌, Load, Cas, Kind, Read, Write, Accesses, without_lowest, Code, Cell, Shape, RunsOn, Tries, Stopped, Ended, Stage, Rests, Looks, Clears, Makes, Empties, Lowers, FreeLooks, FreeClears, Uncounts, Links, Names, Hands, Begins, Enters, Withdraws, WithdrawsFrom, Leaves, Wakes, Fits, Machine, instr_at, word, wakes, rests, at_stage, step_of, turn, may_go, Turn, Global, put, MayTurn, after_turn, one_thread, bounds, Instr, Targets, Field, field_in, is_pointer, is_mutex, Waiters, Label, Labels, LessGate, Closed, Fine, IsWellTyped, World, RegisterOf, in_ref, Heap, conc_of, Shows, FitsContent, cell_at, is_ended, staged_of, logged, noted_by, register_of, making_of, Silently, made_turn, made_conc, State, View, view_of, FramesStand, GateStands, TopStands, Runs, StageStands, OnSignal, SpawnsNow, label_now, object_of_cell, number_in, Turned, ne_eq}, Frames.less_stands, Others.{OnHold, loses}, Quiet.{KeepsSelf, loud_state, heap_now, label_held, freed_held, noted_of, put_self, locks_kept}, Turns.{asks_turn, room_of}, Own.{closed_less, runs_at}, Stores.{index_put, cell_store, stored_words, stored_within}, Seen.integer_stored, Cells.cell_there}
 
 -- the stages of a signal
 abbrev IsWaking : Stage → Type 0
@@ -18,7 +8,7 @@ IsWaking stage = (stage ≡ Rests) ⊎ ((seen : ℕ) × (stage ≡ Wakes seen))
 by_waking : (P : Stage → Type 0) → P Rests → ((seen : ℕ) → P (Wakes seen)) → (stage : Stage) → IsWaking stage → P stage
 by_waking P a b stage h = ⊎_elim (λ (e : stage ≡ Rests). subst P (sym e) a) (λ (e : (seen : ℕ) × (stage ≡ Wakes seen)). subst P (sym e.1) (b e.0)) h
 
-signal_stage : (code : Code) (s : Shape) (elements : ℕ → ℕ) (w : World) (heap : Heap) (words : List ℕ) (t : ℕ) (m : Machine) (c : Cell) (site : ℕ) (stage : Stage) → StageStands code s elements w heap words t m (instrs.CondSignal c site) stage → IsWaking stage
+signal_stage : (code : Code) (s : Shape) (elements : ℕ → ℕ) (w : World) (heap : Heap) (words : List ℕ) (t : ℕ) (m : Machine) (c : Cell) (site : ℕ) (stage : Stage) → StageStands code s elements w heap words t m (Instr.CondSignal c site) stage → IsWaking stage
 signal_stage code s elements w heap words t m c site Rests h = inl refl
 signal_stage code s elements w heap words t m c site (Wakes a) h = inr (a, refl)
 signal_stage code s elements w heap words t m c site (Looks a b) h = absurd h
@@ -50,7 +40,7 @@ unfolding without_lowest
 without_low v h = let a = and_le_l v (2 ^ 64 - 1 - 2 ^ Rattle.sharc_locks.specs.Waiters.lowest_of v) in omega arith
 
 module _ (x : Targets) (code : Code) (s : Shape) (ls : Labels) (wt : IsWellTyped x code ls) (fits : Fits code s) (g : Global Machine) (world : World) (st : State x code s ls g world) (tr : Turn)
-    (may : MayTurn bounds (one_thread code s) g tr) (c : Cell) (site : ℕ) (is : instr_at code (g.threads tr.thread).at.pc ≡ instrs.CondSignal c site) where
+    (may : MayTurn bounds (one_thread code s) g tr) (c : Cell) (site : ℕ) (is : instr_at code (g.threads tr.thread).at.pc ≡ Instr.CondSignal c site) where
   abbrev t : ℕ
   t = tr.thread
 
@@ -78,7 +68,7 @@ module _ (x : Targets) (code : Code) (s : Shape) (ls : Labels) (wt : IsWellTyped
   tops : TopStands x tr.thread view (g.threads tr.thread).at.refs (g.threads tr.thread).at.ints rn.names here
   tops = subst (TopStands x t view m.at.refs m.at.ints rn.names) now_here rn.top
 
-  fine : Fine x code ls m.at.pc here (instrs.CondSignal c site)
+  fine : Fine x code ls m.at.pc here (Instr.CondSignal c site)
   fine = subst (Fine x code ls m.at.pc here) is (wt.fine m.at.pc)
 
   gates : GateStands s world t m Closed
@@ -89,8 +79,8 @@ module _ (x : Targets) (code : Code) (s : Shape) (ls : Labels) (wt : IsWellTyped
     where
       in_function : here.function ≡ None → ⊥
       in_function e = ⊎_elim
-          (λ (z : m.at.pc ≡ 0). let q : instrs.CondSignal c site ≡ instrs.Start wt.begin.0 = sym is ∙ ap (instr_at code) z ∙ wt.begin.1 in cc)
-          (λ z. let q : instrs.CondSignal c site ≡ instrs.Exit = sym is ∙ z in cc)
+          (λ (z : m.at.pc ≡ 0). let q : Instr.CondSignal c site ≡ Instr.Start wt.begin.0 = sym is ∙ ap (instr_at code) z ∙ wt.begin.1 in cc)
+          (λ z. let q : Instr.CondSignal c site ≡ Instr.Exit = sym is ∙ z in cc)
           (wt.placed m.at.pc e)
 
   going : is_ended m.at.state ≡ false

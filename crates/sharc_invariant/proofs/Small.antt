@@ -1,7 +1,5 @@
 -- How many references there can be.
-use Rattle.std.proofs.{Common.{◌≡◌, ℕ, zero, suc, ◌*◌, ◌≤◌, ap, ◌∙◌, ⊎_elim, arith}, lemmas.Bool.cases_eq}
-use Rattle.sharc_invariant.specs.{Granules.{one, sum_to}, World.{TypedReference, RegisterOf, ArgumentOf, LogOf, Staged, Slot, In, Cell, Size, total}, State.most_references}
-use Rattle.sharc_invariant.proofs.Sums.{one_same, one_other}
+use Rattle.sharc_invariant.proofs.{Imports.{◌≡◌, ℕ, zero, suc, ◌*◌, ◌≤◌, ap, ◌∙◌, ⊎_elim, arith, cases_eq, one, sum_to, TypedReference, RegisterOf, ArgumentOf, LogOf, Staged, Slot, In, CellOf as Cell, Size, total, most_references}, Sums.{one_same, one_other}}
 
 one_low : (x o : ℕ) → one x o ≤ 1
 one_low x o = ⊎_elim

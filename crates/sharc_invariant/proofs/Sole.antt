@@ -1,13 +1,5 @@
 -- A thread finds that it has the only reference to an object; and a register comes to hold NULL.
-use Rattle.std.proofs.{Common.{◌≡◌, ℕ, suc, ◌+◌, ◌⊎◌, ◌≢◌, true, false, cond, Some, None, refl, sym, ap, ◌∙◌, subst, inl, inr, ⊎_elim, arith}, lemmas.Bool.eqb-true}
-use mathlib.Core.Path.{fun_ext}
-use Rattle.std.specs.Prelude.{slice_index, ◌==◌}
-use Rattle.sharc_heap.specs.Count.{test_of}
-use Rattle.sharc_code.specs.{declared.code.Code.Code, declared.shape.Shape.Shape, declared.state.Stop.TheVariants.NotSole, Layout.{Fits, count_word}, Machine.{Machine, Asks, Local, instr_at, goes, set_ref, stopped, tested, ref}, Runs.{Turn, Global, MayTurn, after_turn}, Whole.{one_thread, bounds}}
-use Rattle.sharc_code.specs.declared.instr.Instr.TheVariants as instrs
-use Rattle.sharc_code.proofs.Places.{put_same}
-use Rattle.sharc_invariant.specs.{Types.Targets, Labels.{Gate, Closed, Checked, Holds, Loaded, HoldsLoaded, Sole as SoleGate, Label, Labels, LessGate, without_base}, Typed.IsWellTyped, World.{World, Window, Shut, Sole, WinOk, RegisterOf, In, in_ref, set_win, set_slot, null}, Words.{lang_of, conc_of}, Effect.Silently, Turns.made_turn, State.{State, View, view_of, TopStands, EntryStands, FramesStand, GateStands, IsSmall, refs_at, types_at, size_of_run}, Laws.Turned}
-use Rattle.sharc_invariant.proofs.{Effects.set_slot_ok, Frames.{filled, kept_pass}, Quiet.put_self, Turns.{asks_turn, local_turn, room_of}, Own.{runs, rests, top, fine}, Plain.{register_plain, is_shut, stop_state, same_words}, Seen.reg_stored, Filled.{filled_state, inside_world, free_shut}, Counts.{count_is, filled_silent}, Accesses.{windowed_state, loaded_words, silent_window}}
+use Rattle.sharc_invariant.proofs.{Imports.{◌≡◌, ℕ, suc, ◌+◌, ◌⊎◌, ◌≢◌, true, false, cond, Some, None, refl, sym, ap, ◌∙◌, subst, inl, inr, ⊎_elim, arith, eqb-true, fun_ext, slice_index, ◌==◌, test_of, Code, Shape, NotSole, Fits, count_word, Machine, Asks, Local, instr_at, goes, set_ref, stopped, tested, ref, Turn, Global, MayTurn, after_turn, one_thread, bounds, Instr, put_same, Targets, Gate, Closed, Checked, Holds, Loaded, HoldsLoaded, SoleGate, Label, Labels, LessGate, without_base, IsWellTyped, World, Window, Shut, Sole, WinOk, RegisterOf, In, in_ref, set_win, set_slot, null, lang_of, conc_of, Silently, made_turn, State, View, view_of, TopStands, EntryStands, FramesStand, GateStands, IsSmall, refs_at, types_at, size_of_run, Turned}, Effects.set_slot_ok, Frames.{filled, kept_pass}, Quiet.put_self, Turns.{asks_turn, local_turn, room_of}, Own.{runs, rests, top, fine}, Plain.{register_plain, is_shut, stop_state, same_words}, Seen.reg_stored, Filled.{filled_state, inside_world, free_shut}, Counts.{count_is, filled_silent}, Accesses.{windowed_state, loaded_words, silent_window}}
 
 sole_gate : (r : ℕ) (y : Gate) → LessGate (SoleGate r false) y → (y ≡ Closed) ⊎ (y ≡ SoleGate r false)
 sole_gate r Closed h = inl refl
@@ -37,9 +29,9 @@ module _ (x : Targets) (code : Code) (s : Shape) (ls : Labels) (wt : IsWellTyped
   abbrev after : Global Machine
   after = after_turn bounds (one_thread code s) g tr
 
-  pub Test_sole_keeps : (r site : ℕ) → instr_at code (g.threads tr.thread).at.pc ≡ instrs.TestSole r site → Turned x code s ls g world tr
+  pub Test_sole_keeps : (r site : ℕ) → instr_at code (g.threads tr.thread).at.pc ≡ Instr.TestSole r site → Turned x code s ls g world tr
   Test_sole_keeps r site is =
-      let i = instrs.TestSole r site in
+      let i = Instr.TestSole r site in
       let on = may.started in
       let go = may.next.runs in
       let f = fine x code s ls wt g world st t on go i is refl in
@@ -86,9 +78,9 @@ module _ (x : Targets) (code : Code) (s : Shape) (ls : Labels) (wt : IsWellTyped
       below_goes = elim here.function as (λ f. FramesStand x code ls tr.thread view (g.threads tr.thread) f → FramesStand x code ls tr.thread view (goes (g.threads tr.thread)) f) [ None ↦ λ h. h | Some f ↦ λ h. h ]
 
   -- a register that held NULL holds it on
-  pub Null_keeps : (r : ℕ) → instr_at code (g.threads tr.thread).at.pc ≡ instrs.Null r → Turned x code s ls g world tr
+  pub Null_keeps : (r : ℕ) → instr_at code (g.threads tr.thread).at.pc ≡ Instr.Null r → Turned x code s ls g world tr
   Null_keeps r is =
-      let i = instrs.Null r in
+      let i = Instr.Null r in
       let on = may.started in
       let go = may.next.runs in
       let f = fine x code s ls wt g world st t on go i is refl in

@@ -1,19 +1,6 @@
 -- Spawn's first three turns keep the invariant: a number is given out, and the function and the argument are written.
-use Rattle.std.proofs.{Common.{◌≡◌, ℕ, ℤ, pos, zero, suc, ◌+◌, ◌*◌, ◌^◌, ◌<◌, ◌≤◌, ◌≢◌, ◌&&◌, Bool, true, false, cond, List, Option, Some, None, refl, sym, ap, ◌∙◌, subst, inl, inr, ⊎_elim, arith, ltb-true}, lemmas.Bool.cases_eq, lemmas.Bool.Decides.nat_tests, lemmas.List.{length-set, get_or-set_same, get_or-set_other}}
-use mathlib.Core.Path.{fun_ext}
-use Rattle.std.specs.Prelude.{◌%◌, length, slice_index, slice_set, nat_lt, nat_eq, ◌||◌, ◌==◌}
+use Rattle.sharc_invariant.proofs.{Imports.{◌≡◌, ℕ, ℤ, pos, zero, suc, ◌+◌, ◌*◌, ◌^◌, ◌<◌, ◌≤◌, ◌≢◌, ◌&&◌, Bool, true, false, cond, List, Option, Some, None, refl, sym, ap, ◌∙◌, subst, inl, inr, ⊎_elim, arith, ltb-true, cases_eq, nat_tests, length-set, get_or-set_same, get_or-set_other, fun_ext, ◌%◌, length, slice_index, slice_set, nat_lt, nat_eq, ◌||◌, ◌==◌, THREADS, Swap, Add, HeldMutex, object_of, Kind, Read, Write, Accesses, note_of, epoch_of, FRAMES, Code, Shape, Frame, RunsOn, Stage, Rests, Looks, Clears, Makes, Empties, Lowers, FreeLooks, FreeClears, Uncounts, Links, Names, Hands, Begins, Enters, Withdraws, WithdrawsFrom, Leaves, Wakes, holds, int_of, Char, Fits, next_thread_word, state_word, function_word, argument_word, first_cell, top_word, Machine, int, ref, set_int, handed, reference_of, function_of, instr_at, step_of, at_stage, stopped, numbered, argument, spawn, start, begun, turn, may_go, counted, Turn, Global, put, is_started, MayTurn, after_turn, one_thread, bounds, Register, Trap, Parameter, Instr, put_same, put_other, put_all, Targets, ObjectType, nothing, is_private, field_in, LessGate, Entry, Empty, Refers, Unknown, Number, Anything, Exactly, Within, Indexes, OfElement, OfGlobal, Named, Nth, HasName, empty, set_number, Closed, Label, Labels, Leads, HasBase, IsShared, Passes, IsWellTyped, Fine, Window, TypedReference, Holder, RegisterOf, ArgumentOf, LogOf, Staged, In, Slot, CellOf, World, Shut, Sole, WorldInvariant, in_ref, none, place, shift, MachineView, conc_of, lang_of, Shows, is_first, is_unread, if_reference, note_number, register_of, argument_of, staged_of, noted_by, logged, is_ended, has_withdrawn, set_reg, making_of, FitsContent, Reads, store, cell_at, count_at, length_at, shadow_at, Silently, made_turn, KeepsOthers, StopStands, State, IsSmall, View, view_of, vals_of, Runs, ThreadStands, Threads, Firsts, Reserves, SpawnsNow, EntryStands, NumberStands, TopStands, BelowStands, FramesStand, GateStands, StageStands, label_now, refs_at, types_at, size_of_run, Turned, Kept, sum_to, ne_eq}, Effects.{place_same, place_other, shift_ok}, Frames.{empty_stands, Agrees, Low, callers_agree, less_number, filled, less_stands, entry_kept}, Quiet.{KeepsThread, KeepsMost, heap_now, most_state, sum_up, label_held}, Others.{OnHold, loses}, Turns.{asks_turn, room_of}, Own.{ref_inside, int_inside, closed_less, runs_at}, Filled.{view_filled, below_filled, free_shut}, Calls.passed_entry, Listed.store_ok, Accesses.back_again, Begun.{begun_stands, begun_regs}, Stores.index_put, Seen.{reg_stored, stale_off}, Sums.sum_one, Starts.{register_held, going_on}}
 use Rattle.sharc_tree.specs.declared.trap.Trap.TheVariants as traps
-use Rattle.sharc_word.specs.{declared.step.TheConstants.THREADS, declared.step.WordOp.TheVariants.{Swap, Add}}
-use Rattle.sharc_locks.specs.{declared.held_log.HeldMutex.HeldMutex, HeldLog.object_of}
-use Rattle.sharc_heap.specs.{declared.shadow_word.Kind.Kind, declared.shadow_word.Kind.TheVariants.{Read, Write}, Accesses.{Accesses, note_of}, ShadowWord.epoch_of}
-use Rattle.sharc_code.specs.{declared.state.TheConstants.FRAMES, declared.code.Code.Code, declared.shape.Shape.Shape, declared.state.Frame.Frame, declared.state.TurnState.TheVariants.{Runs as RunsOn}, declared.state.Stage.Stage, declared.state.Stage.TheVariants.{Rests, Looks, Clears, Makes, Empties, Lowers, FreeLooks, FreeClears, Uncounts, Links, Names, Hands, Begins, Enters, Withdraws, WithdrawsFrom, Leaves, Wakes}, Arithmetic.{holds, int_of}, declared.instr.Width.TheVariants.Char, Layout.{Fits, next_thread_word, state_word, function_word, argument_word, first_cell, top_word}, Machine.{Machine, int, ref, set_int, handed, reference_of, function_of, instr_at, step_of, at_stage, stopped, numbered, argument, spawn, start}, Path.{begun, turn, may_go, counted}, Runs.{Turn, Global, put, is_started, MayTurn, after_turn}, Whole.{one_thread, bounds}, declared.instr.Register.Register, declared.state.Stop.TheVariants.Trap}
-use Rattle.sharc_code.specs.declared.code.Parameter.TheVariants as parameters
-use Rattle.sharc_code.specs.declared.instr.Instr.TheVariants as instrs
-use Rattle.sharc_code.proofs.Places.{put_same, put_other, put_all}
-use Rattle.sharc_invariant.specs.{Types.{Targets, ObjectType, nothing, is_private, field_in}, Labels.{LessGate, Entry, Empty, Refers, Unknown, Number, Anything, Exactly, Within, Indexes, OfElement, OfGlobal, Named, Nth, HasName, empty, set_number, Closed, Label, Labels, Leads, HasBase}, Typed.{IsShared, Passes, IsWellTyped, Fine}, World.{Window, TypedReference, Holder, RegisterOf, ArgumentOf, LogOf, Staged, In, Slot, Cell as CellOf, World, Shut, Sole, WorldInvariant, in_ref, none, place, shift}, Words.{MachineView, conc_of, lang_of, Shows, is_first, is_unread, if_reference, note_number, register_of, argument_of, staged_of, noted_by, logged, is_ended, has_withdrawn, set_reg, making_of, FitsContent, Reads, store, cell_at, count_at, length_at, shadow_at}, Effect.Silently, Turns.{made_turn, KeepsOthers}, State.{StopStands, State, IsSmall, View, view_of, vals_of, Runs, ThreadStands, Threads, Firsts, Reserves, SpawnsNow, EntryStands, NumberStands, TopStands, BelowStands, FramesStand, GateStands, StageStands, label_now, refs_at, types_at, size_of_run}, Laws.Turned, Blocks.Kept, Granules.sum_to}
-use Rattle.sharc_invariant.proofs.{Effects.{place_same, place_other, shift_ok}, Frames.{empty_stands, Agrees, Low, callers_agree, less_number, filled, less_stands, entry_kept}, Quiet.{KeepsThread, KeepsMost, heap_now, most_state, sum_up, label_held}, Others.{OnHold, loses}, Turns.{asks_turn, room_of}, Own.{ref_inside, int_inside, closed_less, runs_at}, Filled.{view_filled, below_filled, free_shut}, Calls.passed_entry, Listed.store_ok, Accesses.back_again, Begun.{begun_stands, begun_regs}, Stores.index_put, Seen.{reg_stored, stale_off}, Sums.sum_one, Starts.{register_held, going_on}}
-use Rattle.sharc_code.specs.declared.instr.Register.TheVariants as registers
-use Rattle.sharc_lemmas.proofs.Numbers.{ne_eq}
 
 -- a word below the shadow words shows nothing of the world
 low_stored : (x : Targets) (s : Shape) (cells elements : ℕ → ℕ) (c : MachineView) (w : World) (k v : ℕ) → k < 97 → Shows x s cells elements c w → Shows x s cells elements (store c k v) w
@@ -91,7 +78,7 @@ no_argument true c v e = ap (λ c. cond c v 0) e
 no_argument false c v e = refl
 
 module _ (x : Targets) (code : Code) (s : Shape) (ls : Labels) (wt : IsWellTyped x code ls) (fits : Fits code s) (g : Global Machine) (world : World) (st : State x code s ls g world) (tr : Turn)
-    (may : MayTurn bounds (one_thread code s) g tr) (r f : ℕ) (from : Register) (site : ℕ) (is : instr_at code (g.threads tr.thread).at.pc ≡ instrs.Spawn r f from site) (spawning : is_spawning (g.threads tr.thread).own.stage ≡ true) where
+    (may : MayTurn bounds (one_thread code s) g tr) (r f : ℕ) (from : Register) (site : ℕ) (is : instr_at code (g.threads tr.thread).at.pc ≡ Instr.Spawn r f from site) (spawning : is_spawning (g.threads tr.thread).own.stage ≡ true) where
   abbrev t : ℕ
   t = tr.thread
 
@@ -113,11 +100,11 @@ module _ (x : Targets) (code : Code) (s : Shape) (ls : Labels) (wt : IsWellTyped
   rn : Runs x code s ls st.elements world st.heap g tr.thread (g.threads tr.thread)
   rn = (st.threads tr.thread).runs may.started may.next.runs
 
-  fine : Fine x code ls (g.threads tr.thread).at.pc here (instrs.Spawn r f from site)
+  fine : Fine x code ls (g.threads tr.thread).at.pc here (Instr.Spawn r f from site)
   fine = subst (Fine x code ls m.at.pc here) is (wt.fine m.at.pc)
 
   not_zero : ((g.threads tr.thread).at.pc == 0) ≡ false
-  not_zero = ne_eq m.at.pc 0 (λ z. let q : instrs.Spawn r f from site ≡ instrs.Start wt.begin.0 = sym is ∙ ap (instr_at code) z ∙ wt.begin.1 in absurd (cc))
+  not_zero = ne_eq m.at.pc 0 (λ z. let q : Instr.Spawn r f from site ≡ Instr.Start wt.begin.0 = sym is ∙ ap (instr_at code) z ∙ wt.begin.1 in absurd (cc))
 
   now_here : label_now here (instr_at code (g.threads tr.thread).at.pc) (g.threads tr.thread).own.stage ≡ here
   now_here = label_held here (instr_at code m.at.pc) m.own.stage (spawning_hold m.own.stage spawning)
@@ -314,7 +301,7 @@ module _ (x : Targets) (code : Code) (s : Shape) (ls : Labels) (wt : IsWellTyped
         wt st.inv sim_now threads_now firsts_now (λ u _. inl (started_now u)) runs (λ _. subst (λ p. StopStands world t m' (ls.at p).gate) (sym pc) (subst (StopStands world t m') (sym fine.0) shut)) room
 
     -- at a stage of its own
-    stage_runs : (y : Stage) → m' ≡ at_stage (g.threads tr.thread) y → is_spawning y ≡ true → StageStands code s st.elements world (heap_now st.heap words) words tr.thread (at_stage (g.threads tr.thread) y) (instrs.Spawn r f from site) y
+    stage_runs : (y : Stage) → m' ≡ at_stage (g.threads tr.thread) y → is_spawning y ≡ true → StageStands code s st.elements world (heap_now st.heap words) words tr.thread (at_stage (g.threads tr.thread) y) (Instr.Spawn r f from site) y
         → Runs x code s ls st.elements world (heap_now st.heap words) now tr.thread m'
     stage_runs y e ey stands =
         let m1 = at_stage m y in
@@ -332,15 +319,15 @@ module _ (x : Targets) (code : Code) (s : Shape) (ls : Labels) (wt : IsWellTyped
 
 -- ---- the three turns
 argument_same : (m : Machine) (y : Stage) (from : Register) → argument (at_stage m y) from ≡ argument m from
-argument_same m y (registers.Int r) = refl
-argument_same m y (registers.Reference r) = refl
+argument_same m y (Register.Int r) = refl
+argument_same m y (Register.Reference r) = refl
 
 sum_most : (n : ℕ) (f : ℕ → ℕ) (c : ℕ) → ((j : ℕ) → f j ≤ c) → sum_to n f ≤ n * c
 sum_most zero f c h = omega arith
 sum_most (suc n) f c h = let a = sum_most n f c h in let b = h n in let e : suc n * c ≡ n * c + c = grind arith in omega arith
 
 module _ (x : Targets) (code : Code) (s : Shape) (ls : Labels) (wt : IsWellTyped x code ls) (fits : Fits code s) (few : IsSmall code s) (g : Global Machine) (world : World) (st : State x code s ls g world) (tr : Turn)
-    (may : MayTurn bounds (one_thread code s) g tr) (r f : ℕ) (from : Register) (site : ℕ) (is : instr_at code (g.threads tr.thread).at.pc ≡ instrs.Spawn r f from site) where
+    (may : MayTurn bounds (one_thread code s) g tr) (r f : ℕ) (from : Register) (site : ℕ) (is : instr_at code (g.threads tr.thread).at.pc ≡ Instr.Spawn r f from site) where
   abbrev mm : Machine
   mm = g.threads tr.thread
 
@@ -465,14 +452,14 @@ module _ (x : Targets) (code : Code) (s : Shape) (ls : Labels) (wt : IsWellTyped
         settled (made_turn g t words m') done (L (room_of code s g tr may words m' done) (λ _. R (Begins n) refl refl (reserves1, is_f, is_a)))
 
   -- what is handed over is a word
-  small_argument : (from' : Register) → instr_at code (g.threads tr.thread).at.pc ≡ instrs.Spawn r f from' site → is_spawning (g.threads tr.thread).own.stage ≡ true → argument (g.threads tr.thread) from' < 2 ^ 64
-  small_argument (registers.Int i) is' sp =
+  small_argument : (from' : Register) → instr_at code (g.threads tr.thread).at.pc ≡ Instr.Spawn r f from' site → is_spawning (g.threads tr.thread).own.stage ≡ true → argument (g.threads tr.thread) from' < 2 ^ 64
+  small_argument (Register.Int i) is' sp =
       let v = view_of st.elements world tr.thread mm in
-      let rn' = rn x code s ls wt fits g world st tr may r f (registers.Int i) site is' sp in
-      let fi = (fine x code s ls wt fits g world st tr may r f (registers.Int i) site is' sp).5.2 in
-      let tp = subst (TopStands x tr.thread v mm.at.refs mm.at.ints rn'.names) (now_here x code s ls wt fits g world st tr may r f (registers.Int i) site is' sp) rn'.top in
+      let rn' = rn x code s ls wt fits g world st tr may r f (Register.Int i) site is' sp in
+      let fi = (fine x code s ls wt fits g world st tr may r f (Register.Int i) site is' sp).5.2 in
+      let tp = subst (TopStands x tr.thread v mm.at.refs mm.at.ints rn'.names) (now_here x code s ls wt fits g world st tr may r f (Register.Int i) site is' sp) rn'.top in
       (back_again fi.0 (int mm i) (less_number x st.elements (refs_at v mm.at.refs) (types_at v mm.at.refs) rn'.names (int mm i) ((ls.at mm.at.pc).ints i) (Within fi.0) fi.1 ((tp 0 (suc i)).numbers i (omega arith)))).1
-  small_argument (registers.Reference q) is' sp =
+  small_argument (Register.Reference q) is' sp =
       let v = ref mm q in
       let a = RegisterOf tr.thread (mm.at.refs + q) in
       let ev : in_ref world a ≡ v = st.sim.regs tr.thread (mm.at.refs + q) ∙ register_held code mm (spawning_hold mm.own.stage sp) (mm.at.refs + q) in
@@ -489,7 +476,7 @@ module _ (x : Targets) (code : Code) (s : Shape) (ls : Labels) (wt : IsWellTyped
   LastTurn = (n : ℕ) → (g.threads tr.thread).own.stage ≡ Begins n → Reserves g.words tr.thread n → slice_index g.words (function_word n) ≡ f → slice_index g.words (argument_word n) ≡ argument (g.threads tr.thread) from
       → done_at ≡ made_turn g tr.thread (slice_set g.words (state_word n) 1) (Rattle.sharc_code.specs.Machine.rests (set_int (handed (g.threads tr.thread) from) r (pos n))) → state_word n < length g.words → Turned x code s ls g world tr
 
-  by_stage : LastTurn → (y : Stage) → (g.threads tr.thread).own.stage ≡ y → StageStands code s st.elements world st.heap g.words tr.thread (g.threads tr.thread) (instrs.Spawn r f from site) y → turn code s (g.threads tr.thread) ≡ spawn (g.threads tr.thread) r f from site y → Turned x code s ls g world tr
+  by_stage : LastTurn → (y : Stage) → (g.threads tr.thread).own.stage ≡ y → StageStands code s st.elements world st.heap g.words tr.thread (g.threads tr.thread) (Instr.Spawn r f from site) y → turn code s (g.threads tr.thread) ≡ spawn (g.threads tr.thread) r f from site y → Turned x code s ls g world tr
   by_stage last Rests e h d = let a = asks_turn code s g tr may (step_of next_thread_word (Add 1)) (numbered mm site) d in numbers e a.0 a.1
   by_stage last (Names n) e h d = let a = asks_turn code s g tr may (step_of (function_word n) (Swap f)) (λ found. at_stage mm (Hands n)) d in names n h e a.0 a.1
   by_stage last (Hands n) e h d =
@@ -522,7 +509,7 @@ module _ (x : Targets) (code : Code) (s : Shape) (ls : Labels) (wt : IsWellTyped
 
 -- ---- the last turn: the thread is started
 module _ (x : Targets) (code : Code) (s : Shape) (ls : Labels) (wt : IsWellTyped x code ls) (fits : Fits code s) (few : IsSmall code s) (g : Global Machine) (world : World) (st : State x code s ls g world) (tr : Turn)
-    (may : MayTurn bounds (one_thread code s) g tr) (r f : ℕ) (from : Register) (site : ℕ) (is : instr_at code (g.threads tr.thread).at.pc ≡ instrs.Spawn r f from site)
+    (may : MayTurn bounds (one_thread code s) g tr) (r f : ℕ) (from : Register) (site : ℕ) (is : instr_at code (g.threads tr.thread).at.pc ≡ Instr.Spawn r f from site)
     (n : ℕ) (stage : (g.threads tr.thread).own.stage ≡ Begins n) (reserves : Reserves g.words tr.thread n) (named : slice_index g.words (function_word n) ≡ f) (long : state_word n < length g.words)
     (refs : List ℕ) (lr : length refs ≡ length (g.threads tr.thread).refs) where
   abbrev last : Machine
@@ -542,7 +529,7 @@ module _ (x : Targets) (code : Code) (s : Shape) (ls : Labels) (wt : IsWellTyped
   sp : is_spawning (g.threads tr.thread).own.stage ≡ true
   sp = ap is_spawning stage
 
-  here_fine : Fine x code ls (g.threads tr.thread).at.pc (ls.at (g.threads tr.thread).at.pc) (instrs.Spawn r f from site)
+  here_fine : Fine x code ls (g.threads tr.thread).at.pc (ls.at (g.threads tr.thread).at.pc) (Instr.Spawn r f from site)
   here_fine = fine x code s ls wt fits g world st tr may r f from site is sp
 
   t_low : tr.thread < THREADS
@@ -797,31 +784,31 @@ below_set x code ls t v m m' r vals same ef ed er ei (Some f) h =
     )
 
 module _ (x : Targets) (code : Code) (s : Shape) (ls : Labels) (wt : IsWellTyped x code ls) (fits : Fits code s) (few : IsSmall code s) (g : Global Machine) (world : World) (st : State x code s ls g world) (tr : Turn)
-    (may : MayTurn bounds (one_thread code s) g tr) (r f i : ℕ) (site : ℕ) (is : instr_at code (g.threads tr.thread).at.pc ≡ instrs.Spawn r f (registers.Int i) site) where
-  int_last : LastTurn x code s ls wt fits few g world st tr may r f (registers.Int i) site is
+    (may : MayTurn bounds (one_thread code s) g tr) (r f i : ℕ) (site : ℕ) (is : instr_at code (g.threads tr.thread).at.pc ≡ Instr.Spawn r f (Register.Int i) site) where
+  int_last : LastTurn x code s ls wt fits few g world st tr may r f (Register.Int i) site is
   int_last n stage reserves named is_arg done long =
       let t = tr.thread in
       let m = g.threads tr.thread in
       let here = ls.at m.at.pc in
       let spn : is_spawning m.own.stage ≡ true = ap is_spawning stage in
       let v = view_of st.elements world t m in
-      let rn' = rn x code s ls wt fits g world st tr may r f (registers.Int i) site is spn in
-      let fi = fine x code s ls wt fits g world st tr may r f (registers.Int i) site is spn in
-      let tp = subst (TopStands x t v m.at.refs m.at.ints rn'.names) (now_here x code s ls wt fits g world st tr may r f (registers.Int i) site is spn) rn'.top in
+      let rn' = rn x code s ls wt fits g world st tr may r f (Register.Int i) site is spn in
+      let fi = fine x code s ls wt fits g world st tr may r f (Register.Int i) site is spn in
+      let tp = subst (TopStands x t v m.at.refs m.at.ints rn'.names) (now_here x code s ls wt fits g world st tr may r f (Register.Int i) site is spn) rn'.top in
       let start = wt.starts f fi.3 in
       let z = int m i in
       let lt_n = reserves.few in
-      let nr : (function_of code f).parameter ≢ parameters.Reference = λ e. let q : parameters.Int ≡ parameters.Reference = sym fi.5.0 ∙ e in cc in
+      let nr : (function_of code f).parameter ≢ Parameter.Reference = λ e. let q : Parameter.Int ≡ Parameter.Reference = sym fi.5.0 ∙ e in cc in
       let own_number = (tp 0 (suc i)).numbers i (omega arith) in
       let back = back_again fi.5.2.0 z (less_number x st.elements (refs_at v m.at.refs) (types_at v m.at.refs) rn'.names z (here.ints i) (Within fi.5.2.0) fi.5.2.1 own_number) in
       let value : int_of (slice_index g.words (argument_word n)) ≡ z = ap int_of is_arg ∙ back.0 in
       let taken = less_number x st.elements (refs_at v m.at.refs) (types_at v m.at.refs) rn'.names z (here.ints i) ((ls.signature f).takes_ints 0) fi.5.1 own_number in
       let number = subst (λ y. NumberStands x (λ o. 0) (λ r. 0) (λ r. nothing) (λ n. pos 0) y ((ls.signature f).takes_ints 0)) (sym value)
       (number_plain x st.elements (λ o. 0) (refs_at v m.at.refs) (λ r. 0) (types_at v m.at.refs) (λ r. nothing) rn'.names (λ n. pos 0) z ((ls.signature f).takes_ints 0) ((wt.plain f).bases 0) ((wt.plain f).names 0) taken) in
-      let unset = unset_n x code s ls wt fits few g world st tr may r f (registers.Int i) site is n stage reserves named long m.refs refl in
-      let other = args_other x code s ls wt fits few g world st tr may r f (registers.Int i) site is n stage reserves named long m.refs refl in
-      let new = args_new x code s ls wt fits few g world st tr may r f (registers.Int i) site is n stage reserves named long m.refs refl in
-      let m' = last x code s ls wt fits few g world st tr may r f (registers.Int i) site is n stage reserves named long m.refs refl in
+      let unset = unset_n x code s ls wt fits few g world st tr may r f (Register.Int i) site is n stage reserves named long m.refs refl in
+      let other = args_other x code s ls wt fits few g world st tr may r f (Register.Int i) site is n stage reserves named long m.refs refl in
+      let new = args_new x code s ls wt fits few g world st tr may r f (Register.Int i) site is n stage reserves named long m.refs refl in
+      let m' = last x code s ls wt fits few g world st tr may r f (Register.Int i) site is n stage reserves named long m.refs refl in
       let words = slice_set g.words (state_word n) 1 in
       let now = made_turn g t words m' in
       let c = conc_of code g in
@@ -837,8 +824,8 @@ module _ (x : Targets) (code : Code) (s : Shape) (ls : Labels) (wt : IsWellTyped
       let same : (j : ℕ) → j ≢ m.at.ints + r → vals_of m' j ≡ v.vals j = λ j ne. get_or-set_other m.ints (m.at.ints + r) j (pos n) (pos 0) ne in
       let fit : holds Char (pos n) ≡ true = grind (arith, nat_tests) in
       let put_in : holds Char (vals_of m' (m.at.ints + r)) ≡ true = subst (λ y. holds Char y ≡ true) (sym (get_or-set_same m.ints (m.at.ints + r) (pos n) (pos 0) lt)) fit in
-      settled x code s ls wt fits few g world st tr may r f (registers.Int i) site is now done
-      (last_state x code s ls wt fits few g world st tr may r f (registers.Int i) site is n stage reserves named long m.refs refl world refl refl refl
+      settled x code s ls wt fits few g world st tr may r f (Register.Int i) site is now done
+      (last_state x code s ls wt fits few g world st tr may r f (Register.Int i) site is n stage reserves named long m.refs refl world refl refl refl
       (record {
         regs = λ u _ r. refl;
         win = λ u _. refl;
@@ -857,7 +844,7 @@ module _ (x : Targets) (code : Code) (s : Shape) (ls : Labels) (wt : IsWellTyped
       most_off n j ne long = index_put g.words (state_word n) 1 long j ∙ put_other (λ i. slice_index g.words i) (state_word n) j 1 ne
 
   pub Spawn_number_keeps : Turned x code s ls g world tr
-  Spawn_number_keeps = Spawn_keeps_but_the_last x code s ls wt fits few g world st tr may r f (registers.Int i) site is int_last
+  Spawn_number_keeps = Spawn_keeps_but_the_last x code s ls wt fits few g world st tr may r f (Register.Int i) site is int_last
 
 -- ---- a reference is handed over
 arg_put : (x : Targets) (s : Shape) (cells elements : ℕ → ℕ) (c : MachineView) (w : World) → Shows x s cells elements c w → (n : ℕ) (h : TypedReference) (args : ℕ → ℕ) → args n ≡ h.reference → ((u : ℕ) → u ≢ n → args u ≡ c.args u)
@@ -888,18 +875,18 @@ shared_type x refs o ty Unknown sh h nz = absurd sh
 shared_type x refs o ty (Refers s) sh h nz = ap (is_private x) (h nz) ∙ sh
 
 module _ (x : Targets) (code : Code) (s : Shape) (ls : Labels) (wt : IsWellTyped x code ls) (fits : Fits code s) (few : IsSmall code s) (g : Global Machine) (world : World) (st : State x code s ls g world) (tr : Turn)
-    (may : MayTurn bounds (one_thread code s) g tr) (r f q : ℕ) (site : ℕ) (is : instr_at code (g.threads tr.thread).at.pc ≡ instrs.Spawn r f (registers.Reference q) site) where
-  ref_last : LastTurn x code s ls wt fits few g world st tr may r f (registers.Reference q) site is
+    (may : MayTurn bounds (one_thread code s) g tr) (r f q : ℕ) (site : ℕ) (is : instr_at code (g.threads tr.thread).at.pc ≡ Instr.Spawn r f (Register.Reference q) site) where
+  ref_last : LastTurn x code s ls wt fits few g world st tr may r f (Register.Reference q) site is
   ref_last n stage reserves named is_arg done long =
       let t = tr.thread in
       let m = g.threads tr.thread in
       let here = ls.at m.at.pc in
       let spn : is_spawning m.own.stage ≡ true = ap is_spawning stage in
       let v = view_of st.elements world t m in
-      let rn' = rn x code s ls wt fits g world st tr may r f (registers.Reference q) site is spn in
-      let fi = fine x code s ls wt fits g world st tr may r f (registers.Reference q) site is spn in
-      let still = shut x code s ls wt fits g world st tr may r f (registers.Reference q) site is spn in
-      let tp = subst (TopStands x t v m.at.refs m.at.ints rn'.names) (now_here x code s ls wt fits g world st tr may r f (registers.Reference q) site is spn) rn'.top in
+      let rn' = rn x code s ls wt fits g world st tr may r f (Register.Reference q) site is spn in
+      let fi = fine x code s ls wt fits g world st tr may r f (Register.Reference q) site is spn in
+      let still = shut x code s ls wt fits g world st tr may r f (Register.Reference q) site is spn in
+      let tp = subst (TopStands x t v m.at.refs m.at.ints rn'.names) (now_here x code s ls wt fits g world st tr may r f (Register.Reference q) site is spn) rn'.top in
       let start = wt.starts f fi.3 in
       let kq = m.at.refs + q in
       let refs = slice_set m.refs kq 0 in
@@ -911,10 +898,10 @@ module _ (x : Targets) (code : Code) (s : Shape) (ls : Labels) (wt : IsWellTyped
       let inside = ref_inside x code ls t v m here.function q rn'.below fi.5.1 in
       let lt_q : kq < length m.refs = subst (λ b. kq < b) (sym (st.threads t).has.refs) inside in
       let value : ref m q ≡ h.reference = sym (st.sim.regs t kq ∙ register_held code m (spawning_hold m.own.stage spn) kq) in
-      let unset = unset_n x code s ls wt fits few g world st tr may r f (registers.Reference q) site is n stage reserves named long refs lr in
-      let other = args_other x code s ls wt fits few g world st tr may r f (registers.Reference q) site is n stage reserves named long refs lr in
-      let new = args_new x code s ls wt fits few g world st tr may r f (registers.Reference q) site is n stage reserves named long refs lr in
-      let m' = last x code s ls wt fits few g world st tr may r f (registers.Reference q) site is n stage reserves named long refs lr in
+      let unset = unset_n x code s ls wt fits few g world st tr may r f (Register.Reference q) site is n stage reserves named long refs lr in
+      let other = args_other x code s ls wt fits few g world st tr may r f (Register.Reference q) site is n stage reserves named long refs lr in
+      let new = args_new x code s ls wt fits few g world st tr may r f (Register.Reference q) site is n stage reserves named long refs lr in
+      let m' = last x code s ls wt fits few g world st tr may r f (Register.Reference q) site is n stage reserves named long refs lr in
       let words = slice_set g.words (state_word n) 1 in
       let now = made_turn g t words m' in
       let c = store (conc_of code g) (state_word n) 1 in
@@ -930,7 +917,7 @@ module _ (x : Targets) (code : Code) (s : Shape) (ls : Labels) (wt : IsWellTyped
       let z : kq + 0 ≡ kq = omega arith in
       let held : EntryStands (λ r. h.reference) (λ r. h.ty) 0 takes = entry_kept (refs_at v kq) (λ r. h.reference) (types_at v kq) (λ r. h.ty) 0 takes (ap v.refs z) (ap v.types z) (λ p mp. absurd (fi.5.3 p mp)) want in
       let entry : EntryStands (λ r. in_ref w2 (ArgumentOf n)) (λ r. (w2.slots (In (ArgumentOf n))).ty) 0 takes = subst (λ (y : TypedReference). EntryStands (λ r. y.reference) (λ r. y.ty) 0 takes) (sym arg2) held in
-      let no_int : (function_of code f).parameter ≢ parameters.Int = λ e. let y : parameters.Reference ≡ parameters.Int = sym fi.5.0 ∙ e in cc in
+      let no_int : (function_of code f).parameter ≢ Parameter.Int = λ e. let y : Parameter.Reference ≡ Parameter.Int = sym fi.5.0 ∙ e in cc in
       let number = subst (NumberStands x (λ o. 0) (λ r. 0) (λ r. nothing) (λ n. pos 0) (int_of (slice_index g.words (argument_word n)))) (sym (start.number no_int)) tt in
       let sim1 = reg_stored x s st.cells st.elements c world (low_stored x s st.cells st.elements (conc_of code g) world (state_word n) 1 (omega arith) st.sim) st.apart t kq none in
       let sim2 = arg_put x s st.cells st.elements (set_reg c t kq 0) w1 sim1 n h (argument_of code now) arg (λ u ne. sym (other u ne)) in
@@ -951,7 +938,7 @@ module _ (x : Targets) (code : Code) (s : Shape) (ls : Labels) (wt : IsWellTyped
       let off : (j : ℕ) → j ≢ state_word n → slice_index words j ≡ slice_index g.words j = λ j ne. index_put g.words (state_word n) 1 long j ∙ put_other (λ i. slice_index g.words i) (state_word n) j 1 ne in (
         w2,
         subst (λ y. State x code s ls y w2) (sym done)
-            (last_state x code s ls wt fits few g world st tr may r f (registers.Reference q) site is n stage reserves named long refs lr w2 refl refl refl
+            (last_state x code s ls wt fits few g world st tr may r f (Register.Reference q) site is n stage reserves named long refs lr w2 refl refl refl
             (record {
               regs = λ u ne j. away (In (RegisterOf u j)) (λ e. ne (cc)) (λ e. cc);
               win = λ u _. refl;
@@ -978,4 +965,4 @@ module _ (x : Targets) (code : Code) (s : Shape) (ls : Labels) (wt : IsWellTyped
       passed_entry_at x t v base ints names l tp k r given want p h = passed_entry x t v base ints names l tp k 0 r given want p h
 
   pub Spawn_reference_keeps : Turned x code s ls g world tr
-  Spawn_reference_keeps = Spawn_keeps_but_the_last x code s ls wt fits few g world st tr may r f (registers.Reference q) site is ref_last
+  Spawn_reference_keeps = Spawn_keeps_but_the_last x code s ls wt fits few g world st tr may r f (Register.Reference q) site is ref_last

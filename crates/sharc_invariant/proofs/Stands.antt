@@ -1,19 +1,10 @@
 -- Of counts, references and windows the invariant says what the machine invariant does.
-use Rattle.std.proofs.{Common.{◌≡◌, ℕ, zero, suc, ◌+◌, ◌*◌, ◌/◌, ◌<◌, ◌≢◌, ◌⊎◌, true, false, cond, refl, sym, ap, ◌∙◌, subst, inl, inr, ⊎_elim, arith}, lemmas.Bool.{cases_eq, cases_Bool, and_parts, and_from, ltb-true, lt-ltb, true_from_ne_false}}
-use mathlib.Core.Path.{fun_ext}
-use Rattle.std.specs.Prelude.{slice_index, nat_lt, ◌&&◌}
-use Rattle.sharc_word.specs.declared.step.TheConstants.{THREADS}
-use Rattle.sharc_code.specs.{declared.state.TheConstants.FRAMES, declared.code.Code.Code, declared.instr.Cell.Cell, declared.instr.Instr.Instr, declared.shape.Shape.Shape, declared.state.Stage.Stage, declared.state.Stage.TheVariants.Links, Layout.{granules, words_of, cell_word, cell_of, count_word, length_word}, Machine.{Machine, instr_at, ref}, Path.most_refs, Runs.Global}
-use Rattle.sharc_code.specs.declared.instr.Cell.TheVariants as cells
-use Rattle.sharc_code.specs.declared.instr.Instr.TheVariants as instrs
-use Rattle.sharc_invariant.specs.{Granules.{one, sum_to}, Types.{Targets, cells_of, field_in, is_pointer, is_private, type_at, type_of}, Labels.{Gate, Closed, Checked, Holds, Loaded, HoldsLoaded, Sole, Empty, Refers, Unknown, Label, Labels}, Typed.IsWellTyped, World.{Holder, RegisterOf, ArgumentOf, LogOf, Staged, Slot, In, Cell as CellOf, ObjectState, Loaded as IsLoaded, Sole as IsSoleOf, World, WinOk, Based, base_of, total, in_ref}, Words.{lang_of, register_of, argument_of, is_freed, count_at, cell_at}, State.{State, EntryStands, GateStands, label_now, view_of, refs_at, types_at, base_of_cell, object_of_cell, number_in, size_of_run}, MachineInvariant.{cells_now, is_pointer_now, cell_refers, register_refers, log_refers, hand_refers, references_to, Has, IsTyped, IsKept, HoldsStill, IsAlone, WindowStands, WasLoaded, IsSole, IsOn, label_of, HasType, MachineInvariant}, Laws.StateStands}
-use Rattle.sharc_invariant.proofs.{Sums.sum_ext, Counts.count_is, Frees.length_is, Empties.cell_word_is, Effects.{sole_at, only_slot}, Loads.lang_laws}
-use Rattle.sharc_lemmas.proofs.Numbers.{ne_eq}
+use Rattle.sharc_invariant.proofs.{Imports.{◌≡◌, ℕ, zero, suc, ◌+◌, ◌*◌, ◌/◌, ◌<◌, ◌≢◌, ◌⊎◌, true, false, cond, refl, sym, ap, ◌∙◌, subst, inl, inr, ⊎_elim, arith, cases_eq, cases_Bool, and_parts, and_from, ltb-true, lt-ltb, true_from_ne_false, fun_ext, slice_index, nat_lt, ◌&&◌, THREADS, FRAMES, Code, Cell, Instr, Shape, Stage, Links, granules, words_of, cell_word, cell_of, count_word, length_word, Machine, instr_at, ref, most_refs, Global, one, sum_to, Targets, cells_of, field_in, is_pointer, is_private, type_at, type_of, Gate, Closed, Checked, Holds, Loaded, HoldsLoaded, SoleGate as Sole, Empty, Refers, Unknown, Label, Labels, IsWellTyped, Holder, RegisterOf, ArgumentOf, LogOf, Staged, Slot, In, CellOf, ObjectState, IsLoaded, Sole as IsSoleOf, World, WinOk, Based, base_of, total, in_ref, lang_of, register_of, argument_of, is_freed, count_at, cell_at, State, EntryStands, GateStands, label_now, view_of, refs_at, types_at, base_of_cell, object_of_cell, number_in, size_of_run, cells_now, is_pointer_now, cell_refers, register_refers, log_refers, hand_refers, references_to, Has, IsTyped, IsKept, HoldsStill, IsAlone, WindowStands, WasLoaded, IsSole, IsOn, label_of, HasType, MachineInvariant, StateStands, ne_eq}, Sums.sum_ext, Counts.count_is, Frees.length_is, Empties.cell_word_is, Effects.{sole_at, only_slot}, Loads.lang_laws}
 
 -- where something stands directly before, the registers of a thread refer to what they hold
 registers_shown : (l : Label) (i : Instr) (stage : Stage) (base : ℕ) → ((label_now l i stage).gate ≡ Closed) ⊎ ((j : ℕ) → is_freed i stage base j ≡ false)
-registers_shown l (instrs.Free r layout site) (Links all) base = inl refl
-registers_shown l (instrs.Free r layout site) _ base = inr (λ j. refl)
+registers_shown l (Instr.Free r layout site) (Links all) base = inl refl
+registers_shown l (Instr.Free r layout site) _ base = inr (λ j. refl)
 registers_shown l _ stage base = inr (λ j. refl)
 
 module _ (x : Targets) (code : Code) (s : Shape) (ls : Labels) (wt : IsWellTyped x code ls) (g : Global Machine) (world : World) (st : State x code s ls g world) where
@@ -114,10 +105,10 @@ module _ (x : Targets) (code : Code) (s : Shape) (ls : Labels) (wt : IsWellTyped
     reads plain r = st.sim.regs t (m.at.refs + r) ∙ plain (m.at.refs + r)
 
     base_is : Plain → (c : Cell) → base_of world t (base_of_cell (g.threads t) c) ≡ object_of_cell (g.threads t) c
-    base_is plain (cells.Global h p) = refl
-    base_is plain (cells.GlobalAt h i) = refl
-    base_is plain (cells.Object r i) = reads plain r
-    base_is plain (cells.ObjectAt r i) = reads plain r
+    base_is plain (Cell.Global h p) = refl
+    base_is plain (Cell.GlobalAt h i) = refl
+    base_is plain (Cell.Object r i) = reads plain r
+    base_is plain (Cell.ObjectAt r i) = reads plain r
 
     held : Plain → (r : ℕ) → in_ref world (RegisterOf t ((g.threads t).at.refs + r)) ≢ 0 → (ref (g.threads t) r ≢ 0) × ((obj (ref (g.threads t) r)).live ≡ true)
     held plain r nz =
@@ -127,10 +118,10 @@ module _ (x : Targets) (code : Code) (s : Shape) (ls : Labels) (wt : IsWellTyped
         ((λ z. nz (e ∙ z)), subst P e k.live)
 
     kept : Plain → (c : Cell) → Based world t (base_of_cell (g.threads t) c) → IsKept obj (g.threads t) c
-    kept plain (cells.Global h p) b = b.0
-    kept plain (cells.GlobalAt h i) b = b.0
-    kept plain (cells.Object r i) b = held plain r b
-    kept plain (cells.ObjectAt r i) b = held plain r b
+    kept plain (Cell.Global h p) b = b.0
+    kept plain (Cell.GlobalAt h i) b = b.0
+    kept plain (Cell.Object r i) b = held plain r b
+    kept plain (Cell.ObjectAt r i) b = held plain r b
 
     loaded : Plain → (c : Cell) → world.win t ≡ IsLoaded (base_of_cell (g.threads t) c) (number_in (g.threads t) c) (g.threads t).pending → IsKept obj (g.threads t) c × HoldsStill x s g obj (g.threads t) c
     loaded plain c w =

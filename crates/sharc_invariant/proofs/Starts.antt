@@ -1,18 +1,6 @@
 -- Start keeps the invariant: a thread loads its function, and then its argument, and enters it.
-use Rattle.std.proofs.{Common.{◌≡◌, ℕ, ℤ, pos, suc, ◌+◌, ◌*◌, ◌^◌, ◌<◌, ◌≢◌, ◌⊎◌, ◌&&◌, Bool, true, false, cond, List, Some, None, refl, sym, ap, ◌∙◌, subst, inl, inr, ⊎_elim, arith}, lemmas.Bool.cases_eq, lemmas.Bool.Decides.nat_tests, lemmas.List.{length-set, get_or-set_same, get_or-set_other, set-get_or}}
-use mathlib.Core.Path.{fun_ext}
-use Rattle.std.specs.Prelude.{length, slice_index, slice_index_or, slice_set, nat_lt, ◌==◌}
-use Rattle.sharc_tree.specs.declared.trap.Trap.TheVariants as traps
-use Rattle.sharc_word.specs.{declared.step.TheConstants.THREADS, declared.step.WordOp.TheVariants.Load}
-use Rattle.sharc_locks.specs.{declared.held_log.HeldMutex.HeldMutex, HeldLog.object_of}
-use Rattle.sharc_heap.specs.{declared.shadow_word.Kind.Kind, declared.shadow_word.Kind.TheVariants.{Read, Write}, Accesses.{Accesses, note_of}}
-use Rattle.sharc_code.specs.{declared.state.TheConstants.FRAMES, declared.code.Code.Code, declared.code.Parameter.Parameter, declared.shape.Shape.Shape, declared.state.At.At, declared.state.Frame.Frame, declared.state.TurnState.{TurnState as StateOf}, declared.state.TurnState.TheVariants.{Runs as RunsOn, Tries, Stopped, Ended}, declared.state.Stage.Stage, declared.state.Stage.TheVariants.{Rests, Looks, Clears, Makes, Empties, Lowers, FreeLooks, FreeClears, Uncounts, Links, Names, Hands, Begins, Enters, Withdraws, WithdrawsFrom, Leaves, Wakes}, Arithmetic.int_of, Layout.{Fits, function_at, state_word, function_word, argument_word}, Machine.{Machine, Asks, reference_of, function_of, instr_at, no_frame, step_of, at_stage, called, trapped, with_parameter, entered, start}, Path.{turn, may_go, counted, most_refs}, Runs.{Turn, Global, put, MayTurn, after_turn}, Whole.{one_thread, bounds}}
-use Rattle.sharc_code.specs.declared.code.Parameter.TheVariants as parameters
-use Rattle.sharc_code.specs.declared.instr.Instr.TheVariants as instrs
-use Rattle.sharc_code.proofs.Places.{put_same, put_other, put_all}
-use Rattle.sharc_invariant.specs.{Types.{Targets, nothing}, Labels.{Empty, Refers, Unknown, Label, Labels, Less, HasBase}, Typed.{IsWellTyped, Fine, MayStart, entry_label, refs_in}, World.{TypedReference, Holder, RegisterOf, ArgumentOf, LogOf, Staged, In, Slot, Cell as CellOf, World, Shut, Sole, WorldInvariant, in_ref, none, place, shift}, Words.{MachineView, conc_of, lang_of, Shows, is_first, is_unread, if_reference, note_number, register_of, argument_of, staged_of, noted_by, logged, is_ended, has_withdrawn, making_of}, Effect.Silently, Turns.{made_turn, KeepsOthers}, State.{State, View, view_of, Runs, Threads, Firsts, SpawnsNow, EntryStands, NumberStands, TopStands, StartStands, FramesStand, GateStands, StageStands, OnStart, label_now, frame_at, refs_at, types_at, size_of_run}, Laws.Turned}
-use Rattle.sharc_invariant.proofs.{Effects.{place_same, place_other, shift_ok}, Frames.{less_stands, entry_kept, number_kept}, Quiet.{KeepsThread, heap_now, started_same, sum_up, kept_state, label_held, freed_held}, Others.{OnHold, loses}, Turns.{asks_turn, room_of}, Own.{closed_less, runs_at, refs_most, ints_most}, Plain.{same_words, same_others}, Filled.free_shut, Seen.reg_stored}
-use Rattle.sharc_lemmas.proofs.Numbers.{ne_eq}
+use Rattle.sharc_invariant.proofs.{Imports.{◌≡◌, ℕ, ℤ, pos, suc, ◌+◌, ◌*◌, ◌^◌, ◌<◌, ◌≢◌, ◌⊎◌, ◌&&◌, Bool, true, false, cond, List, Some, None, refl, sym, ap, ◌∙◌, subst, inl, inr, ⊎_elim, arith, cases_eq, nat_tests, length-set, get_or-set_same, get_or-set_other, set-get_or, fun_ext, length, slice_index, slice_index_or, slice_set, nat_lt, ◌==◌, THREADS, Load, HeldMutex, object_of, Kind, Read, Write, Accesses, note_of, FRAMES, Code, Parameter, Shape, At, Frame, StateOf, RunsOn, Tries, Stopped, Ended, Stage, Rests, Looks, Clears, Makes, Empties, Lowers, FreeLooks, FreeClears, Uncounts, Links, Names, Hands, Begins, Enters, Withdraws, WithdrawsFrom, Leaves, Wakes, int_of, Fits, function_at, state_word, function_word, argument_word, Machine, Asks, reference_of, function_of, instr_at, no_frame, step_of, at_stage, called, trapped, with_parameter, entered, start, turn, may_go, counted, most_refs, Turn, Global, put, MayTurn, after_turn, one_thread, bounds, Instr, put_same, put_other, put_all, Targets, nothing, Empty, Refers, Unknown, Label, Labels, Less, HasBase, IsWellTyped, Fine, MayStart, entry_label, refs_in, TypedReference, Holder, RegisterOf, ArgumentOf, LogOf, Staged, In, Slot, CellOf, World, Shut, Sole, WorldInvariant, in_ref, none, place, shift, MachineView, conc_of, lang_of, Shows, is_first, is_unread, if_reference, note_number, register_of, argument_of, staged_of, noted_by, logged, is_ended, has_withdrawn, making_of, Silently, made_turn, KeepsOthers, State, View, view_of, Runs, Threads, Firsts, SpawnsNow, EntryStands, NumberStands, TopStands, StartStands, FramesStand, GateStands, StageStands, OnStart, label_now, frame_at, refs_at, types_at, size_of_run, Turned, ne_eq}, Effects.{place_same, place_other, shift_ok}, Frames.{less_stands, entry_kept, number_kept}, Quiet.{KeepsThread, heap_now, started_same, sum_up, kept_state, label_held, freed_held}, Others.{OnHold, loses}, Turns.{asks_turn, room_of}, Own.{closed_less, runs_at, refs_most, ints_most}, Plain.{same_words, same_others}, Filled.free_shut, Seen.reg_stored}
+use Rattle.sharc_tree.specs.declared.trap.Trap.{Trap}
 
 -- ---- the machine that enters a function
 pub called_first : (n : Machine) (pc site : ℕ) → n.at.pc ≡ 0 → n.at.ints ≡ 0 → n.at.refs ≡ 0 → n.at.depth ≡ 0 → 0 < length n.frames
@@ -21,10 +9,10 @@ called_first n pc site ep ei er ed lt =
     let F : ℕ → ℕ → ℕ → ℕ → Machine = λ a b c d.
     cond ((nat_lt d (length n.frames) && nat_lt (d + 1) (2 ^ 32)) && (nat_lt (b + 0) (2 ^ 32) && nat_lt (c + 0) (2 ^ 32)))
     (record n { at = record { pc = pc; ints = b + 0; refs = c + 0; depth = d + 1; state = RunsOn }; frames = slice_set n.frames d record { pc = a + 1; ints = b; refs = c } })
-    (trapped n traps.CallDepth site) in
+    (trapped n Trap.CallDepth site) in
     let q : nat_lt 0 (length n.frames) ≡ true = grind (arith, nat_tests) in
     ap (λ a. F a n.at.ints n.at.refs n.at.depth) ep ∙ ap (λ b. F 0 b n.at.refs n.at.depth) ei ∙ ap (λ c. F 0 0 c n.at.depth) er ∙ ap (F 0 0 0) ed
-    ∙ ap (λ b. cond ((b && true) && true) (record n { at = record { pc = pc; ints = 0; refs = 0; depth = 1; state = RunsOn }; frames = slice_set n.frames 0 record { pc = 1; ints = 0; refs = 0 } }) (trapped n traps.CallDepth site)) q
+    ∙ ap (λ b. cond ((b && true) && true) (record n { at = record { pc = pc; ints = 0; refs = 0; depth = 1; state = RunsOn }; frames = slice_set n.frames 0 record { pc = 1; ints = 0; refs = 0 } }) (trapped n Trap.CallDepth site)) q
 
 pub register_held : (code : Code) (m : Machine) → OnHold m.own.stage → (i : ℕ) → register_of code m i ≡ slice_index m.refs i
 register_held code m h i = ap (λ b. cond b 0 (slice_index m.refs i)) (freed_held (instr_at code m.at.pc) m.own.stage m.at.refs i h)
@@ -121,7 +109,7 @@ sim_own x s cells elements c w regs args e a h = record {
 }
 
 module _ (x : Targets) (code : Code) (s : Shape) (ls : Labels) (wt : IsWellTyped x code ls) (fits : Fits code s) (g : Global Machine) (world : World) (st : State x code s ls g world) (tr : Turn)
-    (may : MayTurn bounds (one_thread code s) g tr) (site : ℕ) (is : instr_at code (g.threads tr.thread).at.pc ≡ instrs.Start site) where
+    (may : MayTurn bounds (one_thread code s) g tr) (site : ℕ) (is : instr_at code (g.threads tr.thread).at.pc ≡ Instr.Start site) where
   abbrev t : ℕ
   t = tr.thread
 
@@ -143,11 +131,11 @@ module _ (x : Targets) (code : Code) (s : Shape) (ls : Labels) (wt : IsWellTyped
   rn : Runs x code s ls st.elements world st.heap g tr.thread (g.threads tr.thread)
   rn = (st.threads tr.thread).runs may.started may.next.runs
 
-  fine : Fine x code ls (g.threads tr.thread).at.pc here (instrs.Start site)
+  fine : Fine x code ls (g.threads tr.thread).at.pc here (Instr.Start site)
   fine = subst (Fine x code ls m.at.pc here) is (wt.fine m.at.pc)
 
   pc_zero : (g.threads tr.thread).at.pc ≡ 0
-  pc_zero = ⊎_elim (λ e. e) (λ z. let q : instrs.Start site ≡ instrs.Exit = sym is ∙ z in absurd (cc)) (wt.placed m.at.pc fine.1)
+  pc_zero = ⊎_elim (λ e. e) (λ z. let q : Instr.Start site ≡ Instr.Exit = sym is ∙ z in absurd (cc)) (wt.placed m.at.pc fine.1)
 
   bottom : ((g.threads tr.thread).at.depth ≡ 0) × ((g.threads tr.thread).at.refs ≡ 0) × ((g.threads tr.thread).at.ints ≡ 0)
   bottom = subst (FramesStand x code ls t view m) fine.1 rn.below
@@ -391,7 +379,7 @@ module _ (x : Targets) (code : Code) (s : Shape) (ls : Labels) (wt : IsWellTyped
         (register_held code m (early_hold m.own.stage early) i ∙ sym (register_held code m2 tt i)) (λ u _. refl) u
 
     -- no reference is handed over
-    no_reference : (ints : List ℤ) → length ints ≡ length (g.threads tr.thread).ints → ((function_of code function).parameter ≢ parameters.Reference) → argument_of code g tr.thread ≡ 0
+    no_reference : (ints : List ℤ) → length ints ≡ length (g.threads tr.thread).ints → ((function_of code function).parameter ≢ Parameter.Reference) → argument_of code g tr.thread ≡ 0
         → NumberStands x st.elements (λ r. in_ref world (RegisterOf tr.thread r)) (λ r. (world.slots (In (RegisterOf tr.thread r))).ty) (λ n. pos 0) (slice_index_or ints 0 (pos 0)) ((ls.signature function).takes_ints 0)
         → after ≡ made_turn g tr.thread g.words (entered_with ints (g.threads tr.thread).refs) → Turned x code s ls g world tr
     no_reference ints li nr was number done =
@@ -417,7 +405,7 @@ module _ (x : Targets) (code : Code) (s : Shape) (ls : Labels) (wt : IsWellTyped
     abbrev w2 : World
     w2 = shift world (ArgumentOf tr.thread) (RegisterOf tr.thread 0)
 
-    with_reference : (function_of code function).parameter ≡ parameters.Reference
+    with_reference : (function_of code function).parameter ≡ Parameter.Reference
         → after ≡ made_turn g tr.thread g.words (entered_with (g.threads tr.thread).ints (slice_set (g.threads tr.thread).refs 0 argument)) → Turned x code s ls g world tr
     with_reference is_ref done =
         let refs = slice_set m.refs 0 argument in
@@ -439,7 +427,7 @@ module _ (x : Targets) (code : Code) (s : Shape) (ls : Labels) (wt : IsWellTyped
         let takes = (ls.signature function).takes 0 in
         let first : EntryStands (λ r. in_ref w2 (RegisterOf t r)) (λ r. (w2.slots (In (RegisterOf t r))).ty) 0 takes =
         entry_kept (λ r. in_ref world (ArgumentOf t)) (λ r. in_ref w2 (RegisterOf t r)) (λ r. (world.slots (In (ArgumentOf t))).ty) (λ r. (w2.slots (In (RegisterOf t r))).ty) 0 takes (sym (ap (λ (y : TypedReference). y.reference) reg2)) (sym (ap (λ (y : TypedReference). y.ty) reg2)) (λ q mq. absurd (may_start.closed q mq)) (st.begins.argument t low_t) in
-        let no_int : (function_of code function).parameter ≢ parameters.Int = λ e. let q : parameters.Reference ≡ parameters.Int = sym is_ref ∙ e in cc in
+        let no_int : (function_of code function).parameter ≢ Parameter.Int = λ e. let q : Parameter.Reference ≡ Parameter.Int = sym is_ref ∙ e in cc in
         let tops = entry_top (view_of st.elements w2 t m2) first others
         (subst (NumberStands x st.elements (λ r. in_ref w2 (RegisterOf t r)) (λ r. (w2.slots (In (RegisterOf t r))).ty) (λ n. pos 0) (slice_index_or m.ints 0 (pos 0))) (sym (may_start.number no_int)) tt) in (
           w2,
@@ -478,12 +466,12 @@ module _ (x : Targets) (code : Code) (s : Shape) (ls : Labels) (wt : IsWellTyped
         (subst (λ (l : List Frame). 0 < length l) (sym ef) frames_some)
 
     by_parameter : (p : Parameter) → (function_of code function).parameter ≡ p → after ≡ made_turn g tr.thread g.words (called (with_parameter before p argument) (function_of code function).entry 0 0 site) → Turned x code s ls g world tr
-    by_parameter parameters.None e done =
-        let ni : (function_of code function).parameter ≢ parameters.Int = λ q. let z : parameters.None ≡ parameters.Int = sym e ∙ q in cc in
-        no_reference m.ints refl (λ q. let z : parameters.None ≡ parameters.Reference = sym e ∙ q in cc) (arg_was ∙ ap (λ p. if_reference p argument) e)
+    by_parameter Parameter.None e done =
+        let ni : (function_of code function).parameter ≢ Parameter.Int = λ q. let z : Parameter.None ≡ Parameter.Int = sym e ∙ q in cc in
+        no_reference m.ints refl (λ q. let z : Parameter.None ≡ Parameter.Reference = sym e ∙ q in cc) (arg_was ∙ ap (λ p. if_reference p argument) e)
         (subst (NumberStands x st.elements (λ r. in_ref world (RegisterOf t r)) (λ r. (world.slots (In (RegisterOf t r))).ty) (λ n. pos 0) (slice_index_or m.ints 0 (pos 0))) (sym (may_start.number ni)) tt)
         (done ∙ ap (made_turn g t g.words) (first_of before refl refl))
-    by_parameter parameters.Int e done =
+    by_parameter Parameter.Int e done =
         let v = int_of argument in
         let ints = slice_set m.ints 0 v in
         let at : m.at.ints + 0 ≡ 0 = (let z = bottom.2 in omega arith) in
@@ -491,10 +479,10 @@ module _ (x : Targets) (code : Code) (s : Shape) (ls : Labels) (wt : IsWellTyped
         let n = (ls.signature function).takes_ints 0 in
         let stands = number_kept x (λ o. 0) st.elements (λ r. 0) (λ r. in_ref world (RegisterOf t r)) (λ r. nothing) (λ r. (world.slots (In (RegisterOf t r))).ty) (λ n. pos 0) v n
         (λ b field e q. absurd ((wt.plain function).bases 0 b (subst (λ y. HasBase y b) (sym q) refl))) (st.firsts.number t low_t is_one) in
-        no_reference ints (length-set m.ints 0 v) (λ q. let z : parameters.Int ≡ parameters.Reference = sym e ∙ q in cc) (arg_was ∙ ap (λ p. if_reference p argument) e)
+        no_reference ints (length-set m.ints 0 v) (λ q. let z : Parameter.Int ≡ Parameter.Reference = sym e ∙ q in cc) (arg_was ∙ ap (λ p. if_reference p argument) e)
         (subst (λ z. NumberStands x st.elements (λ r. in_ref world (RegisterOf t r)) (λ r. (world.slots (In (RegisterOf t r))).ty) (λ n. pos 0) z n) (sym (get_or-set_same m.ints 0 v (pos 0) lt)) stands)
         (done ∙ ap (made_turn g t g.words) (first_of (record before { ints = slice_set m.ints (m.at.ints + 0) v }) refl refl ∙ ap (λ k. entered_with (slice_set m.ints k v) m.refs) at))
-    by_parameter parameters.Reference e done =
+    by_parameter Parameter.Reference e done =
         let at : m.at.refs + 0 ≡ 0 = (let z = bottom.1 in omega arith) in
         with_reference e (done ∙ ap (made_turn g t g.words) (first_of (record before { refs = slice_set m.refs (m.at.refs + 0) argument }) refl refl ∙ ap (λ k. entered_with m.ints (slice_set m.refs k argument)) at))
 
@@ -519,7 +507,7 @@ module _ (x : Targets) (code : Code) (s : Shape) (ls : Labels) (wt : IsWellTyped
       by_parameter early (function_of code own).parameter refl
       (done ∙ ap (λ f. made_turn g t g.words (entered code m f site (slice_index g.words k))) (sym h) ∙ ap (λ n. made_turn g t g.words (entered code m own site (slice_index g.words (argument_word n)))) number_is)
 
-  by_stage : (y : Stage) → (g.threads tr.thread).own.stage ≡ y → StageStands code s st.elements world st.heap g.words tr.thread (g.threads tr.thread) (instrs.Start site) y → turn code s (g.threads tr.thread) ≡ start code (g.threads tr.thread) site y → Turned x code s ls g world tr
+  by_stage : (y : Stage) → (g.threads tr.thread).own.stage ≡ y → StageStands code s st.elements world st.heap g.words tr.thread (g.threads tr.thread) (Instr.Start site) y → turn code s (g.threads tr.thread) ≡ start code (g.threads tr.thread) site y → Turned x code s ls g world tr
   by_stage Rests e h d = first_turn Rests e refl d
   by_stage (Enters f) e h d = second_turn f e h d
   by_stage (Looks a b) e h d = absurd h

@@ -1,14 +1,6 @@
 -- Turns that ask the words nothing: the thread's place and one of its integers change, and what is known there.
-use Rattle.std.proofs.{Common.{◌≡◌, ℕ, ℤ, suc, ◌+◌, ◌<◌, ◌≤◌, ◌≢◌, Bool, true, false, cond, not, Result, Ok, Err, refl, sym, ap, ◌∙◌, subst, ⊎_elim, arith}, lemmas.Bool.eqb-true, lemmas.Bool.Decides.nat_tests}
-use Rattle.std.specs.Prelude.{neg_ℤ, length, nat_lt, ◌==◌}
+use Rattle.sharc_invariant.proofs.{Imports.{◌≡◌, ℕ, ℤ, suc, ◌+◌, ◌<◌, ◌≤◌, ◌≢◌, Bool, true, false, cond, not, Result, Ok, Err, refl, sym, ap, ◌∙◌, subst, ⊎_elim, arith, eqb-true, nat_tests, neg_ℤ, length, nat_lt, ◌==◌, Code, Cell, Width, Char, Int, Long, Instr, Shape, Stop, Trap as Trapped, holds, in_range, negated, truth, is_zero, Machine, Local, Asks, instr_at, int, ref, goes, goes_to, set_int, with_result, asserts, stopped, trapped, lock_checked, is_held, is_of_null, word, turn, counted, Turn, Global, put, MayTurn, one_thread, bounds, put_same, put_other, put_all, Targets, ObjectType, Element, Named, Nth, IsNamed, HasName, Fresh, Number, Anything, Within, Exactly, Indexes, OfElement, OfGlobal, empty, Closed, Label, Labels, Less, Leads, set_number, knows, IsWellTyped, Numbers, World, RegisterOf, in_ref, Silently, made_turn, State, View, view_of, NumberStands, ElementStands, TopStands, refs_at, types_at, Turned, fun_ext}, Frames.{empty_stands, filled}, Quiet.put_self, Turns.{local_turn, room_of}, Own.{is_single, runs, rests, top, fine}, Plain.{register_plain, is_shut, jump_state, stop_state, numbers_state}}
 use Rattle.sharc_tree.specs.declared.trap.Trap.{Trap}
-use Rattle.sharc_tree.specs.declared.trap.Trap.TheVariants as traps
-use Rattle.sharc_code.specs.{declared.code.Code.Code, declared.instr.Cell.Cell, declared.instr.Width.Width, declared.instr.Width.TheVariants.{Char, Int, Long}, declared.instr.Instr.Instr, declared.shape.Shape.Shape, declared.state.Stop.Stop, declared.state.Stop.TheVariants.{Trap as Trapped}, Arithmetic.{holds, in_range, negated, truth, is_zero}, Machine.{Machine, Local, Asks, instr_at, int, ref, goes, goes_to, set_int, with_result, asserts, stopped, trapped, lock_checked, is_held, is_of_null, word}, Path.{turn, counted}, Runs.{Turn, Global, put, MayTurn}, Whole.{one_thread, bounds}}
-use Rattle.sharc_code.specs.declared.instr.Instr.TheVariants as instrs
-use Rattle.sharc_code.proofs.Places.{put_same, put_other, put_all}
-use Rattle.sharc_invariant.specs.{Types.{Targets, ObjectType}, Labels.{Element, Named, Nth, IsNamed, HasName, Fresh, Number, Anything, Within, Exactly, Indexes, OfElement, OfGlobal, empty, Closed, Label, Labels, Less, Leads, set_number, knows}, Typed.{IsWellTyped, Numbers}, World.{World, RegisterOf, in_ref}, Effect.Silently, Turns.made_turn, State.{State, View, view_of, NumberStands, ElementStands, TopStands, refs_at, types_at}, Laws.Turned}
-use Rattle.sharc_invariant.proofs.{Frames.{empty_stands, filled}, Quiet.put_self, Turns.{local_turn, room_of}, Own.{is_single, runs, rests, top, fine}, Plain.{register_plain, is_shut, jump_state, stop_state, numbers_state}}
-use mathlib.Core.Path.{fun_ext}
 
 -- the gate of a label that a check leaves open
 pub knows_top : (x : Targets) (t : ℕ) (v : View) (base ints : ℕ) (names : ℕ → ℤ) (l : Label) (r : ℕ) → refs_at v base r ≢ 0 → TopStands x t v base ints names l → TopStands x t v base ints names (knows l r)
@@ -56,7 +48,7 @@ named_top x t v base ints names l from name fresh tp n k = let h = tp n k in rec
 }
 
 abbrev in_result : Bool → ℤ → Result ℤ Trap
-in_result b z = cond b (Ok z) (Err traps.OutOfRange)
+in_result b z = cond b (Ok z) (Err Trap.OutOfRange)
 
 ok_value : (z v : ℤ) → in_result true z ≡ Ok v → z ≡ v
 ok_value z v e = ap (value_in z) e
@@ -151,73 +143,73 @@ module _ (x : Targets) (code : Code) (s : Shape) (ls : Labels) (wt : IsWellTyped
   abbrev Done : Type 0
   Done = Turned x code s ls g world tr
 
-  pub Constant_keeps : (r : ℕ) (v : ℤ) → instr_at code pc ≡ instrs.Constant r v → Done
-  Constant_keeps r v is = let i = instrs.Constant r v in
+  pub Constant_keeps : (r : ℕ) (v : ℤ) → instr_at code pc ≡ Instr.Constant r v → Done
+  Constant_keeps r v is = let i = Instr.Constant r v in
       numbers x code s ls wt g world st tr may i is refl r v (Exactly v) (of_turn x code s ls wt g world st tr may i is refl _ refl) (fine x code s ls wt g world st tr.thread may.started may.next.runs i is refl) refl
 
-  pub Negate_int_keeps : (r a site : ℕ) → instr_at code pc ≡ instrs.NegateInt r a site → Done
-  Negate_int_keeps r a site is = let i = instrs.NegateInt r a site in
+  pub Negate_int_keeps : (r a site : ℕ) → instr_at code pc ≡ Instr.NegateInt r a site → Done
+  Negate_int_keeps r a site is = let i = Instr.NegateInt r a site in
       results x code s ls wt g world st tr may i is refl r site (negated Int (int mm a)) (Within Int) (of_turn x code s ls wt g world st tr may i is refl _ refl) (fine x code s ls wt g world st tr.thread may.started may.next.runs i is refl) (in_range_ok Int (neg_ℤ (int mm a)))
 
-  pub Negate_long_keeps : (r a site : ℕ) → instr_at code pc ≡ instrs.NegateLong r a site → Done
-  Negate_long_keeps r a site is = let i = instrs.NegateLong r a site in
+  pub Negate_long_keeps : (r a site : ℕ) → instr_at code pc ≡ Instr.NegateLong r a site → Done
+  Negate_long_keeps r a site is = let i = Instr.NegateLong r a site in
       results x code s ls wt g world st tr may i is refl r site (negated Long (int mm a)) (Within Long) (of_turn x code s ls wt g world st tr may i is refl _ refl) (fine x code s ls wt g world st tr.thread may.started may.next.runs i is refl) (in_range_ok Long (neg_ℤ (int mm a)))
 
-  pub Not_keeps : (r a : ℕ) → instr_at code pc ≡ instrs.Not r a → Done
-  Not_keeps r a is = let i = instrs.Not r a in
+  pub Not_keeps : (r a : ℕ) → instr_at code pc ≡ Instr.Not r a → Done
+  Not_keeps r a is = let i = Instr.Not r a in
       numbers x code s ls wt g world st tr may i is refl r (truth (is_zero (int mm a))) (Within Char) (of_turn x code s ls wt g world st tr may i is refl _ refl) (fine x code s ls wt g world st tr.thread may.started may.next.runs i is refl) (truth_char (is_zero (int mm a)))
 
-  pub Same_keeps : (r a b : ℕ) → instr_at code pc ≡ instrs.SameReference r a b → Done
-  Same_keeps r a b is = let i = instrs.SameReference r a b in
+  pub Same_keeps : (r a b : ℕ) → instr_at code pc ≡ Instr.SameReference r a b → Done
+  Same_keeps r a b is = let i = Instr.SameReference r a b in
       numbers x code s ls wt g world st tr may i is refl r (truth (ref mm a == ref mm b)) (Within Char) (of_turn x code s ls wt g world st tr may i is refl _ refl) (fine x code s ls wt g world st tr.thread may.started may.next.runs i is refl) (truth_char (ref mm a == ref mm b))
 
-  pub Jump_keeps : (to : ℕ) → instr_at code pc ≡ instrs.Jump to → Done
-  Jump_keeps to is = let i = instrs.Jump to in let f = fine x code s ls wt g world st tr.thread may.started may.next.runs i is refl in
+  pub Jump_keeps : (to : ℕ) → instr_at code pc ≡ Instr.Jump to → Done
+  Jump_keeps to is = let i = Instr.Jump to in let f = fine x code s ls wt g world st tr.thread may.started may.next.runs i is refl in
       leads x code s ls wt g world st tr may i is refl to (of_turn x code s ls wt g world st tr may i is refl _ refl) f.0 f.1
 
-  pub Jump_zero_keeps : (r to : ℕ) → instr_at code pc ≡ instrs.JumpIfZero r to → Done
-  Jump_zero_keeps r to is = let i = instrs.JumpIfZero r to in let f = fine x code s ls wt g world st tr.thread may.started may.next.runs i is refl in
+  pub Jump_zero_keeps : (r to : ℕ) → instr_at code pc ≡ Instr.JumpIfZero r to → Done
+  Jump_zero_keeps r to is = let i = Instr.JumpIfZero r to in let f = fine x code s ls wt g world st tr.thread may.started may.next.runs i is refl in
       elim (is_zero (int mm r)) as (λ b. turn code s mm ≡ Local (cond b (goes_to mm to) (goes mm)) → Done) [
         | true ↦ λ e. leads x code s ls wt g world st tr may i is refl to e f.0 f.1
         | false ↦ λ e. leads x code s ls wt g world st tr may i is refl (pc + 1) e f.0 f.2
       ] (of_turn x code s ls wt g world st tr may i is refl _ refl)
 
-  pub Positive_keeps : (r site : ℕ) → instr_at code pc ≡ instrs.ChkPositive r site → Done
-  Positive_keeps r site is = let i = instrs.ChkPositive r site in let f = fine x code s ls wt g world st tr.thread may.started may.next.runs i is refl in
-      asserted x code s ls wt g world st tr may i is refl (Rattle.sharc_code.specs.Machine.is_positive (int mm r)) traps.SizeNotPositive site (of_turn x code s ls wt g world st tr may i is refl _ refl) f.0
+  pub Positive_keeps : (r site : ℕ) → instr_at code pc ≡ Instr.ChkPositive r site → Done
+  Positive_keeps r site is = let i = Instr.ChkPositive r site in let f = fine x code s ls wt g world st tr.thread may.started may.next.runs i is refl in
+      asserted x code s ls wt g world st tr may i is refl (Rattle.sharc_code.specs.Machine.is_positive (int mm r)) Trap.SizeNotPositive site (of_turn x code s ls wt g world st tr may i is refl _ refl) f.0
       (λ _ e. leads x code s ls wt g world st tr may i is refl (pc + 1) e f.0 f.1)
 
-  pub Not_held_keeps : (c : Cell) (site : ℕ) → instr_at code pc ≡ instrs.ChkNotHeld c site → Done
-  Not_held_keeps c site is = let i = instrs.ChkNotHeld c site in let f = fine x code s ls wt g world st tr.thread may.started may.next.runs i is refl in
-      asserted x code s ls wt g world st tr may i is refl (not (is_held mm (word s mm c))) traps.MutexAlreadyHeld site (of_turn x code s ls wt g world st tr may i is refl _ refl) f.0
+  pub Not_held_keeps : (c : Cell) (site : ℕ) → instr_at code pc ≡ Instr.ChkNotHeld c site → Done
+  Not_held_keeps c site is = let i = Instr.ChkNotHeld c site in let f = fine x code s ls wt g world st tr.thread may.started may.next.runs i is refl in
+      asserted x code s ls wt g world st tr may i is refl (not (is_held mm (word s mm c))) Trap.MutexAlreadyHeld site (of_turn x code s ls wt g world st tr may i is refl _ refl) f.0
       (λ _ e. leads x code s ls wt g world st tr may i is refl (pc + 1) e f.0 f.2)
 
-  pub Room_keeps : (site : ℕ) → instr_at code pc ≡ instrs.ChkRoom site → Done
-  Room_keeps site is = let i = instrs.ChkRoom site in let f = fine x code s ls wt g world st tr.thread may.started may.next.runs i is refl in
-      asserted x code s ls wt g world st tr may i is refl (nat_lt (length mm.own.held) 16) traps.TooManyLocks site (of_turn x code s ls wt g world st tr may i is refl _ refl) f.0
+  pub Room_keeps : (site : ℕ) → instr_at code pc ≡ Instr.ChkRoom site → Done
+  Room_keeps site is = let i = Instr.ChkRoom site in let f = fine x code s ls wt g world st tr.thread may.started may.next.runs i is refl in
+      asserted x code s ls wt g world st tr may i is refl (nat_lt (length mm.own.held) 16) Trap.TooManyLocks site (of_turn x code s ls wt g world st tr may i is refl _ refl) f.0
       (λ lt e. jumps x code s ls wt g world st tr may i is refl (pc + 1) (record l { room = true }) e f.0 f.1 refl f.0 (λ _. grind (arith, nat_tests))
       (λ n k. let h = top_here x code s ls wt g world st tr may i is refl n k in record { env = h.env; same = h.same; known = h.known; numbers = h.numbers; passed = h.passed }))
 
-  pub Null_check_keeps : (r site : ℕ) → instr_at code pc ≡ instrs.ChkNull r site → Done
-  Null_check_keeps r site is = let i = instrs.ChkNull r site in let f = fine x code s ls wt g world st tr.thread may.started may.next.runs i is refl in
-      asserted x code s ls wt g world st tr may i is refl (not (ref mm r == 0)) traps.NullPointer site (of_turn x code s ls wt g world st tr may i is refl _ refl) f.0
+  pub Null_check_keeps : (r site : ℕ) → instr_at code pc ≡ Instr.ChkNull r site → Done
+  Null_check_keeps r site is = let i = Instr.ChkNull r site in let f = fine x code s ls wt g world st tr.thread may.started may.next.runs i is refl in
+      asserted x code s ls wt g world st tr may i is refl (not (ref mm r == 0)) Trap.NullPointer site (of_turn x code s ls wt g world st tr may i is refl _ refl) f.0
       (λ b e. jumps x code s ls wt g world st tr may i is refl (pc + 1) (knows l r) e f.0 f.1 refl f.0 (room_here x code s ls wt g world st tr may i is refl)
       (knows_top x tr.thread (view_of st.elements world tr.thread mm) mm.at.refs mm.at.ints (names x code s ls wt g world st tr may i is refl) l r
       (λ z. let q : ref mm r ≡ 0 = reads x code s ls wt g world st tr may i is refl r ∙ z in let k : not (ref mm r == 0) ≡ false = ap (λ n. not (n == 0)) q in cc)
       (top_here x code s ls wt g world st tr may i is refl)))
 
-  pub Width_keeps : (w : Width) (r site : ℕ) → instr_at code pc ≡ instrs.ChkWidth w r site → Done
-  Width_keeps w r site is = let i = instrs.ChkWidth w r site in let f = fine x code s ls wt g world st tr.thread may.started may.next.runs i is refl in
+  pub Width_keeps : (w : Width) (r site : ℕ) → instr_at code pc ≡ Instr.ChkWidth w r site → Done
+  Width_keeps w r site is = let i = Instr.ChkWidth w r site in let f = fine x code s ls wt g world st tr.thread may.started may.next.runs i is refl in
       let gt : l.gate ≡ Closed = ⊎_elim (λ p. p.0) (λ n. n.0) f in
-      asserted x code s ls wt g world st tr may i is refl (holds w (int mm r)) traps.OutOfRange site (of_turn x code s ls wt g world st tr may i is refl _ refl) gt
+      asserted x code s ls wt g world st tr may i is refl (holds w (int mm r)) Trap.OutOfRange site (of_turn x code s ls wt g world st tr may i is refl _ refl) gt
       (λ b e. ⊎_elim
       (λ p. leads x code s ls wt g world st tr may i is refl (pc + 1) e gt p.1)
       (λ n. jumps x code s ls wt g world st tr may i is refl (pc + 1) (set_number l r (Within w)) e gt n.2 refl refl (room_here x code s ls wt g world st tr may i is refl)
       (number_stands x tr.thread (view_of st.elements world tr.thread mm) mm.at.refs mm.at.ints (names x code s ls wt g world st tr may i is refl) l r (Within w) b (top_here x code s ls wt g world st tr may i is refl)))
       f)
 
-  pub Jump_null_keeps : (r to : ℕ) → instr_at code pc ≡ instrs.JumpIfNull r to → Done
-  Jump_null_keeps r to is = let i = instrs.JumpIfNull r to in let f = fine x code s ls wt g world st tr.thread may.started may.next.runs i is refl in
+  pub Jump_null_keeps : (r to : ℕ) → instr_at code pc ≡ Instr.JumpIfNull r to → Done
+  Jump_null_keeps r to is = let i = Instr.JumpIfNull r to in let f = fine x code s ls wt g world st tr.thread may.started may.next.runs i is refl in
       let view = view_of st.elements world tr.thread mm in
       let here_top = top_here x code s ls wt g world st tr may i is refl in
       let names' = names x code s ls wt g world st tr may i is refl in
@@ -241,8 +233,8 @@ module _ (x : Targets) (code : Code) (s : Shape) (ls : Labels) (wt : IsWellTyped
       ] refl (of_turn x code s ls wt g world st tr may i is refl _ refl)
 
   -- an integer comes from another register
-  pub Move_keeps : (r from : ℕ) → instr_at code pc ≡ instrs.Move r from → Done
-  Move_keeps r from is = let i = instrs.Move r from in let f = fine x code s ls wt g world st tr.thread may.started may.next.runs i is refl in
+  pub Move_keeps : (r from : ℕ) → instr_at code pc ≡ Instr.Move r from → Done
+  Move_keeps r from is = let i = Instr.Move r from in let f = fine x code s ls wt g world st tr.thread may.started may.next.runs i is refl in
       let view = view_of st.elements world tr.thread mm in
       let here_top = top_here x code s ls wt g world st tr may i is refl in
       let names' = names x code s ls wt g world st tr may i is refl in

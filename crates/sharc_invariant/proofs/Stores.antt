@@ -1,12 +1,5 @@
 -- A turn that stores one word: a count, a cell or a shadow word.
-use Rattle.std.proofs.{Common.{◌≡◌, ℕ, ◌+◌, ◌*◌, ◌^◌, ◌<◌, ◌≤◌, ◌≢◌, true, List, refl, sym, ap, ◌∙◌, subst, ⊎_elim, arith}, lemmas.Bool.{cases_eq, cases_order}, lemmas.List.{get_or-set_same, get_or-set_other, length-set}}
-use mathlib.Core.Path.{fun_ext}
-use Rattle.std.specs.Prelude.{length, slice_index, slice_set}
-use Rattle.sharc_heap.specs.ShadowWord.{epoch_of}
-use Rattle.sharc_code.specs.{declared.code.Code.Code, declared.shape.Shape.Shape, Layout.{granules, first_cell}, Machine.Machine, Runs.{Global, put}}
-use Rattle.sharc_code.proofs.Places.{put_other, put_all}
-use Rattle.sharc_invariant.specs.{Types.Targets, Labels.Labels, World.World, Blocks.{Live, Built, Listed, Arena, Heap, Kept, InBlock, IsListed, length_at as link_at}, Words.{shadow_at, count_at, cell_at}, State.{State, HeapStands}}
-use Rattle.sharc_invariant.proofs.{Listed.{store_ok, within_block, in_use, below_blocks}, Quiet.KeepsWords}
+use Rattle.sharc_invariant.proofs.{Imports.{◌≡◌, ℕ, ◌+◌, ◌*◌, ◌^◌, ◌<◌, ◌≤◌, ◌≢◌, true, List, refl, sym, ap, ◌∙◌, subst, ⊎_elim, arith, cases_eq, cases_order, get_or-set_same, get_or-set_other, length-set, fun_ext, length, slice_index, slice_set, epoch_of, Code, Shape, granules, first_cell, Machine, Global, put, put_other, put_all, Targets, Labels, World, Live, Built, Listed, Arena, Heap, Kept, InBlock, IsListed, link_at, shadow_at, count_at, cell_at, State, HeapStands}, Listed.{store_ok, within_block, in_use, below_blocks}, Quiet.KeepsWords}
 
 pub index_put : (ws : List ℕ) (k v : ℕ) → k < length ws → (j : ℕ) → slice_index (slice_set ws k v) j ≡ put (λ i. slice_index ws i) k v j
 index_put ws k v lt = put_all (λ j y. slice_index (slice_set ws k v) j ≡ y) (λ i. slice_index ws i) k v (get_or-set_same ws k v 0 lt) (λ j ne. get_or-set_other ws k j v 0 ne)

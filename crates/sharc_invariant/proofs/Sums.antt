@@ -1,7 +1,5 @@
 -- Sums over numbers, and how many references there are.
-use Rattle.std.proofs.{Common.{◌≡◌, ℕ, zero, suc, ◌+◌, ◌<◌, refl, sym, ap, ⊎_elim, arith}, lemmas.Bool.cases_eq}
-use Rattle.sharc_invariant.specs.Granules.{one, sum_to}
-use Rattle.sharc_lemmas.proofs.Numbers.{ne_eq, eq_refl}
+use Rattle.sharc_invariant.proofs.Imports.{◌≡◌, ℕ, zero, suc, ◌+◌, ◌<◌, refl, sym, ap, ⊎_elim, arith, cases_eq, one, sum_to, ne_eq, eq_refl}
 
 pub sum_ext : (n : ℕ) (f g : ℕ → ℕ) → ((j : ℕ) → j < n → g j ≡ f j) → sum_to n g ≡ sum_to n f
 sum_ext zero f g h = refl

@@ -1,13 +1,6 @@
 -- A cell and a register exchange what they refer to.
-use Rattle.std.proofs.{Common.{◌≡◌, ℕ, ℤ, suc, ◌+◌, ◌/◌, ◌^◌, ◌<◌, ◌≢◌, Bool, true, false, refl, sym, ap, ◌∙◌, subst, inl, ⊎_elim, arith}, lemmas.Bool.cases_eq}
-use mathlib.Core.Path.{fun_ext}
-use Rattle.std.specs.Prelude.{length, slice_index, slice_set}
-use Rattle.sharc_word.specs.declared.step.WordOp.TheVariants.{Swap}
-use Rattle.sharc_code.specs.{declared.code.Code.Code, declared.instr.Cell.Cell, declared.instr.Instr.Instr, declared.shape.Shape.Shape, Layout.Fits, Machine.{Machine, Asks, step_of, instr_at, goes, accessed, set_ref, ref, word}, Path.turn, Runs.{Turn, Global, put, MayTurn, after_turn}, Whole.{one_thread, bounds}}
-use Rattle.sharc_code.specs.declared.instr.Instr.TheVariants as instrs
-use Rattle.sharc_code.proofs.Places.{put_same, put_other}
-use Rattle.sharc_invariant.specs.{Types.{Targets, ObjectType, Field, StaticType, type_at, type_of, mode_at, field_in, is_pointer, Mentions, CellMode}, Types.CellMode.{Private, Readonly, Racy, Dynamic, Locked, Sibling, Behind}, Labels.{Entry, Empty, Refers, Unknown, Closed, Label, Labels, Leads, LessEntry, fill, empty}, Typed.{IsWellTyped, IsRef, PointsTo, Accesses as IsAccess, refs_in, ints_in}, World.{TypeRules, TypedReference, Holder, RegisterOf, In, Slot, Cell as CellOf, World, Shut, Sole, Base, By, Global as OfGlobals, Based, Right, CanBy, Inside, WorldInvariant, base_of, in_ref, place, set_win, set_slot, swap}, Words.{lang_of, conc_of, Shows, cell_at, store, set_reg}, Effect.Accesses, Turns.made_turn, Cells.IsThere, State.{State, View, view_of, TopStands, EntryStands, GateStands, refs_at, types_at, size_of_run, base_of_cell, object_of_cell, number_in}, Laws.Turned}
-use Rattle.sharc_invariant.proofs.{Effects.{place_same, place_other, place_all, set_slot_ok, set_win_ok, exchange_ok, sole_at, base_other}, Frames.{filled, fill_stands, empty_stands, type_kept, same_type, put_base}, Turns.{asks_turn, room_of}, Own.{is_single, runs, rests, top, gate, fine}, Plain.register_plain, Stores.{index_put, cell_store, stored_words, stored_within}, Seen.{cell_stored, reg_stored}, Filled.{filled_slots, inside_world, free_shut}, Cells.cell_there, CheckTurns.{sim_win, put_put}, Rights.{right, points_to}, Accesses.gate_alone, Scoped.scoped_empty, Loads.lang_laws}
+use Rattle.sharc_invariant.proofs.{Imports.{◌≡◌, ℕ, ℤ, suc, ◌+◌, ◌/◌, ◌^◌, ◌<◌, ◌≢◌, Bool, true, false, refl, sym, ap, ◌∙◌, subst, inl, ⊎_elim, arith, cases_eq, fun_ext, length, slice_index, slice_set, Swap, Code, Cell, Instr, Shape, Fits, Machine, Asks, step_of, instr_at, goes, accessed, set_ref, ref, word, turn, Turn, Global, put, MayTurn, after_turn, one_thread, bounds, put_same, put_other, Targets, ObjectType, Field, StaticType, type_at, type_of, mode_at, field_in, is_pointer, Mentions, CellMode, Private, Readonly, Racy, Dynamic, Locked, Sibling, Behind, Entry, Empty, Refers, Unknown, Closed, Label, Labels, Leads, LessEntry, fill, empty, IsWellTyped, IsRef, PointsTo, IsAccess, refs_in, ints_in, TypeRules, TypedReference, Holder, RegisterOf, In, Slot, CellOf, World, Shut, Sole, Base, By, Based, Right, CanBy, Inside, WorldInvariant, base_of, in_ref, place, set_win, set_slot, swap, lang_of, conc_of, Shows, cell_at, store, set_reg, made_turn, IsThere, State, View, view_of, TopStands, EntryStands, GateStands, refs_at, types_at, size_of_run, base_of_cell, object_of_cell, number_in, Turned}, Effects.{place_same, place_other, place_all, set_slot_ok, set_win_ok, exchange_ok, sole_at, base_other}, Frames.{filled, fill_stands, empty_stands, type_kept, same_type, put_base}, Turns.{asks_turn, room_of}, Own.{is_single, runs, rests, top, gate, fine}, Plain.register_plain, Stores.{index_put, cell_store, stored_words, stored_within}, Seen.{cell_stored, reg_stored}, Filled.{filled_slots, inside_world, free_shut}, Cells.cell_there, CheckTurns.{sim_win, put_put}, Rights.{right, points_to}, Accesses.gate_alone, Scoped.scoped_empty, Loads.lang_laws}
+use Rattle.sharc_invariant.specs.{World.{Global as OfGlobals}, Effect.Accesses}
 
 -- a right counts references, and not their types
 base_refs : (w v : World) (t : ℕ) (b : Base) → ((q : Slot) → (v.slots q).reference ≡ (w.slots q).reference) → base_of v t b ≡ base_of w t b
@@ -246,9 +239,9 @@ module _ (x : Targets) (code : Code) (s : Shape) (ls : Labels) (wt : IsWellTyped
   entry_type refs types T r ty Unknown all pointed less h nz = absurd less
   entry_type refs types T r ty (Refers a) all pointed less h nz = h nz ∙ same_type l refs all r a ty less ∙ sym (pointed (refs r))
 
-  pub Exchange_keeps : (r : ℕ) (c : Cell) (site : ℕ) → instr_at code (g.threads tr.thread).at.pc ≡ instrs.Exchange r c site → Turned x code s ls g world tr
+  pub Exchange_keeps : (r : ℕ) (c : Cell) (site : ℕ) → instr_at code (g.threads tr.thread).at.pc ≡ Instr.Exchange r c site → Turned x code s ls g world tr
   Exchange_keeps r c site is =
-      let i = instrs.Exchange r c site in
+      let i = Instr.Exchange r c site in
       let f = fine x code s ls wt g world st tr.thread may.started may.next.runs i is refl in
       let fl = f.1.0 in
       let ty = f.1.1 in
@@ -278,9 +271,9 @@ module _ (x : Targets) (code : Code) (s : Shape) (ls : Labels) (wt : IsWellTyped
       swapped x code s ls wt fits g world st tr may i is refl r c site fl ty f.0 f.1.2 f.1.3 (ref mm r) (sym (rd r)) (ap (λ i. Rattle.sharc_code.specs.Machine.act code s i mm) is) typed k' f.1.7 refl refl refl
       (subst (λ v. TopStands x t v base mm.at.ints rn.names k') same top1)
 
-  pub Take_cell_keeps : (r : ℕ) (c : Cell) (site : ℕ) → instr_at code (g.threads tr.thread).at.pc ≡ instrs.TakeCell r c site → Turned x code s ls g world tr
+  pub Take_cell_keeps : (r : ℕ) (c : Cell) (site : ℕ) → instr_at code (g.threads tr.thread).at.pc ≡ Instr.TakeCell r c site → Turned x code s ls g world tr
   Take_cell_keeps r c site is =
-      let i = instrs.TakeCell r c site in
+      let i = Instr.TakeCell r c site in
       let f = fine x code s ls wt g world st tr.thread may.started may.next.runs i is refl in
       let fl = f.1.0 in
       let ty = f.1.1 in

@@ -1,12 +1,5 @@
 -- What a test of a sole reference finds.
-use Rattle.std.proofs.Common.{◌≡◌, ℕ, zero, suc, ◌+◌, ◌≤◌, ◌≢◌, Bool, true, false, refl, sym, ap, ◌∙◌, subst, arith}
-use Rattle.std.specs.Prelude.{slice_index, ◌==◌, if◌then◌else◌}
-use Rattle.sharc_heap.specs.Count.{test_of}
-use Rattle.sharc_code.specs.{declared.code.Code.Code, declared.instr.Instr.TheVariants.TestSole, declared.shape.Shape.Shape, declared.state.Stop.Stop, declared.state.Stop.TheVariants.NotSole, Layout.count_word, Machine.{Machine, act, instr_at, goes, stopped, tested, ref}, Path.may_go, Runs.{Turn, Global, at, MayTurn, after_turn, result_of}, Whole.{one_thread, bounds}}
-use Rattle.sharc_code.proofs.Places.{put_same}
-use Rattle.sharc_invariant.specs.{Types.Targets, Labels.Labels, Typed.IsWellTyped, World.{World, RegisterOf, In, in_ref}, Words.lang_of, Opened.first_place, State.{State, size_of_run}, MachineInvariant.references_to, Reports.{TestStands, RunsTest}, Laws.RunsFromTheBeginning}
-use Rattle.sharc_invariant.proofs.{Effects.count_pos, Own.{rests, top, fine}, Plain.register_plain, Counts.count_is, Turns.asks_turn, BitTurns.found_at, Stands.count_stands}
-use Rattle.sharc_lemmas.proofs.Numbers.{eq_refl}
+use Rattle.sharc_invariant.proofs.{Imports.{◌≡◌, ℕ, zero, suc, ◌+◌, ◌≤◌, ◌≢◌, Bool, true, false, refl, sym, ap, ◌∙◌, subst, arith, slice_index, ◌==◌, if◌then◌else◌, test_of, Code, TestSole, Shape, Stop, NotSole, count_word, Machine, act, instr_at, goes, stopped, tested, ref, may_go, Turn, Global, at, MayTurn, after_turn, result_of, one_thread, bounds, put_same, Targets, Labels, IsWellTyped, World, RegisterOf, In, in_ref, lang_of, first_place, State, size_of_run, references_to, TestStands, RunsTest, RunsFromTheBeginning, eq_refl}, Effects.count_pos, Own.{rests, top, fine}, Plain.register_plain, Counts.count_is, Turns.asks_turn, BitTurns.found_at, Stands.count_stands}
 
 more_than_one : (n : ℕ) → 1 ≤ n → n ≢ 1 → 2 ≤ n
 more_than_one zero le ne = absurd (omega (arith, le))

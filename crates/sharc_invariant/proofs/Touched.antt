@@ -1,13 +1,7 @@
 -- What a turn does to shadow words and to the notes of its thread: nothing, but for checks, for the Swaps of a Clear or a Free, and for an Exit.
-use Rattle.std.proofs.Common.{◌≡◌, ℕ, ℤ, pos, negsuc, zero, suc, ◌+◌, ◌*◌, ◌<◌, ◌≤◌, Bool, true, false, nat_lt, if◌then◌else◌, refl, ap, ◌∙◌, subst, arith}
-use Rattle.sharc_tree.specs.declared.trap.Trap.TheVariants as traps
-use Rattle.sharc_word.specs.{declared.step.TheConstants.THREADS, declared.step.WordStep.WordStep, Words.word_after}
-use Rattle.sharc_word.specs.declared.step.WordOp.TheVariants as ops
-use Rattle.sharc_heap.specs.{State.{NewView, told}, Asks.word_number, declared.arguments.NewArguments.NewArguments, declared.stage.NewStage.NewStage, Stages.turn_of_stage, declared.shadow_word.Kind.Kind, declared.shadow_word.Kind.TheVariants.{Read, Write}}
-use Rattle.sharc_heap.specs.declared.stage.NewStage.TheVariants as news
-use Rattle.sharc_code.specs.{declared.code.Code.Code, declared.code.Layout.Layout, declared.instr.Cell.Cell, declared.instr.Register.Register, declared.instr.Instr.Instr, declared.instr.Instr.TheVariants.{Bounds, ChkRead, ChkWrite, Load, Store, LoadRef, Exchange, Raise, RaiseLoaded, Lower, New, TakeCell, TakeLocal, TestSole, Clear, Give, Free, Lock, Unlock, Spawn, Join, Print, Start, Exit, CondEnter, CondWait, CondSignal, CondBroadcast}, declared.shape.Shape.Shape, declared.state.Stage.Stage, declared.state.Stage.TheVariants.{Looks, Clears, Makes, Empties, Lowers, FreeLooks, FreeClears, Uncounts, Links, Names, Hands, Begins, Enters, Withdraws, WithdrawsFrom, Leaves, Wakes}, Layout.{granules, granule_at, words_of, cell_word, count_word, length_word, first_cell, first_shadow, state_word, function_word, argument_word}, Outcomes.{TurnOutcome, Notes, own_after, MayComeOut, ComesOut, check_of, is_exit}, Machine.{Machine, Own, Turn, Local, Asks, step_of, act, int, ref, place, word, raise, lower, test, new, asks_new, new_state, elements_of, clear, free, layout_at, spawn, join, start, signal, goes, set_ref, accessed, move_ref, joined, trapped}}
-use Rattle.sharc_invariant.specs.Words.{is_ended, is_withdrawing, shadow_at}
-use Rattle.sharc_invariant.proofs.Ends.{calm_then, unended}
+use Rattle.sharc_invariant.proofs.{Imports.{◌≡◌, ℕ, ℤ, pos, negsuc, zero, suc, ◌+◌, ◌*◌, ◌<◌, ◌≤◌, Bool, true, false, nat_lt, if◌then◌else◌, refl, ap, ◌∙◌, subst, arith, THREADS, WordStep, word_after, WordOp, NewView, told, word_number, NewArguments, NewStage, turn_of_stage, Kind, Read, Write, Code, Layout, Cell, Register, Instr, Bounds, ChkRead, ChkWrite, Store, LoadRef, Exchange, Raise, RaiseLoaded, Lower, New, TakeCell, TakeLocal, TestSole, Clear, Give, Free, Unlock, Spawn, Join, Print, Start, Exit, CondEnter, CondWait, CondSignal, CondBroadcast, Shape, Stage, Looks, Clears, Makes, Empties, Lowers, FreeLooks, FreeClears, Uncounts, Links, Names, Hands, Begins, Enters, Withdraws, WithdrawsFrom, Leaves, Wakes, granules, granule_at, words_of, cell_word, count_word, length_word, first_cell, first_shadow, state_word, function_word, argument_word, TurnOutcome, Notes, own_after, MayComeOut, ComesOut, check_of, is_exit, Machine, Own, StepTurn as Turn, Local, Asks, step_of, act, int, ref, word, raise, lower, test, new, asks_new, new_state, elements_of, clear, free, layout_at, spawn, join, start, signal, goes, set_ref, accessed, move_ref, joined, trapped, is_ended, is_withdrawing, shadow_at}, Ends.{calm_then, unended}}
+use Rattle.sharc_tree.specs.declared.trap.Trap.{Trap}
+use Rattle.sharc_code.specs.{declared.instr.Instr.TheVariants.{Load, Lock}, Machine.place}
 
 -- ---- words that are no shadow words
 abbrev pub IsOff : Shape → ℕ → Type 0
@@ -112,15 +106,15 @@ module _ (code : Code) (s : Shape) (m : Machine) where
   at_test (suc h) x = λ p lp e. absurd (off_count s (suc h) p lp e)
 
   at_stage_of : (r site : ℕ) (state : NewView) (a : NewArguments) (stage : NewStage) → a.first ≡ first_cell s → LeavesWords s (asks_new m r site state (turn_of_stage a stage))
-  at_stage_of r site state a news.Begins e = tt
-  at_stage_of r site state a news.Link e = λ p lp z. absurd (off_new s a (a.first + 2 * a.head + 1) e (omega arith) p lp z)
-  at_stage_of r site state a (news.Cell cell) e = λ p lp z. absurd (off_new s a (a.first + 2 * a.head + 2 + cell) e (omega arith) p lp z)
-  at_stage_of r site state a news.Top e = λ p lp e. absurd (off_low s 1 (omega arith) p lp e)
-  at_stage_of r site state a (news.Move top moved) e = λ p lp e. absurd (off_low s 1 (omega arith) p lp e)
-  at_stage_of r site state a (news.Count header) e = λ p lp z. absurd (off_new s a (a.first + 2 * header) e (omega arith) p lp z)
-  at_stage_of r site state a (news.Length header) e = λ p lp z. absurd (off_new s a (a.first + 2 * header + 1) e (omega arith) p lp z)
-  at_stage_of r site state a (news.Made header) e = tt
-  at_stage_of r site state a news.Full e = tt
+  at_stage_of r site state a NewStage.Begins e = tt
+  at_stage_of r site state a NewStage.Link e = λ p lp z. absurd (off_new s a (a.first + 2 * a.head + 1) e (omega arith) p lp z)
+  at_stage_of r site state a (NewStage.Cell cell) e = λ p lp z. absurd (off_new s a (a.first + 2 * a.head + 2 + cell) e (omega arith) p lp z)
+  at_stage_of r site state a NewStage.Top e = λ p lp e. absurd (off_low s 1 (omega arith) p lp e)
+  at_stage_of r site state a (NewStage.Move top moved) e = λ p lp e. absurd (off_low s 1 (omega arith) p lp e)
+  at_stage_of r site state a (NewStage.Count header) e = λ p lp z. absurd (off_new s a (a.first + 2 * header) e (omega arith) p lp z)
+  at_stage_of r site state a (NewStage.Length header) e = λ p lp z. absurd (off_new s a (a.first + 2 * header + 1) e (omega arith) p lp z)
+  at_stage_of r site state a (NewStage.Made header) e = tt
+  at_stage_of r site state a NewStage.Full e = tt
 
   at_new : (r elements cells site : ℕ) (stage : Stage) → IsFit s stage → LeavesWords s (new s m r elements cells site stage)
   at_new r elements cells site (Makes state) is = at_stage_of r site state state.arguments state.stage is
@@ -147,7 +141,7 @@ module _ (code : Code) (s : Shape) (m : Machine) where
   at_spawn r function from site _ is = λ p lp e. absurd (off_low s 2 (omega arith) p lp e)
 
   at_join : (z : ℤ) (site : ℕ) → LeavesWords s (join m z site)
-  at_join (pos n) site = elim (nat_lt n THREADS) as (λ b. LeavesWords s (if b then Asks (step_of (state_word n) ops.Load) (joined m site) else Local (trapped m traps.NoSuchThread site))) [
+  at_join (pos n) site = elim (nat_lt n THREADS) as (λ b. LeavesWords s (if b then Asks (step_of (state_word n) WordOp.Load) (joined m site) else Local (trapped m Trap.NoSuchThread site))) [
     | true ↦ λ p lp e v. refl
     | false ↦ tt
   ]

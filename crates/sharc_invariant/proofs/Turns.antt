@@ -1,10 +1,6 @@
 -- A turn of a checked run, as what it makes of the whole machine.
-use Rattle.std.proofs.Common.{◌≡◌, ℕ, ◌+◌, ◌<◌, ◌||◌, List, Option, Some, None, refl, ap, ◌∙◌, subst, ◌≤◌, arith}
-use Rattle.std.specs.Prelude.{length, slice_index, slice_set}
-use Rattle.sharc_word.specs.{declared.step.WordStep.WordStep, declared.step.WordEvent.WordEvent, Words.{word_after, words_after_step}, History.MayFollow}
-use Rattle.sharc_code.specs.{declared.code.Code.Code, declared.shape.Shape.Shape, Machine.{Machine, Turn as StepTurn, Local, Asks}, Path.{turn, after, counted}, Runs.{Turn, Global, put, MayTurn, after_turn, made_now, is_started, words_now, result_of, step_of, Answered}, Whole.{one_thread, bounds}}
-use Rattle.sharc_code.proofs.Places.{put_same}
-use Rattle.sharc_invariant.specs.Turns.{made_turn}
+use Rattle.sharc_invariant.proofs.Imports.{◌≡◌, ℕ, ◌+◌, ◌<◌, ◌||◌, List, Option, Some, None, refl, ap, ◌∙◌, subst, ◌≤◌, arith, length, slice_index, slice_set, WordStep, WordEvent, word_after, words_after_step, MayFollow, Code, Shape, Machine, StepTurn, Local, Asks, turn, after, counted, Turn, Global, put, MayTurn, after_turn, made_now, is_started, words_now, result_of, Answered, one_thread, bounds, put_same, made_turn}
+use Rattle.sharc_code.specs.Runs.{step_of}
 
 no_step : (o : Option WordEvent) → step_of o ≡ None → o ≡ None
 no_step None e = refl

@@ -1,16 +1,5 @@
 -- The turn of a Free that sets the count to 0: the object is dead, and its block the thread's.
-use Rattle.sharc_code.specs.declared.instr.Instr.TheVariants as instrs
-use Rattle.sharc_code.specs.{Layout.{Fits as FitsShape, top_word, granules, count_word}, declared.state.TurnState.TheVariants.{Runs as RunsOn, Tries, Stopped, Ended}, declared.state.Stage.Stage, declared.state.Stage.TheVariants.{Uncounts, Links}, Machine.{layout_at, Machine, Asks, step_of, instr_at, ref, at_stage, data_granules, largest}, Path.{may_go, turn}, declared.code.Code.Code, declared.shape.Shape.Shape, Runs.{Turn, Global, put, MayTurn, after_turn}, Whole.{one_thread, bounds}, declared.instr.Instr.Instr}
-use Rattle.sharc_invariant.specs.{Effect.{Frees as FreesOf}, World.{freed, none, ObjectState, TypedReference, RegisterOf, ArgumentOf, In, Shut, Sole, World, in_ref, put2, place, WorldInvariant, Cell as CellOf}, Types.{nothing, field_in, is_pointer, is_mutex, Targets, ObjectType, cells_of}, Blocks.{Heap, Kept, Built, Live, restated, IsListed, Unused, State as BlockState}, Words.{is_freed, set_reg, store, FitsContent, Apart, staged_of, is_ended, has_withdrawn, noted_by, note_number, register_of, conc_of, Shows, count_at, cell_at, lang_of, head_of, head_with, making_of}, State.{block_for, AreEmpty, all_pointers, label_now, Runs, StageStands, HeapStands, Locks, State, view_of, EntryStands, GateStands, refs_at, types_at, size_of_run, View, FramesStand, TopStands}, Labels.{empty, Label, Labels}, Granules.{sum_to, GranuleState, Bits, Passed}, Typed.{Fine, IsWellTyped}, Turns.{made_turn, KeepsOthers}, Laws.Turned, Objects.{changes_objects, objects_now, objects_behind, frees_object, freed_behind}}
-use Rattle.sharc_invariant.proofs.{Effects.{freed_ok, place_other}, Seen.{count_stored, reg_stored, cell_cell}, Frames.{filled, empty_stands}, Filled.{view_filled, below_filled}, Counts.count_is, Stores.{count_store, stored_within, index_put, arena}, Listed.restate_ok, Changes.{KeepsPart, KeepsLow, lower, conc_now, held_same, changed_state}, Walks.{IsWalk, walk_hold, walk_register}, Clears.{part_words, sum_more}, Emptied.all_empty, Unlogged.{unlogged, logged_entry}, Frees.{free_cells, free_fine, free_win, free_reads, free_some, free_live, free_begun, free_act}, Quiet.{heap_now, label_held, put_self}, Turns.{asks_turn, room_of}, Others.loses}
-use Rattle.sharc_code.proofs.Places.{put_same, put_other, put_all}
-use Rattle.sharc_heap.specs.{declared.shadow_word.Kind.TheVariants.{Read, Write}, declared.shadow_word.Kind.Kind, Accesses.note_of, ShadowLaws.ShadowLaws, ShadowWord.epoch_of}
-use Rattle.sharc_locks.specs.HeldLog.{object_of}
-use Rattle.std.proofs.{Common.{◌≡◌, ℕ, suc, ◌+◌, ◌*◌, ◌<◌, ◌≤◌, ◌≢◌, true, false, cond, List, refl, sym, ap, ◌∙◌, subst, ⊎_elim, arith, Bool, ◌⊎◌, ◌-◌, ◌/◌, ◌^◌, inl, inr}, lemmas.Bool.{cases_eq, cases_lt}}
-use mathlib.Core.Path.{fun_ext}
-use Rattle.std.specs.Prelude.{length, slice_index, slice_set, ◌==◌, ◌↔◌, is_some, Contains, min}
-use Rattle.sharc_word.specs.{declared.step.TheConstants.THREADS, declared.step.WordOp.TheVariants.Swap}
-use Rattle.sharc_lemmas.proofs.Numbers.{ne_eq, eq_refl}
+use Rattle.sharc_invariant.proofs.{Imports.{Fits as FitsShape, top_word, granules, count_word, RunsOn, Tries, Stopped, Ended, Stage, Uncounts, Links, layout_at, Machine, Asks, step_of, instr_at, ref, at_stage, data_granules, largest, may_go, turn, Code, Shape, Turn, Global, put, MayTurn, after_turn, one_thread, bounds, Instr, Frees as FreesOf, freed, none, ObjectState, TypedReference, RegisterOf, ArgumentOf, In, Shut, Sole, World, in_ref, put2, place, WorldInvariant, CellOf, nothing, field_in, is_pointer, is_mutex, Targets, ObjectType, cells_of, Heap, Kept, Built, Live, restated, IsListed, Unused, BlockState, is_freed, set_reg, store, FitsContent, Apart, staged_of, is_ended, has_withdrawn, noted_by, note_number, register_of, conc_of, Shows, count_at, cell_at, lang_of, head_of, head_with, making_of, block_for, AreEmpty, all_pointers, label_now, Runs, StageStands, HeapStands, Locks, State, view_of, EntryStands, GateStands, refs_at, types_at, size_of_run, View, FramesStand, TopStands, empty, Label, Labels, sum_to, GranuleState, Bits, Passed, Fine, IsWellTyped, made_turn, KeepsOthers, Turned, changes_objects, objects_now, objects_behind, frees_object, freed_behind, put_same, put_other, put_all, Read, Write, Kind, note_of, ShadowLaws, epoch_of, object_of, ◌≡◌, ℕ, suc, ◌+◌, ◌*◌, ◌<◌, ◌≤◌, ◌≢◌, true, false, cond, List, refl, sym, ap, ◌∙◌, subst, ⊎_elim, arith, Bool, ◌⊎◌, ◌-◌, ◌/◌, ◌^◌, inl, inr, cases_eq, cases_lt, fun_ext, length, slice_index, slice_set, ◌==◌, ◌↔◌, is_some, Contains, min, THREADS, Swap, ne_eq, eq_refl}, Effects.{freed_ok, place_other}, Seen.{count_stored, reg_stored, cell_cell}, Frames.{filled, empty_stands}, Filled.{view_filled, below_filled}, Counts.count_is, Stores.{count_store, stored_within, index_put, arena}, Listed.restate_ok, Changes.{KeepsPart, KeepsLow, lower, conc_now, held_same, changed_state}, Walks.{IsWalk, walk_hold, walk_register}, Clears.{part_words, sum_more}, Emptied.all_empty, Unlogged.{unlogged, logged_entry}, Frees.{free_cells, free_fine, free_win, free_reads, free_some, free_live, free_begun, free_act}, Quiet.{heap_now, label_held, put_self}, Turns.{asks_turn, room_of}, Others.loses}
 
 not_unused : (f : ℕ → BlockState) (o : ℕ) → f o ≡ Live → f o ≡ Unused → ⊥
 not_unused f o a b = let z : Live ≡ Unused = sym a ∙ b in cc
@@ -41,7 +30,7 @@ noted_low n y b none' t =
     )
 
 module _ (x : Targets) (code : Code) (s : Shape) (ls : Labels) (wt : IsWellTyped x code ls) (fits : FitsShape code s) (laws : ShadowLaws) (g : Global Machine) (world : World) (st : State x code s ls g world) (tr : Turn)
-    (may : MayTurn bounds (one_thread code s) g tr) (r layout site : ℕ) (is : instr_at code (g.threads tr.thread).at.pc ≡ instrs.Free r layout site) (all : ℕ) (at_stage_is : (g.threads tr.thread).own.stage ≡ Uncounts all) where
+    (may : MayTurn bounds (one_thread code s) g tr) (r layout site : ℕ) (is : instr_at code (g.threads tr.thread).at.pc ≡ Instr.Free r layout site) (all : ℕ) (at_stage_is : (g.threads tr.thread).own.stage ≡ Uncounts all) where
   abbrev t : ℕ
   t = tr.thread
 
@@ -66,7 +55,7 @@ module _ (x : Targets) (code : Code) (s : Shape) (ls : Labels) (wt : IsWellTyped
   walk : IsWalk (g.threads tr.thread).own.stage
   walk = subst IsWalk (sym at_stage_is) tt
 
-  f : Fine x code ls (g.threads tr.thread).at.pc here (instrs.Free r layout site)
+  f : Fine x code ls (g.threads tr.thread).at.pc here (Instr.Free r layout site)
   f = free_fine x code s ls wt laws g world st tr may r layout site is
 
   win : world.win tr.thread ≡ Sole k
@@ -87,8 +76,8 @@ module _ (x : Targets) (code : Code) (s : Shape) (ls : Labels) (wt : IsWellTyped
   abbrev rn : Runs x code s ls st.elements world st.heap g tr.thread (g.threads tr.thread)
   rn = (st.threads tr.thread).runs may.started may.next.runs
 
-  stage_now : StageStands code s st.elements world st.heap g.words tr.thread (g.threads tr.thread) (instrs.Free r layout site) (Uncounts all)
-  stage_now = subst (StageStands code s st.elements world st.heap g.words t m (instrs.Free r layout site)) at_stage_is (subst (λ i. StageStands code s st.elements world st.heap g.words t m i m.own.stage) is rn.stage)
+  stage_now : StageStands code s st.elements world st.heap g.words tr.thread (g.threads tr.thread) (Instr.Free r layout site) (Uncounts all)
+  stage_now = subst (StageStands code s st.elements world st.heap g.words t m (Instr.Free r layout site)) at_stage_is (subst (λ i. StageStands code s st.elements world st.heap g.words t m i m.own.stage) is rn.stage)
 
   tp : TopStands x tr.thread view (g.threads tr.thread).at.refs (g.threads tr.thread).at.ints rn.names here
   tp = subst (TopStands x t view base m.at.ints rn.names) (label_held here (instr_at code m.at.pc) m.own.stage (walk_hold m.own.stage walk)) rn.top

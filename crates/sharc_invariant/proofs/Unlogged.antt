@@ -1,11 +1,5 @@
 -- An object that a thread has alone is in no log of held mutexes.
-use Rattle.std.proofs.{Common.{◌≡◌, ℕ, zero, suc, ◌<◌, true, false, cond, List, [], ◌∷◌, Option, Some, refl, sym, ap, ◌∙◌, arith}, lemmas.Bool.eqb-true}
-use Rattle.std.specs.Prelude.{length, slice_index_or, Contains, ◌==◌, is_some}
-use Rattle.sharc_locks.specs.{declared.held_log.HeldMutex.HeldMutex, HeldLog.object_of}
-use Rattle.sharc_code.specs.{declared.code.Code.Code, declared.shape.Shape.Shape, Machine.{Machine, reference_of}, Runs.Global}
-use Rattle.sharc_invariant.specs.{Types.Targets, Labels.Labels, World.{RegisterOf, LogOf, In, World, Sole, in_ref}, Words.{lang_of, conc_of, cell_at}, State.{State, size_of_run}}
-use Rattle.sharc_invariant.proofs.{Effects.only_slot, Seen.cell_cell}
-use Rattle.sharc_lemmas.proofs.Numbers.{eq_refl}
+use Rattle.sharc_invariant.proofs.{Imports.{◌≡◌, ℕ, zero, suc, ◌<◌, true, false, cond, List, [], ◌∷◌, Option, Some, refl, sym, ap, ◌∙◌, arith, eqb-true, length, slice_index_or, Contains, ◌==◌, is_some, HeldMutex, object_of, Code, Shape, Machine, reference_of, Global, Targets, Labels, RegisterOf, LogOf, In, World, Sole, in_ref, lang_of, conc_of, cell_at, State, size_of_run, eq_refl}, Effects.only_slot, Seen.cell_cell}
 
 -- the entry that is found of a word that is there
 abbrev Found : List HeldMutex → HeldMutex → Option ℕ → Type 0

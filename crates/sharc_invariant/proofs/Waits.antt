@@ -1,16 +1,6 @@
 -- Turns that try again, and those of conditions that no thread waits at.
-use Rattle.std.proofs.{Common.{◌≡◌, ℕ, ℤ, pos, negsuc, ◌+◌, ◌^◌, ◌<◌, true, false, cond, ◌||◌, Some, None, refl, sym, ap, ◌∙◌, subst, ⊎_elim, arith}, lemmas.Nat.{or_lt, pow_below}}
-use mathlib.Core.Path.{fun_ext}
-use Rattle.std.specs.Prelude.{bit_or, length, slice_index, slice_set, nat_lt, ◌==◌}
-use Rattle.sharc_word.specs.{declared.step.TheConstants.THREADS, declared.step.WordOp.TheVariants.{Load, Swap, Or}}
+use Rattle.sharc_invariant.proofs.{Imports.{◌≡◌, ℕ, ℤ, pos, negsuc, ◌+◌, ◌^◌, ◌<◌, true, false, cond, ◌||◌, Some, None, refl, sym, ap, ◌∙◌, subst, ⊎_elim, arith, or_lt, pow_below, fun_ext, bit_or, length, slice_index, slice_set, nat_lt, ◌==◌, THREADS, Load, Swap, Or, Code, Cell, Instr, Shape, Stop, Trap, Fits, state_word, Machine, Local, Asks, instr_at, int, word, goes, fails, stopped, joined, join, woken, is_held, step_of, turn, Turn, Global, MayTurn, after_turn, one_thread, bounds, waits_in, put_same, Targets, Field, field_in, is_pointer, is_mutex, Waiters, Gate, Holds, LessGate, Closed, Label, Labels, Leads, gated, IsWellTyped, World, Shut, Sole, RegisterOf, in_ref, set_win, conc_of, Shows, FitsContent, cell_at, Silently, made_turn, State, View, view_of, FramesStand, GateStands, object_of_cell, number_in, Turned}, Quiet.heap_now, Turns.{asks_turn, local_turn, room_of}, Own.{is_single, runs, rests, top, gate, fine, begun_before, runs_at, closed_less}, Plain.{register_plain, is_shut, going, plain_state, jump_state, stop_state}, Stores.{index_put, cell_store, stored_words, stored_within}, Seen.integer_stored, Cells.cell_there, Held.held_gate, Accesses.{loaded_words, windowed_state, silent_window}}
 use Rattle.sharc_tree.specs.declared.trap.Trap.TheVariants as traps
-use Rattle.sharc_code.specs.{declared.code.Code.Code, declared.instr.Cell.Cell, declared.instr.Instr.Instr, declared.shape.Shape.Shape, declared.state.Stop.Stop, declared.state.Stop.TheVariants.Trap, Layout.{Fits, state_word}, Machine.{Machine, Local, Asks, instr_at, int, word, goes, fails, stopped, joined, join, woken, is_held, step_of}, Path.turn, Runs.{Turn, Global, MayTurn, after_turn}, Whole.{one_thread, bounds}}
-use Rattle.sharc_code.specs.declared.instr.Cell.TheVariants as cells
-use Rattle.sharc_code.specs.declared.instr.Instr.TheVariants as instrs
-use Rattle.sharc_locks.specs.Waiters.{waits_in}
-use Rattle.sharc_code.proofs.Places.{put_same}
-use Rattle.sharc_invariant.specs.{Types.{Targets, Field, field_in, is_pointer, is_mutex}, Types.Content.Waiters, Labels.{Gate, Holds, LessGate, Closed, Label, Labels, Leads, gated}, Typed.IsWellTyped, World.{World, Shut, Sole, RegisterOf, in_ref, set_win}, Words.{conc_of, Shows, FitsContent, cell_at}, Effect.Silently, Turns.made_turn, State.{State, View, view_of, FramesStand, GateStands, object_of_cell, number_in}, Laws.Turned}
-use Rattle.sharc_invariant.proofs.{Quiet.heap_now, Turns.{asks_turn, local_turn, room_of}, Own.{is_single, runs, rests, top, gate, fine, begun_before, runs_at, closed_less}, Plain.{register_plain, is_shut, going, plain_state, jump_state, stop_state}, Stores.{index_put, cell_store, stored_words, stored_within}, Seen.integer_stored, Cells.cell_there, Held.held_gate, Accesses.{loaded_words, windowed_state, silent_window}}
 
 module _ (x : Targets) (code : Code) (s : Shape) (ls : Labels) (wt : IsWellTyped x code ls) (fits : Fits code s) (g : Global Machine) (world : World) (st : State x code s ls g world) (tr : Turn)
     (may : MayTurn bounds (one_thread code s) g tr) where
@@ -93,15 +83,15 @@ module _ (x : Targets) (code : Code) (s : Shape) (ls : Labels) (wt : IsWellTyped
           | false ↦ λ e. stop_at (Trap traps.NoSuchThread site) (local_turn code s g tr may (stopped m (Trap traps.NoSuchThread site)) e)
         ] e
 
-  pub Join_keeps : (r site : ℕ) → instr_at code (g.threads tr.thread).at.pc ≡ instrs.Join r site → Turned x code s ls g world tr
+  pub Join_keeps : (r site : ℕ) → instr_at code (g.threads tr.thread).at.pc ≡ Instr.Join r site → Turned x code s ls g world tr
   Join_keeps r site is =
-      let i = instrs.Join r site in
+      let i = Instr.Join r site in
       let f = fine x code s ls wt g world st t may.started may.next.runs i is refl in
       join_keeps i is refl f.0 site f.1 (int m r) (ap (λ i. Rattle.sharc_code.specs.Machine.act code s i m) is)
 
-  pub Cond_wait_keeps : (c : Cell) (site : ℕ) → instr_at code (g.threads tr.thread).at.pc ≡ instrs.CondWait c site → Turned x code s ls g world tr
+  pub Cond_wait_keeps : (c : Cell) (site : ℕ) → instr_at code (g.threads tr.thread).at.pc ≡ Instr.CondWait c site → Turned x code s ls g world tr
   Cond_wait_keeps c site is =
-      let i = instrs.CondWait c site in
+      let i = Instr.CondWait c site in
       let f = fine x code s ls wt g world st t may.started may.next.runs i is refl in
       let k = word s m c in
       let found = slice_index g.words k in
@@ -111,9 +101,9 @@ module _ (x : Targets) (code : Code) (s : Shape) (ls : Labels) (wt : IsWellTyped
         | false ↦ λ e. go_on i is refl f.0 f.2 e
       ] e
 
-  pub Cond_broadcast_keeps : (c : Cell) (site : ℕ) → instr_at code (g.threads tr.thread).at.pc ≡ instrs.CondBroadcast c site → Turned x code s ls g world tr
+  pub Cond_broadcast_keeps : (c : Cell) (site : ℕ) → instr_at code (g.threads tr.thread).at.pc ≡ Instr.CondBroadcast c site → Turned x code s ls g world tr
   Cond_broadcast_keeps c site is =
-      let i = instrs.CondBroadcast c site in
+      let i = Instr.CondBroadcast c site in
       let f = fine x code s ls wt g world st t may.started may.next.runs i is refl in
       let rn = runs x code s ls wt g world st t may.started may.next.runs i is refl in
       let tp = top x code s ls wt g world st t may.started may.next.runs i is refl in
@@ -145,9 +135,9 @@ module _ (x : Targets) (code : Code) (s : Shape) (ls : Labels) (wt : IsWellTyped
       below_goes : FramesStand x code ls tr.thread view (g.threads tr.thread) here.function → FramesStand x code ls tr.thread view (goes (g.threads tr.thread)) here.function
       below_goes = elim here.function as (λ f. FramesStand x code ls tr.thread view (g.threads tr.thread) f → FramesStand x code ls tr.thread view (goes (g.threads tr.thread)) f) [ None ↦ λ h. h | Some f ↦ λ h. h ]
 
-  pub Cond_enter_keeps : (c : Cell) (site : ℕ) → instr_at code (g.threads tr.thread).at.pc ≡ instrs.CondEnter c site → Turned x code s ls g world tr
+  pub Cond_enter_keeps : (c : Cell) (site : ℕ) → instr_at code (g.threads tr.thread).at.pc ≡ Instr.CondEnter c site → Turned x code s ls g world tr
   Cond_enter_keeps c site is =
-      let i = instrs.CondEnter c site in
+      let i = Instr.CondEnter c site in
       let f = fine x code s ls wt g world st t may.started may.next.runs i is refl in
       let rn = runs x code s ls wt g world st t may.started may.next.runs i is refl in
       let tp = top x code s ls wt g world st t may.started may.next.runs i is refl in
@@ -194,7 +184,7 @@ module _ (x : Targets) (code : Code) (s : Shape) (ls : Labels) (wt : IsWellTyped
       below_goes = elim here.function as (λ f. FramesStand x code ls tr.thread view (g.threads tr.thread) f → FramesStand x code ls tr.thread view (goes (g.threads tr.thread)) f) [ None ↦ λ h. h | Some f ↦ λ h. h ]
 
       still_held : (c : Cell) → is_held (g.threads tr.thread) (word s (g.threads tr.thread) c) ≡ true → is_held (goes (g.threads tr.thread)) (word s (goes (g.threads tr.thread)) c) ≡ true
-      still_held (cells.Global a p) h = h
-      still_held (cells.GlobalAt a p) h = h
-      still_held (cells.Object a p) h = h
-      still_held (cells.ObjectAt a p) h = h
+      still_held (Cell.Global a p) h = h
+      still_held (Cell.GlobalAt a p) h = h
+      still_held (Cell.Object a p) h = h
+      still_held (Cell.ObjectAt a p) h = h

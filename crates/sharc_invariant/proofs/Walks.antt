@@ -1,14 +1,5 @@
 -- A turn in the middle of an instruction that walks over an object: the world keeps its objects and mutexes.
-use Rattle.std.proofs.Common.{◌≡◌, ℕ, suc, ◌+◌, ◌*◌, ◌<◌, ◌≤◌, ◌≢◌, Bool, true, false, cond, List, None, refl, sym, ap, ◌∙◌, subst, arith}
-use mathlib.Core.Path.{fun_ext}
-use Rattle.std.specs.Prelude.{length, slice_index, ◌↔◌, ◌==◌, is_some, Contains}
-use Rattle.sharc_word.specs.declared.step.TheConstants.{THREADS}
-use Rattle.sharc_locks.specs.{declared.held_log.HeldMutex.HeldMutex, HeldLog.object_of}
-use Rattle.sharc_heap.specs.{declared.shadow_word.Kind.TheVariants.{Read, Write}, declared.shadow_word.Kind.Kind, Accesses.note_of, ShadowWord.epoch_of}
-use Rattle.sharc_code.specs.{declared.code.Code.Code, declared.shape.Shape.Shape, declared.state.TurnState.TheVariants.{Runs as RunsOn, Tries, Stopped, Ended}, declared.state.Stage.Stage, declared.state.Stage.TheVariants.{Rests, Looks, Clears, Makes, Empties, Lowers, FreeLooks, FreeClears, Uncounts, Links, Names, Hands, Begins, Withdraws, WithdrawsFrom, Leaves}, Layout.{top_word, granules, first_cell}, Machine.{Machine, to, instr_at}, Path.may_go, Runs.{Global, put}}
-use Rattle.sharc_code.proofs.Places.{put_all}
-use Rattle.sharc_invariant.specs.{Granules.sum_to, Types.{Targets, field_in, is_mutex, cells_of}, Labels.Labels, Typed.IsWellTyped, World.{ArgumentOf, In, ObjectState, World, WorldInvariant}, Blocks.{Kept, Live}, Words.{note_number, making_of, head_of, conc_of, Shows, Apart, register_of, staged_of, noted_by, is_ended, has_withdrawn, lang_of, cell_at}, Turns.{made_turn, KeepsOthers}, State.{block_for, State, HeapStands, Locks, Runs, SpawnsNow, size_of_run}}
-use Rattle.sharc_invariant.proofs.{Others.OnHold, Quiet.{heap_now, head_same, freed_held, put_self}, Changes.{KeepsPart, KeepsLow, lower, conc_now, held_same, changed_state}}
+use Rattle.sharc_invariant.proofs.{Imports.{◌≡◌, ℕ, suc, ◌+◌, ◌*◌, ◌<◌, ◌≤◌, ◌≢◌, Bool, true, false, cond, List, None, refl, sym, ap, ◌∙◌, subst, arith, fun_ext, length, slice_index, ◌↔◌, ◌==◌, is_some, Contains, THREADS, HeldMutex, object_of, Read, Write, Kind, note_of, epoch_of, Code, Shape, RunsOn, Tries, Stopped, Ended, Stage, Rests, Looks, Clears, Makes, Empties, Lowers, FreeLooks, FreeClears, Uncounts, Links, Names, Hands, Begins, Withdraws, WithdrawsFrom, Leaves, top_word, granules, first_cell, Machine, to, instr_at, may_go, Global, put, put_all, sum_to, Targets, field_in, is_mutex, cells_of, Labels, IsWellTyped, ArgumentOf, In, ObjectState, World, WorldInvariant, Kept, Live, note_number, making_of, head_of, conc_of, Shows, Apart, register_of, staged_of, noted_by, is_ended, has_withdrawn, lang_of, cell_at, made_turn, KeepsOthers, block_for, State, HeapStands, Locks, Runs, SpawnsNow, size_of_run}, Others.OnHold, Quiet.{heap_now, head_same, freed_held, put_self}, Changes.{KeepsPart, KeepsLow, lower, conc_now, held_same, changed_state}}
 
 -- the stages of an instruction that walks over an object, but for that in which the object is dead
 abbrev pub IsWalk : Stage → Type 0

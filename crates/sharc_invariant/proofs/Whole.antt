@@ -1,10 +1,6 @@
 -- Runs stay in the invariant, and their events obey the sharing rules.
-use Rattle.std.proofs.{Common.{◌≡◌, ℕ, ◌≢◌, Bool, List, [], ◌∷◌, refl, sym, ap, ◌∙◌, subst, ⊎_elim}, lemmas.Bool.cases_eq}
-use Rattle.std.specs.Prelude.{◌++◌}
-use Rattle.sharc_code.specs.{declared.code.Code.Code, declared.shape.Shape.Shape, Machine.{Machine, instr_at}, Runs.{Turn, Global, at, after_turn, state_now}, Whole.{one_thread, bounds}}
-use Rattle.sharc_code.proofs.Places.{put_other}
-use Rattle.sharc_invariant.specs.{World.{TypeRules, World}, Words.{lang_of, has_returned}, State.size_of_run, Effect.{Effect, Silently, Accesses, Clears, Gives, Frees, Makes, Locks, Unlocks, Returns, Withdraws, NoneOf, events_of}, History.{Event, Return, Tied}, Opened.{first_world, first_place}, Laws.{Begins, Keeps, Followed, RunsStay, RunsFromTheBeginning, StateStands, RunsStand, NothingYet, NoneReturned}, MachineInvariant.MachineInvariant, Objects.{changes_objects, objects_now}}
-use Rattle.sharc_invariant.proofs.Obeyed.{effect_tied}
+use Rattle.sharc_invariant.proofs.{Imports.{◌≡◌, ℕ, ◌≢◌, Bool, List, [], ◌∷◌, refl, sym, ap, ◌∙◌, subst, ⊎_elim, cases_eq, ◌++◌, Code, Shape, Machine, instr_at, Turn, Global, at, after_turn, state_now, one_thread, bounds, put_other, TypeRules, World, lang_of, has_returned, size_of_run, Effect, Silently, ClearsOf as Clears, Gives, Frees, MakesOf as Makes, Unlocks, Returns, WithdrawsOf as Withdraws, NoneOf, events_of, Event, Return, Tied, first_world, first_place, Keeps, Followed, RunsStay, RunsFromTheBeginning, StateStands, RunsStand, NothingYet, NoneReturned, MachineInvariant, changes_objects, objects_now}, Obeyed.effect_tied}
+use Rattle.sharc_invariant.specs.{Effect.{Accesses, Locks}, Laws.Begins}
 
 joined : {A : Type 0} (a b c : List A) → a ++ (b ++ c) ≡ (a ++ b) ++ c
 joined [] b c = refl
