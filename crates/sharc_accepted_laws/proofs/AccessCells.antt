@@ -1,15 +1,5 @@
 -- The cells of an lvalue's element are there.
-use Rattle.std.proofs.{Common.{◌≡◌, ℕ, zero, suc, ◌+◌, ◌-◌, ◌*◌, ◌<◌, ◌≤◌, List, [], ◌∷◌, length, slice_index_or, refl, ap, sym, ◌∙◌, subst, arith, Some}, Math.Nat.suc-mul}
-use Rattle.std.specs.Prelude.{slice_get}
-use Rattle.sharc_tree.specs.declared.tree.item.GlobalDefinition.{GlobalDefinition}
-use Rattle.sharc_code.specs.{declared.code.Code.Code, declared.instr.Cell.Cell, Says.no_global}
-use Rattle.sharc_code.specs.declared.instr.Cell.TheVariants as cells
-use Rattle.sharc_ctype.specs.{Globals.elements_of, Resolved.{Resolution, global_at, globals_in}}
-use Rattle.sharc_mode.specs.Moded.{Assignment}
-use Rattle.sharc_flat.specs.{Machine.first_cell, Tables.{cells_in, granules_in, globals_from, globals_of}}
-use Rattle.sharc_invariant.specs.{Types.{StaticType, Field, no_field, field_at, global_field, cells_of}, Labels.{Element, OfGlobal, Label, Itself}, Typed.{IsInGlobal, HasCell, IsSibling, HasBefore}}
-use Rattle.sharc_accepted_laws.specs.{TargetLaws.{HasTables, GlobalsAre}, Targets.{global_element, targets_of}, Accesses.{HasBaseIn, IsCellNumber}}
-use Rattle.sharc_lemmas.proofs.Options.{same_some, none_some}
+use Rattle.sharc_accepted_laws.proofs.Imports.{◌≡◌, ℕ, zero, suc, ◌+◌, ◌-◌, ◌*◌, ◌<◌, ◌≤◌, List, [], ◌∷◌, length, get_or as slice_index_or, refl, ap, sym, ◌∙◌, subst, arith, Some, suc-mul, slice_get, GlobalDefinition, Code, Cell, no_global, elements_of, Resolution, global_at, globals_in, Assignment, first_cell, cells_in, granules_in, globals_from, globals_of, StaticType, Field, no_field, field_at, global_field, cells_of, Element, OfGlobal, Label, Itself, IsInGlobal, HasCell, IsSibling, HasBefore, HasTables, GlobalsAre, global_element, targets_of, HasBaseIn, IsCellNumber, same_some, none_some}
 
 -- ---- the globals of code
 record IsEntry (r : Resolution) (at : ℕ) (list : List GlobalDefinition) (g : ℕ) (d : GlobalDefinition) : Type 0 where
@@ -64,18 +54,18 @@ pub record ArePairOf (m : Assignment) (code : Code) (q : Label) (n k : ℕ) (a b
   pub second : IsCellOf m code q k b g
   pub sibling : IsSibling q n k a b
 
-pub object_cell : (m : Assignment) (code : Code) (q : Label) (r : ℕ) (s : StaticType) (n : ℕ) → HasBaseIn code q r s → n < cells_of (targets_of m) s.target → IsCellOf m code q n (cells.Object r n) (field_at (targets_of m) s.target n)
+pub object_cell : (m : Assignment) (code : Code) (q : Label) (r : ℕ) (s : StaticType) (n : ℕ) → HasBaseIn code q r s → n < cells_of (targets_of m) s.target → IsCellOf m code q n (Cell.Object r n) (field_at (targets_of m) s.target n)
 object_cell m code q r s n base inside = record { there = record { field = (base.is_ref, (s, base.refers, inside, refl)); base = base.known }; before = tt }
 
-pub element_cell : (m : Assignment) (code : Code) (q : Label) (i r : ℕ) (e : Element) (s : StaticType) (n : ℕ) → HasBaseIn code q r s → IsCellNumber q r e i n → n < cells_of (targets_of m) s.target → IsCellOf m code q n (cells.ObjectAt r i) (field_at (targets_of m) s.target n)
+pub element_cell : (m : Assignment) (code : Code) (q : Label) (i r : ℕ) (e : Element) (s : StaticType) (n : ℕ) → HasBaseIn code q r s → IsCellNumber q r e i n → n < cells_of (targets_of m) s.target → IsCellOf m code q n (Cell.ObjectAt r i) (field_at (targets_of m) s.target n)
 element_cell m code q i r e s n base index inside = record { there = record { field = (base.is_ref, (s, n, e, base.refers, index, inside, refl)); base = base.known }; before = tt }
 
 pub object_pair : (m : Assignment) (code : Code) (q : Label) (r : ℕ) (s : StaticType) (n k : ℕ) → HasBaseIn code q r s → n < cells_of (targets_of m) s.target → k < cells_of (targets_of m) s.target
-    → ArePairOf m code q n k (cells.Object r n) (cells.Object r k) (field_at (targets_of m) s.target n) (field_at (targets_of m) s.target k)
+    → ArePairOf m code q n k (Cell.Object r n) (Cell.Object r k) (field_at (targets_of m) s.target n) (field_at (targets_of m) s.target k)
 object_pair m code q r s n k base inside other = record { first = object_cell m code q r s n base inside; second = object_cell m code q r s k base other; sibling = (Itself refl, omega arith, omega arith) }
 
 pub element_pair : (m : Assignment) (code : Code) (q : Label) (i r : ℕ) (e : Element) (s : StaticType) (n k : ℕ) → HasBaseIn code q r s → IsCellNumber q r e i n → IsCellNumber q r e (i + 1) k → n < cells_of (targets_of m) s.target → k < cells_of (targets_of m) s.target
-    → ArePairOf m code q n k (cells.ObjectAt r i) (cells.ObjectAt r (i + 1)) (field_at (targets_of m) s.target n) (field_at (targets_of m) s.target k)
+    → ArePairOf m code q n k (Cell.ObjectAt r i) (Cell.ObjectAt r (i + 1)) (field_at (targets_of m) s.target n) (field_at (targets_of m) s.target k)
 element_pair m code q i r e s n k base index next inside other = record {
   first = element_cell m code q i r e s n base index inside;
   second = element_cell m code q (i + 1) r e s k base next other;
@@ -97,7 +87,7 @@ module _ (globals_are : GlobalsAre) (m : Assignment) (code : Code) (tables : Has
   before_of : (n : ℕ) → 2 * (slice_index_or code.globals.items g no_global).granule + n ≤ first_cell (globals_of m.typed) g + n
   before_of n = let here : 2 * (slice_index_or (globals_of m.typed) g no_global).granule + n ≤ first_cell (globals_of m.typed) g + n = omega arith in subst (λ l. 2 * (slice_index_or l g no_global).granule + n ≤ first_cell (globals_of m.typed) g + n) (sym tables.globals) here
 
-  pub global_cell_at : (n : ℕ) → 0 < elements_of d.form → n < length (global_element m d) → IsCellOf m code q n (cells.Global g (first_cell (globals_of m.typed) g + n)) (slice_index_or (global_element m d) n no_field)
+  pub global_cell_at : (n : ℕ) → 0 < elements_of d.form → n < length (global_element m d) → IsCellOf m code q n (Cell.Global g (first_cell (globals_of m.typed) g + n)) (slice_index_or (global_element m d) n no_field)
   global_cell_at n low inside =
       let e : 0 * length (global_element m d) + n ≡ n = omega arith in
       let at = globals_are m g d is 0 n low inside in
@@ -113,13 +103,13 @@ module _ (globals_are : GlobalsAre) (m : Assignment) (code : Code) (tables : Has
       }
 
   pub global_pair : (n k : ℕ) → 0 < elements_of d.form → n < length (global_element m d) → k < length (global_element m d)
-      → ArePairOf m code q n k (cells.Global g (first_cell (globals_of m.typed) g + n)) (cells.Global g (first_cell (globals_of m.typed) g + k)) (slice_index_or (global_element m d) n no_field) (slice_index_or (global_element m d) k no_field)
+      → ArePairOf m code q n k (Cell.Global g (first_cell (globals_of m.typed) g + n)) (Cell.Global g (first_cell (globals_of m.typed) g + k)) (slice_index_or (global_element m d) n no_field) (slice_index_or (global_element m d) k no_field)
   global_pair n k low inside other =
       let begins = first_low m g d is in
       record { first = global_cell_at n low inside; second = global_cell_at k low other; sibling = (refl, omega (arith, begins), omega arith) }
 
   pub place_cell : (i count elements : ℕ) (e : Element) (n : ℕ) → count ≡ length (global_element m d) → elements ≡ elements_of d.form → q.ints i ≡ OfGlobal (first_cell (globals_of m.typed) g + n) count elements e → n < length (global_element m d)
-      → IsCellOf m code q n (cells.GlobalAt g i) (slice_index_or (global_element m d) n no_field)
+      → IsCellOf m code q n (Cell.GlobalAt g i) (slice_index_or (global_element m d) n no_field)
   place_cell i count elements e n many all index inside = record {
     there = record { field = (first_cell (globals_of m.typed) g + n, count, elements, e, index, at); base = tt };
     before = (first_cell (globals_of m.typed) g + n, count, elements, e, index, before_of n);
@@ -134,7 +124,7 @@ module _ (globals_are : GlobalsAre) (m : Assignment) (code : Code) (tables : Has
 
   pub place_pair : (i count elements : ℕ) (e : Element) (n k : ℕ) → count ≡ length (global_element m d) → elements ≡ elements_of d.form → q.ints i ≡ OfGlobal (first_cell (globals_of m.typed) g + n) count elements e → q.ints (i + 1) ≡ OfGlobal (first_cell (globals_of m.typed) g + k) count elements e
       → n < length (global_element m d) → k < length (global_element m d)
-      → ArePairOf m code q n k (cells.GlobalAt g i) (cells.GlobalAt g (i + 1)) (slice_index_or (global_element m d) n no_field) (slice_index_or (global_element m d) k no_field)
+      → ArePairOf m code q n k (Cell.GlobalAt g i) (Cell.GlobalAt g (i + 1)) (slice_index_or (global_element m d) n no_field) (slice_index_or (global_element m d) k no_field)
   place_pair i count elements e n k many all index next inside other =
       let begins = first_low m g d is in
       let from : first_cell (globals_of m.typed) g + n - n + k ≡ first_cell (globals_of m.typed) g + k = omega arith in

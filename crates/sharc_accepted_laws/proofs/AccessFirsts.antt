@@ -1,16 +1,6 @@
 -- What pointers to mutexes and to condition variables refer to, by the rows of their types.
-use Rattle.std.proofs.Common.{◌≡◌, ◌<◌, [], ◌∷◌, refl, ap, sym, ◌∙◌, subst, arith, option_map, Option, Some, None, Contains, codes}
-use Rattle.sharc_tree.specs.{declared.ctype.Base.Base, Tree.Expression}
-use Rattle.sharc_tree.specs.declared.ctype.Base.TheVariants as base
-use Rattle.sharc_names.specs.Kinds.{object}
-use Rattle.sharc_ctype.specs.Resolved.{kind_at}
-use Rattle.sharc_mode.specs.{Notes.base_of, Rows.{Targets, row_at, modes_of}}
-use Rattle.sharc_check.specs.Constructs.{IsExpression}
-use Rattle.sharc_flat.specs.Scope.{Context}
-use Rattle.sharc_invariant.specs.{Types.{StaticType, Content, cells_of, field_at}, Types.Content.{MutexWord, Waiters}, Labels.{Empty, Refers}}
-use Rattle.sharc_typed_laws.specs.{Stretches.Setting, Typable.FirstCell}
-use Rattle.sharc_accepted_laws.specs.{StaticLaws.IsAccepted, Static.{static_of, entry_by, entry_of}, TargetFirsts.{FirstFits, FirstLaws}, TargetLaws.ExpressionsFound, Shapes.{Form, dynamic_form, Shape, form_of, shape_of, row_shape, stars_in, known_condition, known_mutex, shapes, number}, Targets.targets_of, AccessFirsts.{type_of_mutex, type_of_condition, FirstsFit}}
-use Rattle.sharc_accepted_laws.proofs.Paths.{one_sharing}
+use Rattle.sharc_accepted_laws.proofs.{Imports.{◌≡◌, ◌<◌, [], ◌∷◌, refl, ap, sym, ◌∙◌, subst, arith, option_map, Option, Some, None, Contains, codes, Base, Expression, object, kind_at, base_of, Targets, row_at, modes_of, IsExpression, Context, StaticType, Content, cells_of, field_at, Empty, Refers, Setting, FirstCell, IsAccepted, static_of, entry_by, entry_of, FirstFits, FirstLaws, ExpressionsFound, Form, dynamic_form, Shape, form_of, shape_of, row_shape, stars_in, known_condition, known_mutex, shapes, number, targets_of, type_of_mutex, type_of_condition, FirstsFit}, Paths.one_sharing}
+use Rattle.sharc_invariant.specs.Types.Content.{MutexWord, Waiters}
 
 pub no_entry : (s : StaticType) → Empty ≡ Refers s → ⊥
 no_entry s h = cc
@@ -51,11 +41,11 @@ module _ (expressions_found : ExpressionsFound) (firsts : FirstLaws) (z : Settin
 pub firsts_fit : ExpressionsFound → FirstLaws → FirstsFit
 firsts_fit expressions_found firsts z c targets a = record {
   mutex = λ e there kind s entry.
-      let one = one_target expressions_found firsts z c targets a base.Mutex e there kind s entry in
-      first_cell expressions_found firsts z c targets a s (record { base = base.Mutex; forms = one.form ∷ [] }) MutexWord one.is (firsts.mutexes c.program one.form one.has);
+      let one = one_target expressions_found firsts z c targets a Base.Mutex e there kind s entry in
+      first_cell expressions_found firsts z c targets a s (record { base = Base.Mutex; forms = one.form ∷ [] }) MutexWord one.is (firsts.mutexes c.program one.form one.has);
   condition = λ knows e there kind s entry.
-      let one = one_target expressions_found firsts z c targets a (base.Struct (codes "cond")) e there kind s entry in
-      first_cell expressions_found firsts z c targets a s (record { base = base.Struct (codes "cond"); forms = one.form ∷ [] }) Waiters one.is (firsts.waiters c.program one.form knows one.has);
+      let one = one_target expressions_found firsts z c targets a (Base.Struct (codes "cond")) e there kind s entry in
+      first_cell expressions_found firsts z c targets a s (record { base = Base.Struct (codes "cond"); forms = one.form ∷ [] }) Waiters one.is (firsts.waiters c.program one.form knows one.has);
   no_mutex = first_cell expressions_found firsts z c targets a (type_of_mutex c.program) known_mutex MutexWord refl (firsts.mutexes c.program dynamic_form (firsts.mutex c.program));
   no_condition = λ knows. first_cell expressions_found firsts z c targets a (type_of_condition c.program) known_condition Waiters refl (firsts.waiters c.program dynamic_form knows (firsts.condition c.program));
 }

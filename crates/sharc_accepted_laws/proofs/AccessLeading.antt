@@ -1,15 +1,5 @@
 -- The lock path of the type of an element leads to a mutex: it is that of the type of the pointer through which the lvalue leads.
-use Rattle.std.proofs.Common.{◌≡◌, Bool, true, false, cond, List, [], ◌∷◌, refl, subst, Option, Some, None}
-use Rattle.std.specs.List.{AllByRecursion}
-use Rattle.sharc_tree.specs.{declared.tree.expression.FieldOperator.TheVariants.{Dot, Arrow}, declared.tree.expression.UnaryOperator.TheVariants.Dereference, Measures.expressions, Tree.{Expression, parentheses, index, field, unary}}
-use Rattle.sharc_names.specs.Kinds.{is_array}
-use Rattle.sharc_ctype.specs.Resolved.{Resolution, named_at, kind_at}
-use Rattle.sharc_mode.specs.{Rows.modes_at, Sharings.{Lock, Sharing, locked}}
-use Rattle.sharc_check.specs.Constructs.{IsExpression}
-use Rattle.sharc_flat.specs.{Scope.Context, Suits.{PathNamed, IfThere}}
-use Rattle.sharc_accepted_laws.specs.{StaticLaws.IsAccepted, Leading.{LeadsToMutex, by_global, by_variable, AllLead, ExpressionsLead}, Scopes.AllStand, Standing.ExpressionStands, Lvalues.pointer_of, Accesses.{list_or, modes_of_pointer}, Joined.{LockLeads, to_global, to_variable}, Paths.{MutexesBehind, PathsLead}}
-use Rattle.sharc_accepted_laws.proofs.Members.{first_of as self}
-use Rattle.sharc_lemmas.proofs.{Options.{same_some, none_some}, Lists.front}
+use Rattle.sharc_accepted_laws.proofs.{Imports.{◌≡◌, Bool, true, false, cond, List, [], ◌∷◌, refl, subst, Option, Some, None, AllByRecursion, Dot, Arrow, Dereference, expressions, Expression, parentheses, index, field, unary, is_array, Resolution, named_at, kind_at, modes_at, Lock, Sharing, locked, IsExpression, Context, PathNamed, IfThere, IsAccepted, LeadsToMutex, by_global, by_variable, AllLead, ExpressionsLead, AllStand, ExpressionStands, pointer_of, list_or, modes_of_pointer, LockLeads, to_global, to_variable, MutexesBehind, PathsLead, same_some, none_some, front}, Members.{first_of as self}}
 
 pub no_modes : (l : Lock) (below : List Sharing) → [] ≡ locked l ∷ below → ⊥
 no_modes l below h = cc

@@ -1,18 +1,6 @@
 -- The reference in the cell of an lvalue has the type that the source gives it.
-use Rattle.std.proofs.{Common.{◌≡◌, inl, inr, ⊎_elim, ℕ, zero, suc, ◌==◌, Bool, true, false, cond, List, [], ◌∷◌, map, refl, ap, sym, ◌∙◌, subst, arith, eqb-true, option_map, Option, Some, None}, lemmas.Bool.{false≢true, ltb-true}}
-use Rattle.sharc_tree.specs.{declared.ctype.Base.Base, declared.tree.expression.FieldOperator.TheVariants.{Dot, Arrow}, declared.tree.expression.UnaryOperator.TheVariants.Dereference, Tree.{Expression, identifier, parentheses, index, field, unary}}
-use Rattle.sharc_tree.specs.declared.ctype.Base.TheVariants as base
-use Rattle.sharc_names.specs.declared.fault.Named.TheVariants as named
-use Rattle.sharc_names.specs.Kinds.{Kind, object, is_array, is_pointer}
-use Rattle.sharc_code.specs.declared.code.Code.{Code}
-use Rattle.sharc_ctype.specs.Resolved.{named_at, kind_at}
-use Rattle.sharc_mode.specs.{Cells.{is_mutex_kind, cell_at}, Moded.Assignment, Notes.base_of, Rows.{Targets, row_at, modes_of, modes_at, constant_use, is_constant_named}, Sharings.Sharing}
-use Rattle.sharc_flat.specs.{Scope.Context, Suits.{Either, is_cell}, Places.{Target, variable, in_global, in_global_at, in_object, in_object_at, has_base, target, cell_of, field_of, guard_field, spot_of}}
-use Rattle.sharc_invariant.specs.{Types.{Content, Field}, Labels.{Refers, Gate, Label, SameReference, Itself, IsCopy, HasCopy, Copies, Chained, gated}, Typed.{AreFieldLocks, PointsTo}}
-use Rattle.sharc_typed_laws.specs.Premises.{Typing, IsCopyNamed, IsCopyOf, IsPointerCopy, Ground, HasBaseAt, ReachesReference}
-use Rattle.sharc_accepted_laws.specs.{Pointing.{element_locks, pointee_locks, content_locks, BaseIs, IsBased, PlacesPoint}, Held.held_named, Scopes.ScopeLaws, Static.{register, locks_at, static_of}, Lvalues.{IsOfObject, IsOfGlobal, NamesCell, no_cell, of_object, of_global, LvaluesFit, pointer_of, below_locks, locks_below, cell_locks, PointerFits, ContentFits}, Shapes.{Form, form_of, shape_of, expression_shape, number}, Accesses.{modes_of_pointer, kind_of_pointer, list_or, modes_behind, base_type, IsCellLvalue, CellsStand, AccessesFit, GuardsFit}, Joined.{BaseStands, setting, IsTypingOf, IsGroundOf, ReferencesFit}}
-use Rattle.sharc_accepted_laws.proofs.{Joining.{IsLike, through}, Standing.{no_pointer, lvalue_cells}}
-use Rattle.sharc_lemmas.proofs.Options.{same_some, none_some}
+use Rattle.sharc_accepted_laws.proofs.{Imports.{◌≡◌, inl, inr, ⊎_elim, ℕ, zero, suc, ◌==◌, Bool, true, false, cond, List, [], ◌∷◌, map, refl, ap, sym, ◌∙◌, subst, arith, eqb-true, option_map, Option, Some, None, false≢true, ltb-true, Base, Dot, Arrow, Dereference, Expression, identifier, parentheses, index, field, unary, Named, Kind, object, is_array, is_pointer, Code, named_at, kind_at, is_mutex_kind, cell_at, Assignment, base_of, Targets, row_at, modes_of, modes_at, constant_use, is_constant_named, Sharing, Context, Either, is_cell, Target, in_global, in_global_at, in_object, in_object_at, has_base, target, cell_of, guard_field, spot_of, Content, Field, Refers, Gate, Label, SameReference, Itself, IsCopy, HasCopy, Copies, Chained, gated, AreFieldLocks, PointsTo, Typing, IsCopyNamed, IsCopyOf, IsPointerCopy, Ground, HasBaseAt, ReachesReference, element_locks, pointee_locks, content_locks, BaseIs, IsBased, PlacesPoint, held_named, ScopeLaws, register, locks_at, static_of, IsOfObject, IsOfGlobal, NamesCell, no_cell, of_object, of_global, LvaluesFit, pointer_of, below_locks, locks_below, cell_locks, PointerFits, ContentFits, Form, form_of, shape_of, expression_shape, number, modes_of_pointer, kind_of_pointer, list_or, modes_behind, base_type, IsCellLvalue, CellsStand, AccessesFit, GuardsFit, BaseStands, setting, IsTypingOf, IsGroundOf, ReferencesFit, same_some, none_some}, Joining.{IsLike, through}, Standing.{no_pointer, lvalue_cells}}
+use Rattle.sharc_flat.specs.Places.{variable, field_of}
 
 -- ---- locks in the table
 below_same : (fs : List Form) → below_locks fs ≡ element_locks fs
@@ -72,13 +60,13 @@ base_entry t ground r q n at h = ⊎_elim (λ is. first (subst (λ z. HasBaseAt 
     other k = k.0
 
 -- what is said of copies, of a constant that types may name
-copied : (y : Typing) (c : Context) (p : Expression) (copy : ℕ) → IsCopyOf y c p copy → (token x : ℕ) → constant_use c.program.typed p ≡ Some token → named_at c.program.typed token ≡ named.Variable x → y.named c (register c x) ≡ true → copy ≡ register c x
+copied : (y : Typing) (c : Context) (p : Expression) (copy : ℕ) → IsCopyOf y c p copy → (token x : ℕ) → constant_use c.program.typed p ≡ Some token → named_at c.program.typed token ≡ Named.Variable x → y.named c (register c x) ≡ true → copy ≡ register c x
 copied y c (identifier s i) copy h token x of names is = by (is_constant_named c.program.typed (named_at c.program.typed i.site.token)) of
   where
     by : (b : Bool) → cond b (Some i.site.token) None ≡ Some token → copy ≡ register c x
     by true same =
-        let there : named_at c.program.typed i.site.token ≡ named.Variable x = ap (named_at c.program.typed) (same_some i.site.token token same) ∙ names in
-        let k : IsCopyNamed y c (named.Variable x) copy = subst (λ n. IsCopyNamed y c n copy) there h in
+        let there : named_at c.program.typed i.site.token ≡ Named.Variable x = ap (named_at c.program.typed) (same_some i.site.token token same) ∙ names in
+        let k : IsCopyNamed y c (Named.Variable x) copy = subst (λ n. IsCopyNamed y c n copy) there h in
         k is
     by false same = absurd (none_some token same)
 copied y c _ copy h token x of names is = absurd (none_some token of)
@@ -137,8 +125,8 @@ pointer_content m e n modes (object b (suc stars)) holds is fits = fits
 pointer_content m e n modes _ holds is fits = absurd (false≢true is)
 
 pointer_plain : (k : Kind) → is_pointer k ≡ true → is_mutex_kind k ≡ false
-pointer_plain (object base.Mutex zero) is = absurd (no_pointer_base base.Mutex is)
-pointer_plain (object base.Mutex (suc stars)) is = no_mutex (suc stars == 0) refl
+pointer_plain (object Base.Mutex zero) is = absurd (no_pointer_base Base.Mutex is)
+pointer_plain (object Base.Mutex (suc stars)) is = no_mutex (suc stars == 0) refl
   where
     no_mutex : (z : Bool) → (suc stars == 0) ≡ z → (suc stars == 0) ≡ false
     no_mutex true same = let none = eqb-true (suc stars) 0 same in absurd (omega (arith, none))

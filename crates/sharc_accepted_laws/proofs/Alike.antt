@@ -1,21 +1,17 @@
 -- Shapes that are the same are equal.
-use Rattle.std.proofs.{Common.{◌≡◌, true, List, [], ◌∷◌, refl, ap, ◌∙◌}, lemmas.Bool.{false≢true, and_parts, and_from}, lemmas.Slice.Eq.bytes_eq-Decides}
-use Rattle.sharc_tree.specs.declared.ctype.Base.{Base}
-use Rattle.sharc_tree.specs.declared.ctype.Base.TheVariants as base
-use Rattle.sharc_names.specs.Kinds.{same_base}
-use Rattle.sharc_accepted_laws.specs.Shapes.{Form, private_form, readonly_form, locked_form, racy_form, dynamic_form, Shape, same_form, same_forms, same_shape}
+use Rattle.sharc_accepted_laws.proofs.Imports.{◌≡◌, true, List, [], ◌∷◌, refl, ap, ◌∙◌, false≢true, and_parts, and_from, bytes_eq-Decides, Base, same_base, Form, private_form, readonly_form, locked_form, racy_form, dynamic_form, Shape, same_form, same_forms, same_shape}
 
 base_itself : (b : Base) → same_base b b ≡ true
-base_itself (base.Struct name) = (bytes_eq-Decides name name).1 refl
+base_itself (Base.Struct name) = (bytes_eq-Decides name name).1 refl
 base_itself _ = refl
 
 pub base_is : (a b : Base) → same_base a b ≡ true → a ≡ b
-base_is base.Int base.Int h = refl
-base_is base.Char base.Char h = refl
-base_is base.Long base.Long h = refl
-base_is base.Mutex base.Mutex h = refl
-base_is base.Void base.Void h = refl
-base_is (base.Struct x) (base.Struct y) h = ap (λ z. base.Struct z) ((bytes_eq-Decides x y).0 h)
+base_is Base.Int Base.Int h = refl
+base_is Base.Char Base.Char h = refl
+base_is Base.Long Base.Long h = refl
+base_is Base.Mutex Base.Mutex h = refl
+base_is Base.Void Base.Void h = refl
+base_is (Base.Struct x) (Base.Struct y) h = ap (λ z. Base.Struct z) ((bytes_eq-Decides x y).0 h)
 base_is _ _ h = absurd (false≢true h)
 
 form_itself : (f : Form) → same_form f f ≡ true

@@ -1,20 +1,7 @@
 -- What no thread reaches, and that private globals are named there alone.
-use Rattle.std.proofs.{Common.{◌≡◌, ◌⊎◌, inl, inr, ⊎_elim, ℕ, zero, suc, ◌+◌, ◌<◌, ◌≤◌, Bool, true, false, cond, ◌&&◌, List, [], ◌∷◌, ◌++◌, length, slice_get, refl, ap, sym, ◌∙◌, subst, arith, Option, Some, None, IsSomeAnd, Contains}, lemmas.Bool.{false≢true, and_parts}}
-use Rattle.std.specs.{Prelude.slice_index_or, List.AllByRecursion, Option.option_or}
-use Rattle.sharc_tree.specs.{declared.ctype.Base.Base, declared.ctype.Mode.Mode, declared.ctype.Mode.TheVariants.{Private, Readonly, Locked, Racy}, declared.token.Span.Span, declared.tree.declaration.Declaration.Declaration, declared.tree.declaration.Identifier.Identifier, declared.tree.declaration.WrittenType.WrittenType, declared.tree.expression.FieldOperator.TheVariants.Dot, declared.tree.expression.UnaryOperator.TheVariants.Dereference, declared.tree.item.GlobalDefinition.GlobalDefinition, Measures.{expressions, in_function}, Tree.{Expression, Function, global}}
+use Rattle.sharc_accepted_laws.proofs.{Imports.{◌≡◌, ◌⊎◌, inl, inr, ⊎_elim, ℕ, zero, suc, ◌+◌, ◌<◌, ◌≤◌, Bool, true, false, cond, ◌&&◌, List, [], ◌∷◌, ◌++◌, length, slice_get, refl, ap, sym, ◌∙◌, subst, arith, Option, Some, None, IsSomeAnd, Contains, false≢true, and_parts, get_or as slice_index_or, AllByRecursion, option_or, Base, Mode, Private, Readonly, Locked, Racy, Span, Declaration, Identifier, WrittenType, Dot, Dereference, GlobalDefinition, expressions, in_function, Expression, Function, global, Named, Kind, is_array, declared_kind, Role, Entity, Numbered, declared, entities_in, numbered, is_told_by, positions_of, Names, Spawns, Runs, Leads, IsReached, tokens_of, Resolution, named_at, global_at, function_at, declaration_at, globals_in, functions_in, structs_in, kind_at, HasType, Callee, of_program, of_conditions, a_variable, a_global, a_function, a_field, IsItself, IsFound, EachTypeFound, EachNamesItself, EachPathFound, MeetsConstraints, NodeFinding, finding_at, is_mutex_kind, is_behind_pointer, written_cell, top_of, field_cell, declared_cell, field_named, first_mode, global_cell, named_cell, pointed, cell_at, IsFirst, Touches, IsRoot, mode_found, LinkLaws, Assignment, position_count, row_at, is_mutex, settled, settled_modes, settled_in, settled_at, Sharing, private, readonly, locked, racy, lock_of, sharing_of, RulesAreMet, ReachedAreTold, MeetsRules, in_global, in_global_at, in_object_at, global_of, own_field, named_target, target, IsInside, AreAlone, SomeAreAlone, IsAccepted, none_some, front, each, of_each}, Arrays.{IsNameOf, array_name}, Places.{InFile, FileKnown, FieldInFile, file_known, struct_fields, field_found, at_number, IfSome}, Tokens.{Named as IsAmong, names_among}, Written.{Position, position_there, found_there}, TargetLists.place_there, Found.global_low}
 use Rattle.sharc_tree.specs.Tree as tree
-use Rattle.sharc_names.specs.{declared.fault.Named.Named, Kinds.{Kind, is_array, declared_kind}}
-use Rattle.sharc_names.specs.declared.fault.Named.TheVariants as named
-use Rattle.sharc_names.specs.declared.types.Role.TheVariants as role
-use Rattle.sharc_ctype.specs.{declared.entity.Entity.Entity, declared.entity.Numbered.Numbered, Entities.{declared, entities_in, numbered, is_told_by, positions_of}, Reaches.{Names, Spawns, Runs, Leads, IsReached, tokens_of}, Resolved.{Resolution, named_at, global_at, function_at, declaration_at, globals_in, functions_in, structs_in, kind_at}}
-use Rattle.sharc_ctype_laws.specs.{Constraints.{HasType, Callee, of_program, of_conditions, a_variable, a_global, a_function, a_field}, Declared.IsItself, Found.{IsFound, EachTypeFound}, Laws.{EachNamesItself, EachPathFound, MeetsConstraints}}
-use Rattle.sharc_graph.specs.{declared.graph.NodeFinding.NodeFinding, Findings.finding_at}
-use Rattle.sharc_mode.specs.{Cells.{is_mutex_kind, is_behind_pointer, written_cell, top_of, field_cell, declared_cell, field_named, first_mode, global_cell, named_cell, pointed, cell_at}, Flows.{IsFirst, Touches, IsRoot, mode_found}, Laws.LinkLaws, Moded.{Assignment, position_count}, Rows.row_at, Settled.{is_mutex, settled, settled_modes, settled_in, settled_at}, Sharings.{Sharing, private, readonly, locked, racy, lock_of, sharing_of, is_private, is_dynamic}}
-use Rattle.sharc_check.specs.{RuleLaws.{RulesAreMet, ReachedAreTold}, Rules.MeetsRules}
-use Rattle.sharc_flat.specs.Places.{in_global, in_global_at, in_object_at, global_of, own_field, named_target, target}
-use Rattle.sharc_accepted_laws.specs.{Alone.{IsInside, AreAlone, SomeAreAlone}, StaticLaws.IsAccepted}
-use Rattle.sharc_accepted_laws.proofs.{Arrays.{IsNameOf, array_name}, Places.{InFile, FileKnown, FieldInFile, file_known, struct_fields, field_found, at_number, IfSome}, Tokens.{Named as IsAmong, names_among}, Written.{Position, position_there, found_there}, TargetLists.place_there, Found.global_low}
-use Rattle.sharc_lemmas.proofs.{Options.none_some, Lists.{front, each, of_each}}
+use Rattle.sharc_mode.specs.Sharings.{is_private, is_dynamic}
 
 -- ---- what is reached
 module _ (r : Resolution) where
@@ -79,14 +66,14 @@ written_private r q w none h = by (is_mutex_kind (declared_kind w)) (top_of w.ct
     by false _ none h = absurd (false≢true (ap is_private h))
 
 -- ---- names
-no_callee : (r : Resolution) (i : Identifier) (parameters : List Kind) (result : Kind) (g : ℕ) → Callee r i parameters result → named_at r i.site.token ≡ named.Global g → ⊥
+no_callee : (r : Resolution) (i : Identifier) (parameters : List Kind) (result : Kind) (g : ℕ) → Callee r i parameters result → named_at r i.site.token ≡ Named.Global g → ⊥
 no_callee r i _ _ g (of_program f names at text main) is = let e = sym names ∙ is in cc
 no_callee r i _ _ g (of_conditions k names text) is = let e = sym names ∙ is in cc
 
-pub number_of : (g h : ℕ) → named.Global g ≡ named.Global h → g ≡ h
+pub number_of : (g h : ℕ) → Named.Global g ≡ Named.Global h → g ≡ h
 number_of g h e = cc
 
-global_there : (r : Resolution) (s : Span) (i : Identifier) (k : Kind) (g : ℕ) → HasType r (tree.identifier s i) k → named_at r i.site.token ≡ named.Global g → (d : GlobalDefinition) × (global_at r g ≡ Some d)
+global_there : (r : Resolution) (s : Span) (i : Identifier) (k : Kind) (g : ℕ) → HasType r (tree.identifier s i) k → named_at r i.site.token ≡ Named.Global g → (d : GlobalDefinition) × (global_at r g ≡ Some d)
 global_there r s i _ g (a_variable names at text) is = absurd (let e = sym names ∙ is in cc)
 global_there r s i _ g (a_global {n = h} {g = d} names at text) is = (d, ap (global_at r) (number_of g h (sym is ∙ names)) ∙ at)
 global_there r s i _ g (a_function {parameters = ps} {result = k} callee) is = absurd (no_callee r i ps k g callee is)
@@ -106,8 +93,8 @@ module _ (told : ReachedAreTold) (links : LinkLaws) (rules : RulesAreMet) (found
     abbrev token : ℕ
     token = d.declaration.name.site.token
 
-    there : IsFound r2 (declared role.Global d.declaration)
-    there = (subst (IfSome (λ x. InFile r2 (declared role.Global x.declaration))) at (at_number (λ x. InFile r2 (declared role.Global x.declaration)) (globals_in r2.program.items) g file.globals)).0
+    there : IsFound r2 (declared Role.Global d.declaration)
+    there = (subst (IfSome (λ x. InFile r2 (declared Role.Global x.declaration))) at (at_number (λ x. InFile r2 (declared Role.Global x.declaration)) (globals_in r2.program.items) g file.globals)).0
 
     abbrev n2 : Numbered
     n2 = there.numbered
@@ -165,18 +152,18 @@ module _ (told : ReachedAreTold) (links : LinkLaws) (rules : RulesAreMet) (found
   record Member (n : Identifier) : Type 0 where
     of : Declaration
     itself : declaration_at r2 of.name.site.token ≡ Some of
-    names : named_at r2 n.site.token ≡ named.Field of.name.site.token
-    field : IsFound r2 (declared role.Field of)
+    names : named_at r2 n.site.token ≡ Named.Field of.name.site.token
+    field : IsFound r2 (declared Role.Field of)
 
   a_member : (s : Span) (e : Expression) (n : Identifier) (k : Kind) → HasType r2 (tree.field s e Dot n) k → Member n
   a_member s e n _ (a_field {x = x} {d = d} t h is) = record {
     of = d;
-    itself = (field_found (IsItself r2 named.Field) h.0.fields n.text d (struct_fields (IsItself r2 named.Field) (structs_in r2.program.items) x h.0 (themselves r2 a.resolved a.placed a.low).fields h.1) h.2).1;
+    itself = (field_found (IsItself r2 Named.Field) h.0.fields n.text d (struct_fields (IsItself r2 Named.Field) (structs_in r2.program.items) x h.0 (themselves r2 a.resolved a.placed a.low).fields h.1) h.2).1;
     names = is;
     field = (field_found (FieldInFile r2) h.0.fields n.text d (struct_fields (FieldInFile r2) (structs_in r2.program.items) x h.0 file.fields h.1) h.2).0;
   }
 
-  never_written : (d : Declaration) → IsFound r2 (declared role.Field d) → top_of d.written.ctype.levels ≡ Some Private → ⊥
+  never_written : (d : Declaration) → IsFound r2 (declared Role.Field d) → top_of d.written.ctype.levels ≡ Some Private → ⊥
   never_written d f top =
       modes_met.m6 f.numbered 0 (found_there (is_told_by d.name.site.token d.name.site.token) (numbered (entities_in r2.program.items)) f.numbered f.found) (ap (λ (e : Entity). e.role) f.itself)
       (subst (λ (e : Entity). slice_get e.written.ctype.levels 0 ≡ Some (Some Private)) (sym f.itself) (top_written d.written.ctype.levels top))
@@ -191,16 +178,16 @@ module _ (told : ReachedAreTold) (links : LinkLaws) (rules : RulesAreMet) (found
     array_target (tree.parentheses s e) g is = array_target e g is
     array_target _ g is = absurd is
 
-    named_private : (s : Span) (i : Identifier) → Known (tree.identifier s i) → (k : ℕ) → named_at r2 i.site.token ≡ named.Global k → global_cell m (global_at r2 k) ≡ private → ⊥
+    named_private : (s : Span) (i : Identifier) → Known (tree.identifier s i) → (k : ℕ) → named_at r2 i.site.token ≡ Named.Global k → global_cell m (global_at r2 k) ≡ private → ⊥
     named_private s i known k names is =
         let d = global_there r2 s i _ k known.0 names in
-        untouched k d.0 d.1 is n (reached, subst (λ o. IsSomeAnd o (λ x. Names r2 (named.Global k) (tokens_of x))) (sym at) (i.site.token, known.1, names))
+        untouched k d.0 d.1 is n (reached, subst (λ o. IsSomeAnd o (λ x. Names r2 (Named.Global k) (tokens_of x))) (sym at) (i.site.token, known.1, names))
 
     never_private : (e : Expression) → AllByRecursion Known (expressions e) → (o : Option ℕ) (g : ℕ) → IsInside (target r2 o e) g → cell_at m e ≡ private → ⊥
     never_private (tree.identifier s i) h o g inside is = by (named_at r2 i.site.token) refl inside is
       where
         by : (what : Named) → named_at r2 i.site.token ≡ what → IsInside (named_target what (own_field o 0)) g → named_cell m what ≡ private → ⊥
-        by (named.Global k) names inside is = named_private s i h.0 k names is
+        by (Named.Global k) names inside is = named_private s i h.0 k names is
         by _ names inside is = inside
     never_private (tree.parentheses s e) h o g inside is = never_private e h.1 o g inside is
     never_private (tree.index s e i) h o g inside is = by (is_array (kind_at r2 e)) refl inside is (never_private e base None)

@@ -1,19 +1,6 @@
 -- Arguments: what they are, where they go, and the registers that they take.
-use Rattle.std.proofs.{Common.{◌≡◌, ℕ, zero, suc, ◌+◌, ◌<◌, Bool, true, false, cond, List, [], ◌∷◌, ◌++◌, map, drop, slice_get, refl, ap, sym, ◌∙◌, subst, arith, Some, Contains}, lemmas.Bool.false≢true}
-use Rattle.std.specs.List.{AllByRecursion}
-use Rattle.sharc_tree.specs.{declared.tree.declaration.Declaration.Declaration, Forms.is_lvalue, Measures.{expressions, in_function}, Tree.{Expression, Arguments, no_arguments, argument, value, Function}}
-use Rattle.sharc_names.specs.declared.fault.Named.TheVariants as named
-use Rattle.sharc_names.specs.Kinds.{Kind, is_pointer, declared_kind, declared_kinds}
-use Rattle.sharc_ctype.specs.{Resolved.{Resolution, functions_in, function_at, declaration_at, variable_kind, kind_at}, Statements.locals_in_all, Transfers.{Transfer, variable, passed}}
-use Rattle.sharc_ctype_laws.specs.{Constraints.{HasType, HaveTypes, one_more, Assignable}, Declared.IsItself, Laws.EachNamesItself}
-use Rattle.sharc_mode.specs.Moded.{Assignment}
-use Rattle.sharc_check.specs.Constructs.{IsFunction, IsCall}
-use Rattle.sharc_flat.specs.{Flattened.{kind_of, is_ref, behind_int, behind_ref}, Places.width_of, Scope.{Context, slot_of, int_count, ref_count}, Suits.{IsScalar, Passes, Suits, ArgumentsSuit}}
-use Rattle.sharc_invariant.specs.{Types.StaticType, Labels.{Within, Label}}
-use Rattle.sharc_typed_laws.specs.{Stretches.Setting, Typable.{ArgumentAt, ArgumentsAt, refs_behind, Goes}}
-use Rattle.sharc_accepted_laws.specs.{Typed.IsOf, Calls.{argument_type, AreStanding, ArgumentsFit}, StaticLaws.IsAccepted, Standing.{ExpressionStands, ExpressionsStand}, Calling.type_for, Typing.{integers, width_named, typing}}
-use Rattle.sharc_accepted_laws.proofs.Forms.{pointer_no_integer, to_integer}
-use Rattle.sharc_lemmas.proofs.Lists.{front, back, each, head_there, of_each, tail_there}
+use Rattle.sharc_accepted_laws.proofs.{Imports.{◌≡◌, ℕ, zero, suc, ◌+◌, ◌<◌, Bool, true, false, cond, List, [], ◌∷◌, ◌++◌, map, drop, slice_get, refl, ap, sym, ◌∙◌, subst, arith, Some, Contains, false≢true, AllByRecursion, Declaration, is_lvalue, expressions, in_function, Expression, Arguments, no_arguments, argument, value, Function, Named, Kind, is_pointer, declared_kind, declared_kinds, Resolution, functions_in, function_at, declaration_at, variable_kind, kind_at, locals_in_all, Transfer, variable, passed, HasType, HaveTypes, one_more, Assignable, IsItself, EachNamesItself, Assignment, IsFunction, IsCall, kind_of, is_ref, behind_int, behind_ref, width_of, Context, slot_of, int_count, ref_count, IsScalar, Suits, ArgumentsSuit, StaticType, Within, Label, Setting, ArgumentAt, ArgumentsAt, refs_behind, Goes, IsOf, argument_type, AreStanding, ArgumentsFit, IsAccepted, ExpressionStands, ExpressionsStand, type_for, integers, width_named, typing, front, back, each, head_there, of_each, tail_there}, Forms.{pointer_no_integer, to_integer}}
+use Rattle.sharc_flat.specs.Suits.{Passes}
 
 -- ---- parts of an expression
 module _ (c : Context) (n : ℕ) (g : Function) where
@@ -50,9 +37,9 @@ suit_all c n g _ no_arguments s = tt
 pub parameters_declared : EachNamesItself → (m : Assignment) → IsAccepted m → (f : Function) → IsFunction m f → AllByRecursion (λ d. declaration_at m.typed d.name.site.token ≡ Some d) f.parameters
 parameters_declared themselves m a f there =
     let r = m.typed in
-    each (IsItself r named.Variable) (λ d. declaration_at r d.name.site.token ≡ Some d) (λ d h. h.1) f.parameters
-    (front (IsItself r named.Variable) f.parameters (locals_in_all f.statements)
-    (of_each (λ f. AllByRecursion (IsItself r named.Variable) (f.parameters ++ locals_in_all f.statements)) (functions_in r.program.items) f (themselves r a.resolved a.placed a.low).variables there))
+    each (IsItself r Named.Variable) (λ d. declaration_at r d.name.site.token ≡ Some d) (λ d h. h.1) f.parameters
+    (front (IsItself r Named.Variable) f.parameters (locals_in_all f.statements)
+    (of_each (λ f. AllByRecursion (IsItself r Named.Variable) (f.parameters ++ locals_in_all f.statements)) (functions_in r.program.items) f (themselves r a.resolved a.placed a.low).variables there))
 
 module _ (z : Setting) (n : ℕ) (c : Context) where
   abbrev r : Resolution

@@ -1,18 +1,10 @@
 -- Arrays are globals that are named.
-use Rattle.std.proofs.{Common.{◌≡◌, ℕ, Bool, true, false, cond, refl, ap, sym, ◌∙◌, Option, Some, None}, lemmas.Bool.false≢true}
-use Rattle.std.specs.List.{AllByRecursion}
-use Rattle.sharc_tree.specs.{declared.token.NumberType.NumberType, declared.token.Span.Span, declared.tree.declaration.Declaration.Declaration, declared.tree.declaration.Identifier.Identifier, declared.tree.expression.FieldOperator.FieldOperator, declared.tree.expression.UnaryOperator.TheVariants.{Negate, Complement, Dereference}, Measures.expressions, Tree.{Expression, Function}}
-use Rattle.sharc_tree.specs.declared.token.NumberType.TheVariants as width
-use Rattle.sharc_tree.specs.declared.tree.expression.Constant.TheVariants as constants
+use Rattle.sharc_accepted_laws.proofs.Imports.{◌≡◌, ℕ, Bool, true, false, cond, refl, ap, sym, ◌∙◌, Option, Some, None, false≢true, AllByRecursion, NumberType, Span, Declaration, Identifier, FieldOperator, Negate, Complement, Dereference, expressions, Expression, Function, Constant, Named, Kind, array, is_array, is_long, long, int, element_kind, OperatorClass, Shift, Arithmetic, number_kind, class_of, binary_result, Resolution, named_at, declaration_at, variable_kind, result_kind_of, named_kind, called_kind, function_at, kind_at, HasType, a_field, a_field_behind}
 use Rattle.sharc_tree.specs.Tree as tree
-use Rattle.sharc_names.specs.{declared.fault.Named.Named, Kinds.{Kind, array, is_array, is_long, long, int, element_kind}}
-use Rattle.sharc_names.specs.declared.fault.Named.TheVariants as named
-use Rattle.sharc_ctype.specs.{declared.expr.OperatorClass.OperatorClass, declared.expr.OperatorClass.TheVariants.{Shift, Arithmetic}, Expressions.{number_kind, class_of, binary_result}, Resolved.{Resolution, named_at, declaration_at, variable_kind, result_kind_of, named_kind, called_kind, function_at, kind_at}}
-use Rattle.sharc_ctype_laws.specs.Constraints.{HasType, a_field, a_field_behind}
 
 -- the name of a global, in parentheses or not
 abbrev pub IsNameOf : Resolution → Expression → ℕ → Type 0
-IsNameOf r (tree.identifier s i) g = named_at r i.site.token ≡ named.Global g
+IsNameOf r (tree.identifier s i) g = named_at r i.site.token ≡ Named.Global g
 IsNameOf r (tree.parentheses s a) g = IsNameOf r a g
 IsNameOf r _ g = ⊥
 
@@ -34,7 +26,7 @@ module _ (r : Resolution) where
   no_result (Some f) h = false≢true h
 
   no_called : (n : Named) → is_array (called_kind r n) ≡ true → ⊥
-  no_called (named.Function n) h = no_result (function_at r n) h
+  no_called (Named.Function n) h = no_result (function_at r n) h
   no_called _ h = false≢true h
 
   no_binary : (o : OperatorClass) (j k : Kind) → is_array (binary_result o j k) ≡ true → ⊥
@@ -43,16 +35,16 @@ module _ (r : Resolution) where
   no_binary _ j k h = false≢true h
 
   no_number : (t : NumberType) → is_array (number_kind t) ≡ true → ⊥
-  no_number width.Int h = false≢true h
-  no_number width.Long h = false≢true h
+  no_number NumberType.Int h = false≢true h
+  no_number NumberType.Long h = false≢true h
 
-  name_array : (n : Named) → is_array (named_kind r n) ≡ true → (g : ℕ) × (n ≡ named.Global g)
-  name_array (named.Global g) h = (g, refl)
-  name_array (named.Variable t) h = absurd (no_variable (declaration_at r t) h)
-  name_array (named.Field t) h = absurd (no_variable (declaration_at r t) h)
+  name_array : (n : Named) → is_array (named_kind r n) ≡ true → (g : ℕ) × (n ≡ Named.Global g)
+  name_array (Named.Global g) h = (g, refl)
+  name_array (Named.Variable t) h = absurd (no_variable (declaration_at r t) h)
+  name_array (Named.Field t) h = absurd (no_variable (declaration_at r t) h)
   name_array _ h = absurd (false≢true h)
 
-  field_name : (s : Span) (e : Expression) (v : FieldOperator) (n : Identifier) (k : Kind) → HasType r (tree.field s e v n) k → (t : ℕ) × (named_at r n.site.token ≡ named.Field t)
+  field_name : (s : Span) (e : Expression) (v : FieldOperator) (n : Identifier) (k : Kind) → HasType r (tree.field s e v n) k → (t : ℕ) × (named_at r n.site.token ≡ Named.Field t)
   field_name s e _ n _ (a_field {d = d} t h is) = (d.name.site.token, is)
   field_name s e _ n _ (a_field_behind {d = d} t h is) = (d.name.site.token, is)
 
@@ -62,7 +54,7 @@ module _ (r : Resolution) where
   array_name (tree.field s e v n) h is =
       let x = field_name s e v n _ h.0 in
       absurd (no_variable (declaration_at r x.0) (ap (λ z. is_array (named_kind r z)) (sym x.1) ∙ is))
-  array_name (tree.constant s (constants.Number n)) h is = absurd (no_number n.number_type is)
+  array_name (tree.constant s (Constant.Number n)) h is = absurd (no_number n.number_type is)
   array_name (tree.call s f all) h is = absurd (no_called (named_at r f.site.token) is)
   array_name (tree.index s e n) h is = absurd (no_element (kind_at r e) is)
   array_name (tree.unary s Negate e) h is = absurd (no_long (is_long (kind_at r e)) is)

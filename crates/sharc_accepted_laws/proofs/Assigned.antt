@@ -1,21 +1,8 @@
 -- Assignments, and calls whose value is dropped.
-use Rattle.std.proofs.{Common.{◌≡◌, ℕ, ◌<◌, Bool, true, false, cond, List, length, refl, ap, sym, ◌∙◌, subst, option_map, Option, Some, None, Contains}, lemmas.Bool.false≢true}
-use Rattle.std.specs.List.{AllByRecursion, flat_map}
-use Rattle.sharc_tree.specs.{declared.token.Span.Span, declared.tree.declaration.WrittenType.WrittenType, Forms.{is_lvalue, without_parentheses}, Low.{is_call, LowSimple}, Measures.{expressions, in_option, in_right, in_simple, in_function}, Tree.{Expression, Right, value, malloc, Simple, assign, does_call, Function}}
+use Rattle.sharc_accepted_laws.proofs.{Imports.{◌≡◌, ℕ, ◌<◌, Bool, true, false, cond, List, length, refl, ap, sym, ◌∙◌, subst, option_map, Option, Some, None, Contains, false≢true, AllByRecursion, flat_map, Span, WrittenType, is_lvalue, without_parentheses, is_call, LowSimple, expressions, in_option, in_right, in_simple, in_function, Expression, Right, value, malloc, Simple, assign, does_call, Function, Kind, is_integer, is_pointer, same_kind, declared_kind, Register, Int, Reference, Resolution, functions_in, made, Receiver, lvalue as to_lvalue, Transfer, Agrees, function_transfers, IsHeld, MeetsSimple, element_cells, is_pointer_in, made_at, types_made, is_reference, cell_at, pointed, Assignment, base_of, Targets as ModeTargets, row_at, modes_of, modes_at, Sharing, IsExpression, IsAssigned, kind_of, is_ref, target_of, Target, width_of, Context, slot_kind, register_of, number_in, PlaceSuits, LeftSuits, RightSuits, SimpleSuits, CountSuits, IfThere, is_cell, StaticType, cells_of, Refers, PointersMadeAt, Setting, GoesTo, type_by, IsTypeIn, IsTypable, VariableTyped, IsMade, CountTypable, ValueGoes, RightTypable, VariableAssigned, CellAssigned, Assigned, Dropped, SimpleTypable, HeldLaws, held_at, GivenLaws, ScopeLaws, AllStand, ExpressionStands, ExpressionsStand, static_of, entry_by, entry_of, IsRowOf, NumbersFound, ExpressionsFound, pointee, PointeesFit, PointeesPoint, row_shape, targets_of, IsAt, ValueLaws, typing, IsPlaceIn, IsThere, AreExpressionsTypable, front, back, each, eq_refl}, Mallocs.one_made, Members.{filter_there, first_of, flat_there}, Sorts.{reference_no_integer, integer_want, held_pointer, held_integer, no_function_held, made_pointer, made_element, element_some}, Wholes.{Facts, IsName, variable_named}, TargetLists.place_there, AccessFirsts.no_entry, Forms.{integer_no_reference as integer_is}}
 use Rattle.sharc_tree.specs.Tree as tree
-use Rattle.sharc_names.specs.Kinds.{Kind, is_integer, is_pointer, same_kind, declared_kind}
-use Rattle.sharc_code.specs.{declared.instr.Register.Register, declared.instr.Register.TheVariants.{Int, Reference}}
-use Rattle.sharc_ctype.specs.{Resolved.{Resolution, functions_in}, Statements.made, Transfers.{Receiver, lvalue as to_lvalue, Transfer, Agrees, function_transfers}}
-use Rattle.sharc_ctype_laws.specs.Rules.{IsHeld, MeetsSimple}
-use Rattle.sharc_meaning.specs.{Cells.element_cells, References.{is_pointer_in, made_at, types_made}, State.is_reference}
-use Rattle.sharc_mode.specs.{Cells.{cell_at, pointed}, Moded.Assignment, Notes.base_of, Rows.{Targets as ModeTargets, row_at, modes_of, modes_at}, Sharings.Sharing}
-use Rattle.sharc_check.specs.Constructs.{IsExpression, IsAssigned}
-use Rattle.sharc_flat.specs.{Flattened.{kind_of, is_ref, target_of}, Places.{Target, variable, width_of}, Scope.{Context, slot_kind, register_of, number_in}, Suits.{PlaceSuits, LeftSuits, RightSuits, SimpleSuits, CountSuits, IfThere, is_cell}}
-use Rattle.sharc_invariant.specs.{Types.{Targets, StaticType, cells_of}, Labels.Refers}
-use Rattle.sharc_typed_laws.specs.{Lines.PointersMadeAt, Stretches.Setting, Typable.{GoesTo, type_by, IsTypeIn, IsTypable, VariableTyped}, Stated.{IsMade, CountTypable, ValueGoes, RightTypable, VariableAssigned, CellAssigned, Assigned, Dropped, SimpleTypable}}
-use Rattle.sharc_accepted_laws.specs.{Held.{HeldLaws, held_at}, StaticLaws.GivenLaws, Scopes.{ScopeLaws, AllStand}, Standing.{ExpressionStands, ExpressionsStand}, Static.{static_of, entry_by, entry_of}, TargetLaws.{IsRowOf, NumbersFound, ExpressionsFound}, Pointees.{pointee, PointeesFit}, Pointers.PointeesPoint, Shapes.row_shape, Targets.targets_of, TypableLaws.{IsAt, ValueLaws}, Typing.typing, Statements.{IsPlaceIn, IsThere, AreExpressionsTypable}}
-use Rattle.sharc_accepted_laws.proofs.{Mallocs.one_made, Members.{filter_there, first_of, flat_there}, Sorts.{reference_no_integer, integer_want, held_pointer, held_integer, no_function_held, made_pointer, made_element, element_some}, Wholes.{Facts, IsName, variable_named}, TargetLists.place_there, AccessFirsts.no_entry, Forms.integer_no_reference as integer_is}
-use Rattle.sharc_lemmas.proofs.{Lists.{front, back, each}, Numbers.eq_refl}
+use Rattle.sharc_flat.specs.Places.{variable}
+use Rattle.sharc_invariant.specs.Types.{Targets}
 
 -- a call is no lvalue
 call_is : (e : Expression) → is_call e ≡ true → is_lvalue e ≡ false

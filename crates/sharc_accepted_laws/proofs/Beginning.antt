@@ -1,20 +1,6 @@
 -- What the cells of globals hold at first is a value of their content.
-use Rattle.std.proofs.{Common.{◌≡◌, inl, inr, ℕ, zero, suc, ℤ, pos, negsuc, ◌-◌, ◌*◌, ◌^◌, ◌<◌, ◌≤◌, Bool, true, false, cond, List, [], ◌∷◌, ◌++◌, length, take, replicate, slice_index_or, refl, ap, sym, ◌∙◌, subst, arith, Some, to_z-of_z}, lemmas.Bool.{lt-ltb, false≢true}}
-use Rattle.std.specs.{Int.w64, List.AllByRecursion, Prelude.{FitsSigned, neg_ℤ, slice_index}}
-use Rattle.sharc_tree.specs.{declared.ctype.Base.Base, declared.tree.expression.Constant.Constant, declared.tree.expression.Constant.TheVariants.{Number, Character, Null}, declared.tree.item.GlobalDefinition.GlobalDefinition, declared.tree.item.GlobalForm.GlobalForm}
-use Rattle.sharc_tree.specs.declared.ctype.Base.TheVariants as base
-use Rattle.sharc_tree.specs.declared.tree.item.GlobalForm.TheVariants as form
-use Rattle.sharc_names.specs.Kinds.{object, is_pointer, is_integral, declared_kind}
-use Rattle.sharc_code.specs.{declared.instr.Width.TheVariants.{Char, Int, Long}, Arithmetic.{word_of, holds}}
-use Rattle.sharc_ctype.specs.{Globals.elements_of, Resolved.{Resolution, globals_in}}
-use Rattle.sharc_ctype_laws.specs.{Constraints.IsInteger, Initials.{IsHeldBy, MeetsInitial, MeetsGlobal, number_of}, Laws.MeetsGlobals}
-use Rattle.sharc_meaning.specs.{Reference.constant_value, Store.form_value}
-use Rattle.sharc_mode.specs.Moded.{Assignment}
-use Rattle.sharc_flat.specs.{Places.base_as_width, Tables.{cells_in, granules_in, first_words, all_first_words}}
-use Rattle.sharc_invariant.specs.{Types.{FieldMode, Content, Integer, Pointer, Field, no_field}, Typed.Initial}
-use Rattle.sharc_accepted_laws.specs.{TargetLaws.{IsCounted, CountedForm, GlobalsBegin}, Targets.{declared_content, base_fields, top_mode, global_element, repeated, global_fields, all_global_fields}}
-use Rattle.sharc_accepted_laws.proofs.Laying.{global_count}
-use Rattle.sharc_lemmas.proofs.Options.{same_some, none_some}
+use Rattle.sharc_accepted_laws.proofs.{Imports.{◌≡◌, inl, inr, ℕ, zero, suc, ℤ, pos, negsuc, ◌-◌, ◌*◌, ◌^◌, ◌<◌, ◌≤◌, Bool, true, false, cond, List, [], ◌∷◌, ◌++◌, length, take, replicate, get_or as slice_index_or, refl, ap, sym, ◌∙◌, subst, arith, Some, to_z-of_z, lt-ltb, false≢true, w64, AllByRecursion, FitsSigned, neg_ℤ, slice_index, Base, Constant, Number, Character, Null, GlobalDefinition, GlobalForm, object, is_pointer, is_integral, declared_kind, Char, Long, word_of, holds, elements_of, Resolution, globals_in, IsInteger, IsHeldBy, MeetsInitial, MeetsGlobal, number_of, MeetsGlobals, constant_value, form_value, Assignment, base_as_width, cells_in, granules_in, first_words, all_first_words, FieldMode, Content, Integer, Pointer, Field, no_field, Initial, IsCounted, CountedForm, GlobalsBegin, declared_content, base_fields, top_mode, global_element, repeated, global_fields, all_global_fields, same_some, none_some}, Laying.global_count}
+use Rattle.sharc_code.specs.declared.instr.Width.TheVariants.{Int}
 
 abbrev Starts : List Field → List ℕ → Type 0
 Starts fields words = (j : ℕ) → Initial (slice_index_or fields j no_field).holds (slice_index words j)
@@ -59,15 +45,15 @@ held_neg : (b : Base) (n : ℕ) → is_integral b ≡ true → n < 2 ^ 63 → ho
 held_neg b n is low held = record { held = held; fits = record { sfits = low } }
 
 is_held : (b : Base) (minus : Bool) (n : ℕ) → is_integral b ≡ true → IsHeldBy b minus n → IsHeld b (cond minus (neg_ℤ (pos n)) (pos n))
-is_held base.Int false n is h = held_pos base.Int n is (omega (arith, h)) (lt-ltb n (2 ^ 31) h)
-is_held base.Char false n is h = held_pos base.Char n is (omega (arith, h)) (lt-ltb n (2 ^ 7) h)
-is_held base.Long false n is h = held_pos base.Long n is (omega (arith, h)) (lt-ltb n (2 ^ 63) h)
-is_held base.Int true (suc n) is h = held_neg base.Int n is (omega (arith, h)) (lt-ltb n (2 ^ 31) (omega (arith, h)))
-is_held base.Char true (suc n) is h = held_neg base.Char n is (omega (arith, h)) (lt-ltb n (2 ^ 7) (omega (arith, h)))
-is_held base.Long true (suc n) is h = held_neg base.Long n is (omega (arith, h)) (lt-ltb n (2 ^ 63) (omega (arith, h)))
-is_held base.Mutex minus n is h = absurd (false≢true is)
-is_held base.Void minus n is h = absurd (false≢true is)
-is_held (base.Struct name) minus n is h = absurd (false≢true is)
+is_held Base.Int false n is h = held_pos Base.Int n is (omega (arith, h)) (lt-ltb n (2 ^ 31) h)
+is_held Base.Char false n is h = held_pos Base.Char n is (omega (arith, h)) (lt-ltb n (2 ^ 7) h)
+is_held Base.Long false n is h = held_pos Base.Long n is (omega (arith, h)) (lt-ltb n (2 ^ 63) h)
+is_held Base.Int true (suc n) is h = held_neg Base.Int n is (omega (arith, h)) (lt-ltb n (2 ^ 31) (omega (arith, h)))
+is_held Base.Char true (suc n) is h = held_neg Base.Char n is (omega (arith, h)) (lt-ltb n (2 ^ 7) (omega (arith, h)))
+is_held Base.Long true (suc n) is h = held_neg Base.Long n is (omega (arith, h)) (lt-ltb n (2 ^ 63) (omega (arith, h)))
+is_held Base.Mutex minus n is h = absurd (false≢true is)
+is_held Base.Void minus n is h = absurd (false≢true is)
+is_held (Base.Struct name) minus n is h = absurd (false≢true is)
 is_held k true zero is h = held_pos k zero is (omega arith) refl
 
 -- an integer that is held begins at a value of its width
@@ -80,9 +66,9 @@ signed_value c minus n is = ap (λ z. cond minus (neg_ℤ z) z) is
 -- ---- the first cell of a global
 -- of an element that is an integer
 integer_fields : (m : Assignment) (q : FieldMode) (b : Base) → is_integral b ≡ true → (slice_index_or (base_fields m q b) 0 no_field).holds ≡ Integer (base_as_width b)
-integer_fields m q base.Mutex is = absurd (false≢true is)
-integer_fields m q base.Void is = absurd (false≢true is)
-integer_fields m q (base.Struct name) is = absurd (false≢true is)
+integer_fields m q Base.Mutex is = absurd (false≢true is)
+integer_fields m q Base.Void is = absurd (false≢true is)
+integer_fields m q (Base.Struct name) is = absurd (false≢true is)
 integer_fields m q _ is = refl
 
 pub is_some_base : (b c : Base) (n k : ℕ) → object b n ≡ object c k → b ≡ c
@@ -111,17 +97,17 @@ first_holds m g c n one is = by (global_element m g) n is
     by (f ∷ rest) n is = is
 
 begins_by : (m : Assignment) (g : GlobalDefinition) (f : GlobalForm) → g.form ≡ f → MeetsInitial g.declaration.written f → CountedForm f → Initial (slice_index_or (global_fields m g) 0 no_field).holds (word_of (form_value f))
-begins_by m g (form.Initial span minus c) is (inl integer) counted =
+begins_by m g (GlobalForm.Initial span minus c) is (inl integer) counted =
     let element = integer_element m g integer.0 in
     let value = signed_value c minus integer.1 (counted_value c integer.1 integer.2 counted) in
     let one : elements_of g.form ≡ 1 = ap elements_of is in
     let holds_is : (slice_index_or (global_fields m g) 0 no_field).holds ≡ Integer (base_as_width g.declaration.written.ctype.base) =
     ap (λ k. (slice_index_or (repeated k (global_element m g) ++ replicate (2 * granules_in m.typed g - cells_in m.typed g) no_field) 0 no_field).holds) one
     ∙ first_holds m g (Integer (base_as_width g.declaration.written.ctype.base)) (2 * granules_in m.typed g - cells_in m.typed g) one element.1 in
-    subst (λ k. Initial k (word_of (form_value (form.Initial span minus c)))) (sym holds_is)
+    subst (λ k. Initial k (word_of (form_value (GlobalForm.Initial span minus c)))) (sym holds_is)
     (subst (λ z. Initial (Integer (base_as_width g.declaration.written.ctype.base)) (word_of z)) (sym value)
     (integer_begins g.declaration.written.ctype.base (cond minus (neg_ℤ (pos integer.1)) (pos integer.1)) (is_held g.declaration.written.ctype.base minus integer.1 element.0 integer.3)))
-begins_by m g (form.Initial span minus c) is (inr pointer) counted =
+begins_by m g (GlobalForm.Initial span minus c) is (inr pointer) counted =
     subst (λ w. Initial (slice_index_or (global_fields m g) 0 no_field).holds w) (sym (ap (λ x. word_of (cond minus (neg_ℤ (constant_value x)) (constant_value x))) pointer.1 ∙ null minus)) (zero_fits (slice_index_or (global_fields m g) 0 no_field).holds)
   where
     null : (b : Bool) → word_of (cond b (neg_ℤ (constant_value Null)) (constant_value Null)) ≡ 0

@@ -1,19 +1,6 @@
 -- Variables of blocks.
-use Rattle.std.proofs.Common.{◌≡◌, ℕ, Bool, true, false, [], ◌∷◌, refl, ap, sym, ◌∙◌, subst, Option, Some, None, IfSome, Contains}
-use Rattle.std.specs.List.{AllByRecursion}
-use Rattle.sharc_tree.specs.{declared.tree.declaration.Declaration.Declaration, Measures.{in_option, in_right, in_local, in_function}, Tree.{Right, Local, Function}}
-use Rattle.sharc_names.specs.declared.fault.Named.TheVariants as named
-use Rattle.sharc_names.specs.Kinds.{Kind, is_pointer, declared_kind}
-use Rattle.sharc_ctype.specs.{Resolved.{declaration_at, variable_kind}, Transfers.{variable, Agrees, function_transfers}}
-use Rattle.sharc_ctype_laws.specs.Declared.{IsItself}
-use Rattle.sharc_meaning.specs.{Cells.element_cells, State.is_reference}
-use Rattle.sharc_mode.specs.{Cells.pointed, Moded.Assignment, Rows.{written, declared_row, modes_of}}
+use Rattle.sharc_accepted_laws.proofs.{Imports.{◌≡◌, ℕ, Bool, true, false, [], ◌∷◌, refl, ap, sym, ◌∙◌, subst, Option, Some, None, IfSome, Contains, AllByRecursion, Declaration, in_option, in_right, in_local, in_function, Right, Local, Function, Named, Kind, is_pointer, declared_kind, declaration_at, variable_kind, variable, Agrees, function_transfers, IsItself, element_cells, is_reference, pointed, Assignment, written, declared_row, modes_of, with_variable, width_of, Context, slot_of, InitialSuits, StaticType, Setting, type_by, IsTypeIn, IsMade, Keeps, Begins, InitialTypable, DeclaredTypable, held_named, ExpressionStands, LocalStands, static_of, variable_type, entry_named, VariablesFound, typing, width_named, IsPlaceIn, AreExpressionsTypable}, Assigned.{Laws, function_there, made_there, made_is, right_is, Gives}, Fresh.LocalFresh, Slots.{pointer_kept, pointer_last, ref_more, integer_kept, integer_last, int_more}, Sorts.declared_pointer}
 use Rattle.sharc_check.specs.Constructs.{locals_in_all}
-use Rattle.sharc_flat.specs.{Flattened.with_variable, Places.width_of, Scope.{Context, slot_of}, Suits.InitialSuits}
-use Rattle.sharc_invariant.specs.Types.{StaticType}
-use Rattle.sharc_typed_laws.specs.{Stretches.Setting, Typable.{type_by, IsTypeIn}, Stated.IsMade, Declared.{Keeps, Begins, InitialTypable}, Statements.DeclaredTypable}
-use Rattle.sharc_accepted_laws.specs.{Held.held_named, Standing.{ExpressionStands, LocalStands}, Static.{static_of, variable_type, entry_named}, TargetLaws.VariablesFound, Typing.{typing, width_named}, Statements.{IsPlaceIn, AreExpressionsTypable}}
-use Rattle.sharc_accepted_laws.proofs.{Assigned.{Laws, function_there, made_there, made_is, right_is, Gives}, Fresh.LocalFresh, Slots.{pointer_kept, pointer_last, ref_more, integer_kept, integer_last, int_more}, Sorts.declared_pointer}
 
 -- what a variable begins with agrees with it, and is among what the function gives
 abbrev pub IsBegun : Assignment → Function → Declaration → Right → Type 0
@@ -24,7 +11,7 @@ pub here_with : (laws : Laws) (z : Setting) (alone : ℕ → Bool) (n : ℕ) (g 
 here_with laws z alone n g c here l stands = record { set = here.set; setting = here.setting; function = here.function; closed = laws.scopes.more c.program c.scope (slot_of l.declaration) here.closed stands.0 }
 
 module _ (laws : Laws) (variables : VariablesFound) (z : Setting) (alone : ℕ → Bool) (n : ℕ) (g : Function) (typable : AreExpressionsTypable z alone n g) (c : Context) (here : IsPlaceIn z alone n g c)
-    (l : Local) (stands : LocalStands c l) (itself : IsItself c.program.typed named.Variable l.declaration) (fresh : LocalFresh c l) where
+    (l : Local) (stands : LocalStands c l) (itself : IsItself c.program.typed Named.Variable l.declaration) (fresh : LocalFresh c l) where
   abbrev d : Declaration
   d = l.declaration
 

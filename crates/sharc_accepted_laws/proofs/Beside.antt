@@ -1,22 +1,5 @@
 -- What a field is locked by in its element: a mutex, or a readonly pointer to one.
-use Rattle.std.proofs.{Common.{◌≡◌, ⊎_elim, ℕ, zero, suc, ◌+◌, ◌<◌, Bool, true, false, ◌&&◌, cond, List, [], ◌∷◌, length, map, slice_index_or, refl, ap, sym, ◌∙◌, subst, arith, Option, Some, None, Contains, bytes_eq}, lemmas.Bool.cases_lt}
-use Rattle.std.specs.{Prelude.{slice_get, is_none}, List.AllByRecursion}
-use Rattle.sharc_tree.specs.{declared.ctype.Base.Base, declared.ctype.Mode.Mode, declared.ctype.Path.Path, declared.ctype.Path.TheVariants.One, declared.tree.declaration.Declaration.Declaration, declared.tree.declaration.WrittenType.WrittenType, declared.tree.item.GlobalDefinition.GlobalDefinition, declared.tree.item.StructDefinition.StructDefinition, Low.IsLow}
-use Rattle.sharc_tree.specs.declared.ctype.Base.TheVariants as base
-use Rattle.sharc_tree.specs.declared.ctype.Mode.TheVariants as mode
-use Rattle.sharc_names.specs.declared.fault.Named.TheVariants as named
-use Rattle.sharc_names.specs.declared.types.Role.TheVariants as role
-use Rattle.sharc_names.specs.Kinds.{object, is_pointer, declared_kind, mutex}
-use Rattle.sharc_ctype.specs.{declared.entity.Entity.Entity, Entities.entity_at, Resolved.{Resolution, named_at, named_kind, variable_kind, declaration_at, structs_in, globals_in}}
-use Rattle.sharc_ctype_laws.specs.{Declared.IsItself, Found.EachTypeFound, Laws.{EachNameOnce, OnlyNames, EachNamesItself}}
-use Rattle.sharc_check.specs.{RuleLaws.RulesAreMet, Paths.{IsAllowed, global_mutex, sibling_mutex, sibling_pointer, through_constant}}
-use Rattle.sharc_meaning.specs.Cells.{field_place, field_place_named}
-use Rattle.sharc_mode.specs.{Cells.{is_mutex_kind, is_behind_pointer, top_of, first_mode}, Moded.Assignment, Rows.{written, declared_row, modes_of}, Notes.base_of, WellFormed.place_of, Sharings.{Lock, Sharing, readonly, locked, lock_of, is_field}}
-use Rattle.sharc_mode.specs.declared.place.Place.TheVariants as place
-use Rattle.sharc_invariant.specs.{Types.{OfElement, FieldMode, Under, MutexWord, Pointer, Field, Target, no_field, row_of, FieldMode as field}, Typed.PointsToMutex}
-use Rattle.sharc_accepted_laws.specs.{Beside.{BesideFits, AreLockedBeside, LocksStandBeside}, Shapes.{Form, racy_form, form_of, stars_in, number}, TargetLaws.IsRowOf, Pointees.{pointee, PointeeFits}, Targets.{lock_named, field_lock, field_locks, own_mode, global_mode, is_private_mode, locked_mode, written_mode, field_mode, base_content, pointer_content, declared_content, single, member, members, struct_fields, base_fields, lock_count, type_locks, shape_fields, top_mode, global_element, targets_of}}
-use Rattle.sharc_accepted_laws.proofs.{TargetCells.member_count, Expressing.variable_row, Freeing.past_end, Moding.{not_field, not_pointer}, Pointees.{pointees_fit, many_modes}, Ready.global_lock, Whole.known as known_of, Found.field_found, TargetLists.place_there, TargetMembers.{members_at, top_written, field_readonly}, Numbers.numbers_found, Rows.{IsKnown, top_there}}
-use Rattle.sharc_lemmas.proofs.{Options.same_some, Lists.{head_there, place_of_element, some_there, of_each, tail_there, there_is as below_there}}
+use Rattle.sharc_accepted_laws.proofs.{Imports.{◌≡◌, ⊎_elim, ℕ, zero, suc, ◌+◌, ◌<◌, Bool, true, false, ◌&&◌, cond, List, [], ◌∷◌, length, map, get_or as slice_index_or, refl, ap, sym, ◌∙◌, subst, arith, Option, Some, None, Contains, bytes_eq, cases_lt, slice_get, is_none, AllByRecursion, Base, Mode, Path, One, Declaration, WrittenType, GlobalDefinition, StructDefinition, IsLow, Named, Role, object, is_pointer, declared_kind, mutex, Entity, entity_at, Resolution, named_at, named_kind, variable_kind, declaration_at, structs_in, globals_in, IsItself, EachTypeFound, EachNameOnce, OnlyNames, EachNamesItself, RulesAreMet, IsAllowed, global_mutex, sibling_mutex, sibling_pointer, through_constant, field_place, field_place_named, is_mutex_kind, is_behind_pointer, top_of, first_mode, Assignment, written, declared_row, modes_of, base_of, place_of, Lock, Sharing, readonly, locked, lock_of, is_field, Place, OfElement, FieldMode, Under, MutexWord, Pointer, Field, TableTarget as Target, no_field, row_of, FieldMode as field, PointsToMutex, BesideFits, AreLockedBeside, LocksStandBeside, Form, racy_form, form_of, stars_in, number, IsRowOf, pointee, PointeeFits, table_lock as lock_named, field_lock, field_locks, own_mode, global_mode, is_private_mode, locked_mode, written_mode, field_mode, base_content, pointer_content, declared_content, single, member, members, struct_fields, base_fields, lock_count, type_locks, shape_fields, top_mode, global_element, targets_of, same_some, head_there, place_of_element, some_there, of_each, tail_there, below_there}, TargetCells.member_count, Expressing.variable_row, Freeing.past_end, Moding.{not_field, not_pointer}, Pointees.{pointees_fit, many_modes}, Ready.global_lock, Whole.{known as known_of}, Found.field_found, TargetLists.place_there, TargetMembers.{members_at, top_written, field_readonly}, Numbers.numbers_found, Rows.{IsKnown, top_there}}
 
 -- ---- modes that name what is beside
 -- an element's own mode names nothing beside it
@@ -38,8 +21,8 @@ racy_none = record { sibling = λ f j h. cc; behind = λ a p h. cc }
 
 -- in elements of one cell
 single_none : (q : FieldMode) (b : Base) → NamesNone q → NamesNone (single q b).mode
-single_none q base.Mutex h = racy_none
-single_none q (base.Struct name) h = racy_none
+single_none q Base.Mutex h = racy_none
+single_none q (Base.Struct name) h = racy_none
 single_none q _ h = h
 
 one_fits : (m : Assignment) (f : Field) → NamesNone f.mode → (k : ℕ) → BesideFits m (f ∷ []) (slice_index_or (f ∷ []) k no_field).mode
@@ -56,14 +39,14 @@ record MutexAt (m : Assignment) (fields : List Declaration) (p : ℕ) : Type 0 w
 record PointerAt (m : Assignment) (fields : List Declaration) (p : ℕ) : Type 0 where
   d : Declaration
   at : slice_get fields p ≡ Some d
-  kind : declared_kind d.written ≡ object base.Mutex 1
-  readonly : top_of d.written.ctype.levels ≡ Some mode.Readonly
+  kind : declared_kind d.written ≡ object Base.Mutex 1
+  readonly : top_of d.written.ctype.levels ≡ Some Mode.Readonly
 
 -- a path's lock in a field of a struct
 data PathFits (m : Assignment) (fields : List Declaration) (l : Lock) : Type 0 where
-  by_global : (g : ℕ) → named_at m.typed l.first ≡ named.Global g → is_behind_pointer m.typed l ≡ false → PathFits m fields l
-  by_mutex : (f : ℕ) → named_at m.typed l.first ≡ named.Field f → is_behind_pointer m.typed l ≡ false → MutexAt m fields (field_place m.typed f) → PathFits m fields l
-  by_pointer : (f : ℕ) → named_at m.typed l.first ≡ named.Field f → is_behind_pointer m.typed l ≡ true → PointerAt m fields (field_place m.typed f) → PathFits m fields l
+  by_global : (g : ℕ) → named_at m.typed l.first ≡ Named.Global g → is_behind_pointer m.typed l ≡ false → PathFits m fields l
+  by_mutex : (f : ℕ) → named_at m.typed l.first ≡ Named.Field f → is_behind_pointer m.typed l ≡ false → MutexAt m fields (field_place m.typed f) → PathFits m fields l
+  by_pointer : (f : ℕ) → named_at m.typed l.first ≡ Named.Field f → is_behind_pointer m.typed l ≡ true → PointerAt m fields (field_place m.typed f) → PathFits m fields l
 
 module _ (m : Assignment) (known : IsKnown m) (s : StructDefinition) (is_struct : Contains (structs_in m.typed.program.items) s) where
   abbrev r : Resolution
@@ -76,39 +59,39 @@ module _ (m : Assignment) (known : IsKnown m) (s : StructDefinition) (is_struct 
     at : slice_get s.fields (field_place r f) ≡ Some d
     itself : declaration_at r f ≡ Some d
 
-  sibling_at : (d : Declaration) → Contains s.fields d → (path : Path) → top_of d.written.ctype.levels ≡ Some (mode.Locked path) → (f : ℕ) → named_at r (lock_of path).first ≡ named.Field f → IsSiblingAt f
+  sibling_at : (d : Declaration) → Contains s.fields d → (path : Path) → top_of d.written.ctype.levels ≡ Some (Mode.Locked path) → (f : ℕ) → named_at r (lock_of path).first ≡ Named.Field f → IsSiblingAt f
   sibling_at d is_member path top f names =
-      let w = known.sibling s d path f is_struct is_member (top_there d.written.ctype.levels (mode.Locked path) top) names in
+      let w = known.sibling s d path f is_struct is_member (top_there d.written.ctype.levels (Mode.Locked path) top) names in
       let k = place_of_element s.fields w.sibling w.has in
-      let itself : IsItself r named.Field w.sibling = of_each (IsItself r named.Field) s.fields w.sibling (of_each (λ (z : StructDefinition). AllByRecursion (IsItself r named.Field) z.fields) (structs_in r.program.items) s known.fields is_struct) w.has in
+      let itself : IsItself r Named.Field w.sibling = of_each (IsItself r Named.Field) s.fields w.sibling (of_each (λ (z : StructDefinition). AllByRecursion (IsItself r Named.Field) z.fields) (structs_in r.program.items) s known.fields is_struct) w.has in
       let place : field_place r f ≡ k.0 = ap (field_place r) (sym w.is) ∙ known.place s k.0 w.sibling is_struct k.1 in
       record { d = w.sibling; has = w.has; at = ap (slice_get s.fields) place ∙ k.1; itself = ap (declaration_at r) (sym w.is) ∙ itself.1 }
 
-  field_not_local : (e : Entity) → e.role ≡ role.Field → place_of e.role ≡ place.Local → ⊥
+  field_not_local : (e : Entity) → e.role ≡ Role.Field → place_of e.role ≡ Place.Local → ⊥
   field_not_local e is local = by (sym (ap place_of is) ∙ local)
     where
-      by : place.Field ≡ place.Local → ⊥
+      by : Place.Field ≡ Place.Local → ⊥
       by h = cc
 
-  path_is : (e : Entity) (depth : ℕ) → e.role ≡ role.Field → (d : Declaration) → Contains s.fields d → (path : Path) → top_of d.written.ctype.levels ≡ Some (mode.Locked path) → IsAllowed r e depth path → PathFits m s.fields (lock_of path)
-  path_is e depth is d is_member _ top (global_mutex {text} {token} {g} names kind) = by_global g names (not_field r (lock_of (One text token)) (named.Global g) names refl)
+  path_is : (e : Entity) (depth : ℕ) → e.role ≡ Role.Field → (d : Declaration) → Contains s.fields d → (path : Path) → top_of d.written.ctype.levels ≡ Some (Mode.Locked path) → IsAllowed r e depth path → PathFits m s.fields (lock_of path)
+  path_is e depth is d is_member _ top (global_mutex {text} {token} {g} names kind) = by_global g names (not_field r (lock_of (One text token)) (Named.Global g) names refl)
   path_is e depth is d is_member _ top (sibling_mutex {text} {token} {f} stands names kind) =
       let w = sibling_at d is_member (One text token) top f names in
-      by_mutex f names (not_pointer r (lock_of (One text token)) (named.Field f) names (ap is_pointer kind)) (record { d = w.d; at = w.at; kind = sym (ap variable_kind w.itself) ∙ kind })
+      by_mutex f names (not_pointer r (lock_of (One text token)) (Named.Field f) names (ap is_pointer kind)) (record { d = w.d; at = w.at; kind = sym (ap variable_kind w.itself) ∙ kind })
   path_is e depth is d is_member _ top (sibling_pointer {text} {token} {f} stands zero_depth names lock targets) =
       let w = sibling_at d is_member (One text token) top f names in
       let same : w.d ≡ lock.field = same_some _ _ (sym w.itself ∙ lock.declared) in
-      let kind : declared_kind w.d.written ≡ object base.Mutex 1 = ap (λ (z : Declaration). declared_kind z.written) same ∙ lock.pointer in
+      let kind : declared_kind w.d.written ≡ object Base.Mutex 1 = ap (λ (z : Declaration). declared_kind z.written) same ∙ lock.pointer in
       by_pointer f names
       (ap (λ z. (is_field z && is_none {T = List ℕ} None) && is_pointer (named_kind r z)) names ∙ ap (λ o. is_pointer (variable_kind o)) w.itself ∙ ap is_pointer kind)
       (record { d = w.d; at = w.at; kind = kind; readonly = ap (λ (z : Declaration). top_of z.written.ctype.levels) same ∙ lock.readonly })
   path_is e depth is d is_member _ top (through_constant {text} {m} {token} {x} stands names constant behind) = absurd (field_not_local e is stands)
 
-  path_of_field : (d : Declaration) → Contains s.fields d → (path : Path) → top_of d.written.ctype.levels ≡ Some (mode.Locked path) → PathFits m s.fields (lock_of path)
+  path_of_field : (d : Declaration) → Contains s.fields d → (path : Path) → top_of d.written.ctype.levels ≡ Some (Mode.Locked path) → PathFits m s.fields (lock_of path)
   path_of_field d is_member path top =
       let there = field_found m known.found s d is_struct is_member in
       path_is there.numbered.entity 0 there.role d is_member path top
-      (known.rules.m4.forms there.numbered 0 path there.is_entity (subst (λ (w : WrittenType). slice_get w.ctype.levels 0 ≡ Some (Some (mode.Locked path))) (sym there.written) (top_written d.written.ctype.levels (mode.Locked path) top)))
+      (known.rules.m4.forms there.numbered 0 path there.is_entity (subst (λ (w : WrittenType). slice_get w.ctype.levels 0 ≡ Some (Some (Mode.Locked path))) (sym there.written) (top_written d.written.ctype.levels (Mode.Locked path) top)))
 
   module _ (q : FieldMode) (none : NamesNone q) where
     abbrev fields : List Field
@@ -141,7 +124,7 @@ module _ (m : Assignment) (known : IsKnown m) (s : StructDefinition) (is_struct 
         pointer = ap is_pointer w.kind
 
         row : IsRowOf m (declared_kind w.d.written) (declared_row r written w.d.name.site.token)
-        row = variable_row m known.least.modes known.found w.d.name.site.token w.d (of_each (IsItself r named.Field) s.fields w.d (of_each (λ (z : StructDefinition). AllByRecursion (IsItself r named.Field) z.fields) (structs_in r.program.items) s known.fields is_struct) has).1 written
+        row = variable_row m known.least.modes known.found w.d.name.site.token w.d (of_each (IsItself r Named.Field) s.fields w.d (of_each (λ (z : StructDefinition). AllByRecursion (IsItself r Named.Field) z.fields) (structs_in r.program.items) s known.fields is_struct) has).1 written
 
         fit : PointeeFits m (declared_kind w.d.written) (declared_row r written w.d.name.site.token)
         fit = pointees_fit m (declared_kind w.d.written) (declared_row r written w.d.name.site.token) row pointer
@@ -153,8 +136,8 @@ module _ (m : Assignment) (known : IsKnown m) (s : StructDefinition) (is_struct 
         single_mode : (f : Form) × (map form_of (modes_of m (declared_row r written w.d.name.site.token)) ≡ f ∷ [])
         single_mode = one (modes_of m (declared_row r written w.d.name.site.token)) (many_modes m (declared_kind w.d.written) (declared_row r written w.d.name.site.token) row ∙ ap stars_in w.kind)
 
-        cells : (row_of (targets_of m) (pointee m (declared_kind w.d.written) (declared_row r written w.d.name.site.token))).fields ≡ single (own_mode single_mode.0) base.Mutex ∷ []
-        cells = fit.fields ∙ ap (λ b. shape_fields m b (map form_of (modes_of m (declared_row r written w.d.name.site.token)))) (ap base_of w.kind) ∙ ap (shape_fields m base.Mutex) single_mode.1
+        cells : (row_of (targets_of m) (pointee m (declared_kind w.d.written) (declared_row r written w.d.name.site.token))).fields ≡ single (own_mode single_mode.0) Base.Mutex ∷ []
+        cells = fit.fields ∙ ap (λ b. shape_fields m b (map form_of (modes_of m (declared_row r written w.d.name.site.token)))) (ap base_of w.kind) ∙ ap (shape_fields m Base.Mutex) single_mode.1
 
         points_there : PointsToMutex (targets_of m) (member m q p w.d)
         points_there = record {
@@ -180,14 +163,14 @@ module _ (m : Assignment) (known : IsKnown m) (s : StructDefinition) (is_struct 
         by true e = tt
         by false e = pointer_holds (field_place r f) w e
 
-    written_fits : (k : ℕ) (top : Option Mode) → ((path : Path) → top ≡ Some (mode.Locked path) → PathFits m s.fields (lock_of path)) → BesideFits m fields (written_mode r k q top)
+    written_fits : (k : ℕ) (top : Option Mode) → ((path : Path) → top ≡ Some (Mode.Locked path) → PathFits m s.fields (lock_of path)) → BesideFits m fields (written_mode r k q top)
     written_fits k None paths = fits_none m fields q none
-    written_fits k (Some mode.Readonly) paths = by (is_private_mode q)
+    written_fits k (Some Mode.Readonly) paths = by (is_private_mode q)
       where
         by : (b : Bool) → BesideFits m fields (cond b field.Private field.Readonly)
         by true = tt
         by false = tt
-    written_fits k (Some (mode.Locked path)) paths = lock_fits k (lock_of path) (paths path refl)
+    written_fits k (Some (Mode.Locked path)) paths = lock_fits k (lock_of path) (paths path refl)
     written_fits k _ paths = tt
 
     member_fits : (k : ℕ) (d : Declaration) → Contains s.fields d → BesideFits m fields (field_mode r k q d.written)
@@ -209,7 +192,7 @@ module _ (m : Assignment) (known : IsKnown m) (s : StructDefinition) (is_struct 
 module _ (m : Assignment) (known : IsKnown m) (low : IsLow m.typed.program) where
   structs_fit : (q : FieldMode) → NamesNone q → (list : List StructDefinition) → ((s : StructDefinition) → Contains list s → Contains (structs_in m.typed.program.items) s) → (name : List ℕ) (k : ℕ)
       → BesideFits m (struct_fields m q list name) (slice_index_or (struct_fields m q list name) k no_field).mode
-  structs_fit q none [] all name k = one_fits m (single q (base.Struct name)) racy_none k
+  structs_fit q none [] all name k = one_fits m (single q (Base.Struct name)) racy_none k
   structs_fit q none (s ∷ rest) all name k = by (bytes_eq s.name.text name) (structs_fit q none rest (λ z has. all z (tail_there s z rest has)) name k)
     where
       by : (b : Bool) → BesideFits m (struct_fields m q rest name) (slice_index_or (struct_fields m q rest name) k no_field).mode
@@ -218,7 +201,7 @@ module _ (m : Assignment) (known : IsKnown m) (low : IsLow m.typed.program) wher
       by false h = h
 
   bases_fit : (q : FieldMode) → NamesNone q → (b : Base) (k : ℕ) → BesideFits m (base_fields m q b) (slice_index_or (base_fields m q b) k no_field).mode
-  bases_fit q none (base.Struct name) k = structs_fit q none (structs_in m.typed.program.items) (λ s has. has) name k
+  bases_fit q none (Base.Struct name) k = structs_fit q none (structs_in m.typed.program.items) (λ s has. has) name k
   bases_fit q none j k = one_fits m (single q j) (single_none q j none) k
 
   shapes_fit : (b : Base) (fs : List Form) (k : ℕ) → BesideFits m (shape_fields m b fs) (slice_index_or (shape_fields m b fs) k no_field).mode
@@ -227,7 +210,7 @@ module _ (m : Assignment) (known : IsKnown m) (low : IsLow m.typed.program) wher
   shapes_fit b (f ∷ g ∷ below) k = one_fits m (record { mode = own_mode f; holds = Pointer (record { target = number m (record { base = b; forms = g ∷ below }); locks = type_locks (lock_count f) (g ∷ below) }) }) (none_own f) k
 
   -- the mode of a global
-  none_global : (s : Sharing) → ((l : Lock) → s ≡ locked l → (g : ℕ) × (named_at m.typed l.first ≡ named.Global g) × (named_kind m.typed (named.Global g) ≡ mutex)) → NamesNone (global_mode m.typed s)
+  none_global : (s : Sharing) → ((l : Lock) → s ≡ locked l → (g : ℕ) × (named_at m.typed l.first ≡ Named.Global g) × (named_kind m.typed (Named.Global g) ≡ mutex)) → NamesNone (global_mode m.typed s)
   none_global (locked l) path =
       let w = path l refl in
       subst (λ z. NamesNone (Under z)) (sym (ap (lock_named m.typed 0) w.1)) (record { sibling = λ f j h. cc; behind = λ a p h. cc })

@@ -1,19 +1,10 @@
 -- What is called that the program does not define: nothing, where it defines `struct cond`.
-use Rattle.std.proofs.Common.{◌≡◌, ℕ, ◌||◌, Bool, true, false, cond, List, [], ◌∷◌, ◌++◌, refl, ap, sym, ◌∙◌, subst, bytes_eq, length, Option, Some, None, is_some, codes}
-use Rattle.std.specs.List.{AllByRecursion}
-use Rattle.sharc_tree.specs.{declared.tree.declaration.Declaration.Declaration, declared.tree.item.StructDefinition.StructDefinition, Measures.{expressions, in_arguments, in_option, in_right, in_simple, in_local, in_first, in_head as inside_head, in_statement, in_statements, in_function}, Tree.{Expression, Arguments, no_arguments, argument, Right, value, malloc, Simple, assign, does_call, Local, First, nothing, declares, does, Head, Statement, Statements, no_statements, statement, Function}}
+use Rattle.sharc_accepted_laws.proofs.{Imports.{◌≡◌, ℕ, ◌||◌, Bool, true, false, cond, List, [], ◌∷◌, ◌++◌, refl, ap, sym, ◌∙◌, subst, bytes_eq, length, Option, Some, None, is_some, codes, AllByRecursion, Declaration, StructDefinition, expressions, in_arguments, in_option, in_right, in_simple, in_local, in_first, in_head as inside_head, in_statement, in_statements, in_function, Expression, Arguments, no_arguments, argument, Right, value, malloc, Simple, assign, does_call, Local, First, nothing, declares, does, Head, Statement, Statements, no_statements, statement, Function, BadForm, Value, Scope, Kind, void, same_kind, declared_kind, Entry, Meaning, look_up, named_of, met, unmet, unagreed, Note, fault_where, type_notes, Named, Role, Standing, AsValue, AsLvalue, defines_condition, with_conditions, type_of, callee_notes, place_notes, notes_at, notes_of_all, behind_all, no_heads, parameters_notes, with_parameters, beyond, in_body, function_notes, file_scope, Resolution, named_at, structs_in, functions_in, Around, opened, looping, with_names, is_here, behind_first, after, count_notes, right_notes, simple_notes, initial_notes, test_notes, tests_notes, step_notes, local_notes, first_statement_notes as first_notes, head_notes, returned_as, return_notes, notes_in, notes_in_all, locals_in_all, struct_named, EachNameOnce, OnlyNames, KnownCalls, same_some, none_some, front, back, both, of_each}, FileNames.in_heads, Noted.{Says, AllSay, all_say, items_say, functions_say}, Structs.first}
 use Rattle.sharc_tree.specs.Tree as tree
-use Rattle.sharc_names.specs.{declared.fault.FaultCode.TheVariants.BadForm, declared.need.Need.TheVariants.Value, declared.scope.Scope.Scope, Kinds.{Kind, void, same_kind, declared_kind}, Names.{Entry, Meaning, look_up, named_of}, Needs.{met, unmet, unagreed}, Notes.{Note, fault_where}, Types.type_notes}
-use Rattle.sharc_names.specs.declared.fault.Named.TheVariants as named
-use Rattle.sharc_names.specs.declared.types.Role.TheVariants as role
-use Rattle.sharc_ctype.specs.{declared.expr.Standing.Standing, declared.expr.Standing.TheVariants.{AsValue, AsLvalue}, Condition.{defines_condition, with_conditions}, Expressions.{type_of, callee_notes, place_notes, notes_at, notes_of_all}, Heads.{behind_all, no_heads}, Items.{parameters_notes, with_parameters, beyond, in_body, function_notes, file_scope}, Resolved.{Resolution, named_at, structs_in, functions_in}, Statements.{Around, opened, looping, with_names, is_here, declared, behind_first, in_head, after, count_notes, right_notes, simple_notes, initial_notes, test_notes, tests_notes, step_notes, local_notes, first_notes, head_notes, returned_as, return_notes, notes_in, notes_in_all, locals_in_all}}
-use Rattle.sharc_ctype_laws.specs.{Constraints.struct_named, Laws.{EachNameOnce, OnlyNames}}
-use Rattle.sharc_accepted_laws.specs.Conditions.{KnownCalls}
-use Rattle.sharc_accepted_laws.proofs.{FileNames.in_heads, Noted.{Says, AllSay, all_say, items_say, functions_say}, Structs.first}
-use Rattle.sharc_lemmas.proofs.{Options.{same_some, none_some}, Lists.{front, back, both, of_each}}
+use Rattle.sharc_ctype.specs.Statements.{declared, in_head}
 
 abbrev IsDefined : Meaning → Type 0
-IsDefined z = named_of z ≡ named.Known → ⊥
+IsDefined z = named_of z ≡ Named.Known → ⊥
 
 -- all these names are defined by the program
 abbrev AreDefined : List Entry → Type 0
@@ -27,7 +18,7 @@ found_defined (x ∷ rest) name e all is = by (bytes_eq x.name name) is (found_d
     by true k later = subst (λ (z : Entry). IsDefined z.meaning) (same_some x e k) all.0
     by false k later = later k
 
-no_variable : (t : ℕ) → named.Variable t ≡ named.Known → ⊥
+no_variable : (t : ℕ) → Named.Variable t ≡ Named.Known → ⊥
 no_variable t h = cc
 
 with_variable : (block : ℕ) (d : Declaration) (names : List Entry) → AreDefined names → AreDefined (declared block d names)
@@ -55,13 +46,13 @@ module _ (r : Resolution) where
 
   -- what is called is defined by the program
   abbrev CallSays : Expression → Type 0
-  CallSays (tree.call s f all) = named_at r f.site.token ≡ named.Known → ⊥
+  CallSays (tree.call s f all) = named_at r f.site.token ≡ Named.Known → ⊥
   CallSays _ = Unit {0}
 
   abbrev AllCall : List Expression → Type 0
   AllCall list = AllByRecursion CallSays list
 
-  callee : (names : List Entry) (name : List ℕ) (stands : Standing) (token n : ℕ) (o : Option Entry) → look_up names name ≡ o → AreDefined names → AllSay r (callee_notes stands token n o) → named_at r token ≡ named.Known → ⊥
+  callee : (names : List Entry) (name : List ℕ) (stands : Standing) (token n : ℕ) (o : Option Entry) → look_up names name ≡ o → AreDefined names → AllSay r (callee_notes stands token n o) → named_at r token ≡ Named.Known → ⊥
   callee names name stands token n None found all h is = absurd h.0
   callee names name stands token n (Some e) found all h is = found_defined names name e all found (sym h.0 ∙ is)
 
@@ -77,7 +68,7 @@ module _ (r : Resolution) where
       of_expression stands (tree.on_value s w a) h = (tt, of_expression AsValue a (front P (notes_at AsValue scope a) _ h))
       of_expression stands (tree.on_place s w a) h = (tt, of_expression AsLvalue a (front P (notes_at AsLvalue scope a) _ (front P _ _ h)))
       of_expression stands (tree.cast s t a) h =
-          let types = type_notes scope [] role.Cast t in
+          let types = type_notes scope [] Role.Cast t in
           let operand = notes_at AsLvalue scope a in
           (tt, of_expression AsLvalue a (back P types operand (front P (types ++ operand) (place_notes scope.names a) (front P (types ++ operand ++ place_notes scope.names a) _ h))))
       of_expression stands (tree.index s a i) h =
@@ -186,7 +177,7 @@ module _ (r : Resolution) where
 
   of_function : (file : Scope) → AreDefined file.names → (f : Function) → AllSay r (function_notes file f) → AllCall (in_function f)
   of_function file all f h =
-      let heads = type_notes file [] role.Result f.result ++ parameters_notes (length file.names) 0 file f.parameters in
+      let heads = type_notes file [] Role.Result f.result ++ parameters_notes (length file.names) 0 file f.parameters in
       let around : Around = record { result = declared_kind f.result; in_loop = false; block = length file.names } in
       let body = notes_in_all around (in_body file f) f.statements in
       of_statements around (in_body file f) (with_all (length file.names) file.names f.parameters all) f.statements (back P heads body (front P (heads ++ body) (beyond 200 (locals_in_all f.statements)) h))
@@ -202,7 +193,7 @@ module _ (r : Resolution) where
     all_defined : AreDefined (file_scope r.program.items).names
     all_defined =
         subst (λ b. AreDefined (cond b own (with_conditions own)).names) (sym defines)
-        (in_heads IsDefined (λ n g h. let e : named.Global n ≡ named.Known = h in cc) (λ n g h. let e : named.Function n ≡ named.Known = h in cc) no_heads r.program.items tt)
+        (in_heads IsDefined (λ n g h. let e : Named.Global n ≡ Named.Known = h in cc) (λ n g h. let e : Named.Function n ≡ Named.Known = h in cc) no_heads r.program.items tt)
 
 pub known_calls : EachNameOnce → OnlyNames → KnownCalls
 known_calls once only m a s f x there names = by (struct_named (structs_in m.typed.program.items) (codes "cond")) refl

@@ -1,21 +1,6 @@
 -- Arguments go to parameters.
-use Rattle.std.proofs.{Common.{◌≡◌, ℕ, zero, suc, ◌+◌, ◌<◌, ◌==◌, eqb-true, Bool, true, false, cond, List, [], ◌∷◌, ◌++◌, map, slice_get, refl, ap, sym, ◌∙◌, subst, arith, Some, None, Contains}, lemmas.Bool.false≢true}
-use Rattle.std.specs.List.{AllByRecursion}
-use Rattle.sharc_tree.specs.{declared.tree.declaration.Declaration.Declaration, Tree.{Expression, Arguments, no_arguments, argument, value, Function}}
+use Rattle.sharc_accepted_laws.proofs.{Imports.{◌≡◌, ℕ, zero, suc, ◌+◌, ◌<◌, ◌==◌, eqb-true, Bool, true, false, cond, List, [], ◌∷◌, ◌++◌, map, slice_get, refl, ap, sym, ◌∙◌, subst, arith, Some, None, Contains, false≢true, AllByRecursion, Declaration, Expression, Arguments, no_arguments, argument, value, Function, Named, is_pointer, declared_kind, declared_kinds, Int, Reference, Resolution, named_at, functions_in, declaration_at, variable_kind, locals_in_all, variable, passed, IsItself, EachNamesItself, is_constant_named, constant_use, argument_use, cell_at, Slot, is_ref, parameters_scope, behind_int, behind_ref, slot_kind, Context, slot_of, ref_count, register_from, register_of, number_in, kind_in, NameSuits, Suits, ArgumentsSuit, IsAccepted, AreStanding, at_entry, argument_type, AreCopies, ArgumentsFit, held_named, held_at, ScopeLaws, variable_type, pointers, entry_named, type_for, wants_of, CallsPass, ArgumentsStand, CallingLaws, typing, IsFunction, StaticType, Refers, Label, HasCopy, Passes, Setting, IsCopyIn, IsCopyNamed, IsCopyOf, ArgumentAt, ArgumentsAt, same_some, none_some, front, each, head_there, tail_there, of_each}, TypableRegisters.reference_found}
 use Rattle.sharc_tree.specs.Tree as tree
-use Rattle.sharc_names.specs.declared.fault.Named.TheVariants as named
-use Rattle.sharc_names.specs.Kinds.{is_pointer, declared_kind, declared_kinds}
-use Rattle.sharc_code.specs.declared.instr.Register.TheVariants.{Int, Reference}
-use Rattle.sharc_ctype.specs.{Resolved.{Resolution, named_at, functions_in, declaration_at, variable_kind}, Statements.locals_in_all, Transfers.{variable, passed}}
-use Rattle.sharc_ctype_laws.specs.{Declared.IsItself, Laws.EachNamesItself}
-use Rattle.sharc_mode.specs.{Rows.{is_constant_named, constant_use, argument_use}, Cells.cell_at}
-use Rattle.sharc_flat.specs.{declared.slot.Slot.Slot, Flattened.{is_ref, parameters_scope, behind_int, behind_ref}, Scope.{slot_kind, Context, slot_of, ref_count, register_from, register_of, number_in}, Suits.{kind_in, NameSuits, Suits, ArgumentsSuit}}
-use Rattle.sharc_accepted_laws.specs.{StaticLaws.IsAccepted, Calls.{AreStanding, at_entry, argument_type, AreCopies, ArgumentsFit}, Held.{held_named, held_at}, Scopes.ScopeLaws, Static.{variable_type, pointers, entry_named}, Calling.{type_for, wants_of, CallsPass, ArgumentsStand, CallingLaws}, Typing.typing}
-use Rattle.sharc_check.specs.Constructs.{IsFunction}
-use Rattle.sharc_invariant.specs.{Types.StaticType, Labels.{Refers, Label, HasCopy}, Typed.Passes}
-use Rattle.sharc_typed_laws.specs.{Stretches.Setting, Premises.{IsCopyIn, IsCopyNamed, IsCopyOf}, Typable.{ArgumentAt, ArgumentsAt}}
-use Rattle.sharc_accepted_laws.proofs.TypableRegisters.{reference_found}
-use Rattle.sharc_lemmas.proofs.{Options.{same_some, none_some}, Lists.{front, each, head_there, tail_there, of_each}}
 
 pointer_low : (list : List Slot) (p : ℕ) → p < ref_count list → (x : ℕ) × (slice_get (pointers list) p ≡ Some x)
 pointer_low [] p low = absurd (omega (arith, low))
@@ -70,18 +55,18 @@ module _ (z : Setting) (f : ℕ) (c : Context) (l : Label) where
       by false pointer true same q h is more = absurd (false≢true (sym (same ∙ pointer)))
 
   -- ---- the copies of constant variables
-  copy_named : (a : Expression) (at y copy q : ℕ) → constant_use r a ≡ Some at → named_at r at ≡ named.Variable y → register_of c.scope y ≡ Reference q → held_at c q ≡ true → IsCopyOf typing c a copy → copy ≡ q
+  copy_named : (a : Expression) (at y copy q : ℕ) → constant_use r a ≡ Some at → named_at r at ≡ Named.Variable y → register_of c.scope y ≡ Reference q → held_at c q ≡ true → IsCopyOf typing c a copy → copy ≡ q
   copy_named (tree.identifier s i) at y copy q used names there_is held h = by (is_constant_named r (named_at r i.site.token)) used
     where
       by : (b : Bool) → cond b (Some i.site.token) None ≡ Some at → copy ≡ q
       by true is =
-          let what : named_at r i.site.token ≡ named.Variable y = ap (named_at r) (same_some i.site.token at is) ∙ names in
+          let what : named_at r i.site.token ≡ Named.Variable y = ap (named_at r) (same_some i.site.token at is) ∙ names in
           subst (λ g. IsCopyIn typing c (number_in g) copy) there_is (subst (λ w. IsCopyNamed typing c w copy) what h) held
       by false is = absurd (none_some at is)
   copy_named _ at y copy q used names there_is held h = absurd (none_some at used)
 
   copy_at : (ds : List Declaration) (wants : ℕ → StaticType) (all : Arguments) (i k j n : ℕ) → ArgumentsSuit c (declared_kinds ds) all → Given ds wants all i (k + n) → AllByRecursion (λ d. declaration_at r d.name.site.token ≡ Some d) ds
-      → (x at y q : ℕ) → is_pointer (variable_kind (declaration_at r x)) ≡ true → argument_use r ds all x ≡ Some at → named_at r at ≡ named.Variable y → register_of c.scope y ≡ Reference q → held_at c q ≡ true
+      → (x at y q : ℕ) → is_pointer (variable_kind (declaration_at r x)) ≡ true → argument_use r ds all x ≡ Some at → named_at r at ≡ Named.Variable y → register_of c.scope y ≡ Reference q → held_at c q ≡ true
       → l.same (k + number_in (register_from j n (map slot_of ds) x)) ≡ q
   copy_at [] wants all i k j n suits h declared x at y q pointer used names there_is held = absurd (none_some at used)
   copy_at (d ∷ ds) wants no_arguments i k j n suits h declared x at y q pointer used names there_is held = absurd suits
@@ -106,12 +91,12 @@ module _ (z : Setting) (f : ℕ) (c : Context) (l : Label) where
 
 -- ---- constant variables stand
 module _ (c : Context) where
-  use_stands : (a : Expression) (at y : ℕ) → Suits c a → constant_use c.program.typed a ≡ Some at → named_at c.program.typed at ≡ named.Variable y → is_ref c a ≡ true → slot_kind c.scope y ≡ Some true
+  use_stands : (a : Expression) (at y : ℕ) → Suits c a → constant_use c.program.typed a ≡ Some at → named_at c.program.typed at ≡ Named.Variable y → is_ref c a ≡ true → slot_kind c.scope y ≡ Some true
   use_stands (tree.identifier s i) at y suits used names ref = by (is_constant_named c.program.typed (named_at c.program.typed i.site.token)) used
     where
       by : (b : Bool) → cond b (Some i.site.token) None ≡ Some at → slot_kind c.scope y ≡ Some true
       by true is =
-          let what : named_at c.program.typed i.site.token ≡ named.Variable y = ap (named_at c.program.typed) (same_some i.site.token at is) ∙ names in
+          let what : named_at c.program.typed i.site.token ≡ Named.Variable y = ap (named_at c.program.typed) (same_some i.site.token at is) ∙ names in
           subst (λ w. NameSuits c (kind_in c (tree.identifier s i)) (cell_at c.program (tree.identifier s i)) w) what suits ∙ ap Some ref
       by false is = absurd (none_some at is)
   use_stands _ at y suits used names ref = absurd (none_some at used)
@@ -132,9 +117,9 @@ module _ (c : Context) where
 parameters_declared : EachNamesItself → (c : Context) → IsAccepted c.program → (g : Function) → IsFunction c.program g → AllByRecursion (λ d. declaration_at c.program.typed d.name.site.token ≡ Some d) g.parameters
 parameters_declared themselves c a g there =
     let r = c.program.typed in
-    each (IsItself r named.Variable) (λ d. declaration_at r d.name.site.token ≡ Some d) (λ d h. h.1) g.parameters
-    (front (IsItself r named.Variable) g.parameters (locals_in_all g.statements)
-    (of_each (λ f. AllByRecursion (IsItself r named.Variable) (f.parameters ++ locals_in_all f.statements)) (functions_in r.program.items) g (themselves r a.resolved a.placed a.low).variables there))
+    each (IsItself r Named.Variable) (λ d. declaration_at r d.name.site.token ≡ Some d) (λ d h. h.1) g.parameters
+    (front (IsItself r Named.Variable) g.parameters (locals_in_all g.statements)
+    (of_each (λ f. AllByRecursion (IsItself r Named.Variable) (f.parameters ++ locals_in_all f.statements)) (functions_in r.program.items) g (themselves r a.resolved a.placed a.low).variables there))
 
 arguments_stand : EachNamesItself → ArgumentsStand
 arguments_stand themselves c a g there all suits = stands_by c g.parameters all suits (parameters_declared themselves c a g there)

@@ -1,24 +1,9 @@
 -- Calls of the program's functions.
-use Rattle.std.proofs.Common.{◌≡◌, ℕ, zero, suc, ◌+◌, ◌≤◌, nat_lt, ltb-true, ltb-false, Bool, true, false, cond, List, [], ◌∷◌, refl, ap, sym, ◌∙◌, subst, arith, Option, Some, None, IsSomeAnd, Contains}
-use Rattle.sharc_tree.specs.{declared.token.Span.Span, declared.tree.declaration.Identifier.Identifier, Measures.in_function, Tree.{Expression, Arguments, call, Function}}
-use Rattle.sharc_names.specs.declared.fault.Named.TheVariants as named
-use Rattle.sharc_names.specs.Kinds.{is_integer, is_null, declared_kind, declared_kinds}
-use Rattle.sharc_code.specs.{declared.code.Code.Code, declared.code.GlobalCells.GlobalCells, declared.instr.Width.Width}
-use Rattle.sharc_code.specs.declared.instr.Width.TheVariants as widths
-use Rattle.sharc_ctype.specs.{Reaches.{of_all, Names, runs, Runs}, Resolved.{Resolution, named_at, functions_in, function_at}, Transfers.{parameters_of, parameters_named}}
-use Rattle.sharc_ctype_laws.specs.Constraints.{HaveTypes}
-use Rattle.sharc_meaning.specs.State.{is_reference}
-use Rattle.sharc_mode.specs.Moded.{Assignment}
-use Rattle.sharc_check.specs.Constructs.{IsFunction, IsCall, called}
-use Rattle.sharc_flat.specs.{Flattened.{kind_of, is_ref, parameters_scope, in_function as context_in}, Places.width_of, Scope.{Context, int_count, ref_count}, Suits.ArgumentsSuit}
-use Rattle.sharc_invariant.specs.{Types.StaticType, Labels.{Empty, Refers, Anything, Within, Label, Signature, LessNumber, Narrower}, Typed.Passes}
-use Rattle.sharc_typed_laws.specs.{Places.IsPlain, Stretches.Setting, Typable.{type_by, ArgumentsAt, AreFree, refs_behind, IsTypeIn, ResultTyped, CallTyped}}
-use Rattle.sharc_accepted_laws.specs.{Typed.IsOf, Calls.AreStanding, StaticLaws.IsAccepted, Static.{result_type, variable_entry}, Calling.wants_of, Typing.typing, Setting.{function_signature, signature_by, setting_of, IsSet}}
-use Rattle.sharc_accepted_laws.proofs.{Arguments.{AllGo, all_go, refs_counted, integer_passed, parameters_declared}, Facts.{Laws, expression_of, is_at, has_type}, Forms.{reference_pointer, call_typed, function_parameters}, TargetLists.{place_there, left_there, right_there}}
-use Rattle.sharc_lemmas.proofs.{Lists.head_there, Equal.none_there}
+use Rattle.sharc_accepted_laws.proofs.{Imports.{◌≡◌, ℕ, zero, suc, ◌+◌, ◌≤◌, nat_lt, ltb-true, ltb-false, Bool, true, false, cond, List, [], ◌∷◌, refl, ap, sym, ◌∙◌, subst, arith, Option, Some, None, IsSomeAnd, Contains, Span, Identifier, in_function, Expression, Arguments, call, Function, Named, is_integer, is_null, declared_kind, declared_kinds, Code, GlobalCells, Width, of_all, Names, runs, Runs, Resolution, named_at, functions_in, function_at, parameters_of, parameters_named, HaveTypes, is_reference, Assignment, IsFunction, IsCall, called, kind_of, is_ref, parameters_scope, context_in, width_of, Context, int_count, ref_count, ArgumentsSuit, StaticType, Empty, Refers, Anything, Within, Label, Signature, LessNumber, Narrower, Passes, Setting, type_by, ArgumentsAt, AreFree, refs_behind, IsTypeIn, ResultTyped, CallTyped, IsOf, AreStanding, IsAccepted, result_type, variable_entry, wants_of, typing, function_signature, signature_by, setting_of, IsSet, head_there, none_there}, Arguments.{AllGo, all_go, refs_counted, integer_passed, parameters_declared}, Facts.{Laws, expression_of, is_at, has_type}, Forms.{reference_pointer, call_typed, function_parameters}, TargetLists.{place_there, left_there, right_there}}
+use Rattle.sharc_typed_laws.specs.Places.{IsPlain}
 
 pub narrower_same : (w : Width) → Narrower w w
-narrower_same widths.Int = tt
+narrower_same Width.Int = tt
 narrower_same _ = tt
 
 -- ---- lists
@@ -49,7 +34,7 @@ module _ (laws : Laws) (c : Context) (code : Code) (alone : ℕ → Bool) (lines
   abbrev frame : Function → Context
   frame f = context_in m c.globals f
 
-  module _ (s : Span) (i : Identifier) (all : Arguments) (at : IsOf c n g (call s i all)) (k : ℕ) (f : Function) (names : named_at r i.site.token ≡ named.Function k) (there : function_at r k ≡ Some f)
+  module _ (s : Span) (i : Identifier) (all : Arguments) (at : IsOf c n g (call s i all)) (k : ℕ) (f : Function) (names : named_at r i.site.token ≡ Named.Function k) (there : function_at r k ≡ Some f)
       (kind_is : kind_of c (call s i all) ≡ declared_kind f.result) (suits : ArgumentsSuit c (declared_kinds f.parameters) all) where
     abbrev e : Expression
     e = call s i all
@@ -87,7 +72,7 @@ module _ (laws : Laws) (c : Context) (code : Code) (alone : ℕ → Bool) (lines
         alone_is m c.globals (alone n) (function_at r n) ∙ set.alone_are.caller n k run told
       where
         run : Runs r n k
-        run = subst (λ o. IsSomeAnd o (λ f. Names r (named.Function k) (of_all runs (in_function f)))) (sym at.function)
+        run = subst (λ o. IsSomeAnd o (λ f. Names r (Named.Function k) (of_all runs (in_function f)))) (sym at.function)
             (i.site.token, of_all_there runs (in_function g) e i.site.token at.parts.0 (head_there i.site.token []), names)
 
     -- ---- references

@@ -1,18 +1,5 @@
 -- The cells of an accepted program, by the laws of accesses.
-use Rattle.std.proofs.Common.{◌≡◌, ℕ, Bool, true, refl, ap, sym, ◌∙◌, arith, lt-ltb, Contains}
-use Rattle.std.specs.List.{AllByRecursion}
-use Rattle.sharc_tree.specs.{Measures.{expressions, in_function}, Tree.{Expression, call, Function}}
-use Rattle.sharc_names.specs.Kinds.{is_pointer, mutex_pointer}
-use Rattle.sharc_code.specs.declared.code.Code.{Code}
-use Rattle.sharc_ctype.specs.Resolved.{functions_in, function_at}
-use Rattle.sharc_mode.specs.Moded.{Assignment}
-use Rattle.sharc_check.specs.Constructs.{IsExpression}
-use Rattle.sharc_flat.specs.{Flattened.kind_of, Scope.Context}
-use Rattle.sharc_invariant.specs.Labels.{Refers}
-use Rattle.sharc_typed_laws.specs.{Stretches.Setting, Typable.{type_by, IsPointer}}
-use Rattle.sharc_accepted_laws.specs.{Accesses.IsCodeOf, AccessFirsts.{type_of_mutex, type_of_condition, KnowsCondition, HasFirstCells, FirstsFit}, Joined.IsTypingOf, Paths.PathsLead, Typed.{IsOf, LvaluesAreTyped}, Alone.AreAlone, Conditions.KnownCalls, Scopes.ScopeLaws, Standing.ExpressionStands, Static.entry_of, TypableLaws.ValueLaws, Typing.typing, Cells.CellsAreTyped, Expressions.{ConditionsTyped, CellsTyped}, Setting.{setting_of, IsSet}}
-use Rattle.sharc_accepted_laws.proofs.{Members.first_of, TargetLists.place_there, Calls.alone_is as same_alone}
-use Rattle.sharc_lemmas.proofs.Lists.{each}
+use Rattle.sharc_accepted_laws.proofs.{Imports.{◌≡◌, ℕ, Bool, true, refl, ap, sym, ◌∙◌, arith, lt-ltb, Contains, AllByRecursion, expressions, in_function, Expression, call, Function, is_pointer, mutex_pointer, Code, functions_in, function_at, Assignment, IsExpression, kind_of, Context, Refers, Setting, type_by, IsPointer, IsCodeOf, type_of_mutex, type_of_condition, KnowsCondition, HasFirstCells, FirstsFit, IsTypingOf, PathsLead, IsOf, LvaluesAreTyped, AreAlone, KnownCalls, ScopeLaws, ExpressionStands, entry_of, ValueLaws, typing, CellsAreTyped, ConditionsTyped, CellsTyped, setting_of, IsSet, each}, Members.first_of, TargetLists.place_there, Calls.{alone_is as same_alone}}
 
 told_alone : (m : Assignment) (alone told : ℕ → Bool) → ((k : ℕ) → told k ≡ alone k) → AreAlone m alone → AreAlone m told
 told_alone m alone told same a = record {

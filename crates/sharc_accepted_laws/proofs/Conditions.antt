@@ -1,20 +1,5 @@
 -- Calls of `wait`, `signal` and `broadcast`.
-use Rattle.std.proofs.{Common.{◌≡◌, inl, inr, ℕ, zero, suc, Bool, true, false, List, [], ◌∷◌, ◌++◌, refl, ap, sym, ◌∙◌, subst, option_map, Some, None, bytes_eq, codes, if◌then◌else◌}, lemmas.Bool.false≢true}
-use Rattle.sharc_tree.specs.{declared.token.NumberType.NumberType, declared.token.Span.Span, declared.tree.declaration.Identifier.Identifier, Measures.{expressions, in_arguments}, Tree.{Expression, call, Arguments, no_arguments, argument, Function}, declared.ctype.Base.Base}
-use Rattle.sharc_tree.specs.declared.token.NumberType.TheVariants as number_types
-use Rattle.sharc_tree.specs.declared.tree.expression.Constant.TheVariants as constants
-use Rattle.sharc_names.specs.declared.fault.Named.TheVariants as named
-use Rattle.sharc_names.specs.{declared.meaning.ConditionCall.TheVariants.{Wait, Signal, Broadcast}, Kinds.{Kind, object, null, is_pointer, is_null, condition_pointer, mutex_pointer}}
-use Rattle.sharc_code.specs.declared.code.Code.{Code}
-use Rattle.sharc_ctype.specs.{Expressions.number_kind, Resolved.{Resolution, named_at, function_at, kind_at}}
-use Rattle.sharc_ctype_laws.specs.Constraints.{HasType, HaveTypes, none_left, one_more, Callee, of_program, of_conditions, Assignable, integer, pointer, null_pointer, Common, both_shorter, a_global, a_function, a_constant, in_parentheses, a_call, negated, complemented, arithmetic, shifted}
-use Rattle.sharc_meaning.specs.State.{is_reference}
-use Rattle.sharc_mode.specs.{Moded.Assignment, Rows.{modes_of, row_at}}
-use Rattle.sharc_flat.specs.{Flattened.{kind_of, is_ref}, Scope.Context, Suits.{Either, ReferencesSuit}}
-use Rattle.sharc_invariant.specs.{Types.{StaticType, Content, MutexWord, Waiters, SomeNames}, Labels.Empty}
-use Rattle.sharc_typed_laws.specs.{Stretches.Setting, Typable.{type_by, GoesTo, FirstCell, IsTypeIn, IsVoid, Goes, AreTwo, IsOne, AreTypable, ConditionTyped, CallTypable}}
-use Rattle.sharc_accepted_laws.specs.{Typed.IsOf, Static.{entry_by, entry_of}, Typing.typing, Expressions.{HasFirst, ConditionsTyped}, Setting.{setting_of, IsSet}}
-use Rattle.sharc_accepted_laws.proofs.{Arguments.{Parts, part_of, first_part, second_part, AllSuit, AllGo}, Facts.{Laws, has_type, pointer_of}, Forms.{call_typed, reference_scalar, global_null as global_some}}
+use Rattle.sharc_accepted_laws.proofs.{Imports.{◌≡◌, inl, inr, ℕ, zero, suc, Bool, true, false, List, [], ◌∷◌, ◌++◌, refl, ap, sym, ◌∙◌, subst, option_map, Some, None, bytes_eq, codes, if◌then◌else◌, false≢true, NumberType, Span, Identifier, expressions, in_arguments, Expression, call, Arguments, no_arguments, argument, Function, Base, Constant, Named, Wait, Signal, Broadcast, Kind, object, null, is_pointer, is_null, condition_pointer, mutex_pointer, Code, number_kind, Resolution, named_at, function_at, kind_at, HasType, HaveTypes, none_left, one_more, Callee, of_program, of_conditions, Assignable, integer, pointer, null_pointer, Common, both_shorter, a_global, a_function, a_constant, in_parentheses, a_call, negated, complemented, arithmetic, shifted, is_reference, Assignment, modes_of, row_at, kind_of, is_ref, Context, Either, ReferencesSuit, StaticType, Content, MutexWord, Waiters, SomeNames, Empty, Setting, type_by, GoesTo, FirstCell, IsTypeIn, IsVoid, Goes, AreTwo, IsOne, AreTypable, ConditionTyped, CallTypable, IsOf, entry_by, entry_of, typing, HasFirst, ConditionsTyped, setting_of, IsSet}, Arguments.{Parts, part_of, first_part, second_part, AllSuit, AllGo}, Facts.{Laws, has_type, pointer_of}, Forms.{call_typed, reference_scalar, global_null as global_some}}
 
 -- ---- NULL
 pub object_no_null : (b : Base) (n : ℕ) → object b n ≡ null → ⊥
@@ -29,8 +14,8 @@ common_no_null _ _ _ (both_shorter a b) h = object_no_null _ _ h
 common_no_null _ _ _ _ h = object_no_null _ _ h
 
 pub number_no_null : (t : NumberType) → number_kind t ≡ null → ⊥
-number_no_null number_types.Int h = object_no_null _ _ h
-number_no_null number_types.Long h = object_no_null _ _ h
+number_no_null NumberType.Int h = object_no_null _ _ h
+number_no_null NumberType.Long h = object_no_null _ _ h
 
 some_kind : (k : Kind) → is_null k ≡ false → k ≡ null → ⊥
 some_kind k some h = false≢true (sym some ∙ ap is_null h)
@@ -39,8 +24,8 @@ some_kind k some h = false≢true (sym some ∙ ap is_null h)
 null_row : (r : Resolution) (e : Expression) (k : Kind) → HasType r e k → k ≡ null → row_at r e ≡ None
 null_row r _ _ (a_global {g = g} is at spelled) h = absurd (some_kind _ (global_some g.form _ _) h)
 null_row r _ _ (a_function q) h = absurd (some_kind _ refl h)
-null_row r _ _ (a_constant {c = constants.Number n}) h = absurd (number_no_null n.number_type h)
-null_row r _ _ (a_constant {c = constants.Null}) h = refl
+null_row r _ _ (a_constant {c = Constant.Number n}) h = absurd (number_no_null n.number_type h)
+null_row r _ _ (a_constant {c = Constant.Null}) h = refl
 null_row r _ _ (in_parentheses {a = a} {k = k} t) h = null_row r a k t h
 null_row r _ _ (a_call {f = f} q x) h = absurd (function_no_null r f _ _ q h)
 null_row r _ _ (negated a i x) h = absurd (common_no_null _ _ _ x h)
@@ -139,10 +124,10 @@ module _ (laws : Laws) (c : Context) (code : Code) (alone : ℕ → Bool) (lines
         typed = subst (λ b. Either b (AreTwo z n typing c (argument a no_arguments) × FirstCell z x.type Waiters × FirstCell z x.type MutexWord) (IsOne z n typing c (argument a no_arguments) × FirstCell z x.type Waiters)) (sym other) (x.ref, x.first);
       }
 
-  function_is_no_known : (k : ℕ) → named.Function k ≡ named.Known → ⊥
+  function_is_no_known : (k : ℕ) → Named.Function k ≡ Named.Known → ⊥
   function_is_no_known k h = cc
 
-  by_callee : (i : Identifier) (all : Arguments) (ps : List Kind) (res : Kind) → Callee r i ps res → named_at r i.site.token ≡ named.Known → HaveTypes r all ps → Parts c n g (in_arguments all) → function_at r n ≡ Some g
+  by_callee : (i : Identifier) (all : Arguments) (ps : List Kind) (res : Kind) → Callee r i ps res → named_at r i.site.token ≡ Named.Known → HaveTypes r all ps → Parts c n g (in_arguments all) → function_at r n ≡ Some g
       → ReferencesSuit c (if bytes_eq i.text (codes "wait") then 2 else 1) all → KnownCall i.text all
   by_callee i all _ _ (of_program {n = k} f is at spelled other) known typed parts here suits = absurd (function_is_no_known k (sym is ∙ known))
   by_callee i all _ _ (of_conditions Wait is spelled) known typed parts here suits = two i.text spelled all parts here typed (subst (λ t. ReferencesSuit c (if bytes_eq t (codes "wait") then 2 else 1) all) spelled suits)
@@ -151,9 +136,9 @@ module _ (laws : Laws) (c : Context) (code : Code) (alone : ℕ → Bool) (lines
   by_callee i all _ _ (of_conditions Broadcast is spelled) known typed parts here suits =
       single i.text (ap (λ t. bytes_eq t (codes "wait")) spelled) all parts here typed (subst (λ t. ReferencesSuit c (if bytes_eq t (codes "wait") then 2 else 1) all) spelled suits)
 
-  pub known_call : (s : Span) (i : Identifier) (all : Arguments) → At (call s i all) → named_at r i.site.token ≡ named.Known → ReferencesSuit c (if bytes_eq i.text (codes "wait") then 2 else 1) all
+  pub known_call : (s : Span) (i : Identifier) (all : Arguments) → At (call s i all) → named_at r i.site.token ≡ Named.Known → ReferencesSuit c (if bytes_eq i.text (codes "wait") then 2 else 1) all
       → ((kinds : List Kind) (wants : ℕ → StaticType) → AllSuit c n g all → AllGo z n c kinds wants all → AreTypable z n typing c kinds wants all)
-      → IsVoid z n typing c (call s i all) → CallTypable z n typing c (call s i all) named.Known i.text all (λ kinds wants. AreTypable z n typing c kinds wants all)
+      → IsVoid z n typing c (call s i all) → CallTypable z n typing c (call s i all) Named.Known i.text all (λ kinds wants. AreTypable z n typing c kinds wants all)
   known_call s i all at known suits args void =
       let t = call_typed r s i all (kind_of c (call s i all)) (has_type laws c code alone lines set n g (call s i all) at) in
       let w = by_callee i all t.0 t.1 t.2 known t.3 (at.parts.1, at.stand.1) at.function suits in

@@ -1,20 +1,7 @@
 -- The rows of expressions and of what is declared: how many targets they have, and that the first one's shape is one of the program.
-use Rattle.std.proofs.{Common.{◌≡◌, ℕ, zero, suc, ◌+◌, ◌-◌, ◌<◌, ◌≤◌, ◌==◌, eqb-true, Bool, true, false, cond, List, [], ◌∷◌, length, map, take, drop, refl, ap, sym, ◌∙◌, subst, arith, Option, Some, None, Contains}, lemmas.Bool.eqb-false}
-use Rattle.std.specs.List.{AllByRecursion}
-use Rattle.sharc_tree.specs.{declared.ctype.Base.Base, declared.ctype.Mode.Mode, declared.tree.declaration.Declaration.Declaration, declared.tree.declaration.WrittenType.WrittenType, declared.tree.declaration.Identifier.Identifier, declared.tree.expression.FieldOperator.TheVariants.{Dot, Arrow}, declared.tree.expression.Constant.Constant, declared.tree.expression.Constant.TheVariants.{Number, Character, Null}, declared.token.NumberType.NumberType, declared.tree.item.GlobalDefinition.GlobalDefinition, declared.tree.item.GlobalForm.GlobalForm, declared.tree.item.GlobalForm.TheVariants.Array, Measures.{expressions, in_function}, Tree.{Expression, Function}}
-use Rattle.sharc_tree.specs.declared.token.NumberType.TheVariants as number_type
-use Rattle.sharc_names.specs.declared.fault.Named.TheVariants as named
-use Rattle.sharc_names.specs.{declared.types.Role.Role, Kinds.{Kind, object, array, is_array, declared_kind, int}, Names.global_kind}
-use Rattle.sharc_names.specs.declared.types.Role.TheVariants as role
+use Rattle.sharc_accepted_laws.proofs.{Imports.{◌≡◌, ℕ, zero, suc, ◌+◌, ◌-◌, ◌<◌, ◌≤◌, ◌==◌, eqb-true, Bool, true, false, cond, List, [], ◌∷◌, length, map, take, drop, refl, ap, sym, ◌∙◌, subst, arith, Option, Some, None, Contains, eqb-false, AllByRecursion, Base, Mode, Declaration, WrittenType, Identifier, Dot, Arrow, Constant, Number, Character, Null, NumberType, GlobalDefinition, GlobalForm, Array, expressions, in_function, Expression, Function, Named, Role, Kind, object, array, is_array, declared_kind, int, global_kind, Entity, Numbered, declared, cast_entity, result_of, entities_in, entity_at, positions_of, first_depth, constant_kind, number_kind, Resolution, named_at, declaration_at, globals_in, functions_in, structs_in, kind_at, Callee, of_program, of_conditions, Common, both_shorter, HasType, IsMemberOf, IsFound, EachTypeFound, MeetsConstraints, OneType, Assignment, position_count, base_of, PathReading, written, Targets, no_row, deeper, targets_from, entity_row, declared_row, global_row, named_row, result_row, called_row, behind, constant_row, reading_through, base_use, row_at, modes_of, IsEntity, IsRowOf, ExpressionsFound, VariablesFound, ResultsFound, Form, form_of, row_shape, shapes, stars_in, same_some, none_some, front, of_each, to_each}, Fits.entity_there, TargetForms.{mode_form, row_forms, row_length, same_forms}, Found.{IsThere, is_there, field_found, global_found}, TargetLists.place_there, Numbers.shapes_closed, Settling.{positioned, dropped_length}, TargetWalk.{CastFound, declaration_found, function_casts, function_closed, result_found}, Laying.{named_there as struct_there}, StaticSiblings.{found_there as member_there}}
 use Rattle.sharc_names.specs.Kinds as kinds
-use Rattle.sharc_ctype.specs.{declared.entity.Entity.Entity, declared.entity.Numbered.Numbered, Entities.{declared, cast_entity, result_of, entities_in, entity_at, positions_of, first_depth}, Expressions.{constant_kind, number_kind}, Resolved.{Resolution, named_at, declaration_at, globals_in, functions_in, structs_in, kind_at}}
-use Rattle.sharc_ctype_laws.specs.{Constraints.{Callee, of_program, of_conditions, Common, both_shorter, HasType, IsMemberOf}, Found.{IsFound, EachTypeFound}, Laws.{MeetsConstraints, OneType}}
 use Rattle.sharc_ctype_laws.specs.Constraints as typing
-use Rattle.sharc_mode.specs.{Moded.{Assignment, position_count}, Notes.base_of, Rows.{PathReading, written, Targets, no_row, deeper, targets_from, entity_row, declared_row, global_row, named_row, result_row, called_row, behind, constant_row, reading_through, base_use, row_at, modes_of}}
-use Rattle.sharc_check.specs.Constructs.{IsEntity}
-use Rattle.sharc_accepted_laws.specs.{TargetLaws.{IsRowOf, ExpressionsFound, VariablesFound, ResultsFound}, Shapes.{Form, form_of, row_shape, shapes, stars_in}}
-use Rattle.sharc_accepted_laws.proofs.{Fits.entity_there, TargetForms.{mode_form, row_forms, row_length, same_forms}, Found.{IsThere, is_there, field_found, global_found}, TargetLists.place_there, Numbers.shapes_closed, Settling.{positioned, dropped_length}, TargetWalk.{CastFound, declaration_found, function_casts, function_closed, result_found}, Laying.named_there as struct_there, StaticSiblings.found_there as member_there}
-use Rattle.sharc_lemmas.proofs.{Options.{same_some, none_some}, Lists.{front, of_each, to_each}}
 
 -- ---- one level further
 tail_forms : (count first : ℕ) (modes : List Mode) → first + suc count ≤ length modes → (f : Form) × (map mode_form (take (suc count) (drop first modes)) ≡ f ∷ map mode_form (take count (drop (first + 1) modes)))
@@ -87,7 +74,7 @@ module _ (m : Assignment) where
           let same : first_depth n.entity.role ≡ 1 = ap first_depth e ∙ depth in
           record { first = n.first; count = positions_of n.entity; is = λ how. ap (λ z. targets_from z (made n.first (positions_of n.entity) how)) e ∙ is how; ends = ends; many = omega (arith, size, same) }
 
-      below : n.entity.role ≡ role.Global → (b : Bool) → (positions_of n.entity == 0) ≡ b → IsPart n
+      below : n.entity.role ≡ Role.Global → (b : Bool) → (positions_of n.entity == 0) ≡ b → IsPart n
       below e true none =
           let zero_is = eqb-true (positions_of n.entity) 0 none in
           let size = counted in
@@ -113,7 +100,7 @@ module _ (m : Assignment) where
           }
 
       by : (w : Role) → n.entity.role ≡ w → IsPart n
-      by role.Global e = below e (positions_of n.entity == 0) refl
+      by Role.Global e = below e (positions_of n.entity == 0) refl
       by k e = plain k e refl (λ how. refl)
 
   module _ (size : length m.modes ≡ position_count m.typed) (all : AllByRecursion (IsFound m.typed) (entities_in m.typed.program.items)) where
@@ -155,17 +142,17 @@ module _ (m : Assignment) where
     global_row_of g has how = by g.form
       where
         plain : IsRowOf m (declared_kind g.declaration.written) (declared_row r how g.declaration.name.site.token)
-        plain = there_row (declared role.Global g.declaration) (global_found m all g has) how
+        plain = there_row (declared Role.Global g.declaration) (global_found m all g has) how
 
         by : (form : GlobalForm) → IsRowOf m (global_kind form (declared_kind g.declaration.written)) (declared_row r how g.declaration.name.site.token)
         by (Array at count) = same_kind (declared_kind g.declaration.written) (array g.declaration.written.ctype.base _) _ refl refl plain
         by _ = plain
 
     -- ---- members
-    member_row : (x name : List ℕ) (d : Declaration) (token : ℕ) (how : PathReading) → IsMemberOf r x name d → named_at r token ≡ named.Field d.name.site.token → IsRowOf m (declared_kind d.written) (named_row r how (named_at r token))
+    member_row : (x name : List ℕ) (d : Declaration) (token : ℕ) (how : PathReading) → IsMemberOf r x name d → named_at r token ≡ Named.Field d.name.site.token → IsRowOf m (declared_kind d.written) (named_row r how (named_at r token))
     member_row x name d token how (s, is_struct, is_field) names =
         subst (λ w. IsRowOf m (declared_kind d.written) (named_row r how w)) (sym names)
-        (there_row (declared role.Field d) (field_found m all s d (struct_there (structs_in r.program.items) x s is_struct) (member_there s.fields name d is_field)) how)
+        (there_row (declared Role.Field d) (field_found m all s d (struct_there (structs_in r.program.items) x s is_struct) (member_there s.fields name d is_field)) how)
 
     -- ---- calls
     callee_row : (i : Identifier) (parameters : List Kind) (k : Kind) → Callee r i parameters k → IsRowOf m k (called_row r (named_at r i.site.token))
@@ -190,8 +177,8 @@ module _ (m : Assignment) where
     constant_row_of (Number n) row is = from (constant_kind (Number n)) no_row row is (none_of (constant_kind (Number n)) (plain n.number_type))
       where
         plain : (t : NumberType) → stars_in (number_kind t) ≡ 0
-        plain number_type.Int = refl
-        plain number_type.Long = refl
+        plain NumberType.Int = refl
+        plain NumberType.Long = refl
     constant_row_of (Character b) row is = from int no_row row is (none_of int refl)
     constant_row_of Null row is = absurd (none_some row is)
 

@@ -1,21 +1,8 @@
 -- What is known of each expression of a function of an accepted program.
-use Rattle.std.proofs.{Common.{◌≡◌, ℕ, Bool, true, false, List, refl, ap, sym, ◌∙◌, subst, option_map, Option, Some, None, Contains}, lemmas.Bool.false≢true}
-use Rattle.sharc_tree.specs.{declared.token.Site.Site, Forms.is_lvalue, Measures.{expressions, in_function}, Spans.span_of, Tree.{Expression, Function}}
-use Rattle.sharc_names.specs.Kinds.{is_pointer, element_kind}
-use Rattle.sharc_code.specs.{declared.code.Code.Code, declared.code.Use.Use}
-use Rattle.sharc_code.specs.declared.code.Use.TheVariants as uses
-use Rattle.sharc_ctype.specs.Resolved.{Resolution, functions_in}
-use Rattle.sharc_ctype_laws.specs.{Constraints.{HasType as IsOfType}, Laws.{MeetsConstraints, MeetsGlobals, OneType, EachNamesItself, EachNamesOwn, ArePlain, SpawnsNameFunctions, SpawnsThreads}}
-use Rattle.sharc_meaning.specs.Cells.{element_cells}
-use Rattle.sharc_mode.specs.{Moded.Assignment, Rows.{Targets, modes_of, row_at, modes_at}, Sharings.Sharing}
-use Rattle.sharc_check.specs.Constructs.{IsFunction, IsExpression, IsTaken}
-use Rattle.sharc_flat.specs.{Flattened.{kind_of, is_ref, target_of, mode_of, lvalue_in, guard_of}, Places.{Target, variable}, Scope.Context, Suits.{IsScalar, is_cell, TakeSuits}}
-use Rattle.sharc_invariant.specs.{Types.{StaticType, cells_of}, Labels.Refers}
-use Rattle.sharc_typed_laws.specs.{Stretches.Setting, Premises.ReferenceTyped, Typable.{type_by, ground_of, IsPointer, CellTyped, ValueTyped, Takes}}
-use Rattle.sharc_accepted_laws.specs.{Joined.BaseStands, Typed.{IsOf, BasesStand}, Calls.ArgumentsFit, StaticLaws.IsAccepted, Results.ResultLaws, Scopes.ScopeLaws, Standing.{ExpressionStands, FunctionsStand}, Starting.SpawnedBegin, Static.{static_of, entry_by, entry_of}, Beside.LocksStandBeside, TargetLaws.{ExpressionsFound, GlobalsAre}, Lvalues.{LvaluesFit, ArraysFit}, Pointees.{pointee, PointeesFit}, Targets.targets_of, Calling.CallingLaws, TypableLaws.{IsAt, ValueLaws}, Taking.TakingLaws, Threads.ThreadsPass, Typing.typing, Expressions.CellsTyped, Setting.{setting_of, IsSet}}
-use Rattle.sharc_accepted_laws.proofs.{Forms.{lvalue_some, reference_pointer}, Members.first_of, Wholes.{facts_of, variable_named}, TargetLists.place_there, AccessFirsts.no_entry as none_refers}
+use Rattle.sharc_accepted_laws.proofs.{Imports.{◌≡◌, ℕ, Bool, true, false, List, refl, ap, sym, ◌∙◌, subst, option_map, Option, Some, None, Contains, false≢true, Site, is_lvalue, expressions, in_function, span_of, Expression, Function, is_pointer, element_kind, Code, Use, Resolution, functions_in, HasType as IsOfType, MeetsConstraints, MeetsGlobals, OneType, EachNamesItself, EachNamesOwn, ArePlain, SpawnsNameFunctions, SpawnsThreads, element_cells, Assignment, Targets, modes_of, row_at, modes_at, Sharing, IsFunction, IsExpression, IsTaken, kind_of, is_ref, target_of, mode_of, lvalue_in, guard_of, Target, Context, IsScalar, is_cell, TakeSuits, StaticType, cells_of, Refers, Setting, ReferenceTyped, type_by, ground_of, IsPointer, ValueTyped, Takes, BaseStands, IsOf, BasesStand, ArgumentsFit, IsAccepted, ResultLaws, ScopeLaws, ExpressionStands, FunctionsStand, SpawnedBegin, static_of, entry_by, entry_of, LocksStandBeside, ExpressionsFound, GlobalsAre, LvaluesFit, ArraysFit, pointee, PointeesFit, targets_of, CallingLaws, IsAt, ValueLaws, TakingLaws, ThreadsPass, typing, CellsTyped, setting_of, IsSet, each}, Forms.{lvalue_some, reference_pointer}, Members.first_of, Wholes.{facts_of, variable_named}, TargetLists.place_there, AccessFirsts.{no_entry as none_refers}}
+use Rattle.sharc_flat.specs.Places.{variable}
+use Rattle.sharc_typed_laws.specs.Typable.{CellTyped}
 use Rattle.sharc_accepted_laws.proofs.Wholes as wholes
-use Rattle.sharc_lemmas.proofs.Lists.{each}
 
 -- ---- the laws of the crates below
 pub record Laws : Type 0 where
@@ -124,10 +111,10 @@ module _ (laws : Laws) (c : Context) (code : Code) (alone : ℕ → Bool) (lines
                 type_by (entry_of c e),
                 (pointer_of pointer).1,
                 (pointer_of pointer).2,
-                subst (λ s. ReferenceTyped z typing c n (target_of c e) (guard_of c e) (ground_of z n typing c e) site (lvalue_in c e) (mode_of c e) false uses.Read s) type
-                    ((cells.lvalues e at base cell).read.reference pointer modes.0 modes.1 site uses.Read),
+                subst (λ s. ReferenceTyped z typing c n (target_of c e) (guard_of c e) (ground_of z n typing c e) site (lvalue_in c e) (mode_of c e) false Use.Read s) type
+                    ((cells.lvalues e at base cell).read.reference pointer modes.0 modes.1 site Use.Read),
               )
-          by false other = (scalar other, (cells.lvalues e at base cell).read.integer (scalar other) site uses.Read)
+          by false other = (scalar other, (cells.lvalues e at base cell).read.integer (scalar other) site Use.Read)
 
       pub value_typed : is_lvalue e ≡ true → is_cell (target_of c e) ≡ true → IsScalar (kind_of c e) → (site : Site) → ValueTyped z n typing c e site
       value_typed lvalue cell scalar site = (cell, cell_typed lvalue cell scalar site)

@@ -1,18 +1,5 @@
 -- The fields of elements that are accessed are fields of them, and so is that with the mutex, or the pointer to it, of the same element.
-use Rattle.std.proofs.Common.{◌≡◌, inl, inr, ℕ, ◌<◌, false, List, [], ◌∷◌, length, slice_index_or, refl, ap, sym, ◌∙◌, subst, arith, option_map, Option, Some, None, Contains}
-use Rattle.sharc_tree.specs.Tree.{Expression}
-use Rattle.sharc_names.specs.Kinds.{is_array, is_struct_behind}
-use Rattle.sharc_ctype.specs.{Globals.elements_of, Resolved.{Resolution, named_at, globals_in, global_at, kind_at}}
-use Rattle.sharc_ctype_laws.specs.{Initials.MeetsGlobal, Laws.MeetsGlobals}
-use Rattle.sharc_meaning.specs.Cells.{field_place}
-use Rattle.sharc_mode.specs.{Cells.{is_mutex_kind, cell_at}, Moded.Assignment, Rows.{modes_of, modes_at}, Sharings.{Lock, Sharing, locked}}
-use Rattle.sharc_check.specs.Constructs.{IsExpression}
-use Rattle.sharc_flat.specs.{Flattened.{kind_of, guard_of}, Places.{Target, in_global, in_global_at, in_object, in_object_at, target, beside_named, beside_field}, Scope.Context}
-use Rattle.sharc_invariant.specs.Types.{Field, FieldMode, no_field, row_of, cells_of, field_at}
-use Rattle.sharc_typed_laws.specs.{Stretches.Setting, Typable.{type_by, AreFields}}
-use Rattle.sharc_accepted_laws.specs.{Accesses.{list_or, modes_of_pointer, cells_in_each}, Joined.{LockLeads, to_global, to_variable, PathLeads}, StaticLaws.IsAccepted, Static.{entry_by, entry_of}, Beside.{BesideFits, AreLockedBeside, LocksStandBeside}, TargetLaws.{ExpressionsFound, GlobalsAre}, Lvalues.{pointer_of, IsOfObject, IsOfGlobal, ModeFits, locked_by_type, locked_by_global, locked_by_sibling, locked_behind, FieldFits, IsBehindPointer, IsInFile, NamesCell, no_cell, of_object, of_global, LvaluesFit}, Shapes.{expression_shape, shapes, number}, Targets.{global_element, targets_of}, Typing.typing}
-use Rattle.sharc_accepted_laws.proofs.{TargetLists.place_there, AccessLeading.no_modes}
-use Rattle.sharc_lemmas.proofs.{Options.{same_some, none_some}, Lists.of_each}
+use Rattle.sharc_accepted_laws.proofs.{Imports.{◌≡◌, inl, inr, ℕ, ◌<◌, false, List, [], ◌∷◌, length, get_or as slice_index_or, refl, ap, sym, ◌∙◌, subst, arith, option_map, Option, Some, None, Contains, Expression, is_array, is_struct_behind, elements_of, Resolution, named_at, globals_in, global_at, kind_at, MeetsGlobal, MeetsGlobals, field_place, is_mutex_kind, cell_at, Assignment, modes_of, modes_at, Lock, Sharing, locked, IsExpression, kind_of, guard_of, Target, in_global, in_global_at, in_object, in_object_at, target, beside_named, beside_field, Context, Field, FieldMode, no_field, row_of, cells_of, field_at, Setting, type_by, AreFields, list_or, modes_of_pointer, cells_in_each, LockLeads, to_global, to_variable, PathLeads, IsAccepted, entry_by, entry_of, BesideFits, AreLockedBeside, LocksStandBeside, ExpressionsFound, GlobalsAre, pointer_of, IsOfObject, IsOfGlobal, ModeFits, locked_by_type, locked_by_global, locked_by_sibling, locked_behind, FieldFits, IsBehindPointer, IsInFile, NamesCell, no_cell, of_object, of_global, LvaluesFit, expression_shape, shapes, number, global_element, targets_of, typing, same_some, none_some, of_each}, TargetLists.place_there, AccessLeading.no_modes}
 
 -- ---- of what an lvalue names
 module _ (z : Setting) (n : ℕ) (c : Context) where

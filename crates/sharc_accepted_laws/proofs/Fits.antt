@@ -1,16 +1,5 @@
 -- In a well-moded program no shape has a racy pointer or struct, nor a private target below one that is not.
-use Rattle.std.proofs.{Common.{◌≡◌, ◌⊎◌, inl, inr, ⊎_elim, ℕ, zero, suc, ◌+◌, ◌-◌, ◌<◌, true, List, [], ◌∷◌, length, map, slice_index_or, refl, ap, sym, ◌∙◌, subst, arith, Option, Some, None, Contains}, lemmas.Bool.{false≢true, cases_lt}}
-use Rattle.std.specs.{List.AllByRecursion, Prelude.slice_get}
-use Rattle.sharc_tree.specs.{declared.ctype.Base.Base, declared.ctype.Mode.Mode, declared.ctype.Mode.TheVariants.{Private, Racy, Dynamic}}
-use Rattle.sharc_tree.specs.declared.ctype.Base.TheVariants as base
-use Rattle.sharc_names.specs.declared.types.Role.TheVariants as role
-use Rattle.sharc_names.specs.Kinds.{is_struct_base}
-use Rattle.sharc_ctype.specs.{declared.entity.Numbered.Numbered, Entities.{entities_in, numbered, positions_of, written_modes, first_depth}}
-use Rattle.sharc_mode.specs.{Flows.IsLeastAssignment, Moded.Assignment, Pairs.IsBelow, Rows.{written, entity_row, modes_of}, Settled.{settled, field_target, otherwise_of, settled_modes}}
-use Rattle.sharc_check.specs.{Constructs.{IsEntity, IsWritten}, Rules.MeetsRules}
-use Rattle.sharc_accepted_laws.specs.{Shapes.{Form, private_form, racy_form, dynamic_form, Shape, form_of, shapes_down, entity_shapes, shapes_of, shapes}, Targets.is_private_form}
-use Rattle.sharc_accepted_laws.proofs.{TargetForms.{mode_form, IsLevel, skipped, level_of}, TargetLists.{left_there, right_there}, Settling.{positioned, racy_found, private_found, SettledAt, settled_by, IsLast, SettledBy, a_mutex, is_written, is_meant, settled_from, never_open, get_dropped, dropped_length, otherwise_top}}
-use Rattle.sharc_lemmas.proofs.{Lists.{both, head_there, head_or_tail, tail_there}, Equal.none_there}
+use Rattle.sharc_accepted_laws.proofs.{Imports.{◌≡◌, ◌⊎◌, inl, inr, ⊎_elim, ℕ, zero, suc, ◌+◌, ◌-◌, ◌<◌, true, List, [], ◌∷◌, length, map, get_or as slice_index_or, refl, ap, sym, ◌∙◌, subst, arith, Option, Some, None, Contains, false≢true, cases_lt, AllByRecursion, slice_get, Base, Mode, Private, Racy, Dynamic, Role, is_struct_base, Numbered, entities_in, numbered, positions_of, written_modes, first_depth, IsLeastAssignment, Assignment, IsBelow, written, entity_row, modes_of, settled, field_target, otherwise_of, settled_modes, IsEntity, IsWritten, MeetsRules, Form, private_form, racy_form, dynamic_form, Shape, form_of, shapes_down, entity_shapes, shapes_of, shapes, is_private_form, both, head_there, head_or_tail, tail_there, none_there}, TargetForms.{mode_form, IsLevel, skipped, level_of}, TargetLists.{left_there, right_there}, Settling.{positioned, racy_found, private_found, SettledAt, settled_by, IsLast, SettledBy, a_mutex, is_written, is_meant, settled_from, never_open, get_dropped, dropped_length, otherwise_top}}
 
 -- ---- forms of modes
 pub form_racy : (mode : Mode) → mode_form mode ≡ racy_form → mode ≡ Racy
@@ -48,11 +37,11 @@ down_fit : (b : Base) (fs : List Form) → AreFit b fs → AllByRecursion IsFitS
 down_fit b [] h = tt
 down_fit b (f ∷ below) h = (h, down_fit b below (fit_below b f below h))
 
-no_struct : (name : List ℕ) → base.Mutex ≡ base.Struct name → ⊥
+no_struct : (name : List ℕ) → Base.Mutex ≡ Base.Struct name → ⊥
 no_struct name h = cc
 
-pub struct_base : (b : Base) → is_struct_base b ≡ true → (name : List ℕ) × (b ≡ base.Struct name)
-struct_base (base.Struct name) h = (name, refl)
+pub struct_base : (b : Base) → is_struct_base b ≡ true → (name : List ℕ) × (b ≡ Base.Struct name)
+struct_base (Base.Struct name) h = (name, refl)
 struct_base _ h = absurd (false≢true h)
 
 racy_dynamic : Racy ≡ Dynamic → ⊥
@@ -81,30 +70,30 @@ module _ (m : Assignment) (least : IsLeastAssignment m) (rules : MeetsRules m) w
     settled_there : (k : ℕ) (mode : Mode) → k < positions_of n.entity → slice_get m.modes (n.first + k) ≡ Some mode → SettledAt m n k mode
     settled_there k mode low at = settled_by m least n (positioned (entities_in m.typed.program.items) 0 n is_entity) k mode low at
 
-    by_written : (k : ℕ) → k < positions_of n.entity → (depth + k + 1 < length levels) ⊎ ((name : List ℕ) × (n.entity.written.ctype.base ≡ base.Struct name)) → IsWritten n.entity (depth + k) Racy → ⊥
+    by_written : (k : ℕ) → k < positions_of n.entity → (depth + k + 1 < length levels) ⊎ ((name : List ℕ) × (n.entity.written.ctype.base ≡ Base.Struct name)) → IsWritten n.entity (depth + k) Racy → ⊥
     by_written k low (inl pointer) w = (rules.m5 n (depth + k) Racy is_entity w).pointer pointer refl
     by_written k low (inr struct) w =
         let many = counted in
         ⊎_elim (λ pointer. (rules.m5 n (depth + k) Racy is_entity w).pointer pointer refl)
         (λ high. (rules.m5 n (depth + k) Racy is_entity w).struct struct.0 struct.1 (omega (arith, high, low, many)) refl) (cases_lt (depth + k + 1) (length levels))
 
-    by_mutex : (k : ℕ) → (depth + k + 1 < length levels) ⊎ ((name : List ℕ) × (n.entity.written.ctype.base ≡ base.Struct name)) → IsLast n.entity.written.ctype.base (written_modes n.entity) k → ⊥
+    by_mutex : (k : ℕ) → (depth + k + 1 < length levels) ⊎ ((name : List ℕ) × (n.entity.written.ctype.base ≡ Base.Struct name)) → IsLast n.entity.written.ctype.base (written_modes n.entity) k → ⊥
     by_mutex k (inl pointer) w = let last = w.last in let many = counted in omega (arith, pointer, last, many)
     by_mutex k (inr struct) w = no_struct struct.0 (sym w.mutex ∙ struct.1)
 
-    by_top : (k : ℕ) → k < positions_of n.entity → (n.entity.role ≡ role.Field) × (slice_get levels 0 ≡ Some (Some Racy)) → ⊥
+    by_top : (k : ℕ) → k < positions_of n.entity → (n.entity.role ≡ Role.Field) × (slice_get levels 0 ≡ Some (Some Racy)) → ⊥
     by_top k low (is, top) =
         let many = counted in
         let one : depth ≡ 1 = ap first_depth is in
         (rules.m5 n 0 Racy is_entity top).pointer (omega (arith, low, many, one)) refl
 
-    by_settled : (k : ℕ) → k < positions_of n.entity → (depth + k + 1 < length levels) ⊎ ((name : List ℕ) × (n.entity.written.ctype.base ≡ base.Struct name))
+    by_settled : (k : ℕ) → k < positions_of n.entity → (depth + k + 1 < length levels) ⊎ ((name : List ℕ) × (n.entity.written.ctype.base ≡ Base.Struct name))
         → SettledBy n.entity.written.ctype.base (otherwise_of n.entity.role levels) (written_modes n.entity) k Racy → ⊥
     by_settled k low guarded (a_mutex is last) = by_mutex k guarded last
     by_settled k low guarded (is_written is) = by_written k low guarded (get_dropped depth levels k (Some Racy) is)
     by_settled k low guarded (is_meant is) = by_top k low (otherwise_top n.entity.role levels Racy is racy_dynamic)
 
-    pub never_racy : (k : ℕ) → k < positions_of n.entity → (depth + k + 1 < length levels) ⊎ ((name : List ℕ) × (n.entity.written.ctype.base ≡ base.Struct name)) → slice_get m.modes (n.first + k) ≡ Some Racy → ⊥
+    pub never_racy : (k : ℕ) → k < positions_of n.entity → (depth + k + 1 < length levels) ⊎ ((name : List ℕ) × (n.entity.written.ctype.base ≡ Base.Struct name)) → slice_get m.modes (n.first + k) ≡ Some Racy → ⊥
     never_racy k low guarded at =
         let s = settled_there k Racy low at in
         by_settled k low guarded (settled_from n.entity.written.ctype.base (otherwise_of n.entity.role levels) (written_modes n.entity) k Racy low (racy_found _ s.finding s.found))
@@ -133,17 +122,17 @@ module _ (m : Assignment) (least : IsLeastAssignment m) (rules : MeetsRules m) w
         (λ k f at struct is. let l = level_of m n k f at in never_racy (skipped n.entity.role + k) l.inside (inr (struct_base n.entity.written.ctype.base struct)) (at_mode k f l Racy (form_racy l.at.mode (l.at.form ∙ is))))
 
     -- the target of a field is never private
-    private_written : (k : ℕ) → n.entity.role ≡ role.Field → SettledBy n.entity.written.ctype.base (otherwise_of n.entity.role levels) (written_modes n.entity) k Private → ⊥
+    private_written : (k : ℕ) → n.entity.role ≡ Role.Field → SettledBy n.entity.written.ctype.base (otherwise_of n.entity.role levels) (written_modes n.entity) k Private → ⊥
     private_written k is (a_mutex same last) = private_racy same
     private_written k is (is_written w) = rules.m6 n (depth + k) is_entity is (get_dropped depth levels k (Some Private) w)
     private_written k is (is_meant w) = rules.m6 n 0 is_entity is (otherwise_top n.entity.role levels Private w private_dynamic).1
 
-    private_open : (k : ℕ) → n.entity.role ≡ role.Field → slice_index_or (settled_modes n.entity) k (Some Private) ≡ None → ⊥
+    private_open : (k : ℕ) → n.entity.role ≡ Role.Field → slice_index_or (settled_modes n.entity) k (Some Private) ≡ None → ⊥
     private_open k is h =
         never_open n.entity.written.ctype.base (field_target levels) (written_modes n.entity) k
         (subst (λ w. slice_index_or (settled n.entity.written.ctype.base (otherwise_of w levels) (written_modes n.entity)) k (Some Private) ≡ None) is h)
 
-    pub field_shared : n.entity.role ≡ role.Field → (k : ℕ) (f : Form) → slice_get forms k ≡ Some f → f ≡ private_form → ⊥
+    pub field_shared : n.entity.role ≡ Role.Field → (k : ℕ) (f : Form) → slice_get forms k ≡ Some f → f ≡ private_form → ⊥
     field_shared is k f at private =
         let l = level_of m n k f at in
         let low = l.inside in

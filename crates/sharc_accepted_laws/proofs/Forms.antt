@@ -1,22 +1,15 @@
 -- What the types of C11 say of the parts of an expression.
-use Rattle.std.proofs.{Common.{◌≡◌, ℕ, zero, suc, ◌+◌, ◌==◌, ◌||◌, ◌&&◌, Bool, true, false, List, [], ◌∷◌, refl, ap, sym, ◌∙◌, arith, lt-ltb, eqb-true, Some}, lemmas.Bool.{false≢true, and_parts, or_left}}
-use Rattle.sharc_tree.specs.{declared.ctype.Base.Base, declared.token.Span.Span, declared.tree.declaration.Identifier.Identifier, declared.tree.declaration.WrittenType.WrittenType, declared.tree.expression.FieldOperator.TheVariants.Arrow, declared.tree.expression.PlaceCall.TheVariants.{Lock, Unlock, Free}, declared.tree.expression.UnaryOperator.TheVariants.Dereference, declared.tree.item.GlobalForm.GlobalForm, Forms.is_lvalue, Tree.{Expression, call, spawn, on_place, cast, index, field, unary, Arguments, no_arguments, argument, Function}}
-use Rattle.sharc_tree.specs.declared.ctype.Base.TheVariants as base
-use Rattle.sharc_tree.specs.declared.tree.item.GlobalForm.TheVariants as forms
-use Rattle.sharc_names.specs.declared.fault.Named.TheVariants as named
-use Rattle.sharc_names.specs.{Kinds.{Kind, object, array, void, mutex, is_integral, is_integer, is_pointer, is_null, is_array, declared_kind, declared_kinds}, Names.global_kind}
-use Rattle.sharc_ctype.specs.Resolved.{Resolution, named_at, function_at, kind_at}
-use Rattle.sharc_ctype_laws.specs.Constraints.{HasType, HaveTypes, Callee, of_program, of_conditions, IsInteger, IsPointer, Assignable, integer, pointer, null_pointer, a_variable, a_global, a_function, in_parentheses, element_of_pointer, element_of_array, a_call, a_field, a_field_behind, pointed_to, spawned, locked, unlocked, freed, a_cast}
-use Rattle.sharc_meaning.specs.State.{is_reference}
-use Rattle.sharc_flat.specs.Suits.{IsScalar, Passes}
-use Rattle.sharc_lemmas.proofs.Options.{same_some}
+use Rattle.sharc_accepted_laws.proofs.Imports.{◌≡◌, ℕ, zero, suc, ◌+◌, ◌==◌, ◌||◌, ◌&&◌, Bool, true, false, List, [], ◌∷◌, refl, ap, sym, ◌∙◌, arith, lt-ltb, eqb-true, Some, false≢true, and_parts, or_left, Base, Span, Identifier, WrittenType, Arrow, Unlock, Free, Dereference, GlobalForm, is_lvalue, Expression, call, spawn, on_place, cast, index, field, unary, Arguments, no_arguments, argument, Function, Named, Kind, object, array, void, mutex, is_integral, is_integer, is_pointer, is_null, is_array, declared_kind, declared_kinds, global_kind, Resolution, named_at, function_at, kind_at, HasType, HaveTypes, Callee, of_program, of_conditions, IsInteger, Assignable, integer, pointer, null_pointer, a_variable, a_global, a_function, in_parentheses, element_of_pointer, element_of_array, a_call, a_field, a_field_behind, pointed_to, unlocked, a_cast, is_reference, IsScalar, same_some}
+use Rattle.sharc_tree.specs.declared.tree.expression.PlaceCall.TheVariants.{Lock}
+use Rattle.sharc_ctype_laws.specs.Constraints.{IsPointer, spawned, locked, freed}
+use Rattle.sharc_flat.specs.Suits.{Passes}
 
 -- ---- kinds
 pub left_or : (a b : Bool) → b ≡ false → (a || b) ≡ true → a ≡ true
 left_or true b h t = refl
 left_or false b h t = absurd (false≢true (sym h ∙ t))
 
-some_star : (n : ℕ) → is_pointer (object base.Int (n + 1)) ≡ true
+some_star : (n : ℕ) → is_pointer (object Base.Int (n + 1)) ≡ true
 some_star n = lt-ltb 0 (n + 1) (omega arith)
 
 no_star : (n : ℕ) → (suc n == 0) ≡ true → ⊥
@@ -73,7 +66,7 @@ passes_of _ _ (pointer {a = a} p) = (pointer_reference a (starred a p) ∙ sym (
 passes_of _ _ (null_pointer {a = a} p) = (sym (starred a p), λ no. absurd (false≢true (sym no ∙ starred a p)), λ yes. absurd (false≢true (sym (pointer_no_integer a (starred a p)) ∙ yes)))
 
 pub global_null : (f : GlobalForm) (b : Base) (n : ℕ) → is_null (global_kind f (object b n)) ≡ false
-global_null (forms.Array at count) b n = refl
+global_null (GlobalForm.Array at count) b n = refl
 global_null _ b n = refl
 
 module _ (r : Resolution) where
@@ -97,7 +90,7 @@ module _ (r : Resolution) where
     index_pointer s a i _ (element_of_array {b = b} {n = n} t u v) other = absurd (false≢true (sym other ∙ ap is_array (one a (array b n) t)))
 
     pub arrow_pointer : (s : Span) (a : Expression) (n : Identifier) (k : Kind) → HasType r (field s a Arrow n) k → is_pointer (kind_at r a) ≡ true
-    arrow_pointer s a n _ (a_field_behind {x = x} t m is) = ap is_pointer (one a (object (base.Struct x) 1) t)
+    arrow_pointer s a n _ (a_field_behind {x = x} t m is) = ap is_pointer (one a (object (Base.Struct x) 1) t)
 
     pub star_pointer : (s : Span) (a : Expression) (k : Kind) → HasType r (unary s Dereference a) k → is_pointer (kind_at r a) ≡ true
     star_pointer s a _ (pointed_to {b = b} {n = n} t) = ap is_pointer (one a (object b (n + 1)) t) ∙ some_star n
@@ -122,13 +115,13 @@ module _ (r : Resolution) where
   pub spawn_typed : (s : Span) (i : Identifier) (a : Expression) (k : Kind) → HasType r (spawn s i a) k → (p : Kind) × Callee r i (p ∷ []) void × HaveTypes r (argument a no_arguments) (p ∷ [])
   spawn_typed s i a _ (spawned {parameter = p} q h) = (p, q, h)
 
-  same_function : (n k : ℕ) → named.Function n ≡ named.Function k → n ≡ k
+  same_function : (n k : ℕ) → Named.Function n ≡ Named.Function k → n ≡ k
   same_function n k h = cc
 
-  no_known : (k : ℕ) → named.Known ≡ named.Function k → ⊥
+  no_known : (k : ℕ) → Named.Known ≡ Named.Function k → ⊥
   no_known k h = cc
 
-  pub function_parameters : (i : Identifier) (ps : List Kind) (res : Kind) (k : ℕ) (g : Function) → Callee r i ps res → named_at r i.site.token ≡ named.Function k → function_at r k ≡ Some g → ps ≡ declared_kinds g.parameters
+  pub function_parameters : (i : Identifier) (ps : List Kind) (res : Kind) (k : ℕ) (g : Function) → Callee r i ps res → named_at r i.site.token ≡ Named.Function k → function_at r k ≡ Some g → ps ≡ declared_kinds g.parameters
   function_parameters i _ _ k g (of_program {n = n} f names at spelled other) is there =
       ap (λ (h : Function). declared_kinds h.parameters) (same_some f g (sym at ∙ ap (function_at r) (same_function n k (sym names ∙ is)) ∙ there))
   function_parameters i _ _ k g (of_conditions c names spelled) is there = absurd (no_known k (sym names ∙ is))

@@ -1,14 +1,5 @@
 -- The fields and the globals of a program are entities of it, found by their tokens.
-use Rattle.std.proofs.Common.{◌≡◌, ⊎_elim, ◌<◌, Bool, true, false, cond, List, [], ◌∷◌, ◌++◌, length, map, ap, subst, Some, Contains}
-use Rattle.std.specs.List.{AllByRecursion, find}
-use Rattle.sharc_tree.specs.{declared.tree.declaration.Declaration.Declaration, declared.tree.item.GlobalDefinition.GlobalDefinition, declared.tree.item.StructDefinition.StructDefinition, Low.LowItems, Tree.{Item, structure, global, function}}
-use Rattle.sharc_names.specs.declared.types.Role.TheVariants as role
-use Rattle.sharc_ctype.specs.{declared.entity.Entity.Entity, declared.entity.Numbered.Numbered, Entities.{declared, function_entities, entities_in, numbered, entity_at, is_told_by}, Resolved.{Resolution, structs_in, globals_in}}
-use Rattle.sharc_ctype_laws.specs.Found.{IsFound}
-use Rattle.sharc_mode.specs.Moded.{Assignment}
-use Rattle.sharc_check.specs.Constructs.{IsEntity}
-use Rattle.sharc_accepted_laws.proofs.TargetLists.{each_mapped}
-use Rattle.sharc_lemmas.proofs.{Options.{same_some, none_some}, Lists.{front, back, head_there, head_or_tail, of_each, tail_there}, Equal.none_there}
+use Rattle.sharc_accepted_laws.proofs.{Imports.{◌≡◌, ⊎_elim, ◌<◌, Bool, true, false, cond, List, [], ◌∷◌, ◌++◌, length, map, ap, subst, Some, Contains, AllByRecursion, find, Declaration, GlobalDefinition, StructDefinition, LowItems, Item, structure, global, function, Role, Entity, Numbered, declared, function_entities, entities_in, numbered, entity_at, is_told_by, Resolution, structs_in, globals_in, IsFound, Assignment, IsEntity, same_some, none_some, front, back, head_there, head_or_tail, of_each, tail_there, none_there}, TargetLists.each_mapped}
 
 -- ---- in lists
 find_there : (test : Numbered → Bool) (list : List Numbered) (n : Numbered) → find test list ≡ Some n → Contains list n
@@ -36,27 +27,27 @@ is_there m e f = record {
   written = ap (λ (x : Entity). x.written) f.itself;
 }
 
-fields_in : (r : Resolution) (items : List Item) → AllByRecursion (IsFound r) (entities_in items) → (s : StructDefinition) → Contains (structs_in items) s → AllByRecursion (IsFound r) (map (declared role.Field) s.fields)
+fields_in : (r : Resolution) (items : List Item) → AllByRecursion (IsFound r) (entities_in items) → (s : StructDefinition) → Contains (structs_in items) s → AllByRecursion (IsFound r) (map (declared Role.Field) s.fields)
 fields_in r [] all s has = absurd (none_there s has)
 fields_in r (structure x ∷ rest) all s has =
-    ⊎_elim (λ is. subst (λ (z : StructDefinition). AllByRecursion (IsFound r) (map (declared role.Field) z.fields)) is (front (IsFound r) (map (declared role.Field) x.fields) (entities_in rest) all))
-    (λ later. fields_in r rest (back (IsFound r) (map (declared role.Field) x.fields) (entities_in rest) all) s later) (head_or_tail x s (structs_in rest) has)
+    ⊎_elim (λ is. subst (λ (z : StructDefinition). AllByRecursion (IsFound r) (map (declared Role.Field) z.fields)) is (front (IsFound r) (map (declared Role.Field) x.fields) (entities_in rest) all))
+    (λ later. fields_in r rest (back (IsFound r) (map (declared Role.Field) x.fields) (entities_in rest) all) s later) (head_or_tail x s (structs_in rest) has)
 fields_in r (global g ∷ rest) all s has = fields_in r rest all.1 s has
 fields_in r (function f ∷ rest) all s has = fields_in r rest (back (IsFound r) (function_entities f) (entities_in rest) all) s has
 
-pub field_found : (m : Assignment) → AllByRecursion (IsFound m.typed) (entities_in m.typed.program.items) → (s : StructDefinition) (d : Declaration) → Contains (structs_in m.typed.program.items) s → Contains s.fields d → IsThere m (declared role.Field d)
+pub field_found : (m : Assignment) → AllByRecursion (IsFound m.typed) (entities_in m.typed.program.items) → (s : StructDefinition) (d : Declaration) → Contains (structs_in m.typed.program.items) s → Contains s.fields d → IsThere m (declared Role.Field d)
 field_found m all s d is_struct is_member =
-    is_there m (declared role.Field d) (of_each (λ (z : Declaration). IsFound m.typed (declared role.Field z)) s.fields d (each_mapped (IsFound m.typed) (declared role.Field) s.fields (fields_in m.typed m.typed.program.items all s is_struct)) is_member)
+    is_there m (declared Role.Field d) (of_each (λ (z : Declaration). IsFound m.typed (declared Role.Field z)) s.fields d (each_mapped (IsFound m.typed) (declared Role.Field) s.fields (fields_in m.typed m.typed.program.items all s is_struct)) is_member)
 
-global_in : (r : Resolution) (items : List Item) → AllByRecursion (IsFound r) (entities_in items) → (g : GlobalDefinition) → Contains (globals_in items) g → IsFound r (declared role.Global g.declaration)
+global_in : (r : Resolution) (items : List Item) → AllByRecursion (IsFound r) (entities_in items) → (g : GlobalDefinition) → Contains (globals_in items) g → IsFound r (declared Role.Global g.declaration)
 global_in r [] all g has = absurd (none_there g has)
-global_in r (structure x ∷ rest) all g has = global_in r rest (back (IsFound r) (map (declared role.Field) x.fields) (entities_in rest) all) g has
+global_in r (structure x ∷ rest) all g has = global_in r rest (back (IsFound r) (map (declared Role.Field) x.fields) (entities_in rest) all) g has
 global_in r (global x ∷ rest) all g has =
-    ⊎_elim (λ is. subst (λ (z : GlobalDefinition). IsFound r (declared role.Global z.declaration)) is all.0) (λ later. global_in r rest all.1 g later) (head_or_tail x g (globals_in rest) has)
+    ⊎_elim (λ is. subst (λ (z : GlobalDefinition). IsFound r (declared Role.Global z.declaration)) is all.0) (λ later. global_in r rest all.1 g later) (head_or_tail x g (globals_in rest) has)
 global_in r (function f ∷ rest) all g has = global_in r rest (back (IsFound r) (function_entities f) (entities_in rest) all) g has
 
-pub global_found : (m : Assignment) → AllByRecursion (IsFound m.typed) (entities_in m.typed.program.items) → (g : GlobalDefinition) → Contains (globals_in m.typed.program.items) g → IsThere m (declared role.Global g.declaration)
-global_found m all g has = is_there m (declared role.Global g.declaration) (global_in m.typed m.typed.program.items all g has)
+pub global_found : (m : Assignment) → AllByRecursion (IsFound m.typed) (entities_in m.typed.program.items) → (g : GlobalDefinition) → Contains (globals_in m.typed.program.items) g → IsThere m (declared Role.Global g.declaration)
+global_found m all g has = is_there m (declared Role.Global g.declaration) (global_in m.typed m.typed.program.items all g has)
 
 -- the type of a global has a level
 pub global_low : (items : List Item) → LowItems items → (g : GlobalDefinition) → Contains (globals_in items) g → 0 < length g.declaration.written.ctype.levels

@@ -1,18 +1,7 @@
 -- The layouts of elements are those of the rows: what Free clears.
-use Rattle.std.proofs.{Common.{◌≡◌, ⊎_elim, ℕ, zero, suc, ◌+◌, ◌-◌, ◌*◌, ◌^◌, ◌<◌, ◌≤◌, Bool, true, false, cond, List, [], ◌∷◌, ◌++◌, length, slice_index_or, refl, ap, sym, ◌∙◌, subst, arith, Some, bytes_eq}, lemmas.Bool.{false≢true, cases_lt}}
-use Rattle.std.specs.{List.AllByRecursion, Prelude.{slice_get, slice_index}}
-use Rattle.sharc_tree.specs.{declared.ctype.Base.Base, declared.tree.declaration.Declaration.Declaration, declared.tree.item.StructDefinition.StructDefinition}
-use Rattle.sharc_tree.specs.declared.ctype.Base.TheVariants as base
-use Rattle.sharc_names.specs.Kinds.{object, is_pointer as is_pointer_kind, declared_kind}
-use Rattle.sharc_code.specs.{declared.code.Code.Code, declared.code.Layout.Layout, Machine.{no_layout, layout_at}}
-use Rattle.sharc_ctype.specs.Resolved.{structs_in}
-use Rattle.sharc_ctype_laws.specs.Laws.{WithinLimits}
-use Rattle.sharc_mode.specs.{Moded.Assignment, Rows.{written, declared_row, modes_of}}
-use Rattle.sharc_flat.specs.{Flattened.{struct_layout, base_layout, layout_of}, Tables.{pointers_among, layouts_from, layouts_of, all_pointers, pointers_of}}
-use Rattle.sharc_invariant.specs.{Types.{FieldMode, Field, Target, no_field, is_pointer, row_of}, Typed.IsLayout}
-use Rattle.sharc_accepted_laws.specs.{TargetLaws.LayoutsAre, Shapes.{Form, kind_of, number}, Targets.{own_mode, base_content, pointer_content, declared_content, single, members, struct_fields, base_fields, shape_fields, targets_of}}
-use Rattle.sharc_accepted_laws.proofs.{TargetCells.{member_count, has_forms}, Good.not_pointer, TargetMembers.members_at, Numbers.numbers_found}
-use Rattle.sharc_lemmas.proofs.{Options.{same_some, none_some}, Lists.some_there}
+use Rattle.sharc_accepted_laws.proofs.{Imports.{◌≡◌, ⊎_elim, ℕ, zero, suc, ◌+◌, ◌-◌, ◌*◌, ◌^◌, ◌<◌, ◌≤◌, Bool, true, false, cond, List, [], ◌∷◌, ◌++◌, length, get_or as slice_index_or, refl, ap, sym, ◌∙◌, subst, arith, Some, bytes_eq, false≢true, cases_lt, AllByRecursion, slice_get, slice_index, Base, Declaration, StructDefinition, object, is_pointer as is_pointer_kind, declared_kind, Code, Layout, no_layout, layout_at, structs_in, WithinLimits, Assignment, written, declared_row, modes_of, struct_layout, base_layout, layout_of, pointers_among, layouts_from, layouts_of, all_pointers, pointers_of, FieldMode, Field, TableTarget as Target, no_field, row_of, IsLayout, LayoutsAre, Form, number, own_mode, base_content, pointer_content, declared_content, single, members, struct_fields, base_fields, shape_fields, targets_of, same_some, none_some, some_there}, TargetCells.{member_count, has_forms}, Good.not_pointer, TargetMembers.members_at, Numbers.numbers_found}
+use Rattle.sharc_invariant.specs.Types.{is_pointer}
+use Rattle.sharc_accepted_laws.specs.Shapes.{kind_of}
 
 -- a layout says which of these fields are pointers
 record IsLaid (laid : Layout) (pointers : List ℕ) (fields : List Field) : Type 0 where
@@ -153,7 +142,7 @@ struct_laid : (m : Assignment) (q : FieldMode) (layouts : List Layout) (pointers
     → IsLaid (slice_index_or layouts (struct_layout n list name) no_layout) pointers (struct_fields m q list name)
 struct_laid m q layouts pointers n at [] name low laid values =
     let e : n ≡ n + 0 = omega arith in
-    subst (λ l. IsLaid l pointers (single q (base.Struct name) ∷ [])) (sym (ap (λ k. slice_index_or layouts k no_layout) e ∙ laid 0)) (plain_laid at pointers (single q (base.Struct name)) (omega (arith, low)) refl)
+    subst (λ l. IsLaid l pointers (single q (Base.Struct name) ∷ [])) (sym (ap (λ k. slice_index_or layouts k no_layout) e ∙ laid 0)) (plain_laid at pointers (single q (Base.Struct name)) (omega (arith, low)) refl)
 struct_laid m q layouts pointers n at (s ∷ rest) name low laid values = by (bytes_eq s.name.text name) (struct_laid m q layouts pointers (n + 1) (at + length (pointers_among 0 s.fields)) rest name (omega (arith, low, many)) next_laid next_values)
   where
     many : length (pointers_among 0 s.fields ++ all_pointers rest) ≡ length (pointers_among 0 s.fields) + length (all_pointers rest)
@@ -194,7 +183,7 @@ module _ (m : Assignment) (few : 1 + length (all_pointers (structs_in m.typed.pr
   structs = structs_in m.typed.program.items
 
   base_laid : (q : FieldMode) (b : Base) → IsLaid (slice_index_or layouts (base_layout structs b) no_layout) pointers (base_fields m q b)
-  base_laid q (base.Struct name) =
+  base_laid q (Base.Struct name) =
       struct_laid m q layouts pointers 2 1 structs name few
       (λ k. let e : 2 + k ≡ suc (suc k) = omega arith in ap (λ i. slice_index_or layouts i no_layout) e) (λ k. let e : 1 + k ≡ suc k = omega arith in ap (slice_index pointers) e)
   base_laid q k = plain_laid 0 pointers (single q k) (omega arith) refl

@@ -1,11 +1,6 @@
 -- No two variables of a function are declared at one token: where a local is declared, no variable with its token stands.
-use Rattle.std.proofs.Common.{◌≡◌, ℕ, ◌+◌, ◌<◌, ◌≤◌, ◌==◌, Bool, true, false, cond, List, [], ◌∷◌, ◌++◌, refl, sym, subst, arith, eqb-true, Some, None}
-use Rattle.std.specs.List.{AllByRecursion}
-use Rattle.sharc_tree.specs.{declared.token.Span.Span, declared.token.Token.Token, declared.tree.declaration.Declaration.Declaration, Placed.{Follow, declaration_spans, first_spans, option_spans, statement_spans, PlacedDeclaration, PlacedDeclarations, PlacedLocal, PlacedFirst, PlacedStatement, PlacedStatements, PlacedItem, PlacedItems}, Spans.{span_of, span_of_simple, span_of_statement}, Tree.{Local, First, nothing, declares, does, Statement, Statements, no_statements, statement, Function, Item, structure, global, function}}
+use Rattle.sharc_accepted_laws.proofs.Imports.{◌≡◌, ℕ, ◌+◌, ◌<◌, ◌≤◌, ◌==◌, Bool, true, false, cond, List, [], ◌∷◌, ◌++◌, refl, sym, subst, arith, eqb-true, Some, None, AllByRecursion, Span, Token, Declaration, Follow, declaration_spans, first_spans, option_spans, statement_spans, PlacedDeclaration, PlacedDeclarations, PlacedLocal, PlacedFirst, PlacedStatement, PlacedStatements, PlacedItem, PlacedItems, span_of, span_of_simple, span_of_statement, Local, First, nothing, declares, does, Statement, Statements, no_statements, statement, Function, Item, structure, global, function, functions_in, Slot, with_variable, flat_behind_first as behind_first, behind_statement, parameters_scope, Context, slot_of, slot_kind, both, each}
 use Rattle.sharc_tree.specs.Tree as tree
-use Rattle.sharc_ctype.specs.Resolved.{functions_in}
-use Rattle.sharc_flat.specs.{declared.slot.Slot.Slot, Flattened.{with_variable, behind_first, behind_statement, parameters_scope}, Scope.{Context, slot_of, slot_kind}}
-use Rattle.sharc_lemmas.proofs.Lists.{both, each}
 
 -- ---- in each statement
 abbrev pub LocalFresh : Context → Local → Type 0

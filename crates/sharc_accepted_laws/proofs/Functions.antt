@@ -1,24 +1,10 @@
 -- Functions: what their first registers hold, what they give, and their statements.
-use Rattle.std.proofs.Common.{◌≡◌, ℕ, zero, suc, ◌<◌, Bool, true, false, cond, List, [], ◌∷◌, ◌++◌, length, nat_lt, slice_get, refl, ap, sym, ◌∙◌, subst, arith, ltb-true, ltb-false, Option, Some, None}
-use Rattle.std.specs.List.{AllByRecursion}
-use Rattle.sharc_tree.specs.{Low.{LowItems, LowStatements}, Measures.in_function, Tree.{Function, Item, structure, global, function}}
-use Rattle.sharc_names.specs.declared.fault.Named.TheVariants as named
-use Rattle.sharc_names.specs.Kinds.{declared_kind}
-use Rattle.sharc_code.specs.declared.code.GlobalCells.{GlobalCells}
-use Rattle.sharc_ctype.specs.{Resolved.{Resolution, functions_in, function_at, declaration_at, variable_kind}, Transfers.{IsFair, function_transfers}}
+use Rattle.sharc_accepted_laws.proofs.{Imports.{◌≡◌, ℕ, zero, suc, ◌<◌, Bool, true, false, cond, List, [], ◌∷◌, ◌++◌, length, nat_lt, slice_get, refl, ap, sym, ◌∙◌, subst, arith, ltb-true, ltb-false, Option, Some, None, AllByRecursion, LowItems, LowStatements, in_function, Function, Item, structure, global, function, Named, declared_kind, GlobalCells, Resolution, functions_in, function_at, declaration_at, variable_kind, IsFair, function_transfers, IsItself, AllFair, ArePlain, EachNamesItself, EachNamesOwn, MeetsConstraints, MeetsStatements, is_reference, Assignment, written, declared_row, modes_of, IsFunction, Slot, parameters_scope, width_of, Context, ref_count, TypedSuits, Empty, Refers, Anything, Within, Signature, Setting, type_by, label_of, GivesBackBy, FunctionTypable, held_at, ResultLaws, AllStand, DeclaredStands, FunctionStands, FunctionsStand, pointers, variable_entry, entry_named, result_type, VariablesFound, typing, function_signature, setting_of, IsSet, IsPlaceIn, AreExpressionsTypable, same_some, none_some, back, of_each, to_each}, Assigned.Laws, Fresh.{StatementsFresh, fresh_functions}, Locals.in_each, Members.own_elements, Stated.{Does, Own, AllGiven, statements_are, signature_is, result_is}, Wholes.{Facts, facts_of}, StaticRegisters.pointer_count, TargetLists.place_there}
 use Rattle.sharc_ctype.specs.Statements as ctype
-use Rattle.sharc_ctype_laws.specs.{Declared.IsItself, Laws.{AllFair, ArePlain, EachNamesItself, EachNamesOwn, MeetsConstraints, MeetsStatements}, Rules.MeetsRules}
-use Rattle.sharc_meaning.specs.State.{is_reference}
-use Rattle.sharc_mode.specs.{Moded.Assignment, Rows.{written, declared_row, modes_of}}
-use Rattle.sharc_check.specs.Constructs.{IsFunction, locals_in_all}
-use Rattle.sharc_flat.specs.{declared.slot.Slot.Slot, Flattened.parameters_scope, Places.width_of, Scope.{Context, ref_count}}
+use Rattle.sharc_ctype_laws.specs.Rules.{MeetsRules}
+use Rattle.sharc_check.specs.Constructs.{locals_in_all}
 use Rattle.sharc_flat.specs.Flattened as flat
-use Rattle.sharc_flat_laws.specs.Stands.{TypedSuits}
-use Rattle.sharc_invariant.specs.Labels.{Empty, Refers, Anything, Within, Signature}
-use Rattle.sharc_typed_laws.specs.{Stretches.Setting, Places.IsNamed, Typable.type_by, Begun.label_of, Returned.GivesBackBy, Functions.FunctionTypable}
-use Rattle.sharc_accepted_laws.specs.{Held.held_at, Results.ResultLaws, Scopes.{AllStand, DeclaredStands}, Standing.{FunctionStands, FunctionsStand}, Static.{pointers, variable_entry, entry_named, result_type}, TargetLaws.VariablesFound, Typing.typing, Setting.{function_signature, setting_of, IsSet}, Statements.{IsPlaceIn, AreExpressionsTypable}}
-use Rattle.sharc_accepted_laws.proofs.{Assigned.Laws, Fresh.{StatementsFresh, fresh_functions}, Locals.in_each, Members.own_elements, Stated.{Does, Own, AllGiven, statements_are, signature_is, result_is}, Wholes.{Facts, facts_of}, StaticRegisters.pointer_count, TargetLists.place_there}
-use Rattle.sharc_lemmas.proofs.{Options.{same_some, none_some}, Lists.{back, of_each, to_each}}
+use Rattle.sharc_typed_laws.specs.Places.{IsNamed}
 
 -- ---- the variables of a scope
 -- the slot of a pointer, with those before it and those behind it
@@ -135,9 +121,9 @@ module _ (laws : Laws) (types : TypeLaws) (results : ResultLaws) (variables : Va
     });
     locals = to_each (Own g m) (locals_in_all g.statements) (λ l has. record {
       among = has;
-      itself = of_each (λ l. IsItself m.typed named.Variable l.declaration) (locals_in_all g.statements) l
-          (in_each (IsItself m.typed named.Variable) g.statements (back (IsItself m.typed named.Variable) g.parameters (ctype.locals_in_all g.statements)
-          (of_each (λ f. AllByRecursion (IsItself m.typed named.Variable) (f.parameters ++ ctype.locals_in_all f.statements)) (functions_in m.typed.program.items) g (types.itself m.typed set.accepted.resolved set.accepted.placed set.accepted.low).variables there))) has;
+      itself = of_each (λ l. IsItself m.typed Named.Variable l.declaration) (locals_in_all g.statements) l
+          (in_each (IsItself m.typed Named.Variable) g.statements (back (IsItself m.typed Named.Variable) g.parameters (ctype.locals_in_all g.statements)
+          (of_each (λ f. AllByRecursion (IsItself m.typed Named.Variable) (f.parameters ++ ctype.locals_in_all f.statements)) (functions_in m.typed.program.items) g (types.itself m.typed set.accepted.resolved set.accepted.placed set.accepted.low).variables there))) has;
     });
   }
 

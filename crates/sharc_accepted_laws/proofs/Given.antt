@@ -1,19 +1,9 @@
 -- What is assigned, begun with and returned has the type of what it is given to.
-use Rattle.std.proofs.{Common.{◌≡◌, inl, inr, ℕ, ◌==◌, Bool, true, false, cond, List, ◌++◌, refl, ap, sym, ◌∙◌, subst, option_map, arith, eqb-true, Option, Some, None, Contains}, lemmas.Bool.{false≢true, and_parts, ltb-true}}
-use Rattle.std.specs.List.{AllByRecursion}
-use Rattle.sharc_tree.specs.{declared.ctype.Base.Base, declared.tree.declaration.Declaration.Declaration, declared.tree.expression.Constant.TheVariants.{Number, Null}, declared.tree.expression.UnaryOperator.TheVariants.{Negate, Complement, Dereference}, declared.tree.item.GlobalForm.GlobalForm, declared.tree.item.GlobalForm.TheVariants.Array, declared.tree.item.GlobalDefinition.GlobalDefinition, Tree.{Expression, value, Local, Function}}
+use Rattle.sharc_accepted_laws.proofs.{Imports.{◌≡◌, inl, inr, ℕ, ◌==◌, Bool, true, false, cond, List, ◌++◌, refl, ap, sym, ◌∙◌, subst, option_map, arith, eqb-true, Option, Some, None, Contains, false≢true, and_parts, ltb-true, AllByRecursion, Base, Declaration, Number, Null, Negate, Complement, Dereference, GlobalForm, Array, GlobalDefinition, Expression, value, Local, Function, Named, Kind, object, array, null, same_base, same_kind, is_integer, is_integral, is_pointer, is_null, is_long, is_array, long, int, agrees, element_kind, declared_kind, global_kind, OperatorClass, Shift, Arithmetic, class_of, binary_result, Resolution, named_at, global_at, function_at, declaration_at, functions_in, variable_kind, global_kind_of, result_kind_of, named_kind, called_kind, kind_at, Transfer, lvalue, variable, result, function_transfers, IsFair, locals_in_all as declared_in_all, Assignment, base_of, written, declared_row, behind, row_at, modes_of, modes_at, Sharing, same_all, IsFunction, IsGiven, assigned, initial, returned, RulesAreMet, MeetsRules, IsItself, EachNamesItself, AllFair, Context, static_of, entry_by, entry_of, IsAccepted, AssignedGoes, BegunGoes, ReturnedGoes, GivenLaws, Refers, none_some, front, back, of_each}, Same.type_of_same, Transferred.{Begins, locals_begin}, Locals.{OfLocal, in_each}, Alike.{base_is as same_bases}, Conditions.{object_no_null as no_object, number_no_null as no_number}}
 use Rattle.sharc_tree.specs.Tree as tree
-use Rattle.sharc_names.specs.{declared.fault.Named.Named, Kinds.{Kind, object, array, null, function, same_base, same_kind, is_integer, is_integral, is_pointer, is_null, is_long, is_array, long, int, agrees, element_kind, declared_kind}, Names.global_kind}
-use Rattle.sharc_names.specs.declared.fault.Named.TheVariants as named
-use Rattle.sharc_ctype.specs.{declared.expr.OperatorClass.OperatorClass, declared.expr.OperatorClass.TheVariants.{Shift, Arithmetic}, Expressions.{class_of, binary_result}, Resolved.{Resolution, named_at, global_at, function_at, declaration_at, functions_in, variable_kind, global_kind_of, result_kind_of, named_kind, called_kind, kind_at}, Transfers.{Transfer, lvalue, variable, result, function_transfers, IsFair}, Statements.locals_in_all as declared_in_all}
-use Rattle.sharc_mode.specs.{Moded.Assignment, Notes.base_of, Rows.{written, declared_row, behind, row_at, modes_of, modes_at}, Sharings.{Sharing, same_all}}
-use Rattle.sharc_check.specs.{Constructs.{IsFunction, IsGiven, assigned, initial, returned, locals_in_all}, RuleLaws.RulesAreMet, Rules.MeetsRules}
-use Rattle.sharc_ctype_laws.specs.{Declared.IsItself, Laws.{EachNamesItself, AllFair}}
-use Rattle.sharc_flat.specs.Scope.{Context}
-use Rattle.sharc_accepted_laws.specs.{Static.{static_of, entry_by, entry_of, GoesTo}, StaticLaws.{IsAccepted, AssignedGoes, BegunGoes, ReturnedGoes, GivenLaws}}
-use Rattle.sharc_invariant.specs.Labels.{Refers}
-use Rattle.sharc_accepted_laws.proofs.{Same.type_of_same, Transferred.{Begins, locals_begin}, Locals.{OfLocal, in_each}, Alike.base_is as same_bases, Conditions.{object_no_null as no_object, number_no_null as no_number}}
-use Rattle.sharc_lemmas.proofs.{Options.none_some, Lists.{front, back, of_each}}
+use Rattle.sharc_names.specs.Kinds.{function}
+use Rattle.sharc_check.specs.Constructs.{locals_in_all}
+use Rattle.sharc_accepted_laws.specs.Static.{GoesTo}
 
 -- ---- kinds
 -- of one C type
@@ -62,9 +52,9 @@ no_global None h = no_function h
 no_global (Some g) h = no_form g.form _ _ h
 
 no_name : (r : Resolution) (n : Named) → named_kind r n ≡ null → ⊥
-no_name r (named.Global n) h = no_global (global_at r n) h
-no_name r (named.Variable t) h = no_variable (declaration_at r t) h
-no_name r (named.Field t) h = no_variable (declaration_at r t) h
+no_name r (Named.Global n) h = no_global (global_at r n) h
+no_name r (Named.Variable t) h = no_variable (declaration_at r t) h
+no_name r (Named.Field t) h = no_variable (declaration_at r t) h
 no_name r _ h = no_function h
 
 no_result : (f : Option Function) → result_kind_of f ≡ null → ⊥
@@ -72,7 +62,7 @@ no_result None h = no_object _ _ h
 no_result (Some f) h = no_object _ _ h
 
 no_called : (r : Resolution) (n : Named) → called_kind r n ≡ null → ⊥
-no_called r (named.Function n) h = no_result (function_at r n) h
+no_called r (Named.Function n) h = no_result (function_at r n) h
 no_called r _ h = no_object _ _ h
 
 no_common : (b : Bool) → cond b long int ≡ null → ⊥
@@ -137,18 +127,18 @@ module _ (rules : RulesAreMet) (all_fair : AllFair) (themselves : EachNamesItsel
       goes c (kind_at c.program.typed u) modes e pointer (is_fair c.program a does.owner does.stands record { receiver = lvalue u; source = value e } does.does) (agree_by c.program a modes e (assigned does is))
 
   -- a variable of a function is found by its token
-  variables : (m : Assignment) → IsAccepted m → (f : Function) → IsFunction m f → AllByRecursion (IsItself m.typed named.Variable) (f.parameters ++ declared_in_all f.statements)
+  variables : (m : Assignment) → IsAccepted m → (f : Function) → IsFunction m f → AllByRecursion (IsItself m.typed Named.Variable) (f.parameters ++ declared_in_all f.statements)
   variables m a f stands =
-      of_each (λ f. AllByRecursion (IsItself m.typed named.Variable) (f.parameters ++ declared_in_all f.statements)) (functions_in m.typed.program.items) f (themselves m.typed a.resolved a.placed a.low).variables stands
+      of_each (λ f. AllByRecursion (IsItself m.typed Named.Variable) (f.parameters ++ declared_in_all f.statements)) (functions_in m.typed.program.items) f (themselves m.typed a.resolved a.placed a.low).variables stands
 
   pub parameter_declared : (m : Assignment) → IsAccepted m → (f : Function) → IsFunction m f → (d : Declaration) → Contains f.parameters d → declaration_at m.typed d.name.site.token ≡ Some d
   parameter_declared m a f stands d has =
-      (of_each (IsItself m.typed named.Variable) f.parameters d (front (IsItself m.typed named.Variable) f.parameters (declared_in_all f.statements) (variables m a f stands)) has).1
+      (of_each (IsItself m.typed Named.Variable) f.parameters d (front (IsItself m.typed Named.Variable) f.parameters (declared_in_all f.statements) (variables m a f stands)) has).1
 
   pub local_declared : (m : Assignment) → IsAccepted m → (f : Function) → IsFunction m f → (l : Local) → Contains (locals_in_all f.statements) l → declaration_at m.typed l.declaration.name.site.token ≡ Some l.declaration
   local_declared m a f stands l has =
-      (of_each (OfLocal (IsItself m.typed named.Variable)) (locals_in_all f.statements) l
-      (in_each (IsItself m.typed named.Variable) f.statements (back (IsItself m.typed named.Variable) f.parameters (declared_in_all f.statements) (variables m a f stands))) has).1
+      (of_each (OfLocal (IsItself m.typed Named.Variable)) (locals_in_all f.statements) l
+      (in_each (IsItself m.typed Named.Variable) f.statements (back (IsItself m.typed Named.Variable) f.parameters (declared_in_all f.statements) (variables m a f stands))) has).1
 
   begun_goes : BegunGoes
   begun_goes c a f l e stands has begins pointer =

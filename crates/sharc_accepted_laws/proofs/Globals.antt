@@ -1,29 +1,18 @@
 -- The cells of the globals of a well-moded program are good.
-use Rattle.std.proofs.Common.{◌≡◌, inl, inr, ℕ, zero, suc, ◌+◌, ◌-◌, ◌*◌, ◌<◌, Bool, true, false, cond, List, [], ◌∷◌, length, map, replicate, slice_index_or, refl, ap, sym, ◌∙◌, subst, arith, Some, Contains}
-use Rattle.std.specs.Prelude.{slice_get}
-use Rattle.sharc_tree.specs.{declared.ctype.Mode.Mode, declared.tree.declaration.WrittenType.WrittenType, declared.tree.item.GlobalDefinition.GlobalDefinition, Low.IsLow}
-use Rattle.sharc_tree.specs.declared.ctype.Mode.TheVariants as mode
-use Rattle.sharc_names.specs.declared.types.Role.TheVariants as role
-use Rattle.sharc_names.specs.Kinds.{is_pointer, is_struct_base, declared_kind}
-use Rattle.sharc_ctype.specs.{Entities.{declared, positions_of, first_depth, entity_at}, Globals.elements_of, Resolved.globals_in}
-use Rattle.sharc_mode.specs.{Cells.first_mode, Moded.{Assignment, mode_at}, Pairs.IsBelow, Rows.{written, entity_row, declared_row, modes_of}, Sharings.{racy, sharing_of}}
-use Rattle.sharc_invariant.specs.Types.{Field, no_field, AreTargets, FieldMode as field}
-use Rattle.sharc_flat.specs.Tables.{cells_in, granules_in}
-use Rattle.sharc_accepted_laws.specs.{Shapes.{private_form, form_of, shape_of, shapes}, Targets.{starts_private, global_mode, field_locks, base_content, pointer_content, declared_content, base_fields, top_mode, global_element, repeated, global_fields, all_global_fields, targets_of}}
-use Rattle.sharc_accepted_laws.proofs.{Fits.{struct_base, entity_there, never_racy, form_private, private_racy}, TargetForms.{level_of, skipped}, Found.{IsThere, global_found, global_low}, Good.{IsOwn, AreGood, global_own, global_racy, none_are, both_good, padding_good, one_good, pointer_good}, TargetMembers.levels_many, Rows.{IsKnown, starts_at, targets_many, ends_within, base_good, rows_good}, Settling.dropped_length, Table.{IsGood, IsGoodTable, are_targets}}
-use Rattle.sharc_lemmas.proofs.Lists.{head_there, some_there, tail_there}
+use Rattle.sharc_accepted_laws.proofs.{Imports.{◌≡◌, inl, inr, ℕ, zero, suc, ◌+◌, ◌-◌, ◌*◌, ◌<◌, Bool, true, false, cond, List, [], ◌∷◌, length, map, replicate, get_or as slice_index_or, refl, ap, sym, ◌∙◌, subst, arith, Some, Contains, slice_get, Mode, WrittenType, GlobalDefinition, IsLow, Role, is_pointer, is_struct_base, declared_kind, declared, positions_of, first_depth, entity_at, elements_of, globals_in, first_mode, Assignment, IsBelow, written, entity_row, declared_row, modes_of, racy, sharing_of, Field, no_field, AreTargets, FieldMode as field, cells_in, granules_in, private_form, form_of, shape_of, shapes, starts_private, global_mode, field_locks, base_content, pointer_content, declared_content, base_fields, top_mode, global_element, repeated, global_fields, all_global_fields, targets_of, head_there, some_there, tail_there}, Fits.{struct_base, entity_there, never_racy, form_private, private_racy}, TargetForms.{level_of, skipped}, Found.{IsThere, global_found, global_low}, Good.{IsOwn, AreGood, global_own, global_racy, none_are, both_good, padding_good, one_good, pointer_good}, TargetMembers.levels_many, Rows.{IsKnown, starts_at, targets_many, ends_within, base_good, rows_good}, Settling.dropped_length, Table.{IsGood, IsGoodTable, are_targets}}
+use Rattle.sharc_mode.specs.Moded.{mode_at}
 
-sharing_racy : (x : Mode) → sharing_of x ≡ racy → x ≡ mode.Racy
-sharing_racy mode.Racy h = refl
+sharing_racy : (x : Mode) → sharing_of x ≡ racy → x ≡ Mode.Racy
+sharing_racy Mode.Racy h = refl
 sharing_racy _ h = cc
 
 -- what is no default is there
-pub index_get : (list : List Mode) (k : ℕ) (x : Mode) → slice_index_or list k mode.Private ≡ x → (mode.Private ≡ x → ⊥) → slice_get list k ≡ Some x
+pub index_get : (list : List Mode) (k : ℕ) (x : Mode) → slice_index_or list k Mode.Private ≡ x → (Mode.Private ≡ x → ⊥) → slice_get list k ≡ Some x
 index_get [] k x is other = absurd (other is)
 index_get (y ∷ rest) zero x is other = ap Some is
 index_get (y ∷ rest) (suc k) x is other = index_get rest k x is other
 
-get_index : (list : List Mode) (k : ℕ) (x : Mode) → slice_get list k ≡ Some x → slice_index_or list k mode.Private ≡ x
+get_index : (list : List Mode) (k : ℕ) (x : Mode) → slice_get list k ≡ Some x → slice_index_or list k Mode.Private ≡ x
 get_index [] k x is = cc
 get_index (y ∷ rest) zero x is = cc
 get_index (y ∷ rest) (suc k) x is = get_index rest k x is
@@ -34,7 +23,7 @@ repeated_good m (suc n) fields good = both_good (targets_of m) true fields (repe
 
 module _ (m : Assignment) (known : IsKnown m) where
   module _ (g : GlobalDefinition) (has : Contains (globals_in m.typed.program.items) g) (low : 0 < length g.declaration.written.ctype.levels) where
-    there : IsThere m (declared role.Global g.declaration)
+    there : IsThere m (declared Role.Global g.declaration)
     there = global_found m known.found g has
 
     row_is : declared_row m.typed written g.declaration.name.site.token ≡ entity_row written (Some there.numbered)
@@ -65,10 +54,10 @@ module _ (m : Assignment) (known : IsKnown m) where
     pointer_there is = subst (λ (w : WrittenType). is_pointer (declared_kind w) ≡ true) (sym there.written) is
 
     -- the top is racy where a pointer or a struct is not
-    racy_top : top_mode m g ≡ field.Racy → slice_get m.modes (there.numbered.first + 0) ≡ Some mode.Racy
+    racy_top : top_mode m g ≡ field.Racy → slice_get m.modes (there.numbered.first + 0) ≡ Some Mode.Racy
     racy_top h =
         let e : there.numbered.first + 0 ≡ there.numbered.first = omega arith in
-        ap (slice_get m.modes) e ∙ index_get m.modes there.numbered.first mode.Racy (sharing_racy _ (global_racy m.typed (mode_at m there.numbered.first) (sym mode_is ∙ h))) private_racy
+        ap (slice_get m.modes) e ∙ index_get m.modes there.numbered.first Mode.Racy (sharing_racy _ (global_racy m.typed (mode_at m there.numbered.first) (sym mode_is ∙ h))) private_racy
 
     pointer_racy : is_pointer (declared_kind g.declaration.written) ≡ true → top_mode m g ≡ field.Racy → ⊥
     pointer_racy is h =
@@ -92,7 +81,7 @@ module _ (m : Assignment) (known : IsKnown m) where
         let first = some_there m.modes there.numbered.first (omega (arith, inside, ends)) in
         let below : IsBelow m.typed there.numbered.first (there.numbered.first + (skipped there.numbered.entity.role + 0)) =
         record { of = there.numbered; stands = there.is_entity; depth = 0; inside = omega (arith, inside, skip); first = omega arith; second = omega (arith, skip) } in
-        let shared : first.0 ≡ mode.Private = known.rules.m3.positions _ _ first.0 below first.1 (l.at.at ∙ ap Some (form_private l.at.mode l.at.form)) in
+        let shared : first.0 ≡ Mode.Private = known.rules.m3.positions _ _ first.0 below first.1 (l.at.at ∙ ap Some (form_private l.at.mode l.at.form)) in
         mode_is ∙ ap (λ x. global_mode m.typed (sharing_of x)) (get_index m.modes there.numbered.first first.0 first.1 ∙ shared)
 
     target_there : is_pointer (declared_kind g.declaration.written) ≡ true → Contains (shapes m) (shape_of g.declaration.written.ctype.base (modes_of m (declared_row m.typed written g.declaration.name.site.token)))

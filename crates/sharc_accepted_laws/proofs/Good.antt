@@ -1,14 +1,6 @@
 -- Good fields of the table: of one cell, and of a pointer to a shape of the program.
-use Rattle.std.proofs.{Common.{◌≡◌, ℕ, zero, suc, ◌+◌, ◌-◌, ◌<◌, Bool, true, false, List, [], ◌∷◌, ◌++◌, length, replicate, slice_index_or, refl, ap, sym, ◌∙◌, subst, arith, ⊎_elim, Contains}, lemmas.Bool.{false≢true, cases_lt}}
-use Rattle.std.specs.List.{AllByRecursion}
-use Rattle.sharc_tree.specs.declared.ctype.Base.{Base}
-use Rattle.sharc_tree.specs.declared.ctype.Base.TheVariants as base
-use Rattle.sharc_mode.specs.{Moded.Assignment, Sharings.{Sharing, private, readonly, locked, racy, dynamic}}
-use Rattle.sharc_ctype.specs.Resolved.{Resolution}
-use Rattle.sharc_invariant.specs.Types.{FieldLock, FieldMode, Under, FieldType, Content, MutexWord, Waiters, Pointer, Field, Target, Targets, row_of, no_field, is_mutex, is_pointer, FieldMode as field}
-use Rattle.sharc_accepted_laws.specs.{Shapes.{Form, private_form, readonly_form, locked_form, racy_form, dynamic_form, Shape, shapes, number}, Targets.{own_mode, global_mode, is_private_mode, is_private_form, starts_private, base_content, single, targets_of}}
-use Rattle.sharc_accepted_laws.proofs.{Numbers.numbers_found, Table.{IsGood, IsBeside, AreBeside, none_good, racy_behind, mode_racy as racy_private}}
-use Rattle.sharc_lemmas.proofs.Lists.{both}
+use Rattle.sharc_accepted_laws.proofs.{Imports.{◌≡◌, ℕ, zero, suc, ◌+◌, ◌-◌, ◌<◌, Bool, true, false, List, [], ◌∷◌, ◌++◌, length, replicate, get_or as slice_index_or, refl, ap, sym, ◌∙◌, subst, arith, ⊎_elim, Contains, false≢true, cases_lt, AllByRecursion, Base, Assignment, Sharing, private, readonly, locked, racy, dynamic, Resolution, FieldLock, FieldMode, Under, FieldType, Content, MutexWord, Waiters, Pointer, Field, TableTarget as Target, row_of, no_field, FieldMode as field, Form, private_form, readonly_form, locked_form, racy_form, dynamic_form, Shape, shapes, number, own_mode, global_mode, is_private_mode, is_private_form, starts_private, base_content, single, targets_of, both}, Numbers.numbers_found, Table.{IsGood, IsBeside, AreBeside, none_good, racy_behind, mode_racy as racy_private}}
+use Rattle.sharc_invariant.specs.Types.{Targets, is_mutex, is_pointer}
 
 -- ---- modes of elements
 -- the mode of an element in data that is private or not
@@ -83,11 +75,11 @@ private_mode_is _ h = absurd (false≢true h)
 
 -- ---- what is no pointer
 pub not_pointer : (b : Base) → is_pointer (base_content b) ≡ false
-not_pointer (base.Struct name) = refl
+not_pointer (Base.Struct name) = refl
 not_pointer _ = refl
 
-pub mutex_base : (b : Base) → is_mutex (base_content b) ≡ true → b ≡ base.Mutex
-mutex_base base.Mutex h = refl
+pub mutex_base : (b : Base) → is_mutex (base_content b) ≡ true → b ≡ Base.Mutex
+mutex_base Base.Mutex h = refl
 mutex_base _ h = absurd (false≢true h)
 
 pointer_is : (c : Content) (to : FieldType) → c ≡ Pointer to → is_pointer c ≡ true
@@ -108,13 +100,13 @@ plain_good x shared q c whole never mutex = record {
 }
 
 pub single_good : (x : Targets) (shared : Bool) (q : FieldMode) (b : Base) → (q ≡ field.Private → shared ≡ true) → IsGood x shared (single q b)
-single_good x shared q base.Mutex whole = plain_good x shared field.Racy MutexWord (λ h. absurd (racy_private h)) refl (λ h. refl)
-single_good x shared q (base.Struct name) whole = plain_good x shared field.Racy Waiters (λ h. absurd (racy_private h)) refl (λ h. absurd (false≢true h))
+single_good x shared q Base.Mutex whole = plain_good x shared field.Racy MutexWord (λ h. absurd (racy_private h)) refl (λ h. refl)
+single_good x shared q (Base.Struct name) whole = plain_good x shared field.Racy Waiters (λ h. absurd (racy_private h)) refl (λ h. absurd (false≢true h))
 single_good x shared q k whole = plain_good x shared q (base_content k) whole refl (λ h. absurd (false≢true h))
 
 single_behind : (q : FieldMode) (b : Base) → ((a p : ℕ) → q ≡ field.Behind a p → ⊥) → (a p : ℕ) → (single q b).mode ≡ field.Behind a p → ⊥
-single_behind q base.Mutex never a p h = racy_behind a p h
-single_behind q (base.Struct name) never a p h = racy_behind a p h
+single_behind q Base.Mutex never a p h = racy_behind a p h
+single_behind q (Base.Struct name) never a p h = racy_behind a p h
 single_behind q _ never a p h = never a p h
 
 -- ---- lists of good fields

@@ -1,13 +1,5 @@
 -- A global takes no more granules than it has cells.
-use Rattle.std.proofs.Common.{◌≡◌, ℕ, ◌+◌, ◌*◌, ◌/◌, ◌==◌, ◌≤◌, Bool, true, false, cond, List, [], ◌∷◌, length, Some, refl, ap, arith, bytes_eq}
-use Rattle.sharc_tree.specs.{declared.ctype.Base.Base, declared.tree.item.GlobalDefinition.GlobalDefinition, declared.tree.item.StructDefinition.StructDefinition}
-use Rattle.sharc_tree.specs.declared.ctype.Base.TheVariants as base
-use Rattle.sharc_names.specs.Kinds.{stars_of}
-use Rattle.sharc_ctype.specs.{Globals.elements_of, Resolved.{Resolution, structs_in, globals_in}}
-use Rattle.sharc_ctype_laws.specs.{Constraints.struct_named, Sizes.{struct_size, base_size, global_size, all_sizes, CellsAreFew}}
-use Rattle.sharc_meaning.specs.Cells.{struct_cells, base_cells}
-use Rattle.sharc_flat.specs.Tables.{cells_in, all_granules}
-use Rattle.sharc_accepted_laws.specs.Granules.{GranulesAreFew}
+use Rattle.sharc_accepted_laws.proofs.Imports.{◌≡◌, ℕ, ◌+◌, ◌*◌, ◌/◌, ◌==◌, ◌≤◌, Bool, true, false, cond, List, [], ◌∷◌, length, Some, refl, ap, arith, bytes_eq, Base, GlobalDefinition, StructDefinition, stars_of, elements_of, Resolution, structs_in, globals_in, struct_named, struct_size, base_size, global_size, all_sizes, CellsAreFew, struct_cells, base_cells, cells_in, all_granules, GranulesAreFew}
 
 half : (n : ℕ) → (n + 1) / 2 ≤ n
 half n = omega arith
@@ -21,7 +13,7 @@ struct_is (s ∷ rest) name = by (bytes_eq s.name.text name) (struct_is rest nam
     by false e = e
 
 base_is : (r : Resolution) (b : Base) → base_cells r b ≡ base_size (structs_in r.program.items) b
-base_is r (base.Struct name) = struct_is (structs_in r.program.items) name
+base_is r (Base.Struct name) = struct_is (structs_in r.program.items) name
 base_is r _ = refl
 
 cells_are : (r : Resolution) (g : GlobalDefinition) → cells_in r g ≡ global_size (structs_in r.program.items) g

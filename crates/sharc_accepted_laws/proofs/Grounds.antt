@@ -1,26 +1,13 @@
 -- What lvalues name, as sharc_typed_laws reads it off them.
-use Rattle.std.proofs.{Common.{◌≡◌, ℕ, Bool, true, false, cond, List, refl, ap, sym, ◌∙◌, Option, Some, None}, lemmas.Bool.false≢true}
-use Rattle.std.specs.List.{AllByRecursion}
-use Rattle.sharc_tree.specs.{declared.tree.expression.FieldOperator.TheVariants.{Dot, Arrow}, declared.tree.expression.UnaryOperator.TheVariants.{Negate, Dereference}, Measures.expressions, Tree.{Expression, identifier, parentheses, index, field, unary}}
-use Rattle.sharc_names.specs.{declared.fault.Named.Named, Kinds.is_array}
-use Rattle.sharc_names.specs.declared.fault.Named.TheVariants as named
-use Rattle.sharc_ctype.specs.Resolved.{Resolution, named_at, global_at, kind_at}
-use Rattle.sharc_meaning.specs.Cells.{element_cells, global_elements, field_place_named}
-use Rattle.sharc_mode.specs.{Rows.modes_at, Sharings.Sharing}
-use Rattle.sharc_check.specs.Constructs.{IsExpression}
-use Rattle.sharc_flat.specs.{Scope.Context, Places.{variable, in_global_at, in_object, in_object_at, global_of, has_base, named_target, own_field, target}}
-use Rattle.sharc_invariant.specs.Types.{StaticType}
-use Rattle.sharc_typed_laws.specs.{Stretches.Setting, Places.no_type, Premises.{Typing, Ground}, Typable.{type_by, ground_of}}
-use Rattle.sharc_accepted_laws.specs.{Static.{static_of, entry_by, entry_of}, Lvalues.{LvaluesFit, pointer_of, IsArrayOf, ArraysFit}, Accesses.{list_or, modes_of_pointer, kind_of_pointer, cells_in_each}, Joined.GroundsFit}
-use Rattle.sharc_accepted_laws.proofs.{AccessPointing.has_pointer_modes, Standing.lvalue_cells, Fields.{object_global_at as no_object_at, same_global}, Members.first_of as self}
-use Rattle.sharc_lemmas.proofs.Lists.{front}
+use Rattle.sharc_accepted_laws.proofs.{Imports.{◌≡◌, ℕ, Bool, true, false, cond, List, refl, ap, sym, ◌∙◌, Option, Some, None, false≢true, AllByRecursion, Dot, Arrow, Negate, Dereference, expressions, Expression, identifier, parentheses, index, field, unary, Named, is_array, Resolution, named_at, global_at, kind_at, element_cells, global_elements, field_place_named, modes_at, Sharing, IsExpression, Context, in_global_at, in_object, in_object_at, global_of, has_base, named_target, own_field, target, StaticType, Setting, no_type, Typing, Ground, type_by, ground_of, static_of, entry_by, entry_of, LvaluesFit, pointer_of, IsArrayOf, ArraysFit, list_or, modes_of_pointer, kind_of_pointer, cells_in_each, GroundsFit, front}, AccessPointing.has_pointer_modes, Standing.lvalue_cells, Fields.{object_global_at as no_object_at, same_global}, Members.{first_of as self}}
+use Rattle.sharc_flat.specs.Places.{variable}
 
 name_base : (n : Named) (k : ℕ) → has_base (named_target n k) ≡ false
-name_base (named.Field n) k = refl
+name_base (Named.Field n) k = refl
 name_base _ k = refl
 
 name_array : (n : Named) (k g j : ℕ) → named_target n k ≡ in_global_at g j → ⊥
-name_array (named.Field n) k g j h = cc
+name_array (Named.Field n) k g j h = cc
 name_array _ k g j h = cc
 
 no_target : (g j : ℕ) → variable 0 ≡ in_global_at g j → ⊥

@@ -1,28 +1,17 @@
 -- Lock paths lead through variables that are held: constant ones, by M4, of which nothing takes the reference, by M10.
-use Rattle.std.proofs.{Common.{◌≡◌, inl, inr, ℕ, ◌<◌, ◌==◌, Bool, true, false, cond, ◌&&◌, ◌||◌, not, List, [], ◌∷◌, refl, ap, sym, ◌∙◌, subst, option_to_list, eqb-true, Option, Some, None, is_some, Contains}, lemmas.Bool.{false≢true, and_from, and_left as constant_not}}
-use Rattle.std.specs.List.{AllByRecursion, list_any}
-use Rattle.sharc_tree.specs.{declared.ctype.Mode.TheVariants.Locked, declared.ctype.Path.Path, declared.token.Span.Span, declared.tree.declaration.Identifier.Identifier, declared.tree.expression.FieldOperator.FieldOperator, declared.tree.expression.PlaceCall.TheVariants.Free, Forms.without_parentheses, Measures.{expressions, in_function}, Tree.{Expression, Right}}
+use Rattle.sharc_accepted_laws.proofs.{Imports.{◌≡◌, inl, inr, ℕ, ◌<◌, ◌==◌, Bool, true, false, cond, ◌&&◌, ◌||◌, not, List, [], ◌∷◌, refl, ap, sym, ◌∙◌, subst, option_to_list, eqb-true, Option, Some, None, is_some, Contains, false≢true, and_from, constant_not, AllByRecursion, list_any, Locked, Path, Span, Identifier, FieldOperator, Free, without_parentheses, expressions, in_function, Expression, Right, Named, Entity, Numbered, is_among, is_assigned_by, is_assigned_in, is_assigned, is_constant, Resolution, named_at, functions_in, lvalue, function_transfers, variables, variable_of, Assignment, taken_variable, written, base_use, path_variable, declared_row, modes_of, modes_at, Lock, Sharing, private, readonly, locked, racy, dynamic, lock_of, variable_named, object_named, object_of, text_at, IsExpression, IsEntity, IsTaken, cast_away, freed, IsAssigned, RulesAreMet, IsAllowed, through_constant, IsThroughConstant, is_through as through, IsSiblingUse, IsNamedByPath, is_written, is_made, Context, slot_kind, ref_count, PathNamed, SomeNames, IsAccepted, taken_by, is_taken, is_held, held_named, held_at, IsHeldPath, AllHeld, AssignedIsNotHeld, TakenIsNotHeld, HeldLaws, AllStand, register, lock_named, locks_at, eqb_same as same_itself, same_some, none_some, each, place_of_element}, StaticLists.{passes_there, passes_by}, Origins.{is_use, Of, found_named, expression_of}, StaticRegisters.{register_at, register_low}}
 use Rattle.sharc_tree.specs.Tree as tree
-use Rattle.sharc_names.specs.declared.fault.Named.{Named}
-use Rattle.sharc_names.specs.declared.fault.Named.TheVariants as named
-use Rattle.sharc_ctype.specs.{declared.entity.Entity.Entity, declared.entity.Numbered.Numbered, Constants.{is_among, is_assigned_by, is_assigned_in, is_assigned, is_constant}, Resolved.{Resolution, named_at, functions_in}, Transfers.{lvalue, function_transfers}, Variables.{variable as variables, variable_of}}
-use Rattle.sharc_mode.specs.{Moded.Assignment, Notes.taken_variable, Rows.{written, base_use, path_variable, declared_row, modes_of, modes_at}, Sharings.{Lock, Sharing, private, readonly, locked, racy, dynamic, lock_of, variable_named, object_named, object_of, text_at}}
-use Rattle.sharc_check.specs.{Constructs.{IsExpression, IsEntity, IsTaken, cast_away, freed, IsAssigned}, RuleLaws.RulesAreMet, Paths.{IsAllowed, through_constant, IsThroughConstant, through, IsSiblingUse, IsNamedByPath, is_written, is_made}}
-use Rattle.sharc_flat.specs.{Scope.{Context, slot_kind, ref_count}, Suits.PathNamed}
-use Rattle.sharc_invariant.specs.Types.{Names, SomeNames}
-use Rattle.sharc_accepted_laws.specs.{StaticLaws.IsAccepted, Held.{taken_by, is_taken, is_held, held_named, held_at, IsHeldPath, AllHeld, AssignedIsNotHeld, TakenIsNotHeld, HeldLaws}, Scopes.AllStand, Static.{register, lock_named, locks_at}}
-use Rattle.sharc_accepted_laws.proofs.{StaticLists.{passes_there, passes_by}, Origins.{is_use, Of, found_named, expression_of}, StaticRegisters.{register_at, register_low}}
-use Rattle.sharc_lemmas.proofs.{Numbers.{same_is as same_itself}, Options.{same_some, none_some}, Lists.{each, place_of_element}}
+use Rattle.sharc_invariant.specs.Types.{Names}
 
 -- ---- the variable of a path
-pub variable_is : (n : Named) (x : ℕ) → variable_named n ≡ Some x → n ≡ named.Variable x
-variable_is (named.Variable y) x h = ap named.Variable (same_some y x h)
+pub variable_is : (n : Named) (x : ℕ) → variable_named n ≡ Some x → n ≡ Named.Variable x
+variable_is (Named.Variable y) x h = ap Named.Variable (same_some y x h)
 variable_is _ x h = absurd (none_some x h)
 
-pub path_named : (r : Resolution) (l : Lock) (x : ℕ) → path_variable r l ≡ Some x → named_at r l.first ≡ named.Variable x
+pub path_named : (r : Resolution) (l : Lock) (x : ℕ) → path_variable r l ≡ Some x → named_at r l.first ≡ Named.Variable x
 path_named r l x h = by (is_some l.second) h
   where
-    by : (b : Bool) → cond b (variable_named (named_at r l.first)) None ≡ Some x → named_at r l.first ≡ named.Variable x
+    by : (b : Bool) → cond b (variable_named (named_at r l.first)) None ≡ Some x → named_at r l.first ≡ Named.Variable x
     by true k = variable_is (named_at r l.first) x k
     by false k = absurd (none_some x k)
 
@@ -106,14 +95,14 @@ module _ (rules : RulesAreMet) (m : Assignment) (a : IsAccepted m) where
 
 -- ---- what types name
 module _ (c : Context) (p : ℕ) where
-  one_named : (n : Named) (second : Option (List ℕ)) → ((x : ℕ) → n ≡ named.Variable x → is_some second ≡ true → is_held c.program.typed x ≡ true) → PathNamed c.scope n second → Names p (lock_named c n second) → (p < ref_count c.scope) × (held_at c p ≡ true)
-  one_named (named.Variable x) (Some name) held stands is = (
+  one_named : (n : Named) (second : Option (List ℕ)) → ((x : ℕ) → n ≡ Named.Variable x → is_some second ≡ true → is_held c.program.typed x ≡ true) → PathNamed c.scope n second → Names p (lock_named c n second) → (p < ref_count c.scope) × (held_at c p ≡ true)
+  one_named (Named.Variable x) (Some name) held stands is = (
     subst (λ k. k < ref_count c.scope) is (register_low c x stands),
     subst (λ k. held_at c k ≡ true) is (ap (held_named c.program.typed) (register_at c x stands) ∙ held x refl refl),
   )
   one_named _ _ held stands is = absurd is
 
-  path_held : (l : Lock) → IsHeldPath c.program (locked l) → (x : ℕ) → named_at c.program.typed l.first ≡ named.Variable x → is_some l.second ≡ true → is_held c.program.typed x ≡ true
+  path_held : (l : Lock) → IsHeldPath c.program (locked l) → (x : ℕ) → named_at c.program.typed l.first ≡ Named.Variable x → is_some l.second ≡ true → is_held c.program.typed x ≡ true
   path_held l held x is some = held l x refl (ap (λ b. cond b (variable_named (named_at c.program.typed l.first)) None) some ∙ ap variable_named is)
 
   pub all_named : (modes : List Sharing) → AllHeld c.program modes → AllStand c.program c.scope modes → SomeNames p (locks_at c modes) → (p < ref_count c.scope) × (held_at c p ≡ true)
@@ -133,7 +122,7 @@ not_both false b h = refl
 among_itself : (x : ℕ) (rest : List ℕ) → is_among x (x ∷ rest) ≡ true
 among_itself x rest = ap (λ b. b || is_among x rest) (same_itself x)
 
-assigned_constant : (m : Assignment) (u : Expression) (from : Right) (s : Span) (i : Identifier) (x : ℕ) → IsAssigned m u from → without_parentheses u ≡ tree.identifier s i → named_at m.typed i.site.token ≡ named.Variable x → is_constant m.typed x ≡ false
+assigned_constant : (m : Assignment) (u : Expression) (from : Right) (s : Span) (i : Identifier) (x : ℕ) → IsAssigned m u from → without_parentheses u ≡ tree.identifier s i → named_at m.typed i.site.token ≡ Named.Variable x → is_constant m.typed x ≡ false
 assigned_constant m u from s i x does is names =
     not_both (is_among x _) (is_assigned m.typed x)
     (passes_by (is_assigned_in m.typed x) (functions_in m.typed.program.items) does.owner does.stands
@@ -153,10 +142,10 @@ taken_is m e x there h =
     passes_by (λ f. list_any (λ e. is_among x (taken_by m.typed e)) (in_function f)) (functions_in m.typed.program.items) there.owner there.stands
     (passes_by (λ e. is_among x (taken_by m.typed e)) (in_function there.owner) e there.inside h)
 
-taken_among : (r : Resolution) (a : Expression) (s : Span) (i : Identifier) (x : ℕ) → without_parentheses a ≡ tree.identifier s i → named_at r i.site.token ≡ named.Variable x → is_among x (option_to_list (taken_variable r (without_parentheses a))) ≡ true
+taken_among : (r : Resolution) (a : Expression) (s : Span) (i : Identifier) (x : ℕ) → without_parentheses a ≡ tree.identifier s i → named_at r i.site.token ≡ Named.Variable x → is_among x (option_to_list (taken_variable r (without_parentheses a))) ≡ true
 taken_among r a s i x is names = ap (λ e. is_among x (option_to_list (taken_variable r e))) is ∙ ap (λ n. is_among x (option_to_list (object_named r n))) names ∙ among_itself x []
 
-is_taken_by : (m : Assignment) (a : Expression) → IsTaken m a → (s : Span) (i : Identifier) (x : ℕ) → without_parentheses a ≡ tree.identifier s i → named_at m.typed i.site.token ≡ named.Variable x → is_taken m.typed x ≡ true
+is_taken_by : (m : Assignment) (a : Expression) → IsTaken m a → (s : Span) (i : Identifier) (x : ℕ) → without_parentheses a ≡ tree.identifier s i → named_at m.typed i.site.token ≡ Named.Variable x → is_taken m.typed x ≡ true
 is_taken_by m _ (cast_away {s = z} {t = t} {a = a} there) s i x is names = taken_is m (tree.cast z t a) x there (taken_among m.typed a s i x is names)
 is_taken_by m _ (freed {s = z} {a = a} there) s i x is names = taken_is m (tree.on_place z Free a) x there (taken_among m.typed a s i x is names)
 

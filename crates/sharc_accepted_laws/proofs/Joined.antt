@@ -1,10 +1,5 @@
 -- The code of a program that is accepted is typed, by the laws of its functions and of its tables.
-use Rattle.std.proofs.Common.{ℕ, Bool, length, sym, subst}
-use Rattle.sharc_code.specs.declared.code.Code.{Code}
-use Rattle.sharc_mode.specs.Moded.{Assignment}
-use Rattle.sharc_flat.specs.{Made.flat_of, Tables.globals_of}
-use Rattle.sharc_typed_laws.specs.Programs.{CodeIsWellTyped}
-use Rattle.sharc_accepted_laws.specs.{Typing.typing, Accepted.{GlobalsAreNamed, AcceptedIsTyped}, Cells.CellsAreTyped, Expressions.CellsTyped, Programs.{AllCellsTyped, ProgramsAreTypable, CodeIsSet}, Setting.setting_of}
+use Rattle.sharc_accepted_laws.proofs.Imports.{ℕ, Bool, length, sym, subst, Code, Assignment, flat_of, globals_of, CodeIsWellTyped, typing, GlobalsAreNamed, AcceptedIsTyped, CellsAreTyped, CellsTyped, AllCellsTyped, ProgramsAreTypable, CodeIsSet, setting_of}
 
 -- wherever variables stand in a function
 everywhere : CellsAreTyped → (m : Assignment) (code : Code) (alone : ℕ → Bool) (lines : ℕ) → AllCellsTyped m code alone lines

@@ -1,23 +1,16 @@
 -- The accesses of an accepted program, by the laws of lvalues' cells.
-use Rattle.std.proofs.{Common.{◌≡◌, ◌⊎◌, inl, inr, ℕ, zero, suc, ◌+◌, ◌<◌, ◌≤◌, ◌==◌, ◌&&◌, Bool, true, false, List, refl, ap, sym, ◌∙◌, subst, arith, eqb-true, Option, Some, None}, lemmas.Bool.false≢true}
-use Rattle.sharc_tree.specs.{declared.ctype.Base.Base, declared.token.Site.Site, Tree.Expression}
-use Rattle.sharc_tree.specs.declared.ctype.Base.TheVariants as base
-use Rattle.sharc_names.specs.Kinds.{Kind, object, mutex, is_integer, is_pointer}
+use Rattle.sharc_accepted_laws.proofs.Imports.{◌≡◌, ◌⊎◌, inl, inr, ℕ, zero, suc, ◌+◌, ◌<◌, ◌≤◌, ◌==◌, ◌&&◌, Bool, true, false, List, refl, ap, sym, ◌∙◌, subst, arith, eqb-true, Option, Some, None, false≢true, Base, Site, Expression, Kind, object, mutex, is_integer, is_pointer, Code, Use, Cell, global_at, kind_at, global_elements, is_mutex_kind, cell_at, Assignment, Lock, Sharing, first_cell, Lvalue, Context, ref_count, Target, in_global, in_global_at, in_object, in_object_at, has_base, target, cell_of, guard_cell, beside_field, guard_field, spot_of, width_of, StaticType, Content, Integer, Refers, Element, OfGlobal, Loaded, Gate, Label, Labels, Signature, gated, IsRef, IsAlone, refs_in, labels_by, mark, Typing, HoldsVariables, Ground, HasNumbers, number_in_global, HasIndex, HasBaseAt, ReachesInteger, HasMutex, ThroughGuard, IsInside, ScopeLaws, register, variable_type, ContentFits, base_content, HasBaseIn, HasIndexOf, IsCellNumber, IsPlaceNumber, HaveTarget, modes_behind, base_type, cells_in_each, LockStands, of_variable, IsFairAccess, IsGated, IsCellLvalue, IsCodeOf, AccessFits, CellsStand, AccessesFit, GuardsFit, LockLeads, to_global, to_variable, IsFairUse, setting, IsTypingOf, IsGroundOf, IntegersFit, MutexesFit}
 use Rattle.sharc_names.specs.Kinds as kinds
-use Rattle.sharc_code.specs.{declared.code.Code.Code, declared.code.Use.Use, declared.instr.Cell.Cell}
-use Rattle.sharc_ctype.specs.Resolved.{global_at, kind_at}
-use Rattle.sharc_meaning.specs.Cells.{global_elements}
-use Rattle.sharc_mode.specs.{Cells.{is_mutex_kind, cell_at}, Moded.Assignment, Sharings.{Lock, Sharing}}
-use Rattle.sharc_flat.specs.{Machine.first_cell, declared.slot.Lvalue.Lvalue, Scope.{Context, ref_count}, Places.{Target, variable, in_global, in_global_at, in_object, in_object_at, has_base, target, cell_of, guard_cell, field_of, beside_field, guard_field, spot_of, width_of}}
-use Rattle.sharc_invariant.specs.{Types.{StaticType, Content, Integer}, Labels.{Refers, Element, OfElement, OfGlobal, Loaded, Gate, Label, Labels, Signature, gated}, Typed.{IsRef, IsOwn, IsAlone, refs_in}}
-use Rattle.sharc_typed_laws.specs.{Stretches.labels_by, Places.mark, Premises.{Typing, HoldsVariables, Ground, HasNumbers, number_in_global, HasIndex, HasBaseAt, IsPlaced, ReachesInteger, HasMutex, ThroughGuard}}
-use Rattle.sharc_accepted_laws.specs.{Alone.IsInside, Scopes.ScopeLaws, Static.{register, variable_type}, Lvalues.ContentFits, Targets.base_content, Accesses.{HasBaseIn, HasIndexOf, IsCellNumber, IsPlaceNumber, HaveTarget, modes_behind, base_type, cells_in_each, LockStands, of_global, of_variable, IsFairAccess, IsGated, IsCellLvalue, IsCodeOf, AccessFits, CellsStand, AccessesFit, GuardsFit}, Joined.{LockLeads, to_global, to_variable, IsFairUse, setting, IsTypingOf, IsGroundOf, IntegersFit, MutexesFit}}
+use Rattle.sharc_flat.specs.Places.{variable, field_of}
+use Rattle.sharc_invariant.specs.{Labels.OfElement, Typed.IsOwn}
+use Rattle.sharc_typed_laws.specs.Premises.{IsPlaced}
+use Rattle.sharc_accepted_laws.specs.Accesses.{of_global}
 
 -- ---- contents
 integer_by : (b : Base) → kinds.is_integral b ≡ true → base_content b ≡ Integer (width_of (object b 0))
-integer_by base.Mutex h = absurd (false≢true h)
-integer_by base.Void h = absurd (false≢true h)
-integer_by (base.Struct name) h = absurd (false≢true h)
+integer_by Base.Mutex h = absurd (false≢true h)
+integer_by Base.Void h = absurd (false≢true h)
+integer_by (Base.Struct name) h = absurd (false≢true h)
 integer_by _ h = refl
 
 no_stars : (b : Base) (stars : ℕ) → is_integer (object b (suc stars)) ≡ true → ⊥
@@ -33,9 +26,9 @@ integer_content m e n modes (object b (suc stars)) holds is fits = absurd (no_st
 integer_content m e n modes _ holds is fits = absurd (false≢true is)
 
 integer_plain : (k : Kind) → is_integer k ≡ true → is_mutex_kind k ≡ false
-integer_plain (object base.Char zero) is = refl
-integer_plain (object base.Int zero) is = refl
-integer_plain (object base.Long zero) is = refl
+integer_plain (object Base.Char zero) is = refl
+integer_plain (object Base.Int zero) is = refl
+integer_plain (object Base.Long zero) is = refl
 integer_plain (object b (suc stars)) is = absurd (no_stars b stars is)
 integer_plain _ is = absurd (false≢true is)
 

@@ -1,18 +1,5 @@
 -- Where the cells of structs and of globals stand in the table.
-use Rattle.std.proofs.{Common.{◌≡◌, ℕ, zero, suc, ◌+◌, ◌-◌, ◌*◌, ◌/◌, ◌<◌, ◌≤◌, Bool, true, false, cond, List, [], ◌∷◌, ◌++◌, length, replicate, slice_index_or, refl, ap, sym, ◌∙◌, subst, arith, Some, Contains, bytes_eq}, lemmas.Bool.{lt-ltb, ne_eqb}, Math.Nat.suc-mul}
-use Rattle.std.specs.Prelude.{slice_get}
-use Rattle.sharc_tree.specs.{declared.tree.item.GlobalDefinition.GlobalDefinition, declared.tree.item.StructDefinition.StructDefinition}
-use Rattle.sharc_names.specs.Kinds.{object, is_pointer, declared_kind}
-use Rattle.sharc_code.specs.Says.{no_global}
-use Rattle.sharc_ctype.specs.{Globals.elements_of, Resolved.{Resolution, structs_in, globals_in}}
-use Rattle.sharc_ctype_laws.specs.Constraints.{struct_named}
-use Rattle.sharc_meaning.specs.Cells.{element_cells, base_cells, field_place}
-use Rattle.sharc_mode.specs.Moded.{Assignment}
-use Rattle.sharc_flat.specs.{Machine.first_cell, Tables.{cells_in, granules_in, globals_from, globals_of, all_granules}}
-use Rattle.sharc_invariant.specs.Types.{FieldMode, Field, no_field}
-use Rattle.sharc_accepted_laws.specs.{TargetLaws.{MembersAre, GlobalsAre, GlobalsEnd}, Targets.{member, members, struct_fields, base_fields, declared_content, top_mode, global_element, repeated, global_fields, all_global_fields}}
-use Rattle.sharc_accepted_laws.proofs.{TargetCells.{member_count, base_count}, Good.{at_left, at_right, size}, TargetMembers.members_at, Owners.place_is, AccessCells.below_product}
-use Rattle.sharc_lemmas.proofs.{Options.{same_some, none_some}, Lists.{head_there, place_of_element, tail_there, there_is as below_there}}
+use Rattle.sharc_accepted_laws.proofs.{Imports.{◌≡◌, ℕ, zero, suc, ◌+◌, ◌-◌, ◌*◌, ◌/◌, ◌<◌, ◌≤◌, Bool, true, false, cond, List, [], ◌∷◌, ◌++◌, length, replicate, get_or as slice_index_or, refl, ap, sym, ◌∙◌, subst, arith, Some, Contains, bytes_eq, lt-ltb, ne_eqb, suc-mul, slice_get, GlobalDefinition, StructDefinition, object, is_pointer, declared_kind, no_global, elements_of, Resolution, structs_in, globals_in, struct_named, element_cells, base_cells, field_place, Assignment, first_cell, cells_in, granules_in, globals_from, globals_of, all_granules, FieldMode, Field, no_field, MembersAre, GlobalsAre, GlobalsEnd, member, members, struct_fields, base_fields, declared_content, top_mode, global_element, repeated, global_fields, all_global_fields, same_some, none_some, head_there, place_of_element, tail_there, below_there}, TargetCells.{member_count, base_count}, Good.{at_left, at_right, size}, TargetMembers.members_at, Owners.place_is, AccessCells.below_product}
 
 -- ---- structs
 -- the fields of a struct are those of the first one of its name

@@ -1,3 +1,4 @@
+mod Imports
 pub mod AccessCells
 pub mod AccessFirsts
 pub mod AccessLeading

@@ -1,16 +1,5 @@
 -- What statements ask of expressions, from what holds of cells.
-use Rattle.std.proofs.{Common.{◌≡◌, inl, inr, ℕ, ◌+◌, Bool, true, false, List, refl, ap, sym, ◌∙◌, subst, ◌&&◌, Option, Some, None}, lemmas.Bool.false≢true}
-use Rattle.sharc_tree.specs.{declared.ctype.Base.Base, declared.ctype.Base.TheVariants.{Mutex, Void, Struct}, Spans.span_of, Tree.{Expression, Right, Function}}
-use Rattle.sharc_names.specs.Kinds.{Kind, object, is_integral, is_pointer, is_array, is_struct_base, is_struct_behind}
-use Rattle.sharc_code.specs.declared.code.Use.TheVariants as uses
-use Rattle.sharc_ctype_laws.specs.Rules.{IsHeld}
-use Rattle.sharc_mode.specs.{Cells.is_mutex_kind, Rows.modes_at, Sharings.Sharing}
-use Rattle.sharc_check.specs.Constructs.{IsAssigned}
-use Rattle.sharc_flat.specs.{Flattened.{kind_of, is_ref, target_of, guard_of}, Scope.Context, Suits.{PlaceSuits, is_cell}}
-use Rattle.sharc_typed_laws.specs.{Stretches.Setting, Stated.CellAssigned, Typable.{type_by, IsTypable, IsPlaceTypable}}
-use Rattle.sharc_accepted_laws.specs.{Typed.{IsOf, BasesStand, CellTyped}, Static.{entry_by, entry_of}, Typing.typing, Expressions.{CellsTyped, ExpressionsTypable, ExpressionsAreTypable}, Statements.{IsPlaceIn, IsThere, AreExpressionsTypable}}
-use Rattle.sharc_accepted_laws.proofs.{Assigned.{Laws, at_there}, Sorts.{held_pointer, held_integer}, AccessFirsts.no_entry}
-use Rattle.sharc_lemmas.proofs.Numbers.{some_star}
+use Rattle.sharc_accepted_laws.proofs.{Imports.{◌≡◌, inl, inr, ℕ, ◌+◌, Bool, true, false, List, refl, ap, sym, ◌∙◌, subst, ◌&&◌, Option, Some, None, false≢true, Base, Mutex, Void, Struct, span_of, Expression, Right, Function, Kind, object, is_integral, is_pointer, is_array, is_struct_base, is_struct_behind, Use, IsHeld, is_mutex_kind, modes_at, Sharing, IsAssigned, kind_of, is_ref, target_of, guard_of, Context, PlaceSuits, is_cell, Setting, CellAssigned, type_by, IsTypable, IsPlaceTypable, IsOf, BasesStand, CellTyped, entry_by, entry_of, typing, CellsTyped, ExpressionsTypable, ExpressionsAreTypable, IsPlaceIn, IsThere, AreExpressionsTypable, some_star}, Assigned.{Laws, at_there}, Sorts.{held_pointer, held_integer}, AccessFirsts.no_entry}
 
 -- ---- what is held by a variable or a cell
 base_plain : (b : Base) → is_integral b ≡ true → (is_struct_behind 0 (object b 0) ≡ false) × (is_mutex_kind (object b 0) ≡ false)
@@ -57,11 +46,11 @@ module _ (expressions : ExpressionsAreTypable) (bases : BasesStand) (z : Setting
 
       of_row : is_ref c u ≡ true → (o : Option (List Sharing)) → modes_at c.program u ≡ o → CellAssigned z n typing c u (type_by (entry_by c (kind_of c u) o)) (target_of c u) true
       of_row ref None is = absurd (has_modes laws c h u t (held_pointer (kind_of c u) holds ref) is)
-      of_row ref (Some modes) is = typed.reference (held_pointer (kind_of c u) holds ref) modes is (span_of u).first uses.Write
+      of_row ref (Some modes) is = typed.reference (held_pointer (kind_of c u) holds ref) modes is (span_of u).first Use.Write
 
       by : (b : Bool) → is_ref c u ≡ b → CellAssigned z n typing c u (type_by (entry_of c u)) (target_of c u) b
       by true is = of_row is (modes_at c.program u) refl
-      by false is = typed.integer (held_integer (kind_of c u) holds is) (span_of u).first uses.Write
+      by false is = typed.integer (held_integer (kind_of c u) holds is) (span_of u).first Use.Write
 
   pub linked : Laws → AreExpressionsTypable z alone n g
   linked laws = record {

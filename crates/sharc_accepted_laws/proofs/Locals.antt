@@ -1,12 +1,8 @@
 -- What holds of the declarations of a function's locals holds of the locals.
-use Rattle.std.proofs.Common.{List}
-use Rattle.std.specs.List.{AllByRecursion}
-use Rattle.sharc_tree.specs.{declared.tree.declaration.Declaration.Declaration, Tree.{Local, First, declares, Statement, Statements, no_statements, statement}}
+use Rattle.sharc_accepted_laws.proofs.Imports.{List, AllByRecursion, Declaration, Local, First, declares, Statement, Statements, no_statements, statement, first_locals, locals_in_first, locals_in, front, back, both}
 use Rattle.sharc_tree.specs.Tree as tree
-use Rattle.sharc_ctype.specs.Statements.{first_locals}
 use Rattle.sharc_ctype.specs.Statements as declared
-use Rattle.sharc_check.specs.Constructs.{locals_in_first, locals_in, locals_in_all}
-use Rattle.sharc_lemmas.proofs.Lists.{front, back, both}
+use Rattle.sharc_check.specs.Constructs.{locals_in_all}
 
 module _ (P : Declaration → Type 0) where
   abbrev pub OfLocal : Local → Type 0

@@ -1,27 +1,10 @@
 -- Each lvalue that is no struct names a variable, or a cell that the table has with its content and its mode.
-use Rattle.std.proofs.{Common.{◌≡◌, inl, inr, ℕ, zero, suc, ◌+◌, ◌-◌, ◌<◌, ◌≤◌, true, false, cond, ◌&&◌, eq-eqb, List, [], ◌∷◌, ◌++◌, length, map, take, drop, slice_index_or, refl, ap, sym, ◌∙◌, subst, arith, Option, Some, None, Contains}, lemmas.Bool.{true≢false, lt-ltb, ne_eqb}}
-use Rattle.std.specs.Prelude.{option_map}
-use Rattle.sharc_tree.specs.{declared.ctype.Base.Base, declared.ctype.Mode.Mode, declared.ctype.Path.Path, declared.tree.declaration.Declaration.Declaration, declared.tree.declaration.Identifier.Identifier, declared.tree.expression.FieldOperator.TheVariants.{Dot, Arrow}, declared.tree.expression.Constant.TheVariants.{Number, Null}, declared.tree.expression.UnaryOperator.TheVariants.Dereference, declared.tree.item.GlobalDefinition.GlobalDefinition, declared.tree.item.GlobalForm.GlobalForm, declared.tree.item.StructDefinition.StructDefinition, Measures.{expressions, in_arguments}, Tree.Expression}
-use Rattle.sharc_tree.specs.declared.ctype.Base.TheVariants as base
-use Rattle.sharc_tree.specs.declared.ctype.Mode.TheVariants as mode
-use Rattle.sharc_tree.specs.declared.token.NumberType.TheVariants as number_type
-use Rattle.sharc_tree.specs.declared.tree.item.GlobalForm.TheVariants as form
+use Rattle.sharc_accepted_laws.proofs.{Imports.{◌≡◌, inl, inr, ℕ, zero, suc, ◌+◌, ◌-◌, ◌<◌, ◌≤◌, true, false, cond, ◌&&◌, eq-eqb, List, [], ◌∷◌, ◌++◌, length, map, take, drop, get_or as slice_index_or, refl, ap, sym, ◌∙◌, subst, arith, Option, Some, None, Contains, true≢false, lt-ltb, ne_eqb, option_map, Base, Mode, Path, Declaration, Identifier, Dot, Arrow, Number, Null, Dereference, GlobalDefinition, GlobalForm, StructDefinition, expressions, in_arguments, Expression, NumberType, Named, Kind, object, array, is_array, is_null, is_pointer, is_struct_base, is_struct_behind, declared_kind, global_kind, field_of, constant_kind, number_kind, Resolution, named_at, named_kind, declaration_at, global_at, kind_at, structs_in, HasType, Common, both_shorter, struct_named, IsMemberOf, Callee, of_program, of_conditions, is_mutex_kind, top_of, field_cell, first_of, pointed, named_cell, global_cell, declared_cell, field_named, cell_at, Assignment, base_of, PathReading, written, Targets, constant_row, deeper, declared_row, global_row, named_row, reading_through, base_use, behind, row_at, read, modes_of, modes_at, Lock, Sharing, locked, lock_of, sharing_of, IsExpression, field_place, field_place_named, Target, in_object, in_object_at, in_global, in_global_at, named_target, own_field, target, global_of, FieldMode, FieldLock, Field, Content, Pointer, TableTarget, no_field, row_of, IsRowOf, IsMemberAt, pointer_of, below_locks, locks_below, named_locks, cell_locks, IsOfObject, IsOfGlobal, LocksFit, are_written, of_type, ContentFits, ModeFits, FieldFits, IsBehindPointer, IsInFile, NamesCell, no_cell, of_object, of_global, Shape, form_of, shape_of, row_shape, expression_shape, shapes, number, own_mode, lock_count, type_locks, field_locks, is_private_mode, base_content, pointer_content, declared_content, single, member, base_fields, shape_fields, top_mode, global_element, targets_of, map_length, head_there, tail_there}, TargetForms.row_length, TargetLists.left_there, Moding.{PathNames, own_fits, global_fits, private_both, global_both, field_fits}, Numbers.numbers_found, TargetWalk.function_closed, Beginning.{is_some_base as same_base}}
 use Rattle.sharc_tree.specs.Tree as tree
-use Rattle.sharc_names.specs.declared.fault.Named.TheVariants as named
-use Rattle.sharc_names.specs.{Kinds.{Kind, object, array, is_array, is_null, is_pointer, is_struct_base, is_struct_behind, declared_kind}, Names.{global_kind, field_of}}
 use Rattle.sharc_names.specs.Kinds as kinds
-use Rattle.sharc_ctype.specs.{Expressions.{constant_kind, number_kind}, Resolved.{Resolution, named_at, named_kind, declaration_at, global_at, kind_at, structs_in}}
-use Rattle.sharc_ctype_laws.specs.Constraints.{HasType, Common, both_shorter, struct_named, IsMemberOf, Callee, of_program, of_conditions}
 use Rattle.sharc_ctype_laws.specs.Constraints as typing
-use Rattle.sharc_mode.specs.{Cells.{is_mutex_kind, top_of, field_cell, first_of, pointed, named_cell, global_cell, declared_cell, field_named, cell_at}, Moded.Assignment, Notes.base_of, Rows.{PathReading, written, Targets, constant_row, deeper, declared_row, global_row, named_row, reading_through, base_use, behind, row_at, read, modes_of, modes_at}, Sharings.{Lock, Sharing, locked, lock_of, sharing_of}}
 use Rattle.sharc_mode.specs.Sharings as sharings
-use Rattle.sharc_check.specs.Constructs.{IsExpression}
-use Rattle.sharc_meaning.specs.Cells.{field_place, field_place_named}
-use Rattle.sharc_flat.specs.Places.{Target, variable, in_object, in_object_at, in_global, in_global_at, named_target, own_field, target, global_of}
-use Rattle.sharc_invariant.specs.Types.{FieldMode, FieldLock, Field, Content, Pointer, Target as TableTarget, no_field, row_of}
-use Rattle.sharc_accepted_laws.specs.{TargetLaws.{IsRowOf, IsMemberAt}, Lvalues.{pointer_of, below_locks, locks_below, named_locks, cell_locks, IsOfObject, IsOfGlobal, LocksFit, are_written, of_type, ContentFits, ModeFits, FieldFits, IsBehindPointer, IsInFile, NamesCell, no_cell, of_object, of_global}, Shapes.{Shape, form_of, shape_of, row_shape, expression_shape, shapes, number}, Targets.{own_mode, lock_count, type_locks, field_locks, is_private_mode, base_content, pointer_content, declared_content, single, member, base_fields, shape_fields, top_mode, global_element, targets_of}}
-use Rattle.sharc_accepted_laws.proofs.{TargetForms.row_length, TargetLists.left_there, Moding.{PathNames, own_fits, global_fits, private_both, global_both, field_fits}, Numbers.numbers_found, TargetWalk.function_closed, Beginning.is_some_base as same_base}
-use Rattle.sharc_lemmas.proofs.Lists.{map_length, head_there, tail_there}
+use Rattle.sharc_flat.specs.Places.{variable}
 
 -- ---- parts of expressions
 self_there : (a : Expression) → Contains (expressions a) a
@@ -78,19 +61,19 @@ same_stars b c n k h = cc
 
 -- an element that is no struct and no pointer is one cell
 single_fields : (m : Assignment) (q : FieldMode) (b : Base) → is_struct_base b ≡ false → base_fields m q b ≡ single q b ∷ []
-single_fields m q (base.Struct name) other = absurd (true≢false other)
+single_fields m q (Base.Struct name) other = absurd (true≢false other)
 single_fields m q _ other = refl
 
 single_holds : (q : FieldMode) (b : Base) → (single q b).holds ≡ base_content b
-single_holds q (base.Struct name) = refl
+single_holds q (Base.Struct name) = refl
 single_holds q _ = refl
 
-single_mode : (q : FieldMode) (b : Base) → is_struct_base b ≡ false → (b ≡ base.Mutex → ⊥) → (single q b).mode ≡ q
-single_mode q base.Mutex plain other = absurd (other refl)
-single_mode q (base.Struct name) plain other = absurd (true≢false plain)
+single_mode : (q : FieldMode) (b : Base) → is_struct_base b ≡ false → (b ≡ Base.Mutex → ⊥) → (single q b).mode ≡ q
+single_mode q Base.Mutex plain other = absurd (other refl)
+single_mode q (Base.Struct name) plain other = absurd (true≢false plain)
 single_mode q _ plain other = refl
 
-mutex_not : (b : Base) → is_mutex_kind (object b 0) ≡ false → b ≡ base.Mutex → ⊥
+mutex_not : (b : Base) → is_mutex_kind (object b 0) ≡ false → b ≡ Base.Mutex → ⊥
 mutex_not b other is = true≢false (sym (ap (λ x. is_mutex_kind (object x 0)) is) ∙ other)
 
 -- what the proof stands on
@@ -102,10 +85,10 @@ pub record AreReady (m : Assignment) : Type 0 where
   pub struct_found : (name : List ℕ) (s : StructDefinition) → struct_named (structs_in m.typed.program.items) name ≡ Some s → Contains (structs_in m.typed.program.items) s
   pub member_found : (fields : List Declaration) (name : List ℕ) (d : Declaration) → field_of fields name ≡ Some d → Contains fields d
   pub field_itself : (s : StructDefinition) (d : Declaration) → Contains (structs_in m.typed.program.items) s → Contains s.fields d → declaration_at m.typed d.name.site.token ≡ Some d
-  pub field_path : (s : StructDefinition) (d : Declaration) → Contains (structs_in m.typed.program.items) s → Contains s.fields d → (path : Path) → top_of d.written.ctype.levels ≡ Some (mode.Locked path) → PathNames m.typed (lock_of path)
+  pub field_path : (s : StructDefinition) (d : Declaration) → Contains (structs_in m.typed.program.items) s → Contains s.fields d → (path : Path) → top_of d.written.ctype.levels ≡ Some (Mode.Locked path) → PathNames m.typed (lock_of path)
   pub field_plain : (s : StructDefinition) (d : Declaration) → Contains (structs_in m.typed.program.items) s → Contains s.fields d → is_struct_behind 0 (declared_kind d.written) ≡ false
   pub field_forms : (how : PathReading) (token : ℕ) → map form_of (modes_of m (declared_row m.typed how token)) ≡ map form_of (modes_of m (declared_row m.typed written token))
-  pub global_path : (g : ℕ) (d : GlobalDefinition) → global_at m.typed g ≡ Some d → (l : Lock) → global_cell m (Some d) ≡ locked l → (k : ℕ) × (named_at m.typed l.first ≡ named.Global k) × (named_kind m.typed (named.Global k) ≡ kinds.mutex)
+  pub global_path : (g : ℕ) (d : GlobalDefinition) → global_at m.typed g ≡ Some d → (l : Lock) → global_cell m (Some d) ≡ locked l → (k : ℕ) × (named_at m.typed l.first ≡ Named.Global k) × (named_kind m.typed (Named.Global k) ≡ kinds.mutex)
 
 module _ (m : Assignment) (ready : AreReady m) where
   abbrev r : Resolution
@@ -311,12 +294,12 @@ module _ (m : Assignment) (ready : AreReady m) where
   no_targets b first (y ∷ rest) none = absurd (omega (arith, none))
 
   -- behind a pointer
-  behind_member : (e p : Expression) (x : List ℕ) (s : StructDefinition) (d : Declaration) (how : PathReading) → pointer_of r e ≡ Some p → IsExpression m p → (w : IsPointee p (base.Struct x) 0) → struct_named (structs_in r.program.items) x ≡ Some s → Contains s.fields d
+  behind_member : (e p : Expression) (x : List ℕ) (s : StructDefinition) (d : Declaration) (how : PathReading) → pointer_of r e ≡ Some p → IsExpression m p → (w : IsPointee p (Base.Struct x) 0) → struct_named (structs_in r.program.items) x ≡ Some s → Contains s.fields d
       → kind_at r e ≡ declared_kind d.written → row_at r e ≡ Some (declared_row r how d.name.site.token) → cell_at m e ≡ field_cell r (pointed m (Some w.row)) d.written
       → cell_locks m e ≡ field_locks r (field_place r d.name.site.token) (modes_of m (declared_row r written d.name.site.token)) → IsBehindPointer m e (field_place r d.name.site.token)
   behind_member e p x s d how leads stands w struct member_is kind row cell told =
       let at = ready.members x s struct d member_is (own_mode (form_of w.first)) in
-      let fields = w.fields ∙ no_targets (base.Struct x) w.first w.below w.many in
+      let fields = w.fields ∙ no_targets (Base.Struct x) w.first w.below w.many in
       let n = field_place r d.name.site.token in
       let fits : FieldFits m e n (w.first ∷ w.below) (member m (own_mode (form_of w.first)) n d) =
       member_fits e n (w.first ∷ w.below) w.first (own_mode (form_of w.first)) s d how (ready.struct_found x s struct) member_is kind row (cell ∙ ap (λ q. field_cell r q d.written) w.points) (own_fits r n w.first w.below) (private_both w.first) told in
@@ -329,19 +312,19 @@ module _ (m : Assignment) (ready : AreReady m) where
         some = w.some;
         inside = subst (λ l. n < length l) (sym fields) at.inside;
         fits = subst (λ l. FieldFits m e n (modes_of m w.row) (slice_index_or l n no_field)) (sym fields)
-            (subst (λ modes. FieldFits m e n modes (slice_index_or (base_fields m (own_mode (form_of w.first)) (base.Struct x)) n no_field)) (sym w.modes)
+            (subst (λ modes. FieldFits m e n modes (slice_index_or (base_fields m (own_mode (form_of w.first)) (Base.Struct x)) n no_field)) (sym w.modes)
             (subst (FieldFits m e n (w.first ∷ w.below)) (sym at.at) fits));
       }
 
   -- of an element of a global
-  file_member : (e : Expression) (g : ℕ) (f : GlobalDefinition) (x : List ℕ) (s : StructDefinition) (d : Declaration) (how : PathReading) → global_at r g ≡ Some f → declared_kind f.declaration.written ≡ object (base.Struct x) 0 → struct_named (structs_in r.program.items) x ≡ Some s
+  file_member : (e : Expression) (g : ℕ) (f : GlobalDefinition) (x : List ℕ) (s : StructDefinition) (d : Declaration) (how : PathReading) → global_at r g ≡ Some f → declared_kind f.declaration.written ≡ object (Base.Struct x) 0 → struct_named (structs_in r.program.items) x ≡ Some s
       → Contains s.fields d → kind_at r e ≡ declared_kind d.written → row_at r e ≡ Some (declared_row r how d.name.site.token) → cell_at m e ≡ field_cell r (global_cell m (Some f)) d.written
       → cell_locks m e ≡ field_locks r (field_place r d.name.site.token) (modes_of m (declared_row r written d.name.site.token)) → IsInFile m e g (field_place r d.name.site.token)
   file_member e g f x s d how found declared_is struct member_is kind row cell told =
       let at = ready.members x s struct d member_is (top_mode m f) in
       let n = field_place r d.name.site.token in
-      let base_is : f.declaration.written.ctype.base ≡ base.Struct x = same_base _ _ _ _ declared_is in
-      let fields : global_element m f ≡ base_fields m (top_mode m f) (base.Struct x) =
+      let base_is : f.declaration.written.ctype.base ≡ Base.Struct x = same_base _ _ _ _ declared_is in
+      let fields : global_element m f ≡ base_fields m (top_mode m f) (Base.Struct x) =
       ap (λ z. cond z (record { mode = top_mode m f; holds = declared_content m 0 f.declaration } ∷ []) (base_fields m (top_mode m f) f.declaration.written.ctype.base)) (ap is_pointer declared_is) ∙ ap (base_fields m (top_mode m f)) base_is in
       let fits : FieldFits m e n [] (member m (top_mode m f) n d) =
       member_fits e n [] (global_cell m (Some f)) (top_mode m f) s d how (ready.struct_found x s struct) member_is kind row cell (global_fits r n (global_cell m (Some f)) (ready.global_path g f found)) (global_both r (global_cell m (Some f))) told in
@@ -406,24 +389,24 @@ module _ (m : Assignment) (ready : AreReady m) where
   constant_plain (Number n) = by n.number_type
     where
       by : (t : _) → is_array (number_kind t) ≡ false
-      by number_type.Int = refl
-      by number_type.Long = refl
+      by NumberType.Int = refl
+      by NumberType.Long = refl
   constant_plain _ = refl
 
   common_plain : (a b t : Kind) → Common a b t → is_array t ≡ false
   common_plain a b _ (both_shorter x y) = refl
   common_plain a b _ _ = refl
 
-  global_names : (i : _) (n : ℕ) (f : Option ℕ) → named_at r i ≡ named.Global n → named_target (named_at r i) (own_field f 0) ≡ in_global n (own_field f 0)
+  global_names : (i : _) (n : ℕ) (f : Option ℕ) → named_at r i ≡ Named.Global n → named_target (named_at r i) (own_field f 0) ≡ in_global n (own_field f 0)
   global_names i n f is = ap (λ w. named_target w (own_field f 0)) is
 
-  row_of_global : (i n : ℕ) (g : GlobalDefinition) → named_at r i ≡ named.Global n → global_at r n ≡ Some g → Some (named_row r written (named_at r i)) ≡ Some (declared_row r written g.declaration.name.site.token)
+  row_of_global : (i n : ℕ) (g : GlobalDefinition) → named_at r i ≡ Named.Global n → global_at r n ≡ Some g → Some (named_row r written (named_at r i)) ≡ Some (declared_row r written g.declaration.name.site.token)
   row_of_global i n g names at = ap (λ w. Some (named_row r written w)) names ∙ ap (λ o. Some (global_row r written o)) at
 
-  cell_of_global : (i n : ℕ) (g : GlobalDefinition) → named_at r i ≡ named.Global n → global_at r n ≡ Some g → named_cell m (named_at r i) ≡ global_cell m (Some g)
+  cell_of_global : (i n : ℕ) (g : GlobalDefinition) → named_at r i ≡ Named.Global n → global_at r n ≡ Some g → named_cell m (named_at r i) ≡ global_cell m (Some g)
   cell_of_global i n g names at = ap (named_cell m) names ∙ ap (global_cell m) at
 
-  told_global : (i n : ℕ) (g : GlobalDefinition) → named_at r i ≡ named.Global n → global_at r n ≡ Some g → named_locks m 0 (named_at r i) ≡ field_locks r 0 (modes_of m (declared_row r written g.declaration.name.site.token))
+  told_global : (i n : ℕ) (g : GlobalDefinition) → named_at r i ≡ Named.Global n → global_at r n ≡ Some g → named_locks m 0 (named_at r i) ≡ field_locks r 0 (modes_of m (declared_row r written g.declaration.name.site.token))
   told_global i n g names at = ap (named_locks m 0) names ∙ ap (λ o. field_locks r 0 (modes_of m (global_row r written o))) at
 
   pub array_base : (a : Expression) (k : Kind) → HasType r a k → (b : Base) (n : ℕ) → k ≡ array b n → IsArrayBase a b n
@@ -432,7 +415,7 @@ module _ (m : Assignment) (ready : AreReady m) where
       record { number = n; global = g; at = at; place = global_names i.site.token n None names; cell = cell_of_global i.site.token n g names at; row = row_of_global i.site.token n g names at; declared_is = by g.form is; told = told_global i.site.token n g names at }
     where
       by : (f : GlobalForm) → global_kind f (declared_kind g.declaration.written) ≡ array b k → declared_kind g.declaration.written ≡ object b k
-      by (form.Array at count) h = array_parts _ b _ k h
+      by (GlobalForm.Array at count) h = array_parts _ b _ k h
       by _ h = absurd (no_array _ b _ k h)
   array_base _ _ (typing.a_constant {s} {c}) b n is = absurd (no_array_of (constant_kind c) b n (constant_plain c) is)
   array_base _ _ (typing.in_parentheses {s} {a} {k} h) b n is = let w = array_base a k h b n is in record { number = w.number; global = w.global; at = w.at; place = w.place; cell = w.cell; row = w.row; declared_is = w.declared_is; told = w.told }
@@ -451,8 +434,8 @@ module _ (m : Assignment) (ready : AreReady m) where
 
   -- ---- structs that are lvalues
   data StructPlace (a : Expression) (x : List ℕ) : Type 0 where
-    is_behind : (p : Expression) → pointer_of r a ≡ Some p → IsExpression m p → (w : IsPointee p (base.Struct x) 0) → cell_at m a ≡ pointed m (Some w.row) → ((f : ℕ) → IsOfObject (target r (Some f) a) f) → StructPlace a x
-    is_in_file : (g : ℕ) (d : GlobalDefinition) → global_at r g ≡ Some d → declared_kind d.declaration.written ≡ object (base.Struct x) 0 → cell_at m a ≡ global_cell m (Some d) → ((f : ℕ) → IsOfGlobal (target r (Some f) a) g f) → StructPlace a x
+    is_behind : (p : Expression) → pointer_of r a ≡ Some p → IsExpression m p → (w : IsPointee p (Base.Struct x) 0) → cell_at m a ≡ pointed m (Some w.row) → ((f : ℕ) → IsOfObject (target r (Some f) a) f) → StructPlace a x
+    is_in_file : (g : ℕ) (d : GlobalDefinition) → global_at r g ≡ Some d → declared_kind d.declaration.written ≡ object (Base.Struct x) 0 → cell_at m a ≡ global_cell m (Some d) → ((f : ℕ) → IsOfGlobal (target r (Some f) a) g f) → StructPlace a x
     is_nowhere : ((f : ℕ) → (y : ℕ) × (target r (Some f) a ≡ variable y)) → StructPlace a x
 
   struct_within : (s : _) (a : Expression) (x : List ℕ) → StructPlace a x → StructPlace (tree.parentheses s a) x
@@ -460,28 +443,28 @@ module _ (m : Assignment) (ready : AreReady m) where
   struct_within s a x (is_in_file g d at declared_is cell place) = is_in_file g d at declared_is cell place
   struct_within s a x (is_nowhere none) = is_nowhere none
 
-  no_struct_field : (x name : List ℕ) (d : Declaration) → IsMemberOf r x name d → (y : List ℕ) → declared_kind d.written ≡ object (base.Struct y) 0 → ⊥
+  no_struct_field : (x name : List ℕ) (d : Declaration) → IsMemberOf r x name d → (y : List ℕ) → declared_kind d.written ≡ object (Base.Struct y) 0 → ⊥
   no_struct_field x name d member y is =
       let there = ready.struct_found x member.0 member.1 in
       let has = ready.member_found member.0.fields name d member.2 in
       true≢false (sym (ap (is_struct_behind 0) is) ∙ ready.field_plain member.0 d there has)
 
-  element_type : (a : Expression) (b : Base) (n : ℕ) (x : List ℕ) → HasType r a (object b (n + 1)) → object b n ≡ object (base.Struct x) 0 → HasType r a (object (base.Struct x) (0 + 1))
-  element_type a b n x h is = subst (HasType r a) (ap (λ z. object z (n + 1)) (same_base b (base.Struct x) n 0 is) ∙ ap (λ k. object (base.Struct x) (k + 1)) (same_stars b (base.Struct x) n 0 is)) h
+  element_type : (a : Expression) (b : Base) (n : ℕ) (x : List ℕ) → HasType r a (object b (n + 1)) → object b n ≡ object (Base.Struct x) 0 → HasType r a (object (Base.Struct x) (0 + 1))
+  element_type a b n x h is = subst (HasType r a) (ap (λ z. object z (n + 1)) (same_base b (Base.Struct x) n 0 is) ∙ ap (λ k. object (Base.Struct x) (k + 1)) (same_stars b (Base.Struct x) n 0 is)) h
 
-  struct_place : (a : Expression) (k : Kind) → HasType r a k → IsExpression m a → (x : List ℕ) → k ≡ object (base.Struct x) 0 → StructPlace a x
+  struct_place : (a : Expression) (k : Kind) → HasType r a k → IsExpression m a → (x : List ℕ) → k ≡ object (Base.Struct x) 0 → StructPlace a x
   struct_place _ _ (typing.a_variable {s} {i} {token} {d} names at text) stands x is = is_nowhere (λ f. (token, ap (λ w. named_target w (own_field (Some f) 0)) names))
   struct_place _ _ (typing.a_global {s} {i} {n} {g} names at text) stands x is = is_in_file n g at (by g.form is) (cell_of_global i.site.token n g names at) (λ f. inl (global_names i.site.token n (Some f) names))
     where
-      by : (f : GlobalForm) → global_kind f (declared_kind g.declaration.written) ≡ object (base.Struct x) 0 → declared_kind g.declaration.written ≡ object (base.Struct x) 0
-      by (form.Array at count) h = cc
+      by : (f : GlobalForm) → global_kind f (declared_kind g.declaration.written) ≡ object (Base.Struct x) 0 → declared_kind g.declaration.written ≡ object (Base.Struct x) 0
+      by (GlobalForm.Array at count) h = cc
       by _ h = h
   struct_place _ _ (typing.a_function callee) stands x is = cc
   struct_place _ _ (typing.in_parentheses {s} {a} {k} h) stands x is = struct_within s a x (struct_place a k h (part m (tree.parentheses s a) a (tail_there (tree.parentheses s a) a (expressions a) (self_there a)) stands) x is)
   struct_place _ _ (typing.element_of_pointer {s} {a} {i} {b} {n} ha hi integer) stands x is =
       let plain = ap is_array (ready.one a (object b (n + 1)) ha) in
       let inner = part m (tree.index s a i) a (tail_there (tree.index s a i) a (expressions a ++ expressions i) (left_there (expressions a) (expressions i) a (self_there a))) stands in
-      let w = pointee a (base.Struct x) 0 (element_type a b n x ha is) inner in
+      let w = pointee a (Base.Struct x) 0 (element_type a b n x ha is) inner in
       is_behind a (ap (λ z. cond z None (Some a)) plain) inner w (ap (λ z. cond z (cell_at m a) (pointed m (row_at r a))) plain ∙ ap (pointed m) w.row_found)
       (λ f. inr (ap (λ z. cond z (in_global_at (global_of (target r None a)) f) (in_object_at f)) plain))
   struct_place _ _ (typing.element_of_array {s} {a} {i} {b} {n} ha hi integer) stands x is =
@@ -493,7 +476,7 @@ module _ (m : Assignment) (ready : AreReady m) where
   struct_place _ _ (typing.a_field_behind {s} {a} {name} {d} h member names) stands x is = absurd (no_struct_field _ name.text d member x is)
   struct_place _ _ (typing.pointed_to {s} {a} {b} {n} h) stands x is =
       let inner = part m (tree.unary s Dereference a) a (tail_there (tree.unary s Dereference a) a (expressions a) (self_there a)) stands in
-      let w = pointee a (base.Struct x) 0 (element_type a b n x h is) inner in
+      let w = pointee a (Base.Struct x) 0 (element_type a b n x h is) inner in
       is_behind a refl inner w (ap (pointed m) w.row_found) (λ f. inl refl)
   struct_place _ _ _ stands x is = is_nowhere (λ f. (0, refl))
 
@@ -509,7 +492,7 @@ module _ (m : Assignment) (ready : AreReady m) where
           (plain_kind g.declaration.written.ctype.base (length g.declaration.written.ctype.levels - 1) (sym (ap (is_struct_behind 0) same) ∙ plain)) refl at (row_of_global i.site.token n g names at) (cell_of_global i.site.token n g names at) (told_global i.site.token n g names at)
 
       by : (f : GlobalForm) → g.form ≡ f → IsInFile m (tree.identifier s i) n 0
-      by (form.Array x count) e = absurd (true≢false (sym (ap (λ z. is_array (global_kind z (declared_kind g.declaration.written))) e) ∙ single_one))
+      by (GlobalForm.Array x count) e = absurd (true≢false (sym (ap (λ z. is_array (global_kind z (declared_kind g.declaration.written))) e) ∙ single_one))
       by _ e = with_kind (ap (λ z. global_kind z (declared_kind g.declaration.written)) e)
   names_cell _ _ (typing.a_function {s} {i} callee) stands plain single_one = nowhere_at (tree.identifier s i) _ 0 (callee_target callee)
     where
@@ -536,7 +519,7 @@ module _ (m : Assignment) (ready : AreReady m) where
       (ap (λ z. cond z (cell_locks m a) (locks_below (modes_at m a))) array_is ∙ w.told))
   names_cell _ _ (typing.a_call {s} {f} {all} callee types) stands plain single_one = nowhere_at (tree.call s f all) _ 0 refl
   names_cell _ _ (typing.a_field {s} {a} {x} {name} {d} h member names) stands plain single_one =
-      by (struct_place a (object (base.Struct x) 0) h (part m (tree.field s a Dot name) a (tail_there (tree.field s a Dot name) a (expressions a) (self_there a)) stands) x refl)
+      by (struct_place a (object (Base.Struct x) 0) h (part m (tree.field s a Dot name) a (tail_there (tree.field s a Dot name) a (expressions a) (self_there a)) stands) x refl)
     where
       there : Contains (structs_in r.program.items) member.0
       there = ready.struct_found x member.0 member.1
@@ -571,7 +554,7 @@ module _ (m : Assignment) (ready : AreReady m) where
       let there = ready.struct_found x member.0 member.1 in
       let has = ready.member_found member.0.fields name.text d member.2 in
       let inner = part m (tree.field s a Arrow name) a (tail_there (tree.field s a Arrow name) a (expressions a) (self_there a)) stands in
-      let w = pointee a (base.Struct x) 0 h inner in
+      let w = pointee a (Base.Struct x) 0 h inner in
       of_object (target r None (tree.field s a Arrow name)) (field_place r d.name.site.token) (inl (ap (λ z. in_object (field_place_named r z)) names))
       (behind_member (tree.field s a Arrow name) a x member.0 d (reading_through (base_use r Arrow a)) refl inner w member.1 has (ready.one (tree.field s a Arrow name) (declared_kind d.written) (typing.a_field_behind h member names))
       (ap (λ z. Some (named_row r (reading_through (base_use r Arrow a)) z)) names)

@@ -1,10 +1,5 @@
 -- No two calls of malloc begin at one token: so the objects that are made there are of one type.
-use Rattle.std.proofs.{Common.{◌≡◌, ℕ, ◌+◌, ◌<◌, ◌≤◌, ⊎_elim, Bool, true, false, List, [], ◌∷◌, ◌++◌, length, refl, sym, ap, ◌∙◌, subst, arith, length-append, Option, Some, None, Contains}, lemmas.Bool.eqb-true, lemmas.List.Elements.filter_map-append}
-use Rattle.std.specs.{Prelude.{◌==◌, IfSome, if◌then◌else◌}, List.{list_any, filter_map, flat_map}}
-use Rattle.sharc_tree.specs.{declared.token.Span.Span, declared.token.Token.Token, declared.tree.declaration.Declaration.Declaration, declared.tree.declaration.WrittenType.WrittenType, Placed.{Follow, IsWhole, point, option_spans, first_spans, head_spans, statement_spans, declaration_spans, item_spans, PlacedRight, PlacedSimple, PlacedLocal, PlacedFirst, PlacedStatement, PlacedStatements, PlacedItems, IsPlaced}, Spans.{span_of, span_of_right, span_of_simple, span_of_statement}, Tree.{Expression, parentheses, call, spawn, on_value, on_place, cast, index, field, unary, binary, Arguments, no_arguments, argument, Right, value, malloc, Simple, assign, does_call, Local, First, nothing, declares, does, Statement, empty, block, declare, simple, jump, return, if_then, if_then_else, while, for, Statements, no_statements, statement, Item, structure, global, function}}
-use Rattle.sharc_ctype.specs.{Resolved.{Resolution, functions_in, named_at}, Transfers.{Receiver, lvalue, variable, result, Transfer, gives, parameters_named, passed, transfers, argument_transfers, in_option, right_transfers, simple_transfers, local_transfers, first_transfers, statement_transfers, statements_transfers, function_transfers}}
-use Rattle.sharc_meaning.specs.References.{made_at, types_made}
-use Rattle.sharc_lemmas.proofs.{Lists.head_or_tail, Equal.none_there, Bools.or_false as or_none}
+use Rattle.sharc_accepted_laws.proofs.Imports.{◌≡◌, ℕ, ◌+◌, ◌<◌, ◌≤◌, ⊎_elim, Bool, true, false, List, [], ◌∷◌, ◌++◌, length, refl, sym, ap, ◌∙◌, subst, arith, length-append, Option, Some, None, Contains, eqb-true, filter_map-append, ◌==◌, IfSome, if◌then◌else◌, list_any, filter_map, flat_map, Span, Token, Declaration, WrittenType, Follow, IsWhole, point, option_spans, first_spans, head_spans, statement_spans, declaration_spans, item_spans, PlacedRight, PlacedSimple, PlacedLocal, PlacedFirst, PlacedStatement, PlacedStatements, PlacedItems, IsPlaced, span_of, span_of_right, span_of_simple, span_of_statement, Expression, parentheses, call, spawn, on_value, on_place, cast, index, field, unary, binary, Arguments, no_arguments, argument, Right, value, malloc, Simple, assign, does_call, Local, First, nothing, declares, does, Statement, empty, block, declare, simple, jump, return, if_then, if_then_else, while, for, Statements, no_statements, statement, Item, structure, global, function, Resolution, functions_in, named_at, Receiver, lvalue, variable, result, Transfer, gives, parameters_named, passed, transfers, argument_transfers, option_transfers as in_option, right_transfers, simple_transfers, local_transfers, first_transfers, statement_transfers, statements_transfers, function_transfers, made_at, types_made, head_or_tail, none_there, or_false as or_none}
 
 -- ---- what begins at one token
 -- at most one type, and if there is one, the token is one of these

@@ -1,9 +1,6 @@
 -- What holds of each element of a list, and what is an element.
-use Rattle.std.proofs.{Common.{◌≡◌, ◌⊎◌, ⊎_elim, ◌<◌, List, [], ◌∷◌, ◌++◌, refl, ap, sym, ◌∙◌, subst, Option, Some, None, Contains}, lemmas.List.Elements.{Contains-append_left, Contains-append_right}}
-use Rattle.std.specs.List.{AllByRecursion, flat_map, filter_map}
-use Rattle.sharc_tree.specs.{Measures.expressions, Tree.Expression}
+use Rattle.sharc_accepted_laws.proofs.Imports.{◌≡◌, ◌⊎◌, ⊎_elim, ◌<◌, List, [], ◌∷◌, ◌++◌, refl, ap, sym, ◌∙◌, subst, Option, Some, None, Contains, Contains-append_left, Contains-append_right, AllByRecursion, flat_map, filter_map, expressions, Expression, each, head_there, head_or_tail, to_each, tail_there, none_there}
 use Rattle.sharc_tree.specs.Tree as tree
-use Rattle.sharc_lemmas.proofs.{Lists.{each, head_there, head_or_tail, to_each, tail_there}, Equal.none_there}
 
 -- of what each element gives
 pub flat_there : {A B : Type 0} (f : A → List B) (list : List A) (x : A) (y : B) → Contains list x → Contains (f x) y → Contains (flat_map f list) y

@@ -1,24 +1,9 @@
 -- A cell that is there may be accessed in the mode that the source gives it.
-use Rattle.std.proofs.Common.{◌≡◌, ℕ, ◌+◌, ◌-◌, ◌<◌, Bool, true, false, cond, List, [], ◌∷◌, length, slice_index_or, refl, ap, sym, ◌∙◌, subst, arith, Option, Some, None}
-use Rattle.sharc_tree.specs.{declared.ctype.Base.Base, declared.tree.item.GlobalDefinition.GlobalDefinition, declared.tree.item.GlobalForm.GlobalForm}
-use Rattle.sharc_tree.specs.declared.ctype.Base.TheVariants as base
-use Rattle.sharc_tree.specs.declared.tree.item.GlobalForm.TheVariants as form
-use Rattle.sharc_names.specs.{declared.fault.Named.Named, Kinds.{object, array, mutex, is_pointer, declared_kind}, Names.global_kind}
-use Rattle.sharc_names.specs.declared.fault.Named.TheVariants as named
+use Rattle.sharc_accepted_laws.proofs.{Imports.{◌≡◌, ℕ, ◌+◌, ◌-◌, ◌<◌, Bool, true, false, cond, List, [], ◌∷◌, length, get_or as slice_index_or, refl, ap, sym, ◌∙◌, subst, arith, Option, Some, None, Base, GlobalDefinition, GlobalForm, Named, object, array, mutex, is_pointer, declared_kind, global_kind, Code, PlaceMode, Cell, elements_of, Resolution, named_at, named_kind, global_kind_of, global_at, field_place, field_place_behind, is_behind_pointer, Assignment, Lock, Sharing, locked, Spot, first_cell, Context, mode_beside, mode_named, place_mode, beside_named, beside_field, guard_named, guard_field, globals_of, StaticType, TypeLock, OfType, OfGlobals, OfElement, FieldMode, Under, Content, MutexWord, Field, no_field, FieldMode as own, Refers, Closed, Loaded, Label, Labels, Itself, IsInGlobal, HasField, IsMode, IsLockMode, IsLockCell, IsTypeMode, IsTypeLock, PointsToMutex, no_lock, IsLockedBy, MayPass, register, lock_named, lock_at, locks_at, BesideFits, HasTables, GlobalsAre, ModeFits, is_private, is_readonly, locked_by_type, locked_by_global, locked_by_sibling, locked_behind, single, base_fields, declared_content, top_mode, global_element, targets_of, Reaches, Guards, IsGated, LockStands, of_variable, IsFairAccess, no_guard, some_is}, AccessCells.{IsCellOf, ArePairOf, first_low, global_cell_at}, Beginning.{is_some_base as base_is}}
 use Rattle.sharc_names.specs.Kinds as kinds
-use Rattle.sharc_code.specs.{declared.code.Code.Code, declared.code.PlaceMode.PlaceMode, declared.instr.Cell.Cell}
-use Rattle.sharc_code.specs.declared.code.PlaceMode.TheVariants as modes
-use Rattle.sharc_code.specs.declared.instr.Cell.TheVariants as cells
-use Rattle.sharc_ctype.specs.{Globals.elements_of, Resolved.{Resolution, named_at, named_kind, global_kind_of, global_at}}
-use Rattle.sharc_meaning.specs.Cells.{field_place, field_place_behind}
-use Rattle.sharc_mode.specs.{Cells.is_behind_pointer, Moded.Assignment, Sharings.{Lock, Sharing, locked}}
-use Rattle.sharc_flat.specs.{declared.op.Spot.Spot, Machine.first_cell, Scope.Context, Places.{mode_beside, mode_named, place_mode, beside_named, beside_field, guard_named, guard_field}, Tables.globals_of}
-use Rattle.sharc_invariant.specs.{Types.{StaticType, Lock as TypeLock, OfType, OfGlobals, OfElement, FieldMode, Under, Content, MutexWord, Field, no_field, FieldMode as own}, Labels.{Refers, Closed, Loaded, Label, Labels, Itself}, Typed.{IsInGlobal, HasField, IsMode, IsLockMode, IsLockCell, IsTypeMode, IsTypeLock, PointsToMutex, no_lock}}
 use Rattle.sharc_invariant.specs.Types as types
-use Rattle.sharc_typed_laws.specs.{Inside.lock_of, Lines.{IsLockedBy, MayPass}}
-use Rattle.sharc_accepted_laws.specs.{Static.{register, lock_named, lock_at, locks_at}, Beside.BesideFits, TargetLaws.{HasTables, GlobalsAre}, Lvalues.{ModeFits, is_private, is_readonly, locked_by_type, locked_by_global, locked_by_sibling, locked_behind}, Targets.{single, base_fields, declared_content, top_mode, global_element, targets_of}, Accesses.{Reaches, Guards, IsGated, LockStands, of_global, of_variable, IsFairAccess}}
-use Rattle.sharc_accepted_laws.proofs.{AccessCells.{IsCellOf, ArePairOf, first_low, global_cell_at}, Beginning.is_some_base as base_is}
-use Rattle.sharc_lemmas.proofs.Options.{no_guard, some_is}
+use Rattle.sharc_typed_laws.specs.Inside.{lock_of}
+use Rattle.sharc_accepted_laws.specs.Accesses.{of_global}
 
 no_array : (b c : Base) (n k : ℕ) → array b n ≡ object c k → ⊥
 no_array b c n k h = cc
@@ -34,12 +19,12 @@ record IsMutexGlobal (m : Assignment) (g : ℕ) : Type 0 where
   inside : 0 < length (global_element m global)
   holds : (slice_index_or (global_element m global) 0 no_field).holds ≡ MutexWord
 
-mutex_element : (m : Assignment) (d : GlobalDefinition) → declared_kind d.declaration.written ≡ mutex → global_element m d ≡ single (top_mode m d) base.Mutex ∷ []
+mutex_element : (m : Assignment) (d : GlobalDefinition) → declared_kind d.declaration.written ≡ mutex → global_element m d ≡ single (top_mode m d) Base.Mutex ∷ []
 mutex_element m d kind =
     ap (λ z. cond z (record { mode = top_mode m d; holds = declared_content m 0 d.declaration } ∷ []) (base_fields m (top_mode m d) d.declaration.written.ctype.base)) (ap is_pointer kind)
-    ∙ ap (base_fields m (top_mode m d)) (base_is d.declaration.written.ctype.base base.Mutex _ 0 kind)
+    ∙ ap (base_fields m (top_mode m d)) (base_is d.declaration.written.ctype.base Base.Mutex _ 0 kind)
 
-mutex_global : (m : Assignment) (g : ℕ) → named_kind m.typed (named.Global g) ≡ mutex → IsMutexGlobal m g
+mutex_global : (m : Assignment) (g : ℕ) → named_kind m.typed (Named.Global g) ≡ mutex → IsMutexGlobal m g
 mutex_global m g kind = by (global_at m.typed g) refl kind
   where
     found : (d : GlobalDefinition) → global_at m.typed g ≡ Some d → 0 < elements_of d.form → declared_kind d.declaration.written ≡ mutex → IsMutexGlobal m g
@@ -52,7 +37,7 @@ mutex_global m g kind = by (global_at m.typed g) refl kind
     }
 
     by_form : (d : GlobalDefinition) → global_at m.typed g ≡ Some d → (f : GlobalForm) → d.form ≡ f → global_kind f (declared_kind d.declaration.written) ≡ mutex → IsMutexGlobal m g
-    by_form d is (form.Array at count) e h = absurd (no_array _ _ _ _ h)
+    by_form d is (GlobalForm.Array at count) e h = absurd (no_array _ _ _ _ h)
     by_form d is _ e h = found d is (let one : elements_of d.form ≡ 1 = ap elements_of e in omega (arith, one)) h
 
     by : (o : Option GlobalDefinition) → global_at m.typed g ≡ o → global_kind_of o ≡ mutex → IsMutexGlobal m g
@@ -60,10 +45,10 @@ mutex_global m g kind = by (global_at m.typed g) refl kind
     by (Some d) is h = by_form d is d.form refl h
 
 -- ---- the field beside it that a mode names
-beside_is : (r : Resolution) (l : Lock) (f : ℕ) → named_at r l.first ≡ named.Field f → beside_field r (locked l) ≡ Some (field_place r f)
+beside_is : (r : Resolution) (l : Lock) (f : ℕ) → named_at r l.first ≡ Named.Field f → beside_field r (locked l) ≡ Some (field_place r f)
 beside_is r l f names = ap (beside_named r l) names
 
-guard_is : (r : Resolution) (l : Lock) (f : ℕ) (z : Bool) → named_at r l.first ≡ named.Field f → is_behind_pointer r l ≡ z → guard_field r (locked l) ≡ cond z (Some (field_place r f)) None
+guard_is : (r : Resolution) (l : Lock) (f : ℕ) (z : Bool) → named_at r l.first ≡ Named.Field f → is_behind_pointer r l ≡ z → guard_field r (locked l) ≡ cond z (Some (field_place r f)) None
 guard_is r l f z names behind = ap (guard_named r l) names ∙ ap (λ b. cond b (Some (field_place r f)) None) behind
 
 -- the pointer that is loaded first
@@ -87,8 +72,8 @@ module _ (c : Context) (code : Code) (q : Label) where
 
 -- the register on which a cell is
 abbrev pub IsOnBase : Cell → ℕ → Type 0
-IsOnBase (cells.Object b i) x = b ≡ x
-IsOnBase (cells.ObjectAt b i) x = b ≡ x
+IsOnBase (Cell.Object b i) x = b ≡ x
+IsOnBase (Cell.ObjectAt b i) x = b ≡ x
 IsOnBase _ x = ⊥
 
 module _ (globals_are : GlobalsAre) (c : Context) (globals : c.globals ≡ globals_of c.program.typed) (code : Code) (tables : HasTables c.program code) (ls : Labels) (q : Label) where
@@ -101,20 +86,20 @@ module _ (globals_are : GlobalsAre) (c : Context) (globals : c.globals ≡ globa
   -- the mutex of a global, by its first cell
   record IsLockGlobal (g : ℕ) : Type 0 where
     field : Field
-    has : HasField (targets_of m) code q (cells.Global g (first_cell c.globals g)) field
+    has : HasField (targets_of m) code q (Cell.Global g (first_cell c.globals g)) field
     mutex : field.holds ≡ MutexWord
     place : first_cell c.globals g ≡ first_cell c.globals g - 2 + 2
     inside : IsInGlobal code g (first_cell c.globals g - 2 + 2)
 
-  lock_global : (g : ℕ) → named_kind r (named.Global g) ≡ mutex → IsLockGlobal g
+  lock_global : (g : ℕ) → named_kind r (Named.Global g) ≡ mutex → IsLockGlobal g
   lock_global g kind =
       let w = mutex_global m g kind in
       let cell = global_cell_at globals_are m code tables q g w.global w.at 0 w.some w.inside in
       let low = first_low m g w.global w.at in
       let first : first_cell (globals_of r) g + 0 ≡ first_cell (globals_of r) g = omega arith in
       let same : first_cell (globals_of r) g ≡ first_cell c.globals g = ap (λ l. first_cell l g) (sym globals) in
-      let has : HasField (targets_of m) code q (cells.Global g (first_cell c.globals g)) (slice_index_or (global_element m w.global) 0 no_field) =
-      subst (λ p. HasField (targets_of m) code q (cells.Global g p) (slice_index_or (global_element m w.global) 0 no_field)) (first ∙ same) cell.there.field in
+      let has : HasField (targets_of m) code q (Cell.Global g (first_cell c.globals g)) (slice_index_or (global_element m w.global) 0 no_field) =
+      subst (λ p. HasField (targets_of m) code q (Cell.Global g p) (slice_index_or (global_element m w.global) 0 no_field)) (first ∙ same) cell.there.field in
       let place : first_cell c.globals g ≡ first_cell c.globals g - 2 + 2 = omega (arith, low, same) in
       record { field = slice_index_or (global_element m w.global) 0 no_field; has = has; mutex = w.holds; place = place; inside = subst (IsInGlobal code g) place has.0 }
 
@@ -132,14 +117,14 @@ module _ (globals_are : GlobalsAre) (c : Context) (globals : c.globals ≡ globa
 
   -- a lock of the element's type
   type_lock : (a : Cell) (x : ℕ) (s : StaticType) (lock : TypeLock) (rest : List TypeLock) → IsOnBase a x → q.env x ≡ Refers s → s.locks ≡ lock ∷ rest → (mode : PlaceMode) → IsLockMode code q x lock mode → IsTypeMode code q 0 a mode
-  type_lock (cells.Global g p) x s lock rest on refers locks mode is = absurd on
-  type_lock (cells.GlobalAt g i) x s lock rest on refers locks mode is = absurd on
+  type_lock (Cell.Global g p) x s lock rest on refers locks mode is = absurd on
+  type_lock (Cell.GlobalAt g i) x s lock rest on refers locks mode is = absurd on
   type_lock _ x s lock rest on refers locks mode is =
       (s, subst (λ z. q.env z ≡ Refers s) (sym on) refers, subst (λ z. IsLockMode code q z (slice_index_or s.locks 0 no_lock) mode) (sym on) (subst (λ l. IsLockMode code q x (slice_index_or l 0 no_lock) mode) (sym locks) is))
 
   type_cell : (a : Cell) (x : ℕ) (s : StaticType) (lock : TypeLock) (rest : List TypeLock) → IsOnBase a x → q.env x ≡ Refers s → s.locks ≡ lock ∷ rest → (b : Cell) → IsLockCell code q x lock b → IsTypeLock code q 0 a b
-  type_cell (cells.Global g p) x s lock rest on refers locks b is = absurd on
-  type_cell (cells.GlobalAt g i) x s lock rest on refers locks b is = absurd on
+  type_cell (Cell.Global g p) x s lock rest on refers locks b is = absurd on
+  type_cell (Cell.GlobalAt g i) x s lock rest on refers locks b is = absurd on
   type_cell _ x s lock rest on refers locks b is =
       (s, subst (λ z. q.env z ≡ Refers s) (sym on) refers, subst (λ l. 0 < length l) (sym locks) (omega arith), subst (λ z. IsLockCell code q z (slice_index_or s.locks 0 no_lock) b) (sym on) (subst (λ l. IsLockCell code q x (slice_index_or l 0 no_lock) b) (sym locks) is))
 
@@ -149,23 +134,23 @@ module _ (globals_are : GlobalsAre) (c : Context) (globals : c.globals ≡ globa
   by_type n a l below write spot holds mode_is (of_global g names kind) closed x s on refers locks =
       let w = lock_global g kind in
       let lock_is : lock_at c l ≡ types.Lock.Global (first_cell c.globals g - 2) = ap (λ z. lock_named c z l.second) names in
-      let spot_is : spot.mode ≡ modes.LockedGlobal g (first_cell c.globals g) = mode_is ∙ ap (λ z. mode_named c n l z l.second) names in
+      let spot_is : spot.mode ≡ PlaceMode.LockedGlobal g (first_cell c.globals g) = mode_is ∙ ap (λ z. mode_named c n l z l.second) names in
       let all = locks ∙ ap (λ z. z ∷ locks_at c below) lock_is in
       record {
-        is = subst (IsTypeMode code q 0 a) (sym spot_is) (type_lock a x s (types.Lock.Global (first_cell c.globals g - 2)) (locks_at c below) on refers all (modes.LockedGlobal g (first_cell c.globals g)) (g, ap (modes.LockedGlobal g) w.place, w.inside));
+        is = subst (IsTypeMode code q 0 a) (sym spot_is) (type_lock a x s (types.Lock.Global (first_cell c.globals g - 2)) (locks_at c below) on refers all (PlaceMode.LockedGlobal g (first_cell c.globals g)) (g, ap (PlaceMode.LockedGlobal g) w.place, w.inside));
         may = (
           closed,
           subst (λ z. IsLockedBy (targets_of m) code q (OfType 0) a (lock_of spot z)) (sym spot_is)
-              (record { field = w.field; has = w.has; mutex = w.mutex; is = type_cell a x s (types.Lock.Global (first_cell c.globals g - 2)) (locks_at c below) on refers all (cells.Global g (first_cell c.globals g)) (w.place, w.has.0) }),
+              (record { field = w.field; has = w.has; mutex = w.mutex; is = type_cell a x s (types.Lock.Global (first_cell c.globals g - 2)) (locks_at c below) on refers all (Cell.Global g (first_cell c.globals g)) (w.place, w.has.0) }),
         );
       }
   by_type n a l below write spot holds mode_is (of_variable v name t names second is_ref entry inside mutex_there) closed x s on refers locks =
-      let lock_is : lock_at c l ≡ types.Lock.Through (register c v) (field_place_behind r v name) = ap (λ z. lock_named c z l.second) names ∙ ap (lock_named c (named.Variable v)) second in
-      let spot_is : spot.mode ≡ modes.LockedThrough (register c v) (field_place_behind r v name) = mode_is ∙ ap (λ z. mode_named c n l z l.second) names ∙ ap (mode_named c n l (named.Variable v)) second in
+      let lock_is : lock_at c l ≡ types.Lock.Through (register c v) (field_place_behind r v name) = ap (λ z. lock_named c z l.second) names ∙ ap (lock_named c (Named.Variable v)) second in
+      let spot_is : spot.mode ≡ PlaceMode.LockedThrough (register c v) (field_place_behind r v name) = mode_is ∙ ap (λ z. mode_named c n l z l.second) names ∙ ap (mode_named c n l (Named.Variable v)) second in
       let all = locks ∙ ap (λ z. z ∷ locks_at c below) lock_is in
       record {
         is = subst (IsTypeMode code q 0 a) (sym spot_is)
-            (type_lock a x s (types.Lock.Through (register c v) (field_place_behind r v name)) (locks_at c below) on refers all (modes.LockedThrough (register c v) (field_place_behind r v name)) (register c v, refl, Itself refl));
+            (type_lock a x s (types.Lock.Through (register c v) (field_place_behind r v name)) (locks_at c below) on refers all (PlaceMode.LockedThrough (register c v) (field_place_behind r v name)) (register c v, refl, Itself refl));
         may = (
           closed,
           subst (λ z. IsLockedBy (targets_of m) code q (OfType 0) a (lock_of spot z)) (sym spot_is)
@@ -173,7 +158,7 @@ module _ (globals_are : GlobalsAre) (c : Context) (globals : c.globals ≡ globa
                 field = types.field_at (targets_of m) t.target (field_place_behind r v name);
                 has = (is_ref, (t, entry, inside, refl));
                 mutex = mutex_there;
-                is = type_cell a x s (types.Lock.Through (register c v) (field_place_behind r v name)) (locks_at c below) on refers all (cells.Object (register c v) (field_place_behind r v name)) (refl, Itself refl);
+                is = type_cell a x s (types.Lock.Through (register c v) (field_place_behind r v name)) (locks_at c below) on refers all (Cell.Object (register c v) (field_place_behind r v name)) (refl, Itself refl);
               }),
         );
       }
@@ -187,11 +172,11 @@ module _ (globals_are : GlobalsAre) (c : Context) (globals : c.globals ≡ globa
   reaches_as n list _ a x cell _ (locked_by_global {l} {g} names kind) write spot holds mode_is fair closed =
       let w = lock_global g kind in
       let same : first_cell (globals_of r) g ≡ first_cell c.globals g = ap (λ z. first_cell z g) (sym globals) in
-      let spot_is : spot.mode ≡ modes.LockedGlobal g (first_cell c.globals g) = mode_is ∙ ap (λ z. mode_named c n l z l.second) names in
+      let spot_is : spot.mode ≡ PlaceMode.LockedGlobal g (first_cell c.globals g) = mode_is ∙ ap (λ z. mode_named c n l z l.second) names in
       let fm_is : OfGlobals (first_cell c.globals g - 2) ≡ OfGlobals (first_cell (globals_of r) g - 2) = ap (λ k. OfGlobals (k - 2)) (sym same) in
       subst (λ z. ReachesAs write a spot holds (Under z)) fm_is
       (record {
-        is = subst (λ z. IsLockMode code q 0 (types.Lock.Global (first_cell c.globals g - 2)) z) (sym spot_is) (g, ap (modes.LockedGlobal g) w.place, w.inside);
+        is = subst (λ z. IsLockMode code q 0 (types.Lock.Global (first_cell c.globals g - 2)) z) (sym spot_is) (g, ap (PlaceMode.LockedGlobal g) w.place, w.inside);
         may = (
           closed,
           subst (λ z. IsLockedBy (targets_of m) code q (OfGlobals (first_cell c.globals g - 2)) a (lock_of spot z)) (sym spot_is)
@@ -199,7 +184,7 @@ module _ (globals_are : GlobalsAre) (c : Context) (globals : c.globals ≡ globa
         );
       })
   reaches_as n list _ a x cell _ (locked_by_sibling {l} {f} names plain) write spot holds mode_is fair (closed, (b, g, pair, mutex_there, lock_is)) =
-      let spot_is : spot.mode ≡ modes.LockedSibling n (field_place r f) = mode_is ∙ ap (λ z. mode_named c n l z l.second) names ∙ ap (λ z. mode_beside z n (field_place r f)) plain in
+      let spot_is : spot.mode ≡ PlaceMode.LockedSibling n (field_place r f) = mode_is ∙ ap (λ z. mode_named c n l z l.second) names ∙ ap (λ z. mode_beside z n (field_place r f)) plain in
       record {
         is = (spot_is, cell.before);
         may = (
@@ -226,8 +211,8 @@ module _ (globals_are : GlobalsAre) (c : Context) (globals : c.globals ≡ globa
   gated_named guard l n names gated = subst (λ z. IsGated q guard (guard_named r l z)) names gated
 
   path_closed : (guard : ℕ → Cell) (l : Lock) → LockStands c code q l → IsGated q guard (guard_field r (locked l)) → q.gate ≡ Closed
-  path_closed guard l (of_global g names kind) gated = gated_named guard l (named.Global g) names gated
-  path_closed guard l (of_variable x name s names second is_ref refers inside there) gated = gated_named guard l (named.Variable x) names gated
+  path_closed guard l (of_global g names kind) gated = gated_named guard l (Named.Global g) names gated
+  path_closed guard l (of_variable x name s names second is_ref refers inside there) gated = gated_named guard l (Named.Variable x) names gated
 
   pub record HasAround (n : ℕ) (list : List Sharing) (mode : Sharing) (a : Cell) (guard : ℕ → Cell) (fields : List Field) (lock : Cell) : Type 0 where
     pub gated : IsGated q guard (guard_field r mode)
@@ -239,7 +224,7 @@ module _ (globals_are : GlobalsAre) (c : Context) (globals : c.globals ≡ globa
   pub around : (n : ℕ) (list : List Sharing) (mode : Sharing) (a : Cell) (guard : ℕ → Cell) (fields : List Field) (lock : Cell) → HasAround n list mode a guard fields lock → (fm : FieldMode) → ModeFits r n list mode fm → BesideFits m fields fm
       → Around a (slice_index_or fields n no_field) n list lock fm
   around n list _ a guard fields lock has _ (locked_by_type {l} {below} starts) beside = (path_closed guard l (has.path l below starts refl) has.gated, has.typed l below starts)
-  around n list _ a guard fields lock has _ (locked_by_global {l} {g} names kind) beside = gated_named guard l (named.Global g) names has.gated
+  around n list _ a guard fields lock has _ (locked_by_global {l} {g} names kind) beside = gated_named guard l (Named.Global g) names has.gated
   around n list _ a guard fields lock has _ (locked_by_sibling {l} {f} names plain) beside =
       let is = beside_is r l f names in (
         subst (IsGated q guard) (guard_is r l f false names plain) has.gated,

@@ -1,18 +1,7 @@
 -- The lock paths of the types of expressions and declarations are ones that the program names.
-use Rattle.std.proofs.Common.{◌≡◌, inl, inr, ℕ, true, List, [], ◌∷◌, refl, ap, subst, Option, Some, Contains}
-use Rattle.std.specs.List.{AllByRecursion}
-use Rattle.sharc_tree.specs.{declared.ctype.Mode.TheVariants.Locked, declared.ctype.Path.Path, declared.token.Span.Span, declared.tree.declaration.Identifier.Identifier, declared.tree.expression.FieldOperator.FieldOperator, Forms.without_parentheses, Tree.Expression}
+use Rattle.sharc_accepted_laws.proofs.{Imports.{◌≡◌, inl, inr, ℕ, true, List, [], ◌∷◌, refl, ap, subst, Option, Some, Contains, AllByRecursion, Locked, Path, Span, Identifier, FieldOperator, without_parentheses, Expression, Named, Numbered, named_at, Assignment, written, base_use, modes_of, declared_row, Lock, Sharing, private, readonly, locked, racy, dynamic, lock_of, object_named, object_of, text_at, IsEntity, IsTaken, RulesAreMet, IsNamedByPath, is_written, is_made, IsSiblingUse, Context, slot_kind, PathNamed, SomeNames, register, lock_named, locks_at, AllStand, IsAccepted, IsNamed, AllNamed, ExpressionsAreNamed, DeclaredAreNamed, TakenLaws, each}, StaticRegisters.one_variable, Origins.{is_use, Of, found_named, expression_of}}
 use Rattle.sharc_tree.specs.Tree as tree
-use Rattle.sharc_names.specs.declared.fault.Named.{Named}
-use Rattle.sharc_names.specs.declared.fault.Named.TheVariants as named
-use Rattle.sharc_ctype.specs.{declared.entity.Numbered.Numbered, Resolved.named_at}
-use Rattle.sharc_mode.specs.{Moded.Assignment, Rows.{written, base_use, modes_of, declared_row}, Sharings.{Lock, Sharing, private, readonly, locked, racy, dynamic, lock_of, object_named, object_of, text_at}}
-use Rattle.sharc_check.specs.{Constructs.{IsEntity, IsTaken}, RuleLaws.RulesAreMet, Paths.{IsNamedByPath, is_written, is_made, IsSiblingUse}}
-use Rattle.sharc_flat.specs.{Scope.{Context, slot_kind}, Suits.PathNamed}
-use Rattle.sharc_invariant.specs.Types.{Names, SomeNames}
-use Rattle.sharc_accepted_laws.specs.{Static.{register, lock_named, locks_at}, Scopes.AllStand, StaticLaws.IsAccepted, Taken.{IsNamed, AllNamed, ExpressionsAreNamed, DeclaredAreNamed, TakenLaws}}
-use Rattle.sharc_accepted_laws.proofs.{StaticRegisters.one_variable, Origins.{is_use, Of, found_named, expression_of}}
-use Rattle.sharc_lemmas.proofs.Lists.{each}
+use Rattle.sharc_invariant.specs.Types.{Names}
 
 -- ---- what they name
 module _ (m : Assignment) where
@@ -37,12 +26,12 @@ declared_named m a token = turned m (modes_of m (declared_row m.typed written to
 
 -- ---- what is taken
 module _ (rules : RulesAreMet) (c : Context) (a : IsAccepted c.program) (taken : Expression) (s : Span) (i : Identifier) (x : ℕ) (does : IsTaken c.program taken) (is : without_parentheses taken ≡ tree.identifier s i)
-    (names : named_at c.program.typed i.site.token ≡ named.Variable x) (stands : slot_kind c.scope x ≡ Some true) where
+    (names : named_at c.program.typed i.site.token ≡ Named.Variable x) (stands : slot_kind c.scope x ≡ Some true) where
   not_named : IsNamedByPath c.program x → ⊥
   not_named h = ((rules c.program).0 a.well).m10 taken s i x does is (ap (object_named c.program.typed) names) h
 
   one_free : (n : Named) (second : Option (List ℕ)) → ((y : ℕ) → object_named c.program.typed n ≡ Some y → IsNamedByPath c.program y) → PathNamed c.scope n second → Names (register c x) (lock_named c n second) → ⊥
-  one_free (named.Variable y) (Some p) h there same = not_named (subst (IsNamedByPath c.program) (one_variable c y x there stands same) (h y refl))
+  one_free (Named.Variable y) (Some p) h there same = not_named (subst (IsNamedByPath c.program) (one_variable c y x there stands same) (h y refl))
   one_free _ _ h there same = same
 
   all_free : (modes : List Sharing) → AllNamed c.program modes → AllStand c.program c.scope modes → SomeNames (register c x) (locks_at c modes) → ⊥

@@ -1,18 +1,9 @@
 -- What is said of a typed program is so: no fault stands in it, and each name names what its note says.
-use Rattle.std.proofs.Common.{◌≡◌, ◌⊎◌, inl, inr, ⊎_elim, ℕ, ◌+◌, ◌==◌, Bool, true, false, cond, List, [], ◌∷◌, ◌++◌, length, refl, ap, sym, ◌∙◌, subst, Option, Some, None, Contains}
-use Rattle.std.specs.List.{AllByRecursion}
-use Rattle.sharc_tree.specs.declared.ctype.Base.TheVariants as base
-use Rattle.sharc_tree.specs.{declared.ctype.Mode.Mode, declared.ctype.Mode.TheVariants.Locked, declared.ctype.Path.Path, declared.ctype.Path.TheVariants.{One, Through}, declared.tree.declaration.Declaration.Declaration, declared.tree.declaration.WrittenType.WrittenType, Low.IsLow, Placed.IsPlaced, Tree.{Local, First, declares, Statement, Statements, no_statements, statement, Function, Item, structure, global, function}}
+use Rattle.sharc_accepted_laws.proofs.{Imports.{◌≡◌, ◌⊎◌, inl, inr, ⊎_elim, ℕ, ◌+◌, ◌==◌, Bool, true, false, cond, List, [], ◌∷◌, ◌++◌, length, refl, ap, sym, ◌∙◌, subst, Option, Some, None, Contains, AllByRecursion, Base, Mode, Locked, Path, One, Through, Declaration, WrittenType, IsLow, IsPlaced, Local, First, declares, Statement, Statements, no_statements, statement, Function, Item, structure, global, function, FaultCode, Named, Scope, Role, object, declared_kind, Entry, Meaning, StructTable, StructMeaning, look_up, named_of, struct_of, named_struct, Note, fault, refers, yields, faults, referred, name_notes, path_notes, mode_notes, modes_notes, struct_note, base_notes, type_notes, sizes_notes, heads_notes, no_heads, field_notes, fields_notes, parameters_notes, function_notes, item_notes, items_notes, main_missing, file_scope, in_body, notes_about, Resolution, IsResolved, named_at, declaration_at, declared_at, declarations_in, variable_kind, functions_in, Around, opened, looping, with_names, behind_first, after, test_notes, local_notes, first_statement_notes, head_notes, notes_in, notes_in_all, first_locals, locals_in_all, Tells, IsToldOnce, EachNameOnce, OnlyNames, meaning_token, IsVariableIn, IsAmong, LevelStands, TypeStands, fields_named, fields_behind, same_some, none_some, front, back, both, head_there, head_or_tail, of_each, to_each, tail_there, none_there}, Scoping.{HasOneStruct, ParametersStand, AreParametersClosed}, Places.entry_there}
 use Rattle.sharc_tree.specs.Tree as tree
-use Rattle.sharc_names.specs.{declared.fault.FaultCode.FaultCode, declared.fault.Named.Named, declared.scope.Scope.Scope, declared.types.Role.Role, Kinds.{object, declared_kind}, Names.{Entry, Meaning, StructTable, StructMeaning, look_up, named_of, struct_of, named_struct}, Notes.{Note, fault, refers, yields, faults, referred}, Types.{name_notes, path_notes, mode_notes, modes_notes, struct_note, base_notes, type_notes}}
-use Rattle.sharc_names.specs.declared.fault.Named.TheVariants as named
-use Rattle.sharc_names.specs.declared.types.Role.TheVariants as role
 use Rattle.sharc_names.specs.Names as meaning
-use Rattle.sharc_ctype.specs.{Globals.sizes_notes, Heads.{heads_notes, no_heads}, Items.{field_notes, fields_notes, parameters_notes, function_notes, item_notes, items_notes, main_missing, file_scope, in_body, notes_about}, Resolved.{Resolution, IsResolved, named_at, declaration_at, declared_at, declarations_in, variable_kind, functions_in}, Statements.{Around, opened, looping, with_names, declared, behind_first, in_head, after, test_notes, local_notes, first_notes as first_statement_notes, head_notes, notes_in, notes_in_all, first_locals, locals_in, locals_in_all}}
-use Rattle.sharc_ctype_laws.specs.{Laws.{Tells, IsToldOnce, EachNameOnce, OnlyNames}, Paths.{meaning_token, IsVariableIn, IsAmong, PathStands, LevelStands, TypeStands}}
-use Rattle.sharc_mode.specs.WellFormed.{fields_named, fields_behind}
-use Rattle.sharc_accepted_laws.proofs.{Scoping.{HasOneStruct, ParametersStand, AreParametersClosed}, Places.entry_there}
-use Rattle.sharc_lemmas.proofs.{Options.{same_some, none_some}, Lists.{front, back, both, head_there, head_or_tail, of_each, to_each, tail_there}, Equal.none_there}
+use Rattle.sharc_ctype.specs.Statements.{declared, in_head, locals_in}
+use Rattle.sharc_ctype_laws.specs.Paths.{PathStands}
 
 -- ---- notes
 abbrev pub Says : Resolution → Note → Type 0
@@ -88,15 +79,15 @@ module _ (r : Resolution) where
   abbrev P : Note → Type 0
   P = Says r
 
-  among : (names : List Entry) (w : Named) → ((t : ℕ) → w ≡ named.Variable t → IsVariableIn names t) → IsAmong names w
-  among names (named.Variable t) f = f t refl
+  among : (names : List Entry) (w : Named) → ((t : ℕ) → w ≡ Named.Variable t → IsVariableIn names t) → IsAmong names w
+  among names (Named.Variable t) f = f t refl
   among names _ f = tt
 
-  token_of : (m : Meaning) (t : ℕ) → named_of m ≡ named.Variable t → meaning_token m ≡ Some t
+  token_of : (m : Meaning) (t : ℕ) → named_of m ≡ Named.Variable t → meaning_token m ≡ Some t
   token_of (meaning.variable d) t is = let e : d.name.site.token ≡ t = cc in ap Some e
-  token_of (meaning.global n g) t is = absurd (let e : named.Global n ≡ named.Variable t = is in cc)
-  token_of (meaning.function n s) t is = absurd (let e : named.Function n ≡ named.Variable t = is in cc)
-  token_of (meaning.condition c) t is = absurd (let e : named.Known ≡ named.Variable t = is in cc)
+  token_of (meaning.global n g) t is = absurd (let e : Named.Global n ≡ Named.Variable t = is in cc)
+  token_of (meaning.function n s) t is = absurd (let e : Named.Function n ≡ Named.Variable t = is in cc)
+  token_of (meaning.condition c) t is = absurd (let e : Named.Known ≡ Named.Variable t = is in cc)
 
   name_stands : (names : List Entry) (token : ℕ) (name : List ℕ) (o : Option Entry) → look_up names name ≡ o → AllSay r (name_notes token o) → IsAmong names (named_at r token)
   name_stands names token name None is h = absurd h.0
@@ -123,7 +114,7 @@ module _ (r : Resolution) where
   parameters_read block before scope [] h = tt
   parameters_read block before scope (d ∷ rest) h =
       let three = front P _ (parameters_notes block (before + 1) (with_names scope (declared block d scope.names)) rest) h in (
-        type_stands scope role.Parameter d.written (front P (type_notes scope [] role.Parameter d.written) _ (front P _ _ three)),
+        type_stands scope Role.Parameter d.written (front P (type_notes scope [] Role.Parameter d.written) _ (front P _ _ three)),
         parameters_read block (before + 1) (with_names scope (declared block d scope.names)) rest (back P _ (parameters_notes block (before + 1) (with_names scope (declared block d scope.names)) rest) h),
       )
 
@@ -146,7 +137,7 @@ module _ (r : Resolution) where
   parameters_closed h f has =
       let file = file_scope r.program.items in
       let say : AllSay r (function_notes file f) = of_each (λ f. AllSay r (function_notes file f)) (functions_in r.program.items) f (functions_say file r.program.items (items_say h)) has in
-      parameters_read (length file.names) 0 file f.parameters (back P (type_notes file [] role.Result f.result) (parameters_notes (length file.names) 0 file f.parameters) (front P _ _ (front P _ _ say)))
+      parameters_read (length file.names) 0 file f.parameters (back P (type_notes file [] Role.Result f.result) (parameters_notes (length file.names) 0 file f.parameters) (front P _ _ (front P _ _ say)))
 
   -- ---- structs
   -- a struct's name in a type names what it is in the file
@@ -159,7 +150,7 @@ module _ (r : Resolution) where
   fields_base : (scope : Scope) (all earlier ds : List Declaration) → AllSay r (fields_notes scope all earlier ds) → AllByRecursion (BaseSays scope.structs) ds
   fields_base scope all earlier [] h = tt
   fields_base scope all earlier (d ∷ rest) h = (
-    type_base scope all role.Field d.written (front P (type_notes scope all role.Field d.written) _ (front P (field_notes scope all earlier d) (fields_notes scope all (earlier ++ d ∷ []) rest) h)),
+    type_base scope all Role.Field d.written (front P (type_notes scope all Role.Field d.written) _ (front P (field_notes scope all earlier d) (fields_notes scope all (earlier ++ d ∷ []) rest) h)),
     fields_base scope all (earlier ++ d ∷ []) rest (back P (field_notes scope all earlier d) (fields_notes scope all (earlier ++ d ∷ []) rest) h),
   )
 
@@ -167,12 +158,12 @@ module _ (r : Resolution) where
   parameters_base block before scope [] h = tt
   parameters_base block before scope (d ∷ rest) h =
       let three = front P _ (parameters_notes block (before + 1) (with_names scope (declared block d scope.names)) rest) h in (
-        type_base scope [] role.Parameter d.written (front P (type_notes scope [] role.Parameter d.written) _ (front P _ _ three)),
+        type_base scope [] Role.Parameter d.written (front P (type_notes scope [] Role.Parameter d.written) _ (front P _ _ three)),
         parameters_base block (before + 1) (with_names scope (declared block d scope.names)) rest (back P _ (parameters_notes block (before + 1) (with_names scope (declared block d scope.names)) rest) h),
       )
 
   local_base : (around : Around) (scope : Scope) (l : Local) → AllSay r (local_notes around scope l) → BaseSays scope.structs l.declaration
-  local_base around scope l h = type_base scope [] role.Local l.declaration.written (front P (type_notes scope [] role.Local l.declaration.written) _ (front P _ _ h))
+  local_base around scope l h = type_base scope [] Role.Local l.declaration.written (front P (type_notes scope [] Role.Local l.declaration.written) _ (front P _ _ h))
 
   first_base : (around : Around) (scope : Scope) (x : First) → AllSay r (first_statement_notes around scope x) → AllByRecursion (BaseSays scope.structs) (first_locals x)
   first_base around scope (declares l) h = (local_base around scope l h, tt)
@@ -211,7 +202,7 @@ module _ (r : Resolution) where
       let three = front P _ _ h in
       let two = front P _ _ three in
       both (BaseSays file.structs) f.parameters (locals_in_all f.statements)
-      (parameters_base (length file.names) 0 file f.parameters (back P (type_notes file [] role.Result f.result) (parameters_notes (length file.names) 0 file f.parameters) two))
+      (parameters_base (length file.names) 0 file f.parameters (back P (type_notes file [] Role.Result f.result) (parameters_notes (length file.names) 0 file f.parameters) two))
       (statements_base (record { result = declared_kind f.result; in_loop = false; block = length file.names }) (in_body file f) f.statements (back P _ _ three))
 
   pub declarations_base : (file : Scope) (items : List Item) → AllSay r (items_notes file items) → AllByRecursion (BaseSays file.structs) (declarations_in items)
@@ -235,13 +226,13 @@ module _ (r : Resolution) where
   struct_is structs token None h = absurd h.0
   struct_is structs token (Some m) h = (m, refl, h.0)
 
-  pub named_by : (structs : StructTable) (d : Declaration) (name : List ℕ) → d.written.ctype.base ≡ base.Struct name → BaseSays structs d → (m : StructMeaning) × (struct_of structs name ≡ Some m) × (named_at r d.written.base.token ≡ named_struct m)
+  pub named_by : (structs : StructTable) (d : Declaration) (name : List ℕ) → d.written.ctype.base ≡ Base.Struct name → BaseSays structs d → (m : StructMeaning) × (struct_of structs name ≡ Some m) × (named_at r d.written.base.token ≡ named_struct m)
   named_by structs d name is h = struct_is structs d.written.base.token (struct_of structs name) (subst (λ b. AllSay r (base_notes structs d.written.base.token b)) is h)
 
-  pub base_of_kind : (d : Declaration) (name : List ℕ) (n : ℕ) → declared_kind d.written ≡ object (base.Struct name) n → d.written.ctype.base ≡ base.Struct name
+  pub base_of_kind : (d : Declaration) (name : List ℕ) (n : ℕ) → declared_kind d.written ≡ object (Base.Struct name) n → d.written.ctype.base ≡ Base.Struct name
   base_of_kind d name n h = cc
 
-  no_kind : (name : List ℕ) (n : ℕ) → variable_kind None ≡ object (base.Struct name) n → ⊥
+  no_kind : (name : List ℕ) (n : ℕ) → variable_kind None ≡ object (Base.Struct name) n → ⊥
   no_kind name n h = cc
 
   pub one_struct : AllSay r (notes_about r.program) → HasOneStruct r
@@ -250,7 +241,7 @@ module _ (r : Resolution) where
       all : AllByRecursion (BaseSays (file_scope r.program.items).structs) (declarations_in r.program.items)
       all = declarations_base (file_scope r.program.items) r.program.items (items_say h)
 
-      by : (o : Option Declaration) → declaration_at r x ≡ o → variable_kind o ≡ object (base.Struct name) 1 → (p : Option Declaration) → declaration_at r y ≡ p → variable_kind p ≡ object (base.Struct name) 1 → fields_behind r o ≡ fields_behind r p
+      by : (o : Option Declaration) → declaration_at r x ≡ o → variable_kind o ≡ object (Base.Struct name) 1 → (p : Option Declaration) → declaration_at r y ≡ p → variable_kind p ≡ object (Base.Struct name) 1 → fields_behind r o ≡ fields_behind r p
       by None dx k p dy j = absurd (no_kind name 1 k)
       by (Some a) dx k None dy j = absurd (no_kind name 1 j)
       by (Some a) dx k (Some b) dy j =

@@ -1,13 +1,5 @@
 -- The numbers of shapes, and the rows that have them.
-use Rattle.std.proofs.{Common.{◌≡◌, ⊎_elim, ℕ, zero, suc, ◌+◌, ◌<◌, Bool, true, false, cond, List, [], ◌∷◌, length, map, slice_index_or, refl, ap, sym, ◌∙◌, subst, arith, Contains}, lemmas.Bool.true≢false}
-use Rattle.sharc_tree.specs.declared.ctype.Base.{Base}
-use Rattle.sharc_tree.specs.declared.ctype.Base.TheVariants as base
-use Rattle.sharc_ctype.specs.{declared.entity.Numbered.Numbered, Entities.{entities_in, numbered}}
-use Rattle.sharc_mode.specs.Moded.{Assignment}
-use Rattle.sharc_invariant.specs.Types.{no_target, row_of}
-use Rattle.sharc_accepted_laws.specs.{Shapes.{Form, dynamic_form, Shape, known_condition, known_mutex, shapes_down, entity_shapes, shapes_of, shapes, same_shape, number_from, number}, Targets.{shape_row, targets_of}, TargetLaws.{NumbersFound, ShapesClosed}}
-use Rattle.sharc_accepted_laws.proofs.{Alike.{shape_itself, shape_is}, TargetLists.{left_there, right_there, either_there, map_at}}
-use Rattle.sharc_lemmas.proofs.{Lists.{map_length, head_there, head_or_tail, tail_there}, Equal.none_there}
+use Rattle.sharc_accepted_laws.proofs.{Imports.{◌≡◌, ⊎_elim, ℕ, zero, suc, ◌+◌, ◌<◌, Bool, true, false, cond, List, [], ◌∷◌, length, map, get_or as slice_index_or, refl, ap, sym, ◌∙◌, subst, arith, Contains, true≢false, Base, Numbered, entities_in, numbered, Assignment, no_target, row_of, Form, dynamic_form, Shape, known_condition, known_mutex, shapes_down, entity_shapes, shapes_of, shapes, same_shape, number_from, number, shape_row, targets_of, NumbersFound, ShapesClosed, map_length, head_there, head_or_tail, tail_there, none_there}, Alike.{shape_itself, shape_is}, TargetLists.{left_there, right_there, either_there, map_at}}
 
 -- ---- the first that is the same
 record IsAt (n : ℕ) (list : List Shape) (s : Shape) : Type 0 where
@@ -43,8 +35,8 @@ found_at n (x ∷ rest) s has = by (same_shape s x) refl (λ is. found_at (n + 1
     by true is more = here_at n x rest s is
     by false is more = later_at n x rest s is (more is)
 
-row_at : (m : Assignment) (list : List Shape) (place : ℕ) → slice_index_or (map (shape_row m) list) place no_target ≡ shape_row m (slice_index_or list place (record { base = base.Void; forms = [] }))
-row_at m list place = map_at (shape_row m) list (record { base = base.Void; forms = [] }) place
+row_at : (m : Assignment) (list : List Shape) (place : ℕ) → slice_index_or (map (shape_row m) list) place no_target ≡ shape_row m (slice_index_or list place (record { base = Base.Void; forms = [] }))
+row_at m list place = map_at (shape_row m) list (record { base = Base.Void; forms = [] }) place
 
 row_numbered : (m : Assignment) (n place : ℕ) → n ≡ suc place → row_of (targets_of m) n ≡ slice_index_or (map (shape_row m) (shapes m)) place no_target
 row_numbered m n place is = ap (λ k. slice_index_or (no_target ∷ map (shape_row m) (shapes m)) k no_target) is
@@ -57,7 +49,7 @@ numbers_found m s has =
     let size = map_length (shape_row m) (shapes m) in
     let next : number m s ≡ suc w.place = omega (arith, number_is) in
     record {
-      row = row_numbered m (number m s) w.place next ∙ row_at m (shapes m) w.place ∙ ap (shape_row m) (w.is (record { base = base.Void; forms = [] }));
+      row = row_numbered m (number m s) w.place next ∙ row_at m (shapes m) w.place ∙ ap (shape_row m) (w.is (record { base = Base.Void; forms = [] }));
       some = λ none. omega (arith, none, next);
       inside = omega (arith, next, low, size);
     }

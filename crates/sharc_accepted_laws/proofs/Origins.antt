@@ -1,17 +1,6 @@
 -- Where the lock paths of the types of expressions and declarations come from: what is written, and uses of fields through constant variables.
-use Rattle.std.proofs.{Common.{◌≡◌, ⊎_elim, ℕ, ◌+◌, ◌-◌, ◌==◌, Bool, true, false, cond, List, [], ◌∷◌, map, refl, ap, sym, ◌∙◌, subst, option_map, Option, Some, None, Contains}, lemmas.Bool.false≢true}
-use Rattle.std.specs.List.{AllByRecursion}
-use Rattle.sharc_tree.specs.{declared.ctype.Mode.Mode, declared.ctype.Mode.TheVariants.{Private, Readonly, Locked, Racy, Dynamic}, declared.ctype.Path.Path, declared.token.Span.Span, declared.tree.declaration.Identifier.Identifier, declared.tree.expression.FieldOperator.FieldOperator, declared.tree.expression.FieldOperator.TheVariants.Arrow, declared.tree.expression.UnaryOperator.TheVariants.Dereference, declared.tree.item.GlobalDefinition.GlobalDefinition, Measures.expressions, Tree.{Expression, Function}}
-use Rattle.sharc_tree.specs.declared.tree.expression.Constant.TheVariants as constants
+use Rattle.sharc_accepted_laws.proofs.{Imports.{◌≡◌, ⊎_elim, ℕ, ◌+◌, ◌-◌, ◌==◌, Bool, true, false, cond, List, [], ◌∷◌, map, refl, ap, sym, ◌∙◌, subst, option_map, Option, Some, None, Contains, false≢true, AllByRecursion, Mode, Private, Readonly, Locked, Racy, Dynamic, Path, Span, Identifier, FieldOperator, Arrow, Dereference, GlobalDefinition, expressions, Expression, Function, Constant, Named, Role, is_array, Numbered, entities_in, numbered, is_told_by, entity_at, is_constant, Resolution, named_at, global_at, function_at, kind_at, IsLeastAssignment, Assignment, PathReading, written, through, Targets, is_constant_named, base_use, read, deeper, targets_from, entity_row, global_row, named_row, result_row, called_row, behind, reading_through, row_at, modes_of, modes_at, Lock, Sharing, private, readonly, locked, racy, dynamic, lock_of, sharing_of, text_at, is_sibling_lock, object_named, IsExpression, IsEntity, IsThroughConstant, is_through as through_constant, IsSiblingUse, same_some, none_some, front, head_there, head_or_tail, to_each, tail_there, none_there}, Written.{raw, deeper_raw, row_good, found_there}}
 use Rattle.sharc_tree.specs.Tree as tree
-use Rattle.sharc_names.specs.{declared.fault.Named.Named, declared.types.Role.Role, Kinds.is_array}
-use Rattle.sharc_names.specs.declared.fault.Named.TheVariants as named
-use Rattle.sharc_names.specs.declared.types.Role.TheVariants as role
-use Rattle.sharc_ctype.specs.{declared.entity.Numbered.Numbered, Entities.{entities_in, numbered, is_told_by, entity_at}, Constants.is_constant, Resolved.{Resolution, named_at, global_at, function_at, kind_at}}
-use Rattle.sharc_mode.specs.{Flows.IsLeastAssignment, Moded.Assignment, Rows.{PathReading, written, through, Targets, is_constant_named, base_use, read, deeper, targets_from, entity_row, global_row, named_row, result_row, called_row, behind, reading_through, row_at, modes_of, modes_at}, Sharings.{Lock, Sharing, private, readonly, locked, racy, dynamic, lock_of, sharing_of, text_at, is_sibling_lock, object_named}}
-use Rattle.sharc_check.specs.{Constructs.{IsExpression, IsEntity}, Paths.{IsThroughConstant, through as through_constant, IsSiblingUse}}
-use Rattle.sharc_accepted_laws.proofs.Written.{raw, deeper_raw, row_good, found_there}
-use Rattle.sharc_lemmas.proofs.{Options.{same_some, none_some}, Lists.{front, head_there, head_or_tail, to_each, tail_there}, Equal.none_there}
 
 -- ---- modes that are written
 -- a path of a mode is written in this type
@@ -52,12 +41,12 @@ deeper_reading row = by (row.count == 0)
     by false = refl
 
 pub reading_kept : (where_ : Role) (row : Targets) → (targets_from where_ row).reading ≡ row.reading
-reading_kept role.Global row = deeper_reading row
+reading_kept Role.Global row = deeper_reading row
 reading_kept _ row = refl
 
 pub same_raw : (m : Assignment) (one other : PathReading) (where_ : Role) (first count : ℕ)
     → raw m (targets_from where_ (record { first = first; count = count; reading = one })) ≡ raw m (targets_from where_ (record { first = first; count = count; reading = other }))
-same_raw m one other role.Global first count = by (count == 0)
+same_raw m one other Role.Global first count = by (count == 0)
   where
     by : (b : Bool) → raw m (cond b (record { first = first; count = count; reading = one }) (record { first = first + 1; count = count - 1; reading = one }))
         ≡ raw m (cond b (record { first = first; count = count; reading = other }) (record { first = first + 1; count = count - 1; reading = other }))
@@ -114,7 +103,7 @@ use_of r s i at x false is h o = absurd (none_some at h)
 use_of r s i at x true is h o = by (named_at r i.site.token) refl is (ap (λ z. object_named r (named_at r z)) (same_some i.site.token at h) ∙ o)
   where
     by : (n : Named) → named_at r i.site.token ≡ n → is_constant_named r n ≡ true → object_named r n ≡ Some x → IsThroughConstant r Arrow (tree.identifier s i) x
-    by (named.Variable y) names constant k = let e = same_some y x k in through_constant (names ∙ ap named.Variable e) (ap (is_constant r) (sym e) ∙ constant)
+    by (Named.Variable y) names constant k = let e = same_some y x k in through_constant (names ∙ ap Named.Variable e) (ap (is_constant r) (sym e) ∙ constant)
     by _ names constant k = absurd (false≢true constant)
 
 pub is_use : (r : Resolution) (w : FieldOperator) (a : Expression) (at x : ℕ) → base_use r w a ≡ Some at → object_named r (named_at r at) ≡ Some x → IsThroughConstant r w a x
@@ -206,9 +195,9 @@ module _ (m : Assignment) (Q : Lock → Type 0) (writes : (n : Numbered) → IsE
     global_named (Some g) = found_named least g.declaration.name.site.token g.declaration.name.site.token
 
     name_named : (n : Named) → AllOf (modes_of m (named_row r written n))
-    name_named (named.Global n) = global_named (global_at r n)
-    name_named (named.Variable t) = found_named least t t
-    name_named (named.Field t) = found_named least t t
+    name_named (Named.Global n) = global_named (global_at r n)
+    name_named (Named.Variable t) = found_named least t t
+    name_named (Named.Field t) = found_named least t t
     name_named _ = tt
 
     result_named : (o : Option Function) → AllOf (modes_of m (result_row r o))
@@ -216,7 +205,7 @@ module _ (m : Assignment) (Q : Lock → Type 0) (writes : (n : Numbered) → IsE
     result_named (Some f) = found_named least f.name.site.token f.name.site.token
 
     called_named : (n : Named) → AllOf (modes_of m (called_row r n))
-    called_named (named.Function n) = result_named (function_at r n)
+    called_named (Named.Function n) = result_named (function_at r n)
     called_named _ = tt
 
     global_through : (at : ℕ) (o : Option GlobalDefinition) → Uses at (global_row r written o) → AllOf (modes_of m (global_row r (through at) o))
@@ -224,9 +213,9 @@ module _ (m : Assignment) (Q : Lock → Type 0) (writes : (n : Numbered) → IsE
     global_through at (Some g) used = found_through least at g.declaration.name.site.token g.declaration.name.site.token used
 
     name_through : (at : ℕ) (n : Named) → Uses at (named_row r written n) → AllOf (modes_of m (named_row r (through at) n))
-    name_through at (named.Global n) used = global_through at (global_at r n) used
-    name_through at (named.Variable t) used = found_through least at t t used
-    name_through at (named.Field t) used = found_through least at t t used
+    name_through at (Named.Global n) used = global_through at (global_at r n) used
+    name_through at (Named.Variable t) used = found_through least at t t used
+    name_through at (Named.Field t) used = found_through least at t t used
     name_through at _ used = tt
 
     field_named : (s : Span) (a : Expression) (w : FieldOperator) (name : Identifier) → IsExpression m (tree.field s a w name) → (o : Option ℕ) → base_use r w a ≡ o
@@ -246,7 +235,7 @@ module _ (m : Assignment) (Q : Lock → Type 0) (writes : (n : Numbered) → IsE
 
     pub row_named : (e : Expression) → AllByRecursion (IsExpression m) (expressions e) → RowNamed (row_at r e)
     row_named (tree.identifier s i) h = name_named (named_at r i.site.token)
-    row_named (tree.constant s (constants.Number n)) h = tt
+    row_named (tree.constant s (Constant.Number n)) h = tt
     row_named (tree.parentheses s a) h = row_named a h.1
     row_named (tree.call s f all) h = called_named (named_at r f.site.token)
     row_named (tree.cast s t a) h = found_named least s.first.token s.last.token

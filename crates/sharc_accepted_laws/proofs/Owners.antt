@@ -1,11 +1,5 @@
 -- The place of a field: its name stands in one struct alone, and there once.
-use Rattle.std.proofs.{Common.{◌≡◌, ⊎_elim, ℕ, zero, suc, ◌+◌, ◌<◌, ◌≤◌, ◌==◌, not, cond, List, [], ◌∷◌, length, refl, ap, sym, ◌∙◌, subst, arith, eq-eqb, Some, None, Contains}, lemmas.Bool.{lt-ltb, le-ltb, ne_eqb}}
-use Rattle.std.specs.{Prelude.{nat_lt, slice_get, unwrap_or}, List.position_or_len}
-use Rattle.sharc_tree.specs.{declared.token.Token.Token, declared.tree.declaration.Declaration.Declaration, declared.tree.item.StructDefinition.StructDefinition, Placed.{Follow, declaration_spans, item_spans, PlacedDeclaration, PlacedDeclarations, PlacedItem, PlacedItems}, Tree.{Item, structure, global, function}}
-use Rattle.sharc_ctype.specs.Resolved.{structs_in}
-use Rattle.sharc_meaning.specs.Cells.{place_in, field_place_in}
-use Rattle.sharc_accepted_laws.specs.Fields.{FieldsPlaced}
-use Rattle.sharc_lemmas.proofs.{Options.{same_some, none_some}, Lists.head_or_tail, Equal.none_there}
+use Rattle.sharc_accepted_laws.proofs.Imports.{◌≡◌, ⊎_elim, ℕ, zero, suc, ◌+◌, ◌<◌, ◌≤◌, ◌==◌, not, cond, List, [], ◌∷◌, length, refl, ap, sym, ◌∙◌, subst, arith, eq-eqb, Some, None, Contains, lt-ltb, le-ltb, ne_eqb, nat_lt, slice_get, unwrap_or, position_or_len, Token, Declaration, StructDefinition, Follow, declaration_spans, item_spans, PlacedDeclaration, PlacedDeclarations, PlacedItem, PlacedItems, Item, structure, global, function, structs_in, place_in, field_place_in, FieldsPlaced, same_some, none_some, head_or_tail, none_there}
 
 -- the name of a declaration stands in its span
 named_within : (all : List Token) (d : Declaration) → PlacedDeclaration all d → (d.span.first.token ≤ d.name.site.token) × (d.name.site.token ≤ d.span.last.token)

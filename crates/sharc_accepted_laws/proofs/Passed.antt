@@ -1,21 +1,9 @@
 -- What is passed at a call has the type that the parameter has there: each path `x->m` of the parameter's type leads, by the argument for `x`, to the same mutex.
-use Rattle.std.proofs.{Common.{◌≡◌, ⊎_elim, ℕ, ◌+◌, ◌==◌, Bool, true, false, cond, List, [], ◌∷◌, map, position, refl, ap, sym, ◌∙◌, subst, bytes_eq, Option, Some, None, is_some, eqb-true, lt-ltb, arith, Contains}, lemmas.Bool.false≢true}
-use Rattle.std.specs.{Prelude.unwrap_or, List.AllByRecursion}
-use Rattle.sharc_tree.specs.declared.ctype.Base.TheVariants as base
-use Rattle.sharc_tree.specs.{declared.ctype.Mode.Mode, declared.ctype.Mode.TheVariants.{Private, Readonly, Locked, Racy, Dynamic}, declared.ctype.Path.Path, declared.ctype.Path.TheVariants.{One, Through}, declared.tree.declaration.Declaration.Declaration, Tree.{Expression, Arguments, no_arguments, argument, value, Function}, Measures.in_function, Low.IsLow, Placed.IsPlaced}
+use Rattle.sharc_accepted_laws.proofs.{Imports.{◌≡◌, ⊎_elim, ℕ, ◌+◌, ◌==◌, Bool, true, false, cond, List, [], ◌∷◌, map, refl, ap, sym, ◌∙◌, subst, bytes_eq, Option, Some, None, is_some, eqb-true, lt-ltb, arith, Contains, false≢true, unwrap_or, AllByRecursion, Base, Mode, Private, Readonly, Locked, Racy, Dynamic, Path, One, Through, Declaration, Expression, Arguments, no_arguments, argument, value, Function, in_function, IsLow, IsPlaced, Named, Kind, object, is_pointer, declared_kind, Entity, Numbered, entities_in, numbered, numbered_from, positions_of, is_told_by, entity_at, Resolution, IsResolved, named_at, function_at, functions_in, declaration_at, variable_kind, named_kind, kind_at, Transfer, variable, passed, parameters_of, parameters_named, function_transfers, IsFair, is_constant, IsFound, EachTypeFound, EachNamesItself, AllFair, FirstNames, a_known_call, IsNamedLevel, field_place_behind, Assignment, base_of, PathReading, written, at_call, Targets, is_constant_named, constant_use, argument_use, with_base, path_variable, lock_for, read, entity_row, declared_row, modes_of, modes_at, Lock, Sharing, private, readonly, locked, racy, dynamic, lock_of, sharing_of, variable_named, same_all, IsEntity, IsExpression, IsCall, called, spawned, an_argument, RulesAreMet, at_target, is_substituted, Context, slot_kind, PathNamed, PathStands, TypeLock, Global, InRegister, Refers, Label, AllSame, PassesLock, Passes, form_of, shape_of, number, register, lock_named, lock_at, locks_at, static_of, variable_type, entry_by, entry_of, IsAccepted, at_entry, AreCopies, ArgumentsPass, argument_type, AreStanding, ArgumentFits, ArgumentsFit, is_held, IsHeldPath, AllHeld, AllStand, same_some, none_some, each, head_there, head_or_tail, of_each, to_each, tail_there, none_there}, Holds.{path_named, held_by, object as object_there, all_named, variable_is}, Scoping.HasOneStruct, Same.{forms_of_same, locks_of_same}, Transferred.{own_passed, Passes as FairlyPasses, calls_pass}, Given.{Fair, is_nothing, is_like, fair, null_modes, meets, no_variable, parameter_declared, goes}, Written.{raw, row_good, found_there}, Origins.{reading_kept, same_raw, mapped_there, both_hold, dynamic_path, private_path, racy_path, same_lock}, TargetLists.place_there, Sorts.{one_kind as same_kinds}}
+use Rattle.std.proofs.Common.{position}
 use Rattle.sharc_tree.specs.Tree as tree
-use Rattle.sharc_names.specs.{declared.fault.Named.Named, Kinds.{Kind, object, is_pointer, declared_kind}}
-use Rattle.sharc_names.specs.declared.fault.Named.TheVariants as named
-use Rattle.sharc_ctype.specs.{declared.entity.Entity.Entity, declared.entity.Numbered.Numbered, Entities.{entities_in, numbered, numbered_from, positions_of, is_told_by, entity_at}, Resolved.{Resolution, IsResolved, named_at, function_at, functions_in, declaration_at, variable_kind, named_kind, kind_at}, Transfers.{Transfer, variable, passed, parameters_of, parameters_named, function_transfers, IsFair}, Constants.is_constant}
-use Rattle.sharc_ctype_laws.specs.{Found.{IsFound, EachTypeFound}, Laws.{EachNamesItself, AllFair}, WrittenTypes.{FirstNames, a_field, a_variable, a_global, a_function, a_known_call, IsNamedLevel}}
-use Rattle.sharc_meaning.specs.Cells.{field_place_behind}
-use Rattle.sharc_mode.specs.{Moded.Assignment, Notes.base_of, Rows.{PathReading, written, at_call, Targets, is_constant_named, constant_use, argument_use, with_base, path_variable, lock_for, read, entity_row, declared_row, modes_of, modes_at}, Sharings.{Lock, Sharing, private, readonly, locked, racy, dynamic, lock_of, sharing_of, variable_named, variable_of, same_all}}
-use Rattle.sharc_check.specs.{Constructs.{IsEntity, IsExpression, IsCall, called, spawned, an_argument}, RuleLaws.RulesAreMet, Paths.{at_target, is_substituted}}
-use Rattle.sharc_flat.specs.{Scope.{Context, slot_kind}, Suits.{PathNamed, PathStands}}
-use Rattle.sharc_invariant.specs.{Types.{Lock as TypeLock}, Types.Lock.{Global, Through as InRegister}, Labels.{Refers, Label, AllSame}, Typed.{PassesLock, Passes}}
-use Rattle.sharc_accepted_laws.specs.{Shapes.{form_of, shape_of, number}, Static.{register, lock_named, lock_at, locks_at, static_of, variable_type, entry_by, entry_of}, StaticLaws.IsAccepted, Calls.{at_entry, AreCopies, ArgumentsPass, argument_type, AreStanding, ArgumentFits, ArgumentsFit}, Held.{is_held, IsHeldPath, AllHeld}, Scopes.AllStand}
-use Rattle.sharc_accepted_laws.proofs.{Holds.{path_named, held_by, object as object_there, all_named, variable_is}, Scoping.HasOneStruct, Same.{forms_of_same, locks_of_same}, Transferred.{own_passed, Passes as FairlyPasses, calls_pass}, Given.{Fair, is_nothing, is_like, fair, null_modes, meets, no_variable, parameter_declared, goes}, Written.{raw, row_good, found_there}, Origins.{reading_kept, same_raw, mapped_there, both_hold, dynamic_path, private_path, racy_path, same_lock}, TargetLists.place_there, Sorts.one_kind as same_kinds}
-use Rattle.sharc_lemmas.proofs.{Options.{same_some, none_some}, Lists.{each, head_there, head_or_tail, of_each, to_each, tail_there}, Equal.none_there}
+use Rattle.sharc_ctype_laws.specs.WrittenTypes.{a_field, a_variable, a_global, a_function}
+use Rattle.sharc_mode.specs.Sharings.{variable_of}
 
 -- ---- arguments
 -- what is given to a parameter
@@ -70,7 +58,7 @@ parameter_among (x ∷ ds) (argument a all) d e has =
 -- what is constant where it is used
 pub record Use (r : Resolution) (e : Expression) (at : ℕ) : Type 0 where
   pub variable : ℕ
-  pub names : named_at r at ≡ named.Variable variable
+  pub names : named_at r at ≡ Named.Variable variable
   pub constant : is_constant r variable ≡ true
   pub kind : kind_at r e ≡ variable_kind (declaration_at r variable)
 
@@ -78,7 +66,7 @@ pub use_named : (r : Resolution) (e : Expression) (at : ℕ) → constant_use r 
 use_named r (tree.identifier s i) at h = by (is_constant_named r (named_at r i.site.token)) refl h
   where
     one : (n : Named) → named_at r i.site.token ≡ n → is_constant_named r n ≡ true → i.site.token ≡ at → Use r (tree.identifier s i) at
-    one (named.Variable y) is k same = record { variable = y; names = ap (named_at r) (sym same) ∙ is; constant = k; kind = ap (named_kind r) is }
+    one (Named.Variable y) is k same = record { variable = y; names = ap (named_at r) (sym same) ∙ is; constant = k; kind = ap (named_kind r) is }
     one _ is k same = absurd (false≢true k)
 
     by : (b : Bool) → is_constant_named r (named_at r i.site.token) ≡ b → cond b (Some i.site.token) None ≡ Some at → Use r (tree.identifier s i) at
@@ -87,22 +75,22 @@ use_named r (tree.identifier s i) at h = by (is_constant_named r (named_at r i.s
 use_named r _ at h = absurd (none_some at h)
 
 -- ---- what a path's variable is
-pub same_token : (t u : ℕ) → named.Variable t ≡ named.Variable u → t ≡ u
+pub same_token : (t u : ℕ) → Named.Variable t ≡ Named.Variable u → t ≡ u
 same_token t u e = cc
 
-no_field : (t u : ℕ) → named.Field t ≡ named.Variable u → ⊥
+no_field : (t u : ℕ) → Named.Field t ≡ Named.Variable u → ⊥
 no_field t u e = cc
 
-pub no_global : (t u : ℕ) → named.Global t ≡ named.Variable u → ⊥
+pub no_global : (t u : ℕ) → Named.Global t ≡ Named.Variable u → ⊥
 no_global t u e = cc
 
-pub no_function : (t u : ℕ) → named.Function t ≡ named.Variable u → ⊥
+pub no_function : (t u : ℕ) → Named.Function t ≡ Named.Variable u → ⊥
 no_function t u e = cc
 
-pub no_known : (u : ℕ) → named.Known ≡ named.Variable u → ⊥
+pub no_known : (u : ℕ) → Named.Known ≡ Named.Variable u → ⊥
 no_known u e = cc
 
-pub first_kind : (r : Resolution) (token : ℕ) (text : List ℕ) (k : Kind) → FirstNames r token text k → (t : ℕ) → named_at r token ≡ named.Variable t → variable_kind (declaration_at r t) ≡ k
+pub first_kind : (r : Resolution) (token : ℕ) (text : List ℕ) (k : Kind) → FirstNames r token text k → (t : ℕ) → named_at r token ≡ Named.Variable t → variable_kind (declaration_at r t) ≡ k
 first_kind r token text _ (a_field is at same) t n = absurd (no_field _ _ (sym is ∙ n))
 first_kind r token text _ (a_variable is at same) t n = ap (λ x. variable_kind (declaration_at r x)) (same_token _ _ (sym n ∙ is)) ∙ ap variable_kind at
 first_kind r token text _ (a_global is at same) t n = absurd (no_global _ _ (sym is ∙ n))
@@ -111,14 +99,14 @@ first_kind r token text _ (a_known_call c is same) t n = absurd (no_known _ (sym
 
 -- the variable of a path is a pointer to a struct
 abbrev pub PathPoints : Resolution → Lock → Type 0
-PathPoints r l = (x : ℕ) → path_variable r l ≡ Some x → (struct : List ℕ) × (variable_kind (declaration_at r x) ≡ object (base.Struct struct) 1)
+PathPoints r l = (x : ℕ) → path_variable r l ≡ Some x → (struct : List ℕ) × (variable_kind (declaration_at r x) ≡ object (Base.Struct struct) 1)
 
 abbrev ModePoints : Resolution → Mode → Type 0
 ModePoints r mode = (path : Path) → mode ≡ Locked path → PathPoints r (lock_of path)
 
 level_points : (r : Resolution) (path : Path) → IsNamedLevel r (Some (Locked path)) → PathPoints r (lock_of path)
 level_points r (One text token) h x is = absurd (none_some x is)
-level_points r (Through text token m) h x is = (h.0, first_kind r token text (object (base.Struct h.0) 1) h.2 x (variable_is (named_at r token) x is))
+level_points r (Through text token m) h x is = (h.0, first_kind r token text (object (Base.Struct h.0) 1) h.2 x (variable_is (named_at r token) x is))
 
 pub same_path : (p q : Path) → Locked p ≡ Locked q → p ≡ q
 same_path p q h = cc
@@ -174,7 +162,7 @@ module _ (found : EachTypeFound) (rules : RulesAreMet) (all_fair : AllFair) (the
 
   -- a parameter is one of some function
   named_declared : (n : Named) (d : Declaration) → Contains (parameters_named r n) d → declaration_at r d.name.site.token ≡ Some d
-  named_declared (named.Function n) d has = by (function_at r n) refl has
+  named_declared (Named.Function n) d has = by (function_at r n) refl has
     where
       by : (o : Option Function) → function_at r n ≡ o → Contains (parameters_of o) d → declaration_at r d.name.site.token ≡ Some d
       by None is k = absurd (none_there d k)
@@ -197,7 +185,7 @@ module _ (found : EachTypeFound) (rules : RulesAreMet) (all_fair : AllFair) (the
   fair_argument : (d : Declaration) (e : Expression) → Contains (passed ds all) (given d e) → IsFair r (given d e)
   fair_argument d e has = of_each (IsFair r) (passed ds all) (given d e) (fair_by call) has
 
-  struct_pointer : (x : ℕ) → (struct : List ℕ) × (variable_kind (declaration_at r x) ≡ object (base.Struct struct) 1) → is_pointer (variable_kind (declaration_at r x)) ≡ true
+  struct_pointer : (x : ℕ) → (struct : List ℕ) × (variable_kind (declaration_at r x) ≡ object (Base.Struct struct) 1) → is_pointer (variable_kind (declaration_at r x)) ≡ true
   struct_pointer x h = ap is_pointer h.1 ∙ lt-ltb 0 1 (omega arith)
 
   -- ---- the paths at the call
@@ -205,13 +193,13 @@ module _ (found : EachTypeFound) (rules : RulesAreMet) (all_fair : AllFair) (the
   at_caller lock = lock_for r ds all (path_variable r lock) lock
 
   none_named : (n : Named) (second : Option (List ℕ)) → cond (is_some second) (variable_named n) None ≡ None → PathNamed c.scope n second
-  none_named (named.Variable x) (Some name) h = absurd (none_some x (sym h))
+  none_named (Named.Variable x) (Some name) h = absurd (none_some x (sym h))
   none_named _ _ h = tt
 
-  one_named : (n : Named) (y : ℕ) (second : Option (List ℕ)) → n ≡ named.Variable y → slot_kind c.scope y ≡ Some true → PathNamed c.scope n second
+  one_named : (n : Named) (y : ℕ) (second : Option (List ℕ)) → n ≡ Named.Variable y → slot_kind c.scope y ≡ Some true → PathNamed c.scope n second
   one_named n y second is stands = subst (λ w. PathNamed c.scope w second) (sym is) (by second)
     where
-      by : (o : Option (List ℕ)) → PathNamed c.scope (named.Variable y) o
+      by : (o : Option (List ℕ)) → PathNamed c.scope (Named.Variable y) o
       by (Some name) = stands
       by None = tt
 
@@ -295,7 +283,7 @@ module _ (found : EachTypeFound) (rules : RulesAreMet) (all_fair : AllFair) (the
   -- ---- what is passed
   module _ (one_struct : HasOneStruct r) (l : Label) (k a : ℕ) (copies : AreCopies c ds all l k) where
     -- the argument for a parameter that is a pointer, where it is a constant variable, has the same fields
-    same_variable : (x at y : ℕ) (struct : List ℕ) → variable_kind (declaration_at r x) ≡ object (base.Struct struct) 1 → argument_use r ds all x ≡ Some at → named_at r at ≡ named.Variable y → variable_kind (declaration_at r y) ≡ object (base.Struct struct) 1
+    same_variable : (x at y : ℕ) (struct : List ℕ) → variable_kind (declaration_at r x) ≡ object (Base.Struct struct) 1 → argument_use r ds all x ≡ Some at → named_at r at ≡ Named.Variable y → variable_kind (declaration_at r y) ≡ object (Base.Struct struct) 1
     same_variable x at y struct points_to used names =
         let f = used_for r ds all x at used in
         let u = use_named r f.of at f.used in
@@ -308,7 +296,7 @@ module _ (found : EachTypeFound) (rules : RulesAreMet) (all_fair : AllFair) (the
         by want kind (is_nothing e) is = absurd (no_variable (declaration_at r y) (sym is ∙ e))
         by want kind (is_like one h) is = sym (same_kinds want kind h)
 
-    same_place : (x y : ℕ) (struct name : List ℕ) → variable_kind (declaration_at r x) ≡ object (base.Struct struct) 1 → variable_kind (declaration_at r y) ≡ object (base.Struct struct) 1 → field_place_behind r y name ≡ field_place_behind r x name
+    same_place : (x y : ℕ) (struct name : List ℕ) → variable_kind (declaration_at r x) ≡ object (Base.Struct struct) 1 → variable_kind (declaration_at r y) ≡ object (Base.Struct struct) 1 → field_place_behind r y name ≡ field_place_behind r x name
     same_place x y struct name e f = ap (λ fields. unwrap_or (position (λ d. bytes_eq d.name.text name) fields) 0) (one_struct y x struct f e)
 
     plain : (x y : TypeLock) (j : ℕ) → x ≡ Global j → y ≡ Global j → PassesLock l k a x y
@@ -329,30 +317,30 @@ module _ (found : EachTypeFound) (rules : RulesAreMet) (all_fair : AllFair) (the
         → PassesLock l k a (lock_at c (lock_for r ds all (path_variable r lock) lock)) (lock_at inner lock)
     one_lock lock pointer met held = by (named_at r lock.first) refl lock.second refl
       where
-        through : (x at y : ℕ) (name : List ℕ) → named_at r lock.first ≡ named.Variable x → lock.second ≡ Some name → path_variable r lock ≡ Some x → argument_use r ds all x ≡ Some at → named_at r at ≡ named.Variable y
+        through : (x at y : ℕ) (name : List ℕ) → named_at r lock.first ≡ Named.Variable x → lock.second ≡ Some name → path_variable r lock ≡ Some x → argument_use r ds all x ≡ Some at → named_at r at ≡ Named.Variable y
             → PassesLock l k a (lock_at c (lock_for r ds all (path_variable r lock) lock)) (lock_at inner lock)
         through x at y name is second path used names =
             let e : lock_at c (lock_for r ds all (path_variable r lock) lock) ≡ InRegister (register c y) (field_place_behind r y name) =
-            ap (λ o. lock_at c (lock_for r ds all o lock)) path ∙ ap (λ o. lock_at c (with_base o lock)) used ∙ ap (λ w. lock_named c w lock.second) names ∙ ap (lock_named c (named.Variable y)) second in
+            ap (λ o. lock_at c (lock_for r ds all o lock)) path ∙ ap (λ o. lock_at c (with_base o lock)) used ∙ ap (λ w. lock_named c w lock.second) names ∙ ap (lock_named c (Named.Variable y)) second in
             let to : at_caller lock ≡ with_base (Some at) lock = ap (λ o. lock_for r ds all o lock) path ∙ ap (λ o. with_base o lock) used in
             let leads : path_variable r (with_base (Some at) lock) ≡ Some y = ap (λ o. cond (is_some o) (variable_named (named_at r at)) None) second ∙ ap variable_named names in
             let kept : is_held r y ≡ true = held (with_base (Some at) lock) y (ap locked to) leads in
-            let f : lock_at inner lock ≡ InRegister (register inner x) (field_place_behind r x name) = ap (λ w. lock_named inner w lock.second) is ∙ ap (lock_named inner (named.Variable x)) second in
+            let f : lock_at inner lock ≡ InRegister (register inner x) (field_place_behind r x name) = ap (λ w. lock_named inner w lock.second) is ∙ ap (lock_named inner (Named.Variable x)) second in
             subst (λ z. PassesLock l k a z (lock_at inner lock)) (sym e) (subst (PassesLock l k a (InRegister (register c y) (field_place_behind r y name))) (sym f)
             (same_place x y (pointer x path).0 name (pointer x path).1 (same_variable x at y (pointer x path).0 (pointer x path).1 used names), copies x at y (struct_pointer x (pointer x path)) used names kept))
 
         by : (n : Named) → named_at r lock.first ≡ n → (o : Option (List ℕ)) → lock.second ≡ o → PassesLock l k a (lock_at c (lock_for r ds all (path_variable r lock) lock)) (lock_at inner lock)
-        by (named.Variable x) is (Some name) second =
+        by (Named.Variable x) is (Some name) second =
             let path : path_variable r lock ≡ Some x = ap (λ o. cond (is_some o) (variable_of r lock) None) second ∙ ap variable_named is in
             let used = met x path in
             let f = used_for r ds all x used.0 used.1 in
             let u = use_named r f.of used.0 f.used in
             through x used.0 u.variable name is second path used.1 u.names
-        by (named.Variable x) is None second =
+        by (Named.Variable x) is None second =
             let unnamed : path_variable r lock ≡ None = ap (λ o. cond (is_some o) (variable_of r lock) None) second in
-            plain _ _ 0 (ap (λ o. lock_at c (lock_for r ds all o lock)) unnamed ∙ ap (λ w. lock_named c w lock.second) is ∙ ap (lock_named c (named.Variable x)) second)
-            (ap (λ w. lock_named inner w lock.second) is ∙ ap (lock_named inner (named.Variable x)) second)
-        by (named.Global g) is o second = alone lock (named.Global g) _ is refl refl refl
+            plain _ _ 0 (ap (λ o. lock_at c (lock_for r ds all o lock)) unnamed ∙ ap (λ w. lock_named c w lock.second) is ∙ ap (lock_named c (Named.Variable x)) second)
+            (ap (λ w. lock_named inner w lock.second) is ∙ ap (lock_named inner (Named.Variable x)) second)
+        by (Named.Global g) is o second = alone lock (Named.Global g) _ is refl refl refl
         by k is o second = alone lock k 0 is refl refl refl
 
     abbrev called_as : Mode → Sharing

@@ -1,19 +1,5 @@
 -- A lock path that leads through a variable leads to a mutex of the table.
-use Rattle.std.proofs.Common.{◌≡◌, ℕ, zero, suc, ◌+◌, ◌<◌, ◌≤◌, Bool, true, false, cond, not, List, [], ◌∷◌, length, map, take, drop, slice_index_or, slice_get, unwrap_or, refl, ap, sym, ◌∙◌, subst, arith, lt-ltb, nat_lt, bytes_eq, Some, None}
-use Rattle.std.specs.List.{position, position_or_len}
-use Rattle.sharc_tree.specs.declared.ctype.Base.TheVariants as base
-use Rattle.sharc_tree.specs.{declared.ctype.Mode.Mode, declared.tree.declaration.Declaration.Declaration}
-use Rattle.sharc_names.specs.{Kinds.{object, mutex, is_pointer, declared_kind}, Names.field_of}
-use Rattle.sharc_ctype.specs.Resolved.{Resolution, variable_kind, structs_in}
-use Rattle.sharc_ctype_laws.specs.Constraints.{struct_named}
-use Rattle.sharc_meaning.specs.Cells.{field_place, field_place_behind}
-use Rattle.sharc_mode.specs.{Moded.Assignment, Notes.base_of, Rows.{Targets, written, read, declared_row, modes_of}, Sharings.{Sharing, sharing_of}, WellFormed.{fields_of, fields_named, fields_behind}}
-use Rattle.sharc_check.specs.Paths.{IsMutexBehind}
-use Rattle.sharc_flat.specs.Scope.{Context}
-use Rattle.sharc_invariant.specs.Types.{MutexWord, Field, no_field, row_of, field_at}
-use Rattle.sharc_accepted_laws.specs.{StaticLaws.IsAccepted, Static.{static_of, variable_type}, Fields.FieldsPlaced, TargetLaws.{VariablesFound, MembersAre, IsRowOf, IsMemberAt}, Pointees.{PointeesFit, pointee}, Shapes.{form_of, stars_in}, Targets.{own_mode, base_content, pointer_content, declared_content, base_fields, shape_fields, targets_of}, Paths.{IsMutexThere, MutexesBehind}}
-use Rattle.sharc_accepted_laws.proofs.{Laying.named_there as struct_there, TargetLists.place_there as there_at}
-use Rattle.sharc_lemmas.proofs.Options.{none_some}
+use Rattle.sharc_accepted_laws.proofs.{Imports.{◌≡◌, ℕ, zero, suc, ◌+◌, ◌<◌, ◌≤◌, Bool, true, false, cond, not, List, [], ◌∷◌, length, map, take, drop, get_or as slice_index_or, slice_get, unwrap_or, refl, ap, sym, ◌∙◌, subst, arith, lt-ltb, nat_lt, bytes_eq, Some, None, position, position_or_len, Base, Mode, Declaration, object, mutex, is_pointer, declared_kind, field_of, Resolution, variable_kind, structs_in, struct_named, field_place, field_place_behind, Assignment, base_of, Targets, written, read, declared_row, modes_of, Sharing, sharing_of, fields_of, fields_named, fields_behind, IsMutexBehind, Context, MutexWord, Field, no_field, row_of, field_at, IsAccepted, static_of, variable_type, FieldsPlaced, VariablesFound, MembersAre, IsRowOf, IsMemberAt, PointeesFit, pointee, form_of, stars_in, own_mode, base_content, pointer_content, declared_content, base_fields, shape_fields, targets_of, IsMutexThere, MutexesBehind, none_some}, Laying.{named_there as struct_there}, TargetLists.{place_there as there_at}}
 
 -- ---- a field by its name
 abbrev pub place_of : List ℕ → List Declaration → ℕ
@@ -58,7 +44,7 @@ holds_mutex : (m : Assignment) (n : ℕ) (d : Declaration) → declared_kind d.w
 holds_mutex m n d is = ap (λ z. cond (is_pointer z) (pointer_content m n d.written.ctype.base (modes_of m (declared_row m.typed written d.name.site.token))) (base_content (base_of z))) is
 
 module _ (variables : VariablesFound) (members : MembersAre) (pointees : PointeesFit) (fields_placed : FieldsPlaced) (c : Context) (a : IsAccepted c.program) (x : ℕ) (name : List ℕ) (w : IsMutexBehind c.program.typed x name) (s : List ℕ)
-    (kind : declared_kind w.variable.written ≡ object (base.Struct s) 1) (struct : struct_named (structs_in c.program.typed.program.items) s ≡ Some w.struct) where
+    (kind : declared_kind w.variable.written ≡ object (Base.Struct s) 1) (struct : struct_named (structs_in c.program.typed.program.items) s ≡ Some w.struct) where
   abbrev m : Assignment
   m = c.program
 
@@ -75,14 +61,14 @@ module _ (variables : VariablesFound) (members : MembersAre) (pointees : Pointee
   mode = one_sharing m row (row_is.count ∙ ap stars_in kind) row_is.ends
 
   abbrev element : List Field
-  element = base_fields m (own_mode (form_of mode.0)) (base.Struct s)
+  element = base_fields m (own_mode (form_of mode.0)) (Base.Struct s)
 
   target_is : (variable_type c x).target ≡ pointee m (declared_kind w.variable.written) row
   target_is = ap (λ o. (static_of c (variable_kind o) (modes_of m row)).target) w.declared
 
-  fields_are : (row_of (targets_of m) (pointee m (declared_kind w.variable.written) row)).fields ≡ base_fields m (own_mode (form_of mode.0)) (base.Struct s)
+  fields_are : (row_of (targets_of m) (pointee m (declared_kind w.variable.written) row)).fields ≡ base_fields m (own_mode (form_of mode.0)) (Base.Struct s)
   fields_are =
-      (pointees m (declared_kind w.variable.written) row row_is (ap is_pointer kind)).fields ∙ ap (λ k. shape_fields m (base_of k) (map form_of (modes_of m row))) kind ∙ ap (λ l. shape_fields m (base.Struct s) (map form_of l)) mode.1
+      (pointees m (declared_kind w.variable.written) row row_is (ap is_pointer kind)).fields ∙ ap (λ k. shape_fields m (base_of k) (map form_of (modes_of m row))) kind ∙ ap (λ l. shape_fields m (Base.Struct s) (map form_of l)) mode.1
 
   place : IsPlace w.struct.fields name w.member
   place = place_named w.struct.fields name w.member w.has
@@ -101,10 +87,10 @@ module _ (variables : VariablesFound) (members : MembersAre) (pointees : Pointee
   there : IsMutexThere c x name
   there = record {
     inside = subst (λ k. field_place_behind r x name < length (row_of (targets_of m) k).fields) (sym target_is)
-        (subst (λ l. field_place_behind r x name < length l) (sym fields_are) (subst (λ k. k < length (base_fields m (own_mode (form_of mode.0)) (base.Struct s))) (sym place_is) at.inside));
+        (subst (λ l. field_place_behind r x name < length l) (sym fields_are) (subst (λ k. k < length (base_fields m (own_mode (form_of mode.0)) (Base.Struct s))) (sym place_is) at.inside));
     holds = ap (λ k. (field_at (targets_of m) k (field_place_behind r x name)).holds) target_is
         ∙ ap (λ l. (slice_index_or l (field_place_behind r x name) no_field).holds) fields_are
-        ∙ ap (λ k. (slice_index_or (base_fields m (own_mode (form_of mode.0)) (base.Struct s)) k no_field).holds) place_is
+        ∙ ap (λ k. (slice_index_or (base_fields m (own_mode (form_of mode.0)) (Base.Struct s)) k no_field).holds) place_is
         ∙ ap (λ (f : Field). f.holds) at.at
         ∙ holds_mutex m (field_place r w.member.name.site.token) w.member w.mutex;
   }

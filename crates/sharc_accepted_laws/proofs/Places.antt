@@ -1,22 +1,7 @@
 -- What the lock paths of types lead through stands where the types are used: rows and expressions.
-use Rattle.std.proofs.{Common.{◌≡◌, ◌⊎◌, inl, inr, ℕ, zero, suc, Bool, true, false, cond, List, [], ◌∷◌, map, refl, ap, sym, ◌∙◌, subst, arith, lt-ltb, slice_get, option_map, bytes_eq, Option, Some, None}, lemmas.Bool.false≢true}
-use Rattle.std.specs.List.{AllByRecursion}
-use Rattle.sharc_tree.specs.declared.ctype.Base.TheVariants as base
-use Rattle.sharc_tree.specs.{declared.ctype.Mode.Mode, declared.ctype.Mode.TheVariants.{Private, Readonly, Locked, Racy, Dynamic}, declared.ctype.Path.Path, declared.ctype.Path.TheVariants.{One, Through}, declared.token.Span.Span, declared.tree.declaration.Declaration.Declaration, declared.tree.declaration.Identifier.Identifier, declared.tree.expression.FieldOperator.FieldOperator, declared.tree.expression.UnaryOperator.TheVariants.Dereference, declared.tree.item.GlobalDefinition.GlobalDefinition, declared.tree.item.StructDefinition.StructDefinition, Measures.{expressions, in_arguments}, Tree.{Expression, Arguments, no_arguments, argument, Function, Item, structure, global, function}}
-use Rattle.sharc_tree.specs.declared.tree.expression.Constant.TheVariants as constants
+use Rattle.sharc_accepted_laws.proofs.{Imports.{◌≡◌, ◌⊎◌, inl, inr, ℕ, zero, suc, Bool, true, false, cond, List, [], ◌∷◌, map, refl, ap, sym, ◌∙◌, subst, arith, lt-ltb, slice_get, option_map, bytes_eq, Option, Some, None, false≢true, AllByRecursion, Base, Mode, Private, Readonly, Locked, Racy, Dynamic, Path, One, Through, Span, Declaration, Identifier, FieldOperator, Dereference, GlobalDefinition, StructDefinition, expressions, in_arguments, Expression, Arguments, no_arguments, argument, Function, Item, structure, global, function, Constant, Named, Scope, Kind, object, is_array, is_pointer, Entry, Meaning, field_of, look_up, named_of, Role, Entity, Numbered, declared, cast_entity, casts, result_of, function_entities, entities_in, numbered, is_told_by, entity_at, Resolution, named_at, declaration_at, global_at, function_at, globals_in, functions_in, structs_in, kind_at, variable_kind, HasType, IsMemberOf, struct_named, a_variable, a_global, a_function, a_field, a_field_behind, IsFound, NamesFound, meaning_token, IsVariableIn, IsAmong, LevelStands, TypeStands, CastStands, file_types, Placing, at, IsNamedLevel, IsNamedType, IsLeastAssignment, Assignment, PathReading, written, through, Targets, is_constant_named, constant_use, base_use, read, entity_row, global_row, named_row, result_row, called_row, behind, reading_through, row_at, modes_of, locked, lock_of, sharing_of, text_at, is_sibling_lock, IsEntity, Context, slot_kind, PathNamed, PathStands, IfThere, AllStand, DeclaredStands, ExpressionStands, ExpressionsStand, same_some, none_some, front, back, both}, Origins.{reading_kept, deeper_hold, private_path, racy_path, dynamic_path}, Passed.{first_kind, same_token, no_global, no_function, no_known, same_path, readonly_path}, Written.{raw, row_good, found_there}}
 use Rattle.sharc_tree.specs.Tree as tree
-use Rattle.sharc_names.specs.{declared.fault.Named.Named, declared.scope.Scope.Scope, Kinds.{Kind, object, is_array, is_pointer}, Names.{Entry, Meaning, field_of, look_up, named_of}}
-use Rattle.sharc_names.specs.declared.fault.Named.TheVariants as named
-use Rattle.sharc_names.specs.declared.types.Role.TheVariants as role
 use Rattle.sharc_names.specs.Names as meaning
-use Rattle.sharc_ctype.specs.{declared.entity.Entity.Entity, declared.entity.Numbered.Numbered, Entities.{declared, cast_entity, casts, result_of, function_entities, entities_in, numbered, is_told_by, entity_at}, Resolved.{Resolution, named_at, declaration_at, global_at, function_at, globals_in, functions_in, structs_in, kind_at, variable_kind}}
-use Rattle.sharc_ctype_laws.specs.{Constraints.{HasType, IsMemberOf, struct_named, a_variable, a_global, a_function, a_field, a_field_behind}, Found.IsFound, Laws.NamesFound, Paths.{meaning_token, IsVariableIn, IsAmong, LevelStands, TypeStands, CastStands, file_types}, Places.{Placing, at}, WrittenTypes.{IsNamedLevel, IsNamedType}}
-use Rattle.sharc_mode.specs.{Flows.IsLeastAssignment, Moded.Assignment, Rows.{PathReading, written, through, Targets, is_constant_named, constant_use, base_use, read, entity_row, global_row, named_row, result_row, called_row, behind, reading_through, row_at, modes_of}, Sharings.{locked, lock_of, sharing_of, text_at, is_sibling_lock}}
-use Rattle.sharc_check.specs.Constructs.{IsEntity}
-use Rattle.sharc_flat.specs.{Scope.{Context, slot_kind}, Suits.{PathNamed, PathStands, IfThere}}
-use Rattle.sharc_accepted_laws.specs.{Scopes.{AllStand, DeclaredStands}, Standing.{ExpressionStands, ExpressionsStand}}
-use Rattle.sharc_accepted_laws.proofs.{Origins.{reading_kept, deeper_hold, private_path, racy_path, dynamic_path}, Passed.{first_kind, same_token, no_global, no_function, no_known, same_path, readonly_path}, Written.{raw, row_good, found_there}}
-use Rattle.sharc_lemmas.proofs.{Options.{same_some, none_some}, Lists.{front, back, both}}
 
 abbrev pub right_kind : Resolution → ℕ → Bool
 right_kind r x = is_pointer (variable_kind (declaration_at r x))
@@ -44,17 +29,17 @@ module _ (c : Context) where
   LevelHere (Some mode) = ModeHere mode
 
   alone : (n : Named) → PathNamed c.scope n None
-  alone (named.Field n) = tt
+  alone (Named.Field n) = tt
   alone _ = tt
 
-  by_variable : (names : List Entry) → Slots names → (n : Named) (name : List ℕ) → IsAmong names n → ((x : ℕ) → n ≡ named.Variable x → right_kind r x ≡ true) → PathNamed c.scope n (Some name)
-  by_variable names slots (named.Variable x) name among pointer = slots x among ∙ ap Some (pointer x refl)
+  by_variable : (names : List Entry) → Slots names → (n : Named) (name : List ℕ) → IsAmong names n → ((x : ℕ) → n ≡ Named.Variable x → right_kind r x ≡ true) → PathNamed c.scope n (Some name)
+  by_variable names slots (Named.Variable x) name among pointer = slots x among ∙ ap Some (pointer x refl)
   by_variable names slots _ name among pointer = tt
 
   path_here : (names : List Entry) → Slots names → (path : Path) → LevelStands r names (Some (Locked path)) → IsNamedLevel r (Some (Locked path)) → PathHere path
   path_here names slots (One text token) stands is = alone (named_at r token)
   path_here names slots (Through text token name) stands is =
-      by_variable names slots (named_at r token) name stands (λ x names_x. ap is_pointer (first_kind r token text (object (base.Struct is.0) 1) is.2 x names_x) ∙ lt-ltb 0 1 (omega arith))
+      by_variable names slots (named_at r token) name stands (λ x names_x. ap is_pointer (first_kind r token text (object (Base.Struct is.0) 1) is.2 x names_x) ∙ lt-ltb 0 1 (omega arith))
 
   level_here : (names : List Entry) → Slots names → (level : Option Mode) → LevelStands r names level → IsNamedLevel r level → LevelHere level
   level_here names slots None stands is = tt
@@ -117,21 +102,21 @@ abbrev pub InFile : Resolution → Entity → Type 0
 InFile r e = IsFound r e × TypeStands r [] e.written
 
 abbrev pub FieldInFile : Resolution → Declaration → Type 0
-FieldInFile r d = InFile r (declared role.Field d)
+FieldInFile r d = InFile r (declared Role.Field d)
 
 pub record FileKnown (r : Resolution) (items : List Item) : Type 0 where
   pub fields : AllByRecursion (λ s. AllByRecursion (FieldInFile r) s.fields) (structs_in items)
-  pub globals : AllByRecursion (λ g. InFile r (declared role.Global g.declaration)) (globals_in items)
+  pub globals : AllByRecursion (λ g. InFile r (declared Role.Global g.declaration)) (globals_in items)
   pub results : AllByRecursion (λ f. InFile r (result_of f)) (functions_in items)
 
-fields_in_file : (r : Resolution) (list : List Declaration) → AllByRecursion (IsFound r) (map (declared role.Field) list) → AllByRecursion (TypeStands r []) (map (λ (d : Declaration). d.written) list) → AllByRecursion (FieldInFile r) list
+fields_in_file : (r : Resolution) (list : List Declaration) → AllByRecursion (IsFound r) (map (declared Role.Field) list) → AllByRecursion (TypeStands r []) (map (λ (d : Declaration). d.written) list) → AllByRecursion (FieldInFile r) list
 fields_in_file r [] f s = tt
 fields_in_file r (d ∷ rest) f s = ((f.0, s.0), fields_in_file r rest f.1 s.1)
 
 pub file_known : (r : Resolution) (items : List Item) → AllByRecursion (IsFound r) (entities_in items) → AllByRecursion (TypeStands r []) (file_types items) → FileKnown r items
 file_known r [] f s = record { fields = tt; globals = tt; results = tt }
 file_known r (structure x ∷ rest) f s =
-    let heads = map (declared role.Field) x.fields in
+    let heads = map (declared Role.Field) x.fields in
     let types = map (λ (d : Declaration). d.written) x.fields in
     let k = file_known r rest (back (IsFound r) heads (entities_in rest) f) (back (TypeStands r []) types (file_types rest) s) in
     record { fields = (fields_in_file r x.fields (front (IsFound r) heads (entities_in rest) f) (front (TypeStands r []) types (file_types rest) s), k.fields); globals = k.globals; results = k.results }
@@ -200,21 +185,21 @@ module _ (c : Context) (least : IsLeastAssignment c.program) (file : FileKnown c
   RowStands None = Unit {0}
   RowStands (Some row) = AllStand m2 c.scope (modes_of m2 row)
 
-  global_rows : (o : Option GlobalDefinition) → IfSome (λ g. InFile r2 (declared role.Global g.declaration)) o → AllStand m2 c.scope (modes_of m2 (global_row r2 written o))
+  global_rows : (o : Option GlobalDefinition) → IfSome (λ g. InFile r2 (declared Role.Global g.declaration)) o → AllStand m2 c.scope (modes_of m2 (global_row r2 written o))
   global_rows None h = tt
-  global_rows (Some g) h = file_stands c least written (reads_written c) (declared role.Global g.declaration) h.0 h.1
+  global_rows (Some g) h = file_stands c least written (reads_written c) (declared Role.Global g.declaration) h.0 h.1
 
   result_rows : (o : Option Function) → IfSome (λ f. InFile r2 (result_of f)) o → AllStand m2 c.scope (modes_of m2 (result_row r2 o))
   result_rows None h = tt
   result_rows (Some f) h = file_stands c least written (reads_written c) (result_of f) h.0 h.1
 
   called_rows : (n : Named) → AllStand m2 c.scope (modes_of m2 (called_row r2 n))
-  called_rows (named.Function n) = result_rows (function_at r2 n) (at_number (λ f. InFile r2 (result_of f)) (functions_in r2.program.items) n file.results)
+  called_rows (Named.Function n) = result_rows (function_at r2 n) (at_number (λ f. InFile r2 (result_of f)) (functions_in r2.program.items) n file.results)
   called_rows _ = tt
 
   meaning_rows : (z : Meaning) → ((x : ℕ) → meaning_token z ≡ Some x → IsVariableIn scope.names x) → AllStand m2 c.scope (modes_of m2 (named_row r2 written (named_of z)))
   meaning_rows (meaning.variable d) h = here.types d.name.site.token (h d.name.site.token refl)
-  meaning_rows (meaning.global n g) h = global_rows (global_at r2 n) (at_number (λ g. InFile r2 (declared role.Global g.declaration)) (globals_in r2.program.items) n file.globals)
+  meaning_rows (meaning.global n g) h = global_rows (global_at r2 n) (at_number (λ g. InFile r2 (declared Role.Global g.declaration)) (globals_in r2.program.items) n file.globals)
   meaning_rows _ h = tt
 
   identifier_row : (s : Span) (i : Identifier) → Seen r2 scope (tree.identifier s i) → AllStand m2 c.scope (modes_of m2 (named_row r2 written (named_at r2 i.site.token)))
@@ -226,7 +211,7 @@ module _ (c : Context) (least : IsLeastAssignment c.program) (file : FileKnown c
   record Member (n : Identifier) : Type 0 where
     of : Declaration
     field : FieldInFile r2 of
-    names : named_at r2 n.site.token ≡ named.Field of.name.site.token
+    names : named_at r2 n.site.token ≡ Named.Field of.name.site.token
 
   a_member : (x name : List ℕ) (d : Declaration) → IsMemberOf r2 x name d → FieldInFile r2 d
   a_member x name d h = field_found (FieldInFile r2) h.0.fields name d (struct_fields (FieldInFile r2) (structs_in r2.program.items) x h.0 file.fields h.1) h.2
@@ -235,19 +220,19 @@ module _ (c : Context) (least : IsLeastAssignment c.program) (file : FileKnown c
   member s a _ n _ (a_field {x = x} {d = d} t h is) = record { of = d; field = a_member x n.text d h; names = is }
   member s a _ n _ (a_field_behind {x = x} {d = d} t h is) = record { of = d; field = a_member x n.text d h; names = is }
 
-  pointer_name : (s : Span) (i : Identifier) (k : Kind) → HasType r2 (tree.identifier s i) k → is_pointer k ≡ true → (t : ℕ) → named_at r2 i.site.token ≡ named.Variable t → right_kind r2 t ≡ true
+  pointer_name : (s : Span) (i : Identifier) (k : Kind) → HasType r2 (tree.identifier s i) k → is_pointer k ≡ true → (t : ℕ) → named_at r2 i.site.token ≡ Named.Variable t → right_kind r2 t ≡ true
   pointer_name s i _ (a_variable is at spelled) p t n = ap (right_kind r2) (same_token _ _ (sym n ∙ is)) ∙ ap (λ o. is_pointer (variable_kind o)) at ∙ p
   pointer_name s i _ (a_global is at spelled) p t n = absurd (no_global _ _ (sym is ∙ n))
   pointer_name s i _ (a_function q) p t n = absurd (false≢true p)
 
-  meant : (z : Meaning) → ((x : ℕ) → meaning_token z ≡ Some x → IsVariableIn scope.names x) → (t : ℕ) → named_of z ≡ named.Variable t → IsVariableIn scope.names t
+  meant : (z : Meaning) → ((x : ℕ) → meaning_token z ≡ Some x → IsVariableIn scope.names x) → (t : ℕ) → named_of z ≡ Named.Variable t → IsVariableIn scope.names t
   meant (meaning.variable d) h t is = h t (ap Some (same_token d.name.site.token t is))
   meant (meaning.global n g) h t is = absurd (no_global n t is)
   meant (meaning.function n s) h t is = absurd (no_function n t is)
   meant (meaning.condition k) h t is = absurd (no_known t is)
 
   variable_stands : (s : Span) (i : Identifier) → Seen r2 scope (tree.identifier s i) → (k : Kind) → HasType r2 (tree.identifier s i) k → is_pointer k ≡ true → (n : Named) → named_at r2 i.site.token ≡ n → (name : List ℕ) → PathNamed c.scope n (Some name)
-  variable_stands s i h k t p (named.Variable x) is name =
+  variable_stands s i h k t p (Named.Variable x) is name =
       here.slots x (meant h.name.0.meaning (entry_there scope.names i.text h.name.0 h.name.1) x (sym h.name.2 ∙ is)) ∙ ap Some (pointer_name s i k t p x is)
   variable_stands s i h k t p _ is name = tt
 
@@ -261,7 +246,7 @@ module _ (c : Context) (least : IsLeastAssignment c.program) (file : FileKnown c
 
   reads_base : (s : Span) (a : Expression) (v : FieldOperator) (n : Identifier) (k : Kind) → HasType r2 (tree.field s a v n) k → Seen r2 scope a → Reads c (reading_through (base_use r2 v a))
   reads_base s a _ n _ (a_field t h is) seen = reads_written c
-  reads_base s a _ n _ (a_field_behind {x = x} t h is) seen = reads_use a seen (object (base.Struct x) 1) t (lt-ltb 0 1 (omega arith))
+  reads_base s a _ n _ (a_field_behind {x = x} t h is) seen = reads_use a seen (object (Base.Struct x) 1) t (lt-ltb 0 1 (omega arith))
 
   own : (e : Expression) → AllByRecursion (Seen r2 scope) (expressions e) → Seen r2 scope e
   own (tree.cast s t a) h = h.0
@@ -277,7 +262,7 @@ module _ (c : Context) (least : IsLeastAssignment c.program) (file : FileKnown c
 
   row_stands : (e : Expression) → AllByRecursion (Seen r2 scope) (expressions e) → RowStands (row_at r2 e)
   row_stands (tree.identifier s i) h = identifier_row s i h.0
-  row_stands (tree.constant s (constants.Number n)) h = tt
+  row_stands (tree.constant s (Constant.Number n)) h = tt
   row_stands (tree.parentheses s a) h = row_stands a h.1
   row_stands (tree.call s f all) h = called_rows (named_at r2 f.site.token)
   row_stands (tree.cast s t a) h = found_stands c least scope.names here.slots written (reads_written c) (cast_entity s t) h.0.cast.0 h.0.cast.1
@@ -287,7 +272,7 @@ module _ (c : Context) (least : IsLeastAssignment c.program) (file : FileKnown c
   row_stands (tree.field s a v n) h =
       let x = member s a v n _ h.0.has in
       let how = reading_through (base_use r2 v a) in
-      subst (λ z. AllStand m2 c.scope (modes_of m2 (named_row r2 how z))) (sym x.names) (file_stands c least how (reads_base s a v n _ h.0.has (own a h.1)) (declared role.Field x.of) x.field.0 x.field.1)
+      subst (λ z. AllStand m2 c.scope (modes_of m2 (named_row r2 how z))) (sym x.names) (file_stands c least how (reads_base s a v n _ h.0.has (own a h.1)) (declared Role.Field x.of) x.field.0 x.field.1)
   row_stands (tree.unary s Dereference a) h = deep (row_at r2 a) (row_stands a h.1)
   row_stands _ h = tt
 

@@ -1,19 +1,7 @@
 -- What pointers refer to has the cells, the layout and the fields of the source, and a cast leaves its contents.
-use Rattle.std.proofs.{Common.{◌≡◌, ℕ, zero, suc, ◌+◌, ◌-◌, ◌<◌, Bool, true, false, cond, List, [], ◌∷◌, length, map, drop, slice_index_or, refl, ap, sym, ◌∙◌, subst, arith, bytes_eq}, lemmas.Bool.{false≢true, and_parts}}
-use Rattle.std.specs.List.{AllByRecursion}
-use Rattle.sharc_tree.specs.{declared.ctype.Base.Base, declared.tree.declaration.Declaration.Declaration, declared.tree.item.StructDefinition.StructDefinition}
-use Rattle.sharc_tree.specs.declared.ctype.Base.TheVariants as base
-use Rattle.sharc_names.specs.{declared.fault.Named.Named, Kinds.{Kind, object, is_pointer, element_kind, declared_kind}}
-use Rattle.sharc_names.specs.declared.fault.Named.TheVariants as named
-use Rattle.sharc_ctype.specs.Resolved.{Resolution, named_at, structs_in}
-use Rattle.sharc_mode.specs.{Cells.first_of, Moded.Assignment, Notes.base_of, Rows.{Targets, written, declared_row, modes_of}, Sharings.{Sharing, private, readonly, locked, racy, dynamic, same, same_all}}
+use Rattle.sharc_accepted_laws.proofs.{Imports.{◌≡◌, ℕ, zero, suc, ◌+◌, ◌-◌, ◌<◌, Bool, true, false, cond, List, [], ◌∷◌, length, map, drop, get_or as slice_index_or, refl, ap, sym, ◌∙◌, subst, arith, bytes_eq, false≢true, and_parts, AllByRecursion, Base, Declaration, StructDefinition, Named, Kind, object, is_pointer, element_kind, declared_kind, Resolution, named_at, structs_in, first_of, Assignment, base_of, Targets, written, declared_row, modes_of, Sharing, private, readonly, locked, racy, dynamic, same, same_all, element_cells, layout_of, FieldMode, Content, Pointer, Field, TableTarget as Target, no_field, field_at, IsRowOf, pointee, PointeeFits, PointeesFit, IsPlainLock, HasPlainLocks, IsRecast, is_same, of_types, RecastFits, RecastsFit, SameForms, form_of, shape_of, row_shape, number, stars_in, table_lock as lock_named, field_locks, lock_count, type_locks, own_mode, is_private_form, starts_private, base_content, pointer_content, declared_content, single, members, struct_fields, base_fields, shape_fields, targets_of, map_length, no_cons}, TargetCells.cells_are, TargetForms.row_length, Numbers.numbers_found, Alike.two}
 use Rattle.sharc_mode.specs.Sharings as sharings
-use Rattle.sharc_meaning.specs.Cells.{element_cells}
-use Rattle.sharc_flat.specs.Flattened.{layout_of}
-use Rattle.sharc_invariant.specs.Types.{FieldMode, Content, Pointer, Field, Target, no_field, field_at}
-use Rattle.sharc_accepted_laws.specs.{TargetLaws.IsRowOf, Pointees.{pointee, PointeeFits, PointeesFit, IsPlainLock, HasPlainLocks, IsRecast, is_same, of_types, RecastFits, RecastsFit, SameForms}, Shapes.{form_of, shape_of, row_shape, kind_of, number, stars_in}, Targets.{lock_named, field_locks, lock_count, type_locks, own_mode, is_private_form, starts_private, base_content, pointer_content, declared_content, single, members, struct_fields, base_fields, shape_fields, targets_of}}
-use Rattle.sharc_accepted_laws.proofs.{TargetCells.cells_are, TargetForms.row_length, Numbers.numbers_found, Alike.two}
-use Rattle.sharc_lemmas.proofs.Lists.{map_length, no_cons}
+use Rattle.sharc_accepted_laws.specs.Shapes.{kind_of}
 
 -- ---- kinds and forms
 -- a pointer has a base and a star
@@ -62,7 +50,7 @@ pointees_fit m k row w pointer = by (pointer_kind k pointer)
 
 -- ---- contents, whatever the mode
 plain_lock : (r : Resolution) (n : ℕ) (w : Named) → IsPlainLock (lock_named r n w)
-plain_lock r n (named.Field f) = tt
+plain_lock r n (Named.Field f) = tt
 plain_lock r n _ = tt
 
 plain_locks : (r : Resolution) (n : ℕ) (modes : List Sharing) → AllByRecursion IsPlainLock (field_locks r n modes)
@@ -74,7 +62,7 @@ plain_locks r n (racy ∷ below) = plain_locks r n below
 plain_locks r n (dynamic ∷ below) = plain_locks r n below
 
 base_plain : (b : Base) → HasPlainLocks (base_content b)
-base_plain (base.Struct name) = tt
+base_plain (Base.Struct name) = tt
 base_plain _ = tt
 
 content_plain : (m : Assignment) (n : ℕ) (d : Declaration) → HasPlainLocks (declared_content m n d)
@@ -91,7 +79,7 @@ AreAlike (f ∷ fs) (g ∷ gs) = ((f.holds ≡ g.holds) × HasPlainLocks f.holds
 AreAlike _ _ = ⊥
 
 single_alike : (p q : FieldMode) (b : Base) → AreAlike (single p b ∷ []) (single q b ∷ [])
-single_alike p q (base.Struct name) = ((refl, tt), tt)
+single_alike p q (Base.Struct name) = ((refl, tt), tt)
 single_alike p q _ = ((refl, tt), tt)
 
 members_alike : (m : Assignment) (p q : FieldMode) (n : ℕ) (list : List Declaration) → AreAlike (members m p n list) (members m q n list)
@@ -99,7 +87,7 @@ members_alike m p q n [] = tt
 members_alike m p q n (d ∷ rest) = ((refl, content_plain m n d), members_alike m p q (n + 1) rest)
 
 structs_alike : (m : Assignment) (p q : FieldMode) (list : List StructDefinition) (name : List ℕ) → AreAlike (struct_fields m p list name) (struct_fields m q list name)
-structs_alike m p q [] name = single_alike p q (base.Struct name)
+structs_alike m p q [] name = single_alike p q (Base.Struct name)
 structs_alike m p q (s ∷ rest) name = by (bytes_eq s.name.text name) (structs_alike m p q rest name)
   where
     by : (b : Bool) → AreAlike (struct_fields m p rest name) (struct_fields m q rest name) → AreAlike (cond b (members m p 0 s.fields) (struct_fields m p rest name)) (cond b (members m q 0 s.fields) (struct_fields m q rest name))
@@ -107,7 +95,7 @@ structs_alike m p q (s ∷ rest) name = by (bytes_eq s.name.text name) (structs_
     by false h = h
 
 bases_alike : (m : Assignment) (p q : FieldMode) (b : Base) → AreAlike (base_fields m p b) (base_fields m q b)
-bases_alike m p q (base.Struct name) = structs_alike m p q (structs_in m.typed.program.items) name
+bases_alike m p q (Base.Struct name) = structs_alike m p q (structs_in m.typed.program.items) name
 bases_alike m p q k = single_alike p q k
 
 alike_many : (fs gs : List Field) → AreAlike fs gs → length fs ≡ length gs

@@ -1,25 +1,7 @@
 -- The locks of what cells refer to: in the table, and by the source.
-use Rattle.std.proofs.Common.{◌≡◌, ◌⊎◌, inl, inr, ℕ, zero, suc, ◌+◌, ◌-◌, ◌<◌, ◌≤◌, ◌==◌, Bool, true, false, cond, ◌&&◌, List, [], ◌∷◌, ◌++◌, length, map, refl, ap, sym, ◌∙◌, subst, arith, append_assoc, length-append, option_map, Option, Some, None, is_none, Contains}
-use Rattle.std.specs.{Prelude.slice_index_or, List.AllByRecursion}
-use Rattle.sharc_tree.specs.declared.ctype.Base.TheVariants as base
-use Rattle.sharc_tree.specs.{declared.ctype.Mode.Mode, declared.ctype.Mode.TheVariants.{Private, Readonly, Locked, Racy, Dynamic}, declared.ctype.Path.Path, declared.ctype.Path.TheVariants.{One, Through as PathThrough}, declared.token.Span.Span, declared.tree.declaration.Declaration.Declaration, declared.tree.declaration.Identifier.Identifier, declared.tree.expression.FieldOperator.FieldOperator, declared.tree.expression.FieldOperator.TheVariants.{Dot, Arrow}, declared.tree.expression.UnaryOperator.TheVariants.Dereference, declared.tree.item.GlobalDefinition.GlobalDefinition, Measures.{expressions, in_function}, Tree.Expression}
+use Rattle.sharc_accepted_laws.proofs.{Imports.{◌≡◌, ◌⊎◌, inl, inr, ℕ, zero, suc, ◌+◌, ◌-◌, ◌<◌, ◌≤◌, ◌==◌, Bool, true, false, cond, ◌&&◌, List, [], ◌∷◌, ◌++◌, length, map, refl, ap, sym, ◌∙◌, subst, arith, append_assoc, length-append, option_map, Option, Some, None, is_none, Contains, get_or as slice_index_or, AllByRecursion, Base, Mode, Private, Readonly, Locked, Racy, Dynamic, Path, One, Through as PathThrough, Span, Declaration, Identifier, FieldOperator, Dot, Arrow, Dereference, GlobalDefinition, expressions, in_function, Expression, Named, Kind, object, is_array, Role, Entity, Numbered, declared, entities_in, numbered, is_told_by, Resolution, named_at, declaration_at, variable_kind, global_at, globals_in, functions_in, structs_in, kind_at, HasType, IsMemberOf, a_field, a_field_behind, IsFound, EachTypeFound, EachNameOnce, OnlyNames, EachPathFound, MeetsConstraints, OneType, first_cell, Target, in_global, in_global_at, in_object_at, global_of, own_field, named_target, target, cell_of, Context, Either, is_cell, globals_of, field_place, field_place_named, field_place_behind, Place, pointed, Assignment, RowLaws, PathReading, written, through, Targets, is_constant_named, constant_use, base_use, lock_through, path_variable, read, deeper, entity_row, declared_row, global_row, named_row, behind, reading_through, row_at, modes_of, modes_at, Lock, Sharing, private, readonly, locked, racy, dynamic, lock_of, sharing_of, text_at, variable_named, is_field, is_sibling_lock, place_of, IsExpression, IsEntity, RulesAreMet, IsAllowed, global_mutex, sibling_mutex, sibling_pointer, through_constant, IsThroughConstant, is_through, MeetsRules, Cell, TypeLock, FieldLock, OfType, OfGlobals, OfElement, StaticType, Global, InRegister as Through, Self, Refers, Label, SameReference, Itself, SameLock, AllSame, no_lock, IsFieldLock, IsGlobalLock, IsAnyLock, IsAnyGlobalLock, AreFieldLocks, IsAccepted, is_held, IsHeldPath, AllHeld, element_locks, pointee_locks, declared_locks, content_locks, BaseIs, IsBased, PlacesPoint, register, lock_named, lock_at, locks_at, static_of, FieldsPlaced, ExpressionsFound, Form, private_form, readonly_form, locked_form, racy_form, dynamic_form, form_of, table_lock, field_lock, field_locks, type_locks, lock_count, same_some, none_some, front, each, place_of_element, of_each, to_each}, Arrays.{IsNameOf, array_name}, Holds.expressions_held, Origins.{private_path, racy_path, dynamic_path, reading_kept, same_raw, no_private, no_readonly, no_racy, no_dynamic, same_lock}, Passed.use_named, Places.{InFile, FileKnown, FieldInFile, file_known, struct_fields, field_found, at_number, IfSome}, Noted.all_say, StaticSiblings.{SiblingsAre, siblings_are}, Written.{raw, row_good, found_there}}
 use Rattle.sharc_tree.specs.Tree as tree
-use Rattle.sharc_names.specs.{declared.fault.Named.Named, Kinds.{Kind, object, is_array}}
-use Rattle.sharc_names.specs.declared.fault.Named.TheVariants as named
-use Rattle.sharc_names.specs.declared.types.Role.TheVariants as role
-use Rattle.sharc_ctype.specs.{declared.entity.Entity.Entity, declared.entity.Numbered.Numbered, Entities.{declared, entities_in, numbered, is_told_by}, Resolved.{Resolution, named_at, declaration_at, variable_kind, global_at, globals_in, functions_in, structs_in, kind_at}}
-use Rattle.sharc_ctype_laws.specs.{Constraints.{HasType, IsMemberOf, a_field, a_field_behind}, Found.{IsFound, EachTypeFound}, Laws.{EachNameOnce, OnlyNames, EachPathFound, MeetsConstraints, OneType}}
-use Rattle.sharc_flat.specs.{Machine.first_cell, Places.{Target, in_global, in_global_at, in_object_at, global_of, own_field, named_target, target, cell_of}, Scope.Context, Suits.{Either, is_cell}, Tables.globals_of}
-use Rattle.sharc_meaning.specs.Cells.{field_place, field_place_named, field_place_behind}
-use Rattle.sharc_mode.specs.declared.place.Place.TheVariants as place
-use Rattle.sharc_mode.specs.{Cells.pointed, Moded.Assignment, RowLaws.RowLaws, Rows.{PathReading, written, through, Targets, is_constant_named, constant_use, base_use, lock_through, path_variable, read, deeper, entity_row, declared_row, global_row, named_row, behind, reading_through, row_at, modes_of, modes_at}, Sharings.{Lock, Sharing, private, readonly, locked, racy, dynamic, lock_of, sharing_of, text_at, variable_named, is_field, is_sibling_lock}, WellFormed.place_of}
-use Rattle.sharc_check.specs.{Constructs.{IsExpression, IsEntity}, RuleLaws.RulesAreMet, Paths.{IsAllowed, global_mutex, sibling_mutex, sibling_pointer, through_constant, IsThroughConstant, through as is_through}, Rules.MeetsRules}
-use Rattle.sharc_code.specs.declared.instr.Cell.{Cell}
-use Rattle.sharc_code.specs.declared.instr.Cell.TheVariants as cells
-use Rattle.sharc_invariant.specs.{Types.{Lock as TypeLock, FieldLock, OfType, OfGlobals, OfElement, StaticType}, Types.Lock.{Global, Through, Self}, Labels.{Refers, Label, SameReference, Itself, SameLock, AllSame}, Typed.{no_lock, IsFieldLock, IsGlobalLock, IsAnyLock, IsAnyGlobalLock, AreFieldLocks}}
-use Rattle.sharc_accepted_laws.specs.{StaticLaws.IsAccepted, Held.{is_held, IsHeldPath, AllHeld}, Pointing.{element_locks, pointee_locks, declared_locks, content_locks, BaseIs, IsBased, PlacesPoint}, Static.{register, lock_named, lock_at, locks_at, static_of}, Fields.FieldsPlaced, TargetLaws.ExpressionsFound, Shapes.{Form, private_form, readonly_form, locked_form, racy_form, dynamic_form, form_of}, Targets.{lock_named as table_lock, field_lock, field_locks, type_locks, lock_count}}
-use Rattle.sharc_accepted_laws.proofs.{Arrays.{IsNameOf, array_name}, Holds.expressions_held, Origins.{private_path, racy_path, dynamic_path, reading_kept, same_raw, no_private, no_readonly, no_racy, no_dynamic, same_lock}, Passed.use_named, Places.{InFile, FileKnown, FieldInFile, file_known, struct_fields, field_found, at_number, IfSome}, Noted.all_say, StaticSiblings.{SiblingsAre, siblings_are}, Written.{raw, row_good, found_there}}
-use Rattle.sharc_lemmas.proofs.{Options.{same_some, none_some}, Lists.{front, each, place_of_element, of_each, to_each}, Bools.no_cell}
+use Rattle.sharc_lemmas.proofs.Bools.{no_cell}
 
 -- ---- lists of locks
 -- the one behind so many
@@ -33,7 +15,7 @@ IsNotSelf (Self j) = ⊥
 IsNotSelf _ = Unit {0}
 
 not_self : (c : Context) (n : Named) (second : Option (List ℕ)) → IsNotSelf (lock_named c n second)
-not_self c (named.Variable x) (Some name) = tt
+not_self c (Named.Variable x) (Some name) = tt
 not_self c _ _ = tt
 
 -- a lock of what an element refers to is that of the element's own type
@@ -94,10 +76,10 @@ any_pointee l r s list (Some modes) h = by (map form_of modes) h
 
 -- ---- paths of what is declared in the file
 abbrev NamesGlobal : Resolution → Lock → Type 0
-NamesGlobal r l = (g : ℕ) × (named_at r l.first ≡ named.Global g)
+NamesGlobal r l = (g : ℕ) × (named_at r l.first ≡ Named.Global g)
 
 abbrev pub NamesField : Resolution → Lock → Type 0
-NamesField r l = (l.second ≡ None) × ((t : ℕ) × (named_at r l.first ≡ named.Field t))
+NamesField r l = (l.second ≡ None) × ((t : ℕ) × (named_at r l.first ≡ Named.Field t))
 
 abbrev IsGlobalMode : Resolution → Sharing → Type 0
 IsGlobalMode r s = (l : Lock) → s ≡ locked l → NamesGlobal r l
@@ -123,32 +105,32 @@ module _ (c : Context) (globals : c.globals ≡ globals_of c.program.typed) wher
 
   -- a cell whose base has a type
   abbrev CellBased : Label → Cell → Type 0
-  CellBased l (cells.Object r i) = (s : StaticType) × (l.env r ≡ Refers s)
-  CellBased l (cells.ObjectAt r i) = (s : StaticType) × (l.env r ≡ Refers s)
+  CellBased l (Cell.Object r i) = (s : StaticType) × (l.env r ≡ Refers s)
+  CellBased l (Cell.ObjectAt r i) = (s : StaticType) × (l.env r ≡ Refers s)
   CellBased l _ = Unit {0}
 
   any_cell : (l : Label) (cell : Cell) → CellBased l cell → (n : ℕ) (modes : List Sharing) → AllGlobal c.program.typed modes → AreFieldLocks l cell (locks_at c modes) (field_locks c.program.typed n modes)
-  any_cell l (cells.Global g p) based n modes h = global_locks (IsGlobalLock p) (λ j. refl) n modes h
-  any_cell l (cells.GlobalAt g j) based n modes h = global_locks IsAnyGlobalLock (λ j. refl) n modes h
-  any_cell l (cells.Object r k) based n modes h = (based.0, based.1, global_locks (IsFieldLock l r k based.0) (λ j. refl) n modes h)
-  any_cell l (cells.ObjectAt r k) based n modes h = (based.0, based.1, global_locks (IsAnyLock l r based.0) (λ j. refl) n modes h)
+  any_cell l (Cell.Global g p) based n modes h = global_locks (IsGlobalLock p) (λ j. refl) n modes h
+  any_cell l (Cell.GlobalAt g j) based n modes h = global_locks IsAnyGlobalLock (λ j. refl) n modes h
+  any_cell l (Cell.Object r k) based n modes h = (based.0, based.1, global_locks (IsFieldLock l r k based.0) (λ j. refl) n modes h)
+  any_cell l (Cell.ObjectAt r k) based n modes h = (based.0, based.1, global_locks (IsAnyLock l r based.0) (λ j. refl) n modes h)
 
-pub not_field : place.Global ≡ place.Field → ⊥
+pub not_field : Place.Global ≡ Place.Field → ⊥
 not_field h = cc
 
-not_local : place.Global ≡ place.Local → ⊥
+not_local : Place.Global ≡ Place.Local → ⊥
 not_local h = cc
 
-pub field_not_local : place.Field ≡ place.Local → ⊥
+pub field_not_local : Place.Field ≡ Place.Local → ⊥
 field_not_local h = cc
 
-in_global_type : (r : Resolution) (e : Entity) (depth : ℕ) (path : Path) → place_of e.role ≡ place.Global → IsAllowed r e depth path → NamesGlobal r (lock_of path)
+in_global_type : (r : Resolution) (e : Entity) (depth : ℕ) (path : Path) → place_of e.role ≡ Place.Global → IsAllowed r e depth path → NamesGlobal r (lock_of path)
 in_global_type r e depth _ at (global_mutex {g = g} is kind) = (g, is)
 in_global_type r e depth _ at (sibling_mutex other is kind) = absurd (not_field (sym at ∙ other))
 in_global_type r e depth _ at (sibling_pointer other top is pointer alone) = absurd (not_field (sym at ∙ other))
 in_global_type r e depth _ at (through_constant other is constant behind) = absurd (not_local (sym at ∙ other))
 
-in_field_type : (r : Resolution) (e : Entity) (depth : ℕ) (path : Path) → place_of e.role ≡ place.Field → IsAllowed r e depth path → NamesGlobal r (lock_of path) ⊎ NamesField r (lock_of path)
+in_field_type : (r : Resolution) (e : Entity) (depth : ℕ) (path : Path) → place_of e.role ≡ Place.Field → IsAllowed r e depth path → NamesGlobal r (lock_of path) ⊎ NamesField r (lock_of path)
 in_field_type r e depth _ at (global_mutex {g = g} is kind) = inl (g, is)
 in_field_type r e depth _ at (sibling_mutex {f = t} other is kind) = inr (refl, (t, is))
 in_field_type r e depth _ at (sibling_pointer {f = t} other top is pointer alone) = inr (refl, (t, is))
@@ -197,7 +179,7 @@ module _ (rules : RulesAreMet) (m : Assignment) (a : IsAccepted m) where
   entity_is e f = found_there (is_told_by e.token e.last) (numbered (entities_in r2.program.items)) f.numbered f.found
 
   -- of a global
-  global_modes : (o : Option GlobalDefinition) → IfSome (λ g. InFile r2 (declared role.Global g.declaration)) o → AllGlobal r2 (modes_of m (global_row r2 written o))
+  global_modes : (o : Option GlobalDefinition) → IfSome (λ g. InFile r2 (declared Role.Global g.declaration)) o → AllGlobal r2 (modes_of m (global_row r2 written o))
   global_modes None h = tt
   global_modes (Some g) h =
       let f = h.0 in
@@ -205,16 +187,16 @@ module _ (rules : RulesAreMet) (m : Assignment) (a : IsAccepted m) where
       subst (λ o. AllGlobal r2 (modes_of m (entity_row written o))) (sym f.found)
       (subst (λ z. AllGlobal r2 (map (λ mode. read r2 z (sharing_of mode)) (raw m (entity_row written (Some n))))) (sym (reading_kept n.entity.role _))
       (shown_modes (NamesGlobal r2) (raw m (entity_row written (Some n)))
-      (allowed_row (λ path. NamesGlobal r2 (lock_of path)) written n (entity_is (declared role.Global g.declaration) f)
+      (allowed_row (λ path. NamesGlobal r2 (lock_of path)) written n (entity_is (declared Role.Global g.declaration) f)
       (λ depth path allowed has. in_global_type r2 n.entity depth path (ap (λ (e : Entity). place_of e.role) f.itself) allowed))))
 
   -- of a field
   abbrev FieldPath : Declaration → Path → Type 0
   FieldPath d path = (NamesGlobal r2 (lock_of path) ⊎ NamesField r2 (lock_of path)) × Contains d.written.ctype.levels (Some (Locked path))
 
-  field_row : (how : PathReading) (d : Declaration) (f : IsFound r2 (declared role.Field d)) → AllByRecursion (ModeOf (FieldPath d)) (raw m (entity_row how (Some f.numbered)))
+  field_row : (how : PathReading) (d : Declaration) (f : IsFound r2 (declared Role.Field d)) → AllByRecursion (ModeOf (FieldPath d)) (raw m (entity_row how (Some f.numbered)))
   field_row how d f =
-      allowed_row (FieldPath d) how f.numbered (entity_is (declared role.Field d) f)
+      allowed_row (FieldPath d) how f.numbered (entity_is (declared Role.Field d) f)
       (λ depth path allowed has. (in_field_type r2 f.numbered.entity depth path (ap (λ (e : Entity). place_of e.role) f.itself) allowed, subst (λ (e : Entity). Contains e.written.ctype.levels (Some (Locked path))) f.itself has))
 
   -- M11: without a constant variable no sibling's name is among them
@@ -223,7 +205,7 @@ module _ (rules : RulesAreMet) (m : Assignment) (a : IsAccepted m) where
       let is : is_constant_named r2 (named_at r2 i.site.token) ≡ true = ap (is_constant_named r2) names ∙ constant in
       none_some i.site.token (sym h ∙ ap (λ b. cond b (Some i.site.token) None) is)
 
-  field_modes : (s : Span) (e : Expression) (w : FieldOperator) (name : Identifier) → IsExpression m (tree.field s e w name) → base_use r2 w e ≡ None → (d : Declaration) → FieldInFile r2 d → named_at r2 name.site.token ≡ named.Field d.name.site.token
+  field_modes : (s : Span) (e : Expression) (w : FieldOperator) (name : Identifier) → IsExpression m (tree.field s e w name) → base_use r2 w e ≡ None → (d : Declaration) → FieldInFile r2 d → named_at r2 name.site.token ≡ Named.Field d.name.site.token
       → AllGlobal r2 (modes_of m (declared_row r2 written d.name.site.token))
   field_modes s e w name there none d f names = to_each (IsGlobalMode r2) modes one
     where
@@ -264,8 +246,8 @@ module _ (rules : RulesAreMet) (c : Context) (a : IsAccepted c.program) (globals
   r3 = c.program.typed
 
   -- a field's types are read through the constant variable x, which is this use
-  module _ (token x : ℕ) (names : named_at r3 token ≡ named.Variable x) (copy : is_held r3 x ≡ true → SameReference l reg (register c x)) (n : ℕ) (struct name : List ℕ) (d : Declaration)
-      (kind : variable_kind (declaration_at r3 x) ≡ object (base.Struct struct) 1) (member : IsMemberOf r3 struct name d) where
+  module _ (token x : ℕ) (names : named_at r3 token ≡ Named.Variable x) (copy : is_held r3 x ≡ true → SameReference l reg (register c x)) (n : ℕ) (struct name : List ℕ) (d : Declaration)
+      (kind : variable_kind (declaration_at r3 x) ≡ object (Base.Struct struct) 1) (member : IsMemberOf r3 struct name d) where
     abbrev R : TypeLock → FieldLock → Type 0
     R = IsFieldLock l reg n s
 
@@ -383,13 +365,13 @@ module _ (rows : RowLaws) (expressions_found : ExpressionsFound) (one_type : One
   record ArrayIs (e : Expression) : Type 0 where
     number : ℕ
     row : row_at r4 e ≡ Some (global_row r4 written (global_at r4 number))
-    content : content_locks m4 e ≡ declared_locks m4 0 (named.Global number)
+    content : content_locks m4 e ≡ declared_locks m4 0 (Named.Global number)
 
   -- a member of a struct
   record Member (n : Identifier) : Type 0 where
     of : Declaration
     field : FieldInFile r4 of
-    names : named_at r4 n.site.token ≡ named.Field of.name.site.token
+    names : named_at r4 n.site.token ≡ Named.Field of.name.site.token
 
   a_member : (x name : List ℕ) (d : Declaration) → IsMemberOf r4 x name d → FieldInFile r4 d
   a_member x name d h = field_found (FieldInFile r4) h.0.fields name d (struct_fields (FieldInFile r4) (structs_in r4.program.items) x h.0 file.fields h.1) h.2
@@ -410,17 +392,17 @@ module _ (rows : RowLaws) (expressions_found : ExpressionsFound) (one_type : One
 
   -- ---- by their forms
   global_all : (g : ℕ) → AllGlobal r4 (modes_of m4 (global_row r4 written (global_at r4 g)))
-  global_all g = global_modes rules m4 a (global_at r4 g) (at_number (λ g. InFile r4 (declared role.Global g.declaration)) (globals_in r4.program.items) g file.globals)
+  global_all g = global_modes rules m4 a (global_at r4 g) (at_number (λ g. InFile r4 (declared Role.Global g.declaration)) (globals_in r4.program.items) g file.globals)
 
   -- a name
   name_points : (n : Named) (modes : List Sharing) → Some (modes_of m4 (named_row r4 written n)) ≡ Some modes → is_cell (named_target n 0) ≡ true → AreFieldLocks l (cell_at (named_target n 0)) (locks_at c modes) (declared_locks m4 0 n)
-  name_points (named.Global g) modes is cell =
-      subst (λ z. AreFieldLocks l (cell_at (in_global g 0)) (locks_at c z) (declared_locks m4 0 (named.Global g))) (same_some (modes_of m4 (named_row r4 written (named.Global g))) modes is)
-      (any_cell c globals l (cell_at (in_global g 0)) tt 0 (modes_of m4 (named_row r4 written (named.Global g))) (global_all g))
+  name_points (Named.Global g) modes is cell =
+      subst (λ z. AreFieldLocks l (cell_at (in_global g 0)) (locks_at c z) (declared_locks m4 0 (Named.Global g))) (same_some (modes_of m4 (named_row r4 written (Named.Global g))) modes is)
+      (any_cell c globals l (cell_at (in_global g 0)) tt 0 (modes_of m4 (named_row r4 written (Named.Global g))) (global_all g))
   name_points _ modes is cell = absurd (no_cell cell)
 
   name_based : (n : Named) (f : ℕ) → CellBased c globals l (cell_at (named_target n f))
-  name_based (named.Field n) f = tt
+  name_based (Named.Field n) f = tt
   name_based _ f = tt
 
   -- the cell of a member has the base of its struct
@@ -445,7 +427,7 @@ module _ (rows : RowLaws) (expressions_found : ExpressionsFound) (one_type : One
       let x = array_is e h kind in
       let same : modes_of m4 (global_row r4 written (global_at r4 x.number)) ≡ modes = same_some (modes_of m4 (global_row r4 written (global_at r4 x.number))) modes (sym (ap (option_map (modes_of m4)) x.row) ∙ is) in
       subst (λ y. AllSame IsAnyGlobalLock (locks_at c modes) y) (sym x.content)
-      (subst (λ y. AllSame IsAnyGlobalLock (locks_at c y) (declared_locks m4 0 (named.Global x.number))) same
+      (subst (λ y. AllSame IsAnyGlobalLock (locks_at c y) (declared_locks m4 0 (Named.Global x.number))) same
       (global_locks c globals IsAnyGlobalLock (λ j. refl) 0 (modes_of m4 (global_row r4 written (global_at r4 x.number))) (global_all x.number)))
   index_points e h modes false kind b is = (static_of c (kind_at r4 e) b.modes, b.entry, any_pointee l reg (static_of c (kind_at r4 e) b.modes) (locks_at c modes) (modes_at m4 e) (pointee 0 e (own e h) b modes is))
 
@@ -458,7 +440,7 @@ module _ (rows : RowLaws) (expressions_found : ExpressionsFound) (one_type : One
       same_some (modes_of m4 (declared_row r4 written x.of.name.site.token)) modes
       (sym (ap (λ o. Some (modes_of m4 (named_row r4 (reading_through o) (named_at r4 name.site.token)))) none ∙ ap (λ z. Some (modes_of m4 (named_row r4 written z))) x.names) ∙ is) in
       subst (λ z. AreFieldLocks l cell (locks_at c modes) (declared_locks m4 n z)) (sym x.names)
-      (subst (λ z. AreFieldLocks l cell (locks_at c z) (declared_locks m4 n (named.Field x.of.name.site.token))) of_row
+      (subst (λ z. AreFieldLocks l cell (locks_at c z) (declared_locks m4 n (Named.Field x.of.name.site.token))) of_row
       (any_cell c globals l cell base n (modes_of m4 (declared_row r4 written x.of.name.site.token)) (field_modes rules m4 a s e w name there none x.of x.field x.names)))
 
   -- behind one
@@ -470,20 +452,20 @@ module _ (rows : RowLaws) (expressions_found : ExpressionsFound) (one_type : One
       by : (k : Kind) → HasType r4 (tree.field s e Arrow name) k → AllSame (IsFieldLock l reg n (static_of c (kind_at r4 e) b.modes)) (locks_at c modes) (declared_locks m4 n (named_at r4 name.site.token))
       by _ (a_field_behind {x = struct} {d = d} t h names) =
           let u = use_named r4 e token used in
-          let kind : variable_kind (declaration_at r4 u.variable) ≡ object (base.Struct struct) 1 = sym u.kind ∙ one_type r4 a.resolved a.placed a.low e (object (base.Struct struct) 1) t in
+          let kind : variable_kind (declaration_at r4 u.variable) ≡ object (Base.Struct struct) 1 = sym u.kind ∙ one_type r4 a.resolved a.placed a.low e (object (Base.Struct struct) 1) t in
           let of_row : modes_of m4 (declared_row r4 (through token) d.name.site.token) ≡ modes =
           same_some (modes_of m4 (declared_row r4 (through token) d.name.site.token)) modes
           (sym (ap (λ o. Some (modes_of m4 (named_row r4 (reading_through o) (named_at r4 name.site.token)))) used ∙ ap (λ z. Some (modes_of m4 (named_row r4 (through token) z))) names) ∙ is) in
           subst (λ z. AllSame (IsFieldLock l reg n (static_of c (kind_at r4 e) b.modes)) (locks_at c modes) (declared_locks m4 n z)) (sym names)
-          (subst (λ z. AllSame (IsFieldLock l reg n (static_of c (kind_at r4 e) b.modes)) (locks_at c z) (declared_locks m4 n (named.Field d.name.site.token))) of_row
+          (subst (λ z. AllSame (IsFieldLock l reg n (static_of c (kind_at r4 e) b.modes)) (locks_at c z) (declared_locks m4 n (Named.Field d.name.site.token))) of_row
           (field_through rules c a globals siblings l reg (static_of c (kind_at r4 e) b.modes) token u.variable u.names (b.copy token u.variable used u.names) n struct name.text d kind h (a_member struct name.text d h) (subst (AllHeld m4) (sym of_row) held)))
 
   arrow_points : (s : Span) (e : Expression) (name : Identifier) → IsExpression m4 (tree.field s e Arrow name) → BaseIs c l reg e → (n : ℕ) (modes : List Sharing)
-      → Some (modes_of m4 (named_row r4 (reading_through (constant_use r4 e)) (named_at r4 name.site.token))) ≡ Some modes → AllHeld m4 modes → AreFieldLocks l (cells.Object reg n) (locks_at c modes) (declared_locks m4 n (named_at r4 name.site.token))
+      → Some (modes_of m4 (named_row r4 (reading_through (constant_use r4 e)) (named_at r4 name.site.token))) ≡ Some modes → AllHeld m4 modes → AreFieldLocks l (Cell.Object reg n) (locks_at c modes) (declared_locks m4 n (named_at r4 name.site.token))
   arrow_points s e name there b n modes is held = by (constant_use r4 e) refl
     where
-      by : (o : Option ℕ) → constant_use r4 e ≡ o → AreFieldLocks l (cells.Object reg n) (locks_at c modes) (declared_locks m4 n (named_at r4 name.site.token))
-      by None used = plain_points s e Arrow name there used (cells.Object reg n) (static_of c (kind_at r4 e) b.modes, b.entry) n modes is
+      by : (o : Option ℕ) → constant_use r4 e ≡ o → AreFieldLocks l (Cell.Object reg n) (locks_at c modes) (declared_locks m4 n (named_at r4 name.site.token))
+      by None used = plain_points s e Arrow name there used (Cell.Object reg n) (static_of c (kind_at r4 e) b.modes, b.entry) n modes is
       by (Some token) used = (static_of c (kind_at r4 e) b.modes, b.entry, through_points s e name there b token used n modes is held)
 
   points : (e : Expression) (modes : List Sharing) → AllByRecursion (IsExpression m4) (expressions e) → modes_at m4 e ≡ Some modes → is_cell (target r4 None e) ≡ true → IsBased c l reg e

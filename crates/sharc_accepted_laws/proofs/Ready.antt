@@ -1,34 +1,18 @@
 -- What the cells of lvalues stand on, by the laws of typed programs and of modes.
-use Rattle.std.proofs.{Common.{◌≡◌, ℕ, ◌+◌, ◌-◌, ◌<◌, ◌==◌, ◌&&◌, ◌||◌, Bool, true, false, cond, [], length, map, slice_index_or, refl, ap, sym, ◌∙◌, subst, arith, Option, Some, None, Contains}, lemmas.Bool.{false≢true, ne_eqb, ltb-true}}
-use Rattle.std.specs.{List.AllByRecursion, Prelude.{slice_get, nat_lt}}
-use Rattle.sharc_tree.specs.{declared.ctype.Base.Base, declared.ctype.Mode.Mode, declared.ctype.Path.Path, declared.tree.declaration.Declaration.Declaration, declared.tree.declaration.WrittenType.WrittenType, declared.tree.item.GlobalDefinition.GlobalDefinition, declared.tree.item.StructDefinition.StructDefinition, Low.IsLow, Placed.IsPlaced, Measures.in_function}
-use Rattle.sharc_tree.specs.declared.ctype.Base.TheVariants as base
-use Rattle.sharc_tree.specs.declared.ctype.Mode.TheVariants as mode
-use Rattle.sharc_names.specs.declared.fault.Named.TheVariants as named
-use Rattle.sharc_names.specs.{declared.types.Role.Role, Kinds.{Kind, object, array, is_array, element_kind, is_struct_base, is_struct_behind, mutex}, Types.{is_allowed, allowed_there}}
-use Rattle.sharc_names.specs.declared.types.Role.TheVariants as role
-use Rattle.sharc_ctype.specs.{declared.entity.Entity.Entity, declared.entity.Numbered.Numbered, Entities.{declared, entities_in, entity_at, positions_of, written_modes, first_depth}, Resolved.{Resolution, IsResolved, named_at, kind_at, global_at, structs_in, globals_in, functions_in, named_kind}}
-use Rattle.sharc_ctype_laws.specs.{Constraints.HasType, Declared.IsItself, Found.EachTypeFound, Laws.{EachNameOnce, OnlyNames, EachNamesItself, MeetsConstraints, OneType}}
-use Rattle.sharc_graph.specs.declared.graph.NodeFinding.TheVariants.{Apart}
-use Rattle.sharc_mode.specs.{Cells.{top_of, first_mode, global_cell}, Flows.{IsLeastAssignment, mode_found}, WellModed.WellModed, Moded.Assignment, Rows.{PathReading, written, targets_from, entity_row, modes_of}, Settled.otherwise_of, Sharings.{Lock, locked, lock_of, sharing_of}, WellFormed.place_of}
-use Rattle.sharc_mode.specs.declared.place.Place.TheVariants as place
-use Rattle.sharc_check.specs.{Constructs.{IsExpression, IsWritten}, RuleLaws.RulesAreMet, Paths.{IsAllowed, global_mutex, sibling_mutex, sibling_pointer, through_constant}}
-use Rattle.sharc_accepted_laws.specs.{Lvalues.{LvaluesFit, IsArrayOf, ArraysFit}, Shapes.form_of}
-use Rattle.sharc_accepted_laws.proofs.{Expressing.expressions_found, TargetForms.same_forms, Found.{IsThere, field_found, global_found, global_low}, Laying.{named_there, members_are}, TargetLists.place_there, Lvalues.{AreReady, names_cell, array_base}, TargetMembers.top_written, Moding.{PathNames, field_or_global}, Rows.IsKnown, Settling.{positioned, settled_by, SettledBy, a_mutex, is_written, is_meant, settled_from, get_dropped, dropped_length}, TargetSiblings.field_allowed, Whole.known, Globals.index_get, Origins.{same_lock, private_path as private_locked}, StaticSiblings.found_there as member_there}
-use Rattle.sharc_lemmas.proofs.{Bools.{or_false, and_false}, Options.none_some, Lists.of_each}
+use Rattle.sharc_accepted_laws.proofs.{Imports.{◌≡◌, ℕ, ◌+◌, ◌-◌, ◌<◌, ◌==◌, ◌&&◌, ◌||◌, Bool, true, false, cond, [], length, map, get_or as slice_index_or, refl, ap, sym, ◌∙◌, subst, arith, Option, Some, None, Contains, false≢true, ne_eqb, ltb-true, AllByRecursion, slice_get, nat_lt, Base, Mode, Path, Declaration, WrittenType, GlobalDefinition, StructDefinition, IsLow, IsPlaced, in_function, Named, Role, Kind, object, array, is_array, element_kind, is_struct_base, is_struct_behind, mutex, is_allowed, allowed_there, Entity, Numbered, declared, entities_in, entity_at, positions_of, written_modes, first_depth, Resolution, IsResolved, named_at, kind_at, global_at, structs_in, globals_in, functions_in, named_kind, HasType, IsItself, EachTypeFound, EachNameOnce, OnlyNames, EachNamesItself, MeetsConstraints, OneType, Apart, top_of, first_mode, global_cell, IsLeastAssignment, mode_found, WellModed, Assignment, PathReading, written, targets_from, entity_row, modes_of, otherwise_of, Lock, locked, lock_of, sharing_of, place_of, Place, IsExpression, IsWritten, RulesAreMet, IsAllowed, global_mutex, sibling_mutex, sibling_pointer, through_constant, LvaluesFit, IsArrayOf, ArraysFit, form_of, or_false, and_false, none_some, of_each}, Expressing.expressions_found, TargetForms.same_forms, Found.{IsThere, field_found, global_found, global_low}, Laying.{named_there, members_are}, TargetLists.place_there, Lvalues.{AreReady, names_cell, array_base}, TargetMembers.top_written, Moding.{PathNames, field_or_global}, Rows.IsKnown, Settling.{positioned, settled_by, SettledBy, a_mutex, is_written, is_meant, settled_from, get_dropped, dropped_length}, TargetSiblings.field_allowed, Whole.known, Globals.index_get, Origins.{same_lock, private_path as private_locked}, StaticSiblings.{found_there as member_there}}
 
 plain_by : (b : Base) (n : ℕ) → (is_struct_base b ≡ true → nat_lt 0 n ≡ true) → is_struct_behind 0 (object b n) ≡ false
-plain_by (base.Struct name) n some = let low = ltb-true 0 n (some refl) in ap (λ z. z && true) (ne_eqb n 0 (λ none. omega (arith, low, none)))
+plain_by (Base.Struct name) n some = let low = ltb-true 0 n (some refl) in ap (λ z. z && true) (ne_eqb n 0 (λ none. omega (arith, low, none)))
 plain_by _ n some = and_false (n == 0)
 
-struct_allowed : (w : WrittenType) → allowed_there role.Field w ≡ true → (b : Base) → w.ctype.base ≡ b → is_struct_base b ≡ true → nat_lt 0 (length w.ctype.levels - 1) ≡ true
-struct_allowed w is (base.Struct name) e struct = sym (or_false (nat_lt 0 (length w.ctype.levels - 1))) ∙ subst (λ b. is_allowed role.Field b (length w.ctype.levels - 1) ≡ true) e is
+struct_allowed : (w : WrittenType) → allowed_there Role.Field w ≡ true → (b : Base) → w.ctype.base ≡ b → is_struct_base b ≡ true → nat_lt 0 (length w.ctype.levels - 1) ≡ true
+struct_allowed w is (Base.Struct name) e struct = sym (or_false (nat_lt 0 (length w.ctype.levels - 1))) ∙ subst (λ b. is_allowed Role.Field b (length w.ctype.levels - 1) ≡ true) e is
 struct_allowed w is _ e struct = absurd (false≢true struct)
 
 -- ---- rows
 row_forms : (m : Assignment) (first count : ℕ) (how : PathReading) (what : Role)
     → map form_of (modes_of m (targets_from what (record { first = first; count = count; reading = how }))) ≡ map form_of (modes_of m (targets_from what (record { first = first; count = count; reading = written })))
-row_forms m first count how role.Global = by (count == 0)
+row_forms m first count how Role.Global = by (count == 0)
   where
     by : (b : Bool) → map form_of (modes_of m (cond b (record { first = first; count = count; reading = how }) (record { first = first + 1; count = count - 1; reading = how })))
         ≡ map form_of (modes_of m (cond b (record { first = first; count = count; reading = written }) (record { first = first + 1; count = count - 1; reading = written })))
@@ -43,58 +27,58 @@ entity_forms m how (Some n) = row_forms m n.first (positions_of n.entity) how n.
 -- a mode that is locked is written
 record IsLockedMode (x : Mode) (l : Lock) : Type 0 where
   path : Path
-  is : x ≡ mode.Locked path
+  is : x ≡ Mode.Locked path
   lock : lock_of path ≡ l
 
 locked_mode_is : (x : Mode) (l : Lock) → sharing_of x ≡ locked l → IsLockedMode x l
-locked_mode_is (mode.Locked path) l h = record { path = path; is = refl; lock = same_lock _ _ h }
+locked_mode_is (Mode.Locked path) l h = record { path = path; is = refl; lock = same_lock _ _ h }
 locked_mode_is _ l h = cc
 
-racy_locked : (path : Path) → mode.Locked path ≡ mode.Racy → ⊥
+racy_locked : (path : Path) → Mode.Locked path ≡ Mode.Racy → ⊥
 racy_locked path h = cc
 
-found_locked : (level : Option Mode) (finding : _) (path : Path) → mode_found level finding ≡ mode.Locked path → level ≡ Some (mode.Locked path)
+found_locked : (level : Option Mode) (finding : _) (path : Path) → mode_found level finding ≡ Mode.Locked path → level ≡ Some (Mode.Locked path)
 found_locked (Some x) finding path h = ap Some h
 found_locked None Apart path h = cc
 found_locked None _ path h = cc
 
-field_no_local : (what : Role) → what ≡ role.Field → place_of what ≡ place.Local → ⊥
+field_no_local : (what : Role) → what ≡ Role.Field → place_of what ≡ Place.Local → ⊥
 field_no_local what is local = by (sym (ap place_of is) ∙ local)
   where
-    by : place.Field ≡ place.Local → ⊥
+    by : Place.Field ≡ Place.Local → ⊥
     by h = cc
 
 -- in a global a path names a global mutex
-global_names : (r : Resolution) (e : Entity) (depth : ℕ) (path : Path) → place_of e.role ≡ place.Global → IsAllowed r e depth path → (k : ℕ) × (named_at r (lock_of path).first ≡ named.Global k) × (named_kind r (named.Global k) ≡ mutex)
+global_names : (r : Resolution) (e : Entity) (depth : ℕ) (path : Path) → place_of e.role ≡ Place.Global → IsAllowed r e depth path → (k : ℕ) × (named_at r (lock_of path).first ≡ Named.Global k) × (named_kind r (Named.Global k) ≡ mutex)
 global_names r e depth _ is (global_mutex {text} {token} {g} names kind) = (g, names, kind)
 global_names r e depth _ is (sibling_mutex {text} {token} {f} stands names kind) = absurd (apart (sym is ∙ stands))
   where
-    apart : place.Global ≡ place.Field → ⊥
+    apart : Place.Global ≡ Place.Field → ⊥
     apart h = cc
 global_names r e depth _ is (sibling_pointer {text} {token} {f} stands top names lock targets) = absurd (apart (sym is ∙ stands))
   where
-    apart : place.Global ≡ place.Field → ⊥
+    apart : Place.Global ≡ Place.Field → ⊥
     apart h = cc
 global_names r e depth _ is (through_constant {text} {m} {token} {x} stands names constant behind) = absurd (apart (sym is ∙ stands))
   where
-    apart : place.Global ≡ place.Local → ⊥
+    apart : Place.Global ≡ Place.Local → ⊥
     apart h = cc
 
 module _ (m : Assignment) (k : IsKnown m) (low : IsLow m.typed.program) where
-  pub global_lock : (g : ℕ) (d : GlobalDefinition) → global_at m.typed g ≡ Some d → (l : Lock) → global_cell m (Some d) ≡ locked l → (j : ℕ) × (named_at m.typed l.first ≡ named.Global j) × (named_kind m.typed (named.Global j) ≡ mutex)
-  global_lock g d at l is = (named_global.0, subst (λ z. named_at m.typed z.first ≡ named.Global named_global.0) w.lock named_global.1, named_global.2)
+  pub global_lock : (g : ℕ) (d : GlobalDefinition) → global_at m.typed g ≡ Some d → (l : Lock) → global_cell m (Some d) ≡ locked l → (j : ℕ) × (named_at m.typed l.first ≡ Named.Global j) × (named_kind m.typed (Named.Global j) ≡ mutex)
+  global_lock g d at l is = (named_global.0, subst (λ z. named_at m.typed z.first ≡ Named.Global named_global.0) w.lock named_global.1, named_global.2)
     where
       has : Contains (globals_in m.typed.program.items) d
       has = place_there (globals_in m.typed.program.items) g d at
 
-      there : IsThere m (declared role.Global d.declaration)
+      there : IsThere m (declared Role.Global d.declaration)
       there = global_found m k.found d has
 
       n : Numbered
       n = there.numbered
 
-      w : IsLockedMode (slice_index_or m.modes there.numbered.first mode.Private) l
-      w = locked_mode_is (slice_index_or m.modes there.numbered.first mode.Private) l (sym (ap (first_mode m) there.found) ∙ is)
+      w : IsLockedMode (slice_index_or m.modes there.numbered.first Mode.Private) l
+      w = locked_mode_is (slice_index_or m.modes there.numbered.first Mode.Private) l (sym (ap (first_mode m) there.found) ∙ is)
 
       no_depth : first_depth there.numbered.entity.role ≡ 0
       no_depth = ap first_depth there.role
@@ -106,30 +90,30 @@ module _ (m : Assignment) (k : IsKnown m) (low : IsLow m.typed.program) where
           let many : 0 < length there.numbered.entity.written.ctype.levels = subst (λ (x : WrittenType). 0 < length x.ctype.levels) (sym there.written) (global_low m.typed.program.items low d has) in
           omega (arith, size, depth, many)
 
-      mode_there : slice_get m.modes (there.numbered.first + 0) ≡ Some (mode.Locked w.path)
-      mode_there = let e : there.numbered.first + 0 ≡ there.numbered.first = omega arith in ap (slice_get m.modes) e ∙ index_get m.modes there.numbered.first (mode.Locked w.path) w.is (private_locked w.path)
+      mode_there : slice_get m.modes (there.numbered.first + 0) ≡ Some (Mode.Locked w.path)
+      mode_there = let e : there.numbered.first + 0 ≡ there.numbered.first = omega arith in ap (slice_get m.modes) e ∙ index_get m.modes there.numbered.first (Mode.Locked w.path) w.is (private_locked w.path)
 
-      by : SettledBy there.numbered.entity.written.ctype.base (otherwise_of there.numbered.entity.role there.numbered.entity.written.ctype.levels) (written_modes there.numbered.entity) 0 (mode.Locked w.path)
-          → IsWritten there.numbered.entity (first_depth there.numbered.entity.role + 0) (mode.Locked w.path)
+      by : SettledBy there.numbered.entity.written.ctype.base (otherwise_of there.numbered.entity.role there.numbered.entity.written.ctype.levels) (written_modes there.numbered.entity) 0 (Mode.Locked w.path)
+          → IsWritten there.numbered.entity (first_depth there.numbered.entity.role + 0) (Mode.Locked w.path)
       by (a_mutex same last) = absurd (racy_locked w.path same)
-      by (is_written h) = get_dropped (first_depth there.numbered.entity.role) there.numbered.entity.written.ctype.levels 0 (Some (mode.Locked w.path)) h
-      by (is_meant h) = absurd (none_some (mode.Locked w.path) (sym (ap (λ z. otherwise_of z there.numbered.entity.written.ctype.levels) there.role) ∙ h))
+      by (is_written h) = get_dropped (first_depth there.numbered.entity.role) there.numbered.entity.written.ctype.levels 0 (Some (Mode.Locked w.path)) h
+      by (is_meant h) = absurd (none_some (Mode.Locked w.path) (sym (ap (λ z. otherwise_of z there.numbered.entity.written.ctype.levels) there.role) ∙ h))
 
-      written_there : IsWritten there.numbered.entity (first_depth there.numbered.entity.role + 0) (mode.Locked w.path)
+      written_there : IsWritten there.numbered.entity (first_depth there.numbered.entity.role + 0) (Mode.Locked w.path)
       written_there =
-          let s = settled_by m k.least there.numbered (positioned (entities_in m.typed.program.items) 0 there.numbered there.is_entity) 0 (mode.Locked w.path) position mode_there in
-          by (settled_from there.numbered.entity.written.ctype.base (otherwise_of there.numbered.entity.role there.numbered.entity.written.ctype.levels) (written_modes there.numbered.entity) 0 (mode.Locked w.path) position (found_locked _ s.finding w.path s.found))
+          let s = settled_by m k.least there.numbered (positioned (entities_in m.typed.program.items) 0 there.numbered there.is_entity) 0 (Mode.Locked w.path) position mode_there in
+          by (settled_from there.numbered.entity.written.ctype.base (otherwise_of there.numbered.entity.role there.numbered.entity.written.ctype.levels) (written_modes there.numbered.entity) 0 (Mode.Locked w.path) position (found_locked _ s.finding w.path s.found))
 
-      named_global : (j : ℕ) × (named_at m.typed (lock_of w.path).first ≡ named.Global j) × (named_kind m.typed (named.Global j) ≡ mutex)
+      named_global : (j : ℕ) × (named_at m.typed (lock_of w.path).first ≡ Named.Global j) × (named_kind m.typed (Named.Global j) ≡ mutex)
       named_global =
           global_names m.typed there.numbered.entity (first_depth there.numbered.entity.role + 0) w.path (ap place_of there.role)
           (k.rules.m4.forms there.numbered (first_depth there.numbered.entity.role + 0) w.path there.is_entity written_there)
 
-  field_path : (s : StructDefinition) (d : Declaration) → Contains (structs_in m.typed.program.items) s → Contains s.fields d → (path : Path) → top_of d.written.ctype.levels ≡ Some (mode.Locked path) → PathNames m.typed (lock_of path)
+  field_path : (s : StructDefinition) (d : Declaration) → Contains (structs_in m.typed.program.items) s → Contains s.fields d → (path : Path) → top_of d.written.ctype.levels ≡ Some (Mode.Locked path) → PathNames m.typed (lock_of path)
   field_path s d is_struct is_member path top =
       let there = field_found m k.found s d is_struct is_member in
       field_or_global m.typed there.numbered.entity 0 path (field_no_local there.numbered.entity.role there.role)
-      (k.rules.m4.forms there.numbered 0 path there.is_entity (subst (λ (w : WrittenType). slice_get w.ctype.levels 0 ≡ Some (Some (mode.Locked path))) (sym there.written) (top_written d.written.ctype.levels (mode.Locked path) top)))
+      (k.rules.m4.forms there.numbered 0 path there.is_entity (subst (λ (w : WrittenType). slice_get w.ctype.levels 0 ≡ Some (Some (Mode.Locked path))) (sym there.written) (top_written d.written.ctype.levels (Mode.Locked path) top)))
 
 ready_of : EachNameOnce → OnlyNames → EachTypeFound → EachNamesItself → MeetsConstraints → OneType → RulesAreMet → (m : Assignment) → IsResolved m.typed → IsPlaced m.typed.program → IsLow m.typed.program → IsLeastAssignment m → WellModed m → AreReady m
 ready_of once only found itself meets one met m resolved placed low least well = ready
@@ -150,7 +134,7 @@ ready_of once only found itself meets one met m resolved placed low least well =
       members = members_are m placed;
       struct_found = named_there (structs_in m.typed.program.items);
       member_found = member_there;
-      field_itself = λ s d is_struct is_member. (of_each (IsItself m.typed named.Field) s.fields d (of_each (λ (z : StructDefinition). AllByRecursion (IsItself m.typed named.Field) z.fields) (structs_in m.typed.program.items) s k.fields is_struct) is_member).1;
+      field_itself = λ s d is_struct is_member. (of_each (IsItself m.typed Named.Field) s.fields d (of_each (λ (z : StructDefinition). AllByRecursion (IsItself m.typed Named.Field) z.fields) (structs_in m.typed.program.items) s k.fields is_struct) is_member).1;
       field_path = field_path m k low;
       field_plain = λ s d is_struct is_member. plain_by d.written.ctype.base (length d.written.ctype.levels - 1) (λ struct. struct_allowed d.written (field_allowed once only m.typed resolved placed low s d is_struct is_member) d.written.ctype.base refl struct);
       field_forms = λ how token. entity_forms m how (entity_at m.typed token token);

@@ -1,20 +1,6 @@
 -- What the cells of an object are and refer to does not change by a cast.
-use Rattle.std.proofs.Common.{◌≡◌, ℕ, zero, suc, ◌+◌, Bool, true, false, cond, List, [], ◌∷◌, ◌++◌, length, map, drop, refl, ap, sym, ◌∙◌, subst, arith, append_assoc, length-append, option_map, bytes_eq, Option, Some, None, Contains}
-use Rattle.std.specs.{Prelude.slice_index_or, List.AllByRecursion}
-use Rattle.sharc_tree.specs.{declared.ctype.Base.Base, declared.token.Span.Span, declared.tree.declaration.Declaration.Declaration, declared.tree.declaration.WrittenType.WrittenType, declared.tree.item.StructDefinition.StructDefinition, Measures.in_function, Tree.Expression}
-use Rattle.sharc_tree.specs.declared.ctype.Base.TheVariants as base
+use Rattle.sharc_accepted_laws.proofs.{Imports.{◌≡◌, ℕ, zero, suc, ◌+◌, Bool, true, false, cond, List, [], ◌∷◌, ◌++◌, length, map, drop, refl, ap, sym, ◌∙◌, subst, arith, append_assoc, length-append, option_map, bytes_eq, Option, Some, None, Contains, get_or as slice_index_or, AllByRecursion, Base, Span, Declaration, WrittenType, StructDefinition, in_function, Expression, Named, Kind, object, is_pointer, declared_kind, Resolution, structs_in, functions_in, named_at, kind_at, HasType, a_cast, MeetsConstraints, OneType, pointed, Assignment, base_of, RowLaws, Targets, written, deeper, cast_row, declared_row, row_at, modes_of, modes_at, Sharing, private, readonly, locked, racy, dynamic, same_all, IsExpression, RulesAreMet, Context, TypeLock, FieldLock, OfType, OfGlobals, OfElement, FieldMode, Content, StaticType, no_field, field_at, InRegister as Through, Label, Itself, SameLock, AllSame, no_lock, IsSameFieldLock, IsSameContent, Recasts, CastsRecast, IsAccepted, lock_at, locks_at, static_of, NumbersFound, ExpressionsFound, Shape, stars_in, form_of, shape_of, row_shape, shapes, number, field_lock, field_locks, table_lock, type_locks, lock_count, own_mode, base_content, pointer_content, declared_content, single, members, struct_fields, base_fields, shape_fields, shape_row, targets_of, same_some, none_some, of_each}, Points.nth, Same.{forms_of_same, locks_of_same}}
 use Rattle.sharc_tree.specs.Tree as tree
-use Rattle.sharc_names.specs.{declared.fault.Named.Named, Kinds.{Kind, object, is_pointer, declared_kind}}
-use Rattle.sharc_names.specs.declared.fault.Named.TheVariants as named
-use Rattle.sharc_ctype.specs.Resolved.{Resolution, structs_in, functions_in, named_at, kind_at}
-use Rattle.sharc_ctype_laws.specs.{Constraints.{HasType, a_cast}, Laws.{MeetsConstraints, OneType}}
-use Rattle.sharc_mode.specs.{Cells.pointed, Moded.Assignment, Notes.base_of, RowLaws.RowLaws, Rows.{Targets, written, deeper, cast_row, declared_row, row_at, modes_of, modes_at}, Sharings.{Sharing, private, readonly, locked, racy, dynamic, same_all}}
-use Rattle.sharc_check.specs.{Constructs.IsExpression, RuleLaws.RulesAreMet}
-use Rattle.sharc_flat.specs.Scope.{Context}
-use Rattle.sharc_invariant.specs.{Types.{Lock as TypeLock, FieldLock, OfType, OfGlobals, OfElement, FieldMode, Content, StaticType, no_field, field_at}, Types.Lock.Through, Labels.{Label, Itself, SameLock, AllSame}, Typed.{no_lock, IsSameFieldLock, IsSameContent, Recasts}}
-use Rattle.sharc_accepted_laws.specs.{Casting.CastsRecast, StaticLaws.IsAccepted, Static.{lock_at, locks_at, static_of}, TargetLaws.{NumbersFound, ExpressionsFound}, Shapes.{Shape, stars_in, form_of, shape_of, row_shape, shapes, number}, Targets.{field_lock, field_locks, lock_named as table_lock, type_locks, lock_count, own_mode, base_content, pointer_content, declared_content, single, members, struct_fields, base_fields, shape_fields, shape_row, targets_of}}
-use Rattle.sharc_accepted_laws.proofs.{Points.nth, Same.{forms_of_same, locks_of_same}}
-use Rattle.sharc_lemmas.proofs.{Options.{same_some, none_some}, Lists.of_each}
 
 -- ---- locks
 same_itself : (l : Label) (r : ℕ) (x : TypeLock) → SameLock l r x x
@@ -74,14 +60,14 @@ module _ (c : Context) (l : Label) (r : ℕ) (s t : StaticType) where
   locks_declared res n (locked lock ∷ rest) = (one_declared (field_lock res n lock) (no_type (named_at res lock.first)), locks_declared res n rest)
     where
       no_type : (w : Named) (k : ℕ) → table_lock res n w ≡ OfType k → ⊥
-      no_type (named.Field f) k h = cc
+      no_type (Named.Field f) k h = cc
       no_type _ k h = cc
 
   abbrev SameHolds : Content → Content → Type 0
   SameHolds a b = IsSameContent l r s t a b
 
   base_same : (b : Base) → SameHolds (base_content b) (base_content b)
-  base_same (base.Struct name) = refl
+  base_same (Base.Struct name) = refl
   base_same _ = refl
 
   declared_same : (m : Assignment) (n : ℕ) (d : Declaration) → SameHolds (declared_content m n d) (declared_content m n d)
@@ -98,16 +84,16 @@ module _ (c : Context) (l : Label) (r : ℕ) (s t : StaticType) where
   members_same m q p n (suc i) (d ∷ rest) = members_same m q p (n + 1) i rest
 
   single_same : (q p : FieldMode) (b : Base) (i : ℕ) → SameHolds (slice_index_or (single q b ∷ []) i no_field).holds (slice_index_or (single p b ∷ []) i no_field).holds
-  single_same q p base.Int zero = refl
-  single_same q p base.Char zero = refl
-  single_same q p base.Long zero = refl
-  single_same q p base.Mutex zero = refl
-  single_same q p base.Void zero = refl
-  single_same q p (base.Struct name) zero = refl
+  single_same q p Base.Int zero = refl
+  single_same q p Base.Char zero = refl
+  single_same q p Base.Long zero = refl
+  single_same q p Base.Mutex zero = refl
+  single_same q p Base.Void zero = refl
+  single_same q p (Base.Struct name) zero = refl
   single_same q p b (suc i) = refl
 
   structs_same : (m : Assignment) (q p : FieldMode) (i : ℕ) (list : List StructDefinition) (name : List ℕ) → SameHolds (slice_index_or (struct_fields m q list name) i no_field).holds (slice_index_or (struct_fields m p list name) i no_field).holds
-  structs_same m q p i [] name = single_same q p (base.Struct name) i
+  structs_same m q p i [] name = single_same q p (Base.Struct name) i
   structs_same m q p i (x ∷ rest) name = by (bytes_eq x.name.text name) (structs_same m q p i rest name)
     where
       by : (b : Bool) → SameHolds (slice_index_or (struct_fields m q rest name) i no_field).holds (slice_index_or (struct_fields m p rest name) i no_field).holds
@@ -116,7 +102,7 @@ module _ (c : Context) (l : Label) (r : ℕ) (s t : StaticType) where
       by false later = later
 
   bases_same : (m : Assignment) (q p : FieldMode) (b : Base) (i : ℕ) → SameHolds (slice_index_or (base_fields m q b) i no_field).holds (slice_index_or (base_fields m p b) i no_field).holds
-  bases_same m q p (base.Struct name) i = structs_same m q p i (structs_in m.typed.program.items) name
+  bases_same m q p (Base.Struct name) i = structs_same m q p i (structs_in m.typed.program.items) name
   bases_same m q p k i = single_same q p k i
 
   -- ---- elements
@@ -142,7 +128,7 @@ structs_many m q p (x ∷ rest) name = by (bytes_eq x.name.text name) (structs_m
     by false later = later
 
 bases_many : (m : Assignment) (q p : FieldMode) (b : Base) → length (base_fields m q b) ≡ length (base_fields m p b)
-bases_many m q p (base.Struct name) = structs_many m q p (structs_in m.typed.program.items) name
+bases_many m q p (Base.Struct name) = structs_many m q p (structs_in m.typed.program.items) name
 bases_many m q p _ = refl
 
 fields_many : (m : Assignment) (b : Base) (q p : Sharing) (rest : List Sharing) → length (shape_fields m b (map form_of (q ∷ rest))) ≡ length (shape_fields m b (map form_of (p ∷ rest)))

@@ -1,16 +1,5 @@
 -- Results.
-use Rattle.std.proofs.Common.{◌≡◌, ℕ, List, [], ap, sym, ◌∙◌, subst, arith}
-use Rattle.sharc_names.specs.Kinds.{declared_kind}
-use Rattle.sharc_ctype.specs.{Entities.result_of, Resolved.{functions_in, called_kind, result_kind_of}}
-use Rattle.sharc_ctype_laws.specs.{Found.EachTypeFound, Laws.EachPathFound}
-use Rattle.sharc_mode.specs.Rows.{written, declared_row, result_row, called_row, modes_of}
-use Rattle.sharc_flat.specs.{declared.slot.Slot.Slot, Scope.Context}
-use Rattle.sharc_invariant.specs.{Types.Mentions, Labels.Refers}
-use Rattle.sharc_check.specs.Constructs.{IsFunction}
-use Rattle.sharc_accepted_laws.specs.{StaticLaws.IsAccepted, Results.{where_stand, ResultsStay, CallsGive, ResultLaws}, Scopes.{ScopeLaws, AllStand}, Static.{static_of, result_type}}
-use Rattle.sharc_tree.specs.Tree.{Function}
-use Rattle.sharc_accepted_laws.proofs.Places.{InFile, file_known, file_stands, reads_written}
-use Rattle.sharc_lemmas.proofs.Lists.{of_each}
+use Rattle.sharc_accepted_laws.proofs.{Imports.{◌≡◌, ℕ, List, [], ap, sym, ◌∙◌, subst, arith, declared_kind, result_of, functions_in, called_kind, result_kind_of, EachTypeFound, EachPathFound, written, declared_row, result_row, called_row, modes_of, Slot, Context, Mentions, Refers, IsFunction, IsAccepted, where_stand, ResultsStay, CallsGive, ResultLaws, ScopeLaws, AllStand, static_of, result_type, Function, of_each}, Places.{InFile, file_known, file_stands, reads_written}}
 
 module _ (scopes : ScopeLaws) (found : EachTypeFound) (paths : EachPathFound) (c : Context) (a : IsAccepted c.program) (f : Function) (is : IsFunction c.program f) where
   stands : AllStand c.program [] (modes_of c.program (declared_row c.program.typed written f.name.site.token))

@@ -1,30 +1,14 @@
 -- The rows of a well-moded program are good.
-use Rattle.std.proofs.{Common.{◌≡◌, ℕ, ◌+◌, ◌<◌, ◌≤◌, Bool, true, false, cond, List, [], ◌∷◌, length, map, refl, ap, sym, ◌∙◌, subst, arith, Option, Some, Contains, bytes_eq}, lemmas.Bool.{false≢true, and_parts}}
-use Rattle.std.specs.{List.AllByRecursion, Prelude.slice_get}
-use Rattle.sharc_tree.specs.{declared.ctype.Base.Base, declared.ctype.Mode.Mode, declared.ctype.Path.Path, declared.ctype.Path.TheVariants.{One, Through}, declared.tree.declaration.Declaration.Declaration, declared.tree.declaration.WrittenType.WrittenType, declared.tree.item.StructDefinition.StructDefinition}
-use Rattle.sharc_tree.specs.declared.ctype.Base.TheVariants as base
-use Rattle.sharc_tree.specs.declared.ctype.Mode.TheVariants as mode
-use Rattle.sharc_names.specs.declared.fault.Named.TheVariants as named
-use Rattle.sharc_names.specs.declared.types.Role.TheVariants as role
-use Rattle.sharc_names.specs.Kinds.{is_pointer, is_struct_base, declared_kind}
-use Rattle.sharc_ctype.specs.{declared.entity.Numbered.Numbered, Entities.{declared, entities_in, positions_of, first_depth}, Resolved.{Resolution, named_at, named_kind, declaration_at, structs_in}}
-use Rattle.sharc_ctype_laws.specs.{Declared.IsItself, Found.IsFound}
-use Rattle.sharc_meaning.specs.Cells.{field_place, field_place_named}
-use Rattle.sharc_mode.specs.{Cells.{is_mutex_kind, is_behind_pointer, top_of}, Flows.IsLeastAssignment, Moded.Assignment, Rows.{written, entity_row, declared_row, modes_of}, Sharings.{is_field, is_sibling_lock, lock_of}}
-use Rattle.sharc_check.specs.{Constructs.{IsEntity, IsWritten}, Paths.{IsLockPointer, IsAllowed, global_mutex, sibling_mutex, sibling_pointer, through_constant}, Rules.MeetsRules}
-use Rattle.sharc_invariant.specs.Types.{FieldMode, Pointer, FieldMode as field}
-use Rattle.sharc_accepted_laws.specs.{Shapes.{Form, private_form, Shape, form_of, shape_of, shapes, number}, Targets.{is_private_form, starts_private, own_mode, lock_count, type_locks, members, struct_fields, base_fields, shape_fields, shape_row, targets_of}}
-use Rattle.sharc_accepted_laws.proofs.{Fits.{AreFit, IsFitShape, shapes_fit, entity_there, field_shared, private_form_is}, TargetForms.{entity_length, skipped}, Found.{IsThere, field_found}, Good.{IsOwn, AreGood, own_of, own_racy, single_are, none_are, one_good, pointer_good}, TargetMembers.{IsPartner, IsMember, levels_many, top_written, members_good}, Numbers.shapes_closed, Settling.{positioned, dropped_length}, TargetSiblings.IsSibling, Table.{IsGoodRow, no_row_good}}
-use Rattle.sharc_lemmas.proofs.{Options.{same_some, none_some}, Lists.{head_there, place_of_element, of_each, to_each, tail_there, mapped_each}}
+use Rattle.sharc_accepted_laws.proofs.{Imports.{◌≡◌, ℕ, ◌+◌, ◌<◌, ◌≤◌, Bool, true, false, cond, List, [], ◌∷◌, length, map, refl, ap, sym, ◌∙◌, subst, arith, Option, Some, Contains, bytes_eq, false≢true, and_parts, AllByRecursion, slice_get, Base, Mode, Path, One, Through, Declaration, WrittenType, StructDefinition, Named, Role, is_pointer, is_struct_base, declared_kind, Numbered, declared, entities_in, positions_of, first_depth, Resolution, named_at, named_kind, declaration_at, structs_in, IsItself, IsFound, field_place, field_place_named, is_mutex_kind, is_behind_pointer, top_of, IsLeastAssignment, Assignment, written, entity_row, declared_row, modes_of, is_field, is_sibling_lock, lock_of, IsEntity, IsWritten, IsLockPointer, IsAllowed, global_mutex, sibling_mutex, sibling_pointer, through_constant, MeetsRules, FieldMode, Pointer, FieldMode as field, Form, private_form, Shape, form_of, shape_of, shapes, number, is_private_form, starts_private, own_mode, lock_count, type_locks, members, struct_fields, base_fields, shape_fields, shape_row, targets_of, same_some, none_some, head_there, place_of_element, of_each, to_each, tail_there, mapped_each}, Fits.{AreFit, IsFitShape, shapes_fit, entity_there, field_shared, private_form_is}, TargetForms.{entity_length, skipped}, Found.{IsThere, field_found}, Good.{IsOwn, AreGood, own_of, own_racy, single_are, none_are, one_good, pointer_good}, TargetMembers.{IsPartner, IsMember, levels_many, top_written, members_good}, Numbers.shapes_closed, Settling.{positioned, dropped_length}, TargetSiblings.IsSibling, Table.{IsGoodRow, no_row_good}}
 
 -- what the laws of typed programs and of modes give
 pub record IsKnown (m : Assignment) : Type 0 where
   pub least : IsLeastAssignment m
   pub rules : MeetsRules m
   pub found : AllByRecursion (IsFound m.typed) (entities_in m.typed.program.items)
-  pub fields : AllByRecursion (λ (s : StructDefinition). AllByRecursion (IsItself m.typed named.Field) s.fields) (structs_in m.typed.program.items)
-  pub sibling : (s : StructDefinition) (d : Declaration) (path : Path) (f : ℕ) → Contains (structs_in m.typed.program.items) s → Contains s.fields d → Contains d.written.ctype.levels (Some (mode.Locked path))
-      → named_at m.typed (lock_of path).first ≡ named.Field f → IsSibling s.fields f
+  pub fields : AllByRecursion (λ (s : StructDefinition). AllByRecursion (IsItself m.typed Named.Field) s.fields) (structs_in m.typed.program.items)
+  pub sibling : (s : StructDefinition) (d : Declaration) (path : Path) (f : ℕ) → Contains (structs_in m.typed.program.items) s → Contains s.fields d → Contains d.written.ctype.levels (Some (Mode.Locked path))
+      → named_at m.typed (lock_of path).first ≡ Named.Field f → IsSibling s.fields f
   pub place : (s : StructDefinition) (k : ℕ) (d : Declaration) → Contains (structs_in m.typed.program.items) s → slice_get s.fields k ≡ Some d → field_place m.typed d.name.site.token ≡ k
 
 -- ---- lists
@@ -40,7 +24,7 @@ top_there (y ∷ below) x is = subst (λ z. Contains (y ∷ below) z) is (head_t
 -- what a lock path behind a pointer names
 record IsPointerPath (r : Resolution) (path : Path) : Type 0 where
   name : ℕ
-  names : named_at r (lock_of path).first ≡ named.Field name
+  names : named_at r (lock_of path).first ≡ Named.Field name
   pointer : IsLockPointer r name
 
 pointer_path : (r : Resolution) (e : _) (depth : ℕ) (path : Path) → IsAllowed r e depth path → is_behind_pointer r (lock_of path) ≡ true → IsPointerPath r path
@@ -74,12 +58,12 @@ module _ (m : Assignment) (known : IsKnown m) where
       omega (arith, many, positions, size, depth)
     where
       one_more : (w : _) → first_depth w + skipped w ≡ 1
-      one_more role.Cast = refl
+      one_more Role.Cast = refl
       one_more _ = refl
 
   -- ---- fields of structs
   module _ (s : StructDefinition) (is_struct : Contains (structs_in m.typed.program.items) s) (d : Declaration) (is_member : Contains s.fields d) where
-    there : IsThere m (declared role.Field d)
+    there : IsThere m (declared Role.Field d)
     there = field_found m known.found s d is_struct is_member
 
     row_is : declared_row m.typed written d.name.site.token ≡ entity_row written (Some there.numbered)
@@ -91,12 +75,12 @@ module _ (m : Assignment) (known : IsKnown m) where
     is_pointer_there : is_pointer (declared_kind d.written) ≡ true → is_pointer (declared_kind there.numbered.entity.written) ≡ true
     is_pointer_there pointer = subst (λ (w : WrittenType). is_pointer (declared_kind w) ≡ true) (sym there.written) pointer
 
-    partner : (path : Path) → top_of d.written.ctype.levels ≡ Some (mode.Locked path) → is_behind_pointer m.typed (lock_of path) ≡ true → IsPartner s.fields (field_place_named m.typed (named_at m.typed (lock_of path).first))
+    partner : (path : Path) → top_of d.written.ctype.levels ≡ Some (Mode.Locked path) → is_behind_pointer m.typed (lock_of path) ≡ true → IsPartner s.fields (field_place_named m.typed (named_at m.typed (lock_of path).first))
     partner path top behind =
-        let p = pointer_path m.typed there.numbered.entity 0 path (known.rules.m4.forms there.numbered 0 path there.is_entity (at_top (mode.Locked path) top)) behind in
-        let w = known.sibling s d path p.name is_struct is_member (top_there d.written.ctype.levels (mode.Locked path) top) p.names in
+        let p = pointer_path m.typed there.numbered.entity 0 path (known.rules.m4.forms there.numbered 0 path there.is_entity (at_top (Mode.Locked path) top)) behind in
+        let w = known.sibling s d path p.name is_struct is_member (top_there d.written.ctype.levels (Mode.Locked path) top) p.names in
         let k = place_of_element s.fields w.sibling w.has in
-        let itself : IsItself m.typed named.Field w.sibling = of_each (IsItself m.typed named.Field) s.fields w.sibling (of_each (λ (z : StructDefinition). AllByRecursion (IsItself m.typed named.Field) z.fields) (structs_in m.typed.program.items) s known.fields is_struct) w.has in
+        let itself : IsItself m.typed Named.Field w.sibling = of_each (IsItself m.typed Named.Field) s.fields w.sibling (of_each (λ (z : StructDefinition). AllByRecursion (IsItself m.typed Named.Field) z.fields) (structs_in m.typed.program.items) s known.fields is_struct) w.has in
         let same : w.sibling ≡ p.pointer.field = same_some _ _ (sym itself.1 ∙ ap (declaration_at m.typed) w.is ∙ p.pointer.declared) in
         let place : field_place_named m.typed (named_at m.typed (lock_of path).first) ≡ k.0 = ap (field_place_named m.typed) p.names ∙ ap (field_place m.typed) (sym w.is) ∙ known.place s k.0 w.sibling is_struct k.1 in
         record {
@@ -108,8 +92,8 @@ module _ (m : Assignment) (known : IsKnown m) where
 
     pub is_member_of : IsMember m s.fields d
     is_member_of = record {
-      not_private = λ top. known.rules.m6 there.numbered 0 there.is_entity there.role (at_top mode.Private top);
-      not_racy = λ pointer top. (known.rules.m5 there.numbered 0 mode.Racy there.is_entity (at_top mode.Racy top)).pointer (let many = levels_many there.numbered.entity.written (is_pointer_there pointer) in omega (arith, many)) refl;
+      not_private = λ top. known.rules.m6 there.numbered 0 there.is_entity there.role (at_top Mode.Private top);
+      not_racy = λ pointer top. (known.rules.m5 there.numbered 0 Mode.Racy there.is_entity (at_top Mode.Racy top)).pointer (let many = levels_many there.numbered.entity.written (is_pointer_there pointer) in omega (arith, many)) refl;
       shape = λ pointer.
           subst (λ row. Contains (shapes m) (shape_of d.written.ctype.base (modes_of m row))) (sym row_is)
           (subst (λ (w : WrittenType). Contains (shapes m) (shape_of w.ctype.base (modes_of m (entity_row written (Some there.numbered))))) there.written
@@ -123,7 +107,7 @@ module _ (m : Assignment) (known : IsKnown m) where
   -- ---- elements
   pub struct_good : (list : List StructDefinition) → ((s : StructDefinition) → Contains list s → Contains (structs_in m.typed.program.items) s) → (shared : Bool) (q : FieldMode) → IsOwn q shared → (q ≡ field.Racy → ⊥) → (name : List ℕ)
       → AreGood (targets_of m) shared (struct_fields m q list name)
-  struct_good [] all shared q own other name = single_are (targets_of m) shared q (base.Struct name) own
+  struct_good [] all shared q own other name = single_are (targets_of m) shared q (Base.Struct name) own
   struct_good (s ∷ rest) all shared q own other name = by (bytes_eq s.name.text name) (struct_good rest (λ z has. all z (tail_there s z rest has)) shared q own other name)
     where
       by : (b : Bool) → AreGood (targets_of m) shared (struct_fields m q rest name) → AreGood (targets_of m) shared (cond b (members m q 0 s.fields) (struct_fields m q rest name))
@@ -131,7 +115,7 @@ module _ (m : Assignment) (known : IsKnown m) where
       by false h = h
 
   pub base_good : (b : Base) (shared : Bool) (q : FieldMode) → IsOwn q shared → (is_struct_base b ≡ true → q ≡ field.Racy → ⊥) → AreGood (targets_of m) shared (base_fields m q b)
-  base_good (base.Struct name) shared q own other = struct_good (structs_in m.typed.program.items) (λ s has. has) shared q own (other refl) name
+  base_good (Base.Struct name) shared q own other = struct_good (structs_in m.typed.program.items) (λ s has. has) shared q own (other refl) name
   base_good k shared q own other = single_are (targets_of m) shared q k own
 
   -- ---- rows

@@ -1,20 +1,14 @@
 -- Modes that are the same, target by target, make one static type.
-use Rattle.std.proofs.{Common.{◌≡◌, ℕ, true, List, [], ◌∷◌, map, refl, ap, ◌∙◌, Option, Some, None, eqb-true}, lemmas.Bool.{false≢true, and_parts}, lemmas.Slice.Eq.bytes_eq-Decides}
-use Rattle.sharc_names.specs.{declared.fault.Named.Named, Kinds.Kind}
-use Rattle.sharc_names.specs.declared.fault.Named.TheVariants as named
-use Rattle.sharc_ctype.specs.Resolved.{named_at}
-use Rattle.sharc_mode.specs.{Notes.base_of, Sharings.{Lock, Sharing, private, readonly, locked, racy, dynamic, same_named, same_second, same_first, same_lock, same, same_all}}
-use Rattle.sharc_flat.specs.Scope.{Context}
-use Rattle.sharc_accepted_laws.specs.{Shapes.{form_of, shape_of, number}, Static.{lock_named, lock_at, locks_at, static_of}}
+use Rattle.sharc_accepted_laws.proofs.Imports.{◌≡◌, ℕ, true, List, [], ◌∷◌, map, refl, ap, ◌∙◌, Option, Some, None, eqb-true, false≢true, and_parts, bytes_eq-Decides, Named, Kind, named_at, base_of, Lock, Sharing, private, readonly, locked, racy, dynamic, same_named, same_second, same_first, same_lock, same, same_all, Context, form_of, shape_of, number, lock_named, lock_at, locks_at, static_of}
 
 -- ---- paths
 same_what : (a b : Named) → same_named a b ≡ true → a ≡ b
-same_what (named.Struct n) (named.Struct k) h = ap named.Struct (eqb-true n k h)
-same_what (named.Global n) (named.Global k) h = ap named.Global (eqb-true n k h)
-same_what (named.Function n) (named.Function k) h = ap named.Function (eqb-true n k h)
-same_what (named.Variable n) (named.Variable k) h = ap named.Variable (eqb-true n k h)
-same_what (named.Field n) (named.Field k) h = ap named.Field (eqb-true n k h)
-same_what named.Known named.Known h = refl
+same_what (Named.Struct n) (Named.Struct k) h = ap Named.Struct (eqb-true n k h)
+same_what (Named.Global n) (Named.Global k) h = ap Named.Global (eqb-true n k h)
+same_what (Named.Function n) (Named.Function k) h = ap Named.Function (eqb-true n k h)
+same_what (Named.Variable n) (Named.Variable k) h = ap Named.Variable (eqb-true n k h)
+same_what (Named.Field n) (Named.Field k) h = ap Named.Field (eqb-true n k h)
+same_what Named.Known Named.Known h = refl
 same_what _ _ h = absurd (false≢true h)
 
 same_name : (a b : Option (List ℕ)) → same_second a b ≡ true → a ≡ b

@@ -1,14 +1,5 @@
 -- What is settled at the positions of a type: where a level is racy or private.
-use Rattle.std.proofs.{Common.{◌≡◌, ◌⊎◌, inl, inr, ⊎_elim, ℕ, zero, suc, ◌+◌, ◌-◌, ◌<◌, ◌≤◌, Bool, true, false, cond, List, [], ◌∷◌, ◌++◌, length, drop, slice_index_or, refl, ap, sym, ◌∙◌, subst, arith, Option, Some, None, Contains}, lemmas.Bool.false≢true}
-use Rattle.std.specs.{Prelude.slice_get, Option.option_or}
-use Rattle.sharc_tree.specs.{declared.ctype.Base.Base, declared.ctype.Mode.Mode, declared.ctype.Mode.TheVariants.{Private, Racy, Dynamic}}
-use Rattle.sharc_tree.specs.declared.ctype.Base.TheVariants as base
-use Rattle.sharc_names.specs.declared.types.Role.{Role}
-use Rattle.sharc_names.specs.declared.types.Role.TheVariants as role
-use Rattle.sharc_ctype.specs.{declared.entity.Entity.Entity, declared.entity.Numbered.Numbered, Entities.{entities_in, numbered_from, positions_of, positions_in, written_modes}}
-use Rattle.sharc_graph.specs.{declared.graph.NodeFinding.NodeFinding, declared.graph.NodeFinding.TheVariants.Apart, Findings.finding_at}
-use Rattle.sharc_mode.specs.{Flows.{IsLeastAssignment, mode_found}, Moded.Assignment, Settled.{is_mutex, settled, field_target, otherwise_of, settled_modes, settled_in, settled_at}}
-use Rattle.sharc_lemmas.proofs.{Options.{same_some, none_some}, Lists.head_or_tail, Equal.none_there}
+use Rattle.sharc_accepted_laws.proofs.Imports.{◌≡◌, ◌⊎◌, inl, inr, ⊎_elim, ℕ, zero, suc, ◌+◌, ◌-◌, ◌<◌, ◌≤◌, Bool, true, false, cond, List, [], ◌∷◌, ◌++◌, length, drop, get_or as slice_index_or, refl, ap, sym, ◌∙◌, subst, arith, Option, Some, None, Contains, false≢true, slice_get, option_or, Base, Mode, Private, Racy, Dynamic, Role, Entity, Numbered, entities_in, numbered_from, positions_of, positions_in, written_modes, NodeFinding, Apart, finding_at, IsLeastAssignment, mode_found, Assignment, is_mutex, settled, field_target, otherwise_of, settled_modes, settled_in, settled_at, same_some, none_some, head_or_tail, none_there}
 
 -- ---- an entity is at its positions
 pub settled_length : (b : Base) (otherwise : Option Mode) (levels : List (Option Mode)) → length (settled b otherwise levels) ≡ length levels
@@ -89,11 +80,11 @@ settled_by m least n w k mode low at =
 
 -- ---- what is settled by what is written
 pub record IsLast (b : Base) (levels : List (Option Mode)) (k : ℕ) : Type 0 where
-  pub mutex : b ≡ base.Mutex
+  pub mutex : b ≡ Base.Mutex
   pub last : suc k ≡ length levels
 
 last_mutex : (b : Base) (x : Option Mode) (below : List (Option Mode)) → is_mutex b below ≡ true → IsLast b (x ∷ below) zero
-last_mutex base.Mutex x [] h = record { mutex = refl; last = refl }
+last_mutex Base.Mutex x [] h = record { mutex = refl; last = refl }
 last_mutex _ x _ h = absurd (false≢true h)
 
 next_last : (b : Base) (x : Option Mode) (below : List (Option Mode)) (k : ℕ) → IsLast b below k → IsLast b (x ∷ below) (suc k)
@@ -147,6 +138,6 @@ target_top (Some x ∷ below) mode is other = ap (λ y. Some (Some y)) is
 target_top _ mode is other = absurd (other (sym is))
 
 -- what is meant where nothing is written is the mode of a field's top
-pub otherwise_top : (what : Role) (levels : List (Option Mode)) (mode : Mode) → otherwise_of what levels ≡ Some mode → (mode ≡ Dynamic → ⊥) → (what ≡ role.Field) × (slice_get levels 0 ≡ Some (Some mode))
-otherwise_top role.Field levels mode is other = (refl, target_top levels mode (same_some _ _ is) other)
+pub otherwise_top : (what : Role) (levels : List (Option Mode)) (mode : Mode) → otherwise_of what levels ≡ Some mode → (mode ≡ Dynamic → ⊥) → (what ≡ Role.Field) × (slice_get levels 0 ≡ Some (Some mode))
+otherwise_top Role.Field levels mode is other = (refl, target_top levels mode (same_some _ _ is) other)
 otherwise_top _ levels mode is other = absurd (none_some mode is)

@@ -1,9 +1,5 @@
 -- The registers of the variables that stand, where one more stands.
-use Rattle.std.proofs.Common.{◌≡◌, ℕ, ◌+◌, ◌<◌, Bool, true, false, cond, List, [], ◌∷◌, ◌++◌, length, slice_get, refl, ap, sym, ◌∙◌, arith, Some}
-use Rattle.sharc_flat.specs.{declared.slot.Slot.Slot, Scope.{int_count, ref_count}}
-use Rattle.sharc_accepted_laws.specs.{Static.pointers, Typing.integers}
-use Rattle.sharc_accepted_laws.proofs.StaticRegisters.{pointer_count}
-use Rattle.sharc_lemmas.proofs.Lists.{front_got}
+use Rattle.sharc_accepted_laws.proofs.{Imports.{◌≡◌, ℕ, ◌+◌, ◌<◌, Bool, true, false, cond, List, [], ◌∷◌, ◌++◌, length, slice_get, refl, ap, sym, ◌∙◌, arith, Some, Slot, int_count, ref_count, pointers, integers, front_got}, StaticRegisters.pointer_count}
 
 last_got : {A : Type 0} (a : List A) (x : A) → slice_get (a ++ x ∷ []) (length a) ≡ Some x
 last_got [] x = refl

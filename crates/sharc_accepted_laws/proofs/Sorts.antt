@@ -1,13 +1,8 @@
 -- Which kinds are integers, pointers and references, and how many cells an element has.
-use Rattle.std.proofs.{Common.{◌≡◌, inl, inr, ℕ, ◌+◌, ◌-◌, ◌≤◌, ◌==◌, Bool, true, false, ◌||◌, cond, List, [], ◌∷◌, length, refl, ap, ap₂, sym, ◌∙◌, subst, arith, lt-ltb, eqb-true, bytes_eq}, lemmas.Bool.{false≢true, and_parts}}
-use Rattle.sharc_tree.specs.{declared.ctype.Base.Base, declared.ctype.Base.TheVariants.Struct, declared.tree.declaration.WrittenType.WrittenType, Low.LowItems, Tree.{Item, structure, global}}
+use Rattle.sharc_accepted_laws.proofs.{Imports.{◌≡◌, inl, inr, ℕ, ◌+◌, ◌-◌, ◌≤◌, ◌==◌, Bool, true, false, ◌||◌, cond, List, [], ◌∷◌, length, refl, ap, ap₂, sym, ◌∙◌, subst, arith, lt-ltb, eqb-true, bytes_eq, false≢true, and_parts, Base, Struct, WrittenType, LowItems, Item, structure, global, Kind, object, array, is_integer, is_pointer, is_null, same_kind, agrees, stars_of, declared_kind, element_kind, Resolution, structs_in, made, IsInteger, IsHeld, element_cells, base_cells, struct_cells, is_reference, or_false}, Alike.{base_is as one_base}, Forms.{integer_no_reference as integer_is, starred as pointer_pointer}}
 use Rattle.sharc_tree.specs.Tree as tree
-use Rattle.sharc_names.specs.Kinds.{Kind, object, array, function, is_integer, is_pointer, is_null, same_kind, agrees, stars_of, declared_kind, element_kind}
-use Rattle.sharc_ctype.specs.{Resolved.{Resolution, structs_in}, Statements.made}
-use Rattle.sharc_ctype_laws.specs.{Constraints.{IsInteger, IsPointer}, Rules.IsHeld}
-use Rattle.sharc_meaning.specs.{Cells.{element_cells, base_cells, struct_cells}, State.is_reference}
-use Rattle.sharc_lemmas.proofs.Bools.{or_false}
-use Rattle.sharc_accepted_laws.proofs.{Alike.base_is as one_base, Forms.{integer_no_reference as integer_is, starred as pointer_pointer}}
+use Rattle.sharc_names.specs.Kinds.{function}
+use Rattle.sharc_ctype_laws.specs.Constraints.{IsPointer}
 
 -- ---- integers
 pub reference_no_integer : (k : Kind) → is_reference k ≡ true → is_integer k ≡ false

@@ -1,24 +1,8 @@
 -- New threads.
-use Rattle.std.proofs.{Common.{◌≡◌, ℕ, nat_lt, eq-eqb, Bool, true, false, cond, [], ◌∷◌, map, slice_get, refl, ap, sym, ◌∙◌, subst, Some, IsSomeAnd, Contains}, lemmas.Bool.or_left}
-use Rattle.std.specs.List.{AllByRecursion, list_any}
-use Rattle.sharc_tree.specs.{declared.token.Span.Span, declared.tree.declaration.Declaration.Declaration, declared.tree.declaration.Identifier.Identifier, Measures.in_function, Tree.{Expression, Arguments, no_arguments, argument, spawn, value, Function}}
-use Rattle.sharc_names.specs.declared.fault.Named.TheVariants as named
-use Rattle.sharc_names.specs.Kinds.{Kind, void, is_pointer, declared_kind, declared_kinds}
-use Rattle.sharc_code.specs.{declared.code.Code.Code, Machine.function_of}
-use Rattle.sharc_code.specs.declared.code.Parameter.TheVariants as parameters
-use Rattle.sharc_ctype.specs.{Reaches.{of_all, Names, spawns, Spawns}, Resolved.{Resolution, named_at, functions_in, function_at, declaration_at, variable_kind}, Transfers.{variable, parameters_of, parameters_named, passed}}
-use Rattle.sharc_ctype_laws.specs.{Callable.IsThread, Constraints.{HaveTypes, one_more, Assignable}, Laws.SpawnsByName}
-use Rattle.sharc_meaning.specs.Expressions.{number_named}
-use Rattle.sharc_mode.specs.Moded.{Assignment}
-use Rattle.sharc_check.specs.Constructs.{IsFunction, IsCall}
+use Rattle.sharc_accepted_laws.proofs.{Imports.{◌≡◌, ℕ, nat_lt, eq-eqb, Bool, true, false, cond, [], ◌∷◌, map, slice_get, refl, ap, sym, ◌∙◌, subst, Some, IsSomeAnd, Contains, or_left, AllByRecursion, list_any, Span, Declaration, Identifier, in_function, Expression, Arguments, no_arguments, argument, spawn, value, Function, Named, Kind, void, is_pointer, declared_kind, declared_kinds, Code, function_of, Parameter, of_all, Names, spawns, Spawns, Resolution, named_at, functions_in, function_at, declaration_at, variable_kind, variable, parameters_of, parameters_named, passed, IsThread, HaveTypes, one_more, Assignable, SpawnsByName, number_named, Assignment, IsFunction, IsCall, kind_of, is_ref, parameters_scope, context_in, parameter_of, width_of, Context, slot_of, int_count, IsScalar, Suits, ArgumentsSuit, Refers, Anything, Within, Signature, LessNumber, EntryMentions, IsShared, Setting, Handed, SpawnTyped, IsOf, argument_type, IsAccepted, BeginsAlone, width_named, integers, typing, function_signature, signature_by, is_numbered, is_spawned, is_main, is_start, setting_of, IsSet, head_there, of_each}, Arguments.{parameters_declared, passes_scalar}, Calls.{of_all_there, alone_is, narrower_same}, Facts.{Laws, expression_of, has_type}, Forms.{pointer_no_integer, pointer_reference, integer_no_reference, to_integer, passes_of, spawn_typed, function_parameters}, TargetLists.place_there, StaticLists.{passes_by as any_passes}}
 use Rattle.sharc_check.specs.Constructs as constructs
-use Rattle.sharc_flat.specs.{Flattened.{kind_of, is_ref, parameters_scope, in_function as context_in, parameter_of}, Places.width_of, Scope.{Context, slot_of, int_count}, Suits.{IsScalar, Passes, Suits, ArgumentsSuit}}
-use Rattle.sharc_invariant.specs.{Labels.{Refers, Anything, Within, Signature, LessNumber, EntryMentions}, Typed.IsShared}
+use Rattle.sharc_flat.specs.Suits.{Passes}
 use Rattle.sharc_invariant.specs.Typed as typed
-use Rattle.sharc_typed_laws.specs.{Stretches.Setting, Typable.{Handed, SpawnTyped}}
-use Rattle.sharc_accepted_laws.specs.{Typed.IsOf, Calls.argument_type, StaticLaws.IsAccepted, Starting.BeginsAlone, Typing.{width_named, integers, typing}, Setting.{function_signature, signature_by, is_numbered, is_spawned, is_main, is_start, setting_of, IsSet}}
-use Rattle.sharc_accepted_laws.proofs.{Arguments.{parameters_declared, passes_scalar}, Calls.{of_all_there, alone_is, narrower_same}, Facts.{Laws, expression_of, has_type}, Forms.{pointer_no_integer, pointer_reference, integer_no_reference, to_integer, passes_of, spawn_typed, function_parameters}, TargetLists.place_there, StaticLists.passes_by as any_passes}
-use Rattle.sharc_lemmas.proofs.Lists.{head_there, of_each}
 
 module _ (laws : Laws) (c : Context) (code : Code) (alone : ℕ → Bool) (lines : ℕ) (set : IsSet c.program c.globals code alone) (n : ℕ) (g : Function) where
   abbrev m : Assignment
@@ -44,7 +28,7 @@ module _ (laws : Laws) (c : Context) (code : Code) (alone : ℕ → Bool) (lines
     all = argument x no_arguments
 
     -- ---- the function
-    named_function : (k : ℕ) × (named_at r i.site.token ≡ named.Function k)
+    named_function : (k : ℕ) × (named_at r i.site.token ≡ Named.Function k)
     named_function =
         of_each (SpawnsByName r) (in_function g) e
         (of_each (λ f. AllByRecursion (SpawnsByName r) (in_function f)) (functions_in r.program.items) g (laws.name_functions r a.resolved a.placed a.low) (place_there (functions_in r.program.items) n g at.function)) at.parts.0
@@ -56,7 +40,7 @@ module _ (laws : Laws) (c : Context) (code : Code) (alone : ℕ → Bool) (lines
     token_there = of_all_there spawns (in_function g) e i.site.token at.parts.0 (head_there i.site.token [])
 
     spawns_it : Spawns r n k
-    spawns_it = subst (λ o. IsSomeAnd o (λ f. Names r (named.Function k) (of_all spawns (in_function f)))) (sym at.function) (i.site.token, token_there, named_function.1)
+    spawns_it = subst (λ o. IsSomeAnd o (λ f. Names r (Named.Function k) (of_all spawns (in_function f)))) (sym at.function) (i.site.token, token_there, named_function.1)
 
     thread : (f : Function) × IsThread r k f
     thread = laws.spawn_threads r a.resolved a.placed a.low n k spawns_it
@@ -109,8 +93,8 @@ module _ (laws : Laws) (c : Context) (code : Code) (alone : ℕ → Bool) (lines
         let pointer : is_pointer (declared_kind d.written) ≡ true = sym handed_passes.0 ∙ ref in
         let standing = laws.calling.stand c a f function_there all (subst (λ ds. ArgumentsSuit c (declared_kinds ds) all) (sym only) (suits, handed_passes, tt)) in
         let fits = laws.arguments_fit c a f.parameters all d x is_call passed_there pointer in
-        let parameter : (function_of code k).parameter ≡ parameters.Reference =
-        (set.rows k f there).parameter ∙ ap parameter_of only ∙ ap (λ b. cond b parameters.Reference parameters.Int) (pointer_reference (declared_kind d.written) pointer) in (
+        let parameter : (function_of code k).parameter ≡ Parameter.Reference =
+        (set.rows k f there).parameter ∙ ap parameter_of only ∙ ap (λ b. cond b Parameter.Reference Parameter.Int) (pointer_reference (declared_kind d.written) pointer) in (
           argument_type c f.parameters all d,
           fits.goes,
           fits.names standing,
@@ -124,8 +108,8 @@ module _ (laws : Laws) (c : Context) (code : Code) (alone : ℕ → Bool) (lines
     handed_by suits false other =
         let number = to_integer (declared_kind d.written) (kind_of c x) assigned other in
         let none : is_pointer (declared_kind d.written) ≡ false = sym handed_passes.0 ∙ other in
-        let parameter : (function_of code k).parameter ≡ parameters.Int =
-        (set.rows k f there).parameter ∙ ap parameter_of only ∙ ap (λ b. cond b parameters.Reference parameters.Int) (integer_no_reference (declared_kind d.written) number) in
+        let parameter : (function_of code k).parameter ≡ Parameter.Int =
+        (set.rows k f there).parameter ∙ ap parameter_of only ∙ ap (λ b. cond b Parameter.Reference Parameter.Int) (integer_no_reference (declared_kind d.written) number) in
         (handed_passes.1 none, number, parameter, subst (λ (y : Signature). LessNumber (Within (width_of (declared_kind d.written))) (y.takes_ints 0)) (sym signature_is) (number_by (nat_lt 0 (int_count (parameters_scope f.parameters)))))
       where
         declared : declaration_at r d.name.site.token ≡ Some d

@@ -1,17 +1,6 @@
 -- The cell of an lvalue is there, with what stands beside it in its element.
-use Rattle.std.proofs.Common.{◌≡◌, inl, inr, ⊎_elim, ℕ, ◌+◌, ◌<◌, Bool, true, false, List, [], ◌∷◌, length, slice_index_or, refl, ap, sym, ◌∙◌, subst, arith, cond, option_map, Option, Some, None}
-use Rattle.sharc_tree.specs.{declared.token.Span.Span, declared.tree.expression.FieldOperator.TheVariants.{Dot, Arrow}, declared.tree.expression.UnaryOperator.TheVariants.Dereference, Tree.{Expression, parentheses, index, field, unary}}
-use Rattle.sharc_names.specs.Kinds.{is_array}
-use Rattle.sharc_code.specs.{declared.code.Code.Code, declared.instr.Cell.Cell}
-use Rattle.sharc_code.specs.declared.instr.Cell.TheVariants as cells
-use Rattle.sharc_ctype.specs.{Globals.elements_of, Resolved.{Resolution, named_at, global_at, globals_in, kind_at}}
-use Rattle.sharc_ctype_laws.specs.{Initials.MeetsGlobal, Laws.MeetsGlobals}
-use Rattle.sharc_meaning.specs.Cells.{global_elements, field_place_named}
-use Rattle.sharc_mode.specs.{Cells.cell_at, Moded.Assignment, Rows.modes_of, Sharings.{Sharing, locked}}
-use Rattle.sharc_flat.specs.{Machine.first_cell, Scope.Context, Places.{Target, variable, global_of, in_global, in_global_at, in_object, in_object_at, target, cell_of, guard_cell, field_of, own_field, beside_field, lock_beside, lock_cell}, Tables.globals_of}
-use Rattle.sharc_invariant.specs.{Types.{StaticType, Field, no_field, row_of}, Labels.{Refers, Element, OfGlobal, Label}}
-use Rattle.sharc_accepted_laws.specs.{Static.static_of, Beside.{BesideFits, AreLockedBeside, LocksStandBeside}, TargetLaws.{GlobalsAre, ExpressionsFound}, Lvalues.{FieldFits, IsBehindPointer, IsInFile, IsOfObject, IsOfGlobal, NamesCell, no_cell, of_object, of_global, LvaluesFit, pointer_of}, Shapes.{expression_shape, number}, Targets.{global_element, targets_of}, Accesses.{HasBaseIn, HasIndexOf, IsCellNumber, IsPlaceNumber, HaveTarget, list_or, modes_of_pointer, modes_behind, kind_of_pointer, base_type, cells_in_each, IsCellLvalue, IsCodeOf, CellsStand, AccessesFit, GuardsFit}}
-use Rattle.sharc_accepted_laws.proofs.{AccessCells.{IsCellOf, ArePairOf, object_cell, element_cell, object_pair, element_pair, global_cell_at, global_pair, place_cell, place_pair}, Modes.{reaches, around, guard_there, HasAround, IsOnBase}, AccessLists.each_at, TargetLists.place_there as there_at}
+use Rattle.sharc_accepted_laws.proofs.{Imports.{◌≡◌, inl, inr, ⊎_elim, ℕ, ◌+◌, ◌<◌, Bool, true, false, List, [], ◌∷◌, length, get_or as slice_index_or, refl, ap, sym, ◌∙◌, subst, arith, cond, option_map, Option, Some, None, Span, Dot, Arrow, Dereference, Expression, parentheses, index, field, unary, is_array, Code, Cell, elements_of, Resolution, named_at, global_at, globals_in, kind_at, MeetsGlobal, MeetsGlobals, global_elements, field_place_named, cell_at, Assignment, modes_of, Sharing, locked, first_cell, Context, Target, global_of, in_global, in_global_at, in_object, in_object_at, target, cell_of, guard_cell, own_field, beside_field, lock_beside, lock_cell, globals_of, StaticType, Field, no_field, row_of, Refers, Element, OfGlobal, Label, static_of, BesideFits, AreLockedBeside, LocksStandBeside, GlobalsAre, ExpressionsFound, FieldFits, IsBehindPointer, IsInFile, IsOfObject, IsOfGlobal, NamesCell, no_cell, of_object, of_global, LvaluesFit, pointer_of, expression_shape, number, global_element, targets_of, HasBaseIn, HasIndexOf, IsCellNumber, IsPlaceNumber, HaveTarget, list_or, modes_of_pointer, modes_behind, kind_of_pointer, base_type, cells_in_each, IsCellLvalue, IsCodeOf, CellsStand, AccessesFit, GuardsFit}, AccessCells.{IsCellOf, ArePairOf, object_cell, element_cell, object_pair, element_pair, global_cell_at, global_pair, place_cell, place_pair}, Modes.{reaches, around, guard_there, HasAround, IsOnBase}, AccessLists.each_at, TargetLists.{place_there as there_at}}
+use Rattle.sharc_flat.specs.Places.{variable, field_of}
 
 index_here : (i : ℕ) (beside : Option ℕ) (Is : ℕ → ℕ → Type 0) (n : ℕ) → HasIndexOf i beside Is n → Is i n
 index_here i None Is n has = has
@@ -101,7 +90,7 @@ module _ (globals_are : GlobalsAre) (meets : MeetsGlobals) (found : ExpressionsF
     row_fits : FieldFits m e n (modes_behind m e) (slice_index_or row_fields n no_field)
     row_fits = subst (λ l. FieldFits m e n l (slice_index_or row_fields n no_field)) (sym behind_is) w.fits
 
-    object_stands : (beside : Option ℕ) (b : ℕ) → HasBaseIn code q b (base_type c e) → Stands m code q e beside n (cells.Object b n) (λ k. cells.Object b k) (base_type c e)
+    object_stands : (beside : Option ℕ) (b : ℕ) → HasBaseIn code q b (base_type c e) → Stands m code q e beside n (Cell.Object b n) (λ k. Cell.Object b k) (base_type c e)
     object_stands beside b base =
         let own = subst (HasBaseIn code q b) base_is base in
         record {
@@ -114,7 +103,7 @@ module _ (globals_are : GlobalsAre) (meets : MeetsGlobals) (found : ExpressionsF
         }
 
     place_stands : (beside : Option ℕ) (i b : ℕ) (element : Element) → HasBaseIn code q b (base_type c e) → HasIndexOf i beside (IsCellNumber q b element) n
-        → Stands m code q e beside n (cells.ObjectAt b i) (λ k. cells.ObjectAt b (i + 1)) (base_type c e)
+        → Stands m code q e beside n (Cell.ObjectAt b i) (λ k. Cell.ObjectAt b (i + 1)) (base_type c e)
     place_stands beside i b element base indexes =
         let own = subst (HasBaseIn code q b) base_is base in
         let one = index_here i beside (IsCellNumber q b element) n indexes in
@@ -141,8 +130,8 @@ module _ (globals_are : GlobalsAre) (meets : MeetsGlobals) (found : ExpressionsF
     global_fits : FieldFits m e n (modes_behind m e) (slice_index_or fields_of_global n no_field)
     global_fits = subst (λ l. FieldFits m e n l (slice_index_or fields_of_global n no_field)) (sym no_modes) w.fits
 
-    file_stands : (beside : Option ℕ) → Stands m code q e beside n (cells.Global g (first_cell c.globals g + n)) (λ k. cells.Global g (first_cell c.globals g + k)) (base_type c e)
-    file_stands beside = subst (λ l. Stands m code q e beside n (cells.Global g (first_cell l g + n)) (λ k. cells.Global g (first_cell l g + k)) (base_type c e)) (sym is.globals) (record {
+    file_stands : (beside : Option ℕ) → Stands m code q e beside n (Cell.Global g (first_cell c.globals g + n)) (λ k. Cell.Global g (first_cell c.globals g + k)) (base_type c e)
+    file_stands beside = subst (λ l. Stands m code q e beside n (Cell.Global g (first_cell l g + n)) (λ k. Cell.Global g (first_cell l g + k)) (base_type c e)) (sym is.globals) (record {
       fields = fields_of_global;
       here = global_cell_at globals_are m code is.tables q g w.global w.defined n some_elements w.inside;
       pair = λ k named inside. global_pair globals_are m code is.tables q g w.global w.defined n k some_elements w.inside inside;
@@ -167,7 +156,7 @@ module _ (globals_are : GlobalsAre) (meets : MeetsGlobals) (found : ExpressionsF
     number_at i k element h = subst (λ l. q.ints i ≡ OfGlobal (first_cell l g + k) count elements element) is.globals h
 
     array_stands : (beside : Option ℕ) (i : ℕ) (element : Element) → HasIndexOf i beside (IsPlaceNumber c q g element) n
-        → Stands m code q e beside n (cells.GlobalAt g i) (λ k. cells.GlobalAt g (i + 1)) (base_type c e)
+        → Stands m code q e beside n (Cell.GlobalAt g i) (λ k. Cell.GlobalAt g (i + 1)) (base_type c e)
     array_stands beside i element indexes =
         let one = number_at i n element (index_here i beside (IsPlaceNumber c q g element) n indexes) in
         record {

@@ -1,22 +1,7 @@
 -- Functions with which a thread begins, main among them; and a whole program.
-use Rattle.std.proofs.{Common.{◌≡◌, ⊎_elim, ℕ, ◌<◌, ◌≤◌, Bool, true, false, cond, List, [], ◌∷◌, length, nat_lt, slice_get, refl, ap, sym, ◌∙◌, subst, arith, eqb-true, Option, Some, None, codes, ◌||◌}, lemmas.Bool.{false≢true, or_cases, or_right}, lemmas.Slice.Eq.bytes_eq-Decides}
-use Rattle.std.specs.{Prelude.IsSomeAnd, List.list_any}
-use Rattle.sharc_tree.specs.{declared.tree.declaration.Declaration.Declaration, Measures.in_function, Tree.Function}
-use Rattle.sharc_names.specs.{declared.fault.Named.Named, Kinds.{int, declared_kind}}
-use Rattle.sharc_names.specs.declared.fault.Named.TheVariants as named
-use Rattle.sharc_code.specs.{declared.code.GlobalCells.GlobalCells, declared.code.Code.Code}
-use Rattle.sharc_ctype.specs.{Reaches.{spawns, of_all, Names, Spawns}, Resolved.{Resolution, functions_in, function_at, named_at}}
-use Rattle.sharc_ctype_laws.specs.Laws.{SpawnsThreads, HasMain, OneFunctionOfName, WithinLimits}
-use Rattle.sharc_meaning.specs.State.{is_reference}
-use Rattle.sharc_mode.specs.Moded.{Assignment}
-use Rattle.sharc_flat.specs.{Flattens.IsMainOf, Flattened.parameters_scope, Scope.{int_count, ref_count}, Tables.globals_of}
+use Rattle.sharc_accepted_laws.proofs.{Imports.{◌≡◌, ⊎_elim, ℕ, ◌<◌, ◌≤◌, Bool, true, false, cond, List, [], ◌∷◌, length, nat_lt, slice_get, refl, ap, sym, ◌∙◌, subst, arith, eqb-true, Option, Some, None, codes, ◌||◌, false≢true, or_cases, or_right, bytes_eq-Decides, IsSomeAnd, list_any, Declaration, in_function, Function, Named, int, declared_kind, GlobalCells, Code, spawns, of_all, Names, Spawns, Resolution, functions_in, function_at, named_at, SpawnsThreads, HasMain, OneFunctionOfName, WithinLimits, is_reference, Assignment, IsMainOf, parameters_scope, int_count, ref_count, globals_of, Anything, Within, EntryMentions, BasesStand, held_named, ResultLaws, FunctionsStand, SpawnedBegin, pointers, variable_entry, VariablesFound, typing, signature_by, is_numbered, is_spawned, is_main, is_start, setting_of, IsSet, ExpressionsAreTypable, ProgramsAreTypable, Setting, IsLowTyping, StartTypable, MainTypable, TypedSuits, place_of_element}, Assigned.Laws, Functions.{TypeLaws, function_typable}, Linked.linked, StaticRegisters.{pointer_count, got_low}, TargetLists.place_there, StaticLists.passes_there}
 use Rattle.sharc_flat.specs.Flattened as flat
-use Rattle.sharc_invariant.specs.{Labels.{Anything, Within, EntryMentions}, Typed.IsPlain}
-use Rattle.sharc_accepted_laws.specs.{Typed.BasesStand, Held.held_named, Results.ResultLaws, Standing.FunctionsStand, Starting.SpawnedBegin, Static.{pointers, variable_entry}, TargetLaws.VariablesFound, Typing.typing, Setting.{signature_by, is_numbered, is_spawned, is_main, is_start, setting_of, IsSet}, Expressions.ExpressionsAreTypable, Programs.ProgramsAreTypable}
-use Rattle.sharc_typed_laws.specs.{Stretches.Setting, Functions.IsLowTyping, Programs.{StartTypable, MainTypable}}
-use Rattle.sharc_flat_laws.specs.Stands.{TypedSuits}
-use Rattle.sharc_accepted_laws.proofs.{Assigned.Laws, Functions.{TypeLaws, function_typable}, Linked.linked, StaticRegisters.{pointer_count, got_low}, TargetLists.place_there, StaticLists.passes_there}
-use Rattle.sharc_lemmas.proofs.Lists.{place_of_element}
+use Rattle.sharc_invariant.specs.Typed.{IsPlain}
 
 -- what is held is in the register of a variable
 low_typing : IsLowTyping typing
@@ -27,8 +12,8 @@ low_typing c p held = by (slice_get (pointers c.scope) p) refl held
     by (Some x) is h = let low = got_low (pointers c.scope) p x is in let n = pointer_count c.scope in omega (arith, low, n)
 
 -- ---- what is spawned
-names_it : (n : ℕ) (w : Named) → is_numbered n w ≡ true → w ≡ named.Function n
-names_it n (named.Function k) h = ap named.Function (eqb-true k n h)
+names_it : (n : ℕ) (w : Named) → is_numbered n w ≡ true → w ≡ Named.Function n
+names_it n (Named.Function k) h = ap Named.Function (eqb-true k n h)
 names_it n _ h = absurd (false≢true h)
 
 spawned_by : (r : Resolution) (n : ℕ) → is_spawned r n ≡ true → (k : ℕ) × Spawns r k n
@@ -36,7 +21,7 @@ spawned_by r n h =
     let f = passes_there (λ f. list_any (λ token. is_numbered n (named_at r token)) (of_all spawns (in_function f))) (functions_in r.program.items) h in
     let t = passes_there (λ token. is_numbered n (named_at r token)) (of_all spawns (in_function f.0)) f.2 in
     let k = place_of_element (functions_in r.program.items) f.0 f.1 in
-    (k.0, subst (λ o. IsSomeAnd o (λ g. Names r (named.Function n) (of_all spawns (in_function g)))) (sym k.1) (t.0, t.1, names_it n (named_at r t.0) t.2))
+    (k.0, subst (λ o. IsSomeAnd o (λ g. Names r (Named.Function n) (of_all spawns (in_function g)))) (sym k.1) (t.0, t.1, names_it n (named_at r t.0) t.2))
 
 -- the laws of threads that are used
 pub record ThreadLaws : Type 0 where

@@ -1,21 +1,8 @@
 -- Statements.
-use Rattle.std.proofs.Common.{◌≡◌, ℕ, Bool, true, false, cond, List, ◌++◌, refl, ap, sym, ◌∙◌, subst, Option, Some, None, IfSome, Contains}
-use Rattle.std.specs.List.{AllByRecursion}
-use Rattle.sharc_tree.specs.{declared.token.Span.Span, Low.{LowSimple, LowFirst, LowStatement, LowStatements}, Measures.{expressions, in_option, in_simple, in_local, in_first, in_head, in_statement, in_statements, in_function}, Tree.{Expression, Right, value, Simple, assign, does_call, Local, First, nothing, declares, does, Statement, Statements, no_statements, statement, Function}}
+use Rattle.sharc_accepted_laws.proofs.{Imports.{◌≡◌, ℕ, Bool, true, false, cond, List, ◌++◌, refl, ap, sym, ◌∙◌, subst, Option, Some, None, IfSome, Contains, AllByRecursion, Span, LowSimple, LowFirst, LowStatement, LowStatements, expressions, in_option, in_simple, in_local, in_first, in_head, in_statement, in_statements, in_function, Expression, Right, value, Simple, assign, does_call, Local, First, nothing, declares, does, Statement, Statements, no_statements, statement, Function, Named, Kind, is_integer, declared_kind, Transfer, variable, result, Agrees, IsFair, gives, transfers, option_transfers, right_transfers, simple_transfers, local_transfers, first_transfers, statement_transfers, statements_transfers, function_transfers, IsItself, MeetsSimple, MeetsFirst, Meets, AllMeet, is_reference, Assignment, IsAssigned, locals_in_first, locals_in, kind_of, parameters_scope, context_in as at_entry, flat_behind_first as behind_first, behind_statement, Context, Suits, SimpleSuits, InitialSuits, FirstSuits, TestSuits, IfThere, StatementSuits, StatementsSuit, suits_first, suits_statement, Empty, Refers, Signature, Setting, SimpleTypable, ReturnedBy, ReturnTypable, TestTypable, StepTypable, DeclaredTypable, FirstTypable, StatementTypable, StatementsTypable, ResultLaws, ExpressionsStand, LocalStands, FirstStands, StatementStands, StatementsStand, result_type, VariablesFound, typing, function_signature, signature_by, IsPlaceIn, IsThere, AreExpressionsTypable, front, back}, Assigned.{Laws, function_there, at_there, SimpleGiven, simple_is}, Begun.{IsBegun, here_with, local_is}, Fresh.{LocalFresh, FirstFresh, StatementFresh, StatementsFresh}, Sorts.{integer_want, declared_pointer}, Wholes.Facts, Forms.{integer_no_reference as integer_is}}
 use Rattle.sharc_tree.specs.Tree as tree
-use Rattle.sharc_names.specs.declared.fault.Named.TheVariants as named
-use Rattle.sharc_names.specs.Kinds.{Kind, is_integer, declared_kind}
-use Rattle.sharc_ctype.specs.Transfers.{Transfer, variable, result, Agrees, IsFair, gives, transfers, in_option as option_transfers, right_transfers, simple_transfers, local_transfers, first_transfers, statement_transfers, statements_transfers, function_transfers}
-use Rattle.sharc_ctype_laws.specs.{Declared.IsItself, Rules.{MeetsSimple, MeetsFirst, Meets, AllMeet}}
-use Rattle.sharc_meaning.specs.State.{is_reference}
-use Rattle.sharc_mode.specs.Moded.{Assignment}
-use Rattle.sharc_check.specs.Constructs.{IsAssigned, locals_in_first, locals_in, locals_in_all}
-use Rattle.sharc_flat.specs.{Flattened.{kind_of, parameters_scope, in_function as at_entry, behind_first, behind_statement}, Scope.Context, Suits.{Suits, Goes, SimpleSuits, InitialSuits, FirstSuits, TestSuits, IfThere, StatementSuits, StatementsSuit, in_first as suits_first, in_statement as suits_statement}}
-use Rattle.sharc_invariant.specs.Labels.{Empty, Refers, Signature}
-use Rattle.sharc_typed_laws.specs.{Stretches.Setting, Stated.SimpleTypable, Returned.{ReturnedBy, ReturnTypable}, Statements.{TestTypable, StepTypable, DeclaredTypable, FirstTypable, StatementTypable, StatementsTypable}}
-use Rattle.sharc_accepted_laws.specs.{Results.ResultLaws, Standing.{ExpressionsStand, LocalStands, FirstStands, StatementStands, StatementsStand}, Static.result_type, TargetLaws.VariablesFound, Typing.typing, Setting.{function_signature, signature_by}, Statements.{IsPlaceIn, IsThere, AreExpressionsTypable}}
-use Rattle.sharc_accepted_laws.proofs.{Assigned.{Laws, function_there, at_there, SimpleGiven, simple_is}, Begun.{IsBegun, here_with, local_is}, Fresh.{LocalFresh, FirstFresh, StatementFresh, StatementsFresh}, Sorts.{integer_want, declared_pointer}, Wholes.Facts, Forms.integer_no_reference as integer_is}
-use Rattle.sharc_lemmas.proofs.Lists.{front, back}
+use Rattle.sharc_check.specs.Constructs.{locals_in_all}
+use Rattle.sharc_flat.specs.Suits.{Goes}
 
 -- ---- contexts
 same_first : (c : Context) (x : First) → suits_first c x ≡ behind_first c x
@@ -46,7 +33,7 @@ module _ (g : Function) (m : Assignment) where
 
   pub record Own (l : Local) : Type 0 where
     pub among : Contains (locals_in_all g.statements) l
-    pub itself : IsItself m.typed named.Variable l.declaration
+    pub itself : IsItself m.typed Named.Variable l.declaration
 
   pub record Given (looped : Bool) (a : Statement) : Type 0 where
     pub inside : AllByRecursion (Contains (in_function g)) (in_statement a)

@@ -1,21 +1,6 @@
 -- The lock paths of the types of expressions lead to mutexes: those that are written by M4, and those that the uses of fields make by M11 and the fields' types.
-use Rattle.std.proofs.{Common.{◌≡◌, ◌⊎◌, inl, inr, ⊎_elim, ℕ, suc, ◌+◌, ◌<◌, Bool, true, false, cond, ◌&&◌, List, [], ◌∷◌, ◌++◌, length, map, drop, slice_get, refl, ap, sym, ◌∙◌, subst, arith, option_map, Option, Some, None, is_none, Contains}, lemmas.Bool.false≢true}
-use Rattle.std.specs.List.{AllByRecursion}
-use Rattle.sharc_tree.specs.{declared.ctype.Base.Base, declared.ctype.Mode.Mode, declared.ctype.Mode.TheVariants.{Private, Readonly, Locked, Racy, Dynamic}, declared.ctype.Path.Path, declared.ctype.Path.TheVariants.{One, Through as PathThrough}, declared.token.Span.Span, declared.tree.declaration.Declaration.Declaration, declared.tree.declaration.Identifier.Identifier, declared.tree.declaration.WrittenType.WrittenType, declared.tree.expression.FieldOperator.FieldOperator, declared.tree.expression.FieldOperator.TheVariants.{Dot, Arrow}, declared.tree.expression.UnaryOperator.TheVariants.Dereference, declared.tree.item.GlobalDefinition.GlobalDefinition, declared.tree.item.StructDefinition.StructDefinition, Measures.{expressions, in_function}, Tree.{Expression, Function}}
-use Rattle.sharc_tree.specs.declared.ctype.Base.TheVariants as base
-use Rattle.sharc_tree.specs.declared.tree.expression.Constant.TheVariants as constants
+use Rattle.sharc_accepted_laws.proofs.{Imports.{◌≡◌, ◌⊎◌, inl, inr, ⊎_elim, ℕ, suc, ◌+◌, ◌<◌, Bool, true, false, cond, ◌&&◌, List, [], ◌∷◌, ◌++◌, length, map, drop, slice_get, refl, ap, sym, ◌∙◌, subst, arith, option_map, Option, Some, None, is_none, Contains, false≢true, AllByRecursion, Base, Mode, Private, Readonly, Locked, Racy, Dynamic, Path, One, Through as PathThrough, Span, Declaration, Identifier, WrittenType, FieldOperator, Dot, Arrow, Dereference, GlobalDefinition, StructDefinition, expressions, in_function, Expression, Function, Constant, Named, Kind, object, mutex, is_array, declared_kind, field_of, Role, Entity, Numbered, declared, cast_entity, result_of, entity_at, notes_about, Resolution, named_at, declaration_at, variable_kind, named_kind, global_at, function_at, globals_in, functions_in, structs_in, kind_at, locals_in_all, HasType, Callee, IsMemberOf, struct_named, of_program, of_conditions, a_variable, a_global, a_function, a_field, a_field_behind, IsItself, NamesOwn, NamesOwnVariables, IsFound, EachTypeFound, EachNameOnce, OnlyNames, EachNamesItself, EachNamesOwn, EachPathFound, MeetsConstraints, OneType, IsNamedPath, IsNamedLevel, IsNamedType, Place, Assignment, PathReading, written, through, Targets, constant_use, base_use, lock_through, read, entity_row, declared_row, global_row, named_row, result_row, called_row, behind, reading_through, row_at, modes_of, modes_at, field_target, settled_modes, Lock, Sharing, locked, lock_of, sharing_of, text_at, is_field, is_sibling_lock, leaves_open, place_of, IsExpression, IsEntity, RulesAreMet, IsMutexBehind, IsAllowed, global_mutex, sibling_mutex, sibling_pointer, through_constant, MeetsRules, IsAccepted, LeadsToMutex, by_global, by_variable, LeadsIfLocked, AllLead, ExpressionsLead, FieldsPlaced, IsOwn, IsCastFound, HasOwn, OwnAreFound, same_some, none_some, front, each, head_there, head_or_tail, of_each, to_each, tail_there, none_there}, Noted.{AllSay, all_say}, Origins.{private_path, racy_path, dynamic_path, reading_kept, deeper_hold, no_private, no_readonly, no_racy, no_dynamic, same_lock}, Passed.{use_named, first_kind}, Places.{InFile, FileKnown, FieldInFile, file_known, struct_fields, field_found, at_number, IfSome}, Points.{NamesField, field_not_local, ModeOf, LevelOf, allowed_row, shown_modes, entity_is, through_used, not_field as global_no_field}, StaticSiblings.{found_there, points_to, is_beside}, Written.{raw, row_settled, open_good}, TargetLists.place_there, Laying.{named_there as struct_there}}
 use Rattle.sharc_tree.specs.Tree as tree
-use Rattle.sharc_names.specs.{declared.fault.Named.Named, Kinds.{Kind, object, mutex, is_array, declared_kind}, Names.field_of}
-use Rattle.sharc_names.specs.declared.fault.Named.TheVariants as named
-use Rattle.sharc_names.specs.declared.types.Role.TheVariants as role
-use Rattle.sharc_ctype.specs.{declared.entity.Entity.Entity, declared.entity.Numbered.Numbered, Entities.{declared, cast_entity, result_of, entity_at}, Items.notes_about, Resolved.{Resolution, named_at, declaration_at, variable_kind, named_kind, global_at, function_at, globals_in, functions_in, structs_in, kind_at}, Statements.locals_in_all}
-use Rattle.sharc_ctype_laws.specs.{Constraints.{HasType, Callee, IsMemberOf, struct_named, of_program, of_conditions, a_variable, a_global, a_function, a_field, a_field_behind}, Declared.{IsItself, NamesOwn, NamesOwnVariables}, Found.{IsFound, EachTypeFound}, Laws.{EachNameOnce, OnlyNames, EachNamesItself, EachNamesOwn, EachPathFound, MeetsConstraints, OneType}, WrittenTypes.{IsNamedPath, IsNamedLevel, IsNamedType}}
-use Rattle.sharc_mode.specs.declared.place.Place.TheVariants as place
-use Rattle.sharc_mode.specs.{Moded.Assignment, Rows.{PathReading, written, through, Targets, constant_use, base_use, lock_through, read, entity_row, declared_row, global_row, named_row, result_row, called_row, behind, reading_through, row_at, modes_of, modes_at}, Settled.{field_target, settled_modes}, Sharings.{Lock, Sharing, locked, lock_of, sharing_of, text_at, is_field, is_sibling_lock}, WellFormed.{leaves_open, place_of}}
-use Rattle.sharc_check.specs.{Constructs.{IsExpression, IsEntity}, RuleLaws.RulesAreMet, Paths.{IsMutexBehind, IsAllowed, global_mutex, sibling_mutex, sibling_pointer, through_constant}, Rules.MeetsRules}
-use Rattle.sharc_accepted_laws.specs.{StaticLaws.IsAccepted, Leading.{LeadsToMutex, by_global, by_variable, LeadsIfLocked, AllLead, ExpressionsLead}, Fields.FieldsPlaced, Own.{IsOwn, IsCastFound, HasOwn, OwnAreFound}}
-use Rattle.sharc_accepted_laws.proofs.{Noted.{AllSay, all_say}, Origins.{private_path, racy_path, dynamic_path, reading_kept, deeper_hold, no_private, no_readonly, no_racy, no_dynamic, same_lock}, Passed.{use_named, first_kind}, Places.{InFile, FileKnown, FieldInFile, file_known, struct_fields, field_found, at_number, IfSome}, Points.{NamesField, field_not_local, ModeOf, LevelOf, allowed_row, shown_modes, entity_is, through_used, not_field as global_no_field}, StaticSiblings.{found_there, points_to, is_beside}, Written.{raw, row_settled, open_good}, TargetLists.place_there, Laying.named_there as struct_there}
-use Rattle.sharc_lemmas.proofs.{Options.{same_some, none_some}, Lists.{front, each, head_there, head_or_tail, of_each, to_each, tail_there}, Equal.none_there}
 
 -- ---- levels
 placed_each : {A : Type 0} (P : A → Type 0) (list : List A) → ((k : ℕ) (x : A) → slice_get list k ≡ Some x → P x) → AllByRecursion P list
@@ -31,25 +16,25 @@ target_written (Some mode ∷ below) path is = ap (λ z. Some (Some z)) is
 target_written _ path is = absurd (dynamic_path path is)
 
 -- no target without a mode of its own but a mutex leaves nothing to be meant
-all_written : (b : Base) (levels : List (Option Mode)) → ((k : ℕ) → slice_get levels k ≡ Some None → (b ≡ base.Mutex) × (k + 1 ≡ length levels)) → leaves_open b levels ≡ true → ⊥
+all_written : (b : Base) (levels : List (Option Mode)) → ((k : ℕ) → slice_get levels k ≡ Some None → (b ≡ Base.Mutex) × (k + 1 ≡ length levels)) → leaves_open b levels ≡ true → ⊥
 all_written b [] h free = false≢true free
 all_written b (Some mode ∷ below) h free = all_written b below (λ k is. let w = h (suc k) is in let count = w.1 in (w.0, omega (arith, count))) free
 all_written b (None ∷ []) h free = false≢true (subst (λ z. leaves_open z (None ∷ []) ≡ true) (h 0 refl).0 free)
 all_written b (None ∷ y ∷ below) h free = let count = (h 0 refl).1 in omega (arith, count)
 
-below_top : (b : Base) (levels : List (Option Mode)) → ((depth : ℕ) → 0 < depth → slice_get levels depth ≡ Some None → (b ≡ base.Mutex) × (depth + 1 ≡ length levels))
-    → (k : ℕ) → slice_get (drop 1 levels) k ≡ Some None → (b ≡ base.Mutex) × (k + 1 ≡ length (drop 1 levels))
+below_top : (b : Base) (levels : List (Option Mode)) → ((depth : ℕ) → 0 < depth → slice_get levels depth ≡ Some None → (b ≡ Base.Mutex) × (depth + 1 ≡ length levels))
+    → (k : ℕ) → slice_get (drop 1 levels) k ≡ Some None → (b ≡ Base.Mutex) × (k + 1 ≡ length (drop 1 levels))
 below_top b [] h k is = absurd (none_some None is)
 below_top b (top ∷ rest) h k is = let w = h (suc k) (omega arith) is in let count = w.1 in (w.0, omega (arith, count))
 
 -- ---- paths of the types of fields
 -- a global mutex, or a sibling that is one
 data FieldLeads (r : Resolution) (d : Declaration) : Path → Type 0 where
-  names_global : {text : List ℕ} {token g : ℕ} → named_at r token ≡ named.Global g → named_kind r (named.Global g) ≡ mutex → FieldLeads r d (One text token)
-  names_sibling : {text : List ℕ} {token t : ℕ} → named_at r token ≡ named.Field t → named_kind r (named.Field t) ≡ mutex → Contains d.written.ctype.levels (Some (Locked (One text token))) → FieldLeads r d (One text token)
+  names_global : {text : List ℕ} {token g : ℕ} → named_at r token ≡ Named.Global g → named_kind r (Named.Global g) ≡ mutex → FieldLeads r d (One text token)
+  names_sibling : {text : List ℕ} {token t : ℕ} → named_at r token ≡ Named.Field t → named_kind r (Named.Field t) ≡ mutex → Contains d.written.ctype.levels (Some (Locked (One text token))) → FieldLeads r d (One text token)
 
 -- a pointer to a mutex is named on the top alone, and where no target takes its mode from there
-one_field : (r : Resolution) (d : Declaration) (depth : ℕ) (path : Path) → IsAllowed r (declared role.Field d) depth path → Contains d.written.ctype.levels (Some (Locked path))
+one_field : (r : Resolution) (d : Declaration) (depth : ℕ) (path : Path) → IsAllowed r (declared Role.Field d) depth path → Contains d.written.ctype.levels (Some (Locked path))
     → (depth ≡ 0 → leaves_open d.written.ctype.base (drop 1 d.written.ctype.levels) ≡ true) → FieldLeads r d path
 one_field r d depth _ (global_mutex names kind) has free = names_global names kind
 one_field r d depth _ (sibling_mutex at names kind) has free = names_sibling names kind has
@@ -61,27 +46,27 @@ in_either r d _ (names_global {g = g} names kind) = inl (by_global g names kind)
 in_either r d _ (names_sibling {t = t} names kind has) = inr (refl, (t, names))
 
 -- ---- names
-same_struct : (n k : ℕ) → named.Struct n ≡ named.Struct k → n ≡ k
+same_struct : (n k : ℕ) → Named.Struct n ≡ Named.Struct k → n ≡ k
 same_struct n k h = cc
 
-no_field_variable : (t u : ℕ) → named.Variable t ≡ named.Field u → ⊥
+no_field_variable : (t u : ℕ) → Named.Variable t ≡ Named.Field u → ⊥
 no_field_variable t u h = cc
 
-no_field_global : (t u : ℕ) → named.Global t ≡ named.Field u → ⊥
+no_field_global : (t u : ℕ) → Named.Global t ≡ Named.Field u → ⊥
 no_field_global t u h = cc
 
-no_field_function : (t u : ℕ) → named.Function t ≡ named.Field u → ⊥
+no_field_function : (t u : ℕ) → Named.Function t ≡ Named.Field u → ⊥
 no_field_function t u h = cc
 
-no_field_known : (u : ℕ) → named.Known ≡ named.Field u → ⊥
+no_field_known : (u : ℕ) → Named.Known ≡ Named.Field u → ⊥
 no_field_known u h = cc
 
-no_callee : (r : Resolution) (i : Identifier) (parameters : List Kind) (result : Kind) (t : ℕ) → Callee r i parameters result → named_at r i.site.token ≡ named.Field t → ⊥
+no_callee : (r : Resolution) (i : Identifier) (parameters : List Kind) (result : Kind) (t : ℕ) → Callee r i parameters result → named_at r i.site.token ≡ Named.Field t → ⊥
 no_callee r i _ _ t (of_program f names at text main) is = no_field_function _ t (sym names ∙ is)
 no_callee r i _ _ t (of_conditions c names text) is = no_field_known t (sym names ∙ is)
 
 -- an expression is no field's name
-no_field_name : (r : Resolution) (s : Span) (i : Identifier) (k : Kind) (t : ℕ) → HasType r (tree.identifier s i) k → named_at r i.site.token ≡ named.Field t → ⊥
+no_field_name : (r : Resolution) (s : Span) (i : Identifier) (k : Kind) (t : ℕ) → HasType r (tree.identifier s i) k → named_at r i.site.token ≡ Named.Field t → ⊥
 no_field_name r s i _ t (a_variable names at text) is = no_field_variable _ t (sym names ∙ is)
 no_field_name r s i _ t (a_global names at text) is = no_field_global _ t (sym names ∙ is)
 no_field_name r s i _ t (a_function {parameters = ps} {result = k} callee) is = no_callee r i ps k t callee is
@@ -106,45 +91,45 @@ module _ (rules : RulesAreMet) (fields_placed : FieldsPlaced) (own_found : OwnAr
   file = file_known r r.program.items (found r a.resolved a.placed a.low) (paths r a.resolved a.placed a.low).types
 
   -- ---- written paths of what is no field
-  through_leads : (token x : ℕ) (text name : List ℕ) → named_at r token ≡ named.Variable x → (w : IsMutexBehind r x name) → IsNamedPath r (PathThrough text token name) → LeadsToMutex r (lock_of (PathThrough text token name))
+  through_leads : (token x : ℕ) (text name : List ℕ) → named_at r token ≡ Named.Variable x → (w : IsMutexBehind r x name) → IsNamedPath r (PathThrough text token name) → LeadsToMutex r (lock_of (PathThrough text token name))
   through_leads token x text name names w is =
-      let kind : variable_kind (declaration_at r x) ≡ object (base.Struct is.0) 1 = first_kind r token text (object (base.Struct is.0) 1) is.2 x names in
-      let own_kind : declared_kind w.variable.written ≡ object (base.Struct is.0) 1 = sym (ap variable_kind w.declared) ∙ kind in
+      let kind : variable_kind (declaration_at r x) ≡ object (Base.Struct is.0) 1 = first_kind r token text (object (Base.Struct is.0) 1) is.2 x names in
+      let own_kind : declared_kind w.variable.written ≡ object (Base.Struct is.0) 1 = sym (ap variable_kind w.declared) ∙ kind in
       let member : IsMemberOf r is.0 name is.1 = is.3 in
       let to = points_to r fields_placed a.placed say x w.variable is.0 member.0 w.declared own_kind member.1 in
       let number : to.number ≡ w.number = same_struct to.number w.number (sym to.names ∙ w.names) in
       let struct : member.0 ≡ w.struct = same_some member.0 w.struct (sym to.is ∙ ap (slice_get (structs_in r.program.items)) number ∙ w.defined) in
       by_variable x name is.0 names refl w own_kind (member.1 ∙ ap Some struct)
 
-  path_leads : (e : Entity) (depth : ℕ) (path : Path) → (place_of e.role ≡ place.Field → ⊥) → IsNamedPath r path → IsAllowed r e depth path → LeadsToMutex r (lock_of path)
+  path_leads : (e : Entity) (depth : ℕ) (path : Path) → (place_of e.role ≡ Place.Field → ⊥) → IsNamedPath r path → IsAllowed r e depth path → LeadsToMutex r (lock_of path)
   path_leads e depth _ other is (global_mutex {g = g} names kind) = by_global g names kind
   path_leads e depth _ other is (sibling_mutex at names kind) = absurd (other at)
   path_leads e depth _ other is (sibling_pointer at top names pointer alone) = absurd (other at)
   path_leads e depth _ other is (through_constant {text = text} {m = name} {token = token} {x = x} at names constant behind) = through_leads token x text name names behind is
 
-  entity_leads : (n : Numbered) → IsEntity m n → (place_of n.entity.role ≡ place.Field → ⊥) → IsNamedType r n.entity.written → AllLead m (modes_of m (entity_row written (Some n)))
+  entity_leads : (n : Numbered) → IsEntity m n → (place_of n.entity.role ≡ Place.Field → ⊥) → IsNamedType r n.entity.written → AllLead m (modes_of m (entity_row written (Some n)))
   entity_leads n is other named_type =
       subst (λ z. AllLead m (map (λ mode. read r z (sharing_of mode)) (raw m (entity_row written (Some n))))) (sym (reading_kept n.entity.role _))
       (shown_modes rules m a (LeadsToMutex r) (raw m (entity_row written (Some n)))
       (allowed_row rules m a (λ path. LeadsToMutex r (lock_of path)) written n is
       (λ depth path allowed has. path_leads n.entity depth path other (of_each (IsNamedLevel r) n.entity.written.ctype.levels (Some (Locked path)) named_type.levels has) allowed)))
 
-  found_leads : (e : Entity) → IsFound r e → (place_of e.role ≡ place.Field → ⊥) → AllLead m (modes_of m (entity_row written (entity_at r e.token e.last)))
+  found_leads : (e : Entity) → IsFound r e → (place_of e.role ≡ Place.Field → ⊥) → AllLead m (modes_of m (entity_row written (entity_at r e.token e.last)))
   found_leads e f other =
       subst (λ o. AllLead m (modes_of m (entity_row written o))) (sym f.found)
       (entity_leads f.numbered (entity_is rules m a e f) (λ at. other (sym (ap (λ (x : Entity). place_of x.role) f.itself) ∙ at)) (subst (λ (x : Entity). IsNamedType r x.written) (sym f.itself) f.named))
 
-  local_no_field : place.Local ≡ place.Field → ⊥
+  local_no_field : Place.Local ≡ Place.Field → ⊥
   local_no_field h = cc
 
-  result_no_field : place.Result ≡ place.Field → ⊥
+  result_no_field : Place.Result ≡ Place.Field → ⊥
   result_no_field h = cc
 
   -- ---- parameters, locals and casts of a function
   has_own : (f : Function) → Contains (functions_in r.program.items) f → HasOwn r f
   has_own f has = of_each (HasOwn r) (functions_in r.program.items) f (own_found r a.resolved a.placed a.low) has
 
-  variable_leads : (s : Span) (i : Identifier) (t : ℕ) → IsExpression m (tree.identifier s i) → named_at r i.site.token ≡ named.Variable t → AllLead m (modes_of m (declared_row r written t))
+  variable_leads : (s : Span) (i : Identifier) (t : ℕ) → IsExpression m (tree.identifier s i) → named_at r i.site.token ≡ Named.Variable t → AllLead m (modes_of m (declared_row r written t))
   variable_leads s i t there names = subst (λ z. AllLead m (modes_of m (declared_row r written z))) at.2 (found_leads (declared w.what at.0) w.found (λ h. local_no_field (sym w.is_local ∙ h)))
     where
       f : Function
@@ -166,24 +151,24 @@ module _ (rules : RulesAreMet) (fields_placed : FieldsPlaced) (own_found : OwnAr
       found_leads (cast_entity s t) (of_each (IsCastFound r) (in_function there.owner) (tree.cast s t e) (has_own there.owner there.stands).cast_types there.inside) local_no_field
 
   -- ---- globals and results
-  global_leads : (o : Option GlobalDefinition) → IfSome (λ g. InFile r (declared role.Global g.declaration)) o → AllLead m (modes_of m (global_row r written o))
+  global_leads : (o : Option GlobalDefinition) → IfSome (λ g. InFile r (declared Role.Global g.declaration)) o → AllLead m (modes_of m (global_row r written o))
   global_leads None h = tt
-  global_leads (Some g) h = found_leads (declared role.Global g.declaration) h.0 global_no_field
+  global_leads (Some g) h = found_leads (declared Role.Global g.declaration) h.0 global_no_field
 
   result_leads : (o : Option Function) → IfSome (λ f. InFile r (result_of f)) o → AllLead m (modes_of m (result_row r o))
   result_leads None h = tt
   result_leads (Some f) h = found_leads (result_of f) h.0 result_no_field
 
   called_leads : (n : Named) → AllLead m (modes_of m (called_row r n))
-  called_leads (named.Function n) = result_leads (function_at r n) (at_number (λ f. InFile r (result_of f)) (functions_in r.program.items) n file.results)
+  called_leads (Named.Function n) = result_leads (function_at r n) (at_number (λ f. InFile r (result_of f)) (functions_in r.program.items) n file.results)
   called_leads _ = tt
 
   -- ---- fields
-  module _ (d : Declaration) (f : IsFound r (declared role.Field d)) where
-    allowed : (depth : ℕ) (path : Path) → slice_get d.written.ctype.levels depth ≡ Some (Some (Locked path)) → IsAllowed r (declared role.Field d) depth path
+  module _ (d : Declaration) (f : IsFound r (declared Role.Field d)) where
+    allowed : (depth : ℕ) (path : Path) → slice_get d.written.ctype.levels depth ≡ Some (Some (Locked path)) → IsAllowed r (declared Role.Field d) depth path
     allowed depth path is =
         subst (λ (x : Entity). IsAllowed r x depth path) f.itself
-        (meets.m4.forms f.numbered depth path (entity_is rules m a (declared role.Field d) f) (subst (λ (x : Entity). slice_get x.written.ctype.levels depth ≡ Some (Some (Locked path))) (sym f.itself) is))
+        (meets.m4.forms f.numbered depth path (entity_is rules m a (declared Role.Field d) f) (subst (λ (x : Entity). slice_get x.written.ctype.levels depth ≡ Some (Some (Locked path))) (sym f.itself) is))
 
     each_below : (k : ℕ) (x : Option Mode) → slice_get (drop 1 d.written.ctype.levels) k ≡ Some x → LevelOf (FieldLeads r d) x
     each_below k None is = tt
@@ -204,10 +189,10 @@ module _ (rules : RulesAreMet) (fields_placed : FieldsPlaced) (own_found : OwnAr
 
     field_raw : (how : PathReading) → AllByRecursion (ModeOf (FieldLeads r d)) (raw m (entity_row how (Some f.numbered)))
     field_raw how =
-        row_settled (ModeOf (FieldLeads r d)) (λ path e. absurd (private_path path e)) (λ path e. absurd (racy_path path e)) (λ path e. absurd (dynamic_path path e)) m a.least how f.numbered (entity_is rules m a (declared role.Field d) f) levels_good
+        row_settled (ModeOf (FieldLeads r d)) (λ path e. absurd (private_path path e)) (λ path e. absurd (racy_path path e)) (λ path e. absurd (dynamic_path path e)) m a.least how f.numbered (entity_is rules m a (declared Role.Field d) f) levels_good
 
     -- used without a constant variable, by M11
-    field_written : (s : Span) (e : Expression) (w : FieldOperator) (name : Identifier) → IsExpression m (tree.field s e w name) → base_use r w e ≡ None → named_at r name.site.token ≡ named.Field d.name.site.token → AllLead m (modes_of m (declared_row r written d.name.site.token))
+    field_written : (s : Span) (e : Expression) (w : FieldOperator) (name : Identifier) → IsExpression m (tree.field s e w name) → base_use r w e ≡ None → named_at r name.site.token ≡ Named.Field d.name.site.token → AllLead m (modes_of m (declared_row r written d.name.site.token))
     field_written s e w name there none names = to_each (LeadsIfLocked r) modes one
       where
         modes : List Sharing
@@ -236,20 +221,20 @@ module _ (rules : RulesAreMet) (fields_placed : FieldsPlaced) (own_found : OwnAr
             by (inr k) = absurd (no_sibling l (subst (Contains modes) is has) k)
 
     -- through the constant variable x, which points to the field's struct
-    module _ (at x : ℕ) (names : named_at r at ≡ named.Variable x) (struct : List ℕ) (s : StructDefinition) (kind : variable_kind (declaration_at r x) ≡ object (base.Struct struct) 1) (is : struct_named (structs_in r.program.items) struct ≡ Some s)
+    module _ (at x : ℕ) (names : named_at r at ≡ Named.Variable x) (struct : List ℕ) (s : StructDefinition) (kind : variable_kind (declaration_at r x) ≡ object (Base.Struct struct) 1) (is : struct_named (structs_in r.program.items) struct ≡ Some s)
         (member : Contains s.fields d) where
-      no_kind : variable_kind None ≡ object (base.Struct struct) 1 → ⊥
+      no_kind : variable_kind None ≡ object (Base.Struct struct) 1 → ⊥
       no_kind h = cc
 
-      is_itself : (e : Declaration) → Contains s.fields e → IsItself r named.Field e
+      is_itself : (e : Declaration) → Contains s.fields e → IsItself r Named.Field e
       is_itself e has =
-          of_each (IsItself r named.Field) s.fields e
-          (of_each (λ (z : StructDefinition). AllByRecursion (IsItself r named.Field) z.fields) (structs_in r.program.items) s (itself r a.resolved a.placed a.low).fields (struct_there (structs_in r.program.items) struct s is)) has
+          of_each (IsItself r Named.Field) s.fields e
+          (of_each (λ (z : StructDefinition). AllByRecursion (IsItself r Named.Field) z.fields) (structs_in r.program.items) s (itself r a.resolved a.placed a.low).fields (struct_there (structs_in r.program.items) struct s is)) has
 
-      sibling_leads : (text : List ℕ) (token t : ℕ) → Contains d.written.ctype.levels (Some (Locked (One text token))) → named_at r token ≡ named.Field t → named_kind r (named.Field t) ≡ mutex → LeadsToMutex r (record { first = at; second = Some (text_at r token) })
+      sibling_leads : (text : List ℕ) (token t : ℕ) → Contains d.written.ctype.levels (Some (Locked (One text token))) → named_at r token ≡ Named.Field t → named_kind r (Named.Field t) ≡ mutex → LeadsToMutex r (record { first = at; second = Some (text_at r token) })
       sibling_leads text token t level names_t kind_t = by (declaration_at r x) refl kind
         where
-          by : (o : Option Declaration) → declaration_at r x ≡ o → variable_kind o ≡ object (base.Struct struct) 1 → LeadsToMutex r (record { first = at; second = Some (text_at r token) })
+          by : (o : Option Declaration) → declaration_at r x ≡ o → variable_kind o ≡ object (Base.Struct struct) 1 → LeadsToMutex r (record { first = at; second = Some (text_at r token) })
           by None declared_x k = absurd (no_kind k)
           by (Some v) declared_x k =
               let b = is_beside r fields_placed a.placed say s d text token t (struct_there (structs_in r.program.items) struct s is) member level names_t in
@@ -310,7 +295,7 @@ module _ (rules : RulesAreMet) (fields_placed : FieldsPlaced) (own_found : OwnAr
       by None none = subst (λ z. AllLead m (modes_of m (named_row r written z))) (sym is) (field_written d (a_member struct n.text d h).0 s e Arrow n there none is)
       by (Some at) some =
           let u = use_named r e at some in
-          let kind : variable_kind (declaration_at r u.variable) ≡ object (base.Struct struct) 1 = sym u.kind ∙ one_type r a.resolved a.placed a.low e (object (base.Struct struct) 1) t in
+          let kind : variable_kind (declaration_at r u.variable) ≡ object (Base.Struct struct) 1 = sym u.kind ∙ one_type r a.resolved a.placed a.low e (object (Base.Struct struct) 1) t in
           subst (λ z. AllLead m (modes_of m (named_row r (through at) z))) (sym is)
           (field_through d (a_member struct n.text d h).0 at u.variable u.names struct h.0 kind h.1 (found_there h.0.fields n.text d h.2))
 
@@ -320,9 +305,9 @@ module _ (rules : RulesAreMet) (fields_placed : FieldsPlaced) (own_found : OwnAr
   RowLeads (Some row) = AllLead m (modes_of m row)
 
   name_leads : (s : Span) (i : Identifier) → IsExpression m (tree.identifier s i) → (n : Named) → named_at r i.site.token ≡ n → AllLead m (modes_of m (named_row r written n))
-  name_leads s i there (named.Global n) is = global_leads (global_at r n) (at_number (λ g. InFile r (declared role.Global g.declaration)) (globals_in r.program.items) n file.globals)
-  name_leads s i there (named.Variable t) is = variable_leads s i t there is
-  name_leads s i there (named.Field t) is = absurd (no_field_name r s i _ t (typed_at (tree.identifier s i) there) is)
+  name_leads s i there (Named.Global n) is = global_leads (global_at r n) (at_number (λ g. InFile r (declared Role.Global g.declaration)) (globals_in r.program.items) n file.globals)
+  name_leads s i there (Named.Variable t) is = variable_leads s i t there is
+  name_leads s i there (Named.Field t) is = absurd (no_field_name r s i _ t (typed_at (tree.identifier s i) there) is)
   name_leads s i there _ is = tt
 
   deep : (o : Option Targets) → RowLeads o → RowLeads (behind o)
@@ -335,7 +320,7 @@ module _ (rules : RulesAreMet) (fields_placed : FieldsPlaced) (own_found : OwnAr
 
   row_leads : (e : Expression) → AllByRecursion (IsExpression m) (expressions e) → RowLeads (row_at r e)
   row_leads (tree.identifier s i) h = name_leads s i h.0 (named_at r i.site.token) refl
-  row_leads (tree.constant s (constants.Number n)) h = tt
+  row_leads (tree.constant s (Constant.Number n)) h = tt
   row_leads (tree.parentheses s e) h = row_leads e h.1
   row_leads (tree.call s f all) h = called_leads (named_at r f.site.token)
   row_leads (tree.cast s t e) h = cast_leads s t e h.0

@@ -1,7 +1,5 @@
 -- What holds of each element of a list, and what is an element.
-use Rattle.std.proofs.{Common.{◌≡◌, ◌⊎◌, ⊎_elim, ◌<◌, Bool, true, false, ◌||◌, List, [], ◌∷◌, ◌++◌, ap, ◌∙◌, Contains}, lemmas.Bool.{false≢true, or_cases, or_right, or_left}}
-use Rattle.std.specs.List.{list_any}
-use Rattle.sharc_lemmas.proofs.{Lists.{head_there, head_or_tail, tail_there}, Equal.none_there}
+use Rattle.sharc_accepted_laws.proofs.Imports.{◌≡◌, ◌⊎◌, ⊎_elim, ◌<◌, Bool, true, false, ◌||◌, List, [], ◌∷◌, ◌++◌, ap, ◌∙◌, Contains, false≢true, or_cases, or_right, or_left, list_any, head_there, head_or_tail, tail_there, none_there}
 
 -- elements
 

@@ -1,15 +1,6 @@
 -- The registers of variables: each pointer has its own, and keeps it where more variables stand.
-use Rattle.std.proofs.{Common.{◌≡◌, ◌⊎◌, inl, inr, ℕ, zero, suc, ◌+◌, ◌<◌, ◌≤◌, ◌==◌, Bool, true, false, cond, List, [], ◌∷◌, ◌++◌, length, slice_get, refl, ap, sym, ◌∙◌, subst, arith, eqb-true, append_assoc, Option, Some, None}, lemmas.Bool.false≢true, lemmas.Option.{slice_get_past as got_none}}
-use Rattle.sharc_code.specs.{declared.instr.Register.Register, declared.instr.Register.TheVariants.{Int, Reference}}
-use Rattle.sharc_names.specs.{declared.fault.Named.Named, Kinds.Kind}
-use Rattle.sharc_names.specs.declared.fault.Named.TheVariants as named
-use Rattle.sharc_ctype.specs.Resolved.{named_at, declaration_at, variable_kind}
-use Rattle.sharc_meaning.specs.Cells.{field_place_behind}
-use Rattle.sharc_mode.specs.{Moded.Assignment, Notes.base_of, Rows.{written, declared_row, modes_of}, Sharings.{Lock, Sharing, private, readonly, locked, racy, dynamic}}
-use Rattle.sharc_flat.specs.{declared.slot.Slot.Slot, Scope.{Context, slot_kind, ref_count, register_from, register_of, number_in}, Suits.{PathNamed, PathStands}}
-use Rattle.sharc_accepted_laws.specs.{Shapes.{shape_of, number}, Static.{register, lock_named, lock_at, locks_at, static_of, variable_type, pointers, entry_named}, Scopes.{AllStand, DeclaredStands, IsClosedScope, with_more, HasRegister, HasOneVariable, OthersAreEmpty, NamesVariables, NamesLower, EntriesStay, NoneIsClosed, OneMoreIsClosed, FewerAreClosed, ScopeLaws}}
-use Rattle.sharc_invariant.specs.{Types.{Names, SomeNames, Mentions}, Types.Lock.Through, Labels.{Refers, EntryMentions}}
-use Rattle.sharc_lemmas.proofs.Options.{same_some, none_some}
+use Rattle.sharc_accepted_laws.proofs.Imports.{◌≡◌, ◌⊎◌, inl, inr, ℕ, zero, suc, ◌+◌, ◌<◌, ◌≤◌, ◌==◌, Bool, true, false, cond, List, [], ◌∷◌, ◌++◌, length, slice_get, refl, ap, sym, ◌∙◌, subst, arith, eqb-true, append_assoc, Option, Some, None, false≢true, got_none, Register, Int, Reference, Named, Kind, named_at, declaration_at, variable_kind, field_place_behind, Assignment, base_of, written, declared_row, modes_of, Lock, Sharing, private, readonly, locked, racy, dynamic, Slot, Context, slot_kind, ref_count, register_from, register_of, number_in, PathNamed, PathStands, shape_of, number, register, lock_named, lock_at, locks_at, static_of, variable_type, pointers, entry_named, AllStand, DeclaredStands, IsClosedScope, with_more, HasRegister, HasOneVariable, OthersAreEmpty, NamesVariables, NamesLower, EntriesStay, NoneIsClosed, OneMoreIsClosed, FewerAreClosed, ScopeLaws, SomeNames, Mentions, InRegister as Through, Refers, EntryMentions, same_some, none_some}
+use Rattle.sharc_invariant.specs.Types.{Names}
 
 -- ---- where a pointer is
 record Found (i r : ℕ) (scope : List Slot) (x : ℕ) : Type 0 where
@@ -130,7 +121,7 @@ module _ (more : List Slot) where
       by false e = e
 
   named_still : (scope : List Slot) (n : Named) (p : Option (List ℕ)) → PathNamed scope n p → PathNamed (scope ++ more) n p
-  named_still scope (named.Variable x) (Some p) h = kind_more scope x true h
+  named_still scope (Named.Variable x) (Some p) h = kind_more scope x true h
   named_still scope _ _ h = tt
 
   mode_still : (m : Assignment) (scope : List Slot) (s : Sharing) → PathStands m.typed scope s → PathStands m.typed (scope ++ more) s
@@ -142,7 +133,7 @@ module _ (more : List Slot) where
   all_still m scope (s ∷ rest) h = (mode_still m scope s h.0, all_still m scope rest h.1)
 
   lock_stays : (c : Context) (n : Named) (p : Option (List ℕ)) → PathNamed c.scope n p → lock_named (with_more c more) n p ≡ lock_named c n p
-  lock_stays c (named.Variable x) (Some p) h = ap (λ g. Through (number_in g) (field_place_behind c.program.typed x p)) (from_more 0 0 c.scope x true h)
+  lock_stays c (Named.Variable x) (Some p) h = ap (λ g. Through (number_in g) (field_place_behind c.program.typed x p)) (from_more 0 0 c.scope x true h)
   lock_stays c _ _ h = refl
 
   pub locks_stay : (c : Context) (modes : List Sharing) → AllStand c.program c.scope modes → locks_at (with_more c more) modes ≡ locks_at c modes
@@ -203,7 +194,7 @@ record NamedBy (c : Context) (scope : List Slot) (modes : List Sharing) (r : ℕ
   is : register c variable ≡ r
 
 by_name : (c : Context) (scope : List Slot) (modes : List Sharing) (r : ℕ) (l : Lock) (n : Named) (p : Option (List ℕ)) → PathNamed scope n p → Names r (lock_named c n p) → NamedBy c scope modes r
-by_name c scope modes r l (named.Variable x) (Some p) s h = record { lock = l; variable = x; stands = s; is = h }
+by_name c scope modes r l (Named.Variable x) (Some p) s h = record { lock = l; variable = x; stands = s; is = h }
 by_name c scope modes r l _ _ s h = absurd h
 
 named_by : (c : Context) (scope : List Slot) (all modes : List Sharing) (r : ℕ) → AllStand c.program scope modes → SomeNames r (locks_at c modes) → NamedBy c scope all r

@@ -1,23 +1,10 @@
 -- The name of a sibling in the type of a field names the field of that name of its struct, which stands there at the place that it has in the struct.
-use Rattle.std.proofs.{Common.{◌≡◌, ⊎_elim, ℕ, zero, suc, ◌<◌, Bool, true, false, cond, List, [], ◌∷◌, ◌++◌, length, get_or, slice_get, refl, ap, sym, ◌∙◌, subst, arith, bytes_eq, Option, Some, None, Contains}}
-use Rattle.std.specs.{Prelude.unwrap_or, List.{AllByRecursion, position}}
-use Rattle.sharc_tree.specs.declared.ctype.Base.TheVariants as base
-use Rattle.sharc_tree.specs.{declared.ctype.Mode.Mode, declared.ctype.Mode.TheVariants.Locked, declared.ctype.Path.TheVariants.One, declared.token.Token.Token, declared.tree.declaration.Declaration.Declaration, declared.tree.item.StructDefinition.StructDefinition, Marks.{Mark, a_name, level_marks, levels_marks, base_marks, IsMark, AreMarks}, Placed.{IsPlaced, PlacedType, PlacedDeclarations, PlacedItems}, Tree.{Item, structure, global, function}}
-use Rattle.sharc_names.specs.declared.fault.Named.TheVariants as named
-use Rattle.sharc_names.specs.{declared.scope.Scope.Scope, Kinds.{object, declared_kind}, Names.{Entry, Meaning, defined, look_up, named_of, field_of, named_struct}, Notes.Note, Types.{first_notes, name_notes, mode_notes, modes_notes, type_notes}}
-use Rattle.sharc_names.specs.declared.types.Role.TheVariants as role
+use Rattle.sharc_accepted_laws.proofs.{Imports.{◌≡◌, ⊎_elim, ℕ, zero, suc, ◌<◌, Bool, true, false, cond, List, [], ◌∷◌, ◌++◌, length, get_or, slice_get, refl, ap, sym, ◌∙◌, subst, arith, bytes_eq, Option, Some, None, Contains, unwrap_or, AllByRecursion, position, Base, Mode, Locked, One, Token, Declaration, StructDefinition, Mark, a_name, level_marks, levels_marks, base_marks, IsMark, AreMarks, IsPlaced, PlacedType, PlacedDeclarations, PlacedItems, Item, structure, global, function, Named, Scope, object, declared_kind, Entry, Meaning, defined, look_up, named_of, field_of, named_struct, Note, first_notes, name_notes, mode_notes, modes_notes, type_notes, Role, field_notes, fields_notes, item_notes, items_notes, file_scope, notes_about, Resolution, named_at, declaration_at, declarations_in, variable_kind, structs_in, IsMemberOf, struct_named, field_place, field_place_behind, text_of, text_at, fields_of, fields_named, fields_behind, FieldsPlaced, same_some, none_some, front, back, head_there, head_or_tail, of_each, tail_there, none_there}, Noted.{Says, AllSay, items_say, BaseSays, declarations_base, declared_has, named_by, base_of_kind}, Structs.in_file, Laying.{named_there as struct_there}, Paths.{IsPlace, place_named, position_is}}
 use Rattle.sharc_names.specs.Names as meaning
-use Rattle.sharc_ctype.specs.{Items.{field_notes, fields_notes, item_notes, items_notes, file_scope, notes_about}, Resolved.{Resolution, named_at, declaration_at, declarations_in, variable_kind, structs_in}}
-use Rattle.sharc_ctype_laws.specs.Constraints.{IsMemberOf, struct_named}
-use Rattle.sharc_meaning.specs.Cells.{field_place, field_place_behind}
-use Rattle.sharc_mode.specs.{Sharings.{text_of, text_at}, WellFormed.{fields_of, fields_named, fields_behind}}
-use Rattle.sharc_accepted_laws.specs.Fields.{FieldsPlaced}
-use Rattle.sharc_accepted_laws.proofs.{Noted.{Says, AllSay, items_say, BaseSays, declarations_base, declared_has, named_by, base_of_kind}, Structs.in_file, Laying.named_there as struct_there, Paths.{IsPlace, place_named, position_is}}
-use Rattle.sharc_lemmas.proofs.{Options.{same_some, none_some}, Lists.{front, back, head_there, head_or_tail, of_each, tail_there}, Equal.none_there}
 
 abbrev pub SiblingsAre : Resolution → Type 0
-SiblingsAre r = (x : ℕ) (struct name : List ℕ) (d : Declaration) (text : List ℕ) (token t : ℕ) → variable_kind (declaration_at r x) ≡ object (base.Struct struct) 1 → IsMemberOf r struct name d
-    → Contains d.written.ctype.levels (Some (Locked (One text token))) → named_at r token ≡ named.Field t → field_place_behind r x (text_at r token) ≡ field_place r t
+SiblingsAre r = (x : ℕ) (struct name : List ℕ) (d : Declaration) (text : List ℕ) (token t : ℕ) → variable_kind (declaration_at r x) ≡ object (Base.Struct struct) 1 → IsMemberOf r struct name d
+    → Contains d.written.ctype.levels (Some (Locked (One text token))) → named_at r token ≡ Named.Field t → field_place_behind r x (text_at r token) ≡ field_place r t
 
 -- ---- the text of a name
 text_in : (l : List Token) (n : ℕ) (text : List ℕ) → n < length l → ((d : Token) → (get_or l n d).text ≡ text) → text_of (slice_get l n) ≡ text
@@ -78,10 +65,10 @@ module _ (r : Resolution) where
   structs_say file (global g ∷ rest) h = structs_say file rest (back P (item_notes file (global g)) (items_notes file rest) h)
   structs_say file (function f ∷ rest) h = structs_say file rest (back P (item_notes file (function f)) (items_notes file rest) h)
 
-  fields_say : (scope : Scope) (all earlier list : List Declaration) → AllSay r (fields_notes scope all earlier list) → AllByRecursion (λ d. AllSay r (type_notes scope all role.Field d.written)) list
+  fields_say : (scope : Scope) (all earlier list : List Declaration) → AllSay r (fields_notes scope all earlier list) → AllByRecursion (λ d. AllSay r (type_notes scope all Role.Field d.written)) list
   fields_say scope all earlier [] h = tt
   fields_say scope all earlier (d ∷ rest) h = (
-    front P (type_notes scope all role.Field d.written) _ (front P (field_notes scope all earlier d) (fields_notes scope all (earlier ++ d ∷ []) rest) h),
+    front P (type_notes scope all Role.Field d.written) _ (front P (field_notes scope all earlier d) (fields_notes scope all (earlier ++ d ∷ []) rest) h),
     fields_say scope all (earlier ++ d ∷ []) rest (back P (field_notes scope all earlier d) (fields_notes scope all (earlier ++ d ∷ []) rest) h),
   )
 
@@ -89,18 +76,18 @@ module _ (r : Resolution) where
   levels_say scope siblings [] h = tt
   levels_say scope siblings (x ∷ rest) h = (front P (mode_notes scope siblings x) (modes_notes scope siblings rest) h, levels_say scope siblings rest (back P (mode_notes scope siblings x) (modes_notes scope siblings rest) h))
 
-  not_field : (m : Meaning) (t : ℕ) → named_of m ≡ named.Field t → ⊥
+  not_field : (m : Meaning) (t : ℕ) → named_of m ≡ Named.Field t → ⊥
   not_field (meaning.variable d) t h = cc
   not_field _ t h = cc
 
-  no_entry : (token t : ℕ) (o : Option Entry) → AllSay r (name_notes token o) → named_at r token ≡ named.Field t → ⊥
+  no_entry : (token t : ℕ) (o : Option Entry) → AllSay r (name_notes token o) → named_at r token ≡ Named.Field t → ⊥
   no_entry token t None h is = absurd h.0
   no_entry token t (Some e) h is = not_field e.meaning t (sym h.0 ∙ is)
 
-  same_field : (t u : ℕ) → named.Field t ≡ named.Field u → t ≡ u
+  same_field : (t u : ℕ) → Named.Field t ≡ Named.Field u → t ≡ u
   same_field t u h = cc
 
-  sibling : (fields : List Declaration) (text : List ℕ) (token t : ℕ) (o : Option Declaration) (e : Option Entry) → field_of fields text ≡ o → AllSay r (first_notes token o e) → named_at r token ≡ named.Field t
+  sibling : (fields : List Declaration) (text : List ℕ) (token t : ℕ) (o : Option Declaration) (e : Option Entry) → field_of fields text ≡ o → AllSay r (first_notes token o e) → named_at r token ≡ Named.Field t
       → (d : Declaration) × (field_of fields text ≡ Some d) × (t ≡ d.name.site.token)
   sibling fields text token t None e found h is = absurd (no_entry token t e h is)
   sibling fields text token t (Some d) e found h is = (d, found, same_field t d.name.site.token (sym is ∙ h.0))
@@ -118,10 +105,10 @@ module _ (r : Resolution) where
     -- the struct to which a variable points
     pub record PointsTo (d : Declaration) (s : StructDefinition) : Type 0 where
       pub number : ℕ
-      pub names : named_at r d.written.base.token ≡ named.Struct number
+      pub names : named_at r d.written.base.token ≡ Named.Struct number
       pub is : slice_get (structs_in r.program.items) number ≡ Some s
 
-    pub points_to : (x : ℕ) (d : Declaration) (struct : List ℕ) (s : StructDefinition) → declaration_at r x ≡ Some d → declared_kind d.written ≡ object (base.Struct struct) 1 → struct_named (structs_in r.program.items) struct ≡ Some s → PointsTo d s
+    pub points_to : (x : ℕ) (d : Declaration) (struct : List ℕ) (s : StructDefinition) → declaration_at r x ≡ Some d → declared_kind d.written ≡ object (Base.Struct struct) 1 → struct_named (structs_in r.program.items) struct ≡ Some s → PointsTo d s
     points_to x d struct s at kind is =
         let f = in_file struct r.program.items s is in
         let b = named_by r file.structs d struct (base_of_kind r d struct 1 kind) (declared_has r (BaseSays r file.structs) (declarations_in r.program.items) x d declared at) in
@@ -135,12 +122,12 @@ module _ (r : Resolution) where
       pub is : t ≡ found.name.site.token
       pub text_is : text_at r token ≡ text
 
-    pub is_beside : (s : StructDefinition) (d : Declaration) (text : List ℕ) (token t : ℕ) → Contains (structs_in r.program.items) s → Contains s.fields d → Contains d.written.ctype.levels (Some (Locked (One text token))) → named_at r token ≡ named.Field t → IsBeside s text token t
+    pub is_beside : (s : StructDefinition) (d : Declaration) (text : List ℕ) (token t : ℕ) → Contains (structs_in r.program.items) s → Contains s.fields d → Contains d.written.ctype.levels (Some (Locked (One text token))) → named_at r token ≡ Named.Field t → IsBeside s text token t
     is_beside s d text token t s_there d_there level names = record { found = beside.0; has = beside.1; is = beside.2; text_is = text_in r.program.tokens.list token text marked.0 (λ e. (marked.1 e).1) }
       where
-        type_says : AllSay r (type_notes file s.fields role.Field d.written)
+        type_says : AllSay r (type_notes file s.fields Role.Field d.written)
         type_says =
-            of_each (λ d. AllSay r (type_notes file s.fields role.Field d.written)) s.fields d
+            of_each (λ d. AllSay r (type_notes file s.fields Role.Field d.written)) s.fields d
             (fields_say file s.fields [] s.fields (of_each (λ s. AllSay r (fields_notes file s.fields [] s.fields)) (structs_in r.program.items) s (structs_say file r.program.items of_items) s_there)) d_there
 
         path_says : AllSay r (first_notes token (field_of s.fields text) (look_up file.names text))
@@ -169,13 +156,13 @@ module _ (r : Resolution) where
         there : IsPlace s.fields text beside.found
         there = place_named s.fields text beside.found beside.has
 
-        fields_are : (e : Declaration) → declaration_at r x ≡ Some e → variable_kind (Some e) ≡ object (base.Struct struct) 1 → fields_behind r (declaration_at r x) ≡ s.fields
+        fields_are : (e : Declaration) → declaration_at r x ≡ Some e → variable_kind (Some e) ≡ object (Base.Struct struct) 1 → fields_behind r (declaration_at r x) ≡ s.fields
         fields_are e at kind =
             let to = points_to x e struct s at kind member.1 in
             ap (fields_behind r) at ∙ ap (fields_named r) to.names ∙ ap fields_of to.is
 
-        by : (o : Option Declaration) → declaration_at r x ≡ o → variable_kind o ≡ object (base.Struct struct) 1 → field_place_behind r x (text_at r token) ≡ field_place r t
-        by None at kind = absurd (let k : variable_kind None ≡ object (base.Struct struct) 1 = kind in cc)
+        by : (o : Option Declaration) → declaration_at r x ≡ o → variable_kind o ≡ object (Base.Struct struct) 1 → field_place_behind r x (text_at r token) ≡ field_place r t
+        by None at kind = absurd (let k : variable_kind None ≡ object (Base.Struct struct) 1 = kind in cc)
         by (Some e) at kind =
             ap (λ list. unwrap_or (position (λ (y : Declaration). bytes_eq y.name.text (text_at r token)) list) 0) (fields_are e at kind)
             ∙ ap (λ z. unwrap_or (position (λ (y : Declaration). bytes_eq y.name.text z) s.fields) 0) beside.text_is

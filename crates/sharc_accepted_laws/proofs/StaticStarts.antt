@@ -1,19 +1,6 @@
 -- Functions with which a thread begins.
-use Rattle.std.proofs.{Common.{◌≡◌, ◌≢◌, ℕ, zero, suc, ◌<◌, ◌||◌, Bool, true, false, cond, List, [], ◌∷◌, length, refl, ap, sym, ◌∙◌, subst, arith, slice_get, Option, Some, Contains}, lemmas.Bool.{false≢true, ltb-true, ne_eqb}}
-use Rattle.sharc_tree.specs.{declared.ctype.Base.Base, declared.tree.declaration.Declaration.Declaration, Tree.Function}
-use Rattle.sharc_names.specs.Kinds.{Kind, object, void, is_pointer, is_null, declared_kind}
-use Rattle.sharc_code.specs.declared.code.GlobalCells.{GlobalCells}
-use Rattle.sharc_code.specs.declared.code.Parameter.TheVariants as parameters
-use Rattle.sharc_ctype.specs.{Reaches.Spawns, Resolved.{function_at, functions_in, declaration_at, variable_kind}}
-use Rattle.sharc_ctype_laws.specs.{Callable.IsThread, Laws.{AllFair, EachNamesItself, SpawnsThreads}}
-use Rattle.sharc_meaning.specs.State.{is_reference}
-use Rattle.sharc_mode.specs.{Cells.pointed, Moded.Assignment, Notes.base_of, RowLaws.RowLaws, Rows.{written, deeper, declared_row, modes_of}, Sharings.{Sharing, private}}
-use Rattle.sharc_check.specs.RuleLaws.{RulesAreMet}
-use Rattle.sharc_flat.specs.{Flattened.{parameters_scope, parameter_of, in_function}, Scope.Context}
-use Rattle.sharc_invariant.specs.{Labels.{Empty, Refers, EntryMentions}, Types.{Targets, row_of, globals_target, is_private}, Typed.IsShared}
-use Rattle.sharc_accepted_laws.specs.{StaticLaws.IsAccepted, Scopes.IsClosedScope, Starting.{BeginsAlone, SpawnedBegin}, Static.{variable_type, pointers, entry_named, variable_entry}, TargetLaws.{NumbersFound, VariablesFound}, Shapes.{Shape, shape_of, stars_in, number}, Targets.{starts_private, targets_of}}
-use Rattle.sharc_accepted_laws.proofs.{Given.parameter_declared, StaticRegisters.names_lower, TargetLists.place_there}
-use Rattle.sharc_lemmas.proofs.{Options.same_some, Lists.head_there}
+use Rattle.sharc_accepted_laws.proofs.{Imports.{◌≡◌, ◌≢◌, ℕ, zero, suc, ◌<◌, ◌||◌, Bool, true, false, cond, List, [], ◌∷◌, length, refl, ap, sym, ◌∙◌, subst, arith, slice_get, Option, Some, Contains, false≢true, ltb-true, ne_eqb, Base, Declaration, Function, Kind, object, void, is_pointer, is_null, declared_kind, GlobalCells, Parameter, Spawns, function_at, functions_in, declaration_at, variable_kind, IsThread, AllFair, EachNamesItself, SpawnsThreads, is_reference, pointed, Assignment, base_of, RowLaws, written, deeper, declared_row, modes_of, Sharing, private, RulesAreMet, parameters_scope, parameter_of, context_in as in_function, Context, Empty, Refers, EntryMentions, row_of, globals_target, IsShared, IsAccepted, IsClosedScope, BeginsAlone, SpawnedBegin, variable_type, pointers, entry_named, variable_entry, NumbersFound, VariablesFound, Shape, shape_of, stars_in, number, starts_private, targets_of, same_some, head_there}, Given.parameter_declared, StaticRegisters.names_lower, TargetLists.place_there}
+use Rattle.sharc_invariant.specs.Types.{Targets, is_private}
 
 -- a row whose target is not private
 not_globals : (x : Targets) (target : ℕ) → target < length x.rows → (row_of x target).is_private ≡ false → is_private x (record { target = target; locks = [] }) ≡ false
@@ -71,11 +58,11 @@ module _ (rows : RowLaws) (numbers_found : NumbersFound) (variables_found : Vari
       by false is = entry_at (suc p) false is
 
   -- what is no reference is in no register
-  reference : parameter_of f.parameters ≢ parameters.Reference → variable_entry c 0 ≡ Empty
+  reference : parameter_of f.parameters ≢ Parameter.Reference → variable_entry c 0 ≡ Empty
   reference none = by (is_pointer (declared_kind thread.parameter.written)) refl
     where
       by : (b : Bool) → is_pointer (declared_kind thread.parameter.written) ≡ b → variable_entry c 0 ≡ Empty
-      by true is = absurd (none (ap parameter_of one ∙ ap (λ z. cond (z || is_null (declared_kind thread.parameter.written)) parameters.Reference parameters.Int) is))
+      by true is = absurd (none (ap parameter_of one ∙ ap (λ z. cond (z || is_null (declared_kind thread.parameter.written)) Parameter.Reference Parameter.Int) is))
       by false is = entry_at 0 false is
 
   closed : (q : ℕ) → EntryMentions (variable_entry c 0) q → ⊥

@@ -1,20 +1,8 @@
 -- The lock paths of types lead through pointers that stand: over all statements of a function, with the variables that stand at each.
-use Rattle.std.proofs.Common.{◌≡◌, ◌⊎◌, inl, inr, ℕ, ◌==◌, Bool, true, false, cond, List, [], ◌∷◌, ◌++◌, length, map, refl, ap, sym, ◌∙◌, subst, eqb-true, append-nil, append_assoc, Option, Some, None, Contains}
-use Rattle.std.specs.List.{AllByRecursion}
-use Rattle.sharc_tree.specs.{declared.tree.declaration.Declaration.Declaration, Measures.{expressions, in_option, in_right, in_simple, in_local, in_first, in_statement, in_statements, in_function}, Tree.{Expression, Right, value, malloc, Simple, assign, does_call, Local, First, nothing, declares, does, Statement, Statements, no_statements, statement, Function, Item, structure, global, function}}
+use Rattle.sharc_accepted_laws.proofs.{Imports.{◌≡◌, ◌⊎◌, inl, inr, ℕ, ◌==◌, Bool, true, false, cond, List, [], ◌∷◌, ◌++◌, length, map, refl, ap, sym, ◌∙◌, subst, eqb-true, append-nil, append_assoc, Option, Some, None, Contains, AllByRecursion, Declaration, expressions, in_option, in_right, in_simple, in_local, in_first, in_statement, in_statements, in_function, Expression, Right, value, malloc, Simple, assign, does_call, Local, First, nothing, declares, does, Statement, Statements, no_statements, statement, Function, Item, structure, global, function, GlobalCells, Named, Scope, is_pointer, Entry, Role, declared as entity_declared, casts, local_entities, first_entities, head_entities, statement_entities, statements_entities, result_of, function_entities, entities_in, with_parameters, in_body, file_scope, Resolution, functions_in, declaration_at, variable_kind, Around, opened, looping, with_names, is_here, behind_first, after, first_locals, locals_in_all, IsItself, IsFound, EachTypeFound, EachNameOnce, OnlyNames, EachNamesItself, EachNamesFound, EachPathFound, MeetsConstraints, NamesFound, meaning_token, IsVariableIn, TypeStands, PathsAt, FirstRead, LocalsStand, AllLocalsStand, around_in, BodyStands, Placing, at, places_in_local, places_in_first, places_in, places_in_all, places_of, places_of_all, IsLeastAssignment, Assignment, written, Slot, with_variable, flat_behind_first, behind_statement, parameters_scope, Context, slot_of, slot_kind, DeclaredStands, IsClosedScope, ExpressionStands, ExpressionsStand, LocalStands, FirstStands, StatementStands, StatementsStand, FunctionStands, FunctionsStand, eqb_same, same_some, none_some, front, back, both, head_there, together, of_each, tail_there}, Noted.{all_say, parameters_closed}, Scoping.ParametersStand, FileNames.in_file, Places.{right_kind, Here, FileKnown, file_known, found_stands, reads_written, Seen, all_stand, casts_found, PlaceKnown, IsTyped, seen_by}, StaticRegisters.{kind_more, all_still, none_closed, more_closed}}
 use Rattle.sharc_tree.specs.Tree as tree
-use Rattle.sharc_code.specs.declared.code.GlobalCells.{GlobalCells}
-use Rattle.sharc_names.specs.declared.fault.Named.TheVariants as named
-use Rattle.sharc_names.specs.{declared.scope.Scope.Scope, Kinds.is_pointer, Names.Entry}
-use Rattle.sharc_names.specs.declared.types.Role.TheVariants as role
 use Rattle.sharc_names.specs.Names as meaning
-use Rattle.sharc_ctype.specs.{Entities.{declared as entity_declared, casts, local_entities, first_entities, head_entities, statement_entities, statements_entities, result_of, function_entities, entities_in}, Items.{with_parameters, in_body, file_scope}, Resolved.{Resolution, functions_in, declaration_at, variable_kind}, Statements.{Around, opened, looping, with_names, is_here, declared, behind_first, in_head, after, first_locals, locals_in, locals_in_all}}
-use Rattle.sharc_ctype_laws.specs.{Declared.IsItself, Found.{IsFound, EachTypeFound}, Laws.{EachNameOnce, OnlyNames, EachNamesItself, EachNamesFound, EachPathFound, MeetsConstraints, NamesFound}, Paths.{meaning_token, IsVariableIn, TypeStands, PathsAt, FirstStands as FirstRead, LocalsStand, AllLocalsStand, around_in, BodyStands}, Places.{Placing, at, places_in_local, places_in_first, places_in, places_in_all, places_of, places_of_all}}
-use Rattle.sharc_mode.specs.{Flows.IsLeastAssignment, Moded.Assignment, Rows.written}
-use Rattle.sharc_flat.specs.{declared.slot.Slot.Slot, Flattened.{with_variable, behind_first as flat_behind_first, behind_statement, parameters_scope}, Scope.{Context, slot_of, slot_kind}}
-use Rattle.sharc_accepted_laws.specs.{Scopes.{DeclaredStands, IsClosedScope}, Standing.{ExpressionStands, ExpressionsStand, LocalStands, FirstStands, StatementStands, StatementsStand, FunctionStands, FunctionsStand}}
-use Rattle.sharc_accepted_laws.proofs.{Noted.{all_say, parameters_closed}, Scoping.ParametersStand, FileNames.in_file, Places.{right_kind, Here, FileKnown, file_known, found_stands, reads_written, Seen, all_stand, casts_found, PlaceKnown, IsTyped, seen_by}, StaticRegisters.{kind_more, all_still, none_closed, more_closed}}
-use Rattle.sharc_lemmas.proofs.{Numbers.{same_is as eqb_same}, Options.{same_some, none_some}, Lists.{front, back, both, head_there, together, of_each, tail_there}}
+use Rattle.sharc_ctype.specs.Statements.{declared, in_head, locals_in}
 
 -- ---- the scope grows
 abbrev SlotIsRight : Resolution → Slot → Type 0
@@ -92,7 +80,7 @@ module _ (m2 : Assignment) (least : IsLeastAssignment m2) (file : FileKnown m2.t
   Typed list = AllByRecursion (IsTyped r2) list
 
   abbrev Own : List Declaration → Type 0
-  Own list = AllByRecursion (IsItself r2 named.Variable) list
+  Own list = AllByRecursion (IsItself r2 Named.Variable) list
 
   module _ (slots : List Slot) (scope : Scope) (b : Both (in_scope slots) scope.names) where
     abbrev c2 : Context
@@ -129,18 +117,18 @@ module _ (m2 : Assignment) (least : IsLeastAssignment m2) (file : FileKnown m2.t
 
   -- a local, where its type is read before it
   local_stands : (slots : List Slot) (around : Around) (scope : Scope) → Both (in_scope slots) scope.names → (l : Local) → AllByRecursion (IsFound r2) (local_entities l) → Known (places_in_local around scope l) → Typed (in_local l)
-      → TypeStands r2 scope.names l.declaration.written → IsItself r2 named.Variable l.declaration → LocalStands (in_scope slots) l
+      → TypeStands r2 scope.names l.declaration.written → IsItself r2 Named.Variable l.declaration → LocalStands (in_scope slots) l
   local_stands slots around scope b l f k t read itself =
-      let stands : DeclaredStands m2 slots l.declaration.name.site.token = found_stands (in_scope slots) least scope.names b.here.slots written (reads_written (in_scope slots)) (entity_declared role.Local l.declaration) f.0 read in
+      let stands : DeclaredStands m2 slots l.declaration.name.site.token = found_stands (in_scope slots) least scope.names b.here.slots written (reads_written (in_scope slots)) (entity_declared Role.Local l.declaration) f.0 read in
       let inner = with_names scope (declared around.block l.declaration scope.names) in
       let more = grown (in_scope slots) around.block l.declaration scope.names b itself.1 stands in
       (stands, right_options (slots ++ slot_of l.declaration ∷ []) inner more l.initial (seen (slots ++ slot_of l.declaration ∷ []) inner more (in_option in_right l.initial) k t f.1))
 
-  local_grown : (slots : List Slot) (around : Around) (names : List Entry) → Both (in_scope slots) names → (l : Local) → AllByRecursion (IsFound r2) (local_entities l) → TypeStands r2 names l.declaration.written → IsItself r2 named.Variable l.declaration
+  local_grown : (slots : List Slot) (around : Around) (names : List Entry) → Both (in_scope slots) names → (l : Local) → AllByRecursion (IsFound r2) (local_entities l) → TypeStands r2 names l.declaration.written → IsItself r2 Named.Variable l.declaration
       → Both (with_variable (in_scope slots) l.declaration) (declared around.block l.declaration names)
   local_grown slots around names b l f read itself =
       grown (in_scope slots) around.block l.declaration names b itself.1
-      (found_stands (in_scope slots) least names b.here.slots written (reads_written (in_scope slots)) (entity_declared role.Local l.declaration) f.0 read)
+      (found_stands (in_scope slots) least names b.here.slots written (reads_written (in_scope slots)) (entity_declared Role.Local l.declaration) f.0 read)
 
   first_stands : (slots : List Slot) (around : Around) (scope : Scope) → Both (in_scope slots) scope.names → (x : First) → AllByRecursion (IsFound r2) (first_entities x) → Known (places_in_first around scope x) → Typed (in_first x)
       → FirstRead r2 scope.names x → Own (first_locals x) → FirstStands (in_scope slots) x
@@ -211,14 +199,14 @@ module _ (m2 : Assignment) (least : IsLeastAssignment m2) (file : FileKnown m2.t
             places = back (PlaceKnown r2) P PA k;
             typed = back (IsTyped r2) (expressions e) (in_statement a) t;
             read = g.read.0;
-            own = front (IsItself r2 named.Variable) (locals_in a) (locals_in z) g.own;
+            own = front (IsItself r2 Named.Variable) (locals_in a) (locals_in z) g.own;
           }),
           statement_stands slots inside scope z b (record {
             found = back (IsFound r2) (E ++ statement_entities a) (statement_entities z) g.found;
             places = back (PlaceKnown r2) (P ++ PA) PZ g.places;
             typed = back (IsTyped r2) (expressions e ++ in_statement a) (in_statement z) g.typed;
             read = g.read.1;
-            own = back (IsItself r2 named.Variable) (locals_in a) (locals_in z) g.own;
+            own = back (IsItself r2 Named.Variable) (locals_in a) (locals_in z) g.own;
           }),
         )
     statement_stands slots around scope (tree.while s e a) b g =
@@ -252,7 +240,7 @@ module _ (m2 : Assignment) (least : IsLeastAssignment m2) (file : FileKnown m2.t
         let kh : Known (at inner (test ++ step)) = back (PlaceKnown r2) PF PH k in
         let t = front (IsTyped r2) (in_first h.first ++ test ++ step) (in_statement a) g.typed in
         let t1 = front (IsTyped r2) (in_first h.first ++ test) step t in
-        let of = front (IsItself r2 named.Variable) (first_locals h.first) (locals_in a) g.own in
+        let of = front (IsItself r2 Named.Variable) (first_locals h.first) (locals_in a) g.own in
         let more = first_grown slots outer scope.names b h.first ff g.read.0 of in
         let c3 = (flat_behind_first (in_scope slots) h.first).scope in
         let more3 : Both (in_scope c3) inner.names = subst (λ z. Both z inner.names) (context_first h.first slots) more in (
@@ -264,7 +252,7 @@ module _ (m2 : Assignment) (least : IsLeastAssignment m2) (file : FileKnown m2.t
             places = back (PlaceKnown r2) (PF ++ PH) PA g.places;
             typed = back (IsTyped r2) (in_first h.first ++ test ++ step) (in_statement a) g.typed;
             read = g.read.1;
-            own = back (IsItself r2 named.Variable) (first_locals h.first) (locals_in a) g.own;
+            own = back (IsItself r2 Named.Variable) (first_locals h.first) (locals_in a) g.own;
           })),
         )
     statement_stands slots around scope _ b g = tt
@@ -278,7 +266,7 @@ module _ (m2 : Assignment) (least : IsLeastAssignment m2) (file : FileKnown m2.t
           places = front (PlaceKnown r2) (places_in around scope a) (places_in_all around inner rest) g.places;
           typed = front (IsTyped r2) (in_statement a) (in_statements rest) g.typed;
           read = g.read.0;
-          own = front (IsItself r2 named.Variable) (locals_in a) (locals_in_all rest) g.own;
+          own = front (IsItself r2 Named.Variable) (locals_in a) (locals_in_all rest) g.own;
         } in
         let c3 = (behind_statement (in_scope slots) a).scope in
         let more3 : Both (in_scope c3) inner.names = subst (λ z. Both z inner.names) (context_behind a slots) (after_grown slots around scope a b now) in (
@@ -288,7 +276,7 @@ module _ (m2 : Assignment) (least : IsLeastAssignment m2) (file : FileKnown m2.t
             places = back (PlaceKnown r2) (places_in around scope a) (places_in_all around inner rest) g.places;
             typed = back (IsTyped r2) (in_statement a) (in_statements rest) g.typed;
             read = g.read.1;
-            own = back (IsItself r2 named.Variable) (locals_in a) (locals_in_all rest) g.own;
+            own = back (IsItself r2 Named.Variable) (locals_in a) (locals_in_all rest) g.own;
           })),
         )
 
@@ -297,11 +285,11 @@ module _ (m2 : Assignment) (least : IsLeastAssignment m2) (file : FileKnown m2.t
     both_stand : Both (in_scope slots) names
     closed : IsClosedScope m2 slots
 
-  parameters_stand : (slots : List Slot) (start : ℕ) (names : List Entry) (ds : List Declaration) → Parameters slots names → ParametersStand r2 start names ds → AllByRecursion (IsFound r2) (map (entity_declared role.Parameter) ds) → Own ds
+  parameters_stand : (slots : List Slot) (start : ℕ) (names : List Entry) (ds : List Declaration) → Parameters slots names → ParametersStand r2 start names ds → AllByRecursion (IsFound r2) (map (entity_declared Role.Parameter) ds) → Own ds
       → Parameters (slots ++ parameters_scope ds) (with_parameters start names ds)
   parameters_stand slots start names [] p stands f own = subst (λ z. Parameters z names) (sym (append-nil slots)) p
   parameters_stand slots start names (d ∷ rest) p stands f own =
-      let declared_stand : DeclaredStands m2 slots d.name.site.token = found_stands (in_scope slots) least names p.both_stand.here.slots written (reads_written (in_scope slots)) (entity_declared role.Parameter d) f.0 stands.0 in
+      let declared_stand : DeclaredStands m2 slots d.name.site.token = found_stands (in_scope slots) least names p.both_stand.here.slots written (reads_written (in_scope slots)) (entity_declared Role.Parameter d) f.0 stands.0 in
       subst (λ z. Parameters z (with_parameters start (declared start d names) rest)) (append_assoc slots (slot_of d ∷ []) (parameters_scope rest))
       (parameters_stand (slots ++ slot_of d ∷ []) start (declared start d names) rest
       (record { both_stand = grown (in_scope slots) start d names p.both_stand own.0.1 declared_stand; closed = more_closed m2 slots (slot_of d) p.closed declared_stand }) stands.1 f.1 own.1)
@@ -316,13 +304,13 @@ module _ (m2 : Assignment) (least : IsLeastAssignment m2) (file : FileKnown m2.t
 
   function_stands : (file_names : Scope) → ((x : ℕ) → IsVariableIn file_names.names x → ⊥) → (f : Function) → FunctionGiven file_names f → FunctionStands m2 globals f
   function_stands file_names none f g =
-      let heads = result_of f ∷ map (entity_declared role.Parameter) f.parameters in
+      let heads = result_of f ∷ map (entity_declared Role.Parameter) f.parameters in
       let start : Parameters [] file_names.names = record {
         both_stand = record { here = record { slots = λ x h. absurd (none x h); types = λ x h. absurd (none x h) }; slots = tt };
         closed = none_closed m2;
       } in
       let p = parameters_stand [] (length file_names.names) file_names.names f.parameters start g.parameters (front (IsFound r2) heads (statements_entities f.statements) g.found).1
-      (front (IsItself r2 named.Variable) f.parameters (locals_in_all f.statements) g.own) in
+      (front (IsItself r2 Named.Variable) f.parameters (locals_in_all f.statements) g.own) in
       record {
         parameters = p.closed;
         statements = statements_stand (parameters_scope f.parameters) (around_in file_names f) (in_body file_names f) f.statements p.both_stand (record {
@@ -330,7 +318,7 @@ module _ (m2 : Assignment) (least : IsLeastAssignment m2) (file : FileKnown m2.t
           places = g.places;
           typed = g.typed;
           read = g.read;
-          own = back (IsItself r2 named.Variable) f.parameters (locals_in_all f.statements) g.own;
+          own = back (IsItself r2 Named.Variable) f.parameters (locals_in_all f.statements) g.own;
         });
       }
 
@@ -346,7 +334,7 @@ module _ (m2 : Assignment) (least : IsLeastAssignment m2) (file : FileKnown m2.t
 -- ---- what the laws say
 functions_found : (r : Resolution) (items : List Item) → AllByRecursion (IsFound r) (entities_in items) → AllByRecursion (λ f. AllByRecursion (IsFound r) (function_entities f)) (functions_in items)
 functions_found r [] f = tt
-functions_found r (structure x ∷ rest) f = functions_found r rest (back (IsFound r) (map (entity_declared role.Field) x.fields) (entities_in rest) f)
+functions_found r (structure x ∷ rest) f = functions_found r rest (back (IsFound r) (map (entity_declared Role.Field) x.fields) (entities_in rest) f)
 functions_found r (global x ∷ rest) f = functions_found r rest f.1
 functions_found r (function x ∷ rest) f = (front (IsFound r) (function_entities x) (entities_in rest) f, functions_found r rest (back (IsFound r) (function_entities x) (entities_in rest) f))
 

@@ -1,11 +1,6 @@
 -- A struct of the program is known by its name in the file, the first of that name.
-use Rattle.std.proofs.{Common.{◌≡◌, ℕ, suc, ◌+◌, Bool, true, false, cond, List, [], ◌∷◌, ◌++◌, slice_get, refl, ap, sym, ◌∙◌, arith, Some, None, is_some, bytes_eq}, lemmas.Bool.{true≢false, false_from_ne_true}, lemmas.Slice.Eq.bytes_eq-Decides}
-use Rattle.sharc_tree.specs.{declared.tree.item.StructDefinition.StructDefinition, Tree.{Item, structure, global, function}}
-use Rattle.sharc_names.specs.{declared.scope.Scope.Scope, Names.{StructTable, StructMeaning, defined, struct_of}}
-use Rattle.sharc_ctype.specs.{Condition.{defines_condition, with_conditions}, Heads.{Heading as Heads, with_struct, behind, behind_all, no_heads}, Items.file_scope, Resolved.structs_in}
-use Rattle.sharc_ctype_laws.specs.Constraints.{struct_named}
-use Rattle.sharc_accepted_laws.proofs.TargetFirsts.{some_none}
-use Rattle.sharc_lemmas.proofs.{Options.{same_some, none_some}, Lists.bytes_same}
+use Rattle.sharc_accepted_laws.proofs.{Imports.{◌≡◌, ℕ, suc, ◌+◌, Bool, true, false, cond, List, [], ◌∷◌, ◌++◌, slice_get, refl, ap, sym, ◌∙◌, arith, Some, None, is_some, bytes_eq, true≢false, false_from_ne_true, bytes_eq-Decides, StructDefinition, Item, structure, global, function, Scope, StructTable, StructMeaning, defined, struct_of, defines_condition, with_conditions, Heads, with_struct, behind_all, no_heads, file_scope, structs_in, struct_named, same_some, none_some, bytes_same}, TargetFirsts.some_none}
+use Rattle.sharc_ctype.specs.Heads.{behind}
 
 module _ (name : List ℕ) where
   kept : (table : StructTable) (e : List ℕ × StructMeaning) (m : StructMeaning) → struct_of table name ≡ Some m → struct_of (table ++ e ∷ []) name ≡ Some m

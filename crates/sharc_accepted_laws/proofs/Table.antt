@@ -1,9 +1,6 @@
 -- A table is one of targets where each of its fields is good, by itself and beside the others of its element.
-use Rattle.std.proofs.{Common.{◌≡◌, ℕ, zero, suc, ◌+◌, ◌-◌, ◌*◌, ◌/◌, ◌%◌, ◌<◌, ◌≤◌, ◌==◌, Bool, true, false, List, [], ◌∷◌, length, map, slice_index_or, refl, ap, sym, ◌∙◌, subst, arith, ne_eqb, ⊎_elim}, lemmas.Bool.{true≢false, false≢true, cases_lt}, lemmas.Nat.div-add-mod', Math.Nat.{mod-eq_of_lt, mul-add-mod_self_right}}
-use Rattle.std.specs.List.{AllByRecursion}
-use Rattle.sharc_invariant.specs.Types.{Mutex, ObjectType, nothing, field_mutex, OfElement, FieldMode, Under, FieldType, Content, Integer, Pointer, Field, Target, Targets, no_field, no_target, row_of, cells_of, field_at, field_of_cell, global_field, mode_in, type_in, globals_target, field_in, mode_at, type_at, is_private, is_mutex, is_pointer, AreTargets, FieldMode as field, CellMode as cell}
-use Rattle.sharc_code.specs.declared.instr.Width.TheVariants.{Long}
-use Rattle.sharc_accepted_laws.proofs.TargetLists.{at_place}
+use Rattle.sharc_accepted_laws.proofs.{Imports.{◌≡◌, ℕ, zero, suc, ◌+◌, ◌-◌, ◌*◌, ◌/◌, ◌%◌, ◌<◌, ◌≤◌, ◌==◌, Bool, true, false, List, [], ◌∷◌, length, map, get_or as slice_index_or, refl, ap, sym, ◌∙◌, subst, arith, ne_eqb, ⊎_elim, true≢false, false≢true, cases_lt, div-add-mod', mod-eq_of_lt, mul-add-mod_self_right, AllByRecursion, ObjectType, field_mutex, OfElement, FieldMode, Under, FieldType, Content, Integer, Pointer, Field, TableTarget as Target, no_field, no_target, row_of, cells_of, field_at, field_of_cell, global_field, mode_in, type_in, globals_target, field_in, mode_at, type_at, AreTargets, FieldMode as field, cell, Long}, TargetLists.at_place}
+use Rattle.sharc_invariant.specs.Types.{Mutex, nothing, Targets, is_private, is_mutex, is_pointer}
 
 -- ---- fields
 -- a field of a row that is private or not: a private cell stands in private data, and what it refers to is a row, private only where the cell is

@@ -1,18 +1,7 @@
 -- The tables of code that is made of a program.
-use Rattle.std.proofs.{Common.{◌≡◌, ℕ, zero, suc, pos, ◌+◌, ◌^◌, ◌<◌, ◌≤◌, Bool, List, [], ◌∷◌, length, map, slice_get, slice_index, slice_index_or, refl, ap, sym, ◌∙◌, subst, arith, Some}, lemmas.List.length-map}
-use Rattle.std.specs.Prelude.{unsigned_abs}
-use Rattle.sharc_tree.specs.{declared.token.Number.Number, declared.token.Span.Span, declared.tree.item.GlobalDefinition.GlobalDefinition, declared.tree.item.GlobalForm.GlobalForm, declared.tree.item.GlobalForm.TheVariants.Initial, Tree.Function}
-use Rattle.sharc_tree.specs.declared.tree.expression.Constant.TheVariants as constants
-use Rattle.sharc_code.specs.{declared.code.Code.Code, declared.code.Function.{Function as Row}, declared.code.GlobalCells.GlobalCells, Machine.no_function, Ranges.GlobalsFit}
-use Rattle.sharc_ctype.specs.Resolved.{globals_in, functions_in, function_at}
-use Rattle.sharc_mode.specs.Moded.{Assignment}
-use Rattle.sharc_flat.specs.{declared.flat.Flat.{Flat as FlatCode}, Made.flat_of, Flattened.{parameter_of, function_code, rows_of}, Flattens.{Flattens, names_of}, Laid.AreNamed, Tables.globals_of}
-use Rattle.sharc_guard.specs.{Guard.{entered_at, place}, Known.dropped}
+use Rattle.sharc_accepted_laws.proofs.Imports.{◌≡◌, ℕ, zero, suc, pos, ◌+◌, ◌^◌, ◌<◌, ◌≤◌, Bool, List, [], ◌∷◌, length, map, slice_get, slice_index, get_or as slice_index_or, refl, ap, sym, ◌∙◌, subst, arith, Some, length-map, unsigned_abs, Span, GlobalDefinition, GlobalForm, Function, Constant, Code, Row, GlobalCells, no_function, GlobalsFit, globals_in, functions_in, function_at, Assignment, FlatCode, flat_of, parameter_of, function_code, rows_of, Flattens, names_of, AreNamed, globals_of, entered_at, place, dropped, MadeTablesFit, AreGlobals, SomeAreAlone, IsAccepted, GranulesAreFew, IsCounted, CountedForm, HasTables, TargetsAre, GlobalsHold, targets_of, AreUnsigned, CodeIsSet, HasRow, same_some, none_some, place_of_element, to_each}
+use Rattle.sharc_tree.specs.{declared.token.Number.Number, declared.tree.item.GlobalForm.TheVariants.Initial}
 use Rattle.sharc_compile.specs.Made.{IsCodeOf}
-use Rattle.sharc_flat_laws.specs.Tables.{MadeTablesFit}
-use Rattle.sharc_invariant.specs.Typed.{AreGlobals}
-use Rattle.sharc_accepted_laws.specs.{Alone.SomeAreAlone, StaticLaws.IsAccepted, Granules.GranulesAreFew, TargetLaws.{IsCounted, CountedForm, HasTables, TargetsAre, GlobalsHold}, Targets.targets_of, Programs.{AreUnsigned, CodeIsSet}, Setting.HasRow}
-use Rattle.sharc_lemmas.proofs.{Options.{same_some, none_some}, Lists.{place_of_element, to_each}}
 
 -- ---- rows
 record RowAt (made : List Row) (n : ℕ) (g : Function) : Type 0 where
@@ -38,11 +27,11 @@ entered_row pl (y ∷ made) zero = refl
 entered_row pl (y ∷ made) (suc n) = entered_row pl made n
 
 -- ---- constants
-counted : (k : Number) (n : ℕ) → k.value ≡ pos n → IsCounted (constants.Number k)
+counted : (k : Number) (n : ℕ) → k.value ≡ pos n → IsCounted (Constant.Number k)
 counted k n is = is ∙ ap (λ z. pos (unsigned_abs z)) (sym is)
 
-counted_form : (form : GlobalForm) → ((span : Span) (minus : Bool) (k : Number) → form ≡ Initial span minus (constants.Number k) → (n : ℕ) × (k.value ≡ pos n)) → CountedForm form
-counted_form (Initial span minus (constants.Number k)) unsigned = let n = unsigned span minus k refl in counted k n.0 n.1
+counted_form : (form : GlobalForm) → ((span : Span) (minus : Bool) (k : Number) → form ≡ Initial span minus (Constant.Number k) → (n : ℕ) × (k.value ≡ pos n)) → CountedForm form
+counted_form (Initial span minus (Constant.Number k)) unsigned = let n = unsigned span minus k refl in counted k n.0 n.1
 counted_form _ unsigned = tt
 
 module _ (alone : SomeAreAlone) (targets : TargetsAre) (globals_hold : GlobalsHold) (fit : MadeTablesFit) (granules : GranulesAreFew) (m : Assignment) (a : IsAccepted m) (flat : FlatCode) (made : Flattens m flat) (code : Code) (is : IsCodeOf flat code) where

@@ -1,20 +1,7 @@
 -- Casts, and what is freed.
-use Rattle.std.proofs.{Common.{◌≡◌, ℕ, ◌+◌, ◌<◌, true, false, refl, ap, sym, ◌∙◌, subst, arith, option_map, lt-ltb, Some, None}, lemmas.Bool.or_left}
-use Rattle.sharc_tree.specs.{declared.token.Span.Span, declared.tree.declaration.Identifier.Identifier, declared.tree.declaration.WrittenType.WrittenType, Forms.without_parentheses, Tree.Expression}
+use Rattle.sharc_accepted_laws.proofs.{Imports.{◌≡◌, ℕ, ◌+◌, ◌<◌, true, false, refl, ap, sym, ◌∙◌, subst, arith, option_map, lt-ltb, Some, None, or_left, Span, Identifier, WrittenType, without_parentheses, Expression, Named, Kind, is_pointer, is_null, declared_kind, element_kind, Use, named_at, named_kind, structs_in, a_cast, HasType as IsOfType, MeetsConstraints, OneType, element_cells, base_of, Targets, written, cast_row, named_row, modes_of, modes_at, IsExpression, kind_of, target_of, layout_of, named_target, Context, ref_count, number_in, StaticType, cells_of, Refers, Recasts, IsLayout, Setting, type_by, VariableTakes, Takes, CastTyped, FreeTyped, CastsRecast, HeldLaws, held_at, IsAccepted, ScopeLaws, ExpressionStands, register, static_of, variable_type, variable_entry, entry_by, entry_of, ExpressionsFound, LayoutsAre, HasTables, pointee, PointeeFits, PointeesFit, row_shape, targets_of, IsAt, VariablesAreTaken, TakingLaws, typing}, TypableRegisters.reference_found, Values.{has_row, pointer_no_null, typed_at, type_in, pointer_is}, Members.first_of}
 use Rattle.sharc_tree.specs.Tree as tree
-use Rattle.sharc_names.specs.declared.fault.Named.TheVariants as named
-use Rattle.sharc_names.specs.Kinds.{Kind, is_pointer, is_null, declared_kind, element_kind}
-use Rattle.sharc_code.specs.declared.code.Use.TheVariants as uses
-use Rattle.sharc_ctype.specs.Resolved.{named_at, named_kind, structs_in}
-use Rattle.sharc_ctype_laws.specs.{Constraints.{a_cast, HasType as IsOfType}, Laws.{MeetsConstraints, OneType}}
-use Rattle.sharc_meaning.specs.Cells.{element_cells}
-use Rattle.sharc_mode.specs.{Notes.base_of, Rows.{Targets, written, cast_row, named_row, modes_of, modes_at}}
-use Rattle.sharc_check.specs.Constructs.{IsExpression}
-use Rattle.sharc_flat.specs.{Flattened.{kind_of, target_of, layout_of}, Places.{variable, named_target}, Scope.{Context, ref_count, number_in}}
-use Rattle.sharc_invariant.specs.{Types.{StaticType, cells_of}, Labels.Refers, Typed.{Recasts, IsLayout}}
-use Rattle.sharc_typed_laws.specs.{Stretches.Setting, Typable.{type_by, VariableTakes, Takes, CastTyped, FreeTyped}}
-use Rattle.sharc_accepted_laws.specs.{Casting.CastsRecast, Held.{HeldLaws, held_at}, StaticLaws.IsAccepted, Scopes.ScopeLaws, Standing.ExpressionStands, Static.{register, static_of, variable_type, variable_entry, entry_by, entry_of}, TargetLaws.{ExpressionsFound, LayoutsAre, HasTables}, Pointees.{pointee, PointeeFits, PointeesFit}, Shapes.row_shape, Targets.targets_of, TypableLaws.IsAt, Taking.{VariablesAreTaken, TakingLaws}, Typing.typing}
-use Rattle.sharc_accepted_laws.proofs.{TypableRegisters.reference_found, Values.{has_row, pointer_no_null, typed_at, type_in, pointer_is}, Members.first_of}
+use Rattle.sharc_flat.specs.Places.{variable}
 
 -- ---- variables
 module _ (c : Context) where
@@ -27,7 +14,7 @@ module _ (c : Context) where
   bare_of (tree.parentheses s a) = let b = bare_of a in record { entry = b.entry; target = b.target }
   bare_of _ = record { entry = refl; target = refl }
 
-  variable_entry_is : (s : Span) (i : Identifier) (x : ℕ) → named_at c.program.typed i.site.token ≡ named.Variable x → entry_of c (tree.identifier s i) ≡ Refers (variable_type c x)
+  variable_entry_is : (s : Span) (i : Identifier) (x : ℕ) → named_at c.program.typed i.site.token ≡ Named.Variable x → entry_of c (tree.identifier s i) ≡ Refers (variable_type c x)
   variable_entry_is s i x names =
       ap (λ n. Refers (static_of c (named_kind c.program.typed n) (modes_of c.program (named_row c.program.typed written n)))) names
 
@@ -72,7 +59,7 @@ module _ (constraints : MeetsConstraints) (one_type : OneType) (held : HeldLaws)
   operand s t e _ (a_cast lvalue has pointer) =
       (ap is_pointer pointer.2 ∙ lt-ltb 0 (pointer.1 + 1) (omega arith), one_type c.program.typed a.resolved a.placed a.low e (declared_kind t) has)
 
-  cast_is : (s : Span) (t : WrittenType) (e : Expression) → IsAt c (tree.cast s t e) → ExpressionStands c e → Takes z f typing c e (uses.Cast None) (type_by (entry_of c e)) (target_of c e) → CastTyped z f typing c (tree.cast s t e) e
+  cast_is : (s : Span) (t : WrittenType) (e : Expression) → IsAt c (tree.cast s t e) → ExpressionStands c e → Takes z f typing c e (Use.Cast None) (type_by (entry_of c e)) (target_of c e) → CastTyped z f typing c (tree.cast s t e) e
   cast_is s t e at stands takes =
       let there = at.inside.0 in
       let inner : IsAt c e = record { inside = at.inside.1; stands = stands } in
@@ -94,7 +81,7 @@ module _ (constraints : MeetsConstraints) (one_type : OneType) (held : HeldLaws)
             (subst (λ b. Recasts (targets_of c.program) l r b (static_of c (declared_kind t) new)) (sym p.entry) (casts_recast c a s t e found there below p.modes l r));
       }
 
-  free_is : HasTables c.program z.code → (e : Expression) → IsAt c e → is_pointer (kind_of c e) ≡ true → Takes z f typing c e (uses.Free None) (type_by (entry_of c e)) (target_of c e) → FreeTyped z f typing c e
+  free_is : HasTables c.program z.code → (e : Expression) → IsAt c e → is_pointer (kind_of c e) ≡ true → Takes z f typing c e (Use.Free None) (type_by (entry_of c e)) (target_of c e) → FreeTyped z f typing c e
   free_is tables e at pointer takes =
       let there = first_of (IsExpression c.program) e at.inside in
       let p = pointed e there pointer in

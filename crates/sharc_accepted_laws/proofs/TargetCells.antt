@@ -1,16 +1,5 @@
 -- An element has as many cells as its type has in the source.
-use Rattle.std.proofs.{Common.{◌≡◌, ℕ, suc, ◌+◌, ◌-◌, ◌<◌, ◌==◌, Bool, true, false, cond, List, [], ◌∷◌, length, refl, ap, ◌∙◌, sym, arith, bytes_eq, Contains}, lemmas.Bool.ne_eqb}
-use Rattle.std.specs.List.{AllByRecursion}
-use Rattle.sharc_tree.specs.{declared.ctype.Base.Base, declared.tree.declaration.Declaration.Declaration, declared.tree.item.StructDefinition.StructDefinition}
-use Rattle.sharc_tree.specs.declared.ctype.Base.TheVariants as base
-use Rattle.sharc_names.specs.Kinds.{object}
-use Rattle.sharc_ctype.specs.{declared.entity.Numbered.Numbered, Entities.{entities_in, numbered}, Resolved.structs_in}
-use Rattle.sharc_mode.specs.Moded.{Assignment}
-use Rattle.sharc_meaning.specs.Cells.{struct_cells, base_cells, element_cells}
-use Rattle.sharc_invariant.specs.Types.{FieldMode, Target}
-use Rattle.sharc_accepted_laws.specs.{TargetLaws.CellsAre, Shapes.{Form, Shape, shapes_down, entity_shapes, shapes_of, shapes}, Targets.{members, struct_fields, base_fields, shape_fields}}
-use Rattle.sharc_accepted_laws.proofs.Numbers.{numbers_found}
-use Rattle.sharc_lemmas.proofs.Lists.{both, of_each}
+use Rattle.sharc_accepted_laws.proofs.{Imports.{◌≡◌, ℕ, suc, ◌+◌, ◌-◌, ◌<◌, ◌==◌, Bool, true, false, cond, List, [], ◌∷◌, length, refl, ap, ◌∙◌, sym, arith, bytes_eq, Contains, ne_eqb, AllByRecursion, Base, Declaration, StructDefinition, object, Numbered, entities_in, numbered, structs_in, Assignment, struct_cells, base_cells, element_cells, FieldMode, TableTarget as Target, CellsAre, Form, Shape, shapes_down, entity_shapes, shapes_of, shapes, members, struct_fields, base_fields, shape_fields, both, of_each}, Numbers.numbers_found}
 
 pub member_count : (m : Assignment) (q : FieldMode) (n : ℕ) (list : List Declaration) → length (members m q n list) ≡ length list
 member_count m q n [] = refl
@@ -25,7 +14,7 @@ struct_count m q (s ∷ rest) name = by (bytes_eq s.name.text name) (struct_coun
     by false h = h
 
 pub base_count : (m : Assignment) (q : FieldMode) (b : Base) → length (base_fields m q b) ≡ base_cells m.typed b
-base_count m q (base.Struct name) = struct_count m q (structs_in m.typed.program.items) name
+base_count m q (Base.Struct name) = struct_count m q (structs_in m.typed.program.items) name
 base_count m q _ = refl
 
 shape_count : (m : Assignment) (b : Base) (fs : List Form) → 0 < length fs → length (shape_fields m b fs) ≡ element_cells m.typed (object b (length fs - 1))

@@ -1,36 +1,27 @@
 -- The first cells of mutexes and of condition variables.
-use Rattle.std.proofs.Common.{◌≡◌, ℕ, ◌<◌, Bool, true, false, cond, List, [], ◌∷◌, length, slice_index_or, refl, ap, sym, ◌∙◌, subst, arith, bytes_eq, Some, None, Contains, codes}
-use Rattle.sharc_tree.specs.declared.ctype.Base.TheVariants as base
-use Rattle.sharc_tree.specs.declared.tree.item.StructDefinition.{StructDefinition}
-use Rattle.sharc_ctype.specs.{declared.entity.Numbered.Numbered, Entities.{entities_in, numbered}, Resolved.structs_in}
-use Rattle.sharc_ctype_laws.specs.Constraints.{struct_named}
-use Rattle.sharc_mode.specs.Moded.{Assignment}
-use Rattle.sharc_invariant.specs.Types.{FieldMode, Target, Field, no_field}
-use Rattle.sharc_accepted_laws.specs.{TargetFirsts.{FirstLaws, MutexesFirst, WaitersFirst}, Shapes.{known_condition, known_mutex, entity_shapes, shapes_of}, Targets.{own_mode, single, members, struct_fields}}
-use Rattle.sharc_accepted_laws.proofs.{TargetLists.right_there, Numbers.numbers_found}
-use Rattle.sharc_lemmas.proofs.Lists.{head_there, tail_there}
+use Rattle.sharc_accepted_laws.proofs.{Imports.{◌≡◌, ℕ, ◌<◌, Bool, true, false, cond, List, [], ◌∷◌, length, get_or as slice_index_or, refl, ap, sym, ◌∙◌, subst, arith, bytes_eq, Some, None, Contains, codes, Base, StructDefinition, Numbered, entities_in, numbered, structs_in, struct_named, Assignment, FieldMode, TableTarget as Target, Field, no_field, FirstLaws, MutexesFirst, WaitersFirst, known_condition, known_mutex, entity_shapes, shapes_of, own_mode, single, members, struct_fields, head_there, tail_there}, TargetLists.right_there, Numbers.numbers_found}
 
 pub some_none : {A : Type 0} (x : A) → Some x ≡ None → ⊥
 some_none x h = cc
 
 -- a struct that the program does not define is a condition variable
-single_fields : (m : Assignment) (q : FieldMode) (list : List StructDefinition) (name : List ℕ) → struct_named list name ≡ None → struct_fields m q list name ≡ single q (base.Struct name) ∷ []
+single_fields : (m : Assignment) (q : FieldMode) (list : List StructDefinition) (name : List ℕ) → struct_named list name ≡ None → struct_fields m q list name ≡ single q (Base.Struct name) ∷ []
 single_fields m q [] name none = refl
 single_fields m q (s ∷ rest) name none = by (bytes_eq s.name.text name) none (single_fields m q rest name)
   where
-    by : (b : Bool) → cond b (Some s) (struct_named rest name) ≡ None → (struct_named rest name ≡ None → struct_fields m q rest name ≡ single q (base.Struct name) ∷ [])
-        → cond b (members m q 0 s.fields) (struct_fields m q rest name) ≡ single q (base.Struct name) ∷ []
+    by : (b : Bool) → cond b (Some s) (struct_named rest name) ≡ None → (struct_named rest name ≡ None → struct_fields m q rest name ≡ single q (Base.Struct name) ∷ [])
+        → cond b (members m q 0 s.fields) (struct_fields m q rest name) ≡ single q (Base.Struct name) ∷ []
     by true h later = absurd (some_none s h)
     by false h later = later h
 
 mutexes_first : MutexesFirst
 mutexes_first m f has =
-    let row = (numbers_found m (record { base = base.Mutex; forms = f ∷ [] }) has).row in
+    let row = (numbers_found m (record { base = Base.Mutex; forms = f ∷ [] }) has).row in
     record { some = subst (λ (t : Target). 0 < length t.fields) (sym row) (omega arith); holds = ap (λ (t : Target). (slice_index_or t.fields 0 no_field).holds) row }
 
 waiters_first : WaitersFirst
 waiters_first m f none has =
-    let row = (numbers_found m (record { base = base.Struct (codes "cond"); forms = f ∷ [] }) has).row in
+    let row = (numbers_found m (record { base = Base.Struct (codes "cond"); forms = f ∷ [] }) has).row in
     let fields = single_fields m (own_mode f) (structs_in m.typed.program.items) (codes "cond") none in
     record {
       some = subst (λ (t : Target). 0 < length t.fields) (sym row) (subst (λ (l : List Field). 0 < length l) (sym fields) (omega arith));

@@ -1,14 +1,5 @@
 -- The forms of the modes of rows: those of the positions, whatever the reading.
-use Rattle.std.proofs.{Common.{◌≡◌, ℕ, zero, suc, ◌+◌, ◌-◌, ◌<◌, ◌≤◌, ◌==◌, eqb-true, Bool, true, false, cond, List, [], ◌∷◌, length, map, take, drop, refl, ap, sym, ◌∙◌, arith, Some, None}, lemmas.Bool.eqb-false}
-use Rattle.std.specs.Prelude.{slice_get}
-use Rattle.sharc_tree.specs.declared.ctype.Mode.{Mode}
-use Rattle.sharc_names.specs.declared.types.Role.{Role}
-use Rattle.sharc_names.specs.declared.types.Role.TheVariants as role
-use Rattle.sharc_ctype.specs.{declared.entity.Numbered.Numbered, Entities.positions_of, Resolved.Resolution}
-use Rattle.sharc_mode.specs.{Moded.Assignment, Rows.{PathReading, written, Targets, targets_from, entity_row, read, modes_of}, Sharings.sharing_of}
-use Rattle.sharc_accepted_laws.specs.Shapes.{Form, form_of}
-use Rattle.sharc_lemmas.proofs.Options.{same_some}
-use Rattle.sharc_accepted_laws.proofs.Passed.{form_read as read_form}
+use Rattle.sharc_accepted_laws.proofs.{Imports.{◌≡◌, ℕ, zero, suc, ◌+◌, ◌-◌, ◌<◌, ◌≤◌, ◌==◌, eqb-true, Bool, true, false, cond, List, [], ◌∷◌, length, map, take, drop, refl, ap, sym, ◌∙◌, arith, Some, None, eqb-false, slice_get, Mode, Role, Numbered, positions_of, Resolution, Assignment, PathReading, written, Targets, targets_from, entity_row, read, modes_of, sharing_of, Form, form_of, same_some}, Passed.{form_read as read_form}}
 
 abbrev pub mode_form : Mode → Form
 mode_form mode = form_of (sharing_of mode)
@@ -56,7 +47,7 @@ form_there _ _ _ k f is = absurd (no_none f is)
 
 -- how many levels of a type come before its targets among its positions
 abbrev pub skipped : Role → ℕ
-skipped role.Global = 1
+skipped Role.Global = 1
 skipped _ = 0
 
 -- a target of an entity's type is at a position
@@ -85,7 +76,7 @@ level_by m first count k f what is = by what is
         (omega (arith, low), record { mode = w.mode; at = ap (slice_get m.modes) e ∙ w.at; form = w.form })
 
     by : (x : Role) → slice_get (map form_of (modes_of m (targets_from x (record { first = first; count = count; reading = written })))) k ≡ Some f → (skipped x + k < count) × IsModeAt m (first + (skipped x + k)) f
-    by role.Global is = below (count == 0) refl is
+    by Role.Global is = below (count == 0) refl is
     by _ is = plain is
 
 pub level_of : (m : Assignment) (n : Numbered) (k : ℕ) (f : Form) → slice_get (map form_of (modes_of m (entity_row written (Some n)))) k ≡ Some f → IsLevel m n k f
@@ -114,7 +105,7 @@ entity_length_by m first count what low = by what
     below false some = let z = eqb-false count 0 some in row_length m (record { first = first + 1; count = count - 1; reading = written }) (omega (arith, low, z))
 
     by : (x : Role) → length (map form_of (modes_of m (targets_from x (record { first = first; count = count; reading = written })))) ≡ count - skipped x
-    by role.Global = below (count == 0) refl
+    by Role.Global = below (count == 0) refl
     by _ = plain
 
 pub entity_length : (m : Assignment) (n : Numbered) → n.first + positions_of n.entity ≤ length m.modes → length (map form_of (modes_of m (entity_row written (Some n)))) ≡ positions_of n.entity - skipped n.entity.role

@@ -1,26 +1,14 @@
 -- The fields of structs are good in each element.
-use Rattle.std.proofs.{Common.{◌≡◌, ℕ, zero, suc, ◌+◌, ◌-◌, ◌<◌, eqb-true, Bool, true, false, cond, List, [], ◌∷◌, length, map, slice_index_or, refl, ap, sym, ◌∙◌, subst, arith, Option, Some, None, Contains}, lemmas.Bool.{false≢true, le-ltb, ltb-true, ltb-false, eq-eqb}}
-use Rattle.std.specs.{List.AllByRecursion, Prelude.slice_get}
-use Rattle.sharc_tree.specs.{declared.ctype.Base.Base, declared.ctype.Mode.Mode, declared.ctype.Path.Path, declared.tree.declaration.Declaration.Declaration, declared.tree.declaration.WrittenType.WrittenType}
-use Rattle.sharc_tree.specs.declared.ctype.Base.TheVariants as base
-use Rattle.sharc_tree.specs.declared.ctype.Mode.TheVariants as mode
-use Rattle.sharc_names.specs.Kinds.{Kind, object, is_pointer, declared_kind}
-use Rattle.sharc_ctype.specs.Resolved.{Resolution, named_at}
-use Rattle.sharc_meaning.specs.Cells.{field_place_named}
-use Rattle.sharc_mode.specs.{Cells.{is_mutex_kind, is_behind_pointer, top_of}, Moded.Assignment, Rows.{written, declared_row, modes_of}, Sharings.{Lock, lock_of}}
-use Rattle.sharc_invariant.specs.Types.{FieldMode, Under, Field, no_field, FieldMode as field}
-use Rattle.sharc_accepted_laws.specs.{Shapes.{form_of, shape_of, shapes}, Targets.{is_private_mode, starts_private, locked_mode, written_mode, field_mode, base_content, pointer_content, member, members, targets_of, field_lock}}
-use Rattle.sharc_accepted_laws.proofs.{TargetCells.member_count, Good.{IsOwn, AreGood, private_mode_is, private_racy, not_pointer, mutex_base, plain_good, pointer_good, readonly_behind, dynamic_behind, private_behind, readonly_private, dynamic_private, readonly_racy, dynamic_racy, under_private, under_racy, under_behind}, TargetLists.place_there, Table.{IsGood, IsBeside, AreBeside, racy_behind, mode_racy as racy_private}}
-use Rattle.sharc_lemmas.proofs.{Options.{same_some, none_some}, Lists.{head_there, some_there, tail_there, there_is as below_there}}
+use Rattle.sharc_accepted_laws.proofs.{Imports.{◌≡◌, ℕ, zero, suc, ◌+◌, ◌-◌, ◌<◌, eqb-true, Bool, true, false, cond, List, [], ◌∷◌, length, map, get_or as slice_index_or, refl, ap, sym, ◌∙◌, subst, arith, Option, Some, None, Contains, false≢true, le-ltb, ltb-true, ltb-false, eq-eqb, AllByRecursion, slice_get, Base, Mode, Path, Declaration, WrittenType, Kind, object, is_pointer, declared_kind, Resolution, named_at, field_place_named, is_mutex_kind, is_behind_pointer, top_of, Assignment, written, declared_row, modes_of, Lock, lock_of, FieldMode, Under, Field, no_field, FieldMode as field, form_of, shape_of, shapes, is_private_mode, starts_private, locked_mode, written_mode, field_mode, base_content, pointer_content, member, members, targets_of, field_lock, same_some, none_some, head_there, some_there, tail_there, below_there}, TargetCells.member_count, Good.{IsOwn, AreGood, private_mode_is, private_racy, not_pointer, mutex_base, plain_good, pointer_good, readonly_behind, dynamic_behind, private_behind, readonly_private, dynamic_private, readonly_racy, dynamic_racy, under_private, under_racy, under_behind}, TargetLists.place_there, Table.{IsGood, IsBeside, AreBeside, racy_behind, mode_racy as racy_private}}
 
 -- ---- kinds
 pub mutex_pointer : (k : Kind) → is_mutex_kind k ≡ true → is_pointer k ≡ false
-mutex_pointer (object base.Mutex n) h = le-ltb 0 n (let z = eqb-true n 0 h in omega (arith, z))
+mutex_pointer (object Base.Mutex n) h = le-ltb 0 n (let z = eqb-true n 0 h in omega (arith, z))
 mutex_pointer _ h = absurd (false≢true h)
 
 -- what has no star and the base of a mutex is one
-plain_mutex : (b : Base) (n : ℕ) → is_pointer (object b n) ≡ false → is_mutex_kind (object b n) ≡ false → b ≡ base.Mutex → ⊥
-plain_mutex base.Mutex n never other is = let low = ltb-false 0 n never in let e : n ≡ 0 = omega (arith, low) in false≢true (sym other ∙ eq-eqb n 0 e)
+plain_mutex : (b : Base) (n : ℕ) → is_pointer (object b n) ≡ false → is_mutex_kind (object b n) ≡ false → b ≡ Base.Mutex → ⊥
+plain_mutex Base.Mutex n never other is = let low = ltb-false 0 n never in let e : n ≡ 0 = omega (arith, low) in false≢true (sym other ∙ eq-eqb n 0 e)
 plain_mutex _ n never other is = cc
 
 pub levels_many : (w : WrittenType) → is_pointer (declared_kind w) ≡ true → 1 < length w.ctype.levels
@@ -59,26 +47,26 @@ locked_racy r n q l h = by (is_behind_pointer r l) h
     by true h = racy_by (is_private_mode q) (field.Behind n (field_place_named r (named_at r l.first))) (λ e. behind_racy _ _ e) h
     by false h = under_racy _ h
 
-written_private : (r : Resolution) (n : ℕ) (q : FieldMode) (top : Option Mode) → (top ≡ Some mode.Private → ⊥) → written_mode r n q top ≡ field.Private → q ≡ field.Private
+written_private : (r : Resolution) (n : ℕ) (q : FieldMode) (top : Option Mode) → (top ≡ Some Mode.Private → ⊥) → written_mode r n q top ≡ field.Private → q ≡ field.Private
 written_private r n q None never h = h
-written_private r n q (Some mode.Private) never h = absurd (never refl)
-written_private r n q (Some mode.Readonly) never h = private_by (is_private_mode q) q field.Readonly (private_mode_is q) readonly_private h
-written_private r n q (Some (mode.Locked path)) never h = locked_private r n q (lock_of path) h
-written_private r n q (Some mode.Racy) never h = absurd (racy_private h)
-written_private r n q (Some mode.Dynamic) never h = absurd (dynamic_private h)
+written_private r n q (Some Mode.Private) never h = absurd (never refl)
+written_private r n q (Some Mode.Readonly) never h = private_by (is_private_mode q) q field.Readonly (private_mode_is q) readonly_private h
+written_private r n q (Some (Mode.Locked path)) never h = locked_private r n q (lock_of path) h
+written_private r n q (Some Mode.Racy) never h = absurd (racy_private h)
+written_private r n q (Some Mode.Dynamic) never h = absurd (dynamic_private h)
 
-written_racy : (r : Resolution) (n : ℕ) (q : FieldMode) (top : Option Mode) → (q ≡ field.Racy → ⊥) → (top ≡ Some mode.Racy → ⊥) → written_mode r n q top ≡ field.Racy → ⊥
+written_racy : (r : Resolution) (n : ℕ) (q : FieldMode) (top : Option Mode) → (q ≡ field.Racy → ⊥) → (top ≡ Some Mode.Racy → ⊥) → written_mode r n q top ≡ field.Racy → ⊥
 written_racy r n q None other never h = other h
-written_racy r n q (Some mode.Private) other never h = private_racy h
-written_racy r n q (Some mode.Readonly) other never h = racy_by (is_private_mode q) field.Readonly readonly_racy h
-written_racy r n q (Some (mode.Locked path)) other never h = locked_racy r n q (lock_of path) h
-written_racy r n q (Some mode.Racy) other never h = never refl
-written_racy r n q (Some mode.Dynamic) other never h = dynamic_racy h
+written_racy r n q (Some Mode.Private) other never h = private_racy h
+written_racy r n q (Some Mode.Readonly) other never h = racy_by (is_private_mode q) field.Readonly readonly_racy h
+written_racy r n q (Some (Mode.Locked path)) other never h = locked_racy r n q (lock_of path) h
+written_racy r n q (Some Mode.Racy) other never h = never refl
+written_racy r n q (Some Mode.Dynamic) other never h = dynamic_racy h
 
 -- what is locked behind a pointer
 record IsBehindOf (r : Resolution) (n : ℕ) (q : FieldMode) (top : Option Mode) (a p : ℕ) : Type 0 where
   path : Path
-  is : top ≡ Some (mode.Locked path)
+  is : top ≡ Some (Mode.Locked path)
   behind : is_behind_pointer r (lock_of path) ≡ true
   shared : is_private_mode q ≡ false
   own : n ≡ a
@@ -94,22 +82,22 @@ not_readonly_behind : (c : Bool) (a p : ℕ) → cond c field.Private field.Read
 not_readonly_behind true a p h = private_behind a p h
 not_readonly_behind false a p h = readonly_behind a p h
 
-locked_behind : (r : Resolution) (n : ℕ) (q : FieldMode) (path : Path) (a p : ℕ) → locked_mode r n q (lock_of path) ≡ field.Behind a p → IsBehindOf r n q (Some (mode.Locked path)) a p
+locked_behind : (r : Resolution) (n : ℕ) (q : FieldMode) (path : Path) (a p : ℕ) → locked_mode r n q (lock_of path) ≡ field.Behind a p → IsBehindOf r n q (Some (Mode.Locked path)) a p
 locked_behind r n q path a p h = by (is_behind_pointer r (lock_of path)) (is_private_mode q) refl refl h
   where
     by : (b c : Bool) → is_behind_pointer r (lock_of path) ≡ b → is_private_mode q ≡ c
-        → cond b (cond c field.Private (field.Behind n (field_place_named r (named_at r (lock_of path).first)))) (Under (field_lock r n (lock_of path))) ≡ field.Behind a p → IsBehindOf r n q (Some (mode.Locked path)) a p
+        → cond b (cond c field.Private (field.Behind n (field_place_named r (named_at r (lock_of path).first)))) (Under (field_lock r n (lock_of path))) ≡ field.Behind a p → IsBehindOf r n q (Some (Mode.Locked path)) a p
     by true true is e h = absurd (private_behind a p h)
     by true false is e h = record { path = path; is = refl; behind = is; shared = e; own = same_own n a _ p h; pointer = same_other n a _ p h }
     by false c is e h = absurd (under_behind _ a p h)
 
 written_behind : (r : Resolution) (n : ℕ) (q : FieldMode) (top : Option Mode) (a p : ℕ) → ((b s : ℕ) → q ≡ field.Behind b s → ⊥) → written_mode r n q top ≡ field.Behind a p → IsBehindOf r n q top a p
 written_behind r n q None a p never h = absurd (never a p h)
-written_behind r n q (Some mode.Private) a p never h = absurd (private_behind a p h)
-written_behind r n q (Some mode.Readonly) a p never h = absurd (not_readonly_behind (is_private_mode q) a p h)
-written_behind r n q (Some (mode.Locked path)) a p never h = locked_behind r n q path a p h
-written_behind r n q (Some mode.Racy) a p never h = absurd (racy_behind a p h)
-written_behind r n q (Some mode.Dynamic) a p never h = absurd (dynamic_behind a p h)
+written_behind r n q (Some Mode.Private) a p never h = absurd (private_behind a p h)
+written_behind r n q (Some Mode.Readonly) a p never h = absurd (not_readonly_behind (is_private_mode q) a p h)
+written_behind r n q (Some (Mode.Locked path)) a p never h = locked_behind r n q path a p h
+written_behind r n q (Some Mode.Racy) a p never h = absurd (racy_behind a p h)
+written_behind r n q (Some Mode.Dynamic) a p never h = absurd (dynamic_behind a p h)
 
 field_behind : (r : Resolution) (n : ℕ) (q : FieldMode) (w : WrittenType) (a p : ℕ) → ((b s : ℕ) → q ≡ field.Behind b s → ⊥) → field_mode r n q w ≡ field.Behind a p → IsBehindOf r n q (top_of w.ctype.levels) a p
 field_behind r n q w a p never h = by (is_mutex_kind (declared_kind w)) h
@@ -119,7 +107,7 @@ field_behind r n q w a p never h = by (is_mutex_kind (declared_kind w)) h
     by false h = written_behind r n q (top_of w.ctype.levels) a p never h
 
 -- a pointer that is written readonly, in data that is not private
-pub field_readonly : (r : Resolution) (n : ℕ) (q : FieldMode) (w : WrittenType) → is_mutex_kind (declared_kind w) ≡ false → top_of w.ctype.levels ≡ Some mode.Readonly → is_private_mode q ≡ false → field_mode r n q w ≡ field.Readonly
+pub field_readonly : (r : Resolution) (n : ℕ) (q : FieldMode) (w : WrittenType) → is_mutex_kind (declared_kind w) ≡ false → top_of w.ctype.levels ≡ Some Mode.Readonly → is_private_mode q ≡ false → field_mode r n q w ≡ field.Readonly
 field_readonly r n q w other top shared =
     ap (λ b. cond b field.Racy (written_mode r n q (top_of w.ctype.levels))) other ∙ ap (written_mode r n q) top ∙ ap (λ b. cond b field.Private field.Readonly) shared
 
@@ -129,14 +117,14 @@ pub record IsPartner (fields : List Declaration) (p : ℕ) : Type 0 where
   pub partner : Declaration
   pub at : slice_get fields p ≡ Some partner
   pub not_mutex : is_mutex_kind (declared_kind partner.written) ≡ false
-  pub readonly : top_of partner.written.ctype.levels ≡ Some mode.Readonly
+  pub readonly : top_of partner.written.ctype.levels ≡ Some Mode.Readonly
 
 pub record IsMember (m : Assignment) (fields : List Declaration) (d : Declaration) : Type 0 where
-  pub not_private : top_of d.written.ctype.levels ≡ Some mode.Private → ⊥
-  pub not_racy : is_pointer (declared_kind d.written) ≡ true → top_of d.written.ctype.levels ≡ Some mode.Racy → ⊥
+  pub not_private : top_of d.written.ctype.levels ≡ Some Mode.Private → ⊥
+  pub not_racy : is_pointer (declared_kind d.written) ≡ true → top_of d.written.ctype.levels ≡ Some Mode.Racy → ⊥
   pub shape : is_pointer (declared_kind d.written) ≡ true → Contains (shapes m) (shape_of d.written.ctype.base (modes_of m (declared_row m.typed written d.name.site.token)))
   pub shared : starts_private (map form_of (modes_of m (declared_row m.typed written d.name.site.token))) ≡ true → ⊥
-  pub beside : (path : Path) → top_of d.written.ctype.levels ≡ Some (mode.Locked path) → is_behind_pointer m.typed (lock_of path) ≡ true → IsPartner fields (field_place_named m.typed (named_at m.typed (lock_of path).first))
+  pub beside : (path : Path) → top_of d.written.ctype.levels ≡ Some (Mode.Locked path) → is_behind_pointer m.typed (lock_of path) ≡ true → IsPartner fields (field_place_named m.typed (named_at m.typed (lock_of path).first))
 
 -- so it is good in each element
 pub member_good : (m : Assignment) (fields : List Declaration) (d : Declaration) → IsMember m fields d → (shared : Bool) (q : FieldMode) (n : ℕ) → IsOwn q shared → (q ≡ field.Racy → ⊥) → IsGood (targets_of m) shared (member m q n d)

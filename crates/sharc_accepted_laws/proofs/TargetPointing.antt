@@ -1,20 +1,9 @@
 -- A pointer cell of the globals, or of what a pointer refers to, is one of the source.
-use Rattle.std.proofs.{Common.{◌≡◌, ℕ, zero, suc, ◌+◌, ◌-◌, ◌*◌, ◌<◌, ◌≤◌, ◌⊎◌, inl, inr, Bool, true, false, ◌||◌, cond, List, [], ◌∷◌, ◌++◌, length, replicate, slice_index_or, Option, Some, None, refl, ap, sym, ◌∙◌, subst, ⊎_elim, arith, bytes_eq}, Math.Nat.{suc-mul, mul_comm, div-add-mod}, lemmas.Bool.{cases_lt, lt-ltb}, lemmas.Nat.mod-mul-add}
-use Rattle.std.specs.Prelude.{slice_get, map, ◌%◌, ◌/◌}
-use Rattle.sharc_tree.specs.{declared.ctype.Base.Base, declared.tree.declaration.Declaration.Declaration, declared.tree.declaration.WrittenType.WrittenType, declared.tree.item.GlobalDefinition.GlobalDefinition, declared.tree.item.StructDefinition.StructDefinition}
-use Rattle.sharc_tree.specs.declared.ctype.Base.TheVariants as base
-use Rattle.sharc_names.specs.Kinds.{Kind, object, element_kind, declared_kind}
+use Rattle.sharc_accepted_laws.proofs.{Imports.{◌≡◌, ℕ, zero, suc, ◌+◌, ◌-◌, ◌*◌, ◌<◌, ◌≤◌, ◌⊎◌, inl, inr, Bool, true, false, ◌||◌, cond, List, [], ◌∷◌, ◌++◌, length, replicate, get_or as slice_index_or, Option, Some, None, refl, ap, sym, ◌∙◌, subst, ⊎_elim, arith, bytes_eq, suc-mul, mul_comm, div-add-mod, cases_lt, lt-ltb, mod-mul-add, slice_get, map, ◌%◌, ◌/◌, Base, Declaration, WrittenType, GlobalDefinition, StructDefinition, Kind, object, element_kind, declared_kind, first_place, no_global, elements_of, pointer_cells, structs_in, globals_in, fields_called, is_pointer_in, is_pointer_of_global, Assignment, base_of, written, declared_row, modes_of, cells_in, granules_in, globals_from, globals_of, FieldMode, Field, Pointer, no_field, field_of_cell, global_field, row_of, pointee, IsPointerInTable, PointersAreOfGlobals, GlobalsPoint, PointeesPoint, Form, form_of, stars_in, number, base_content, pointer_content, declared_content, single, members, struct_fields, base_fields, top_mode, global_element, repeated, global_fields, all_global_fields, own_mode, lock_count, type_locks, shape_fields, targets_of, both_ways, map_length, times_low}, TargetCells.member_count, Good.{at_left, at_right}, Laying.{globals_are, global_count, element_count}, Pointees.{IsPointerKind, pointer_kind, many_modes, pointees_fit}, AccessCells.below_product}
 use Rattle.sharc_names.specs.Kinds as Kinds
-use Rattle.sharc_code.specs.{Ranges.{IsInGlobal, first_place}, Says.no_global}
-use Rattle.sharc_ctype.specs.{Globals.elements_of, Layouts.pointer_cells, Resolved.{structs_in, globals_in}}
-use Rattle.sharc_meaning.specs.References.{fields_called, is_pointer_in, is_pointer_of_global}
+use Rattle.sharc_code.specs.Ranges.{IsInGlobal}
 use Rattle.sharc_meaning.specs.References as References
-use Rattle.sharc_mode.specs.{Moded.Assignment, Notes.base_of, Rows.{written, declared_row, modes_of}}
-use Rattle.sharc_flat.specs.Tables.{cells_in, granules_in, globals_from, globals_of}
-use Rattle.sharc_invariant.specs.Types.{FieldMode, Field, Pointer, no_field, field_of_cell, global_field, row_of, is_pointer}
-use Rattle.sharc_accepted_laws.specs.{Pointees.pointee, Pointers.{IsPointerInTable, PointersAreOfGlobals, GlobalsPoint, PointeesPoint}, Shapes.{Form, form_of, stars_in, number}, Targets.{base_content, pointer_content, declared_content, single, members, struct_fields, base_fields, top_mode, global_element, repeated, global_fields, all_global_fields, own_mode, lock_count, type_locks, shape_fields, targets_of}}
-use Rattle.sharc_accepted_laws.proofs.{TargetCells.member_count, Good.{at_left, at_right}, Laying.{globals_are, global_count, element_count}, Pointees.{IsPointerKind, pointer_kind, many_modes, pointees_fit}, AccessCells.below_product}
-use Rattle.sharc_lemmas.proofs.{Bools.{same_test as both_ways}, Lists.map_length, Numbers.times_low}
+use Rattle.sharc_invariant.specs.Types.{is_pointer}
 
 abbrev Points : List Field → ℕ → Type 0
 Points list i = is_pointer (slice_index_or list i no_field).holds ≡ true
@@ -32,12 +21,12 @@ parts a b i h = ⊎_elim
 
 -- ---- elements
 no_base : (b : Base) → is_pointer (base_content b) ≡ true → ⊥
-no_base (base.Struct name) h = let z : false ≡ true = h in cc
+no_base (Base.Struct name) h = let z : false ≡ true = h in cc
 no_base _ h = let z : false ≡ true = h in cc
 
 no_single : (q : FieldMode) (b : Base) (k : ℕ) → Points (single q b ∷ []) k → ⊥
-no_single q base.Mutex zero h = let z : false ≡ true = h in cc
-no_single q (base.Struct name) zero h = let z : false ≡ true = h in cc
+no_single q Base.Mutex zero h = let z : false ≡ true = h in cc
+no_single q (Base.Struct name) zero h = let z : false ≡ true = h in cc
 no_single q _ zero h = let z : false ≡ true = h in cc
 no_single q b (suc k) h = let z : false ≡ true = h in cc
 
@@ -59,7 +48,7 @@ in_element c e l k low is = ap (λ n. n % l) is ∙ mod-mul-add e l k low
 
 struct_points : (m : Assignment) (q : FieldMode) (list : List StructDefinition) (name : List ℕ) (c e k : ℕ) → k < length (struct_fields m q list name) → c ≡ e * length (struct_fields m q list name) + k → Points (struct_fields m q list name) k
     → slice_index_or (pointer_cells (fields_called list name)) (c % length (fields_called list name)) false ≡ true
-struct_points m q [] name c e k low is h = absurd (no_single q (base.Struct name) k h)
+struct_points m q [] name c e k low is h = absurd (no_single q (Base.Struct name) k h)
 struct_points m q (s ∷ rest) name c e k low is h = by (bytes_eq s.name.text name) low is h (struct_points m q rest name c e k)
   where
     by : (b : Bool) → k < length (cond b (members m q 0 s.fields) (struct_fields m q rest name)) → c ≡ e * length (cond b (members m q 0 s.fields) (struct_fields m q rest name)) + k → Points (cond b (members m q 0 s.fields) (struct_fields m q rest name)) k
@@ -73,7 +62,7 @@ struct_points m q (s ∷ rest) name c e k low is h = by (bytes_eq s.name.text na
 
 base_points : (m : Assignment) (q : FieldMode) (b : Base) (c e k : ℕ) → k < length (base_fields m q b) → c ≡ e * length (base_fields m q b) + k → Points (base_fields m q b) k
     → slice_index_or (pointer_cells (References.base_fields m.typed b)) (c % length (References.base_fields m.typed b)) false ≡ true
-base_points m q (base.Struct name) c e k low is h = struct_points m q (structs_in m.typed.program.items) name c e k low is h
+base_points m q (Base.Struct name) c e k low is h = struct_points m q (structs_in m.typed.program.items) name c e k low is h
 base_points m q j c e k low is h = absurd (no_single q j k h)
 
 element_points : (m : Assignment) (g : GlobalDefinition) (c e k : ℕ) → k < length (global_element m g) → c ≡ e * length (global_element m g) + k → Points (global_element m g) k → is_pointer_in m.typed g.declaration.written c ≡ true
@@ -109,7 +98,7 @@ struct_back m q (s ∷ rest) name c h = by (bytes_eq s.name.text name) h (struct
 
 base_back : (m : Assignment) (q : FieldMode) (b : Base) (c : ℕ) → slice_index_or (pointer_cells (References.base_fields m.typed b)) (c % length (References.base_fields m.typed b)) false ≡ true
     → Points (base_fields m q b) (c % length (base_fields m q b))
-base_back m q (base.Struct name) c h = struct_back m q (structs_in m.typed.program.items) name c h
+base_back m q (Base.Struct name) c h = struct_back m q (structs_in m.typed.program.items) name c h
 base_back m q _ c h = absurd (none_back (c % 0) h)
 
 alone : (c : ℕ) → c % 1 ≡ 0

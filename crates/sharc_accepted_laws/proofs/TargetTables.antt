@@ -1,10 +1,5 @@
 -- The globals of code with the tables of a program.
-use Rattle.std.proofs.Common.{◌*◌, ap, sym, ◌∙◌, subst, arith}
-use Rattle.std.specs.Prelude.{slice_index}
-use Rattle.sharc_ctype_laws.specs.Laws.{MeetsGlobals}
-use Rattle.sharc_invariant.specs.{Types.global_field, Typed.Initial}
-use Rattle.sharc_accepted_laws.specs.{TargetLaws.GlobalsHold, Targets.targets_of}
-use Rattle.sharc_accepted_laws.proofs.{Beginning.globals_begin, Laying.globals_end}
+use Rattle.sharc_accepted_laws.proofs.{Imports.{◌*◌, ap, sym, ◌∙◌, subst, arith, slice_index, MeetsGlobals, global_field, Initial, GlobalsHold, targets_of}, Beginning.globals_begin, Laying.globals_end}
 
 pub globals_hold : MeetsGlobals → GlobalsHold
 globals_hold meets m typed counted code tables few fit words = record {

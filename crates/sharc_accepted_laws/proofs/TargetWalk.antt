@@ -1,15 +1,7 @@
 -- What a function declares and casts to is found by its tokens.
-use Rattle.std.proofs.Common.{◌≡◌, ⊎_elim, ℕ, ◌==◌, eqb-true, Bool, true, false, cond, List, [], ◌∷◌, ◌++◌, map, refl, sym, subst, Option, Some, None, Contains}
-use Rattle.std.specs.List.{AllByRecursion}
-use Rattle.sharc_tree.specs.{declared.tree.declaration.Declaration.Declaration, Measures.{expressions, in_arguments, in_option, in_right, in_simple, in_local, in_first, in_head, in_statement, in_statements, in_function}, Tree.{Expression, Arguments, no_arguments, argument, Right, value, malloc, Simple, assign, does_call, Local, First, nothing, declares, does, Head, Statement, Statements, no_statements, statement, Function, Item, structure, global, function}}
+use Rattle.sharc_accepted_laws.proofs.{Imports.{◌≡◌, ⊎_elim, ℕ, ◌==◌, eqb-true, Bool, true, false, cond, List, [], ◌∷◌, ◌++◌, map, refl, sym, subst, Option, Some, None, Contains, AllByRecursion, Declaration, expressions, in_arguments, in_option, in_right, in_simple, in_local, in_first, in_head, in_statement, in_statements, in_function, Expression, Arguments, no_arguments, argument, Right, value, malloc, Simple, assign, does_call, Local, First, nothing, declares, does, Head, Statement, Statements, no_statements, statement, Function, Item, structure, global, function, Role, Entity, declared, casts, first_entities, head_entities, statement_entities, statements_entities, result_of, function_entities, entities_in, Resolution, functions_in, declarations_of, declarations_in, declared_at, declaration_at, first_locals, locals_in_all, IsFound, EachTypeFound, IsOwn, IsCastFound, HasOwn, OwnAreFound, same_some, none_some, front, back, both, head_there, head_or_tail, of_each, to_each, tail_there, none_there}, TargetForms.skipped, TargetLists.{left_there, right_there, either_there, each_mapped}}
 use Rattle.sharc_tree.specs.Tree as tree
-use Rattle.sharc_names.specs.declared.types.Role.{Role}
-use Rattle.sharc_names.specs.declared.types.Role.TheVariants as role
-use Rattle.sharc_ctype.specs.{declared.entity.Entity.Entity, Entities.{declared, casts, first_entities, head_entities, statement_entities, statements_entities, result_of, function_entities, entities_in}, Resolved.{Resolution, functions_in, declarations_of, declarations_in, declared_at, declaration_at}, Statements.{first_locals, locals_in, locals_in_all}}
-use Rattle.sharc_ctype_laws.specs.Found.{IsFound, EachTypeFound}
-use Rattle.sharc_accepted_laws.specs.Own.{IsOwn, IsCastFound, HasOwn, OwnAreFound}
-use Rattle.sharc_accepted_laws.proofs.{TargetForms.skipped, TargetLists.{left_there, right_there, either_there, each_mapped}}
-use Rattle.sharc_lemmas.proofs.{Options.{same_some, none_some}, Lists.{front, back, both, head_there, head_or_tail, of_each, to_each, tail_there}, Equal.none_there}
+use Rattle.sharc_ctype.specs.Statements.{locals_in}
 
 module _ (r : Resolution) where
   abbrev Found : List Entity → Type 0
@@ -19,7 +11,7 @@ module _ (r : Resolution) where
   CastFound = IsCastFound r
 
   abbrev IsLocalFound : Declaration → Type 0
-  IsLocalFound d = IsFound r (declared role.Local d)
+  IsLocalFound d = IsFound r (declared Role.Local d)
 
   -- ---- casts
   casts_of : (list : List Expression) → Found (casts list) → AllByRecursion CastFound list
@@ -103,30 +95,30 @@ module _ (r : Resolution) where
   -- ---- functions
   function_in : (items : List Item) → Found (entities_in items) → (f : Function) → Contains (functions_in items) f → Found (function_entities f)
   function_in [] all f has = absurd (none_there f has)
-  function_in (structure s ∷ rest) all f has = function_in rest (back (IsFound r) (map (declared role.Field) s.fields) (entities_in rest) all) f has
+  function_in (structure s ∷ rest) all f has = function_in rest (back (IsFound r) (map (declared Role.Field) s.fields) (entities_in rest) all) f has
   function_in (global g ∷ rest) all f has = function_in rest all.1 f has
   function_in (function x ∷ rest) all f has =
       ⊎_elim (λ is. subst (λ z. Found (function_entities z)) is (front (IsFound r) (function_entities x) (entities_in rest) all)) (λ later. function_in rest (back (IsFound r) (function_entities x) (entities_in rest) all) f later)
       (head_or_tail x f (functions_in rest) has)
 
   pub function_casts : Found (entities_in r.program.items) → (f : Function) → Contains (functions_in r.program.items) f → AllByRecursion CastFound (in_function f)
-  function_casts all f has = statements_casts f.statements (back (IsFound r) (result_of f ∷ map (declared role.Parameter) f.parameters) (statements_entities f.statements) (function_in r.program.items all f has))
+  function_casts all f has = statements_casts f.statements (back (IsFound r) (result_of f ∷ map (declared Role.Parameter) f.parameters) (statements_entities f.statements) (function_in r.program.items all f has))
 
   pub result_found : Found (entities_in r.program.items) → (f : Function) → Contains (functions_in r.program.items) f → IsFound r (result_of f)
-  result_found all f has = (front (IsFound r) (result_of f ∷ map (declared role.Parameter) f.parameters) (statements_entities f.statements) (function_in r.program.items all f has)).0
+  result_found all f has = (front (IsFound r) (result_of f ∷ map (declared Role.Parameter) f.parameters) (statements_entities f.statements) (function_in r.program.items all f has)).0
 
-  own_parameters : (ds : List Declaration) → Found (map (declared role.Parameter) ds) → AllByRecursion (IsOwn r) ds
+  own_parameters : (ds : List Declaration) → Found (map (declared Role.Parameter) ds) → AllByRecursion (IsOwn r) ds
   own_parameters [] h = tt
-  own_parameters (d ∷ rest) h = (record { what = role.Parameter; is_local = refl; found = h.0 }, own_parameters rest h.1)
+  own_parameters (d ∷ rest) h = (record { what = Role.Parameter; is_local = refl; found = h.0 }, own_parameters rest h.1)
 
   own_locals : (ds : List Declaration) → AllByRecursion IsLocalFound ds → AllByRecursion (IsOwn r) ds
   own_locals [] h = tt
-  own_locals (d ∷ rest) h = (record { what = role.Local; is_local = refl; found = h.0 }, own_locals rest h.1)
+  own_locals (d ∷ rest) h = (record { what = Role.Local; is_local = refl; found = h.0 }, own_locals rest h.1)
 
   function_own : Found (entities_in r.program.items) → (f : Function) → Contains (functions_in r.program.items) f → HasOwn r f
   function_own all f has =
       let here = function_in r.program.items all f has in
-      let heads = result_of f ∷ map (declared role.Parameter) f.parameters in
+      let heads = result_of f ∷ map (declared Role.Parameter) f.parameters in
       let head = front (IsFound r) heads (statements_entities f.statements) here in
       record {
         variables = both (IsOwn r) f.parameters (locals_in_all f.statements) (own_parameters f.parameters head.1)
@@ -142,17 +134,17 @@ module _ (r : Resolution) where
 
   in_item : (i : Item) (rest : List Item) → Found (entities_in (i ∷ rest)) → (d : Declaration) → Contains (declarations_of i) d → IsDeclared d
   in_item (structure s) rest all d has =
-      record { what = role.Field; plain = refl; found = of_each (λ (z : Declaration). IsFound r (declared role.Field z)) s.fields d (each_mapped (IsFound r) (declared role.Field) s.fields (front (IsFound r) (map (declared role.Field) s.fields) (entities_in rest) all)) has }
+      record { what = Role.Field; plain = refl; found = of_each (λ (z : Declaration). IsFound r (declared Role.Field z)) s.fields d (each_mapped (IsFound r) (declared Role.Field) s.fields (front (IsFound r) (map (declared Role.Field) s.fields) (entities_in rest) all)) has }
   in_item (global g) rest all d has = absurd (none_there d has)
   in_item (function f) rest all d has =
       let here = front (IsFound r) (function_entities f) (entities_in rest) all in
-      let head = front (IsFound r) (result_of f ∷ map (declared role.Parameter) f.parameters) (statements_entities f.statements) here in
-      ⊎_elim (λ l. record { what = role.Parameter; plain = refl; found = of_each (λ (z : Declaration). IsFound r (declared role.Parameter z)) f.parameters d (each_mapped (IsFound r) (declared role.Parameter) f.parameters head.1) l })
-      (λ l. record { what = role.Local; plain = refl; found = of_each IsLocalFound (locals_in_all f.statements) d (statements_declared f.statements (back (IsFound r) (result_of f ∷ map (declared role.Parameter) f.parameters) (statements_entities f.statements) here)) l })
+      let head = front (IsFound r) (result_of f ∷ map (declared Role.Parameter) f.parameters) (statements_entities f.statements) here in
+      ⊎_elim (λ l. record { what = Role.Parameter; plain = refl; found = of_each (λ (z : Declaration). IsFound r (declared Role.Parameter z)) f.parameters d (each_mapped (IsFound r) (declared Role.Parameter) f.parameters head.1) l })
+      (λ l. record { what = Role.Local; plain = refl; found = of_each IsLocalFound (locals_in_all f.statements) d (statements_declared f.statements (back (IsFound r) (result_of f ∷ map (declared Role.Parameter) f.parameters) (statements_entities f.statements) here)) l })
       (either_there f.parameters (locals_in_all f.statements) d has)
 
   item_back : (i : Item) (rest : List Item) → Found (entities_in (i ∷ rest)) → Found (entities_in rest)
-  item_back (structure s) rest all = back (IsFound r) (map (declared role.Field) s.fields) (entities_in rest) all
+  item_back (structure s) rest all = back (IsFound r) (map (declared Role.Field) s.fields) (entities_in rest) all
   item_back (global g) rest all = all.1
   item_back (function f) rest all = back (IsFound r) (function_entities f) (entities_in rest) all
 

@@ -1,14 +1,6 @@
 -- What a new thread is handed.
-use Rattle.std.proofs.Common.{◌≡◌, inl, inr, ℕ, zero, ◌==◌, Bool, true, false, cond, List, [], ◌∷◌, slice_get, refl, ap, sym, ◌∙◌, subst, arith, Option, Some, None, Contains}
-use Rattle.sharc_tree.specs.{declared.tree.declaration.Declaration.Declaration, Tree.{Expression, argument, no_arguments, value}}
-use Rattle.sharc_names.specs.declared.fault.Named.{Named}
-use Rattle.sharc_names.specs.declared.fault.Named.TheVariants as named
-use Rattle.sharc_ctype.specs.{Resolved.{Resolution, named_at}, Transfers.{variable, passed}}
-use Rattle.sharc_mode.specs.{Rows.{constant_use, argument_use, written, declared_row, modes_of}, Sharings.{Sharing, private, readonly, locked, racy, dynamic}}
-use Rattle.sharc_flat.specs.{Flattened.{parameters_scope, in_function}, Scope.Context}
-use Rattle.sharc_invariant.specs.{Types.{Lock as TypeLock, Names, SomeNames}, Types.Lock.Global, Labels.{Refers, Label, EntryMentions, HasCopy, AllSame}, Typed.{PassesLock, Passes}}
-use Rattle.sharc_accepted_laws.specs.{Calls.{argument_type, AreCopies, ArgumentsFit}, Starting.SpawnedBegin, Static.{register, lock_named, locks_at, variable_type, pointers, entry_named}, Threads.ThreadsPass}
-use Rattle.sharc_lemmas.proofs.Options.{none_some}
+use Rattle.sharc_accepted_laws.proofs.Imports.{◌≡◌, inl, inr, ℕ, zero, ◌==◌, Bool, true, false, cond, List, [], ◌∷◌, slice_get, refl, ap, sym, ◌∙◌, subst, arith, Option, Some, None, Contains, Declaration, Expression, argument, no_arguments, value, Named, Resolution, named_at, variable, passed, constant_use, argument_use, written, declared_row, modes_of, Sharing, private, readonly, locked, racy, dynamic, parameters_scope, context_in as in_function, Context, TypeLock, SomeNames, Global, Refers, Label, EntryMentions, HasCopy, AllSame, PassesLock, Passes, argument_type, AreCopies, ArgumentsFit, SpawnedBegin, register, lock_named, locks_at, variable_type, pointers, entry_named, ThreadsPass, none_some}
+use Rattle.sharc_invariant.specs.Types.{Names}
 
 -- ---- locks that name nothing of a frame
 module _ (one other : Label) (k a r q : ℕ) where
@@ -21,8 +13,8 @@ module _ (one other : Label) (k a r q : ℕ) where
   global_stays j none _ h = absurd h
 
   lock_stays : (c : Context) (n : Named) (second : Option (List ℕ)) → Stays (lock_named c n second)
-  lock_stays c (named.Global g) second = global_stays _
-  lock_stays c (named.Variable x) (Some name) = λ none y h. absurd (none (register c x) refl)
+  lock_stays c (Named.Global g) second = global_stays _
+  lock_stays c (Named.Variable x) (Some name) = λ none y h. absurd (none (register c x) refl)
   lock_stays c _ _ = global_stays 0
 
   all_stay : (c : Context) (modes : List Sharing) → ((p : ℕ) → SomeNames p (locks_at c modes) → ⊥) → (xs : List TypeLock) → AllSame (PassesLock one k a) xs (locks_at c modes) → AllSame (PassesLock other r q) xs (locks_at c modes)
@@ -37,7 +29,7 @@ module _ (one other : Label) (k a r q : ℕ) where
 
 -- ---- the variable of the argument
 abbrev variable_number : Named → ℕ
-variable_number (named.Variable y) = y
+variable_number (Named.Variable y) = y
 variable_number _ = 0
 
 abbrev variable_at : Resolution → Option ℕ → ℕ

@@ -1,10 +1,7 @@
 -- The tokens of the names in the expressions of a function are among the tokens of the function.
-use Rattle.std.proofs.{Common.{◌≡◌, ℕ, List, [], ◌∷◌, ◌++◌, refl, ap, sym, subst, Option, Some, None, Contains}, lemmas.List.Elements.{Contains-append_left, Contains-append_right}}
-use Rattle.std.specs.List.{AllByRecursion}
-use Rattle.sharc_tree.specs.{Marks.{Mark, a_name, a_cast, type_marks, name_marks, declaration_marks, declarations_marks, marks, arguments_marks, option_marks, right_marks, simple_marks, local_marks, first_marks, head_marks, statement_marks, statements_marks}, Measures.{expressions, in_arguments, in_option, in_right, in_simple, in_local, in_first, in_head, in_statement, in_statements, in_function}, Tree.{Expression, Arguments, no_arguments, argument, Right, value, malloc, Simple, assign, does_call, Local, First, nothing, declares, does, Head, Statement, Statements, no_statements, statement, Function}}
+use Rattle.sharc_accepted_laws.proofs.Imports.{◌≡◌, ℕ, List, [], ◌∷◌, ◌++◌, refl, ap, sym, subst, Option, Some, None, Contains, Contains-append_left, Contains-append_right, AllByRecursion, Mark, a_name, type_marks, name_marks, declaration_marks, declarations_marks, marks, arguments_marks, option_marks, right_marks, simple_marks, local_marks, first_marks, head_marks, statement_marks, statements_marks, expressions, in_arguments, in_option, in_right, in_simple, in_local, in_first, in_head, in_statement, in_statements, in_function, Expression, Arguments, no_arguments, argument, Right, value, malloc, Simple, assign, does_call, Local, First, nothing, declares, does, Head, Statement, Statements, no_statements, statement, Function, name_tokens, tokens_of, both, head_there}
+use Rattle.sharc_tree.specs.Marks.{a_cast}
 use Rattle.sharc_tree.specs.Tree as tree
-use Rattle.sharc_ctype.specs.Reaches.{name_tokens, tokens_of}
-use Rattle.sharc_lemmas.proofs.Lists.{both, head_there}
 
 split : (a b : List Mark) → name_tokens (a ++ b) ≡ name_tokens a ++ name_tokens b
 split [] b = refl

@@ -1,12 +1,8 @@
 -- What holds of all that a function transfers holds of what its calls pass and of what its locals begin with.
-use Rattle.std.proofs.Common.{◌≡◌, subst, List, [], ◌++◌, Option, Some, None}
-use Rattle.std.specs.List.{AllByRecursion}
-use Rattle.sharc_tree.specs.{declared.tree.declaration.Declaration.Declaration, declared.tree.declaration.WrittenType.WrittenType, Measures.{expressions, in_arguments, in_right, in_simple, in_local, in_first, in_head, in_statement, in_statements, in_function}, Tree.{Expression, Arguments, no_arguments, argument, Right, value, malloc, Simple, assign, does_call, Local, First, nothing, declares, does, Statement, Statements, no_statements, statement, Function}}
+use Rattle.sharc_accepted_laws.proofs.Imports.{◌≡◌, subst, List, [], ◌++◌, Option, Some, None, AllByRecursion, Declaration, WrittenType, expressions, in_arguments, in_right, in_simple, in_local, in_first, in_head, in_statement, in_statements, in_function, Expression, Arguments, no_arguments, argument, Right, value, malloc, Simple, assign, does_call, Local, First, nothing, declares, does, Statement, Statements, no_statements, statement, Function, Resolution, named_at, Transfer, gives, variable, lvalue, passed, parameters_named, transfers, argument_transfers, option_transfers as in_option, right_transfers, simple_transfers, local_transfers, first_transfers, statement_transfers, statements_transfers, function_transfers, locals_in_first, locals_in, front, back, both, same_some, none_some}
 use Rattle.sharc_tree.specs.Measures as measures
 use Rattle.sharc_tree.specs.Tree as tree
-use Rattle.sharc_ctype.specs.{Resolved.{Resolution, named_at}, Transfers.{Transfer, gives, variable, lvalue, passed, parameters_named, transfers, argument_transfers, in_option, right_transfers, simple_transfers, local_transfers, first_transfers, statement_transfers, statements_transfers, function_transfers}}
-use Rattle.sharc_check.specs.Constructs.{locals_in_first, locals_in, locals_in_all}
-use Rattle.sharc_lemmas.proofs.{Lists.{front, back, both}, Options.{same_some, none_some}}
+use Rattle.sharc_check.specs.Constructs.{locals_in_all}
 
 -- what an expression itself passes
 abbrev pub own_passed : Resolution → Expression → List Transfer

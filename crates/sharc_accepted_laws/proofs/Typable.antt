@@ -1,22 +1,9 @@
 -- Each expression and each lvalue of a function of an accepted program is typable, by their forms.
-use Rattle.std.proofs.{Common.{◌≡◌, ℕ, zero, suc, ◌+◌, ◌==◌, ◌&&◌, eqb-true, arith, drop, Bool, true, false, cond, List, ◌++◌, refl, ap, sym, ◌∙◌, subst, Option, Some, None, bytes_eq, codes, if◌then◌else◌}, lemmas.Bool.false≢true}
-use Rattle.sharc_tree.specs.declared.ctype.Base.TheVariants as base
-use Rattle.sharc_tree.specs.{declared.token.Site.Site, declared.token.Span.Span, declared.tree.declaration.Identifier.Identifier, declared.tree.expression.FieldOperator.TheVariants.{Dot, Arrow}, declared.tree.expression.BinaryOperator.BinaryOperator, declared.tree.expression.BinaryOperator.TheVariants.{LogicalOr, LogicalAnd, Equal, NotEqual}, declared.tree.expression.PlaceCall.TheVariants.{Lock, Unlock, Free}, declared.tree.expression.UnaryOperator.UnaryOperator, declared.tree.expression.UnaryOperator.TheVariants.{Negate, Not, Complement, Dereference}, Forms.is_lvalue, Measures.{expressions, in_arguments}, Tree.{Expression, identifier, constant, parentheses, call, spawn, on_value, on_place, cast, index, field, unary, binary, Arguments, no_arguments, argument, Function}}
-use Rattle.sharc_names.specs.{declared.fault.Named.Named, Kinds.{Kind, object, null, function, mutex, is_integer, is_pointer, is_array, is_struct_behind, declared_kinds, element_kind}}
-use Rattle.sharc_names.specs.declared.fault.Named.TheVariants as named
-use Rattle.sharc_code.specs.{declared.code.Code.Code, declared.code.Use.Use}
-use Rattle.sharc_code.specs.declared.code.Use.TheVariants as uses
-use Rattle.sharc_ctype.specs.{Resolved.{Resolution, named_at, function_at, global_at, kind_at}, Transfers.parameters_of}
-use Rattle.sharc_ctype_laws.specs.Constraints.{HasType as IsOfType}
-use Rattle.sharc_meaning.specs.{Cells.{element_cells, field_place_named}, State.is_reference}
-use Rattle.sharc_mode.specs.{Cells.{is_mutex_kind, cell_at}, Moded.Assignment}
-use Rattle.sharc_check.specs.Constructs.{IsTaken, cast_away, freed}
-use Rattle.sharc_flat.specs.{Flattened.{kind_of, is_ref, target_of, mode_of, guard_of, what_names}, Places.{in_global, in_global_at, in_object_at, global_of, named_target, target, own_field}, Scope.Context, Suits.{IsScalar, Either, is_cell, NameSuits, CallSuits, IndexSuits, TakeSuits, OperandsSuit, Suits, ArgumentsSuit, ReferencesSuit, PlaceSuits}}
+use Rattle.sharc_accepted_laws.proofs.{Imports.{◌≡◌, ℕ, zero, suc, ◌+◌, ◌==◌, ◌&&◌, eqb-true, arith, drop, Bool, true, false, cond, List, ◌++◌, refl, ap, sym, ◌∙◌, subst, Option, Some, None, bytes_eq, codes, if◌then◌else◌, false≢true, Base, Site, Span, Identifier, Dot, Arrow, BinaryOperator, LogicalOr, LogicalAnd, Equal, NotEqual, Unlock, Free, UnaryOperator, Negate, Not, Complement, Dereference, is_lvalue, expressions, in_arguments, Expression, identifier, constant, parentheses, call, spawn, on_value, on_place, cast, index, field, unary, binary, Arguments, no_arguments, argument, Function, Named, Kind, object, null, mutex, is_integer, is_pointer, is_array, is_struct_behind, declared_kinds, element_kind, Code, Use, Resolution, named_at, function_at, global_at, kind_at, parameters_of, HasType as IsOfType, element_cells, field_place_named, is_reference, is_mutex_kind, cell_at, Assignment, IsTaken, cast_away, freed, kind_of, is_ref, target_of, mode_of, guard_of, what_names, in_global, in_global_at, in_object_at, global_of, named_target, target, own_field, Context, IsScalar, Either, is_cell, NameSuits, CallSuits, IndexSuits, TakeSuits, OperandsSuit, Suits, ArgumentsSuit, ReferencesSuit, PlaceSuits, StaticType, cells_of, Setting, type_by, IsPointer, ValueTyped, NameTyped, UnaryTyped, ElementTyped, IndexTypable, Takes, CallTyped, CallTypable, IsTypable, IsPlaceTypable, AreTypable, cells_in_each, IsOf, ExpressionStands, entry_of, pointer_of, wants_of, OperandSuits, typing, CellsTyped, ExpressionsAreTypable, setting_of, IsSet}, Arguments.{IsValued, AllSuit, AllGo, Parts, part_of, first_part, second_part, suit_all}, Calls.{call_goes, call_is_typed}, Conditions.known_call, Facts.Laws, Fields.{Inside, TopFits, IsGuard, no_guard, own_guard, top_fits}, Forms.{integer_no_reference, integer_scalar, pointer_reference, reference_scalar, index_pointer, arrow_pointer, star_pointer, cast_operand, free_operand, lock_operand, unlock_operand}, Members.first_of, Spawns.{handed_scalar, spawn_is_typed}}
+use Rattle.sharc_tree.specs.declared.tree.expression.PlaceCall.TheVariants.{Lock}
+use Rattle.sharc_names.specs.Kinds.{function}
 use Rattle.sharc_flat.specs.Suits as suits
-use Rattle.sharc_invariant.specs.Types.{StaticType, cells_of}
-use Rattle.sharc_typed_laws.specs.{Stretches.Setting, Typable.{type_by, IsPointer, CellTyped, ValueTyped, NameTyped, UnaryTyped, HasType, ElementTyped, IndexTypable, Takes, CallTyped, CallTypable, IsTypable, IsPlaceTypable, AreTypable}}
-use Rattle.sharc_accepted_laws.specs.{Accesses.cells_in_each, Typed.IsOf, Standing.ExpressionStands, Static.entry_of, Lvalues.pointer_of, Calling.wants_of, TypableLaws.OperandSuits, Typing.typing, Expressions.{CellsTyped, ExpressionsAreTypable}, Setting.{setting_of, IsSet}}
-use Rattle.sharc_accepted_laws.proofs.{Arguments.{IsValued, AllSuit, AllGo, Parts, part_of, first_part, second_part, suit_all}, Calls.{call_goes, call_is_typed}, Conditions.known_call, Facts.Laws, Fields.{Inside, TopFits, IsGuard, no_guard, own_guard, top_fits}, Forms.{integer_no_reference, integer_scalar, pointer_reference, reference_scalar, index_pointer, arrow_pointer, star_pointer, cast_operand, free_operand, lock_operand, unlock_operand}, Members.first_of, Spawns.{handed_scalar, spawn_is_typed}}
+use Rattle.sharc_typed_laws.specs.Typable.{CellTyped, HasType}
 use Rattle.sharc_accepted_laws.proofs.Facts as facts
 
 -- ---- operands
@@ -46,15 +33,15 @@ more_stars n = by (suc n == 0) refl
 
 -- a value is no struct, no array and no mutex
 scalar_plain : (k : Kind) → IsScalar k → (is_struct_behind 0 k ≡ false) × (is_array k ≡ false) × (is_mutex_kind k ≡ false)
-scalar_plain (object base.Int zero) h = (refl, refl, refl)
-scalar_plain (object base.Char zero) h = (refl, refl, refl)
-scalar_plain (object base.Long zero) h = (refl, refl, refl)
-scalar_plain (object base.Int (suc n)) h = (ap (λ z. z && false) (more_stars n), refl, refl)
-scalar_plain (object base.Char (suc n)) h = (ap (λ z. z && false) (more_stars n), refl, refl)
-scalar_plain (object base.Long (suc n)) h = (ap (λ z. z && false) (more_stars n), refl, refl)
-scalar_plain (object base.Mutex (suc n)) h = (ap (λ z. z && false) (more_stars n), refl, more_stars n)
-scalar_plain (object base.Void (suc n)) h = (ap (λ z. z && false) (more_stars n), refl, refl)
-scalar_plain (object (base.Struct name) (suc n)) h = (ap (λ z. z && true) (more_stars n), refl, refl)
+scalar_plain (object Base.Int zero) h = (refl, refl, refl)
+scalar_plain (object Base.Char zero) h = (refl, refl, refl)
+scalar_plain (object Base.Long zero) h = (refl, refl, refl)
+scalar_plain (object Base.Int (suc n)) h = (ap (λ z. z && false) (more_stars n), refl, refl)
+scalar_plain (object Base.Char (suc n)) h = (ap (λ z. z && false) (more_stars n), refl, refl)
+scalar_plain (object Base.Long (suc n)) h = (ap (λ z. z && false) (more_stars n), refl, refl)
+scalar_plain (object Base.Mutex (suc n)) h = (ap (λ z. z && false) (more_stars n), refl, more_stars n)
+scalar_plain (object Base.Void (suc n)) h = (ap (λ z. z && false) (more_stars n), refl, refl)
+scalar_plain (object (Base.Struct name) (suc n)) h = (ap (λ z. z && true) (more_stars n), refl, refl)
 scalar_plain null h = (refl, refl, refl)
 scalar_plain _ h = absurd (false≢true (h refl))
 
@@ -104,8 +91,8 @@ module _ (laws : Laws) (c : Context) (code : Code) (alone : ℕ → Bool) (lines
   name_typed s i at suits value = by (named_at r i.site.token) refl suits
     where
       by : (what : Named) → named_at r i.site.token ≡ what → NameSuits c (kind_of c (identifier s i)) (cell_at m (identifier s i)) what → NameTyped z n typing c (identifier s i) i.site what
-      by (named.Variable x) names h = laws.values.variables z n c set.accepted s i x (facts.is_at laws c code alone lines set n g (identifier s i) at) names h (value refl)
-      by (named.Global k) names h =
+      by (Named.Variable x) names h = laws.values.variables z n c set.accepted s i x (facts.is_at laws c code alone lines set n g (identifier s i) at) names h (value refl)
+      by (Named.Global k) names h =
           let to : target_of c (identifier s i) ≡ in_global k 0 = ap (λ w. named_target w 0) names in
           subst (λ t. CellTyped z n typing c (identifier s i) i.site t (is_ref c (identifier s i))) to (facts.cell_typed laws c code alone lines set n g (identifier s i) at cells (laws.bases.values c (identifier s i) suits) refl (ap is_cell to) (value refl) i.site)
       by _ names h = h
@@ -119,13 +106,13 @@ module _ (laws : Laws) (c : Context) (code : Code) (alone : ℕ → Bool) (lines
       by : (what : Named) → named_at r i.site.token ≡ what
           → CallSuits c (kind_of c (call s i all)) what (λ kinds. ArgumentsSuit c kinds all) (ReferencesSuit c (if bytes_eq i.text (codes "wait") then 2 else 1) all)
           → CallTypable z n typing c (call s i all) what i.text all (λ kinds wants. AreTypable z n typing c kinds wants all)
-      by (named.Function k) names (f, there, kind_is, suit) =
+      by (Named.Function k) names (f, there, kind_is, suit) =
           subst (λ o. (wants : ℕ → StaticType) × AreTypable z n typing c (declared_kinds (parameters_of o)) wants all × CallTyped z n typing c (call s i all) k (declared_kinds (parameters_of o)) wants all) (sym there) (
             wants_of c f.parameters all,
             args (declared_kinds f.parameters) (wants_of c f.parameters all) (suit_all c n g (declared_kinds f.parameters) all suit) (call_goes laws c code alone lines set n g s i all at k f names there kind_is suit),
             call_is_typed laws c code alone lines set n g s i all at k f names there kind_is suit,
           )
-      by named.Known names h = known_call laws c code alone lines set n g (cells.known s i all at names) s i all at names h.0 args (h.1, h.2)
+      by Named.Known names h = known_call laws c code alone lines set n g (cells.known s i all at names) s i all at names h.0 args (h.1, h.2)
       by _ names h = absurd h
 
   -- ---- elements
@@ -199,14 +186,14 @@ module _ (laws : Laws) (c : Context) (code : Code) (alone : ℕ → Bool) (lines
     typable (on_place s Free x) at suits value =
         let below : At x = record { function = at.function; parts = at.parts.1; stand = at.stand.1 } in
         let operand = free_operand r one s x (kind_of c (on_place s Free x)) (has_type (on_place s Free x) at) in
-        let takes = take x below suits.0 (freed (facts.expression_of laws c code alone lines set n g (on_place s Free x) at)) operand.0 operand.1 (uses.Free None) suits.1.0 in (
+        let takes = take x below suits.0 (freed (facts.expression_of laws c code alone lines set n g (on_place s Free x) at)) operand.0 operand.1 (Use.Free None) suits.1.0 in (
           place x below suits.0 None (guard_of c x) (fits_own x below (pointer_scalar x operand.1)),
           laws.taking.frees z n c set.accepted refl set.tables x (facts.is_at laws c code alone lines set n g x below) operand.1 takes,
         )
     typable (cast s t x) at suits value =
         let below : At x = record { function = at.function; parts = at.parts.1; stand = at.stand.1 } in
         let operand = cast_operand r one s t x (kind_of c (cast s t x)) (has_type (cast s t x) at) in
-        let takes = take x below suits.0 (cast_away (facts.expression_of laws c code alone lines set n g (cast s t x) at)) operand.0 operand.1 (uses.Cast None) suits.1 in (
+        let takes = take x below suits.0 (cast_away (facts.expression_of laws c code alone lines set n g (cast s t x) at)) operand.0 operand.1 (Use.Cast None) suits.1 in (
           place x below suits.0 None (guard_of c x) (fits_own x below (pointer_scalar x operand.1)),
           laws.taking.casts z n c set.accepted refl s t x (facts.is_at laws c code alone lines set n g (cast s t x) at) (first_of (ExpressionStands c) x at.stand.1) takes,
         )

@@ -1,9 +1,5 @@
 -- The registers of variables that stand, by their types.
-use Rattle.std.proofs.{Common.{◌≡◌, ℕ, suc, ◌+◌, ◌<◌, ◌==◌, eqb-true, Bool, true, false, cond, List, [], ◌∷◌, slice_get, refl, ap, sym, ◌∙◌, subst, arith, Some}, lemmas.Bool.false≢true}
-use Rattle.sharc_code.specs.{declared.instr.Register.Register, declared.instr.Register.TheVariants.{Int, Reference}}
-use Rattle.sharc_flat.specs.{declared.slot.Slot.Slot, Scope.{slot_kind, int_count, register_from}}
-use Rattle.sharc_accepted_laws.specs.Typing.{integers}
-use Rattle.sharc_lemmas.proofs.Options.{none_some, same_bool}
+use Rattle.sharc_accepted_laws.proofs.Imports.{◌≡◌, ℕ, suc, ◌+◌, ◌<◌, ◌==◌, eqb-true, Bool, true, false, cond, List, [], ◌∷◌, slice_get, refl, ap, sym, ◌∙◌, subst, arith, Some, false≢true, Register, Int, Reference, Slot, slot_kind, int_count, register_from, integers, none_some, same_bool}
 
 abbrev chosen : ℕ → ℕ → Slot → Bool → Bool → List Slot → ℕ → Register
 chosen i r z t p rest x = cond t (cond p (Reference r) (Int i)) (cond p (register_from i (r + 1) rest x) (register_from (i + 1) r rest x))

@@ -1,22 +1,6 @@
 -- The cells of lvalues are typed, by the laws of their accesses.
-use Rattle.std.proofs.{Common.{◌≡◌, ℕ, ◌<◌, ◌==◌, ◌&&◌, Bool, true, false, cond, refl, ap, sym, ◌∙◌, subst, arith, Option, Some, None, Contains}, lemmas.Bool.{false≢true, ltb-true, ne_eqb}}
-use Rattle.std.specs.List.{AllByRecursion}
-use Rattle.sharc_tree.specs.{declared.ctype.Base.Base, Measures.{expressions, in_function}, declared.token.Span.Span, declared.tree.declaration.Identifier.Identifier, declared.tree.expression.FieldOperator.TheVariants.{Dot, Arrow}, declared.tree.expression.UnaryOperator.TheVariants.Dereference, Tree.{Expression, identifier, parentheses, index, field, unary, Function}}
-use Rattle.sharc_tree.specs.declared.ctype.Base.TheVariants as base
-use Rattle.sharc_names.specs.declared.fault.Named.TheVariants as named
-use Rattle.sharc_names.specs.Kinds.{Kind, object, mutex, is_integer, is_pointer, is_array, is_struct_behind}
+use Rattle.sharc_accepted_laws.proofs.{Imports.{◌≡◌, ℕ, ◌<◌, ◌==◌, ◌&&◌, Bool, true, false, cond, refl, ap, sym, ◌∙◌, subst, arith, Option, Some, None, Contains, false≢true, ltb-true, ne_eqb, AllByRecursion, Base, expressions, in_function, Span, Identifier, Dot, Arrow, Dereference, Expression, identifier, parentheses, index, field, unary, Function, Named, Kind, object, mutex, is_integer, is_pointer, is_array, is_struct_behind, Code, Resolution, named_at, functions_in, is_reference, cell_at, is_constant_named, constant_use, IsExpression, kind_of, target_of, lvalue_in, in_global, global_of, target, Context, slot_kind, is_cell, NameSuits, Either, Suits, PlaceSuits, Signature, Typing, Setting, ground_of, entry_of, pointer_of, IsCellLvalue, IsCodeOf, BaseStands, IsFairUse, setting, IsTypingOf, IsGroundOf, IntegersFit, ReferencesFit, MutexesFit, GroundsFit, PathsLead, IsOf, CellTyped, LvalueTyped, BasesStand, LvaluesAreTyped, AreFair, UsesAreFair, same_some, none_some, and_false, each}, TargetLists.{place_there as there_at}, Members.{first_of as self}}
 use Rattle.sharc_names.specs.Kinds as kinds
-use Rattle.sharc_code.specs.declared.code.Code.{Code}
-use Rattle.sharc_ctype.specs.Resolved.{Resolution, named_at, functions_in}
-use Rattle.sharc_meaning.specs.State.{is_reference}
-use Rattle.sharc_mode.specs.{Cells.cell_at, Rows.{is_constant_named, constant_use}}
-use Rattle.sharc_check.specs.Constructs.{IsExpression}
-use Rattle.sharc_flat.specs.{Flattened.{kind_of, target_of, lvalue_in}, Places.{in_global, global_of, target}, Scope.{Context, slot_kind}, Suits.{is_cell, NameSuits, Either, Suits, PlaceSuits}}
-use Rattle.sharc_invariant.specs.Labels.{Signature}
-use Rattle.sharc_typed_laws.specs.{Premises.Typing, Stretches.Setting, Typable.ground_of}
-use Rattle.sharc_accepted_laws.specs.{Static.entry_of, Lvalues.pointer_of, Accesses.{IsCellLvalue, IsCodeOf}, Joined.{BaseStands, IsFairUse, setting, IsTypingOf, IsGroundOf, IntegersFit, ReferencesFit, MutexesFit, GroundsFit}, Paths.PathsLead, Typed.{IsOf, CellTyped, LvalueTyped, BasesStand, LvaluesAreTyped}, Uses.{AreFair, UsesAreFair}}
-use Rattle.sharc_accepted_laws.proofs.{TargetLists.place_there as there_at, Members.first_of as self}
-use Rattle.sharc_lemmas.proofs.{Options.{same_some, none_some}, Bools.and_false, Lists.each}
 
 -- ---- what is an integer, a pointer or a mutex is no struct and no array
 pub record IsPlainKind (k : Kind) : Type 0 where
@@ -24,7 +8,7 @@ pub record IsPlainKind (k : Kind) : Type 0 where
   pub no_array : is_array k ≡ false
 
 integral_plain : (b : Base) (stars : ℕ) → is_integer (object b stars) ≡ true → is_struct_behind 0 (object b stars) ≡ false
-integral_plain (base.Struct name) stars h = absurd (false≢true (sym (and_false (stars == 0)) ∙ h))
+integral_plain (Base.Struct name) stars h = absurd (false≢true (sym (and_false (stars == 0)) ∙ h))
 integral_plain _ stars h = and_false (stars == 0)
 
 integer_plain : (k : Kind) → is_integer k ≡ true → IsPlainKind k
@@ -111,9 +95,9 @@ module _ (c : Context) where
   value_pointer _ h = tt
 
   -- a name
-  pointer_stands : (p : Expression) (token x : ℕ) → Suits c p × (is_reference (kind_of c p) ≡ true) → constant_use c.program.typed p ≡ Some token → named_at c.program.typed token ≡ named.Variable x → slot_kind c.scope x ≡ Some true
+  pointer_stands : (p : Expression) (token x : ℕ) → Suits c p × (is_reference (kind_of c p) ≡ true) → constant_use c.program.typed p ≡ Some token → named_at c.program.typed token ≡ Named.Variable x → slot_kind c.scope x ≡ Some true
   pointer_stands (identifier s i) token x h use_there names =
-      let here : named_at c.program.typed i.site.token ≡ named.Variable x = ap (named_at c.program.typed) (same_site c.program.typed s i token use_there) ∙ names in
+      let here : named_at c.program.typed i.site.token ≡ Named.Variable x = ap (named_at c.program.typed) (same_site c.program.typed s i token use_there) ∙ names in
       subst (NameSuits c (kind_of c (identifier s i)) (cell_at c.program (identifier s i))) here h.0 ∙ ap Some h.1
   pointer_stands _ token x h use_there names = absurd (none_some token use_there)
 

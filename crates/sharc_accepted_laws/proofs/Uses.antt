@@ -1,7 +1,5 @@
 -- The rules of the modes, for the accesses of a function.
-use Rattle.std.proofs.Common.{refl}
-use Rattle.sharc_check.specs.RuleLaws.{RulesAreMet}
-use Rattle.sharc_accepted_laws.specs.Uses.{UsesAreFair}
+use Rattle.sharc_accepted_laws.proofs.Imports.{refl, RulesAreMet, UsesAreFair}
 
 pub uses_are_fair : RulesAreMet → UsesAreFair
 uses_are_fair rules c a alone told n f is e all path =

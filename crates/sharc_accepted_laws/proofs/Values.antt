@@ -1,25 +1,6 @@
 -- Values, pointers, variables, constants and operators.
-use Rattle.std.proofs.{Common.{◌≡◌, inl, inr, ℕ, zero, suc, ◌+◌, ◌<◌, ◌==◌, eqb-true, ◌||◌, Bool, true, false, cond, List, [], ◌∷◌, refl, ap, sym, ◌∙◌, subst, arith, option_map, Option, Some, None}, lemmas.Bool.{false≢true, and_parts, or_right, or_left}}
-use Rattle.std.specs.List.{AllByRecursion}
-use Rattle.sharc_tree.specs.{declared.ctype.Base.Base, declared.token.Site.Site, declared.token.Span.Span, declared.tree.declaration.Identifier.Identifier, declared.tree.expression.BinaryOperator.BinaryOperator, declared.tree.expression.BinaryOperator.TheVariants.{LogicalOr, LogicalAnd, Equal, NotEqual, Less, Greater, LessOrEqual, GreaterOrEqual, ShiftLeft, ShiftRight}, declared.tree.expression.Constant.Constant, declared.tree.expression.UnaryOperator.UnaryOperator, declared.tree.expression.UnaryOperator.TheVariants.{Negate, Not, Complement, Dereference}, declared.token.NumberType.NumberType, Measures.{expressions, in_function}, Tree.Expression}
-use Rattle.sharc_tree.specs.declared.ctype.Base.TheVariants as base
-use Rattle.sharc_tree.specs.declared.tree.expression.Constant.TheVariants as constants
-use Rattle.sharc_tree.specs.declared.token.NumberType.TheVariants as number_types
+use Rattle.sharc_accepted_laws.proofs.{Imports.{◌≡◌, inl, inr, ℕ, zero, suc, ◌+◌, ◌<◌, ◌==◌, eqb-true, ◌||◌, Bool, true, false, cond, List, [], ◌∷◌, refl, ap, sym, ◌∙◌, subst, arith, option_map, Option, Some, None, false≢true, and_parts, or_right, or_left, AllByRecursion, Base, Site, Span, Identifier, BinaryOperator, LogicalOr, LogicalAnd, Equal, NotEqual, Less, Greater, LessOrEqual, GreaterOrEqual, ShiftLeft, ShiftRight, Constant, UnaryOperator, Negate, Not, Complement, Dereference, NumberType, expressions, in_function, Expression, Named, Kind, object, array, null, is_integral, is_integer, is_pointer, is_null, is_long, int, long, promoted, Int, holds, Shift, Arithmetic, number_kind, constant_kind, class_of, binary_result, Resolution, named_at, named_kind, declaration_at, variable_kind, functions_in, kind_at, constant_value, is_reference, is_shift, is_comparison, StaticType, Refers, Narrower, a_constant, in_parentheses, element_of_pointer, element_of_array, pointed_to, HasType as IsOfType, MeetsConstraints, Assignment, Targets, written, deeper, behind, declared_row, named_row, row_at, modes_of, modes_at, Sharing, IsExpression, kind_of, is_ref, operator_of, base_as_width, width_of, Context, slot_kind, ref_count, register_of, number_in, IsScalar, Either, SameSort, OperandsSuit, IfThere, IsWide, no_type, Setting, type_by, GoesTo, IsTypeIn, IsNumber, IsPointer, VariableTyped, ConstantTyped, UnaryTyped, IntegersTyped, ComparedTyped, BinaryTyped, HeldLaws, IsAccepted, ScopeLaws, AllStand, register, static_of, variable_type, variable_entry, entry_by, entry_of, IsAt, OperandSuits, ValueLaws, width_named, typing, of_each}, TypableRegisters.{reference_found, integer_found}, Members.first_of, Forms.{integer_no_reference as integer_is}, Calls.narrower_same, Conditions.{object_no_null as no_object}, Given.no_array}
 use Rattle.sharc_tree.specs.Tree as tree
-use Rattle.sharc_names.specs.declared.fault.Named.TheVariants as named
-use Rattle.sharc_names.specs.Kinds.{Kind, object, array, null, is_integral, is_integer, is_pointer, is_null, is_long, int, long, promoted}
-use Rattle.sharc_code.specs.{declared.instr.Register.TheVariants.Int, Arithmetic.holds}
-use Rattle.sharc_ctype.specs.{declared.expr.OperatorClass.TheVariants.{Shift, Arithmetic}, Expressions.{number_kind, constant_kind, class_of, binary_result}, Resolved.{Resolution, named_at, named_kind, declaration_at, variable_kind, functions_in, kind_at}}
-use Rattle.sharc_meaning.specs.{Reference.constant_value, State.is_reference}
-use Rattle.sharc_invariant.specs.{Typed.{is_shift, is_comparison}, Types.StaticType, Labels.{Refers, Narrower}}
-use Rattle.sharc_ctype_laws.specs.{Constraints.{a_constant, in_parentheses, element_of_pointer, element_of_array, pointed_to, HasType as IsOfType}, Laws.MeetsConstraints}
-use Rattle.sharc_mode.specs.{Moded.Assignment, Rows.{Targets, written, deeper, behind, declared_row, named_row, row_at, modes_of, modes_at}, Sharings.Sharing}
-use Rattle.sharc_check.specs.Constructs.{IsExpression}
-use Rattle.sharc_flat.specs.{Flattened.{kind_of, is_ref, operator_of}, Places.{base_as_width, width_of}, Scope.{Context, slot_kind, ref_count, register_of, number_in}, Suits.{IsScalar, Either, SameSort, OperandsSuit, IfThere}, Framed.IsWide}
-use Rattle.sharc_typed_laws.specs.{Places.no_type, Stretches.Setting, Typable.{type_by, GoesTo, IsTypeIn, IsNumber, IsPointer, VariableTyped, ConstantTyped, UnaryTyped, IntegersTyped, ComparedTyped, BinaryTyped}}
-use Rattle.sharc_accepted_laws.specs.{Held.HeldLaws, StaticLaws.IsAccepted, Scopes.{ScopeLaws, AllStand}, Static.{register, static_of, variable_type, variable_entry, entry_by, entry_of}, TypableLaws.{IsAt, OperandSuits, ValueLaws}, Typing.{width_named, typing}}
-use Rattle.sharc_accepted_laws.proofs.{TypableRegisters.{reference_found, integer_found}, Members.first_of, Forms.integer_no_reference as integer_is, Calls.narrower_same, Conditions.object_no_null as no_object, Given.no_array}
-use Rattle.sharc_lemmas.proofs.Lists.{of_each}
 
 number_of_long : (b : Bool) → (is_reference (cond b long int) ≡ false) × (is_integer (cond b long int) ≡ true)
 number_of_long true = (refl, refl)
@@ -31,11 +12,11 @@ wide_of_long false = tt
 
 -- what is no long goes to either
 base_widens : (b : Base) (z : Bool) → is_integral b ≡ true → (is_long (object b 0) ≡ true → z ≡ true) → Narrower (base_as_width b) (width_of (cond z long int))
-base_widens base.Int true h k = tt
-base_widens base.Long false h k = absurd (false≢true (k refl))
-base_widens base.Mutex z h k = absurd (false≢true h)
-base_widens base.Void z h k = absurd (false≢true h)
-base_widens (base.Struct name) z h k = absurd (false≢true h)
+base_widens Base.Int true h k = tt
+base_widens Base.Long false h k = absurd (false≢true (k refl))
+base_widens Base.Mutex z h k = absurd (false≢true h)
+base_widens Base.Void z h k = absurd (false≢true h)
+base_widens (Base.Struct name) z h k = absurd (false≢true h)
 base_widens _ _ h k = tt
 
 kind_widens : (kind : Kind) (z : Bool) → is_integer kind ≡ true → (is_long kind ≡ true → z ≡ true) → Narrower (width_of kind) (width_of (cond z long int))
@@ -57,7 +38,7 @@ module _ (r : Resolution) where
 
   -- what has another type than NULL has a row
   pub has_row : (e : Expression) (k : Kind) → IsOfType r e k → (k ≡ null → ⊥) → HasRow e
-  has_row (tree.constant s constants.Null) _ a_constant none = absurd (none refl)
+  has_row (tree.constant s Constant.Null) _ a_constant none = absurd (none refl)
   has_row (tree.parentheses s a) k (in_parentheses t) none = has_row a k t none
   has_row (tree.index s a i) _ (element_of_pointer {b = b} {n = n} t u v) none = let x = has_row a (object b (n + 1)) t (no_object b (n + 1)) in element_row _ (row_at r a) x.0 x.1
   has_row (tree.index s a i) _ (element_of_array {b = b} {n = n} t u v) none = let x = has_row a (array b n) t (no_array b n) in element_row _ (row_at r a) x.0 x.1
@@ -92,7 +73,7 @@ module _ (constraints : MeetsConstraints) (held : HeldLaws) (scopes : ScopeLaws)
     number_is e h = (integer_is (kind_of c e) h, h)
 
     -- ---- variables
-    variable_is : IsAccepted c.program → (s : Span) (i : Identifier) (x : ℕ) → IsAt c (tree.identifier s i) → named_at c.program.typed i.site.token ≡ named.Variable x
+    variable_is : IsAccepted c.program → (s : Span) (i : Identifier) (x : ℕ) → IsAt c (tree.identifier s i) → named_at c.program.typed i.site.token ≡ Named.Variable x
         → slot_kind c.scope x ≡ Some (is_ref c (tree.identifier s i)) → IsScalar (kind_of c (tree.identifier s i)) → VariableTyped z f typing c (tree.identifier s i) (register_of c.scope x)
     variable_is a s i x at names slot scalar = by (is_ref c e) refl slot
       where
@@ -209,15 +190,15 @@ module _ (constraints : MeetsConstraints) (held : HeldLaws) (scopes : ScopeLaws)
 
     -- ---- constants
     number_type_is : (t : NumberType) → (is_reference (number_kind t) ≡ false) × (is_integer (number_kind t) ≡ true)
-    number_type_is number_types.Int = (refl, refl)
-    number_type_is number_types.Long = (refl, refl)
+    number_type_is NumberType.Int = (refl, refl)
+    number_type_is NumberType.Long = (refl, refl)
 
     constant_is : (s : Span) (k : Constant) → (is_reference (constant_kind k) ≡ false → holds (width_of (constant_kind k)) (constant_value k) ≡ true) → ConstantTyped z f typing c (tree.constant s k) k (is_ref c (tree.constant s k))
-    constant_is s (constants.Number n) fits =
+    constant_is s (Constant.Number n) fits =
         let t = number_type_is n.number_type in
-        subst (ConstantTyped z f typing c (tree.constant s (constants.Number n)) (constants.Number n)) (sym t.0) (t.1, fits t.0)
-    constant_is s (constants.Character byte) fits = (refl, fits refl)
-    constant_is s constants.Null fits = refl
+        subst (ConstantTyped z f typing c (tree.constant s (Constant.Number n)) (Constant.Number n)) (sym t.0) (t.1, fits t.0)
+    constant_is s (Constant.Character byte) fits = (refl, fits refl)
+    constant_is s Constant.Null fits = refl
 
 pub value_laws : MeetsConstraints → HeldLaws → ScopeLaws → ValueLaws
 value_laws constraints held scopes = record {

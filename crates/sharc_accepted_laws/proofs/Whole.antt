@@ -1,13 +1,6 @@
 -- The table of a well-moded program is one of targets.
-use Rattle.std.proofs.Common.{length}
-use Rattle.sharc_tree.specs.{Low.IsLow, Placed.IsPlaced}
-use Rattle.sharc_ctype.specs.Resolved.{IsResolved}
-use Rattle.sharc_ctype_laws.specs.{Found.EachTypeFound, Laws.{EachNameOnce, OnlyNames, EachNamesItself}}
-use Rattle.sharc_mode.specs.{Flows.IsLeastAssignment, Moded.Assignment, WellModed.WellModed}
-use Rattle.sharc_check.specs.RuleLaws.{RulesAreMet}
-use Rattle.sharc_accepted_laws.specs.TargetLaws.{TargetsAre}
+use Rattle.sharc_accepted_laws.proofs.{Imports.{length, IsLow, IsPlaced, IsResolved, EachTypeFound, EachNameOnce, OnlyNames, EachNamesItself, IsLeastAssignment, Assignment, WellModed, RulesAreMet, TargetsAre}, Owners.place_is, Rows.IsKnown, TargetSiblings.sibling_named}
 use Rattle.sharc_accepted_laws.proofs.Globals as globals
-use Rattle.sharc_accepted_laws.proofs.{Owners.place_is, Rows.IsKnown, TargetSiblings.sibling_named}
 
 pub known : EachNameOnce → OnlyNames → EachTypeFound → EachNamesItself → RulesAreMet
     → (m : Assignment) → IsResolved m.typed → IsPlaced m.typed.program → IsLow m.typed.program → IsLeastAssignment m → WellModed m → IsKnown m

@@ -1,22 +1,11 @@
 -- An lvalue that names a variable is the name of one: what has fields is a cell.
-use Rattle.std.proofs.{Common.{◌≡◌, ⊎_elim, ℕ, Bool, true, false, List, [], ◌∷◌, ◌++◌, map, refl, ap, sym, ◌∙◌, subst, Option, Some, None, if◌then◌else◌, Contains, ◌&&◌, ◌||◌, ◌==◌, ◌+◌}, lemmas.Bool.false≢true}
-use Rattle.std.specs.List.{AllByRecursion}
-use Rattle.sharc_tree.specs.{declared.ctype.Base.TheVariants.Mutex, declared.token.NumberType.NumberType, declared.token.Span.Span, declared.tree.declaration.Declaration.Declaration, declared.tree.declaration.Identifier.Identifier, declared.tree.expression.Constant.Constant, Forms.{is_lvalue, without_parentheses}, Measures.{expressions, in_function}, Tree.{Expression, identifier, Function}}
-use Rattle.sharc_tree.specs.declared.token.NumberType.TheVariants as width
-use Rattle.sharc_tree.specs.declared.tree.expression.Constant.TheVariants as constants
-use Rattle.sharc_names.specs.declared.fault.Named.TheVariants as named
-use Rattle.sharc_names.specs.Kinds.{Kind, is_array, is_struct_base, same_base, declared_kind}
+use Rattle.sharc_accepted_laws.proofs.{Imports.{◌≡◌, ⊎_elim, ℕ, Bool, true, false, List, [], ◌∷◌, ◌++◌, map, refl, ap, sym, ◌∙◌, subst, Option, Some, None, if◌then◌else◌, Contains, ◌&&◌, ◌||◌, ◌==◌, ◌+◌, false≢true, AllByRecursion, Mutex, NumberType, Span, Declaration, Identifier, Constant, is_lvalue, without_parentheses, expressions, in_function, Expression, identifier, Function, Named, Kind, is_array, is_struct_base, same_base, declared_kind, constant_kind, number_kind, Resolution, functions_in, function_at, declaration_at, kind_at, named_at, is_aggregate, locals_in_all, HasType, Callee, of_program, of_conditions, Common, both_shorter, a_variable, a_global, a_function, a_constant, in_parentheses, element_of_pointer, element_of_array, a_call, a_field, a_field_behind, negated, complemented, pointed_to, arithmetic, shifted, a_cast, IsItself, NamesOwn, EachNamesItself, EachNamesOwn, ArePlain, IsPlain, MeetsConstraints, Target, in_global_at, in_object_at, target, named_target, own_field, is_cell, IsAccepted, Assignment, same_some, and_false, no, some_star, head_or_tail, of_each}, TargetLists.place_there}
 use Rattle.sharc_names.specs.Kinds as kinds
-use Rattle.sharc_ctype.specs.{Expressions.{constant_kind, number_kind}, Resolved.{Resolution, functions_in, function_at, declaration_at, kind_at, named_at}, Statements.{is_aggregate, locals_in_all}}
-use Rattle.sharc_ctype_laws.specs.{Constraints.{HasType, Callee, of_program, of_conditions, Common, both_shorter, IsPointer, a_variable, a_global, a_function, a_constant, in_parentheses, element_of_pointer, element_of_array, a_call, a_field, a_field_behind, negated, complemented, pointed_to, arithmetic, shifted, a_cast}, Declared.{IsItself, NamesOwn}, Laws.{EachNamesItself, EachNamesOwn, ArePlain, IsPlain, MeetsConstraints}}
-use Rattle.sharc_flat.specs.{Places.{Target, variable, in_global_at, in_object_at, target, named_target, own_field}, Suits.is_cell}
-use Rattle.sharc_accepted_laws.specs.StaticLaws.{IsAccepted}
-use Rattle.sharc_mode.specs.Moded.{Assignment}
-use Rattle.sharc_accepted_laws.proofs.TargetLists.{place_there}
-use Rattle.sharc_lemmas.proofs.{Options.same_some, Bools.{and_false, no}, Numbers.some_star, Lists.{head_or_tail, of_each}}
+use Rattle.sharc_ctype_laws.specs.Constraints.{IsPointer}
+use Rattle.sharc_flat.specs.Places.{variable}
 
 -- ---- variables are no structs
-named_plain : (r : Resolution) (own : List Declaration) → AllByRecursion (IsItself r named.Variable) own → AllByRecursion (λ d. is_aggregate (declared_kind d.written) ≡ false) own
+named_plain : (r : Resolution) (own : List Declaration) → AllByRecursion (IsItself r Named.Variable) own → AllByRecursion (λ d. is_aggregate (declared_kind d.written) ≡ false) own
     → (x : ℕ) → Contains (map (λ d. d.name.site.token) own) x → (d : Declaration) → declaration_at r x ≡ Some d → is_aggregate (declared_kind d.written) ≡ false
 named_plain r [] itself plain x has d is = absurd (of_each (λ z. ⊥) [] x tt has)
 named_plain r (y ∷ rest) itself plain x has d is =
@@ -27,7 +16,7 @@ named_plain r (y ∷ rest) itself plain x has d is =
 pub record Facts (r : Resolution) (g : Function) : Type 0 where
   pub typed : (e : Expression) → Contains (in_function g) e → HasType r e (kind_at r e)
   pub results : (n : ℕ) (f : Function) → function_at r n ≡ Some f → is_aggregate (declared_kind f.result) ≡ false
-  pub held : (s : Span) (i : Identifier) → Contains (in_function g) (identifier s i) → (x : ℕ) → named_at r i.site.token ≡ named.Variable x → (d : Declaration) → declaration_at r x ≡ Some d
+  pub held : (s : Span) (i : Identifier) → Contains (in_function g) (identifier s i) → (x : ℕ) → named_at r i.site.token ≡ Named.Variable x → (d : Declaration) → declaration_at r x ≡ Some d
       → is_aggregate (declared_kind d.written) ≡ false
 
 pub facts_of : MeetsConstraints → EachNamesItself → EachNamesOwn → ArePlain → (m : Assignment) → IsAccepted m → (n : ℕ) (g : Function) → function_at m.typed n ≡ Some g → Facts m.typed g
@@ -35,7 +24,7 @@ facts_of constraints itself own plain m a n g at = record {
   typed = λ e has. of_each (λ e. HasType r e (kind_at r e)) (in_function g) e (of_each (λ f. AllByRecursion (λ e. HasType r e (kind_at r e)) (in_function f)) (functions_in r.program.items) g (constraints r a.resolved a.placed a.low) there) has;
   results = λ k f is. (of_each IsPlain (functions_in r.program.items) f (plain r a.resolved a.placed a.low) (place_there (functions_in r.program.items) k f is)).1;
   held = λ s i has x names d is. named_plain r (g.parameters ++ locals_in_all g.statements)
-      (of_each (λ f. AllByRecursion (IsItself r named.Variable) (f.parameters ++ locals_in_all f.statements)) (functions_in r.program.items) g (itself r a.resolved a.placed a.low).variables there)
+      (of_each (λ f. AllByRecursion (IsItself r Named.Variable) (f.parameters ++ locals_in_all f.statements)) (functions_in r.program.items) g (itself r a.resolved a.placed a.low).variables there)
       (of_each IsPlain (functions_in r.program.items) g (plain r a.resolved a.placed a.low) there).0 x
       (of_each (NamesOwn r (g.parameters ++ locals_in_all g.statements)) (in_function g) (identifier s i)
       (of_each (λ f. AllByRecursion (NamesOwn r (f.parameters ++ locals_in_all f.statements)) (in_function f)) (functions_in r.program.items) g (own r a.resolved a.placed a.low) there) has x names) d is;
@@ -49,11 +38,11 @@ facts_of constraints itself own plain m a n g at = record {
 
 -- ---- what has a struct or a mutex as its type is a cell
 constant_plain : (k : Constant) → is_aggregate (constant_kind k) ≡ false
-constant_plain (constants.Number n) = by n.number_type
+constant_plain (Constant.Number n) = by n.number_type
   where
     by : (w : NumberType) → is_aggregate (number_kind w) ≡ false
-    by width.Int = refl
-    by width.Long = refl
+    by NumberType.Int = refl
+    by NumberType.Long = refl
 constant_plain _ = refl
 
 common_plain : (j k t : Kind) → Common j k t → is_aggregate t ≡ false
@@ -101,15 +90,15 @@ module _ (r : Resolution) (g : Function) (w : Facts r g) where
     pub span : Span
     pub name : Identifier
     pub bare : without_parentheses e ≡ identifier span name
-    pub names : named_at r name.site.token ≡ named.Variable x
+    pub names : named_at r name.site.token ≡ Named.Variable x
 
-  of_name : (s : Span) (i : Identifier) (token x : ℕ) → named_at r i.site.token ≡ named.Variable token → target r None (identifier s i) ≡ variable x → IsName (identifier s i) x
-  of_name s i token x is to = record { span = s; name = i; bare = refl; names = is ∙ ap named.Variable same }
+  of_name : (s : Span) (i : Identifier) (token x : ℕ) → named_at r i.site.token ≡ Named.Variable token → target r None (identifier s i) ≡ variable x → IsName (identifier s i) x
+  of_name s i token x is to = record { span = s; name = i; bare = refl; names = is ∙ ap Named.Variable same }
     where
       same : token ≡ x
       same = let h : variable token ≡ variable x = sym (ap (λ n. named_target n 0) is) ∙ to in cc
 
-  global_no : (s : Span) (i : Identifier) (k x : ℕ) → named_at r i.site.token ≡ named.Global k → target r None (identifier s i) ≡ variable x → ⊥
+  global_no : (s : Span) (i : Identifier) (k x : ℕ) → named_at r i.site.token ≡ Named.Global k → target r None (identifier s i) ≡ variable x → ⊥
   global_no s i k x is to = no_variable (target r None (identifier s i)) (ap (λ n. is_cell (named_target n 0)) is) x to
 
   pub variable_named : (e : Expression) (k : Kind) → HasType r e k → is_lvalue e ≡ true → (k ≡ kinds.function → ⊥) → Inside e → (x : ℕ) → target r None e ≡ variable x → IsName e x

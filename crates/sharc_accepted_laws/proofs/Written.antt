@@ -1,15 +1,5 @@
 -- What holds of the modes that are written in a type, and of those that are never written, holds of the modes of all its positions.
-use Rattle.std.proofs.{Common.{◌≡◌, ⊎_elim, ℕ, zero, suc, ◌+◌, ◌-◌, ◌<◌, ◌≤◌, ◌==◌, Bool, true, false, cond, not, ◌||◌, List, [], ◌∷◌, ◌++◌, length, take, drop, refl, ap, sym, ◌∙◌, subst, arith, Option, Some, None, Contains}, lemmas.Bool.{eqb-false, or_right}}
-use Rattle.std.specs.{Prelude.slice_index_or, List.{AllByRecursion, find}, Option.option_or}
-use Rattle.sharc_tree.specs.{declared.ctype.Base.Base, declared.ctype.Mode.Mode, declared.ctype.Mode.TheVariants.{Private, Racy, Dynamic}}
-use Rattle.sharc_names.specs.declared.types.Role.{Role}
-use Rattle.sharc_names.specs.declared.types.Role.TheVariants as role
-use Rattle.sharc_ctype.specs.{declared.entity.Entity.Entity, declared.entity.Numbered.Numbered, Entities.{entities_in, numbered_from, positions_of, positions_in, written_modes, first_depth}}
-use Rattle.sharc_graph.specs.{declared.graph.NodeFinding.NodeFinding, declared.graph.NodeFinding.TheVariants.Apart, Findings.finding_at}
-use Rattle.sharc_mode.specs.{Flows.{IsLeastAssignment, mode_found}, Moded.Assignment, Rows.{PathReading, Targets, deeper, targets_from, entity_row}, Settled.{is_mutex, settled, field_target, otherwise_of, settled_modes, settled_in, settled_at}, WellFormed.leaves_open}
-use Rattle.sharc_check.specs.Constructs.{IsEntity}
-use Rattle.sharc_accepted_laws.proofs.Settling.{settled_length}
-use Rattle.sharc_lemmas.proofs.{Options.none_some, Lists.head_or_tail, Equal.none_there}
+use Rattle.sharc_accepted_laws.proofs.{Imports.{◌≡◌, ⊎_elim, ℕ, zero, suc, ◌+◌, ◌-◌, ◌<◌, ◌≤◌, ◌==◌, Bool, true, false, cond, not, ◌||◌, List, [], ◌∷◌, ◌++◌, length, take, drop, refl, ap, sym, ◌∙◌, subst, arith, Option, Some, None, Contains, eqb-false, or_right, get_or as slice_index_or, AllByRecursion, find, option_or, Base, Mode, Private, Racy, Dynamic, Role, Entity, Numbered, entities_in, numbered_from, positions_of, positions_in, written_modes, first_depth, NodeFinding, Apart, finding_at, IsLeastAssignment, mode_found, Assignment, PathReading, Targets, deeper, targets_from, entity_row, is_mutex, settled, field_target, otherwise_of, settled_modes, settled_in, settled_at, leaves_open, IsEntity, none_some, head_or_tail, none_there}, Settling.settled_length}
 
 in_left : (a b : List (Option Mode)) (k : ℕ) → k < length a → slice_index_or (a ++ b) k (Some Private) ≡ slice_index_or a k (Some Private)
 in_left [] b k low = absurd (omega (arith, low))
@@ -105,7 +95,7 @@ module _ (Good : Mode → Type 0) (private_good : Good Private) (racy_good : Goo
   target_good _ h = dynamic_good
 
   otherwise_good : (where_ : Role) (levels : List (Option Mode)) → AllByRecursion LevelGood levels → LevelGood (otherwise_of where_ levels)
-  otherwise_good role.Field levels h = target_good levels h
+  otherwise_good Role.Field levels h = target_good levels h
   otherwise_good _ levels h = tt
 
   dropped : (n : ℕ) (levels : List (Option Mode)) → AllByRecursion LevelGood levels → AllByRecursion LevelGood (drop n levels)
@@ -148,7 +138,7 @@ module _ (Good : Mode → Type 0) (private_good : Good Private) (racy_good : Goo
       all = taken Good (positions_of n.entity) n.first m.modes Private (positions_good m least n (position_there (entities_in m.typed.program.items) 0 n is) good)
 
       by : (where_ : Role) → AllByRecursion Good (raw m (targets_from where_ whole))
-      by role.Global = deeper_raw m Good whole all
+      by Role.Global = deeper_raw m Good whole all
       by _ = all
 
   -- by what is written

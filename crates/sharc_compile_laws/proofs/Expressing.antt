@@ -1,17 +1,6 @@
 -- The code of an expression: after it one register more holds something, if its value is a reference.
-use Rattle.std.specs.Prelude.{ℤ}
-use Rattle.std.proofs.{Common.{◌≡◌, ℕ, zero, suc, ◌+◌, ◌<◌, ◌≤◌, Bool, true, false, cond, List, [], ◌∷◌, ◌++◌, length, map, refl, ap, sym, ◌∙◌, subst, arith, Option, Some, None, codes, bytes_eq, if◌then◌else◌}, lemmas.Bool.false≢true}
-use Rattle.sharc_tree.specs.{declared.token.Site.Site, declared.token.Span.Span, declared.tree.declaration.Identifier.Identifier, declared.tree.expression.FieldOperator.FieldOperator, declared.tree.expression.FieldOperator.TheVariants.{Dot, Arrow}, declared.tree.expression.BinaryOperator.BinaryOperator, declared.tree.expression.BinaryOperator.TheVariants.{LogicalOr, LogicalAnd, Equal, NotEqual, Less, Greater, LessOrEqual, GreaterOrEqual, ShiftLeft, ShiftRight}, declared.tree.expression.PlaceCall.PlaceCall, declared.tree.expression.PlaceCall.TheVariants.{Lock, Unlock, Free}, declared.tree.expression.UnaryOperator.TheVariants.{Negate, Not, Complement, Dereference}, Spans.span_of, Tree.{Expression, identifier, constant, parentheses, call, spawn, on_value, on_place, cast, index, field, unary, binary, Arguments, no_arguments, argument, Function}}
-use Rattle.sharc_names.specs.{declared.fault.Named.Named, Kinds.{Kind, is_array, is_integer, element_kind, declared_kind, declared_kinds}}
-use Rattle.sharc_names.specs.declared.fault.Named.TheVariants as named
-use Rattle.sharc_code.specs.declared.code.Use.TheVariants as uses
-use Rattle.sharc_ctype.specs.{Resolved.{kind_at, function_at, result_kind_of, global_at}, Transfers.{parameters_named, parameters_of}}
-use Rattle.sharc_mode.specs.{Moded.Assignment, Sharings.Sharing}
-use Rattle.sharc_meaning.specs.{Cells.{element_cells, field_place_named, global_elements}, Expressions.number_named, State.is_reference}
-use Rattle.sharc_flat.specs.{declared.op.Op.Op, declared.op.Spot.Spot, Machine.{Flat, function_of, first_cell}, declared.slot.Lvalue.Lvalue, Scope.{Context, slot_of, ref_count, at_site}, Places.{Target, variable, in_global, in_global_at, in_object_at, target, own_field, global_of, base_width, take_code, bounds_code, index_code, pointee_code}, Flattened.{kind_of, is_ref, target_of, mode_of, what_names, lvalue_in, named_code, truth_code, compare_code, binary_code, behind_int, behind_ref, called_code, passed_code, place_call_code, cast_code, guard_of, taken_guard, field_code, expression_code, arguments_code, place_code}, Suits.{Suits, PlaceSuits, ArgumentsSuit, ReferencesSuit, NameSuits, CallSuits, FieldSuits, TakeSuits, PlaceCallSuits, OperandsSuit, Either}}
-use Rattle.sharc_flat.specs.declared.op.Op.TheVariants as op
-use Rattle.sharc_guard.specs.Level.{Slot, free, full, Fits, Slots, result_slot, Enters, Level}
-use Rattle.sharc_compile_laws.proofs.{Located.{width, pointers, pointers_are}, Pieces.line, Parts.{plain_integer, wide_promoted, wide_common, IsKept, kept_cell, P, B, then_do, pre, post, none, keeps, enter, null_at, values, takes, passes_kept, truths, compares, logicals, eithers, pointees, bounded, conditions, spawns, value_calls, locked_at, unlocked_at, freed_if, given_if}, Slots.{AreFit, fits_full, fits_free, below, below_full, shifted, fits_through as through}}
+use Rattle.sharc_compile_laws.proofs.{Imports.{ℤ, ◌≡◌, ℕ, zero, suc, ◌+◌, ◌<◌, ◌≤◌, Bool, true, false, cond, List, [], ◌∷◌, ◌++◌, length, map, refl, ap, sym, ◌∙◌, subst, arith, Option, Some, None, codes, bytes_eq, if◌then◌else◌, false≢true, Site, Span, Identifier, FieldOperator, Dot, Arrow, BinaryOperator, LogicalOr, LogicalAnd, Equal, NotEqual, Less, Greater, LessOrEqual, GreaterOrEqual, ShiftLeft, ShiftRight, PlaceCall, Lock, Unlock, Free, Negate, Not, Complement, Dereference, span_of, Expression, identifier, constant, parentheses, call, spawn, on_value, on_place, cast, index, field, unary, binary, Arguments, no_arguments, argument, Function, Named, Kind, is_array, is_integer, element_kind, declared_kind, declared_kinds, Use, kind_at, function_at, result_kind_of, global_at, parameters_named, parameters_of, Assignment, Sharing, element_cells, field_place_named, global_elements, number_named, is_reference, Op, Spot, Flat, function_of, first_cell, Lvalue, Context, slot_of, ref_count, at_site, Target, variable, in_global, in_global_at, in_object_at, target, own_field, global_of, base_width, take_code, bounds_code, index_code, pointee_code, kind_of, is_ref, target_of, mode_of, what_names, lvalue_in, named_code, truth_code, compare_code, binary_code, behind_int, behind_ref, called_code, passed_code, place_call_code, cast_code, guard_of, taken_guard, field_code, expression_code, arguments_code, place_code, Suits, PlaceSuits, ArgumentsSuit, ReferencesSuit, NameSuits, CallSuits, FieldSuits, TakeSuits, PlaceCallSuits, OperandsSuit, Either, free, full, Fits, Slots, result_slot, Enters, Level}, Located.{width, pointers, pointers_are}, Pieces.line, Parts.{plain_integer, wide_promoted, wide_common, IsKept, kept_cell, P, B, then_do, pre, post, none, keeps, enter, null_at, values, takes, passes_kept, truths, compares, logicals, eithers, pointees, bounded, conditions, spawns, value_calls, locked_at, unlocked_at, freed_if, given_if}, Slots.{AreFit, fits_full, fits_free, below, below_full, shifted, fits_through as through}}
+use Rattle.sharc_guard.specs.Level.{Slot}
 
 -- each function finds what its callers leave for it
 abbrev pub Entries : Flat → Assignment → (ℕ → Slots) → Type 0
@@ -47,7 +36,7 @@ module _ (flat : Flat) (owner : ℕ → ℕ) (f : ℕ) (m : Assignment) where
   lower : (a b d : ℕ) (os : List Op) → a ≤ b → Q b os d → Q a os d
   lower a b d os le p = pre flat owner g f D a b os (below d) le p
 
-  enters : (a b : ℕ) (os : List Op) → Q a os b → Q a (op.Enter ∷ os) b
+  enters : (a b : ℕ) (os : List Op) → Q a os b → Q a (Op.Enter ∷ os) b
   enters a b os p = enter flat owner g f D (below a) os (below b) p
 
   one : (a : ℕ) (o : Op) → ((table : ℕ → Slots) (pc : ℕ) → Enters flat owner g table f (below a) (pc + 1) → Level flat owner g table pc f (below a) o) → Q a (o ∷ []) a
@@ -75,11 +64,11 @@ module _ (flat : Flat) (owner : ℕ → ℕ) (f : ℕ) (m : Assignment) where
   given r x true h = subst (λ z. Fits z x) (below_full (r + 1) r (omega arith)) h
   given r x false h = fits_free x
 
-  calls_one : (n : ℕ) (fn : Function) → function_at m.typed n ≡ Some fn → (i r : ℕ) (spot : Spot) → Q (r + pointers (declared_kinds fn.parameters)) (op.Call n i r spot ∷ []) (r + width (is_reference (declared_kind fn.result)))
+  calls_one : (n : ℕ) (fn : Function) → function_at m.typed n ≡ Some fn → (i r : ℕ) (spot : Spot) → Q (r + pointers (declared_kinds fn.parameters)) (Op.Call n i r spot ∷ []) (r + width (is_reference (declared_kind fn.result)))
   calls_one n fn at i r spot pc =
       let k = pointers (declared_kinds fn.parameters) in
       let b = is_reference (declared_kind fn.result) in
-      line flat owner g f D (below (r + k)) pc (op.Call n i r spot) (below (r + width b))
+      line flat owner g f D (below (r + k)) pc (Op.Call n i r spot) (below (r + width b))
       (λ table d own end. let e = d n fn at in (
         record {
           known = e.0;
@@ -97,15 +86,15 @@ module _ (flat : Flat) (owner : ℕ → ℕ) (f : ℕ) (m : Assignment) where
       → ((ks : List Kind) → ArgumentsSuit c ks all → Q r (arguments_code c i r ks all) (r + pointers ks)) → ((k : ℕ) → ReferencesSuit c k all → Q r (arguments_code c i r [] all) (r + k))
       → CallSuits c kind n (λ ks. ArgumentsSuit c ks all) (ReferencesSuit c (if bytes_eq name (codes "wait") then 2 else 1) all)
       → Q r (arguments_code c i r (declared_kinds (parameters_named c.program.typed n)) all ++ called_code i r spot n name all) (r + width (is_reference kind))
-  call_all c same i r kind (named.Function k) name all spot args refs h =
+  call_all c same i r kind (Named.Function k) name all spot args refs h =
       let fn = h.0 in
       let at : function_at m.typed k ≡ Some fn = subst (λ (p : Assignment). function_at p.typed k ≡ Some fn) same h.1 in
-      subst (λ o. Q r (arguments_code c i r (declared_kinds (parameters_of o)) all ++ op.Call k i r spot ∷ []) (r + width (is_reference kind))) (sym h.1)
-      (subst (λ z. Q r (arguments_code c i r (declared_kinds fn.parameters) all ++ op.Call k i r spot ∷ []) (r + width (is_reference z))) (sym h.2)
-      (joined r (r + pointers (declared_kinds fn.parameters)) (r + width (is_reference (declared_kind fn.result))) (arguments_code c i r (declared_kinds fn.parameters) all) (op.Call k i r spot ∷ []) (args (declared_kinds fn.parameters) h.3) (calls_one k fn at i r spot)))
-  call_all c same i r kind named.Known name all spot args refs h =
-      joined r (r + cond (bytes_eq name (codes "wait")) 2 1) (r + width (is_reference kind)) (arguments_code c i r [] all) (called_code i r spot named.Known name all) (refs (cond (bytes_eq name (codes "wait")) 2 1) h.0)
-      (longer (r + cond (bytes_eq name (codes "wait")) 2 1) r (r + width (is_reference kind)) (called_code i r spot named.Known name all) (omega arith) (conditions flat owner g f D r spot name all))
+      subst (λ o. Q r (arguments_code c i r (declared_kinds (parameters_of o)) all ++ Op.Call k i r spot ∷ []) (r + width (is_reference kind))) (sym h.1)
+      (subst (λ z. Q r (arguments_code c i r (declared_kinds fn.parameters) all ++ Op.Call k i r spot ∷ []) (r + width (is_reference z))) (sym h.2)
+      (joined r (r + pointers (declared_kinds fn.parameters)) (r + width (is_reference (declared_kind fn.result))) (arguments_code c i r (declared_kinds fn.parameters) all) (Op.Call k i r spot ∷ []) (args (declared_kinds fn.parameters) h.3) (calls_one k fn at i r spot)))
+  call_all c same i r kind Named.Known name all spot args refs h =
+      joined r (r + cond (bytes_eq name (codes "wait")) 2 1) (r + width (is_reference kind)) (arguments_code c i r [] all) (called_code i r spot Named.Known name all) (refs (cond (bytes_eq name (codes "wait")) 2 1) h.0)
+      (longer (r + cond (bytes_eq name (codes "wait")) 2 1) r (r + width (is_reference kind)) (called_code i r spot Named.Known name all) (omega arith) (conditions flat owner g f D r spot name all))
   call_all c same i r kind _ name all spot args refs h = absurd h
 
   -- ---- operators
@@ -134,25 +123,25 @@ module _ (flat : Flat) (owner : ℕ → ℕ) (f : ℕ) (m : Assignment) where
       logicals flat owner g f D i r (xs ++ truth_code (is_ref c a) i r) (ys i r ++ truth_code (is_ref c b) i r) (joined r (r + width (is_ref c a)) r xs _ p (truth_of (is_ref c a) i r)) (joined r (r + width (is_ref c b)) r (ys i r) _ (q i r (omega arith)) (truth_of (is_ref c b) i r))
   binaries c i r site LogicalOr a b xs ys h p q =
       eithers flat owner g f D i r (xs ++ truth_code (is_ref c a) i r) (ys i r ++ truth_code (is_ref c b) i r) (joined r (r + width (is_ref c a)) r xs _ p (truth_of (is_ref c a) i r)) (joined r (r + width (is_ref c b)) r (ys i r) _ (q i r (omega arith)) (truth_of (is_ref c b) i r))
-  binaries c i r site Equal a b xs ys h p q = sides (is_ref c a) (is_ref c b) (same_sort (kind_of c a) (kind_of c b) h) i r Equal xs ys _ p q (one r (op.Compute _ _ _ _ _ _) (λ table pc n. (tt, n)))
-  binaries c i r site NotEqual a b xs ys h p q = sides (is_ref c a) (is_ref c b) (same_sort (kind_of c a) (kind_of c b) h) i r NotEqual xs ys _ p q (one r (op.Compute _ _ _ _ _ _) (λ table pc n. (tt, n)))
-  binaries c i r site Less a b xs ys h p q = sides (is_ref c a) (is_ref c b) (both_plain (kind_of c a) (kind_of c b) h) i r Less xs ys _ p q (one r (op.Compute _ _ _ _ _ _) (λ table pc n. (tt, n)))
-  binaries c i r site Greater a b xs ys h p q = sides (is_ref c a) (is_ref c b) (both_plain (kind_of c a) (kind_of c b) h) i r Greater xs ys _ p q (one r (op.Compute _ _ _ _ _ _) (λ table pc n. (tt, n)))
-  binaries c i r site LessOrEqual a b xs ys h p q = sides (is_ref c a) (is_ref c b) (both_plain (kind_of c a) (kind_of c b) h) i r LessOrEqual xs ys _ p q (one r (op.Compute _ _ _ _ _ _) (λ table pc n. (tt, n)))
-  binaries c i r site GreaterOrEqual a b xs ys h p q = sides (is_ref c a) (is_ref c b) (both_plain (kind_of c a) (kind_of c b) h) i r GreaterOrEqual xs ys _ p q (one r (op.Compute _ _ _ _ _ _) (λ table pc n. (tt, n)))
-  binaries c i r site ShiftLeft a b xs ys h p q = sides (is_ref c a) (is_ref c b) (both_plain (kind_of c a) (kind_of c b) h) i r ShiftLeft xs ys _ p q (one r (op.Compute _ _ _ _ _ _) (λ table pc n. (wide_promoted (kind_of c a), n)))
-  binaries c i r site ShiftRight a b xs ys h p q = sides (is_ref c a) (is_ref c b) (both_plain (kind_of c a) (kind_of c b) h) i r ShiftRight xs ys _ p q (one r (op.Compute _ _ _ _ _ _) (λ table pc n. (wide_promoted (kind_of c a), n)))
-  binaries c i r site k a b xs ys h p q = sides (is_ref c a) (is_ref c b) (both_plain (kind_of c a) (kind_of c b) h) i r k xs ys _ p q (one r (op.Compute _ _ _ _ _ _) (λ table pc n. (wide_common (kind_of c a) (kind_of c b), n)))
+  binaries c i r site Equal a b xs ys h p q = sides (is_ref c a) (is_ref c b) (same_sort (kind_of c a) (kind_of c b) h) i r Equal xs ys _ p q (one r (Op.Compute _ _ _ _ _ _) (λ table pc n. (tt, n)))
+  binaries c i r site NotEqual a b xs ys h p q = sides (is_ref c a) (is_ref c b) (same_sort (kind_of c a) (kind_of c b) h) i r NotEqual xs ys _ p q (one r (Op.Compute _ _ _ _ _ _) (λ table pc n. (tt, n)))
+  binaries c i r site Less a b xs ys h p q = sides (is_ref c a) (is_ref c b) (both_plain (kind_of c a) (kind_of c b) h) i r Less xs ys _ p q (one r (Op.Compute _ _ _ _ _ _) (λ table pc n. (tt, n)))
+  binaries c i r site Greater a b xs ys h p q = sides (is_ref c a) (is_ref c b) (both_plain (kind_of c a) (kind_of c b) h) i r Greater xs ys _ p q (one r (Op.Compute _ _ _ _ _ _) (λ table pc n. (tt, n)))
+  binaries c i r site LessOrEqual a b xs ys h p q = sides (is_ref c a) (is_ref c b) (both_plain (kind_of c a) (kind_of c b) h) i r LessOrEqual xs ys _ p q (one r (Op.Compute _ _ _ _ _ _) (λ table pc n. (tt, n)))
+  binaries c i r site GreaterOrEqual a b xs ys h p q = sides (is_ref c a) (is_ref c b) (both_plain (kind_of c a) (kind_of c b) h) i r GreaterOrEqual xs ys _ p q (one r (Op.Compute _ _ _ _ _ _) (λ table pc n. (tt, n)))
+  binaries c i r site ShiftLeft a b xs ys h p q = sides (is_ref c a) (is_ref c b) (both_plain (kind_of c a) (kind_of c b) h) i r ShiftLeft xs ys _ p q (one r (Op.Compute _ _ _ _ _ _) (λ table pc n. (wide_promoted (kind_of c a), n)))
+  binaries c i r site ShiftRight a b xs ys h p q = sides (is_ref c a) (is_ref c b) (both_plain (kind_of c a) (kind_of c b) h) i r ShiftRight xs ys _ p q (one r (Op.Compute _ _ _ _ _ _) (λ table pc n. (wide_promoted (kind_of c a), n)))
+  binaries c i r site k a b xs ys h p q = sides (is_ref c a) (is_ref c b) (both_plain (kind_of c a) (kind_of c b) h) i r k xs ys _ p q (one r (Op.Compute _ _ _ _ _ _) (λ table pc n. (wide_common (kind_of c a) (kind_of c b), n)))
 
   -- the value of what is named, and of a constant
   names : (c : Context) (i r : ℕ) → ref_count c.scope ≤ r → (site : Site) (lvalue : Lvalue) (mode mode2 : Sharing) (kind : Kind) (n : Named) → NameSuits c kind mode2 n → Q r (named_code c i r site lvalue mode (is_reference kind) n) (r + width (is_reference kind))
-  names c i r le site lvalue mode mode2 kind (named.Variable x) h = lower r (r + 0) (r + width (is_reference kind)) _ (omega arith) (values flat owner g f D c i r site lvalue mode (is_reference kind) (variable x) le h)
-  names c i r le site lvalue mode mode2 kind (named.Global x) h = lower r (r + 0) (r + width (is_reference kind)) _ (omega arith) (values flat owner g f D c i r site lvalue mode (is_reference kind) (in_global x 0) le tt)
+  names c i r le site lvalue mode mode2 kind (Named.Variable x) h = lower r (r + 0) (r + width (is_reference kind)) _ (omega arith) (values flat owner g f D c i r site lvalue mode (is_reference kind) (variable x) le h)
+  names c i r le site lvalue mode mode2 kind (Named.Global x) h = lower r (r + 0) (r + width (is_reference kind)) _ (omega arith) (values flat owner g f D c i r site lvalue mode (is_reference kind) (in_global x 0) le tt)
   names c i r le site lvalue mode mode2 kind _ h = nothing_at r (r + width (is_reference kind)) (omega arith)
 
-  zeros : (b : Bool) (i r : ℕ) (v : ℤ) → Q r (cond b (op.Null r ∷ []) (op.Constant i v ∷ [])) (r + width b)
+  zeros : (b : Bool) (i r : ℕ) (v : ℤ) → Q r (cond b (Op.Null r ∷ []) (Op.Constant i v ∷ [])) (r + width b)
   zeros true i r v = null_at flat owner g f D r
-  zeros false i r v = longer r r (r + 0) (op.Constant i v ∷ []) (omega arith) (one r (op.Constant i v) (λ table pc n. n))
+  zeros false i r v = longer r r (r + 0) (Op.Constant i v ∷ []) (omega arith) (one r (Op.Constant i v) (λ table pc n. n))
 
   -- ---- places
   kept_either : (c : Context) (k b : Bool) (x n y : ℕ) → IsKept c k (cond b (in_global_at x n) (in_object_at y))
@@ -167,11 +156,11 @@ module _ (flat : Flat) (owner : ℕ → ℕ) (f : ℕ) (m : Assignment) where
   indexes : (c : Context) (i r : ℕ) (site : Site) (f2 guard : Option ℕ) (a : Expression) (xs ys : List Op) (number : ℕ → List Op) → Either (is_array (kind_at c.program.typed a)) (Q r xs r) (Q r ys (r + 1)) → ((d : ℕ) → r ≤ d → Q d (number d) d)
       → Q r (index_code c i r site f2 guard a xs ys number) (r + base_width (cond (is_array (kind_at c.program.typed a)) (in_global_at (global_of (target c.program.typed None a)) (own_field f2 0)) (in_object_at (own_field f2 0))))
   indexes c i r site f2 guard a xs ys number h n =
-      let of_array : ℕ → ℕ → Op = λ i n. op.GlobalBounds i (global_elements (global_at c.program.typed (global_of (target c.program.typed None a)))) (element_cells c.program.typed (element_kind (kind_at c.program.typed a))) (first_cell c.globals (global_of (target c.program.typed None a)) + n) (at_site site) in
-      let of_pointer : ℕ → ℕ → Op = λ i n. op.Bounds i r (element_cells c.program.typed (element_kind (kind_at c.program.typed a))) n (at_site site) in
-      index_by (is_array (kind_at c.program.typed a)) i r (global_of (target c.program.typed None a)) (own_field f2 0) (own_field f2 0) xs ys (bounds_code of_array i (own_field f2 0) guard) (bounds_code of_pointer i (own_field f2 0) guard) number (op.ChkNull r (at_site site)) h n
+      let of_array : ℕ → ℕ → Op = λ i n. Op.GlobalBounds i (global_elements (global_at c.program.typed (global_of (target c.program.typed None a)))) (element_cells c.program.typed (element_kind (kind_at c.program.typed a))) (first_cell c.globals (global_of (target c.program.typed None a)) + n) (at_site site) in
+      let of_pointer : ℕ → ℕ → Op = λ i n. Op.Bounds i r (element_cells c.program.typed (element_kind (kind_at c.program.typed a))) n (at_site site) in
+      index_by (is_array (kind_at c.program.typed a)) i r (global_of (target c.program.typed None a)) (own_field f2 0) (own_field f2 0) xs ys (bounds_code of_array i (own_field f2 0) guard) (bounds_code of_pointer i (own_field f2 0) guard) number (Op.ChkNull r (at_site site)) h n
       (bounded flat owner g f D (below r) of_array i (own_field f2 0) guard (λ i n. one r (of_array i n) (λ table pc z. z)))
-      (one (r + 1) (op.ChkNull r (at_site site)) (λ table pc z. z))
+      (one (r + 1) (Op.ChkNull r (at_site site)) (λ table pc z. z))
       (bounded flat owner g f D (below (r + 1)) of_pointer i (own_field f2 0) guard (λ i n. one (r + 1) (of_pointer i n) (λ table pc z. z)))
 
   -- the base of what is named by `a[i]`
@@ -192,14 +181,14 @@ module _ (flat : Flat) (owner : ℕ → ℕ) (f : ℕ) (m : Assignment) where
   place_calls c i r le s Unlock a xs h p = joined r (r + base_width (target_of c a)) r xs _ p (unlocked_at flat owner g f D c i r _ _ (target_of c a))
   place_calls c i r le s Free a xs h p =
       joined r (r + base_width (target_of c a)) r xs _ p
-      (joined (r + base_width (target_of c a)) (r + 1) r (take_code c i r (span_of a).first (lvalue_in c a) (mode_of c a) uses.Free (target_of c a)) _
-      (takes flat owner g f D c i r (span_of a).first (lvalue_in c a) (mode_of c a) uses.Free (target_of c a) le (taken_kept c _ (target_of c a) h.0)) (freed_if flat owner g f D r _ _))
+      (joined (r + base_width (target_of c a)) (r + 1) r (take_code c i r (span_of a).first (lvalue_in c a) (mode_of c a) Use.Free (target_of c a)) _
+      (takes flat owner g f D c i r (span_of a).first (lvalue_in c a) (mode_of c a) Use.Free (target_of c a) le (taken_kept c _ (target_of c a) h.0)) (freed_if flat owner g f D r _ _))
 
   casts : (c : Context) (i r : ℕ) → ref_count c.scope ≤ r → (s : Span) (a : Expression) (xs : List Op) → IsKept c true (target_of c a) → Q r xs (r + base_width (target_of c a)) → Q r (cast_code c i r s a xs) (r + 1)
   casts c i r le s a xs h p =
       joined r (r + base_width (target_of c a)) (r + 1) xs _ p
-      (joined (r + base_width (target_of c a)) (r + 1) (r + 1) (take_code c i r (span_of a).first (lvalue_in c a) (mode_of c a) uses.Cast (target_of c a)) _
-      (takes flat owner g f D c i r (span_of a).first (lvalue_in c a) (mode_of c a) uses.Cast (target_of c a) le h) (given_if flat owner g f D r _ _))
+      (joined (r + base_width (target_of c a)) (r + 1) (r + 1) (take_code c i r (span_of a).first (lvalue_in c a) (mode_of c a) Use.Cast (target_of c a)) _
+      (takes flat owner g f D c i r (span_of a).first (lvalue_in c a) (mode_of c a) Use.Cast (target_of c a) le h) (given_if flat owner g f D r _ _))
 
   pointee_at : (r : ℕ) (site : Site) (xs : List Op) → Q r xs (r + 1) → Q r (pointee_code r site xs) (r + 1)
   pointee_at r site xs p = pointees flat owner g f D r site xs p
@@ -258,16 +247,16 @@ module _ (flat : Flat) (owner : ℕ → ℕ) (f : ℕ) (m : Assignment) where
     expressions c same i r le (unary s Negate a) h =
         enters r (r + width (is_ref c (unary s Negate a))) _
         (longer r r (r + width (is_ref c (unary s Negate a))) _ (omega arith)
-        (joined r r r (expression_code c i r a) _ (plain_value r (expression_code c i r a) (is_ref c a) (plain_integer (kind_of c a) h.1) (expressions c same i r le a h.0)) (one r (op.Negate _ _ _ _) (λ table pc z. (wide_promoted (kind_of c a), z)))))
+        (joined r r r (expression_code c i r a) _ (plain_value r (expression_code c i r a) (is_ref c a) (plain_integer (kind_of c a) h.1) (expressions c same i r le a h.0)) (one r (Op.Negate _ _ _ _) (λ table pc z. (wide_promoted (kind_of c a), z)))))
     expressions c same i r le (unary s Not a) h =
         enters r (r + width (is_ref c (unary s Not a))) _
         (longer r r (r + width (is_ref c (unary s Not a))) _ (omega arith)
         (joined r (r + width (is_ref c a)) r (expression_code c i r a) _ (expressions c same i r le a h.0)
-        (joined (r + width (is_ref c a)) r r (truth_code (is_ref c a) i r) (op.IsFalse i i ∷ []) (truth_of (is_ref c a) i r) (one r (op.IsFalse i i) (λ table pc z. z)))))
+        (joined (r + width (is_ref c a)) r r (truth_code (is_ref c a) i r) (Op.IsFalse i i ∷ []) (truth_of (is_ref c a) i r) (one r (Op.IsFalse i i) (λ table pc z. z)))))
     expressions c same i r le (unary s Complement a) h =
         enters r (r + width (is_ref c (unary s Complement a))) _
         (longer r r (r + width (is_ref c (unary s Complement a))) _ (omega arith)
-        (joined r r r (expression_code c i r a) _ (plain_value r (expression_code c i r a) (is_ref c a) (plain_integer (kind_of c a) h.1) (expressions c same i r le a h.0)) (one r (op.Complement i i) (λ table pc z. z))))
+        (joined r r r (expression_code c i r a) _ (plain_value r (expression_code c i r a) (is_ref c a) (plain_integer (kind_of c a) h.1) (expressions c same i r le a h.0)) (one r (Op.Complement i i) (λ table pc z. z))))
     expressions c same i r le (unary s Dereference a) h =
         enters r (r + width (is_ref c (unary s Dereference a))) _
         (joined r (r + 1) (r + width (is_ref c (unary s Dereference a))) (pointee_code r s.first (expression_code c i r a)) _

@@ -1,9 +1,5 @@
 -- Pieces of flat code with what is known at each of their lines, one after the other: knowledge of any kind, given by which fits which and by what an operation needs.
-use Rattle.std.specs.Prelude.{slice_get, slice_index_or}
-use Rattle.std.proofs.Common.{◌≡◌, ℕ, zero, suc, ◌+◌, ◌≤◌, List, [], ◌∷◌, ◌++◌, length, refl, ap, sym, ◌∙◌, subst, arith, length-append, append_assoc, Some}
-use Rattle.sharc_flat.specs.declared.op.Op.{Op}
-use Rattle.sharc_flat.specs.declared.op.Op.TheVariants as op
-use Rattle.sharc_lemmas.proofs.Options.{same_some, none_some}
+use Rattle.sharc_compile_laws.proofs.Imports.{slice_get, slice_index_or, ◌≡◌, ℕ, zero, suc, ◌+◌, ◌≤◌, List, [], ◌∷◌, ◌++◌, length, refl, ap, sym, ◌∙◌, subst, arith, length-append, append_assoc, Some, Op, same_some, none_some}
 
 -- at the lines from this one on this is known
 abbrev pub Agrees : {St : Type 0} → (ℕ → St) → ℕ → List St → Type 0
@@ -144,11 +140,11 @@ module _ (St : Type 0) (Fit : St → St → Type 0) (same : (s : St) → Fit s s
     pub step_at : (table : ℕ → St) → Agrees table pc piece.states → Fit n (table (pc + length (T ++ (B ++ S)))) → Fit n (table (pc + (length T + length B)))
 
   -- the rules of the operations that lead elsewhere; where a register holds NULL more may be known
-  module _ (cleared : St → ℕ → St) (on_zero : (table : ℕ → St) (pc : ℕ) (s : St) (i n : ℕ) → Leads table s (pc + 1 + n) → Leads table s (pc + 1) → Needs table pc s (op.SkipIfZero i n))
-      (on_null : (table : ℕ → St) (pc : ℕ) (s : St) (r n : ℕ) → Leads table (cleared s r) (pc + 1 + n) → Leads table s (pc + 1) → Needs table pc s (op.SkipIfNull r n))
-      (on_skip : (table : ℕ → St) (pc : ℕ) (s : St) (n : ℕ) → Leads table s (pc + 1 + n) → Needs table pc s (op.Skip n)) where
+  module _ (cleared : St → ℕ → St) (on_zero : (table : ℕ → St) (pc : ℕ) (s : St) (i n : ℕ) → Leads table s (pc + 1 + n) → Leads table s (pc + 1) → Needs table pc s (Op.SkipIfZero i n))
+      (on_null : (table : ℕ → St) (pc : ℕ) (s : St) (r n : ℕ) → Leads table (cleared s r) (pc + 1 + n) → Leads table s (pc + 1) → Needs table pc s (Op.SkipIfNull r n))
+      (on_skip : (table : ℕ → St) (pc : ℕ) (s : St) (n : ℕ) → Leads table s (pc + 1 + n) → Needs table pc s (Op.Skip n)) where
     -- over a piece, or into it
-    pub over : (D : (ℕ → St) → Type 0) (s m e : St) (pc i : ℕ) (xs ys : List Op) → Fit s m → Piece D s (pc + 1) xs m → Piece D m (pc + 1 + length xs) ys e → Piece D s pc (op.SkipIfZero i (length xs) ∷ (xs ++ ys)) e
+    pub over : (D : (ℕ → St) → Type 0) (s m e : St) (pc i : ℕ) (xs ys : List Op) → Fit s m → Piece D s (pc + 1) xs m → Piece D m (pc + 1 + length xs) ys e → Piece D s pc (Op.SkipIfZero i (length xs) ∷ (xs ++ ys)) e
     unfolding joins
     over D s m e pc i xs ys h p q =
         let j = joins D s m e (pc + 1) xs ys p q in
@@ -157,21 +153,21 @@ module _ (St : Type 0) (Fit : St → St → Type 0) (same : (s : St) → Fit s s
           many = let n = j.many in omega (arith, n);
           begins = same s;
           runs = λ table d own a end.
-              let last : pc + length (op.SkipIfZero i (length xs) ∷ (xs ++ ys)) ≡ pc + 1 + length (xs ++ ys) = omega arith in
+              let last : pc + length (Op.SkipIfZero i (length xs) ∷ (xs ++ ys)) ≡ pc + 1 + length (xs ++ ys) = omega arith in
               let there : Fit e (table (pc + 1 + length (xs ++ ys))) = subst (λ n. Fit e (table n)) last end in
               let last2 : pc + 1 + length (xs ++ ys) ≡ pc + 1 + length xs + length ys = omega (arith, length-append xs ys) in
               let there2 : Fit e (table (pc + 1 + length xs + length ys)) = subst (λ n. Fit e (table n)) last2 there in
               let right = agrees_right table (pc + 1) p.states q.states (length xs) p.many a.1 in
               let o1 = own (pc + 1 + length xs) (omega arith) (omega (arith, length-append xs ys)) in
               let o2 = own (pc + 1) (omega arith) (omega arith) in (
-                subst (λ x. Needs table pc x (op.SkipIfZero i (length xs))) (sym a.0)
+                subst (λ x. Needs table pc x (Op.SkipIfZero i (length xs))) (sym a.0)
                     (on_zero table pc s i (length xs) (o1, through s m (table (pc + 1 + length xs)) h (enters D m (pc + 1 + length xs) ys e q table right there2)) (o2, enters D s (pc + 1) (xs ++ ys) e j table a.1 there)),
                 j.runs table d (λ n low high. own n (omega (arith, low)) (omega (arith, high))) a.1 there,
               );
         }
 
     -- over one line where a register holds NULL
-    pub over_null : (D : (ℕ → St) → Type 0) (s m e : St) (pc r : ℕ) (o : Op) → Fit s m → Fit (cleared s r) e → Piece D m (pc + 1) (o ∷ []) e → Piece D s pc (op.SkipIfNull r 1 ∷ o ∷ []) e
+    pub over_null : (D : (ℕ → St) → Type 0) (s m e : St) (pc r : ℕ) (o : Op) → Fit s m → Fit (cleared s r) e → Piece D m (pc + 1) (o ∷ []) e → Piece D s pc (Op.SkipIfNull r 1 ∷ o ∷ []) e
     over_null D s m e pc r o h g q = record {
       states = s ∷ q.states;
       many = let n = q.many in omega (arith, n);
@@ -181,7 +177,7 @@ module _ (St : Type 0) (Fit : St → St → Type 0) (same : (s : St) → Fit s s
           let there : Fit e (table (pc + 1 + 1)) = subst (λ n. Fit e (table n)) last end in
           let o1 = own (pc + 1 + 1) (omega arith) (omega arith) in
           let o2 = own (pc + 1) (omega arith) (omega arith) in (
-            subst (λ x. Needs table pc x (op.SkipIfNull r 1)) (sym a.0)
+            subst (λ x. Needs table pc x (Op.SkipIfNull r 1)) (sym a.0)
                 (on_null table pc s r 1 (o1, through (cleared s r) e (table (pc + 1 + 1)) g there) (o2, through s m (table (pc + 1)) h (enters D m (pc + 1) (o ∷ []) e q table a.1 there))),
             q.runs table d (λ n low high. own n (omega (arith, low)) (omega (arith, high))) a.1 there,
           );
@@ -201,10 +197,10 @@ module _ (St : Type 0) (Fit : St → St → Type 0) (same : (s : St) → Fit s s
 
       -- ---- a test, and what it leads over
       abbrev tested : List Op → ℕ → ℕ → List Op
-      tested xs i over = xs ++ op.SkipIfZero i over ∷ []
+      tested xs i over = xs ++ Op.SkipIfZero i over ∷ []
 
       test_many : (xs : List Op) (i over : ℕ) → length (tested xs i over) ≡ length xs + 1
-      test_many xs i over = length-append xs (op.SkipIfZero i over ∷ [])
+      test_many xs i over = length-append xs (Op.SkipIfZero i over ∷ [])
 
       abbrev tested_states : List St → St → List St → List St
       tested_states a s b = (a ++ s ∷ []) ++ b
@@ -241,9 +237,9 @@ module _ (St : Type 0) (Fit : St → St → Type 0) (same : (s : St) → Fit s s
           let o1 = own (pc + length xs + 1 + over) (omega arith) (omega (arith, n1, n2, le)) in
           let o2 = own (pc + length xs + 1) (omega arith) (omega (arith, n1, n2)) in
           levels_both table pc (tested xs i over) ys
-          (levels_both table pc xs (op.SkipIfZero i over ∷ [])
+          (levels_both table pc xs (Op.SkipIfZero i over ∷ [])
           (p.runs table d (λ q low high. own q low (omega (arith, high, n1, n2))) a (subst (Fit s) (sym last) (same s)))
-          (subst (λ x. Needs table (pc + length xs) x (op.SkipIfZero i over)) (sym last) (on_zero table (pc + length xs) s i over (o1, far) (o2, next)), tt))
+          (subst (λ x. Needs table (pc + length xs) x (Op.SkipIfZero i over)) (sym last) (on_zero table (pc + length xs) s i over (o1, far) (o2, next)), tt))
           (levels_at table (pc + length xs + 1) (pc + length (tested xs i over)) ys (omega (arith, n1)) rest)
 
       -- where it is met, this is done
@@ -265,7 +261,7 @@ module _ (St : Type 0) (Fit : St → St → Type 0) (same : (s : St) → Fit s s
       }
 
       -- where it is met the one side is done, else the other
-      pub sides : (s m e : St) (pc i : ℕ) (xs ys zs : List Op) → Fit m e → Q s pc xs s → Q s (pc + length xs + 1) ys m → Q s (pc + length xs + 1 + length ys + 1) zs e → Q s pc (tested xs i (length ys + 1) ++ (ys ++ (op.Skip (length zs) ∷ zs))) e
+      pub sides : (s m e : St) (pc i : ℕ) (xs ys zs : List Op) → Fit m e → Q s pc xs s → Q s (pc + length xs + 1) ys m → Q s (pc + length xs + 1 + length ys + 1) zs e → Q s pc (tested xs i (length ys + 1) ++ (ys ++ (Op.Skip (length zs) ∷ zs))) e
       sides s m e pc i xs ys zs h p q z = record {
         states = tested_states p.states s (q.states ++ m ∷ z.states);
         many =
@@ -273,15 +269,15 @@ module _ (St : Type 0) (Fit : St → St → Type 0) (same : (s : St) → Fit s s
             let b = q.many in
             let d = z.many in
             let n4 = length-append q.states (m ∷ z.states) in
-            let n5 = length-append ys (op.Skip (length zs) ∷ zs) in
-            omega (arith, a, b, d, length-append (p.states ++ s ∷ []) (q.states ++ m ∷ z.states), states_many p.states s, length-append (tested xs i (length ys + 1)) (ys ++ (op.Skip (length zs) ∷ zs)), test_many xs i (length ys + 1), n4, n5);
+            let n5 = length-append ys (Op.Skip (length zs) ∷ zs) in
+            omega (arith, a, b, d, length-append (p.states ++ s ∷ []) (q.states ++ m ∷ z.states), states_many p.states s, length-append (tested xs i (length ys + 1)) (ys ++ (Op.Skip (length zs) ∷ zs)), test_many xs i (length ys + 1), n4, n5);
         begins = first_tested p.states s s e (q.states ++ m ∷ z.states) p.begins;
         runs = λ table d own a end.
             let T = tested xs i (length ys + 1) in
-            let Y = ys ++ (op.Skip (length zs) ∷ zs) in
+            let Y = ys ++ (Op.Skip (length zs) ∷ zs) in
             let n1 = test_many xs i (length ys + 1) in
             let n2 = length-append T Y in
-            let n3 = length-append ys (op.Skip (length zs) ∷ zs) in
+            let n3 = length-append ys (Op.Skip (length zs) ∷ zs) in
             let pc1 = pc + length xs + 1 in
             let w = halves table pc xs p.states s (q.states ++ m ∷ z.states) p.many a in
             let right = agrees_right table pc1 q.states (m ∷ z.states) (length ys) q.many w.rest in
@@ -290,9 +286,9 @@ module _ (St : Type 0) (Fit : St → St → Type 0) (same : (s : St) → Fit s s
             let begin : Fit s (table (pc1 + (length ys + 1))) = there table s (pc1 + length ys + 1) (pc1 + (length ys + 1)) (omega arith) (enters D s (pc1 + length ys + 1) zs e z table right.1 end2) in
             let middle : Fit m (table (pc1 + length ys)) = subst (Fit m) (sym right.0) (same m) in
             test_levels s pc i (length ys + 1) xs Y p table d own w.test w.last (omega (arith, n3)) begin (enters D s pc1 ys m q table (agrees_left table pc1 q.states (m ∷ z.states) w.rest) middle)
-            (levels_both table pc1 ys (op.Skip (length zs) ∷ zs)
+            (levels_both table pc1 ys (Op.Skip (length zs) ∷ zs)
             (q.runs table d (λ n low high. own n (omega (arith, low)) (omega (arith, high, n1, n2, n3))) (agrees_left table pc1 q.states (m ∷ z.states) w.rest) middle) (
-              subst (λ x. Needs table (pc1 + length ys) x (op.Skip (length zs))) (sym right.0) (on_skip table (pc1 + length ys) m (length zs) (o1, through m e (table (pc1 + length ys + 1 + length zs)) h end2)),
+              subst (λ x. Needs table (pc1 + length ys) x (Op.Skip (length zs))) (sym right.0) (on_skip table (pc1 + length ys) m (length zs) (o1, through m e (table (pc1 + length ys + 1 + length zs)) h end2)),
               z.runs table d (λ n low high. own n (omega (arith, low)) (omega (arith, high, n1, n2, n3))) right.1 end2,
             ));
       }
@@ -322,7 +318,7 @@ module _ (St : Type 0) (Fit : St → St → Type 0) (same : (s : St) → Fit s s
     -- The loop at this place. Of its code is known what is known around it, and that its second and third line and what decides may be led to.
     pub looped : (D E : (ℕ → St) → Type 0) (n : St) (pc : ℕ) (T B S : List Op) (out : ℕ)
         → ((table : ℕ → St) → D table → Leads table n (pc + 1) → Leads table n (pc + 2) → Leads table n (pc + 3) → E table) → out ≡ length T + length B + length S + 1 → Inner E n (pc + 3) T B S
-        → Piece D n pc (op.Skip 2 ∷ op.Skip out ∷ op.Skip (length T + length B) ∷ (T ++ (B ++ S))) n
+        → Piece D n pc (Op.Skip 2 ∷ Op.Skip out ∷ Op.Skip (length T + length B) ∷ (T ++ (B ++ S))) n
     looped D E n pc T B S out into count x =
         let R = T ++ (B ++ S) in
         let p = x.piece in
@@ -336,7 +332,7 @@ module _ (St : Type 0) (Fit : St → St → Type 0) (same : (s : St) → Fit s s
               let at2 : pc + 1 + 1 ≡ pc + 2 = omega arith in
               let at3 : pc + 1 + 1 + 1 ≡ pc + 3 = omega arith in
               let agrees : Agrees table (pc + 3) p.states = subst (λ q. Agrees table q p.states) at3 a.1.1.1 in
-              let end3 : Fit n (table (pc + 3 + length R)) = move table n (pc + length (op.Skip 2 ∷ op.Skip out ∷ op.Skip (length T + length B) ∷ R)) (pc + 3 + length R) (omega arith) end in
+              let end3 : Fit n (table (pc + 3 + length R)) = move table n (pc + length (Op.Skip 2 ∷ Op.Skip out ∷ Op.Skip (length T + length B) ∷ R)) (pc + 3 + length R) (omega arith) end in
               let from : (q : ℕ) → pc ≤ q → q ≤ pc + 3 + length R → Fit n (table q) → Leads table n q = λ q low high fits. (own q low (omega (arith, high)), fits) in
               let begin : Fit n (table (pc + 3)) = enters E n (pc + 3) R n p table agrees end3 in
               let e1 = from (pc + 1) (omega arith) (omega arith) (subst (Fit n) (sym a.1.0) (same n)) in
@@ -344,11 +340,11 @@ module _ (St : Type 0) (Fit : St → St → Type 0) (same : (s : St) → Fit s s
               let e3 = from (pc + 3) (omega arith) (omega arith) begin in
               let far : Fit n (table (pc + 1 + 1 + out)) = move table n (pc + 3 + length R) (pc + 1 + 1 + out) (omega (arith, n1, n2, count)) end3 in
               let steps : Fit n (table (pc + 1 + 1 + 1 + (length T + length B))) = move table n (pc + 3 + (length T + length B)) (pc + 1 + 1 + 1 + (length T + length B)) (omega arith) (x.step_at table agrees end3) in (
-                subst (λ y. Needs table pc y (op.Skip 2)) (sym a.0) (on_skip table pc n 2 (from (pc + 1 + 2) (omega arith) (omega arith) (move table n (pc + 3) (pc + 1 + 2) (omega arith) begin))),
+                subst (λ y. Needs table pc y (Op.Skip 2)) (sym a.0) (on_skip table pc n 2 (from (pc + 1 + 2) (omega arith) (omega arith) (move table n (pc + 3) (pc + 1 + 2) (omega arith) begin))),
                 (
-                  subst (λ y. Needs table (pc + 1) y (op.Skip out)) (sym a.1.0) (on_skip table (pc + 1) n out (from (pc + 1 + 1 + out) (omega arith) (omega (arith, n1, n2, count)) far)),
+                  subst (λ y. Needs table (pc + 1) y (Op.Skip out)) (sym a.1.0) (on_skip table (pc + 1) n out (from (pc + 1 + 1 + out) (omega arith) (omega (arith, n1, n2, count)) far)),
                   (
-                    subst (λ y. Needs table (pc + 1 + 1) y (op.Skip (length T + length B))) (sym a.1.1.0) (on_skip table (pc + 1 + 1) n (length T + length B) (from (pc + 1 + 1 + 1 + (length T + length B)) (omega arith) (omega (arith, n1, n2)) steps)),
+                    subst (λ y. Needs table (pc + 1 + 1) y (Op.Skip (length T + length B))) (sym a.1.1.0) (on_skip table (pc + 1 + 1) n (length T + length B) (from (pc + 1 + 1 + 1 + (length T + length B)) (omega arith) (omega (arith, n1, n2)) steps)),
                     levels_at table (pc + 3) (pc + 1 + 1 + 1) R (sym at3) (p.runs table (into table d e1 e2 e3) (λ q low high. own q (omega (arith, low)) (omega (arith, high))) agrees end3),
                   ),
                 ),

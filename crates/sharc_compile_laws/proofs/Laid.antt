@@ -1,18 +1,5 @@
 -- Code that is laid out overwrites no reference and names its mutexes, as the code does whose texts are given.
-use Rattle.std.proofs.Common.{◌≡◌, inl, inr, ℕ, zero, suc, ◌+◌, ◌-◌, ◌<◌, Bool, List, [], ◌∷◌, length, Some, refl, ap, sym, ◌∙◌, subst, arith}
-use Rattle.std.specs.Prelude.{slice_get, slice_index_or}
-use Rattle.sharc_code.specs.{declared.code.Function.{Function as Row}, declared.code.Parameter.Parameter, declared.code.Text.Text, Machine.no_function, declared.code.GlobalCells.GlobalCells, declared.code.PlaceMode.PlaceMode, declared.instr.Cell.Cell}
-use Rattle.sharc_code.specs.declared.code.Parameter.TheVariants as parameters
-use Rattle.sharc_ctype.specs.Resolved.{Resolution, functions_in}
-use Rattle.sharc_mode.specs.Moded.{Assignment}
-use Rattle.sharc_flat.specs.{declared.op.Op.Op, Machine.{Flat, At, function_of, cell_at, lock_is_null}, Made.flat_of, declared.op.Spot.Spot, Flattened.{rows_of, flattened, function_code, AreRows, IsFlattened}, Flattens.names_of, Laid.{told_by, with_texts, AreLaid, AreNamed, Lays}, Tables.globals_of}
-use Rattle.sharc_flat.specs.declared.op.Op.TheVariants as op
-use Rattle.sharc_tree.specs.Tree.{Function}
-use Rattle.sharc_guard.specs.{Level.{Slots, Fits, Enters, Calls, Resumes, Leaves, Level, Takes, IsEntry, IsLevel}, Counted.{IsBeside, LockStands}}
-use Rattle.sharc_compile_laws.specs.Laws.{MadeIsLevel, FlattenedLocksStand, MadeLocksStand}
-use Rattle.sharc_compile_laws.proofs.{Ties.{Ties, Next, Needs}, Traced.{IsTraced, stand, flattened_is_traced}, Program.flattened_is_level}
-use Rattle.sharc_code.specs.declared.code.PlaceMode.TheVariants as modes
-use Rattle.sharc_lemmas.proofs.Options.{same_some, none_some}
+use Rattle.sharc_compile_laws.proofs.{Imports.{◌≡◌, inl, inr, ℕ, zero, suc, ◌+◌, ◌-◌, ◌<◌, Bool, List, [], ◌∷◌, length, Some, refl, ap, sym, ◌∙◌, subst, arith, slice_get, slice_index_or, Row, Parameter, Text, no_function, GlobalCells, PlaceMode, Cell, Resolution, functions_in, Assignment, Op, Flat, At, function_of, cell_at, lock_is_null, flat_of, Spot, rows_of, flattened, function_code, AreRows, IsFlattened, names_of, told_by, with_texts, AreLaid, AreNamed, Lays, globals_of, Function, Slots, Fits, Enters, Calls, Resumes, Leaves, Level, Takes, IsEntry, IsLevel, IsBeside, LockStands, MadeIsLevel, FlattenedLocksStand, MadeLocksStand, same_some, none_some}, Ties.{Ties, Next, Needs}, Traced.{IsTraced, stand, flattened_is_traced}, Program.flattened_is_level}
 
 -- ---- lines
 -- a line that is made is one that is given, with other texts
@@ -71,26 +58,26 @@ module _ (a b : Flat) (lines : length a.lines ≡ length b.lines) (rows : length
   leaves f s h = record { result = h.result; others = h.others }
 
   level : (pc f : ℕ) (s : Slots) (lv lk : Text) (o : Op) → Level a owner gives slots pc f s o → Level b owner gives slots pc f s (with_texts lv lk o)
-  level pc f s lv lk (op.Compute width o i x y spot) h = (h.0, En f _ _ h.1)
-  level pc f s lv lk (op.Negate width i x spot) h = (h.0, En f _ _ h.1)
-  level pc f s lv lk (op.SkipIfZero i n) h = (En f _ _ h.0, En f _ _ h.1)
-  level pc f s lv lk (op.SkipIfNull r n) h = (En f _ _ h.0, En f _ _ h.1)
-  level pc f s lv lk (op.Call g ints refs spot) h = (calls g s refs h.0, resumes f s refs (pc + 1) g h.1)
-  level pc f s lv lk (op.Return spot) h = leaves f s h
-  level pc f s lv lk (op.Null r) h = (h.0, En f _ _ h.1)
-  level pc f s lv lk (op.Local r x) h = (h.0, En f _ _ h.1)
-  level pc f s lv lk (op.MoveReference r from) (inl h) = inl (h.0, En f _ _ h.1)
-  level pc f s lv lk (op.MoveReference r from) (inr h) = inr (h.0, h.1, En f _ _ h.2)
-  level pc f s lv lk (op.Settle x from) h = (h.0, En f _ _ h.1)
-  level pc f s lv lk (op.LoadRef r cell spot) h = (h.0, En f _ _ h.1)
-  level pc f s lv lk (op.New r count cells spot) h = (h.0, En f _ _ h.1)
-  level pc f s lv lk (op.TakeCell r cell spot) h = (h.0, En f _ _ h.1)
-  level pc f s lv lk (op.TakeLocal r x spot) h = (h.0, h.1, En f _ _ h.2)
-  level pc f s lv lk (op.Unlock r cell spot) h = (h.0, En f _ _ h.1)
+  level pc f s lv lk (Op.Compute width o i x y spot) h = (h.0, En f _ _ h.1)
+  level pc f s lv lk (Op.Negate width i x spot) h = (h.0, En f _ _ h.1)
+  level pc f s lv lk (Op.SkipIfZero i n) h = (En f _ _ h.0, En f _ _ h.1)
+  level pc f s lv lk (Op.SkipIfNull r n) h = (En f _ _ h.0, En f _ _ h.1)
+  level pc f s lv lk (Op.Call g ints refs spot) h = (calls g s refs h.0, resumes f s refs (pc + 1) g h.1)
+  level pc f s lv lk (Op.Return spot) h = leaves f s h
+  level pc f s lv lk (Op.Null r) h = (h.0, En f _ _ h.1)
+  level pc f s lv lk (Op.Local r x) h = (h.0, En f _ _ h.1)
+  level pc f s lv lk (Op.MoveReference r from) (inl h) = inl (h.0, En f _ _ h.1)
+  level pc f s lv lk (Op.MoveReference r from) (inr h) = inr (h.0, h.1, En f _ _ h.2)
+  level pc f s lv lk (Op.Settle x from) h = (h.0, En f _ _ h.1)
+  level pc f s lv lk (Op.LoadRef r cell spot) h = (h.0, En f _ _ h.1)
+  level pc f s lv lk (Op.New r count cells spot) h = (h.0, En f _ _ h.1)
+  level pc f s lv lk (Op.TakeCell r cell spot) h = (h.0, En f _ _ h.1)
+  level pc f s lv lk (Op.TakeLocal r x spot) h = (h.0, h.1, En f _ _ h.2)
+  level pc f s lv lk (Op.Unlock r cell spot) h = (h.0, En f _ _ h.1)
   level pc f s lv lk _ h = En f _ _ h
 
   takes : (s : Slots) (p : Parameter) → Takes a owner gives slots s p → Takes b owner gives slots s p
-  takes s parameters.Reference h = h
+  takes s Parameter.Reference h = h
   takes s _ h = tt
 
   entry : (f : ℕ) → IsEntry a owner gives slots f → IsEntry b owner gives slots f
@@ -130,25 +117,25 @@ made_is_level m suits code h =
 
 -- ---- and names its mutexes
 null_same : (m : At) (lv lk : Text) (spot : Spot) (mode : PlaceMode) → lock_is_null m (told_by lv lk spot) mode ≡ lock_is_null m spot mode
-null_same m lv lk spot (modes.LockedGlobal g place) = refl
+null_same m lv lk spot (PlaceMode.LockedGlobal g place) = refl
 null_same m lv lk spot _ = refl
 
 module _ (a b : Flat) (globals : b.globals ≡ a.globals) (same : (k : ℕ) → SameRow (function_of a k) (function_of b k)) where
   beside : (m : At) (lv lk : Text) (cell : Cell) (spot : Spot) (mode : PlaceMode) → IsBeside a m cell spot mode → IsBeside b m cell (told_by lv lk spot) mode
-  beside m lv lk cell spot (modes.LockedSibling field mutex) h =
+  beside m lv lk cell spot (PlaceMode.LockedSibling field mutex) h =
       λ none. subst (λ g. cell_at g m spot.lock ≡ record { object = (cell_at g m cell).object; cell = (cell_at g m cell).cell - field + mutex }) (sym globals) (h (sym (null_same m lv lk spot spot.mode) ∙ none))
   beside m lv lk cell spot _ h = tt
 
   stands : (m : At) (lv lk : Text) (o : Op) → LockStands a m o → LockStands b m (with_texts lv lk o)
-  stands m lv lk (op.Load i cell spot) h = beside m lv lk cell spot spot.mode h
-  stands m lv lk (op.Store i cell spot) h = beside m lv lk cell spot spot.mode h
-  stands m lv lk (op.LoadRef r cell spot) h = beside m lv lk cell spot spot.mode h
-  stands m lv lk (op.StoreRef r cell spot) h = beside m lv lk cell spot spot.mode h
-  stands m lv lk (op.TakeCell r cell spot) h = beside m lv lk cell spot spot.mode h
+  stands m lv lk (Op.Load i cell spot) h = beside m lv lk cell spot spot.mode h
+  stands m lv lk (Op.Store i cell spot) h = beside m lv lk cell spot spot.mode h
+  stands m lv lk (Op.LoadRef r cell spot) h = beside m lv lk cell spot spot.mode h
+  stands m lv lk (Op.StoreRef r cell spot) h = beside m lv lk cell spot spot.mode h
+  stands m lv lk (Op.TakeCell r cell spot) h = beside m lv lk cell spot spot.mode h
   stands m lv lk _ h = tt
 
   next : (table : ℕ → Ties) (pc : ℕ) (s : Ties) (lv lk : Text) (o : Op) → Next a table pc s o → Next b table pc s (with_texts lv lk o)
-  next table pc s lv lk (op.Call g ints refs spot) h = (ap table (same g).entry ∙ h.0, h.1)
+  next table pc s lv lk (Op.Call g ints refs spot) h = (ap table (same g).entry ∙ h.0, h.1)
   next table pc s lv lk _ h = h
 
 laid_is_traced : (r : Resolution) (bytes : List ℕ) (names : List (List ℕ)) (told made : Flat) → Lays r bytes names told made → IsTraced told → IsTraced made

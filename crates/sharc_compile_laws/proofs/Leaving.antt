@@ -1,9 +1,5 @@
 -- At the end of blocks their pointers are given up, in the order of their declarations.
-use Rattle.std.proofs.{Common.{◌≡◌, ⊎_elim, ℕ, ◌+◌, ◌<◌, ◌≤◌, Bool, true, false, cond, List, [], ◌∷◌, take, drop, refl, ap, sym, ◌∙◌, subst, arith, nat_lt}, lemmas.Bool.{cases_eq, cases_lt}, lemmas.Bool.Decides.nat_tests, lemmas.List.take-append-drop}
-use Rattle.sharc_flat.specs.{declared.op.Op.Op, Machine.Flat, Scope.{ref_count, pops, ends_from, leaves}, declared.slot.Slot.Slot}
-use Rattle.sharc_flat.specs.declared.op.Op.TheVariants as op
-use Rattle.sharc_guard.specs.Level.{free, Fits, Slots, with_slot}
-use Rattle.sharc_compile_laws.proofs.{Located.count-append, Parts.{P, then_do, does}, Pieces.nothing, Slots.{fits_same, fits_free, fit_same, with_same, with_other}}
+use Rattle.sharc_compile_laws.proofs.{Imports.{◌≡◌, ⊎_elim, ℕ, ◌+◌, ◌<◌, ◌≤◌, Bool, true, false, cond, List, [], ◌∷◌, take, drop, refl, ap, sym, ◌∙◌, subst, arith, nat_lt, cases_eq, cases_lt, nat_tests, take-append-drop, Op, Flat, ref_count, pops, ends_from, leaves, Slot, free, Fits, Slots, with_slot}, Located.count-append, Parts.{P, then_do, does}, Pieces.nothing, Slots.{fits_same, fits_free, fit_same, with_same, with_other}}
 
 -- the variables that remain after blocks have ended, each of which began with this number of them
 abbrev pub kept : List Slot → List ℕ → List Slot
@@ -52,9 +48,9 @@ module _ (flat : Flat) (owner : ℕ → ℕ) (gives : ℕ → Bool) (f : ℕ) (D
     where
       by : (b : Bool) → ((k : ℕ) → r + cond b (ref_count rest + 1) (ref_count rest) ≤ k → Fits (s k) (e k))
           → (((k : ℕ) → r + (ref_count rest + 1) ≤ k → Fits (s k) (e k)) → W (with_slot s r free) (pops (r + 1) rest) e) → (((k : ℕ) → r + ref_count rest ≤ k → Fits (s k) (e k)) → W s (pops r rest) e)
-          → W s (cond b (op.Pop r ∷ pops (r + 1) rest) (pops r rest)) e
-      by true h p q = then_do flat owner gives f D s (with_slot s r free) e (op.Pop r ∷ []) (pops (r + 1) rest)
-          (does flat owner gives f D s (op.Pop r) (with_slot s r free) (with_slot s r free) (fit_same (with_slot s r free)) (λ table pc n. n)) (p h)
+          → W s (cond b (Op.Pop r ∷ pops (r + 1) rest) (pops r rest)) e
+      by true h p q = then_do flat owner gives f D s (with_slot s r free) e (Op.Pop r ∷ []) (pops (r + 1) rest)
+          (does flat owner gives f D s (Op.Pop r) (with_slot s r free) (with_slot s r free) (fit_same (with_slot s r free)) (λ table pc n. n)) (p h)
       by false h p q = q h
 
   ends_to : (s e : Slots) (scope : List Slot) (n : ℕ) → ((k : ℕ) → k < ref_count (take n scope) → Fits (s k) (e k)) → ((k : ℕ) → ref_count scope ≤ k → Fits (s k) (e k)) → W s (ends_from scope n) e

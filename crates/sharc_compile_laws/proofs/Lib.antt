@@ -1,3 +1,4 @@
+mod Imports
 pub mod Slots
 pub mod Flow
 pub mod Pieces

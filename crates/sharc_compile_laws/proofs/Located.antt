@@ -1,11 +1,5 @@
 -- Where the variables of a scope are: a pointer in a reference register below all that is free, any other in an integer register.
-use Rattle.std.proofs.{Common.{◌≡◌, ℕ, ◌+◌, ◌<◌, ◌≤◌, ◌==◌, ◌||◌, Bool, true, false, cond, List, [], ◌∷◌, ◌++◌, map, refl, ap, sym, ◌∙◌, subst, arith, Some, is_some}, lemmas.Bool.false≢true}
-use Rattle.sharc_tree.specs.{declared.tree.declaration.Declaration.Declaration, declared.tree.declaration.WrittenType.WrittenType}
-use Rattle.sharc_names.specs.Kinds.{Kind, is_pointer, declared_kind, declared_kinds}
-use Rattle.sharc_code.specs.{declared.instr.Register.Register, declared.instr.Register.TheVariants.{Int, Reference}}
-use Rattle.sharc_meaning.specs.State.{is_reference}
-use Rattle.sharc_flat.specs.{Scope.{slot_of, slot_kind, ref_count, register_from, register_of}, declared.slot.Slot.Slot}
-use Rattle.sharc_lemmas.proofs.Options.{same_bool}
+use Rattle.sharc_compile_laws.proofs.Imports.{◌≡◌, ℕ, ◌+◌, ◌<◌, ◌≤◌, ◌==◌, ◌||◌, Bool, true, false, cond, List, [], ◌∷◌, ◌++◌, map, refl, ap, sym, ◌∙◌, subst, arith, Some, is_some, false≢true, Declaration, WrittenType, Kind, is_pointer, declared_kind, declared_kinds, Register, Int, Reference, is_reference, slot_of, slot_kind, ref_count, register_from, register_of, Slot, same_bool}
 
 -- a reference register below this one, or an integer register
 abbrev pub IsIn : Bool → ℕ → Register → Type 0

@@ -1,13 +1,6 @@
 -- The functions of code by their numbers.
-use Rattle.std.proofs.{Common.{◌≡◌, pos, ◌<◌, length, List, sym, ap, ◌∙◌, subst}, lemmas.List.length-map}
-use Rattle.sharc_code.specs.{declared.code.Function.{Function as Row}, Machine.function_of}
-use Rattle.sharc_flat.specs.{Made.flat_of, Flattens.IsMainOf}
-use Rattle.sharc_guard.specs.{Guard.{entered_at, place}, Known.dropped}
-use Rattle.sharc_ctype.specs.Resolved.{function_at}
-use Rattle.sharc_meaning.specs.Runs.{IsNamedAt}
-use Rattle.sharc_compile.specs.{Correct.begins, Generated.program_of}
-use Rattle.sharc_compile_laws.specs.Names.{CodeHasMain, FunctionsAreNamed}
-use Rattle.sharc_compile_laws.proofs.Telling.{started_at_name}
+use Rattle.sharc_compile_laws.proofs.{Imports.{◌≡◌, pos, ◌<◌, length, List, sym, ap, ◌∙◌, subst, length-map, Row, flat_of, IsMainOf, entered_at, place, dropped, function_at, IsNamedAt, begins, program_of, CodeHasMain, FunctionsAreNamed}, Telling.started_at_name}
+use Rattle.sharc_code.specs.Machine.{function_of}
 
 pub named : FunctionsAreNamed
 named m flat made code is f known =

@@ -1,15 +1,7 @@
 -- The parts of the code of an expression: an access, a test, an operator, a call.
-use Rattle.std.proofs.{Common.{◌≡◌, ⊎_elim, ℕ, ◌+◌, ◌<◌, ◌≤◌, ◌==◌, ◌&&◌, ◌||◌, eqb-true, Bool, true, false, cond, List, [], ◌∷◌, ◌++◌, length, refl, ap, ◌∙◌, subst, arith, length-append, append_assoc, Option, Some, None, codes, bytes_eq}, lemmas.Bool.{false≢true, cases_eq}}
-use Rattle.sharc_tree.specs.{declared.ctype.Base.Base, declared.token.Site.Site, declared.tree.expression.BinaryOperator.BinaryOperator, declared.tree.expression.BinaryOperator.TheVariants.NotEqual, declared.tree.expression.ValueCall.ValueCall, declared.tree.expression.ValueCall.TheVariants.{Join, Print}, Tree.Arguments}
-use Rattle.sharc_names.specs.Kinds.{Kind, object, int, long, is_long, is_integral, is_integer, is_pointer, promoted, common}
+use Rattle.sharc_compile_laws.proofs.{Imports.{◌≡◌, ⊎_elim, ℕ, ◌+◌, ◌<◌, ◌≤◌, ◌==◌, ◌&&◌, ◌||◌, eqb-true, Bool, true, false, cond, List, [], ◌∷◌, ◌++◌, length, refl, ap, ◌∙◌, subst, arith, length-append, append_assoc, Option, Some, None, codes, bytes_eq, false≢true, cases_eq, Base, Site, BinaryOperator, NotEqual, ValueCall, Join, Print, Arguments, Kind, object, long, is_long, is_integral, is_integer, is_pointer, promoted, common, Use, Cell, Register, Int, Reference, Sharing, is_reference, Op, Spot, IsWide, Flat, Lvalue, Context, slot_kind, ref_count, register_of, number_in, at_site, Target, variable, in_global, in_global_at, in_object, in_object_at, width_of, has_base, base_width, cell_of, guard_field, guard_code, drop_base, settle_base, copy_code, cell_value_code, value_code, settle_code, cell_store_code, store_code, cell_take_code, take_code, bounds_code, pointee_code, width_code, drop_code, truth_code, differ_code, compare_code, logical_code, either_code, wait_code, condition_code, with_words, argument_words, spawn_code, value_call_code, unlocked_code, passed_code, first_cell_of, is_cell, free, full, Slots, with_slot, with_moved, cell_slot, Enters, Level}, Located.{IsIn, located, width}, Pieces.{Piece, wider, wider_end, nothing, joins, step, over, over_null}, Slots.{AreFit, fit_same, fit_through, below, below_free, fit_below, none_cleared, with_same, with_other, below_more, popped, pushed, settled, taken}}
+use Rattle.sharc_names.specs.Kinds.{int}
 use Rattle.sharc_names.specs.Kinds as kinds
-use Rattle.sharc_code.specs.{declared.code.Use.Use, declared.instr.Cell.Cell, declared.instr.Register.Register, declared.instr.Register.TheVariants.{Int, Reference}}
-use Rattle.sharc_mode.specs.Sharings.{Sharing}
-use Rattle.sharc_meaning.specs.State.{is_reference}
-use Rattle.sharc_flat.specs.{declared.op.Op.Op, declared.op.Spot.Spot, Framed.IsWide, Machine.Flat, declared.slot.Lvalue.Lvalue, Scope.{Context, slot_kind, ref_count, register_of, number_in, at_site}, Places.{Target, variable, in_global, in_global_at, in_object, in_object_at, width_of, has_base, base_width, cell_of, guard_field, guard_code, drop_base, settle_base, copy_code, cell_value_code, value_code, settle_code, cell_store_code, store_code, cell_take_code, take_code, bounds_code, pointee_code, width_code}, Flattened.{drop_code, truth_code, differ_code, compare_code, logical_code, either_code, wait_code, condition_code, with_words, argument_words, spawn_code, value_call_code, unlocked_code, passed_code, first_cell_of}, Suits.is_cell}
-use Rattle.sharc_flat.specs.declared.op.Op.TheVariants as op
-use Rattle.sharc_guard.specs.Level.{free, full, Slots, with_slot, with_moved, slot_of as cell_slot, Enters, Level}
-use Rattle.sharc_compile_laws.proofs.{Located.{IsIn, located, width}, Pieces.{Piece, wider, wider_end, nothing, joins, step, over, over_null}, Slots.{AreFit, fit_same, fit_through, below, below_free, fit_below, none_cleared, with_same, with_other, below_more, popped, pushed, settled, taken}}
 
 -- ---- kinds
 plain_by : (b : Base) (n : ℕ) → is_integer (object b n) ≡ true → is_reference (object b n) ≡ false
@@ -73,51 +65,51 @@ module _ (flat : Flat) (owner : ℕ → ℕ) (gives : ℕ → Bool) (f : ℕ) (D
   pub before : (s : Slots) (o : Op) (os : List Op) (e : Slots) → P s (o ∷ []) s → P s os e → P s (o ∷ os) e
   before s o os e p q = then_do s s e (o ∷ []) os p q
 
-  pub enter : (s : Slots) (os : List Op) (e : Slots) → P s os e → P s (op.Enter ∷ os) e
-  enter s os e p = before s op.Enter os e (keeps s op.Enter (λ table pc n. n)) p
+  pub enter : (s : Slots) (os : List Op) (e : Slots) → P s os e → P s (Op.Enter ∷ os) e
+  enter s os e p = before s Op.Enter os e (keeps s Op.Enter (λ table pc n. n)) p
 
   -- ---- registers
-  pub null_at : (r : ℕ) → B r (op.Null r ∷ []) (r + 1)
-  null_at r = does (below r) (op.Null r) (below r) (below (r + 1)) (below_more r (r + 1) (omega arith)) (λ table pc n. (below_free r r (omega arith), n))
+  pub null_at : (r : ℕ) → B r (Op.Null r ∷ []) (r + 1)
+  null_at r = does (below r) (Op.Null r) (below r) (below (r + 1)) (below_more r (r + 1) (omega arith)) (λ table pc n. (below_free r r (omega arith), n))
 
-  pub pop_at : (r : ℕ) → B (r + 1) (op.Pop r ∷ []) r
-  pop_at r = does (below (r + 1)) (op.Pop r) (with_slot (below (r + 1)) r free) (below r) (popped r) (λ table pc n. n)
+  pub pop_at : (r : ℕ) → B (r + 1) (Op.Pop r ∷ []) r
+  pop_at r = does (below (r + 1)) (Op.Pop r) (with_slot (below (r + 1)) r free) (below r) (popped r) (λ table pc n. n)
 
-  pub pop_if : (b : Bool) (r : ℕ) → B (r + width b) (cond b (op.Pop r ∷ []) []) r
+  pub pop_if : (b : Bool) (r : ℕ) → B (r + width b) (cond b (Op.Pop r ∷ []) []) r
   pop_if true r = pop_at r
   pop_if false r = none (r + 0) r (omega arith)
 
-  settle_at : (r x : ℕ) → x < r → B (r + 1) (op.Settle x r ∷ []) r
-  settle_at r x lt = does (below (r + 1)) (op.Settle x r) (with_moved (below (r + 1)) x r) (below r) (settled r x lt) (λ table pc n. ((λ e. omega (arith, e, lt)), n))
+  settle_at : (r x : ℕ) → x < r → B (r + 1) (Op.Settle x r ∷ []) r
+  settle_at r x lt = does (below (r + 1)) (Op.Settle x r) (with_moved (below (r + 1)) x r) (below r) (settled r x lt) (λ table pc n. ((λ e. omega (arith, e, lt)), n))
 
-  settle_if : (b : Bool) (r : ℕ) → B (r + width b + 1) (cond b (op.Settle r (r + 1) ∷ []) []) (r + 1)
+  settle_if : (b : Bool) (r : ℕ) → B (r + width b + 1) (cond b (Op.Settle r (r + 1) ∷ []) []) (r + 1)
   settle_if true r = settle_at (r + 1) r (omega arith)
   settle_if false r = none (r + 0 + 1) (r + 1) (omega arith)
 
   module _ (c : Context) where
     guards : (s : Slots) (i r : ℕ) (site : Site) (lvalue : Lvalue) (t : Target) (g : Option ℕ) → P s (guard_code c i r site lvalue t g) s
     guards s i r site lvalue t None = λ pc. nothing flat owner gives f D s pc s (fit_same s)
-    guards s i r site lvalue t (Some mutex) = keeps s (op.LoadGuard _ _) (λ table pc n. n)
+    guards s i r site lvalue t (Some mutex) = keeps s (Op.LoadGuard _ _) (λ table pc n. n)
 
     cell_values : (i r : ℕ) (site : Site) (lvalue : Lvalue) (mode : Sharing) (b : Bool) (t : Target) → B (r + base_width t) (cell_value_code c i r site lvalue mode b t) (r + width b)
     cell_values i r site lvalue mode true t =
         then_do (below (r + base_width t)) (below (r + base_width t)) (below (r + 1)) (guard_code c i r site lvalue t (guard_field c.program.typed mode)) _
         (guards (below (r + base_width t)) i r site lvalue t (guard_field c.program.typed mode))
-        (then_do (below (r + base_width t)) (below (r + base_width t + 1)) (below (r + 1)) (op.LoadRef (r + base_width t) _ _ ∷ []) (settle_base r t)
-        (does (below (r + base_width t)) (op.LoadRef (r + base_width t) _ _) (with_slot (below (r + base_width t)) (r + base_width t) full) (below (r + base_width t + 1)) (pushed (r + base_width t) full)
+        (then_do (below (r + base_width t)) (below (r + base_width t + 1)) (below (r + 1)) (Op.LoadRef (r + base_width t) _ _ ∷ []) (settle_base r t)
+        (does (below (r + base_width t)) (Op.LoadRef (r + base_width t) _ _) (with_slot (below (r + base_width t)) (r + base_width t) full) (below (r + base_width t + 1)) (pushed (r + base_width t) full)
         (λ table pc n. (below_free (r + base_width t) (r + base_width t) (omega arith), n)))
         (settle_if (has_base t) r))
     cell_values i r site lvalue mode false t =
         then_do (below (r + base_width t)) (below (r + base_width t)) (below (r + 0)) (guard_code c i r site lvalue t (guard_field c.program.typed mode)) _
         (guards (below (r + base_width t)) i r site lvalue t (guard_field c.program.typed mode))
-        (before (below (r + base_width t)) (op.Load i _ _) (drop_base r t) (below (r + 0)) (keeps (below (r + base_width t)) (op.Load i _ _) (λ table pc n. n))
+        (before (below (r + base_width t)) (Op.Load i _ _) (drop_base r t) (below (r + 0)) (keeps (below (r + base_width t)) (Op.Load i _ _) (λ table pc n. n))
         (post (below (r + base_width t)) (drop_base r t) r (r + 0) (omega arith) (pop_if (has_base t) r)))
 
     copies : (i r top : ℕ) (b : Bool) (x : Register) → IsIn b top x → top ≤ r → B r (copy_code i r x) (r + width b)
-    copies i r top true (Reference x) h le = does (below r) (op.Local r x) (with_slot (below r) r (below r x)) (below (r + 1)) (pushed r (below r x)) (λ table pc n. (below_free r r (omega arith), n))
+    copies i r top true (Reference x) h le = does (below r) (Op.Local r x) (with_slot (below r) r (below r x)) (below (r + 1)) (pushed r (below r x)) (λ table pc n. (below_free r r (omega arith), n))
     copies i r top true (Int x) h le = absurd h
     copies i r top false (Reference x) h le = absurd h
-    copies i r top false (Int x) h le = post (below r) (op.Move i x ∷ []) r (r + 0) (omega arith) (keeps (below r) (op.Move i x) (λ table pc n. n))
+    copies i r top false (Int x) h le = post (below r) (Op.Move i x ∷ []) r (r + 0) (omega arith) (keeps (below r) (Op.Move i x) (λ table pc n. n))
 
     pub values : (i r : ℕ) (site : Site) (lvalue : Lvalue) (mode : Sharing) (b : Bool) (t : Target) → ref_count c.scope ≤ r → IsKept c b t → B (r + base_width t) (value_code c i r site lvalue mode b t) (r + width b)
     values i r site lvalue mode b (variable x) le h = pre (r + 0) r (copy_code i r (register_of c.scope x)) (below (r + width b)) (omega arith) (copies i r (ref_count c.scope) b (register_of c.scope x) (located c.scope x b h) le)
@@ -127,15 +119,15 @@ module _ (flat : Flat) (owner : ℕ → ℕ) (gives : ℕ → Bool) (f : ℕ) (D
     cell_takes i r site lvalue mode form t =
         then_do (below (r + base_width t)) (below (r + base_width t)) (below (r + 1)) (guard_code c i r site lvalue t (guard_field c.program.typed mode)) _
         (guards (below (r + base_width t)) i r site lvalue t (guard_field c.program.typed mode))
-        (then_do (below (r + base_width t)) (below (r + base_width t + 1)) (below (r + 1)) (op.TakeCell (r + base_width t) _ _ ∷ []) (settle_base r t)
-        (does (below (r + base_width t)) (op.TakeCell (r + base_width t) _ _) (with_slot (below (r + base_width t)) (r + base_width t) full) (below (r + base_width t + 1)) (pushed (r + base_width t) full)
+        (then_do (below (r + base_width t)) (below (r + base_width t + 1)) (below (r + 1)) (Op.TakeCell (r + base_width t) _ _ ∷ []) (settle_base r t)
+        (does (below (r + base_width t)) (Op.TakeCell (r + base_width t) _ _) (with_slot (below (r + base_width t)) (r + base_width t) full) (below (r + base_width t + 1)) (pushed (r + base_width t) full)
         (λ table pc n. (below_free (r + base_width t) (r + base_width t) (omega arith), n)))
         (settle_if (has_base t) r))
 
-    take_variable : (r top : ℕ) (spot : Spot) (x : Register) → IsIn true top x → top ≤ r → B (r + 0) (op.TakeLocal r (number_in x) spot ∷ []) (r + 1)
+    take_variable : (r top : ℕ) (spot : Spot) (x : Register) → IsIn true top x → top ≤ r → B (r + 0) (Op.TakeLocal r (number_in x) spot ∷ []) (r + 1)
     take_variable r top spot (Reference x) h le =
-        pre (r + 0) r (op.TakeLocal r x spot ∷ []) (below (r + 1)) (omega arith)
-        (does (below r) (op.TakeLocal r x spot) (with_moved (below r) r x) (below (r + 1)) (taken r x (omega (arith, h, le))) (λ table pc n. (below_free r r (omega arith), (λ e. omega (arith, e, h, le)), n)))
+        pre (r + 0) r (Op.TakeLocal r x spot ∷ []) (below (r + 1)) (omega arith)
+        (does (below r) (Op.TakeLocal r x spot) (with_moved (below r) r x) (below (r + 1)) (taken r x (omega (arith, h, le))) (λ table pc n. (below_free r r (omega arith), (λ e. omega (arith, e, h, le)), n)))
     take_variable r top spot (Int x) h le = absurd h
 
     pub takes : (i r : ℕ) (site : Site) (lvalue : Lvalue) (mode : Sharing) (form : Option ℕ → Use) (t : Target) → ref_count c.scope ≤ r → IsKept c true t → B (r + base_width t) (take_code c i r site lvalue mode form t) (r + 1)
@@ -147,19 +139,19 @@ module _ (flat : Flat) (owner : ℕ → ℕ) (gives : ℕ → Bool) (f : ℕ) (D
     settles i r top true (Reference x) h le = settle_at r x (omega (arith, h, le))
     settles i r top true (Int x) h le = absurd h
     settles i r top false (Reference x) h le = absurd h
-    settles i r top false (Int x) h le = pre (r + 0) r (op.Move x i ∷ []) (below r) (omega arith) (keeps (below r) (op.Move x i) (λ table pc n. n))
+    settles i r top false (Int x) h le = pre (r + 0) r (Op.Move x i ∷ []) (below r) (omega arith) (keeps (below r) (Op.Move x i) (λ table pc n. n))
 
     cell_stores : (i r vi : ℕ) (site : Site) (lvalue : Lvalue) (mode : Sharing) (b : Bool) (t : Target) → B (r + base_width t + width b) (cell_store_code c i r vi (r + base_width t) site lvalue mode b t) r
     cell_stores i r vi site lvalue mode true t =
         then_do (below (r + base_width t + 1)) (below (r + base_width t + 1)) (below r) (guard_code c i r site lvalue t (guard_field c.program.typed mode)) _
         (guards (below (r + base_width t + 1)) i r site lvalue t (guard_field c.program.typed mode))
-        (then_do (below (r + base_width t + 1)) (below (r + base_width t)) (below r) (op.StoreRef (r + base_width t) _ _ ∷ []) (drop_base r t)
-        (does (below (r + base_width t + 1)) (op.StoreRef (r + base_width t) _ _) (with_slot (below (r + base_width t + 1)) (r + base_width t) free) (below (r + base_width t)) (popped (r + base_width t)) (λ table pc n. n))
+        (then_do (below (r + base_width t + 1)) (below (r + base_width t)) (below r) (Op.StoreRef (r + base_width t) _ _ ∷ []) (drop_base r t)
+        (does (below (r + base_width t + 1)) (Op.StoreRef (r + base_width t) _ _) (with_slot (below (r + base_width t + 1)) (r + base_width t) free) (below (r + base_width t)) (popped (r + base_width t)) (λ table pc n. n))
         (pop_if (has_base t) r))
     cell_stores i r vi site lvalue mode false t =
         then_do (below (r + base_width t + 0)) (below (r + base_width t + 0)) (below r) (guard_code c i r site lvalue t (guard_field c.program.typed mode)) _
         (guards (below (r + base_width t + 0)) i r site lvalue t (guard_field c.program.typed mode))
-        (before (below (r + base_width t + 0)) (op.Store vi _ _) (drop_base r t) (below r) (keeps (below (r + base_width t + 0)) (op.Store vi _ _) (λ table pc n. n))
+        (before (below (r + base_width t + 0)) (Op.Store vi _ _) (drop_base r t) (below r) (keeps (below (r + base_width t + 0)) (Op.Store vi _ _) (λ table pc n. n))
         (pre (r + base_width t + 0) (r + base_width t) (drop_base r t) (below r) (omega arith) (pop_if (has_base t) r)))
 
     pub cells_stored : (i r vi : ℕ) (site : Site) (lvalue : Lvalue) (mode : Sharing) (b : Bool) (t : Target) → is_cell t ≡ true → B (r + base_width t + width b) (store_code c i r vi (r + base_width t) site lvalue mode b t) r
@@ -175,7 +167,7 @@ module _ (flat : Flat) (owner : ℕ → ℕ) (gives : ℕ → Bool) (f : ℕ) (D
   choose s false xs ys e p q = q
 
   pub widths_kept : (s : Slots) (i : ℕ) (kind : Kind) (site : Site) → P s (width_code i kind site) s
-  widths_kept s i kind site = choose s (is_integer kind) (op.ChkWidth _ i _ ∷ []) [] s (keeps s (op.ChkWidth _ i _) (λ table pc n. n)) (λ pc. nothing flat owner gives f D s pc s (fit_same s))
+  widths_kept s i kind site = choose s (is_integer kind) (Op.ChkWidth _ i _ ∷ []) [] s (keeps s (Op.ChkWidth _ i _) (λ table pc n. n)) (λ pc. nothing flat owner gives f D s pc s (fit_same s))
 
   pub passes_kept : (s : Slots) (i : ℕ) (kinds : List Kind) (site : Site) → P s (passed_code i kinds site) s
   passes_kept s i [] site = λ pc. nothing flat owner gives f D s pc s (fit_same s)
@@ -183,157 +175,157 @@ module _ (flat : Flat) (owner : ℕ → ℕ) (gives : ℕ → Bool) (f : ℕ) (D
 
   pub truths : (b : Bool) (i r : ℕ) → B (r + width b) (truth_code b i r) r
   truths true i r =
-      then_do (below (r + 1)) (below (r + 1)) (below r) (op.Null (r + 1) ∷ []) (op.SameReference i r (r + 1) ∷ op.Pop r ∷ op.IsFalse i i ∷ [])
-      (does (below (r + 1)) (op.Null (r + 1)) (below (r + 1)) (below (r + 1)) (fit_same (below (r + 1))) (λ table pc n. (below_free (r + 1) (r + 1) (omega arith), n)))
-      (before (below (r + 1)) (op.SameReference i r (r + 1)) (op.Pop r ∷ op.IsFalse i i ∷ []) (below r) (keeps (below (r + 1)) (op.SameReference i r (r + 1)) (λ table pc n. n))
-      (then_do (below (r + 1)) (below r) (below r) (op.Pop r ∷ []) (op.IsFalse i i ∷ []) (pop_at r) (keeps (below r) (op.IsFalse i i) (λ table pc n. n))))
+      then_do (below (r + 1)) (below (r + 1)) (below r) (Op.Null (r + 1) ∷ []) (Op.SameReference i r (r + 1) ∷ Op.Pop r ∷ Op.IsFalse i i ∷ [])
+      (does (below (r + 1)) (Op.Null (r + 1)) (below (r + 1)) (below (r + 1)) (fit_same (below (r + 1))) (λ table pc n. (below_free (r + 1) (r + 1) (omega arith), n)))
+      (before (below (r + 1)) (Op.SameReference i r (r + 1)) (Op.Pop r ∷ Op.IsFalse i i ∷ []) (below r) (keeps (below (r + 1)) (Op.SameReference i r (r + 1)) (λ table pc n. n))
+      (then_do (below (r + 1)) (below r) (below r) (Op.Pop r ∷ []) (Op.IsFalse i i ∷ []) (pop_at r) (keeps (below r) (Op.IsFalse i i) (λ table pc n. n))))
   truths false i r = none (r + 0) r (omega arith)
 
   pub drops : (b : Bool) (r : ℕ) → B (r + width b) (drop_code b r) r
   drops b r = pop_if b r
 
   differs : (s : Slots) (o : BinaryOperator) (i : ℕ) → P s (differ_code o i) s
-  differs s NotEqual i = keeps s (op.IsFalse i i) (λ table pc n. n)
+  differs s NotEqual i = keeps s (Op.IsFalse i i) (λ table pc n. n)
   differs s _ i = λ pc. nothing flat owner gives f D s pc s (fit_same s)
 
   -- both are given up, the lower first
-  pub pops_two : (r : ℕ) → B (r + 1 + 1) (op.Pop r ∷ op.Pop (r + 1) ∷ []) r
+  pub pops_two : (r : ℕ) → B (r + 1 + 1) (Op.Pop r ∷ Op.Pop (r + 1) ∷ []) r
   pops_two r =
       let s = below (r + 1 + 1) in
       let m = with_slot s r free in
-      then_do s m (below r) (op.Pop r ∷ []) (op.Pop (r + 1) ∷ []) (does s (op.Pop r) m m (fit_same m) (λ table pc n. n))
-      (does m (op.Pop (r + 1)) (with_slot m (r + 1) free) (below r)
+      then_do s m (below r) (Op.Pop r ∷ []) (Op.Pop (r + 1) ∷ []) (does s (Op.Pop r) m m (fit_same m) (λ table pc n. n))
+      (does m (Op.Pop (r + 1)) (with_slot m (r + 1) free) (below r)
       (fit_below r (with_slot m (r + 1) free) (none_cleared r m (r + 1)
       (λ k le other. ⊎_elim (λ e. ap m e ∙ with_same s r free) (λ apart. with_other s r free k apart ∙ below_free (r + 1 + 1) k (omega (arith, le, other, apart))) (cases_eq k r))))
       (λ table pc n. n))
 
   pub compares : (o : BinaryOperator) (i r : ℕ) → B (r + 1 + 1) (compare_code o i r) r
   compares o i r =
-      before (below (r + 1 + 1)) (op.SameReference i r (r + 1)) (differ_code o i ++ (op.Pop r ∷ op.Pop (r + 1) ∷ [])) (below r) (keeps (below (r + 1 + 1)) (op.SameReference i r (r + 1)) (λ table pc n. n))
-      (then_do (below (r + 1 + 1)) (below (r + 1 + 1)) (below r) (differ_code o i) (op.Pop r ∷ op.Pop (r + 1) ∷ []) (differs (below (r + 1 + 1)) o i) (pops_two r))
+      before (below (r + 1 + 1)) (Op.SameReference i r (r + 1)) (differ_code o i ++ (Op.Pop r ∷ Op.Pop (r + 1) ∷ [])) (below r) (keeps (below (r + 1 + 1)) (Op.SameReference i r (r + 1)) (λ table pc n. n))
+      (then_do (below (r + 1 + 1)) (below (r + 1 + 1)) (below r) (differ_code o i) (Op.Pop r ∷ Op.Pop (r + 1) ∷ []) (differs (below (r + 1 + 1)) o i) (pops_two r))
 
-  ended : (i r : ℕ) → B r (op.IsFalse i i ∷ op.IsFalse i i ∷ []) r
-  ended i r = before (below r) (op.IsFalse i i) (op.IsFalse i i ∷ []) (below r) (keeps (below r) (op.IsFalse i i) (λ table pc n. n)) (keeps (below r) (op.IsFalse i i) (λ table pc n. n))
+  ended : (i r : ℕ) → B r (Op.IsFalse i i ∷ Op.IsFalse i i ∷ []) r
+  ended i r = before (below r) (Op.IsFalse i i) (Op.IsFalse i i ∷ []) (below r) (keeps (below r) (Op.IsFalse i i) (λ table pc n. n)) (keeps (below r) (Op.IsFalse i i) (λ table pc n. n))
 
   pub logicals : (i r : ℕ) (xs ys : List Op) → B r xs r → B r ys r → B r (logical_code i xs ys) r
   logicals i r xs ys p q =
       then_do (below r) (below r) (below r) xs _ p
-      (λ pc. over flat owner gives f D (below r) (below r) (below r) pc i ys (op.IsFalse i i ∷ op.IsFalse i i ∷ []) (fit_same (below r)) (q (pc + 1)) (ended i r (pc + 1 + length ys)))
+      (λ pc. over flat owner gives f D (below r) (below r) (below r) pc i ys (Op.IsFalse i i ∷ Op.IsFalse i i ∷ []) (fit_same (below r)) (q (pc + 1)) (ended i r (pc + 1 + length ys)))
 
   pub eithers : (i r : ℕ) (xs ys : List Op) → B r xs r → B r ys r → B r (either_code i xs ys) r
   eithers i r xs ys p q =
-      let F = op.IsFalse i i in
+      let F = Op.IsFalse i i in
       let one : B r (F ∷ []) r = keeps (below r) F (λ table pc n. n) in
       let count : length (ys ++ F ∷ []) ≡ length ys + 1 = length-append ys (F ∷ []) in
-      let same : op.SkipIfZero i (length (ys ++ F ∷ [])) ∷ ((ys ++ F ∷ []) ++ F ∷ []) ≡ op.SkipIfZero i (length ys + 1) ∷ (ys ++ (F ∷ F ∷ [])) =
-      ap (λ n. op.SkipIfZero i n ∷ ((ys ++ F ∷ []) ++ F ∷ [])) count ∙ ap (λ l. op.SkipIfZero i (length ys + 1) ∷ l) (append_assoc ys (F ∷ []) (F ∷ [])) in
+      let same : Op.SkipIfZero i (length (ys ++ F ∷ [])) ∷ ((ys ++ F ∷ []) ++ F ∷ []) ≡ Op.SkipIfZero i (length ys + 1) ∷ (ys ++ (F ∷ F ∷ [])) =
+      ap (λ n. Op.SkipIfZero i n ∷ ((ys ++ F ∷ []) ++ F ∷ [])) count ∙ ap (λ l. Op.SkipIfZero i (length ys + 1) ∷ l) (append_assoc ys (F ∷ []) (F ∷ [])) in
       then_do (below r) (below r) (below r) xs _ p
-      (before (below r) F (op.SkipIfZero i (length ys + 1) ∷ (ys ++ (F ∷ F ∷ []))) (below r) one
+      (before (below r) F (Op.SkipIfZero i (length ys + 1) ∷ (ys ++ (F ∷ F ∷ []))) (below r) one
       (subst (λ l. B r l r) same
       (λ pc. over flat owner gives f D (below r) (below r) (below r) pc i (ys ++ F ∷ []) (F ∷ []) (fit_same (below r)) (then_do (below r) (below r) (below r) ys (F ∷ []) q one (pc + 1)) (one (pc + 1 + length (ys ++ F ∷ []))))))
 
   pub pointees : (r : ℕ) (site : Site) (xs : List Op) → B r xs (r + 1) → B r (pointee_code r site xs) (r + 1)
-  pointees r site xs p = then_do (below r) (below (r + 1)) (below (r + 1)) xs (op.ChkNull r (at_site site) ∷ []) p (keeps (below (r + 1)) (op.ChkNull r (at_site site)) (λ table pc n. n))
+  pointees r site xs p = then_do (below r) (below (r + 1)) (below (r + 1)) xs (Op.ChkNull r (at_site site) ∷ []) p (keeps (below (r + 1)) (Op.ChkNull r (at_site site)) (λ table pc n. n))
 
   -- ---- indexes
   pub bounded : (s : Slots) (bounds : ℕ → ℕ → Op) (i n : ℕ) (guard : Option ℕ) → ((i n : ℕ) → P s (bounds i n ∷ []) s) → P s (bounds_code bounds i n guard) s
   bounded s bounds i n None h = h i n
-  bounded s bounds i n (Some mutex) h = before s (op.Move (i + 1) i) (bounds i n ∷ bounds (i + 1) mutex ∷ []) s (keeps s (op.Move (i + 1) i) (λ table pc n. n)) (before s (bounds i n) (bounds (i + 1) mutex ∷ []) s (h i n) (h (i + 1) mutex))
+  bounded s bounds i n (Some mutex) h = before s (Op.Move (i + 1) i) (bounds i n ∷ bounds (i + 1) mutex ∷ []) s (keeps s (Op.Move (i + 1) i) (λ table pc n. n)) (before s (bounds i n) (bounds (i + 1) mutex ∷ []) s (h i n) (h (i + 1) mutex))
 
   -- ---- calls of condition variables
   wait_over : (r : ℕ) (spot a b : Spot) → B (r + 2) (wait_code r spot a b) r
   wait_over r spot a b =
       let s = below (r + 2) in
       let m = below (r + 2 + 1) in
-      before s (op.ChkNull r spot) _ (below r) (keeps s (op.ChkNull r spot) (λ table pc n. n))
-      (before s (op.ChkNull (r + 1) spot) _ (below r) (keeps s (op.ChkNull (r + 1) spot) (λ table pc n. n))
-      (before s (op.ChkHeld (first_cell_of (r + 1)) spot) _ (below r) (keeps s (op.ChkHeld (first_cell_of (r + 1)) spot) (λ table pc n. n))
-      (before s (op.CondEnter (first_cell_of r) spot) _ (below r) (keeps s (op.CondEnter (first_cell_of r) spot) (λ table pc n. n))
-      (then_do s m (below r) (op.Unlock (r + 2) (first_cell_of (r + 1)) spot ∷ []) _
-      (does s (op.Unlock (r + 2) (first_cell_of (r + 1)) spot) (with_slot s (r + 2) (s (r + 1))) m (pushed (r + 2) (s (r + 1))) (λ table pc n. (below_free (r + 2) (r + 2) (omega arith), n)))
-      (before m (op.CondWait (first_cell_of r) a) _ (below r) (keeps m (op.CondWait (first_cell_of r) a) (λ table pc n. n))
-      (then_do m s (below r) (op.Lock (first_cell_of (r + 2)) b ∷ []) (op.Pop r ∷ op.Pop (r + 1) ∷ [])
-      (does m (op.Lock (first_cell_of (r + 2)) b) (with_slot m (r + 2) free) s (popped (r + 2)) (λ table pc n. n))
-      (pre (r + 2) (r + 1 + 1) (op.Pop r ∷ op.Pop (r + 1) ∷ []) (below r) (omega arith) (pops_two r))))))))
+      before s (Op.ChkNull r spot) _ (below r) (keeps s (Op.ChkNull r spot) (λ table pc n. n))
+      (before s (Op.ChkNull (r + 1) spot) _ (below r) (keeps s (Op.ChkNull (r + 1) spot) (λ table pc n. n))
+      (before s (Op.ChkHeld (first_cell_of (r + 1)) spot) _ (below r) (keeps s (Op.ChkHeld (first_cell_of (r + 1)) spot) (λ table pc n. n))
+      (before s (Op.CondEnter (first_cell_of r) spot) _ (below r) (keeps s (Op.CondEnter (first_cell_of r) spot) (λ table pc n. n))
+      (then_do s m (below r) (Op.Unlock (r + 2) (first_cell_of (r + 1)) spot ∷ []) _
+      (does s (Op.Unlock (r + 2) (first_cell_of (r + 1)) spot) (with_slot s (r + 2) (s (r + 1))) m (pushed (r + 2) (s (r + 1))) (λ table pc n. (below_free (r + 2) (r + 2) (omega arith), n)))
+      (before m (Op.CondWait (first_cell_of r) a) _ (below r) (keeps m (Op.CondWait (first_cell_of r) a) (λ table pc n. n))
+      (then_do m s (below r) (Op.Lock (first_cell_of (r + 2)) b ∷ []) (Op.Pop r ∷ Op.Pop (r + 1) ∷ [])
+      (does m (Op.Lock (first_cell_of (r + 2)) b) (with_slot m (r + 2) free) s (popped (r + 2)) (λ table pc n. n))
+      (pre (r + 2) (r + 1 + 1) (Op.Pop r ∷ Op.Pop (r + 1) ∷ []) (below r) (omega arith) (pops_two r))))))))
 
-  waked : (r : ℕ) (o : Op) → B (r + 1) (o ∷ []) (r + 1) → (spot : Spot) → B (r + 1) (op.ChkNull r spot ∷ o ∷ op.Pop r ∷ []) r
+  waked : (r : ℕ) (o : Op) → B (r + 1) (o ∷ []) (r + 1) → (spot : Spot) → B (r + 1) (Op.ChkNull r spot ∷ o ∷ Op.Pop r ∷ []) r
   waked r o p spot =
-      before (below (r + 1)) (op.ChkNull r spot) (o ∷ op.Pop r ∷ []) (below r) (keeps (below (r + 1)) (op.ChkNull r spot) (λ table pc n. n)) (before (below (r + 1)) o (op.Pop r ∷ []) (below r) p (pop_at r))
+      before (below (r + 1)) (Op.ChkNull r spot) (o ∷ Op.Pop r ∷ []) (below r) (keeps (below (r + 1)) (Op.ChkNull r spot) (λ table pc n. n)) (before (below (r + 1)) o (Op.Pop r ∷ []) (below r) p (pop_at r))
 
   pub conditions : (r : ℕ) (spot : Spot) (name : List ℕ) (all : Arguments) → B (r + cond (bytes_eq name (codes "wait")) 2 1) (condition_code r spot name all) r
   conditions r spot name all = by (bytes_eq name (codes "wait")) (bytes_eq name (codes "signal"))
     where
-      signalled : B (r + 1) (op.ChkNull r spot ∷ op.CondSignal (first_cell_of r) spot ∷ op.Pop r ∷ []) r
-      signalled = waked r (op.CondSignal (first_cell_of r) spot) (keeps (below (r + 1)) (op.CondSignal (first_cell_of r) spot) (λ table pc n. n)) spot
+      signalled : B (r + 1) (Op.ChkNull r spot ∷ Op.CondSignal (first_cell_of r) spot ∷ Op.Pop r ∷ []) r
+      signalled = waked r (Op.CondSignal (first_cell_of r) spot) (keeps (below (r + 1)) (Op.CondSignal (first_cell_of r) spot) (λ table pc n. n)) spot
 
-      broadcasted : B (r + 1) (op.ChkNull r spot ∷ op.CondBroadcast (first_cell_of r) spot ∷ op.Pop r ∷ []) r
-      broadcasted = waked r (op.CondBroadcast (first_cell_of r) spot) (keeps (below (r + 1)) (op.CondBroadcast (first_cell_of r) spot) (λ table pc n. n)) spot
+      broadcasted : B (r + 1) (Op.ChkNull r spot ∷ Op.CondBroadcast (first_cell_of r) spot ∷ Op.Pop r ∷ []) r
+      broadcasted = waked r (Op.CondBroadcast (first_cell_of r) spot) (keeps (below (r + 1)) (Op.CondBroadcast (first_cell_of r) spot) (λ table pc n. n)) spot
 
       by : (w g : Bool)
           → B (r + cond w 2 1)
           (cond w (wait_code r spot (with_words spot (argument_words 0 all)) (with_words spot (argument_words 1 all)))
-          (cond g (op.ChkNull r spot ∷ op.CondSignal (first_cell_of r) spot ∷ op.Pop r ∷ []) (op.ChkNull r spot ∷ op.CondBroadcast (first_cell_of r) spot ∷ op.Pop r ∷ []))) r
+          (cond g (Op.ChkNull r spot ∷ Op.CondSignal (first_cell_of r) spot ∷ Op.Pop r ∷ []) (Op.ChkNull r spot ∷ Op.CondBroadcast (first_cell_of r) spot ∷ Op.Pop r ∷ []))) r
       by true g = wait_over r spot (with_words spot (argument_words 0 all)) (with_words spot (argument_words 1 all))
       by false true = signalled
       by false false = broadcasted
 
   -- ---- threads, and calls of values and of places
   pub spawns : (b : Bool) (i r g : ℕ) (spot : Spot) → B (r + width b) (spawn_code b i r g spot) r
-  spawns true i r g spot = does (below (r + 1)) (op.Spawn i g (Reference r) spot) (with_slot (below (r + 1)) r free) (below r) (popped r) (λ table pc n. n)
-  spawns false i r g spot = pre (r + 0) r (op.Spawn i g (Int i) spot ∷ []) (below r) (omega arith) (keeps (below r) (op.Spawn i g (Int i) spot) (λ table pc n. n))
+  spawns true i r g spot = does (below (r + 1)) (Op.Spawn i g (Reference r) spot) (with_slot (below (r + 1)) r free) (below r) (popped r) (λ table pc n. n)
+  spawns false i r g spot = pre (r + 0) r (Op.Spawn i g (Int i) spot ∷ []) (below r) (omega arith) (keeps (below r) (Op.Spawn i g (Int i) spot) (λ table pc n. n))
 
   pub value_calls : (w : ValueCall) (i r : ℕ) (spot : Spot) → B r (value_call_code w i spot) r
-  value_calls Join i r spot = keeps (below r) (op.Join i spot) (λ table pc n. n)
-  value_calls Print i r spot = keeps (below r) (op.Print i spot) (λ table pc n. n)
+  value_calls Join i r spot = keeps (below r) (Op.Join i spot) (λ table pc n. n)
+  value_calls Print i r spot = keeps (below r) (Op.Print i spot) (λ table pc n. n)
 
   module _ (c : Context) where
-    locks : (i r : ℕ) (spot : Spot) (t : Target) → B (r + base_width t) (op.Lock (cell_of c.globals i r t) spot ∷ []) r
-    locks i r spot (variable x) = post (below (r + 0)) _ (r + 0) r (omega arith) (keeps (below (r + 0)) (op.Lock _ spot) (λ table pc n. n))
-    locks i r spot (in_global g n) = post (below (r + 0)) _ (r + 0) r (omega arith) (keeps (below (r + 0)) (op.Lock _ spot) (λ table pc n. n))
-    locks i r spot (in_global_at g n) = post (below (r + 0)) _ (r + 0) r (omega arith) (keeps (below (r + 0)) (op.Lock _ spot) (λ table pc n. n))
-    locks i r spot (in_object n) = does (below (r + 1)) (op.Lock _ spot) (with_slot (below (r + 1)) r free) (below r) (popped r) (λ table pc n. n)
-    locks i r spot (in_object_at n) = does (below (r + 1)) (op.Lock _ spot) (with_slot (below (r + 1)) r free) (below r) (popped r) (λ table pc n. n)
+    locks : (i r : ℕ) (spot : Spot) (t : Target) → B (r + base_width t) (Op.Lock (cell_of c.globals i r t) spot ∷ []) r
+    locks i r spot (variable x) = post (below (r + 0)) _ (r + 0) r (omega arith) (keeps (below (r + 0)) (Op.Lock _ spot) (λ table pc n. n))
+    locks i r spot (in_global g n) = post (below (r + 0)) _ (r + 0) r (omega arith) (keeps (below (r + 0)) (Op.Lock _ spot) (λ table pc n. n))
+    locks i r spot (in_global_at g n) = post (below (r + 0)) _ (r + 0) r (omega arith) (keeps (below (r + 0)) (Op.Lock _ spot) (λ table pc n. n))
+    locks i r spot (in_object n) = does (below (r + 1)) (Op.Lock _ spot) (with_slot (below (r + 1)) r free) (below r) (popped r) (λ table pc n. n)
+    locks i r spot (in_object_at n) = does (below (r + 1)) (Op.Lock _ spot) (with_slot (below (r + 1)) r free) (below r) (popped r) (λ table pc n. n)
 
-    unlock_global : (r : ℕ) (cell : Cell) (spot : Spot) → ((s : Slots) → cell_slot s cell ≡ free) → B (r + 0) (op.Unlock (r + 0) cell spot ∷ []) r
+    unlock_global : (r : ℕ) (cell : Cell) (spot : Spot) → ((s : Slots) → cell_slot s cell ≡ free) → B (r + 0) (Op.Unlock (r + 0) cell spot ∷ []) r
     unlock_global r cell spot h =
         let s = below (r + 0) in
-        does s (op.Unlock (r + 0) cell spot) (with_slot s (r + 0) (cell_slot s cell)) (below r)
+        does s (Op.Unlock (r + 0) cell spot) (with_slot s (r + 0) (cell_slot s cell)) (below r)
         (fit_below r (with_slot s (r + 0) (cell_slot s cell)) (λ k le. ⊎_elim (λ e. ap (with_slot s (r + 0) (cell_slot s cell)) e ∙ with_same s (r + 0) (cell_slot s cell) ∙ h s)
         (λ other. with_other s (r + 0) (cell_slot s cell) k other ∙ below_free (r + 0) k (omega (arith, le))) (cases_eq k (r + 0))))
         (λ table pc n. (below_free (r + 0) (r + 0) (omega arith), n))
 
-    unlock_object : (r : ℕ) (cell : Cell) (spot : Spot) → B (r + 1) (op.Unlock (r + 1) cell spot ∷ op.Pop (r + 1) ∷ op.Pop r ∷ []) r
+    unlock_object : (r : ℕ) (cell : Cell) (spot : Spot) → B (r + 1) (Op.Unlock (r + 1) cell spot ∷ Op.Pop (r + 1) ∷ Op.Pop r ∷ []) r
     unlock_object r cell spot =
         let s = below (r + 1) in
-        then_do s (below (r + 1 + 1)) (below r) (op.Unlock (r + 1) cell spot ∷ []) (op.Pop (r + 1) ∷ op.Pop r ∷ [])
-        (does s (op.Unlock (r + 1) cell spot) (with_slot s (r + 1) (cell_slot s cell)) (below (r + 1 + 1)) (pushed (r + 1) (cell_slot s cell)) (λ table pc n. (below_free (r + 1) (r + 1) (omega arith), n)))
-        (then_do (below (r + 1 + 1)) (below (r + 1)) (below r) (op.Pop (r + 1) ∷ []) (op.Pop r ∷ []) (pop_at (r + 1)) (pop_at r))
+        then_do s (below (r + 1 + 1)) (below r) (Op.Unlock (r + 1) cell spot ∷ []) (Op.Pop (r + 1) ∷ Op.Pop r ∷ [])
+        (does s (Op.Unlock (r + 1) cell spot) (with_slot s (r + 1) (cell_slot s cell)) (below (r + 1 + 1)) (pushed (r + 1) (cell_slot s cell)) (λ table pc n. (below_free (r + 1) (r + 1) (omega arith), n)))
+        (then_do (below (r + 1 + 1)) (below (r + 1)) (below r) (Op.Pop (r + 1) ∷ []) (Op.Pop r ∷ []) (pop_at (r + 1)) (pop_at r))
 
-    unlocks : (i r : ℕ) (spot : Spot) (t : Target) → B (r + base_width t) (op.Unlock (r + base_width t) (cell_of c.globals i r t) spot ∷ unlocked_code r t) r
+    unlocks : (i r : ℕ) (spot : Spot) (t : Target) → B (r + base_width t) (Op.Unlock (r + base_width t) (cell_of c.globals i r t) spot ∷ unlocked_code r t) r
     unlocks i r spot (in_object n) = unlock_object r _ spot
     unlocks i r spot (in_object_at n) = unlock_object r _ spot
     unlocks i r spot _ = unlock_global r _ spot (λ s. refl)
 
     -- after the place
-    pub locked_at : (i r : ℕ) (a b d : Spot) (t : Target) → B (r + base_width t) (op.ChkNotHeld (cell_of c.globals i r t) a ∷ op.ChkRoom b ∷ op.Lock (cell_of c.globals i r t) d ∷ []) r
+    pub locked_at : (i r : ℕ) (a b d : Spot) (t : Target) → B (r + base_width t) (Op.ChkNotHeld (cell_of c.globals i r t) a ∷ Op.ChkRoom b ∷ Op.Lock (cell_of c.globals i r t) d ∷ []) r
     locked_at i r a b d t =
         let s = below (r + base_width t) in
-        before s (op.ChkNotHeld (cell_of c.globals i r t) a) _ (below r) (keeps s (op.ChkNotHeld (cell_of c.globals i r t) a) (λ table pc n. n))
-        (before s (op.ChkRoom b) _ (below r) (keeps s (op.ChkRoom b) (λ table pc n. n)) (locks i r d t))
+        before s (Op.ChkNotHeld (cell_of c.globals i r t) a) _ (below r) (keeps s (Op.ChkNotHeld (cell_of c.globals i r t) a) (λ table pc n. n))
+        (before s (Op.ChkRoom b) _ (below r) (keeps s (Op.ChkRoom b) (λ table pc n. n)) (locks i r d t))
 
-    pub unlocked_at : (i r : ℕ) (a b : Spot) (t : Target) → B (r + base_width t) (op.ChkHeld (cell_of c.globals i r t) a ∷ op.Unlock (r + base_width t) (cell_of c.globals i r t) b ∷ unlocked_code r t) r
+    pub unlocked_at : (i r : ℕ) (a b : Spot) (t : Target) → B (r + base_width t) (Op.ChkHeld (cell_of c.globals i r t) a ∷ Op.Unlock (r + base_width t) (cell_of c.globals i r t) b ∷ unlocked_code r t) r
     unlocked_at i r a b t =
         let s = below (r + base_width t) in
-        before s (op.ChkHeld (cell_of c.globals i r t) a) _ (below r) (keeps s (op.ChkHeld (cell_of c.globals i r t) a) (λ table pc n. n)) (unlocks i r b t)
+        before s (Op.ChkHeld (cell_of c.globals i r t) a) _ (below r) (keeps s (Op.ChkHeld (cell_of c.globals i r t) a) (λ table pc n. n)) (unlocks i r b t)
 
   -- what was taken, if it is not NULL
-  pub freed_if : (r layout : ℕ) (spot : Spot) → B (r + 1) (op.SkipIfNull r 1 ∷ op.Free r layout spot ∷ []) r
+  pub freed_if : (r layout : ℕ) (spot : Spot) → B (r + 1) (Op.SkipIfNull r 1 ∷ Op.Free r layout spot ∷ []) r
   freed_if r layout spot =
-      λ pc. over_null flat owner gives f D (below (r + 1)) (below (r + 1)) (below r) pc r (op.Free r layout spot) (fit_same (below (r + 1))) (popped r)
-      (does (below (r + 1)) (op.Free r layout spot) (with_slot (below (r + 1)) r free) (below r) (popped r) (λ table q n. n) (pc + 1))
+      λ pc. over_null flat owner gives f D (below (r + 1)) (below (r + 1)) (below r) pc r (Op.Free r layout spot) (fit_same (below (r + 1))) (popped r)
+      (does (below (r + 1)) (Op.Free r layout spot) (with_slot (below (r + 1)) r free) (below r) (popped r) (λ table q n. n) (pc + 1))
 
-  pub given_if : (r cells : ℕ) (spot : Spot) → B (r + 1) (op.SkipIfNull r 1 ∷ op.Give r cells spot ∷ []) (r + 1)
+  pub given_if : (r cells : ℕ) (spot : Spot) → B (r + 1) (Op.SkipIfNull r 1 ∷ Op.Give r cells spot ∷ []) (r + 1)
   given_if r cells spot =
-      λ pc. over_null flat owner gives f D (below (r + 1)) (below (r + 1)) (below (r + 1)) pc r (op.Give r cells spot) (fit_same (below (r + 1)))
+      λ pc. over_null flat owner gives f D (below (r + 1)) (below (r + 1)) (below (r + 1)) pc r (Op.Give r cells spot) (fit_same (below (r + 1)))
       (fit_through (with_slot (below (r + 1)) r free) (below r) (below (r + 1)) (popped r) (below_more r (r + 1) (omega arith)))
-      (keeps (below (r + 1)) (op.Give r cells spot) (λ table q n. n) (pc + 1))
+      (keeps (below (r + 1)) (Op.Give r cells spot) (λ table q n. n) (pc + 1))

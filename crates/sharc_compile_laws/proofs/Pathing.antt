@@ -1,14 +1,5 @@
 -- What a thread of the code of a program reports is what the program asks for by the answers of the events that are reported.
-use Rattle.std.proofs.Common.{◌≡◌, ℕ, ◌⊎◌, inl, inr, ⊎_elim, List, ◌++◌, length, map, refl, sym, ap, ◌∙◌, subst}
-use Rattle.sharc_tree.specs.declared.event.SourceEvent.{SourceEvent}
-use Rattle.sharc_mode.specs.Moded.{Assignment}
-use Rattle.sharc_meaning.specs.{Meaning.asks, Runs.{answers_of, by}}
-use Rattle.sharc_code.specs.{declared.code.Code.Code, Machine.Machine}
-use Rattle.sharc_flat.specs.{declared.flat.Flat.{Flat as FlatCode}, Correct.MayStart, Flattens.Flattens}
-use Rattle.sharc_guard.specs.Correct.{Resolved}
-use Rattle.sharc_compile.specs.{Correct.{begins, IsBeginning}, Generated.program_of, Made.IsCodeOf, Source.{FollowsSource, IsOverAs}}
-use Rattle.sharc_compile_laws.specs.Paths.{IsAskedFor, TellsProgram}
-use Rattle.sharc_compile_laws.proofs.Telling.{answers_by, started_at_name, tail_same}
+use Rattle.sharc_compile_laws.proofs.{Imports.{◌≡◌, ℕ, ◌⊎◌, inl, inr, ⊎_elim, List, ◌++◌, length, map, refl, sym, ap, ◌∙◌, subst, SourceEvent, Assignment, asks, answers_of, by, Code, Machine, FlatCode, MayStart, Flattens, Resolved, begins, IsBeginning, program_of, IsCodeOf, FollowsSource, IsOverAs, IsAskedFor, TellsProgram}, Telling.{answers_by, started_at_name, tail_same}}
 
 module _ (m : Assignment) (flat : FlatCode) (made : Flattens m flat) (code : Code) (is : IsCodeOf flat code) (thread : ℕ) (at : Machine) (said : List SourceEvent) (lowered : List ℕ) (paced : ℕ) where
   -- it follows the source, as `sharc_compile` says it

@@ -1,10 +1,5 @@
 -- Pieces of flat code with what the registers hold at each of their lines.
-use Rattle.std.specs.Prelude.{slice_get}
-use Rattle.std.proofs.Common.{◌≡◌, Some, ℕ, ◌+◌, ◌<◌, Bool, List, [], ◌∷◌, ◌++◌, length}
-use Rattle.sharc_flat.specs.{declared.op.Op.Op, Machine.Flat}
-use Rattle.sharc_flat.specs.declared.op.Op.TheVariants as op
-use Rattle.sharc_guard.specs.Level.{free, Slots, with_slot, Enters, Level}
-use Rattle.sharc_compile_laws.proofs.{Flow.Agrees, Slots.{AreFit, fit_same, fit_through}}
+use Rattle.sharc_compile_laws.proofs.{Imports.{slice_get, ◌≡◌, Some, ℕ, ◌+◌, ◌<◌, Bool, List, [], ◌∷◌, ◌++◌, length, Op, Flat, free, Slots, with_slot, Enters, Level}, Flow.Agrees, Slots.{AreFit, fit_same, fit_through}}
 use Rattle.sharc_compile_laws.proofs.Flow as flow
 
 abbrev cleared : Slots → ℕ → Slots
@@ -24,13 +19,13 @@ module _ (flat : Flat) (owner : ℕ → ℕ) (gives : ℕ → Bool) (f : ℕ) wh
   there : (table : ℕ → Slots) (s : Slots) (q : ℕ) → Leads table s q → Enters flat owner gives table f s q
   there table s q h = record { inside = h.0.0; owned = h.0.1; fits = h.1 }
 
-  on_zero : (table : ℕ → Slots) (pc : ℕ) (s : Slots) (i n : ℕ) → Leads table s (pc + 1 + n) → Leads table s (pc + 1) → Needs table pc s (op.SkipIfZero i n)
+  on_zero : (table : ℕ → Slots) (pc : ℕ) (s : Slots) (i n : ℕ) → Leads table s (pc + 1 + n) → Leads table s (pc + 1) → Needs table pc s (Op.SkipIfZero i n)
   on_zero table pc s i n a b = (there table s (pc + 1 + n) a, there table s (pc + 1) b)
 
-  on_null : (table : ℕ → Slots) (pc : ℕ) (s : Slots) (r n : ℕ) → Leads table (cleared s r) (pc + 1 + n) → Leads table s (pc + 1) → Needs table pc s (op.SkipIfNull r n)
+  on_null : (table : ℕ → Slots) (pc : ℕ) (s : Slots) (r n : ℕ) → Leads table (cleared s r) (pc + 1 + n) → Leads table s (pc + 1) → Needs table pc s (Op.SkipIfNull r n)
   on_null table pc s r n a b = (there table (cleared s r) (pc + 1 + n) a, there table s (pc + 1) b)
 
-  on_skip : (table : ℕ → Slots) (pc : ℕ) (s : Slots) (n : ℕ) → Leads table s (pc + 1 + n) → Needs table pc s (op.Skip n)
+  on_skip : (table : ℕ → Slots) (pc : ℕ) (s : Slots) (n : ℕ) → Leads table s (pc + 1 + n) → Needs table pc s (Op.Skip n)
   on_skip table pc s n a = there table s (pc + 1 + n) a
 
   abbrev pub Levels : (ℕ → Slots) → ℕ → List Op → Type 0
@@ -72,18 +67,18 @@ module _ (flat : Flat) (owner : ℕ → ℕ) (gives : ℕ → Bool) (f : ℕ) wh
   pub step : (D : (ℕ → Slots) → Type 0) (s : Slots) (pc : ℕ) (o : Op) (t e : Slots) → AreFit t e → ((table : ℕ → Slots) → Enters flat owner gives table f t (pc + 1) → Level flat owner gives table pc f s o) → Piece D s pc (o ∷ []) e
   step D s pc o t e h l = flow.step Slots AreFit fit_same fit_through IsOwn Needs D s pc o t e h (λ table n. l table (there table t (pc + 1) n))
 
-  pub over : (D : (ℕ → Slots) → Type 0) (s m e : Slots) (pc i : ℕ) (xs ys : List Op) → AreFit s m → Piece D s (pc + 1) xs m → Piece D m (pc + 1 + length xs) ys e → Piece D s pc (op.SkipIfZero i (length xs) ∷ (xs ++ ys)) e
+  pub over : (D : (ℕ → Slots) → Type 0) (s m e : Slots) (pc i : ℕ) (xs ys : List Op) → AreFit s m → Piece D s (pc + 1) xs m → Piece D m (pc + 1 + length xs) ys e → Piece D s pc (Op.SkipIfZero i (length xs) ∷ (xs ++ ys)) e
   over = flow.over Slots AreFit fit_same fit_through IsOwn Needs cleared on_zero on_null on_skip
 
-  pub over_null : (D : (ℕ → Slots) → Type 0) (s m e : Slots) (pc r : ℕ) (o : Op) → AreFit s m → AreFit (with_slot s r free) e → Piece D m (pc + 1) (o ∷ []) e → Piece D s pc (op.SkipIfNull r 1 ∷ o ∷ []) e
+  pub over_null : (D : (ℕ → Slots) → Type 0) (s m e : Slots) (pc r : ℕ) (o : Op) → AreFit s m → AreFit (with_slot s r free) e → Piece D m (pc + 1) (o ∷ []) e → Piece D s pc (Op.SkipIfNull r 1 ∷ o ∷ []) e
   over_null = flow.over_null Slots AreFit fit_same fit_through IsOwn Needs cleared on_zero on_null on_skip
 
   -- ---- with a test before them
-  pub turned : (D : (ℕ → Slots) → Type 0) (s e : Slots) (pc i : ℕ) (xs ys : List Op) → AreFit s e → Piece D s pc xs s → Piece D s (pc + length xs + 1) ys e → Piece D s pc ((xs ++ op.SkipIfZero i (length ys) ∷ []) ++ ys) e
+  pub turned : (D : (ℕ → Slots) → Type 0) (s e : Slots) (pc i : ℕ) (xs ys : List Op) → AreFit s e → Piece D s pc xs s → Piece D s (pc + length xs + 1) ys e → Piece D s pc ((xs ++ Op.SkipIfZero i (length ys) ∷ []) ++ ys) e
   turned = flow.turned Slots AreFit fit_same fit_through IsOwn Needs cleared on_zero on_null on_skip
 
   pub sides : (D : (ℕ → Slots) → Type 0) (s m e : Slots) (pc i : ℕ) (xs ys zs : List Op) → AreFit m e → Piece D s pc xs s → Piece D s (pc + length xs + 1) ys m → Piece D s (pc + length xs + 1 + length ys + 1) zs e
-      → Piece D s pc ((xs ++ op.SkipIfZero i (length ys + 1) ∷ []) ++ (ys ++ (op.Skip (length zs) ∷ zs))) e
+      → Piece D s pc ((xs ++ Op.SkipIfZero i (length ys + 1) ∷ []) ++ (ys ++ (Op.Skip (length zs) ∷ zs))) e
   sides = flow.sides Slots AreFit fit_same fit_through IsOwn Needs cleared on_zero on_null on_skip
 
   abbrev pub Inner : ((ℕ → Slots) → Type 0) → Slots → ℕ → List Op → List Op → List Op → Type 0
@@ -92,11 +87,11 @@ module _ (flat : Flat) (owner : ℕ → ℕ) (gives : ℕ → Bool) (f : ℕ) wh
   pub always : (D : (ℕ → Slots) → Type 0) (n : Slots) (pc : ℕ) (B S : List Op) → Piece D n pc B n → Piece D n (pc + length B) S n → Inner D n pc [] B S
   always = flow.always Slots AreFit fit_same fit_through IsOwn Needs cleared on_zero on_null on_skip
 
-  pub decided : (D : (ℕ → Slots) → Type 0) (n : Slots) (pc i : ℕ) (xs B S : List Op) → Piece D n pc xs n → Piece D n (pc + length xs + 1) B n → Piece D n (pc + length xs + 1 + length B) S n → Inner D n pc (xs ++ op.SkipIfZero i (length (B ++ S)) ∷ []) B S
+  pub decided : (D : (ℕ → Slots) → Type 0) (n : Slots) (pc i : ℕ) (xs B S : List Op) → Piece D n pc xs n → Piece D n (pc + length xs + 1) B n → Piece D n (pc + length xs + 1 + length B) S n → Inner D n pc (xs ++ Op.SkipIfZero i (length (B ++ S)) ∷ []) B S
   decided = flow.decided Slots AreFit fit_same fit_through IsOwn Needs cleared on_zero on_null on_skip
 
   pub looped : (D E : (ℕ → Slots) → Type 0) (n : Slots) (pc : ℕ) (T B S : List Op) (out : ℕ)
       → ((table : ℕ → Slots) → D table → Enters flat owner gives table f n (pc + 1) → Enters flat owner gives table f n (pc + 2) → Enters flat owner gives table f n (pc + 3) → E table) → out ≡ length T + length B + length S + 1 → Inner E n (pc + 3) T B S
-      → Piece D n pc (op.Skip 2 ∷ op.Skip out ∷ op.Skip (length T + length B) ∷ (T ++ (B ++ S))) n
+      → Piece D n pc (Op.Skip 2 ∷ Op.Skip out ∷ Op.Skip (length T + length B) ∷ (T ++ (B ++ S))) n
   looped D E n pc T B S out into =
       flow.looped Slots AreFit fit_same fit_through IsOwn Needs cleared on_zero on_null on_skip D E n pc T B S out (λ table d a b c. into table d (there table n (pc + 1) a) (there table n (pc + 2) b) (there table n (pc + 3) c))

@@ -1,19 +1,6 @@
 -- The functions of a program one after the other: what registers hold at each line of all of them.
-use Rattle.std.proofs.{Common.{◌≡◌, ℕ, zero, suc, ◌+◌, ◌-◌, ◌<◌, ◌≤◌, Bool, true, false, cond, List, [], ◌∷◌, ◌++◌, length, map, refl, ap, sym, ◌∙◌, subst, arith, length-append, append_assoc, Some, nat_lt}, lemmas.Bool.false≢true, lemmas.Bool.Decides.nat_tests}
-use Rattle.std.specs.Prelude.{slice_get, slice_index_or}
-use Rattle.sharc_tree.specs.{declared.tree.declaration.Declaration.Declaration, Tree.Function}
-use Rattle.sharc_names.specs.Kinds.{is_pointer, declared_kind}
-use Rattle.sharc_code.specs.{declared.code.Function.{Function as Row}, declared.code.GlobalCells.GlobalCells, Machine.no_function}
-use Rattle.sharc_code.specs.declared.code.Parameter.TheVariants as parameters
-use Rattle.sharc_ctype.specs.Resolved.{function_at, functions_in, result_kind_of}
-use Rattle.sharc_mode.specs.Moded.{Assignment}
-use Rattle.sharc_meaning.specs.State.{is_reference}
-use Rattle.sharc_flat.specs.{declared.op.Op.Op, Machine.{Flat, function_of}, Scope.{Context, slot_of, ref_count, at_site, ends_from}, Flattened.{zero_code, behind_statements, statements_code, in_function, around_body, function_code, functions_code, parameter_of, refs_of, AreRows}, Suits.StatementsSuit}
-use Rattle.sharc_flat.specs.declared.op.Op.TheVariants as op
-use Rattle.sharc_guard.specs.Level.{Slot, free, full, Fits, Slots, Level, Takes}
-use Rattle.sharc_compile_laws.specs.Laws.{FlattenedIsLevel}
-use Rattle.sharc_compile_laws.proofs.{Expressing.{Entries, gives_reference}, Located.{width, declared_reference}, Flow.{Agrees, agrees_left, agrees_right, agrees_all}, Pieces.{IsOwn, Levels, levels_both, pick, enters}, Slots.{AreFit, fit_same, below, below_full}, Stating.{IsAround, L, S, ends_at, then_at, entered, lift, longer, zeros, result_alone, all_statements}}
-use Rattle.sharc_lemmas.proofs.{Options.{same_some, none_some}, Lists.there_is as inside_list}
+use Rattle.sharc_compile_laws.proofs.{Imports.{◌≡◌, ℕ, zero, suc, ◌+◌, ◌-◌, ◌<◌, ◌≤◌, Bool, true, false, cond, List, [], ◌∷◌, ◌++◌, length, map, refl, ap, sym, ◌∙◌, subst, arith, length-append, append_assoc, Some, nat_lt, false≢true, nat_tests, slice_get, slice_index_or, Declaration, Function, is_pointer, declared_kind, Row, GlobalCells, no_function, Parameter, function_at, functions_in, result_kind_of, Assignment, is_reference, Op, Flat, function_of, Context, slot_of, ref_count, at_site, ends_from, zero_code, behind_statements, statements_code, in_function, around_body, function_code, functions_code, parameter_of, refs_of, AreRows, StatementsSuit, free, full, Fits, Slots, Level, Takes, FlattenedIsLevel, same_some, none_some, inside_list}, Expressing.{Entries, gives_reference}, Located.{width, declared_reference}, Flow.{Agrees, agrees_left, agrees_right, agrees_all}, Pieces.{IsOwn, Levels, levels_both, pick, enters}, Slots.{AreFit, fit_same, below, below_full}, Stating.{IsAround, L, S, ends_at, then_at, entered, lift, longer, zeros, result_alone, all_statements}}
+use Rattle.sharc_guard.specs.Level.{Slot}
 
 -- ---- lists
 get_left : (xs ys : List Op) (j : ℕ) → j < length xs → slice_get (xs ++ ys) j ≡ slice_get xs j
@@ -58,8 +45,8 @@ module _ (flat : Flat) (owner : ℕ → ℕ) (m : Assignment) where
       let X = statements_code c a (pc + 1) fn.statements in
       let Y = ends_from d.scope 0 in
       let Z = zero_code r 0 0 in
-      let R = op.Return (at_site fn.body.last) ∷ [] in
-      let F = op.Enter ∷ (X ++ (Y ++ Z)) in
+      let R = Op.Return (at_site fn.body.last) ∷ [] in
+      let F = Op.Enter ∷ (X ++ (Y ++ Z)) in
       let is : gives_reference m f ≡ r = ap (λ o. is_reference (result_kind_of o)) at in
       let around : IsAround (g f) false 0 a c.scope = record { inner = λ sure. absurd (false≢true sure); outer = refl; result = is } in
       let none : Context = record { program = m; globals = globals; scope = [] } in
@@ -68,7 +55,7 @@ module _ (flat : Flat) (owner : ℕ → ℕ) (m : Assignment) where
       (then_at flat owner f m D k (refs_of d) (width r) (pc + 1) X (Y ++ Z) (all_statements flat owner f m c refl false 0 a around (omega arith) (pc + 1) fn.statements suits)
       (then_at flat owner f m D (refs_of d) 0 (width r) (pc + 1 + length X) Y Z (ends_at flat owner f m D none d (record { more = d.scope; scope = refl }) (pc + 1 + length X))
       (lift flat owner f m false 0 a 0 (width r) Z (longer flat owner f m 0 (0 + width r) (width r) Z (omega arith) (zeros flat owner f m r 0 0)) (pc + 1 + length X + length Y)))) in
-      let code_is : function_code m globals pc fn ≡ F ++ R = ap (λ l. op.Enter ∷ l) (sym (append_assoc X (Y ++ Z) R ∙ ap (λ l. X ++ l) (append_assoc Y Z R))) in
+      let code_is : function_code m globals pc fn ≡ F ++ R = ap (λ l. Op.Enter ∷ l) (sym (append_assoc X (Y ++ Z) R ∙ ap (λ l. X ++ l) (append_assoc Y Z R))) in
       let count : length (function_code m globals pc fn) ≡ length F + 1 = ap length code_is ∙ length-append F R in
       record {
         states = p.states ++ below (width r) ∷ [];
@@ -82,7 +69,7 @@ module _ (flat : Flat) (owner : ℕ → ℕ) (m : Assignment) where
             let last = (agrees_right table pc p.states (below (width r) ∷ []) (length F) p.many h).0 in
             subst (Levels flat owner g f table pc) (sym code_is)
             (levels_both flat owner g f table pc F R (p.runs table (e, λ sure. absurd (false≢true sure)) (λ q low high. own q low (omega (arith, high, count))) left (subst (AreFit (below (width r))) (sym last) (fit_same (below (width r)))))
-            (subst (λ s. Level flat owner g table (pc + length F) f s (op.Return (at_site fn.body.last))) (sym last) (result_alone flat owner f m r is table), tt));
+            (subst (λ s. Level flat owner g table (pc + length F) f s (Op.Return (at_site fn.body.last))) (sym last) (result_alone flat owner f m r is table), tt));
       }
 
   -- ---- all of them
@@ -148,7 +135,7 @@ module _ (flat : Flat) (owner : ℕ → ℕ) (m : Assignment) where
     some_line o os = omega arith
 
     some_code : (pc : ℕ) (fn : Function) → 0 < length (code pc fn)
-    some_code pc fn = some_line op.Enter _
+    some_code pc fn = some_line Op.Enter _
 
     -- the rows of the table
     record IsThere (k pc : ℕ) (fs : List Function) (rows : List Row) (d : ℕ) : Type 0 where
@@ -197,9 +184,9 @@ only_full full h = refl
 -- a reference that is handed to a thread is in the first register
 takes : (flat : Flat) (owner : ℕ → ℕ) (gives : ℕ → Bool) (slots : ℕ → Slots) (s : Slots) (ds : List Declaration) → AreFit (below (ref_count (map slot_of ds))) s → Takes flat owner gives slots s (parameter_of ds)
 takes flat owner gives slots s [] h = tt
-takes flat owner gives slots s (d ∷ rest) h = subst (λ b. Takes flat owner gives slots s (cond b parameters.Reference parameters.Int)) (sym (declared_reference d.written)) (by (is_pointer (declared_kind d.written)) (ref_count (map slot_of rest)) h)
+takes flat owner gives slots s (d ∷ rest) h = subst (λ b. Takes flat owner gives slots s (cond b Parameter.Reference Parameter.Int)) (sym (declared_reference d.written)) (by (is_pointer (declared_kind d.written)) (ref_count (map slot_of rest)) h)
   where
-    by : (b : Bool) (n : ℕ) → AreFit (below (cond b (n + 1) n)) s → Takes flat owner gives slots s (cond b parameters.Reference parameters.Int)
+    by : (b : Bool) (n : ℕ) → AreFit (below (cond b (n + 1) n)) s → Takes flat owner gives slots s (cond b Parameter.Reference Parameter.Int)
     by true n h = only_full (s 0) (subst (λ x. Fits x (s 0)) (below_full (n + 1) 0 (omega arith)) (h 0))
     by false n h = tt
 

@@ -1,6 +1,6 @@
 -- What registers hold: the first ones of a frame anything, all after them NULL.
-use Rattle.std.proofs.{Common.{◌≡◌, ⊎_elim, ℕ, ◌+◌, ◌<◌, ◌≤◌, true, false, cond, refl, ap, sym, ◌∙◌, subst, arith, eq-eqb, ne_eqb, nat_lt}, lemmas.Bool.{cases_eq, cases_lt}, lemmas.Bool.Decides.nat_tests}
-use Rattle.sharc_guard.specs.Level.{Slot, free, full, Fits, Slots, with_slot, with_moved}
+use Rattle.sharc_compile_laws.proofs.Imports.{◌≡◌, ⊎_elim, ℕ, ◌+◌, ◌<◌, ◌≤◌, true, false, cond, refl, ap, sym, ◌∙◌, subst, arith, eq-eqb, ne_eqb, nat_lt, cases_eq, cases_lt, nat_tests, free, full, Fits, Slots, with_slot, with_moved}
+use Rattle.sharc_guard.specs.Level.{Slot}
 
 pub fits_same : (x : Slot) → Fits x x
 fits_same free = tt

@@ -1,20 +1,10 @@
 -- What the instructions of code spawn is what the program spawns.
-use Rattle.std.proofs.Common.{◌≡◌, ℕ, zero, suc, ◌+◌, Bool, false, List, [], ◌∷◌, ◌++◌, map, sym, ap, ◌∙◌, subst}
-use Rattle.std.specs.{Prelude.slice_index_or, List.AllByRecursion}
-use Rattle.sharc_code.specs.{declared.code.Function.Function as Row, declared.code.PlaceMode.PlaceMode, declared.instr.Width.TheVariants.Char, declared.instr.Instr.Instr, declared.instr.Register.Register}
-use Rattle.sharc_code.specs.declared.code.PlaceMode.TheVariants as modes
-use Rattle.sharc_code.specs.declared.instr.Instr.TheVariants as instrs
-use Rattle.sharc_flat.specs.{declared.op.Op.Op, declared.op.Spot.Spot, Made.flat_of}
-use Rattle.sharc_flat.specs.declared.op.Op.TheVariants as op
-use Rattle.sharc_flat_laws.specs.Tables.{SpawnMeets, IsSpawned, MadeSpawns}
-use Rattle.sharc_guard.specs.{Guard.{check_under, head, own, body, tail, expand, expanded, place}, Known.dropped}
-use Rattle.sharc_compile.specs.Generated.{instr_of}
-use Rattle.sharc_compile_laws.specs.Started.{SpawnedAreThreads}
+use Rattle.sharc_compile_laws.proofs.Imports.{◌≡◌, ℕ, zero, suc, ◌+◌, Bool, false, List, [], ◌∷◌, ◌++◌, map, sym, ap, ◌∙◌, subst, slice_index_or, AllByRecursion, Row, PlaceMode, Char, Instr, Register, Op, Spot, flat_of, SpawnMeets, IsSpawned, MadeSpawns, check_under, head, own, body, tail, expand, expanded, place, dropped, instr_of, SpawnedAreThreads}
 
 -- ---- instructions
 module _ (Q : ℕ → Type 0) where
   abbrev SpawnsIn : Instr → Type 0
-  SpawnsIn (instrs.Spawn to function from site) = Q function
+  SpawnsIn (Instr.Spawn to function from site) = Q function
   SpawnsIn _ = Unit {0}
 
   abbrev AllSpawn : List Instr → Type 0
@@ -27,35 +17,35 @@ module _ (Q : ℕ → Type 0) where
 
   -- a check spawns nothing
   checks : (drop : Bool) (dynamic : Instr) (spot : Spot) (n : ℕ) (mode : PlaceMode) → SpawnsIn dynamic → AllSpawn (check_under drop dynamic spot n mode)
-  checks false dynamic spot n modes.Dynamic h = (h, tt)
-  checks drop dynamic spot n (modes.LockedGlobal g p) h = (tt, tt)
-  checks drop dynamic spot n (modes.LockedSibling f p) h = (tt, tt)
-  checks drop dynamic spot n (modes.LockedThrough r p) h = (tt, tt)
-  checks drop dynamic spot n modes.LockedLoaded h = (tt, tt)
+  checks false dynamic spot n PlaceMode.Dynamic h = (h, tt)
+  checks drop dynamic spot n (PlaceMode.LockedGlobal g p) h = (tt, tt)
+  checks drop dynamic spot n (PlaceMode.LockedSibling f p) h = (tt, tt)
+  checks drop dynamic spot n (PlaceMode.LockedThrough r p) h = (tt, tt)
+  checks drop dynamic spot n PlaceMode.LockedLoaded h = (tt, tt)
   checks _ dynamic spot n _ h = tt
 
   heads : (drop : Bool) (n : ℕ) (o : Op) → AllSpawn (head drop n o)
-  heads drop n (op.Load i cell spot) = checks drop (instrs.ChkRead cell n) spot n spot.mode tt
-  heads drop n (op.Store i cell spot) = checks drop (instrs.ChkWrite cell n) spot n spot.mode tt
-  heads drop n (op.LoadRef r cell spot) = checks false (instrs.ChkRead cell n) spot n spot.mode tt
-  heads drop n (op.StoreRef r cell spot) = checks false (instrs.ChkWrite cell n) spot n spot.mode tt
-  heads drop n (op.TakeCell r cell spot) = checks false (instrs.ChkWrite cell n) spot n spot.mode tt
-  heads drop n (op.Give r cells spot) = (tt, (tt, tt))
-  heads drop n (op.Free r layout spot) = (tt, tt)
+  heads drop n (Op.Load i cell spot) = checks drop (Instr.ChkRead cell n) spot n spot.mode tt
+  heads drop n (Op.Store i cell spot) = checks drop (Instr.ChkWrite cell n) spot n spot.mode tt
+  heads drop n (Op.LoadRef r cell spot) = checks false (Instr.ChkRead cell n) spot n spot.mode tt
+  heads drop n (Op.StoreRef r cell spot) = checks false (Instr.ChkWrite cell n) spot n spot.mode tt
+  heads drop n (Op.TakeCell r cell spot) = checks false (Instr.ChkWrite cell n) spot n spot.mode tt
+  heads drop n (Op.Give r cells spot) = (tt, (tt, tt))
+  heads drop n (Op.Free r layout spot) = (tt, tt)
   heads drop n _ = tt
 
   owns : (pl : ℕ → ℕ) (n : ℕ) (o : Op) → SpawnMeets Q o → AllSpawn (own (body pl n o))
-  owns pl n op.Enter h = tt
-  owns pl n op.BlockEnd h = tt
-  owns pl n (op.Compute Char operator i a b spot) h = (tt, tt)
-  owns pl n (op.Negate Char i a spot) h = (tt, tt)
-  owns pl n (op.Spawn to function from spot) h = (h, tt)
+  owns pl n Op.Enter h = tt
+  owns pl n Op.BlockEnd h = tt
+  owns pl n (Op.Compute Char operator i a b spot) h = (tt, tt)
+  owns pl n (Op.Negate Char i a spot) h = (tt, tt)
+  owns pl n (Op.Spawn to function from spot) h = (h, tt)
   owns pl n _ h = (tt, tt)
 
   tails : (o : Op) → AllSpawn (tail o)
-  tails (op.LoadRef r cell spot) = (tt, tt)
-  tails (op.StoreRef r cell spot) = (tt, tt)
-  tails (op.Settle x from) = (tt, tt)
+  tails (Op.LoadRef r cell spot) = (tt, tt)
+  tails (Op.StoreRef r cell spot) = (tt, tt)
+  tails (Op.Settle x from) = (tt, tt)
   tails _ = tt
 
   all_lines : (pl : ℕ → ℕ) (drop : ℕ → Bool) (k : ℕ) (lines : List Op) → AllByRecursion (SpawnMeets Q) lines → AllSpawn (expanded pl drop k lines)
@@ -66,11 +56,11 @@ module _ (Q : ℕ → Type 0) where
       (all_lines pl drop (k + 1) os h.1)
 
   -- the instruction of a statement
-  of_statement : (fs : List Row) (i : Instr) (to function site : ℕ) (from : Register) → SpawnsIn i → instr_of fs i ≡ instrs.Spawn to function from site → Q function
-  of_statement fs (instrs.Spawn to' f' from' site') to function site from h e = let same : f' ≡ function = cc in subst Q same h
+  of_statement : (fs : List Row) (i : Instr) (to function site : ℕ) (from : Register) → SpawnsIn i → instr_of fs i ≡ Instr.Spawn to function from site → Q function
+  of_statement fs (Instr.Spawn to' f' from' site') to function site from h e = let same : f' ≡ function = cc in subst Q same h
   of_statement fs _ to function site from h e = absurd (cc)
 
-  at_place : (fs : List Row) (ss : List Instr) (pc to function site : ℕ) (from : Register) → AllSpawn ss → slice_index_or (map (instr_of fs) ss) pc instrs.Exit ≡ instrs.Spawn to function from site → Q function
+  at_place : (fs : List Row) (ss : List Instr) (pc to function site : ℕ) (from : Register) → AllSpawn ss → slice_index_or (map (instr_of fs) ss) pc Instr.Exit ≡ Instr.Spawn to function from site → Q function
   at_place fs [] pc to function site from h e = absurd (cc)
   at_place fs (i ∷ is) zero to function site from h e = of_statement fs i to function site from h.0 e
   at_place fs (i ∷ is) (suc pc) to function site from h e = at_place fs is pc to function site from h.1 e
@@ -80,4 +70,4 @@ spawners law m resolved placed low flat made code is pc to function site from e 
     let Q = IsSpawned m.typed in
     let pl = place (dropped (flat_of flat)) flat.lines.items in
     let statements : AllSpawn Q is.g.statements.items = subst (AllSpawn Q) (sym is.made.statements) (tt, (tt, all_lines Q pl (dropped (flat_of flat)) 0 flat.lines.items (law m resolved placed low flat made))) in
-    at_place Q is.g.functions.items is.g.statements.items pc to function site from statements (sym (ap (λ (ss : List Instr). slice_index_or ss pc instrs.Exit) is.generated.instrs) ∙ e)
+    at_place Q is.g.functions.items is.g.statements.items pc to function site from statements (sym (ap (λ (ss : List Instr). slice_index_or ss pc Instr.Exit) is.generated.instrs) ∙ e)

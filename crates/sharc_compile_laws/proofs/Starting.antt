@@ -1,12 +1,5 @@
 -- `main` and what is spawned may be started: they have one parameter at most, and their results are no references.
-use Rattle.std.proofs.Common.{◌≡◌, ℕ, ⊎_elim, length, sym, ap, ◌∙◌, subst, arith}
-use Rattle.sharc_tree.specs.Tree.{Function}
-use Rattle.sharc_ctype.specs.Reaches.{Spawns}
-use Rattle.sharc_ctype_laws.specs.{Callable.IsThread, Laws.{HasMain, OneFunctionOfName, SpawnsThreads}, Limits.IsMain}
-use Rattle.sharc_mode.specs.Moded.{Assignment}
-use Rattle.sharc_meaning.specs.State.{is_reference}
-use Rattle.sharc_flat.specs.{Correct.MayStart, Flattens.IsMainOf}
-use Rattle.sharc_compile_laws.specs.Started.{ThreadsMayStart}
+use Rattle.sharc_compile_laws.proofs.Imports.{◌≡◌, ℕ, ⊎_elim, length, sym, ap, ◌∙◌, subst, arith, Function, Spawns, IsThread, HasMain, OneFunctionOfName, SpawnsThreads, IsMain, Assignment, is_reference, MayStart, IsMainOf, ThreadsMayStart}
 
 main_may : (m : Assignment) (n : ℕ) (f : Function) → IsMain m.typed n f → MayStart m n
 main_may m n f is =

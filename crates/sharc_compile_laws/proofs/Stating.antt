@@ -1,13 +1,5 @@
 -- The code of a statement: what variables hold is held before it and after it, and nothing else.
-use Rattle.std.proofs.{Common.{◌≡◌, inl, inr, ⊎_elim, ℕ, ◌+◌, ◌<◌, ◌≤◌, Bool, true, false, List, [], ◌∷◌, ◌++◌, length, take, refl, ap, sym, ◌∙◌, subst, arith, length-append, append_assoc, Option, Some, None}, lemmas.Bool.{false≢true, cases_eq}, lemmas.List.{append-nil, take-append-le, take_all, take_at}}
-use Rattle.sharc_tree.specs.{declared.token.Site.Site, declared.tree.declaration.Declaration.Declaration, declared.tree.statement.Jump.Jump, declared.tree.statement.Jump.TheVariants.{Break, Continue}, Spans.span_of, Tree.{Expression, Right, value, malloc, Simple, assign, does_call, Local, First, nothing, declares, does, Statement, empty, block, declare, simple, jump, return, if_then, if_then_else, while, for, Statements, no_statements, statement}}
-use Rattle.sharc_names.specs.Kinds.{Kind, declared_kind}
-use Rattle.sharc_mode.specs.{Cells.pointed, Moded.Assignment, Rows.{written, row_at, declared_row}, Sharings.Sharing}
-use Rattle.sharc_meaning.specs.State.{is_reference}
-use Rattle.sharc_flat.specs.{declared.op.Op.Op, Machine.Flat, declared.slot.Lvalue.Lvalue, declared.slot.Slot.Slot, Scope.{Context, slot_of, ref_count, at_site, ends_from, leaves}, Places.{Target, variable, base_width, index_width, store_code, width_code}, Flattened.{kind_of, is_ref, target_of, mode_of, guard_of, lvalue_in, expression_code, place_code, elements_code, right_code, simple_code, with_variable, ints_of, refs_of, zero_code, initial_code, local_code, first_code, behind_first, step_code, test_code, turn_code, Around, opened, looping, jump_code, result_code, return_code, body_at, turns_code, behind_statement, behind_statements, statement_code, statements_code}, Suits.{Suits, Goes, CountSuits, RightSuits, LeftSuits, SimpleSuits, InitialSuits, FirstSuits, TestSuits, IfThere, StatementSuits, StatementsSuit, is_declaration, in_first, in_statement}}
-use Rattle.sharc_flat.specs.declared.op.Op.TheVariants as op
-use Rattle.sharc_guard.specs.Level.{free, full, Fits, Slots, with_slot, with_moved, result_slot, Enters, Leaves, Level}
-use Rattle.sharc_compile_laws.proofs.{Expressing.{Entries, gives_reference, expressions, places}, Leaving.{kept, leaves_to, ends}, Located.{width, one_more, declared_reference}, Parts.{plain_integer, B, then_do, pre, post, none, does as does_one, keeps, enter, null_at, widths_kept, truths, drops, cells_stored, variable_stored}, Pieces.{Piece, known, moved, joins, line, turned, sides, Inner, always, decided, looped}, Slots.{AreFit, fits_full, fits_free, fit_same, below, below_full, below_free, fit_below, none_cleared, with_same, with_other, pushed}}
+use Rattle.sharc_compile_laws.proofs.{Imports.{◌≡◌, inl, inr, ⊎_elim, ℕ, ◌+◌, ◌<◌, ◌≤◌, Bool, true, false, List, [], ◌∷◌, ◌++◌, length, take, refl, ap, sym, ◌∙◌, subst, arith, length-append, append_assoc, Option, Some, None, false≢true, cases_eq, append-nil, take-append-le, take_all, take_at, Site, Declaration, Jump, Break, Continue, span_of, Expression, Right, value, malloc, Simple, assign, does_call, Local, First, nothing, declares, does, Statement, empty, block, declare, simple, jump, return, if_then, if_then_else, while, for, Statements, no_statements, statement, Kind, declared_kind, pointed, Assignment, written, row_at, declared_row, Sharing, is_reference, Op, Flat, Lvalue, Slot, Context, slot_of, ref_count, at_site, ends_from, leaves, Target, variable, base_width, index_width, store_code, width_code, kind_of, is_ref, target_of, mode_of, guard_of, lvalue_in, expression_code, place_code, elements_code, right_code, simple_code, with_variable, ints_of, refs_of, zero_code, initial_code, local_code, first_code, behind_first, step_code, test_code, turn_code, Around, opened, looping, jump_code, result_code, return_code, body_at, turns_code, behind_statement, behind_statements, statement_code, statements_code, Suits, Goes, CountSuits, RightSuits, LeftSuits, SimpleSuits, InitialSuits, FirstSuits, TestSuits, IfThere, StatementSuits, StatementsSuit, is_declaration, in_first, in_statement, free, full, Fits, Slots, with_slot, with_moved, result_slot, Enters, Leaves, Level}, Expressing.{Entries, gives_reference, expressions, places}, Leaving.{kept, leaves_to, ends}, Located.{width, one_more, declared_reference}, Parts.{plain_integer, B, then_do, pre, post, none, does as does_one, keeps, enter, null_at, widths_kept, truths, drops, cells_stored, variable_stored}, Pieces.{Piece, known, moved, joins, line, turned, sides, Inner, always, decided, looped}, Slots.{AreFit, fits_full, fits_free, fit_same, below, below_full, below_free, fit_below, none_cleared, with_same, with_other, pushed}}
 
 -- ---- scopes
 
@@ -118,7 +110,7 @@ module _ (flat : Flat) (owner : ℕ → ℕ) (f : ℕ) (m : Assignment) where
   lower : (a b d : ℕ) (os : List Op) → a ≤ b → Q b os d → Q a os d
   lower a b d os le p = pre flat owner g f E a b os (below d) le p
 
-  enters : (a b : ℕ) (os : List Op) → Q a os b → Q a (op.Enter ∷ os) b
+  enters : (a b : ℕ) (os : List Op) → Q a os b → Q a (Op.Enter ∷ os) b
   enters a b os p = enter flat owner g f E (below a) os (below b) p
 
   one : (a : ℕ) (o : Op) → ((table : ℕ → Slots) (pc : ℕ) → Enters flat owner g table f (below a) (pc + 1) → Level flat owner g table pc f (below a) o) → Q a (o ∷ []) a
@@ -132,7 +124,7 @@ module _ (flat : Flat) (owner : ℕ → ℕ) (f : ℕ) (m : Assignment) where
 
   -- ---- what is assigned
   counts : (c : Context) → c.program ≡ m → (i r : ℕ) → ref_count c.scope ≤ r → (n : Option Expression) → CountSuits c n → Q r (elements_code c i r n) r
-  counts c same i r le None h = one r (op.Constant i _) (λ table pc z. z)
+  counts c same i r le None h = one r (Op.Constant i _) (λ table pc z. z)
   counts c same i r le (Some n) h = let z = ap width (plain_integer (kind_of c n) h.1) in longer r (r + width (is_ref c n)) r (expression_code c i r n) (omega (arith, z)) (expressions flat owner f m c same i r le n h.0)
 
   rights : (c : Context) → c.program ≡ m → (i r : ℕ) → ref_count c.scope ≤ r → (kind : Kind) (mode : Sharing) (x : Right) → RightSuits c kind mode x → Q r (right_code c i r kind mode x) (r + width (is_reference kind))
@@ -144,9 +136,9 @@ module _ (flat : Flat) (owner : ℕ → ℕ) (f : ℕ) (m : Assignment) where
       let z = ap width h.0 in
       enters r (r + width (is_reference kind)) _
       (joined r r (r + width (is_reference kind)) (elements_code c i r n) _ (counts c same i r le n h.2)
-      (joined r r (r + width (is_reference kind)) (op.ChkPositive i _ ∷ []) (op.New r i _ _ ∷ []) (one r (op.ChkPositive i _) (λ table pc z. z))
-      (longer r (r + 1) (r + width (is_reference kind)) (op.New r i _ _ ∷ []) (omega (arith, z))
-      (does_one flat owner g f E (below r) (op.New r i _ _) (with_slot (below r) r full) (below (r + 1)) (pushed r full) (λ table pc n. (below_free r r (omega arith), n))))))
+      (joined r r (r + width (is_reference kind)) (Op.ChkPositive i _ ∷ []) (Op.New r i _ _ ∷ []) (one r (Op.ChkPositive i _) (λ table pc z. z))
+      (longer r (r + 1) (r + width (is_reference kind)) (Op.New r i _ _ ∷ []) (omega (arith, z))
+      (does_one flat owner g f E (below r) (Op.New r i _ _) (with_slot (below r) r full) (below (r + 1)) (pushed r full) (λ table pc n. (below_free r r (omega arith), n))))))
 
   stored : (c : Context) (i r vi : ℕ) → ref_count c.scope ≤ r → (site : Site) (lvalue : Lvalue) (mode mode2 : Sharing) (kind : Kind) (t : Target) → LeftSuits c kind mode2 t
       → Q (r + base_width t + width (is_reference kind)) (store_code c i r vi (r + base_width t) site lvalue mode (is_reference kind) t) r
@@ -167,7 +159,7 @@ module _ (flat : Flat) (owner : ℕ → ℕ) (f : ℕ) (m : Assignment) where
 
   pub zeros : (b : Bool) (i r : ℕ) → Q r (zero_code b i r) (r + width b)
   zeros true i r = null_at flat owner g f E r
-  zeros false i r = longer r r (r + 0) (op.Constant i _ ∷ []) (omega arith) (one r (op.Constant i _) (λ table pc n. n))
+  zeros false i r = longer r r (r + 0) (Op.Constant i _ ∷ []) (omega arith) (one r (Op.Constant i _) (λ table pc n. n))
 
   initials : (c : Context) → c.program ≡ m → (d : Declaration) (x : Option Right) → InitialSuits c d x → Q (refs_of (with_variable c d)) (initial_code (with_variable c d) d x) (refs_of (with_variable c d))
   initials c same d None h = nothing_at (refs_of (with_variable c d)) (refs_of (with_variable c d)) (omega arith)
@@ -214,8 +206,8 @@ module _ (flat : Flat) (owner : ℕ → ℕ) (f : ℕ) (m : Assignment) where
   at_place : (D : (ℕ → Slots) → Type 0) (from p q : ℕ) (os : List Op) (to : ℕ) → p ≡ q → S D from p os to → S D from q os to
   at_place D from p q os to e x = moved flat owner g f D (below from) p q os (below to) e x
 
-  pub entered : (D : (ℕ → Slots) → Type 0) (from pc to : ℕ) (os : List Op) → S D from (pc + 1) os to → S D from pc (op.Enter ∷ os) to
-  entered D from pc to os p = then_at D from from to pc (op.Enter ∷ []) os (keeps flat owner g f D (below from) op.Enter (λ table q n. n) pc) (at_place D from (pc + 1) (pc + length (op.Enter ∷ [])) os to (omega arith) p)
+  pub entered : (D : (ℕ → Slots) → Type 0) (from pc to : ℕ) (os : List Op) → S D from (pc + 1) os to → S D from pc (Op.Enter ∷ os) to
+  entered D from pc to os p = then_at D from from to pc (Op.Enter ∷ []) os (keeps flat owner g f D (below from) Op.Enter (λ table q n. n) pc) (at_place D from (pc + 1) (pc + length (Op.Enter ∷ [])) os to (omega arith) p)
 
   pub ends_at : (D : (ℕ → Slots) → Type 0) (c d : Context) → Grows c d → (pc : ℕ) → S D (refs_of d) pc (ends_from d.scope (length c.scope)) (refs_of c)
   ends_at D c d x pc =
@@ -224,8 +216,8 @@ module _ (flat : Flat) (owner : ℕ → ℕ) (f : ℕ) (m : Assignment) where
       (λ k le. subst (λ y. Fits y (below (refs_of c) k)) (sym (below_free (refs_of d) k le)) (fits_free (below (refs_of c) k))) pc
 
   -- ---- ways out
-  jump_at : (D : (ℕ → Slots) → Type 0) (n to pc e : ℕ) → ((table : ℕ → Slots) → D table → Enters flat owner g table f (below n) to) → S D n pc (op.Jump to ∷ []) e
-  jump_at D n to pc e h = line flat owner g f D (below n) pc (op.Jump to) (below e) (λ table d own end. h table d)
+  jump_at : (D : (ℕ → Slots) → Type 0) (n to pc e : ℕ) → ((table : ℕ → Slots) → D table → Enters flat owner g table f (below n) to) → S D n pc (Op.Jump to ∷ []) e
+  jump_at D n to pc e h = line flat owner g f D (below n) pc (Op.Jump to) (below e) (λ table d own end. h table d)
 
   left_for : (D : (ℕ → Slots) → Type 0) (c : Context) (marks : List ℕ) (n pc : ℕ) → ref_count (kept c.scope marks) ≡ n → S D (refs_of c) pc (leaves c.scope marks) n
   left_for D c marks n pc e =
@@ -233,8 +225,8 @@ module _ (flat : Flat) (owner : ℕ → ℕ) (f : ℕ) (m : Assignment) where
       (λ k le. subst (λ y. Fits y (below n k)) (sym (below_free (refs_of c) k le)) (fits_free (below n k))) pc
 
   jumps : (c : Context) (b : Bool) (n : ℕ) (a : Around) → IsAround (g f) b n a c.scope → b ≡ true → (j : Jump) (pc e : ℕ) → S (L b n a) (refs_of c) pc (jump_code c a j) e
-  jumps c b n a h sure Break pc e = then_at (L b n a) (refs_of c) n e pc (leaves c.scope a.inside) (op.Jump a.broken ∷ []) (left_for (L b n a) c a.inside n pc (h.inner sure)) (jump_at (L b n a) n a.broken (pc + length (leaves c.scope a.inside)) e (λ table d. (d.1 sure).0))
-  jumps c b n a h sure Continue pc e = then_at (L b n a) (refs_of c) n e pc (leaves c.scope a.inside) (op.Jump a.continued ∷ []) (left_for (L b n a) c a.inside n pc (h.inner sure)) (jump_at (L b n a) n a.continued (pc + length (leaves c.scope a.inside)) e (λ table d. (d.1 sure).1))
+  jumps c b n a h sure Break pc e = then_at (L b n a) (refs_of c) n e pc (leaves c.scope a.inside) (Op.Jump a.broken ∷ []) (left_for (L b n a) c a.inside n pc (h.inner sure)) (jump_at (L b n a) n a.broken (pc + length (leaves c.scope a.inside)) e (λ table d. (d.1 sure).0))
+  jumps c b n a h sure Continue pc e = then_at (L b n a) (refs_of c) n e pc (leaves c.scope a.inside) (Op.Jump a.continued ∷ []) (left_for (L b n a) c a.inside n pc (h.inner sure)) (jump_at (L b n a) n a.continued (pc + length (leaves c.scope a.inside)) e (λ table d. (d.1 sure).1))
 
   -- the result alone is left
   pub result_alone : (b : Bool) → g f ≡ b → (table : ℕ → Slots) → Leaves flat owner g table f (below (width b))
@@ -248,8 +240,8 @@ module _ (flat : Flat) (owner : ℕ → ℕ) (f : ℕ) (m : Assignment) where
       by true k lt = omega (arith, lt)
       by false k lt = omega arith
 
-  return_at : (D : (ℕ → Slots) → Type 0) (b : Bool) (pc e : ℕ) (site : Site) → g f ≡ b → S D (width b) pc (op.Return (at_site site) ∷ []) e
-  return_at D b pc e site is = line flat owner g f D (below (width b)) pc (op.Return (at_site site)) (below e) (λ table d own end. result_alone b is table)
+  return_at : (D : (ℕ → Slots) → Type 0) (b : Bool) (pc e : ℕ) (site : Site) → g f ≡ b → S D (width b) pc (Op.Return (at_site site) ∷ []) e
+  return_at D b pc e site is = line flat owner g f D (below (width b)) pc (Op.Return (at_site site)) (below e) (λ table d own end. result_alone b is table)
 
   -- nothing but the value in this register
   abbrev alone : Bool → ℕ → Slots
@@ -270,15 +262,15 @@ module _ (flat : Flat) (owner : ℕ → ℕ) (f : ℕ) (m : Assignment) where
       one_full : AreFit s (with_slot (below 0) r full)
       one_full = fit_same s
 
-      there : 0 ≡ r → Piece flat owner g f D s pc (op.MoveReference 0 r ∷ []) (below 1)
-      there e = does_one flat owner g f D s (op.MoveReference 0 r) s (below 1)
+      there : 0 ≡ r → Piece flat owner g f D s pc (Op.MoveReference 0 r ∷ []) (below 1)
+      there e = does_one flat owner g f D s (Op.MoveReference 0 r) s (below 1)
           (fit_below 1 s (λ k le. with_other (below 0) r full k (λ z. omega (arith, z, le, e)) ∙ below_free 0 k (omega arith))) (λ table q n. inl (e, n)) pc
 
-      apart : (0 ≡ r → ⊥) → Piece flat owner g f D s pc (op.MoveReference 0 r ∷ []) (below 1)
-      apart other = does_one flat owner g f D s (op.MoveReference 0 r) (with_moved s 0 r) (below 1)
+      apart : (0 ≡ r → ⊥) → Piece flat owner g f D s pc (Op.MoveReference 0 r ∷ []) (below 1)
+      apart other = does_one flat owner g f D s (Op.MoveReference 0 r) (with_moved s 0 r) (below 1)
           (fit_below 1 (with_moved s 0 r) (λ k le. with_other (with_slot s r free) 0 (s r) k (λ z. omega (arith, z, le)) ∙ none_cleared 1 s r (λ j low far. with_other (below 0) r full j far ∙ below_free 0 j (omega arith)) k le))
           (λ table q n. inr (with_other (below 0) r full 0 other ∙ below_free 0 0 (omega arith), other, n)) pc
-  result_at D false i r pc = keeps flat owner g f D (below 0) (op.Move 0 i) (λ table q n. n) pc
+  result_at D false i r pc = keeps flat owner g f D (below 0) (Op.Move 0 i) (λ table q n. n) pc
 
   -- where nothing is known of a loop
   pub lift : (b : Bool) (n : ℕ) (a : Around) (from to : ℕ) (os : List Op) → Q from os to → (pc : ℕ) → S (L b n a) from pc os to
@@ -292,8 +284,8 @@ module _ (flat : Flat) (owner : ℕ → ℕ) (f : ℕ) (m : Assignment) where
       let marks = a.inside ++ a.outside in
       let X = leaves c.scope marks in
       let Z = zero_code r 0 0 in
-      then_at D (refs_of c) 0 to pc X (Z ++ op.Return (at_site site) ∷ []) (left_for D c marks 0 pc h.outer)
-      (then_at D 0 (width r) to (pc + length X) Z (op.Return (at_site site) ∷ []) (lift b n a 0 (width r) Z (longer 0 (0 + width r) (width r) Z (omega arith) (zeros r 0 0)) (pc + length X))
+      then_at D (refs_of c) 0 to pc X (Z ++ Op.Return (at_site site) ∷ []) (left_for D c marks 0 pc h.outer)
+      (then_at D 0 (width r) to (pc + length X) Z (Op.Return (at_site site) ∷ []) (lift b n a 0 (width r) Z (longer 0 (0 + width r) (width r) Z (omega arith) (zeros r 0 0)) (pc + length X))
       (return_at D r (pc + length X + length Z) to site h.result))
   returns c same b n a h site (Some e) k pc to =
       let D = L b n a in
@@ -305,55 +297,55 @@ module _ (flat : Flat) (owner : ℕ → ℕ) (f : ℕ) (m : Assignment) where
       let Z = leaves c.scope marks in
       let R = result_code r (ints_of c) k0 in
       let none_kept = h.outer in
-      then_at D k0 (k0 + width r) to pc X (Y ++ (Z ++ (R ++ op.Return (at_site site) ∷ [])))
+      then_at D k0 (k0 + width r) to pc X (Y ++ (Z ++ (R ++ Op.Return (at_site site) ∷ [])))
       (lift b n a k0 (k0 + width r) X (same_width k0 X (is_ref c e) r k.1.0 k0 (expressions flat owner f m c same (ints_of c) k0 (omega arith) e k.0)) pc)
-      (then_at D (k0 + width r) (k0 + width r) to (pc + length X) Y (Z ++ (R ++ op.Return (at_site site) ∷ [])) (widths_kept flat owner g f D (below (k0 + width r)) (ints_of c) a.result (span_of e).first (pc + length X))
-      (joins flat owner g f D (below (k0 + width r)) (alone r k0) (below to) (pc + length X + length Y) Z (R ++ op.Return (at_site site) ∷ [])
+      (then_at D (k0 + width r) (k0 + width r) to (pc + length X) Y (Z ++ (R ++ Op.Return (at_site site) ∷ [])) (widths_kept flat owner g f D (below (k0 + width r)) (ints_of c) a.result (span_of e).first (pc + length X))
+      (joins flat owner g f D (below (k0 + width r)) (alone r k0) (below to) (pc + length X + length Y) Z (R ++ Op.Return (at_site site) ∷ [])
       (leaves_to flat owner g f D (below (k0 + width r)) (alone r k0) c.scope marks (λ j lt. absurd (omega (arith, lt, none_kept))) (λ j le. alone_high r k0 j le) (pc + length X + length Y))
-      (joins flat owner g f D (alone r k0) (below (width r)) (below to) (pc + length X + length Y + length Z) R (op.Return (at_site site) ∷ []) (result_at D r (ints_of c) k0 (pc + length X + length Y + length Z))
+      (joins flat owner g f D (alone r k0) (below (width r)) (below to) (pc + length X + length Y + length Z) R (Op.Return (at_site site) ∷ []) (result_at D r (ints_of c) k0 (pc + length X + length Y + length Z))
       (return_at D r (pc + length X + length Y + length Z + length R) to site h.result))))
 
   -- ---- loops
 
   test_length : (c : Context) (e : Expression) (over : ℕ) → length (turn_code c (Some e) over) ≡ length (test_code c e) + 1
-  test_length c e over = length-append (test_code c e) (op.SkipIfZero (ints_of c) over ∷ [])
+  test_length c e over = length-append (test_code c e) (Op.SkipIfZero (ints_of c) over ∷ [])
 
   -- of the code in a loop what leads back is known, too
   abbrev M : ℕ → Around → ℕ → (ℕ → Slots) → Type 0
   M n a pc table = L true n a table × Enters flat owner g table f (below n) (pc + 3)
 
-  back : (n : ℕ) (a : Around) (pc at : ℕ) (step : List Op) → Q n step n → S (M n a pc) n at (step ++ op.Jump (pc + 3) ∷ []) n
+  back : (n : ℕ) (a : Around) (pc at : ℕ) (step : List Op) → Q n step n → S (M n a pc) n at (step ++ Op.Jump (pc + 3) ∷ []) n
   back n a pc at step p =
-      then_at (M n a pc) n n n at step (op.Jump (pc + 3) ∷ []) (known flat owner g f E (M n a pc) (below n) at step (below n) (λ table d. d.0.0) (p at)) (jump_at (M n a pc) n (pc + 3) (at + length step) n (λ table d. d.1))
+      then_at (M n a pc) n n n at step (Op.Jump (pc + 3) ∷ []) (known flat owner g f E (M n a pc) (below n) at step (below n) (λ table d. d.0.0) (p at)) (jump_at (M n a pc) n (pc + 3) (at + length step) n (λ table d. d.1))
 
   inner_of : (c : Context) → c.program ≡ m → (a : Around) (e : Option Expression) → IfThere (TestSuits c) e → (pc : ℕ) (step code : List Op) → Q (refs_of c) step (refs_of c) → S (L true (refs_of c) a) (refs_of c) (body_at pc (turn_code c e)) code (refs_of c)
-      → Inner flat owner g f (M (refs_of c) a pc) (below (refs_of c)) (pc + 3) (turn_code c e (length code + length step + 1)) code (step ++ op.Jump (pc + 3) ∷ [])
+      → Inner flat owner g f (M (refs_of c) a pc) (below (refs_of c)) (pc + 3) (turn_code c e (length code + length step + 1)) code (step ++ Op.Jump (pc + 3) ∷ [])
   inner_of c same a None t pc step code p q =
       let n = refs_of c in
       let D = M n a pc in
       let body = known flat owner g f (L true n a) D (below n) (pc + 3) code (below n) (λ table d. d.0) (at_place (L true n a) n (body_at pc (turn_code c None)) (pc + 3) code n (omega arith) q) in
-      always flat owner g f D (below n) (pc + 3) code (step ++ op.Jump (pc + 3) ∷ []) body (back n a pc (pc + 3 + length code) step p)
+      always flat owner g f D (below n) (pc + 3) code (step ++ Op.Jump (pc + 3) ∷ []) body (back n a pc (pc + 3 + length code) step p)
   inner_of c same a (Some e) t pc step code p q =
       let n = refs_of c in
       let D = M n a pc in
       let X = test_code c e in
-      let S = step ++ op.Jump (pc + 3) ∷ [] in
+      let S = step ++ Op.Jump (pc + 3) ∷ [] in
       let at = pc + 3 + length X + 1 in
       let z : body_at pc (turn_code c (Some e)) ≡ at = omega (arith, test_length c e 0) in
       let body = known flat owner g f (L true n a) D (below n) at code (below n) (λ table d. d.0) (at_place (L true n a) n (body_at pc (turn_code c (Some e))) at code n z q) in
       let test = known flat owner g f E D (below n) (pc + 3) X (below n) (λ table d. d.0.0) (tests c same e t (pc + 3)) in
-      let count : length (code ++ S) ≡ length code + length step + 1 = omega (arith, length-append code S, length-append step (op.Jump (pc + 3) ∷ [])) in
-      subst (λ k. Inner flat owner g f D (below n) (pc + 3) (X ++ op.SkipIfZero (ints_of c) k ∷ []) code S) count
+      let count : length (code ++ S) ≡ length code + length step + 1 = omega (arith, length-append code S, length-append step (Op.Jump (pc + 3) ∷ [])) in
+      subst (λ k. Inner flat owner g f D (below n) (pc + 3) (X ++ Op.SkipIfZero (ints_of c) k ∷ []) code S) count
       (decided flat owner g f D (below n) (pc + 3) (ints_of c) X code S test body (back n a pc (at + length code) step p))
 
   loops : (c : Context) → c.program ≡ m → (b : Bool) (n : ℕ) (a around : Around) (e : Option Expression) → IfThere (TestSuits c) e → (pc : ℕ) (step code : List Op) → Q (refs_of c) step (refs_of c)
       → S (L true (refs_of c) (looping around (pc + 1) (pc + 2))) (refs_of c) (body_at pc (turn_code c e)) code (refs_of c) → S (L b n a) (refs_of c) pc (turns_code pc step (turn_code c e (length code + length step + 1)) code) (refs_of c)
   loops c same b n a around e t pc step code p q =
       let T = turn_code c e (length code + length step + 1) in
-      let S = step ++ op.Jump (pc + 3) ∷ [] in
+      let S = step ++ Op.Jump (pc + 3) ∷ [] in
       let k = refs_of c in
       let inside = looping around (pc + 1) (pc + 2) in
-      looped flat owner g f (L b n a) (M k inside pc) (below k) pc T code S (length T + length code + length step + 2) (λ table d e1 e2 e3. ((d.0, λ sure. (e1, e2)), e3)) (omega (arith, length-append step (op.Jump (pc + 3) ∷ [])))
+      looped flat owner g f (L b n a) (M k inside pc) (below k) pc T code S (length T + length code + length step + 2) (λ table d e1 e2 e3. ((d.0, λ sure. (e1, e2)), e3)) (omega (arith, length-append step (Op.Jump (pc + 3) ∷ [])))
       (inner_of c same inside e t pc step code p q)
 
   plain_end : (D : (ℕ → Slots) → Type 0) (c : Context) (x : Statement) → is_declaration x ≡ false → (pc : ℕ) (os : List Op) → S D (refs_of c) pc os (refs_of (behind_statement c x)) → S D (refs_of c) pc os (refs_of c)
@@ -367,11 +359,11 @@ module _ (flat : Flat) (owner : ℕ → ℕ) (f : ℕ) (m : Assignment) where
         let d = behind_statements c all in
         let X = statements_code c (opened c a) (pc + 1) all in
         let Y = ends_from d.scope (length c.scope) in
-        entered D (refs_of c) pc (refs_of c) ((X ++ Y) ++ op.BlockEnd ∷ [])
-        (then_at D (refs_of c) (refs_of c) (refs_of c) (pc + 1) (X ++ Y) (op.BlockEnd ∷ [])
+        entered D (refs_of c) pc (refs_of c) ((X ++ Y) ++ Op.BlockEnd ∷ [])
+        (then_at D (refs_of c) (refs_of c) (refs_of c) (pc + 1) (X ++ Y) (Op.BlockEnd ∷ [])
         (then_at D (refs_of c) (refs_of d) (refs_of c) (pc + 1) X Y (known flat owner g f (L b n (opened c a)) D (below (refs_of c)) (pc + 1) X (below (refs_of d)) (λ table k. k)
         (all_statements c same b n (opened c a) (opened_around (g f) b n a c w) (omega arith) (pc + 1) all h)) (ends_at D c d (all_grow c all) (pc + 1 + length X)))
-        (keeps flat owner g f D (below (refs_of c)) op.BlockEnd (λ table q z. z) (pc + 1 + length (X ++ Y))))
+        (keeps flat owner g f D (below (refs_of c)) Op.BlockEnd (λ table q z. z) (pc + 1 + length (X ++ Y))))
     statements c same b n a w pc (declare s l) h = entered (L b n a) (refs_of c) pc (refs_of (with_variable c l.declaration)) (local_code c l) (lift b n a (refs_of c) (refs_of (with_variable c l.declaration)) (local_code c l) (locals c same l h) (pc + 1))
     statements c same b n a w pc (simple s x) h = entered (L b n a) (refs_of c) pc (refs_of c) (simple_code c (ints_of c) (refs_of c) x) (lift b n a (refs_of c) (refs_of c) (simple_code c (ints_of c) (refs_of c) x) (simples c same (ints_of c) (refs_of c) (omega arith) x h) (pc + 1))
     statements c same b n a w pc (jump s j) h = entered (L b n a) (refs_of c) pc (refs_of c) (jump_code c a j) (jumps c b n a w h j (pc + 1) (refs_of c))
@@ -393,7 +385,7 @@ module _ (flat : Flat) (owner : ℕ → ℕ) (f : ℕ) (m : Assignment) where
         let X = statement_code c a at x in
         let at2 = at + length X + 1 in
         let Y = statement_code c a at2 y in
-        entered D k pc k (turn_code c (Some e) (length X + 1) ++ (X ++ (op.Skip (length Y) ∷ Y)))
+        entered D k pc k (turn_code c (Some e) (length X + 1) ++ (X ++ (Op.Skip (length Y) ∷ Y)))
         (sides flat owner g f D (below k) (below k) (below k) (pc + 1) (ints_of c) T X Y (fit_same (below k)) (lift b n a k k T (tests c same e h.0) (pc + 1))
         (at_place D k at (pc + 1 + length T + 1) X k (omega (arith, test_length c e 0)) (plain_end D c x h.3 at X (statements c same b n a w at x h.1)))
         (at_place D k at2 (pc + 1 + length T + 1 + length X + 1) Y k (omega (arith, test_length c e 0)) (plain_end D c y h.4 at2 Y (statements c same b n a w at2 y h.2))))

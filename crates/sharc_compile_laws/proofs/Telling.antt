@@ -1,16 +1,5 @@
 -- What the threads of a run report, among the events of all threads.
-use Rattle.std.proofs.{Common.{◌≡◌, ℕ, ℤ, zero, suc, ◌+◌, ◌<◌, inl, inr, ⊎_elim, Bool, true, false, cond, List, [], ◌∷◌, ◌++◌, length, map, reverse, refl, sym, ap, ◌∙◌, subst, arith, slice_get}, lemmas.Bool.Decides.nat_tests, lemmas.List.{append-nil, reverse-reverse}, lemmas.List.Elements.filter-append}
-use Rattle.std.specs.Prelude.{◌==◌, nat_eq, filter, slice_index_or}
-use Rattle.sharc_tree.specs.{declared.event.SourceEvent.SourceEvent, Tree.Function}
-use Rattle.sharc_ctype.specs.Resolved.{function_at, functions_in}
-use Rattle.sharc_mode.specs.Moded.{Assignment}
-use Rattle.sharc_meaning.specs.{Events.{events_of, is_of}, Meaning.asks, Runs.{IsNamedAt, answers_of, by}}
-use Rattle.sharc_code.specs.{declared.code.Code.Code, declared.code.Function.{Function as Row}, declared.code.GlobalCells.GlobalCells, Machine.no_function, Runs.{Said, said_by}, Whole.Erase}
-use Rattle.sharc_flat.specs.{declared.flat.Flat.{Flat as FlatCode}, Made.flat_of, Flattened.{function_code, rows_of}, Flattens.{names_of, Flattens}, Laid.AreNamed, Tables.globals_of}
-use Rattle.sharc_guard.specs.{Guard.{entered_at, place}, Known.dropped}
-use Rattle.sharc_compile.specs.{Correct.begins, Generated.program_of, OfRuns.told_in, Made.IsCodeOf, Runs.RunsFollowSource, Source.FollowsSource}
-use Rattle.sharc_compile_laws.specs.Threads.{TellsIn, ThreadsTell}
-use Rattle.sharc_lemmas.proofs.Lists.{reverse_cons}
+use Rattle.sharc_compile_laws.proofs.Imports.{◌≡◌, ℕ, ℤ, zero, suc, ◌+◌, ◌<◌, inl, inr, ⊎_elim, Bool, true, false, cond, List, [], ◌∷◌, ◌++◌, length, map, reverse, refl, sym, ap, ◌∙◌, subst, arith, slice_get, nat_tests, append-nil, reverse-reverse, filter-append, ◌==◌, nat_eq, filter, slice_index_or, SourceEvent, Function, function_at, functions_in, Assignment, events_of, is_of, asks, IsNamedAt, answers_of, by, Code, Row, GlobalCells, no_function, Said, said_by, Erase, FlatCode, flat_of, function_code, rows_of, names_of, Flattens, AreNamed, globals_of, entered_at, place, dropped, begins, program_of, told_in, IsCodeOf, RunsFollowSource, FollowsSource, TellsIn, ThreadsTell, reverse_cons}
 
 -- ---- lists
 filter_reverse : (f : SourceEvent → Bool) (xs : List SourceEvent) → filter f (reverse xs) ≡ reverse (filter f xs)

@@ -1,17 +1,6 @@
 -- What is known of integer registers holds on all paths, so the mutexes of accesses are named.
-use Rattle.std.specs.Prelude.{ℤ, pos, negsuc, Result, Ok, Err, slice_get}
-use Rattle.std.proofs.{Common.{◌≡◌, ◌⊎◌, inl, inr, ⊎_elim, ℕ, zero, suc, ◌+◌, ◌-◌, ◌*◌, ◌<◌, ◌≤◌, Bool, true, false, not, cond, List, [], ◌∷◌, length, refl, ap, sym, ◌∙◌, subst, arith, eq-eqb, ne_eqb, Option, Some, None, nat_lt}, lemmas.Bool.false≢true}
-use Rattle.sharc_tree.specs.{declared.event.Act.Act, declared.token.Site.Site, declared.trap.Trap.Trap}
-use Rattle.sharc_tree.specs.declared.trap.Trap.TheVariants as traps
-use Rattle.sharc_code.specs.declared.code.Parameter.{Parameter}
-use Rattle.sharc_code.specs.declared.code.Parameter.TheVariants as parameters
-use Rattle.sharc_code.specs.declared.instr.Cell.TheVariants as cells
-use Rattle.sharc_code.specs.declared.instr.Register.TheVariants as registers
-use Rattle.sharc_meaning.specs.{Reference.{is_null, elements_of}, Arithmetic.is_zero, Events.held_mutexes}
-use Rattle.sharc_flat.specs.{declared.op.Op.Op, declared.op.Spot.Spot, Machine.{Flat, At, Caller, Turn, goes, asks, stops, over_lines, first_at, put, int, ref, set_int, next, asserts, with_result, lock_is_null, indexed, takes_local, moved, function_of, called, returned, begun, start, end_turn, op_turn, line_turn}, Path.{after, may_go, at_after, IsPath}}
-use Rattle.sharc_flat.specs.declared.op.Op.TheVariants as op
-use Rattle.sharc_guard.specs.Counted.{LocksStand}
-use Rattle.sharc_compile_laws.proofs.Ties.{Tie, copied, scaled, beside, register_in, Holds, Ties, In, Fit, Apart, Kept, Copied, IsFirst, IsSecond, Bounded, Called, AllHold, Next, Needs}
+use Rattle.sharc_compile_laws.proofs.{Imports.{ℤ, pos, negsuc, Result, Ok, Err, slice_get, ◌≡◌, ◌⊎◌, inl, inr, ⊎_elim, ℕ, zero, suc, ◌+◌, ◌-◌, ◌*◌, ◌<◌, ◌≤◌, Bool, true, false, not, cond, List, [], ◌∷◌, length, refl, ap, sym, ◌∙◌, subst, arith, eq-eqb, ne_eqb, Option, Some, None, nat_lt, false≢true, Act, Site, Trap, Parameter, Cell, Register, is_null, elements_of, is_zero, held_mutexes, Op, Spot, Flat, At, Caller, Turn, goes, stops, over_lines, first_at, put, int, ref, set_int, next, asserts, with_result, lock_is_null, indexed, takes_local, moved, function_of, called, returned, begun, start, end_turn, op_turn, line_turn, after, may_go, at_after, IsPath, LocksStand}, Ties.{Tie, copied, scaled, beside, register_in, Holds, Ties, In, Fit, Apart, Kept, Copied, IsFirst, IsSecond, Bounded, Called, AllHold, Next, Needs}}
+use Rattle.sharc_flat.specs.Machine.{asks}
 
 put_same : (bank : ℕ → ℤ) (r : ℕ) (v : ℤ) → put bank r v r ≡ v
 put_same bank r v = ap (λ b. cond b v (bank r)) (eq-eqb r r refl)
@@ -133,7 +122,7 @@ module _ (flat : Flat) (table : ℕ → Ties) (last : (q : ℕ) → length flat.
 
   bounded : (i cells n elements : ℕ) (spot : Spot) (m : At) (x : ℤ) (v : ℤ) → int m i ≡ v → Bounded (table m.pc) i cells n (table (m.pc + 1)) → IsTied m → Tied m (indexed i cells n v elements spot m) x
   bounded i cells n elements spot m x (negsuc k) is known h go = absurd (false≢true go)
-  bounded i cells n elements spot m x (pos k) is known h go = tried (nat_lt k elements) m (next (set_int i (pos (k * cells + n)) m)) x traps.IndexOutOfBounds spot (indexed_to i cells n m k is known h) go
+  bounded i cells n elements spot m x (pos k) is known h go = tried (nat_lt k elements) m (next (set_int i (pos (k * cells + n)) m)) x Trap.IndexOutOfBounds spot (indexed_to i cells n m k is known h) go
 
   taken : (b : Bool) (r y : ℕ) (spot : Spot) (m : At) (x : ℤ) → Fit (table m.pc) (table (m.pc + 1)) → IsTied m → Tied m (takes_local r y spot m b) x
   taken true r y spot m x fit h go = leaves m (next (moved r y m)) refl refl (λ k. refl) fit h
@@ -142,7 +131,7 @@ module _ (flat : Flat) (table : ℕ → Ties) (last : (q : ℕ) → length flat.
   back : (frames : List Caller) (spot : Spot) (m : At) (x : ℤ) → Below m.int_base m.ints frames → IsTied m → Tied m (returned flat frames spot m) x
   unfolding Below
   back [] spot m x b h go =
-      tried (not (nat_lt 0 (length (held_mutexes m.events)))) m (record m { pc = length flat.lines }) x traps.ReturnWithLockHeld spot
+      tried (not (nat_lt 0 (length (held_mutexes m.events)))) m (record m { pc = length flat.lines }) x Trap.ReturnWithLockHeld spot
       (record { holds = λ t y. absurd (subst (λ z. In z t) (last (length flat.lines) (omega arith)) y); below = h.below }) go
   back (c ∷ rest) spot m x b h go = record { holds = λ t y. (b.0 t y).1; below = b.2 }
 
@@ -154,48 +143,48 @@ module _ (flat : Flat) (table : ℕ → Ties) (last : (q : ℕ) → length flat.
   }
 
   op_tied : (o : Op) (m : At) → Next flat table m.pc (table m.pc) o → IsTied m → (x : ℤ) → Tied m (op_turn flat o m) x
-  op_tied op.Enter m n h x go = leaves m (next m) refl refl (λ k. refl) n h
-  op_tied (op.Constant i v) m n h x go = set_to i v m n h
-  op_tied (op.Move i from) m n h x go = copied_to i from m n h
-  op_tied (op.Compute width o i a b spot) m n h x go = resulted i spot m _ x n h go
-  op_tied (op.Negate width i a spot) m n h x go = resulted i spot m _ x n h go
-  op_tied (op.Complement i a) m n h x go = set_to i _ m n h
-  op_tied (op.IsFalse i a) m n h x go = set_to i _ m n h
-  op_tied (op.SameReference i a b) m n h x go = set_to i _ m n h
-  op_tied (op.ChkWidth width i spot) m n h x go = asserted _ _ spot m x n h go
-  op_tied (op.Skip k) m n h x go = leaves m (after m (op_turn flat (op.Skip k) m) x) refl refl (λ k. refl) n h
-  op_tied (op.SkipIfZero i k) m n h x go = by (is_zero (int m i))
+  op_tied Op.Enter m n h x go = leaves m (next m) refl refl (λ k. refl) n h
+  op_tied (Op.Constant i v) m n h x go = set_to i v m n h
+  op_tied (Op.Move i from) m n h x go = copied_to i from m n h
+  op_tied (Op.Compute width o i a b spot) m n h x go = resulted i spot m _ x n h go
+  op_tied (Op.Negate width i a spot) m n h x go = resulted i spot m _ x n h go
+  op_tied (Op.Complement i a) m n h x go = set_to i _ m n h
+  op_tied (Op.IsFalse i a) m n h x go = set_to i _ m n h
+  op_tied (Op.SameReference i a b) m n h x go = set_to i _ m n h
+  op_tied (Op.ChkWidth width i spot) m n h x go = asserted _ _ spot m x n h go
+  op_tied (Op.Skip k) m n h x go = leaves m (after m (op_turn flat (Op.Skip k) m) x) refl refl (λ k. refl) n h
+  op_tied (Op.SkipIfZero i k) m n h x go = by (is_zero (int m i))
     where
       by : (b : Bool) → IsTied (cond b (over_lines k m) (next m))
       by true = leaves m (over_lines k m) refl refl (λ k. refl) n.0 h
       by false = leaves m (next m) refl refl (λ k. refl) n.1 h
-  op_tied (op.SkipIfNull r k) m n h x go = by (is_null (ref m r))
+  op_tied (Op.SkipIfNull r k) m n h x go = by (is_null (ref m r))
     where
       by : (b : Bool) → IsTied (cond b (over_lines k m) (next m))
       by true = leaves m (over_lines k m) refl refl (λ k. refl) n.0 h
       by false = leaves m (next m) refl refl (λ k. refl) n.1 h
-  op_tied (op.Jump to) m n h x go = leaves m (record m { pc = to }) refl refl (λ k. refl) n h
-  op_tied (op.Call f ints refs spot) m n h x go = tried (nat_lt (length m.frames) 255) m (called flat f ints refs m) x traps.CallDepth spot (called_to f ints refs m n.0 n.1 h) go
-  op_tied (op.Return spot) m n h x go = back m.frames spot m x h.below h go
-  op_tied op.BlockEnd m n h x go = leaves m (next m) refl refl (λ k. refl) n h
-  op_tied (op.ChkNull r spot) m n h x go = asserted _ _ spot m x n h go
-  op_tied (op.ChkPositive i spot) m n h x go = asserted _ _ spot m x n h go
-  op_tied (op.ChkHeld cell spot) m n h x go = asserted _ _ spot m x n h go
-  op_tied (op.ChkNotHeld cell spot) m n h x go = asserted _ _ spot m x n h go
-  op_tied (op.ChkRoom spot) m n h x go = asserted _ _ spot m x n h go
-  op_tied (op.Bounds i r cells k spot) m n h x go = bounded i cells k (elements_of (ref m r)) spot m x (int m i) refl n h go
-  op_tied (op.GlobalBounds i elements cells k spot) m n h x go = bounded i cells k elements spot m x (int m i) refl n h go
-  op_tied (op.Load i cell spot) m n h x go = asked (lock_is_null m spot spot.mode) m x traps.NullPointer spot m spot.site _ (pos 0) _ (keeps m _ i refl refl (λ k other. put_other m.ints (m.int_base + i) _ k other) n h) go
-  op_tied (op.Store i cell spot) m n h x go = asked (lock_is_null m spot spot.mode) m x traps.NullPointer spot m spot.site _ (pos 0) _ (leaves m _ refl refl (λ k. refl) n h) go
-  op_tied (op.LoadRef r cell spot) m n h x go = asked (lock_is_null m spot spot.mode) m x traps.NullPointer spot m spot.site _ (pos 0) _ (leaves m _ refl refl (λ k. refl) n h) go
-  op_tied (op.StoreRef r cell spot) m n h x go = asked (lock_is_null m spot spot.mode) m x traps.NullPointer spot m spot.site _ (pos 0) _ (leaves m _ refl refl (λ k. refl) n h) go
-  op_tied (op.New r count cells spot) m n h x go = leaves m (after m (op_turn flat (op.New r count cells spot) m) x) refl refl (λ k. refl) n h
-  op_tied (op.TakeCell r cell spot) m n h x go = asked (lock_is_null m spot spot.mode) m x traps.NullPointer spot m spot.site _ (pos 0) _ (leaves m _ refl refl (λ k. refl) n h) go
-  op_tied (op.TakeLocal r y spot) m n h x go = taken (is_null (ref m y)) r y spot m x n h go
-  op_tied (op.Give r cells spot) m n h x go = leaves m (after m (op_turn flat (op.Give r cells spot) m) x) refl refl (λ k. refl) n h
-  op_tied (op.Lock (cells.Object r k) spot) m n h x go = leaves m (after m (op_turn flat (op.Lock (cells.Object r k) spot) m) x) refl refl (λ k. refl) n h
-  op_tied (op.Spawn i f (registers.Int j) spot) m n h x go = keeps m (after m (op_turn flat (op.Spawn i f (registers.Int j) spot) m) x) i refl refl (λ k other. put_other m.ints (m.int_base + i) _ k other) n h
-  op_tied (op.Spawn i f (registers.Reference r) spot) m n h x go = keeps m (after m (op_turn flat (op.Spawn i f (registers.Reference r) spot) m) x) i refl refl (λ k other. put_other m.ints (m.int_base + i) _ k other) n h
+  op_tied (Op.Jump to) m n h x go = leaves m (record m { pc = to }) refl refl (λ k. refl) n h
+  op_tied (Op.Call f ints refs spot) m n h x go = tried (nat_lt (length m.frames) 255) m (called flat f ints refs m) x Trap.CallDepth spot (called_to f ints refs m n.0 n.1 h) go
+  op_tied (Op.Return spot) m n h x go = back m.frames spot m x h.below h go
+  op_tied Op.BlockEnd m n h x go = leaves m (next m) refl refl (λ k. refl) n h
+  op_tied (Op.ChkNull r spot) m n h x go = asserted _ _ spot m x n h go
+  op_tied (Op.ChkPositive i spot) m n h x go = asserted _ _ spot m x n h go
+  op_tied (Op.ChkHeld cell spot) m n h x go = asserted _ _ spot m x n h go
+  op_tied (Op.ChkNotHeld cell spot) m n h x go = asserted _ _ spot m x n h go
+  op_tied (Op.ChkRoom spot) m n h x go = asserted _ _ spot m x n h go
+  op_tied (Op.Bounds i r cells k spot) m n h x go = bounded i cells k (elements_of (ref m r)) spot m x (int m i) refl n h go
+  op_tied (Op.GlobalBounds i elements cells k spot) m n h x go = bounded i cells k elements spot m x (int m i) refl n h go
+  op_tied (Op.Load i cell spot) m n h x go = asked (lock_is_null m spot spot.mode) m x Trap.NullPointer spot m spot.site _ (pos 0) _ (keeps m _ i refl refl (λ k other. put_other m.ints (m.int_base + i) _ k other) n h) go
+  op_tied (Op.Store i cell spot) m n h x go = asked (lock_is_null m spot spot.mode) m x Trap.NullPointer spot m spot.site _ (pos 0) _ (leaves m _ refl refl (λ k. refl) n h) go
+  op_tied (Op.LoadRef r cell spot) m n h x go = asked (lock_is_null m spot spot.mode) m x Trap.NullPointer spot m spot.site _ (pos 0) _ (leaves m _ refl refl (λ k. refl) n h) go
+  op_tied (Op.StoreRef r cell spot) m n h x go = asked (lock_is_null m spot spot.mode) m x Trap.NullPointer spot m spot.site _ (pos 0) _ (leaves m _ refl refl (λ k. refl) n h) go
+  op_tied (Op.New r count cells spot) m n h x go = leaves m (after m (op_turn flat (Op.New r count cells spot) m) x) refl refl (λ k. refl) n h
+  op_tied (Op.TakeCell r cell spot) m n h x go = asked (lock_is_null m spot spot.mode) m x Trap.NullPointer spot m spot.site _ (pos 0) _ (leaves m _ refl refl (λ k. refl) n h) go
+  op_tied (Op.TakeLocal r y spot) m n h x go = taken (is_null (ref m y)) r y spot m x n h go
+  op_tied (Op.Give r cells spot) m n h x go = leaves m (after m (op_turn flat (Op.Give r cells spot) m) x) refl refl (λ k. refl) n h
+  op_tied (Op.Lock (Cell.Object r k) spot) m n h x go = leaves m (after m (op_turn flat (Op.Lock (Cell.Object r k) spot) m) x) refl refl (λ k. refl) n h
+  op_tied (Op.Spawn i f (Register.Int j) spot) m n h x go = keeps m (after m (op_turn flat (Op.Spawn i f (Register.Int j) spot) m) x) i refl refl (λ k other. put_other m.ints (m.int_base + i) _ k other) n h
+  op_tied (Op.Spawn i f (Register.Reference r) spot) m n h x go = keeps m (after m (op_turn flat (Op.Spawn i f (Register.Reference r) spot) m) x) i refl refl (λ k other. put_other m.ints (m.int_base + i) _ k other) n h
   op_tied j m n h x go = leaves m (after m (op_turn flat j m) x) refl refl (λ k. refl) n h
 
   -- ---- paths
@@ -225,7 +214,7 @@ module _ (flat : Flat) (table : ℕ → Ties) (last : (q : ℕ) → length flat.
 
     begun_tied : (f : ℕ) (v : ℤ) (p : Parameter) → IsTied (begun p v (first_at flat f))
     unfolding Below
-    begun_tied f v parameters.Int = record { holds = λ t y. absurd (subst (λ z. In z t) (begins f) y); below = tt }
+    begun_tied f v Parameter.Int = record { holds = λ t y. absurd (subst (λ z. In z t) (begins f) y); below = tt }
     begun_tied f v _ = record { holds = λ t y. absurd (subst (λ z. In z t) (begins f) y); below = tt }
 
     pub locks_stand : LocksStand flat

@@ -1,9 +1,5 @@
 -- Integer registers that name two cells of one element: the one that is accessed, and that of the mutex beside it.
-use Rattle.std.specs.Prelude.{ℤ, pos}
-use Rattle.std.proofs.Common.{◌≡◌, ◌⊎◌, inl, ℕ, ◌+◌, ◌*◌, ◌<◌, List, [], ◌∷◌, refl}
-use Rattle.sharc_flat.specs.{declared.op.Op.Op, Machine.{Flat, At, function_of}}
-use Rattle.sharc_flat.specs.declared.op.Op.TheVariants as op
-use Rattle.sharc_guard.specs.Counted.{LockStands}
+use Rattle.sharc_compile_laws.proofs.Imports.{ℤ, pos, ◌≡◌, ◌⊎◌, inl, ℕ, ◌+◌, ◌*◌, ◌<◌, List, [], ◌∷◌, refl, Op, Flat, At, function_of, LockStands}
 
 -- what is known of a register and the one after it: they hold the same; the first the place of a field of an element, the next the element's number; or both the places
 -- of fields of one element
@@ -82,23 +78,23 @@ module _ (flat : Flat) where
   AllHold s m = (x : Tie) → In s x → Holds x (λ k. m.ints (m.int_base + k))
 
   abbrev pub Next : (ℕ → Ties) → ℕ → Ties → Op → Type 0
-  Next table pc s (op.Constant i v) = Kept s i (table (pc + 1))
-  Next table pc s (op.Move i from) = Copied s i from (table (pc + 1))
-  Next table pc s (op.Compute width o i a b spot) = Kept s i (table (pc + 1))
-  Next table pc s (op.Negate width i a spot) = Kept s i (table (pc + 1))
-  Next table pc s (op.Complement i a) = Kept s i (table (pc + 1))
-  Next table pc s (op.IsFalse i a) = Kept s i (table (pc + 1))
-  Next table pc s (op.SameReference i a b) = Kept s i (table (pc + 1))
-  Next table pc s (op.Skip n) = Fit s (table (pc + 1 + n))
-  Next table pc s (op.SkipIfZero i n) = Fit s (table (pc + 1 + n)) × Fit s (table (pc + 1))
-  Next table pc s (op.SkipIfNull r n) = Fit s (table (pc + 1 + n)) × Fit s (table (pc + 1))
-  Next table pc s (op.Jump to) = Fit s (table to)
-  Next table pc s (op.Call f ints refs spot) = (table (function_of flat f).entry ≡ []) × Called s ints (table (pc + 1))
-  Next table pc s (op.Return spot) = Unit {0}
-  Next table pc s (op.Bounds i r cells n spot) = Bounded s i cells n (table (pc + 1))
-  Next table pc s (op.GlobalBounds i elements cells n spot) = Bounded s i cells n (table (pc + 1))
-  Next table pc s (op.Load i cell spot) = Kept s i (table (pc + 1))
-  Next table pc s (op.Spawn i f from spot) = Kept s i (table (pc + 1))
+  Next table pc s (Op.Constant i v) = Kept s i (table (pc + 1))
+  Next table pc s (Op.Move i from) = Copied s i from (table (pc + 1))
+  Next table pc s (Op.Compute width o i a b spot) = Kept s i (table (pc + 1))
+  Next table pc s (Op.Negate width i a spot) = Kept s i (table (pc + 1))
+  Next table pc s (Op.Complement i a) = Kept s i (table (pc + 1))
+  Next table pc s (Op.IsFalse i a) = Kept s i (table (pc + 1))
+  Next table pc s (Op.SameReference i a b) = Kept s i (table (pc + 1))
+  Next table pc s (Op.Skip n) = Fit s (table (pc + 1 + n))
+  Next table pc s (Op.SkipIfZero i n) = Fit s (table (pc + 1 + n)) × Fit s (table (pc + 1))
+  Next table pc s (Op.SkipIfNull r n) = Fit s (table (pc + 1 + n)) × Fit s (table (pc + 1))
+  Next table pc s (Op.Jump to) = Fit s (table to)
+  Next table pc s (Op.Call f ints refs spot) = (table (function_of flat f).entry ≡ []) × Called s ints (table (pc + 1))
+  Next table pc s (Op.Return spot) = Unit {0}
+  Next table pc s (Op.Bounds i r cells n spot) = Bounded s i cells n (table (pc + 1))
+  Next table pc s (Op.GlobalBounds i elements cells n spot) = Bounded s i cells n (table (pc + 1))
+  Next table pc s (Op.Load i cell spot) = Kept s i (table (pc + 1))
+  Next table pc s (Op.Spawn i f from spot) = Kept s i (table (pc + 1))
   Next table pc s _ = Fit s (table (pc + 1))
 
   -- it leads on so, and the mutex of an access is named

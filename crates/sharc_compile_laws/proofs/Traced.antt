@@ -1,17 +1,6 @@
 -- The code of statements and of functions: nothing is known of integer registers where a statement begins and ends.
-use Rattle.std.specs.Prelude.{pos, slice_get, slice_index_or}
-use Rattle.std.proofs.{Common.{◌≡◌, ℕ, zero, suc, ◌+◌, ◌<◌, ◌≤◌, Bool, true, false, cond, List, [], ◌∷◌, ◌++◌, length, take, drop, refl, ap, sym, ◌∙◌, subst, arith, length-append, Option, Some, None, ⊎_elim}, lemmas.Bool.cases_lt}
-use Rattle.sharc_tree.specs.{declared.token.Site.Site, declared.tree.declaration.Declaration.Declaration, declared.tree.statement.Jump.Jump, declared.tree.statement.Jump.TheVariants.{Break, Continue}, Spans.span_of, Tree.{Expression, Right, value, malloc, Simple, assign, does_call, Local, First, nothing, declares, does, Statement, empty, block, declare, simple, jump, return, if_then, if_then_else, while, for, Statements, no_statements, statement, Function}}
-use Rattle.sharc_names.specs.Kinds.{Kind, declared_kind}
-use Rattle.sharc_code.specs.{declared.code.Function.{Function as Row}, declared.code.GlobalCells.GlobalCells, Machine.no_function}
-use Rattle.sharc_ctype.specs.Resolved.{functions_in}
-use Rattle.sharc_mode.specs.{Cells.pointed, Moded.Assignment, Rows.{written, row_at, declared_row}, Sharings.{Sharing, private}}
-use Rattle.sharc_meaning.specs.State.{is_reference}
-use Rattle.sharc_flat.specs.{declared.op.Op.Op, Machine.{Flat, function_of}, declared.slot.Slot.Slot, Scope.{Context, ref_count, at_site, pops, ends_from, leaves}, Places.{variable, base_width, index_width, width_code}, Flattened.{kind_of, is_ref, target_of, mode_of, guard_of, lvalue_in, drop_code, expression_code, place_code, elements_code, right_code, simple_code, with_variable, ints_of, refs_of, zero_code, declared_lvalue, initial_code, local_code, first_code, behind_first, step_code, test_code, turn_code, Around, opened, looping, jump_code, result_code, return_code, body_at, turns_code, behind_statement, behind_statements, statement_code, statements_code, in_function, around_body, function_code, functions_code, AreRows, IsFlattened}}
-use Rattle.sharc_flat.specs.declared.op.Op.TheVariants as op
-use Rattle.sharc_guard.specs.Counted.{LocksStand}
+use Rattle.sharc_compile_laws.proofs.{Imports.{pos, slice_get, slice_index_or, ◌≡◌, ℕ, zero, suc, ◌+◌, ◌<◌, ◌≤◌, Bool, true, false, cond, List, [], ◌∷◌, ◌++◌, length, take, drop, refl, ap, sym, ◌∙◌, subst, arith, length-append, Option, Some, None, ⊎_elim, cases_lt, Site, Declaration, Jump, Break, Continue, span_of, Expression, Right, value, malloc, Simple, assign, does_call, Local, First, nothing, declares, does, Statement, empty, block, declare, simple, jump, return, if_then, if_then_else, while, for, Statements, no_statements, statement, Function, Kind, declared_kind, Row, GlobalCells, no_function, functions_in, pointed, Assignment, written, row_at, declared_row, Sharing, private, is_reference, Op, Flat, function_of, Slot, Context, ref_count, at_site, pops, ends_from, leaves, variable, base_width, index_width, width_code, kind_of, is_ref, target_of, mode_of, guard_of, lvalue_in, drop_code, expression_code, place_code, elements_code, right_code, simple_code, with_variable, ints_of, refs_of, zero_code, declared_lvalue, initial_code, local_code, first_code, behind_first, step_code, test_code, turn_code, Around, opened, looping, jump_code, result_code, return_code, body_at, turns_code, behind_statement, behind_statements, statement_code, statements_code, in_function, around_body, function_code, functions_code, AreRows, IsFlattened, LocksStand}, Flow.{Agrees, agrees_left, agrees_right, agrees_all, all_after, joins}, Ties.{Ties, Fit, fit_same, fit_through, nothing_in, Needs}, Tied.locks_stand, Tying.{Low, low_place, Piece, Entries, P, Own, cleared, on_zero, on_null, on_skip, then_do, one, R, both, none, plain, sets, moves, pops as pops_one, truths, widths, enters, expressions, places, stores, T}}
 use Rattle.sharc_compile_laws.proofs.Flow as flow
-use Rattle.sharc_compile_laws.proofs.{Flow.{Agrees, agrees_left, agrees_right, agrees_all, all_after, joins}, Ties.{Ties, Fit, fit_same, fit_through, nothing_in, Needs}, Tied.locks_stand, Tying.{Low, low_place, Piece, Entries, P, Own, cleared, on_zero, on_null, on_skip, then_do, one, R, both, none, plain, sets, moves, pops as pops_one, truths, widths, enters, expressions, places, stores, T}}
 
 -- a context of the same globals
 after_same : (c : Context) (globals : List GlobalCells) (x : Statement) → c.globals ≡ globals → (behind_statement c x).globals ≡ globals
@@ -40,8 +29,8 @@ module _ (flat : Flat) where
   pop_all r [] = bare 0 [] (none flat 0)
   pop_all r (x ∷ rest) = by x.is_pointer (pop_all (r + 1) rest) (pop_all r rest)
     where
-      by : (b : Bool) → X (pops (r + 1) rest) → X (pops r rest) → X (cond b (op.Pop r ∷ pops (r + 1) rest) (pops r rest))
-      by true p q = then_x (op.Pop r ∷ []) (pops (r + 1) rest) (bare 0 (op.Pop r ∷ []) (pops_one flat 0 r)) p
+      by : (b : Bool) → X (pops (r + 1) rest) → X (pops r rest) → X (cond b (Op.Pop r ∷ pops (r + 1) rest) (pops r rest))
+      by true p q = then_x (Op.Pop r ∷ []) (pops (r + 1) rest) (bare 0 (Op.Pop r ∷ []) (pops_one flat 0 r)) p
       by false p q = q
 
   ends_x : (scope : List Slot) (n : ℕ) → X (ends_from scope n)
@@ -56,24 +45,24 @@ module _ (flat : Flat) where
   choose_x false xs ys p q = q
 
   zero_x : (b : Bool) (i r : ℕ) → X (zero_code b i r)
-  zero_x b i r = choose_x b (op.Null r ∷ []) (op.Constant i (pos 0) ∷ []) (bare i _ (plain flat i (op.Null r) (λ table pc s f. f) (λ m. tt))) (bare i _ (sets flat i i (op.Constant i (pos 0)) (omega arith) (λ table pc s k. k) (λ m. tt)))
+  zero_x b i r = choose_x b (Op.Null r ∷ []) (Op.Constant i (pos 0) ∷ []) (bare i _ (plain flat i (Op.Null r) (λ table pc s f. f) (λ m. tt))) (bare i _ (sets flat i i (Op.Constant i (pos 0)) (omega arith) (λ table pc s k. k) (λ m. tt)))
 
   result_x : (b : Bool) (i r : ℕ) → X (result_code b i r)
-  result_x b i r = choose_x b (op.MoveReference 0 r ∷ []) (op.Move 0 i ∷ []) (bare 0 _ (plain flat 0 (op.MoveReference 0 r) (λ table pc s f. f) (λ m. tt))) (bare 0 _ (moves flat 0 0 i (omega arith)))
+  result_x b i r = choose_x b (Op.MoveReference 0 r ∷ []) (Op.Move 0 i ∷ []) (bare 0 _ (plain flat 0 (Op.MoveReference 0 r) (λ table pc s f. f) (λ m. tt))) (bare 0 _ (moves flat 0 0 i (omega arith)))
 
-  return_x : (site : Site) → X (op.Return (at_site site) ∷ [])
-  return_x site = one flat [] (op.Return (at_site site)) [] (λ table pc d fit. record { next = tt; stands = λ m h. tt })
+  return_x : (site : Site) → X (Op.Return (at_site site) ∷ [])
+  return_x site = one flat [] (Op.Return (at_site site)) [] (λ table pc d fit. record { next = tt; stands = λ m h. tt })
 
   module _ (c : Context) (same : c.globals ≡ flat.globals) where
     counts : (i r : ℕ) (n : Option Expression) → R flat i (elements_code c i r n)
-    counts i r None = sets flat i i (op.Constant i (pos 1)) (omega arith) (λ table pc s k. k) (λ m. tt)
+    counts i r None = sets flat i i (Op.Constant i (pos 1)) (omega arith) (λ table pc s k. k) (λ m. tt)
     counts i r (Some n) = expressions flat c same i r n
 
     rights : (i r : ℕ) (kind : Kind) (mode : Sharing) (x : Right) → R flat i (right_code c i r kind mode x)
     rights i r kind mode (value e) = both flat i (expression_code c i r e) _ (expressions flat c same i r e) (widths flat i i kind (span_of e).first)
     rights i r kind mode (malloc s n w) =
         enters flat i _ (both flat i (elements_code c i r n) _ (counts i r n)
-        (both flat i (op.ChkPositive i _ ∷ []) (op.New r i _ _ ∷ []) (plain flat i (op.ChkPositive i _) (λ table pc s f. f) (λ m. tt)) (plain flat i (op.New r i _ _) (λ table pc s f. f) (λ m. tt))))
+        (both flat i (Op.ChkPositive i _ ∷ []) (Op.New r i _ _ ∷ []) (plain flat i (Op.ChkPositive i _) (λ table pc s f. f) (λ m. tt)) (plain flat i (Op.New r i _ _) (λ table pc s f. f) (λ m. tt))))
 
     simples : (i r : ℕ) (x : Simple) → X (simple_code c i r x)
     simples i r (assign s u x) =
@@ -85,7 +74,7 @@ module _ (flat : Flat) where
         then_do flat [] A [] (place_code c i r (span_of u).first None g u) _ (places flat c same [] i r (span_of u).first None g u (low_none i))
         (then_do flat A A [] (right_code c j w (kind_of c u) (pointed c.program (row_at c.program.typed u)) x) _ (rights j w (kind_of c u) (pointed c.program (row_at c.program.typed u)) x A (low_place c.globals t g i [] (low_none i)))
         (stores flat c same i r j w (span_of u).first (lvalue_in c u) (mode_of c u) (is_ref c u) t))
-    simples i r (does_call e) = then_x (expression_code c i r e) (drop_code (is_ref c e) r) (bare i _ (expressions flat c same i r e)) (choose_x (is_ref c e) (op.Pop r ∷ []) [] (bare i _ (pops_one flat i r)) (bare i [] (none flat i)))
+    simples i r (does_call e) = then_x (expression_code c i r e) (drop_code (is_ref c e) r) (bare i _ (expressions flat c same i r e)) (choose_x (is_ref c e) (Op.Pop r ∷ []) [] (bare i _ (pops_one flat i r)) (bare i [] (none flat i)))
 
     tests : (e : Expression) → X (test_code c e)
     tests e = bare (ints_of c) _ (both flat (ints_of c) (expression_code c (ints_of c) (refs_of c) e) _ (expressions flat c same (ints_of c) (refs_of c) e) (truths flat (is_ref c e) (ints_of c) (refs_of c)))
@@ -107,7 +96,7 @@ module _ (flat : Flat) where
 
   firsts : (c : Context) → c.globals ≡ flat.globals → (x : First) → X (first_code c x)
   firsts c same nothing = bare 0 [] (none flat 0)
-  firsts c same (declares l) = then_x (op.Enter ∷ []) (local_code c l) (bare 0 _ (plain flat 0 op.Enter (λ table pc s f. f) (λ m. tt))) (locals c same l)
+  firsts c same (declares l) = then_x (Op.Enter ∷ []) (local_code c l) (bare 0 _ (plain flat 0 Op.Enter (λ table pc s f. f) (λ m. tt))) (locals c same l)
   firsts c same (does x) = simples c same (ints_of c) (refs_of c) x
 
   returns : (c : Context) → c.globals ≡ flat.globals → (a : Around) (site : Site) (e : Option Expression) → X (return_code c a site e)
@@ -136,55 +125,55 @@ module _ (flat : Flat) where
   at_place : (D : (ℕ → Ties) → Type 0) (p q : ℕ) (os : List Op) → p ≡ q → S D p os → S D q os
   at_place D p q os e x = subst (λ n. S D n os) e x
 
-  entered : (a : Around) (pc : ℕ) (os : List Op) → S (L a) (pc + 1) os → S (L a) pc (op.Enter ∷ os)
-  entered a pc os p = then_at (L a) pc (op.Enter ∷ []) os (lift_l a (op.Enter ∷ []) (bare 0 _ (plain flat 0 op.Enter (λ table pc s f. f) (λ m. tt))) pc) (at_place (L a) (pc + 1) (pc + length (op.Enter ∷ [])) os (omega arith) p)
+  entered : (a : Around) (pc : ℕ) (os : List Op) → S (L a) (pc + 1) os → S (L a) pc (Op.Enter ∷ os)
+  entered a pc os p = then_at (L a) pc (Op.Enter ∷ []) os (lift_l a (Op.Enter ∷ []) (bare 0 _ (plain flat 0 Op.Enter (λ table pc s f. f) (λ m. tt))) pc) (at_place (L a) (pc + 1) (pc + length (Op.Enter ∷ [])) os (omega arith) p)
 
-  jump_to : (D : (ℕ → Ties) → Type 0) (to pc : ℕ) → ((table : ℕ → Ties) → D table → table to ≡ []) → S D pc (op.Jump to ∷ [])
-  jump_to D to pc h = flow.line Ties Fit fit_same fit_through (Own flat) (Needs flat) D [] pc (op.Jump to) [] (λ table d own end. record { next = subst (Fit []) (sym (h table d)) (fit_same []); stands = λ m h. tt })
+  jump_to : (D : (ℕ → Ties) → Type 0) (to pc : ℕ) → ((table : ℕ → Ties) → D table → table to ≡ []) → S D pc (Op.Jump to ∷ [])
+  jump_to D to pc h = flow.line Ties Fit fit_same fit_through (Own flat) (Needs flat) D [] pc (Op.Jump to) [] (λ table d own end. record { next = subst (Fit []) (sym (h table d)) (fit_same []); stands = λ m h. tt })
 
   jumps : (c : Context) (a : Around) (j : Jump) (pc : ℕ) → S (L a) pc (jump_code c a j)
-  jumps c a Break pc = then_at (L a) pc (leaves c.scope a.inside) (op.Jump a.broken ∷ []) (lift_l a _ (leaves_x c.scope a.inside) pc) (jump_to (L a) a.broken _ (λ table d. d.1))
-  jumps c a Continue pc = then_at (L a) pc (leaves c.scope a.inside) (op.Jump a.continued ∷ []) (lift_l a _ (leaves_x c.scope a.inside) pc) (jump_to (L a) a.continued _ (λ table d. d.2))
+  jumps c a Break pc = then_at (L a) pc (leaves c.scope a.inside) (Op.Jump a.broken ∷ []) (lift_l a _ (leaves_x c.scope a.inside) pc) (jump_to (L a) a.broken _ (λ table d. d.1))
+  jumps c a Continue pc = then_at (L a) pc (leaves c.scope a.inside) (Op.Jump a.continued ∷ []) (lift_l a _ (leaves_x c.scope a.inside) pc) (jump_to (L a) a.continued _ (λ table d. d.2))
 
   test_length : (c : Context) (e : Expression) (over : ℕ) → length (turn_code c (Some e) over) ≡ length (test_code c e) + 1
-  test_length c e over = length-append (test_code c e) (op.SkipIfZero (ints_of c) over ∷ [])
+  test_length c e over = length-append (test_code c e) (Op.SkipIfZero (ints_of c) over ∷ [])
 
   -- of the code in a loop what leads back is known, too
   abbrev M : Around → ℕ → (ℕ → Ties) → Type 0
   M a pc table = L a table × (table (pc + 3) ≡ [])
 
-  back : (a : Around) (pc at : ℕ) (step : List Op) → X step → S (M a pc) at (step ++ op.Jump (pc + 3) ∷ [])
-  back a pc at step p = then_at (M a pc) at step (op.Jump (pc + 3) ∷ []) (lift (M a pc) (λ table d. d.0.0) step p at) (jump_to (M a pc) (pc + 3) (at + length step) (λ table d. d.1))
+  back : (a : Around) (pc at : ℕ) (step : List Op) → X step → S (M a pc) at (step ++ Op.Jump (pc + 3) ∷ [])
+  back a pc at step p = then_at (M a pc) at step (Op.Jump (pc + 3) ∷ []) (lift (M a pc) (λ table d. d.0.0) step p at) (jump_to (M a pc) (pc + 3) (at + length step) (λ table d. d.1))
 
   abbrev Inner : ((ℕ → Ties) → Type 0) → ℕ → List Op → List Op → List Op → Type 0
   Inner D = flow.Inner Ties Fit fit_same fit_through (Own flat) (Needs flat) D []
 
   inner_of : (c : Context) → c.globals ≡ flat.globals → (a : Around) (e : Option Expression) (pc : ℕ) (step code : List Op) → X step → S (L a) (body_at pc (turn_code c e)) code
-      → Inner (M a pc) (pc + 3) (turn_code c e (length code + length step + 1)) code (step ++ op.Jump (pc + 3) ∷ [])
+      → Inner (M a pc) (pc + 3) (turn_code c e (length code + length step + 1)) code (step ++ Op.Jump (pc + 3) ∷ [])
   inner_of c same a None pc step code p q =
       let D = M a pc in
       let body = flow.known Ties Fit fit_same fit_through (Own flat) (Needs flat) (L a) D [] (pc + 3) code [] (λ table d. d.0) (at_place (L a) (body_at pc (turn_code c None)) (pc + 3) code (omega arith) q) in
-      flow.always Ties Fit fit_same fit_through (Own flat) (Needs flat) (cleared flat) (on_zero flat) (on_null flat) (on_skip flat) D [] (pc + 3) code (step ++ op.Jump (pc + 3) ∷ []) body (back a pc (pc + 3 + length code) step p)
+      flow.always Ties Fit fit_same fit_through (Own flat) (Needs flat) (cleared flat) (on_zero flat) (on_null flat) (on_skip flat) D [] (pc + 3) code (step ++ Op.Jump (pc + 3) ∷ []) body (back a pc (pc + 3 + length code) step p)
   inner_of c same a (Some e) pc step code p q =
       let D = M a pc in
       let X1 = test_code c e in
-      let S1 = step ++ op.Jump (pc + 3) ∷ [] in
+      let S1 = step ++ Op.Jump (pc + 3) ∷ [] in
       let at = pc + 3 + length X1 + 1 in
       let z : body_at pc (turn_code c (Some e)) ≡ at = omega (arith, test_length c e 0) in
       let body = flow.known Ties Fit fit_same fit_through (Own flat) (Needs flat) (L a) D [] at code [] (λ table d. d.0) (at_place (L a) (body_at pc (turn_code c (Some e))) at code z q) in
       let test = lift D (λ table d. d.0.0) X1 (tests c same e) (pc + 3) in
-      let count : length (code ++ S1) ≡ length code + length step + 1 = omega (arith, length-append code S1, length-append step (op.Jump (pc + 3) ∷ [])) in
-      subst (λ k. Inner D (pc + 3) (X1 ++ op.SkipIfZero (ints_of c) k ∷ []) code S1) count
+      let count : length (code ++ S1) ≡ length code + length step + 1 = omega (arith, length-append code S1, length-append step (Op.Jump (pc + 3) ∷ [])) in
+      subst (λ k. Inner D (pc + 3) (X1 ++ Op.SkipIfZero (ints_of c) k ∷ []) code S1) count
       (flow.decided Ties Fit fit_same fit_through (Own flat) (Needs flat) (cleared flat) (on_zero flat) (on_null flat) (on_skip flat) D [] (pc + 3) (ints_of c) X1 code S1 test body (back a pc (at + length code) step p))
 
   loops : (c : Context) → c.globals ≡ flat.globals → (a around : Around) (e : Option Expression) (pc : ℕ) (step code : List Op) → X step → S (L (looping around (pc + 1) (pc + 2))) (body_at pc (turn_code c e)) code
       → S (L a) pc (turns_code pc step (turn_code c e (length code + length step + 1)) code)
   loops c same a around e pc step code p q =
       let T1 = turn_code c e (length code + length step + 1) in
-      let S1 = step ++ op.Jump (pc + 3) ∷ [] in
+      let S1 = step ++ Op.Jump (pc + 3) ∷ [] in
       let inside = looping around (pc + 1) (pc + 2) in
       flow.looped Ties Fit fit_same fit_through (Own flat) (Needs flat) (cleared flat) (on_zero flat) (on_null flat) (on_skip flat) (L a) (M inside pc) [] pc T1 code S1 (length T1 + length code + length step + 2)
-      (λ table d e1 e2 e3. ((d.0, nothing_in (table (pc + 1)) e1.1, nothing_in (table (pc + 2)) e2.1), nothing_in (table (pc + 3)) e3.1)) (omega (arith, length-append step (op.Jump (pc + 3) ∷ []))) (inner_of c same inside e pc step code p q)
+      (λ table d e1 e2 e3. ((d.0, nothing_in (table (pc + 1)) e1.1, nothing_in (table (pc + 2)) e2.1), nothing_in (table (pc + 3)) e3.1)) (omega (arith, length-append step (Op.Jump (pc + 3) ∷ []))) (inner_of c same inside e pc step code p q)
 
   mutual
     statements : (c : Context) → c.globals ≡ flat.globals → (a : Around) (pc : ℕ) (x : Statement) → S (L a) pc (statement_code c a pc x)
@@ -192,10 +181,10 @@ module _ (flat : Flat) where
     statements c same a pc (block s all) =
         let code = statements_code c (opened c a) (pc + 1) all in
         let Y = ends_from (behind_statements c all).scope (length c.scope) in
-        entered a pc ((code ++ Y) ++ op.BlockEnd ∷ [])
-        (then_at (L a) (pc + 1) (code ++ Y) (op.BlockEnd ∷ [])
+        entered a pc ((code ++ Y) ++ Op.BlockEnd ∷ [])
+        (then_at (L a) (pc + 1) (code ++ Y) (Op.BlockEnd ∷ [])
         (then_at (L a) (pc + 1) code Y (flow.known Ties Fit fit_same fit_through (Own flat) (Needs flat) (L (opened c a)) (L a) [] (pc + 1) code [] (λ table k. k) (all_statements c same (opened c a) (pc + 1) all)) (lift_l a Y (ends_x (behind_statements c all).scope (length c.scope)) (pc + 1 + length code)))
-        (lift_l a (op.BlockEnd ∷ []) (bare 0 _ (plain flat 0 op.BlockEnd (λ table pc s f. f) (λ m. tt))) (pc + 1 + length (code ++ Y))))
+        (lift_l a (Op.BlockEnd ∷ []) (bare 0 _ (plain flat 0 Op.BlockEnd (λ table pc s f. f) (λ m. tt))) (pc + 1 + length (code ++ Y))))
     statements c same a pc (declare s l) = entered a pc (local_code c l) (lift_l a (local_code c l) (locals c same l) (pc + 1))
     statements c same a pc (simple s x) = entered a pc (simple_code c (ints_of c) (refs_of c) x) (lift_l a _ (simples c same (ints_of c) (refs_of c) x) (pc + 1))
     statements c same a pc (jump s j) = entered a pc (jump_code c a j) (jumps c a j (pc + 1))
@@ -213,7 +202,7 @@ module _ (flat : Flat) where
         let X1 = statement_code c a at x in
         let at2 = at + length X1 + 1 in
         let Y1 = statement_code c a at2 y in
-        entered a pc (turn_code c (Some e) (length X1 + 1) ++ (X1 ++ (op.Skip (length Y1) ∷ Y1)))
+        entered a pc (turn_code c (Some e) (length X1 + 1) ++ (X1 ++ (Op.Skip (length Y1) ∷ Y1)))
         (flow.sides Ties Fit fit_same fit_through (Own flat) (Needs flat) (cleared flat) (on_zero flat) (on_null flat) (on_skip flat) (L a) [] [] [] (pc + 1) (ints_of c) T1 X1 Y1 (fit_same []) (lift_l a T1 (tests c same e) (pc + 1))
         (at_place (L a) at (pc + 1 + length T1 + 1) X1 (omega (arith, test_length c e 0)) (statements c same a at x))
         (at_place (L a) at2 (pc + 1 + length T1 + 1 + length X1 + 1) Y1 (omega (arith, test_length c e 0)) (statements c same a at2 y)))
@@ -255,11 +244,11 @@ module _ (flat : Flat) where
       let code = statements_code c a (pc + 1) fn.statements in
       let Y = ends_from (behind_statements c fn.statements).scope 0 in
       let r = is_reference (declared_kind fn.result) in
-      let R1 = zero_code r 0 0 ++ op.Return (at_site fn.body.last) ∷ [] in
+      let R1 = zero_code r 0 0 ++ Op.Return (at_site fn.body.last) ∷ [] in
       flow.known Ties Fit fit_same fit_through (Own flat) (Needs flat) (L a) Z [] pc (function_code m flat.globals pc fn) [] (λ table d. (d.0, d.1, d.1))
       (entered a pc (code ++ (Y ++ R1))
       (then_at (L a) (pc + 1) code (Y ++ R1) (all_statements c refl a (pc + 1) fn.statements)
-      (lift_l a (Y ++ R1) (then_x Y R1 (ends_x (behind_statements c fn.statements).scope 0) (then_x (zero_code r 0 0) (op.Return (at_site fn.body.last) ∷ []) (zero_x r 0 0) (return_x fn.body.last))) (pc + 1 + length code))))
+      (lift_l a (Y ++ R1) (then_x Y R1 (ends_x (behind_statements c fn.statements).scope 0) (then_x (zero_code r 0 0) (Op.Return (at_site fn.body.last) ∷ []) (zero_x r 0 0) (return_x fn.body.last))) (pc + 1 + length code))))
 
   module _ (m : Assignment) where
     abbrev G : List GlobalCells

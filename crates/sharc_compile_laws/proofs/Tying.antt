@@ -1,18 +1,6 @@
 -- The parts of flattened code: which integer registers name two cells of one element at each of their lines.
-use Rattle.std.proofs.{Common.{◌≡◌, inl, inr, ⊎_elim, ℕ, ◌+◌, ◌-◌, ◌<◌, ◌≤◌, Bool, true, false, cond, List, [], ◌∷◌, ◌++◌, length, drop, refl, ap, sym, ◌∙◌, subst, arith, length-append, append_assoc, Option, Some, None, codes, bytes_eq}, lemmas.Bool.false≢true}
-use Rattle.sharc_tree.specs.{declared.token.Site.Site, declared.token.Span.Span, declared.tree.declaration.Identifier.Identifier, declared.tree.expression.FieldOperator.FieldOperator, declared.tree.expression.FieldOperator.TheVariants.{Dot, Arrow}, declared.tree.expression.BinaryOperator.BinaryOperator, declared.tree.expression.BinaryOperator.TheVariants.{LogicalOr, LogicalAnd, NotEqual}, declared.tree.expression.PlaceCall.PlaceCall, declared.tree.expression.PlaceCall.TheVariants.{Lock, Unlock, Free}, declared.tree.expression.UnaryOperator.TheVariants.{Negate, Not, Complement, Dereference}, declared.tree.expression.ValueCall.ValueCall, declared.tree.expression.ValueCall.TheVariants.{Join, Print}, Spans.span_of, Tree.{Expression, identifier, constant, parentheses, call, spawn, on_value, on_place, cast, index, field, unary, binary, Arguments, no_arguments, argument}}
-use Rattle.sharc_names.specs.{declared.fault.Named.Named, Kinds.{Kind, is_array, is_integer, element_kind, declared_kinds}}
-use Rattle.sharc_names.specs.declared.fault.Named.TheVariants as named
-use Rattle.sharc_code.specs.{declared.code.GlobalCells.GlobalCells, declared.code.Use.Use, declared.instr.Register.Register, declared.instr.Register.TheVariants.{Int, Reference}, Arithmetic.word_of}
-use Rattle.sharc_code.specs.declared.code.Use.TheVariants as uses
-use Rattle.sharc_ctype.specs.{Resolved.{named_at, kind_at, global_at}, Transfers.parameters_named}
-use Rattle.sharc_mode.specs.{Cells.is_behind_pointer, Sharings.{Lock as LockPath, Sharing, locked}}
-use Rattle.sharc_meaning.specs.{Cells.{cell_of as cell_in, element_cells, field_place, field_place_named, global_elements}, Expressions.number_named}
-use Rattle.sharc_flat.specs.{declared.op.Op.Op, declared.op.Spot.Spot, Machine.{Flat, At, function_of, first_cell, cell_at}, declared.slot.Lvalue.Lvalue, Scope.{Context, register_of, at_site}, Places.{Target, variable, in_global, in_global_at, in_object, in_object_at, named_target, target, own_field, global_of, has_base, base_width, index_width, cell_of, guard_cell, field_of, guard_field, beside_named, beside_field, mode_beside, mode_named, place_mode, lock_beside, spot_of, bounds_code, index_code, pointee_code, guard_code, drop_base, settle_base, copy_code, cell_value_code, value_code, settle_code, cell_store_code, store_code, cell_take_code, take_code, width_code}, Flattened.{is_ref, target_of, mode_of, what_names, lvalue_in, named_code, truth_code, differ_code, compare_code, logical_code, either_code, binary_code, behind_int, behind_ref, wait_code, condition_code, with_words, argument_words, called_code, passed_code, spawn_code, value_call_code, unlocked_code, place_call_code, cast_code, guard_of, taken_guard, field_code, expression_code, arguments_code, place_code}, Suits.is_cell}
-use Rattle.sharc_flat.specs.declared.op.Op.TheVariants as op
-use Rattle.sharc_guard.specs.Counted.{IsBeside, LockStands}
+use Rattle.sharc_compile_laws.proofs.{Imports.{◌≡◌, inl, inr, ⊎_elim, ℕ, ◌+◌, ◌-◌, ◌<◌, ◌≤◌, Bool, true, false, cond, List, [], ◌∷◌, ◌++◌, length, drop, refl, ap, sym, ◌∙◌, subst, arith, length-append, append_assoc, Option, Some, None, codes, bytes_eq, false≢true, Site, Span, Identifier, FieldOperator, Dot, Arrow, BinaryOperator, LogicalOr, LogicalAnd, NotEqual, PlaceCall, Lock, Unlock, Free, Negate, Not, Complement, Dereference, ValueCall, Join, Print, span_of, Expression, identifier, constant, parentheses, call, spawn, on_value, on_place, cast, index, field, unary, binary, Arguments, no_arguments, argument, Named, Kind, is_array, is_integer, element_kind, declared_kinds, GlobalCells, Use, Register, Int, Reference, word_of, named_at, kind_at, global_at, parameters_named, is_behind_pointer, LockPath, Sharing, locked, cell_in, element_cells, field_place, field_place_named, global_elements, number_named, Op, Spot, Flat, At, function_of, first_cell, cell_at, Lvalue, Context, register_of, at_site, Target, variable, in_global, in_global_at, in_object, in_object_at, named_target, target, own_field, global_of, has_base, base_width, index_width, cell_of, guard_cell, field_of, guard_field, beside_named, beside_field, mode_beside, mode_named, place_mode, lock_beside, spot_of, bounds_code, index_code, pointee_code, guard_code, drop_base, settle_base, copy_code, cell_value_code, value_code, settle_code, cell_store_code, store_code, cell_take_code, take_code, width_code, is_ref, target_of, mode_of, what_names, lvalue_in, named_code, truth_code, differ_code, compare_code, logical_code, either_code, binary_code, behind_int, behind_ref, wait_code, condition_code, with_words, argument_words, called_code, passed_code, spawn_code, value_call_code, unlocked_code, place_call_code, cast_code, guard_of, taken_guard, field_code, expression_code, arguments_code, place_code, is_cell, IsBeside, LockStands}, Ties.{Tie, copied, scaled, beside, register_in, Ties, In, Fit, fit_same, fit_through, Apart, Kept, Bounded, AllHold, Next, Needs}}
 use Rattle.sharc_compile_laws.proofs.Flow as flow
-use Rattle.sharc_compile_laws.proofs.Ties.{Tie, copied, scaled, beside, register_in, Ties, In, Fit, fit_same, fit_through, Apart, Kept, Bounded, AllHold, Next, Needs}
 
 -- ---- what is known after a place is found: of its element, where its mutex is beside it
 abbrev pub place_ties : List GlobalCells → Target → Option ℕ → ℕ → Ties
@@ -45,7 +33,7 @@ in_left (y ∷ rest) b x (inr h) = inr (in_left rest b x h)
 
 -- what is named by a name is no element
 named_plain : (globals : List GlobalCells) (n : Named) (f : ℕ) (guard : Option ℕ) (i : ℕ) → place_ties globals (named_target n f) guard i ≡ []
-named_plain globals (named.Field x) f guard i = refl
+named_plain globals (Named.Field x) f guard i = refl
 named_plain globals _ f guard i = refl
 
 module _ (flat : Flat) where
@@ -78,12 +66,12 @@ module _ (flat : Flat) where
   module _ (c : Context) (same : c.globals ≡ flat.globals) where
     beside_named_stands : (m : At) (i r : ℕ) (t : Target) (spot : Spot) → is_cell t ≡ true → (l : LockPath) (what : Named) (second : Option (List ℕ)) → AllHold flat (place_ties G t (beside_named c.program.typed l what) i) m
         → spot.lock ≡ lock_beside G i r t (beside_named c.program.typed l what) → IsBeside flat m (cell_of G i r t) spot (mode_named c (field_of t) l what second)
-    beside_named_stands m i r t spot is l (named.Field token) second h e = by (is_behind_pointer c.program.typed l)
+    beside_named_stands m i r t spot is l (Named.Field token) second h e = by (is_behind_pointer c.program.typed l)
       where
         by : (b : Bool) → IsBeside flat m (cell_of G i r t) spot (mode_beside b (field_of t) (field_place c.program.typed token))
         by true = tt
         by false = λ none. ap (cell_at G m) e ∙ lock_cells m i r (field_place c.program.typed token) t is h
-    beside_named_stands m i r t spot is l (named.Variable x) (Some y) h e = tt
+    beside_named_stands m i r t spot is l (Named.Variable x) (Some y) h e = tt
     beside_named_stands m i r t spot is l _ _ h e = tt
 
     stands_by : (m : At) (i r : ℕ) (t : Target) (spot : Spot) → is_cell t ≡ true → (mode : Sharing) → AllHold flat (place_ties G t (beside_field c.program.typed mode) i) m → spot.lock ≡ lock_beside G i r t (beside_field c.program.typed mode)
@@ -148,19 +136,19 @@ module _ (flat : Flat) where
   abbrev pub Leads : (ℕ → Ties) → Ties → ℕ → Type 0
   Leads = flow.Leads Ties Fit fit_same fit_through Own (Needs flat)
 
-  pub on_zero : (table : ℕ → Ties) (pc : ℕ) (s : Ties) (i n : ℕ) → Leads table s (pc + 1 + n) → Leads table s (pc + 1) → Needs flat table pc s (op.SkipIfZero i n)
+  pub on_zero : (table : ℕ → Ties) (pc : ℕ) (s : Ties) (i n : ℕ) → Leads table s (pc + 1 + n) → Leads table s (pc + 1) → Needs flat table pc s (Op.SkipIfZero i n)
   on_zero table pc s i n a b = record { next = (a.1, b.1); stands = λ m h. tt }
 
-  pub on_null : (table : ℕ → Ties) (pc : ℕ) (s : Ties) (r n : ℕ) → Leads table (cleared s r) (pc + 1 + n) → Leads table s (pc + 1) → Needs flat table pc s (op.SkipIfNull r n)
+  pub on_null : (table : ℕ → Ties) (pc : ℕ) (s : Ties) (r n : ℕ) → Leads table (cleared s r) (pc + 1 + n) → Leads table s (pc + 1) → Needs flat table pc s (Op.SkipIfNull r n)
   on_null table pc s r n a b = record { next = (a.1, b.1); stands = λ m h. tt }
 
-  pub on_skip : (table : ℕ → Ties) (pc : ℕ) (s : Ties) (n : ℕ) → Leads table s (pc + 1 + n) → Needs flat table pc s (op.Skip n)
+  pub on_skip : (table : ℕ → Ties) (pc : ℕ) (s : Ties) (n : ℕ) → Leads table s (pc + 1 + n) → Needs flat table pc s (Op.Skip n)
   on_skip table pc s n a = record { next = a.1; stands = λ m h. tt }
 
-  over : (s : Ties) (i : ℕ) (xs ys : List Op) → P s xs s → P s ys s → P s (op.SkipIfZero i (length xs) ∷ (xs ++ ys)) s
+  over : (s : Ties) (i : ℕ) (xs ys : List Op) → P s xs s → P s ys s → P s (Op.SkipIfZero i (length xs) ∷ (xs ++ ys)) s
   over s i xs ys p q = λ pc. flow.over Ties Fit fit_same fit_through Own (Needs flat) cleared on_zero on_null on_skip Entries s s s pc i xs ys (fit_same s) (p (pc + 1)) (q (pc + 1 + length xs))
 
-  over_null : (s : Ties) (r : ℕ) (o : Op) → P s (o ∷ []) s → P s (op.SkipIfNull r 1 ∷ o ∷ []) s
+  over_null : (s : Ties) (r : ℕ) (o : Op) → P s (o ∷ []) s → P s (Op.SkipIfNull r 1 ∷ o ∷ []) s
   over_null s r o p = λ pc. flow.over_null Ties Fit fit_same fit_through Own (Needs flat) cleared on_zero on_null on_skip Entries s s s pc r o (fit_same s) (fit_same s) (p (pc + 1))
 
   forget : (s t e : Ties) (os : List Op) → P s os (t ++ e) → P s os e
@@ -185,43 +173,43 @@ module _ (flat : Flat) where
   pub sets : (i j : ℕ) (o : Op) → i ≤ j → ((table : ℕ → Ties) (pc : ℕ) (s : Ties) → Kept s j (table (pc + 1)) → Next flat table pc s o) → ((m : At) → LockStands flat m o) → R i (o ∷ [])
   sets i j o le n l = λ s low. one s o s (λ table pc d fit. record { next = n table pc s (kept_low i j s s (table (pc + 1)) low le (fit_same s) fit); stands = λ m h. l m })
 
-  pub moves : (i j from : ℕ) → i ≤ j → R i (op.Move j from ∷ [])
-  moves i j from le = λ s low. one s (op.Move j from) s (λ table pc d fit. record { next = λ x y. inl (kept_low i j s s (table (pc + 1)) low le (fit_same s) fit x y); stands = λ m h. tt })
+  pub moves : (i j from : ℕ) → i ≤ j → R i (Op.Move j from ∷ [])
+  moves i j from le = λ s low. one s (Op.Move j from) s (λ table pc d fit. record { next = λ x y. inl (kept_low i j s s (table (pc + 1)) low le (fit_same s) fit x y); stands = λ m h. tt })
 
   choose_r : (i : ℕ) (b : Bool) (xs ys : List Op) → R i xs → R i ys → R i (cond b xs ys)
   choose_r i true xs ys p q = p
   choose_r i false xs ys p q = q
 
-  pub pops : (i r : ℕ) → R i (op.Pop r ∷ [])
-  pops i r = plain i (op.Pop r) (λ table pc s f. f) (λ m. tt)
+  pub pops : (i r : ℕ) → R i (Op.Pop r ∷ [])
+  pops i r = plain i (Op.Pop r) (λ table pc s f. f) (λ m. tt)
 
-  falses : (i : ℕ) → R i (op.IsFalse i i ∷ [])
-  falses i = sets i i (op.IsFalse i i) (omega arith) (λ table pc s k. k) (λ m. tt)
+  falses : (i : ℕ) → R i (Op.IsFalse i i ∷ [])
+  falses i = sets i i (Op.IsFalse i i) (omega arith) (λ table pc s k. k) (λ m. tt)
 
-  pub enters : (i : ℕ) (os : List Op) → R i os → R i (op.Enter ∷ os)
-  enters i os p = both i (op.Enter ∷ []) os (plain i op.Enter (λ table pc s f. f) (λ m. tt)) p
+  pub enters : (i : ℕ) (os : List Op) → R i os → R i (Op.Enter ∷ os)
+  enters i os p = both i (Op.Enter ∷ []) os (plain i Op.Enter (λ table pc s f. f) (λ m. tt)) p
 
-  enters_to : (s e : Ties) (os : List Op) → P s os e → P s (op.Enter ∷ os) e
-  enters_to s e os p = then_do s s e (op.Enter ∷ []) os (quiet s op.Enter (λ table pc f. f) (λ m. tt)) p
+  enters_to : (s e : Ties) (os : List Op) → P s os e → P s (Op.Enter ∷ os) e
+  enters_to s e os p = then_do s s e (Op.Enter ∷ []) os (quiet s Op.Enter (λ table pc f. f) (λ m. tt)) p
 
   drops : (i r : ℕ) (t : Target) → R i (drop_base r t)
-  drops i r t = choose_r i (has_base t) (op.Pop r ∷ []) [] (pops i r) (none i)
+  drops i r t = choose_r i (has_base t) (Op.Pop r ∷ []) [] (pops i r) (none i)
 
   settles : (i r : ℕ) (t : Target) → R i (settle_base r t)
-  settles i r t = choose_r i (has_base t) (op.Settle r (r + 1) ∷ []) [] (plain i (op.Settle r (r + 1)) (λ table pc s f. f) (λ m. tt)) (none i)
+  settles i r t = choose_r i (has_base t) (Op.Settle r (r + 1) ∷ []) [] (plain i (Op.Settle r (r + 1)) (λ table pc s f. f) (λ m. tt)) (none i)
 
   copies : (i r : ℕ) (x : Register) → R i (copy_code i r x)
   copies i r (Int x) = moves i i x (omega arith)
-  copies i r (Reference x) = plain i (op.Local r x) (λ table pc s f. f) (λ m. tt)
+  copies i r (Reference x) = plain i (Op.Local r x) (λ table pc s f. f) (λ m. tt)
 
   pub truths : (b : Bool) (i r : ℕ) → R i (truth_code b i r)
   truths true i r =
-      both i (op.Null (r + 1) ∷ []) _ (plain i (op.Null (r + 1)) (λ table pc s f. f) (λ m. tt))
-      (both i (op.SameReference i r (r + 1) ∷ []) _ (sets i i (op.SameReference i r (r + 1)) (omega arith) (λ table pc s k. k) (λ m. tt)) (both i (op.Pop r ∷ []) (op.IsFalse i i ∷ []) (pops i r) (falses i)))
+      both i (Op.Null (r + 1) ∷ []) _ (plain i (Op.Null (r + 1)) (λ table pc s f. f) (λ m. tt))
+      (both i (Op.SameReference i r (r + 1) ∷ []) _ (sets i i (Op.SameReference i r (r + 1)) (omega arith) (λ table pc s k. k) (λ m. tt)) (both i (Op.Pop r ∷ []) (Op.IsFalse i i ∷ []) (pops i r) (falses i)))
   truths false i r = none i
 
   pub widths : (i j : ℕ) (kind : Kind) (site : Site) → R i (width_code j kind site)
-  widths i j kind site = choose_r i (is_integer kind) (op.ChkWidth _ j _ ∷ []) [] (plain i (op.ChkWidth _ j _) (λ table pc s f. f) (λ m. tt)) (none i)
+  widths i j kind site = choose_r i (is_integer kind) (Op.ChkWidth _ j _ ∷ []) [] (plain i (Op.ChkWidth _ j _) (λ table pc s f. f) (λ m. tt)) (none i)
 
   passes : (i j : ℕ) (ks : List Kind) (site : Site) → R i (passed_code j ks site)
   passes i j [] site = none i
@@ -233,54 +221,54 @@ module _ (flat : Flat) where
 
   compares : (o : BinaryOperator) (i r : ℕ) → R i (compare_code o i r)
   compares o i r =
-      both i (op.SameReference i r (r + 1) ∷ []) _ (sets i i (op.SameReference i r (r + 1)) (omega arith) (λ table pc s k. k) (λ m. tt))
-      (both i (differ_code o i) (op.Pop r ∷ op.Pop (r + 1) ∷ []) (differs o i) (both i (op.Pop r ∷ []) (op.Pop (r + 1) ∷ []) (pops i r) (pops i (r + 1))))
+      both i (Op.SameReference i r (r + 1) ∷ []) _ (sets i i (Op.SameReference i r (r + 1)) (omega arith) (λ table pc s k. k) (λ m. tt))
+      (both i (differ_code o i) (Op.Pop r ∷ Op.Pop (r + 1) ∷ []) (differs o i) (both i (Op.Pop r ∷ []) (Op.Pop (r + 1) ∷ []) (pops i r) (pops i (r + 1))))
 
   logicals : (i : ℕ) (xs ys : List Op) → R i xs → R i ys → R i (logical_code i xs ys)
-  logicals i xs ys p q = both i xs _ p (λ s low. over s i ys (op.IsFalse i i ∷ op.IsFalse i i ∷ []) (q s low) (both i (op.IsFalse i i ∷ []) (op.IsFalse i i ∷ []) (falses i) (falses i) s low))
+  logicals i xs ys p q = both i xs _ p (λ s low. over s i ys (Op.IsFalse i i ∷ Op.IsFalse i i ∷ []) (q s low) (both i (Op.IsFalse i i ∷ []) (Op.IsFalse i i ∷ []) (falses i) (falses i) s low))
 
   eithers : (i : ℕ) (xs ys : List Op) → R i xs → R i ys → R i (either_code i xs ys)
   eithers i xs ys p q =
-      let F = op.IsFalse i i in
+      let F = Op.IsFalse i i in
       let count : length (ys ++ F ∷ []) ≡ length ys + 1 = length-append ys (F ∷ []) in
-      let same : op.SkipIfZero i (length (ys ++ F ∷ [])) ∷ ((ys ++ F ∷ []) ++ F ∷ []) ≡ op.SkipIfZero i (length ys + 1) ∷ (ys ++ (F ∷ F ∷ [])) =
-      ap (λ n. op.SkipIfZero i n ∷ ((ys ++ F ∷ []) ++ F ∷ [])) count ∙ ap (λ l. op.SkipIfZero i (length ys + 1) ∷ l) (append_assoc ys (F ∷ []) (F ∷ [])) in
-      both i xs _ p (both i (F ∷ []) (op.SkipIfZero i (length ys + 1) ∷ (ys ++ (F ∷ F ∷ []))) (falses i) (subst (R i) same (λ s low. over s i (ys ++ F ∷ []) (F ∷ []) (both i ys (F ∷ []) q (falses i) s low) (falses i s low))))
+      let same : Op.SkipIfZero i (length (ys ++ F ∷ [])) ∷ ((ys ++ F ∷ []) ++ F ∷ []) ≡ Op.SkipIfZero i (length ys + 1) ∷ (ys ++ (F ∷ F ∷ [])) =
+      ap (λ n. Op.SkipIfZero i n ∷ ((ys ++ F ∷ []) ++ F ∷ [])) count ∙ ap (λ l. Op.SkipIfZero i (length ys + 1) ∷ l) (append_assoc ys (F ∷ []) (F ∷ [])) in
+      both i xs _ p (both i (F ∷ []) (Op.SkipIfZero i (length ys + 1) ∷ (ys ++ (F ∷ F ∷ []))) (falses i) (subst (R i) same (λ s low. over s i (ys ++ F ∷ []) (F ∷ []) (both i ys (F ∷ []) q (falses i) s low) (falses i s low))))
 
   pointees : (i r : ℕ) (site : Site) (xs : List Op) → R i xs → R i (pointee_code r site xs)
-  pointees i r site xs p = both i xs (op.ChkNull r (at_site site) ∷ []) p (plain i (op.ChkNull r (at_site site)) (λ table pc s f. f) (λ m. tt))
+  pointees i r site xs p = both i xs (Op.ChkNull r (at_site site) ∷ []) p (plain i (Op.ChkNull r (at_site site)) (λ table pc s f. f) (λ m. tt))
 
   values_called : (w : ValueCall) (i : ℕ) (spot : Spot) → R i (value_call_code w i spot)
-  values_called Join i spot = plain i (op.Join i spot) (λ table pc s f. f) (λ m. tt)
-  values_called Print i spot = plain i (op.Print i spot) (λ table pc s f. f) (λ m. tt)
+  values_called Join i spot = plain i (Op.Join i spot) (λ table pc s f. f) (λ m. tt)
+  values_called Print i spot = plain i (Op.Print i spot) (λ table pc s f. f) (λ m. tt)
 
   spawns : (b : Bool) (i r g : ℕ) (spot : Spot) → R i (spawn_code b i r g spot)
-  spawns b i r g spot = sets i i (op.Spawn i g _ spot) (omega arith) (λ table pc s k. k) (λ m. tt)
+  spawns b i r g spot = sets i i (Op.Spawn i g _ spot) (omega arith) (λ table pc s k. k) (λ m. tt)
 
   q1 : (i : ℕ) (o : Op) (os : List Op) → R i (o ∷ []) → R i os → R i (o ∷ os)
   q1 i o os p q = both i (o ∷ []) os p q
 
   waits : (i r : ℕ) (spot a b : Spot) → R i (wait_code r spot a b)
   waits i r spot a b =
-      q1 i (op.ChkNull r spot) _ (plain i (op.ChkNull r spot) (λ table pc s f. f) (λ m. tt))
-      (q1 i (op.ChkNull (r + 1) spot) _ (plain i (op.ChkNull (r + 1) spot) (λ table pc s f. f) (λ m. tt))
-      (q1 i (op.ChkHeld _ spot) _ (plain i (op.ChkHeld _ spot) (λ table pc s f. f) (λ m. tt))
-      (q1 i (op.CondEnter _ spot) _ (plain i (op.CondEnter _ spot) (λ table pc s f. f) (λ m. tt))
-      (q1 i (op.Unlock (r + 2) _ spot) _ (plain i (op.Unlock (r + 2) _ spot) (λ table pc s f. f) (λ m. tt))
-      (q1 i (op.CondWait _ a) _ (plain i (op.CondWait _ a) (λ table pc s f. f) (λ m. tt))
-      (q1 i (op.Lock _ b) _ (plain i (op.Lock _ b) (λ table pc s f. f) (λ m. tt)) (both i (op.Pop r ∷ []) (op.Pop (r + 1) ∷ []) (pops i r) (pops i (r + 1)))))))))
+      q1 i (Op.ChkNull r spot) _ (plain i (Op.ChkNull r spot) (λ table pc s f. f) (λ m. tt))
+      (q1 i (Op.ChkNull (r + 1) spot) _ (plain i (Op.ChkNull (r + 1) spot) (λ table pc s f. f) (λ m. tt))
+      (q1 i (Op.ChkHeld _ spot) _ (plain i (Op.ChkHeld _ spot) (λ table pc s f. f) (λ m. tt))
+      (q1 i (Op.CondEnter _ spot) _ (plain i (Op.CondEnter _ spot) (λ table pc s f. f) (λ m. tt))
+      (q1 i (Op.Unlock (r + 2) _ spot) _ (plain i (Op.Unlock (r + 2) _ spot) (λ table pc s f. f) (λ m. tt))
+      (q1 i (Op.CondWait _ a) _ (plain i (Op.CondWait _ a) (λ table pc s f. f) (λ m. tt))
+      (q1 i (Op.Lock _ b) _ (plain i (Op.Lock _ b) (λ table pc s f. f) (λ m. tt)) (both i (Op.Pop r ∷ []) (Op.Pop (r + 1) ∷ []) (pops i r) (pops i (r + 1)))))))))
 
-  waked : (i r : ℕ) (o : Op) (spot : Spot) → R i (o ∷ []) → R i (op.ChkNull r spot ∷ o ∷ op.Pop r ∷ [])
-  waked i r o spot p = q1 i (op.ChkNull r spot) _ (plain i (op.ChkNull r spot) (λ table pc s f. f) (λ m. tt)) (q1 i o (op.Pop r ∷ []) p (pops i r))
+  waked : (i r : ℕ) (o : Op) (spot : Spot) → R i (o ∷ []) → R i (Op.ChkNull r spot ∷ o ∷ Op.Pop r ∷ [])
+  waked i r o spot p = q1 i (Op.ChkNull r spot) _ (plain i (Op.ChkNull r spot) (λ table pc s f. f) (λ m. tt)) (q1 i o (Op.Pop r ∷ []) p (pops i r))
 
   conditions : (i r : ℕ) (spot : Spot) (name : List ℕ) (all : Arguments) → R i (condition_code r spot name all)
   conditions i r spot name all =
       choose_r i (bytes_eq name (codes "wait")) _ _ (waits i r spot (with_words spot (argument_words 0 all)) (with_words spot (argument_words 1 all)))
-      (choose_r i (bytes_eq name (codes "signal")) _ _ (waked i r (op.CondSignal _ spot) spot (plain i (op.CondSignal _ spot) (λ table pc s f. f) (λ m. tt))) (waked i r (op.CondBroadcast _ spot) spot (plain i (op.CondBroadcast _ spot) (λ table pc s f. f) (λ m. tt))))
+      (choose_r i (bytes_eq name (codes "signal")) _ _ (waked i r (Op.CondSignal _ spot) spot (plain i (Op.CondSignal _ spot) (λ table pc s f. f) (λ m. tt))) (waked i r (Op.CondBroadcast _ spot) spot (plain i (Op.CondBroadcast _ spot) (λ table pc s f. f) (λ m. tt))))
 
   calls : (i r : ℕ) (spot : Spot) (n : Named) (name : List ℕ) (all : Arguments) → R i (called_code i r spot n name all)
-  calls i r spot (named.Function k) name all = λ s low. one s (op.Call k i r spot) s (λ table pc d fit. record { next = (d k, λ x y. let z = fit x y in (z, low x z)); stands = λ m h. tt })
-  calls i r spot named.Known name all = conditions i r spot name all
+  calls i r spot (Named.Function k) name all = λ s low. one s (Op.Call k i r spot) s (λ table pc d fit. record { next = (d k, λ x y. let z = fit x y in (z, low x z)); stands = λ m h. tt })
+  calls i r spot Named.Known name all = conditions i r spot name all
   calls i r spot _ name all = none i
 
   sides : (b : Bool) (i r : ℕ) (o : BinaryOperator) (xs : List Op) (ys : ℕ → ℕ → List Op) (final : Op) → R i xs → ((j r2 : ℕ) → R j (ys j r2)) → R i (final ∷ []) → R i (xs ++ (ys (behind_int b i) (behind_ref b r) ++ cond b (compare_code o i r) (final ∷ [])))
@@ -290,7 +278,7 @@ module _ (flat : Flat) where
   binaries : (c : Context) (i r : ℕ) (site : Site) (o : BinaryOperator) (a b : Expression) (xs : List Op) (ys : ℕ → ℕ → List Op) → R i xs → ((j r2 : ℕ) → R j (ys j r2)) → R i (binary_code c i r site o a b xs ys)
   binaries c i r site LogicalAnd a b xs ys p q = logicals i (xs ++ truth_code (is_ref c a) i r) (ys i r ++ truth_code (is_ref c b) i r) (both i xs _ p (truths (is_ref c a) i r)) (both i (ys i r) _ (q i r) (truths (is_ref c b) i r))
   binaries c i r site LogicalOr a b xs ys p q = eithers i (xs ++ truth_code (is_ref c a) i r) (ys i r ++ truth_code (is_ref c b) i r) (both i xs _ p (truths (is_ref c a) i r)) (both i (ys i r) _ (q i r) (truths (is_ref c b) i r))
-  binaries c i r site j a b xs ys p q = sides (is_ref c a) i r j xs ys _ p q (sets i i (op.Compute _ _ i i (i + 1) _) (omega arith) (λ table pc s k. k) (λ m. tt))
+  binaries c i r site j a b xs ys p q = sides (is_ref c a) i r j xs ys _ p q (sets i i (Op.Compute _ _ i i (i + 1) _) (omega arith) (λ table pc s k. k) (λ m. tt))
 
   -- ---- places, and their accesses
   module _ (c : Context) (same : c.globals ≡ flat.globals) where
@@ -303,7 +291,7 @@ module _ (flat : Flat) where
 
     guards : (s : Ties) (i r : ℕ) (site : Site) (lvalue : Lvalue) (t : Target) (g : Option ℕ) → P s (guard_code c i r site lvalue t g) s
     guards s i r site lvalue t None = empty s
-    guards s i r site lvalue t (Some mutex) = quiet s (op.LoadGuard _ _) (λ table pc f. f) (λ m. tt)
+    guards s i r site lvalue t (Some mutex) = quiet s (Op.LoadGuard _ _) (λ table pc f. f) (λ m. tt)
 
     held_left : (a b : Ties) (m : At) → AllHold flat (a ++ b) m → AllHold flat a m
     held_left a b m h x y = h x (in_left a b x y)
@@ -312,16 +300,16 @@ module _ (flat : Flat) where
     cell_values i r site lvalue mode true t is s low =
         let A = M t mode i in
         then_do (A ++ s) (A ++ s) s (guard_code c i r site lvalue t (guard_field c.program.typed mode)) _ (guards (A ++ s) i r site lvalue t (guard_field c.program.typed mode))
-        (then_do (A ++ s) s s (op.LoadRef (r + base_width t) _ _ ∷ []) (settle_base r t)
-        (one (A ++ s) (op.LoadRef (r + base_width t) _ _) s (λ table pc d fit. record { next = fit_through (A ++ s) s (table (pc + 1)) (in_right A s) fit; stands = λ m h. access_stands c same m i r site lvalue uses.Read t is mode (held_left A s m h) }))
+        (then_do (A ++ s) s s (Op.LoadRef (r + base_width t) _ _ ∷ []) (settle_base r t)
+        (one (A ++ s) (Op.LoadRef (r + base_width t) _ _) s (λ table pc d fit. record { next = fit_through (A ++ s) s (table (pc + 1)) (in_right A s) fit; stands = λ m h. access_stands c same m i r site lvalue Use.Read t is mode (held_left A s m h) }))
         (settles i r t s low))
     cell_values i r site lvalue mode false t is s low =
         let A = M t mode i in
         then_do (A ++ s) (A ++ s) s (guard_code c i r site lvalue t (guard_field c.program.typed mode)) _ (guards (A ++ s) i r site lvalue t (guard_field c.program.typed mode))
-        (then_do (A ++ s) s s (op.Load i _ _ ∷ []) (drop_base r t)
-        (one (A ++ s) (op.Load i _ _) s (λ table pc d fit. record {
+        (then_do (A ++ s) s s (Op.Load i _ _ ∷ []) (drop_base r t)
+        (one (A ++ s) (Op.Load i _ _) s (λ table pc d fit. record {
           next = λ x y. let z = fit x y in (in_right A s x z, apart_low i i s low (omega arith) x z);
-          stands = λ m h. access_stands c same m i r site lvalue uses.Read t is mode (held_left A s m h);
+          stands = λ m h. access_stands c same m i r site lvalue Use.Read t is mode (held_left A s m h);
         }))
         (drops i r t s low))
 
@@ -333,26 +321,26 @@ module _ (flat : Flat) where
     cell_takes i r site lvalue mode form t is s low =
         let A = M t mode i in
         then_do (A ++ s) (A ++ s) s (guard_code c i r site lvalue t (guard_field c.program.typed mode)) _ (guards (A ++ s) i r site lvalue t (guard_field c.program.typed mode))
-        (then_do (A ++ s) s s (op.TakeCell (r + base_width t) _ _ ∷ []) (settle_base r t)
-        (one (A ++ s) (op.TakeCell (r + base_width t) _ _) s (λ table pc d fit. record { next = fit_through (A ++ s) s (table (pc + 1)) (in_right A s) fit; stands = λ m h. access_stands c same m i r site lvalue (form None) t is mode (held_left A s m h) }))
+        (then_do (A ++ s) s s (Op.TakeCell (r + base_width t) _ _ ∷ []) (settle_base r t)
+        (one (A ++ s) (Op.TakeCell (r + base_width t) _ _) s (λ table pc d fit. record { next = fit_through (A ++ s) s (table (pc + 1)) (in_right A s) fit; stands = λ m h. access_stands c same m i r site lvalue (form None) t is mode (held_left A s m h) }))
         (settles i r t s low))
 
     takes : (i r : ℕ) (site : Site) (lvalue : Lvalue) (mode : Sharing) (form : Option ℕ → Use) (t : Target) (s : Ties) → Low i s → P (M t mode i ++ s) (take_code c i r site lvalue mode form t) s
-    takes i r site lvalue mode form (variable x) s low = quiet s (op.TakeLocal r _ _) (λ table pc f. f) (λ m. tt)
+    takes i r site lvalue mode form (variable x) s low = quiet s (Op.TakeLocal r _ _) (λ table pc f. f) (λ m. tt)
     takes i r site lvalue mode form k s low = cell_takes i r site lvalue mode form k refl s low
 
     cell_stores : (i r vi vr : ℕ) (site : Site) (lvalue : Lvalue) (mode : Sharing) (b : Bool) (t : Target) → is_cell t ≡ true → (s : Ties) → Low i s → P (M t mode i ++ s) (cell_store_code c i r vi vr site lvalue mode b t) s
     cell_stores i r vi vr site lvalue mode true t is s low =
         let A = M t mode i in
         then_do (A ++ s) (A ++ s) s (guard_code c i r site lvalue t (guard_field c.program.typed mode)) _ (guards (A ++ s) i r site lvalue t (guard_field c.program.typed mode))
-        (then_do (A ++ s) s s (op.StoreRef vr _ _ ∷ []) (drop_base r t)
-        (one (A ++ s) (op.StoreRef vr _ _) s (λ table pc d fit. record { next = fit_through (A ++ s) s (table (pc + 1)) (in_right A s) fit; stands = λ m h. access_stands c same m i r site lvalue uses.Write t is mode (held_left A s m h) }))
+        (then_do (A ++ s) s s (Op.StoreRef vr _ _ ∷ []) (drop_base r t)
+        (one (A ++ s) (Op.StoreRef vr _ _) s (λ table pc d fit. record { next = fit_through (A ++ s) s (table (pc + 1)) (in_right A s) fit; stands = λ m h. access_stands c same m i r site lvalue Use.Write t is mode (held_left A s m h) }))
         (drops i r t s low))
     cell_stores i r vi vr site lvalue mode false t is s low =
         let A = M t mode i in
         then_do (A ++ s) (A ++ s) s (guard_code c i r site lvalue t (guard_field c.program.typed mode)) _ (guards (A ++ s) i r site lvalue t (guard_field c.program.typed mode))
-        (then_do (A ++ s) s s (op.Store vi _ _ ∷ []) (drop_base r t)
-        (one (A ++ s) (op.Store vi _ _) s (λ table pc d fit. record { next = fit_through (A ++ s) s (table (pc + 1)) (in_right A s) fit; stands = λ m h. access_stands c same m i r site lvalue uses.Write t is mode (held_left A s m h) }))
+        (then_do (A ++ s) s s (Op.Store vi _ _ ∷ []) (drop_base r t)
+        (one (A ++ s) (Op.Store vi _ _) s (λ table pc d fit. record { next = fit_through (A ++ s) s (table (pc + 1)) (in_right A s) fit; stands = λ m h. access_stands c same m i r site lvalue Use.Write t is mode (held_left A s m h) }))
         (drops i r t s low))
 
     -- a store into a variable leaves nothing known
@@ -360,8 +348,8 @@ module _ (flat : Flat) where
     stores i r vi vr site lvalue mode b (variable x) = by (register_of c.scope x)
       where
         by : (y : Register) → P [] (settle_code vi vr y) []
-        by (Int k) = one [] (op.Move k vi) [] (λ table pc d fit. record { next = λ x y. absurd (fit x y); stands = λ m h. tt })
-        by (Reference k) = quiet [] (op.Settle k vr) (λ table pc f. f) (λ m. tt)
+        by (Int k) = one [] (Op.Move k vi) [] (λ table pc d fit. record { next = λ x y. absurd (fit x y); stands = λ m h. tt })
+        by (Reference k) = quiet [] (Op.Settle k vr) (λ table pc f. f) (λ m. tt)
     stores i r vi vr site lvalue mode b k = cell_stores i r vi vr site lvalue mode b k refl [] (λ x y. absurd y)
 
     -- ---- an index
@@ -377,8 +365,8 @@ module _ (flat : Flat) where
         let A = copied i ∷ s in
         let B = scaled i cells (off n) ∷ s in
         let C = beside i (off n) (off mutex) ∷ s in
-        then_do s A C (op.Move (i + 1) i ∷ []) (bounds i n ∷ bounds (i + 1) mutex ∷ [])
-        (one s (op.Move (i + 1) i) A (λ table pc d fit. record { next = λ x y. ⊎_elim (λ e. inr (sym e, refl)) (λ h. inl (h, apart_low i (i + 1) s low (omega arith) x h)) (fit x y); stands = λ m h. tt }))
+        then_do s A C (Op.Move (i + 1) i ∷ []) (bounds i n ∷ bounds (i + 1) mutex ∷ [])
+        (one s (Op.Move (i + 1) i) A (λ table pc d fit. record { next = λ x y. ⊎_elim (λ e. inr (sym e, refl)) (λ h. inl (h, apart_low i (i + 1) s low (omega arith) x h)) (fit x y); stands = λ m h. tt }))
         (then_do A B C (bounds i n ∷ []) (bounds (i + 1) mutex ∷ [])
         (one A (bounds i n) B (λ table pc d fit. record {
           next = need table pc A i n (λ x y. ⊎_elim (λ e. inr (inl (sym e, inl refl))) (λ h. inl (inr h, apart_low i i s low (omega arith) x h)) (fit x y));
@@ -410,45 +398,45 @@ module _ (flat : Flat) where
     indexes s i r site f2 guard a xs ys number low p q n =
         let g = global_of (target c.program.typed None a) in
         let cells = element_cells c.program.typed (element_kind (kind_at c.program.typed a)) in
-        let of_array : ℕ → ℕ → Op = λ i n. op.GlobalBounds i (global_elements (global_at c.program.typed g)) cells (first_cell c.globals g + n) (at_site site) in
-        let of_pointer : ℕ → ℕ → Op = λ i n. op.Bounds i r cells n (at_site site) in
+        let of_array : ℕ → ℕ → Op = λ i n. Op.GlobalBounds i (global_elements (global_at c.program.typed g)) cells (first_cell c.globals g + n) (at_site site) in
+        let of_pointer : ℕ → ℕ → Op = λ i n. Op.Bounds i r cells n (at_site site) in
         let k = own_field f2 0 in
         index_by (is_array (kind_at c.program.typed a)) s i r (in_global_at g k) (in_object_at k) guard (second_ties guard i k (λ z. first_cell c.globals g + z)) (second_ties guard i k (λ z. z)) xs ys (bounds_code of_array i k guard) (bounds_code of_pointer i k guard) number
-        (op.ChkNull r (at_site site)) low (global_ties g k guard i) (object_ties k guard i) p q n (plain i (op.ChkNull r (at_site site)) (λ table pc s f. f) (λ m. tt))
+        (Op.ChkNull r (at_site site)) low (global_ties g k guard i) (object_ties k guard i) p q n (plain i (Op.ChkNull r (at_site site)) (λ table pc s f. f) (λ m. tt))
         (bounded s i k cells (λ z. first_cell c.globals g + z) of_array guard low (λ table pc s j k h. h) (λ m j k. tt)) (bounded s i k cells (λ z. z) of_pointer guard low (λ table pc s j k h. h) (λ m j k. tt))
 
     names : (i r : ℕ) (site : Site) (lvalue : Lvalue) (mode : Sharing) (b : Bool) (n : Named) → R i (named_code c i r site lvalue mode b n)
-    names i r site lvalue mode b (named.Variable x) = λ s low. values i r site lvalue mode b (variable x) s low
-    names i r site lvalue mode b (named.Global x) = λ s low. values i r site lvalue mode b (in_global x 0) s low
+    names i r site lvalue mode b (Named.Variable x) = λ s low. values i r site lvalue mode b (variable x) s low
+    names i r site lvalue mode b (Named.Global x) = λ s low. values i r site lvalue mode b (in_global x 0) s low
     names i r site lvalue mode b _ = none i
 
     unlocked : (i r : ℕ) (t : Target) → R i (unlocked_code r t)
-    unlocked i r t = choose_r i (has_base t) (op.Pop (r + 1) ∷ op.Pop r ∷ []) [] (both i (op.Pop (r + 1) ∷ []) (op.Pop r ∷ []) (pops i (r + 1)) (pops i r)) (none i)
+    unlocked i r t = choose_r i (has_base t) (Op.Pop (r + 1) ∷ Op.Pop r ∷ []) [] (both i (Op.Pop (r + 1) ∷ []) (Op.Pop r ∷ []) (pops i (r + 1)) (pops i r)) (none i)
 
     place_calls : (i r : ℕ) (s1 : Span) (w : PlaceCall) (a : Expression) (xs : List Op) → ((s : Ties) → Low i s → P s xs (T (target_of c a) (taken_guard c w a) i ++ s)) → R i (place_call_code c i r s1 w a xs)
     place_calls i r s1 Lock a xs p = λ s low.
         then_do s s s xs _ (forget s (T (target_of c a) None i) s xs (p s low))
-        (q1 i (op.ChkNotHeld _ _) _ (plain i (op.ChkNotHeld _ _) (λ table pc s f. f) (λ m. tt)) (q1 i (op.ChkRoom _) _ (plain i (op.ChkRoom _) (λ table pc s f. f) (λ m. tt)) (plain i (op.Lock _ _) (λ table pc s f. f) (λ m. tt))) s low)
+        (q1 i (Op.ChkNotHeld _ _) _ (plain i (Op.ChkNotHeld _ _) (λ table pc s f. f) (λ m. tt)) (q1 i (Op.ChkRoom _) _ (plain i (Op.ChkRoom _) (λ table pc s f. f) (λ m. tt)) (plain i (Op.Lock _ _) (λ table pc s f. f) (λ m. tt))) s low)
     place_calls i r s1 Unlock a xs p = λ s low.
         then_do s s s xs _ (forget s (T (target_of c a) None i) s xs (p s low))
-        (q1 i (op.ChkHeld _ _) _ (plain i (op.ChkHeld _ _) (λ table pc s f. f) (λ m. tt)) (q1 i (op.Unlock _ _ _) _ (plain i (op.Unlock _ _ _) (λ table pc s f. f) (λ m. tt)) (unlocked i r (target_of c a))) s low)
+        (q1 i (Op.ChkHeld _ _) _ (plain i (Op.ChkHeld _ _) (λ table pc s f. f) (λ m. tt)) (q1 i (Op.Unlock _ _ _) _ (plain i (Op.Unlock _ _ _) (λ table pc s f. f) (λ m. tt)) (unlocked i r (target_of c a))) s low)
     place_calls i r s1 Free a xs p = λ s low.
         let A = T (target_of c a) (guard_of c a) i in
         then_do s (A ++ s) s xs _ (p s low)
-        (then_do (A ++ s) s s (take_code c i r (span_of a).first (lvalue_in c a) (mode_of c a) uses.Free (target_of c a)) _ (takes i r (span_of a).first (lvalue_in c a) (mode_of c a) uses.Free (target_of c a) s low)
-        (over_null s r (op.Free r _ _) (plain i (op.Free r _ _) (λ table pc s f. f) (λ m. tt) s low)))
+        (then_do (A ++ s) s s (take_code c i r (span_of a).first (lvalue_in c a) (mode_of c a) Use.Free (target_of c a)) _ (takes i r (span_of a).first (lvalue_in c a) (mode_of c a) Use.Free (target_of c a) s low)
+        (over_null s r (Op.Free r _ _) (plain i (Op.Free r _ _) (λ table pc s f. f) (λ m. tt) s low)))
 
     casts : (i r : ℕ) (s1 : Span) (a : Expression) (xs : List Op) → ((s : Ties) → Low i s → P s xs (T (target_of c a) (guard_of c a) i ++ s)) → R i (cast_code c i r s1 a xs)
     casts i r s1 a xs p = λ s low.
         let A = T (target_of c a) (guard_of c a) i in
         then_do s (A ++ s) s xs _ (p s low)
-        (then_do (A ++ s) s s (take_code c i r (span_of a).first (lvalue_in c a) (mode_of c a) uses.Cast (target_of c a)) _ (takes i r (span_of a).first (lvalue_in c a) (mode_of c a) uses.Cast (target_of c a) s low)
-        (over_null s r (op.Give r _ _) (plain i (op.Give r _ _) (λ table pc s f. f) (λ m. tt) s low)))
+        (then_do (A ++ s) s s (take_code c i r (span_of a).first (lvalue_in c a) (mode_of c a) Use.Cast (target_of c a)) _ (takes i r (span_of a).first (lvalue_in c a) (mode_of c a) Use.Cast (target_of c a) s low)
+        (over_null s r (Op.Give r _ _) (plain i (Op.Give r _ _) (λ table pc s f. f) (λ m. tt) s low)))
 
     field_in : (s : Ties) (i r : ℕ) (site : Site) (f2 guard : Option ℕ) (s1 : Span) (a : Expression) (w : FieldOperator) (n : Identifier) (place : Option ℕ → List Op) (pointer : List Op) → ((z : Option ℕ) → P s (place z) (T (target c.program.typed z a) guard i ++ s)) → P s pointer s
         → P s (field_code c r site f2 w n place pointer) (T (target c.program.typed f2 (field s1 a w n)) guard i ++ s)
     field_in s i r site f2 guard s1 a Dot n place pointer px py = px (Some (own_field f2 (field_place_named c.program.typed (what_names c n.site.token))))
-    field_in s i r site f2 guard s1 a Arrow n place pointer px py = then_do s s s pointer (op.ChkNull r (at_site site) ∷ []) py (quiet s (op.ChkNull r (at_site site)) (λ table pc f. f) (λ m. tt))
+    field_in s i r site f2 guard s1 a Arrow n place pointer px py = then_do s s s pointer (Op.ChkNull r (at_site site) ∷ []) py (quiet s (Op.ChkNull r (at_site site)) (λ table pc f. f) (λ m. tt))
 
     later : (b : Bool) (i : ℕ) → i ≤ behind_int b i
     later true i = omega arith
@@ -458,7 +446,7 @@ module _ (flat : Flat) where
     mutual
       pub expressions : (i r : ℕ) (e : Expression) → R i (expression_code c i r e)
       expressions i r (identifier s1 x) = enters i _ (names i r x.site (lvalue_in c (identifier s1 x)) (mode_of c (identifier s1 x)) (is_ref c (identifier s1 x)) (what_names c x.site.token))
-      expressions i r (constant s1 k) = enters i _ (choose_r i (is_ref c (constant s1 k)) (op.Null r ∷ []) (op.Constant i _ ∷ []) (plain i (op.Null r) (λ table pc s f. f) (λ m. tt)) (sets i i (op.Constant i _) (omega arith) (λ table pc s k. k) (λ m. tt)))
+      expressions i r (constant s1 k) = enters i _ (choose_r i (is_ref c (constant s1 k)) (Op.Null r ∷ []) (Op.Constant i _ ∷ []) (plain i (Op.Null r) (λ table pc s f. f) (λ m. tt)) (sets i i (Op.Constant i _) (omega arith) (λ table pc s k. k) (λ m. tt)))
       expressions i r (parentheses s1 a) = enters i (expression_code c i r a) (expressions i r a)
       expressions i r (call s1 x all) =
           enters i _ (both i (arguments_code c i r (declared_kinds (parameters_named c.program.typed (what_names c x.site.token))) all) _ (arguments i r (declared_kinds (parameters_named c.program.typed (what_names c x.site.token))) all)
@@ -485,9 +473,9 @@ module _ (flat : Flat) where
           (then_do s (A ++ s) s (field_code c r s1.first None w n (λ z. place_code c i r s1.first z (guard_of c e) a) (expression_code c i r a)) _
           (field_in s i r s1.first None (guard_of c e) s1 a w n (λ z. place_code c i r s1.first z (guard_of c e) a) (expression_code c i r a) (λ z. places s i r s1.first z (guard_of c e) a low) (expressions i r a s low))
           (values i r s1.first (lvalue_in c e) (mode_of c e) (is_ref c e) (target_of c e) s low))
-      expressions i r (unary s1 Negate a) = enters i _ (both i (expression_code c i r a) _ (expressions i r a) (sets i i (op.Negate _ i i _) (omega arith) (λ table pc s k. k) (λ m. tt)))
-      expressions i r (unary s1 Not a) = enters i _ (both i (expression_code c i r a) _ (expressions i r a) (both i (truth_code (is_ref c a) i r) (op.IsFalse i i ∷ []) (truths (is_ref c a) i r) (falses i)))
-      expressions i r (unary s1 Complement a) = enters i _ (both i (expression_code c i r a) _ (expressions i r a) (sets i i (op.Complement i i) (omega arith) (λ table pc s k. k) (λ m. tt)))
+      expressions i r (unary s1 Negate a) = enters i _ (both i (expression_code c i r a) _ (expressions i r a) (sets i i (Op.Negate _ i i _) (omega arith) (λ table pc s k. k) (λ m. tt)))
+      expressions i r (unary s1 Not a) = enters i _ (both i (expression_code c i r a) _ (expressions i r a) (both i (truth_code (is_ref c a) i r) (Op.IsFalse i i ∷ []) (truths (is_ref c a) i r) (falses i)))
+      expressions i r (unary s1 Complement a) = enters i _ (both i (expression_code c i r a) _ (expressions i r a) (sets i i (Op.Complement i i) (omega arith) (λ table pc s k. k) (λ m. tt)))
       expressions i r (unary s1 Dereference a) =
           let e = unary s1 Dereference a in
           enters i _ (both i (pointee_code r s1.first (expression_code c i r a)) _ (pointees i r s1.first (expression_code c i r a) (expressions i r a)) (λ s low. values i r s1.first (lvalue_in c e) (mode_of c e) (is_ref c e) (target_of c e) s low))

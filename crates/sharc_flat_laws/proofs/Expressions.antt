@@ -1,19 +1,6 @@
 -- Each expression of a typed program suits.
-use Rattle.std.proofs.{Common.{◌≡◌, inl, inr, ℕ, Bool, true, false, List, refl, ap, sym, ◌∙◌, subst, Option, Some, None, if◌then◌else◌}, lemmas.Bool.false≢true}
-use Rattle.std.specs.List.{AllByRecursion}
-use Rattle.sharc_tree.specs.{declared.tree.declaration.Identifier.Identifier, declared.tree.expression.Constant.Constant, declared.token.NumberType.NumberType, Forms.is_lvalue, Measures.expressions, Tree.{Expression, Function}}
-use Rattle.sharc_tree.specs.declared.tree.expression.Constant.TheVariants as constants
-use Rattle.sharc_tree.specs.declared.token.NumberType.TheVariants as width
-use Rattle.sharc_names.specs.Kinds.{Kind, array, is_array, is_integer, is_pointer, declared_kind}
+use Rattle.sharc_flat_laws.proofs.{Imports.{◌≡◌, inl, inr, ℕ, Bool, true, false, List, refl, ap, sym, ◌∙◌, subst, Option, Some, None, if◌then◌else◌, false≢true, AllByRecursion, Identifier, Constant, NumberType, is_lvalue, expressions, Expression, Function, Kind, array, is_array, is_integer, is_pointer, declared_kind, constant_kind, number_kind, Resolution, kind_at, function_at, variable_kind, is_aggregate, Assignment, Sharing, is_reference, HasType, Callee, of_program, of_conditions, IsInteger, IsPointer, Common, both_shorter, a_variable, a_global, a_function, a_constant, in_parentheses, element_of_pointer, element_of_array, a_call, a_field, a_field_behind, negated, complemented, pointed_to, arithmetic, shifted, a_cast, IsHeld, Target, variable, in_global, in_global_at, in_object_at, target, named_target, own_field, global_of, Context, slot_kind, TakeSuits, LeftSuits, PathStands, is_cell, AtPlace, GlobalsUnguarded, no}, Sorts.{integer_yes, pointer_reference, pointer_plain, declared_reference, held_same}}
 use Rattle.sharc_names.specs.Kinds as kinds
-use Rattle.sharc_ctype.specs.{Expressions.{constant_kind, number_kind}, Resolved.{Resolution, kind_at, function_at, variable_kind}, Statements.is_aggregate}
-use Rattle.sharc_mode.specs.{Moded.Assignment, Sharings.Sharing}
-use Rattle.sharc_meaning.specs.State.{is_reference}
-use Rattle.sharc_ctype_laws.specs.{Constraints.{HasType, Callee, of_program, of_conditions, IsInteger, IsPointer, Common, both_shorter, a_variable, a_global, a_function, a_constant, in_parentheses, element_of_pointer, element_of_array, a_call, a_field, a_field_behind, negated, complemented, pointed_to, arithmetic, shifted, a_cast}, Rules.IsHeld}
-use Rattle.sharc_flat.specs.{Places.{Target, variable, in_global, in_global_at, in_object_at, target, named_target, own_field, global_of}, Scope.{Context, slot_kind}, Suits.{TakeSuits, LeftSuits, PathStands, is_cell}}
-use Rattle.sharc_flat_laws.specs.Stands.{AtPlace, GlobalsUnguarded}
-use Rattle.sharc_flat_laws.proofs.Sorts.{integer_yes, pointer_reference, pointer_plain, declared_reference, held_same}
-use Rattle.sharc_lemmas.proofs.Bools.{no}
 
 -- what is known of the program
 pub record Facts (m : Assignment) : Type 0 where
@@ -27,11 +14,11 @@ Stand c list = AllByRecursion (AtPlace c) list
 -- what has a struct or a mutex as its type is a cell
 
 constant_plain : (k : Constant) → is_aggregate (constant_kind k) ≡ false
-constant_plain (constants.Number n) = by n.number_type
+constant_plain (Constant.Number n) = by n.number_type
   where
     by : (w : NumberType) → is_aggregate (number_kind w) ≡ false
-    by width.Int = refl
-    by width.Long = refl
+    by NumberType.Int = refl
+    by NumberType.Long = refl
 constant_plain _ = refl
 
 common_plain : (j k t : Kind) → Common j k t → is_aggregate t ≡ false
@@ -67,11 +54,11 @@ whole_cell c w _ _ _ h f all = absurd (false≢true h)
 -- an array is a global
 
 constant_no_array : (k : Constant) → is_array (constant_kind k) ≡ false
-constant_no_array (constants.Number n) = by n.number_type
+constant_no_array (Constant.Number n) = by n.number_type
   where
     by : (w : NumberType) → is_array (number_kind w) ≡ false
-    by width.Int = refl
-    by width.Long = refl
+    by NumberType.Int = refl
+    by NumberType.Long = refl
 constant_no_array _ = refl
 
 common_no_array : (j k t : Kind) → Common j k t → is_array t ≡ false

@@ -1,10 +1,6 @@
 -- The names of the file are no variables.
-use Rattle.std.proofs.Common.{ℕ, Bool, true, false, cond, List, [], ◌∷◌, is_some}
-use Rattle.std.specs.List.{AllByRecursion}
-use Rattle.sharc_tree.specs.{declared.tree.item.GlobalDefinition.GlobalDefinition, Tree.{Item, structure, global, function}}
-use Rattle.sharc_names.specs.{declared.meaning.ConditionCall.ConditionCall, declared.scope.Scope.Scope, Names.{Entry, Meaning, Signature, look_up}}
+use Rattle.sharc_flat_laws.proofs.Imports.{ℕ, Bool, true, false, cond, List, [], ◌∷◌, is_some, AllByRecursion, GlobalDefinition, Item, structure, global, function, ConditionCall, Scope, Entry, Meaning, Signature, look_up, defines_condition, with_conditions, Heads, global_entry, function_entry, behind, behind_all, no_heads, file_scope}
 use Rattle.sharc_names.specs.Names as meaning
-use Rattle.sharc_ctype.specs.{Condition.{defines_condition, with_conditions}, Heads.{Heading as Heads, global_entry, function_entry, behind, behind_all, no_heads}, Items.file_scope}
 
 module _ (P : Meaning → Type 0) (globals : (n : ℕ) (g : GlobalDefinition) → P (meaning.global n g)) (functions : (n : ℕ) (s : Signature) → P (meaning.function n s)) (conditions : (k : ConditionCall) → P (meaning.condition k)) where
   abbrev All : List Entry → Type 0

@@ -1,11 +1,5 @@
 -- The lock paths of a well-moded program are of the allowed forms.
-use Rattle.std.proofs.Common.{◌≡◌, ℕ, ◌+◌, List, [], ◌∷◌, ◌++◌, refl, sym, Option, Some, None}
-use Rattle.std.specs.List.{AllByRecursion, flat_map}
-use Rattle.sharc_tree.specs.{declared.ctype.Path.Path, declared.token.Span.Span}
-use Rattle.sharc_ctype.specs.{declared.entity.Entity.Entity, declared.entity.Numbered.Numbered, Entities.{entities_in, numbered, numbered_from, positions_of}, Resolved.{Resolution, globals_in, functions_in}}
-use Rattle.sharc_mode.specs.{declared.finding.Finding.Finding, Expressions.items_notes, Moded.Assignment, Notes.{type_notes, path_notes, errors_by, private_notes, mode_notes, private_field_notes, names_in_level}, WellFormed.{first_unfit_path, first_unfit_mode, place_of}, WellModed.{WellModed, spawned_notes, touched_notes, notes_about}}
-use Rattle.sharc_flat_laws.specs.Stands.{IsFit}
-use Rattle.sharc_lemmas.proofs.Lists.{front, back, no_head, none_of}
+use Rattle.sharc_flat_laws.proofs.Imports.{◌≡◌, ℕ, ◌+◌, List, [], ◌∷◌, ◌++◌, refl, sym, Option, Some, None, AllByRecursion, flat_map, Path, Span, Entity, Numbered, entities_in, numbered, numbered_from, positions_of, Resolution, globals_in, functions_in, Finding, items_notes, Assignment, type_notes, path_notes, errors_by, private_notes, mode_notes, private_field_notes, names_in_level, first_unfit_path, first_unfit_mode, place_of, WellModed, spawned_notes, touched_notes, notes_about, IsFit, front, back, no_head, none_of}
 
 from_all : {A B : Type 0} (P : B → Type 0) (f : A → List B) (xs : List A) → AllByRecursion P (flat_map f xs) → AllByRecursion (λ x. AllByRecursion P (f x)) xs
 from_all P f [] h = tt

@@ -1,9 +1,5 @@
 -- Kinds: which are integers, pointers and scalars, and which agree.
-use Rattle.std.proofs.{Common.{◌≡◌, inl, inr, ◌+◌, ◌-◌, Bool, true, false, ◌&&◌, ◌||◌, cond, refl, ap, ap₂, sym, ◌∙◌, subst, eqb-true}, lemmas.Bool.{false≢true, and_parts}, lemmas.Slice.Eq.bytes_eq-Decides}
-use Rattle.sharc_tree.specs.{declared.ctype.Base.Base, declared.ctype.Base.TheVariants.{Int, Char, Long, Mutex, Void, Struct}}
-use Rattle.sharc_names.specs.Kinds.{Kind, object, null, is_integer, is_pointer, is_null, same_base, same_kind}
-use Rattle.sharc_ctype_laws.specs.Constraints.{IsInteger, IsPointer, IsScalar, integers, Assignable, integer, pointer, null_pointer}
-use Rattle.sharc_lemmas.proofs.Numbers.{one_less}
+use Rattle.sharc_flat_laws.proofs.Imports.{◌≡◌, inl, inr, ◌+◌, ◌-◌, Bool, true, false, ◌&&◌, ◌||◌, cond, refl, ap, ap₂, sym, ◌∙◌, subst, eqb-true, false≢true, and_parts, bytes_eq-Decides, Base, Int, Char, Long, Mutex, Void, Struct, Kind, object, null, is_integer, is_pointer, is_null, same_base, same_kind, IsInteger, IsPointer, IsScalar, integers, Assignable, integer, pointer, null_pointer, one_less}
 
 -- tests that decide equality
 

@@ -1,18 +1,7 @@
 -- In a typed program with its least assignment each lock path names a pointer in scope where it is used.
-use Rattle.std.proofs.Common.{inr, ℕ, Bool, true, false, cond, List, [], ◌∷◌, ◌++◌, length, map, Option, Some, None}
-use Rattle.std.specs.List.{AllByRecursion}
-use Rattle.sharc_tree.specs.{declared.tree.declaration.Declaration.Declaration, Low.LowItems, Measures.{expressions, in_option, in_right, in_simple, in_local, in_first, in_statement, in_statements, in_function}, Tree.{Expression, Right, value, malloc, Simple, assign, does_call, Local, First, nothing, declares, does, Statement, Statements, no_statements, statement, Function, Item, structure, global, function}}
+use Rattle.sharc_flat_laws.proofs.{Imports.{inr, ℕ, Bool, true, false, cond, List, [], ◌∷◌, ◌++◌, length, map, Option, Some, None, AllByRecursion, Declaration, LowItems, expressions, in_option, in_right, in_simple, in_local, in_first, in_statement, in_statements, expressions_in as in_function, Expression, Right, value, malloc, Simple, assign, does_call, Local, First, nothing, declares, does, Statement, Statements, no_statements, statement, Function, Item, structure, global, function, Named, Scope, Entry, Role, Entity, entity_declared, casts, local_entities, first_entities, head_entities, statement_entities, statements_entities, result_of, function_entities, entities_in, with_parameters, in_body, file_scope, Resolution, globals_in, functions_in, structs_in, Around, opened, looping, with_names, is_here, declared, behind_first, in_head, after, Assignment, written, declared_row, IsItself, IsFound, EachTypeFound, EachNamesItself, EachNamesFound, EachPathFound, MeetsConstraints, NamesFound, IsVariableIn, TypeStands, PathsAt, FirstStands, LocalsStand, AllLocalsStand, around_in, BodyStands, file_types, Placing, at, places_in_local, places_in_first, places_in, places_in_all, places_of, places_of_all, LocksAt, LocksOf, FirstLocks, LocalLocks, AllLocalLocks, LocksAreFound, front, back, both, together}, FileNames.in_file, Pointing.{type_good, pointed_good, reads_written, has_entity, good_row}, Reading.{wider_type, MeaningKnown, EntriesKnown, FileType, IsField, IsGlobal, FileKnown, Seen, Good, all_good, locks_at, CastFound, casts_found, PlaceKnown, IsTyped, seen_by}}
 use Rattle.sharc_tree.specs.Tree as tree
-use Rattle.sharc_names.specs.declared.fault.Named.TheVariants as named
-use Rattle.sharc_names.specs.{declared.scope.Scope.Scope, Names.Entry}
-use Rattle.sharc_names.specs.declared.types.Role.TheVariants as role
 use Rattle.sharc_names.specs.Names as meaning
-use Rattle.sharc_ctype.specs.{declared.entity.Entity.Entity, Entities.{declared as entity_declared, casts, local_entities, first_entities, head_entities, statement_entities, statements_entities, result_of, function_entities, entities_in}, Items.{with_parameters, in_body, file_scope}, Resolved.{Resolution, globals_in, functions_in, structs_in}, Statements.{Around, opened, looping, with_names, is_here, declared, behind_first, in_head, after}}
-use Rattle.sharc_mode.specs.{Moded.Assignment, Rows.{written, declared_row}}
-use Rattle.sharc_ctype_laws.specs.{Declared.IsItself, Found.{IsFound, EachTypeFound}, Laws.{EachNamesItself, EachNamesFound, EachPathFound, MeetsConstraints, NamesFound}, Paths.{IsVariableIn, TypeStands, PathsAt, FirstStands, LocalsStand, AllLocalsStand, around_in, BodyStands, file_types}, Places.{Placing, at, places_in_local, places_in_first, places_in, places_in_all, places_of, places_of_all}}
-use Rattle.sharc_flat_laws.specs.Stands.{LocksAt, LocksOf, FirstLocks, LocalLocks, AllLocalLocks, LocksAreFound}
-use Rattle.sharc_flat_laws.proofs.{FileNames.in_file, Pointing.{type_good, pointed_good, reads_written, has_entity, good_row}, Reading.{wider_type, MeaningKnown, EntriesKnown, FileType, IsField, IsGlobal, FileKnown, Seen, Good, all_good, locks_at, CastFound, casts_found, PlaceKnown, IsTyped, seen_by}}
-use Rattle.sharc_lemmas.proofs.Lists.{front, back, both, together}
 
 -- ---- the scope grows
 
@@ -23,8 +12,8 @@ known_if r names e false all h = (h, all)
 declared_known : (r : Resolution) (block : ℕ) (d : Declaration) (names : List Entry) → EntriesKnown r names → MeaningKnown r (meaning.variable d) → EntriesKnown r (declared block d names)
 declared_known r block d names all h = known_if r names (record { name = d.name.text; block = block; meaning = meaning.variable d }) (is_here block names d) all h
 
-local_known : (r : Resolution) (d : Declaration) → IsFound r (entity_declared role.Local d) → MeaningKnown r (meaning.variable d)
-local_known r d f = (has_entity r (entity_declared role.Local d) f, f.named)
+local_known : (r : Resolution) (d : Declaration) → IsFound r (entity_declared Role.Local d) → MeaningKnown r (meaning.variable d)
+local_known r d f = (has_entity r (entity_declared Role.Local d) f, f.named)
 
 first_known : (r : Resolution) (around : Around) (names : List Entry) → EntriesKnown r names → (f : First) → AllByRecursion (IsFound r) (first_entities f) → EntriesKnown r (behind_first around names f)
 first_known r around names all (declares l) h = declared_known r around.block l.declaration names all (local_known r l.declaration h.0)
@@ -34,9 +23,9 @@ after_known : (r : Resolution) (around : Around) (names : List Entry) → Entrie
 after_known r around names all (tree.declare s l) h = declared_known r around.block l.declaration names all (local_known r l.declaration h.0)
 after_known r around names all _ h = all
 
-parameters_known : (r : Resolution) (block : ℕ) (names : List Entry) → EntriesKnown r names → (list : List Declaration) → AllByRecursion (IsFound r) (map (entity_declared role.Parameter) list) → EntriesKnown r (with_parameters block names list)
+parameters_known : (r : Resolution) (block : ℕ) (names : List Entry) → EntriesKnown r names → (list : List Declaration) → AllByRecursion (IsFound r) (map (entity_declared Role.Parameter) list) → EntriesKnown r (with_parameters block names list)
 parameters_known r block names all [] h = all
-parameters_known r block names all (d ∷ rest) h = parameters_known r block (declared block d names) (declared_known r block d names all (has_entity r (entity_declared role.Parameter d) h.0, h.0.named)) rest h.1
+parameters_known r block names all (d ∷ rest) h = parameters_known r block (declared block d names) (declared_known r block d names all (has_entity r (entity_declared Role.Parameter d) h.0, h.0.named)) rest h.1
 
 still_in : (b : Bool) (names : List Entry) (e : Entry) (x : ℕ) → IsVariableIn names x → IsVariableIn (cond b names (e ∷ names)) x
 still_in true names e x h = h
@@ -100,12 +89,12 @@ module _ (m : Assignment) (w : FileKnown m) where
       let inner = with_names scope (declared around.block l.declaration scope.names) in
       list_locked inner (declared_known r around.block l.declaration scope.names known (local_known r l.declaration f.0)) (in_option in_right l.initial) (rights_good inner l.initial) k h (casts_found r (in_option in_right l.initial) f.1)
 
-  local_locks : (block : ℕ) (names : List Entry) (d : Declaration) → IsFound r (entity_declared role.Local d) → TypeStands r names d.written → LocksOf m (declared block d names) d
+  local_locks : (block : ℕ) (names : List Entry) (d : Declaration) → IsFound r (entity_declared Role.Local d) → TypeStands r names d.written → LocksOf m (declared block d names) d
   local_locks block names d f h =
       let inner = declared block d names in
       let e : Entry = record { name = d.name.text; block = block; meaning = meaning.variable d } in
       pointed_good m inner (declared_row r written d.name.site.token)
-      (good_row m w.least inner written (reads_written r inner) d.name.site.token d.name.site.token d.written (has_entity r (entity_declared role.Local d) f)
+      (good_row m w.least inner written (reads_written r inner) d.name.site.token d.name.site.token d.written (has_entity r (entity_declared Role.Local d) f)
       (type_good r inner d.written (wider_type r names inner (still_in (is_here block names d) names e) d.written h) f.named))
 
   first_places : (around : Around) (scope : Scope) → EntriesKnown r scope.names → (x : First) → Found (first_entities x) → Known (places_in_first around scope x) → Typed (in_first x) → Locked (places_in_first around scope x)
@@ -282,7 +271,7 @@ module _ (m : Assignment) (w : FileKnown m) where
       → FunctionsLocked file list
   functions_locked file known [] f k t s = record { places = tt; locals = tt }
   functions_locked file known (x ∷ rest) f k t s =
-      let heads = result_of x ∷ map (entity_declared role.Parameter) x.parameters in
+      let heads = result_of x ∷ map (entity_declared Role.Parameter) x.parameters in
       let own = front (IsFound r) heads (statements_entities x.statements) f.0 in
       let y = all_locked_in (around_in file x) (in_body file x) x.statements (record {
         known = parameters_known r (length file.names) file.names known x.parameters own.1;
@@ -296,29 +285,29 @@ module _ (m : Assignment) (w : FileKnown m) where
 
 -- ---- what the laws say of the file
 
-field_list : (r : Resolution) (list : List Declaration) → AllByRecursion (IsFound r) (map (entity_declared role.Field) list) → AllByRecursion (TypeStands r []) (map (λ (d : Declaration). d.written) list) → AllByRecursion (IsItself r named.Field) list → AllByRecursion (IsField r) list
+field_list : (r : Resolution) (list : List Declaration) → AllByRecursion (IsFound r) (map (entity_declared Role.Field) list) → AllByRecursion (TypeStands r []) (map (λ (d : Declaration). d.written) list) → AllByRecursion (IsItself r Named.Field) list → AllByRecursion (IsField r) list
 field_list r [] f s i = tt
-field_list r (d ∷ rest) f s i = (record { is = i.0.1; type = record { has = has_entity r (entity_declared role.Field d) f.0; stands = s.0 } }, field_list r rest f.1 s.1 i.1)
+field_list r (d ∷ rest) f s i = (record { is = i.0.1; type = record { has = has_entity r (entity_declared Role.Field d) f.0; stands = s.0 } }, field_list r rest f.1 s.1 i.1)
 
-fields_known : (r : Resolution) (items : List Item) → AllByRecursion (IsFound r) (entities_in items) → AllByRecursion (TypeStands r []) (file_types items) → AllByRecursion (λ s. AllByRecursion (IsItself r named.Field) s.fields) (structs_in items)
+fields_known : (r : Resolution) (items : List Item) → AllByRecursion (IsFound r) (entities_in items) → AllByRecursion (TypeStands r []) (file_types items) → AllByRecursion (λ s. AllByRecursion (IsItself r Named.Field) s.fields) (structs_in items)
     → AllByRecursion (λ s. AllByRecursion (IsField r) s.fields) (structs_in items)
 fields_known r [] f s i = tt
 fields_known r (structure x ∷ rest) f s i = (
-  field_list r x.fields (front (IsFound r) (map (entity_declared role.Field) x.fields) (entities_in rest) f) (front (TypeStands r []) (map (λ (d : Declaration). d.written) x.fields) (file_types rest) s) i.0,
-  fields_known r rest (back (IsFound r) (map (entity_declared role.Field) x.fields) (entities_in rest) f) (back (TypeStands r []) (map (λ (d : Declaration). d.written) x.fields) (file_types rest) s) i.1,
+  field_list r x.fields (front (IsFound r) (map (entity_declared Role.Field) x.fields) (entities_in rest) f) (front (TypeStands r []) (map (λ (d : Declaration). d.written) x.fields) (file_types rest) s) i.0,
+  fields_known r rest (back (IsFound r) (map (entity_declared Role.Field) x.fields) (entities_in rest) f) (back (TypeStands r []) (map (λ (d : Declaration). d.written) x.fields) (file_types rest) s) i.1,
 )
 fields_known r (global x ∷ rest) f s i = fields_known r rest f.1 s.1 i
 fields_known r (function x ∷ rest) f s i = fields_known r rest (back (IsFound r) (function_entities x) (entities_in rest) f) s.1 i
 
 globals_known : (r : Resolution) (items : List Item) → AllByRecursion (IsFound r) (entities_in items) → AllByRecursion (TypeStands r []) (file_types items) → LowItems items → AllByRecursion (IsGlobal r) (globals_in items)
 globals_known r [] f s low = tt
-globals_known r (structure x ∷ rest) f s low = globals_known r rest (back (IsFound r) (map (entity_declared role.Field) x.fields) (entities_in rest) f) (back (TypeStands r []) (map (λ (d : Declaration). d.written) x.fields) (file_types rest) s) low.1
+globals_known r (structure x ∷ rest) f s low = globals_known r rest (back (IsFound r) (map (entity_declared Role.Field) x.fields) (entities_in rest) f) (back (TypeStands r []) (map (λ (d : Declaration). d.written) x.fields) (file_types rest) s) low.1
 globals_known r (global x ∷ rest) f s low = (record { found = f.0; stands = s.0; some = low.0.0.0 }, globals_known r rest f.1 s.1 low.1)
 globals_known r (function x ∷ rest) f s low = globals_known r rest (back (IsFound r) (function_entities x) (entities_in rest) f) s.1 low.1
 
 results_known : (r : Resolution) (items : List Item) → AllByRecursion (IsFound r) (entities_in items) → AllByRecursion (TypeStands r []) (file_types items) → AllByRecursion (λ f. FileType r f.name.site.token f.result) (functions_in items)
 results_known r [] f s = tt
-results_known r (structure x ∷ rest) f s = results_known r rest (back (IsFound r) (map (entity_declared role.Field) x.fields) (entities_in rest) f) (back (TypeStands r []) (map (λ (d : Declaration). d.written) x.fields) (file_types rest) s)
+results_known r (structure x ∷ rest) f s = results_known r rest (back (IsFound r) (map (entity_declared Role.Field) x.fields) (entities_in rest) f) (back (TypeStands r []) (map (λ (d : Declaration). d.written) x.fields) (file_types rest) s)
 results_known r (global x ∷ rest) f s = results_known r rest f.1 s.1
 results_known r (function x ∷ rest) f s = (
   record { has = has_entity r (result_of x) (front (IsFound r) (function_entities x) (entities_in rest) f).0; stands = s.0 },
@@ -327,7 +316,7 @@ results_known r (function x ∷ rest) f s = (
 
 functions_found : (r : Resolution) (items : List Item) → AllByRecursion (IsFound r) (entities_in items) → AllByRecursion (λ f. AllByRecursion (IsFound r) (function_entities f)) (functions_in items)
 functions_found r [] f = tt
-functions_found r (structure x ∷ rest) f = functions_found r rest (back (IsFound r) (map (entity_declared role.Field) x.fields) (entities_in rest) f)
+functions_found r (structure x ∷ rest) f = functions_found r rest (back (IsFound r) (map (entity_declared Role.Field) x.fields) (entities_in rest) f)
 functions_found r (global x ∷ rest) f = functions_found r rest f.1
 functions_found r (function x ∷ rest) f = (front (IsFound r) (function_entities x) (entities_in rest) f, functions_found r rest (back (IsFound r) (function_entities x) (entities_in rest) f))
 

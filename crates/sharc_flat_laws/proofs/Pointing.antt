@@ -1,16 +1,6 @@
 -- The modes of what has a type: what their lock paths name is in scope where that of the type's own paths is.
-use Rattle.std.proofs.Common.{◌≡◌, ℕ, zero, suc, ◌+◌, ◌-◌, ◌<◌, ◌==◌, Bool, true, false, cond, List, [], ◌∷◌, ◌++◌, length, map, take, drop, refl, ap, sym, ◌∙◌, subst, arith, lt-ltb, Option, Some, None}
-use Rattle.std.specs.{Prelude.slice_index_or, List.{AllByRecursion, find}, Option.option_or}
-use Rattle.sharc_tree.specs.{declared.ctype.Base.Base, declared.ctype.Path.TheVariants.{One, Through}, declared.ctype.Mode.Mode, declared.ctype.Mode.TheVariants.{Private, Locked, Racy}, declared.tree.declaration.WrittenType.WrittenType}
-use Rattle.sharc_names.specs.{declared.fault.Named.Named, declared.types.Role.Role, Kinds.{Kind, is_pointer}, Names.Entry}
-use Rattle.sharc_names.specs.declared.fault.Named.TheVariants as named
-use Rattle.sharc_names.specs.declared.types.Role.TheVariants as role
-use Rattle.sharc_ctype.specs.{declared.entity.Entity.Entity, declared.entity.Numbered.Numbered, Entities.{entities_in, entity_at, is_told_by, numbered_from, positions_of, written_modes, first_depth}, Resolved.{Resolution, named_at, declaration_at, variable_kind}}
-use Rattle.sharc_ctype_laws.specs.{Found.IsFound, Paths.{IsAmong, LevelStands, TypeStands}, WrittenTypes.{FirstNames, a_field, a_variable, a_global, a_function, a_known_call, IsNamedLevel, IsNamedType}}
-use Rattle.sharc_graph.specs.{declared.graph.NodeFinding.NodeFinding, declared.graph.NodeFinding.TheVariants.Apart, Findings.finding_at}
-use Rattle.sharc_mode.specs.{Cells.{first_of, pointed}, Flows.{IsLeastAssignment, mode_found}, Moded.{Assignment, mode_at}, Rows.{PathReading, written, through, Targets, deeper, targets_from, entity_row, read}, Settled.{is_mutex, settled, field_target, otherwise_of, settled_modes, settled_in, settled_at}, Sharings.{Sharing, private, locked, sharing_of, text_at, is_sibling_lock}}
-use Rattle.sharc_flat_laws.specs.Stands.{PathNamedIn, PathIn}
-use Rattle.sharc_lemmas.proofs.Options.{same_some, none_some}
+use Rattle.sharc_flat_laws.proofs.Imports.{◌≡◌, ℕ, zero, suc, ◌+◌, ◌-◌, ◌<◌, ◌==◌, Bool, true, false, cond, List, [], ◌∷◌, ◌++◌, length, map, take, drop, refl, ap, sym, ◌∙◌, subst, arith, lt-ltb, Option, Some, None, slice_index_or, AllByRecursion, find, option_or, Base, One, Through, Mode, Private, Locked, Racy, WrittenType, Named, Role, Kind, is_pointer, Entry, Entity, Numbered, entities_in, entity_at, is_told_by, numbered_from, positions_of, written_modes, first_depth, Resolution, named_at, declaration_at, variable_kind, IsFound, IsAmong, LevelStands, TypeStands, FirstNames, a_known_call, IsNamedLevel, IsNamedType, NodeFinding, Apart, finding_at, first_of, pointed, IsLeastAssignment, mode_found, Assignment, mode_at, PathReading, written, through, Targets, deeper, targets_from, entity_row, read, is_mutex, settled, field_target, otherwise_of, settled_modes, settled_in, settled_at, Sharing, private, locked, sharing_of, text_at, is_sibling_lock, PathNamedIn, PathIn, same_some, none_some}
+use Rattle.sharc_ctype_laws.specs.WrittenTypes.{a_field, a_variable, a_global, a_function}
 
 -- ---- levels
 abbrev pub LevelGood : Resolution → List Entry → Option Mode → Type 0
@@ -20,35 +10,35 @@ LevelGood r names (Some mode) = PathIn r names (sharing_of mode)
 abbrev pub TypeGood : Resolution → List Entry → WrittenType → Type 0
 TypeGood r names w = AllByRecursion (LevelGood r names) w.ctype.levels
 
-pub same_token : (t u : ℕ) → named.Variable t ≡ named.Variable u → t ≡ u
+pub same_token : (t u : ℕ) → Named.Variable t ≡ Named.Variable u → t ≡ u
 same_token t u e = cc
 
-no_field : (t u : ℕ) → named.Field t ≡ named.Variable u → ⊥
+no_field : (t u : ℕ) → Named.Field t ≡ Named.Variable u → ⊥
 no_field t u e = cc
 
-pub no_global : (t u : ℕ) → named.Global t ≡ named.Variable u → ⊥
+pub no_global : (t u : ℕ) → Named.Global t ≡ Named.Variable u → ⊥
 no_global t u e = cc
 
-pub no_function : (t u : ℕ) → named.Function t ≡ named.Variable u → ⊥
+pub no_function : (t u : ℕ) → Named.Function t ≡ Named.Variable u → ⊥
 no_function t u e = cc
 
-pub no_known : (u : ℕ) → named.Known ≡ named.Variable u → ⊥
+pub no_known : (u : ℕ) → Named.Known ≡ Named.Variable u → ⊥
 no_known u e = cc
 
 -- the type of the variable that a first name names
-first_kind : (r : Resolution) (token : ℕ) (text : List ℕ) (k : Kind) → FirstNames r token text k → (t : ℕ) → named_at r token ≡ named.Variable t → variable_kind (declaration_at r t) ≡ k
+first_kind : (r : Resolution) (token : ℕ) (text : List ℕ) (k : Kind) → FirstNames r token text k → (t : ℕ) → named_at r token ≡ Named.Variable t → variable_kind (declaration_at r t) ≡ k
 first_kind r token text _ (a_field is at same) t n = absurd (no_field _ _ (sym is ∙ n))
 first_kind r token text _ (a_variable is at same) t n = ap (λ x. variable_kind (declaration_at r x)) (same_token _ _ (sym n ∙ is)) ∙ ap variable_kind at
 first_kind r token text _ (a_global is at same) t n = absurd (no_global _ _ (sym is ∙ n))
 first_kind r token text _ (a_function is at same other) t n = absurd (no_function _ _ (sym is ∙ n))
 first_kind r token text _ (a_known_call c is same) t n = absurd (no_known _ (sym is ∙ n))
 
-named_in : (r : Resolution) (names : List Entry) (m : List ℕ) (w : Named) → IsAmong names w → ((t : ℕ) → w ≡ named.Variable t → is_pointer (variable_kind (declaration_at r t)) ≡ true) → PathNamedIn r names w (Some m)
-named_in r names m (named.Variable t) s p = (s, p t refl)
+named_in : (r : Resolution) (names : List Entry) (m : List ℕ) (w : Named) → IsAmong names w → ((t : ℕ) → w ≡ Named.Variable t → is_pointer (variable_kind (declaration_at r t)) ≡ true) → PathNamedIn r names w (Some m)
+named_in r names m (Named.Variable t) s p = (s, p t refl)
 named_in r names m _ s p = tt
 
 pub alone_in : (r : Resolution) (names : List Entry) (w : Named) → PathNamedIn r names w None
-alone_in r names (named.Field t) = tt
+alone_in r names (Named.Field t) = tt
 alone_in r names _ = tt
 
 level_good : (r : Resolution) (names : List Entry) (level : Option Mode) → LevelStands r names level → IsNamedLevel r level → LevelGood r names level
@@ -82,7 +72,7 @@ module _ (r : Resolution) (names : List Entry) where
   target_good _ h = tt
 
   otherwise_good : (where_ : Role) (levels : List (Option Mode)) → AllByRecursion Good levels → Good (otherwise_of where_ levels)
-  otherwise_good role.Field levels h = target_good levels h
+  otherwise_good Role.Field levels h = target_good levels h
   otherwise_good _ levels h = tt
 
   dropped : (n : ℕ) (levels : List (Option Mode)) → AllByRecursion Good levels → AllByRecursion Good (drop n levels)
@@ -217,7 +207,7 @@ entity_row_good m least names how reads n w good = by n.entity.role
     all k low = reads (mode_at m (n.first + k)) (mode_good m least names n w good k low)
 
     by : (where_ : Role) → GoodRow m names (targets_from where_ whole)
-    by role.Global = deeper_good m names whole all
+    by Role.Global = deeper_good m names whole all
     by _ = all
 
 -- what has this type is found at these tokens

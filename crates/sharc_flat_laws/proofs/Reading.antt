@@ -1,25 +1,13 @@
 -- Each expression whose names are in scope and whose types hold: the lock paths of its cell and of what it points to name pointers in scope.
-use Rattle.std.proofs.{Common.{◌≡◌, inl, inr, ℕ, zero, suc, ◌+◌, ◌<◌, Bool, true, false, cond, List, [], ◌∷◌, length, slice_get, refl, ap, sym, ◌∙◌, subst, arith, lt-ltb, Option, Some, None, is_some, bytes_eq}, lemmas.Bool.false≢true}
-use Rattle.std.specs.List.{AllByRecursion}
-use Rattle.sharc_tree.specs.{declared.ctype.Mode.Mode, declared.ctype.Mode.TheVariants.{Readonly, Locked}, declared.ctype.Path.TheVariants.{One, Through}, declared.token.Span.Span, declared.tree.declaration.Declaration.Declaration, declared.tree.declaration.Identifier.Identifier, declared.tree.declaration.WrittenType.WrittenType, declared.tree.expression.FieldOperator.FieldOperator, declared.tree.expression.FieldOperator.TheVariants.{Dot, Arrow}, declared.tree.expression.Constant.Constant, declared.tree.expression.UnaryOperator.UnaryOperator, declared.tree.expression.UnaryOperator.TheVariants.Dereference, declared.tree.item.GlobalDefinition.GlobalDefinition, declared.tree.item.StructDefinition.StructDefinition, Measures.{expressions, in_arguments}, Tree.{Expression, field, identifier, Arguments, no_arguments, argument, Function}}
-use Rattle.sharc_tree.specs.declared.tree.expression.Constant.TheVariants as constants
+use Rattle.sharc_flat_laws.proofs.{Imports.{◌≡◌, inl, inr, ℕ, zero, suc, ◌+◌, ◌<◌, Bool, true, false, cond, List, [], ◌∷◌, length, slice_get, refl, ap, sym, ◌∙◌, subst, arith, lt-ltb, Option, Some, None, is_some, bytes_eq, false≢true, AllByRecursion, Mode, Readonly, Locked, One, Through, Span, Declaration, Identifier, WrittenType, FieldOperator, Dot, Arrow, Constant, UnaryOperator, Dereference, GlobalDefinition, StructDefinition, expressions, in_arguments, Expression, field, identifier, Arguments, no_arguments, argument, Function, Named, Scope, Kind, object, is_array, is_pointer, declared_kind, Entry, Meaning, field_of, look_up, named_of, Role, Base, cast_entity, casts, entity_declared as declared, entities_in, is_told_by, positions_of, Entity, Numbered, Resolution, named_at, declaration_at, global_at, function_at, globals_in, functions_in, structs_in, kind_at, variable_kind, is_mutex_kind, written_cell, top_of, declared_cell, field_named, first_mode, global_cell, named_cell, pointed, instance, unary_cell, cell_at, IsLeastAssignment, Assignment, mode_at, PathReading, written, Targets, is_constant_named, constant_use, base_use, no_row, declared_row, global_row, named_row, result_row, called_row, constant_row, reading_through, unary_row, row_at, Sharing, private, readonly, locked, racy, lock_of, is_private, HasType, IsMemberOf, struct_named, a_variable, a_global, a_function, a_field, a_field_behind, IsFound, NamesFound, meaning_token, IsVariableIn, IsAmong, LevelStands, TypeStands, EntryStands, IsClosed, CastStands, PathsAt, Placing, at, IsNamedType, PathNamedIn, PathIn, LocksAt, front, back, both}, Pointing.{LevelGood, TypeGood, same_token, no_global, type_good, position_of, mode_good, GoodRow, deeper_good, pointed_good, Reads, reads_written, reads_through, HasEntity, has_entity, good_row, alone_in as alone_named}, Scoped.found_or_later}
 use Rattle.sharc_tree.specs.Tree as tree
-use Rattle.sharc_names.specs.{declared.fault.Named.Named, declared.scope.Scope.Scope, Kinds.{Kind, object, is_array, is_pointer, declared_kind}, Names.{Entry, Meaning, field_of, look_up, named_of}}
-use Rattle.sharc_names.specs.declared.fault.Named.TheVariants as named
-use Rattle.sharc_names.specs.declared.types.Role.TheVariants as role
-use Rattle.sharc_tree.specs.declared.ctype.Base.TheVariants as base
 use Rattle.sharc_names.specs.Names as meaning
-use Rattle.sharc_ctype.specs.{Entities.{cast_entity, casts, declared, entities_in, is_told_by, positions_of}, declared.entity.Entity.Entity, declared.entity.Numbered.Numbered, Resolved.{Resolution, named_at, declaration_at, global_at, function_at, globals_in, functions_in, structs_in, kind_at, variable_kind}}
-use Rattle.sharc_mode.specs.{Cells.{is_mutex_kind, written_cell, top_of, declared_cell, field_named, first_mode, global_cell, named_cell, pointed, instance, unary_cell, cell_at}, Flows.IsLeastAssignment, Moded.{Assignment, mode_at}, Rows.{PathReading, written, Targets, is_constant_named, constant_use, base_use, no_row, declared_row, global_row, named_row, result_row, called_row, behind, constant_row, reading_through, unary_row, row_at}, Sharings.{Sharing, private, readonly, locked, racy, lock_of, is_private}}
-use Rattle.sharc_ctype_laws.specs.{Constraints.{HasType, IsMemberOf, struct_named, a_variable, a_global, a_function, a_field, a_field_behind}, Found.IsFound, Laws.NamesFound, Paths.{meaning_token, IsVariableIn, IsAmong, LevelStands, TypeStands, EntryStands, IsClosed, CastStands, PathsAt}, Places.{Placing, at}, WrittenTypes.IsNamedType}
-use Rattle.sharc_flat_laws.specs.Stands.{PathNamedIn, PathIn, LocksAt}
-use Rattle.sharc_flat_laws.proofs.{Pointing.{LevelGood, TypeGood, same_token, no_global, type_good, position_of, mode_good, GoodRow, deeper_good, pointed_good, Reads, reads_written, reads_through, HasEntity, has_entity, good_row, alone_in as alone_named}, Scoped.found_or_later}
-use Rattle.sharc_lemmas.proofs.Lists.{front, back, both}
+use Rattle.sharc_mode.specs.Rows.{behind}
 
 -- ---- the types of the file name no variables
 
 file_named : (r : Resolution) (names : List Entry) (m : List ℕ) (n : Named) → IsAmong [] n → PathNamedIn r names n (Some m)
-file_named r names m (named.Variable t) h = absurd h
+file_named r names m (Named.Variable t) h = absurd h
 file_named r names m _ h = tt
 
 file_level : (r : Resolution) (names : List Entry) (level : Option Mode) → LevelStands r [] level → LevelGood r names level
@@ -38,7 +26,7 @@ file_type r names w h = file_levels r names w.ctype.levels h
 
 -- what more is in scope does no harm
 wider_named : (small big : List Entry) → ((x : ℕ) → IsVariableIn small x → IsVariableIn big x) → (n : Named) → IsAmong small n → IsAmong big n
-wider_named small big into (named.Variable t) h = into t h
+wider_named small big into (Named.Variable t) h = into t h
 wider_named small big into _ h = tt
 
 wider_level : (r : Resolution) (small big : List Entry) → ((x : ℕ) → IsVariableIn small x → IsVariableIn big x) → (level : Option Mode) → LevelStands r small level → LevelStands r big level
@@ -93,7 +81,7 @@ pub record IsField (r : Resolution) (d : Declaration) : Type 0 where
 
 -- the top of a global is a position
 pub record IsGlobal (r : Resolution) (g : GlobalDefinition) : Type 0 where
-  pub found : IsFound r (declared role.Global g.declaration)
+  pub found : IsFound r (declared Role.Global g.declaration)
   pub stands : TypeStands r [] g.declaration.written
   pub some : 0 < length g.declaration.written.ctype.levels
 
@@ -184,18 +172,18 @@ module _ (m : Assignment) (w : FileKnown m) (scope : Scope) where
 
   global_rows : (o : Option GlobalDefinition) → IfThere (IsGlobal r) o → GoodRow m names (global_row r written o)
   global_rows None h = none_good
-  global_rows (Some g) h = file_row written (reads_written r names) g.declaration.name.site.token g.declaration.written (record { has = has_entity r (declared role.Global g.declaration) h.found; stands = h.stands })
+  global_rows (Some g) h = file_row written (reads_written r names) g.declaration.name.site.token g.declaration.written (record { has = has_entity r (declared Role.Global g.declaration) h.found; stands = h.stands })
 
   result_rows : (o : Option Function) → IfThere (λ f. FileType r f.name.site.token f.result) o → GoodRow m names (result_row r o)
   result_rows None h = none_good
   result_rows (Some f) h = file_row written (reads_written r names) f.name.site.token f.result h
 
   called_rows : (n : Named) → GoodRow m names (called_row r n)
-  called_rows (named.Function n) = result_rows (function_at r n) (at_number (λ f. FileType r f.name.site.token f.result) (functions_in r.program.items) n w.results)
+  called_rows (Named.Function n) = result_rows (function_at r n) (at_number (λ f. FileType r f.name.site.token f.result) (functions_in r.program.items) n w.results)
   called_rows _ = none_good
 
   named_cells : (n : Named) → PathIn r names (named_cell m n)
-  named_cells (named.Global n) = global_cells (global_at r n) (at_number (IsGlobal r) (globals_in r.program.items) n w.globals)
+  named_cells (Named.Global n) = global_cells (global_at r n) (at_number (IsGlobal r) (globals_in r.program.items) n w.globals)
   named_cells _ = tt
 
   meaning_rows : (z : Meaning) → MeaningGood r names z → GoodRow m names (named_row r written (named_of z))
@@ -209,7 +197,7 @@ module _ (m : Assignment) (w : FileKnown m) (scope : Scope) where
       (meaning_rows h.name.0.meaning (entry_found (λ (e : Entry). MeaningGood r names e.meaning) names i.text h.name.0 h.entries h.name.1))
 
   constant_rows : (k : Constant) → RowGood m names (constant_row k)
-  constant_rows constants.Null = tt
+  constant_rows Constant.Null = tt
   constant_rows _ = none_good
 
   -- fields
@@ -224,7 +212,7 @@ module _ (m : Assignment) (w : FileKnown m) (scope : Scope) where
   written_cells q h (Some (Locked path)) k = choose _ private (locked (lock_of path)) tt k
   written_cells q h _ k = tt
 
-  field_cells : (q : Sharing) → PathIn r names q → (d : Declaration) → IsField r d → PathIn r names (field_named r q (named.Field d.name.site.token))
+  field_cells : (q : Sharing) → PathIn r names q → (d : Declaration) → IsField r d → PathIn r names (field_named r q (Named.Field d.name.site.token))
   field_cells q h d f =
       let good = file_type r names d.written f.type.stands in
       subst (λ o. PathIn r names (declared_cell r q o)) (sym f.is)
@@ -233,7 +221,7 @@ module _ (m : Assignment) (w : FileKnown m) (scope : Scope) where
   record Member (n : Identifier) : Type 0 where
     of : Declaration
     field : IsField r of
-    names : named_at r n.site.token ≡ named.Field of.name.site.token
+    names : named_at r n.site.token ≡ Named.Field of.name.site.token
 
   a_member : (x name : List ℕ) (d : Declaration) → IsMemberOf r x name d → IsField r d
   a_member x name d h = field_found r h.0.fields name d (struct_fields r (structs_in r.program.items) x h.0 w.fields h.1) h.2
@@ -242,12 +230,12 @@ module _ (m : Assignment) (w : FileKnown m) (scope : Scope) where
   member s a _ n _ (a_field {x = x} {d = d} t h is) = record { of = d; field = a_member x n.text d h; names = is }
   member s a _ n _ (a_field_behind {x = x} {d = d} t h is) = record { of = d; field = a_member x n.text d h; names = is }
 
-  pointer_name : (s : Span) (i : Identifier) (k : Kind) → HasType r (identifier s i) k → is_pointer k ≡ true → (t : ℕ) → named_at r i.site.token ≡ named.Variable t → is_pointer (variable_kind (declaration_at r t)) ≡ true
+  pointer_name : (s : Span) (i : Identifier) (k : Kind) → HasType r (identifier s i) k → is_pointer k ≡ true → (t : ℕ) → named_at r i.site.token ≡ Named.Variable t → is_pointer (variable_kind (declaration_at r t)) ≡ true
   pointer_name s i _ (a_variable is at spelled) p t n = ap (λ x. is_pointer (variable_kind (declaration_at r x))) (same_token _ _ (sym n ∙ is)) ∙ ap (λ o. is_pointer (variable_kind o)) at ∙ p
   pointer_name s i _ (a_global is at spelled) p t n = absurd (no_global _ _ (sym is ∙ n))
   pointer_name s i _ (a_function q) p t n = absurd (false≢true p)
 
-  use_named : (z : Meaning) → MeaningGood r names z → ((t : ℕ) → named_of z ≡ named.Variable t → is_pointer (variable_kind (declaration_at r t)) ≡ true) → (x : List ℕ) → PathNamedIn r names (named_of z) (Some x)
+  use_named : (z : Meaning) → MeaningGood r names z → ((t : ℕ) → named_of z ≡ Named.Variable t → is_pointer (variable_kind (declaration_at r t)) ≡ true) → (x : List ℕ) → PathNamedIn r names (named_of z) (Some x)
   use_named (meaning.variable d) h p x = (h.2, p d.name.site.token refl)
   use_named _ h p x = tt
 
@@ -265,7 +253,7 @@ module _ (m : Assignment) (w : FileKnown m) (scope : Scope) where
 
   reads_base : (s : Span) (a : Expression) (v : FieldOperator) (n : Identifier) (k : Kind) → HasType r (field s a v n) k → Seen r scope a → Reads r names (reading_through (base_use r v a))
   reads_base s a _ n _ (a_field t h is) seen = reads_written r names
-  reads_base s a _ n _ (a_field_behind {x = x} t h is) seen = reads_use a seen (object (base.Struct x) 1) t (lt-ltb 0 1 (omega arith))
+  reads_base s a _ n _ (a_field_behind {x = x} t h is) seen = reads_use a seen (object (Base.Struct x) 1) t (lt-ltb 0 1 (omega arith))
 
   instances : (v : FieldOperator) (s t : Sharing) → PathIn r names s → PathIn r names t → PathIn r names (instance v s t)
   instances Dot s t h k = h

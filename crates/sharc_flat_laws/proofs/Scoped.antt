@@ -1,18 +1,7 @@
 -- The variables in scope are those of the flat scope.
-use Rattle.std.proofs.{Common.{◌≡◌, inl, inr, ℕ, ◌==◌, Bool, true, false, cond, List, [], ◌∷◌, ◌++◌, refl, ap, sym, ◌∙◌, subst, eqb-true, Option, Some, None, is_some, bytes_eq}, lemmas.Bool.false≢true}
-use Rattle.std.specs.List.{AllByRecursion}
-use Rattle.sharc_tree.specs.{declared.tree.declaration.Declaration.Declaration, Tree.Expression}
+use Rattle.sharc_flat_laws.proofs.{Imports.{◌≡◌, inl, inr, ℕ, ◌==◌, Bool, true, false, cond, List, [], ◌∷◌, ◌++◌, refl, ap, sym, ◌∙◌, subst, eqb-true, Option, Some, None, is_some, bytes_eq, false≢true, AllByRecursion, Declaration, Expression, Named, Scope, is_pointer, declared_kind, Entry, Meaning, look_up, named_of, Resolution, named_at, declaration_at, kind_at, variable_kind, is_aggregate, is_here, declared, Sharing, locked, HasType, NamesFound, Placing, at, meaning_token, IsVariableIn, Context, slot_of, slot_kind, Slot, PathNamed, PathStands, behind_declaration, IsHere, NameStands, PathNamedIn, PathIn, LocksAt, eqb_same, same_some, no_token}, Expressions.Stand, Pointing.{same_token as same_variable, no_global, no_function, no_known}}
 use Rattle.sharc_tree.specs.Tree as tree
-use Rattle.sharc_names.specs.{declared.fault.Named.Named, declared.scope.Scope.Scope, Kinds.{is_pointer, declared_kind}, Names.{Entry, Meaning, look_up, named_of}}
-use Rattle.sharc_names.specs.declared.fault.Named.TheVariants as named
 use Rattle.sharc_names.specs.Names as meaning
-use Rattle.sharc_ctype.specs.{Resolved.{Resolution, named_at, declaration_at, kind_at, variable_kind}, Statements.{is_aggregate, is_here, declared}}
-use Rattle.sharc_mode.specs.Sharings.{Sharing, locked}
-use Rattle.sharc_ctype_laws.specs.{Constraints.HasType, Laws.NamesFound, Places.{Placing, at}, Paths.{meaning_token, IsVariableIn}}
-use Rattle.sharc_flat.specs.{Scope.{Context, slot_of, slot_kind}, declared.slot.Slot.Slot, Suits.{PathNamed, PathStands, behind_declaration}}
-use Rattle.sharc_flat_laws.specs.Stands.{IsHere, NameStands, PathNamedIn, PathIn, LocksAt}
-use Rattle.sharc_flat_laws.proofs.{Expressions.Stand, Pointing.{same_token as same_variable, no_global, no_function, no_known}}
-use Rattle.sharc_lemmas.proofs.{Numbers.{same_is as eqb_same}, Options.{same_some, no_guard as no_token}}
 
 abbrev pub right_kind : Resolution → ℕ → Bool
 right_kind r token = is_pointer (variable_kind (declaration_at r token))
@@ -95,7 +84,7 @@ found : (c : Context) (names : List Entry) (name : List ℕ) (e : Entry) → Are
 found c [] name e all is = absurd (false≢true (ap is_some is))
 found c (x ∷ rest) name e all is = found_or_later (λ (z : Entry). MeaningIsHere c z.meaning) x e (look_up rest name) (bytes_eq x.name name) is all.0 (λ h. found c rest name e all.1 h)
 
-meant : (c : Context) (m : Meaning) (token : ℕ) → MeaningIsHere c m → named_of m ≡ named.Variable token → IsHere c token
+meant : (c : Context) (m : Meaning) (token : ℕ) → MeaningIsHere c m → named_of m ≡ Named.Variable token → IsHere c token
 meant c (meaning.variable d) token h is = subst (IsHere c) (same_variable _ _ is) h
 meant c (meaning.global n g) token h is = absurd (no_global _ _ is)
 meant c (meaning.function n s) token h is = absurd (no_function _ _ is)
@@ -117,7 +106,7 @@ variable_here c (e ∷ rest) x all (inl h) = by e.meaning all.0 h
     by _ a is = absurd (no_token x is)
 
 path_named : (c : Context) (names : List Entry) → AreHere c names → (n : Named) (m : Option (List ℕ)) → PathNamedIn c.program.typed names n m → PathNamed c.scope n m
-path_named c names all (named.Variable x) (Some m) h = (variable_here c names x all h.0).slot ∙ ap Some h.1
+path_named c names all (Named.Variable x) (Some m) h = (variable_here c names x all h.0).slot ∙ ap Some h.1
 path_named c names all _ _ h = tt
 
 pub path_stands : (c : Context) (names : List Entry) → AreHere c names → (s : Sharing) → PathIn c.program.typed names s → PathStands c.program.typed c.scope s

@@ -1,13 +1,6 @@
 -- What the types of C11 are to flat code: integers, references, and what goes to what.
-use Rattle.std.proofs.{Common.{◌≡◌, inl, inr, ◌+◌, ◌==◌, true, false, ◌&&◌, ◌||◌, refl, ap, sym, ◌∙◌, subst, arith, lt-ltb}, lemmas.Bool.true≢false}
-use Rattle.sharc_tree.specs.{declared.ctype.Base.TheVariants.Mutex, declared.tree.declaration.WrittenType.WrittenType}
-use Rattle.sharc_ctype.specs.Statements.{is_aggregate}
-use Rattle.sharc_names.specs.Kinds.{Kind, null, is_integer, is_pointer, is_null, is_integral, is_struct_base, same_base, declared_kind}
-use Rattle.sharc_meaning.specs.State.{is_reference}
-use Rattle.sharc_ctype_laws.specs.{Constraints.{IsInteger, IsPointer, IsScalar, Comparable, integers, pointers, pointer_and_null, null_and_pointer, Assignable, integer, pointer, null_pointer}, Rules.IsHeld}
+use Rattle.sharc_flat_laws.proofs.Imports.{◌≡◌, inl, inr, ◌+◌, ◌==◌, true, false, ◌&&◌, ◌||◌, refl, ap, sym, ◌∙◌, subst, arith, lt-ltb, true≢false, Mutex, WrittenType, is_aggregate, Kind, null, is_integer, is_pointer, is_null, is_integral, is_struct_base, same_base, declared_kind, is_reference, IsInteger, IsPointer, IsScalar, Comparable, integers, pointers, pointer_and_null, null_and_pointer, Assignable, integer, pointer, null_pointer, IsHeld, Goes, Passes, SameSort, or_false, and_false, some_star}
 use Rattle.sharc_flat.specs.Suits as suits
-use Rattle.sharc_flat.specs.Suits.{Goes, Passes, SameSort}
-use Rattle.sharc_lemmas.proofs.{Bools.{or_false, and_false}, Numbers.some_star}
 
 pub integer_yes : (k : Kind) → IsInteger k → is_integer k ≡ true
 integer_yes k (b, t, is) = ap is_integer is ∙ t

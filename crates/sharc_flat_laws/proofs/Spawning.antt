@@ -1,17 +1,9 @@
 -- What the code of a function spawns is what its expressions spawn.
-use Rattle.std.proofs.Common.{ℕ, ◌+◌, Bool, true, false, cond, List, [], ◌∷◌, ◌++◌, length, drop, Option, Some, None, take}
-use Rattle.std.specs.{Prelude.codes, Str.bytes_eq, List.AllByRecursion}
-use Rattle.sharc_tree.specs.{declared.token.Site.Site, declared.token.Span.Span, declared.tree.declaration.Identifier.Identifier, declared.tree.expression.FieldOperator.FieldOperator, declared.tree.expression.FieldOperator.TheVariants.{Dot, Arrow}, declared.tree.expression.BinaryOperator.BinaryOperator, declared.tree.expression.BinaryOperator.TheVariants.{LogicalOr, LogicalAnd, NotEqual}, declared.tree.expression.PlaceCall.PlaceCall, declared.tree.expression.PlaceCall.TheVariants.{Lock, Unlock, Free}, declared.tree.expression.UnaryOperator.UnaryOperator, declared.tree.expression.UnaryOperator.TheVariants.{Not, Dereference}, declared.tree.expression.ValueCall.ValueCall, declared.tree.expression.ValueCall.TheVariants.{Join, Print}, Spans.span_of, Tree.{Expression, identifier, constant, parentheses, call, spawn, on_value, on_place, cast, index, field, unary, binary, Arguments, no_arguments, argument, Right, value, malloc, Simple, assign, does_call, Local, First, nothing, declares, does, Statement, empty, block, declare, simple, jump, return, if_then, if_then_else, while, for, Statements, no_statements, statement, Function}, declared.tree.declaration.Declaration.Declaration, declared.tree.statement.Jump.Jump, declared.tree.statement.Jump.TheVariants.{Break, Continue}, Measures.{expressions, in_arguments, in_option, in_right, in_simple, in_local, in_first, in_head, in_statement, in_statements, in_function as expressions_in}}
-use Rattle.sharc_names.specs.{declared.fault.Named.Named, Kinds.{Kind, is_array, is_integer, element_kind, declared_kinds, declared_kind}}
-use Rattle.sharc_names.specs.declared.fault.Named.TheVariants as named
-use Rattle.sharc_code.specs.{declared.code.Use.Use, declared.instr.Register.Register, declared.instr.Register.TheVariants.{Int, Reference}, declared.code.GlobalCells.GlobalCells}
-use Rattle.sharc_code.specs.declared.code.Use.TheVariants as uses
-use Rattle.sharc_ctype.specs.{Resolved.{kind_at, global_at, Resolution, named_at}, Transfers.parameters_named}
-use Rattle.sharc_mode.specs.{Sharings.{Sharing, private}, Cells.pointed, Moded.Assignment, Rows.{written, row_at, declared_row}}
-use Rattle.sharc_meaning.specs.{Cells.{element_cells, field_place_named, global_elements}, Expressions.number_named, State.is_reference}
-use Rattle.sharc_flat.specs.{declared.op.Op.Op, declared.op.Spot.Spot, Machine.first_cell, declared.slot.Lvalue.Lvalue, Scope.{Context, register_of, at_site, ref_count, pops, ends_from, leaves}, Places.{Target, variable, in_global, target, own_field, has_base, global_of, guard_field, guard_code, drop_base, settle_base, copy_code, cell_value_code, value_code, cell_take_code, take_code, bounds_code, index_code, pointee_code, width_code, base_width, index_width, settle_code, cell_store_code, store_code}, Flattened.{kind_of, is_ref, target_of, mode_of, what_names, named_code, drop_code, truth_code, differ_code, compare_code, logical_code, either_code, unary_code, binary_code, behind_int, behind_ref, wait_code, condition_code, called_code, passed_code, value_call_code, place_call_code, cast_code, guard_of, taken_guard, field_code, unary_place_code, lvalue_code, expression_code, arguments_code, place_code, lvalue_in, with_words, argument_words, elements_code, right_code, simple_code, with_variable, ints_of, refs_of, zero_code, initial_code, local_code, first_code, behind_first, step_code, test_code, turn_code, Around, opened, looping, jump_code, result_code, return_code, turns_code, body_at, behind_statement, behind_statements, statement_code, statements_code, in_function, around_body, function_code, declared_lvalue, functions_code}, declared.slot.Slot.Slot}
-use Rattle.sharc_flat.specs.declared.op.Op.TheVariants as op
-use Rattle.sharc_flat_laws.specs.Tables.{SpawnMeets}
+use Rattle.sharc_flat_laws.proofs.Imports.{ℕ, ◌+◌, Bool, true, false, cond, List, [], ◌∷◌, ◌++◌, length, drop, Option, Some, None, take, codes, AllByRecursion, Site, Span, Identifier, FieldOperator, Dot, Arrow, BinaryOperator, LogicalOr, LogicalAnd, NotEqual, PlaceCall, Unlock, Free, UnaryOperator, Not, Dereference, ValueCall, Join, Print, span_of, Expression, identifier, constant, parentheses, call, spawn, on_value, on_place, cast, index, field, unary, binary, Arguments, no_arguments, argument, Right, value, malloc, Simple, assign, does_call, Local, First, nothing, declares, does, Statement, empty, block, declare, simple, jump, return, if_then, if_then_else, while, for, Statements, no_statements, statement, Function, Declaration, Jump, Break, Continue, expressions, in_arguments, in_option, in_right, in_simple, in_local, in_first, in_statement, in_statements, expressions_in, Named, Kind, is_array, is_integer, element_kind, declared_kinds, declared_kind, Use, Register, Reference, GlobalCells, kind_at, global_at, Resolution, named_at, parameters_named, Sharing, private, pointed, Assignment, written, row_at, declared_row, element_cells, field_place_named, global_elements, number_named, is_reference, Op, Spot, first_cell, Lvalue, Context, register_of, at_site, ref_count, pops, ends_from, leaves, Target, variable, in_global, target, own_field, has_base, global_of, guard_field, guard_code, drop_base, settle_base, copy_code, cell_value_code, value_code, cell_take_code, take_code, bounds_code, index_code, pointee_code, width_code, base_width, index_width, settle_code, cell_store_code, store_code, kind_of, is_ref, target_of, mode_of, what_names, named_code, drop_code, truth_code, differ_code, compare_code, logical_code, either_code, unary_code, binary_code, behind_int, behind_ref, wait_code, condition_code, called_code, passed_code, value_call_code, place_call_code, cast_code, guard_of, taken_guard, field_code, unary_place_code, lvalue_code, expression_code, arguments_code, place_code, lvalue_in, with_words, argument_words, elements_code, right_code, simple_code, with_variable, ints_of, refs_of, zero_code, initial_code, local_code, first_code, step_code, test_code, turn_code, jump_code, result_code, return_code, turns_code, body_at, behind_statement, behind_statements, statement_code, statements_code, in_function, around_body, function_code, declared_lvalue, functions_code, Slot, SpawnMeets}
+use Rattle.std.specs.Str.{bytes_eq}
+use Rattle.sharc_tree.specs.{declared.tree.expression.PlaceCall.TheVariants.Lock, Measures.in_head}
+use Rattle.sharc_code.specs.declared.instr.Register.TheVariants.{Int}
+use Rattle.sharc_flat.specs.Flattened.{behind_first, Around, opened, looping}
 
 -- ---- what operations spawn
 abbrev pub AllMeet : (ℕ → Type 0) → List Op → Type 0
@@ -68,10 +60,10 @@ module _ (Q : ℕ → Type 0) where
     guards i r site lvalue t (Some mutex) = (tt, tt)
 
     drops_base : (r : ℕ) (t : Target) → S (drop_base r t)
-    drops_base r t = choose (has_base t) (op.Pop r ∷ []) [] (tt, tt) tt
+    drops_base r t = choose (has_base t) (Op.Pop r ∷ []) [] (tt, tt) tt
 
     settles_base : (r : ℕ) (t : Target) → S (settle_base r t)
-    settles_base r t = choose (has_base t) (op.Settle r (r + 1) ∷ []) [] (tt, tt) tt
+    settles_base r t = choose (has_base t) (Op.Settle r (r + 1) ∷ []) [] (tt, tt) tt
 
     copies : (i r : ℕ) (x : Register) → S (copy_code i r x)
     copies i r (Int x) = (tt, tt)
@@ -96,8 +88,8 @@ module _ (Q : ℕ → Type 0) where
     widths_plain i kind site = choose (is_integer kind) _ [] (tt, tt) tt
 
     names : (i r : ℕ) (site : Site) (lvalue : Lvalue) (mode : Sharing) (b : Bool) (n : Named) → S (named_code c i r site lvalue mode b n)
-    names i r site lvalue mode b (named.Variable x) = values i r site lvalue mode b (variable x)
-    names i r site lvalue mode b (named.Global g) = values i r site lvalue mode b (in_global g 0)
+    names i r site lvalue mode b (Named.Variable x) = values i r site lvalue mode b (variable x)
+    names i r site lvalue mode b (Named.Global g) = values i r site lvalue mode b (in_global g 0)
     names i r site lvalue mode b _ = tt
 
     truths_plain : (b : Bool) (i r : ℕ) → S (truth_code b i r)
@@ -109,19 +101,19 @@ module _ (Q : ℕ → Type 0) where
     differs _ i = tt
 
     compares : (o : BinaryOperator) (i r : ℕ) → S (compare_code o i r)
-    compares o i r = (tt, joins (differ_code o i) (op.Pop r ∷ op.Pop (r + 1) ∷ []) (differs o i) (tt, (tt, tt)))
+    compares o i r = (tt, joins (differ_code o i) (Op.Pop r ∷ Op.Pop (r + 1) ∷ []) (differs o i) (tt, (tt, tt)))
 
     logicals : (i : ℕ) (xs ys : List Op) → S xs → S ys → S (logical_code i xs ys)
-    logicals i xs ys a b = joins xs _ a (tt, joins ys (op.IsFalse i i ∷ op.IsFalse i i ∷ []) b (tt, (tt, tt)))
+    logicals i xs ys a b = joins xs _ a (tt, joins ys (Op.IsFalse i i ∷ Op.IsFalse i i ∷ []) b (tt, (tt, tt)))
 
     eithers : (i : ℕ) (xs ys : List Op) → S xs → S ys → S (either_code i xs ys)
-    eithers i xs ys a b = joins xs _ a (tt, (tt, joins ys (op.IsFalse i i ∷ op.IsFalse i i ∷ []) b (tt, (tt, tt))))
+    eithers i xs ys a b = joins xs _ a (tt, (tt, joins ys (Op.IsFalse i i ∷ Op.IsFalse i i ∷ []) b (tt, (tt, tt))))
 
     pointees : (r : ℕ) (site : Site) (xs : List Op) → S xs → S (pointee_code r site xs)
-    pointees r site xs a = joins xs (op.ChkNull r (at_site site) ∷ []) a (tt, tt)
+    pointees r site xs a = joins xs (Op.ChkNull r (at_site site) ∷ []) a (tt, tt)
 
     unaries : (i r : ℕ) (s : Span) (o : UnaryOperator) (a : Expression) (xs : List Op) → S xs → S (unary_code c i r s o a xs)
-    unaries i r s Not a xs h = joins xs _ h (joins (truth_code (is_ref c a) i r) (op.IsFalse i i ∷ []) (truths_plain (is_ref c a) i r) (tt, tt))
+    unaries i r s Not a xs h = joins xs _ h (joins (truth_code (is_ref c a) i r) (Op.IsFalse i i ∷ []) (truths_plain (is_ref c a) i r) (tt, tt))
     unaries i r s Dereference a xs h = joins (pointee_code r s.first xs) _ (pointees r s.first xs h) (values i r s.first (lvalue_in c (unary s Dereference a)) (mode_of c (unary s Dereference a)) (is_ref c (unary s Dereference a)) (target_of c (unary s Dereference a)))
     unaries i r s _ a xs h = joins xs _ h (tt, tt)
 
@@ -141,8 +133,8 @@ module _ (Q : ℕ → Type 0) where
     conditions r spot name all = choose (bytes_eq name (codes "wait")) (wait_code r spot (with_words spot (argument_words 0 all)) (with_words spot (argument_words 1 all))) _ (waits r spot (with_words spot (argument_words 0 all)) (with_words spot (argument_words 1 all))) (choose (bytes_eq name (codes "signal")) _ _ (tt, (tt, (tt, tt))) (tt, (tt, (tt, tt))))
 
     calls_plain : (i r : ℕ) (spot : Spot) (n : Named) (name : List ℕ) (all : Arguments) → S (called_code i r spot n name all)
-    calls_plain i r spot (named.Function f) name all = (tt, tt)
-    calls_plain i r spot named.Known name all = conditions r spot name all
+    calls_plain i r spot (Named.Function f) name all = (tt, tt)
+    calls_plain i r spot Named.Known name all = conditions r spot name all
     calls_plain i r spot _ name all = tt
 
     passes_plain : (i : ℕ) (kinds : List Kind) (site : Site) → S (passed_code i kinds site)
@@ -155,13 +147,13 @@ module _ (Q : ℕ → Type 0) where
 
     place_calls : (i r : ℕ) (s : Span) (w : PlaceCall) (a : Expression) (xs : List Op) → S xs → S (place_call_code c i r s w a xs)
     place_calls i r s Lock a xs h = joins xs _ h (tt, (tt, (tt, tt)))
-    place_calls i r s Unlock a xs h = joins xs _ h (tt, (tt, choose (has_base (target_of c a)) (op.Pop (r + 1) ∷ op.Pop r ∷ []) [] (tt, (tt, tt)) tt))
-    place_calls i r s Free a xs h = joins xs _ h (joins (take_code c i r (span_of a).first (lvalue_in c a) (mode_of c a) uses.Free (target_of c a)) _
-        (takes i r (span_of a).first (lvalue_in c a) (mode_of c a) uses.Free (target_of c a)) (tt, (tt, tt)))
+    place_calls i r s Unlock a xs h = joins xs _ h (tt, (tt, choose (has_base (target_of c a)) (Op.Pop (r + 1) ∷ Op.Pop r ∷ []) [] (tt, (tt, tt)) tt))
+    place_calls i r s Free a xs h = joins xs _ h (joins (take_code c i r (span_of a).first (lvalue_in c a) (mode_of c a) Use.Free (target_of c a)) _
+        (takes i r (span_of a).first (lvalue_in c a) (mode_of c a) Use.Free (target_of c a)) (tt, (tt, tt)))
 
     casts : (i r : ℕ) (s : Span) (a : Expression) (xs : List Op) → S xs → S (cast_code c i r s a xs)
-    casts i r s a xs h = joins xs _ h (joins (take_code c i r (span_of a).first (lvalue_in c a) (mode_of c a) uses.Cast (target_of c a)) _
-        (takes i r (span_of a).first (lvalue_in c a) (mode_of c a) uses.Cast (target_of c a)) (tt, (tt, tt)))
+    casts i r s a xs h = joins xs _ h (joins (take_code c i r (span_of a).first (lvalue_in c a) (mode_of c a) Use.Cast (target_of c a)) _
+        (takes i r (span_of a).first (lvalue_in c a) (mode_of c a) Use.Cast (target_of c a)) (tt, (tt, tt)))
 
     bounded : (bounds : ℕ → ℕ → Op) (i n : ℕ) (guard : Option ℕ) → ((i n : ℕ) → SpawnMeets Q (bounds i n)) → S (bounds_code bounds i n guard)
     bounded bounds i n None h = (h i n, tt)
@@ -174,9 +166,9 @@ module _ (Q : ℕ → Type 0) where
 
     indexes : (i r : ℕ) (site : Site) (f guard : Option ℕ) (a : Expression) (xs ys : List Op) (number : ℕ → List Op) → S xs → S ys → ((d : ℕ) → S (number d)) → S (index_code c i r site f guard a xs ys number)
     indexes i r site f guard a xs ys number x y n =
-        let of_array : ℕ → ℕ → Op = λ i n. op.GlobalBounds i (global_elements (global_at c.program.typed (global_of (target c.program.typed None a)))) (element_cells c.program.typed (element_kind (kind_at c.program.typed a))) (first_cell c.globals (global_of (target c.program.typed None a)) + n) (at_site site) in
-        let of_pointer : ℕ → ℕ → Op = λ i n. op.Bounds i r (element_cells c.program.typed (element_kind (kind_at c.program.typed a))) n (at_site site) in
-        indexes_by (is_array (kind_at c.program.typed a)) r xs ys (bounds_code of_array i (own_field f 0) guard) (bounds_code of_pointer i (own_field f 0) guard) number (op.ChkNull r (at_site site)) tt x y n
+        let of_array : ℕ → ℕ → Op = λ i n. Op.GlobalBounds i (global_elements (global_at c.program.typed (global_of (target c.program.typed None a)))) (element_cells c.program.typed (element_kind (kind_at c.program.typed a))) (first_cell c.globals (global_of (target c.program.typed None a)) + n) (at_site site) in
+        let of_pointer : ℕ → ℕ → Op = λ i n. Op.Bounds i r (element_cells c.program.typed (element_kind (kind_at c.program.typed a))) n (at_site site) in
+        indexes_by (is_array (kind_at c.program.typed a)) r xs ys (bounds_code of_array i (own_field f 0) guard) (bounds_code of_pointer i (own_field f 0) guard) number (Op.ChkNull r (at_site site)) tt x y n
         (bounded of_array i (own_field f 0) guard (λ i n. tt)) (bounded of_pointer i (own_field f 0) guard (λ i n. tt))
 
     fields : (r : ℕ) (site : Site) (f : Option ℕ) (w : FieldOperator) (n : Identifier) (place : Option ℕ → List Op) (pointer : List Op) → ((g : Option ℕ) → S (place g)) → S pointer → S (field_code c r site f w n place pointer)
@@ -251,7 +243,7 @@ module _ (Q : ℕ → Type 0) where
   -- ---- statements
   pops_ask : (r : ℕ) (xs : List Slot) → S (pops r xs)
   pops_ask r [] = tt
-  pops_ask r (x ∷ rest) = choose x.is_pointer (op.Pop r ∷ pops (r + 1) rest) (pops r rest) (tt, pops_ask (r + 1) rest) (pops_ask r rest)
+  pops_ask r (x ∷ rest) = choose x.is_pointer (Op.Pop r ∷ pops (r + 1) rest) (pops r rest) (tt, pops_ask (r + 1) rest) (pops_ask r rest)
 
   ends_ask : (scope : List Slot) (n : ℕ) → S (ends_from scope n)
   ends_ask scope n = pops_ask (ref_count (take n scope)) (drop n scope)
@@ -281,7 +273,7 @@ module _ (Q : ℕ → Type 0) where
   rights c i r kind mode (malloc s n w) h = (tt, joins (elements_code c i r n) _ (elements_ask c i r n h) (tt, (tt, tt)))
 
   drops : (b : Bool) (r : ℕ) → S (drop_code b r)
-  drops b r = choose b (op.Pop r ∷ []) [] (tt, tt) tt
+  drops b r = choose b (Op.Pop r ∷ []) [] (tt, tt) tt
 
   simples : (c : Context) (i r : ℕ) (x : Simple) → Each Q c.program.typed (in_simple x) → S (simple_code c i r x)
   simples c i r (assign s u x) h =
@@ -347,7 +339,7 @@ module _ (Q : ℕ → Type 0) where
     statements_ask c a pc (block s all) h =
         let code = statements_code c (opened c a) (pc + 1) all in
         let ends = ends_from (behind_statements c all).scope (length c.scope) in
-        (tt, joins (code ++ ends) (op.BlockEnd ∷ []) (joins code ends (all_ask c (opened c a) (pc + 1) all h) (ends_ask (behind_statements c all).scope (length c.scope))) (tt, tt))
+        (tt, joins (code ++ ends) (Op.BlockEnd ∷ []) (joins code ends (all_ask c (opened c a) (pc + 1) all h) (ends_ask (behind_statements c all).scope (length c.scope))) (tt, tt))
     statements_ask c a pc (declare s l) h = (tt, locals c l h)
     statements_ask c a pc (simple s x) h = (tt, simples c (ints_of c) (refs_of c) x h)
     statements_ask c a pc (jump s j) h = (tt, jumps c a j)
@@ -368,8 +360,8 @@ module _ (Q : ℕ → Type 0) where
         let of_e = left Q c.program.typed (expressions e) (in_statement x) of_both in
         let of_x = right Q c.program.typed (expressions e) (in_statement x) of_both in (
           tt,
-          joins (turn_code c (Some e) (length first + 1)) (first ++ (op.Skip (length second) ∷ second)) (turns c (Some e) (length first + 1) of_e)
-              (joins first (op.Skip (length second) ∷ second) (statements_ask c a at x of_x) (tt, statements_ask c a at2 y of_y)),
+          joins (turn_code c (Some e) (length first + 1)) (first ++ (Op.Skip (length second) ∷ second)) (turns c (Some e) (length first + 1) of_e)
+              (joins first (Op.Skip (length second) ∷ second) (statements_ask c a at x of_x) (tt, statements_ask c a at2 y of_y)),
         )
     statements_ask c a pc (while s e x) h =
         let at = body_at (pc + 1) (turn_code c (Some e)) in

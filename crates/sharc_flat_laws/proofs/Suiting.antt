@@ -1,20 +1,9 @@
 -- Each expression of a typed program suits.
-use Rattle.std.proofs.Common.{◌≡◌, inl, ℕ, ◌+◌, true, List, [], ◌∷◌, refl, ap, sym, ◌∙◌, subst, Some, None, bytes_eq, codes, if◌then◌else◌}
-use Rattle.sharc_tree.specs.{declared.ctype.Base.Base, declared.tree.declaration.Identifier.Identifier, declared.tree.declaration.WrittenType.WrittenType, declared.tree.expression.BinaryOperator.BinaryOperator, declared.tree.expression.BinaryOperator.TheVariants.{LogicalOr, LogicalAnd, Equal, NotEqual, Less, Greater, LessOrEqual, GreaterOrEqual, ShiftLeft, ShiftRight}, declared.token.Site.Site, declared.token.Span.Span, declared.tree.expression.FieldOperator.FieldOperator, declared.tree.expression.PlaceCall.PlaceCall, declared.tree.expression.ValueCall.ValueCall, declared.tree.expression.UnaryOperator.UnaryOperator, declared.tree.expression.UnaryOperator.TheVariants.Dereference, Measures.{expressions, in_arguments}, Tree.{Expression, identifier, index, Arguments, no_arguments, argument}}
-use Rattle.sharc_tree.specs.declared.ctype.Base.TheVariants as base
+use Rattle.sharc_flat_laws.proofs.{Imports.{◌≡◌, inl, ℕ, ◌+◌, true, List, [], ◌∷◌, refl, ap, sym, ◌∙◌, subst, Some, None, bytes_eq, codes, if◌then◌else◌, Base, Identifier, WrittenType, BinaryOperator, LogicalOr, LogicalAnd, Equal, NotEqual, Less, Greater, LessOrEqual, GreaterOrEqual, ShiftLeft, ShiftRight, Site, Span, FieldOperator, PlaceCall, ValueCall, UnaryOperator, Dereference, expressions, in_arguments, Expression, identifier, index, Arguments, no_arguments, argument, Named, Kind, object, array, is_array, is_integer, is_pointer, declared_kind, declared_kinds, ConditionCall, Wait, condition_parameters, Logical, Equality, Relation, Shift, Arithmetic, class_of, Resolution, named_at, kind_at, variable_kind, parameters_named, parameters_of, named_cell, Sharing, is_reference, HasType, HaveTypes, Callee, of_program, of_conditions, name_of, IsInteger, IsPointer, IsScalar, integers, Assignable, a_variable, a_global, a_function, element_of_pointer, element_of_array, a_call, a_field, a_field_behind, negated, complemented, denied, pointed_to, arithmetic, shifted, related, equated, joined, spawned, printed_or_joined, unlocked, freed, a_cast, none_left, one_more, in_global, target, global_of, Context, slot_kind, Suits, PlaceSuits, ArgumentsSuit, ReferencesSuit, IndexSuits, CallSuits, NameSuits, OperandsSuit, HandsOn, Passes, Either, PathStands, is_cell, AtPlace, front, back}, Sorts.{integer_yes, pointer_reference, scalar, goes, passes, given, same_sort, declared_reference}, Expressions.{Facts, Stand, whole_cell, array_target, target_fits, takes, no_function_pointer}}
 use Rattle.sharc_tree.specs.Tree as tree
-use Rattle.sharc_names.specs.{declared.fault.Named.Named, Kinds.{Kind, object, array, is_array, is_integer, is_pointer, declared_kind, declared_kinds}, declared.meaning.ConditionCall.ConditionCall, declared.meaning.ConditionCall.TheVariants.Wait, Names.condition_parameters}
-use Rattle.sharc_names.specs.declared.fault.Named.TheVariants as named
 use Rattle.sharc_names.specs.Kinds as kinds
-use Rattle.sharc_ctype.specs.{declared.expr.OperatorClass.TheVariants.{Logical, Equality, Relation, Shift, Arithmetic}, Expressions.class_of, Resolved.{Resolution, named_at, kind_at, variable_kind}, Transfers.{parameters_named, parameters_of}}
-use Rattle.sharc_mode.specs.{Cells.named_cell, Sharings.Sharing}
-use Rattle.sharc_meaning.specs.State.{is_reference}
-use Rattle.sharc_ctype_laws.specs.Constraints.{HasType, HaveTypes, Callee, of_program, of_conditions, name_of, IsInteger, IsPointer, IsScalar, integers, Assignable, a_variable, a_global, a_function, element_of_pointer, element_of_array, a_call, a_field, a_field_behind, negated, complemented, denied, pointed_to, arithmetic, shifted, related, equated, joined, spawned, printed_or_joined, locked, unlocked, freed, a_cast, none_left, one_more}
-use Rattle.sharc_flat.specs.{Places.{in_global, target, global_of}, Scope.{Context, slot_kind}, Suits.{Suits, PlaceSuits, ArgumentsSuit, ReferencesSuit, IndexSuits, CallSuits, NameSuits, OperandsSuit, HandsOn, Passes, Either, PathStands, is_cell}}
+use Rattle.sharc_ctype_laws.specs.Constraints.{locked}
 use Rattle.sharc_flat.specs.Suits as flat
-use Rattle.sharc_flat_laws.specs.Stands.{AtPlace}
-use Rattle.sharc_flat_laws.proofs.{Sorts.{integer_yes, pointer_reference, scalar, goes, passes, given, same_sort, declared_reference}, Expressions.{Facts, Stand, whole_cell, array_target, target_fits, takes, no_function_pointer}}
-use Rattle.sharc_lemmas.proofs.Lists.{front, back}
 
 -- operators
 
@@ -121,10 +110,10 @@ hands c i _ _ (of_conditions w is spelled) parameter k e a = subst (λ z. HandsO
 
 -- names
 
-variable_suits : (c : Context) (kind : Kind) (mode : Sharing) (n : Named) (x : ℕ) → n ≡ named.Variable x → slot_kind c.scope x ≡ Some (is_reference kind) → NameSuits c kind mode n
+variable_suits : (c : Context) (kind : Kind) (mode : Sharing) (n : Named) (x : ℕ) → n ≡ Named.Variable x → slot_kind c.scope x ≡ Some (is_reference kind) → NameSuits c kind mode n
 variable_suits c kind mode n x is h = subst (NameSuits c kind mode) (sym is) h
 
-global_suits : (c : Context) → Facts c.program → (kind : Kind) (n : Named) (g : ℕ) → n ≡ named.Global g → PathStands c.program.typed c.scope (named_cell c.program n) → NameSuits c kind (named_cell c.program n) n
+global_suits : (c : Context) → Facts c.program → (kind : Kind) (n : Named) (g : ℕ) → n ≡ Named.Global g → PathStands c.program.typed c.scope (named_cell c.program n) → NameSuits c kind (named_cell c.program n) n
 global_suits c w kind n g is p = subst (λ z. PathStands c.program.typed c.scope (named_cell c.program z) → NameSuits c kind (named_cell c.program z) z) (sym is) (λ q. (w.globals g, q)) p
 
 function_suits : (c : Context) (kind : Kind) (mode : Sharing) (i : Identifier) (ps : List Kind) (result : Kind) → Callee c.program.typed i ps result → kind ≡ kinds.function → NameSuits c kind mode (named_at c.program.typed i.site.token)
@@ -160,7 +149,7 @@ index_form c w s a i _ (element_of_array {b = b} {n = n} x y t) pa sa si = index
 
 field_form : (c : Context) → Facts c.program → (s : Span) (a : Expression) (v : FieldOperator) (n : Identifier) (k : Kind) → HasType c.program.typed (tree.field s a v n) k → PlaceSuits c a → Suits c a → PlaceSuits c (tree.field s a v n)
 field_form c w s a _ n _ (a_field h m is) pa sa = pa
-field_form c w s a _ n _ (a_field_behind {x = x} h m is) pa sa = (sa, pointer_at c.program.typed a _ (w.one _ _ h) (base.Struct x, 0, refl))
+field_form c w s a _ n _ (a_field_behind {x = x} h m is) pa sa = (sa, pointer_at c.program.typed a _ (w.one _ _ h) (Base.Struct x, 0, refl))
 
 field_cell : (c : Context) → Facts c.program → (s : Span) (a : Expression) (v : FieldOperator) (n : Identifier) (k : Kind) → HasType c.program.typed (tree.field s a v n) k → Stand c (expressions a) → is_cell (target c.program.typed None (tree.field s a v n)) ≡ true
 field_cell c w s a _ n _ (a_field h m is) all = whole_cell c w _ _ h refl (Some _) all

@@ -1,18 +1,5 @@
 -- What flattened code spawns, and its tables.
-use Rattle.std.proofs.{Common.{◌≡◌, ℕ, zero, suc, ◌+◌, ◌^◌, ◌<◌, List, [], ◌∷◌, length, Option, Some, refl, sym, ap, ◌∙◌, subst, arith, slice_get}, lemmas.List.Elements.Contains-append_right}
-use Rattle.std.specs.{Prelude.{IsSomeAnd, slice_index}, List.{AllByRecursion, Contains}}
-use Rattle.sharc_tree.specs.{Measures.{in_function as expressions_in}, Tree.{Expression, spawn, Function}}
-use Rattle.sharc_names.specs.declared.fault.Named.TheVariants as named
-use Rattle.sharc_code.specs.{declared.code.Function.{Function as Row}, declared.code.GlobalCells.GlobalCells, declared.code.Text.Text, Ranges.GlobalsFit}
-use Rattle.sharc_ctype.specs.{Reaches.{of_all, spawns}, Resolved.{Resolution, function_at, functions_in, globals_in, named_at}}
-use Rattle.sharc_ctype_laws.specs.Laws.{MeetsGlobals, SpawnsByName, SpawnsNameFunctions, SpawnsThreads, WithinLimits}
-use Rattle.sharc_meaning.specs.Expressions.{number_named}
-use Rattle.sharc_mode.specs.Moded.{Assignment}
-use Rattle.sharc_flat.specs.{declared.op.Op.Op, Flattened.{functions_code, rows_of, function_code}, Flattens.names_of, Laid.{AreLaid, AreNamed, with_texts}, Tables.globals_of}
-use Rattle.sharc_flat.specs.declared.op.Op.TheVariants as op
-use Rattle.sharc_flat_laws.specs.Tables.{SpawnMeets, IsSpawned, MadeSpawns, MadeTablesFit}
-use Rattle.sharc_flat_laws.proofs.{Spawning.{AllMeet, Each, functions_ask}, Words.{words, globals_fit}}
-use Rattle.sharc_lemmas.proofs.Lists.{there_is as inside}
+use Rattle.sharc_flat_laws.proofs.{Imports.{◌≡◌, ℕ, zero, suc, ◌+◌, ◌^◌, ◌<◌, List, [], ◌∷◌, length, Option, Some, refl, sym, ap, ◌∙◌, subst, arith, slice_get, Contains-append_right, IsSomeAnd, slice_index, AllByRecursion, Contains, expressions_in, Expression, spawn, Function, Named, Row, GlobalCells, Text, GlobalsFit, of_all, spawns, Resolution, function_at, functions_in, globals_in, named_at, MeetsGlobals, SpawnsByName, SpawnsNameFunctions, SpawnsThreads, WithinLimits, number_named, Assignment, Op, functions_code, rows_of, function_code, names_of, AreLaid, AreNamed, with_texts, globals_of, SpawnMeets, IsSpawned, MadeSpawns, MadeTablesFit, inside}, Spawning.{AllMeet, Each, functions_ask}, Words.{words, globals_fit}}
 
 -- ---- lists
 named_count : (bytes : List ℕ) (told : List Row) (names : List (List ℕ)) (made : List Row) → AreNamed bytes told names made → length made ≡ length told
@@ -26,7 +13,7 @@ row_count m globals pc (f ∷ rest) = ap suc (row_count m globals (pc + length (
 
 -- ---- operations with other texts
 told_meets : (Q : ℕ → Type 0) (lvalue lock : Text) (o : Op) → SpawnMeets Q o → SpawnMeets Q (with_texts lvalue lock o)
-told_meets Q lvalue lock (op.Spawn i f from spot) h = h
+told_meets Q lvalue lock (Op.Spawn i f from spot) h = h
 told_meets Q lvalue lock _ h = tt
 
 laid_meet : (Q : ℕ → Type 0) (r : Resolution) (bytes : List ℕ) (told made : List Op) → AreLaid r bytes told made → AllMeet Q told → AllMeet Q made
@@ -42,7 +29,7 @@ meets_at Q (x ∷ lines) (suc n) o h e = meets_at Q lines n o h.1 e
 
 -- ---- what the expressions of each function spawn
 module _ (r : Resolution) where
-  each_named : (es : List Expression) → AllByRecursion (SpawnsByName r) es → ((token k : ℕ) → Contains (of_all spawns es) token → named_at r token ≡ named.Function k → IsSpawned r k) → Each (IsSpawned r) r es
+  each_named : (es : List Expression) → AllByRecursion (SpawnsByName r) es → ((token k : ℕ) → Contains (of_all spawns es) token → named_at r token ≡ Named.Function k → IsSpawned r k) → Each (IsSpawned r) r es
   each_named [] all h = tt
   each_named (spawn s f a ∷ es) all h = (
     subst (λ what. IsSpawned r (number_named what)) (sym all.0.1) (h f.site.token all.0.0 (0, omega arith, refl) all.0.1),
@@ -54,7 +41,7 @@ module _ (r : Resolution) where
       → AllByRecursion (λ f. Each (IsSpawned r) r (expressions_in f)) fs
   each_from [] k h all = tt
   each_from (f ∷ rest) k h all = (
-    each_named (expressions_in f) all.0 (λ token j has e. (k + 0, subst (λ (o : Option Function). IsSomeAnd o (λ f. (t : ℕ) × Contains (of_all spawns (expressions_in f)) t × (named_at r t ≡ named.Function j))) (sym (h 0 f refl)) (token, has, e))),
+    each_named (expressions_in f) all.0 (λ token j has e. (k + 0, subst (λ (o : Option Function). IsSomeAnd o (λ f. (t : ℕ) × Contains (of_all spawns (expressions_in f)) t × (named_at r t ≡ Named.Function j))) (sym (h 0 f refl)) (token, has, e))),
     each_from rest (k + 1) (λ n g e. let z : k + suc n ≡ k + 1 + n = omega arith in ap (function_at r) (sym z) ∙ h (suc n) g e) all.1,
   )
 
@@ -83,5 +70,5 @@ fits limits globals_meet threads spawned m resolved placed low code made =
           (subst (GlobalsFit gs) (sym made.granules) (globals_fit r (globals_in r.program.items)));
       words = λ j. subst (λ (xs : List ℕ). slice_index xs j < 2 ^ 64) (sym made.initial) (words r (globals_in r.program.items) (globals_meet r.program resolved.typed) j);
       spawned = λ n to function from spot e. subst (λ k. function < k) (sym count)
-          (thread function (meets_at (IsSpawned r) code.lines.items n (op.Spawn to function from spot) (spawned m resolved placed low code made) e));
+          (thread function (meets_at (IsSpawned r) code.lines.items n (Op.Spawn to function from spot) (spawned m resolved placed low code made) e));
     }

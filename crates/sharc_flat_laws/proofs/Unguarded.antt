@@ -1,37 +1,25 @@
 -- No position of a program whose lock paths are fit is locked behind a sibling pointer.
-use Rattle.std.proofs.{Common.{◌≡◌, ℕ, zero, suc, ◌<◌, ◌++◌, length, arith, ◌==◌, eqb-true, Bool, true, false, ◌&&◌, ◌||◌, not, cond, List, [], ◌∷◌, drop, refl, ap, sym, subst, ⊎_elim, Option, Some, None}, lemmas.Bool.{false≢true, and_parts, or_cases, or_parts as neither_open}}
-use Rattle.std.specs.{Prelude.{is_none, slice_index_or}, List.AllByRecursion, Option.option_or}
-use Rattle.sharc_tree.specs.{declared.ctype.Base.Base, declared.ctype.Path.Path, declared.ctype.Mode.Mode, declared.ctype.Mode.TheVariants.{Private, Locked, Racy, Dynamic}, declared.tree.item.GlobalDefinition.GlobalDefinition}
-use Rattle.sharc_tree.specs.declared.ctype.Base.TheVariants as base
-use Rattle.sharc_names.specs.{declared.fault.Named.Named, Kinds.{Kind, object, is_pointer}, declared.types.Role.Role}
-use Rattle.sharc_names.specs.declared.fault.Named.TheVariants as named
-use Rattle.sharc_ctype.specs.{Resolved.{Resolution, global_at, named_at, named_kind}, Entities.{first_depth, entities_in, entity_at}, declared.entity.Numbered.Numbered, declared.entity.Entity.Entity}
-use Rattle.sharc_mode.specs.{declared.place.Place.Place, declared.place.Place.TheVariants.{Global, Field, Local, Result}, Cells.{is_mutex_kind, is_behind_pointer, first_mode, global_cell}, Sharings.{Lock, is_field, lock_of, sharing_of}, WellFormed.{allows_path, path_fits, unless, unfit_path, unfit_path_in, allows_pointer, leaves_open, top_path_fits, unfit_top_path, first_unfit_path, place_of}, Settled.{is_mutex, settled, field_target, otherwise_of, settled_modes, settled_in, settled_at}, Flows.{IsLeastAssignment, mode_found}, Moded.{Assignment, mode_at}}
-use Rattle.sharc_graph.specs.{declared.graph.NodeFinding.NodeFinding, declared.graph.NodeFinding.TheVariants.Apart, Findings.finding_at}
-use Rattle.sharc_flat_laws.specs.Stands.{IsFit, FitAreUnguarded}
-use Rattle.sharc_names.specs.declared.types.Role.TheVariants as role
-use Rattle.sharc_meaning.specs.Cells.{field_place}
-use Rattle.sharc_flat.specs.Places.{guard_named, guard_field}
-use Rattle.sharc_lemmas.proofs.Bools.{not_true as not_false}
+use Rattle.sharc_flat_laws.proofs.Imports.{◌≡◌, ℕ, zero, suc, ◌<◌, ◌++◌, length, arith, ◌==◌, eqb-true, Bool, true, false, ◌&&◌, ◌||◌, not, cond, List, [], ◌∷◌, drop, refl, ap, sym, subst, ⊎_elim, Option, Some, None, false≢true, and_parts, or_cases, neither_open, is_none, slice_index_or, AllByRecursion, option_or, Base, Path, Mode, Private, Locked, Racy, Dynamic, GlobalDefinition, Named, Kind, object, is_pointer, Role, Resolution, global_at, named_at, named_kind, first_depth, entities_in, entity_at, Numbered, Entity, Place, Global, Field, Result, is_mutex_kind, is_behind_pointer, first_mode, global_cell, Lock, is_field, lock_of, sharing_of, allows_path, path_fits, unless, unfit_path, unfit_path_in, allows_pointer, leaves_open, top_path_fits, unfit_top_path, first_unfit_path, place_of, is_mutex, settled, field_target, otherwise_of, settled_modes, settled_in, settled_at, IsLeastAssignment, mode_found, Assignment, mode_at, NodeFinding, Apart, finding_at, IsFit, FitAreUnguarded, field_place, guard_named, guard_field, not_false}
+use Rattle.sharc_mode.specs.declared.place.Place.TheVariants.{Local}
 
 mutex_pointer : (k : Kind) → is_mutex_kind k ≡ true → is_pointer k ≡ false
-mutex_pointer (object base.Mutex n) h = by (n == 0) refl h
+mutex_pointer (object Base.Mutex n) h = by (n == 0) refl h
   where
-    by : (z : Bool) → (n == 0) ≡ z → z ≡ true → is_pointer (object base.Mutex n) ≡ false
-    by true is t = ap (λ x. is_pointer (object base.Mutex x)) (eqb-true n 0 is)
+    by : (z : Bool) → (n == 0) ≡ z → z ≡ true → is_pointer (object Base.Mutex n) ≡ false
+    by true is t = ap (λ x. is_pointer (object Base.Mutex x)) (eqb-true n 0 is)
     by false is t = absurd (false≢true t)
 mutex_pointer _ h = absurd (false≢true h)
 
 -- a path that fits below the top names no sibling pointer
 fit_behind : (r : Resolution) (p : Place) (n : Named) (s : Option (List ℕ)) → allows_path r p n s ≡ true → ((is_field n && is_none s) && is_pointer (named_kind r n)) ≡ false
-fit_behind r Field (named.Field x) None h = mutex_pointer (named_kind r (named.Field x)) h
-fit_behind r Global (named.Field x) None h = absurd (false≢true h)
-fit_behind r Local (named.Field x) None h = absurd (false≢true h)
-fit_behind r Result (named.Field x) None h = absurd (false≢true h)
+fit_behind r Field (Named.Field x) None h = mutex_pointer (named_kind r (Named.Field x)) h
+fit_behind r Global (Named.Field x) None h = absurd (false≢true h)
+fit_behind r Local (Named.Field x) None h = absurd (false≢true h)
+fit_behind r Result (Named.Field x) None h = absurd (false≢true h)
 fit_behind r p _ _ h = refl
 
 unguarded_named : (r : Resolution) (l : Lock) (n : Named) → is_behind_pointer r l ≡ false → guard_named r l n ≡ None
-unguarded_named r l (named.Field x) h = ap (λ b. cond b (Some (field_place r x)) None) h
+unguarded_named r l (Named.Field x) h = ap (λ b. cond b (Some (field_place r x)) None) h
 unguarded_named r l _ h = refl
 
 pub unguarded_path : (r : Resolution) (p : Place) (l : Lock) → path_fits r p l ≡ true → guard_named r l (named_at r l.first) ≡ None
@@ -130,9 +118,9 @@ field_levels r b [] h = tt
 field_levels r b (top ∷ below) h = field_unguarded r b top below h
 
 role_levels : (r : Resolution) (where_ : Role) (b : Base) (levels : List (Option Mode)) → first_unfit_path r (place_of where_) b levels ≡ None → AllByRecursion (IsUnguarded r) (settled b (otherwise_of where_ levels) (drop (first_depth where_) levels))
-role_levels r role.Field b levels h = field_levels r b levels h
-role_levels r role.Global b levels h = global_unguarded r b levels h
-role_levels r role.Result b levels h = below_top r Result b levels h
+role_levels r Role.Field b levels h = field_levels r b levels h
+role_levels r Role.Global b levels h = global_unguarded r b levels h
+role_levels r Role.Result b levels h = below_top r Result b levels h
 role_levels r _ b levels h = below_top r Local b levels h
 
 pub entity_unguarded : (r : Resolution) (e : Entity) → first_unfit_path r (place_of e.role) e.written.ctype.base e.written.ctype.levels ≡ None → AllByRecursion (IsUnguarded r) (settled_modes e)

@@ -1,17 +1,7 @@
 -- Each statement of a typed program suits.
-use Rattle.std.proofs.{Common.{◌≡◌, ℕ, Bool, true, false, List, ◌++◌, refl, ap, sym, ◌∙◌, Option, Some, None, IfSome}, lemmas.Bool.false≢true}
-use Rattle.std.specs.List.{AllByRecursion}
-use Rattle.sharc_tree.specs.{declared.tree.declaration.Declaration.Declaration, declared.tree.declaration.WrittenType.WrittenType, Low.{LowStatement, LowStatements, is_statement}, Measures.{expressions, in_option, in_right, in_simple, in_first, in_statement, in_statements}, Tree.{Expression, Right, value, malloc, Simple, assign, does_call, First, nothing, declares, does, Statement, Statements, no_statements, statement}}
+use Rattle.sharc_flat_laws.proofs.{Imports.{◌≡◌, ℕ, Bool, true, false, List, ◌++◌, refl, ap, sym, ◌∙◌, Option, Some, None, IfSome, false≢true, AllByRecursion, Declaration, WrittenType, LowStatement, LowStatements, is_statement, expressions, in_option, in_right, in_simple, in_first, in_statement, in_statements, Expression, Right, value, malloc, Simple, assign, does_call, First, nothing, declares, does, Statement, Statements, no_statements, statement, Scope, Kind, is_null, is_integer, is_pointer, same_kind, agrees, declared_kind, Entry, Resolution, kind_at, variable_kind, Around, opened, looping, with_names, declared, behind_first, in_head, after, made, first_locals, locals_in, locals_in_all, Agrees, IsFair, gives, result, transfers, option_transfers, right_transfers, simple_transfers, first_transfers, statement_transfers, statements_transfers, cell_at, pointed, Assignment, row_at, Sharing, NamesFound, HasType, IsScalar, Placing, at, places_in_first, places_in, places_in_all, IsHeld, MeetsRight, MeetsSimple, MeetsFirst, MeetsTest, MeetsReturn, Meets, AllMeet, is_reference, target, Context, Suits, Goes, RightSuits, SimpleSuits, InitialSuits, FirstSuits, TestSuits, IfThere, StatementSuits, StatementsSuit, PathStands, behind_declaration, flat_first, flat_statement, is_declaration, kind_in, LocksAt, LocksOf, FirstLocks, LocalLocks, AllLocalLocks, front, back, both}, KindLemmas.{one_kind, assigned_by}, Sorts.{integer_yes, pointer_reference, scalar, goes, declared_reference}, Expressions.{Facts, Stand, target_fits, lefts, no_function_held}, Suiting.{suits, place, first}, Scoped.{Same, Own, Known, stand, with_variable, new_here, path_stands}}
 use Rattle.sharc_tree.specs.Tree as tree
-use Rattle.sharc_names.specs.{declared.scope.Scope.Scope, Kinds.{Kind, is_null, is_integer, is_pointer, same_kind, agrees, declared_kind}, Names.Entry}
-use Rattle.sharc_ctype.specs.{Resolved.{Resolution, kind_at, variable_kind}, Statements.{Around, opened, looping, with_names, declared, behind_first, in_head, after, made, first_locals, locals_in, locals_in_all}, Transfers.{Agrees, IsFair, gives, variable, result, transfers, in_option as option_transfers, right_transfers, simple_transfers, first_transfers, statement_transfers, statements_transfers}}
-use Rattle.sharc_mode.specs.{Cells.{cell_at, pointed}, Moded.Assignment, Rows.row_at, Sharings.Sharing}
-use Rattle.sharc_ctype_laws.specs.{Laws.NamesFound, Constraints.{HasType, IsScalar}, Places.{Placing, at, places_in_first, places_in, places_in_all}, Rules.{IsHeld, MeetsRight, MeetsSimple, MeetsFirst, MeetsTest, MeetsReturn, Meets, AllMeet}}
-use Rattle.sharc_meaning.specs.State.{is_reference}
-use Rattle.sharc_flat.specs.{Places.target, Scope.Context, Suits.{Suits, Goes, RightSuits, SimpleSuits, InitialSuits, FirstSuits, TestSuits, IfThere, StatementSuits, StatementsSuit, PathStands, behind_declaration, in_first as flat_first, in_statement as flat_statement, is_declaration, kind_in}}
-use Rattle.sharc_flat_laws.specs.Stands.{LocksAt, LocksOf, FirstLocks, LocalLocks, AllLocalLocks}
-use Rattle.sharc_flat_laws.proofs.{KindLemmas.{one_kind, assigned_by}, Sorts.{integer_yes, pointer_reference, scalar, goes, declared_reference}, Expressions.{Facts, Stand, target_fits, lefts, no_function_held}, Suiting.{suits, place, first}, Scoped.{Same, Own, Known, stand, with_variable, new_here, path_stands}}
-use Rattle.sharc_lemmas.proofs.Lists.{front, back, both}
+use Rattle.sharc_ctype.specs.Transfers.{variable}
 
 abbrev Has : Resolution → Expression → Type 0
 Has r e = HasType r e (kind_at r e)

@@ -1,17 +1,5 @@
 -- Each function of a typed program suits.
-use Rattle.std.proofs.{Common.{◌≡◌, ℕ, zero, suc, false, List, [], ◌∷◌, ◌++◌, length, slice_get, refl, ap, subst, Some, is_some}, lemmas.Bool.false≢true}
-use Rattle.std.specs.List.{AllByRecursion}
-use Rattle.sharc_tree.specs.{declared.tree.declaration.Declaration.Declaration, Low.{LowItems, LowStatements}, Tree.{Function, Item, structure, global, function}}
-use Rattle.sharc_names.specs.declared.fault.Named.TheVariants as named
-use Rattle.sharc_names.specs.{declared.scope.Scope.Scope, Kinds.declared_kind, Names.Entry}
-use Rattle.sharc_code.specs.declared.code.GlobalCells.{GlobalCells}
-use Rattle.sharc_ctype.specs.{Items.{with_parameters, in_body, file_scope}, Resolved.{Resolution, functions_in}, Statements.{declared, is_aggregate, locals_in_all}}
-use Rattle.sharc_mode.specs.Moded.{Assignment}
-use Rattle.sharc_ctype_laws.specs.{Declared.IsItself, Laws.{EachNamesItself, EachNamesFound, MeetsConstraints, OneType, MeetsStatements, AllFair, NamesFound, IsPlain, ArePlain}, Places.{Placing, places_of, places_of_all}, Paths.around_in}
-use Rattle.sharc_flat.specs.{Flattened.{parameters_scope, in_function}, Scope.{Context, slot_of}, declared.slot.Slot.Slot}
-use Rattle.sharc_flat_laws.specs.Stands.{LocksAt, LocksAreFound, TypedSuits}
-use Rattle.sharc_flat_laws.proofs.{FileNames.in_file, Fits.well_moded_fit, Unguarded.globals_unguarded, Scoped.{MeaningIsHere, Same, Own, with_variable}, Walking.statements_suit}
-use Rattle.sharc_lemmas.proofs.{Options.same_some, Lists.{front, back, together}}
+use Rattle.sharc_flat_laws.proofs.{Imports.{◌≡◌, ℕ, zero, suc, false, List, [], ◌∷◌, ◌++◌, length, slice_get, refl, ap, subst, Some, is_some, false≢true, AllByRecursion, Declaration, LowItems, LowStatements, Function, Item, structure, global, function, Named, Scope, declared_kind, Entry, GlobalCells, with_parameters, in_body, file_scope, Resolution, functions_in, declared, is_aggregate, locals_in_all, Assignment, IsItself, EachNamesItself, EachNamesFound, MeetsConstraints, OneType, MeetsStatements, AllFair, NamesFound, IsPlain, ArePlain, Placing, places_of, places_of_all, around_in, parameters_scope, in_function, Context, slot_of, Slot, LocksAt, LocksAreFound, TypedSuits, same_some, front, back, together}, FileNames.in_file, Fits.well_moded_fit, Unguarded.globals_unguarded, Scoped.{MeaningIsHere, Same, Own, with_variable}, Walking.statements_suit}
 
 -- in lists
 
@@ -31,7 +19,7 @@ low_functions (structure s ∷ rest) h = low_functions rest h.1
 low_functions (global g ∷ rest) h = low_functions rest h.1
 low_functions (function f ∷ rest) h = (h.0.2, low_functions rest h.1)
 
-owned : (r : Resolution) (list : List Declaration) → AllByRecursion (IsItself r named.Variable) list → AllByRecursion (λ d. is_aggregate (declared_kind d.written) ≡ false) list → AllByRecursion (Own r) list
+owned : (r : Resolution) (list : List Declaration) → AllByRecursion (IsItself r Named.Variable) list → AllByRecursion (λ d. is_aggregate (declared_kind d.written) ≡ false) list → AllByRecursion (Own r) list
 owned r [] h p = tt
 owned r (d ∷ rest) h p = (record { is = h.0.1; plain = p.0 }, owned r rest h.1 p.1)
 

@@ -1,13 +1,5 @@
 -- What globals hold at first are words, and globals lie one after the other.
-use Rattle.std.proofs.Common.{◌≡◌, ℕ, zero, suc, ℤ, pos, negsuc, ◌+◌, ◌*◌, ◌/◌, ◌^◌, ◌<◌, ◌≤◌, inl, inr, Bool, true, false, cond, List, [], ◌∷◌, ◌++◌, length, take, replicate, Some, refl, sym, subst, arith}
-use Rattle.std.specs.{Prelude.{neg_ℤ, slice_index, slice_index_or, unsigned_abs}, List.AllByRecursion}
-use Rattle.sharc_tree.specs.{declared.ctype.Base.Base, declared.ctype.Base.TheVariants.{Int, Char, Long, Mutex, Void, Struct}, declared.tree.declaration.WrittenType.WrittenType, declared.tree.expression.Constant.Constant, declared.tree.expression.Constant.TheVariants.{Number, Character, Null}, declared.tree.item.GlobalDefinition.GlobalDefinition, declared.tree.item.GlobalForm.GlobalForm, declared.tree.item.GlobalForm.TheVariants.Initial}
-use Rattle.sharc_code.specs.{Arithmetic.word_of, Ranges.{GlobalsFit, first_place, end_place}, Says.no_global}
-use Rattle.sharc_ctype.specs.Resolved.{Resolution}
-use Rattle.sharc_ctype_laws.specs.Initials.{IsHeldBy, MeetsInitial, MeetsGlobal, number_of}
-use Rattle.sharc_meaning.specs.{Reference.constant_value, Store.form_value}
-use Rattle.sharc_flat.specs.Tables.{cells_in, granules_in, globals_from, all_granules, first_words, all_first_words}
-use Rattle.sharc_lemmas.proofs.Numbers.{half}
+use Rattle.sharc_flat_laws.proofs.Imports.{◌≡◌, ℕ, zero, suc, ℤ, pos, negsuc, ◌+◌, ◌*◌, ◌/◌, ◌^◌, ◌<◌, ◌≤◌, inl, inr, Bool, true, false, cond, List, [], ◌∷◌, ◌++◌, length, take, replicate, Some, refl, sym, subst, arith, neg_ℤ, slice_index, slice_index_or, unsigned_abs, AllByRecursion, Base, Int, Char, Long, Mutex, Void, Struct, WrittenType, Constant, Number, Character, Null, GlobalDefinition, GlobalForm, Initial, word_of, GlobalsFit, first_place, end_place, no_global, Resolution, IsHeldBy, MeetsInitial, MeetsGlobal, number_of, constant_value, form_value, cells_in, granules_in, globals_from, all_granules, first_words, all_first_words, half}
 
 -- ---- words
 -- a number of 63 bits and a sign is a word

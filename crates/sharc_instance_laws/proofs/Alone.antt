@@ -1,17 +1,5 @@
 -- Of a run in which one thread makes all turns each event is that thread's; so no other thread has begun, and nothing is in flight.
-use Rattle.std.proofs.Common.{◌≡◌, ℕ, ℤ, pos, zero, suc, ◌+◌, Bool, true, false, ◌||◌, ◌==◌, List, [], ◌∷◌, ◌++◌, map, reverse, None, Some, refl, sym, ap, subst, ◌∙◌}
-use Rattle.std.specs.Prelude.{Option, if◌then◌else◌}
-use Rattle.sharc_tree.specs.declared.event.SourceEvent.{SourceEvent}
-use Rattle.sharc_code.specs.{declared.code.Code.Code, declared.instr.Instr.Instr, declared.instr.Instr.TheVariants.{Load, Store, LoadRef, Exchange, New, TakeCell, TakeLocal, Give, Free, Lock, Unlock, Spawn, Join, Print, Start, Exit, CondEnter, CondWait, CondSignal, CondBroadcast}, declared.shape.Shape.Shape, declared.state.Stage.Stage, declared.state.Stage.TheVariants.{Makes, Uncounts, Begins, Enters, Withdraws, WithdrawsFrom, Wakes}, declared.instr.Cell.Cell, declared.instr.Register.Register, Machine.{Machine, instr_at, ref}, Runs.{Said, Turn, Owns, paired, result_of, told_by, with_told}, Says.{in_exit, in_free, in_new, in_signal, in_spawn, in_start, new_event, nobody, said, take_local}, StandingLaws.NumbersAreOwn, Whole.{Erase, one_thread, place_after}}
-use Rattle.sharc_locks.specs.Waiters.{waits_in}
-use Rattle.sharc_heap.specs.{State.NewView, declared.stage.NewStage.NewStage, declared.stage.NewStage.TheVariants.Length}
-use Rattle.sharc_compile.specs.OfRuns.{told_in}
-use Rattle.sharc_mode.specs.Moded.{Assignment}
-use Rattle.sharc_meaning.specs.References.{Begun}
-use Rattle.sharc_invariant.specs.Labels.{Labels}
-use Rattle.sharc_history_laws.specs.History.{history_of}
-use Rattle.sharc_wants_laws.specs.Cause.{NothingIsInFlight}
-use mathlib.Core.List.{reverse_aux}
+use Rattle.sharc_instance_laws.proofs.Imports.{◌≡◌, ℕ, ℤ, pos, zero, suc, ◌+◌, Bool, true, false, ◌||◌, ◌==◌, List, [], ◌∷◌, ◌++◌, map, reverse, None, Some, refl, sym, ap, subst, ◌∙◌, Option, if◌then◌else◌, SourceEvent, Code, Instr, Load, Store, LoadRef, Exchange, New, TakeCell, TakeLocal, Give, Free, Lock, Unlock, Spawn, Join, Print, Start, Exit, CondEnter, CondWait, CondSignal, CondBroadcast, Shape, Stage, Makes, Uncounts, Begins, Enters, Withdraws, WithdrawsFrom, Wakes, Cell, Register, Machine, instr_at, ref, Said, Turn, Owns, paired, result_of, told_by, with_told, in_exit, in_free, in_new, in_signal, in_spawn, in_start, new_event, nobody, said, take_local, NumbersAreOwn, Erase, one_thread, place_after, waits_in, NewView, NewStage, Length, told_in, Assignment, Begun, Labels, history_of, NothingIsInFlight, reverse_aux}
 
 -- ---- the thread of an event is that of the machine that says it
 abbrev Is : ℕ → Option SourceEvent → Type 0

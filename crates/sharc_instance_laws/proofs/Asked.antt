@@ -1,7 +1,5 @@
 -- Each thread of the locking program asks for accesses under its mutex alone: with every fuel, whatever is answered.
-use Rattle.std.proofs.Common.{ℕ, ℤ, zero, suc, List, [], ◌∷◌, map, refl}
-use Rattle.sharc_meaning.specs.{Meaning.asks, Obeys.AlwaysObeys, Runs.by}
-use Rattle.sharc_instance_laws.proofs.{Guarded.{AreGuarded, always_obeys}, Locking.locking}
+use Rattle.sharc_instance_laws.proofs.{Imports.{ℕ, ℤ, zero, suc, List, [], ◌∷◌, map, refl, asks, AlwaysObeys, by}, Guarded.{AreGuarded, always_obeys}, Locking.locking}
 
 -- The program enters one statement or expression after the other, and asks for one event after the other: each clause is a place where the fuel or the answers may come to an end.
 of_worker : (thread : ℕ) (v : ℤ) (answers : List ℤ) (fuel : ℕ) → AreGuarded [] (map (by thread) (asks locking 0 v answers fuel).events)

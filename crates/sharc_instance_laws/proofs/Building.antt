@@ -1,16 +1,7 @@
 -- The code of a program: as a value, by computing, and that it is what the program is compiled to.
-use Rattle.std.proofs.Common.{◌≡◌, ℕ, ◌^◌, true, List, [], length, refl, le_refl}
-use Rattle.std.specs.{Prelude.{Vec, nat_lt, nat_le}, Global.Global}
-use denote.RawPtr.{null_ptr}
-use Rattle.sharc_ctype.specs.Resolved.{functions_in, globals_in}
-use Rattle.sharc_mode.specs.Moded.{Assignment}
-use Rattle.sharc_code.specs.{declared.code.Code.Code, declared.code.Function.{Function as Row}, declared.code.GlobalCells.GlobalCells}
-use Rattle.sharc_flat.specs.{declared.flat.Flat.{Flat as FlatCode}, declared.op.Op.Op, Made.flat_of, Flattened.flattened, Flattens.{Flattens, IsMainOf, names_of}, Laws.FitsMade, Tables.{globals_of, all_granules, all_first_words, layouts_of, pointers_of}}
-use Rattle.sharc_guard.specs.{Guard.guarded, Known.dropped, declared.guarded.Guarded.Guarded, Machine.Program}
-use Rattle.sharc_compile.specs.{Generated.generated, Made.IsCodeOf}
-use Rattle.sharc_front_end.specs.Compiled.{IsCompiled}
-use Rattle.sharc_instance_laws.proofs.Laying.{are_laid, are_named, behind_lines, behind_names, laid, named, further_names as names_behind}
-use Rattle.sharc_lemmas.proofs.Numbers.{lt_true as below, le_true as within}
+use Rattle.sharc_instance_laws.proofs.{Imports.{◌≡◌, ℕ, ◌^◌, true, List, [], length, refl, le_refl, Vec, nat_lt, nat_le, null_ptr, functions_in, globals_in, Assignment, Code, Row, GlobalCells, FlatCode, Op, flat_of, flattened, Flattens, IsMainOf, names_of, FitsMade, globals_of, all_granules, all_first_words, layouts_of, pointers_of, guarded, dropped, Guarded, generated, IsCodeOf, IsCompiled, below, within}, Laying.{are_laid, are_named, behind_lines, behind_names, laid, named, further_names as names_behind}}
+use Rattle.std.specs.Global.{Global}
+use Rattle.sharc_guard.specs.Machine.{Program}
 
 module _ (alloc : Global) where
   -- a list as the program holds it

@@ -1,20 +1,12 @@
 -- What is built of the two sources, with a run of each code.
-use Rattle.std.proofs.Common.{◌≡◌, ℕ, zero, suc, ◌+◌, ◌*◌, ◌<◌, ◌≤◌, true, List, [], ◌∷◌, ◌++◌, replicate, refl, sym, subst, ◌∙◌, append_assoc, arith}
+use Rattle.sharc_instance_laws.proofs.{Imports.{◌≡◌, ℕ, zero, suc, ◌+◌, ◌*◌, ◌<◌, ◌≤◌, true, List, [], ◌∷◌, ◌++◌, replicate, refl, sym, subst, ◌∙◌, append_assoc, arith, Code, GlobalCells, Shape, RunLaws, Fits, GlobalsFit, NumbersFit, end_place, first_place, Owns, Turn, place_after, NumbersAreOwn, block_of, doubled, RulesAreMet, Built, IsBuilt, flat_of, GetsStuck, IsObeying, ReportsAlone, locking_source, sharing_source, within}, Alone.{alone, earlier_owns}, Building.AreSmall, Going.{ends, ends_alone, from, passes}, Locking.locking, Numbers.{fits_made, numbers_fit}, Sharing.sharing, Stopping.{has_reported, is_stuck, reported, stuck}, SharedFront.beyond}
 use Rattle.std.specs.Global.{Global}
 use lib.Count.{count_trailing_zeros}
-use Rattle.sharc_code.specs.{declared.code.Code.Code, declared.code.GlobalCells.GlobalCells, declared.shape.Shape.Shape, Laws.RunLaws, Layout.Fits, Ranges.{GlobalsFit, NumbersFit, end_place, first_place}, Runs.{Owns, Turn}, Whole.place_after, StandingLaws.NumbersAreOwn}
-use Rattle.sharc_heap.specs.Block.{block_of, doubled}
-use Rattle.sharc_check.specs.RuleLaws.{RulesAreMet}
-use Rattle.sharc_build.specs.{declared.building.Built.Built, Built.IsBuilt}
-use Rattle.sharc_flat.specs.Made.{flat_of}
-use Rattle.sharc_instance_laws.specs.{Instances.{GetsStuck, IsObeying, ReportsAlone}, Sources.{locking_source, sharing_source}}
-use Rattle.sharc_instance_laws.proofs.{Alone.{alone, earlier_owns}, Building.AreSmall, Going.{ends, ends_alone, from, passes}, Locking.locking, Numbers.{fits_made, numbers_fit}, Sharing.sharing, Stopping.{has_reported, is_stuck, reported, stuck}, SharedFront.beyond}
 use Rattle.sharc_instance_laws.proofs.Asked as asked
 use Rattle.sharc_instance_laws.proofs.Building as building
 use Rattle.sharc_instance_laws.proofs.Front as locking_front
 use Rattle.sharc_instance_laws.proofs.SharedFront as sharing_front
 use Rattle.sharc_instance_laws.proofs.Touching as touching
-use Rattle.sharc_lemmas.proofs.Numbers.{le_true as within}
 
 -- ---- the globals of the locking program lie one behind the other
 abbrev the_globals : List GlobalCells

@@ -1,17 +1,5 @@
 -- The locking source is that program, with its least modes.
-use Rattle.std.proofs.Common.{◌≡◌, ℕ, suc, ◌<◌, [], ◌∷◌, refl, arith}
-use Rattle.sharc_graph.specs.{declared.graph.NodeFinding.TheVariants.Apart, Findings.finding_at, Flow.{IsInferred, IsUnwritten, flow_of, place_at}}
-use Rattle.sharc_graph.specs.declared.place.PositionKind.TheVariants as place
-use Rattle.sharc_lex.specs.{Grammar.reading, Words.keywords}
-use Rattle.sharc_parse.specs.{Grammar.IsProgram, Limits.LowProgram, Places.Reads}
-use Rattle.sharc_ctype.specs.Resolved.{IsResolved}
-use Rattle.sharc_mode.specs.{Flows.{IsLeastAssignment, IsPlaceFor, IsReasonFor, links_of, mode_found}, Moded.reason_at, Settled.settled_at}
-use Rattle.sharc_tree.specs.declared.ctype.Mode.TheVariants.{Private}
-use Rattle.std.specs.Prelude.{Ok, slice_index_or}
-use Rattle.sharc_front_end.specs.Front.{IsFront}
-use Rattle.sharc_instance_laws.specs.Sources.{locking_source}
-use Rattle.sharc_instance_laws.proofs.{Locking.{phrases, program, resolution, locking, modes, tokens}, SharedFront.beyond}
-use Rattle.sharc_lemmas.proofs.Bools.{no_cell as clash}
+use Rattle.sharc_instance_laws.proofs.{Imports.{◌≡◌, ℕ, suc, ◌<◌, [], ◌∷◌, refl, arith, Apart, finding_at, IsInferred, IsUnwritten, flow_of, place_at, PositionKind, reading, keywords, IsProgram, LowProgram, Reads, IsResolved, IsLeastAssignment, IsPlaceFor, IsReasonFor, links_of, mode_found, reason_at, settled_at, Private, Ok, slice_index_or, IsFront, locking_source, clash}, Locking.{phrases, program, resolution, locking, modes, tokens}, SharedFront.beyond}
 
 read : reading locking_source ≡ Ok tokens
 unfolding reading keywords
@@ -30,12 +18,12 @@ resolved : IsResolved resolution
 resolved = record { typed = refl; named = refl }
 
 -- each position has its mode written, or is that of a mutex
-places_are : (position : ℕ) → IsPlaceFor resolution position (settled_at resolution position) (place_at (place.Other ∷ place.Other ∷ []) position)
+places_are : (position : ℕ) → IsPlaceFor resolution position (settled_at resolution position) (place_at (PositionKind.Other ∷ PositionKind.Other ∷ []) position)
 places_are (suc (suc n)) = refl
 places_are _ = refl
 
-none_unwritten : (position : ℕ) → IsUnwritten (flow_of (place.Other ∷ place.Other ∷ []) (links_of resolution)) position
-    → IsInferred (flow_of (place.Other ∷ place.Other ∷ []) (links_of resolution)) position (finding_at (Apart ∷ Apart ∷ []) position)
+none_unwritten : (position : ℕ) → IsUnwritten (flow_of (PositionKind.Other ∷ PositionKind.Other ∷ []) (links_of resolution)) position
+    → IsInferred (flow_of (PositionKind.Other ∷ PositionKind.Other ∷ []) (links_of resolution)) position (finding_at (Apart ∷ Apart ∷ []) position)
 none_unwritten (suc (suc n)) e = absurd (clash e)
 none_unwritten _ e = absurd (clash e)
 
@@ -49,7 +37,7 @@ reasons_are _ less = refl
 
 least : IsLeastAssignment locking
 least = record {
-  places = place.Other ∷ place.Other ∷ [];
+  places = PositionKind.Other ∷ PositionKind.Other ∷ [];
   are_places = record {
     size = refl;
     each = places_are;

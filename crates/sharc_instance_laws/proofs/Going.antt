@@ -1,10 +1,5 @@
 -- A schedule of which each turn may be made gives a checked run, and a test of the place where it ends holds there: both by computing.
-use Rattle.std.proofs.Common.{◌≡◌, ℕ, zero, suc, ◌<◌, ◌≤◌, Bool, true, ◌&&◌, List, [], ◌∷◌, length, replicate, None, Some, refl}
-use Rattle.std.specs.Prelude.{Option, nat_lt, nat_le}
-use Rattle.sharc_word.specs.declared.step.WordStep.{WordStep}
-use Rattle.sharc_tree.specs.declared.event.SourceEvent.{SourceEvent}
-use Rattle.sharc_code.specs.{declared.code.Code.Code, declared.shape.Shape.Shape, Machine.Machine, Opening.opening_words, Path.may_go, Runs.{OneThread, Turn, Global, IsRun, MayTurn, IsOf, Answered, Owns, at, after_turn, made_event, made_now, opening_of, step_of, turn_by}, Whole.{bounds, one_thread}}
-use Rattle.sharc_lemmas.proofs.{Bools.{and_left as left, and_right as right}, Numbers.{lt_true as below, le_true as within}}
+use Rattle.sharc_instance_laws.proofs.Imports.{◌≡◌, ℕ, zero, suc, ◌<◌, ◌≤◌, Bool, true, ◌&&◌, List, [], ◌∷◌, length, replicate, None, Some, refl, Option, nat_lt, nat_le, WordStep, SourceEvent, Code, Shape, Machine, opening_words, may_go, OneThread, Turn, Global, IsRun, MayTurn, IsOf, Answered, Owns, at, after_turn, made_event, made_now, opening_of, step_of, turn_by, bounds, one_thread, left, right, below, within}
 
 -- ---- booleans
 -- ---- one turn

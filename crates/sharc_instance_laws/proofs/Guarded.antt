@@ -1,10 +1,6 @@
 -- Events of a thread in which each access is to one cell, under one mutex that the thread holds there.
-use Rattle.std.proofs.Common.{◌≡◌, ℕ, ℤ, Bool, true, false, List, [], ◌∷◌, ◌++◌, map, None, Some, refl, sym, ap, subst, ◌∙◌, append_assoc, append-nil, ⊎_elim}
-use Rattle.std.specs.{Prelude.{Option, filter, if◌then◌else◌, ◌==◌}, List.list_any}
-use Rattle.sharc_tree.specs.{declared.event.Act.Act, declared.event.Act.TheVariants.Started, declared.event.CellAt.CellAt, declared.event.CellMode.TheVariants.{Private, Readonly, Locked, Dynamic}, declared.event.Object.TheVariants.Global, declared.event.SourceEvent.SourceEvent}
-use Rattle.sharc_mode.specs.Moded.{Assignment}
-use Rattle.sharc_meaning.specs.{Events.{Access, Stands, access_by, events_of, held_mutexes, holds_mutex, is_of, locked_by, same_cell, unless_unlocked}, Meaning.asks, Obeys.{AlwaysObeys, IsThere, Obeys, Until, until_gone}, Runs.{Follows, SourceRun, answers_of, by}}
-use Rattle.sharc_lemmas.proofs.Numbers.{same_is as same}
+use Rattle.sharc_instance_laws.proofs.Imports.{◌≡◌, ℕ, ℤ, Bool, true, false, List, [], ◌∷◌, ◌++◌, map, None, Some, refl, sym, ap, subst, ◌∙◌, append_assoc, append-nil, ⊎_elim, Option, filter, if◌then◌else◌, ◌==◌, list_any, Act, Started, CellAt, Readonly, Dynamic, SourceEvent, Assignment, Access, Stands, access_by, events_of, held_mutexes, holds_mutex, is_of, locked_by, same_cell, unless_unlocked, asks, AlwaysObeys, IsThere, Obeys, Until, until_gone, Follows, SourceRun, answers_of, by, same}
+use Rattle.sharc_tree.specs.{declared.event.CellMode.TheVariants.{Private, Locked}, declared.event.Object.TheVariants.Global}
 
 abbrev pub mutex_cell : CellAt
 mutex_cell = record { object = Global 0; cell = 0 }

@@ -1,11 +1,5 @@
 -- Texts laid one behind the other: of the lines and the functions of flat code, and that each lies where it is said to lie.
-use Rattle.std.proofs.Common.{◌≡◌, ℕ, ◌+◌, ◌-◌, List, [], ◌∷◌, ◌++◌, length, take, drop, None, Some, refl, sym, ap, ◌∙◌, append_assoc, append-nil, length-append, arith}
-use Rattle.std.specs.Prelude.{Option}
-use Rattle.sharc_tree.specs.Tree.{Function}
-use Rattle.sharc_code.specs.{declared.code.Function.{Function as Row}, declared.code.GlobalCells.GlobalCells, declared.code.Text.Text}
-use Rattle.sharc_ctype.specs.Resolved.{Resolution}
-use Rattle.sharc_mode.specs.Moded.{Assignment}
-use Rattle.sharc_flat.specs.{declared.op.Op.Op, declared.op.Spot.Spot, Flattened.{function_code, rows_of}, Flattens.names_of, Laid.{AreLaid, AreNamed, AreTextsIn, lies_at, lock_text_of, spot_in, with_texts, words_of}}
+use Rattle.sharc_instance_laws.proofs.Imports.{◌≡◌, ℕ, ◌+◌, ◌-◌, List, [], ◌∷◌, ◌++◌, length, take, drop, None, Some, refl, sym, ap, ◌∙◌, append_assoc, append-nil, length-append, arith, Option, Function, Row, GlobalCells, Text, Resolution, Assignment, Op, Spot, function_code, rows_of, names_of, AreLaid, AreNamed, AreTextsIn, lies_at, lock_text_of, spot_in, with_texts, words_of}
 
 -- ---- one text among others
 drops : (pre y : List ℕ) → drop (length pre) (pre ++ y) ≡ y

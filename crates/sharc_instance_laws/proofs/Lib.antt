@@ -1,3 +1,4 @@
+mod Imports
 pub mod Alone
 pub mod Asked
 pub mod Building

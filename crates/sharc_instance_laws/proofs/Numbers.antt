@@ -1,11 +1,5 @@
 -- The numbers of a code fit: by tests of its tables that compute.
-use Rattle.std.proofs.Common.{◌≡◌, ℕ, zero, suc, ◌+◌, ◌*◌, ◌^◌, ◌<◌, Bool, true, List, [], ◌∷◌, length, None, Some, refl, subst}
-use Rattle.std.specs.Prelude.{Option, nat_lt, nat_le, slice_get, slice_index, slice_index_or}
-use Rattle.sharc_code.specs.{declared.code.Code.Code, declared.instr.Instr.Instr, declared.instr.Instr.TheVariants.{GlobalBounds, Spawn, Exit}, declared.state.TheConstants.FRAMES, Path.{most_ints, most_refs}, Ranges.{GlobalsFit, NumbersFit}}
-use Rattle.sharc_flat.specs.{declared.op.Op.Op, Machine.Flat, Laws.FitsMade}
-use Rattle.sharc_flat.specs.declared.op.Op.TheVariants as op
-use Rattle.sharc_instance_laws.proofs.Testing.{all_pass}
-use Rattle.sharc_lemmas.proofs.{Bools.{and_left as left, and_right as right}, Numbers.{lt_true as below, le_true as within}}
+use Rattle.sharc_instance_laws.proofs.{Imports.{◌≡◌, ℕ, zero, suc, ◌+◌, ◌*◌, ◌^◌, ◌<◌, Bool, true, List, [], ◌∷◌, length, None, Some, refl, subst, Option, nat_lt, nat_le, slice_get, slice_index, slice_index_or, Code, Instr, GlobalBounds, Spawn, Exit, FRAMES, most_ints, most_refs, GlobalsFit, NumbersFit, Op, Flat, FitsMade, left, right, below, within}, Testing.all_pass}
 
 -- ---- each of a list, by its place
 module _ {X : Type 0} (test : X → Bool) where
@@ -38,7 +32,7 @@ has_small_index (GlobalBounds to elements cells field site) = nat_lt (elements *
 has_small_index _ = true
 
 abbrev pub has_small_line : Op → Bool
-has_small_line (op.GlobalBounds i elements cells field spot) = nat_lt (elements * cells + field) (2 ^ 63)
+has_small_line (Op.GlobalBounds i elements cells field spot) = nat_lt (elements * cells + field) (2 ^ 63)
 has_small_line _ = true
 
 pub record Tests (code : Code) : Type 0 where

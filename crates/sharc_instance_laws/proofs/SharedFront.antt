@@ -1,17 +1,5 @@
 -- The sharing source is that program, with its least modes.
-use Rattle.std.proofs.Common.{◌≡◌, ℕ, zero, suc, ◌<◌, false, [], ◌∷◌, refl, arith}
-use Rattle.sharc_graph.specs.{declared.graph.NodeFinding.TheVariants.Apart, Findings.finding_at, Flow.{IsInferred, IsUnwritten, flow_of, place_at}}
-use Rattle.sharc_graph.specs.declared.place.PositionKind.TheVariants as place
-use Rattle.sharc_lex.specs.{Grammar.reading, Words.keywords}
-use Rattle.sharc_parse.specs.{Grammar.IsProgram, Limits.LowProgram, Places.Reads}
-use Rattle.sharc_ctype.specs.{Resolved.IsResolved, Reaches.Spawns}
-use Rattle.sharc_mode.specs.{Flows.{IsLeastAssignment, IsPlaceFor, IsReasonFor, links_of, mode_found}, Moded.reason_at, Settled.settled_at, WellModed.{TellsTouched, WellModed}}
-use Rattle.sharc_tree.specs.declared.ctype.Mode.TheVariants.{Private}
-use Rattle.std.specs.Prelude.{Ok, slice_index_or}
-use Rattle.sharc_front_end.specs.Front.{IsFront}
-use Rattle.sharc_instance_laws.specs.Sources.{sharing_source}
-use Rattle.sharc_instance_laws.proofs.Sharing.{phrases, program, resolution, sharing, modes, tokens}
-use Rattle.sharc_lemmas.proofs.Bools.{no_cell as clash}
+use Rattle.sharc_instance_laws.proofs.{Imports.{◌≡◌, ℕ, zero, suc, ◌<◌, false, [], ◌∷◌, refl, arith, Apart, finding_at, IsInferred, IsUnwritten, flow_of, place_at, PositionKind, reading, keywords, IsProgram, LowProgram, Reads, IsResolved, Spawns, IsLeastAssignment, IsPlaceFor, IsReasonFor, links_of, mode_found, reason_at, settled_at, TellsTouched, WellModed, Private, Ok, slice_index_or, IsFront, sharing_source, clash}, Sharing.{phrases, program, resolution, sharing, modes, tokens}}
 
 read : reading sharing_source ≡ Ok tokens
 unfolding reading keywords
@@ -30,12 +18,12 @@ resolved : IsResolved resolution
 resolved = record { typed = refl; named = refl }
 
 -- each position has its mode written, or is that of a mutex
-places_are : (position : ℕ) → IsPlaceFor resolution position (settled_at resolution position) (place_at (place.Private ∷ place.Private ∷ []) position)
+places_are : (position : ℕ) → IsPlaceFor resolution position (settled_at resolution position) (place_at (PositionKind.Private ∷ PositionKind.Private ∷ []) position)
 places_are (suc (suc n)) = refl
 places_are _ = refl
 
-none_unwritten : (position : ℕ) → IsUnwritten (flow_of (place.Private ∷ place.Private ∷ []) (links_of resolution)) position
-    → IsInferred (flow_of (place.Private ∷ place.Private ∷ []) (links_of resolution)) position (finding_at (Apart ∷ Apart ∷ []) position)
+none_unwritten : (position : ℕ) → IsUnwritten (flow_of (PositionKind.Private ∷ PositionKind.Private ∷ []) (links_of resolution)) position
+    → IsInferred (flow_of (PositionKind.Private ∷ PositionKind.Private ∷ []) (links_of resolution)) position (finding_at (Apart ∷ Apart ∷ []) position)
 none_unwritten (suc (suc n)) e = absurd (clash e)
 none_unwritten _ e = absurd (clash e)
 
@@ -52,7 +40,7 @@ reasons_are _ less = refl
 
 least : IsLeastAssignment sharing
 least = record {
-  places = place.Private ∷ place.Private ∷ [];
+  places = PositionKind.Private ∷ PositionKind.Private ∷ [];
   are_places = record {
     size = refl;
     each = places_are;

@@ -1,8 +1,5 @@
 -- Where a run is stuck, and where a thread of it has stopped at a cast or `free`: tests of a place, and what they say.
-use Rattle.std.proofs.{Common.{◌≡◌, ℕ, zero, suc, ◌<◌, Bool, true, false, not, ◌&&◌, ◌||◌, List, [], ◌∷◌, Some, refl, sym, subst, arith, ⊎_elim}, lemmas.Bool.{cases_eq, and_from as both}}
-use Rattle.std.specs.Prelude.{Option, nat_lt}
-use Rattle.sharc_code.specs.{declared.code.Code.Code, declared.shape.Shape.Shape, declared.state.Stop.Stop, declared.state.Stop.TheVariants.NotSole, Machine.Machine, Opening.opening_words, Path.may_go, Runs.{Turn, Global, is_started}, Waits.waits_now, Whole.{IsStuck, bounds, place_after}}
-use Rattle.sharc_lemmas.proofs.{Bools.{and_left as left, and_right as right, either}, Numbers.{lt_true as below}}
+use Rattle.sharc_instance_laws.proofs.Imports.{◌≡◌, ℕ, zero, suc, ◌<◌, Bool, true, false, not, ◌&&◌, ◌||◌, List, [], ◌∷◌, Some, refl, sym, subst, arith, ⊎_elim, cases_eq, both, Option, nat_lt, Code, Shape, Stop, NotSole, Machine, opening_words, may_go, Turn, Global, is_started, waits_now, IsStuck, bounds, place_after, left, right, either, below}
 
 -- ---- a test of all numbers below one
 abbrev pub all_below : ℕ → (ℕ → Bool) → Bool

@@ -1,5 +1,5 @@
 -- Tests of numbers and of lists.
-use Rattle.std.proofs.Common.{◌≡◌, ◌<◌, ◌≤◌, Bool, true, ◌&&◌, List, [], ◌∷◌}
+use Rattle.sharc_instance_laws.proofs.Imports.{◌≡◌, ◌<◌, ◌≤◌, Bool, true, ◌&&◌, List, [], ◌∷◌}
 
 -- each of a list meets a test
 abbrev pub all_pass : {X : Type 0} → (X → Bool) → List X → Bool

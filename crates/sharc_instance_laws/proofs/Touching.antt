@@ -1,12 +1,5 @@
 -- The locking program is well-moded: which globals its threads touch, and that no case of the rules arises.
-use Rattle.std.proofs.Common.{◌≡◌, ℕ, zero, suc, ◌<◌, Bool, true, false, List, [], ◌∷◌, length, refl, subst, arith}
-use Rattle.std.specs.Prelude.{nat_lt, slice_index_or}
-use Rattle.sharc_names.specs.declared.fault.Named.{Named}
-use Rattle.sharc_names.specs.declared.fault.Named.TheVariants as named
-use Rattle.sharc_ctype.specs.{Reaches.{IsReached, Names, NamesGlobal}, Resolved.named_at}
-use Rattle.sharc_mode.specs.WellModed.{TellsTouched, WellModed}
-use Rattle.sharc_instance_laws.proofs.{Testing.all_pass, Locking.{locking, resolution}}
-use Rattle.sharc_lemmas.proofs.{Bools.{and_left as left, and_right as right, no_cell as clash}, Numbers.lt_true as below}
+use Rattle.sharc_instance_laws.proofs.{Imports.{◌≡◌, ℕ, zero, suc, ◌<◌, Bool, true, false, List, [], ◌∷◌, length, refl, subst, arith, nat_lt, slice_index_or, Named, IsReached, Names, NamesGlobal, named_at, TellsTouched, WellModed, left, right, clash, below}, Testing.all_pass, Locking.{locking, resolution}}
 
 -- ---- which tokens name what
 abbrev touched : ℕ → Bool
@@ -14,7 +7,7 @@ touched (suc (suc g)) = false
 touched _ = true
 
 abbrev is_few : Named → Bool
-is_few (named.Global g) = nat_lt g 2
+is_few (Named.Global g) = nat_lt g 2
 is_few _ = true
 
 abbrev names_few : ℕ → Bool
@@ -28,7 +21,7 @@ among test (x ∷ xs) e d (suc k) less = among test xs (right (test x) (all_pass
     lower : (k n : ℕ) → suc k < suc n → k < n
     lower k n less = omega (arith, less)
 
-none_beyond : (xs : List ℕ) → all_pass names_few xs ≡ true → (g : ℕ) → Names resolution (named.Global (suc (suc g))) xs → ⊥
+none_beyond : (xs : List ℕ) → all_pass names_few xs ≡ true → (g : ℕ) → Names resolution (Named.Global (suc (suc g))) xs → ⊥
 none_beyond xs e g w =
     let few : names_few w.0 ≡ true = subst (λ (token : ℕ). names_few token ≡ true) w.1.2 (among names_few xs e w.0 w.1.0 w.1.1) in
     beyond g (below (suc (suc g)) 2 (subst (λ (n : Named). is_few n ≡ true) w.2 few))

@@ -1,14 +1,5 @@
 -- `replay` writes what follows in the file that `record` wrote, whichever code each of them made.
-use Rattle.std.proofs.Common.{◌≡◌, ℕ, ◌≤◌, List, length, Some, sym, ap, ◌∙◌, subst}
-use Rattle.sharc_mode.specs.Moded.{Assignment}
-use Rattle.sharc_code.specs.declared.code.Code.{Code}
-use Rattle.sharc_cli.specs.{Commands.commands, declared.command.Command.TheVariants.Replay}
-use Rattle.sharc_schedule.specs.File.{FileView, IsFile, written}
-use Rattle.sharc_run.specs.declared.run.Ran.{Ran}
-use Rattle.sharc_front_end.specs.Front.{IsFront}
-use Rattle.sharc_sound_laws.specs.{Alike.AreAlike, AlikeLaws.{RunsAreAlike, CompiledAreAlike}}
-use Rattle.sharc_top.specs.{declared.status.Status.Status, Limits.{source_limit, recording_limit}, Recording.Replays, Reply.IsReply, Running.status_of}
-use Rattle.sharc_reply_laws.specs.RecordLaws.{IsRecorded, IsRecording, RecordsAreOnly, IsReplaying, ReplaysAreOnly, SaysTheSame, ReplaysSayAgain}
+use Rattle.sharc_reply_laws.proofs.Imports.{◌≡◌, ℕ, ◌≤◌, List, length, Some, sym, ap, ◌∙◌, subst, Assignment, Code, commands, Replay, FileView, IsFile, written, Ran, IsFront, AreAlike, RunsAreAlike, CompiledAreAlike, Status, source_limit, recording_limit, Replays, IsReply, status_of, IsRecorded, IsRecording, RecordsAreOnly, IsReplaying, ReplaysAreOnly, SaysTheSame, ReplaysSayAgain}
 
 module _ (compiled : CompiledAreAlike) (runs : RunsAreAlike) where
   -- a run of one code is one of the other

@@ -1,15 +1,6 @@
 -- What a reply is to the words of `load`, where its source is a program with accepted modes.
-use Rattle.std.proofs.{Common.{◌≡◌, ℕ, ◌+◌, ◌<◌, ◌≤◌, Bool, true, false, List, ◌++◌, length, Option, Some, None, refl, ap, sym, ◌∙◌, subst}, lemmas.Bool.false≢true}
-use Rattle.sharc_mode.specs.Moded.{Assignment}
-use Rattle.sharc_check.specs.Rules.{MeetsRules}
-use Rattle.sharc_cli.specs.{Commands.commands, declared.command.Command.Command, declared.command.Command.TheVariants.{Audit, Load, Record, Replay}}
-use Rattle.sharc_load.specs.Source.{source_of}
-use Rattle.sharc_front_end.specs.Front.{IsFront}
-use Rattle.sharc_top.specs.{declared.ran.RunNumbers.RunNumbers, declared.status.Status.Status, Answers.{Answers, faulty, program}, Limits.source_limit, Loading.{LoadReplies, load_numbers, long, size_lines, loaded as was_loaded}, Reply.{Replies, answered, audited, loaded, recorded, replayed, task_in, too_long, usage}, Running.{Runs, not_run, ran}, Verdict.Does}
-use Rattle.sharc_top.specs.declared.task.SourceTask.TheVariants as task
-use Rattle.sharc_reply_laws.specs.Laws.{IsRunning, SourceLaws}
-use Rattle.sharc_lemmas.proofs.Numbers.{not_long}
-use Rattle.sharc_reply_laws.proofs.Recorded.{command_or_none, task_or_none, no_reader, same_command}
+use Rattle.sharc_reply_laws.proofs.{Imports.{◌≡◌, ℕ, ◌+◌, ◌<◌, ◌≤◌, Bool, true, false, List, ◌++◌, length, Option, Some, None, refl, ap, sym, ◌∙◌, subst, false≢true, Assignment, MeetsRules, commands, Command, Audit, Record, Replay, source_of, IsFront, RunNumbers, Status, Answers, faulty, program, source_limit, LoadReplies, load_numbers, long, size_lines, was_loaded, Replies, answered, audited, loaded, recorded, replayed, task_in, too_long, usage, Runs, not_run, ran, Does, SourceTask, IsRunning, SourceLaws, not_long}, Recorded.{command_or_none, task_or_none, no_reader, same_command}}
+use Rattle.sharc_cli.specs.declared.command.Command.TheVariants.{Load}
 
 -- ---- the words
 abbrev is_load : Command → Bool
@@ -55,9 +46,9 @@ pub record IsLoading (number workers : ℕ) (m : Assignment) (s : Status) (text 
   pub is : text ≡ size_lines (length (source_of number)) (number + 2) ++ rest
 
 module _ (laws : SourceLaws) (number workers : ℕ) (m : Assignment) (front : IsFront (source_of number) m) (meets : MeetsRules m) where
-  answers_run : (n : RunNumbers) (s : Status) (text : List ℕ) → Answers (task.Run n) (source_of number) s text → IsRunning n m s text
+  answers_run : (n : RunNumbers) (s : Status) (text : List ℕ) → Answers (SourceTask.Run n) (source_of number) s text → IsRunning n m s text
   answers_run n s text (faulty fault is) = absurd (laws.faultless (source_of number) m front fault is)
-  answers_run n s text (program k z other also does) = only_ran n m z other meets (subst (λ (k : Assignment). Does (task.Run n) k z other) (laws.program (source_of number) k m also front) does)
+  answers_run n s text (program k z other also does) = only_ran n m z other meets (subst (λ (k : Assignment). Does (SourceTask.Run n) k z other) (laws.program (source_of number) k m also front) does)
 
   load_only : (s : Status) (text : List ℕ) → length (source_of number) ≤ source_limit → LoadReplies number workers s text → IsLoading number workers m s text
   load_only s text within (long too) = absurd (not_long source_limit (length (source_of number)) too within)

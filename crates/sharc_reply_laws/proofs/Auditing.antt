@@ -1,11 +1,6 @@
 -- The reply to an event file whose source is a program with accepted modes is that of its verdict.
-use Rattle.std.proofs.Common.{◌≡◌, ℕ, List, Option, Some, ap, ◌∙◌, subst}
-use Rattle.std.specs.Io.KnownBytes.{Appends}
-use Rattle.sharc_mode.specs.Moded.{Assignment}
-use Rattle.sharc_audit.specs.{declared.audit.Verdict.Verdict, declared.line.EventLine.EventLine, Audited.Audits, Texts.verdict_line}
-use Rattle.sharc_top.specs.{declared.status.Status.Status, EventFiles.status_of, Reply.{Replies, IsReply, Replied}, Status.code_of}
-use Rattle.sharc_reply_laws.specs.AuditLaws.{IsAudited, IsVerdict}
-use Rattle.sharc_reply_laws.proofs.{Judged.{FileReplyLaws, file_only}, Replying.is_file_reply}
+use Rattle.sharc_reply_laws.proofs.{Imports.{◌≡◌, ℕ, List, Option, Some, ap, ◌∙◌, subst, Appends, Assignment, Verdict, EventLine, Audits, verdict_line, Status, Replies, IsReply, Replied, code_of, IsAudited, IsVerdict}, Judged.{FileReplyLaws, file_only}, Replying.is_file_reply}
+use Rattle.sharc_top.specs.EventFiles.{status_of}
 
 module _ (laws : FileReplyLaws) (words : List (List ℕ)) (input : List ℕ) (m : Assignment) (fuel : ℕ) (events : List EventLine) where
   pub audit_only : IsAudited words input m fuel events → (s : Status) (text : List ℕ) → IsReply words (Some input) s text → IsVerdict m fuel events s text

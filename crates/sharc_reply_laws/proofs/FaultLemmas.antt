@@ -1,9 +1,5 @@
 -- The first fault of a program that is not typed is one.
-use Rattle.std.proofs.{Common.{◌≡◌, inl, inr, ℕ, ◌≤◌, ◌==◌, false, ◌&&◌, ◌||◌, cond, List, [], ◌∷◌, refl, ap, sym, ◌∙◌, subst, arith, nat_lt, ltb-false, eq-eqb}, lemmas.Bool.{or_parts, and_cases, false≢true}}
-use Rattle.std.specs.List.{AllByRecursion}
-use Rattle.sharc_tree.specs.{declared.token.FaultAt.FaultAt, declared.token.Tokens.Tokens}
-use Rattle.sharc_names.specs.{declared.fault.FaultCode.FaultCode, declared.fault.FaultCode.TheVariants.{UnknownName, DefinedTwice, TypeMismatch, ArgumentCount, NoLvalue, TypeNotAllowed, BadForm, NoMain, LimitPassed}, declared.fault.Fault.Fault, Notes.{digit, is_before, IsAmong, IsFirst}}
-use Rattle.sharc_ctype.specs.Typings.{IsToldAt}
+use Rattle.sharc_reply_laws.proofs.Imports.{◌≡◌, inl, inr, ℕ, ◌≤◌, ◌==◌, false, ◌&&◌, ◌||◌, cond, List, [], ◌∷◌, refl, ap, sym, ◌∙◌, subst, arith, nat_lt, ltb-false, eq-eqb, or_parts, and_cases, false≢true, AllByRecursion, FaultAt, Tokens, FaultCode, UnknownName, DefinedTwice, TypeMismatch, ArgumentCount, NoLvalue, TypeNotAllowed, BadForm, NoMain, LimitPassed, Fault, digit, is_before, IsAmong, IsFirst, IsToldAt}
 
 -- the code with this digit
 code_of : ℕ → FaultCode

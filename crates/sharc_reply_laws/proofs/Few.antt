@@ -1,10 +1,6 @@
 -- A thread that is chosen has made fewer events than the limit.
-use Rattle.std.proofs.{Common.{◌≡◌, ℕ, ◌+◌, ◌<◌, ◌≤◌, ⊎_elim, true, not, ◌&&◌, List, [], ◌∷◌, length, sym, subst, arith}, lemmas.Bool.cases_eq}
-use Rattle.std.specs.Prelude.{nat_lt}
-use Rattle.sharc_code.specs.{declared.code.Code.Code, declared.shape.Shape.Shape, declared.state.TurnState.TurnState, declared.state.TurnState.TheVariants.Runs, Laws.RunLaws, Path.{counted, may_go}, Runs.Turn, Waits.waits_now, Whole.{bounds, place_after}}
-use Rattle.sharc_threads.specs.Ends.{Standing, is_enabled}
-use Rattle.sharc_seq.specs.{Laws.EnabledLaws, Run.{AreChosen, IsChosen, enabled}}
-use Rattle.sharc_lemmas.proofs.{Bools.{and_left as left, and_right as right}, Numbers.{lt_true as below}}
+use Rattle.sharc_reply_laws.proofs.Imports.{◌≡◌, ℕ, ◌+◌, ◌<◌, ◌≤◌, ⊎_elim, true, not, ◌&&◌, List, [], ◌∷◌, length, sym, subst, arith, cases_eq, nat_lt, Code, Shape, TurnState, RunLaws, counted, may_go, Turn, waits_now, bounds, place_after, Standing, is_enabled, EnabledLaws, AreChosen, IsChosen, enabled, left, right, below}
+use Rattle.sharc_code.specs.declared.state.TurnState.TheVariants.{Runs}
 
 counts_few : (state : TurnState) → counted state ≤ 1
 counts_few Runs = omega arith

@@ -1,20 +1,5 @@
 -- Where a test of a sole reference was refused, the source wants to give or to free the object that was tested.
-use Rattle.std.proofs.Common.{◌≡◌, ℕ, ◌⊎◌, inl, inr, List, [], ◌∷◌, sym, ap, ◌∙◌, subst, arith}
-use Rattle.std.specs.Prelude.{slice_index}
-use Rattle.sharc_tree.specs.declared.event.SourceEvent.{SourceEvent}
-use Rattle.sharc_ctype_laws.specs.Declared.{NameThemselves}
-use Rattle.sharc_ctype.specs.Resolved.{function_at}
-use Rattle.sharc_mode.specs.Moded.{Assignment}
-use Rattle.sharc_meaning.specs.{Events.events_of, Obeys.History, Reference.number_of, References.Begun, Runs.IsNamedAt}
-use Rattle.sharc_code.specs.{declared.code.Code.Code, declared.instr.Instr.TheVariants.TestSole, declared.shape.Shape.Shape, declared.state.Stop.TheVariants.NotSole, Layout.count_word, Machine.{Machine, instr_at, ref, stopped}, Path.begun, Runs.{Turn, turns_of}, Whole.{CheckedRun, place_after}}
-use Rattle.sharc_flat.specs.Correct.{MayStart}
-use Rattle.sharc_compile.specs.{Consistent.IsConsistent, OfRuns.{elements_before, founds_of}}
-use Rattle.sharc_invariant.specs.{Types.Targets, Labels.Labels}
-use Rattle.sharc_history_laws.specs.{History.history_of, Reports.FindsOthers}
-use Rattle.sharc_wants_laws.specs.Seeing.{TestersGive}
-use Rattle.sharc_sound_laws.specs.Reports.{WantsReported}
-use Rattle.sharc_reply_laws.specs.{Tested.{TestsStay, count_found}, Reports.object_tested}
-use Rattle.sharc_reply_laws.proofs.Telling.{from_first, head_eq, same_function, some}
+use Rattle.sharc_reply_laws.proofs.{Imports.{◌≡◌, ℕ, ◌⊎◌, inl, inr, List, [], ◌∷◌, sym, ap, ◌∙◌, subst, arith, slice_index, SourceEvent, NameThemselves, function_at, Assignment, events_of, History, number_of, Begun, IsNamedAt, Code, TestSole, Shape, NotSole, count_word, Machine, instr_at, ref, stopped, begun, Turn, turns_of, CheckedRun, place_after, MayStart, IsConsistent, elements_before, founds_of, Targets, Labels, history_of, FindsOthers, TestersGive, WantsReported, TestsStay, count_found, object_tested}, Telling.{from_first, head_eq, same_function, some}}
 
 -- ---- the thread stands at its test to the end
 module _ (tests : TestsStay) (x : Targets) (code : Code) (s : Shape) (ls : Labels) (run : List Turn) (checked : CheckedRun code s run) (t site count : ℕ) (f : FindsOthers x code s ls run t site count) where

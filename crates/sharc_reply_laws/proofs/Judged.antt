@@ -1,15 +1,6 @@
 -- The reply to an event file is one.
-use Rattle.std.proofs.Common.{◌≡◌, ℕ, ◌<◌, ◌≤◌, List, length, refl, ap, ◌∙◌, subst, arith}
-use Rattle.sharc_ctype.specs.Resolved.{IsResolved}
-use Rattle.sharc_mode.specs.Moded.{Assignment}
-use Rattle.sharc_check.specs.{Rules.MeetsRules, Laws.CheckLaws}
-use Rattle.sharc_suggest.specs.Laws.{SuggestLaws}
-use Rattle.sharc_audit.specs.{declared.line.EventLine.EventLine, Audited.OneVerdict, FileLaws.FileLaws, Grammar.{text_lines, IsFirstBad, HasMany}, Texts.{verdict_line, bad_line}}
-use Rattle.sharc_report.specs.Refusals.{refusal_line}
-use Rattle.sharc_front_end.specs.Front.{IsFront}
-use Rattle.sharc_top.specs.{declared.status.Status.Status, EventFiles.{status_of, Judges, not_judged, judged, JudgesSource, faulty_source, of_program, IsFewIn, FileReplies, long_file, no_file, many_events, long_source, source_judged}, Limits.{source_limit, file_limit}}
-use Rattle.sharc_reply_laws.specs.{Laws.{WarningsAreOne, SourceLaws}, AuditLaws.IsVerdict}
-use Rattle.sharc_reply_laws.proofs.Verdicts.{one_refusal}
+use Rattle.sharc_reply_laws.proofs.{Imports.{◌≡◌, ℕ, ◌<◌, ◌≤◌, List, length, refl, ap, ◌∙◌, subst, arith, IsResolved, Assignment, MeetsRules, CheckLaws, SuggestLaws, EventLine, OneVerdict, FileLaws, text_lines, IsFirstBad, HasMany, verdict_line, bad_line, refusal_line, IsFront, Status, Judges, not_judged, judged, JudgesSource, faulty_source, of_program, IsFewIn, FileReplies, long_file, no_file, many_events, long_source, source_judged, source_limit, file_limit, WarningsAreOne, SourceLaws, IsVerdict}, Verdicts.one_refusal}
+use Rattle.sharc_top.specs.EventFiles.{status_of}
 
 pub record FileReplyLaws : Type 0 where
   pub warnings : WarningsAreOne

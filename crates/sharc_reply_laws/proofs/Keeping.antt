@@ -1,15 +1,5 @@
 -- Each run of which a reply tells is an interleaving of built code, so it keeps to the source.
-use Rattle.std.proofs.Common.{◌≡◌, ℕ, List, Option, Some, None, refl, ◌∙◌, ap}
-use Rattle.sharc_mode.specs.Moded.{Assignment}
-use Rattle.sharc_check.specs.Rules.{MeetsRules}
-use Rattle.sharc_code.specs.{declared.code.Code.Code, declared.shape.Shape.Shape, Layout.Fits, Ranges.NumbersFit, Runs.Turn, Whole.{CheckedRun, place_after}}
-use Rattle.sharc_history_laws.specs.History.{history_of}
-use Rattle.sharc_run.specs.{declared.run.Ran.Ran, Run.IsEnd}
-use Rattle.sharc_build.specs.Built.{IsBuilt}
-use Rattle.sharc_front_end.specs.{Compiled.IsCompiled, Front.IsFront}
-use Rattle.sharc_sound_laws.specs.{BuiltSound.BuiltIsSound, Sound.KeepsTo}
-use Rattle.sharc_top.specs.{declared.ran.RunNumbers.RunNumbers, Running.{status_of, IsRunBy}}
-use Rattle.sharc_reply_laws.specs.{Laws.RunsAreOnly, RecordLaws.RecordLaws, Kept.{IsKept, RunsKeep, ReplaysKeep, RecordsKeep, KeptLaws}}
+use Rattle.sharc_reply_laws.proofs.Imports.{◌≡◌, ℕ, List, Option, Some, None, refl, ◌∙◌, ap, Assignment, MeetsRules, Code, Shape, Fits, NumbersFit, Turn, CheckedRun, place_after, history_of, Ran, IsEnd, IsBuilt, IsCompiled, IsFront, BuiltIsSound, KeepsTo, RunNumbers, status_of, IsRunBy, RunsAreOnly, RecordLaws, IsKept, RunsKeep, ReplaysKeep, RecordsKeep, KeptLaws}
 
 -- the turns of a run that a seed draws, or of some run
 record HasTurns (code : Code) (s : Shape) (limit : ℕ) (ran : Ran) : Type 0 where

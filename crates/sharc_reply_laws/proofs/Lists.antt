@@ -1,7 +1,5 @@
 -- Lists that rise by a key, and lists of which each part has one number.
-use Rattle.std.proofs.{Common.{◌≡◌, ◌≢◌, ℕ, zero, suc, ◌+◌, ◌<◌, ◌≤◌, ◌⊎◌, ⊎_elim, Bool, true, false, cond, List, [], ◌∷◌, ◌++◌, map, filter, refl, sym, ap, ◌∙◌, arith}, lemmas.Bool.{cases_eq, cases_order}, lemmas.List.append-nil, lemmas.List.Elements.filter-append}
-use Rattle.std.specs.{Prelude.{◌==◌, flat_map}, List.range_with_len}
-use Rattle.sharc_lemmas.proofs.{Numbers.{same_is, other_is}, Lists.flat_same}
+use Rattle.sharc_reply_laws.proofs.Imports.{◌≡◌, ◌≢◌, ℕ, zero, suc, ◌+◌, ◌<◌, ◌≤◌, ◌⊎◌, ⊎_elim, Bool, true, false, cond, List, [], ◌∷◌, ◌++◌, map, filter, refl, sym, ap, ◌∙◌, arith, cases_eq, cases_order, append-nil, filter-append, ◌==◌, flat_map, range_with_len, same_is, other_is, flat_same}
 
 -- ---- flat_map
 flat_none : {X A : Type 0} (none : List A) → none ≡ [] → (xs : List X) → flat_map (λ (x : X). none) xs ≡ []

@@ -1,13 +1,6 @@
 -- The prints of a run, one after the other: what each thread has of them, where they are, and which events of the source they are.
-use Rattle.std.proofs.{Common.{◌≡◌, ℕ, ℤ, zero, suc, ◌+◌, ◌%◌, ◌^◌, ◌<◌, ◌≤◌, ◌⊎◌, ⊎_elim, Bool, true, false, ◌||◌, ◌&&◌, ◌*◌, cond, List, [], ◌∷◌, ◌++◌, length, map, filter, reverse, Option, Some, None, refl, sym, ap, ◌∙◌, subst, arith}, lemmas.Bool.{cases_eq, or_right}, lemmas.Bool.Decides.nat_tests, lemmas.List.{append-nil, get_or-set_other, length_push, map_push, reverse-append}, lemmas.List.Elements.{All-nil, All-push, All-weaker, filter-append, filter_map-append}, lemmas.List.FromFn.get_or-map-range_with_len}
-use Rattle.std.specs.{Prelude.{nat_eq, nat_lt, nat_le, ◌==◌, slice_index, All}, List.{cons_option, range_with_len}}
-use Rattle.sharc_tree.specs.declared.event.SourceEvent.{SourceEvent}
-use Rattle.sharc_word.specs.{declared.step.TheConstants.THREADS, declared.step.WordStep.WordStep, declared.step.WordEvent.WordEvent, Words.{word_after, words_after_step}}
-use Rattle.sharc_word.specs.declared.step.WordOp.TheVariants as ops
-use Rattle.sharc_code.specs.{declared.code.Code.Code, declared.instr.Instr.Instr, declared.instr.Instr.TheVariants.Print, declared.shape.Shape.Shape, declared.state.Print.{Print as PrintAt}, Layout.{prints_word, words_of}, Laws.RunLaws, Machine.{Machine, instr_at, step_of as step_at, act, int}, Opening.{opening_words, opens_with, opening_cell, first_global}, Path.{turn, after, asked_by, counted}, Runs.{Answered, Global, IsRun, Said, Turn, is_started, opening_of, put, result_of, step_of, told_by, with_told, words_now}, Says.{elements_in, said, speaks_of}, StandingLaws.StandingLaws, Whole.{Erase, bounds, one_thread, place_after}}
-use Rattle.sharc_reply_laws.specs.Prints.{events_in, printed_by, printed_in}
-use Rattle.sharc_reply_laws.proofs.{Sorts.{Elsewhere, IsQuiet, LeavesIt, Prints, Quiet, Sort, print_of, printed_of, sorted}, Stopping.{put_other, put_same}}
-use Rattle.sharc_lemmas.proofs.{Numbers.{same_is, other_is}, Bools.or_split, Lists.{set_here, set_same, range_more}}
+use Rattle.sharc_reply_laws.proofs.{Imports.{◌≡◌, ℕ, ℤ, zero, suc, ◌+◌, ◌%◌, ◌^◌, ◌<◌, ◌≤◌, ◌⊎◌, ⊎_elim, Bool, true, false, ◌||◌, ◌&&◌, ◌*◌, cond, List, [], ◌∷◌, ◌++◌, length, map, filter, reverse, Option, Some, None, refl, sym, ap, ◌∙◌, subst, arith, cases_eq, or_right, nat_tests, append-nil, get_or-set_other, length_push, map_push, reverse-append, All-nil, All-push, All-weaker, filter-append, filter_map-append, get_or-map-range_with_len, nat_eq, nat_lt, nat_le, ◌==◌, slice_index, All, cons_option, range_with_len, SourceEvent, THREADS, WordStep, WordEvent, word_after, words_after_step, WordOp, Code, Instr, Print, Shape, PrintAt, prints_word, words_of, RunLaws, Machine, instr_at, step_of as step_at, act, int, opening_words, opens_with, opening_cell, first_global, turn, after, asked_by, counted, Answered, Global, IsRun, Said, Turn, is_started, opening_of, put, result_of, told_by, with_told, words_now, elements_in, said, speaks_of, StandingLaws, Erase, bounds, one_thread, place_after, events_in, printed_by, printed_in, same_is, other_is, or_split, set_here, set_same, range_more}, Sorts.{Elsewhere, IsQuiet, LeavesIt, Prints, Quiet, Sort, print_of, printed_of, sorted}, Stopping.{put_other, put_same}}
+use Rattle.sharc_code.specs.Runs.{step_of}
 
 -- ---- what is printed, one after the other
 -- a print, with its thread
@@ -167,7 +160,7 @@ module _ (code : Code) (s : Shape) (g : Global Machine) (k : ℕ) (event : Optio
       → Still (after (act code s (Print r site) m) found) (log ++ record { thread = k; print = record { place = found; value = int m r } } ∷ []) (values ++ int m r ∷ [])
   print_turn r site asks =
       let one : Logged = record { thread = k; print = record { place = found; value = int m r } } in
-      let step = step_at prints_word (ops.Add 1) in
+      let step = step_at prints_word (WordOp.Add 1) in
       let x = after (act code s (Print r site) m) found in
       let found_at : found ≡ slice_index g.words prints_word = found_is g.words event step asks answered in
       let at : found ≡ length log = found_at ∙ h.word in

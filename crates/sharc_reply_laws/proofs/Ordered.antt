@@ -1,25 +1,9 @@
 -- A reply to each order tells what the run does of which it is.
-use Rattle.std.proofs.{Common.{◌≡◌, ℕ, ◌+◌, ◌≤◌, false, List, ◌++◌, length, Option, Some, None, refl, sym, ap, ◌∙◌}, lemmas.List.Elements.All-contains}
-use Rattle.std.specs.Prelude.{Contains}
-use Rattle.sharc_mode.specs.Moded.{Assignment}
-use Rattle.sharc_check.specs.Rules.{MeetsRules}
-use Rattle.sharc_code.specs.{declared.code.Code.Code, declared.shape.Shape.Shape, declared.state.Stop.Stop, Layout.Fits, Machine.Machine, Ranges.NumbersFit, Runs.Turn, Whole.{CheckedRun, IsStuck, place_after}}
-use Rattle.sharc_cpu.specs.Thread.{ThreadView}
-use Rattle.sharc_threads.specs.Ends.{AreStarted, IsAt, Standing, is_enabled}
-use Rattle.sharc_load.specs.Source.{source_of}
-use Rattle.sharc_schedule.specs.{File.written, Schedule.stored}
-use Rattle.sharc_run.specs.{declared.outcome.Outcome.Outcome, declared.run.Ran.Ran, Outcome.{HasOutcome, stopped, stuck}, Run.IsEnd}
-use Rattle.sharc_seq.specs.Choice.{seeded}
-use Rattle.sharc_invariant.specs.Labels.{Labels}
-use Rattle.sharc_build.specs.Built.{IsBuilt}
-use Rattle.sharc_front_end.specs.{Compiled.IsCompiled, Front.IsFront}
-use Rattle.sharc_reply_laws.specs.{Prints.TextsBeginWithPrints, Stopped.StopsAreStopped, Laws.{IsRunning, RunsAreOnly, SourceLaws}, RecordLaws.RecordLaws, Few.ChosenAreFew, Orders.{Alone, Any, AreTurnsBy, Drawn, Order, by_load, by_record, by_replay, by_run, choice_of, written_of}, Replies.{LineTells, RepliesTell, ReplyTells}, Runs.{BuiltRunsTell, RunTells}}
-use Rattle.sharc_top.specs.{declared.ran.RunNumbers.RunNumbers, declared.status.Status.Status, Loading.size_lines, Reply.task_in, Running.{IsRunBy, status_of}}
-use Rattle.sharc_top.specs.declared.status.Status.TheVariants as status
-use Rattle.sharc_reply_laws.proofs.Asked.{loading}
+use Rattle.sharc_reply_laws.proofs.{Imports.{◌≡◌, ℕ, ◌+◌, ◌≤◌, false, List, ◌++◌, length, Option, Some, None, refl, sym, ap, ◌∙◌, All-contains, Contains, Assignment, MeetsRules, Code, Shape, Stop, Fits, Machine, NumbersFit, Turn, CheckedRun, IsStuck, place_after, ThreadView, AreStarted, IsAt, Standing, is_enabled, source_of, written, stored, Ran, HasOutcome, stuck, IsEnd, seeded, Labels, IsBuilt, IsCompiled, IsFront, TextsBeginWithPrints, StopsAreStopped, IsRunning, RunsAreOnly, SourceLaws, RecordLaws, ChosenAreFew, Alone, Any, AreTurnsBy, Drawn, Order, by_load, by_record, by_replay, by_run, choice_of, written_of, LineTells, RepliesTell, ReplyTells, BuiltRunsTell, RunTells, RunNumbers, Status, size_lines, task_in, IsRunBy, status_of}, Asked.loading}
+use Rattle.sharc_run.specs.{declared.outcome.Outcome.Outcome, Outcome.stopped}
 
 -- status 5 is that of a run that is stuck
-stuck_is : (code : Code) (s : Shape) (limit : ℕ) (g : Standing) (threads : List ThreadView) (outcome : Outcome) → HasOutcome code s limit g threads outcome → status_of outcome ≡ status.Stuck → IsStuck code s g
+stuck_is : (code : Code) (s : Shape) (limit : ℕ) (g : Standing) (threads : List ThreadView) (outcome : Outcome) → HasOutcome code s limit g threads outcome → status_of outcome ≡ Status.Stuck → IsStuck code s g
 stuck_is code s limit g threads outcome (stuck a is) e = is
 stuck_is code s limit g threads outcome _ e = absurd (cc)
 

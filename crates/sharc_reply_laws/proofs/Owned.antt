@@ -1,12 +1,5 @@
 -- A turn tells events of its own thread.
-use Rattle.std.proofs.{Common.{◌≡◌, ℕ, zero, suc, Bool, true, false, ◌||◌, cond, List, [], ◌∷◌, ◌++◌, map, reverse, Option, Some, None, if◌then◌else◌, refl, sym, ap, ◌∙◌, subst}, lemmas.List.append-nil, lemmas.List.Elements.filter-append}
-use Rattle.std.specs.Prelude.{◌==◌, nat_eq, filter}
-use Rattle.sharc_tree.specs.declared.event.SourceEvent.{SourceEvent}
-use Rattle.sharc_locks.specs.Waiters.{waits_in}
-use Rattle.sharc_heap.specs.{State.NewView, declared.stage.NewStage.NewStage}
-use Rattle.sharc_heap.specs.declared.stage.NewStage.TheVariants as news
-use Rattle.sharc_code.specs.{declared.code.Code.Code, declared.instr.Cell.Cell, declared.instr.Register.Register, declared.instr.Instr.Instr, declared.instr.Instr.TheVariants.{Load, Store, LoadRef, Exchange, New, TakeCell, TakeLocal, Give, Free, Lock, Unlock, Spawn, Join, Print, Start, Exit, CondEnter, CondWait, CondSignal, CondBroadcast}, declared.shape.Shape.Shape, declared.state.Stage.Stage, declared.state.Stage.TheVariants.{Makes, Uncounts, Begins, Enters, Withdraws, WithdrawsFrom, Wakes}, Machine.{Machine, ref, instr_at}, Runs.{Said, Turn, result_of, said_by, told_by, with_told}, Says.{elements_in, in_exit, in_free, in_new, in_signal, in_spawn, in_start, new_event, nobody, said, speaks_of, take_local}, StandingLaws.StandingLaws, Whole.{Erase, one_thread, place_after}}
-use Rattle.sharc_lemmas.proofs.{Lists.reverse_cons, Numbers.same_test}
+use Rattle.sharc_reply_laws.proofs.Imports.{◌≡◌, ℕ, zero, suc, Bool, true, false, ◌||◌, cond, List, [], ◌∷◌, ◌++◌, map, reverse, Option, Some, None, if◌then◌else◌, refl, sym, ap, ◌∙◌, subst, append-nil, filter-append, ◌==◌, nat_eq, filter, SourceEvent, waits_in, NewView, NewStage, Code, Cell, Register, Instr, Load, Store, LoadRef, Exchange, New, TakeCell, TakeLocal, Give, Free, Lock, Unlock, Spawn, Join, Print, Start, Exit, CondEnter, CondWait, CondSignal, CondBroadcast, Shape, Stage, Makes, Uncounts, Begins, Enters, Withdraws, WithdrawsFrom, Wakes, Machine, ref, instr_at, Said, Turn, result_of, said_by, told_by, with_told, elements_in, in_exit, in_free, in_new, in_signal, in_spawn, in_start, new_event, nobody, said, speaks_of, take_local, StandingLaws, Erase, one_thread, place_after, reverse_cons, same_test}
 
 -- ---- one turn
 -- of the thread of this number, if it is one
@@ -27,7 +20,7 @@ module _ (code : Code) (m : Machine) where
   of_take site (suc n) elements = refl
 
   of_made : (site cells : ℕ) (state : NewView) (stage : NewStage) → IsOwn (new_event code m site cells state stage)
-  of_made site cells state (news.Length header) = refl
+  of_made site cells state (NewStage.Length header) = refl
   of_made site cells state _ = tt
 
   of_new : (site cells : ℕ) (stage : Stage) → IsOwn (in_new code m site cells stage)

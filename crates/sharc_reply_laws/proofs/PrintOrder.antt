@@ -1,13 +1,5 @@
 -- All prints of the threads, in the order of their places, are those of the run, one after the other.
-use Rattle.std.proofs.{Common.{◌≡◌, ℕ, ℤ, pos, suc, ◌+◌, ◌<◌, ◌≤◌, Bool, true, false, not, ◌&&◌, List, [], ◌∷◌, ◌++◌, length, map, filter, refl, sym, ap, ◌∙◌, subst, arith}, lemmas.Bool.Decides.nat_tests, lemmas.List.{length-map, map-append}, lemmas.List.Elements.{All-head, All-tail, filter_agree}}
-use Rattle.std.specs.{Prelude.{◌==◌, flat_map, slice_index_or, All}, List.range_with_len, List.Sorted.{IsSortedByKey, ties}, Ordering.{is_lt, nat_cmp}}
-use Rattle.sharc_word.specs.declared.step.TheConstants.{THREADS}
-use Rattle.sharc_code.specs.{declared.code.Code.Code, declared.shape.Shape.Shape, declared.state.Print.Print, Layout.Fits, Machine.Machine, Runs.Global}
-use Rattle.sharc_cpu.specs.Thread.{ThreadView}
-use Rattle.sharc_threads.specs.Ends.{AreStarted, IsAt}
-use Rattle.sharc_run.specs.RunText.{AreInOrder, place_of, prints_of}
-use Rattle.sharc_reply_laws.proofs.{Lists.{AreOnceIn, Climbs, Rises, at_key, filter_map_by, lower, map_flat, once, parts, same_by_keys}, Logged.{Keeps, Logged, of_thread, place, print_in, printer, value}}
-use Rattle.sharc_lemmas.proofs.Lists.{flat_same}
+use Rattle.sharc_reply_laws.proofs.{Imports.{◌≡◌, ℕ, ℤ, pos, suc, ◌+◌, ◌<◌, ◌≤◌, Bool, true, false, not, ◌&&◌, List, [], ◌∷◌, ◌++◌, length, map, filter, refl, sym, ap, ◌∙◌, subst, arith, nat_tests, length-map, map-append, All-head, All-tail, filter_agree, ◌==◌, flat_map, get_or as slice_index_or, All, range_with_len, IsSortedByKey, ties, is_lt, nat_cmp, THREADS, Code, Shape, PrintAt as Print, Fits, Machine, Global, ThreadView, AreStarted, IsAt, AreInOrder, place_of, prints_of, flat_same}, Lists.{AreOnceIn, Climbs, Rises, at_key, filter_map_by, lower, map_flat, once, parts, same_by_keys}, Logged.{Keeps, Logged, of_thread, place, print_in, printer, value}}
 
 -- ---- prints that are sorted rise
 not_less : (x y : ℕ) → is_lt (nat_cmp y x) ≡ false → x ≤ y

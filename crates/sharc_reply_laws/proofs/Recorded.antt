@@ -1,17 +1,7 @@
 -- Which replies `record` and `replay` have where the source is a program with accepted modes.
-use Rattle.std.proofs.{Common.{◌≡◌, ℕ, ◌<◌, ◌≤◌, Bool, true, false, List, length, Option, Some, None, is_some, refl, ap, sym, ◌∙◌, subst}, lemmas.Bool.false≢true}
-use Rattle.sharc_mode.specs.Moded.{Assignment}
-use Rattle.sharc_check.specs.Rules.{MeetsRules}
-use Rattle.sharc_code.specs.{declared.code.Code.Code, declared.shape.Shape.Shape, Layout.Fits}
-use Rattle.sharc_cli.specs.{Bounds.AreWithin, Commands.commands, declared.command.Command.Command, declared.command.Command.TheVariants.{Load, Record, Replay, Audit}}
-use Rattle.sharc_schedule.specs.{File.{FileView, IsFile, HoldsNoSchedule, written}, FileLaws.FileLaws}
-use Rattle.sharc_replay.specs.{Laws.ReplayLaws, Run.{file_of, IsScheduledRun}}
-use Rattle.sharc_run.specs.declared.run.Ran.{Ran}
-use Rattle.sharc_front_end.specs.Front.{IsFront}
-use Rattle.sharc_source_laws.specs.Laws.{ProgramsHoldNoSchedule}
-use Rattle.sharc_top.specs.{declared.status.Status.Status, declared.task.SourceTask.SourceTask, Limits.{source_limit, recording_limit}, Recording.{Records, Replays, GivesRun, not_made, made, GivesSource, at_fault, by_program, RecordReplies, long_input, ReplayReplies, long_recording, no_recording, long_source_in, recorded as was_recorded, replayed as was_replayed}, Reply.{task_in, Replies, usage, too_long, answered, loaded, recorded, replayed, audited, IsReply}}
-use Rattle.sharc_reply_laws.specs.{Laws.SourceLaws, RecordLaws.{IsReplayable, IsRecorded, IsRecording, IsReplayed, IsReplaying}}
-use Rattle.sharc_lemmas.proofs.Numbers.{not_long}
+use Rattle.sharc_reply_laws.proofs.Imports.{◌≡◌, ℕ, ◌<◌, ◌≤◌, Bool, true, false, List, length, Option, Some, None, is_some, refl, ap, sym, ◌∙◌, subst, false≢true, Assignment, MeetsRules, Code, Shape, Fits, AreWithin, commands, Command, Record, Replay, Audit, FileView, IsFile, HoldsNoSchedule, written, ReplayLaws, file_of, IsScheduledRun, Ran, IsFront, ProgramsHoldNoSchedule, Status, SourceTask, source_limit, recording_limit, Records, Replays, GivesRun, not_made, made, GivesSource, at_fault, by_program, RecordReplies, long_input, ReplayReplies, long_recording, no_recording, long_source_in, was_recorded, was_replayed, task_in, Replies, usage, too_long, answered, loaded, recorded, replayed, audited, IsReply, SourceLaws, IsReplayable, IsRecorded, IsRecording, IsReplayed, IsReplaying, not_long}
+use Rattle.sharc_cli.specs.declared.command.Command.TheVariants.{Load}
+use Rattle.sharc_schedule.specs.FileLaws.{FileLaws}
 
 -- ---- the words
 pub command_or_none : (o : Option Command) (c : Command) → o ≡ Some c → o ≡ None → ⊥

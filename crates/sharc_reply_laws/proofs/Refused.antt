@@ -1,18 +1,5 @@
 -- By the events of the whole run the source wants the access of a check that was refused: its thread stands there to the end.
-use Rattle.std.proofs.{Common.{◌≡◌, ℕ, ◌+◌, ◌⊎◌, inl, inr, Bool, true, false, List, ◌∷◌, Some, refl, sym, ap, ◌∙◌, subst}, lemmas.Bool.false≢true}
-use Rattle.sharc_tree.specs.declared.event.CellAt.{CellAt}
-use Rattle.sharc_heap.specs.declared.shadow_word.Kind.{Kind}
-use Rattle.sharc_mode.specs.Moded.{Assignment}
-use Rattle.sharc_meaning.specs.Events.{Access, access_by}
-use Rattle.sharc_code.specs.{declared.code.Code.Code, declared.code.PlaceMode.PlaceMode, declared.instr.Cell.Cell, declared.instr.Cell.TheVariants.GlobalAt, declared.instr.Instr.Instr, declared.instr.Instr.TheVariants.{ChkRead, ChkWrite, Exchange, Load, LoadRef, Start, Store, TakeCell}, declared.shape.Shape.Shape, declared.state.ConflictAt.ConflictAt, declared.state.TurnState.TheVariants.Stopped, declared.state.Stop.Stop, declared.state.Stop.TheVariants.Conflict, Machine.{Machine, instr_at, stopped}, Path.may_go, Runs.Turn, Says.{cell_at, mode_of, place_at}, Whole.{CheckedRun, place_after}}
-use Rattle.sharc_code.specs.declared.code.PlaceMode.TheVariants as modes
-use Rattle.sharc_invariant.specs.Bits.{CheckOf, touch_of}
-use Rattle.sharc_history_laws.specs.{Causes.ShowsCause, Conflicts.site_of_check, Followed.{ChecksAreFollowed, access_of, access_to}, History.history_of}
-use Rattle.sharc_wants_laws.specs.Wants.{IsNotThere}
-use Rattle.sharc_sound_laws.specs.Standing.{IsPlaced}
-use Rattle.sharc_reply_laws.specs.{Tested.{ChecksStay, is_access_check}, Reports.{WantsRefusedAccess, access_refused}}
-use Rattle.sharc_reply_laws.proofs.Wanting.{act_eq, by_check}
-use Rattle.sharc_lemmas.proofs.Options.{no_guard as no_site}
+use Rattle.sharc_reply_laws.proofs.{Imports.{◌≡◌, ℕ, ◌+◌, ◌⊎◌, inl, inr, Bool, true, false, List, ◌∷◌, Some, refl, sym, ap, ◌∙◌, subst, false≢true, CellAt, Kind, Assignment, Access, access_by, Code, PlaceMode, Cell, GlobalAt, Instr, ChkRead, ChkWrite, Exchange, Load, LoadRef, Start, Store, TakeCell, Shape, ConflictAt, Stopped, Stop, Conflict, Machine, instr_at, stopped, may_go, Turn, cell_at, mode_of, place_at, CheckedRun, place_after, CheckOf, touch_of, ShowsCause, site_of_check, ChecksAreFollowed, access_of, access_to, history_of, IsNotThere, IsPlaced, ChecksStay, is_access_check, WantsRefusedAccess, access_refused, no_site}, Wanting.{act_eq, by_check}}
 
 -- ---- a thread that is stopped would make the access that it would have made
 module _ (code : Code) (m : Machine) (stop : Stop) where
@@ -21,7 +8,7 @@ module _ (code : Code) (m : Machine) (stop : Stop) where
   cell_same _ = refl
 
   mode_same : (cell : CellAt) (mode : PlaceMode) → mode_of code (stopped m stop) cell mode ≡ mode_of code m cell mode
-  mode_same cell (modes.LockedGlobal g place) = refl
+  mode_same cell (PlaceMode.LockedGlobal g place) = refl
   mode_same cell _ = refl
 
   abbrev with_mode : (write : Bool) (site : ℕ) → CellAt → Access

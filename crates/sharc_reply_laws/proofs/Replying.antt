@@ -1,14 +1,6 @@
 -- The reply to words and an input is one.
-use Rattle.std.proofs.{Common.{◌≡◌, ℕ, ◌<◌, ◌≤◌, Bool, true, false, List, length, Option, Some, None, refl, ap, sym, ◌∙◌, subst, arith}, lemmas.Bool.false≢true}
-use Rattle.sharc_mode.specs.Moded.{Assignment}
-use Rattle.sharc_check.specs.Laws.{CheckLaws}
-use Rattle.sharc_suggest.specs.Laws.{SuggestLaws}
-use Rattle.sharc_cli.specs.{Commands.commands, declared.command.Command.Command, declared.command.Command.TheVariants.{Check, Explain, Load, Record, Replay, Audit}}
-use Rattle.sharc_report.specs.Refusals.{refusal_line}
-use Rattle.sharc_top.specs.{declared.status.Status.Status, declared.task.SourceTask.SourceTask, Answers.{Answers, faulty, program}, EventFiles.FileReplies, Limits.source_limit, Reply.{task_in, Replies, usage, too_long, answered, loaded, recorded, replayed, audited, IsReply}, Verdict.Does}
-use Rattle.sharc_top.specs.declared.task.SourceTask.TheVariants as task
-use Rattle.sharc_reply_laws.specs.Laws.{WarningsAreOne, SourceLaws, RunsNothing, MakesRun, AnswersAreOne}
-use Rattle.sharc_reply_laws.proofs.{Verdicts.one_done, Recorded.{no_reader, same_command, command_or_none, task_or_none}}
+use Rattle.sharc_reply_laws.proofs.{Imports.{◌≡◌, ℕ, ◌<◌, ◌≤◌, Bool, true, false, List, length, Option, Some, None, refl, ap, sym, ◌∙◌, subst, arith, false≢true, Assignment, CheckLaws, SuggestLaws, commands, Command, Check, Explain, Record, Replay, Audit, refusal_line, Status, SourceTask, Answers, faulty, program, FileReplies, source_limit, task_in, Replies, usage, too_long, answered, loaded, recorded, replayed, audited, IsReply, Does, WarningsAreOne, SourceLaws, RunsNothing, MakesRun, AnswersAreOne}, Verdicts.one_done, Recorded.{no_reader, same_command, command_or_none, task_or_none}}
+use Rattle.sharc_cli.specs.declared.command.Command.TheVariants.{Load}
 
 pub one_answer : WarningsAreOne → SourceLaws → CheckLaws → SuggestLaws → AnswersAreOne
 one_answer warnings sources checks suggests t nothing source s z text other (faulty x is) (faulty y also) = (refl, ap refusal_line (sources.fault source x y is also))
@@ -77,8 +69,8 @@ no_task t e = cc
 
 runs_nothing : (o : Option Command) (t : SourceTask) → ¬ (MakesRun o) → task_in o ≡ Some t → RunsNothing t
 runs_nothing None t nothing e = absurd (no_task t e)
-runs_nothing (Some Check) t nothing e = subst RunsNothing (some_task task.Check t e) tt
-runs_nothing (Some Explain) t nothing e = subst RunsNothing (some_task task.Explain t e) tt
+runs_nothing (Some Check) t nothing e = subst RunsNothing (some_task SourceTask.Check t e) tt
+runs_nothing (Some Explain) t nothing e = subst RunsNothing (some_task SourceTask.Explain t e) tt
 runs_nothing (Some Audit) t nothing e = absurd (no_task t e)
 runs_nothing _ t nothing e = absurd (nothing tt)
 

@@ -1,18 +1,6 @@
 -- The reports of a checked run, each with its cause and with what the source wants.
-use Rattle.std.proofs.Common.{◌≡◌, ℕ, false, List, [], ◌∷◌, Some, subst}
-use Rattle.sharc_heap.specs.declared.shadow_word.Kind.{Kind}
-use Rattle.sharc_mode.specs.Moded.{Assignment}
-use Rattle.sharc_meaning.specs.{Events.Access, Reference.number_of}
-use Rattle.sharc_code.specs.{declared.code.Code.Code, declared.shape.Shape.Shape, declared.state.ConflictAt.ConflictAt, declared.state.TurnState.TheVariants.Stopped, declared.state.Stop.Stop, declared.state.Stop.TheVariants.{Conflict, NoLock, NotSole, Trap}, Runs.Turn, Whole.{CheckedRun, place_after}}
-use Rattle.sharc_cpu.specs.Thread.{ThreadView}
-use Rattle.sharc_threads.specs.Ends.{AreStarted}
-use Rattle.sharc_compile.specs.Refused.{IsReport}
-use Rattle.sharc_invariant.specs.Labels.{Labels}
-use Rattle.sharc_history_laws.specs.{Causes.ShowsCause, Conflicts.IsCheck, Followed.{ShowsLock, access_checked}, History.history_of, Reports.FindsOthers, Seen.RunsBegin}
-use Rattle.sharc_accepted_laws.specs.Targets.{targets_of}
-use Rattle.sharc_wants_laws.specs.Cause.{ShowsReference}
-use Rattle.sharc_sound_laws.specs.{Reports.{IsReportOf, WantsReported}, StandStands.RunStands}
-use Rattle.sharc_reply_laws.specs.Reports.{ReportTells, ThreadWantsAccess, WantsRefusedAccess, ThreadWantsMutex, access_refused, object_tested}
+use Rattle.sharc_reply_laws.proofs.Imports.{◌≡◌, ℕ, false, List, [], ◌∷◌, Some, subst, Kind, Assignment, Access, number_of, Code, Shape, ConflictAt, Stopped, Stop, Conflict, NoLock, NotSole, Turn, CheckedRun, place_after, ThreadView, AreStarted, IsReport, Labels, ShowsCause, IsCheck, ShowsLock, access_checked, history_of, FindsOthers, RunsBegin, targets_of, ShowsReference, IsReportOf, WantsReported, RunStands, ReportTells, ThreadWantsAccess, WantsRefusedAccess, ThreadWantsMutex, access_refused, object_tested}
+use Rattle.sharc_code.specs.declared.state.Stop.TheVariants.{Trap}
 
 module _ (begins : RunsBegin) (m : Assignment) (code : Code) (s : Shape) (ls : Labels) (run : List Turn) (checked : CheckedRun code s run) (stands : RunStands m (targets_of m) code s ls run)
     (wanted : (before : List Turn) → CheckedRun code s before → (check : Turn) (kind : Kind) (granule site : ℕ) → IsCheck code s before check check.thread kind granule site false

@@ -1,17 +1,6 @@
 -- What each turn is to the word of prints, to the prints of its thread, and to what the source prints.
-use Rattle.std.proofs.Common.{◌≡◌, ℕ, ℤ, pos, negsuc, zero, suc, ◌+◌, ◌*◌, ◌≤◌, min, Bool, true, false, not, ◌&&◌, ◌||◌, ◌==◌, nat_lt, length, is_some, Option, Some, None, if◌then◌else◌, refl, arith}
-use Rattle.std.specs.Prelude.{Result, Ok, Err}
-use Rattle.sharc_tree.specs.{declared.event.SourceEvent.SourceEvent, declared.trap.Trap.Trap}
-use Rattle.sharc_tree.specs.declared.trap.Trap.TheVariants as traps
-use Rattle.sharc_word.specs.{declared.step.TheConstants.THREADS, declared.step.WordOp.WordOp, declared.step.WordStep.WordStep, Words.word_after}
-use Rattle.sharc_word.specs.declared.step.WordOp.TheVariants as ops
-use Rattle.sharc_locks.specs.Waiters.{waits_in}
-use Rattle.sharc_heap.specs.{declared.shadow_word.Kind.Kind, declared.shadow_word.Kind.TheVariants.{Read, Write}, Accesses.{note_of, site_at}, ShadowWord.epoch_of, Functions.{conflicts_in, noted}, State.{NewView, told, turn_of}, Asks.word_number, Stages.turn_of_stage, declared.arguments.NewArguments.NewArguments, declared.stage.NewStage.NewStage, declared.stage.NewTurn.NewTurn, declared.stage.NewTurn.TheVariants.Do}
-use Rattle.sharc_heap.specs.declared.stage.NewStage.TheVariants as news
-use Rattle.sharc_code.specs.{declared.code.Code.Code, declared.code.Layout.Layout, declared.code.Parameter.Parameter, declared.instr.Cell.Cell, declared.instr.Register.Register, declared.instr.Width.TheVariants.{Int, Long}, declared.instr.Instr.Instr, declared.instr.Instr.TheVariants.{Move, ComputeInt, ComputeLong, NegateInt, NegateLong, ChkWidth, JumpIfZero, JumpIfNull, Call, Return, ChkNull, ChkHeld, ChkNotHeld, ChkPositive, ChkRoom, ChkLock, ChkLockLoaded, Bounds, GlobalBounds, ChkRead, ChkWrite, Load, Store, LoadRef, Exchange, Raise, RaiseLoaded, Lower, New, TakeCell, TakeLocal, TestSole, Clear, Give, Free, Lock, Unlock, Spawn, Join, Print, Start, Exit, CondEnter, CondWait, CondSignal, CondBroadcast}, declared.shape.Shape.Shape, declared.state.Print.Print as PrintAt, declared.state.Stage.Stage, declared.state.Stage.TheVariants.{Rests, Looks, Clears, Makes, Empties, Lowers, FreeLooks, FreeClears, Uncounts, Links, Names, Hands, Begins, Enters, Withdraws, WithdrawsFrom, Leaves, Wakes}, Arithmetic.{computed, negated, is_zero, holds}, Layout.{granule_at, granule_of, words_of, cell_of, cell_word, shadow_word, count_word, first_cell, first_shadow, state_word, prints_word}, Machine.{Machine, Own, Turn, act, int, ref, goes, goes_to, asserts, with_result, has_room, called, returned, holds_none, is_of_null, is_held, indexed, wrote, with_note, checked, lock_checked, raise, lower, test, tested, after_new, asks_new, new, new_state, elements_of, looks, clear, data_granules, free_looks, empties, emptied, free, layout_at, spawn, with_parameter, entered, start, function_of, withdraws, exit, wakes, signal, is_positive, fields, largest, at_stage, place, set_ref, accessed, move_ref, numbered, trapped, locked, joined, join, woken, word, handed, Local, Asks, step_of}, Path.{after, asked_by}, Says.{said, take_local, new_event, in_new, in_free, in_spawn, in_start, in_exit, in_signal, nobody}, Stages.IsStageOf}
-use Rattle.sharc_code.specs.declared.code.Parameter.TheVariants as parameters
-use Rattle.sharc_code.specs.declared.instr.Register.TheVariants as registers
-use Rattle.sharc_reply_laws.specs.Prints.{printed_by}
+use Rattle.sharc_reply_laws.proofs.Imports.{◌≡◌, ℕ, ℤ, pos, negsuc, zero, suc, ◌+◌, ◌*◌, ◌≤◌, min, Bool, true, false, not, ◌&&◌, ◌||◌, ◌==◌, nat_lt, length, is_some, Option, Some, None, if◌then◌else◌, refl, arith, Result, Ok, Err, SourceEvent, Trap, THREADS, WordOp, WordStep, word_after, waits_in, Kind, Read, Write, note_of, site_at, epoch_of, conflicts_in, noted, NewView, told, turn_of, word_number, turn_of_stage, NewArguments, NewStage, NewTurn, Do, Code, Layout, Parameter, Cell, Register, Int, Long, Instr, Move, ComputeInt, ComputeLong, NegateInt, NegateLong, ChkWidth, JumpIfZero, JumpIfNull, Call, Return, ChkNull, ChkHeld, ChkNotHeld, ChkPositive, ChkRoom, ChkLock, ChkLockLoaded, Bounds, GlobalBounds, ChkRead, ChkWrite, Load, Store, LoadRef, Exchange, Raise, RaiseLoaded, Lower, New, TakeCell, TakeLocal, TestSole, Clear, Give, Free, Lock, Unlock, Spawn, Join, Print, Start, Exit, CondEnter, CondWait, CondSignal, CondBroadcast, Shape, PrintAt, Stage, Rests, Looks, Clears, Makes, Empties, Lowers, FreeLooks, FreeClears, Uncounts, Links, Names, Hands, Begins, Enters, Withdraws, WithdrawsFrom, Leaves, Wakes, computed, negated, is_zero, holds, granule_at, granule_of, words_of, cell_of, cell_word, shadow_word, count_word, first_cell, first_shadow, state_word, prints_word, Machine, Own, act, int, ref, goes, goes_to, asserts, with_result, has_room, called, returned, holds_none, is_of_null, is_held, indexed, wrote, with_note, checked, lock_checked, raise, lower, test, tested, after_new, asks_new, new, new_state, elements_of, looks, clear, data_granules, free_looks, empties, emptied, free, layout_at, spawn, with_parameter, entered, start, function_of, withdraws, exit, wakes, signal, is_positive, fields, largest, at_stage, place, set_ref, accessed, move_ref, numbered, trapped, locked, joined, join, woken, word, handed, Local, Asks, step_of, after, asked_by, said, take_local, new_event, in_new, in_free, in_spawn, in_start, in_exit, in_signal, nobody, IsStageOf, printed_by}
+use Rattle.sharc_code.specs.Machine.{Turn}
 
 -- ---- what is printed
 -- by the event that a turn tells
@@ -39,7 +28,7 @@ Elsewhere (Some step) = LeavesIt step
 apart : (word : ℕ) (op : WordOp) → IsOther word → LeavesIt (step_of word op)
 apart word op h = record { same = λ e. absurd (h.apart e) }
 
-loads : (word : ℕ) → LeavesIt (step_of word ops.Load)
+loads : (word : ℕ) → LeavesIt (step_of word WordOp.Load)
 loads word = record { same = λ e v. refl }
 
 either_number : (b : Bool) (x y : ℕ) → IsOther x → IsOther y → IsOther (if b then x else y)
@@ -154,12 +143,12 @@ module _ (code : Code) (s : Shape) (m : Machine) where
   top_other = record { apart = λ e. omega (arith, e) }
 
   to_stage : (r site : ℕ) (state : NewView) (a : NewArguments) (stage : NewStage) → a.first ≡ first_cell s → Elsewhere (asked_by (asks_new m r site state (turn_of_stage a stage)))
-  to_stage r site state a news.Link e = apart _ _ (of_new s a (a.first + 2 * a.head + 1) e (omega arith))
-  to_stage r site state a (news.Cell cell) e = apart _ _ (of_new s a (a.first + 2 * a.head + 2 + cell) e (omega arith))
-  to_stage r site state a news.Top e = apart _ _ top_other
-  to_stage r site state a (news.Move top moved) e = apart _ _ top_other
-  to_stage r site state a (news.Count header) e = apart _ _ (of_new s a (a.first + 2 * header) e (omega arith))
-  to_stage r site state a (news.Length header) e = apart _ _ (of_new s a (a.first + 2 * header + 1) e (omega arith))
+  to_stage r site state a NewStage.Link e = apart _ _ (of_new s a (a.first + 2 * a.head + 1) e (omega arith))
+  to_stage r site state a (NewStage.Cell cell) e = apart _ _ (of_new s a (a.first + 2 * a.head + 2 + cell) e (omega arith))
+  to_stage r site state a NewStage.Top e = apart _ _ top_other
+  to_stage r site state a (NewStage.Move top moved) e = apart _ _ top_other
+  to_stage r site state a (NewStage.Count header) e = apart _ _ (of_new s a (a.first + 2 * header) e (omega arith))
+  to_stage r site state a (NewStage.Length header) e = apart _ _ (of_new s a (a.first + 2 * header + 1) e (omega arith))
   to_stage r site state a _ e = tt
 
   at_new : (r elements cells site : ℕ) (stage : Stage) → IsStageOf s stage → IsQuiet (new s m r elements cells site stage)
@@ -209,8 +198,8 @@ module _ (code : Code) (s : Shape) (m : Machine) where
   state_other n = record { apart = λ e. omega (arith, e) }
 
   at_handed : (from : Register) → Kept (handed m from)
-  at_handed (registers.Int r) = refl
-  at_handed (registers.Reference r) = refl
+  at_handed (Register.Int r) = refl
+  at_handed (Register.Reference r) = refl
 
   at_spawn : (r function : ℕ) (from : Register) (site : ℕ) (stage : Stage) → IsQuiet (spawn m r function from site stage)
   at_spawn r function from site (Names n) = record { step = apart _ _ (function_other n); kept = λ found. refl }
@@ -224,7 +213,7 @@ module _ (code : Code) (s : Shape) (m : Machine) where
 
   at_join : (z : ℤ) (site : ℕ) → IsQuiet (join m z site)
   at_join (pos n) site =
-      elim (nat_lt n THREADS) as (λ b. IsQuiet (if b then Asks (step_of (state_word n) ops.Load) (joined m site) else Local (trapped m traps.NoSuchThread site))) [
+      elim (nat_lt n THREADS) as (λ b. IsQuiet (if b then Asks (step_of (state_word n) WordOp.Load) (joined m site) else Local (trapped m Trap.NoSuchThread site))) [
         | true ↦ record { step = loads _; kept = λ found. at_joined site found }
         | false ↦ record { step = tt; kept = λ found. refl }
       ]
@@ -239,7 +228,7 @@ module _ (code : Code) (s : Shape) (m : Machine) where
 
   -- the beginning and the end of a thread
   parameter_prints : (x : Machine) (p : Parameter) (argument : ℕ) → (with_parameter x p argument).own.prints ≡ x.own.prints
-  parameter_prints x parameters.Int argument = refl
+  parameter_prints x Parameter.Int argument = refl
   parameter_prints x _ argument = refl
 
   at_enter : (function site argument : ℕ) → Kept (entered code m function site argument)
@@ -275,7 +264,7 @@ module _ (code : Code) (s : Shape) (m : Machine) where
   tells_take site (suc n) elements = refl
 
   tells_made : (site cells : ℕ) (state : NewView) (stage : NewStage) → printed_of (new_event code m site cells state stage) ≡ None
-  tells_made site cells state (news.Length header) = refl
+  tells_made site cells state (NewStage.Length header) = refl
   tells_made site cells state _ = refl
 
   tells_new : (site cells : ℕ) (stage : Stage) → printed_of (in_new code m site cells stage) ≡ None
@@ -315,16 +304,16 @@ module _ (code : Code) (s : Shape) (m : Machine) where
   sorted (ComputeLong operator r a b site) is = Quiet (λ found. refl) (still _ (at_result r site (computed Long operator (int m a) (int m b)))) (λ found elements. refl)
   sorted (NegateInt r a site) is = Quiet (λ found. refl) (still _ (at_result r site (negated Int (int m a)))) (λ found elements. refl)
   sorted (NegateLong r a site) is = Quiet (λ found. refl) (still _ (at_result r site (negated Long (int m a)))) (λ found elements. refl)
-  sorted (ChkWidth width r site) is = Quiet (λ found. refl) (still _ (at_assert (holds width (int m r)) traps.OutOfRange site)) (λ found elements. refl)
+  sorted (ChkWidth width r site) is = Quiet (λ found. refl) (still _ (at_assert (holds width (int m r)) Trap.OutOfRange site)) (λ found elements. refl)
   sorted (JumpIfZero r pc) is = Quiet (λ found. refl) (still _ (at_jump (is_zero (int m r)) pc)) (λ found elements. refl)
   sorted (JumpIfNull r pc) is = Quiet (λ found. refl) (still _ (at_jump (ref m r == 0) pc)) (λ found elements. refl)
   sorted (Call pc ints refs site) is = Quiet (λ found. refl) (still _ (at_call m pc ints refs site refl)) (λ found elements. refl)
   sorted (Return site) is = Quiet (λ found. refl) (still _ (at_return site)) (λ found elements. refl)
-  sorted (ChkNull r site) is = Quiet (λ found. refl) (still _ (at_assert (not (ref m r == 0)) traps.NullPointer site)) (λ found elements. refl)
-  sorted (ChkHeld cell site) is = Quiet (λ found. refl) (still _ (at_assert (is_held m (word s m cell)) traps.MutexNotHeld site)) (λ found elements. refl)
-  sorted (ChkNotHeld cell site) is = Quiet (λ found. refl) (still _ (at_assert (not (is_held m (word s m cell))) traps.MutexAlreadyHeld site)) (λ found elements. refl)
-  sorted (ChkPositive r site) is = Quiet (λ found. refl) (still _ (at_assert (is_positive (int m r)) traps.SizeNotPositive site)) (λ found elements. refl)
-  sorted (ChkRoom site) is = Quiet (λ found. refl) (still _ (at_assert (nat_lt (length m.own.held) 16) traps.TooManyLocks site)) (λ found elements. refl)
+  sorted (ChkNull r site) is = Quiet (λ found. refl) (still _ (at_assert (not (ref m r == 0)) Trap.NullPointer site)) (λ found elements. refl)
+  sorted (ChkHeld cell site) is = Quiet (λ found. refl) (still _ (at_assert (is_held m (word s m cell)) Trap.MutexNotHeld site)) (λ found elements. refl)
+  sorted (ChkNotHeld cell site) is = Quiet (λ found. refl) (still _ (at_assert (not (is_held m (word s m cell))) Trap.MutexAlreadyHeld site)) (λ found elements. refl)
+  sorted (ChkPositive r site) is = Quiet (λ found. refl) (still _ (at_assert (is_positive (int m r)) Trap.SizeNotPositive site)) (λ found elements. refl)
+  sorted (ChkRoom site) is = Quiet (λ found. refl) (still _ (at_assert (nat_lt (length m.own.held) 16) Trap.TooManyLocks site)) (λ found elements. refl)
   sorted (ChkLock cell site) is = Quiet (λ found. refl) (still _ (at_lock_check (is_of_null m cell) (word s m cell) site)) (λ found elements. refl)
   sorted (ChkLockLoaded site) is = Quiet (λ found. refl) (still _ (at_lock_check (m.pending == 0) (cell_word s (cell_of m.pending 0)) site)) (λ found elements. refl)
   sorted (Bounds r base cells field site) is = Quiet (λ found. refl) (record { step = loads _; kept = λ found. at_index r (int m r) cells field site found }) (λ found elements. refl)

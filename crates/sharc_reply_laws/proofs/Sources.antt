@@ -1,17 +1,8 @@
 -- A source is one program, or has one first fault.
-use Rattle.std.proofs.Common.{◌≡◌, ℕ, List, [], Result, Ok, Err, refl, ap, sym, ◌∙◌, subst}
-use Rattle.sharc_tree.specs.{declared.token.FaultAt.FaultAt, declared.token.Tokens.Tokens, Low.IsLow, Placed.IsPlaced, Tree.Program}
-use Rattle.sharc_names.specs.{declared.fault.Fault.Fault, declared.fault.FaultCode.FaultCode, declared.fault.Named.Named, Notes.{faults, IsFirst}}
-use Rattle.sharc_lex.specs.{declared.fault.TokenFault.{TokenFault as LexerFault}, Grammar.reading}
-use Rattle.sharc_parse.specs.{declared.fault.GrammarFault.GrammarFault, Places.Reads}
+use Rattle.sharc_reply_laws.proofs.{Imports.{◌≡◌, ℕ, List, [], Result, Ok, Err, refl, ap, sym, ◌∙◌, subst, FaultAt, Tokens, IsLow, Program, Fault, FaultCode, Named, faults, IsFirst, LexerFault, reading, GrammarFault, Reads, named_in, notes_about, Resolution, Assignment, IsTypedAtTokens, LeastIsOne, SourceFault, Lexer, Parser, Typing, IsTypedFrom, IsFront, IsMisread, IsMistyped, IsSourceFault}, FaultLemmas.{one_first, one_told}}
+use Rattle.sharc_tree.specs.Placed.{IsPlaced}
 use Rattle.sharc_parse.specs.Programs as parser
-use Rattle.sharc_ctype.specs.{Items.{named_in, notes_about}, Resolved.Resolution}
 use Rattle.sharc_ctype.specs.Typings as typing
-use Rattle.sharc_mode.specs.Moded.{Assignment}
-use Rattle.sharc_infer_laws.specs.Laws.{IsTypedAtTokens, LeastIsOne}
-use Rattle.sharc_report.specs.{declared.refusal.SourceFault.SourceFault, declared.refusal.SourceFault.TheVariants.{Lexer, Parser, Typing}}
-use Rattle.sharc_front_end.specs.Front.{IsTypedFrom, IsFront, IsMisread, IsMistyped, IsSourceFault}
-use Rattle.sharc_reply_laws.proofs.FaultLemmas.{one_first, one_told}
 
 same_ok : {A B : Type 0} (o : Result A B) (a b : A) → o ≡ Ok a → o ≡ Ok b → a ≡ b
 same_ok o a b is also = cc

@@ -1,16 +1,5 @@
 -- A thread that has a stop is stopped.
-use Rattle.std.proofs.{Common.{◌≡◌, ℕ, ℤ, pos, negsuc, zero, suc, ◌+◌, ◌*◌, min, Bool, true, false, not, ◌&&◌, ◌||◌, ◌==◌, nat_lt, length, is_some, Some, None, if◌then◌else◌, refl, ◌⊎◌, inl, inr, ⊎_elim, subst, List, [], ◌∷◌, sym, ap, ◌∙◌}, lemmas.Bool.cases_eq}
-use Rattle.std.specs.Prelude.{Result, Ok, Err}
-use Rattle.sharc_tree.specs.declared.trap.Trap.{Trap}
-use Rattle.sharc_tree.specs.declared.trap.Trap.TheVariants as traps
-use Rattle.sharc_word.specs.declared.step.TheConstants.{THREADS}
-use Rattle.sharc_word.specs.declared.step.WordOp.TheVariants as ops
-use Rattle.sharc_locks.specs.Waiters.{waits_in}
-use Rattle.sharc_heap.specs.{declared.shadow_word.Kind.Kind, declared.shadow_word.Kind.TheVariants.{Read, Write}, Accesses.{note_of, site_at}, ShadowWord.epoch_of, Functions.{conflicts_in, noted}, State.{NewView, told, turn_of}, declared.stage.NewTurn.NewTurn, declared.stage.NewTurn.TheVariants.{Do, Made, HeapFull}}
-use Rattle.sharc_code.specs.{declared.code.Code.Code, declared.code.Layout.Layout, declared.code.Parameter.Parameter, declared.instr.Cell.Cell, declared.instr.Register.Register, declared.instr.Width.TheVariants.{Int, Long}, declared.instr.Instr.Instr, declared.instr.Instr.TheVariants.{ComputeInt, ComputeLong, NegateInt, NegateLong, ChkWidth, JumpIfZero, JumpIfNull, Call, Return, ChkNull, ChkHeld, ChkNotHeld, ChkPositive, ChkRoom, ChkLock, ChkLockLoaded, Bounds, GlobalBounds, ChkRead, ChkWrite, Load, Raise, RaiseLoaded, Lower, New, TakeLocal, TestSole, Clear, Free, Lock, Spawn, Join, Start, Exit, CondWait, CondSignal}, declared.shape.Shape.Shape, declared.state.Stage.Stage, declared.state.Stage.TheVariants.{Rests, Looks, Clears, Makes, Empties, Lowers, FreeLooks, FreeClears, Uncounts, Links, Names, Hands, Begins, Enters, Withdraws, WithdrawsFrom, Leaves, Wakes}, Arithmetic.{computed, negated, is_zero, holds}, Layout.{granule_at, granule_of, cell_of, cell_word, state_word}, Machine.{Machine, instr_at, Own, act, int, ref, goes, goes_to, asserts, with_result, has_room, called, returned, holds_none, is_of_null, is_held, indexed, wrote, with_note, checked, lock_checked, raise, lower, test, tested, after_new, asks_new, new, new_state, elements_of, looks, clear, data_granules, free_looks, empties, emptied, free, layout_at, spawn, with_parameter, entered, start, function_of, withdraws, exit, wakes, signal, is_positive, fields, largest, at_stage, place, set_ref, accessed, move_ref, numbered, trapped, locked, joined, join, woken, word, handed, Local, Asks, step_of}, Path.{after, may_go, turn}, declared.state.TurnState.TurnState, declared.state.TurnState.TheVariants.Stopped, declared.state.Stop.Stop, Opening.opening_words, Runs.{Global, IsRun, Turn as RunTurn, opening_of, put, result_of}, Whole.{bounds, one_thread, place_after}}
-use Rattle.sharc_code.specs.declared.code.Parameter.TheVariants as parameters
-use Rattle.sharc_code.specs.declared.instr.Register.TheVariants as registers
-use Rattle.sharc_lemmas.proofs.Numbers.{ne_eq, eq_refl}
+use Rattle.sharc_reply_laws.proofs.Imports.{◌≡◌, ℕ, ℤ, pos, negsuc, zero, suc, ◌+◌, ◌*◌, min, Bool, true, false, not, ◌&&◌, ◌||◌, ◌==◌, nat_lt, length, is_some, Some, None, if◌then◌else◌, refl, ◌⊎◌, inl, inr, ⊎_elim, subst, List, [], ◌∷◌, sym, ap, ◌∙◌, cases_eq, Result, Ok, Err, Trap, THREADS, WordOp, waits_in, Kind, Read, Write, note_of, site_at, epoch_of, conflicts_in, noted, NewView, told, turn_of, NewTurn, Do, Made, HeapFull, Code, Layout, Parameter, Cell, Register, Int, Long, Instr, ComputeInt, ComputeLong, NegateInt, NegateLong, ChkWidth, JumpIfZero, JumpIfNull, Call, Return, ChkNull, ChkHeld, ChkNotHeld, ChkPositive, ChkRoom, ChkLock, ChkLockLoaded, Bounds, GlobalBounds, ChkRead, ChkWrite, Load, Raise, RaiseLoaded, Lower, New, TakeLocal, TestSole, Clear, Free, Lock, Spawn, Join, Start, Exit, CondWait, CondSignal, Shape, Stage, Rests, Looks, Clears, Makes, Empties, Lowers, FreeLooks, FreeClears, Uncounts, Links, Names, Hands, Begins, Enters, Withdraws, WithdrawsFrom, Leaves, Wakes, computed, negated, is_zero, holds, granule_at, granule_of, cell_of, cell_word, state_word, Machine, instr_at, Own, act, int, ref, goes, goes_to, asserts, with_result, has_room, called, returned, holds_none, is_of_null, is_held, indexed, wrote, with_note, checked, lock_checked, raise, lower, test, tested, after_new, asks_new, new, new_state, elements_of, looks, clear, data_granules, free_looks, empties, emptied, free, layout_at, spawn, with_parameter, entered, start, function_of, withdraws, exit, wakes, signal, is_positive, fields, largest, at_stage, place, set_ref, accessed, move_ref, numbered, trapped, locked, joined, join, woken, word, handed, Local, Asks, step_of, after, may_go, turn, TurnState, Stopped, Stop, opening_words, Global, IsRun, Turn as RunTurn, opening_of, put, result_of, bounds, one_thread, place_after, ne_eq, eq_refl}
 
 -- ---- one turn
 note_stop : (own : Own) (granule : ℕ) (kind : Kind) (epoch site : ℕ) → (with_note own granule kind epoch site).stop ≡ own.stop
@@ -119,8 +108,8 @@ module _ (code : Code) (s : Shape) (m : Machine) where
   at_numbered site n = either (nat_lt n THREADS) _ _ (inl refl) (inr refl)
 
   at_handed : (from : Register) → (handed m from).own.stop ≡ m.own.stop
-  at_handed (registers.Int r) = refl
-  at_handed (registers.Reference r) = refl
+  at_handed (Register.Int r) = refl
+  at_handed (Register.Reference r) = refl
 
   at_spawn : (r function : ℕ) (from : Register) (site : ℕ) (stage : Stage) (found : ℕ) → Stays (after (spawn m r function from site stage) found)
   at_spawn r function from site (Names n) found = inl refl
@@ -134,7 +123,7 @@ module _ (code : Code) (s : Shape) (m : Machine) where
 
   at_join : (z : ℤ) (site found : ℕ) → Stays (after (join m z site) found)
   at_join (pos n) site found =
-      elim (nat_lt n THREADS) as (λ b. Stays (after (if b then Asks (step_of (state_word n) ops.Load) (joined m site) else Local (trapped m traps.NoSuchThread site)) found)) [
+      elim (nat_lt n THREADS) as (λ b. Stays (after (if b then Asks (step_of (state_word n) WordOp.Load) (joined m site) else Local (trapped m Trap.NoSuchThread site)) found)) [
         | true ↦ at_joined site found
         | false ↦ inr refl
       ]
@@ -149,7 +138,7 @@ module _ (code : Code) (s : Shape) (m : Machine) where
 
   -- the beginning and the end of a thread
   parameter_stop : (x : Machine) (p : Parameter) (argument : ℕ) → (with_parameter x p argument).own.stop ≡ x.own.stop
-  parameter_stop x parameters.Int argument = refl
+  parameter_stop x Parameter.Int argument = refl
   parameter_stop x _ argument = refl
 
   at_enter : (function site argument : ℕ) → Stays (entered code m function site argument)
@@ -185,16 +174,16 @@ module _ (code : Code) (s : Shape) (m : Machine) where
   stays (ComputeLong operator r a b site) found = at_result r site (computed Long operator (int m a) (int m b))
   stays (NegateInt r a site) found = at_result r site (negated Int (int m a))
   stays (NegateLong r a site) found = at_result r site (negated Long (int m a))
-  stays (ChkWidth width r site) found = at_assert (holds width (int m r)) traps.OutOfRange site
+  stays (ChkWidth width r site) found = at_assert (holds width (int m r)) Trap.OutOfRange site
   stays (JumpIfZero r pc) found = at_jump (is_zero (int m r)) pc
   stays (JumpIfNull r pc) found = at_jump (ref m r == 0) pc
   stays (Call pc ints refs site) found = at_call m pc ints refs site refl
   stays (Return site) found = at_return site
-  stays (ChkNull r site) found = at_assert (not (ref m r == 0)) traps.NullPointer site
-  stays (ChkHeld cell site) found = at_assert (is_held m (word s m cell)) traps.MutexNotHeld site
-  stays (ChkNotHeld cell site) found = at_assert (not (is_held m (word s m cell))) traps.MutexAlreadyHeld site
-  stays (ChkPositive r site) found = at_assert (is_positive (int m r)) traps.SizeNotPositive site
-  stays (ChkRoom site) found = at_assert (nat_lt (length m.own.held) 16) traps.TooManyLocks site
+  stays (ChkNull r site) found = at_assert (not (ref m r == 0)) Trap.NullPointer site
+  stays (ChkHeld cell site) found = at_assert (is_held m (word s m cell)) Trap.MutexNotHeld site
+  stays (ChkNotHeld cell site) found = at_assert (not (is_held m (word s m cell))) Trap.MutexAlreadyHeld site
+  stays (ChkPositive r site) found = at_assert (is_positive (int m r)) Trap.SizeNotPositive site
+  stays (ChkRoom site) found = at_assert (nat_lt (length m.own.held) 16) Trap.TooManyLocks site
   stays (ChkLock cell site) found = at_lock_check (is_of_null m cell) (word s m cell) site
   stays (ChkLockLoaded site) found = at_lock_check (m.pending == 0) (cell_word s (cell_of m.pending 0)) site
   stays (Bounds r base cells field site) found = at_index r (int m r) cells field site found

@@ -1,18 +1,6 @@
 -- Each cast that is suggested for an error of the program that a source is repairs it.
-use Rattle.std.proofs.Common.{◌≡◌, ℕ, List, [], ◌∷◌, map, Option, Some, None, refl, sym, subst}
-use Rattle.sharc_tree.specs.{declared.token.Tokens.Tokens, Low.IsLow, Placed.IsPlaced, Tree.Program}
-use Rattle.sharc_parse.specs.Places.{Reads}
-use Rattle.sharc_mode.specs.{declared.error.Cast.Cast, declared.error.ModeError.ModeError, Flows.IsLeastAssignment, Moded.Assignment}
-use Rattle.sharc_check.specs.Rules.{MeetsRules}
-use Rattle.sharc_infer_laws.specs.Laws.{IsTypedAtTokens}
-use Rattle.sharc_suggest.specs.Casts.{AreCasts, cast_for}
-use Rattle.sharc_suggest_laws.specs.Repaired.{LeastIsRepaired}
-use Rattle.sharc_front_end.specs.Front.{IsFront}
-use Rattle.sharc_top.specs.{declared.status.Status.Status, Refused.IsModeRefusal, Reply.IsReply, Verdict.{Checks, accepted, refused}}
-use Rattle.sharc_top.specs.declared.status.Status.TheVariants as status
-use Rattle.sharc_top.specs.declared.task.SourceTask.TheVariants as task
-use Rattle.sharc_reply_laws.specs.{Laws.{SourceLaws, IsAsked}, Suggestions.{Repairs, EachRepairs, IsRepairing}}
-use Rattle.sharc_reply_laws.proofs.ProgramAsked.{does_reply}
+use Rattle.sharc_reply_laws.proofs.{Imports.{◌≡◌, ℕ, List, [], ◌∷◌, map, Option, Some, None, refl, sym, subst, Tokens, IsLow, Program, Reads, Cast, ModeError, IsLeastAssignment, Assignment, MeetsRules, IsTypedAtTokens, AreCasts, cast_for, LeastIsRepaired, IsFront, Status, IsModeRefusal, IsReply, Checks, accepted, refused, SourceTask, SourceLaws, IsAsked, Repairs, EachRepairs, IsRepairing}, ProgramAsked.does_reply}
+use Rattle.sharc_tree.specs.Placed.{IsPlaced}
 
 module _ (repaired : LeastIsRepaired) (m : Assignment) (at : IsTypedAtTokens m.typed) (least : IsLeastAssignment m) (casts : List Cast) (are : AreCasts m casts) where
   one_repairs : (e : ModeError) (o : Option Cast) → o ≡ cast_for casts e → Repairs m e o
@@ -37,11 +25,11 @@ refusals_repair reading repaired source m front text refusal =
     } in
     subst (EachRepairs m refusal.errors) (sym refusal.suggested.says) (each_repairs repaired m at front.least refusal.suggested.casts refusal.suggested.are refusal.errors)
 
-only_repairing : ReadPrograms → LeastIsRepaired → (source : List ℕ) (m : Assignment) → IsFront source m → ¬ (MeetsRules m) → (s : Status) (text : List ℕ) → Checks m s text → (s ≡ status.ModesRefused) × IsRepairing m text
+only_repairing : ReadPrograms → LeastIsRepaired → (source : List ℕ) (m : Assignment) → IsFront source m → ¬ (MeetsRules m) → (s : Status) (text : List ℕ) → Checks m s text → (s ≡ Status.ModesRefused) × IsRepairing m text
 only_repairing reading repaired source m front ill s text (accepted w meets are) = absurd (ill meets)
 only_repairing reading repaired source m front ill s text (refused t refusal) = (refl, record { refusal = refusal; repairs = refusals_repair reading repaired source m front t refusal })
 
-pub checks_repair : SourceLaws → ReadPrograms → LeastIsRepaired → (words : List (List ℕ)) (input : List ℕ) (m : Assignment) → IsAsked words task.Check input m → ¬ (MeetsRules m) → (s : Status) (text : List ℕ) → IsReply words (Some input) s text
-    → (s ≡ status.ModesRefused) × IsRepairing m text
+pub checks_repair : SourceLaws → ReadPrograms → LeastIsRepaired → (words : List (List ℕ)) (input : List ℕ) (m : Assignment) → IsAsked words SourceTask.Check input m → ¬ (MeetsRules m) → (s : Status) (text : List ℕ) → IsReply words (Some input) s text
+    → (s ≡ Status.ModesRefused) × IsRepairing m text
 checks_repair laws reading repaired words input m asked ill s text reply =
-    only_repairing reading repaired input m asked.front ill s text (does_reply laws words input m task.Check asked s text reply)
+    only_repairing reading repaired input m asked.front ill s text (does_reply laws words input m SourceTask.Check asked s text reply)

@@ -1,24 +1,11 @@
 -- What a thread tells, by the function that the source run gives it.
-use Rattle.std.proofs.{Common.{◌≡◌, ℕ, ℤ, ◌⊎◌, inl, inr, cond, List, [], ◌∷◌, ◌++◌, Option, Some, None, refl, sym, ap, ◌∙◌, subst}, lemmas.List.Elements.filter-append}
-use Rattle.std.specs.Prelude.{◌==◌}
-use Rattle.sharc_tree.specs.{declared.event.Act.TheVariants.Started, declared.event.SourceEvent.SourceEvent, declared.token.Site.Site, Tree.Function}
-use Rattle.sharc_names.specs.declared.fault.Named.TheVariants as named
-use Rattle.sharc_ctype.specs.Resolved.{Resolution, function_at, named_at}
-use Rattle.sharc_ctype_laws.specs.Declared.{NameThemselves}
-use Rattle.sharc_mode.specs.Moded.{Assignment}
-use Rattle.sharc_meaning.specs.{Events.{Stands, events_of, is_of}, Obeys.History, References.Begun, Runs.IsNamedAt}
-use Rattle.sharc_code.specs.{declared.code.Code.Code, Machine.Machine}
-use Rattle.sharc_flat.specs.Correct.{MayStart}
-use Rattle.sharc_compile.specs.Correct.{IsBeginning}
-use Rattle.sharc_compile_laws.specs.Paths.{IsAskedFor, TellsProgram}
-use Rattle.sharc_reply_laws.specs.Threads.{HasBegun, HasNotBegun}
-use Rattle.sharc_lemmas.proofs.Numbers.{same_is}
+use Rattle.sharc_reply_laws.proofs.Imports.{◌≡◌, ℕ, ℤ, ◌⊎◌, inl, inr, cond, List, [], ◌∷◌, ◌++◌, Option, Some, None, refl, sym, ap, ◌∙◌, subst, filter-append, ◌==◌, Started, SourceEvent, Site, Function, Named, Resolution, function_at, named_at, NameThemselves, Assignment, Stands, events_of, is_of, History, Begun, IsNamedAt, Code, Machine, MayStart, IsBeginning, IsAskedFor, TellsProgram, HasBegun, HasNotBegun, same_is}
 
 -- two functions with one name are one
 pub same_function : (r : Resolution) → NameThemselves r → (n k : ℕ) (site : Site) → IsNamedAt (function_at r n) site → IsNamedAt (function_at r k) site → n ≡ k
 same_function r names n k site a b = by (function_at r n) (function_at r k) refl refl a b
   where
-    number_eq : (a b : ℕ) → named.Function a ≡ named.Function b → a ≡ b
+    number_eq : (a b : ℕ) → Named.Function a ≡ Named.Function b → a ≡ b
     number_eq a b e = cc
 
     by : (f g : Option Function) → function_at r n ≡ f → function_at r k ≡ g → IsNamedAt f site → IsNamedAt g site → n ≡ k

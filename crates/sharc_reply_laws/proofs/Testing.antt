@@ -1,12 +1,6 @@
 -- A thread that was refused at the check of an access, or at a test of a sole reference, stands there to the end of the run.
-use Rattle.std.proofs.{Common.{◌≡◌, ℕ, ◌==◌, Bool, true, false, List, [], ◌∷◌, ◌++◌, Option, Some, None, if◌then◌else◌, refl, sym, ap, ◌∙◌, ⊎_elim, eqb-true}, lemmas.Bool.{cases_eq, false≢true}}
-use Rattle.std.specs.Prelude.{slice_index}
-use Rattle.sharc_word.specs.{declared.step.WordEvent.WordEvent, declared.step.WordStep.WordStep}
-use Rattle.sharc_word.specs.declared.step.WordOp.TheVariants as ops
-use Rattle.sharc_heap.specs.{declared.shadow_word.Kind.TheVariants.{Read, Write}, Functions.conflicts_in, ShadowWord.epoch_of}
-use Rattle.sharc_code.specs.{declared.code.Code.Code, declared.instr.Instr.Instr, declared.instr.Instr.TheVariants.{ChkRead, ChkWrite, TestSole}, declared.shape.Shape.Shape, declared.state.TurnState.TheVariants.Stopped, declared.state.Stop.Stop, declared.state.Stop.TheVariants.NotSole, Layout.{count_word, granule_at, granule_of}, Machine.{Machine, Own, act, goes, instr_at, place, ref, stopped, tested, with_note, with_own, wrote}, Opening.opening_words, Path.{after, asked_by, may_go, turn}, Runs.{Answered, Global, IsRun, Turn, opening_of, result_of, step_of}, Whole.{bounds, one_thread, place_after}}
-use Rattle.sharc_reply_laws.specs.Tested.{count_found, is_access_check, tester}
-use Rattle.sharc_reply_laws.proofs.Stopping.{put_other, put_same}
+use Rattle.sharc_reply_laws.proofs.{Imports.{◌≡◌, ℕ, ◌==◌, Bool, true, false, List, [], ◌∷◌, ◌++◌, Option, Some, None, if◌then◌else◌, refl, sym, ap, ◌∙◌, ⊎_elim, eqb-true, cases_eq, false≢true, slice_index, WordEvent, WordStep, WordOp, Read, Write, conflicts_in, epoch_of, Code, Instr, ChkRead, ChkWrite, TestSole, Shape, Stopped, Stop, NotSole, count_word, granule_at, granule_of, Machine, Own, act, goes, instr_at, place, ref, stopped, tested, with_note, with_own, wrote, opening_words, after, asked_by, may_go, turn, Answered, Global, IsRun, Turn, opening_of, result_of, bounds, one_thread, place_after, count_found, is_access_check, tester}, Stopping.{put_other, put_same}}
+use Rattle.sharc_code.specs.Runs.{step_of}
 
 -- the result of a step is the word there
 found_is : (words : List ℕ) (event : Option WordEvent) (step : WordStep) → step_of event ≡ Some step → Answered words event → result_of event ≡ slice_index words step.word
@@ -81,7 +75,7 @@ module _ (code : Code) (s : Shape) (test : Turn) (earlier : List Turn) where
 
     at_test : IsRun bounds (one_thread code s) from (test ∷ earlier) → after (turn code s m) (result_of test.event) ≡ stopped m (NotSole site found)
     at_test run =
-        let step : WordStep = record { word = count_word s (ref m register); op = ops.Load } in
+        let step : WordStep = record { word = count_word s (ref m register); op = WordOp.Load } in
         let asked : asked_by (turn code s m) ≡ Some step = ap (λ (i : Instr). asked_by (act code s i m)) is in
         let result : result_of test.event ≡ found = found_is (place_after code s earlier).words test.event step (run.1.next.asks ∙ asked) run.1.answered in
         ap (λ (i : Instr). after (act code s i m) (result_of test.event)) is ∙ ap (tested m site) result ∙ refused m site found other

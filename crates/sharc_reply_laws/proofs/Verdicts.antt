@@ -1,12 +1,5 @@
 -- What a command writes for a program with its modes is one.
-use Rattle.std.proofs.Common.{◌≡◌, ℕ, List, ◌++◌, Option, Some, None, refl, ap, sym, ◌∙◌, subst}
-use Rattle.sharc_mode.specs.{declared.error.Cast.Cast, declared.error.ModeError.ModeError, declared.error.Warning.Warning, Moded.Assignment}
-use Rattle.sharc_check.specs.Laws.{CheckLaws}
-use Rattle.sharc_suggest.specs.{Casts.{AreSuggested, cast_for}, Laws.SuggestLaws}
-use Rattle.sharc_report.specs.{Explanations.explain_text, Verdicts.{accepted_text, check_text}}
-use Rattle.sharc_top.specs.{declared.status.Status.Status, declared.task.SourceTask.SourceTask, Refused.IsModeRefusal, Verdict.{Checks, accepted, refused, Explains, explained, Does}}
-use Rattle.sharc_top.specs.declared.task.SourceTask.TheVariants as task
-use Rattle.sharc_reply_laws.specs.Laws.{WarningsAreOne, RunsNothing}
+use Rattle.sharc_reply_laws.proofs.Imports.{◌≡◌, ℕ, List, ◌++◌, Option, Some, None, refl, ap, sym, ◌∙◌, subst, Cast, ModeError, Warning, Assignment, CheckLaws, AreSuggested, cast_for, SuggestLaws, explain_text, accepted_text, check_text, Status, SourceTask, IsModeRefusal, Checks, accepted, refused, Explains, explained, Does, WarningsAreOne, RunsNothing}
 
 one_answer : (laws : SuggestLaws) (m : Assignment) (errors : List ModeError) (x y : List (Option Cast)) → AreSuggested m errors x → AreSuggested m errors y → x ≡ y
 one_answer laws m errors x y a b = a.says ∙ sym (laws.each m errors y (λ e. cast_for a.casts e) (λ e. record { casts = a.casts; are = a.are; says = refl }) b)
@@ -34,6 +27,6 @@ module _ (warnings : WarningsAreOne) (checks : CheckLaws) (suggests : SuggestLaw
       (same.0, ap (λ (l : List ℕ). explain_text m ++ l) same.1)
 
   pub one_done : (t : SourceTask) → RunsNothing t → (s z : Status) (text other : List ℕ) → Does t m s text → Does t m z other → (s ≡ z) × (text ≡ other)
-  one_done task.Check nothing s z text other a b = one_check s z text other a b
-  one_done task.Explain nothing s z text other a b = one_explanation s z text other a b
-  one_done (task.Run numbers) nothing s z text other a b = absurd nothing
+  one_done SourceTask.Check nothing s z text other a b = one_check s z text other a b
+  one_done SourceTask.Explain nothing s z text other a b = one_explanation s z text other a b
+  one_done (SourceTask.Run numbers) nothing s z text other a b = absurd nothing

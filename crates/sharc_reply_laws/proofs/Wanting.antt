@@ -1,19 +1,6 @@
 -- What the source wants where a thread makes a check.
-use Rattle.std.proofs.Common.{◌≡◌, ℕ, ◌+◌, pos, ◌⊎◌, inl, inr, Bool, true, false, List, Some, None, sym, ap, ◌∙◌, subst}
-use Rattle.std.specs.Prelude.{slice_index_or}
-use Rattle.sharc_tree.specs.{declared.event.Act.Act, declared.event.CellAt.CellAt, declared.event.SourceEvent.SourceEvent, declared.token.Site.Site, declared.trap.Trap.Trap}
-use Rattle.sharc_tree.specs.declared.trap.Trap.TheVariants as traps
-use Rattle.sharc_mode.specs.Moded.{Assignment}
-use Rattle.sharc_meaning.specs.{Events.{Access, access_by}, Obeys.History, State.{Outcome, event_of, stopped, wants}}
-use Rattle.sharc_code.specs.{declared.code.Code.Code, declared.code.PlaceMode.PlaceMode, declared.code.PlaceMode.TheVariants.Dynamic, declared.instr.Cell.Cell, declared.instr.Instr.Instr, declared.instr.Instr.TheVariants.{ChkLock, ChkLockLoaded, ChkRead, ChkWrite, Exchange, Exit, Load, LoadRef, Start, Store, TakeCell}, declared.shape.Shape.Shape, declared.state.TurnState.TheVariants.Stopped, declared.state.Stop.TheVariants.NoLock, Machine.{Machine, instr_at}, Runs.Turn, Says.{cell_at, made_cell, mode_of, place_at}, Whole.place_after}
-use Rattle.sharc_flat.specs.declared.flat.Flat.{Flat as FlatCode}
-use Rattle.sharc_compile.specs.{Generated.generated, Made.IsCodeOf}
-use Rattle.sharc_guard.specs.Counted.{IsUnder}
-use Rattle.sharc_history_laws.specs.{Conflicts.site_of_check, Followed.{Accesses, IsFollowed, ShowsLock, access_of, access_to}, History.history_of, Reports.IsLockCheck}
-use Rattle.sharc_wants_laws.specs.Wants.{IsNotThere, StopsOrWantsUnder, WantsAct, WantsBy, access_tested}
-use Rattle.sharc_sound_laws.specs.Standing.{IsPlaced}
-use Rattle.sharc_reply_laws.specs.Reports.{ThreadWantsAccess, ThreadWantsMutex}
-use Rattle.sharc_lemmas.proofs.Options.{some_is as site_eq}
+use Rattle.sharc_reply_laws.proofs.Imports.{◌≡◌, ℕ, ◌+◌, pos, ◌⊎◌, inl, inr, Bool, true, false, List, Some, None, sym, ap, ◌∙◌, subst, get_or as slice_index_or, Act, CellAt, SourceEvent, Site, Trap, Assignment, Access, access_by, History, Outcome, event_of, wants, Code, PlaceMode, Dynamic, Cell, Instr, ChkLock, ChkLockLoaded, ChkRead, ChkWrite, Exchange, Exit, Load, LoadRef, Start, Store, TakeCell, Shape, Stopped, NoLock, Machine, instr_at, Turn, cell_at, made_cell, mode_of, place_at, place_after, FlatCode, generated, IsCodeOf, IsUnder, site_of_check, Accesses, IsFollowed, ShowsLock, access_of, access_to, history_of, IsLockCheck, IsNotThere, StopsOrWantsUnder, WantsAct, WantsBy, access_tested, IsPlaced, ThreadWantsAccess, ThreadWantsMutex, site_eq}
+use Rattle.sharc_meaning.specs.State.{stopped}
 
 -- ---- the first instruction
 pub first_is : (flat : FlatCode) (code : Code) → IsCodeOf flat code → instr_at code 0 ≡ Start 0
@@ -83,7 +70,7 @@ module _ (code : Code) (m : Machine) where
   not_both trap x y a e = cc
 
   under : (o : Outcome) (site at : ℕ) (mutex : CellAt) (act : Act) → WantsAct code o at act → StopsOrWantsUnder code o site mutex → IsUnder mutex act
-  under o site at mutex act wanted (inl stops) = absurd (not_both traps.NullPointer (place_at code at).site (place_at code site).site act (sym wanted ∙ stops))
+  under o site at mutex act wanted (inl stops) = absurd (not_both Trap.NullPointer (place_at code at).site (place_at code site).site act (sym wanted ∙ stops))
   under o site at mutex act wanted (inr w) = subst (IsUnder mutex) (act_eq (place_at code site).site (place_at code at).site w.0 act (sym w.1 ∙ wanted)) w.2
 
   pub by_lock : (o : Outcome) (i : Instr) (site at : ℕ) (mutex : CellAt) (act : Act) → IsLockCheck code m i site mutex → WantsAct code o at act → WantsBy code m o i → IsUnder mutex act

@@ -1,8 +1,5 @@
 -- A program has one list of warnings.
-use Rattle.std.proofs.Common.{◌≡◌, ◌⊎◌, inl, inr, ℕ, zero, suc, ◌<◌, List, [], ◌∷◌, length, get_or, refl, ap, sym, ◌∙◌, subst, arith, Contains}
-use Rattle.sharc_ctype.specs.Resolved.{Resolution}
-use Rattle.sharc_mode.specs.declared.error.Warning.{Warning}
-use Rattle.sharc_live.specs.Uses.{warning_at, InOrder, AreWarnings}
+use Rattle.sharc_reply_laws.proofs.Imports.{◌≡◌, ◌⊎◌, inl, inr, ℕ, zero, suc, ◌<◌, List, [], ◌∷◌, length, get_or, refl, ap, sym, ◌∙◌, subst, arith, Contains, Resolution, Warning, warning_at, InOrder, AreWarnings}
 
 -- ---- lists in order
 

@@ -1,15 +1,6 @@
 -- The first words of the globals, one after the other, are those that their definitions say.
-use Rattle.std.proofs.{Common.{◌≡◌, ℕ, ℤ, pos, negsuc, zero, suc, ◌+◌, ◌-◌, ◌*◌, ◌^◌, ◌<◌, ◌≤◌, inl, inr, Bool, true, false, cond, length, List, [], ◌∷◌, ◌++◌, take, Some, None, refl, sym, ap, ◌∙◌, subst, arith}, lemmas.Bool.Decides.nat_tests}
-use Rattle.std.specs.{Prelude.{◌==◌, nat_lt, slice_index, slice_get, replicate, neg_ℤ, unsigned_abs}, List.AllByRecursion}
-use Rattle.sharc_tree.specs.{declared.ctype.Base.Base, declared.ctype.Base.TheVariants.{Mutex, Void, Struct}, declared.tree.declaration.WrittenType.WrittenType, declared.tree.expression.Constant.Constant, declared.tree.expression.Constant.TheVariants.{Number, Character, Null}, declared.tree.item.GlobalDefinition.GlobalDefinition, declared.tree.item.GlobalForm.GlobalForm, declared.tree.item.GlobalForm.TheVariants.Initial}
-use Rattle.sharc_names.specs.Kinds.{declared_kind}
-use Rattle.sharc_ctype.specs.Resolved.{Resolution, globals_in}
-use Rattle.sharc_ctype_laws.specs.{Initials.{IsHeldBy, MeetsInitial, MeetsGlobal}, Laws.MeetsGlobals}
-use Rattle.sharc_code.specs.{declared.code.GlobalCells.GlobalCells, Arithmetic.{word_of, int_of}, Ranges.IsInGlobal}
-use Rattle.sharc_meaning.specs.{Cells.element_cells, Reference.constant_value, Store.{form_value, global_value}}
-use Rattle.sharc_flat.specs.Tables.{cells_in, granules_in, globals_from, first_words, all_first_words}
-use Rattle.sharc_sound_laws.specs.Begins.{MadeCodeBegins}
-use Rattle.sharc_lemmas.proofs.Lists.{all_null as zeros}
+use Rattle.sharc_sound_laws.proofs.Imports.{◌≡◌, ℕ, ℤ, pos, negsuc, zero, suc, ◌+◌, ◌-◌, ◌*◌, ◌^◌, ◌<◌, ◌≤◌, inl, inr, Bool, true, false, cond, length, List, [], ◌∷◌, ◌++◌, take, Some, None, refl, sym, ap, ◌∙◌, subst, arith, nat_tests, ◌==◌, nat_lt, slice_index, slice_get, replicate, neg_ℤ, unsigned_abs, AllByRecursion, Base, Void, Struct, WrittenType, Constant, Number, Character, Null, GlobalDefinition, GlobalForm, Initial, declared_kind, Resolution, globals_in, IsHeldBy, MeetsInitial, MeetsGlobal, MeetsGlobals, GlobalCells, word_of, int_of, IsInGlobal, element_cells, constant_value, form_value, global_value, cells_in, granules_in, globals_from, first_words, all_first_words, MadeCodeBegins, zeros}
+use Rattle.sharc_tree.specs.declared.ctype.Base.TheVariants.{Mutex}
 
 -- ---- lists
 front : (n : ℕ) (xs ys : List ℕ) (k : ℕ) → k < n → n ≤ length xs → slice_index (take n xs ++ ys) k ≡ slice_index xs k

@@ -1,16 +1,6 @@
 -- All codes of one program are alike: its flat code is laid out in any order of its texts.
-use Rattle.std.proofs.Common.{◌≡◌, ℕ, zero, suc, List, [], ◌∷◌, map, get_or, Option, Some, None, refl, sym, ap, ◌∙◌, subst}
-use Rattle.sharc_code.specs.{declared.code.Code.Code, declared.code.Function.Function, declared.code.SourcePlace.SourcePlace, declared.code.Text.Text, declared.instr.Instr.Instr, declared.instr.Instr.TheVariants.{Call, Start, Exit}, Machine.no_function, Says.no_place}
-use Rattle.sharc_ctype.specs.Resolved.{Resolution, functions_in}
-use Rattle.sharc_ctype_laws.specs.Laws.{OneFunctionOfName}
-use Rattle.sharc_mode.specs.Moded.{Assignment}
-use Rattle.sharc_flat.specs.{Flattened.flattened, Flattens.names_of, Laid.{with_texts, spot_in, words_of, lock_text_of, lies_at, AreTextsIn, AreLaid, AreNamed}, Tables.globals_of, declared.op.Op.Op, declared.op.Spot.Spot, Machine.Flat, Made.flat_of}
-use Rattle.sharc_flat.specs.declared.op.Op.TheVariants as op
-use Rattle.sharc_compile.specs.Generated.{instr_of}
-use Rattle.sharc_guard.specs.{Guard.{source_of, entered_at, place, expanded}, Known.dropped}
-use Rattle.sharc_front_end.specs.Compiled.{IsCompiled}
-use Rattle.sharc_sound_laws.specs.{Alike.{unnamed, IsSamePlace}, AlikeLaws.CompiledAreAlike}
-use Rattle.sharc_sound_laws.proofs.{Lists.{ap2, map_same, element_of}, Lines.{place_same, statements_same}}
+use Rattle.sharc_sound_laws.proofs.{Imports.{◌≡◌, ℕ, zero, suc, List, [], ◌∷◌, map, get_or, Option, Some, None, refl, sym, ap, ◌∙◌, subst, Code, Function, SourcePlace, Text, Instr, Call, Start, Exit, no_function, no_place, Resolution, functions_in, OneFunctionOfName, Assignment, flattened, names_of, with_texts, spot_in, lock_text_of, lies_at, AreTextsIn, AreLaid, AreNamed, globals_of, Op, Spot, Flat, flat_of, instr_of, source_of, entered_at, place, expanded, dropped, IsCompiled, unnamed, IsSamePlace, CompiledAreAlike}, Lists.{ap2, map_same, element_of}, Lines.{place_same, statements_same}}
+use Rattle.sharc_flat.specs.Laid.{words_of}
 
 -- ---- functions
 entered_same : (bytes : List ℕ) (pl ql : ℕ → ℕ) → ((n : ℕ) → pl n ≡ ql n) → (xs : List Function) (names : List (List ℕ)) (ys : List Function) → AreNamed bytes xs names ys
@@ -30,23 +20,23 @@ text_by None x = record { from = 0; until = 0 }
 text_by (Some spot) x = x
 
 site_told : (x y : Text) (o : Op) → (source_of (with_texts x y o)).site ≡ (source_of o).site
-site_told x y op.Enter = refl
+site_told x y Op.Enter = refl
 site_told x y o = refl
 
 use_told : (x y : Text) (o : Op) → (source_of (with_texts x y o)).at ≡ (source_of o).at
-use_told x y op.Enter = refl
+use_told x y Op.Enter = refl
 use_told x y o = refl
 
 mode_told : (x y : Text) (o : Op) → (source_of (with_texts x y o)).mode ≡ (source_of o).mode
-mode_told x y op.Enter = refl
+mode_told x y Op.Enter = refl
 mode_told x y o = refl
 
 lvalue_told : (x y : Text) (o : Op) → (source_of (with_texts x y o)).lvalue ≡ text_by (spot_in o) x
-lvalue_told x y op.Enter = refl
+lvalue_told x y Op.Enter = refl
 lvalue_told x y o = refl
 
 lock_told : (x y : Text) (o : Op) → (source_of (with_texts x y o)).lock ≡ text_by (spot_in o) y
-lock_told x y op.Enter = refl
+lock_told x y Op.Enter = refl
 lock_told x y o = refl
 
 module _ (r : Resolution) where

@@ -1,17 +1,5 @@
 -- In a stuck run no thread has an event that may come next.
-use Rattle.std.proofs.{Common.{◌≡◌, ◌≢◌, ℕ, zero, suc, pos, ◌<◌, ◌⊎◌, inl, inr, ⊎_elim, Bool, true, false, ◌||◌, ◌&&◌, cond, List, [], ◌∷◌, ◌++◌, length, Some, None, refl, sym, ap, ◌∙◌, subst, arith}, lemmas.Bool.or_right}
-use Rattle.std.specs.{Prelude.{◌==◌, slice_index_or}, List.list_any}
-use Rattle.sharc_tree.specs.{declared.event.Act.Act, declared.event.SourceEvent.SourceEvent}
-use Rattle.sharc_tree.specs.declared.event.Act.TheVariants as acts
-use Rattle.sharc_ctype_laws.specs.Declared.{NameThemselves}
-use Rattle.sharc_mode.specs.Moded.{Assignment}
-use Rattle.sharc_meaning.specs.{Events.{events_of, is_of}, Laws.AskLaws, Obeys.History, Runs.{Follows, IsFirst, IsSpawned, SourceRun}, State.{Outcome, wants, ended, spent, event_of}, Store.{MayCome, is_gone, is_natural, is_spawn, spawns, was_spawned, went}}
-use Rattle.sharc_code.specs.{declared.code.Code.Code, declared.instr.Instr.Instr, declared.instr.Instr.TheVariants.{Lock, Join, CondWait, Start}, declared.shape.Shape.Shape, declared.state.TurnState.TurnState, declared.state.TurnState.TheVariants.{Stopped, Ended}, Machine.{Machine, instr_at, int}, Path.may_go, Runs.Turn, Says.{cell_at, place_at}, Waits.{asks_for, held_up}, Whole.{IsOn, Stuck, Waits, place_after}}
-use Rattle.sharc_history_laws.specs.{History.history_of, Stuck.act_awaited, Threads.ThreadsAreTold}
-use Rattle.sharc_wants_laws.specs.Wants.{IsNotThere, WantsBy}
-use Rattle.sharc_sound_laws.specs.Standing.{IsPlaced}
-use Rattle.sharc_sound_laws.proofs.Standing.{IsNextBy, behind_own, from_first, next_by}
-use Rattle.sharc_lemmas.proofs.{Numbers.same_is, Bools.{or_split as or_cases, yes}}
+use Rattle.sharc_sound_laws.proofs.{Imports.{◌≡◌, ◌≢◌, ℕ, zero, suc, pos, ◌<◌, ◌⊎◌, inl, inr, ⊎_elim, Bool, true, false, ◌||◌, ◌&&◌, cond, List, [], ◌∷◌, ◌++◌, length, Some, None, refl, sym, ap, ◌∙◌, subst, arith, or_right, ◌==◌, get_or as slice_index_or, list_any, Act, SourceEvent, NameThemselves, Assignment, events_of, is_of, AskLaws, History, Follows, IsFirst, IsSpawned, SourceRun, Outcome, wants, ended, spent, event_of, MayCome, is_gone, is_natural, is_spawn, spawns, was_spawned, went, Code, Instr, Lock, Join, CondWait, Start, Shape, TurnState, Stopped, Ended, Machine, instr_at, int, may_go, Turn, cell_at, place_at, asks_for, held_up, IsOn, Stuck, Waits, place_after, history_of, act_awaited, ThreadsAreTold, IsNotThere, WantsBy, IsPlaced, same_is, or_cases, yes}, Standing.{IsNextBy, behind_own, from_first, next_by}}
 
 -- ---- tests over lists
 
@@ -155,9 +143,9 @@ module _ (ask : AskLaws) (m : Assignment) (names : NameThemselves m.typed) (code
       there i is k = ⊎_elim (not_first i is) (λ (p : IsPlaced m code R t at). k p (subst (WantsBy code at p.come.outcome) is p.next)) (placed e.thread)
 
       by_instr : (i : Instr) → instr_at code ((place_after code s run).threads e.thread).at.pc ≡ i → ⊥
-      by_instr (Lock c site) is = there (Lock c site) is (λ p w. comes (acts.Lock (cell_at code at c)) site (ap (act_awaited code at) is) p w)
-      by_instr (Join r site) is = there (Join r site) is (λ p w. comes (acts.Join (int at r)) site (ap (act_awaited code at) is) p w)
-      by_instr (CondWait c site) is = there (CondWait c site) is (λ p w. comes (acts.Woken (cell_at code at c)) site (ap (act_awaited code at) is) p w)
+      by_instr (Lock c site) is = there (Lock c site) is (λ p w. comes (Act.Lock (cell_at code at c)) site (ap (act_awaited code at) is) p w)
+      by_instr (Join r site) is = there (Join r site) is (λ p w. comes (Act.Join (int at r)) site (ap (act_awaited code at) is) p w)
+      by_instr (CondWait c site) is = there (CondWait c site) is (λ p w. comes (Act.Woken (cell_at code at c)) site (ap (act_awaited code at) is) p w)
       by_instr _ is = quiet _ is refl
 
   pub deadlocked : ((place_after code s run).threads e.thread).at.state ≢ Stopped → ⊥

@@ -1,13 +1,6 @@
 -- A run of one code is a run of each code that is alike, with the same end, the same text and the same outcome.
-use Rattle.std.proofs.Common.{ℕ, List, sym, ◌∙◌, subst}
-use Rattle.sharc_code.specs.{declared.code.Code.Code, declared.shape.Shape.Shape, Whole.place_after}
-use Rattle.sharc_cpu.specs.Thread.{ThreadView}
-use Rattle.sharc_threads.specs.Ends.{Standing}
-use Rattle.sharc_run.specs.{declared.outcome.Outcome.Outcome, declared.run.Ran.Ran, Outcome.{HasOutcome, reported, stopped, stuck, limited, done}, Run.IsEnd, RunText.IsRunText}
-use Rattle.sharc_replay.specs.Run.{IsScheduledRun}
-use Rattle.sharc_schedule.specs.Schedule.{Stored}
-use Rattle.sharc_sound_laws.specs.{Alike.AreAlike, AlikeLaws.RunsAreAlike}
-use Rattle.sharc_sound_laws.proofs.{Threads.AreTheSame, Places.{checked_same, place_same, enabled_same, chosen_same, stuck_same, threads_same}, Texts.text_same}
+use Rattle.sharc_sound_laws.proofs.{Imports.{ℕ, List, sym, ◌∙◌, subst, Code, Shape, place_after, ThreadView, Standing, Ran, HasOutcome, reported, stuck, limited, done, IsEnd, IsRunText, IsScheduledRun, Stored, AreAlike, RunsAreAlike}, Threads.AreTheSame, Places.{checked_same, place_same, enabled_same, chosen_same, stuck_same, threads_same}, Texts.text_same}
+use Rattle.sharc_run.specs.{declared.outcome.Outcome.Outcome, Outcome.stopped}
 
 other_way : (g h : Standing) → AreTheSame g h → AreTheSame h g
 other_way g h same = record { words = sym same.words; threads = λ t. sym (same.threads t); started = λ t. sym (same.started t); made = λ t. sym (same.made t) }

@@ -1,18 +1,6 @@
 -- A thread of a checked run follows the source: the function that it begins with is the one that its name says.
-use Rattle.std.proofs.Common.{◌≡◌, ℕ, ℤ, ◌<◌, ◌⊎◌, inl, inr, ◌||◌, cond, List, [], ◌∷◌, map, Option, Some, None, refl, sym, ap, ◌∙◌, subst, ⊎_elim}
-use Rattle.std.specs.{Prelude.{IsTrue, codes, length}, List.list_any, Str.bytes_eq}
-use Rattle.sharc_tree.specs.{declared.event.Act.TheVariants.Started, declared.event.CellAt.CellAt, declared.event.SourceEvent.SourceEvent, Tree.Function}
-use Rattle.sharc_ctype.specs.{Resolved.function_at, Reaches.Spawns}
-use Rattle.sharc_ctype_laws.specs.Declared.{NameThemselves}
-use Rattle.sharc_mode.specs.Moded.{Assignment}
-use Rattle.sharc_meaning.specs.{Events.{events_of, held_mutexes, locked_by, same_cell, unless_unlocked, unlocks}, Meaning.asks, Obeys.History, Runs.{Follows, IsFirst, IsNamedAt, IsSpawned, answers_of, by, is_named_main}}
-use Rattle.sharc_code.specs.{declared.code.Code.Code, Machine.{Machine, function_of}}
-use Rattle.sharc_flat.specs.{Correct.MayStart, Flattens.IsMainOf}
-use Rattle.sharc_compile_laws.specs.{Started.HasThread, Threads.TellsIn}
-use Rattle.sharc_wants_laws.specs.Wants.{IsWhere}
-use Rattle.sharc_sound_laws.specs.Standing.{IsPlaced}
-use Rattle.sharc_sound_laws.proofs.{Named.same_function, Standing.from_first}
-use Rattle.sharc_history_laws.specs.Starts.{IsOfMain, IsSpawnedByCode, IsStartedBy}
+use Rattle.sharc_sound_laws.proofs.{Imports.{◌≡◌, ℕ, ℤ, ◌<◌, ◌⊎◌, inl, inr, ◌||◌, cond, List, [], ◌∷◌, map, Option, Some, None, refl, sym, ap, ◌∙◌, subst, ⊎_elim, IsTrue, codes, length, list_any, bytes_eq, Started, CellAt, SourceEvent, function_at, Spawns, NameThemselves, Assignment, events_of, held_mutexes, locked_by, same_cell, unless_unlocked, unlocks, asks, History, Follows, IsFirst, IsNamedAt, IsSpawned, answers_of, by, is_named_main, Code, Machine, function_of, MayStart, IsMainOf, HasThread, TellsIn, IsWhere, IsPlaced, IsOfMain, IsSpawnedByCode, IsStartedBy}, Named.same_function, Standing.from_first}
+use Rattle.sharc_tree.specs.Tree.{Function}
 
 -- ---- what is held by events of a thread
 held_started : (e : SourceEvent) (v : ℤ) (later : List SourceEvent) → e.act ≡ Started v → held_mutexes (e ∷ later) ≡ held_mutexes later

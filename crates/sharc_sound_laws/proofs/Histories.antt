@@ -1,16 +1,6 @@
 -- The runs of codes that are alike tell the same source events.
-use Rattle.std.proofs.Common.{◌≡◌, ℕ, zero, suc, ◌==◌, ◌||◌, ◌+◌, ◌-◌, ◌*◌, List, [], ◌∷◌, map, get_or, Option, Some, None, if◌then◌else◌, refl, sym, ap, ◌∙◌}
-use Rattle.std.specs.Prelude.{ℤ, pos}
-use Rattle.sharc_tree.specs.{declared.token.Site.Site, declared.event.Act.Act, declared.event.CellAt.CellAt, declared.event.CellMode.CellMode, declared.event.SourceEvent.SourceEvent}
-use Rattle.sharc_tree.specs.declared.event.Act.TheVariants as acts
-use Rattle.sharc_tree.specs.declared.event.CellMode.TheVariants as modes
-use Rattle.sharc_tree.specs.declared.event.Object.TheVariants as objects
-use Rattle.sharc_tree.specs.declared.event.Taken.TheVariants as takens
-use Rattle.sharc_locks.specs.Waiters.{lowest_of, waits_in}
-use Rattle.sharc_heap.specs.{State.NewView, declared.stage.NewStage.NewStage, declared.stage.NewStage.TheVariants.Length}
-use Rattle.sharc_code.specs.{declared.code.Code.Code, declared.code.Function.Function, declared.code.GlobalCells.GlobalCells, declared.code.PlaceMode.PlaceMode, declared.code.PlaceMode.TheVariants.LockedGlobal, declared.code.Use.Use, declared.instr.Cell.Cell, declared.instr.Cell.TheVariants.{Global, GlobalAt}, declared.instr.Instr.Instr, declared.instr.Instr.TheVariants.{Load, Store, LoadRef, Exchange, New, TakeCell, TakeLocal, Give, Free, Lock, Unlock, Spawn, Join, Print, Start, Exit, CondEnter, CondWait, CondSignal, CondBroadcast}, declared.instr.Register.Register, declared.shape.Shape.Shape, declared.state.Stage.Stage, declared.state.Stage.TheVariants.{Makes, Uncounts, Begins, Enters, Withdraws, WithdrawsFrom, Leaves, Wakes}, Arithmetic.{int_of, word_of}, Machine.{Machine, instr_at, int, ref}, Runs.{Said, Turn, result_of, with_told}, Says.{access, cell_at, elements_in, event, event_at, global_cell, in_exit, in_free, in_new, in_signal, in_spawn, in_start, kind_of, made_cell, mode_of, new_event, no_global, nobody, own_event, place_at, reference, said, speaks_of, started_with, take_local, variable_of}, Whole.{Erase, place_after}}
-use Rattle.sharc_sound_laws.specs.{Alike.AreAlike, AlikeLaws.HistoriesAreAlike}
-use Rattle.sharc_sound_laws.proofs.{Lists.ap2, Places.{checked_same, chosen_same, enabled_same, place_same}, Turns.{by_function, instr_same}}
+use Rattle.sharc_sound_laws.proofs.{Imports.{◌≡◌, ℕ, zero, suc, ◌==◌, ◌||◌, ◌+◌, ◌-◌, ◌*◌, List, [], ◌∷◌, map, get_or, Option, Some, None, if◌then◌else◌, refl, sym, ap, ◌∙◌, ℤ, pos, Site, Act, CellAt, CellMode, SourceEvent, Object, Taken, lowest_of, waits_in, NewView, NewStage, Length, Code, Function, GlobalCells, PlaceMode, LockedGlobal, Use, Cell, GlobalAt, Instr, Load, Store, LoadRef, Exchange, New, TakeCell, TakeLocal, Give, Free, Lock, Unlock, Spawn, Join, Print, Start, Exit, CondEnter, CondWait, CondSignal, CondBroadcast, Register, Shape, Stage, Makes, Uncounts, Begins, Enters, Withdraws, WithdrawsFrom, Leaves, Wakes, int_of, word_of, Machine, instr_at, int, ref, Said, Turn, result_of, with_told, access, cell_at, elements_in, event, event_at, global_cell, in_exit, in_free, in_new, in_signal, in_spawn, in_start, kind_of, made_cell, mode_of, new_event, no_global, nobody, own_event, place_at, reference, said, speaks_of, started_with, take_local, variable_of, Erase, place_after, AreAlike, HistoriesAreAlike}, Lists.ap2, Places.{checked_same, chosen_same, enabled_same, place_same}, Turns.{by_function, instr_same}}
+use Rattle.sharc_code.specs.declared.instr.Cell.TheVariants.{Global}
 
 module _ (a b : Code) (alike : AreAlike a b) where
   -- ---- sites, cells and modes
@@ -21,7 +11,7 @@ module _ (a b : Code) (alike : AreAlike a b) where
   use_same n = (alike.sites n).at
 
   global_same : (global place : ℕ) → global_cell a global place ≡ global_cell b global place
-  global_same global place = ap (λ (gs : List GlobalCells). record { object = objects.Global global; cell = place - 2 * (get_or gs global no_global).granule }) alike.globals
+  global_same global place = ap (λ (gs : List GlobalCells). record { object = Object.Global global; cell = place - 2 * (get_or gs global no_global).granule }) alike.globals
 
   module _ (m : Machine) where
     cell_same : (c : Cell) → cell_at a m c ≡ cell_at b m c
@@ -30,7 +20,7 @@ module _ (a b : Code) (alike : AreAlike a b) where
     cell_same _ = refl
 
     mode_by : (cell : CellAt) (mode : PlaceMode) → mode_of a m cell mode ≡ mode_of b m cell mode
-    mode_by cell (LockedGlobal global place) = ap (λ (c : CellAt). modes.Locked (Some c)) (global_same global place)
+    mode_by cell (LockedGlobal global place) = ap (λ (c : CellAt). CellMode.Locked (Some c)) (global_same global place)
     mode_by cell _ = refl
 
     -- with the mode of a site
@@ -53,10 +43,10 @@ module _ (a b : Code) (alike : AreAlike a b) where
 
     take_same : (site number elements : ℕ) → take_local a m site number elements ≡ take_local b m site number elements
     take_same site zero elements = refl
-    take_same site (suc number) elements = event_same site (reference (suc number) elements) _ _ (ap (λ (u : Use). acts.Take (takens.Local (variable_of u)) (kind_of u)) (use_same site))
+    take_same site (suc number) elements = event_same site (reference (suc number) elements) _ _ (ap (λ (u : Use). Act.Take (Taken.Local (variable_of u)) (kind_of u)) (use_same site))
 
     new_same : (site cells : ℕ) (state : NewView) (stage : NewStage) → new_event a m site cells state stage ≡ new_event b m site cells state stage
-    new_same site cells state (Length header) = of_mode site (reference header state.arguments.elements) (acts.New cells state.arguments.elements)
+    new_same site cells state (Length header) = of_mode site (reference header state.arguments.elements) (Act.New cells state.arguments.elements)
     new_same site cells state _ = refl
 
     made_same : (site cells : ℕ) (stage : Stage) → in_new a m site cells stage ≡ in_new b m site cells stage
@@ -72,7 +62,7 @@ module _ (a b : Code) (alike : AreAlike a b) where
     spawn_same function from site elements _ = refl
 
     start_same : (found elements : ℕ) (stage : Stage) → in_start a m found elements stage ≡ in_start b m found elements stage
-    start_same found elements (Enters function) = by_function a b alike (λ (f : Function). event m f.site (pos 0) (acts.Started (started_with f.parameter found elements))) (λ g. refl) function
+    start_same found elements (Enters function) = by_function a b alike (λ (f : Function). event m f.site (pos 0) (Act.Started (started_with f.parameter found elements))) (λ g. refl) function
     start_same found elements _ = refl
 
     own_same : (act : Act) → own_event a m act ≡ own_event b m act
@@ -81,38 +71,38 @@ module _ (a b : Code) (alike : AreAlike a b) where
     exit_same : (stage : Stage) → in_exit a m stage ≡ in_exit b m stage
     exit_same (Withdraws row) = refl
     exit_same (WithdrawsFrom row seen) = refl
-    exit_same Leaves = own_same acts.Gone
-    exit_same _ = own_same acts.Return
+    exit_same Leaves = own_same Act.Gone
+    exit_same _ = own_same Act.Return
 
     nobody_same : (c : Cell) (site found : ℕ) → nobody a m c site found ≡ nobody b m c site found
-    nobody_same c site zero = of_cell site c (pos 0) acts.Signal
+    nobody_same c site zero = of_cell site c (pos 0) Act.Signal
     nobody_same c site (suc found) = refl
 
     signal_same : (c : Cell) (site found : ℕ) (stage : Stage) → in_signal a m c site found stage ≡ in_signal b m c site found stage
-    signal_same c site found (Wakes seen) = ap2 (λ (x y : Option SourceEvent). if found == seen then x else y) (of_cell site c (pos (lowest_of seen + 1)) acts.Signal) (nobody_same c site found)
+    signal_same c site found (Wakes seen) = ap2 (λ (x y : Option SourceEvent). if found == seen then x else y) (of_cell site c (pos (lowest_of seen + 1)) Act.Signal) (nobody_same c site found)
     signal_same c site found _ = nobody_same c site found
 
     said_same : (i : Instr) (found elements : ℕ) → said a i m found elements ≡ said b i m found elements
-    said_same (Load r c site) found elements = access_same site c (int_of found) acts.Read acts.Read (λ x y. refl)
-    said_same (Store r c site) found elements = access_same site c (pos 0) (λ at mode. acts.Write at mode (int m r)) (λ at mode. acts.Write at mode (int m r)) (λ x y. refl)
-    said_same (LoadRef c site) found elements = access_same site c (reference found elements) acts.Read acts.Read (λ x y. refl)
-    said_same (Exchange r c site) found elements = access_same site c (pos 0) (λ at mode. acts.Write at mode (reference (ref m r) elements)) (λ at mode. acts.Write at mode (reference (ref m r) elements)) (λ x y. refl)
-    said_same (TakeCell r c site) found elements = access_same site c (reference found elements) (λ at mode. acts.Take (takens.Cell at mode) (kind_of (place_at a site).at)) (λ at mode. acts.Take (takens.Cell at mode) (kind_of (place_at b site).at)) (λ x y. ap (λ (u : Use). acts.Take (takens.Cell x y) (kind_of u)) (use_same site))
+    said_same (Load r c site) found elements = access_same site c (int_of found) Act.Read Act.Read (λ x y. refl)
+    said_same (Store r c site) found elements = access_same site c (pos 0) (λ at mode. Act.Write at mode (int m r)) (λ at mode. Act.Write at mode (int m r)) (λ x y. refl)
+    said_same (LoadRef c site) found elements = access_same site c (reference found elements) Act.Read Act.Read (λ x y. refl)
+    said_same (Exchange r c site) found elements = access_same site c (pos 0) (λ at mode. Act.Write at mode (reference (ref m r) elements)) (λ at mode. Act.Write at mode (reference (ref m r) elements)) (λ x y. refl)
+    said_same (TakeCell r c site) found elements = access_same site c (reference found elements) (λ at mode. Act.Take (Taken.Cell at mode) (kind_of (place_at a site).at)) (λ at mode. Act.Take (Taken.Cell at mode) (kind_of (place_at b site).at)) (λ x y. ap (λ (u : Use). Act.Take (Taken.Cell x y) (kind_of u)) (use_same site))
     said_same (TakeLocal r from site) found elements = take_same site (ref m from) elements
-    said_same (Give r site) found elements = of_mode site (pos 0) (acts.Give (reference (ref m r) elements))
+    said_same (Give r site) found elements = of_mode site (pos 0) (Act.Give (reference (ref m r) elements))
     said_same (New r count cells site) found elements = made_same site cells m.own.stage
     said_same (Free r layout site) found elements = free_same r site elements m.own.stage
-    said_same (Lock c site) found elements = ap (λ (e : Option SourceEvent). if found == 0 then e else None) (of_cell site c (pos 0) acts.Lock)
-    said_same (Unlock r c site) found elements = of_cell site c (pos 0) acts.Unlock
+    said_same (Lock c site) found elements = ap (λ (e : Option SourceEvent). if found == 0 then e else None) (of_cell site c (pos 0) Act.Lock)
+    said_same (Unlock r c site) found elements = of_cell site c (pos 0) Act.Unlock
     said_same (Spawn r function from site) found elements = spawn_same function from site elements m.own.stage
     said_same (Join r site) found elements = ap (λ (e : Option SourceEvent). if found == 0 || (found == 1 || found == 2) then None else e) (event_same site (pos 0) _ _ refl)
     said_same (Print r site) found elements = event_same site (pos 0) _ _ refl
     said_same (Start site) found elements = start_same found elements m.own.stage
     said_same Exit found elements = exit_same m.own.stage
-    said_same (CondEnter c site) found elements = of_cell site c (pos 0) acts.Enter
-    said_same (CondWait c site) found elements = ap (λ (e : Option SourceEvent). if waits_in found m.own.number then None else e) (of_cell site c (pos 0) acts.Woken)
+    said_same (CondEnter c site) found elements = of_cell site c (pos 0) Act.Enter
+    said_same (CondWait c site) found elements = ap (λ (e : Option SourceEvent). if waits_in found m.own.number then None else e) (of_cell site c (pos 0) Act.Woken)
     said_same (CondSignal c site) found elements = signal_same c site found m.own.stage
-    said_same (CondBroadcast c site) found elements = of_cell site c (pos 0) acts.Broadcast
+    said_same (CondBroadcast c site) found elements = of_cell site c (pos 0) Act.Broadcast
     said_same _ found elements = refl
 
   -- ---- runs

@@ -1,11 +1,6 @@
 -- Nothing that guarding looks at of an operation is a text.
-use Rattle.std.proofs.Common.{◌≡◌, ℕ, zero, suc, ◌+◌, ◌||◌, ◌==◌, Bool, true, false, cond, List, [], ◌∷◌, ◌++◌, length, slice_get, Option, Some, refl, ap, ◌∙◌}
-use Rattle.sharc_code.specs.{declared.code.Function.Function, declared.code.Text.Text, declared.instr.Instr.Instr, declared.code.PlaceMode.PlaceMode, declared.code.PlaceMode.TheVariants.Dynamic, declared.instr.Instr.TheVariants.{Jump, JumpIfZero, JumpIfNull, ChkRead, ChkWrite}}
-use Rattle.sharc_ctype.specs.Resolved.{Resolution}
-use Rattle.sharc_flat.specs.{Laid.{told_by, with_texts, AreLaid, AreNamed}, declared.op.Op.Op, declared.op.Spot.Spot, Machine.Flat}
-use Rattle.sharc_flat.specs.declared.op.Op.TheVariants as op
-use Rattle.sharc_guard.specs.{Guard.{check_under, head, body, own, tail, expand, width, offset, place, expanded}, Known.{leads_to, line_leads, is_led_to, is_entry, is_target, Know, nothing, know_after, known, drops, drops_at, dropped}}
-use Rattle.sharc_sound_laws.proofs.Lists.{ap2}
+use Rattle.sharc_sound_laws.proofs.{Imports.{◌≡◌, ℕ, zero, suc, ◌+◌, ◌||◌, ◌==◌, Bool, true, false, cond, List, [], ◌∷◌, ◌++◌, length, slice_get, Option, Some, refl, ap, ◌∙◌, Function, Text, Instr, PlaceMode, Dynamic, Jump, JumpIfZero, JumpIfNull, ChkRead, ChkWrite, Resolution, with_texts, AreLaid, AreNamed, Op, Spot, Flat, check_under, head, body, own, tail, expand, width, offset, place, expanded, leads_to, line_leads, is_led_to, is_entry, is_target, Know, nothing, know_after, known, drops, drops_at, dropped}, Lists.ap2}
+use Rattle.sharc_flat.specs.Laid.{told_by}
 
 -- ---- one operation
 check_told : (x y : Text) (d : Bool) (i : Instr) (spot : Spot) (n : ℕ) (mode : PlaceMode) → check_under d i (told_by x y spot) n mode ≡ check_under d i spot n mode
@@ -19,31 +14,31 @@ checked_told : (pl : ℕ → ℕ) (n : ℕ) (o : Op) (x y : Text) (d : Bool) (i 
 checked_told pl n o x y d i spot = ap (λ is. is ++ own (body pl n o) ++ tail o) (check_told x y d i spot n spot.mode)
 
 expand_told : (pl : ℕ → ℕ) (d : Bool) (n : ℕ) (x y : Text) (o : Op) → expand pl d n (with_texts x y o) ≡ expand pl d n o
-expand_told pl d n x y (op.Load i cell spot) = checked_told pl n (op.Load i cell spot) x y d (ChkRead cell n) spot
-expand_told pl d n x y (op.Store i cell spot) = checked_told pl n (op.Store i cell spot) x y d (ChkWrite cell n) spot
-expand_told pl d n x y (op.LoadRef r cell spot) = checked_told pl n (op.LoadRef r cell spot) x y false (ChkRead cell n) spot
-expand_told pl d n x y (op.StoreRef r cell spot) = checked_told pl n (op.StoreRef r cell spot) x y false (ChkWrite cell n) spot
-expand_told pl d n x y (op.TakeCell r cell spot) = checked_told pl n (op.TakeCell r cell spot) x y false (ChkWrite cell n) spot
+expand_told pl d n x y (Op.Load i cell spot) = checked_told pl n (Op.Load i cell spot) x y d (ChkRead cell n) spot
+expand_told pl d n x y (Op.Store i cell spot) = checked_told pl n (Op.Store i cell spot) x y d (ChkWrite cell n) spot
+expand_told pl d n x y (Op.LoadRef r cell spot) = checked_told pl n (Op.LoadRef r cell spot) x y false (ChkRead cell n) spot
+expand_told pl d n x y (Op.StoreRef r cell spot) = checked_told pl n (Op.StoreRef r cell spot) x y false (ChkWrite cell n) spot
+expand_told pl d n x y (Op.TakeCell r cell spot) = checked_told pl n (Op.TakeCell r cell spot) x y false (ChkWrite cell n) spot
 expand_told pl d n x y o = refl
 
 leads_told : (n to : ℕ) (x y : Text) (o : Op) → leads_to n (with_texts x y o) to ≡ leads_to n o to
-leads_told n to x y op.Enter = refl
+leads_told n to x y Op.Enter = refl
 leads_told n to x y o = refl
 
 next_told : (k : Know) (x y : Text) (o : Op) → know_after (Some (with_texts x y o)) k ≡ know_after (Some o) k
-next_told k x y op.Enter = refl
+next_told k x y Op.Enter = refl
 next_told k x y o = refl
 
 drops_told : (k : Know) (x y : Text) (o : Op) → drops k (with_texts x y o) ≡ drops k o
-drops_told k x y op.Enter = refl
+drops_told k x y Op.Enter = refl
 drops_told k x y o = refl
 
 -- where other lines go the same way
 body_same : (pl ql : ℕ → ℕ) → ((n : ℕ) → pl n ≡ ql n) → (n : ℕ) (o : Op) → body pl n o ≡ body ql n o
-body_same pl ql same n (op.Skip k) = ap (λ p. Some (Jump p)) (same (n + 1 + k))
-body_same pl ql same n (op.SkipIfZero i k) = ap (λ p. Some (JumpIfZero i p)) (same (n + 1 + k))
-body_same pl ql same n (op.SkipIfNull r k) = ap (λ p. Some (JumpIfNull r p)) (same (n + 1 + k))
-body_same pl ql same n (op.Jump to) = ap (λ p. Some (Jump p)) (same to)
+body_same pl ql same n (Op.Skip k) = ap (λ p. Some (Jump p)) (same (n + 1 + k))
+body_same pl ql same n (Op.SkipIfZero i k) = ap (λ p. Some (JumpIfZero i p)) (same (n + 1 + k))
+body_same pl ql same n (Op.SkipIfNull r k) = ap (λ p. Some (JumpIfNull r p)) (same (n + 1 + k))
+body_same pl ql same n (Op.Jump to) = ap (λ p. Some (Jump p)) (same to)
 body_same pl ql same n o = refl
 
 expand_same : (pl ql : ℕ → ℕ) → ((n : ℕ) → pl n ≡ ql n) → (d e : Bool) → d ≡ e → (n : ℕ) (o : Op) → expand pl d n o ≡ expand ql e n o

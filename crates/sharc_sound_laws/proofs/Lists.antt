@@ -1,6 +1,5 @@
 -- Lists of which the elements, or what a function gives of them, are the same.
-use Rattle.std.proofs.Common.{◌≡◌, ℕ, zero, suc, Bool, cond, List, [], ◌∷◌, ◌++◌, length, get_or, map, filter, fold, refl, sym, ap, ◌∙◌, arith}
-use Rattle.sharc_lemmas.proofs.Lists.{map_length as mapped}
+use Rattle.sharc_sound_laws.proofs.Imports.{◌≡◌, ℕ, zero, suc, Bool, cond, List, [], ◌∷◌, ◌++◌, length, get_or, map, filter, fold, refl, sym, ap, ◌∙◌, arith, mapped}
 
 pub ap2 : {A B C : Type 0} (f : A → B → C) {x y : A} {u v : B} → x ≡ y → u ≡ v → f x u ≡ f y v
 ap2 f {x = x} {y = y} {u = u} {v = v} p q = ap (λ z. f z u) p ∙ ap (f y) q

@@ -1,16 +1,12 @@
 -- Functions by their names.
-use Rattle.std.proofs.Common.{◌≡◌, ℕ, Option, Some, None, refl, sym, ap, ◌∙◌}
-use Rattle.sharc_tree.specs.{declared.token.Site.Site, Tree.Function}
-use Rattle.sharc_names.specs.declared.fault.Named.TheVariants as named
-use Rattle.sharc_ctype.specs.Resolved.{Resolution, function_at, named_at}
-use Rattle.sharc_ctype_laws.specs.Declared.{NameThemselves}
-use Rattle.sharc_meaning.specs.Runs.{IsNamedAt}
+use Rattle.sharc_sound_laws.proofs.Imports.{◌≡◌, ℕ, Option, Some, None, refl, sym, ap, ◌∙◌, Site, Named, Resolution, function_at, named_at, NameThemselves, IsNamedAt}
+use Rattle.sharc_tree.specs.Tree.{Function}
 
 -- two functions with one name are one
 pub same_function : (r : Resolution) → NameThemselves r → (n k : ℕ) (site : Site) → IsNamedAt (function_at r n) site → IsNamedAt (function_at r k) site → n ≡ k
 same_function r names n k site a b = by (function_at r n) (function_at r k) refl refl a b
   where
-    number_eq : (a b : ℕ) → named.Function a ≡ named.Function b → a ≡ b
+    number_eq : (a b : ℕ) → Named.Function a ≡ Named.Function b → a ≡ b
     number_eq a b e = cc
 
     by : (f g : Option Function) → function_at r n ≡ f → function_at r k ≡ g → IsNamedAt f site → IsNamedAt g site → n ≡ k

@@ -1,9 +1,5 @@
 -- A thread asks for one event next: with enough fuel it wants it, and one answer more brings it.
-use Rattle.std.proofs.Common.{◌≡◌, ℕ, ℤ, ◌+◌, ◌<◌, ◌≢◌, List, [], ◌∷◌, ◌++◌, length, refl, sym, ap, ◌∙◌, subst, arith}
-use Rattle.sharc_tree.specs.declared.event.SourceEvent.{SourceEvent}
-use Rattle.sharc_mode.specs.Moded.{Assignment}
-use Rattle.sharc_meaning.specs.{Laws.{AskLaws, IsPrefix}, Meaning.{asks, Asked}, State.{Outcome, wants}}
-use Rattle.sharc_sound_laws.specs.Next.{IsSameAsked, OneIsNext}
+use Rattle.sharc_sound_laws.proofs.Imports.{◌≡◌, ℕ, ℤ, ◌+◌, ◌<◌, ◌≢◌, List, [], ◌∷◌, ◌++◌, length, refl, sym, ap, ◌∙◌, subst, arith, SourceEvent, Assignment, AskLaws, IsPrefix, asks, Asked, Outcome, wants, IsSameAsked, OneIsNext}
 
 -- ---- lists
 longer : {A : Type 0} (xs ys : List A) → length (xs ++ ys) ≡ length xs + length ys

@@ -1,14 +1,6 @@
 -- The search of a report finds a check that may be named.
-use Rattle.std.proofs.{Common.{◌≡◌, ℕ, zero, suc, ◌+◌, ◌<◌, ◌≤◌, ◌≢◌, ◌⊎◌, inl, inr, Bool, true, false, not, ◌&&◌, cond, map, List, [], ◌∷◌, filter, find, replicate, Option, Some, None, is_some, if◌then◌else◌, refl, sym, ap, ◌∙◌, subst, ⊎_elim, arith, eqb-true}, lemmas.Bool.cases_eq, lemmas.Bool.Decides.nat_tests}
-use Rattle.std.specs.{Prelude.{◌==◌, slice_index_or}, List.{range_with_len, All}}
-use Rattle.sharc_word.specs.declared.step.TheConstants.{THREADS}
-use Rattle.sharc_heap.specs.{declared.shadow_word.Kind.Kind, declared.shadow_word.Kind.TheVariants.{Read, Write}, Notes.{blank, of_kind}, Accesses.{note_of, site_at}, Functions.{lowest_from, lowest_other}, ShadowWord.{stands, is_written}}
-use Rattle.sharc_code.specs.{declared.code.Code.Code, declared.shape.Shape.Shape, declared.state.ConflictAt.ConflictAt, declared.state.Stop.Stop, declared.state.Stop.TheVariants.Conflict, Layout.{Fits, granules}, Machine.Machine, Path.begun, Runs.Global}
-use Rattle.sharc_cpu.specs.Thread.{ThreadView}
-use Rattle.sharc_threads.specs.Ends.{IsAt, AreStarted}
-use Rattle.sharc_history_laws.specs.Causes.{noted_site, Stood, IsNamed, OfWrite, OfRead, OfStop, OfFirst, HasNamed}
-use Rattle.sharc_run.specs.{declared.other.NotedCheck.NotedCheck, Others.{number_of, noted, is_same_place, refused_by, refused, check_by, or_refused, or_read, or_later, access_of, access_of_any, has_number, wrote_before, is_first_write, was_refused_first, refused_access, or_first_refused, against, other_access}}
-use Rattle.sharc_lemmas.proofs.{Bools.yes, Options.some_or}
+use Rattle.sharc_sound_laws.proofs.Imports.{◌≡◌, ℕ, zero, suc, ◌+◌, ◌<◌, ◌≤◌, ◌≢◌, ◌⊎◌, inl, inr, Bool, true, false, not, ◌&&◌, cond, map, List, [], ◌∷◌, filter, find, replicate, Option, Some, None, is_some, if◌then◌else◌, refl, sym, ap, ◌∙◌, subst, ⊎_elim, arith, eqb-true, cases_eq, nat_tests, ◌==◌, get_or as slice_index_or, range_with_len, All, THREADS, Kind, Read, Write, blank, of_kind, note_of, site_at, lowest_from, lowest_other, stands, is_written, Code, Shape, ConflictAt, Stop, Conflict, Fits, granules, Machine, begun, Global, ThreadView, IsAt, AreStarted, noted_site, Stood, IsNamed, OfWrite, OfRead, OfStop, OfFirst, HasNamed, NotedCheck, number_of, noted, is_same_place, refused_by, refused, check_by, or_refused, or_read, or_later, access_of_any, has_number, wrote_before, is_first_write, was_refused_first, refused_access, or_first_refused, against, other_access, yes, some_or}
+use Rattle.sharc_run.specs.Others.{access_of}
 
 -- ---- lists
 abbrev AllR : (ThreadView → Type 0) → List ThreadView → Type 0

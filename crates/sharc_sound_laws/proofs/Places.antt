@@ -1,12 +1,5 @@
 -- Where runs of codes that are alike are: what may go on there, who is chosen, and which threads there are.
-use Rattle.std.proofs.Common.{◌≡◌, ℕ, ◌&&◌, not, List, [], ◌∷◌, length, get_or, nat_lt, refl, sym, ap, ◌∙◌, subst}
-use Rattle.std.specs.List.{range_with_len}
-use Rattle.sharc_code.specs.{declared.code.Code.Code, declared.shape.Shape.Shape, Machine.Machine, Path.{begun, turn, may_go, machine_after, made_in}, Runs.{Turn, CheckedRunOf, opening_of, at}, Waits.{waits_now, held_up}, Whole.{one_thread, bounds, CheckedRun, place_after, IsStuck}, Opening.opening_words}
-use Rattle.sharc_cpu.specs.Thread.{ThreadView, IsThread}
-use Rattle.sharc_threads.specs.Ends.{Standing, is_enabled, AreStarted}
-use Rattle.sharc_seq.specs.Run.{IsChosen, AreChosen}
-use Rattle.sharc_sound_laws.specs.Alike.{AreAlike}
-use Rattle.sharc_sound_laws.proofs.{Lists.{ap2, filter_same}, Threads.{DoTheSame, AreTheSame, run_same, at_same}, Turns.{turn_same, begun_same, opening_same, machine_same, made_same, code_path_same, wait_same}}
+use Rattle.sharc_sound_laws.proofs.{Imports.{◌≡◌, ℕ, ◌&&◌, not, List, [], ◌∷◌, length, get_or, nat_lt, refl, sym, ap, ◌∙◌, subst, range_with_len, Code, Shape, Machine, begun, turn, may_go, machine_after, made_in, Turn, CheckedRunOf, opening_of, at, waits_now, held_up, one_thread, bounds, CheckedRun, place_after, IsStuck, opening_words, ThreadView, IsThread, Standing, is_enabled, AreStarted, IsChosen, AreChosen, AreAlike}, Lists.{ap2, filter_same}, Threads.{DoTheSame, AreTheSame, run_same, at_same}, Turns.{turn_same, begun_same, opening_same, machine_same, made_same, code_path_same, wait_same}}
 
 module _ (a b : Code) (alike : AreAlike a b) (s : Shape) where
   does : DoTheSame (one_thread a s) (one_thread b s)

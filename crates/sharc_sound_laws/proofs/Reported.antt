@@ -1,15 +1,5 @@
 -- What a thread that was stopped by a report wants.
-use Rattle.std.proofs.{Common.{◌≡◌, ℕ, ◌⊎◌, ⊎_elim, List, [], ◌∷◌, ◌++◌, reverse, Some, None, Option, refl, sym, ap, ◌∙◌, subst}, lemmas.List.reverse-append, lemmas.List.Elements.filter-append}
-use Rattle.sharc_tree.specs.declared.event.SourceEvent.{SourceEvent}
-use Rattle.sharc_mode.specs.Moded.{Assignment}
-use Rattle.sharc_meaning.specs.{Events.{events_of, is_of}, Obeys.History}
-use Rattle.sharc_code.specs.{declared.code.Code.Code, declared.instr.Instr.Instr, declared.instr.Instr.TheVariants.{Start, TestSole}, declared.shape.Shape.Shape, declared.state.TurnState.TheVariants.Stopped, declared.state.Stop.Stop, declared.state.Stop.TheVariants.{Conflict, NoLock, NotSole, Trap}, Laws.RunLaws, Layout.Fits, Opening.opening_words, Machine.instr_at, Runs.{IsRun, Said, Turn, opening_of, told_by, with_told}, Whole.{CheckedRun, Erase, bounds, one_thread, place_after}}
-use Rattle.sharc_compile.specs.{OfRuns.told_in, Refused.IsReport}
-use Rattle.sharc_invariant.specs.{Types.Targets, Labels.Labels, Typed.IsWellTyped, State.IsSmall}
-use Rattle.sharc_history_laws.specs.{Causes.{NamesAreCauses, ReportsHaveNamed}, Conflicts.{AccessReportsShow, site_of_check}, Followed.{ChecksAreFollowed, LockReportsShowAccess}, History.history_of, Reports.{CastReportsShow, IsLockCheck}}
-use Rattle.sharc_wants_laws.specs.Wants.{IsNotThere}
-use Rattle.sharc_sound_laws.specs.{Reports.{IsReportOf, WantsReported}, Standing.IsPlaced}
-use Rattle.sharc_sound_laws.proofs.Standing.{from_first}
+use Rattle.sharc_sound_laws.proofs.{Imports.{◌≡◌, ℕ, ◌⊎◌, ⊎_elim, List, [], ◌∷◌, ◌++◌, reverse, Some, None, Option, refl, sym, ap, ◌∙◌, subst, reverse-append, filter-append, SourceEvent, Assignment, events_of, is_of, History, Code, Instr, Start, TestSole, Shape, Stopped, Stop, Conflict, NoLock, NotSole, Trap, RunLaws, Fits, opening_words, instr_at, IsRun, Said, Turn, opening_of, told_by, with_told, CheckedRun, Erase, bounds, one_thread, place_after, told_in, IsReport, Targets, Labels, IsWellTyped, IsSmall, NamesAreCauses, ReportsHaveNamed, AccessReportsShow, site_of_check, ChecksAreFollowed, LockReportsShowAccess, history_of, CastReportsShow, IsLockCheck, IsNotThere, IsReportOf, WantsReported, IsPlaced}, Standing.from_first}
 
 -- ---- histories that grow
 front_empty : (xs ys : History) → xs ++ ys ≡ [] → xs ≡ []

@@ -1,11 +1,5 @@
 -- What stands of each checked run of typed code, by the laws of its threads, its places and its reports.
-use Rattle.std.proofs.Common.{◌≡◌, ℕ, List, [], ◌∷◌, ◌++◌, subst, Some}
-use Rattle.sharc_mode.specs.Moded.{Assignment}
-use Rattle.sharc_code.specs.{declared.code.Code.Code, declared.shape.Shape.Shape, declared.state.ConflictAt.ConflictAt, declared.state.Stop.TheVariants.{Conflict, NoLock}, Laws.RunLaws, Layout.Fits, Runs.{OneThread, Bounds, Turn, Global, IsRun}, Whole.{CheckedRun, one_thread, bounds, place_after}}
-use Rattle.sharc_compile_laws.specs.Paths.{ThreadsTellInRuns}
-use Rattle.sharc_invariant.specs.{Types.Targets, Labels.Labels, Typed.IsWellTyped, Laws.{RunsStand, RunsBits}, Opened.first_place, State.IsSmall}
-use Rattle.sharc_history_laws.specs.{Causes.{AccessReportsBreakRules, NamesAreCauses, ReportsHaveNamed}, Conflicts.AccessReportsShow, Followed.{ChecksAreFollowed, LockReportsBreakRules, LockReportsShowAccess}, Paths.PathsAreConsistent}
-use Rattle.sharc_sound_laws.specs.{CauseLaws.OthersAreCauses, StandStands.{ThreadStands, PlaceStands, ConflictStands, LockStands}}
+use Rattle.sharc_sound_laws.proofs.Imports.{◌≡◌, ℕ, List, [], ◌∷◌, ◌++◌, subst, Some, Assignment, Code, Shape, ConflictAt, Conflict, NoLock, RunLaws, Fits, OneThread, Bounds, Turn, Global, IsRun, CheckedRun, one_thread, bounds, place_after, ThreadsTellInRuns, Targets, Labels, IsWellTyped, RunsStand, RunsBits, first_place, IsSmall, AccessReportsBreakRules, NamesAreCauses, ReportsHaveNamed, AccessReportsShow, ChecksAreFollowed, LockReportsBreakRules, LockReportsShowAccess, PathsAreConsistent, OthersAreCauses, ThreadStands, PlaceStands, ConflictStands, LockStands}
 
 -- a run begins with each of its first parts
 first_part : {S E : Type 0} (b : Bounds) (m : OneThread S E) (from : Global S) (later earlier : List Turn) → IsRun b m from (later ++ earlier) → IsRun b m from earlier

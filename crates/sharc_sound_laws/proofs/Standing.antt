@@ -1,16 +1,6 @@
 -- Where a thread of a source run stands: by its events it has come to this outcome. What then may come next of it, and how the run goes on.
-use Rattle.std.proofs.{Common.{◌≡◌, ◌≢◌, ℕ, suc, ℤ, pos, ◌+◌, ⊎_elim, cond, List, [], ◌∷◌, ◌++◌, length, map, Some, refl, sym, ap, ◌∙◌, subst, arith, append_assoc}, lemmas.List.{map-append, append-nil}, lemmas.List.Elements.filter-append}
-use Rattle.std.specs.Prelude.{◌==◌}
-use Rattle.sharc_tree.specs.{declared.event.Act.Act, declared.event.SourceEvent.SourceEvent, declared.token.Site.Site}
-use Rattle.sharc_tree.specs.declared.event.Act.TheVariants as acts
-use Rattle.sharc_tree.specs.declared.event.Taken.TheVariants as taken
-use Rattle.sharc_ctype.specs.Resolved.{function_at}
-use Rattle.sharc_ctype_laws.specs.Declared.{NameThemselves}
-use Rattle.sharc_mode.specs.Moded.{Assignment}
-use Rattle.sharc_meaning.specs.{Events.{Access, Stands, access_by, events_of, is_of}, Laws.{AskLaws, RunLaws, IsAnswer, Next}, Meaning.{Asked, asks}, Obeys.History, Runs.{Follows, IsNamedAt, SourceRun, answers_of, by}, State.{wants, spent, event_of}, Store.{MayCome, value_after}}
-use Rattle.sharc_sound_laws.specs.{Next.IsSameAsked, Standing.StandsAt}
-use Rattle.sharc_sound_laws.proofs.{Named.same_function, Next.{wanted, comes_as}}
-use Rattle.sharc_lemmas.proofs.Numbers.{same_is, other_is}
+use Rattle.sharc_sound_laws.proofs.{Imports.{◌≡◌, ◌≢◌, ℕ, suc, ℤ, pos, ◌+◌, ⊎_elim, cond, List, [], ◌∷◌, ◌++◌, length, map, Some, refl, sym, ap, ◌∙◌, subst, arith, append_assoc, map-append, append-nil, filter-append, ◌==◌, Act, SourceEvent, Site, Taken, function_at, NameThemselves, Assignment, Access, Stands, access_by, events_of, is_of, AskLaws, IsAnswer, Next, Asked, asks, History, Follows, IsNamedAt, SourceRun, answers_of, by, wants, spent, event_of, MayCome, value_after, IsSameAsked, StandsAt, same_is, other_is}, Named.same_function, Next.{wanted, comes_as}}
+use Rattle.sharc_meaning.specs.Laws.{RunLaws}
 
 -- ---- events of a thread
 one_of : (t : ℕ) (e : SourceEvent) → e.thread ≡ t → events_of t (e ∷ []) ≡ e ∷ []
@@ -61,8 +51,8 @@ module _ (m : Assignment) (R : History) (t : ℕ) (come : Asked) (h : StandsAt m
   module _ (ask : AskLaws) (laws : RunLaws) (run : SourceRun m R) (site : Site) (act : Act) (a : Access) (wanted_is : come.outcome ≡ wants (event_of site act (pos 0))) (is : access_by act ≡ Some a) where
     -- what a Read or a Take finds, and what a Write answers
     abbrev found : Act → ℤ
-    found (acts.Read c mode) = value_after m.typed R c
-    found (acts.Take (taken.Cell c mode) kind) = value_after m.typed R c
+    found (Act.Read c mode) = value_after m.typed R c
+    found (Act.Take (Taken.Cell c mode) kind) = value_after m.typed R c
     found _ = pos 0
 
     abbrev event : SourceEvent
@@ -72,15 +62,15 @@ module _ (m : Assignment) (R : History) (t : ℕ) (come : Asked) (h : StandsAt m
     may_come = by_act act is
       where
         by_act : (b : Act) → access_by b ≡ Some a → MayCome m.typed R (record { thread = t; site = site; answer = found b; act = act }) b
-        by_act (acts.Read c mode) e = refl
-        by_act (acts.Write c mode v) e = tt
-        by_act (acts.Take (taken.Cell c mode) kind) e = refl
+        by_act (Act.Read c mode) e = refl
+        by_act (Act.Write c mode v) e = tt
+        by_act (Act.Take (Taken.Cell c mode) kind) e = refl
         by_act _ e = cc
 
     answers_it : (b : Act) → access_by b ≡ Some a → (answer : ℤ) → IsAnswer b (found b) answer → answer ≡ found b
-    answers_it (acts.Read c mode) e answer q = q
-    answers_it (acts.Write c mode v) e answer q = q
-    answers_it (acts.Take (taken.Cell c mode) kind) e answer q = q
+    answers_it (Act.Read c mode) e answer q = q
+    answers_it (Act.Write c mode v) e answer q = q
+    answers_it (Act.Take (Taken.Cell c mode) kind) e answer q = q
     answers_it _ e answer q = cc
 
     next : Next m R event
@@ -125,7 +115,7 @@ pub record IsNextBy (come : Asked) (e : SourceEvent) : Type 0 where
   pub same : IsSameAsked e event
 
 module _ (ask : AskLaws) (m : Assignment) (names : NameThemselves m.typed) (R : History) (t : ℕ) (come : Asked) (h : StandsAt m R t come) (known : come.outcome ≢ spent) (e : SourceEvent) (mine : e.thread ≡ t) where
-  started_eq : (v w : ℤ) → acts.Started v ≡ acts.Started w → v ≡ w
+  started_eq : (v w : ℤ) → Act.Started v ≡ Act.Started w → v ≡ w
   started_eq v w q = cc
 
   head_eq : (a b : SourceEvent) (xs ys : List SourceEvent) → a ∷ xs ≡ b ∷ ys → a ≡ b

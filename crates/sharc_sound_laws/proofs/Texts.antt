@@ -1,13 +1,7 @@
 -- Codes that are alike report a run in the same words.
-use Rattle.std.proofs.Common.{◌≡◌, ℕ, ◌-◌, cond, List, [], ◌++◌, codes, decimal, slice_index, flat_map, get_or, Option, Some, None, refl, ap, ◌∙◌}
-use Rattle.sharc_tree.specs.Traps.{trap_number}
-use Rattle.sharc_heap.specs.declared.shadow_word.Kind.{Kind}
-use Rattle.sharc_code.specs.{declared.code.Code.Code, declared.code.Use.Use, declared.state.Stop.Stop, declared.state.Stop.TheVariants.{Conflict, NoLock, NotSole, Trap}, declared.state.Wait.Wait, declared.state.Wait.TheVariants.{Mutex, Join, Cond}, Says.place_at, Waits.is_held_up}
-use Rattle.sharc_cpu.specs.Thread.{ThreadView}
-use Rattle.sharc_run.specs.{declared.other.NotedCheck.NotedCheck, Others.{number_of, other_access}, Places.{lock_path, at_site, lvalue_at}, RunText.{of_kind, access_text, code_of, other_text, of_use, of_taking, trap_words, stop_text, wait_text, made_text, unstopped_text, why_text, is_gone, thread_line, print_line, IsRunText}}
-use Rattle.sharc_sound_laws.specs.Alike.{AreAlike}
-use Rattle.sharc_sound_laws.proofs.Lists.{ap2}
-use Rattle.sharc_lemmas.proofs.Lists.{flat_same}
+use Rattle.sharc_sound_laws.proofs.{Imports.{◌≡◌, ℕ, ◌-◌, cond, List, [], ◌++◌, codes, decimal, slice_index, flat_map, get_or, Option, Some, None, refl, ap, ◌∙◌, trap_number, Kind, Code, Use, Stop, Conflict, NoLock, NotSole, Trap, Wait, Mutex, Cond, place_at, is_held_up, ThreadView, NotedCheck, number_of, other_access, lock_path, at_site, lvalue_at, access_text, code_of, other_text, of_use, of_taking, trap_words, stop_text, wait_text, made_text, unstopped_text, why_text, thread_line, print_line, IsRunText, AreAlike, flat_same}, Lists.ap2}
+use Rattle.sharc_code.specs.declared.state.Wait.TheVariants.{Join}
+use Rattle.sharc_run.specs.RunText.{of_kind, is_gone}
 
 module _ (a b : Code) (alike : AreAlike a b) where
   -- ---- sites

@@ -1,8 +1,6 @@
 -- Runs of threads that do the same: whole runs, and where they are.
-use Rattle.std.proofs.Common.{◌≡◌, ℕ, ◌+◌, ◌≤◌, ◌||◌, cond, List, [], ◌∷◌, nat_eq, refl, sym, ap, ◌∙◌, subst}
-use Rattle.sharc_word.specs.Words.{words_after}
-use Rattle.sharc_code.specs.Runs.{OneThread, Bounds, Turn, result_of, word_events, turns_of, put, state_after, IsNext, IsPath, made_in, Global, is_started, opening_of, was_started, CheckedRunOf, words_now, state_now, made_now, after_turn, at}
-use Rattle.sharc_sound_laws.proofs.Lists.{ap2}
+use Rattle.sharc_sound_laws.proofs.{Imports.{◌≡◌, ℕ, ◌+◌, ◌≤◌, ◌||◌, cond, List, [], ◌∷◌, nat_eq, refl, sym, ap, ◌∙◌, subst, words_after, OneThread, Bounds, Turn, result_of, word_events, turns_of, put, state_after, IsNext, Global, is_started, opening_of, was_started, CheckedRunOf, words_now, state_now, made_now, after_turn, at}, Lists.ap2}
+use Rattle.sharc_code.specs.Runs.{IsPath, made_in}
 
 -- both threads begin at the same states, and do the same in each
 pub record DoTheSame {S E : Type 0} (m n : OneThread S E) : Type 0 where

@@ -1,12 +1,7 @@
 -- The turns of one machine by codes that are alike, and its path.
-use Rattle.std.proofs.Common.{◌≡◌, ℕ, ◌*◌, ◌+◌, ◌-◌, ◌/◌, ◌%◌, ◌&&◌, ◌==◌, not, pos, max, true, cond, List, [], ◌∷◌, length, get_or, replicate, nat_lt, nat_le, slice_index, ℤ, Some, None, refl, sym, ap, ◌∙◌, subst}
-use Rattle.std.specs.List.{range_with_len}
-use Rattle.sharc_tree.specs.declared.trap.Trap.TheVariants as traps
-use Rattle.sharc_word.specs.declared.step.WordOp.TheVariants as ops
-use Rattle.sharc_code.specs.{declared.code.Code.Code, declared.code.Function.Function, declared.code.Layout.Layout, declared.instr.Instr.Instr, declared.instr.Instr.TheVariants.{Return, Free, Start, Exit}, declared.shape.Shape.Shape, declared.state.Stage.Stage, declared.state.Stage.TheVariants.{Rests, Empties, Enters}, declared.state.TurnState.TheVariants.Runs, declared.state.TheConstants.FRAMES, Layout.{granules, function_at, words_of, cell_word, cell_of, function_word, top_word, next_thread_word, state_word}, Machine.{Machine, Turn, act, instr_at, step_of, returned, goes_to, holds_none, trapped, back_to, no_frame, free, pointer_cell, fields, field_of, layout_at, no_layout, ref, start, entered, called, with_parameter, function_of, no_function, at_stage}, Opening.{first_global, first_heap, opening_words, opens_with}, Path.{most_ints, most_refs, begun, turn, after, asked_by, may_go, counted, machine_after, IsPath, CodePath, made_in}, Waits.{asks_for, wait_of}}
-use Rattle.sharc_heap.specs.Notes.{blank}
-use Rattle.sharc_sound_laws.specs.Alike.{unnamed, AreAlike}
-use Rattle.sharc_sound_laws.proofs.Lists.{ap2, map_same, length_of, element_of, fold_same}
+use Rattle.sharc_sound_laws.proofs.{Imports.{◌≡◌, ℕ, ◌*◌, ◌+◌, ◌-◌, ◌/◌, ◌%◌, ◌&&◌, ◌==◌, not, pos, max, true, cond, List, [], ◌∷◌, length, get_or, replicate, nat_lt, nat_le, slice_index, ℤ, Some, None, refl, sym, ap, ◌∙◌, subst, range_with_len, WordOp, Code, Function, Layout, Instr, Return, Free, Start, Exit, Shape, Stage, Rests, Empties, Enters, Runs, FRAMES, granules, words_of, cell_word, cell_of, function_word, top_word, next_thread_word, state_word, Machine, act, instr_at, step_of, returned, goes_to, holds_none, trapped, back_to, no_frame, free, pointer_cell, fields, field_of, layout_at, no_layout, ref, start, entered, called, with_parameter, function_of, no_function, at_stage, first_global, first_heap, opening_words, opens_with, most_ints, most_refs, begun, turn, after, asked_by, may_go, counted, machine_after, IsPath, CodePath, made_in, asks_for, wait_of, blank, unnamed, AreAlike}, Lists.{ap2, map_same, length_of, element_of, fold_same}}
+use Rattle.sharc_tree.specs.declared.trap.Trap.{Trap}
+use Rattle.sharc_code.specs.{Layout.function_at, Machine.Turn}
 
 -- one turn asks for what the other asks for, and leads where that leads
 pub record IsSameTurn (t u : Turn) : Type 0 where
@@ -29,13 +24,13 @@ module _ (a b : Code) (alike : AreAlike a b) where
   module _ (s : Shape) where
     returned_same : (m : Machine) (site : ℕ) → returned a m site ≡ returned b m site
     returned_same m site = ap (λ (is : List Instr). cond (m.at.depth == 0) (goes_to m (length is))
-        (cond (m.at.depth == 1 && not (holds_none m.own.held)) (trapped m traps.ReturnWithLockHeld site) (back_to m (m.at.depth - 1) (get_or m.frames (m.at.depth - 1) no_frame)))) alike.instrs
+        (cond (m.at.depth == 1 && not (holds_none m.own.held)) (trapped m Trap.ReturnWithLockHeld site) (back_to m (m.at.depth - 1) (get_or m.frames (m.at.depth - 1) no_frame)))) alike.instrs
 
     pointer_same : (l : Layout) (i : ℕ) → pointer_cell a l i ≡ pointer_cell b l i
     pointer_same l i = ap (λ (ps : List ℕ). field_of (i / fields l) l.cells (slice_index ps (l.from + i % fields l))) alike.pointers
 
     free_same : (m : Machine) (r : ℕ) (l : Layout) (stage : Stage) → IsSameTurn (free a s m r l stage) (free b s m r l stage)
-    free_same m r l (Empties i elements) = record { asked = ap (λ n. Some (step_of (cell_word s (cell_of (ref m r) n)) (ops.Swap 0))) (pointer_same l i); leads = λ found. refl }
+    free_same m r l (Empties i elements) = record { asked = ap (λ n. Some (step_of (cell_word s (cell_of (ref m r) n)) (WordOp.Swap 0))) (pointer_same l i); leads = λ found. refl }
     free_same m r l stage = itself (free a s m r l stage)
 
     entered_same : (m : Machine) (n site argument : ℕ) → entered a m n site argument ≡ entered b m n site argument

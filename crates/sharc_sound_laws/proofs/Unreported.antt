@@ -1,17 +1,6 @@
 -- With an access that was refused a source run goes on, and obeys no more.
-use Rattle.std.proofs.Common.{◌≡◌, ◌≢◌, ℕ, ◌+◌, ◌⊎◌, inl, inr, ⊎_elim, Bool, true, false, List, [], ◌∷◌, ◌++◌, Some, None, refl, sym, ap, ◌∙◌, subst, append_assoc}
-use Rattle.sharc_tree.specs.{declared.event.Act.Act, declared.event.CellAt.CellAt, declared.event.SourceEvent.SourceEvent}
-use Rattle.sharc_tree.specs.declared.event.Act.TheVariants as acts
-use Rattle.sharc_tree.specs.declared.event.CellMode.TheVariants as modes
-use Rattle.sharc_tree.specs.declared.event.Taken.TheVariants as taken
-use Rattle.sharc_mode.specs.Moded.{Assignment}
-use Rattle.sharc_meaning.specs.{Events.{Access, access_by, events_of, holds_mutex}, Laws.{AskLaws, RunLaws}, Meaning.Asked, Obeys.{AlwaysObeys, History, Obeys, until_gone}, Runs.SourceRun, State.{Outcome, wants, ended, stopped}}
-use Rattle.sharc_code.specs.{declared.code.Code.Code, declared.code.PlaceMode.PlaceMode, declared.code.PlaceMode.TheVariants.Dynamic, declared.instr.Cell.Cell, declared.instr.Instr.Instr, declared.instr.Instr.TheVariants.{Start, ChkRead, ChkWrite, ChkLock, ChkLockLoaded, Load, Store, LoadRef, Exchange, TakeCell}, declared.shape.Shape.Shape, declared.state.TurnState.TurnState, declared.state.TurnState.TheVariants.{Stopped, Ended}, declared.state.Stop.TheVariants.NoLock, Machine.{Machine, instr_at}, Path.may_go, Runs.Turn, Says.{cell_at, mode_of, place_at}, Whole.place_after}
-use Rattle.sharc_guard.specs.Counted.{IsUnder}
-use Rattle.sharc_history_laws.specs.{Causes.{BreaksRules, GoesOn, WasMade, IsNextOf}, Conflicts.site_of_check, Followed.{Accesses, ChecksAreFollowed, IsFollowed, access_of, access_to}, History.history_of, Reports.{IsLockCheck, LacksLock}}
-use Rattle.sharc_wants_laws.specs.Wants.{IsNotThere, WantsAccess, WantsBy, StopsOrWantsUnder, access_tested}
-use Rattle.sharc_sound_laws.specs.Standing.{IsPlaced, StandsAt}
-use Rattle.sharc_sound_laws.proofs.Standing.{grows, stays}
+use Rattle.sharc_sound_laws.proofs.{Imports.{◌≡◌, ◌≢◌, ℕ, ◌+◌, ◌⊎◌, inl, inr, ⊎_elim, Bool, true, false, List, [], ◌∷◌, ◌++◌, Some, None, refl, sym, ap, ◌∙◌, subst, append_assoc, Act, CellAt, SourceEvent, CellMode, Taken, Assignment, Access, access_by, events_of, holds_mutex, AskLaws, Asked, AlwaysObeys, History, Obeys, until_gone, SourceRun, Outcome, wants, ended, stopped, Code, PlaceMode, Dynamic, Cell, Instr, Start, ChkRead, ChkWrite, ChkLock, ChkLockLoaded, Load, Store, LoadRef, Exchange, TakeCell, Shape, TurnState, Stopped, Ended, NoLock, Machine, instr_at, may_go, Turn, cell_at, mode_of, place_at, place_after, IsUnder, BreaksRules, GoesOn, WasMade, IsNextOf, site_of_check, Accesses, ChecksAreFollowed, IsFollowed, access_of, access_to, history_of, IsLockCheck, LacksLock, IsNotThere, WantsAccess, WantsBy, StopsOrWantsUnder, access_tested, IsPlaced, StandsAt}, Standing.{grows, stays}}
+use Rattle.sharc_meaning.specs.Laws.{RunLaws}
 
 -- ---- what an instruction is about
 -- the access that it makes
@@ -52,10 +41,10 @@ no_both code at b site (ChkRead c n) e q = cc
 no_both code at b site _ e q = cc
 
 -- an access under a mutex
-under : (mutex : CellAt) (act : Act) → IsUnder mutex act → (a : Access) × (access_by act ≡ Some a) × (a.mode ≡ modes.Locked (Some mutex))
-under mutex (acts.Read c mode) h = (record { cell = c; mode = mode; is_write = false }, refl, h)
-under mutex (acts.Write c mode v) h = (record { cell = c; mode = mode; is_write = true }, refl, h)
-under mutex (acts.Take (taken.Cell c mode) kind) h = (record { cell = c; mode = mode; is_write = true }, refl, h)
+under : (mutex : CellAt) (act : Act) → IsUnder mutex act → (a : Access) × (access_by act ≡ Some a) × (a.mode ≡ CellMode.Locked (Some mutex))
+under mutex (Act.Read c mode) h = (record { cell = c; mode = mode; is_write = false }, refl, h)
+under mutex (Act.Write c mode v) h = (record { cell = c; mode = mode; is_write = true }, refl, h)
+under mutex (Act.Take (Taken.Cell c mode) kind) h = (record { cell = c; mode = mode; is_write = true }, refl, h)
 under mutex _ h = absurd h
 
 -- a check of a lock has not ended

@@ -1,14 +1,6 @@
 -- What holds of the numbers and characters among the words of a program holds of those after a part of it; so no number at which a global begins has a sign.
-use Rattle.std.proofs.Common.{◌≡◌, ℕ, pos, zero, suc, ◌+◌, Bool, true, false, List, [], ◌∷◌, Option, Some, None, subst}
-use Rattle.std.specs.Prelude.{slice_get}
-use Rattle.sharc_tree.specs.{declared.token.Number.Number, declared.token.Site.Site, declared.token.Span.Span, declared.ctype.Base.Base, declared.tree.expression.Constant.Constant, declared.tree.item.GlobalDefinition.GlobalDefinition, declared.tree.item.GlobalForm.GlobalForm, declared.tree.item.GlobalForm.TheVariants.Initial}
-use Rattle.sharc_tree.specs.declared.ctype.Base.TheVariants as base
-use Rattle.sharc_tree.specs.declared.tree.expression.Constant.TheVariants as constants
-use Rattle.sharc_tree.specs.declared.tree.expression.PlaceCall.TheVariants as place_call
-use Rattle.sharc_tree.specs.declared.tree.expression.ValueCall.TheVariants as value_call
-use Rattle.sharc_ctype.specs.Resolved.{globals_in}
-use Rattle.sharc_parse.specs.{Grammar.{Word, name, keyword, mark, number, character, Sharing, locked, locked_through, Typing, Declaring, sharing_words, level_words, base_words, bottom_words, levels_words, list_words, type_words, declaring_words, Front, parenthesis, of_spawn, of_value, of_place, of_cast, front_words, Phrase, enclosed, call, index, field, unary, binary, Phrases, none, more, operator_mark, access_mark, constant_word, words, words_of_all, words_of_rest, Value, value, malloc, Doing, assign, invoke, Line, nothing, does, declares, Loop, Sentence, line, jump, return, block, under, Sentences, no_more, sentence, Opening, if_of, else_of, while_of, for_of, option_words, count_words, value_words, doing_words, initial_words, line_words, step_words, loop_words, written, written_all, opening_words, Form, single, array, initially, Part, structure, global, function, sign_words, form_words, fields_words, further_words, parameters_words, part_words, program_words}, Places.{declaring_size, part_size, span_at, form_at, items_at}}
-use Rattle.sharc_source_laws.specs.Constants.{IsHeld}
+use Rattle.sharc_source_laws.proofs.Imports.{◌≡◌, ℕ, pos, zero, suc, ◌+◌, Bool, true, false, List, [], ◌∷◌, Option, Some, None, subst, slice_get, Number, Site, Span, Base, Constant, GlobalDefinition, GlobalForm, Initial, PlaceCall, ValueCall, globals_in, Word, name, keyword, mark, number, Sharing, locked, locked_through, Typing, Declaring, sharing_words, level_words, base_words, bottom_words, levels_words, list_words, type_words, declaring_words, Front, parenthesis, of_spawn, of_value, of_place, of_cast, front_words, Phrase, enclosed, call, index, field, unary, binary, Phrases, none, more, operator_mark, access_mark, constant_word, words, words_of_all, words_of_rest, Value, value, malloc, Doing, assign, invoke, Line, nothing, does, declares, Loop, Sentence, line, jump, return, block, under, Sentences, no_more, sentence, Opening, if_of, else_of, while_of, for_of, option_words, count_words, value_words, doing_words, initial_words, line_words, step_words, loop_words, written, written_all, opening_words, Form, single, array, initially, Part, structure, global, function, sign_words, form_words, fields_words, further_words, parameters_words, part_words, program_words, declaring_size, part_size, span_at, form_at, items_at, IsHeld}
+use Rattle.sharc_parse.specs.Grammar.{character}
 
 -- a number has no sign
 abbrev pub IsUnsigned : Number → Type 0
@@ -16,8 +8,8 @@ IsUnsigned k = (n : ℕ) × (k.value ≡ pos n)
 
 -- and the types of numbers and characters hold their values
 abbrev pub IsPlainWord : Word → Type 0
-IsPlainWord (number k) = IsUnsigned k × IsHeld (constants.Number k)
-IsPlainWord (character byte) = IsHeld (constants.Character byte)
+IsPlainWord (number k) = IsUnsigned k × IsHeld (Constant.Number k)
+IsPlainWord (character byte) = IsHeld (Constant.Character byte)
 IsPlainWord _ = Unit {0}
 
 -- so it is of all words
@@ -36,7 +28,7 @@ behind_level None y h = h
 behind_level (Some s) y h = behind_sharing s y h
 
 pub behind_base : (b : Base) (y : List Word) → Plainly (base_words b y) → Plainly y
-behind_base (base.Struct n) y h = h.1.1
+behind_base (Base.Struct n) y h = h.1.1
 behind_base _ y h = h.1
 
 pub behind_bottom : (first : Bool) (b : Base) (m : Option Sharing) (y : List Word) → Plainly (bottom_words first b m y) → Plainly y
@@ -61,9 +53,9 @@ behind_declaring d y h = (behind_type d.typing (name d.named ∷ y) h).1
 pub behind_front : (f : Front) (y : List Word) → Plainly (front_words f y) → Plainly y
 behind_front parenthesis y h = h.1
 behind_front (of_spawn f) y h = h.1.1.1.1
-behind_front (of_value value_call.Join) y h = h.1.1
-behind_front (of_place place_call.Lock) y h = h.1.1.1
-behind_front (of_place place_call.Unlock) y h = h.1.1.1
+behind_front (of_value ValueCall.Join) y h = h.1.1
+behind_front (of_place PlaceCall.Lock) y h = h.1.1.1
+behind_front (of_place PlaceCall.Unlock) y h = h.1.1.1
 behind_front (of_cast t) y h = (behind_type t (mark _ ∷ y) h.1.1).1
 behind_front _ y h = h.1.1
 
@@ -170,11 +162,11 @@ behind_part (function f) y h =
 
 -- ---- where globals begin
 abbrev Begins : GlobalForm → Type 0
-Begins (Initial span minus (constants.Number k)) = IsUnsigned k
+Begins (Initial span minus (Constant.Number k)) = IsUnsigned k
 Begins _ = Unit {0}
 
 constant_begins : (c : Constant) (span : Span) (minus : Bool) → IsPlainWord (constant_word c) → Begins (Initial span minus c)
-constant_begins (constants.Number k) span minus h = h.0
+constant_begins (Constant.Number k) span minus h = h.0
 constant_begins _ span minus h = tt
 
 form_begins : (s : ℕ → Site) (n : ℕ) (f : Form) (y : List Word) → Plainly (form_words f y) → Begins (form_at s n f)
@@ -197,5 +189,5 @@ globals_begin s (global d form ∷ rest) n h =
     let first = form_begins s (n + declaring_size d) form (mark _ ∷ program_words rest []) (behind_declaring d (form_words form (mark _ ∷ program_words rest [])) h) in
     one_more _ (globals_in (items_at s (n + part_size (global d form)) rest)) first (globals_begin s rest (n + part_size (global d form)) (behind_part (global d form) (program_words rest []) h))
 
-pub begins_unsigned : (f : GlobalForm) → Begins f → (span : Span) (minus : Bool) (k : Number) → f ≡ Initial span minus (constants.Number k) → IsUnsigned k
+pub begins_unsigned : (f : GlobalForm) → Begins f → (span : Span) (minus : Bool) (k : Number) → f ≡ Initial span minus (Constant.Number k) → IsUnsigned k
 begins_unsigned f h span minus k e = subst Begins e h

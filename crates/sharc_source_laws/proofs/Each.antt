@@ -1,10 +1,6 @@
 -- What is so of the constants of a function, by recursion over the tree, is so of each constant among its expressions.
-use Rattle.std.proofs.Common.{◌≡◌, ℕ, zero, suc, ◌<◌, List, [], ◌∷◌, ◌++◌, length, slice_index_or, slice_get, ap, subst, arith, Option, Some, None}
-use Rattle.std.specs.List.{AllByRecursion}
-use Rattle.sharc_tree.specs.{Measures.{expressions, in_arguments, in_option, in_right, in_simple, in_first, in_head, in_statement, in_statements, in_function}, Tree.{Expression, identifier, constant, parentheses, call, spawn, on_value, on_place, cast, index, field, unary, binary, Arguments, no_arguments, argument, Right, value, malloc, Simple, assign, does_call, First, nothing, declares, does, Head, Statement, block, declare, simple, return, if_then, if_then_else, while, for, Statements, no_statements, statement}}
-use Rattle.sharc_ctype.specs.Resolved.{functions_in}
-use Rattle.sharc_source_laws.specs.Constants.{IsHeld, HeldIn, HeldInAll, HeldInOption, HeldInRight, HeldInSimple, HeldInInitial, HeldInFirst, HeldInStep, HeldInHead, HeldInStatement, HeldInStatements, ConstantsAreHeld, EachConstantIsHeld}
-use Rattle.sharc_lemmas.proofs.Lists.{both}
+use Rattle.sharc_source_laws.proofs.Imports.{◌≡◌, ℕ, zero, suc, ◌<◌, List, [], ◌∷◌, ◌++◌, length, slice_index_or, slice_get, ap, subst, arith, Option, Some, None, AllByRecursion, expressions, in_arguments, in_option, in_right, in_simple, in_first, in_head, in_statement, in_statements, in_function, Expression, parentheses, spawn, on_value, on_place, cast, Arguments, no_arguments, argument, Right, Simple, does_call, First, Head, Statement, declare, simple, if_then, if_then_else, while, for, Statements, no_statements, statement, functions_in, IsHeld, HeldIn, HeldInAll, HeldInOption, HeldInRight, HeldInSimple, HeldInInitial, HeldInFirst, HeldInStep, HeldInHead, HeldInStatement, HeldInStatements, ConstantsAreHeld, EachConstantIsHeld, both}
+use Rattle.sharc_tree.specs.Tree.{identifier, constant, call, index, field, unary, binary, value, malloc, assign, nothing, declares, does, block, return}
 
 -- ---- lists
 there : {A : Type 0} (P : A → Type 0) (list : List A) (x : A) (k : ℕ) → AllByRecursion P list → k < length list → slice_index_or list k x ≡ x → P x

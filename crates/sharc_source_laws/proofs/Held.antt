@@ -1,18 +1,11 @@
 -- Where the types of numbers and characters among the words of a program hold their values, so do those of the constants in its functions.
-use Rattle.std.proofs.Common.{◌≡◌, ℕ, zero, suc, ◌+◌, List, [], ◌∷◌, Option, Some, None, subst}
-use Rattle.std.specs.Prelude.{slice_get}
-use Rattle.sharc_tree.specs.{declared.token.Site.Site, declared.token.Span.Span, declared.tree.expression.Constant.Constant, Tree.Function}
-use Rattle.sharc_tree.specs.declared.tree.expression.Constant.TheVariants as constants
+use Rattle.sharc_source_laws.proofs.{Imports.{◌≡◌, ℕ, zero, suc, ◌+◌, List, [], ◌∷◌, Option, Some, None, subst, slice_get, Site, Span, Constant, Function, functions_in, Word, name, keyword, mark, Front, of_cast, Phrase, identifier, constant, enclosed, call, index, field, unary, binary, Phrases, none, more, operator_mark, access_mark, constant_word, words, words_of_all, words_of_rest, Value, value, malloc, Doing, assign, invoke, Declared, Line, nothing, does, declares, Loop, Sentence, line, jump, return, block, under, Sentences, no_more, sentence, Opening, if_of, else_of, while_of, for_of, option_words, count_words, value_words, doing_words, initial_words, line_words, step_words, loop_words, written, written_all, opening_words, Part, structure, global, function, Callable, parameters_words, part_words, program_words, type_words, size, front_size, declaring_size, line_size, option_size, opening_size, sentence_size, part_size, front_at, expression_at, arguments_at, option_at, value_at, doing_at, initial_at, local_at, first_at, step_at, head_at, line_at, statement_at, statements_at, function_at, items_at, IsHeld, HeldIn, HeldInAll, HeldInOption, HeldInRight, HeldInSimple, HeldInInitial, HeldInFirst, HeldInStep, HeldInHead, HeldInStatement, HeldInStatements}, Behind.{IsPlainWord, Plainly, behind_front, behind_words, behind_option, behind_line, behind_loop, behind_written, behind_declaring, behind_type, behind_parameters, behind_part}}
 use Rattle.sharc_tree.specs.Tree as tree
-use Rattle.sharc_ctype.specs.Resolved.{functions_in}
-use Rattle.sharc_parse.specs.{Grammar.{Word, name, keyword, mark, Front, of_cast, Phrase, identifier, constant, enclosed, call, index, field, unary, binary, Phrases, none, more, operator_mark, access_mark, constant_word, words, words_of_all, words_of_rest, Value, value, malloc, Doing, assign, invoke, Declared, Line, nothing, does, declares, Loop, Sentence, line, jump, return, block, under, Sentences, no_more, sentence, Opening, if_of, else_of, while_of, for_of, option_words, count_words, value_words, doing_words, initial_words, line_words, step_words, loop_words, written, written_all, opening_words, Part, structure, global, function, Callable, parameters_words, part_words, program_words, type_words}, Places.{size, front_size, declaring_size, line_size, option_size, opening_size, sentence_size, part_size, front_at, expression_at, arguments_at, option_at, value_at, doing_at, initial_at, local_at, first_at, step_at, head_at, line_at, statement_at, statements_at, function_at, items_at}}
-use Rattle.sharc_source_laws.specs.Constants.{IsHeld, HeldIn, HeldInAll, HeldInOption, HeldInRight, HeldInSimple, HeldInInitial, HeldInFirst, HeldInStep, HeldInHead, HeldInStatement, HeldInStatements}
-use Rattle.sharc_source_laws.proofs.Behind.{IsPlainWord, Plainly, behind_front, behind_words, behind_option, behind_line, behind_loop, behind_written, behind_declaring, behind_type, behind_parameters, behind_part}
 
 constant_held : (c : Constant) → IsPlainWord (constant_word c) → IsHeld c
-constant_held (constants.Number k) h = h.1
-constant_held (constants.Character byte) h = h
-constant_held constants.Null h = λ integer. absurd (cc)
+constant_held (Constant.Number k) h = h.1
+constant_held (Constant.Character byte) h = h
+constant_held Constant.Null h = λ integer. absurd (cc)
 
 module _ (s : ℕ → Site) where
   front_held : (f : Front) (n : ℕ) (span : Span) (a : tree.Expression) → HeldIn a → HeldIn (front_at s n span f a)

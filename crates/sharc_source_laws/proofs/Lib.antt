@@ -1,3 +1,4 @@
+mod Imports
 mod Behind
 mod Each
 mod Held

@@ -1,13 +1,5 @@
 -- A source that holds a line of a schedule, or the first of events, has two `%` in a row among its tokens, and so is no program.
-use Rattle.std.proofs.Common.{◌≡◌, ℕ, ◌+◌, ◌==◌, Bool, true, false, List, [], ◌∷◌, ◌++◌, drop, Option, Some, None, Result, Ok, Err, ok_or, is_ok, codes, refl, sym, ap, ◌∙◌, subst, if◌then◌else◌}
-use Rattle.sharc_tree.specs.{declared.token.FaultAt.FaultAt, declared.token.Token.Token, declared.token.Tokens.Tokens}
-use Rattle.sharc_lex.specs.{declared.fault.TokenFault.TokenFault, declared.fault.LineFault.LineFault, declared.fault.SourceLine.SourceLine, Grammar.{◌>>=◌, in_front, lines_of, token, tokens_of, behind_tokens, Read, opening, marked, with_tokens, marker_line, text_line, line_read, with_place, lines_read, tokens_read, reading}, Markers.is_marker_line}
-use Rattle.sharc_tree.specs.declared.token.TokenKind.TheVariants as kind
-use Rattle.sharc_tree.specs.declared.token.Punctuator.TheVariants as sign
-use Rattle.sharc_parse.specs.{Grammar.mark, Places.{word_of, words_of}}
-use Rattle.sharc_schedule.specs.File.{schedule_word}
-use Rattle.sharc_source_laws.specs.Laws.{ProgramsHoldNoEvents, ProgramsHoldNoSchedule}
-use Rattle.sharc_source_laws.proofs.Percents.{Apart, program_apart, apart_before, not_twice}
+use Rattle.sharc_source_laws.proofs.{Imports.{◌≡◌, ℕ, ◌+◌, ◌==◌, Bool, true, false, List, [], ◌∷◌, ◌++◌, drop, Option, Some, None, Result, Ok, Err, ok_or, is_ok, codes, refl, sym, ap, ◌∙◌, subst, if◌then◌else◌, FaultAt, Token, Tokens, TokenFault, LineFault, SourceLine, ◌>>=◌, in_front, lines_of, token, tokens_of, behind_tokens, Read, opening, marked, with_tokens, marker_line, text_line, line_read, with_place, lines_read, tokens_read, reading, is_marker_line, TokenKind, Punctuator, mark, word_of, words_of, schedule_word, ProgramsHoldNoEvents, ProgramsHoldNoSchedule}, Percents.{Apart, program_apart, apart_before, not_twice}}
 
 -- ---- tokens
 abbrev Fine : List Token → Type 0
@@ -20,10 +12,10 @@ words_joined (x ∷ xs) ys = ap (λ l. word_of x ∷ l) (words_joined xs ys)
 fine_before : (xs ys : List Token) → Fine (xs ++ ys) → Fine xs
 fine_before xs ys h = apart_before (words_of xs) (words_of ys) (subst Apart (words_joined xs ys) h)
 
-two_in_a_row : (xs ys : List Token) (a b : Token) → word_of a ≡ mark sign.Percent → word_of b ≡ mark sign.Percent → Fine (xs ++ a ∷ b ∷ ys) → ⊥
+two_in_a_row : (xs ys : List Token) (a b : Token) → word_of a ≡ mark Punctuator.Percent → word_of b ≡ mark Punctuator.Percent → Fine (xs ++ a ∷ b ∷ ys) → ⊥
 two_in_a_row xs ys a b p q h =
     not_twice (words_of xs) (words_of ys)
-    (subst (λ w. Apart (words_of xs ++ mark sign.Percent ∷ w ∷ words_of ys)) q
+    (subst (λ w. Apart (words_of xs ++ mark Punctuator.Percent ∷ w ∷ words_of ys)) q
     (subst (λ w. Apart (words_of xs ++ w ∷ word_of b ∷ words_of ys)) p
     (subst Apart (words_joined xs (a ∷ b ∷ ys)) h)))
 
@@ -70,13 +62,13 @@ abbrev Refuses : {E : Type 0} → Result Read E → Type 0
 Refuses (Ok more) = Fine more.tokens → ⊥
 Refuses (Err e) = Unit {0}
 
-text_refuses : (read : Read) (a b : Token) → word_of a ≡ mark sign.Percent → word_of b ≡ mark sign.Percent → (r : Result (List Token) LineFault)
+text_refuses : (read : Read) (a b : Token) → word_of a ≡ mark Punctuator.Percent → word_of b ≡ mark Punctuator.Percent → (r : Result (List Token) LineFault)
     → Refuses (behind_tokens read.tokens ((r >>= λ tokens. Ok (b ∷ tokens)) >>= λ tokens. Ok (a ∷ tokens)) >>= λ tokens. Ok (with_tokens read tokens))
 text_refuses read a b p q (Ok tokens) = λ h. two_in_a_row read.tokens tokens a b p q h
 text_refuses read a b p q (Err e) = tt
 
 abbrev percent : SourceLine → ℕ → List ℕ → Token
-percent place offset bytes = token place offset bytes (record { len = 1; kind = kind.Punctuator sign.Percent })
+percent place offset bytes = token place offset bytes (record { len = 1; kind = TokenKind.Punctuator Punctuator.Percent })
 
 line_refuses : (read : Read) (offset : ℕ) (tail : List ℕ) → Refuses (line_read read offset (37 ∷ 37 ∷ 115 ∷ tail))
 line_refuses read offset tail =

@@ -1,15 +1,5 @@
 -- No two `%` follow one another in the words of a program.
-use Rattle.std.proofs.Common.{◌≡◌, Bool, true, false, ◌&&◌, List, [], ◌∷◌, ◌++◌, Option, Some, None, refl}
-use Rattle.sharc_tree.specs.{declared.token.Punctuator.TheVariants.{OpenParenthesis, CloseParenthesis, OpenBrace, CloseBrace, OpenBracket, CloseBracket, Semicolon, Comma, Assign, Star, Percent}, declared.ctype.Base.Base, declared.tree.expression.FieldOperator.FieldOperator, declared.tree.expression.BinaryOperator.BinaryOperator, declared.tree.expression.UnaryOperator.UnaryOperator, declared.tree.expression.UnaryOperator.TheVariants.Not, declared.tree.expression.Constant.Constant, declared.tree.statement.Jump.Jump}
-use Rattle.sharc_tree.specs.declared.token.Keyword.TheVariants as key
-use Rattle.sharc_tree.specs.declared.ctype.Base.TheVariants as base
-use Rattle.sharc_tree.specs.declared.tree.expression.FieldOperator.TheVariants as access
-use Rattle.sharc_tree.specs.declared.tree.expression.BinaryOperator.TheVariants as op
-use Rattle.sharc_tree.specs.declared.tree.expression.Constant.TheVariants as constants
-use Rattle.sharc_tree.specs.declared.tree.expression.PlaceCall.TheVariants as place_call
-use Rattle.sharc_tree.specs.declared.tree.expression.ValueCall.TheVariants as value_call
-use Rattle.sharc_tree.specs.declared.tree.statement.Jump.TheVariants as jumps
-use Rattle.sharc_parse.specs.Grammar.{Word, name, keyword, mark, Sharing, locked, locked_through, Typing, Declaring, sharing_words, level_words, base_words, bottom_words, levels_words, list_words, type_words, declaring_words, Front, parenthesis, of_spawn, of_value, of_place, of_cast, front_words, Phrase, identifier, constant, enclosed, call, index, field, unary, binary, Phrases, none, more, operator_mark, unary_mark, access_mark, constant_word, words, words_of_all, words_of_rest, Value, value, malloc, Doing, assign, invoke, Line, nothing, does, declares, Loop, Sentence, line, jump, return, block, under, Sentences, no_more, sentence, Opening, if_of, else_of, while_of, for_of, option_words, count_words, value_words, doing_words, initial_words, line_words, step_words, loop_words, jump_word, written, written_all, opening_words, Form, single, array, initially, Part, structure, global, function, sign_words, form_words, fields_words, further_words, parameters_words, part_words, program_words}
+use Rattle.sharc_source_laws.proofs.Imports.{◌≡◌, Bool, true, false, ◌&&◌, List, [], ◌∷◌, ◌++◌, Option, Some, None, refl, OpenParenthesis, CloseParenthesis, OpenBrace, CloseBrace, OpenBracket, CloseBracket, Semicolon, Comma, Assign, Star, Percent, Base, FieldOperator, BinaryOperator, UnaryOperator, Not, Constant, Jump, Keyword, PlaceCall, ValueCall, Word, name, keyword, mark, Sharing, locked, locked_through, Typing, Declaring, sharing_words, level_words, base_words, bottom_words, levels_words, list_words, type_words, declaring_words, Front, parenthesis, of_spawn, of_value, of_place, of_cast, front_words, Phrase, identifier, constant, enclosed, call, index, field, unary, binary, Phrases, none, more, operator_mark, unary_mark, access_mark, constant_word, words, words_of_all, words_of_rest, Value, value, malloc, Doing, assign, invoke, Line, nothing, does, declares, Loop, Sentence, line, jump, return, block, under, Sentences, no_more, sentence, Opening, if_of, else_of, while_of, for_of, option_words, count_words, value_words, doing_words, initial_words, line_words, step_words, loop_words, jump_word, written, written_all, opening_words, Form, single, array, initially, Part, structure, global, function, sign_words, form_words, fields_words, further_words, parameters_words, part_words, program_words}
 
 abbrev is_percent : Word → Bool
 is_percent (mark Percent) = true
@@ -39,7 +29,7 @@ level_apart None y h = h
 level_apart (Some s) y h = sharing_apart s y h
 
 base_apart : (b : Base) (y : List Word) → Apart y → Apart (base_words b y)
-base_apart (base.Struct n) y h = (refl, (refl, h))
+base_apart (Base.Struct n) y h = (refl, (refl, h))
 base_apart _ y h = (refl, h)
 
 bottom_apart : (first : Bool) (b : Base) (m : Option Sharing) (y : List Word) → Apart y → Apart (bottom_words first b m y)
@@ -64,19 +54,19 @@ declaring_apart d y h = type_apart d.typing (name d.named ∷ y) (refl, h)
 front_clear : (f : Front) (y : List Word) → Apart y → Clear (front_words f y)
 front_clear parenthesis y h = (refl, (refl, h))
 front_clear (of_spawn f) y h = (refl, (refl, (refl, (refl, (refl, h)))))
-front_clear (of_value value_call.Join) y h = (refl, (refl, (refl, h)))
-front_clear (of_place place_call.Lock) y h = (refl, (refl, (refl, (refl, h))))
-front_clear (of_place place_call.Unlock) y h = (refl, (refl, (refl, (refl, h))))
+front_clear (of_value ValueCall.Join) y h = (refl, (refl, (refl, h)))
+front_clear (of_place PlaceCall.Lock) y h = (refl, (refl, (refl, (refl, h))))
+front_clear (of_place PlaceCall.Unlock) y h = (refl, (refl, (refl, (refl, h))))
 front_clear (of_cast t) y h = (refl, (refl, (refl, type_apart t (mark Comma ∷ y) (refl, h))))
 front_clear _ y h = (refl, (refl, (refl, h)))
 
 constant_clear : (c : Constant) (y : List Word) → Apart y → Clear (constant_word c ∷ y)
-constant_clear (constants.Number n) y h = (refl, (refl, h))
+constant_clear (Constant.Number n) y h = (refl, (refl, h))
 constant_clear _ y h = (refl, (refl, h))
 
 access_apart : (w : FieldOperator) (y : List Word) → Apart y → Apart (mark (access_mark w) ∷ y)
-access_apart access.Dot y h = (refl, h)
-access_apart access.Arrow y h = (refl, h)
+access_apart FieldOperator.Dot y h = (refl, h)
+access_apart FieldOperator.Arrow y h = (refl, h)
 
 unary_clear : (o : UnaryOperator) (y : List Word) → Apart y → Clear (mark (unary_mark o) ∷ y)
 unary_clear Not y h = (refl, (refl, h))
@@ -84,7 +74,7 @@ unary_clear _ y h = (refl, (refl, h))
 
 -- an operand does not begin with `%`
 operator_apart : (o : BinaryOperator) (y : List Word) → Clear y → Apart (mark (operator_mark o) ∷ y)
-operator_apart op.Remainder y h = h
+operator_apart BinaryOperator.Remainder y h = h
 operator_apart _ y h = (refl, h.1)
 
 mutual
@@ -122,7 +112,7 @@ value_apart : (v : Value) (y : List Word) → Apart y → Apart (value_words v y
 value_apart (value e) y h = words_apart e y h
 value_apart (malloc n t) y h =
     let ends = type_apart t (mark CloseParenthesis ∷ (mark CloseParenthesis ∷ y)) (refl, (refl, h)) in
-    (refl, (refl, count_apart n (keyword key.Sizeof ∷ (mark OpenParenthesis ∷ type_words t (mark CloseParenthesis ∷ (mark CloseParenthesis ∷ y)))) (refl, (refl, ends))))
+    (refl, (refl, count_apart n (keyword Keyword.Sizeof ∷ (mark OpenParenthesis ∷ type_words t (mark CloseParenthesis ∷ (mark CloseParenthesis ∷ y)))) (refl, (refl, ends))))
 
 doing_apart : (d : Doing) (y : List Word) → Apart y → Apart (doing_words d y)
 doing_apart (assign u r) y h = words_apart u (mark Assign ∷ value_words r y) (refl, value_apart r y h)
@@ -148,8 +138,8 @@ loop_apart l y h =
     (refl, (refl, line_apart l.first (option_words l.test (mark Semicolon ∷ step_words l.step (mark CloseParenthesis ∷ y))) test))
 
 jump_apart : (j : Jump) (y : List Word) → Apart y → Apart (jump_word j ∷ y)
-jump_apart jumps.Break y h = (refl, h)
-jump_apart jumps.Continue y h = (refl, h)
+jump_apart Jump.Break y h = (refl, h)
+jump_apart Jump.Continue y h = (refl, h)
 
 mutual
   written_apart : (s : Sentence) (y : List Word) → Apart y → Apart (written s y)
@@ -166,7 +156,7 @@ mutual
   opening_apart : (w : Opening) (y : List Word) → Apart y → Apart (opening_words w y)
   opening_apart (if_of e) y h = (refl, (refl, words_apart e (mark CloseParenthesis ∷ y) (refl, h)))
   opening_apart (else_of e s) y h =
-      (refl, (refl, words_apart e (mark CloseParenthesis ∷ written s (keyword key.Else ∷ y)) (refl, written_apart s (keyword key.Else ∷ y) (refl, h))))
+      (refl, (refl, words_apart e (mark CloseParenthesis ∷ written s (keyword Keyword.Else ∷ y)) (refl, written_apart s (keyword Keyword.Else ∷ y) (refl, h))))
   opening_apart (while_of e) y h = (refl, (refl, words_apart e (mark CloseParenthesis ∷ y) (refl, h)))
   opening_apart (for_of l) y h = loop_apart l y h
 

@@ -1,15 +1,6 @@
 -- No number in a token has a sign, and its type holds it, as that of a character does.
-use Rattle.std.proofs.{Common.{◌≡◌, ℕ, pos, zero, suc, ◌+◌, ◌-◌, ◌==◌, Bool, true, false, List, [], ◌∷◌, ◌++◌, take, drop, Option, Some, None, Result, Ok, Err, ok_or, refl, sym, subst, arith, if◌then◌else◌}, lemmas.Bool.Decides.nat_tests}
-use Rattle.std.specs.{Prelude.{option_map, slice_get, nat_le, nat_lt, ◌^◌, unwrap_or, length, nat_eq, ◌||◌, ◌&&◌, not, ◌<◌}, Str.bytes_eq, List.{starts_with, prefix_len}}
-use Rattle.sharc_ctype.specs.Resolved.{globals_in, functions_in}
-use Rattle.sharc_tree.specs.{declared.token.FaultAt.FaultAt, declared.token.NumberType.TheVariants.{Int, Long}, declared.token.Token.Token, declared.token.Tokens.Tokens, declared.token.TokenKind.TokenKind}
-use Rattle.sharc_tree.specs.declared.tree.expression.Constant.TheVariants as constants
-use Rattle.sharc_tree.specs.declared.token.TokenKind.TheVariants as kind
-use Rattle.sharc_lex.specs.{declared.fault.TokenFault.TokenFault, declared.fault.LineFault.LineFault, declared.fault.SourceLine.SourceLine, declared.token_at.Lexeme.Lexeme, Bytes.{is_blank, is_printable, is_letter, is_digit, is_white_space, is_word_byte}, Characters.{character, constant, escaped, behind_backslash, plain}, Grammar.{◌>>=◌, at_offset, lines_of, token, tokens_of, behind_tokens, Read, opening, marked, with_tokens, marker_line, text_line, line_read, with_place, lines_read, tokens_read, reading}, Markers.{is_marker_line, marker}, Numbers.{value, without_suffix, has_suffix, typed, small_value}, Punctuators.{first_begun, punctuators, punctuator}, TokenAt.{of_len, word_at, number_at, token_at}, Words.{entry_at, keywords, word}}
-use Rattle.sharc_lex.specs.declared.fault.TokenFault.TheVariants as fault
-use Rattle.sharc_parse.specs.Places.{kind_word, words_of, site_in}
-use Rattle.sharc_source_laws.specs.{Constants.{IsHeld, ConstantsAreHeld}, Laws.NumbersHaveNoSign}
-use Rattle.sharc_source_laws.proofs.{Held.functions_held, Behind.{IsPlainWord, Plainly, globals_begin, begins_unsigned}}
+use Rattle.sharc_source_laws.proofs.{Imports.{◌≡◌, ℕ, pos, zero, suc, ◌+◌, ◌-◌, ◌==◌, Bool, true, false, List, [], ◌∷◌, ◌++◌, take, drop, Option, Some, None, Result, Ok, Err, ok_or, refl, sym, subst, arith, if◌then◌else◌, nat_tests, option_map, slice_get, nat_le, nat_lt, ◌^◌, unwrap_or, length, nat_eq, ◌||◌, ◌&&◌, not, ◌<◌, bytes_eq, starts_with, prefix_len, globals_in, functions_in, FaultAt, Int, Long, Token, Tokens, TokenKind, Constant, TokenFault, LineFault, SourceLine, Lexeme, is_blank, is_printable, is_letter, is_digit, is_white_space, is_word_byte, character, escaped, behind_backslash, plain, ◌>>=◌, at_offset, lines_of, token, tokens_of, behind_tokens, Read, opening, marked, with_tokens, marker_line, text_line, line_read, with_place, lines_read, tokens_read, reading, is_marker_line, marker, without_suffix, has_suffix, typed, small_value, first_begun, punctuators, punctuator, of_len, word_at, number_at, token_at, entry_at, keywords, word, kind_word, words_of, site_in, IsHeld, ConstantsAreHeld, NumbersHaveNoSign}, Held.functions_held, Behind.{IsPlainWord, Plainly, globals_begin, begins_unsigned}}
+use Rattle.sharc_lex.specs.{Characters.constant, Numbers.value}
 
 -- ---- one token
 abbrev IsPlainKind : TokenKind → Type 0
@@ -45,8 +36,8 @@ begun_plain (x ∷ xs) bytes e h = either (starts_with nat_eq bytes x.0) (begun_
 
 -- a kind that is no number has none
 abbrev is_other : TokenKind → Bool
-is_other (kind.Number n) = false
-is_other (kind.Character b) = false
+is_other (TokenKind.Number n) = false
+is_other (TokenKind.Character b) = false
 is_other _ = true
 
 abbrev are_other : List (List ℕ × TokenKind) → Bool
@@ -54,8 +45,8 @@ are_other [] = true
 are_other (e ∷ es) = if is_other e.1 then are_other es else false
 
 other_plain : (k : TokenKind) → is_other k ≡ true → IsPlainKind k
-other_plain (kind.Number n) h = absurd (let e : false ≡ true = h in cc)
-other_plain (kind.Character c) h = absurd (let e : false ≡ true = h in cc)
+other_plain (TokenKind.Number n) h = absurd (let e : false ≡ true = h in cc)
+other_plain (TokenKind.Character c) h = absurd (let e : false ≡ true = h in cc)
 other_plain _ h = λ text. tt
 
 others_plain : (table : List (List ℕ × TokenKind)) → are_other table ≡ true → AllPlain table
@@ -73,36 +64,36 @@ keywords_plain = others_plain keywords refl
 word_plain : (len : ℕ) (text : List ℕ) → WhereFound (of_len len (word text))
 word_plain len text = either (nat_le (length text) 64)
   where
-    chosen : (o : Option TokenKind) → IsPlainEntry o → IsPlainKind (unwrap_or o kind.Identifier)
+    chosen : (o : Option TokenKind) → IsPlainEntry o → IsPlainKind (unwrap_or o TokenKind.Identifier)
     chosen None h = λ text. tt
     chosen (Some k) h = h
 
-    either : (b : Bool) → WhereFound (of_len len (if b then Ok (unwrap_or (entry_at keywords text) kind.Identifier) else Err fault.Identifier))
+    either : (b : Bool) → WhereFound (of_len len (if b then Ok (unwrap_or (entry_at keywords text) TokenKind.Identifier) else Err TokenFault.Identifier))
     either true = chosen (entry_at keywords text) (entry_plain keywords text keywords_plain)
     either false = tt
 
 -- a number that the lexer types
-typed_held : (text : List ℕ) (v : ℕ) → nat_lt v (2 ^ 63) ≡ true → IsHeld (constants.Number (typed text v))
+typed_held : (text : List ℕ) (v : ℕ) → nat_lt v (2 ^ 63) ≡ true → IsHeld (Constant.Number (typed text v))
 typed_held text v small = by (has_suffix text || nat_lt 2147483647 v) refl
   where
     below : (s : Bool) → (s || nat_lt 2147483647 v) ≡ false → nat_lt v (2 ^ 31) ≡ true
     below true e = absurd (let z : true ≡ false = e in cc)
     below false e = grind (arith, nat_tests)
 
-    by : (b : Bool) → (has_suffix text || nat_lt 2147483647 v) ≡ b → IsHeld (constants.Number (record { value = pos v; number_type = if b then Long else Int }))
+    by : (b : Bool) → (has_suffix text || nat_lt 2147483647 v) ≡ b → IsHeld (Constant.Number (record { value = pos v; number_type = if b then Long else Int }))
     by true e = λ integer. small
     by false e = λ integer. below (has_suffix text) e
 
-number_plain : (len : ℕ) (text : List ℕ) (e : TokenFault) (o : Option ℕ) → WhereFound (of_len len (ok_or (option_map kind.Number (option_map (typed text) (small_value o))) e))
+number_plain : (len : ℕ) (text : List ℕ) (e : TokenFault) (o : Option ℕ) → WhereFound (of_len len (ok_or (option_map TokenKind.Number (option_map (typed text) (small_value o))) e))
 number_plain len text e None = tt
 number_plain len text e (Some v) = either (nat_lt v (2 ^ 63)) refl
   where
-    either : (b : Bool) → nat_lt v (2 ^ 63) ≡ b → WhereFound (of_len len (ok_or (option_map kind.Number (option_map (typed text) (if b then Some v else None))) e))
+    either : (b : Bool) → nat_lt v (2 ^ 63) ≡ b → WhereFound (of_len len (ok_or (option_map TokenKind.Number (option_map (typed text) (if b then Some v else None))) e))
     either true small = λ any. ((v, refl), typed_held text v small)
     either false small = tt
 
 -- a character
-low_held : (b : ℕ) → b < 128 → IsHeld (constants.Character b)
+low_held : (b : ℕ) → b < 128 → IsHeld (Constant.Character b)
 low_held b lt = λ integer. below b lt
   where
     below : (b : ℕ) → b < 128 → nat_lt b (2 ^ 31) ≡ true
@@ -159,15 +150,15 @@ character_plain (b ∷ bytes) e = either (b == 92)
 token_plain : (b : ℕ) (bytes : List ℕ) → WhereFound (token_at b bytes)
 token_plain b bytes = letter (is_letter b)
   where
-    quote : (q : Bool) → WhereFound (if q then ok_or (character bytes) fault.Character else ok_or (punctuator (b ∷ bytes)) (fault.Byte b))
-    quote true = character_plain bytes fault.Character
-    quote false = begun_plain punctuators (b ∷ bytes) (fault.Byte b) (others_plain punctuators refl)
+    quote : (q : Bool) → WhereFound (if q then ok_or (character bytes) TokenFault.Character else ok_or (punctuator (b ∷ bytes)) (TokenFault.Byte b))
+    quote true = character_plain bytes TokenFault.Character
+    quote false = begun_plain punctuators (b ∷ bytes) (TokenFault.Byte b) (others_plain punctuators refl)
 
-    digit : (q : Bool) → WhereFound (if q then number_at (b ∷ bytes) else (if b == 39 then ok_or (character bytes) fault.Character else ok_or (punctuator (b ∷ bytes)) (fault.Byte b)))
-    digit true = (let len = prefix_len is_word_byte (b ∷ bytes) in let text = take len (b ∷ bytes) in number_plain len text fault.Number (value (without_suffix text)))
+    digit : (q : Bool) → WhereFound (if q then number_at (b ∷ bytes) else (if b == 39 then ok_or (character bytes) TokenFault.Character else ok_or (punctuator (b ∷ bytes)) (TokenFault.Byte b)))
+    digit true = (let len = prefix_len is_word_byte (b ∷ bytes) in let text = take len (b ∷ bytes) in number_plain len text TokenFault.Number (value (without_suffix text)))
     digit false = quote (b == 39)
 
-    letter : (q : Bool) → WhereFound (if q then word_at (b ∷ bytes) else (if is_digit b then number_at (b ∷ bytes) else (if b == 39 then ok_or (character bytes) fault.Character else ok_or (punctuator (b ∷ bytes)) (fault.Byte b))))
+    letter : (q : Bool) → WhereFound (if q then word_at (b ∷ bytes) else (if is_digit b then number_at (b ∷ bytes) else (if b == 39 then ok_or (character bytes) TokenFault.Character else ok_or (punctuator (b ∷ bytes)) (TokenFault.Byte b))))
     letter true = let len = prefix_len is_word_byte (b ∷ bytes) in word_plain len (take len (b ∷ bytes))
     letter false = digit (is_digit b)
 
@@ -216,7 +207,7 @@ line_plain : (read : Read) → Plainly (words_of read.tokens) → (offset : ℕ)
 line_plain read h offset line = either (is_marker_line line)
   where
     either : (b : Bool) → WhereAll (if b then marker_line read offset line else text_line read offset line)
-    either true = marker_plain read h (marker (drop (prefix_len is_blank line + 1) line)) (record { offset = offset + prefix_len is_blank line; fault = fault.Marker })
+    either true = marker_plain read h (marker (drop (prefix_len is_blank line + 1) line)) (record { offset = offset + prefix_len is_blank line; fault = TokenFault.Marker })
     either false = text_plain read h (tokens_of read.next 0 offset line) (tokens_plain read.next 0 offset line)
 
 lines_plain : (lines : List (List ℕ)) (read : Read) → Plainly (words_of read.tokens) → (offset : ℕ) → WhereAll (lines_read read offset lines)

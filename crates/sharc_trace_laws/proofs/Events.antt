@@ -1,14 +1,5 @@
 -- What is written is an event file of the run's first events, and audit answers that they obey.
-use Rattle.std.proofs.Common.{◌≡◌, ℕ, ◌≤◌, List, ◌++◌, length, refl, ap, sym, subst, ◌∙◌, append_assoc}
-use Rattle.std.specs.{Prelude.{codes, decimal}, Io.KnownBytes.Appends}
-use Rattle.sharc_mode.specs.Moded.{Assignment}
-use Rattle.sharc_audit.specs.declared.audit.Verdict.TheVariants as verdict
-use Rattle.sharc_audit.specs.{declared.line.EventLine.EventLine, Grammar.{IsEventFile, text_lines}}
-use Rattle.sharc_front_end.specs.Front.{IsFront}
-use Rattle.sharc_source_laws.specs.Laws.{HoldsNoEvents, ProgramsHoldNoEvents}
-use Rattle.sharc_reply_laws.specs.AuditLaws.{AuditLaws, IsAudited}
-use Rattle.sharc_trace_laws.specs.Laws.{FilesAreAudited, FilesAreEventFiles}
-use Rattle.sharc_trace_laws.proofs.Files.{file_is, file_short}
+use Rattle.sharc_trace_laws.proofs.{Imports.{◌≡◌, ℕ, ◌≤◌, List, ◌++◌, length, refl, ap, sym, subst, ◌∙◌, append_assoc, codes, decimal, Appends, Assignment, Verdict, EventLine, IsEventFile, text_lines, IsFront, HoldsNoEvents, ProgramsHoldNoEvents, AuditLaws, IsAudited, FilesAreAudited, FilesAreEventFiles}, Files.{file_is, file_short}}
 
 holds_none : ProgramsHoldNoEvents → (source : List ℕ) (m : Assignment) → IsFront source m → HoldsNoEvents source
 holds_none programs source m front = programs source front.typed.tokens m.typed.program front.typed.read front.typed.reads
@@ -36,7 +27,7 @@ audited files audits source built is_built within history reply is words asked o
       front = is_built.front;
       meets = is_built.accepted;
     } in
-    let told = audits.told words reply.text.items m 65536 lines ready (verdict.Obeys (length lines)) (refl, is.is_front.accepted) old new code replied in
+    let told = audits.told words reply.text.items m 65536 lines ready (Verdict.Obeys (length lines)) (refl, is.is_front.accepted) old new code replied in
     let text : (codes "obeys " ++ decimal (length lines) ++ codes " events") ++ codes "\n" ≡ codes "obeys " ++ decimal is.front.count ++ codes " events\n"
     = ap (λ (t : List ℕ). codes "obeys " ++ t) (append_assoc (decimal (length lines)) (codes " events") (codes "\n") ∙ ap (λ n. decimal n ++ codes " events\n") (sym is.is_front.count)) in
     (told.0, subst (λ (t : List ℕ). Appends old new t) text told.1)

@@ -1,17 +1,5 @@
 -- The event file of a run of a program never ends before an event that is at fault.
-use Rattle.std.proofs.{Common.{◌≡◌, ℕ, List, [], ◌∷◌, length, map, take, drop, ap, sym, subst, ◌∙◌}, lemmas.List.take-append-drop}
-use Rattle.sharc_tree.specs.declared.event.SourceEvent.{SourceEvent}
-use Rattle.sharc_mode.specs.Moded.{Assignment}
-use Rattle.sharc_meaning.specs.{Laws.RunLaws, Obeys.{Obeys, until_return}, Runs.SourceRun}
-use Rattle.sharc_code.specs.declared.code.Code.{Code}
-use Rattle.sharc_audit.specs.{declared.line.EventLine.EventLine, Lines.AreLines, Running.RunsNeverFail}
-use Rattle.sharc_build.specs.Laws.{FrontsAreTyped}
-use Rattle.sharc_sound_laws.specs.{BuiltSound.BuiltIsSound, Sound.KeepsTo}
-use Rattle.sharc_traced.specs.{declared.cut.Cut.Cut, declared.cut.Cut.TheVariants.Refused, Cut.IsEnd, EventFileLaws.LinesAreOfSources, Writing.AreLinesOf}
-use Rattle.sharc_history.specs.{declared.event.Event.Event, Told.{told, told_of_event}}
-use Rattle.sharc_traced.specs.Replies.{history}
-use Rattle.sharc_trace_laws.specs.Laws.{NoneIsAtFault}
-use Rattle.sharc_lemmas.proofs.Lists.{map_take}
+use Rattle.sharc_trace_laws.proofs.Imports.{◌≡◌, ℕ, List, [], ◌∷◌, length, map, take, drop, ap, sym, subst, ◌∙◌, take-append-drop, SourceEvent, Assignment, RunLaws, Obeys, until_return, SourceRun, Code, EventLine, AreLines, RunsNeverFail, FrontsAreTyped, BuiltIsSound, KeepsTo, Cut, Refused, IsEnd, LinesAreOfSources, AreLinesOf, Event, told, told_of_event, history, NoneIsAtFault, map_take}
 
 module _ (runs : RunLaws) (never : RunsNeverFail) (lines_are : LinesAreOfSources) (m : Assignment) (code : Code) where
   -- the first events of a run that keeps to the program

@@ -1,12 +1,5 @@
 -- The text that is written of a run is an event file, within the limits.
-use Rattle.std.proofs.{Common.{◌≡◌, ℕ, ◌*◌, ◌<◌, ◌≤◌, Bool, cond, true, false, List, [], ◌∷◌, ◌++◌, length, length-append, All, refl, ap, sym, subst, ◌∙◌, arith, append_assoc, eqb-true}, lemmas.Bool.{or_parts, and_parts}, lemmas.Fmt.decimal-digits_value, lemmas.List.Elements.{All-nil, All-cons}}
-use Rattle.std.specs.{Prelude.{nat_eq, codes, decimal}, List.{list_any, slice_split, join_with_byte, onto_first, starts_with}}
-use Rattle.sharc_ctype.specs.Resolved.{Resolution}
-use Rattle.sharc_audit.specs.{declared.line.EventLine.EventLine, Grammar.{Text, mark, without_empty_end, text_lines, AreEventLines, IsEventFile}}
-use Rattle.sharc_history.specs.declared.event.Event.{Event}
-use Rattle.sharc_traced.specs.Writing.{IsLineOf, AreLinesOf, event_text, events_text, file_text}
-use Rattle.sharc_source_laws.specs.Laws.{HoldsNoEvents}
-use Rattle.sharc_trace_laws.proofs.{Pieces.{IsPiece, own, join, byte_on, decimal_piece, deed_piece}, Grammar.event_line}
+use Rattle.sharc_trace_laws.proofs.{Imports.{◌≡◌, ℕ, ◌*◌, ◌<◌, ◌≤◌, Bool, cond, true, false, List, [], ◌∷◌, ◌++◌, length, length-append, All, refl, ap, sym, subst, ◌∙◌, arith, append_assoc, eqb-true, or_parts, and_parts, decimal-digits_value, All-nil, All-cons, nat_eq, codes, decimal, list_any, slice_split, join_with_byte, onto_first, starts_with, Resolution, EventLine, Text, mark, without_empty_end, text_lines, AreEventLines, IsEventFile, Event, IsLineOf, AreLinesOf, event_text, events_text, file_text, HoldsNoEvents}, Pieces.{IsPiece, own, join, byte_on, decimal_piece, deed_piece}, Grammar.event_line}
 
 -- ---- lines of a text
 split_at : (t rest : Text) → list_any (nat_eq 10) t ≡ false → slice_split (nat_eq 10) (t ++ 10 ∷ rest) ≡ t ∷ slice_split (nat_eq 10) rest

@@ -1,3 +1,4 @@
+mod Imports
 pub mod Pieces
 pub mod Grammar
 pub mod Files

@@ -1,13 +1,5 @@
 -- Parts of lines: none has a newline, and none is long.
-use Rattle.std.proofs.{Common.{◌≡◌, inl, inr, ℕ, suc, ◌+◌, ◌<◌, ◌≤◌, ◌^◌, ◌||◌, Bool, true, false, List, [], ◌∷◌, ◌++◌, length, length-append, refl, ap, sym, subst, ◌∙◌, arith, rules, eq-eqb, ne_eqb}, lemmas.Bool.{or_from, or_parts, and_parts, leb-true, eqb-true}, lemmas.Fmt.{digits_decimal, length-decimal-le}, lemmas.Str.Parse.{IsNumeralModel, numerals_by_fold}}
-use Rattle.std.specs.{Prelude.{ℤ, pos, negsuc, nat_eq, decimal, codes, FitsSigned, if◌then◌else◌}, Fmt.signed_decimal, Int.w64, List.{list_any, list_all}, Str.all_ascii_digits, Char.is_ascii_digit}
-use Rattle.sharc_ctype.specs.Resolved.{Resolution, function_at}
-use Rattle.sharc_audit.specs.Grammar.{read_on, is_digit, is_letter, IsName}
-use Rattle.sharc_history.specs.{declared.cells.Where.Where, declared.event.Deed.Deed, declared.event.Reference.Reference, declared.event.GivenValue.GivenValue, Cells.{cell_text, reference_text}}
-use Rattle.sharc_traced.specs.Writing.{IsFitCell, IsFitReference, IsFitPair, IsFitValue, IsFunctionOf, Writable, value_text, name_in, deed_text}
-use Rattle.sharc_history.specs.declared.cells.Where.TheVariants as places
-use Rattle.sharc_history.specs.declared.event.Deed.TheVariants as deeds
-use Rattle.sharc_history.specs.declared.event.GivenValue.TheVariants as values
+use Rattle.sharc_trace_laws.proofs.Imports.{◌≡◌, inl, inr, ℕ, suc, ◌+◌, ◌<◌, ◌≤◌, ◌^◌, ◌||◌, Bool, true, false, List, [], ◌∷◌, ◌++◌, length, length-append, refl, ap, sym, subst, ◌∙◌, arith, rules, eq-eqb, ne_eqb, or_from, or_parts, and_parts, leb-true, eqb-true, digits_decimal, length-decimal-le, IsNumeralModel, numerals_by_fold, ℤ, pos, negsuc, nat_eq, decimal, codes, FitsSigned, if◌then◌else◌, signed_decimal, w64, list_any, list_all, all_ascii_digits, is_ascii_digit, Resolution, function_at, read_on, is_digit, is_letter, IsName, Where, Deed, Reference, GivenValue, cell_text, reference_text, IsFitCell, IsFitReference, IsFitPair, IsFitValue, IsFunctionOf, Writable, value_text, name_in, deed_text}
 
 -- a text without a newline, of at most so many bytes
 pub record IsPiece (text : List ℕ) (most : ℕ) : Type 0 where
@@ -53,9 +45,9 @@ signed_piece (negsuc n) h = byte_on 45 refl (decimal_piece (suc n) (let s = h.sf
 
 -- ---- cells and references
 pub cell_piece : (c : Where) → IsFitCell c → IsPiece (cell_text c) 42
-cell_piece (places.Global number cell) h =
+cell_piece (Where.Global number cell) h =
     byte_on 103 refl (join (decimal_piece number (let s = h.0 in omega (arith, s))) (byte_on 46 refl (decimal_piece cell (let s = h.1 in omega (arith, s)))))
-cell_piece (places.Made number cell) h =
+cell_piece (Where.Made number cell) h =
     byte_on 111 refl (join (decimal_piece number (let s = h.most in omega (arith, s))) (byte_on 46 refl (decimal_piece cell (let s = h.low in omega (arith, s)))))
 
 pub pair_piece : (x : Reference) → IsFitPair x → IsPiece (decimal x.number ++ 58 ∷ decimal x.elements) 41
@@ -72,8 +64,8 @@ reference_piece x (inl e) = subst (λ t. IsPiece t 41) (sym (null_text x e)) rec
 reference_piece x (inr h) = subst (λ t. IsPiece t 41) (sym (pair_text x h)) (pair_piece x h)
 
 pub value_piece : (v : GivenValue) → IsFitValue v → IsPiece (value_text v) 41
-value_piece (values.Int v) h = wider 21 41 (omega arith) (signed_piece v h)
-value_piece (values.Reference x) h = reference_piece x h
+value_piece (GivenValue.Int v) h = wider 21 41 (omega arith) (signed_piece v h)
+value_piece (GivenValue.Reference x) h = reference_piece x h
 
 -- ---- names
 letter_free : (b : ℕ) → (is_letter b || is_digit b) ≡ true → nat_eq 10 b ≡ false
@@ -98,24 +90,24 @@ word : (text : List ℕ) (most : ℕ) → list_any (nat_eq 10) text ≡ false �
 word text most free short = record { free = free; short = short }
 
 pub deed_piece : (r : Resolution) (d : Deed) → Writable r d → IsPiece (deed_text r d) 133
-deed_piece r (deeds.Reads c v) h = wider 90 133 (omega arith) (join (word (codes "read ") 6 refl (omega arith)) (join (cell_piece c h.0) (byte_on 32 refl (value_piece v h.1))))
-deed_piece r (deeds.Writes c v) h = wider 90 133 (omega arith) (join (word (codes "write ") 6 refl (omega arith)) (join (cell_piece c h.0) (byte_on 32 refl (value_piece v h.1))))
-deed_piece r (deeds.Makes x) h = wider 47 133 (omega arith) (join (word (codes "new ") 6 refl (omega arith)) (reference_piece x h))
-deed_piece r (deeds.Takes x) h = wider 47 133 (omega arith) (join (word (codes "take ") 6 refl (omega arith)) (reference_piece x h))
-deed_piece r (deeds.Gives x) h = wider 47 133 (omega arith) (join (word (codes "give ") 6 refl (omega arith)) (reference_piece x h))
-deed_piece r (deeds.Frees x) h = wider 47 133 (omega arith) (join (word (codes "freed ") 6 refl (omega arith)) (reference_piece x h))
-deed_piece r (deeds.Locks c) h = wider 49 133 (omega arith) (join (word (codes "lock ") 7 refl (omega arith)) (cell_piece c h))
-deed_piece r (deeds.Unlocks c) h = wider 49 133 (omega arith) (join (word (codes "unlock ") 7 refl (omega arith)) (cell_piece c h))
-deed_piece r (deeds.Spawns f v n) h =
+deed_piece r (Deed.Reads c v) h = wider 90 133 (omega arith) (join (word (codes "read ") 6 refl (omega arith)) (join (cell_piece c h.0) (byte_on 32 refl (value_piece v h.1))))
+deed_piece r (Deed.Writes c v) h = wider 90 133 (omega arith) (join (word (codes "write ") 6 refl (omega arith)) (join (cell_piece c h.0) (byte_on 32 refl (value_piece v h.1))))
+deed_piece r (Deed.Makes x) h = wider 47 133 (omega arith) (join (word (codes "new ") 6 refl (omega arith)) (reference_piece x h))
+deed_piece r (Deed.Takes x) h = wider 47 133 (omega arith) (join (word (codes "take ") 6 refl (omega arith)) (reference_piece x h))
+deed_piece r (Deed.Gives x) h = wider 47 133 (omega arith) (join (word (codes "give ") 6 refl (omega arith)) (reference_piece x h))
+deed_piece r (Deed.Frees x) h = wider 47 133 (omega arith) (join (word (codes "freed ") 6 refl (omega arith)) (reference_piece x h))
+deed_piece r (Deed.Locks c) h = wider 49 133 (omega arith) (join (word (codes "lock ") 7 refl (omega arith)) (cell_piece c h))
+deed_piece r (Deed.Unlocks c) h = wider 49 133 (omega arith) (join (word (codes "unlock ") 7 refl (omega arith)) (cell_piece c h))
+deed_piece r (Deed.Spawns f v n) h =
     join (word (codes "spawn ") 6 refl (omega arith))
     (join (subst (λ t. IsPiece t 64) (sym (name_text r f h.0.0 h.0.1)) (name_piece h.0.0 h.0.1.is_name))
     (byte_on 32 refl (join (value_piece v h.1) (byte_on 32 refl (decimal_piece n (let s = h.2 in omega (arith, s)))))))
-deed_piece r (deeds.Starts v) h = wider 49 133 (omega arith) (join (word (codes "started ") 8 refl (omega arith)) (value_piece v h))
-deed_piece r (deeds.Joins v) h = wider 25 133 (omega arith) (join (word (codes "join ") 5 refl (omega arith)) (subst (λ z. IsPiece (signed_decimal z) 20) (sym h.1) (decimal_piece h.0 (let s = h.2 in omega (arith, s)))))
-deed_piece r (deeds.Prints v) h = wider 27 133 (omega arith) (join (word (codes "print ") 6 refl (omega arith)) (signed_piece v h))
-deed_piece r deeds.Returns h = record { free = refl; short = omega arith }
-deed_piece r deeds.Ends h = record { free = refl; short = omega arith }
-deed_piece r (deeds.Enters c) h = absurd (h)
-deed_piece r (deeds.Wakes c) h = absurd (h)
-deed_piece r (deeds.Signals c thread) h = absurd (h)
-deed_piece r (deeds.Broadcasts c) h = absurd (h)
+deed_piece r (Deed.Starts v) h = wider 49 133 (omega arith) (join (word (codes "started ") 8 refl (omega arith)) (value_piece v h))
+deed_piece r (Deed.Joins v) h = wider 25 133 (omega arith) (join (word (codes "join ") 5 refl (omega arith)) (subst (λ z. IsPiece (signed_decimal z) 20) (sym h.1) (decimal_piece h.0 (let s = h.2 in omega (arith, s)))))
+deed_piece r (Deed.Prints v) h = wider 27 133 (omega arith) (join (word (codes "print ") 6 refl (omega arith)) (signed_piece v h))
+deed_piece r Deed.Returns h = record { free = refl; short = omega arith }
+deed_piece r Deed.Ends h = record { free = refl; short = omega arith }
+deed_piece r (Deed.Enters c) h = absurd (h)
+deed_piece r (Deed.Wakes c) h = absurd (h)
+deed_piece r (Deed.Signals c thread) h = absurd (h)
+deed_piece r (Deed.Broadcasts c) h = absurd (h)

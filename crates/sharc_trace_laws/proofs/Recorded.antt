@@ -1,53 +1,33 @@
 -- The event file of what `record` wrote is of the events of the recorded run.
-use Rattle.std.proofs.Common.{◌≡◌, ℕ, ◌<◌, ◌≤◌, List, [], length, map, Some, None, ap, sym, subst, ◌∙◌}
-use Rattle.std.specs.Prelude.{reverse}
-use Rattle.sharc_tree.specs.declared.event.SourceEvent.{SourceEvent}
-use Rattle.sharc_mode.specs.Moded.{Assignment}
-use Rattle.sharc_check.specs.Rules.{MeetsRules}
-use Rattle.sharc_code.specs.{declared.code.Code.Code, declared.shape.Shape.Shape, Layout.Fits, Runs.{Said, Turn}}
-use Rattle.sharc_sound_laws.specs.{Alike.AreAlike, AlikeLaws.{CompiledAreAlike, HistoriesAreAlike}}
-use Rattle.sharc_build.specs.{declared.building.Built.Built, Built.IsBuilt}
-use Rattle.sharc_history.specs.Laws.{HistoryLaws}
-use Rattle.sharc_schedule.specs.{File.{AreNumbers, FileView, IsFile, HoldsNoSchedule}, Schedule.Stored}
-use Rattle.sharc_replay.specs.{Laws.{IsOneFile, ReplayLaws}, Run.{IsRecord, file_of}}
-use Rattle.sharc_run.specs.declared.run.Ran.{Ran}
-use Rattle.sharc_seq.specs.Run.{AreChosen}
-use Rattle.sharc_front_end.specs.{Compiled.IsCompiled, Front.IsFront}
-use Rattle.sharc_source_laws.specs.Laws.{ProgramsHoldNoSchedule}
-use Rattle.sharc_top.specs.{declared.status.Status.Status, Limits.{source_limit, recording_limit}, Refused.{Refuses, source_refused, modes_refused}}
-use Rattle.sharc_reply_laws.specs.{Laws.SourceLaws, RecordLaws.{IsRecording, RecordLaws}}
-use Rattle.sharc_traced.specs.{declared.reply.Reply.Reply, declared.words.Form.Form, Replies.{FileReplies, InputReplies, IsFileOf, IsRunOf, IsTraced, TraceReplies, form_of, history, long_recording, long_source, no_recording, read, recorded, refused, traced, usage}}
-use Rattle.sharc_traced.specs.declared.words.Form.TheVariants as form
-use Rattle.sharc_trace_laws.specs.Laws.{IsOfRecorded, RecordingsAreTraced}
-use Rattle.sharc_lemmas.proofs.Numbers.{not_long as too_long}
+use Rattle.sharc_trace_laws.proofs.Imports.{◌≡◌, ℕ, ◌<◌, ◌≤◌, List, [], length, map, Some, None, ap, sym, subst, ◌∙◌, reverse, SourceEvent, Assignment, MeetsRules, Code, Shape, Fits, Said, Turn, AreAlike, CompiledAreAlike, HistoriesAreAlike, Built, IsBuilt, HistoryLaws, AreNumbers, FileView, IsFile, HoldsNoSchedule, Stored, IsOneFile, ReplayLaws, IsRecord, file_of, Ran, AreChosen, IsCompiled, IsFront, ProgramsHoldNoSchedule, Status, source_limit, recording_limit, Refuses, source_refused, modes_refused, SourceLaws, IsRecording, RecordLaws, Reply, Form, FileReplies, InputReplies, IsFileOf, IsRunOf, IsTraced, TraceReplies, form_of, history, long_recording, long_source, no_recording, read, recorded, refused, traced, usage, IsOfRecorded, RecordingsAreTraced, too_long}
 
 -- ---- the reply to a recorded file of a program
 no_usage : form_of [] ≡ None → ⊥
 no_usage none = cc
 
-file_form : (f : Form) → form_of [] ≡ Some f → f ≡ form.File
+file_form : (f : Form) → form_of [] ≡ Some f → f ≡ Form.File
 file_form f is = cc
 
 record IsOfProgram (file : FileView) (m : Assignment) (reply : Reply) : Type 0 where
   built : Built
   is_built : IsBuilt file.source built
   same : built.checked ≡ m
-  traced_is : IsTraced form.File file built reply
+  traced_is : IsTraced Form.File file built reply
 
 module _ (sources : SourceLaws) (m : Assignment) (meets : MeetsRules m) where
   not_refused : (source : List ℕ) (s : Status) (text : List ℕ) → IsFront source m → Refuses source s text → ⊥
   not_refused source s text front (source_refused fault is) = sources.faultless source m front fault is
   not_refused source s text front (modes_refused n other also is) = is.breaks_rules (subst MeetsRules (sym (sources.program source n m also front)) meets)
 
-  of_file : (file : FileView) (reply : Reply) → length file.source ≤ source_limit → IsFront file.source m → FileReplies form.File file reply → IsOfProgram file m reply
+  of_file : (file : FileView) (reply : Reply) → length file.source ≤ source_limit → IsFront file.source m → FileReplies Form.File file reply → IsOfProgram file m reply
   of_file file reply within front (long_source long plain) = absurd (too_long source_limit (length file.source) long within)
   of_file file reply within front (refused s text is plain) = absurd (not_refused file.source s text front is)
   of_file file reply within front (traced built is t) = record { built = built; is_built = is; same = sources.program file.source built.checked m is.front front; traced_is = t }
 
   module _ (input : List ℕ) (file : FileView) (is_file : IsFile input file) (only : (other : FileView) → IsFile input other → other ≡ file) (short : length input ≤ recording_limit) (within : length file.source ≤ source_limit) (front : IsFront file.source m) where
-    of_input : (reply : Reply) → InputReplies form.File input reply → IsOfProgram file m reply
+    of_input : (reply : Reply) → InputReplies Form.File input reply → IsOfProgram file m reply
     of_input reply (no_recording n fault plain) = absurd (fault.none file is_file)
-    of_input reply (recorded other also replies) = of_file file reply within front (subst (λ (k : FileView). FileReplies form.File k reply) (only other also) replies)
+    of_input reply (recorded other also replies) = of_file file reply within front (subst (λ (k : FileView). FileReplies Form.File k reply) (only other also) replies)
 
     of_trace : (reply : Reply) → TraceReplies [] input reply → IsOfProgram file m reply
     of_trace reply (usage none plain) = absurd (no_usage none)

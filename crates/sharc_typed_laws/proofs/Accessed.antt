@@ -1,17 +1,5 @@
 -- What an lvalue names is read, written and taken: after its base and its index are at hand.
-use Rattle.std.proofs.{Common.{◌≡◌, ℕ, ◌+◌, ◌<◌, ◌≤◌, Bool, true, false, cond, List, [], ◌∷◌, ◌++◌, Option, Some, None, refl, sym, ◌∙◌, subst, ⊎_elim, arith}, lemmas.Bool.{false≢true, cases_lt}}
-use Rattle.sharc_tree.specs.declared.token.Site.{Site}
-use Rattle.sharc_code.specs.{declared.code.Use.Use, declared.instr.Cell.Cell, declared.instr.Width.Width, Runs.put}
-use Rattle.sharc_code.specs.declared.code.Use.TheVariants as uses
-use Rattle.sharc_code.specs.declared.instr.Cell.TheVariants as cells
-use Rattle.sharc_code.proofs.Places.{put_same, put_other}
-use Rattle.sharc_mode.specs.Sharings.{Sharing}
-use Rattle.sharc_flat.specs.{declared.op.Op.Op, declared.op.Spot.Spot, declared.slot.Lvalue.Lvalue, Scope.{Context, int_count, ref_count}, Places.{Target, variable, in_global, in_global_at, in_object, in_object_at, has_base, base_width, guard_width, index_width, cell_of, guard_cell, guard_field, guard_code, cell_value_code, cell_store_code, cell_take_code}, Suits.is_cell}
-use Rattle.sharc_flat.specs.declared.op.Op.TheVariants as op
-use Rattle.sharc_invariant.specs.{Types.StaticType, Labels.{Entry, Empty, Refers, Element, Number, Within, OfElement, Gate, Closed, Loaded, Label, LessNumber, HasBase, IsScoped, set_number, fill}, Typed.{ints_in, refs_in}}
-use Rattle.sharc_invariant.proofs.Scoped.{less_refl, less_number_refl}
-use Rattle.sharc_typed_laws.specs.{Stretches.{Mark, Setting, IsAtHand}, Places.{IsNamed, mark}, Premises.{Typing, HoldsVariables, IsPointerCopy, Ground, HasNumbers, number_in_global, HasIndex, HasBaseAt, IsPlaced, ReachesInteger, ReachesReference, ThroughGuard, IntegerTyped, ReferenceTyped}}
-use Rattle.sharc_typed_laws.proofs.{Fitting.fits_same, Parts.{P, At, at_number, at_fill, then_do, pre, none, pop_at, with_number}, Values.{over, guard_at, load_at, load_reference_at, take_at, store_at, store_reference_at}, Variables.settle_base_at}
+use Rattle.sharc_typed_laws.proofs.{Imports.{◌≡◌, ℕ, ◌+◌, ◌<◌, ◌≤◌, Bool, true, false, cond, List, [], ◌∷◌, ◌++◌, Option, Some, None, refl, sym, ◌∙◌, subst, ⊎_elim, arith, false≢true, cases_lt, Site, Use, Cell, Width, put, put_same, put_other, Sharing, Op, Spot, Lvalue, Context, int_count, ref_count, Target, variable, in_global, in_global_at, in_object, in_object_at, has_base, base_width, guard_width, index_width, cell_of, guard_cell, guard_field, guard_code, cell_value_code, cell_store_code, cell_take_code, is_cell, StaticType, Entry, Empty, Refers, Element, Number, Within, OfElement, Gate, Closed, Loaded, Label, LessNumber, HasBase, IsScoped, set_number, fill, ints_in, refs_in, less_refl, less_number_refl, Mark, Setting, IsAtHand, IsNamed, mark, Typing, HoldsVariables, IsPointerCopy, Ground, HasNumbers, number_in_global, HasIndex, HasBaseAt, IsPlaced, ReachesInteger, ReachesReference, ThroughGuard, IntegerTyped, ReferenceTyped}, Fitting.fits_same, Parts.{P, At, at_number, at_fill, then_do, pre, none, pop_at, with_number}, Values.{over, guard_at, load_at, load_reference_at, take_at, store_at, store_reference_at}, Variables.settle_base_at}
 
 module _ (around : Setting) (f : ℕ) (D : (ℕ → Mark) → Type 0) (y : Typing) (c : Context) (low : (p : ℕ) → y.named c p ≡ true → p < ref_count c.scope) (from : ℕ) where
   abbrev named : ℕ → Bool
@@ -38,7 +26,7 @@ module _ (around : Setting) (f : ℕ) (D : (ℕ → Mark) → Type 0) (y : Typin
   guarded i r l at g below until ir rr site lvalue t None Holds os e h rest = rest Closed h
   guarded i r l at g below until ir rr site lvalue t (Some mutex) Holds os e h rest =
       let cell = guard_cell c.globals mutex ir rr t in
-      joins (mark (over l g Closed) from until) (mark (over l g (Loaded cell)) from until) e (op.LoadGuard cell _ ∷ []) os
+      joins (mark (over l g Closed) from until) (mark (over l g (Loaded cell)) from until) e (Op.LoadGuard cell _ ∷ []) os
       (guard_at around f D named top low from i r l at g below until cell _ h.0.field h.0.to h.0.has h.0.mode h.0.holds) (rest (Loaded cell) h.1)
 
   -- ---- where its registers are
@@ -81,39 +69,39 @@ module _ (around : Setting) (f : ℕ) (D : (ℕ → Mark) → Type 0) (y : Typin
       by (Some m) le = omega (arith, le)
 
   hand_over : (l k : Label) (until : ℕ) (cell : Cell) → IsAtHand (mark l from until) cell → IsAtHand (mark k from until) cell
-  hand_over l k until (cells.Global g p) h = h
+  hand_over l k until (Cell.Global g p) h = h
   hand_over l k until _ h = h
 
   -- ---- of a label with so many registers, whatever the free integer registers hold
   module _ (i r : ℕ) (l : Label) (at : Here i r l) (g : ℕ → Number) (below : (j : ℕ) → j < i → g j ≡ l.ints j) (until : ℕ) (le : i ≤ until) (ir rr : ℕ) (site : Site) (lvalue : Lvalue) (t : Target) (guard : Option ℕ) (cell : Cell) (spot : Spot) where
     load_by : (w : Width) → IsAtHand (mark l from until) cell → ThroughGuard around c t ir rr guard (λ k. ReachesInteger around k false cell spot w) (over l g Closed) → (os : List Op) (e : Mark) → Q (with_int l i (Within w)) os e
-        → Q (mark (over l g Closed) from until) (guard_code c ir rr site lvalue t guard ++ (op.Load i cell spot ∷ os)) e
-    load_by w hand h os e rest = guarded i r l at g below until ir rr site lvalue t guard (λ k. ReachesInteger around k false cell spot w) (op.Load i cell spot ∷ os) e h (λ gate m.
-        joins (mark (over l g gate) from until) (with_int l i (Within w)) e (op.Load i cell spot ∷ []) os (load_at around f D named top low from i r l at g below gate until le cell spot m.field w (hand_over l (over l g gate) until cell hand) m.may m.holds) rest)
+        → Q (mark (over l g Closed) from until) (guard_code c ir rr site lvalue t guard ++ (Op.Load i cell spot ∷ os)) e
+    load_by w hand h os e rest = guarded i r l at g below until ir rr site lvalue t guard (λ k. ReachesInteger around k false cell spot w) (Op.Load i cell spot ∷ os) e h (λ gate m.
+        joins (mark (over l g gate) from until) (with_int l i (Within w)) e (Op.Load i cell spot ∷ []) os (load_at around f D named top low from i r l at g below gate until le cell spot m.field w (hand_over l (over l g gate) until cell hand) m.may m.holds) rest)
 
     load_reference_by : (s : StaticType) → IsNamed named r s → IsAtHand (mark l from until) cell → ThroughGuard around c t ir rr guard (λ k. ReachesReference around k false cell spot s) (over l g Closed) → (os : List Op) (e : Mark) → Q (mark (fill l r (Refers s) r false) from i) os e
-        → Q (mark (over l g Closed) from until) (guard_code c ir rr site lvalue t guard ++ (op.LoadRef r cell spot ∷ os)) e
-    load_reference_by s fits hand h os e rest = guarded i r l at g below until ir rr site lvalue t guard (λ k. ReachesReference around k false cell spot s) (op.LoadRef r cell spot ∷ os) e h (λ gate m.
-        joins (mark (over l g gate) from until) (mark (fill l r (Refers s) r false) from i) e (op.LoadRef r cell spot ∷ []) os
+        → Q (mark (over l g Closed) from until) (guard_code c ir rr site lvalue t guard ++ (Op.LoadRef r cell spot ∷ os)) e
+    load_reference_by s fits hand h os e rest = guarded i r l at g below until ir rr site lvalue t guard (λ k. ReachesReference around k false cell spot s) (Op.LoadRef r cell spot ∷ os) e h (λ gate m.
+        joins (mark (over l g gate) from until) (mark (fill l r (Refers s) r false) from i) e (Op.LoadRef r cell spot ∷ []) os
         (load_reference_at around f D named top low from i r l at g below gate until le cell spot m.field s fits (hand_over l (over l g gate) until cell hand) m.may m.points) rest)
 
     take_by : (s : StaticType) → IsNamed named r s → ThroughGuard around c t ir rr guard (λ k. ReachesReference around k true cell spot s) (over l g Closed) → (os : List Op) (e : Mark) → Q (mark (fill l r (Refers s) r false) from i) os e
-        → Q (mark (over l g Closed) from until) (guard_code c ir rr site lvalue t guard ++ (op.TakeCell r cell spot ∷ os)) e
-    take_by s fits h os e rest = guarded i r l at g below until ir rr site lvalue t guard (λ k. ReachesReference around k true cell spot s) (op.TakeCell r cell spot ∷ os) e h (λ gate m.
-        joins (mark (over l g gate) from until) (mark (fill l r (Refers s) r false) from i) e (op.TakeCell r cell spot ∷ []) os (take_at around f D named top low from i r l at g below gate until cell spot m.field s fits m.may m.points) rest)
+        → Q (mark (over l g Closed) from until) (guard_code c ir rr site lvalue t guard ++ (Op.TakeCell r cell spot ∷ os)) e
+    take_by s fits h os e rest = guarded i r l at g below until ir rr site lvalue t guard (λ k. ReachesReference around k true cell spot s) (Op.TakeCell r cell spot ∷ os) e h (λ gate m.
+        joins (mark (over l g gate) from until) (mark (fill l r (Refers s) r false) from i) e (Op.TakeCell r cell spot ∷ []) os (take_at around f D named top low from i r l at g below gate until cell spot m.field s fits m.may m.points) rest)
 
     store_by : (vi : ℕ) (w : Width) → LessNumber (g vi) (Within w) → IsAtHand (mark l from until) cell → ThroughGuard around c t ir rr guard (λ k. ReachesInteger around k true cell spot w) (over l g Closed) → (os : List Op) (e : Mark) → Q (mark l from i) os e
-        → Q (mark (over l g Closed) from until) (guard_code c ir rr site lvalue t guard ++ (op.Store vi cell spot ∷ os)) e
-    store_by vi w fits hand h os e rest = guarded i r l at g below until ir rr site lvalue t guard (λ k. ReachesInteger around k true cell spot w) (op.Store vi cell spot ∷ os) e h (λ gate m.
-        joins (mark (over l g gate) from until) (mark l from i) e (op.Store vi cell spot ∷ []) os (store_at around f D named top low from i r l at g below gate until vi le cell spot m.field w (hand_over l (over l g gate) until cell hand) m.may m.holds fits) rest)
+        → Q (mark (over l g Closed) from until) (guard_code c ir rr site lvalue t guard ++ (Op.Store vi cell spot ∷ os)) e
+    store_by vi w fits hand h os e rest = guarded i r l at g below until ir rr site lvalue t guard (λ k. ReachesInteger around k true cell spot w) (Op.Store vi cell spot ∷ os) e h (λ gate m.
+        joins (mark (over l g gate) from until) (mark l from i) e (Op.Store vi cell spot ∷ []) os (store_at around f D named top low from i r l at g below gate until vi le cell spot m.field w (hand_over l (over l g gate) until cell hand) m.may m.holds fits) rest)
 
     store_reference_by : top ≤ r → (s : StaticType) (v : ℕ) (b : Bool) → IsNamed named r s → v ≤ r → IsAtHand (mark l from until) cell → ThroughGuard around c t ir rr guard (λ k. ReachesReference around k true cell spot s) (over (fill l r (Refers s) v b) g Closed) → (os : List Op) (e : Mark)
-        → Q (mark l from i) os e → Q (mark (over (fill l r (Refers s) v b) g Closed) from until) (guard_code c ir rr site lvalue t guard ++ (op.StoreRef r cell spot ∷ os)) e
+        → Q (mark l from i) os e → Q (mark (over (fill l r (Refers s) v b) g Closed) from until) (guard_code c ir rr site lvalue t guard ++ (Op.StoreRef r cell spot ∷ os)) e
     store_reference_by high s v b fits copy hand h os e rest =
         let k = fill l r (Refers s) v b in
-        guarded i (r + 1) k (at_fill around f D named top low from i r l at s v b fits copy) g below until ir rr site lvalue t guard (λ k. ReachesReference around k true cell spot s) (op.StoreRef r cell spot ∷ os) e h (λ gate m.
-        joins (mark (over k g gate) from until) (mark l from i) e (op.StoreRef r cell spot ∷ []) os
-        (pre around f D named top low from (mark (over k g gate) from until) (record (mark (over k g gate) from until) { replaced = s }) (mark l from i) (op.StoreRef r cell spot ∷ [])
+        guarded i (r + 1) k (at_fill around f D named top low from i r l at s v b fits copy) g below until ir rr site lvalue t guard (λ k. ReachesReference around k true cell spot s) (Op.StoreRef r cell spot ∷ os) e h (λ gate m.
+        joins (mark (over k g gate) from until) (mark l from i) e (Op.StoreRef r cell spot ∷ []) os
+        (pre around f D named top low from (mark (over k g gate) from until) (record (mark (over k g gate) from until) { replaced = s }) (mark l from i) (Op.StoreRef r cell spot ∷ [])
         (record { less = less_refl (over k g gate); tells = λ know z. record { copies = z.copies; numbers = z.numbers } }) (λ z. z)
         (store_reference_at around f D named top low from i r l at g below high gate until le cell spot m.field s v b fits (hand_over l (over k g gate) until cell hand) m.may m.points)) rest)
 
@@ -227,7 +215,7 @@ module _ (around : Setting) (f : ℕ) (D : (ℕ → Mark) → Type 0) (y : Typin
       no_copy z e = absurd (false≢true e)
 
       -- an integer is read
-      int_value_in : (t : Target) → IsInFrame r t → is_cell t ≡ true → (w : Width) → IntegerTyped around y c f t guard ground site lvalue mode false uses.Read w → Q (placed t guard ground e i r v l) (cell_value_code c i r site lvalue mode false t) (with_int l i (Within w))
+      int_value_in : (t : Target) → IsInFrame r t → is_cell t ≡ true → (w : Width) → IntegerTyped around y c f t guard ground site lvalue mode false Use.Read w → Q (placed t guard ground e i r v l) (cell_value_code c i r site lvalue mode false t) (with_int l i (Within w))
       int_value_in (variable x) in_it is w h = absurd (false≢true is)
       int_value_in (in_global g n) in_it is w h =
           load_by i r l fr.at l.ints (λ j lt. refl) (i + 0) (omega arith) i r site lvalue (in_global g n) (guard_field c.program.typed mode) _ _ w tt (h e i r (over l l.ints Closed) (placed_by (in_global g n) l (λ q lt. refl) (λ q lt. refl) fr.at.owned tt in_it (no_copy l) l.ints (λ j lt. refl))) [] (with_int l i (Within w))
@@ -239,16 +227,16 @@ module _ (around : Setting) (f : ℕ) (D : (ℕ → Mark) → Type 0) (y : Typin
           (h e i r (over l ints Closed) (placed_by (in_global_at g n) l (λ q lt. refl) (λ q lt. refl) fr.at.owned tt in_it (no_copy l) ints (λ j lt. refl))) [] (with_int l i (Within w))
           (none around f D named top low from (with_int l i (Within w)) (with_int l i (Within w)) (fits_same around.targets (with_int l i (Within w))) (λ z. z))
       int_value_in (in_object n) in_it is w h =
-          load_by i (r + 1) B at_base l.ints (λ j lt. refl) (i + 0) (omega arith) i r site lvalue (in_object n) (guard_field c.program.typed mode) _ _ w tt (h e i r (over B l.ints Closed) (placed_by (in_object n) B env_base same_base fr.at.owned is_base in_it (λ _. copy_base copies) l.ints (λ j lt. refl))) (op.Pop r ∷ []) (with_int l i (Within w))
+          load_by i (r + 1) B at_base l.ints (λ j lt. refl) (i + 0) (omega arith) i r site lvalue (in_object n) (guard_field c.program.typed mode) _ _ w tt (h e i r (over B l.ints Closed) (placed_by (in_object n) B env_base same_base fr.at.owned is_base in_it (λ _. copy_base copies) l.ints (λ j lt. refl))) (Op.Pop r ∷ []) (with_int l i (Within w))
           (pop_at around f D named top low from (i + 1) r (set_number l i (Within w)) (at_number around f D named top low from i r l fr.at (Within w) (λ q b. absurd b)) fr.high ground.base v true base_fits (i + 1))
       int_value_in (in_object_at n) in_it is w h =
           let ints = ints_of (in_object_at n) guard ground e i r l.ints in
           load_by i (r + 1) B at_base ints (λ j lt. ints_below (in_object_at n) guard ground e i r l.ints j lt) (i + guard_width guard) (omega arith) i r site lvalue (in_object_at n) (guard_field c.program.typed mode) _ _ w
           (at_hand (in_object_at n) guard i r (i + guard_width guard) B fr.early (omega arith))
-          (h e i r (over B ints Closed) (placed_by (in_object_at n) B env_base same_base fr.at.owned is_base in_it (λ _. copy_base copies) ints (λ j lt. refl))) (op.Pop r ∷ []) (with_int l i (Within w))
+          (h e i r (over B ints Closed) (placed_by (in_object_at n) B env_base same_base fr.at.owned is_base in_it (λ _. copy_base copies) ints (λ j lt. refl))) (Op.Pop r ∷ []) (with_int l i (Within w))
           (pop_at around f D named top low from (i + 1) r (set_number l i (Within w)) (at_number around f D named top low from i r l fr.at (Within w) (λ q b. absurd b)) fr.high ground.base v true base_fits (i + 1))
 
-      pub int_value : (t : Target) → is_cell t ≡ true → (w : Width) → IntegerTyped around y c f t guard ground site lvalue mode false uses.Read w → Q (placed t guard ground e i r v l) (cell_value_code c i r site lvalue mode false t) (with_int l i (Within w))
+      pub int_value : (t : Target) → is_cell t ≡ true → (w : Width) → IntegerTyped around y c f t guard ground site lvalue mode false Use.Read w → Q (placed t guard ground e i r v l) (cell_value_code c i r site lvalue mode false t) (with_int l i (Within w))
       int_value t is w h = framed t (placed t guard ground e i r v l) (with_int l i (Within w)) (cell_value_code c i r site lvalue mode false t) (λ q lt. refl) (λ k. int_value_in t k is w h)
 
       -- ---- a reference
@@ -258,10 +246,10 @@ module _ (around : Setting) (f : ℕ) (D : (ℕ → Mark) → Type 0) (y : Typin
       zero_end : (s : StaticType) → Q (mark (fill l (r + 0) (Refers s) (r + 0) false) from i) [] (value_of s)
       zero_end s = let z : r ≡ r + 0 = omega arith in subst (λ k. Q (mark (fill l k (Refers s) k false) from i) [] (value_of s)) z (none around f D named top low from (value_of s) (value_of s) (fits_same around.targets (value_of s)) (λ z. z))
 
-      settled : (s : StaticType) → IsNamed named r s → Q (mark (fill B (r + 1) (Refers s) (r + 1) false) from i) (op.Settle r (r + 1) ∷ []) (value_of s)
+      settled : (s : StaticType) → IsNamed named r s → Q (mark (fill B (r + 1) (Refers s) (r + 1) false) from i) (Op.Settle r (r + 1) ∷ []) (value_of s)
       settled s fits = settle_base_at around f D named top low from i r l fr.at fr.high ground.base s v true false i base_fits fits copy
 
-      reference_value_in : (t : Target) → IsInFrame r t → is_cell t ≡ true → (s : StaticType) → IsNamed named r s → ReferenceTyped around y c f t guard ground site lvalue mode false uses.Read s → Q (placed t guard ground e i r v l) (cell_value_code c i r site lvalue mode true t) (value_of s)
+      reference_value_in : (t : Target) → IsInFrame r t → is_cell t ≡ true → (s : StaticType) → IsNamed named r s → ReferenceTyped around y c f t guard ground site lvalue mode false Use.Read s → Q (placed t guard ground e i r v l) (cell_value_code c i r site lvalue mode true t) (value_of s)
       reference_value_in (variable x) in_it is s fits h = absurd (false≢true is)
       reference_value_in (in_global g n) in_it is s fits h =
           load_reference_by i (r + 0) l at_zero l.ints (λ j lt. refl) (i + 0) (omega arith) i r site lvalue (in_global g n) (guard_field c.program.typed mode) _ _ s (wider_names r (r + 0) s (omega arith) fits) tt
@@ -273,14 +261,14 @@ module _ (around : Setting) (f : ℕ) (D : (ℕ → Mark) → Type 0) (y : Typin
           (h e i r (over l ints Closed) (placed_by (in_global_at g n) l (λ q lt. refl) (λ q lt. refl) fr.at.owned tt in_it (no_copy l) ints (λ j lt. refl))) [] (value_of s) (zero_end s)
       reference_value_in (in_object n) in_it is s fits h =
           load_reference_by i (r + 1) B at_base l.ints (λ j lt. refl) (i + 0) (omega arith) i r site lvalue (in_object n) (guard_field c.program.typed mode) _ _ s (wider_names r (r + 1) s (omega arith) fits) tt
-          (h e i r (over B l.ints Closed) (placed_by (in_object n) B env_base same_base fr.at.owned is_base in_it (λ _. copy_base copies) l.ints (λ j lt. refl))) (op.Settle r (r + 1) ∷ []) (value_of s) (settled s fits)
+          (h e i r (over B l.ints Closed) (placed_by (in_object n) B env_base same_base fr.at.owned is_base in_it (λ _. copy_base copies) l.ints (λ j lt. refl))) (Op.Settle r (r + 1) ∷ []) (value_of s) (settled s fits)
       reference_value_in (in_object_at n) in_it is s fits h =
           let ints = ints_of (in_object_at n) guard ground e i r l.ints in
           load_reference_by i (r + 1) B at_base ints (λ j lt. ints_below (in_object_at n) guard ground e i r l.ints j lt) (i + guard_width guard) (omega arith) i r site lvalue (in_object_at n) (guard_field c.program.typed mode) _ _ s (wider_names r (r + 1) s (omega arith) fits)
           (at_hand (in_object_at n) guard i r (i + guard_width guard) B fr.early (omega arith))
-          (h e i r (over B ints Closed) (placed_by (in_object_at n) B env_base same_base fr.at.owned is_base in_it (λ _. copy_base copies) ints (λ j lt. refl))) (op.Settle r (r + 1) ∷ []) (value_of s) (settled s fits)
+          (h e i r (over B ints Closed) (placed_by (in_object_at n) B env_base same_base fr.at.owned is_base in_it (λ _. copy_base copies) ints (λ j lt. refl))) (Op.Settle r (r + 1) ∷ []) (value_of s) (settled s fits)
 
-      pub reference_value : (t : Target) → is_cell t ≡ true → (s : StaticType) → IsNamed named r s → ReferenceTyped around y c f t guard ground site lvalue mode false uses.Read s → Q (placed t guard ground e i r v l) (cell_value_code c i r site lvalue mode true t) (value_of s)
+      pub reference_value : (t : Target) → is_cell t ≡ true → (s : StaticType) → IsNamed named r s → ReferenceTyped around y c f t guard ground site lvalue mode false Use.Read s → Q (placed t guard ground e i r v l) (cell_value_code c i r site lvalue mode true t) (value_of s)
       reference_value t is s fits h = framed t (placed t guard ground e i r v l) (value_of s) (cell_value_code c i r site lvalue mode true t) (λ q lt. refl) (λ k. reference_value_in t k is s fits h)
 
       -- ---- one that is taken away
@@ -296,11 +284,11 @@ module _ (around : Setting) (f : ℕ) (D : (ℕ → Mark) → Type 0) (y : Typin
             (h e i r (over l ints Closed) (placed_by (in_global_at g n) l (λ q lt. refl) (λ q lt. refl) fr.at.owned tt in_it (no_copy l) ints (λ j lt. refl))) [] (value_of s) (zero_end s)
         taken_value_in (in_object n) in_it is s fits h =
             take_by i (r + 1) B at_base l.ints (λ j lt. refl) (i + 0) (omega arith) i r site lvalue (in_object n) (guard_field c.program.typed mode) _ _ s (wider_names r (r + 1) s (omega arith) fits)
-            (h e i r (over B l.ints Closed) (placed_by (in_object n) B env_base same_base fr.at.owned is_base in_it (λ _. copy_base copies) l.ints (λ j lt. refl))) (op.Settle r (r + 1) ∷ []) (value_of s) (settled s fits)
+            (h e i r (over B l.ints Closed) (placed_by (in_object n) B env_base same_base fr.at.owned is_base in_it (λ _. copy_base copies) l.ints (λ j lt. refl))) (Op.Settle r (r + 1) ∷ []) (value_of s) (settled s fits)
         taken_value_in (in_object_at n) in_it is s fits h =
             let ints = ints_of (in_object_at n) guard ground e i r l.ints in
             take_by i (r + 1) B at_base ints (λ j lt. ints_below (in_object_at n) guard ground e i r l.ints j lt) (i + guard_width guard) (omega arith) i r site lvalue (in_object_at n) (guard_field c.program.typed mode) _ _ s (wider_names r (r + 1) s (omega arith) fits)
-            (h e i r (over B ints Closed) (placed_by (in_object_at n) B env_base same_base fr.at.owned is_base in_it (λ _. copy_base copies) ints (λ j lt. refl))) (op.Settle r (r + 1) ∷ []) (value_of s) (settled s fits)
+            (h e i r (over B ints Closed) (placed_by (in_object_at n) B env_base same_base fr.at.owned is_base in_it (λ _. copy_base copies) ints (λ j lt. refl))) (Op.Settle r (r + 1) ∷ []) (value_of s) (settled s fits)
 
         pub taken_value : (t : Target) → is_cell t ≡ true → (s : StaticType) → IsNamed named r s → ReferenceTyped around y c f t guard ground site lvalue mode true (form None) s → Q (placed t guard ground e i r v l) (cell_take_code c i r site lvalue mode form t) (value_of s)
         taken_value t is s fits h = framed t (placed t guard ground e i r v l) (value_of s) (cell_take_code c i r site lvalue mode form t) (λ q lt. refl) (λ k. taken_value_in t k is s fits h)
@@ -310,7 +298,7 @@ module _ (around : Setting) (f : ℕ) (D : (ℕ → Mark) → Type 0) (y : Typin
       abbrev pub number_at : Target → Width → Mark
       number_at t w = mark (set_number (placed t guard ground e i r v l).label (i + index_width t guard) (Within w)) from (i + index_width t guard)
 
-      int_store_in : (t : Target) → IsInFrame r t → is_cell t ≡ true → (w : Width) (vr : ℕ) → IntegerTyped around y c f t guard ground site lvalue mode true uses.Write w → Q (number_at t w) (cell_store_code c i r (i + index_width t guard) vr site lvalue mode false t) (mark l from i)
+      int_store_in : (t : Target) → IsInFrame r t → is_cell t ≡ true → (w : Width) (vr : ℕ) → IntegerTyped around y c f t guard ground site lvalue mode true Use.Write w → Q (number_at t w) (cell_store_code c i r (i + index_width t guard) vr site lvalue mode false t) (mark l from i)
       int_store_in (variable x) in_it is w vr h = absurd (false≢true is)
       int_store_in (in_global g n) in_it is w vr h =
           let ints = put l.ints (i + 0) (Within w) in
@@ -328,7 +316,7 @@ module _ (around : Setting) (f : ℕ) (D : (ℕ → Mark) → Type 0) (y : Typin
       int_store_in (in_object n) in_it is w vr h =
           let ints = put l.ints (i + 0) (Within w) in
           store_by i (r + 1) B at_base ints (λ j lt. put_other l.ints (i + 0) j (Within w) (λ z. omega (arith, z, lt))) (i + 0) (omega arith) i r site lvalue (in_object n) (guard_field c.program.typed mode) _ _ (i + 0) w (written l.ints (i + 0) w) tt
-          (h e i r (over B ints Closed) (placed_by (in_object n) B env_base same_base fr.at.owned is_base in_it (λ _. copy_base copies) ints (λ j lt. put_other l.ints (i + 0) j (Within w) (λ z. omega (arith, z, lt))))) (op.Pop r ∷ []) (mark l from i)
+          (h e i r (over B ints Closed) (placed_by (in_object n) B env_base same_base fr.at.owned is_base in_it (λ _. copy_base copies) ints (λ j lt. put_other l.ints (i + 0) j (Within w) (λ z. omega (arith, z, lt))))) (Op.Pop r ∷ []) (mark l from i)
           (pop_at around f D named top low from i r l fr.at fr.high ground.base v true base_fits i)
       int_store_in (in_object_at n) in_it is w vr h =
           let old = ints_of (in_object_at n) guard ground e i r l.ints in
@@ -336,10 +324,10 @@ module _ (around : Setting) (f : ℕ) (D : (ℕ → Mark) → Type 0) (y : Typin
           let ints = put old vi (Within w) in
           store_by i (r + 1) B at_base ints (λ j lt. put_other old vi j (Within w) (λ z. omega (arith, z, lt)) ∙ ints_below (in_object_at n) guard ground e i r l.ints j lt) vi (omega arith) i r site lvalue (in_object_at n) (guard_field c.program.typed mode) _ _ vi w (written old vi w)
           (at_hand (in_object_at n) guard i r vi B fr.early (omega arith))
-          (h e i r (over B ints Closed) (placed_by (in_object_at n) B env_base same_base fr.at.owned is_base in_it (λ _. copy_base copies) ints (λ j lt. put_other old vi j (Within w) (λ z. omega (arith, z, lt))))) (op.Pop r ∷ []) (mark l from i)
+          (h e i r (over B ints Closed) (placed_by (in_object_at n) B env_base same_base fr.at.owned is_base in_it (λ _. copy_base copies) ints (λ j lt. put_other old vi j (Within w) (λ z. omega (arith, z, lt))))) (Op.Pop r ∷ []) (mark l from i)
           (pop_at around f D named top low from i r l fr.at fr.high ground.base v true base_fits i)
 
-      pub int_store : (t : Target) → is_cell t ≡ true → (w : Width) (vr : ℕ) → IntegerTyped around y c f t guard ground site lvalue mode true uses.Write w → Q (number_at t w) (cell_store_code c i r (i + index_width t guard) vr site lvalue mode false t) (mark l from i)
+      pub int_store : (t : Target) → is_cell t ≡ true → (w : Width) (vr : ℕ) → IntegerTyped around y c f t guard ground site lvalue mode true Use.Write w → Q (number_at t w) (cell_store_code c i r (i + index_width t guard) vr site lvalue mode false t) (mark l from i)
       int_store t is w vr h = framed t (number_at t w) (mark l from i) (cell_store_code c i r (i + index_width t guard) vr site lvalue mode false t) (λ q lt. refl) (λ k. int_store_in t k is w vr h)
 
       -- a reference, in the register after the base
@@ -371,7 +359,7 @@ module _ (around : Setting) (f : ℕ) (D : (ℕ → Mark) → Type 0) (y : Typin
         is_base_z : (Z.env r ≡ Refers ground.base) × (Z.known r ≡ true)
         is_base_z = (put_other B.env (r + 1) r (Refers s) (λ z. omega (arith, z)) ∙ is_base.0, put_other B.known (r + 1) r b (λ z. omega (arith, z)) ∙ is_base.1)
 
-        reference_store_in : (t : Target) → IsInFrame r t → is_cell t ≡ true → w ≤ r + base_width t → (vi : ℕ) → ReferenceTyped around y c f t guard ground site lvalue mode true uses.Write s → Q (reference_at t) (cell_store_code c i r vi (r + base_width t) site lvalue mode true t) (mark l from i)
+        reference_store_in : (t : Target) → IsInFrame r t → is_cell t ≡ true → w ≤ r + base_width t → (vi : ℕ) → ReferenceTyped around y c f t guard ground site lvalue mode true Use.Write s → Q (reference_at t) (cell_store_code c i r vi (r + base_width t) site lvalue mode true t) (mark l from i)
         reference_store_in (variable x) in_it is small vi h = absurd (false≢true is)
         reference_store_in (in_global g n) in_it is small vi h =
             store_reference_by i (r + 0) l at_zero l.ints (λ j lt. refl) (i + 0) (omega arith) i r site lvalue (in_global g n) (guard_field c.program.typed mode) _ _ (let z = fr.high in omega (arith, z)) s w b (wider_names r (r + 0) s (omega arith) fits) small tt
@@ -385,14 +373,14 @@ module _ (around : Setting) (f : ℕ) (D : (ℕ → Mark) → Type 0) (y : Typin
             (none around f D named top low from (mark l from i) (mark l from i) (fits_same around.targets (mark l from i)) (λ z. z))
         reference_store_in (in_object n) in_it is small vi h =
             store_reference_by i (r + 1) B at_base l.ints (λ j lt. refl) (i + 0) (omega arith) i r site lvalue (in_object n) (guard_field c.program.typed mode) _ _ (let z = fr.high in omega (arith, z)) s w b (wider_names r (r + 1) s (omega arith) fits) small tt
-            (h e i r (over Z l.ints Closed) (placed_by (in_object n) Z env_z same_z fr.at.owned is_base_z in_it (λ _. copy_z) l.ints (λ j lt. refl))) (op.Pop r ∷ []) (mark l from i)
+            (h e i r (over Z l.ints Closed) (placed_by (in_object n) Z env_z same_z fr.at.owned is_base_z in_it (λ _. copy_z) l.ints (λ j lt. refl))) (Op.Pop r ∷ []) (mark l from i)
             (pop_at around f D named top low from i r l fr.at fr.high ground.base v true base_fits i)
         reference_store_in (in_object_at n) in_it is small vi h =
             let ints = ints_of (in_object_at n) guard ground e i r l.ints in
             store_reference_by i (r + 1) B at_base ints (λ j lt. ints_below (in_object_at n) guard ground e i r l.ints j lt) (i + guard_width guard) (omega arith) i r site lvalue (in_object_at n) (guard_field c.program.typed mode) _ _ (let z = fr.high in omega (arith, z)) s w b
             (wider_names r (r + 1) s (omega arith) fits) small (at_hand (in_object_at n) guard i r (i + guard_width guard) B fr.early (omega arith))
-            (h e i r (over Z ints Closed) (placed_by (in_object_at n) Z env_z same_z fr.at.owned is_base_z in_it (λ _. copy_z) ints (λ j lt. refl))) (op.Pop r ∷ []) (mark l from i)
+            (h e i r (over Z ints Closed) (placed_by (in_object_at n) Z env_z same_z fr.at.owned is_base_z in_it (λ _. copy_z) ints (λ j lt. refl))) (Op.Pop r ∷ []) (mark l from i)
             (pop_at around f D named top low from i r l fr.at fr.high ground.base v true base_fits i)
 
-        pub reference_store : (t : Target) → is_cell t ≡ true → w ≤ r + base_width t → (vi : ℕ) → ReferenceTyped around y c f t guard ground site lvalue mode true uses.Write s → Q (reference_at t) (cell_store_code c i r vi (r + base_width t) site lvalue mode true t) (mark l from i)
+        pub reference_store : (t : Target) → is_cell t ≡ true → w ≤ r + base_width t → (vi : ℕ) → ReferenceTyped around y c f t guard ground site lvalue mode true Use.Write s → Q (reference_at t) (cell_store_code c i r vi (r + base_width t) site lvalue mode true t) (mark l from i)
         reference_store t is small vi h = framed t (reference_at t) (mark l from i) (cell_store_code c i r vi (r + base_width t) site lvalue mode true t) (λ q lt. put_other (based t ground r v l).env (r + base_width t) q (Refers s) (λ z. omega (arith, z, lt))) (λ k. reference_store_in t k is small vi h)

@@ -1,17 +1,5 @@
 -- Operations that access cells, each by itself: their checks are typed whether they are dropped or not.
-use Rattle.std.proofs.{Common.{◌≡◌, ◌≢◌, ℕ, ◌+◌, ◌<◌, Bool, true, false, List, Some, refl, sym, ap, ◌∙◌, subst, ⊎_elim}, lemmas.Bool.cases_eq, lemmas.Option.{same_Some, none-some}}
-use Rattle.sharc_heap.specs.declared.shadow_word.Kind.TheVariants.{Read, Write}
-use Rattle.sharc_code.specs.{declared.code.PlaceMode.PlaceMode, declared.instr.Cell.Cell, declared.instr.Width.Width, Runs.put}
-use Rattle.sharc_code.specs.declared.code.PlaceMode.TheVariants as modes
-use Rattle.sharc_code.specs.declared.instr.Cell.TheVariants as cells
-use Rattle.sharc_code.proofs.Places.{put_same, put_other, put_all}
-use Rattle.sharc_flat.specs.{declared.op.Op.Op, declared.op.Spot.Spot}
-use Rattle.sharc_flat.specs.declared.op.Op.TheVariants as op
-use Rattle.sharc_guard.specs.Known.{Access, access, Know, know_next, is_straight}
-use Rattle.sharc_invariant.specs.{Types.{StaticType, Field, FieldType, FieldMode, Content, is_pointer, Mentions}, Types.FieldMode.{Private, Readonly, Dynamic, Under, Behind}, Types.Content.{Integer, Pointer}, Labels.{Empty, Refers, Within, Closed, Loaded, Pass, IsIn, Label, Less, LessEntry, IsScoped, IsFree, set_number, fill, empty, gated, without_base}, Typed.{IsVacant, IsOwn, Fits as FitsWidth, PointsTo, HasCell, ints_in, refs_in, knows_base}}
-use Rattle.sharc_typed_laws.specs.{Inside.{known_behind, lock_of, passed_behind}, Lines.{MayPass, PassesCheck}, Passes.{with_passes, with_all, IsPassed}, Stretches.{Mark, Setting, labels_by, Tells, Fits, IsTypedAt, IsAtHand, IsLine}, Places.{MayReach, mark}}
-use Rattle.sharc_typed_laws.proofs.{TypedAlike.{same_reference, less_entry, has_field, has_cell, sibling, mutex_of, mode_is, place_is, points_to}, Preorder.less_through, Rules.free_too}
-use Rattle.sharc_lemmas.proofs.Bools.{false_true as never}
+use Rattle.sharc_typed_laws.proofs.{Imports.{◌≡◌, ◌≢◌, ℕ, ◌+◌, ◌<◌, Bool, true, false, List, Some, refl, sym, ap, ◌∙◌, subst, ⊎_elim, cases_eq, same_Some, none-some, Read, Write, PlaceMode, Cell, Width, put, put_same, put_other, put_all, Op, Spot, Access, access, Know, know_next, is_straight, StaticType, Field, FieldType, FieldMode, Content, is_pointer, Mentions, Private, Readonly, Dynamic, Under, Behind, Integer, Pointer, Empty, Refers, Within, Closed, Loaded, Pass, IsIn, Label, Less, LessEntry, IsScoped, IsFree, set_number, fill, empty, gated, without_base, IsVacant, IsOwn, FitsWidth, PointsTo, HasCell, ints_in, refs_in, knows_base, known_behind, lock_of, passed_behind, MayPass, PassesCheck, with_passes, with_all, IsPassed, Mark, Setting, labels_by, Tells, Fits, IsTypedAt, IsAtHand, IsLine, MayReach, mark, never}, TypedAlike.{same_reference, less_entry, has_field, has_cell, sibling, mutex_of, mode_is, place_is, points_to}, Preorder.less_through, Rules.free_too}
 
 -- ---- less, with checks that are remembered, and more of what is not NULL
 pub with_more : (a b : Label) (known : ℕ → Bool) (ps qs : List Pass) → Less a b → ((r : ℕ) → a.known r ≡ true → known r ≡ true) → ((p : Pass) → IsIn p qs → IsIn p ps) → Less (record a { known = known; passed = ps }) (with_passes b qs)
@@ -27,13 +15,13 @@ with_more a b known ps qs h more sub = record {
 }
 
 knows_more : (l : Label) (c : Cell) (r : ℕ) → l.known r ≡ true → (knows_base l c).known r ≡ true
-knows_more l (cells.Object q i) r e = put_all (λ r y. l.known r ≡ true → y ≡ true) l.known q true (λ _. refl) (λ r _ e. e) r e
-knows_more l (cells.ObjectAt q i) r e = put_all (λ r y. l.known r ≡ true → y ≡ true) l.known q true (λ _. refl) (λ r _ e. e) r e
+knows_more l (Cell.Object q i) r e = put_all (λ r y. l.known r ≡ true → y ≡ true) l.known q true (λ _. refl) (λ r _ e. e) r e
+knows_more l (Cell.ObjectAt q i) r e = put_all (λ r y. l.known r ≡ true → y ≡ true) l.known q true (λ _. refl) (λ r _ e. e) r e
 knows_more l _ r e = e
 
 more_behind : (l : Label) (spot : Spot) (mode : PlaceMode) (r : ℕ) → l.known r ≡ true → known_behind l spot mode r ≡ true
-more_behind l spot (modes.LockedSibling f m) r e = knows_more l spot.lock r e
-more_behind l spot (modes.LockedThrough q p) r e = knows_more l (cells.Object q p) r e
+more_behind l spot (PlaceMode.LockedSibling f m) r e = knows_more l spot.lock r e
+more_behind l spot (PlaceMode.LockedThrough q p) r e = knows_more l (Cell.Object q p) r e
 more_behind l spot _ r e = e
 
 cleared_too : (g k : ℕ → Bool) (r : ℕ) → ((q : ℕ) → g q ≡ true → k q ≡ true) → (q : ℕ) → put g r false q ≡ true → put k r false q ≡ true
@@ -42,7 +30,7 @@ cleared_too g k r more q h = ⊎_elim (λ (z : q ≡ r). never (sym (ap (put g r
 -- ---- the check of an access
 module _ (around : Setting) (table : ℕ → Mark) (passes : ℕ → List Pass) (l : Label) (write : Bool) (c : Cell) (spot : Spot) (ps : List Pass) where
   own_too : (c : Cell) → IsOwn (labels_by around (λ n. mark l 0 0)) l c → IsOwn (with_all (labels_by around table) passes) (with_passes l ps) c
-  own_too (cells.Global g p) h = h
+  own_too (Cell.Global g p) h = h
   own_too _ h = h
 
   may_too : (d : Bool) (m : Cell) (holds : Content) (mode : FieldMode) → (d ≡ true → IsPassed around.targets l ps write c) → (d ≡ true → is_pointer holds ≡ false) → MayPass around.targets around.code (labels_by around (λ n. mark l 0 0)) false l write c m holds mode
@@ -92,9 +80,9 @@ module _ (around : Setting) (f : ℕ) (table : ℕ → Mark) (pc : ℕ) (s e : M
   integer_only : (w : Width) (h : Content) → h ≡ Integer w → is_pointer h ≡ false
   integer_only w h e = ap is_pointer e
 
-  pub on_load : (i : ℕ) (c : Cell) (spot : Spot) (field : Field) (w : Width) → IsAtHand s c → i < ints_in around.code l.function → MayReach around l false c spot field → field.holds ≡ Integer w → Less (set_number l i (Within w)) e.label → Told (op.Load i c spot)
-      → IsLine around f table pc s (op.Load i c spot)
-  on_load i c spot field w hand int may holds less told = goes_on (op.Load i c spot) (λ a z. subst (λ (a : Access). IsAtHand s a.cell) (same_Some (record { kind = Read; cell = c; spot = spot }) a z) hand) told (λ dropped passes repeats jumps on. record {
+  pub on_load : (i : ℕ) (c : Cell) (spot : Spot) (field : Field) (w : Width) → IsAtHand s c → i < ints_in around.code l.function → MayReach around l false c spot field → field.holds ≡ Integer w → Less (set_number l i (Within w)) e.label → Told (Op.Load i c spot)
+      → IsLine around f table pc s (Op.Load i c spot)
+  on_load i c spot field w hand int may holds less told = goes_on (Op.Load i c spot) (λ a z. subst (λ (a : Access). IsAtHand s a.cell) (same_Some (record { kind = Read; cell = c; spot = spot }) a z) hand) told (λ dropped passes repeats jumps on. record {
     field = field;
     width = w;
     register = int;
@@ -104,8 +92,8 @@ module _ (around : Setting) (f : ℕ) (table : ℕ → Mark) (pc : ℕ) (s e : M
         (λ r k. more_behind (with_passes l (passes pc)) spot spot.mode r k) on;
   })
 
-  pub on_store : (i : ℕ) (c : Cell) (spot : Spot) (field : Field) (w : Width) → IsAtHand s c → MayReach around l true c spot field → field.holds ≡ Integer w → FitsWidth (l.ints i) w → Less (gated l Closed) e.label → Told (op.Store i c spot) → IsLine around f table pc s (op.Store i c spot)
-  on_store i c spot field w hand may holds fits less told = goes_on (op.Store i c spot) (λ a z. subst (λ (a : Access). IsAtHand s a.cell) (same_Some (record { kind = Write; cell = c; spot = spot }) a z) hand) told (λ dropped passes repeats jumps on. record {
+  pub on_store : (i : ℕ) (c : Cell) (spot : Spot) (field : Field) (w : Width) → IsAtHand s c → MayReach around l true c spot field → field.holds ≡ Integer w → FitsWidth (l.ints i) w → Less (gated l Closed) e.label → Told (Op.Store i c spot) → IsLine around f table pc s (Op.Store i c spot)
+  on_store i c spot field w hand may holds fits less told = goes_on (Op.Store i c spot) (λ a z. subst (λ (a : Access). IsAtHand s a.cell) (same_Some (record { kind = Write; cell = c; spot = spot }) a z) hand) told (λ dropped passes repeats jumps on. record {
     field = field;
     width = w;
     access = check_passes around table passes l true c spot (passes pc) dropped field repeats (λ _. integer_only w field.holds holds) may;
@@ -119,8 +107,8 @@ module _ (around : Setting) (f : ℕ) (table : ℕ → Mark) (pc : ℕ) (s e : M
   vacant_too r ps h = record { is = h.is; empty = h.empty }
 
   pub on_load_reference : (r : ℕ) (c : Cell) (spot : Spot) (field : Field) (type : StaticType) → IsAtHand s c → IsVacant around.code l r → MayReach around l false c spot field → PointsTo l c field type → (Mentions type r → ⊥)
-      → Less (fill l r (Refers type) r false) e.label → Told (op.LoadRef r c spot) → IsLine around f table pc s (op.LoadRef r c spot)
-  on_load_reference r c spot field type hand vacant may points other less told = goes_on (op.LoadRef r c spot) (λ a z. subst (λ (a : Access). IsAtHand s a.cell) (same_Some (record { kind = Read; cell = c; spot = spot }) a z) hand) told (λ dropped passes repeats jumps on. record {
+      → Less (fill l r (Refers type) r false) e.label → Told (Op.LoadRef r c spot) → IsLine around f table pc s (Op.LoadRef r c spot)
+  on_load_reference r c spot field type hand vacant may points other less told = goes_on (Op.LoadRef r c spot) (λ a z. subst (λ (a : Access). IsAtHand s a.cell) (same_Some (record { kind = Read; cell = c; spot = spot }) a z) hand) told (λ dropped passes repeats jumps on. record {
     field = field;
     type = type;
     register = vacant_too r (passes pc) vacant;
@@ -132,8 +120,8 @@ module _ (around : Setting) (f : ℕ) (table : ℕ → Mark) (pc : ℕ) (s e : M
   })
 
   pub on_take_cell : (r : ℕ) (c : Cell) (spot : Spot) (field : Field) (type : StaticType) → IsVacant around.code l r → MayReach around l true c spot field → PointsTo l c field type → (Mentions type r → ⊥)
-      → Less (fill l r (Refers type) r false) e.label → IsLine around f table pc s (op.TakeCell r c spot)
-  on_take_cell r c spot field type vacant may points other less = goes_on (op.TakeCell r c spot) (λ a z. absurd (none-some a z)) (λ z. never z) (λ dropped passes repeats jumps on. record {
+      → Less (fill l r (Refers type) r false) e.label → IsLine around f table pc s (Op.TakeCell r c spot)
+  on_take_cell r c spot field type vacant may points other less = goes_on (Op.TakeCell r c spot) (λ a z. absurd (none-some a z)) (λ z. never z) (λ dropped passes repeats jumps on. record {
     field = field;
     type = type;
     register = vacant_too r (passes pc) vacant;
@@ -145,8 +133,8 @@ module _ (around : Setting) (f : ℕ) (table : ℕ → Mark) (pc : ℕ) (s e : M
   })
 
   pub on_store_reference : (r : ℕ) (c : Cell) (spot : Spot) (field : Field) → IsAtHand s c → r < refs_in around.code l.function → MayReach around l true c spot field → PointsTo l c field s.replaced → LessEntry l r (l.env r) (Refers s.replaced) → IsFree l r
-      → (Mentions s.replaced r → ⊥) → ((q : ℕ) → Mentions s.replaced q → l.env q ≢ Empty) → Less (empty (fill (empty l r) r (Refers s.replaced) r false) r) e.label → Told (op.StoreRef r c spot) → IsLine around f table pc s (op.StoreRef r c spot)
-  on_store_reference r c spot field hand ref may points value free other paths less told = goes_on (op.StoreRef r c spot) (λ a z. subst (λ (a : Access). IsAtHand s a.cell) (same_Some (record { kind = Write; cell = c; spot = spot }) a z) hand) told (λ dropped passes repeats jumps on.
+      → (Mentions s.replaced r → ⊥) → ((q : ℕ) → Mentions s.replaced q → l.env q ≢ Empty) → Less (empty (fill (empty l r) r (Refers s.replaced) r false) r) e.label → Told (Op.StoreRef r c spot) → IsLine around f table pc s (Op.StoreRef r c spot)
+  on_store_reference r c spot field hand ref may points value free other paths less told = goes_on (Op.StoreRef r c spot) (λ a z. subst (λ (a : Access). IsAtHand s a.cell) (same_Some (record { kind = Write; cell = c; spot = spot }) a z) hand) told (λ dropped passes repeats jumps on.
       let kb = known_behind (with_passes l (passes pc)) spot spot.mode in record {
         field = field;
         register = ref;
@@ -163,9 +151,9 @@ module _ (around : Setting) (f : ℕ) (table : ℕ → Mark) (pc : ℕ) (s e : M
       thrice : (kb : ℕ → Bool) → ((q : ℕ) → l.known q ≡ true → kb q ≡ true) → (q : ℕ) → put (put (put l.known r false) r false) r false q ≡ true → put (put (put kb r false) r false) r false q ≡ true
       thrice kb more q k = cleared_too (put (put l.known r false) r false) (put (put kb r false) r false) r (λ q z. cleared_too (put l.known r false) (put kb r false) r (λ q y. cleared_too l.known kb r more q y) q z) q k
 
-  pub on_load_guard : (c : Cell) (spot : Spot) (field : Field) (to : FieldType) → l.gate ≡ Closed → HasCell around.targets around.code l c field → field.mode ≡ Readonly → field.holds ≡ Pointer to → Less (gated l (Loaded c)) e.label → Told (op.LoadGuard c spot)
-      → IsLine around f table pc s (op.LoadGuard c spot)
-  on_load_guard c spot field to closed cell mode holds less told = goes_on (op.LoadGuard c spot) (λ a z. absurd (none-some a z)) told (λ dropped passes repeats jumps on. record {
+  pub on_load_guard : (c : Cell) (spot : Spot) (field : Field) (to : FieldType) → l.gate ≡ Closed → HasCell around.targets around.code l c field → field.mode ≡ Readonly → field.holds ≡ Pointer to → Less (gated l (Loaded c)) e.label → Told (Op.LoadGuard c spot)
+      → IsLine around f table pc s (Op.LoadGuard c spot)
+  on_load_guard c spot field to closed cell mode holds less told = goes_on (Op.LoadGuard c spot) (λ a z. absurd (none-some a z)) told (λ dropped passes repeats jumps on. record {
     field = field;
     to = to;
     closed = closed;

@@ -1,13 +1,5 @@
 -- What a typed operation of a straight piece leaves: registers that it does not write hold what they held, and indexes of globals are past granule 0.
-use Rattle.std.proofs.{Common.{◌≡◌, ◌≢◌, ℕ, ◌≤◌, Bool, true, false, cond, ◌||◌, Option, Some, refl, sym, ◌∙◌, subst, ⊎_elim}, lemmas.Bool.false≢true, lemmas.Option.none-some}
-use Rattle.std.specs.Prelude.{nat_eq}
-use Rattle.sharc_code.specs.{declared.code.Code.Code, declared.instr.Width.TheVariants.{Char, Int, Long}, Runs.put}
-use Rattle.sharc_flat.specs.declared.op.Op.{Op}
-use Rattle.sharc_flat.specs.declared.op.Op.TheVariants as op
-use Rattle.sharc_guard.specs.Known.{is_straight, writes_ref, writes_int, number_given}
-use Rattle.sharc_invariant.specs.{Types.{Targets, StaticType}, Labels.{Entry, Empty, Refers, Unknown, Number, Anything, Exactly, Within, Indexes, OfElement, OfGlobal, Closed, Label, Labels, LessEntry, LessNumber, Less, set_number, fill, empty, forgets, forgotten, without_index, some_names, gated}}
-use Rattle.sharc_typed_laws.specs.{Inside.behind, Lines.TypedLine}
-use Rattle.sharc_lemmas.proofs.Bools.{or_first as not_left, or_second as not_right}
+use Rattle.sharc_typed_laws.proofs.Imports.{◌≡◌, ◌≢◌, ℕ, ◌≤◌, Bool, true, false, cond, ◌||◌, Option, Some, refl, sym, ◌∙◌, subst, ⊎_elim, false≢true, none-some, nat_eq, Code, Char, Int, Long, put, Op, is_straight, writes_ref, writes_int, number_given, Targets, StaticType, Entry, Empty, Refers, Unknown, Number, Anything, Exactly, Within, Indexes, OfElement, OfGlobal, Closed, Label, Labels, LessEntry, LessNumber, Less, set_number, fill, empty, forgets, forgotten, without_index, some_names, gated, behind, TypedLine, not_left, not_right}
 
 -- the number of a cell of a global is none of granule 0
 abbrev pub IsPast : Number → Type 0
@@ -16,7 +8,7 @@ IsPast _ = Unit {0}
 
 -- nor does an operation make one that is
 abbrev pub OpPast : Op → Type 0
-OpPast (op.GlobalBounds i elements cells field spot) = 2 ≤ field
+OpPast (Op.GlobalBounds i elements cells field spot) = 2 ≤ field
 OpPast _ = Unit {0}
 
 -- ---- knowing less
@@ -121,55 +113,55 @@ stored o none l k r s writes less =
     on o l (empty b r) k less (through o none l b (empty b r) (through o none l a b (empties o none l r writes) (fills o none a r (Refers s) r false writes)) (empties o none b r writes))
 
 pub after : (x : Targets) (code : Code) (ls : Labels) (lines : ℕ) (dropped : Bool) (type : StaticType) (n : ℕ) (l k : Label) (o : Op) → is_straight o ≡ true → TypedLine x code ls lines dropped type n l k o → After o l k
-after x code ls lines dropped type n l k op.Enter s h = same op.Enter (λ i v old w g. false≢true w) l k h
-after x code ls lines dropped type n l k (op.Constant i v) s h = sets_own (op.Constant i v) i (λ j. refl) l k (Exactly v) (λ _. tt) h.2
-after x code ls lines dropped type n l k (op.Move i from) s h =
-    let o = op.Move i from in
+after x code ls lines dropped type n l k Op.Enter s h = same Op.Enter (λ i v old w g. false≢true w) l k h
+after x code ls lines dropped type n l k (Op.Constant i v) s h = sets_own (Op.Constant i v) i (λ j. refl) l k (Exactly v) (λ _. tt) h.2
+after x code ls lines dropped type n l k (Op.Move i from) s h =
+    let o = Op.Move i from in
     ⊎_elim (λ a. sets_other o (λ j v old w g. none-some v g) i (λ j. refl) l k (l.ints from) a.2)
     (λ b. let m : Label = record l { ints = put l.ints from (Indexes b.0) } in
     through o (λ j v old w g. none-some v g) l m k (record { full = λ v w f. f; past = λ j w p. number_any l.ints from (Indexes b.0) j tt p; given = λ j v old w g p. absurd (none-some v g) })
     (sets_plain o (λ j v old w g. none-some v g) m k i (Indexes b.0) tt b.3.2)) h
-after x code ls lines dropped type n l k (op.Compute Char operator i a b spot) s h = sets_plain (op.Compute Char operator i a b spot) (λ j v old w g. none-some v g) l k i (Within Int) tt h.1.2
-after x code ls lines dropped type n l k (op.Compute Int operator i a b spot) s h = sets_plain (op.Compute Int operator i a b spot) (λ j v old w g. none-some v g) l k i (Within Int) tt h.1.2
-after x code ls lines dropped type n l k (op.Compute Long operator i a b spot) s h = sets_plain (op.Compute Long operator i a b spot) (λ j v old w g. none-some v g) l k i (Within Long) tt h.1.2
-after x code ls lines dropped type n l k (op.Negate Char i a spot) s h = sets_plain (op.Negate Char i a spot) (λ j v old w g. none-some v g) l k i (Within Int) tt h.2
-after x code ls lines dropped type n l k (op.Negate Int i a spot) s h = sets_plain (op.Negate Int i a spot) (λ j v old w g. none-some v g) l k i (Within Int) tt h.2
-after x code ls lines dropped type n l k (op.Negate Long i a spot) s h = sets_plain (op.Negate Long i a spot) (λ j v old w g. none-some v g) l k i (Within Long) tt h.2
-after x code ls lines dropped type n l k (op.Complement i a) s h = sets_plain (op.Complement i a) (λ j v old w g. none-some v g) l k i (Within h.0) tt h.2.2
-after x code ls lines dropped type n l k (op.IsFalse i a) s h = sets_plain (op.IsFalse i a) (λ j v old w g. none-some v g) l k i (Within Char) tt h.2
-after x code ls lines dropped type n l k (op.SameReference i a b) s h = sets_plain (op.SameReference i a b) (λ j v old w g. none-some v g) l k i (Within Char) tt h.2
-after x code ls lines dropped type n l k (op.ChkWidth width i spot) s h =
-    let o = op.ChkWidth width i spot in
+after x code ls lines dropped type n l k (Op.Compute Char operator i a b spot) s h = sets_plain (Op.Compute Char operator i a b spot) (λ j v old w g. none-some v g) l k i (Within Int) tt h.1.2
+after x code ls lines dropped type n l k (Op.Compute Int operator i a b spot) s h = sets_plain (Op.Compute Int operator i a b spot) (λ j v old w g. none-some v g) l k i (Within Int) tt h.1.2
+after x code ls lines dropped type n l k (Op.Compute Long operator i a b spot) s h = sets_plain (Op.Compute Long operator i a b spot) (λ j v old w g. none-some v g) l k i (Within Long) tt h.1.2
+after x code ls lines dropped type n l k (Op.Negate Char i a spot) s h = sets_plain (Op.Negate Char i a spot) (λ j v old w g. none-some v g) l k i (Within Int) tt h.2
+after x code ls lines dropped type n l k (Op.Negate Int i a spot) s h = sets_plain (Op.Negate Int i a spot) (λ j v old w g. none-some v g) l k i (Within Int) tt h.2
+after x code ls lines dropped type n l k (Op.Negate Long i a spot) s h = sets_plain (Op.Negate Long i a spot) (λ j v old w g. none-some v g) l k i (Within Long) tt h.2
+after x code ls lines dropped type n l k (Op.Complement i a) s h = sets_plain (Op.Complement i a) (λ j v old w g. none-some v g) l k i (Within h.0) tt h.2.2
+after x code ls lines dropped type n l k (Op.IsFalse i a) s h = sets_plain (Op.IsFalse i a) (λ j v old w g. none-some v g) l k i (Within Char) tt h.2
+after x code ls lines dropped type n l k (Op.SameReference i a b) s h = sets_plain (Op.SameReference i a b) (λ j v old w g. none-some v g) l k i (Within Char) tt h.2
+after x code ls lines dropped type n l k (Op.ChkWidth width i spot) s h =
+    let o = Op.ChkWidth width i spot in
     ⊎_elim (λ a. same o (λ j v old w g. false≢true w) l k a.1) (λ b. sets_plain o (λ j v old w g. false≢true w) l k i (Within width) tt b.2) h
-after x code ls lines dropped type n l k (op.Null r) s h = same (op.Null r) (λ j v old w g. false≢true w) l k h.2
-after x code ls lines dropped type n l k (op.Local r y) s h = refills (op.Local r y) (λ j v old w g. false≢true w) l k r (l.env y) (l.same y) (l.known y) (λ v w. w) h.3
-after x code ls lines dropped type n l k (op.MoveReference r from) s h =
-    let o = op.MoveReference r from in
+after x code ls lines dropped type n l k (Op.Null r) s h = same (Op.Null r) (λ j v old w g. false≢true w) l k h.2
+after x code ls lines dropped type n l k (Op.Local r y) s h = refills (Op.Local r y) (λ j v old w g. false≢true w) l k r (l.env y) (l.same y) (l.known y) (λ v w. w) h.3
+after x code ls lines dropped type n l k (Op.MoveReference r from) s h =
+    let o = Op.MoveReference r from in
     ⊎_elim (λ a. same o (λ j v old w g. false≢true w) l k a.1)
     (λ b. moves o (λ j v old w g. false≢true w) l k r from _ _ _ (λ v w. not_left (nat_eq v r) (nat_eq v from) w) (λ v w. not_right (nat_eq v r) (nat_eq v from) w) b.5) h.1
-after x code ls lines dropped type n l k (op.Pop r) s h =
-    let o = op.Pop r in
+after x code ls lines dropped type n l k (Op.Pop r) s h =
+    let o = Op.Pop r in
     ⊎_elim (λ a. on o l (empty l r) k a.1 (empties o (λ j v old w g. false≢true w) l r (λ v w. w)))
     (λ (b : Less (empty (forgets l r) r) k). on o l (empty (forgets l r) r) k b
     (through o (λ j v old w g. false≢true w) l (forgets l r) (empty (forgets l r) r) (forgets_after o (λ j v old w g. false≢true w) l r) (empties o (λ j v old w g. false≢true w) (forgets l r) r (λ v w. w)))) h.2
-after x code ls lines dropped type n l k (op.Settle to from) s h =
-    let o = op.Settle to from in
+after x code ls lines dropped type n l k (Op.Settle to from) s h =
+    let o = Op.Settle to from in
     through o (λ j v old w g. false≢true w) l (empty l to) k (empties o (λ j v old w g. false≢true w) l to (λ v w. not_left (nat_eq v to) (nat_eq v from) w))
     (moves o (λ j v old w g. false≢true w) (empty l to) k to from _ _ _ (λ v w. not_left (nat_eq v to) (nat_eq v from) w) (λ v w. not_right (nat_eq v to) (nat_eq v from) w) h.next)
-after x code ls lines dropped type n l k (op.ChkNull r spot) s h = let a = same (op.ChkNull r spot) (λ j v old w g. false≢true w) _ k h.1 in record { full = a.full; past = a.past; given = a.given }
-after x code ls lines dropped type n l k (op.ChkPositive i spot) s h = same (op.ChkPositive i spot) (λ j v old w g. false≢true w) l k h.1
-after x code ls lines dropped type n l k (op.ChkHeld c spot) s h = let a = same (op.ChkHeld c spot) (λ j v old w g. false≢true w) _ k h.2 in record { full = a.full; past = a.past; given = a.given }
-after x code ls lines dropped type n l k (op.ChkNotHeld c spot) s h = same (op.ChkNotHeld c spot) (λ j v old w g. false≢true w) l k h.2
-after x code ls lines dropped type n l k (op.ChkRoom spot) s h = let a = same (op.ChkRoom spot) (λ j v old w g. false≢true w) _ k h.1 in record { full = a.full; past = a.past; given = a.given }
-after x code ls lines dropped type n l k (op.Bounds i r cells field spot) s h = sets_own (op.Bounds i r cells field spot) i (λ j. refl) l k (OfElement r field h.5.0) (λ _. tt) h.5.2
-after x code ls lines dropped type n l k (op.GlobalBounds i elements cells field spot) s h = sets_own (op.GlobalBounds i elements cells field spot) i (λ j. refl) l k (OfGlobal field cells elements h.3.0) (λ p. p) h.3.2
-after x code ls lines dropped type n l k (op.Load i c spot) s h = let a = sets_plain (op.Load i c spot) (λ j v old w g. none-some v g) (behind x dropped l false c spot) k i (Within h.width) tt h.next in record { full = a.full; past = a.past; given = a.given }
-after x code ls lines dropped type n l k (op.Store i c spot) s h = let a = same (op.Store i c spot) (λ j v old w g. false≢true w) (gated (behind x dropped l true c spot) Closed) k h.next in record { full = a.full; past = a.past; given = a.given }
-after x code ls lines dropped type n l k (op.LoadRef r c spot) s h = let a = refills (op.LoadRef r c spot) (λ j v old w g. false≢true w) (behind x false l false c spot) k r (Refers h.type) r false (λ v w. w) h.next in record { full = a.full; past = a.past; given = a.given }
-after x code ls lines dropped type n l k (op.StoreRef r c spot) s h = let a = stored (op.StoreRef r c spot) (λ j v old w g. false≢true w) (behind x false l true c spot) k r type (λ v w. w) h.next in record { full = a.full; past = a.past; given = a.given }
-after x code ls lines dropped type n l k (op.LoadGuard c spot) s h = let a = same (op.LoadGuard c spot) (λ j v old w g. false≢true w) _ k h.next in record { full = a.full; past = a.past; given = a.given }
-after x code ls lines dropped type n l k (op.New r count cells spot) s h = refills (op.New r count cells spot) (λ j v old w g. false≢true w) l k r (Refers h.type) r true (λ v w. w) h.next
-after x code ls lines dropped type n l k (op.CondSignal c spot) s h = same (op.CondSignal c spot) (λ j v old w g. false≢true w) l k h.2
-after x code ls lines dropped type n l k (op.CondBroadcast c spot) s h = same (op.CondBroadcast c spot) (λ j v old w g. false≢true w) l k h.2
-after x code ls lines dropped type n l k (op.Print i spot) s h = same (op.Print i spot) (λ j v old w g. false≢true w) l k h.1
+after x code ls lines dropped type n l k (Op.ChkNull r spot) s h = let a = same (Op.ChkNull r spot) (λ j v old w g. false≢true w) _ k h.1 in record { full = a.full; past = a.past; given = a.given }
+after x code ls lines dropped type n l k (Op.ChkPositive i spot) s h = same (Op.ChkPositive i spot) (λ j v old w g. false≢true w) l k h.1
+after x code ls lines dropped type n l k (Op.ChkHeld c spot) s h = let a = same (Op.ChkHeld c spot) (λ j v old w g. false≢true w) _ k h.2 in record { full = a.full; past = a.past; given = a.given }
+after x code ls lines dropped type n l k (Op.ChkNotHeld c spot) s h = same (Op.ChkNotHeld c spot) (λ j v old w g. false≢true w) l k h.2
+after x code ls lines dropped type n l k (Op.ChkRoom spot) s h = let a = same (Op.ChkRoom spot) (λ j v old w g. false≢true w) _ k h.1 in record { full = a.full; past = a.past; given = a.given }
+after x code ls lines dropped type n l k (Op.Bounds i r cells field spot) s h = sets_own (Op.Bounds i r cells field spot) i (λ j. refl) l k (OfElement r field h.5.0) (λ _. tt) h.5.2
+after x code ls lines dropped type n l k (Op.GlobalBounds i elements cells field spot) s h = sets_own (Op.GlobalBounds i elements cells field spot) i (λ j. refl) l k (OfGlobal field cells elements h.3.0) (λ p. p) h.3.2
+after x code ls lines dropped type n l k (Op.Load i c spot) s h = let a = sets_plain (Op.Load i c spot) (λ j v old w g. none-some v g) (behind x dropped l false c spot) k i (Within h.width) tt h.next in record { full = a.full; past = a.past; given = a.given }
+after x code ls lines dropped type n l k (Op.Store i c spot) s h = let a = same (Op.Store i c spot) (λ j v old w g. false≢true w) (gated (behind x dropped l true c spot) Closed) k h.next in record { full = a.full; past = a.past; given = a.given }
+after x code ls lines dropped type n l k (Op.LoadRef r c spot) s h = let a = refills (Op.LoadRef r c spot) (λ j v old w g. false≢true w) (behind x false l false c spot) k r (Refers h.type) r false (λ v w. w) h.next in record { full = a.full; past = a.past; given = a.given }
+after x code ls lines dropped type n l k (Op.StoreRef r c spot) s h = let a = stored (Op.StoreRef r c spot) (λ j v old w g. false≢true w) (behind x false l true c spot) k r type (λ v w. w) h.next in record { full = a.full; past = a.past; given = a.given }
+after x code ls lines dropped type n l k (Op.LoadGuard c spot) s h = let a = same (Op.LoadGuard c spot) (λ j v old w g. false≢true w) _ k h.next in record { full = a.full; past = a.past; given = a.given }
+after x code ls lines dropped type n l k (Op.New r count cells spot) s h = refills (Op.New r count cells spot) (λ j v old w g. false≢true w) l k r (Refers h.type) r true (λ v w. w) h.next
+after x code ls lines dropped type n l k (Op.CondSignal c spot) s h = same (Op.CondSignal c spot) (λ j v old w g. false≢true w) l k h.2
+after x code ls lines dropped type n l k (Op.CondBroadcast c spot) s h = same (Op.CondBroadcast c spot) (λ j v old w g. false≢true w) l k h.2
+after x code ls lines dropped type n l k (Op.Print i spot) s h = same (Op.Print i spot) (λ j v old w g. false≢true w) l k h.1
 after x code ls lines dropped type n l k o s h = absurd (false≢true s)

@@ -1,16 +1,7 @@
 -- Flat code that is typed whatever checks are remembered is typed with those that are.
-use Rattle.std.proofs.{Common.{◌⊎◌, ◌≡◌, ℕ, zero, suc, ◌+◌, ◌<◌, ◌≤◌, Bool, true, false, ◌&&◌, ◌||◌, List, [], ◌∷◌, length, Option, Some, None, refl, sym, ap, ◌∙◌, subst, inl, inr, ⊎_elim, arith}, lemmas.Bool.{cases_lt, or_right}, lemmas.Bool.Decides.nat_tests, lemmas.Option.{same_Some, none-some}}
-use Rattle.std.specs.Prelude.{slice_get, slice_index_or, nat_lt, ◌==◌, if◌then◌else◌}
-use Rattle.sharc_heap.specs.{declared.shadow_word.Kind.Kind, declared.shadow_word.Kind.TheVariants.{Read, Write}}
-use Rattle.sharc_code.specs.{declared.code.Code.Code, declared.code.Function.Function, declared.instr.Cell.Cell, Machine.no_function}
-use Rattle.sharc_code.specs.declared.instr.Cell.TheVariants as cells
-use Rattle.sharc_flat.specs.{declared.op.Op.Op, Machine.{Flat, function_of as flat_function}}
-use Rattle.sharc_flat.specs.declared.op.Op.TheVariants as op
-use Rattle.sharc_guard.specs.Known.{leads_to, is_target, is_led_to, line_leads, is_entry, SimplePlace, in_variable, in_global, Access, access, tells, Know, place_of, known, has_passed, drops, drops_at, dropped}
-use Rattle.sharc_invariant.specs.{Types.{Targets, StaticType, Field}, Labels.{Pass, IsIn, Label, Labels, Less, IsScoped}, Typed.{HasField, Covers, ints_in, refs_in, entry_label}}
-use Rattle.sharc_typed_laws.specs.{Inside.FlatLabels, Lines.{TypedLine, IsTypedFlat, To}, Passes.{is_write, pass_at, passes_next, passes_after, passes_before, passes_in, with_passes, with_all, with_checks, remembered, IsPassed, RepeatsCheck, Knows, IsTypedAnyhow}}
-use Rattle.sharc_typed_laws.proofs.{Checking.pass_is, Passing.{was_passed, covers, pass_eq, goes_on}, Lines.within as line_within}
-use Rattle.sharc_lemmas.proofs.{Numbers.eq_refl, Bools.and_right}
+use Rattle.sharc_typed_laws.proofs.{Imports.{◌⊎◌, ◌≡◌, ℕ, zero, suc, ◌+◌, ◌<◌, ◌≤◌, Bool, true, false, ◌&&◌, ◌||◌, List, [], ◌∷◌, length, Option, Some, None, refl, sym, ap, ◌∙◌, subst, inl, inr, ⊎_elim, arith, cases_lt, or_right, nat_tests, same_Some, none-some, slice_get, slice_index_or, nat_lt, ◌==◌, if◌then◌else◌, Read, Write, Code, Row as Function, Cell, no_function, Op, Flat, flat_function, leads_to, is_target, is_led_to, line_leads, is_entry, SimplePlace, in_variable, Access, access, tells, Know, place_of, known, has_passed, drops, drops_at, dropped, Targets, StaticType, Field, Pass, IsIn, Label, Labels, Less, IsScoped, HasField, Covers, ints_in, refs_in, entry_label, FlatLabels, TypedLine, IsTypedFlat, To, is_write, pass_at, passes_next, passes_after, passes_before, passes_in, with_passes, with_all, with_checks, remembered, IsPassed, RepeatsCheck, Knows, IsTypedAnyhow, eq_refl, and_right}, Checking.pass_is, Passing.{was_passed, covers, pass_eq, goes_on}, Lines.{within as line_within}}
+use Rattle.sharc_heap.specs.declared.shadow_word.Kind.{Kind}
+use Rattle.sharc_guard.specs.Known.{in_global}
 
 -- ---- targets
 led_to : (lines : List Op) (m n t : ℕ) (o : Op) → n < m → slice_get lines n ≡ Some o → leads_to n o t ≡ true → is_led_to lines m t ≡ true
@@ -38,14 +29,14 @@ entry_at (x ∷ fs) (suc f) lt = either ((slice_index_or fs f no_function).entry
 
 -- ---- what a line that is typed says of the cell that it accesses
 field_over : (x : Targets) (code : Code) (l : Label) (ps qs : List Pass) (c : Cell) (f : Field) → HasField x code (with_passes l ps) c f → HasField x code (with_passes l qs) c f
-field_over x code l ps qs (cells.Global g p) f h = h
+field_over x code l ps qs (Cell.Global g p) f h = h
 field_over x code l ps qs _ f h = h
 
 fields_of : (x : Targets) (code : Code) (ls : Labels) (lines : ℕ) (type : StaticType) (n : ℕ) (l k : Label) (o : Op) → TypedLine x code ls lines false type n l k o → (a : Access) → access o ≡ Some a → (f : Field) × HasField x code l a.cell f
-fields_of x code ls lines type n l k (op.Load i c spot) h a e = let same = same_Some _ a e in subst (λ (a : Access). (f : Field) × HasField x code l a.cell f) same (h.field, h.access.cell.field)
-fields_of x code ls lines type n l k (op.Store i c spot) h a e = let same = same_Some _ a e in subst (λ (a : Access). (f : Field) × HasField x code l a.cell f) same (h.field, h.access.cell.field)
-fields_of x code ls lines type n l k (op.LoadRef r c spot) h a e = let same = same_Some _ a e in subst (λ (a : Access). (f : Field) × HasField x code l a.cell f) same (h.field, h.access.cell.field)
-fields_of x code ls lines type n l k (op.StoreRef r c spot) h a e = let same = same_Some _ a e in subst (λ (a : Access). (f : Field) × HasField x code l a.cell f) same (h.field, h.access.cell.field)
+fields_of x code ls lines type n l k (Op.Load i c spot) h a e = let same = same_Some _ a e in subst (λ (a : Access). (f : Field) × HasField x code l a.cell f) same (h.field, h.access.cell.field)
+fields_of x code ls lines type n l k (Op.Store i c spot) h a e = let same = same_Some _ a e in subst (λ (a : Access). (f : Field) × HasField x code l a.cell f) same (h.field, h.access.cell.field)
+fields_of x code ls lines type n l k (Op.LoadRef r c spot) h a e = let same = same_Some _ a e in subst (λ (a : Access). (f : Field) × HasField x code l a.cell f) same (h.field, h.access.cell.field)
+fields_of x code ls lines type n l k (Op.StoreRef r c spot) h a e = let same = same_Some _ a e in subst (λ (a : Access). (f : Field) × HasField x code l a.cell f) same (h.field, h.access.cell.field)
 fields_of x code ls lines type n l k o h a e = absurd (none-some a e)
 
 less_none : (l k : Label) → Less l k → Less l (with_passes k [])
@@ -140,14 +131,14 @@ module _ (x : Targets) (code : Code) (fl : FlatLabels) (flat : Flat) (t : IsType
     whole_field a e = fields l.passed a e
 
   repeats : (n : ℕ) (o : Op) → slice_get flat.lines n ≡ Some o → drops (known flat n) o ≡ true → RepeatsCheck x (label n) (passes n) o
-  repeats n (op.Load i c spot) at d =
+  repeats n (Op.Load i c spot) at d =
       let a : Access = record { kind = Read; cell = c; spot = spot } in
-      let f = whole_field n (op.Load i c spot) at a refl in
-      passed_at n (op.Load i c spot) at Read c f.0 f.1 (t.knows n (op.Load i c spot) a at refl) (λ g p e. low n (op.Load i c spot) at a g p refl e) (and_right (tells spot) (has_passed (known flat n) Read (place_of (known flat n) c)) d)
-  repeats n (op.Store i c spot) at d =
+      let f = whole_field n (Op.Load i c spot) at a refl in
+      passed_at n (Op.Load i c spot) at Read c f.0 f.1 (t.knows n (Op.Load i c spot) a at refl) (λ g p e. low n (Op.Load i c spot) at a g p refl e) (and_right (tells spot) (has_passed (known flat n) Read (place_of (known flat n) c)) d)
+  repeats n (Op.Store i c spot) at d =
       let a : Access = record { kind = Write; cell = c; spot = spot } in
-      let f = whole_field n (op.Store i c spot) at a refl in
-      passed_at n (op.Store i c spot) at Write c f.0 f.1 (t.knows n (op.Store i c spot) a at refl) (λ g p e. low n (op.Store i c spot) at a g p refl e) (and_right (tells spot) (has_passed (known flat n) Write (place_of (known flat n) c)) d)
+      let f = whole_field n (Op.Store i c spot) at a refl in
+      passed_at n (Op.Store i c spot) at Write c f.0 f.1 (t.knows n (Op.Store i c spot) a at refl) (λ g p e. low n (Op.Store i c spot) at a g p refl e) (and_right (tells spot) (has_passed (known flat n) Write (place_of (known flat n) c)) d)
   repeats n o at d = absurd (cc)
 
   line : (n : ℕ) (o : Op) → slice_get flat.lines n ≡ Some o → TypedLine x code (with_all fl.lines passes) lines (dropped flat n) (fl.replaced n) n (with_passes (label n) (passes n)) (with_passes (label (n + 1)) (passes (n + 1))) o

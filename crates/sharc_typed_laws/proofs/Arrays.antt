@@ -1,20 +1,7 @@
 -- What is indexed as an array is a global of the program, so none of its cells is one of granule 0.
-use Rattle.std.proofs.{Common.{◌≡◌, ℕ, zero, suc, ◌+◌, ◌<◌, ◌≤◌, Bool, true, false, cond, ◌||◌, List, [], ◌∷◌, ◌++◌, length, Option, Some, None, refl, arith}, lemmas.List.Elements.Contains-append_right}
-use Rattle.std.specs.{Prelude.{slice_get, slice_index_or, Contains}, List.AllByRecursion}
-use Rattle.sharc_tree.specs.{declared.token.NumberType.NumberType, declared.tree.declaration.Declaration.Declaration, declared.tree.item.GlobalDefinition.GlobalDefinition, declared.tree.expression.FieldOperator.TheVariants.Dot, declared.tree.expression.Constant.Constant, declared.tree.expression.UnaryOperator.UnaryOperator, declared.tree.expression.UnaryOperator.TheVariants.{Not, Dereference}, Measures.{expressions, in_function}, Tree.{Expression, identifier, constant, parentheses, call, index, field, unary, binary, Function}}
-use Rattle.sharc_tree.specs.declared.token.NumberType.TheVariants as width
-use Rattle.sharc_tree.specs.declared.tree.expression.Constant.TheVariants as constants
-use Rattle.sharc_names.specs.{declared.fault.Named.Named as Name, Kinds.{Kind, array, int, long, is_array, element_kind, is_long}}
+use Rattle.sharc_typed_laws.proofs.Imports.{◌≡◌, ℕ, zero, suc, ◌+◌, ◌<◌, ◌≤◌, Bool, true, false, cond, ◌||◌, List, [], ◌∷◌, ◌++◌, length, Option, Some, None, refl, arith, Contains-append_right, slice_get, slice_index_or, Contains, AllByRecursion, NumberType, Declaration, GlobalDefinition, Dot, Constant, UnaryOperator, Not, Dereference, expressions, Expression, identifier, constant, parentheses, call, index, field, unary, binary, Function, Name, Kind, array, int, long, is_array, element_kind, is_long, no_global, OperatorClass, class_of, number_kind, constant_kind, unary_result, binary_result, Resolution, globals_in, named_at, function_at, declaration_at, variable_kind, result_kind_of, global_kind_of, named_kind, called_kind, kind_at, Assignment, IsFunction, field_place_named, first_cell, Target, in_global, in_global_at, in_object_at, global_of, own_field, named_target, target, granules_in, globals_from, globals_of, AreGlobalsNamed, never as none_of}
+use Rattle.sharc_tree.specs.Measures.{in_function}
 use Rattle.sharc_names.specs.declared.fault.Named.TheVariants as named
-use Rattle.sharc_code.specs.Says.{no_global}
-use Rattle.sharc_ctype.specs.{declared.expr.OperatorClass.OperatorClass, Expressions.{class_of, number_kind, constant_kind, unary_result, binary_result}, Resolved.{Resolution, globals_in, named_at, function_at, declaration_at, variable_kind, result_kind_of, global_kind_of, named_kind, called_kind, kind_at}}
-use Rattle.sharc_ctype.specs.declared.expr.OperatorClass.TheVariants as classes
-use Rattle.sharc_mode.specs.Moded.{Assignment}
-use Rattle.sharc_check.specs.Constructs.{IsFunction}
-use Rattle.sharc_meaning.specs.Cells.{field_place_named}
-use Rattle.sharc_flat.specs.{Machine.first_cell, Places.{Target, in_global, in_global_at, in_object_at, global_of, own_field, named_target, target}, Tables.{granules_in, globals_from, globals_of}}
-use Rattle.sharc_typed_laws.specs.Programs.{AreGlobalsNamed}
-use Rattle.sharc_lemmas.proofs.Bools.{false_true as none_of}
 
 -- ---- the table of globals
 granule_is : (r : Resolution) (at : ℕ) (gs : List GlobalDefinition) → 1 ≤ at → (g : ℕ) → g < length gs → 1 ≤ (slice_index_or (globals_from r at gs) g no_global).granule
@@ -40,11 +27,11 @@ result_plain None e = none_of e
 result_plain (Some f) e = none_of e
 
 number_plain : (t : NumberType) → is_array (number_kind t) ≡ true → ⊥
-number_plain width.Int e = none_of e
-number_plain width.Long e = none_of e
+number_plain NumberType.Int e = none_of e
+number_plain NumberType.Long e = none_of e
 
 constant_plain : (k : Constant) → is_array (constant_kind k) ≡ true → ⊥
-constant_plain (constants.Number n) e = number_plain n.number_type e
+constant_plain (Constant.Number n) e = number_plain n.number_type e
 constant_plain _ e = none_of e
 
 element_plain : (k : Kind) → is_array (element_kind k) ≡ true → ⊥
@@ -61,8 +48,8 @@ unary_plain Dereference k e = element_plain k e
 unary_plain _ k e = wide_plain (is_long k) e
 
 binary_plain : (o : OperatorClass) (a b : Kind) → is_array (binary_result o a b) ≡ true → ⊥
-binary_plain classes.Shift a b e = wide_plain (is_long a) e
-binary_plain classes.Arithmetic a b e = wide_plain (is_long a || is_long b) e
+binary_plain OperatorClass.Shift a b e = wide_plain (is_long a) e
+binary_plain OperatorClass.Arithmetic a b e = wide_plain (is_long a || is_long b) e
 binary_plain _ a b e = none_of e
 
 module _ (r : Resolution) where

@@ -1,13 +1,5 @@
 -- The functions of a program one after the other: what is said before each of their lines, and where they begin.
-use Rattle.std.proofs.{Common.{◌≡◌, ℕ, zero, suc, ◌+◌, ◌-◌, ◌<◌, ◌≤◌, Bool, true, false, cond, List, [], ◌∷◌, ◌++◌, length, Some, refl, sym, ap, ◌∙◌, subst, arith, length-append}, lemmas.Bool.Decides.nat_tests, lemmas.Option.{same_Some, none-some}}
-use Rattle.std.specs.Prelude.{slice_get, slice_index_or, nat_lt}
-use Rattle.sharc_tree.specs.Tree.{Function}
-use Rattle.sharc_code.specs.{declared.code.GlobalCells.GlobalCells, Machine.no_function}
-use Rattle.sharc_mode.specs.Moded.{Assignment}
-use Rattle.sharc_flat.specs.{declared.op.Op.Op, Flattened.{in_function, function_code, functions_code, rows_of}}
-use Rattle.sharc_typed_laws.specs.{Stretches.{Mark, Setting, Fits, IsLine, Agrees, AreLines, first}, Premises.Typing, Declared.before, Begun.label_of, Functions.FunctionLines}
-use Rattle.sharc_lemmas.proofs.Lists.{front_got as get_left}
-use Rattle.sharc_typed_laws.proofs.Closing.{agrees_left}
+use Rattle.sharc_typed_laws.proofs.{Imports.{◌≡◌, ℕ, zero, suc, ◌+◌, ◌-◌, ◌<◌, ◌≤◌, Bool, true, false, cond, List, [], ◌∷◌, ◌++◌, length, Some, refl, sym, ap, ◌∙◌, subst, arith, length-append, nat_tests, same_Some, none-some, slice_get, slice_index_or, nat_lt, Function, GlobalCells, no_function, Assignment, Op, in_function, function_code, functions_code, rows_of, Mark, Setting, Fits, IsLine, Agrees, AreLines, first, Typing, before, label_of, FunctionLines, get_left}, Closing.agrees_left}
 
 -- ---- lists
 get_right : {A : Type 0} (xs ys : List A) (j : ℕ) → slice_get (xs ++ ys) (length xs + j) ≡ slice_get ys j

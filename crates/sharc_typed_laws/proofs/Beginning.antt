@@ -1,9 +1,5 @@
 -- What is known before a statement is what the types of the variables say.
-use Rattle.std.proofs.{Common.{◌≡◌, ◌≢◌, ℕ, ◌<◌, ◌≤◌, true, false, cond, refl, sym, ap, ◌∙◌, subst, ⊎_elim, arith}, lemmas.Bool.{false≢true, cases_lt}, lemmas.Bool.Decides.nat_tests}
-use Rattle.std.specs.Prelude.{nat_lt}
-use Rattle.sharc_flat.specs.Scope.{Context, int_count, ref_count}
-use Rattle.sharc_invariant.specs.Labels.{Entry, Empty, Refers, Anything, Within, HasBase, EntryMentions}
-use Rattle.sharc_typed_laws.specs.{Places.IsNamed, Premises.Typing, Declared.StandsBefore, Begun.{label_of, LabelsStand}}
+use Rattle.sharc_typed_laws.proofs.Imports.{◌≡◌, ◌≢◌, ℕ, ◌<◌, ◌≤◌, true, false, cond, refl, sym, ap, ◌∙◌, subst, ⊎_elim, arith, false≢true, cases_lt, nat_tests, nat_lt, Context, int_count, ref_count, Entry, Empty, Refers, Anything, Within, HasBase, EntryMentions, IsNamed, Typing, StandsBefore, label_of, LabelsStand}
 
 inside : {A : Type 0} (q n : ℕ) (a b : A) → q < n → cond (nat_lt q n) a b ≡ a
 inside q n a b lt = let e : nat_lt q n ≡ true = grind (arith, nat_tests, lt) in ap (λ z. cond z a b) e

@@ -1,12 +1,6 @@
 -- Statements and blocks at a line.
-use Rattle.std.proofs.Common.{◌≡◌, ℕ, ◌+◌, List, [], ◌∷◌, ◌++◌, length, Some, refl}
-use Rattle.sharc_flat.specs.{declared.op.Op.Op, Scope.{Context, int_count, ref_count, pops}}
-use Rattle.sharc_flat.specs.declared.op.Op.TheVariants as op
-use Rattle.sharc_invariant.specs.{Labels.Label, Typed.{ints_in, refs_in}}
-use Rattle.sharc_invariant.proofs.Scoped.{less_refl}
-use Rattle.sharc_typed_laws.specs.{Stretches.{Mark, Setting, Way, AreOpen, LeadsAmong, LeadsFrom}, Places.AreLow, Premises.Typing, Declared.{StandsBefore, before}, Blocks.{BlocksAreTyped, AnywhereLeads, EnterLeads, BlockLeads}}
+use Rattle.sharc_typed_laws.proofs.{Imports.{◌≡◌, ℕ, ◌+◌, List, [], ◌∷◌, ◌++◌, length, Some, refl, Op, Context, int_count, ref_count, pops, Label, ints_in, refs_in, less_refl, Mark, Setting, Way, AreOpen, LeadsAmong, LeadsFrom, AreLow, Typing, StandsBefore, before, BlocksAreTyped, AnywhereLeads, EnterLeads, BlockLeads}, Rules.on_block_end, Parts.{At, keeps, enter_at, within_right}, Ending.ends_typed, Closing.within_left}
 use Rattle.sharc_typed_laws.proofs.Flow as flow
-use Rattle.sharc_typed_laws.proofs.{Rules.on_block_end, Parts.{At, keeps, enter_at, within_right}, Ending.ends_typed, Closing.within_left}
 
 module _ (z : Setting) (f : ℕ) (ways : List Way) (y : Typing) (c : Context) (low : AreLow (y.named c) (ref_count c.scope)) (l : Label) (here : StandsBefore y c f l) where
   abbrev fi : ℕ
@@ -37,17 +31,17 @@ module _ (z : Setting) (f : ℕ) (ways : List Way) (y : Typing) (c : Context) (l
       record { stretch = flow.joins z f (AreOpen z ways) s m e pc xs ys a.stretch (flow.moved z f (AreOpen z ways) m n (pc + length xs) ys e is b.stretch); scoped = b.scoped }
 
   enter : EnterLeads z f ways y c l
-  enter pc e os p = joins pc (pc + 1) (before c l) (before c l) e (op.Enter ∷ []) os refl (anywhere pc (before c l) (before c l) (op.Enter ∷ []) (enter_at z f (AreOpen z ways) (y.named c) r low i i r l at i)) p
+  enter pc e os p = joins pc (pc + 1) (before c l) (before c l) e (Op.Enter ∷ []) os refl (anywhere pc (before c l) (before c l) (Op.Enter ∷ []) (enter_at z f (AreOpen z ways) (y.named c) r low i i r l at i)) p
 
-  closes : LeadsAmong z f ways (before c l) (op.BlockEnd ∷ []) (before c l)
-  closes = keeps z f (AreOpen z ways) (y.named c) r low i i r l at i op.BlockEnd (λ table pc w plain next. on_block_end z f table pc (before c l) (before c l) next plain (less_refl l))
+  closes : LeadsAmong z f ways (before c l) (Op.BlockEnd ∷ []) (before c l)
+  closes = keeps z f (AreOpen z ways) (y.named c) r low i i r l at i Op.BlockEnd (λ table pc w plain next. on_block_end z f table pc (before c l) (before c l) next plain (less_refl l))
 
   block : BlockLeads z f ways y c l
   block pc d slots grows k there os p =
       let ends = pops r slots in
       let p2 = joins (pc + 1) (pc + 1 + length os) (before c l) (before d k) (before c l) os ends refl p (anywhere (pc + 1 + length os) (before d k) (before c l) ends (ends_typed z f ways y c d slots low grows l k here there)) in
-      enter pc (before c l) ((os ++ ends) ++ op.BlockEnd ∷ [])
-      (joins (pc + 1) (pc + 1 + length (os ++ ends)) (before c l) (before c l) (before c l) (os ++ ends) (op.BlockEnd ∷ []) refl p2 (anywhere (pc + 1 + length (os ++ ends)) (before c l) (before c l) (op.BlockEnd ∷ []) closes))
+      enter pc (before c l) ((os ++ ends) ++ Op.BlockEnd ∷ [])
+      (joins (pc + 1) (pc + 1 + length (os ++ ends)) (before c l) (before c l) (before c l) (os ++ ends) (Op.BlockEnd ∷ []) refl p2 (anywhere (pc + 1 + length (os ++ ends)) (before c l) (before c l) (Op.BlockEnd ∷ []) closes))
 
 pub blocks_typed : BlocksAreTyped
 blocks_typed z f ways y c low l here = record { anywhere = anywhere z f ways y c low l here; enter = enter z f ways y c low l here; block = block z f ways y c low l here }

@@ -1,15 +1,5 @@
 -- The code of a function whose types say what is asked is typed, wherever it is.
-use Rattle.std.proofs.{Common.{◌≡◌, ℕ, ◌+◌, ◌≤◌, false, List, [], ◌∷◌, ◌++◌, length, Some, refl, sym, subst, arith, append_assoc, append-nil}, lemmas.Bool.false≢true}
-use Rattle.sharc_tree.specs.Tree.{Function}
-use Rattle.sharc_names.specs.Kinds.{Kind, declared_kind}
-use Rattle.sharc_meaning.specs.State.{is_reference}
-use Rattle.sharc_code.specs.declared.code.GlobalCells.{GlobalCells}
-use Rattle.sharc_mode.specs.Moded.{Assignment}
-use Rattle.sharc_flat.specs.{declared.op.Op.Op, Scope.{Context, int_count, ref_count, ends_from, at_site}, Flattened.{zero_code, around_body, in_function, function_code, statements_code, behind_statements}}
-use Rattle.sharc_flat.specs.declared.op.Op.TheVariants as op
-use Rattle.sharc_invariant.specs.Typed.{ints_in, refs_in}
-use Rattle.sharc_typed_laws.specs.{Stretches.{Mark, Setting, AreWithin, LeadsFrom}, Premises.Typing, Declared.before, Begun.label_of, Functions.{IsLowTyping, FunctionTypable, FunctionLines, FunctionsAreTyped}}
-use Rattle.sharc_typed_laws.proofs.{Growing.{Extends, AreNamed, nested}, StatementAlike.scoped_in, Closing.closes, Stating.{Below, Inside, all_typed}}
+use Rattle.sharc_typed_laws.proofs.{Imports.{◌≡◌, ℕ, ◌+◌, ◌≤◌, false, List, [], ◌∷◌, ◌++◌, length, Some, refl, sym, subst, arith, append_assoc, append-nil, false≢true, Function, Kind, declared_kind, is_reference, GlobalCells, Assignment, Op, Context, int_count, ref_count, ends_from, at_site, zero_code, around_body, in_function, function_code, statements_code, behind_statements, ints_in, refs_in, Mark, Setting, AreWithin, LeadsFrom, Typing, before, label_of, IsLowTyping, FunctionTypable, FunctionLines, FunctionsAreTyped}, Growing.{Extends, AreNamed, nested}, StatementAlike.scoped_in, Closing.closes, Stating.{Below, Inside, all_typed}}
 
 -- the statements, the ends of the variables, the result, and back
 body_parts : (o : Op) (s e r t : List Op) → (o ∷ (s ++ ((e ++ []) ++ r))) ++ t ≡ o ∷ (s ++ (e ++ (r ++ t)))
@@ -56,14 +46,14 @@ module _ (laws : Below) (z : Setting) (n : ℕ) (y : Typing) (lows : IsLowTyping
       let e = ends_from d.scope 0 in
       let v = zero_code (is_reference kind) 0 0 in
       let r = laws.nothing_returns z n [] y d top (label_of y d n) (label_of y top n) (lows d) ended (0 ∷ []) (nested y n lows laws.labels d (0 ∷ []) top (inside d t.grown).inner) refl refl kind h.gives spot in
-      let back = op.Return spot ∷ [] in
-      let is = body_parts op.Enter s e v back in
+      let back = Op.Return spot ∷ [] in
+      let is = body_parts Op.Enter s e v back in
       let blocks = laws.blocks z n [] y c (lows c) (label_of y c n) begun in
       let join = (laws.decisions z n [] (y.named c) (int_count c.scope) (int_count c.scope) (ref_count c.scope) (label_of y c n) begun.stands.stands begun.stands.owned).join in
       let after : LeadsFrom z n [] (pc + 1 + length s) (at d) ((e ++ []) ++ v) r.mark = λ w h. let a = r.leads w h in record { stretch = a.stretch (pc + 1 + length s); scoped = a.scoped } in
       let all = blocks.enter pc r.mark (s ++ ((e ++ []) ++ v)) (join (pc + 1) (at c) (at d) r.mark s ((e ++ []) ++ v) t.leads after) in
       subst (FunctionLines z n pc (at c)) is
-      (closes z n pc (at c) r.mark (op.Enter ∷ (s ++ ((e ++ []) ++ v))) (op.Return spot) (subst (AreWithin (ints_in z.code (Some n)) (refs_in z.code (Some n))) (sym is) w)
+      (closes z n pc (at c) r.mark (Op.Enter ∷ (s ++ ((e ++ []) ++ v))) (Op.Return spot) (subst (AreWithin (ints_in z.code (Some n)) (refs_in z.code (Some n))) (sym is) w)
       (scoped_in y c n (ints_in z.code (Some n)) (refs_in z.code (Some n)) (label_of y c n) wide high begun) all r.returns)
 
 pub functions_typed : Below → FunctionsAreTyped

@@ -1,13 +1,5 @@
 -- A call, after what is passed to it.
-use Rattle.std.proofs.{Common.{◌≡◌, ℕ, ◌+◌, ◌<◌, ◌≤◌, Bool, true, false, cond, ◌&&◌, List, [], ◌∷◌, length, Some, refl, sym, ap, ◌∙◌, subst, inl, ⊎_elim, arith}, lemmas.Bool.{false≢true, cases_eq, cases_lt}, lemmas.Bool.Decides.nat_tests}
-use Rattle.std.specs.Prelude.{nat_eq, nat_lt}
-use Rattle.sharc_code.proofs.Places.{put_same, put_other, put_all}
-use Rattle.sharc_flat.specs.{declared.op.Op.Op, declared.op.Spot.Spot, Scope.{Context, ref_count}}
-use Rattle.sharc_flat.specs.declared.op.Op.TheVariants as op
-use Rattle.sharc_invariant.specs.{Types.StaticType, Labels.{Entry, Empty, Refers, Number, Anything, Indexes, OfElement, OfGlobal, Closed, Label, Less, LessNumber, LessEntry, LessGate, EntryMentions, HasBase, IsScoped, fill, set_number}, Typed.{Passes, ints_in, refs_in, below, below_copy, below_number, called_label}}
-use Rattle.sharc_invariant.proofs.Scoped.{less_entry_refl, less_number_refl, scoped_fill}
-use Rattle.sharc_typed_laws.specs.{Stretches.{Mark, Setting}, Places.{IsNamed, IsPlain, mark}, Premises.Typing}
-use Rattle.sharc_typed_laws.proofs.{Standing.{less_by, scoped_frame, stands_number}, Handing.{CallFits, on_call}, Parts.{P, does, with_number}, Accessed.Frame}
+use Rattle.sharc_typed_laws.proofs.{Imports.{◌≡◌, ℕ, ◌+◌, ◌<◌, ◌≤◌, Bool, true, false, cond, ◌&&◌, List, [], ◌∷◌, length, Some, refl, sym, ap, ◌∙◌, subst, inl, ⊎_elim, arith, false≢true, cases_eq, cases_lt, nat_tests, nat_eq, nat_lt, put_same, put_other, put_all, Op, Spot, Context, ref_count, StaticType, Entry, Empty, Refers, Number, Anything, Indexes, OfElement, OfGlobal, Closed, Label, Less, LessNumber, LessEntry, LessGate, EntryMentions, HasBase, IsScoped, fill, set_number, Passes, ints_in, refs_in, below, below_copy, below_number, called_label, less_entry_refl, less_number_refl, scoped_fill, Mark, Setting, IsNamed, IsPlain, mark, Typing}, Standing.{less_by, scoped_frame, stands_number}, Handing.{CallFits, on_call}, Parts.{P, does, with_number}, Accessed.Frame}
 
 module _ (around : Setting) (f : ℕ) (D : (ℕ → Mark) → Type 0) (y : Typing) (c : Context) (low : (p : ℕ) → y.named c p ≡ true → p < ref_count c.scope) (from : ℕ) where
   abbrev N : ℕ → Bool
@@ -89,12 +81,12 @@ module _ (around : Setting) (f : ℕ) (D : (ℕ → Mark) → Type 0) (y : Typin
 
     module _ (a b g : ℕ) (spot : Spot) (is : g < length around.code.functions.items) (alone : (around.signature g).alone ≡ true → (around.signature f).alone ≡ true) (passes : (p : ℕ) → Passes k r (r + p) (k.env (r + p)) ((around.signature g).takes p)) (numbers : (j : ℕ) → LessNumber (k.ints (i + j)) ((around.signature g).takes_ints j)) where
       called_by : (t : Label) (until : ℕ) → (IsScoped (ints_in around.code (Some f)) (refs_in around.code (Some f)) k → i < ints_in around.code (Some f) → r < refs_in around.code (Some f) → IsScoped (ints_in around.code (Some f)) (refs_in around.code (Some f)) t) → Less (l0 g) t
-          → Q (mark k a b) (op.Call g i r spot ∷ []) (mark t from until)
-      called_by t until sc less = does around f D N top low from (mark k a b) (op.Call g i r spot) (mark t from until) (λ w h. sc h w.0 w.1)
+          → Q (mark k a b) (Op.Call g i r spot ∷ []) (mark t from until)
+      called_by t until sc less = does around f D N top low from (mark k a b) (Op.Call g i r spot) (mark t from until) (λ w h. sc h w.0 w.1)
           (λ table pc w h next. on_call around f table pc (mark k a b) (record { owned = owned; scoped = h }) (mark t from until) next g i r spot closed (fits_call g is alone passes numbers w.0 w.1) less)
 
       -- a reference
-      pub call_reference : (s : StaticType) → IsNamed N r s → (around.signature g).result ≡ Refers s → Q (mark k a b) (op.Call g i r spot ∷ []) (mark (fill l r (Refers s) r false) from i)
+      pub call_reference : (s : StaticType) → IsNamed N r s → (around.signature g).result ≡ Refers s → Q (mark k a b) (Op.Call g i r spot ∷ []) (mark (fill l r (Refers s) r false) from i)
       call_reference s fits result =
           let t = fill l r (Refers s) r false in
           called_by t i (λ h int ref. scoped_fill (ints_in around.code (Some f)) (refs_in around.code (Some f)) l r s r false ref (λ q m. fr.at.stands.full q (fits q m).0) (inl refl) (scoped_frame N i r l fr.at.stands (ints_in around.code (Some f)) (refs_in around.code (Some f)) (few_left h) (few_numbers h)))
@@ -110,7 +102,7 @@ module _ (around : Setting) (f : ℕ) (D : (ℕ → Mark) → Type 0) (y : Typin
           (subst (LessNumber (below_number r (around.signature g).result_int)) (sym (put_same l.ints i n)) number) (λ j lt. put_other l.ints i j n (λ e. omega (arith, e, lt)) ∙ fr.at.stands.numbers j (omega (arith, lt))) refl fr.at.stands.nothing_passed (λ e. absurd (false≢true (sym fr.at.stands.no_room ∙ e)))
 
       -- an integer
-      pub call_number : (n : Number) → IsPlain n → (around.signature g).result ≡ Empty → (around.signature g).result_int ≡ n → Q (mark k a b) (op.Call g i r spot ∷ []) (with_number around f D N top low from l i n)
+      pub call_number : (n : Number) → IsPlain n → (around.signature g).result ≡ Empty → (around.signature g).result_int ≡ n → Q (mark k a b) (Op.Call g i r spot ∷ []) (with_number around f D N top low from l i n)
       call_number n plain result number = called_by (set_number l i n) (i + 1)
           (λ h int ref. scoped_frame N (i + 1) r (set_number l i n) (stands_number N i r l fr.at.stands n (λ q b. base n plain q b)) (ints_in around.code (Some f)) (refs_in around.code (Some f)) (few_left h)
           (put_all (λ j z. ints_in around.code (Some f) ≤ j → z ≡ Anything) l.ints i n (λ ge. absurd (omega (arith, int, ge))) (λ j _ ge. few_numbers h j ge)))
@@ -123,7 +115,7 @@ module _ (around : Setting) (f : ℕ) (D : (ℕ → Mark) → Type 0) (y : Typin
           base _ plain q h = absurd h
 
       -- nothing
-      pub call_nothing : (around.signature g).result ≡ Empty → Q (mark k a b) (op.Call g i r spot ∷ []) (mark l from i)
+      pub call_nothing : (around.signature g).result ≡ Empty → Q (mark k a b) (Op.Call g i r spot ∷ []) (mark l from i)
       call_nothing result = called_by l i (λ h int ref. scoped_frame N i r l fr.at.stands (ints_in around.code (Some f)) (refs_in around.code (Some f)) (few_left h) (few_numbers h))
           (less_called g l refl (λ q lt. refl) (λ q. subst (LessEntry (l0 g) r (around.signature g).result) (result ∙ sym (fr.at.stands.free r (omega arith))) (less_entry_refl (l0 g) r (around.signature g).result))
           (λ q lt. fr.at.stands.free q (omega (arith, lt))) (λ q lt. refl) (λ q ge. fr.at.stands.alone q ge) (λ q e. (fr.at.stands.known q e, e)) (λ j lt. refl)

@@ -1,16 +1,6 @@
 -- What was taken away is given a type, or freed, unless it is NULL.
-use Rattle.std.proofs.{Common.{◌≡◌, ◌≢◌, ℕ, ◌+◌, ◌<◌, ◌≤◌, ◌⊎◌, Bool, true, false, cond, List, [], ◌∷◌, Some, refl, sym, ap, ◌∙◌, subst, inl, inr, ⊎_elim, arith}, lemmas.Bool.{false≢true, cases_eq, cases_lt}}
-use Rattle.std.specs.Prelude.{nat_eq}
-use Rattle.sharc_code.specs.Runs.{put}
-use Rattle.sharc_code.proofs.Places.{put_same, put_other, put_all}
-use Rattle.sharc_flat.specs.{declared.op.Op.Op, declared.op.Spot.Spot, Scope.{Context, ref_count}}
-use Rattle.sharc_flat.specs.declared.op.Op.TheVariants as op
-use Rattle.sharc_invariant.specs.{Types.{StaticType, Mentions, cells_of}, Labels.{Empty, Refers, Closed, Label, Less, LessNumber, LessEntry, LessGate, EntryMentions, IsScoped, IsFree, fill, empty, knows, without_copies, without_index}, Typed.{Recasts, IsLayout, moved_copy, ints_in, refs_in}}
-use Rattle.sharc_invariant.proofs.Scoped.{less_entry_refl, less_number_refl, scoped_fill}
-use Rattle.sharc_typed_laws.specs.{Passes.IsNumberOf, Stretches.{Mark, Setting, Fits}, Places.{IsNamed, mark}, Premises.Typing}
-use Rattle.sharc_typed_laws.proofs.{Fitting.fits_by, Standing.{less_by, less_emptied, without_same, uncopied, scoped_frame, unnamed}, Losing.{with_copies, loses_taken, stands_lost}, Moves.{on_take_local, on_free, on_give}, Parts.{P, does, same_number}, Accessed.Frame}
+use Rattle.sharc_typed_laws.proofs.{Imports.{◌≡◌, ◌≢◌, ℕ, ◌+◌, ◌<◌, ◌≤◌, ◌⊎◌, Bool, true, false, cond, List, [], ◌∷◌, Some, refl, sym, ap, ◌∙◌, subst, inl, inr, ⊎_elim, arith, false≢true, cases_eq, cases_lt, nat_eq, put, put_same, put_other, put_all, Op, Spot, Context, ref_count, StaticType, Mentions, cells_of, Empty, Refers, Closed, Label, Less, LessNumber, LessEntry, LessGate, EntryMentions, IsScoped, IsFree, fill, empty, knows, without_copies, without_index, Recasts, IsLayout, moved_copy, ints_in, refs_in, less_entry_refl, less_number_refl, scoped_fill, IsNumberOf, Mark, Setting, Fits, IsNamed, mark, Typing, eq_refl}, Fitting.fits_by, Standing.{less_by, less_emptied, without_same, uncopied, scoped_frame, unnamed}, Losing.{with_copies, loses_taken, stands_lost}, Moves.{on_take_local, on_free, on_give}, Parts.{P, does, same_number}, Accessed.Frame}
 use Rattle.sharc_typed_laws.proofs.Flow as flow
-use Rattle.sharc_lemmas.proofs.Numbers.{eq_refl}
 
 module _ (around : Setting) (f : ℕ) (D : (ℕ → Mark) → Type 0) (y : Typing) (c : Context) (low : (p : ℕ) → y.named c p ≡ true → p < ref_count c.scope) (from : ℕ) where
   abbrev N : ℕ → Bool
@@ -30,7 +20,7 @@ module _ (around : Setting) (f : ℕ) (D : (ℕ → Mark) → Type 0) (y : Typin
 
   -- ---- a variable's reference is taken away, and what was a copy of it is none any more
   pub take_variable_at : (i r : ℕ) (l : Label) → Frame around f D y c low from i r l → (s : StaticType) → IsNamed N r s → (x until : ℕ) (spot : Spot) → x < top → l.env x ≡ Refers s → N x ≡ false
-      → Q (mark (record l { gate = Closed }) from until) (op.TakeLocal r x spot ∷ []) (mark (fill (with_copies l (without_copies l.same x)) r (Refers s) r false) from i)
+      → Q (mark (record l { gate = Closed }) from until) (Op.TakeLocal r x spot ∷ []) (mark (fill (with_copies l (without_copies l.same x)) r (Refers s) r false) from i)
   take_variable_at i r l fr s fits x until spot lt is unnamed_x =
       let k : Label = record l { gate = Closed } in
       let t = with_copies l (without_copies l.same x) in
@@ -42,7 +32,7 @@ module _ (around : Setting) (f : ℕ) (D : (ℕ → Mark) → Type 0) (y : Typin
       let copy_is : moved_copy k r x ≡ r = ap (λ q. cond (nat_eq q x) r q) itself ∙ ap (λ b. cond b r x) (eq_refl x) in
       let lost_x : without_copies l.same x x ≡ x = ap (λ q. cond (nat_eq q x) x q) itself ∙ ap (λ b. cond b x x) (eq_refl x) in
       let free_x : IsFree k x = record { paths = λ q _ m. absurd (false≢true (sym unnamed_x ∙ (fr.at.stands.paths q x m).1)) } in
-      does around f D N top low from (mark k from until) (op.TakeLocal r x spot) (mark e from i)
+      does around f D N top low from (mark k from until) (Op.TakeLocal r x spot) (mark e from i)
       (λ in_it h. scoped_fill fi refs t r s r false in_it.0 (λ q m. fr.at.stands.full q (fits q m).0) (inl refl)
       (scoped_frame N i r t (stands_lost N l (without_copies l.same x) (loses_taken N l.same x unnamed_x) i r fr.at.stands) fi refs h.few h.numbers))
       (λ table pc in_it h next. on_take_local around f table pc (mark k from until) (mark e from i) next (record { owned = fr.at.owned; scoped = h }) r x spot refl
@@ -103,7 +93,7 @@ module _ (around : Setting) (f : ℕ) (D : (ℕ → Mark) → Type 0) (y : Typin
             (λ q b. let lt = fr.at.stands.bases j q b in sym (put_other (taken false).env r q Empty (λ e. omega (arith, e, lt)) ∙ put_other l.env r q (Refers s) (λ e. omega (arith, e, lt))))
             (subst (IsNumberOf around.targets (empty (taken false) r) n) (without_same r (l.ints j) (u.unbased j)) z)
 
-    unless_null : (o : Op) (e : Mark) → Fits around.targets (mark l from i) e → Q (mark (taken true) from i) (o ∷ []) e → Q (mark (taken false) from i) (op.SkipIfNull r 1 ∷ o ∷ []) e
+    unless_null : (o : Op) (e : Mark) → Fits around.targets (mark l from i) e → Q (mark (taken true) from i) (o ∷ []) e → Q (mark (taken false) from i) (Op.SkipIfNull r 1 ∷ o ∷ []) e
     unless_null o e fit p = λ w h.
         let q = p w.1 (record { few = h.few; paths = h.paths; copies = h.copies; bases = h.bases; passes = h.passes; numbers = h.numbers; known = put_all (λ q z. z ≡ true → put l.env r (Refers s) q ≢ Empty) l.known r true (λ _. not_null) (λ q ne z. h.known q (put_other l.known r q false ne ∙ z)) }) in
         record {
@@ -115,9 +105,9 @@ module _ (around : Setting) (f : ℕ) (D : (ℕ → Mark) → Type 0) (y : Typin
         through a b = flow.through around f (mark (empty (taken false) r) from i) (mark l from i) e a b
 
     -- ---- free
-    pub freed_at : (layout : ℕ) (spot : Spot) → IsLayout around.targets around.code layout s.target → Q (mark (taken false) from i) (op.SkipIfNull r 1 ∷ op.Free r layout spot ∷ []) (mark l from i)
-    freed_at layout spot laid = unless_null (op.Free r layout spot) (mark l from i) (flow.same around f (mark l from i))
-        (does around f D N top low from (mark (taken true) from i) (op.Free r layout spot) (mark l from i) (λ _ h. scoped_l true h)
+    pub freed_at : (layout : ℕ) (spot : Spot) → IsLayout around.targets around.code layout s.target → Q (mark (taken false) from i) (Op.SkipIfNull r 1 ∷ Op.Free r layout spot ∷ []) (mark l from i)
+    freed_at layout spot laid = unless_null (Op.Free r layout spot) (mark l from i) (flow.same around f (mark l from i))
+        (does around f D N top low from (mark (taken true) from i) (Op.Free r layout spot) (mark l from i) (λ _ h. scoped_l true h)
         (λ table pc w h next. on_free around f table pc (mark (taken true) from i) (mark l from i) next (record { owned = fr.at.owned; scoped = h }) r layout spot s refl (subst (λ o. r < refs_in around.code o) (sym fr.at.owned) w) (put_same l.known r true) (free true) (put_same l.env r (Refers s)) laid
         (less_emptied l r (unnamed N i r l fr.at.stands r (omega arith)) (Refers s) r true)))
 
@@ -161,8 +151,8 @@ module _ (around : Setting) (f : ℕ) (D : (ℕ → Mark) → Type 0) (y : Typin
       own_not : Mentions t r → ⊥
       own_not m = let z = (fits2 r m).0 in omega (arith, z)
 
-      pub given_at : (size : ℕ) (spot : Spot) → size ≡ cells_of around.targets s.target → Recasts around.targets (taken true) r s t → Q (mark (taken false) from i) (op.SkipIfNull r 1 ∷ op.Give r size spot ∷ []) (mark given from i)
-      given_at size spot cells recasts = unless_null (op.Give r size spot) (mark given from i) null_fits
-          (does around f D N top low from (mark (taken true) from i) (op.Give r size spot) (mark given from i)
+      pub given_at : (size : ℕ) (spot : Spot) → size ≡ cells_of around.targets s.target → Recasts around.targets (taken true) r s t → Q (mark (taken false) from i) (Op.SkipIfNull r 1 ∷ Op.Give r size spot ∷ []) (mark given from i)
+      given_at size spot cells recasts = unless_null (Op.Give r size spot) (mark given from i) null_fits
+          (does around f D N top low from (mark (taken true) from i) (Op.Give r size spot) (mark given from i)
           (λ _ h. scoped_fill fi refs l r t r false (in_frame true h) (λ q m. fr.at.stands.full q (fits2 q m).0) (inl refl) (scoped_l true h))
           (λ table pc w h next. on_give around f table pc (mark (taken true) from i) (mark given from i) next (record { owned = fr.at.owned; scoped = h }) r size spot s t refl (subst (λ o. r < refs_in around.code o) (sym fr.at.owned) (in_frame true h)) (put_same l.known r true) (free true) (put_same l.env r (Refers s)) cells recasts own_not less_made))

@@ -1,17 +1,6 @@
 -- An access may be made behind its check, and the check is typed.
-use Rattle.std.proofs.{Common.{◌≡◌, ℕ, ◌+◌, ◌-◌, ◌*◌, ◌≤◌, Bool, true, false, List, ◌∷◌, ◌++◌, Option, Some, None, refl, sym, ap, ◌∙◌, subst, inl, inr, arith}, lemmas.Bool.Decides.nat_tests, lemmas.Option.{same_Some, none-some}}
-use Rattle.std.specs.Prelude.{nat_lt, slice_index_or, map, if◌then◌else◌}
-use Rattle.sharc_code.specs.{declared.code.Code.Code, declared.code.Function.Function, declared.code.PlaceMode.PlaceMode, declared.instr.Cell.Cell, declared.instr.Instr.Instr, declared.instr.Instr.TheVariants.{ChkRead, ChkWrite, ChkLock, ChkLockLoaded}, Says.place_at}
-use Rattle.sharc_code.specs.declared.code.PlaceMode.TheVariants as modes
-use Rattle.sharc_code.specs.declared.instr.Cell.TheVariants as cells
-use Rattle.sharc_code.proofs.Places.{put_same, put_all}
-use Rattle.sharc_flat.specs.declared.op.Spot.{Spot}
-use Rattle.sharc_compile.specs.Generated.{instr_of}
-use Rattle.sharc_guard.specs.Guard.{check_under}
-use Rattle.sharc_invariant.specs.{Types.{Targets, Lock, Field, FieldLock, FieldMode, Content, cells_of}, Types.Lock.{Global, Self}, Types.FieldLock.{OfType, OfGlobals, OfElement as OfSameElement}, Types.FieldMode.{Private, Readonly, Racy, Dynamic, Under, Behind}, Labels.{Entry, Refers, Element, Nth, Number, OfElement, OfGlobal, Gate, Closed, Checked, Holds, HoldsLoaded, Pass, Label, Labels, Less, IsCopy, gated}, Typed.{HasField, HasBase, HasCell, IsPlace, IsOwn, Directly, Earlier, Covers, MayAccess, Accesses, IsNotSole, IsMode, IsLockMode, IsTypeMode, LeadsChecked, knows_base, no_lock}}
-use Rattle.sharc_invariant.proofs.Scoped.{less_refl}
-use Rattle.sharc_typed_laws.specs.{Steps.{all_at, Steps, Chain}, Inside.{lock_of, global_pass, global_element_pass, element_pass, pass_of, with_pass, held_gate, known_behind, gate_behind, passed_behind, behind, before_check}, Lines.{IsLockedBy, IsGuardedBy, MayPass, PassesCheck}}
-use Rattle.sharc_typed_laws.proofs.TypedAlike.{has_field, has_cell, sibling, mutex_of, mode_is, place_is}
+use Rattle.sharc_typed_laws.proofs.{Imports.{◌≡◌, ℕ, ◌+◌, ◌-◌, ◌*◌, ◌≤◌, Bool, true, false, List, ◌∷◌, ◌++◌, Option, Some, None, refl, sym, ap, ◌∙◌, subst, inl, inr, arith, nat_tests, same_Some, none-some, nat_lt, slice_index_or, map, if◌then◌else◌, Code, Row as Function, PlaceMode, Cell, Instr, ChkRead, ChkWrite, ChkLock, ChkLockLoaded, place_at, put_same, put_all, Spot, instr_of, check_under, Targets, Lock, Field, FieldLock, FieldMode, Content, cells_of, Global, Self, OfType, OfGlobals, OfSameElement, Private, Readonly, Racy, Dynamic, Under, Behind, Entry, Refers, Element, Nth, Number, OfElement, OfGlobal, Gate, Closed, Checked, Holds, HoldsLoaded, Pass, Label, Labels, Less, IsCopy, gated, HasField, HasCell, IsPlace, IsOwn, Directly, Earlier, Covers, MayAccess, Accesses, IsNotSole, IsMode, IsLockMode, IsTypeMode, LeadsChecked, knows_base, no_lock, less_refl, all_at, Steps, Chain, lock_of, global_pass, global_element_pass, element_pass, pass_of, with_pass, held_gate, known_behind, gate_behind, passed_behind, behind, before_check, IsLockedBy, IsGuardedBy, MayPass, PassesCheck}, TypedAlike.{has_field, has_cell, sibling, mutex_of, mode_is, place_is}}
+use Rattle.sharc_invariant.specs.Typed.{HasBase}
 
 -- ---- the check as one that is remembered
 pub record IsPass (x : Targets) (l : Label) (write : Bool) (c : Cell) (p : Pass) : Type 0 where
@@ -34,7 +23,7 @@ global_is write q p = elim (nat_lt q 2) as (λ y. nat_lt q 2 ≡ y → (if y the
 ] refl
 
 module _ (x : Targets) (code : Code) (l : Label) (write : Bool) where
-  global_element_is : (g i : ℕ) (p : Pass) (n : Number) → l.ints i ≡ n → global_element_pass write n ≡ Some p → IsPass x l write (cells.GlobalAt g i) p
+  global_element_is : (g i : ℕ) (p : Pass) (n : Number) → l.ints i ≡ n → global_element_pass write n ≡ Some p → IsPass x l write (Cell.GlobalAt g i) p
   global_element_is g i p (OfGlobal first count elements (Nth e)) is h =
       let k = global_is write (first + e * count) p h in record { kind = k.kind; place = (k.base, (first, count, elements, e, is, k.cell)) }
   global_element_is g i p _ is h = absurd (none-some p h)
@@ -42,7 +31,7 @@ module _ (x : Targets) (code : Code) (l : Label) (write : Bool) where
   same_base : (b r f g : ℕ) (e d : Element) → OfElement b f e ≡ OfElement r g d → b ≡ r
   same_base b r f g e d h = cc
 
-  element_is : (r i field : ℕ) (e : Element) → l.ints i ≡ OfElement r field e → (p : Pass) (entry : Entry) (n : Number) → l.env r ≡ entry → l.ints i ≡ n → element_pass x l write r entry n ≡ Some p → IsPass x l write (cells.ObjectAt r i) p
+  element_is : (r i field : ℕ) (e : Element) → l.ints i ≡ OfElement r field e → (p : Pass) (entry : Entry) (n : Number) → l.env r ≡ entry → l.ints i ≡ n → element_pass x l write r entry n ≡ Some p → IsPass x l write (Cell.ObjectAt r i) p
   element_is r i field e has p (Refers s) (OfElement b f (Nth k)) entry is h =
       let same = same_Some (record { write = write; base = Some (l.same r); cell = k * cells_of x s.target + f }) p h in
       let base : b ≡ r = same_base b r f field (Nth k) e (sym is ∙ has) in
@@ -53,12 +42,12 @@ module _ (x : Targets) (code : Code) (l : Label) (write : Bool) where
   element_is r i field e has p _ _ entry is h = absurd (none-some p h)
 
   pub pass_is : (c : Cell) (f : Field) → HasField x code l c f → (p : Pass) → pass_of x l write c ≡ Some p → IsPass x l write c p
-  pass_is (cells.Global g q) f has p e = let k = global_is write q p e in record { kind = k.kind; place = (k.base, k.cell) }
-  pass_is (cells.GlobalAt g i) f has p e = global_element_is g i p (l.ints i) refl e
-  pass_is (cells.Object r i) f has p e =
+  pass_is (Cell.Global g q) f has p e = let k = global_is write q p e in record { kind = k.kind; place = (k.base, k.cell) }
+  pass_is (Cell.GlobalAt g i) f has p e = global_element_is g i p (l.ints i) refl e
+  pass_is (Cell.Object r i) f has p e =
       let same = same_Some (record { write = write; base = Some (l.same r); cell = i }) p e in
       record { kind = sym (ap (λ (p : Pass). p.write) same); place = (ap (λ (p : Pass). p.cell) same, (l.same r, sym (ap (λ (p : Pass). p.base) same), IsCopy refl)) }
-  pass_is (cells.ObjectAt r i) f has p e = element_is r i has.1.1 has.1.2 has.1.4 p (l.env r) (l.ints i) refl refl e
+  pass_is (Cell.ObjectAt r i) f has p e = element_is r i has.1.1 has.1.2 has.1.4 p (l.env r) (l.ints i) refl refl e
 
 -- ---- what is known of a mutex behind its check
 module _ (x : Targets) (code : Code) (l : Label) (g : Gate) where
@@ -66,26 +55,26 @@ module _ (x : Targets) (code : Code) (l : Label) (g : Gate) where
   held m = record l { known = (knows_base l m).known; gate = g; passed = l.passed }
 
   knows_more : (m : Cell) (r : ℕ) → l.known r ≡ true → (knows_base l m).known r ≡ true
-  knows_more (cells.Object q i) r e = put_all (λ r (b : Bool). l.known r ≡ true → b ≡ true) l.known q true (λ _. refl) (λ r _ e. e) r e
-  knows_more (cells.ObjectAt q i) r e = put_all (λ r (b : Bool). l.known r ≡ true → b ≡ true) l.known q true (λ _. refl) (λ r _ e. e) r e
+  knows_more (Cell.Object q i) r e = put_all (λ r (b : Bool). l.known r ≡ true → b ≡ true) l.known q true (λ _. refl) (λ r _ e. e) r e
+  knows_more (Cell.ObjectAt q i) r e = put_all (λ r (b : Bool). l.known r ≡ true → b ≡ true) l.known q true (λ _. refl) (λ r _ e. e) r e
   knows_more _ r e = e
 
   leads_held : (m : Cell) → Less (gated (knows_base l m) g) (held m)
-  leads_held (cells.Global h p) = less_refl (held (cells.Global h p))
+  leads_held (Cell.Global h p) = less_refl (held (Cell.Global h p))
   leads_held k = less_refl (held k)
 
   base_held : (m : Cell) → HasBase (held m) m
-  base_held (cells.Object q i) = put_same l.known q true
-  base_held (cells.ObjectAt q i) = put_same l.known q true
+  base_held (Cell.Object q i) = put_same l.known q true
+  base_held (Cell.ObjectAt q i) = put_same l.known q true
   base_held _ = tt
 
   pub cell_held : (m : Cell) (f : Field) → HasField x code l m f → HasCell x code (held m) m f
   cell_held m f h = record { field = has_field l (knows_base l m).known g l.passed x code m f h; base = base_held m }
 
 abbrev IsLocked : PlaceMode → Type 0
-IsLocked (modes.LockedGlobal g place) = Unit {0}
-IsLocked (modes.LockedSibling field mutex) = Unit {0}
-IsLocked (modes.LockedThrough r place) = Unit {0}
+IsLocked (PlaceMode.LockedGlobal g place) = Unit {0}
+IsLocked (PlaceMode.LockedSibling field mutex) = Unit {0}
+IsLocked (PlaceMode.LockedThrough r place) = Unit {0}
 IsLocked mode = ⊥
 
 lock_locks : (code : Code) (l : Label) (r : ℕ) (lock : Lock) (mode : PlaceMode) → IsLockMode code l r lock mode → IsLocked mode
@@ -93,8 +82,8 @@ lock_locks code l r (Self j) mode h = subst IsLocked (sym h.1) tt
 lock_locks code l r _ mode h = subst IsLocked (sym h.1) tt
 
 type_locks : (code : Code) (l : Label) (k : ℕ) (c : Cell) (mode : PlaceMode) → IsTypeMode code l k c mode → IsLocked mode
-type_locks code l k (cells.Object r i) mode h = lock_locks code l r (slice_index_or h.0.locks k no_lock) mode h.2
-type_locks code l k (cells.ObjectAt r i) mode h = lock_locks code l r (slice_index_or h.0.locks k no_lock) mode h.2
+type_locks code l k (Cell.Object r i) mode h = lock_locks code l r (slice_index_or h.0.locks k no_lock) mode h.2
+type_locks code l k (Cell.ObjectAt r i) mode h = lock_locks code l r (slice_index_or h.0.locks k no_lock) mode h.2
 type_locks code l k _ mode h = absurd h
 
 locks : (code : Code) (l : Label) (c : Cell) (lock : FieldLock) (mode : PlaceMode) → IsMode code l c (Under lock) mode → IsLocked mode
@@ -103,8 +92,8 @@ locks code l c (OfGlobals j) mode h = lock_locks code l 0 (Global j) mode h
 locks code l c (OfSameElement field mutex) mode h = subst IsLocked (sym h.0) tt
 
 own_is : (ls : Labels) (l b : Label) → l.function ≡ b.function → (c : Cell) → IsOwn ls l c → IsOwn ls b c
-own_is ls l b e (cells.Object r i) h = tt
-own_is ls l b e (cells.ObjectAt r i) h = tt
+own_is ls l b e (Cell.Object r i) h = tt
+own_is ls l b e (Cell.ObjectAt r i) h = tt
 own_is ls l b e _ h = (h.0, (sym e ∙ h.1.0, h.1.1))
 
 not_sole : (g : Gate) → g ≡ Closed → IsNotSole g
@@ -119,11 +108,11 @@ module _ (x : Targets) (code : Code) (ls : Labels) (l : Label) (write : Bool) (c
   dynamic = if write then ChkWrite c n else ChkRead c n
 
   abbrev pub CheckSteps : Bool → PlaceMode → Type 0
-  CheckSteps false modes.Dynamic = Steps x code ls l (b false modes.Dynamic) dynamic
-  CheckSteps dropped (modes.LockedGlobal g place) = Steps x code ls l (b dropped (modes.LockedGlobal g place)) (ChkLock (cells.Global g place) n)
-  CheckSteps dropped (modes.LockedSibling field mutex) = Steps x code ls l (b dropped (modes.LockedSibling field mutex)) (ChkLock spot.lock n)
-  CheckSteps dropped (modes.LockedThrough r place) = Steps x code ls l (b dropped (modes.LockedThrough r place)) (ChkLock (cells.Object r place) n)
-  CheckSteps dropped modes.LockedLoaded = Steps x code ls l (b dropped modes.LockedLoaded) (ChkLockLoaded n)
+  CheckSteps false PlaceMode.Dynamic = Steps x code ls l (b false PlaceMode.Dynamic) dynamic
+  CheckSteps dropped (PlaceMode.LockedGlobal g place) = Steps x code ls l (b dropped (PlaceMode.LockedGlobal g place)) (ChkLock (Cell.Global g place) n)
+  CheckSteps dropped (PlaceMode.LockedSibling field mutex) = Steps x code ls l (b dropped (PlaceMode.LockedSibling field mutex)) (ChkLock spot.lock n)
+  CheckSteps dropped (PlaceMode.LockedThrough r place) = Steps x code ls l (b dropped (PlaceMode.LockedThrough r place)) (ChkLock (Cell.Object r place) n)
+  CheckSteps dropped PlaceMode.LockedLoaded = Steps x code ls l (b dropped PlaceMode.LockedLoaded) (ChkLockLoaded n)
   CheckSteps dropped mode = Unit {0}
 
   pub record Passed (dropped : Bool) (f : Field) (mode : PlaceMode) (fm : FieldMode) : Type 0 where
@@ -149,27 +138,27 @@ module _ (x : Targets) (code : Code) (ls : Labels) (l : Label) (write : Bool) (c
 
   -- the check of a locked cell
   under : (dropped : Bool) (f : Field) (lock : FieldLock) (mode : PlaceMode) → IsLocked mode → l.gate ≡ Closed → IsLockedBy x code l lock c (lock_of spot mode) → Passed dropped f mode (Under lock)
-  under true f lock (modes.LockedGlobal g p) is closed h = let m = cells.Global g p in record {
+  under true f lock (PlaceMode.LockedGlobal g p) is closed h = let m = Cell.Global g p in record {
     check = (closed, (h.field, h.has, h.mutex), leads_held x code l (Holds m) m);
     may = (m, h.field, refl, cell_held x code l (Holds m) m h.field h.has, h.mutex, mutex_of l (knows_base l m).known (Holds m) l.passed code lock c m h.is);
     apart = tt;
   }
-  under false f lock (modes.LockedGlobal g p) is closed h = let m = cells.Global g p in record {
+  under false f lock (PlaceMode.LockedGlobal g p) is closed h = let m = Cell.Global g p in record {
     check = (closed, (h.field, h.has, h.mutex), leads_held x code l (Holds m) m);
     may = (m, h.field, refl, cell_held x code l (Holds m) m h.field h.has, h.mutex, mutex_of l (knows_base l m).known (Holds m) l.passed code lock c m h.is);
     apart = tt;
   }
-  under true f lock (modes.LockedThrough r p) is closed h = let m = cells.Object r p in record {
+  under true f lock (PlaceMode.LockedThrough r p) is closed h = let m = Cell.Object r p in record {
     check = (closed, (h.field, h.has, h.mutex), leads_held x code l (Holds m) m);
     may = (m, h.field, refl, cell_held x code l (Holds m) m h.field h.has, h.mutex, mutex_of l (knows_base l m).known (Holds m) l.passed code lock c m h.is);
     apart = tt;
   }
-  under false f lock (modes.LockedThrough r p) is closed h = let m = cells.Object r p in record {
+  under false f lock (PlaceMode.LockedThrough r p) is closed h = let m = Cell.Object r p in record {
     check = (closed, (h.field, h.has, h.mutex), leads_held x code l (Holds m) m);
     may = (m, h.field, refl, cell_held x code l (Holds m) m h.field h.has, h.mutex, mutex_of l (knows_base l m).known (Holds m) l.passed code lock c m h.is);
     apart = tt;
   }
-  under _ f lock (modes.LockedSibling a d) is closed h = let m = spot.lock in record {
+  under _ f lock (PlaceMode.LockedSibling a d) is closed h = let m = spot.lock in record {
     check = (closed, (h.field, h.has, h.mutex), leads_held x code l (Holds m) m);
     may = (m, h.field, refl, cell_held x code l (Holds m) m h.field h.has, h.mutex, mutex_of l (knows_base l m).known (Holds m) l.passed code lock c m h.is);
     apart = tt;
@@ -186,17 +175,17 @@ module _ (x : Targets) (code : Code) (ls : Labels) (l : Label) (write : Bool) (c
   pub passed : (dropped : Bool) (f : Field) (mode : PlaceMode) (fm : FieldMode) → HasCell x code l c f → f.mode ≡ fm → IsMode code l c fm mode → MayPass x code ls dropped l write c (lock_of spot mode) f.holds fm → Passed dropped f mode fm
   passed dropped f mode Private has is e h = subst (λ m. Passed dropped f m Private) (sym e) (either dropped h.0 h.1)
     where
-      either : (dropped : Bool) → l.gate ≡ Closed → IsOwn ls l c → Passed dropped f modes.Private Private
-      either true closed own = record { check = tt; may = own_is ls l (b true modes.Private) refl c own; apart = not_sole l.gate closed }
-      either false closed own = record { check = tt; may = own_is ls l (b false modes.Private) refl c own; apart = not_sole l.gate closed }
+      either : (dropped : Bool) → l.gate ≡ Closed → IsOwn ls l c → Passed dropped f PlaceMode.Private Private
+      either true closed own = record { check = tt; may = own_is ls l (b true PlaceMode.Private) refl c own; apart = not_sole l.gate closed }
+      either false closed own = record { check = tt; may = own_is ls l (b false PlaceMode.Private) refl c own; apart = not_sole l.gate closed }
   passed dropped f mode Readonly has is e h = subst (λ m. Passed dropped f m Readonly) (sym e) (either dropped h.0 h.1)
     where
-      either : (dropped : Bool) → l.gate ≡ Closed → write ≡ false → Passed dropped f modes.Readonly Readonly
+      either : (dropped : Bool) → l.gate ≡ Closed → write ≡ false → Passed dropped f PlaceMode.Readonly Readonly
       either true closed read = record { check = tt; may = read; apart = not_sole l.gate closed }
       either false closed read = record { check = tt; may = read; apart = not_sole l.gate closed }
   passed dropped f mode Racy has is e h = subst (λ m. Passed dropped f m Racy) (sym e) (either dropped h)
     where
-      either : (dropped : Bool) → l.gate ≡ Closed → Passed dropped f modes.Racy Racy
+      either : (dropped : Bool) → l.gate ≡ Closed → Passed dropped f PlaceMode.Racy Racy
       either true closed = record { check = tt; may = tt; apart = not_sole l.gate closed }
       either false closed = record { check = tt; may = tt; apart = not_sole l.gate closed }
   passed true f mode Dynamic has is e h = subst (λ m. Passed true f m Dynamic) (sym e) record {
@@ -215,21 +204,21 @@ module _ (x : Targets) (code : Code) (ls : Labels) (l : Label) (write : Bool) (c
       gate_is : held_gate l.gate ≡ HoldsLoaded h.cell
       gate_is = ap held_gate h.loaded
 
-      either : (dropped : Bool) → Passed dropped f modes.LockedLoaded (Behind field pointer)
+      either : (dropped : Bool) → Passed dropped f PlaceMode.LockedLoaded (Behind field pointer)
       either true = record { check = guarded_steps (held_gate l.gate) field pointer h (sym gate_is); may = guarded_may (held_gate l.gate) f field pointer h (sym gate_is); apart = subst IsNotSole (sym gate_is) tt }
       either false = record { check = guarded_steps (held_gate l.gate) field pointer h (sym gate_is); may = guarded_may (held_gate l.gate) f field pointer h (sym gate_is); apart = subst IsNotSole (sym gate_is) tt }
 
   -- a chain goes on behind the check
   pub chain_check : (fs : List Function) (dropped : Bool) (mode : PlaceMode) (labels : List Label) (is : List Instr) (k : Label) → CheckSteps dropped mode → Chain x code ls (b dropped mode ∷ labels) is k
       → Chain x code ls (before_check dropped l mode ++ (b dropped mode ∷ labels)) (map (instr_of fs) (check_under dropped dynamic spot n mode) ++ is) k
-  chain_check fs true modes.Private labels is k step h = h
-  chain_check fs true modes.Readonly labels is k step h = h
-  chain_check fs true modes.Racy labels is k step h = h
-  chain_check fs true modes.Dynamic labels is k step h = h
-  chain_check fs false modes.Private labels is k step h = h
-  chain_check fs false modes.Readonly labels is k step h = h
-  chain_check fs false modes.Racy labels is k step h = h
-  chain_check fs false modes.Dynamic labels is k step h = (subst (Steps x code ls l (b false modes.Dynamic)) (sym (plain write)) step, h)
+  chain_check fs true PlaceMode.Private labels is k step h = h
+  chain_check fs true PlaceMode.Readonly labels is k step h = h
+  chain_check fs true PlaceMode.Racy labels is k step h = h
+  chain_check fs true PlaceMode.Dynamic labels is k step h = h
+  chain_check fs false PlaceMode.Private labels is k step h = h
+  chain_check fs false PlaceMode.Readonly labels is k step h = h
+  chain_check fs false PlaceMode.Racy labels is k step h = h
+  chain_check fs false PlaceMode.Dynamic labels is k step h = (subst (Steps x code ls l (b false PlaceMode.Dynamic)) (sym (plain write)) step, h)
     where
       plain : (w : Bool) → instr_of fs (if w then ChkWrite c n else ChkRead c n) ≡ (if w then ChkWrite c n else ChkRead c n)
       plain true = refl
@@ -238,10 +227,10 @@ module _ (x : Targets) (code : Code) (ls : Labels) (l : Label) (write : Bool) (c
 
 -- ---- the access itself, among labels that agree on functions
 may_all : (x : Targets) (code : Code) (ls : Labels) (k l : Label) (write : Bool) (c : Cell) (holds : Content) (fm : FieldMode) → MayAccess x code ls l write c holds fm → MayAccess x code (all_at ls k) l write c holds fm
-may_all x code ls k l write (cells.Global g p) holds Private h = h
-may_all x code ls k l write (cells.GlobalAt g i) holds Private h = h
-may_all x code ls k l write (cells.Object r i) holds Private h = h
-may_all x code ls k l write (cells.ObjectAt r i) holds Private h = h
+may_all x code ls k l write (Cell.Global g p) holds Private h = h
+may_all x code ls k l write (Cell.GlobalAt g i) holds Private h = h
+may_all x code ls k l write (Cell.Object r i) holds Private h = h
+may_all x code ls k l write (Cell.ObjectAt r i) holds Private h = h
 may_all x code ls k l write c holds Readonly h = h
 may_all x code ls k l write c holds Racy h = h
 may_all x code ls k l write c holds Dynamic h = h
@@ -249,8 +238,8 @@ may_all x code ls k l write c holds (Under lock) h = h
 may_all x code ls k l write c holds (Behind field pointer) h = h
 
 more_behind : (x : Targets) (code : Code) (l : Label) (spot : Spot) (mode : PlaceMode) (r : ℕ) → l.known r ≡ true → known_behind l spot mode r ≡ true
-more_behind x code l spot (modes.LockedSibling f m) r e = knows_more x code l Closed spot.lock r e
-more_behind x code l spot (modes.LockedThrough q p) r e = knows_more x code l Closed (cells.Object q p) r e
+more_behind x code l spot (PlaceMode.LockedSibling f m) r e = knows_more x code l Closed spot.lock r e
+more_behind x code l spot (PlaceMode.LockedThrough q p) r e = knows_more x code l Closed (Cell.Object q p) r e
 more_behind x code l spot _ r e = e
 
 pub accesses : (x : Targets) (code : Code) (ls : Labels) (dropped : Bool) (k l : Label) (write : Bool) (c : Cell) (spot : Spot) (f : Field) (n : ℕ)

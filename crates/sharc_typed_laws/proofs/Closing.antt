@@ -1,9 +1,5 @@
 -- Code after which nothing is asked: it ends with a line that is typed whatever is said after it.
-use Rattle.std.proofs.Common.{◌≡◌, ℕ, ◌+◌, List, [], ◌∷◌, ◌++◌, length, Some, refl, sym, subst, arith, length-append}
-use Rattle.sharc_flat.specs.declared.op.Op.{Op}
-use Rattle.sharc_invariant.specs.{Labels.IsScoped, Typed.{ints_in, refs_in}}
-use Rattle.sharc_typed_laws.specs.{Stretches.{Mark, Setting, Fits, IsLine, Agrees, AreLines, first, AreWithin, Way, LeadsFrom}, Functions.FunctionLines}
-use Rattle.sharc_typed_laws.proofs.Fitting.{fits_same}
+use Rattle.sharc_typed_laws.proofs.{Imports.{◌≡◌, ℕ, ◌+◌, List, [], ◌∷◌, ◌++◌, length, Some, refl, sym, subst, arith, length-append, Op, IsScoped, ints_in, refs_in, Mark, Setting, Fits, IsLine, Agrees, AreLines, first, AreWithin, Way, LeadsFrom, FunctionLines}, Fitting.fits_same}
 
 -- ---- lists of lines
 pub within_left : (ints refs : ℕ) (xs ys : List Op) → AreWithin ints refs (xs ++ ys) → AreWithin ints refs xs

@@ -1,11 +1,6 @@
 -- Choices and loops at a line.
-use Rattle.std.proofs.Common.{◌≡◌, ℕ, ◌+◌, Bool, List, [], ◌∷◌, ◌++◌, length, Some, subst, arith, length-append}
-use Rattle.sharc_flat.specs.{declared.op.Op.Op, Flattened.body_at}
-use Rattle.sharc_flat.specs.declared.op.Op.TheVariants as op
-use Rattle.sharc_invariant.specs.{Labels.{Label, IsScoped}, Typed.{ints_in, refs_in}}
-use Rattle.sharc_typed_laws.specs.{Stretches.{Mark, Setting, Way, Stretch, AreOpen, LeadsFrom}, Places.{RegistersStand, mark}, Decided.{turn_by, loop_ways, DecisionsAreTyped, IfLeads, ChoiceLeads, JoinLeads, LoopLeads, EverLeads}}
+use Rattle.sharc_typed_laws.proofs.{Imports.{◌≡◌, ℕ, ◌+◌, Bool, List, [], ◌∷◌, ◌++◌, length, Some, subst, arith, length-append, Op, body_at, Label, IsScoped, ints_in, refs_in, Mark, Setting, Way, Stretch, AreOpen, LeadsFrom, RegistersStand, mark, turn_by, loop_ways, DecisionsAreTyped, IfLeads, ChoiceLeads, JoinLeads, LoopLeads, EverLeads}, Rules.{Plain, on_jump}, Parts.within_right, Closing.within_left}
 use Rattle.sharc_typed_laws.proofs.Flow as flow
-use Rattle.sharc_typed_laws.proofs.{Rules.{Plain, on_jump}, Parts.within_right, Closing.within_left}
 
 module _ (z : Setting) (f : ℕ) (named : ℕ → Bool) (from i r : ℕ) (l : Label) (stands : RegistersStand named i r l) (owned : l.function ≡ Some f) where
   abbrev here : Mark
@@ -33,14 +28,14 @@ module _ (z : Setting) (f : ℕ) (named : ℕ → Bool) (from i r : ℕ) (l : La
   moved ways p q os e x = flow.moved z f (AreOpen z ways) here p q os here e x
 
   turn_many : (test : List Op) (over : ℕ) → length (turn_by test i over) ≡ length test + 1
-  turn_many test over = length-append test (op.SkipIfZero i over ∷ [])
+  turn_many test over = length-append test (Op.SkipIfZero i over ∷ [])
 
   if_then : (ways : List Way) → IfLeads z f ways named from i r l
   if_then ways pc test body p q = λ w h.
       let at = pc + length (turn_by test i 0) in
       let ys = body at in
       let t = turn_by test i (length ys) in
-      let a = p (within_left fi fr test (op.SkipIfZero i (length ys) ∷ []) (within_left fi fr t ys w)) h in
+      let a = p (within_left fi fr test (Op.SkipIfZero i (length ys) ∷ []) (within_left fi fr t ys w)) h in
       let b = q (within_right fi fr t ys w) h in
       let n = turn_many test 0 in
       record { stretch = flow.turned z f (AreOpen z ways) here here pc i test ys (plain h) (flow.same z f here) a.stretch (moved ways at (pc + length test + 1) ys (omega (arith, n)) b.stretch); scoped = h }
@@ -52,10 +47,10 @@ module _ (z : Setting) (f : ℕ) (named : ℕ → Bool) (from i r : ℕ) (l : La
       let at2 = at + length ys + 1 in
       let zs = second at2 in
       let t = turn_by test i (length ys + 1) in
-      let a = p (within_left fi fr test (op.SkipIfZero i (length ys + 1) ∷ []) (within_left fi fr t (ys ++ (op.Skip (length zs) ∷ zs)) w)) h in
-      let rest = within_right fi fr t (ys ++ (op.Skip (length zs) ∷ zs)) w in
-      let b = q (within_left fi fr ys (op.Skip (length zs) ∷ zs) rest) h in
-      let d = s (within_right fi fr ys (op.Skip (length zs) ∷ zs) rest).1 h in
+      let a = p (within_left fi fr test (Op.SkipIfZero i (length ys + 1) ∷ []) (within_left fi fr t (ys ++ (Op.Skip (length zs) ∷ zs)) w)) h in
+      let rest = within_right fi fr t (ys ++ (Op.Skip (length zs) ∷ zs)) w in
+      let b = q (within_left fi fr ys (Op.Skip (length zs) ∷ zs) rest) h in
+      let d = s (within_right fi fr ys (Op.Skip (length zs) ∷ zs) rest).1 h in
       let n = turn_many test 0 in
       record {
         stretch = flow.sides z f (AreOpen z ways) here here here pc i test ys zs (plain h) (plain h) (flow.same z f here) a.stretch (moved ways at (pc + length test + 1) ys (omega (arith, n)) b.stretch) (moved ways at2 (pc + length test + 1 + length ys + 1) zs (omega (arith, n)) d.stretch);
@@ -63,17 +58,17 @@ module _ (z : Setting) (f : ℕ) (named : ℕ → Bool) (from i r : ℕ) (l : La
       }
 
   -- the step, and back
-  back : (ways : List Way) (pc at : ℕ) (step : List Op) → IsScoped fi fr l → Stretch z f (AreOpen z (loop_ways pc here ways)) here at step here → Stretch z f (AreOpen z (loop_ways pc here ways)) here at (step ++ op.Jump (pc + 3) ∷ []) here
+  back : (ways : List Way) (pc at : ℕ) (step : List Op) → IsScoped fi fr l → Stretch z f (AreOpen z (loop_ways pc here ways)) here at step here → Stretch z f (AreOpen z (loop_ways pc here ways)) here at (step ++ Op.Jump (pc + 3) ∷ []) here
   back ways pc at step h p =
       let D = AreOpen z (loop_ways pc here ways) in
-      flow.joins z f D here here here at step (op.Jump (pc + 3) ∷ []) p
-      (flow.line z f D here (at + length step) (op.Jump (pc + 3)) here (λ table d own end. on_jump z f table (at + length step) here (pc + 3) (plain h) d.1.1.0))
+      flow.joins z f D here here here at step (Op.Jump (pc + 3) ∷ []) p
+      (flow.line z f D here (at + length step) (Op.Jump (pc + 3)) here (λ table d own end. on_jump z f table (at + length step) here (pc + 3) (plain h) d.1.1.0))
 
-  looped : (ways : List Way) (pc : ℕ) (turn body step : List Op) → IsScoped fi fr l → flow.Inner z f (AreOpen z (loop_ways pc here ways)) here (pc + 3) turn body (step ++ op.Jump (pc + 3) ∷ [])
-      → Stretch z f (AreOpen z ways) here pc (op.Skip 2 ∷ op.Skip (length turn + length body + length step + 2) ∷ op.Skip (length turn + length body) ∷ (turn ++ (body ++ (step ++ op.Jump (pc + 3) ∷ [])))) here
+  looped : (ways : List Way) (pc : ℕ) (turn body step : List Op) → IsScoped fi fr l → flow.Inner z f (AreOpen z (loop_ways pc here ways)) here (pc + 3) turn body (step ++ Op.Jump (pc + 3) ∷ [])
+      → Stretch z f (AreOpen z ways) here pc (Op.Skip 2 ∷ Op.Skip (length turn + length body + length step + 2) ∷ Op.Skip (length turn + length body) ∷ (turn ++ (body ++ (step ++ Op.Jump (pc + 3) ∷ [])))) here
   looped ways pc turn body step h x =
-      let n = length-append step (op.Jump (pc + 3) ∷ []) in
-      flow.looped z f (AreOpen z ways) (AreOpen z (loop_ways pc here ways)) here pc turn body (step ++ op.Jump (pc + 3) ∷ []) (length turn + length body + length step + 2) (plain h) (λ table d a b e. (a, (b, (e, d)))) (omega (arith, n)) x
+      let n = length-append step (Op.Jump (pc + 3) ∷ []) in
+      flow.looped z f (AreOpen z ways) (AreOpen z (loop_ways pc here ways)) here pc turn body (step ++ Op.Jump (pc + 3) ∷ []) (length turn + length body + length step + 2) (plain h) (λ table d a b e. (a, (b, (e, d)))) (omega (arith, n)) x
 
   loop : (ways : List Way) → LoopLeads z f ways named from i r l
   loop ways pc test step body p q s = λ w h.
@@ -81,14 +76,14 @@ module _ (z : Setting) (f : ℕ) (named : ℕ → Bool) (from i r : ℕ) (l : La
       let at = body_at pc (turn_by test i) in
       let ys = body at in
       let over = length ys + length step + 1 in
-      let S = step ++ op.Jump (pc + 3) ∷ [] in
+      let S = step ++ Op.Jump (pc + 3) ∷ [] in
       let t = turn_by test i over in
       let rest = within_right fi fr t (ys ++ S) w.1.1.1 in
-      let a = p (within_left fi fr test (op.SkipIfZero i over ∷ []) (within_left fi fr t (ys ++ S) w.1.1.1)) h in
+      let a = p (within_left fi fr test (Op.SkipIfZero i over ∷ []) (within_left fi fr t (ys ++ S) w.1.1.1)) h in
       let b = q (within_left fi fr ys S rest) h in
-      let d = s (within_left fi fr step (op.Jump (pc + 3) ∷ []) (within_right fi fr ys S rest)) h in
+      let d = s (within_left fi fr step (Op.Jump (pc + 3) ∷ []) (within_right fi fr ys S rest)) h in
       let n = turn_many test 0 in
-      let m : length (ys ++ S) ≡ over = omega (arith, length-append ys S, length-append step (op.Jump (pc + 3) ∷ [])) in
+      let m : length (ys ++ S) ≡ over = omega (arith, length-append ys S, length-append step (Op.Jump (pc + 3) ∷ [])) in
       let e1 : at ≡ pc + 3 + length test + 1 = omega (arith, n) in
       let e2 : at + length ys ≡ pc + 3 + length test + 1 + length ys = omega (arith, n) in
       let inner = flow.decided z f D here (pc + 3) i test ys S (plain h) a.stretch (moved (loop_ways pc here ways) at (pc + 3 + length test + 1) ys e1 b.stretch) (moved (loop_ways pc here ways) (at + length ys) (pc + 3 + length test + 1 + length ys) S e2 (back ways pc (at + length ys) step h d.stretch)) in
@@ -99,9 +94,9 @@ module _ (z : Setting) (f : ℕ) (named : ℕ → Bool) (from i r : ℕ) (l : La
       let D = AreOpen z (loop_ways pc here ways) in
       let at = body_at pc (λ over. []) in
       let ys = body at in
-      let S = step ++ op.Jump (pc + 3) ∷ [] in
+      let S = step ++ Op.Jump (pc + 3) ∷ [] in
       let b = q (within_left fi fr ys S w.1.1.1) h in
-      let d = s (within_left fi fr step (op.Jump (pc + 3) ∷ []) (within_right fi fr ys S w.1.1.1)) h in
+      let d = s (within_left fi fr step (Op.Jump (pc + 3) ∷ []) (within_right fi fr ys S w.1.1.1)) h in
       let e1 : at ≡ pc + 3 = omega arith in
       let e2 : at + length ys ≡ pc + 3 + length ys = omega arith in
       let inner = flow.always z f D here (pc + 3) ys S (moved (loop_ways pc here ways) at (pc + 3) ys e1 b.stretch) (moved (loop_ways pc here ways) (at + length ys) (pc + 3 + length ys) S e2 (back ways pc (at + length ys) step h d.stretch)) in

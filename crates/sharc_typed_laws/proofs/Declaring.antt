@@ -1,20 +1,6 @@
 -- A variable that is declared in a block.
-use Rattle.std.proofs.{Common.{◌≡◌, ℕ, ◌+◌, ◌<◌, ◌≤◌, Bool, true, false, cond, ◌||◌, List, [], ◌∷◌, ◌++◌, Option, Some, None, refl, sym, ap, ◌∙◌, subst, ⊎_elim, arith, pos}, lemmas.Bool.{false≢true, cases_eq}}
-use Rattle.std.specs.Prelude.{nat_eq}
-use Rattle.sharc_tree.specs.{declared.tree.declaration.Declaration.Declaration, Tree.Right}
-use Rattle.sharc_names.specs.Kinds.{Kind, is_pointer, declared_kind}
-use Rattle.sharc_code.specs.{Arithmetic.holds, declared.instr.Register.Register, declared.instr.Width.Width, declared.instr.Width.TheVariants.Int, Runs.put}
-use Rattle.sharc_code.specs.declared.instr.Register.TheVariants as registers
-use Rattle.sharc_code.proofs.Places.{put_same, put_other, put_all}
-use Rattle.sharc_mode.specs.Sharings.{Sharing}
-use Rattle.sharc_meaning.specs.State.{is_reference}
-use Rattle.sharc_flat.specs.{declared.op.Op.Op, declared.slot.Slot.Slot, Scope.{Context, slot_of, slot_kind, int_count, ref_count, register_from, register_of}, Places.{width_of, settle_code}, Flattened.{with_variable, right_code, zero_code, initial_code, local_code}}
-use Rattle.sharc_flat.specs.declared.op.Op.TheVariants as op
-use Rattle.sharc_invariant.specs.{Types.StaticType, Labels.{Refers, Number, Anything, Exactly, Within, Label, LessNumber, EntryMentions, fill, set_number}, Typed.{ints_in, refs_in}}
-use Rattle.sharc_invariant.proofs.Scoped.{less_entry_refl, less_number_refl}
-use Rattle.sharc_typed_laws.specs.{Stretches.{Mark, Setting, Way, AreOpen, LeadsAmong}, Places.{RegistersStand, AreLow, mark}, Premises.Typing, Typable.IsTypeIn, Declared.{Keeps, BeginsReference, BeginsInteger, Begins, declared_label, InitialTypable, StandsBefore, before, LocalsAreTyped}}
-use Rattle.sharc_typed_laws.proofs.{Fitting.{fits_same, fits_by}, Standing.{less_by, scoped_frame, stands_number, stands_fill}, Parts.{At, then_do, post, none, constant_at}, Accessed.Frame, Variables.assign_free_at, Expressing.{bare_frame, in_frame, null_at, bare_number}, Simple.{reference_kept, Comes, rights, settled}}
-use Rattle.sharc_lemmas.proofs.{Bools.or_false, Numbers.eq_refl}
+use Rattle.sharc_typed_laws.proofs.{Imports.{◌≡◌, ℕ, ◌+◌, ◌<◌, ◌≤◌, Bool, true, false, cond, ◌||◌, List, [], ◌∷◌, ◌++◌, Option, Some, None, refl, sym, ap, ◌∙◌, subst, ⊎_elim, arith, pos, false≢true, cases_eq, nat_eq, Declaration, Right, Kind, declared_kind, holds, Register, Width, Int, put, put_same, put_other, put_all, Sharing, is_reference, Op, Slot, Context, slot_of, slot_kind, int_count, ref_count, register_from, register_of, width_of, settle_code, with_variable, right_code, zero_code, initial_code, local_code, StaticType, Refers, Number, Anything, Exactly, Within, Label, LessNumber, EntryMentions, fill, set_number, ints_in, refs_in, less_entry_refl, less_number_refl, Mark, Setting, Way, AreOpen, LeadsAmong, RegistersStand, AreLow, mark, Typing, IsTypeIn, Keeps, BeginsReference, BeginsInteger, Begins, declared_label, InitialTypable, StandsBefore, before, LocalsAreTyped, or_false, eq_refl}, Fitting.{fits_same, fits_by}, Standing.{less_by, scoped_frame, stands_number, stands_fill}, Parts.{At, then_do, post, none, constant_at}, Accessed.Frame, Variables.assign_free_at, Expressing.{bare_frame, in_frame, null_at, bare_number}, Simple.{reference_kept, Comes, rights, settled}}
+use Rattle.sharc_names.specs.Kinds.{is_pointer}
 
 pub zero_fits : (w : Width) → holds w (pos 0) ≡ true
 zero_fits Int = refl
@@ -109,11 +95,11 @@ module _ (z : Setting) (f : ℕ) (ways : List Way) (y : Typing) (c : Context) (l
         bare = bare_number z f ways y c low l i (Within w) tt here.bare;
       }
 
-  zeroed : (w : Width) → Q (before c l) (op.Constant i (pos 0) ∷ []) (mark (set_number l i (Within w)) (i + 1) (i + 1))
+  zeroed : (w : Width) → Q (before c l) (Op.Constant i (pos 0) ∷ []) (mark (set_number l i (Within w)) (i + 1) (i + 1))
   zeroed w =
       let a = set_number l i (Exactly (pos 0)) in
       let b = set_number l i (Within w) in
-      post z f (AreOpen z ways) (y.named c) r low i (before c l) (mark a i (i + 1)) (mark b (i + 1) (i + 1)) (op.Constant i (pos 0) ∷ [])
+      post z f (AreOpen z ways) (y.named c) r low i (before c l) (mark a i (i + 1)) (mark b (i + 1) (i + 1)) (Op.Constant i (pos 0) ∷ [])
       (fits_by z.targets (mark a i (i + 1)) (mark b (i + 1) (i + 1))
       (less_by a b refl (λ q. less_entry_refl a q (l.env q)) (λ q. refl) (λ q e. e)
       (λ j. put_all (λ j x. LessNumber (put l.ints i (Exactly (pos 0)) j) x) l.ints i (Within w) (subst (λ x. LessNumber x (Within w)) (sym (put_same l.ints i (Exactly (pos 0)))) (zero_fits w)) (λ j ne. subst (λ x. LessNumber x (l.ints j)) (sym (put_other l.ints i j (Exactly (pos 0)) ne)) (less_number_refl (l.ints j))) j)
@@ -131,8 +117,8 @@ module _ (z : Setting) (f : ℕ) (ways : List Way) (y : Typing) (c : Context) (l
 -- ---- its register
 -- the first one of its bank that is free
 abbrev IsNext : Context → Bool → Register → Type 0
-IsNext c is_ref (registers.Int j) = (is_ref ≡ false) × (j ≡ int_count c.scope)
-IsNext c is_ref (registers.Reference q) = (is_ref ≡ true) × (q ≡ ref_count c.scope)
+IsNext c is_ref (Register.Int j) = (is_ref ≡ false) × (j ≡ int_count c.scope)
+IsNext c is_ref (Register.Reference q) = (is_ref ≡ true) × (q ≡ ref_count c.scope)
 
 some_none : (p : Bool) → Some p ≡ None → ⊥
 some_none p h = cc
@@ -142,7 +128,7 @@ choose true p o u v w h k = absurd (some_none p h)
 choose false p o u v w h k = k h
 
 abbrev next_of : Bool → ℕ → ℕ → Register
-next_of is_ref i r = cond is_ref (registers.Reference r) (registers.Int i)
+next_of is_ref i r = cond is_ref (Register.Reference r) (Register.Int i)
 
 after_one : (x p : Bool) (i r n m : ℕ) (a b : Register) → a ≡ next_of x (i + m) (r + 1 + n) → b ≡ next_of x (i + 1 + m) (r + n) → cond p a b ≡ next_of x (i + cond p m (m + 1)) (r + cond p (n + 1) n)
 after_one x true i r n m a b h k = let e : r + 1 + n ≡ r + (n + 1) = omega arith in h ∙ ap (next_of x (i + m)) e
@@ -152,7 +138,7 @@ next_from : (scope : List Slot) (x : Slot) (i r : ℕ) → slot_kind scope x.tok
 next_from [] x i r h =
     let a : i ≡ i + 0 = omega arith in
     let b : r ≡ r + 0 = omega arith in
-    ap (λ z. cond z (next_of x.is_pointer i r) (cond x.is_pointer (registers.Int i) (registers.Int (i + 1)))) (eq_refl x.token) ∙ ap (λ j. next_of x.is_pointer j r) a ∙ ap (next_of x.is_pointer (i + 0)) b
+    ap (λ z. cond z (next_of x.is_pointer i r) (cond x.is_pointer (Register.Int i) (Register.Int (i + 1)))) (eq_refl x.token) ∙ ap (λ j. next_of x.is_pointer j r) a ∙ ap (next_of x.is_pointer (i + 0)) b
 next_from (a ∷ rest) x i r h = choose (nat_eq a.token x.token) a.is_pointer (slot_kind rest x.token) (next_of a.is_pointer i r)
     (cond a.is_pointer (register_from i (r + 1) (rest ++ x ∷ []) x.token) (register_from (i + 1) r (rest ++ x ∷ []) x.token)) (next_of x.is_pointer (i + int_count (a ∷ rest)) (r + ref_count (a ∷ rest))) h
     (λ k. after_one x.is_pointer a.is_pointer i r (ref_count rest) (int_count rest) (register_from i (r + 1) (rest ++ x ∷ []) x.token) (register_from (i + 1) r (rest ++ x ∷ []) x.token)
@@ -173,13 +159,13 @@ IsUnnamed c k is_ref = is_ref ≡ true → (q : ℕ) → EntryMentions (k.env q)
 begun : (z : Setting) (f : ℕ) (ways : List Way) (y : Typing) (c d : Context) (low : AreLow (y.named d) (ref_count d.scope)) (k : Label) → StandsBefore y d f k → (kind : Kind) (s : StaticType) (w : Width) → w ≡ width_of kind → Begins y c d s w (is_reference kind) → IsTypeIn z f y c s → IsTypeIn z f y d s
     → IsUnnamed c k (is_reference kind) → (x : Register) → IsNext c (is_reference kind) x → (xs : List Op) → Comes z f ways y d low (int_count d.scope) (int_count d.scope) (ref_count d.scope) k kind s xs (is_reference kind)
     → LeadsAmong z f ways (before d k) (xs ++ settle_code (int_count d.scope) (ref_count d.scope) x) (before d k)
-begun z f ways y c d low k here kind s w width begins type again unnamed (registers.Int j) next xs v =
+begun z f ways y c d low k here kind s w width begins type again unnamed (Register.Int j) next xs v =
     let frame : Frame z f (AreOpen z ways) y d low (int_count d.scope) (int_count d.scope) (ref_count d.scope) k = bare_frame z f ways y d low (int_count d.scope) (int_count d.scope) (ref_count d.scope) k here.stands here.bare in
     let b : BeginsInteger y c d w = subst (Begins y c d s w) next.0 begins in
     let many = b.ints in
     let at = next.1 in
-    settled z f ways y d low (int_count d.scope) (int_count d.scope) (ref_count d.scope) k frame here.bare (omega arith) kind s (registers.Int j) xs again (next.0, omega (arith, many, at), ap (y.width d) next.1 ∙ b.width ∙ width) v
-begun z f ways y c d low k here kind s w width begins type again unnamed (registers.Reference q) next xs v =
+    settled z f ways y d low (int_count d.scope) (int_count d.scope) (ref_count d.scope) k frame here.bare (omega arith) kind s (Register.Int j) xs again (next.0, omega (arith, many, at), ap (y.width d) next.1 ∙ b.width ∙ width) v
+begun z f ways y c d low k here kind s w width begins type again unnamed (Register.Reference q) next xs v =
     let i = int_count d.scope in
     let r = ref_count d.scope in
     let frame : Frame z f (AreOpen z ways) y d low i i r k = bare_frame z f ways y d low (int_count d.scope) (int_count d.scope) (ref_count d.scope) k here.stands here.bare in
@@ -189,7 +175,7 @@ begun z f ways y c d low k here kind s w width begins type again unnamed (regist
     let many = b.refs in
     let at = next.1 in
     let lt : q < r = omega (arith, many, at) in
-    then_do z f (AreOpen z ways) (y.named d) r low i (before d k) (mark (fill k r (Refers s) u.copy false) i i) (before d k) xs (op.Settle q r ∷ []) (reference_kept z f ways y d low i i r k here.bare s xs u)
+    then_do z f (AreOpen z ways) (y.named d) r low i (before d k) (mark (fill k r (Refers s) u.copy false) i i) (before d k) xs (Op.Settle q r ∷ []) (reference_kept z f ways y d low i i r k here.bare s xs u)
     (assign_free_at z f (AreOpen z ways) (y.named d) r low i i r k frame.at frame.high s u.copy false q i (in_frame z f ways y d low i i r k frame s again) lt (frame.holds.references q lt ∙ ap Refers (ap (y.pointer d) at ∙ b.pointer))
     (λ m. let old = (type q m).0 in omega (arith, old, at)) (λ p m. unnamed next.0 p (subst (EntryMentions (k.env p)) at m)) (a.0 q) (λ p e. sym (a.0 p) ∙ e) (a.1 q) (λ j b. a.2 j q b))
 
@@ -235,8 +221,8 @@ locals_typed z f ways y c low l here local s low_with h = let v = by (is_referen
         let unnamed : IsUnnamed c k (is_reference (declared_kind local.declaration.written)) = λ _ q m. put_all (λ q e. EntryMentions e r → ⊥) l.env r (Refers s) (λ m. let old = (h.type r m).0 in omega (arith, old)) (λ q _ m. let old = (here.stands.stands.paths q r m).0 in omega (arith, old)) q m in (
           stands,
           subst (λ os. LeadsAmong z f ways (before c l) os (before d k)) (sym is)
-              (joins z f ways y c low l here (before c l) (before d k) (before d k) (op.Null (ref_count c.scope) ∷ []) (initial_code d local.declaration local.initial)
-              (subst (λ n. LeadsAmong z f ways (before c l) (op.Null (ref_count c.scope) ∷ []) (mark k n n)) (sym begins.ints) (null_at z f ways y c low (int_count c.scope) (int_count c.scope) (ref_count c.scope) l (frame z f ways y c low l here) s h.type))
+              (joins z f ways y c low l here (before c l) (before d k) (before d k) (Op.Null (ref_count c.scope) ∷ []) (initial_code d local.declaration local.initial)
+              (subst (λ n. LeadsAmong z f ways (before c l) (Op.Null (ref_count c.scope) ∷ []) (mark k n n)) (sym begins.ints) (null_at z f ways y c low (int_count c.scope) (int_count c.scope) (ref_count c.scope) l (frame z f ways y c low l here) s h.type))
               (rest k stands unnamed)),
         )
     by false kind begins code is =
@@ -244,7 +230,7 @@ locals_typed z f ways y c low l here local s low_with h = let v = by (is_referen
         let stands = after_integer z f ways y c low l here d w h.keeps begins in (
           stands,
           subst (λ os. LeadsAmong z f ways (before c l) os (before d k)) (sym is)
-              (joins z f ways y c low l here (before c l) (before d k) (before d k) (op.Constant (int_count c.scope) (pos 0) ∷ []) (initial_code d local.declaration local.initial)
-              (subst (λ n. LeadsAmong z f ways (before c l) (op.Constant (int_count c.scope) (pos 0) ∷ []) (mark k n n)) (sym begins.ints) (zeroed z f ways y c low l here w))
+              (joins z f ways y c low l here (before c l) (before d k) (before d k) (Op.Constant (int_count c.scope) (pos 0) ∷ []) (initial_code d local.declaration local.initial)
+              (subst (λ n. LeadsAmong z f ways (before c l) (Op.Constant (int_count c.scope) (pos 0) ∷ []) (mark k n n)) (sym begins.ints) (zeroed z f ways y c low l here w))
               (rest k stands (λ e. absurd (false≢true (sym kind ∙ e))))),
         )

@@ -1,14 +1,5 @@
 -- The ends of blocks.
-use Rattle.std.proofs.{Common.{◌≡◌, ◌≢◌, ℕ, ◌+◌, ◌<◌, ◌≤◌, ◌⊎◌, Bool, true, false, cond, ◌||◌, List, [], ◌∷◌, Some, refl, sym, ap, ◌∙◌, subst, inl, inr, ⊎_elim, arith}, lemmas.Bool.Decides.nat_tests, lemmas.Bool.{false≢true, cases_eq, cases_lt}}
-use Rattle.sharc_code.specs.Runs.{put}
-use Rattle.sharc_code.proofs.Places.{put_other, put_all}
-use Rattle.sharc_flat.specs.{declared.op.Op.Op, declared.slot.Slot.Slot, Scope.{Context, int_count, ref_count, pops}}
-use Rattle.sharc_flat.specs.declared.op.Op.TheVariants as op
-use Rattle.sharc_invariant.specs.{Types.{Lock, Mentions, Names, SomeNames}, Types.Lock.Through, Labels.{Entry, Empty, Refers, Unknown, Within, Closed, IsIn, Label, Less, LessEntry, LessNumber, LessGate, HasBase, EntryMentions, IsScoped, without_copies, without_index, names, some_names, forgotten, forgets, empty}, Typed.{ints_in, refs_in}}
-use Rattle.sharc_invariant.proofs.Scoped.{less_entry_refl, less_number_refl}
-use Rattle.sharc_typed_laws.specs.{Stretches.{Mark, Setting, Way, AreOpen, LeadsAmong}, Places.{AreLow, mark}, Premises.Typing, Declared.{StandsBefore, before}, Ended.{Grows, EndsAreTyped}}
-use Rattle.sharc_typed_laws.proofs.{Standing.{less_by, scoped_frame, without_same, uncopied}, Telling.told, Moves.on_pop_named, Parts.{then_do, does, none}, After.forgotten_full}
-use Rattle.sharc_lemmas.proofs.Options.{no_guard as none_some}
+use Rattle.sharc_typed_laws.proofs.{Imports.{◌≡◌, ◌≢◌, ℕ, ◌+◌, ◌<◌, ◌≤◌, ◌⊎◌, Bool, true, false, cond, ◌||◌, List, [], ◌∷◌, Some, refl, sym, ap, ◌∙◌, subst, inl, inr, ⊎_elim, arith, nat_tests, false≢true, cases_eq, cases_lt, put, put_other, put_all, Op, Slot, Context, int_count, ref_count, pops, Lock, Mentions, Names, SomeNames, Through, Entry, Empty, Refers, Unknown, Within, Closed, IsIn, Label, Less, LessEntry, LessNumber, LessGate, HasBase, EntryMentions, IsScoped, without_copies, without_index, names, some_names, forgotten, forgets, empty, ints_in, refs_in, less_entry_refl, less_number_refl, Mark, Setting, Way, AreOpen, LeadsAmong, AreLow, mark, Typing, StandsBefore, before, Grows, EndsAreTyped, none_some}, Standing.{less_by, scoped_frame, without_same, uncopied}, Telling.told, Moves.on_pop_named, Parts.{then_do, does, none}, After.forgotten_full}
 
 -- ---- types that name a register are forgotten
 names_are : (n : ℕ) (lock : Lock) → names n lock ≡ true → Names n lock
@@ -150,11 +141,11 @@ module _ (z : Setting) (f : ℕ) (ways : List Way) (y : Typing) (c d : Context) 
       (λ j. subst (λ x. LessNumber (without_index n (m.ints j)) x) (without_same n (m.ints j) (λ b. h.bases j n b)) (less_number_refl (without_index n (m.ints j))))
       (subst (λ g. LessGate Closed g) (sym h.closed) tt) h.passed (λ e. e)
 
-  pop : (m : Label) (n : ℕ) → r1 ≤ n → Half m n → Q (mark m i2 i2) (op.Pop n ∷ []) (mark (popped m n) i2 i2)
+  pop : (m : Label) (n : ℕ) → r1 ≤ n → Half m n → Q (mark m i2 i2) (Op.Pop n ∷ []) (mark (popped m n) i2 i2)
   unfolding popped
-  pop m n le h = does z f (AreOpen z ways) (y.named c) r1 low i2 (mark m i2 i2) (op.Pop n) (mark (popped m n) i2 i2) (λ _ s. scoped_popped m n le h s)
+  pop m n le h = does z f (AreOpen z ways) (y.named c) r1 low i2 (mark m i2 i2) (Op.Pop n) (mark (popped m n) i2 i2) (λ _ s. scoped_popped m n le h s)
       (λ table pc in_it s next. on_pop_named z f table pc (mark m i2 i2) (mark (popped m n) i2 i2) next (record { owned = h.owned; scoped = s }) n h.closed (subst (λ o. n < refs_in z.code o) (sym h.owned) in_it) (less_popped m n h)
-      (λ _ know t. told z.targets (op.Pop n) know (mark m i2 i2) (mark (popped m n) i2 i2) t (λ q v _ e. absurd (none_some v e)) (λ q _ _. refl) (λ j v _ _ a. absurd (false≢true a)) (λ j v a b _ _. absurd (nowhere j a b))))
+      (λ _ know t. told z.targets (Op.Pop n) know (mark m i2 i2) (mark (popped m n) i2 i2) t (λ q v _ e. absurd (none_some v e)) (λ q _ _. refl) (λ j v _ _ a. absurd (false≢true a)) (λ j v a b _ _. absurd (nowhere j a b))))
     where
       nowhere : (j : ℕ) → i2 ≤ j → j < i2 → ⊥
       nowhere j a b = omega (arith, a, b)
@@ -186,8 +177,8 @@ module _ (z : Setting) (f : ℕ) (ways : List Way) (y : Typing) (c d : Context) 
   ends (x ∷ rest) n m le count h = by x.is_pointer count (λ n m le count h. ends rest n m le count h)
     where
       by : (b : Bool) → n + cond b (ref_count rest + 1) (ref_count rest) ≡ r2 → ((n : ℕ) (m : Label) → r1 ≤ n → n + ref_count rest ≡ r2 → Half m n → Q (mark m i2 i2) (pops n rest) (before c l))
-          → Q (mark m i2 i2) (cond b (op.Pop n ∷ pops (n + 1) rest) (pops n rest)) (before c l)
-      by true count others = then_do z f (AreOpen z ways) (y.named c) r1 low i2 (mark m i2 i2) (mark (popped m n) i2 i2) (before c l) (op.Pop n ∷ []) (pops (n + 1) rest) (pop m n le h)
+          → Q (mark m i2 i2) (cond b (Op.Pop n ∷ pops (n + 1) rest) (pops n rest)) (before c l)
+      by true count others = then_do z f (AreOpen z ways) (y.named c) r1 low i2 (mark m i2 i2) (mark (popped m n) i2 i2) (before c l) (Op.Pop n ∷ []) (pops (n + 1) rest) (pop m n le h)
           (others (n + 1) (popped m n) (omega (arith, le)) (omega (arith, count)) (half_popped m n le h))
       by false count others = others n m le count h
 

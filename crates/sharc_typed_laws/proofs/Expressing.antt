@@ -1,22 +1,6 @@
 -- The code of an expression is typed, by what the types of the source say of it.
-use Rattle.std.proofs.{Common.{◌≡◌, ℕ, ◌+◌, ◌<◌, ◌≤◌, ◌⊎◌, Bool, true, false, cond, List, [], ◌∷◌, ◌++◌, Option, Some, None, refl, sym, ap, ◌∙◌, subst, inl, inr, ⊎_elim, arith, append_assoc, drop, codes, bytes_eq}, lemmas.Bool.{false≢true, cases_eq, cases_lt}}
-use Rattle.sharc_tree.specs.{declared.token.Site.Site, declared.token.Span.Span, declared.tree.declaration.Identifier.Identifier, declared.tree.declaration.WrittenType.WrittenType, declared.tree.expression.FieldOperator.TheVariants.{Dot, Arrow}, declared.tree.expression.BinaryOperator.BinaryOperator, declared.tree.expression.BinaryOperator.TheVariants.{LogicalOr, LogicalAnd}, declared.tree.expression.Constant.Constant, declared.tree.expression.PlaceCall.TheVariants.{Lock, Unlock, Free}, declared.tree.expression.UnaryOperator.TheVariants.{Negate, Not, Complement, Dereference}, declared.tree.expression.ValueCall.TheVariants.{Join, Print}, Spans.span_of, Tree.{Expression, identifier, constant, parentheses, call, spawn, on_value, on_place, cast, index, field, unary, binary, Arguments, no_arguments, argument}}
-use Rattle.sharc_names.specs.{declared.fault.Named.Named, Kinds.{Kind, is_array, is_integer, element_kind, promoted, declared_kinds}}
-use Rattle.sharc_names.specs.declared.fault.Named.TheVariants as named
-use Rattle.sharc_code.specs.{declared.code.Use.Use, declared.instr.Register.Register, declared.instr.Width.Width, declared.instr.Width.TheVariants.{Char, Int}, Runs.put}
-use Rattle.sharc_code.specs.declared.code.Use.TheVariants as uses
-use Rattle.sharc_code.specs.declared.instr.Register.TheVariants as registers
-use Rattle.sharc_code.proofs.Places.{put_same, put_other, put_all}
-use Rattle.sharc_ctype.specs.{Resolved.{global_at, structs_in}, Transfers.parameters_named}
-use Rattle.sharc_mode.specs.Sharings.{Sharing}
-use Rattle.sharc_meaning.specs.{Cells.{element_cells, field_place_named, global_elements}, Expressions.number_named, Reference.constant_value, State.is_reference}
-use Rattle.sharc_flat.specs.{declared.op.Op.Op, declared.op.Spot.Spot, Machine.first_cell, declared.slot.Lvalue.Lvalue, Scope.{Context, ref_count, register_of, number_in, at_site}, Places.{Target, variable, in_global, in_global_at, in_object, in_object_at, target, named_target, own_field, global_of, guard_width, copy_code, cell_value_code, cell_take_code, take_code, value_code, index_code, pointee_code, bounds_code, width_of}, Flattened.{kind_of, is_ref, target_of, mode_of, what_names, lvalue_in, guard_of, constant_code, named_code, truth_code, compare_code, logical_code, either_code, behind_int, behind_ref, operator_of, first_cell_of, wait_code, with_words, argument_words, condition_code, called_code, passed_code, spawn_code, cast_code, layout_of, expression_code, arguments_code, place_code}, Suits.{Either, is_cell}}
-use Rattle.sharc_flat.specs.declared.op.Op.TheVariants as op
-use Rattle.sharc_invariant.specs.{Types.{StaticType, cells_of}, Types.Content.{MutexWord, Waiters}, Labels.{Entry, Empty, Refers, Element, Number, Anything, Nth, Exactly, Within, Indexes, OfElement, OfGlobal, Closed, Label, Less as LessLabel, LessNumber, LessEntry, LessGate, HasBase, fill, set_number, without_copies}, Typed.{Passes, ints_in, refs_in}}
-use Rattle.sharc_invariant.proofs.{Frames.wider, Scoped.{less_refl, less_entry_refl, less_number_refl, scoped_fill}}
-use Rattle.sharc_typed_laws.specs.{Stretches.{Mark, Setting, Way, AreOpen}, Places.{IsNamed, IsPlain, AreLow, no_type, mark}, Premises.{Typing, IsCopyIn, IsCopyNamed, IsCopyOf, IsPointerCopy, Ground, ReferenceTyped}, Typable.{IsBare, StandsIn, type_by, GoesTo, Widens, ints_behind, refs_behind, AreFree, IsTypeIn, IsVoid, IsNumber, IsPointer, ground_of, CellTyped, VariableTyped, NameTyped, ConstantTyped, UnaryTyped, result_of, ComparedTyped, HasType, AreFields, IndexTypable, ArgumentAt, ArgumentsAt, ResultTyped, CallTyped, HasNoWidth, Goes, Handed, SpawnTyped, FirstCell, IsOne, AreTwo, ConditionTyped, VariableTakes, Takes, TakeTyped, CastTyped, FreeTyped, CallTypable, IsTypable, AreTypable, IsPlaceTypable}}
-use Rattle.sharc_typed_laws.proofs.{Fitting.fits_same, Losing.{with_copies, Loses, loses_none, loses_both, loses_taken, stands_lost, less_lost, holds_lost, below, loses_below, loses_there, small_there, lost_fill, copy_kept}, Standing.less_by, Telling.{told, other_than}, Rules.on_nothing, Parts.{P, at_number, at_fill, number_above, does, then_do, none, enter, constant_at, width_at, from_free, false_at, compute_at, negate_at, complement_at, number_dropped, truth_at, compare_at, logical_at, either_at, check_at, pointee_at, print_at, join_at, with_number}, Variables.{local_at, move_at}, Indexes.{element_of, fresh_name}, Accessed.{Frame, placed, indexed, int_value, reference_value, taken_value, holds_over, wider_names}, Casting.{take_variable_at, freed_at, given_at}, Calling.{call_reference, call_number, call_nothing}, Spawning.{spawn_number, spawn_reference}, Waiting.{signalled, broadcasted, waited}, Locking.{locked_at, unlocked_at}, LabelsPlacing.{AreFew, which, bounds_at, finds_object, finds_global}, Preorder.narrower_before as narrower_through}
-use Rattle.sharc_lemmas.proofs.Options.{no_guard as none_some}
+use Rattle.sharc_typed_laws.proofs.{Imports.{◌≡◌, ℕ, ◌+◌, ◌<◌, ◌≤◌, ◌⊎◌, Bool, true, false, cond, List, [], ◌∷◌, ◌++◌, Option, Some, None, refl, sym, ap, ◌∙◌, subst, inl, inr, ⊎_elim, arith, append_assoc, drop, codes, bytes_eq, false≢true, cases_eq, cases_lt, Site, Span, Identifier, WrittenType, Dot, Arrow, BinaryOperator, LogicalOr, LogicalAnd, Constant, Unlock, Free, Negate, Not, Dereference, Join, Print, span_of, Expression, identifier, constant, parentheses, call, spawn, on_value, on_place, cast, index, field, unary, binary, Arguments, no_arguments, argument, Name as Named, Kind, is_array, is_integer, element_kind, promoted, declared_kinds, Use, Register, Width, Char, Int, put, put_same, put_other, put_all, global_at, structs_in, parameters_named, Sharing, element_cells, field_place_named, global_elements, number_named, constant_value, is_reference, Op, Spot, first_cell, Lvalue, Context, ref_count, register_of, number_in, at_site, Target, variable, in_global, in_global_at, in_object, in_object_at, target, named_target, own_field, global_of, guard_width, copy_code, cell_value_code, cell_take_code, take_code, value_code, index_code, pointee_code, bounds_code, width_of, kind_of, is_ref, target_of, mode_of, what_names, lvalue_in, guard_of, constant_code, named_code, truth_code, compare_code, logical_code, either_code, behind_int, behind_ref, operator_of, first_cell_of, wait_code, with_words, argument_words, condition_code, called_code, passed_code, spawn_code, cast_code, layout_of, expression_code, arguments_code, place_code, Either, is_cell, StaticType, cells_of, MutexWord, Waiters, Entry, Empty, Refers, Element, Number, Anything, Nth, Exactly, Within, Indexes, OfElement, OfGlobal, Closed, Label, Less as LessLabel, LessNumber, LessEntry, LessGate, HasBase, fill, set_number, without_copies, Passes, ints_in, refs_in, wider, less_refl, less_entry_refl, less_number_refl, scoped_fill, Mark, Setting, Way, AreOpen, IsNamed, IsPlain, AreLow, no_type, mark, Typing, IsCopyIn, IsCopyNamed, IsCopyOf, IsPointerCopy, Ground, ReferenceTyped, IsBare, StandsIn, type_by, GoesTo, Widens, ints_behind, refs_behind, AreFree, IsTypeIn, IsVoid, IsNumber, IsPointer, ground_of, CellTyped, VariableTyped, NameTyped, ConstantTyped, UnaryTyped, result_of, ComparedTyped, HasType, AreFields, IndexTypable, ArgumentAt, ArgumentsAt, ResultTyped, CallTyped, HasNoWidth, Goes, Handed, SpawnTyped, FirstCell, IsOne, AreTwo, ConditionTyped, VariableTakes, Takes, TakeTyped, CastTyped, FreeTyped, CallTypable, IsTypable, AreTypable, IsPlaceTypable, none_some}, Fitting.fits_same, Losing.{with_copies, Loses, loses_none, loses_both, loses_taken, stands_lost, less_lost, holds_lost, below, loses_below, loses_there, small_there, lost_fill, copy_kept}, Standing.less_by, Telling.{told, other_than}, Rules.on_nothing, Parts.{P, at_number, at_fill, number_above, does, then_do, none, enter, constant_at, width_at, from_free, false_at, compute_at, negate_at, complement_at, number_dropped, truth_at, compare_at, logical_at, either_at, check_at, pointee_at, print_at, join_at, with_number}, Variables.{local_at, move_at}, Indexes.{element_of, fresh_name}, Accessed.{Frame, placed, indexed, int_value, reference_value, taken_value, holds_over, wider_names}, Casting.{take_variable_at, freed_at, given_at}, Calling.{call_reference, call_number, call_nothing}, Spawning.{spawn_number, spawn_reference}, Waiting.{signalled, broadcasted, waited}, Locking.{locked_at, unlocked_at}, LabelsPlacing.{AreFew, which, bounds_at, finds_object, finds_global}, Preorder.{narrower_before as narrower_through}}
+use Rattle.sharc_tree.specs.{declared.tree.expression.PlaceCall.TheVariants.Lock, declared.tree.expression.UnaryOperator.TheVariants.Complement}
 
 pub no_element : (n : Number) (q : ℕ) → IsPlain n → HasBase n q → ⊥
 no_element (Indexes m) q plain h = plain
@@ -185,15 +169,15 @@ module _ (around : Setting) (f : ℕ) (ways : List Way) (y : Typing) (c : Contex
   bare_number l i n plain h = let w = h in (w.0, w.1, λ j q b. put_all (λ j x. HasBase x q → ⊥) l.ints i n (λ b. no_element n q plain b) (λ j _ b. w.2 j q b) j b)
 
   -- ---- NULL and constants
-  pub null_at : (from i r : ℕ) (l : Label) → F from i r l → (s : StaticType) → IsNamed N r s → Q from (mark l from i) (op.Null r ∷ []) (mark (fill l r (Refers s) r false) from i)
+  pub null_at : (from i r : ℕ) (l : Label) → F from i r l → (s : StaticType) → IsNamed N r s → Q from (mark l from i) (Op.Null r ∷ []) (mark (fill l r (Refers s) r false) from i)
   null_at from i r l fr s fits =
       let k = fill l r (Refers s) r false in
       let at = fr.at in
-      does around f D N top low from (mark l from i) (op.Null r) (mark k from i)
+      does around f D N top low from (mark l from i) (Op.Null r) (mark k from i)
       (λ in_it h. scoped_fill (ints_in around.code (Some f)) (refs_in around.code (Some f)) l r s r false in_it (λ q m. at.stands.full q (fits q m).0) (inl refl) h)
       (λ table pc in_it h next. on_nothing around f table pc (mark l from i) (mark k from i) next r (record { owned = at.owned; scoped = h; closed = at.stands.closed }) (record { is = subst (λ o. r < refs_in around.code o) (sym at.owned) in_it; empty = at.stands.free r (omega arith) })
       (less_by l k refl (λ q. entry q) (λ q. same q) (λ q e. known q e) (λ j. less_number_refl (l.ints j)) (subst (λ g. LessGate g Closed) (sym at.stands.closed) tt) at.stands.nothing_passed (λ e. e))
-      (λ _ know h2. told around.targets (op.Null r) know (mark l from i) (mark k from i) h2 (λ q v _ e. absurd (none_some v e)) (λ q a _. put_other l.same r q r (other_than q r a)) (λ j n _ _ a. absurd (false≢true a))
+      (λ _ know h2. told around.targets (Op.Null r) know (mark l from i) (mark k from i) h2 (λ q v _ e. absurd (none_some v e)) (λ q a _. put_other l.same r q r (other_than q r a)) (λ j n _ _ a. absurd (false≢true a))
       (λ j n a b _ e. number_above around f D N top low from i r l at r (omega arith) (Refers s) r false j n (h2.numbers j n a b e))))
     where
       entry : (q : ℕ) → LessEntry l q (l.env q) (put l.env r (Refers s) q)
@@ -207,8 +191,8 @@ module _ (around : Setting) (f : ℕ) (ways : List Way) (y : Typing) (c : Contex
       known q e = ⊎_elim (λ (z : q ≡ r). absurd (false≢true (sym (ap (put l.known r false) z ∙ put_same l.known r false) ∙ e))) (λ (ne : q ≡ r → ⊥). sym (put_other l.known r q false ne) ∙ e) (cases_eq q r)
 
   constant_value_of : (from i r : ℕ) (l : Label) → F from i r l → (e : Expression) (k : Constant) (b : Bool) → ((copy : ℕ) → IsCopyOf y c e copy) → is_ref c e ≡ b → ConstantTyped around f y c e k b → ValueOf from i r l (constant_code b i r k) e
-  constant_value_of from i r l fr e k true any_copy is h = ref_by from i r l (op.Null r ∷ []) e is (λ s goes fits. record { lost = l.same; loses = loses_none N l.same; copy = r; copies = any_copy r; small = inl refl; piece = null_at from i r l fr s (in_frame from i r l fr s fits) })
-  constant_value_of from i r l fr e k false any_copy is h = int_by from i r l (op.Constant i (constant_value k) ∷ []) e (is, h.0) (record { lost = l.same; loses = loses_none N l.same; number = Exactly (constant_value k); plain = tt; fits = h.1; piece = constant_at around f D N top low from i r l fr.at (constant_value k) })
+  constant_value_of from i r l fr e k true any_copy is h = ref_by from i r l (Op.Null r ∷ []) e is (λ s goes fits. record { lost = l.same; loses = loses_none N l.same; copy = r; copies = any_copy r; small = inl refl; piece = null_at from i r l fr s (in_frame from i r l fr s fits) })
+  constant_value_of from i r l fr e k false any_copy is h = int_by from i r l (Op.Constant i (constant_value k) ∷ []) e (is, h.0) (record { lost = l.same; loses = loses_none N l.same; number = Exactly (constant_value k); plain = tt; fits = h.1; piece = constant_at around f D N top low from i r l fr.at (constant_value k) })
 
   -- ---- variables
   same_type : (s t : StaticType) → Refers s ≡ Refers t → s ≡ t
@@ -221,8 +205,8 @@ module _ (around : Setting) (f : ℕ) (ways : List Way) (y : Typing) (c : Contex
   goes_is e s t is goes = ⊎_elim (λ (z : e ≡ Empty). absurd (not_null s e is z)) (λ (z : e ≡ Refers t). same_type s t (sym is ∙ z)) goes
 
   copied : (from i r : ℕ) (l : Label) → F from i r l → (e : Expression) (x : Register) → ((copy : ℕ) → IsCopyIn y c (number_in x) copy → IsCopyOf y c e copy) → VariableTyped around f y c e x → ValueOf from i r l (copy_code i r x) e
-  copied from i r l fr e (registers.Int j) if_copy h = int_by from i r l (op.Move i j ∷ []) e h.0 (record { lost = l.same; loses = loses_none N l.same; number = Within (y.width c j); plain = tt; fits = subst (λ w. LessNumber (Within (y.width c j)) (Within w)) h.2 (less_number_refl (Within (y.width c j))); piece = move_at around f D N top low from i r l fr.at j (y.width c j) (fr.holds.integers j h.1) })
-  copied from i r l fr e (registers.Reference q) if_copy h = let high = fr.high in let lt = h.1 in ref_by from i r l (op.Local r q ∷ []) e h.0 (λ s goes fits.
+  copied from i r l fr e (Register.Int j) if_copy h = int_by from i r l (Op.Move i j ∷ []) e h.0 (record { lost = l.same; loses = loses_none N l.same; number = Within (y.width c j); plain = tt; fits = subst (λ w. LessNumber (Within (y.width c j)) (Within w)) h.2 (less_number_refl (Within (y.width c j))); piece = move_at around f D N top low from i r l fr.at j (y.width c j) (fr.holds.integers j h.1) })
+  copied from i r l fr e (Register.Reference q) if_copy h = let high = fr.high in let lt = h.1 in ref_by from i r l (Op.Local r q ∷ []) e h.0 (λ s goes fits.
       let is : y.pointer c q ≡ s = goes_is (y.entry c e) (y.pointer c q) s h.2 goes in
       record { lost = l.same; loses = loses_none N l.same; copy = q; copies = if_copy q (λ _. refl); small = inr h.1; piece = local_at around f D N top low from i r l fr.at s q i (in_frame from i r l fr s fits) (omega (arith, high, lt)) (fr.holds.references q h.1 ∙ ap Refers is) (fr.holds.copies q h.1) })
 
@@ -267,7 +251,7 @@ module _ (around : Setting) (f : ℕ) (ways : List Way) (y : Typing) (c : Contex
             piece = joins from (mark l from i) start (mark (fill k r (Refers s) r false) from i) xs (value_code c i r site (lvalue_in c e) (mode_of c e) true t) p.piece
                 (subst (λ os. Q from start os (mark (fill k r (Refers s) r false) from i)) (value_is i r site (lvalue_in c e) (mode_of c e) true t cell)
                 (reference_value around f D y c low from i r k fk (guard_of c e) (ground_of around f y c e) p.element p.copy p.fits p.small p.copies site (lvalue_in c e) (mode_of c e) t cell s (in_frame from i r l fr s fits)
-                (subst (λ s. ReferenceTyped around y c f t (guard_of c e) (ground_of around f y c e) site (lvalue_in c e) (mode_of c e) false uses.Read s) same h.3)));
+                (subst (λ s. ReferenceTyped around y c f t (guard_of c e) (ground_of around f y c e) site (lvalue_in c e) (mode_of c e) false Use.Read s) same h.3)));
           }
       by false is h = subst (λ b. Value from i r l (xs ++ value_code c i r site (lvalue_in c e) (mode_of c e) false t) e false b) (sym h.0) (record {
         lost = p.lost;
@@ -327,7 +311,7 @@ module _ (around : Setting) (f : ℕ) (ways : List Way) (y : Typing) (c : Contex
   -- of an array
   array_place : (from i r : ℕ) (l : Label) → F from i r l → (g elements count n : ℕ) (guard : Option ℕ) (ground : Ground) → ground.base ≡ no_type → ground.pointer ≡ None → ground.count ≡ count → ground.elements ≡ elements → AreFields around f y count n guard → (xs ys : List Op) (w : Width) (site : Site)
       → Done from i l xs → ((l : Label) → F from i r l → IntValue from i r l ys w)
-      → PlaceValue from i r l (xs ++ (ys ++ bounds_code (λ i n. op.GlobalBounds i elements count (first_cell c.globals g + n) (at_site site)) i n guard)) (in_global_at g n) guard ground
+      → PlaceValue from i r l (xs ++ (ys ++ bounds_code (λ i n. Op.GlobalBounds i elements count (first_cell c.globals g + n) (at_site site)) i n guard)) (in_global_at g n) guard ground
   array_place from i r l fr g elements count n guard ground none_based none_led same_count same_elements few xs ys w site p number =
       let first = first_cell c.globals g in
       let m = with_copies l p.lost in
@@ -336,10 +320,10 @@ module _ (around : Setting) (f : ℕ) (ways : List Way) (y : Typing) (c : Contex
       let loses = loses_both N l.same p.lost v.lost p.loses v.loses in
       let fk = lost_frame from i r l fr v.lost loses in
       let finds = finds_global around f D y c low from elements count first (at_site site) k fk.at.owned in
-      let elem = which around f D y c low from i r k fk.at (λ i n. op.GlobalBounds i elements count (first + n) (at_site site)) (λ n e. OfGlobal (first + n) count elements e) count finds fk.early v.number v.plain in
-      let os = bounds_code (λ i n. op.GlobalBounds i elements count (first + n) (at_site site)) i n guard in
+      let elem = which around f D y c low from i r k fk.at (λ i n. Op.GlobalBounds i elements count (first + n) (at_site site)) (λ n e. OfGlobal (first + n) count elements e) count finds fk.early v.number v.plain in
+      let os = bounds_code (λ i n. Op.GlobalBounds i elements count (first + n) (at_site site)) i n guard in
       let end : Q from (with_number around f D N top low from k i v.number) os (mark (record k { ints = indexed around f D y c low from l.ints i guard (λ n. OfGlobal (first + n) count elements elem) n; gate = Closed }) from (i + guard_width guard)) =
-      bounds_at around f D y c low from i r k fk.at (λ i n. op.GlobalBounds i elements count (first + n) (at_site site)) (λ n e. OfGlobal (first + n) count elements e) count finds fk.early v.number v.plain n guard (few_at from count n guard few) in
+      bounds_at around f D y c low from i r k fk.at (λ i n. Op.GlobalBounds i elements count (first + n) (at_site site)) (λ n e. OfGlobal (first + n) count elements e) count finds fk.early v.number v.plain n guard (few_at from count n guard few) in
       record {
         lost = v.lost;
         loses = loses;
@@ -357,7 +341,7 @@ module _ (around : Setting) (f : ℕ) (ways : List Way) (y : Typing) (c : Contex
   -- of what a pointer refers to
   element_place : (from i r : ℕ) (l : Label) → F from i r l → (e : Expression) (count n : ℕ) (guard : Option ℕ) (ground : Ground) → type_by (y.entry c e) ≡ ground.base → Some e ≡ ground.pointer → count ≡ cells_of around.targets (type_by (y.entry c e)).target → AreFields around f y count n guard → (xs : List Op) (ys : ℕ → List Op) (w : Width) (site : Site)
       → IsPointer around f y c e → ValueOf from i r l xs e → ((l : Label) → F from i (r + 1) l → IntValue from i (r + 1) l (ys (r + 1)) w)
-      → PlaceValue from i r l (xs ++ (op.ChkNull r (at_site site) ∷ (ys (r + 1) ++ bounds_code (λ i n. op.Bounds i r count n (at_site site)) i n guard))) (in_object_at n) guard ground
+      → PlaceValue from i r l (xs ++ (Op.ChkNull r (at_site site) ∷ (ys (r + 1) ++ bounds_code (λ i n. Op.Bounds i r count n (at_site site)) i n guard))) (in_object_at n) guard ground
   element_place from i r l fr e count n guard ground same leads size few xs ys w site is v number =
       let b = base_of from i r l xs e is v in
       let s = type_by (y.entry c e) in
@@ -375,7 +359,7 @@ module _ (around : Setting) (f : ℕ) (ways : List Way) (y : Typing) (c : Contex
       let less = small_there N b.lost r b.copy m.lost m.loses small in
       let Y = fill k r (Refers s) copy true in
       let fy = frame_fill from i r k fk s copy true fits less in
-      let o : ℕ → ℕ → Op = λ i n. op.Bounds i r count n (at_site site) in
+      let o : ℕ → ℕ → Op = λ i n. Op.Bounds i r count n (at_site site) in
       let elem = element_of m.number (fresh_name (set_number Y i m.number) (i + 1)) in
       let os = bounds_code o i n guard in
       let start = with_number around f D N top low from Y i m.number in
@@ -391,9 +375,9 @@ module _ (around : Setting) (f : ℕ) (ways : List Way) (y : Typing) (c : Contex
         small = less;
         copies = subst (λ p. IsPointerCopy y c p copy) leads (copy_kept y c b.copy copy r (loses_there N b.lost r b.copy m.lost m.loses) e b.copies);
         fits = subst (IsNamed N r) same fits;
-        piece = subst (λ t. Q from (mark l from i) (xs ++ (op.ChkNull r (at_site site) ∷ (ys (r + 1) ++ os))) (mark (record (fill k r (Refers t) copy true) { ints = indexed around f D y c low from l.ints i guard (λ n. OfElement r n elem) n; gate = Closed }) from (i + guard_width guard))) same
-            (joins from (mark l from i) (mark (fill first r (Refers s) b.copy false) from i) after xs (op.ChkNull r (at_site site) ∷ (ys (r + 1) ++ os)) b.piece
-            (joins from (mark (fill first r (Refers s) b.copy false) from i) (mark X from i) after (op.ChkNull r (at_site site) ∷ []) (ys (r + 1) ++ os) (check_at around f D N top low from i r first f1.at s b.copy false fits small i (at_site site))
+        piece = subst (λ t. Q from (mark l from i) (xs ++ (Op.ChkNull r (at_site site) ∷ (ys (r + 1) ++ os))) (mark (record (fill k r (Refers t) copy true) { ints = indexed around f D y c low from l.ints i guard (λ n. OfElement r n elem) n; gate = Closed }) from (i + guard_width guard))) same
+            (joins from (mark l from i) (mark (fill first r (Refers s) b.copy false) from i) after xs (Op.ChkNull r (at_site site) ∷ (ys (r + 1) ++ os)) b.piece
+            (joins from (mark (fill first r (Refers s) b.copy false) from i) (mark X from i) after (Op.ChkNull r (at_site site) ∷ []) (ys (r + 1) ++ os) (check_at around f D N top low from i r first f1.at s b.copy false fits small i (at_site site))
             (joins from (mark X from i) start after (ys (r + 1)) os middle end)));
       }
 
@@ -430,44 +414,44 @@ module _ (around : Setting) (f : ℕ) (ways : List Way) (y : Typing) (c : Contex
   truth_value : (from i r : ℕ) (l : Label) (os : List Op) (e : Expression) → IsNumber around f y c e → (lost : ℕ → ℕ) → Loses N l.same lost → Q from (mark l from i) os (with_number around f D N top low from (with_copies l lost) i (Within Char)) → ValueOf from i r l os e
   truth_value from i r l os e is lost loses p = int_by from i r l os e is (record { lost = lost; loses = loses; number = Within Char; plain = tt; fits = tt; piece = p })
 
-  not_value : (from i r : ℕ) (l : Label) → F from i r l → (e a : Expression) (os : List Op) → IsNumber around f y c e → HasType around f y c a → ValueOf from i r l os a → ValueOf from i r l (os ++ (truth_code (is_ref c a) i r ++ op.IsFalse i i ∷ [])) e
+  not_value : (from i r : ℕ) (l : Label) → F from i r l → (e a : Expression) (os : List Op) → IsNumber around f y c e → HasType around f y c a → ValueOf from i r l os a → ValueOf from i r l (os ++ (truth_code (is_ref c a) i r ++ Op.IsFalse i i ∷ [])) e
   not_value from i r l fr e a os is h v =
       let t = truth_of from i r l fr a os h v in
       let k = with_copies l t.lost in
       let fk = lost_frame from i r l fr t.lost t.loses in
       let end = with_number around f D N top low from k i (Within Char) in
-      truth_value from i r l (os ++ (truth_code (is_ref c a) i r ++ op.IsFalse i i ∷ [])) e is t.lost t.loses
-      (subst (λ xs. Q from (mark l from i) xs end) (append_assoc os (truth_code (is_ref c a) i r) (op.IsFalse i i ∷ []))
-      (joins from (mark l from i) (mark k from i) end (os ++ truth_code (is_ref c a) i r) (op.IsFalse i i ∷ []) t.piece (from_free around f D N top low from i r k fk.at (op.IsFalse i i) (Within Char) (false_at around f D N top low from i r k fk.at i))))
+      truth_value from i r l (os ++ (truth_code (is_ref c a) i r ++ Op.IsFalse i i ∷ [])) e is t.lost t.loses
+      (subst (λ xs. Q from (mark l from i) xs end) (append_assoc os (truth_code (is_ref c a) i r) (Op.IsFalse i i ∷ []))
+      (joins from (mark l from i) (mark k from i) end (os ++ truth_code (is_ref c a) i r) (Op.IsFalse i i ∷ []) t.piece (from_free around f D N top low from i r k fk.at (Op.IsFalse i i) (Within Char) (false_at around f D N top low from i r k fk.at i))))
 
-  negated : (from i r : ℕ) (l : Label) → F from i r l → (e a : Expression) (os : List Op) (site : Site) → UnaryTyped around f y c e Negate a → ValueOf from i r l os a → ValueOf from i r l (os ++ op.Negate (width_of (promoted (kind_of c a))) i i (at_site site) ∷ []) e
+  negated : (from i r : ℕ) (l : Label) → F from i r l → (e a : Expression) (os : List Op) (site : Site) → UnaryTyped around f y c e Negate a → ValueOf from i r l os a → ValueOf from i r l (os ++ Op.Negate (width_of (promoted (kind_of c a))) i i (at_site site) ∷ []) e
   negated from i r l fr e a os site h v =
       let n = int_of from i r l os a h.0 v in
       let w = width_of (promoted (kind_of c a)) in
       let k = with_copies l n.lost in
       let fk = lost_frame from i r l fr n.lost n.loses in
-      int_by from i r l (os ++ op.Negate w i i (at_site site) ∷ []) e h.1 (record {
+      int_by from i r l (os ++ Op.Negate w i i (at_site site) ∷ []) e h.1 (record {
         lost = n.lost;
         loses = n.loses;
         number = Within w;
         plain = tt;
         fits = h.3;
-        piece = joins from (mark l from i) (with_number around f D N top low from k i n.number) (with_number around f D N top low from k i (Within w)) os (op.Negate w i i (at_site site) ∷ []) n.piece (negate_at around f D N top low from i r k fk.at w n.number (at_site site) h.2);
+        piece = joins from (mark l from i) (with_number around f D N top low from k i n.number) (with_number around f D N top low from k i (Within w)) os (Op.Negate w i i (at_site site) ∷ []) n.piece (negate_at around f D N top low from i r k fk.at w n.number (at_site site) h.2);
       })
 
-  complemented : (from i r : ℕ) (l : Label) → F from i r l → (e a : Expression) (os : List Op) → UnaryTyped around f y c e Complement a → ValueOf from i r l os a → ValueOf from i r l (os ++ op.Complement i i ∷ []) e
+  complemented : (from i r : ℕ) (l : Label) → F from i r l → (e a : Expression) (os : List Op) → UnaryTyped around f y c e Complement a → ValueOf from i r l os a → ValueOf from i r l (os ++ Op.Complement i i ∷ []) e
   complemented from i r l fr e a os h v =
       let n = int_of from i r l os a h.0 v in
       let w = width_of (kind_of c a) in
       let k = with_copies l n.lost in
       let fk = lost_frame from i r l fr n.lost n.loses in
-      int_by from i r l (os ++ op.Complement i i ∷ []) e h.1 (record {
+      int_by from i r l (os ++ Op.Complement i i ∷ []) e h.1 (record {
         lost = n.lost;
         loses = n.loses;
         number = Within w;
         plain = tt;
         fits = h.2;
-        piece = joins from (mark l from i) (with_number around f D N top low from k i n.number) (with_number around f D N top low from k i (Within w)) os (op.Complement i i ∷ []) n.piece (complement_at around f D N top low from i r k fk.at w n.number n.fits);
+        piece = joins from (mark l from i) (with_number around f D N top low from k i n.number) (with_number around f D N top low from k i (Within w)) os (Op.Complement i i ∷ []) n.piece (complement_at around f D N top low from i r k fk.at w n.number n.fits);
       })
 
   -- && and ||, of which the second operand may be left out
@@ -493,13 +477,13 @@ module _ (around : Setting) (f : ℕ) (ways : List Way) (y : Typing) (c : Contex
   -- an operator on two values, of which the second one stands after the first one
   computed : (from i r : ℕ) (l : Label) → F from i r l → (e : Expression) (site : Site) (o : BinaryOperator) (a b : Expression) (xs : List Op) (ys : ℕ → ℕ → List Op) → IsNumber around f y c e → ComparedTyped around f y c e o a b (is_ref c a) → HasType around f y c a → HasType around f y c b → ValueOf from i r l xs a
       → ((i2 r2 : ℕ) (l2 : Label) → F from i2 r2 l2 → ValueOf from i2 r2 l2 (ys i2 r2) b)
-      → ValueOf from i r l (xs ++ (ys (behind_int (is_ref c a) i) (behind_ref (is_ref c a) r) ++ (cond (is_ref c a) (compare_code o i r) (op.Compute (result_of around f y c o a b) (operator_of o) i i (i + 1) (at_site site) ∷ [])))) e
+      → ValueOf from i r l (xs ++ (ys (behind_int (is_ref c a) i) (behind_ref (is_ref c a) r) ++ (cond (is_ref c a) (compare_code o i r) (Op.Compute (result_of around f y c o a b) (operator_of o) i i (i + 1) (at_site site) ∷ [])))) e
   computed from i r l fr e site o a b xs ys is typed ta tb va vb = by (is_ref c a) refl typed
     where
       w : Width
       w = result_of around f y c o a b
 
-      by : (z : Bool) → is_ref c a ≡ z → ComparedTyped around f y c e o a b z → ValueOf from i r l (xs ++ (ys (behind_int z i) (behind_ref z r) ++ (cond z (compare_code o i r) (op.Compute w (operator_of o) i i (i + 1) (at_site site) ∷ [])))) e
+      by : (z : Bool) → is_ref c a ≡ z → ComparedTyped around f y c e o a b z → ValueOf from i r l (xs ++ (ys (behind_int z i) (behind_ref z r) ++ (cond z (compare_code o i r) (Op.Compute w (operator_of o) i i (i + 1) (at_site site) ∷ [])))) e
       by true is_a is_b =
           let t = ta.0 is_a in
           let s = tb.0 is_b in
@@ -532,33 +516,33 @@ module _ (around : Setting) (f : ℕ) (ways : List Way) (y : Typing) (c : Contex
           let k = with_copies l nb.lost in
           let fk = lost_frame from i r l fr nb.lost loses in
           let end = with_number around f D N top low from k i (Within w) in
-          int_by from i r l (xs ++ (ys (i + 1) r ++ op.Compute w (operator_of o) i i (i + 1) (at_site site) ∷ [])) e is (record {
+          int_by from i r l (xs ++ (ys (i + 1) r ++ Op.Compute w (operator_of o) i i (i + 1) (at_site site) ∷ [])) e is (record {
             lost = nb.lost;
             loses = loses;
             number = Within w;
             plain = tt;
             fits = h.result;
-            piece = joins from (mark l from i) (mark X from (i + 1)) end xs (ys (i + 1) r ++ op.Compute w (operator_of o) i i (i + 1) (at_site site) ∷ []) na.piece
-                (joins from (mark X from (i + 1)) (with_number around f D N top low from (with_copies X nb.lost) (i + 1) nb.number) end (ys (i + 1) r) (op.Compute w (operator_of o) i i (i + 1) (at_site site) ∷ []) nb.piece
+            piece = joins from (mark l from i) (mark X from (i + 1)) end xs (ys (i + 1) r ++ Op.Compute w (operator_of o) i i (i + 1) (at_site site) ∷ []) na.piece
+                (joins from (mark X from (i + 1)) (with_number around f D N top low from (with_copies X nb.lost) (i + 1) nb.number) end (ys (i + 1) r) (Op.Compute w (operator_of o) i i (i + 1) (at_site site) ∷ []) nb.piece
                 (compute_at around f D N top low from i r k fk.at w (operator_of o) na.number nb.number (at_site site) h.wide (λ k. widened na.number (width_of (kind_of c a)) w na.fits (h.first k)) (λ z k. widened nb.number (width_of (kind_of c b)) w nb.fits (h.second z k))));
           })
 
   -- ---- one statement or expression more is entered
-  entered_piece : (from i r : ℕ) (l : Label) → F from i r l → (os : List Op) (e : Mark) → Q from (mark l from i) os e → Q from (mark l from i) (op.Enter ∷ os) e
+  entered_piece : (from i r : ℕ) (l : Label) → F from i r l → (os : List Op) (e : Mark) → Q from (mark l from i) os e → Q from (mark l from i) (Op.Enter ∷ os) e
   entered_piece from i r l fr os e p = enter around f D N top low from i r l fr.at i os e p
 
-  entered_done : (from i r : ℕ) (l : Label) → F from i r l → (os : List Op) → Done from i l os → Done from i l (op.Enter ∷ os)
+  entered_done : (from i r : ℕ) (l : Label) → F from i r l → (os : List Op) → Done from i l os → Done from i l (Op.Enter ∷ os)
   entered_done from i r l fr os p = record { lost = p.lost; loses = p.loses; piece = entered_piece from i r l fr os (mark (with_copies l p.lost) from i) p.piece }
 
-  entered : (from i r : ℕ) (l : Label) → F from i r l → (os : List Op) (e : Expression) → ValueOf from i r l os e → ValueOf from i r l (op.Enter ∷ os) e
+  entered : (from i r : ℕ) (l : Label) → F from i r l → (os : List Op) (e : Expression) → ValueOf from i r l os e → ValueOf from i r l (Op.Enter ∷ os) e
   entered from i r l fr os e v = by (is_ref c e) (is_integer (kind_of c e)) v
     where
-      by : (a b : Bool) → Value from i r l os e a b → Value from i r l (op.Enter ∷ os) e a b
+      by : (a b : Bool) → Value from i r l os e a b → Value from i r l (Op.Enter ∷ os) e a b
       by true b v = λ s goes fits. let w = v s goes fits in record { lost = w.lost; loses = w.loses; copy = w.copy; copies = w.copies; small = w.small; piece = entered_piece from i r l fr os (mark (fill (with_copies l w.lost) r (Refers s) w.copy false) from i) w.piece }
       by false true v = record { lost = v.lost; loses = v.loses; number = v.number; plain = v.plain; fits = v.fits; piece = entered_piece from i r l fr os (with_number around f D N top low from (with_copies l v.lost) i v.number) v.piece }
       by false false v = entered_done from i r l fr os v
 
-  entered_place : (from i r : ℕ) (l : Label) → F from i r l → (os : List Op) (t : Target) (guard : Option ℕ) (ground : Ground) → PlaceValue from i r l os t guard ground → PlaceValue from i r l (op.Enter ∷ os) t guard ground
+  entered_place : (from i r : ℕ) (l : Label) → F from i r l → (os : List Op) (t : Target) (guard : Option ℕ) (ground : Ground) → PlaceValue from i r l os t guard ground → PlaceValue from i r l (Op.Enter ∷ os) t guard ground
   entered_place from i r l fr os t guard ground p = record {
     lost = p.lost;
     loses = p.loses;
@@ -594,13 +578,13 @@ module _ (around : Setting) (f : ℕ) (ways : List Way) (y : Typing) (c : Contex
 
   named_value : (from i r : ℕ) (l : Label) → F from i r l → (s : Span) (x : Identifier) (n : Named) → ((copy : ℕ) → IsCopyNamed y c n copy → IsCopyOf y c (identifier s x) copy) → NameTyped around f y c (identifier s x) x.site n
       → ValueOf from i r l (named_code c i r x.site (lvalue_in c (identifier s x)) (mode_of c (identifier s x)) (is_ref c (identifier s x)) n) (identifier s x)
-  named_value from i r l fr s x (named.Variable v) if_copy h = copied from i r l fr (identifier s x) (register_of c.scope v) (λ copy z. if_copy copy z) h
-  named_value from i r l fr s x (named.Global g) if_copy h = read from i r l fr (identifier s x) x.site (in_global g 0) [] (no_place from i r l fr g 0 (guard_of c (identifier s x)) (ground_of around f y c (identifier s x)) refl refl) refl (λ copy. if_copy copy tt) h
+  named_value from i r l fr s x (Named.Variable v) if_copy h = copied from i r l fr (identifier s x) (register_of c.scope v) (λ copy z. if_copy copy z) h
+  named_value from i r l fr s x (Named.Global g) if_copy h = read from i r l fr (identifier s x) x.site (in_global g 0) [] (no_place from i r l fr g 0 (guard_of c (identifier s x)) (ground_of around f y c (identifier s x)) refl refl) refl (λ copy. if_copy copy tt) h
   named_value from i r l fr s x _ if_copy h = void_by from i r l [] (identifier s x) h (stays from i l)
 
   named_place : (from i r : ℕ) (l : Label) → F from i r l → (n : Named) (place : ℕ) (guard : Option ℕ) (ground : Ground) → ground.base ≡ no_type → ground.pointer ≡ None → PlaceValue from i r l [] (named_target n place) guard ground
-  named_place from i r l fr (named.Variable v) place guard ground h led = variable_place from i r l fr v guard ground h led
-  named_place from i r l fr (named.Global g) place guard ground h led = no_place from i r l fr g place guard ground h led
+  named_place from i r l fr (Named.Variable v) place guard ground h led = variable_place from i r l fr v guard ground h led
+  named_place from i r l fr (Named.Global g) place guard ground h led = no_place from i r l fr g place guard ground h led
   named_place from i r l fr _ place guard ground h led = variable_place from i r l fr 0 guard ground h led
 
   -- ---- indexes
@@ -628,8 +612,8 @@ module _ (around : Setting) (f : ℕ) (ways : List Way) (y : Typing) (c : Contex
 
       by : (b : Bool) → Either b (X × (target c.program.typed None a ≡ in_global g 0)) (Y × IsPointer around f y c a × (count ≡ cells_of around.targets (type_by (y.entry c a)).target))
           → PlaceValue from i r l
-          (cond b (xs ++ (ys r ++ bounds_code (λ i n. op.GlobalBounds i elements count (first_cell c.globals g + n) (at_site site)) i (own_field own 0) guard))
-          (zs ++ (op.ChkNull r (at_site site) ∷ (ys (r + 1) ++ bounds_code (λ i n. op.Bounds i r count n (at_site site)) i (own_field own 0) guard))))
+          (cond b (xs ++ (ys r ++ bounds_code (λ i n. Op.GlobalBounds i elements count (first_cell c.globals g + n) (at_site site)) i (own_field own 0) guard))
+          (zs ++ (Op.ChkNull r (at_site site) ∷ (ys (r + 1) ++ bounds_code (λ i n. Op.Bounds i r count n (at_site site)) i (own_field own 0) guard))))
           (cond b (in_global_at g (own_field own 0)) (in_object_at (own_field own 0))) guard (record { base = cond b no_type (type_by (y.entry c a)); pointer = cond b None (Some a); count = count; elements = elements })
       by true z = array_place from i r l fr g elements count (own_field own 0) guard (record { base = no_type; pointer = None; count = count; elements = elements }) refl refl refl refl h.3 xs (ys r) (width_of (kind_of c n)) site (array_base from i r l fr xs (target c.program.typed None a) g (ground_of around f y c a) z.1 (px z.0))
           (λ l2 f2. int_of from i r l2 (ys r) n h.2 (pn h.1 r l2 f2))
@@ -667,7 +651,7 @@ module _ (around : Setting) (f : ℕ) (ways : List Way) (y : Typing) (c : Contex
 
   no_width : (i : ℕ) (kinds : List Kind) (site : Site) → HasNoWidth around f y kinds → passed_code i kinds site ≡ []
   no_width i [] site h = refl
-  no_width i (kind ∷ kinds) site h = ap (λ b. cond b (op.ChkWidth (width_of kind) i (at_site site) ∷ []) []) h
+  no_width i (kind ∷ kinds) site h = ap (λ b. cond b (Op.ChkWidth (width_of kind) i (at_site site) ∷ []) []) h
 
   passed_reference : (i r : ℕ) (l : Label) → F i i r l → (kinds : List Kind) (wants : ℕ → StaticType) (a : Expression) (rest : Arguments) (xs ys : List Op) (site : Site) → is_ref c a ≡ true → Goes around f y c kinds a true (wants 0) → ValueOf i i r l xs a
       → ((l2 : Label) → F i i (r + 1) l2 → Passed i (r + 1) l2 (drop 1 kinds) (λ n. wants (n + 1)) rest ys)
@@ -725,7 +709,7 @@ module _ (around : Setting) (f : ℕ) (ways : List Way) (y : Typing) (c : Contex
       let e_int : p.label.ints i ≡ Within w = p.numbers i (omega arith) ∙ put_same l.ints i (Within w) in
       let more = p.more_ints in
       let start = with_number around f D N top low i first i n.number in
-      let check : Q 0 start (op.ChkWidth w i (at_site site) ∷ []) (mark X i i) = taken_number start (mark X i i) (op.ChkWidth w i (at_site site) ∷ []) i n.number (width_of (kind_of c a)) (put_same l.ints i n.number) n.fits (λ lt. width_at around f D N top low i i r first f1.at w n.number (at_site site) lt) in
+      let check : Q 0 start (Op.ChkWidth w i (at_site site) ∷ []) (mark X i i) = taken_number start (mark X i i) (Op.ChkWidth w i (at_site site) ∷ []) i n.number (width_of (kind_of c a)) (put_same l.ints i n.number) n.fits (λ lt. width_at around f D N top low i i r first f1.at w n.number (at_site site) lt) in
       record {
         label = p.label;
         ints = p.ints;
@@ -743,8 +727,8 @@ module _ (around : Setting) (f : ℕ) (ways : List Way) (y : Typing) (c : Contex
         numbers = λ j lt. p.numbers j (omega (arith, lt)) ∙ put_other l.ints i j (Within w) (λ e. omega (arith, e, lt));
         here = subst (λ b. ArgumentAt around f y c (kind ∷ kinds) a b (wants 0) i r p.label × ArgumentsAt around f y c kinds (λ n. wants (n + 1)) rest (behind_int b i) (behind_ref b r) p.label) (sym is) (e_int, p.here);
         piece = joins_at (mark l i i) start (mark p.label p.ints p.ints) xs (passed_code i (kind ∷ kinds) site ++ ys) n.piece
-            (subst (λ b. Q 0 start (cond b (op.ChkWidth w i (at_site site) ∷ []) [] ++ ys) (mark p.label p.ints p.ints)) (sym goes)
-            (joins_at start (mark X i i) (mark p.label p.ints p.ints) (op.ChkWidth w i (at_site site) ∷ []) ys check
+            (subst (λ b. Q 0 start (cond b (Op.ChkWidth w i (at_site site) ∷ []) [] ++ ys) (mark p.label p.ints p.ints)) (sym goes)
+            (joins_at start (mark X i i) (mark p.label p.ints p.ints) (Op.ChkWidth w i (at_site site) ∷ []) ys check
             (joins_at (mark X i i) (mark X (i + 1) (i + 1)) (mark p.label p.ints p.ints) [] ys (untold i i (i + 1) (i + 1) X (omega arith)) p.piece)));
       }
 
@@ -760,7 +744,7 @@ module _ (around : Setting) (f : ℕ) (ways : List Way) (y : Typing) (c : Contex
       by false is (kind ∷ kinds) goes next = passed_number i r l fr kind kinds wants a rest xs (ys (i + 1) r) site is goes.0 goes.1 v (λ l2 f2. next (i + 1) r l2 f2)
 
   -- ---- a call
-  call_value : (from i r : ℕ) (l : Label) → F from i r l → (e : Expression) (g : ℕ) (kinds : List Kind) (wants : ℕ → StaticType) (all : Arguments) (os : List Op) (spot : Spot) → ((copy : ℕ) → IsCopyOf y c e copy) → CallTyped around f y c e g kinds wants all → Passed i r l kinds wants all os → ValueOf from i r l (os ++ op.Call g i r spot ∷ []) e
+  call_value : (from i r : ℕ) (l : Label) → F from i r l → (e : Expression) (g : ℕ) (kinds : List Kind) (wants : ℕ → StaticType) (all : Arguments) (os : List Op) (spot : Spot) → ((copy : ℕ) → IsCopyOf y c e copy) → CallTyped around f y c e g kinds wants all → Passed i r l kinds wants all os → ValueOf from i r l (os ++ Op.Call g i r spot ∷ []) e
   call_value from i r l fr e g kinds wants all os spot any_copy h p = by (is_ref c e) (is_integer (kind_of c e)) h.result
     where
       start : Q 0 (mark l from i) [] (mark l i i)
@@ -787,7 +771,7 @@ module _ (around : Setting) (f : ℕ) (ways : List Way) (y : Typing) (c : Contex
       fk : F from i r k
       fk = lost_frame from i r l fr p.lost p.loses
 
-      by : (a b : Bool) → ResultTyped around f y c e g a b → Value from i r l (os ++ op.Call g i r spot ∷ []) e a b
+      by : (a b : Bool) → ResultTyped around f y c e g a b → Value from i r l (os ++ Op.Call g i r spot ∷ []) e a b
       by true b z = λ s goes fits.
           let same : z.0 ≡ s = goes_is (y.entry c e) z.0 s z.1 goes in
           record {
@@ -796,7 +780,7 @@ module _ (around : Setting) (f : ℕ) (ways : List Way) (y : Typing) (c : Contex
             copy = r;
             copies = any_copy r;
             small = inl refl;
-            piece = joins_at (mark l from i) (mark p.label p.ints p.ints) (mark (fill k r (Refers s) r false) from i) os (op.Call g i r spot ∷ []) passed
+            piece = joins_at (mark l from i) (mark p.label p.ints p.ints) (mark (fill k r (Refers s) r false) from i) os (Op.Call g i r spot ∷ []) passed
                 (call_reference around f D y c low from i r k fk p.label p.frame.at.owned p.frame.at.stands.closed p.env p.same p.known p.numbers p.ints p.ints g spot h.is h.alone passes numbers s (in_frame from i r l fr s fits) (z.3 ∙ ap Refers same));
           }
       by false true z = record {
@@ -805,13 +789,13 @@ module _ (around : Setting) (f : ℕ) (ways : List Way) (y : Typing) (c : Contex
         number = (around.signature g).result_int;
         plain = z.1;
         fits = z.2;
-        piece = joins_at (mark l from i) (mark p.label p.ints p.ints) (with_number around f D N top low from k i (around.signature g).result_int) os (op.Call g i r spot ∷ []) passed
+        piece = joins_at (mark l from i) (mark p.label p.ints p.ints) (with_number around f D N top low from k i (around.signature g).result_int) os (Op.Call g i r spot ∷ []) passed
             (call_number around f D y c low from i r k fk p.label p.frame.at.owned p.frame.at.stands.closed p.env p.same p.known p.numbers p.ints p.ints g spot h.is h.alone passes numbers (around.signature g).result_int z.1 z.0 refl);
       }
       by false false z = record {
         lost = p.lost;
         loses = p.loses;
-        piece = joins_at (mark l from i) (mark p.label p.ints p.ints) (mark k from i) os (op.Call g i r spot ∷ []) passed
+        piece = joins_at (mark l from i) (mark p.label p.ints p.ints) (mark k from i) os (Op.Call g i r spot ∷ []) passed
             (call_nothing around f D y c low from i r k fk p.label p.frame.at.owned p.frame.at.stands.closed p.env p.same p.known p.numbers p.ints p.ints g spot h.is h.alone passes numbers z);
       }
 
@@ -894,7 +878,7 @@ module _ (around : Setting) (f : ℕ) (ways : List Way) (y : Typing) (c : Contex
       by : (w g : Bool) → Either w (AreTwo around f y c all × FirstCell around (wants 0) Waiters × FirstCell around (wants 1) MutexWord) (IsOne around f y c all × FirstCell around (wants 0) Waiters)
           → Done from i l
           (os ++ cond w (wait_code r spot (with_words spot (argument_words 0 all)) (with_words spot (argument_words 1 all)))
-          (cond g (op.ChkNull r spot ∷ op.CondSignal (first_cell_of r) spot ∷ op.Pop r ∷ []) (op.ChkNull r spot ∷ op.CondBroadcast (first_cell_of r) spot ∷ op.Pop r ∷ [])))
+          (cond g (Op.ChkNull r spot ∷ Op.CondSignal (first_cell_of r) spot ∷ Op.Pop r ∷ []) (Op.ChkNull r spot ∷ Op.CondBroadcast (first_cell_of r) spot ∷ Op.Pop r ∷ [])))
       by true g z =
           let p = two z.0 in
           let k = with_copies l p.lost in
@@ -927,10 +911,10 @@ module _ (around : Setting) (f : ℕ) (ways : List Way) (y : Typing) (c : Contex
       → ((kinds : List Kind) (wants : ℕ → StaticType) → AreTypable around f y c kinds wants all → AreTwo around f y c all → TwoHeld from i r l wants (arguments_code c i r kinds all))
       → CallTypable around f y c e n name all (λ kinds wants. AreTypable around f y c kinds wants all)
       → ValueOf from i r l (arguments_code c i r (declared_kinds (parameters_named c.program.typed n)) all ++ called_code i r spot n name all) e
-  called_value from i r l fr e (named.Function g) name all spot any_copy args one two h = call_value from i r l fr e g (declared_kinds (parameters_named c.program.typed (named.Function g))) h.0 all (arguments_code c i r (declared_kinds (parameters_named c.program.typed (named.Function g))) all) spot any_copy h.2
-      (args (declared_kinds (parameters_named c.program.typed (named.Function g))) h.0 h.1)
-  called_value from i r l fr e named.Known name all spot any_copy args one two h =
-      let kinds = declared_kinds (parameters_named c.program.typed named.Known) in
+  called_value from i r l fr e (Named.Function g) name all spot any_copy args one two h = call_value from i r l fr e g (declared_kinds (parameters_named c.program.typed (Named.Function g))) h.0 all (arguments_code c i r (declared_kinds (parameters_named c.program.typed (Named.Function g))) all) spot any_copy h.2
+      (args (declared_kinds (parameters_named c.program.typed (Named.Function g))) h.0 h.1)
+  called_value from i r l fr e Named.Known name all spot any_copy args one two h =
+      let kinds = declared_kinds (parameters_named c.program.typed Named.Known) in
       condition_value from i r l fr e name h.0 all (arguments_code c i r kinds all) spot h.2 h.3 (λ k. one kinds h.0 h.1 k) (λ k. two kinds h.0 h.1 k)
   called_value from i r l fr e _ name all spot any_copy args one two h = absurd h
 
@@ -958,10 +942,10 @@ module _ (around : Setting) (f : ℕ) (ways : List Way) (y : Typing) (c : Contex
           let start = with_number around f D N top low from k i n.number in
           let m = mark (set_number k i (Within w)) from i in
           let end = with_number around f D N top low from k i (Within Char) in
-          let check : Q from start (op.ChkWidth w i (at_site site) ∷ []) m = taken_number start m (op.ChkWidth w i (at_site site) ∷ []) i n.number (width_of (kind_of c a)) (put_same l.ints i n.number) n.fits (λ lt. width_at around f D N top low from i r k fk.at w n.number (at_site site) lt) in
+          let check : Q from start (Op.ChkWidth w i (at_site site) ∷ []) m = taken_number start m (Op.ChkWidth w i (at_site site) ∷ []) i n.number (width_of (kind_of c a)) (put_same l.ints i n.number) n.fits (λ lt. width_at around f D N top low from i r k fk.at w n.number (at_site site) lt) in
           truth_value from i r l (os ++ (passed_code i (kind ∷ kinds) site ++ spawn_code false i r g spot)) e is n.lost n.loses (joins from (mark l from i) start end os (passed_code i (kind ∷ kinds) site ++ spawn_code false i r g spot) n.piece
-          (subst (λ b. Q from start (cond b (op.ChkWidth w i (at_site site) ∷ []) [] ++ spawn_code false i r g spot) end) (sym z.1)
-          (joins from start m end (op.ChkWidth w i (at_site site) ∷ []) (spawn_code false i r g spot) check
+          (subst (λ b. Q from start (cond b (Op.ChkWidth w i (at_site site) ∷ []) [] ++ spawn_code false i r g spot) end) (sym z.1)
+          (joins from start m end (Op.ChkWidth w i (at_site site) ∷ []) (spawn_code false i r g spot) check
           (spawn_number around f D y c low from i r k fk g spot h.is h.starts h.shared w from i z.2 z.3))))
 
   -- ---- what is taken away
@@ -992,16 +976,16 @@ module _ (around : Setting) (f : ℕ) (ways : List Way) (y : Typing) (c : Contex
                 (taken_value around f D y c low from i r k (lost_frame from i r l fr p.lost p.loses) (guard_of c a) (ground_of around f y c a) p.element p.copy p.fits p.small p.copies (span_of a).first (lvalue_in c a) (mode_of c a) form t is s (in_frame from i r l fr s h.type) reaches));
           }
 
-      variables : (x : Register) (spot : Spot) → VariableTakes around f y c s x → (lost : ℕ → ℕ) → Loses N l.same lost → Q from (mark l from i) xs (mark (record (with_copies l lost) { gate = Closed }) from (i + 0)) → Taken from i r l (xs ++ op.TakeLocal r (number_in x) spot ∷ []) s
-      variables (registers.Int j) spot takes lost loses piece = absurd takes
-      variables (registers.Reference q) spot takes lost loses piece =
+      variables : (x : Register) (spot : Spot) → VariableTakes around f y c s x → (lost : ℕ → ℕ) → Loses N l.same lost → Q from (mark l from i) xs (mark (record (with_copies l lost) { gate = Closed }) from (i + 0)) → Taken from i r l (xs ++ Op.TakeLocal r (number_in x) spot ∷ []) s
+      variables (Register.Int j) spot takes lost loses piece = absurd takes
+      variables (Register.Reference q) spot takes lost loses piece =
           let k = with_copies l lost in
           let fk = lost_frame from i r l fr lost loses in
           let after = without_copies lost q in
           record {
             lost = after;
             loses = loses_both N l.same lost after loses (loses_taken N lost q takes.2);
-            piece = joins from (mark l from i) (mark (record k { gate = Closed }) from (i + 0)) (mark (fill (with_copies l after) r (Refers s) r false) from i) xs (op.TakeLocal r q spot ∷ []) piece
+            piece = joins from (mark l from i) (mark (record k { gate = Closed }) from (i + 0)) (mark (fill (with_copies l after) r (Refers s) r false) from i) xs (Op.TakeLocal r q spot ∷ []) piece
                 (take_variable_at around f D y c low from i r k fk s (in_frame from i r l fr s h.type) q (i + 0) spot takes.0 (fr.holds.references q takes.0 ∙ ap Refers takes.1) takes.2);
           }
 
@@ -1013,12 +997,12 @@ module _ (around : Setting) (f : ℕ) (ways : List Way) (y : Typing) (c : Contex
   cast_value from i r l fr s t a xs h p =
       let b = h.before in
       let fits = in_frame from i r l fr b h.take.type in
-      let taken = taken_at from i r l fr a uses.Cast b xs h.take p in
+      let taken = taken_at from i r l fr a Use.Cast b xs h.take p in
       let k = with_copies l taken.lost in
       let fk = lost_frame from i r l fr taken.lost taken.loses in
       let X = fill k r (Refers b) r true in
       let holds = (frame_fill from i r k fk b r true fits (omega arith)).holds in
-      let tail = op.SkipIfNull r 1 ∷ op.Give r (element_cells c.program.typed (element_kind (kind_of c a))) _ ∷ [] in
+      let tail = Op.SkipIfNull r 1 ∷ Op.Give r (element_cells c.program.typed (element_kind (kind_of c a))) _ ∷ [] in
       ref_by from i r l (cast_code c i r s a xs) (cast s t a) h.reference (λ g goes in_it.
       let same : h.given ≡ g = goes_is (y.entry c (cast s t a)) h.given g h.entry goes in
       let end = mark (fill k r (Refers g) r false) from i in
@@ -1030,23 +1014,23 @@ module _ (around : Setting) (f : ℕ) (ways : List Way) (y : Typing) (c : Contex
         copy = r;
         copies = tt;
         small = inl refl;
-        piece = subst (λ os. Q from (mark l from i) os end) (append_assoc xs (take_code c i r (span_of a).first (lvalue_in c a) (mode_of c a) uses.Cast (target_of c a)) tail)
-            (joins from (mark l from i) (mark (fill k r (Refers b) r false) from i) end (xs ++ take_code c i r (span_of a).first (lvalue_in c a) (mode_of c a) uses.Cast (target_of c a)) tail taken.piece gives);
+        piece = subst (λ os. Q from (mark l from i) os end) (append_assoc xs (take_code c i r (span_of a).first (lvalue_in c a) (mode_of c a) Use.Cast (target_of c a)) tail)
+            (joins from (mark l from i) (mark (fill k r (Refers b) r false) from i) end (xs ++ take_code c i r (span_of a).first (lvalue_in c a) (mode_of c a) Use.Cast (target_of c a)) tail taken.piece gives);
       })
 
   free_piece : (from i r : ℕ) (l : Label) → F from i r l → (a : Expression) (xs : List Op) (spot : Spot) → FreeTyped around f y c a → PlaceValue from i r l xs (target_of c a) (guard_of c a) (ground_of around f y c a)
-      → Done from i l (xs ++ (take_code c i r (span_of a).first (lvalue_in c a) (mode_of c a) uses.Free (target_of c a) ++ (op.SkipIfNull r 1 ∷ op.Free r (layout_of (structs_in c.program.typed.program.items) (element_kind (kind_of c a))) spot ∷ [])))
+      → Done from i l (xs ++ (take_code c i r (span_of a).first (lvalue_in c a) (mode_of c a) Use.Free (target_of c a) ++ (Op.SkipIfNull r 1 ∷ Op.Free r (layout_of (structs_in c.program.typed.program.items) (element_kind (kind_of c a))) spot ∷ [])))
   free_piece from i r l fr a xs spot h p =
       let b = h.before in
-      let taken = taken_at from i r l fr a uses.Free b xs h.take p in
+      let taken = taken_at from i r l fr a Use.Free b xs h.take p in
       let k = with_copies l taken.lost in
       let fk = lost_frame from i r l fr taken.lost taken.loses in
-      let tail = op.SkipIfNull r 1 ∷ op.Free r (layout_of (structs_in c.program.typed.program.items) (element_kind (kind_of c a))) spot ∷ [] in
+      let tail = Op.SkipIfNull r 1 ∷ Op.Free r (layout_of (structs_in c.program.typed.program.items) (element_kind (kind_of c a))) spot ∷ [] in
       record {
         lost = taken.lost;
         loses = taken.loses;
-        piece = subst (λ os. Q from (mark l from i) os (mark k from i)) (append_assoc xs (take_code c i r (span_of a).first (lvalue_in c a) (mode_of c a) uses.Free (target_of c a)) tail)
-            (joins from (mark l from i) (mark (fill k r (Refers b) r false) from i) (mark k from i) (xs ++ take_code c i r (span_of a).first (lvalue_in c a) (mode_of c a) uses.Free (target_of c a)) tail taken.piece
+        piece = subst (λ os. Q from (mark l from i) os (mark k from i)) (append_assoc xs (take_code c i r (span_of a).first (lvalue_in c a) (mode_of c a) Use.Free (target_of c a)) tail)
+            (joins from (mark l from i) (mark (fill k r (Refers b) r false) from i) (mark k from i) (xs ++ take_code c i r (span_of a).first (lvalue_in c a) (mode_of c a) Use.Free (target_of c a)) tail taken.piece
             (freed_at around f D y c low from i r k fk b (in_frame from i r l fr b h.take.type) (layout_of (structs_in c.program.typed.program.items) (element_kind (kind_of c a))) spot h.laid));
       }
 
@@ -1085,9 +1069,9 @@ module _ (around : Setting) (f : ℕ) (ways : List Way) (y : Typing) (c : Contex
         (λ kinds wants k is. one_held from i r l fr kinds wants all k is) (λ kinds wants k are. two_held from i r l fr kinds wants all k are) h)
     expressions from i r l fr (spawn s x a) h = entered from i r l fr _ (spawn s x a)
         (spawn_value from i r l fr (spawn s x a) a (number_named (what_names c x.site.token)) (declared_kinds (parameters_named c.program.typed (what_names c x.site.token))) (expression_code c i r a) (span_of a).first (at_site s.first) h.1 h.2 (expressions from i r l fr a h.0))
-    expressions from i r l fr (on_value s Join a) h = entered_done from i r l fr _ (used_value from i r l fr a (expression_code c i r a) (op.Join i (at_site s.first)) h.1 (expressions from i r l fr a h.0)
+    expressions from i r l fr (on_value s Join a) h = entered_done from i r l fr _ (used_value from i r l fr a (expression_code c i r a) (Op.Join i (at_site s.first)) h.1 (expressions from i r l fr a h.0)
         (λ k n fn. join_at around f D N top low from (i + 1) r (set_number k i n) fn.at (i + 1) i (at_site s.first)))
-    expressions from i r l fr (on_value s Print a) h = entered_done from i r l fr _ (used_value from i r l fr a (expression_code c i r a) (op.Print i (at_site s.first)) h.1 (expressions from i r l fr a h.0)
+    expressions from i r l fr (on_value s Print a) h = entered_done from i r l fr _ (used_value from i r l fr a (expression_code c i r a) (Op.Print i (at_site s.first)) h.1 (expressions from i r l fr a h.0)
         (λ k n fn. print_at around f D N top low from (i + 1) r (set_number k i n) fn.at (i + 1) i (at_site s.first)))
     expressions from i r l fr (on_place s Lock a) h =
         let p = places from i r l fr (span_of a).first None None a h.0 in

@@ -1,9 +1,5 @@
 -- What is said before a line fits itself, and what fits what fits a third fits that.
-use Rattle.std.proofs.Common.{◌≡◌, ℕ, ◌<◌, ◌≤◌, ◌∙◌, arith}
-use Rattle.sharc_invariant.specs.{Types.Targets, Labels.Less}
-use Rattle.sharc_invariant.proofs.Scoped.{less_refl}
-use Rattle.sharc_typed_laws.specs.{Passes.IsNumberOf, Stretches.{Mark, Fits}}
-use Rattle.sharc_typed_laws.proofs.Preorder.{less_through}
+use Rattle.sharc_typed_laws.proofs.{Imports.{◌≡◌, ℕ, ◌<◌, ◌≤◌, ◌∙◌, arith, Targets, Less, less_refl, IsNumberOf, Mark, Fits}, Preorder.less_through}
 
 pub fits_same : (x : Targets) (s : Mark) → Fits x s s
 fits_same x s = record { less = less_refl s.label; tells = λ k h. h }

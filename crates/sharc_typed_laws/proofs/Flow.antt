@@ -1,10 +1,5 @@
 -- Stretches of flat code one after the other: tests, choices, loops.
-use Rattle.std.proofs.Common.{◌≡◌, ℕ, ◌+◌, ◌≤◌, List, [], ◌∷◌, ◌++◌, length, refl, ap, sym, ◌∙◌, subst, arith, length-append}
-use Rattle.sharc_flat.specs.declared.op.Op.{Op}
-use Rattle.sharc_flat.specs.declared.op.Op.TheVariants as op
-use Rattle.sharc_invariant.specs.Labels.{Less}
-use Rattle.sharc_typed_laws.proofs.{Preorder.less_through, Fitting.{fits_same, fits_through}, Rules.{Plain, PlainNull, cleared, noted, on_skip, on_zero, on_null}, Closing.agrees_left}
-use Rattle.sharc_typed_laws.specs.Stretches.{Mark, Setting, Fits, IsLine, Agrees, AreLines, first, Stretch}
+use Rattle.sharc_typed_laws.proofs.{Imports.{◌≡◌, ℕ, ◌+◌, ◌≤◌, List, [], ◌∷◌, ◌++◌, length, refl, ap, sym, ◌∙◌, subst, arith, length-append, Op, Less, Mark, Setting, Fits, IsLine, Agrees, AreLines, first, Stretch}, Preorder.less_through, Fitting.{fits_same, fits_through}, Rules.{Plain, PlainNull, cleared, noted, on_skip, on_zero, on_null}, Closing.agrees_left}
 
 agrees_at : (table : ℕ → Mark) (p q : ℕ) (list : List Mark) → p ≡ q → Agrees table p list → Agrees table q list
 agrees_at table p q list e h = subst (λ n. Agrees table n list) e h
@@ -111,7 +106,7 @@ module _ (around : Setting) (f : ℕ) where
     pub step_at : (table : ℕ → Mark) → Agrees table pc piece.marks → Fit n (table (pc + length (T ++ (B ++ S)))) → Fit n (table (pc + (length T + length B)))
 
   -- over a piece, or into it
-  pub over : (D : (ℕ → Mark) → Type 0) (s m e : Mark) (pc i : ℕ) (xs ys : List Op) → Plain around f s → Less s.label m.label → Piece D s (pc + 1) xs m → Piece D m (pc + 1 + length xs) ys e → Piece D s pc (op.SkipIfZero i (length xs) ∷ (xs ++ ys)) e
+  pub over : (D : (ℕ → Mark) → Type 0) (s m e : Mark) (pc i : ℕ) (xs ys : List Op) → Plain around f s → Less s.label m.label → Piece D s (pc + 1) xs m → Piece D m (pc + 1 + length xs) ys e → Piece D s pc (Op.SkipIfZero i (length xs) ∷ (xs ++ ys)) e
   unfolding joins
   over D s m e pc i xs ys plain h p q =
       let j = joins D s m e (pc + 1) xs ys p q in
@@ -120,21 +115,21 @@ module _ (around : Setting) (f : ℕ) where
         many = let n = j.many in omega (arith, n);
         begins = same s;
         runs = λ table d own a end.
-            let last : pc + length (op.SkipIfZero i (length xs) ∷ (xs ++ ys)) ≡ pc + 1 + length (xs ++ ys) = omega arith in
+            let last : pc + length (Op.SkipIfZero i (length xs) ∷ (xs ++ ys)) ≡ pc + 1 + length (xs ++ ys) = omega arith in
             let there : Fit e (table (pc + 1 + length (xs ++ ys))) = subst (λ n. Fit e (table n)) last end in
             let last2 : pc + 1 + length (xs ++ ys) ≡ pc + 1 + length xs + length ys = omega (arith, length-append xs ys) in
             let there2 : Fit e (table (pc + 1 + length xs + length ys)) = subst (λ n. Fit e (table n)) last2 there in
             let right = agrees_right table (pc + 1) p.marks q.marks (length xs) p.many a.1 in
             let o1 : pc + 1 + length xs ≤ around.lines = omega (arith, own, length-append xs ys) in
             let o2 : pc + 1 ≤ around.lines = omega (arith, own) in (
-              subst (λ x. Needs table pc x (op.SkipIfZero i (length xs))) (sym a.0)
+              subst (λ x. Needs table pc x (Op.SkipIfZero i (length xs))) (sym a.0)
                   (on_zero around f table pc s i (length xs) plain (o1, less_through s.label m.label (table (pc + 1 + length xs)).label h (enters D m (pc + 1 + length xs) ys e q table right there2).less) (o2, enters D s (pc + 1) (xs ++ ys) e j table a.1 there)),
               j.runs table d (omega (arith, own)) a.1 there,
             );
       }
 
   -- over one line where a register holds NULL
-  pub over_null : (D : (ℕ → Mark) → Type 0) (s m e : Mark) (pc r : ℕ) (o : Op) → PlainNull around f s r → Fit (noted s r) m → Fit (cleared s r) e → Piece D m (pc + 1) (o ∷ []) e → Piece D s pc (op.SkipIfNull r 1 ∷ o ∷ []) e
+  pub over_null : (D : (ℕ → Mark) → Type 0) (s m e : Mark) (pc r : ℕ) (o : Op) → PlainNull around f s r → Fit (noted s r) m → Fit (cleared s r) e → Piece D m (pc + 1) (o ∷ []) e → Piece D s pc (Op.SkipIfNull r 1 ∷ o ∷ []) e
   over_null D s m e pc r o plain h g q = record {
     marks = s ∷ q.marks;
     many = let n = q.many in omega (arith, n);
@@ -144,7 +139,7 @@ module _ (around : Setting) (f : ℕ) where
         let there : Fit e (table (pc + 1 + 1)) = subst (λ n. Fit e (table n)) last end in
         let o1 : pc + 1 + 1 ≤ around.lines = omega (arith, own) in
         let o2 : pc + 1 ≤ around.lines = omega (arith, own) in (
-          subst (λ x. Needs table pc x (op.SkipIfNull r 1)) (sym a.0)
+          subst (λ x. Needs table pc x (Op.SkipIfNull r 1)) (sym a.0)
               (on_null around f table pc s r 1 plain (o1, through (cleared s r) e (table (pc + 1 + 1)) g there) (o2, through (noted s r) m (table (pc + 1)) h (enters D m (pc + 1) (o ∷ []) e q table a.1 there))),
           q.runs table d (omega (arith, own)) a.1 there,
         );
@@ -164,10 +159,10 @@ module _ (around : Setting) (f : ℕ) where
 
     -- ---- a test, and what it leads over
     abbrev tested : List Op → ℕ → ℕ → List Op
-    tested xs i over = xs ++ op.SkipIfZero i over ∷ []
+    tested xs i over = xs ++ Op.SkipIfZero i over ∷ []
 
     test_many : (xs : List Op) (i over : ℕ) → length (tested xs i over) ≡ length xs + 1
-    test_many xs i over = length-append xs (op.SkipIfZero i over ∷ [])
+    test_many xs i over = length-append xs (Op.SkipIfZero i over ∷ [])
 
     abbrev tested_states : List Mark → Mark → List Mark → List Mark
     tested_states a s b = (a ++ s ∷ []) ++ b
@@ -204,9 +199,9 @@ module _ (around : Setting) (f : ℕ) where
         let o1 : pc + length xs + 1 + over ≤ around.lines = omega (arith, own, n1, n2, le) in
         let o2 : pc + length xs + 1 ≤ around.lines = omega (arith, own, n1, n2) in
         levels_both table pc (tested xs i over) ys
-        (levels_both table pc xs (op.SkipIfZero i over ∷ [])
+        (levels_both table pc xs (Op.SkipIfZero i over ∷ [])
         (p.runs table d (omega (arith, own, n1, n2)) a (subst (Fit s) (sym last) (same s)))
-        (subst (λ x. Needs table (pc + length xs) x (op.SkipIfZero i over)) (sym last) (on_zero around f table (pc + length xs) s i over plain (o1, far.less) (o2, next)), tt))
+        (subst (λ x. Needs table (pc + length xs) x (Op.SkipIfZero i over)) (sym last) (on_zero around f table (pc + length xs) s i over plain (o1, far.less) (o2, next)), tt))
         (levels_at table (pc + length xs + 1) (pc + length (tested xs i over)) ys (omega (arith, n1)) rest)
 
     -- where it is met, this is done
@@ -228,7 +223,7 @@ module _ (around : Setting) (f : ℕ) where
     }
 
     -- where it is met the one side is done, else the other
-    pub sides : (s m e : Mark) (pc i : ℕ) (xs ys zs : List Op) → Plain around f s → Plain around f m → Fit m e → Q s pc xs s → Q s (pc + length xs + 1) ys m → Q s (pc + length xs + 1 + length ys + 1) zs e → Q s pc (tested xs i (length ys + 1) ++ (ys ++ (op.Skip (length zs) ∷ zs))) e
+    pub sides : (s m e : Mark) (pc i : ℕ) (xs ys zs : List Op) → Plain around f s → Plain around f m → Fit m e → Q s pc xs s → Q s (pc + length xs + 1) ys m → Q s (pc + length xs + 1 + length ys + 1) zs e → Q s pc (tested xs i (length ys + 1) ++ (ys ++ (Op.Skip (length zs) ∷ zs))) e
     sides s m e pc i xs ys zs plain plain2 h p q z = record {
       marks = tested_states p.marks s (q.marks ++ m ∷ z.marks);
       many =
@@ -236,15 +231,15 @@ module _ (around : Setting) (f : ℕ) where
           let b = q.many in
           let d = z.many in
           let n4 = length-append q.marks (m ∷ z.marks) in
-          let n5 = length-append ys (op.Skip (length zs) ∷ zs) in
-          omega (arith, a, b, d, length-append (p.marks ++ s ∷ []) (q.marks ++ m ∷ z.marks), states_many p.marks s, length-append (tested xs i (length ys + 1)) (ys ++ (op.Skip (length zs) ∷ zs)), test_many xs i (length ys + 1), n4, n5);
+          let n5 = length-append ys (Op.Skip (length zs) ∷ zs) in
+          omega (arith, a, b, d, length-append (p.marks ++ s ∷ []) (q.marks ++ m ∷ z.marks), states_many p.marks s, length-append (tested xs i (length ys + 1)) (ys ++ (Op.Skip (length zs) ∷ zs)), test_many xs i (length ys + 1), n4, n5);
       begins = first_tested p.marks s s e (q.marks ++ m ∷ z.marks) p.begins;
       runs = λ table d own a end.
           let T = tested xs i (length ys + 1) in
-          let Y = ys ++ (op.Skip (length zs) ∷ zs) in
+          let Y = ys ++ (Op.Skip (length zs) ∷ zs) in
           let n1 = test_many xs i (length ys + 1) in
           let n2 = length-append T Y in
-          let n3 = length-append ys (op.Skip (length zs) ∷ zs) in
+          let n3 = length-append ys (Op.Skip (length zs) ∷ zs) in
           let pc1 = pc + length xs + 1 in
           let w = halves table pc xs p.marks s (q.marks ++ m ∷ z.marks) p.many a in
           let right = agrees_right table pc1 q.marks (m ∷ z.marks) (length ys) q.many w.rest in
@@ -253,9 +248,9 @@ module _ (around : Setting) (f : ℕ) where
           let begin : Fit s (table (pc1 + (length ys + 1))) = there table s (pc1 + length ys + 1) (pc1 + (length ys + 1)) (omega arith) (enters D s (pc1 + length ys + 1) zs e z table right.1 end2) in
           let middle : Fit m (table (pc1 + length ys)) = subst (Fit m) (sym right.0) (same m) in
           test_levels s pc i (length ys + 1) xs Y plain p table d own w.test w.last (omega (arith, n3)) begin (enters D s pc1 ys m q table (agrees_left table pc1 q.marks (m ∷ z.marks) w.rest) middle)
-          (levels_both table pc1 ys (op.Skip (length zs) ∷ zs)
+          (levels_both table pc1 ys (Op.Skip (length zs) ∷ zs)
           (q.runs table d (omega (arith, own, n1, n2, n3)) (agrees_left table pc1 q.marks (m ∷ z.marks) w.rest) middle) (
-            subst (λ x. Needs table (pc1 + length ys) x (op.Skip (length zs))) (sym right.0) (on_skip around f table (pc1 + length ys) m (length zs) plain2 (o1, through m e (table (pc1 + length ys + 1 + length zs)) h end2)),
+            subst (λ x. Needs table (pc1 + length ys) x (Op.Skip (length zs))) (sym right.0) (on_skip around f table (pc1 + length ys) m (length zs) plain2 (o1, through m e (table (pc1 + length ys + 1 + length zs)) h end2)),
             z.runs table d (omega (arith, own, n1, n2, n3)) right.1 end2,
           ));
     }
@@ -285,7 +280,7 @@ module _ (around : Setting) (f : ℕ) where
   -- The loop at this place. Of its code is known what is known around it, and that its second and third line and what decides may be led to.
   pub looped : (D E : (ℕ → Mark) → Type 0) (n : Mark) (pc : ℕ) (T B S : List Op) (out : ℕ) → Plain around f n
       → ((table : ℕ → Mark) → D table → Reaches table n (pc + 1) → Reaches table n (pc + 2) → Reaches table n (pc + 3) → E table) → out ≡ length T + length B + length S + 1 → Inner E n (pc + 3) T B S
-      → Piece D n pc (op.Skip 2 ∷ op.Skip out ∷ op.Skip (length T + length B) ∷ (T ++ (B ++ S))) n
+      → Piece D n pc (Op.Skip 2 ∷ Op.Skip out ∷ Op.Skip (length T + length B) ∷ (T ++ (B ++ S))) n
   looped D E n pc T B S out plain into count x =
       let R = T ++ (B ++ S) in
       let p = x.piece in
@@ -299,7 +294,7 @@ module _ (around : Setting) (f : ℕ) where
             let at2 : pc + 1 + 1 ≡ pc + 2 = omega arith in
             let at3 : pc + 1 + 1 + 1 ≡ pc + 3 = omega arith in
             let agrees : Agrees table (pc + 3) p.marks = subst (λ q. Agrees table q p.marks) at3 a.1.1.1 in
-            let end3 : Fit n (table (pc + 3 + length R)) = move table n (pc + length (op.Skip 2 ∷ op.Skip out ∷ op.Skip (length T + length B) ∷ R)) (pc + 3 + length R) (omega arith) end in
+            let end3 : Fit n (table (pc + 3 + length R)) = move table n (pc + length (Op.Skip 2 ∷ Op.Skip out ∷ Op.Skip (length T + length B) ∷ R)) (pc + 3 + length R) (omega arith) end in
             let from : (q : ℕ) → pc ≤ q → q ≤ pc + 3 + length R → Fit n (table q) → Reaches table n q = λ q low high fits. (omega (arith, own, high, low), fits) in
             let begin : Fit n (table (pc + 3)) = enters E n (pc + 3) R n p table agrees end3 in
             let e1 = from (pc + 1) (omega arith) (omega arith) (subst (Fit n) (sym a.1.0) (same n)) in
@@ -307,11 +302,11 @@ module _ (around : Setting) (f : ℕ) where
             let e3 = from (pc + 3) (omega arith) (omega arith) begin in
             let far : Fit n (table (pc + 1 + 1 + out)) = move table n (pc + 3 + length R) (pc + 1 + 1 + out) (omega (arith, n1, n2, count)) end3 in
             let steps : Fit n (table (pc + 1 + 1 + 1 + (length T + length B))) = move table n (pc + 3 + (length T + length B)) (pc + 1 + 1 + 1 + (length T + length B)) (omega arith) (x.step_at table agrees end3) in (
-              subst (λ y. Needs table pc y (op.Skip 2)) (sym a.0) (on_skip around f table pc n 2 plain (from (pc + 1 + 2) (omega arith) (omega arith) (move table n (pc + 3) (pc + 1 + 2) (omega arith) begin))),
+              subst (λ y. Needs table pc y (Op.Skip 2)) (sym a.0) (on_skip around f table pc n 2 plain (from (pc + 1 + 2) (omega arith) (omega arith) (move table n (pc + 3) (pc + 1 + 2) (omega arith) begin))),
               (
-                subst (λ y. Needs table (pc + 1) y (op.Skip out)) (sym a.1.0) (on_skip around f table (pc + 1) n out plain (from (pc + 1 + 1 + out) (omega arith) (omega (arith, n1, n2, count)) far)),
+                subst (λ y. Needs table (pc + 1) y (Op.Skip out)) (sym a.1.0) (on_skip around f table (pc + 1) n out plain (from (pc + 1 + 1 + out) (omega arith) (omega (arith, n1, n2, count)) far)),
                 (
-                  subst (λ y. Needs table (pc + 1 + 1) y (op.Skip (length T + length B))) (sym a.1.1.0) (on_skip around f table (pc + 1 + 1) n (length T + length B) plain (from (pc + 1 + 1 + 1 + (length T + length B)) (omega arith) (omega (arith, n1, n2)) steps)),
+                  subst (λ y. Needs table (pc + 1 + 1) y (Op.Skip (length T + length B))) (sym a.1.1.0) (on_skip around f table (pc + 1 + 1) n (length T + length B) plain (from (pc + 1 + 1 + 1 + (length T + length B)) (omega arith) (omega (arith, n1, n2)) steps)),
                   levels_at table (pc + 3) (pc + 1 + 1 + 1) R (sym at3) (p.runs table (into table d e1 e2 e3) (omega (arith, own)) agrees end3),
                 ),
               ),

@@ -1,8 +1,5 @@
 -- Contexts in which more variables stand, and blocks that are open one in the other.
-use Rattle.std.proofs.{Common.{◌≡◌, ℕ, ◌+◌, ◌<◌, Bool, true, false, cond, List, [], ◌∷◌, ◌++◌, length, take, drop, refl, sym, ap, ◌∙◌, subst, arith, append_assoc, append-nil}, lemmas.List.{take_all, take-append-le, drop_at}}
-use Rattle.sharc_flat.specs.{declared.slot.Slot.Slot, Scope.{Context, int_count, ref_count, pops, ends_from}}
-use Rattle.sharc_invariant.specs.Labels.{Label}
-use Rattle.sharc_typed_laws.specs.{Places.{IsNamed, AreLow}, Premises.Typing, Declared.StandsBefore, Begun.{label_of, LabelsStand}, Ended.Grows, Left.{back, AreNested}, Functions.IsLowTyping}
+use Rattle.sharc_typed_laws.proofs.Imports.{◌≡◌, ℕ, ◌+◌, ◌<◌, Bool, true, false, cond, List, [], ◌∷◌, ◌++◌, length, take, drop, refl, sym, ap, ◌∙◌, subst, arith, append_assoc, append-nil, take_all, take-append-le, drop_at, Slot, Context, int_count, ref_count, pops, ends_from, Label, IsNamed, AreLow, Typing, StandsBefore, label_of, LabelsStand, Grows, back, AreNested, IsLowTyping}
 
 -- ---- counts
 refs_both : (a b : List Slot) → ref_count (a ++ b) ≡ ref_count a + ref_count b

@@ -1,14 +1,5 @@
 -- Calls, returns and new threads, each by itself.
-use Rattle.std.proofs.{Common.{◌≡◌, ◌≢◌, ℕ, ◌+◌, ◌<◌, ◌≤◌, true, false, List, length, refl, Some}, lemmas.Option.none-some}
-use Rattle.std.specs.Prelude.{filter}
-use Rattle.sharc_code.specs.{declared.instr.Register.Register, declared.instr.Width.TheVariants.Char}
-use Rattle.sharc_code.specs.declared.instr.Register.TheVariants as registers
-use Rattle.sharc_flat.specs.declared.op.Op.TheVariants as op
-use Rattle.sharc_flat.specs.declared.op.Spot.{Spot}
-use Rattle.sharc_invariant.specs.{Types.Lock, Types.Lock.{Global, Through, Self}, Labels.{Entry, Empty, Refers, Unknown, Within, Closed, Pass, IsIn, Label, Less, SameReference, LessNumber, LessEntry, EntryMentions, set_number, empty, without_base}, Typed.{Passes, PassesLock, Hands, ints_in, refs_in, handed_label, called_label, below_pass}}
-use Rattle.sharc_typed_laws.specs.{Passes.with_passes, Stretches.{Mark, Setting, labels_by, Fits, IsLine}}
-use Rattle.sharc_typed_laws.proofs.{TypedAlike.{all_same, same_reference, less_entry}, Preorder.less_through, Rules.with_less, Accesses.InFrame}
-use Rattle.sharc_lemmas.proofs.Bools.{false_true as never}
+use Rattle.sharc_typed_laws.proofs.{Imports.{◌≡◌, ◌≢◌, ℕ, ◌+◌, ◌<◌, ◌≤◌, true, false, List, length, refl, Some, none-some, filter, Register, Char, Op, Spot, Lock, Global, Through, Self, Entry, Empty, Refers, Unknown, Within, Closed, Pass, IsIn, Label, Less, SameReference, LessNumber, LessEntry, EntryMentions, set_number, empty, without_base, Passes, PassesLock, Hands, ints_in, refs_in, handed_label, called_label, below_pass, with_passes, Mark, Setting, labels_by, Fits, IsLine, never}, TypedAlike.{all_same, same_reference, less_entry}, Preorder.less_through, Rules.with_less, Accesses.InFrame}
 
 -- ---- what is passed, with checks that are remembered
 module _ (l : Label) (ps : List Pass) where
@@ -47,7 +38,7 @@ module _ (around : Setting) (f : ℕ) (table : ℕ → Mark) (pc : ℕ) (s : Mar
   abbrev l : Label
   l = s.label
 
-  pub on_return : (spot : Spot) → l.gate ≡ Closed → LessEntry l 0 (l.env 0) (around.signature f).result → LessNumber (l.ints 0) (around.signature f).result_int → ((r : ℕ) → r ≢ 0 → l.env r ≡ Empty) → IsLine around f table pc s (op.Return spot)
+  pub on_return : (spot : Spot) → l.gate ≡ Closed → LessEntry l 0 (l.env 0) (around.signature f).result → LessNumber (l.ints 0) (around.signature f).result_int → ((r : ℕ) → r ≢ 0 → l.env r ≡ Empty) → IsLine around f table pc s (Op.Return spot)
   on_return spot closed result number others = record {
     owned = here.owned;
     scoped = here.scoped;
@@ -63,7 +54,7 @@ module _ (around : Setting) (f : ℕ) (table : ℕ → Mark) (pc : ℕ) (s : Mar
     last : (a : Label) (ps qs : List Pass) → Less a e.label → ((p : Pass) → IsIn p qs → ⊥) → Less (with_passes a ps) (with_passes t qs)
     last a ps qs h sub = with_less a t ps qs (less_through a e.label t h next.less) (λ p k. absurd (sub p k))
 
-    pub on_call : (g ints refs : ℕ) (spot : Spot) → l.gate ≡ Closed → CallFits around l ints refs g → Less (called_label (labels_by around table) l g ints refs) e.label → IsLine around f table pc s (op.Call g ints refs spot)
+    pub on_call : (g ints refs : ℕ) (spot : Spot) → l.gate ≡ Closed → CallFits around l ints refs g → Less (called_label (labels_by around table) l g ints refs) e.label → IsLine around f table pc s (Op.Call g ints refs spot)
     on_call g ints refs spot closed h less = record {
       owned = here.owned;
       scoped = here.scoped;
@@ -89,15 +80,15 @@ module _ (around : Setting) (f : ℕ) (table : ℕ → Mark) (pc : ℕ) (s : Mar
     }
 
     pub on_spawn : (i g : ℕ) (from : Register) (spot : Spot) → l.gate ≡ Closed → i < ints_in around.code l.function → g < length around.code.functions.items → around.starts g ≡ true → (around.signature g).alone ≡ false
-        → ((ps : List Pass) → Hands around.targets around.code (labels_by around table) (with_passes l ps) g from) → Less (set_number (handed_label l from) i (Within Char)) e.label → IsLine around f table pc s (op.Spawn i g from spot)
-    on_spawn i g (registers.Int j) spot closed int is starts shared hands less = record {
+        → ((ps : List Pass) → Hands around.targets around.code (labels_by around table) (with_passes l ps) g from) → Less (set_number (handed_label l from) i (Within Char)) e.label → IsLine around f table pc s (Op.Spawn i g from spot)
+    on_spawn i g (Register.Int j) spot closed int is starts shared hands less = record {
       owned = here.owned;
       scoped = here.scoped;
       typed = λ dropped passes repeats jumps on. (closed, int, is, starts, shared, hands (passes pc), last (set_number l i (Within Char)) (passes pc) (passes (pc + 1)) less (λ p k. on p k));
       cells = λ a z. absurd (none-some a z);
       tells = λ z. never z;
     }
-    on_spawn i g (registers.Reference r) spot closed int is starts shared hands less = record {
+    on_spawn i g (Register.Reference r) spot closed int is starts shared hands less = record {
       owned = here.owned;
       scoped = here.scoped;
       typed = λ dropped passes repeats jumps on. (closed, int, is, starts, shared, hands (passes pc), last (set_number (empty l r) i (Within Char)) (without_base r (passes pc)) (passes (pc + 1)) less (λ p k. on p k));

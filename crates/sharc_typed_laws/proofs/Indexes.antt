@@ -1,16 +1,5 @@
 -- Indexes: the number of a cell of an element, and beside it that of the mutex of the same element.
-use Rattle.std.proofs.{Common.{◌≡◌, ◌≢◌, ℕ, zero, suc, ◌+◌, ◌*◌, ◌^◌, ◌<◌, ◌≤◌, Bool, true, false, cond, List, [], ◌∷◌, Option, Some, None, refl, sym, ap, ◌∙◌, subst, ⊎_elim, arith, pos, negsuc, max}, lemmas.Bool.{false≢true, cases_eq, cases_lt}, lemmas.Option.same_Some}
-use Rattle.std.specs.Prelude.{nat_eq, nat_lt}
-use Rattle.sharc_code.specs.Runs.{put}
-use Rattle.sharc_code.proofs.Places.{put_same, put_other, put_all}
-use Rattle.sharc_flat.specs.{declared.op.Op.Op, Framed.OpWrites}
-use Rattle.sharc_flat.specs.declared.op.Op.TheVariants as op
-use Rattle.sharc_guard.specs.Known.{Know, know_next, writes_ref, writes_int, number_given, with_element}
-use Rattle.sharc_invariant.specs.{Types.Targets, Labels.{Empty, Element, Named, Nth, Number, Anything, Exactly, Within, Indexes, OfElement, OfGlobal, Closed, Pass, Label, Less, LessNumber, HasBase, HasName, IsNamed as IsNameOf, Fresh, IsScoped, set_number}, Typed.{IsElement, ints_in, refs_in}}
-use Rattle.sharc_invariant.proofs.Scoped.{less_entry_refl, less_number_refl}
-use Rattle.sharc_typed_laws.specs.{Passes.{with_passes, IsNumberOf}, Stretches.{Mark, Setting, Tells, Fits, IsLine}, Places.{IsPlain, mark}}
-use Rattle.sharc_typed_laws.proofs.{Standing.{less_by, scoped_frame, stands_number}, Telling.{told, other_than, same_as}, Rules.{Plain, on_move, on_move_named}, Parts.{P, does, before, At, at_number, same_number, number_op, with_number}}
-use Rattle.sharc_lemmas.proofs.Options.{no_guard as none_some}
+use Rattle.sharc_typed_laws.proofs.{Imports.{◌≡◌, ◌≢◌, ℕ, zero, suc, ◌+◌, ◌*◌, ◌^◌, ◌<◌, ◌≤◌, Bool, true, false, cond, List, [], ◌∷◌, Option, Some, None, refl, sym, ap, ◌∙◌, subst, ⊎_elim, arith, pos, negsuc, max, false≢true, cases_eq, cases_lt, same_Some, nat_eq, nat_lt, put, put_same, put_other, put_all, Op, OpWrites, Know, know_next, writes_ref, writes_int, number_given, with_element, Targets, Empty, Element, Named, Nth, Number, Anything, Exactly, Within, Indexes, OfElement, OfGlobal, Closed, Pass, Label, Less, LessNumber, HasBase, HasName, IsNameOf, Fresh, IsScoped, set_number, IsElement, ints_in, refs_in, less_entry_refl, less_number_refl, with_passes, IsNumberOf, Mark, Setting, Tells, Fits, IsLine, IsPlain, mark, none_some}, Standing.{less_by, scoped_frame, stands_number}, Telling.{told, other_than, same_as}, Rules.{Plain, on_move, on_move_named}, Parts.{P, does, before, At, at_number, same_number, number_op, with_number}}
 
 -- ---- a name that no number has
 name_after : Element → ℕ
@@ -191,8 +180,8 @@ module _ (around : Setting) (f : ℕ) (D : (ℕ → Mark) → Type 0) (named : �
     same_ints a b e = less_by (record l { ints = a; gate = Closed }) (record l { ints = b; gate = Closed }) refl (λ q. less_entry_refl (record l { ints = a; gate = Closed }) q (l.env q)) (λ q. refl) (λ q z. z) (λ j. subst (LessNumber (a j)) (e j) (less_number_refl (a j))) tt at.stands.nothing_passed (λ z. z)
 
     -- the number is copied, and has the name
-    moved_told : (m m2 : Number) → IsValue m → IsValue m2 → ((x : Targets) (k : Label) (q : ℕ) → IsNumberOf x k q m → IsNumberOf x k q m2) → (k : Know) → Tells around.targets k (V l i m) → Tells around.targets (know_next (op.Move (i + 1) i) k) (two m2 m2)
-    moved_told m m2 value value2 known k h = told around.targets (op.Move (i + 1) i) k (V l i m) (two m2 m2) h (λ q v w _. absurd (false≢true w)) (λ q _ _. refl) (λ j n _ _ _ e. absurd (none_some n e))
+    moved_told : (m m2 : Number) → IsValue m → IsValue m2 → ((x : Targets) (k : Label) (q : ℕ) → IsNumberOf x k q m → IsNumberOf x k q m2) → (k : Know) → Tells around.targets k (V l i m) → Tells around.targets (know_next (Op.Move (i + 1) i) k) (two m2 m2)
+    moved_told m m2 value value2 known k h = told around.targets (Op.Move (i + 1) i) k (V l i m) (two m2 m2) h (λ q v w _. absurd (false≢true w)) (λ q _ _. refl) (λ j n _ _ _ e. absurd (none_some n e))
         (λ j n a b w e.
         let ne : j ≡ i + 1 → ⊥ = other_than j (i + 1) w in
         let lt : j < i + 1 = omega (arith, ne, b) in
@@ -205,16 +194,16 @@ module _ (around : Setting) (f : ℕ) (D : (ℕ → Mark) → Type 0) (named : �
             (same_number around f D named top low from (set_number l i m) (two m2 m2).label n m2 (λ q _. refl) (known around.targets (set_number l i m) n (subst (IsNumberOf around.targets (set_number l i m) n) (ap (put l.ints i m) e ∙ put_same l.ints i m) z))))
             (λ (ne : j ≡ i → ⊥). subst (IsNumberOf around.targets (two m2 m2).label n) (put_other l.ints i j m ne ∙ sym (put_other l.ints i j m2 ne)) (same_number around f D named top low from (set_number l i m) (two m2 m2).label n (put l.ints i m j) (λ q _. refl) z)) (cases_eq j i)
 
-    moved_same : (m : Number) → IsValue m → Q (V l i m) (op.Move (i + 1) i ∷ []) (two m m)
+    moved_same : (m : Number) → IsValue m → Q (V l i m) (Op.Move (i + 1) i ∷ []) (two m m)
     moved_same m value =
-        does around f D named top low from (V l i m) (op.Move (i + 1) i) (two m m) (λ in_it h. scoped_two m m (λ q b. value_base m r q value b) (λ q b. value_base m r q value b) in_it h.few)
+        does around f D named top low from (V l i m) (Op.Move (i + 1) i) (two m m) (λ in_it h. scoped_two m m (λ q b. value_base m r q value b) (λ q b. value_base m r q value b) in_it h.few)
         (λ table pc in_it h next. on_move around f table pc (V l i m) (two m m) next (i + 1) i (record { owned = at.owned; scoped = h; closed = refl }) (in_ints (i + 1) in_it)
         (same_ints (put (put l.ints i m) (i + 1) (put l.ints i m i)) (put (put l.ints i m) (i + 1) m) (λ j. ap (λ n. put (put l.ints i m) (i + 1) n j) (put_same l.ints i m))) (λ _ k t. moved_told m m value value (λ x k q z. z) k t))
 
-    moved_named : (m : Number) (name : ℕ) → IsPlain m → Fresh (set_number l i m) name → ((x : Targets) (k : Label) (q : ℕ) → IsNumberOf x k q m → ⊥) → Q (V l i m) (op.Move (i + 1) i ∷ []) (two (Indexes name) (Indexes name))
+    moved_named : (m : Number) (name : ℕ) → IsPlain m → Fresh (set_number l i m) name → ((x : Targets) (k : Label) (q : ℕ) → IsNumberOf x k q m → ⊥) → Q (V l i m) (Op.Move (i + 1) i ∷ []) (two (Indexes name) (Indexes name))
     moved_named m name plain fresh none =
         let I = Indexes name in
-        does around f D named top low from (V l i m) (op.Move (i + 1) i) (two I I) (λ in_it h. scoped_two I I (λ q b. absurd b) (λ q b. absurd b) in_it h.few)
+        does around f D named top low from (V l i m) (Op.Move (i + 1) i) (two I I) (λ in_it h. scoped_two I I (λ q b. absurd b) (λ q b. absurd b) in_it h.few)
         (λ table pc in_it h next. on_move_named around f table pc (V l i m) (two I I) next (i + 1) i name (record { owned = at.owned; scoped = h; closed = refl }) (in_ints (i + 1) in_it) (in_ints i (omega (arith, in_it))) fresh
         (same_ints (put (put (put l.ints i m) i I) (i + 1) I) (put (put l.ints i I) (i + 1) I) (λ j. twice m I j)) (λ _ k t. moved_told m I (plain_value m plain) tt (λ x k q z. absurd (none x k q z)) k t))
       where
@@ -223,7 +212,7 @@ module _ (around : Setting) (f : ℕ) (D : (ℕ → Mark) → Type 0) (named : �
             (λ (ne : j ≡ i + 1 → ⊥). put_other (put (put l.ints i m) i I) (i + 1) j I ne ∙ ⊎_elim (λ (e : j ≡ i). ap (put (put l.ints i m) i I) e ∙ put_same (put l.ints i m) i I ∙ sym (ap (put l.ints i I) e ∙ put_same l.ints i I))
             (λ (no : j ≡ i → ⊥). put_other (put l.ints i m) i j I no ∙ put_other l.ints i j m no ∙ sym (put_other l.ints i j I no)) (cases_eq j i) ∙ sym (put_other (put l.ints i I) (i + 1) j I ne)) (cases_eq j (i + 1))
 
-    moves : (m : Number) (name : ℕ) → IsPlain m → Fresh (set_number l i m) name → Q (V l i m) (op.Move (i + 1) i ∷ []) (two (named_number m name) (named_number m name))
+    moves : (m : Number) (name : ℕ) → IsPlain m → Fresh (set_number l i m) name → Q (V l i m) (Op.Move (i + 1) i ∷ []) (two (named_number m name) (named_number m name))
     moves (Exactly (pos n)) name plain fresh = moved_same (Exactly (pos n)) tt
     moves (Exactly (negsuc n)) name plain fresh = moved_named (Exactly (negsuc n)) name plain fresh (λ x k q z. apart_signs n q z)
     moves Anything name plain fresh = moved_named Anything name plain fresh (λ x k q z. z)
@@ -279,12 +268,12 @@ module _ (around : Setting) (f : ℕ) (D : (ℕ → Mark) → Type 0) (named : �
         (λ table pc in_it plain next less tells. finds.rule table pc g from (i + 1 + 1) (two a (place n elem)) next (i + 1) n elem few plain in_it
         (λ ps. subst (λ y. IsElement (with_passes (record l { ints = g; gate = Closed }) ps) y elem) (sym (put_same (put l.ints i a) (i + 1) m2)) (is_elem ps g)) less tells)
 
-    pub beside_at : (m : Number) (n k name : ℕ) → n < count → k < count → IsPlain m → Fresh (set_number l i m) name → Q (V l i m) (op.Move (i + 1) i ∷ o i n ∷ o (i + 1) k ∷ []) (two (place n (element_of m name)) (place k (element_of m name)))
+    pub beside_at : (m : Number) (n k name : ℕ) → n < count → k < count → IsPlain m → Fresh (set_number l i m) name → Q (V l i m) (Op.Move (i + 1) i ∷ o i n ∷ o (i + 1) k ∷ []) (two (place n (element_of m name)) (place k (element_of m name)))
     beside_at m n k name few few2 plain fresh =
         let elem = element_of m name in
         let m2 = named_number m name in
         let value = named_value m name in
-        before around f D named top low from (V l i m) (two m2 m2) (op.Move (i + 1) i) (o i n ∷ o (i + 1) k ∷ []) (two (place n elem) (place k elem)) (moves m name plain fresh)
+        before around f D named top low from (V l i m) (two m2 m2) (Op.Move (i + 1) i) (o i n ∷ o (i + 1) k ∷ []) (two (place n elem) (place k elem)) (moves m name plain fresh)
         (before around f D named top low from (two m2 m2) (two (place n elem) m2) (o i n) (o (i + 1) k ∷ []) (two (place n elem) (place k elem))
         (first_at m2 n name elem few value (λ ps g. is_element_named (with_passes (record l { ints = g; gate = Closed }) ps) m name) (λ e z. named_nth m name e z))
         (second_at m2 (place n elem) k name elem few2 (below_refs n elem) value (λ ps g. is_element_named (with_passes (record l { ints = g; gate = Closed }) ps) m name) (λ e z. named_nth m name e z)))

@@ -1,11 +1,5 @@
 -- The code of lvalues: the base of what is named, and the index of its cell, come to their registers.
-use Rattle.std.proofs.Common.{◌≡◌, ℕ, ◌+◌, ◌*◌, ◌<◌, ◌≤◌, Bool, true, List, Option, Some, None, refl, sym, ap, ◌∙◌, subst, arith}
-use Rattle.sharc_code.proofs.Places.{put_other}
-use Rattle.sharc_flat.specs.{declared.op.Op.Op, declared.op.Spot.Spot, Framed.OpWrites, Scope.{Context, ref_count}, Places.{guard_width, bounds_code}}
-use Rattle.sharc_flat.specs.declared.op.Op.TheVariants as op
-use Rattle.sharc_invariant.specs.{Types.{StaticType, cells_of}, Labels.{Empty, Refers, Element, Number, OfElement, OfGlobal, Closed, Label, Fresh, set_number}, Typed.{ints_in, refs_in}}
-use Rattle.sharc_typed_laws.specs.{Stretches.{Mark, Setting}, Places.{IsPlain, mark}, Premises.Typing}
-use Rattle.sharc_typed_laws.proofs.{Rules.{on_bounds, on_global_bounds}, Parts.{P, At, with_number}, Indexes.{FindsElement, element_of, fresh_name, is_fresh, bound_at, beside_at}, Accessed.indexed}
+use Rattle.sharc_typed_laws.proofs.{Imports.{◌≡◌, ℕ, ◌+◌, ◌*◌, ◌<◌, ◌≤◌, Bool, true, List, Option, Some, None, refl, sym, ap, ◌∙◌, subst, arith, put_other, Op, Spot, OpWrites, Context, ref_count, guard_width, bounds_code, StaticType, cells_of, Empty, Refers, Element, Number, OfElement, OfGlobal, Closed, Label, Fresh, set_number, ints_in, refs_in, Mark, Setting, IsPlain, mark, Typing}, Rules.{on_bounds, on_global_bounds}, Parts.{P, At, with_number}, Indexes.{FindsElement, element_of, fresh_name, is_fresh, bound_at, beside_at}, Accessed.indexed}
 
 module _ (around : Setting) (f : ℕ) (D : (ℕ → Mark) → Type 0) (y : Typing) (c : Context) (low : (p : ℕ) → y.named c p ≡ true → p < ref_count c.scope) (from : ℕ) where
   abbrev named : ℕ → Bool
@@ -42,7 +36,7 @@ module _ (around : Setting) (f : ℕ) (D : (ℕ → Mark) → Type 0) (y : Typin
 
   -- ---- of an object, whose base is known
   pub finds_object : (base : ℕ) (s : StaticType) (count : ℕ) (spot : Spot) (l : Label) → l.function ≡ Some f → base < refs_in around.code (Some f) → l.env base ≡ Refers s → l.known base ≡ true → count ≡ cells_of around.targets s.target
-      → FindsElement around f l (λ i n. op.Bounds i base count n spot) (λ n e. OfElement base n e) count
+      → FindsElement around f l (λ i n. Op.Bounds i base count n spot) (λ n e. OfElement base n e) count
   finds_object base s count spot l owned ref is known size = record {
     refs = λ i n q. refl;
     ints = λ i n j. refl;
@@ -56,7 +50,7 @@ module _ (around : Setting) (f : ℕ) (D : (ℕ → Mark) → Type 0) (y : Typin
   }
 
   -- ---- of a global
-  pub finds_global : (elements count first : ℕ) (spot : Spot) (l : Label) → l.function ≡ Some f → FindsElement around f l (λ i n. op.GlobalBounds i elements count (first + n) spot) (λ n e. OfGlobal (first + n) count elements e) count
+  pub finds_global : (elements count first : ℕ) (spot : Spot) (l : Label) → l.function ≡ Some f → FindsElement around f l (λ i n. Op.GlobalBounds i elements count (first + n) spot) (λ n e. OfGlobal (first + n) count elements e) count
   finds_global elements count first spot l owned = record {
     refs = λ i n q. refl;
     ints = λ i n j. refl;
@@ -66,5 +60,5 @@ module _ (around : Setting) (f : ℕ) (D : (ℕ → Mark) → Type 0) (y : Typin
     is = λ g n e m h. omega (arith, h);
     based = λ n e q b. absurd b;
     rule = λ table pc g from until e next i n elem few plain in_it is_elem less told. on_global_bounds around f table pc (mark (record l { ints = g; gate = Closed }) from until) e next i elements count (first + n) spot elem plain
-        (subst (λ o. OpWrites (ints_in around.code o) (refs_in around.code o) (op.GlobalBounds i elements count (first + n) spot)) (sym owned) in_it) is_elem less (λ _. told);
+        (subst (λ o. OpWrites (ints_in around.code o) (refs_in around.code o) (Op.GlobalBounds i elements count (first + n) spot)) (sym owned) in_it) is_elem less (λ _. told);
   }

@@ -1,12 +1,5 @@
 -- The laws of parts of expressions, of expressions and of simple statements.
-use Rattle.std.proofs.Common.{ℕ, ◌+◌, Bool, true, false, List, ◌++◌, subst}
-use Rattle.sharc_tree.specs.Tree.{Expression}
-use Rattle.sharc_names.specs.Kinds.{is_integer}
-use Rattle.sharc_flat.specs.{declared.op.Op.Op, Scope.{Context, ref_count}, Flattened.{kind_of, is_ref, truth_code, expression_code}}
-use Rattle.sharc_invariant.specs.Labels.{Refers, Label, fill, set_number}
-use Rattle.sharc_invariant.proofs.Scoped.{less_refl}
-use Rattle.sharc_typed_laws.specs.{Stretches.{Setting, Way, AreOpen, LeadsAmong}, Places.{AreLow, mark}, Premises.Typing, Typable.IsBare, LabelsLaws.{StretchesJoin, PartsAreTyped, ValueComes, ExpressionsAreTyped, SimplesAreTyped, TestsAreTyped}}
-use Rattle.sharc_typed_laws.proofs.{Expressing.{bare_frame, Value, expressions, truth_of}, Losing.kept, Simple.{simples, all_kept}, Parts.{At, then_do, truth_at, pop_at, compare_at, logical_at, either_at, pointee_at}}
+use Rattle.sharc_typed_laws.proofs.{Imports.{ℕ, ◌+◌, Bool, true, false, List, ◌++◌, subst, Expression, is_integer, Op, Context, ref_count, kind_of, is_ref, truth_code, expression_code, Refers, Label, fill, set_number, less_refl, Setting, Way, AreOpen, LeadsAmong, AreLow, mark, Typing, IsBare, StretchesJoin, PartsAreTyped, ValueComes, ExpressionsAreTyped, SimplesAreTyped, TestsAreTyped}, Expressing.{bare_frame, Value, expressions, truth_of}, Losing.kept, Simple.{simples, all_kept}, Parts.{At, then_do, truth_at, pop_at, compare_at, logical_at, either_at, pointee_at}}
 
 pub stretches_join : StretchesJoin
 stretches_join z f ways s m e xs ys p q = then_do z f (AreOpen z ways) (λ q. false) 0 (λ p e. absurd (cc)) 0 s m e xs ys p q

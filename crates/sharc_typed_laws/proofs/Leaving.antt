@@ -1,10 +1,5 @@
 -- How blocks are left.
-use Rattle.std.proofs.Common.{◌≡◌, ℕ, ◌+◌, ◌≤◌, List, [], ◌∷◌, ◌++◌, length, drop, Some, subst, ⊎_elim}
-use Rattle.sharc_flat.specs.{declared.op.Op.Op, Scope.{Context, int_count, ref_count, ends_from, leaves}}
-use Rattle.sharc_flat.specs.declared.op.Op.TheVariants as op
-use Rattle.sharc_invariant.specs.{Labels.{Label, IsScoped}, Typed.{ints_in, refs_in}}
-use Rattle.sharc_typed_laws.specs.{Stretches.{Mark, Setting, Way, Fits, IsLine, AreOpen, LeadsAmong}, Places.AreLow, Premises.Typing, Declared.{StandsBefore, before}, Left.{back, AreNested, LeavesAreTyped, IsOpen, JumpsAreTyped}}
-use Rattle.sharc_typed_laws.proofs.{Fitting.fits_same, Ending.ends_typed, Rules.on_jump, Parts.{then_do, none}, Closing.within_left}
+use Rattle.sharc_typed_laws.proofs.{Imports.{◌≡◌, ℕ, ◌+◌, ◌≤◌, List, [], ◌∷◌, ◌++◌, length, drop, Some, subst, ⊎_elim, Op, Context, int_count, ref_count, ends_from, leaves, Label, IsScoped, ints_in, refs_in, Mark, Setting, Way, Fits, IsLine, AreOpen, LeadsAmong, AreLow, Typing, StandsBefore, before, back, AreNested, LeavesAreTyped, IsOpen, JumpsAreTyped}, Fitting.fits_same, Ending.ends_typed, Rules.on_jump, Parts.{then_do, none}, Closing.within_left}
 use Rattle.sharc_typed_laws.proofs.Flow as flow
 
 module _ (z : Setting) (f : ℕ) (ways : List Way) where
@@ -43,5 +38,5 @@ pub leaves_typed : LeavesAreTyped
 leaves_typed z f ways y c d l k low here inside h = leave z f ways y d k inside c l low here h
 
 pub jumps_typed : JumpsAreTyped
-jumps_typed z f ways y c l here q opens s os p = last z f ways s (before c l) os (op.Jump q) p
+jumps_typed z f ways y c l here q opens s os p = last z f ways s (before c l) os (Op.Jump q) p
     (λ table pc h known. on_jump z f table pc (before c l) q (record { owned = here.stands.owned; scoped = h; closed = here.stands.stands.closed }) (way_at z f ways ways table q (before c l) known opens))

@@ -1,3 +1,4 @@
+mod Imports
 pub mod Accessed
 pub mod Accesses
 pub mod After

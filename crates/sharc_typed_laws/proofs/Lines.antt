@@ -1,12 +1,5 @@
 -- Lines that stand in a table of marks are typed whatever checks are remembered, and before each is said what is remembered of copies and numbers.
-use Rattle.std.proofs.{Common.{◌≡◌, ℕ, zero, suc, ◌+◌, ◌<◌, Bool, true, false, cond, List, [], ◌∷◌, length, Some, refl, sym, subst, arith}, lemmas.Option.none-some}
-use Rattle.std.specs.Prelude.{slice_get}
-use Rattle.sharc_code.specs.declared.instr.Cell.{Cell}
-use Rattle.sharc_code.specs.declared.instr.Cell.TheVariants as cells
-use Rattle.sharc_flat.specs.declared.op.Op.{Op}
-use Rattle.sharc_guard.specs.Known.{is_straight, is_target, Know, nothing, know_next, know_after, known}
-use Rattle.sharc_invariant.specs.Types.{Targets}
-use Rattle.sharc_typed_laws.specs.{Passes.{TypedAnyhow, Knows}, Stretches.{Mark, Tells, IsAtHand, IsLine, flat_labels}, LabelsLaws.{LinesAreTyped, LinesTell, LinesKnow}}
+use Rattle.sharc_typed_laws.proofs.Imports.{◌≡◌, ℕ, zero, suc, ◌+◌, ◌<◌, Bool, true, false, cond, List, [], ◌∷◌, length, Some, refl, sym, subst, arith, none-some, slice_get, Cell, Op, is_straight, is_target, Know, nothing, know_next, know_after, known, Targets, TypedAnyhow, Knows, Mark, Tells, IsAtHand, IsLine, flat_labels, LinesAreTyped, LinesTell, LinesKnow}
 
 pub lines_typed : LinesAreTyped
 lines_typed z owner table flat size all n o at = subst (λ lines. TypedAnyhow z.targets z.code (flat_labels z table) lines n o) size (all n o at).typed
@@ -38,10 +31,10 @@ lines_tell z owner table flat all (suc n) lt =
         straight false e = none_told z.targets (table (suc n))
 
 cell_known : (x : Targets) (k : Know) (s : Mark) (c : Cell) → Tells x k s → IsAtHand s c → Knows x k s.label c
-cell_known x k s (cells.Global g place) h hand = tt
-cell_known x k s (cells.GlobalAt g i) h hand = λ n e. h.numbers i n hand.0 hand.1 e
-cell_known x k s (cells.Object r n) h hand = λ v e. h.copies r v e
-cell_known x k s (cells.ObjectAt r i) h hand = (λ v e. h.copies r v e, λ n e. h.numbers i n hand.0 hand.1 e)
+cell_known x k s (Cell.Global g place) h hand = tt
+cell_known x k s (Cell.GlobalAt g i) h hand = λ n e. h.numbers i n hand.0 hand.1 e
+cell_known x k s (Cell.Object r n) h hand = λ v e. h.copies r v e
+cell_known x k s (Cell.ObjectAt r i) h hand = (λ v e. h.copies r v e, λ n e. h.numbers i n hand.0 hand.1 e)
 
 pub within : (os : List Op) (n : ℕ) (o : Op) → slice_get os n ≡ Some o → n < length os
 within [] n o e = absurd (none-some o e)

@@ -1,16 +1,5 @@
 -- Labels where some registers are copies no more: of variables that are taken away, which no type names.
-use Rattle.std.proofs.{Common.{◌≡◌, ℕ, ◌≤◌, ◌⊎◌, Bool, true, false, cond, Option, Some, None, refl, sym, ap, ◌∙◌, inl, inr, ⊎_elim, arith}, lemmas.Bool.{false≢true, cases_eq}, lemmas.Bool.Decides.nat_tests}
-use Rattle.std.specs.Prelude.{nat_eq}
-use mathlib.Core.Path.{fun_ext}
-use Rattle.sharc_tree.specs.Tree.{Expression, identifier}
-use Rattle.sharc_names.specs.declared.fault.Named.{Named}
-use Rattle.sharc_names.specs.declared.fault.Named.TheVariants as names
-use Rattle.sharc_code.specs.Runs.{put}
-use Rattle.sharc_code.proofs.Places.{put_same, put_other}
-use Rattle.sharc_flat.specs.{Scope.{Context, number_in, register_of}, Flattened.what_names}
-use Rattle.sharc_invariant.specs.Labels.{Entry, Label, Less, Itself, IsCopy, fill, without_copies}
-use Rattle.sharc_invariant.proofs.Scoped.{less_entry_refl, less_number_refl, less_gate_refl}
-use Rattle.sharc_typed_laws.specs.{Places.RegistersStand, Premises.{Typing, HoldsVariables, IsCopyIn, IsCopyNamed, IsCopyOf, IsPointerCopy}, Typable.IsBare}
+use Rattle.sharc_typed_laws.proofs.Imports.{◌≡◌, ℕ, ◌≤◌, ◌⊎◌, Bool, true, false, cond, Option, Some, None, refl, sym, ap, ◌∙◌, inl, inr, ⊎_elim, arith, false≢true, cases_eq, nat_tests, nat_eq, fun_ext, Expression, identifier, Name as Named, put, put_same, put_other, Context, number_in, register_of, what_names, Entry, Label, Less, Itself, IsCopy, fill, without_copies, less_entry_refl, less_number_refl, less_gate_refl, RegistersStand, Typing, HoldsVariables, IsCopyIn, IsCopyNamed, IsCopyOf, IsPointerCopy, IsBare}
 
 -- the registers are copies of these
 abbrev pub with_copies : Label → (ℕ → ℕ) → Label
@@ -110,7 +99,7 @@ module _ (y : Typing) (c : Context) (v w r : ℕ) (g : (w ≡ v) ⊎ ((w ≡ r) 
   copy_in q h = λ n. ⊎_elim (λ (e : w ≡ v). e ∙ h n) (λ (e : (w ≡ r) × (y.named c v ≡ false)). absurd (false≢true (sym e.1 ∙ ap (y.named c) (h n) ∙ n))) g
 
   copy_named : (n : Named) → IsCopyNamed y c n v → IsCopyNamed y c n w
-  copy_named (names.Variable x) h = copy_in (number_in (register_of c.scope x)) h
+  copy_named (Named.Variable x) h = copy_in (number_in (register_of c.scope x)) h
   copy_named _ h = tt
 
   pub copy_kept : (e : Expression) → IsCopyOf y c e v → IsCopyOf y c e w

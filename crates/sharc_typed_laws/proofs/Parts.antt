@@ -1,18 +1,6 @@
 -- The parts of the code of an expression that speak of no type of the source: tests, operators, what is given up, and the checks of places.
-use Rattle.std.proofs.{Common.{◌≡◌, ◌≢◌, ℕ, ◌+◌, ◌<◌, ◌≤◌, ◌⊎◌, Bool, true, false, List, [], ◌∷◌, ◌++◌, length, Some, refl, sym, ap, ◌∙◌, subst, inl, inr, ⊎_elim, arith, length-append, append_assoc, ℤ}, lemmas.Bool.{false≢true, cases_eq, cases_lt}}
-use Rattle.std.specs.Prelude.{nat_eq}
-use Rattle.sharc_tree.specs.{declared.token.Site.Site, declared.tree.expression.BinaryOperator.BinaryOperator, declared.tree.expression.BinaryOperator.TheVariants.NotEqual}
-use Rattle.sharc_code.specs.{declared.instr.Operator.Operator, declared.instr.Width.Width, declared.instr.Width.TheVariants.Char, Runs.put}
-use Rattle.sharc_code.proofs.Places.{put_same, put_other, put_all}
-use Rattle.sharc_flat.specs.{declared.op.Op.Op, declared.op.Spot.Spot, Framed.{IsWide, OpWrites}, Scope.at_site, Places.pointee_code, Flattened.{differ_code, compare_code, logical_code, either_code}}
-use Rattle.sharc_flat.specs.declared.op.Op.TheVariants as op
-use Rattle.sharc_guard.specs.Known.{Know, know_next, writes_ref, writes_int, number_given}
-use Rattle.sharc_invariant.specs.{Types.{StaticType, Mentions}, Labels.{Entry, Empty, Refers, Number, Anything, Exactly, Within, OfElement, OfGlobal, Nth, Gate, Closed, Label, Less, LessNumber, HasBase, EntryMentions, IsScoped, IsFree, set_number, fill, knows}, Typed.{is_shift, is_comparison, ints_in, refs_in}}
-use Rattle.sharc_invariant.proofs.Scoped.{less_refl, less_entry_refl, less_number_refl, scoped_fill}
-use Rattle.sharc_typed_laws.specs.{Passes.IsNumberOf, Stretches.{Mark, Setting, Tells, Fits, IsLine, AreWithin, LeadsWithin}, Places.{RegistersStand, IsNamed, mark}}
-use Rattle.sharc_typed_laws.proofs.{Fitting.{fits_same, fits_by}, Standing.{less_by, scoped_frame, unnamed, stands_number, less_number, stands_fill, less_emptied, less_lower}, Telling.{told, other_than, same_as, constant_number}, Rules.{Plain, on_enter, on_constant, on_compute, on_negate, on_complement, on_false, on_same, on_width, on_positive, on_print, on_join, on_nothing, on_pop, on_check}, Closing.within_left}
+use Rattle.sharc_typed_laws.proofs.{Imports.{◌≡◌, ◌≢◌, ℕ, ◌+◌, ◌<◌, ◌≤◌, ◌⊎◌, Bool, true, false, List, [], ◌∷◌, ◌++◌, length, Some, refl, sym, ap, ◌∙◌, subst, inl, inr, ⊎_elim, arith, length-append, append_assoc, ℤ, false≢true, cases_eq, cases_lt, nat_eq, Site, BinaryOperator, NotEqual, Operator, Width, Char, put, put_same, put_other, put_all, Op, Spot, IsWide, OpWrites, at_site, pointee_code, differ_code, compare_code, logical_code, either_code, Know, know_next, writes_ref, writes_int, number_given, StaticType, Mentions, Entry, Empty, Refers, Number, Anything, Exactly, Within, OfElement, OfGlobal, Nth, Gate, Closed, Label, Less, LessNumber, HasBase, EntryMentions, IsScoped, IsFree, set_number, fill, knows, is_shift, is_comparison, ints_in, refs_in, less_refl, less_entry_refl, less_number_refl, scoped_fill, IsNumberOf, Mark, Setting, Tells, Fits, IsLine, AreWithin, LeadsWithin, RegistersStand, IsNamed, mark, none_some}, Fitting.{fits_same, fits_by}, Standing.{less_by, scoped_frame, unnamed, stands_number, less_number, stands_fill, less_emptied, less_lower}, Telling.{told, other_than, same_as, constant_number}, Rules.{Plain, on_enter, on_constant, on_compute, on_negate, on_complement, on_false, on_same, on_width, on_positive, on_print, on_join, on_nothing, on_pop, on_check}, Closing.within_left}
 use Rattle.sharc_typed_laws.proofs.Flow as flow
-use Rattle.sharc_lemmas.proofs.Options.{no_guard as none_some}
 
 -- ---- operations within a frame
 pub within_right : (ints refs : ℕ) (xs ys : List Op) → AreWithin ints refs (xs ++ ys) → AreWithin ints refs ys
@@ -90,22 +78,22 @@ module _ (around : Setting) (f : ℕ) (D : (ℕ → Mark) → Type 0) (named : �
   told_kept : (o : Op) → ((r : ℕ) → writes_ref o r ≡ false) → ((i : ℕ) → writes_int o i ≡ false) → (s : Mark) (k : Know) → Tells around.targets k s → Tells around.targets (know_next o k) s
   told_kept o refs ints s k h = told_same o refs ints around k s s (λ r. refl) (omega arith) (omega arith) (λ i n a b z. z) h
 
-  pub enter_at : (i r : ℕ) (l : Label) → At i r l → (until : ℕ) → P (mark l from until) (op.Enter ∷ []) (mark l from until)
-  enter_at i r l at until = keeps i r l at until op.Enter (λ table pc w plain next. on_enter around f table pc (mark l from until) (mark l from until) next plain (less_refl l) (λ z k h. told_kept op.Enter (λ r. refl) (λ i. refl) (mark l from until) k h))
+  pub enter_at : (i r : ℕ) (l : Label) → At i r l → (until : ℕ) → P (mark l from until) (Op.Enter ∷ []) (mark l from until)
+  enter_at i r l at until = keeps i r l at until Op.Enter (λ table pc w plain next. on_enter around f table pc (mark l from until) (mark l from until) next plain (less_refl l) (λ z k h. told_kept Op.Enter (λ r. refl) (λ i. refl) (mark l from until) k h))
 
-  pub enter : (i r : ℕ) (l : Label) → At i r l → (until : ℕ) (os : List Op) (e : Mark) → P (mark l from until) os e → P (mark l from until) (op.Enter ∷ os) e
-  enter i r l at until os e p = before (mark l from until) (mark l from until) op.Enter os e (enter_at i r l at until) p
+  pub enter : (i r : ℕ) (l : Label) → At i r l → (until : ℕ) (os : List Op) (e : Mark) → P (mark l from until) os e → P (mark l from until) (Op.Enter ∷ os) e
+  enter i r l at until os e p = before (mark l from until) (mark l from until) Op.Enter os e (enter_at i r l at until) p
 
-  pub positive_at : (i r : ℕ) (l : Label) → At i r l → (until j : ℕ) (spot : Spot) → P (mark l from until) (op.ChkPositive j spot ∷ []) (mark l from until)
-  positive_at i r l at until j spot = keeps i r l at until (op.ChkPositive j spot) (λ table pc w plain next.
-      on_positive around f table pc (mark l from until) (mark l from until) next j spot plain (less_refl l) (λ z k h. told_kept (op.ChkPositive j spot) (λ r. refl) (λ i. refl) (mark l from until) k h))
+  pub positive_at : (i r : ℕ) (l : Label) → At i r l → (until j : ℕ) (spot : Spot) → P (mark l from until) (Op.ChkPositive j spot ∷ []) (mark l from until)
+  positive_at i r l at until j spot = keeps i r l at until (Op.ChkPositive j spot) (λ table pc w plain next.
+      on_positive around f table pc (mark l from until) (mark l from until) next j spot plain (less_refl l) (λ z k h. told_kept (Op.ChkPositive j spot) (λ r. refl) (λ i. refl) (mark l from until) k h))
 
-  pub print_at : (i r : ℕ) (l : Label) → At i r l → (until j : ℕ) (spot : Spot) → P (mark l from until) (op.Print j spot ∷ []) (mark l from until)
-  print_at i r l at until j spot = keeps i r l at until (op.Print j spot) (λ table pc w plain next.
-      on_print around f table pc (mark l from until) (mark l from until) next j spot plain (less_refl l) (λ z k h. told_kept (op.Print j spot) (λ r. refl) (λ i. refl) (mark l from until) k h))
+  pub print_at : (i r : ℕ) (l : Label) → At i r l → (until j : ℕ) (spot : Spot) → P (mark l from until) (Op.Print j spot ∷ []) (mark l from until)
+  print_at i r l at until j spot = keeps i r l at until (Op.Print j spot) (λ table pc w plain next.
+      on_print around f table pc (mark l from until) (mark l from until) next j spot plain (less_refl l) (λ z k h. told_kept (Op.Print j spot) (λ r. refl) (λ i. refl) (mark l from until) k h))
 
-  pub join_at : (i r : ℕ) (l : Label) → At i r l → (until j : ℕ) (spot : Spot) → P (mark l from until) (op.Join j spot ∷ []) (mark l from until)
-  join_at i r l at until j spot = keeps i r l at until (op.Join j spot) (λ table pc w plain next. on_join around f table pc (mark l from until) (mark l from until) next j spot plain (less_refl l))
+  pub join_at : (i r : ℕ) (l : Label) → At i r l → (until j : ℕ) (spot : Spot) → P (mark l from until) (Op.Join j spot ∷ []) (mark l from until)
+  join_at i r l at until j spot = keeps i r l at until (Op.Join j spot) (λ table pc w plain next. on_join around f table pc (mark l from until) (mark l from until) next j spot plain (less_refl l))
 
   -- ---- labels made of others
   pub at_number : (i r : ℕ) (l : Label) → At i r l → (n : Number) → ((q : ℕ) → HasBase n q → q < r) → At (i + 1) r (set_number l i n)
@@ -170,12 +158,12 @@ module _ (around : Setting) (f : ℕ) (D : (ℕ → Mark) → Type 0) (named : �
   no_base : (w : Width) (r q : ℕ) → HasBase (Within w) q → q < r
   no_base w r q h = absurd h
 
-  pub false_at : (i r : ℕ) (l : Label) → At i r l → (a : ℕ) → From i r l (op.IsFalse i a) (Within Char)
-  false_at i r l at a g c until closed below le = number_op i r l at g c until closed below le (Within Char) (no_base Char r) (op.IsFalse i a) (λ q. refl) (λ j. refl) (λ k h m e. absurd (none_some m e)) (λ w. w)
+  pub false_at : (i r : ℕ) (l : Label) → At i r l → (a : ℕ) → From i r l (Op.IsFalse i a) (Within Char)
+  false_at i r l at a g c until closed below le = number_op i r l at g c until closed below le (Within Char) (no_base Char r) (Op.IsFalse i a) (λ q. refl) (λ j. refl) (λ k h m e. absurd (none_some m e)) (λ w. w)
       (λ table pc w plain next less tells. on_false around f table pc (mark (record l { ints = g; gate = c }) from until) (with_number l i (Within Char)) next i a plain (in_frame i r l at i w) less (λ _. tells))
 
-  pub same_at : (i r : ℕ) (l : Label) → At i r l → (a b : ℕ) → From i r l (op.SameReference i a b) (Within Char)
-  same_at i r l at a b g c until closed below le = number_op i r l at g c until closed below le (Within Char) (no_base Char r) (op.SameReference i a b) (λ q. refl) (λ j. refl) (λ k h m e. absurd (none_some m e)) (λ w. w)
+  pub same_at : (i r : ℕ) (l : Label) → At i r l → (a b : ℕ) → From i r l (Op.SameReference i a b) (Within Char)
+  same_at i r l at a b g c until closed below le = number_op i r l at g c until closed below le (Within Char) (no_base Char r) (Op.SameReference i a b) (λ q. refl) (λ j. refl) (λ k h m e. absurd (none_some m e)) (λ w. w)
       (λ table pc w plain next less tells. on_same around f table pc (mark (record l { ints = g; gate = c }) from until) (with_number l i (Within Char)) next i a b plain (in_frame i r l at i w) less (λ _. tells))
 
   rewritten : (i r : ℕ) (l : Label) → At i r l → (m n : Number) → Less (set_number (set_number l i m) i n) (set_number l i n)
@@ -191,36 +179,36 @@ module _ (around : Setting) (f : ℕ) (D : (ℕ → Mark) → Type 0) (named : �
       (put_all (λ j y. fi ≤ j → y ≡ Anything) l.ints i n (λ ge. absurd (omega (arith, lt, ge))) (λ j _ ge. at.stands.numbers j (omega (arith, lt, ge))))
 
   -- a number is checked, and is remembered no more
-  pub width_at : (i r : ℕ) (l : Label) → At i r l → (w : Width) (m : Number) (spot : Spot) → i < fi → P (with_number l i m) (op.ChkWidth w i spot ∷ []) (mark (set_number l i (Within w)) from i)
-  width_at i r l at w m spot lt = does (with_number l i m) (op.ChkWidth w i spot) (mark (set_number l i (Within w)) from i)
+  pub width_at : (i r : ℕ) (l : Label) → At i r l → (w : Width) (m : Number) (spot : Spot) → i < fi → P (with_number l i m) (Op.ChkWidth w i spot ∷ []) (mark (set_number l i (Within w)) from i)
+  width_at i r l at w m spot lt = does (with_number l i m) (Op.ChkWidth w i spot) (mark (set_number l i (Within w)) from i)
       (λ _ h. scoped_at i r l at (Within w) (no_base w r) lt h.few)
       (λ table pc _ h next. on_width around f table pc (with_number l i m) (mark (set_number l i (Within w)) from i) next w i spot (record { owned = at.owned; scoped = h; closed = refl }) (in_frame i r l at i lt) (rewritten i r l at m (Within w))
-      (λ _ k t. told_same (op.ChkWidth w i spot) (λ q. refl) (λ j. refl) around k (with_number l i m) (mark (set_number l i (Within w)) from i) (λ q. refl) (omega arith) (omega arith)
+      (λ _ k t. told_same (Op.ChkWidth w i spot) (λ q. refl) (λ j. refl) around k (with_number l i m) (mark (set_number l i (Within w)) from i) (λ q. refl) (omega arith) (omega arith)
       (λ j n a b z. let ne : j ≡ i → ⊥ = λ e. omega (arith, e, b) in
       subst (IsNumberOf around.targets (set_number l i (Within w)) n) (put_other l.ints i j m ne ∙ sym (put_other l.ints i j (Within w) ne)) (same_number (set_number l i m) (set_number l i (Within w)) n (put l.ints i m j) (λ q _. refl) z)) t))
 
-  pub constant_at : (i r : ℕ) (l : Label) → At i r l → (v : ℤ) → P (mark l from i) (op.Constant i v ∷ []) (with_number l i (Exactly v))
-  constant_at i r l at v = number_op i r l at l.ints l.gate i at.stands.closed (λ j lt. refl) (omega arith) (Exactly v) (λ q h. absurd h) (op.Constant i v) (λ q. refl) (λ j. refl)
+  pub constant_at : (i r : ℕ) (l : Label) → At i r l → (v : ℤ) → P (mark l from i) (Op.Constant i v ∷ []) (with_number l i (Exactly v))
+  constant_at i r l at v = number_op i r l at l.ints l.gate i at.stands.closed (λ j lt. refl) (omega arith) (Exactly v) (λ q h. absurd h) (Op.Constant i v) (λ q. refl) (λ j. refl)
       (λ k h m e. constant_number around.targets (set_number l i (Exactly v)) v m e) (λ w. w)
       (λ table pc w plain next less tells. on_constant around f table pc (mark l from i) (with_number l i (Exactly v)) next i v plain (in_frame i r l at i w) less (λ _. tells))
 
   pub compute_at : (i r : ℕ) (l : Label) → At i r l → (w : Width) (o : Operator) (m k : Number) (spot : Spot) → IsWide w → (is_comparison o ≡ false → LessNumber m (Within w)) → (is_shift o ≡ false → is_comparison o ≡ false → LessNumber k (Within w))
-      → P (mark (set_number (set_number l i m) (i + 1) k) from (i + 1 + 1)) (op.Compute w o i i (i + 1) spot ∷ []) (with_number l i (Within w))
+      → P (mark (set_number (set_number l i m) (i + 1) k) from (i + 1 + 1)) (Op.Compute w o i i (i + 1) spot ∷ []) (with_number l i (Within w))
   compute_at i r l at w o m k spot wide left right =
       let g : ℕ → Number = put (put l.ints i m) (i + 1) k in
       let one : g i ≡ m = put_other (put l.ints i m) (i + 1) i k (λ e. omega (arith, e)) ∙ put_same l.ints i m in
       let two : g (i + 1) ≡ k = put_same (put l.ints i m) (i + 1) k in
       number_op i r l at g Closed (i + 1 + 1) refl (λ j lt. put_other (put l.ints i m) (i + 1) j k (λ e. omega (arith, e, lt)) ∙ put_other l.ints i j m (λ e. omega (arith, e, lt))) (omega arith) (Within w) (no_base w r)
-      (op.Compute w o i i (i + 1) spot) (λ q. refl) (λ j. refl) (λ k h m e. absurd (none_some m e)) (λ w. w)
+      (Op.Compute w o i i (i + 1) spot) (λ q. refl) (λ j. refl) (λ k h m e. absurd (none_some m e)) (λ w. w)
       (λ table pc writes plain next less tells. on_compute around f table pc (mark (record l { ints = g; gate = Closed }) from (i + 1 + 1)) (with_number l i (Within w)) next w o i i (i + 1) spot plain (in_frame i r l at i writes) wide
       (record { left = λ c. subst (λ y. LessNumber y (Within w)) (sym one) (left c); right = λ e c. subst (λ y. LessNumber y (Within w)) (sym two) (right e c) }) less (λ _. tells))
 
-  pub negate_at : (i r : ℕ) (l : Label) → At i r l → (w : Width) (m : Number) (spot : Spot) → IsWide w → P (with_number l i m) (op.Negate w i i spot ∷ []) (with_number l i (Within w))
-  negate_at i r l at w m spot wide = from_written i r l at (op.Negate w i i spot) m (Within w) (λ g c until closed below le. number_op i r l at g c until closed below le (Within w) (no_base w r) (op.Negate w i i spot) (λ q. refl) (λ j. refl) (λ k h m e. absurd (none_some m e)) (λ w. w)
+  pub negate_at : (i r : ℕ) (l : Label) → At i r l → (w : Width) (m : Number) (spot : Spot) → IsWide w → P (with_number l i m) (Op.Negate w i i spot ∷ []) (with_number l i (Within w))
+  negate_at i r l at w m spot wide = from_written i r l at (Op.Negate w i i spot) m (Within w) (λ g c until closed below le. number_op i r l at g c until closed below le (Within w) (no_base w r) (Op.Negate w i i spot) (λ q. refl) (λ j. refl) (λ k h m e. absurd (none_some m e)) (λ w. w)
       (λ table pc writes plain next less tells. on_negate around f table pc (mark (record l { ints = g; gate = c }) from until) (with_number l i (Within w)) next w i i spot plain (in_frame i r l at i writes) wide less (λ _. tells)))
 
-  pub complement_at : (i r : ℕ) (l : Label) → At i r l → (w : Width) (m : Number) → LessNumber m (Within w) → P (with_number l i m) (op.Complement i i ∷ []) (with_number l i (Within w))
-  complement_at i r l at w m fits = number_op i r l at (put l.ints i m) Closed (i + 1) refl (λ j lt. put_other l.ints i j m (λ e. omega (arith, e, lt))) (omega arith) (Within w) (no_base w r) (op.Complement i i) (λ q. refl) (λ j. refl) (λ k h m e. absurd (none_some m e)) (λ w. w)
+  pub complement_at : (i r : ℕ) (l : Label) → At i r l → (w : Width) (m : Number) → LessNumber m (Within w) → P (with_number l i m) (Op.Complement i i ∷ []) (with_number l i (Within w))
+  complement_at i r l at w m fits = number_op i r l at (put l.ints i m) Closed (i + 1) refl (λ j lt. put_other l.ints i j m (λ e. omega (arith, e, lt))) (omega arith) (Within w) (no_base w r) (Op.Complement i i) (λ q. refl) (λ j. refl) (λ k h m e. absurd (none_some m e)) (λ w. w)
       (λ table pc writes plain next less tells. on_complement around f table pc (with_number l i m) (with_number l i (Within w)) next i i w plain (in_frame i r l at i writes) (subst (λ y. LessNumber y (Within w)) (sym (put_same l.ints i m)) fits) less (λ _. tells))
 
   -- a value is of no use any more
@@ -251,34 +239,34 @@ module _ (around : Setting) (f : ℕ) (D : (ℕ → Mark) → Type 0) (named : �
     number_above e v b j n z = same_number l (fill l d e v b) n (l.ints j) (λ q h. put_other l.env d q e (λ y. let lt = at.stands.bases j q h in omega (arith, y, lt, ge))) z
 
     -- it is given up
-    pub pop_from : top ≤ r → (t : StaticType) (v : ℕ) (b : Bool) (until : ℕ) → (Mentions t d → ⊥) → P (with_reference l d until t v b) (op.Pop d ∷ []) (mark l from until)
+    pub pop_from : top ≤ r → (t : StaticType) (v : ℕ) (b : Bool) (until : ℕ) → (Mentions t d → ⊥) → P (with_reference l d until t v b) (Op.Pop d ∷ []) (mark l from until)
     pop_from le t v b until own =
         let k = fill l d (Refers t) v b in
-        does (mark k from until) (op.Pop d) (mark l from until) (λ _ h. scoped_below (Refers t) v b h)
+        does (mark k from until) (Op.Pop d) (mark l from until) (λ _ h. scoped_below (Refers t) v b h)
         (λ table pc w h next. on_pop around f table pc (mark k from until) (mark l from until) next d (record { owned = at.owned; scoped = h; closed = refl }) (subst (λ o. d < refs_in around.code o) (sym at.owned) w)
         (record { paths = λ q ne m. put_all (λ q y. (q ≡ d → ⊥) → EntryMentions y d → ⊥) l.env d (Refers t) (λ no _. no refl) (λ q _ no m. let z = low d (at.stands.paths q d m).1 in omega (arith, z, le, ge)) q ne m })
         (less_emptied l d (unnamed named i r l at.stands d ge) (Refers t) v b)
-        (λ _ know h2. told around.targets (op.Pop d) know (mark k from until) (mark l from until) h2 (λ q x _ is. absurd (none_some x is))
+        (λ _ know h2. told around.targets (Op.Pop d) know (mark k from until) (mark l from until) h2 (λ q x _ is. absurd (none_some x is))
         (λ q a _. sym (put_other l.same d q v (other_than q d a)))
         (λ j n _ _ a. absurd (false≢true a)) (λ j n a z _ is. number_below (Refers t) v b j n (h2.numbers j n a z is))))
 
   own_not : (r d : ℕ) (t : StaticType) → top ≤ d → IsNamed named r t → Mentions t d → ⊥
   own_not r d t le fits m = let z = low d (fits d m).1 in omega (arith, z, le)
 
-  pub pop_at : (i r : ℕ) (l : Label) → At i r l → top ≤ r → (t : StaticType) (v : ℕ) (b : Bool) → IsNamed named r t → (until : ℕ) → P (with_reference l r until t v b) (op.Pop r ∷ []) (mark l from until)
+  pub pop_at : (i r : ℕ) (l : Label) → At i r l → top ≤ r → (t : StaticType) (v : ℕ) (b : Bool) → IsNamed named r t → (until : ℕ) → P (with_reference l r until t v b) (Op.Pop r ∷ []) (mark l from until)
   pop_at i r l at le t v b fits until = pop_from i r l at r (omega arith) le t v b until (own_not r r t le fits)
 
   -- the lower one of two is given up
   pub pop_lower_at : (i r : ℕ) (l : Label) → At i r l → top ≤ r → (t s : StaticType) (v w : ℕ) (x y : Bool) → IsNamed named r t → IsNamed named r s → ((w ≡ r + 1) ⊎ (w < r)) → (until : ℕ)
-      → P (with_reference (fill l r (Refers t) v x) (r + 1) until s w y) (op.Pop r ∷ []) (with_reference l (r + 1) until s w y)
+      → P (with_reference (fill l r (Refers t) v x) (r + 1) until s w y) (Op.Pop r ∷ []) (with_reference l (r + 1) until s w y)
   pop_lower_at i r l at le t s v w x y fits fits2 other until =
       let one = fill l r (Refers t) v x in
       let two = fill one (r + 1) (Refers s) w y in
       let k = fill l (r + 1) (Refers s) w y in
-      does (mark two from until) (op.Pop r) (mark k from until) (λ in_it h. scoped_lower in_it h)
+      does (mark two from until) (Op.Pop r) (mark k from until) (λ in_it h. scoped_lower in_it h)
       (λ table pc in_it h next. on_pop around f table pc (mark two from until) (mark k from until) next r (record { owned = at.owned; scoped = h; closed = refl }) (subst (λ o. r < refs_in around.code o) (sym at.owned) in_it)
       free_one (less_lower l r (unnamed named i r l at.stands r (omega arith)) (Refers t) (Refers s) v w x y (⊎_elim (λ (e : w ≡ r + 1). λ z. omega (arith, e, z)) (λ (lt : w < r). λ z. omega (arith, lt, z)) other))
-      (λ _ know told_two. told around.targets (op.Pop r) know (mark two from until) (mark k from until) told_two (λ q z _ is. absurd (none_some z is))
+      (λ _ know told_two. told around.targets (Op.Pop r) know (mark two from until) (mark k from until) told_two (λ q z _ is. absurd (none_some z is))
       (λ q a _. kept_copy q (other_than q r a))
       (λ j n _ _ a. absurd (false≢true a))
       (λ j n a z _ is. number_on j n (number_below i r l at r (omega arith) (Refers t) v x j n (number_back j n (told_two.numbers j n a z is))))))
@@ -309,38 +297,38 @@ module _ (around : Setting) (f : ℕ) (D : (ℕ → Mark) → Type 0) (named : �
 
   -- ---- parts of expressions
   -- no number and no reference is at hand more than before
-  pub null_kept_at : (i r : ℕ) (l : Label) → At i r l → (until : ℕ) → P (mark l from until) (op.Null r ∷ []) (mark l from until)
-  null_kept_at i r l at until = keeps i r l at until (op.Null r) (λ table pc w plain next.
+  pub null_kept_at : (i r : ℕ) (l : Label) → At i r l → (until : ℕ) → P (mark l from until) (Op.Null r ∷ []) (mark l from until)
+  null_kept_at i r l at until = keeps i r l at until (Op.Null r) (λ table pc w plain next.
       on_nothing around f table pc (mark l from until) (mark l from until) next r plain (record { is = subst (λ o. r < refs_in around.code o) (sym at.owned) w; empty = at.stands.free r (omega arith) }) (less_refl l)
-      (λ z k h. told around.targets (op.Null r) k (mark l from until) (mark l from until) h (λ q x _ is. absurd (none_some x is)) (λ q _ _. refl) (λ j n _ _ a. absurd (false≢true a)) (λ j n a b _ is. h.numbers j n a b is)))
+      (λ z k h. told around.targets (Op.Null r) k (mark l from until) (mark l from until) h (λ q x _ is. absurd (none_some x is)) (λ q _ _. refl) (λ j n _ _ a. absurd (false≢true a)) (λ j n a b _ is. h.numbers j n a b is)))
 
   -- 1 where a reference is NULL, else 0, in an integer register; and the other way round
   pub truth_at : (i r : ℕ) (l : Label) → At i r l → top ≤ r → (t : StaticType) (v : ℕ) (b : Bool) → IsNamed named r t → v ≤ r
-      → P (with_reference l r i t v b) (op.Null (r + 1) ∷ op.SameReference i r (r + 1) ∷ op.Pop r ∷ op.IsFalse i i ∷ []) (with_number l i (Within Char))
+      → P (with_reference l r i t v b) (Op.Null (r + 1) ∷ Op.SameReference i r (r + 1) ∷ Op.Pop r ∷ Op.IsFalse i i ∷ []) (with_number l i (Within Char))
   truth_at i r l at le t v b fits copy =
       let k = fill l r (Refers t) v b in
       let at2 = at_fill i r l at t v b fits copy in
       let l2 = set_number l i (Within Char) in
       let at3 = at_number i r l at (Within Char) (no_base Char r) in
-      then_do (mark k from i) (mark k from i) (with_number l i (Within Char)) (op.Null (r + 1) ∷ []) (op.SameReference i r (r + 1) ∷ op.Pop r ∷ op.IsFalse i i ∷ [])
+      then_do (mark k from i) (mark k from i) (with_number l i (Within Char)) (Op.Null (r + 1) ∷ []) (Op.SameReference i r (r + 1) ∷ Op.Pop r ∷ Op.IsFalse i i ∷ [])
       (null_kept_at i (r + 1) k at2 i)
-      (then_do (mark k from i) (with_number k i (Within Char)) (with_number l i (Within Char)) (op.SameReference i r (r + 1) ∷ []) (op.Pop r ∷ op.IsFalse i i ∷ [])
-      (from_free i (r + 1) k at2 (op.SameReference i r (r + 1)) (Within Char) (same_at i (r + 1) k at2 r (r + 1)))
-      (then_do (with_number k i (Within Char)) (with_number l i (Within Char)) (with_number l i (Within Char)) (op.Pop r ∷ []) (op.IsFalse i i ∷ [])
+      (then_do (mark k from i) (with_number k i (Within Char)) (with_number l i (Within Char)) (Op.SameReference i r (r + 1) ∷ []) (Op.Pop r ∷ Op.IsFalse i i ∷ [])
+      (from_free i (r + 1) k at2 (Op.SameReference i r (r + 1)) (Within Char) (same_at i (r + 1) k at2 r (r + 1)))
+      (then_do (with_number k i (Within Char)) (with_number l i (Within Char)) (with_number l i (Within Char)) (Op.Pop r ∷ []) (Op.IsFalse i i ∷ [])
       (pop_at (i + 1) r l2 at3 le t v b fits (i + 1))
-      (from_written i r l at (op.IsFalse i i) (Within Char) (Within Char) (false_at i r l at i))))
+      (from_written i r l at (Op.IsFalse i i) (Within Char) (Within Char) (false_at i r l at i))))
 
   -- two references are compared, and given up
   pub pops_two : (i r : ℕ) (l : Label) → At i r l → top ≤ r → (t s : StaticType) (v w : ℕ) (x y : Bool) → IsNamed named r t → IsNamed named r s → ((w ≡ r + 1) ⊎ (w < r)) → (until : ℕ)
-      → P (with_reference (fill l r (Refers t) v x) (r + 1) until s w y) (op.Pop r ∷ op.Pop (r + 1) ∷ []) (mark l from until)
+      → P (with_reference (fill l r (Refers t) v x) (r + 1) until s w y) (Op.Pop r ∷ Op.Pop (r + 1) ∷ []) (mark l from until)
   pops_two i r l at le t s v w x y fits fits2 other until =
-      then_do (with_reference (fill l r (Refers t) v x) (r + 1) until s w y) (with_reference l (r + 1) until s w y) (mark l from until) (op.Pop r ∷ []) (op.Pop (r + 1) ∷ [])
+      then_do (with_reference (fill l r (Refers t) v x) (r + 1) until s w y) (with_reference l (r + 1) until s w y) (mark l from until) (Op.Pop r ∷ []) (Op.Pop (r + 1) ∷ [])
       (pop_lower_at i r l at le t s v w x y fits fits2 other until)
       (pop_from i r l at (r + 1) (omega arith) le s w y until (own_not r (r + 1) s (omega (arith, le)) fits2))
 
   -- whether two references are the same, or are not, and both are given up
   differ_at : (i r : ℕ) (l : Label) → At i r l → (o : BinaryOperator) → P (with_number l i (Within Char)) (differ_code o i) (with_number l i (Within Char))
-  differ_at i r l at NotEqual = from_written i r l at (op.IsFalse i i) (Within Char) (Within Char) (false_at i r l at i)
+  differ_at i r l at NotEqual = from_written i r l at (Op.IsFalse i i) (Within Char) (Within Char) (false_at i r l at i)
   differ_at i r l at _ = none (with_number l i (Within Char)) (with_number l i (Within Char)) (fits_same around.targets (with_number l i (Within Char))) (λ h. h)
 
   pub compare_at : (i r : ℕ) (l : Label) → At i r l → top ≤ r → (t s : StaticType) (v w : ℕ) (x y : Bool) → IsNamed named r t → IsNamed named r s → v ≤ r → ((w ≡ r + 1) ⊎ (w < r)) → (o : BinaryOperator)
@@ -355,19 +343,19 @@ module _ (around : Setting) (f : ℕ) (D : (ℕ → Mark) → Type 0) (named : �
       let n : Number = Within Char in
       let l2 = set_number l i n in
       let at3 = at_number i r l at n (no_base Char r) in
-      then_do (mark two from i) (with_number two i n) (with_number l i n) (op.SameReference i r (r + 1) ∷ []) (differ_code o i ++ (op.Pop r ∷ op.Pop (r + 1) ∷ []))
-      (from_free i (r + 1 + 1) two at2 (op.SameReference i r (r + 1)) n (same_at i (r + 1 + 1) two at2 r (r + 1)))
-      (then_do (with_number two i n) (with_number two i n) (with_number l i n) (differ_code o i) (op.Pop r ∷ op.Pop (r + 1) ∷ [])
+      then_do (mark two from i) (with_number two i n) (with_number l i n) (Op.SameReference i r (r + 1) ∷ []) (differ_code o i ++ (Op.Pop r ∷ Op.Pop (r + 1) ∷ []))
+      (from_free i (r + 1 + 1) two at2 (Op.SameReference i r (r + 1)) n (same_at i (r + 1 + 1) two at2 r (r + 1)))
+      (then_do (with_number two i n) (with_number two i n) (with_number l i n) (differ_code o i) (Op.Pop r ∷ Op.Pop (r + 1) ∷ [])
       (differ_at i (r + 1 + 1) two at2 o)
       (pops_two (i + 1) r l2 at3 le t s v w x y fits fits2 other (i + 1)))
 
   -- a value, in the first free integer register, that is 0 exactly where another one is 0; and the other way round
-  twice_at : (i r : ℕ) (l : Label) → At i r l → P (mark l from i) (op.IsFalse i i ∷ op.IsFalse i i ∷ []) (with_number l i (Within Char))
-  twice_at i r l at = then_do (mark l from i) (with_number l i (Within Char)) (with_number l i (Within Char)) (op.IsFalse i i ∷ []) (op.IsFalse i i ∷ [])
-      (from_free i r l at (op.IsFalse i i) (Within Char) (false_at i r l at i)) (from_written i r l at (op.IsFalse i i) (Within Char) (Within Char) (false_at i r l at i))
+  twice_at : (i r : ℕ) (l : Label) → At i r l → P (mark l from i) (Op.IsFalse i i ∷ Op.IsFalse i i ∷ []) (with_number l i (Within Char))
+  twice_at i r l at = then_do (mark l from i) (with_number l i (Within Char)) (with_number l i (Within Char)) (Op.IsFalse i i ∷ []) (Op.IsFalse i i ∷ [])
+      (from_free i r l at (Op.IsFalse i i) (Within Char) (false_at i r l at i)) (from_written i r l at (Op.IsFalse i i) (Within Char) (Within Char) (false_at i r l at i))
 
   -- over a piece, or into it, after which less may be known
-  skips : (i r : ℕ) (l k : Label) → At i r l → Less l k → (e : Mark) (xs ys : List Op) → P (mark l from i) xs (mark k from i) → P (mark k from i) ys e → P (mark l from i) (op.SkipIfZero i (length xs) ∷ (xs ++ ys)) e
+  skips : (i r : ℕ) (l k : Label) → At i r l → Less l k → (e : Mark) (xs ys : List Op) → P (mark l from i) xs (mark k from i) → P (mark k from i) ys e → P (mark l from i) (Op.SkipIfZero i (length xs) ∷ (xs ++ ys)) e
   skips i r l k at less e xs ys p q = λ w h.
       let s = mark l from i in
       let a = p (within_left fi fr xs ys w.1) h in
@@ -377,34 +365,34 @@ module _ (around : Setting) (f : ℕ) (D : (ℕ → Mark) → Type 0) (named : �
   -- the second operand, after the first one
   module _ (i r : ℕ) (k m : Label) (at : At i r k) (at2 : At i r m) (less : Less k m) (s : Mark) (xs ys : List Op) (p : P s xs (mark k from i)) (q : P (mark k from i) ys (mark m from i)) where
     pub logical_at : P s (logical_code i xs ys) (with_number m i (Within Char))
-    logical_at = then_do s (mark k from i) (with_number m i (Within Char)) xs _ p (skips i r k m at less (with_number m i (Within Char)) ys (op.IsFalse i i ∷ op.IsFalse i i ∷ []) q (twice_at i r m at2))
+    logical_at = then_do s (mark k from i) (with_number m i (Within Char)) xs _ p (skips i r k m at less (with_number m i (Within Char)) ys (Op.IsFalse i i ∷ Op.IsFalse i i ∷ []) q (twice_at i r m at2))
 
     pub either_at : P s (either_code i xs ys) (with_number m i (Within Char))
     either_at =
         let one = mark k from i in
         let two = mark m from i in
         let e = with_number m i (Within Char) in
-        let F = op.IsFalse i i in
+        let F = Op.IsFalse i i in
         let first : P one (F ∷ []) one = number_dropped i r k at (Within Char) (F ∷ []) one (from_free i r k at F (Within Char) (false_at i r k at i)) in
         let second : P two (F ∷ []) two = number_dropped i r m at2 (Within Char) (F ∷ []) two (from_free i r m at2 F (Within Char) (false_at i r m at2 i)) in
         let last : P two (F ∷ []) e = from_free i r m at2 F (Within Char) (false_at i r m at2 i) in
         let count : length (ys ++ F ∷ []) ≡ length ys + 1 = length-append ys (F ∷ []) in
-        let same : op.SkipIfZero i (length (ys ++ F ∷ [])) ∷ ((ys ++ F ∷ []) ++ F ∷ []) ≡ op.SkipIfZero i (length ys + 1) ∷ (ys ++ (F ∷ F ∷ [])) =
-        ap (λ n. op.SkipIfZero i n ∷ ((ys ++ F ∷ []) ++ F ∷ [])) count ∙ ap (λ l. op.SkipIfZero i (length ys + 1) ∷ l) (append_assoc ys (F ∷ []) (F ∷ [])) in
+        let same : Op.SkipIfZero i (length (ys ++ F ∷ [])) ∷ ((ys ++ F ∷ []) ++ F ∷ []) ≡ Op.SkipIfZero i (length ys + 1) ∷ (ys ++ (F ∷ F ∷ [])) =
+        ap (λ n. Op.SkipIfZero i n ∷ ((ys ++ F ∷ []) ++ F ∷ [])) count ∙ ap (λ l. Op.SkipIfZero i (length ys + 1) ∷ l) (append_assoc ys (F ∷ []) (F ∷ [])) in
         then_do s one e xs _ p
-        (before one one F (op.SkipIfZero i (length ys + 1) ∷ (ys ++ (F ∷ F ∷ []))) e first
+        (before one one F (Op.SkipIfZero i (length ys + 1) ∷ (ys ++ (F ∷ F ∷ []))) e first
         (subst (λ os. P one os e) same (skips i r k m at less e (ys ++ F ∷ []) (F ∷ []) (then_do one two two ys (F ∷ []) q second) last)))
 
   -- a pointer that is not NULL
-  pub check_at : (i r : ℕ) (l : Label) → At i r l → (t : StaticType) (v : ℕ) (b : Bool) → IsNamed named r t → v ≤ r → (until : ℕ) (spot : Spot) → P (with_reference l r until t v b) (op.ChkNull r spot ∷ []) (with_reference l r until t v true)
+  pub check_at : (i r : ℕ) (l : Label) → At i r l → (t : StaticType) (v : ℕ) (b : Bool) → IsNamed named r t → v ≤ r → (until : ℕ) (spot : Spot) → P (with_reference l r until t v b) (Op.ChkNull r spot ∷ []) (with_reference l r until t v true)
   check_at i r l at t v b fits copy until spot =
       let k = fill l r (Refers t) v b in
       let e = fill l r (Refers t) v true in
-      does (mark k from until) (op.ChkNull r spot) (mark e from until)
+      does (mark k from until) (Op.ChkNull r spot) (mark e from until)
       (λ _ h. record { few = h.few; paths = h.paths; copies = h.copies; bases = h.bases; known = put_all (λ q y. y ≡ true → put l.env r (Refers t) q ≢ Empty) l.known r true (λ _. filled) (λ q ne z. h.known q (put_other l.known r q b ne ∙ z)); passes = h.passes; numbers = h.numbers })
       (λ table pc w h next. on_check around f table pc (mark k from until) (mark e from until) next r spot (record { owned = at.owned; scoped = h; closed = refl })
       (less_by (knows k r) e refl (λ q. less_entry_refl (knows k r) q (put l.env r (Refers t) q)) (λ q. refl) (λ q z. known q z) (λ j. less_number_refl (l.ints j)) tt at.stands.nothing_passed (λ z. z))
-      (λ _ know h2. told_same (op.ChkNull r spot) (λ q. refl) (λ j. refl) around know (mark k from until) (mark e from until) (λ q. refl) (omega arith) (omega arith) (λ j n a z y. same_number k e n (l.ints j) (λ q _. refl) y) h2))
+      (λ _ know h2. told_same (Op.ChkNull r spot) (λ q. refl) (λ j. refl) around know (mark k from until) (mark e from until) (λ q. refl) (omega arith) (omega arith) (λ j n a z y. same_number k e n (l.ints j) (λ q _. refl) y) h2))
     where
       filled : put l.env r (Refers t) r ≢ Empty
       filled z = let e : Refers t ≡ Empty = sym (put_same l.env r (Refers t)) ∙ z in cc
@@ -413,4 +401,4 @@ module _ (around : Setting) (f : ℕ) (D : (ℕ → Mark) → Type 0) (named : �
       known q z = ⊎_elim (λ (e : q ≡ r). ap (put (put l.known r b) r true) e ∙ put_same (put l.known r b) r true) (λ (ne : q ≡ r → ⊥). put_other (put l.known r b) r q true ne ∙ put_other l.known r q b ne ∙ sym (put_other l.known r q true ne) ∙ z) (cases_eq q r)
 
   pub pointee_at : (i r : ℕ) (l : Label) → At i r l → (t : StaticType) (v : ℕ) (b : Bool) → IsNamed named r t → v ≤ r → (s : Mark) (until : ℕ) (site : Site) (xs : List Op) → P s xs (with_reference l r until t v b) → P s (pointee_code r site xs) (with_reference l r until t v true)
-  pointee_at i r l at t v b fits copy s until site xs p = then_do s (with_reference l r until t v b) (with_reference l r until t v true) xs (op.ChkNull r (at_site site) ∷ []) p (check_at i r l at t v b fits copy until (at_site site))
+  pointee_at i r l at t v b fits copy s until site xs p = then_do s (with_reference l r until t v b) (with_reference l r until t v true) xs (Op.ChkNull r (at_site site) ∷ []) p (check_at i r l at t v b fits copy until (at_site site))

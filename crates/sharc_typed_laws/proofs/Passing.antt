@@ -1,16 +1,7 @@
 -- What is remembered before each line goes on to the next one, and a check that is dropped repeats one that is remembered.
-use Rattle.std.proofs.{Common.{◌≡◌, ℕ, zero, suc, ◌+◌, ◌-◌, ◌*◌, ◌≤◌, Bool, true, false, cond, ◌&&◌, ◌||◌, List, [], ◌∷◌, ◌++◌, Option, Some, None, refl, sym, ap, ◌∙◌, subst, inl, inr, ⊎_elim, arith, ◌⊎◌}, lemmas.Bool.Decides.nat_tests, lemmas.Option.{same_Some, none-some}}
-use Rattle.std.specs.Prelude.{slice_get, nat_lt, not, filter, if◌then◌else◌}
-use Rattle.sharc_heap.specs.{declared.shadow_word.Kind.Kind, declared.shadow_word.Kind.TheVariants.{Read, Write}}
-use Rattle.sharc_code.specs.{declared.code.Code.Code, declared.code.PlaceMode.PlaceMode, declared.instr.Cell.Cell}
-use Rattle.sharc_code.specs.declared.code.PlaceMode.TheVariants as modes
-use Rattle.sharc_code.specs.declared.instr.Cell.TheVariants as cells
-use Rattle.sharc_flat.specs.{declared.op.Op.Op, declared.op.Spot.Spot, Machine.Flat}
-use Rattle.sharc_flat.specs.declared.op.Op.TheVariants as op
-use Rattle.sharc_guard.specs.Known.{is_straight, is_target, is_dynamic, SimplePlace, in_variable, in_global, assigns, same_place, counts, Access, access, tells, Know, variable_place, global_place, is_at, place_of, passes_by, know_next, known, has_passed, drops}
-use Rattle.sharc_invariant.specs.{Types.{Targets, Field, cells_of}, Labels.{Element, Named, Nth, Number, OfElement, OfGlobal, Pass, IsIn, Label, is_base, without_base}, Typed.{HasField, Covers}}
-use Rattle.sharc_typed_laws.specs.{Inside.{global_pass, global_element_pass, element_pass, pass_of, with_pass, passed_behind}, Passes.{is_write, pass_at, pass_of_place, pass_by, stays, passes_next, passes_before, with_passes, remembered, IsNumberOf, Knows}}
-use Rattle.sharc_lemmas.proofs.Bools.{and_left, or_split as or_either, and_right, false_true as nothing_passed}
+use Rattle.sharc_typed_laws.proofs.Imports.{◌≡◌, ℕ, zero, suc, ◌+◌, ◌-◌, ◌*◌, ◌≤◌, Bool, true, false, cond, ◌&&◌, ◌||◌, List, [], ◌∷◌, ◌++◌, Option, Some, None, refl, sym, ap, ◌∙◌, subst, inl, inr, ⊎_elim, arith, ◌⊎◌, nat_tests, same_Some, none-some, slice_get, nat_lt, not, filter, if◌then◌else◌, Read, Write, Code, PlaceMode, Cell, Op, Spot, Flat, is_straight, is_target, is_dynamic, SimplePlace, in_variable, assigns, same_place, counts, Access, access, tells, Know, variable_place, global_place, is_at, place_of, passes_by, know_next, known, has_passed, drops, Targets, Field, cells_of, Element, Named, Nth, Number, OfElement, OfGlobal, Pass, IsIn, Label, is_base, without_base, HasField, Covers, global_pass, global_element_pass, element_pass, pass_of, with_pass, passed_behind, is_write, pass_at, pass_of_place, pass_by, stays, passes_next, passes_before, with_passes, remembered, IsNumberOf, Knows, and_left, or_either, and_right, never as nothing_passed}
+use Rattle.sharc_heap.specs.declared.shadow_word.Kind.{Kind}
+use Rattle.sharc_guard.specs.Known.{in_global}
 
 -- ---- lists
 in_filter : (f : Pass → Bool) (ps : List Pass) (p : Pass) → IsIn p ps → f p ≡ true → IsIn p (filter f ps)
@@ -75,8 +66,8 @@ stays_at o kind (in_global g n) e = refl
 
 -- the check of an access that is dropped was passed before
 drops_passed : (k : Know) (o : Op) (a : Access) → access o ≡ Some a → drops k o ≡ true → has_passed k a.kind (place_of k a.cell) ≡ true
-drops_passed k (op.Load i c spot) a e d = let same = same_Some _ a e in subst (λ (a : Access). has_passed k a.kind (place_of k a.cell) ≡ true) same (and_right (tells spot) (has_passed k Read (place_of k c)) d)
-drops_passed k (op.Store i c spot) a e d = let same = same_Some _ a e in subst (λ (a : Access). has_passed k a.kind (place_of k a.cell) ≡ true) same (and_right (tells spot) (has_passed k Write (place_of k c)) d)
+drops_passed k (Op.Load i c spot) a e d = let same = same_Some _ a e in subst (λ (a : Access). has_passed k a.kind (place_of k a.cell) ≡ true) same (and_right (tells spot) (has_passed k Read (place_of k c)) d)
+drops_passed k (Op.Store i c spot) a e d = let same = same_Some _ a e in subst (λ (a : Access). has_passed k a.kind (place_of k a.cell) ≡ true) same (and_right (tells spot) (has_passed k Write (place_of k c)) d)
 drops_passed k o a e d = absurd (cc)
 
 module _ (o : Op) (k : Know) (passes : List Pass) (old : (kind : Kind) (place : SimplePlace) → k.passed kind place ≡ true → WasPassed kind place passes) where
@@ -139,46 +130,46 @@ module _ (x : Targets) (code : Code) (l : Label) (k : Know) where
   abbrev IsLow : SimplePlace → Type 0
   IsLow place = (g n : ℕ) → place ≡ in_global g n → 2 ≤ n
 
-  in_globals : (g i first count elements : ℕ) (e : Element) (v : ℕ) (kind : Kind) → l.ints i ≡ OfGlobal first count elements e → IsNumberOf x l v (OfGlobal first count elements e) → 2 ≤ v → IsPassOf (cells.GlobalAt g i) kind (in_global g v)
+  in_globals : (g i first count elements : ℕ) (e : Element) (v : ℕ) (kind : Kind) → l.ints i ≡ OfGlobal first count elements e → IsNumberOf x l v (OfGlobal first count elements e) → 2 ≤ v → IsPassOf (Cell.GlobalAt g i) kind (in_global g v)
   in_globals g i first count elements (Nth e) v kind is eq le = ap (global_element_pass (is_write kind)) is ∙ ap (global_pass (is_write kind)) (sym eq) ∙ low_pass (is_write kind) v le
   in_globals g i first count elements (Named m) v kind is eq le = absurd eq
 
-  in_elements : (r i field : ℕ) (e : Element) (v n : ℕ) (kind : Kind) → l.ints i ≡ OfElement r field e → IsNumberOf x l n (OfElement r field e) → l.same r ≡ v → IsPassOf (cells.ObjectAt r i) kind (in_variable v n)
+  in_elements : (r i field : ℕ) (e : Element) (v n : ℕ) (kind : Kind) → l.ints i ≡ OfElement r field e → IsNumberOf x l n (OfElement r field e) → l.same r ≡ v → IsPassOf (Cell.ObjectAt r i) kind (in_variable v n)
   in_elements r i field (Nth e) v n kind is eq copy =
       ap (element_pass x l (is_write kind) r (l.env r)) is ∙ ap (λ entry. element_pass x l (is_write kind) r entry (OfElement r field (Nth e))) eq.1
       ∙ ap (λ b. Some (record { write = is_write kind; base = Some b; cell = e * cells_of x eq.0.target + field })) copy ∙ ap (λ c. Some (record { write = is_write kind; base = Some v; cell = c })) (sym eq.2)
   in_elements r i field (Named m) v n kind is eq copy = absurd eq
 
   pub pass_eq : (c : Cell) (f : Field) → HasField x code l c f → Knows x k l c → (kind : Kind) (place : SimplePlace) → place_of k c ≡ Some place → IsLow place → IsPassOf c kind place
-  pass_eq (cells.Global g q) f has knows kind place e low =
+  pass_eq (Cell.Global g q) f has knows kind place e low =
       let same : in_global g q ≡ place = same_Some (in_global g q) place e in
-      subst (IsPassOf (cells.Global g q) kind) same (low_pass (is_write kind) q (low g q (sym same)))
-  pass_eq (cells.GlobalAt g i) f has knows kind place e low = by (k.number i) refl e
+      subst (IsPassOf (Cell.Global g q) kind) same (low_pass (is_write kind) q (low g q (sym same)))
+  pass_eq (Cell.GlobalAt g i) f has knows kind place e low = by (k.number i) refl e
     where
-      by : (n : Option ℕ) → k.number i ≡ n → global_place g n ≡ Some place → IsPassOf (cells.GlobalAt g i) kind place
+      by : (n : Option ℕ) → k.number i ≡ n → global_place g n ≡ Some place → IsPassOf (Cell.GlobalAt g i) kind place
       by None is e = absurd (none-some place e)
       by (Some v) is e =
           let same : in_global g v ≡ place = same_Some (in_global g v) place e in
-          subst (IsPassOf (cells.GlobalAt g i) kind) same (in_globals g i has.0 has.1 has.2 has.3 v kind has.4 (subst (IsNumberOf x l v) has.4 (knows v is)) (low g v (sym same)))
-  pass_eq (cells.Object r i) f has knows kind place e low = by (k.copy r) refl e
+          subst (IsPassOf (Cell.GlobalAt g i) kind) same (in_globals g i has.0 has.1 has.2 has.3 v kind has.4 (subst (IsNumberOf x l v) has.4 (knows v is)) (low g v (sym same)))
+  pass_eq (Cell.Object r i) f has knows kind place e low = by (k.copy r) refl e
     where
-      by : (v : Option ℕ) → k.copy r ≡ v → variable_place v (Some i) ≡ Some place → IsPassOf (cells.Object r i) kind place
+      by : (v : Option ℕ) → k.copy r ≡ v → variable_place v (Some i) ≡ Some place → IsPassOf (Cell.Object r i) kind place
       by None is e = absurd (none-some place e)
       by (Some v) is e =
           let same : in_variable v i ≡ place = same_Some (in_variable v i) place e in
-          subst (IsPassOf (cells.Object r i) kind) same (ap (λ b. Some (record { write = is_write kind; base = Some b; cell = i })) (knows v is))
-  pass_eq (cells.ObjectAt r i) f has knows kind place e low = by (k.copy r) (k.number i) refl refl e
+          subst (IsPassOf (Cell.Object r i) kind) same (ap (λ b. Some (record { write = is_write kind; base = Some b; cell = i })) (knows v is))
+  pass_eq (Cell.ObjectAt r i) f has knows kind place e low = by (k.copy r) (k.number i) refl refl e
     where
-      by : (v n : Option ℕ) → k.copy r ≡ v → k.number i ≡ n → variable_place v n ≡ Some place → IsPassOf (cells.ObjectAt r i) kind place
+      by : (v n : Option ℕ) → k.copy r ≡ v → k.number i ≡ n → variable_place v n ≡ Some place → IsPassOf (Cell.ObjectAt r i) kind place
       by None n is at e = absurd (none-some place e)
       by (Some v) None is at e = absurd (none-some place e)
       by (Some v) (Some n) is at e =
           let same : in_variable v n ≡ place = same_Some (in_variable v n) place e in
-          subst (IsPassOf (cells.ObjectAt r i) kind) same (in_elements r i has.1.1 has.1.2 v n kind has.1.4 (subst (IsNumberOf x l n) has.1.4 (knows.1 n at)) (knows.0 v is))
+          subst (IsPassOf (Cell.ObjectAt r i) kind) same (in_elements r i has.1.1 has.1.2 v n kind has.1.4 (subst (IsNumberOf x l n) has.1.4 (knows.1 n at)) (knows.0 v is))
 
 -- ---- what goes on to the next line
 ps_in : (x : Targets) (d : Bool) (l : Label) (write : Bool) (c : Cell) (mode : PlaceMode) (p : Pass) → IsIn p l.passed → IsIn p (passed_behind x d l write c mode)
-ps_in x false l write c modes.Dynamic p h = added (pass_of x l write c)
+ps_in x false l write c PlaceMode.Dynamic p h = added (pass_of x l write c)
   where
     added : (o : Option Pass) → IsIn p (with_pass o l.passed)
     added None = h
@@ -186,7 +177,7 @@ ps_in x false l write c modes.Dynamic p h = added (pass_of x l write c)
 ps_in x d l write c mode p h = h
 
 new_in : (x : Targets) (d : Bool) (l : Label) (write : Bool) (c : Cell) (mode : PlaceMode) (p : Pass) → d ≡ false → is_dynamic mode ≡ true → pass_of x l write c ≡ Some p → IsIn p (passed_behind x d l write c mode)
-new_in x false l write c modes.Dynamic p none is e = subst (λ o. IsIn p (with_pass o l.passed)) (sym e) (inl refl)
+new_in x false l write c PlaceMode.Dynamic p none is e = subst (λ o. IsIn p (with_pass o l.passed)) (sym e) (inl refl)
 new_in x _ l write c mode p none is e = absurd (cc)
 
 -- by the clauses of a list that is filtered, where it stands for anything
@@ -197,23 +188,23 @@ plain false f ps p h = h
 without : (o : Op) (r : ℕ) (ps : List Pass) (p : Pass) → ((b : Option ℕ) → stays o b ≡ true → not (is_base r b) ≡ true) → stays o p.base ≡ true → IsIn p ps → IsIn p (without_base r ps)
 without o r ps p gone stay h = in_filter (λ p. not (is_base r p.base)) ps p h (gone p.base stay)
 
-pop_stays : (r : ℕ) (b : Option ℕ) → stays (op.Pop r) b ≡ true → not (is_base r b) ≡ true
+pop_stays : (r : ℕ) (b : Option ℕ) → stays (Op.Pop r) b ≡ true → not (is_base r b) ≡ true
 pop_stays r None e = refl
 pop_stays r (Some y) e = e
 
-store_stays : (r : ℕ) (c : Cell) (spot : Spot) (b : Option ℕ) → stays (op.StoreRef r c spot) b ≡ true → not (is_base r b) ≡ true
+store_stays : (r : ℕ) (c : Cell) (spot : Spot) (b : Option ℕ) → stays (Op.StoreRef r c spot) b ≡ true → not (is_base r b) ≡ true
 store_stays r c spot None e = refl
 store_stays r c spot (Some y) e = e
 
-move_stays : (r from : ℕ) (b : Option ℕ) → stays (op.MoveReference r from) b ≡ true → not (is_base from b) ≡ true
+move_stays : (r from : ℕ) (b : Option ℕ) → stays (Op.MoveReference r from) b ≡ true → not (is_base from b) ≡ true
 move_stays r from None e = refl
 move_stays r from (Some y) e = not_right _ _ e
 
-settle_to : (to from : ℕ) (b : Option ℕ) → stays (op.Settle to from) b ≡ true → not (is_base to b) ≡ true
+settle_to : (to from : ℕ) (b : Option ℕ) → stays (Op.Settle to from) b ≡ true → not (is_base to b) ≡ true
 settle_to to from None e = refl
 settle_to to from (Some y) e = not_left _ _ e
 
-settle_from : (to from : ℕ) (b : Option ℕ) → stays (op.Settle to from) b ≡ true → not (is_base from b) ≡ true
+settle_from : (to from : ℕ) (b : Option ℕ) → stays (Op.Settle to from) b ≡ true → not (is_base from b) ≡ true
 settle_from to from None e = refl
 settle_from to from (Some y) e = not_right _ _ e
 
@@ -224,8 +215,8 @@ module _ (x : Targets) (code : Code) (l : Label) (k : Know) (passes : List Pass)
   number_too _ n h = h
 
   known_too : (c : Cell) → Knows x k l c → Knows x k (with_passes l passes) c
-  known_too (cells.GlobalAt g i) h = λ n e. number_too (l.ints i) n (h n e)
-  known_too (cells.ObjectAt r i) h = (h.0, λ n e. number_too (l.ints i) n (h.1 n e))
+  known_too (Cell.GlobalAt g i) h = λ n e. number_too (l.ints i) n (h n e)
+  known_too (Cell.ObjectAt r i) h = (h.0, λ n e. number_too (l.ints i) n (h.1 n e))
   known_too _ h = h
 
   -- the check of an access itself
@@ -251,37 +242,37 @@ module _ (x : Targets) (code : Code) (l : Label) (k : Know) (passes : List Pass)
   Low o = (a : Access) (g place : ℕ) → access o ≡ Some a → place_of k a.cell ≡ Some (in_global g place) → 2 ≤ place
 
   pub goes_on : (o : Op) (d : Bool) → drops k o ≡ d → Fields o → Known o → Low o → (p : Pass) → IsIn p (passes_next o k passes) → IsIn p (remembered x d l o passes)
-  goes_on (op.Load i c spot) d e fields knows low p h =
+  goes_on (Op.Load i c spot) d e fields knows low p h =
       let a : Access = record { kind = Read; cell = c; spot = spot } in
       let f = fields a refl in
       access_in d Read c spot f.0 f.1 (knows a refl) (λ g n z. low a g n refl z) p
-      (subst (λ b. IsIn p ((if b then [] else (if tells spot then pass_of_place Read (place_of k c) else [])) ++ passes)) e (of_filter (λ p. stays (op.Load i c spot) p.base) ((if drops k (op.Load i c spot) then [] else pass_by k (access (op.Load i c spot))) ++ passes) p h).0)
-  goes_on (op.Store i c spot) d e fields knows low p h =
+      (subst (λ b. IsIn p ((if b then [] else (if tells spot then pass_of_place Read (place_of k c) else [])) ++ passes)) e (of_filter (λ p. stays (Op.Load i c spot) p.base) ((if drops k (Op.Load i c spot) then [] else pass_by k (access (Op.Load i c spot))) ++ passes) p h).0)
+  goes_on (Op.Store i c spot) d e fields knows low p h =
       let a : Access = record { kind = Write; cell = c; spot = spot } in
       let f = fields a refl in
       access_in d Write c spot f.0 f.1 (knows a refl) (λ g n z. low a g n refl z) p
-      (subst (λ b. IsIn p ((if b then [] else (if tells spot then pass_of_place Write (place_of k c) else [])) ++ passes)) e (of_filter (λ p. stays (op.Store i c spot) p.base) ((if drops k (op.Store i c spot) then [] else pass_by k (access (op.Store i c spot))) ++ passes) p h).0)
-  goes_on (op.LoadRef r c spot) d e fields knows low p h =
+      (subst (λ b. IsIn p ((if b then [] else (if tells spot then pass_of_place Write (place_of k c) else [])) ++ passes)) e (of_filter (λ p. stays (Op.Store i c spot) p.base) ((if drops k (Op.Store i c spot) then [] else pass_by k (access (Op.Store i c spot))) ++ passes) p h).0)
+  goes_on (Op.LoadRef r c spot) d e fields knows low p h =
       let a : Access = record { kind = Read; cell = c; spot = spot } in
       let f = fields a refl in
-      access_in false Read c spot f.0 f.1 (knows a refl) (λ g n z. low a g n refl z) p (of_filter (λ p. stays (op.LoadRef r c spot) p.base) (pass_by k (access (op.LoadRef r c spot)) ++ passes) p h).0
-  goes_on (op.StoreRef r c spot) d e fields knows low p h =
-      let o = op.StoreRef r c spot in
+      access_in false Read c spot f.0 f.1 (knows a refl) (λ g n z. low a g n refl z) p (of_filter (λ p. stays (Op.LoadRef r c spot) p.base) (pass_by k (access (Op.LoadRef r c spot)) ++ passes) p h).0
+  goes_on (Op.StoreRef r c spot) d e fields knows low p h =
+      let o = Op.StoreRef r c spot in
       let a : Access = record { kind = Write; cell = c; spot = spot } in
       let f = fields a refl in
       let w = of_filter (λ p. stays o p.base) (pass_by k (access o) ++ passes) p h in
       let inside = access_in false Write c spot f.0 f.1 (knows a refl) (λ g n z. low a g n refl z) p w.0 in
       let whole = passed_behind x false (with_passes l passes) true c spot.mode in
       without o r (without_base r whole) p (store_stays r c spot) w.1 (without o r whole p (store_stays r c spot) w.1 inside)
-  goes_on (op.Pop r) d e fields knows low p h =
-      let w = of_filter (λ p. stays (op.Pop r) p.base) passes p h in
-      without (op.Pop r) r passes p (pop_stays r) w.1 w.0
-  goes_on (op.MoveReference r from) d e fields knows low p h =
-      let o = op.MoveReference r from in
+  goes_on (Op.Pop r) d e fields knows low p h =
+      let w = of_filter (λ p. stays (Op.Pop r) p.base) passes p h in
+      without (Op.Pop r) r passes p (pop_stays r) w.1 w.0
+  goes_on (Op.MoveReference r from) d e fields knows low p h =
+      let o = Op.MoveReference r from in
       let w = of_filter (λ p. stays o p.base) passes p h in
       without o from passes p (move_stays r from) w.1 w.0
-  goes_on (op.Settle to from) d e fields knows low p h =
-      let o = op.Settle to from in
+  goes_on (Op.Settle to from) d e fields knows low p h =
+      let o = Op.Settle to from in
       let w = of_filter (λ p. stays o p.base) passes p h in
       without o from (without_base to passes) p (settle_from to from) w.1 (without o to passes p (settle_to to from) w.1 w.0)
   goes_on o d e fields knows low p h = plain (is_straight o) (λ p. stays o p.base) passes p h

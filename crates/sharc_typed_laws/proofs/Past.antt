@@ -1,19 +1,9 @@
 -- The cells of globals that flattened code finds by an index are none of granule 0.
-use Rattle.std.proofs.{Common.{◌≡◌, ℕ, ◌+◌, ◌≤◌, Bool, true, false, cond, List, [], ◌∷◌, ◌++◌, length, take, drop, Option, Some, None, refl, arith}, lemmas.List.Elements.Contains-append_right}
-use Rattle.std.specs.{Prelude.{codes, Contains}, Str.bytes_eq}
-use Rattle.sharc_tree.specs.{declared.token.Site.Site, declared.token.Span.Span, declared.tree.declaration.Declaration.Declaration, declared.tree.declaration.Identifier.Identifier, declared.tree.expression.FieldOperator.FieldOperator, declared.tree.expression.FieldOperator.TheVariants.{Dot, Arrow}, declared.tree.expression.BinaryOperator.BinaryOperator, declared.tree.expression.BinaryOperator.TheVariants.{LogicalOr, LogicalAnd, NotEqual}, declared.tree.expression.PlaceCall.PlaceCall, declared.tree.expression.PlaceCall.TheVariants.{Lock, Unlock, Free}, declared.tree.expression.UnaryOperator.UnaryOperator, declared.tree.expression.UnaryOperator.TheVariants.{Not, Dereference}, declared.tree.expression.ValueCall.ValueCall, declared.tree.expression.ValueCall.TheVariants.{Join, Print}, declared.tree.statement.Jump.Jump, declared.tree.statement.Jump.TheVariants.{Break, Continue}, Measures.{expressions, in_arguments, in_option, in_right, in_simple, in_local, in_first, in_head, in_statement, in_statements}, Spans.span_of, Tree.{Expression, identifier, constant, parentheses, call, spawn, on_value, on_place, cast, index, field, unary, binary, Arguments, no_arguments, argument, Right, value, malloc, Simple, assign, does_call, Local, First, nothing, declares, does, Statement, empty, block, declare, simple, jump, return, if_then, if_then_else, while, for, Statements, no_statements, statement, Function}}
-use Rattle.sharc_names.specs.{declared.fault.Named.{Named as Name}, Kinds.{Kind, is_array, is_integer, element_kind, declared_kind, declared_kinds}}
+use Rattle.sharc_typed_laws.proofs.{Imports.{◌≡◌, ℕ, ◌+◌, ◌≤◌, Bool, true, false, cond, List, [], ◌∷◌, ◌++◌, length, take, drop, Option, Some, None, refl, arith, Contains-append_right, codes, Contains, Site, Span, Declaration, Identifier, FieldOperator, Dot, Arrow, BinaryOperator, LogicalOr, LogicalAnd, NotEqual, PlaceCall, Unlock, Free, UnaryOperator, Not, Dereference, ValueCall, Join, Print, Break, Continue, expressions, in_arguments, in_option, in_right, in_simple, in_local, in_first, in_head, in_statement, in_statements, span_of, Expression, identifier, constant, parentheses, call, spawn, on_value, on_place, cast, index, field, unary, binary, Arguments, no_arguments, argument, Right, value, malloc, Simple, assign, does_call, Local, First, declares, does, Statement, block, declare, simple, jump, return, if_then, if_then_else, while, for, Statements, no_statements, statement, Function, Name, Kind, is_array, is_integer, element_kind, declared_kind, declared_kinds, Use, Register, Reference, kind_at, global_at, parameters_named, pointed, Assignment, written, row_at, declared_row, Sharing, private, IsFunction, element_cells, field_place_named, global_elements, is_reference, Op, Spot, first_cell, Lvalue, Slot, Context, register_of, ref_count, at_site, pops, ends_from, leaves, Target, variable, in_global, target, own_field, has_base, global_of, base_width, index_width, guard_field, guard_code, drop_base, settle_base, copy_code, cell_value_code, value_code, settle_code, cell_store_code, store_code, cell_take_code, take_code, bounds_code, index_code, pointee_code, width_code, kind_of, is_ref, target_of, mode_of, what_names, named_code, truth_code, differ_code, compare_code, logical_code, either_code, unary_code, binary_code, behind_int, behind_ref, wait_code, condition_code, called_code, passed_code, value_call_code, place_call_code, cast_code, guard_of, taken_guard, field_code, unary_place_code, lvalue_code, expression_code, arguments_code, place_code, lvalue_in, with_words, argument_words, elements_code, right_code, simple_code, with_variable, ints_of, refs_of, zero_code, initial_code, local_code, first_code, behind_first, step_code, test_code, turn_code, Around, opened, looping, jump_code, result_code, return_code, turns_code, body_at, behind_statement, behind_statements, statement_code, statements_code, in_function, around_body, function_code, functions_code, declared_lvalue, globals_of, AreGlobalsNamed}, After.OpPast, Arrays.{Named, named_left, named_right, arrays_low, function_named}}
+use Rattle.std.specs.Str.{bytes_eq}
+use Rattle.sharc_tree.specs.{declared.tree.expression.PlaceCall.TheVariants.Lock, declared.tree.statement.Jump.Jump, Tree.{nothing, empty}}
 use Rattle.sharc_names.specs.declared.fault.Named.TheVariants as named
-use Rattle.sharc_code.specs.{declared.code.Use.Use, declared.instr.Register.Register, declared.instr.Register.TheVariants.{Int, Reference}}
-use Rattle.sharc_code.specs.declared.code.Use.TheVariants as uses
-use Rattle.sharc_ctype.specs.{Resolved.{kind_at, global_at}, Transfers.parameters_named}
-use Rattle.sharc_mode.specs.{Cells.pointed, Moded.Assignment, Rows.{written, row_at, declared_row}, Sharings.{Sharing, private}}
-use Rattle.sharc_check.specs.Constructs.{IsFunction}
-use Rattle.sharc_meaning.specs.{Cells.{element_cells, field_place_named, global_elements}, State.is_reference}
-use Rattle.sharc_flat.specs.{declared.op.Op.Op, declared.op.Spot.Spot, Machine.first_cell, declared.slot.Lvalue.Lvalue, declared.slot.Slot.Slot, Scope.{Context, register_of, ref_count, at_site, pops, ends_from, leaves}, Places.{Target, variable, in_global, target, own_field, has_base, global_of, base_width, index_width, guard_field, guard_code, drop_base, settle_base, copy_code, cell_value_code, value_code, settle_code, cell_store_code, store_code, cell_take_code, take_code, bounds_code, index_code, pointee_code, width_code}, Flattened.{kind_of, is_ref, target_of, mode_of, what_names, named_code, truth_code, differ_code, compare_code, logical_code, either_code, unary_code, binary_code, behind_int, behind_ref, wait_code, condition_code, called_code, passed_code, value_call_code, place_call_code, cast_code, guard_of, taken_guard, field_code, unary_place_code, lvalue_code, expression_code, arguments_code, place_code, lvalue_in, with_words, argument_words, elements_code, right_code, simple_code, with_variable, ints_of, refs_of, zero_code, initial_code, local_code, first_code, behind_first, step_code, test_code, turn_code, Around, opened, looping, jump_code, result_code, return_code, turns_code, body_at, behind_statement, behind_statements, statement_code, statements_code, in_function, around_body, function_code, functions_code, declared_lvalue}, Tables.globals_of}
-use Rattle.sharc_flat.specs.declared.op.Op.TheVariants as op
-use Rattle.sharc_typed_laws.specs.Programs.{AreGlobalsNamed}
-use Rattle.sharc_typed_laws.proofs.{After.OpPast, Arrays.{Named, named_left, named_right, arrays_low, function_named}}
+use Rattle.sharc_code.specs.declared.instr.Register.TheVariants.{Int}
 
 abbrev pub AllPast : List Op → Type 0
 AllPast [] = Unit {0}
@@ -49,16 +39,16 @@ differs NotEqual i = (tt, tt)
 differs o i = tt
 
 compares : (o : BinaryOperator) (i r : ℕ) → AllPast (compare_code o i r)
-compares o i r = (tt, joins (differ_code o i) (op.Pop r ∷ op.Pop (r + 1) ∷ []) (differs o i) (tt, (tt, tt)))
+compares o i r = (tt, joins (differ_code o i) (Op.Pop r ∷ Op.Pop (r + 1) ∷ []) (differs o i) (tt, (tt, tt)))
 
 logicals : (i : ℕ) (xs ys : List Op) → AllPast xs → AllPast ys → AllPast (logical_code i xs ys)
-logicals i xs ys a b = joins xs _ a (tt, joins ys (op.IsFalse i i ∷ op.IsFalse i i ∷ []) b (tt, (tt, tt)))
+logicals i xs ys a b = joins xs _ a (tt, joins ys (Op.IsFalse i i ∷ Op.IsFalse i i ∷ []) b (tt, (tt, tt)))
 
 eithers : (i : ℕ) (xs ys : List Op) → AllPast xs → AllPast ys → AllPast (either_code i xs ys)
-eithers i xs ys a b = joins xs _ a (tt, (tt, joins ys (op.IsFalse i i ∷ op.IsFalse i i ∷ []) b (tt, (tt, tt))))
+eithers i xs ys a b = joins xs _ a (tt, (tt, joins ys (Op.IsFalse i i ∷ Op.IsFalse i i ∷ []) b (tt, (tt, tt))))
 
 pointees : (r : ℕ) (site : Site) (xs : List Op) → AllPast xs → AllPast (pointee_code r site xs)
-pointees r site xs a = joins xs (op.ChkNull r (at_site site) ∷ []) a (tt, tt)
+pointees r site xs a = joins xs (Op.ChkNull r (at_site site) ∷ []) a (tt, tt)
 
 waits : (r : ℕ) (spot a b : Spot) → AllPast (wait_code r spot a b)
 waits r spot a b = (tt, (tt, (tt, (tt, (tt, (tt, (tt, (tt, (tt, tt)))))))))
@@ -98,10 +88,10 @@ module _ (c : Context) where
   guards i r site lvalue t (Some mutex) = (tt, tt)
 
   drops_base : (r : ℕ) (t : Target) → AllPast (drop_base r t)
-  drops_base r t = choose (has_base t) (op.Pop r ∷ []) [] (tt, tt) tt
+  drops_base r t = choose (has_base t) (Op.Pop r ∷ []) [] (tt, tt) tt
 
   settles_base : (r : ℕ) (t : Target) → AllPast (settle_base r t)
-  settles_base r t = choose (has_base t) (op.Settle r (r + 1) ∷ []) [] (tt, tt) tt
+  settles_base r t = choose (has_base t) (Op.Settle r (r + 1) ∷ []) [] (tt, tt) tt
 
   copies : (i r : ℕ) (x : Register) → AllPast (copy_code i r x)
   copies i r (Int x) = (tt, tt)
@@ -140,7 +130,7 @@ module _ (c : Context) where
   names i r site lvalue mode b _ = tt
 
   unaries : (i r : ℕ) (s : Span) (o : UnaryOperator) (a : Expression) (xs : List Op) → AllPast xs → AllPast (unary_code c i r s o a xs)
-  unaries i r s Not a xs h = joins xs _ h (joins (truth_code (is_ref c a) i r) (op.IsFalse i i ∷ []) (truths (is_ref c a) i r) (tt, tt))
+  unaries i r s Not a xs h = joins xs _ h (joins (truth_code (is_ref c a) i r) (Op.IsFalse i i ∷ []) (truths (is_ref c a) i r) (tt, tt))
   unaries i r s Dereference a xs h = joins (pointee_code r s.first xs) _ (pointees r s.first xs h) (values i r s.first (lvalue_in c (unary s Dereference a)) (mode_of c (unary s Dereference a)) (is_ref c (unary s Dereference a)) (target_of c (unary s Dereference a)))
   unaries i r s _ a xs h = joins xs _ h (tt, tt)
 
@@ -151,13 +141,13 @@ module _ (c : Context) where
 
   place_calls : (i r : ℕ) (s : Span) (w : PlaceCall) (a : Expression) (xs : List Op) → AllPast xs → AllPast (place_call_code c i r s w a xs)
   place_calls i r s Lock a xs h = joins xs _ h (tt, (tt, (tt, tt)))
-  place_calls i r s Unlock a xs h = joins xs _ h (tt, (tt, choose (has_base (target_of c a)) (op.Pop (r + 1) ∷ op.Pop r ∷ []) [] (tt, (tt, tt)) tt))
-  place_calls i r s Free a xs h = joins xs _ h (joins (take_code c i r (span_of a).first (lvalue_in c a) (mode_of c a) uses.Free (target_of c a)) _
-      (takes i r (span_of a).first (lvalue_in c a) (mode_of c a) uses.Free (target_of c a)) (tt, (tt, tt)))
+  place_calls i r s Unlock a xs h = joins xs _ h (tt, (tt, choose (has_base (target_of c a)) (Op.Pop (r + 1) ∷ Op.Pop r ∷ []) [] (tt, (tt, tt)) tt))
+  place_calls i r s Free a xs h = joins xs _ h (joins (take_code c i r (span_of a).first (lvalue_in c a) (mode_of c a) Use.Free (target_of c a)) _
+      (takes i r (span_of a).first (lvalue_in c a) (mode_of c a) Use.Free (target_of c a)) (tt, (tt, tt)))
 
   casts : (i r : ℕ) (s : Span) (a : Expression) (xs : List Op) → AllPast xs → AllPast (cast_code c i r s a xs)
-  casts i r s a xs h = joins xs _ h (joins (take_code c i r (span_of a).first (lvalue_in c a) (mode_of c a) uses.Cast (target_of c a)) _
-      (takes i r (span_of a).first (lvalue_in c a) (mode_of c a) uses.Cast (target_of c a)) (tt, (tt, tt)))
+  casts i r s a xs h = joins xs _ h (joins (take_code c i r (span_of a).first (lvalue_in c a) (mode_of c a) Use.Cast (target_of c a)) _
+      (takes i r (span_of a).first (lvalue_in c a) (mode_of c a) Use.Cast (target_of c a)) (tt, (tt, tt)))
 
   lvalues : (i r : ℕ) (e : Expression) → AllPast (lvalue_code c i r e)
   lvalues i r e = values i r (span_of e).first (lvalue_in c e) (mode_of c e) (is_ref c e) (target_of c e)
@@ -175,9 +165,9 @@ indexes_by false r xs ys zs ws number o k h h2 n z w = joins ys _ h2 (k, joins (
 module _ (c : Context) (low : ArraysLow c) where
   indexes : (i r : ℕ) (site : Site) (f guard : Option ℕ) (a : Expression) (xs ys : List Op) (number : ℕ → List Op) → NamedIn c (expressions a) → AllPast xs → AllPast ys → ((d : ℕ) → AllPast (number d)) → AllPast (index_code c i r site f guard a xs ys number)
   indexes i r site f guard a xs ys number known h h2 n =
-      let of_array : ℕ → ℕ → Op = λ i n. op.GlobalBounds i (global_elements (global_at c.program.typed (global_of (target c.program.typed None a)))) (element_cells c.program.typed (element_kind (kind_at c.program.typed a))) (first_cell c.globals (global_of (target c.program.typed None a)) + n) (at_site site) in
-      let of_pointer : ℕ → ℕ → Op = λ i n. op.Bounds i r (element_cells c.program.typed (element_kind (kind_at c.program.typed a))) n (at_site site) in
-      indexes_by (is_array (kind_at c.program.typed a)) r xs ys (bounds_code of_array i (own_field f 0) guard) (bounds_code of_pointer i (own_field f 0) guard) number (op.ChkNull r (at_site site)) tt h h2 n
+      let of_array : ℕ → ℕ → Op = λ i n. Op.GlobalBounds i (global_elements (global_at c.program.typed (global_of (target c.program.typed None a)))) (element_cells c.program.typed (element_kind (kind_at c.program.typed a))) (first_cell c.globals (global_of (target c.program.typed None a)) + n) (at_site site) in
+      let of_pointer : ℕ → ℕ → Op = λ i n. Op.Bounds i r (element_cells c.program.typed (element_kind (kind_at c.program.typed a))) n (at_site site) in
+      indexes_by (is_array (kind_at c.program.typed a)) r xs ys (bounds_code of_array i (own_field f 0) guard) (bounds_code of_pointer i (own_field f 0) guard) number (Op.ChkNull r (at_site site)) tt h h2 n
       (λ e. let le = low a known e in bounded of_array i (own_field f 0) guard (λ i n. omega (arith, le))) (bounded of_pointer i (own_field f 0) guard (λ i n. tt))
 
   mutual
@@ -247,7 +237,7 @@ module _ (c : Context) (low : ArraysLow c) where
       (joins (right_code c (i + index_width (target_of c u) (guard_of c u)) (r + base_width (target_of c u)) (kind_of c u) (pointed c.program (row_at c.program.typed u)) x) _
       (rights (i + index_width (target_of c u) (guard_of c u)) (r + base_width (target_of c u)) (kind_of c u) (pointed c.program (row_at c.program.typed u)) x (right c (expressions u) (in_right x) h))
       (stores c i r (i + index_width (target_of c u) (guard_of c u)) (r + base_width (target_of c u)) (span_of u).first (lvalue_in c u) (mode_of c u) (is_ref c u) (target_of c u)))
-  simples i r (does_call e) h = joins (expression_code c i r e) _ (expressions_past i r e h) (choose (is_ref c e) (op.Pop r ∷ []) [] (tt, tt) tt)
+  simples i r (does_call e) h = joins (expression_code c i r e) _ (expressions_past i r e h) (choose (is_ref c e) (Op.Pop r ∷ []) [] (tt, tt) tt)
 
   steps : (x : Option Simple) → NamedIn c (in_option in_simple x) → AllPast (step_code c x)
   steps None h = tt
@@ -263,7 +253,7 @@ zeros b i r = choose b _ _ (tt, tt) (tt, tt)
 
 pops_past : (r : ℕ) (xs : List Slot) → AllPast (pops r xs)
 pops_past r [] = tt
-pops_past r (x ∷ rest) = choose x.is_pointer (op.Pop r ∷ pops (r + 1) rest) (pops r rest) (tt, pops_past (r + 1) rest) (pops_past r rest)
+pops_past r (x ∷ rest) = choose x.is_pointer (Op.Pop r ∷ pops (r + 1) rest) (pops r rest) (tt, pops_past (r + 1) rest) (pops_past r rest)
 
 ends_past : (scope : List Slot) (n : ℕ) → AllPast (ends_from scope n)
 ends_past scope n = pops_past (ref_count (take n scope)) (drop n scope)
@@ -322,7 +312,7 @@ mutual
   statements_past c low a pc (empty s) h = (tt, tt)
   statements_past c low a pc (block s all) h = (
     tt,
-    joins (statements_code c (opened c a) (pc + 1) all ++ ends_from (behind_statements c all).scope (length c.scope)) (op.BlockEnd ∷ [])
+    joins (statements_code c (opened c a) (pc + 1) all ++ ends_from (behind_statements c all).scope (length c.scope)) (Op.BlockEnd ∷ [])
         (joins (statements_code c (opened c a) (pc + 1) all) _ (all_past c low (opened c a) (pc + 1) all h) (ends_past (behind_statements c all).scope (length c.scope))) (tt, tt),
   )
   statements_past c low a pc (declare s l) h = (tt, locals c low l h)
@@ -338,7 +328,7 @@ mutual
       let Y = statement_code c a (at + length X + 1) y in
       let of_first = left c (expressions e ++ in_statement x) (in_statement y) h in (
         tt,
-        joins (turn_code c (Some e) (length X + 1)) (X ++ (op.Skip (length Y) ∷ Y)) (turns c low (Some e) (length X + 1) (left c (expressions e) (in_statement x) of_first))
+        joins (turn_code c (Some e) (length X + 1)) (X ++ (Op.Skip (length Y) ∷ Y)) (turns c low (Some e) (length X + 1) (left c (expressions e) (in_statement x) of_first))
             (joins X _ (statements_past c low a at x (right c (expressions e) (in_statement x) of_first)) (tt, statements_past c low a (at + length X + 1) y (right c (expressions e ++ in_statement x) (in_statement y) h))),
       )
   statements_past c low a pc (while s e x) h =

@@ -1,17 +1,6 @@
 -- The piece of guarded code that a line becomes is typed from what is known before the line to what may be known after it.
-use Rattle.std.proofs.{Common.{◌≡◌, ◌≢◌, ℕ, Bool, true, false, List, [], ◌∷◌, ◌++◌, refl, sym, ap, ◌∙◌, subst, inl, inr, append_assoc}, lemmas.List.map-append}
-use Rattle.std.specs.Prelude.{map}
-use Rattle.sharc_code.specs.{declared.code.Code.Code, declared.code.PlaceMode.TheVariants.Readonly, declared.code.SourcePlace.SourcePlace, declared.instr.Cell.Cell, declared.instr.Instr.Instr, Runs.put, Says.place_at}
-use Rattle.sharc_code.specs.declared.instr.Instr.TheVariants as instrs
-use Rattle.sharc_code.proofs.Places.{put_same, put_other, put_all}
-use Rattle.sharc_flat.specs.{declared.op.Op.Op, declared.op.Spot.Spot}
-use Rattle.sharc_flat.specs.declared.op.Op.TheVariants as op
-use Rattle.sharc_compile.specs.Generated.{instr_of}
-use Rattle.sharc_guard.specs.Guard.{check_under, expand, source_of}
-use Rattle.sharc_invariant.specs.{Types.{Targets, StaticType, Field}, Labels.{Empty, Refers, Loaded, Sole, Label, Labels, EntryMentions, IsFree, empty, gated}, Typed.{IsUnpassed, Accesses, MayAccess, IsNotSole, IsMode}}
-use Rattle.sharc_invariant.proofs.{Frames.kept_pass, Scoped.less_refl}
-use Rattle.sharc_typed_laws.specs.{Steps.{all_at, Chain}, Inside.{known_behind, gate_behind, passed_behind, behind, before_check, tested, cleared, exchanged, inside}, TypedLaws.LeadsOn, Lines.{PassesCheck, Loads, Stores, LoadsReference, StoresReference, LoadsGuard, Settles, Makes, Gives, Frees, TypedLine}}
-use Rattle.sharc_typed_laws.proofs.{TypedAlike.{has_cell, less_entry, points_to, recasts}, Checking.{passed, chain_check, accesses, dynamic}}
+use Rattle.sharc_typed_laws.proofs.{Imports.{◌≡◌, ◌≢◌, ℕ, Bool, true, false, List, [], ◌∷◌, ◌++◌, refl, sym, ap, ◌∙◌, subst, inl, inr, append_assoc, map-append, map, Code, SourcePlace, Cell, Instr, put, place_at, put_same, put_other, put_all, Op, Spot, instr_of, check_under, expand, source_of, Targets, StaticType, Field, Empty, Refers, Loaded, Sole, Label, Labels, EntryMentions, IsFree, empty, gated, IsUnpassed, Accesses, MayAccess, IsNotSole, IsMode, kept_pass, less_refl, all_at, Chain, known_behind, gate_behind, passed_behind, behind, before_check, tested, cleared, exchanged, inside, LeadsOn, PassesCheck, Loads, Stores, LoadsReference, StoresReference, LoadsGuard, Settles, Makes, Gives, Frees, TypedLine}, TypedAlike.{has_cell, less_entry, points_to, recasts}, Checking.{passed, chain_check, accesses, dynamic}}
+use Rattle.sharc_code.specs.declared.code.PlaceMode.TheVariants.{Readonly}
 
 mapped : {A B : Type 0} (f : A → B) (a b c : List A) → map f ((a ++ b) ++ c) ≡ map f a ++ map f (b ++ c)
 mapped f a b c = ap (map f) (append_assoc a b c) ∙ map-append f a (b ++ c)
@@ -28,7 +17,7 @@ unpassed l r p among base = (kept_pass r l.passed p among).1 r base refl
 
 -- ---- operations
 module _ (x : Targets) (code : Code) (ls : Labels) (n : ℕ) (l k : Label) where
-  settles : (to from : ℕ) → Settles code l k to from → Chain x code ls (l ∷ empty l to ∷ []) (instrs.Lower to ∷ instrs.MoveReference to from ∷ []) k
+  settles : (to from : ℕ) → Settles code l k to from → Chain x code ls (l ∷ empty l to ∷ []) (Instr.Lower to ∷ Instr.MoveReference to from ∷ []) k
   settles to from h =
       let other : from ≡ to → ⊥ = λ e. h.apart (sym e) in
       let plain : EntryMentions ((empty l to).env from) from → ⊥ = λ m. h.plain (subst (λ e. EntryMentions e from) (put_other l.env to from Empty other) m) in (
@@ -36,13 +25,13 @@ module _ (x : Targets) (code : Code) (ls : Labels) (n : ℕ) (l k : Label) where
         ((refl, inr (record { is = h.target; empty = put_same l.env to Empty }, h.source, h.apart, free_without l to from h.source_free, plain, h.next)), tt),
       )
 
-  makes : (r count cells : ℕ) (spot : Spot) → place_at code n ≡ source_of (op.New r count cells spot) → Makes x code l k r cells spot → Chain x code ls (l ∷ []) (instrs.New r count cells n ∷ []) k
+  makes : (r count cells : ℕ) (spot : Spot) → place_at code n ≡ source_of (Op.New r count cells spot) → Makes x code l k r cells spot → Chain x code ls (l ∷ []) (Instr.New r count cells n ∷ []) k
   makes r count cells spot site h =
       let token : (place_at code n).site.token ≡ spot.site.token = ap (λ (p : SourcePlace). p.site.token) site in
       ((h.closed, h.register, (h.type, h.some, h.row, h.size, h.few, (λ i. h.pointers i ∙ ap (λ t. x.is_made_pointer t i) (sym token)), h.other, h.next)), tt)
 
   gives : (r cells : ℕ) → Gives x code l k r cells
-      → Chain x code ls (l ∷ tested l r ∷ cleared l r ∷ []) (instrs.TestSole r n ∷ instrs.Clear r cells ∷ instrs.Give r n ∷ []) k
+      → Chain x code ls (l ∷ tested l r ∷ cleared l r ∷ []) (Instr.TestSole r n ∷ Instr.Clear r cells ∷ Instr.Give r n ∷ []) k
   gives r cells h = (
     (h.closed, h.register, h.known, less_refl (tested l r)),
     (
@@ -51,13 +40,13 @@ module _ (x : Targets) (code : Code) (ls : Labels) (n : ℕ) (l k : Label) where
     ),
   )
 
-  frees : (r layout : ℕ) → Frees x code l k r layout → Chain x code ls (l ∷ tested l r ∷ []) (instrs.TestSole r n ∷ instrs.Free r layout n ∷ []) k
+  frees : (r layout : ℕ) → Frees x code l k r layout → Chain x code ls (l ∷ tested l r ∷ []) (Instr.TestSole r n ∷ Instr.Free r layout n ∷ []) k
   frees r layout h = (
     (h.closed, h.register, h.known, less_refl (tested l r)),
     (((false, refl), record { paths = h.free.paths }, unpassed l r, (h.type, h.is, h.laid), h.next), tt),
   )
 
-  loads_guard : (c : Cell) → (place_at code n).mode ≡ Readonly → LoadsGuard x code l k c → Chain x code ls (l ∷ []) (instrs.LoadRef c n ∷ []) k
+  loads_guard : (c : Cell) → (place_at code n).mode ≡ Readonly → LoadsGuard x code l k c → Chain x code ls (l ∷ []) (Instr.LoadRef c n ∷ []) k
   loads_guard c site h = ((h.field, h.to, access, h.holds, h.next), tt)
     where
       mode : IsMode code l c h.field.mode (place_at code n).mode
@@ -84,42 +73,42 @@ module _ (x : Targets) (code : Code) (ls : Labels) (n : ℕ) (l k : Label) where
         (sym (mapped (instr_of code.functions.items) (check_under dropped (dynamic x code ls l write c spot n) spot n spot.mode) own tail)) whole
 
     loads : (dropped : Bool) (i : ℕ) (c : Cell) → Loads x code ls dropped l k i c spot
-        → Chain x code ls (inside x dropped (record { target = 0; locks = [] }) (op.Load i c spot) l) (map (instr_of code.functions.items) (expand (λ j. 0) dropped n (op.Load i c spot))) k
-    loads dropped i c h = behind_check dropped false c h.field h.access [] (instrs.Load i c n ∷ []) []
+        → Chain x code ls (inside x dropped (record { target = 0; locks = [] }) (Op.Load i c spot) l) (map (instr_of code.functions.items) (expand (λ j. 0) dropped n (Op.Load i c spot))) k
+    loads dropped i c h = behind_check dropped false c h.field h.access [] (Instr.Load i c n ∷ []) []
         ((h.register, (h.field, h.width, accesses x code ls dropped k l false c spot h.field n site h.access, h.holds, h.next)), tt)
 
     stores : (dropped : Bool) (i : ℕ) (c : Cell) → Stores x code ls dropped l k i c spot
-        → Chain x code ls (inside x dropped (record { target = 0; locks = [] }) (op.Store i c spot) l) (map (instr_of code.functions.items) (expand (λ j. 0) dropped n (op.Store i c spot))) k
-    stores dropped i c h = behind_check dropped true c h.field h.access [] (instrs.Store i c n ∷ []) []
+        → Chain x code ls (inside x dropped (record { target = 0; locks = [] }) (Op.Store i c spot) l) (map (instr_of code.functions.items) (expand (λ j. 0) dropped n (Op.Store i c spot))) k
+    stores dropped i c h = behind_check dropped true c h.field h.access [] (Instr.Store i c n ∷ []) []
         ((h.field, h.width, accesses x code ls dropped k l true c spot h.field n site h.access, h.holds, h.fits, h.next), tt)
 
     takes : (r : ℕ) (c : Cell) → LoadsReference x code ls true l k r c spot
-        → Chain x code ls (inside x false (record { target = 0; locks = [] }) (op.TakeCell r c spot) l) (map (instr_of code.functions.items) (expand (λ j. 0) false n (op.TakeCell r c spot))) k
+        → Chain x code ls (inside x false (record { target = 0; locks = [] }) (Op.TakeCell r c spot) l) (map (instr_of code.functions.items) (expand (λ j. 0) false n (Op.TakeCell r c spot))) k
     takes r c h =
         let points = points_to l (known_behind l spot spot.mode) (gate_behind false l true c spot spot.mode) (passed_behind x false l true c spot.mode) c h.field h.type h.points in
-        behind_check false true c h.field h.access [] (instrs.TakeCell r c n ∷ []) []
+        behind_check false true c h.field h.access [] (Instr.TakeCell r c n ∷ []) []
         ((record { is = h.register.is; empty = h.register.empty }, (h.field, h.type, accesses x code ls false k l true c spot h.field n site h.access, points, h.other, h.next)), tt)
 
     loads_reference : (r : ℕ) (c : Cell) → LoadsReference x code ls false l k r c spot
-        → Chain x code ls (inside x false (record { target = 0; locks = [] }) (op.LoadRef r c spot) l) (map (instr_of code.functions.items) (expand (λ j. 0) false n (op.LoadRef r c spot))) k
+        → Chain x code ls (inside x false (record { target = 0; locks = [] }) (Op.LoadRef r c spot) l) (map (instr_of code.functions.items) (expand (λ j. 0) false n (Op.LoadRef r c spot))) k
     loads_reference r c h =
         let b = behind x false l false c spot in
         let points = points_to l (known_behind l spot spot.mode) (Loaded c) (passed_behind x false l false c spot.mode) c h.field h.type h.points in
         let access = accesses x code ls false (gated b (Loaded c)) l false c spot h.field n site h.access in
-        behind_check false false c h.field h.access (gated b (Loaded c) ∷ []) (instrs.LoadRef c n ∷ []) (instrs.RaiseLoaded r ∷ []) (
+        behind_check false false c h.field h.access (gated b (Loaded c) ∷ []) (Instr.LoadRef c n ∷ []) (Instr.RaiseLoaded r ∷ []) (
           (h.field, h.points.to, access, h.points.holds, less_refl (gated b (Loaded c))),
           ((record { is = h.register.is; empty = h.register.empty }, (c, h.field, h.type, refl, has_cell b b.known (Loaded c) b.passed (λ r e. e) x code c h.field access.cell, points, h.other, h.next)), tt),
         )
 
     stores_reference : (type : StaticType) (r : ℕ) (c : Cell) → StoresReference x code ls type l k r c spot
-        → Chain x code ls (inside x false type (op.StoreRef r c spot) l) (map (instr_of code.functions.items) (expand (λ j. 0) false n (op.StoreRef r c spot))) k
+        → Chain x code ls (inside x false type (Op.StoreRef r c spot) l) (map (instr_of code.functions.items) (expand (λ j. 0) false n (Op.StoreRef r c spot))) k
     stores_reference type r c h =
         let known = known_behind l spot spot.mode in
         let gate = gate_behind false l true c spot spot.mode in
         let remembered = passed_behind x false l true c spot.mode in
         let b = behind x false l true c spot in
         let e = exchanged b r type in
-        behind_check false true c h.field h.access (e ∷ []) (instrs.Exchange r c n ∷ []) (instrs.Lower r ∷ []) (
+        behind_check false true c h.field h.access (e ∷ []) (Instr.Exchange r c n ∷ []) (Instr.Lower r ∷ []) (
           (
             h.register,
             (
@@ -148,20 +137,20 @@ mode_of code n p e = ap (λ (q : SourcePlace). q.mode) e
 pub pieces : (x : Targets) (code : Code) (ls : Labels) (lines : ℕ) (dropped : Bool) (type : StaticType) (n : ℕ) (l k : Label) (o : Op) (pl : ℕ → ℕ)
     → LeadsOn o → place_at code n ≡ source_of o → TypedLine x code ls lines dropped type n l k o
     → Chain x code ls (inside x dropped type o l) (map (instr_of code.functions.items) (expand pl dropped n o)) k
-pieces x code ls lines dropped type n l k (op.Skip over) pl on site h = absurd on
-pieces x code ls lines dropped type n l k (op.SkipIfZero i over) pl on site h = absurd on
-pieces x code ls lines dropped type n l k (op.SkipIfNull r over) pl on site h = absurd on
-pieces x code ls lines dropped type n l k (op.Jump to) pl on site h = absurd on
-pieces x code ls lines dropped type n l k op.Enter pl on site h = tt
-pieces x code ls lines dropped type n l k op.BlockEnd pl on site h = tt
-pieces x code ls lines dropped type n l k (op.Settle to from) pl on site h = settles x code ls n l k to from h
-pieces x code ls lines dropped type n l k (op.Load i cell spot) pl on site h = loads x code ls n l k spot (mode_of code n _ site) dropped i cell h
-pieces x code ls lines dropped type n l k (op.Store i cell spot) pl on site h = stores x code ls n l k spot (mode_of code n _ site) dropped i cell h
-pieces x code ls lines dropped type n l k (op.LoadRef r cell spot) pl on site h = loads_reference x code ls n l k spot (mode_of code n _ site) r cell h
-pieces x code ls lines dropped type n l k (op.TakeCell r cell spot) pl on site h = takes x code ls n l k spot (mode_of code n _ site) r cell h
-pieces x code ls lines dropped type n l k (op.StoreRef r cell spot) pl on site h = stores_reference x code ls n l k spot (mode_of code n _ site) type r cell h
-pieces x code ls lines dropped type n l k (op.LoadGuard cell spot) pl on site h = loads_guard x code ls n l k cell (mode_of code n _ site) h
-pieces x code ls lines dropped type n l k (op.New r count cells spot) pl on site h = makes x code ls n l k r count cells spot site h
-pieces x code ls lines dropped type n l k (op.Give r cells spot) pl on site h = gives x code ls n l k r cells h
-pieces x code ls lines dropped type n l k (op.Free r layout spot) pl on site h = frees x code ls n l k r layout h
+pieces x code ls lines dropped type n l k (Op.Skip over) pl on site h = absurd on
+pieces x code ls lines dropped type n l k (Op.SkipIfZero i over) pl on site h = absurd on
+pieces x code ls lines dropped type n l k (Op.SkipIfNull r over) pl on site h = absurd on
+pieces x code ls lines dropped type n l k (Op.Jump to) pl on site h = absurd on
+pieces x code ls lines dropped type n l k Op.Enter pl on site h = tt
+pieces x code ls lines dropped type n l k Op.BlockEnd pl on site h = tt
+pieces x code ls lines dropped type n l k (Op.Settle to from) pl on site h = settles x code ls n l k to from h
+pieces x code ls lines dropped type n l k (Op.Load i cell spot) pl on site h = loads x code ls n l k spot (mode_of code n _ site) dropped i cell h
+pieces x code ls lines dropped type n l k (Op.Store i cell spot) pl on site h = stores x code ls n l k spot (mode_of code n _ site) dropped i cell h
+pieces x code ls lines dropped type n l k (Op.LoadRef r cell spot) pl on site h = loads_reference x code ls n l k spot (mode_of code n _ site) r cell h
+pieces x code ls lines dropped type n l k (Op.TakeCell r cell spot) pl on site h = takes x code ls n l k spot (mode_of code n _ site) r cell h
+pieces x code ls lines dropped type n l k (Op.StoreRef r cell spot) pl on site h = stores_reference x code ls n l k spot (mode_of code n _ site) type r cell h
+pieces x code ls lines dropped type n l k (Op.LoadGuard cell spot) pl on site h = loads_guard x code ls n l k cell (mode_of code n _ site) h
+pieces x code ls lines dropped type n l k (Op.New r count cells spot) pl on site h = makes x code ls n l k r count cells spot site h
+pieces x code ls lines dropped type n l k (Op.Give r cells spot) pl on site h = gives x code ls n l k r cells h
+pieces x code ls lines dropped type n l k (Op.Free r layout spot) pl on site h = frees x code ls n l k r layout h
 pieces x code ls lines dropped type n l k o pl on site h = (h, tt)

@@ -1,8 +1,5 @@
 -- A label that says no more than one that says no more than a third says no more than that.
-use Rattle.std.proofs.Common.{◌≡◌, ℕ, true, List, [], ◌∷◌, sym, ◌∙◌, subst}
-use Rattle.sharc_code.specs.{declared.instr.Width.Width, declared.instr.Width.TheVariants.{Char, Int, Long}}
-use Rattle.sharc_invariant.specs.{Types.Lock, Types.Lock.{Global, Through, Self}, Labels.{Entry, Empty, Refers, Unknown, Number, Anything, Exactly, Within, Indexes, OfElement, OfGlobal, Gate, Closed, Loaded, HoldsLoaded, Sole, Label, Less, SameReference, Itself, IsCopy, HasCopy, Copies, Chained, SameLock, AllSame, LessEntry, Narrower, LessNumber, LessGate}}
-use Rattle.sharc_invariant.proofs.Frames.{wider}
+use Rattle.sharc_typed_laws.proofs.Imports.{◌≡◌, ℕ, true, List, [], ◌∷◌, sym, ◌∙◌, subst, Width, Char, Int, Long, Lock, Global, Through, Self, Entry, Empty, Refers, Unknown, Number, Anything, Exactly, Within, Indexes, OfElement, OfGlobal, Gate, Closed, Loaded, HoldsLoaded, Sole, Label, Less, SameReference, Itself, IsCopy, HasCopy, Copies, Chained, SameLock, AllSame, LessEntry, Narrower, LessNumber, LessGate, wider}
 
 pub turned : (l : Label) (p q : ℕ) → SameReference l p q → SameReference l q p
 turned l p q (Itself e) = Itself (sym e)

@@ -1,18 +1,6 @@
 -- The flat code of a typable program, with its texts laid out, is typed whatever checks are remembered.
-use Rattle.std.proofs.{Common.{◌≡◌, ℕ, zero, suc, ◌+◌, ◌<◌, ◌≤◌, true, false, List, [], ◌∷◌, ◌++◌, length, map, max, Option, Some, None, refl, sym, ap, ◌∙◌, subst, arith}, lemmas.Option.{same_Some, none-some, slice_get_within}}
-use Rattle.std.specs.Prelude.{slice_get, slice_index_or}
-use Rattle.sharc_tree.specs.Tree.{Function}
-use Rattle.sharc_names.specs.Kinds.{declared_kind}
-use Rattle.sharc_code.specs.{declared.code.Function.{Function as Row}, declared.code.GlobalCells.GlobalCells, declared.code.Text.Text, Machine.{no_function, function_of}}
-use Rattle.sharc_ctype.specs.Resolved.{Resolution, functions_in, function_at}
-use Rattle.sharc_mode.specs.Moded.{Assignment}
-use Rattle.sharc_flat.specs.{declared.flat.Flat.{Flat as FlatCode}, declared.op.Op.Op, Machine.{Flat, function_of as flat_function}, Made.flat_of, Flattened.{in_function, function_code, functions_code, rows_of, parameter_of, parameters_scope}, Flattens.{Flattens, names_of}, Frames.{ints_in as ints_needed, refs_in as refs_needed}, Laid.{told_by, with_texts, AreLaid, AreNamed}, Laws.FitsMade, Scope.{int_count, ref_count}, Tables.globals_of}
-use Rattle.sharc_flat.specs.declared.op.Op.TheVariants as op
-use Rattle.sharc_guard.specs.{Guard.{place, entered_at}, Known.dropped}
-use Rattle.sharc_invariant.specs.{Labels.{Less, Closed, IsScoped}, Typed.{IsPlain, MayStart, ints_in, refs_in, entry_label}}
-use Rattle.sharc_typed_laws.specs.{Inside.{FlatLabels, outside}, Lines.To, Passes.IsTypedAnyhow, Stretches.{Mark, Setting, IsLine, flat_labels, labels_by}, Places.mark, Premises.Typing, Begun.label_of, LabelsLaws.{AreAllLines, LinesAreTyped, LinesTell, LinesKnow}, Functions.{FunctionTypable, FunctionsAreTyped}, Programs.{AreGlobalsNamed, TypableProgram, IsSettingOf}}
-use Rattle.sharc_typed_laws.proofs.{After.OpPast, Assembled.{table_of, agrees_self, past_marks, AllFunctions, all_marks, marks_many, owner_from, lines_are, begins_at}, Framing.{AreFew, are_within}, Past.{AllPast, functions_past}, Remembered.{variables, low}, Starting.{signature_plain, starts_by}, Texts.line_told}
-use Rattle.sharc_lemmas.proofs.Lists.{some_there as found}
+use Rattle.sharc_typed_laws.proofs.{Imports.{◌≡◌, ℕ, zero, suc, ◌+◌, ◌<◌, ◌≤◌, true, false, List, [], ◌∷◌, ◌++◌, length, map, max, Option, Some, None, refl, sym, ap, ◌∙◌, subst, arith, same_Some, none-some, slice_get_within, slice_get, slice_index_or, Function, declared_kind, Row, GlobalCells, Text, no_function, function_of, Resolution, functions_in, function_at, Assignment, FlatCode, Op, Flat, flat_function, flat_of, in_function, function_code, functions_code, rows_of, parameter_of, parameters_scope, Flattens, names_of, ints_needed, refs_needed, told_by, with_texts, AreLaid, AreNamed, FitsMade, int_count, ref_count, globals_of, place, entered_at, dropped, Less, Closed, IsScoped, MayStart, ints_in, refs_in, entry_label, FlatLabels, outside, To, IsTypedAnyhow, Mark, Setting, IsLine, flat_labels, labels_by, mark, Typing, label_of, AreAllLines, LinesAreTyped, LinesTell, LinesKnow, FunctionTypable, FunctionsAreTyped, AreGlobalsNamed, TypableProgram, IsSettingOf, found}, After.OpPast, Assembled.{table_of, agrees_self, past_marks, AllFunctions, all_marks, marks_many, owner_from, lines_are, begins_at}, Framing.{AreFew, are_within}, Past.{AllPast, functions_past}, Remembered.{variables, low}, Starting.{signature_plain, starts_by}, Texts.line_told}
+use Rattle.sharc_invariant.specs.Typed.{IsPlain}
 
 -- ---- lists
 get_left : (xs ys : List Op) (j : ℕ) (o : Op) → slice_get xs j ≡ Some o → slice_get (xs ++ ys) j ≡ Some o
@@ -64,7 +52,7 @@ laid_length r bytes (o ∷ os) [] h = absurd h
 laid_length r bytes (o ∷ os) (q ∷ ps) h = ap suc (laid_length r bytes os ps h.1)
 
 past_told : (a b : Text) (o : Op) → OpPast o → OpPast (with_texts a b o)
-past_told a b op.Enter h = h
+past_told a b Op.Enter h = h
 past_told a b o h = h
 
 past_at : (os : List Op) → AllPast os → (n : ℕ) (o : Op) → slice_get os n ≡ Some o → OpPast o

@@ -1,15 +1,6 @@
 -- A check that is remembered is one of a variable that stands, or of a cell of a global, which is none of granule 0.
-use Rattle.std.proofs.{Common.{◌≡◌, ◌≢◌, ◌⊎◌, ℕ, zero, suc, ◌+◌, ◌<◌, ◌≤◌, Bool, true, false, cond, List, [], ◌++◌, length, Option, Some, None, refl, sym, ap, ◌∙◌, subst, ⊎_elim, arith}, lemmas.Bool.false≢true, lemmas.Bool.Decides.nat_tests, lemmas.Option.{same_Some, none-some}}
-use Rattle.std.specs.Prelude.{slice_get, filter, nat_lt}
-use Rattle.sharc_code.specs.declared.instr.Cell.{Cell}
-use Rattle.sharc_code.specs.declared.instr.Cell.TheVariants as cells
-use Rattle.sharc_flat.specs.{declared.op.Op.Op, Machine.Flat}
-use Rattle.sharc_flat.specs.declared.op.Op.TheVariants as op
-use Rattle.sharc_guard.specs.Known.{is_straight, is_target, writes_ref, writes_int, number_given, SimplePlace, in_variable, in_global, Access, access, tells, nothing, know_next, know_after, variable_place, global_place, place_of, known, drops}
-use Rattle.sharc_invariant.specs.{Types.{Targets, StaticType, Field}, Labels.{Empty, Refers, Element, Named, Nth, OfGlobal, Pass, IsIn, Label, Labels}, Typed.{HasField, AreGlobals}}
-use Rattle.sharc_typed_laws.specs.{Lines.TypedLine, Passes.{pass_at, pass_of_place, pass_by, stays, passes_after, passes_before, passes_in, with_passes, with_all, IsNumberOf, Knows}, Stretches.{Mark, Setting, labels_by, Tells}, LabelsLaws.AreAllLines}
-use Rattle.sharc_typed_laws.proofs.{After.{IsPast, OpPast, After, after}, Passing.{of_filter, of_both}, Lines.{found, within}}
-use Rattle.sharc_lemmas.proofs.Bools.{not_true as unless}
+use Rattle.sharc_typed_laws.proofs.{Imports.{◌≡◌, ◌≢◌, ◌⊎◌, ℕ, zero, suc, ◌+◌, ◌<◌, ◌≤◌, Bool, true, false, cond, List, [], ◌++◌, length, Option, Some, None, refl, sym, ap, ◌∙◌, subst, ⊎_elim, arith, false≢true, nat_tests, same_Some, none-some, slice_get, filter, nat_lt, Cell, Op, Flat, is_straight, is_target, writes_ref, writes_int, number_given, SimplePlace, in_variable, Access, access, tells, nothing, know_next, know_after, variable_place, global_place, place_of, known, drops, Targets, StaticType, Field, Empty, Refers, Element, Named, Nth, OfGlobal, Pass, IsIn, Label, Labels, HasField, AreGlobals, TypedLine, pass_at, pass_of_place, pass_by, stays, passes_after, passes_before, passes_in, with_passes, with_all, IsNumberOf, Knows, Mark, Setting, labels_by, Tells, AreAllLines, unless}, After.{IsPast, OpPast, After, after}, Passing.{of_filter, of_both}, Lines.{found, within}}
+use Rattle.sharc_guard.specs.Known.{in_global}
 
 -- ---- lists
 not_empty : (s : StaticType) → Refers s ≢ Empty
@@ -41,10 +32,10 @@ past_number x l n first count elements (Named m) is past = absurd is
 
 -- ---- lines
 fields_of : (z : Setting) (ls : Labels) (lines : ℕ) (type : StaticType) (n : ℕ) (l k : Label) (o : Op) → TypedLine z.targets z.code ls lines false type n l k o → (a : Access) → access o ≡ Some a → (f : Field) × HasField z.targets z.code l a.cell f
-fields_of z ls lines type n l k (op.Load i c spot) h a e = let same = same_Some _ a e in subst (λ (a : Access). (f : Field) × HasField z.targets z.code l a.cell f) same (h.field, h.access.cell.field)
-fields_of z ls lines type n l k (op.Store i c spot) h a e = let same = same_Some _ a e in subst (λ (a : Access). (f : Field) × HasField z.targets z.code l a.cell f) same (h.field, h.access.cell.field)
-fields_of z ls lines type n l k (op.LoadRef r c spot) h a e = let same = same_Some _ a e in subst (λ (a : Access). (f : Field) × HasField z.targets z.code l a.cell f) same (h.field, h.access.cell.field)
-fields_of z ls lines type n l k (op.StoreRef r c spot) h a e = let same = same_Some _ a e in subst (λ (a : Access). (f : Field) × HasField z.targets z.code l a.cell f) same (h.field, h.access.cell.field)
+fields_of z ls lines type n l k (Op.Load i c spot) h a e = let same = same_Some _ a e in subst (λ (a : Access). (f : Field) × HasField z.targets z.code l a.cell f) same (h.field, h.access.cell.field)
+fields_of z ls lines type n l k (Op.Store i c spot) h a e = let same = same_Some _ a e in subst (λ (a : Access). (f : Field) × HasField z.targets z.code l a.cell f) same (h.field, h.access.cell.field)
+fields_of z ls lines type n l k (Op.LoadRef r c spot) h a e = let same = same_Some _ a e in subst (λ (a : Access). (f : Field) × HasField z.targets z.code l a.cell f) same (h.field, h.access.cell.field)
+fields_of z ls lines type n l k (Op.StoreRef r c spot) h a e = let same = same_Some _ a e in subst (λ (a : Access). (f : Field) × HasField z.targets z.code l a.cell f) same (h.field, h.access.cell.field)
 fields_of z ls lines type n l k o h a e = absurd (none-some a e)
 
 module _ (z : Setting) (owner : ℕ → ℕ) (table : ℕ → Mark) (flat : Flat) (all : AreAllLines z owner table flat) (past : (n : ℕ) (o : Op) → slice_get flat.lines n ≡ Some o → OpPast o)
@@ -89,10 +80,10 @@ module _ (z : Setting) (owner : ℕ → ℕ) (table : ℕ → Mark) (flat : Flat
 
   -- so the variable that the base of a cell is a copy of
   base_full : (n : ℕ) → n < length flat.lines → (o : Op) → slice_get flat.lines n ≡ Some o → (c : Cell) (f : Field) → HasField z.targets z.code (with_passes (label n) []) c f → (v m : ℕ) → place_of (known flat n) c ≡ Some (in_variable v m) → (label n).env v ≢ Empty
-  base_full n lt o at (cells.Object r i) f has v m e = copy_full n o at r v ((told n lt).copies r v (variable_is ((known flat n).copy r) (Some i) v m e)) (λ z. not_empty has.1.0 (sym has.1.1 ∙ z))
-  base_full n lt o at (cells.ObjectAt r i) f has v m e = copy_full n o at r v ((told n lt).copies r v (variable_is ((known flat n).copy r) ((known flat n).number i) v m e)) (λ z. not_empty has.1.0 (sym has.1.3 ∙ z))
-  base_full n lt o at (cells.Global g p) f has v m e = let q : in_global g p ≡ in_variable v m = same_Some (in_global g p) (in_variable v m) e in absurd (cc)
-  base_full n lt o at (cells.GlobalAt g i) f has v m e = absurd (no_variable_place g ((known flat n).number i) v m e)
+  base_full n lt o at (Cell.Object r i) f has v m e = copy_full n o at r v ((told n lt).copies r v (variable_is ((known flat n).copy r) (Some i) v m e)) (λ z. not_empty has.1.0 (sym has.1.1 ∙ z))
+  base_full n lt o at (Cell.ObjectAt r i) f has v m e = copy_full n o at r v ((told n lt).copies r v (variable_is ((known flat n).copy r) ((known flat n).number i) v m e)) (λ z. not_empty has.1.0 (sym has.1.3 ∙ z))
+  base_full n lt o at (Cell.Global g p) f has v m e = let q : in_global g p ≡ in_variable v m = same_Some (in_global g p) (in_variable v m) e in absurd (cc)
+  base_full n lt o at (Cell.GlobalAt g i) f has v m e = absurd (no_variable_place g ((known flat n).number i) v m e)
 
   -- the check of the access itself
   new_full : (n : ℕ) → n < length flat.lines → (o : Op) → slice_get flat.lines n ≡ Some o → (p : Pass) (v : ℕ) → p.base ≡ Some v → (w : Option Access) → access o ≡ w → IsIn p (pass_by (known flat n) w) → (label n).env v ≢ Empty
@@ -156,17 +147,17 @@ module _ (z : Setting) (owner : ℕ → ℕ) (table : ℕ → Mark) (flat : Flat
   module _ (globals : AreGlobals z.targets z.code) where
     low_cell : (n : ℕ) (o : Op) → slice_get flat.lines n ≡ Some o → (c : Cell) (f : Field) → HasField z.targets z.code (with_passes (label n) []) c f → Knows z.targets (known flat n) (label n) c
         → (g place : ℕ) → place_of (known flat n) c ≡ Some (in_global g place) → 2 ≤ place
-    low_cell n o at (cells.Global h p) f has knows g place q =
+    low_cell n o at (Cell.Global h p) f has knows g place q =
         let same : in_global h p ≡ in_global g place = same_Some (in_global h p) (in_global g place) q in
         let equal : p ≡ place = cc in
         let from = has.0.from in
         let one = globals.low h has.0.is in
         omega (arith, equal, from, one)
-    low_cell n o at (cells.GlobalAt h i) f has knows g place q =
+    low_cell n o at (Cell.GlobalAt h i) f has knows g place q =
         let number : (known flat n).number i ≡ Some place = global_is h ((known flat n).number i) g place q in
         past_number z.targets (label n) place has.0 has.1 has.2 has.3 (subst (IsNumberOf z.targets (label n) place) has.4 (knows place number)) (subst IsPast has.4 (number_past n (within flat.lines n o at) i place number))
-    low_cell n o at (cells.Object r i) f has knows g place q = absurd (no_global_place ((known flat n).copy r) (Some i) g place q)
-    low_cell n o at (cells.ObjectAt r i) f has knows g place q = absurd (no_global_place ((known flat n).copy r) ((known flat n).number i) g place q)
+    low_cell n o at (Cell.Object r i) f has knows g place q = absurd (no_global_place ((known flat n).copy r) (Some i) g place q)
+    low_cell n o at (Cell.ObjectAt r i) f has knows g place q = absurd (no_global_place ((known flat n).copy r) ((known flat n).number i) g place q)
 
     pub low : (n : ℕ) (o : Op) (a : Access) (g place : ℕ) → slice_get flat.lines n ≡ Some o → access o ≡ Some a → place_of (known flat n) a.cell ≡ Some (in_global g place) → 2 ≤ place
     low n o a g place at e q =

@@ -1,20 +1,5 @@
 -- Returns: the variables are given up below the value, which then goes to the first register.
-use Rattle.std.proofs.{Common.{◌≡◌, ◌≢◌, ℕ, ◌+◌, ◌<◌, ◌≤◌, ◌==◌, ◌⊎◌, Bool, true, false, cond, ◌&&◌, ◌||◌, List, [], ◌∷◌, ◌++◌, drop, Some, refl, sym, ap, ◌∙◌, subst, inl, inr, ⊎_elim, arith, append_assoc, eqb-true, pos}, lemmas.Bool.{false≢true, ltb-true, cases_eq, cases_lt, or_parts as either_false}}
-use Rattle.std.specs.Prelude.{nat_eq, nat_lt}
-use Rattle.sharc_tree.specs.{Spans.span_of, Tree.{Expression, value}}
-use Rattle.sharc_names.specs.Kinds.{Kind, object, is_integer, is_integral}
-use Rattle.sharc_code.specs.{declared.instr.Width.Width, Runs.put}
-use Rattle.sharc_code.proofs.Places.{put_same, put_other, put_all}
-use Rattle.sharc_mode.specs.Sharings.{private}
-use Rattle.sharc_meaning.specs.State.{is_reference}
-use Rattle.sharc_flat.specs.{declared.op.Op.Op, declared.op.Spot.Spot, declared.slot.Slot.Slot, Scope.{Context, int_count, ref_count, pops, ends_from, leaves}, Places.{width_of, width_code}, Flattened.{expression_code, zero_code, result_code}}
-use Rattle.sharc_flat.specs.declared.op.Op.TheVariants as op
-use Rattle.sharc_guard.specs.Known.{Know, know_next}
-use Rattle.sharc_invariant.specs.{Types.{StaticType, Mentions}, Labels.{Entry, Empty, Refers, Number, Anything, Exactly, Within, Closed, IsIn, Label, Less, Itself, LessEntry, LessNumber, LessGate, EntryMentions, HasBase, IsScoped, IsFree, set_number, fill, empty, forgets, forgotten, without_copies, without_index, without_base}, Typed.{ints_in, refs_in, moved_copy}}
-use Rattle.sharc_invariant.proofs.Scoped.{less_refl, less_entry_refl, less_number_refl, scoped_number}
-use Rattle.sharc_typed_laws.specs.{Stretches.{Mark, Setting, Way, Tells, Fits, IsLine, AreOpen, LeadsAmong}, Places.{AreLow, mark}, Premises.Typing, Stated.{ValueGoes, RightTypable}, Declared.{StandsBefore, before}, Left.{back, AreNested}, Returned.{GivesBackBy, GivesBack, ReturnedBy, ReturnTypable, Returns, NothingReturns, ValuesReturn}}
-use Rattle.sharc_typed_laws.proofs.{Fitting.fits_same, Standing.{without_same, uncopied}, Telling.{told, other_than}, Rules.on_move, Moves.{on_pop_named, on_move_reference, on_stay}, Handing.on_return, Parts.{At, does, then_do, none, constant_at}, Accessed.Frame, Expressing.{bare_frame, null_at}, Simple.{Comes, reference_kept, number_kept, rights}, Ending.{forgotten_same, forgotten_mentions, forgotten_none}, Declaring.zero_fits, Leaving.leaves_typed, After.forgotten_full}
-use Rattle.sharc_lemmas.proofs.Options.{no_guard as none_some}
+use Rattle.sharc_typed_laws.proofs.{Imports.{◌≡◌, ◌≢◌, ℕ, ◌+◌, ◌<◌, ◌≤◌, ◌==◌, ◌⊎◌, Bool, true, false, cond, ◌&&◌, ◌||◌, List, [], ◌∷◌, ◌++◌, drop, Some, refl, sym, ap, ◌∙◌, subst, inl, inr, ⊎_elim, arith, append_assoc, eqb-true, pos, false≢true, ltb-true, cases_eq, cases_lt, either_false, nat_eq, nat_lt, span_of, Expression, value, Kind, object, is_integer, is_integral, Width, put, put_same, put_other, put_all, private, is_reference, Op, Spot, Slot, Context, int_count, ref_count, pops, ends_from, leaves, width_of, width_code, expression_code, zero_code, result_code, Know, know_next, StaticType, Mentions, Entry, Empty, Refers, Number, Anything, Exactly, Within, Closed, IsIn, Label, Less, Itself, LessEntry, LessNumber, LessGate, EntryMentions, HasBase, IsScoped, IsFree, set_number, fill, empty, forgets, forgotten, without_copies, without_index, without_base, ints_in, refs_in, moved_copy, less_refl, less_entry_refl, less_number_refl, scoped_number, Mark, Setting, Way, Tells, Fits, IsLine, AreOpen, LeadsAmong, AreLow, mark, Typing, ValueGoes, RightTypable, StandsBefore, before, back, AreNested, GivesBackBy, GivesBack, ReturnedBy, ReturnTypable, Returns, NothingReturns, ValuesReturn, none_some}, Fitting.fits_same, Standing.{without_same, uncopied}, Telling.{told, other_than}, Rules.on_move, Moves.{on_pop_named, on_move_reference, on_stay}, Handing.on_return, Parts.{At, does, then_do, none, constant_at}, Accessed.Frame, Expressing.{bare_frame, null_at}, Simple.{Comes, reference_kept, number_kept, rights}, Ending.{forgotten_same, forgotten_mentions, forgotten_none}, Declaring.zero_fits, Leaving.leaves_typed, After.forgotten_full}
 
 -- what is a reference is no integer
 no_integer : (k : Kind) → is_reference k ≡ true → is_integer k ≡ false
@@ -116,10 +101,10 @@ module _ (z : Setting) (f : ℕ) (ways : List Way) where
         copied q false is = ⊎_elim (λ (e : m.same q ≡ q). inl e)
             (λ (k : m.env (m.same q) ≢ Empty). inr (λ e. forgotten_full n (m.env (m.same q)) k (sym (put_other (λ q. forgotten n (m.env q)) n (m.same q) Empty (other_than (m.same q) n is)) ∙ e))) (s.copies q)
 
-    pop : (m : Label) (lo n hi : ℕ) → (n ≡ r → ⊥) → Gone m lo n hi → Q (mark m i i) (op.Pop n ∷ []) (mark (popped m n) i i)
-    pop m lo n hi other h = does z f (AreOpen z ways) no_names 0 none_low i (mark m i i) (op.Pop n) (mark (popped m n) i i) (λ _ s. scoped_popped m lo n hi other h s)
+    pop : (m : Label) (lo n hi : ℕ) → (n ≡ r → ⊥) → Gone m lo n hi → Q (mark m i i) (Op.Pop n ∷ []) (mark (popped m n) i i)
+    pop m lo n hi other h = does z f (AreOpen z ways) no_names 0 none_low i (mark m i i) (Op.Pop n) (mark (popped m n) i i) (λ _ s. scoped_popped m lo n hi other h s)
         (λ table pc in_it s next. on_pop_named z f table pc (mark m i i) (mark (popped m n) i i) next (record { owned = h.owned; scoped = s }) n h.closed (subst (λ o. n < refs_in z.code o) (sym h.owned) in_it) (less_refl (popped m n))
-        (λ _ know t. told z.targets (op.Pop n) know (mark m i i) (mark (popped m n) i i) t (λ q v _ e. absurd (none_some v e))
+        (λ _ know t. told z.targets (Op.Pop n) know (mark m i i) (mark (popped m n) i i) t (λ q v _ e. absurd (none_some v e))
         (λ q a b. put_other (without_copies m.same n) n q n (other_than q n a) ∙ uncopied m.same n q (other_than (m.same q) n b))
         (λ j v _ _ a. absurd (false≢true a)) (λ j v a b _ _. absurd (nowhere i j a b))))
 
@@ -134,11 +119,11 @@ module _ (z : Setting) (f : ℕ) (ways : List Way) where
     ends (x ∷ rest) lo n hi m count le h = by x.is_pointer count (λ n m count h. ends rest lo n hi m count le h)
       where
         by : (b : Bool) → n + cond b (ref_count rest + 1) (ref_count rest) ≡ hi → ((n : ℕ) (m : Label) → n + ref_count rest ≡ hi → Gone m lo n hi → Leaves m (pops n rest) lo hi hi)
-            → Leaves m (cond b (op.Pop n ∷ pops (n + 1) rest) (pops n rest)) lo hi hi
+            → Leaves m (cond b (Op.Pop n ∷ pops (n + 1) rest) (pops n rest)) lo hi hi
         by true count others =
             let other : n ≡ r → ⊥ = λ e. omega (arith, e, count, le) in
             let w = others (n + 1) (popped m n) (omega (arith, count)) (gone_popped m lo n hi other h) in
-            record { label = w.label; gone = w.gone; leads = joins (mark m i i) (mark (popped m n) i i) (mark w.label i i) (op.Pop n ∷ []) (pops (n + 1) rest) (pop m lo n hi other h) w.leads }
+            record { label = w.label; gone = w.gone; leads = joins (mark m i i) (mark (popped m n) i i) (mark w.label i i) (Op.Pop n ∷ []) (pops (n + 1) rest) (pop m lo n hi other h) w.leads }
         by false count others = others n m count h
 
     -- blocks end one after the other
@@ -237,21 +222,21 @@ module _ (z : Setting) (f : ℕ) (ways : List Way) where
     free : IsFree m r
     free = record { paths = λ q ne w. subst (λ x. EntryMentions x r) (rest q ne) w }
 
-    line : (table : ℕ → Mark) (pc : ℕ) → 0 < fr → r < fr → IsScoped fi fr m → Fits z.targets (mark only i i) (table (pc + 1)) → IsLine z f table pc (mark m i i) (op.MoveReference 0 r)
+    line : (table : ℕ → Mark) (pc : ℕ) → 0 < fr → r < fr → IsScoped fi fr m → Fits z.targets (mark only i i) (table (pc + 1)) → IsLine z f table pc (mark m i i) (Op.MoveReference 0 r)
     line table pc low in_it g next = ⊎_elim
-        (λ (e : r ≡ 0). subst (λ n. IsLine z f table pc (mark m i i) (op.MoveReference n r)) e (on_stay z f table pc (mark m i i) (mark only i i) next (record { owned = h.owned; scoped = g }) r h.closed (less_stay e) (λ _ know t. tells r know t)))
+        (λ (e : r ≡ 0). subst (λ n. IsLine z f table pc (mark m i i) (Op.MoveReference n r)) e (on_stay z f table pc (mark m i i) (mark only i i) next (record { owned = h.owned; scoped = g }) r h.closed (less_stay e) (λ _ know t. tells r know t)))
         (λ (ne : r ≡ 0 → ⊥). on_move_reference z f table pc (mark m i i) (mark only i i) next (record { owned = h.owned; scoped = g }) 0 r h.closed
         (record { is = subst (λ o. 0 < refs_in z.code o) (sym h.owned) low; empty = rest 0 (λ e. ne (sym e)) }) (subst (λ o. r < refs_in z.code o) (sym h.owned) in_it) (λ e. ne (sym e)) free
         (λ w. unnamed r (subst (λ x. EntryMentions x r) h.kept w)) less_come (λ _ know t. tells 0 know t)) (cases_eq r 0)
       where
-        tells : (n : ℕ) (know : Know) → Tells z.targets know (mark m i i) → Tells z.targets (know_next (op.MoveReference n r) know) (mark only i i)
-        tells n know t = told z.targets (op.MoveReference n r) know (mark m i i) (mark only i i) t (λ q v _ e. absurd (none_some v e)) (λ q a _. sym (h.same q (other_than q r (either_false (nat_eq q n) (nat_eq q r) a).1)))
+        tells : (n : ℕ) (know : Know) → Tells z.targets know (mark m i i) → Tells z.targets (know_next (Op.MoveReference n r) know) (mark only i i)
+        tells n know t = told z.targets (Op.MoveReference n r) know (mark m i i) (mark only i i) t (λ q v _ e. absurd (none_some v e)) (λ q a _. sym (h.same q (other_than q r (either_false (nat_eq q n) (nat_eq q r) a).1)))
             (λ j v _ _ a. absurd (false≢true a)) (λ j v a b _ _. absurd (nowhere i j a b))
 
-    moves : Q (mark m i i) (op.MoveReference 0 r ∷ []) (mark only i i)
-    moves = does z f (AreOpen z ways) no_names 0 none_low i (mark m i i) (op.MoveReference 0 r) (mark only i i) (λ w g. scoped_only w.0 g) (λ table pc w g next. line table pc w.0 w.1 g next)
+    moves : Q (mark m i i) (Op.MoveReference 0 r ∷ []) (mark only i i)
+    moves = does z f (AreOpen z ways) no_names 0 none_low i (mark m i i) (Op.MoveReference 0 r) (mark only i i) (λ w g. scoped_only w.0 g) (λ table pc w g next. line table pc w.0 w.1 g next)
 
-    returned : (spot : Spot) → (z.signature f).result ≡ Refers s → (z.signature f).result_int ≡ Anything → Returns z f ways (mark m i i) (op.MoveReference 0 r ∷ []) spot
+    returned : (spot : Spot) → (z.signature f).result ≡ Refers s → (z.signature f).result_int ≡ Anything → Returns z f ways (mark m i i) (Op.MoveReference 0 r ∷ []) spot
     returned spot result number = record {
       mark = mark only i i;
       leads = moves;
@@ -269,13 +254,13 @@ module _ (z : Setting) (f : ℕ) (ways : List Way) where
     nothing : (q : ℕ) → m.env q ≡ Empty
     nothing q = ⊎_elim (λ (e : q ≡ r). ap m.env e ∙ h.kept) (λ (ne : q ≡ r → ⊥). h.given q ne (inr (omega arith))) (cases_eq q r)
 
-    moves_number : Q (mark m i i) (op.Move 0 i ∷ []) (mark first i i)
-    moves_number = does z f (AreOpen z ways) no_names 0 none_low i (mark m i i) (op.Move 0 i) (mark first i i) (λ lt g. scoped_number fi fr m 0 (Within w) lt (λ b e. absurd e) g)
+    moves_number : Q (mark m i i) (Op.Move 0 i ∷ []) (mark first i i)
+    moves_number = does z f (AreOpen z ways) no_names 0 none_low i (mark m i i) (Op.Move 0 i) (mark first i i) (λ lt g. scoped_number fi fr m 0 (Within w) lt (λ b e. absurd e) g)
         (λ table pc lt g next. on_move z f table pc (mark m i i) (mark first i i) next 0 i (record { owned = h.owned; scoped = g; closed = h.closed }) (subst (λ o. 0 < ints_in z.code o) (sym h.owned) lt)
         (subst (λ n. Less (set_number m 0 n) first) (sym (h.ints i ∙ is)) (less_refl first))
-        (λ _ know t. told z.targets (op.Move 0 i) know (mark m i i) (mark first i i) t (λ q v a _. absurd (false≢true a)) (λ q _ _. refl) (λ j v a b _ _. absurd (nowhere i j a b)) (λ j v a b _ _. absurd (nowhere i j a b))))
+        (λ _ know t. told z.targets (Op.Move 0 i) know (mark m i i) (mark first i i) t (λ q v a _. absurd (false≢true a)) (λ q _ _. refl) (λ j v a b _ _. absurd (nowhere i j a b)) (λ j v a b _ _. absurd (nowhere i j a b))))
 
-    returned_number : (spot : Spot) → (z.signature f).result ≡ Empty → (z.signature f).result_int ≡ Within w → Returns z f ways (mark m i i) (op.Move 0 i ∷ []) spot
+    returned_number : (spot : Spot) → (z.signature f).result ≡ Empty → (z.signature f).result_int ≡ Within w → Returns z f ways (mark m i i) (Op.Move 0 i ∷ []) spot
     returned_number spot result number = record {
       mark = mark first i i;
       leads = moves_number;
@@ -316,7 +301,7 @@ module _ (z : Setting) (f : ℕ) (ways : List Way) where
         } in
         let w = leave (Refers s) unnamed l.ints bare.2 i1 r1 y d k inside c l nested m (omega arith) start in
         let end = subst (λ n. Gone (Refers s) unnamed l.ints bare.2 i1 r1 w.label n n n) no_refs w.gone in
-        after (mark m i1 i1) (mark w.label i1 i1) (leaves c.scope inside) (op.MoveReference 0 r1 ∷ []) spot w.leads (returned s unnamed l.ints bare.2 i1 r1 w.label end spot result number)
+        after (mark m i1 i1) (mark w.label i1 i1) (leaves c.scope inside) (Op.MoveReference 0 r1 ∷ []) spot w.leads (returned s unnamed l.ints bare.2 i1 r1 w.label end spot result number)
 
     -- after an integer
     gives_number : (v : Width) → (z.signature f).result ≡ Empty → (z.signature f).result_int ≡ Within v → Returns z f ways (mark (set_number l i1 (Within v)) i1 i1) (rest_code false) spot
@@ -336,7 +321,7 @@ module _ (z : Setting) (f : ℕ) (ways : List Way) where
         } in
         let w = leave Empty (λ p e. e) m.ints unbased i1 r1 y d k inside c l nested m (omega arith) start in
         let end = subst (λ n. Gone Empty (λ p e. e) m.ints unbased i1 r1 w.label n n n) no_refs w.gone in
-        after (mark m i1 i1) (mark w.label i1 i1) (leaves c.scope inside) (op.Move 0 i1 ∷ []) spot w.leads (returned_number v m.ints unbased i1 r1 (put_same l.ints i1 (Within v)) w.label end spot result number)
+        after (mark m i1 i1) (mark w.label i1 i1) (leaves c.scope inside) (Op.Move 0 i1 ∷ []) spot w.leads (returned_number v m.ints unbased i1 r1 (put_same l.ints i1 (Within v)) w.label end spot result number)
 
     same_type : (s t : StaticType) → Refers s ≡ Refers t → s ≡ t
     same_type s t e = cc
@@ -392,7 +377,7 @@ module _ (z : Setting) (f : ℕ) (ways : List Way) where
         let there : e.env 0 ≡ Refers h.0 = subst (λ n. put k.env n (Refers h.0) 0 ≡ Refers h.0) (sym no_refs) (put_same k.env 0 (Refers h.0)) in
         record {
           mark = m;
-          leads = subst (λ n. Q (before d k) (op.Null n ∷ []) m) no_refs (null_at z f ways y d low i i r k frame_there h.0 (λ p w. absurd (h.1 p w)));
+          leads = subst (λ n. Q (before d k) (Op.Null n ∷ []) m) no_refs (null_at z f ways y d low i i r k frame_there h.0 (λ p w. absurd (h.1 p w)));
           returns = λ g table pc. on_return z f table pc m (record { owned = here.stands.owned; scoped = g }) spot refl
               (subst (LessEntry e 0 (e.env 0)) (there ∙ sym h.2) (less_entry_refl e 0 (e.env 0)))
               (subst (LessNumber (k.ints 0)) (sym h.3) tt)
@@ -404,7 +389,7 @@ module _ (z : Setting) (f : ℕ) (ways : List Way) where
         let there : e.ints 0 ≡ Exactly (pos 0) = subst (λ n. put k.ints n (Exactly (pos 0)) 0 ≡ Exactly (pos 0)) (sym no_ints) (put_same k.ints 0 (Exactly (pos 0))) in
         record {
           mark = m;
-          leads = subst (λ n. Q (before d k) (op.Constant n (pos 0) ∷ []) m) no_ints (constant_at z f (AreOpen z ways) (y.named d) r low i i r k at (pos 0));
+          leads = subst (λ n. Q (before d k) (Op.Constant n (pos 0) ∷ []) m) no_ints (constant_at z f (AreOpen z ways) (y.named d) r low i i r k at (pos 0));
           returns = λ g table pc. on_return z f table pc m (record { owned = here.stands.owned; scoped = g }) spot refl
               (subst (LessEntry e 0 (e.env 0)) (all_free 0 ∙ sym h.0) (less_entry_refl e 0 (e.env 0)))
               (subst (LessNumber (e.ints 0)) (sym h.1) (subst (λ x. LessNumber x (Within (width_of kind))) (sym there) (zero_fits (width_of kind))))

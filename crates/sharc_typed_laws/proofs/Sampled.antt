@@ -1,15 +1,6 @@
 -- The sample is typed.
-use Rattle.std.proofs.{Common.{◌⊎◌, ◌≡◌, ℕ, pos, zero, suc, ◌+◌, ◌*◌, ◌^◌, ◌<◌, ◌≤◌, Bool, true, false, List, [], ◌∷◌, length, Some, None, refl, sym, ap, ◌∙◌, subst, inl, inr, ⊎_elim, arith}, lemmas.Bool.Decides.nat_tests, lemmas.Option.{same_Some, none-some}}
-use Rattle.std.specs.Prelude.{slice_get, slice_index, slice_index_or, nat_lt, nat_eq, if◌then◌else◌}
-use Rattle.sharc_code.specs.{declared.code.Code.Code, declared.code.GlobalCells.GlobalCells, declared.instr.Width.Width, declared.instr.Width.TheVariants.{Int, Long}, Machine.{function_of, no_function}, Says.no_global}
-use Rattle.sharc_code.specs.declared.instr.Cell.TheVariants as cells
-use Rattle.sharc_flat.specs.{declared.op.Op.Op, Machine.{function_of as flat_function}}
-use Rattle.sharc_flat.specs.declared.op.Op.TheVariants as op
-use Rattle.sharc_guard.specs.Known.{SimplePlace, in_global, Access, access, place_of, known}
-use Rattle.sharc_invariant.specs.{Types.{AreTargets, StaticType, ObjectType, Field, CellMode, field_at, field_in, field_of_cell, global_field, mode_in, mode_at, type_in, is_private, is_pointer, is_mutex, no_field}, Types.FieldMode.{Racy, Dynamic}, Types.Content.{Integer, Pointer}, Labels.{Exactly, Closed, Pass, IsIn, Label, Labels, Less, IsScoped}, Typed.{AreGlobals, Initial, MayStart, IsInGlobal, refs_in, ints_in, entry_label}}
-use Rattle.sharc_invariant.proofs.Scoped.{less_refl, scoped_number}
-use Rattle.sharc_typed_laws.specs.{Inside.passed_behind, Lines.{PassesCheck, TypedLine, MayPass, To}, Passes.{passes_in, passes_before, with_passes, with_all, remembered, IsPassed, RepeatsCheck, TypedAnyhow, Knows}, Sample.{the_spot, the_write, the_global, the_flat, the_field, the_targets, the_first, the_second, the_third, the_starts, the_labels, IsSampleCode, SampleStands}}
-use Rattle.sharc_code.specs.declared.code.Parameter.TheVariants as parameters
+use Rattle.sharc_typed_laws.proofs.Imports.{◌⊎◌, ◌≡◌, ℕ, pos, zero, suc, ◌+◌, ◌*◌, ◌^◌, ◌<◌, ◌≤◌, Bool, true, false, List, [], ◌∷◌, length, Some, None, refl, sym, ap, ◌∙◌, subst, inl, inr, ⊎_elim, arith, nat_tests, same_Some, none-some, slice_get, slice_index, slice_index_or, nat_lt, nat_eq, if◌then◌else◌, Code, GlobalCells, Width, Int, Long, function_of, no_function, no_global, Cell, Op, flat_function, SimplePlace, Access, access, place_of, known, AreTargets, StaticType, ObjectType, Field, CellMode, field_at, field_in, field_of_cell, global_field, mode_in, mode_at, type_in, is_private, is_pointer, is_mutex, no_field, Racy, Dynamic, Integer, Pointer, Exactly, Closed, Pass, IsIn, Label, Labels, Less, IsScoped, AreGlobals, Initial, MayStart, IsInGlobal, refs_in, ints_in, entry_label, less_refl, scoped_number, passed_behind, PassesCheck, TypedLine, MayPass, To, passes_in, passes_before, with_passes, with_all, remembered, IsPassed, RepeatsCheck, TypedAnyhow, Knows, the_spot, the_write, the_global, the_flat, the_field, the_targets, the_first, the_second, the_third, the_starts, the_labels, IsSampleCode, SampleStands, Parameter}
+use Rattle.sharc_guard.specs.Known.{in_global}
 
 -- ---- the table
 record Simple (f : Field) : Type 0 where
@@ -101,10 +92,10 @@ module _ (code : Code) (is : IsSampleCode code) where
   abbrev T : ℕ → Op → Type 0
   T = TypedAnyhow the_targets code the_labels 6
 
-  access_of : (ls : Labels) (d : Bool) (ps : List Pass) → (d ≡ true → IsPassed the_targets the_second ps true (cells.Global 0 2)) → PassesCheck the_targets code ls d (with_passes the_second ps) true (cells.Global 0 2) the_spot the_field
+  access_of : (ls : Labels) (d : Bool) (ps : List Pass) → (d ≡ true → IsPassed the_targets the_second ps true (Cell.Global 0 2)) → PassesCheck the_targets code ls d (with_passes the_second ps) true (Cell.Global 0 2) the_spot the_field
   access_of ls d ps repeats = record { cell = record { field = (in_global_there, refl); base = tt }; mode = refl; may = may d repeats }
     where
-      may : (d : Bool) → (d ≡ true → IsPassed the_targets the_second ps true (cells.Global 0 2)) → MayPass the_targets code ls d (with_passes the_second ps) true (cells.Global 0 2) (cells.Global 0 0) (Integer Int) Dynamic
+      may : (d : Bool) → (d ≡ true → IsPassed the_targets the_second ps true (Cell.Global 0 2)) → MayPass the_targets code ls d (with_passes the_second ps) true (Cell.Global 0 2) (Cell.Global 0 0) (Integer Int) Dynamic
       may true repeats = let h = repeats refl in (refl, record { pass = h.pass; among = h.among; covers = h.covers; place = h.place; integer = refl })
       may false repeats = refl
 
@@ -116,16 +107,16 @@ module _ (code : Code) (is : IsSampleCode code) where
     access = access_of ls d ps repeats;
     holds = refl;
     fits = refl;
-    next = over the_second the_second.known (passed_behind the_targets d (with_passes the_second ps) true (cells.Global 0 2) the_spot.mode) qs on;
+    next = over the_second the_second.known (passed_behind the_targets d (with_passes the_second ps) true (Cell.Global 0 2) the_spot.mode) qs on;
   }
 
   line : (n : ℕ) (o : Op) → slice_get the_flat.lines n ≡ Some o → T n o
-  line zero o e = subst (T 0) (same_Some op.Enter o e) (λ d passes repeats jumps on. over the_first the_first.known (passes 0) (passes 1) on)
-  line (suc zero) o e = subst (T 1) (same_Some (op.Constant 0 (pos 1)) o e) (λ d passes repeats jumps on. (refl, few_ints, over the_second the_second.known (passes 1) (passes 2) on))
+  line zero o e = subst (T 0) (same_Some Op.Enter o e) (λ d passes repeats jumps on. over the_first the_first.known (passes 0) (passes 1) on)
+  line (suc zero) o e = subst (T 1) (same_Some (Op.Constant 0 (pos 1)) o e) (λ d passes repeats jumps on. (refl, few_ints, over the_second the_second.known (passes 1) (passes 2) on))
   line (suc (suc zero)) o e = subst (T 2) (same_Some the_write o e) (λ d passes repeats jumps on. writes (with_all the_labels.lines passes) 2 (the_labels.replaced 2) d (passes 2) (passes 3) repeats on)
   line (suc (suc (suc zero))) o e = subst (T 3) (same_Some the_write o e) (λ d passes repeats jumps on. writes (with_all the_labels.lines passes) 3 (the_labels.replaced 3) d (passes 3) (passes 4) repeats on)
-  line (suc (suc (suc (suc zero)))) o e = subst (T 4) (same_Some (op.Constant 0 (pos 0)) o e) (λ d passes repeats jumps on. (refl, few_ints, over the_third the_third.known (passes 4) (passes 5) on))
-  line (suc (suc (suc (suc (suc zero))))) o e = subst (T 5) (same_Some (op.Return the_spot) o e) (λ d passes repeats jumps on. (refl, (0, refl, record { result = refl; result_int = tt; empty = λ r ne. refl })))
+  line (suc (suc (suc (suc zero)))) o e = subst (T 4) (same_Some (Op.Constant 0 (pos 0)) o e) (λ d passes repeats jumps on. (refl, few_ints, over the_third the_third.known (passes 4) (passes 5) on))
+  line (suc (suc (suc (suc (suc zero))))) o e = subst (T 5) (same_Some (Op.Return the_spot) o e) (λ d passes repeats jumps on. (refl, (0, refl, record { result = refl; result_int = tt; empty = λ r ne. refl })))
   line (suc (suc (suc (suc (suc (suc n)))))) o e = absurd (none-some o e)
 
   -- ---- what is known
@@ -133,12 +124,12 @@ module _ (code : Code) (is : IsSampleCode code) where
   knows_write n a e = subst (λ (a : Access). Knows the_targets (known the_flat n) (the_labels.lines.at n) a.cell) (same_Some _ a e) tt
 
   knows : (n : ℕ) (o : Op) (a : Access) → slice_get the_flat.lines n ≡ Some o → access o ≡ Some a → Knows the_targets (known the_flat n) (the_labels.lines.at n) a.cell
-  knows zero o a at e = absurd (none-some a (ap access (same_Some op.Enter o at) ∙ e))
-  knows (suc zero) o a at e = absurd (none-some a (ap access (same_Some (op.Constant 0 (pos 1)) o at) ∙ e))
+  knows zero o a at e = absurd (none-some a (ap access (same_Some Op.Enter o at) ∙ e))
+  knows (suc zero) o a at e = absurd (none-some a (ap access (same_Some (Op.Constant 0 (pos 1)) o at) ∙ e))
   knows (suc (suc zero)) o a at e = knows_write 2 a (ap access (same_Some the_write o at) ∙ e)
   knows (suc (suc (suc zero))) o a at e = knows_write 3 a (ap access (same_Some the_write o at) ∙ e)
-  knows (suc (suc (suc (suc zero)))) o a at e = absurd (none-some a (ap access (same_Some (op.Constant 0 (pos 0)) o at) ∙ e))
-  knows (suc (suc (suc (suc (suc zero))))) o a at e = absurd (none-some a (ap access (same_Some (op.Return the_spot) o at) ∙ e))
+  knows (suc (suc (suc (suc zero)))) o a at e = absurd (none-some a (ap access (same_Some (Op.Constant 0 (pos 0)) o at) ∙ e))
+  knows (suc (suc (suc (suc (suc zero))))) o a at e = absurd (none-some a (ap access (same_Some (Op.Return the_spot) o at) ∙ e))
   knows (suc (suc (suc (suc (suc (suc n)))))) o a at e = absurd (none-some o at)
 
   abbrev Bases : List Pass → Type 0
@@ -197,12 +188,12 @@ module _ (code : Code) (is : IsSampleCode code) where
   owned _ lt = (0, refl)
 
   low : (n : ℕ) (o : Op) (a : Access) (g place : ℕ) → slice_get the_flat.lines n ≡ Some o → access o ≡ Some a → place_of (known the_flat n) a.cell ≡ Some (in_global g place) → 2 ≤ place
-  low zero o a g place at e = absurd (none-some a (ap access (same_Some op.Enter o at) ∙ e))
-  low (suc zero) o a g place at e = absurd (none-some a (ap access (same_Some (op.Constant 0 (pos 1)) o at) ∙ e))
+  low zero o a g place at e = absurd (none-some a (ap access (same_Some Op.Enter o at) ∙ e))
+  low (suc zero) o a g place at e = absurd (none-some a (ap access (same_Some (Op.Constant 0 (pos 1)) o at) ∙ e))
   low (suc (suc zero)) o a g place at e = low_at 2 a g place (ap access (same_Some the_write o at) ∙ e)
   low (suc (suc (suc zero))) o a g place at e = low_at 3 a g place (ap access (same_Some the_write o at) ∙ e)
-  low (suc (suc (suc (suc zero)))) o a g place at e = absurd (none-some a (ap access (same_Some (op.Constant 0 (pos 0)) o at) ∙ e))
-  low (suc (suc (suc (suc (suc zero))))) o a g place at e = absurd (none-some a (ap access (same_Some (op.Return the_spot) o at) ∙ e))
+  low (suc (suc (suc (suc zero)))) o a g place at e = absurd (none-some a (ap access (same_Some (Op.Constant 0 (pos 0)) o at) ∙ e))
+  low (suc (suc (suc (suc (suc zero))))) o a g place at e = absurd (none-some a (ap access (same_Some (Op.Return the_spot) o at) ∙ e))
   low (suc (suc (suc (suc (suc (suc n)))))) o a g place at e = absurd (none-some o at)
 
   entries : (f : ℕ) → f < 1 → To the_labels.lines 6 (flat_function the_flat f).entry (entry_label the_labels.lines f)
@@ -218,7 +209,7 @@ module _ (code : Code) (is : IsSampleCode code) where
     closed = λ q h. h;
     number = λ ne. refl;
     numbers = λ i ne. refl;
-    frame = λ p. let q : parameters.None ≡ parameters.Reference = sym (ap (λ fs. (slice_index_or fs 0 no_function).parameter) is.functions) ∙ p in absurd (cc);
+    frame = λ p. let q : Parameter.None ≡ Parameter.Reference = sym (ap (λ fs. (slice_index_or fs 0 no_function).parameter) is.functions) ∙ p in absurd (cc);
     frame_int = λ p. few_ints;
   }
   starts (suc f) e = absurd (cc)

@@ -1,16 +1,5 @@
 -- What is known within a piece names registers of its frame that hold something.
-use Rattle.std.proofs.{Common.{◌≡◌, ◌≢◌, ◌<◌, ◌+◌, ◌*◌, ℕ, Bool, true, false, List, ◌++◌, Option, Some, None, refl, sym, ap, ◌∙◌, subst, inl, ⊎_elim}, lemmas.Option.{same_Some, none-some}}
-use Rattle.std.specs.List.{AllByRecursion}
-use Rattle.sharc_code.specs.{declared.code.Code.Code, declared.code.PlaceMode.PlaceMode, declared.instr.Cell.Cell}
-use Rattle.sharc_code.specs.declared.code.PlaceMode.TheVariants as modes
-use Rattle.sharc_code.specs.declared.instr.Cell.TheVariants as cells
-use Rattle.sharc_code.proofs.Places.{put_all, put_other}
-use Rattle.sharc_flat.specs.{declared.op.Op.Op, declared.op.Spot.Spot}
-use Rattle.sharc_flat.specs.declared.op.Op.TheVariants as op
-use Rattle.sharc_invariant.specs.{Types.{Targets, StaticType, Field, FieldMode, Mentions, cells_of}, Types.FieldMode.{Private, Readonly, Racy, Dynamic, Under}, Labels.{Entry, Empty, Refers, Nth, Number, OfElement, OfGlobal, Gate, Loaded, Sole, Pass, IsIn, Label, Labels, IsScoped, EntryMentions, empty, without_base}, Typed.{HasField, IsMode, knows_base, ints_in, refs_in}}
-use Rattle.sharc_invariant.proofs.{Frames.kept_pass, Scoped.{scoped_gate, scoped_fill, scoped_empty}}
-use Rattle.sharc_typed_laws.specs.{Inside.{global_pass, global_element_pass, element_pass, pass_of, with_pass, known_behind, passed_behind, behind, before_check, lock_of, exchanged, inside}, Lines.{PassesCheck, MayPass, TypedLine}}
-use Rattle.sharc_typed_laws.proofs.Checking.{global_is}
+use Rattle.sharc_typed_laws.proofs.{Imports.{◌≡◌, ◌≢◌, ◌<◌, ◌+◌, ◌*◌, ℕ, Bool, true, false, List, ◌++◌, Option, Some, None, refl, sym, ap, ◌∙◌, subst, inl, ⊎_elim, same_Some, none-some, AllByRecursion, Code, PlaceMode, Cell, put_all, put_other, Op, Spot, Targets, StaticType, Field, FieldMode, Mentions, cells_of, Private, Readonly, Racy, Dynamic, Under, Entry, Empty, Refers, Nth, Number, OfElement, OfGlobal, Gate, Loaded, Sole, Pass, IsIn, Label, Labels, IsScoped, EntryMentions, empty, without_base, HasField, IsMode, knows_base, ints_in, refs_in, kept_pass, scoped_gate, scoped_fill, scoped_empty, global_pass, global_element_pass, element_pass, pass_of, with_pass, known_behind, passed_behind, behind, before_check, lock_of, exchanged, inside, PassesCheck, MayPass, TypedLine}, Checking.global_is}
 
 -- other things are known of NULL and of checks
 pub over : (ints refs : ℕ) (l : Label) (known : ℕ → Bool) (gate : Gate) (passed : List Pass) → IsScoped ints refs l → ((r : ℕ) → known r ≡ true → l.env r ≢ Empty)
@@ -23,13 +12,13 @@ refers_some e s is none = let z : Refers s ≡ Empty = sym is ∙ none in cc
 module _ (x : Targets) (code : Code) (ints refs : ℕ) (l : Label) (h : IsScoped ints refs l) where
   -- ---- a mutex is looked at
   knows_scoped : (m : Cell) (f : Field) → HasField x code l m f → (r : ℕ) → (knows_base l m).known r ≡ true → l.env r ≢ Empty
-  knows_scoped (cells.Object q i) f has r e = put_all (λ r (b : Bool). b ≡ true → l.env r ≢ Empty) l.known q true (λ _. refers_some (l.env q) has.1.0 has.1.1) (λ r _ e. h.known r e) r e
-  knows_scoped (cells.ObjectAt q i) f has r e = put_all (λ r (b : Bool). b ≡ true → l.env r ≢ Empty) l.known q true (λ _. refers_some (l.env q) has.1.0 has.1.3) (λ r _ e. h.known r e) r e
+  knows_scoped (Cell.Object q i) f has r e = put_all (λ r (b : Bool). b ≡ true → l.env r ≢ Empty) l.known q true (λ _. refers_some (l.env q) has.1.0 has.1.1) (λ r _ e. h.known r e) r e
+  knows_scoped (Cell.ObjectAt q i) f has r e = put_all (λ r (b : Bool). b ≡ true → l.env r ≢ Empty) l.known q true (λ _. refers_some (l.env q) has.1.0 has.1.3) (λ r _ e. h.known r e) r e
   knows_scoped _ f has r e = h.known r e
 
   by_lock : (spot : Spot) (mode : PlaceMode) (f : Field) → HasField x code l (lock_of spot mode) f → (r : ℕ) → known_behind l spot mode r ≡ true → l.env r ≢ Empty
-  by_lock spot (modes.LockedSibling a b) f has r e = knows_scoped spot.lock f has r e
-  by_lock spot (modes.LockedThrough q p) f has r e = knows_scoped (cells.Object q p) f has r e
+  by_lock spot (PlaceMode.LockedSibling a b) f has r e = knows_scoped spot.lock f has r e
+  by_lock spot (PlaceMode.LockedThrough q p) f has r e = knows_scoped (Cell.Object q p) f has r e
   by_lock spot _ f has r e = h.known r e
 
   abbrev KnownScoped : Spot → PlaceMode → Type 0
@@ -66,19 +55,19 @@ module _ (x : Targets) (code : Code) (ints refs : ℕ) (l : Label) (h : IsScoped
   by_element write r full _ _ p is = absurd (none-some p is)
 
   pass_scoped : (write : Bool) (c : Cell) (f : Field) → HasField x code l c f → (p : Pass) → pass_of x l write c ≡ Some p → PassScoped p
-  pass_scoped write (cells.Global g q) f has p e = by_global write q p e
-  pass_scoped write (cells.GlobalAt g i) f has p e = by_global_element write (l.ints i) p e
-  pass_scoped write (cells.Object r i) f has p e =
+  pass_scoped write (Cell.Global g q) f has p e = by_global write q p e
+  pass_scoped write (Cell.GlobalAt g i) f has p e = by_global_element write (l.ints i) p e
+  pass_scoped write (Cell.Object r i) f has p e =
       let same = same_Some (record { write = write; base = Some (l.same r); cell = i }) p e in
       λ q base. by_base p r q (refers_some (l.env r) has.1.0 has.1.1) (ap (λ (p : Pass). p.base) same) base
-  pass_scoped write (cells.ObjectAt r i) f has p e = by_element write r (refers_some (l.env r) has.1.0 has.1.3) (l.env r) (l.ints i) p e
+  pass_scoped write (Cell.ObjectAt r i) f has p e = by_element write r (refers_some (l.env r) has.1.0 has.1.3) (l.env r) (l.ints i) p e
 
   with_pass_scoped : (o : Option Pass) → ((p : Pass) → o ≡ Some p → PassScoped p) → (p : Pass) (r : ℕ) → IsIn p (with_pass o l.passed) → p.base ≡ Some r → l.env r ≢ Empty
   with_pass_scoped None new p r among = h.passes p r among
   with_pass_scoped (Some q) new p r among = ⊎_elim (λ (e : q ≡ p). new p (ap Some e) r) (λ k. h.passes p r k) among
 
   passes_scoped : (dropped write : Bool) (c : Cell) (f : Field) → HasField x code l c f → (mode : PlaceMode) (p : Pass) (r : ℕ) → IsIn p (passed_behind x dropped l write c mode) → p.base ≡ Some r → l.env r ≢ Empty
-  passes_scoped false write c f has modes.Dynamic = with_pass_scoped (pass_of x l write c) (pass_scoped write c f has)
+  passes_scoped false write c f has PlaceMode.Dynamic = with_pass_scoped (pass_of x l write c) (pass_scoped write c f has)
   passes_scoped dropped write c f has mode = h.passes
 
   -- ---- behind a check
@@ -87,13 +76,13 @@ module _ (x : Targets) (code : Code) (ints refs : ℕ) (l : Label) (h : IsScoped
       over ints refs l _ _ _ h (known_scoped ls dropped write c spot f spot.mode f.mode k.mode k.may) (passes_scoped dropped write c f k.cell.field spot.mode)
 
   check_scoped : (dropped : Bool) (mode : PlaceMode) (labels : List Label) → AllByRecursion (IsScoped ints refs) labels → AllByRecursion (IsScoped ints refs) (before_check dropped l mode ++ labels)
-  check_scoped true modes.Private labels k = k
-  check_scoped true modes.Readonly labels k = k
-  check_scoped true modes.Racy labels k = k
-  check_scoped true modes.Dynamic labels k = k
-  check_scoped false modes.Private labels k = k
-  check_scoped false modes.Readonly labels k = k
-  check_scoped false modes.Racy labels k = k
+  check_scoped true PlaceMode.Private labels k = k
+  check_scoped true PlaceMode.Readonly labels k = k
+  check_scoped true PlaceMode.Racy labels k = k
+  check_scoped true PlaceMode.Dynamic labels k = k
+  check_scoped false PlaceMode.Private labels k = k
+  check_scoped false PlaceMode.Readonly labels k = k
+  check_scoped false PlaceMode.Racy labels k = k
   check_scoped _ _ labels k = (h, k)
 
   tested_scoped : (r : ℕ) (gate : Gate) → IsScoped ints refs (record l { gate = gate; passed = without_base r l.passed })
@@ -109,21 +98,21 @@ module _ (x : Targets) (code : Code) (ints refs : ℕ) (l : Label) (h : IsScoped
 pub scoped : (x : Targets) (code : Code) (ls : Labels) (lines : ℕ) (dropped : Bool) (type : StaticType) (n : ℕ) (l k : Label) (o : Op)
     → IsScoped (ints_in code l.function) (refs_in code l.function) l → TypedLine x code ls lines dropped type n l k o
     → AllByRecursion (IsScoped (ints_in code l.function) (refs_in code l.function)) (inside x dropped type o l)
-scoped x code ls lines dropped type n l k op.Enter h t = tt
-scoped x code ls lines dropped type n l k op.BlockEnd h t = tt
-scoped x code ls lines dropped type n l k (op.Settle to from) h t = (h, (scoped_empty _ _ l to t.target_free.paths h, tt))
-scoped x code ls lines dropped type n l k (op.Load i c spot) h t =
+scoped x code ls lines dropped type n l k Op.Enter h t = tt
+scoped x code ls lines dropped type n l k Op.BlockEnd h t = tt
+scoped x code ls lines dropped type n l k (Op.Settle to from) h t = (h, (scoped_empty _ _ l to t.target_free.paths h, tt))
+scoped x code ls lines dropped type n l k (Op.Load i c spot) h t =
     check_scoped x code _ _ l h dropped spot.mode _ (behind_scoped x code _ _ l h ls dropped false c spot t.field t.access, tt)
-scoped x code ls lines dropped type n l k (op.Store i c spot) h t =
+scoped x code ls lines dropped type n l k (Op.Store i c spot) h t =
     check_scoped x code _ _ l h dropped spot.mode _ (behind_scoped x code _ _ l h ls dropped true c spot t.field t.access, tt)
-scoped x code ls lines dropped type n l k (op.LoadRef r c spot) h t =
+scoped x code ls lines dropped type n l k (Op.LoadRef r c spot) h t =
     let b = behind_scoped x code _ _ l h ls false false c spot t.field t.access in
     check_scoped x code _ _ l h false spot.mode _ (b, (scoped_gate _ _ (behind x false l false c spot) (Loaded c) b, tt))
-scoped x code ls lines dropped type n l k (op.TakeCell r c spot) h t =
+scoped x code ls lines dropped type n l k (Op.TakeCell r c spot) h t =
     check_scoped x code _ _ l h false spot.mode _ (behind_scoped x code _ _ l h ls false true c spot t.field t.access, tt)
-scoped x code ls lines dropped type n l k (op.StoreRef r c spot) h t =
+scoped x code ls lines dropped type n l k (Op.StoreRef r c spot) h t =
     let b = behind_scoped x code _ _ l h ls false true c spot t.field t.access in
     check_scoped x code _ _ l h false spot.mode _ (b, (exchanged_scoped x code _ _ l h (behind x false l true c spot) r type b refl t.register t.free.paths t.other t.paths, tt))
-scoped x code ls lines dropped type n l k (op.Give r cells spot) h t = (h, (tested_scoped x code _ _ l h r (Sole r false), (tested_scoped x code _ _ l h r (Sole r true), tt)))
-scoped x code ls lines dropped type n l k (op.Free r layout spot) h t = (h, (tested_scoped x code _ _ l h r (Sole r false), tt))
+scoped x code ls lines dropped type n l k (Op.Give r cells spot) h t = (h, (tested_scoped x code _ _ l h r (Sole r false), (tested_scoped x code _ _ l h r (Sole r true), tt)))
+scoped x code ls lines dropped type n l k (Op.Free r layout spot) h t = (h, (tested_scoped x code _ _ l h r (Sole r false), tt))
 scoped x code ls lines dropped type n l k o h t = (h, tt)

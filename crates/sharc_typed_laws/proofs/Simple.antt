@@ -1,19 +1,5 @@
 -- Assignments, and calls whose value is dropped.
-use Rattle.std.proofs.{Common.{◌≡◌, ℕ, ◌+◌, ◌<◌, ◌≤◌, ◌⊎◌, Bool, true, false, cond, List, [], ◌∷◌, ◌++◌, Option, Some, None, refl, sym, ap, ◌∙◌, subst, inl, ⊎_elim, arith, pos}, lemmas.Bool.{false≢true, cases_eq}}
-use Rattle.sharc_tree.specs.{declared.token.Site.Site, Spans.span_of, Tree.{Expression, Right, value, malloc, Simple, assign, does_call}}
-use Rattle.sharc_names.specs.Kinds.{Kind, is_integer, declared_kind}
-use Rattle.sharc_code.specs.{declared.instr.Register.Register, declared.instr.Width.Width, Runs.put}
-use Rattle.sharc_code.specs.declared.instr.Register.TheVariants as registers
-use Rattle.sharc_code.proofs.Places.{put_same, put_other, put_all}
-use Rattle.sharc_mode.specs.{Cells.pointed, Rows.row_at, Sharings.Sharing}
-use Rattle.sharc_meaning.specs.{Cells.element_cells, State.is_reference}
-use Rattle.sharc_flat.specs.{declared.op.Op.Op, declared.op.Spot.Spot, declared.slot.Lvalue.Lvalue, Scope.{Context, int_count, ref_count, register_of, at_site}, Places.{Target, variable, in_global, in_global_at, in_object, in_object_at, base_width, index_width, width_of, width_code, store_code, cell_store_code, settle_code}, Flattened.{kind_of, is_ref, target_of, mode_of, lvalue_in, guard_of, expression_code, place_code, elements_code, right_code, simple_code, drop_code}, Suits.is_cell}
-use Rattle.sharc_flat.specs.declared.op.Op.TheVariants as op
-use Rattle.sharc_invariant.specs.{Types.StaticType, Labels.{Refers, Element, Number, Exactly, Within, OfElement, Closed, Label, LessNumber, fill, set_number}, Typed.{ints_in, refs_in}}
-use Rattle.sharc_invariant.proofs.Scoped.{less_entry_refl, less_number_refl, scoped_fill}
-use Rattle.sharc_typed_laws.specs.{Passes.IsNumberOf, Stretches.{Mark, Setting, Way, AreOpen}, Places.{IsNamed, IsPlain, AreLow, mark}, Premises.{Typing, IsPointerCopy, Ground, number_in_global}, Typable.{IsBare, IsTypeIn, ground_of, IsTypable}, Stated.{IsMade, CountTypable, ValueGoes, RightTypable, VariableAssigned, CellAssigned, Assigned, Dropped, SimpleTypable}}
-use Rattle.sharc_typed_laws.proofs.{Fitting.fits_same, Losing.{with_copies, Loses, loses_none, loses_both, kept, below, loses_below, loses_there, small_there, lost_fill, pointer_kept}, Standing.{less_by, scoped_frame}, Telling.{told, other_than}, Moves.on_new, Parts.{P, does, then_do, none, enter, constant_at, positive_at, pop_at, same_number, number_dropped, width_at, with_number}, Values.over, Variables.{assign_at, assign_number_at}, Accessed.{Frame, ints_of, placed, int_store, reference_store}, Expressing.{Done, Value, PlaceValue, expressions, places, int_of, ref_of, in_frame, taken_number, lost_frame, frame_fill, frame_number, plain_frame}}
-use Rattle.sharc_lemmas.proofs.Options.{no_guard as none_some}
+use Rattle.sharc_typed_laws.proofs.{Imports.{◌≡◌, ℕ, ◌+◌, ◌<◌, ◌≤◌, ◌⊎◌, Bool, true, false, cond, List, [], ◌∷◌, ◌++◌, Option, Some, None, refl, sym, ap, ◌∙◌, subst, inl, ⊎_elim, arith, pos, false≢true, cases_eq, Site, span_of, Expression, Right, value, malloc, Simple, assign, does_call, Kind, is_integer, declared_kind, Register, Width, put, put_same, put_other, put_all, pointed, row_at, Sharing, element_cells, is_reference, Op, Spot, Lvalue, Context, int_count, ref_count, register_of, at_site, Target, variable, in_global, in_global_at, in_object, in_object_at, base_width, index_width, width_of, width_code, store_code, cell_store_code, settle_code, kind_of, is_ref, target_of, mode_of, lvalue_in, guard_of, expression_code, place_code, elements_code, right_code, simple_code, drop_code, is_cell, StaticType, Refers, Element, Number, Exactly, Within, OfElement, Closed, Label, LessNumber, fill, set_number, ints_in, refs_in, less_entry_refl, less_number_refl, scoped_fill, IsNumberOf, Mark, Setting, Way, AreOpen, IsNamed, IsPlain, AreLow, mark, Typing, IsPointerCopy, Ground, number_in_global, IsBare, IsTypeIn, ground_of, IsTypable, IsMade, CountTypable, ValueGoes, RightTypable, VariableAssigned, CellAssigned, Assigned, Dropped, SimpleTypable, none_some}, Fitting.fits_same, Losing.{with_copies, Loses, loses_none, loses_both, kept, below, loses_below, loses_there, small_there, lost_fill, pointer_kept}, Standing.{less_by, scoped_frame}, Telling.{told, other_than}, Moves.on_new, Parts.{P, does, then_do, none, enter, constant_at, positive_at, pop_at, same_number, number_dropped, width_at, with_number}, Values.over, Variables.{assign_at, assign_number_at}, Accessed.{Frame, ints_of, placed, int_store, reference_store}, Expressing.{Done, Value, PlaceValue, expressions, places, int_of, ref_of, in_frame, taken_number, lost_frame, frame_fill, frame_number, plain_frame}}
 
 module _ (around : Setting) (f : ℕ) (ways : List Way) (y : Typing) (c : Context) (low : AreLow (y.named c) (ref_count c.scope)) where
   abbrev D : (ℕ → Mark) → Type 0
@@ -36,19 +22,19 @@ module _ (around : Setting) (f : ℕ) (ways : List Way) (y : Typing) (c : Contex
 
   -- ---- a new object
   new_at : (from i r : ℕ) (l : Label) (fr : F from i r l) (n : Number) → IsPlain n → (s : StaticType) → IsTypeIn around f y c s → (size : ℕ) (spot : Spot) → IsMade around f y s spot.site.token size
-      → Q from (with_number around f D N top low from l i n) (op.New r i size spot ∷ []) (mark (fill l r (Refers s) r false) from i)
+      → Q from (with_number around f D N top low from l i n) (Op.New r i size spot ∷ []) (mark (fill l r (Refers s) r false) from i)
   new_at from i r l fr n plain s type size spot made =
       let fits = in_frame around f ways y c low from i r l fr s type in
       let k = set_number l i n in
       let t = fill l r (Refers s) r false in
       let m = fill k r (Refers s) r true in
-      does around f D N top low from (mark k from (i + 1)) (op.New r i size spot) (mark t from i)
+      does around f D N top low from (mark k from (i + 1)) (Op.New r i size spot) (mark t from i)
       (λ in_it h. scoped_fill (ints_in around.code (Some f)) (refs_in around.code (Some f)) l r s r false in_it (λ q z. fr.at.stands.full q (fits q z).0) (inl refl)
       (scoped_frame N i r l fr.at.stands (ints_in around.code (Some f)) (refs_in around.code (Some f)) h.few (λ j ge. ⊎_elim (λ (e : j ≡ i). fr.at.stands.numbers j (omega (arith, e))) (λ (ne : j ≡ i → ⊥). sym (put_other l.ints i j n ne) ∙ h.numbers j ge) (cases_eq j i))))
       (λ table pc in_it h next. on_new around f table pc (mark k from (i + 1)) (mark t from i) next (record { owned = fr.at.owned; scoped = h }) r i size spot s refl
       (record { is = subst (λ o. r < refs_in around.code o) (sym fr.at.owned) in_it; empty = fr.at.stands.free r (omega arith) }) made.some made.row made.cells made.few made.pointers (λ z. let w = (fits r z).0 in omega (arith, w))
       (less_by m t refl (λ q. less_entry_refl m q (put l.env r (Refers s) q)) (λ q. refl) (λ q e. known q e) (λ j. numbers j) tt fr.at.stands.nothing_passed (λ e. e))
-      (λ _ know h2. told around.targets (op.New r i size spot) know (mark k from (i + 1)) (mark t from i) h2 (λ q v _ e. absurd (none_some v e)) (λ q a _. put_other l.same r q r (other_than q r a)) (λ j x _ _ a. absurd (false≢true a))
+      (λ _ know h2. told around.targets (Op.New r i size spot) know (mark k from (i + 1)) (mark t from i) h2 (λ q v _ e. absurd (none_some v e)) (λ q a _. put_other l.same r q r (other_than q r a)) (λ j x _ _ a. absurd (false≢true a))
       (λ j x a b _ e. same_number around f D N top low from k t x (l.ints j) (λ q z. put_other l.env r q (Refers s) (λ w. let lt = fr.at.stands.bases j q z in omega (arith, w, lt)))
       (subst (IsNumberOf around.targets k x) (put_other l.ints i j n (λ w. omega (arith, w, b))) (h2.numbers j x a (omega (arith, b)) e)))))
     where
@@ -110,7 +96,7 @@ module _ (around : Setting) (f : ℕ) (ways : List Way) (y : Typing) (c : Contex
             copy = w.copy;
             small = w.small;
             piece = joins from (mark l from i) end end (expression_code c i r e) (width_code i kind (span_of e).first) w.piece
-                (subst (λ b. Q from end (cond b (op.ChkWidth (width_of kind) i (at_site (span_of e).first) ∷ []) []) end) (sym h.2) (none around f D N top low from end end (fits_same around.targets end) (λ z. z)));
+                (subst (λ b. Q from end (cond b (Op.ChkWidth (width_of kind) i (at_site (span_of e).first) ∷ []) []) end) (sym h.2) (none around f D N top low from end end (fits_same around.targets end) (λ z. z)));
           }
       by false h =
           let n = int_of around f ways y c low from i r l (expression_code c i r e) e h.1 (expressions around f ways y c low from i r l fr e h.0) in
@@ -122,8 +108,8 @@ module _ (around : Setting) (f : ℕ) (ways : List Way) (y : Typing) (c : Contex
             lost = n.lost;
             loses = n.loses;
             piece = joins from (mark l from i) start end (expression_code c i r e) (width_code i kind (span_of e).first) n.piece
-                (subst (λ b. Q from start (cond b (op.ChkWidth (width_of kind) i (at_site (span_of e).first) ∷ []) []) end) (sym h.2)
-                (taken_number around f ways y c low start end (op.ChkWidth (width_of kind) i (at_site (span_of e).first) ∷ []) i n.number (width_of (kind_of c e)) (put_same l.ints i n.number) n.fits
+                (subst (λ b. Q from start (cond b (Op.ChkWidth (width_of kind) i (at_site (span_of e).first) ∷ []) []) end) (sym h.2)
+                (taken_number around f ways y c low start end (Op.ChkWidth (width_of kind) i (at_site (span_of e).first) ∷ []) i n.number (width_of (kind_of c e)) (put_same l.ints i n.number) n.fits
                 (λ lt. width_at around f D N top low from i r k fk.at (width_of kind) n.number (at_site (span_of e).first) lt)));
           }
   rights from i r l fr kind mode s (malloc span n w) h =
@@ -139,8 +125,8 @@ module _ (around : Setting) (f : ℕ) (ways : List Way) (y : Typing) (c : Contex
         loses = v.loses;
         copy = r;
         small = inl refl;
-        piece = enter around f D N top low from i r l fr.at i _ end (joins from (mark l from i) middle end (elements_code c i r n) (op.ChkPositive i (at_site span.first) ∷ op.New r i size _ ∷ []) v.piece
-            (joins from middle middle end (op.ChkPositive i (at_site span.first) ∷ []) (op.New r i size _ ∷ []) (positive_at around f D N top low from (i + 1) r (set_number k i v.number) at2 (i + 1) i (at_site span.first)) (new_at from i r k fk v.number v.plain s h.1 size _ h.2)));
+        piece = enter around f D N top low from i r l fr.at i _ end (joins from (mark l from i) middle end (elements_code c i r n) (Op.ChkPositive i (at_site span.first) ∷ Op.New r i size _ ∷ []) v.piece
+            (joins from middle middle end (Op.ChkPositive i (at_site span.first) ∷ []) (Op.New r i size _ ∷ []) (positive_at around f D N top low from (i + 1) r (set_number k i v.number) at2 (i + 1) i (at_site span.first)) (new_at from i r k fk v.number v.plain s h.1 size _ h.2)));
       })
 
   -- ---- with the registers of an lvalue at hand
@@ -273,19 +259,19 @@ module _ (around : Setting) (f : ℕ) (ways : List Way) (y : Typing) (c : Contex
   -- the value in these registers, of which nothing else is at hand
   pub settled : (from i r : ℕ) (l : Label) → F from i r l → IsBare l → int_count c.scope ≤ from → (kind : Kind) (s : StaticType) (x : Register) (xs : List Op) → IsTypeIn around f y c s → VariableAssigned around f y c kind s x → Comes from i r l kind s xs (is_reference kind)
       → Q from (mark l from i) (xs ++ settle_code i r x) (mark l from i)
-  settled from i r l fr alone whole kind s (registers.Int j) xs type h v =
+  settled from i r l fr alone whole kind s (Register.Int j) xs type h v =
       let w = width_of kind in
       let wide = fr.wide in
       let lt = h.1 in
       let n = subst (Comes from i r l kind s xs) h.0 v in
-      joins from (mark l from i) (mark (set_number l i (Within w)) from i) (mark l from i) xs (op.Move j i ∷ []) (number_kept from i l alone w xs n)
+      joins from (mark l from i) (mark (set_number l i (Within w)) from i) (mark l from i) xs (Op.Move j i ∷ []) (number_kept from i l alone w xs n)
       (assign_number_at around f D N top low from i r l fr.at j w i (omega arith) (omega (arith, lt, wide)) (omega (arith, lt, whole)) (fr.holds.integers j h.1 ∙ ap Within h.2))
-  settled from i r l fr alone whole kind s (registers.Reference q) xs type h v =
+  settled from i r l fr alone whole kind s (Register.Reference q) xs type h v =
       let w = subst (Comes from i r l kind s xs) h.0 v in
       let a = alone in
       let high = fr.high in
       let lt = h.1 in
-      joins from (mark l from i) (mark (fill l r (Refers s) w.copy false) from i) (mark l from i) xs (op.Settle q r ∷ []) (reference_kept from i r l alone s xs w)
+      joins from (mark l from i) (mark (fill l r (Refers s) w.copy false) from i) (mark l from i) xs (Op.Settle q r ∷ []) (reference_kept from i r l alone s xs w)
       (assign_at around f D N top low from i r l fr.at fr.high s w.copy false q i (in_frame around f ways y c low from i r l fr s type) (omega (arith, lt, high)) (fr.holds.references q h.1 ∙ ap Refers h.2) h.3 (a.0 q) (λ p e. sym (a.0 p) ∙ e) (a.1 q) (λ j b. a.2 j q b))
 
   shut_bare : (l : Label) → IsBare l → IsBare (record l { gate = Closed })
@@ -315,7 +301,7 @@ module _ (around : Setting) (f : ℕ) (ways : List Way) (y : Typing) (c : Contex
           record {
             lost = w.lost;
             loses = w.loses;
-            piece = joins from (mark l from i) (mark (fill k r (Refers d.0) w.copy false) from i) (mark k from i) (expression_code c i r e) (op.Pop r ∷ []) w.piece (pop_at around f D N top low from i r k fk.at fr.high d.0 w.copy false (in_frame around f ways y c low from i r l fr d.0 d.2) i);
+            piece = joins from (mark l from i) (mark (fill k r (Refers d.0) w.copy false) from i) (mark k from i) (expression_code c i r e) (Op.Pop r ∷ []) w.piece (pop_at around f D N top low from i r k fk.at fr.high d.0 w.copy false (in_frame around f ways y c low from i r l fr d.0 d.2) i);
           }
       by false true v d =
           let k = with_copies l v.lost in

@@ -1,15 +1,5 @@
 -- A thread is started, after what it is handed.
-use Rattle.std.proofs.{Common.{◌≡◌, ℕ, ◌+◌, ◌<◌, ◌≤◌, Bool, true, false, List, [], ◌∷◌, length, Some, refl, sym, ap, ◌∙◌, subst, ⊎_elim, arith}, lemmas.Bool.cases_eq}
-use Rattle.sharc_code.specs.declared.code.Parameter.TheVariants as parameters
-use Rattle.sharc_code.specs.declared.instr.Register.TheVariants as registers
-use Rattle.sharc_code.specs.{declared.instr.Width.Width, declared.instr.Width.TheVariants.Char, Machine.function_of, Runs.put}
-use Rattle.sharc_code.proofs.Places.{put_same, put_other, put_all}
-use Rattle.sharc_flat.specs.{declared.op.Op.Op, declared.op.Spot.Spot, Scope.{Context, ref_count}}
-use Rattle.sharc_flat.specs.declared.op.Op.TheVariants as op
-use Rattle.sharc_invariant.specs.{Types.StaticType, Labels.{Empty, Refers, Number, Anything, Within, Label, LessNumber, LessEntry, EntryMentions, HasBase, fill, empty, set_number, without_copies, without_index}, Typed.{Passes, IsShared, ints_in, refs_in}}
-use Rattle.sharc_invariant.proofs.Scoped.{less_entry_refl, less_number_refl}
-use Rattle.sharc_typed_laws.specs.{Passes.with_passes, Stretches.{Mark, Setting}, Places.{IsNamed, mark}, Premises.Typing}
-use Rattle.sharc_typed_laws.proofs.{Standing.{less_by, without_same, uncopied, scoped_frame, unnamed, stands_number}, Handing.on_spawn, Parts.{P, does, with_number}, Accessed.Frame}
+use Rattle.sharc_typed_laws.proofs.{Imports.{◌≡◌, ℕ, ◌+◌, ◌<◌, ◌≤◌, Bool, true, false, List, [], ◌∷◌, length, Some, refl, sym, ap, ◌∙◌, subst, ⊎_elim, arith, cases_eq, Parameter, Register, Width, Char, function_of, put, put_same, put_other, put_all, Op, Spot, Context, ref_count, StaticType, Empty, Refers, Number, Anything, Within, Label, LessNumber, LessEntry, EntryMentions, HasBase, fill, empty, set_number, without_copies, without_index, Passes, IsShared, ints_in, refs_in, less_entry_refl, less_number_refl, with_passes, Mark, Setting, IsNamed, mark, Typing}, Standing.{less_by, without_same, uncopied, scoped_frame, unnamed, stands_number}, Handing.on_spawn, Parts.{P, does, with_number}, Accessed.Frame}
 
 module _ (around : Setting) (f : ℕ) (D : (ℕ → Mark) → Type 0) (y : Typing) (c : Context) (low : (p : ℕ) → y.named c p ≡ true → p < ref_count c.scope) (from : ℕ) where
   abbrev N : ℕ → Bool
@@ -32,12 +22,12 @@ module _ (around : Setting) (f : ℕ) (D : (ℕ → Mark) → Type 0) (y : Typin
     in_ints lt = subst (λ o. i < ints_in around.code o) (sym fr.at.owned) lt
 
     -- with an integer of this width
-    pub spawn_number : (w : Width) (a b : ℕ) → (function_of around.code g).parameter ≡ parameters.Int → LessNumber (Within w) ((around.signature g).takes_ints 0) → Q (mark (set_number l i (Within w)) a b) (op.Spawn i g (registers.Int i) spot ∷ []) (with_number around f D N top low from l i n)
+    pub spawn_number : (w : Width) (a b : ℕ) → (function_of around.code g).parameter ≡ Parameter.Int → LessNumber (Within w) ((around.signature g).takes_ints 0) → Q (mark (set_number l i (Within w)) a b) (Op.Spawn i g (Register.Int i) spot ∷ []) (with_number around f D N top low from l i n)
     spawn_number w a b parameter fits =
         let k = set_number l i (Within w) in
-        does around f D N top low from (mark k a b) (op.Spawn i g (registers.Int i) spot) (with_number around f D N top low from l i n)
+        does around f D N top low from (mark k a b) (Op.Spawn i g (Register.Int i) spot) (with_number around f D N top low from l i n)
         (λ in_it h. scoped_frame N (i + 1) r (set_number l i n) (stands_number N i r l fr.at.stands n (λ q z. absurd z)) (ints_in around.code (Some f)) (refs_in around.code (Some f)) h.few (λ j ge. numbered j in_it.0 ge))
-        (λ table pc in_it h next. on_spawn around f table pc (mark k a b) (record { owned = fr.at.owned; scoped = h }) (with_number around f D N top low from l i n) next i g (registers.Int i) spot refl (in_ints in_it.0) is starts shared
+        (λ table pc in_it h next. on_spawn around f table pc (mark k a b) (record { owned = fr.at.owned; scoped = h }) (with_number around f D N top low from l i n) next i g (Register.Int i) spot refl (in_ints in_it.0) is starts shared
         (λ ps. (parameter, subst (λ z. LessNumber z ((around.signature g).takes_ints 0)) (sym (put_same l.ints i (Within w))) fits, (w, subst (λ z. LessNumber z (Within w)) (sym (put_same l.ints i (Within w))) (less_number_refl (Within w)))))
         (less_by (set_number k i n) (set_number l i n) refl (λ q. less_entry_refl (set_number k i n) q (l.env q)) (λ q. refl) (λ q e. e) (λ j. twice w j) tt fr.at.stands.nothing_passed (λ e. e)))
       where
@@ -46,18 +36,18 @@ module _ (around : Setting) (f : ℕ) (D : (ℕ → Mark) → Type 0) (y : Typin
             (λ (ne : j ≡ i → ⊥). subst (LessNumber (put (put l.ints i (Within w)) i n j)) (put_other (put l.ints i (Within w)) i j n ne ∙ put_other l.ints i j (Within w) ne ∙ sym (put_other l.ints i j n ne)) (less_number_refl (put (put l.ints i (Within w)) i n j))) (cases_eq j i)
 
     -- with a reference
-    pub spawn_reference : (s : StaticType) (v a b : ℕ) → IsNamed N r s → (function_of around.code g).parameter ≡ parameters.Reference → ((q : ℕ) → EntryMentions ((around.signature g).takes 0) q → ⊥) → ((k : Label) → Passes k r r (Refers s) ((around.signature g).takes 0)) → IsShared around.targets ((around.signature g).takes 0)
-        → Q (mark (fill l r (Refers s) v false) a b) (op.Spawn i g (registers.Reference r) spot ∷ []) (with_number around f D N top low from l i n)
+    pub spawn_reference : (s : StaticType) (v a b : ℕ) → IsNamed N r s → (function_of around.code g).parameter ≡ Parameter.Reference → ((q : ℕ) → EntryMentions ((around.signature g).takes 0) q → ⊥) → ((k : Label) → Passes k r r (Refers s) ((around.signature g).takes 0)) → IsShared around.targets ((around.signature g).takes 0)
+        → Q (mark (fill l r (Refers s) v false) a b) (Op.Spawn i g (Register.Reference r) spot ∷ []) (with_number around f D N top low from l i n)
     spawn_reference s v a b fits parameter closed passes public =
         let k = fill l r (Refers s) v false in
         let u = unnamed N i r l fr.at.stands r (omega arith) in
         let high = fr.high in
         let m = set_number (empty k r) i n in
         let e = set_number l i n in
-        does around f D N top low from (mark k a b) (op.Spawn i g (registers.Reference r) spot) (with_number around f D N top low from l i n)
+        does around f D N top low from (mark k a b) (Op.Spawn i g (Register.Reference r) spot) (with_number around f D N top low from l i n)
         (λ in_it h. scoped_frame N (i + 1) r e (stands_number N i r l fr.at.stands n (λ q z. absurd z)) (ints_in around.code (Some f)) (refs_in around.code (Some f))
         (λ q ge. let ref = in_it.1 in sym (put_other l.env r q (Refers s) (λ z. omega (arith, z, ge, ref))) ∙ h.few q ge) (λ j ge. numbered j in_it.0 ge))
-        (λ table pc in_it h next. on_spawn around f table pc (mark k a b) (record { owned = fr.at.owned; scoped = h }) (with_number around f D N top low from l i n) next i g (registers.Reference r) spot refl (in_ints in_it.0) is starts shared
+        (λ table pc in_it h next. on_spawn around f table pc (mark k a b) (record { owned = fr.at.owned; scoped = h }) (with_number around f D N top low from l i n) next i g (Register.Reference r) spot refl (in_ints in_it.0) is starts shared
         (λ ps. (
           parameter,
           subst (λ o. r < refs_in around.code o) (sym fr.at.owned) in_it.1,

@@ -1,11 +1,5 @@
 -- Labels of frames of which so many registers are taken: what they are after a register is filled, emptied or numbered.
-use Rattle.std.proofs.{Common.{◌≡◌, ◌≢◌, ℕ, ◌+◌, ◌<◌, ◌≤◌, Bool, true, false, cond, [], refl, sym, ap, ◌∙◌, subst, inl, inr, ⊎_elim, arith}, lemmas.Bool.{cases_eq, cases_lt}, lemmas.Bool.Decides.nat_tests}
-use Rattle.std.specs.Prelude.{nat_eq}
-use Rattle.sharc_code.specs.Runs.{put}
-use Rattle.sharc_code.proofs.Places.{put_same, put_other, put_all}
-use Rattle.sharc_invariant.specs.{Types.StaticType, Labels.{Entry, Empty, Refers, Number, Anything, OfElement, Gate, Closed, IsIn, Label, Less, IsCopy, LessEntry, LessNumber, LessGate, EntryMentions, HasBase, IsScoped, IsFree, set_number, fill, empty, without_copies, without_index}}
-use Rattle.sharc_invariant.proofs.Scoped.{less_entry_refl, less_number_refl, less_gate_refl}
-use Rattle.sharc_typed_laws.specs.Places.{RegistersStand, IsNamed}
+use Rattle.sharc_typed_laws.proofs.Imports.{◌≡◌, ◌≢◌, ℕ, ◌+◌, ◌<◌, ◌≤◌, Bool, true, false, cond, [], refl, sym, ap, ◌∙◌, subst, inl, inr, ⊎_elim, arith, cases_eq, cases_lt, nat_tests, nat_eq, put, put_same, put_other, put_all, StaticType, Entry, Empty, Refers, Number, Anything, OfElement, Gate, Closed, IsIn, Label, Less, IsCopy, LessEntry, LessNumber, LessGate, EntryMentions, HasBase, IsScoped, IsFree, set_number, fill, empty, without_copies, without_index, less_entry_refl, less_number_refl, less_gate_refl, RegistersStand, IsNamed}
 
 -- ---- less, register by register
 pub less_by : (a b : Label) → b.function ≡ a.function → ((r : ℕ) → LessEntry a r (a.env r) (b.env r)) → ((r : ℕ) → b.same r ≡ a.same r) → ((r : ℕ) → b.known r ≡ true → a.known r ≡ true) → ((r : ℕ) → LessNumber (a.ints r) (b.ints r))

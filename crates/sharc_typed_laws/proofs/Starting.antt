@@ -1,15 +1,7 @@
 -- What the signature of a function says: it names no register of a frame, and a thread may begin with it where its parameters are few.
-use Rattle.std.proofs.{Common.{◌≡◌, ◌≢◌, ℕ, ◌+◌, ◌<◌, ◌≤◌, Bool, true, false, cond, ◌||◌, List, [], ◌∷◌, length, map, refl, sym, ap, ◌∙◌, subst, arith}, lemmas.Bool.Decides.nat_tests}
-use Rattle.std.specs.Prelude.{nat_lt}
-use Rattle.sharc_tree.specs.{declared.tree.declaration.Declaration.Declaration, declared.tree.declaration.WrittenType.WrittenType}
-use Rattle.sharc_names.specs.Kinds.{Kind, is_pointer, declared_kind}
-use Rattle.sharc_code.specs.declared.code.Parameter.TheVariants as parameters
-use Rattle.sharc_code.specs.{declared.instr.Width.Width, Machine.function_of}
-use Rattle.sharc_meaning.specs.State.{is_reference}
-use Rattle.sharc_flat.specs.{Scope.{slot_of, int_count, ref_count}, Flattened.parameter_of}
-use Rattle.sharc_invariant.specs.{Types.StaticType, Labels.{Empty, Refers, Number, Anything, Within, Signature, Labels, EntryMentions, HasBase, HasName}, Typed.{IsPlain, MayStart}}
-use Rattle.sharc_typed_laws.specs.{Stretches.Setting, Premises.Typing, Returned.{GivesBackBy, GivesBack}}
-use Rattle.sharc_lemmas.proofs.Bools.{or_false}
+use Rattle.sharc_typed_laws.proofs.Imports.{◌≡◌, ◌≢◌, ℕ, ◌+◌, ◌<◌, ◌≤◌, Bool, true, false, cond, ◌||◌, List, [], ◌∷◌, length, map, refl, sym, ap, ◌∙◌, subst, arith, nat_tests, nat_lt, Declaration, WrittenType, Kind, declared_kind, Parameter, Width, function_of, is_reference, slot_of, int_count, ref_count, parameter_of, StaticType, Empty, Refers, Number, Anything, Within, Signature, Labels, EntryMentions, HasBase, HasName, MayStart, Setting, Typing, GivesBackBy, GivesBack, or_false}
+use Rattle.sharc_names.specs.Kinds.{is_pointer}
+use Rattle.sharc_invariant.specs.Typed.{IsPlain}
 
 -- ---- parameters
 declared_reference : (w : WrittenType) → is_reference (declared_kind w) ≡ is_pointer (declared_kind w)
@@ -19,22 +11,22 @@ declared_reference w = or_false (is_pointer (declared_kind w))
 record FewParameters (ds : List Declaration) : Type 0 where
   refs : ref_count (map slot_of ds) ≤ 1
   ints : int_count (map slot_of ds) ≤ 1
-  no_reference : parameter_of ds ≢ parameters.Reference → ref_count (map slot_of ds) ≡ 0
-  no_number : parameter_of ds ≢ parameters.Int → int_count (map slot_of ds) ≡ 0
-  reference : parameter_of ds ≡ parameters.Reference → 0 < ref_count (map slot_of ds)
-  number : parameter_of ds ≡ parameters.Int → 0 < int_count (map slot_of ds)
+  no_reference : parameter_of ds ≢ Parameter.Reference → ref_count (map slot_of ds) ≡ 0
+  no_number : parameter_of ds ≢ Parameter.Int → int_count (map slot_of ds) ≡ 0
+  reference : parameter_of ds ≡ Parameter.Reference → 0 < ref_count (map slot_of ds)
+  number : parameter_of ds ≡ Parameter.Int → 0 < int_count (map slot_of ds)
 
 record FewBy (b : Bool) : Type 0 where
   refs : cond b (0 + 1) 0 ≤ 1
   ints : cond b 0 (0 + 1) ≤ 1
-  no_reference : cond b parameters.Reference parameters.Int ≢ parameters.Reference → cond b (0 + 1) 0 ≡ 0
-  no_number : cond b parameters.Reference parameters.Int ≢ parameters.Int → cond b 0 (0 + 1) ≡ 0
-  reference : cond b parameters.Reference parameters.Int ≡ parameters.Reference → 0 < cond b (0 + 1) 0
-  number : cond b parameters.Reference parameters.Int ≡ parameters.Int → 0 < cond b 0 (0 + 1)
+  no_reference : cond b Parameter.Reference Parameter.Int ≢ Parameter.Reference → cond b (0 + 1) 0 ≡ 0
+  no_number : cond b Parameter.Reference Parameter.Int ≢ Parameter.Int → cond b 0 (0 + 1) ≡ 0
+  reference : cond b Parameter.Reference Parameter.Int ≡ Parameter.Reference → 0 < cond b (0 + 1) 0
+  number : cond b Parameter.Reference Parameter.Int ≡ Parameter.Int → 0 < cond b 0 (0 + 1)
 
 few_by : (b : Bool) → FewBy b
-few_by true = record { refs = omega arith; ints = omega arith; no_reference = λ ne. absurd (ne refl); no_number = λ ne. refl; reference = λ e. omega arith; number = λ (e : parameters.Reference ≡ parameters.Int). absurd (cc) }
-few_by false = record { refs = omega arith; ints = omega arith; no_reference = λ ne. refl; no_number = λ ne. absurd (ne refl); reference = λ (e : parameters.Int ≡ parameters.Reference). absurd (cc); number = λ e. omega arith }
+few_by true = record { refs = omega arith; ints = omega arith; no_reference = λ ne. absurd (ne refl); no_number = λ ne. refl; reference = λ e. omega arith; number = λ (e : Parameter.Reference ≡ Parameter.Int). absurd (cc) }
+few_by false = record { refs = omega arith; ints = omega arith; no_reference = λ ne. refl; no_number = λ ne. absurd (ne refl); reference = λ (e : Parameter.Int ≡ Parameter.Reference). absurd (cc); number = λ e. omega arith }
 
 few_parameters : (ds : List Declaration) → length ds ≤ 1 → FewParameters ds
 few_parameters [] le = record {
@@ -42,8 +34,8 @@ few_parameters [] le = record {
   ints = omega arith;
   no_reference = λ ne. refl;
   no_number = λ ne. refl;
-  reference = λ (e : parameters.None ≡ parameters.Reference). absurd (cc);
-  number = λ (e : parameters.None ≡ parameters.Int). absurd (cc);
+  reference = λ (e : Parameter.None ≡ Parameter.Reference). absurd (cc);
+  number = λ (e : Parameter.None ≡ Parameter.Int). absurd (cc);
 }
 few_parameters (d ∷ []) le =
     let w = few_by (is_pointer (declared_kind d.written)) in
@@ -51,10 +43,10 @@ few_parameters (d ∷ []) le =
     record {
       refs = w.refs;
       ints = w.ints;
-      no_reference = λ ne. w.no_reference (subst (λ b. cond b parameters.Reference parameters.Int ≢ parameters.Reference) same ne);
-      no_number = λ ne. w.no_number (subst (λ b. cond b parameters.Reference parameters.Int ≢ parameters.Int) same ne);
-      reference = λ e. w.reference (subst (λ b. cond b parameters.Reference parameters.Int ≡ parameters.Reference) same e);
-      number = λ e. w.number (subst (λ b. cond b parameters.Reference parameters.Int ≡ parameters.Int) same e);
+      no_reference = λ ne. w.no_reference (subst (λ b. cond b Parameter.Reference Parameter.Int ≢ Parameter.Reference) same ne);
+      no_number = λ ne. w.no_number (subst (λ b. cond b Parameter.Reference Parameter.Int ≢ Parameter.Int) same ne);
+      reference = λ e. w.reference (subst (λ b. cond b Parameter.Reference Parameter.Int ≡ Parameter.Reference) same e);
+      number = λ e. w.number (subst (λ b. cond b Parameter.Reference Parameter.Int ≡ Parameter.Int) same e);
     }
 few_parameters (d ∷ (e ∷ ds)) le = absurd (omega (arith, le))
 

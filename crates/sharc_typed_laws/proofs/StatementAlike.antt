@@ -1,8 +1,6 @@
 -- What is known before a statement is told by the types of the variables, so two labels there are the same; and where nothing is known but that, frames are large enough.
-use Rattle.std.proofs.{Common.{◌≡◌, ℕ, ◌<◌, ◌≤◌, sym, ◌∙◌, subst, inl, ⊎_elim, arith}, lemmas.Bool.{cases_lt, false_from_ne_true as never}}
-use Rattle.sharc_flat.specs.Scope.{Context, int_count, ref_count}
-use Rattle.sharc_invariant.specs.Labels.{IsIn, Label, IsScoped}
-use Rattle.sharc_typed_laws.specs.{Premises.Typing, Declared.StandsBefore}
+use Rattle.sharc_typed_laws.proofs.Imports.{◌≡◌, ℕ, ◌<◌, ◌≤◌, sym, ◌∙◌, subst, inl, ⊎_elim, arith, cases_lt, Context, int_count, ref_count, IsIn, Label, IsScoped, Typing, StandsBefore}
+use Rattle.std.proofs.lemmas.Bool.{false_from_ne_true as never}
 
 module _ (y : Typing) (c : Context) (f : ℕ) where
   abbrev i : ℕ

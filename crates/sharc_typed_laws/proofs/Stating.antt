@@ -1,13 +1,6 @@
 -- Statements whose types say what is asked are typed code, by induction over their form.
-use Rattle.std.proofs.{Common.{◌≡◌, ℕ, ◌+◌, ◌<◌, ◌≤◌, Bool, true, false, List, [], ◌∷◌, ◌++◌, length, Option, Some, None, refl, sym, ap, ◌∙◌, subst, inl, inr, ⊎_elim, arith, append_assoc}, lemmas.Bool.{false≢true, cases_lt}}
-use Rattle.sharc_tree.specs.{declared.token.Site.Site, Spans.span_of, declared.tree.statement.Jump.TheVariants.{Break, Continue}, Tree.{Expression, Simple, Local, First, nothing, declares, does, Statement, empty, block, declare, simple, jump, return, if_then, if_then_else, while, for, Statements, no_statements, statement}}
-use Rattle.sharc_names.specs.Kinds.{declared_kind}
-use Rattle.sharc_meaning.specs.State.{is_reference}
-use Rattle.sharc_flat.specs.{declared.op.Op.Op, declared.op.Spot.Spot, Places.{width_of, width_code}, Scope.{Context, int_count, ref_count, leaves, ends_from, at_site, slot_of}, Suits.is_declaration, Flattened.{Around, opened, looping, expression_code, zero_code, result_code, return_code, test_code, turn_code, step_code, first_code, simple_code, local_code, loop_code, with_variable, behind_first, behind_statement, behind_statements, statement_code, statements_code}}
-use Rattle.sharc_flat.specs.declared.op.Op.TheVariants as op
-use Rattle.sharc_invariant.specs.Types.{StaticType, Mentions}
-use Rattle.sharc_typed_laws.specs.{Stretches.{Mark, Setting, Way, LeadsAmong, LeadsFrom}, Places.IsNamed, Premises.Typing, LabelsLaws.{SimplesAreTyped, TestsAreTyped}, Stated.SimpleTypable, Declared.{Begins, LocalTypable, StandsBefore, before, LocalsAreTyped}, Begun.{label_of, LabelsStand}, Blocks.{BlocksAreTyped, BlocksLead}, Decided.{loop_ways, DecisionsLead, DecisionsAreTyped}, Ended.EndsAreTyped, Left.{IsOpen, LeavesAreTyped, JumpsAreTyped}, Returned.{GivesBack, ReturnTypable, Returns, NothingReturns, ValuesReturn}, Statements.{TestTypable, StepTypable, DeclaredTypable, FirstTypable, StatementTypable, StatementsTypable}, Functions.IsLowTyping}
-use Rattle.sharc_typed_laws.proofs.{Growing.{Extends, AreNamed, Nest, extends_same, extends_through, grows_by, ends_are, nest_both, nest_named, nested}, StatementAlike.same_label, Closing.last_line}
+use Rattle.sharc_typed_laws.proofs.{Imports.{◌≡◌, ℕ, ◌+◌, ◌<◌, ◌≤◌, Bool, true, false, List, [], ◌∷◌, ◌++◌, length, Option, Some, None, refl, sym, ap, ◌∙◌, subst, inl, inr, ⊎_elim, arith, append_assoc, false≢true, cases_lt, Site, span_of, Break, Continue, Expression, Simple, Local, First, declares, does, Statement, block, declare, simple, jump, return, if_then, if_then_else, while, for, Statements, no_statements, statement, declared_kind, is_reference, Op, Spot, width_of, width_code, Context, int_count, ref_count, leaves, ends_from, at_site, slot_of, is_declaration, Around, opened, looping, expression_code, zero_code, result_code, return_code, test_code, turn_code, step_code, first_code, simple_code, local_code, loop_code, with_variable, behind_first, behind_statement, behind_statements, statement_code, statements_code, StaticType, Mentions, Mark, Setting, Way, LeadsAmong, LeadsFrom, IsNamed, Typing, SimplesAreTyped, TestsAreTyped, SimpleTypable, Begins, LocalTypable, StandsBefore, before, LocalsAreTyped, label_of, LabelsStand, BlocksAreTyped, BlocksLead, loop_ways, DecisionsLead, DecisionsAreTyped, EndsAreTyped, IsOpen, LeavesAreTyped, JumpsAreTyped, GivesBack, ReturnTypable, Returns, NothingReturns, ValuesReturn, TestTypable, StepTypable, DeclaredTypable, FirstTypable, StatementTypable, StatementsTypable, IsLowTyping}, Growing.{Extends, AreNamed, Nest, extends_same, extends_through, grows_by, ends_are, nest_both, nest_named, nested}, StatementAlike.same_label, Closing.last_line}
+use Rattle.sharc_tree.specs.Tree.{nothing, empty}
 
 -- the laws that it stands on
 pub record Below : Type 0 where
@@ -75,7 +68,7 @@ module _ (laws : Below) (z : Setting) (f : ℕ) (y : Typing) (lows : IsLowTyping
   joined : (ways : List Way) (c d e : Context) → Named c → (pc : ℕ) (xs ys : List Op) → Q ways pc c xs d → Q ways (pc + length xs) d ys e → Q ways pc c (xs ++ ys) e
   joined ways c d e names pc xs ys p q = (decided ways c names).join pc (at c) (at d) (at e) xs ys p q
 
-  entered : (ways : List Way) (c d : Context) → Named c → (pc : ℕ) (os : List Op) → Q ways (pc + 1) c os d → Q ways pc c (op.Enter ∷ os) d
+  entered : (ways : List Way) (c d : Context) → Named c → (pc : ℕ) (os : List Op) → Q ways (pc + 1) c os d → Q ways pc c (Op.Enter ∷ os) d
   entered ways c d names pc os p = (blocked ways c names).enter pc (at d) os p
 
   none : (ways : List Way) (c : Context) → Named c → (pc : ℕ) → Q ways pc c [] c
@@ -114,7 +107,7 @@ module _ (laws : Below) (z : Setting) (f : ℕ) (y : Typing) (lows : IsLowTyping
           (cases_lt q (ref_count c.scope))
       by false b q lt = let n = b.refs in old (omega (arith, n)) q (omega (arith, n, lt))
 
-  declares_typed : (ways : List Way) (c : Context) → Named c → (l : Local) → DeclaredTypable z f y c l → (pc : ℕ) → Typed ways c (with_variable c l.declaration) pc (op.Enter ∷ local_code c l)
+  declares_typed : (ways : List Way) (c : Context) → Named c → (l : Local) → DeclaredTypable z f y c l → (pc : ℕ) → Typed ways c (with_variable c l.declaration) pc (Op.Enter ∷ local_code c l)
   declares_typed ways c names l h pc =
       let d = with_variable c l.declaration in
       let w : Named d = declared_names c l h.0 names h.1 in
@@ -136,21 +129,21 @@ module _ (laws : Below) (z : Setting) (f : ℕ) (y : Typing) (lows : IsLowTyping
   step_leads ways c names (Some x) h pc = simple_leads ways c names x h pc
 
   -- ---- statements that leave
-  jump_leads : (ways : List Way) (c : Context) → Named c → (a : Around) → (looped : Bool) (i : Inside ways c a looped) → (q : ℕ) → IsOpen ways q (at i.loop) → (pc : ℕ) → Q ways pc c (leaves c.scope a.inside ++ op.Jump q ∷ []) c
+  jump_leads : (ways : List Way) (c : Context) → Named c → (a : Around) → (looped : Bool) (i : Inside ways c a looped) → (q : ℕ) → IsOpen ways q (at i.loop) → (pc : ℕ) → Q ways pc c (leaves c.scope a.inside ++ Op.Jump q ∷ []) c
   jump_leads ways c names a looped i q opens pc =
       let d = i.loop in
       let out = laws.leaving z f ways y c d (label_of y c f) (label_of y d f) (lows c) (here c names) a.inside (nested y f lows laws.labels c a.inside d i.inner) in
-      anywhere ways pc (at c) (at c) (leaves c.scope a.inside ++ op.Jump q ∷ [])
+      anywhere ways pc (at c) (at c) (leaves c.scope a.inside ++ Op.Jump q ∷ [])
       (laws.jumps z f ways y d (label_of y d f) (here d (nest_named y c a.inside d names i.inner)) q opens (at c) (leaves c.scope a.inside) out)
 
-  returned : (ways : List Way) (c : Context) → Named c → (os : List Op) (spot : Spot) → Returns z f ways (at c) os spot → (pc : ℕ) → Q ways pc c (os ++ op.Return spot ∷ []) c
-  returned ways c names os spot r pc = λ w h. (decided ways c names).join pc (at c) r.mark (at c) os (op.Return spot ∷ []) (anywhere ways pc (at c) r.mark os r.leads) (last_line z f ways (pc + length os) r.mark (at c) (op.Return spot) r.returns h) w h
+  returned : (ways : List Way) (c : Context) → Named c → (os : List Op) (spot : Spot) → Returns z f ways (at c) os spot → (pc : ℕ) → Q ways pc c (os ++ Op.Return spot ∷ []) c
+  returned ways c names os spot r pc = λ w h. (decided ways c names).join pc (at c) r.mark (at c) os (Op.Return spot ∷ []) (anywhere ways pc (at c) r.mark os r.leads) (last_line z f ways (pc + length os) r.mark (at c) (Op.Return spot) r.returns h) w h
 
   return_leads : (ways : List Way) (c : Context) → Named c → (a : Around) (looped : Bool) → Inside ways c a looped → (site : Site) (e : Option Expression) → ReturnTypable z f y c a.result e → (pc : ℕ) → Q ways pc c (return_code c a site e) c
   return_leads ways c names a looped i site None h pc =
       let all = a.inside ++ a.outside in
       let out = laws.nothing_returns z f ways y c i.top (label_of y c f) (label_of y i.top f) (lows c) (here c names) all (nested y f lows laws.labels c all i.top (nest_both y c a.inside a.outside i.loop i.top i.inner i.outer)) i.no_ints i.no_refs a.result i.gives (at_site site) in
-      subst (λ os. Q ways pc c os c) (append_assoc (leaves c.scope all) (zero_code (is_reference a.result) 0 0) (op.Return (at_site site) ∷ []))
+      subst (λ os. Q ways pc c os c) (append_assoc (leaves c.scope all) (zero_code (is_reference a.result) 0 0) (Op.Return (at_site site) ∷ []))
       (returned ways c names (leaves c.scope all ++ zero_code (is_reference a.result) 0 0) (at_site site) out pc)
   return_leads ways c names a looped i site (Some e) h pc =
       let all = a.inside ++ a.outside in
@@ -160,7 +153,7 @@ module _ (laws : Below) (z : Setting) (f : ℕ) (y : Typing) (lows : IsLowTyping
       let width = width_code int a.result (span_of e).first in
       let result = result_code (is_reference a.result) int ref in
       let out = laws.values_return z f ways y c i.top (label_of y c f) (label_of y i.top f) (lows c) (here c names) all (nested y f lows laws.labels c all i.top (nest_both y c a.inside a.outside i.loop i.top i.inner i.outer)) i.no_ints i.no_refs a.result i.gives e h (at_site site) in
-      subst (λ os. Q ways pc c os c) (value_parts value width (leaves c.scope all) result (op.Return (at_site site) ∷ []))
+      subst (λ os. Q ways pc c os c) (value_parts value width (leaves c.scope all) result (Op.Return (at_site site) ∷ []))
       (returned ways c names (value ++ (width ++ (leaves c.scope all ++ result))) (at_site site) out pc)
 
   -- ---- statements in statements
@@ -180,15 +173,15 @@ module _ (laws : Below) (z : Setting) (f : ℕ) (y : Typing) (lows : IsLowTyping
   in_block : (ways : List Way) (c : Context) → Named c → (a : Around) (looped : Bool) → Inside ways c a looped → (d : Context) → Extends y c d → Inside ways d (opened c a) looped
   in_block ways c names a looped i d e = record { loop = i.loop; top = i.top; inner = (c, refl, e, names, i.inner); outer = i.outer; no_ints = i.no_ints; no_refs = i.no_refs; opens = i.opens; gives = i.gives }
 
-  block_leads : (ways : List Way) (c d : Context) → Named c → (pc : ℕ) (os : List Op) → Typed ways c d (pc + 1) os → Q ways pc c (op.Enter ∷ ((os ++ ends_from d.scope (length c.scope)) ++ op.BlockEnd ∷ [])) c
+  block_leads : (ways : List Way) (c d : Context) → Named c → (pc : ℕ) (os : List Op) → Typed ways c d (pc + 1) os → Q ways pc c (Op.Enter ∷ ((os ++ ends_from d.scope (length c.scope)) ++ Op.BlockEnd ∷ [])) c
   block_leads ways c d names pc os h =
-      subst (λ ends. Q ways pc c (op.Enter ∷ ((os ++ ends) ++ op.BlockEnd ∷ [])) c) (sym (ends_are y c d h.grown))
+      subst (λ ends. Q ways pc c (Op.Enter ∷ ((os ++ ends) ++ Op.BlockEnd ∷ [])) c) (sym (ends_are y c d h.grown))
       ((blocked ways c names).block pc d h.grown.more (grows_by y c d h.grown) (label_of y d f) (here d h.named) os h.leads)
 
   -- the variable of a `for` ends behind it
-  for_leads : (ways : List Way) (c d : Context) → Named c → (pc : ℕ) (xs ys : List Op) → Typed ways c d (pc + 1) xs → Q ways (pc + 1 + length xs) d ys d → Q ways pc c (op.Enter ∷ ((xs ++ ys) ++ ends_from d.scope (length c.scope))) c
+  for_leads : (ways : List Way) (c d : Context) → Named c → (pc : ℕ) (xs ys : List Op) → Typed ways c d (pc + 1) xs → Q ways (pc + 1 + length xs) d ys d → Q ways pc c (Op.Enter ∷ ((xs ++ ys) ++ ends_from d.scope (length c.scope))) c
   for_leads ways c d names pc xs ys h p =
-      subst (λ ends. Q ways pc c (op.Enter ∷ ((xs ++ ys) ++ ends)) c) (sym (ends_are y c d h.grown))
+      subst (λ ends. Q ways pc c (Op.Enter ∷ ((xs ++ ys) ++ ends)) c) (sym (ends_are y c d h.grown))
       (entered ways c c names pc ((xs ++ ys) ++ _)
       (joined ways c d c names (pc + 1) (xs ++ ys) _ (joined ways c d d names (pc + 1) xs ys h.leads p)
       (anywhere ways (pc + 1 + length (xs ++ ys)) (at d) (at c) _ (laws.ending z f ways y c d h.grown.more (lows c) (grows_by y c d h.grown) (label_of y c f) (label_of y d f) (here c names) (here d h.named)))))
@@ -199,13 +192,13 @@ module _ (laws : Below) (z : Setting) (f : ℕ) (y : Typing) (lows : IsLowTyping
   -- ---- the whole
   mutual
     pub one_typed : (ways : List Way) (c : Context) → Named c → (a : Around) (looped : Bool) → Inside ways c a looped → (x : Statement) → StatementTypable z f y c a.result looped x → (pc : ℕ) → Typed ways c (behind_statement c x) pc (statement_code c a pc x)
-    one_typed ways c names a looped i (empty s) h pc = stays ways c names pc (op.Enter ∷ []) (entered ways c c names pc [] (none ways c names (pc + 1)))
+    one_typed ways c names a looped i (empty s) h pc = stays ways c names pc (Op.Enter ∷ []) (entered ways c c names pc [] (none ways c names (pc + 1)))
     one_typed ways c names a looped i (block s all) h pc = stays ways c names pc _
         (block_leads ways c (behind_statements c all) names pc (statements_code c (opened c a) (pc + 1) all) (all_typed ways c names (opened c a) looped (in_block ways c names a looped i) all h (pc + 1)))
     one_typed ways c names a looped i (declare s l) h pc = declares_typed ways c names l h pc
     one_typed ways c names a looped i (simple s x) h pc = stays ways c names pc _ (entered ways c c names pc (simple_code c (int_count c.scope) (ref_count c.scope) x) (simple_leads ways c names x h (pc + 1)))
-    one_typed ways c names a looped i (jump s Break) h pc = stays ways c names pc _ (entered ways c c names pc (leaves c.scope a.inside ++ op.Jump a.broken ∷ []) (jump_leads ways c names a looped i a.broken (i.opens h).0 (pc + 1)))
-    one_typed ways c names a looped i (jump s Continue) h pc = stays ways c names pc _ (entered ways c c names pc (leaves c.scope a.inside ++ op.Jump a.continued ∷ []) (jump_leads ways c names a looped i a.continued (i.opens h).1 (pc + 1)))
+    one_typed ways c names a looped i (jump s Break) h pc = stays ways c names pc _ (entered ways c c names pc (leaves c.scope a.inside ++ Op.Jump a.broken ∷ []) (jump_leads ways c names a looped i a.broken (i.opens h).0 (pc + 1)))
+    one_typed ways c names a looped i (jump s Continue) h pc = stays ways c names pc _ (entered ways c c names pc (leaves c.scope a.inside ++ Op.Jump a.continued ∷ []) (jump_leads ways c names a looped i a.continued (i.opens h).1 (pc + 1)))
     one_typed ways c names a looped i (return s e) h pc = stays ways c names pc _ (entered ways c c names pc (return_code c a s.first e) (return_leads ways c names a looped i s.first e h (pc + 1)))
     one_typed ways c names a looped i (if_then s e x) h pc = stays ways c names pc _
         (entered ways c c names pc _ ((decided ways c names).if_then (pc + 1) (test_code c e) (λ at. statement_code c a at x) (test_leads ways c names e h.0 (pc + 1)) (body_leads ways c x h.2 _ _ (one_typed ways c names a looped i x h.1 _))))

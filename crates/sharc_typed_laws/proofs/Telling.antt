@@ -1,10 +1,5 @@
 -- What is remembered of copies and of numbers after an operation, by what was remembered before it.
-use Rattle.std.proofs.{Common.{◌≡◌, ℕ, ◌^◌, ◌<◌, ◌≤◌, Bool, true, false, Option, Some, None, refl, ap, ◌∙◌, arith, cond, pos, negsuc, ℤ}, lemmas.Bool.eqb-false, lemmas.Bool.Decides.nat_tests, lemmas.Option.{same_Some, none-some}}
-use Rattle.std.specs.Prelude.{nat_eq, nat_lt}
-use Rattle.sharc_flat.specs.declared.op.Op.{Op}
-use Rattle.sharc_guard.specs.Known.{Know, know_next, writes_ref, writes_int, copy_given, number_given, unless_written, of_constant}
-use Rattle.sharc_invariant.specs.{Types.Targets, Labels.{Exactly, Label}}
-use Rattle.sharc_typed_laws.specs.{Passes.IsNumberOf, Stretches.{Mark, Tells}}
+use Rattle.sharc_typed_laws.proofs.Imports.{◌≡◌, ℕ, ◌^◌, ◌<◌, ◌≤◌, Bool, true, false, Option, Some, None, refl, ap, ◌∙◌, arith, cond, pos, negsuc, ℤ, eqb-false, nat_tests, same_Some, none-some, nat_eq, nat_lt, Op, Know, know_next, writes_ref, writes_int, copy_given, number_given, unless_written, of_constant, Targets, Exactly, Label, IsNumberOf, Mark, Tells}
 
 -- ---- by what the operation writes
 pub told : (x : Targets) (o : Op) (k : Know) (s e : Mark) → Tells x k s

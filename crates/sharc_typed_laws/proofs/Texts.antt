@@ -1,13 +1,5 @@
 -- A line of told texts that is typed is typed with its texts where they lie: no text is looked at.
-use Rattle.std.proofs.{Common.{◌≡◌, ℕ, ◌+◌, Bool, true, false, List, Some, refl, sym, ap, ◌∙◌, subst}, lemmas.Option.{same_Some, none-some}}
-use Rattle.sharc_heap.specs.declared.shadow_word.Kind.TheVariants.{Read, Write}
-use Rattle.sharc_code.specs.{declared.code.Code.Code, declared.code.PlaceMode.PlaceMode, declared.code.Text.Text, declared.instr.Cell.Cell}
-use Rattle.sharc_code.specs.declared.code.PlaceMode.TheVariants as modes
-use Rattle.sharc_flat.specs.{Laid.{told_by, with_texts}, declared.op.Op.Op, declared.op.Spot.Spot}
-use Rattle.sharc_flat.specs.declared.op.Op.TheVariants as op
-use Rattle.sharc_guard.specs.Known.{is_straight, leads_to, Access, access, Know, know_next}
-use Rattle.sharc_invariant.specs.{Types.{Targets, StaticType, Field}, Labels.{Refers, Within, Closed, Pass, IsIn, Label, Labels, Less, set_number, fill, empty, gated}}
-use Rattle.sharc_typed_laws.specs.{Inside.{lock_of, known_behind, gate_behind, passed_behind, behind}, Lines.{MayPass, PassesCheck, Loads, Stores, LoadsReference, StoresReference, Makes, TypedLine}, Passes.{with_passes, with_all, remembered, RepeatsCheck}, Stretches.{Mark, Setting, labels_by, Tells, IsAtHand, IsLine}}
+use Rattle.sharc_typed_laws.proofs.Imports.{◌≡◌, ℕ, ◌+◌, Bool, true, false, List, Some, refl, sym, ap, ◌∙◌, subst, same_Some, none-some, Read, Write, Code, PlaceMode, Text, Cell, told_by, with_texts, Op, Spot, is_straight, leads_to, Access, access, Know, know_next, Targets, StaticType, Field, Refers, Within, Closed, Pass, IsIn, Label, Labels, Less, set_number, fill, empty, gated, lock_of, known_behind, gate_behind, passed_behind, behind, MayPass, PassesCheck, Loads, Stores, LoadsReference, StoresReference, Makes, TypedLine, with_passes, with_all, remembered, RepeatsCheck, Mark, Setting, labels_by, Tells, IsAtHand, IsLine}
 
 -- ---- accesses
 module _ (a b : Text) (spot : Spot) where
@@ -15,15 +7,15 @@ module _ (a b : Text) (spot : Spot) where
   told = told_by a b spot
 
   lock_same : (mode : PlaceMode) → lock_of told mode ≡ lock_of spot mode
-  lock_same modes.Private = refl
+  lock_same PlaceMode.Private = refl
   lock_same mode = refl
 
   known_same : (l : Label) (mode : PlaceMode) → known_behind l told mode ≡ known_behind l spot mode
-  known_same l modes.Private = refl
+  known_same l PlaceMode.Private = refl
   known_same l mode = refl
 
   gate_same : (dropped : Bool) (l : Label) (write : Bool) (c : Cell) (mode : PlaceMode) → gate_behind dropped l write c told mode ≡ gate_behind dropped l write c spot mode
-  gate_same true l write c modes.Private = refl
+  gate_same true l write c PlaceMode.Private = refl
   gate_same true l write c mode = refl
   gate_same false l write c mode = refl
 
@@ -100,32 +92,32 @@ module _ (a b : Text) (spot : Spot) where
 -- ---- one line
 module _ (a b : Text) where
   typed_told : (x : Targets) (code : Code) (ls : Labels) (lines : ℕ) (dropped : Bool) (type : StaticType) (n : ℕ) (l k : Label) (o : Op) → TypedLine x code ls lines dropped type n l k o → TypedLine x code ls lines dropped type n l k (with_texts a b o)
-  typed_told x code ls lines dropped type n l k (op.Load i c spot) h = loads a b spot x code ls dropped l k c i h
-  typed_told x code ls lines dropped type n l k (op.Store i c spot) h = stores a b spot x code ls dropped l k c i h
-  typed_told x code ls lines dropped type n l k (op.LoadRef r c spot) h = loads_reference a b spot x code ls l k c false r h
-  typed_told x code ls lines dropped type n l k (op.TakeCell r c spot) h = loads_reference a b spot x code ls l k c true r h
-  typed_told x code ls lines dropped type n l k (op.StoreRef r c spot) h = stores_reference a b spot x code ls l k c type r h
-  typed_told x code ls lines dropped type n l k (op.New r count cells spot) h = makes a b spot x code l k r cells h
+  typed_told x code ls lines dropped type n l k (Op.Load i c spot) h = loads a b spot x code ls dropped l k c i h
+  typed_told x code ls lines dropped type n l k (Op.Store i c spot) h = stores a b spot x code ls dropped l k c i h
+  typed_told x code ls lines dropped type n l k (Op.LoadRef r c spot) h = loads_reference a b spot x code ls l k c false r h
+  typed_told x code ls lines dropped type n l k (Op.TakeCell r c spot) h = loads_reference a b spot x code ls l k c true r h
+  typed_told x code ls lines dropped type n l k (Op.StoreRef r c spot) h = stores_reference a b spot x code ls l k c type r h
+  typed_told x code ls lines dropped type n l k (Op.New r count cells spot) h = makes a b spot x code l k r cells h
   typed_told x code ls lines dropped type n l k o h = h
 
   repeats_told : (x : Targets) (l : Label) (passes : List Pass) (o : Op) → RepeatsCheck x l passes (with_texts a b o) → RepeatsCheck x l passes o
-  repeats_told x l passes (op.Load i c spot) h = h
+  repeats_told x l passes (Op.Load i c spot) h = h
   repeats_told x l passes o h = h
 
   leads_told : (pc : ℕ) (o : Op) (t : ℕ) → leads_to pc (with_texts a b o) t ≡ leads_to pc o t
-  leads_told pc op.Enter t = refl
+  leads_told pc Op.Enter t = refl
   leads_told pc o t = refl
 
   remembers_told : (x : Targets) (dropped : Bool) (l : Label) (o : Op) (passes : List Pass) → remembered x dropped l (with_texts a b o) passes ≡ remembered x dropped l o passes
-  remembers_told x dropped l op.Enter passes = refl
+  remembers_told x dropped l Op.Enter passes = refl
   remembers_told x dropped l o passes = refl
 
   straight_told : (o : Op) → is_straight (with_texts a b o) ≡ is_straight o
-  straight_told op.Enter = refl
+  straight_told Op.Enter = refl
   straight_told o = refl
 
   knows_told : (o : Op) (k : Know) → know_next (with_texts a b o) k ≡ know_next o k
-  knows_told op.Enter k = refl
+  knows_told Op.Enter k = refl
   knows_told o k = refl
 
   record Accessed (o : Op) (c : Cell) : Type 0 where
@@ -134,10 +126,10 @@ module _ (a b : Text) where
     same : of.cell ≡ c
 
   accessed : (o : Op) (w : Access) → access (with_texts a b o) ≡ Some w → Accessed o w.cell
-  accessed (op.Load i c spot) w e = record { of = record { kind = Read; cell = c; spot = spot }; is = refl; same = ap (λ (v : Access). v.cell) (same_Some _ w e) }
-  accessed (op.Store i c spot) w e = record { of = record { kind = Write; cell = c; spot = spot }; is = refl; same = ap (λ (v : Access). v.cell) (same_Some _ w e) }
-  accessed (op.LoadRef r c spot) w e = record { of = record { kind = Read; cell = c; spot = spot }; is = refl; same = ap (λ (v : Access). v.cell) (same_Some _ w e) }
-  accessed (op.StoreRef r c spot) w e = record { of = record { kind = Write; cell = c; spot = spot }; is = refl; same = ap (λ (v : Access). v.cell) (same_Some _ w e) }
+  accessed (Op.Load i c spot) w e = record { of = record { kind = Read; cell = c; spot = spot }; is = refl; same = ap (λ (v : Access). v.cell) (same_Some _ w e) }
+  accessed (Op.Store i c spot) w e = record { of = record { kind = Write; cell = c; spot = spot }; is = refl; same = ap (λ (v : Access). v.cell) (same_Some _ w e) }
+  accessed (Op.LoadRef r c spot) w e = record { of = record { kind = Read; cell = c; spot = spot }; is = refl; same = ap (λ (v : Access). v.cell) (same_Some _ w e) }
+  accessed (Op.StoreRef r c spot) w e = record { of = record { kind = Write; cell = c; spot = spot }; is = refl; same = ap (λ (v : Access). v.cell) (same_Some _ w e) }
   accessed o w e = absurd (none-some w e)
 
   pub line_told : (z : Setting) (f : ℕ) (table : ℕ → Mark) (pc : ℕ) (s : Mark) (o : Op) → IsLine z f table pc s o → IsLine z f table pc s (with_texts a b o)

@@ -1,9 +1,6 @@
 -- What a label says does not change by what is known of NULL, by the gate, or by the checks that are remembered.
-use Rattle.std.proofs.Common.{◌≡◌, ℕ, Bool, true, List, [], ◌∷◌, Option}
-use Rattle.std.specs.Prelude.{slice_index_or}
-use Rattle.sharc_code.specs.{declared.code.Code.Code, declared.code.PlaceMode.PlaceMode, declared.instr.Cell.Cell}
-use Rattle.sharc_code.specs.declared.instr.Cell.TheVariants as cells
-use Rattle.sharc_invariant.specs.{Types.{Targets, Lock, StaticType, Field, FieldLock, FieldMode, Content}, Types.Lock.{Global, Through, Self}, Types.FieldLock.{OfType, OfGlobals, OfElement}, Types.FieldMode.Under, Types.Content.Pointer, Labels.{Entry, Empty, Refers, Unknown, Gate, Pass, Label, SameReference, Itself, IsCopy, HasCopy, Copies, Chained, SameLock, AllSame, LessEntry}, Typed.{HasField, HasBase, HasCell, IsSibling, IsLockCell, IsTypeLock, IsMutexOf, IsLockMode, IsTypeMode, HasBefore, IsMode, IsFieldLock, IsAnyLock, AreFieldLocks, PointsTo, IsSameFieldLock, IsSameContent, Recasts, IsPlace, no_lock}}
+use Rattle.sharc_typed_laws.proofs.Imports.{◌≡◌, ℕ, Bool, true, List, [], ◌∷◌, Option, slice_index_or, Code, PlaceMode, Cell, Targets, Lock, StaticType, Field, FieldLock, FieldMode, Content, Global, Through, Self, OfType, OfGlobals, OfSameElement as OfElement, Under, Pointer, Entry, Empty, Refers, Unknown, Gate, Pass, Label, SameReference, Itself, IsCopy, HasCopy, Copies, Chained, SameLock, AllSame, LessEntry, HasField, HasCell, IsSibling, IsLockCell, IsTypeLock, IsMutexOf, IsLockMode, IsTypeMode, HasBefore, IsMode, IsFieldLock, IsAnyLock, AreFieldLocks, PointsTo, IsSameFieldLock, IsSameContent, Recasts, IsPlace, no_lock}
+use Rattle.sharc_invariant.specs.Typed.{HasBase}
 
 pub all_same : {A B : Type 0} (R S : A → B → Type 0) (each : (a : A) (b : B) → R a b → S a b) (xs : List A) (ys : List B) → AllSame R xs ys → AllSame S xs ys
 all_same R S each [] [] h = tt
@@ -22,33 +19,33 @@ module _ (l : Label) (known : ℕ → Bool) (gate : Gate) (passed : List Pass) w
   same_reference p q (Chained c h k) = Chained c (same_reference p c h) (same_reference c q k)
 
   pub has_field : (x : Targets) (code : Code) (c : Cell) (f : Field) → HasField x code l c f → HasField x code b c f
-  has_field x code (cells.Global g p) f h = h
+  has_field x code (Cell.Global g p) f h = h
   has_field x code _ f h = h
 
   has_base : ((r : ℕ) → l.known r ≡ true → known r ≡ true) → (c : Cell) → HasBase l c → HasBase b c
-  has_base more (cells.Object r i) h = more r h
-  has_base more (cells.ObjectAt r i) h = more r h
+  has_base more (Cell.Object r i) h = more r h
+  has_base more (Cell.ObjectAt r i) h = more r h
   has_base more _ h = h
 
   pub has_cell : ((r : ℕ) → l.known r ≡ true → known r ≡ true) → (x : Targets) (code : Code) (c : Cell) (f : Field) → HasCell x code l c f → HasCell x code b c f
   has_cell more x code c f h = record { field = has_field x code c f h.field; base = has_base more c h.base }
 
   pub sibling : (field other : ℕ) (c m : Cell) → IsSibling l field other c m → IsSibling b field other c m
-  sibling field other (cells.Global g p) (cells.Global h q) k = k
-  sibling field other (cells.GlobalAt g i) (cells.GlobalAt h j) k = k
-  sibling field other (cells.Object r i) (cells.Object q j) k = (same_reference r q k.0, k.1, k.2)
-  sibling field other (cells.ObjectAt r i) (cells.ObjectAt q j) k = (same_reference r q k.0, k.1)
+  sibling field other (Cell.Global g p) (Cell.Global h q) k = k
+  sibling field other (Cell.GlobalAt g i) (Cell.GlobalAt h j) k = k
+  sibling field other (Cell.Object r i) (Cell.Object q j) k = (same_reference r q k.0, k.1, k.2)
+  sibling field other (Cell.ObjectAt r i) (Cell.ObjectAt q j) k = (same_reference r q k.0, k.1)
   sibling field other _ _ k = absurd k
 
   lock_cell : (code : Code) (r : ℕ) (lock : Lock) (m : Cell) → IsLockCell code l r lock m → IsLockCell code b r lock m
-  lock_cell code r (Global j) (cells.Global g p) h = h
-  lock_cell code r (Through q j) (cells.Object a i) h = (h.0, same_reference a q h.1)
-  lock_cell code r (Self j) (cells.Object a i) h = (h.0, same_reference a r h.1)
+  lock_cell code r (Global j) (Cell.Global g p) h = h
+  lock_cell code r (Through q j) (Cell.Object a i) h = (h.0, same_reference a q h.1)
+  lock_cell code r (Self j) (Cell.Object a i) h = (h.0, same_reference a r h.1)
   lock_cell code r _ _ h = absurd h
 
   type_lock : (code : Code) (k : ℕ) (c m : Cell) → IsTypeLock code l k c m → IsTypeLock code b k c m
-  type_lock code k (cells.Object r i) m h = (h.0, h.1, h.2, lock_cell code r (slice_index_or h.0.locks k no_lock) m h.3)
-  type_lock code k (cells.ObjectAt r i) m h = (h.0, h.1, h.2, lock_cell code r (slice_index_or h.0.locks k no_lock) m h.3)
+  type_lock code k (Cell.Object r i) m h = (h.0, h.1, h.2, lock_cell code r (slice_index_or h.0.locks k no_lock) m h.3)
+  type_lock code k (Cell.ObjectAt r i) m h = (h.0, h.1, h.2, lock_cell code r (slice_index_or h.0.locks k no_lock) m h.3)
   type_lock code k _ m h = absurd h
 
   pub mutex_of : (code : Code) (lock : FieldLock) (c m : Cell) → IsMutexOf code l lock c m → IsMutexOf code b lock c m
@@ -62,12 +59,12 @@ module _ (l : Label) (known : ℕ → Bool) (gate : Gate) (passed : List Pass) w
   lock_mode code r (Self j) mode h = (h.0, h.1, same_reference h.0 r h.2)
 
   type_mode : (code : Code) (k : ℕ) (c : Cell) (mode : PlaceMode) → IsTypeMode code l k c mode → IsTypeMode code b k c mode
-  type_mode code k (cells.Object r i) mode h = (h.0, h.1, lock_mode code r (slice_index_or h.0.locks k no_lock) mode h.2)
-  type_mode code k (cells.ObjectAt r i) mode h = (h.0, h.1, lock_mode code r (slice_index_or h.0.locks k no_lock) mode h.2)
+  type_mode code k (Cell.Object r i) mode h = (h.0, h.1, lock_mode code r (slice_index_or h.0.locks k no_lock) mode h.2)
+  type_mode code k (Cell.ObjectAt r i) mode h = (h.0, h.1, lock_mode code r (slice_index_or h.0.locks k no_lock) mode h.2)
   type_mode code k _ mode h = absurd h
 
   before : (code : Code) (field : ℕ) (c : Cell) → HasBefore code l field c → HasBefore code b field c
-  before code field (cells.Global g p) h = h
+  before code field (Cell.Global g p) h = h
   before code field _ h = h
 
   pub mode_is : (code : Code) (c : Cell) (f : FieldMode) (mode : PlaceMode) → IsMode code l c f mode → IsMode code b c f mode
@@ -103,8 +100,8 @@ module _ (l : Label) (known : ℕ → Bool) (gate : Gate) (passed : List Pass) w
   any_lock r s lock j h = field_lock r 0 s lock j h
 
   field_locks : (c : Cell) (locks : List Lock) (fields : List FieldLock) → AreFieldLocks l c locks fields → AreFieldLocks b c locks fields
-  field_locks (cells.Object r i) locks fields h = (h.0, h.1, all_same (IsFieldLock l r i h.0) (IsFieldLock b r i h.0) (field_lock r i h.0) locks fields h.2)
-  field_locks (cells.ObjectAt r i) locks fields h = (h.0, h.1, all_same (IsAnyLock l r h.0) (IsAnyLock b r h.0) (any_lock r h.0) locks fields h.2)
+  field_locks (Cell.Object r i) locks fields h = (h.0, h.1, all_same (IsFieldLock l r i h.0) (IsFieldLock b r i h.0) (field_lock r i h.0) locks fields h.2)
+  field_locks (Cell.ObjectAt r i) locks fields h = (h.0, h.1, all_same (IsAnyLock l r h.0) (IsAnyLock b r h.0) (any_lock r h.0) locks fields h.2)
   field_locks _ locks fields h = h
 
   pub points_to : (c : Cell) (f : Field) (s : StaticType) → PointsTo l c f s → PointsTo b c f s
@@ -124,6 +121,6 @@ module _ (l : Label) (known : ℕ → Bool) (gate : Gate) (passed : List Pass) w
   recasts x r s t h = record { some = h.some; is_row = h.is_row; cells = h.cells; same = λ field lt. same_content r s t _ _ (h.same field lt) }
 
   pub place_is : (x : Targets) (c : Cell) (base : Option ℕ) (n : ℕ) → IsPlace x l c base n → IsPlace x b c base n
-  place_is x (cells.Object r i) base n h = (h.0, (h.1.0, h.1.1, same_reference r h.1.0 h.1.2))
-  place_is x (cells.ObjectAt r i) base n h = (h.0, h.1, h.2, h.3, h.4, same_reference r h.0 h.5, h.6, h.7, h.8)
+  place_is x (Cell.Object r i) base n h = (h.0, (h.1.0, h.1.1, same_reference r h.1.0 h.1.2))
+  place_is x (Cell.ObjectAt r i) base n h = (h.0, h.1, h.2, h.3, h.4, same_reference r h.0 h.5, h.6, h.7, h.8)
   place_is x _ base n h = h

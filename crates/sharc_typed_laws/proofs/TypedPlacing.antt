@@ -1,25 +1,13 @@
 -- Labels of lines are those of the places where their pieces begin, and each piece is typed where it stands.
-use Rattle.std.proofs.{Common.{◌≡◌, ℕ, zero, suc, ◌+◌, ◌≤◌, Bool, true, false, List, [], ◌∷◌, ◌++◌, length, map, Some, refl, sym, ap, ◌∙◌, subst, inl, inr, ⊎_elim, arith}, lemmas.List.{map-append, get_or-append-add}}
-use Rattle.std.specs.{List.AllByRecursion, Prelude.{slice_get, slice_index_or}}
-use Rattle.sharc_code.specs.{declared.code.Code.Code, declared.code.PlaceMode.PlaceMode, declared.instr.Cell.Cell, declared.instr.Instr.Instr, declared.instr.Instr.TheVariants.{Jump, JumpIfZero, JumpIfNull, Call, Return, Load, Store, LoadRef, Exchange, TakeCell, Exit}, Says.place_at}
-use Rattle.sharc_code.specs.declared.code.PlaceMode.TheVariants as modes
-use Rattle.sharc_code.specs.declared.instr.Cell.TheVariants as cells
-use Rattle.sharc_flat.specs.{declared.op.Op.Op, declared.op.Spot.Spot}
-use Rattle.sharc_flat.specs.declared.op.Op.TheVariants as op
-use Rattle.sharc_compile.specs.Generated.{instr_of}
-use Rattle.sharc_guard.specs.Guard.{check_under, expand, expanded, width, offset, place, source_of}
-use Rattle.sharc_invariant.specs.{Types.{Targets, StaticType, Field, FieldMode, Content}, Types.FieldMode.{Private, Readonly, Racy, Dynamic, Under, Behind}, Labels.{Label, Labels, Less, IsScoped, IsFree, empty, knows}, Typed.{Fine, Calls, Accesses, MayAccess, ints_in, refs_in}}
-use Rattle.sharc_typed_laws.specs.{Steps.{all_at, Steps, Chain, first_or}, Inside.{FlatLabels, outside, inside, before_check, known_behind, gate_behind, passed_behind, labels_from}, Lines.{TypedLine, To}}
-use Rattle.sharc_invariant.proofs.Scoped.{less_refl}
-use Rattle.sharc_typed_laws.proofs.{Pieces.pieces, Preorder.less_through, Weaker.steps, Scoping.scoped}
+use Rattle.sharc_typed_laws.proofs.{Imports.{◌≡◌, ℕ, zero, suc, ◌+◌, ◌≤◌, Bool, true, false, List, [], ◌∷◌, ◌++◌, length, map, Some, refl, sym, ap, ◌∙◌, subst, inl, inr, ⊎_elim, arith, map-append, get_or-append-add, AllByRecursion, slice_get, slice_index_or, Code, PlaceMode, Cell, Instr, Jump, JumpIfZero, JumpIfNull, Call, Return, Load, Store, LoadRef, Exchange, TakeCell, Exit, place_at, Op, Spot, instr_of, check_under, expand, expanded, width, offset, place, source_of, Targets, StaticType, Field, FieldMode, Content, Private, Readonly, Racy, Dynamic, Under, Behind, Label, Labels, Less, IsScoped, IsFree, empty, knows, Fine, Calls, Accesses, MayAccess, ints_in, refs_in, all_at, Steps, Chain, first_or, FlatLabels, outside, inside, before_check, known_behind, gate_behind, passed_behind, labels_from, TypedLine, To, less_refl}, Pieces.pieces, Preorder.less_through, Weaker.steps, Scoping.scoped}
 
 -- ---- one statement at its place
 module _ (x : Targets) (code : Code) (ls : Labels) (at : ℕ → Label) (k : Label) where
   may_there : (l : Label) (write : Bool) (c : Cell) (holds : Content) (fm : FieldMode) → MayAccess x code (all_at ls k) l write c holds fm → MayAccess x code (record ls { at = at }) l write c holds fm
-  may_there l write (cells.Global g p) holds Private h = h
-  may_there l write (cells.GlobalAt g i) holds Private h = h
-  may_there l write (cells.Object r i) holds Private h = h
-  may_there l write (cells.ObjectAt r i) holds Private h = h
+  may_there l write (Cell.Global g p) holds Private h = h
+  may_there l write (Cell.GlobalAt g i) holds Private h = h
+  may_there l write (Cell.Object r i) holds Private h = h
+  may_there l write (Cell.ObjectAt r i) holds Private h = h
   may_there l write c holds Readonly h = h
   may_there l write c holds Racy h = h
   may_there l write c holds Dynamic h = h
@@ -48,21 +36,21 @@ at_place x code ls at pc l i h = h
 -- ---- how many labels a piece has
 check_length : (l : Label) (dropped : Bool) (dynamic : Instr) (spot : Spot) (n : ℕ) (mode : PlaceMode) (labels : List Label) (own tail : List Instr) → length labels ≡ length (own ++ tail)
     → length (before_check dropped l mode ++ labels) ≡ length ((check_under dropped dynamic spot n mode ++ own) ++ tail)
-check_length l true dynamic spot n modes.Private labels own tail e = e
-check_length l true dynamic spot n modes.Readonly labels own tail e = e
-check_length l true dynamic spot n modes.Racy labels own tail e = e
-check_length l true dynamic spot n modes.Dynamic labels own tail e = e
-check_length l false dynamic spot n modes.Private labels own tail e = e
-check_length l false dynamic spot n modes.Readonly labels own tail e = e
-check_length l false dynamic spot n modes.Racy labels own tail e = e
+check_length l true dynamic spot n PlaceMode.Private labels own tail e = e
+check_length l true dynamic spot n PlaceMode.Readonly labels own tail e = e
+check_length l true dynamic spot n PlaceMode.Racy labels own tail e = e
+check_length l true dynamic spot n PlaceMode.Dynamic labels own tail e = e
+check_length l false dynamic spot n PlaceMode.Private labels own tail e = e
+check_length l false dynamic spot n PlaceMode.Readonly labels own tail e = e
+check_length l false dynamic spot n PlaceMode.Racy labels own tail e = e
 check_length l _ dynamic spot n _ labels own tail e = ap suc e
 
 inside_length : (x : Targets) (dropped : Bool) (type : StaticType) (n : ℕ) (o : Op) (l : Label) → length (inside x dropped type o l) ≡ width dropped n o
-inside_length x dropped type n (op.Load i c spot) l = check_length l dropped _ spot n spot.mode _ _ _ refl
-inside_length x dropped type n (op.Store i c spot) l = check_length l dropped _ spot n spot.mode _ _ _ refl
-inside_length x dropped type n (op.LoadRef r c spot) l = check_length l false _ spot n spot.mode _ _ _ refl
-inside_length x dropped type n (op.StoreRef r c spot) l = check_length l false _ spot n spot.mode _ _ _ refl
-inside_length x dropped type n (op.TakeCell r c spot) l = check_length l false _ spot n spot.mode _ _ _ refl
+inside_length x dropped type n (Op.Load i c spot) l = check_length l dropped _ spot n spot.mode _ _ _ refl
+inside_length x dropped type n (Op.Store i c spot) l = check_length l dropped _ spot n spot.mode _ _ _ refl
+inside_length x dropped type n (Op.LoadRef r c spot) l = check_length l false _ spot n spot.mode _ _ _ refl
+inside_length x dropped type n (Op.StoreRef r c spot) l = check_length l false _ spot n spot.mode _ _ _ refl
+inside_length x dropped type n (Op.TakeCell r c spot) l = check_length l false _ spot n spot.mode _ _ _ refl
 inside_length x dropped type n o l = refl
 
 -- ---- with which label a piece begins
@@ -71,8 +59,8 @@ Begins labels l = (rest : List Label) → slice_index_or (labels ++ rest) 0 outs
 
 begins_checked : (x : Targets) (l : Label) (dropped write : Bool) (c : Cell) (spot : Spot) (mode : PlaceMode) (labels : List Label)
     → Begins (before_check dropped l mode ++ (record l { known = known_behind l spot mode; gate = gate_behind dropped l write c spot mode; passed = passed_behind x dropped l write c mode } ∷ labels)) l
-begins_checked x l true write c spot (modes.LockedGlobal g p) labels rest = refl
-begins_checked x l false write c spot modes.Private labels rest = refl
+begins_checked x l true write c spot (PlaceMode.LockedGlobal g p) labels rest = refl
+begins_checked x l false write c spot PlaceMode.Private labels rest = refl
 begins_checked x l _ write c spot _ labels rest = refl
 
 same_less : (l k : Label) → k ≡ l → Less l k
@@ -80,38 +68,38 @@ same_less l k e = subst (Less l) (sym e) (less_refl l)
 
 inside_begins : (x : Targets) (code : Code) (ls : Labels) (lines : ℕ) (dropped : Bool) (type : StaticType) (n : ℕ) (l k : Label) (o : Op) (rest : List Label)
     → TypedLine x code ls lines dropped type n l k o → Less k (slice_index_or rest 0 outside) → Less l (slice_index_or (inside x dropped type o l ++ rest) 0 outside)
-inside_begins x code ls lines dropped type n l k op.Enter rest h e = less_through l k (slice_index_or rest 0 outside) h e
-inside_begins x code ls lines dropped type n l k op.BlockEnd rest h e = less_through l k (slice_index_or rest 0 outside) h e
-inside_begins x code ls lines dropped type n l k (op.Load i c spot) rest h e = same_less l _ (begins_checked x l dropped false c spot spot.mode [] rest)
-inside_begins x code ls lines dropped type n l k (op.Store i c spot) rest h e = same_less l _ (begins_checked x l dropped true c spot spot.mode [] rest)
-inside_begins x code ls lines dropped type n l k (op.LoadRef r c spot) rest h e = same_less l _ (begins_checked x l false false c spot spot.mode _ rest)
-inside_begins x code ls lines dropped type n l k (op.StoreRef r c spot) rest h e = same_less l _ (begins_checked x l false true c spot spot.mode _ rest)
-inside_begins x code ls lines dropped type n l k (op.TakeCell r c spot) rest h e = same_less l _ (begins_checked x l false true c spot spot.mode [] rest)
+inside_begins x code ls lines dropped type n l k Op.Enter rest h e = less_through l k (slice_index_or rest 0 outside) h e
+inside_begins x code ls lines dropped type n l k Op.BlockEnd rest h e = less_through l k (slice_index_or rest 0 outside) h e
+inside_begins x code ls lines dropped type n l k (Op.Load i c spot) rest h e = same_less l _ (begins_checked x l dropped false c spot spot.mode [] rest)
+inside_begins x code ls lines dropped type n l k (Op.Store i c spot) rest h e = same_less l _ (begins_checked x l dropped true c spot spot.mode [] rest)
+inside_begins x code ls lines dropped type n l k (Op.LoadRef r c spot) rest h e = same_less l _ (begins_checked x l false false c spot spot.mode _ rest)
+inside_begins x code ls lines dropped type n l k (Op.StoreRef r c spot) rest h e = same_less l _ (begins_checked x l false true c spot spot.mode _ rest)
+inside_begins x code ls lines dropped type n l k (Op.TakeCell r c spot) rest h e = same_less l _ (begins_checked x l false true c spot spot.mode [] rest)
 inside_begins x code ls lines dropped type n l k o rest h e = less_refl l
 
 -- ---- of one function throughout
 check_function : (l : Label) (dropped : Bool) (mode : PlaceMode) (labels : List Label) → AllByRecursion (λ (m : Label). m.function ≡ l.function) labels
     → AllByRecursion (λ (m : Label). m.function ≡ l.function) (before_check dropped l mode ++ labels)
-check_function l true modes.Private labels k = k
-check_function l true modes.Readonly labels k = k
-check_function l true modes.Racy labels k = k
-check_function l true modes.Dynamic labels k = k
-check_function l false modes.Private labels k = k
-check_function l false modes.Readonly labels k = k
-check_function l false modes.Racy labels k = k
+check_function l true PlaceMode.Private labels k = k
+check_function l true PlaceMode.Readonly labels k = k
+check_function l true PlaceMode.Racy labels k = k
+check_function l true PlaceMode.Dynamic labels k = k
+check_function l false PlaceMode.Private labels k = k
+check_function l false PlaceMode.Readonly labels k = k
+check_function l false PlaceMode.Racy labels k = k
 check_function l _ _ labels k = (refl, k)
 
 inside_function : (x : Targets) (dropped : Bool) (type : StaticType) (o : Op) (l : Label) → AllByRecursion (λ (m : Label). m.function ≡ l.function) (inside x dropped type o l)
-inside_function x dropped type op.Enter l = tt
-inside_function x dropped type op.BlockEnd l = tt
-inside_function x dropped type (op.Settle to from) l = (refl, (refl, tt))
-inside_function x dropped type (op.Load i c spot) l = check_function l dropped spot.mode _ (refl, tt)
-inside_function x dropped type (op.Store i c spot) l = check_function l dropped spot.mode _ (refl, tt)
-inside_function x dropped type (op.LoadRef r c spot) l = check_function l false spot.mode _ (refl, (refl, tt))
-inside_function x dropped type (op.StoreRef r c spot) l = check_function l false spot.mode _ (refl, (refl, tt))
-inside_function x dropped type (op.TakeCell r c spot) l = check_function l false spot.mode _ (refl, tt)
-inside_function x dropped type (op.Give r cells spot) l = (refl, (refl, (refl, tt)))
-inside_function x dropped type (op.Free r layout spot) l = (refl, (refl, tt))
+inside_function x dropped type Op.Enter l = tt
+inside_function x dropped type Op.BlockEnd l = tt
+inside_function x dropped type (Op.Settle to from) l = (refl, (refl, tt))
+inside_function x dropped type (Op.Load i c spot) l = check_function l dropped spot.mode _ (refl, tt)
+inside_function x dropped type (Op.Store i c spot) l = check_function l dropped spot.mode _ (refl, tt)
+inside_function x dropped type (Op.LoadRef r c spot) l = check_function l false spot.mode _ (refl, (refl, tt))
+inside_function x dropped type (Op.StoreRef r c spot) l = check_function l false spot.mode _ (refl, (refl, tt))
+inside_function x dropped type (Op.TakeCell r c spot) l = check_function l false spot.mode _ (refl, tt)
+inside_function x dropped type (Op.Give r cells spot) l = (refl, (refl, (refl, tt)))
+inside_function x dropped type (Op.Free r layout spot) l = (refl, (refl, tt))
 inside_function x dropped type o l = (refl, tt)
 
 -- what holds of labels by their function and what is said of them
@@ -257,11 +245,11 @@ module _ (x : Targets) (code : Code) (dropped : ℕ → Bool) (fl : FlatLabels) 
     -- the piece of a line, where the labels behind it are these
     piece_fine : (pc k : ℕ) (o : Op) (rest : List Label) → Stands k o → There x code fl.lines at pc (inside x (dropped k) (fl.replaced k) o (fl.lines.at k) ++ rest) → Less (fl.lines.at (k + 1)) (slice_index_or rest 0 outside)
         → Fines pc (inside x (dropped k) (fl.replaced k) o (fl.lines.at k)) (map (instr_of code.functions.items) (expand pl (dropped k) k o))
-    piece_fine pc k (op.Skip over) rest s there next = ((s.typed.0, goes_to (k + 1 + over) (fl.lines.at k) s.typed.1), tt)
-    piece_fine pc k (op.SkipIfZero i over) rest s there next =
+    piece_fine pc k (Op.Skip over) rest s there next = ((s.typed.0, goes_to (k + 1 + over) (fl.lines.at k) s.typed.1), tt)
+    piece_fine pc k (Op.SkipIfZero i over) rest s there next =
         let e : Less (fl.lines.at (k + 1)) (at (pc + 1)) = subst (Less (fl.lines.at (k + 1))) (sym (there 1)) next in
         ((s.typed.0, goes_to (k + 1 + over) (fl.lines.at k) s.typed.1, less_through (fl.lines.at k) (fl.lines.at (k + 1)) (at (pc + 1)) s.typed.2 e), tt)
-    piece_fine pc k (op.SkipIfNull r over) rest s there next =
+    piece_fine pc k (Op.SkipIfNull r over) rest s there next =
         let e : Less (fl.lines.at (k + 1)) (at (pc + 1)) = subst (Less (fl.lines.at (k + 1))) (sym (there 1)) next in
         let l = fl.lines.at k in (
           (
@@ -272,7 +260,7 @@ module _ (x : Targets) (code : Code) (dropped : ℕ → Bool) (fl : FlatLabels) 
           ),
           tt,
         )
-    piece_fine pc k (op.Jump to) rest s there next = ((s.typed.0, goes_to to (fl.lines.at k) s.typed.1), tt)
+    piece_fine pc k (Op.Jump to) rest s there next = ((s.typed.0, goes_to to (fl.lines.at k) s.typed.1), tt)
     piece_fine pc k o rest s there next =
         chain_fine x code fl.lines at pc (inside x (dropped k) (fl.replaced k) o (fl.lines.at k)) (map (instr_of code.functions.items) (expand pl (dropped k) k o)) rest (fl.lines.at (k + 1))
         (pieces x code fl.lines lines (dropped k) (fl.replaced k) k (fl.lines.at k) (fl.lines.at (k + 1)) o pl tt s.site s.typed) there next

@@ -1,14 +1,5 @@
 -- What is accessed, with the base and the index of its cell at hand: loads, stores and takes.
-use Rattle.std.proofs.{Common.{◌≡◌, ℕ, ◌+◌, ◌<◌, ◌≤◌, Bool, true, false, List, [], ◌∷◌, Some, refl, sym, ap, ◌∙◌, subst, inl, ⊎_elim, arith}, lemmas.Bool.{false≢true, cases_eq, cases_lt}}
-use Rattle.sharc_code.specs.{declared.instr.Cell.Cell, declared.instr.Width.Width, Runs.put}
-use Rattle.sharc_code.proofs.Places.{put_same, put_other, put_all}
-use Rattle.sharc_flat.specs.{declared.op.Op.Op, declared.op.Spot.Spot, Framed.OpWrites}
-use Rattle.sharc_flat.specs.declared.op.Op.TheVariants as op
-use Rattle.sharc_invariant.specs.{Types.{StaticType, Field, FieldType, Mentions}, Types.FieldMode.Readonly, Types.Content.{Integer, Pointer}, Labels.{Empty, Refers, Number, Anything, Within, Gate, Closed, Loaded, Label, Less, LessNumber, LessEntry, LessGate, EntryMentions, IsScoped, set_number, fill, empty, without_copies, without_index}, Typed.{IsVacant, PointsTo, HasCell, Fits as FitsWidth, ints_in, refs_in}}
-use Rattle.sharc_invariant.proofs.Scoped.{less_refl, less_entry_refl, less_number_refl, scoped_fill}
-use Rattle.sharc_typed_laws.specs.{Passes.IsNumberOf, Stretches.{Mark, Setting, Fits, IsAtHand, IsLine}, Places.{IsNamed, MayReach, mark}}
-use Rattle.sharc_typed_laws.proofs.{Standing.{less_by, without_same, uncopied, scoped_frame, unnamed, stands_number}, Telling.{told, other_than}, Accesses.{InFrame, on_load, on_store, on_load_reference, on_take_cell, on_store_reference, on_load_guard}, Parts.{P, does, At, same_number, told_same, told_number, with_number}}
-use Rattle.sharc_lemmas.proofs.Options.{no_guard as none_some}
+use Rattle.sharc_typed_laws.proofs.{Imports.{◌≡◌, ℕ, ◌+◌, ◌<◌, ◌≤◌, Bool, true, false, List, [], ◌∷◌, Some, refl, sym, ap, ◌∙◌, subst, inl, ⊎_elim, arith, false≢true, cases_eq, cases_lt, Cell, Width, put, put_same, put_other, put_all, Op, Spot, OpWrites, StaticType, Field, FieldType, Mentions, Readonly, Integer, Pointer, Empty, Refers, Number, Anything, Within, Gate, Closed, Loaded, Label, Less, LessNumber, LessEntry, LessGate, EntryMentions, IsScoped, set_number, fill, empty, without_copies, without_index, IsVacant, PointsTo, HasCell, FitsWidth, ints_in, refs_in, less_refl, less_entry_refl, less_number_refl, scoped_fill, IsNumberOf, Mark, Setting, Fits, IsAtHand, IsLine, IsNamed, MayReach, mark, none_some}, Standing.{less_by, without_same, uncopied, scoped_frame, unnamed, stands_number}, Telling.{told, other_than}, Accesses.{InFrame, on_load, on_store, on_load_reference, on_take_cell, on_store_reference, on_load_guard}, Parts.{P, does, At, same_number, told_same, told_number, with_number}}
 
 -- the integer registers hold this, and this stands directly before
 abbrev pub over : Label → (ℕ → Number) → Gate → Label
@@ -50,25 +41,25 @@ module _ (around : Setting) (f : ℕ) (D : (ℕ → Mark) → Type 0) (named : �
 
     -- the pointer to the mutex is read
     pub guard_at : (until : ℕ) (cell : Cell) (spot : Spot) (field : Field) (to : FieldType) → HasCell around.targets around.code (over l g Closed) cell field → field.mode ≡ Readonly → field.holds ≡ Pointer to
-        → Q (mark (over l g Closed) from until) (op.LoadGuard cell spot ∷ []) (mark (over l g (Loaded cell)) from until)
-    guard_at until cell spot field to has mode holds = one (mark (over l g Closed) from until) (op.LoadGuard cell spot) (mark (over l g (Loaded cell)) from until)
+        → Q (mark (over l g Closed) from until) (Op.LoadGuard cell spot ∷ []) (mark (over l g (Loaded cell)) from until)
+    guard_at until cell spot field to has mode holds = one (mark (over l g Closed) from until) (Op.LoadGuard cell spot) (mark (over l g (Loaded cell)) from until)
         (λ _ h. record { few = h.few; paths = h.paths; copies = h.copies; bases = h.bases; known = h.known; passes = h.passes; numbers = h.numbers })
         (λ table pc w h next. on_load_guard around f table pc (mark (over l g Closed) from until) (mark (over l g (Loaded cell)) from until) next (here Closed until h) cell spot field to refl has mode holds (less_refl (over l g (Loaded cell)))
-        (λ _ k t. told_same (op.LoadGuard cell spot) (λ q. refl) (λ j. refl) around k (mark (over l g Closed) from until) (mark (over l g (Loaded cell)) from until) (λ q. refl) (omega arith) (omega arith)
+        (λ _ k t. told_same (Op.LoadGuard cell spot) (λ q. refl) (λ j. refl) around k (mark (over l g Closed) from until) (mark (over l g (Loaded cell)) from until) (λ q. refl) (omega arith) (omega arith)
         (λ j n a b z. same_number around f D named top low from (over l g Closed) (over l g (Loaded cell)) n (g j) (λ q _. refl) z) t))
 
     -- an integer
     pub load_at : (c : Gate) (until : ℕ) → i ≤ until → (cell : Cell) (spot : Spot) (field : Field) (w : Width) → IsAtHand (mark (over l g c) from until) cell → MayReach around (over l g c) false cell spot field → field.holds ≡ Integer w
-        → Q (mark (over l g c) from until) (op.Load i cell spot ∷ []) (with_number around f D named top low from l i (Within w))
+        → Q (mark (over l g c) from until) (Op.Load i cell spot ∷ []) (with_number around f D named top low from l i (Within w))
     load_at c until le cell spot field w hand may holds =
         let a = over l g c in
         let n : Number = Within w in
-        one (mark a from until) (op.Load i cell spot) (mark (set_number l i n) from (i + 1))
+        one (mark a from until) (Op.Load i cell spot) (mark (set_number l i n) from (i + 1))
         (λ in_it h. scoped_frame named (i + 1) r (set_number l i n) (stands_number named i r l at.stands n (λ q b. absurd b)) fi fr h.few
         (put_all (λ j y. fi ≤ j → y ≡ Anything) l.ints i n (λ ge. absurd (omega (arith, in_it, ge))) (λ j _ ge. at.stands.numbers j (omega (arith, in_it, ge)))))
         (λ table pc in_it h next. on_load around f table pc (mark a from until) (mark (set_number l i n) from (i + 1)) next (here c until h) i cell spot field w hand (subst (λ o. i < ints_in around.code o) (sym at.owned) in_it) may holds
         (less_by (set_number a i n) (set_number l i n) refl (λ q. less_entry_refl (set_number a i n) q (l.env q)) (λ q. refl) (λ q e. e) (λ j. less_put j) tt at.stands.nothing_passed (λ e. e))
-        (λ _ k t. told_number (op.Load i cell spot) i (λ q. refl) (λ j. refl) around k (mark a from until) (mark (set_number l i n) from (i + 1)) (λ m is. absurd (none_some m is)) (λ q. refl) (omega arith) (omega arith) le
+        (λ _ k t. told_number (Op.Load i cell spot) i (λ q. refl) (λ j. refl) around k (mark a from until) (mark (set_number l i n) from (i + 1)) (λ m is. absurd (none_some m is)) (λ q. refl) (omega arith) (omega arith) le
         (λ j m small z. subst (IsNumberOf around.targets (set_number l i n) m) (sym (put_other l.ints i j n (λ e. omega (arith, e, small)))) (numbers_kept (set_number l i n) (λ q _. refl) c j m small z)) t))
       where
         less_put : (j : ℕ) → LessNumber (put g i (Within w) j) (put l.ints i (Within w) j)
@@ -92,26 +83,26 @@ module _ (around : Setting) (f : ℕ) (D : (ℕ → Mark) → Type 0) (named : �
 
     -- a reference
     pub load_reference_at : (c : Gate) (until : ℕ) → i ≤ until → (cell : Cell) (spot : Spot) (field : Field) (t : StaticType) → IsNamed named r t → IsAtHand (mark (over l g c) from until) cell → MayReach around (over l g c) false cell spot field → PointsTo (over l g c) cell field t
-        → Q (mark (over l g c) from until) (op.LoadRef r cell spot ∷ []) (mark (got t) from i)
-    load_reference_at c until le cell spot field t fits hand may points = one (mark (over l g c) from until) (op.LoadRef r cell spot) (mark (got t) from i) (λ in_it h. scoped_got t fits c until in_it h)
+        → Q (mark (over l g c) from until) (Op.LoadRef r cell spot ∷ []) (mark (got t) from i)
+    load_reference_at c until le cell spot field t fits hand may points = one (mark (over l g c) from until) (Op.LoadRef r cell spot) (mark (got t) from i) (λ in_it h. scoped_got t fits c until in_it h)
         (λ table pc in_it h next. on_load_reference around f table pc (mark (over l g c) from until) (mark (got t) from i) next (here c until h) r cell spot field t hand (vacant_at c in_it) may points (own_not t fits) (less_got t c)
-        (λ _ k s. told around.targets (op.LoadRef r cell spot) k (mark (over l g c) from until) (mark (got t) from i) s (λ q x _ is. absurd (none_some x is))
+        (λ _ k s. told around.targets (Op.LoadRef r cell spot) k (mark (over l g c) from until) (mark (got t) from i) s (λ q x _ is. absurd (none_some x is))
         (λ q a _. put_other l.same r q r (other_than q r a)) (λ j n _ _ a. absurd (false≢true a))
         (λ j n a b _ is. numbers_kept (got t) (λ q lt. put_other l.env r q (Refers t) (λ e. omega (arith, e, lt))) c j n b (s.numbers j n a (omega (arith, b, le)) is))))
 
     -- that is taken away
     pub take_at : (c : Gate) (until : ℕ) (cell : Cell) (spot : Spot) (field : Field) (t : StaticType) → IsNamed named r t → MayReach around (over l g c) true cell spot field → PointsTo (over l g c) cell field t
-        → Q (mark (over l g c) from until) (op.TakeCell r cell spot ∷ []) (mark (got t) from i)
-    take_at c until cell spot field t fits may points = one (mark (over l g c) from until) (op.TakeCell r cell spot) (mark (got t) from i) (λ in_it h. scoped_got t fits c until in_it h)
+        → Q (mark (over l g c) from until) (Op.TakeCell r cell spot ∷ []) (mark (got t) from i)
+    take_at c until cell spot field t fits may points = one (mark (over l g c) from until) (Op.TakeCell r cell spot) (mark (got t) from i) (λ in_it h. scoped_got t fits c until in_it h)
         (λ table pc in_it h next. on_take_cell around f table pc (mark (over l g c) from until) (mark (got t) from i) next (here c until h) r cell spot field t (vacant_at c in_it) may points (own_not t fits) (less_got t c))
 
     -- an integer is stored
     pub store_at : (c : Gate) (until vi : ℕ) → i ≤ until → (cell : Cell) (spot : Spot) (field : Field) (w : Width) → IsAtHand (mark (over l g c) from until) cell → MayReach around (over l g c) true cell spot field → field.holds ≡ Integer w → FitsWidth (g vi) w
-        → Q (mark (over l g c) from until) (op.Store vi cell spot ∷ []) (mark l from i)
-    store_at c until vi le cell spot field w hand may holds fits = one (mark (over l g c) from until) (op.Store vi cell spot) (mark l from i) (λ _ h. scoped_frame named i r l at.stands fi fr h.few (few_ints h.numbers))
+        → Q (mark (over l g c) from until) (Op.Store vi cell spot ∷ []) (mark l from i)
+    store_at c until vi le cell spot field w hand may holds fits = one (mark (over l g c) from until) (Op.Store vi cell spot) (mark l from i) (λ _ h. scoped_frame named i r l at.stands fi fr h.few (few_ints h.numbers))
         (λ table pc in_it h next. on_store around f table pc (mark (over l g c) from until) (mark l from i) next (here c until h) vi cell spot field w hand may holds fits
         (less_by (over l g Closed) l refl (λ q. less_entry_refl (over l g Closed) q (l.env q)) (λ q. refl) (λ q e. e) less_ints (subst (λ y. LessGate Closed y) (sym at.stands.closed) tt) at.stands.nothing_passed (λ e. e))
-        (λ _ k s. told_same (op.Store vi cell spot) (λ q. refl) (λ j. refl) around k (mark (over l g c) from until) (mark l from i) (λ q. refl) (omega arith) le (λ j n a b z. numbers_kept l (λ q _. refl) c j n b z) s))
+        (λ _ k s. told_same (Op.Store vi cell spot) (λ q. refl) (λ j. refl) around k (mark (over l g c) from until) (mark l from i) (λ q. refl) (omega arith) le (λ j n a b z. numbers_kept l (λ q _. refl) c j n b z) s))
 
     -- a reference is stored, and what was there is given up
     abbrev stored : StaticType → ℕ → Bool → Gate → Label
@@ -143,17 +134,17 @@ module _ (around : Setting) (f : ℕ) (D : (ℕ → Mark) → Type 0) (named : �
             (λ (ge : i ≤ j). subst (LessNumber (without_index r (without_index r (g j)))) (sym (at.stands.numbers j ge)) tt) (cases_lt j i)
 
     pub store_reference_at : top ≤ r → (c : Gate) (until : ℕ) → i ≤ until → (cell : Cell) (spot : Spot) (field : Field) (t : StaticType) (v : ℕ) (b : Bool) → IsNamed named r t → IsAtHand (mark (stored t v b c) from until) cell → MayReach around (stored t v b c) true cell spot field → PointsTo (stored t v b c) cell field t
-        → Q (record (mark (stored t v b c) from until) { replaced = t }) (op.StoreRef r cell spot ∷ []) (mark l from i)
+        → Q (record (mark (stored t v b c) from until) { replaced = t }) (Op.StoreRef r cell spot ∷ []) (mark l from i)
     store_reference_at le c until le2 cell spot field t v b fits hand may points =
         let y = stored t v b c in
         let s : Mark = record (mark y from until) { replaced = t } in
-        one s (op.StoreRef r cell spot) (mark l from i)
+        one s (Op.StoreRef r cell spot) (mark l from i)
         (λ _ h. scoped_frame named i r l at.stands fi fr (λ q ge. ⊎_elim (λ (e : q ≡ r). at.stands.free q (omega (arith, e))) (λ (ne : q ≡ r → ⊥). sym (put_other l.env r q (Refers t) ne) ∙ h.few q ge) (cases_eq q r)) (few_ints h.numbers))
         (λ table pc in_it h next. on_store_reference around f table pc s (mark l from i) next (record { owned = at.owned; scoped = h }) r cell spot field hand (subst (λ o. r < refs_in around.code o) (sym at.owned) in_it) may points
         (subst (λ e. LessEntry y r e (Refers t)) (sym (put_same l.env r (Refers t))) (less_entry_refl y r (Refers t)))
         (record { paths = λ q ne m. put_all (λ q y. (q ≡ r → ⊥) → EntryMentions y r → ⊥) l.env r (Refers t) (λ no _. no refl) (λ q _ no m. let z = low r (at.stands.paths q r m).1 in omega (arith, z, le)) q ne m })
         (own_not t fits) (λ q m e. at.stands.full q (fits q m).0 (sym (put_other l.env r q (Refers t) (λ z. own_not t fits (subst (Mentions t) z m))) ∙ e)) (less_stored t v b c)
-        (λ _ k s2. told around.targets (op.StoreRef r cell spot) k s (mark l from i) s2 (λ q x _ is. absurd (none_some x is))
+        (λ _ k s2. told around.targets (Op.StoreRef r cell spot) k s (mark l from i) s2 (λ q x _ is. absurd (none_some x is))
         (λ q a _. sym (put_other l.same r q v (other_than q r a))) (λ j n _ _ a. absurd (false≢true a))
         (λ j n a z _ is. same_number around f D named top low from y l n (l.ints j) (λ q b2. sym (put_other l.env r q (Refers t) (λ e. let w = at.stands.bases j q b2 in omega (arith, e, w))))
         (subst (IsNumberOf around.targets y n) (below j z) (s2.numbers j n a (omega (arith, z, le2)) is)))))

@@ -1,15 +1,5 @@
 -- Variables: copies of them, and what is assigned to them; and a reference that takes the place of the base through which it was found.
-use Rattle.std.proofs.{Common.{◌≡◌, ℕ, ◌+◌, ◌<◌, ◌≤◌, Bool, true, false, cond, ◌||◌, List, [], ◌∷◌, Some, None, refl, sym, ap, ◌∙◌, subst, inl, inr, ⊎_elim, arith}, lemmas.Bool.{false≢true, cases_eq, or_parts as either_false}, lemmas.Option.same_Some}
-use Rattle.std.specs.Prelude.{nat_eq}
-use Rattle.sharc_code.specs.{declared.instr.Width.Width, Runs.put}
-use Rattle.sharc_code.proofs.Places.{put_same, put_other, put_all}
-use Rattle.sharc_flat.specs.{declared.op.Op.Op, Framed.OpWrites}
-use Rattle.sharc_flat.specs.declared.op.Op.TheVariants as op
-use Rattle.sharc_invariant.specs.{Types.{StaticType, Mentions}, Labels.{Empty, Refers, Within, Closed, IsIn, Label, Less, Itself, IsCopy, LessNumber, LessGate, HasBase, EntryMentions, IsScoped, IsFree, set_number, fill, empty, without_copies, without_index}, Typed.{ints_in, refs_in, moved_copy}}
-use Rattle.sharc_invariant.proofs.Scoped.{less_entry_refl, less_number_refl, scoped_fill}
-use Rattle.sharc_typed_laws.specs.{Passes.IsNumberOf, Stretches.{Mark, Setting, Fits, IsLine}, Places.{IsNamed, mark}}
-use Rattle.sharc_typed_laws.proofs.{Standing.{less_by, without_same, uncopied, scoped_frame, unnamed, entry_is as entry_same, number_is as number_same}, Telling.{told, other_than, same_as}, Rules.{on_move, on_local}, Moves.on_settle, Parts.{P, does, At, same_number, number_op, with_reference, with_number, scoped_below, number_below, number_above}}
-use Rattle.sharc_lemmas.proofs.{Options.{no_guard as none_some}, Numbers.eq_refl}
+use Rattle.sharc_typed_laws.proofs.{Imports.{◌≡◌, ℕ, ◌+◌, ◌<◌, ◌≤◌, Bool, true, false, cond, ◌||◌, List, [], ◌∷◌, Some, None, refl, sym, ap, ◌∙◌, subst, inl, inr, ⊎_elim, arith, false≢true, cases_eq, either_false, same_Some, nat_eq, Width, put, put_same, put_other, put_all, Op, OpWrites, StaticType, Mentions, Empty, Refers, Within, Closed, IsIn, Label, Less, Itself, IsCopy, LessNumber, LessGate, HasBase, EntryMentions, IsScoped, IsFree, set_number, fill, empty, without_copies, without_index, ints_in, refs_in, moved_copy, less_entry_refl, less_number_refl, scoped_fill, IsNumberOf, Mark, Setting, Fits, IsLine, IsNamed, mark, none_some, eq_refl}, Standing.{less_by, without_same, uncopied, scoped_frame, unnamed, entry_is as entry_same, number_is as number_same}, Telling.{told, other_than, same_as}, Rules.{on_move, on_local}, Moves.on_settle, Parts.{P, does, At, same_number, number_op, with_reference, with_number, scoped_below, number_below, number_above}}
 
 module _ (around : Setting) (f : ℕ) (D : (ℕ → Mark) → Type 0) (named : ℕ → Bool) (top : ℕ) (low : (p : ℕ) → named p ≡ true → p < top) (from : ℕ) where
   abbrev fi : ℕ
@@ -35,16 +25,16 @@ module _ (around : Setting) (f : ℕ) (D : (ℕ → Mark) → Type 0) (named : �
     in_refs q lt = subst (λ o. q < refs_in around.code o) (sym at.owned) lt
 
     -- ---- copies of variables
-    pub local_at : (t : StaticType) (x until : ℕ) → IsNamed named r t → x < r → l.env x ≡ Refers t → l.same x ≡ x → Q (mark l from until) (op.Local r x ∷ []) (mark (fill l r (Refers t) x false) from until)
+    pub local_at : (t : StaticType) (x until : ℕ) → IsNamed named r t → x < r → l.env x ≡ Refers t → l.same x ≡ x → Q (mark l from until) (Op.Local r x ∷ []) (mark (fill l r (Refers t) x false) from until)
     local_at t x until fits lt is same =
         let k = fill l r (Refers t) x false in
         let n = fill l r (l.env x) (l.same x) (l.known x) in
-        one (mark l from until) (op.Local r x) (mark k from until)
+        one (mark l from until) (Op.Local r x) (mark k from until)
         (λ in_it h. scoped_fill fi fr l r t x false in_it (λ q m. at.stands.full q (fits q m).0) (inr (at.stands.full x lt)) h)
         (λ table pc in_it h next. on_local around f table pc (mark l from until) (mark k from until) next r x (record { owned = at.owned; scoped = h; closed = at.stands.closed }) (record { is = in_refs r in_it; empty = at.stands.free r (omega arith) })
         (in_refs x (omega (arith, lt, in_it)))
         (less_by n k refl (λ q. entry_same n q (n.env q) (k.env q) (ap (λ e. put l.env r e q) is)) (λ q. ap (λ c. put l.same r c q) (sym same)) (λ q e. known q e) (λ j. less_number_refl (l.ints j)) tt at.stands.nothing_passed (λ e. e))
-        (λ _ know s. told around.targets (op.Local r x) know (mark l from until) (mark k from until) s (λ q v w is. copied q v (same_as q r w) is)
+        (λ _ know s. told around.targets (Op.Local r x) know (mark l from until) (mark k from until) s (λ q v w is. copied q v (same_as q r w) is)
         (λ q a _. put_other l.same r q x (other_than q r a)) (λ j m _ _ a. absurd (false≢true a)) (λ j m a b _ is. number_above around f D named top low from i r l at r (omega arith) (Refers t) x false j m (s.numbers j m a b is))))
       where
         known : (q : ℕ) → put l.known r false q ≡ true → put l.known r (l.known x) q ≡ true
@@ -57,21 +47,21 @@ module _ (around : Setting) (f : ℕ) (D : (ℕ → Mark) → Type 0) (named : �
         copied : (q v : ℕ) → q ≡ r → cond (nat_eq r x) None (Some x) ≡ Some v → put l.same r x q ≡ v
         copied q v z e = ap (put l.same r x) z ∙ put_same l.same r x ∙ given (nat_eq r x) v e
 
-    pub move_at : (x : ℕ) (w : Width) → l.ints x ≡ Within w → Q (mark l from i) (op.Move i x ∷ []) (with_number around f D named top low from l i (Within w))
-    move_at x w is = number_op around f D named top low from i r l at l.ints l.gate i at.stands.closed (λ j lt. refl) (omega arith) (Within w) (λ q h. absurd h) (op.Move i x) (λ q. refl) (λ j. refl) (λ k h m e. absurd (none_some m e)) (λ w. w)
+    pub move_at : (x : ℕ) (w : Width) → l.ints x ≡ Within w → Q (mark l from i) (Op.Move i x ∷ []) (with_number around f D named top low from l i (Within w))
+    move_at x w is = number_op around f D named top low from i r l at l.ints l.gate i at.stands.closed (λ j lt. refl) (omega arith) (Within w) (λ q h. absurd h) (Op.Move i x) (λ q. refl) (λ j. refl) (λ k h m e. absurd (none_some m e)) (λ w. w)
         (λ table pc in_it plain next less tells. on_move around f table pc (mark l from i) (with_number around f D named top low from l i (Within w)) next i x plain (subst (λ o. i < ints_in around.code o) (sym at.owned) in_it)
         (subst (λ n. Less (set_number l i n) (set_number l i (Within w))) (sym is) less) (λ _. tells))
 
     -- ---- assignments
-    pub assign_number_at : (x : ℕ) (w : Width) (until : ℕ) → until ≤ i → x < i → x < from → l.ints x ≡ Within w → Q (mark (set_number l i (Within w)) from until) (op.Move x i ∷ []) (mark l from until)
+    pub assign_number_at : (x : ℕ) (w : Width) (until : ℕ) → until ≤ i → x < i → x < from → l.ints x ≡ Within w → Q (mark (set_number l i (Within w)) from until) (Op.Move x i ∷ []) (mark l from until)
     assign_number_at x w until le lt low_x is =
         let k = set_number l i (Within w) in
         let n = set_number k x (k.ints i) in
-        one (mark k from until) (op.Move x i) (mark l from until)
+        one (mark k from until) (Op.Move x i) (mark l from until)
         (λ in_it h. scoped_frame named i r l at.stands fi fr h.few (λ j ge. ⊎_elim (λ (e : j ≡ i). at.stands.numbers j (omega (arith, e))) (λ (ne : j ≡ i → ⊥). sym (put_other l.ints i j (Within w) ne) ∙ h.numbers j ge) (cases_eq j i)))
         (λ table pc in_it h next. on_move around f table pc (mark k from until) (mark l from until) next x i (record { owned = at.owned; scoped = h; closed = refl }) (subst (λ o. x < ints_in around.code o) (sym at.owned) in_it)
         (less_by n l refl (λ q. less_entry_refl n q (l.env q)) (λ q. refl) (λ q e. e) (λ j. numbers j) (subst (λ y. LessGate Closed y) (sym at.stands.closed) tt) at.stands.nothing_passed (λ e. e))
-        (λ _ know s. told around.targets (op.Move x i) know (mark k from until) (mark l from until) s (λ q v w _. absurd (false≢true w)) (λ q _ _. refl)
+        (λ _ know s. told around.targets (Op.Move x i) know (mark k from until) (mark l from until) s (λ q v w _. absurd (false≢true w)) (λ q _ _. refl)
         (λ j m a b w _. let z : j ≡ x = same_as j x w in absurd (omega (arith, z, low_x, a)))
         (λ j m a b _ is2. subst (IsNumberOf around.targets l m) (put_other l.ints i j (Within w) (λ e. omega (arith, e, b, le))) (same_number around f D named top low from k l m (put l.ints i (Within w) j) (λ q _. refl) (s.numbers j m a b is2)))))
       where
@@ -83,7 +73,7 @@ module _ (around : Setting) (f : ℕ) (D : (ℕ → Mark) → Type 0) (named : �
 
     -- a variable of this type, which no type names that is at hand, and of which no copy and no element is at hand
     pub assign_free_at : top ≤ r → (t : StaticType) (v : ℕ) (b : Bool) (x until : ℕ) → IsNamed named r t → x < r → l.env x ≡ Refers t → (Mentions t x → ⊥) → ((q : ℕ) → EntryMentions (l.env q) x → ⊥) → l.same x ≡ x → ((q : ℕ) → l.same q ≡ x → q ≡ x) → (l.known x ≡ true → ⊥) → ((j : ℕ) → HasBase (l.ints j) x → ⊥)
-        → Q (with_reference around f D named top low from l r until t v b) (op.Settle x r ∷ []) (mark l from until)
+        → Q (with_reference around f D named top low from l r until t v b) (Op.Settle x r ∷ []) (mark l from until)
     assign_free_at le t v b x until fits lt is no_type no_path itself single unknown_x unbased_x =
         let k = fill l r (Refers t) v b in
         let k1 = empty k x in
@@ -95,7 +85,7 @@ module _ (around : Setting) (f : ℕ) (D : (ℕ → Mark) → Type 0) (named : �
         let env_r : k1.env r ≡ Refers t = put_other k.env x r Empty back ∙ put_same l.env r (Refers t) in
         let free_x : IsFree k x = record { paths = λ q _ m. put_all (λ q y. EntryMentions y x → ⊥) l.env r (Refers t) (λ m. absurd (no_type m)) (λ q _ m. absurd (no_path q m)) q m } in
         let free_r : IsFree k r = record { paths = λ q ne m. put_all (λ q y. (q ≡ r → ⊥) → EntryMentions y r → ⊥) l.env r (Refers t) (λ no _. no refl) (λ q _ no m. let z = low r (at.stands.paths q r m).1 in omega (arith, z, le)) q ne m } in
-        one (mark k from until) (op.Settle x r) (mark l from until) (λ _ h. scoped_below around f D named top low from i r l at r (omega arith) (Refers t) v b h)
+        one (mark k from until) (Op.Settle x r) (mark l from until) (λ _ h. scoped_below around f D named top low from i r l at r (omega arith) (Refers t) v b h)
         (λ table pc in_it h next. on_settle around f table pc (mark k from until) (mark l from until) next (record { owned = at.owned; scoped = h }) x r refl (in_refs x in_it.0) free_x (in_refs r in_it.1) free_r
         (λ m. let z = (fits r (subst (λ e. EntryMentions e r) (put_same l.env r (Refers t)) m)).0 in omega (arith, z)) apart
         (record {
@@ -117,18 +107,18 @@ module _ (around : Setting) (f : ℕ) (D : (ℕ → Mark) → Type 0) (named : �
           passed = λ p m. absurd (subst (IsIn p) at.stands.nothing_passed m);
           room = λ e. e;
         })
-        (λ _ know s. told around.targets (op.Settle x r) know (mark k from until) (mark l from until) s (λ q y _ e. absurd (none_some y e))
+        (λ _ know s. told around.targets (Op.Settle x r) know (mark k from until) (mark l from until) s (λ q y _ e. absurd (none_some y e))
         (λ q a _. sym (put_other l.same r q v (other_than q r (either_false (nat_eq q x) (nat_eq q r) a).1)))
         (λ j m _ _ a. absurd (false≢true a)) (λ j m a z _ e. number_below around f D named top low from i r l at r (omega arith) (Refers t) v b j m (s.numbers j m a z e))))
 
     -- that types never name
     pub assign_at : top ≤ r → (t : StaticType) (v : ℕ) (b : Bool) (x until : ℕ) → IsNamed named r t → x < r → l.env x ≡ Refers t → named x ≡ false → l.same x ≡ x → ((q : ℕ) → l.same q ≡ x → q ≡ x) → (l.known x ≡ true → ⊥) → ((j : ℕ) → HasBase (l.ints j) x → ⊥)
-        → Q (with_reference around f D named top low from l r until t v b) (op.Settle x r ∷ []) (mark l from until)
+        → Q (with_reference around f D named top low from l r until t v b) (Op.Settle x r ∷ []) (mark l from until)
     assign_at le t v b x until fits lt is unnamed_x = assign_free_at le t v b x until fits lt is (λ m. false≢true (sym unnamed_x ∙ (fits x m).1)) (λ q m. false≢true (sym unnamed_x ∙ (at.stands.paths q x m).1))
 
     -- ---- the base
     pub settle_base_at : top ≤ r → (s t : StaticType) (v : ℕ) (a b : Bool) (until : ℕ) → IsNamed named r s → IsNamed named r t → v ≤ r
-        → Q (mark (fill (fill l r (Refers s) v a) (r + 1) (Refers t) (r + 1) b) from until) (op.Settle r (r + 1) ∷ []) (mark (fill l r (Refers t) r b) from until)
+        → Q (mark (fill (fill l r (Refers s) v a) (r + 1) (Refers t) (r + 1) b) from until) (Op.Settle r (r + 1) ∷ []) (mark (fill l r (Refers t) r b) from until)
     settle_base_at le s t v a b until fits fits2 copy =
         let k0 = fill l r (Refers s) v a in
         let k = fill k0 (r + 1) (Refers t) (r + 1) b in
@@ -151,7 +141,7 @@ module _ (around : Setting) (f : ℕ) (D : (ℕ → Mark) → Type 0) (named : �
           paths = λ q ne m. put_all (λ q y. (q ≡ r + 1 → ⊥) → EntryMentions y (r + 1) → ⊥) k0.env (r + 1) (Refers t) (λ no _. no refl)
               (λ q _ no m. put_all (λ q y. EntryMentions y (r + 1) → ⊥) l.env r (Refers s) (λ m. let z = (fits (r + 1) m).0 in omega (arith, z)) (λ q _ m. let z = (at.stands.paths q (r + 1) m).0 in omega (arith, z)) q m) q ne m;
         } in
-        one (mark k from until) (op.Settle r (r + 1)) (mark e from until)
+        one (mark k from until) (Op.Settle r (r + 1)) (mark e from until)
         (λ in_it h. scoped_fill fi fr l r t r b in_it.0 (λ q m. at.stands.full q (fits2 q m).0) (inl refl) (scoped_frame named i r l at.stands fi fr
         (λ q ge. let z = in_it.1 in sym (put_other k0.env (r + 1) q (Refers t) (λ w. omega (arith, w, z, ge)) ∙ put_other l.env r q (Refers s) (λ w. omega (arith, w, z, ge))) ∙ h.few q ge) h.numbers))
         (λ table pc in_it h next. on_settle around f table pc (mark k from until) (mark e from until) next (record { owned = at.owned; scoped = h }) r (r + 1) refl (in_refs r in_it.0) free_r (in_refs (r + 1) in_it.1) free_up
@@ -172,7 +162,7 @@ module _ (around : Setting) (f : ℕ) (D : (ℕ → Mark) → Type 0) (named : �
         (λ (no : q ≡ r + 1 → ⊥). put_other k2.known r q (k1.known (r + 1)) ne ∙ put_other k1.known (r + 1) q false no ∙ put_other k.known r q false ne ∙ put_other k0.known (r + 1) q b no ∙ put_other l.known r q a ne ∙ old) (cases_eq q (r + 1))) (cases_eq q r))
         (λ j. number_same (without_index (r + 1) (without_index r (l.ints j))) (l.ints j) (ap (without_index (r + 1)) (without_same r (l.ints j) (u.unbased j)) ∙ without_same (r + 1) (l.ints j) (u2.unbased j)))
         tt at.stands.nothing_passed (λ z. z))
-        (λ _ know h2. told around.targets (op.Settle r (r + 1)) know (mark k from until) (mark e from until) h2 (λ q y _ z. absurd (none_some y z))
+        (λ _ know h2. told around.targets (Op.Settle r (r + 1)) know (mark k from until) (mark e from until) h2 (λ q y _ z. absurd (none_some y z))
         (λ q w _. let both = either_false (nat_eq q r) (nat_eq q (r + 1)) w in
         put_other l.same r q r (other_than q r both.0) ∙ sym (put_other k0.same (r + 1) q (r + 1) (other_than q (r + 1) both.1) ∙ put_other l.same r q v (other_than q r both.0)))
         (λ j m _ _ w. absurd (false≢true w))

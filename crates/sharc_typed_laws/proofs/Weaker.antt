@@ -1,10 +1,6 @@
 -- A statement that is typed from a label to a label is typed to one that says no more.
-use Rattle.std.proofs.Common.{ℕ, Bool, inl, inr, ⊎_elim}
-use Rattle.sharc_code.specs.{declared.code.Code.Code, declared.instr.Cell.Cell, declared.instr.Instr.Instr, declared.instr.Instr.TheVariants.{Constant, Move, MoveReference, ComputeInt, ComputeLong, NegateInt, NegateLong, Complement, Not, SameReference as CompareReferences, ChkWidth, Jump, JumpIfZero, JumpIfNull, Call, Return, ChkNull, ChkPositive, ChkRoom, ChkLockLoaded, Bounds, GlobalBounds, ChkRead, ChkWrite, Load, Store, LoadRef, Exchange, Raise, RaiseLoaded, Lower, New, TakeCell, TakeLocal, TestSole, Clear, Give, Free, Lock, Unlock, Spawn, Join, Print, Exit}}
-use Rattle.sharc_code.specs.declared.instr.Cell.TheVariants as cells
-use Rattle.sharc_invariant.specs.{Types.{Targets, Field, FieldMode, Content}, Types.FieldMode.{Private, Readonly, Racy, Dynamic, Under, Behind}, Labels.{Number, Label, Labels, Less}, Typed.{Numbers, Passes_on, LeadsChecked, Calls, Accesses, MayAccess}}
-use Rattle.sharc_typed_laws.specs.Steps.{all_at, Steps}
-use Rattle.sharc_typed_laws.proofs.Preorder.{less_through}
+use Rattle.sharc_typed_laws.proofs.{Imports.{ℕ, Bool, inl, inr, ⊎_elim, Code, Cell, Instr, Move, MoveReference, ComputeInt, ComputeLong, NegateInt, NegateLong, Complement, CompareReferences, ChkWidth, Jump, JumpIfZero, JumpIfNull, Call, Return, ChkNull, ChkPositive, ChkRoom, ChkLockLoaded, Bounds, GlobalBounds, ChkRead, ChkWrite, Load, Store, LoadRef, Exchange, Raise, RaiseLoaded, Lower, New, TakeCell, TakeLocal, TestSole, Clear, Give, Spawn, Exit, Targets, Field, FieldMode, Content, Private, Readonly, Racy, Dynamic, Under, Behind, Number, Label, Labels, Less, Numbers, Passes_on, LeadsChecked, Calls, Accesses, MayAccess, all_at, Steps}, Preorder.less_through}
+use Rattle.sharc_code.specs.declared.instr.Instr.TheVariants.{Constant, Not, Free, Lock, Unlock, Join, Print}
 
 module _ (x : Targets) (code : Code) (ls : Labels) (k m : Label) (weaker : Less k m) where
   to_less : (l : Label) → Less l k → Less l m
@@ -21,10 +17,10 @@ module _ (x : Targets) (code : Code) (ls : Labels) (k m : Label) (weaker : Less 
   checked l write c (inr h) = inr (h.0, h.1, h.2, to_less _ h.3)
 
   may : (l : Label) (write : Bool) (c : Cell) (holds : Content) (fm : FieldMode) → MayAccess x code (all_at ls k) l write c holds fm → MayAccess x code (all_at ls m) l write c holds fm
-  may l write (cells.Global g p) holds Private h = h
-  may l write (cells.GlobalAt g i) holds Private h = h
-  may l write (cells.Object r i) holds Private h = h
-  may l write (cells.ObjectAt r i) holds Private h = h
+  may l write (Cell.Global g p) holds Private h = h
+  may l write (Cell.GlobalAt g i) holds Private h = h
+  may l write (Cell.Object r i) holds Private h = h
+  may l write (Cell.ObjectAt r i) holds Private h = h
   may l write c holds Readonly h = h
   may l write c holds Racy h = h
   may l write c holds Dynamic h = h

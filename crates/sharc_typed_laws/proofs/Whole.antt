@@ -1,14 +1,5 @@
 -- Code that is made of typed flat code is typed.
-use Rattle.std.proofs.Common.{◌≡◌, ℕ, zero, suc, ◌+◌, ◌<◌, ◌⊎◌, Bool, true, List, [], ◌∷◌, length, map, Some, None, refl, sym, ap, ◌∙◌, subst, inl, inr, arith}
-use Rattle.std.specs.{List.AllByRecursion, Prelude.{slice_get, slice_index_or}}
-use Rattle.sharc_code.specs.{declared.code.Code.Code, declared.code.Function.Function, declared.instr.Instr.Instr, declared.instr.Instr.TheVariants.{Start, Exit}, Machine.{instr_at, function_of, no_function}, Says.{place_at, no_place}}
-use Rattle.sharc_compile.specs.{Made.IsCodeOf, Generated.{instr_of, generated}}
-use Rattle.sharc_flat.specs.{declared.flat.Flat.{Flat as FlatCode}, declared.op.Op.Op, Machine.{function_of as flat_function}, Made.flat_of}
-use Rattle.sharc_guard.specs.{Guard.{expanded, place, source_of, entered_at}, Known.dropped}
-use Rattle.sharc_invariant.specs.{Types.Targets, Labels.{Label, Labels, IsScoped, Leads}, Typed.{Fine, IsWellTyped, MayStart, ints_in, refs_in, entry_label}}
-use Rattle.sharc_invariant.proofs.Scoped.{less_refl}
-use Rattle.sharc_typed_laws.specs.{Inside.{FlatLabels, outside, labels_from, labels_of}, Lines.IsTypedFlat}
-use Rattle.sharc_typed_laws.proofs.{TypedPlacing.{IsPlaced, FineList, There, LineStands, AllStand, all_stand, all_places, fine_at, lines_fine, goes_to}, Lines.within as line_within}
+use Rattle.sharc_typed_laws.proofs.{Imports.{◌≡◌, ℕ, zero, suc, ◌+◌, ◌<◌, ◌⊎◌, Bool, true, List, [], ◌∷◌, length, map, Some, None, refl, sym, ap, ◌∙◌, subst, inl, inr, arith, AllByRecursion, slice_get, slice_index_or, Code, Row as Function, Instr, Start, Exit, instr_at, function_of, no_function, place_at, no_place, IsCodeOf, instr_of, generated, FlatCode, Op, flat_function, flat_of, expanded, place, source_of, entered_at, dropped, Targets, Label, Labels, IsScoped, Leads, Fine, IsWellTyped, MayStart, ints_in, refs_in, entry_label, less_refl, FlatLabels, outside, labels_from, labels_of, IsTypedFlat}, TypedPlacing.{IsPlaced, FineList, There, LineStands, AllStand, all_stand, all_places, fine_at, lines_fine, goes_to}, Lines.{within as line_within}}
 
 -- ---- lists
 source_there : (os : List Op) (n : ℕ) (o : Op) → slice_get os n ≡ Some o → slice_index_or (map source_of os) n no_place ≡ source_of o

@@ -1,13 +1,8 @@
 -- A count of 1 is that of the register that is tested.
-use Rattle.std.proofs.{Common.{◌≡◌, ◌≢◌, ℕ, zero, suc, ◌+◌, ◌*◌, ◌/◌, ◌<◌, ◌≤◌, ⊎_elim, true, false, ◌&&◌, List, ◌∷◌, Option, Some, None, refl, sym, ap, ◌∙◌, subst, arith, cond, nat_lt, ltb-true}, lemmas.Bool.{cases_Bool, cases_eq, cases_lt, and_parts}, lemmas.Bool.Decides.nat_tests}
-use Rattle.std.specs.Prelude.{slice_index, ◌==◌, nat_eq, if◌then◌else◌}
-use Rattle.sharc_word.specs.{declared.step.TheConstants.THREADS, declared.step.WordEvent.WordEvent, declared.step.WordStep.WordStep}
-use Rattle.sharc_heap.specs.Count.{test_of}
-use Rattle.sharc_code.specs.{declared.code.Code.Code, declared.instr.Instr.Instr, declared.instr.Instr.TheVariants.TestSole, declared.shape.Shape.Shape, declared.state.Stage.Stage, declared.state.TheConstants.FRAMES, Layout.{Fits, granules, granule_at, words_of, cell_of, cell_word, count_word, length_word}, Machine.{Machine, instr_at, act, ref}, Path.{turn, asked_by, most_refs}, Runs.{Answered, Global, IsRun, Turn, result_of, step_of}, Whole.{one_thread, bounds, place_after}}
-use Rattle.sharc_invariant.specs.{Granules.{one, sum_to}, Types.{Targets, cells_of, field_in, is_pointer}, Labels.{Label, Labels}, Typed.{Fine, IsWellTyped}, World.{ArgumentOf, In, RegisterOf, LogOf, Staged, World, ObjectState}, Words.{argument_of, is_freed}, State.{IsSmall, State, label_now}, Opened.first_place, MachineInvariant.{IsAlone, MachineInvariant, cells_now, is_pointer_now, cell_refers, register_refers, log_refers, hand_refers, references_to}, Reports.RunsTest, Laws.{RunsFromTheBeginning, RunsStand}}
+use Rattle.sharc_wants_laws.proofs.Imports.{◌≡◌, ◌≢◌, ℕ, zero, suc, ◌+◌, ◌*◌, ◌/◌, ◌<◌, ◌≤◌, ⊎_elim, true, false, ◌&&◌, List, ◌∷◌, Option, Some, None, refl, sym, ap, ◌∙◌, subst, arith, cond, nat_lt, ltb-true, cases_Bool, cases_eq, cases_lt, and_parts, nat_tests, slice_index, ◌==◌, nat_eq, if◌then◌else◌, THREADS, WordEvent, WordStep, test_of, Code, Instr, TestSole, Shape, Stage, FRAMES, Fits, granules, granule_at, words_of, cell_word, count_word, length_word, Machine, instr_at, act, ref, most_refs, Answered, Global, IsRun, Turn, result_of, step_of, one_thread, bounds, place_after, one, sum_to, Targets, cells_of, Label, Labels, Fine, IsWellTyped, ArgumentOf, In, RegisterOf, LogOf, Staged, World, ObjectState, argument_of, is_freed, IsSmall, label_now, first_place, IsAlone, MachineInvariant, cells_now, is_pointer_now, cell_refers, register_refers, log_refers, hand_refers, references_to, RunsTest, RunsFromTheBeginning, RunsStand, Passes, objects_there, not_zero}
+use Rattle.sharc_code.specs.{Layout.cell_of, Path.{turn, asked_by}}
+use Rattle.sharc_invariant.specs.{Types.{field_in, is_pointer}, State.State}
 use Rattle.sharc_invariant.specs.Words as Words
-use Rattle.sharc_wants_laws.specs.Alone.{Passes, objects_there}
-use Rattle.sharc_lemmas.proofs.Numbers.{ne_zero as not_zero}
 
 -- ---- sums
 one_here : (a o : ℕ) → a ≡ o → one a o ≡ 1

@@ -1,16 +1,5 @@
 -- A thread of a checked run begins with the function that its name says, which is main or one that some function spawns.
-use Rattle.std.proofs.Common.{◌≡◌, ℕ, ◌<◌, ◌⊎◌, inl, inr, List, Option, refl, sym, ◌∙◌, subst, ⊎_elim}
-use Rattle.std.specs.{Prelude.{IsTrue, codes, length}, Str.bytes_eq}
-use Rattle.sharc_tree.specs.Tree.{Function}
-use Rattle.sharc_ctype.specs.{Reaches.Spawns, Resolved.function_at}
-use Rattle.sharc_ctype_laws.specs.Declared.{NameThemselves}
-use Rattle.sharc_mode.specs.Moded.{Assignment}
-use Rattle.sharc_meaning.specs.{Obeys.History, References.Begun, Runs.{IsFirst, IsNamedAt, IsSpawned, is_named_main}}
-use Rattle.sharc_code.specs.{declared.code.Code.Code, Machine.function_of}
-use Rattle.sharc_flat.specs.{Correct.MayStart, Flattens.IsMainOf}
-use Rattle.sharc_compile_laws.specs.{Started.HasThread, Threads.TellsIn}
-use Rattle.sharc_history_laws.specs.Starts.{IsOfMain, IsSpawnedByCode, IsStartedBy}
-use Rattle.sharc_wants_laws.proofs.Seeing.{same_function}
+use Rattle.sharc_wants_laws.proofs.{Imports.{◌≡◌, ℕ, ◌<◌, ◌⊎◌, inl, inr, List, Option, refl, sym, ◌∙◌, subst, ⊎_elim, IsTrue, codes, length, bytes_eq, Function, Spawns, function_at, NameThemselves, Assignment, History, Begun, IsFirst, IsNamedAt, IsSpawned, is_named_main, Code, function_of, MayStart, IsMainOf, HasThread, TellsIn, IsOfMain, IsSpawnedByCode, IsStartedBy}, Seeing.same_function}
 
 main_is : (m : Assignment) (n : ℕ) → IsMainOf m n → IsTrue (is_named_main (function_at m.typed n))
 main_is m n is = subst (λ (o : Option Function). IsTrue (is_named_main o)) (sym is.1) (subst (λ (text : List ℕ). IsTrue (bytes_eq text (codes "main"))) (sym is.2) refl)

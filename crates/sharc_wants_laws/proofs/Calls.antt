@@ -1,18 +1,9 @@
 -- Calls and threads of a typed program lose no reference.
-use Rattle.std.proofs.{Common.{◌≡◌, ℕ, zero, suc, ◌+◌, ◌-◌, ◌≤◌, Bool, true, false, not, cond, List, [], ◌∷◌, ◌++◌, refl, sym, ap, ◌∙◌, subst, arith, length, length-append, take, take_at, drop, count_by, nat_lt, Option, Some, None}, lemmas.List.Sums.sum_by-cons}
-use Rattle.std.specs.{Prelude.{ℤ, pos}, List.AllByRecursion}
-use Rattle.sharc_tree.specs.declared.event.Act.TheVariants as acts
-use Rattle.sharc_tree.specs.{declared.token.Site.Site, declared.tree.declaration.Declaration.Declaration, Measures.in_function, Tree.Function}
-use Rattle.sharc_tree.specs.declared.trap.Trap.TheVariants as traps
-use Rattle.sharc_names.specs.Kinds.{is_pointer, declared_kind, declared_kinds}
-use Rattle.sharc_ctype.specs.{Resolved.{Resolution, function_at, variable_kind}, Statements.locals_in_all}
-use Rattle.sharc_mode.specs.Moded.{Assignment}
-use Rattle.sharc_ctype_laws.specs.Rules.{MeetsRules}
-use Rattle.sharc_meaning.specs.{Events.held_mutexes, declared.variable.Variable.Variable, State.{Frame, State, writes, Out, go, over, Run, then_on, ◌>>=◌, give, entered, all_released, pointers_among, ends_variables, without_temporaries, new_variable}, Expressions.Calls, Statements.exec_all, Meaning.{parameters_begin, left_at, pointers_passed, with_frame, back_in, run_function, call_value, calls, goes_away, run_thread, start}}
-use Rattle.sharc_wants_laws.proofs.{Counts.{Declared, total, outer, refs, rel, vars, one, refs_append, vars_append, cut_variables}, Runs.{Same, up_level, up_on, state_of}, Steps.slot, Typed.Facts, Expressions.{Kept, CallsKeep, passed_in, kept_give}, Statements.{AreTyped, Own, exec_all_kept}}
+use Rattle.sharc_wants_laws.proofs.{Imports.{◌≡◌, ℕ, zero, suc, ◌+◌, ◌-◌, ◌≤◌, Bool, true, false, not, cond, List, [], ◌∷◌, ◌++◌, refl, sym, ap, ◌∙◌, subst, arith, length, length-append, take, take_at, drop, count_by, nat_lt, Option, Some, None, sum_by-cons, ℤ, pos, AllByRecursion, Act, Site, Declaration, Function, Trap, is_pointer, declared_kind, declared_kinds, Resolution, function_at, variable_kind, locals_in_all, Assignment, MeetsRules, held_mutexes, Variable, Frame, State, writes, Out, go, over, Run, then_on, ◌>>=◌, give, entered, all_released, pointers_among, ends_variables, without_temporaries, new_variable, Calls, exec_all, parameters_begin, left_at, pointers_passed, with_frame, back_in, run_function, call_value, calls, goes_away, run_thread, front, back}, Counts.{Declared, total, outer, refs, rel, vars, one, refs_append, vars_append, cut_variables}, Runs.{Same, up_level, up_on, state_of}, Steps.slot, Typed.Facts, Expressions.{Kept, CallsKeep, passed_in, kept_give}, Statements.{AreTyped, Own, exec_all_kept}}
+use Rattle.sharc_tree.specs.Measures.{in_function}
+use Rattle.sharc_meaning.specs.Meaning.{start}
 use Rattle.sharc_wants_laws.proofs.Runs as runs
 use Rattle.sharc_wants_laws.proofs.Steps as steps
-use Rattle.sharc_lemmas.proofs.Lists.{front, back}
 
 -- what is known of a function
 pub record Known (r : Resolution) (f : Function) : Type 0 where
@@ -230,14 +221,14 @@ module _ (m : Assignment) (n d : ℕ) where
 
   module _ (w : Facts m.typed) (known : (k : ℕ) (f : Function) → function_at m.typed k ≡ Some f → Known m.typed f) where
     calls_kept : (k : ℕ) → CallsKeep m n d (calls m k)
-    calls_kept zero j f is site vs long ts = runs.kept_atom m.typed n d _ _ (Same ts) (steps.atom_stop m.typed n d false false _ traps.CallDepth site (Same ts))
+    calls_kept zero j f is site vs long ts = runs.kept_atom m.typed n d _ _ (Same ts) (steps.atom_stop m.typed n d false false _ Trap.CallDepth site (Same ts))
     calls_kept (suc k) j f is site vs long ts = subst (λ z. Kept m n d (ts ++ passed_in (declared_kinds f.parameters) vs) (call_value (calls m k) m z vs) (Same ts)) (sym is)
         (runs.kept_next m.typed n d _ ts _ _ (Same ts) (called_kept (calls m k) (calls_kept k) w f (known j f is) vs long ts) (λ left. kept_give m n d ts left.1 (Same ts) refl))
 
     away_kept : (ts : List ℤ) (name site : Site) → Kept m n d ts (goes_away name site) (Same ts)
     away_kept ts name site = runs.kept_atom m.typed n d ts _ (Same ts) (runs.atom_next m.typed n d false false false ts ts _ _ (Same ts) (steps.atom_events m.typed n d false ts) (λ own.
-        runs.atom_next m.typed n d false false false ts ts _ _ (Same ts) (steps.atom_unless m.typed n d (not (nat_lt 0 (length (held_mutexes own)))) false ts traps.ReturnWithLockHeld site) (λ _.
-        runs.atom_weak m.typed n d ts _ (Same ts) (runs.atom_next m.typed n d false true true ts ts _ _ (Same ts) (steps.atom_performs m.typed n d false ts name acts.Return) (λ _. steps.atom_performs m.typed n d true ts name acts.Gone)))))
+        runs.atom_next m.typed n d false false false ts ts _ _ (Same ts) (steps.atom_unless m.typed n d (not (nat_lt 0 (length (held_mutexes own)))) false ts Trap.ReturnWithLockHeld site) (λ _.
+        runs.atom_weak m.typed n d ts _ (Same ts) (runs.atom_next m.typed n d false true true ts ts _ _ (Same ts) (steps.atom_performs m.typed n d false ts name Act.Return) (λ _. steps.atom_performs m.typed n d true ts name Act.Gone)))))
 
     thread_by : (j : ℕ) (f : Option Function) → function_at m.typed j ≡ f → (v : ℤ) (answers : List ℤ) (fuel : ℕ) → runs.KeptAt m.typed n d (start answers fuel) (run_thread m f v) (Same [])
     thread_by j None is v answers fuel = (kept_give m n d [] tt (Same []) refl).runs (start answers fuel) (refl, tt)

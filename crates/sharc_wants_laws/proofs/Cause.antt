@@ -1,19 +1,5 @@
 -- The reference besides the one that was tested, by where the words tell of it.
-use Rattle.std.proofs.{Common.{◌≡◌, ℕ, ◌+◌, ◌⊎◌, inl, inr, Bool, true, false, List, [], ◌∷◌, ◌++◌, if◌then◌else◌, refl, sym, ap, ◌∙◌, subst, arith, eq-eqb, eqb-true}, lemmas.Bool.false≢true, lemmas.List.Elements.Contains-append_right}
-use Rattle.std.specs.Prelude.{◌==◌, Some, Contains, slice_index}
-use Rattle.sharc_tree.specs.{declared.event.CellAt.CellAt, declared.event.Object.TheVariants.{Global as GlobalNumber, Made}, declared.event.SourceEvent.SourceEvent}
-use Rattle.sharc_mode.specs.Moded.{Assignment}
-use Rattle.sharc_meaning.specs.{declared.given.GivenUp.GivenUp, declared.given.GivenUp.TheVariants.Emptied, Events.events_of, Meaning.Asked, Store.is_live, References.{Begun, asked_with, in_argument, in_cell, in_mutex, in_thread, is_taken_to_free}}
-use Rattle.sharc_wants_laws.specs.{Freeing.{IsBeingTaken, TakenAreBeingTaken}, Beginning.ThreadsHaveBegun, Cells.{CellsSee, IsSeenInCell, in_global, in_made, in_freed}, Emptying.{IsEmptying, is_emptying}, Hands.{FreesEmpty, HandsFly}, InFlight.IsPastEvents, Seeing.TestersGive, Elsewhere.{ArgumentsSee, LogsSee}, Silent.SilentHaveNothing, Cause.{NothingIsInFlight, ShowsReference}, Sole.{AreQuiet, HaveBegun, IsSeen, RegistersAreSeen}}
-use Rattle.sharc_code.specs.{declared.instr.Instr.TheVariants.{Free, TestSole}, declared.state.Stage.Stage, declared.state.Stage.TheVariants.{Empties, Lowers, FreeLooks, FreeClears, Uncounts, Links}, Path.begun, declared.code.Code.Code, declared.shape.Shape.Shape, declared.state.Stop.TheVariants.NotSole, Layout.Fits, Machine.{Machine, instr_at, ref}, Runs.{Global, Turn, turns_of}, Whole.{CheckedRun, place_after}}
-use Rattle.sharc_flat.specs.{Correct.MayStart, Flattens.Flattens, declared.flat.Flat.{Flat as FlatCode}}
-use Rattle.sharc_compile.specs.{Consistent.IsConsistent, OfRuns.{elements_before, founds_of}, Made.IsCodeOf}
-use Rattle.sharc_guard.specs.Counted.{IsGivenAway}
-use Rattle.sharc_accepted_laws.specs.Targets.{targets_of}
-use Rattle.sharc_invariant.specs.{MachineInvariant.{cell_refers, hand_refers}, Words.{is_freed, register_of, staged_of}, World.ObjectState, Labels.Labels, Typed.IsWellTyped, State.IsSmall, Opened.{first_world, first_place}, Objects.objects_after}
-use Rattle.sharc_wants_laws.proofs.Tables.{has_tables}
-use Rattle.sharc_history_laws.specs.{History.history_of, Paths.PathsAreConsistent, Reports.{CastReportsShow, FindsOthers, OtherReference, InRegister, InArgument, InLog, InHand, InCell}, Seen.RunsBegin, SeenCells.{IsBeingFreed, is_clearing}, Stores.BeginsWith}
-use Rattle.sharc_lemmas.proofs.Bools.{yes}
+use Rattle.sharc_wants_laws.proofs.{Imports.{◌≡◌, ℕ, ◌+◌, ◌⊎◌, inl, inr, Bool, true, false, List, [], ◌∷◌, ◌++◌, if◌then◌else◌, refl, sym, ap, ◌∙◌, subst, arith, eq-eqb, eqb-true, false≢true, Contains-append_right, ◌==◌, Some, Contains, slice_index, CellAt, GlobalNumber, Made, SourceEvent, Assignment, GivenUp, Emptied, events_of, Asked, is_live, Begun, asked_with, in_argument, in_cell, in_mutex, in_thread, is_taken_to_free, IsBeingTaken, TakenAreBeingTaken, ThreadsHaveBegun, CellsSee, IsSeenInCell, in_global, in_made, in_freed, IsEmptying, is_emptying, FreesEmpty, HandsFly, IsPastEvents, TestersGive, ArgumentsSee, LogsSee, SilentHaveNothing, NothingIsInFlight, ShowsReference, AreQuiet, HaveBegun, IsSeen, RegistersAreSeen, Free, TestSole, Stage, Empties, Lowers, FreeLooks, FreeClears, Uncounts, Links, begun, Code, Shape, NotSole, Fits, Machine, instr_at, ref, Global, Turn, turns_of, CheckedRun, place_after, MayStart, Flattens, FlatCode, IsConsistent, elements_before, founds_of, IsCodeOf, IsGivenAway, targets_of, cell_refers, hand_refers, is_freed, register_of, staged_of, ObjectState, Labels, IsWellTyped, IsSmall, first_world, first_place, objects_after, history_of, PathsAreConsistent, CastReportsShow, FindsOthers, OtherReference, InRegister, InArgument, InLog, InHand, InCell, RunsBegin, IsBeingFreed, is_clearing, BeginsWith, yes}, Tables.has_tables}
 
 no_thread : (c : CellAt) (t i : ℕ) → in_mutex c ≡ in_thread t i → ⊥
 no_thread c t i h = cc

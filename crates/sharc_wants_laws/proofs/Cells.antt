@@ -1,15 +1,7 @@
 -- The cells, modes and integers of a thread of guarded code are those of the machine that is where it is.
-use Rattle.std.proofs.Common.{◌≡◌, ℕ, ℤ, zero, suc, pos, ◌+◌, ◌-◌, ◌*◌, ◌^◌, ◌<◌, Bool, false, List, refl, sym, ap, ◌∙◌, subst, arith, slice_index_or, ◌==◌, Some}
-use Rattle.sharc_tree.specs.declared.event.Object.TheVariants as objects
-use Rattle.sharc_tree.specs.{declared.event.CellAt.CellAt, declared.event.CellMode.CellMode}
-use Rattle.sharc_tree.specs.declared.event.CellMode.TheVariants as modes
-use Rattle.sharc_meaning.specs.{Cells.through, Events.Access, Reference.{is_null, number_of}}
-use Rattle.sharc_code.specs.{declared.code.Code.Code, declared.code.GlobalCells.GlobalCells, declared.code.SourcePlace.SourcePlace, declared.code.PlaceMode.PlaceMode, declared.code.PlaceMode.TheVariants.{LockedGlobal, LockedThrough, LockedLoaded}, declared.instr.Cell.Cell, declared.instr.Cell.TheVariants.{Global, GlobalAt, Object as InObject, ObjectAt}, declared.shape.Shape.Shape, Arithmetic.word_of, Machine.{Machine, int, ref}, Says.{cell_at, global_cell, mode_of, no_global, made_cell, place_at, reference, lock_through}}
+use Rattle.sharc_wants_laws.proofs.Imports.{◌≡◌, ℕ, ℤ, zero, suc, pos, ◌+◌, ◌-◌, ◌*◌, ◌^◌, ◌<◌, Bool, false, List, refl, sym, ap, ◌∙◌, subst, arith, get_or as slice_index_or, ◌==◌, Some, Object, CellAt, CellMode, through, Access, is_null, number_of, Code, GlobalCells, SourcePlace, PlaceMode, LockedGlobal, LockedThrough, LockedLoaded, Cell, GlobalAt, InObject, ObjectAt, Shape, word_of, Machine, ref, global_cell, mode_of, no_global, made_cell, place_at, reference, lock_through, Program, Thread, source_at, Elements, IsNumber, IsReference, Same, access_at, ne_eq}
+use Rattle.sharc_code.specs.{declared.instr.Cell.TheVariants.Global, Machine.int, Says.cell_at}
 use Rattle.sharc_guard.specs.Machine as Form
-use Rattle.sharc_guard.specs.Machine.{Program, Thread, source_at}
-use Rattle.sharc_compile.specs.{Consistent.{Elements, IsNumber}, Related.{IsReference, Same}}
-use Rattle.sharc_wants_laws.specs.Wants.{access_at}
-use Rattle.sharc_lemmas.proofs.Numbers.{ne_eq}
 
 -- ---- references
 null_is : (n e : ℕ) → is_null (reference n e) ≡ (n == 0)
@@ -36,7 +28,7 @@ through_is T (suc n) place v h =
 
 -- ---- globals
 abbrev in_globals : List GlobalCells → ℕ → ℕ → CellAt
-in_globals gs g place = record { object = objects.Global g; cell = place - 2 * (slice_index_or gs g no_global).granule }
+in_globals gs g place = record { object = Object.Global g; cell = place - 2 * (slice_index_or gs g no_global).granule }
 
 module _ (code : Code) (p : Program) (globals : p.globals ≡ code.globals.items) (sites : (n : ℕ) → source_at p n ≡ place_at code n) (s : Shape) (T : Elements) (m : Machine) (a : Thread) (h : Same code s T m a) where
   pub int_is : (r : ℕ) → Form.int a r ≡ int m r
@@ -61,9 +53,9 @@ module _ (code : Code) (p : Program) (globals : p.globals ≡ code.globals.items
   cell_is (ObjectAt r at) = ap (λ n. made_cell n (word_of (Form.int a at))) (number_at r) ∙ ap (λ z. made_cell (ref m r) (word_of z)) (int_is at)
 
   mode_is : (c : CellAt) (mode : PlaceMode) → Form.mode_of p a c mode ≡ mode_of code m c mode
-  mode_is c (LockedGlobal g place) = ap (λ d. modes.Locked (Some d)) (global_is g place)
-  mode_is c (LockedThrough r place) = ap modes.Locked (through_is T (ref m r) place (Form.ref a r) (ref_is r))
-  mode_is c LockedLoaded = ap modes.Locked (through_is T m.pending 0 a.pending h.loaded)
+  mode_is c (LockedGlobal g place) = ap (λ d. CellMode.Locked (Some d)) (global_is g place)
+  mode_is c (LockedThrough r place) = ap CellMode.Locked (through_is T (ref m r) place (Form.ref a r) (ref_is r))
+  mode_is c LockedLoaded = ap CellMode.Locked (through_is T m.pending 0 a.pending h.loaded)
   mode_is c _ = refl
 
   -- an access of guarded code at a site

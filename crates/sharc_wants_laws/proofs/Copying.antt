@@ -1,15 +1,7 @@
 -- Flat code that asks for nothing holds what it held before, and more turns change nothing once it has come to its next
 -- want, its stop or its end.
-use Rattle.std.proofs.{Common.{◌≡◌, ℕ, zero, suc, ℤ, pos, negsuc, ◌+◌, ◌-◌, ◌*◌, ◌⊎◌, inl, inr, ⊎_elim, Bool, true, false, not, ◌==◌, List, [], ◌∷◌, length, refl, sym, ap, ◌∙◌, subst, arith, Some, None, Option, Ok, Err, Result, nat_lt, cond, slice_get}, lemmas.Bool.false≢true}
-use Rattle.sharc_tree.specs.{declared.event.Act.Act, declared.event.CellAt.CellAt, declared.event.CellMode.CellMode, declared.trap.Trap.Trap}
-use Rattle.sharc_tree.specs.declared.event.Act.TheVariants as acts
-use Rattle.sharc_tree.specs.declared.event.Taken.TheVariants as taken
-use Rattle.sharc_tree.specs.declared.trap.Trap.TheVariants as traps
-use Rattle.sharc_meaning.specs.{declared.given.GivenUp.TheVariants.Replaced, Arithmetic.is_zero, Events.{held_mutexes, holds_mutex}, Reference.{is_null, elements_of}, References.refers, State.spent, Statements.is_positive}
-use Rattle.sharc_code.specs.{Arithmetic.{computed, negated, holds}, declared.code.GlobalCells.GlobalCells, declared.instr.Cell.Cell}
-use Rattle.sharc_flat.specs.{declared.op.Op.Op, declared.op.Spot.Spot, Machine.{Flat, At, Caller, Turn, goes, asks, halts, put, int, ref, goes_on, next, over_lines, stops, asserts, with_result, set_int, set_ref, gives_up, take_kind_of, cell_at, cell_mode_of, accessed, accesses, lock_is_null, indexed, takes_local, returned, called, op_turn, end_turn, line_turn, turn, on_turn, exec}}
-use Rattle.sharc_flat.specs.declared.op.Op.TheVariants as op
-use Rattle.sharc_guard.specs.Counted.{Quietly}
+use Rattle.sharc_wants_laws.proofs.Imports.{◌≡◌, ℕ, zero, suc, ℤ, pos, negsuc, ◌+◌, ◌-◌, ◌*◌, ◌⊎◌, inl, inr, ⊎_elim, Bool, true, false, not, ◌==◌, List, [], ◌∷◌, length, refl, sym, ap, ◌∙◌, subst, arith, Some, None, Option, Ok, Err, Result, nat_lt, cond, slice_get, false≢true, Act, CellAt, CellMode, Trap, Taken, Replaced, is_zero, held_mutexes, holds_mutex, is_null, elements_of, refers, spent, is_positive, computed, negated, holds, GlobalCells, Cell, Op, Spot, Flat, At, Caller, goes, asks, halts, put, int, goes_on, over_lines, stops, asserts, with_result, set_int, set_ref, gives_up, take_kind_of, cell_mode_of, accessed, accesses, lock_is_null, indexed, takes_local, called, op_turn, end_turn, line_turn, turn, on_turn, exec, Quietly}
+use Rattle.sharc_flat.specs.Machine.{Turn, ref, next, cell_at, returned}
 
 -- ---- what registers hold
 -- each reference was there before, in one register or another
@@ -53,7 +45,7 @@ result_from i spot m (Ok v) = same m
 result_from i spot m (Err code) = tt
 
 indexed_from : (i cells field : ℕ) (v : ℤ) (elements : ℕ) (spot : Spot) (m : At) → IsFrom m (indexed i cells field v elements spot m)
-indexed_from i cells field (pos n) elements spot m = cond_from (nat_lt n elements) (goes_on (set_int i (pos (n * cells + field)) m)) (stops traps.IndexOutOfBounds spot) m (same m) tt
+indexed_from i cells field (pos n) elements spot m = cond_from (nat_lt n elements) (goes_on (set_int i (pos (n * cells + field)) m)) (stops Trap.IndexOutOfBounds spot) m (same m) tt
 indexed_from i cells field (negsuc n) elements spot m = tt
 
 skip_from : (b : Bool) (n : ℕ) (m : At) → AreFrom m (cond b (over_lines n m) (next m))
@@ -62,11 +54,11 @@ skip_from false n m = same m
 
 accesses_from : (globals : List GlobalCells) (cell : Cell) (spot : Spot) (act : CellAt → CellMode → Act) (then_ : CellAt → ℤ → At → At) (m : At) → IsFrom m (accesses globals cell spot act then_ m)
 accesses_from globals cell spot act then_ m =
-    cond_from (lock_is_null m spot spot.mode) (stops traps.NullPointer spot)
+    cond_from (lock_is_null m spot spot.mode) (stops Trap.NullPointer spot)
     (asks m spot.site (act (cell_at globals m cell) (cell_mode_of globals m (cell_at globals m cell) spot.mode)) (pos 0) (λ v n. accessed (next (then_ (cell_at globals m cell) v n)))) m tt tt
 
 returned_from : (flat : Flat) (frames : List Caller) (spot : Spot) (m : At) → IsFrom m (returned flat frames spot m)
-returned_from flat [] spot m = cond_from (not (nat_lt 0 (length (held_mutexes m.events)))) (goes (record m { pc = length flat.lines })) (stops traps.ReturnWithLockHeld spot) m (same m) tt
+returned_from flat [] spot m = cond_from (not (nat_lt 0 (length (held_mutexes m.events)))) (goes (record m { pc = length flat.lines })) (stops Trap.ReturnWithLockHeld spot) m (same m) tt
 returned_from flat (c ∷ rest) spot m = same m
 
 takes_from : (r x : ℕ) (spot : Spot) (m : At) (b : Bool) → IsFrom m (takes_local r x spot m b)
@@ -74,44 +66,44 @@ takes_from r x spot m true = λ k n is. moves_from m.refs (m.ref_base + r) (m.re
 takes_from r x spot m false = tt
 
 op_from : (flat : Flat) (o : Op) (m : At) → IsFrom m (op_turn flat o m)
-op_from flat (op.Compute width o i a b spot) m = result_from i spot m (computed width o (int m a) (int m b))
-op_from flat (op.Negate width i a spot) m = result_from i spot m (negated width (int m a))
-op_from flat (op.ChkWidth width i spot) m = asserts_from (holds width (int m i)) traps.OutOfRange spot m
-op_from flat (op.SkipIfZero i n) m = skip_from (is_zero (int m i)) n m
-op_from flat (op.SkipIfNull r n) m = skip_from (is_null (ref m r)) n m
-op_from flat (op.Call f ints refs spot) m = cond_from (nat_lt (length m.frames) 255) (goes (called flat f ints refs m)) (stops traps.CallDepth spot) m (same m) tt
-op_from flat (op.Return spot) m = returned_from flat m.frames spot m
-op_from flat (op.ChkNull r spot) m = asserts_from (not (is_null (ref m r))) traps.NullPointer spot m
-op_from flat (op.ChkPositive i spot) m = asserts_from (is_positive (int m i)) traps.SizeNotPositive spot m
-op_from flat (op.ChkHeld cell spot) m = asserts_from (holds_mutex m.events (cell_at flat.globals m cell)) traps.MutexNotHeld spot m
-op_from flat (op.ChkNotHeld cell spot) m = asserts_from (not (holds_mutex m.events (cell_at flat.globals m cell))) traps.MutexAlreadyHeld spot m
-op_from flat (op.ChkRoom spot) m = asserts_from (nat_lt (length (held_mutexes m.events)) 16) traps.TooManyLocks spot m
-op_from flat (op.Bounds i r cells field spot) m = indexed_from i cells field (int m i) (elements_of (ref m r)) spot m
-op_from flat (op.GlobalBounds i elements cells field spot) m = indexed_from i cells field (int m i) elements spot m
-op_from flat (op.Load i cell spot) m = accesses_from flat.globals cell spot acts.Read (λ c v. set_int i v) m
-op_from flat (op.Store i cell spot) m = accesses_from flat.globals cell spot (λ c mode. acts.Write c mode (int m i)) (λ c v n. n) m
-op_from flat (op.LoadRef r cell spot) m = accesses_from flat.globals cell spot acts.Read (λ c v. set_ref r v) m
-op_from flat (op.StoreRef r cell spot) m = accesses_from flat.globals cell spot (λ c mode. acts.Write c mode (ref m r)) (λ c v n. gives_up (Replaced c) (set_ref r (pos 0) n)) m
-op_from flat (op.TakeCell r cell spot) m = accesses_from flat.globals cell spot (λ c mode. acts.Take (taken.Cell c mode) (take_kind_of spot.at)) (λ c v. set_ref r v) m
-op_from flat (op.TakeLocal r x spot) m = takes_from r x spot m (is_null (ref m x))
-op_from flat (op.Null r) m = λ k n is. (k, emptied m.refs (m.ref_base + r) k n is)
-op_from flat (op.Local r x) m = λ k n is. filled m.refs m.refs (m.ref_base + r) (m.ref_base + x) k n (λ j there. there) is
-op_from flat (op.MoveReference r from) m = λ k n is. moves_from m.refs (m.ref_base + r) (m.ref_base + from) k n is
-op_from flat (op.Pop r) m = λ k n is. (k, emptied m.refs (m.ref_base + r) k n is)
-op_from flat (op.Settle x from) m = λ k n is. moves_from m.refs (m.ref_base + x) (m.ref_base + from) k n is
-op_from flat (op.Free r layout spot) m = tt
-op_from flat (op.LoadGuard cell spot) m = tt
-op_from flat (op.New r count cells spot) m = tt
-op_from flat (op.Give r cells spot) m = tt
-op_from flat (op.Lock cell spot) m = tt
-op_from flat (op.Unlock r cell spot) m = tt
-op_from flat (op.CondEnter cell spot) m = tt
-op_from flat (op.CondWait cell spot) m = tt
-op_from flat (op.CondSignal cell spot) m = tt
-op_from flat (op.CondBroadcast cell spot) m = tt
-op_from flat (op.Spawn i f from spot) m = tt
-op_from flat (op.Join i spot) m = tt
-op_from flat (op.Print i spot) m = tt
+op_from flat (Op.Compute width o i a b spot) m = result_from i spot m (computed width o (int m a) (int m b))
+op_from flat (Op.Negate width i a spot) m = result_from i spot m (negated width (int m a))
+op_from flat (Op.ChkWidth width i spot) m = asserts_from (holds width (int m i)) Trap.OutOfRange spot m
+op_from flat (Op.SkipIfZero i n) m = skip_from (is_zero (int m i)) n m
+op_from flat (Op.SkipIfNull r n) m = skip_from (is_null (ref m r)) n m
+op_from flat (Op.Call f ints refs spot) m = cond_from (nat_lt (length m.frames) 255) (goes (called flat f ints refs m)) (stops Trap.CallDepth spot) m (same m) tt
+op_from flat (Op.Return spot) m = returned_from flat m.frames spot m
+op_from flat (Op.ChkNull r spot) m = asserts_from (not (is_null (ref m r))) Trap.NullPointer spot m
+op_from flat (Op.ChkPositive i spot) m = asserts_from (is_positive (int m i)) Trap.SizeNotPositive spot m
+op_from flat (Op.ChkHeld cell spot) m = asserts_from (holds_mutex m.events (cell_at flat.globals m cell)) Trap.MutexNotHeld spot m
+op_from flat (Op.ChkNotHeld cell spot) m = asserts_from (not (holds_mutex m.events (cell_at flat.globals m cell))) Trap.MutexAlreadyHeld spot m
+op_from flat (Op.ChkRoom spot) m = asserts_from (nat_lt (length (held_mutexes m.events)) 16) Trap.TooManyLocks spot m
+op_from flat (Op.Bounds i r cells field spot) m = indexed_from i cells field (int m i) (elements_of (ref m r)) spot m
+op_from flat (Op.GlobalBounds i elements cells field spot) m = indexed_from i cells field (int m i) elements spot m
+op_from flat (Op.Load i cell spot) m = accesses_from flat.globals cell spot Act.Read (λ c v. set_int i v) m
+op_from flat (Op.Store i cell spot) m = accesses_from flat.globals cell spot (λ c mode. Act.Write c mode (int m i)) (λ c v n. n) m
+op_from flat (Op.LoadRef r cell spot) m = accesses_from flat.globals cell spot Act.Read (λ c v. set_ref r v) m
+op_from flat (Op.StoreRef r cell spot) m = accesses_from flat.globals cell spot (λ c mode. Act.Write c mode (ref m r)) (λ c v n. gives_up (Replaced c) (set_ref r (pos 0) n)) m
+op_from flat (Op.TakeCell r cell spot) m = accesses_from flat.globals cell spot (λ c mode. Act.Take (Taken.Cell c mode) (take_kind_of spot.at)) (λ c v. set_ref r v) m
+op_from flat (Op.TakeLocal r x spot) m = takes_from r x spot m (is_null (ref m x))
+op_from flat (Op.Null r) m = λ k n is. (k, emptied m.refs (m.ref_base + r) k n is)
+op_from flat (Op.Local r x) m = λ k n is. filled m.refs m.refs (m.ref_base + r) (m.ref_base + x) k n (λ j there. there) is
+op_from flat (Op.MoveReference r from) m = λ k n is. moves_from m.refs (m.ref_base + r) (m.ref_base + from) k n is
+op_from flat (Op.Pop r) m = λ k n is. (k, emptied m.refs (m.ref_base + r) k n is)
+op_from flat (Op.Settle x from) m = λ k n is. moves_from m.refs (m.ref_base + x) (m.ref_base + from) k n is
+op_from flat (Op.Free r layout spot) m = tt
+op_from flat (Op.LoadGuard cell spot) m = tt
+op_from flat (Op.New r count cells spot) m = tt
+op_from flat (Op.Give r cells spot) m = tt
+op_from flat (Op.Lock cell spot) m = tt
+op_from flat (Op.Unlock r cell spot) m = tt
+op_from flat (Op.CondEnter cell spot) m = tt
+op_from flat (Op.CondWait cell spot) m = tt
+op_from flat (Op.CondSignal cell spot) m = tt
+op_from flat (Op.CondBroadcast cell spot) m = tt
+op_from flat (Op.Spawn i f from spot) m = tt
+op_from flat (Op.Join i spot) m = tt
+op_from flat (Op.Print i spot) m = tt
 op_from flat _ m = λ k n is. (k, is)
 
 line_from : (flat : Flat) (o : Option Op) (m : At) → IsFrom m (line_turn flat o m)

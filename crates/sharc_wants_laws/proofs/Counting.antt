@@ -1,9 +1,5 @@
 -- As many registers refer to an object, as many references to it are held.
-use Rattle.std.proofs.{Common.{◌≡◌, ℕ, zero, suc, pos, ◌+◌, ◌<◌, ◌≤◌, Bool, true, false, cond, List, [], ◌∷◌, refl, ap, sym, ◌∙◌, arith, get_or}, lemmas.Bool.false≢true, lemmas.List.Sums.sum_by-cons}
-use Rattle.std.specs.Prelude.{count_by, slice_index}
-use Rattle.sharc_meaning.specs.{Meaning.Asked, References.{refers, held_count}}
-use Rattle.sharc_code.specs.Machine.{Machine}
-use Rattle.sharc_wants_laws.specs.Holding.{IsTested}
+use Rattle.sharc_wants_laws.proofs.Imports.{◌≡◌, ℕ, zero, suc, pos, ◌+◌, ◌<◌, ◌≤◌, Bool, true, false, cond, List, [], ◌∷◌, refl, ap, sym, ◌∙◌, arith, get_or, false≢true, sum_by-cons, count_by, slice_index, Asked, refers, held_count, Machine, IsTested}
 
 -- ---- counts
 module _ {X : Type 0} (p : X → Bool) (d : X) (none : p d ≡ false) where

@@ -1,11 +1,5 @@
 -- How many references to an object stand in lists, in frames and in states.
-use Rattle.std.proofs.{Common.{◌≡◌, ℕ, ◌+◌, ◌≤◌, ◌==◌, Bool, true, false, ◌&&◌, cond, List, [], ◌∷◌, ◌++◌, refl, sym, ap, ◌∙◌, arith, take, drop, reverse, flat_map, count_by, eqb-true, append-nil, take-append-drop}, lemmas.Bool.true≢false, lemmas.List.Concat.flat_map-append, lemmas.List.Recursion.is_sum_by}
-use mathlib.Core.List.{reverse-cons}
-use Rattle.std.specs.{Prelude.{ℤ, not}, List.AllByRecursion}
-use Rattle.sharc_names.specs.Kinds.{is_pointer}
-use Rattle.sharc_ctype.specs.Resolved.{Resolution, declaration_at, variable_kind}
-use Rattle.sharc_meaning.specs.{declared.given.GivenUp.GivenUp, declared.given.GivenUp.TheVariants.Released, declared.variable.Variable.Variable, Reference.{is_null, number_of}, References.refers, State.{Frame, State, all_released, pointers_among, value_in, with_value, held_by_frame, held_references}}
-use Rattle.sharc_wants_laws.specs.Held.{releases, released}
+use Rattle.sharc_wants_laws.proofs.Imports.{◌≡◌, ℕ, ◌+◌, ◌≤◌, ◌==◌, Bool, true, false, ◌&&◌, cond, List, [], ◌∷◌, ◌++◌, refl, sym, ap, ◌∙◌, arith, take, drop, reverse, flat_map, count_by, eqb-true, append-nil, take-append-drop, true≢false, flat_map-append, is_sum_by, reverse-cons, ℤ, not, AllByRecursion, is_pointer, Resolution, declaration_at, variable_kind, GivenUp, Released, Variable, is_null, number_of, refers, Frame, State, all_released, pointers_among, value_in, with_value, held_by_frame, held_references, releases, released}
 
 -- ---- one reference
 

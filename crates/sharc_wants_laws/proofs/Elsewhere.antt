@@ -1,17 +1,5 @@
 -- What an argument that is not read refers to, a Spawn has given.
-use Rattle.std.proofs.{Common.{◌≡◌, ◌≢◌, ℕ, zero, suc, pos, ◌+◌, ◌^◌, ◌<◌, Bool, true, false, ◌&&◌, ◌||◌, length, List, [], ◌∷◌, map, if◌then◌else◌, refl, sym, ap, ◌∙◌, arith}, lemmas.Bool.false≢true, lemmas.Bool.Decides.nat_tests}
-use Rattle.std.specs.Prelude.{slice_index_or, slice_get}
-use Rattle.sharc_tree.specs.{declared.event.Act.TheVariants.Spawn, declared.event.SourceEvent.SourceEvent, declared.tree.declaration.Declaration.Declaration, Tree.Function}
-use Rattle.sharc_names.specs.Kinds.{declared_kind, is_pointer}
-use Rattle.sharc_ctype.specs.Resolved.{functions_in, function_at}
-use Rattle.sharc_mode.specs.Moded.{Assignment}
-use Rattle.sharc_meaning.specs.{Obeys.History, Reference.number_of, References.{References, refers, has_pointer, takes_reference, passes, in_argument}, Store.{is_spawn, is_natural, spawns}}
-use Rattle.sharc_code.specs.{declared.code.Code.Code, declared.code.Function.{Function as Row}, Machine.{function_of, no_function}, Says.reference, declared.code.GlobalCells.GlobalCells}
-use Rattle.sharc_code.specs.declared.code.Parameter.TheVariants as parameters
-use Rattle.sharc_flat.specs.{Flattened.{function_code, parameter_of, rows_of}, Flattens.{names_of, Flattens}, Laid.AreNamed, Tables.globals_of, declared.flat.Flat.{Flat as FlatCode}, Made.flat_of}
-use Rattle.sharc_guard.specs.{Guard.{entered_at, place}, Known.dropped}
-use Rattle.sharc_compile.specs.Made.{IsCodeOf}
-use Rattle.sharc_history_laws.specs.Seen.{IsGivenTo}
+use Rattle.sharc_wants_laws.proofs.Imports.{◌≡◌, ◌≢◌, ℕ, zero, suc, pos, ◌+◌, ◌^◌, ◌<◌, Bool, true, false, ◌&&◌, ◌||◌, length, List, [], ◌∷◌, map, if◌then◌else◌, refl, sym, ap, ◌∙◌, arith, false≢true, nat_tests, get_or as slice_index_or, slice_get, Spawn, SourceEvent, Declaration, Function, declared_kind, is_pointer, functions_in, function_at, Assignment, History, number_of, References, refers, has_pointer, takes_reference, passes, in_argument, is_spawn, is_natural, spawns, Code, Row, function_of, no_function, reference, GlobalCells, Parameter, function_code, parameter_of, rows_of, names_of, Flattens, AreNamed, globals_of, FlatCode, flat_of, entered_at, place, dropped, IsCodeOf, IsGivenTo}
 
 -- ---- what the function of a row takes
 entered_parameter : (pl : ℕ → ℕ) (rows : List Row) (n : ℕ) → (slice_index_or (map (entered_at pl) rows) n no_function).parameter ≡ (slice_index_or rows n no_function).parameter
@@ -25,16 +13,16 @@ named_parameter bytes (x ∷ xs) (k ∷ ks) (y ∷ ys) zero h = ap (λ (r : Row)
 named_parameter bytes (x ∷ xs) (k ∷ ks) (y ∷ ys) (suc n) h = named_parameter bytes xs ks ys n h.1
 named_parameter bytes _ _ _ n h = absurd h
 
-takes_first : (ds : List Declaration) → parameter_of ds ≡ parameters.Reference → takes_reference ds ≡ true
-takes_first [] e = absurd (let z : parameters.None ≡ parameters.Reference = e in cc)
+takes_first : (ds : List Declaration) → parameter_of ds ≡ Parameter.Reference → takes_reference ds ≡ true
+takes_first [] e = absurd (let z : Parameter.None ≡ Parameter.Reference = e in cc)
 takes_first (d ∷ rest) e = by (is_pointer (declared_kind d.written)) e
   where
-    by : (b : Bool) → (if b || false then parameters.Reference else parameters.Int) ≡ parameters.Reference → b ≡ true
+    by : (b : Bool) → (if b || false then Parameter.Reference else Parameter.Int) ≡ Parameter.Reference → b ≡ true
     by true q = refl
-    by false q = absurd (let z : parameters.Int ≡ parameters.Reference = q in cc)
+    by false q = absurd (let z : Parameter.Int ≡ Parameter.Reference = q in cc)
 
-row_reference : (m : Assignment) (globals : List GlobalCells) (pc : ℕ) (fs : List Function) (n : ℕ) → (slice_index_or (rows_of m globals pc fs) n no_function).parameter ≡ parameters.Reference → has_pointer (slice_get fs n) ≡ true
-row_reference m globals pc [] n e = absurd (let z : parameters.None ≡ parameters.Reference = e in cc)
+row_reference : (m : Assignment) (globals : List GlobalCells) (pc : ℕ) (fs : List Function) (n : ℕ) → (slice_index_or (rows_of m globals pc fs) n no_function).parameter ≡ Parameter.Reference → has_pointer (slice_get fs n) ≡ true
+row_reference m globals pc [] n e = absurd (let z : Parameter.None ≡ Parameter.Reference = e in cc)
 row_reference m globals pc (f ∷ rest) zero e = takes_first f.parameters e
 row_reference m globals pc (f ∷ rest) (suc n) e = row_reference m globals (pc + length (function_code m globals pc f)) rest n e
 
@@ -48,20 +36,20 @@ row_parameter m flat made code is f =
     ∙ ap (λ (rows : List Row). (slice_index_or rows f no_function).parameter) is.made.functions ∙ entered_parameter pl flat.functions.items f
     ∙ named_parameter flat.texts.items (rows_of m gs 0 fs) (names_of fs) flat.functions.items f made.lays.functions
 
-takes_pointer : (m : Assignment) (flat : FlatCode) → Flattens m flat → (code : Code) → IsCodeOf flat code → (f : ℕ) → (function_of code f).parameter ≡ parameters.Reference → has_pointer (function_at m.typed f) ≡ true
+takes_pointer : (m : Assignment) (flat : FlatCode) → Flattens m flat → (code : Code) → IsCodeOf flat code → (f : ℕ) → (function_of code f).parameter ≡ Parameter.Reference → has_pointer (function_at m.typed f) ≡ true
 takes_pointer m flat made code is f e = row_reference m (globals_of m.typed) 0 (functions_in m.typed.program.items) f (sym (row_parameter m flat made code is f) ∙ e)
 
 -- the other way round
-first_taken : (ds : List Declaration) → takes_reference ds ≡ true → parameter_of ds ≡ parameters.Reference
+first_taken : (ds : List Declaration) → takes_reference ds ≡ true → parameter_of ds ≡ Parameter.Reference
 first_taken [] e = absurd (false≢true e)
-first_taken (d ∷ rest) e = ap (λ b. if b || false then parameters.Reference else parameters.Int) e
+first_taken (d ∷ rest) e = ap (λ b. if b || false then Parameter.Reference else Parameter.Int) e
 
-row_pointer : (m : Assignment) (globals : List GlobalCells) (pc : ℕ) (fs : List Function) (n : ℕ) → has_pointer (slice_get fs n) ≡ true → (slice_index_or (rows_of m globals pc fs) n no_function).parameter ≡ parameters.Reference
+row_pointer : (m : Assignment) (globals : List GlobalCells) (pc : ℕ) (fs : List Function) (n : ℕ) → has_pointer (slice_get fs n) ≡ true → (slice_index_or (rows_of m globals pc fs) n no_function).parameter ≡ Parameter.Reference
 row_pointer m globals pc [] n e = absurd (false≢true e)
 row_pointer m globals pc (f ∷ rest) zero e = first_taken f.parameters e
 row_pointer m globals pc (f ∷ rest) (suc n) e = row_pointer m globals (pc + length (function_code m globals pc f)) rest n e
 
-pub pointer_taken : (m : Assignment) (flat : FlatCode) → Flattens m flat → (code : Code) → IsCodeOf flat code → (f : ℕ) → has_pointer (function_at m.typed f) ≡ true → (function_of code f).parameter ≡ parameters.Reference
+pub pointer_taken : (m : Assignment) (flat : FlatCode) → Flattens m flat → (code : Code) → IsCodeOf flat code → (f : ℕ) → has_pointer (function_at m.typed f) ≡ true → (function_of code f).parameter ≡ Parameter.Reference
 pointer_taken m flat made code is f e = row_parameter m flat made code is f ∙ row_pointer m (globals_of m.typed) 0 (functions_in m.typed.program.items) f e
 
 -- ---- the Spawn

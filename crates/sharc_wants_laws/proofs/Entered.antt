@@ -1,15 +1,6 @@
 -- So it is in the code that is made of flat code.
-use Rattle.std.proofs.{Common.{◌≡◌, ℕ, zero, suc, ◌+◌, Bool, true, false, List, [], ◌∷◌, ◌++◌, map, refl, sym, ap, ◌∙◌, subst, arith}, lemmas.List.map-append}
-use Rattle.std.specs.Prelude.{slice_index_or}
-use Rattle.sharc_ctype.specs.Resolved.{functions_in}
-use Rattle.sharc_code.specs.{declared.code.Function.Function, declared.code.PlaceMode.PlaceMode, declared.code.PlaceMode.TheVariants.{Private, Readonly, Racy, Dynamic}, declared.instr.Cell.Cell, declared.instr.Operator.Operator, declared.instr.Width.Width, declared.instr.Width.TheVariants.Int, declared.instr.Instr.Instr}
-use Rattle.sharc_code.specs.declared.instr.Instr.TheVariants as instrs
-use Rattle.sharc_flat.specs.{declared.op.Op.Op, declared.op.Spot.Spot, Made.flat_of, Flattened.flattened, Tables.globals_of}
-use Rattle.sharc_flat.specs.declared.op.Op.TheVariants as op
-use Rattle.sharc_compile.specs.Generated.{instr_of, generated}
-use Rattle.sharc_guard.specs.{Guard.{check_under, compute, negate, expand, expanded, place}, Known.dropped}
-use Rattle.sharc_wants_laws.specs.Waits.{CodeWaits}
-use Rattle.sharc_wants_laws.proofs.Entering.{IsEntered, AllWait, all_functions, all_laid}
+use Rattle.sharc_wants_laws.proofs.{Imports.{◌≡◌, ℕ, zero, suc, ◌+◌, Bool, true, false, List, [], ◌∷◌, ◌++◌, map, refl, sym, ap, ◌∙◌, subst, arith, map-append, get_or as slice_index_or, functions_in, Row as Function, PlaceMode, Private, Racy, Dynamic, Cell, Operator, Width, Int, Instr, Op, Spot, flat_of, flattened, globals_of, instr_of, generated, check_under, compute, negate, expand, expanded, place, dropped, CodeWaits}, Entering.{IsEntered, AllWait, all_functions, all_laid}}
+use Rattle.sharc_code.specs.declared.code.PlaceMode.TheVariants.{Readonly}
 
 -- a mutex is unlocked, and then the thread waits at the cell
 record IsNext (c : Cell) (is : List Instr) : Type 0 where
@@ -18,10 +9,10 @@ record IsNext (c : Cell) (is : List Instr) : Type 0 where
   unlock_site : ℕ
   wait_site : ℕ
   rest : List Instr
-  is_so : is ≡ instrs.Unlock register mutex unlock_site ∷ instrs.CondWait c wait_site ∷ rest
+  is_so : is ≡ Instr.Unlock register mutex unlock_site ∷ Instr.CondWait c wait_site ∷ rest
 
 abbrev IsEnteredBy : Instr → List Instr → Type 0
-IsEnteredBy (instrs.CondEnter c site) is = IsNext c is
+IsEnteredBy (Instr.CondEnter c site) is = IsNext c is
 IsEnteredBy _ is = Unit {0}
 
 abbrev AllNext : List Instr → Type 0
@@ -33,11 +24,11 @@ record IsNextAt (is : List Instr) (j : ℕ) (c : Cell) : Type 0 where
   mutex : Cell
   unlock_site : ℕ
   wait_site : ℕ
-  unlocks : slice_index_or is (j + 1) instrs.Exit ≡ instrs.Unlock register mutex unlock_site
-  waits : slice_index_or is (j + 1 + 1) instrs.Exit ≡ instrs.CondWait c wait_site
+  unlocks : slice_index_or is (j + 1) Instr.Exit ≡ Instr.Unlock register mutex unlock_site
+  waits : slice_index_or is (j + 1 + 1) Instr.Exit ≡ Instr.CondWait c wait_site
 
-next_at : (is : List Instr) → AllNext is → (j site : ℕ) (c : Cell) → slice_index_or is j instrs.Exit ≡ instrs.CondEnter c site → IsNextAt is j c
-next_at [] h j site c e = absurd (let z : instrs.Exit ≡ instrs.CondEnter c site = e in cc)
+next_at : (is : List Instr) → AllNext is → (j site : ℕ) (c : Cell) → slice_index_or is j Instr.Exit ≡ Instr.CondEnter c site → IsNextAt is j c
+next_at [] h j site c e = absurd (let z : Instr.Exit ≡ Instr.CondEnter c site = e in cc)
 next_at (i ∷ is) h zero site c e =
     let n : IsNext c is = subst (λ i. IsEnteredBy i is) e h.0 in
     record {
@@ -45,8 +36,8 @@ next_at (i ∷ is) h zero site c e =
       mutex = n.mutex;
       unlock_site = n.unlock_site;
       wait_site = n.wait_site;
-      unlocks = ap (λ is. slice_index_or is 0 instrs.Exit) n.is_so;
-      waits = ap (λ is. slice_index_or is 1 instrs.Exit) n.is_so;
+      unlocks = ap (λ is. slice_index_or is 0 Instr.Exit) n.is_so;
+      waits = ap (λ is. slice_index_or is 1 Instr.Exit) n.is_so;
     }
 next_at (i ∷ is) h (suc j) site c e =
     let n = next_at is h.1 j site c e in
@@ -57,8 +48,8 @@ next_at (i ∷ is) h (suc j) site c e =
       mutex = n.mutex;
       unlock_site = n.unlock_site;
       wait_site = n.wait_site;
-      unlocks = sym (ap (λ k. slice_index_or (i ∷ is) k instrs.Exit) a) ∙ n.unlocks;
-      waits = sym (ap (λ k. slice_index_or (i ∷ is) k instrs.Exit) b) ∙ n.waits;
+      unlocks = sym (ap (λ k. slice_index_or (i ∷ is) k Instr.Exit) a) ∙ n.unlocks;
+      waits = sym (ap (λ k. slice_index_or (i ∷ is) k Instr.Exit) b) ∙ n.waits;
     }
 
 module _ (fs : List Function) where
@@ -87,24 +78,24 @@ module _ (fs : List Function) where
   negated _ i a n rest h = (tt, h)
 
   abbrev Waited : Op → List Instr → Type 0
-  Waited (op.CondEnter c spot) is = IsNext c is
+  Waited (Op.CondEnter c spot) is = IsNext c is
   Waited _ is = Unit {0}
 
   -- what an operation becomes
   piece : (drop : Bool) (pl : ℕ → ℕ) (n : ℕ) (o : Op) (rest : List Instr) → Waited o rest → AllNext rest → AllNext (map f (expand pl drop n o) ++ rest)
-  piece drop pl n (op.Load i c spot) rest w h = under drop (instrs.ChkRead c n) spot n spot.mode (instrs.Load i c n ∷ []) [] rest (λ is. tt) (tt, h)
-  piece drop pl n (op.Store i c spot) rest w h = under drop (instrs.ChkWrite c n) spot n spot.mode (instrs.Store i c n ∷ []) [] rest (λ is. tt) (tt, h)
-  piece drop pl n (op.LoadRef r c spot) rest w h = under false (instrs.ChkRead c n) spot n spot.mode (instrs.LoadRef c n ∷ []) (instrs.RaiseLoaded r ∷ []) rest (λ is. tt) (tt, (tt, h))
-  piece drop pl n (op.StoreRef r c spot) rest w h = under false (instrs.ChkWrite c n) spot n spot.mode (instrs.Exchange r c n ∷ []) (instrs.Lower r ∷ []) rest (λ is. tt) (tt, (tt, h))
-  piece drop pl n (op.TakeCell r c spot) rest w h = under false (instrs.ChkWrite c n) spot n spot.mode (instrs.TakeCell r c n ∷ []) [] rest (λ is. tt) (tt, h)
-  piece drop pl n (op.Give r cells spot) rest w h = (tt, (tt, (tt, h)))
-  piece drop pl n (op.Free r layout spot) rest w h = (tt, (tt, h))
-  piece drop pl n (op.Settle to from) rest w h = (tt, (tt, h))
-  piece drop pl n (op.Compute width operator i a b spot) rest w h = computed width operator i a b n rest h
-  piece drop pl n (op.Negate width i a spot) rest w h = negated width i a n rest h
-  piece drop pl n (op.CondEnter c spot) rest w h = (w, h)
-  piece drop pl n op.Enter rest w h = h
-  piece drop pl n op.BlockEnd rest w h = h
+  piece drop pl n (Op.Load i c spot) rest w h = under drop (Instr.ChkRead c n) spot n spot.mode (Instr.Load i c n ∷ []) [] rest (λ is. tt) (tt, h)
+  piece drop pl n (Op.Store i c spot) rest w h = under drop (Instr.ChkWrite c n) spot n spot.mode (Instr.Store i c n ∷ []) [] rest (λ is. tt) (tt, h)
+  piece drop pl n (Op.LoadRef r c spot) rest w h = under false (Instr.ChkRead c n) spot n spot.mode (Instr.LoadRef c n ∷ []) (Instr.RaiseLoaded r ∷ []) rest (λ is. tt) (tt, (tt, h))
+  piece drop pl n (Op.StoreRef r c spot) rest w h = under false (Instr.ChkWrite c n) spot n spot.mode (Instr.Exchange r c n ∷ []) (Instr.Lower r ∷ []) rest (λ is. tt) (tt, (tt, h))
+  piece drop pl n (Op.TakeCell r c spot) rest w h = under false (Instr.ChkWrite c n) spot n spot.mode (Instr.TakeCell r c n ∷ []) [] rest (λ is. tt) (tt, h)
+  piece drop pl n (Op.Give r cells spot) rest w h = (tt, (tt, (tt, h)))
+  piece drop pl n (Op.Free r layout spot) rest w h = (tt, (tt, h))
+  piece drop pl n (Op.Settle to from) rest w h = (tt, (tt, h))
+  piece drop pl n (Op.Compute width operator i a b spot) rest w h = computed width operator i a b n rest h
+  piece drop pl n (Op.Negate width i a spot) rest w h = negated width i a n rest h
+  piece drop pl n (Op.CondEnter c spot) rest w h = (w, h)
+  piece drop pl n Op.Enter rest w h = h
+  piece drop pl n Op.BlockEnd rest w h = h
   piece drop pl n o rest w h = (tt, h)
 
   module _ (drop : ℕ → Bool) (pl : ℕ → ℕ) where
@@ -112,7 +103,7 @@ module _ (fs : List Function) where
     lines_from k os = map f (expanded pl drop k os)
 
     waited : (k : ℕ) (o : Op) (os : List Op) → IsEntered o os → Waited o (map f (expanded pl drop k os))
-    waited k (op.CondEnter c spot) os h = subst (λ os. IsNext c (lines_from k os)) (sym h.is) (record {
+    waited k (Op.CondEnter c spot) os h = subst (λ os. IsNext c (lines_from k os)) (sym h.is) (record {
       register = h.register;
       mutex = h.mutex;
       unlock_site = k;
@@ -135,9 +126,9 @@ code_waits m flat flattens code is pc site c e =
     let pl = place d all in
     let fs = code.functions.items in
     let functions_are : code.functions.items ≡ is.g.functions.items = λ i. (is.generated.functions i).items in
-    let instrs_are : code.instrs.items ≡ instrs.Start 0 ∷ instrs.Exit ∷ map (instr_of fs) (expanded pl d 0 all) =
+    let instrs_are : code.instrs.items ≡ Instr.Start 0 ∷ Instr.Exit ∷ map (instr_of fs) (expanded pl d 0 all) =
     is.generated.instrs ∙ ap (λ fs. generated fs is.g.statements.items) (sym functions_are) ∙ ap (generated fs) is.made.statements in
     let waits : AllWait all = all_laid m.typed flat.texts.items (flattened m (globals_of m.typed)).lines all flattens.lays.lines (all_functions m (globals_of m.typed) (functions_in m.typed.program.items) 0).all in
-    let whole : AllNext (instrs.Start 0 ∷ instrs.Exit ∷ map (instr_of fs) (expanded pl d 0 all)) = (tt, (tt, lines fs d pl 0 all waits)) in
+    let whole : AllNext (Instr.Start 0 ∷ Instr.Exit ∷ map (instr_of fs) (expanded pl d 0 all)) = (tt, (tt, lines fs d pl 0 all waits)) in
     let n = next_at code.instrs.items (subst AllNext (sym instrs_are) whole) pc site c e in
     record { register = n.register; mutex = n.mutex; unlock_site = n.unlock_site; wait_site = n.wait_site; unlocks = n.unlocks; waits = n.waits }

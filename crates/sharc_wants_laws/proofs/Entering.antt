@@ -1,18 +1,8 @@
 -- In flat code each CondEnter is followed by an Unlock and a CondWait of the same cell.
-use Rattle.std.proofs.Common.{◌≡◌, ℕ, ◌+◌, Bool, true, false, List, [], ◌∷◌, ◌++◌, length, take, drop, Option, Some, None, if◌then◌else◌, refl, sym, ap, ◌∙◌, subst}
-use Rattle.std.specs.{Prelude.codes, Str.bytes_eq}
-use Rattle.sharc_tree.specs.{declared.token.Site.Site, declared.token.Span.Span, declared.tree.declaration.Declaration.Declaration, declared.tree.declaration.Identifier.Identifier, declared.tree.expression.FieldOperator.FieldOperator, declared.tree.expression.FieldOperator.TheVariants.{Dot, Arrow}, declared.tree.expression.BinaryOperator.BinaryOperator, declared.tree.expression.Constant.Constant, declared.tree.expression.PlaceCall.PlaceCall, declared.tree.expression.PlaceCall.TheVariants.{Lock, Unlock, Free}, declared.tree.expression.UnaryOperator.UnaryOperator, declared.tree.expression.UnaryOperator.TheVariants.{Not, Dereference}, declared.tree.expression.ValueCall.ValueCall, declared.tree.expression.ValueCall.TheVariants.{Join, Print}, declared.tree.statement.Jump.Jump, declared.tree.statement.Jump.TheVariants.{Break, Continue}, Spans.span_of, Tree.{Expression, identifier, constant, parentheses, call, spawn, on_value, on_place, cast, index, field, unary, binary, Arguments, no_arguments, argument, Right, value, malloc, Simple, assign, does_call, Local, First, nothing, declares, does, Statement, empty, block, declare, simple, jump, return, if_then, if_then_else, while, for, Statements, no_statements, statement, Function}}
-use Rattle.sharc_tree.specs.declared.tree.expression.BinaryOperator.TheVariants as bop
-use Rattle.sharc_names.specs.{declared.fault.Named.Named, Kinds.{Kind, is_integer, is_array, element_kind, declared_kind, declared_kinds}}
-use Rattle.sharc_names.specs.declared.fault.Named.TheVariants as named
-use Rattle.sharc_ctype.specs.{Resolved.{Resolution, kind_at, global_at}, Transfers.parameters_named}
-use Rattle.sharc_mode.specs.{Moded.Assignment, Cells.pointed, Rows.{written, row_at, declared_row}, Sharings.{Sharing, private}}
-use Rattle.sharc_meaning.specs.{State.is_reference, Cells.{element_cells, global_elements}, Expressions.number_named}
-use Rattle.sharc_code.specs.{declared.code.GlobalCells.GlobalCells, declared.code.Text.Text, declared.code.Use.Use, declared.instr.Cell.Cell, declared.instr.Register.Register}
-use Rattle.sharc_code.specs.declared.code.Use.TheVariants as uses
-use Rattle.sharc_code.specs.declared.instr.Register.TheVariants as registers
-use Rattle.sharc_flat.specs.{declared.op.Op.Op, declared.op.Spot.Spot, Machine.first_cell, declared.slot.Slot.Slot, declared.slot.Lvalue.Lvalue, Scope.{Context, at_site, pops, ends_from, leaves}, Places.{Target, index_width, base_width, global_of, own_field, target, variable, in_global, has_base, index_code, pointee_code, guard_code, drop_base, settle_base, copy_code, cell_value_code, value_code, settle_code, cell_store_code, store_code, cell_take_code, take_code, width_code, bounds_code}, Flattened.{kind_of, ints_of, refs_of, declared_lvalue, guard_of, lvalue_in, mode_of, is_ref, target_of, what_names, lvalue_code, constant_code, named_code, drop_code, truth_code, differ_code, compare_code, logical_code, either_code, unary_code, binary_code, wait_code, condition_code, called_code, passed_code, spawn_code, value_call_code, unlocked_code, place_call_code, cast_code, field_code, unary_place_code, expression_code, arguments_code, place_code, elements_code, right_code, simple_code, with_variable, zero_code, initial_code, local_code, first_code, behind_first, step_code, test_code, turn_code, Around, opened, looping, jump_code, result_code, return_code, if_code, choice_code, loop_code, behind_statement, statement_code, statements_code, behind_statements, in_function, around_body, function_code, functions_code}, Laid.{told_by, with_texts, AreLaid}}
-use Rattle.sharc_flat.specs.declared.op.Op.TheVariants as op
+use Rattle.sharc_wants_laws.proofs.Imports.{◌≡◌, ℕ, ◌+◌, Bool, true, false, List, [], ◌∷◌, ◌++◌, length, take, drop, Option, Some, None, if◌then◌else◌, refl, sym, ap, ◌∙◌, subst, codes, bytes_eq, Site, Span, Declaration, Identifier, FieldOperator, Dot, Arrow, BinaryOperator, Constant, PlaceCall, Lock, Unlock, UnaryOperator, Not, Dereference, ValueCall, Join, Print, Jump, Break, Continue, span_of, Expression, identifier, constant, parentheses, call, spawn, on_value, on_place, cast, index, field, unary, binary, Arguments, no_arguments, argument, Right, value, malloc, Simple, assign, does_call, Local, First, nothing, declares, does, Statement, empty, block, declare, simple, jump, return, if_then, if_then_else, while, for, Statements, no_statements, statement, Function, Named, Kind, is_integer, is_array, element_kind, declared_kind, declared_kinds, Resolution, kind_at, global_at, parameters_named, Assignment, pointed, written, row_at, declared_row, Sharing, private, is_reference, element_cells, global_elements, number_named, GlobalCells, Text, Cell, Register, Op, Spot, first_cell, Slot, Lvalue, Context, at_site, pops, ends_from, leaves, Target, index_width, base_width, global_of, own_field, target, has_base, index_code, pointee_code, guard_code, drop_base, settle_base, copy_code, cell_value_code, value_code, settle_code, cell_store_code, store_code, cell_take_code, take_code, width_code, bounds_code, ints_of, refs_of, declared_lvalue, lvalue_in, is_ref, target_of, what_names, lvalue_code, constant_code, named_code, drop_code, truth_code, differ_code, compare_code, logical_code, either_code, unary_code, binary_code, wait_code, condition_code, called_code, passed_code, spawn_code, value_call_code, unlocked_code, place_call_code, cast_code, field_code, unary_place_code, expression_code, arguments_code, place_code, elements_code, right_code, simple_code, with_variable, zero_code, initial_code, local_code, first_code, behind_first, step_code, test_code, turn_code, Around, opened, looping, jump_code, result_code, return_code, if_code, choice_code, loop_code, behind_statement, statement_code, statements_code, behind_statements, in_function, around_body, function_code, functions_code, told_by, with_texts, AreLaid}
+use Rattle.sharc_tree.specs.declared.tree.expression.PlaceCall.TheVariants.{Free}
+use Rattle.sharc_code.specs.declared.code.Use.{Use}
+use Rattle.sharc_flat.specs.{Places.{variable, in_global}, Flattened.{kind_of, guard_of, mode_of}}
 
 -- a mutex is unlocked, and then the thread waits at the cell
 pub record IsWaited (c : Cell) (os : List Op) : Type 0 where
@@ -21,10 +11,10 @@ pub record IsWaited (c : Cell) (os : List Op) : Type 0 where
   pub unlock_spot : Spot
   pub wait_spot : Spot
   pub rest : List Op
-  pub is : os ≡ op.Unlock register mutex unlock_spot ∷ op.CondWait c wait_spot ∷ rest
+  pub is : os ≡ Op.Unlock register mutex unlock_spot ∷ Op.CondWait c wait_spot ∷ rest
 
 abbrev pub IsEntered : Op → List Op → Type 0
-IsEntered (op.CondEnter c spot) os = IsWaited c os
+IsEntered (Op.CondEnter c spot) os = IsWaited c os
 IsEntered _ os = Unit {0}
 
 abbrev pub AllWait : List Op → Type 0
@@ -32,7 +22,7 @@ AllWait [] = Unit {0}
 AllWait (o ∷ os) = IsEntered o os × AllWait os
 
 entered_more : (o : Op) (xs ys : List Op) → IsEntered o xs → IsEntered o (xs ++ ys)
-entered_more (op.CondEnter c spot) xs ys h = record { register = h.register; mutex = h.mutex; unlock_spot = h.unlock_spot; wait_spot = h.wait_spot; rest = h.rest ++ ys; is = ap (λ l. l ++ ys) h.is }
+entered_more (Op.CondEnter c spot) xs ys h = record { register = h.register; mutex = h.mutex; unlock_spot = h.unlock_spot; wait_spot = h.wait_spot; rest = h.rest ++ ys; is = ap (λ l. l ++ ys) h.is }
 entered_more _ xs ys h = tt
 
 joined : (xs ys : List Op) → AllWait xs → AllWait ys → AllWait (xs ++ ys)
@@ -59,7 +49,7 @@ choose false xs ys h k = k
 -- ---- variables that end
 all_pops : (r : ℕ) (xs : List Slot) → Waits (pops r xs)
 all_pops r [] = none
-all_pops r (x ∷ rest) = choose x.is_pointer (op.Pop r ∷ pops (r + 1) rest) (pops r rest) (more tt (all_pops (r + 1) rest)) (all_pops r rest)
+all_pops r (x ∷ rest) = choose x.is_pointer (Op.Pop r ∷ pops (r + 1) rest) (pops r rest) (more tt (all_pops (r + 1) rest)) (all_pops r rest)
 
 all_ends : (scope : List Slot) (n : ℕ) → Waits (ends_from scope n)
 all_ends scope n = all_pops _ (drop n scope)
@@ -75,14 +65,14 @@ module _ (c : Context) where
   all_guard i r site lvalue t (Some mutex) = (more tt none)
 
   all_dropped : (r : ℕ) (t : Target) → Waits (drop_base r t)
-  all_dropped r t = choose (has_base t) (op.Pop r ∷ []) [] (more tt none) none
+  all_dropped r t = choose (has_base t) (Op.Pop r ∷ []) [] (more tt none) none
 
   all_settled : (r : ℕ) (t : Target) → Waits (settle_base r t)
-  all_settled r t = choose (has_base t) (op.Settle r (r + 1) ∷ []) [] (more tt none) none
+  all_settled r t = choose (has_base t) (Op.Settle r (r + 1) ∷ []) [] (more tt none) none
 
   all_copied : (i r : ℕ) (x : Register) → Waits (copy_code i r x)
-  all_copied i r (registers.Int x) = (more tt none)
-  all_copied i r (registers.Reference x) = (more tt none)
+  all_copied i r (Register.Int x) = (more tt none)
+  all_copied i r (Register.Reference x) = (more tt none)
 
   all_cell_value : (i r : ℕ) (site : Site) (lvalue : Lvalue) (mode : Sharing) (is_ref : Bool) (t : Target) → Waits (cell_value_code c i r site lvalue mode is_ref t)
   all_cell_value i r site lvalue mode is_ref t = join (guard_code c i r site lvalue t _) _ (all_guard i r site lvalue t _) (choose is_ref _ _ (more tt (all_settled r t)) (more tt (all_dropped r t)))
@@ -92,10 +82,10 @@ module _ (c : Context) where
   all_value i r site lvalue mode is_ref t = all_cell_value i r site lvalue mode is_ref t
 
   all_settle : (i r : ℕ) (x : Register) → Waits (settle_code i r x)
-  all_settle i r (registers.Int x) = (more tt none)
-  all_settle i r (registers.Reference x) = (more tt none)
+  all_settle i r (Register.Int x) = (more tt none)
+  all_settle i r (Register.Reference x) = (more tt none)
 
-  stored_first : (is_ref : Bool) (a b : ℕ) (cell : Cell) (s1 s2 : Spot) (os : List Op) → Waits os → Waits ((if is_ref then op.StoreRef a cell s1 else op.Store b cell s2) ∷ os)
+  stored_first : (is_ref : Bool) (a b : ℕ) (cell : Cell) (s1 s2 : Spot) (os : List Op) → Waits os → Waits ((if is_ref then Op.StoreRef a cell s1 else Op.Store b cell s2) ∷ os)
   stored_first true a b cell s1 s2 os h = (more tt h)
   stored_first false a b cell s1 s2 os h = (more tt h)
 
@@ -120,8 +110,8 @@ module _ (c : Context) where
   all_index : (i r : ℕ) (site : Site) (f guard : Option ℕ) (a : Expression) (of_array of_pointer : List Op) (number : ℕ → List Op) → Waits of_array → Waits of_pointer → ((d : ℕ) → Waits (number d)) → Waits (index_code c i r site f guard a of_array of_pointer number)
   all_index i r site f guard a of_array of_pointer number h k n =
       choose (is_array (kind_at c.program.typed a)) _ _
-      (join of_array _ h (join (number r) _ (n r) (all_bounds (λ i n. op.GlobalBounds i elements cells (first + n) (at_site site)) (λ i n os. tt) i (own_field f 0) guard)))
-      (join of_pointer _ k (more tt (join (number (r + 1)) _ (n (r + 1)) (all_bounds (λ i n. op.Bounds i r cells n (at_site site)) (λ i n os. tt) i (own_field f 0) guard))))
+      (join of_array _ h (join (number r) _ (n r) (all_bounds (λ i n. Op.GlobalBounds i elements cells (first + n) (at_site site)) (λ i n os. tt) i (own_field f 0) guard)))
+      (join of_pointer _ k (more tt (join (number (r + 1)) _ (n (r + 1)) (all_bounds (λ i n. Op.Bounds i r cells n (at_site site)) (λ i n os. tt) i (own_field f 0) guard))))
     where
       elements : ℕ
       elements = global_elements (global_at c.program.typed (global_of (target c.program.typed None a)))
@@ -143,15 +133,15 @@ module _ (c : Context) where
   all_constant is_ref i r k = choose is_ref _ _ (more tt none) (more tt none)
 
   all_named : (i r : ℕ) (site : Site) (lvalue : Lvalue) (mode : Sharing) (is_ref : Bool) (n : Named) → Waits (named_code c i r site lvalue mode is_ref n)
-  all_named i r site lvalue mode is_ref (named.Variable x) = all_value i r site lvalue mode is_ref (variable x)
-  all_named i r site lvalue mode is_ref (named.Global g) = all_value i r site lvalue mode is_ref (in_global g 0)
+  all_named i r site lvalue mode is_ref (Named.Variable x) = all_value i r site lvalue mode is_ref (variable x)
+  all_named i r site lvalue mode is_ref (Named.Global g) = all_value i r site lvalue mode is_ref (in_global g 0)
   all_named i r site lvalue mode is_ref _ = none
 
   all_truth : (is_ref : Bool) (i r : ℕ) → Waits (truth_code is_ref i r)
   all_truth is_ref i r = choose is_ref _ _ (more tt (more tt (more tt (more tt none)))) none
 
   all_differ : (o : BinaryOperator) (i : ℕ) → Waits (differ_code o i)
-  all_differ bop.NotEqual i = (more tt none)
+  all_differ BinaryOperator.NotEqual i = (more tt none)
   all_differ _ i = none
 
   all_compare : (o : BinaryOperator) (i r : ℕ) → Waits (compare_code o i r)
@@ -164,7 +154,7 @@ module _ (c : Context) where
   all_either i a b h k = join a _ h (more tt (more tt (join b _ k (more tt (more tt none)))))
 
   all_unary : (i r : ℕ) (s : Span) (o : UnaryOperator) (a : Expression) (code : List Op) → Waits code → Waits (unary_code c i r s o a code)
-  all_unary i r s Not a code h = join code _ h (join (truth_code _ i r) (op.IsFalse i i ∷ []) (all_truth _ i r) (more tt none))
+  all_unary i r s Not a code h = join code _ h (join (truth_code _ i r) (Op.IsFalse i i ∷ []) (all_truth _ i r) (more tt none))
   all_unary i r s Dereference a code h = join (pointee_code r s.first code) _ (all_pointee r s.first code h) (all_value i r s.first (lvalue_in c (unary s Dereference a)) (mode_of c (unary s Dereference a)) (is_ref c (unary s Dereference a)) (target_of c (unary s Dereference a)))
   all_unary i r s _ a code h = join code _ h (more tt none)
 
@@ -172,8 +162,8 @@ module _ (c : Context) where
   all_other i r b o x of_a of_b plain h k = join of_a _ h (join of_b _ k (choose b _ _ (all_compare o i r) (more (plain []) none)))
 
   all_binary : (i r : ℕ) (at : Site) (o : BinaryOperator) (a b : Expression) (of_a : List Op) (of_b : ℕ → ℕ → List Op) → Waits of_a → ((i r : ℕ) → Waits (of_b i r)) → Waits (binary_code c i r at o a b of_a of_b)
-  all_binary i r at bop.LogicalAnd a b of_a of_b h k = all_logical i _ _ (join of_a _ h (all_truth _ i r)) (join (of_b i r) _ (k i r) (all_truth _ i r))
-  all_binary i r at bop.LogicalOr a b of_a of_b h k = all_either i _ _ (join of_a _ h (all_truth _ i r)) (join (of_b i r) _ (k i r) (all_truth _ i r))
+  all_binary i r at BinaryOperator.LogicalAnd a b of_a of_b h k = all_logical i _ _ (join of_a _ h (all_truth _ i r)) (join (of_b i r) _ (k i r) (all_truth _ i r))
+  all_binary i r at BinaryOperator.LogicalOr a b of_a of_b h k = all_either i _ _ (join of_a _ h (all_truth _ i r)) (join (of_b i r) _ (k i r) (all_truth _ i r))
   all_binary i r at o a b of_a of_b h k = all_other i r _ o _ of_a _ (λ os. tt) h (k _ _)
 
   -- ---- calls
@@ -185,8 +175,8 @@ module _ (c : Context) where
       (choose (bytes_eq name (codes "signal")) _ _ (more tt (more tt (more tt none))) (more tt (more tt (more tt none))))
 
   all_called : (i r : ℕ) (spot : Spot) (n : Named) (name : List ℕ) (all : Arguments) → Waits (called_code i r spot n name all)
-  all_called i r spot (named.Function f) name all = (more tt none)
-  all_called i r spot named.Known name all = all_condition r spot name all
+  all_called i r spot (Named.Function f) name all = (more tt none)
+  all_called i r spot Named.Known name all = all_condition r spot name all
   all_called i r spot _ name all = none
 
   all_passed : (i : ℕ) (kinds : List Kind) (site : Site) → Waits (passed_code i kinds site)
@@ -206,10 +196,10 @@ module _ (c : Context) where
   all_place_call : (i r : ℕ) (s : Span) (w : PlaceCall) (a : Expression) (place : List Op) → Waits place → Waits (place_call_code c i r s w a place)
   all_place_call i r s Lock a place h = join place _ h (more tt (more tt (more tt none)))
   all_place_call i r s Unlock a place h = join place _ h (more tt (more tt (all_unlocked r _)))
-  all_place_call i r s Free a place h = join place _ h (join (take_code c i r (span_of a).first (lvalue_in c a) (mode_of c a) uses.Free (target_of c a)) _ (all_take i r (span_of a).first (lvalue_in c a) (mode_of c a) uses.Free (target_of c a)) (more tt (more tt none)))
+  all_place_call i r s Free a place h = join place _ h (join (take_code c i r (span_of a).first (lvalue_in c a) (mode_of c a) Use.Free (target_of c a)) _ (all_take i r (span_of a).first (lvalue_in c a) (mode_of c a) Use.Free (target_of c a)) (more tt (more tt none)))
 
   all_cast : (i r : ℕ) (s : Span) (a : Expression) (place : List Op) → Waits place → Waits (cast_code c i r s a place)
-  all_cast i r s a place h = join place _ h (join (take_code c i r (span_of a).first (lvalue_in c a) (mode_of c a) uses.Cast (target_of c a)) _ (all_take i r (span_of a).first (lvalue_in c a) (mode_of c a) uses.Cast (target_of c a)) (more tt (more tt none)))
+  all_cast i r s a place h = join place _ h (join (take_code c i r (span_of a).first (lvalue_in c a) (mode_of c a) Use.Cast (target_of c a)) _ (all_take i r (span_of a).first (lvalue_in c a) (mode_of c a) Use.Cast (target_of c a)) (more tt (more tt none)))
 
   all_field : (r : ℕ) (site : Site) (f : Option ℕ) (w : FieldOperator) (n : Identifier) (place : Option ℕ → List Op) (pointer : List Op) → ((g : Option ℕ) → Waits (place g)) → Waits pointer → Waits (field_code c r site f w n place pointer)
   all_field r site f Dot n place pointer h k = h _
@@ -306,7 +296,7 @@ module _ (c : Context) where
   all_result : (is_ref : Bool) (i r : ℕ) → Waits (result_code is_ref i r)
   all_result is_ref i r = choose is_ref _ _ (more tt none) (more tt none)
 
-  all_returned : (spot : Spot) → Waits (op.Return spot ∷ [])
+  all_returned : (spot : Spot) → Waits (Op.Return spot ∷ [])
   all_returned spot = (more tt none)
 
   all_return : (a : Around) (site : Site) (e : Option Expression) → Waits (return_code c a site e)
@@ -372,7 +362,7 @@ all_functions m globals [] pc = none
 all_functions m globals (f ∷ rest) pc = join _ _ (all_function m globals pc f) (all_functions m globals rest (pc + length (function_code m globals pc f)))
 
 -- ---- with their texts laid out
-laid_two : (r : Resolution) (bytes : List ℕ) (c : Cell) (q : ℕ) (mutex : Cell) (a b : Spot) (rest ps : List Op) → AreLaid r bytes (op.Unlock q mutex a ∷ op.CondWait c b ∷ rest) ps → IsWaited c ps
+laid_two : (r : Resolution) (bytes : List ℕ) (c : Cell) (q : ℕ) (mutex : Cell) (a b : Spot) (rest ps : List Op) → AreLaid r bytes (Op.Unlock q mutex a ∷ Op.CondWait c b ∷ rest) ps → IsWaited c ps
 laid_two r bytes c q mutex a b rest [] h = absurd h
 laid_two r bytes c q mutex a b rest (p ∷ []) h = absurd h.1
 laid_two r bytes c q mutex a b rest (p ∷ (w ∷ ps)) h = record {
@@ -381,11 +371,11 @@ laid_two r bytes c q mutex a b rest (p ∷ (w ∷ ps)) h = record {
   unlock_spot = told_by h.0.lvalue h.0.lock a;
   wait_spot = told_by h.1.0.lvalue h.1.0.lock b;
   rest = ps;
-  is = ap (λ p. p ∷ w ∷ ps) h.0.is ∙ ap (λ w. op.Unlock q mutex (told_by h.0.lvalue h.0.lock a) ∷ w ∷ ps) h.1.0.is;
+  is = ap (λ p. p ∷ w ∷ ps) h.0.is ∙ ap (λ w. Op.Unlock q mutex (told_by h.0.lvalue h.0.lock a) ∷ w ∷ ps) h.1.0.is;
 }
 
 laid_entered : (r : Resolution) (bytes : List ℕ) (lv lk : Text) (o : Op) (os ps : List Op) → AreLaid r bytes os ps → IsEntered o os → IsEntered (with_texts lv lk o) ps
-laid_entered r bytes lv lk (op.CondEnter c spot) os ps h k = laid_two r bytes c k.register k.mutex k.unlock_spot k.wait_spot k.rest ps (subst (λ os. AreLaid r bytes os ps) k.is h)
+laid_entered r bytes lv lk (Op.CondEnter c spot) os ps h k = laid_two r bytes c k.register k.mutex k.unlock_spot k.wait_spot k.rest ps (subst (λ os. AreLaid r bytes os ps) k.is h)
 laid_entered r bytes lv lk _ os ps h k = tt
 
 pub all_laid : (r : Resolution) (bytes : List ℕ) (os ps : List Op) → AreLaid r bytes os ps → AllWait os → AllWait ps

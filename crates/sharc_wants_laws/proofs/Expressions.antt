@@ -1,18 +1,11 @@
 -- Expressions of a typed program lose no reference.
-use Rattle.std.proofs.{Common.{◌≡◌, ℕ, suc, ◌+◌, Bool, true, false, not, cond, List, [], ◌∷◌, ◌++◌, refl, sym, ap, ◌∙◌, subst, length, drop, append_assoc, append-nil, Some}, lemmas.Bool.{false≢true, true≢false}}
-use Rattle.std.specs.Prelude.{ℤ, pos}
-use Rattle.sharc_tree.specs.{declared.ctype.Base.Base, declared.event.Object.TheVariants.{Global, Made}, declared.event.TakeKind.TakeKind, declared.event.TakeKind.TheVariants.{Cast, Free as ToFree}, declared.token.Site.Site, declared.token.Span.Span, declared.tree.declaration.Identifier.Identifier, declared.tree.expression.FieldOperator.TheVariants.{Dot, Arrow}, declared.tree.expression.BinaryOperator.BinaryOperator, declared.tree.expression.BinaryOperator.TheVariants.{LogicalOr, LogicalAnd}, declared.tree.expression.PlaceCall.TheVariants.{Lock, Unlock, Free}, declared.tree.expression.UnaryOperator.TheVariants.Dereference, declared.tree.expression.ValueCall.ValueCall, Forms.is_lvalue, Spans.span_of, Tree.{Expression, identifier, index, field, unary, Arguments, Function}}
-use Rattle.sharc_tree.specs.declared.ctype.Base.TheVariants as base
-use Rattle.sharc_tree.specs.declared.event.Act.TheVariants as acts
-use Rattle.sharc_tree.specs.declared.trap.Trap.TheVariants as traps
-use Rattle.sharc_names.specs.{declared.fault.Named.Named, Kinds.{Kind, object, array, is_array, is_pointer, element_kind, mutex, declared_kind, declared_kinds, promoted}}
+use Rattle.sharc_wants_laws.proofs.{Imports.{◌≡◌, ℕ, suc, ◌+◌, Bool, true, false, not, cond, List, [], ◌∷◌, ◌++◌, refl, sym, ap, ◌∙◌, subst, length, drop, append_assoc, append-nil, Some, false≢true, true≢false, ℤ, pos, Base, GlobalNumber as Global, Made, TakeKind, Cast, ToFree, Site, Span, Identifier, Dot, Arrow, BinaryOperator, LogicalOr, LogicalAnd, Lock, Unlock, Dereference, ValueCall, is_lvalue, span_of, Expression, identifier, index, field, unary, Arguments, Function, Act, Trap, Named, Kind, object, array, is_array, is_pointer, element_kind, declared_kind, declared_kinds, promoted, class_of, binary_result, named_at, kind_at, function_at, parameters_named, cell_at, pointed, Assignment, cast_row, HasType, HaveTypes, Callee, of_program, of_conditions, a_variable, a_global, a_function, a_constant, in_parentheses, element_of_pointer, element_of_array, a_call, a_field, a_field_behind, complemented, denied, pointed_to, arithmetic, shifted, related, equated, joined, spawned, printed_or_joined, unlocked, a_cast, none_left, one_more, bits_of, fits, is_zero, truth, operated, negative, complement, element_cells, is_null, number_of, elements_of, constant_value, Run, ◌>>=◌, give, answered, moves, is_reference, temporarily, StorePlace, variable, cell, place_named, pointee, field_in, based, element, element_in, index_place, pointee_place, Calls, resulting, tested, operand, fitting, passed, number_named, value_act, spawning, value_called, taking, place_called, cast_value, place_value, binary_value, eval, eval_all, place_of}, Runs.{Same, Starts, same_starts, starts_on}, Steps.slot, Typed.{Facts, Names, names_start, named_variable, named_global, field_names, whole_left, passes, pointer_reference, no_function_object, no_function_array, no_function_pointer}}
+use Rattle.sharc_tree.specs.declared.tree.expression.PlaceCall.TheVariants.{Free}
+use Rattle.sharc_names.specs.Kinds.{mutex}
 use Rattle.sharc_names.specs.Kinds as kinds
-use Rattle.sharc_ctype.specs.{Expressions.{class_of, binary_result}, Resolved.{named_at, kind_at, function_at}, Transfers.parameters_named}
-use Rattle.sharc_mode.specs.{Cells.{cell_at, pointed}, Moded.Assignment, Rows.cast_row}
-use Rattle.sharc_ctype_laws.specs.Constraints.{HasType, HaveTypes, Callee, of_program, of_conditions, a_variable, a_global, a_function, a_constant, in_parentheses, element_of_pointer, element_of_array, a_call, a_field, a_field_behind, negated, complemented, denied, pointed_to, arithmetic, shifted, related, equated, joined, spawned, printed_or_joined, locked, unlocked, freed, a_cast, none_left, one_more}
-use Rattle.sharc_meaning.specs.{Arithmetic.{bits_of, fits, is_zero, truth, operated, negated as negative, complement}, Cells.element_cells, Reference.{is_null, number_of, elements_of, constant_value}, State.{Run, ◌>>=◌, give, answered, moves, is_reference, temporarily}, Places.{StorePlace, variable, cell, place_named, pointee, field_in, based, element, element_of_array as element_in, index_place, pointee_place}, Expressions.{Calls, resulting, tested, operand, fitting, passed, called, number_named, value_act, spawned as spawning, value_called, taking, place_called, cast_value, place_value, binary_value, eval, eval_all, place_of}}
+use Rattle.sharc_ctype_laws.specs.Constraints.{negated, locked, freed}
+use Rattle.sharc_meaning.specs.Expressions.{called}
 use Rattle.sharc_wants_laws.proofs.Runs as runs
-use Rattle.sharc_wants_laws.proofs.{Runs.{Same, Starts, same_starts, starts_on}, Steps.slot, Typed.{Facts, Names, names_start, named_variable, named_global, field_names, whole_left, passes, pointer_reference, no_function_object, no_function_array, no_function_pointer}}
 use Rattle.sharc_wants_laws.proofs.Steps as steps
 
 -- what temporaries hold of arguments for parameters of these types
@@ -44,7 +37,7 @@ module _ (m : Assignment) (n d : ℕ) where
 
   pub fitting_kept : (kind : Kind) (a : Expression) (of_a : Run ℤ) → Keeps of_a → Keeps (fitting kind a of_a)
   fitting_kept kind a of_a h ts = runs.kept_next m.typed n d ts ts _ _ (Same ts) (h ts) (λ v. runs.kept_atom m.typed n d ts _ (Same ts)
-      (runs.atom_next m.typed n d false false false ts ts _ _ (Same ts) (steps.atom_unless m.typed n d (fits kind v) false ts traps.OutOfRange (span_of a).first) (λ _. steps.atom_give m.typed n d false ts v (Same ts) refl)))
+      (runs.atom_next m.typed n d false false false ts ts _ _ (Same ts) (steps.atom_unless m.typed n d (fits kind v) false ts Trap.OutOfRange (span_of a).first) (λ _. steps.atom_give m.typed n d false ts v (Same ts) refl)))
 
   -- one temporary more, where it may be a reference
   abbrev pub Slotted : List ℤ → Bool → ℤ → List ℤ → Type 0
@@ -97,8 +90,8 @@ module _ (m : Assignment) (n d : ℕ) where
       by true whole k y = k
       by false whole k y = absurd (false≢true whole)
 
-  field_kept : (ts : List ℤ) (place : Run StorePlace) (x : List ℕ) (k : Kind) (j : ℕ) → is_array k ≡ false → Kept ts place (Names m.typed ts (object (base.Struct x) 0)) → Kept ts (place >>= λ p. give (field_in j p)) (Names m.typed ts k)
-  field_kept ts place x k j plain h = runs.kept_then m.typed n d ts place _ (Names m.typed ts (object (base.Struct x) 0)) (Names m.typed ts k) h (λ p us z. kept_give us (field_in j p) (Names m.typed ts k) (field_names m.typed ts x k j p us plain z))
+  field_kept : (ts : List ℤ) (place : Run StorePlace) (x : List ℕ) (k : Kind) (j : ℕ) → is_array k ≡ false → Kept ts place (Names m.typed ts (object (Base.Struct x) 0)) → Kept ts (place >>= λ p. give (field_in j p)) (Names m.typed ts k)
+  field_kept ts place x k j plain h = runs.kept_then m.typed n d ts place _ (Names m.typed ts (object (Base.Struct x) 0)) (Names m.typed ts k) h (λ p us z. kept_give us (field_in j p) (Names m.typed ts k) (field_names m.typed ts x k j p us plain z))
 
   value_kept : (ts : List ℤ) (e : Expression) (place : Run StorePlace) (k : Kind) → Kept ts place (Names m.typed ts k) → Kept ts (place_value m e place) (Same ts)
   value_kept ts e place k h = runs.kept_scope m.typed n d ts _ (Starts ts) (λ x us s. s) (runs.kept_then m.typed n d ts place _ (Names m.typed ts k) (Starts ts) h (λ p us z.
@@ -133,10 +126,10 @@ module _ (m : Assignment) (n d : ℕ) where
 
   spawned_kept : (ts : List ℤ) (site : Site) (f : Named) (a : Expression) (of_a : Run ℤ) → Keeps of_a → Kept ts (spawning m.typed site f a of_a) (Same ts)
   spawned_kept ts site f a of_a h = runs.kept_scope m.typed n d ts _ (Starts ts) (λ x us s. s) (runs.kept_then m.typed n d ts _ _ (Slotted ts (is_reference (kind_at m.typed a))) (Starts ts) (passed_kept ts (declared_kinds (parameters_named m.typed f)) a of_a h) (λ v us is.
-      subst (λ z. Kept z (answered site (acts.Spawn (number_named f) v) >>= λ t. moves (kind_at m.typed a) >>= λ _. give t) (Starts ts)) (sym is) (runs.kept_as m.typed n d _ _ (Same ts) (Starts ts) (same_starts ts) (runs.kept_atom m.typed n d _ _ (Same ts) (runs.atom_weak m.typed n d _ _ (Same ts) (moved v))))))
+      subst (λ z. Kept z (answered site (Act.Spawn (number_named f) v) >>= λ t. moves (kind_at m.typed a) >>= λ _. give t) (Starts ts)) (sym is) (runs.kept_as m.typed n d _ _ (Same ts) (Starts ts) (same_starts ts) (runs.kept_atom m.typed n d _ _ (Same ts) (runs.atom_weak m.typed n d _ _ (Same ts) (moved v))))))
     where
-      moved : (v : ℤ) → steps.Atom m.typed n d false true (ts ++ slot (is_reference (kind_at m.typed a)) v) (answered site (acts.Spawn (number_named f) v) >>= λ t. moves (kind_at m.typed a) >>= λ _. give t) (Same ts)
-      moved v = runs.atom_next m.typed n d false true true _ (ts ++ slot (is_reference (kind_at m.typed a)) v) _ _ (Same ts) (steps.atom_event m.typed n d false _ site (acts.Spawn (number_named f) v)) (λ t.
+      moved : (v : ℤ) → steps.Atom m.typed n d false true (ts ++ slot (is_reference (kind_at m.typed a)) v) (answered site (Act.Spawn (number_named f) v) >>= λ t. moves (kind_at m.typed a) >>= λ _. give t) (Same ts)
+      moved v = runs.atom_next m.typed n d false true true _ (ts ++ slot (is_reference (kind_at m.typed a)) v) _ _ (Same ts) (steps.atom_event m.typed n d false _ site (Act.Spawn (number_named f) v)) (λ t.
           runs.atom_next m.typed n d true true true _ ts _ _ (Same ts) (steps.atom_moves m.typed n d ts (kind_at m.typed a) v) (λ _. steps.atom_give m.typed n d true ts t (Same ts) refl))
 
   based_as : (ts : List ℤ) (k : Kind) (p : StorePlace) (us : List ℤ) → Names m.typed ts k p us → steps.Based m.typed n d ts p us
@@ -198,9 +191,9 @@ module _ (m : Assignment) (n d : ℕ) where
           (runs.kept_then m.typed n d ts _ _ (Passed ts ps) (Starts ts) (all_kept (declared_kinds (parameters_named m.typed (named_at m.typed f.site.token))) ps all x ts)
           (λ vs us z. subst (λ l. Kept l (called on_call s.first (named_at m.typed f.site.token) f.text vs) (Starts ts)) (sym z.0) (called_kept f ps _ q s.first vs z.1 ts))))
       eval_kept _ _ (a_field {s = s} {a = a} {x = x} {name = name} {d = f} h member is) ts = runs.kept_entered m.typed n d ts _ (Same ts) (value_kept ts (field s a Dot name) _ (declared_kind f.written)
-          (field_kept ts _ x (declared_kind f.written) _ refl (place_kept s.first _ _ h (whole_left m.typed w _ _ h refl) (no_function_object (base.Struct x) 0) ts)))
+          (field_kept ts _ x (declared_kind f.written) _ refl (place_kept s.first _ _ h (whole_left m.typed w _ _ h refl) (no_function_object (Base.Struct x) 0) ts)))
       eval_kept _ _ (a_field_behind {s = s} {a = a} {x = x} {name = name} {d = f} h member is) ts = runs.kept_entered m.typed n d ts _ (Same ts) (value_kept ts (field s a Arrow name) _ (declared_kind f.written)
-          (field_kept ts _ x (declared_kind f.written) _ refl (pointee_kept ts s.first a _ (base.Struct x) 0 (w.one _ _ h) (eval_kept _ _ h) (object (base.Struct x) 0) refl)))
+          (field_kept ts _ x (declared_kind f.written) _ refl (pointee_kept ts s.first a _ (Base.Struct x) 0 (w.one _ _ h) (eval_kept _ _ h) (object (Base.Struct x) 0) refl)))
       eval_kept _ _ (negated {s = s} {a = a} h i x) ts = runs.kept_entered m.typed n d ts _ (Same ts) (runs.kept_next m.typed n d ts ts _ _ (Same ts) (eval_kept _ _ h ts) (λ v. runs.kept_atom m.typed n d ts _ (Same ts) (steps.atom_result m.typed n d ts s.first (negative (bits_of (promoted (kind_at m.typed a))) v))))
       eval_kept _ _ (complemented {s = s} {a = a} h i x) ts = runs.kept_entered m.typed n d ts _ (Same ts) (runs.kept_next m.typed n d ts ts _ _ (Same ts) (eval_kept _ _ h ts) (λ v. kept_give ts (complement v) (Same ts) refl))
       eval_kept _ _ (denied {s = s} {a = a} h scalar) ts = runs.kept_entered m.typed n d ts _ (Same ts) (runs.kept_next m.typed n d ts ts _ _ (Same ts) (tested_kept a _ (eval_kept _ _ h) ts) (λ is_true. kept_give ts (truth (not is_true)) (Same ts) refl))
@@ -235,9 +228,9 @@ module _ (m : Assignment) (n d : ℕ) where
           (index_array ts site a _ _ _ b j (w.one _ _ x) (place_kept site _ _ x (whole_left m.typed w _ _ x refl) (no_function_array b j) ts) (eval_kept _ _ y))
       place_kept site _ _ (a_call q x) l other ts = absurd (false≢true l)
       place_kept site _ _ (a_field {a = a} {x = x} {d = f} h member is) l other ts = runs.kept_entered m.typed n d ts _ (Names m.typed ts (declared_kind f.written))
-          (field_kept ts _ x (declared_kind f.written) _ refl (place_kept site _ _ h (whole_left m.typed w _ _ h refl) (no_function_object (base.Struct x) 0) ts))
+          (field_kept ts _ x (declared_kind f.written) _ refl (place_kept site _ _ h (whole_left m.typed w _ _ h refl) (no_function_object (Base.Struct x) 0) ts))
       place_kept site _ _ (a_field_behind {a = a} {x = x} {d = f} h member is) l other ts = runs.kept_entered m.typed n d ts _ (Names m.typed ts (declared_kind f.written))
-          (field_kept ts _ x (declared_kind f.written) _ refl (pointee_kept ts site a _ (base.Struct x) 0 (w.one _ _ h) (eval_kept _ _ h) (object (base.Struct x) 0) refl))
+          (field_kept ts _ x (declared_kind f.written) _ refl (pointee_kept ts site a _ (Base.Struct x) 0 (w.one _ _ h) (eval_kept _ _ h) (object (Base.Struct x) 0) refl))
       place_kept site _ _ (negated a i x) l other ts = absurd (false≢true l)
       place_kept site _ _ (complemented a i x) l other ts = absurd (false≢true l)
       place_kept site _ _ (denied a s) l other ts = absurd (false≢true l)

@@ -1,16 +1,9 @@
 -- In guarded code a check is directly before its access, and so in the code that is made of it.
-use Rattle.std.proofs.{Common.{◌≡◌, ℕ, zero, suc, ◌+◌, Bool, true, false, List, [], ◌∷◌, ◌++◌, map, refl, sym, ap, ◌∙◌, subst, arith}, lemmas.List.map-append}
-use Rattle.std.specs.Prelude.{slice_index_or}
-use Rattle.sharc_code.specs.{declared.code.Code.Code, declared.code.Function.Function, declared.code.PlaceMode.PlaceMode, declared.code.PlaceMode.TheVariants.{Dynamic, LockedGlobal, LockedSibling, LockedThrough, LockedLoaded}, declared.code.SourcePlace.SourcePlace, declared.instr.Cell.Cell, declared.instr.Operator.Operator, declared.instr.Width.Width, declared.instr.Width.TheVariants.Int, declared.instr.Instr.Instr, Says.{place_at, no_place}}
-use Rattle.sharc_code.specs.declared.instr.Instr.TheVariants as instrs
-use Rattle.sharc_flat.specs.{declared.flat.Flat.{Flat as FlatCode}, declared.op.Op.Op, declared.op.Spot.Spot, Made.flat_of}
-use Rattle.sharc_flat.specs.declared.op.Op.TheVariants as op
-use Rattle.sharc_compile.specs.{Generated.{instr_of, generated}, Made.IsCodeOf}
-use Rattle.sharc_guard.specs.{Guard.{check_under, compute, negate, expand, expanded, place, source_of}, Known.dropped}
-use Rattle.sharc_history_laws.specs.Followed.{Accesses, IsLocked, IsFollowed, ChecksAreFollowed}
+use Rattle.sharc_wants_laws.proofs.Imports.{◌≡◌, ℕ, zero, suc, ◌+◌, Bool, true, false, List, [], ◌∷◌, ◌++◌, map, refl, sym, ap, ◌∙◌, subst, arith, map-append, get_or as slice_index_or, Code, Row as Function, PlaceMode, Dynamic, LockedGlobal, LockedSibling, LockedThrough, LockedLoaded, SourcePlace, Cell, Operator, Width, Int, Instr, place_at, no_place, FlatCode, Op, Spot, flat_of, instr_of, generated, IsCodeOf, check_under, compute, negate, expand, expanded, place, source_of, dropped, IsLocked, IsFollowed, ChecksAreFollowed}
+use Rattle.sharc_history_laws.specs.Followed.{Accesses}
 
 abbrev next_of : List Instr → Instr
-next_of [] = instrs.Exit
+next_of [] = Instr.Exit
 next_of (i ∷ is) = i
 
 -- ---- lists of instructions
@@ -19,13 +12,13 @@ module _ (code : Code) where
   AllFollowed [] = Unit {0}
   AllFollowed (i ∷ is) = IsFollowed code i (next_of is) × AllFollowed is
 
-  followed_at : (is : List Instr) → AllFollowed is → (j : ℕ) → IsFollowed code (slice_index_or is j instrs.Exit) (slice_index_or is (j + 1) instrs.Exit)
+  followed_at : (is : List Instr) → AllFollowed is → (j : ℕ) → IsFollowed code (slice_index_or is j Instr.Exit) (slice_index_or is (j + 1) Instr.Exit)
   followed_at [] h j = tt
   followed_at (i ∷ []) h zero = h.0
   followed_at (i ∷ (k ∷ is)) h zero = h.0
   followed_at (i ∷ is) h (suc j) =
       let e : suc (j + 1) ≡ suc j + 1 = omega arith in
-      subst (λ n. IsFollowed code (slice_index_or is j instrs.Exit) (slice_index_or (i ∷ is) n instrs.Exit)) e (followed_at is h.1 j)
+      subst (λ n. IsFollowed code (slice_index_or is j Instr.Exit) (slice_index_or (i ∷ is) n Instr.Exit)) e (followed_at is h.1 j)
 
   module _ (fs : List Function) where
     abbrev f : Instr → Instr
@@ -56,18 +49,18 @@ module _ (code : Code) where
 
     -- what an operation becomes
     piece : (drop : Bool) (pl : ℕ → ℕ) (n : ℕ) (o : Op) (rest : List Instr) → (place_at code n).mode ≡ (source_of o).mode → AllFollowed rest → AllFollowed (map f (expand pl drop n o) ++ rest)
-    piece drop pl n (op.Load i c spot) rest e h = under drop (instrs.ChkRead c n) spot n spot.mode (instrs.Load i c n ∷ []) [] rest e false c (refl, refl) (λ d. (e ∙ d, (refl, refl))) (tt, h)
-    piece drop pl n (op.Store i c spot) rest e h = under drop (instrs.ChkWrite c n) spot n spot.mode (instrs.Store i c n ∷ []) [] rest e true c (refl, refl) (λ d. (e ∙ d, (refl, refl))) (tt, h)
-    piece drop pl n (op.LoadRef r c spot) rest e h = under false (instrs.ChkRead c n) spot n spot.mode (instrs.LoadRef c n ∷ []) (instrs.RaiseLoaded r ∷ []) rest e false c (refl, refl) (λ d. (e ∙ d, (refl, refl))) (tt, (tt, h))
-    piece drop pl n (op.StoreRef r c spot) rest e h = under false (instrs.ChkWrite c n) spot n spot.mode (instrs.Exchange r c n ∷ []) (instrs.Lower r ∷ []) rest e true c (refl, refl) (λ d. (e ∙ d, (refl, refl))) (tt, (tt, h))
-    piece drop pl n (op.TakeCell r c spot) rest e h = under false (instrs.ChkWrite c n) spot n spot.mode (instrs.TakeCell r c n ∷ []) [] rest e true c (refl, refl) (λ d. (e ∙ d, (refl, refl))) (tt, h)
-    piece drop pl n (op.Give r cells spot) rest e h = (tt, (tt, (tt, h)))
-    piece drop pl n (op.Free r layout spot) rest e h = (tt, (tt, h))
-    piece drop pl n (op.Settle to from) rest e h = (tt, (tt, h))
-    piece drop pl n (op.Compute w operator i a b spot) rest e h = computed w operator i a b n rest h
-    piece drop pl n (op.Negate w i a spot) rest e h = negated w i a n rest h
-    piece drop pl n op.Enter rest e h = h
-    piece drop pl n op.BlockEnd rest e h = h
+    piece drop pl n (Op.Load i c spot) rest e h = under drop (Instr.ChkRead c n) spot n spot.mode (Instr.Load i c n ∷ []) [] rest e false c (refl, refl) (λ d. (e ∙ d, (refl, refl))) (tt, h)
+    piece drop pl n (Op.Store i c spot) rest e h = under drop (Instr.ChkWrite c n) spot n spot.mode (Instr.Store i c n ∷ []) [] rest e true c (refl, refl) (λ d. (e ∙ d, (refl, refl))) (tt, h)
+    piece drop pl n (Op.LoadRef r c spot) rest e h = under false (Instr.ChkRead c n) spot n spot.mode (Instr.LoadRef c n ∷ []) (Instr.RaiseLoaded r ∷ []) rest e false c (refl, refl) (λ d. (e ∙ d, (refl, refl))) (tt, (tt, h))
+    piece drop pl n (Op.StoreRef r c spot) rest e h = under false (Instr.ChkWrite c n) spot n spot.mode (Instr.Exchange r c n ∷ []) (Instr.Lower r ∷ []) rest e true c (refl, refl) (λ d. (e ∙ d, (refl, refl))) (tt, (tt, h))
+    piece drop pl n (Op.TakeCell r c spot) rest e h = under false (Instr.ChkWrite c n) spot n spot.mode (Instr.TakeCell r c n ∷ []) [] rest e true c (refl, refl) (λ d. (e ∙ d, (refl, refl))) (tt, h)
+    piece drop pl n (Op.Give r cells spot) rest e h = (tt, (tt, (tt, h)))
+    piece drop pl n (Op.Free r layout spot) rest e h = (tt, (tt, h))
+    piece drop pl n (Op.Settle to from) rest e h = (tt, (tt, h))
+    piece drop pl n (Op.Compute w operator i a b spot) rest e h = computed w operator i a b n rest h
+    piece drop pl n (Op.Negate w i a spot) rest e h = negated w i a n rest h
+    piece drop pl n Op.Enter rest e h = h
+    piece drop pl n Op.BlockEnd rest e h = h
     piece drop pl n o rest e h = (tt, h)
 
     -- the lines from this one on have these sites
@@ -94,9 +87,9 @@ code_followed flat code is pc =
     let fs = code.functions.items in
     let functions_are : code.functions.items ≡ is.g.functions.items = λ i. (is.generated.functions i).items in
     let sites_are : code.sites.items ≡ map source_of all = (λ i. (is.generated.sites i).items) ∙ is.made.sites in
-    let instrs_are : code.instrs.items ≡ instrs.Start 0 ∷ instrs.Exit ∷ map (instr_of fs) (expanded pl d 0 all) =
+    let instrs_are : code.instrs.items ≡ Instr.Start 0 ∷ Instr.Exit ∷ map (instr_of fs) (expanded pl d 0 all) =
     is.generated.instrs ∙ ap (λ fs. generated fs is.g.statements.items) (sym functions_are) ∙ ap (generated fs) is.made.statements in
     let sites : (j : ℕ) → place_at code (0 + j) ≡ slice_index_or (map source_of all) j no_place = λ j. let e : 0 + j ≡ j = omega arith in ap (place_at code) e ∙ ap (λ sites. slice_index_or sites j no_place) sites_are in
-    let whole : AllFollowed code (instrs.Start 0 ∷ instrs.Exit ∷ map (instr_of fs) (expanded pl d 0 all)) = (tt, (tt, lines code fs d pl 0 all sites)) in
-    subst (λ is. IsFollowed code (slice_index_or is pc instrs.Exit) (slice_index_or is (pc + 1) instrs.Exit)) (sym instrs_are)
-    (followed_at code (instrs.Start 0 ∷ instrs.Exit ∷ map (instr_of fs) (expanded pl d 0 all)) whole pc)
+    let whole : AllFollowed code (Instr.Start 0 ∷ Instr.Exit ∷ map (instr_of fs) (expanded pl d 0 all)) = (tt, (tt, lines code fs d pl 0 all sites)) in
+    subst (λ is. IsFollowed code (slice_index_or is pc Instr.Exit) (slice_index_or is (pc + 1) Instr.Exit)) (sym instrs_are)
+    (followed_at code (Instr.Start 0 ∷ Instr.Exit ∷ map (instr_of fs) (expanded pl d 0 all)) whole pc)

@@ -1,14 +1,6 @@
 -- By the history a `free` has taken an object that a Free is emptying: the thread took it by its last event, and has held
 -- it since, so nobody made it again.
-use Rattle.std.proofs.{Common.{◌≡◌, ◌≢◌, ◌⊎◌, ⊎_elim, ℕ, Bool, true, false, ◌||◌, ◌&&◌, cond, List, [], ◌∷◌, ◌++◌, Some, refl, sym, ap, ◌∙◌, subst}, lemmas.List.{append-nil, reverse-append}, lemmas.List.Elements.filter-append}
-use Rattle.std.specs.Prelude.{find, reverse}
-use Rattle.sharc_tree.specs.{declared.event.Object.TheVariants.Made, declared.event.SourceEvent.SourceEvent}
-use Rattle.sharc_meaning.specs.{Events.{events_of, is_of, makes}, References.{is_taken_to_free, refers, taken_to_free, takes_to_free}, Store.meets}
-use Rattle.sharc_wants_laws.specs.Freeing.{TakesLast}
-use Rattle.sharc_code.specs.{declared.code.Code.Code, declared.shape.Shape.Shape, Runs.Turn, Whole.CheckedRun}
-use Rattle.sharc_invariant.specs.World.{ObjectState}
-use Rattle.sharc_history_laws.specs.{History.history_of, Kept.Grows, Seen.RunsBegin}
-use Rattle.sharc_lemmas.proofs.Bools.{yes}
+use Rattle.sharc_wants_laws.proofs.Imports.{◌≡◌, ◌≢◌, ◌⊎◌, ⊎_elim, ℕ, Bool, true, false, ◌||◌, ◌&&◌, cond, List, [], ◌∷◌, ◌++◌, Some, refl, sym, ap, ◌∙◌, subst, append-nil, reverse-append, filter-append, find, reverse, Made, SourceEvent, events_of, is_of, makes, is_taken_to_free, refers, taken_to_free, takes_to_free, meets, TakesLast, Code, Shape, Turn, CheckedRun, ObjectState, history_of, Grows, RunsBegin, yes}
 
 no_last : (before : List SourceEvent) (e : SourceEvent) → [] ≡ before ++ e ∷ [] → ⊥
 no_last [] e h = cc

@@ -1,11 +1,7 @@
 -- What a `free` has taken is freed next.
-use Rattle.std.proofs.{Common.{◌≡◌, inl, inr, ℕ, ℤ, pos, List, [], ◌∷◌, ◌++◌, length, get_or, reverse, refl, sym, ap, ◌∙◌, subst, append_assoc}, lemmas.Bool.both_ways}
-use Rattle.std.specs.List.{AllByRecursion, flat_map}
-use Rattle.sharc_tree.specs.declared.event.SourceEvent.{SourceEvent}
-use Rattle.sharc_ctype.specs.Resolved.{function_at}
-use Rattle.sharc_meaning.specs.{declared.given.GivenUp.GivenUp, declared.given.GivenUp.TheVariants.Emptied, Meaning.{asked_at, asked_by, start}, Reference.number_of, State.{State, Outcome, Out, go, over, held_by_frame, held_references, pointers_among}}
-use Rattle.sharc_wants_laws.specs.Freeing.{FreesFollowIn, FreesFollow, WasTaken, EmptiedWereTaken}
-use Rattle.sharc_wants_laws.proofs.{Closed.{NotEmptied, thread_kept}, Settled.{Followed, Settled, settled_followed, pending_followed, followed_there, settled_last, pending_some, Freeing, Calm, Quiet, calm, no_emptied}}
+use Rattle.sharc_wants_laws.proofs.{Imports.{◌≡◌, inl, inr, ℕ, ℤ, pos, List, [], ◌∷◌, ◌++◌, length, get_or, reverse, refl, sym, ap, ◌∙◌, subst, append_assoc, both_ways, AllByRecursion, SourceEvent, function_at, GivenUp, Emptied, asked_at, asked_by, number_of, State, Outcome, Out, go, over, held_by_frame, held_references, pointers_among, FreesFollowIn, FreesFollow, WasTaken, EmptiedWereTaken}, Closed.{NotEmptied, thread_kept}, Settled.{Followed, Settled, settled_followed, pending_followed, followed_there, settled_last, pending_some, Freeing, Calm, Quiet, calm, no_emptied}}
+use Rattle.std.specs.List.{flat_map}
+use Rattle.sharc_meaning.specs.Meaning.{start}
 
 pub last_same : {A : Type 0} (a b : List A) (x y : A) → a ++ x ∷ [] ≡ b ++ y ∷ [] → x ≡ y
 last_same [] [] x y h = cc

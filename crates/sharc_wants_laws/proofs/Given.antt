@@ -1,12 +1,5 @@
 -- What a thread holds with some fuel and not with more it has given up between.
-use Rattle.std.proofs.{Common.{◌≡◌, ℕ, ◌+◌, ◌<◌, ◌⊎◌, inl, inr, Bool, true, false, cond, List, [], ◌∷◌, ◌++◌, length, map, refl, sym, ap, ◌∙◌, arith, append_assoc, append-nil, ◌==◌, eqb-true}, lemmas.List.{length-append, length-map}, lemmas.List.Sums.{sum_by-append, sum_by-cons}}
-use Rattle.sharc_tree.specs.{Low.IsLow, Placed.IsPlaced, declared.event.SourceEvent.SourceEvent}
-use Rattle.sharc_ctype.specs.Resolved.{IsResolved}
-use Rattle.sharc_mode.specs.Moded.{Assignment}
-use Rattle.sharc_meaning.specs.{declared.given.GivenUp.GivenUp, declared.given.GivenUp.TheVariants.{Emptied, Released, Replaced}, Events.events_of, Laws.AskLaws, References.{Begun, asked_with, held_count}, Runs.{answers_of, by}}
-use Rattle.sharc_wants_laws.specs.{Held.{HeldAreHeldOn, released, releases}, Holding.IsLowered, InFlight.{IsInFlight, IsPastEvents, is_given}}
-use Rattle.sharc_code.specs.{declared.code.Code.Code, Machine.Machine}
-use Rattle.sharc_guard.specs.Counted.{IsReleased}
+use Rattle.sharc_wants_laws.proofs.Imports.{◌≡◌, ℕ, ◌+◌, ◌<◌, ◌⊎◌, inl, inr, Bool, true, false, cond, List, [], ◌∷◌, ◌++◌, length, map, refl, sym, ap, ◌∙◌, arith, append_assoc, append-nil, ◌==◌, eqb-true, length-append, length-map, sum_by-append, sum_by-cons, IsLow, IsPlaced, SourceEvent, IsResolved, Assignment, GivenUp, Emptied, Released, Replaced, events_of, AskLaws, Begun, asked_with, held_count, answers_of, by, HeldAreHeldOn, released, releases, IsLowered, IsInFlight, IsPastEvents, is_given, Code, Machine, IsReleased}
 
 -- ---- lists
 none_of : (A : Type 0) (xs : List A) → length xs ≡ 0 → xs ≡ []

@@ -1,14 +1,7 @@
 -- What a thread of a typed program holds is held on, or given up.
-use Rattle.std.proofs.Common.{◌≡◌, ℕ, ◌+◌, ◌≤◌, ◌||◌, [], ◌∷◌, refl, sym, ap, ◌∙◌, subst, arith, length, Some}
-use Rattle.sharc_tree.specs.Tree.{Function}
-use Rattle.sharc_names.specs.Kinds.{is_struct_behind, declared_kind}
-use Rattle.sharc_ctype.specs.Resolved.{Resolution, functions_in, function_at}
-use Rattle.sharc_ctype_laws.specs.Laws.{EachNamesItself, MeetsConstraints, OneType, MeetsStatements, ArePlain}
-use Rattle.sharc_meaning.specs.{Meaning.{asked_by, run_thread, start}, References.held_count, State.{wants, ended, stopped, spent, Out, go, over}}
-use Rattle.sharc_wants_laws.specs.Held.{released, HeldAreHeldOn}
-use Rattle.sharc_wants_laws.proofs.{Counts.{total, total_is}, Runs.state_of, Typed.Facts, Calls.{Known, thread_kept}}
+use Rattle.sharc_wants_laws.proofs.{Imports.{◌≡◌, ℕ, ◌+◌, ◌≤◌, ◌||◌, [], ◌∷◌, refl, sym, ap, ◌∙◌, subst, arith, length, Some, Function, is_struct_behind, declared_kind, Resolution, functions_in, function_at, EachNamesItself, MeetsConstraints, OneType, MeetsStatements, ArePlain, asked_by, run_thread, held_count, wants, ended, stopped, spent, Out, go, over, released, HeldAreHeldOn, no_struct, at_place}, Counts.{total, total_is}, Runs.state_of, Typed.Facts, Calls.{Known, thread_kept}}
+use Rattle.sharc_meaning.specs.Meaning.{start}
 use Rattle.sharc_wants_laws.proofs.Runs as runs
-use Rattle.sharc_lemmas.proofs.{Bools.{or_first as no_struct}, Lists.at_place}
 
 -- of an end and of one with more fuel
 module _ (r : Resolution) (n d : ℕ) where

@@ -1,19 +1,7 @@
 -- At a test that passed no cell is a reference to the object by the history, nor is anything else but the one that is tested.
-use Rattle.std.proofs.{Common.{◌≡◌, ◌⊎◌, ⊎_elim, ℕ, pos, ◌+◌, ◌-◌, ◌<◌, ◌≤◌, true, false, List, ◌∷◌, length, Option, Some, None, refl, sym, ap, ◌∙◌, subst, arith}, lemmas.Bool.cases_lt}
-use Rattle.std.specs.Prelude.{slice_index, slice_index_or}
-use Rattle.sharc_tree.specs.{declared.event.Object.Object, declared.event.SourceEvent.SourceEvent, declared.tree.item.GlobalForm.GlobalForm}
-use Rattle.sharc_tree.specs.declared.event.Object.TheVariants as objects
-use Rattle.sharc_tree.specs.declared.tree.item.GlobalForm.TheVariants as forms
-use Rattle.sharc_mode.specs.Moded.{Assignment}
+use Rattle.sharc_wants_laws.proofs.Imports.{◌≡◌, ◌⊎◌, ⊎_elim, ℕ, pos, ◌+◌, ◌-◌, ◌<◌, ◌≤◌, true, false, List, ◌∷◌, length, Option, Some, None, refl, sym, ap, ◌∙◌, subst, arith, cases_lt, slice_index, get_or as slice_index_or, Object, SourceEvent, GlobalForm, Assignment, latest, makes, Holder, References, in_argument, in_cell, in_mutex, in_thread, is_pointer_of, is_pointer_of_made, is_taken_to_free, refers, form_value, global_value, initial_value, value_after, Code, Shape, int_of, Fits, IsInGlobal, first_cell_of as first_place, Turn, no_global, CheckedRun, globals_of, Content, Pointer, global_field, Labels, Initial, IsWellTyped, IsSmall, history_of, GlobalPointersAreKept, MadePointersAreKept, OthersAreInitial, BeginsWith, GlobalsPoint, IsPointerInTable, HasTables, targets_of, Passes, tested_object, ArgumentsHoldNone, CellsHoldNone, FreedAreTaken, MutexesHoldNone, ThreadsHoldNone, yes}
 use Rattle.sharc_ctype.specs.Globals.{elements_of}
-use Rattle.sharc_meaning.specs.{Events.{latest, makes}, References.{Holder, References, in_argument, in_cell, in_mutex, in_thread, is_pointer_of, is_pointer_of_made, is_taken_to_free, refers}, Store.{form_value, global_value, initial_value, value_after}}
-use Rattle.sharc_code.specs.{declared.code.Code.Code, declared.shape.Shape.Shape, Arithmetic.int_of, Layout.Fits, Ranges.{IsInGlobal, first_place}, Runs.Turn, Says.no_global, Whole.CheckedRun}
-use Rattle.sharc_flat.specs.Tables.{globals_of}
-use Rattle.sharc_invariant.specs.{Types.{Content, Pointer, is_pointer, global_field}, Labels.Labels, Typed.{Initial, IsWellTyped}, State.IsSmall}
-use Rattle.sharc_history_laws.specs.{History.history_of, Kept.{GlobalPointersAreKept, MadePointersAreKept, OthersAreInitial}, Stores.BeginsWith}
-use Rattle.sharc_accepted_laws.specs.{Pointers.{GlobalsPoint, IsPointerInTable}, TargetLaws.HasTables, Targets.targets_of}
-use Rattle.sharc_wants_laws.specs.{Alone.{Passes, tested_object}, Only.{ArgumentsHoldNone, CellsHoldNone, FreedAreTaken, MutexesHoldNone, ThreadsHoldNone}}
-use Rattle.sharc_lemmas.proofs.Bools.{yes}
+use Rattle.sharc_invariant.specs.Types.{is_pointer}
 
 -- a pointer begins as NULL
 null_word : (a : Content) (v : ℕ) → is_pointer a ≡ true → Initial a v → v ≡ 0
@@ -45,22 +33,22 @@ module _ (kept : MadePointersAreKept) (globals : GlobalPointersAreKept) (others 
     pointer_there c is = subst (λ list. is_pointer (global_field (targets_of m) (first_place list k + c - 2)).holds ≡ true) (sym tables.globals) is
 
     -- one that the global has would be a cell of an object that is being freed, and the globals are none
-    none_inside : IsInGlobal code.globals.items k (first_place code.globals.items k + cell) → References m (history_of code s earlier) n (in_cell (record { object = objects.Global k; cell = cell })) → ⊥
+    none_inside : IsInGlobal code.globals.items k (first_place code.globals.items k + cell) → References m (history_of code s earlier) n (in_cell (record { object = Object.Global k; cell = cell })) → ⊥
     none_inside inside there =
         let low = wt.globals.low k inside.known in
         let at : first_place code.globals.items k + cell - 2 + 2 ≡ first_place code.globals.items k + cell = omega (arith, low) in
         let own : IsInGlobal (globals_of m.typed) k (first_place (globals_of m.typed) k + cell) = subst (λ list. IsInGlobal list k (first_place list k + cell)) tables.globals inside in
         let now = globals (targets_of m) code s ls wt fits small earlier was k cell inside (pointer_there cell (t.inside own)) in
-        let y = cells m code (targets_of m) s ls wt fits small first test earlier checked register passes 0 (first_place code.globals.items k + cell - 2) (record { object = objects.Global k; cell = cell })
+        let y = cells m code (targets_of m) s ls wt fits small first test earlier checked register passes 0 (first_place code.globals.items k + cell - 2) (record { object = Object.Global k; cell = cell })
         (refl, subst (λ at. IsInGlobal code.globals.items k at) (sym at) inside, at) now there in
         y.0.some refl
 
     -- another one keeps what the global begins with, which is NULL
-    begins_null : initial_value m.typed (objects.Global k) ≡ pos 0
+    begins_null : initial_value m.typed (Object.Global k) ≡ pos 0
     begins_null = ap global_value t.is ∙ by t.definition.form refl
       where
         by : (f : GlobalForm) → t.definition.form ≡ f → form_value t.definition.form ≡ pos 0
-        by (forms.Initial span minus c) is =
+        by (GlobalForm.Initial span minus c) is =
             let some : 0 < elements_of t.definition.form = subst (λ f. 0 < elements_of f) (sym is) (omega arith) in
             let near = first_place code.globals.items k + t.near in
             let begin = first k near (tabled t.near (t.there some)) in
@@ -68,12 +56,12 @@ module _ (kept : MadePointersAreKept) (globals : GlobalPointersAreKept) (others 
             sym (ap global_value t.is) ∙ sym begin ∙ ap int_of null
         by _ is = ap form_value is
 
-    none_beside : (IsInGlobal code.globals.items k (first_place code.globals.items k + cell) → ⊥) → refers n (value_after m.typed (history_of code s earlier) (record { object = objects.Global k; cell = cell })) ≡ true → ⊥
+    none_beside : (IsInGlobal code.globals.items k (first_place code.globals.items k + cell) → ⊥) → refers n (value_after m.typed (history_of code s earlier) (record { object = Object.Global k; cell = cell })) ≡ true → ⊥
     none_beside beside there =
         let value = others (targets_of m) code s ls wt fits small m.typed first earlier was k cell beside ∙ begins_null in
         yes (sym there ∙ ap (refers n) value)
 
-    none_in_global : References m (history_of code s earlier) n (in_cell (record { object = objects.Global k; cell = cell })) → ⊥
+    none_in_global : References m (history_of code s earlier) n (in_cell (record { object = Object.Global k; cell = cell })) → ⊥
     none_in_global there = ⊎_elim
         (λ (low : cell < (slice_index_or code.globals.items k no_global).cells).
         let known : k < length code.globals.items = subst (λ list. k < length list) (sym tables.globals) t.known in
@@ -83,28 +71,28 @@ module _ (kept : MadePointersAreKept) (globals : GlobalPointersAreKept) (others 
         (cases_lt cell (slice_index_or code.globals.items k no_global).cells)
 
   -- ---- a cell of an object that is made
-  made_by : (p i : ℕ) → is_pointer_of m.typed (history_of code s earlier) (objects.Made p) i ≡ true
-      → (e : SourceEvent) × (latest (makes (objects.Made p)) (history_of code s earlier) ≡ Some e) × ((targets_of m).is_made_pointer e.site.token i ≡ true)
-  made_by p i is = by (latest (makes (objects.Made p)) R) refl is
+  made_by : (p i : ℕ) → is_pointer_of m.typed (history_of code s earlier) (Object.Made p) i ≡ true
+      → (e : SourceEvent) × (latest (makes (Object.Made p)) (history_of code s earlier) ≡ Some e) × ((targets_of m).is_made_pointer e.site.token i ≡ true)
+  made_by p i is = by (latest (makes (Object.Made p)) R) refl is
     where
-      by : (o : Option SourceEvent) → latest (makes (objects.Made p)) (history_of code s earlier) ≡ o → is_pointer_of_made m.typed o i ≡ true
-          → (e : SourceEvent) × (latest (makes (objects.Made p)) (history_of code s earlier) ≡ Some e) × ((targets_of m).is_made_pointer e.site.token i ≡ true)
+      by : (o : Option SourceEvent) → latest (makes (Object.Made p)) (history_of code s earlier) ≡ o → is_pointer_of_made m.typed o i ≡ true
+          → (e : SourceEvent) × (latest (makes (Object.Made p)) (history_of code s earlier) ≡ Some e) × ((targets_of m).is_made_pointer e.site.token i ≡ true)
       by None last is = absurd (yes (sym is))
       by (Some e) last is = (e, last, is)
 
-  none_in_made : (p i : ℕ) → References m (history_of code s earlier) n (in_cell (record { object = objects.Made p; cell = i })) → ⊥
+  none_in_made : (p i : ℕ) → References m (history_of code s earlier) n (in_cell (record { object = Object.Made p; cell = i })) → ⊥
   none_in_made p i there =
       let e = made_by p i there.pointer in
       let now = kept (targets_of m) code s ls wt fits small m.typed first earlier was p i n there.counts.0 e.0 e.1 e.2 there.refers_there in
-      let y = cells m code (targets_of m) s ls wt fits small first test earlier checked register passes p i (record { object = objects.Made p; cell = i }) (refl, now.0, refl) now.1 there in
+      let y = cells m code (targets_of m) s ls wt fits small first test earlier checked register passes p i (record { object = Object.Made p; cell = i }) (refl, now.0, refl) now.1 there in
       ⊎_elim
       (λ (same : p ≡ n). y.1 same)
       (λ (free : is_taken_to_free R p ≡ false). yes (sym (freed (targets_of m) s ls wt fits small earlier was p y.0) ∙ free))
       there.counts.1
 
   none_in_cell : (o : Object) (i : ℕ) → References m (history_of code s earlier) n (in_cell (record { object = o; cell = i })) → ⊥
-  none_in_cell (objects.Global k) i there = none_in_global k i (point m k i there.pointer) there
-  none_in_cell (objects.Made p) i there = none_in_made p i there
+  none_in_cell (Object.Global k) i there = none_in_global k i (point m k i there.pointer) there
+  none_in_cell (Object.Made p) i there = none_in_made p i there
 
   pub only : (holder : Holder) → References m (history_of code s earlier) n holder → holder ≡ in_thread test.thread 0
   only (in_cell c) there = absurd (none_in_cell c.object c.cell there)

@@ -1,18 +1,8 @@
 -- From the registers of code to what the program holds that was asked by the answers of its own events.
-use Rattle.std.proofs.{Common.{◌≡◌, ◌≢◌, ℕ, zero, suc, ℤ, pos, ◌+◌, ◌<◌, ◌⊎◌, inl, inr, ⊎_elim, Bool, List, [], ◌∷◌, ◌++◌, length, map, refl, sym, ap, ◌∙◌, subst, arith, get_or, slice_get, append_assoc, append-nil, cond, ◌==◌, eq-eqb, true, false}, lemmas.Bool.false≢true, lemmas.List.{length-map, get_or-set_other}}
-use Rattle.std.specs.Prelude.{slice_index, slice_index_or, slice_set}
-use Rattle.sharc_tree.specs.{declared.event.CellAt.CellAt, declared.event.SourceEvent.SourceEvent}
-use Rattle.sharc_mode.specs.Moded.{Assignment}
-use Rattle.sharc_meaning.specs.{declared.given.GivenUp.GivenUp, declared.given.GivenUp.TheVariants.{Emptied, Released, Replaced}, Reference.number_of, Runs.{IsNamedAt, answers_of}}
+use Rattle.sharc_wants_laws.proofs.{Imports.{◌≡◌, ◌≢◌, ℕ, zero, suc, ℤ, pos, ◌+◌, ◌<◌, ◌⊎◌, inl, inr, ⊎_elim, Bool, List, [], ◌∷◌, ◌++◌, length, map, refl, sym, ap, ◌∙◌, subst, arith, get_or, slice_get, append_assoc, append-nil, cond, ◌==◌, eq-eqb, true, false, false≢true, length-map, get_or-set_other, slice_index, get_or as slice_index_or, slice_set, CellAt, SourceEvent, Assignment, GivenUp, Emptied, Released, Replaced, number_of, IsNamedAt, answers_of, Code, Exit, TestSole, Free, Shape, Row as Function, Machine, instr_at, no_function, function_of, function_at, Flat, At, Came, goes, asks, halts, turn, on_turn, exec, start, at_after, asked, PathsAreRuns, AsksTheSame, MayStart, Guarded, Program, Thread, statement_at, started, thread_after, Resolved, AreLowered, GuardedCounts, IsReleased, IsReplaced, LocksStand, OnWay, Quietly, entered_at, guarded, place, IsLevel, Elements, begins, HasCome, IsGenerated, instr_of, program_of, IsReference, IsAt, IsLinking, is_freed, register_of, IsAccounted, IsLowered, IsTested, IsHolding, IsHoldingThere, IsEmptying}, Emptying.{at_free, not_linking}, Testing.{test_is, no_free, tested}, Quiet.{IsQuiet, line_quiet, same_given, given_in, given_same, given_path, are_own, beyond}, Wanting.{mapped_at, answers_by}, Cells.number_is}
 use Rattle.sharc_meaning.specs.Meaning as Meaning
-use Rattle.sharc_code.specs.{declared.code.Code.Code, declared.instr.Instr.TheVariants.{Exit, TestSole, Free}, declared.shape.Shape.Shape, declared.code.Function.Function, Machine.{Machine, instr_at, no_function, function_of}}
-use Rattle.sharc_ctype.specs.Resolved.{function_at}
-use Rattle.sharc_flat.specs.{Machine.{Flat, At, Came, Turn, goes, asks, halts, turn, on_turn, exec, start}, Path.{at_after, asked, PathsAreRuns}, Correct.{AsksTheSame, MayStart}}
-use Rattle.sharc_guard.specs.{declared.guarded.Guarded.Guarded, Machine.{Program, Thread, statement_at}, Path.{started, thread_after}, Correct.Resolved, Counted.{AreLowered, GuardedCounts, IsReleased, IsReplaced, LocksStand, OnWay, Quietly}, Guard.{entered_at, guarded, place}, Level.IsLevel}
-use Rattle.sharc_compile.specs.{Consistent.Elements, Correct.{by, begins, HasCome}, Generated.{IsGenerated, instr_of, program_of}, Related.{IsReference, IsAt, IsLinking}}
-use Rattle.sharc_invariant.specs.Words.{is_freed, register_of}
-use Rattle.sharc_wants_laws.specs.{Holding.{IsAccounted, IsLowered, IsTested, IsHolding, IsHoldingThere}, Emptying.IsEmptying}
-use Rattle.sharc_wants_laws.proofs.{Emptying.{at_free, not_linking}, Testing.{test_is, no_free, tested}, Quiet.{IsQuiet, line_quiet, same_given, given_in, given_same, given_path, are_own, beyond}, Wanting.{mapped_at, answers_by}, Cells.number_is}
+use Rattle.sharc_flat.specs.Machine.{Turn}
+use Rattle.sharc_compile.specs.Correct.{by}
 
 -- ---- what flat code does without an answer
 pub record Way (flat : Flat) (m final : At) : Type 0 where

@@ -1,14 +1,5 @@
 -- What a thread of a run holds is in its registers, whoever says with which function it was begun.
-use Rattle.std.proofs.Common.{◌≡◌, ℕ, List, [], ◌∷◌, map, sym, ap, ◌∙◌, subst}
-use Rattle.sharc_tree.specs.declared.event.SourceEvent.{SourceEvent}
-use Rattle.sharc_ctype.specs.Resolved.{function_at}
-use Rattle.sharc_ctype_laws.specs.Declared.{NameThemselves}
-use Rattle.sharc_mode.specs.Moded.{Assignment}
-use Rattle.sharc_meaning.specs.{Events.events_of, References.Begun, Runs.{IsNamedAt, by}}
-use Rattle.sharc_code.specs.{declared.code.Code.Code, Machine.Machine}
-use Rattle.sharc_flat.specs.Correct.{MayStart}
-use Rattle.sharc_wants_laws.specs.Registered.{HoldsRegistered}
-use Rattle.sharc_wants_laws.proofs.{Registering.{HoldsThere, StandsThere}, Seeing.{first_event, no_first, same_argument, same_function, same_head, same_tail}}
+use Rattle.sharc_wants_laws.proofs.{Imports.{◌≡◌, ℕ, List, [], ◌∷◌, map, sym, ap, ◌∙◌, subst, SourceEvent, function_at, NameThemselves, Assignment, events_of, Begun, IsNamedAt, by, Code, Machine, MayStart, HoldsRegistered}, Registering.{HoldsThere, StandsThere}, Seeing.{first_event, no_first, same_argument, same_function, same_head, same_tail}}
 
 module _ (m : Assignment) (names : NameThemselves m.typed) (code : Code) (R : List SourceEvent) (thread : ℕ) (at : Machine) (said : List SourceEvent) (is : events_of thread R ≡ said) (b : Begun m R thread) (may : MayStart m b.own.function) where
   own_events : events_of thread R ≡ b.own.begins ∷ events_of thread b.own.after

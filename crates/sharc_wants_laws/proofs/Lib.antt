@@ -1,3 +1,4 @@
+mod Imports
 mod Calls
 mod Closed
 mod Counts

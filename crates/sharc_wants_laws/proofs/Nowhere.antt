@@ -1,14 +1,6 @@
 -- At a test that passed no argument, no held mutex and no pointer cell but of an object that is being freed refers to
 -- the object.
-use Rattle.std.proofs.{Common.{◌≡◌, ◌≢◌, ℕ, ℤ, pos, negsuc, ◌+◌, true, List, refl, sym, ap, ◌∙◌, eqb-true}, lemmas.Bool.{and_parts, false≢true}}
-use Rattle.std.specs.Prelude.{Any}
-use Rattle.sharc_tree.specs.{declared.event.Act.Act, declared.event.Act.TheVariants.Spawn, declared.event.SourceEvent.SourceEvent}
-use Rattle.sharc_ctype.specs.Resolved.{Resolution, function_at}
-use Rattle.sharc_meaning.specs.{References.{has_pointer, passes, refers}, Store.{is_natural, is_spawn, spawns}}
-use Rattle.sharc_code.specs.{declared.code.Code.Code, declared.instr.Instr.TheVariants.TestSole, declared.shape.Shape.Shape, Machine.{Machine, instr_at}, Runs.Global}
-use Rattle.sharc_invariant.specs.{Types.Targets, World.ObjectState, MachineInvariant.IsAlone}
-use Rattle.sharc_history_laws.specs.SeenCells.{IsBeingFreed}
-use Rattle.sharc_wants_laws.proofs.Cause.{no_free, register_there}
+use Rattle.sharc_wants_laws.proofs.{Imports.{◌≡◌, ◌≢◌, ℕ, ℤ, pos, negsuc, ◌+◌, true, List, refl, sym, ap, ◌∙◌, eqb-true, and_parts, false≢true, Any, Act, Spawn, SourceEvent, Resolution, function_at, has_pointer, passes, refers, is_natural, is_spawn, spawns, Code, TestSole, Shape, Machine, instr_at, Global, Targets, ObjectState, IsAlone, IsBeingFreed}, Cause.{no_free, register_there}}
 
 -- ---- the Spawn that gave an argument
 natural_is : (n : ℕ) (z : ℤ) → is_natural n z ≡ true → z ≡ pos n

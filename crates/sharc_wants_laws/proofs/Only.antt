@@ -1,17 +1,6 @@
 -- A thread that holds a reference has a register that refers to its object, which is live, and at a test that passed there
 -- is only the one that is tested.
-use Rattle.std.proofs.{Common.{◌≡◌, ℕ, zero, suc, pos, ◌+◌, ◌<◌, ◌≤◌, ⊎_elim, Bool, true, false, cond, List, [], ◌∷◌, refl, sym, ap, ◌∙◌, subst, arith, get_or}, lemmas.Bool.cases_eq, lemmas.List.Sums.sum_by-cons}
-use Rattle.std.specs.Prelude.{count_by, slice_index}
-use Rattle.sharc_tree.specs.declared.event.SourceEvent.{SourceEvent}
-use Rattle.sharc_mode.specs.Moded.{Assignment}
-use Rattle.sharc_ctype_laws.specs.Declared.{NameThemselves}
-use Rattle.sharc_ctype.specs.Resolved.{function_at}
-use Rattle.sharc_meaning.specs.{Events.events_of, References.{Begun, asked_with, held_count, refers}, Runs.IsNamedAt}
-use Rattle.sharc_code.specs.{declared.code.Code.Code, declared.instr.Cell.Cell, declared.instr.Instr.Instr, declared.instr.Instr.TheVariants.{Free, RaiseLoaded, TestSole}, declared.shape.Shape.Shape, declared.state.Stage.Stage, Machine.{Machine, instr_at}, Path.begun, Runs.Global}
-use Rattle.sharc_flat.specs.Correct.{MayStart}
-use Rattle.sharc_invariant.specs.{Types.Targets, Labels.{Closed, Gate, Label, Labels, LessGate, Loaded}, Typed.{Fine, IsWellTyped}, World.ObjectState, Words.is_freed, State.{label_now, number_in, object_of_cell}, MachineInvariant.{IsAlone, MachineInvariant, WindowStands, cell_refers, label_of, register_refers}}
-use Rattle.sharc_wants_laws.specs.{Registered.{HoldsRegistered, IsLoadedHere, IsRegistered}, Sole.HaveBegun}
-use Rattle.sharc_wants_laws.proofs.Seeing.{first_event, no_first, same_function, same_head}
+use Rattle.sharc_wants_laws.proofs.{Imports.{◌≡◌, ℕ, zero, suc, pos, ◌+◌, ◌<◌, ◌≤◌, ⊎_elim, Bool, true, false, cond, List, [], ◌∷◌, refl, sym, ap, ◌∙◌, subst, arith, get_or, cases_eq, sum_by-cons, count_by, slice_index, SourceEvent, Assignment, NameThemselves, function_at, events_of, Begun, asked_with, held_count, refers, IsNamedAt, Code, Cell, Instr, Free, RaiseLoaded, TestSole, Shape, Stage, Machine, instr_at, begun, Global, MayStart, Targets, Closed, Gate, Label, Labels, LessGate, Loaded, Fine, IsWellTyped, ObjectState, is_freed, label_now, number_in, object_of_cell, IsAlone, MachineInvariant, WindowStands, cell_refers, label_of, register_refers, HoldsRegistered, IsLoadedHere, IsRegistered, HaveBegun}, Seeing.{first_event, no_first, same_function, same_head}}
 
 -- ---- which of a list
 module _ {X : Type 0} (p : X → Bool) (d : X) where

@@ -1,15 +1,5 @@
 -- Another register with a reference that is tested is another thread's, or a second one of the thread that tests.
-use Rattle.std.proofs.Common.{◌≡◌, ℕ, ◌+◌, ◌<◌, ◌⊎◌, inl, inr, Bool, true, false, List, [], reverse, if◌then◌else◌, refl, sym, ap, ◌∙◌, subst, arith, eq-eqb, eqb-true}
-use Rattle.std.specs.Prelude.{◌==◌, slice_index}
-use Rattle.sharc_tree.specs.declared.event.SourceEvent.{SourceEvent}
-use Rattle.sharc_mode.specs.Moded.{Assignment}
-use Rattle.sharc_meaning.specs.{Events.events_of, References.{Begun, in_thread}}
-use Rattle.sharc_code.specs.{declared.code.Code.Code, declared.instr.Instr.TheVariants.TestSole, declared.shape.Shape.Shape, Machine.{Machine, instr_at, ref}, Path.begun, Runs.{Global, Turn, turns_of}, Whole.{CheckedRun, Erase, place_after}}
-use Rattle.sharc_flat.specs.Correct.{MayStart}
-use Rattle.sharc_compile.specs.{Consistent.IsConsistent, OfRuns.{elements_before, founds_of, told_in}}
-use Rattle.sharc_invariant.specs.{MachineInvariant.register_refers, Words.{is_freed, register_of}}
-use Rattle.sharc_wants_laws.specs.{Seeing.{CastersHold, ThreadsSee}, Sole.{AreQuiet, HaveBegun, IsSeen, NoneIsInFlight}}
-use Rattle.sharc_lemmas.proofs.Bools.{yes}
+use Rattle.sharc_wants_laws.proofs.Imports.{◌≡◌, ℕ, ◌+◌, ◌<◌, ◌⊎◌, inl, inr, Bool, true, false, List, [], reverse, if◌then◌else◌, refl, sym, ap, ◌∙◌, subst, arith, eq-eqb, eqb-true, ◌==◌, slice_index, SourceEvent, Assignment, events_of, Begun, in_thread, Code, TestSole, Shape, Machine, instr_at, ref, begun, Global, Turn, turns_of, CheckedRun, Erase, place_after, MayStart, IsConsistent, elements_before, founds_of, told_in, register_refers, is_freed, register_of, CastersHold, ThreadsSee, AreQuiet, HaveBegun, IsSeen, NoneIsInFlight, yes}
 
 same_thread : (u t i j : ℕ) → in_thread u i ≡ in_thread t j → u ≡ t
 same_thread u t i j h = cc

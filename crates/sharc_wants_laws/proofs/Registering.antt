@@ -1,20 +1,8 @@
 -- From what the program holds to the registers of the code, by the answers of its own events.
-use Rattle.std.proofs.{Common.{◌≡◌, ℕ, zero, suc, ℤ, pos, ◌+◌, ◌<◌, ◌≤◌, ◌⊎◌, inl, inr, ⊎_elim, Bool, true, false, not, ◌==◌, List, [], ◌∷◌, length, map, refl, sym, ap, ◌∙◌, subst, arith, get_or, cond, eq-eqb, eqb-true, Option, Some, None}, lemmas.Bool.{false≢true, and_parts, false_from_ne_true as other_register}, lemmas.List.{get_or-set_other, length-map}}
-use Rattle.std.specs.Prelude.{slice_index, slice_index_or, slice_set, IsSomeAnd}
-use Rattle.sharc_tree.specs.{declared.event.Act.TheVariants.Started, declared.event.SourceEvent.SourceEvent}
-use Rattle.sharc_ctype.specs.Resolved.{function_at}
-use Rattle.sharc_mode.specs.Moded.{Assignment}
+use Rattle.sharc_wants_laws.proofs.{Imports.{◌≡◌, ℕ, zero, suc, ℤ, pos, ◌+◌, ◌<◌, ◌≤◌, ◌⊎◌, inl, inr, ⊎_elim, Bool, true, false, not, ◌==◌, List, [], ◌∷◌, length, map, refl, sym, ap, ◌∙◌, subst, arith, get_or, cond, eq-eqb, eqb-true, Option, Some, None, false≢true, and_parts, other_register, get_or-set_other, length-map, slice_index, get_or as slice_index_or, slice_set, IsSomeAnd, Started, SourceEvent, function_at, Assignment, is_null, number_of, refers, IsNamedAt, answers_of, Outcome, spent, Code, Row as Function, Instr, Exit, Free, Lower, MoveReference, RaiseLoaded, TestSole, Shape, Stage, Links, TurnState, Stopped, Ended, Stop, Trapped, Machine, instr_at, no_function, function_of, may_go, reference, Flat, At, Came, exec, start, turn, at_after, asked, PathsAreRuns, AsksTheSame, MayStart, SameAs, Guarded, Program, Thread, statement_at, started, thread_after, GuardedCounts, Comes, Held, IsSettling, LocksStand, Tells, entered_at, guarded, place, IsLevel, Elements, IsNumber, begins, HasCome, IsGenerated, instr_of, program_of, IsAt, IsAtStage, IsLinking, IsOver, Refuses, StopsAt, is_freed, register_of, IsLoadedHere, IsRegistered, set_none}, Copying.{quietly_from, more_turns}, Holding.{Way, way}, Quiet.{given_in, given_same, given_path, are_own, beyond, IsBeyond}, Testing.{Wants, test_is, no_free, stays, wants_it}, Wanting.{mapped_at, answers_by}, Cells.number_is}
 use Rattle.sharc_meaning.specs.Meaning as Meaning
-use Rattle.sharc_meaning.specs.{Reference.{is_null, number_of}, References.refers, Runs.{IsNamedAt, answers_of}, State.{Outcome, spent}}
-use Rattle.sharc_code.specs.{declared.code.Code.Code, declared.code.Function.Function, declared.instr.Instr.Instr, declared.instr.Instr.TheVariants.{Exit, Free, Lower, MoveReference, RaiseLoaded, TestSole}, declared.shape.Shape.Shape, declared.state.Stage.Stage, declared.state.Stage.TheVariants.Links, declared.state.TurnState.TurnState, declared.state.TurnState.TheVariants.{Stopped, Ended}, declared.state.Stop.Stop, declared.state.Stop.TheVariants.Trap as Trapped, Machine.{Machine, instr_at, no_function, function_of}, Path.may_go, Says.reference}
-use Rattle.sharc_flat.specs.{Machine.{Flat, At, Came, exec, start, turn}, Path.{at_after, asked, PathsAreRuns}, Correct.{AsksTheSame, MayStart, SameAs}}
-use Rattle.sharc_guard.specs.{declared.guarded.Guarded.Guarded, Machine.{Program, Thread, statement_at}, Path.{started, thread_after}, Counted.{GuardedCounts, HasCome as Comes, Held, IsSettling, LocksStand, Tells}, Guard.{entered_at, guarded, place}, Level.IsLevel}
 use Rattle.sharc_guard.specs.Machine as Form
-use Rattle.sharc_compile.specs.{Consistent.{Elements, IsNumber}, Correct.{by, begins, HasCome}, Generated.{IsGenerated, instr_of, program_of}, Related.{IsAt, IsAtStage, IsLinking, IsOver, Refuses, StopsAt}}
-use Rattle.sharc_invariant.specs.Words.{is_freed, register_of}
-use Rattle.sharc_wants_laws.specs.Registered.{IsLoadedHere, IsRegistered}
-use Rattle.sharc_wants_laws.proofs.{Copying.{quietly_from, more_turns}, Holding.{Way, way}, Quiet.{given_in, given_same, given_path, are_own, beyond, IsBeyond}, Testing.{Wants, test_is, no_free, stays, wants_it}, Wanting.{mapped_at, answers_by}, Cells.number_is}
-use Rattle.sharc_lemmas.proofs.Lists.{set_null as set_none}
+use Rattle.sharc_compile.specs.Correct.{by}
 
 -- ---- references and numbers
 -- what refers is the reference to an object

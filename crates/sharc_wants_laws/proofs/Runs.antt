@@ -1,9 +1,6 @@
 -- Runs that lose no reference, and that lose none with more fuel: how they are put together.
-use Rattle.std.proofs.Common.{◌≡◌, ℕ, zero, suc, ◌+◌, ◌<◌, ◌≤◌, Bool, true, false, cond, List, [], ◌∷◌, ◌++◌, refl, sym, ap, ◌∙◌, subst, arith, length, take, drop, take_at, append-nil}
-use Rattle.std.specs.{List.AllByRecursion, Prelude.ℤ}
-use Rattle.sharc_ctype.specs.Resolved.{Resolution}
-use Rattle.sharc_meaning.specs.{declared.variable.Variable.Variable, State.{Frame, State, Outcome, wants, spent, Out, go, over, Run, Step, then_on, ◌>>=◌, ◌>>◌, give, entered, enters_with, all_released, pointers_among, ends_temporaries, temporarily, ends_variables, in_block}, Statements.{Flow, next, broken, returned, on_turn, turns, loop}}
-use Rattle.sharc_wants_laws.proofs.Counts.{Declared, total, cut_temporaries, cut_variables}
+use Rattle.sharc_wants_laws.proofs.{Imports.{◌≡◌, ℕ, zero, suc, ◌+◌, ◌<◌, ◌≤◌, Bool, true, false, cond, List, [], ◌∷◌, ◌++◌, refl, sym, ap, ◌∙◌, subst, arith, length, take, drop, take_at, append-nil, AllByRecursion, ℤ, Resolution, Variable, Frame, State, Outcome, wants, spent, Out, go, over, Run, Step, then_on, ◌>>=◌, ◌>>◌, give, entered, enters_with, all_released, pointers_among, ends_temporaries, temporarily, ends_variables, in_block, Flow, next, broken, returned, turns, loop}, Counts.{Declared, total, cut_temporaries, cut_variables}}
+use Rattle.sharc_meaning.specs.Statements.{on_turn}
 
 abbrev pub state_of : {A : Type 0} → Out A → State
 state_of (go x s) = s

@@ -1,18 +1,5 @@
 -- From what a thread's registers have to the references of its history.
-use Rattle.std.proofs.{Common.{◌≡◌, ℕ, zero, ℤ, pos, ◌+◌, ◌-◌, ◌<◌, ◌≤◌, ◌⊎◌, inl, inr, Bool, true, false, cond, List, [], ◌∷◌, ◌++◌, refl, sym, ap, ◌∙◌, subst, arith, eq-eqb, get_or, nat_lt, ltb-true, ltb-false, Option, Some, None}, lemmas.List.Elements.filter-append}
-use Rattle.std.specs.Prelude.{slice_index}
-use Rattle.sharc_tree.specs.{declared.event.Act.TheVariants.Started, declared.event.SourceEvent.SourceEvent, declared.token.Site.Site, Low.IsLow, Placed.IsPlaced, Tree.Function}
-use Rattle.sharc_names.specs.declared.fault.Named.TheVariants as named
-use Rattle.sharc_ctype.specs.Resolved.{IsResolved, Resolution, named_at, function_at}
-use Rattle.sharc_ctype_laws.specs.Declared.{NameThemselves}
-use Rattle.sharc_mode.specs.Moded.{Assignment}
-use Rattle.sharc_meaning.specs.{Events.{events_of, is_of}, Laws.AskLaws, Meaning.Asked, State.{wants, spent}, Reference.number_of, References.{refers, Begun, asked_with, held_count, ThreadHolds}, Runs.{IsNamedAt, answers_of}}
-use Rattle.sharc_wants_laws.specs.{Held.HeldAreHeldOn, Emptying.{IsEmptying, is_emptying}, Holding.{IsAccounted, IsHolding, IsHoldingIn, IsLowered}, InFlight.{IsInFlight, IsPastEvents, is_given, is_replaced, is_emptied}}
-use Rattle.sharc_code.specs.{declared.code.Code.Code, declared.instr.Instr.TheVariants.TestSole, declared.state.Stage.Stage, declared.state.Stage.TheVariants.Lowers, Machine.{Machine, instr_at, ref}}
-use Rattle.sharc_flat.specs.Correct.{MayStart}
-use Rattle.sharc_guard.specs.Counted.{IsGivenAway}
-use Rattle.sharc_invariant.specs.Words.{register_of, staged_of}
-use Rattle.sharc_wants_laws.proofs.{Counting.{one_there, twice}, Given.left_is_given}
+use Rattle.sharc_wants_laws.proofs.{Imports.{◌≡◌, ℕ, zero, ℤ, pos, ◌+◌, ◌-◌, ◌<◌, ◌≤◌, ◌⊎◌, inl, inr, Bool, true, false, cond, List, [], ◌∷◌, ◌++◌, refl, sym, ap, ◌∙◌, subst, arith, eq-eqb, get_or, nat_lt, ltb-true, ltb-false, Option, Some, None, filter-append, slice_index, Started, SourceEvent, Site, IsLow, IsPlaced, Function, Named, IsResolved, Resolution, named_at, function_at, NameThemselves, Assignment, events_of, is_of, AskLaws, Asked, wants, spent, number_of, refers, Begun, asked_with, held_count, ThreadHolds, IsNamedAt, answers_of, HeldAreHeldOn, IsEmptying, is_emptying, IsAccounted, IsHolding, IsHoldingIn, IsLowered, IsInFlight, IsPastEvents, is_given, is_replaced, is_emptied, Code, TestSole, Stage, Lowers, Machine, instr_at, ref, MayStart, IsGivenAway, register_of, staged_of}, Counting.{one_there, twice}, Given.left_is_given}
 
 -- ---- one of a list
 number_refers : (n : ℕ) (v : ℤ) → number_of v ≡ n → 0 < n → refers n v ≡ true
@@ -47,7 +34,7 @@ one_wanted e w h = cc
 pub same_function : (r : Resolution) → NameThemselves r → (n k : ℕ) (site : Site) → IsNamedAt (function_at r n) site → IsNamedAt (function_at r k) site → n ≡ k
 same_function r names n k site a b = by (function_at r n) (function_at r k) refl refl a b
   where
-    number_eq : (a b : ℕ) → named.Function a ≡ named.Function b → a ≡ b
+    number_eq : (a b : ℕ) → Named.Function a ≡ Named.Function b → a ≡ b
     number_eq a b e = cc
 
     by : (f g : Option Function) → function_at r n ≡ f → function_at r k ≡ g → IsNamedAt f site → IsNamedAt g site → n ≡ k

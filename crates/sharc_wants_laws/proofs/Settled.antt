@@ -1,20 +1,14 @@
 -- Runs that free what they take: from events of which none waits to be freed they come to such events, or want the event that frees what was taken last.
-use Rattle.std.proofs.{Common.{◌≡◌, ◌⊎◌, inl, inr, ℕ, zero, suc, Bool, true, false, not, ◌&&◌, cond, List, [], ◌∷◌, ◌++◌, refl, sym, ap, ◌∙◌, subst, append_assoc, length}, lemmas.Bool.both_ways}
-use Rattle.std.specs.{List.AllByRecursion, Prelude.{ℤ, pos, drop}}
-use Rattle.sharc_tree.specs.{declared.event.Act.Act, declared.event.CellAt.CellAt, declared.event.CellMode.CellMode, declared.event.Object.Object, declared.event.SourceEvent.SourceEvent, declared.event.TakeKind.TheVariants.{Free as ToFree}, declared.token.Site.Site, declared.token.Span.Span, declared.tree.expression.PlaceCall.TheVariants.Free, Spans.span_of, Tree.Expression}
-use Rattle.sharc_tree.specs.declared.event.Act.TheVariants as acts
+use Rattle.sharc_wants_laws.proofs.{Imports.{◌≡◌, ◌⊎◌, inl, inr, ℕ, zero, suc, Bool, true, false, not, ◌&&◌, cond, List, [], ◌∷◌, ◌++◌, refl, sym, ap, ◌∙◌, subst, append_assoc, length, both_ways, AllByRecursion, ℤ, pos, drop, Act, CellAt, CellMode, Object, SourceEvent, ToFree, Site, Span, span_of, Expression, Resolution, cell_at, Assignment, Sharing, cell_of, is_null, number_of, taken_to_free, GivenUp, Emptied, Frame, State, Outcome, wants, Out, go, over, Run, Step, then_on, ◌>>◌, give, done, enters_with, happens, answered, answer_of, value_of, event_of, ends_temporaries, ends_variables, without_temporaries, all_released, pointers_among, StorePlace, variable, cell, access_mode, nulled, taken_from, freed, place_called, Flow, next, broken, returned, turns, back_in, with_frame, takes_something}, Closed.{NotEmptied, Closed}}
+use Rattle.sharc_tree.specs.declared.tree.expression.PlaceCall.TheVariants.{Free}
 use Rattle.sharc_tree.specs.declared.event.Taken.TheVariants as taken
-use Rattle.sharc_ctype.specs.Resolved.{Resolution}
-use Rattle.sharc_mode.specs.{Cells.cell_at, Moded.Assignment, Sharings.Sharing}
-use Rattle.sharc_meaning.specs.{Cells.cell_of, Reference.{is_null, number_of}, References.taken_to_free, declared.given.GivenUp.GivenUp, declared.given.GivenUp.TheVariants.Emptied, State.{Frame, State, Outcome, wants, Out, go, over, Run, Step, then_on, ◌>>◌, give, done, enters_with, happens, answered, answer_of, value_of, event_of, ends_temporaries, ends_variables, without_temporaries, all_released, pointers_among}, Places.{StorePlace, variable, cell, access_mode, nulled, taken_from, freed}, Expressions.place_called, Statements.{Flow, next, broken, returned, on_turn, turns}, Meaning.{back_in, with_frame}}
-use Rattle.sharc_wants_laws.specs.Freeing.{takes_something}
-use Rattle.sharc_wants_laws.proofs.Closed.{NotEmptied, Closed}
+use Rattle.sharc_meaning.specs.Statements.{on_turn}
 
 -- ---- lists of events
 
 -- what follows the event frees what it takes
 abbrev pub Frees : SourceEvent → SourceEvent → Type 0
-Frees e d = takes_something e ≡ true → d.act ≡ acts.Freed e.answer
+Frees e d = takes_something e ≡ true → d.act ≡ Act.Freed e.answer
 
 -- each event that takes something is followed by the one that frees it, but for the last
 abbrev pub Followed : List SourceEvent → Type 0
@@ -106,7 +100,7 @@ pub record Freeing (o : Outcome) (s : State) : Type 0 where
   pub pending : Pending reference s
   pub event : SourceEvent
   pub wanted : o ≡ wants event
-  pub act : event.act ≡ acts.Freed reference
+  pub act : event.act ≡ Act.Freed reference
   pub before : List GivenUp
   pub given_is : s.given_up ≡ before ++ Emptied (number_of reference) ∷ []
   pub held : (others : List ℤ) × (s.frame.temporaries ≡ others ++ reference ∷ [])
@@ -184,11 +178,11 @@ taken_temporaries n (over o s) h = h
 
 -- of a variable that is not NULL
 taken_held : (xs : List ℤ) (token site : Site) (x : ℕ) (s : State) → is_null (value_of s x) ≡ false → Still s
-    → Taken (then_on (happens xs site (acts.Take (taken.Local x) ToFree) s) (λ _. nulled token x >> give (value_of s x)))
+    → Taken (then_on (happens xs site (Act.Take (taken.Local x) ToFree) s) (λ _. nulled token x >> give (value_of s x)))
 taken_held [] token site x s some h = inl h
 taken_held (y ∷ ys) token site x s some h = inr (record {
   before = s.events;
-  event = event_of site (acts.Take (taken.Local x) ToFree) (value_of s x);
+  event = event_of site (Act.Take (taken.Local x) ToFree) (value_of s x);
   stands = refl;
   settled = h.0;
   takes = ap not some;
@@ -196,19 +190,19 @@ taken_held (y ∷ ys) token site x s some h = inr (record {
 })
 
 taken_local : (token site : Site) (x : ℕ) (s : State) → (b : Bool) → is_null (value_of s x) ≡ b → Still s
-    → Taken (then_on (cond b (give (value_of s x)) (answered site (acts.Take (taken.Local x) ToFree)) s) (λ _. nulled token x >> give (value_of s x)))
+    → Taken (then_on (cond b (give (value_of s x)) (answered site (Act.Take (taken.Local x) ToFree)) s) (λ _. nulled token x >> give (value_of s x)))
 taken_local token site x s true is h = inl (record { null = is; still = h })
 taken_local token site x s false is h = taken_held s.answers token site x s is h
 
-taken_answer : (xs : List ℤ) (site : Site) (c : CellAt) (mode : CellMode) (s : State) → Still s → Taken (happens xs site (acts.Take (taken.Cell c mode) ToFree) s)
+taken_answer : (xs : List ℤ) (site : Site) (c : CellAt) (mode : CellMode) (s : State) → Still s → Taken (happens xs site (Act.Take (taken.Cell c mode) ToFree) s)
 taken_answer [] site c mode s h = inl h
 taken_answer (x ∷ xs) site c mode s h = by (is_null x) refl
   where
-    by : (b : Bool) → is_null x ≡ b → Taken (happens (x ∷ xs) site (acts.Take (taken.Cell c mode) ToFree) s)
-    by true is = inl (record { null = is; still = (settled_next s.events (event_of site (acts.Take (taken.Cell c mode) ToFree) x) h.0 (ap not is), tt) })
+    by : (b : Bool) → is_null x ≡ b → Taken (happens (x ∷ xs) site (Act.Take (taken.Cell c mode) ToFree) s)
+    by true is = inl (record { null = is; still = (settled_next s.events (event_of site (Act.Take (taken.Cell c mode) ToFree) x) h.0 (ap not is), tt) })
     by false is = inr (record {
       before = s.events;
-      event = event_of site (acts.Take (taken.Cell c mode) ToFree) x;
+      event = event_of site (Act.Take (taken.Cell c mode) ToFree) x;
       stands = refl;
       settled = h.0;
       takes = ap not is;
@@ -229,11 +223,11 @@ pending_some v s p = by (is_null v) refl (taken_to_free p.event.act) (subst (λ 
     by true is false h = absurd (cc)
 
 -- what is taken is freed
-freed_next : (xs : List ℤ) (site : Site) (v : ℤ) (s : State) (before : List GivenUp) → s.given_up ≡ before ++ Emptied (number_of v) ∷ [] → (others : List ℤ) × (s.frame.temporaries ≡ others ++ v ∷ []) → Pending v s → Calm (happens xs site (acts.Freed v) s)
+freed_next : (xs : List ℤ) (site : Site) (v : ℤ) (s : State) (before : List GivenUp) → s.given_up ≡ before ++ Emptied (number_of v) ∷ [] → (others : List ℤ) × (s.frame.temporaries ≡ others ++ v ∷ []) → Pending v s → Calm (happens xs site (Act.Freed v) s)
 freed_next [] site v s before given held p = inr (record {
   reference = v;
   pending = p;
-  event = event_of site (acts.Freed v) (pos 0);
+  event = event_of site (Act.Freed v) (pos 0);
   wanted = refl;
   act = refl;
   before = before;
@@ -241,8 +235,8 @@ freed_next [] site v s before given held p = inr (record {
   held = held;
 })
 freed_next (x ∷ xs) site v s before given held p =
-    let e = event_of site (acts.Freed v) (pos 0) in
-    (subst Settled (sym (ap (λ l. l ++ e ∷ []) p.stands ∙ append_assoc p.before (p.event ∷ []) (e ∷ []))) (settled_freed p.before p.event e p.settled (λ _. ap acts.Freed (sym p.answer)) refl), tt)
+    let e = event_of site (Act.Freed v) (pos 0) in
+    (subst Settled (sym (ap (λ l. l ++ e ∷ []) p.stands ∙ append_assoc p.before (p.event ∷ []) (e ∷ []))) (settled_freed p.before p.event e p.settled (λ _. ap Act.Freed (sym p.answer)) refl), tt)
 
 calm_freed : (o : Out ℤ) (site : Site) → Taken o → Calm (then_on o (λ v. cond (is_null v) done (freed site v)))
 calm_freed (go v s) site (inl h) = rw h.null h.still

@@ -1,13 +1,6 @@
 -- A thread of code tells nothing only before its Started, and has nothing then.
-use Rattle.std.proofs.Common.{◌≡◌, ℕ, ◌*◌, ◌⊎◌, inl, inr, Bool, true, false, cond, List, [], ◌∷◌, ◌++◌, length, Some, map, replicate, refl, sym, ap, ◌∙◌, subst, slice_get, slice_index, slice_index_or}
-use Rattle.std.specs.Prelude.{option_to_list}
-use Rattle.sharc_tree.specs.declared.event.SourceEvent.{SourceEvent}
-use Rattle.sharc_code.specs.{declared.code.Code.Code, declared.instr.Instr.Instr, declared.instr.Instr.TheVariants.{Exit, Start}, declared.shape.Shape.Shape, declared.state.Stage.TheVariants.{Rests, Enters}, declared.state.TheConstants.FRAMES, Machine.{Machine, act, instr_at, start}, Path.{after, begun, machine_after, most_refs, turn}, Says.{in_start, said, speaks_of}}
-use Rattle.sharc_compile.specs.{Consistent.{Elements, said_in, said_now}, Generated.{IsGenerated, instr_of, program_of}}
-use Rattle.sharc_guard.specs.{declared.guarded.Guarded.Guarded, Form.IsGuarded}
-use Rattle.sharc_invariant.specs.Words.{is_freed, staged_of}
-use Rattle.sharc_wants_laws.specs.Silent.{HasNothing}
-use Rattle.sharc_lemmas.proofs.Lists.{all_null as zero_at}
+use Rattle.sharc_wants_laws.proofs.Imports.{◌≡◌, ℕ, ◌*◌, ◌⊎◌, inl, inr, Bool, true, false, cond, List, [], ◌∷◌, ◌++◌, length, Some, map, replicate, refl, sym, ap, ◌∙◌, subst, slice_get, slice_index, get_or as slice_index_or, option_to_list, SourceEvent, Code, Instr, Exit, Start, Shape, Rests, Enters, FRAMES, Machine, act, instr_at, after, begun, machine_after, most_refs, in_start, said, speaks_of, Elements, said_in, said_now, IsGenerated, instr_of, program_of, Guarded, IsGuarded, is_freed, staged_of, HasNothing, zero_at}
+use Rattle.sharc_code.specs.{Machine.start, Path.turn}
 
 left_empty : (xs ys : List SourceEvent) → xs ++ ys ≡ [] → xs ≡ []
 left_empty [] ys e = refl

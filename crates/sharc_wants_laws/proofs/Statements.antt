@@ -1,19 +1,8 @@
 -- Statements of a typed program lose no reference.
-use Rattle.std.proofs.Common.{ℕ, Bool, true, false, List, [], ◌∷◌, ◌++◌, refl, sym, ap, ◌∙◌, Option, Some, None, unsigned_abs}
-use Rattle.std.specs.{Prelude.{ℤ, pos, IfSome}, List.AllByRecursion}
-use Rattle.sharc_tree.specs.declared.event.Act.TheVariants as acts
-use Rattle.sharc_tree.specs.{declared.event.Object.TheVariants.{Global, Made}, declared.token.Site.Site, declared.tree.declaration.Declaration.Declaration, declared.tree.declaration.WrittenType.WrittenType, Measures.{expressions, in_option, in_right, in_simple, in_local, in_first, in_head, in_statement, in_statements}, Spans.span_of, Tree.{Expression, cast, Right, value, malloc, Simple, assign, does_call, Local, First, nothing, declares, does, Statement, empty, block, declare, simple, jump, return, if_then, if_then_else, while, for, Statements, no_statements, statement}}
-use Rattle.sharc_tree.specs.declared.trap.Trap.TheVariants as traps
-use Rattle.sharc_names.specs.declared.fault.Named.TheVariants as named
-use Rattle.sharc_names.specs.Kinds.{Kind, is_pointer, declared_kind}
-use Rattle.sharc_ctype.specs.{Resolved.{Resolution, kind_at, variable_kind}, Statements.{first_locals, locals_in, locals_in_all}}
-use Rattle.sharc_mode.specs.{Cells.{cell_at, pointed}, Moded.Assignment, Rows.{written, row_at, declared_row}, Sharings.{Sharing, private}}
-use Rattle.sharc_ctype_laws.specs.{Constraints.HasType, Declared.IsItself, Rules.{MeetsSimple, MeetsFirst, Meets, AllMeet}}
-use Rattle.sharc_meaning.specs.{Cells.{element_cells, instance_mode}, State.Run, Places.{StorePlace, variable, cell, stored}, Expressions.{Calls, tested, eval}, Statements.{Flow, next, returned, on_next, left_by, elements_made, is_positive, right_value, done_simple, initialised, declared, done_first, done_step, done_test, return_with, exec, exec_all}}
+use Rattle.sharc_wants_laws.proofs.{Imports.{ℕ, Bool, true, false, List, [], ◌∷◌, ◌++◌, refl, sym, ap, ◌∙◌, Option, Some, None, unsigned_abs, ℤ, pos, IfSome, AllByRecursion, Act, GlobalNumber as Global, Made, Site, Declaration, WrittenType, expressions, in_option, in_right, in_simple, in_local, in_first, in_head, in_statement, in_statements, span_of, Expression, cast, Right, value, malloc, Simple, assign, does_call, Local, First, nothing, declares, does, Statement, empty, block, declare, simple, jump, return, if_then, if_then_else, while, for, Statements, no_statements, statement, Trap, Named, Kind, is_pointer, declared_kind, Resolution, kind_at, variable_kind, first_locals, locals_in, locals_in_all, cell_at, pointed, Assignment, written, row_at, declared_row, Sharing, private, HasType, IsItself, MeetsSimple, MeetsFirst, Meets, AllMeet, element_cells, instance_mode, Run, StorePlace, variable, cell, stored, Calls, tested, eval, Flow, next, returned, on_next, left_by, elements_made, is_positive, right_value, done_simple, initialised, declared, done_first, done_step, done_test, return_with, exec_all, front, back}, Runs.{Same, Starts, starts_on}, Typed.{Facts, Names, names_start, declared_reference, no_function_held}, Expressions.{Kept, Keeps, kept_give, kept_either, tested_kept, fitting_kept, CallsKeep, eval_kept, place_kept}}
+use Rattle.sharc_meaning.specs.Statements.{exec}
 use Rattle.sharc_wants_laws.proofs.Runs as runs
-use Rattle.sharc_wants_laws.proofs.{Runs.{Same, Starts, starts_on}, Typed.{Facts, Names, names_start, declared_reference, no_function_held}, Expressions.{Kept, Keeps, kept_give, kept_either, tested_kept, fitting_kept, CallsKeep, eval_kept, place_kept}}
 use Rattle.sharc_wants_laws.proofs.Steps as steps
-use Rattle.sharc_lemmas.proofs.Lists.{front, back}
 
 -- ---- what holds of each in a list
 
@@ -24,7 +13,7 @@ abbrev pub AreTyped : Resolution → List Expression → Type 0
 AreTyped r list = AllByRecursion (Has r) list
 
 abbrev pub Own : Resolution → List Declaration → Type 0
-Own r list = AllByRecursion (IsItself r named.Variable) list
+Own r list = AllByRecursion (IsItself r Named.Variable) list
 
 itself : (P : Expression → Type 0) (e : Expression) → AllByRecursion P (expressions e) → P e
 itself P (cast s t a) h = h.0
@@ -41,9 +30,9 @@ module _ (m : Assignment) (n d : ℕ) (on_call : Calls) (hc : CallsKeep m n d on
   right_kept : (kind : Kind) (target : Sharing) (x : Right) → AreTyped m.typed (in_right x) → Keeps m n d (right_value on_call m kind target x)
   right_kept kind target (value e) h ts = fitting_kept m n d kind e (eval on_call m e) (typed_kept e h) ts
   right_kept kind target (malloc s e t) h ts = runs.kept_entered m.typed n d ts _ (Same ts) (runs.kept_next m.typed n d ts ts _ _ (Same ts) (elements_kept e h ts) (λ elements. runs.kept_atom m.typed n d ts _ (Same ts)
-      (runs.atom_next m.typed n d false false false ts ts _ _ (Same ts) (steps.atom_unless m.typed n d (is_positive elements) false ts traps.SizeNotPositive s.first) (λ _.
+      (runs.atom_next m.typed n d false false false ts ts _ _ (Same ts) (steps.atom_unless m.typed n d (is_positive elements) false ts Trap.SizeNotPositive s.first) (λ _.
       runs.atom_next m.typed n d false false false ts ts _ _ (Same ts) (steps.atom_values m.typed n d false ts) (λ held.
-      steps.atom_level m.typed n d false ts _ (Same ts) (steps.atom_event m.typed n d false ts s.first (acts.New (element_cells m.typed (declared_kind t)) (unsigned_abs elements) (instance_mode m.typed held target))))))))
+      steps.atom_level m.typed n d false ts _ (Same ts) (steps.atom_event m.typed n d false ts s.first (Act.New (element_cells m.typed (declared_kind t)) (unsigned_abs elements) (instance_mode m.typed held target))))))))
 
   -- ---- assignments, calls and declarations
 
@@ -59,13 +48,13 @@ module _ (m : Assignment) (n d : ℕ) (on_call : Calls) (hc : CallsKeep m n d on
       runs.kept_as m.typed n d us _ (Same us) (Starts ts) (λ y vs same. starts_on ts us y vs (names_start m.typed ts (kind_at m.typed u) p us y names) same) (stored_kept ts us (span_of u).first (kind_at m.typed u) (cell_at m u) p v names))))
   simple_kept (does_call e) h rule ts = runs.kept_next m.typed n d ts ts _ _ (Same ts) (typed_kept e h ts) (λ v. runs.kept_atom m.typed n d ts _ (Same ts) (steps.atom_drops m.typed n d false ts (kind_at m.typed e) v))
 
-  initialised_kept : (x : Declaration) (y : Option Right) → AreTyped m.typed (in_option in_right y) → IsItself m.typed named.Variable x → Keeps m n d (initialised on_call m x y)
+  initialised_kept : (x : Declaration) (y : Option Right) → AreTyped m.typed (in_option in_right y) → IsItself m.typed Named.Variable x → Keeps m n d (initialised on_call m x y)
   initialised_kept x None h own ts = kept_give m n d ts tt (Same ts) refl
   initialised_kept x (Some y) h own ts = runs.kept_next m.typed n d ts ts _ _ (Same ts) (right_kept (declared_kind x.written) (pointed m (Some (declared_row m.typed written x.name.site.token))) y h ts) (λ v.
       runs.kept_atom m.typed n d ts _ (Same ts) (steps.stored_variable m.typed n d ts m.typed x.name.site (declared_kind x.written) private x.name.site.token v
       (λ is. declared_reference x.written ∙ ap (λ o. is_pointer (variable_kind o)) (sym own.1) ∙ is)))
 
-  declared_kept : (l : Local) → AreTyped m.typed (in_local l) → IsItself m.typed named.Variable l.declaration → Keeps m n d (declared on_call m l)
+  declared_kept : (l : Local) → AreTyped m.typed (in_local l) → IsItself m.typed Named.Variable l.declaration → Keeps m n d (declared on_call m l)
   declared_kept l h own ts = runs.kept_next m.typed n d ts ts _ _ (Same ts) (runs.kept_atom m.typed n d ts _ (Same ts) (steps.atom_begins m.typed n d false ts l.declaration (pos 0) (ap (λ o. is_pointer (variable_kind o)) (sym own.1))))
       (λ _. initialised_kept l.declaration l.initial h own ts)
 
@@ -109,21 +98,21 @@ module _ (m : Assignment) (n d : ℕ) (on_call : Calls) (hc : CallsKeep m n d on
         kept_either m n d is_true ts _ _ (Same ts) (exec_kept kind t l a (back (Has m.typed) (expressions e) (in_statement a) h) rule.1 own ts) (kept_give m n d ts next (Same ts) refl)))
     exec_kept kind t l (if_then_else s e a b) h rule own ts = let first = front (Has m.typed) (expressions e ++ in_statement a) (in_statement b) h in
         runs.kept_entered m.typed n d ts _ (Same ts) (runs.kept_next m.typed n d ts ts _ _ (Same ts) (truth_kept e (front (Has m.typed) (expressions e) (in_statement a) first) ts) (λ is_true.
-        kept_either m n d is_true ts _ _ (Same ts) (exec_kept kind t l a (back (Has m.typed) (expressions e) (in_statement a) first) rule.1 (front (IsItself m.typed named.Variable) (locals_in a) (locals_in b) own) ts)
-        (exec_kept kind t l b (back (Has m.typed) (expressions e ++ in_statement a) (in_statement b) h) rule.2 (back (IsItself m.typed named.Variable) (locals_in a) (locals_in b) own) ts)))
+        kept_either m n d is_true ts _ _ (Same ts) (exec_kept kind t l a (back (Has m.typed) (expressions e) (in_statement a) first) rule.1 (front (IsItself m.typed Named.Variable) (locals_in a) (locals_in b) own) ts)
+        (exec_kept kind t l b (back (Has m.typed) (expressions e ++ in_statement a) (in_statement b) h) rule.2 (back (IsItself m.typed Named.Variable) (locals_in a) (locals_in b) own) ts)))
     exec_kept kind t l (while s e a) h rule own ts = runs.kept_entered m.typed n d ts _ (Same ts) (runs.kept_loop m.typed n d ts _ _ _ (truth_kept e (front (Has m.typed) (expressions e) (in_statement a) h) ts) (kept_give m n d ts tt (Same ts) refl)
         (exec_kept kind t true a (back (Has m.typed) (expressions e) (in_statement a) h) rule.1 own ts))
     exec_kept kind t l (for s x a) h rule own ts =
         let head = front (Has m.typed) (in_head x) (in_statement a) h in
         let start = front (Has m.typed) (in_first x.first ++ in_option expressions x.test) (in_option in_simple x.step) head in
         runs.kept_entered m.typed n d ts _ (Same ts) (runs.kept_block m.typed n d ts _ (Same ts) (runs.kept_next m.typed n d ts ts _ _ (Same ts)
-        (first_kept x.first (front (Has m.typed) (in_first x.first) (in_option expressions x.test) start) rule.0.0 (front (IsItself m.typed named.Variable) (first_locals x.first) (locals_in a) own) ts) (λ _.
+        (first_kept x.first (front (Has m.typed) (in_first x.first) (in_option expressions x.test) start) rule.0.0 (front (IsItself m.typed Named.Variable) (first_locals x.first) (locals_in a) own) ts) (λ _.
         runs.kept_loop m.typed n d ts _ _ _ (test_kept x.test (back (Has m.typed) (in_first x.first) (in_option expressions x.test) start) ts)
         (step_kept x.step (back (Has m.typed) (in_first x.first ++ in_option expressions x.test) (in_option in_simple x.step) head) rule.0.2 ts)
-        (exec_kept kind t true a (back (Has m.typed) (in_head x) (in_statement a) h) rule.1 (back (IsItself m.typed named.Variable) (first_locals x.first) (locals_in a) own) ts))))
+        (exec_kept kind t true a (back (Has m.typed) (in_head x) (in_statement a) h) rule.1 (back (IsItself m.typed Named.Variable) (first_locals x.first) (locals_in a) own) ts))))
 
     pub exec_all_kept : (kind : Kind) (t : WrittenType) (in_loop : Bool) (all : Statements) → AreTyped m.typed (in_statements all) → AllMeet m.typed t in_loop all → Own m.typed (locals_in_all all) → Keeps m n d (exec_all on_call m kind all)
     exec_all_kept kind t l no_statements h rule own ts = kept_give m n d ts next (Same ts) refl
     exec_all_kept kind t l (statement a rest) h rule own ts = runs.kept_next m.typed n d ts ts _ _ (Same ts)
-        (exec_kept kind t l a (front (Has m.typed) (in_statement a) (in_statements rest) h) rule.0 (front (IsItself m.typed named.Variable) (locals_in a) (locals_in_all rest) own) ts) (λ flow.
-        next_kept ts flow _ (exec_all_kept kind t l rest (back (Has m.typed) (in_statement a) (in_statements rest) h) rule.1 (back (IsItself m.typed named.Variable) (locals_in a) (locals_in_all rest) own) ts))
+        (exec_kept kind t l a (front (Has m.typed) (in_statement a) (in_statements rest) h) rule.0 (front (IsItself m.typed Named.Variable) (locals_in a) (locals_in_all rest) own) ts) (λ flow.
+        next_kept ts flow _ (exec_all_kept kind t l rest (back (Has m.typed) (in_statement a) (in_statements rest) h) rule.1 (back (IsItself m.typed Named.Variable) (locals_in a) (locals_in_all rest) own) ts))

@@ -1,16 +1,7 @@
 -- The few things that a thread does lose no reference, and neither do the accesses that are made of them.
-use Rattle.std.proofs.{Common.{◌≡◌, ℕ, ◌+◌, ◌-◌, ◌*◌, ◌≤◌, Bool, true, false, not, cond, List, [], ◌∷◌, ◌++◌, refl, sym, ap, ◌∙◌, subst, arith, length, take, take_at, length-append, append-nil, nat_lt, slice_index_or, codes, bytes_eq, Some, Result, Ok, Err}, lemmas.Bool.false≢true}
-use Rattle.std.specs.{List.AllByRecursion, Prelude.{ℤ, pos, negsuc}}
-use Rattle.sharc_tree.specs.{declared.event.Act.Act, declared.event.CellMode.TheVariants.{Readonly, Locked}, declared.event.Object.Object, declared.event.Object.TheVariants.{Global, Made}, declared.event.TakeKind.TakeKind, declared.token.Site.Site, declared.tree.declaration.Declaration.Declaration, declared.trap.Trap.Trap}
-use Rattle.sharc_tree.specs.declared.event.Act.TheVariants as acts
-use Rattle.sharc_tree.specs.declared.event.Taken.TheVariants as taken
-use Rattle.sharc_tree.specs.declared.trap.Trap.TheVariants as traps
-use Rattle.sharc_names.specs.{declared.fault.Named.Named, Kinds.{Kind, is_pointer}}
-use Rattle.sharc_names.specs.declared.fault.Named.TheVariants as named
-use Rattle.sharc_ctype.specs.Resolved.{Resolution, declaration_at, variable_kind}
-use Rattle.sharc_mode.specs.Sharings.{Sharing, locked}
-use Rattle.sharc_meaning.specs.{Cells.{cell_of, Guard, mutex, behind, nothing as no_mutex, guard_of, instance_mode}, Events.{held_mutexes, holds_mutex}, Reference.{NULL, is_null, number_of}, declared.given.GivenUp.GivenUp, declared.given.GivenUp.TheVariants.{Released, Replaced, Emptied}, declared.variable.Variable.Variable, State.{State, Use, reads, writes, nulls, go, Run, then_on, ◌>>=◌, give, done, stop, unless_stop, happens, answered, performs, all_released, gives_up, drops, holds, holds_reference, moves, moves_on, is_reference, with_value, value_in, value_of, looks_at, traces, sets, reads_variable, new_variable, begins_with}, Places.{StorePlace, variable, cell, pointee, based, element, guarding, access_mode, fetched, stored, nulled, taken_from, cast_to, freed}, Waiting.{cell_at_place, lock_call, unlock_call, wait_call, signal_call, broadcast_call, condition_call, moves_base, gives_up_base}, Expressions.{resulting, named_value}}
-use Rattle.sharc_wants_laws.proofs.{Counts.{Declared, refs, rel, vars, one, gone, one_gone, one_null, refs_append, rel_append, vars_append, set_loses, set_keeps, still_declared}, Runs.{Same, moves_level, up_level}}
+use Rattle.sharc_wants_laws.proofs.{Imports.{◌≡◌, ℕ, ◌+◌, ◌-◌, ◌*◌, ◌≤◌, Bool, true, false, not, cond, List, [], ◌∷◌, ◌++◌, refl, sym, ap, ◌∙◌, subst, arith, length, take, take_at, length-append, append-nil, nat_lt, get_or as slice_index_or, codes, Some, Result, Ok, Err, false≢true, AllByRecursion, ℤ, pos, negsuc, Act, Readonly, Locked, Object, GlobalNumber as Global, Made, TakeKind, Site, Declaration, Trap, Taken, Named, Kind, is_pointer, Resolution, declaration_at, variable_kind, Sharing, locked, cell_of, Guard, mutex, behind, no_mutex, guard_of, instance_mode, held_mutexes, holds_mutex, NULL, is_null, number_of, GivenUp, Released, Replaced, Emptied, Variable, State, Use, reads, writes, nulls, go, Run, then_on, ◌>>=◌, give, done, stop, unless_stop, happens, answered, performs, all_released, drops, holds_reference, moves, moves_on, is_reference, with_value, value_in, value_of, looks_at, traces, sets, reads_variable, new_variable, begins_with, StorePlace, variable, cell, pointee, based, element, guarding, access_mode, fetched, stored, nulled, taken_from, cast_to, freed, cell_at_place, lock_call, unlock_call, wait_call, signal_call, broadcast_call, condition_call, moves_base, gives_up_base, resulting, named_value}, Counts.{Declared, refs, rel, vars, one, gone, one_gone, one_null, refs_append, rel_append, vars_append, set_loses, set_keeps, still_declared}, Runs.{Same, moves_level, up_level}}
+use Rattle.std.proofs.Common.{bytes_eq}
+use Rattle.sharc_meaning.specs.State.{gives_up, holds}
 use Rattle.sharc_wants_laws.proofs.Runs as runs
 
 -- what a temporary holds of a value of this type
@@ -160,7 +151,7 @@ module _ (r : Resolution) (n d : ℕ) where
   -- ---- places and accesses
 
   pub atom_based : (b : Bool) (ts : List ℤ) (site : Site) (kind : Kind) (p : ℤ) → is_reference kind ≡ true → Atom b b ts (based site kind p) (Same (ts ++ p ∷ []))
-  atom_based b ts site kind p h = runs.atom_next r n d b b b ts (ts ++ p ∷ []) _ _ (Same (ts ++ p ∷ [])) (subst (λ q. Atom b b ts (holds kind p) (Same (ts ++ slot q p))) h (atom_holds b ts kind p)) (λ _. atom_unless (not (is_null p)) b (ts ++ p ∷ []) traps.NullPointer site)
+  atom_based b ts site kind p h = runs.atom_next r n d b b b ts (ts ++ p ∷ []) _ _ (Same (ts ++ p ∷ [])) (subst (λ q. Atom b b ts (holds kind p) (Same (ts ++ slot q p))) h (atom_holds b ts kind p)) (λ _. atom_unless (not (is_null p)) b (ts ++ p ∷ []) Trap.NullPointer site)
 
   pub atom_element : (b : Bool) (ts : List ℤ) (site : Site) (o : Object) (cells elements : ℕ) (i : ℤ) (p : StorePlace → List ℤ → Type 0) → ((c e : ℕ) → p (cell o c e) ts) → Atom b b ts (element site o cells elements i) p
   atom_element b ts site o cells elements (pos k) p h = atom_either (nat_lt k elements) b b ts _ _ p (atom_give b ts _ p (h (k * cells) (k * cells))) (atom_stop b b ts _ site p)
@@ -168,8 +159,8 @@ module _ (r : Resolution) (n d : ℕ) where
 
   atom_guarding : (b : Bool) (ts : List ℤ) (site : Site) (g : Guard) → Atom b b ts (guarding site g) (Same ts)
   atom_guarding b ts site (mutex c) = atom_give b ts c (Same ts) refl
-  atom_guarding b ts site (behind c) = runs.atom_next r n d b b b ts ts _ _ (Same ts) (atom_level b ts _ (Same ts) (atom_event b ts site (acts.Read c Readonly))) (λ p.
-      runs.atom_next r n d b b b ts ts _ _ (Same ts) (atom_unless (not (is_null p)) b ts traps.NullPointer site) (λ _. atom_give b ts (cell_of (Made (number_of p)) 0) (Same ts) refl))
+  atom_guarding b ts site (behind c) = runs.atom_next r n d b b b ts ts _ _ (Same ts) (atom_level b ts _ (Same ts) (atom_event b ts site (Act.Read c Readonly))) (λ p.
+      runs.atom_next r n d b b b ts ts _ _ (Same ts) (atom_unless (not (is_null p)) b ts Trap.NullPointer site) (λ _. atom_give b ts (cell_of (Made (number_of p)) 0) (Same ts) refl))
   atom_guarding b ts site no_mutex = atom_stop b b ts _ site (Same ts)
 
   atom_mode : (b : Bool) (ts : List ℤ) (r2 : Resolution) (site : Site) (mode : Sharing) (o : Object) (first : ℕ) → Atom b b ts (access_mode r2 site mode o first) (Same ts)
@@ -179,11 +170,11 @@ module _ (r : Resolution) (n d : ℕ) where
 
   pub atom_fetched : (b : Bool) (ts : List ℤ) (r2 : Resolution) (site : Site) (mode : Sharing) (p : StorePlace) → Atom b b ts (fetched r2 site mode p) (Same ts)
   atom_fetched b ts r2 site mode (variable x) = atom_reads b ts site x
-  atom_fetched b ts r2 site mode (cell o first c) = runs.atom_next r n d b b b ts ts _ _ (Same ts) (atom_mode b ts r2 site mode o first) (λ under. atom_level b ts _ (Same ts) (atom_event b ts site (acts.Read (cell_of o c) under)))
+  atom_fetched b ts r2 site mode (cell o first c) = runs.atom_next r n d b b b ts ts _ _ (Same ts) (atom_mode b ts r2 site mode o first) (λ under. atom_level b ts _ (Same ts) (atom_event b ts site (Act.Read (cell_of o c) under)))
 
   pub atom_named : (b : Bool) (ts : List ℤ) (r2 : Resolution) (mode : Sharing) (site : Site) (k : Named) → Atom b b ts (named_value r2 mode site k) (Same ts)
-  atom_named b ts r2 mode site (named.Variable token) = atom_reads b ts site token
-  atom_named b ts r2 mode site (named.Global k) = atom_fetched b ts r2 site mode (cell (Global k) 0 0)
+  atom_named b ts r2 mode site (Named.Variable token) = atom_reads b ts site token
+  atom_named b ts r2 mode site (Named.Global k) = atom_fetched b ts r2 site mode (cell (Global k) 0 0)
   atom_named b ts r2 mode site _ = atom_give b ts (pos 0) (Same ts) refl
 
   -- A value that moves into a variable: the old one is given up, if the variable is a pointer.
@@ -233,7 +224,7 @@ module _ (r : Resolution) (n d : ℕ) where
   stored_cell ts r2 site kind mode o first c v = let us = ts ++ slot (is_reference kind) v in
       runs.atom_next r n d false false false ts us _ _ (Same ts) (atom_holds false ts kind v) (λ _.
       runs.atom_next r n d false false false us us _ _ (Same ts) (atom_mode false us r2 site mode o first) (λ under.
-      runs.atom_weak r n d us _ (Same ts) (runs.atom_next r n d false true true us us _ _ (Same ts) (atom_performs false us site (acts.Write (cell_of o c) under v)) (λ _.
+      runs.atom_weak r n d us _ (Same ts) (runs.atom_next r n d false true true us us _ _ (Same ts) (atom_performs false us site (Act.Write (cell_of o c) under v)) (λ _.
       runs.atom_next r n d true true true us ts _ _ (Same ts) (atom_moves ts kind v) (λ _. atom_either (is_pointer kind) true true ts _ _ (Same ts) (atom_given true ts (Replaced (cell_of o c) ∷ [])) (atom_done true ts))))))
 
   -- what is taken out of a variable leaves NULL, behind the Take; where it was NULL nothing is lost
@@ -241,12 +232,12 @@ module _ (r : Resolution) (n d : ℕ) where
   nulled_behind : (ts : List ℤ) (token : Site) (x : ℕ) → Atom true true ts (nulled token x) (Same ts)
   nulled_behind ts token x = runs.atom_next r n d true true true ts ts _ _ (Same ts) (atom_traces true ts nulls x token) (λ _. sets_behind ts x NULL)
 
-  taken_event : (ts : List ℤ) (token site : Site) (kind : TakeKind) (x : ℕ) (v : ℤ) → Atom false true ts (answered site (acts.Take (taken.Local x) kind) >>= λ _. (nulled token x >>= λ _. give v)) (Same ts)
-  taken_event ts token site kind x v = runs.atom_next r n d false true true ts ts _ _ (Same ts) (atom_event false ts site (acts.Take (taken.Local x) kind)) (λ _.
+  taken_event : (ts : List ℤ) (token site : Site) (kind : TakeKind) (x : ℕ) (v : ℤ) → Atom false true ts (answered site (Act.Take (Taken.Local x) kind) >>= λ _. (nulled token x >>= λ _. give v)) (Same ts)
+  taken_event ts token site kind x v = runs.atom_next r n d false true true ts ts _ _ (Same ts) (atom_event false ts site (Act.Take (Taken.Local x) kind)) (λ _.
       runs.atom_next r n d true true true ts ts _ _ (Same ts) (nulled_behind ts token x) (λ _. atom_give true ts v (Same ts) refl))
 
   taken_ran : (q : Bool) (ts : List ℤ) (token site : Site) (kind : TakeKind) (x : ℕ) (s : State) → is_null (value_in s.frame.variables x) ≡ q → runs.At r n ts s
-      → runs.Ran r n false false s (Same ts) (then_on (cond q (give (value_in s.frame.variables x)) (answered site (acts.Take (taken.Local x) kind)) s) (λ _. (nulled token x >>= λ _. give (value_in s.frame.variables x))))
+      → runs.Ran r n false false s (Same ts) (then_on (cond q (give (value_in s.frame.variables x)) (answered site (Act.Take (Taken.Local x) kind)) s) (λ _. (nulled token x >>= λ _. give (value_in s.frame.variables x))))
   taken_ran true ts token site kind x s h at = record {
     moves = up_level _ _ _ (
         let old : vars n s.frame.variables ≤ vars n (with_value s.frame.variables x NULL) + one n (value_in s.frame.variables x) = set_loses n s.frame.variables x NULL in
@@ -259,7 +250,7 @@ module _ (r : Resolution) (n d : ℕ) where
   taken_ran false ts token site kind x s h at = (runs.atom_weak r n d ts _ (Same ts) (taken_event ts token site kind x (value_in s.frame.variables x))).runs s at
 
   taken_steady : (q : Bool) (token site : Site) (kind : TakeKind) (x : ℕ) (v : ℤ) (s : State)
-      → then_on (cond q (give v) (answered site (acts.Take (taken.Local x) kind)) (runs.more r n d s)) (λ _. (nulled token x >>= λ _. give v)) ≡ runs.more_out r n d (then_on (cond q (give v) (answered site (acts.Take (taken.Local x) kind)) s) (λ _. (nulled token x >>= λ _. give v)))
+      → then_on (cond q (give v) (answered site (Act.Take (Taken.Local x) kind)) (runs.more r n d s)) (λ _. (nulled token x >>= λ _. give v)) ≡ runs.more_out r n d (then_on (cond q (give v) (answered site (Act.Take (Taken.Local x) kind)) s) (λ _. (nulled token x >>= λ _. give v)))
   taken_steady true token site kind x v s = refl
   taken_steady false token site kind x v s = (taken_event [] token site kind x v).steady s
 
@@ -269,20 +260,20 @@ module _ (r : Resolution) (n d : ℕ) where
     runs = λ s at. taken_ran (is_null (value_of s x)) ts token site kind x s refl at;
   }
   atom_taken ts r2 token site mode kind (cell o first c) = runs.atom_next r n d false false false ts ts _ _ (Same ts) (atom_mode false ts r2 site mode o first) (λ under.
-      atom_level false ts _ (Same ts) (atom_event false ts site (acts.Take (taken.Cell (cell_of o c) under) kind)))
+      atom_level false ts _ (Same ts) (atom_event false ts site (Act.Take (Taken.Cell (cell_of o c) under) kind)))
 
   pub atom_cast : (ts : List ℤ) (r2 : Resolution) (site : Site) (mode : Sharing) (v : ℤ) → Atom false false ts (cast_to r2 site mode v) (Same ts)
   atom_cast ts r2 site mode v = let us = ts ++ v ∷ [] in
       runs.atom_weak r n d ts _ (Same ts) (runs.atom_next r n d false false true ts us _ _ (Same ts) (atom_held false ts v) (λ _.
       runs.atom_next r n d false false true us us _ _ (Same ts) (atom_values false us) (λ held.
-      runs.atom_next r n d false true true us us _ _ (Same ts) (atom_performs false us site (acts.Give v (instance_mode r2 held mode))) (λ _.
+      runs.atom_next r n d false true true us us _ _ (Same ts) (atom_performs false us site (Act.Give v (instance_mode r2 held mode))) (λ _.
       runs.atom_next r n d true true true us ts _ _ (Same ts) (atom_moved ts v) (λ _. atom_give true ts v (Same ts) refl)))))
 
   pub atom_freed : (ts : List ℤ) (site : Site) (v : ℤ) → Atom false false ts (freed site v) (Same ts)
   atom_freed ts site v = let us = ts ++ v ∷ [] in
       runs.atom_weak r n d ts _ (Same ts) (runs.atom_next r n d false false true ts ts _ _ (Same ts) (atom_given false ts (Emptied (number_of v) ∷ [])) (λ _.
       runs.atom_next r n d false false true ts us _ _ (Same ts) (atom_held false ts v) (λ _.
-      runs.atom_next r n d false true true us us _ _ (Same ts) (atom_performs false us site (acts.Freed v)) (λ _. atom_moved ts v))))
+      runs.atom_next r n d false true true us us _ _ (Same ts) (atom_performs false us site (Act.Freed v)) (λ _. atom_moved ts v))))
 
   -- ---- mutexes and condition variables
 
@@ -300,9 +291,9 @@ module _ (r : Resolution) (n d : ℕ) where
 
   pub atom_lock : (ts us : List ℤ) (site : Site) (p : StorePlace) → Based ts p us → Atom false false us (lock_call site p) (Same ts)
   atom_lock ts us site p b = runs.atom_next r n d false false false us us _ _ (Same ts) (atom_events false us) (λ own.
-      runs.atom_next r n d false false false us us _ _ (Same ts) (atom_unless (not (holds_mutex own (cell_at_place p))) false us traps.MutexAlreadyHeld site) (λ _.
-      runs.atom_next r n d false false false us us _ _ (Same ts) (atom_unless (nat_lt (length (held_mutexes own)) 16) false us traps.TooManyLocks site) (λ _.
-      runs.atom_weak r n d us _ (Same ts) (runs.atom_next r n d false true true us us _ _ (Same ts) (atom_performs false us site (acts.Lock (cell_at_place p))) (λ _. base_moved ts us p b)))))
+      runs.atom_next r n d false false false us us _ _ (Same ts) (atom_unless (not (holds_mutex own (cell_at_place p))) false us Trap.MutexAlreadyHeld site) (λ _.
+      runs.atom_next r n d false false false us us _ _ (Same ts) (atom_unless (nat_lt (length (held_mutexes own)) 16) false us Trap.TooManyLocks site) (λ _.
+      runs.atom_weak r n d us _ (Same ts) (runs.atom_next r n d false true true us us _ _ (Same ts) (atom_performs false us site (Act.Lock (cell_at_place p))) (λ _. base_moved ts us p b)))))
 
   base_given : (b : Bool) (ts : List ℤ) (p : StorePlace) → Atom b b ts (gives_up_base p) (Same ts)
   base_given b ts (cell (Made k) first c) = atom_given b ts (Released k ∷ [])
@@ -310,26 +301,26 @@ module _ (r : Resolution) (n d : ℕ) where
 
   pub atom_unlock : (ts : List ℤ) (site : Site) (p : StorePlace) → Atom false false ts (unlock_call site p) (Same ts)
   atom_unlock ts site p = runs.atom_next r n d false false false ts ts _ _ (Same ts) (atom_events false ts) (λ own.
-      runs.atom_next r n d false false false ts ts _ _ (Same ts) (atom_unless (holds_mutex own (cell_at_place p)) false ts traps.MutexNotHeld site) (λ _.
-      runs.atom_weak r n d ts _ (Same ts) (runs.atom_next r n d false true true ts ts _ _ (Same ts) (atom_performs false ts site (acts.Unlock (cell_at_place p))) (λ _. base_given true ts p))))
+      runs.atom_next r n d false false false ts ts _ _ (Same ts) (atom_unless (holds_mutex own (cell_at_place p)) false ts Trap.MutexNotHeld site) (λ _.
+      runs.atom_weak r n d ts _ (Same ts) (runs.atom_next r n d false true true ts ts _ _ (Same ts) (atom_performs false ts site (Act.Unlock (cell_at_place p))) (λ _. base_given true ts p))))
 
   atom_wait : (ts : List ℤ) (site : Site) (c m : ℤ) → Atom false false ts (wait_call site c m) (Same ts)
   atom_wait ts site c m = let us = ts ++ m ∷ [] in
-      runs.atom_next r n d false false false ts ts _ _ (Same ts) (atom_unless (not (is_null c)) false ts traps.NullPointer site) (λ _.
-      runs.atom_next r n d false false false ts ts _ _ (Same ts) (atom_unless (not (is_null m)) false ts traps.NullPointer site) (λ _.
+      runs.atom_next r n d false false false ts ts _ _ (Same ts) (atom_unless (not (is_null c)) false ts Trap.NullPointer site) (λ _.
+      runs.atom_next r n d false false false ts ts _ _ (Same ts) (atom_unless (not (is_null m)) false ts Trap.NullPointer site) (λ _.
       runs.atom_next r n d false false false ts ts _ _ (Same ts) (atom_events false ts) (λ own.
-      runs.atom_next r n d false false false ts ts _ _ (Same ts) (atom_unless (holds_mutex own (cell_at_place (pointee m))) false ts traps.MutexNotHeld site) (λ _.
-      runs.atom_weak r n d ts _ (Same ts) (runs.atom_next r n d false true true ts ts _ _ (Same ts) (atom_performs false ts site (acts.Enter (cell_at_place (pointee c)))) (λ _.
-      runs.atom_next r n d true true true ts ts _ _ (Same ts) (atom_performs true ts site (acts.Unlock (cell_at_place (pointee m)))) (λ _.
+      runs.atom_next r n d false false false ts ts _ _ (Same ts) (atom_unless (holds_mutex own (cell_at_place (pointee m))) false ts Trap.MutexNotHeld site) (λ _.
+      runs.atom_weak r n d ts _ (Same ts) (runs.atom_next r n d false true true ts ts _ _ (Same ts) (atom_performs false ts site (Act.Enter (cell_at_place (pointee c)))) (λ _.
+      runs.atom_next r n d true true true ts ts _ _ (Same ts) (atom_performs true ts site (Act.Unlock (cell_at_place (pointee m)))) (λ _.
       runs.atom_next r n d true true true ts us _ _ (Same ts) (atom_held true ts m) (λ _.
-      runs.atom_next r n d true true true us us _ _ (Same ts) (atom_performs true us site (acts.Woken (cell_at_place (pointee c)))) (λ _.
-      runs.atom_next r n d true true true us us _ _ (Same ts) (atom_performs true us site (acts.Lock (cell_at_place (pointee m)))) (λ _. atom_moved ts m))))))))))
+      runs.atom_next r n d true true true us us _ _ (Same ts) (atom_performs true us site (Act.Woken (cell_at_place (pointee c)))) (λ _.
+      runs.atom_next r n d true true true us us _ _ (Same ts) (atom_performs true us site (Act.Lock (cell_at_place (pointee m)))) (λ _. atom_moved ts m))))))))))
 
   atom_signal : (ts : List ℤ) (site : Site) (c : ℤ) → Atom false false ts (signal_call site c) (Same ts)
-  atom_signal ts site c = runs.atom_next r n d false false false ts ts _ _ (Same ts) (atom_unless (not (is_null c)) false ts traps.NullPointer site) (λ _. atom_level false ts _ (Same ts) (atom_performs false ts site (acts.Signal (cell_at_place (pointee c)))))
+  atom_signal ts site c = runs.atom_next r n d false false false ts ts _ _ (Same ts) (atom_unless (not (is_null c)) false ts Trap.NullPointer site) (λ _. atom_level false ts _ (Same ts) (atom_performs false ts site (Act.Signal (cell_at_place (pointee c)))))
 
   atom_broadcast : (ts : List ℤ) (site : Site) (c : ℤ) → Atom false false ts (broadcast_call site c) (Same ts)
-  atom_broadcast ts site c = runs.atom_next r n d false false false ts ts _ _ (Same ts) (atom_unless (not (is_null c)) false ts traps.NullPointer site) (λ _. atom_level false ts _ (Same ts) (atom_performs false ts site (acts.Broadcast (cell_at_place (pointee c)))))
+  atom_broadcast ts site c = runs.atom_next r n d false false false ts ts _ _ (Same ts) (atom_unless (not (is_null c)) false ts Trap.NullPointer site) (λ _. atom_level false ts _ (Same ts) (atom_performs false ts site (Act.Broadcast (cell_at_place (pointee c)))))
 
   pub atom_condition : (ts : List ℤ) (site : Site) (name : List ℕ) (vs : List ℤ) → Atom false false ts (condition_call site name vs) (Same ts)
   atom_condition ts site name vs = atom_either (bytes_eq name (codes "wait")) false false ts _ _ (Same ts) (atom_wait ts site (slice_index_or vs 0 NULL) (slice_index_or vs 1 NULL))

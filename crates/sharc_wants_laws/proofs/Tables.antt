@@ -1,10 +1,5 @@
 -- The tables of code that is made of a program are those of the program.
-use Rattle.std.proofs.Common.{ap, ◌∙◌}
-use Rattle.sharc_mode.specs.Moded.{Assignment}
-use Rattle.sharc_code.specs.declared.code.Code.{Code}
-use Rattle.sharc_flat.specs.{declared.flat.Flat.{Flat as FlatCode}, Flattens.Flattens}
-use Rattle.sharc_compile.specs.Made.{IsCodeOf}
-use Rattle.sharc_accepted_laws.specs.TargetLaws.{HasTables}
+use Rattle.sharc_wants_laws.proofs.Imports.{ap, ◌∙◌, Assignment, Code, FlatCode, Flattens, IsCodeOf, HasTables}
 
 pub has_tables : (m : Assignment) (flat : FlatCode) → Flattens m flat → (code : Code) → IsCodeOf flat code → HasTables m code
 has_tables m flat made code is = record {

@@ -1,13 +1,6 @@
 -- A live object that a `free` has taken is being taken: the thread that took it has no later event, and frees it next.
-use Rattle.std.proofs.{Common.{◌≡◌, ◌⊎◌, inl, inr, ℕ, Bool, true, false, not, ◌&&◌, ◌||◌, cond, List, [], ◌∷◌, ◌++◌, map, reverse, Option, Some, None, refl, sym, ap, ◌∙◌, subst, append_assoc}, lemmas.Bool.{both_ways, and_parts, or_parts, or_left, or_right, or_cases, eqb-true, eq-eqb}, lemmas.List.{map-append, reverse-append, reverse-reverse}, lemmas.List.Elements.filter-append, lemmas.List.Folds.list_any-append}
-use Rattle.std.specs.{Prelude.{ℤ, ◌==◌, find, filter}, List.list_any}
-use Rattle.sharc_tree.specs.{declared.event.Act.TheVariants.{Started, Freed}, declared.event.Object.TheVariants.Made, declared.event.SourceEvent.SourceEvent}
-use Rattle.sharc_mode.specs.Moded.{Assignment}
-use Rattle.sharc_meaning.specs.{Events.{Stands, is_of, events_of, makes, frees, freed_by, is_number}, Reference.{is_null, number_of}, References.{refers, taken_to_free, takes_to_free, Begun, asked_with}, Runs.{by, answers_of}, Store.{meets, is_live}}
+use Rattle.sharc_wants_laws.proofs.{Imports.{◌≡◌, ◌⊎◌, inl, inr, ℕ, Bool, true, false, not, ◌&&◌, ◌||◌, cond, List, [], ◌∷◌, ◌++◌, map, reverse, Option, Some, None, refl, sym, ap, ◌∙◌, subst, append_assoc, both_ways, and_parts, or_parts, or_left, or_right, or_cases, eqb-true, eq-eqb, map-append, reverse-append, reverse-reverse, filter-append, list_any-append, ℤ, ◌==◌, find, filter, list_any, Started, Freed, Made, SourceEvent, Assignment, Stands, is_of, events_of, makes, frees, freed_by, is_number, is_null, number_of, refers, taken_to_free, takes_to_free, Begun, asked_with, by, answers_of, meets, is_live, takes_something, EmptiesAtNext, FreesFollowIn, IsBeingTaken, TakenAreBeingTaken, LastTakersFree, EmptiersTookLast, no_null}, Freeing.{frees_follow, emptied_were_taken}}
 use Rattle.sharc_meaning.specs.Runs as Runs
-use Rattle.sharc_wants_laws.specs.Freeing.{takes_something, EmptiesAtNext, FreesFollowIn, IsBeingTaken, TakenAreBeingTaken, LastTakersFree, EmptiersTookLast}
-use Rattle.sharc_wants_laws.proofs.Freeing.{frees_follow, emptied_were_taken}
-use Rattle.sharc_lemmas.proofs.Bools.{not_true as no_null}
 
 -- ---- lists
 

@@ -1,14 +1,5 @@
 -- Where the threads of a run are, among the events of all threads.
-use Rattle.std.proofs.{Common.{◌≡◌, ℕ, inl, inr, ⊎_elim, ◌⊎◌, Bool, true, false, cond, List, [], ◌∷◌, ◌++◌, map, reverse, refl, sym, ap, ◌∙◌, subst, arith}, lemmas.Bool.Decides.nat_tests, lemmas.List.{append-nil, reverse-reverse}, lemmas.List.Elements.filter-append}
-use Rattle.std.specs.Prelude.{◌==◌, nat_eq, filter}
-use Rattle.sharc_tree.specs.declared.event.SourceEvent.{SourceEvent}
-use Rattle.sharc_mode.specs.Moded.{Assignment}
-use Rattle.sharc_meaning.specs.{Events.{events_of, is_of}, Runs.by}
-use Rattle.sharc_code.specs.{declared.code.Code.Code, Machine.Machine, Paced.paced_in, Path.{begun, machine_after}, declared.shape.Shape.Shape, Runs.{Said, Turn, said_by, turns_of}, Whole.{CheckedRun, Erase, place_after}}
-use Rattle.sharc_flat.specs.Correct.{MayStart}
-use Rattle.sharc_compile.specs.{Consistent.{said_in, IsConsistent}, Correct.IsBeginning, OfRuns.{told_in, elements_before, founds_of, RunsHavePaths}}
-use Rattle.sharc_wants_laws.specs.Wants.{IsThere, IsThereIn, IsNotThere, IsWhere, PathsWant}
-use Rattle.sharc_lemmas.proofs.{Lists.reverse_cons, Numbers.same_test}
+use Rattle.sharc_wants_laws.proofs.Imports.{◌≡◌, ℕ, inl, inr, ⊎_elim, ◌⊎◌, Bool, true, false, cond, List, [], ◌∷◌, ◌++◌, map, reverse, refl, sym, ap, ◌∙◌, subst, arith, nat_tests, append-nil, reverse-reverse, filter-append, ◌==◌, nat_eq, filter, SourceEvent, Assignment, events_of, is_of, by, Code, Machine, paced_in, begun, machine_after, Shape, Said, Turn, said_by, turns_of, CheckedRun, Erase, place_after, MayStart, said_in, IsConsistent, IsBeginning, told_in, elements_before, founds_of, RunsHavePaths, IsThere, IsThereIn, IsNotThere, IsWhere, PathsWant, reverse_cons, same_test}
 
 -- ---- lists
 filter_reverse : (f : SourceEvent → Bool) (xs : List SourceEvent) → filter f (reverse xs) ≡ reverse (filter f xs)

@@ -1,14 +1,7 @@
 -- Where a reference is tested, flat code wants what comes after the test, and its registers are those of the code.
-use Rattle.std.proofs.Common.{◌≡◌, ℕ, zero, suc, ℤ, pos, ◌+◌, ◌<◌, ⊎_elim, true, false, not, ◌&&◌, ◌==◌, List, [], refl, sym, ap, ◌∙◌, subst, arith, eq-eqb, get_or}
-use Rattle.std.specs.Prelude.{slice_index}
-use Rattle.sharc_tree.specs.{declared.event.Act.Act, declared.event.Act.TheVariants.{Freed, Give}, declared.token.Site.Site}
-use Rattle.sharc_meaning.specs.{Arithmetic.is_zero, Meaning.Asked, Reference.number_of, References.refers, State.event_of}
-use Rattle.sharc_code.specs.{declared.code.Function.{Function as Row}, declared.instr.Instr.Instr, declared.instr.Instr.TheVariants.{Call, Free, TestSole}, Machine.{Machine, ref}}
-use Rattle.sharc_flat.specs.Machine.{Flat, At, Turn, goes, asks, turn, on_turn, exec}
+use Rattle.sharc_wants_laws.proofs.Imports.{◌≡◌, ℕ, zero, suc, ℤ, pos, ◌+◌, ◌<◌, ⊎_elim, true, false, not, ◌&&◌, ◌==◌, List, [], refl, sym, ap, ◌∙◌, subst, arith, eq-eqb, get_or, slice_index, Act, Freed, Give, Site, is_zero, Asked, number_of, refers, event_of, Row, Instr, Call, Free, TestSole, Machine, ref, Flat, At, goes, asks, turn, on_turn, exec, Program, Thread, IsSole, statement_at, Held, IsGivenAway, IsSettling, Quietly, Tells, instr_of, IsTested}
+use Rattle.sharc_flat.specs.Machine.{Turn}
 use Rattle.sharc_guard.specs.Machine as Form
-use Rattle.sharc_guard.specs.{Machine.{Program, Thread, IsSole, statement_at}, Counted.{Held, IsGivenAway, IsSettling, Quietly, Tells}}
-use Rattle.sharc_compile.specs.Generated.{instr_of}
-use Rattle.sharc_wants_laws.specs.Holding.{IsTested}
 
 -- ---- references
 no_zero : (v : ℤ) (n : ℕ) → number_of v ≡ n → 0 < n → is_zero v ≡ false

@@ -1,18 +1,8 @@
 -- What typing says of the places that expressions name, and of the temporaries that hold their values.
-use Rattle.std.proofs.{Common.{◌≡◌, inl, inr, ℕ, ◌+◌, ◌==◌, Bool, true, false, ◌||◌, ◌&&◌, List, [], ◌∷◌, ◌++◌, refl, sym, ap, ◌∙◌, subst, arith, append-nil, lt-ltb, Some}, lemmas.Bool.false≢true}
-use Rattle.std.specs.Prelude.{ℤ}
-use Rattle.sharc_tree.specs.{declared.ctype.Base.Base, declared.event.Object.TheVariants.{Global, Made}, declared.token.NumberType.NumberType, declared.tree.declaration.Declaration.Declaration, declared.tree.declaration.Identifier.Identifier, declared.tree.declaration.WrittenType.WrittenType, declared.tree.expression.Constant.Constant, Forms.is_lvalue, Tree.{Expression, Function}}
-use Rattle.sharc_tree.specs.declared.ctype.Base.TheVariants as base
-use Rattle.sharc_tree.specs.declared.token.NumberType.TheVariants as width
-use Rattle.sharc_tree.specs.declared.tree.expression.Constant.TheVariants as constants
-use Rattle.sharc_names.specs.{declared.fault.Named.Named, Kinds.{Kind, object, array, is_pointer, is_null, is_array, is_struct_base, is_struct_behind, declared_kind}}
-use Rattle.sharc_names.specs.declared.fault.Named.TheVariants as named
+use Rattle.sharc_wants_laws.proofs.{Imports.{◌≡◌, inl, inr, ℕ, ◌+◌, ◌==◌, Bool, true, false, ◌||◌, ◌&&◌, List, [], ◌∷◌, ◌++◌, refl, sym, ap, ◌∙◌, subst, arith, append-nil, lt-ltb, Some, false≢true, ℤ, Base, GlobalNumber as Global, Made, NumberType, Declaration, Identifier, WrittenType, Constant, is_lvalue, Expression, Function, Named, Kind, object, array, is_pointer, is_array, is_struct_base, is_struct_behind, declared_kind, constant_kind, number_kind, Resolution, kind_at, function_at, declaration_at, variable_kind, HasType, Callee, of_program, of_conditions, IsInteger, IsPointer, Common, both_shorter, Assignable, integer, pointer, null_pointer, a_variable, a_global, a_function, a_constant, in_parentheses, element_of_pointer, element_of_array, a_call, a_field, a_field_behind, complemented, pointed_to, arithmetic, shifted, a_cast, IsHeld, is_reference, StorePlace, variable, cell, place_named, field_in, or_false, no, some_star}, Runs.Starts}
+use Rattle.sharc_names.specs.Kinds.{is_null}
 use Rattle.sharc_names.specs.Kinds as kinds
-use Rattle.sharc_ctype.specs.{Expressions.{constant_kind, number_kind}, Resolved.{Resolution, kind_at, function_at, declaration_at, variable_kind}}
-use Rattle.sharc_ctype_laws.specs.{Constraints.{HasType, Callee, of_program, of_conditions, IsInteger, IsPointer, Common, both_shorter, Assignable, integer, pointer, null_pointer, a_variable, a_global, a_function, a_constant, in_parentheses, element_of_pointer, element_of_array, a_call, a_field, a_field_behind, negated, complemented, pointed_to, arithmetic, shifted, a_cast}, Rules.IsHeld}
-use Rattle.sharc_meaning.specs.{State.is_reference, Places.{StorePlace, variable, cell, place_named, field_in}}
-use Rattle.sharc_wants_laws.proofs.Runs.{Starts}
-use Rattle.sharc_lemmas.proofs.{Bools.{or_false, no}, Numbers.some_star}
+use Rattle.sharc_ctype_laws.specs.Constraints.{negated}
 
 -- what is known of the program
 pub record Facts (r : Resolution) : Type 0 where
@@ -64,11 +54,11 @@ abbrev pub is_whole : Kind → Bool
 is_whole k = is_struct_behind 0 k || is_array k
 
 constant_whole : (k : Constant) → is_whole (constant_kind k) ≡ false
-constant_whole (constants.Number n) = by n.number_type
+constant_whole (Constant.Number n) = by n.number_type
   where
     by : (w : NumberType) → is_whole (number_kind w) ≡ false
-    by width.Int = refl
-    by width.Long = refl
+    by NumberType.Int = refl
+    by NumberType.Long = refl
 constant_whole _ = refl
 
 common_whole : (j k t : Kind) → Common j k t → is_whole t ≡ false
@@ -114,15 +104,15 @@ names_start r ts k (variable y) us x h = ([], h.2 ∙ sym (append-nil ts))
 names_start r ts k (cell (Global g) first c) us x h = ([], h ∙ sym (append-nil ts))
 names_start r ts k (cell (Made j) first c) us x h = (h.1.0 ∷ [], h.1.1)
 
-pub named_variable : (r : Resolution) (ts : List ℤ) (what : Named) (x : ℕ) (d : Declaration) → what ≡ named.Variable x → declaration_at r x ≡ Some d → Names r ts (declared_kind d.written) (place_named what) ts
+pub named_variable : (r : Resolution) (ts : List ℤ) (what : Named) (x : ℕ) (d : Declaration) → what ≡ Named.Variable x → declaration_at r x ≡ Some d → Names r ts (declared_kind d.written) (place_named what) ts
 named_variable r ts what x d is at = subst (λ z. Names r ts (declared_kind d.written) (place_named z) ts) (sym is)
     (refl, λ h. declared_reference d.written ∙ ap (λ o. is_pointer (variable_kind o)) (sym at) ∙ h, refl)
 
-pub named_global : (r : Resolution) (ts : List ℤ) (what : Named) (g : ℕ) (k : Kind) → what ≡ named.Global g → Names r ts k (place_named what) ts
+pub named_global : (r : Resolution) (ts : List ℤ) (what : Named) (g : ℕ) (k : Kind) → what ≡ Named.Global g → Names r ts k (place_named what) ts
 named_global r ts what g k is = subst (λ z. Names r ts k (place_named z) ts) (sym is) refl
 
 -- a field of a struct is a cell, or no pointer
-pub field_names : (r : Resolution) (ts : List ℤ) (x : List ℕ) (k : Kind) (j : ℕ) (p : StorePlace) (us : List ℤ) → is_array k ≡ false → Names r ts (object (base.Struct x) 0) p us → Names r ts k (field_in j p) us
+pub field_names : (r : Resolution) (ts : List ℤ) (x : List ℕ) (k : Kind) (j : ℕ) (p : StorePlace) (us : List ℤ) → is_array k ≡ false → Names r ts (object (Base.Struct x) 0) p us → Names r ts k (field_in j p) us
 field_names r ts x k j (variable y) us plain h = (plain, λ e. absurd (false≢true (h.1 e)), h.2)
 field_names r ts x k j (cell (Global g) first c) us plain h = h
 field_names r ts x k j (cell (Made i) first c) us plain h = (plain, h.1)

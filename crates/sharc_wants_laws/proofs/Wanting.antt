@@ -1,23 +1,12 @@
 -- From the place of a thread of code to what the program wants.
-use Rattle.std.proofs.Common.{◌≡◌, ℕ, zero, suc, ℤ, pos, ◌+◌, ◌<◌, inl, inr, ⊎_elim, Bool, true, false, List, [], ◌∷◌, length, map, refl, sym, ap, ◌∙◌, Some, subst, arith}
-use Rattle.std.specs.Prelude.{IsSomeAnd, slice_index_or}
-use Rattle.sharc_tree.specs.{declared.event.Act.Act, declared.event.CellAt.CellAt, declared.event.CellMode.CellMode, declared.event.SourceEvent.SourceEvent, declared.token.Site.Site}
-use Rattle.sharc_tree.specs.declared.event.Act.TheVariants as acts
-use Rattle.sharc_tree.specs.declared.event.CellMode.TheVariants as modes
-use Rattle.sharc_tree.specs.declared.event.Taken.TheVariants as taken
+use Rattle.sharc_wants_laws.proofs.{Imports.{◌≡◌, ℕ, zero, suc, ℤ, pos, ◌+◌, ◌<◌, inl, inr, ⊎_elim, Bool, true, false, List, [], ◌∷◌, length, map, refl, sym, ap, ◌∙◌, Some, subst, arith, IsSomeAnd, get_or as slice_index_or, Act, CellAt, CellMode, SourceEvent, Site, Taken, function_at, Assignment, Access, access_by, held_mutexes, IsNamedAt, answers_of, is_null, number_of, Outcome, wants, ended, stopped, event_of, Code, Row as Function, SourcePlace, Cell, Instr, CondWait, Load, Store, LoadRef, Exchange, TakeCell, ChkRead, ChkWrite, ChkLock, ChkLockLoaded, Exit, Shape, Runs, Stopped, Ended, Stop, Conflict, NoLock, NotSole, Trapped as Trap, Machine, instr_at, no_function, function_of, kind_of, made_cell, place_at, no_place, Flat, At, Came, asks, halts, turn, on_turn, exec, start, at_after, asked, PathsAreRuns, AsksTheSame, MayStart, Guarded, Program, Thread, Check, Accesses, Locks, IsSole, is_held, source_at, statement_at, started, thread_after, Guards, IsAccess, IsOf, IsUnder, Tells, LogsAreHeld, Elements, begins, HasCome, IsGenerated, instr_of, program_of, IsAt, IsLinking, IsOver, Same, StopsAt, ChecksNext, IsRefused, IsReport, WantsRefused, site_of, WantsAct, WantsAccess, WantsBy, StopsOrWantsUnder, IsWhere, IsThere, access_at, access_tested}, Quiet.{still, given_in, given_same, given_path, are_own, beyond}, Cells.{int_is, cell_is, access_is, pending_number}}
 use Rattle.sharc_tree.specs.declared.trap.Trap.TheVariants as traps
-use Rattle.sharc_heap.specs.declared.shadow_word.Kind.TheVariants as kinds
-use Rattle.sharc_ctype.specs.Resolved.{function_at}
-use Rattle.sharc_mode.specs.Moded.{Assignment}
-use Rattle.sharc_meaning.specs.{Events.{Access, access_by, held_mutexes}, Runs.{IsNamedAt, answers_of}, Reference.{is_null, number_of}, State.{Outcome, wants, ended, stopped, event_of}}
+use Rattle.sharc_heap.specs.declared.shadow_word.Kind.{Kind}
 use Rattle.sharc_meaning.specs.Meaning as Meaning
-use Rattle.sharc_code.specs.{declared.code.Code.Code, declared.code.Function.Function, declared.code.SourcePlace.SourcePlace, declared.instr.Cell.Cell, declared.instr.Instr.Instr, declared.instr.Instr.TheVariants.{Lock, Join, CondWait, Load, Store, LoadRef, Exchange, TakeCell, ChkRead, ChkWrite, ChkLock, ChkLockLoaded, Exit}, declared.shape.Shape.Shape, declared.state.TurnState.TheVariants.{Runs, Stopped, Ended}, declared.state.Stop.Stop, declared.state.Stop.TheVariants.{Conflict, NoLock, NotSole, Trap}, Machine.{Machine, int, instr_at, no_function, function_of}, Says.{cell_at, kind_of, made_cell, place_at, no_place}}
-use Rattle.sharc_flat.specs.{Machine.{Flat, At, Came, Turn, asks, halts, turn, on_turn, exec, start}, Path.{at_after, asked, PathsAreRuns}, Correct.{AsksTheSame, MayStart}}
-use Rattle.sharc_guard.specs.{declared.guarded.Guarded.Guarded, Machine.{Program, Thread, Check, Accesses, Locks, IsSole, is_held, source_at, statement_at}, Path.{started, thread_after}, Counted.{Guards, IsAccess, IsOf, IsUnder, Tells}, Logged.LogsAreHeld}
+use Rattle.sharc_code.specs.{declared.instr.Instr.TheVariants.{Lock, Join}, Machine.int, Says.cell_at}
+use Rattle.sharc_flat.specs.Machine.{Turn}
 use Rattle.sharc_guard.specs.Machine as Form
-use Rattle.sharc_compile.specs.{Consistent.Elements, Correct.{by, begins, HasCome}, Generated.{IsGenerated, instr_of, program_of}, Related.{IsAt, IsLinking, IsOver, Same, StopsAt, ChecksNext}, Refused.{IsRefused, IsReport, WantsRefused, site_of}}
-use Rattle.sharc_wants_laws.specs.Wants.{WantsAct, WantsAccess, WantsBy, StopsOrWantsUnder, IsWhere, IsThere, access_at, access_tested}
-use Rattle.sharc_wants_laws.proofs.{Quiet.{still, given_in, given_same, given_path, are_own, beyond}, Cells.{int_is, cell_is, access_is, pending_number}}
+use Rattle.sharc_compile.specs.Correct.{by}
 
 -- ---- instructions
 pub mapped_at : (f : Instr → Instr) (xs : List Instr) (n : ℕ) → f Exit ≡ Exit → slice_index_or (map f xs) n Exit ≡ f (slice_index_or xs n Exit)
@@ -70,15 +59,15 @@ module _ (flat : Flat) (m2 : At) (k : ℕ) (code : Code) (p : Program) (globals 
   access_wanted c site write act go b is cell mode is_write h = (act, wanted_at site act act go refl h, is ∙ ap Some (access_is code p globals sites s T at a same c site write b cell mode is_write))
 
   tested : (cell : CellAt) (write : Bool) → Access
-  tested cell write = record { cell = cell; mode = modes.Dynamic; is_write = write }
+  tested cell write = record { cell = cell; mode = CellMode.Dynamic; is_write = write }
 
-  checked_at : (c : Cell) (site : ℕ) (check : Check) (b : Thread) (write : Bool) → ((act : Act) → IsOf check act → access_by act ≡ Some (record { cell = Form.cell_at p a c; mode = modes.Dynamic; is_write = write }))
+  checked_at : (c : Cell) (site : ℕ) (check : Check) (b : Thread) (write : Bool) → ((act : Act) → IsOf check act → access_by act ≡ Some (record { cell = Form.cell_at p a c; mode = CellMode.Dynamic; is_write = write }))
       → Tells p (Form.Checks check site b) (turn flat m2) → WantsAccess code (o flat m2 k p) site (access_tested code at c write)
   checked_at c site check b write is h =
       let w = checked_wants flat m2 k p check site b (turn flat m2) refl h in (
         w.0,
         w.1 ∙ ap (λ (q : SourcePlace). wants (event_of q.site w.0 (pos 0))) (sites site),
-        is w.0 w.2 ∙ ap (λ (d : CellAt). Some (record { cell = d; mode = modes.Dynamic; is_write = write })) (cell_is code p globals sites s T at a same c),
+        is w.0 w.2 ∙ ap (λ (d : CellAt). Some (record { cell = d; mode = CellMode.Dynamic; is_write = write })) (cell_is code p globals sites s T at a same c),
       )
 
   -- the mutex of a lock that is looked for, where its path does not lead through NULL
@@ -99,19 +88,19 @@ module _ (flat : Flat) (m2 : At) (k : ℕ) (code : Code) (p : Program) (globals 
   mode_here c site = Form.mode_of p a (Form.cell_at p a c) (source_at p site).mode
 
   wants_by : (i : Instr) → Told i
-  wants_by (Lock c site) h = wanted_at site (acts.Lock (Form.cell_at p a c)) (acts.Lock (cell_at code at c)) (go_of (Form.step p (Lock c site) a)) (ap acts.Lock (cell_is code p globals sites s T at a same c)) h
-  wants_by (Join r site) h = wanted_at site (acts.Join (Form.int a r)) (acts.Join (int at r)) (go_of (Form.step p (Join r site) a)) (ap acts.Join (int_is code p globals sites s T at a same r)) h
-  wants_by (CondWait c site) h = wanted_at site (acts.Woken (Form.cell_at p a c)) (acts.Woken (cell_at code at c)) (go_of (Form.step p (CondWait c site) a)) (ap acts.Woken (cell_is code p globals sites s T at a same c)) h
-  wants_by (Load r c site) h = access_wanted c site false (acts.Read (Form.cell_at p a c) (mode_here c site)) (go_of (Form.step p (Load r c site) a)) _ refl refl refl refl h
-  wants_by (Store r c site) h = access_wanted c site true (acts.Write (Form.cell_at p a c) (mode_here c site) (Form.int a r)) (go_of (Form.step p (Store r c site) a)) _ refl refl refl refl h
-  wants_by (LoadRef c site) h = access_wanted c site false (acts.Read (Form.cell_at p a c) (mode_here c site)) (go_of (Form.step p (LoadRef c site) a)) _ refl refl refl refl h
-  wants_by (Exchange r c site) h = access_wanted c site true (acts.Write (Form.cell_at p a c) (mode_here c site) (Form.ref a r)) (go_of (Form.step p (Exchange r c site) a)) _ refl refl refl refl h
+  wants_by (Lock c site) h = wanted_at site (Act.Lock (Form.cell_at p a c)) (Act.Lock (cell_at code at c)) (go_of (Form.step p (Lock c site) a)) (ap Act.Lock (cell_is code p globals sites s T at a same c)) h
+  wants_by (Join r site) h = wanted_at site (Act.Join (Form.int a r)) (Act.Join (int at r)) (go_of (Form.step p (Join r site) a)) (ap Act.Join (int_is code p globals sites s T at a same r)) h
+  wants_by (CondWait c site) h = wanted_at site (Act.Woken (Form.cell_at p a c)) (Act.Woken (cell_at code at c)) (go_of (Form.step p (CondWait c site) a)) (ap Act.Woken (cell_is code p globals sites s T at a same c)) h
+  wants_by (Load r c site) h = access_wanted c site false (Act.Read (Form.cell_at p a c) (mode_here c site)) (go_of (Form.step p (Load r c site) a)) _ refl refl refl refl h
+  wants_by (Store r c site) h = access_wanted c site true (Act.Write (Form.cell_at p a c) (mode_here c site) (Form.int a r)) (go_of (Form.step p (Store r c site) a)) _ refl refl refl refl h
+  wants_by (LoadRef c site) h = access_wanted c site false (Act.Read (Form.cell_at p a c) (mode_here c site)) (go_of (Form.step p (LoadRef c site) a)) _ refl refl refl refl h
+  wants_by (Exchange r c site) h = access_wanted c site true (Act.Write (Form.cell_at p a c) (mode_here c site) (Form.ref a r)) (go_of (Form.step p (Exchange r c site) a)) _ refl refl refl refl h
   wants_by (TakeCell r c site) h =
-      access_wanted c site true (acts.Take (taken.Cell (Form.cell_at p a c) (mode_here c site)) (kind_of (source_at p site).at)) (go_of (Form.step p (TakeCell r c site) a)) _ refl refl refl refl h
-  wants_by (ChkRead c site) h = checked_at c site (Accesses kinds.Read (Form.cell_at p a c)) (Form.next a) false (λ act e. ap access_by e) h
-  wants_by (ChkWrite c site) h = checked_at c site (Accesses kinds.Write (Form.cell_at p a c)) (Form.next a) true writes h
+      access_wanted c site true (Act.Take (Taken.Cell (Form.cell_at p a c) (mode_here c site)) (kind_of (source_at p site).at)) (go_of (Form.step p (TakeCell r c site) a)) _ refl refl refl refl h
+  wants_by (ChkRead c site) h = checked_at c site (Accesses Kind.Read (Form.cell_at p a c)) (Form.next a) false (λ act e. ap access_by e) h
+  wants_by (ChkWrite c site) h = checked_at c site (Accesses Kind.Write (Form.cell_at p a c)) (Form.next a) true writes h
     where
-      writes : (act : Act) → IsAccess kinds.Write (Form.cell_at p a c) act → access_by act ≡ Some (record { cell = Form.cell_at p a c; mode = modes.Dynamic; is_write = true })
+      writes : (act : Act) → IsAccess Kind.Write (Form.cell_at p a c) act → access_by act ≡ Some (record { cell = Form.cell_at p a c; mode = CellMode.Dynamic; is_write = true })
       writes act (inl e) = ap access_by e.1
       writes act (inr e) = ap access_by e.1
   wants_by (ChkLock c site) h = lock_wanted (Form.is_of_null a c) (Form.cell_at p a c) (cell_at code at c) site (cell_is code p globals sites s T at a same c) h

@@ -1,6 +1,4 @@
-use Rattle.sharc_code.specs.Whole.{place_after}
-use Rattle.sharc_reply_laws.specs.Prints.{events_in, printed_in}
-use Rattle.sharc_reply_laws.proofs.{Logged.{holds, logged}, PrintOrder.{places_are, values_are}}
+use Rattle.sharc_reply_laws.proofs.{Imports.{place_after, events_in, printed_in}, Logged.{holds, logged}, PrintOrder.{places_are, values_are}}
 use Rattle.sharc_reply_laws.proofs.events.prints_law.Goals as goal
 
 pub returns : goal.returns

@@ -1,5 +1,4 @@
-use Rattle.std.proofs.Common.{◌∷◌, ◌++◌}
-use Rattle.sharc_reply_laws.proofs.Testing.{checks_stay, tests_stay}
+use Rattle.sharc_reply_laws.proofs.{Imports.{◌∷◌, ◌++◌}, Testing.{checks_stay, tests_stay}}
 use Rattle.sharc_reply_laws.proofs.events.refused_stay.Goals as goal
 
 pub returns-clause-checks : goal.returns-clause-checks

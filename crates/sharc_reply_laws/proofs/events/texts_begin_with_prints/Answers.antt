@@ -1,8 +1,4 @@
-use Rattle.std.proofs.Common.{◌≡◌, List, [], ◌∷◌, ◌++◌, map, refl, ap, ◌∙◌}
-use Rattle.std.specs.Prelude.{flat_map}
-use Rattle.sharc_code.specs.{declared.state.Print.Print, Whole.place_after}
-use Rattle.sharc_run.specs.RunText.{print_line, thread_line}
-use Rattle.sharc_reply_laws.specs.Prints.{value_line}
+use Rattle.sharc_reply_laws.proofs.Imports.{◌≡◌, List, [], ◌∷◌, ◌++◌, map, refl, ap, ◌∙◌, flat_map, PrintAt as Print, place_after, print_line, thread_line, value_line}
 use Rattle.sharc_reply_laws.proofs.events.texts_begin_with_prints.Goals as goal
 
 by_values : (prints : List Print) → flat_map print_line prints ≡ flat_map value_line (map (λ (p : Print). p.value) prints)

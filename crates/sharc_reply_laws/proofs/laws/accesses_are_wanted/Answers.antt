@@ -1,6 +1,4 @@
-use Rattle.sharc_code.specs.Whole.{place_after}
-use Rattle.sharc_history_laws.specs.History.{history_of}
-use Rattle.sharc_reply_laws.proofs.Wanting.{first_is, wants_access}
+use Rattle.sharc_reply_laws.proofs.{Imports.{place_after, history_of}, Wanting.{first_is, wants_access}}
 use Rattle.sharc_reply_laws.proofs.laws.accesses_are_wanted.Goals as goal
 
 pub returns : goal.returns

@@ -1,8 +1,4 @@
-use Rattle.std.proofs.Common.{ℕ, ◌<◌, ◌^◌, ◌∷◌, false, subst, arith}
-use Rattle.sharc_code.specs.Whole.{CheckedRun}
-use Rattle.sharc_invariant.specs.State.{IsSmall}
-use Rattle.sharc_accepted_laws.specs.Targets.{targets_of}
-use Rattle.sharc_reply_laws.proofs.Reported.{reported}
+use Rattle.sharc_reply_laws.proofs.{Imports.{ℕ, ◌<◌, ◌^◌, ◌∷◌, false, subst, arith, CheckedRun, IsSmall, targets_of}, Reported.reported}
 use Rattle.sharc_reply_laws.proofs.laws.built_runs_tell.Goals as goal
 
 narrow : (n : ℕ) → n < 2 ^ 32 → n < 2 ^ 64

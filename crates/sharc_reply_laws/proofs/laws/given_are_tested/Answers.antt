@@ -1,5 +1,4 @@
-use Rattle.std.proofs.Common.{◌∙◌}
-use Rattle.sharc_reply_laws.proofs.Given.{given_is, is_test, same_object}
+use Rattle.sharc_reply_laws.proofs.{Imports.{◌∙◌}, Given.{given_is, is_test, same_object}}
 use Rattle.sharc_reply_laws.proofs.laws.given_are_tested.Goals as goal
 
 pub returns : goal.returns

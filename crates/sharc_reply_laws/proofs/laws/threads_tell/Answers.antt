@@ -1,10 +1,4 @@
-use Rattle.std.specs.Prelude.{reverse}
-use Rattle.sharc_code.specs.{Runs.said_by, Whole.{Erase, place_after}}
-use Rattle.sharc_compile.specs.OfRuns.{told_in}
-use Rattle.sharc_history_laws.specs.History.{history_of}
-use Rattle.sharc_wants_laws.specs.Holding.{lowered_of}
-use Rattle.sharc_reply_laws.specs.Threads.{counted_turns}
-use Rattle.sharc_reply_laws.proofs.Telling.{tells}
+use Rattle.sharc_reply_laws.proofs.{Imports.{reverse, said_by, Erase, place_after, told_in, history_of, lowered_of, counted_turns}, Telling.tells}
 use Rattle.sharc_reply_laws.proofs.laws.threads_tell.Goals as goal
 
 pub returns : goal.returns

@@ -1,5 +1,4 @@
-use Rattle.std.proofs.Common.{List, ℕ, subst}
-use Rattle.sharc_top.specs.Reply.{Replies}
+use Rattle.sharc_reply_laws.proofs.Imports.{List, ℕ, subst, Replies}
 use Rattle.sharc_reply_laws.proofs.laws.written_replies_tell.Goals as goal
 
 pub returns-clause-whole : goal.returns-clause-whole

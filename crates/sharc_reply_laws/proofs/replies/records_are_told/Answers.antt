@@ -1,5 +1,4 @@
-use Rattle.sharc_reply_laws.proofs.{Again.says_again, Recorded.{replay_only, record_only}}
-use Rattle.sharc_reply_laws.specs.RecordLaws.{RecordsAreOnly, ReplaysAreOnly}
+use Rattle.sharc_reply_laws.proofs.{Imports.{RecordsAreOnly, ReplaysAreOnly}, Again.says_again, Recorded.{replay_only, record_only}}
 use Rattle.sharc_reply_laws.proofs.replies.records_are_told.Goals as goal
 
 pub returns : goal.returns

@@ -1,5 +1,4 @@
-use Rattle.sharc_reply_laws.specs.Laws.{AnswersAreOne}
-use Rattle.sharc_reply_laws.proofs.{Judged.one_file_reply, Replying.{FileRepliesAreOne, one_answer, one_reply, one_told}}
+use Rattle.sharc_reply_laws.proofs.{Imports.AnswersAreOne, Judged.one_file_reply, Replying.{FileRepliesAreOne, one_answer, one_reply, one_told}}
 use Rattle.sharc_reply_laws.proofs.replies.replies_are_one.Goals as goal
 
 pub returns : goal.returns

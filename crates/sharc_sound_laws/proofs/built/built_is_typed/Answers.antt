@@ -1,4 +1,4 @@
-use Rattle.sharc_accepted_laws.specs.StaticLaws.{IsAccepted}
+use Rattle.sharc_sound_laws.proofs.Imports.{IsAccepted}
 use Rattle.sharc_sound_laws.proofs.built.built_is_typed.Goals as goal
 
 pub returns : goal.returns

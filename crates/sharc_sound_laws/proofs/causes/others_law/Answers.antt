@@ -1,5 +1,4 @@
-use Rattle.sharc_code.specs.Whole.{place_after}
-use Rattle.sharc_sound_laws.proofs.Picked.{picked}
+use Rattle.sharc_sound_laws.proofs.{Imports.place_after, Picked.picked}
 use Rattle.sharc_sound_laws.proofs.causes.others_law.Goals as goal
 
 pub returns : goal.returns

@@ -1,5 +1,4 @@
-use Rattle.std.proofs.Common.{ℕ, ◌<◌, ◌^◌, arith}
-use Rattle.sharc_invariant.specs.State.{IsSmall}
+use Rattle.sharc_sound_laws.proofs.Imports.{ℕ, ◌<◌, ◌^◌, arith, IsSmall}
 use Rattle.sharc_sound_laws.proofs.sound.built_stuck_is_deadlock_if_typed.Goals as goal
 
 narrow : (n : ℕ) → n < 2 ^ 32 → n < 2 ^ 64

@@ -1,7 +1,4 @@
-use Rattle.std.proofs.Common.{◌≡◌, ℕ, Some, List, ◌∷◌, ◌++◌, refl, subst}
-use Rattle.sharc_code.specs.{declared.state.ConflictAt.ConflictAt, declared.state.Stop.Stop, declared.state.Stop.TheVariants.{Conflict, NoLock}, Opening.opening_words, Runs.{IsRun, Turn, opening_of}, Whole.{CheckedRun, bounds, one_thread, place_after}}
-use Rattle.sharc_sound_laws.specs.Obeying.{IsAccessReport}
-use Rattle.sharc_sound_laws.proofs.{Starts.first_is, Unreported.{unbroken, unlocked}}
+use Rattle.sharc_sound_laws.proofs.{Imports.{◌≡◌, ℕ, Some, List, ◌∷◌, ◌++◌, refl, subst, ConflictAt, Stop, Conflict, NoLock, opening_words, IsRun, Turn, opening_of, CheckedRun, bounds, one_thread, place_after, IsAccessReport}, Starts.first_is, Unreported.{unbroken, unlocked}}
 use Rattle.sharc_sound_laws.proofs.sound.obeying_is_unreported_if_typed.Goals as goal
 
 pub returns : goal.returns

@@ -1,6 +1,4 @@
-use Rattle.std.proofs.Common.{ℕ, List}
-use Rattle.sharc_code.specs.{Runs.Turn, Whole.CheckedRun}
-use Rattle.sharc_sound_laws.proofs.{Reported.reported, Starts.first_is}
+use Rattle.sharc_sound_laws.proofs.{Imports.{ℕ, List, Turn, CheckedRun}, Reported.reported, Starts.first_is}
 use Rattle.sharc_sound_laws.proofs.sound.reports_show_if_typed.Goals as goal
 
 pub returns : goal.returns

@@ -1,8 +1,4 @@
-use Rattle.std.proofs.Common.{◌≡◌, ℕ, ◌⊎◌, inl, inr, ap, ◌∙◌, ⊎_elim, []}
-use Rattle.sharc_meaning.specs.{Events.events_of, Runs.Follows}
-use Rattle.sharc_compile_laws.specs.Threads.{TellsIn}
-use Rattle.sharc_history_laws.specs.History.{history_of}
-use Rattle.sharc_sound_laws.proofs.Following.{follows}
+use Rattle.sharc_sound_laws.proofs.{Imports.{◌≡◌, ℕ, ◌⊎◌, inl, inr, ap, ◌∙◌, ⊎_elim, [], events_of, Follows, TellsIn, history_of}, Following.follows}
 use Rattle.sharc_sound_laws.proofs.sound.sound_if_typed.Goals as goal
 
 pub returns : goal.returns

@@ -1,10 +1,4 @@
-use Rattle.std.proofs.Common.{ℕ, inl, inr, ap, ◌∙◌, ⊎_elim}
-use Rattle.sharc_ctype.specs.Reaches.{Spawns}
-use Rattle.sharc_meaning.specs.Events.{events_of}
-use Rattle.sharc_code.specs.Whole.{place_after}
-use Rattle.sharc_history_laws.specs.{History.history_of, Starts.IsSpawnedByCode}
-use Rattle.sharc_wants_laws.specs.Wants.{IsNotThere, IsThereIn}
-use Rattle.sharc_sound_laws.proofs.Following.{may, placed}
+use Rattle.sharc_sound_laws.proofs.{Imports.{ℕ, inl, inr, ap, ◌∙◌, ⊎_elim, Spawns, events_of, place_after, history_of, IsSpawnedByCode, IsNotThere, IsThereIn}, Following.{may, placed}}
 use Rattle.sharc_sound_laws.proofs.sound.threads_stand_if_typed.Goals as goal
 
 pub returns : goal.returns

@@ -1,6 +1,4 @@
-use Rattle.sharc_flat.specs.Made.{flat_of}
-use Rattle.sharc_guard.specs.Known.{dropped}
-use Rattle.sharc_typed_laws.specs.{Inside.labels_of, Passes.with_checks}
+use Rattle.sharc_typed_laws.proofs.Imports.{flat_of, dropped, labels_of, with_checks}
 use Rattle.sharc_typed_laws.proofs.statements.code_typed_law.Goals as goal
 
 pub returns : goal.returns

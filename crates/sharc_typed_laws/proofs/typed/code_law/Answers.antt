@@ -1,5 +1,4 @@
-use Rattle.sharc_flat.specs.Made.{flat_of}
-use Rattle.sharc_typed_laws.specs.Passes.{with_checks}
+use Rattle.sharc_typed_laws.proofs.Imports.{flat_of, with_checks}
 use Rattle.sharc_typed_laws.proofs.typed.code_law.Goals as goal
 
 pub returns : goal.returns

@@ -1,7 +1,4 @@
-use Rattle.std.specs.Prelude.{◌∷◌, []}
-use Rattle.sharc_history_laws.specs.History.{history_of}
-use Rattle.sharc_wants_laws.specs.Alone.{tested_object}
-use Rattle.sharc_wants_laws.proofs.{Elsewhere.pointer_taken, Nowhere.gives}
+use Rattle.sharc_wants_laws.proofs.{Imports.{◌∷◌, [], history_of, tested_object}, Elsewhere.pointer_taken, Nowhere.gives}
 use Rattle.sharc_wants_laws.proofs.sole.arguments_hold_none.Goals as goal
 
 pub returns : goal.returns

@@ -1,5 +1,4 @@
-use Rattle.sharc_history_laws.specs.History.{history_of}
-use Rattle.sharc_wants_laws.proofs.Elsewhere.{argument_seen}
+use Rattle.sharc_wants_laws.proofs.{Imports.history_of, Elsewhere.argument_seen}
 use Rattle.sharc_wants_laws.proofs.sole.arguments_see.Goals as goal
 
 pub returns : goal.returns

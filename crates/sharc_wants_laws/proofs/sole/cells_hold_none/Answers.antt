@@ -1,10 +1,4 @@
-use Rattle.std.proofs.Common.{◌≡◌, ◌+◌, ⊎_elim}
-use Rattle.std.specs.Prelude.{◌∷◌, []}
-use Rattle.sharc_code.specs.Whole.{place_after}
-use Rattle.sharc_invariant.specs.MachineInvariant.{cell_refers}
-use Rattle.sharc_history_laws.specs.SeenCells.{IsBeingFreed}
-use Rattle.sharc_wants_laws.specs.Alone.{objects_there, tested_object}
-use Rattle.sharc_wants_laws.proofs.Nowhere.{other_freed}
+use Rattle.sharc_wants_laws.proofs.{Imports.{◌≡◌, ◌+◌, ⊎_elim, ◌∷◌, [], place_after, cell_refers, IsBeingFreed, objects_there, tested_object}, Nowhere.other_freed}
 use Rattle.sharc_wants_laws.proofs.sole.cells_hold_none.Goals as goal
 
 pub returns : goal.returns

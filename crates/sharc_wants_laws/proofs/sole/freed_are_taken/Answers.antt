@@ -1,10 +1,4 @@
-use Rattle.std.proofs.Common.{◌≡◌, ◌⊎◌, ⊎_elim, ◌+◌, [], ◌∷◌, ◌++◌, sym, ap, ◌∙◌}
-use Rattle.sharc_meaning.specs.{declared.given.GivenUp.TheVariants.Emptied, Events.events_of, References.Begun}
-use Rattle.sharc_code.specs.{Machine.ref, Whole.place_after}
-use Rattle.sharc_flat.specs.Correct.{MayStart}
-use Rattle.sharc_history_laws.specs.History.{history_of}
-use Rattle.sharc_wants_laws.specs.Alone.{objects_there}
-use Rattle.sharc_wants_laws.proofs.{Cause.{clearing_empties, register_there, same_register}, Freed.last_taken}
+use Rattle.sharc_wants_laws.proofs.{Imports.{◌≡◌, ◌⊎◌, ⊎_elim, ◌+◌, [], ◌∷◌, ◌++◌, sym, ap, ◌∙◌, Emptied, events_of, Begun, ref, place_after, MayStart, history_of, objects_there}, Cause.{clearing_empties, register_there, same_register}, Freed.last_taken}
 use Rattle.sharc_wants_laws.proofs.sole.freed_are_taken.Goals as goal
 
 pub returns : goal.returns

@@ -1,8 +1,4 @@
-use Rattle.std.specs.Prelude.{reverse}
-use Rattle.sharc_code.specs.Whole.{Erase, place_after}
-use Rattle.sharc_compile.specs.OfRuns.{told_in}
-use Rattle.sharc_wants_laws.specs.Holding.{lowered_of}
-use Rattle.sharc_wants_laws.proofs.Seeing.{in_hand}
+use Rattle.sharc_wants_laws.proofs.{Imports.{reverse, Erase, place_after, told_in, lowered_of}, Seeing.in_hand}
 use Rattle.sharc_wants_laws.proofs.sole.hands_fly.Goals as goal
 
 pub returns : goal.returns

@@ -1,11 +1,4 @@
-use Rattle.std.proofs.Common.{◌≡◌, ℕ, length, ⊎_elim, subst, sym}
-use Rattle.std.specs.Prelude.{Bool, reverse}
-use Rattle.sharc_code.specs.{Paced.paced_in, Path.{begun, machine_after}, Runs.turns_of, Whole.Erase}
-use Rattle.sharc_flat.specs.{declared.flat.Flat.{Flat as FlatCode}, Made.flat_of}
-use Rattle.sharc_compile.specs.{Consistent.said_in, Correct.{IsBeginning, HasCome}, Generated.program_of, Lowered.lowered_in, OfRuns.{elements_before, founds_of, told_in}}
-use Rattle.sharc_guard.specs.{Guard.guarded, Known.dropped, Made.IsMade, declared.guarded.Guarded.Guarded, Form.IsGuarded}
-use Rattle.sharc_wants_laws.specs.Registered.{HoldsRegistered}
-use Rattle.sharc_wants_laws.proofs.{Keeping.{not_silent, registered}, Registering.registered_there, SoleTelling.{events_are, place_is}}
+use Rattle.sharc_wants_laws.proofs.{Imports.{◌≡◌, ℕ, length, ⊎_elim, subst, sym, Bool, reverse, paced_in, begun, machine_after, turns_of, Erase, FlatCode, flat_of, said_in, IsBeginning, HasCome, program_of, lowered_in, elements_before, founds_of, told_in, guarded, dropped, IsMade, Guarded, IsGuarded, HoldsRegistered}, Keeping.{not_silent, registered}, Registering.registered_there, SoleTelling.{events_are, place_is}}
 use Rattle.sharc_wants_laws.proofs.sole.held_registered.Goals as goal
 
 -- guarded code that was made, as a program

@@ -1,5 +1,4 @@
-use Rattle.std.specs.Prelude.{◌∷◌, []}
-use Rattle.sharc_wants_laws.specs.Alone.{tested_object}
+use Rattle.sharc_wants_laws.proofs.Imports.{◌∷◌, [], tested_object}
 use Rattle.sharc_wants_laws.proofs.sole.mutexes_hold_none.Goals as goal
 
 pub returns : goal.returns

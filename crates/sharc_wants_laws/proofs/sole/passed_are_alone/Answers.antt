@@ -1,5 +1,4 @@
-use Rattle.std.specs.Prelude.{◌∷◌}
-use Rattle.sharc_wants_laws.proofs.Alone.{passed_alone}
+use Rattle.sharc_wants_laws.proofs.{Imports.{◌∷◌}, Alone.passed_alone}
 use Rattle.sharc_wants_laws.proofs.sole.passed_are_alone.Goals as goal
 
 pub returns : goal.returns

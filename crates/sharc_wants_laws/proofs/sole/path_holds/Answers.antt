@@ -1,10 +1,4 @@
-use Rattle.std.proofs.Common.{◌≡◌, ℕ, length, inl, inr, ⊎_elim, subst, sym}
-use Rattle.std.specs.Prelude.{Bool}
-use Rattle.sharc_code.specs.{Paced.paced_in, Path.{begun, machine_after}}
-use Rattle.sharc_flat.specs.{declared.flat.Flat.{Flat as FlatCode}, Made.flat_of}
-use Rattle.sharc_compile.specs.{Consistent.said_in, Correct.{IsBeginning, HasCome}, Generated.program_of, Lowered.lowered_in}
-use Rattle.sharc_guard.specs.{Guard.guarded, Known.dropped, Made.IsMade, declared.guarded.Guarded.Guarded, Form.IsGuarded}
-use Rattle.sharc_wants_laws.proofs.Holding.{there}
+use Rattle.sharc_wants_laws.proofs.{Imports.{◌≡◌, ℕ, length, inl, inr, ⊎_elim, subst, sym, Bool, paced_in, begun, machine_after, FlatCode, flat_of, said_in, IsBeginning, HasCome, program_of, lowered_in, guarded, dropped, IsMade, Guarded, IsGuarded}, Holding.there}
 use Rattle.sharc_wants_laws.proofs.sole.path_holds.Goals as goal
 
 -- guarded code that was made, as a program

@@ -1,10 +1,4 @@
-use Rattle.std.proofs.Common.{◌≡◌, ℕ, Bool, sym, ◌∙◌, subst}
-use Rattle.sharc_code.specs.Runs.{turns_of}
-use Rattle.sharc_flat.specs.{declared.flat.Flat.{Flat as FlatCode}, Made.flat_of}
-use Rattle.sharc_compile.specs.{Generated.program_of, OfRuns.{elements_before, founds_of}}
-use Rattle.sharc_guard.specs.{Guard.guarded, Known.dropped, Made.IsMade, declared.guarded.Guarded.Guarded, Form.IsGuarded}
-use Rattle.sharc_wants_laws.specs.Silent.{HasNothing}
-use Rattle.sharc_wants_laws.proofs.{Silent.nothing_there, SoleTelling.{events_are, place_is}}
+use Rattle.sharc_wants_laws.proofs.{Imports.{◌≡◌, ℕ, Bool, sym, ◌∙◌, subst, turns_of, FlatCode, flat_of, program_of, elements_before, founds_of, guarded, dropped, IsMade, Guarded, IsGuarded, HasNothing}, Silent.nothing_there, SoleTelling.{events_are, place_is}}
 use Rattle.sharc_wants_laws.proofs.sole.silent_have_nothing.Goals as goal
 
 same : (d : ℕ → Bool) (flat : FlatCode) (g : Guarded) → IsMade d flat g → program_of g ≡ guarded d (flat_of flat)

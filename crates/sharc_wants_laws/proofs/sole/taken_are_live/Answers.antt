@@ -1,11 +1,4 @@
-use Rattle.std.proofs.Common.{◌≡◌, ◌≢◌, ◌⊎◌, ⊎_elim, ℕ, ◌+◌, ◌==◌, true, not, ◌&&◌, List, [], ◌∷◌, ◌++◌, sym, ap, ◌∙◌, arith, eq-eqb, get_or, pos}
-use Rattle.sharc_tree.specs.declared.event.SourceEvent.{SourceEvent}
-use Rattle.sharc_meaning.specs.{Events.events_of, Meaning.Asked, Reference.number_of, References.{Begun, asked_with, refers}, Runs.answers_of, State.{Outcome, spent, wants}}
-use Rattle.sharc_code.specs.Whole.{place_after}
-use Rattle.sharc_flat.specs.Correct.{MayStart}
-use Rattle.sharc_history_laws.specs.History.{history_of}
-use Rattle.sharc_wants_laws.specs.Alone.{objects_there}
-use Rattle.sharc_wants_laws.proofs.Only.{registered_live}
+use Rattle.sharc_wants_laws.proofs.{Imports.{◌≡◌, ◌≢◌, ◌⊎◌, ⊎_elim, ℕ, ◌+◌, ◌==◌, true, not, ◌&&◌, List, [], ◌∷◌, ◌++◌, sym, ap, ◌∙◌, arith, eq-eqb, get_or, pos, SourceEvent, events_of, Asked, number_of, Begun, asked_with, refers, answers_of, Outcome, spent, wants, place_after, MayStart, history_of, objects_there}, Only.registered_live}
 use Rattle.sharc_wants_laws.proofs.sole.taken_are_live.Goals as goal
 
 no_last : (before : List SourceEvent) (e : SourceEvent) → before ++ e ∷ [] ≡ [] → ⊥

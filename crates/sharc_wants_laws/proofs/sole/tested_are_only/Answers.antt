@@ -1,5 +1,4 @@
-use Rattle.std.specs.Prelude.{◌∷◌, []}
-use Rattle.sharc_wants_laws.proofs.{Holders.only, Tables.has_tables}
+use Rattle.sharc_wants_laws.proofs.{Imports.{◌∷◌, []}, Holders.only, Tables.has_tables}
 use Rattle.sharc_wants_laws.proofs.sole.tested_are_only.Goals as goal
 
 pub returns : goal.returns

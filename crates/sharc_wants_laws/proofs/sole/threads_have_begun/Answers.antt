@@ -1,8 +1,4 @@
-use Rattle.std.proofs.Common.{◌≡◌, inl, inr, ap, ◌∙◌, ⊎_elim, []}
-use Rattle.sharc_meaning.specs.Events.{events_of}
-use Rattle.sharc_compile_laws.specs.Threads.{TellsIn}
-use Rattle.sharc_history_laws.specs.History.{history_of}
-use Rattle.sharc_wants_laws.proofs.Beginning.{has_begun}
+use Rattle.sharc_wants_laws.proofs.{Imports.{◌≡◌, inl, inr, ap, ◌∙◌, ⊎_elim, [], events_of, TellsIn, history_of}, Beginning.has_begun}
 use Rattle.sharc_wants_laws.proofs.sole.threads_have_begun.Goals as goal
 
 pub returns : goal.returns

@@ -1,8 +1,4 @@
-use Rattle.std.specs.Prelude.{◌+◌, ◌∷◌, []}
-use Rattle.sharc_code.specs.Whole.{place_after}
-use Rattle.sharc_history_laws.specs.History.{history_of}
-use Rattle.sharc_wants_laws.specs.Alone.{objects_there, tested_object}
-use Rattle.sharc_wants_laws.proofs.Only.{held_once, may_start}
+use Rattle.sharc_wants_laws.proofs.{Imports.{◌+◌, ◌∷◌, [], place_after, history_of, objects_there, tested_object}, Only.{held_once, may_start}}
 use Rattle.sharc_wants_laws.proofs.sole.threads_hold_none.Goals as goal
 
 pub returns : goal.returns

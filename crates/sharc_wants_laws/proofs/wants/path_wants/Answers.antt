@@ -1,10 +1,4 @@
-use Rattle.std.proofs.{Common.{◌≡◌, ℕ, length, inl, inr, ⊎_elim, subst, sym}, lemmas.List.length-map}
-use Rattle.std.specs.Prelude.{Bool}
-use Rattle.sharc_code.specs.{Paced.paced_in, Path.{begun, machine_after}}
-use Rattle.sharc_flat.specs.{declared.flat.Flat.{Flat as FlatCode}, Made.flat_of}
-use Rattle.sharc_compile.specs.{Consistent.said_in, Correct.{IsBeginning, HasCome}, Generated.program_of, Lowered.lowered_in}
-use Rattle.sharc_guard.specs.{Guard.{entered_at, guarded, place}, Known.dropped, Made.IsMade, declared.guarded.Guarded.Guarded, Form.IsGuarded}
-use Rattle.sharc_wants_laws.proofs.Wanting.{there}
+use Rattle.sharc_wants_laws.proofs.{Imports.{◌≡◌, ℕ, length, inl, inr, ⊎_elim, subst, sym, length-map, Bool, paced_in, begun, machine_after, FlatCode, flat_of, said_in, IsBeginning, HasCome, program_of, lowered_in, entered_at, guarded, place, dropped, IsMade, Guarded, IsGuarded}, Wanting.there}
 use Rattle.sharc_wants_laws.proofs.wants.path_wants.Goals as goal
 
 -- guarded code that was made, as a program
