@@ -1,10 +1,10 @@
 -- Who makes a round where several workers are busy, by how fast the rounds so far were.
-use Rattle.std.specs.Prelude.{ℕ, ◌+◌, ◌-◌, ◌*◌, ◌/◌, ◌%◌, ◌^◌, Bool, true, false, List, Option, Some, None, if◌then◌else◌, min}
-use Rattle.std.specs.Prelude.{nat_le, nat_lt, sum_by}
+use Rattle.std.specs.Prelude.{ℕ, ◌+◌, ◌-◌, ◌*◌, ◌/◌, ◌%◌, ◌^◌, Bool, true, false, List, Option, Some, None, min}
+use Rattle.std.specs.Prelude.{if◌then◌else◌, nat_le, nat_lt, sum_by}
 use Rattle.sharc_code.specs.declared.state.Wait.{Wait}
 use Rattle.sharc_code.specs.declared.state.Wait.TheVariants.{Mutex, Join, Cond}
 use Rattle.sharc_cpu.specs.Thread.{ThreadView}
-use Rattle.sharc_rounds.specs.{declared.pace.Pace.Pace, declared.pace.Speed.Speed, declared.pace.Makers.Makers, declared.pace.TheConstants.{FIRST, APART}}
+use Rattle.sharc_rounds.specs.declared.pace.{Pace.Pace, Speed.Speed, Makers.Makers, TheConstants.{FIRST, APART}}
 use Rattle.sharc_rounds.specs.declared.hand.Hand.{Hand}
 use Rattle.sharc_rounds.specs.declared.busy.Busy.{Busy}
 use Rattle.sharc_rounds.specs.declared.busy.Busy.TheVariants.{Nobody, One, Several}
