@@ -77,29 +77,19 @@ class Expressions(Initialisers):
             return value.with_(args=tuple(reversed(args)))
         return value
 
-    def stable(self, value):
-        """The value, so that it may be written several times and evaluated later."""
-        inner = value.bare()
-        if inner.op == "moved":
-            base, op, index = inner.args
-            inner = inner.with_(args=(self.stable(base), op, self.stable(index)))
-        elif inner.op in ("address", "decay"):
-            inner = inner.with_(args=(self.stable_place(inner.args[0]),))
-        elif value.type.kind == "struct":
-            inner = self.stable_place(value)
+    def stable(self, value, place=False):
+        """The value, or the place, so that it may be written several times and evaluated later."""
+        op, args = value.op, value.args
+        if op in ("cast", "moved"):
+            args = [self.stable(arg) if isinstance(arg, Expr) else arg for arg in args]
+        elif op in ("address", "decay"):
+            args = [self.stable(args[0], True)]
+        elif place or value.type.kind == "struct":
+            base = [self.stable(args[0], True)] if op in ("member", "element") else args[:1]
+            args = [*base, *(map(self.stable, args[1:]) if op in ("element", "at") else args[1:])]
         elif value.number is None and value.height > 2:
             return self.spilled(value)
-        else:
-            inner = inner.with_(once=False)
-        return value.with_(args=(inner,)) if value.op == "cast" else inner
-
-    def stable_place(self, place):
-        """The place, so that it may be written twice: its indices are evaluated once."""
-        base, *rest = place.args
-        base = self.stable_place(base) if place.op in ("member", "element") else base
-        if place.op in ("element", "at") and rest[0].height > 2:
-            rest = [self.spilled(rest[0])]
-        return place.with_(args=(base, *rest))
+        return value.with_(args=tuple(args), once=False)
 
     def member(self, base, name):
         fields = self.structs[base.type.name].fields
@@ -418,7 +408,7 @@ class Expressions(Initialisers):
         """a = b, a op= b, a++: the value is the old one if `after`. Atomic variables are changed under one mutex, of
         headers/sharc_front.h."""
         place, mutex = self.visit(target), self.scopes[0]["__sharc_atomics"]
-        place = self.stable_place(place) if op else place
+        place = self.stable(place, True) if op else place
         by = self.value(by) if isinstance(by, A.Node) else by
         if place.type.kind == "struct":
             self.put(place, by)
@@ -490,7 +480,7 @@ class Expressions(Initialisers):
             symbol.own = True
             self.declare_local(symbol, [])
             made = Expr("address", (variable(symbol),), Type("ptr", to=kind.to))
-            self.copy(made.args[0], self.stable_place(value))
+            self.copy(made.args[0], self.stable(value))
         kind.node.unite(self.class_of(made))
         return made.typed(kind)
 
@@ -507,7 +497,7 @@ class Expressions(Initialisers):
         if place.type.kind != "struct":
             self.emit("%s = %s;", place, self.direct(self.fitting(value, place.type)))
             return
-        self.copy(self.stable_place(place), self.stable_place(value))
+        self.copy(self.stable(place, True), self.stable(value))
         if value.once:
             self.emit("free(%s);", value.args[0])
 

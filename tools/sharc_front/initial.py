@@ -10,10 +10,6 @@ from .declare import Declarations
 ESCAPES = dict(zip("abfnrtv\\'\"?e", (7, 8, 12, 10, 13, 9, 11, 92, 39, 34, 63, 27)))
 
 
-def byte_constant(byte, coord=None):
-    return A.Constant("int", str(byte), coord)
-
-
 class Initialisers(Declarations):
     def counted(self, kind, init):
         """The length of an array that its initialiser gives."""
@@ -63,8 +59,8 @@ class Initialisers(Declarations):
         if isinstance(items[0], A.ID) and items[0].name == "__sharc_init":
             items.pop(0)
         elif text is not None:
-            coord = items.pop(0).coord
-            found += [(path + (at,), byte_constant(byte, coord)) for at, byte in enumerate(text[: kind.length])]
+            coord, bytes_ = items.pop(0).coord, text[: kind.length]
+            found += [(path + (at,), A.Constant("int", str(byte), coord)) for at, byte in enumerate(bytes_)]
         elif isinstance(items[0], A.InitList):
             self.braced(kind, list(items.pop(0).exprs), path, found)
         elif kind.kind != "array" and (kind.kind != "struct" or self.peeked(items[0]).type.kind == "struct"):

@@ -8,6 +8,7 @@ from collections import Counter, namedtuple
 
 from pycparser import c_generator
 
+from .source import HEADERS
 from .tree import PLACES, Expr
 
 GENERATOR = c_generator.CGenerator()
@@ -89,7 +90,7 @@ class Locksets:
             struct, member = place.args[0].type.name, place.args[1]
             prefix, name = name[: -len(member)], f"struct {struct}.{member}"
             field = self.front.structs[struct].fields[member]
-            if field.type.mode or field.type.base().atomic or self.front.in_headers(field.place):
+            if field.type.mode or field.type.base().atomic or field.place[0].startswith(HEADERS):
                 return
         elif place.op != "variable" or place.args[0].kind != "global" or place.args[0].own or \
                 place.args[0].type.base().atomic:

@@ -9,11 +9,10 @@ class Objects(Places):
     def declaration(self, symbol):
         """A local: a variable; one for each member of a struct; or an object, for an array and what has an address."""
         kind = symbol.type
+        parts = [((), array(kind, 1) if symbol.boxed and kind.kind != "array" else kind)]
         if kind.kind == "struct" and not symbol.boxed:
-            return " ".join(self.local_part(symbol, path, leaf.with_(mode=None)) for path, leaf, _, _ in self.leaves(kind))
-        if kind.kind == "array" or symbol.boxed:
-            return self.local_part(symbol, (), kind if kind.kind == "array" else array(kind, 1))
-        return f"{self.type_text(kind)} {self.piece_name(symbol, ())};"
+            parts = [(path, leaf.with_(mode=None)) for path, leaf, _, _ in self.leaves(kind)]
+        return " ".join(self.local_part(symbol, *part) for part in parts)
 
     def local_part(self, symbol, path, kind):
         name = self.piece_name(symbol, path)
@@ -97,4 +96,4 @@ class Objects(Places):
     def struct_text(self, name):
         self.here = self.structs[name].place
         fields = list(self.members(Type("struct", name), lambda path: self.leaf(name, path)))
-        return f"struct {self.struct_name(name)} {{ {' '.join(fields) or 'char unused;'} }};"
+        return f"struct {self.out_names[name]} {{ {' '.join(fields) or 'char unused;'} }};"

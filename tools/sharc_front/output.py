@@ -58,15 +58,11 @@ class Front(Objects):
             self.groups[key] = (symbol, sum(lengths[:at]))
         return symbol
 
-    @staticmethod
-    def in_headers(place):
-        return place[0].startswith(HEADERS)
-
     def program(self):
         """The whole program as text."""
         functions = [line for symbol in self.functions.values() if symbol.definition and not symbol.header
                      for line in self.function_lines(symbol)]
-        globals_ = [symbol for symbol in self.globals if symbol.uses or not self.in_headers(symbol.place)]
+        globals_ = [symbol for symbol in self.globals if symbol.uses or not symbol.place[0].startswith(HEADERS)]
         globals_ += dict.fromkeys(group for group, _ in self.groups.values())
         globals_ = [self.written(symbol.place, self.global_declaration, symbol) for symbol in globals_]
         globals_ += [self.written(self.here, self.record_lines, symbol) for symbol in self.thread_functions()]

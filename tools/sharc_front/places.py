@@ -47,9 +47,6 @@ class Places(Threads):
         """The field for a part of a struct in an object: structs in structs are laid open."""
         return self.name((struct, path), "_".join(path), len(path) > 1, ".".join(path))
 
-    def struct_name(self, struct):
-        return self.name(struct, struct, False, None)
-
     def function_name(self, symbol):
         self.refuse_if(symbol.definition is None, f"function {symbol.name}, which is not defined here", symbol.place)
         return self.piece_name(symbol, ())
@@ -254,7 +251,7 @@ class Places(Threads):
             return "struct cond" + mode
         if kind.kind == "struct":
             self.complete(kind, self.here)
-            return "struct " + self.struct_name(kind.name) + mode
+            return "struct " + self.name(kind.name, kind.name, False, None) + mode
         self.refuse_if(kind.kind != "ptr", f"type {kind.shown()}")
         how = self.how(kind.node)
         if how not in HEAP:

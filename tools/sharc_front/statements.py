@@ -9,6 +9,7 @@ from .ctype import BAD, INT, VOID, Refusal, promoted
 from .declare import Symbol, place_of
 from .express import Expressions, Line
 from .locks import spelled
+from .source import HEADERS
 from .tree import Expr, compare, convert, joined, number, variable
 
 DECLARATIONS = (A.Decl, A.DeclList, A.Typedef, A.FuncDef)
@@ -232,7 +233,7 @@ class Statements(Expressions):
         symbol = self.prototype(item.decl)
         self.refuse_if(item.param_decls or symbol.type.name == "...",
                        "function definition in the old style" if item.param_decls else "variable arguments", item)
-        symbol.definition, symbol.header = item, self.in_headers(place_of(item.decl))
+        symbol.definition, symbol.header = item, place_of(item.decl)[0].startswith(HEADERS)
         if not symbol.header:
             self.function, self.loops, self.here, self.locals, self.own_names = symbol, [], symbol.place, 0, set()
             self.mentions = names_in(item.body)[0]

@@ -27,7 +27,7 @@ class Threads(Library):
 
     def created(self, target, attributes, start, arg):
         self.value(attributes)  # those that can be set change nothing here
-        place, start = self.stable_place(self.deref(self.value(target))), self.stable(self.value(start))
+        place, start = self.stable(self.deref(self.value(target)), True), self.stable(self.value(start))
         kind = start.type.to if start.type.kind == "ptr" else VOID
         self.refuse_if(kind.kind != "func" or len(kind.params or ()) != 1, "thread function of this form")
         self.started.append(start.type.node)
@@ -102,7 +102,7 @@ class Threads(Library):
         if not isinstance(result, A.UnaryOp) or result.op != "&":
             self.refuse_if(not self.peeked(result).null(), "result of a thread taken in this form")
             return
-        place = self.stable_place(self.visit(result.expr))
+        place = self.stable(self.visit(result.expr), True)
         self.refuse_if(place.type.kind != "ptr", "result of a thread taken in this form")
         self.joins.append(place.type.node)
         self.put(place, number(0))
