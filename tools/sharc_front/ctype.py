@@ -22,7 +22,9 @@ class Refusal(Exception):
 @dataclass(frozen=True)
 class Type:
     kind: str  # int, void, ptr, array, struct, func, mutex, cond, or bad where the type was refused
-    name: str = ""  # of an int: a key of BITS; of a struct: its name; of a function with variable arguments: ...
+    # of an int: a key of BITS; of a struct: its name; of a function with variable arguments: ...; of a pointer to the
+    # copy of a struct that is passed or returned: value
+    name: str = ""
     to: "Type" = None  # what a pointer points to, the element of an array, the result of a function
     length: int = None  # of an array; None where it is not known
     params: tuple = None  # of a function; None for `()`

@@ -230,13 +230,10 @@ class Expressions(Initialisers):
 
     def x_ID(self, node, _):
         found = self.lookup(node.name, self.scopes)
-        if isinstance(found, Expr):
-            return found
-        if isinstance(found, int):
-            return number(found)
-        if not isinstance(found, Symbol):
-            known = f"name {node.name.replace('__sharc_', '')}, which is not known"
-            self.refuse(node, known if found is None else None)
+        if isinstance(found, (Expr, int)):
+            return number(found) if isinstance(found, int) else found
+        self.refuse_if(not isinstance(found, Symbol), f"name {node.name.replace('__sharc_', '')}, which is not known"
+                       if found is None else None)
         found.uses += 1
         if found.kind != "function":
             return variable(found)

@@ -32,9 +32,8 @@ class Threads(Library):
         self.refuse_if(kind.kind != "func" or len(kind.params or ()) != 1, "thread function of this form")
         self.started.append(start.type.node)
         value = self.value(arg)
-        symbol = value.place() and value.place().op == "variable" and value.place().local()
-        if symbol:
-            symbol.started.append(len(self.loops))
+        if value.own_local():
+            value.own_local().started.append(len(self.loops))
         value = self.given(self.fitting(value, kind.params[0]), True)
 
         def lines():
@@ -69,15 +68,12 @@ class Threads(Library):
 
     def handed(self, value):
         """Whether the argument of a thread is the address of an object of this thread alone."""
-        inner, place = value.bare(), value.place()
+        inner, symbol = value.bare(), value.own_local()
         if self.how(value.type.node) not in ("heap", "boxes"):
             return False
         if inner.op == "moved":
-            base = inner.args[0].place()
-            return bool(base and base.op == "variable" and base.local()) and \
-                self.how(inner.args[0].type.node) == "boxes"
-        symbol = place and place.op == "variable" and place.type.kind != "array" and place.local()
-        return bool(symbol) and symbol.started == [symbol.loop]
+            return inner.args[0].own_local() is not None and self.how(inner.args[0].type.node) == "boxes"
+        return symbol is not None and symbol.type.kind != "array" and symbol.started == [symbol.loop]
 
     def record(self, symbol):
         """Names: of the struct, the function that is spawned, the one that takes the argument, the table of starts."""

@@ -28,7 +28,8 @@ class Expr:
 
     Or a value: what is in a place; number; infix and prefix operators and helper(name, values ..) on integers; a cast,
     which changes nothing but the type; and pointers: address(place), decay(array), moved(pointer, operator, index),
-    null, string(data), function(symbol), scast(place), and the call(function, values ..), which stands alone in a line.
+    null, string(data), function(symbol), and ordered(pointer), its number. Those with effects, call(function, values ..),
+    scast(place) and text(what gives it, places ..), are in a line of their own, or in the one that uses what they give.
     """
 
     op: str
@@ -60,6 +61,11 @@ class Expr:
         """What it is the address of, or the array that it is the first element of."""
         inner = self.bare()
         return inner.args[0] if inner.op in ("address", "decay") else None
+
+    def own_local(self):
+        """The local variable that a pointer is the address of, if it is one."""
+        place = self.place()
+        return place.args[0] if place and place.op == "variable" and place.args[0].kind != "global" else None
 
     def local(self):
         """The local variable that a place is the whole of or a member of."""
