@@ -154,17 +154,19 @@ class Classes:
                 node.mark("heap", root.seen["heap"])
                 made.unite(node)
                 changed = True
-        for made in [made for kind in root.types.values() for made in self.arrays_in(kind)] if in_heap else []:
+        structs = [kind for kind in root.types.values() if kind.kind == "struct" and in_heap]
+        for made in [field.made for kind in structs for _, leaf, _, field in self.leaves(kind) if leaf.kind == "array"]:
             changed |= not made.has("heap")
             made.mark("heap", root.seen["heap"])
         return changed
 
-    def arrays_in(self, kind):
-        """The classes of the arrays in an object of this type."""
-        for field in self.structs[kind.name].fields.values() if kind.kind == "struct" else ():
-            if field.type.kind == "array":
-                yield field.made
-            yield from self.arrays_in(field.type)
+    def leaves(self, kind, path=()):
+        """The members of a type that are no structs, those of structs in it too: (path, type, struct, field)."""
+        for name, field in self.structs[kind.name].fields.items():
+            if field.type.kind == "struct":
+                yield from self.leaves(field.type, path + (name,))
+            elif field.type.kind != "bad":
+                yield path + (name,), field.type, kind.name, field
 
     def part(self, kind, path):
         """The type of a part: members and indices."""

@@ -46,6 +46,7 @@ class Declarations:
         self.source, self.function, self.alone, self.here, self.scopes = source, None, alone, ("", 0), [{}]
         self.structs, self.globals, self.functions, self.refusals = {}, [], {}, []
         self.classes = Classes(self.structs)
+        self.leaves = self.classes.leaves
         self.tags, self.typedef_names = {}, {}  # by their nodes; in self.scopes they are with a blank before them
         self.names, self.unions = set(source.words), set()
 
@@ -227,14 +228,6 @@ class Declarations:
                 return None, 8
             at, align = -(-at // step) * step + size, max(align, step)
         return -(-at // align) * align, align
-
-    def leaves(self, kind, path=()):
-        """The members of a type that are no structs, those of structs in it too: (path, type, struct, field)."""
-        for name, field in self.structs[kind.name].fields.items():
-            if field.type.kind == "struct":
-                yield from self.leaves(field.type, path + (name,))
-            elif field.type.kind != "bad":
-                yield path + (name,), field.type, kind.name, field
 
     def has(self, kind, wanted):
         """Whether something of this kind is in an object of this type."""

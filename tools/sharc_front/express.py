@@ -475,7 +475,7 @@ class Expressions(Initialisers):
         else:
             symbol = self.declare("copy", "local", kind.to.bare(), self.here)
             symbol.own = True
-            self.declare_local(symbol, [])
+            self.declare_local(symbol)
             made = Expr("address", (variable(symbol),), Type("ptr", to=kind.to))
             self.copy(made.args[0], self.stable(value))
         kind.node.unite(self.class_of(made))

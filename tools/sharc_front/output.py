@@ -30,8 +30,7 @@ class Front(Objects):
         self.strings = self.declare("strings", "global", array(CHAR, 1), self.here)
         self.strings.own, self.strings.out = True, self.fresh("strings")
         self.statements(source.tree.ext)
-        main = self.functions.get("main")
-        if main is None or main.definition is None:
+        if not getattr(self.functions.get("main"), "definition", None):
             self.report(Refusal(((path, 1), "program without main")))
         for symbol in self.thread_functions():
             for node in self.joins if symbol.gives else []:
