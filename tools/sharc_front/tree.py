@@ -28,8 +28,8 @@ class Expr:
 
     Or a value: what is in a place; number; infix and prefix operators and helper(name, values ..) on integers; a cast,
     which changes nothing but the type; and pointers: address(place), decay(array), moved(pointer, operator, index),
-    null, string(data), function(symbol), and ordered(pointer), its number. Those with effects are in a line of their own,
-    or in the one that uses what they give: call(function, values ..), scast(place) and text(what gives it, places ..).
+    null, string(data), function(symbol), and ordered(pointer), its number. Those with effects, call(function, values
+    ..), scast(place) and text(what gives it, places ..), are in a line of their own, or in the one that uses them.
     """
 
     op: str
