@@ -56,13 +56,13 @@ pub returns-in-Stopped-clause-stopped : goal.returns-in-Stopped-clause-stopped
 returns-in-Stopped-clause-stopped g c =
     let t : ThreadView = c.args.thread.now in
     let is : t.machine.at.state ≡ states.Stopped = ap (λ (v : ThreadView). v.machine.at.state) (sym c.thread.view_is) ∙ c.in-Stopped.is in
-    stop_is_told c.args.code.now c.args.shape.now t 0 c.args.limit _ c.requires.thread (ap (λ (x : TurnState). pause_of x 0 t.made c.args.limit) (sym is))
+    stop_is_told c.thread_laws.ensures c.args.code.now c.args.shape.now t 0 c.args.limit _ c.requires.thread (ap (λ (x : TurnState). pause_of x 0 t.made c.args.limit) (sym is))
 
 pub returns-in-Ended-clause-stopped : goal.returns-in-Ended-clause-stopped
 returns-in-Ended-clause-stopped g c =
     let t : ThreadView = c.args.thread.now in
     let is : t.machine.at.state ≡ states.Ended = ap (λ (v : ThreadView). v.machine.at.state) (sym c.thread.view_is) ∙ c.in-Ended.is in
-    stop_is_told c.args.code.now c.args.shape.now t 0 c.args.limit _ c.requires.thread (ap (λ (x : TurnState). pause_of x 0 t.made c.args.limit) (sym is))
+    stop_is_told c.thread_laws.ensures c.args.code.now c.args.shape.now t 0 c.args.limit _ c.requires.thread (ap (λ (x : TurnState). pause_of x 0 t.made c.args.limit) (sym is))
 
 pub returns-clause-stopped : goal.returns-clause-stopped
 returns-clause-stopped g c =
@@ -70,7 +70,7 @@ returns-clause-stopped g c =
     let same : c.deref_mut.result.now ≡ c.thread.inside.parts.value = c.deref_mut.ensures.value in
     let goes = subst (λ (p : ThreadParts). GoesWhere (g.P.Port.serves c.args.port.now p.number) g.P.Port.leads c.args.code.now c.args.shape.now (machine_of c.thread.inside.at p) (machine_of c.go_on-went.result.at c.go_on-went.new.parts) (g.P.Port.place c.args.port.now) (g.P.Port.place c.go_on-went.new.port) c.go_on-went.result.turns c.go_on-went.result.made) same c.go_on-went.ensures.goes in
     let new : ThreadView = record { machine = machine_of c.go_on-went.result.at c.go_on-went.new.parts; made = c.thread.inside.made + c.go_on-went.result.made; wait = c.wait_of-thread-inside.result; room = 0 } in
-    stop_is_told c.args.code.now c.args.shape.now new c.go_on-went.result.turns c.args.limit c.answer.result
+    stop_is_told c.thread_laws.ensures c.args.code.now c.args.shape.now new c.go_on-went.result.turns c.args.limit c.answer.result
     (goes_thread serves g.P.Port.leads c.args.code.now c.args.shape.now c.args.thread.now new (g.P.Port.place c.args.port.now) (g.P.Port.place c.go_on-went.new.port) c.go_on-went.result.turns c.go_on-went.result.made
     c.requires.thread
     (subst (λ (m : Machine). GoesWhere serves g.P.Port.leads c.args.code.now c.args.shape.now m (machine_of c.go_on-went.result.at c.go_on-went.new.parts) (g.P.Port.place c.args.port.now) (g.P.Port.place c.go_on-went.new.port) c.go_on-went.result.turns c.go_on-went.result.made) (ap (λ (v : ThreadView). v.machine) c.thread.view_is) goes)
