@@ -1,7 +1,7 @@
 -- What flat and guarded code have in common where the one is beside the other.
-use Rattle.std.proofs.Common.{◌≡◌, ℕ, ℤ, pos, negsuc, zero, suc, Bool, List, [], ◌∷◌, length, Some, None, refl, ap}
+use Rattle.std.proofs.Common.{◌≡◌, ℕ, ℤ, pos, suc, Bool, List, [], ◌∷◌, length, Some, refl, ap}
 use Rattle.sharc_tree.specs.declared.event.CellAt.{CellAt}
-use Rattle.sharc_code.specs.{declared.code.PlaceMode.PlaceMode, declared.code.PlaceMode.TheVariants.{Private, Readonly, Racy, Dynamic, LockedGlobal, LockedSibling, LockedThrough, LockedLoaded}, declared.code.Use.Use, declared.instr.Cell.Cell, declared.instr.Register.Register, declared.state.Frame.Frame}
+use Rattle.sharc_code.specs.{declared.code.PlaceMode.PlaceMode, declared.code.PlaceMode.TheVariants.LockedGlobal, declared.code.Use.Use, declared.instr.Cell.Cell, declared.instr.Register.Register, declared.state.Frame.Frame}
 use Rattle.sharc_code.specs.declared.code.Use.TheVariants as uses
 use Rattle.sharc_code.specs.declared.instr.Cell.TheVariants as cells
 use Rattle.sharc_code.specs.declared.instr.Register.TheVariants as registers
@@ -14,25 +14,17 @@ use Rattle.sharc_guard.specs.{Machine.{Program, Thread, Running}, Guard.{place, 
 
 -- ---- the words of both
 pub zero_same : (z : ℤ) → Code.is_zero z ≡ is_zero z
-zero_same (pos zero) = refl
 zero_same (pos (suc n)) = refl
-zero_same (negsuc n) = refl
+zero_same _ = refl
 
 pub kind_same : (u : Use) → Says.kind_of u ≡ take_kind_of u
 kind_same (uses.Free x) = refl
-kind_same (uses.Cast x) = refl
-kind_same uses.Read = refl
-kind_same uses.Write = refl
-kind_same uses.Other = refl
+kind_same _ = refl
 
 pub variable_same : (u : Use) → Says.variable_of u ≡ variable_of u
 variable_same (uses.Cast (Some x)) = refl
 variable_same (uses.Free (Some x)) = refl
-variable_same (uses.Cast None) = refl
-variable_same (uses.Free None) = refl
-variable_same uses.Read = refl
-variable_same uses.Write = refl
-variable_same uses.Other = refl
+variable_same _ = refl
 
 -- ---- guarded code beside flat code
 abbrev pub callers : (ℕ → ℕ) → List Caller → List Frame
@@ -69,36 +61,20 @@ module _ (dropped : ℕ → Bool) (flat : Flat) (m : At) (q : ℕ) (h : List Cel
 
   pub cell_same : (c : Cell) → Form.cell_at p me c ≡ cell_at flat.globals m c
   cell_same (cells.Global g n) = refl
-  cell_same (cells.GlobalAt g i) = refl
-  cell_same (cells.Object r n) = refl
-  cell_same (cells.ObjectAt r i) = refl
+  cell_same _ = refl
 
   pub null_same : (c : Cell) → Form.is_of_null me c ≡ is_of_null m c
   null_same (cells.Global g n) = refl
-  null_same (cells.GlobalAt g i) = refl
-  null_same (cells.Object r n) = refl
-  null_same (cells.ObjectAt r i) = refl
+  null_same _ = refl
 
   pub argument_same : (r : Register) → Form.argument me r ≡ argument m r
   argument_same (registers.Int i) = refl
   argument_same (registers.Reference r) = refl
 
   pub mode_same : (c : CellAt) (mode : PlaceMode) → Form.mode_of p me c mode ≡ cell_mode_of flat.globals m c mode
-  mode_same c Private = refl
-  mode_same c Readonly = refl
-  mode_same c Racy = refl
-  mode_same c Dynamic = refl
   mode_same c (LockedGlobal g n) = refl
-  mode_same c (LockedSibling f n) = refl
-  mode_same c (LockedThrough r n) = refl
-  mode_same c LockedLoaded = refl
+  mode_same c _ = refl
 
   pub object_same : (mode : PlaceMode) → Form.mode_of p me (Says.made_cell 0 0) mode ≡ instance_mode flat.globals m mode
-  object_same Private = refl
-  object_same Readonly = refl
-  object_same Racy = refl
-  object_same Dynamic = refl
   object_same (LockedGlobal g n) = refl
-  object_same (LockedSibling f n) = refl
-  object_same (LockedThrough r n) = refl
-  object_same LockedLoaded = refl
+  object_same _ = refl

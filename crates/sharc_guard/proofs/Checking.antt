@@ -1,6 +1,6 @@
 -- Each access comes after its check.
 use Rattle.std.proofs.{Common.{◌≡◌, ℕ, zero, suc, ◌+◌, ◌-◌, ◌<◌, ◌≤◌, ◌⊎◌, inl, inr, Bool, true, false, List, [], ◌∷◌, ◌++◌, length, map, refl, sym, ap, ◌∙◌, subst, ⊎_elim, arith, Some, None, slice_get, slice_index_or, cond}, lemmas.Bool.cases_lt, lemmas.List.{append_assoc, length-map}}
-use Rattle.sharc_code.specs.{declared.code.Function.Function, declared.code.PlaceMode.PlaceMode, declared.code.PlaceMode.TheVariants.{Private, Readonly, Racy, Dynamic, LockedGlobal, LockedSibling, LockedThrough, LockedLoaded}, declared.code.SourcePlace.SourcePlace, declared.instr.Cell.TheVariants.{Global, Object}, declared.instr.Width.TheVariants.{Char, Int, Long}, declared.instr.Instr.Instr, declared.instr.Instr.TheVariants.{Start, Exit, ChkRead, ChkWrite, ChkLock, ChkLockLoaded, Load, Store, LoadRef, Exchange, TakeCell}, Machine.no_function}
+use Rattle.sharc_code.specs.{declared.code.Function.Function, declared.code.PlaceMode.PlaceMode, declared.code.PlaceMode.TheVariants.{Dynamic, LockedGlobal, LockedSibling, LockedThrough, LockedLoaded}, declared.code.SourcePlace.SourcePlace, declared.instr.Cell.TheVariants.{Global, Object}, declared.instr.Width.TheVariants.Char, declared.instr.Instr.Instr, declared.instr.Instr.TheVariants.{Start, Exit, ChkRead, ChkWrite, ChkLock, ChkLockLoaded, Load, Store, LoadRef, Exchange, TakeCell}, Machine.no_function}
 use Rattle.sharc_flat.specs.{declared.op.Op.Op, declared.op.Spot.Spot, Machine.Flat}
 use Rattle.sharc_flat.specs.declared.op.Op.TheVariants as op
 use Rattle.sharc_guard.specs.{Machine.{Program, source_at}, Guard.{expand, head, body, tail, own, width, offset, place, guarded, entered_at, source_of, check_under}, Checked.{Access, access_of, IsCheckOf, LeadsTo, IsNoTarget, IsAfterCheck, IsCheckedAt}}
@@ -51,11 +51,7 @@ module _ (flat : Flat) (dropped : ℕ → Bool) where
   own_to n op.Enter = tt
   own_to n op.BlockEnd = tt
   own_to n (op.Compute Char operator i a b spot) = (λ pc h. absurd h, tt)
-  own_to n (op.Compute Int operator i a b spot) = (λ pc h. absurd h, tt)
-  own_to n (op.Compute Long operator i a b spot) = (λ pc h. absurd h, tt)
   own_to n (op.Negate Char i a spot) = (λ pc h. absurd h, tt)
-  own_to n (op.Negate Int i a spot) = (λ pc h. absurd h, tt)
-  own_to n (op.Negate Long i a spot) = (λ pc h. absurd h, tt)
   own_to n (op.Skip k) = (λ pc h. (n + 1 + k, h), tt)
   own_to n (op.SkipIfZero i k) = (λ pc h. (n + 1 + k, h), tt)
   own_to n (op.SkipIfNull r k) = (λ pc h. (n + 1 + k, h), tt)
@@ -137,15 +133,13 @@ module _ (flat : Flat) (dropped : ℕ → Bool) where
   -- an access under a mode, after what the mode asks for
   checked : (n pc : ℕ) (o : Op) (e : slice_get flat.lines n ≡ Some o) (drop : Bool) (spot : Spot) (mode : PlaceMode) (a : Access) (dynamic : Instr) (rest : List Instr) → a.site ≡ n → dynamic ≡ (cond a.is_write (ChkWrite a.cell a.site) (ChkRead a.cell a.site))
       → (drop ≡ true → dropped n ≡ true) → expand pl (dropped n) n o ≡ check_under drop dynamic spot n mode ++ rest → 0 < length rest → pc ≡ pl n + length (check_under drop dynamic spot n mode) → IsCheckedAt dropped p pc mode a
-  checked n pc o e drop spot Private a dynamic rest s d dr x lt q = tt
-  checked n pc o e drop spot Readonly a dynamic rest s d dr x lt q = tt
-  checked n pc o e drop spot Racy a dynamic rest s d dr x lt q = tt
   checked n pc o e true spot Dynamic a dynamic rest s d dr x lt q = inl (ap dropped s ∙ dr refl)
   checked n pc o e false spot Dynamic a dynamic rest s d dr x lt q = inr (behind n pc o e Dynamic a dynamic rest x lt q d)
   checked n pc o e drop spot (LockedGlobal g pl2) a dynamic rest s d dr x lt q = behind n pc o e (LockedGlobal g pl2) a (ChkLock (Global g pl2) n) rest x lt q (ap (ChkLock (Global g pl2)) (sym s))
   checked n pc o e drop spot (LockedSibling f m) a dynamic rest s d dr x lt q = behind n pc o e (LockedSibling f m) a (ChkLock spot.lock n) rest x lt q (spot.lock, ap (ChkLock spot.lock) (sym s))
   checked n pc o e drop spot (LockedThrough r pl2) a dynamic rest s d dr x lt q = behind n pc o e (LockedThrough r pl2) a (ChkLock (Object r pl2) n) rest x lt q (ap (ChkLock (Object r pl2)) (sym s))
   checked n pc o e drop spot LockedLoaded a dynamic rest s d dr x lt q = behind n pc o e LockedLoaded a (ChkLockLoaded n) rest x lt q (ap ChkLockLoaded (sym s))
+  checked n pc o e drop spot _ a dynamic rest s d dr x lt q = tt
 
   -- the other statements access nothing
   abbrev Idle : Instr → Type 0
@@ -174,11 +168,7 @@ module _ (flat : Flat) (dropped : ℕ → Bool) where
   own_idle n op.Enter = inr tt
   own_idle n op.BlockEnd = inr tt
   own_idle n (op.Compute Char operator i a b spot) = inr (refl, tt)
-  own_idle n (op.Compute Int operator i a b spot) = inr (refl, tt)
-  own_idle n (op.Compute Long operator i a b spot) = inr (refl, tt)
   own_idle n (op.Negate Char i a spot) = inr (refl, tt)
-  own_idle n (op.Negate Int i a spot) = inr (refl, tt)
-  own_idle n (op.Negate Long i a spot) = inr (refl, tt)
   own_idle n (op.Load i cell spot) = inl tt
   own_idle n (op.Store i cell spot) = inl tt
   own_idle n (op.LoadRef r cell spot) = inl tt

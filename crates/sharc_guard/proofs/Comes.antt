@@ -96,10 +96,9 @@ module _ (dropped : ℕ → Bool) (flat : Flat) (level : IsLevel flat) where
   -- a turn that leads on
   pub passed : (rest : Type 0) (t : Turn) (a : Thread) (t2 : Form.Turn) (x : ℤ) → Passes dropped flat (record { pc = 0; int_base = 0; ref_base = 0; ints = λ k. pos 0; refs = λ k. pos 0; frames = []; pending = pos 0; function = 0; events = []; given = [] }) rest t a t2 → Path.may_go t2 ≡ true
       → (Path.after a t2 x ≡ Form.next a) × rest × (guarded_asked_by t2 x ≡ [])
-  passed rest t a (Form.Goes b) x h go = (h.0, h.1, refl)
-  passed rest t a (Form.Checks c site b) x h go = (h.0, h.1, refl)
   passed rest t a (Form.Halts o) x h go = absurd (cc)
   passed rest t a (Form.Asks site act g) x h go = absurd h
+  passed rest t a _ x h go = (h.0, h.1, refl)
 
   module _ (from : At) (begun : Thread) (locks : LocksFrom flat from) where
     abbrev C : List ℤ → Type 0

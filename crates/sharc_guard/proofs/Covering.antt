@@ -13,10 +13,10 @@ use Rattle.sharc_code.specs.declared.code.Parameter.TheVariants as parameters
 use Rattle.sharc_code.specs.declared.instr.Cell.TheVariants as cells
 use Rattle.sharc_code.specs.declared.instr.Register.TheVariants as registers
 use Rattle.sharc_meaning.specs.{declared.given.GivenUp.TheVariants.Replaced, Arithmetic.is_zero, Cells.cell_of, Events.{held_mutexes, holds_mutex}, Reference.{number_of, elements_of}, Statements.is_positive}
-use Rattle.sharc_flat.specs.{declared.op.Op.Op, declared.op.Spot.Spot, Machine.{Flat, Caller, At, Turn, goes, asks, halts, put, int, ref, set_int, set_ref, gives_up, next, over_lines, goes_on, stops, asserts, with_result, cell_at, global_cell, cell_mode_of, lock_is_null, accesses, accessed, take_kind_of, indexed, takes_local, called, returned, function_of, first_at, begun, start, end_turn, line_turn, op_turn, turn, with_event}, Path.{after, may_go, at_after, IsPath}}
+use Rattle.sharc_flat.specs.{declared.op.Op.Op, declared.op.Spot.Spot, Machine.{Flat, Caller, At, Turn, goes, asks, put, int, ref, set_int, set_ref, gives_up, next, over_lines, goes_on, stops, asserts, with_result, cell_at, global_cell, cell_mode_of, lock_is_null, accesses, accessed, take_kind_of, indexed, takes_local, called, returned, function_of, first_at, begun, start, end_turn, line_turn, op_turn, turn, with_event}, Path.{after, may_go, at_after, IsPath}}
 use Rattle.sharc_flat.specs.declared.op.Op.TheVariants as op
 use Rattle.sharc_guard.specs.{Counted.IsAccess, Known.{is_straight, leads_to, line_leads, is_led_to, is_entry, is_target, writes_ref, writes_int, SimplePlace, in_variable, in_global, assigns, counts, Access, access, is_dynamic, tells, Know, nothing, number_given, copy_given, unless_written, with_element, variable_place, global_place, place_of, is_at, passes_by, know_next, know_after, known, has_passed, drops, drops_at, dropped}, Repeated.IsStraight, Covered.{Makes, Since, IsCovered, DroppedIsCovered}}
-use Rattle.sharc_guard.proofs.{Ready.{put_at, put_other}, Repeating.{eq_same, place_is, dynamic_is, no_some, true_false, constant_is, element_is, unwritten, copy_is, counts_more}}
+use Rattle.sharc_guard.proofs.{Ready.{put_at, put_other}, Repeating.{eq_same, place_is, dynamic_is, no_some, true_false, constant_is, element_is, unwritten, copy_is, counts_more}, Untargeted.itself as self}
 use Rattle.sharc_lemmas.proofs.{Options.{same_some as some_is}, Bools.{and_left, or_split as or_either, not_true, and_right, false_true}, Lists.{there_is as within}, Numbers.{same_number as eq_true}}
 
 or_false : (a b : Bool) → (a || b) ≡ false → (a ≡ false) × (b ≡ false)
@@ -141,9 +141,8 @@ module _ (flat : Flat) (from : At) where
   )
     where
       by : (t : Turn) → Makes t a cell → Makes t b cell
-      by (goes m2) z = absurd z
       by (asks m2 site act held f) z = (z.0, counts_more z.0 a b z.1 c, z.2)
-      by (halts q) z = absurd z
+      by _ z = absurd z
 
   place_true : (answers : List ℤ) (k : Know) → Holds k answers → (cell : Cell) (place : SimplePlace) → place_of k cell ≡ Some place → cell_at flat.globals (at answers) cell ≡ cell_in (at answers) place
   place_true answers k ks (cells.Global g n) place e = ap (cell_in (at answers)) (some_is (in_global g n) place e)
@@ -339,9 +338,6 @@ module _ (flat : Flat) (from : At) where
       jumps_to : (to : ℕ) → then_ o ≡ record m { pc = to } → leads_to m.pc o to ≡ true → Stepped x earlier o
       jumps_to to e h = goes_away (record m { pc = to }) e (inl (target_blank to (or_left (is_led_to flat.lines (length flat.lines) to) (is_entry flat.functions to) (led flat.lines (length flat.lines) m.pc o to (within flat.lines m.pc o at_o) at_o h)))) fr
 
-    self : (n : ℕ) → (n == n) ≡ true
-    self n = eq_same n n refl
-
     -- ---- what a turn leads to, where it may go on
     of_result : (i : ℕ) (spot : Spot) (z : Result ℤ Trap) → may_go (with_result i spot m z) ≡ true → (v : ℤ) × (after m (with_result i spot m z) x ≡ next (set_int i v m))
     of_result i spot (Ok v) e = (v, refl)
@@ -521,23 +517,16 @@ module _ (flat : Flat) (from : At) where
         by true e = blank_on o a refl (after m (takes_local r y spot m true) x) (ap (λ b. after m (takes_local r y spot m b) x) e) refl refl
         by false e = blank_on o a refl (after m (takes_local r y spot m false) x) (ap (λ b. after m (takes_local r y spot m b) x) e) refl refl
     steps (op.Give r cells spot) a go = blank_on (op.Give r cells spot) a refl (then_ (op.Give r cells spot)) refl refl refl
-    steps (op.Free r layout spot) a go = blank_on (op.Free r layout spot) a refl (then_ (op.Free r layout spot)) refl refl refl
     steps (op.Lock cell spot) a go = by cell a
       where
         by : (c : Cell) → slice_get flat.lines m.pc ≡ Some (op.Lock c spot) → Stepped x earlier (op.Lock c spot)
         by (cells.Global g n) a = blank_on (op.Lock (cells.Global g n) spot) a refl (then_ (op.Lock (cells.Global g n) spot)) refl refl refl
-        by (cells.GlobalAt g n) a = blank_on (op.Lock (cells.GlobalAt g n) spot) a refl (then_ (op.Lock (cells.GlobalAt g n) spot)) refl refl refl
-        by (cells.Object g n) a = blank_on (op.Lock (cells.Object g n) spot) a refl (then_ (op.Lock (cells.Object g n) spot)) refl refl refl
-        by (cells.ObjectAt g n) a = blank_on (op.Lock (cells.ObjectAt g n) spot) a refl (then_ (op.Lock (cells.ObjectAt g n) spot)) refl refl refl
-    steps (op.Unlock r cell spot) a go = blank_on (op.Unlock r cell spot) a refl (then_ (op.Unlock r cell spot)) refl refl refl
-    steps (op.CondEnter cell spot) a go = blank_on (op.CondEnter cell spot) a refl (then_ (op.CondEnter cell spot)) refl refl refl
-    steps (op.CondWait cell spot) a go = blank_on (op.CondWait cell spot) a refl (then_ (op.CondWait cell spot)) refl refl refl
+        by k a = blank_on (op.Lock k spot) a refl (then_ (op.Lock k spot)) refl refl refl
     steps (op.CondSignal cell spot) a go = same_at (op.CondSignal cell spot) a (then_ (op.CondSignal cell spot)) refl refl refl refl refl refl refl refl refl (λ k. refl) (λ k. refl)
     steps (op.CondBroadcast cell spot) a go = same_at (op.CondBroadcast cell spot) a (then_ (op.CondBroadcast cell spot)) refl refl refl refl refl refl refl refl refl (λ k. refl) (λ k. refl)
     steps (op.Spawn i f (registers.Int j) spot) a go = blank_on (op.Spawn i f (registers.Int j) spot) a refl (then_ (op.Spawn i f (registers.Int j) spot)) refl refl refl
-    steps (op.Spawn i f (registers.Reference j) spot) a go = blank_on (op.Spawn i f (registers.Reference j) spot) a refl (then_ (op.Spawn i f (registers.Reference j) spot)) refl refl refl
-    steps (op.Join i spot) a go = blank_on (op.Join i spot) a refl (then_ (op.Join i spot)) refl refl refl
     steps (op.Print i spot) a go = same_at (op.Print i spot) a (then_ (op.Print i spot)) refl refl refl refl refl refl refl refl refl (λ k. refl) (λ k. refl)
+    steps k a go = blank_on k a refl (then_ k) refl refl refl
 
   -- ---- every place of a path
   record Truth (answers : List ℤ) : Type 0 where
@@ -552,9 +541,8 @@ module _ (flat : Flat) (from : At) where
       by false h s = inl (ap (known flat) s ∙ ap (λ b. cond b nothing (know_after (slice_get flat.lines n) (known flat n))) h ∙ ap (λ l. know_after l (known flat n)) e)
 
   end_stays : (m : At) (x : ℤ) (n : ℕ) → may_go (end_turn flat m n) ≡ true → ((after m (end_turn flat m n) x).pc ≡ m.pc + 1) × ((after m (end_turn flat m n) x).frames ≡ m.frames)
-  end_stays m x zero e = (refl, refl)
-  end_stays m x (suc zero) e = (refl, refl)
   end_stays m x (suc (suc n)) e = false_true e
+  end_stays m x _ e = (refl, refl)
 
   module _ (x : ℤ) (earlier : List ℤ) (h : Truth earlier) where
     abbrev now : At
@@ -615,9 +603,8 @@ module _ (flat : Flat) (from : At) where
       each ks _ d = false_true d
 
 begun_pc : (q : Parameter) (v : ℤ) (m : At) → ((begun q v m).pc ≡ m.pc) × ((begun q v m).frames ≡ m.frames)
-begun_pc parameters.None v m = (refl, refl)
 begun_pc parameters.Int v m = (refl, refl)
-begun_pc parameters.Reference v m = (refl, refl)
+begun_pc _ v m = (refl, refl)
 
 pub covered : DroppedIsCovered
 covered flat f v known_f answers path d =

@@ -5,25 +5,22 @@ use Rattle.sharc_tree.specs.{declared.event.Act.Act, declared.event.CellAt.CellA
 use Rattle.sharc_tree.specs.declared.event.Act.TheVariants as acts
 use Rattle.sharc_tree.specs.declared.event.Taken.TheVariants as takens
 use Rattle.sharc_tree.specs.declared.trap.Trap.TheVariants as traps
-use Rattle.sharc_code.specs.{declared.code.Function.Function, declared.code.SourcePlace.SourcePlace, declared.instr.Width.Width, declared.instr.Width.TheVariants.{Char, Int, Long}, declared.instr.Cell.Cell, declared.instr.Cell.TheVariants.{Global, GlobalAt, Object as InObject, ObjectAt}, declared.instr.Register.Register, declared.instr.Instr.Instr, declared.instr.Instr.TheVariants.{RaiseLoaded, Lower, MoveReference, LoadRef, TakeCell, Lock, Spawn, Exit}, declared.instr.Operator.Operator, Arithmetic.{computed, negated}, Machine.{no_function, is_positive, elements_of as elements_made}, declared.code.Use.Use, Says.{variable_of, kind_of, made_cell}, declared.code.PlaceMode.TheVariants.Readonly, Runs.put}
+use Rattle.sharc_code.specs.{declared.code.Function.Function, declared.code.SourcePlace.SourcePlace, declared.instr.Width.Width, declared.instr.Width.TheVariants.{Char, Int}, declared.instr.Cell.Cell, declared.instr.Cell.TheVariants.{Object as InObject, ObjectAt}, declared.instr.Register.Register, declared.instr.Instr.Instr, declared.instr.Instr.TheVariants.{RaiseLoaded, Lower, MoveReference, LoadRef, TakeCell, Lock, Spawn, Exit}, declared.instr.Operator.Operator, Arithmetic.{computed, negated}, Machine.{no_function, is_positive, elements_of as elements_made}, Says.{variable_of, kind_of, made_cell}, declared.code.PlaceMode.TheVariants.Readonly, Runs.put}
 use Rattle.sharc_code.specs.declared.instr.Register.TheVariants as registers
 use Rattle.sharc_meaning.specs.{Statements.{is_positive as positive}, declared.given.GivenUp.GivenUp, declared.given.GivenUp.TheVariants.{Released, Replaced, Emptied}, Events.{held_mutexes, locked_by, unlocked_by}, Reference.{NULL, is_null, number_of}, State.{stopped, ended, event_of, answer_of}}
-use Rattle.sharc_code.specs.declared.code.Use.TheVariants as uses
 use Rattle.sharc_flat.specs.{declared.op.Op.Op, declared.op.Spot.Spot, Machine.{goes, asks, halts, op_turn}, Path.after, Framed.{IsFlat, Leads, IsWide}}
 use Rattle.sharc_flat.specs.declared.op.Op.TheVariants as op
 use Rattle.sharc_flat.specs.Machine as Flat
 use Rattle.sharc_guard.specs.Machine as Form
 use Rattle.sharc_guard.specs.{Machine.{Program, Thread, Phase, Running, Leaving, Left, Turn, Goes, Asks, Checks, Halts, Stopped, step, source_at, statement_at}, Path.weight, Guard.{source_of, source_at_spot, compute, negate, body, tail, entered_at}, Correct.{Resolved, moved, bottom, image}}
-use Rattle.sharc_guard.proofs.{Holding.{quiet_held, lock_held, unlock_held, funext}, Placing.{HasAt, pl, p}}
+use Rattle.sharc_guard.proofs.{Holding.{quiet_held, lock_held, unlock_held, funext}, Placing.{HasAt, pl, p}, Beside.{variable_same, kind_same}}
 
 resolved_push : (gs : List GivenUp) (ks : List ℕ) (n : ℕ) → Resolved gs ks → Resolved (gs ++ Released n ∷ []) (ks ++ n ∷ [])
 resolved_push [] [] n h = (refl, tt)
-resolved_push [] (k ∷ ks) n h = absurd h
-resolved_push (Released j ∷ gs) [] n h = absurd h
 resolved_push (Released j ∷ gs) (k ∷ ks) n h = (h.0, resolved_push gs ks n h.1)
-resolved_push (Replaced c ∷ gs) [] n h = absurd h
 resolved_push (Replaced c ∷ gs) (k ∷ ks) n h = resolved_push gs ks n h
 resolved_push (Emptied j ∷ gs) ks n h = resolved_push gs ks n h
+resolved_push _ _ n h = absurd h
 
 -- an access finds its lock's path not leading through NULL
 abbrev pub Unlocked : Flat.At → Op → Type 0
@@ -328,14 +325,12 @@ module _ (dropped : ℕ → Bool) (flat : Flat.Flat) where
       computes : (width : Width) (operator : Operator) (i a b : ℕ) (spot : Spot) → IsWide width → q + 1 ≡ at (m.pc + 1) → m.pc + 1 < length flat.lines → spot.site ≡ (source_at g m.pc).site
           → Follow (Flat.with_result i spot m (computed width operator (Flat.int m a) (Flat.int m b))) (step g (compute width operator i a b m.pc) me)
       computes Char operator i a b spot w e lt s = absurd w
-      computes Int operator i a b spot w e lt s = results e lt i m.pc spot _ s
-      computes Long operator i a b spot w e lt s = results e lt i m.pc spot _ s
+      computes _ operator i a b spot w e lt s = results e lt i m.pc spot _ s
 
       negates : (width : Width) (i a : ℕ) (spot : Spot) → IsWide width → q + 1 ≡ at (m.pc + 1) → m.pc + 1 < length flat.lines → spot.site ≡ (source_at g m.pc).site
           → Follow (Flat.with_result i spot m (negated width (Flat.int m a))) (step g (negate width i a m.pc) me)
       negates Char i a spot w e lt s = absurd w
-      negates Int i a spot w e lt s = results e lt i m.pc spot _ s
-      negates Long i a spot w e lt s = results e lt i m.pc spot _ s
+      negates _ i a spot w e lt s = results e lt i m.pc spot _ s
 
       -- an event that changes nothing else
       tells : (e : q + 1 ≡ at (m.pc + 1)) (lt : m.pc + 1 < length flat.lines) (spot : Spot) (s : source_at g m.pc ≡ source_at_spot spot) (act : Act) → locked_by act ≡ None → unlocked_by act ≡ None
@@ -348,22 +343,6 @@ module _ (dropped : ℕ → Bool) (flat : Flat.Flat) where
             subst (λ z. Near (Flat.next (Flat.with_event (event_of spot.site act z) m)) (Form.next (Form.told me spot.site act (pos 0)))) (sym (silent (pos 0)))
                 (quiet e lt (Flat.next (Flat.with_event (event_of spot.site act (pos 0)) m)) (event_of spot.site act (pos 0)) refl l u refl refl calls),
           ))
-
-      variable_same : (u : Use) → variable_of u ≡ Flat.variable_of u
-      variable_same uses.Read = refl
-      variable_same uses.Write = refl
-      variable_same (uses.Cast None) = refl
-      variable_same (uses.Cast (Some v)) = refl
-      variable_same (uses.Free None) = refl
-      variable_same (uses.Free (Some v)) = refl
-      variable_same uses.Other = refl
-
-      kind_same : (u : Use) → kind_of u ≡ Flat.take_kind_of u
-      kind_same uses.Read = refl
-      kind_same uses.Write = refl
-      kind_same (uses.Cast v) = refl
-      kind_same (uses.Free v) = refl
-      kind_same uses.Other = refl
 
       abbrev taking : ℕ → ℕ → Turn
       taking r x = Form.asks_at g me m.pc (acts.Take (takens.Local (variable_of (source_at g m.pc).at)) (kind_of (source_at g m.pc).at)) (λ y. Form.ref me x) (λ y b. Form.next (Form.move_ref b r x))
@@ -387,10 +366,9 @@ module _ (dropped : ℕ → Bool) (flat : Flat.Flat) where
           (λ x. (pos 0, by_cell cell c))
         where
           by_cell : (cell : Cell) (c : CellAt) → Near (Flat.next (Flat.without_base cell (Flat.with_event (event_of spot.site (acts.Lock c) (pos 0)) m))) (Form.next (record (Form.without_base (Form.told me spot.site (acts.Lock c) (pos 0)) cell) { held = held_mutexes m.events ++ c ∷ [] }))
-          by_cell (Global k n) c = near e lt (Flat.next (Flat.with_event (event_of spot.site (acts.Lock c) (pos 0)) m)) [] (held_mutexes m.events ++ c ∷ []) (sym (lock_held m.events (event_of spot.site (acts.Lock c) (pos 0)) c refl refl)) refl tt calls
-          by_cell (GlobalAt k n) c = near e lt (Flat.next (Flat.with_event (event_of spot.site (acts.Lock c) (pos 0)) m)) [] (held_mutexes m.events ++ c ∷ []) (sym (lock_held m.events (event_of spot.site (acts.Lock c) (pos 0)) c refl refl)) refl tt calls
           by_cell (InObject r n) c = near e lt (Flat.next (Flat.set_ref r (pos 0) (Flat.with_event (event_of spot.site (acts.Lock c) (pos 0)) m))) [] (held_mutexes m.events ++ c ∷ []) (sym (lock_held m.events (event_of spot.site (acts.Lock c) (pos 0)) c refl refl)) refl tt calls
           by_cell (ObjectAt r n) c = near e lt (Flat.next (Flat.set_ref r (pos 0) (Flat.with_event (event_of spot.site (acts.Lock c) (pos 0)) m))) [] (held_mutexes m.events ++ c ∷ []) (sym (lock_held m.events (event_of spot.site (acts.Lock c) (pos 0)) c refl refl)) refl tt calls
+          by_cell _ c = near e lt (Flat.next (Flat.with_event (event_of spot.site (acts.Lock c) (pos 0)) m)) [] (held_mutexes m.events ++ c ∷ []) (sym (lock_held m.events (event_of spot.site (acts.Lock c) (pos 0)) c refl refl)) refl tt calls
 
       spawns : (e : q + 1 ≡ at (m.pc + 1)) (lt : m.pc + 1 < length flat.lines) (i f : ℕ) (from : Register) (spot : Spot) (s : source_at g m.pc ≡ source_at_spot spot)
           → Follow (op_turn flat (op.Spawn i f from spot) m) (step g (Spawn i f from m.pc) me)
@@ -402,9 +380,8 @@ module _ (dropped : ℕ → Bool) (flat : Flat.Flat) where
           (λ x. (x, quiet e lt (Flat.next (Flat.set_int i x (Flat.set_ref k (pos 0) (Flat.with_event (event_of spot.site (acts.Spawn f (Flat.ref m k)) x) m)))) (event_of spot.site (acts.Spawn f (Flat.ref m k)) x) refl refl refl refl refl calls))
 
       positive_same : (z : ℤ) → is_positive z ≡ positive z
-      positive_same (pos zero) = refl
       positive_same (pos (suc n)) = ap not (ne_eqb (suc n) 0 (λ k. omega arith))
-      positive_same (negsuc n) = refl
+      positive_same _ = refl
 
       taken_same : (r : ℕ) (cell : Cell) (spot : Spot) → source_at g m.pc ≡ source_at_spot spot
           → step g (TakeCell r cell m.pc) me ≡ Form.access_at g me m.pc cell (λ c mode. acts.Take (takens.Cell c mode) (Flat.take_kind_of spot.at)) Form.given (λ x b. Form.next (Form.accessed (Form.set_ref b r x)))
@@ -425,8 +402,6 @@ module _ (dropped : ℕ → Bool) (flat : Flat.Flat) where
       site_of o spot s k = sym (ap (λ (sp : SourcePlace). sp.site) s ∙ k)
 
       pub follows : (o : Op) → source_at g m.pc ≡ source_of o → Leads flat m.pc o → q + (1 + length (tail o)) ≡ at (m.pc + 1) → HasAt g.statements (q + 1) (tail o) → Unlocked m o → Bodied o (body at m.pc o)
-      follows op.Enter s lead e has un = tt
-      follows op.BlockEnd s lead e has un = tt
       follows (op.Constant i v) s lead e has un = plain (omega arith) lead (Flat.next (Flat.set_int i v m)) refl refl refl calls
       follows (op.Move i from) s lead e has un = plain (omega arith) lead (Flat.next (Flat.set_int i (Flat.int m from) m)) refl refl refl calls
       follows (op.Compute width operator i a b spot) s lead e has un = computes width operator i a b spot lead.0 (omega arith) lead.1 (site_of (op.Compute width operator i a b spot) spot s refl)
@@ -501,3 +476,4 @@ module _ (dropped : ℕ → Bool) (flat : Flat.Flat) where
       follows (op.Spawn i f from spot) s lead e has un = spawns (omega arith) lead i f from spot s
       follows (op.Join i spot) s lead e has un = tells (omega arith) lead spot s (acts.Join (Flat.int m i)) refl refl (λ x. refl)
       follows (op.Print i spot) s lead e has un = tells (omega arith) lead spot s (acts.Print (Flat.int m i)) refl refl (λ x. refl)
+      follows _ s lead e has un = tt

@@ -1,7 +1,7 @@
 -- The guarded code of framed flat code is well formed.
-use Rattle.std.proofs.{Common.{◌≡◌, ℕ, zero, suc, ◌+◌, ◌-◌, ◌*◌, ◌^◌, ◌<◌, ◌≤◌, max, Bool, true, false, List, [], ◌∷◌, ◌++◌, length, map, fold, refl, sym, ap, ◌∙◌, subst, ⊎_elim, arith, Some, nat_lt, slice_get, slice_index_or}, lemmas.Bool.{lt-ltb, le-ltb, cases_lt}, lemmas.List.{length-append, length-map}}
+use Rattle.std.proofs.{Common.{◌≡◌, ℕ, zero, suc, ◌+◌, ◌-◌, ◌*◌, ◌^◌, ◌<◌, ◌≤◌, max, Bool, false, List, [], ◌∷◌, ◌++◌, length, map, fold, refl, sym, ap, ◌∙◌, subst, ⊎_elim, arith, Some, nat_lt, slice_get, slice_index_or}, lemmas.Bool.{lt-ltb, le-ltb, cases_lt}, lemmas.List.{length-append, length-map}}
 use Rattle.std.specs.Prelude.{if◌then◌else◌}
-use Rattle.sharc_code.specs.{declared.code.Function.Function, declared.code.Parameter.Parameter, declared.code.PlaceMode.PlaceMode, declared.code.PlaceMode.TheVariants.{Private, Readonly, Racy, Dynamic, LockedGlobal, LockedSibling, LockedThrough, LockedLoaded}, declared.code.GlobalCells.GlobalCells, declared.instr.Cell.Cell, declared.instr.Register.Register, declared.instr.Width.TheVariants.{Char, Int, Long}, declared.instr.Instr.Instr, declared.instr.Instr.TheVariants.{Jump, JumpIfZero, JumpIfNull, Call, Return, Start, Exit, ChkRead, ChkWrite, ChkLock, ChkLockLoaded, TestSole, Clear}, Machine.no_function, Ranges.IsInGlobal}
+use Rattle.sharc_code.specs.{declared.code.Function.Function, declared.code.Parameter.Parameter, declared.code.PlaceMode.PlaceMode, declared.code.PlaceMode.TheVariants.{Dynamic, LockedGlobal, LockedSibling, LockedThrough, LockedLoaded}, declared.code.GlobalCells.GlobalCells, declared.instr.Cell.Cell, declared.instr.Register.Register, declared.instr.Width.TheVariants.{Char, Int}, declared.instr.Instr.Instr, declared.instr.Instr.TheVariants.{Jump, JumpIfZero, JumpIfNull, Call, Return, Start, Exit, ChkRead, ChkWrite, ChkLock, ChkLockLoaded, TestSole, Clear}, Machine.no_function, Ranges.IsInGlobal}
 use Rattle.sharc_code.specs.declared.code.Parameter.TheVariants as parameters
 use Rattle.sharc_code.specs.declared.instr.Cell.TheVariants as cells
 use Rattle.sharc_code.specs.declared.instr.Register.TheVariants as registers
@@ -9,7 +9,7 @@ use Rattle.sharc_flat.specs.{declared.op.Op.Op, declared.op.Spot.Spot, Machine.{
 use Rattle.sharc_flat.specs.declared.op.Op.TheVariants as op
 use Rattle.sharc_guard.specs.{Form.{WritesWithin, BaseWithin, HandedWithin, HasFewCells, IsBody, Leads, IsAtPlace, HasParameter, IsEntry, IsGuarded}, Machine.{Program, function_at}, Guard.{expand, head, body, tail, own, width, offset, place, expanded, guarded, entered_at, check_under}}
 use Rattle.sharc_flat.specs.Framed as Framed
-use Rattle.sharc_guard.proofs.{Placing.{HasAt, width_is, stands, place_next}, Walking.{IsIdle, idle_length, bodied}}
+use Rattle.sharc_guard.proofs.{Placing.{HasAt, width_is, stands, place_next}, Walking.{IsIdle, idle_length, bodied, line_at as line_there}}
 
 -- ---- the line of a place
 line_from : (ℕ → Bool) → ℕ → List Op → ℕ → ℕ
@@ -112,15 +112,12 @@ abbrev Good : ℕ → ℕ → Instr → Type 0
 Good ints refs i = WritesWithin ints refs i × HasFewCells i
 
 check_all : (P : Instr → Type 0) (drop : Bool) (dynamic : Instr) (spot : Spot) (n : ℕ) (mode : PlaceMode) → P dynamic → ((c : Cell) → P (ChkLock c n)) → P (ChkLockLoaded n) → AllIn P (check_under drop dynamic spot n mode)
-check_all P drop dynamic spot n Private d l m = tt
-check_all P drop dynamic spot n Readonly d l m = tt
-check_all P drop dynamic spot n Racy d l m = tt
-check_all P true dynamic spot n Dynamic d l m = tt
 check_all P false dynamic spot n Dynamic d l m = (d, tt)
 check_all P drop dynamic spot n (LockedGlobal g place) d l m = (l _, tt)
 check_all P drop dynamic spot n (LockedSibling field mutex) d l m = (l _, tt)
 check_all P drop dynamic spot n (LockedThrough r place) d l m = (l _, tt)
 check_all P drop dynamic spot n LockedLoaded d l m = (m, tt)
+check_all P _ dynamic spot n _ d l m = tt
 
 pub head_all : (P : Instr → Type 0) (drop : Bool) (n : ℕ) (o : Op) → ((c : Cell) → P (ChkRead c n)) → ((c : Cell) → P (ChkWrite c n)) → ((c : Cell) → P (ChkLock c n)) → P (ChkLockLoaded n)
     → ((r : ℕ) → P (TestSole r n)) → ((r c : ℕ) → P (Clear r c)) → AllIn P (head drop n o)
@@ -136,8 +133,7 @@ head_all P drop n _ rd wr l m s c = tt
 base_within : (refs : ℕ) (c : Cell) → Framed.BaseWithin refs c → BaseWithin refs c
 base_within refs (cells.Global g place) h = tt
 base_within refs (cells.GlobalAt g i) h = tt
-base_within refs (cells.Object r n) h = h
-base_within refs (cells.ObjectAt r i) h = h
+base_within refs _ h = h
 
 handed_within : (refs : ℕ) (r : Register) → Framed.HandedWithin refs r → HandedWithin refs r
 handed_within refs (registers.Int i) h = tt
@@ -150,11 +146,7 @@ own_good : (pl : ℕ → ℕ) (n ints refs : ℕ) (o : Op) → OpWrites ints ref
 own_good pl n ints refs op.Enter w = tt
 own_good pl n ints refs op.BlockEnd w = tt
 own_good pl n ints refs (op.Compute Char operator i a b spot) w = ((w, tt), tt)
-own_good pl n ints refs (op.Compute Int operator i a b spot) w = ((w, tt), tt)
-own_good pl n ints refs (op.Compute Long operator i a b spot) w = ((w, tt), tt)
 own_good pl n ints refs (op.Negate Char i a spot) w = ((w, tt), tt)
-own_good pl n ints refs (op.Negate Int i a spot) w = ((w, tt), tt)
-own_good pl n ints refs (op.Negate Long i a spot) w = ((w, tt), tt)
 own_good pl n ints refs (op.Call f i r spot) w = let a = w.0 in let b = w.1 in (((omega arith, omega arith), tt), tt)
 own_good pl n ints refs (op.Settle x from) w = ((w.0, tt), tt)
 own_good pl n ints refs (op.GlobalBounds i elements cells field spot) w = ((w.0, w.1), tt)
@@ -189,11 +181,7 @@ own_plain : (pl : ℕ → ℕ) (n : ℕ) (o : Op) → Straight o → AllIn IsPla
 own_plain pl n op.Enter w = tt
 own_plain pl n op.BlockEnd w = tt
 own_plain pl n (op.Compute Char operator i a b spot) w = (tt, tt)
-own_plain pl n (op.Compute Int operator i a b spot) w = (tt, tt)
-own_plain pl n (op.Compute Long operator i a b spot) w = (tt, tt)
 own_plain pl n (op.Negate Char i a spot) w = (tt, tt)
-own_plain pl n (op.Negate Int i a spot) w = (tt, tt)
-own_plain pl n (op.Negate Long i a spot) w = (tt, tt)
 own_plain pl n (op.Skip k) w = absurd w
 own_plain pl n (op.SkipIfZero i k) w = absurd w
 own_plain pl n (op.SkipIfNull r k) w = absurd w
@@ -273,11 +261,6 @@ module _ (flat : Flat) (dropped : ℕ → Bool) (framed : IsFramed flat) where
         inside = get_inside p.statements (pl n + j) i.0 (statement_there n j o e lt ∙ i.1);
         owned = owner_is n j o e lt;
       }
-
-  line_there : (lines : List Op) (n : ℕ) → n < length lines → (o : Op) × (slice_get lines n ≡ Some o)
-  line_there [] n lt = absurd (omega arith)
-  line_there (o ∷ os) zero lt = (o, refl)
-  line_there (o ∷ os) (suc n) lt = line_there os n (omega arith)
 
   -- where a line goes there is a statement of its function
   begins : (fuel n : ℕ) → n < length flat.lines → length flat.lines ≤ n + fuel → IsBody p owner (framed.owner n) (pl n)
@@ -413,8 +396,7 @@ module _ (flat : Flat) (dropped : ℕ → Bool) (framed : IsFramed flat) where
     where
       moved_parameter : (fn : Function) (q : Parameter) → Framed.HasParameter fn q → HasParameter (entered_at pl fn) q
       moved_parameter fn parameters.None h = tt
-      moved_parameter fn parameters.Int h = h
-      moved_parameter fn parameters.Reference h = h
+      moved_parameter fn _ h = h
 
   pub is_guarded : IsGuarded p
   is_guarded = record {

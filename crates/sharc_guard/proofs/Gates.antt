@@ -8,7 +8,7 @@ use Rattle.sharc_tree.specs.declared.event.Taken.TheVariants as taken
 use Rattle.sharc_tree.specs.declared.trap.Trap.TheVariants as traps
 use Rattle.sharc_heap.specs.declared.shadow_word.Kind.{Kind}
 use Rattle.sharc_heap.specs.declared.shadow_word.Kind.TheVariants as kinds
-use Rattle.sharc_code.specs.{declared.code.PlaceMode.PlaceMode, declared.code.PlaceMode.TheVariants.{Private, Readonly, Racy, Dynamic, LockedGlobal, LockedSibling, LockedThrough, LockedLoaded}, declared.instr.Cell.Cell, declared.instr.Instr.Instr, declared.instr.Instr.TheVariants.{ChkRead, ChkWrite}}
+use Rattle.sharc_code.specs.{declared.code.PlaceMode.PlaceMode, declared.code.PlaceMode.TheVariants.{Dynamic, LockedGlobal, LockedSibling, LockedThrough, LockedLoaded}, declared.instr.Cell.Cell, declared.instr.Instr.Instr, declared.instr.Instr.TheVariants.{ChkRead, ChkWrite}}
 use Rattle.sharc_code.specs.declared.instr.Cell.TheVariants as cells
 use Rattle.sharc_meaning.specs.{declared.given.GivenUp.TheVariants.Replaced, Cells.{cell_of, through}, Events.held_mutexes, Reference.{is_null, number_of}, State.stopped}
 use Rattle.sharc_flat.specs.{declared.op.Op.Op, declared.op.Spot.Spot, Machine.{Flat, At, Turn, asks, halts, ref, next, stops, cell_at, global_cell, cell_mode_of, is_of_null, lock_is_null, accesses, accessed, op_turn, take_kind_of, int, set_int, set_ref, gives_up}}
@@ -84,10 +84,6 @@ module _ (dropped : ℕ → Bool) (flat : Flat) (m : At) where
     module _ (chk : Instr) (one : weight chk ≡ 1) (none : (a : Thread) → OverwritesNone chk a)
         (chk_is : (a : Thread) → Form.step p chk a ≡ Form.Checks (Form.Accesses kind (Form.cell_at p a cell)) s (Form.next a)) (is_access : IsAccess kind c (act c modes.Dynamic)) where
       in_mode : (d : Bool) (pm : PlaceMode) → spot.mode ≡ pm → IsBeside flat m cell spot pm → Guards Way turn_of (check_under d chk spot s pm)
-      in_mode d Private e g = ap (lock_is_null m spot) e
-      in_mode d Readonly e g = ap (lock_is_null m spot) e
-      in_mode d Racy e g = ap (lock_is_null m spot) e
-      in_mode true Dynamic e g = ap (lock_is_null m spot) e
       in_mode false Dynamic e g = (
         one,
         none,
@@ -131,6 +127,7 @@ module _ (dropped : ℕ → Bool) (flat : Flat) (m : At) where
         λ q low. locks (beside pl m q (held_mutexes m.events) low) (cell_of (objects.Made (number_of m.pending)) 0) (is_null m.pending) (ap (lock_is_null m spot) e)
             (λ z. under_mode (cell_of (objects.Made (number_of m.pending)) 0) LockedLoaded e (ap modes.Locked (through_open m.pending 0 z))),
       )
+      in_mode _ _ e g = ap (lock_is_null m spot) e
 
   pub heads : (d : Bool) (o : Op) → LockStands flat m o → ((spot : Spot) → spot_of o ≡ Some spot → IsPlaceOf spot (source_at p s)) → Guards (IsOpenFor o m) (op_turn flat o m) (head d s o)
   heads d (op.Load i cell spot) lk k =

@@ -5,7 +5,7 @@ use Rattle.sharc_tree.specs.{declared.event.Act.Act, declared.event.CellAt.CellA
 use Rattle.sharc_tree.specs.declared.event.Act.TheVariants as acts
 use Rattle.sharc_tree.specs.declared.event.Taken.TheVariants as takens
 use Rattle.sharc_tree.specs.declared.trap.Trap.TheVariants as traps
-use Rattle.sharc_code.specs.{declared.code.PlaceMode.PlaceMode, declared.code.PlaceMode.TheVariants.{Private, Readonly, Racy, Dynamic, LockedGlobal, LockedSibling, LockedThrough, LockedLoaded}, declared.instr.Cell.Cell, declared.instr.Cell.TheVariants.{Global, Object}, declared.instr.Instr.Instr, declared.instr.Instr.TheVariants.{ChkRead, ChkWrite, ChkLock, ChkLockLoaded, TestSole, Clear}}
+use Rattle.sharc_code.specs.{declared.code.PlaceMode.PlaceMode, declared.code.PlaceMode.TheVariants.{Dynamic, LockedGlobal, LockedSibling, LockedThrough, LockedLoaded}, declared.instr.Cell.Cell, declared.instr.Cell.TheVariants.{Global, Object}, declared.instr.Instr.Instr, declared.instr.Instr.TheVariants.{ChkRead, ChkWrite, ChkLock, ChkLockLoaded, TestSole, Clear}}
 use Rattle.sharc_meaning.specs.{declared.given.GivenUp.TheVariants.{Replaced, Emptied}, Reference.number_of, State.stopped}
 use Rattle.sharc_flat.specs.{declared.op.Op.Op, declared.op.Spot.Spot, Machine.{goes, asks, halts, op_turn}}
 use Rattle.sharc_flat.specs.declared.op.Op.TheVariants as op
@@ -75,15 +75,12 @@ module _ (dropped : ℕ → Bool) (flat : Flat.Flat) (m : Flat.At) where
 
   checked : (o : Op) (spot : Spot) (drop : Bool) (dynamic : Instr) → IsAccess o spot → ((q : ℕ) (L : List ℕ) → IsPass m.pc (step (g dropped flat) dynamic (image (at dropped flat) m q L)) (image (at dropped flat) m (q + 1) L)) → weight dynamic ≡ 1
       → (mode : PlaceMode) → spot.mode ≡ mode → AreHeads o (check_under drop dynamic spot m.pc mode)
-  checked o spot drop dynamic k pass light Private e = k.unlocked (ap (Flat.lock_is_null m spot) e)
-  checked o spot drop dynamic k pass light Readonly e = k.unlocked (ap (Flat.lock_is_null m spot) e)
-  checked o spot drop dynamic k pass light Racy e = k.unlocked (ap (Flat.lock_is_null m spot) e)
-  checked o spot true dynamic k pass light Dynamic e = k.unlocked (ap (Flat.lock_is_null m spot) e)
   checked o spot false dynamic k pass light Dynamic e = looks o spot k (ap (Flat.lock_is_null m spot) e) dynamic pass light
   checked o spot drop dynamic k pass light (LockedGlobal h place) e = locks o spot k false (ap (Flat.lock_is_null m spot) e) (ChkLock (Global h place) m.pc) (λ q L. (_, refl)) refl
   checked o spot drop dynamic k pass light (LockedSibling field mutex) e = locks o spot k (Flat.is_of_null m spot.lock) (ap (Flat.lock_is_null m spot) e) (ChkLock spot.lock m.pc) (λ q L. (_, refl)) refl
   checked o spot drop dynamic k pass light (LockedThrough r place) e = locks o spot k _ (ap (Flat.lock_is_null m spot) e) (ChkLock (Object r place) m.pc) (λ q L. (_, refl)) refl
   checked o spot drop dynamic k pass light LockedLoaded e = locks o spot k _ (ap (Flat.lock_is_null m spot) e) (ChkLockLoaded m.pc) (λ q L. (_, refl)) refl
+  checked o spot _ dynamic k pass light _ e = k.unlocked (ap (Flat.lock_is_null m spot) e)
 
   -- an access, as flat code has it
   access : (o : Op) (cell : Cell) (spot : Spot) (of : CellAt → CellMode → Act) (then_ : CellAt → ℤ → Flat.At → Flat.At) → op_turn flat o m ≡ Flat.accesses flat.globals cell spot of then_ m → (source_of o).site ≡ spot.site

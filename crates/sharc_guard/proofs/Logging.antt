@@ -3,12 +3,12 @@ use Rattle.std.proofs.Common.{◌≡◌, ℕ, ℤ, pos, negsuc, ◌+◌, ◌*◌
 use Rattle.sharc_tree.specs.{declared.event.Act.Act, declared.event.CellAt.CellAt, declared.event.SourceEvent.SourceEvent, declared.trap.Trap.Trap}
 use Rattle.sharc_tree.specs.declared.event.Act.TheVariants as acts
 use Rattle.sharc_tree.specs.declared.trap.Trap.TheVariants as traps
-use Rattle.sharc_code.specs.{declared.code.Parameter.Parameter, declared.instr.Cell.Cell, declared.instr.Cell.TheVariants.{Global, GlobalAt, Object as InObject, ObjectAt}, declared.instr.Instr.Instr, declared.instr.Instr.TheVariants.{ComputeInt, ComputeLong, NegateInt, NegateLong, ChkWidth, JumpIfZero, JumpIfNull, Call, Return, ChkNull, ChkHeld, ChkNotHeld, ChkPositive, ChkRoom, ChkLock, ChkLockLoaded, Bounds, GlobalBounds, Load, Store, LoadRef, Exchange, New, TakeCell, TakeLocal, Give, Free, Lock, Unlock, Spawn, Join, Print, Start, Exit, CondEnter, CondWait, CondSignal, CondBroadcast}, declared.instr.Register.Register, declared.instr.Width.TheVariants.{Int, Long}, declared.state.Frame.Frame, Arithmetic.{holds, is_zero, computed, negated}, Machine.is_positive, Says.made_cell}
+use Rattle.sharc_code.specs.{declared.code.Parameter.Parameter, declared.instr.Cell.Cell, declared.instr.Cell.TheVariants.ObjectAt, declared.instr.Instr.Instr, declared.instr.Instr.TheVariants.{ComputeInt, ComputeLong, NegateInt, NegateLong, ChkWidth, JumpIfZero, JumpIfNull, Call, Return, ChkNull, ChkHeld, ChkNotHeld, ChkPositive, ChkRoom, ChkLock, ChkLockLoaded, Bounds, GlobalBounds, Load, Store, LoadRef, Exchange, New, TakeCell, TakeLocal, Give, Free, Lock, Unlock, Spawn, Join, Print, Start, Exit, CondEnter, CondWait, CondSignal, CondBroadcast}, declared.instr.Register.Register, declared.instr.Width.TheVariants.{Int, Long}, declared.state.Frame.Frame, Arithmetic.{holds, is_zero, computed, negated}, Machine.is_positive, Says.made_cell}
 use Rattle.sharc_code.specs.declared.code.Parameter.TheVariants as parameters
 use Rattle.sharc_code.specs.declared.instr.Register.TheVariants as registers
 use Rattle.sharc_meaning.specs.{Events.{held_mutexes, locked_by, same_cell, unlocked_by}, Reference.{is_null, number_of, elements_of}}
 use Rattle.sharc_guard.specs.Machine as Form
-use Rattle.sharc_guard.specs.{Machine.{Program, Thread, Phase, Running, Leaving, Left, Turn, Goes, Asks, Checks, Halts, int, cell_at, is_of_null, is_held, without_base, handed, function_at, statement_at, step, turn}, Path.{after, fresh, started, thread_after, with_parameter}, Logged.LogsAreHeld}
+use Rattle.sharc_guard.specs.{Machine.{Program, Thread, Phase, Left, Turn, Goes, Asks, Checks, Halts, int, cell_at, is_of_null, is_held, without_base, handed, function_at, statement_at, step, turn}, Path.{after, fresh, started, thread_after, with_parameter}, Logged.LogsAreHeld}
 use Rattle.sharc_guard.proofs.Holding.{quiet_held, lock_held, unlock_held}
 
 -- the log after an event
@@ -46,24 +46,20 @@ indexes a r (pos i) cells field site elements = choice a (nat_lt i elements) (Fo
 indexes a r (negsuc i) cells field site elements = tt
 
 returns : (p : Program) (a : Thread) (site : ℕ) (frames : List Frame) → Logs a (Form.returned p a site frames)
-returns p a site [] = (refl, refl)
 returns p a site (f ∷ []) = choice a (nat_lt 0 (length a.held)) (Halts (Form.Stopped traps.ReturnWithLockHeld site)) (Goes (Form.back_to a f [])) tt (refl, refl)
-returns p a site (f ∷ g ∷ frames) = (refl, refl)
+returns p a site _ = (refl, refl)
 
 locks : (a : Thread) (b : Bool) (mutex : CellAt) (site : ℕ) → Logs a (Form.lock_checked a b mutex site)
 locks a true mutex site = tt
 locks a false mutex site = (refl, refl)
 
 exits : (p : Program) (a : Thread) (phase : Phase) → Logs a (Form.exit p a phase)
-exits p a Running = λ x. (_, refl, refl)
-exits p a Leaving = λ x. (_, refl, refl)
 exits p a Left = tt
+exits p a _ = λ x. (_, refl, refl)
 
 base_events : (b : Thread) (cell : Cell) → (without_base b cell).events ≡ b.events
-base_events b (Global global cell) = refl
-base_events b (GlobalAt global r) = refl
-base_events b (InObject r cell) = refl
 base_events b (ObjectAt r at) = refl
+base_events b _ = refl
 
 handed_same : (b : Thread) (from : Register) → ((handed b from).events ≡ b.events) × ((handed b from).held ≡ b.held)
 handed_same b (registers.Int r) = (refl, refl)
@@ -112,17 +108,15 @@ step_logs p _ a = (refl, refl)
 
 -- ---- a path
 goes_on : (a : Thread) (t : Turn) (x : ℤ) → Logs a t → a.held ≡ held_mutexes a.events → (after a t x).held ≡ held_mutexes (after a t x).events
-goes_on a (Goes b) x h e = h.1 ∙ e ∙ ap held_mutexes (sym h.0)
 goes_on a (Asks site act go) x h e =
     let k = h x in
     k.2 ∙ ap (logged act) e ∙ sym (next_held a.events (Form.event_of site act k.0) act refl) ∙ ap held_mutexes (sym k.1)
-goes_on a (Checks check site b) x h e = h.1 ∙ e ∙ ap held_mutexes (sym h.0)
 goes_on a (Halts outcome) x h e = e
+goes_on a _ x h e = h.1 ∙ e ∙ ap held_mutexes (sym h.0)
 
 begun : (a : Thread) (v : ℤ) (q : Parameter) → a.held ≡ held_mutexes a.events → (with_parameter a q v).held ≡ held_mutexes (with_parameter a q v).events
-begun a v parameters.None e = e
 begun a v parameters.Int e = e
-begun a v parameters.Reference e = e
+begun a v _ e = e
 
 pub logs_are_held : LogsAreHeld
 logs_are_held p f v [] = begun (fresh p f) v (function_at p f).parameter refl

@@ -33,7 +33,6 @@ width_parts dropped n o =
   where
     same : (o : Op) → length (own (body (λ k. 0) n o)) ≡ length (own (body (λ k. 0) 0 o))
     same op.Enter = refl
-    same op.BlockEnd = refl
     same _ = refl
 
 pub place_none : (d : ℕ → Bool) (lines : List Op) → 2 ≡ place d lines 0

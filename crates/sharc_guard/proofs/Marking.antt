@@ -359,7 +359,6 @@ module _ (t : ℕ) (s : Notes) (b : AreBefore t s) where
           in_place (Some p) e = at_place a p ez e
 
   number_same : (o : Op) (i : ℕ) → writes_int o i ≡ true → number_of_line o k ≡ number_given o (k.number i)
-  number_same (op.Constant j v) i w = refl
   number_same (op.Bounds j r cells field spot) i w = ap (λ j. with_element cells field (k.number j)) (sym (eq_true i j w))
   number_same (op.GlobalBounds j elements cells field spot) i w = ap (λ j. with_element cells field (k.number j)) (sym (eq_true i j w))
   number_same _ i w = refl

@@ -1,6 +1,6 @@
 -- What an entry of a table makes of the notes.
 use mathlib.Core.Path.{fun_ext}
-use Rattle.std.proofs.Common.{◌≡◌, ℕ, ◌+◌, Bool, true, false, ◌&&◌, ◌||◌, Option, Some, None, refl, sym, ap, ◌∙◌, subst, cond}
+use Rattle.std.proofs.Common.{◌≡◌, ℕ, ◌+◌, Bool, true, false, ◌&&◌, ◌||◌, Option, Some, refl, sym, ap, ◌∙◌, subst, cond}
 use Rattle.std.specs.Prelude.{◌==◌, OnOk, Result, Ok, Err}
 use Rattle.sharc_heap.specs.{declared.shadow_word.Kind.Kind, declared.shadow_word.Kind.TheVariants.Write}
 use Rattle.sharc_flat.specs.declared.op.Op.{Op}
@@ -39,9 +39,8 @@ global_noted s new x n t kind now e h =
     ap (λ w. record s { in_globals = w }) (fun_ext (λ y. fun_ext (λ k. h (y, k) ∙ ap (λ z. cond (x == y && n == k) (Some record { kind = z; made = t }) (s.in_globals y k)) e)))
 
 pub noted_same : (kind : Kind) (q : Option SimplePlace) (t : ℕ) (s : Notes) → with_noted kind (noted_place q) t s ≡ with_place kind q t s
-noted_same kind None t s = refl
-noted_same kind (Some (in_variable x n)) t s = refl
 noted_same kind (Some (in_global g n)) t s = refl
+noted_same kind _ t s = refl
 
 -- the notes after all parts of an operation
 module _ (o : Op) (t : ℕ) (s a b c d : Notes) (registers : Written) (ints : Option ℕ) (number : Option ℕ) (before : AreBefore t s)

@@ -1,7 +1,7 @@
 -- Where guarded code is, beside flat code.
 use Rattle.std.proofs.{Common.{◌≡◌, ℕ, ℤ, pos, zero, suc, ◌+◌, ◌*◌, ◌<◌, ◌≤◌, ◌⊎◌, inl, inr, Bool, true, false, List, [], ◌∷◌, ◌++◌, length, Some, refl, sym, ap, ◌∙◌, subst, arith, ⊎_elim, append-nil}, lemmas.Option.slice_get-get_or}
 use Rattle.std.specs.Prelude.{slice_get}
-use Rattle.sharc_code.specs.{declared.code.PlaceMode.PlaceMode, declared.code.PlaceMode.TheVariants.{Private, Readonly, Racy, Dynamic, LockedGlobal, LockedSibling, LockedThrough, LockedLoaded}, declared.instr.Instr.Instr, declared.instr.Instr.TheVariants.{ChkRead, ChkWrite, RaiseLoaded, Lower, MoveReference}, declared.instr.Width.TheVariants.{Char, Int, Long}}
+use Rattle.sharc_code.specs.{declared.code.PlaceMode.PlaceMode, declared.code.PlaceMode.TheVariants.Dynamic, declared.instr.Instr.Instr, declared.instr.Instr.TheVariants.{ChkRead, ChkWrite, RaiseLoaded, Lower, MoveReference}, declared.instr.Width.TheVariants.Char}
 use Rattle.sharc_meaning.specs.Events.{held_mutexes}
 use Rattle.sharc_flat.specs.{declared.op.Op.Op, declared.op.Spot.Spot, Machine.{Flat, At, goes, next, line_turn, op_turn, turn}, Path.{may_go, at_after, IsPath as IsFlatPath, asked_by, asked}}
 use Rattle.sharc_flat.specs.declared.op.Op.TheVariants as op
@@ -20,23 +20,13 @@ weight_all [] = 0
 weight_all (i ∷ is) = weight i
 
 few_checks : (chk : Instr) (spot : Spot) (d : Bool) (pm : PlaceMode) (s : ℕ) → length (check_under d chk spot s pm) ≤ 1
-few_checks chk spot d Private s = omega arith
-few_checks chk spot d Readonly s = omega arith
-few_checks chk spot d Racy s = omega arith
 few_checks chk spot true Dynamic s = omega arith
 few_checks chk spot false Dynamic s = omega arith
-few_checks chk spot d (LockedGlobal g n) s = omega arith
-few_checks chk spot d (LockedSibling f n) s = omega arith
-few_checks chk spot d (LockedThrough r n) s = omega arith
-few_checks chk spot d LockedLoaded s = omega arith
+few_checks chk spot d _ s = omega arith
 
 pub few_turns : (pl : ℕ → ℕ) (s : ℕ) (d : Bool) (o : Op) → length (head d s o) + (weight_all (own (body pl s o)) + length (tail o)) ≤ 4
 few_turns pl s d (op.Compute Char o i a b spot) = omega arith
-few_turns pl s d (op.Compute Int o i a b spot) = omega arith
-few_turns pl s d (op.Compute Long o i a b spot) = omega arith
 few_turns pl s d (op.Negate Char i a spot) = omega arith
-few_turns pl s d (op.Negate Int i a spot) = omega arith
-few_turns pl s d (op.Negate Long i a spot) = omega arith
 few_turns pl s d (op.Load i cell spot) = let f = few_checks (ChkRead cell s) spot d spot.mode s in omega arith
 few_turns pl s d (op.Store i cell spot) = let f = few_checks (ChkWrite cell s) spot d spot.mode s in omega arith
 few_turns pl s d (op.LoadRef r cell spot) = let f = few_checks (ChkRead cell s) spot false spot.mode s in omega arith

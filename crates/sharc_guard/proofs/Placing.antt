@@ -25,7 +25,6 @@ first (x ∷ xs) g = (refl, subst (λ n. HasAt (x ∷ (xs ++ g)) n xs) (omega ar
 -- where the lines have gone does not change how many statements an operation becomes
 own_length : (pl : ℕ → ℕ) (n : ℕ) (o : Op) → length (own (body pl n o)) ≡ length (own (body (λ k. 0) n o))
 own_length pl n op.Enter = refl
-own_length pl n op.BlockEnd = refl
 own_length pl n _ = refl
 
 pub width_is : (pl : ℕ → ℕ) (dropped : Bool) (n : ℕ) (o : Op) → length (expand pl dropped n o) ≡ width dropped n o

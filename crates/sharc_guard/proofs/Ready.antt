@@ -1,6 +1,6 @@
 -- What flat code that is level has at each place: it is one of its function, and the registers hold what they are said to hold.
 use mathlib.Core.Path.{fun_ext}
-use Rattle.std.proofs.{Common.{◌≡◌, ℕ, ℤ, pos, negsuc, zero, suc, ◌+◌, ◌-◌, ◌<◌, ◌≤◌, true, List, [], ◌∷◌, length, refl, sym, ap, ◌∙◌, subst, arith, ⊎_elim}, lemmas.Bool.{cases_eq, cases_lt}}
+use Rattle.std.proofs.{Common.{◌≡◌, ℕ, ℤ, pos, zero, ◌+◌, ◌-◌, ◌<◌, ◌≤◌, true, List, [], ◌∷◌, length, refl, sym, ap, ◌∙◌, subst, arith, ⊎_elim}, lemmas.Bool.{cases_eq, cases_lt}}
 use Rattle.std.specs.Prelude.{◌==◌}
 use Rattle.sharc_meaning.specs.Arithmetic.{is_zero}
 use Rattle.sharc_flat.specs.Machine.{Flat, Caller, At, put, function_of, ref, called}
@@ -39,9 +39,8 @@ Is full v = Unit {0}
 
 pub fits_is : (a b : Slot) (v : ℤ) → Fits a b → Is a v → Is b v
 fits_is free free v f h = h
-fits_is free full v f h = tt
 fits_is full free v f h = absurd f
-fits_is full full v f h = tt
+fits_is _ full v f h = tt
 
 pub null_is : (a : Slot) (v : ℤ) → v ≡ pos 0 → Is a v
 null_is free v e = e
@@ -193,5 +192,4 @@ module _ (flat : Flat) (level : IsLevel flat) where
       where
         by : (z : ℤ) → is_zero z ≡ true → z ≡ pos 0
         by (pos zero) e = refl
-        by (pos (suc n)) e = absurd (cc)
-        by (negsuc n) e = absurd (cc)
+        by _ e = absurd (cc)

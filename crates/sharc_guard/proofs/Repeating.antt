@@ -2,7 +2,7 @@
 use Rattle.std.proofs.{Common.{◌≡◌, ◌≢◌, ℕ, ℤ, pos, negsuc, zero, suc, ◌+◌, ◌*◌, ◌^◌, ◌<◌, ◌≤◌, ◌⊎◌, inl, inr, Bool, true, false, not, ◌&&◌, ◌||◌, Option, Some, None, refl, sym, ap, ◌∙◌, subst, arith, cond, ⊎_elim, nat_lt}, lemmas.Bool.{cases_lt, ltb-true, lt-ltb, or_right, or_left, and_from as and_both, not_from_false as true_not}, lemmas.Bool.Decides.nat_tests}
 use Rattle.std.specs.Prelude.{slice_get, ◌==◌}
 use Rattle.sharc_heap.specs.{declared.shadow_word.Kind.Kind, declared.shadow_word.Kind.TheVariants.{Read, Write}}
-use Rattle.sharc_code.specs.{declared.code.PlaceMode.PlaceMode, declared.code.PlaceMode.TheVariants.{Private, Readonly, Racy, Dynamic, LockedGlobal, LockedSibling, LockedThrough, LockedLoaded}, declared.instr.Cell.Cell}
+use Rattle.sharc_code.specs.{declared.code.PlaceMode.PlaceMode, declared.code.PlaceMode.TheVariants.Dynamic, declared.instr.Cell.Cell}
 use Rattle.sharc_code.specs.declared.instr.Cell.TheVariants as cells
 use Rattle.sharc_flat.specs.{declared.op.Spot.Spot, declared.op.Op.Op, Machine.Flat}
 use Rattle.sharc_flat.specs.declared.op.Op.TheVariants as op
@@ -31,13 +31,7 @@ place_same (in_global g n) = and_both (g == g) (n == n) (eq_same g g refl) (eq_s
 
 pub dynamic_is : (mode : PlaceMode) → is_dynamic mode ≡ true → mode ≡ Dynamic
 dynamic_is Dynamic e = refl
-dynamic_is Private e = absurd (cc)
-dynamic_is Readonly e = absurd (cc)
-dynamic_is Racy e = absurd (cc)
-dynamic_is (LockedGlobal g n) e = absurd (cc)
-dynamic_is (LockedSibling g n) e = absurd (cc)
-dynamic_is (LockedThrough g n) e = absurd (cc)
-dynamic_is LockedLoaded e = absurd (cc)
+dynamic_is _ e = absurd (cc)
 
 tells_both : (spot : Spot) → spot.mode ≡ Dynamic → spot.is_simple ≡ true → tells spot ≡ true
 tells_both spot e s = and_both (is_dynamic spot.mode) spot.is_simple (ap is_dynamic e) s
@@ -462,10 +456,9 @@ module _ (flat : Flat) where
   repeated n e = by (L n) refl e
     where
       by : (l : Option Op) → L n ≡ l → drops_at (known flat n) l ≡ true → IsRepeated flat n
-      by None el e = false_true e
       by (Some (op.Load i cell spot)) el e = repeated_by n (op.Load i cell spot) record { kind = Read; cell = cell; spot = spot } el tt refl e
       by (Some (op.Store i cell spot)) el e = repeated_by n (op.Store i cell spot) record { kind = Write; cell = cell; spot = spot } el tt refl e
-      by (Some _) el e = false_true e
+      by _ el e = false_true e
 
   drops_by : (n : ℕ) (o : Op) (a : Access) (kind : Kind) (place : SimplePlace) → L n ≡ Some o → access o ≡ Some a → (s : IsSimple flat n kind place) → IsChecked flat n kind place → (tells a.spot && has_passed (known flat n) a.kind (place_of (known flat n) a.cell)) ≡ true
   drops_by n o a kind place at acc s c =
@@ -480,10 +473,9 @@ module _ (flat : Flat) where
   drops_it n r = by (L n) refl r.integer
     where
       by : (l : Option Op) → L n ≡ l → IsOfInteger l → drops_at (known flat n) l ≡ true
-      by None el i = absurd i
       by (Some (op.Load i cell spot)) el int = drops_by n (op.Load i cell spot) record { kind = Read; cell = cell; spot = spot } r.kind r.place el refl r.simple r.checked
       by (Some (op.Store i cell spot)) el int = drops_by n (op.Store i cell spot) record { kind = Write; cell = cell; spot = spot } r.kind r.place el refl r.simple r.checked
-      by (Some _) el i = absurd i
+      by _ el i = absurd i
 
   -- ---- the check that is repeated
   piece_join : (l m n : ℕ) → l ≤ m → m ≤ n → IsPiece flat l m → IsPiece flat m n → IsPiece flat l n

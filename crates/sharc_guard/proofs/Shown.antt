@@ -19,9 +19,6 @@ each P h n o e = subst (λ j. P j o) (omega arith) (each_of P 0 lines h n o e)
 only : (f : ℕ) → f < 1 → f ≡ 0
 only f lt = omega arith
 
-one_global : (g : ℕ) → g < 1 → g ≡ 0
-one_global g lt = omega arith
-
 pub flat_is : IsFlat example
 flat_is = record {
   entries = λ f lt. let z = only f lt in subst (λ n. (function_of example n).entry < 7) (sym z) (omega arith);
@@ -56,5 +53,5 @@ framed_is = record {
   );
   few_ints = omega arith;
   few_refs = omega arith;
-  apart = λ g h place a b. let x = one_global g a.known in let y = one_global h b.known in x ∙ sym y;
+  apart = λ g h place a b. let x = only g a.known in let y = only h b.known in x ∙ sym y;
 }

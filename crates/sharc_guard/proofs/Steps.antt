@@ -19,11 +19,7 @@ pub one_body : (pl : ℕ → ℕ) (s : ℕ) (o : Op) → IsMoving o → (i : Ins
 one_body pl s op.Enter h = absurd h
 one_body pl s op.BlockEnd h = absurd h
 one_body pl s (op.Compute Char o i a b spot) h = (_, refl)
-one_body pl s (op.Compute Int o i a b spot) h = (_, refl)
-one_body pl s (op.Compute Long o i a b spot) h = (_, refl)
 one_body pl s (op.Negate Char i a spot) h = (_, refl)
-one_body pl s (op.Negate Int i a spot) h = (_, refl)
-one_body pl s (op.Negate Long i a spot) h = (_, refl)
 one_body pl s _ h = (_, refl)
 
 enters_one : (o : Op) → IsMoving o → is_enter (Some o) ≡ 1
@@ -83,8 +79,7 @@ module _ (dropped : ℕ → Bool) (flat : Flat) (level : IsLevel flat) where
 
     abbrev pub Was : (m : At) (a : Thread) → Stage dropped flat level m a → List ℤ → Type 0
     Was m a (ahead y) answers = y.hs ≡ [] → (head (dropped m.pc) m.pc y.o ≡ []) ⊎ LastPassed m answers (op_turn flat y.o m)
-    Was m a (behind_it y) answers = Unit {0}
-    Was m a (leaves y) answers = Unit {0}
+    Was m a _ answers = Unit {0}
 
     pub record Coming (answers : List ℤ) : Type 0 where
       pub ys : List ℤ

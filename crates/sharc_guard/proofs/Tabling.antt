@@ -1,7 +1,7 @@
 -- The functions that guarded code spawns are those that flat code spawns.
 use Rattle.std.proofs.{Common.{◌≡◌, ℕ, suc, ◌+◌, ◌<◌, ◌^◌, Bool, List, [], ◌∷◌, ◌++◌, length, refl, sym, ap, ◌∙◌, subst, arith, Some, slice_get}, lemmas.List.length-map}
 use Rattle.std.specs.Prelude.{slice_index}
-use Rattle.sharc_code.specs.{declared.code.GlobalCells.GlobalCells, declared.instr.Width.TheVariants.{Char, Int, Long}, declared.instr.Instr.Instr, declared.instr.Instr.TheVariants.Spawn, Ranges.GlobalsFit}
+use Rattle.sharc_code.specs.{declared.code.GlobalCells.GlobalCells, declared.instr.Width.TheVariants.Char, declared.instr.Instr.Instr, declared.instr.Instr.TheVariants.Spawn, Ranges.GlobalsFit}
 use Rattle.sharc_flat.specs.{declared.flat.Flat.{Flat as FlatCode}, declared.op.Op.Op, Made.flat_of}
 use Rattle.sharc_flat.specs.declared.op.Op.TheVariants as op
 use Rattle.sharc_guard.specs.{declared.guarded.Guarded.Guarded, GuardedTables.TablesFit, Guard.{head, own, body, tail, expand, expanded, guarded, entered_at, place}, Made.IsMade, Tables.FlatTablesFit}
@@ -20,11 +20,7 @@ own_spawns : (pl : ℕ → ℕ) (n count : ℕ) (o : Op) → OpSpawns count o �
 own_spawns pl n count op.Enter h = tt
 own_spawns pl n count op.BlockEnd h = tt
 own_spawns pl n count (op.Compute Char operator i a b spot) h = (tt, tt)
-own_spawns pl n count (op.Compute Int operator i a b spot) h = (tt, tt)
-own_spawns pl n count (op.Compute Long operator i a b spot) h = (tt, tt)
 own_spawns pl n count (op.Negate Char i a spot) h = (tt, tt)
-own_spawns pl n count (op.Negate Int i a spot) h = (tt, tt)
-own_spawns pl n count (op.Negate Long i a spot) h = (tt, tt)
 own_spawns pl n count (op.Spawn to function from spot) h = (h, tt)
 own_spawns pl n count _ h = (tt, tt)
 

@@ -105,7 +105,7 @@ at_next flat n marks s later o mark target at h em et ek before = record {
         let e : n ≡ k = omega arith in
         get_or_push marks mark false k (h.count ∙ e) ∙ em ∙ ap (λ w. drops w o) h.known ∙ ap (drops_at (known flat n)) (sym at) ∙ ap (dropped flat) e
 
-none_at : (lines : List Op) (n : ℕ) → length lines ≤ n → slice_get lines n ≡ None
+pub none_at : (lines : List Op) (n : ℕ) → length lines ≤ n → slice_get lines n ≡ None
 none_at [] n le = refl
 none_at (o ∷ os) zero le = absurd (omega arith)
 none_at (o ∷ os) (suc n) le = none_at os n (omega arith)

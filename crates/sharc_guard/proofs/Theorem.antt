@@ -4,7 +4,7 @@ use Rattle.sharc_tree.specs.declared.event.Act.TheVariants as acts
 use Rattle.sharc_tree.specs.declared.event.CellMode.TheVariants as modes
 use Rattle.sharc_tree.specs.declared.event.Taken.TheVariants as taken
 use Rattle.sharc_meaning.specs.{Statements.is_positive, Reference.elements_of, Arithmetic.is_zero, declared.given.GivenUp.TheVariants.Replaced, Events.{held_mutexes, holds_mutex}}
-use Rattle.sharc_code.specs.{Arithmetic.holds, declared.code.PlaceMode.TheVariants.{Private, Readonly, Racy, Dynamic, LockedGlobal, LockedSibling, LockedThrough, LockedLoaded}, declared.code.PlaceMode.PlaceMode, declared.instr.Cell.Cell, declared.code.Function.Function, declared.code.Parameter.Parameter, declared.instr.Instr.Instr, declared.instr.Instr.TheVariants.{RaiseLoaded, Lower, MoveReference, ChkRead, ChkWrite}, declared.instr.Width.TheVariants.{Char, Int, Long}}
+use Rattle.sharc_code.specs.{Arithmetic.holds, declared.code.PlaceMode.TheVariants.{Private, Readonly, Racy, Dynamic}, declared.code.PlaceMode.PlaceMode, declared.instr.Cell.Cell, declared.code.Function.Function, declared.code.Parameter.Parameter, declared.instr.Instr.Instr, declared.instr.Instr.TheVariants.{RaiseLoaded, Lower, MoveReference, ChkRead, ChkWrite}, declared.instr.Width.TheVariants.{Char, Int}}
 use Rattle.sharc_tree.specs.{declared.event.CellMode.CellMode, declared.event.Act.Act, declared.token.Site.Site, declared.event.CellAt.CellAt, declared.trap.Trap.Trap}
 use Rattle.std.proofs.{Common.{◌≡◌, ◌≢◌, ℕ, ℤ, pos, zero, suc, ◌+◌, ◌*◌, ◌<◌, ◌≤◌, ◌⊎◌, inl, inr, Bool, List, [], ◌∷◌, length, map, refl, sym, ap, ◌∙◌, subst, arith, ⊎_elim, cond, Result, Ok, Err, false, true, not, negsuc, nat_lt}, lemmas.Bool.cases_eq, lemmas.Option.slice_get_past}
 use Rattle.std.specs.Prelude.{slice_index_or}
@@ -15,6 +15,7 @@ use Rattle.sharc_flat.specs.{declared.op.Op.Op, declared.op.Spot.Spot, Machine.{
 use Rattle.sharc_flat.specs.declared.op.Op.TheVariants as op
 use Rattle.sharc_guard.specs.Machine as Form
 use Rattle.sharc_guard.specs.{Machine.{Program, Thread, statement_at}, Path.{with_parameter, fresh, started, thread_after, IsPath, weight_in}, Guard.{place, guarded, entered_at, own, body, tail, head, check_under}, Level.{IsEntry, Takes, Level, IsLevel}, Counted.{Tells, IsSettling, AreLowered, OverwritesNone, Quietly, OnWay, IsReplaced, MatchesFlat, HasCome, LocksFrom, GuardedCounts, NeedsCheck, IsPassed, WasChecked, IsOf}}
+use Rattle.sharc_lemmas.proofs.Bools.{false_true}
 
 module _ (dropped : ℕ → Bool) (flat : Flat) (level : IsLevel flat) where
   abbrev pl : ℕ → ℕ
@@ -40,13 +41,8 @@ module _ (dropped : ℕ → Bool) (flat : Flat) (level : IsLevel flat) where
   ClearBody (i ∷ is) a = OverwritesNone i a
 
   clear_body : (m : At) (q : ℕ) (low : List ℕ) → Ready flat level m → (s : ℕ) (o : Op) → Level flat level.owner level.gives level.slots m.pc (level.owner m.pc) (level.slots m.pc) o → ClearBody (own (body pl s o)) (beside pl m q (held_mutexes m.events) low)
-  clear_body m q low rd s op.Enter lv = tt
   clear_body m q low rd s (op.Compute Char o i a b spot) lv = tt
-  clear_body m q low rd s (op.Compute Int o i a b spot) lv = tt
-  clear_body m q low rd s (op.Compute Long o i a b spot) lv = tt
   clear_body m q low rd s (op.Negate Char i a spot) lv = tt
-  clear_body m q low rd s (op.Negate Int i a spot) lv = tt
-  clear_body m q low rd s (op.Negate Long i a spot) lv = tt
   clear_body m q low rd s (op.Null r) lv = subst (λ x. Is x (m.refs (m.ref_base + r))) lv.0 (rd.hold r)
   clear_body m q low rd s (op.Local r x) lv = subst (λ x. Is x (m.refs (m.ref_base + r))) lv.0 (rd.hold r)
   clear_body m q low rd s (op.MoveReference r from) (inl lv) = inl lv.0
@@ -71,9 +67,8 @@ module _ (dropped : ℕ → Bool) (flat : Flat) (level : IsLevel flat) where
       )
 
   leaving_told : (m : At) (a : Thread) (x : Ending dropped flat level m a) (n : ℕ) → x.steps ≡ n → Tells p (Form.exit p a (leaving n)) (end_turn flat m n)
-  leaving_told m a x zero e = (ap (λ n. (Form.function_at p n).site) x.function ∙ function_site dropped flat level flat.functions m.function, refl)
-  leaving_told m a x (suc zero) e = (ap (λ n. (Form.function_at p n).site) x.function ∙ function_site dropped flat level flat.functions m.function, refl)
   leaving_told m a x (suc (suc n)) e = refl
+  leaving_told m a x _ e = (ap (λ n. (Form.function_at p n).site) x.function ∙ function_site dropped flat level flat.functions m.function, refl)
 
   settling_flight : (m : At) (a : Thread) → Ready flat level m → (k : ℕ) → a.refs k ≢ pos 0 → (i : Instr) → statement_at p a.pc ≡ i → IsSettling i a m k → (IsLowering (i ∷ []) → (c : CellAt) × (m.given ≡ Replaced c ∷ []) × (a.lowered ≡ []))
       → IsReplaced p m a k ⊎ ((n : ℕ) (m2 : At) → Quietly flat n m m2 → OnWay (a.refs k) m m2)
@@ -129,9 +124,8 @@ module _ (dropped : ℕ → Bool) (flat : Flat) (level : IsLevel flat) where
 
   -- ---- what needs a check
   abbrev NeedsTurn : Turn → Type 0
-  NeedsTurn (goes m) = ⊥
   NeedsTurn (asks m s act held f) = NeedsCheck act
-  NeedsTurn (halts o) = ⊥
+  NeedsTurn _ = ⊥
 
   needs_cond : (b : Bool) (t t2 : Turn) → (NeedsTurn t → ⊥) → (NeedsTurn t2 → ⊥) → NeedsTurn (cond b t t2) → ⊥
   needs_cond true t t2 f g h = f h
@@ -180,14 +174,7 @@ module _ (dropped : ℕ → Bool) (flat : Flat) (level : IsLevel flat) where
       by d Readonly e z h = absurd (n2 c (in_mode Readonly e h))
       by d Racy e z h = absurd (n3 c (in_mode Racy e h))
       by true Dynamic e z h = refl
-      by false Dynamic e z h = absurd (cc)
-      by d (LockedGlobal g n) e z h = absurd (cc)
-      by d (LockedSibling g n) e z h = absurd (cc)
-      by d (LockedThrough g n) e z h = absurd (cc)
-      by d LockedLoaded e z h = absurd (cc)
-
-  false_true : {A : Type 0} → false ≡ true → A
-  false_true e = absurd (cc)
+      by _ _ e z h = absurd (cc)
 
   no_head : (m : At) (d : Bool) (s : ℕ) (o : Op) → head d s o ≡ [] → NeedsTurn (op_turn flat o m) → d ≡ true
   no_head m d s (op.Compute w o i a b spot) e h = absurd (needs_result m i spot _ h)
@@ -211,9 +198,8 @@ module _ (dropped : ℕ → Bool) (flat : Flat) (level : IsLevel flat) where
   no_head m d s _ e h = absurd h
 
   needs_told : (site : Site) (act : Act) (go : ℤ → Thread) (t : Turn) → Tells p (Form.Asks site act go) t → NeedsCheck act → NeedsTurn t
-  needs_told site act go (goes m) h n = h
   needs_told site act go (asks m s2 act2 held f) h n = subst NeedsCheck h.1 n
-  needs_told site act go (halts o) h n = h
+  needs_told site act go _ h n = h
 
   passed_told : (m : At) (begun : Thread) (answers : List ℤ) (site : Site) (act : Act) (go : ℤ → Thread) (from : At) (locks : LocksFrom flat from) (t : Turn) → Tells p (Form.Asks site act go) t → NeedsCheck act → LastPassed dropped flat level from begun locks m answers t → WasChecked p begun answers act
   passed_told m begun [] site act go from locks t h n l = l
@@ -221,10 +207,6 @@ module _ (dropped : ℕ → Bool) (flat : Flat) (level : IsLevel flat) where
     where
       by : (t2 : Form.Turn) (t : Turn) → Tells p (Form.Asks site act go) t → PassedBy dropped flat level from begun locks m t t2 → IsPassed act t2
       by (Form.Checks check s b) (asks m3 s2 act2 held f) h l = subst (IsOf check) (sym h.1) l.1
-      by (Form.Checks check s b) (goes m3) h l = absurd h
-      by (Form.Checks check s b) (halts o) h l = absurd h
-      by (Form.Goes b) (goes m3) h l = absurd h
-      by (Form.Goes b) (halts o) h l = absurd h
       by (Form.Goes b) (asks m3 s2 act2 held f) h l = absurd (no_give act2 (subst NeedsCheck h.1 n) l)
         where
           no_give : (act2 : Act) → NeedsCheck act2 → GivesNow dropped flat m (asks m3 s2 act2 held f) → ⊥
@@ -232,11 +214,11 @@ module _ (dropped : ℕ → Bool) (flat : Flat) (level : IsLevel flat) where
           no_give _ n g = g
       by (Form.Halts o) t h l = absurd l
       by (Form.Asks s2 act2 g) t h l = absurd l
+      by _ _ h l = absurd h
 
   leaving_free : (m : At) (a : Thread) (n : ℕ) (site : Site) (act : Act) (go : ℤ → Thread) → Tells p (Form.Asks site act go) (end_turn flat m n) → NeedsCheck act → ⊥
-  leaving_free m a zero site act go h n = subst NeedsCheck h.1 n
-  leaving_free m a (suc zero) site act go h n = subst NeedsCheck h.1 n
   leaving_free m a (suc (suc k)) site act go h n = h
+  leaving_free m a _ site act go h n = subst NeedsCheck h.1 n
 
   is_checked : (from : At) (begun : Thread) (locks : LocksFrom flat from) (answers ys : List ℤ) → let m = at_after flat from ys in let a = thread_after p begun answers in (s : Stage dropped flat level m a) → Was dropped flat level from begun locks m a s answers
       → (site : Site) (act : Act) (go : ℤ → Thread) → Form.turn p a ≡ Form.Asks site act go → NeedsCheck act → (dropped m.pc ≡ true) ⊎ WasChecked p begun answers act
@@ -314,8 +296,7 @@ module _ (dropped : ℕ → Bool) (flat : Flat) (level : IsLevel flat) where
     final_bound : (answers : List ℤ) (c : Coming dropped flat level (start flat f v) (started p f v) locks answers) (s : Stage dropped flat level (at_after flat (start flat f v) c.ys) (thread_after p (started p f v) answers))
         → Bound dropped flat level (at_after flat (start flat f v) c.ys) (thread_after p (started p f v) answers) s (weight_in p (started p f v) answers) (length c.ys) → weight_in p (started p f v) answers ≤ 4 * length c.ys + 4
     final_bound answers c (ahead x) b = omega arith
-    final_bound answers c (behind_it x) b = omega arith
-    final_bound answers c (leaves x) b = omega arith
+    final_bound answers c _ b = omega arith
 
     pub guards_one : (answers : List ℤ) → IsPath p (started p f v) answers → HasCome dropped flat p (start flat f v) (started p f v) answers
     guards_one answers path =

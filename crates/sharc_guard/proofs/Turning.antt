@@ -31,12 +31,10 @@ IsOpenFor _ m = Unit {0}
 
 lowered_more : (gs : List GivenUp) (ns : List ℕ) (n : ℕ) → AreLowered gs ns → AreLowered (gs ++ Released n ∷ []) (ns ++ n ∷ [])
 lowered_more [] [] n h = (refl, tt)
-lowered_more [] (k ∷ ns) n h = absurd h
-lowered_more (Released g ∷ gs) [] n h = absurd h
 lowered_more (Released g ∷ gs) (k ∷ ns) n h = (h.0, lowered_more gs ns n h.1)
-lowered_more (Replaced c ∷ gs) [] n h = absurd h
 lowered_more (Replaced c ∷ gs) (k ∷ ns) n h = lowered_more gs ns n h
 lowered_more (Emptied g ∷ gs) ns n h = lowered_more gs ns n h
+lowered_more _ _ n h = absurd h
 
 module _ (dropped : ℕ → Bool) (flat : Flat) (level : IsLevel flat) (m : At) (q : ℕ) (low : List ℕ) (lows : AreLowered m.given low) (rd : Ready flat level m) where
   abbrev s : ℕ
@@ -371,10 +369,9 @@ module _ (dropped : ℕ → Bool) (flat : Flat) (level : IsLevel flat) (m : At) 
 
       each : (cell : Cell) → En (without_cell here cell) (m.pc + 1)
           → N (next (without_base cell (with_event ev m))) (Form.next (record (Form.without_base (Form.told me spot.site (acts.Lock c) (pos 0)) cell) { held = log ++ c ∷ [] })) []
-      each (cells.Global g n) en = let m2 = next (with_event ev m) in land m2 (keeps m2 en refl refl refl) refl refl refl
-      each (cells.GlobalAt g i) en = let m2 = next (with_event ev m) in land m2 (keeps m2 en refl refl refl) refl refl refl
       each (cells.Object r n) en = let m2 = next (set_ref r (pos 0) (with_event ev m)) in land m2 (puts m2 r free (pos 0) refl en refl refl refl) refl refl refl
       each (cells.ObjectAt r i) en = let m2 = next (set_ref r (pos 0) (with_event ev m)) in land m2 (puts m2 r free (pos 0) refl en refl refl refl) refl refl refl
+      each _ en = let m2 = next (with_event ev m) in land m2 (keeps m2 en refl refl refl) refl refl refl
 
   unlocks : (e : q + 1 ≡ pl (m.pc + 1)) (r : ℕ) (cell : Cell) (spot : Spot) → IsPlaceOf spot (source_at p s) → En (with_slot here r (slot_of here cell)) (m.pc + 1)
       → F [] (event spot (acts.Unlock (cell_at flat.globals m cell)) (λ v n. set_ref r (base_of n cell) n) m)
@@ -403,10 +400,9 @@ module _ (dropped : ℕ → Bool) (flat : Flat) (level : IsLevel flat) (m : At) 
 
       each : (cell : Cell) → En (with_slot here r (slot_of here cell)) (m.pc + 1)
           → N (next (set_ref r (base_of (with_event ev m) cell) (with_event ev m))) (Form.next (record (Form.set_ref (Form.told me spot.site (acts.Unlock c) (pos 0)) r (Form.base_of me cell)) { held = Form.without_mutex log c })) []
-      each (cells.Global g n) en = land (pos 0) free refl en
-      each (cells.GlobalAt g i) en = land (pos 0) free refl en
       each (cells.Object b n) en = land (m.refs (m.ref_base + b)) (here b) (rd.hold b) en
       each (cells.ObjectAt b i) en = land (m.refs (m.ref_base + b)) (here b) (rd.hold b) en
+      each _ en = land (pos 0) free refl en
 
   -- ---- threads
   spawns : (e : q + 1 ≡ pl (m.pc + 1)) (i f : ℕ) (from : Register) (spot : Spot) → IsPlaceOf spot (source_at p s) → En (without_handed here from) (m.pc + 1)
@@ -447,14 +443,11 @@ module _ (dropped : ℕ → Bool) (flat : Flat) (level : IsLevel flat) (m : At) 
   same_cells c = cell_same dropped flat m q log low c
 
   positive_same : (z : ℤ) → CodeMachine.is_positive z ≡ is_positive z
-  positive_same (pos zero) = refl
   positive_same (pos (suc n)) = let e : (suc n == 0) ≡ false = grind (arith, nat_tests) in ap not e
-  positive_same (negsuc n) = refl
+  positive_same _ = refl
 
   pub follows : (o : Op) → Level flat level.owner level.gives level.slots m.pc (level.owner m.pc) here o → ((spot : Spot) → spot_of o ≡ Some spot → IsPlaceOf spot (source_at p s)) → IsOpenFor o m
       → q + (1 + length (tail o)) ≡ pl (m.pc + 1) → FollowsBy o (own (body pl m.pc o))
-  follows op.Enter lv k way e = tt
-  follows op.BlockEnd lv k way e = tt
   follows (op.Constant i v) lv k way e = inl (ints (omega arith) i v lv)
   follows (op.Move i from) lv k way e = inl (ints (omega arith) i (int m from) lv)
   follows (op.Compute Char o i a b spot) lv k way e = absurd lv.0
@@ -567,3 +560,4 @@ module _ (dropped : ℕ → Bool) (flat : Flat) (level : IsLevel flat) (m : At) 
   follows (op.Spawn i f from spot) lv k way e = spawns (omega arith) i f from spot (k spot refl) lv
   follows (op.Join i spot) lv k way e = tells (omega arith) spot (acts.Join (int m i)) (acts.Join (int m i)) (k spot refl) lv refl refl refl refl
   follows (op.Print i spot) lv k way e = tells (omega arith) spot (acts.Print (int m i)) (acts.Print (int m i)) (k spot refl) lv refl refl refl refl
+  follows _ lv k way e = tt

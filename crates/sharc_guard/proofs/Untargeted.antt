@@ -1,7 +1,7 @@
 -- Nothing leads to an access whose check is dropped.
 use Rattle.std.proofs.{Common.{◌≡◌, ℕ, zero, suc, ◌+◌, ◌-◌, ◌<◌, ◌≤◌, Bool, true, false, List, [], ◌∷◌, ◌++◌, length, Some, refl, sym, ap, ◌∙◌, subst, ⊎_elim, arith, slice_get, slice_index_or}, lemmas.Bool.{cases_lt, or_right, or_left}, lemmas.List.{length-append, length-map}}
 use Rattle.std.specs.Prelude.{◌==◌}
-use Rattle.sharc_code.specs.{declared.code.Function.Function, declared.instr.Instr.Instr, declared.instr.Instr.TheVariants.{Start, Exit, ChkRead, ChkWrite, Load, Store, LoadRef, Exchange}, declared.instr.Width.TheVariants.{Char, Int, Long}, Machine.no_function}
+use Rattle.sharc_code.specs.{declared.code.Function.Function, declared.instr.Instr.Instr, declared.instr.Instr.TheVariants.{Start, Exit, ChkRead, ChkWrite, Load, Store, LoadRef, Exchange}, declared.instr.Width.TheVariants.Char, Machine.no_function}
 use Rattle.sharc_heap.specs.declared.shadow_word.Kind.TheVariants as kinds
 use Rattle.sharc_flat.specs.{declared.op.Op.Op, declared.op.Spot.Spot, Machine.Flat}
 use Rattle.sharc_flat.specs.declared.op.Op.TheVariants as op
@@ -14,18 +14,14 @@ use Rattle.sharc_lemmas.proofs.{Bools.and_left, Lists.{there_is as within}}
 abbrev Leads : (ℕ → ℕ) → ℕ → Op → Instr → Type 0
 Leads pl n o i = (pc : ℕ) → LeadsTo i pc → (t : ℕ) × (leads_to n o t ≡ true) × (pl t ≡ pc)
 
-itself : (n : ℕ) → (n == n) ≡ true
+pub itself : (n : ℕ) → (n == n) ≡ true
 itself n = eq_same n n refl
 
 own_leads : (pl : ℕ → ℕ) (n : ℕ) (o : Op) → AllIn (Leads pl n o) (own (body pl n o))
 own_leads pl n op.Enter = tt
 own_leads pl n op.BlockEnd = tt
 own_leads pl n (op.Compute Char operator i a b spot) = (λ pc h. absurd h, tt)
-own_leads pl n (op.Compute Int operator i a b spot) = (λ pc h. absurd h, tt)
-own_leads pl n (op.Compute Long operator i a b spot) = (λ pc h. absurd h, tt)
 own_leads pl n (op.Negate Char i a spot) = (λ pc h. absurd h, tt)
-own_leads pl n (op.Negate Int i a spot) = (λ pc h. absurd h, tt)
-own_leads pl n (op.Negate Long i a spot) = (λ pc h. absurd h, tt)
 own_leads pl n (op.Skip k) = (λ pc h. (n + 1 + k, itself (n + 1 + k), h), tt)
 own_leads pl n (op.SkipIfZero i k) = (λ pc h. (n + 1 + k, itself (n + 1 + k), h), tt)
 own_leads pl n (op.SkipIfNull r k) = (λ pc h. (n + 1 + k, itself (n + 1 + k), h), tt)
@@ -71,11 +67,7 @@ own_sited : (pl : ℕ → ℕ) (n : ℕ) (o : Op) → AllIn (Sited n) (own (body
 own_sited pl n op.Enter = tt
 own_sited pl n op.BlockEnd = tt
 own_sited pl n (op.Compute Char operator i a b spot) = (λ q e. no_some q e, tt)
-own_sited pl n (op.Compute Int operator i a b spot) = (λ q e. no_some q e, tt)
-own_sited pl n (op.Compute Long operator i a b spot) = (λ q e. no_some q e, tt)
 own_sited pl n (op.Negate Char i a spot) = (λ q e. no_some q e, tt)
-own_sited pl n (op.Negate Int i a spot) = (λ q e. no_some q e, tt)
-own_sited pl n (op.Negate Long i a spot) = (λ q e. no_some q e, tt)
 own_sited pl n (op.Load i cell spot) = (λ q e. same_site record { cell = cell; site = n; is_write = false } q e, tt)
 own_sited pl n (op.Store i cell spot) = (λ q e. same_site record { cell = cell; site = n; is_write = true } q e, tt)
 own_sited pl n (op.LoadRef r cell spot) = (λ q e. same_site record { cell = cell; site = n; is_write = false } q e, tt)

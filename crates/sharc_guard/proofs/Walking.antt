@@ -3,7 +3,7 @@ use Rattle.std.proofs.{Common.{◌≡◌, ℕ, ℤ, zero, suc, pos, ◌+◌, ◌
 use Rattle.sharc_tree.specs.{declared.event.Act.Act, declared.token.Site.Site, declared.trap.Trap.Trap}
 use Rattle.sharc_tree.specs.declared.event.Act.TheVariants as acts
 use Rattle.sharc_tree.specs.declared.trap.Trap.TheVariants as traps
-use Rattle.sharc_code.specs.{declared.code.Function.Function, declared.code.Parameter.Parameter, declared.code.PlaceMode.PlaceMode, declared.code.PlaceMode.TheVariants.{Private, Readonly, Racy, Dynamic, LockedGlobal, LockedSibling, LockedThrough, LockedLoaded}, declared.code.SourcePlace.SourcePlace, declared.instr.Width.TheVariants.{Char, Int, Long}, declared.instr.Instr.Instr, declared.instr.Instr.TheVariants.{ChkRead, ChkWrite}, Machine.no_function}
+use Rattle.sharc_code.specs.{declared.code.Function.Function, declared.code.Parameter.Parameter, declared.code.PlaceMode.PlaceMode, declared.code.PlaceMode.TheVariants.Dynamic, declared.code.SourcePlace.SourcePlace, declared.instr.Width.TheVariants.{Char, Int}, declared.instr.Instr.Instr, declared.instr.Instr.TheVariants.{ChkRead, ChkWrite}, Machine.no_function}
 use Rattle.sharc_code.specs.declared.code.Parameter.TheVariants as parameters
 use Rattle.sharc_meaning.specs.{Reference.NULL, State.{stopped, event_of}}
 use Rattle.sharc_flat.specs.{declared.op.Op.Op, declared.op.Spot.Spot, Machine.{goes, asks, halts, op_turn}, Path.at_after, Framed.{IsFlat, Leads}}
@@ -13,29 +13,18 @@ use Rattle.sharc_guard.specs.Machine as Form
 use Rattle.sharc_guard.specs.{Machine.{Thread, Phase, Running, Leaving, Left, Turn, Goes, Asks, Checks, Halts, Stopped, Ended, Check, step, source_at, statement_at}, Path.{weight, started, fresh, thread_after, weight_in}, Guard.{source_of, head, body, tail, own, expand, entered_at, check_under}, Correct.{Resolved, bottom, image, Wants, IsBeside}}
 use Rattle.sharc_guard.specs.Path as Guarded
 use Rattle.sharc_flat.specs.Path as Flow
-use Rattle.sharc_guard.proofs.{Placing.{HasAt, stands, place_next, statement_is, source_is}, Follows.{g, at, Callers, Is, Trailing, AtEnd, Near, Follow, follows, Bodied, Unlocked, leaving}, Heads.{IsPass, Asking, IsHead, AreHeads, heads}}
+use Rattle.sharc_guard.proofs.{Placing.{HasAt, stands, place_next, statement_is, source_is}, Follows.{g, at, Callers, Is, Trailing, AtEnd, Near, Follow, follows, Bodied, Unlocked, leaving}, Heads.{IsPass, Asking, IsHead, AreHeads, heads}, Targets.none_at as past}
 
-line_at : (lines : List Op) (n : ℕ) → n < length lines → (o : Op) × (slice_get lines n ≡ Some o)
+pub line_at : (lines : List Op) (n : ℕ) → n < length lines → (o : Op) × (slice_get lines n ≡ Some o)
 line_at [] n lt = absurd (omega arith)
 line_at (o ∷ os) zero lt = (o, refl)
 line_at (o ∷ os) (suc n) lt = line_at os n (omega arith)
 
-past : (lines : List Op) (n : ℕ) → length lines ≤ n → slice_get lines n ≡ None
-past [] n le = refl
-past (o ∷ os) zero le = absurd (omega arith)
-past (o ∷ os) (suc n) le = past os n (omega arith)
-
 -- ---- how many statements a line is
 one_check : (drop : Bool) (dynamic : Instr) (spot : Spot) (n : ℕ) (mode : PlaceMode) → length (check_under drop dynamic spot n mode) ≤ 1
-one_check drop dynamic spot n Private = omega arith
-one_check drop dynamic spot n Readonly = omega arith
-one_check drop dynamic spot n Racy = omega arith
 one_check true dynamic spot n Dynamic = omega arith
 one_check false dynamic spot n Dynamic = omega arith
-one_check drop dynamic spot n (LockedGlobal h place) = omega arith
-one_check drop dynamic spot n (LockedSibling field mutex) = omega arith
-one_check drop dynamic spot n (LockedThrough r place) = omega arith
-one_check drop dynamic spot n LockedLoaded = omega arith
+one_check drop dynamic spot n _ = omega arith
 
 abbrev Few : Bool → ℕ → Op → Option Instr → Type 0
 Few drop n o None = Unit {0}
@@ -45,11 +34,7 @@ few : (pl : ℕ → ℕ) (drop : Bool) (n : ℕ) (o : Op) → Few drop n o (body
 few pl drop n op.Enter = tt
 few pl drop n op.BlockEnd = tt
 few pl drop n (op.Compute Char operator i a b spot) = (omega arith, omega arith)
-few pl drop n (op.Compute Int operator i a b spot) = (omega arith, omega arith)
-few pl drop n (op.Compute Long operator i a b spot) = (omega arith, omega arith)
 few pl drop n (op.Negate Char i a spot) = (omega arith, omega arith)
-few pl drop n (op.Negate Int i a spot) = (omega arith, omega arith)
-few pl drop n (op.Negate Long i a spot) = (omega arith, omega arith)
 few pl drop n (op.Load i cell spot) = let h = one_check drop (ChkRead cell n) spot n spot.mode in (omega arith, omega arith)
 few pl drop n (op.Store i cell spot) = let h = one_check drop (ChkWrite cell n) spot n spot.mode in (omega arith, omega arith)
 few pl drop n (op.LoadRef r cell spot) = let h = one_check false (ChkRead cell n) spot n spot.mode in (omega arith, omega arith)
@@ -86,8 +71,7 @@ bodied pl n _ = inr (_, refl)
 after_pass : (site : ℕ) (a : Thread) (t : Turn) (b : Thread) (x : ℤ) → IsPass site t b → Guarded.after a t x ≡ b
 after_pass site a (Goes c) b x h = h
 after_pass site a (Checks check n c) b x h = h.1
-after_pass site a (Asks s act go) b x h = absurd h
-after_pass site a (Halts o) b x h = absurd h
+after_pass site a _ b x h = absurd h
 
 module _ (dropped : ℕ → Bool) (flat : Flat.Flat) (ok : IsFlat flat) where
   abbrev p : Form.Program
@@ -119,19 +103,17 @@ module _ (dropped : ℕ → Bool) (flat : Flat.Flat) (ok : IsFlat flat) where
 
   -- how much may have been made, of so much for each line
   abbrev Slack : (m : Flat.At) (a : Thread) → Where m a → ℕ → ℕ → Type 0
-  Slack m a (inl h) done all = done ≤ all
   Slack m a (inr (inl h)) done all = done ≤ all + h.made
   Slack m a (inr (inr (inl h))) done all = done + 1 ≤ all
-  Slack m a (inr (inr (inr h))) done all = done ≤ all
+  Slack m a _ done all = done ≤ all
 
   abbrev near_where : (m : Flat.At) (a : Thread) → Near dropped flat m a → Where m a
   near_where m a (inl h) = inl h
   near_where m a (inr h) = inr (inr h)
 
   near_slack : (m : Flat.At) (a : Thread) (h : Near dropped flat m a) (done all : ℕ) → done + 1 ≤ all → Slack m a (near_where m a h) done all
-  near_slack m a (inl h) done all le = omega arith
   near_slack m a (inr (inl h)) done all le = le
-  near_slack m a (inr (inr h)) done all le = omega arith
+  near_slack m a _ done all le = omega arith
 
   module _ (m0 : Flat.At) where
     -- ---- over the entries
@@ -447,24 +429,20 @@ module _ (dropped : ℕ → Bool) (flat : Flat.Flat) (ok : IsFlat flat) where
     starts = Flat.start flat f v
 
     parameter_is : (q : Parameter) → Guarded.with_parameter (image pl (Flat.first_at flat f) (pl (Flat.function_of flat f).entry) []) q v ≡ image pl (Flat.begun q v (Flat.first_at flat f)) (pl (Flat.function_of flat f).entry) []
-    parameter_is parameters.None = refl
     parameter_is parameters.Int = refl
-    parameter_is parameters.Reference = refl
+    parameter_is _ = refl
 
     pc_is : (q : Parameter) → (Flat.begun q v (Flat.first_at flat f)).pc ≡ (Flat.function_of flat f).entry
-    pc_is parameters.None = refl
     pc_is parameters.Int = refl
-    pc_is parameters.Reference = refl
+    pc_is _ = refl
 
     given_is : (q : Parameter) → Resolved (Flat.begun q v (Flat.first_at flat f)).given []
-    given_is parameters.None = tt
     given_is parameters.Int = tt
-    given_is parameters.Reference = tt
+    given_is _ = tt
 
     callers_are : (q : Parameter) → Callers dropped flat (Flat.begun q v (Flat.first_at flat f)).frames
-    callers_are parameters.None = tt
     callers_are parameters.Int = tt
-    callers_are parameters.Reference = tt
+    callers_are _ = tt
 
     begins : Is dropped flat starts (started p f v)
     begins =
@@ -521,8 +499,7 @@ module _ (dropped : ℕ → Bool) (flat : Flat.Flat) (ok : IsFlat flat) where
         let site : (source_of o).site ≡ (source_at p n2).site = sym (ap (λ (sp : SourcePlace). sp.site) (source_is dropped flat m.pc o s)) ∙ ap (λ n. (source_at p n).site) (sym h.0 ∙ e1) in
         (k.from, k.act, k.held, k.go, t ∙ k.asks_it ∙ ap (λ z. asks k.from z k.act k.held k.go) site);
   }
-  asking_wants m (Asks site act go) b o s k t h = absurd h
-  asking_wants m (Halts x) b o s k t h = absurd h
+  asking_wants m _ b o s k t h = absurd h
 
   stopping_wants : (m : Flat.At) (u : Turn) (c : Trap) (n : ℕ) → u ≡ Halts (Stopped c n) → Flat.turn flat m ≡ halts (stopped c (source_at p n).site) → Wants flat p m u
   stopping_wants m u c n e t = record {

@@ -8,7 +8,7 @@ use Rattle.sharc_tree.specs.declared.event.Taken.TheVariants as taken
 use Rattle.sharc_tree.specs.declared.trap.Trap.TheVariants as traps
 use Rattle.sharc_code.specs.{declared.instr.Cell.Cell, Arithmetic.{computed, negated, holds}}
 use Rattle.sharc_meaning.specs.{declared.given.GivenUp.GivenUp, declared.given.GivenUp.TheVariants.{Released, Replaced, Emptied}, Arithmetic.is_zero, Events.{held_mutexes, holds_mutex}, Reference.{number_of, elements_of}, Statements.is_positive}
-use Rattle.sharc_flat.specs.{declared.op.Op.Op, declared.op.Spot.Spot, Machine.{Flat, Caller, At, Turn, goes, asks, halts, put, int, ref, set_int, set_ref, popped, moved, settled, next, over_lines, goes_on, stops, asserts, with_result, cell_at, cell_mode_of, lock_is_null, accesses, accessed, gives_up, take_kind_of, indexed, takes_local, called, returned, end_turn, line_turn, op_turn}}
+use Rattle.sharc_flat.specs.{declared.op.Op.Op, declared.op.Spot.Spot, Machine.{Flat, Caller, At, Turn, goes, asks, put, int, ref, set_int, set_ref, popped, moved, settled, next, over_lines, goes_on, stops, asserts, with_result, cell_at, cell_mode_of, lock_is_null, accesses, accessed, gives_up, take_kind_of, indexed, takes_local, called, returned, end_turn, line_turn, op_turn}}
 use Rattle.sharc_flat.specs.declared.op.Op.TheVariants as op
 use Rattle.sharc_guard.specs.{Level.{free, Slots, with_slot, with_moved, Enters, Leaves, Level, IsLevel}, Counted.{IsReleased, Quietly, OnWay}}
 use Rattle.sharc_guard.proofs.Ready.{Is, Hold, put_at, put_other, Frames, Ready, enters, hold_as, slot_same, moved_same, keeps, puts, moves, null_here, call_ready, return_ready, is_free}
@@ -33,8 +33,7 @@ module _ (flat : Flat) (level : IsLevel flat) where
   -- after a turn that asks for nothing
   abbrev After : At → ℤ → Turn → Type 0
   After m v (goes m2) = Later m2 × OnWay v m m2
-  After m v (asks m2 site act held f) = Unit {0}
-  After m v (halts o) = Unit {0}
+  After m v _ = Unit {0}
 
   module _ (m : At) (rd : Ready flat level m) (k : ℕ) (v : ℤ) (is : m.refs k ≡ v) (some : v ≢ pos 0) where
     abbrev En2 : Slots → ℕ → Type 0
@@ -197,8 +196,7 @@ module _ (flat : Flat) (level : IsLevel flat) where
   -- ---- what was given up stays so
   abbrev Grows : At → Turn → Type 0
   Grows m (goes m2) = (more : List GivenUp) × (m2.given ≡ m.given ++ more)
-  Grows m (asks m2 site act held f) = Unit {0}
-  Grows m (halts o) = Unit {0}
+  Grows m _ = Unit {0}
 
   module _ (m : At) where
     none : (more : List GivenUp) × (m.given ≡ m.given ++ more)
@@ -288,9 +286,8 @@ module _ (flat : Flat) (level : IsLevel flat) where
     grows _ = tt
 
   grows_end : (m : At) (n : ℕ) → Grows m (end_turn flat m n)
-  grows_end m zero = tt
-  grows_end m (suc zero) = tt
   grows_end m (suc (suc n)) = tt
+  grows_end m _ = tt
 
   grows_line : (m : At) (o : Option Op) → Grows m (line_turn flat o m)
   grows_line m None = grows_end m _
@@ -307,9 +304,8 @@ module _ (flat : Flat) (level : IsLevel flat) where
   -- ---- any number of turns
   -- no turn after the last return asks for nothing
   no_end : (m mid : At) (n : ℕ) → end_turn flat m n ≡ goes mid → ⊥
-  no_end m mid zero e = absurd (cc)
-  no_end m mid (suc zero) e = absurd (cc)
   no_end m mid (suc (suc n)) e = absurd (cc)
+  no_end m mid _ e = absurd (cc)
 
   pub ways : (n : ℕ) (m m2 : At) → Later m → (k : ℕ) (v : ℤ) → m.refs k ≡ v → v ≢ pos 0 → Quietly flat n m m2 → OnWay v m m2
   ways zero m m2 rd k v is some q = record { more = []; given_is = ap (λ (z : At). z.given) (sym q) ∙ sym (append-nil m.given); stays = inl (k, ap (λ (z : At). z.refs k) (sym q) ∙ is) }
