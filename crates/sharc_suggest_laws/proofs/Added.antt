@@ -1,11 +1,5 @@
 -- A cast that is suggested is among what has a type once.
-use Rattle.std.proofs.{Common.{◌≡◌, ℕ, ◌+◌, ◌<◌, ◌≤◌, ◌==◌, true, inl, inr, List, [], ◌∷◌, refl, ap, sym, ◌∙◌, ap₂, length, eqb-true, eq-eqb, Some, arith}, lemmas.Bool.{and_parts, and_from}}
-use Rattle.sharc_tree.specs.{declared.token.Span.Span, Spans.span_of, Tree.Expression}
-use Rattle.sharc_suggest_laws.specs.{declared.written.Recast.Recast, Recast.is_there, Applied.{recast_of, program_with}, Once.{IsAddedOnce, SuggestedIsAddedOnce}, Values.{count_of, met_by, met_in_items}}
-use Rattle.sharc_ctype.specs.{declared.entity.Entity.Entity, Entities.entities_in}
-use Rattle.sharc_mode.specs.{declared.error.Cast.Cast, declared.error.ModeError.ModeError, Moded.Assignment}
-use Rattle.sharc_suggest.specs.Casts.{IsSuggested}
-use Rattle.sharc_suggest_laws.proofs.{Few.{Test, AtMostOnce, begins_once}, Grown.{Grown, grown_items}, Counted.{counted, counted_append, in_items as items_counted}, Site.{HasSite, has_site}}
+use Rattle.sharc_suggest_laws.proofs.{Imports.{◌≡◌, ℕ, ◌+◌, ◌<◌, ◌≤◌, ◌==◌, true, inl, inr, List, [], ◌∷◌, refl, ap, sym, ◌∙◌, ap₂, length, eqb-true, eq-eqb, Some, arith, and_parts, and_from, Span, span_of, Expression, Recast, is_there, recast_of, program_with, IsAddedOnce, SuggestedIsAddedOnce, count_of, met_by, met_in_items, Entity, entities_in, Cast, ModeError, Assignment, IsSuggested}, Few.{Test, AtMostOnce, begins_once}, Grown.{Grown, grown_items}, Counted.{counted, counted_append, in_items as items_counted}, Site.{HasSite, has_site}}
 
 none_added : (c : Recast) (n from until : ℕ) (old new : List Entity) → n ≡ 0 → Grown c n from until old new → new ≡ old
 none_added c n from until old [] zero_many grown = sym grown.0

@@ -1,13 +1,7 @@
 -- The mismatches reported in a program are those reported of each giving.
-use Rattle.std.proofs.Common.{◌≡◌, ℕ, ◌+◌, zero, suc, Bool, List, [], ◌∷◌, ◌++◌, drop, Option, Some, None, refl, arith}
-use Rattle.std.specs.List.{flat_map}
-use Rattle.sharc_tree.specs.{declared.tree.declaration.Declaration.Declaration, Tree.{Expression, parentheses, call, spawn, on_value, on_place, cast, index, field, unary, binary, Arguments, no_arguments, argument, Right, value, malloc, Simple, assign, does_call, Local, First, nothing, declares, does, Head, Statement, Statements, no_statements, statement, Item, function}}
+use Rattle.sharc_suggest_laws.proofs.{Imports.{◌≡◌, ℕ, ◌+◌, zero, suc, Bool, List, [], ◌∷◌, ◌++◌, drop, Option, Some, None, refl, arith, flat_map, Declaration, Expression, parentheses, call, spawn, on_value, on_place, cast, index, field, unary, binary, Arguments, no_arguments, argument, Right, value, malloc, Simple, assign, does_call, Local, First, nothing, declares, does, Head, Statement, Statements, no_statements, statement, Item, function, Entry, entities_in, numbered, named_at, globals_in, functions_in, parameters_named, Finding, expected, notes_of, option_notes, Assignment, agree_notes, call_notes, source_notes, write_notes, written, base_use, cast_row, modes_at, modes_of, named_row, spawned_notes, touched_notes, behind_first, after, with_parameters, Receiver, of_declared, of_left, of_parameter, Giving, beyond, wanted, one_giving, givings, all_givings, option_givings, value_givings, right_givings, simple_givings, local_givings, first_givings, head_givings, givings_in, givings_in_all, item_givings, items_givings, entry_of}, Quiet.{ones, ones_append, both_quiet, write_quiet, source_quiet, place_quiet, cast_quiet, call_quiet, field_quiet, types_quiet, spawned_quiet, touched_quiet}}
 use Rattle.sharc_tree.specs.Tree as tree
-use Rattle.sharc_names.specs.Names.{Entry}
-use Rattle.sharc_ctype.specs.{Entities.{entities_in, numbered}, Resolved.{named_at, globals_in, functions_in}, Transfers.parameters_named}
-use Rattle.sharc_mode.specs.{declared.finding.Finding.Finding, Expressions.{expected, place_notes, notes_of, notes_of_all, option_notes, right_notes, simple_notes, local_notes, return_notes, first_notes, head_notes, notes_in, notes_in_all, item_notes, items_notes}, Moded.Assignment, Notes.{agree_notes, call_notes, cast_notes, field_notes, source_notes, type_notes, write_notes}, Rows.{written, base_use, cast_row, modes_at, modes_of, named_row}, WellModed.{spawned_notes, touched_notes, notes_about}}
-use Rattle.sharc_suggest.specs.{Givings.{behind_first, after, with_parameters, Receiver, of_declared, of_left, of_parameter, Giving, beyond, wanted, one_giving, givings, all_givings, option_givings, value_givings, right_givings, simple_givings, local_givings, first_givings, head_givings, givings_in, givings_in_all, item_givings, items_givings}, Repairs.entry_of}
-use Rattle.sharc_suggest_laws.proofs.Quiet.{ones, ones_append, both_quiet, write_quiet, source_quiet, place_quiet, cast_quiet, call_quiet, field_quiet, types_quiet, spawned_quiet, touched_quiet}
+use Rattle.sharc_mode.specs.{Expressions.{place_notes, notes_of_all, right_notes, simple_notes, local_notes, return_notes, first_notes, head_notes, notes_in, notes_in_all, item_notes, items_notes}, Notes.{cast_notes, field_notes, type_notes}, WellModed.notes_about}
 
 -- how many mismatches at a token are reported of a giving, and of these givings
 abbrev pub told_of : ℕ → Assignment → Giving → ℕ

@@ -1,11 +1,5 @@
 -- What is given is in the body of a function, after its name and its parameters.
-use Rattle.std.proofs.Common.{◌≡◌, inl, inr, ℕ, ◌+◌, ◌<◌, ◌≤◌, List, [], ◌∷◌, refl, ap, eqb-true, eq-eqb, arith}
-use Rattle.std.specs.List.{AllByRecursion}
-use Rattle.sharc_tree.specs.{declared.token.Token.Token, declared.tree.declaration.Declaration.Declaration, Placed.{Follow, declaration_spans, PlacedDeclarations, PlacedItem}, Spans.span_of, Tree.{Function, function}}
-use Rattle.sharc_suggest.specs.Givings.{Giving}
-use Rattle.sharc_suggest_laws.specs.Values.{count_of, met_by, met_in_statements, begins_at}
-use Rattle.sharc_suggest_laws.proofs.{Counted.counted, Few.{Test, AtMostOnce, few_statements}, Follows.split}
-use Rattle.sharc_lemmas.proofs.Lists.{each}
+use Rattle.sharc_suggest_laws.proofs.{Imports.{◌≡◌, inl, inr, ℕ, ◌+◌, ◌<◌, ◌≤◌, List, [], ◌∷◌, refl, ap, eqb-true, eq-eqb, arith, AllByRecursion, Token, Declaration, Follow, declaration_spans, PlacedDeclarations, PlacedItem, span_of, Function, function, Giving, count_of, met_by, met_in_statements, begins_at, each}, Counted.counted, Few.{Test, AtMostOnce, few_statements}, Follows.split}
 
 abbrev pub at_token : ℕ → Test
 at_token t = record { token = t; test = begins_at t; begins = λ e is. eqb-true (span_of e).first.token t is }

@@ -1,12 +1,6 @@
 -- What is given to a parameter is an argument of its call, and at most this many of its arguments meet a test.
-use Rattle.std.proofs.Common.{◌≡◌, ℕ, zero, suc, ◌+◌, ◌<◌, ◌≤◌, Bool, true, List, [], ◌∷◌, ◌++◌, Option, Some, None, refl, ap, sym, ◌∙◌, arith}
-use Rattle.std.specs.List.{AllByRecursion}
-use Rattle.sharc_tree.specs.Tree.{Expression, parentheses, call, spawn, on_value, on_place, cast, index, field, unary, binary, Arguments, no_arguments, argument, Right, value, malloc, Simple, assign, does_call, Local, First, nothing, declares, does, Head, Statement, Statements, no_statements, statement, Item, function}
+use Rattle.sharc_suggest_laws.proofs.Imports.{◌≡◌, ℕ, zero, suc, ◌+◌, ◌<◌, ◌≤◌, Bool, true, List, [], ◌∷◌, ◌++◌, Option, Some, None, refl, ap, sym, ◌∙◌, arith, AllByRecursion, Expression, parentheses, call, spawn, on_value, on_place, cast, index, field, unary, binary, Arguments, no_arguments, argument, Right, value, malloc, Simple, assign, does_call, Local, First, nothing, declares, does, Head, Statement, Statements, no_statements, statement, Item, function, Entry, behind_first, after, with_parameters, Receiver, of_declared, of_left, of_parameter, Giving, one_giving, givings, all_givings, option_givings, value_givings, right_givings, simple_givings, local_givings, first_givings, head_givings, givings_in, givings_in_all, item_givings, items_givings, entry_of, count_of, met_by, met_inside, met_inside_all, met_at, of_option, met_in_right, met_in_simple, met_in_local, met_in_first, met_in_head, met_in_statement, met_in_statements, met_in_item, met_in_items, joint}
 use Rattle.sharc_tree.specs.Tree as tree
-use Rattle.sharc_names.specs.Names.{Entry}
-use Rattle.sharc_suggest.specs.{Givings.{behind_first, after, with_parameters, Receiver, of_declared, of_left, of_parameter, Giving, one_giving, givings, all_givings, option_givings, value_givings, right_givings, simple_givings, local_givings, first_givings, head_givings, givings_in, givings_in_all, item_givings, items_givings}, Repairs.entry_of}
-use Rattle.sharc_suggest_laws.specs.Values.{count_of, met_by, met_inside, met_inside_all, met_at, of_option, met_in_right, met_in_simple, met_in_local, met_in_first, met_in_head, met_in_statement, met_in_statements, met_in_item, met_in_items}
-use Rattle.sharc_lemmas.proofs.Lists.{both as joint}
 
 abbrev pub nth : ℕ → Arguments → Option Expression
 nth k no_arguments = None

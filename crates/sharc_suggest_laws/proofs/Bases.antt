@@ -1,15 +1,6 @@
 -- What holds of all written types of a program holds of all that has a type; what holds of all that has a type holds of what is declared, and of the casts in what is given.
-use Rattle.std.proofs.Common.{ℕ, zero, suc, List, [], ◌∷◌, ◌++◌, map, Option, Some, None, sym, subst}
-use Rattle.std.specs.List.{AllByRecursion}
-use Rattle.sharc_tree.specs.{declared.tree.declaration.WrittenType.WrittenType, declared.tree.declaration.Declaration.Declaration, declared.tree.item.GlobalDefinition.GlobalDefinition, Measures.{expressions, in_arguments, in_option, in_right, in_simple, in_local}, Tree.{Expression, parentheses, call, spawn, on_value, on_place, cast, index, field, unary, binary, Arguments, no_arguments, argument, Right, value, malloc, Simple, assign, does_call, Local, First, nothing, declares, does, Head, Statement, Statements, no_statements, statement, Function, Item, structure, global, function}}
+use Rattle.sharc_suggest_laws.proofs.{Imports.{ℕ, zero, suc, List, [], ◌∷◌, ◌++◌, map, Option, Some, None, sym, subst, AllByRecursion, WrittenType, Declaration, GlobalDefinition, expressions, in_arguments, in_option, in_right, in_simple, in_local, Expression, parentheses, call, spawn, on_value, on_place, cast, index, field, unary, binary, Arguments, no_arguments, argument, Right, value, malloc, Simple, assign, does_call, Local, First, nothing, declares, does, Head, Statement, Statements, no_statements, statement, Function, Item, structure, global, function, Entry, Role, Entity, declared, casts, first_entities, head_entities, statement_entities, statements_entities, item_entities, entities_in, globals_in, functions_in, declarations_of, declarations_in, first_locals, locals_in, locals_in_all, types_in, types_in_arguments, types_in_option, types_in_right, types_in_simple, types_in_first, types_in_head, types_in_statement, types_in_statements, types_in_declarations, types_in_item, types_in_items, behind_first, after, with_parameters, Receiver, of_declared, of_left, of_parameter, Giving, one_giving, givings, all_givings, option_givings, value_givings, right_givings, simple_givings, local_givings, first_givings, head_givings, givings_in, givings_in_all, item_givings, items_givings, entry_of, front, back, joint}, Grown.casts_append}
 use Rattle.sharc_tree.specs.Tree as tree
-use Rattle.sharc_names.specs.{Names.Entry, declared.types.Role.Role}
-use Rattle.sharc_names.specs.declared.types.Role.TheVariants as role
-use Rattle.sharc_ctype.specs.{declared.entity.Entity.Entity, Entities.{declared, casts, first_entities, head_entities, statement_entities, statements_entities, item_entities, entities_in}, Resolved.{globals_in, functions_in, declarations_of, declarations_in}, Statements.{first_locals, locals_in, locals_in_all}}
-use Rattle.sharc_ctype_laws.specs.WrittenTypes.{types_in, types_in_arguments, types_in_option, types_in_right, types_in_simple, types_in_first, types_in_head, types_in_statement, types_in_statements, types_in_declarations, types_in_item, types_in_items}
-use Rattle.sharc_suggest.specs.{Givings.{behind_first, after, with_parameters, Receiver, of_declared, of_left, of_parameter, Giving, one_giving, givings, all_givings, option_givings, value_givings, right_givings, simple_givings, local_givings, first_givings, head_givings, givings_in, givings_in_all, item_givings, items_givings}, Repairs.entry_of}
-use Rattle.sharc_suggest_laws.proofs.Grown.{casts_append}
-use Rattle.sharc_lemmas.proofs.Lists.{front, back, both as joint}
 
 -- of the types of these
 abbrev pub Have : (WrittenType → Type 0) → List Entity → Type 0
@@ -119,11 +110,11 @@ of_declarations Q what [] h = tt
 of_declarations Q what (d ∷ rest) h = (h.0, of_declarations Q what rest h.1)
 
 of_item : (Q : WrittenType → Type 0) (i : Item) → AllByRecursion Q (types_in_item i) → Have Q (item_entities i)
-of_item Q (structure s) h = of_declarations Q role.Field s.fields h
+of_item Q (structure s) h = of_declarations Q Role.Field s.fields h
 of_item Q (global g) h = h
 of_item Q (function f) h = (
   h.0,
-  both_have Q (map (declared role.Parameter) f.parameters) (statements_entities f.statements) (of_declarations Q role.Parameter f.parameters (front Q (types_in_declarations f.parameters) (types_in_statements f.statements) h.1))
+  both_have Q (map (declared Role.Parameter) f.parameters) (statements_entities f.statements) (of_declarations Q Role.Parameter f.parameters (front Q (types_in_declarations f.parameters) (types_in_statements f.statements) h.1))
       (of_statements Q f.statements (back Q (types_in_declarations f.parameters) (types_in_statements f.statements) h.1)),
 )
 
@@ -268,7 +259,7 @@ in_all Q [] h = record { declarations = tt; globals = tt; results = tt; given = 
 in_all Q (structure s ∷ rest) h =
     let more = in_all Q rest (last_have Q (item_entities (structure s)) (entities_in rest) h) in
     record {
-      declarations = joint (λ (d : Declaration). Q d.written) s.fields (declarations_in rest) (from_declarations Q role.Field s.fields (first_have Q (item_entities (structure s)) (entities_in rest) h)) more.declarations;
+      declarations = joint (λ (d : Declaration). Q d.written) s.fields (declarations_in rest) (from_declarations Q Role.Field s.fields (first_have Q (item_entities (structure s)) (entities_in rest) h)) more.declarations;
       globals = more.globals;
       results = more.results;
       given = more.given;
@@ -279,10 +270,10 @@ in_all Q (global g ∷ rest) h =
 in_all Q (function f ∷ rest) h =
     let more = in_all Q rest (last_have Q (item_entities (function f)) (entities_in rest) h) in
     let own = first_have Q (item_entities (function f)) (entities_in rest) h in
-    let below = statements_hold Q (with_parameters [] f.parameters) f.name.site.token f.statements (last_have Q (map (declared role.Parameter) f.parameters) (statements_entities f.statements) own.1) in
+    let below = statements_hold Q (with_parameters [] f.parameters) f.name.site.token f.statements (last_have Q (map (declared Role.Parameter) f.parameters) (statements_entities f.statements) own.1) in
     record {
       declarations = joint (λ (d : Declaration). Q d.written) (declarations_of (function f)) (declarations_in rest)
-          (joint (λ (d : Declaration). Q d.written) f.parameters (locals_in_all f.statements) (from_declarations Q role.Parameter f.parameters (first_have Q (map (declared role.Parameter) f.parameters) (statements_entities f.statements) own.1)) below.locals)
+          (joint (λ (d : Declaration). Q d.written) f.parameters (locals_in_all f.statements) (from_declarations Q Role.Parameter f.parameters (first_have Q (map (declared Role.Parameter) f.parameters) (statements_entities f.statements) own.1)) below.locals)
           more.declarations;
       globals = more.globals;
       results = (own.0, more.results);

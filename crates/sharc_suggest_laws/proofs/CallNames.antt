@@ -1,14 +1,7 @@
 -- The variables that are named by the paths of a call are named by paths of the program.
-use Rattle.std.proofs.{Common.{◌≡◌, ℕ, zero, suc, ◌==◌, Bool, true, false, ◌||◌, List, [], ◌∷◌, ◌++◌, drop, Option, Some, None, refl}, lemmas.Bool.{false≢true, or_right}}
-use Rattle.std.specs.List.{flat_map, AllByRecursion}
-use Rattle.sharc_tree.specs.{declared.tree.declaration.Declaration.Declaration, Tree.{Expression, parentheses, call, spawn, on_value, on_place, cast, index, field, unary, binary, Arguments, no_arguments, argument, Right, value, malloc, Simple, assign, does_call, Local, First, nothing, declares, does, Head, Statement, Statements, no_statements, statement, Item, function}}
+use Rattle.sharc_suggest_laws.proofs.Imports.{◌≡◌, ℕ, zero, suc, ◌==◌, Bool, true, false, ◌||◌, List, [], ◌∷◌, ◌++◌, drop, Option, Some, None, refl, false≢true, or_right, flat_map, AllByRecursion, Declaration, Expression, parentheses, call, spawn, on_value, on_place, cast, index, field, unary, binary, Arguments, no_arguments, argument, Right, value, malloc, Simple, assign, does_call, Local, First, nothing, declares, does, Head, Statement, Statements, no_statements, statement, Item, function, Entry, entities_in, numbered, named_at, parameters_named, Finding, Wrong, Names, Takes, expected, notes_of, option_notes, Assignment, agree_notes, call_notes, names_at_call, first_unmet, unmet_notes, source_notes, write_notes, is_named, written, base_use, cast_row, declared_row, modes_at, modes_of, named_row, Sharing, said_of_paths, behind_first, after, with_parameters, Receiver, of_declared, of_left, of_parameter, Giving, beyond, wanted, one_giving, givings, all_givings, option_givings, value_givings, right_givings, simple_givings, local_givings, first_givings, head_givings, givings_in, givings_in_all, item_givings, items_givings, entry_of, joint}
 use Rattle.sharc_tree.specs.Tree as tree
-use Rattle.sharc_names.specs.Names.{Entry}
-use Rattle.sharc_ctype.specs.{Entities.{entities_in, numbered}, Resolved.named_at, Transfers.parameters_named}
-use Rattle.sharc_mode.specs.{declared.finding.Finding.Finding, declared.finding.Finding.TheVariants.{Wrong, Names, Takes}, Expressions.{expected, place_notes, notes_of, notes_of_all, option_notes, right_notes, simple_notes, local_notes, return_notes, first_notes, head_notes, notes_in, notes_in_all, item_notes, items_notes}, Moded.Assignment, Notes.{agree_notes, call_notes, names_at_call, first_unmet, unmet_notes, cast_notes, field_notes, source_notes, type_notes, write_notes, is_named}, Rows.{written, base_use, cast_row, declared_row, modes_at, modes_of, named_row}, Sharings.Sharing}
-use Rattle.sharc_check.specs.Named.{said_of_paths}
-use Rattle.sharc_suggest.specs.{Givings.{behind_first, after, with_parameters, Receiver, of_declared, of_left, of_parameter, Giving, beyond, wanted, one_giving, givings, all_givings, option_givings, value_givings, right_givings, simple_givings, local_givings, first_givings, head_givings, givings_in, givings_in_all, item_givings, items_givings}, Repairs.entry_of}
-use Rattle.sharc_lemmas.proofs.Lists.{both as joint}
+use Rattle.sharc_mode.specs.{Expressions.{place_notes, notes_of_all, right_notes, simple_notes, local_notes, return_notes, first_notes, head_notes, notes_in, notes_in_all, item_notes, items_notes}, Notes.{cast_notes, field_notes, type_notes}}
 
 -- what these say is said among those
 abbrev pub Says : List Finding → List Finding → Type 0

@@ -1,31 +1,23 @@
 -- Calls of condition variables that a program does not define: what the file knows of their names, and what the token of one names with the cast written.
-use Rattle.std.proofs.{Common.{◌≡◌, ◌⊎◌, inl, inr, ⊎_elim, ℕ, ◌<◌, ◌≤◌, ◌==◌, ◌||◌, Bool, true, false, cond, List, [], ◌∷◌, ◌++◌, length, get_or, Option, Some, None, is_some, bytes_eq, codes, refl, ap, sym, ◌∙◌, eqb-true}, lemmas.Bool.{false≢true, cases_lt}}
-use Rattle.std.specs.{List.AllByRecursion, Map.lookup}
-use Rattle.sharc_tree.specs.{declared.tree.declaration.Declaration.Declaration, declared.tree.item.StructDefinition.StructDefinition, Tree.{Item, structure, global, function}}
-use Rattle.sharc_names.specs.{declared.fault.Named.Named, declared.meaning.ConditionCall.TheVariants.{Wait, Signal, Broadcast}, declared.scope.Scope.Scope, Names.{Entry, StructMeaning, StructTable, look_up, struct_of, named_of}, Notes.{Note, fault, refers, yields, is_free}}
-use Rattle.sharc_names.specs.declared.fault.Named.TheVariants as named
+use Rattle.sharc_suggest_laws.proofs.{Imports.{◌≡◌, ◌⊎◌, inl, inr, ⊎_elim, ℕ, ◌<◌, ◌≤◌, ◌==◌, ◌||◌, Bool, true, false, cond, List, [], ◌∷◌, ◌++◌, length, get_or, Option, Some, None, is_some, bytes_eq, codes, refl, ap, sym, ◌∙◌, eqb-true, false≢true, cases_lt, AllByRecursion, lookup, Declaration, StructDefinition, Item, structure, global, function, Named, Wait, Signal, Broadcast, Scope, Entry, StructMeaning, StructTable, look_up, struct_of, named_of, Note, fault, refers, yields, is_free, defines_condition, call_entry, with_conditions, Heading, with_struct, with_entry, global_entry, function_entry, behind, behind_all, no_heads, file_scope, notes_about, named_in, Resolution, named_at, is_field, is_call_name, is_call_at}, Folded.{seen, named_seen, named_past, IsOwnAt}, Noted.{IsHarmless, Noted, done, kept, added, old_fault, new_fault}, Filed.no_entry}
 use Rattle.sharc_names.specs.Names as meaning
-use Rattle.sharc_ctype.specs.{Condition.{defines_condition, call_entry, with_conditions}, Heads.{Heading, with_struct, with_entry, global_entry, function_entry, behind, behind_all, no_heads}, Items.{file_scope, notes_about, named_in}, Resolved.{Resolution, named_at}}
-use Rattle.sharc_mode.specs.Sharings.{is_field}
-use Rattle.sharc_suggest.specs.Repairs.{is_call_name, is_call_at}
-use Rattle.sharc_suggest_laws.proofs.{Folded.{seen, named_seen, named_past, IsOwnAt}, Noted.{IsHarmless, Noted, done, kept, added, old_fault, new_fault}, Filed.no_entry}
 
 -- ---- a file that knows something that it does not define
 
-pub no_global : (n : ℕ) → named.Global n ≡ named.Known → ⊥
+pub no_global : (n : ℕ) → Named.Global n ≡ Named.Known → ⊥
 no_global n h = cc
 
-pub no_function : (n : ℕ) → named.Function n ≡ named.Known → ⊥
+pub no_function : (n : ℕ) → Named.Function n ≡ Named.Known → ⊥
 no_function n h = cc
 
 -- a call, or `struct cond`
 abbrev pub KnowsCalls : Scope → Type 0
-KnowsCalls file = ((text : List ℕ) × (e : Entry) × (look_up file.names text ≡ Some e) × (named_of e.meaning ≡ named.Known)) ⊎ ((name : List ℕ) × (struct_of file.structs name ≡ Some meaning.known))
+KnowsCalls file = ((text : List ℕ) × (e : Entry) × (look_up file.names text ≡ Some e) × (named_of e.meaning ≡ Named.Known)) ⊎ ((name : List ℕ) × (struct_of file.structs name ≡ Some meaning.known))
 
 -- what a program defines is none of these
 
 abbrev pub NoCall : List Entry → Type 0
-NoCall names = (text : List ℕ) (e : Entry) → look_up names text ≡ Some e → named_of e.meaning ≡ named.Known → ⊥
+NoCall names = (text : List ℕ) (e : Entry) → look_up names text ≡ Some e → named_of e.meaning ≡ Named.Known → ⊥
 
 abbrev pub NoStruct : StructTable → Type 0
 NoStruct structs = (name : List ℕ) → struct_of structs name ≡ Some meaning.known → ⊥
@@ -34,7 +26,7 @@ pub record IsDefined (file : Scope) : Type 0 where
   pub names : NoCall file.names
   pub structs : NoStruct file.structs
 
-entry_defined : (scope : List Entry) (x : Entry) → (named_of x.meaning ≡ named.Known → ⊥) → NoCall scope → NoCall (with_entry x scope)
+entry_defined : (scope : List Entry) (x : Entry) → (named_of x.meaning ≡ Named.Known → ⊥) → NoCall scope → NoCall (with_entry x scope)
 entry_defined scope x other none text e found known = by (is_some (look_up scope x.name)) found
   where
     one_some : (a b : Entry) → Some a ≡ Some b → a ≡ b
@@ -88,7 +80,7 @@ not_known file all (inl there) = all.names there.0 there.1 there.2 there.3
 not_known file all (inr there) = all.structs there.0 there.1
 
 -- so the three names are those of the calls
-pub calls_known : (items : List Item) → KnowsCalls (file_scope items) → (text : List ℕ) → is_call_name text ≡ true → (e : Entry) → look_up (file_scope items).names text ≡ Some e → named_of e.meaning ≡ named.Known
+pub calls_known : (items : List Item) → KnowsCalls (file_scope items) → (text : List ℕ) → is_call_name text ≡ true → (e : Entry) → look_up (file_scope items).names text ≡ Some e → named_of e.meaning ≡ Named.Known
 calls_known items knows text called e found = by (defines_condition defined) knows found
   where
     defined : Scope
@@ -98,13 +90,13 @@ calls_known items knows text called e found = by (defines_condition defined) kno
     one_some a b h = cc
 
     of_call : (w s b : Bool) (rest : Option Entry) → (w || (s || b)) ≡ true
-        → cond b (Some (call_entry (codes "broadcast") Broadcast)) (cond s (Some (call_entry (codes "signal") Signal)) (cond w (Some (call_entry (codes "wait") Wait)) rest)) ≡ Some e → named_of e.meaning ≡ named.Known
+        → cond b (Some (call_entry (codes "broadcast") Broadcast)) (cond s (Some (call_entry (codes "signal") Signal)) (cond w (Some (call_entry (codes "wait") Wait)) rest)) ≡ Some e → named_of e.meaning ≡ Named.Known
     of_call w s true rest so is = ap (λ (x : Entry). named_of x.meaning) (sym (one_some (call_entry (codes "broadcast") Broadcast) e is))
     of_call w true false rest so is = ap (λ (x : Entry). named_of x.meaning) (sym (one_some (call_entry (codes "signal") Signal) e is))
     of_call true false false rest so is = ap (λ (x : Entry). named_of x.meaning) (sym (one_some (call_entry (codes "wait") Wait) e is))
     of_call false false false rest so is = absurd (false≢true so)
 
-    by : (b : Bool) → KnowsCalls (cond b defined (with_conditions defined)) → look_up (cond b defined (with_conditions defined)).names text ≡ Some e → named_of e.meaning ≡ named.Known
+    by : (b : Bool) → KnowsCalls (cond b defined (with_conditions defined)) → look_up (cond b defined (with_conditions defined)).names text ≡ Some e → named_of e.meaning ≡ Named.Known
     by true so is = absurd (not_known defined (items_defined no_heads items none_defined) so)
     by false so is = of_call (bytes_eq (codes "wait") text) (bytes_eq (codes "signal") text) (bytes_eq (codes "broadcast") text) (look_up defined.names text) called is
 
@@ -142,11 +134,11 @@ pub call_stays : (r now : Resolution) → now.named ≡ named_in now.program →
     → (t : ℕ) → is_field (named_at r t) ≡ false → is_call_at r t ≡ true → is_field (named_at now t) ≡ false
 call_stays r now names own said t plain is = ⊎_elim inside outside (cases_lt t (length now.program.tokens.list))
   where
-    here : named_at now t ≡ get_or (named_in now.program) t named.Known
-    here = ap (λ (l : List Named). get_or l t named.Known) names
+    here : named_at now t ≡ get_or (named_in now.program) t Named.Known
+    here = ap (λ (l : List Named). get_or l t Named.Known) names
 
     inside : t < length now.program.tokens.list → is_field (named_at now t) ≡ false
-    inside low = ap is_field (here ∙ named_seen now.program t low) ∙ call_plain r t named.Known (notes_about r.program) (notes_about now.program) plain is (own t) said refl
+    inside low = ap is_field (here ∙ named_seen now.program t low) ∙ call_plain r t Named.Known (notes_about r.program) (notes_about now.program) plain is (own t) said refl
 
     outside : length now.program.tokens.list ≤ t → is_field (named_at now t) ≡ false
     outside past = ap is_field (here ∙ named_past now.program t past)

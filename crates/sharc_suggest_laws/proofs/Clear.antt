@@ -1,12 +1,7 @@
 -- Nothing that is given begins where something is declared.
-use Rattle.std.proofs.Common.{◌≡◌, inl, inr, ℕ, ◌+◌, ◌<◌, ◌≤◌, List, [], ◌∷◌, ◌++◌, refl, ◌∙◌, arith}
-use Rattle.std.specs.List.{AllByRecursion}
-use Rattle.sharc_tree.specs.{declared.token.Span.Span, declared.token.Token.Token, declared.tree.declaration.Declaration.Declaration, declared.tree.item.GlobalDefinition.GlobalDefinition, Placed.{Follow, IsWhole, option_spans, first_spans, head_spans, statement_spans, item_spans, PlacedDeclaration, PlacedLocal, PlacedFirst, PlacedHead, PlacedStatement, PlacedStatements, PlacedItems}, Spans.{span_of, span_of_right, span_of_simple, span_of_statement, span_of_item}, Tree.{Expression, Local, First, nothing, declares, does, Head, Statement, Statements, no_statements, statement, Function, Item, structure, global, function}}
+use Rattle.sharc_suggest_laws.proofs.{Imports.{◌≡◌, inl, inr, ℕ, ◌+◌, ◌<◌, ◌≤◌, List, [], ◌∷◌, ◌++◌, refl, ◌∙◌, arith, AllByRecursion, Span, Token, Declaration, GlobalDefinition, Follow, option_spans, first_spans, head_spans, statement_spans, item_spans, PlacedDeclaration, PlacedLocal, PlacedFirst, PlacedHead, PlacedStatement, PlacedStatements, PlacedItems, span_of, span_of_right, span_of_simple, span_of_statement, span_of_item, Expression, Local, First, nothing, declares, does, Head, Statement, Statements, no_statements, statement, Function, Item, structure, global, function, globals_in, functions_in, declarations_of, declarations_in, first_locals, locals_in, locals_in_all, met_inside, met_at, of_option, met_in_simple, met_in_local, met_in_first, met_in_head, met_in_statement, met_in_statements, met_in_item, met_in_items, begins_at, front, joint, each}, Apart.{at_token, Between, named_between, HasParts, parts_of}, Few.{AtMostOnce, Few, few_both, few_in, few_option, few_step, few_initial, few_first, few_head, few_statement, few_statements, few_item, few_items}, Follows.split}
+use Rattle.sharc_tree.specs.Placed.{IsWhole}
 use Rattle.sharc_tree.specs.Tree as tree
-use Rattle.sharc_ctype.specs.{Resolved.{globals_in, functions_in, declarations_of, declarations_in}, Statements.{first_locals, locals_in, locals_in_all}}
-use Rattle.sharc_suggest_laws.specs.Values.{met_inside, met_at, of_option, met_in_simple, met_in_local, met_in_first, met_in_head, met_in_statement, met_in_statements, met_in_item, met_in_items, begins_at}
-use Rattle.sharc_suggest_laws.proofs.{Apart.{at_token, Between, named_between, HasParts, parts_of}, Few.{AtMostOnce, Few, few_both, few_in, few_option, few_step, few_initial, few_first, few_head, few_statement, few_statements, few_item, few_items}, Follows.split}
-use Rattle.sharc_lemmas.proofs.Lists.{front, both as joint, each}
 
 -- it is named in a stretch, and the number of what begins there is 0
 abbrev IsClear : ℕ → ℕ → (ℕ → ℕ) → Declaration → Type 0

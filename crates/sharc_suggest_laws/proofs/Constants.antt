@@ -1,13 +1,7 @@
 -- The same variables are constant in a program with a cast written in it, where its names name what they named.
-use Rattle.std.proofs.{Common.{◌≡◌, inl, inr, ℕ, Bool, true, false, not, ◌&&◌, ◌||◌, cond, List, [], ◌∷◌, ◌++◌, map, Option, Some, None, option_map, is_some, refl, ap, ap₂, sym, ◌∙◌}, lemmas.Bool.false≢true, lemmas.List.Folds.list_any-append}
-use Rattle.std.specs.List.{list_any}
-use Rattle.sharc_tree.specs.{declared.tree.declaration.WrittenType.WrittenType, declared.tree.declaration.Declaration.Declaration, Forms.without_parentheses, Tree.{Expression, identifier, parentheses, call, spawn, on_value, on_place, cast, index, field, unary, binary, Arguments, no_arguments, argument, Right, value, malloc, Simple, assign, does_call, Local, First, nothing, declares, does, Head, Statement, Statements, no_statements, statement, Function, Item, function, Program}}
+use Rattle.sharc_suggest_laws.proofs.{Imports.{◌≡◌, inl, inr, ℕ, Bool, true, false, not, ◌&&◌, ◌||◌, cond, List, [], ◌∷◌, ◌++◌, map, Option, Some, None, option_map, is_some, refl, ap, ap₂, sym, ◌∙◌, false≢true, list_any-append, list_any, WrittenType, Declaration, without_parentheses, Expression, identifier, parentheses, call, spawn, on_value, on_place, cast, index, field, unary, binary, Arguments, no_arguments, argument, Right, value, malloc, Simple, assign, does_call, Local, First, nothing, declares, does, Head, Statement, Statements, no_statements, statement, Function, Item, function, Program, Named, Recast, around, with_cast, right_with_cast, simple_with_cast, local_with_cast, first_with_cast, statement_with_cast, statements_with_cast, function_with_cast, item_with_cast, program_with_cast, is_dull, KeepsName, is_among, stands_left, is_assigned_by, is_assigned_in, is_constant, Resolution, functions_in, named_at, lvalue, variable, result, Transfer, parameters_named, gives, passed, transfers, argument_transfers, right_transfers, simple_transfers, first_transfers, statement_transfers, statements_transfers, initialised, initialised_first, initialised_in, initialised_in_all, variable_in, variable_of, with_value, all_with_value}, Declared.same_functions}
 use Rattle.sharc_tree.specs.Tree as tree
-use Rattle.sharc_names.specs.declared.fault.Named.{Named}
-use Rattle.sharc_names.specs.declared.fault.Named.TheVariants as named
-use Rattle.sharc_suggest_laws.specs.{declared.written.Recast.Recast, Recast.{around, with_cast, right_with_cast, simple_with_cast, local_with_cast, first_with_cast, statement_with_cast, statements_with_cast, function_with_cast, item_with_cast, program_with_cast}, Names.{is_dull, KeepsName}}
-use Rattle.sharc_ctype.specs.{Constants.{is_among, stands_left, is_assigned_by, is_assigned_in, is_constant}, Resolved.{Resolution, functions_in, named_at}, Transfers.{Receiver, lvalue, variable, result, Transfer, parameters_named, gives, passed, transfers, argument_transfers, in_option, right_transfers, simple_transfers, first_transfers, statement_transfers, statements_transfers}, Variables.{initialised, initialised_first, initialised_in, initialised_in_all, variable as variable_in, variable_of, with_value, all_with_value}}
-use Rattle.sharc_suggest_laws.proofs.Declared.{same_functions}
+use Rattle.sharc_ctype.specs.Transfers.{Receiver, in_option}
 
 -- each token names what it named
 abbrev pub AllKept : Resolution → Resolution → Type 0
@@ -54,7 +48,7 @@ all_begin c (i ∷ rest) = both _ _ _ _ (item_begins c i) (all_begin c rest)
 -- ---- what is assigned
 
 dull_none : (v : Named) → is_dull v ≡ true → variable_in v ≡ []
-dull_none (named.Variable x) is = absurd (false≢true is)
+dull_none (Named.Variable x) is = absurd (false≢true is)
 dull_none _ is = refl
 
 variable_kept : (v w : Named) → KeepsName v w → variable_in w ≡ variable_in v

@@ -1,9 +1,6 @@
 -- What is declared in a program with a cast written in it.
-use Rattle.std.proofs.Common.{◌≡◌, List, [], ◌∷◌, ◌++◌, map, refl, ap, ap₂}
-use Rattle.sharc_tree.specs.{declared.tree.declaration.Declaration.Declaration, declared.tree.item.GlobalDefinition.GlobalDefinition, declared.tree.item.StructDefinition.StructDefinition, Tree.{First, does, Statement, Statements, no_statements, statement, Function, Item, structure, global, function}}
+use Rattle.sharc_suggest_laws.proofs.Imports.{◌≡◌, List, [], ◌∷◌, ◌++◌, map, refl, ap, ap₂, Declaration, GlobalDefinition, StructDefinition, First, does, Statement, Statements, no_statements, statement, Function, Item, structure, global, function, Recast, first_with_cast, statement_with_cast, statements_with_cast, item_with_cast, function_with_cast, DeclarationsStay, first_locals, locals_in, locals_in_all, structs_in, globals_in, functions_in, declarations_of, declarations_in}
 use Rattle.sharc_tree.specs.Tree as tree
-use Rattle.sharc_suggest_laws.specs.{declared.written.Recast.Recast, Recast.{first_with_cast, statement_with_cast, statements_with_cast, item_with_cast, function_with_cast}, Kept.DeclarationsStay}
-use Rattle.sharc_ctype.specs.{Statements.{first_locals, locals_in, locals_in_all}, Resolved.{structs_in, globals_in, functions_in, declarations_of, declarations_in}}
 
 both : (a b x y : List Declaration) → a ≡ x → b ≡ y → a ++ b ≡ x ++ y
 both a b x y left right = ap₂ (λ (s t : List Declaration). s ++ t) left right

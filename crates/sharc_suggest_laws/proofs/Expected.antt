@@ -1,13 +1,5 @@
 -- A cast to modes that are expected has them.
-use Rattle.std.proofs.{Common.{◌≡◌, ℕ, true, List, [], ◌∷◌, length, take, drop, map, Option, Some, None, refl, ap, ap₂, ◌∙◌, eq-eqb}, lemmas.Bool.{and_from, cond-true}, lemmas.Slice.Eq.bytes_eq-Decides}
-use Rattle.sharc_tree.specs.{declared.ctype.CType.CType, declared.ctype.Mode.Mode, Spans.span_of, Tree.{Expression, cast}}
-use Rattle.sharc_names.specs.declared.fault.Named.{Named}
-use Rattle.sharc_names.specs.declared.fault.Named.TheVariants as named
-use Rattle.sharc_ctype.specs.Resolved.{Resolution, named_at, kind_at}
-use Rattle.sharc_mode.specs.{Moded.Assignment, Notes.{agree, base_of}, Rows.{Targets, written, read, entity_row, cast_row, modes_of}, Sharings.{Sharing, locked, lock_of, path_with, sharing_of, mode_of, same, same_named, same_text, same_first, same_second, same_all, text_at}}
-use Rattle.sharc_suggest_laws.specs.{Applied.{written_or, targets, inserted, first_of, first_new, resolution_with, assignment_with}, Expected.{IsCastAt, HasExpected, Agrees, CastHasExpected}}
-use Rattle.sharc_suggest.specs.Repairs.{cast_to}
-use Rattle.sharc_suggest_laws.proofs.{Inserted.stretch_added, Rows.{row_of, all_read}, Stands.suggested_stands, Types.targets_counted}
+use Rattle.sharc_suggest_laws.proofs.{Imports.{◌≡◌, ℕ, true, List, [], ◌∷◌, length, take, drop, map, Option, Some, None, refl, ap, ap₂, ◌∙◌, eq-eqb, and_from, cond-true, bytes_eq-Decides, CType, Mode, span_of, Expression, cast, Named, Resolution, named_at, kind_at, Assignment, agree, base_of, Targets, written, read, entity_row, cast_row, modes_of, Sharing, locked, lock_of, path_with, sharing_of, mode_of, same, same_named, same_text, same_first, same_second, same_all, text_at, written_or, targets, inserted, first_of, first_new, resolution_with, assignment_with, IsCastAt, HasExpected, Agrees, CastHasExpected, cast_to}, Inserted.stretch_added, Rows.{row_of, all_read}, Stands.suggested_stands, Types.targets_counted}
 
 -- ---- the modes of a type that is shown are those that it was made of
 
@@ -50,15 +42,15 @@ second_itself None = refl
 second_itself (Some m) = (bytes_eq-Decides m m).1 refl
 
 name_itself : (n : Named) → same_named n n ≡ true
-name_itself (named.Struct n) = eq-eqb n n refl
-name_itself (named.Global g) = eq-eqb g g refl
-name_itself (named.Function f) = eq-eqb f f refl
-name_itself (named.Variable x) = eq-eqb x x refl
-name_itself (named.Field f) = eq-eqb f f refl
-name_itself named.Known = refl
+name_itself (Named.Struct n) = eq-eqb n n refl
+name_itself (Named.Global g) = eq-eqb g g refl
+name_itself (Named.Function f) = eq-eqb f f refl
+name_itself (Named.Variable x) = eq-eqb x x refl
+name_itself (Named.Field f) = eq-eqb f f refl
+name_itself Named.Known = refl
 
 text_itself : (n : Named) (text : List ℕ) → same_text n text text ≡ true
-text_itself named.Known text = (bytes_eq-Decides text text).1 refl
+text_itself Named.Known text = (bytes_eq-Decides text text).1 refl
 text_itself _ text = refl
 
 first_itself : (r : Resolution) (token : ℕ) → same_first r token token ≡ true

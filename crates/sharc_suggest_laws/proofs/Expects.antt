@@ -1,17 +1,6 @@
 -- What is expected of a value that is given in a typed program: as many modes as the receiver has stars, whose lock
 -- paths lead to something.
-use Rattle.std.proofs.{Common.{◌≡◌, ℕ, zero, suc, ◌+◌, ◌==◌, Bool, true, false, cond, List, [], ◌∷◌, drop, Option, Some, None, option_map, refl, ap, sym, subst, ◌∙◌, eqb-true, arith}, lemmas.Bool.{false≢true, and_parts}}
-use Rattle.std.specs.List.{AllByRecursion}
-use Rattle.sharc_tree.specs.{declared.ctype.Base.Base, declared.tree.declaration.Declaration.Declaration, declared.tree.declaration.Identifier.Identifier, declared.tree.declaration.WrittenType.WrittenType, Tree.{Expression, identifier, Arguments, no_arguments, argument, Function}}
-use Rattle.sharc_names.specs.{declared.fault.Named.Named, Kinds.{Kind, object, null, agrees, is_integer, is_integral, is_null, is_pointer, same_kind, stars_of, declared_kind}}
-use Rattle.sharc_names.specs.declared.fault.Named.TheVariants as named
-use Rattle.sharc_ctype.specs.{declared.entity.Entity.Entity, Entities.{declared, entity_at}, Resolved.{Resolution, functions_in, declaration_at, function_at, named_at, named_kind, variable_kind, kind_at}, Transfers.{IsFair, parameters_of, parameters_named, passed}}
-use Rattle.sharc_ctype_laws.specs.Declared.{IsItself}
-use Rattle.sharc_infer_laws.specs.Locks.{HasWrittenLocks}
-use Rattle.sharc_mode.specs.{Expressions.expected, Moded.{Assignment, IsWhole}, Rows.{written, at_call, Targets, argument_use, constant_use, declared_row, entity_row, is_constant_named, modes_of, row_at}, Sharings.Sharing}
-use Rattle.sharc_suggest.specs.Givings.{beyond, Receiver, of_declared, of_left, of_parameter, wanted}
-use Rattle.sharc_suggest_laws.proofs.{Given.{Declares, FirstFits, Receives, IsWellFunction}, Leads.{ArgumentsFit, IsVariableAt}, ModesKept.{HasModes, modes_of_row}, Retyped.one_kind, Targets.{IsRow, IsRowOf, IsKnownProgram, own_row, targets_of}}
-use Rattle.sharc_lemmas.proofs.{Lists.at_place, Options.some_is as one_some}
+use Rattle.sharc_suggest_laws.proofs.{Imports.{◌≡◌, ℕ, zero, suc, ◌+◌, ◌==◌, Bool, true, false, cond, List, [], ◌∷◌, drop, Option, Some, None, option_map, refl, ap, sym, subst, ◌∙◌, eqb-true, arith, false≢true, and_parts, AllByRecursion, Base, Declaration, Identifier, WrittenType, Expression, identifier, Arguments, no_arguments, argument, Function, Named, Kind, object, null, agrees, is_integer, is_integral, is_null, is_pointer, same_kind, stars_of, declared_kind, Entity, declared, entity_at, Resolution, functions_in, declaration_at, function_at, named_at, named_kind, variable_kind, kind_at, IsFair, parameters_of, parameters_named, passed, IsItself, HasWrittenLocks, expected, Assignment, IsWhole, written, at_call, Targets, argument_use, constant_use, declared_row, entity_row, is_constant_named, modes_of, row_at, Sharing, beyond, Receiver, of_declared, of_left, of_parameter, wanted, at_place, one_some}, Given.{Declares, FirstFits, Receives, IsWellFunction}, Leads.{ArgumentsFit, IsVariableAt}, ModesKept.{HasModes, modes_of_row}, Retyped.one_kind, Targets.{IsRow, IsRowOf, IsKnownProgram, own_row, targets_of}}
 
 -- ---- what agrees with what (6.5.16.1)
 
@@ -57,7 +46,7 @@ pointer_agreed b n k (integers c none is) = absurd (no_star_less n none)
 -- one that is used as such
 use_fits : (r : Resolution) (i : Identifier) (v : Named) → named_at r i.site.token ≡ v → (y : ℕ) → cond (is_constant_named r v) (Some i.site.token) None ≡ Some y → (b : Base) (n : ℕ) → agrees (object b (n + 1)) (named_kind r v) ≡ true
     → IsVariableAt r y × (named_kind r (named_at r y) ≡ object b (n + 1))
-use_fits r i (named.Variable x) at y is b n fit = by (is_constant_named r (named.Variable x)) is
+use_fits r i (Named.Variable x) at y is b n fit = by (is_constant_named r (Named.Variable x)) is
   where
     none_some : None ≡ Some y → ⊥
     none_some h = cc
@@ -65,8 +54,8 @@ use_fits r i (named.Variable x) at y is b n fit = by (is_constant_named r (named
     by : (z : Bool) → cond z (Some i.site.token) None ≡ Some y → IsVariableAt r y × (named_kind r (named_at r y) ≡ object b (n + 1))
     by true h =
         let there : i.site.token ≡ y = one_some i.site.token y h in
-        let name : named_at r y ≡ named.Variable x = ap (named_at r) (sym there) ∙ at in
-        ((x, name), ap (named_kind r) name ∙ pointer_agreed b n (named_kind r (named.Variable x)) (agreed b (n + 1) (named_kind r (named.Variable x)) (variable_not_null (declaration_at r x)) fit))
+        let name : named_at r y ≡ Named.Variable x = ap (named_at r) (sym there) ∙ at in
+        ((x, name), ap (named_kind r) name ∙ pointer_agreed b n (named_kind r (Named.Variable x)) (agreed b (n + 1) (named_kind r (Named.Variable x)) (variable_not_null (declaration_at r x)) fit))
     by false h = absurd (none_some h)
 use_fits r i _ at y is b n fit = absurd (none_some y is)
   where
@@ -77,7 +66,7 @@ argument_fits : (r : Resolution) (a : Expression) (y : ℕ) → constant_use r a
 argument_fits r (identifier s i) y is b n fit = use_fits r i (named_at r i.site.token) refl y is b n fit
 argument_fits r _ y is b n fit = absurd (cc)
 
-pub arguments_fit : (r : Resolution) (ds : List Declaration) (all : Arguments) → AllByRecursion (IsItself r named.Variable) ds → AllByRecursion (IsFair r) (passed ds all) → ArgumentsFit r ds all
+pub arguments_fit : (r : Resolution) (ds : List Declaration) (all : Arguments) → AllByRecursion (IsItself r Named.Variable) ds → AllByRecursion (IsFair r) (passed ds all) → ArgumentsFit r ds all
 arguments_fit r [] all own fair = λ t y is b n kind. absurd (none_some y is)
   where
     none_some : (y : ℕ) → None ≡ Some y → ⊥
@@ -89,8 +78,8 @@ arguments_fit r (d ∷ rest) no_arguments own fair = λ t y is b n kind. absurd 
 arguments_fit r (d ∷ rest) (argument a more) own fair = λ t y is b n kind. by t y (d.name.site.token == t) refl is (arguments_fit r rest more own.1 fair.1 t y) b n kind
   where
     by : (t y : ℕ) (z : Bool) → d.name.site.token == t ≡ z → cond z (constant_use r a) (argument_use r rest more t) ≡ Some y
-        → (argument_use r rest more t ≡ Some y → (b : Base) (n : ℕ) → named_kind r (named.Variable t) ≡ object b (n + 1) → IsVariableAt r y × (named_kind r (named_at r y) ≡ object b (n + 1)))
-        → (b : Base) (n : ℕ) → named_kind r (named.Variable t) ≡ object b (n + 1) → IsVariableAt r y × (named_kind r (named_at r y) ≡ object b (n + 1))
+        → (argument_use r rest more t ≡ Some y → (b : Base) (n : ℕ) → named_kind r (Named.Variable t) ≡ object b (n + 1) → IsVariableAt r y × (named_kind r (named_at r y) ≡ object b (n + 1)))
+        → (b : Base) (n : ℕ) → named_kind r (Named.Variable t) ≡ object b (n + 1) → IsVariableAt r y × (named_kind r (named_at r y) ≡ object b (n + 1))
     by t y true this is later b n kind =
         let there : d.name.site.token ≡ t = eqb-true d.name.site.token t this in
         let declared_so : declared_kind d.written ≡ object b (n + 1) = ap variable_kind (sym own.0.1) ∙ ap (λ (k : ℕ). variable_kind (declaration_at r k)) there ∙ kind in
@@ -99,19 +88,19 @@ arguments_fit r (d ∷ rest) (argument a more) own fair = λ t y is b n kind. by
 
 -- ---- parameters
 
-parameters_own : (r : Resolution) → AllByRecursion (IsWellFunction r) (functions_in r.program.items) → (v : Named) → AllByRecursion (IsItself r named.Variable) (parameters_named r v)
-parameters_own r all (named.Function n) = by (function_at r n) refl
+parameters_own : (r : Resolution) → AllByRecursion (IsWellFunction r) (functions_in r.program.items) → (v : Named) → AllByRecursion (IsItself r Named.Variable) (parameters_named r v)
+parameters_own r all (Named.Function n) = by (function_at r n) refl
   where
-    by : (o : Option Function) → function_at r n ≡ o → AllByRecursion (IsItself r named.Variable) (parameters_of o)
+    by : (o : Option Function) → function_at r n ≡ o → AllByRecursion (IsItself r Named.Variable) (parameters_of o)
     by None is = tt
     by (Some f) is = (at_place (IsWellFunction r) (functions_in r.program.items) n f all is).parameters
 parameters_own r all _ = tt
 
-beyond_own : (r : Resolution) (k : ℕ) (ds : List Declaration) → AllByRecursion (IsItself r named.Variable) ds → AllByRecursion (IsItself r named.Variable) (beyond k ds)
+beyond_own : (r : Resolution) (k : ℕ) (ds : List Declaration) → AllByRecursion (IsItself r Named.Variable) ds → AllByRecursion (IsItself r Named.Variable) (beyond k ds)
 beyond_own r zero ds own = own
 beyond_own r (suc k) ds own = by (beyond k ds) (beyond_own r k ds own)
   where
-    by : (l : List Declaration) → AllByRecursion (IsItself r named.Variable) l → AllByRecursion (IsItself r named.Variable) (drop 1 l)
+    by : (l : List Declaration) → AllByRecursion (IsItself r Named.Variable) l → AllByRecursion (IsItself r Named.Variable) (drop 1 l)
     by [] h = tt
     by (d ∷ rest) h = h.1
 
@@ -143,7 +132,7 @@ left_expected m whole locks e k fit o is modes wants =
     by b n None row agree want = absurd row
     by b n (Some row) is_row agree want = of_row m whole locks e b n agree row is_row modes want
 
-parameter_expected : (m : Assignment) → IsWhole m → HasWrittenLocks m → IsKnownProgram m.typed → (ds : List Declaration) (all : Arguments) → ArgumentsFit m.typed ds all → (left : List Declaration) → AllByRecursion (IsItself m.typed named.Variable) left → (e : Expression)
+parameter_expected : (m : Assignment) → IsWhole m → HasWrittenLocks m → IsKnownProgram m.typed → (ds : List Declaration) (all : Arguments) → ArgumentsFit m.typed ds all → (left : List Declaration) → AllByRecursion (IsItself m.typed Named.Variable) left → (e : Expression)
     → FirstFits m.typed left e → (modes : List Sharing) → expected m ds all left ≡ Some modes → IsExpected m e modes
 parameter_expected m whole locks known ds all fit [] own e first modes wants = absurd (no_modes modes wants)
 parameter_expected m whole locks known ds all fit (d ∷ rest) own e first modes wants =
@@ -168,5 +157,5 @@ expected_of m whole locks known functions (of_left u) e receives modes wants =
     left_expected m whole locks e (kind_at m.typed u) receives.1 (row_at m.typed u) (targets_of m.typed known u receives.0) modes wants
 expected_of m whole locks known functions (of_parameter token all k) e receives modes wants =
     let ds : List Declaration = parameters_named m.typed (named_at m.typed token) in
-    let own : AllByRecursion (IsItself m.typed named.Variable) ds = parameters_own m.typed functions (named_at m.typed token) in
+    let own : AllByRecursion (IsItself m.typed Named.Variable) ds = parameters_own m.typed functions (named_at m.typed token) in
     parameter_expected m whole locks known ds all (arguments_fit m.typed ds all own receives.1) (beyond k ds) (beyond_own m.typed k ds own) e receives.0 modes wants

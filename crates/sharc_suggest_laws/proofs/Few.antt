@@ -1,9 +1,7 @@
 -- In a program at its tokens one value at most begins at a token: no other part begins there, and no value inside of it does.
-use Rattle.std.proofs.Common.{◌≡◌, ℕ, ◌+◌, ◌<◌, ◌≤◌, Bool, true, false, ◌⊎◌, inl, inr, List, [], ◌∷◌, ◌++◌, Option, Some, None, IfSome, length, refl, eqb-true, arith}
-use Rattle.sharc_tree.specs.{declared.token.Span.Span, declared.token.Token.Token, Placed.{Follow, IsWhole, point, option_spans, argument_spans, first_spans, head_spans, statement_spans, declaration_spans, item_spans, Placed, AllPlaced, PlacedRight, PlacedSimple, PlacedLocal, PlacedFirst, PlacedHead, PlacedStatement, PlacedStatements, PlacedItem, PlacedItems}, Spans.{span_of, span_of_right, span_of_simple, span_of_statement, span_of_item}, Tree.{Expression, constant, parentheses, call, spawn, on_value, on_place, cast, index, field, unary, binary, Arguments, no_arguments, argument, Right, value, malloc, Simple, assign, does_call, Local, First, nothing, declares, does, Head, Statement, Statements, no_statements, statement, Function, Item, structure, global, function}}
+use Rattle.sharc_suggest_laws.proofs.{Imports.{◌≡◌, ℕ, ◌+◌, ◌<◌, ◌≤◌, Bool, true, false, ◌⊎◌, inl, inr, List, [], ◌∷◌, ◌++◌, Option, Some, None, IfSome, length, refl, eqb-true, arith, Span, Token, Follow, point, option_spans, argument_spans, first_spans, head_spans, statement_spans, declaration_spans, item_spans, Placed, AllPlaced, PlacedRight, PlacedSimple, PlacedLocal, PlacedFirst, PlacedHead, PlacedStatement, PlacedStatements, PlacedItem, PlacedItems, span_of, span_of_right, span_of_simple, span_of_statement, span_of_item, Expression, constant, parentheses, call, spawn, on_value, on_place, cast, index, field, unary, binary, Arguments, no_arguments, argument, Right, value, malloc, Simple, assign, does_call, Local, First, nothing, declares, does, Head, Statement, Statements, no_statements, statement, Function, Item, structure, global, function, count_of, met_inside, met_inside_all, met_at, of_option, met_in_right, met_in_simple, met_in_local, met_in_first, met_in_head, met_in_statement, met_in_statements, met_in_item, met_in_items, begins_at, ValuesBeginApart}, Follows.split}
+use Rattle.sharc_tree.specs.Placed.{IsWhole}
 use Rattle.sharc_tree.specs.Tree as tree
-use Rattle.sharc_suggest_laws.proofs.Follows.{split}
-use Rattle.sharc_suggest_laws.specs.Values.{count_of, met_inside, met_inside_all, met_at, of_option, met_in_right, met_in_simple, met_in_local, met_in_first, met_in_head, met_in_statement, met_in_statements, met_in_item, met_in_items, begins_at, ValuesBeginApart}
 
 -- a test that only what begins at one token meets
 pub record Test : Type 0 where

@@ -1,20 +1,14 @@
 -- What a name that is found means is what the resolved program has of what it names, and the file knows each struct
 -- with its fields.
-use Rattle.std.proofs.{Common.{◌≡◌, ℕ, zero, suc, ◌+◌, Bool, true, false, cond, List, [], ◌∷◌, ◌++◌, Some, None, is_some, slice_get, bytes_eq, codes, refl, ap, sym, subst, ◌∙◌, arith}, lemmas.Bool.false≢true, lemmas.Slice.Eq.bytes_eq-Decides}
-use Rattle.std.specs.Map.{lookup}
-use Rattle.sharc_tree.specs.{declared.tree.item.GlobalDefinition.GlobalDefinition, declared.tree.item.StructDefinition.StructDefinition, Tree.{Function, Item, structure, global, function}}
-use Rattle.sharc_names.specs.{declared.meaning.ConditionCall.ConditionCall, declared.meaning.ConditionCall.TheVariants.{Wait, Signal, Broadcast}, declared.scope.Scope.Scope, Names.{Entry, Meaning, StructMeaning, StructTable, defined, known, look_up, struct_of, named_of, kind_of, is_main}}
-use Rattle.sharc_names.specs.declared.fault.Named.TheVariants as named
+use Rattle.sharc_suggest_laws.proofs.Imports.{◌≡◌, ℕ, zero, suc, ◌+◌, Bool, true, false, cond, List, [], ◌∷◌, ◌++◌, Some, None, is_some, slice_get, bytes_eq, codes, refl, ap, sym, subst, ◌∙◌, arith, false≢true, bytes_eq-Decides, lookup, GlobalDefinition, StructDefinition, Function, Item, structure, global, function, ConditionCall, Wait, Signal, Broadcast, Scope, Entry, Meaning, StructMeaning, StructTable, defined, known, look_up, struct_of, named_of, kind_of, is_main, Named, defines_condition, call_entry, with_conditions, Heading, with_struct, with_entry, global_entry, function_entry, behind, behind_all, no_heads, file_scope, Resolution, structs_in, globals_in, functions_in, global_at, function_at, named_kind, global_kind_of, struct_named}
 use Rattle.sharc_names.specs.Names as meaning
-use Rattle.sharc_ctype.specs.{Condition.{defines_condition, call_entry, with_conditions}, Heads.{Heading, with_struct, with_entry, global_entry, function_entry, behind, behind_all, no_heads}, Items.file_scope, Resolved.{Resolution, structs_in, globals_in, functions_in, global_at, function_at, named_kind, global_kind_of}}
-use Rattle.sharc_ctype_laws.specs.Constraints.{struct_named}
 
 -- ---- what is found
 
 -- its type is that of what it names, and only a function `main` is meant as one
 pub record IsMeant (r : Resolution) (m : Meaning) : Type 0 where
   pub kind : kind_of m ≡ named_kind r (named_of m)
-  pub main : is_main m ≡ true → (n : ℕ) × (f : Function) × (named_of m ≡ named.Function n) × (function_at r n ≡ Some f) × (f.name.text ≡ codes "main")
+  pub main : is_main m ≡ true → (n : ℕ) × (f : Function) × (named_of m ≡ Named.Function n) × (function_at r n ≡ Some f) × (f.name.text ≡ codes "main")
 
 abbrev pub AreMeant : Resolution → List Entry → Type 0
 AreMeant r names = (text : List ℕ) (e : Entry) → look_up names text ≡ Some e → IsMeant r e.meaning

@@ -1,13 +1,5 @@
 -- What tokens name by notes with others among them.
-use Rattle.std.proofs.{Common.{◌≡◌, ◌⊎◌, inl, inr, ⊎_elim, ℕ, ◌<◌, ◌≤◌, ◌==◌, Bool, true, false, cond, List, [], ◌∷◌, length, get_or, set, refl, ap, sym, subst, ◌∙◌, eqb-true, arith}, lemmas.Bool.{false≢true, eqb-false, cases_lt}, lemmas.List.{length-set, length-replicate, get_or-set_same, get_or-set_other, get_or_past, get_or-replicate}}
-use Rattle.std.specs.List.{fold, AllByRecursion}
-use Rattle.sharc_tree.specs.Tree.{Program}
-use Rattle.sharc_names.specs.{declared.fault.Named.Named, Notes.{Note, fault, refers, yields, Findings, is_free, set_if_free, noted}}
-use Rattle.sharc_names.specs.declared.fault.Named.TheVariants as named
-use Rattle.sharc_ctype.specs.{Items.{notes_about, nothing_found, named_in}, Resolved.{Resolution, IsResolved, named_at}}
-use Rattle.sharc_mode.specs.Sharings.{is_field}
-use Rattle.sharc_suggest_laws.specs.Names.{is_dull, KeepsName}
-use Rattle.sharc_suggest_laws.proofs.Noted.{Noted, done, kept, added, old_fault, new_fault}
+use Rattle.sharc_suggest_laws.proofs.{Imports.{◌≡◌, ◌⊎◌, inl, inr, ⊎_elim, ℕ, ◌<◌, ◌≤◌, ◌==◌, Bool, true, false, cond, List, [], ◌∷◌, length, get_or, set, refl, ap, sym, subst, ◌∙◌, eqb-true, arith, false≢true, eqb-false, cases_lt, length-set, length-replicate, get_or-set_same, get_or-set_other, get_or_past, get_or-replicate, fold, AllByRecursion, Program, Named, Note, fault, refers, yields, Findings, is_free, set_if_free, noted, notes_about, nothing_found, named_in, Resolution, IsResolved, named_at, is_field, is_dull, KeepsName}, Noted.{Noted, done, kept, added, old_fault, new_fault}}
 
 -- ---- what one token names by notes
 
@@ -17,21 +9,21 @@ seen t (fault place code ∷ rest) x = seen t rest x
 seen t (refers n w ∷ rest) x = seen t rest (cond (n == t) w x)
 seen t (yields n w ∷ rest) x = seen t rest (cond (n == t) (cond (is_free x) w x) x)
 
-set_at : (t n : ℕ) (l : List Named) (w : Named) (b : Bool) → (n == t) ≡ b → t < length l → get_or (set l n w) t named.Known ≡ cond b w (get_or l t named.Known)
-set_at t n l w true is low = ap (λ (k : ℕ). get_or (set l k w) t named.Known) (eqb-true n t is) ∙ get_or-set_same l t w named.Known low
-set_at t n l w false is low = get_or-set_other l n t w named.Known (λ same. eqb-false n t is (sym same))
+set_at : (t n : ℕ) (l : List Named) (w : Named) (b : Bool) → (n == t) ≡ b → t < length l → get_or (set l n w) t Named.Known ≡ cond b w (get_or l t Named.Known)
+set_at t n l w true is low = ap (λ (k : ℕ). get_or (set l k w) t Named.Known) (eqb-true n t is) ∙ get_or-set_same l t w Named.Known low
+set_at t n l w false is low = get_or-set_other l n t w Named.Known (λ same. eqb-false n t is (sym same))
 
 -- the token is free in the list exactly where it is here
-free_at : (t n : ℕ) (l : List Named) (w : Named) (b c : Bool) → (n == t) ≡ b → is_free (get_or l n named.Known) ≡ c → t < length l
-    → get_or (cond c (set l n w) l) t named.Known ≡ cond b (cond (is_free (get_or l t named.Known)) w (get_or l t named.Known)) (get_or l t named.Known)
+free_at : (t n : ℕ) (l : List Named) (w : Named) (b c : Bool) → (n == t) ≡ b → is_free (get_or l n Named.Known) ≡ c → t < length l
+    → get_or (cond c (set l n w) l) t Named.Known ≡ cond b (cond (is_free (get_or l t Named.Known)) w (get_or l t Named.Known)) (get_or l t Named.Known)
 free_at t n l w true true is free low =
     let same : n ≡ t = eqb-true n t is in
-    let here : is_free (get_or l t named.Known) ≡ true = ap (λ (k : ℕ). is_free (get_or l k named.Known)) (sym same) ∙ free in
-    set_at t n l w true is low ∙ ap (λ (b : Bool). cond b w (get_or l t named.Known)) (sym here)
+    let here : is_free (get_or l t Named.Known) ≡ true = ap (λ (k : ℕ). is_free (get_or l k Named.Known)) (sym same) ∙ free in
+    set_at t n l w true is low ∙ ap (λ (b : Bool). cond b w (get_or l t Named.Known)) (sym here)
 free_at t n l w true false is free low =
     let same : n ≡ t = eqb-true n t is in
-    let here : is_free (get_or l t named.Known) ≡ false = ap (λ (k : ℕ). is_free (get_or l k named.Known)) (sym same) ∙ free in
-    ap (λ (b : Bool). cond b w (get_or l t named.Known)) (sym here)
+    let here : is_free (get_or l t Named.Known) ≡ false = ap (λ (k : ℕ). is_free (get_or l k Named.Known)) (sym same) ∙ free in
+    ap (λ (b : Bool). cond b w (get_or l t Named.Known)) (sym here)
 free_at t n l w false true is free low = set_at t n l w false is low
 free_at t n l w false false is free low = refl
 
@@ -39,41 +31,41 @@ free_length : (l : List Named) (n : ℕ) (w : Named) (b : Bool) → length (cond
 free_length l n w true = length-set l n w
 free_length l n w false = refl
 
-found_is : (t : ℕ) (f : Findings) (l : List Note) → t < length f.named → get_or (fold noted f l).named t named.Known ≡ seen t l (get_or f.named t named.Known)
+found_is : (t : ℕ) (f : Findings) (l : List Note) → t < length f.named → get_or (fold noted f l).named t Named.Known ≡ seen t l (get_or f.named t Named.Known)
 found_is t f [] low = refl
 found_is t f (fault place code ∷ rest) low = found_is t (noted f (fault place code)) rest low
 found_is t f (refers n w ∷ rest) low =
     let many : length (set f.named n w) ≡ length f.named = length-set f.named n w in
     found_is t (noted f (refers n w)) rest (omega (arith, low, many)) ∙ ap (seen t rest) (set_at t n f.named w (n == t) refl low)
 found_is t f (yields n w ∷ rest) low =
-    let many : length (set_if_free f.named n w) ≡ length f.named = free_length f.named n w (is_free (get_or f.named n named.Known)) in
-    found_is t (noted f (yields n w)) rest (omega (arith, low, many)) ∙ ap (seen t rest) (free_at t n f.named w (n == t) (is_free (get_or f.named n named.Known)) refl refl low)
+    let many : length (set_if_free f.named n w) ≡ length f.named = free_length f.named n w (is_free (get_or f.named n Named.Known)) in
+    found_is t (noted f (yields n w)) rest (omega (arith, low, many)) ∙ ap (seen t rest) (free_at t n f.named w (n == t) (is_free (get_or f.named n Named.Known)) refl refl low)
 
 found_length : (f : Findings) (l : List Note) → length (fold noted f l).named ≡ length f.named
 found_length f [] = refl
 found_length f (fault place code ∷ rest) = found_length (noted f (fault place code)) rest
 found_length f (refers n w ∷ rest) = found_length (noted f (refers n w)) rest ∙ length-set f.named n w
-found_length f (yields n w ∷ rest) = found_length (noted f (yields n w)) rest ∙ free_length f.named n w (is_free (get_or f.named n named.Known))
+found_length f (yields n w ∷ rest) = found_length (noted f (yields n w)) rest ∙ free_length f.named n w (is_free (get_or f.named n Named.Known))
 
 -- of a token that there is, and of one that there is not
-pub named_seen : (p : Program) (t : ℕ) → t < length p.tokens.list → get_or (named_in p) t named.Known ≡ seen t (notes_about p) named.Known
+pub named_seen : (p : Program) (t : ℕ) → t < length p.tokens.list → get_or (named_in p) t Named.Known ≡ seen t (notes_about p) Named.Known
 named_seen p t low =
-    let many : length (nothing_found (length p.tokens.list)).named ≡ length p.tokens.list = length-replicate (length p.tokens.list) named.Known in
-    found_is t (nothing_found (length p.tokens.list)) (notes_about p) (omega (arith, low, many)) ∙ ap (seen t (notes_about p)) (get_or-replicate (length p.tokens.list) t named.Known named.Known low)
+    let many : length (nothing_found (length p.tokens.list)).named ≡ length p.tokens.list = length-replicate (length p.tokens.list) Named.Known in
+    found_is t (nothing_found (length p.tokens.list)) (notes_about p) (omega (arith, low, many)) ∙ ap (seen t (notes_about p)) (get_or-replicate (length p.tokens.list) t Named.Known Named.Known low)
 
-pub named_past : (p : Program) (t : ℕ) → length p.tokens.list ≤ t → get_or (named_in p) t named.Known ≡ named.Known
+pub named_past : (p : Program) (t : ℕ) → length p.tokens.list ≤ t → get_or (named_in p) t Named.Known ≡ Named.Known
 named_past p t past =
-    let many : length (named_in p) ≡ length p.tokens.list = found_length (nothing_found (length p.tokens.list)) (notes_about p) ∙ length-replicate (length p.tokens.list) named.Known in
-    get_or_past (named_in p) t named.Known (omega (arith, past, many))
+    let many : length (named_in p) ≡ length p.tokens.list = found_length (nothing_found (length p.tokens.list)) (notes_about p) ∙ length-replicate (length p.tokens.list) Named.Known in
+    get_or_past (named_in p) t Named.Known (omega (arith, past, many))
 
 -- ---- side by side
 
 -- before it is determined, and after
 abbrev Early : Named → Named → Type 0
-Early v y = (y ≡ v) ⊎ ((is_dull y ≡ true) × (is_field v ≡ true → ((is_field y ≡ true) ⊎ (y ≡ named.Known))))
+Early v y = (y ≡ v) ⊎ ((is_dull y ≡ true) × (is_field v ≡ true → ((is_field y ≡ true) ⊎ (y ≡ Named.Known))))
 
 data Beside (v x y : Named) : Type 0 where
-  early : x ≡ named.Known → Early v y → Beside v x y
+  early : x ≡ Named.Known → Early v y → Beside v x y
   told : x ≡ v → KeepsName v y → Beside v x y
 
 abbrev pub IsOwnAt : ℕ → Named → Note → Type 0
@@ -82,17 +74,17 @@ IsOwnAt t v (refers n w) = n ≡ t → w ≡ v
 IsOwnAt t v (yields n w) = n ≡ t → w ≡ v
 
 field_dull : (v : Named) → is_field v ≡ true → is_dull v ≡ true
-field_dull (named.Global n) is = absurd (false≢true is)
-field_dull (named.Function n) is = absurd (false≢true is)
-field_dull (named.Variable x) is = absurd (false≢true is)
+field_dull (Named.Global n) is = absurd (false≢true is)
+field_dull (Named.Function n) is = absurd (false≢true is)
+field_dull (Named.Variable x) is = absurd (false≢true is)
 field_dull _ is = refl
 
 pub field_taken : (v : Named) → is_field v ≡ true → is_free v ≡ false
-field_taken named.Known is = absurd (false≢true is)
+field_taken Named.Known is = absurd (false≢true is)
 field_taken _ is = refl
 
-free_known : (v : Named) → is_free v ≡ true → v ≡ named.Known
-free_known named.Known is = refl
+free_known : (v : Named) → is_free v ≡ true → v ≡ Named.Known
+free_known Named.Known is = refl
 free_known _ is = absurd (false≢true is)
 
 -- a note of both
@@ -107,7 +99,7 @@ yields_early : (v y : Named) → is_field v ≡ true → Early v y → KeepsName
 yields_early v y is (inl same) = inl (sym (ap (λ (z : Named). cond (is_free z) v z) same ∙ ap (λ (b : Bool). cond b v v) (field_taken v is)))
 yields_early v y is (inr p) = by (p.1 is)
   where
-    by : (is_field y ≡ true) ⊎ (y ≡ named.Known) → KeepsName v (cond (is_free y) v y)
+    by : (is_field y ≡ true) ⊎ (y ≡ Named.Known) → KeepsName v (cond (is_free y) v y)
     by (inl f) = subst (KeepsName v) (sym (stays_field v y v f)) (inr (field_dull v is, p.0, λ old. f))
     by (inr known) = inl (sym (ap (λ (z : Named). cond (is_free z) v z) known))
 
@@ -145,7 +137,7 @@ added_refers v w x y true meant (told same h) = told same (by (meant refl))
     by (inr p) = inr (p.0, p.2, λ is. no_field v p.1 is)
 added_refers v w x y false meant h = h
 
-keeps_known : (v w : Named) → is_field w ≡ true → KeepsName v named.Known → KeepsName v w
+keeps_known : (v w : Named) → is_field w ≡ true → KeepsName v Named.Known → KeepsName v w
 keeps_known v w is (inl same) = inr (ap is_dull same, field_dull w is, λ old. is)
 keeps_known v w is (inr p) = inr (p.0, field_dull w is, λ old. is)
 
@@ -182,22 +174,22 @@ keeps_by v y (told same h) = h
 
 -- the notes of a resolved program, which say one thing of each token, and those of another with the same tokens
 pub keeps : (r : Resolution) (p : Program) (t : ℕ) → IsResolved r → length p.tokens.list ≡ length r.program.tokens.list → AllByRecursion (IsOwnAt t (named_at r t)) (notes_about r.program) → Noted r (notes_about r.program) (notes_about p)
-    → KeepsName (named_at r t) (get_or (named_in p) t named.Known)
+    → KeepsName (named_at r t) (get_or (named_in p) t Named.Known)
 keeps r p t resolved many own said = ⊎_elim inside outside (cases_lt t (length r.program.tokens.list))
   where
-    old : named_at r t ≡ get_or (named_in r.program) t named.Known
-    old = ap (λ (l : List Named). get_or l t named.Known) resolved.named
+    old : named_at r t ≡ get_or (named_in r.program) t Named.Known
+    old = ap (λ (l : List Named). get_or l t Named.Known) resolved.named
 
-    inside : t < length r.program.tokens.list → KeepsName (named_at r t) (get_or (named_in p) t named.Known)
+    inside : t < length r.program.tokens.list → KeepsName (named_at r t) (get_or (named_in p) t Named.Known)
     inside low =
         let v : Named = named_at r t in
-        let was : seen t (notes_about r.program) named.Known ≡ v = sym (old ∙ named_seen r.program t low) in
-        let at : Beside v (seen t (notes_about r.program) named.Known) (seen t (notes_about p) named.Known) =
-        beside r t named.Known named.Known (notes_about r.program) (notes_about p) own said (early refl (inr (refl, λ is. inr refl))) in
+        let was : seen t (notes_about r.program) Named.Known ≡ v = sym (old ∙ named_seen r.program t low) in
+        let at : Beside v (seen t (notes_about r.program) Named.Known) (seen t (notes_about p) Named.Known) =
+        beside r t Named.Known Named.Known (notes_about r.program) (notes_about p) own said (early refl (inr (refl, λ is. inr refl))) in
         let now : t < length p.tokens.list = omega (arith, low, many) in
-        subst (KeepsName v) (sym (named_seen p t now)) (keeps_by v _ (subst (λ (z : Named). Beside v z (seen t (notes_about p) named.Known)) was at))
+        subst (KeepsName v) (sym (named_seen p t now)) (keeps_by v _ (subst (λ (z : Named). Beside v z (seen t (notes_about p) Named.Known)) was at))
 
-    outside : length r.program.tokens.list ≤ t → KeepsName (named_at r t) (get_or (named_in p) t named.Known)
+    outside : length r.program.tokens.list ≤ t → KeepsName (named_at r t) (get_or (named_in p) t Named.Known)
     outside past =
         let now : length p.tokens.list ≤ t = omega (arith, past, many) in
         inl (old ∙ named_past r.program t past ∙ sym (named_past p t now))

@@ -1,6 +1,5 @@
 -- Spans that follow one another, in two parts.
-use Rattle.std.proofs.Common.{ℕ, ◌+◌, ◌<◌, ◌≤◌, List, [], ◌∷◌, ◌++◌, arith}
-use Rattle.sharc_tree.specs.{declared.token.Span.Span, declared.token.Token.Token, Placed.Follow}
+use Rattle.sharc_suggest_laws.proofs.Imports.{ℕ, ◌+◌, ◌<◌, ◌≤◌, List, [], ◌∷◌, ◌++◌, arith, Span, Token, Follow}
 
 -- there is a token between them
 pub split : (all : List Token) (from until : ℕ) (xs ys : List Span) → from ≤ until → Follow all from until (xs ++ ys)

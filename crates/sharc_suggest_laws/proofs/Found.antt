@@ -1,7 +1,5 @@
 -- What is determined by two tokens, where one more that has a type is in the list.
-use Rattle.std.proofs.{Common.{◌≡◌, ℕ, ◌+◌, ◌<◌, ◌≤◌, ◌==◌, ◌&&◌, Bool, true, false, cond, ◌⊎◌, inl, inr, List, [], ◌∷◌, ◌++◌, Option, Some, None, refl, ap, sym, subst, ◌∙◌, arith}, lemmas.Bool.{cond-false, and_left, ne_eqb, true≢false, false≢true}}
-use Rattle.std.specs.List.{find, AllByRecursion}
-use Rattle.sharc_ctype.specs.{declared.entity.Entity.Entity, declared.entity.Numbered.Numbered, Entities.{positions_of, positions_in, numbered_from, is_told_by}}
+use Rattle.sharc_suggest_laws.proofs.Imports.{◌≡◌, ℕ, ◌+◌, ◌<◌, ◌≤◌, ◌==◌, ◌&&◌, Bool, true, false, cond, ◌⊎◌, inl, inr, List, [], ◌∷◌, ◌++◌, Option, Some, None, refl, ap, sym, subst, ◌∙◌, arith, cond-false, and_left, ne_eqb, true≢false, false≢true, find, AllByRecursion, Entity, Numbered, positions_of, positions_in, numbered_from, is_told_by}
 
 -- the same is there, before the positions that were added, or after them and that many further on
 pub record IsMoved (first count : ℕ) (old new : Numbered) : Type 0 where

@@ -1,19 +1,11 @@
 -- The first names of lock paths that are kept are found where the cast is written.
-use Rattle.std.proofs.{Common.{◌≡◌, ⊎_elim, ℕ, ◌<◌, ◌≤◌, ◌||◌, Bool, true, false, cond, List, length, get_or, Contains, Option, Some, None, bytes_eq, codes, refl, ap, sym, subst, ◌∙◌}, lemmas.Bool.{false≢true, cases_lt}}
-use Rattle.sharc_tree.specs.{Marks.items_marks, Placed.IsPlaced, Tree.Item}
-use Rattle.sharc_names.specs.{declared.fault.Named.Named, declared.meaning.ConditionCall.TheVariants.{Wait, Signal, Broadcast}, declared.scope.Scope.Scope, Names.{Entry, look_up}}
-use Rattle.sharc_names.specs.declared.fault.Named.TheVariants as named
-use Rattle.sharc_ctype.specs.{Condition.{defines_condition, call_entry, with_conditions}, Heads.{behind_all, no_heads}, Items.{file_scope, notes_about, named_in}, Reaches.name_tokens, Resolved.{Resolution, IsResolved, named_at}}
-use Rattle.sharc_ctype_laws.specs.Laws.{IsToldOnce}
-use Rattle.sharc_mode.specs.Sharings.{text_at}
-use Rattle.sharc_suggest.specs.Repairs.{is_call_name, is_call_at, keeps_named, keeps_first}
-use Rattle.sharc_suggest_laws.proofs.{Calls.{KnowsCalls, items_defined, none_defined, not_known}, Filed.{IsMeant, AreMeant}, Folded.{seen, named_seen, named_past}, Leads.IsFoundIn, Mild.{is_filed, IsSpelled, named_there}, Noted.Clean, Scoped.{IsFoundAs, Scoped}, Spelled.{IsFiledAs, AreSpelt, not_filed}, SpelledAll.{in_program, seen_spelt, known_said}, Words.{call_text, name_there}}
+use Rattle.sharc_suggest_laws.proofs.{Imports.{◌≡◌, ⊎_elim, ℕ, ◌<◌, ◌≤◌, ◌||◌, Bool, true, false, cond, List, length, get_or, Contains, Option, Some, None, bytes_eq, codes, refl, ap, sym, subst, ◌∙◌, false≢true, cases_lt, items_marks, IsPlaced, Item, Named, Wait, Signal, Broadcast, Scope, Entry, look_up, defines_condition, call_entry, with_conditions, behind_all, no_heads, file_scope, notes_about, named_in, name_tokens, Resolution, IsResolved, named_at, IsToldOnce, text_at, is_call_name, is_call_at, keeps_named, keeps_first}, Calls.{KnowsCalls, items_defined, none_defined, not_known}, Filed.{IsMeant, AreMeant}, Folded.{seen, named_seen, named_past}, Leads.IsFoundIn, Mild.{is_filed, IsSpelled, named_there}, Noted.Clean, Scoped.{IsFoundAs, Scoped}, Spelled.{IsFiledAs, AreSpelt, not_filed}, SpelledAll.{in_program, seen_spelt, known_said}, Words.{call_text, name_there}}
 
 -- ---- the file has what a token names
 
 pub record HasNames (r : Resolution) (file : List Entry) : Type 0 where
   pub filed : (token : ℕ) → is_filed (named_at r token) ≡ true → (e : Entry) × (look_up file (text_at r token) ≡ Some e)
-  pub called : (token : ℕ) → named_at r token ≡ named.Known → is_call_at r token ≡ true → (e : Entry) × (look_up file (text_at r token) ≡ Some e)
+  pub called : (token : ℕ) → named_at r token ≡ Named.Known → is_call_at r token ≡ true → (e : Entry) × (look_up file (text_at r token) ≡ Some e)
 
 -- a file that knows the calls has their three names
 calls_there : (items : List Item) → KnowsCalls (file_scope items) → (text : List ℕ) → is_call_name text ≡ true → (e : Entry) × (look_up (file_scope items).names text ≡ Some e)
@@ -46,14 +38,14 @@ has_names r resolved placed clean once = record {
     all : AreSpelt r file (notes_about r.program)
     all = in_program r placed clean
 
-    old : (token : ℕ) → named_at r token ≡ get_or (named_in r.program) token named.Known
-    old token = ap (λ (l : List Named). get_or l token named.Known) resolved.named
+    old : (token : ℕ) → named_at r token ≡ get_or (named_in r.program) token Named.Known
+    old token = ap (λ (l : List Named). get_or l token Named.Known) resolved.named
 
     inside : (token : ℕ) → is_filed (named_at r token) ≡ true → token < length r.program.tokens.list → (e : Entry) × (look_up file.names (text_at r token) ≡ Some e)
     inside token filed low =
-        let so : IsFiledAs r file.names token (seen token (notes_about r.program) named.Known) =
-        seen_spelt r file token (notes_about r.program) named.Known all (not_filed r file.names token named.Known refl) in
-        let is : named_at r token ≡ seen token (notes_about r.program) named.Known = old token ∙ named_seen r.program token low in
+        let so : IsFiledAs r file.names token (seen token (notes_about r.program) Named.Known) =
+        seen_spelt r file token (notes_about r.program) Named.Known all (not_filed r file.names token Named.Known refl) in
+        let is : named_at r token ≡ seen token (notes_about r.program) Named.Known = old token ∙ named_seen r.program token low in
         let there = so (ap is_filed (sym is) ∙ filed) in
         (there.0, there.1)
 
@@ -64,17 +56,17 @@ has_names r resolved placed clean once = record {
 
 found_by : (r : Resolution) (file names scope : List Entry) → HasNames r file → AreMeant r file → AreMeant r scope → (token : ℕ) → (v : Named) → named_at r token ≡ v → (c : Option Entry) → look_up scope (text_at r token) ≡ c → keeps_named (is_call_at r token) v c ≡ true
     → IsFoundAs c (look_up names (text_at r token)) (look_up file (text_at r token)) → (e : Entry) × (look_up names (text_at r token) ≡ Some e) × IsMeant r e.meaning
-found_by r file names scope has meant own token (named.Struct n) is None at kept found = absurd (false≢true kept)
-found_by r file names scope has meant own token (named.Global n) is None at kept found =
+found_by r file names scope has meant own token (Named.Struct n) is None at kept found = absurd (false≢true kept)
+found_by r file names scope has meant own token (Named.Global n) is None at kept found =
     let there = has.filed token (ap is_filed is) in
     (there.0, found ∙ there.1, meant (text_at r token) there.0 there.1)
-found_by r file names scope has meant own token (named.Function n) is None at kept found =
+found_by r file names scope has meant own token (Named.Function n) is None at kept found =
     let there = has.filed token (ap is_filed is) in
     (there.0, found ∙ there.1, meant (text_at r token) there.0 there.1)
-found_by r file names scope has meant own token (named.Variable x) is (Some c) at kept found =
+found_by r file names scope has meant own token (Named.Variable x) is (Some c) at kept found =
     (found.0, found.1, subst (IsMeant r) (sym found.2) (own (text_at r token) c at))
-found_by r file names scope has meant own token (named.Field f) is None at kept found = absurd (false≢true kept)
-found_by r file names scope has meant own token named.Known is None at kept found =
+found_by r file names scope has meant own token (Named.Field f) is None at kept found = absurd (false≢true kept)
+found_by r file names scope has meant own token Named.Known is None at kept found =
     let there = has.called token is kept in
     (there.0, found ∙ there.1, meant (text_at r token) there.0 there.1)
 found_by r file names scope has meant own token _ is _ at kept found = absurd (false≢true kept)

@@ -1,18 +1,9 @@
 -- What is given to what in a typed program: the value has a type, and what receives it agrees; the variables in scope
 -- are those that their names name.
-use Rattle.std.proofs.Common.{◌≡◌, ℕ, zero, suc, false, List, [], ◌∷◌, ◌++◌, drop, Option, Some, None, refl}
-use Rattle.std.specs.{Prelude.IsTrue, List.AllByRecursion}
-use Rattle.sharc_tree.specs.{declared.tree.declaration.Declaration.Declaration, declared.tree.declaration.WrittenType.WrittenType, Measures.{expressions, in_arguments, in_option, in_right, in_simple, in_first, in_head, in_statement, in_statements, in_function}, Tree.{Expression, parentheses, call, spawn, on_value, on_place, cast, index, field, unary, binary, Arguments, no_arguments, argument, Right, value, malloc, Simple, assign, does_call, Local, First, nothing, declares, does, Head, Statement, Statements, no_statements, statement, Function, Item, structure, global, function}}
+use Rattle.sharc_suggest_laws.proofs.{Imports.{◌≡◌, ℕ, zero, suc, false, List, [], ◌∷◌, ◌++◌, drop, Option, Some, None, refl, IsTrue, AllByRecursion, Declaration, WrittenType, expressions, in_arguments, in_option, in_right, in_simple, in_first, in_statement, in_statements, in_function, Expression, parentheses, call, spawn, on_value, on_place, cast, index, field, unary, binary, Arguments, no_arguments, argument, Right, value, malloc, Simple, assign, does_call, Local, First, nothing, declares, does, Head, Statement, Statements, no_statements, statement, Function, Item, structure, global, function, agrees, declared_kind, Entry, Named, Role, Entity, declared, result_of, Resolution, functions_in, named_at, kind_at, first_locals, locals_in, locals_in_all, Transfer, IsFair, parameters_named, passed, transfers, argument_transfers, right_transfers, simple_transfers, local_transfers, first_transfers, statement_transfers, statements_transfers, function_transfers, HasType, IsItself, IsFound, beyond, behind_first, after, with_parameters, Receiver, of_declared, of_left, of_parameter, Giving, one_giving, givings, all_givings, option_givings, value_givings, right_givings, simple_givings, local_givings, first_givings, head_givings, givings_in, givings_in_all, item_givings, items_givings, entry_of, front, back, joint}, Holders.{IsCastOf, is_global}}
+use Rattle.sharc_tree.specs.Measures.{in_head}
 use Rattle.sharc_tree.specs.Tree as tree
-use Rattle.sharc_names.specs.{Kinds.{agrees, declared_kind}, Names.Entry}
-use Rattle.sharc_names.specs.declared.fault.Named.TheVariants as named
-use Rattle.sharc_names.specs.declared.types.Role.TheVariants as role
-use Rattle.sharc_ctype.specs.{declared.entity.Entity.Entity, Entities.{declared, result_of}, Resolved.{Resolution, functions_in, named_at, kind_at}, Statements.{first_locals, locals_in, locals_in_all}, Transfers.{Transfer, IsFair, parameters_named, passed, transfers, argument_transfers, right_transfers, simple_transfers, local_transfers, first_transfers, statement_transfers, statements_transfers, function_transfers}}
 use Rattle.sharc_ctype.specs.Transfers as transfer
-use Rattle.sharc_ctype_laws.specs.{Constraints.HasType, Declared.IsItself, Found.IsFound}
-use Rattle.sharc_suggest.specs.{Givings.{beyond, behind_first, after, with_parameters, Receiver, of_declared, of_left, of_parameter, Giving, one_giving, givings, all_givings, option_givings, value_givings, right_givings, simple_givings, local_givings, first_givings, head_givings, givings_in, givings_in_all, item_givings, items_givings}, Repairs.entry_of}
-use Rattle.sharc_suggest_laws.proofs.Holders.{IsCastOf, is_global}
-use Rattle.sharc_lemmas.proofs.Lists.{front, back, both as joint}
 
 -- ---- what is known of an expression, of a variable and of what is given
 
@@ -25,7 +16,7 @@ AreKnown r es = AllByRecursion (IsKnown r) es
 
 -- a variable in scope
 abbrev pub IsOwn : Resolution → Entry → Type 0
-IsOwn r e = (d : Declaration) × (e ≡ entry_of d) × IsItself r named.Variable d
+IsOwn r e = (d : Declaration) × (e ≡ entry_of d) × IsItself r Named.Variable d
 
 abbrev pub AreOwn : Resolution → List Entry → Type 0
 AreOwn r scope = AllByRecursion (IsOwn r) scope
@@ -134,9 +125,9 @@ simple_well r scope own (does_call e) known fair = inside r scope own e known fa
 
 -- a local is found by its token, and its name names it
 abbrev pub IsOwnLocal : Resolution → Declaration → Type 0
-IsOwnLocal r d = IsItself r named.Variable d × IsFound r (declared role.Local d)
+IsOwnLocal r d = IsItself r Named.Variable d × IsFound r (declared Role.Local d)
 
-own_entry : (r : Resolution) (scope : List Entry) (d : Declaration) → IsItself r named.Variable d → AreOwn r scope → AreOwn r (entry_of d ∷ scope)
+own_entry : (r : Resolution) (scope : List Entry) (d : Declaration) → IsItself r Named.Variable d → AreOwn r scope → AreOwn r (entry_of d ∷ scope)
 own_entry r scope d is own = ((d, refl, is), own)
 
 local_well : (r : Resolution) (scope : List Entry) → AreOwn r scope → (l : Local) → IsOwnLocal r l.declaration → AreKnown r (in_option in_right l.initial) → AreFair r (local_transfers r l) → AreWell r (local_givings scope l)
@@ -152,7 +143,7 @@ local_well r scope own l is known fair = by l.initial known fair
     inner = entry_of d ∷ scope
 
     received : (x : Right) → IsFair r (record { receiver = transfer.variable d; source = x }) → RightReceived r (of_declared token) x
-    received (value e) agree = (d.written, (declared role.Local d, refl, refl, refl, refl, is.1), agree)
+    received (value e) agree = (d.written, (declared Role.Local d, refl, refl, refl, refl, is.1), agree)
     received (malloc s n w) agree = tt
 
     by : (x : Option Right) → AreKnown r (in_option in_right x) → AreFair r (transfer.in_option (λ y. transfer.gives (transfer.variable d) y ++ right_transfers r y) x) → AreWell r (option_givings (right_givings inner (of_declared token)) x)
@@ -243,12 +234,12 @@ mutual
 
 pub record IsWellFunction (r : Resolution) (f : Function) : Type 0 where
   pub result : IsFound r (result_of f)
-  pub parameters : AllByRecursion (IsItself r named.Variable) f.parameters
+  pub parameters : AllByRecursion (IsItself r Named.Variable) f.parameters
   pub locals : AllByRecursion (IsOwnLocal r) (locals_in_all f.statements)
   pub known : AreKnown r (in_function f)
   pub fair : AllByRecursion (IsFair r) (function_transfers r f)
 
-own_parameters : (r : Resolution) (scope : List Entry) → AreOwn r scope → (ds : List Declaration) → AllByRecursion (IsItself r named.Variable) ds → AreOwn r (with_parameters scope ds)
+own_parameters : (r : Resolution) (scope : List Entry) → AreOwn r scope → (ds : List Declaration) → AllByRecursion (IsItself r Named.Variable) ds → AreOwn r (with_parameters scope ds)
 own_parameters r scope own [] is = own
 own_parameters r scope own (d ∷ rest) is = own_parameters r (entry_of d ∷ scope) (own_entry r scope d is.0 own) rest is.1
 

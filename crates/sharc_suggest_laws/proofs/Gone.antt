@@ -1,11 +1,6 @@
 -- The mismatch is gone where the same is expected of the cast as was of what was there.
-use Rattle.sharc_suggest.specs.{Casts.IsSuggested, Repairs.cast_to, Givings.{Giving, items_givings, wanted}}
-use Rattle.std.proofs.{Common.{◌≡◌, ℕ, ◌+◌, ◌≤◌, ◌==◌, ◌&&◌, Bool, true, false, cond, List, [], ◌∷◌, ◌++◌, length, Some, refl, ap, subst, ◌∙◌, eq-eqb, arith}, lemmas.Bool.{and_from, cond-true}, lemmas.List.map-append}
-use Rattle.std.specs.List.{filter}
-use Rattle.sharc_tree.specs.{declared.token.Span.Span, declared.tree.declaration.WrittenType.WrittenType, Placed.IsPlaced, Spans.span_of, Tree.{Expression, cast}}
-use Rattle.sharc_suggest_laws.specs.{declared.written.Recast.Recast, Recast.{type_at, is_there, around, with_cast}, Applied.{recast_of, assignment_with}, Expected.IsCastAt, Givings.{giving_with, receiver_with}, Gone.{IsGone, IsExpectedAgain, GoneWhereExpected}, Mismatches.is_mismatch_at, Values.{count_of, met_by, met_in_items, begins_at}}
-use Rattle.sharc_mode.specs.{declared.error.Cast.Cast, declared.error.ModeError.ModeError, declared.finding.Finding.Finding, Moded.{Assignment, IsWhole}, Notes.agree_notes, Sharings.Sharing, WellModed.notes_about}
-use Rattle.sharc_suggest_laws.proofs.{Agreed.{told_of, told_in, told_append, in_program}, Counted.{counted, counted_append, in_items as items_counted}, Expected.agrees, Few.values_begin_apart, Grown.span_same, Mismatches.{at_value, told_at, told_all}, Quiet.ones, Site.{HasSite, has_site}, Stands.suggested_stands, Rewritten.{givings_with, in_items as items_written}}
+use Rattle.sharc_suggest_laws.proofs.{Imports.{IsSuggested, cast_to, Giving, items_givings, wanted, ◌≡◌, ℕ, ◌+◌, ◌≤◌, ◌==◌, ◌&&◌, Bool, true, false, cond, List, [], ◌∷◌, ◌++◌, length, Some, refl, ap, subst, ◌∙◌, eq-eqb, arith, and_from, cond-true, map-append, filter, Span, WrittenType, IsPlaced, span_of, Expression, cast, Recast, type_at, is_there, around, with_cast, recast_of, assignment_with, IsCastAt, giving_with, receiver_with, IsGone, IsExpectedAgain, GoneWhereExpected, is_mismatch_at, count_of, met_by, met_in_items, begins_at, Cast, ModeError, Finding, Assignment, IsWhole, agree_notes, Sharing}, Agreed.{told_of, told_in, told_append, in_program}, Counted.{counted, counted_append, in_items as items_counted}, Expected.agrees, Few.values_begin_apart, Grown.span_same, Mismatches.{at_value, told_at, told_all}, Quiet.ones, Site.{HasSite, has_site}, Stands.suggested_stands, Rewritten.{givings_with, in_items as items_written}}
+use Rattle.sharc_mode.specs.WellModed.{notes_about}
 
 around_by : (c : Recast) (e : Expression) (b : Bool) → span_of (cond b (cast (span_of e) (type_at c (span_of e)) e) e) ≡ span_of e
 around_by c e true = refl

@@ -1,12 +1,7 @@
 -- What has a type in a program at its tokens with a cast written in it: what had one before, in its order, and that many times the cast, which is after all that begins before it.
-use Rattle.std.proofs.{Common.{◌≡◌, ℕ, ◌+◌, ◌<◌, ◌≤◌, ◌==◌, Bool, true, false, ◌&&◌, ◌⊎◌, inl, inr, List, [], ◌∷◌, ◌++◌, map, refl, ap, sym, subst, subst₂, Option, Some, None, IfSome, option_map, if◌then◌else◌, eqb-true, arith}, lemmas.Bool.and_parts}
-use Rattle.sharc_tree.specs.{declared.token.Span.Span, declared.token.Token.Token, declared.tree.declaration.Declaration.Declaration, Measures.{expressions, in_arguments, in_option, in_right, in_simple, in_local}, Placed.{Follow, IsWhole, point, option_spans, argument_spans, first_spans, head_spans, statement_spans, declaration_spans, form_spans, item_spans, PlacedDeclaration, PlacedDeclarations, Placed, AllPlaced, PlacedRight, PlacedSimple, PlacedLocal, PlacedFirst, PlacedHead, PlacedStatement, PlacedStatements, PlacedItem, PlacedItems}, Spans.{span_of, span_of_right, span_of_simple, span_of_statement, span_of_item}, Tree.{Expression, identifier, constant, parentheses, call, spawn, on_value, on_place, cast, index, field, unary, binary, Arguments, no_arguments, argument, Right, value, malloc, Simple, assign, does_call, Local, First, nothing, declares, does, Head, Statement, Statements, no_statements, statement, Function, Item, structure, global, function}}
+use Rattle.sharc_suggest_laws.proofs.{Imports.{◌≡◌, ℕ, ◌+◌, ◌<◌, ◌≤◌, ◌==◌, Bool, true, false, ◌&&◌, ◌⊎◌, inl, inr, List, [], ◌∷◌, ◌++◌, map, refl, ap, sym, subst, subst₂, Option, Some, None, IfSome, option_map, if◌then◌else◌, eqb-true, arith, and_parts, Span, Token, Declaration, expressions, in_arguments, in_option, in_right, in_simple, in_local, Follow, point, option_spans, argument_spans, first_spans, head_spans, statement_spans, declaration_spans, form_spans, item_spans, PlacedDeclaration, PlacedDeclarations, Placed, AllPlaced, PlacedRight, PlacedSimple, PlacedLocal, PlacedFirst, PlacedHead, PlacedStatement, PlacedStatements, PlacedItem, PlacedItems, span_of, span_of_right, span_of_simple, span_of_statement, span_of_item, Expression, identifier, constant, parentheses, call, spawn, on_value, on_place, cast, index, field, unary, binary, Arguments, no_arguments, argument, Right, value, malloc, Simple, assign, does_call, Local, First, nothing, declares, does, Head, Statement, Statements, no_statements, statement, Function, Item, structure, global, function, Role, Recast, type_at, is_there, around, with_cast, all_with_cast, right_with_cast, simple_with_cast, local_with_cast, first_with_cast, head_with_cast, statement_with_cast, statements_with_cast, item_with_cast, count_of, met_by, met_inside, met_inside_all, met_at, of_option, met_in_right, met_in_simple, met_in_local, met_in_first, met_in_head, met_in_statement, met_in_statements, met_in_item, met_in_items, Entity, declared, casts, cast_entity, result_of, local_entities, first_entities, head_entities, statement_entities, statements_entities, item_entities, entities_in}, Follows.split}
+use Rattle.sharc_tree.specs.Placed.{IsWhole}
 use Rattle.sharc_tree.specs.Tree as tree
-use Rattle.sharc_names.specs.declared.types.Role.{Role}
-use Rattle.sharc_names.specs.declared.types.Role.TheVariants as role
-use Rattle.sharc_suggest_laws.specs.{declared.written.Recast.Recast, Recast.{type_at, is_there, around, with_cast, all_with_cast, right_with_cast, simple_with_cast, local_with_cast, first_with_cast, head_with_cast, statement_with_cast, statements_with_cast, item_with_cast}, Values.{count_of, met_by, met_inside, met_inside_all, met_at, of_option, met_in_right, met_in_simple, met_in_local, met_in_first, met_in_head, met_in_statement, met_in_statements, met_in_item, met_in_items}}
-use Rattle.sharc_ctype.specs.{declared.entity.Entity.Entity, Entities.{declared, casts, cast_entity, result_of, local_entities, first_entities, head_entities, statement_entities, statements_entities, item_entities, entities_in}}
-use Rattle.sharc_suggest_laws.proofs.Follows.{split}
 
 -- the cast, at a span of its tokens
 pub record IsCastOf (c : Recast) (e : Entity) : Type 0 where
@@ -258,8 +253,8 @@ grown_local all c l placed =
     let spans : List Span = l.declaration.span ∷ option_spans span_of_right l.initial in
     whole all c l.span spans n (local_entities l) (local_entities (local_with_cast c l)) placed.0
     (again all c spans (0 + n) n (local_entities l) (local_entities (local_with_cast c l)) many
-    (joined all c (l.declaration.span ∷ []) (option_spans span_of_right l.initial) 0 n (declared role.Local l.declaration ∷ []) (declared role.Local l.declaration ∷ [])
-    (casts (in_local l)) (casts (in_local (local_with_cast c l))) (one_declared all c role.Local l.declaration placed.1) (grown_initial all c l.initial placed.2)))
+    (joined all c (l.declaration.span ∷ []) (option_spans span_of_right l.initial) 0 n (declared Role.Local l.declaration ∷ []) (declared Role.Local l.declaration ∷ [])
+    (casts (in_local l)) (casts (in_local (local_with_cast c l))) (one_declared all c Role.Local l.declaration placed.1) (grown_initial all c l.initial placed.2)))
 
 grown_first : (all : List Token) (c : Recast) (f : First) → PlacedFirst all f → Grows all c (first_spans f) (met_in_first (is_there c) f) (first_entities f) (first_entities (first_with_cast c f))
 grown_first all c nothing placed = none all c []
@@ -334,7 +329,7 @@ grown_function : (all : List Token) (c : Recast) (f : Function) → PlacedItem a
     → Grows all c (f.span ∷ []) (met_in_statements (is_there c) f.statements) (item_entities (function f)) (item_entities (item_with_cast c (function f)))
 grown_function all c f placed =
     let n : ℕ = met_in_statements (is_there c) f.statements in
-    let parameters : List Entity = map (declared role.Parameter) f.parameters in
+    let parameters : List Entity = map (declared Role.Parameter) f.parameters in
     let spans : List Span = (point f.name.site ∷ declaration_spans f.parameters) ++ (f.body ∷ []) in
     let many : 0 + 0 + n ≡ n = omega arith in
     let low : f.name.site.token ≤ f.name.site.token = omega arith in
@@ -344,16 +339,16 @@ grown_function all c f placed =
     (joined all c (point f.name.site ∷ declaration_spans f.parameters) (f.body ∷ []) (0 + 0) n (result_of f ∷ parameters) (result_of f ∷ parameters)
     (statements_entities f.statements) (statements_entities (statements_with_cast c f.statements))
     (joined all c (point f.name.site ∷ []) (declaration_spans f.parameters) 0 0 (result_of f ∷ []) (result_of f ∷ []) parameters parameters
-    (one_in all c (point f.name.site) (result_of f) low low) (all_declared all c role.Parameter f.parameters placed.3))
+    (one_in all c (point f.name.site) (result_of f) low low) (all_declared all c Role.Parameter f.parameters placed.3))
     (grown_body all c f placed))))
 
 grown_structure : (all : List Token) (c : Recast) (i : Item) → PlacedItem all i → Grows all c (span_of_item i ∷ []) (met_in_item (is_there c) i) (item_entities i) (item_entities (item_with_cast c i))
 grown_structure all c (structure s) placed =
-    let fields : List Entity = map (declared role.Field) s.fields in
-    whole all c s.span (point s.name.site ∷ declaration_spans s.fields) 0 fields fields placed.0 (behind_span all c (point s.name.site) (declaration_spans s.fields) 0 fields fields (all_declared all c role.Field s.fields placed.2))
+    let fields : List Entity = map (declared Role.Field) s.fields in
+    whole all c s.span (point s.name.site ∷ declaration_spans s.fields) 0 fields fields placed.0 (behind_span all c (point s.name.site) (declaration_spans s.fields) 0 fields fields (all_declared all c Role.Field s.fields placed.2))
 grown_structure all c (global g) placed =
-    let one : List Entity = declared role.Global g.declaration ∷ [] in
-    whole all c g.span (g.declaration.span ∷ form_spans g.form) 0 one one placed.0 (before_spans all c (g.declaration.span ∷ []) (form_spans g.form) 0 one one (one_declared all c role.Global g.declaration placed.1))
+    let one : List Entity = declared Role.Global g.declaration ∷ [] in
+    whole all c g.span (g.declaration.span ∷ form_spans g.form) 0 one one placed.0 (before_spans all c (g.declaration.span ∷ []) (form_spans g.form) 0 one one (one_declared all c Role.Global g.declaration placed.1))
 grown_structure all c (function f) placed = grown_function all c f placed
 
 grown_all : (all : List Token) (c : Recast) (items : List Item) → PlacedItems all items → Grows all c (item_spans items) (met_in_items (is_there c) items) (entities_in items) (entities_in (map (item_with_cast c) items))

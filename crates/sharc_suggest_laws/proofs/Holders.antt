@@ -1,13 +1,8 @@
 -- What holds of all that has a type holds of the fields, variables, globals and results of a program, and of the casts
 -- in its functions.
-use Rattle.std.proofs.Common.{◌≡◌, Bool, true, false, List, [], ◌∷◌, ◌++◌, map, refl}
-use Rattle.std.specs.List.{AllByRecursion}
-use Rattle.sharc_tree.specs.{declared.tree.declaration.Declaration.Declaration, declared.tree.item.GlobalDefinition.GlobalDefinition, declared.tree.item.StructDefinition.StructDefinition, Measures.{expressions, in_option, in_right, in_simple, in_first, in_head, in_statement, in_statements, in_function}, Tree.{Expression, identifier, constant, parentheses, call, spawn, on_value, on_place, cast, index, field, unary, binary, Simple, First, nothing, declares, does, Head, Statement, Statements, no_statements, statement, Function, Item, structure, global, function}}
+use Rattle.sharc_suggest_laws.proofs.Imports.{◌≡◌, Bool, true, false, List, [], ◌∷◌, ◌++◌, map, refl, AllByRecursion, Declaration, GlobalDefinition, StructDefinition, expressions, in_option, in_right, in_simple, in_first, in_statement, in_statements, in_function, Expression, identifier, constant, parentheses, call, spawn, on_value, on_place, cast, index, field, unary, binary, Simple, First, nothing, declares, does, Head, Statement, Statements, no_statements, statement, Function, Item, structure, global, function, Role, Entity, declared, cast_entity, casts, first_entities, head_entities, statement_entities, statements_entities, result_of, item_entities, entities_in, structs_in, globals_in, functions_in, declarations_of, declarations_in, first_locals, locals_in, locals_in_all, front, back, joint}
+use Rattle.sharc_tree.specs.Measures.{in_head}
 use Rattle.sharc_tree.specs.Tree as tree
-use Rattle.sharc_names.specs.declared.types.Role.{Role}
-use Rattle.sharc_names.specs.declared.types.Role.TheVariants as role
-use Rattle.sharc_ctype.specs.{declared.entity.Entity.Entity, Entities.{declared, cast_entity, casts, first_entities, head_entities, statement_entities, statements_entities, result_of, item_entities, entities_in}, Resolved.{structs_in, globals_in, functions_in, declarations_of, declarations_in}, Statements.{first_locals, locals_in, locals_in_all}}
-use Rattle.sharc_lemmas.proofs.Lists.{front, back, both as joint}
 
 -- ---- of the casts among expressions
 
@@ -33,7 +28,7 @@ of_casts P (binary s o at a b ∷ rest) h = (tt, of_casts P rest h)
 -- ---- of the casts and the locals of statements
 
 abbrev pub IsLocalOf : (Entity → Type 0) → Declaration → Type 0
-IsLocalOf P d = P (declared role.Local d)
+IsLocalOf P d = P (declared Role.Local d)
 
 pub record InBody (P : Entity → Type 0) (es : List Expression) (ds : List Declaration) : Type 0 where
   pub casts : AllByRecursion (IsCastOf P) es
@@ -90,7 +85,7 @@ mutual
 -- ---- of a program
 
 abbrev pub is_global : Role → Bool
-is_global role.Global = true
+is_global Role.Global = true
 is_global _ = false
 
 -- a declaration has it in its role, which is not that of a global
@@ -101,21 +96,21 @@ as_declared : (P : Entity → Type 0) (what : Role) → is_global what ≡ false
 as_declared P what other [] h = tt
 as_declared P what other (d ∷ rest) h = ((what, other, h.0), as_declared P what other rest h.1)
 
-as_fields : (P : Entity → Type 0) (ds : List Declaration) → AllByRecursion P (map (declared role.Field) ds) → AllByRecursion (λ (d : Declaration). P (declared role.Field d)) ds
+as_fields : (P : Entity → Type 0) (ds : List Declaration) → AllByRecursion P (map (declared Role.Field) ds) → AllByRecursion (λ (d : Declaration). P (declared Role.Field d)) ds
 as_fields P [] h = tt
 as_fields P (d ∷ rest) h = (h.0, as_fields P rest h.1)
 
 as_locals : (P : Entity → Type 0) (ds : List Declaration) → AllByRecursion (IsLocalOf P) ds → AllByRecursion (IsDeclaredAs P) ds
 as_locals P [] h = tt
-as_locals P (d ∷ rest) h = ((role.Local, refl, h.0), as_locals P rest h.1)
+as_locals P (d ∷ rest) h = ((Role.Local, refl, h.0), as_locals P rest h.1)
 
 abbrev pub HasFields : (Entity → Type 0) → StructDefinition → Type 0
-HasFields P s = AllByRecursion (λ (d : Declaration). P (declared role.Field d)) s.fields
+HasFields P s = AllByRecursion (λ (d : Declaration). P (declared Role.Field d)) s.fields
 
 pub record IsHeldBy (P : Entity → Type 0) (items : List Item) : Type 0 where
   pub fields : AllByRecursion (HasFields P) (structs_in items)
   pub declarations : AllByRecursion (IsDeclaredAs P) (declarations_in items)
-  pub globals : AllByRecursion (λ (g : GlobalDefinition). P (declared role.Global g.declaration)) (globals_in items)
+  pub globals : AllByRecursion (λ (g : GlobalDefinition). P (declared Role.Global g.declaration)) (globals_in items)
   pub results : AllByRecursion (λ (f : Function). P (result_of f)) (functions_in items)
   pub bodies : AllByRecursion (λ (f : Function). InBody P (in_function f) (locals_in_all f.statements)) (functions_in items)
 
@@ -126,7 +121,7 @@ held_by P (structure s ∷ rest) h =
     let own = front P (item_entities (structure s)) (entities_in rest) h in
     record {
       fields = (as_fields P s.fields own, more.fields);
-      declarations = joint (IsDeclaredAs P) s.fields (declarations_in rest) (as_declared P role.Field refl s.fields own) more.declarations;
+      declarations = joint (IsDeclaredAs P) s.fields (declarations_in rest) (as_declared P Role.Field refl s.fields own) more.declarations;
       globals = more.globals;
       results = more.results;
       bodies = more.bodies;
@@ -137,12 +132,12 @@ held_by P (global g ∷ rest) h =
 held_by P (function f ∷ rest) h =
     let more : IsHeldBy P rest = held_by P rest (back P (item_entities (function f)) (entities_in rest) h) in
     let own = front P (item_entities (function f)) (entities_in rest) h in
-    let parameters : List Entity = map (declared role.Parameter) f.parameters in
+    let parameters : List Entity = map (declared Role.Parameter) f.parameters in
     let body : InBody P (in_function f) (locals_in_all f.statements) = statements_in P f.statements (back P parameters (statements_entities f.statements) own.1) in
     record {
       fields = more.fields;
       declarations = joint (IsDeclaredAs P) (declarations_of (function f)) (declarations_in rest)
-          (joint (IsDeclaredAs P) f.parameters (locals_in_all f.statements) (as_declared P role.Parameter refl f.parameters (front P parameters (statements_entities f.statements) own.1)) (as_locals P (locals_in_all f.statements) body.locals))
+          (joint (IsDeclaredAs P) f.parameters (locals_in_all f.statements) (as_declared P Role.Parameter refl f.parameters (front P parameters (statements_entities f.statements) own.1)) (as_locals P (locals_in_all f.statements) body.locals))
           more.declarations;
       globals = more.globals;
       results = (own.0, more.results);

@@ -1,6 +1,5 @@
 -- What is in a list with others inserted.
-use Rattle.std.proofs.{Common.{◌≡◌, ℕ, ◌+◌, ◌-◌, ◌<◌, ◌≤◌, nat_lt, Bool, true, false, List, ◌++◌, length, take, drop, get_or, refl, ap, sym, ◌∙◌, append_assoc, arith, if◌then◌else◌}, lemmas.Bool.{ltb-true, ltb-false}, lemmas.List.{length-append, length-take-le, get_or-append_right, get_or_append_left, get_or-append-add, get_or-take, get_or-drop, take_at, drop_at, take-take, take-append-le, drop-drop, drop-take}}
-use Rattle.sharc_suggest_laws.specs.{Applied.inserted, Kept.renumbered}
+use Rattle.sharc_suggest_laws.proofs.Imports.{◌≡◌, ℕ, ◌+◌, ◌-◌, ◌<◌, ◌≤◌, nat_lt, Bool, true, false, List, ◌++◌, length, take, drop, get_or, refl, ap, sym, ◌∙◌, append_assoc, arith, if◌then◌else◌, ltb-true, ltb-false, length-append, length-take-le, get_or-append_right, get_or_append_left, get_or-append-add, get_or-take, get_or-drop, take_at, drop_at, take-take, take-append-le, drop-drop, drop-take, inserted, renumbered}
 
 -- ---- by number
 

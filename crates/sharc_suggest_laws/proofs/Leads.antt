@@ -1,17 +1,7 @@
 -- Lock paths that lead to something: what a written path is as it is read, and that nothing is wrong with it where its
 -- first name is found.
-use Rattle.std.proofs.{Common.{◌≡◌, ℕ, ◌+◌, Bool, true, false, cond, List, [], ◌∷◌, map, Option, Some, None, refl, ap, sym, subst, ◌∙◌}, lemmas.Bool.and_parts}
-use Rattle.std.specs.{Prelude.codes, List.AllByRecursion}
-use Rattle.sharc_tree.specs.{declared.ctype.Base.Base, declared.ctype.Path.Path, declared.ctype.Path.TheVariants.{One, Through}, declared.tree.declaration.Declaration.Declaration, declared.tree.item.StructDefinition.StructDefinition, Tree.{Arguments, Function}}
-use Rattle.sharc_tree.specs.declared.ctype.Base.TheVariants as base
-use Rattle.sharc_names.specs.{declared.fault.FaultCode.FaultCode, declared.fault.FaultCode.TheVariants.BadForm, declared.fault.Named.Named, declared.scope.Scope.Scope, Kinds.{Kind, object}, Names.{Entry, Meaning, StructTable, look_up, named_of, kind_of, is_main}, Notes.{Note, yields, fault_where}, Types.{name_kind, main_notes, name_notes, field_among, second_in, second_notes, path_notes, mode_notes, modes_notes}}
-use Rattle.sharc_names.specs.declared.fault.Named.TheVariants as named
-use Rattle.sharc_ctype.specs.{Resolved.{Resolution, structs_in, named_at, function_at, named_kind, variable_kind, global_kind_of}, Statements.with_names}
-use Rattle.sharc_ctype_laws.specs.{Constraints.{struct_named, IsMemberOf}, WrittenTypes.{FirstNames, a_field, a_variable, a_global, a_function, a_known_call, IsNamedPath}}
-use Rattle.sharc_mode.specs.{Rows.{argument_use, lock_through, with_base, path_variable, lock_for}, Sharings.{Lock, Sharing, locked, lock_of, text_at, path_with, path_of, mode_of, is_sibling_lock, variable_named}}
-use Rattle.sharc_suggest.specs.Repairs.{keeps_first, keeps, keeps_all}
-use Rattle.sharc_suggest_laws.proofs.{Filed.{IsMeant, IsFiled}, Noted.{Clean, none, joined, referring}}
-use Rattle.sharc_lemmas.proofs.{Options.{no_guard as no_token, some_is as one_token}, Bools.yes as true_no}
+use Rattle.sharc_suggest_laws.proofs.{Imports.{◌≡◌, ℕ, ◌+◌, Bool, true, false, cond, List, [], ◌∷◌, map, Option, Some, None, refl, ap, sym, subst, ◌∙◌, and_parts, codes, AllByRecursion, Base, Path, One, Through, Declaration, StructDefinition, Arguments, Function, FaultCode, BadForm, Named, Scope, Kind, object, Entry, Meaning, StructTable, look_up, named_of, kind_of, is_main, Note, yields, fault_where, name_kind, main_notes, name_notes, field_among, second_in, second_notes, path_notes, mode_notes, modes_notes, Resolution, structs_in, named_at, function_at, named_kind, variable_kind, global_kind_of, with_names, struct_named, IsMemberOf, FirstNames, a_known_call, IsNamedPath, argument_use, lock_through, with_base, path_variable, lock_for, Lock, Sharing, locked, lock_of, text_at, path_with, path_of, mode_of, is_sibling_lock, variable_named, keeps_first, keeps, keeps_all, no_token, one_some as one_token, true_no}, Filed.{IsMeant, IsFiled}, Noted.{Clean, none, joined, referring}}
+use Rattle.sharc_ctype_laws.specs.WrittenTypes.{a_field, a_variable, a_global, a_function}
 
 -- ---- no fault among notes
 
@@ -27,14 +17,14 @@ clean_where false place code is = none
 
 -- from what its first name names, which points to a struct, to a field of it
 abbrev pub Leads : Resolution → Named → List ℕ → Type 0
-Leads r v m = (struct : List ℕ) × (d : Declaration) × (named_kind r v ≡ object (base.Struct struct) 1) × IsMemberOf r struct m d
+Leads r v m = (struct : List ℕ) × (d : Declaration) × (named_kind r v ≡ object (Base.Struct struct) 1) × IsMemberOf r struct m d
 
 abbrev pub SecondLeads : Resolution → Named → Option (List ℕ) → Type 0
 SecondLeads r v None = Unit {0}
 SecondLeads r v (Some m) = Leads r v m
 
 abbrev pub IsNoMain : Resolution → Named → Type 0
-IsNoMain r v = (n : ℕ) (f : Function) → v ≡ named.Function n → function_at r n ≡ Some f → f.name.text ≡ codes "main" → ⊥
+IsNoMain r v = (n : ℕ) (f : Function) → v ≡ Named.Function n → function_at r n ≡ Some f → f.name.text ≡ codes "main" → ⊥
 
 pub record IsSoundLock (r : Resolution) (l : Lock) : Type 0 where
   pub first : IsNoMain r (named_at r l.first)
@@ -53,19 +43,19 @@ first_kind_is r token text _ (a_global at is same) = ap (named_kind r) at ∙ ap
 first_kind_is r token text _ (a_function at is same other) = ap (named_kind r) at
 first_kind_is r token text _ (a_known_call c at is) = ap (named_kind r) at
 
-field_no_function : (t n : ℕ) → named.Field t ≡ named.Function n → ⊥
+field_no_function : (t n : ℕ) → Named.Field t ≡ Named.Function n → ⊥
 field_no_function t n h = cc
 
-pub variable_no_function : (t n : ℕ) → named.Variable t ≡ named.Function n → ⊥
+pub variable_no_function : (t n : ℕ) → Named.Variable t ≡ Named.Function n → ⊥
 variable_no_function t n h = cc
 
-global_no_function : (t n : ℕ) → named.Global t ≡ named.Function n → ⊥
+global_no_function : (t n : ℕ) → Named.Global t ≡ Named.Function n → ⊥
 global_no_function t n h = cc
 
-known_no_function : (n : ℕ) → named.Known ≡ named.Function n → ⊥
+known_no_function : (n : ℕ) → Named.Known ≡ Named.Function n → ⊥
 known_no_function n h = cc
 
-same_function : (k n : ℕ) → named.Function k ≡ named.Function n → k ≡ n
+same_function : (k n : ℕ) → Named.Function k ≡ Named.Function n → k ≡ n
 same_function k n h = cc
 
 one_function : (f g : Function) → Some f ≡ Some g → f ≡ g
@@ -83,15 +73,15 @@ first_no_main r token text _ (a_known_call c at is) = λ n f so there main. know
 pub written_sound : (r : Resolution) (path : Path) → IsNamedPath r path → IsSoundLock r (lock_of path)
 written_sound r (One m token) names = record { first = first_no_main r token m names.0 names.1; second = tt }
 written_sound r (Through x token m) names = record {
-  first = first_no_main r token x (object (base.Struct names.0) 1) names.2;
-  second = (names.0, names.1, first_kind_is r token x (object (base.Struct names.0) 1) names.2, names.3);
+  first = first_no_main r token x (object (Base.Struct names.0) 1) names.2;
+  second = (names.0, names.1, first_kind_is r token x (object (Base.Struct names.0) 1) names.2, names.3);
 }
 
 -- ---- through `x->f`
 
 -- what this token names is a variable
 abbrev pub IsVariableAt : Resolution → ℕ → Type 0
-IsVariableAt r at = (v : ℕ) × (named_at r at ≡ named.Variable v)
+IsVariableAt r at = (v : ℕ) × (named_at r at ≡ Named.Variable v)
 
 variable_no_main : (r : Resolution) (at : ℕ) → IsVariableAt r at → IsNoMain r (named_at r at)
 variable_no_main r at is = λ n f so there main. variable_no_function is.0 n (sym is.1 ∙ so)
@@ -107,10 +97,10 @@ through_sound r at path names variable leads = by (is_sibling_lock r (lock_of pa
 
 -- an argument that is a constant variable is a pointer where the parameter is one
 abbrev pub ArgumentsFit : Resolution → List Declaration → Arguments → Type 0
-ArgumentsFit r ds all = (t y : ℕ) → argument_use r ds all t ≡ Some y → (b : Base) (n : ℕ) → named_kind r (named.Variable t) ≡ object b (n + 1) → IsVariableAt r y × (named_kind r (named_at r y) ≡ object b (n + 1))
+ArgumentsFit r ds all = (t y : ℕ) → argument_use r ds all t ≡ Some y → (b : Base) (n : ℕ) → named_kind r (Named.Variable t) ≡ object b (n + 1) → IsVariableAt r y × (named_kind r (named_at r y) ≡ object b (n + 1))
 
-variable_is : (v : Named) (t : ℕ) → variable_named v ≡ Some t → v ≡ named.Variable t
-variable_is (named.Variable x) t is = ap named.Variable (one_token x t is)
+variable_is : (v : Named) (t : ℕ) → variable_named v ≡ Some t → v ≡ Named.Variable t
+variable_is (Named.Variable x) t is = ap Named.Variable (one_token x t is)
 variable_is _ t is = absurd (no_token t is)
 
 pub call_sound : (r : Resolution) (ds : List Declaration) (all : Arguments) (path : Path) → IsNamedPath r path → ArgumentsFit r ds all → IsSoundLock r (lock_for r ds all (path_variable r (lock_of path)) (lock_of path))
@@ -120,11 +110,11 @@ call_sound r ds all (Through x token m) names fit = by (variable_named (named_at
     l : Lock
     l = lock_of (Through x token m)
 
-    inner : (t : ℕ) → named_at r token ≡ named.Variable t → (o : Option ℕ) → argument_use r ds all t ≡ o → IsSoundLock r (with_base o l)
+    inner : (t : ℕ) → named_at r token ≡ Named.Variable t → (o : Option ℕ) → argument_use r ds all t ≡ o → IsSoundLock r (with_base o l)
     inner t at None is = written_sound r (Through x token m) names
     inner t at (Some y) is =
-        let kind : named_kind r (named.Variable t) ≡ object (base.Struct names.0) 1 = ap (named_kind r) (sym at) ∙ first_kind_is r token x (object (base.Struct names.0) 1) names.2 in
-        let fits : IsVariableAt r y × (named_kind r (named_at r y) ≡ object (base.Struct names.0) 1) = fit t y is (base.Struct names.0) 0 kind in
+        let kind : named_kind r (Named.Variable t) ≡ object (Base.Struct names.0) 1 = ap (named_kind r) (sym at) ∙ first_kind_is r token x (object (Base.Struct names.0) 1) names.2 in
+        let fits : IsVariableAt r y × (named_kind r (named_at r y) ≡ object (Base.Struct names.0) 1) = fit t y is (Base.Struct names.0) 0 kind in
         record { first = variable_no_main r y fits.0; second = (names.0, names.1, fits.1, names.3) }
 
     by : (o : Option ℕ) → variable_named (named_at r token) ≡ o → IsSoundLock r (lock_for r ds all o l)
@@ -159,8 +149,8 @@ second_found : (r : Resolution) (structs : StructTable) → KnowsStructs r struc
 second_found r structs knows names token m none found leads =
     let e : Entry = found.0 in
     let s : StructDefinition = leads.3.0 in
-    let kind : kind_of e.meaning ≡ object (base.Struct leads.0) 1 = found.3.kind ∙ ap (named_kind r) (sym found.2) ∙ leads.2 in
-    let has : name_kind (Some e) ≡ Some (object (base.Struct leads.0) 1) =
+    let kind : kind_of e.meaning ≡ object (Base.Struct leads.0) 1 = found.3.kind ∙ ap (named_kind r) (sym found.2) ∙ leads.2 in
+    let has : name_kind (Some e) ≡ Some (object (Base.Struct leads.0) 1) =
     ap (λ (b : Bool). cond b None (Some (kind_of e.meaning))) (not_main r token e.meaning none found.2 found.3) ∙ ap Some kind in
     let filed : IsFiled structs leads.0 s = knows leads.0 s leads.3.1 in
     ap (λ (o : Option Entry). second_in structs m (name_kind o)) found.1 ∙ ap (second_in structs m) has ∙ ap (field_among m) filed.1 ∙ ap Some leads.3.2
@@ -173,7 +163,7 @@ path_clean r file knows names l sound found = by l.second sound.second
     by (Some m) leads =
         joined (name_notes l.first (look_up names (text_at r l.first))) _ (first_clean r names l.first sound.first found)
         (subst (λ (o : Option (Option Declaration)). Clean (second_notes (l.first + 2) o)) (sym (second_found r file.structs knows names l.first m sound.first found leads))
-        (clean_yields (l.first + 2) (named.Field leads.1.name.site.token) [] none))
+        (clean_yields (l.first + 2) (Named.Field leads.1.name.site.token) [] none))
 
 -- ---- so of the modes of a type, where the first names are kept
 

@@ -1,18 +1,9 @@
 -- What receives a value comes before it, and a left side has a type by names that name what they named.
-use Rattle.std.proofs.Common.{◌≡◌, ◌⊎◌, inl, inr, ℕ, zero, suc, ◌+◌, ◌<◌, ◌≤◌, Bool, true, false, cond, List, [], ◌∷◌, ◌++◌, length, Option, Some, None, IfSome, refl, ap, subst, ◌∙◌, arith}
-use Rattle.std.specs.List.{AllByRecursion}
-use Rattle.sharc_tree.specs.{declared.token.Span.Span, Measures.{expressions, in_option, in_simple}, Placed.{Follow, option_spans, Placed, PlacedSimple, PlacedLocal, PlacedFirst, PlacedStatement, PlacedStatements, PlacedItem, PlacedItems}, Spans.{span_of, span_of_right}, Tree.{Expression, parentheses, call, spawn, on_value, on_place, cast, index, field, unary, binary, Arguments, no_arguments, argument, Right, value, malloc, Simple, assign, does_call, Local, First, nothing, declares, does, Statement, Statements, no_statements, statement, Function, Item, structure, global, function}}
+use Rattle.sharc_suggest_laws.proofs.{Imports.{◌≡◌, ◌⊎◌, inl, inr, ℕ, zero, suc, ◌+◌, ◌<◌, ◌≤◌, Bool, true, false, cond, List, [], ◌∷◌, ◌++◌, length, Option, Some, None, IfSome, refl, ap, subst, ◌∙◌, arith, AllByRecursion, Span, expressions, in_option, in_simple, Follow, option_spans, Placed, PlacedSimple, PlacedLocal, PlacedFirst, PlacedStatement, PlacedStatements, PlacedItem, PlacedItems, span_of, span_of_right, Expression, parentheses, call, spawn, on_value, on_place, cast, index, field, unary, binary, Arguments, no_arguments, argument, Right, value, malloc, Simple, assign, does_call, Local, First, nothing, declares, does, Statement, Statements, no_statements, statement, Function, Item, structure, global, function, FaultCode, NoLvalue, Value, Scope, Kind, declared_kind, Entry, place, met, unmet, Note, fault_unless, type_notes, Role, AsLvalue, is_place, place_kind, place_notes, type_of, notes_at, in_body, item_notes, items_notes, function_notes, parameters_notes, Resolution, kind_at, functions_in, Around, opened, looping, with_names, test_notes, right_notes, simple_notes, first_notes, tests_notes, step_notes, in_head, head_notes, notes_in, notes_in_all, locals_in_all, Placing, at, places_in_first, places_in, places_in_all, places_of, places_of_all, entry_of, Receiver, of_declared, of_left, of_parameter, Giving, one_giving, givings, all_givings, option_givings, value_givings, right_givings, simple_givings, local_givings, first_givings, head_givings, givings_in, givings_in_all, item_givings, items_givings, met_in_statements, begins_at, front, back, joint}, Apart.{body_bounds, all_begin, parts_of}, Counted.{counted, in_statements as statements_counted}, Strong.{IsStrong, AreStrong}}
 use Rattle.sharc_tree.specs.Tree as tree
-use Rattle.sharc_names.specs.{declared.fault.FaultCode.FaultCode, declared.fault.FaultCode.TheVariants.NoLvalue, declared.need.Need.TheVariants.Value, declared.scope.Scope.Scope, Kinds.{Kind, declared_kind}, Names.Entry, Needs.{place, met, unmet}, Notes.{Note, fault_unless}, Types.type_notes}
-use Rattle.sharc_names.specs.declared.types.Role.TheVariants as role
 use Rattle.sharc_names.specs.Kinds as kinds
-use Rattle.sharc_ctype.specs.{declared.expr.Standing.TheVariants.AsLvalue, Expressions.{is_place, place_kind, place_notes, type_of, notes_at}, Items.{in_body, item_notes, items_notes, function_notes, parameters_notes, beyond}, Resolved.{Resolution, kind_at, functions_in}, Statements.{Around, opened, looping, with_names, test_notes, right_notes, simple_notes, first_notes, behind_first, tests_notes, step_notes, in_head, head_notes, after, notes_in, notes_in_all, locals_in_all}}
-use Rattle.sharc_ctype_laws.specs.Places.{Placing, at, places_in_first, places_in, places_in_all, places_of, places_of_all}
+use Rattle.sharc_ctype.specs.{Items.beyond, Statements.{behind_first, after}}
 use Rattle.sharc_suggest.specs.Givings as scopes
-use Rattle.sharc_suggest.specs.{Repairs.entry_of, Givings.{Receiver, of_declared, of_left, of_parameter, Giving, one_giving, givings, all_givings, option_givings, value_givings, right_givings, simple_givings, local_givings, first_givings, head_givings, givings_in, givings_in_all, item_givings, items_givings}}
-use Rattle.sharc_suggest_laws.specs.Values.{met_in_statements, begins_at}
-use Rattle.sharc_suggest_laws.proofs.{Apart.{body_bounds, all_begin, parts_of}, Counted.{counted, in_statements as statements_counted}, Strong.{IsStrong, AreStrong}}
-use Rattle.sharc_lemmas.proofs.Lists.{front, back, both as joint}
 
 -- ---- a left side
 
@@ -246,7 +237,7 @@ in_function r now file f placed typed strong =
     let scope : List Entry = scopes.with_parameters [] f.parameters in
     let token : ℕ = f.name.site.token in
     let gs : List Giving = givings_in_all scope token f.statements in
-    let heads : List Note = type_notes file [] role.Result f.result ++ parameters_notes (length file.names) 0 file f.parameters in
+    let heads : List Note = type_notes file [] Role.Result f.result ++ parameters_notes (length file.names) 0 file f.parameters in
     let inner : AreStrong r now (notes_in_all around (in_body file f) f.statements) =
     back (IsStrong r now) heads (notes_in_all around (in_body file f) f.statements)
     (front (IsStrong r now) (heads ++ notes_in_all around (in_body file f) f.statements) (beyond 200 (locals_in_all f.statements)) strong) in

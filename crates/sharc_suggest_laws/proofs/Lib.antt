@@ -1,3 +1,4 @@
+mod Imports
 mod WriteLemmas
 pub mod Added
 pub mod Agreed

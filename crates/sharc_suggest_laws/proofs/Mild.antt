@@ -1,49 +1,39 @@
 -- What is said of the type of a cast that is suggested does no harm: its names name there what they name where they are written.
-use Rattle.std.proofs.{Common.{◌≡◌, inl, inr, ℕ, ◌+◌, Bool, true, false, List, [], ◌∷◌, ◌++◌, map, Option, Some, None, refl, ap, sym, subst, ◌∙◌, eqb-true}, lemmas.Bool.{false≢true, and_parts}}
-use Rattle.sharc_tree.specs.{declared.ctype.Base.Base, declared.ctype.Mode.Mode, declared.tree.declaration.Declaration.Declaration, declared.tree.declaration.WrittenType.WrittenType}
-use Rattle.sharc_tree.specs.declared.ctype.Base.TheVariants as base
-use Rattle.sharc_names.specs.{declared.fault.FaultCode.TheVariants.TypeNotAllowed, declared.fault.Named.Named, declared.scope.Scope.Scope, Names.{Entry, StructMeaning, StructTable, struct_of, look_up, named_of, named_struct}, Notes.fault_unless, Types.{name_notes, main_notes, second_in, second_notes, path_notes, mode_notes, modes_notes, struct_note, base_notes, allowed_there, type_notes, first_kind}}
-use Rattle.sharc_names.specs.declared.fault.Named.TheVariants as named
-use Rattle.sharc_names.specs.declared.types.Role.TheVariants as role
+use Rattle.sharc_suggest_laws.proofs.{Imports.{◌≡◌, inl, inr, ℕ, ◌+◌, Bool, true, false, List, [], ◌∷◌, ◌++◌, map, Option, Some, None, refl, ap, sym, subst, ◌∙◌, eqb-true, false≢true, and_parts, Base, Mode, Declaration, WrittenType, TypeNotAllowed, Named, Scope, Entry, StructMeaning, StructTable, struct_of, look_up, named_of, named_struct, fault_unless, name_notes, main_notes, second_in, second_notes, path_notes, mode_notes, modes_notes, struct_note, base_notes, allowed_there, type_notes, first_kind, Role, Resolution, named_at, with_names, Sharing, locked, is_field, same_named, mode_of, path_with, text_at, is_call_at, keeps_named, keeps, keeps_all, is_dull}, Words.calls_apart, Noted.{Clean, left, right, no_fault, Noted, done, added, both, more_faults, new_fault, quiet, main_faults, unless_faults}, Scoped.{IsFoundAs, Scoped}}
 use Rattle.sharc_names.specs.Names as meaning
-use Rattle.sharc_ctype.specs.{Resolved.{Resolution, named_at}, Statements.with_names}
-use Rattle.sharc_mode.specs.Sharings.{Sharing, locked, is_field, same_named, mode_of, path_with, text_at}
-use Rattle.sharc_suggest.specs.Repairs.{is_call_at, keeps_named, keeps, keeps_all}
-use Rattle.sharc_suggest_laws.specs.Names.{is_dull}
-use Rattle.sharc_suggest_laws.proofs.{Words.calls_apart, Noted.{Clean, left, right, no_fault, Noted, done, added, both, more_faults, new_fault, quiet, main_faults, unless_faults}, Scoped.{IsFoundAs, Scoped}}
 
 -- a global or a function
 abbrev pub is_filed : Named → Bool
-is_filed (named.Global n) = true
-is_filed (named.Function n) = true
+is_filed (Named.Global n) = true
+is_filed (Named.Function n) = true
 is_filed _ = false
 
 -- A token that names a global or a function has the text of what the file knows as that, and the name of a known call is what the file knows as such a call. What names a
 -- variable, a global or a function is no word `locked`, so no path begins two tokens after it.
 pub record IsSpelled (r : Resolution) (file : List Entry) : Type 0 where
   pub filed : (token : ℕ) → is_filed (named_at r token) ≡ true → (e : Entry) → look_up file (text_at r token) ≡ Some e → named_of e.meaning ≡ named_at r token
-  pub called : (token : ℕ) → named_at r token ≡ named.Known → is_call_at r token ≡ true → (e : Entry) → look_up file (text_at r token) ≡ Some e → named_of e.meaning ≡ named.Known
+  pub called : (token : ℕ) → named_at r token ≡ Named.Known → is_call_at r token ≡ true → (e : Entry) → look_up file (text_at r token) ≡ Some e → named_of e.meaning ≡ Named.Known
   pub apart : (token : ℕ) → is_dull (named_at r token) ≡ false → is_call_at r (token + 2) ≡ false
 
 -- ---- the first name of a lock path
 
-variable_is : (x : ℕ) (w : Named) → same_named (named.Variable x) w ≡ true → named.Variable x ≡ w
-variable_is x (named.Variable y) is = ap named.Variable (eqb-true x y is)
+variable_is : (x : ℕ) (w : Named) → same_named (Named.Variable x) w ≡ true → Named.Variable x ≡ w
+variable_is x (Named.Variable y) is = ap Named.Variable (eqb-true x y is)
 variable_is x _ is = absurd (false≢true is)
 
 -- what it names at the cast is what it names where it is written
 pub named_there : (r : Resolution) (file names : List Entry) (token : ℕ) → IsSpelled r file → (v : Named) → named_at r token ≡ v → (c : Option Entry) → keeps_named (is_call_at r token) v c ≡ true
     → IsFoundAs c (look_up names (text_at r token)) (look_up file (text_at r token)) → (e : Entry) → look_up names (text_at r token) ≡ Some e → named_at r token ≡ named_of e.meaning
-named_there r file names token spelled (named.Struct n) is None kept found e at = absurd (false≢true kept)
-named_there r file names token spelled (named.Global n) is None kept found e at = sym (spelled.filed token (ap is_filed is) e (sym found ∙ at))
-named_there r file names token spelled (named.Function n) is None kept found e at = sym (spelled.filed token (ap is_filed is) e (sym found ∙ at))
-named_there r file names token spelled (named.Variable x) is (Some c) kept found e at =
+named_there r file names token spelled (Named.Struct n) is None kept found e at = absurd (false≢true kept)
+named_there r file names token spelled (Named.Global n) is None kept found e at = sym (spelled.filed token (ap is_filed is) e (sym found ∙ at))
+named_there r file names token spelled (Named.Function n) is None kept found e at = sym (spelled.filed token (ap is_filed is) e (sym found ∙ at))
+named_there r file names token spelled (Named.Variable x) is (Some c) kept found e at =
     is ∙ variable_is x (named_of c.meaning) kept ∙ ap named_of (sym found.2) ∙ ap (λ (z : Entry). named_of z.meaning) (one_some found.0 e (sym found.1 ∙ at))
   where
     one_some : (a b : Entry) → Some a ≡ Some b → a ≡ b
     one_some a b h = cc
-named_there r file names token spelled (named.Field f) is None kept found e at = absurd (false≢true kept)
-named_there r file names token spelled named.Known is None kept found e at = is ∙ sym (spelled.called token is kept e (sym found ∙ at))
+named_there r file names token spelled (Named.Field f) is None kept found e at = absurd (false≢true kept)
+named_there r file names token spelled Named.Known is None kept found e at = is ∙ sym (spelled.called token is kept e (sym found ∙ at))
 named_there r file names token spelled _ is _ kept found e at = absurd (false≢true kept)
 
 name_mild : (r : Resolution) (token : ℕ) (o : Option Entry) → ((e : Entry) → o ≡ Some e → named_at r token ≡ named_of e.meaning) → Clean (name_notes token o) → Noted r [] (name_notes token o)
@@ -57,12 +47,12 @@ second_mild r token apart (Some (Some d)) = added (refl, apart) done
 
 -- where the first name of a path is kept, no path begins where its second name is looked for
 seconds_apart : (r : Resolution) (file : List Entry) (token : ℕ) → IsSpelled r file → (v : Named) → named_at r token ≡ v → (c : Option Entry) → keeps_named (is_call_at r token) v c ≡ true → is_call_at r (token + 2) ≡ false
-seconds_apart r file token spelled (named.Struct n) is None kept = absurd (false≢true kept)
-seconds_apart r file token spelled (named.Global n) is c kept = spelled.apart token (ap is_dull is)
-seconds_apart r file token spelled (named.Function n) is c kept = spelled.apart token (ap is_dull is)
-seconds_apart r file token spelled (named.Variable x) is c kept = spelled.apart token (ap is_dull is)
-seconds_apart r file token spelled (named.Field f) is None kept = absurd (false≢true kept)
-seconds_apart r file token spelled named.Known is None kept = calls_apart r token kept
+seconds_apart r file token spelled (Named.Struct n) is None kept = absurd (false≢true kept)
+seconds_apart r file token spelled (Named.Global n) is c kept = spelled.apart token (ap is_dull is)
+seconds_apart r file token spelled (Named.Function n) is c kept = spelled.apart token (ap is_dull is)
+seconds_apart r file token spelled (Named.Variable x) is c kept = spelled.apart token (ap is_dull is)
+seconds_apart r file token spelled (Named.Field f) is None kept = absurd (false≢true kept)
+seconds_apart r file token spelled Named.Known is None kept = calls_apart r token kept
 seconds_apart r file token spelled _ is _ kept = absurd (false≢true kept)
 
 path_mild : (r : Resolution) (scope : Scope) (token : ℕ) (text : List ℕ) (second : Option (List ℕ)) → is_call_at r (token + 2) ≡ false
@@ -91,7 +81,7 @@ modes_mild r file names scope spelled scoped (s ∷ rest) kept clean =
 
 -- the token at which a base is named names a struct
 abbrev pub NamesBase : Resolution → ℕ → Base → Type 0
-NamesBase r token (base.Struct name) = (is_dull (named_at r token) ≡ true) × (is_field (named_at r token) ≡ false)
+NamesBase r token (Base.Struct name) = (is_dull (named_at r token) ≡ true) × (is_field (named_at r token) ≡ false)
 NamesBase r token _ = Unit {0}
 
 struct_dull : (s : StructMeaning) → is_dull (named_struct s) ≡ true
@@ -107,18 +97,18 @@ struct_mild r token None is = new_fault done
 struct_mild r token (Some s) is = added (inr (is.0, is.1, struct_dull s, struct_apart s)) done
 
 base_mild : (r : Resolution) (structs : StructTable) (token : ℕ) (b : Base) → NamesBase r token b → Noted r [] (base_notes structs token b)
-base_mild r structs token (base.Struct name) is = struct_mild r token (struct_of structs name) is
+base_mild r structs token (Base.Struct name) is = struct_mild r token (struct_of structs name) is
 base_mild r structs token _ is = done
 
 -- ---- the type
 
 pub type_mild : (r : Resolution) (file : Scope) (names scope : List Entry) → IsSpelled r file.names → Scoped file.names names scope → (w : WrittenType) (modes : List Sharing) → w.ctype.levels ≡ None ∷ map (λ s. Some (mode_of r s)) modes
-    → NamesBase r w.base.token w.ctype.base → keeps_all r scope modes ≡ true → Clean (type_notes (with_names file names) [] role.Cast w) → Noted r [] (type_notes (with_names file names) [] role.Cast w)
+    → NamesBase r w.base.token w.ctype.base → keeps_all r scope modes ≡ true → Clean (type_notes (with_names file names) [] Role.Cast w) → Noted r [] (type_notes (with_names file names) [] Role.Cast w)
 type_mild r file names scope spelled scoped w modes levels named_base kept clean =
     let σ : Scope = with_names file names in
-    let bases : Noted r [] (base_notes file.structs w.base.token w.ctype.base ++ fault_unless (allowed_there role.Cast w) w.span.first.token TypeNotAllowed) =
-    more_faults r [] (base_notes file.structs w.base.token w.ctype.base) _ (base_mild r file.structs w.base.token w.ctype.base named_base) (unless_faults (allowed_there role.Cast w) w.span.first.token TypeNotAllowed) in
+    let bases : Noted r [] (base_notes file.structs w.base.token w.ctype.base ++ fault_unless (allowed_there Role.Cast w) w.span.first.token TypeNotAllowed) =
+    more_faults r [] (base_notes file.structs w.base.token w.ctype.base) _ (base_mild r file.structs w.base.token w.ctype.base named_base) (unless_faults (allowed_there Role.Cast w) w.span.first.token TypeNotAllowed) in
     let all : Noted r [] (modes_notes σ [] w.ctype.levels) =
     subst (λ (l : List (Option Mode)). Noted r [] (modes_notes σ [] l)) (sym levels)
     (modes_mild r file names scope spelled scoped modes kept (subst (λ (l : List (Option Mode)). Clean (modes_notes σ [] l)) levels (right _ _ clean))) in
-    both r [] (base_notes file.structs w.base.token w.ctype.base ++ fault_unless (allowed_there role.Cast w) w.span.first.token TypeNotAllowed) [] (modes_notes σ [] w.ctype.levels) bases all
+    both r [] (base_notes file.structs w.base.token w.ctype.base ++ fault_unless (allowed_there Role.Cast w) w.span.first.token TypeNotAllowed) [] (modes_notes σ [] w.ctype.levels) bases all

@@ -1,13 +1,6 @@
 -- At each place one mismatch of modes at most: each is reported of a giving, at its first token.
-use Rattle.std.proofs.Common.{◌≡◌, ℕ, ◌+◌, ◌≤◌, ◌==◌, Bool, true, false, cond, List, [], ◌∷◌, ◌++◌, length, Option, Some, None, refl, ap, ◌∙◌, arith}
-use Rattle.std.specs.List.{flat_map, filter}
-use Rattle.sharc_tree.specs.{declared.ctype.Base.Base, declared.token.Span.Span, Spans.span_of, Tree.Expression}
-use Rattle.sharc_ctype.specs.Resolved.{Resolution, kind_at}
-use Rattle.sharc_mode.specs.{declared.error.ErrorCode.TheVariants.{ModeMismatch, NamedByLockPath}, declared.error.ModeError.ModeError, declared.finding.Finding.Finding, declared.finding.Finding.TheVariants.{Wrong, Names, Takes}, Moded.Assignment, Notes.{agree, agree_notes, base_of, error_where, error_of, errors_by, is_named, mismatch, shown}, Rows.modes_at, Sharings.{Sharing, same_all, text_at}, WellModed.notes_about}
-use Rattle.sharc_suggest_laws.specs.{Mismatches.{is_mismatch_at, OneMismatch}, Values.{count_of, met_by, met_in_items, begins_at}}
-use Rattle.sharc_suggest.specs.Givings.{Giving, items_givings, wanted}
-use Rattle.sharc_suggest_laws.proofs.{Agreed.{told_of, told_in, in_program}, Counted.{counted, in_items as items_counted}, Few.values_begin_apart, Quiet.{one, ones}}
-use Rattle.sharc_lemmas.proofs.Numbers.{zero_le as least}
+use Rattle.sharc_suggest_laws.proofs.{Imports.{◌≡◌, ℕ, ◌+◌, ◌≤◌, ◌==◌, Bool, true, false, cond, List, [], ◌∷◌, ◌++◌, length, Option, Some, None, refl, ap, ◌∙◌, arith, flat_map, filter, Base, Span, span_of, Expression, Resolution, kind_at, ModeMismatch, NamedByLockPath, ModeError, Finding, Wrong, Names, Takes, Assignment, agree, agree_notes, base_of, error_where, error_of, errors_by, is_named, mismatch, shown, modes_at, Sharing, same_all, text_at, is_mismatch_at, OneMismatch, count_of, met_by, met_in_items, begins_at, Giving, items_givings, wanted, least}, Agreed.{told_of, told_in, in_program}, Counted.{counted, in_items as items_counted}, Few.values_begin_apart, Quiet.{one, ones}}
+use Rattle.sharc_mode.specs.WellModed.{notes_about}
 
 -- ---- of a value: one at its first token
 

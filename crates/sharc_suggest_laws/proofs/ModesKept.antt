@@ -1,14 +1,6 @@
 -- The modes of targets whose lock paths are written in their type: as many as the targets, with lock paths that lead to
 -- something.
-use Rattle.std.proofs.{Common.{◌≡◌, ◌⊎◌, inl, inr, ⊎_elim, ℕ, zero, suc, ◌+◌, ◌-◌, ◌<◌, ◌≤◌, true, false, List, [], ◌∷◌, length, map, take, drop, get_or, Contains, Some, ap, sym, subst, ◌∙◌, arith}, lemmas.Bool.{false≢true, and_parts}, lemmas.List.{get_or-drop, length-drop, length-take-le}}
-use Rattle.std.specs.List.{AllByRecursion}
-use Rattle.sharc_tree.specs.{declared.ctype.Mode.Mode, declared.ctype.Mode.TheVariants.{Private, Locked}, declared.ctype.Path.Path, declared.ctype.Path.TheVariants.{One, Through}, declared.tree.declaration.Declaration.Declaration, declared.tree.declaration.WrittenType.WrittenType}
-use Rattle.sharc_ctype.specs.{declared.entity.Entity.Entity, declared.entity.Numbered.Numbered, Entities.{entities_in, numbered_from, positions_in, positions_of}, Resolved.{Resolution, named_at}}
-use Rattle.sharc_ctype_laws.specs.WrittenTypes.{IsNamedPath, IsNamedLevel, IsNamedType}
-use Rattle.sharc_infer_laws.specs.Locks.{IsWrittenLock, HasWrittenLocks}
-use Rattle.sharc_mode.specs.{Moded.{Assignment, IsWhole}, Rows.{PathReading, written, through, at_call, Targets, read, modes_of}, Sharings.{Sharing, sharing_of, lock_of, is_field, is_sibling_lock, text_at}}
-use Rattle.sharc_suggest_laws.proofs.{Leads.{IsSoundSharing, Leads, written_sound, through_sound, call_sound}, Siblings.{IsSiblingPath, IsSiblingLevel}, Targets.{IsReadThrough, IsReading, IsOf, IsRow}}
-use Rattle.sharc_lemmas.proofs.Lists.{of_each, head_or_tail, map_length, mapped_each}
+use Rattle.sharc_suggest_laws.proofs.{Imports.{◌≡◌, ◌⊎◌, inl, inr, ⊎_elim, ℕ, zero, suc, ◌+◌, ◌-◌, ◌<◌, ◌≤◌, true, false, List, [], ◌∷◌, length, map, take, drop, get_or, Contains, Some, ap, sym, subst, ◌∙◌, arith, false≢true, and_parts, get_or-drop, length-drop, length-take-le, AllByRecursion, Mode, Private, Locked, Path, One, Through, Declaration, WrittenType, Entity, Numbered, entities_in, numbered_from, positions_in, positions_of, Resolution, named_at, IsNamedPath, IsNamedLevel, IsNamedType, IsWrittenLock, HasWrittenLocks, Assignment, IsWhole, PathReading, written, through, at_call, Targets, read, modes_of, Sharing, sharing_of, lock_of, is_field, is_sibling_lock, text_at, of_each, head_or_tail, map_length, mapped_each}, Leads.{IsSoundSharing, Leads, written_sound, through_sound, call_sound}, Siblings.{IsSiblingPath, IsSiblingLevel}, Targets.{IsReadThrough, IsReading, IsOf, IsRow}}
 
 -- ---- a lock path that is written in a type, as it is read
 

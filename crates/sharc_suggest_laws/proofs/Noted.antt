@@ -1,14 +1,7 @@
 -- Notes with others among them, faults apart: what a cast adds to what is to be said of a program.
-use Rattle.std.proofs.Common.{◌≡◌, ◌∙◌, ◌⊎◌, ℕ, ◌==◌, Bool, true, false, not, ◌||◌, cond, List, [], ◌∷◌, ◌++◌, Option, Some, None, refl}
-use Rattle.std.specs.List.{AllByRecursion}
-use Rattle.sharc_tree.specs.{declared.ctype.Base.Base, declared.ctype.Mode.Mode, declared.ctype.Mode.TheVariants.Locked, declared.ctype.Path.Path, declared.ctype.Path.TheVariants.{One, Through}, declared.tree.declaration.WrittenType.WrittenType, declared.tree.declaration.Declaration.Declaration, declared.tree.expression.PlaceCall.PlaceCall, Tree.Expression}
-use Rattle.sharc_tree.specs.declared.ctype.Base.TheVariants as base
-use Rattle.sharc_names.specs.{declared.fault.FaultCode.FaultCode, declared.fault.FaultCode.TheVariants.{TypeMismatch, ArgumentCount, NoLvalue, TypeNotAllowed, BadForm}, declared.fault.Named.Named, declared.need.Need.Need, declared.scope.Scope.Scope, declared.types.Role.Role, Kinds.{Kind, object, is_pointer, stars_of}, Names.{Entry, Meaning, StructMeaning, look_up, field_of, struct_of, is_main}, Needs.{place, called, fits, unmet, misfit, misfit_of, mismatch, used_call, agreed, unagreed}, Notes.{Note, fault, refers, yields, fault_unless, fault_where, faults}, Types.{main_notes, name_notes, field_notes, first_notes, first_kind, second_in, second_notes, path_notes, mode_notes, modes_notes, struct_note, base_notes, allowed_there, type_notes}}
-use Rattle.sharc_ctype.specs.{declared.expr.Standing.Standing, declared.expr.Standing.TheVariants.{AsValue, AsLvalue}, declared.expr.OperatorClass.OperatorClass, Expressions.{is_place, place_notes, suits, place_call_notes, keeps_kind, cast_notes, count_notes, may_join, binary_notes}, Resolved.{Resolution, named_at}}
-use Rattle.sharc_mode.specs.Sharings.{is_field}
-use Rattle.sharc_suggest.specs.Repairs.{is_call_at}
-use Rattle.sharc_suggest_laws.specs.Names.{is_dull}
-use Rattle.sharc_lemmas.proofs.Bools.{no_cell as no}
+use Rattle.sharc_suggest_laws.proofs.Imports.{◌≡◌, ◌∙◌, ◌⊎◌, ℕ, ◌==◌, Bool, true, false, not, ◌||◌, cond, List, [], ◌∷◌, ◌++◌, Option, Some, None, refl, AllByRecursion, Base, Mode, Locked, Path, One, Through, WrittenType, Declaration, PlaceCall, Expression, FaultCode, TypeMismatch, ArgumentCount, NoLvalue, TypeNotAllowed, BadForm, Named, Need, Scope, Role, Kind, object, is_pointer, stars_of, Entry, Meaning, StructMeaning, look_up, field_of, struct_of, is_main, place, called, fits, unmet, misfit, misfit_of, used_call, agreed, unagreed, Note, fault, refers, yields, fault_unless, fault_where, faults, main_notes, name_notes, field_notes, first_kind, second_in, second_notes, path_notes, mode_notes, modes_notes, struct_note, base_notes, allowed_there, type_notes, Standing, AsValue, AsLvalue, OperatorClass, is_place, place_notes, suits, place_call_notes, keeps_kind, cast_notes, may_join, binary_notes, Resolution, named_at, is_field, is_call_at, is_dull, no}
+use Rattle.sharc_names.specs.{Needs.mismatch, Types.first_notes}
+use Rattle.sharc_ctype.specs.Expressions.{count_notes}
 
 -- ---- no fault among them
 
@@ -162,7 +155,7 @@ used_faults None = tt
 used_faults (Some word) = (tt, tt)
 
 base_faults : (b : Base) (e : Expression) → AreFaults (misfit_of b e)
-base_faults base.Void e = used_faults (called e)
+base_faults Base.Void e = used_faults (called e)
 base_faults _ e = (tt, tt)
 
 object_faults : (b : Base) (e : Expression) (z : Bool) → AreFaults (cond z (misfit_of b e) (mismatch e))
@@ -263,7 +256,7 @@ struct_tame token None = (tt, tt)
 struct_tame token (Some s) = (tt, tt)
 
 base_tame : (scope : Scope) (token : ℕ) (b : Base) → AllByRecursion IsTame (base_notes scope.structs token b)
-base_tame scope token (base.Struct name) = struct_tame token (struct_of scope.structs name)
+base_tame scope token (Base.Struct name) = struct_tame token (struct_of scope.structs name)
 base_tame scope token _ = tt
 
 pub type_tame : (scope : Scope) (siblings : List Declaration) (where_it_stands : Role) (w : WrittenType) → AllByRecursion IsTame (type_notes scope siblings where_it_stands w)

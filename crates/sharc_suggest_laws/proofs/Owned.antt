@@ -1,12 +1,5 @@
 -- In a resolved program at its tokens at most one thing is said of each token.
-use Rattle.std.proofs.{Common.{◌⊎◌, inl, inr, ⊎_elim, ℕ, List, [], ◌∷◌, Contains, sym, subst, arith}, lemmas.Bool.cases_eq}
-use Rattle.std.specs.List.{AllByRecursion}
-use Rattle.sharc_names.specs.{declared.fault.Named.Named, Notes.{Note, fault, refers, yields, referred}}
-use Rattle.sharc_ctype.specs.{Items.notes_about, Reaches.name_tokens, Resolved.{Resolution, named_at}}
-use Rattle.sharc_tree.specs.Marks.{items_marks}
-use Rattle.sharc_ctype_laws.specs.Laws.{Tells, IsToldOnce}
-use Rattle.sharc_suggest_laws.proofs.Folded.{IsOwnAt}
-use Rattle.sharc_lemmas.proofs.Lists.{both as joint, later}
+use Rattle.sharc_suggest_laws.proofs.{Imports.{◌⊎◌, inl, inr, ⊎_elim, ℕ, List, [], ◌∷◌, Contains, sym, subst, arith, cases_eq, AllByRecursion, Named, Note, fault, refers, yields, referred, notes_about, name_tokens, Resolution, named_at, items_marks, Tells, IsToldOnce, joint, later}, Folded.IsOwnAt}
 
 none_told : (t : ℕ) (v : Named) (l : List Note) → (Contains (referred l) t → ⊥) → AllByRecursion (IsOwnAt t v) l
 none_told t v [] not_so = tt

@@ -1,15 +1,6 @@
 -- Where a cast is suggested its type has as many stars as the expression, and its lock paths name what is there.
-use Rattle.std.proofs.{Common.{◌≡◌, ℕ, zero, suc, ◌+◌, ◌&&◌, not, Bool, true, false, List, [], ◌∷◌, ◌++◌, cond, length, map, bytes_eq, Option, Some, None, option_map, refl, ap, sym, subst, ◌∙◌, arith}, lemmas.Bool.{false≢true, and_parts}}
-use Rattle.std.specs.List.{AllByRecursion}
-use Rattle.sharc_tree.specs.{declared.ctype.Base.Base, declared.ctype.Mode.Mode, declared.tree.declaration.Declaration.Declaration, declared.tree.expression.FieldOperator.TheVariants.{Dot, Arrow}, declared.tree.expression.UnaryOperator.TheVariants.Dereference, declared.tree.item.GlobalForm.GlobalForm, declared.tree.item.GlobalForm.TheVariants.Array, Forms.{without_parentheses, is_lvalue}, Low.IsLow, Measures.expressions, Placed.IsPlaced, Tree.{Expression, identifier, parentheses, cast, index, field, unary}}
-use Rattle.sharc_names.specs.{declared.scope.Scope.Scope, Kinds.{Kind, object, is_null}, Names.{Entry, look_up, global_kind}, Types.modes_notes}
-use Rattle.sharc_ctype.specs.{Items.{file_scope, notes_about}, Resolved.{Resolution, IsResolved, functions_in, variable_kind, kind_at}, Statements.with_names}
-use Rattle.sharc_ctype_laws.specs.Constraints.{HasType, a_variable, a_global, a_function, in_parentheses, element_of_pointer, element_of_array, a_field, a_field_behind, pointed_to}
-use Rattle.sharc_infer_laws.specs.Locks.{HasWrittenLocks}
-use Rattle.sharc_mode.specs.{declared.error.Cast.Cast, Cells.cell_at, Moded.{Assignment, IsWhole}, Notes.taken_variable, Rows.{Targets, modes_of, row_at}, Sharings.{Sharing, is_readonly, mode_of}}
-use Rattle.sharc_suggest.specs.{Givings.{Giving, items_givings}, Repairs.{differ_first, is_free, keeps_first, keeps_all, may_be_cast}}
-use Rattle.sharc_suggest_laws.proofs.{Expects.{Agreed, same, integers, agreed, IsExpected, expected_of, same_modes}, Filed.{IsMeant, AreMeant, file_meant, file_structs, no_entry as none_some}, FoundThere.{HasNames, has_names, found_there}, Given.{AreKnown, AreOwn, IsWell, givings_well, IsWellFunction}, Leads.{IsFoundIn, modes_clean}, Mild.IsSpelled, ModesKept.modes_of_row, Noted.{Clean, clean_from}, ReadySite.{PathsRead, IsPointed}, Site.IsFor, SpelledAll.spelled, Targets.{IsRowOf, IsKnownProgram, targets_of}, World.{TypedLaws, known_program, known_functions}}
-use Rattle.sharc_lemmas.proofs.Lists.{back}
+use Rattle.sharc_suggest_laws.proofs.{Imports.{◌≡◌, ℕ, zero, suc, ◌+◌, ◌&&◌, not, Bool, true, false, List, [], ◌∷◌, ◌++◌, cond, length, map, bytes_eq, Option, Some, None, option_map, refl, ap, sym, subst, ◌∙◌, arith, false≢true, and_parts, AllByRecursion, Base, Mode, Declaration, Dot, Arrow, Dereference, GlobalForm, Array, without_parentheses, is_lvalue, IsLow, expressions, IsPlaced, Expression, identifier, parentheses, cast, index, field, unary, Scope, Kind, object, is_null, Entry, look_up, global_kind, modes_notes, file_scope, notes_about, Resolution, IsResolved, functions_in, variable_kind, kind_at, with_names, HasType, a_variable, a_global, a_function, in_parentheses, element_of_pointer, element_of_array, a_field, a_field_behind, pointed_to, HasWrittenLocks, Cast, cell_at, Assignment, IsWhole, taken_variable, Targets, modes_of, row_at, Sharing, is_readonly, mode_of, Giving, items_givings, differ_first, keeps_first, keeps_all, may_be_cast, back}, Expects.{Agreed, same, integers, agreed, IsExpected, expected_of, same_modes}, Filed.{IsMeant, AreMeant, file_meant, file_structs, no_entry as none_some}, FoundThere.{HasNames, has_names, found_there}, Given.{AreKnown, AreOwn, IsWell, givings_well, IsWellFunction}, Leads.{IsFoundIn, modes_clean}, Mild.IsSpelled, ModesKept.modes_of_row, Noted.{Clean, clean_from}, ReadySite.{PathsRead, IsPointed}, Site.IsFor, SpelledAll.spelled, Targets.{IsRowOf, IsKnownProgram, targets_of}, World.{TypedLaws, known_program, known_functions}}
+use Rattle.sharc_suggest.specs.Repairs.{is_free}
 
 -- ---- what may be cast is no NULL
 

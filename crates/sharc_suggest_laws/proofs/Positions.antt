@@ -1,11 +1,5 @@
 -- Positions under their new numbers.
-use Rattle.std.proofs.{Common.{◌≡◌, ℕ, ◌+◌, ◌≤◌, ◌==◌, Bool, true, false, ◌&&◌, cond, inl, inr, List, [], ◌∷◌, Option, Some, None, length, replicate, get_or, refl, ap, sym, ◌∙◌, true≢false, eq-eqb, arith}, Math.ListN.get_or-map, lemmas.Bool.and_from, lemmas.List.length-replicate}
-use Rattle.std.specs.List.{find}
-use Rattle.sharc_tree.specs.{declared.ctype.Mode.TheVariants.Private, Placed.IsPlaced}
-use Rattle.sharc_suggest_laws.specs.{declared.written.Recast.Recast, Recast.is_there, Applied.{recast_of, program_with, resolution_with, targets, inserted, moved, first_of, first_new}, Kept.{renumbered, PositionsStay}, Values.met_in_items}
-use Rattle.sharc_ctype.specs.{declared.entity.Entity.Entity, declared.entity.Numbered.Numbered, Entities.{entities_in, entity_at, positions_of, positions_in, numbered_from, is_told_by}}
-use Rattle.sharc_mode.specs.{declared.error.Cast.Cast, declared.position.Reason.Reason, Moded.Assignment, Sharings.sharing_of}
-use Rattle.sharc_suggest_laws.proofs.{Grown.{IsCastOf, Grown, grown_items}, Inserted.{among, renumbered_kept}}
+use Rattle.sharc_suggest_laws.proofs.{Imports.{◌≡◌, ℕ, ◌+◌, ◌≤◌, ◌==◌, Bool, true, false, ◌&&◌, cond, inl, inr, List, [], ◌∷◌, Option, Some, None, length, replicate, get_or, refl, ap, sym, ◌∙◌, true≢false, eq-eqb, arith, get_or-map, and_from, length-replicate, find, Private, IsPlaced, Recast, is_there, recast_of, program_with, resolution_with, targets, inserted, moved, first_of, first_new, renumbered, PositionsStay, met_in_items, Entity, Numbered, entities_in, entity_at, positions_of, positions_in, numbered_from, is_told_by, Cast, Reason, Assignment, sharing_of}, Grown.{IsCastOf, Grown, grown_items}, Inserted.{among, renumbered_kept}}
 
 -- ---- the first that is determined by the cast's tokens has a number that is not past the old ones
 

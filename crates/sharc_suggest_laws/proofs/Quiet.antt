@@ -1,10 +1,6 @@
 -- What is said of a construct without a mismatch of what is given to something.
-use Rattle.std.proofs.{Common.{◌≡◌, ℕ, ◌+◌, ◌==◌, Bool, true, false, ◌&&◌, cond, List, [], ◌∷◌, ◌++◌, drop, Option, Some, None, refl, arith}, lemmas.Bool.{and_left, true≢false}}
-use Rattle.std.specs.List.{flat_map, list_any}
-use Rattle.sharc_tree.specs.{declared.ctype.Base.Base, declared.ctype.Mode.Mode, declared.ctype.Path.Path, declared.token.Span.Span, declared.tree.declaration.Declaration.Declaration, declared.tree.item.GlobalDefinition.GlobalDefinition, declared.tree.expression.PlaceCall.PlaceCall, declared.tree.expression.PlaceCall.TheVariants.Free, Forms.without_parentheses, Spans.span_of, Tree.{Expression, Arguments, Function}}
-use Rattle.sharc_ctype.specs.{declared.entity.Numbered.Numbered, Resolved.{Resolution, named_at}}
-use Rattle.sharc_mode.specs.{declared.error.ErrorCode.ErrorCode, declared.error.ErrorCode.TheVariants.{ReadonlyWrite, PrivateTarget, PrivateField, PrivateReachesThread, CastChangesInnerMode, ReadonlySource}, declared.finding.Finding.Finding, declared.finding.Finding.TheVariants.Wrong, Cells.{cell_at, top_of}, Errors.is_mismatch, Expressions.place_notes, Moded.Assignment, Notes.{span_text, error_where, write_notes, private_notes, path_notes, mode_notes, is_private_level, is_field_role, private_field_notes, names_of, names_in, names_in_all, names_in_level, type_notes, unmet_notes, first_unmet, names_read, parameter_names, names_at_call, call_notes, cast_notes, taken_variable, takes, source_notes, sibling_notes, field_notes, levels_of, printed_type, mismatch, shown}, Rows.{PathReading, at_call, read, declared_row, modes_of, written}, Sharings.{Lock as LockPath, Sharing, locked, sharing_of, text_at, same_all, is_readonly, is_sibling, variable_named, object_of}, WellFormed.{place_of, holds_private, first_unfit_path, first_unfit_mode}, WellModed.{is_spawned, has_private_target, parameter_notes, spawned_notes, touched_notes}}
-use Rattle.sharc_suggest_laws.specs.Mismatches.{is_mismatch_at}
+use Rattle.sharc_suggest_laws.proofs.Imports.{◌≡◌, ℕ, ◌+◌, ◌==◌, Bool, true, false, ◌&&◌, cond, List, [], ◌∷◌, ◌++◌, drop, Option, Some, None, refl, arith, and_left, true≢false, flat_map, list_any, Base, Mode, Path, Span, Declaration, GlobalDefinition, PlaceCall, Free, without_parentheses, span_of, Expression, Arguments, Function, Numbered, Resolution, named_at, ErrorCode, ReadonlyWrite, PrivateTarget, PrivateField, PrivateReachesThread, CastChangesInnerMode, ReadonlySource, Finding, Wrong, cell_at, top_of, is_mismatch, Assignment, span_text, error_where, write_notes, private_notes, is_private_level, is_field_role, private_field_notes, names_of, names_in, names_in_all, names_in_level, unmet_notes, first_unmet, names_read, parameter_names, names_at_call, call_notes, taken_variable, takes, source_notes, sibling_notes, levels_of, printed_type, mismatch, shown, PathReading, at_call, read, declared_row, modes_of, written, Lock as LockPath, Sharing, locked, sharing_of, text_at, same_all, is_readonly, is_sibling, variable_named, object_of, place_of, holds_private, first_unfit_path, first_unfit_mode, is_spawned, has_private_target, parameter_notes, spawned_notes, touched_notes, is_mismatch_at}
+use Rattle.sharc_mode.specs.{Expressions.place_notes, Notes.{path_notes, mode_notes, type_notes, cast_notes, field_notes}}
 
 -- how many mismatches at a token are said
 abbrev pub one : ℕ → Finding → ℕ

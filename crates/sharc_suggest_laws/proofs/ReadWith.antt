@@ -1,14 +1,7 @@
 -- A program with a cast written in it has no fault where it had none.
-use Rattle.std.proofs.Common.{◌≡◌, ◌∙◌, ℕ, ◌+◌, false, List, [], ◌∷◌, ◌++◌, length, map, refl, ap, ap₂, sym, subst}
-use Rattle.sharc_tree.specs.{declared.tree.declaration.Declaration.Declaration, Tree.{Function, Item, structure, global, function}}
-use Rattle.sharc_names.specs.{declared.scope.Scope.Scope, Kinds.declared_kind, Names.{Entry, StructTable}, Notes.Note}
-use Rattle.sharc_ctype.specs.{Globals.{item_cells, item_size_notes, sizes_notes}, Heads.{heads_notes, no_heads}, Items.{with_parameters, beyond, function_notes, item_notes, items_notes, main_missing, file_scope, notes_about}, Resolved.{Resolution, functions_in}}
-use Rattle.sharc_suggest_laws.specs.{declared.written.Recast.Recast, Recast.{function_with_cast, item_with_cast, program_with_cast}}
-use Rattle.sharc_ctype_laws.specs.Places.{Placing, places_of, places_of_all}
+use Rattle.sharc_suggest_laws.proofs.{Imports.{◌≡◌, ◌∙◌, ℕ, ◌+◌, false, List, [], ◌∷◌, ◌++◌, length, map, refl, ap, ap₂, sym, subst, Declaration, Function, Item, structure, global, function, Scope, declared_kind, Entry, StructTable, Note, item_cells, item_size_notes, sizes_notes, heads_notes, no_heads, function_notes, item_notes, items_notes, main_missing, file_scope, notes_about, Resolution, functions_in, Recast, function_with_cast, item_with_cast, program_with_cast, Placing, places_of, places_of_all, item_givings, items_givings, front, back}, Declared.all_locals_same, Noted.{Clean, left, right, joined}, Reread.{parameters_scoped, said_same, setting_of}, Retyped.Setting, Scoped.{Scoped, scoped_file}, StatedWith.{IsPlacedTyped, AreTyped, in_statements}, TypedWith.{IsReady, AreReady}}
+use Rattle.sharc_ctype.specs.Items.{with_parameters, beyond}
 use Rattle.sharc_suggest.specs.Givings as scopes
-use Rattle.sharc_suggest.specs.Givings.{item_givings, items_givings}
-use Rattle.sharc_suggest_laws.proofs.{Declared.all_locals_same, Noted.{Clean, left, right, joined}, Reread.{parameters_scoped, said_same, setting_of}, Retyped.Setting, Scoped.{Scoped, scoped_file}, StatedWith.{IsPlacedTyped, AreTyped, in_statements}, TypedWith.{IsReady, AreReady}}
-use Rattle.sharc_lemmas.proofs.Lists.{front, back}
 
 in_function : (w : Setting) (f : Function) → AreReady w (item_givings (function f)) → AreTyped w (places_of w.file f) → Clean (function_notes w.file f) → Clean (function_notes w.file (function_with_cast w.recast f))
 in_function w f ready typed clean =

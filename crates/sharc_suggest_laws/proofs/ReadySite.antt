@@ -1,16 +1,6 @@
 -- Where a suggested cast is written its type has no fault, and the expression is a place with a pointer of that type.
-use Rattle.std.proofs.{Common.{◌≡◌, is_some, ℕ, suc, ◌+◌, ◌-◌, Bool, true, false, not, ◌&&◌, ◌||◌, nat_lt, List, [], ◌∷◌, ◌++◌, length, map, Option, Some, None, refl, ap, ap₂, sym, subst, ◌∙◌, arith}, lemmas.Bool.{false≢true, and_parts}}
-use Rattle.std.specs.List.{AllByRecursion}
-use Rattle.sharc_tree.specs.{declared.ctype.Base.Base, declared.tree.declaration.WrittenType.WrittenType, Forms.{without_parentheses, is_lvalue}, Tree.Expression}
-use Rattle.sharc_tree.specs.declared.ctype.Base.TheVariants as base
-use Rattle.sharc_names.specs.{declared.fault.FaultCode.TheVariants.TypeNotAllowed, declared.scope.Scope.Scope, Kinds.{Kind, object, is_pointer}, Names.{Entry, StructTable, StructMeaning, struct_of, named_struct}, Notes.fault_unless, Types.{is_known, struct_note, base_notes, is_allowed, allowed_there, modes_notes}}
-use Rattle.sharc_names.specs.declared.types.Role.TheVariants as role
-use Rattle.sharc_suggest_laws.specs.{Recast.type_at, Applied.recast_of}
-use Rattle.sharc_ctype.specs.{Items.{file_scope, notes_about}, Resolved.{Resolution, kind_at}, Statements.with_names}
-use Rattle.sharc_mode.specs.{declared.error.Cast.Cast, Cells.cell_at, Moded.Assignment, Notes.{base_of, taken_variable}, Sharings.{Sharing, mode_of, is_readonly}}
-use Rattle.sharc_suggest.specs.{Repairs.{differ_first, may_be_cast, is_free, keeps_all}, Givings.{Giving, items_givings}}
-use Rattle.sharc_suggest_laws.proofs.{Noted.{Clean, none, joined, unless, referring}, Reread.setting_of, Scoped.Scoped, Site.IsFor, Sound.{IsBare, IsSound, stars_in, IsGivenSound, given_sound}, TypedWith.IsReady, Expects.no_star_less as no_star}
-use Rattle.sharc_lemmas.proofs.{Lists.{back, map_length}, Numbers.is_below}
+use Rattle.sharc_suggest_laws.proofs.{Imports.{◌≡◌, is_some, ℕ, suc, ◌+◌, ◌-◌, Bool, true, false, not, ◌&&◌, ◌||◌, nat_lt, List, [], ◌∷◌, ◌++◌, length, map, Option, Some, None, refl, ap, ap₂, sym, subst, ◌∙◌, arith, false≢true, and_parts, AllByRecursion, Base, WrittenType, without_parentheses, is_lvalue, Expression, TypeNotAllowed, Scope, Kind, object, is_pointer, Entry, StructTable, StructMeaning, struct_of, named_struct, fault_unless, is_known, struct_note, base_notes, is_allowed, allowed_there, modes_notes, Role, type_at, recast_of, file_scope, notes_about, Resolution, kind_at, with_names, Cast, cell_at, Assignment, base_of, taken_variable, Sharing, mode_of, is_readonly, differ_first, may_be_cast, keeps_all, Giving, items_givings, back, map_length, is_below}, Noted.{Clean, none, joined, unless, referring}, Reread.setting_of, Scoped.Scoped, Site.IsFor, Sound.{IsBare, IsSound, stars_in, IsGivenSound, given_sound}, TypedWith.IsReady, Expects.{no_star_less as no_star}}
+use Rattle.sharc_suggest.specs.Repairs.{is_free}
 
 -- the lock paths of its type name what is there
 abbrev pub PathsRead : (m : Assignment) (c : Cast) → Giving → Type 0
@@ -31,17 +21,17 @@ struct_clean token None is = absurd (false≢true is)
 struct_clean token (Some s) is = referring token (named_struct s) [] none
 
 base_clean : (structs : StructTable) (token : ℕ) (b : Base) → is_known structs b ≡ true → Clean (base_notes structs token b)
-base_clean structs token (base.Struct name) is = struct_clean token (struct_of structs name) is
+base_clean structs token (Base.Struct name) is = struct_clean token (struct_of structs name) is
 base_clean structs token _ is = none
 
 or_true : (b : Bool) → (b || true) ≡ true
 or_true true = refl
 or_true false = refl
 
-pointer_allowed : (b : Base) (n : ℕ) → IsBare b (n + 1) → is_allowed role.Cast b (n + 1) ≡ true
-pointer_allowed base.Mutex n h = or_true (nat_lt 0 (n + 1))
-pointer_allowed base.Void n h = absurd (no_star n h)
-pointer_allowed (base.Struct name) n h = or_true (nat_lt 0 (n + 1))
+pointer_allowed : (b : Base) (n : ℕ) → IsBare b (n + 1) → is_allowed Role.Cast b (n + 1) ≡ true
+pointer_allowed Base.Mutex n h = or_true (nat_lt 0 (n + 1))
+pointer_allowed Base.Void n h = absurd (no_star n h)
+pointer_allowed (Base.Struct name) n h = or_true (nat_lt 0 (n + 1))
 pointer_allowed _ n h = refl
 
 below_any : (n : ℕ) → nat_lt 0 (n + 1) ≡ true
@@ -75,12 +65,12 @@ site_ready m c named clean site paths pointed = λ there names scoped.
     let stars : length c.to.levels - 1 ≡ n + 1 = omega (arith, levels, many, all) in
     let known : is_known file.structs c.to.base ≡ true = ap (is_known file.structs) (based ∙ sym own) ∙ sound.known in
     let bare : IsBare b (n + 1) = subst (λ (k : Kind). IsBare (base_of k) (stars_in k)) pointed.kind sound.bare in
-    let allowed : is_allowed role.Cast c.to.base (length c.to.levels - 1) ≡ true = ap₂ (is_allowed role.Cast) based stars ∙ pointer_allowed b n bare in
+    let allowed : is_allowed Role.Cast c.to.base (length c.to.levels - 1) ≡ true = ap₂ (is_allowed Role.Cast) based stars ∙ pointer_allowed b n bare in
     record {
       types = λ s.
           let t : WrittenType = type_at (recast_of r c) s in
-          joined (base_notes file.structs t.base.token t.ctype.base ++ fault_unless (allowed_there role.Cast t) s.first.token TypeNotAllowed) (modes_notes σ [] c.to.levels)
-          (joined (base_notes file.structs t.base.token t.ctype.base) _ (base_clean file.structs t.base.token c.to.base known) (unless (allowed_there role.Cast t) s.first.token TypeNotAllowed allowed))
+          joined (base_notes file.structs t.base.token t.ctype.base ++ fault_unless (allowed_there Role.Cast t) s.first.token TypeNotAllowed) (modes_notes σ [] c.to.levels)
+          (joined (base_notes file.structs t.base.token t.ctype.base) _ (base_clean file.structs t.base.token c.to.base known) (unless (allowed_there Role.Cast t) s.first.token TypeNotAllowed allowed))
           (paths names scoped);
       lvalue = lvalue_at m c named site;
       kind = λ s. pointed.kind ∙ ap₂ object (sym based) (sym stars);

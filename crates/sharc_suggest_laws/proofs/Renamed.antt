@@ -1,16 +1,5 @@
 -- What tokens name in a program with a suggested cast written in it.
-use Rattle.std.proofs.{Common.{◌≡◌, ◌⊎◌, inl, inr, ℕ, ◌+◌, ◌==◌, zero, suc, Bool, true, false, cond, List, [], ◌∷◌, Some, slice_get, refl, ap, sym, subst, ◌∙◌}, lemmas.Bool.false≢true, lemmas.Slice.Eq.bytes_eq-Decides}
-use Rattle.std.specs.List.{AllByRecursion}
-use Rattle.sharc_tree.specs.{declared.ctype.Base.Base, declared.token.Site.Site, declared.tree.declaration.WrittenType.WrittenType, declared.tree.declaration.Declaration.Declaration, declared.tree.item.GlobalDefinition.GlobalDefinition, declared.tree.item.GlobalForm.GlobalForm, declared.tree.item.GlobalForm.TheVariants.Array, declared.tree.expression.Constant.Constant, declared.tree.expression.Constant.TheVariants.{Number, Character, Null}, declared.tree.expression.UnaryOperator.UnaryOperator, declared.tree.expression.UnaryOperator.TheVariants.{Not, Dereference}, declared.token.NumberType.NumberType, Measures.expressions, Tree.{Expression, identifier, constant, parentheses, call, spawn, cast, index, field, unary, binary, Function}}
-use Rattle.sharc_tree.specs.declared.ctype.Base.TheVariants as base
-use Rattle.sharc_tree.specs.declared.token.NumberType.TheVariants as width
-use Rattle.sharc_names.specs.{declared.fault.Named.Named, Kinds.{Kind, array, is_long, declared_kind, element_kind, promoted, common, int, long}, Names.global_kind}
-use Rattle.sharc_names.specs.declared.fault.Named.TheVariants as named
-use Rattle.sharc_ctype.specs.{declared.entity.Entity.Entity, declared.expr.OperatorClass.OperatorClass, declared.expr.OperatorClass.TheVariants.{Shift, Arithmetic}, Entities.{entities_in, numbered, numbered_from, positions_of}, Expressions.{number_kind, constant_kind, unary_result, class_of, binary_result}, Resolved.{Resolution, named_at, globals_in, functions_in, declarations_in, declared_at, variable_kind, global_kind_of, result_kind_of, named_kind, called_kind, kind_at}}
-use Rattle.sharc_mode.specs.{Notes.base_of, Sharings.is_field}
-use Rattle.sharc_ctype_laws.specs.WrittenTypes.{NamesStruct, IsNamedBase, IsNamedType}
-use Rattle.sharc_suggest_laws.specs.{Applied.{names_struct, base_site}, Names.is_dull}
-use Rattle.sharc_suggest_laws.proofs.{Bases.{Have, HaveCasts, HoldInAll, in_all, AreDeclared, first_casts}, Mild.NamesBase}
+use Rattle.sharc_suggest_laws.proofs.{Imports.{◌≡◌, ◌⊎◌, inl, inr, ℕ, ◌+◌, ◌==◌, zero, suc, Bool, true, false, cond, List, [], ◌∷◌, Some, slice_get, refl, ap, sym, subst, ◌∙◌, false≢true, bytes_eq-Decides, AllByRecursion, Base, Site, WrittenType, Declaration, GlobalDefinition, GlobalForm, Array, Constant, Number, Character, Null, UnaryOperator, Not, Dereference, NumberType, expressions, Expression, identifier, constant, parentheses, call, spawn, cast, index, field, unary, binary, Function, Named, Kind, array, is_long, declared_kind, element_kind, promoted, common, int, long, global_kind, Entity, OperatorClass, Shift, Arithmetic, entities_in, numbered, numbered_from, positions_of, number_kind, constant_kind, unary_result, class_of, binary_result, Resolution, named_at, globals_in, functions_in, declarations_in, declared_at, variable_kind, global_kind_of, result_kind_of, named_kind, called_kind, kind_at, base_of, is_field, NamesStruct, IsNamedBase, IsNamedType, names_struct, base_site, is_dull}, Bases.{Have, HaveCasts, HoldInAll, in_all, AreDeclared, first_casts}, Mild.NamesBase}
 
 -- ---- a base that something has, and where it is named
 
@@ -20,17 +9,17 @@ HasStruct (e ∷ rest) b = (names_struct e.written.ctype.base b ≡ true) ⊎ Ha
 
 -- if the base of a type is a struct, something has it
 abbrev pub HasBase : List Entity → Base → Type 0
-HasBase all b = (name : List ℕ) → b ≡ base.Struct name → HasStruct all (base.Struct name)
+HasBase all b = (name : List ℕ) → b ≡ Base.Struct name → HasStruct all (Base.Struct name)
 
 own_base : (all : List Entity) (b : Base) → HasStruct all b → HasStruct all b
 own_base all b h = h
 
-named_itself : (b : Base) (name : List ℕ) → b ≡ base.Struct name → names_struct b (base.Struct name) ≡ true
-named_itself b name is = ap (λ (x : Base). names_struct x (base.Struct name)) is ∙ (bytes_eq-Decides name name).1 refl
+named_itself : (b : Base) (name : List ℕ) → b ≡ Base.Struct name → names_struct b (Base.Struct name) ≡ true
+named_itself b name is = ap (λ (x : Base). names_struct x (Base.Struct name)) is ∙ (bytes_eq-Decides name name).1 refl
 
 pub each_has : (all l : List Entity) → ((b : Base) → HasStruct l b → HasStruct all b) → Have (λ (w : WrittenType). HasBase all w.ctype.base) l
 each_has all [] up = tt
-each_has all (e ∷ rest) up = ((λ name is. up (base.Struct name) (inl (named_itself e.written.ctype.base name is))), each_has all rest (λ b h. up b (inr h)))
+each_has all (e ∷ rest) up = ((λ name is. up (Base.Struct name) (inl (named_itself e.written.ctype.base name is))), each_has all rest (λ b h. up b (inr h)))
 
 -- the first that has it shows where it is named
 record IsSiteOf (Q : WrittenType → Type 0) (b : Base) (s : Site) : Type 0 where
@@ -57,14 +46,14 @@ struct_named_dull : (r : Resolution) (token : ℕ) (name : List ℕ) → NamesSt
 struct_named_dull r token name (inl s) = (ap is_dull s.2, ap is_field s.2)
 struct_named_dull r token name (inr s) = (ap is_dull s.0, ap is_field s.0)
 
-dull_by : (r : Resolution) (token : ℕ) (b : Base) (name : List ℕ) → names_struct b (base.Struct name) ≡ true → IsNamedBase r token b → (is_dull (named_at r token) ≡ true) × (is_field (named_at r token) ≡ false)
-dull_by r token (base.Struct other) name is h = struct_named_dull r token other h
+dull_by : (r : Resolution) (token : ℕ) (b : Base) (name : List ℕ) → names_struct b (Base.Struct name) ≡ true → IsNamedBase r token b → (is_dull (named_at r token) ≡ true) × (is_field (named_at r token) ≡ false)
+dull_by r token (Base.Struct other) name is h = struct_named_dull r token other h
 dull_by r token _ name is h = absurd (false≢true is)
 
 -- the token of the base of a cast names a struct
 pub base_named : (r : Resolution) (b : Base) (s : Site) → Have (IsNamedType r) (entities_in r.program.items) → HasBase (entities_in r.program.items) b → NamesBase r (base_site (numbered (entities_in r.program.items)) b s).token b
-base_named r (base.Struct name) s have has =
-    let at : IsSiteOf (IsNamedType r) (base.Struct name) (base_site (numbered_from 0 (entities_in r.program.items)) (base.Struct name) s) = site_of (IsNamedType r) 0 (entities_in r.program.items) (base.Struct name) s have (has name refl) in
+base_named r (Base.Struct name) s have has =
+    let at : IsSiteOf (IsNamedType r) (Base.Struct name) (base_site (numbered_from 0 (entities_in r.program.items)) (Base.Struct name) s) = site_of (IsNamedType r) 0 (entities_in r.program.items) (Base.Struct name) s have (has name refl) in
     let dull = dull_by r at.written.base.token at.written.ctype.base name at.has at.holds.base in
     subst (λ (x : Site). (is_dull (named_at r x.token) ≡ true) × (is_field (named_at r x.token) ≡ false)) (sym at.is) dull
 base_named r _ s have has = tt
@@ -74,20 +63,20 @@ base_named r _ s have has = tt
 abbrev IsBased : Resolution → Kind → Type 0
 IsBased r k = HasBase (entities_in r.program.items) (base_of k)
 
-no_struct : (all : List Entity) (b : Base) → ((name : List ℕ) → b ≡ base.Struct name → ⊥) → HasBase all b
+no_struct : (all : List Entity) (b : Base) → ((name : List ℕ) → b ≡ Base.Struct name → ⊥) → HasBase all b
 no_struct all b never name is = absurd (never name is)
 
-not_int : (name : List ℕ) → base.Int ≡ base.Struct name → ⊥
+not_int : (name : List ℕ) → Base.Int ≡ Base.Struct name → ⊥
 not_int name is = cc
 
-not_long : (name : List ℕ) → base.Long ≡ base.Struct name → ⊥
+not_long : (name : List ℕ) → Base.Long ≡ Base.Struct name → ⊥
 not_long name is = cc
 
-not_void : (name : List ℕ) → base.Void ≡ base.Struct name → ⊥
+not_void : (name : List ℕ) → Base.Void ≡ Base.Struct name → ⊥
 not_void name is = cc
 
 of_declaration : (r : Resolution) (ds : List Declaration) (token : ℕ) → AreDeclared (λ (w : WrittenType). HasBase (entities_in r.program.items) w.ctype.base) ds → IsBased r (variable_kind (declared_at ds token))
-of_declaration r [] token all = no_struct (entities_in r.program.items) base.Void not_void
+of_declaration r [] token all = no_struct (entities_in r.program.items) Base.Void not_void
 of_declaration r (d ∷ rest) token all = by (d.name.site.token == token) (of_declaration r rest token all.1)
   where
     by : (b : Bool) → IsBased r (variable_kind (declared_at rest token)) → IsBased r (variable_kind (cond b (Some d) (declared_at rest token)))
@@ -99,12 +88,12 @@ global_base (Array at n) (array b stars) = refl
 global_base _ _ = refl
 
 of_global : (r : Resolution) (gs : List GlobalDefinition) (n : ℕ) → AllByRecursion (λ (g : GlobalDefinition). HasBase (entities_in r.program.items) g.declaration.written.ctype.base) gs → IsBased r (global_kind_of (slice_get gs n))
-of_global r [] n all = no_struct (entities_in r.program.items) base.Void not_void
+of_global r [] n all = no_struct (entities_in r.program.items) Base.Void not_void
 of_global r (g ∷ rest) zero all = subst (HasBase (entities_in r.program.items)) (sym (global_base g.form (declared_kind g.declaration.written))) all.0
 of_global r (g ∷ rest) (suc n) all = of_global r rest n all.1
 
 of_result : (r : Resolution) (fs : List Function) (n : ℕ) → AllByRecursion (λ (f : Function). HasBase (entities_in r.program.items) f.result.ctype.base) fs → IsBased r (result_kind_of (slice_get fs n))
-of_result r [] n all = no_struct (entities_in r.program.items) base.Void not_void
+of_result r [] n all = no_struct (entities_in r.program.items) Base.Void not_void
 of_result r (f ∷ rest) zero all = all.0
 of_result r (f ∷ rest) (suc n) all = of_result r rest n all.1
 
@@ -112,56 +101,56 @@ abbrev AllBased : Resolution → Type 0
 AllBased r = HoldInAll (λ (w : WrittenType). HasBase (entities_in r.program.items) w.ctype.base) r.program.items
 
 name_based : (r : Resolution) → AllBased r → (n : Named) → IsBased r (named_kind r n)
-name_based r all (named.Global n) = of_global r (globals_in r.program.items) n all.globals
-name_based r all (named.Variable token) = of_declaration r (declarations_in r.program.items) token all.declarations
-name_based r all (named.Field token) = of_declaration r (declarations_in r.program.items) token all.declarations
-name_based r all _ = no_struct (entities_in r.program.items) base.Void not_void
+name_based r all (Named.Global n) = of_global r (globals_in r.program.items) n all.globals
+name_based r all (Named.Variable token) = of_declaration r (declarations_in r.program.items) token all.declarations
+name_based r all (Named.Field token) = of_declaration r (declarations_in r.program.items) token all.declarations
+name_based r all _ = no_struct (entities_in r.program.items) Base.Void not_void
 
 called_based : (r : Resolution) → AllBased r → (n : Named) → IsBased r (called_kind r n)
-called_based r all (named.Function n) = of_result r (functions_in r.program.items) n all.results
-called_based r all (named.Variable token) = no_struct (entities_in r.program.items) base.Void not_void
-called_based r all (named.Field token) = no_struct (entities_in r.program.items) base.Void not_void
-called_based r all _ = no_struct (entities_in r.program.items) base.Void not_void
+called_based r all (Named.Function n) = of_result r (functions_in r.program.items) n all.results
+called_based r all (Named.Variable token) = no_struct (entities_in r.program.items) Base.Void not_void
+called_based r all (Named.Field token) = no_struct (entities_in r.program.items) Base.Void not_void
+called_based r all _ = no_struct (entities_in r.program.items) Base.Void not_void
 
 either_int : (r : Resolution) (b : Bool) → IsBased r (cond b long int)
-either_int r true = no_struct (entities_in r.program.items) base.Long not_long
-either_int r false = no_struct (entities_in r.program.items) base.Int not_int
+either_int r true = no_struct (entities_in r.program.items) Base.Long not_long
+either_int r false = no_struct (entities_in r.program.items) Base.Int not_int
 
 number_based : (r : Resolution) (w : NumberType) → IsBased r (number_kind w)
-number_based r width.Int = no_struct (entities_in r.program.items) base.Int not_int
-number_based r width.Long = no_struct (entities_in r.program.items) base.Long not_long
+number_based r NumberType.Int = no_struct (entities_in r.program.items) Base.Int not_int
+number_based r NumberType.Long = no_struct (entities_in r.program.items) Base.Long not_long
 
 constant_based : (r : Resolution) (c : Constant) → IsBased r (constant_kind c)
 constant_based r (Number n) = number_based r n.number_type
-constant_based r (Character byte) = no_struct (entities_in r.program.items) base.Int not_int
-constant_based r Null = no_struct (entities_in r.program.items) base.Void not_void
+constant_based r (Character byte) = no_struct (entities_in r.program.items) Base.Int not_int
+constant_based r Null = no_struct (entities_in r.program.items) Base.Void not_void
 
 element_based : (r : Resolution) (k : Kind) → IsBased r k → IsBased r (element_kind k)
 element_based r (array b n) h = h
 element_based r _ h = h
 
 unary_based : (r : Resolution) (o : UnaryOperator) (k : Kind) → IsBased r k → IsBased r (unary_result o k)
-unary_based r Not k h = no_struct (entities_in r.program.items) base.Int not_int
+unary_based r Not k h = no_struct (entities_in r.program.items) Base.Int not_int
 unary_based r Dereference k h = element_based r k h
 unary_based r _ k h = either_int r (is_long k)
 
 binary_based : (r : Resolution) (o : OperatorClass) (j k : Kind) → IsBased r (binary_result o j k)
 binary_based r Shift j k = either_int r (is_long j)
 binary_based r Arithmetic j k = either_int r _
-binary_based r _ j k = no_struct (entities_in r.program.items) base.Int not_int
+binary_based r _ j k = no_struct (entities_in r.program.items) Base.Int not_int
 
 expression_based : (r : Resolution) → AllBased r → (e : Expression) → HaveCasts (λ (w : WrittenType). HasBase (entities_in r.program.items) w.ctype.base) (expressions e) → IsBased r (kind_at r e)
 expression_based r all (identifier s i) h = name_based r all (named_at r i.site.token)
 expression_based r all (constant s c) h = constant_based r c
 expression_based r all (parentheses s a) h = expression_based r all a h
 expression_based r all (call s f args) h = called_based r all (named_at r f.site.token)
-expression_based r all (spawn s f a) h = no_struct (entities_in r.program.items) base.Int not_int
+expression_based r all (spawn s f a) h = no_struct (entities_in r.program.items) Base.Int not_int
 expression_based r all (cast s t a) h = h.0
 expression_based r all (index s a i) h = element_based r (kind_at r a) (expression_based r all a (first_casts (λ (w : WrittenType). HasBase (entities_in r.program.items) w.ctype.base) (expressions a) (expressions i) h))
 expression_based r all (field s a w n) h = name_based r all (named_at r n.site.token)
 expression_based r all (unary s o a) h = unary_based r o (kind_at r a) (expression_based r all a h)
 expression_based r all (binary s o at a b) h = binary_based r (class_of o) (kind_at r a) (kind_at r b)
-expression_based r all _ h = no_struct (entities_in r.program.items) base.Void not_void
+expression_based r all _ h = no_struct (entities_in r.program.items) Base.Void not_void
 
 pub given_based : (r : Resolution) (e : Expression) → HaveCasts (λ (w : WrittenType). HasBase (entities_in r.program.items) w.ctype.base) (expressions e) → HasBase (entities_in r.program.items) (base_of (kind_at r e))
 given_based r e h =

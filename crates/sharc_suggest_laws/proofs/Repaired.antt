@@ -1,16 +1,6 @@
 -- The mismatch for which a cast was suggested is gone.
-use Rattle.std.proofs.{Common.{◌≡◌, ℕ, ◌+◌, ◌<◌, ◌≤◌, ◌==◌, ◌&&◌, Bool, true, List, ◌∷◌, ◌++◌, length, Some, refl, ap, subst, ◌∙◌, eq-eqb, arith, not}, lemmas.Bool.{and_parts, and_from}}
-use Rattle.std.specs.List.{AllByRecursion}
-use Rattle.sharc_tree.specs.{declared.token.Span.Span, declared.tree.declaration.Declaration.Declaration, Forms.{without_parentheses, is_lvalue}, Placed.IsPlaced, Spans.span_of, Tree.Expression}
-use Rattle.sharc_names.specs.declared.scope.Scope.{Scope}
-use Rattle.sharc_suggest_laws.specs.{declared.written.Recast.Recast, Recast.{is_there, all_with_cast}, Applied.{recast_of, assignment_with}, Givings.receiver_with, Repaired.RepairsWhereTyped, Values.{count_of, met_by, met_in_items, begins_at}}
-use Rattle.sharc_ctype.specs.{declared.expr.Standing.TheVariants.AsLvalue, Heads.{heads_notes, no_heads}, Globals.sizes_notes, Items.{file_scope, items_notes, main_missing, notes_about}, Resolved.{Resolution, named_at}, Transfers.parameters_named}
-use Rattle.sharc_mode.specs.{declared.error.Cast.Cast, declared.error.ModeError.ModeError, Cells.cell_at, Expressions.expected, Moded.{Assignment, IsWhole}, Notes.{is_named, parameter_names, names_at_call, taken_variable}, Rows.{at_call, row_at}, Sharings.is_readonly}
-use Rattle.sharc_check.specs.Named.{said_of_paths}
-use Rattle.sharc_ctype_laws.specs.Laws.{EachNameOnce, OnlyNames, NamesInTypes, SameKinds}
-use Rattle.sharc_suggest.specs.{Casts.IsSuggested, Repairs.{differ_first, may_be_cast, is_free, keeps_all}, Givings.{Receiver, of_declared, of_left, of_parameter, Giving, items_givings, beyond, wanted, wanted_of}}
-use Rattle.sharc_suggest_laws.proofs.{Added.{suggested_is_added_once, at_tokens}, Arguments.{IsGivenTo, in_items as arguments_in}, CallNames.{IsSaid, calls_said}, Calls.call_stays, Clear.all_clear, Counted.{counted, counted_append, in_items as items_counted}, Few.{at_most_one, begins_once}, Gone.gone_again, Lefts.{IsBehind, Stands, in_items as lefts_in}, Folded.IsOwnAt, Noted.{Clean, clean_from, Noted}, Owned.all_own, RowsStay.{Frame, now, first_at}, Site.{IsFor, has_site}, Spines.spine, Stands.first_fits, Stay.{notes_grown, names_stay_where_typed, keeps_expected}, Strong.{IsStrong, AreStrong, all_strong}, Types.types_stay, Wants.{left_wanted, IsCall, parameters_same, parameters_clear, beyond_clear, beyond_named, parameter_wanted}}
-use Rattle.sharc_lemmas.proofs.Lists.{front, back}
+use Rattle.sharc_suggest_laws.proofs.{Imports.{◌≡◌, ℕ, ◌+◌, ◌<◌, ◌≤◌, ◌==◌, ◌&&◌, Bool, true, List, ◌∷◌, ◌++◌, length, Some, refl, ap, subst, ◌∙◌, eq-eqb, arith, not, and_parts, and_from, AllByRecursion, Span, Declaration, without_parentheses, is_lvalue, IsPlaced, span_of, Expression, Scope, Recast, is_there, all_with_cast, recast_of, assignment_with, receiver_with, RepairsWhereTyped, count_of, met_by, met_in_items, begins_at, AsLvalue, heads_notes, no_heads, sizes_notes, file_scope, items_notes, main_missing, notes_about, Resolution, named_at, parameters_named, Cast, ModeError, cell_at, expected, Assignment, IsWhole, is_named, parameter_names, names_at_call, taken_variable, at_call, row_at, is_readonly, said_of_paths, EachNameOnce, OnlyNames, NamesInTypes, SameKinds, IsSuggested, differ_first, may_be_cast, keeps_all, Receiver, of_declared, of_left, of_parameter, Giving, items_givings, beyond, wanted, wanted_of, front, back}, Added.{suggested_is_added_once, at_tokens}, Arguments.{IsGivenTo, in_items as arguments_in}, CallNames.{IsSaid, calls_said}, Calls.call_stays, Clear.all_clear, Counted.{counted, counted_append, in_items as items_counted}, Few.{at_most_one, begins_once}, Gone.gone_again, Lefts.{IsBehind, Stands, in_items as lefts_in}, Folded.IsOwnAt, Noted.{Clean, clean_from, Noted}, Owned.all_own, RowsStay.{Frame, now, first_at}, Site.{IsFor, has_site}, Spines.spine, Stands.first_fits, Stay.{notes_grown, names_stay_where_typed, keeps_expected}, Strong.{IsStrong, AreStrong, all_strong}, Types.types_stay, Wants.{left_wanted, IsCall, parameters_same, parameters_clear, beyond_clear, beyond_named, parameter_wanted}}
+use Rattle.sharc_suggest.specs.Repairs.{is_free}
 
 -- of the giving that the cast was suggested for
 of_site : (P : Giving → Type 0) (gs before behind : List Giving) (g : Giving) → gs ≡ before ++ g ∷ behind → AllByRecursion P gs → P g

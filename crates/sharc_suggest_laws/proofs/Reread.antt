@@ -1,24 +1,16 @@
 -- A program with a cast written in it, as C typing sees it.
-use Rattle.std.proofs.Common.{◌≡◌, ℕ, ◌+◌, ◌-◌, ◌==◌, Bool, true, false, cond, List, [], ◌∷◌, ◌++◌, length, map, is_some, refl, ap, ap₂, sym, subst, ◌∙◌, codes}
-use Rattle.std.specs.List.{AllByRecursion}
-use Rattle.sharc_tree.specs.{declared.ctype.Base.Base, declared.ctype.Base.TheVariants.{Mutex, Void, Struct}, declared.tree.declaration.Declaration.Declaration, declared.tree.expression.Constant.Constant, declared.tree.item.GlobalDefinition.GlobalDefinition, declared.tree.item.GlobalForm.GlobalForm, declared.tree.item.GlobalForm.TheVariants.{Array, Initial}, Tree.{Function, Item, structure, global, function}}
-use Rattle.sharc_names.specs.{declared.fault.FaultCode.TheVariants.{DefinedTwice, LimitPassed, NoMain}, declared.scope.Scope.Scope, Kinds.{declared_kind, stars_of}, Names.{Entry, StructTable, field_of, struct_of, look_up}, Notes.{Note, fault_unless, fault_where}, Types.type_notes}
-use Rattle.sharc_names.specs.declared.types.Role.TheVariants as role
-use Rattle.sharc_suggest_laws.specs.{declared.written.Recast.Recast, Recast.{statements_with_cast, function_with_cast, item_with_cast, program_with_cast}}
-use Rattle.sharc_ctype.specs.{Condition.known_in, Globals.{length_notes, base_initial_notes, initial_notes, global_notes, item_cells, item_size_notes, sizes_notes}, Heads.{Heading, within, head_notes, heads_notes, behind, behind_all, no_heads}, Items.{field_notes, fields_notes, parameters_notes, with_parameters, beyond, function_notes, item_notes, items_notes, has_main, main_missing, file_scope, program_notes, notes_about}, Resolved.Resolution, Statements.{with_names, declared, declared_notes, locals_in_all}}
+use Rattle.sharc_suggest_laws.proofs.{Imports.{◌≡◌, ℕ, ◌+◌, ◌-◌, ◌==◌, Bool, true, false, cond, List, [], ◌∷◌, ◌++◌, length, map, is_some, refl, ap, ap₂, sym, subst, ◌∙◌, codes, AllByRecursion, Base, Mutex, Void, Struct, Declaration, Constant, GlobalDefinition, GlobalForm, Array, Initial, Function, Item, structure, global, function, DefinedTwice, LimitPassed, NoMain, Scope, declared_kind, stars_of, Entry, StructTable, field_of, struct_of, look_up, Note, fault_unless, fault_where, type_notes, Role, Recast, statements_with_cast, function_with_cast, item_with_cast, program_with_cast, known_in, length_notes, base_initial_notes, global_notes, item_cells, item_size_notes, sizes_notes, Heading, within, item_head_notes as head_notes, heads_notes, behind, behind_all, no_heads, fields_notes, parameters_notes, function_notes, item_notes, items_notes, has_main, main_missing, file_scope, program_notes, notes_about, Resolution, with_names, declared_notes, locals_in_all, entry_of, item_givings, items_givings, front, back, joint}, Noted.{Clean, left, right, Noted, done, both, same, AreFaults, IsTame, quiet, unless_faults, where_faults, faults_tame, append_tame, type_tame}, Restated.{in_statements, declared_tame}, Retyped.{Setting, IsMild, AreMild}, Scoped.{Scoped, scoped_file, scoped_with}}
+use Rattle.sharc_ctype.specs.{Globals.initial_notes, Items.{field_notes, with_parameters, beyond}, Statements.declared}
 use Rattle.sharc_suggest.specs.Givings as scopes
-use Rattle.sharc_suggest.specs.{Repairs.entry_of, Givings.{item_givings, items_givings}}
-use Rattle.sharc_suggest_laws.proofs.{Noted.{Clean, left, right, Noted, done, both, same, AreFaults, IsTame, quiet, unless_faults, where_faults, faults_tame, append_tame, type_tame}, Restated.{in_statements, declared_tame}, Retyped.{Setting, IsMild, AreMild}, Scoped.{Scoped, scoped_file, scoped_with}}
-use Rattle.sharc_lemmas.proofs.Lists.{front, back, both as joint}
 
 -- ---- what is said of what is declared, in which what yields is a field
 
 parameters_tame : (block before : ℕ) (scope : Scope) (ds : List Declaration) → AllByRecursion IsTame (parameters_notes block before scope ds)
 parameters_tame block before scope [] = tt
 parameters_tame block before scope (d ∷ rest) =
-    append_tame (type_notes scope [] role.Parameter d.written ++ declared_notes block d scope.names ++ within 16 before d.name.site.token) _
-    (append_tame (type_notes scope [] role.Parameter d.written ++ declared_notes block d scope.names) _
-    (append_tame (type_notes scope [] role.Parameter d.written) _ (type_tame scope [] role.Parameter d.written) (declared_tame block d scope.names))
+    append_tame (type_notes scope [] Role.Parameter d.written ++ declared_notes block d scope.names ++ within 16 before d.name.site.token) _
+    (append_tame (type_notes scope [] Role.Parameter d.written ++ declared_notes block d scope.names) _
+    (append_tame (type_notes scope [] Role.Parameter d.written) _ (type_tame scope [] Role.Parameter d.written) (declared_tame block d scope.names))
     (faults_tame _ (unless_faults _ d.name.site.token LimitPassed)))
     (parameters_tame block (before + 1) (with_names scope (declared block d scope.names)) rest)
 
@@ -26,7 +18,7 @@ limits_tame : (known well : Bool) (token : ℕ) → AllByRecursion IsTame (fault
 limits_tame known well token = append_tame (fault_where known token DefinedTwice) _ (faults_tame _ (where_faults known token DefinedTwice)) (faults_tame _ (unless_faults well token LimitPassed))
 
 field_tame : (scope : Scope) (all earlier : List Declaration) (d : Declaration) → AllByRecursion IsTame (field_notes scope all earlier d)
-field_tame scope all earlier d = append_tame (type_notes scope all role.Field d.written) _ (type_tame scope all role.Field d.written) (tt, limits_tame (is_some (field_of earlier d.name.text)) _ d.name.site.token)
+field_tame scope all earlier d = append_tame (type_notes scope all Role.Field d.written) _ (type_tame scope all Role.Field d.written) (tt, limits_tame (is_some (field_of earlier d.name.text)) _ d.name.site.token)
 
 fields_tame : (scope : Scope) (all earlier ds : List Declaration) → AllByRecursion IsTame (fields_notes scope all earlier ds)
 fields_tame scope all earlier [] = tt
@@ -53,8 +45,8 @@ initial_faults g _ = tt
 
 global_tame : (scope : Scope) (g : GlobalDefinition) → AllByRecursion IsTame (global_notes scope g)
 global_tame scope g =
-    append_tame (type_notes scope [] role.Global g.declaration.written ++ length_notes g.form) _
-    (append_tame (type_notes scope [] role.Global g.declaration.written) _ (type_tame scope [] role.Global g.declaration.written) (faults_tame _ (length_faults g.form)))
+    append_tame (type_notes scope [] Role.Global g.declaration.written ++ length_notes g.form) _
+    (append_tame (type_notes scope [] Role.Global g.declaration.written) _ (type_tame scope [] Role.Global g.declaration.written) (faults_tame _ (length_faults g.form)))
     (faults_tame _ (initial_faults g g.form))
 
 head_tame : (h : Heading) (i : Item) → AllByRecursion IsTame (head_notes h i)
@@ -112,12 +104,12 @@ in_function : (w : Setting) (f : Function) → AreMild w (item_givings (function
     → Noted w.resolution (function_notes w.file f) (function_notes w.file (function_with_cast w.recast f))
 in_function w f mild clean =
     let names : List Entry = with_parameters (length w.file.names) w.file.names f.parameters in
-    let heads : List Note = type_notes w.file [] role.Result f.result ++ parameters_notes (length w.file.names) 0 w.file f.parameters in
+    let heads : List Note = type_notes w.file [] Role.Result f.result ++ parameters_notes (length w.file.names) 0 w.file f.parameters in
     let scoped : Scoped w.file.names names (scopes.with_parameters [] f.parameters) =
     parameters_scoped w.file.names w.file [] (scoped_file w.file.names) (length w.file.names) 0 f.parameters (right _ _ (left _ _ (left _ _ clean))) in
     both w.resolution _ _ _ _
     (both w.resolution heads heads _ _
-    (same w.resolution heads (append_tame (type_notes w.file [] role.Result f.result) _ (type_tame w.file [] role.Result f.result) (parameters_tame (length w.file.names) 0 w.file f.parameters)))
+    (same w.resolution heads (append_tame (type_notes w.file [] Role.Result f.result) _ (type_tame w.file [] Role.Result f.result) (parameters_tame (length w.file.names) 0 w.file f.parameters)))
     (in_statements w names (scopes.with_parameters [] f.parameters) scoped (record { result = declared_kind f.result; in_loop = false; block = length w.file.names }) f.name.site.token f.statements mild (right _ _ (left _ _ clean))))
     (quiet w.resolution _ _ (beyond_faults 200 (locals_in_all f.statements)) (beyond_faults 200 (locals_in_all (statements_with_cast w.recast f.statements))))
 

@@ -1,16 +1,8 @@
 -- Statements with a cast written in them, as C typing sees them.
-use Rattle.std.proofs.Common.{◌≡◌, ℕ, List, [], ◌∷◌, ◌++◌, Option, Some, None, option_map, refl, sym, subst}
-use Rattle.std.specs.List.{AllByRecursion}
-use Rattle.sharc_tree.specs.{declared.tree.declaration.Declaration.Declaration, Tree.{Expression, Right, value, malloc, Simple, assign, does_call, Local, First, nothing, declares, does, Head, Statement, Statements, no_statements, statement}}
+use Rattle.sharc_suggest_laws.proofs.{Imports.{◌≡◌, ℕ, List, [], ◌∷◌, ◌++◌, Option, Some, None, option_map, refl, sym, subst, AllByRecursion, Declaration, Expression, Right, value, malloc, Simple, assign, does_call, Local, First, nothing, declares, does, Head, Statement, Statements, no_statements, statement, DefinedTwice, TypeMismatch, BadForm, Value, Integer, Scope, Kind, void, same_kind, declared_kind, Entry, met, unmet, unagreed, type_notes, Role, Recast, around, with_cast, right_with_cast, simple_with_cast, local_with_cast, first_with_cast, head_with_cast, statement_with_cast, statements_with_cast, AsValue, AsLvalue, type_of, place_kind, Around, opened, looping, with_names, is_here, declared_notes, test_notes, count_notes, right_notes, simple_notes, is_aggregate, initial_notes, local_notes, returned_as, return_notes, first_notes, tests_notes, step_notes, head_notes, notes_in, notes_in_all, entry_of, Receiver, of_declared, of_left, givings, option_givings, value_givings, right_givings, simple_givings, local_givings, first_givings, head_givings, givings_in, givings_in_all, front, back}, Noted.{Clean, left, right, Noted, done, both, same, IsTame, quiet, unless_faults, where_faults, unmet_faults, unagreed_faults, place_faults, append_tame, faults_tame, type_tame}, Retyped.{Setting, IsMild, AreMild, inside, value_in, with_faults}, Scoped.{Scoped, scoped_with}}
 use Rattle.sharc_tree.specs.Tree as tree
-use Rattle.sharc_names.specs.{declared.fault.FaultCode.TheVariants.{DefinedTwice, TypeMismatch, BadForm}, declared.need.Need.TheVariants.{Value, Integer}, declared.scope.Scope.Scope, Kinds.{Kind, void, same_kind, declared_kind}, Names.Entry, Needs.{met, unmet, unagreed}, Types.type_notes}
-use Rattle.sharc_names.specs.declared.types.Role.TheVariants as role
-use Rattle.sharc_suggest_laws.specs.{declared.written.Recast.Recast, Recast.{around, with_cast, right_with_cast, simple_with_cast, local_with_cast, first_with_cast, head_with_cast, statement_with_cast, statements_with_cast}}
-use Rattle.sharc_ctype.specs.{declared.expr.Standing.TheVariants.{AsValue, AsLvalue}, Expressions.{type_of, notes_of, place_kind}, Statements.{Around, opened, looping, with_names, is_here, declared, declared_notes, test_notes, count_notes, right_notes, simple_notes, is_aggregate, initial_notes, local_notes, returned_as, return_notes, first_notes, behind_first, tests_notes, step_notes, head_notes, after, notes_in, notes_in_all}}
+use Rattle.sharc_ctype.specs.{Expressions.notes_of, Statements.{declared, behind_first, after}}
 use Rattle.sharc_suggest.specs.Givings as scopes
-use Rattle.sharc_suggest.specs.{Repairs.entry_of, Givings.{Receiver, of_declared, of_left, givings, option_givings, value_givings, right_givings, simple_givings, local_givings, first_givings, head_givings, givings_in, givings_in_all}}
-use Rattle.sharc_suggest_laws.proofs.{Noted.{Clean, left, right, Noted, done, both, same, IsTame, quiet, unless_faults, where_faults, unmet_faults, unagreed_faults, place_faults, append_tame, faults_tame, type_tame}, Retyped.{Setting, IsMild, AreMild, inside, value_in, with_faults}, Scoped.{Scoped, scoped_with}}
-use Rattle.sharc_lemmas.proofs.Lists.{front, back}
 
 -- a value, where only faults come after it
 value_stated : (w : Setting) (names scope : List Entry) → Scoped w.file.names names scope → (r : Receiver) (e : Expression) → AreMild w (value_givings scope r e) → (want now : Option Kind)
@@ -44,7 +36,7 @@ in_right w names scope scoped r (value e) mild want now clean = value_stated w n
 in_right w names scope scoped r (malloc s n t) mild want now clean =
     let σ : Scope = with_names w.file names in
     with_faults w.resolution _ _ _ _
-    (both w.resolution _ _ _ _ (in_count w names scope scoped n mild (left _ _ (left _ _ clean))) (same w.resolution (type_notes σ [] role.Made t) (type_tame σ [] role.Made t)))
+    (both w.resolution _ _ _ _ (in_count w names scope scoped n mild (left _ _ (left _ _ clean))) (same w.resolution (type_notes σ [] Role.Made t) (type_tame σ [] Role.Made t)))
     (unless_faults _ s.first.token TypeMismatch) (unless_faults _ s.first.token TypeMismatch)
 
 in_simple : (w : Setting) (names scope : List Entry) → Scoped w.file.names names scope → (x : Simple) → AreMild w (simple_givings scope x) → Clean (simple_notes (with_names w.file names) (simple_with_cast w.recast x))
@@ -76,8 +68,8 @@ in_local w names scope scoped surroundings l mild clean =
     let d : Declaration = l.declaration in
     let inner : List Entry = declared surroundings.block d names in
     both w.resolution _ _ _ _
-    (same w.resolution (type_notes (with_names w.file names) [] role.Local d.written ++ declared_notes surroundings.block d names)
-    (append_tame (type_notes (with_names w.file names) [] role.Local d.written) _ (type_tame (with_names w.file names) [] role.Local d.written) (declared_tame surroundings.block d names)))
+    (same w.resolution (type_notes (with_names w.file names) [] Role.Local d.written ++ declared_notes surroundings.block d names)
+    (append_tame (type_notes (with_names w.file names) [] Role.Local d.written) _ (type_tame (with_names w.file names) [] Role.Local d.written) (declared_tame surroundings.block d names)))
     (in_initial w inner (entry_of d ∷ scope) (scoped_with w.file.names names scope d surroundings.block scoped (right _ _ (left _ _ clean))) d (of_declared d.name.site.token) l.initial mild (right _ _ clean))
 
 in_first : (w : Setting) (names scope : List Entry) → Scoped w.file.names names scope → (surroundings : Around) (f : First) → AreMild w (first_givings scope f) → Clean (first_notes surroundings (with_names w.file names) (first_with_cast w.recast f))

@@ -1,14 +1,7 @@
 -- An expression with a cast written in it, as C typing sees it: its type is what it was, and what is to be said of it is what was, and what is said of the type of the cast.
-use Rattle.std.proofs.{Common.{◌≡◌, ⊎_elim, ℕ, ◌+◌, ◌==◌, Bool, true, false, not, ◌&&◌, ◌||◌, cond, List, [], ◌∷◌, ◌++◌, zero, suc, drop, Option, Some, None, is_some, refl, ap, ap₂, sym, subst, ◌∙◌, eqb-true}, lemmas.Bool.{false≢true, and_parts, or_cases}, lemmas.Slice.Eq.bytes_eq-Decides}
-use Rattle.std.specs.List.{AllByRecursion}
-use Rattle.sharc_tree.specs.{declared.ctype.Base.Base, declared.ctype.Base.TheVariants.{Int, Char, Long, Mutex, Void, Struct}, declared.token.Span.Span, declared.tree.declaration.WrittenType.WrittenType, declared.tree.declaration.Declaration.Declaration, Forms.{without_parentheses, is_lvalue}, Spans.span_of, Tree.{Expression, identifier, constant, parentheses, call, spawn, on_value, on_place, cast, index, field, unary, binary, Arguments, no_arguments, argument}}
-use Rattle.sharc_names.specs.{declared.fault.FaultCode.TheVariants.{TypeMismatch, NoLvalue, TypeNotAllowed, BadForm}, declared.need.Need.Need, declared.need.Need.TheVariants.{Value, Integer, Indexed}, declared.scope.Scope.Scope, Kinds.{Kind, object, is_pointer, same_base, same_kind, declared_kind}, Names.{Entry, StructTable, StructMeaning, look_up, struct_of, parameters_of}, Needs.{place, met, agreed}, Notes.{Note, fault, fault_unless}, Types.{main_notes, field_in, field_kind, field_notes, is_known, allowed_there, struct_note, base_notes, type_notes, is_fine}, Wants.first_wanted}
-use Rattle.sharc_names.specs.declared.types.Role.TheVariants as role
-use Rattle.sharc_suggest_laws.specs.{declared.written.Recast.Recast, Recast.{type_at, is_there, around, with_cast, all_with_cast}}
-use Rattle.sharc_ctype.specs.{declared.expr.Standing.Standing, declared.expr.Standing.TheVariants.{AsValue, AsLvalue}, Expressions.{element_of, access_need, operand_need, unary_kind, class_of, operands_need, binary_kind, names_function, is_place, place_kind, place_notes, value_call_kind, place_call_kind, cast_kind, cast_notes, count, callee_notes, wanted, call_result, call_kind, spawn_notes, may_spawn, spawn_wanted, spawn_kind, can_spawn, type_of, are_fine, notes_at, notes_of_all}, Resolved.Resolution, Statements.with_names}
-use Rattle.sharc_suggest.specs.Givings.{Receiver, of_parameter, Giving, one_giving, givings, all_givings, value_givings}
-use Rattle.sharc_suggest_laws.proofs.{Grown.span_same, Noted.{Clean, left, right, no_fault, well, Noted, done, kept, old_fault, new_fault, both, same, AreFaults, more_faults, IsTame, quiet, unless_faults, unmet_faults, unagreed_faults, place_faults, place_call_faults, cast_faults, count_faults, main_faults, binary_faults, append_tame, faults_tame, name_tame, field_tame, type_tame}, Scoped.Scoped}
-use Rattle.sharc_lemmas.proofs.Lists.{front, back}
+use Rattle.sharc_suggest_laws.proofs.{Imports.{◌≡◌, ⊎_elim, ℕ, ◌+◌, ◌==◌, Bool, true, false, not, ◌&&◌, ◌||◌, cond, List, [], ◌∷◌, ◌++◌, zero, suc, drop, Option, Some, None, is_some, refl, ap, ap₂, sym, subst, ◌∙◌, eqb-true, false≢true, and_parts, or_cases, bytes_eq-Decides, AllByRecursion, Base, Int, Char, Long, Mutex, Void, Struct, Span, WrittenType, Declaration, without_parentheses, is_lvalue, span_of, Expression, identifier, constant, parentheses, call, spawn, on_value, on_place, cast, index, field, unary, binary, Arguments, no_arguments, argument, TypeMismatch, NoLvalue, TypeNotAllowed, BadForm, Need, Value, Integer, Indexed, Scope, Kind, object, is_pointer, same_base, same_kind, declared_kind, Entry, StructTable, StructMeaning, look_up, struct_of, place, met, agreed, Note, fault, fault_unless, main_notes, field_in, field_kind, field_notes, is_known, allowed_there, struct_note, base_notes, type_notes, is_fine, first_wanted, Role, Recast, type_at, is_there, around, with_cast, all_with_cast, Standing, AsValue, AsLvalue, element_of, access_need, operand_need, unary_kind, class_of, operands_need, binary_kind, names_function, is_place, place_kind, place_notes, value_call_kind, place_call_kind, cast_kind, cast_notes, count, callee_notes, call_result, call_kind, spawn_notes, may_spawn, spawn_wanted, spawn_kind, can_spawn, type_of, are_fine, notes_at, notes_of_all, Resolution, with_names, Receiver, of_parameter, Giving, one_giving, givings, all_givings, value_givings, front, back}, Grown.span_same, Noted.{Clean, left, right, no_fault, well, Noted, done, kept, old_fault, new_fault, both, same, AreFaults, more_faults, IsTame, quiet, unless_faults, unmet_faults, unagreed_faults, place_faults, place_call_faults, cast_faults, count_faults, main_faults, binary_faults, append_tame, faults_tame, name_tame, field_tame, type_tame}, Scoped.Scoped}
+use Rattle.sharc_names.specs.Names.{parameters_of}
+use Rattle.sharc_ctype.specs.Expressions.{wanted}
 
 -- what a program names, the cast, and the names of the file
 pub record Setting : Type 0 where
@@ -18,8 +11,8 @@ pub record Setting : Type 0 where
 
 -- where it is written, what is said of the type of the cast does no harm
 abbrev pub IsMild : Setting → Giving → Type 0
-IsMild w g = is_there w.recast g.given ≡ true → (names : List Entry) → Scoped w.file.names names g.scope → (s : Span) → Clean (type_notes (with_names w.file names) [] role.Cast (type_at w.recast s))
-    → Noted w.resolution [] (type_notes (with_names w.file names) [] role.Cast (type_at w.recast s))
+IsMild w g = is_there w.recast g.given ≡ true → (names : List Entry) → Scoped w.file.names names g.scope → (s : Span) → Clean (type_notes (with_names w.file names) [] Role.Cast (type_at w.recast s))
+    → Noted w.resolution [] (type_notes (with_names w.file names) [] Role.Cast (type_at w.recast s))
 
 abbrev pub AreMild : Setting → List Giving → Type 0
 AreMild w gs = AllByRecursion (IsMild w) gs
@@ -47,10 +40,10 @@ pub base_known : (structs : StructTable) (token : ℕ) (b : Base) → Clean (bas
 base_known structs token (Struct name) h = known_by token (struct_of structs name) h
 base_known structs token _ h = refl
 
-pub cast_fine : (scope : Scope) (t : WrittenType) → Clean (type_notes scope [] role.Cast t) → is_fine scope.structs role.Cast t ≡ true
+pub cast_fine : (scope : Scope) (t : WrittenType) → Clean (type_notes scope [] Role.Cast t) → is_fine scope.structs Role.Cast t ≡ true
 cast_fine scope t h =
-    ap (λ b. b && allowed_there role.Cast t) (base_known scope.structs t.base.token t.ctype.base (left _ _ (left _ _ h)))
-    ∙ well (allowed_there role.Cast t) t.span.first.token TypeNotAllowed (right _ _ (left _ _ h))
+    ap (λ b. b && allowed_there Role.Cast t) (base_known scope.structs t.base.token t.ctype.base (left _ _ (left _ _ h)))
+    ∙ well (allowed_there Role.Cast t) t.span.first.token TypeNotAllowed (right _ _ (left _ _ h))
 
 kept_by : (word at : ℕ) (t : WrittenType) (k : Kind) (b : Bool) → is_pointer k ≡ b → Clean (cond b (fault_unless (same_kind k (declared_kind t) || false) at TypeMismatch) (fault word BadForm ∷ []))
     → cond (is_pointer k && same_kind k (declared_kind t)) (Some (declared_kind t)) None ≡ Some k
@@ -65,7 +58,7 @@ cast_same_by word t a (Some k) h = kept_by word (place a) t k (is_pointer k) ref
 
 cast_typed : (scope : Scope) (s : Span) (t : WrittenType) (a : Expression) → Clean (notes_at AsValue scope (cast s t a)) → type_of scope (cast s t a) ≡ type_of scope a
 cast_typed scope s t a h =
-    let fine : is_fine scope.structs role.Cast t ≡ true = cast_fine scope t (left _ _ (left _ _ (left _ _ h))) in
+    let fine : is_fine scope.structs Role.Cast t ≡ true = cast_fine scope t (left _ _ (left _ _ (left _ _ h))) in
     let stands : is_place scope.names a ≡ true = well (is_place scope.names a) (place a) NoLvalue (right _ _ (left _ _ h)) in
     let kind : place_kind scope.names a (type_of scope a) ≡ type_of scope a = ap (λ b. cond b (type_of scope a) None) stands in
     let clean : Clean (cast_notes s.first.token true t a (type_of scope a)) =
@@ -93,16 +86,16 @@ value_by w names scope scoped r e mild inner true is_so clean =
     let new : Expression = with_cast w.recast e in
     let t : WrittenType = type_at w.recast (span_of new) in
     let there : is_there w.recast e ≡ true = ap (λ (s : Span). s.first.token == w.recast.from && s.last.token == w.recast.until) (sym (span_same w.recast e)) ∙ is_so in
-    let types : Clean (type_notes σ [] role.Cast t) = left _ _ (left _ _ (left _ _ clean)) in
-    let s : IsSame w names AsValue AsLvalue e = inner AsLvalue (right (type_notes σ [] role.Cast t) _ (left _ _ (left _ _ clean))) in
+    let types : Clean (type_notes σ [] Role.Cast t) = left _ _ (left _ _ (left _ _ clean)) in
+    let s : IsSame w names AsValue AsLvalue e = inner AsLvalue (right (type_notes σ [] Role.Cast t) _ (left _ _ (left _ _ clean))) in
     record {
       typed = cast_typed σ (span_of new) t new clean ∙ s.typed;
       noted =
-          more_faults w.resolution (notes_at AsValue σ e) (type_notes σ [] role.Cast t ++ notes_at AsLvalue σ new ++ place_notes σ.names new) _
-          (more_faults w.resolution (notes_at AsValue σ e) (type_notes σ [] role.Cast t ++ notes_at AsLvalue σ new) (place_notes σ.names new)
-          (both w.resolution [] (type_notes σ [] role.Cast t) (notes_at AsValue σ e) (notes_at AsLvalue σ new) (mild there names scoped (span_of new) types) s.noted)
+          more_faults w.resolution (notes_at AsValue σ e) (type_notes σ [] Role.Cast t ++ notes_at AsLvalue σ new ++ place_notes σ.names new) _
+          (more_faults w.resolution (notes_at AsValue σ e) (type_notes σ [] Role.Cast t ++ notes_at AsLvalue σ new) (place_notes σ.names new)
+          (both w.resolution [] (type_notes σ [] Role.Cast t) (notes_at AsValue σ e) (notes_at AsLvalue σ new) (mild there names scoped (span_of new) types) s.noted)
           (place_faults σ.names new))
-          (cast_faults (span_of new).first.token (is_fine σ.structs role.Cast t) t new (place_kind σ.names new (type_of σ new)));
+          (cast_faults (span_of new).first.token (is_fine σ.structs Role.Cast t) t new (place_kind σ.names new (type_of σ new)));
     }
 
 -- ---- in each production
@@ -197,15 +190,15 @@ mutual
       }
   inside w names scope scoped one two (cast s t a) mild clean =
       let σ : Scope = with_names w.file names in
-      let h = inside w names scope scoped AsLvalue AsLvalue a mild (right (type_notes σ [] role.Cast t) _ (left _ _ (left _ _ clean))) in
+      let h = inside w names scope scoped AsLvalue AsLvalue a mild (right (type_notes σ [] Role.Cast t) _ (left _ _ (left _ _ clean))) in
       let there : is_place names (with_cast w.recast a) ≡ is_place names a = place_same w.recast names a in
       record {
-        typed = ap₂ (λ (b : Bool) (k : Option Kind). cast_kind (is_fine w.file.structs role.Cast t) t (cond b k None)) there h.typed;
+        typed = ap₂ (λ (b : Bool) (k : Option Kind). cast_kind (is_fine w.file.structs Role.Cast t) t (cond b k None)) there h.typed;
         noted =
             with_faults w.resolution _ _ _ _
-            (with_faults w.resolution _ _ _ _ (both w.resolution (type_notes σ [] role.Cast t) (type_notes σ [] role.Cast t) _ _ (same w.resolution _ (type_tame σ [] role.Cast t)) h.noted)
+            (with_faults w.resolution _ _ _ _ (both w.resolution (type_notes σ [] Role.Cast t) (type_notes σ [] Role.Cast t) _ _ (same w.resolution _ (type_tame σ [] Role.Cast t)) h.noted)
             (place_faults names a) (place_faults names (with_cast w.recast a)))
-            (cast_faults s.first.token (is_fine w.file.structs role.Cast t) t a (place_kind names a (type_of σ a))) (cast_faults s.first.token (is_fine w.file.structs role.Cast t) t (with_cast w.recast a) (place_kind names (with_cast w.recast a) (type_of σ (with_cast w.recast a))));
+            (cast_faults s.first.token (is_fine w.file.structs Role.Cast t) t a (place_kind names a (type_of σ a))) (cast_faults s.first.token (is_fine w.file.structs Role.Cast t) t (with_cast w.recast a) (place_kind names (with_cast w.recast a) (type_of σ (with_cast w.recast a))));
       }
   inside w names scope scoped one two (index s a i) mild clean =
       let h = inside w names scope scoped AsValue AsValue a (front (IsMild w) (givings scope a) (givings scope i) mild) (left _ _ (left _ _ (left _ _ clean))) in

@@ -1,10 +1,6 @@
 -- What is given in a program with a cast written in it: what was given, each with the cast round it where it has its tokens.
-use Rattle.std.proofs.{Common.{◌≡◌, ℕ, zero, suc, Bool, true, false, cond, List, [], ◌∷◌, ◌++◌, map, Option, Some, None, option_map, refl, ap, ap₂, sym, ◌∙◌}, lemmas.List.map-append}
-use Rattle.sharc_tree.specs.{Spans.span_of, Tree.{Expression, parentheses, call, spawn, on_value, on_place, cast, index, field, unary, binary, Arguments, no_arguments, argument, Right, value, malloc, Simple, assign, does_call, Local, First, nothing, declares, does, Head, Statement, Statements, no_statements, statement, Item, function}}
+use Rattle.sharc_suggest_laws.proofs.Imports.{◌≡◌, ℕ, zero, suc, Bool, true, false, cond, List, [], ◌∷◌, ◌++◌, map, Option, Some, None, option_map, refl, ap, ap₂, sym, ◌∙◌, map-append, span_of, Expression, parentheses, call, spawn, on_value, on_place, cast, index, field, unary, binary, Arguments, no_arguments, argument, Right, value, malloc, Simple, assign, does_call, Local, First, nothing, declares, does, Head, Statement, Statements, no_statements, statement, Item, function, Entry, Recast, type_at, is_there, around, with_cast, all_with_cast, right_with_cast, simple_with_cast, local_with_cast, first_with_cast, head_with_cast, statement_with_cast, statements_with_cast, item_with_cast, receiver_with, giving_with, behind_first, after, with_parameters, Receiver, of_declared, of_left, of_parameter, Giving, one_giving, givings, all_givings, option_givings, value_givings, right_givings, simple_givings, local_givings, first_givings, head_givings, givings_in, givings_in_all, item_givings, items_givings, entry_of}
 use Rattle.sharc_tree.specs.Tree as tree
-use Rattle.sharc_names.specs.Names.{Entry}
-use Rattle.sharc_suggest_laws.specs.{declared.written.Recast.Recast, Recast.{type_at, is_there, around, with_cast, all_with_cast, right_with_cast, simple_with_cast, local_with_cast, first_with_cast, head_with_cast, statement_with_cast, statements_with_cast, item_with_cast}, Givings.{receiver_with, giving_with}}
-use Rattle.sharc_suggest.specs.{Givings.{behind_first, after, with_parameters, Receiver, of_declared, of_left, of_parameter, Giving, one_giving, givings, all_givings, option_givings, value_givings, right_givings, simple_givings, local_givings, first_givings, head_givings, givings_in, givings_in_all, item_givings, items_givings}, Repairs.entry_of}
 
 abbrev pub givings_with : Recast → List Giving → List Giving
 givings_with c gs = map (giving_with c) gs

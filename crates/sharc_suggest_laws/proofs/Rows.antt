@@ -1,12 +1,5 @@
 -- The modes of what is where it was, or that many positions further on.
-use Rattle.std.proofs.{Common.{◌≡◌, ℕ, ◌+◌, ◌-◌, ◌≤◌, ◌==◌, Bool, true, false, cond, ◌⊎◌, inl, inr, List, [], ◌∷◌, map, length, take, drop, Option, Some, None, refl, ap, ap₂, sym, ◌∙◌, arith}, lemmas.Bool.eqb-false}
-use Rattle.sharc_tree.specs.declared.ctype.Mode.{Mode}
-use Rattle.sharc_names.specs.declared.types.Role.{Role}
-use Rattle.sharc_names.specs.declared.types.Role.TheVariants as role
-use Rattle.sharc_ctype.specs.{Resolved.Resolution, declared.entity.Entity.Entity, declared.entity.Numbered.Numbered, Entities.positions_of}
-use Rattle.sharc_mode.specs.{Moded.Assignment, Rows.{Targets, written, read, targets_from, entity_row, modes_of}, Sharings.{Sharing, locked, sharing_of}}
-use Rattle.sharc_suggest_laws.specs.Applied.{inserted}
-use Rattle.sharc_suggest_laws.proofs.{Found.{IsMoved, AreMoved}, Inserted.{stretch_before, stretch_behind}}
+use Rattle.sharc_suggest_laws.proofs.{Imports.{◌≡◌, ℕ, ◌+◌, ◌-◌, ◌≤◌, ◌==◌, Bool, true, false, cond, ◌⊎◌, inl, inr, List, [], ◌∷◌, map, length, take, drop, Option, Some, None, refl, ap, ap₂, sym, ◌∙◌, arith, eqb-false, Mode, Role, Resolution, Entity, Numbered, positions_of, Assignment, Targets, written, read, targets_from, entity_row, modes_of, Sharing, locked, sharing_of, inserted}, Found.{IsMoved, AreMoved}, Inserted.{stretch_before, stretch_behind}}
 
 -- ---- a row that is read as it is written
 
@@ -60,7 +53,7 @@ deeper_by first new m now has p q n place false is = row_same first new m now ha
 
 role_same : (what : Role) (first : ℕ) (new : List Mode) (m now : Assignment) → HasInserted first new m now → (p q n : ℕ) → IsShifted first (length new) p q n
     → modes_of now (targets_from what (row_of q n)) ≡ modes_of m (targets_from what (row_of p n))
-role_same role.Global first new m now has p q n place = deeper_by first new m now has p q n place (n == 0) refl
+role_same Role.Global first new m now has p q n place = deeper_by first new m now has p q n place (n == 0) refl
 role_same _ first new m now has p q n place = row_same first new m now has p q n place
 
 moved_same : (first : ℕ) (new : List Mode) (m now : Assignment) → HasInserted first new m now → (o n : Numbered) → IsMoved first (length new) o n → modes_of now (entity_row written (Some n)) ≡ modes_of m (entity_row written (Some o))

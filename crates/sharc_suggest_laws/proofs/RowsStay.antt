@@ -1,17 +1,7 @@
 -- An expression that comes before the cast points to what it pointed to, with the modes that it had.
-use Rattle.std.proofs.{Common.{◌≡◌, ◌⊎◌, inl, inr, ℕ, zero, suc, ◌+◌, ◌-◌, ◌<◌, ◌≤◌, ◌==◌, Bool, true, false, cond, List, [], ◌∷◌, length, Option, Some, None, option_map, slice_get, refl, ap, sym, subst, ◌∙◌, eqb-true, arith}, lemmas.Bool.{false≢true, true≢false, eqb-false}, lemmas.Option.slice_get-map}
-use Rattle.std.specs.List.{AllByRecursion}
-use Rattle.sharc_tree.specs.{declared.tree.declaration.Declaration.Declaration, declared.tree.item.GlobalDefinition.GlobalDefinition, declared.tree.expression.FieldOperator.FieldOperator, declared.tree.expression.FieldOperator.TheVariants.{Dot, Arrow}, declared.tree.expression.Constant.Constant, declared.tree.expression.Constant.TheVariants.Null, declared.tree.expression.UnaryOperator.UnaryOperator, declared.tree.expression.UnaryOperator.TheVariants.{Negate, Dereference}, Tree.{Expression, identifier, Function}}
-use Rattle.sharc_names.specs.{declared.fault.Named.Named, declared.need.Need.TheVariants.Indexed, declared.types.Role.Role, Kinds.Kind, Needs.met}
-use Rattle.sharc_names.specs.declared.fault.Named.TheVariants as named
-use Rattle.sharc_names.specs.declared.types.Role.TheVariants as role
+use Rattle.sharc_suggest_laws.proofs.{Imports.{◌≡◌, ◌⊎◌, inl, inr, ℕ, zero, suc, ◌+◌, ◌-◌, ◌<◌, ◌≤◌, ◌==◌, Bool, true, false, cond, List, [], ◌∷◌, length, Option, Some, None, option_map, slice_get, refl, ap, sym, subst, ◌∙◌, eqb-true, arith, false≢true, true≢false, eqb-false, slice_get-map, AllByRecursion, Declaration, GlobalDefinition, FieldOperator, Dot, Arrow, Constant, Null, UnaryOperator, Negate, Dereference, Expression, identifier, Function, Named, Indexed, Role, Kind, met, Recast, with_cast, function_with_cast, recast_of, targets, resolution_with, is_dull, KeepsName, met_in_items, begins_at, Entity, Numbered, entity_at, positions_of, element_of, operand_need, unary_kind, Resolution, named_at, globals_in, functions_in, declarations_in, declared_at, global_at, function_at, declaration_at, variable_kind, global_kind_of, result_kind_of, named_kind, called_kind, Cast, Assignment, PathReading, written, Targets, is_constant_named, constant_use, base_use, no_row, deeper, targets_from, entity_row, declared_row, global_row, named_row, result_row, called_row, constant_row, reading_through, unary_row, is_field, is_call_at, none_some}, Clear.{IsClearAt, begun_in, AreClear}, Constants.{AllKept, constants_same}, Declared.{same_globals, same_functions, same_declarations}, Found.AreMoved, Lefts.is_function, Stands.{IsAdded, first_place}, Types.all_others}
 use Rattle.sharc_names.specs.Kinds as kinds
-use Rattle.sharc_suggest_laws.specs.{declared.written.Recast.Recast, Recast.{with_cast, function_with_cast}, Applied.{recast_of, targets, resolution_with}, Names.{is_dull, KeepsName}, Values.{met_in_items, begins_at}}
-use Rattle.sharc_ctype.specs.{declared.entity.Entity.Entity, declared.entity.Numbered.Numbered, Entities.{entity_at, positions_of}, Expressions.{element_of, operand_need, unary_kind}, Resolved.{Resolution, named_at, globals_in, functions_in, declarations_in, declared_at, global_at, function_at, declaration_at, variable_kind, global_kind_of, result_kind_of, named_kind, called_kind}}
-use Rattle.sharc_mode.specs.{declared.error.Cast.Cast, Moded.Assignment, Rows.{PathReading, written, Targets, is_constant_named, constant_use, base_use, no_row, deeper, targets_from, entity_row, declared_row, global_row, named_row, result_row, called_row, behind, constant_row, reading_through, unary_row}, Sharings.is_field}
-use Rattle.sharc_suggest.specs.Repairs.{is_call_at}
-use Rattle.sharc_suggest_laws.proofs.{Clear.{IsClearAt, begun_in, AreClear}, Constants.{AllKept, constants_same}, Declared.{same_globals, same_functions, same_declarations}, Found.AreMoved, Lefts.is_function, Stands.{IsAdded, first_place}, Types.all_others}
-use Rattle.sharc_lemmas.proofs.Options.{none_some}
+use Rattle.sharc_mode.specs.Rows.{behind}
 
 -- a program with a cast written in it where something that is given begins
 pub record Frame (m : Assignment) (c : Cast) : Type 0 where
@@ -58,7 +48,7 @@ deep_moved first count how later p q n place false is = record { counted = refl;
 
 role_moved : (what : Role) (first count : ℕ) (how later : PathReading) (p q n : ℕ) → (((p + n ≤ first) × (q ≡ p)) ⊎ ((first ≤ p) × (q ≡ p + count)))
     → IsRowMoved first count how later (targets_from what (record { first = p; count = n; reading = how })) (targets_from what (record { first = q; count = n; reading = later }))
-role_moved role.Global first count how later p q n place = deep_moved first count how later p q n place (n == 0) refl
+role_moved Role.Global first count how later p q n place = deep_moved first count how later p q n place (n == 0) refl
 role_moved _ first count how later p q n place = record { counted = refl; place = inr (place, refl, refl) }
 
 pub entity_moved : (first count : ℕ) (how later : PathReading) (o n : Option Numbered) → AreMoved first count o n → IsRowMoved first count how later (entity_row how o) (entity_row later n)
@@ -125,18 +115,18 @@ declarations_same : (m : Assignment) (c : Cast) (t : ℕ) → declaration_at (no
 declarations_same m c t = ap (λ (l : List Declaration). declared_at l t) (same_declarations (recast_of m.typed c) m.typed.program.items)
 
 pub named_kind_same : (m : Assignment) (c : Cast) (v : Named) → named_kind (now m c) v ≡ named_kind m.typed v
-named_kind_same m c (named.Global n) = ap global_kind_of (globals_same m c n)
-named_kind_same m c (named.Variable t) = ap variable_kind (declarations_same m c t)
-named_kind_same m c (named.Field t) = ap variable_kind (declarations_same m c t)
+named_kind_same m c (Named.Global n) = ap global_kind_of (globals_same m c n)
+named_kind_same m c (Named.Variable t) = ap variable_kind (declarations_same m c t)
+named_kind_same m c (Named.Field t) = ap variable_kind (declarations_same m c t)
 named_kind_same m c _ = refl
 
 pub named_moved : (m : Assignment) (c : Cast) (frame : Frame m c) (how : PathReading) (v : Named) → is_function (named_kind m.typed v) ≡ false
     → IsRowMoved (first_at m c frame) (many c) how how (named_row m.typed how v) (named_row (now m c) how v)
-named_moved m c frame how (named.Global n) held =
+named_moved m c frame how (Named.Global n) held =
     subst (λ (o : Option GlobalDefinition). IsRowMoved (first_at m c frame) (many c) how how (global_row m.typed how (global_at m.typed n)) (global_row (now m c) how o)) (sym (globals_same m c n))
     (global_moved m c frame how how (globals_in m.typed.program.items) n frame.clear.globals)
-named_moved m c frame how (named.Variable t) held = clear_moved m c frame how how t (declaration_clear m (declarations_in m.typed.program.items) t frame.clear.declarations held)
-named_moved m c frame how (named.Field t) held = clear_moved m c frame how how t (declaration_clear m (declarations_in m.typed.program.items) t frame.clear.declarations held)
+named_moved m c frame how (Named.Variable t) held = clear_moved m c frame how how t (declaration_clear m (declarations_in m.typed.program.items) t frame.clear.declarations held)
+named_moved m c frame how (Named.Field t) held = clear_moved m c frame how how t (declaration_clear m (declarations_in m.typed.program.items) t frame.clear.declarations held)
 named_moved m c frame how _ held = absurd (true≢false held)
 
 result_kind_same : (c : Recast) (o : Option Function) → result_kind_of (option_map (function_with_cast c) o) ≡ result_kind_of o
@@ -145,21 +135,21 @@ result_kind_same c (Some f) = refl
 
 -- of a call: what its name names is still a function, or was not one and is not one
 called_kinds : (m : Assignment) (c : Cast) (v : Named) → called_kind (now m c) v ≡ called_kind m.typed v
-called_kinds m c (named.Function n) = ap result_kind_of (functions_same m c n) ∙ result_kind_same (recast_of m.typed c) (function_at m.typed n)
+called_kinds m c (Named.Function n) = ap result_kind_of (functions_same m c n) ∙ result_kind_same (recast_of m.typed c) (function_at m.typed n)
 called_kinds m c _ = refl
 
 called_moved : (m : Assignment) (c : Cast) (frame : Frame m c) (v : Named) → IsRowMoved (first_at m c frame) (many c) written written (called_row m.typed v) (called_row (now m c) v)
-called_moved m c frame (named.Function n) =
+called_moved m c frame (Named.Function n) =
     subst (λ (o : Option Function). IsRowMoved (first_at m c frame) (many c) written written (result_row m.typed (function_at m.typed n)) (result_row (now m c) o)) (sym (functions_same m c n))
     (result_moved m c frame (functions_in m.typed.program.items) n frame.clear.functions)
 called_moved m c frame _ = none_moved (first_at m c frame) (many c) written written
 
 dull_called : (r : Resolution) (v : Named) → is_dull v ≡ true → called_row r v ≡ no_row
-dull_called r (named.Function n) is = absurd (false≢true is)
+dull_called r (Named.Function n) is = absurd (false≢true is)
 dull_called r _ is = refl
 
 dull_result : (r : Resolution) (v : Named) → is_dull v ≡ true → called_kind r v ≡ kinds.void
-dull_result r (named.Function n) is = absurd (false≢true is)
+dull_result r (Named.Function n) is = absurd (false≢true is)
 dull_result r _ is = refl
 
 pub call_moved : (m : Assignment) (c : Cast) (frame : Frame m c) (v w : Named) → KeepsName v w → IsRowMoved (first_at m c frame) (many c) written written (called_row m.typed v) (called_row (now m c) w)
@@ -175,11 +165,11 @@ call_kind_same m c v w (inr p) = dull_result (now m c) w p.1 ∙ sym (dull_resul
 -- ---- constant variables
 
 dull_constant : (r : Resolution) (v : Named) → is_dull v ≡ true → is_constant_named r v ≡ false
-dull_constant r (named.Variable t) is = absurd (false≢true is)
+dull_constant r (Named.Variable t) is = absurd (false≢true is)
 dull_constant r _ is = refl
 
 named_constant : (m : Assignment) (c : Cast) → AllKept m.typed (now m c) → (v : Named) → is_constant_named (now m c) v ≡ is_constant_named m.typed v
-named_constant m c kept (named.Variable t) = constants_same m.typed (now m c) (recast_of m.typed c) refl kept t
+named_constant m c kept (Named.Variable t) = constants_same m.typed (now m c) (recast_of m.typed c) refl kept t
 named_constant m c kept _ = refl
 
 constant_kept : (m : Assignment) (c : Cast) → AllKept m.typed (now m c) → (v w : Named) → KeepsName v w → is_constant_named (now m c) w ≡ is_constant_named m.typed v

@@ -1,12 +1,7 @@
 -- The variables in scope where casts are suggested, beside all names in scope where C typing looks.
-use Rattle.std.proofs.Common.{◌≡◌, ℕ, Bool, true, false, cond, List, [], ◌∷◌, Option, Some, None, refl, bytes_eq}
-use Rattle.sharc_tree.specs.declared.tree.declaration.Declaration.{Declaration}
-use Rattle.sharc_names.specs.{Names.{Entry, Meaning, look_up}, declared.fault.FaultCode.TheVariants.DefinedTwice}
+use Rattle.sharc_suggest_laws.proofs.{Imports.{◌≡◌, ℕ, Bool, true, false, cond, List, [], ◌∷◌, Option, Some, None, refl, bytes_eq, Declaration, Entry, Meaning, look_up, DefinedTwice, is_here, declared_notes, entry_of, true_no}, Noted.{Clean, behind_head, not_wrong}}
 use Rattle.sharc_names.specs.Names as meaning
-use Rattle.sharc_ctype.specs.Statements.{is_here, declared, declared_notes}
-use Rattle.sharc_suggest.specs.Repairs.{entry_of}
-use Rattle.sharc_suggest_laws.proofs.Noted.{Clean, behind_head, not_wrong}
-use Rattle.sharc_lemmas.proofs.Bools.{yes as true_no}
+use Rattle.sharc_ctype.specs.Statements.{declared}
 
 -- a variable is the same, and what is not one is what the file has of that name
 abbrev pub IsFoundAs : Option Entry → Option Entry → Option Entry → Type 0

@@ -1,14 +1,8 @@
 -- In the type of a field a path that names a sibling by its name alone has that name, and the struct has a field of it.
-use Rattle.std.proofs.{Common.{◌≡◌, ℕ, Bool, true, false, List, [], ◌∷◌, ◌++◌, Option, Some, None, refl, ap, sym, ◌∙◌}, lemmas.Bool.false≢true}
-use Rattle.std.specs.List.{AllByRecursion}
-use Rattle.sharc_tree.specs.{declared.ctype.Mode.Mode, declared.ctype.Mode.TheVariants.Locked, declared.ctype.Path.Path, declared.ctype.Path.TheVariants.{One, Through}, declared.tree.declaration.Declaration.Declaration, declared.tree.item.StructDefinition.StructDefinition, declared.tree.declaration.WrittenType.WrittenType, Marks.{Mark, path_marks, level_marks, levels_marks, base_marks, AreMarks}, Placed.{PlacedDeclarations, PlacedItems, PlacedType}, Tree.{Item, structure, global, function}}
-use Rattle.sharc_names.specs.{declared.scope.Scope.Scope, Names.{Entry, Meaning, look_up, field_of, named_of}, Notes.{Note, fault, refers, yields, fault_unless}, Types.{name_notes, first_notes, path_notes, mode_notes, modes_notes, base_notes, allowed_there, type_notes}, declared.fault.FaultCode.TheVariants.TypeNotAllowed}
-use Rattle.sharc_names.specs.declared.types.Role.TheVariants as role
+use Rattle.sharc_suggest_laws.proofs.{Imports.{◌≡◌, ℕ, Bool, true, false, List, [], ◌∷◌, ◌++◌, Option, Some, None, refl, ap, sym, ◌∙◌, false≢true, AllByRecursion, Mode, Locked, Path, One, Through, Declaration, StructDefinition, WrittenType, Mark, path_marks, level_marks, levels_marks, base_marks, AreMarks, PlacedDeclarations, PlacedItems, PlacedType, Item, structure, global, function, Scope, Entry, Meaning, look_up, field_of, named_of, Note, fault, refers, yields, fault_unless, name_notes, path_notes, mode_notes, modes_notes, base_notes, allowed_there, type_notes, TypeNotAllowed, Role, fields_notes, item_notes, items_notes, Resolution, structs_in, named_at, is_field, text_at, front, back}, Folded.IsOwnAt, Noted.{Clean, no_fault, behind_head, behind_yields}, Spelled.{text_is, front_marks, back_marks}}
+use Rattle.sharc_names.specs.Types.{first_notes}
 use Rattle.sharc_names.specs.Names as meaning
-use Rattle.sharc_ctype.specs.{Items.{field_notes, fields_notes, item_notes, items_notes}, Resolved.{Resolution, structs_in, named_at}}
-use Rattle.sharc_mode.specs.Sharings.{is_field, text_at}
-use Rattle.sharc_suggest_laws.proofs.{Folded.IsOwnAt, Noted.{Clean, no_fault, behind_head, behind_yields}, Spelled.{text_is, front_marks, back_marks}}
-use Rattle.sharc_lemmas.proofs.Lists.{front, back}
+use Rattle.sharc_ctype.specs.Items.{field_notes}
 
 -- ---- notes without a fault that say of each token what it names
 
@@ -74,16 +68,16 @@ levels_sibling r scope fields first bases (x ∷ (y ∷ below)) marks holds = (
 abbrev pub HasSiblings : Resolution → List Declaration → Declaration → Type 0
 HasSiblings r fields d = AllByRecursion (IsSiblingLevel r fields) d.written.ctype.levels
 
-type_siblings : (r : Resolution) (scope : Scope) (fields : List Declaration) (w : WrittenType) → PlacedType r.program.tokens.list w → AreTrueOf r (type_notes scope fields role.Field w) → AllByRecursion (IsSiblingLevel r fields) w.ctype.levels
+type_siblings : (r : Resolution) (scope : Scope) (fields : List Declaration) (w : WrittenType) → PlacedType r.program.tokens.list w → AreTrueOf r (type_notes scope fields Role.Field w) → AllByRecursion (IsSiblingLevel r fields) w.ctype.levels
 type_siblings r scope fields w placed holds =
     levels_sibling r scope fields w.mode_first (base_marks w.ctype.base w.base.token) w.ctype.levels placed.1
-    (back (IsTrueOf r) (base_notes scope.structs w.base.token w.ctype.base ++ fault_unless (allowed_there role.Field w) w.span.first.token TypeNotAllowed) (modes_notes scope fields w.ctype.levels) holds)
+    (back (IsTrueOf r) (base_notes scope.structs w.base.token w.ctype.base ++ fault_unless (allowed_there Role.Field w) w.span.first.token TypeNotAllowed) (modes_notes scope fields w.ctype.levels) holds)
 
 fields_siblings : (r : Resolution) (scope : Scope) (fields earlier ds : List Declaration) → PlacedDeclarations r.program.tokens.list ds → AreTrueOf r (fields_notes scope fields earlier ds) → AllByRecursion (HasSiblings r fields) ds
 fields_siblings r scope fields earlier [] placed holds = tt
 fields_siblings r scope fields earlier (d ∷ rest) placed holds =
     let own : AreTrueOf r (field_notes scope fields earlier d) = front (IsTrueOf r) (field_notes scope fields earlier d) (fields_notes scope fields (earlier ++ d ∷ []) rest) holds in (
-      type_siblings r scope fields d.written placed.0.1 (front (IsTrueOf r) (type_notes scope fields role.Field d.written) _ own),
+      type_siblings r scope fields d.written placed.0.1 (front (IsTrueOf r) (type_notes scope fields Role.Field d.written) _ own),
       fields_siblings r scope fields (earlier ++ d ∷ []) rest placed.1 (back (IsTrueOf r) (field_notes scope fields earlier d) (fields_notes scope fields (earlier ++ d ∷ []) rest) holds),
     )
 

@@ -1,7 +1,5 @@
 -- What a cast was suggested for.
-use Rattle.std.proofs.Common.{◌≡◌, ℕ, ◌==◌, Bool, true, false, cond, ◌⊎◌, inl, inr, List, [], ◌∷◌, ◌++◌, Option, Some, None, refl, ap, sym, subst, ◌∙◌, eqb-true}
-use Rattle.sharc_mode.specs.{declared.error.Cast.Cast, declared.error.ModeError.ModeError, Errors.is_mismatch, Moded.Assignment, Rows.modes_at, Sharings.Sharing}
-use Rattle.sharc_suggest.specs.{Casts.{suggested_for, suggested_in, cast_at, IsSuggested}, Repairs.{repair_with, is_repairable, cast_to}, Givings.{Giving, items_givings, wanted}}
+use Rattle.sharc_suggest_laws.proofs.Imports.{◌≡◌, ℕ, ◌==◌, Bool, true, false, cond, ◌⊎◌, inl, inr, List, [], ◌∷◌, ◌++◌, Option, Some, None, refl, ap, sym, subst, ◌∙◌, eqb-true, Cast, ModeError, is_mismatch, Assignment, modes_at, Sharing, suggested_for, suggested_in, cast_at, IsSuggested, repair_with, is_repairable, cast_to, Giving, items_givings, wanted}
 
 -- it is one of these
 abbrev pub IsAmong : Cast → List Cast → Type 0

@@ -1,21 +1,9 @@
 -- Types that are written in a typed program, and those of its expressions, have known structs, and no pointer leads to
 -- `void`.
-use Rattle.std.proofs.{Common.{◌≡◌, ℕ, zero, suc, slice_get, ◌+◌, ◌-◌, ◌==◌, Bool, true, false, cond, List, [], ◌∷◌, ◌++◌, length, Option, Some, None, refl, eqb-true, arith}, lemmas.Bool.and_parts}
-use Rattle.std.specs.List.{AllByRecursion}
-use Rattle.sharc_tree.specs.{declared.ctype.Base.Base, declared.tree.declaration.Declaration.Declaration, declared.tree.declaration.WrittenType.WrittenType, declared.token.NumberType.NumberType, declared.tree.item.GlobalDefinition.GlobalDefinition, declared.tree.item.GlobalForm.GlobalForm, declared.tree.item.GlobalForm.TheVariants.{Plain, Array, Initial}, declared.tree.expression.Constant.Constant, declared.tree.expression.Constant.TheVariants.{Number, Character, Null}, declared.tree.expression.UnaryOperator.UnaryOperator, declared.tree.expression.UnaryOperator.TheVariants.{Not, Dereference}, Measures.expressions, Tree.{Function, Expression, identifier, constant, parentheses, call, spawn, on_value, on_place, cast, index, field, unary, binary, Arguments, no_arguments, argument, Right, value, malloc, Simple, assign, does_call, Local, First, nothing, declares, does, Head, Statement, Statements, no_statements, statement, Item, structure, global, function}}
+use Rattle.sharc_suggest_laws.proofs.{Imports.{◌≡◌, ℕ, zero, suc, slice_get, ◌+◌, ◌-◌, ◌==◌, Bool, true, false, cond, List, [], ◌∷◌, ◌++◌, length, Option, Some, None, refl, eqb-true, arith, and_parts, AllByRecursion, Base, Declaration, WrittenType, NumberType, GlobalDefinition, GlobalForm, Plain, Array, Initial, Constant, Number, Character, Null, UnaryOperator, Not, Dereference, expressions, Function, Expression, identifier, constant, parentheses, call, spawn, on_value, on_place, cast, index, field, unary, binary, Arguments, no_arguments, argument, Right, value, malloc, Simple, assign, does_call, Local, First, nothing, declares, does, Head, Statement, Statements, no_statements, statement, Item, structure, global, function, TypeNotAllowed, Named, Scope, Role, Kind, object, array, null, int, long, is_long, stars_of, declared_kind, element_kind, global_kind, StructTable, look_up, is_known, holds_void, is_allowed, allowed_there, type_notes, OperatorClass, Shift, Arithmetic, Standing, AsValue, AsLvalue, number_kind, constant_kind, unary_result, class_of, binary_result, count, notes_at, notes_of_all, sizes_notes, heads_notes, no_heads, fields_notes, parameters_notes, item_notes, items_notes, in_body, main_missing, file_scope, notes_about, Resolution, named_at, globals_in, functions_in, declarations_in, declared_at, variable_kind, global_kind_of, result_kind_of, named_kind, called_kind, kind_at, Around, opened, looping, with_names, count_notes, right_notes, simple_notes, initial_notes, local_notes, return_notes, first_notes, in_head, tests_notes, step_notes, head_notes, notes_in, notes_in_all, types_in, types_in_arguments, types_in_option, types_in_right, types_in_simple, types_in_local, types_in_first, types_in_head, types_in_statement, types_in_statements, types_in_declarations, types_in_item, types_in_items, base_of, Giving, items_givings, joint, each}, Bases.{HaveCasts, HoldInAll, in_all, of_items, AreDeclared, IsGiven, first_casts}, Noted.{Clean, left, right, well}, Retyped.base_known}
 use Rattle.sharc_tree.specs.Tree as tree
-use Rattle.sharc_tree.specs.declared.ctype.Base.TheVariants as base
-use Rattle.sharc_names.specs.{declared.fault.FaultCode.TheVariants.TypeNotAllowed, declared.fault.Named.Named, declared.scope.Scope.Scope, declared.types.Role.Role, Kinds.{Kind, object, array, null, int, long, is_long, stars_of, declared_kind, element_kind}, Names.{global_kind, StructTable, look_up}, Types.{is_known, holds_void, is_allowed, allowed_there, type_notes}}
-use Rattle.sharc_tree.specs.declared.token.NumberType.TheVariants as width
-use Rattle.sharc_names.specs.declared.fault.Named.TheVariants as named
-use Rattle.sharc_names.specs.declared.types.Role.TheVariants as role
 use Rattle.sharc_names.specs.Kinds as kinds
-use Rattle.sharc_ctype.specs.{declared.expr.OperatorClass.OperatorClass, declared.expr.OperatorClass.TheVariants.{Shift, Arithmetic}, declared.expr.Standing.Standing, declared.expr.Standing.TheVariants.{AsValue, AsLvalue}, Expressions.{number_kind, constant_kind, unary_result, class_of, binary_result, count, notes_at, notes_of_all, wanted}, Globals.sizes_notes, Heads.{heads_notes, no_heads}, Items.{fields_notes, parameters_notes, item_notes, items_notes, in_body, main_missing, file_scope, notes_about}, Resolved.{Resolution, named_at, globals_in, functions_in, declarations_in, declared_at, variable_kind, global_kind_of, result_kind_of, named_kind, called_kind, kind_at}, Statements.{Around, opened, looping, with_names, declared, count_notes, right_notes, simple_notes, initial_notes, local_notes, return_notes, first_notes, behind_first, in_head, tests_notes, step_notes, head_notes, after, notes_in, notes_in_all}}
-use Rattle.sharc_ctype_laws.specs.WrittenTypes.{types_in, types_in_arguments, types_in_option, types_in_right, types_in_simple, types_in_local, types_in_first, types_in_head, types_in_statement, types_in_statements, types_in_declarations, types_in_item, types_in_items}
-use Rattle.sharc_mode.specs.Notes.{base_of}
-use Rattle.sharc_suggest.specs.Givings.{Giving, items_givings}
-use Rattle.sharc_suggest_laws.proofs.{Bases.{HaveCasts, HoldInAll, in_all, of_items, AreDeclared, IsGiven, first_casts}, Noted.{Clean, left, right, well}, Retyped.base_known}
-use Rattle.sharc_lemmas.proofs.Lists.{both as joint, each}
+use Rattle.sharc_ctype.specs.{Expressions.wanted, Statements.{declared, behind_first, after}}
 
 -- ---- a type whose struct is known, and that is no pointer to `void`
 
@@ -25,7 +13,7 @@ stars_in (array b n) = n
 stars_in _ = 0
 
 abbrev pub IsBare : Base → ℕ → Type 0
-IsBare base.Void stars = stars ≡ 0
+IsBare Base.Void stars = stars ≡ 0
 IsBare _ stars = Unit {0}
 
 pub record IsSound (structs : StructTable) (k : Kind) : Type 0 where
@@ -39,7 +27,7 @@ abbrev AreSound : StructTable → List WrittenType → Type 0
 AreSound structs l = AllByRecursion (IsSoundType structs) l
 
 bare_by : (what : Role) (b : Base) (stars : ℕ) → is_allowed what b stars ≡ true → IsBare b stars
-bare_by what base.Void stars h = eqb-true stars 0 (and_parts (stars == 0) (holds_void what) h).0
+bare_by what Base.Void stars h = eqb-true stars 0 (and_parts (stars == 0) (holds_void what) h).0
 bare_by what _ stars h = tt
 
 type_sound : (scope : Scope) (siblings : List Declaration) (what : Role) (w : WrittenType) → Clean (type_notes scope siblings what w) → IsSoundType scope.structs w
@@ -62,7 +50,7 @@ mutual
   in_expression σ stands (on_place s w a) h = in_expression σ AsLvalue a (left _ _ (left _ _ h))
   in_expression σ stands (cast s t a) h =
       let heads = left _ _ (left _ _ h) in
-      (type_sound σ [] role.Cast t (left (type_notes σ [] role.Cast t) _ heads), in_expression σ AsLvalue a (right (type_notes σ [] role.Cast t) _ heads))
+      (type_sound σ [] Role.Cast t (left (type_notes σ [] Role.Cast t) _ heads), in_expression σ AsLvalue a (right (type_notes σ [] Role.Cast t) _ heads))
   in_expression σ stands (index s a i) h =
       two σ.structs (types_in a) (types_in i) (in_expression σ AsValue a (left _ _ (left _ _ (left _ _ h)))) (in_expression σ AsValue i (right _ _ (left _ _ h)))
   in_expression σ stands (field s a w n) h = in_expression σ AsValue a (left _ _ (left _ _ h))
@@ -82,7 +70,7 @@ in_count σ (Some e) h = in_expression σ AsValue e (left _ _ h)
 
 in_right : (σ : Scope) (want : Option Kind) (x : Right) → Clean (right_notes σ want x) → AreSound σ.structs (types_in_right x)
 in_right σ want (value e) h = in_expression σ AsValue e (left _ _ (left _ _ h))
-in_right σ want (malloc s n t) h = two σ.structs (types_in_option types_in n) (t ∷ []) (in_count σ n (left _ _ (left _ _ h))) (type_sound σ [] role.Made t (right _ _ (left _ _ h)), tt)
+in_right σ want (malloc s n t) h = two σ.structs (types_in_option types_in n) (t ∷ []) (in_count σ n (left _ _ (left _ _ h))) (type_sound σ [] Role.Made t (right _ _ (left _ _ h)), tt)
 
 in_simple : (σ : Scope) (x : Simple) → Clean (simple_notes σ x) → AreSound σ.structs (types_in_simple x)
 in_simple σ (assign s u x) h = two σ.structs (types_in u) (types_in_right x) (in_expression σ AsLvalue u (left _ _ (left _ _ (left _ _ h)))) (in_right σ _ x (right _ _ h))
@@ -94,7 +82,7 @@ in_initial σ d (Some x) h = in_right σ _ x (right _ _ h)
 
 in_local : (surroundings : Around) (σ : Scope) (l : Local) → Clean (local_notes surroundings σ l) → AreSound σ.structs (types_in_local l)
 in_local surroundings σ l h = (
-  type_sound σ [] role.Local l.declaration.written (left _ _ (left _ _ h)),
+  type_sound σ [] Role.Local l.declaration.written (left _ _ (left _ _ h)),
   in_initial (with_names σ (declared surroundings.block l.declaration σ.names)) l.declaration l.initial (right _ _ h),
 )
 
@@ -149,18 +137,18 @@ mutual
 
 in_fields : (σ : Scope) (all earlier ds : List Declaration) → Clean (fields_notes σ all earlier ds) → AreSound σ.structs (types_in_declarations ds)
 in_fields σ all earlier [] h = tt
-in_fields σ all earlier (d ∷ rest) h = (type_sound σ all role.Field d.written (left _ _ (left _ _ h)), in_fields σ all (earlier ++ d ∷ []) rest (right _ _ h))
+in_fields σ all earlier (d ∷ rest) h = (type_sound σ all Role.Field d.written (left _ _ (left _ _ h)), in_fields σ all (earlier ++ d ∷ []) rest (right _ _ h))
 
 in_parameters : (block before : ℕ) (σ : Scope) (ds : List Declaration) → Clean (parameters_notes block before σ ds) → AreSound σ.structs (types_in_declarations ds)
 in_parameters block before σ [] h = tt
 in_parameters block before σ (d ∷ rest) h =
-    (type_sound σ [] role.Parameter d.written (left _ _ (left _ _ (left _ _ h))), in_parameters block (before + 1) (with_names σ (declared block d σ.names)) rest (right _ _ h))
+    (type_sound σ [] Role.Parameter d.written (left _ _ (left _ _ (left _ _ h))), in_parameters block (before + 1) (with_names σ (declared block d σ.names)) rest (right _ _ h))
 
 in_item : (file : Scope) (i : Item) → Clean (item_notes file i) → AreSound file.structs (types_in_item i)
 in_item file (structure s) h = in_fields file s.fields [] s.fields h
-in_item file (global g) h = (type_sound file [] role.Global g.declaration.written (left _ _ (left _ _ h)), tt)
+in_item file (global g) h = (type_sound file [] Role.Global g.declaration.written (left _ _ (left _ _ h)), tt)
 in_item file (function f) h = (
-  type_sound file [] role.Result f.result (left _ _ (left _ _ (left _ _ h))),
+  type_sound file [] Role.Result f.result (left _ _ (left _ _ (left _ _ h))),
   two file.structs (types_in_declarations f.parameters) (types_in_statements f.statements) (in_parameters (length file.names) 0 file f.parameters (right _ _ (left _ _ (left _ _ h))))
       (in_statements (record { result = declared_kind f.result; in_loop = false; block = length file.names }) (in_body file f) f.statements (right _ _ (left _ _ h))),
 )
@@ -203,15 +191,15 @@ of_result structs (f ∷ rest) zero all = all.0
 of_result structs (f ∷ rest) (suc n) all = of_result structs rest n all.1
 
 name_sound : (structs : StructTable) (r : Resolution) → HoldInAll (IsSoundType structs) r.program.items → (n : Named) → IsSound structs (named_kind r n)
-name_sound structs r all (named.Global n) = of_global structs (globals_in r.program.items) n all.globals
-name_sound structs r all (named.Variable token) = of_declaration structs (declarations_in r.program.items) token all.declarations
-name_sound structs r all (named.Field token) = of_declaration structs (declarations_in r.program.items) token all.declarations
+name_sound structs r all (Named.Global n) = of_global structs (globals_in r.program.items) n all.globals
+name_sound structs r all (Named.Variable token) = of_declaration structs (declarations_in r.program.items) token all.declarations
+name_sound structs r all (Named.Field token) = of_declaration structs (declarations_in r.program.items) token all.declarations
 name_sound structs r all _ = record { known = refl; bare = refl }
 
 called_sound : (structs : StructTable) (r : Resolution) → HoldInAll (IsSoundType structs) r.program.items → (n : Named) → IsSound structs (called_kind r n)
-called_sound structs r all (named.Function n) = of_result structs (functions_in r.program.items) n all.results
-called_sound structs r all (named.Variable token) = record { known = refl; bare = refl }
-called_sound structs r all (named.Field token) = record { known = refl; bare = refl }
+called_sound structs r all (Named.Function n) = of_result structs (functions_in r.program.items) n all.results
+called_sound structs r all (Named.Variable token) = record { known = refl; bare = refl }
+called_sound structs r all (Named.Field token) = record { known = refl; bare = refl }
 called_sound structs r all _ = record { known = refl; bare = refl }
 
 either_sound : (structs : StructTable) (b : Bool) → IsSound structs (cond b long int)
@@ -219,8 +207,8 @@ either_sound structs true = record { known = refl; bare = tt }
 either_sound structs false = record { known = refl; bare = tt }
 
 number_sound : (structs : StructTable) (w : NumberType) → IsSound structs (number_kind w)
-number_sound structs width.Int = record { known = refl; bare = tt }
-number_sound structs width.Long = record { known = refl; bare = tt }
+number_sound structs NumberType.Int = record { known = refl; bare = tt }
+number_sound structs NumberType.Long = record { known = refl; bare = tt }
 
 constant_sound : (structs : StructTable) (c : Constant) → IsSound structs (constant_kind c)
 constant_sound structs (Number n) = number_sound structs n.number_type
@@ -228,7 +216,7 @@ constant_sound structs (Character byte) = record { known = refl; bare = tt }
 constant_sound structs Null = record { known = refl; bare = refl }
 
 bare_below : (b : Base) (n : ℕ) → IsBare b n → IsBare b (n - 1)
-bare_below base.Void n h = omega (arith, h)
+bare_below Base.Void n h = omega (arith, h)
 bare_below _ n h = tt
 
 element_sound : (structs : StructTable) (k : Kind) → IsSound structs k → IsSound structs (element_kind k)

@@ -1,17 +1,9 @@
 -- A token that names a global or a function in a program at its tokens has the text of what the file knows as that; and one that names what the program does not define
 -- shows that the file knows the calls of condition variables.
-use Rattle.std.proofs.{Common.{◌≡◌, ◌⊎◌, inl, inr, ⊎_elim, ℕ, zero, suc, ◌+◌, ◌<◌, Bool, true, false, cond, List, [], ◌∷◌, ◌++◌, length, drop, get_or, Option, Some, None, slice_get, bytes_eq, refl, ap, sym, ◌∙◌, arith}, lemmas.Bool.false≢true}
-use Rattle.std.specs.List.{AllByRecursion}
-use Rattle.sharc_tree.specs.{declared.ctype.Base.Base, declared.ctype.Mode.Mode, declared.ctype.Mode.TheVariants.Locked, declared.ctype.Path.Path, declared.ctype.Path.TheVariants.{One, Through}, declared.token.Token.Token, declared.tree.declaration.WrittenType.WrittenType, declared.tree.declaration.Declaration.Declaration, Marks.{Mark, a_name, path_marks, level_marks, levels_marks, base_marks, IsMark, AreMarks}, Placed.{PlacedType, Placed, AllPlaced}, Tree.{Expression, identifier, constant, parentheses, call, spawn, on_value, on_place, cast, index, field, unary, binary, Arguments, no_arguments, argument}}
-use Rattle.sharc_tree.specs.declared.ctype.Base.TheVariants as base
-use Rattle.sharc_names.specs.{declared.fault.Named.Named, declared.scope.Scope.Scope, declared.types.Role.Role, Kinds.Kind, Names.{Entry, Meaning, StructMeaning, StructTable, look_up, named_of, struct_of, field_of}, Notes.{Note, fault, refers, yields}, Needs.met, Wants.first_wanted, declared.need.Need.TheVariants.{Value, Integer, Indexed}, Types.{is_fine, field_in, name_notes, main_notes, field_notes, first_notes, first_kind, second_in, second_notes, path_notes, mode_notes, modes_notes, struct_note, base_notes, type_notes}}
-use Rattle.sharc_names.specs.declared.fault.Named.TheVariants as named
-use Rattle.sharc_names.specs.declared.types.Role.TheVariants as role
+use Rattle.sharc_suggest_laws.proofs.{Imports.{◌≡◌, ◌⊎◌, inl, inr, ⊎_elim, ℕ, zero, suc, ◌+◌, ◌<◌, Bool, true, false, cond, List, [], ◌∷◌, ◌++◌, length, drop, get_or, Option, Some, None, slice_get, bytes_eq, refl, ap, sym, ◌∙◌, arith, false≢true, AllByRecursion, Base, Mode, Locked, Path, One, Through, Token, WrittenType, Declaration, Mark, a_name, path_marks, level_marks, levels_marks, base_marks, IsMark, AreMarks, PlacedType, Placed, AllPlaced, Expression, identifier, constant, parentheses, call, spawn, on_value, on_place, cast, index, field, unary, binary, Arguments, no_arguments, argument, Named, Scope, Role, Kind, Entry, Meaning, StructMeaning, StructTable, look_up, named_of, struct_of, field_of, Note, fault, refers, yields, met, first_wanted, Value, Integer, Indexed, is_fine, field_in, name_notes, main_notes, field_notes, first_kind, second_in, second_notes, path_notes, mode_notes, modes_notes, struct_note, base_notes, type_notes, Standing, AsValue, AsLvalue, access_need, operand_need, class_of, operands_need, place_kind, count, spawn_wanted, callee_notes, spawn_notes, type_of, notes_at, notes_of_all, Resolution, with_names, is_here, is_field, text_of, text_at, joint}, Calls.KnowsCalls, Mild.is_filed, Noted.{AreFaults, IsFault, unless_faults, unmet_faults, unagreed_faults, place_faults, place_call_faults, cast_faults, count_faults, main_faults, binary_faults}}
+use Rattle.sharc_names.specs.Types.{first_notes}
 use Rattle.sharc_names.specs.Names as meaning
-use Rattle.sharc_ctype.specs.{declared.expr.Standing.Standing, declared.expr.Standing.TheVariants.{AsValue, AsLvalue}, Expressions.{access_need, operand_need, class_of, operands_need, place_kind, count, wanted, spawn_wanted, callee_notes, spawn_notes, type_of, notes_at, notes_of_all}, Resolved.Resolution, Statements.{with_names, declared, is_here}}
-use Rattle.sharc_mode.specs.Sharings.{is_field, text_of, text_at}
-use Rattle.sharc_suggest_laws.proofs.{Calls.KnowsCalls, Mild.is_filed, Noted.{AreFaults, IsFault, unless_faults, unmet_faults, unagreed_faults, place_faults, place_call_faults, cast_faults, count_faults, main_faults, binary_faults}}
-use Rattle.sharc_lemmas.proofs.Lists.{both as joint}
+use Rattle.sharc_ctype.specs.{Expressions.wanted, Statements.declared}
 
 -- ---- of one note
 
@@ -20,7 +12,7 @@ IsFiledAs r file token what = is_filed what ≡ true → (e : Entry) × (look_up
 
 -- what a token is determined to be is said of it: what names nothing of the program is what the file knows
 abbrev pub IsSaid : Resolution → Scope → ℕ → Named → Type 0
-IsSaid r file token what = IsFiledAs r file.names token what × (what ≡ named.Known → KnowsCalls file)
+IsSaid r file token what = IsFiledAs r file.names token what × (what ≡ Named.Known → KnowsCalls file)
 
 abbrev pub IsSpelt : Resolution → Scope → Note → Type 0
 IsSpelt r file (fault place code) = Unit {0}
@@ -36,23 +28,23 @@ not_filed r file token what not_so is = absurd (false≢true (sym not_so ∙ is)
 
 -- a variable, a field or a struct of the program
 abbrev pub is_plain : Named → Bool
-is_plain (named.Global n) = false
-is_plain (named.Function n) = false
-is_plain named.Known = false
+is_plain (Named.Global n) = false
+is_plain (Named.Function n) = false
+is_plain Named.Known = false
 is_plain _ = true
 
 pub plainly : (r : Resolution) (file : Scope) (token : ℕ) (what : Named) → is_plain what ≡ true → IsSaid r file token what
-plainly r file token (named.Struct n) plain = ((λ filed. absurd (false≢true filed)), λ known. absurd (other known))
+plainly r file token (Named.Struct n) plain = ((λ filed. absurd (false≢true filed)), λ known. absurd (other known))
   where
-    other : named.Struct n ≡ named.Known → ⊥
+    other : Named.Struct n ≡ Named.Known → ⊥
     other h = cc
-plainly r file token (named.Variable x) plain = ((λ filed. absurd (false≢true filed)), λ known. absurd (other known))
+plainly r file token (Named.Variable x) plain = ((λ filed. absurd (false≢true filed)), λ known. absurd (other known))
   where
-    other : named.Variable x ≡ named.Known → ⊥
+    other : Named.Variable x ≡ Named.Known → ⊥
     other h = cc
-plainly r file token (named.Field f) plain = ((λ filed. absurd (false≢true filed)), λ known. absurd (other known))
+plainly r file token (Named.Field f) plain = ((λ filed. absurd (false≢true filed)), λ known. absurd (other known))
   where
-    other : named.Field f ≡ named.Known → ⊥
+    other : Named.Field f ≡ Named.Known → ⊥
     other h = cc
 plainly r file token _ plain = absurd (false≢true plain)
 
@@ -106,7 +98,7 @@ variable_not_filed : (m : Meaning) → is_variable m ≡ true → is_filed (name
 variable_not_filed (meaning.variable d) is filed = false≢true filed
 variable_not_filed _ is filed = false≢true is
 
-variable_not_known : (m : Meaning) → is_variable m ≡ true → named_of m ≡ named.Known → ⊥
+variable_not_known : (m : Meaning) → is_variable m ≡ true → named_of m ≡ Named.Known → ⊥
 variable_not_known (meaning.variable d) is known = cc
 variable_not_known _ is known = false≢true is
 
@@ -136,12 +128,12 @@ spawned_by r file word token (Some e) is = (is e refl, joint (IsSpelt r file) (m
 field_spelt : (r : Resolution) (file : Scope) (token : ℕ) (o : Option (Option Declaration)) → AreSpelt r file (field_notes token o)
 field_spelt r file token None = tt
 field_spelt r file token (Some None) = (tt, tt)
-field_spelt r file token (Some (Some d)) = (plainly r file token (named.Field d.name.site.token) refl, tt)
+field_spelt r file token (Some (Some d)) = (plainly r file token (Named.Field d.name.site.token) refl, tt)
 
 -- ---- in types
 
 first_by : (r : Resolution) (file : Scope) (names : List Entry) → IsOver file.names names → (token : ℕ) (text : List ℕ) → text_at r token ≡ text → (sibling : Option Declaration) → AreSpelt r file (first_notes token sibling (look_up names text))
-first_by r file names over token text is (Some d) = (plainly r file token (named.Field d.name.site.token) refl, tt)
+first_by r file names over token text is (Some d) = (plainly r file token (Named.Field d.name.site.token) refl, tt)
 first_by r file names over token text is None = name_spelt r file names over token text is
 
 second_spelt : (r : Resolution) (file : Scope) (token : ℕ) (o : Option (Option Declaration)) → AreSpelt r file (second_notes token o)
@@ -181,12 +173,12 @@ modes_spelt r file scope over siblings first bases (m ∷ (n ∷ below)) marks =
 
 struct_spelt : (r : Resolution) (file : Scope) (token : ℕ) (name : List ℕ) (o : Option StructMeaning) → struct_of file.structs name ≡ o → AreSpelt r file (struct_note token o)
 struct_spelt r file token name None at = (tt, tt)
-struct_spelt r file token name (Some (meaning.defined n fields)) at = (plainly r file token (named.Struct n) refl, tt)
+struct_spelt r file token name (Some (meaning.defined n fields)) at = (plainly r file token (Named.Struct n) refl, tt)
 struct_spelt r file token name (Some meaning.known) at = (((λ filed. absurd (false≢true filed)), λ known. inr (name, at)), tt)
 
 -- the structs in scope are those of the file
 base_spelt : (r : Resolution) (file scope : Scope) → scope.structs ≡ file.structs → (token : ℕ) (b : Base) → AreSpelt r file (base_notes scope.structs token b)
-base_spelt r file scope same token (base.Struct name) = struct_spelt r file token name (struct_of scope.structs name) (ap (λ (t : StructTable). struct_of t name) (sym same))
+base_spelt r file scope same token (Base.Struct name) = struct_spelt r file token name (struct_of scope.structs name) (ap (λ (t : StructTable). struct_of t name) (sym same))
 base_spelt r file scope same token _ = tt
 
 pub type_spelt : (r : Resolution) (file scope : Scope) → IsOver file.names scope.names → scope.structs ≡ file.structs → (siblings : List Declaration) (where_it_stands : Role) (w : WrittenType) → PlacedType r.program.tokens.list w → AreSpelt r file (type_notes scope siblings where_it_stands w)
@@ -220,8 +212,8 @@ mutual
   inside r file names over stands (cast s t a) placed =
       behind_faults r file _ _
       (behind_faults r file _ _
-      (joint (IsSpelt r file) (type_notes (with_names file names) [] role.Cast t) _ (type_spelt r file (with_names file names) over refl [] role.Cast t placed.1) (inside r file names over AsLvalue a placed.2)) (place_faults names a))
-      (cast_faults s.first.token (is_fine file.structs role.Cast t) t a (place_kind names a (type_of (with_names file names) a)))
+      (joint (IsSpelt r file) (type_notes (with_names file names) [] Role.Cast t) _ (type_spelt r file (with_names file names) over refl [] Role.Cast t placed.1) (inside r file names over AsLvalue a placed.2)) (place_faults names a))
+      (cast_faults s.first.token (is_fine file.structs Role.Cast t) t a (place_kind names a (type_of (with_names file names) a)))
   inside r file names over stands (index s a i) placed =
       behind_faults r file _ _
       (joint (IsSpelt r file) _ _ (behind_faults r file _ _ (inside r file names over AsValue a placed.1) (unmet_faults Indexed a (type_of (with_names file names) a))) (inside r file names over AsValue i placed.2)) (unmet_faults Integer i (type_of (with_names file names) i))

@@ -1,17 +1,7 @@
 -- The same of statements, and of the whole program.
-use Rattle.std.proofs.{Common.{◌≡◌, ⊎_elim, ℕ, ◌+◌, ◌<◌, ◌≤◌, ◌==◌, ◌||◌, not, nat_lt, Bool, true, false, cond, List, [], ◌∷◌, ◌++◌, length, get_or, Contains, Option, Some, None, IfSome, is_some, bytes_eq, codes, refl, ap, sym, subst, ◌∙◌, eqb-true}, lemmas.Bool.{false≢true, true≢false, cases_lt}, lemmas.Slice.Eq.bytes_eq-Decides}
-use Rattle.std.specs.List.{AllByRecursion}
-use Rattle.sharc_tree.specs.{declared.tree.declaration.Declaration.Declaration, Marks.items_marks, Placed.{PlacedDeclarations, Placed, PlacedRight, PlacedSimple, PlacedLocal, PlacedFirst, PlacedStatement, PlacedStatements, PlacedItem, PlacedItems, IsPlaced}, Tree.{Expression, Right, value, malloc, Simple, assign, does_call, Local, First, nothing, declares, does, Statement, Statements, no_statements, statement, Function, Item, structure, global, function}}
+use Rattle.sharc_suggest_laws.proofs.{Imports.{◌≡◌, ⊎_elim, ℕ, ◌+◌, ◌<◌, ◌≤◌, ◌==◌, ◌||◌, not, nat_lt, Bool, true, false, cond, List, [], ◌∷◌, ◌++◌, length, get_or, Contains, Option, Some, None, IfSome, is_some, bytes_eq, codes, refl, ap, sym, subst, ◌∙◌, eqb-true, false≢true, true≢false, cases_lt, bytes_eq-Decides, AllByRecursion, Declaration, items_marks, PlacedDeclarations, Placed, PlacedRight, PlacedSimple, PlacedLocal, PlacedFirst, PlacedStatement, PlacedStatements, PlacedItem, PlacedItems, IsPlaced, Expression, Right, value, malloc, Simple, assign, does_call, Local, First, nothing, declares, does, Statement, Statements, no_statements, statement, Function, Item, structure, global, function, DefinedTwice, LimitPassed, TypeMismatch, BadForm, Named, Scope, Kind, void, same_kind, declared_kind, met, Value, Integer, Entry, look_up, named_of, field_of, Note, is_free, fault, refers, yields, fault_unless, fault_where, referred, is_fine, type_notes, Role, type_of, place_kind, AsValue, AsLvalue, known_in, defines_condition, with_conditions, Heading, with_entry, global_entry, function_entry, item_head_notes, heads_notes, behind, behind_all, no_heads, fields_notes, parameters_notes, item_notes, items_notes, file_scope, notes_about, named_in, name_tokens, Resolution, IsResolved, named_at, Around, opened, looping, with_names, declared_notes, is_here, test_notes, count_notes, right_notes, simple_notes, is_made, is_aggregate, wanted_by, returned_as, initial_notes, local_notes, return_notes, first_notes, tests_notes, step_notes, notes_in, notes_in_all, locals_in_all, is_field, text_at, Tells, IsToldOnce, is_dull, back, joint}, Folded.{seen, named_seen, named_past, IsOwnAt}, Owned.told_or_not, Words.{name_there, name_apart, call_text}, Calls.{KnowsCalls, no_global, no_function, calls_known}, Mild.{IsSpelled, is_filed}, Noted.{Clean, left, right, behind_head, not_wrong, unless_faults, where_faults, unmet_faults, unagreed_faults, place_faults}, Reread.{length_faults, initial_faults, sizes_faults, beyond_faults}, Spelled.{IsFiledAs, IsSpelt, AreSpelt, not_filed, plainly, faults_spelt, text_is, IsOver, over_file, over_with, type_spelt, behind_faults, inside}}
 use Rattle.sharc_tree.specs.Tree as tree
-use Rattle.sharc_names.specs.{declared.fault.FaultCode.TheVariants.{DefinedTwice, LimitPassed, TypeMismatch, BadForm}, declared.fault.Named.Named, declared.scope.Scope.Scope, Kinds.{Kind, void, same_kind, declared_kind}, Needs.met, declared.need.Need.TheVariants.{Value, Integer}, Names.{Entry, look_up, named_of, field_of}, Notes.{Note, is_free, fault, refers, yields, fault_unless, fault_where, referred}, Types.{is_fine, type_notes}}
-use Rattle.sharc_names.specs.declared.fault.Named.TheVariants as named
-use Rattle.sharc_names.specs.declared.types.Role.TheVariants as role
-use Rattle.sharc_ctype.specs.{Expressions.{type_of, place_kind}, declared.expr.Standing.TheVariants.{AsValue, AsLvalue}, Condition.{known_in, defines_condition, with_conditions}, Heads.{Heading, with_entry, global_entry, function_entry, head_notes as item_head_notes, heads_notes, behind, behind_all, no_heads}, Items.{field_notes, fields_notes, parameters_notes, with_parameters, item_notes, items_notes, file_scope, notes_about, named_in}, Reaches.name_tokens, Resolved.{Resolution, IsResolved, named_at}, Statements.{Around, opened, looping, with_names, declared, declared_notes, is_here, test_notes, count_notes, right_notes, simple_notes, is_made, is_aggregate, wanted_by, returned_as, initial_notes, local_notes, return_notes, first_notes, behind_first, tests_notes, step_notes, after, notes_in, notes_in_all, locals_in_all}}
-use Rattle.sharc_mode.specs.Sharings.{is_field, text_at}
-use Rattle.sharc_ctype_laws.specs.Laws.{Tells, IsToldOnce}
-use Rattle.sharc_suggest_laws.specs.Names.{is_dull}
-use Rattle.sharc_suggest_laws.proofs.{Folded.{seen, named_seen, named_past, IsOwnAt}, Owned.told_or_not, Words.{name_there, name_apart, call_text}, Calls.{KnowsCalls, no_global, no_function, calls_known}, Mild.{IsSpelled, is_filed}, Noted.{Clean, left, right, behind_head, not_wrong, unless_faults, where_faults, unmet_faults, unagreed_faults, place_faults}, Reread.{length_faults, initial_faults, sizes_faults, beyond_faults}, Spelled.{IsFiledAs, IsSpelt, AreSpelt, not_filed, plainly, faults_spelt, text_is, IsOver, over_file, over_with, type_spelt, behind_faults, inside}}
-use Rattle.sharc_lemmas.proofs.Lists.{back, both as joint}
+use Rattle.sharc_ctype.specs.{Items.{field_notes, with_parameters}, Statements.{declared, behind_first, after}}
 
 in_test : (r : Resolution) (file : Scope) (names : List Entry) → IsOver file.names names → (e : Expression) → Placed r.program.tokens.list e → AreSpelt r file (test_notes (with_names file names) e)
 in_test r file names over e placed = behind_faults r file _ _ (inside r file names over AsValue e placed) (unmet_faults Value e (type_of (with_names file names) e))
@@ -23,7 +13,7 @@ in_count r file names over (Some e) placed = behind_faults r file _ _ (inside r 
 in_right : (r : Resolution) (file : Scope) (names : List Entry) → IsOver file.names names → (want : Option Kind) (x : Right) → PlacedRight r.program.tokens.list x → AreSpelt r file (right_notes (with_names file names) want x)
 in_right r file names over want (value e) placed = behind_faults r file _ _ (behind_faults r file _ _ (inside r file names over AsValue e placed) (unmet_faults Value e (type_of (with_names file names) e))) (unagreed_faults want e (met Value (type_of (with_names file names) e)))
 in_right r file names over want (malloc s n t) placed =
-    behind_faults r file _ _ (joint (IsSpelt r file) _ _ (in_count r file names over n placed.1) (type_spelt r file (with_names file names) over refl [] role.Made t placed.2)) (unless_faults (is_made want t || not (is_fine file.structs role.Made t)) s.first.token TypeMismatch)
+    behind_faults r file _ _ (joint (IsSpelt r file) _ _ (in_count r file names over n placed.1) (type_spelt r file (with_names file names) over refl [] Role.Made t placed.2)) (unless_faults (is_made want t || not (is_fine file.structs Role.Made t)) s.first.token TypeMismatch)
 
 in_simple : (r : Resolution) (file : Scope) (names : List Entry) → IsOver file.names names → (x : Simple) → PlacedSimple r.program.tokens.list x → AreSpelt r file (simple_notes (with_names file names) x)
 in_simple r file names over (assign s u x) placed =
@@ -32,16 +22,16 @@ in_simple r file names over (does_call e) placed = inside r file names over AsVa
 
 in_initial : (r : Resolution) (file : Scope) (names : List Entry) → IsOver file.names names → (d : Declaration) (x : Option Right) → IfSome x (PlacedRight r.program.tokens.list) → AreSpelt r file (initial_notes (with_names file names) d x)
 in_initial r file names over d None placed = tt
-in_initial r file names over d (Some x) placed = joint (IsSpelt r file) _ _ (faults_spelt r file _ (where_faults (is_aggregate (declared_kind d.written)) d.name.site.token BadForm)) (in_right r file names over (wanted_by (is_fine file.structs role.Local d.written) d.written) x placed)
+in_initial r file names over d (Some x) placed = joint (IsSpelt r file) _ _ (faults_spelt r file _ (where_faults (is_aggregate (declared_kind d.written)) d.name.site.token BadForm)) (in_right r file names over (wanted_by (is_fine file.structs Role.Local d.written) d.written) x placed)
 
 declared_spelt : (r : Resolution) (file : Scope) (from : ℕ) (d : Declaration) (names : List Entry) → AreSpelt r file (declared_notes from d names)
-declared_spelt r file from d names = (plainly r file d.name.site.token (named.Variable d.name.site.token) refl, faults_spelt r file _ (where_faults (is_here from names d) d.name.site.token DefinedTwice))
+declared_spelt r file from d names = (plainly r file d.name.site.token (Named.Variable d.name.site.token) refl, faults_spelt r file _ (where_faults (is_here from names d) d.name.site.token DefinedTwice))
 
 in_local : (r : Resolution) (file : Scope) (names : List Entry) → IsOver file.names names → (around : Around) (l : Local) → PlacedLocal r.program.tokens.list l → AreSpelt r file (local_notes around (with_names file names) l)
 in_local r file names over around l placed =
     let d : Declaration = l.declaration in
-    joint (IsSpelt r file) (type_notes (with_names file names) [] role.Local d.written ++ declared_notes around.block d names) _
-    (joint (IsSpelt r file) (type_notes (with_names file names) [] role.Local d.written) _ (type_spelt r file (with_names file names) over refl [] role.Local d.written placed.1.1) (declared_spelt r file around.block d names))
+    joint (IsSpelt r file) (type_notes (with_names file names) [] Role.Local d.written ++ declared_notes around.block d names) _
+    (joint (IsSpelt r file) (type_notes (with_names file names) [] Role.Local d.written) _ (type_spelt r file (with_names file names) over refl [] Role.Local d.written placed.1.1) (declared_spelt r file around.block d names))
     (in_initial r file (declared around.block d names) (over_with file.names names d around.block over) d l.initial placed.2)
 
 in_first : (r : Resolution) (file : Scope) (names : List Entry) → IsOver file.names names → (around : Around) (f : First) → PlacedFirst r.program.tokens.list f → AreSpelt r file (first_notes around (with_names file names) f)
@@ -102,8 +92,8 @@ in_fields : (r : Resolution) (file : Scope) (all earlier ds : List Declaration) 
 in_fields r file all earlier [] placed = tt
 in_fields r file all earlier (d ∷ rest) placed =
     joint (IsSpelt r file) (field_notes file all earlier d) _
-    (joint (IsSpelt r file) (type_notes file all role.Field d.written) _ (type_spelt r file file (over_file file.names) refl all role.Field d.written placed.0.1) (
-      plainly r file d.name.site.token (named.Field d.name.site.token) refl,
+    (joint (IsSpelt r file) (type_notes file all Role.Field d.written) _ (type_spelt r file file (over_file file.names) refl all Role.Field d.written placed.0.1) (
+      plainly r file d.name.site.token (Named.Field d.name.site.token) refl,
       joint (IsSpelt r file) (fault_where (is_some (field_of earlier d.name.text)) d.name.site.token DefinedTwice) (fault_unless (nat_lt (length earlier) 256) d.name.site.token LimitPassed)
           (faults_spelt r file _ (where_faults (is_some (field_of earlier d.name.text)) d.name.site.token DefinedTwice)) (faults_spelt r file _ (unless_faults (nat_lt (length earlier) 256) d.name.site.token LimitPassed)),
     ))
@@ -114,9 +104,9 @@ in_parameters : (r : Resolution) (file : Scope) (block before : ℕ) (s : Scope)
 in_parameters r file block before s over same [] placed = (tt, over)
 in_parameters r file block before s over same (d ∷ rest) placed =
     let more = in_parameters r file block (before + 1) (with_names s (declared block d s.names)) (over_with file.names s.names d block over) same rest placed.1 in (
-      joint (IsSpelt r file) (type_notes s [] role.Parameter d.written ++ declared_notes block d s.names ++ _) _
-          (behind_faults r file (type_notes s [] role.Parameter d.written ++ declared_notes block d s.names) _
-          (joint (IsSpelt r file) (type_notes s [] role.Parameter d.written) _ (type_spelt r file s over same [] role.Parameter d.written placed.0.1) (declared_spelt r file block d s.names))
+      joint (IsSpelt r file) (type_notes s [] Role.Parameter d.written ++ declared_notes block d s.names ++ _) _
+          (behind_faults r file (type_notes s [] Role.Parameter d.written ++ declared_notes block d s.names) _
+          (joint (IsSpelt r file) (type_notes s [] Role.Parameter d.written) _ (type_spelt r file s over same [] Role.Parameter d.written placed.0.1) (declared_spelt r file block d s.names))
           (unless_faults _ d.name.site.token LimitPassed))
           more.0,
       more.1,
@@ -126,12 +116,12 @@ in_item : (r : Resolution) (file : Scope) (i : Item) → PlacedItem r.program.to
 in_item r file (structure s) placed = in_fields r file s.fields [] s.fields placed.2
 in_item r file (global g) placed =
     behind_faults r file _ _
-    (behind_faults r file (type_notes file [] role.Global g.declaration.written) _ (type_spelt r file file (over_file file.names) refl [] role.Global g.declaration.written placed.1.1) (length_faults g.form)) (initial_faults g g.form)
+    (behind_faults r file (type_notes file [] Role.Global g.declaration.written) _ (type_spelt r file file (over_file file.names) refl [] Role.Global g.declaration.written placed.1.1) (length_faults g.form)) (initial_faults g g.form)
 in_item r file (function f) placed =
     let heads = in_parameters r file (length file.names) 0 file (over_file file.names) refl f.parameters placed.3 in
     behind_faults r file _ _
     (joint (IsSpelt r file) _ _
-    (joint (IsSpelt r file) (type_notes file [] role.Result f.result) _ (type_spelt r file file (over_file file.names) refl [] role.Result f.result placed.1) heads.0)
+    (joint (IsSpelt r file) (type_notes file [] Role.Result f.result) _ (type_spelt r file file (over_file file.names) refl [] Role.Result f.result placed.1) heads.0)
     (in_statements r file (with_parameters (length file.names) file.names f.parameters) heads.1 (record { result = declared_kind f.result; in_loop = false; block = length file.names }) f.statements placed.5))
     (beyond_faults 200 (locals_in_all f.statements))
 
@@ -205,7 +195,7 @@ heads_spelt r file h (i ∷ rest) placed known clean =
     limits a b token = joint (IsSpelt r file) _ _ (faults_spelt r file _ (where_faults a token DefinedTwice)) (faults_spelt r file _ (unless_faults b token LimitPassed))
 
     by : (i : Item) → PlacedItem r.program.tokens.list i → ((text : List ℕ) (e : Entry) → look_up (behind_all (behind h i) rest).scope.names text ≡ Some e → look_up file.names text ≡ Some e) → Clean (item_head_notes h i) → AreSpelt r file (item_head_notes h i)
-    by (structure s) at in_file clean_head = (plainly r file s.name.site.token (named.Struct h.structs) refl, limits _ _ s.name.site.token)
+    by (structure s) at in_file clean_head = (plainly r file s.name.site.token (Named.Struct h.structs) refl, limits _ _ s.name.site.token)
     by (global g) at in_file clean_head =
         let x : Entry = global_entry h.globals g in
         let token : ℕ = g.declaration.name.site.token in
@@ -236,8 +226,8 @@ chosen r file t true w y first later = first refl
 chosen r file t false w y first later = later
 
 field_not_filed : (r : Resolution) (file : List Entry) (t : ℕ) (w : Named) → is_field w ≡ true → IsFiledAs r file t w
-field_not_filed r file t (named.Global n) f = absurd (false≢true f)
-field_not_filed r file t (named.Function n) f = absurd (false≢true f)
+field_not_filed r file t (Named.Global n) f = absurd (false≢true f)
+field_not_filed r file t (Named.Function n) f = absurd (false≢true f)
 field_not_filed r file t k f = not_filed r file t k refl
 
 pub seen_spelt : (r : Resolution) (file : Scope) (t : ℕ) (l : List Note) (x : Named) → AreSpelt r file l → IsFiledAs r file.names t x → IsFiledAs r file.names t (seen t l x)
@@ -250,28 +240,28 @@ seen_spelt r file t (yields n w ∷ rest) x all is =
     (chosen r file.names t (n == t) (cond (is_free x) w x) x (λ same. chosen r file.names t (is_free x) w x (λ free. field_not_filed r file.names t w all.0) is) is)
 
 -- what a note says that names what the program does not define
-known_by : (r : Resolution) (file : Scope) (t : ℕ) (n : Note) → IsSpelt r file n → Tells n t named.Known → KnowsCalls file
+known_by : (r : Resolution) (file : Scope) (t : ℕ) (n : Note) → IsSpelt r file n → Tells n t Named.Known → KnowsCalls file
 known_by r file t (fault place code) said tells = absurd tells
 known_by r file t (refers k w) said tells = said.1 tells.1
 known_by r file t (yields k w) said tells = absurd (false≢true (ap is_field (sym tells.1) ∙ said))
 
-pub known_said : (r : Resolution) (file : Scope) (t : ℕ) → AreSpelt r file (notes_about r.program) → IsToldOnce r t → named_at r t ≡ named.Known → KnowsCalls file
+pub known_said : (r : Resolution) (file : Scope) (t : ℕ) → AreSpelt r file (notes_about r.program) → IsToldOnce r t → named_at r t ≡ Named.Known → KnowsCalls file
 known_said r file t all told known =
     let said : IsSpelt r file told.note = (back (IsSpelt r file) told.before (told.note ∷ told.after) (subst (AreSpelt r file) told.notes all)).0 in
     known_by r file t told.note said (subst (Tells told.note t) (sym told.named ∙ known) told.tells)
 
 -- a token of which nothing is said names nothing
-none_told : (t : ℕ) (l : List Note) → AllByRecursion (IsOwnAt t named.Known) l → seen t l named.Known ≡ named.Known
+none_told : (t : ℕ) (l : List Note) → AllByRecursion (IsOwnAt t Named.Known) l → seen t l Named.Known ≡ Named.Known
 none_told t [] own = refl
 none_told t (fault place code ∷ rest) own = none_told t rest own.1
 none_told t (refers n w ∷ rest) own = ap (seen t rest) (by (n == t) (λ at. own.0 (eqb-true n t at))) ∙ none_told t rest own.1
   where
-    by : (b : Bool) → (b ≡ true → w ≡ named.Known) → cond b w named.Known ≡ named.Known
+    by : (b : Bool) → (b ≡ true → w ≡ Named.Known) → cond b w Named.Known ≡ Named.Known
     by true is = is refl
     by false is = refl
 none_told t (yields n w ∷ rest) own = ap (seen t rest) (by (n == t) (λ at. own.0 (eqb-true n t at))) ∙ none_told t rest own.1
   where
-    by : (b : Bool) → (b ≡ true → w ≡ named.Known) → cond b (cond (is_free named.Known) w named.Known) named.Known ≡ named.Known
+    by : (b : Bool) → (b ≡ true → w ≡ Named.Known) → cond b (cond (is_free Named.Known) w Named.Known) Named.Known ≡ Named.Known
     by true is = is refl
     by false is = refl
 
@@ -281,7 +271,7 @@ spelled r resolved placed clean only once = record {
   filed = λ token filed e found. ⊎_elim (of_a_token token filed e found) (outside token filed e) (cases_lt token (length r.program.tokens.list));
   called = λ token known call e found.
       calls_known r.program.items (known_said r file token all (once token (name_there r token placed.marked call)) known) (text_at r token) (call_text r token call) e found;
-  apart = λ token dull. ⊎_elim (λ c. name_apart r token placed.marked (only token c)) (λ own. absurd (false≢true (sym dull ∙ ap is_dull (untold token own)))) (told_or_not token named.Known (notes_about r.program));
+  apart = λ token dull. ⊎_elim (λ c. name_apart r token placed.marked (only token c)) (λ own. absurd (false≢true (sym dull ∙ ap is_dull (untold token own)))) (told_or_not token Named.Known (notes_about r.program));
 }
   where
     file : Scope
@@ -290,10 +280,10 @@ spelled r resolved placed clean only once = record {
     all : AreSpelt r file (notes_about r.program)
     all = in_program r placed clean
 
-    old : (token : ℕ) → named_at r token ≡ get_or (named_in r.program) token named.Known
-    old token = ap (λ (l : List Named). get_or l token named.Known) resolved.named
+    old : (token : ℕ) → named_at r token ≡ get_or (named_in r.program) token Named.Known
+    old token = ap (λ (l : List Named). get_or l token Named.Known) resolved.named
 
-    untold : (token : ℕ) → AllByRecursion (IsOwnAt token named.Known) (notes_about r.program) → named_at r token ≡ named.Known
+    untold : (token : ℕ) → AllByRecursion (IsOwnAt token Named.Known) (notes_about r.program) → named_at r token ≡ Named.Known
     untold token own =
         ⊎_elim (λ low. old token ∙ named_seen r.program token low ∙ none_told token (notes_about r.program) own) (λ past. old token ∙ named_past r.program token past) (cases_lt token (length r.program.tokens.list))
 
@@ -302,9 +292,9 @@ spelled r resolved placed clean only once = record {
 
     of_a_token : (token : ℕ) → is_filed (named_at r token) ≡ true → (e : Entry) → look_up file.names (text_at r token) ≡ Some e → token < length r.program.tokens.list → named_of e.meaning ≡ named_at r token
     of_a_token token filed e found low =
-        let so : IsFiledAs r file.names token (seen token (notes_about r.program) named.Known) =
-        seen_spelt r file token (notes_about r.program) named.Known all (not_filed r file.names token named.Known refl) in
-        let is : named_at r token ≡ seen token (notes_about r.program) named.Known = old token ∙ named_seen r.program token low in
+        let so : IsFiledAs r file.names token (seen token (notes_about r.program) Named.Known) =
+        seen_spelt r file token (notes_about r.program) Named.Known all (not_filed r file.names token Named.Known refl) in
+        let is : named_at r token ≡ seen token (notes_about r.program) Named.Known = old token ∙ named_seen r.program token low in
         let there = so (ap is_filed (sym is) ∙ filed) in
         ap (λ (x : Entry). named_of x.meaning) (one_some e there.0 (sym found ∙ there.1)) ∙ there.2 ∙ sym is
 

@@ -1,15 +1,8 @@
 -- What an expression that comes before the cast points to, and its type.
-use Rattle.std.proofs.{Common.{◌≡◌, ℕ, ◌+◌, ◌<◌, ◌≤◌, false, cond, ◌++◌, Option, Some, None, refl, ap, ap₂, sym, subst, ◌∙◌, arith}, lemmas.Bool.true≢false}
-use Rattle.std.specs.List.{AllByRecursion}
-use Rattle.sharc_tree.specs.{declared.token.Span.Span, declared.tree.declaration.Declaration.Declaration, Measures.expressions, Placed.Placed, Spans.span_of, Tree.{Expression, identifier, constant, parentheses, call, cast, index, field, unary, binary}}
-use Rattle.sharc_names.specs.{declared.fault.Named.Named, declared.need.Need.Need, declared.need.Need.TheVariants.{Integer, Indexed}, declared.scope.Scope.Scope, Kinds.{Kind, is_array, element_kind}, Names.{Entry, Meaning, look_up, named_of}, Needs.{met, unmet}, Types.{name_notes, field_in, field_kind, field_notes}}
+use Rattle.sharc_suggest_laws.proofs.{Imports.{◌≡◌, ℕ, ◌+◌, ◌<◌, ◌≤◌, false, cond, ◌++◌, Option, Some, None, refl, ap, ap₂, sym, subst, ◌∙◌, arith, true≢false, AllByRecursion, Span, Declaration, expressions, Placed, span_of, Expression, identifier, constant, parentheses, call, cast, index, field, unary, binary, Named, Need, Integer, Indexed, Scope, Kind, is_array, element_kind, Entry, Meaning, look_up, named_of, met, unmet, name_notes, field_in, field_kind, field_notes, with_cast, recast_of, is_dull, OperatorClass, Shift, Standing, AsValue, element_of, access_need, operand_need, unary_result, unary_kind, class_of, operands_need, binary_result, binary_kind, binary_notes, type_of, notes_at, named_at, named_kind, kind_at, Cast, Assignment, written, named_row, reading_through, base_use, row_at, none_some, front, back}, Lefts.{IsTypedIn, is_function, typed_itself}, RowsStay.{Frame, now, many, first_at, IsRowMoved, AreRowsMoved, other_moved, named_kind_same, named_moved, call_moved, call_kind_same, base_same, element_moved, no_rows, unary_moved, constant_moved, element_held, operand_held}, Strong.{IsStrong, AreStrong}}
 use Rattle.sharc_names.specs.Kinds as kinds
 use Rattle.sharc_names.specs.Names as meaning
-use Rattle.sharc_suggest_laws.specs.{Recast.with_cast, Applied.recast_of, Names.is_dull}
-use Rattle.sharc_ctype.specs.{declared.expr.OperatorClass.OperatorClass, declared.expr.OperatorClass.TheVariants.Shift, declared.expr.Standing.Standing, declared.expr.Standing.TheVariants.AsValue, Expressions.{element_of, access_need, operand_need, unary_result, unary_kind, class_of, operands_need, binary_result, binary_kind, binary_notes, type_of, notes_at}, Resolved.{named_at, named_kind, kind_at}}
-use Rattle.sharc_mode.specs.{declared.error.Cast.Cast, Moded.Assignment, Rows.{written, named_row, behind, reading_through, base_use, row_at}}
-use Rattle.sharc_suggest_laws.proofs.{Lefts.{IsTypedIn, is_function, typed_itself}, RowsStay.{Frame, now, many, first_at, IsRowMoved, AreRowsMoved, other_moved, named_kind_same, named_moved, call_moved, call_kind_same, base_same, element_moved, no_rows, unary_moved, constant_moved, element_held, operand_held}, Strong.{IsStrong, AreStrong}}
-use Rattle.sharc_lemmas.proofs.{Options.none_some, Lists.{front, back}}
+use Rattle.sharc_mode.specs.Rows.{behind}
 
 -- the same row, moved, and the same type
 pub record IsSpine (m : Assignment) (c : Cast) (frame : Frame m c) (e : Expression) : Type 0 where

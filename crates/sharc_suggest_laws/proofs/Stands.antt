@@ -1,11 +1,5 @@
 -- Where a cast that is suggested lies among what has a type.
-use Rattle.std.proofs.{Common.{◌≡◌, ℕ, ◌+◌, ◌≤◌, ◌==◌, ◌&&◌, Bool, true, List, length, Some, refl, ap, ◌∙◌, eq-eqb, arith}, lemmas.Bool.and_from}
-use Rattle.std.specs.List.{find}
-use Rattle.sharc_tree.specs.Placed.{IsPlaced}
-use Rattle.sharc_suggest_laws.specs.{Recast.type_at, Applied.{recast_of, program_with, resolution_with, first_of, first_new}, Expected.SuggestedStands, Once.IsAddedOnce}
-use Rattle.sharc_ctype.specs.{declared.entity.Entity.Entity, declared.entity.Numbered.Numbered, Entities.{cast_entity, entities_in, entity_at, is_told_by, numbered_from, positions_in}}
-use Rattle.sharc_mode.specs.{declared.error.Cast.Cast, Moded.{Assignment, IsWhole}}
-use Rattle.sharc_suggest_laws.proofs.{Added.suggested_is_added_once, Found.{found_itself, none_told}, Positions.new_within}
+use Rattle.sharc_suggest_laws.proofs.{Imports.{◌≡◌, ℕ, ◌+◌, ◌≤◌, ◌==◌, ◌&&◌, Bool, true, List, length, Some, refl, ap, ◌∙◌, eq-eqb, arith, and_from, find, IsPlaced, type_at, recast_of, program_with, resolution_with, first_of, first_new, SuggestedStands, IsAddedOnce, Entity, Numbered, cast_entity, entities_in, entity_at, is_told_by, numbered_from, positions_in, Cast, Assignment, IsWhole}, Added.suggested_is_added_once, Found.{found_itself, none_told}, Positions.new_within}
 
 -- what has a type before, and now
 abbrev pub IsAdded : Assignment → Cast → Type 0

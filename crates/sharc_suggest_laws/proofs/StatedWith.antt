@@ -1,17 +1,8 @@
 -- Statements with a cast written in them have no fault where they had none.
-use Rattle.std.proofs.Common.{◌≡◌, ℕ, List, ◌∷◌, ◌++◌, Option, Some, None, option_map, ap, sym, subst}
-use Rattle.std.specs.List.{AllByRecursion}
-use Rattle.sharc_tree.specs.{declared.tree.declaration.Declaration.Declaration, Measures.{expressions, in_option, in_right, in_simple}, Tree.{Expression, Right, value, malloc, Simple, assign, does_call, Local, First, nothing, declares, does, Head, Statement, Statements, no_statements, statement}}
+use Rattle.sharc_suggest_laws.proofs.{Imports.{◌≡◌, ℕ, List, ◌∷◌, ◌++◌, Option, Some, None, option_map, ap, sym, subst, AllByRecursion, Declaration, expressions, in_option, in_right, in_simple, Expression, Right, value, malloc, Simple, assign, does_call, Local, First, nothing, declares, does, Head, Statement, Statements, no_statements, statement, Value, Integer, Scope, Kind, Entry, met, is_fine, Role, AsValue, AsLvalue, type_of, place_kind, Around, opened, looping, with_names, test_notes, count_notes, right_notes, simple_notes, initial_notes, local_notes, returned_as, return_notes, first_notes, tests_notes, step_notes, head_notes, notes_in, notes_in_all, wanted_by, around, with_cast, right_with_cast, simple_with_cast, local_with_cast, first_with_cast, head_with_cast, statement_with_cast, statements_with_cast, Placing, at, places_in_local, places_in_first, places_in, places_in_all, entry_of, Receiver, of_declared, of_left, givings, option_givings, value_givings, right_givings, simple_givings, local_givings, first_givings, head_givings, givings_in, givings_in_all, front, back}, Lefts.{IsTypedIn, unplaced}, Noted.{Clean, left, right, none, joined}, Restated.{first_names, first_scoped, after_names, after_scoped}, Retyped.Setting, Scoped.{Scoped, scoped_with}, TypedWith.{IsReady, AreReady, AreTypedIn, IsWell, part, unmet_clean, unagreed_clean, place_clean, place_kind_same, inside, value_in}}
 use Rattle.sharc_tree.specs.Tree as tree
-use Rattle.sharc_names.specs.{declared.need.Need.TheVariants.{Value, Integer}, declared.scope.Scope.Scope, Kinds.Kind, Names.Entry, Needs.met, Types.is_fine}
-use Rattle.sharc_names.specs.declared.types.Role.TheVariants as role
-use Rattle.sharc_ctype.specs.{declared.expr.Standing.TheVariants.{AsValue, AsLvalue}, Expressions.{type_of, place_kind}, Statements.{Around, opened, looping, with_names, declared, test_notes, count_notes, right_notes, simple_notes, initial_notes, local_notes, returned_as, return_notes, first_notes, behind_first, tests_notes, step_notes, head_notes, after, notes_in, notes_in_all, wanted_by}}
-use Rattle.sharc_suggest_laws.specs.Recast.{around, with_cast, right_with_cast, simple_with_cast, local_with_cast, first_with_cast, head_with_cast, statement_with_cast, statements_with_cast}
-use Rattle.sharc_ctype_laws.specs.Places.{Placing, at, places_in_local, places_in_first, places_in, places_in_all}
+use Rattle.sharc_ctype.specs.Statements.{declared, behind_first, after}
 use Rattle.sharc_suggest.specs.Givings as scopes
-use Rattle.sharc_suggest.specs.{Repairs.entry_of, Givings.{Receiver, of_declared, of_left, givings, option_givings, value_givings, right_givings, simple_givings, local_givings, first_givings, head_givings, givings_in, givings_in_all}}
-use Rattle.sharc_suggest_laws.proofs.{Lefts.{IsTypedIn, unplaced}, Noted.{Clean, left, right, none, joined}, Restated.{first_names, first_scoped, after_names, after_scoped}, Retyped.Setting, Scoped.{Scoped, scoped_with}, TypedWith.{IsReady, AreReady, AreTypedIn, IsWell, part, unmet_clean, unagreed_clean, place_clean, place_kind_same, inside, value_in}}
-use Rattle.sharc_lemmas.proofs.Lists.{front, back}
 
 -- each expression has in its scope the type that its names tell
 abbrev pub IsPlacedTyped : Setting → Placing → Type 0
@@ -64,7 +55,7 @@ in_initial : (w : Setting) (names scope : List Entry) → Scoped w.file.names na
     → Clean (initial_notes (with_names w.file names) d x) → Clean (initial_notes (with_names w.file names) d (option_map (right_with_cast w.recast) x))
 in_initial w names scope scoped d r None ready typed clean = none
 in_initial w names scope scoped d r (Some x) ready typed clean =
-    joined _ _ (left _ _ clean) (in_right_side w names scope scoped r x ready typed (wanted_by (is_fine w.file.structs role.Local d.written) d.written) (right _ _ clean))
+    joined _ _ (left _ _ clean) (in_right_side w names scope scoped r x ready typed (wanted_by (is_fine w.file.structs Role.Local d.written) d.written) (right _ _ clean))
 
 in_local : (w : Setting) (names scope : List Entry) → Scoped w.file.names names scope → (surroundings : Around) (l : Local) → AreReady w (local_givings scope l) → AreTyped w (places_in_local surroundings (with_names w.file names) l)
     → Clean (local_notes surroundings (with_names w.file names) l) → Clean (local_notes surroundings (with_names w.file names) (local_with_cast w.recast l))

@@ -1,14 +1,5 @@
 -- Each token names what it named, where the program with a suggested cast is typed.
-use Rattle.sharc_tree.specs.{Low.IsLow, declared.token.Span.Span, declared.tree.declaration.WrittenType.WrittenType, Measures.expressions, Placed.IsPlaced, Spans.span_of, Tree.Expression}
-use Rattle.sharc_suggest.specs.{Casts.IsSuggested, Repairs.{differ_first, may_be_cast, keeps_all}, Givings.{Giving, items_givings}}
-use Rattle.sharc_mode.specs.{declared.error.ModeError.ModeError, declared.error.Cast.Cast, Moded.Assignment}
-use Rattle.std.proofs.{Common.{Some, ◌≡◌, ℕ, ◌+◌, ◌≤◌, ◌==◌, ◌&&◌, Bool, true, List, [], ◌∷◌, length, refl, ap, sym, subst, ◌∙◌, eq-eqb, arith}, lemmas.Bool.{and_parts, and_from}}
-use Rattle.std.specs.List.{AllByRecursion}
-use Rattle.sharc_suggest_laws.specs.{declared.written.Recast.Recast, Recast.{type_at, is_there, program_with_cast}, Applied.{recast_of, base_site, program_with}, Names.NamesStayWhereTyped, Values.{count_of, met_by, met_in_items}}
-use Rattle.sharc_ctype.specs.{declared.entity.Entity.Entity, Entities.{entities_in, numbered}, Items.{file_scope, notes_about, IsTyped}, Resolved.{Resolution, IsResolved}}
-use Rattle.sharc_ctype_laws.specs.{Laws.{EachNameOnce, OnlyNames, NamesInTypes}, WrittenTypes.IsNamedType}
-use Rattle.sharc_suggest_laws.proofs.{Added.at_tokens, Bases.{Have, HaveCasts, of_items, in_all, IsGiven}, Counted.{counted, counted_append, in_items as items_counted}, Few.{at_most_one, begins_once}, Folded.keeps, Mild.{IsSpelled, NamesBase, type_mild}, Noted.{Clean, clean_from, Noted}, Owned.all_own, Renamed.{HasBase, each_has, base_named, given_based}, Reread.{setting_of, in_program}, Retyped.{Setting, IsMild, AreMild}, Site.{IsFor, HasSite, has_site}, SpelledAll.spelled}
-use Rattle.sharc_lemmas.proofs.Lists.{back, both as joint}
+use Rattle.sharc_suggest_laws.proofs.{Imports.{IsLow, Span, WrittenType, expressions, IsPlaced, span_of, Expression, IsSuggested, differ_first, may_be_cast, keeps_all, Giving, items_givings, ModeError, Cast, Assignment, Some, ◌≡◌, ℕ, ◌+◌, ◌≤◌, ◌==◌, ◌&&◌, Bool, true, List, [], ◌∷◌, length, refl, ap, sym, subst, ◌∙◌, eq-eqb, arith, and_parts, and_from, AllByRecursion, Recast, type_at, is_there, program_with_cast, recast_of, base_site, program_with, NamesStayWhereTyped, count_of, met_by, met_in_items, Entity, entities_in, numbered, file_scope, notes_about, IsTyped, Resolution, IsResolved, EachNameOnce, OnlyNames, NamesInTypes, IsNamedType, back, joint}, Added.at_tokens, Bases.{Have, HaveCasts, of_items, in_all, IsGiven}, Counted.{counted, counted_append, in_items as items_counted}, Few.{at_most_one, begins_once}, Folded.keeps, Mild.{IsSpelled, NamesBase, type_mild}, Noted.{Clean, clean_from, Noted}, Owned.all_own, Renamed.{HasBase, each_has, base_named, given_based}, Reread.{setting_of, in_program}, Retyped.{Setting, IsMild, AreMild}, Site.{IsFor, HasSite, has_site}, SpelledAll.spelled}
 
 -- ---- the cast is at one giving alone
 

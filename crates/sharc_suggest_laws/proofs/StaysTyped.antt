@@ -1,14 +1,6 @@
 -- The program with a suggested cast is typed, where the cast's lock paths name what is there and what is given is a
 -- pointer with a star for each mode.
-use Rattle.std.proofs.Common.{◌≡◌, ℕ, Bool, List, ◌∷◌, sym, subst}
-use Rattle.sharc_tree.specs.{Low.IsLow, Placed.IsPlaced}
-use Rattle.sharc_suggest_laws.specs.{declared.written.Recast.Recast, Recast.{is_there, program_with_cast}, Applied.{recast_of, program_with}}
-use Rattle.sharc_ctype.specs.{Items.{IsTyped, notes_about}, Resolved.{Resolution, IsResolved}}
-use Rattle.sharc_mode.specs.{declared.error.Cast.Cast, Moded.Assignment}
-use Rattle.sharc_ctype_laws.specs.Laws.{SameKinds}
-use Rattle.sharc_suggest.specs.Givings.{Giving, items_givings}
-use Rattle.sharc_suggest_laws.proofs.{Counted.counted, Noted.{Clean, clean_from, faultless}, ReadWith.in_program, ReadySite.{PathsRead, IsPointed, site_ready}, Reread.setting_of, Retyped.Setting, Site.IsFor, Stay.{IsAlone, alone, none_there}, TypedWith.{IsReady, AreReady}}
-use Rattle.sharc_lemmas.proofs.Lists.{both as joint}
+use Rattle.sharc_suggest_laws.proofs.{Imports.{◌≡◌, ℕ, Bool, List, ◌∷◌, sym, subst, IsLow, IsPlaced, Recast, is_there, program_with_cast, recast_of, program_with, IsTyped, notes_about, Resolution, IsResolved, Cast, Assignment, SameKinds, Giving, items_givings, joint}, Counted.counted, Noted.{Clean, clean_from, faultless}, ReadWith.in_program, ReadySite.{PathsRead, IsPointed, site_ready}, Reread.setting_of, Retyped.Setting, Site.IsFor, Stay.{IsAlone, alone, none_there}, TypedWith.{IsReady, AreReady}}
 
 -- the cast is written at its own giving alone
 all_ready : (m : Assignment) (c : Cast) (named : ℕ → Bool) → IsPlaced m.typed.program → (site : IsFor m named c (items_givings m.typed.program.items)) → IsReady (setting_of m.typed (recast_of m.typed c)) site.giving

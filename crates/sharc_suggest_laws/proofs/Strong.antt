@@ -1,12 +1,5 @@
 -- A token that is determined to be a field by its own name still names that field.
-use Rattle.std.proofs.{Common.{◌≡◌, ◌⊎◌, inl, inr, ℕ, ◌<◌, ◌≤◌, ◌==◌, Bool, true, false, cond, List, [], ◌∷◌, length, get_or, refl, ap, sym, ◌∙◌, eqb-true, eq-eqb, arith}, lemmas.Bool.{false≢true, cases_lt}}
-use Rattle.std.specs.List.{AllByRecursion}
-use Rattle.sharc_names.specs.{declared.fault.Named.Named, Notes.{Note, fault, refers, yields, is_free}}
-use Rattle.sharc_names.specs.declared.fault.Named.TheVariants as named
-use Rattle.sharc_ctype.specs.{Items.{notes_about, named_in}, Resolved.{Resolution, IsResolved, named_at}}
-use Rattle.sharc_mode.specs.Sharings.{is_field}
-use Rattle.sharc_suggest_laws.specs.Names.{is_dull, KeepsName}
-use Rattle.sharc_suggest_laws.proofs.{Folded.{seen, named_seen, named_past, IsOwnAt, field_taken}, Noted.{Clean, no_fault, behind_head, behind_yields, IsHarmless, Noted, done, kept, added, old_fault, new_fault}}
+use Rattle.sharc_suggest_laws.proofs.{Imports.{◌≡◌, ◌⊎◌, inl, inr, ℕ, ◌<◌, ◌≤◌, ◌==◌, Bool, true, false, cond, List, [], ◌∷◌, length, get_or, refl, ap, sym, ◌∙◌, eqb-true, eq-eqb, arith, false≢true, cases_lt, AllByRecursion, Named, Note, fault, refers, yields, is_free, notes_about, named_in, Resolution, IsResolved, named_at, is_field, is_dull, KeepsName}, Folded.{seen, named_seen, named_past, IsOwnAt, field_taken}, Noted.{Clean, no_fault, behind_head, behind_yields, IsHarmless, Noted, done, kept, added, old_fault, new_fault}}
 
 -- after its own name a field stays
 chosen : (b : Bool) (w y v : Named) → (b ≡ true → w ≡ v) → y ≡ v → cond b w y ≡ v
@@ -98,9 +91,9 @@ strong_by r now resolved names many keeping (refers t v ∷ rest) clean own fiel
     still : (t : ℕ) (v : Named) → v ≡ named_at r t → is_field v ≡ true → (t < length r.program.tokens.list) ⊎ (length r.program.tokens.list ≤ t) → ((y : Named) → seen t (notes_about now.program) y ≡ v) → named_at now t ≡ v
     still t v same is (inl low) told =
         let there : t < length now.program.tokens.list = omega (arith, low, many) in
-        ap (λ (l : List Named). get_or l t named.Known) names ∙ named_seen now.program t there ∙ told named.Known
+        ap (λ (l : List Named). get_or l t Named.Known) names ∙ named_seen now.program t there ∙ told Named.Known
     still t v same is (inr past) told =
-        let known : named_at r t ≡ named.Known = ap (λ (l : List Named). get_or l t named.Known) resolved.named ∙ named_past r.program t past in
+        let known : named_at r t ≡ Named.Known = ap (λ (l : List Named). get_or l t Named.Known) resolved.named ∙ named_past r.program t past in
         absurd (false≢true (sym (ap is_field (same ∙ known)) ∙ is))
 strong_by r now resolved names many keeping (yields t v ∷ rest) clean own fields =
     (tt, strong_by r now resolved names many keeping rest (behind_yields t v rest clean) (λ k. (own k).1) fields.1)

@@ -1,18 +1,9 @@
 -- The targets of an expression of a typed program: as many as its type has stars, positions of one type that is written
 -- in the program, whose lock paths are read by a use of it.
-use Rattle.std.proofs.{Common.{◌≡◌, ◌⊎◌, inl, inr, ⊎_elim, ℕ, zero, suc, ◌+◌, ◌-◌, ◌≤◌, ◌==◌, Bool, true, false, cond, List, [], ◌∷◌, ◌++◌, length, find, Contains, Option, Some, None, refl, ap, sym, subst, ◌∙◌, arith, eqb-true}, lemmas.Bool.false≢true, lemmas.List.length-drop}
-use Rattle.sharc_tree.specs.{declared.ctype.Base.Base, declared.token.NumberType.NumberType, declared.token.Span.Span, declared.tree.declaration.Declaration.Declaration, declared.tree.declaration.Identifier.Identifier, declared.tree.declaration.WrittenType.WrittenType, declared.tree.expression.FieldOperator.FieldOperator, declared.tree.expression.FieldOperator.TheVariants.{Dot, Arrow}, declared.tree.expression.Constant.Constant, declared.tree.expression.Constant.TheVariants.{Number, Character, Null}, declared.tree.expression.UnaryOperator.TheVariants.{Negate, Complement, Dereference}, declared.tree.item.GlobalDefinition.GlobalDefinition, declared.tree.item.GlobalForm.GlobalForm, declared.tree.item.GlobalForm.TheVariants.Array, declared.tree.item.StructDefinition.StructDefinition, Measures.expressions, Tree.{Expression, identifier, constant, parentheses, call, cast, index, field, unary, binary, Function}}
-use Rattle.sharc_tree.specs.declared.ctype.Base.TheVariants as base
-use Rattle.sharc_tree.specs.declared.token.NumberType.TheVariants as width
-use Rattle.sharc_names.specs.{declared.fault.Named.Named, declared.types.Role.Role, Kinds.{Kind, object, array, null, is_array, is_long, declared_kind, element_kind, stars_of, int, long}, Names.{field_of, global_kind}}
-use Rattle.sharc_names.specs.declared.fault.Named.TheVariants as named
-use Rattle.sharc_names.specs.declared.types.Role.TheVariants as role
+use Rattle.sharc_suggest_laws.proofs.{Imports.{◌≡◌, ◌⊎◌, inl, inr, ⊎_elim, ℕ, zero, suc, ◌+◌, ◌-◌, ◌≤◌, ◌==◌, Bool, true, false, cond, List, [], ◌∷◌, ◌++◌, length, Contains, Option, Some, None, refl, ap, sym, subst, ◌∙◌, arith, eqb-true, false≢true, length-drop, Base, NumberType, Span, Declaration, Identifier, WrittenType, FieldOperator, Dot, Arrow, Constant, Number, Character, Null, Negate, Complement, Dereference, GlobalDefinition, GlobalForm, Array, StructDefinition, expressions, Expression, identifier, constant, parentheses, call, cast, index, field, unary, binary, Function, Named, Role, Kind, object, array, null, is_array, is_long, declared_kind, element_kind, stars_of, int, long, field_of, global_kind, Entity, Numbered, OperatorClass, Shift, Arithmetic, declared, cast_entity, entities_in, entity_at, first_depth, is_told_by, numbered, positions_of, result_of, written_modes, number_kind, constant_kind, class_of, binary_result, Resolution, structs_in, declaration_at, global_at, function_at, named_at, named_kind, variable_kind, global_kind_of, result_kind_of, called_kind, kind_at, HasType, a_field, a_field_behind, pointed_to, struct_named, IsFound, IsNamedType, PathReading, written, through, at_call, Targets, no_row, deeper, targets_from, entity_row, declared_row, global_row, named_row, result_row, called_row, constant_row, reading_through, row_at, base_use, constant_use, is_constant_named, contains_behind, head_there}, Given.AreKnown, Holders.is_global, Leads.{ArgumentsFit, IsVariableAt, Leads}, Siblings.HasSiblings, Positions.{some_here as one_number, no_more as no_number}}
+use Rattle.std.proofs.Common.{find}
 use Rattle.sharc_names.specs.Kinds as kinds
-use Rattle.sharc_ctype.specs.{declared.entity.Entity.Entity, declared.entity.Numbered.Numbered, declared.expr.OperatorClass.OperatorClass, declared.expr.OperatorClass.TheVariants.{Shift, Arithmetic}, Entities.{declared, cast_entity, entities_in, entity_at, first_depth, is_told_by, numbered, positions_of, result_of, written_modes}, Expressions.{number_kind, constant_kind, class_of, binary_result}, Resolved.{Resolution, structs_in, declaration_at, global_at, function_at, named_at, named_kind, variable_kind, global_kind_of, result_kind_of, called_kind, kind_at}}
-use Rattle.sharc_ctype_laws.specs.{Constraints.{HasType, a_field, a_field_behind, pointed_to, struct_named}, Found.IsFound, WrittenTypes.IsNamedType}
-use Rattle.sharc_mode.specs.Rows.{PathReading, written, through, at_call, Targets, no_row, deeper, targets_from, entity_row, declared_row, global_row, named_row, result_row, called_row, behind, constant_row, reading_through, row_at, base_use, constant_use, is_constant_named}
-use Rattle.sharc_suggest_laws.proofs.{Given.AreKnown, Holders.is_global, Leads.{ArgumentsFit, IsVariableAt, Leads}, Siblings.HasSiblings, Positions.{some_here as one_number, no_more as no_number}}
-use Rattle.sharc_lemmas.proofs.Lists.{contains_behind, head_there}
+use Rattle.sharc_mode.specs.Rows.{behind}
 
 -- ---- where targets are, and how their lock paths are read
 
@@ -61,11 +52,11 @@ found_contained test (x ∷ rest) n is = by (test x) is (found_contained test re
     by false at more = contains_behind x rest n (more at)
 
 other_depth : (what : Role) → is_global what ≡ false → first_depth what ≡ 1
-other_depth role.Global is = absurd (false≢true (sym is))
+other_depth Role.Global is = absurd (false≢true (sym is))
 other_depth _ is = refl
 
 other_targets : (what : Role) (row : Targets) → is_global what ≡ false → targets_from what row ≡ row
-other_targets role.Global row is = absurd (false≢true (sym is))
+other_targets Role.Global row is = absurd (false≢true (sym is))
 other_targets _ row is = refl
 
 abbrev whole_row : PathReading → Numbered → Targets
@@ -138,7 +129,7 @@ deeper_row r n row is = record { count = deeper_count row (row.count == 0) refl 
         no_suc k h = omega (arith, h)
 
 -- of a global, whose first position is its top
-global_targets : (r : Resolution) (e : Entity) → e.role ≡ role.Global → IsFound r e → IsRow r (stars_of e.written) (entity_row written (entity_at r e.token e.last))
+global_targets : (r : Resolution) (e : Entity) → e.role ≡ Role.Global → IsFound r e → IsRow r (stars_of e.written) (entity_row written (entity_at r e.token e.last))
 global_targets r e is found =
     let n : Numbered = found.numbered in
     let size : length (written_modes e) ≡ length e.written.ctype.levels - first_depth e.role = length-drop (first_depth e.role) e.written.ctype.levels in
@@ -159,9 +150,9 @@ global_targets r e is found =
 
 pub record IsKnownProgram (r : Resolution) : Type 0 where
   pub declarations : (token : ℕ) (d : Declaration) → declaration_at r token ≡ Some d → (what : Role) × (is_global what ≡ false) × (d.name.site.token ≡ token) × IsFound r (declared what d)
-  pub globals : (n : ℕ) (g : GlobalDefinition) → global_at r n ≡ Some g → IsFound r (declared role.Global g.declaration)
+  pub globals : (n : ℕ) (g : GlobalDefinition) → global_at r n ≡ Some g → IsFound r (declared Role.Global g.declaration)
   pub results : (n : ℕ) (f : Function) → function_at r n ≡ Some f → IsFound r (result_of f)
-  pub members : (struct name : List ℕ) (s : StructDefinition) (d : Declaration) → struct_named (structs_in r.program.items) struct ≡ Some s → field_of s.fields name ≡ Some d → IsFound r (declared role.Field d) × HasSiblings r s.fields d
+  pub members : (struct name : List ℕ) (s : StructDefinition) (d : Declaration) → struct_named (structs_in r.program.items) struct ≡ Some s → field_of s.fields name ≡ Some d → IsFound r (declared Role.Field d) × HasSiblings r s.fields d
   pub one : (e : Expression) (k : Kind) → HasType r e k → kind_at r e ≡ k
 
 -- ---- of an expression
@@ -180,12 +171,12 @@ global_row_of : (r : Resolution) → IsKnownProgram r → (n : ℕ) (o : Option 
 global_row_of r known n None is = tt
 global_row_of r known n (Some g) is =
     let w : WrittenType = g.declaration.written in
-    by_form r g.form w.ctype.base (stars_of w) (global_row r written (Some g)) (global_targets r (declared role.Global g.declaration) refl (known.globals n g is))
+    by_form r g.form w.ctype.base (stars_of w) (global_row r written (Some g)) (global_targets r (declared Role.Global g.declaration) refl (known.globals n g is))
 
 name_row : (r : Resolution) → IsKnownProgram r → (v : Named) → IsRowOf r (named_kind r v) (Some (named_row r written v))
-name_row r known (named.Global n) = global_row_of r known n (global_at r n) refl
-name_row r known (named.Variable token) = variable_row r known token (declaration_at r token) refl
-name_row r known (named.Field token) = variable_row r known token (declaration_at r token) refl
+name_row r known (Named.Global n) = global_row_of r known n (global_at r n) refl
+name_row r known (Named.Variable token) = variable_row r known token (declaration_at r token) refl
+name_row r known (Named.Field token) = variable_row r known token (declaration_at r token) refl
 name_row r known _ = tt
 
 result_row_of : (r : Resolution) → IsKnownProgram r → (n : ℕ) (o : Option Function) → function_at r n ≡ o → IsRowOf r (result_kind_of o) (Some (result_row r o))
@@ -193,9 +184,9 @@ result_row_of r known n None is = no_targets r
 result_row_of r known n (Some f) is = own_row r (result_of f) refl (known.results n f is) written tt
 
 call_row : (r : Resolution) → IsKnownProgram r → (v : Named) → IsRowOf r (called_kind r v) (Some (called_row r v))
-call_row r known (named.Function n) = result_row_of r known n (function_at r n) refl
-call_row r known (named.Variable token) = no_targets r
-call_row r known (named.Field token) = no_targets r
+call_row r known (Named.Function n) = result_row_of r known n (function_at r n) refl
+call_row r known (Named.Variable token) = no_targets r
+call_row r known (Named.Field token) = no_targets r
 call_row r known _ = no_targets r
 
 either_row : (r : Resolution) (b : Bool) → IsRowOf r (cond b long int) (Some no_row)
@@ -203,8 +194,8 @@ either_row r true = no_targets r
 either_row r false = no_targets r
 
 number_row : (r : Resolution) (w : NumberType) → IsRowOf r (number_kind w) (Some no_row)
-number_row r width.Int = no_targets r
-number_row r width.Long = no_targets r
+number_row r NumberType.Int = no_targets r
+number_row r NumberType.Long = no_targets r
 
 constant_row_of : (r : Resolution) (c : Constant) → IsRowOf r (constant_kind c) (constant_row c)
 constant_row_of r (Number n) = number_row r n.number_type
@@ -244,8 +235,8 @@ abbrev IsUse : Resolution → List Declaration → Option ℕ → Type 0
 IsUse r fields None = Unit {0}
 IsUse r fields (Some at) = IsVariableAt r at × ((m : List ℕ) (f : Declaration) → field_of fields m ≡ Some f → Leads r (named_at r at) m)
 
-constant_variable : (r : Resolution) (v : Named) → is_constant_named r v ≡ true → (x : ℕ) × (v ≡ named.Variable x)
-constant_variable r (named.Variable x) is = (x, refl)
+constant_variable : (r : Resolution) (v : Named) → is_constant_named r v ≡ true → (x : ℕ) × (v ≡ Named.Variable x)
+constant_variable r (Named.Variable x) is = (x, refl)
 constant_variable r _ is = absurd (false≢true is)
 
 use_by : (r : Resolution) (fields : List Declaration) (i : Identifier) (b : Bool) → is_constant_named r (named_at r i.site.token) ≡ b → ((m : List ℕ) (f : Declaration) → field_of fields m ≡ Some f → Leads r (named_at r i.site.token) m)
@@ -253,26 +244,26 @@ use_by : (r : Resolution) (fields : List Declaration) (i : Identifier) (b : Bool
 use_by r fields i true is leads = (constant_variable r (named_at r i.site.token) is, leads)
 use_by r fields i false is leads = tt
 
-arrow_use : (r : Resolution) (struct : List ℕ) (s : StructDefinition) → struct_named (structs_in r.program.items) struct ≡ Some s → (a : Expression) → kind_at r a ≡ object (base.Struct struct) 1 → IsUse r s.fields (constant_use r a)
+arrow_use : (r : Resolution) (struct : List ℕ) (s : StructDefinition) → struct_named (structs_in r.program.items) struct ≡ Some s → (a : Expression) → kind_at r a ≡ object (Base.Struct struct) 1 → IsUse r s.fields (constant_use r a)
 arrow_use r struct s named_so (identifier t i) kind = use_by r s.fields i (is_constant_named r (named_at r i.site.token)) refl (λ m f has. (struct, f, kind, (s, named_so, has)))
 arrow_use r struct s named_so _ kind = tt
 
-use_reading : (r : Resolution) (d : Declaration) (fields : List Declaration) → HasSiblings r fields d → (o : Option ℕ) → IsUse r fields o → IsReading r (declared role.Field d) (reading_through o)
+use_reading : (r : Resolution) (d : Declaration) (fields : List Declaration) → HasSiblings r fields d → (o : Option ℕ) → IsUse r fields o → IsReading r (declared Role.Field d) (reading_through o)
 use_reading r d fields siblings None used = tt
 use_reading r d fields siblings (Some at) used = (used.0, fields, d, refl, siblings, used.1)
 
 -- the member of a struct
 member_row : (r : Resolution) → IsKnownProgram r → (struct name : List ℕ) (s : StructDefinition) (d : Declaration) → struct_named (structs_in r.program.items) struct ≡ Some s → field_of s.fields name ≡ Some d → (o : Option ℕ) → IsUse r s.fields o
-    → (v : Named) → v ≡ named.Field d.name.site.token → IsRow r (stars_of d.written) (named_row r (reading_through o) v)
+    → (v : Named) → v ≡ Named.Field d.name.site.token → IsRow r (stars_of d.written) (named_row r (reading_through o) v)
 member_row r known struct name s d there has o used v is =
     let member = known.members struct name s d there has in
     subst (λ (x : Named). IsRow r (stars_of d.written) (named_row r (reading_through o) x)) (sym is)
-    (own_row r (declared role.Field d) refl member.0 (reading_through o) (use_reading r d s.fields member.1 o used))
+    (own_row r (declared Role.Field d) refl member.0 (reading_through o) (use_reading r d s.fields member.1 o used))
 
 field_row : (r : Resolution) → IsKnownProgram r → (s : Span) (a : Expression) (w : FieldOperator) (n : Identifier) (k : Kind) → HasType r (field s a w n) k → IsRowOf r k (Some (named_row r (reading_through (base_use r w a)) (named_at r n.site.token)))
 field_row r known s a Dot n _ (a_field {x = x} {d = d} typed member names) = member_row r known x n.text member.0 d member.1 member.2 None tt (named_at r n.site.token) names
 field_row r known s a Arrow n _ (a_field_behind {x = x} {d = d} typed member names) =
-    member_row r known x n.text member.0 d member.1 member.2 (constant_use r a) (arrow_use r x member.0 member.1 a (known.one a (object (base.Struct x) 1) typed)) (named_at r n.site.token) names
+    member_row r known x n.text member.0 d member.1 member.2 (constant_use r a) (arrow_use r x member.0 member.1 a (known.one a (object (Base.Struct x) 1) typed)) (named_at r n.site.token) names
 
 -- so each
 pub targets_of : (r : Resolution) → IsKnownProgram r → (e : Expression) → AreKnown r (expressions e) → IsRowOf r (kind_at r e) (row_at r e)

@@ -1,9 +1,5 @@
 -- The program with a suggested cast is typed, where the lock paths of the modes are written ones.
-use Rattle.std.proofs.Common.{ℕ, Bool}
-use Rattle.sharc_ctype_laws.specs.Laws.{SameKinds}
-use Rattle.sharc_suggest.specs.Givings.{items_givings}
-use Rattle.sharc_suggest_laws.specs.Typed.{StaysTyped}
-use Rattle.sharc_suggest_laws.proofs.{Paths.{is_pointed, paths_read}, Site.{IsFor, has_site}, StaysTyped.typed_with, World.TypedLaws}
+use Rattle.sharc_suggest_laws.proofs.{Imports.{ℕ, Bool, SameKinds, items_givings, StaysTyped}, Paths.{is_pointed, paths_read}, Site.{IsFor, has_site}, StaysTyped.typed_with, World.TypedLaws}
 
 pub stays_typed : SameKinds → TypedLaws → StaysTyped
 stays_typed same_kinds laws m e c resolved placed low whole locks says =

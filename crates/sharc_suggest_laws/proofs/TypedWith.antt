@@ -1,21 +1,13 @@
 -- An expression with a cast written in it has no fault where it had none, and the type that it had.
-use Rattle.std.proofs.{Common.{◌≡◌, ◌⊎◌, inl, inr, ℕ, ◌==◌, Bool, true, false, not, ◌&&◌, ◌||◌, cond, List, [], ◌∷◌, ◌++◌, zero, suc, drop, Option, Some, None, refl, ap, ap₂, sym, subst, ◌∙◌, eq-eqb}, lemmas.Bool.false≢true, lemmas.Slice.Eq.bytes_eq-Decides}
-use Rattle.std.specs.List.{AllByRecursion}
-use Rattle.sharc_tree.specs.{declared.ctype.Base.Base, declared.token.Span.Span, declared.tree.declaration.WrittenType.WrittenType, declared.tree.declaration.Declaration.Declaration, Forms.{without_parentheses, is_lvalue}, Measures.{expressions, in_arguments}, Spans.span_of, Tree.{Expression, identifier, parentheses, call, spawn, on_value, on_place, cast, index, field, unary, binary, Arguments, no_arguments, argument}}
-use Rattle.sharc_tree.specs.declared.ctype.Base.TheVariants as base
-use Rattle.sharc_names.specs.{declared.fault.FaultCode.TheVariants.{TypeMismatch, NoLvalue, BadForm}, declared.need.Need.Need, declared.need.Need.TheVariants.{Value, Integer, Indexed}, declared.scope.Scope.Scope, Kinds.{Kind, object, is_pointer, same_base, same_kind, declared_kind}, Names.{Entry, Meaning, look_up, is_function, is_main, kind_of, parameters_of}, Needs.{place, called, fits, met, unmet, misfit, misfit_of, mismatch, used_call, agreed, unagreed}, Notes.{fault, fault_unless}, Types.{name_kind, main_notes, field_in, field_kind, field_notes, type_notes, is_fine}, Wants.first_wanted}
-use Rattle.sharc_names.specs.declared.types.Role.TheVariants as role
+use Rattle.sharc_suggest_laws.proofs.{Imports.{◌≡◌, ◌⊎◌, inl, inr, ℕ, ◌==◌, Bool, true, false, not, ◌&&◌, ◌||◌, cond, List, [], ◌∷◌, ◌++◌, zero, suc, drop, Option, Some, None, refl, ap, ap₂, sym, subst, ◌∙◌, eq-eqb, false≢true, bytes_eq-Decides, AllByRecursion, Base, Span, WrittenType, Declaration, without_parentheses, is_lvalue, expressions, in_arguments, span_of, Expression, identifier, parentheses, call, spawn, on_value, on_place, cast, index, field, unary, binary, Arguments, no_arguments, argument, TypeMismatch, NoLvalue, BadForm, Need, Value, Integer, Indexed, Scope, Kind, object, is_pointer, same_base, same_kind, declared_kind, Entry, Meaning, look_up, is_function, is_main, kind_of, place, called, fits, met, unmet, misfit, misfit_of, used_call, agreed, unagreed, fault, fault_unless, name_kind, main_notes, field_in, field_kind, field_notes, type_notes, is_fine, first_wanted, Role, Standing, AsValue, AsLvalue, OperatorClass, element_of, access_need, operand_need, unary_kind, class_of, operands_need, binary_kind, binary_notes, may_join, names_function, is_function_name, is_place, place_kind, place_notes, place_call_notes, value_call_kind, place_call_kind, keeps_kind, cast_kind, cast_notes, count, callee_notes, call_result, call_kind, may_spawn, spawn_wanted, spawn_kind, type_of, are_fine, notes_at, notes_of_all, kind_at, with_names, type_at, is_there, around, with_cast, all_with_cast, Receiver, of_parameter, Giving, one_giving, givings, all_givings, value_givings, front, back}, Grown.span_same, Lefts.{IsTypedIn, typed_itself}, Noted.{Clean, left, right, no_fault, behind_head, none, joined, unless, moved, referring}, Retyped.{Setting, cast_fine, count_same, fine_both, place_same}, Scoped.Scoped}
+use Rattle.sharc_names.specs.{Names.parameters_of, Needs.mismatch}
 use Rattle.sharc_names.specs.Kinds as kinds
 use Rattle.sharc_names.specs.Names as meaning
-use Rattle.sharc_ctype.specs.{declared.expr.Standing.Standing, declared.expr.Standing.TheVariants.{AsValue, AsLvalue}, declared.expr.OperatorClass.OperatorClass, Expressions.{element_of, access_need, operand_need, unary_kind, class_of, operands_need, binary_kind, binary_notes, may_join, names_function, is_function_name, is_place, place_kind, place_notes, place_call_notes, value_call_kind, place_call_kind, keeps_kind, cast_kind, cast_notes, count, count_notes, callee_notes, wanted, call_result, call_kind, may_spawn, spawn_wanted, spawn_kind, type_of, are_fine, notes_at, notes_of_all}, Resolved.kind_at, Statements.with_names}
-use Rattle.sharc_suggest_laws.specs.{Recast.{type_at, is_there, around, with_cast, all_with_cast}}
-use Rattle.sharc_suggest.specs.Givings.{Receiver, of_parameter, Giving, one_giving, givings, all_givings, value_givings}
-use Rattle.sharc_suggest_laws.proofs.{Grown.span_same, Lefts.{IsTypedIn, typed_itself}, Noted.{Clean, left, right, no_fault, behind_head, none, joined, unless, moved, referring}, Retyped.{Setting, cast_fine, count_same, fine_both, place_same}, Scoped.Scoped}
-use Rattle.sharc_lemmas.proofs.Lists.{front, back}
+use Rattle.sharc_ctype.specs.Expressions.{count_notes, wanted}
 
 -- Where the cast is written its type has no fault, and the expression is a place that has a pointer of that type.
 pub record IsReadyAt (w : Setting) (names : List Entry) (e : Expression) : Type 0 where
-  pub types : (s : Span) → Clean (type_notes (with_names w.file names) [] role.Cast (type_at w.recast s))
+  pub types : (s : Span) → Clean (type_notes (with_names w.file names) [] Role.Cast (type_at w.recast s))
   pub lvalue : is_lvalue e ≡ true
   pub kind : (s : Span) → kind_at w.resolution e ≡ declared_kind (type_at w.recast s)
   pub pointer : is_pointer (kind_at w.resolution e) ≡ true
@@ -45,7 +37,7 @@ used_clean None (Some x) (inr gone) h = absurd (some_none x gone)
 used_clean (Some y) (Some x) q h = absurd (no_fault _ _ _ h)
 
 base_clean : (b : Base) (e new : Expression) → IsQuieter e new → Clean (misfit_of b e) → Clean (misfit_of b new)
-base_clean base.Void e new q h = used_clean (called e) (called new) q h
+base_clean Base.Void e new q h = used_clean (called e) (called new) q h
 base_clean _ e new q h = absurd (no_fault _ _ _ h)
 
 object_clean : (b : Base) (z : Bool) (e new : Expression) → IsQuieter e new → Clean (cond z (misfit_of b e) (mismatch e)) → Clean (cond z (misfit_of b new) (mismatch new))
@@ -129,7 +121,7 @@ no_function σ _ k is pointer = refl
 -- a cast of a pointer to its own type
 
 base_itself : (b : Base) → same_base b b ≡ true
-base_itself (base.Struct name) = (bytes_eq-Decides name name).1 refl
+base_itself (Base.Struct name) = (bytes_eq-Decides name name).1 refl
 base_itself _ = refl
 
 kind_itself : (k : Kind) → is_pointer k ≡ true → same_kind k k ≡ true
@@ -164,8 +156,8 @@ value_by w names scope scoped r e ready known h true is_so =
     let plain : names_function names (without_parentheses e) ≡ false = no_function σ e (declared_kind t) has pointer in
     let stands : is_place names new ≡ true = place_same w.recast names e ∙ ap₂ (λ (x y : Bool). x && not y) at.lvalue plain in
     let kind : place_kind names new (type_of σ new) ≡ Some (declared_kind t) = ap (λ (x : Bool). cond x (type_of σ new) None) stands ∙ h.typed ∙ has in
-    let types : Clean (type_notes σ [] role.Cast t) = at.types s in
-    let fine : is_fine σ.structs role.Cast t ≡ true = cast_fine σ t types in
+    let types : Clean (type_notes σ [] Role.Cast t) = at.types s in
+    let fine : is_fine σ.structs Role.Cast t ≡ true = cast_fine σ t types in
     record {
       typed = ap₂ (λ (x : Bool) (k : Option Kind). cast_kind x t k) fine kind ∙ keeps_itself t pointer ∙ sym has;
       clean = joined _ _ (joined _ _ (joined _ _ types (as_left σ new h.clean)) (unless (is_place names new) (place new) NoLvalue stands))
@@ -249,13 +241,13 @@ mutual
       }
   inside w names scope scoped stands (cast s t a) ready typed clean =
       let σ : Scope = with_names w.file names in
-      let fine : Bool = is_fine w.file.structs role.Cast t in
-      let h = inside w names scope scoped AsLvalue a ready typed.1 (right (type_notes σ [] role.Cast t) _ (left _ _ (left _ _ clean))) in
+      let fine : Bool = is_fine w.file.structs Role.Cast t in
+      let h = inside w names scope scoped AsLvalue a ready typed.1 (right (type_notes σ [] Role.Cast t) _ (left _ _ (left _ _ clean))) in
       let same : place_kind names (with_cast w.recast a) (type_of σ (with_cast w.recast a)) ≡ place_kind names a (type_of σ a) = place_kind_same w names a _ _ h.typed in
       record {
         typed = ap (cast_kind fine t) same;
-        clean = joined _ _ (joined _ _ (joined (type_notes σ [] role.Cast t) _ (left (type_notes σ [] role.Cast t) _ (left _ _ (left _ _ clean))) h.clean) (place_clean w names a (right _ _ (left _ _ clean))))
-            (subst (λ (k : Option Kind). Clean (cast_notes s.first.token fine t (with_cast w.recast a) k)) (sym same) (cast_moved s.first.token fine t a (with_cast w.recast a) (place_kind names a (type_of σ a)) (right (type_notes σ [] role.Cast t ++ notes_at AsLvalue σ a ++ place_notes names a) _ clean)));
+        clean = joined _ _ (joined _ _ (joined (type_notes σ [] Role.Cast t) _ (left (type_notes σ [] Role.Cast t) _ (left _ _ (left _ _ clean))) h.clean) (place_clean w names a (right _ _ (left _ _ clean))))
+            (subst (λ (k : Option Kind). Clean (cast_notes s.first.token fine t (with_cast w.recast a) k)) (sym same) (cast_moved s.first.token fine t a (with_cast w.recast a) (place_kind names a (type_of σ a)) (right (type_notes σ [] Role.Cast t ++ notes_at AsLvalue σ a ++ place_notes names a) _ clean)));
         quieter = inl refl;
       }
   inside w names scope scoped stands (index s a i) ready typed clean =

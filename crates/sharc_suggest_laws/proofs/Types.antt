@@ -1,11 +1,5 @@
 -- What is declared, and each other cast, keeps its modes.
-use Rattle.std.proofs.{Common.{◌≡◌, ℕ, ◌==◌, ◌&&◌, Bool, true, false, List, ◌∷◌, ◌++◌, length, drop, Option, refl, ap, sym, subst, subst₂, ◌∙◌, eqb-true}, lemmas.Bool.{and_parts, false_from_ne_true}, lemmas.List.length-map}
-use Rattle.std.specs.List.{find}
-use Rattle.sharc_tree.specs.declared.ctype.Mode.{Mode}
-use Rattle.sharc_ctype.specs.{declared.entity.Entity.Entity, declared.entity.Numbered.Numbered, Entities.{entity_at, is_told_by, numbered_from, positions_of}}
-use Rattle.sharc_mode.specs.{declared.error.Cast.Cast, Moded.Assignment}
-use Rattle.sharc_suggest_laws.specs.{Applied.{resolution_with, written_or, targets, inserted, assignment_with}, Kept.TypesStay}
-use Rattle.sharc_suggest_laws.proofs.{Added.suggested_is_added_once, Found.{AreMoved, all_moved}, Rows.entity_same, Stands.{IsAdded, entity_of, first_place, first_is, first_fits}}
+use Rattle.sharc_suggest_laws.proofs.{Imports.{◌≡◌, ℕ, ◌==◌, ◌&&◌, Bool, true, false, List, ◌∷◌, ◌++◌, length, drop, Option, refl, ap, sym, subst, subst₂, ◌∙◌, eqb-true, and_parts, false_from_ne_true, length-map, find, Mode, Entity, Numbered, entity_at, is_told_by, numbered_from, positions_of, Cast, Assignment, resolution_with, written_or, targets, inserted, assignment_with, TypesStay}, Added.suggested_is_added_once, Found.{AreMoved, all_moved}, Rows.entity_same, Stands.{IsAdded, entity_of, first_place, first_is, first_fits}}
 
 pub targets_counted : (levels : List (Option Mode)) → length (drop 1 levels) ≡ length (targets levels)
 targets_counted levels = sym (length-map (drop 1 levels) written_or)

@@ -1,15 +1,6 @@
 -- What is expected at the cast is what was expected.
-use Rattle.std.proofs.{Common.{◌≡◌, ◌⊎◌, inl, inr, ℕ, zero, suc, ◌≤◌, ◌==◌, Bool, true, false, not, ◌&&◌, ◌||◌, cond, List, [], ◌∷◌, map, length, take, drop, Option, Some, None, option_map, is_some, is_none, slice_get, refl, ap, ap₂, sym, subst, ◌∙◌, eq-eqb}, lemmas.Bool.{false≢true, and_parts}}
-use Rattle.std.specs.List.{AllByRecursion, flat_map}
-use Rattle.sharc_tree.specs.{declared.ctype.Mode.Mode, declared.tree.declaration.Declaration.Declaration, Forms.without_parentheses, Tree.{Expression, identifier, cast, Arguments, no_arguments, argument, Function}, Spans.span_of}
-use Rattle.sharc_names.specs.{declared.fault.Named.Named, Names.{Entry, look_up}}
-use Rattle.sharc_names.specs.declared.fault.Named.TheVariants as named
-use Rattle.sharc_suggest_laws.specs.{declared.written.Recast.Recast, Recast.{is_there, around, with_cast, all_with_cast, function_with_cast, type_at}, Applied.{recast_of, targets, inserted, assignment_with}, Names.{is_dull, KeepsName}}
-use Rattle.sharc_ctype.specs.{Resolved.{Resolution, named_at, function_at, functions_in}, Transfers.{parameters_of, parameters_named}}
-use Rattle.sharc_mode.specs.{declared.error.Cast.Cast, declared.finding.Finding.Finding, declared.finding.Finding.TheVariants.Names, Expressions.expected, Moded.Assignment, Notes.{is_named, names_of, names_in, names_in_all, names_read, parameter_names, taken_variable}, Rows.{PathReading, at_call, Targets, is_constant_named, constant_use, argument_use, lock_through, with_base, lock_for, read_lock, read, reading_through, declared_row, modes_of}, Sharings.{Lock, Sharing, locked, sharing_of, is_field, variable_named, object_named, text_at}}
-use Rattle.sharc_suggest.specs.{Repairs.{is_free, is_call_at, keeps_named, keeps, keeps_all}, Givings.beyond}
-use Rattle.sharc_suggest_laws.proofs.{Arguments.{nth, args_met, one_nth}, CallNames.{named_left, named_right}, Grown.span_same, Rows.{IsShifted, same_stretch}, RowsStay.{Frame, now, many, first_at, IsRowMoved, AreRowsMoved, IsClearOf, clear_moved, functions_same, use_same}, Stands.first_is, Expects.{no_modes, same_modes as one_modes}}
-use Rattle.sharc_lemmas.proofs.Options.{no_guard as no_use, some_is as one_use}
+use Rattle.sharc_suggest_laws.proofs.{Imports.{◌≡◌, ◌⊎◌, inl, inr, ℕ, zero, suc, ◌≤◌, ◌==◌, Bool, true, false, not, ◌&&◌, ◌||◌, cond, List, [], ◌∷◌, map, length, take, drop, Option, Some, None, option_map, is_some, is_none, slice_get, refl, ap, ap₂, sym, subst, ◌∙◌, eq-eqb, false≢true, and_parts, AllByRecursion, flat_map, Mode, Declaration, without_parentheses, Expression, identifier, cast, Arguments, no_arguments, argument, Function, span_of, Named, Entry, look_up, Recast, is_there, around, with_cast, all_with_cast, function_with_cast, type_at, recast_of, targets, inserted, assignment_with, is_dull, KeepsName, Resolution, named_at, function_at, functions_in, parameters_of, parameters_named, Cast, Finding, Names, expected, Assignment, is_named, names_of, names_in, names_in_all, names_read, parameter_names, taken_variable, PathReading, at_call, Targets, is_constant_named, constant_use, argument_use, lock_through, with_base, lock_for, read_lock, read, reading_through, declared_row, modes_of, Lock, Sharing, locked, sharing_of, is_field, variable_named, object_named, text_at, is_call_at, keeps_named, keeps, keeps_all, beyond, no_token as no_use, one_some as one_use}, Arguments.{nth, args_met, one_nth}, CallNames.{named_left, named_right}, Grown.span_same, Rows.{IsShifted, same_stretch}, RowsStay.{Frame, now, many, first_at, IsRowMoved, AreRowsMoved, IsClearOf, clear_moved, functions_same, use_same}, Stands.first_is, Expects.{no_modes, same_modes as one_modes}}
+use Rattle.sharc_suggest.specs.Repairs.{is_free}
 
 -- ---- the modes of a row that was moved, where its lock paths are read alike
 
@@ -60,14 +51,14 @@ modes_moved m c frame fits good how later alike old new moved are = by moved.pla
 
 kept_apart : (so : Bool) (v w : Named) → KeepsName v w → (e : Option Entry) → keeps_named so v e ≡ true → (is_field v ≡ false → so ≡ true → is_field w ≡ false) → is_field v ≡ false → is_field w ≡ false
 kept_apart so v w (inl same) e is calls other = ap is_field (sym same) ∙ other
-kept_apart so (named.Struct n) w (inr p) None is calls other = absurd (false≢true is)
-kept_apart so (named.Struct n) w (inr p) (Some e) is calls other = absurd (false≢true is)
-kept_apart so (named.Global n) w (inr p) e is calls other = absurd (false≢true p.0)
-kept_apart so (named.Function n) w (inr p) e is calls other = absurd (false≢true p.0)
-kept_apart so (named.Variable x) w (inr p) e is calls other = absurd (false≢true p.0)
-kept_apart so (named.Field f) w (inr p) e is calls other = absurd (false≢true (sym other))
-kept_apart so named.Known w (inr p) None is calls other = calls other is
-kept_apart so named.Known w (inr p) (Some e) is calls other = absurd (false≢true is)
+kept_apart so (Named.Struct n) w (inr p) None is calls other = absurd (false≢true is)
+kept_apart so (Named.Struct n) w (inr p) (Some e) is calls other = absurd (false≢true is)
+kept_apart so (Named.Global n) w (inr p) e is calls other = absurd (false≢true p.0)
+kept_apart so (Named.Function n) w (inr p) e is calls other = absurd (false≢true p.0)
+kept_apart so (Named.Variable x) w (inr p) e is calls other = absurd (false≢true p.0)
+kept_apart so (Named.Field f) w (inr p) e is calls other = absurd (false≢true (sym other))
+kept_apart so Named.Known w (inr p) None is calls other = calls other is
+kept_apart so Named.Known w (inr p) (Some e) is calls other = absurd (false≢true is)
 
 abbrev IsKeeping : Assignment → List Entry → Sharing → Type 0
 IsKeeping m scope s = keeps m.typed scope s ≡ true
@@ -113,9 +104,9 @@ left_wanted m c frame fits scope want kept (Some old) (Some new) moved is =
 
 -- the parameters are the same
 dull_parameters : (r : Resolution) (v : Named) → is_dull v ≡ true → parameters_named r v ≡ []
-dull_parameters r (named.Global n) is = absurd (false≢true is)
-dull_parameters r (named.Function n) is = absurd (false≢true is)
-dull_parameters r (named.Variable t) is = absurd (false≢true is)
+dull_parameters r (Named.Global n) is = absurd (false≢true is)
+dull_parameters r (Named.Function n) is = absurd (false≢true is)
+dull_parameters r (Named.Variable t) is = absurd (false≢true is)
 dull_parameters r _ is = refl
 
 of_option_same : (c : Recast) (o : Option Function) → parameters_of (option_map (function_with_cast c) o) ≡ parameters_of o
@@ -123,7 +114,7 @@ of_option_same c None = refl
 of_option_same c (Some f) = refl
 
 of_name_same : (m : Assignment) (c : Cast) (v : Named) → parameters_named (now m c) v ≡ parameters_named m.typed v
-of_name_same m c (named.Function n) = ap parameters_of (functions_same m c n) ∙ of_option_same (recast_of m.typed c) (function_at m.typed n)
+of_name_same m c (Named.Function n) = ap parameters_of (functions_same m c n) ∙ of_option_same (recast_of m.typed c) (function_at m.typed n)
 of_name_same m c _ = refl
 
 parameters_by : (m : Assignment) (c : Cast) (v w : Named) → KeepsName v w → parameters_named (now m c) w ≡ parameters_named m.typed v
@@ -142,7 +133,7 @@ of_functions m (f ∷ rest) zero all = all.0
 of_functions m (f ∷ rest) (suc n) all = of_functions m rest n all.1
 
 pub parameters_clear : (m : Assignment) (c : Cast) → Frame m c → (v : Named) → AreClearOf m (parameters_named m.typed v)
-parameters_clear m c frame (named.Function n) = of_functions m (functions_in m.typed.program.items) n frame.clear.parameters
+parameters_clear m c frame (Named.Function n) = of_functions m (functions_in m.typed.program.items) n frame.clear.parameters
 parameters_clear m c frame _ = tt
 
 dropped : {A : Type 0} (P : A → Type 0) (l : List A) → AllByRecursion P l → AllByRecursion P (drop 1 l)
@@ -211,7 +202,7 @@ named_itself : (z : ℕ) → is_named z (Names z ∷ []) ≡ true
 named_itself z = ap (λ (b : Bool). b || false) (eq-eqb z z refl)
 
 constant_variable : (r : Resolution) (tells : ℕ → Bool) (v : Named) → is_constant_named r v ≡ true → is_free tells (object_named r v) ≡ true → ((z : ℕ) → is_named z (names_of (object_named r v)) ≡ true → tells z ≡ true) → ⊥
-constant_variable r tells (named.Variable z) is free told = false≢true (sym (ap not (told z (named_itself z))) ∙ free)
+constant_variable r tells (Named.Variable z) is free told = false≢true (sym (ap not (told z (named_itself z))) ∙ free)
 constant_variable r tells _ is free told = false≢true is
 
 free_use : (r : Resolution) (tells : ℕ → Bool) (a : Expression) (y : ℕ) → constant_use r a ≡ Some y → is_free tells (taken_variable r (without_parentheses a)) ≡ true → ((z : ℕ) → is_named z (names_of (object_named r (named_at r y))) ≡ true → tells z ≡ true) → ⊥
@@ -245,7 +236,7 @@ variable_read m c frame tells ds all e at l x w is good =
 -- a path that begins with no variable stays as it is
 
 dull_none : (w : Named) → is_dull w ≡ true → variable_named w ≡ None
-dull_none (named.Variable x) dull = absurd (false≢true dull)
+dull_none (Named.Variable x) dull = absurd (false≢true dull)
 dull_none _ dull = refl
 
 none_later : (v w : Named) → KeepsName v w → variable_named v ≡ None → variable_named w ≡ None
@@ -259,11 +250,11 @@ plain_lock m c ds all l v w h none =
 
 lock_read : (m : Assignment) (c : Cast) (frame : Frame m c) (tells : ℕ → Bool) (ds : List Declaration) (all : Arguments) (e : Expression) → IsCall m c tells all e → (l : Lock) (v w : Named) → named_at m.typed l.first ≡ v → named_at (now m c) l.first ≡ w
     → KeepsName v w → IsGood m tells (locked (lock_for m.typed ds all (variable_named v) l)) → lock_for (now m c) ds (all_with_cast (recast_of m.typed c) all) (variable_named w) l ≡ lock_for m.typed ds all (variable_named v) l
-lock_read m c frame tells ds all e at l (named.Variable x) w is later h good =
+lock_read m c frame tells ds all e at l (Named.Variable x) w is later h good =
     ap (λ (o : Option ℕ). lock_for (now m c) ds (all_with_cast (recast_of m.typed c) all) o l) (ap variable_named (same_variable x w h))
     ∙ variable_read m c frame tells ds all e at l x (argument_use m.typed ds all x) refl good
   where
-    same_variable : (x : ℕ) (w : Named) → KeepsName (named.Variable x) w → w ≡ named.Variable x
+    same_variable : (x : ℕ) (w : Named) → KeepsName (Named.Variable x) w → w ≡ Named.Variable x
     same_variable x w (inl same) = sym same
     same_variable x w (inr p) = absurd (false≢true p.0)
 lock_read m c frame tells ds all e at l k w is later h good = plain_lock m c ds all l k w h refl

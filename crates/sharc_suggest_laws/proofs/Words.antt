@@ -1,11 +1,5 @@
 -- Which tokens begin a path with a known call: the word `locked` comes two before one, and no name does.
-use Rattle.std.proofs.{Common.{◌≡◌, ◌⊎◌, inl, inr, ⊎_elim, ℕ, zero, suc, ◌+◌, ◌-◌, ◌≤◌, ◌&&◌, Bool, true, false, List, [], ◌∷◌, ◌++◌, Contains, Option, Some, None, slice_get, refl, ap, sym, subst, ◌∙◌, arith}, lemmas.Bool.{false≢true, and_parts}}
-use Rattle.sharc_tree.specs.{declared.token.Keyword.Keyword, declared.token.Keyword.TheVariants.Scast, declared.token.Token.Token, declared.token.TokenKind.TokenKind, Marks.{Mark, keyword_marks, kind_marks, marks_from, items_marks}}
-use Rattle.sharc_tree.specs.declared.token.TokenKind.TheVariants as kind
-use Rattle.sharc_ctype.specs.{Reaches.name_tokens, Resolved.Resolution}
-use Rattle.sharc_mode.specs.Sharings.{text_of, text_at}
-use Rattle.sharc_suggest.specs.Repairs.{is_call_name, is_identifier, is_locked, begins_call, is_call_at}
-use Rattle.sharc_lemmas.proofs.{Numbers.{none_there as none}, Lists.later}
+use Rattle.sharc_suggest_laws.proofs.Imports.{◌≡◌, ◌⊎◌, inl, inr, ⊎_elim, ℕ, zero, suc, ◌+◌, ◌-◌, ◌≤◌, ◌&&◌, Bool, true, false, List, [], ◌∷◌, ◌++◌, Contains, Option, Some, None, slice_get, refl, ap, sym, subst, ◌∙◌, arith, false≢true, and_parts, Keyword, Scast, Token, TokenKind, Mark, keyword_marks, kind_marks, marks_from, items_marks, name_tokens, Resolution, text_of, text_at, is_call_name, is_identifier, is_locked, begins_call, is_call_at, none, later}
 
 -- ---- the name of the call
 
@@ -30,7 +24,7 @@ call_text r t is = call_name (slice_get r.program.tokens.list (t - 2)) (slice_ge
 -- ---- two tokens after a name no path begins
 
 kind_apart : (k : TokenKind) → is_identifier k ≡ true → is_locked k ≡ false
-kind_apart kind.Identifier is = refl
+kind_apart TokenKind.Identifier is = refl
 kind_apart _ is = absurd (false≢true is)
 
 word_apart : (before name : Option Token) → is_word before ≡ true → begins_call before name ≡ false
@@ -55,7 +49,7 @@ split n t list (zero, low, is) = inl is
 split n t list (suc k, low, is) = inr (k, omega (arith, low), is)
 
 first_named : (n : ℕ) (k : TokenKind) (text : List ℕ) (more : List Mark) → is_identifier k ≡ true → Contains (name_tokens (kind_marks k text n ++ more)) n
-first_named n kind.Identifier text more is = (0, omega arith, refl)
+first_named n TokenKind.Identifier text more is = (0, omega arith, refl)
 first_named n _ text more is = absurd (false≢true is)
 
 -- a keyword is no name
@@ -64,14 +58,14 @@ word_same n Scast more = refl
 word_same n _ more = refl
 
 skip_kind : (n t : ℕ) (k : TokenKind) (text : List ℕ) (more : List Mark) → Contains (name_tokens more) t → Contains (name_tokens (kind_marks k text n ++ more)) t
-skip_kind n t kind.Identifier text more c = later n t (name_tokens more) c
-skip_kind n t (kind.Keyword w) text more c = subst (λ (l : List ℕ). Contains l t) (sym (word_same n w more)) c
+skip_kind n t TokenKind.Identifier text more c = later n t (name_tokens more) c
+skip_kind n t (TokenKind.Keyword w) text more c = subst (λ (l : List ℕ). Contains l t) (sym (word_same n w more)) c
 skip_kind n t _ text more c = c
 
 -- it is this one, an identifier, or a later one
 either_kind : (n t : ℕ) (k : TokenKind) (text : List ℕ) (more : List Mark) → Contains (name_tokens (kind_marks k text n ++ more)) t → ((n ≡ t) × (is_identifier k ≡ true)) ⊎ Contains (name_tokens more) t
-either_kind n t kind.Identifier text more c = ⊎_elim (λ same. inl (same, refl)) (λ there. inr there) (split n t (name_tokens more) c)
-either_kind n t (kind.Keyword w) text more c = inr (subst (λ (l : List ℕ). Contains l t) (word_same n w more) c)
+either_kind n t TokenKind.Identifier text more c = ⊎_elim (λ same. inl (same, refl)) (λ there. inr there) (split n t (name_tokens more) c)
+either_kind n t (TokenKind.Keyword w) text more c = inr (subst (λ (l : List ℕ). Contains l t) (word_same n w more) c)
 either_kind n t _ text more c = inr c
 
 from_below : (n t : ℕ) (l : List Token) → Contains (name_tokens (marks_from n l)) t → n ≤ t

@@ -1,14 +1,5 @@
 -- What the laws of typed programs say of one: what has a type is found, and what is given to what is known.
-use Rattle.std.proofs.Common.{◌≡◌, ℕ, ◌==◌, Bool, true, false, cond, List, [], ◌∷◌, ◌++◌, Some, None, bytes_eq, refl, subst, eqb-true}
-use Rattle.std.specs.List.{AllByRecursion}
-use Rattle.sharc_tree.specs.{declared.tree.declaration.Declaration.Declaration, declared.tree.item.GlobalDefinition.GlobalDefinition, declared.tree.item.StructDefinition.StructDefinition, Low.IsLow, Measures.in_function, Placed.IsPlaced, Tree.{Expression, Function, Item}}
-use Rattle.sharc_names.specs.{declared.scope.Scope.Scope, Names.field_of, Notes.Note}
-use Rattle.sharc_names.specs.declared.fault.Named.TheVariants as named
-use Rattle.sharc_names.specs.declared.types.Role.TheVariants as role
-use Rattle.sharc_ctype.specs.{Entities.{declared, result_of}, Globals.sizes_notes, Heads.{heads_notes, no_heads}, Items.{file_scope, items_notes, main_missing, notes_about}, Resolved.{Resolution, IsResolved, structs_in, globals_in, functions_in, declarations_in, declared_at, named_at, kind_at}, Statements.locals_in_all, Transfers.{IsFair, function_transfers}}
-use Rattle.sharc_ctype_laws.specs.{Constraints.{HasType, struct_named}, Declared.{IsItself, NameThemselves}, Found.{IsFound, EachTypeFound}, Laws.{EachNameOnce, OnlyNames, EachNamesItself, MeetsConstraints, OneType, AllFair}}
-use Rattle.sharc_suggest_laws.proofs.{Folded.IsOwnAt, Given.{IsKnown, IsOwnLocal, IsWellFunction}, Holders.{IsCastOf, IsLocalOf, IsDeclaredAs, HasFields, InBody, IsHeldBy, held_by}, Noted.clean_from, Owned.all_own, Siblings.{IsTrueOf, AreTrueOf, true_from, HasSiblings, AreSiblings, all_siblings}, Targets.IsKnownProgram}
-use Rattle.sharc_lemmas.proofs.Lists.{front, back, at_place, together}
+use Rattle.sharc_suggest_laws.proofs.{Imports.{◌≡◌, ℕ, ◌==◌, Bool, true, false, cond, List, [], ◌∷◌, ◌++◌, Some, None, bytes_eq, refl, subst, eqb-true, AllByRecursion, Declaration, GlobalDefinition, StructDefinition, IsLow, in_function, IsPlaced, Expression, Function, Item, Scope, field_of, Note, Named, Role, declared, result_of, sizes_notes, heads_notes, no_heads, file_scope, items_notes, main_missing, notes_about, Resolution, IsResolved, structs_in, globals_in, functions_in, declarations_in, declared_at, named_at, kind_at, locals_in_all, IsFair, function_transfers, HasType, struct_named, IsItself, NameThemselves, IsFound, EachTypeFound, EachNameOnce, OnlyNames, EachNamesItself, MeetsConstraints, OneType, AllFair, front, back, at_place, together}, Folded.IsOwnAt, Given.{IsKnown, IsOwnLocal, IsWellFunction}, Holders.{IsCastOf, IsLocalOf, IsDeclaredAs, HasFields, InBody, IsHeldBy, held_by}, Noted.clean_from, Owned.all_own, Siblings.{IsTrueOf, AreTrueOf, true_from, HasSiblings, AreSiblings, all_siblings}, Targets.IsKnownProgram}
 
 -- ---- the laws
 
@@ -92,10 +83,10 @@ known_program laws r resolved placed low =
       declarations = λ token d is.
           let there = declared_there (IsDeclaredAs (IsFound r)) (declarations_in r.program.items) token d all.declarations is in
           (there.1.0, there.1.1, there.0, there.1.2);
-      globals = λ n g is. at_place (λ (x : GlobalDefinition). IsFound r (declared role.Global x.declaration)) (globals_in r.program.items) n g all.globals is;
+      globals = λ n g is. at_place (λ (x : GlobalDefinition). IsFound r (declared Role.Global x.declaration)) (globals_in r.program.items) n g all.globals is;
       results = λ n f is. at_place (λ (x : Function). IsFound r (result_of x)) (functions_in r.program.items) n f all.results is;
       members = λ struct name s d is has. (
-        field_there (λ (x : Declaration). IsFound r (declared role.Field x)) s.fields name d (struct_there (HasFields (IsFound r)) (structs_in r.program.items) struct s all.fields is) has,
+        field_there (λ (x : Declaration). IsFound r (declared Role.Field x)) s.fields name d (struct_there (HasFields (IsFound r)) (structs_in r.program.items) struct s all.fields is) has,
         field_there (HasSiblings r s.fields) s.fields name d (struct_there (AreSiblings r) (structs_in r.program.items) struct s siblings_of is) has,
       );
       one = laws.one r resolved placed low;
@@ -103,18 +94,18 @@ known_program laws r resolved placed low =
 
 -- ---- its functions
 
-own_locals : (r : Resolution) (ds : List Declaration) → AllByRecursion (IsItself r named.Variable) ds → AllByRecursion (IsLocalOf (IsFound r)) ds → AllByRecursion (IsOwnLocal r) ds
-own_locals r ds f g = together (IsItself r named.Variable) (IsLocalOf (IsFound r)) (IsOwnLocal r) (λ d a b. (a, b)) ds f g
+own_locals : (r : Resolution) (ds : List Declaration) → AllByRecursion (IsItself r Named.Variable) ds → AllByRecursion (IsLocalOf (IsFound r)) ds → AllByRecursion (IsOwnLocal r) ds
+own_locals r ds f g = together (IsItself r Named.Variable) (IsLocalOf (IsFound r)) (IsOwnLocal r) (λ d a b. (a, b)) ds f g
 
 functions_well : (r : Resolution) (fs : List Function) → AllByRecursion (λ (f : Function). IsFound r (result_of f)) fs
-    → AllByRecursion (λ (f : Function). AllByRecursion (IsItself r named.Variable) (f.parameters ++ locals_in_all f.statements)) fs → AllByRecursion (λ (f : Function). InBody (IsFound r) (in_function f) (locals_in_all f.statements)) fs
+    → AllByRecursion (λ (f : Function). AllByRecursion (IsItself r Named.Variable) (f.parameters ++ locals_in_all f.statements)) fs → AllByRecursion (λ (f : Function). InBody (IsFound r) (in_function f) (locals_in_all f.statements)) fs
     → AllByRecursion (λ (f : Function). AllByRecursion (λ (e : Expression). HasType r e (kind_at r e)) (in_function f)) fs → AllByRecursion (λ (f : Function). AllByRecursion (IsFair r) (function_transfers r f)) fs → AllByRecursion (IsWellFunction r) fs
 functions_well r [] results names bodies types fair = tt
 functions_well r (f ∷ rest) results names bodies types fair = (
   record {
     result = results.0;
-    parameters = front (IsItself r named.Variable) f.parameters (locals_in_all f.statements) names.0;
-    locals = own_locals r (locals_in_all f.statements) (back (IsItself r named.Variable) f.parameters (locals_in_all f.statements) names.0) bodies.0.locals;
+    parameters = front (IsItself r Named.Variable) f.parameters (locals_in_all f.statements) names.0;
+    locals = own_locals r (locals_in_all f.statements) (back (IsItself r Named.Variable) f.parameters (locals_in_all f.statements) names.0) bodies.0.locals;
     known = together (λ (e : Expression). HasType r e (kind_at r e)) (IsCastOf (IsFound r)) (IsKnown r) (λ e a b. (a, b)) (in_function f) types.0 bodies.0.casts;
     fair = fair.0;
   },

@@ -1,7 +1,5 @@
 -- Lists of children in which the cast is written one by one.
-use Rattle.std.proofs.{Common.{◌≡◌, ℕ, ◌+◌, ◌<◌, List, [], ◌∷◌, ◌++◌, length, take, get_or, refl, ap, sym, ◌∙◌}, lemmas.List.take_more}
-use Rattle.sharc_tree.specs.{declared.tree.expression.Expr.Expr, declared.tree.statement.Stmt.Stmt, Tree.{Expression, Arguments, no_arguments, argument, with_argument, Statement, Statements, no_statements, statement, with_statement}, View.{view_expr, view_arguments, view_stmt, view_statements}, Children.{view_arguments-push, view_statements-push}}
-use Rattle.sharc_suggest_laws.specs.{declared.written.Recast.Recast, Recast.{around, with_cast, all_with_cast, statement_with_cast, statements_with_cast}}
+use Rattle.sharc_suggest_laws.proofs.Imports.{◌≡◌, ℕ, ◌+◌, ◌<◌, List, [], ◌∷◌, ◌++◌, length, take, get_or, refl, ap, sym, ◌∙◌, take_more, Expr, Stmt, Expression, Arguments, no_arguments, argument, with_argument, Statement, Statements, no_statements, statement, with_statement, view_expr, view_arguments, view_stmt, view_statements, view_arguments-push, view_statements-push, Recast, around, with_cast, all_with_cast, statement_with_cast, statements_with_cast}
 
 argument_last : (c : Recast) (all : Arguments) (e : Expression) → all_with_cast c (with_argument all e) ≡ with_argument (all_with_cast c all) (around c (with_cast c e))
 argument_last c no_arguments e = refl

@@ -1,7 +1,4 @@
-use Rattle.std.proofs.Common.{◌≡◌, ap, sym, subst}
-use Rattle.sharc_ctype.specs.{Items.IsTyped, Resolved.{Resolution, IsResolved}}
-use Rattle.sharc_mode.specs.Moded.{Assignment}
-use Rattle.sharc_suggest_laws.specs.{Applied.{resolution_with, program_with}, Gone.IsGone}
+use Rattle.sharc_suggest_laws.proofs.Imports.{◌≡◌, ap, sym, subst, IsTyped, Resolution, IsResolved, Assignment, resolution_with, program_with, IsGone}
 use Rattle.sharc_suggest_laws.proofs.answered.is_repaired.Goals as goal
 
 -- src/answered.rt:15:1

@@ -1,5 +1,4 @@
-use Rattle.std.proofs.Common.{ap, ◌∙◌}
-use Rattle.sharc_suggest_laws.specs.Applied.{resolution_with}
+use Rattle.sharc_suggest_laws.proofs.Imports.{ap, ◌∙◌, resolution_with}
 use Rattle.sharc_suggest_laws.proofs.applied.apply.Goals as goal
 
 pub moded_with-requires : goal.moded_with-requires

@@ -1,5 +1,4 @@
-use Rattle.std.proofs.Common.{◌≡◌, drop}
-use Rattle.sharc_suggest_laws.specs.Applied.{base_site}
+use Rattle.sharc_suggest_laws.proofs.Imports.{◌≡◌, drop, base_site}
 use Rattle.sharc_suggest_laws.proofs.applied.base_site.Given as goal
 
 abbrev pub invariant-loop-one : goal.invariant-loop-one

@@ -1,5 +1,4 @@
-use Rattle.std.proofs.{Common.{◌<◌, sym, subst, arith}, lemmas.List.take_all, lemmas.List.Elements.{All-more, All-same}}
-use Rattle.sharc_tree.specs.declared.token.Token.{Token}
+use Rattle.sharc_suggest_laws.proofs.Imports.{◌<◌, sym, subst, arith, take_all, All-more, All-same, Token}
 use Rattle.sharc_suggest_laws.proofs.applied.have_files.Goals as goal
 
 pub loop-token-preserved : goal.loop-token-preserved

@@ -1,5 +1,4 @@
-use Rattle.std.proofs.Common.{◌<◌, take}
-use Rattle.std.specs.Prelude.{All}
+use Rattle.sharc_suggest_laws.proofs.Imports.{◌<◌, take, All}
 use Rattle.sharc_suggest_laws.proofs.applied.have_files.Given as goal
 
 abbrev pub invariant-loop-token : goal.invariant-loop-token

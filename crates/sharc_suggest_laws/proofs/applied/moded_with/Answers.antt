@@ -1,9 +1,4 @@
-use Rattle.std.proofs.Common.{◌≡◌, ℕ, List, Option, None, length, map, replicate, ap, ◌∙◌, subst}
-use Rattle.std.specs.Prelude.{IfOk}
-use Rattle.sharc_tree.specs.declared.ctype.Mode.{Mode}
-use Rattle.sharc_ctype.specs.{Entities.entity_at, Resolved.Resolution}
-use Rattle.sharc_mode.specs.{declared.position.Reason.Reason, Moded.Assignment}
-use Rattle.sharc_suggest_laws.specs.Applied.{targets, inserted, moved, first_of, first_new, resolution_with, assignment_with}
+use Rattle.sharc_suggest_laws.proofs.Imports.{◌≡◌, ℕ, List, Option, None, length, map, replicate, ap, ◌∙◌, subst, IfOk, Mode, entity_at, Resolution, Reason, Assignment, targets, inserted, moved, first_of, first_new, resolution_with, assignment_with}
 use Rattle.sharc_suggest_laws.proofs.applied.moded_with.Goals as goal
 
 pub returns : goal.returns

@@ -1,4 +1,4 @@
-use Rattle.std.proofs.Common.{◌≡◌, take}
+use Rattle.sharc_suggest_laws.proofs.Imports.{◌≡◌, take}
 use Rattle.sharc_suggest_laws.proofs.applied.modes_of.Given as goal
 
 abbrev pub invariant-loop-position : goal.invariant-loop-position

@@ -1,8 +1,4 @@
-use Rattle.std.proofs.Common.{◌≡◌, ap, ◌∙◌, subst}
-use Rattle.std.specs.Prelude.{IfOk}
-use Rattle.sharc_tree.specs.{Tree.Program, View.view_program}
-use Rattle.sharc_ctype.specs.{Items.named_in, Resolved.Resolution}
-use Rattle.sharc_suggest_laws.specs.{Applied.program_with, Recast.program_with_cast}
+use Rattle.sharc_suggest_laws.proofs.Imports.{◌≡◌, ap, ◌∙◌, subst, IfOk, Program, view_program, named_in, Resolution, program_with, program_with_cast}
 use Rattle.sharc_suggest_laws.proofs.applied.typed_with.Goals as goal
 
 pub returns : goal.returns

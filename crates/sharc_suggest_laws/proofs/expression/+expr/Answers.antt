@@ -1,5 +1,4 @@
-use Rattle.sharc_suggest_laws.proofs.WriteLemmas.{argument_written}
-use Rattle.sharc_tree.specs.Children.{view_call}
+use Rattle.sharc_suggest_laws.proofs.{Imports.view_call, WriteLemmas.argument_written}
 use Rattle.sharc_suggest_laws.proofs.expression.+expr.Goals as goal
 
 pub arguments-loop-expr-preserved : goal.arguments-loop-expr-preserved

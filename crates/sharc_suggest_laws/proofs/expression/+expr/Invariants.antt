@@ -1,6 +1,4 @@
-use Rattle.std.proofs.Common.{◌≡◌, take}
-use Rattle.sharc_tree.specs.View.{view_arguments}
-use Rattle.sharc_suggest_laws.specs.Recast.{all_with_cast}
+use Rattle.sharc_suggest_laws.proofs.Imports.{◌≡◌, take, view_arguments, all_with_cast}
 use Rattle.sharc_suggest_laws.proofs.expression.+expr.Given as goal
 
 abbrev pub invariant-arguments-loop-expr : goal.invariant-arguments-loop-expr

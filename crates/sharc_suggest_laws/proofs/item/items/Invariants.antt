@@ -1,6 +1,4 @@
-use Rattle.std.proofs.Common.{◌≡◌, take, map}
-use Rattle.sharc_tree.specs.View.{view_items}
-use Rattle.sharc_suggest_laws.specs.Recast.{item_with_cast}
+use Rattle.sharc_suggest_laws.proofs.Imports.{◌≡◌, take, map, view_items, item_with_cast}
 use Rattle.sharc_suggest_laws.proofs.item.items.Given as goal
 
 abbrev pub invariant-loop-one : goal.invariant-loop-one

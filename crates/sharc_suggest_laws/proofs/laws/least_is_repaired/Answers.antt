@@ -1,5 +1,4 @@
-use Rattle.sharc_mode.specs.Moded.{IsWhole}
-use Rattle.sharc_infer_laws.specs.Locks.{HasWrittenLocks}
+use Rattle.sharc_suggest_laws.proofs.Imports.{IsWhole, HasWrittenLocks}
 use Rattle.sharc_suggest_laws.proofs.laws.least_is_repaired.Goals as goal
 
 pub returns : goal.returns

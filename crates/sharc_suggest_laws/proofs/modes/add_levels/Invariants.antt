@@ -1,5 +1,4 @@
-use Rattle.std.proofs.Common.{◌≡◌, ◌++◌, take, map}
-use Rattle.sharc_suggest_laws.specs.Applied.{written_or}
+use Rattle.sharc_suggest_laws.proofs.Imports.{◌≡◌, ◌++◌, take, map, written_or}
 use Rattle.sharc_suggest_laws.proofs.modes.add_levels.Given as goal
 
 abbrev pub invariant-loop-level : goal.invariant-loop-level

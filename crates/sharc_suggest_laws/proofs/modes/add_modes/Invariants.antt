@@ -1,4 +1,4 @@
-use Rattle.std.proofs.Common.{◌≡◌, ◌++◌, take}
+use Rattle.sharc_suggest_laws.proofs.Imports.{◌≡◌, ◌++◌, take}
 use Rattle.sharc_suggest_laws.proofs.modes.add_modes.Given as goal
 
 abbrev pub invariant-loop-mode : goal.invariant-loop-mode

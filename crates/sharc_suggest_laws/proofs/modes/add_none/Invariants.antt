@@ -1,4 +1,4 @@
-use Rattle.std.proofs.Common.{◌≡◌, ◌++◌, replicate, None}
+use Rattle.sharc_suggest_laws.proofs.Imports.{◌≡◌, ◌++◌, replicate, None}
 use Rattle.sharc_suggest_laws.proofs.modes.add_none.Given as goal
 
 abbrev pub invariant-loop-made : goal.invariant-loop-made

@@ -1,4 +1,4 @@
-use Rattle.std.proofs.Common.{◌≡◌, ◌++◌, take}
+use Rattle.sharc_suggest_laws.proofs.Imports.{◌≡◌, ◌++◌, take}
 use Rattle.sharc_suggest_laws.proofs.modes.add_reasons.Given as goal
 
 abbrev pub invariant-loop-reason : goal.invariant-loop-reason

@@ -1,5 +1,4 @@
-use Rattle.std.proofs.Common.{◌≡◌, take, map}
-use Rattle.sharc_suggest_laws.specs.Applied.{moved}
+use Rattle.sharc_suggest_laws.proofs.Imports.{◌≡◌, take, map, moved}
 use Rattle.sharc_suggest_laws.proofs.modes.all_moved.Given as goal
 
 abbrev pub invariant-loop-reason : goal.invariant-loop-reason

@@ -1,6 +1,4 @@
-use Rattle.std.proofs.Common.{ap, ◌∙◌}
-use Rattle.sharc_tree.specs.{Tree.block, Children.view_block}
-use Rattle.sharc_suggest_laws.proofs.WriteLemmas.{statement_written}
+use Rattle.sharc_suggest_laws.proofs.{Imports.{ap, ◌∙◌, block, view_block}, WriteLemmas.statement_written}
 use Rattle.sharc_suggest_laws.proofs.statement.+stmt.Goals as goal
 
 pub statements-loop-stmt-preserved : goal.statements-loop-stmt-preserved

@@ -1,6 +1,4 @@
-use Rattle.std.proofs.Common.{◌≡◌, take}
-use Rattle.sharc_tree.specs.View.{view_statements}
-use Rattle.sharc_suggest_laws.specs.Recast.{statements_with_cast}
+use Rattle.sharc_suggest_laws.proofs.Imports.{◌≡◌, take, view_statements, statements_with_cast}
 use Rattle.sharc_suggest_laws.proofs.statement.+stmt.Given as goal
 
 abbrev pub invariant-statements-loop-stmt : goal.invariant-statements-loop-stmt
