@@ -4,11 +4,12 @@ use Rattle.std.specs.Prelude.{if◌then◌else◌, nat_le, nat_lt, sum_by}
 use Rattle.sharc_code.specs.declared.state.Wait.{Wait}
 use Rattle.sharc_code.specs.declared.state.Wait.TheVariants.{Mutex, Join, Cond}
 use Rattle.sharc_cpu.specs.Thread.{ThreadView}
-use Rattle.sharc_rounds.specs.declared.pace.{Pace.Pace, Speed.Speed, Makers.Makers, TheConstants.{FIRST, APART}}
+use Rattle.sharc_rounds.specs.declared.pace.{Pace.Pace, Speed.Speed, Makers.Makers}
+use Rattle.sharc_rounds.specs.declared.pace.TheConstants.{FIRST, APART, MOST_APART, CALM}
 use Rattle.sharc_rounds.specs.declared.hand.Hand.{Hand}
 use Rattle.sharc_rounds.specs.declared.busy.Busy.{Busy}
 use Rattle.sharc_rounds.specs.declared.busy.Busy.TheVariants.{Nobody, One, Several}
-use Rattle.sharc_rounds.specs.declared.parts.TheConstants.{LEAST}
+use Rattle.sharc_rounds.specs.declared.parts.TheConstants.{PART}
 use Rattle.sharc_rounds.specs.declared.pace.Makers.TheVariants.{Workers, Caller, CallerByParts}
 
 -- a sum, or the most that a number of 64 bits can be
@@ -24,17 +25,34 @@ keeps_up one other =
 
 -- these; but the others, where these have gone on for more than so many times as long as the others took
 abbrev pub or_others : Makers → Makers → ℕ → ℕ → ℕ → Makers
-or_others these others times took since = if nat_lt took (since / times) then others else these
+or_others these others times took since = if nat_lt (took * times) since then others else these
+
+-- how the caller makes a round, where so many ended since a thread waited for another
+abbrev pub caller_for : ℕ → Makers
+caller_for calm = if nat_lt calm CALM then CallerByParts else Caller
 
 -- the caller, until it has gone on for some time; else who is faster, or the others. The workers are faster only where
 -- they are so by more than an eighth
-abbrev pub next_makers : Option Speed → Option Speed → ℕ → Makers
-next_makers None workers since = CallerByParts
-next_makers (Some parts) None since = or_others CallerByParts Workers FIRST parts.nanoseconds since
-next_makers (Some parts) (Some workers) since =
-    if keeps_up parts workers
-    then or_others CallerByParts Workers APART workers.nanoseconds since
-    else or_others Workers CallerByParts APART parts.nanoseconds since
+abbrev pub next_makers_of : Makers → Option Speed → Option Speed → ℕ → ℕ → Makers
+next_makers_of how None workers apart since = how
+next_makers_of how (Some caller) None apart since = or_others how Workers FIRST caller.nanoseconds since
+next_makers_of how (Some caller) (Some workers) apart since =
+    if keeps_up caller workers
+    then or_others how Workers apart workers.nanoseconds since
+    else or_others Workers how APART caller.nanoseconds since
+
+abbrev pub next_makers : Pace → Makers
+next_makers pace = next_makers_of (caller_for pace.calm) pace.caller pace.workers pace.apart pace.since
+
+-- who makes a round, by how many workers are busy and whether the time is told: where it is not, the gate may hold a
+-- thread until another has made a step
+abbrev pub makers_for : Pace → Busy → Option ℕ → Makers
+makers_for pace Several (Some time) = next_makers pace
+makers_for pace Several None = Workers
+makers_for pace One (Some time) = caller_for pace.calm
+makers_for pace One None = Caller
+makers_for pace Nobody (Some time) = caller_for pace.calm
+makers_for pace Nobody None = Caller
 
 -- how fast a round of so many events was, if it was told when it began and ended
 abbrev pub speed_of : ℕ → Option ℕ → Option ℕ → Option Speed
@@ -56,28 +74,57 @@ speed_with (Some before) round = record {
 -- how long those who made the last rounds have gone on, when a round more took so long: others begin anew
 abbrev pub since_with : Makers → Makers → ℕ → ℕ → ℕ
 since_with Workers Workers since took = at_most_64_bits (since + took)
-since_with CallerByParts CallerByParts since took = at_most_64_bits (since + took)
-since_with makers last since took = took
+since_with Workers last since took = took
+since_with makers Workers since took = took
+since_with makers last since took = at_most_64_bits (since + took)
 
 -- how fast the workers were, if they made the last round too: what they made longer ago were other turns
 abbrev pub workers_lately : Option Speed → Makers → Option Speed
 workers_lately workers Workers = workers
 workers_lately workers last = None
 
-abbrev pub pace_with : Pace → Makers → Speed → Pace
-pace_with pace Workers round = record {
-  parts = pace.parts;
-  workers = Some (speed_with (workers_lately pace.workers pace.last) round);
+-- for how many times the time of their last rounds the workers are left alone, where these were so fast
+abbrev pub apart_with : Option Speed → Speed → ℕ → ℕ
+apart_with None workers apart = APART
+apart_with (Some caller) workers apart =
+    if keeps_up caller workers then (if nat_lt apart MOST_APART then apart * 2 else MOST_APART) else APART
+
+abbrev pub pace_of_workers : Pace → Speed → ℕ → Pace
+pace_of_workers pace workers took = record {
+  caller = pace.caller;
+  workers = Some workers;
   last = Workers;
-  since = since_with Workers pace.last pace.since round.nanoseconds;
+  since = since_with Workers pace.last pace.since took;
+  apart = apart_with pace.caller workers pace.apart;
+  calm = pace.calm;
 }
-pace_with pace CallerByParts round = record {
-  parts = Some (speed_with pace.parts round);
+
+abbrev pub pace_of_caller : Pace → Makers → Speed → Pace
+pace_of_caller pace makers round = record {
+  caller = Some (speed_with pace.caller round);
   workers = pace.workers;
-  last = CallerByParts;
-  since = since_with CallerByParts pace.last pace.since round.nanoseconds;
+  last = makers;
+  since = since_with makers pace.last pace.since round.nanoseconds;
+  apart = pace.apart;
+  calm = pace.calm;
 }
-pace_with pace Caller round = pace
+
+abbrev pub pace_with : Pace → Makers → Speed → Pace
+pace_with pace Workers round =
+    pace_of_workers pace (speed_with (workers_lately pace.workers pace.last) round) round.nanoseconds
+pace_with pace CallerByParts round = pace_of_caller pace CallerByParts round
+pace_with pace Caller round = pace_of_caller pace Caller round
+
+-- how many rounds ended since a thread waited for another at the end of one
+abbrev pub calm_with : Pace → Bool → Pace
+calm_with pace waited = record {
+  caller = pace.caller;
+  workers = pace.workers;
+  last = pace.last;
+  since = pace.since;
+  apart = pace.apart;
+  calm = if waited then 0 else at_most_64_bits (pace.calm + 1);
+}
 
 -- a round counts where several workers were busy and the time was told
 abbrev pub pace_after : Pace → Busy → Makers → Option Speed → Pace
@@ -86,10 +133,9 @@ pace_after pace Several makers None = pace
 pace_after pace One makers round = pace
 pace_after pace Nobody makers round = pace
 
--- the turns of the part of a quantum behind one of so many: where nobody waited, eight times those; else
--- more than the least
-abbrev pub next_part : ℕ → Bool → ℕ
-next_part turns waited = if waited then LEAST + turns % LEAST + 1 else turns * 8
+-- the turns of the part of a quantum behind one of so many: more than the least
+abbrev pub next_part : ℕ → ℕ
+next_part turns = PART + turns % PART + 1
 
 -- the events that the thread at a place has made
 abbrev pub made_by : Option ThreadView → ℕ
@@ -117,7 +163,3 @@ waits_for_another (Some (Cond word site)) = true
 abbrev pub waits_on : Option ThreadView → Bool
 waits_on None = false
 waits_on (Some thread) = waits_for_another thread.wait
-
-abbrev pub waits_at : Option Hand → Bool
-waits_at None = false
-waits_at (Some hand) = waits_on hand.seat

@@ -1,10 +1,10 @@
 //! A round that the caller makes alone by parts: it goes round the threads, and makes a part of the quantum of each.
 
-ghost use Rattle.std.specs.Prelude.{◌≡◌, ◌≤◌, ◌<◌, ℕ, None, true, false, length, slice_index_or};
+ghost use Rattle.std.specs.Prelude.{◌≡◌, ◌<◌, length};
 ghost use Rattle.sharc_code.specs.Layout.{Fits, words_of};
 ghost use Rattle.sharc_cpu.specs.Rows.{IsPlan};
 ghost use Rattle.sharc_rounds.specs.declared.stint.TheConstants.{QUANTUM as quantum};
-ghost use Rattle.sharc_rounds.specs.Pace.{next_part, made_at, waits_at, events_at_hands};
+ghost use Rattle.sharc_rounds.specs.Pace.{next_part, made_at, events_at_hands};
 ghost use Rattle.sharc_rounds.specs.Round.{MayAllRun, HaveAllRun};
 
 use crate::gate::Gate;
@@ -14,22 +14,17 @@ use crate::stint::{QUANTUM, Stint};
 use crate::worker::Worker;
 use sharc_bus::Bus;
 use sharc_code::{Code, Shape};
-use sharc_cpu::{RowPlan, Wait};
+use sharc_cpu::RowPlan;
 
-// The turns of the first part of a quantum.
-pub(crate) const LEAST: u32 = 1_000;
+// The turns of the first part of a quantum, and the least of each other one.
+pub(crate) const PART: u32 = 1_000;
 
-// The turns of the part behind one of so many: eight times those, or, once a thread waited for another, about the
-// least. Then it is one more each time, so that no loop of a thread is at the same place at the end of each.
-fn next_part(turns: u32, waited: bool) -> u32
-    requires few { turns ≤ quantum }
-    ensures { result ≡ next_part turns waited }
+// The turns of the part behind one of so many: about the least, and one more each time, so that no loop of a thread is
+// at the same place at the end of each.
+fn next_part(turns: u32) -> u32
+    ensures { result ≡ next_part turns }
 {
-    if waited {
-        LEAST + turns % LEAST + 1
-    } else {
-        turns * 8
-    }
+    PART + turns % PART + 1
 }
 
 // The events that the thread at a place has made.
@@ -39,22 +34,6 @@ fn made_at(hand: &Option<Hand>) -> u64
     match hand {
         None => 0,
         Some(hand) => made_by(&hand.seat),
-    }
-}
-
-// Whether the thread at a place waits for what another may do at any time: a mutex or a condition.
-fn waits_at(hand: &Option<Hand>) -> bool
-    ensures { result ≡ waits_at hand.now }
-{
-    match hand {
-        None => false,
-        Some(hand) => match &hand.seat {
-            None => false,
-            Some(thread) => match thread.wait() {
-                None | Some(Wait::Join(_, _)) => false,
-                Some(Wait::Mutex(_, _)) | Some(Wait::Cond(_, _)) => true,
-            },
-        },
     }
 }
 
@@ -68,19 +47,6 @@ impl Worker {
             all = all.saturating_add(made_at(&self.hands[n]));
         }
         all
-    }
-
-    // Whether one of its threads waits for a mutex or a condition.
-    fn waits(&self) -> bool
-        ensures yes { result ≡ true → (n : ℕ) × (waits_at (slice_index_or self.now.hands.items n None) ≡ true) }
-        ensures no { result ≡ false → (n : ℕ) → waits_at (slice_index_or self.now.hands.items n None) ≡ false }
-    {
-        for n in 0..self.hands.len() {
-            if waits_at(&self.hands[n]) {
-                return true;
-            }
-        }
-        false
     }
 
     /// One quantum of each thread by parts: one of each thread, then the next of each, and so on, until the quanta are
@@ -103,8 +69,7 @@ impl Worker {
         ensures { HaveAllRun code.now shape.now limit self.old self.new }
     {
         let mut left = QUANTUM;
-        let mut part = LEAST;
-        let mut waited = false;
+        let mut part = PART;
         let mut before = self.events();
         'parts: loop {
             let turns = part.min(left);
@@ -124,8 +89,7 @@ impl Worker {
                 return;
             }
             before = events;
-            waited = waited || self.waits();
-            part = next_part(turns, waited);
+            part = next_part(turns);
         }
     }
 }

@@ -5,12 +5,12 @@ ghost use Rattle.sharc_code.specs.Layout.{Fits};
 ghost use Rattle.sharc_threads.specs.Seats.{left, may_turn_at};
 ghost use Rattle.sharc_cpu.specs.Rows.{IsPlan};
 ghost use Rattle.sharc_rounds.specs.Round.{AreRounds};
-ghost use Rattle.sharc_rounds.specs.Pace.{events_of};
+ghost use Rattle.sharc_rounds.specs.Pace.{events_of, waits_on};
 ghost use Rattle.sharc_rounds.specs.Run.{IsRoundsRun};
 
 use crate::gate::Gate;
 use crate::laws::round_laws;
-use crate::pace::{Lap, Makers, Pace, made_by};
+use crate::pace::{Lap, Makers, Pace, made_by, waits_on};
 use crate::round::Rounds;
 use crate::words::Words;
 use sharc_code::{Code, Shape, fits_law, opening, run_laws};
@@ -47,6 +47,20 @@ impl Rounds {
             all = all.saturating_add(made_by(&self.threads.seats[n]));
         }
         all
+    }
+
+    // Whether a thread waits for a mutex or a condition.
+    fn waits(&self) -> bool
+        ensures yes { result ≡ true → (t : ℕ)
+            × (waits_on (slice_index_or self.now.threads.seats.items t None) ≡ true) }
+        ensures no { result ≡ false → (t : ℕ) → waits_on (slice_index_or self.now.threads.seats.items t None) ≡ false }
+    {
+        for n in 0..self.threads.seats.len() {
+            if waits_on(&self.threads.seats[n]) {
+                return true;
+            }
+        }
+        false
     }
 
     // After one more round.
@@ -157,6 +171,7 @@ pub fn run_rounds<R: Threads + Sync, G: Gate + Sync>(
             events: rounds.events().saturating_sub(before),
             begun,
             ended: time_of(gate, workers),
+            waited: rounds.waits(),
         };
         pace = pace.after(busy, makers, lap);
     }

@@ -2,7 +2,7 @@
 
 ghost use Rattle.std.specs.Prelude.{◌<◌};
 
-use crate::rounds::bench::{LIMIT, VALUE, function, run};
+use crate::rounds::bench::{A, LIMIT, VALUE, function, run};
 use crate::rounds::starts::{keeps, own_number};
 use sharc_code::{Instr, Parameter, Register};
 use sharc_rounds::{End, Gate};
@@ -173,5 +173,90 @@ fn the_slower_ones_are_left(rt: HostRuntime) -> Result<(), Fail> {
     assert_eq!(rt; ran.end, End::Budget);
     assert!(rt; by_others > 0);
     assert!(rt; by_others < by_first / 5, "{by_first} {by_others}");
+    Ok(())
+}
+
+// Tells a time that goes on with the steps of others alone, so that workers never are faster. It counts how often the
+// first thread of the system goes from one thread to another, and the steps of thread 2.
+#[derive(Drop)]
+struct Switches<'a> {
+    timed: Timed<'a>,
+    last: AtomicU64,
+    switches: AtomicU64,
+    of_2: AtomicU64,
+}
+
+impl<'a> Switches<'a> {
+    fn new(rt: &'a HostRuntime) -> Switches<'a> {
+        Switches {
+            timed: Timed::new(rt),
+            last: AtomicU64::new(0),
+            switches: AtomicU64::new(0),
+            of_2: AtomicU64::new(0),
+        }
+    }
+}
+
+impl<'a> Gate for Switches<'a> {
+    fn step(&self, worker: u32, thread: u32) {
+        let others = self.timed.counts().1;
+        self.timed.step(worker, thread);
+        if thread == 2 {
+            self.of_2.fetch_add(1, Ordering::SeqCst);
+        }
+        if self.timed.counts().1 == others {
+            let last = self.last.swap(u64::from(thread), Ordering::SeqCst);
+            if last != u64::from(thread) {
+                self.switches.fetch_add(1, Ordering::SeqCst);
+            }
+        }
+    }
+
+    fn nanoseconds(&self) -> Option<u64> {
+        self.timed.nanoseconds()
+    }
+}
+
+// Some seventy rounds without a thread that waits: the caller makes the first sixteen by parts, in which it goes some
+// seventy times from one thread to the other, and of the others whole quanta.
+#[test]
+fn the_caller_makes_whole_quanta_where_no_thread_waits(rt: HostRuntime) -> Result<(), Fail> {
+    let others = [function(7, Parameter::None)];
+    let gate = Switches::new(&rt);
+    let ran = run(&rt, rt.alloc(), &LOOPS, &others, 2, 400_000, &gate)?;
+    let switches = gate.switches.load(Ordering::SeqCst);
+    assert_eq!(rt; ran.end, End::Budget);
+    assert!(rt; switches > 500, "{switches}");
+    assert!(rt; switches < 2_000, "{switches}");
+    Ok(())
+}
+
+// `main` starts two threads and joins both. The first takes a mutex and goes round and round, the second waits for it.
+const HOLDS: [Instr; 12] = [
+    Instr::Spawn(1, 1, Register::Int(0), 3),
+    Instr::Spawn(2, 2, Register::Int(0), 3),
+    Instr::Join(1, 4),
+    Instr::Join(2, 4),
+    Instr::Return(6),
+    // The first thread, at place 7.
+    Instr::Lock(A, 8),
+    Instr::Constant(1, 1),
+    Instr::Constant(1, 2),
+    Instr::Jump(8),
+    // The second thread, at place 11.
+    Instr::Lock(A, 12),
+    Instr::Return(12),
+    Instr::Exit,
+];
+
+// Where a thread waits at the end of each round, the caller makes all rounds by parts: the thread tries in each part.
+#[test]
+fn the_caller_makes_parts_where_a_thread_waits(rt: HostRuntime) -> Result<(), Fail> {
+    let others = [function(7, Parameter::None), function(11, Parameter::None)];
+    let gate = Switches::new(&rt);
+    let ran = run(&rt, rt.alloc(), &HOLDS, &others, 2, 400_000, &gate)?;
+    let tries = gate.of_2.load(Ordering::SeqCst);
+    assert_eq!(rt; ran.end, End::Budget);
+    assert!(rt; tries > 1_000, "{tries}");
     Ok(())
 }

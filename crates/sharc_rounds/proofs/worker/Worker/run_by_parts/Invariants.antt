@@ -1,5 +1,5 @@
-use Rattle.std.proofs.Common.{◌≤◌, ◌<◌}
-use Rattle.sharc_rounds.specs.{declared.worker.Worker.Worker, declared.stint.TheConstants.QUANTUM, Round.{MayAllRun, HaveAllRun}}
+use Rattle.std.proofs.Common.{◌<◌}
+use Rattle.sharc_rounds.specs.{declared.worker.Worker.Worker, Round.{MayAllRun, HaveAllRun}}
 use Rattle.sharc_rounds.proofs.worker.Worker.run_by_parts.Given as goal
 
 abbrev pub invariant-parts : goal.invariant-parts
@@ -7,7 +7,6 @@ invariant-parts g l = record {
   may : MayAllRun l.code l.shape l.limit l.bus l.left l.self;
   ran : (new : Worker) → HaveAllRun l.code l.shape l.limit l.self new → HaveAllRun l.code l.shape l.limit l.fn.self new;
   some : 0 < l.left;
-  few : l.left ≤ QUANTUM;
   part : 0 < l.part;
 }
 
