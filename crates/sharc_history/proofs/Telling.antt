@@ -4,7 +4,7 @@ use Rattle.std.specs.{Prelude.{reverse, IfSome}, Option.option_map}
 use Rattle.sharc_tree.specs.{declared.event.Act.Act, declared.event.SourceEvent.SourceEvent}
 use Rattle.sharc_tree.specs.declared.event.Act.TheVariants as acts
 use Rattle.sharc_code.specs.{declared.code.Code.Code, declared.shape.Shape.Shape, Machine.instr_at, Runs.{Said, Turn, result_of, told_by, with_told}, Says.{says, speaks_of, reference, elements_in, elements_after}, Whole.{one_thread, Erase, place_after}}
-use Rattle.sharc_history.specs.{declared.cells.Origin.Origin, declared.event.Event.Event, declared.next.Coming.Coming, Told.{Told, shown, bare, told, told_of_event, bare_of, comes, spoken}, History.{elements_behind, told_events, with_origin}, Going.{AwaitsAt, with_event, elements_by}}
+use Rattle.sharc_history.specs.{declared.event.Event.Event, declared.next.Coming.Coming, Told.{Told, shown, bare, told, told_of_event, bare_of, comes, spoken}, History.{elements_behind, told_events, with_shown}, Going.{AwaitsAt, with_event, elements_by}}
 use Rattle.sharc_lemmas.proofs.Lists.{map_both}
 
 -- ---- the turn
@@ -78,15 +78,15 @@ elements_more code sources (Some e) (Some x) number held same h =
     ∙ ap (λ (k : Told). elements_behind k.bare number (elements_in sources number)) one
     ∙ behind_is x x.act number (elements_in sources number)
 
--- ---- where in the source they are
-pub origins_more : (code : Code) (origins : List Origin) (events : List Event) (e : Option Event) (x : Option SourceEvent) (at here : Origin) → option_map (told code) e ≡ bare_of x
-    → IfSome e (λ e. e.origin ≡ at) → at ≡ here → map (λ (e : Event). e.origin) events ≡ reverse origins
-    → map (λ (e : Event). e.origin) (with_event e events) ≡ reverse (with_origin x here origins)
-origins_more code origins events None None at here same own is h = h
-origins_more code origins events None (Some x) at here same own is h = absurd (cc)
-origins_more code origins events (Some e) None at here same own is h = absurd (cc)
-origins_more code origins events (Some e) (Some x) at here same own is h =
-    map_both (λ (e : Event). e.origin) events (e ∷ [])
-    ∙ ap (λ l. l ++ e.origin ∷ []) h
-    ∙ ap (λ k. reverse origins ++ k ∷ []) (own ∙ is)
-    ∙ sym (reverse-append (here ∷ []) origins)
+-- ---- what else is shown of them
+pub shown_more : {A : Type 0} (code : Code) (shows : Event → A) (all : List A) (events : List Event) (e : Option Event) (x : Option SourceEvent) (at here : A) → option_map (told code) e ≡ bare_of x
+    → IfSome e (λ e. shows e ≡ at) → at ≡ here → map shows events ≡ reverse all
+    → map shows (with_event e events) ≡ reverse (with_shown x here all)
+shown_more code shows all events None None at here same own is h = h
+shown_more code shows all events None (Some x) at here same own is h = absurd (cc)
+shown_more code shows all events (Some e) None at here same own is h = absurd (cc)
+shown_more code shows all events (Some e) (Some x) at here same own is h =
+    map_both shows events (e ∷ [])
+    ∙ ap (λ l. l ++ shows e ∷ []) h
+    ∙ ap (λ k. reverse all ++ k ∷ []) (own ∙ is)
+    ∙ sym (reverse-append (here ∷ []) all)

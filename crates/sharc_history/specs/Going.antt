@@ -8,7 +8,8 @@ use Rattle.sharc_seq.specs.{Run.AreChosen, Walk.StandsAt}
 use Rattle.sharc_threads.specs.Ends.{is_enabled}
 use Rattle.sharc_history.specs.{declared.next.Coming.Coming, declared.event.Event.Event, Origins.origin_at}
 use Rattle.sharc_history.specs.{Told.{shown, told, told_of_event, comes, spoken, IsComing}, declared.going.Going.Going}
-use Rattle.sharc_history.specs.History.{elements_of, elements_behind, told_events, origins_of}
+use Rattle.sharc_history.specs.History.{elements_of, elements_behind, told_events, origins_of, references_of}
+use Rattle.sharc_history.specs.References.{deed_refers, next_refers, refers_at}
 
 -- this run is there, with its events and the elements of its objects
 pub record GoesAt (code : Code) (s : Shape) (turns : List Turn) (going : Going) : Type 0 where
@@ -16,6 +17,7 @@ pub record GoesAt (code : Code) (s : Shape) (turns : List Turn) (going : Going) 
   pub count : length going.schedule.items ≡ length turns
   pub events : map (told code) going.events.items ≡ map told_of_event (reverse (told_events code s turns))
   pub origins : map (λ (e : Event). e.origin) going.events.items ≡ reverse (origins_of code s turns)
+  pub references : map (λ (e : Event). deed_refers e.deed) going.events.items ≡ reverse (references_of code s turns)
   pub elements : (number : ℕ) → elements_of going.made number ≡ elements_in (told_events code s turns) number
 
 abbrev pub IsGoing : Code → Shape → Going → Type 0
@@ -27,6 +29,8 @@ pub record AwaitsAt (code : Code) (s : Shape) (turns : List Turn) (t : ℕ) (com
   pub is : IsComing code (instr_at code ((place_after code s turns).threads t).at.pc)
       ((place_after code s turns).threads t) coming
   pub origin : coming.origin ≡ origin_at code ((place_after code s turns).threads t)
+  pub refers : (found : ℕ)
+      → next_refers coming.next found ≡ refers_at code ((place_after code s turns).threads t) found
 
 -- an event more, and what it makes of the elements of objects
 abbrev pub with_event : Option Event → List Event → List Event
@@ -45,6 +49,7 @@ pub record Tells (t : ℕ) (coming : Coming) (found : ℕ) (old new : Going) : T
   pub is : (code : Code)
       → option_map (told code) event ≡ comes code t coming found (elements_of old.made (spoken coming.next found))
   pub origin : IfSome event (λ e. e.origin ≡ coming.origin)
+  pub refers : IfSome event (λ e. deed_refers e.deed ≡ next_refers coming.next found)
   pub events : new.events.items ≡ with_event event old.events.items
   pub elements : (number : ℕ) → elements_of new.made number ≡ elements_by event number (elements_of old.made number)
 

@@ -1,6 +1,7 @@
 pub mod Told
 pub mod Refused
 pub mod Origins
+pub mod References
 pub mod History
 pub mod Going
 pub mod Lasts

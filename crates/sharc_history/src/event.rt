@@ -1,11 +1,13 @@
 //! The event of a turn, by what its step found.
 
-ghost use Rattle.std.specs.Prelude.{◌≡◌, ◌<◌, IfSome};
+ghost use Rattle.std.specs.Prelude.{◌≡◌, ◌<◌, Some, None, IfSome};
 ghost use Rattle.std.specs.Option.{option_map};
 ghost use Rattle.sharc_code.specs.declared.code.Code.{Code};
 ghost use Rattle.sharc_code.specs.Says.{started_with};
 ghost use Rattle.sharc_history.specs.Told.{shown, valued, value_of, new_told, nobody_told, seen_told, taken, tried};
 ghost use Rattle.sharc_history.specs.Told.{told_of, told, comes, spoken};
+ghost use Rattle.sharc_history.specs.References.{value_refers, deed_refers, argument_refers, parameter_refers};
+ghost use Rattle.sharc_history.specs.References.{next_refers};
 
 use crate::cells::{Origin, Where};
 use crate::next::{Argument, Coming, Next};
@@ -68,7 +70,8 @@ fn refers(number: u64, elements: u64) -> GivenValue
 }
 
 fn argued(argument: Argument, elements: u64) -> GivenValue
-    ensures { valued result ≡ value_of argument elements }
+    ensures value { valued result ≡ value_of argument elements }
+    ensures refers { value_refers result ≡ argument_refers argument }
 {
     match argument {
         Argument::Int(value) => GivenValue::Int(value),
@@ -78,7 +81,8 @@ fn argued(argument: Argument, elements: u64) -> GivenValue
 
 // What a thread of a function with this parameter is begun with, where its argument's word holds this.
 fn begun(parameter: Parameter, found: u64, elements: u64) -> GivenValue
-    ensures { valued result ≡ started_with parameter found elements }
+    ensures value { valued result ≡ started_with parameter found elements }
+    ensures refers { value_refers result ≡ parameter_refers parameter found }
 {
     match parameter {
         Parameter::None | Parameter::Int => GivenValue::Int(found.cast_signed()),
@@ -88,7 +92,8 @@ fn begun(parameter: Parameter, found: u64, elements: u64) -> GivenValue
 
 // The deed of a New that is on its way.
 fn making(state: NewState) -> Option<Deed>
-    ensures { option_map shown result ≡ new_told state state.stage }
+    ensures shown { option_map shown result ≡ new_told state state.stage }
+    ensures refers { IfSome result (λ d. deed_refers d ≡ None) }
 {
     match state.sized() {
         Some((number, elements)) => Some(Deed::Makes(Reference { number, elements })),
@@ -98,7 +103,8 @@ fn making(state: NewState) -> Option<Deed>
 
 // The deed of a Take of a local, which is none where that is NULL.
 fn taking(number: u64, elements: u64) -> Option<Deed>
-    ensures { option_map shown result ≡ taken number elements }
+    ensures shown { option_map shown result ≡ taken number elements }
+    ensures refers { IfSome result (λ d. deed_refers d ≡ Some number) }
 {
     if number == 0 {
         None
@@ -109,7 +115,8 @@ fn taking(number: u64, elements: u64) -> Option<Deed>
 
 // The deed of a signal that found this, where there may be no waiter.
 fn signalling(at: Where, found: u64) -> Option<Deed>
-    ensures { option_map shown result ≡ nobody_told at found }
+    ensures shown { option_map shown result ≡ nobody_told at found }
+    ensures refers { IfSome result (λ d. deed_refers d ≡ None) }
 {
     if found == 0 {
         Some(Deed::Signals(at, None))
@@ -121,7 +128,8 @@ fn signalling(at: Where, found: u64) -> Option<Deed>
 // The same, where this was found before.
 #[tactic(auto, unfolding(sharc_locks::specs::Waiters::lowest_of))]
 fn signalling_seen(at: Where, seen: u64, found: u64) -> Option<Deed>
-    ensures { option_map shown result ≡ seen_told at seen found }
+    ensures shown { option_map shown result ≡ seen_told at seen found }
+    ensures refers { IfSome result (λ d. deed_refers d ≡ None) }
 {
     if found == seen {
         Some(Deed::Signals(at, Some(seen.trailing_zeros())))
@@ -133,7 +141,8 @@ fn signalling_seen(at: Where, seen: u64, found: u64) -> Option<Deed>
 // The deed of a step that may be a try.
 fn tried(next: Next, thread: u32, found: u64) -> Option<Deed>
     requires { thread < THREADS }
-    ensures { option_map shown result ≡ tried thread next found }
+    ensures shown { option_map shown result ≡ tried thread next found }
+    ensures refers { IfSome result (λ d. deed_refers d ≡ None) }
 {
     match next {
         Next::Locks(at) if found == 0 => Some(Deed::Locks(at)),
@@ -146,7 +155,8 @@ fn tried(next: Next, thread: u32, found: u64) -> Option<Deed>
 // The deed of a turn of this thread whose step found this; the object of which it speaks has this many elements.
 fn deed_of(next: Next, thread: u32, found: u64, elements: u64) -> Option<Deed>
     requires { thread < THREADS }
-    ensures { option_map shown result ≡ told_of thread next found elements }
+    ensures shown { option_map shown result ≡ told_of thread next found elements }
+    ensures refers { IfSome result (λ d. deed_refers d ≡ next_refers next found) }
 {
     match next {
         Next::Reads(at) => Some(Deed::Reads(at, GivenValue::Int(found.cast_signed()))),
@@ -199,6 +209,7 @@ pub(crate) fn event_of(coming: Coming, thread: u32, found: u64, elements: u64) -
     requires { thread < THREADS }
     ensures told { (code : Code) → option_map (told code) result ≡ comes code thread coming found elements }
     ensures origin { IfSome result (λ e. e.origin ≡ coming.origin) }
+    ensures refers { IfSome result (λ e. deed_refers e.deed ≡ next_refers coming.next found) }
 {
     match deed_of(coming.next, thread, found, elements) {
         Some(deed) => Some(Event {

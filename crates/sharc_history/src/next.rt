@@ -1,11 +1,13 @@
 //! What is known of a turn's event before its step is made.
 
-ghost use Rattle.std.specs.Prelude.{◌≡◌, ℕ};
+ghost use Rattle.std.specs.Prelude.{◌≡◌, ℕ, None};
 ghost use Rattle.sharc_code.specs.declared.code.Code.{Code};
 ghost use Rattle.sharc_code.specs.Machine.{instr_at, function_of};
 ghost use Rattle.sharc_code.specs.Says.{argument_of, of_argument, place_at};
 ghost use Rattle.sharc_history.specs.Told.{value_of, number_of, site_of, IsComing};
 ghost use Rattle.sharc_history.specs.Origins.{loads_at, enters_at, starts_at, origin_by, origin_at};
+ghost use Rattle.sharc_history.specs.References.{argument_refers, next_refers, register_refers, free_refers};
+ghost use Rattle.sharc_history.specs.References.{spawn_refers, refers_by, refers_at};
 
 use crate::cells::{Origin, Where, cell_at};
 use sharc_code::{Cell, Code, Function, Instr, Parameter, Register, Stage, Text};
@@ -139,6 +141,8 @@ fn enters(site: u32, behind: Instr) -> Origin
 fn freed(thread: &Thread, r: u32, layout: u32, site: u32) -> Coming
     ensures coming { (code : Code) → IsComing code (Instr.Free r layout site) thread.now.machine result }
     ensures origin { result.origin ≡ Origin.Site site }
+    ensures refers { (found : ℕ)
+        → next_refers result.next found ≡ free_refers thread.now.machine r thread.now.machine.own.stage }
 {
     match thread.stage() {
         Stage::Uncounts(_) => at_site(site, Next::Frees(thread.reference(r))),
@@ -150,6 +154,7 @@ fn freed(thread: &Thread, r: u32, layout: u32, site: u32) -> Coming
 fn made(thread: &Thread, to: u32, count: u32, cells: u32, site: u32) -> Coming
     ensures coming { (code : Code) → IsComing code (Instr.New to count cells site) thread.now.machine result }
     ensures origin { result.origin ≡ Origin.Site site }
+    ensures refers { (found : ℕ) → next_refers result.next found ≡ None }
 {
     match thread.stage() {
         Stage::Makes(state) => at_site(site, Next::Makes(state)),
@@ -160,6 +165,7 @@ fn made(thread: &Thread, to: u32, count: u32, cells: u32, site: u32) -> Coming
 fn handed(thread: &Thread, from: Register) -> Argument
     ensures value { (elements : ℕ) → value_of result elements ≡ argument_of thread.now.machine from elements }
     ensures number { number_of result ≡ of_argument thread.now.machine from }
+    ensures refers { argument_refers result ≡ register_refers thread.now.machine from }
 {
     match from {
         Register::Int(r) => Argument::Int(thread.int(r)),
@@ -171,6 +177,8 @@ fn handed(thread: &Thread, from: Register) -> Argument
 fn spawned(thread: &Thread, to: u32, function: u32, from: Register, site: u32) -> Coming
     ensures coming { (code : Code) → IsComing code (Instr.Spawn to function from site) thread.now.machine result }
     ensures origin { result.origin ≡ Origin.Site site }
+    ensures refers { (found : ℕ)
+        → next_refers result.next found ≡ spawn_refers thread.now.machine from thread.now.machine.own.stage }
 {
     let argument = handed(thread, from);
     match thread.stage() {
@@ -183,6 +191,8 @@ fn spawned(thread: &Thread, to: u32, function: u32, from: Register, site: u32) -
 fn started(code: &Code, thread: &Thread, site: u32) -> Coming
     ensures coming { IsComing code.now (Instr.Start site) thread.now.machine result }
     ensures origin { result.origin ≡ starts_at thread.now.machine.own.stage }
+    ensures refers { (found : ℕ)
+        → next_refers result.next found ≡ refers_by code.now thread.now.machine (Instr.Start site) found }
 {
     match thread.stage() {
         Stage::Enters(function) => {
@@ -197,6 +207,7 @@ fn started(code: &Code, thread: &Thread, site: u32) -> Coming
 fn ended(thread: &Thread) -> Coming
     ensures coming { (code : Code) → IsComing code Instr.Exit thread.now.machine result }
     ensures origin { result.origin ≡ Origin.Function thread.now.machine.own.function }
+    ensures refers { (found : ℕ) → next_refers result.next found ≡ None }
 {
     let next = match thread.stage() {
         Stage::Withdraws(_) | Stage::WithdrawsFrom(_, _) => Next::Nothing,
@@ -210,6 +221,8 @@ fn ended(thread: &Thread) -> Coming
 fn signalled(code: &Code, thread: &Thread, cell: Cell, site: u32) -> Coming
     ensures coming { IsComing code.now (Instr.CondSignal cell site) thread.now.machine result }
     ensures origin { result.origin ≡ Origin.Site site }
+    ensures refers { (found : ℕ)
+        → next_refers result.next found ≡ refers_by code.now thread.now.machine (Instr.CondSignal cell site) found }
 {
     let at = cell_at(code, thread, cell);
     match thread.stage() {
@@ -222,6 +235,8 @@ fn signalled(code: &Code, thread: &Thread, cell: Cell, site: u32) -> Coming
 fn loaded(code: &Code, thread: &Thread, cell: Cell, site: u32) -> Coming
     ensures coming { IsComing code.now (Instr.LoadRef cell site) thread.now.machine result }
     ensures origin { result.origin ≡ origin_by code.now thread.now.machine (Instr.LoadRef cell site) }
+    ensures refers { (found : ℕ)
+        → next_refers result.next found ≡ refers_by code.now thread.now.machine (Instr.LoadRef cell site) found }
 {
     let behind = instr_at(code, thread.pc().wrapping_add(1));
     Coming {
@@ -234,6 +249,8 @@ fn loaded(code: &Code, thread: &Thread, cell: Cell, site: u32) -> Coming
 fn entered(code: &Code, thread: &Thread, cell: Cell, site: u32) -> Coming
     ensures coming { IsComing code.now (Instr.CondEnter cell site) thread.now.machine result }
     ensures origin { result.origin ≡ origin_by code.now thread.now.machine (Instr.CondEnter cell site) }
+    ensures refers { (found : ℕ)
+        → next_refers result.next found ≡ refers_by code.now thread.now.machine (Instr.CondEnter cell site) found }
 {
     let behind = instr_at(code, thread.pc().wrapping_add(2));
     Coming {
@@ -246,6 +263,7 @@ fn entered(code: &Code, thread: &Thread, cell: Cell, site: u32) -> Coming
 pub(crate) fn next_of(code: &Code, thread: &Thread) -> Coming
     ensures coming { IsComing code.now (instr_at code.now thread.now.machine.at.pc) thread.now.machine result }
     ensures origin { result.origin ≡ origin_at code.now thread.now.machine }
+    ensures refers { (found : ℕ) → next_refers result.next found ≡ refers_at code.now thread.now.machine found }
 {
     next_by(code, instr_at(code, thread.pc()), thread)
 }
@@ -254,6 +272,8 @@ pub(crate) fn next_of(code: &Code, thread: &Thread) -> Coming
 fn next_by(code: &Code, instr: Instr, thread: &Thread) -> Coming
     ensures coming { IsComing code.now instr thread.now.machine result }
     ensures origin { result.origin ≡ origin_by code.now thread.now.machine instr }
+    ensures refers { (found : ℕ)
+        → next_refers result.next found ≡ refers_by code.now thread.now.machine instr found }
 {
     match instr {
         Instr::Load(_, cell, site) => at_site(site, Next::Reads(cell_at(code, thread, cell))),

@@ -1,6 +1,6 @@
 //! The call over words that may not have been found, and the exit code.
 
-ghost use Rattle.std.specs.Prelude.{◌≡◌, ◌⊎◌, None, map, string_bytes, IfOk, OnErr};
+ghost use Rattle.std.specs.Prelude.{◌≡◌, ◌⊎◌, None, map, string_bytes, IfOk, IsSome, OnErr};
 ghost use Rattle.std.specs.Process.{exit_status};
 ghost use Rattle.sharc_io.specs.Causes.{Rose, EitherRose};
 ghost use Rattle.sharc_traced.specs.Replies.{code_of, form_of, Replied, RepliedInPart, IsOfReply, IsOfSilence};
@@ -23,6 +23,7 @@ pub fn traced<S: Source, O: Sink>(
         → Replied (map string_bytes words.items) (S.left input.old) (O.held out.old) (O.held out.new) result) }
     ensures cut_short { IfOk words (λ words. result.status ≡ Status.WriteFault
         → RepliedInPart (map string_bytes words.items) (S.left input.old) (O.held out.old) (O.held out.new)) }
+    ensures why { IsSome result.why → IsOfReply result.status }
     ensures sink_failed { result.status ≡ Status.WriteFault
         → EitherRose (O.faults out.old) (O.faults out.new) (O.stalls out.old) (O.stalls out.new) }
     ensures source_failed { result.status ≡ Status.ReadFault → Rose (S.faults input.old) (S.faults input.new) }

@@ -89,7 +89,7 @@ module _ (sources : SourceLaws) (records : RecordLaws) (replays : ReplayLaws) (p
         built = p.built;
         is_built = p.is_built;
         same = p.same;
-        file = subst (λ (h : List SourceEvent). IsFileOf p.built.checked a source h reply) told p.traced_is.is;
+        file = subst (λ (h : List SourceEvent). IsFileOf p.built.checked a source h reply) told p.traced_is.is.is;
       }
 
   pub recordings_traced : RecordingsAreTraced

@@ -10,7 +10,7 @@ use Rattle.sharc_traced.specs.declared.cut.Cut.{Cut}
 use Rattle.sharc_traced.specs.declared.cut.Cut.TheVariants as cuts
 use Rattle.sharc_top.specs.{declared.reply.Reply.{Reply as Answer}, Limits.source_limit, Refused.IsBuiltOrRefused, Text.line}
 use Rattle.sharc_top.specs.declared.status.Status.TheVariants as answers
-use Rattle.sharc_traced.specs.{declared.reply.Reply.Reply, declared.words.Form.Form, Replies.{status_by, history, IsFileOf, IsPlacesOf, IsRunOf, IsOfRun, IsTraced, IsPlain, FileReplies, InputReplies, IsOfReply}}
+use Rattle.sharc_traced.specs.{declared.reply.Reply.Reply, declared.words.Form.Form, Replies.{status_by, IsFileOfRun, IsPlacesOf, IsRunOf, IsOfRun, IsTraced, IsPlain, FileReplies, InputReplies, IsOfReply}}
 use Rattle.sharc_traced.specs.declared.status.Status.TheVariants as status
 use Rattle.sharc_traced.specs.declared.words.Form.TheVariants as form
 use Rattle.sharc_traced.specs.Replies as replies
@@ -23,7 +23,7 @@ of_cut cuts.Fuel = tt
 of_cut (cuts.Refused fault) = tt
 
 of_run : (f : Form) (file : FileView) (built : Built) (s : Shape) (turns : List Turn) (reply : Reply) → IsOfRun f file built s turns reply → IsOfReply reply.status
-of_run form.File file built s turns reply is = subst IsOfReply (sym is.status) (of_cut is.front.cut)
+of_run form.File file built s turns reply is = subst IsOfReply (sym is.is.status) (of_cut is.is.front.cut)
 of_run form.Places file built s turns reply is = subst IsOfReply (sym is.status) tt
 
 of_file : (f : Form) (file : FileView) (reply : Reply) → FileReplies f file reply → IsOfReply reply.status
@@ -51,13 +51,13 @@ run_of file built s places h fits heap same his = record {
 -- so the event file of it is what is written
 pub file_traced : (f : Form) (file : FileView) (built : Built) (s : Shape) (places : List (ℕ × ℕ)) (source : List ℕ) (h : History) (r : Result Reply AllocError) → f ≡ form.File → Fits built.code s → s.heap ≡ file.heap
     → places ≡ file.places → source ≡ file.source → IsHistory built.code s places file.limit h
-    → IfOk r (λ (reply : Reply). (s : Shape) (turns : List Turn) → IsAccountOf built.code s turns h → IsFileOf built.checked built.code source (history built.code s turns) reply)
+    → IfOk r (λ (reply : Reply). (s : Shape) (turns : List Turn) → IsAccountOf built.code s turns h → IsFileOfRun built.checked built.code source s turns reply)
     → IfOk r (IsTraced f file built)
 file_traced form.File file built s places source h (Ok reply) is fits heap same text his given = record {
   shape = s;
   turns = his.turns;
   run = run_of file built s places h fits heap same his;
-  is = subst (λ (bytes : List ℕ). IsFileOf built.checked built.code bytes (history built.code s his.turns) reply) text (given s his.turns his.account);
+  is = subst (λ (bytes : List ℕ). IsFileOfRun built.checked built.code bytes s his.turns reply) text (given s his.turns his.account);
 }
 file_traced form.Places file built s places source h (Ok reply) is fits heap same text his given = absurd (cc)
 file_traced f file built s places source h (Err e) is fits heap same text his given = tt

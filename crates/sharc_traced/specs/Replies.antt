@@ -12,7 +12,8 @@ use Rattle.sharc_schedule.specs.{File.{FileView, lines_in, IsFile, IsFault}, Sch
 use Rattle.sharc_build.specs.{declared.building.Built.Built, Built.IsBuilt}
 use Rattle.sharc_audit.specs.Lines.{AreLines}
 use Rattle.sharc_history.specs.{declared.event.Event.Event, Told.{told, told_of_event}}
-use Rattle.sharc_history.specs.{declared.history.History.History, History.{told_events, IsAccountOf}}
+use Rattle.sharc_history.specs.{declared.history.History.History, History.{told_events, references_of, IsAccountOf}}
+use Rattle.sharc_history.specs.References.{deed_refers}
 use Rattle.sharc_traced.specs.{declared.cut.Cut.Cut, declared.cut.Cut.TheVariants.{Whole as uncut}}
 use Rattle.sharc_traced.specs.{declared.cut.EventPrefix.EventPrefix, Cut.IsFront, Writing.file_text}
 use Rattle.sharc_top.specs.{declared.status.Status.{Status as Answer}, Limits.{source_limit, recording_limit}}
@@ -73,6 +74,12 @@ pub record IsFileOf (m : Assignment) (code : Code) (source : List ℕ) (history 
   pub status : reply.status ≡ status_by front.cut
   pub why : reply.why ≡ why_by front.count front.cut
 
+-- and a value is written as a reference exactly where it is one, with the number of its object
+pub record IsFileOfRun (m : Assignment) (code : Code) (source : List ℕ) (s : Shape) (turns : List Turn)
+    (reply : Reply) : Type 0 where
+  pub is : IsFileOf m code source (history code s turns) reply
+  pub references : map (λ (e : Event). deed_refers e.deed) is.events ≡ reverse (references_of code s turns)
+
 -- ---- the lines of a run in the words of its source
 -- one for each of its events, and one for each thread that waits or was stopped at its end
 pub record IsPlacesOf (code : Code) (s : Shape) (turns : List Turn) (reply : Reply) : Type 0 where
@@ -83,8 +90,7 @@ pub record IsPlacesOf (code : Code) (s : Shape) (turns : List Turn) (reply : Rep
   pub why : reply.why ≡ None
 
 abbrev pub IsOfRun : Form → FileView → Built → Shape → List Turn → Reply → Type 0
-IsOfRun form.File file built s turns reply =
-    IsFileOf built.checked built.code file.source (history built.code s turns) reply
+IsOfRun form.File file built s turns reply = IsFileOfRun built.checked built.code file.source s turns reply
 IsOfRun form.Places file built s turns reply = IsPlacesOf built.code s turns reply
 
 pub record IsTraced (f : Form) (file : FileView) (built : Built) (reply : Reply) : Type 0 where

@@ -1,6 +1,6 @@
 //! The call of the program.
 
-ghost use Rattle.std.specs.Prelude.{◌≡◌, None, ◌⊎◌, map, string_bytes, codes, IfOk, IfErr};
+ghost use Rattle.std.specs.Prelude.{◌≡◌, None, ◌⊎◌, map, string_bytes, codes, IfOk, IfErr, IsSome};
 ghost use Rattle.sharc_io.specs.Causes.{Rose, EitherRose};
 ghost use Rattle.sharc_top.specs.Text.{line};
 ghost use Rattle.sharc_traced.specs.Replies.{form_of, IsPlain, IsTraceReply, Replied, RepliedInPart, IsOfReply};
@@ -41,6 +41,10 @@ pub fn sharc_trace<S: Source, O: Sink>(
     // The sink gave up, in the midst of a reply.
     ensures cut_short { result.status ≡ Status.WriteFault
         → RepliedInPart (map string_bytes words.now) (S.left input.old) (O.held out.old) (O.held out.new) }
+
+    // Only a whole reply says why not all events are written.
+    ensures why { IsSome result.why → IsOfReply result.status }
+
     ensures sink_failed { result.status ≡ Status.WriteFault
         → EitherRose (O.faults out.old) (O.faults out.new) (O.stalls out.old) (O.stalls out.new) }
 

@@ -7,7 +7,7 @@ ghost use Rattle.sharc_history.specs.History.{IsAccountOf};
 ghost use Rattle.sharc_schedule.specs.File.{IsFile};
 ghost use Rattle.sharc_schedule.specs.Shown.{FaultIs, view_of};
 ghost use Rattle.sharc_top.specs.Recording.{IsWithinFile, bad_file_line};
-ghost use Rattle.sharc_traced.specs.Replies.{history, IsFileOf, IsPlacesOf, IsTraced, FileReplies, InputReplies};
+ghost use Rattle.sharc_traced.specs.Replies.{IsFileOfRun, IsPlacesOf, IsTraced, FileReplies, InputReplies};
 
 use crate::cut::front_of;
 use crate::file::file_text;
@@ -38,7 +38,7 @@ fn file_reply(
     run: &History,
 ) -> Result<Reply, AllocError>
     ensures { IfOk result (λ reply. (s : Shape) (turns : List Turn) → IsAccountOf built.now.code s turns run.now
-        → IsFileOf built.now.checked built.now.code source.now (history built.now.code s turns) reply) }
+        → IsFileOfRun built.now.checked built.now.code source.now s turns reply) }
 {
     lines_are_of_sources();
     let events = run.events.as_slice();

@@ -20,6 +20,7 @@ returns-then-not-branch c =
       account = record {
         events = traced.goes.events;
         origins = traced.goes.origins;
+        references = traced.goes.references;
         lasts = c.in_ok-lasts.ensures s traced.turns traced.goes.stands;
       };
     }

@@ -3,7 +3,7 @@ use Rattle.std.specs.Option.{option_copied}
 use Rattle.sharc_code.specs.Machine.{Machine, instr_at}
 use Rattle.sharc_cpu.specs.Thread.{ThreadView}
 use Rattle.sharc_seq.specs.Walk.{IsThreadThere}
-use Rattle.sharc_history.specs.{Origins.origin_at, Told.IsComing}
+use Rattle.sharc_history.specs.{Origins.origin_at, References.{next_refers, refers_at}, Told.IsComing}
 use Rattle.sharc_history.proofs.going.Going.coming.Goals as goal
 
 pub thread-requires-clause-walk : goal.thread-requires-clause-walk
@@ -20,4 +20,5 @@ returns c = λ turns goes.
       number = ap (λ (m : Machine). m.own.number) (sym there.1.machine) ∙ there.1.number;
       is = subst (λ (m : Machine). IsComing code (instr_at code m.at.pc) m c.next_of.result) there.1.machine c.next_of.ensures.coming;
       origin = subst (λ (m : Machine). c.next_of.result.origin ≡ origin_at code m) there.1.machine c.next_of.ensures.origin;
+      refers = subst (λ (m : Machine). (found : ℕ) → next_refers c.next_of.result.next found ≡ refers_at code m found) there.1.machine c.next_of.ensures.refers;
     }
