@@ -33,7 +33,6 @@ with_shown None shown earlier = earlier
 with_shown (Some e) shown earlier = shown ∷ earlier
 
 -- where in the source they are
-
 abbrev pub origins_of : Code → Shape → List Turn → List Origin
 origins_of code s [] = []
 origins_of code s (one ∷ turns) =
