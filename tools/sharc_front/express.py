@@ -209,8 +209,6 @@ class Expressions(Declarations):
             self.refuse_if(given.kind != "int" and (given.kind, kind.name) != ("ptr", "bool"),
                            f"{given.shown()} as a number")
             return convert(self.truth(value) if kind.name == "bool" else value, kind.name)
-        if kind.kind != "ptr":
-            return value
         if kind.name == "value":
             return self.copied(kind, value)
         self.refuse_if(given.kind != "ptr" and not value.null(), "number as a pointer")

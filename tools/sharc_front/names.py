@@ -25,12 +25,8 @@ def packed(text):
 
 class Names:
     def __init__(self):
-        self.words, self.lvalues = {}, {}
+        self.words, self.lvalues = {}, {}  # {name in the text: in C}, {(place, lvalue in the text): its node of C}
         self.own, self.hidden = set(), False  # variables of the front; whether the line before told of one
-
-    def lvalue(self, place, text, node):
-        """The lowering wrote `text` for this lvalue of C."""
-        self.lvalues[(place, packed(text))] = node
 
     def of_lvalue(self, text, file, line):
         """An lvalue of the lowered text as in C."""

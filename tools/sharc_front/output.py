@@ -1,7 +1,6 @@
 """The whole program as text: declarations, the objects that stand for arrays and for locals with an address, functions,
 and line markers so that each line is where it was in C."""
 
-import os
 import re
 from operator import itemgetter
 
@@ -12,7 +11,7 @@ from .ctype import CHAR, Refusal, Type, array
 from .declare import Symbol
 from .names import Names
 from .places import Places
-from .source import HEADERS
+from .source import HEADERS, texts
 from .statements import addressed_in
 from .tree import NOTHING, Expr, number, variable
 
@@ -260,10 +259,9 @@ class Front(Places):
 
     def helper_lines(self):
         """The functions of headers/arithmetic.sharc that are called, and those that these call."""
-        with open(os.path.join(HEADERS, "arithmetic.sharc"), encoding="utf-8") as file:
-            texts = {re.match(r"\w+ (\w+)", text)[1]: text for text in file.read().strip().split("\n\n")}
+        functions = {re.match(r"\w+ (\w+)", text)[1]: text for text in texts("arithmetic.sharc")}
         wanted, place = sorted(self.helpers), "what C does that the language does not"
         for name in wanted:  # which grows
-            wanted += sorted(set(re.findall(r"__sharc_\w+", texts[name])) - set(wanted))
-        lines = [line for name in wanted for line in texts[name].split("\n")]
+            wanted += sorted(set(re.findall(r"__sharc_\w+", functions[name])) - set(wanted))
+        lines = [line for name in wanted for line in functions[name].split("\n")]
         return [((place, at), line) for at, line in enumerate(lines, 1)]

@@ -4,6 +4,7 @@ import re
 
 from .classes import HEAP
 from .ctype import CELL
+from .names import packed
 from .threads import Threads
 from .tree import LEVELS, Expr, number, plus, times, variable
 
@@ -160,7 +161,7 @@ class Places(Threads):
             case "variable" | "member" | "element" | "at":
                 made = self.spot_text(self.spot(value))
                 if value.source is not None:
-                    self.user.lvalue(self.here, made, value.source)
+                    self.user.lvalues[(self.here, packed(made))] = value.source
             case "number":
                 made = f"{value.number}{'L' * value.wide}"
                 made, tight = made if value.number != -(1 << 63) else f"(-{(1 << 63) - 1}L - 1)", 12 - (made[0] == "-")

@@ -25,6 +25,12 @@ HARMLESS = set("unused noreturn format const pure noinline always_inline cold ho
                "used deprecated returns_nonnull flatten leaf nothrow fallthrough may_alias noclone alloc_size".split())
 
 
+def texts(name):
+    """The texts of a file of headers/ in the language of SharC."""
+    with open(os.path.join(HEADERS, name), encoding="utf-8") as file:
+        return file.read().strip().split("\n\n")
+
+
 def preprocessed(path, options):
     if not os.path.isfile(path):
         raise Refusal(((path, 1), "file that cannot be read"))

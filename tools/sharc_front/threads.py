@@ -1,23 +1,19 @@
 """Threads: each is started on a record with its argument, in which its result is found."""
 
+from string import Template
+
 from pycparser import c_ast as A
 
 from .classes import HEAP
 from .ctype import VOID
 from .express import uncast
 from .library import Library
+from .source import texts
 from .tree import Expr, number
 
-# a thread function `work` is called by one that has the record; the argument is taken out of it, so that what it points
-# to has one reference
-RECORD = """struct {record} {{ {argument} argument; {result} result; }};
-{argument} {take}(struct {record} * record) {{ {argument} argument = record->argument; \
-record->argument = {none}; return argument; }}
-void {start}(struct {record} * record) {{ record->result = {function}({take}(record)); }}
-struct {record} dynamic * {table}[32];"""
-START = """{{ struct {record} private * {own} = malloc(sizeof(struct {record})); {own}->argument = {argument}; \
-struct {record} dynamic * {given} = SCAST(struct {record} dynamic *, {own}); \
-{target} = spawn({start}, {given}); {table}[{target}] = {given}; }}"""
+# a thread function is called by one that has the record; the argument is taken out of it, so that what it points to has
+# one reference
+RECORD, START = (Template(" ".join(text.split())) for text in texts("threads.sharc"))
 
 
 class Threads(Library):
@@ -43,7 +39,7 @@ class Threads(Library):
             """Starts one of the functions that `start` may be."""
             functions, texts = start.type.node.find().functions, []
             for symbol in functions:
-                text = START.format(**self.record(symbol), own=self.own_name("own"), given=self.own_name("given"),
+                text = START.substitute(**self.record(symbol), own=self.own_name("own"), given=self.own_name("given"),
                                     target=self.text(place), argument=self.text(value))
                 texts.append(text if len(functions) == 1 else
                              f"if ({self.text(start)} == {self.numbers[symbol]}) {text}")
@@ -97,7 +93,7 @@ class Threads(Library):
         self.refuse_if(len(symbol.params) != 1 or symbol.params[0].type.kind != "ptr" or symbol.type.to.kind != "ptr",
                        f"thread function {symbol.name} whose parameter or result is no pointer", symbol.place)
         kind = symbol.params[0].type
-        return RECORD.format(**self.record(symbol), none=self.null_text(kind.node), function=self.function_name(symbol),
+        return RECORD.substitute(**self.record(symbol), none=self.null_text(kind.node), function=self.function_name(symbol),
                              argument=self.type_text(kind.bare()), result=self.type_text(symbol.type.to.bare()))
 
     def l_pthread_join(self, args):

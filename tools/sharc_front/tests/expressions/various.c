@@ -17,6 +17,7 @@ static unsigned hash(const char *s) { unsigned h = 2166136261u; while (*s) { h ^
 static int *largest(int *a, int n) { int *best = a; for (int *p = a; p < a + n; ++p) if (*p > *best) best = p; return best; }
 static int data[6] = { 3, 1, 4, 1, 5, 9 };
 static void swap(int *a, int *b) { int t = *a; *a = *b; *b = t; }
+static void nothing(int *p) { *p += 1; } static void again(int *p) { return nothing(p); }
 static long fact(int n) { return n < 2 ? 1 : n * fact(n - 1); }
 int main(void)
 {
@@ -35,5 +36,8 @@ int main(void)
     char s[12] = "ab\tc\x41\101"; printf("%d %d %d %d\n", s[2], s[4], s[5], (int) sizeof s); int q[] = { [3] = 1, 2, [0] = 7 }; printf("%d %d\n", q[4], (int) (sizeof q / sizeof *q));
     struct { int a; struct { int b[2]; } in; } an = { 1, { { 2, 3 } } }, an2 = { .in.b[1] = 8 }; an2.a = an.in.b[1]; printf("%d %d\n", an2.a, an2.in.b[1]);
     int i = 5, j = 0; i++; i = (i > 3, i < 3) ? i : -i; printf("%d\n", i); int arr[3] = { 0 }; int at = 0; arr[at++] += 2; arr[at++]--; arr[at] = arr[0] ? arr[1] : 9; printf("%d %d %d\n", arr[0], arr[1], arr[2]);
-    if (!(i = 0) && (j = 7, j > 6)) printf("%d\n", j); return 0;
+    if (!(i = 0) && (j = 7, j > 6)) printf("%d\n", j);
+    int one = { 3 }, *po = &one, *same = &*po; int flat[2][2] = { 1, 2, 3 }; struct { int u; int w[2]; } mixed[2] = { 1, 2, 3, { 4, { 5 } } };
+    again(same); op sum = &add; printf("%d %d %d %d %d %d %d\n", one, flat[1][0], mixed[0].w[1], mixed[1].w[0], sum(one, 1), (int) sizeof "abc", NULL == NULL);
+    free(NULL); exit(0);
 }
