@@ -50,9 +50,9 @@ class Statements(Expressions):
                 if isinstance(node, (A.Decl, A.Typedef)) and node.name:
                     self.scopes[node.name] = BAD
 
-    def blocked(self, act, *arguments):
+    def blocked(self, act, *arguments, after=()):
         """Lines in a block of their own if they declare variables."""
-        lines, _ = self.captured(act, *arguments)
+        lines, _ = self.captured(act, *arguments, after=after)
         if any(line.declares for line in lines):
             self.bracketed("{", lines)
         else:
@@ -93,7 +93,8 @@ class Statements(Expressions):
             case A.While():
                 self.loop(node.cond, [], node.stmt)
             case A.DoWhile():
-                self.loop(None, self.captured(self.leave_unless, node.cond)[0], node.stmt)
+                before, test = self.captured(self.value, node.cond)
+                self.loop(None, self.leave_unless(test, before), node.stmt)
             case A.For():
                 self.statements(items_of(node.init))
                 self.loop(node.cond, self.body(node.next), node.stmt)
@@ -138,15 +139,17 @@ class Statements(Expressions):
         for path, item in values:
             self.blocked(self.store, self.inner_place(variable(symbol), path), item)
 
-    def leave_unless(self, cond):
-        self.blocked(lambda: self.branch(self.value(cond), [], [Line(self.here, "break;")]))
+    def leave_unless(self, test, before):
+        """Lines that leave a loop unless a condition holds, after those of the condition."""
+        leave = [Line(self.here, "break;")]
+        return self.captured(lambda: self.blocked(self.branch, test, [], leave, after=before))[0]
 
     def loop(self, cond, step, body, around=None):
         """`step` is at the end of the body, and before each continue: self.loops has it for each loop around, and the
         flag `around` for each switch."""
         before, test = self.captured(self.value, cond) if cond is not None else ([], number(1))
         if before:
-            before, test = self.captured(self.leave_unless, cond)[0], number(1)
+            before, test = self.leave_unless(test, before), number(1)
         self.loops.append(around or step)
         inner = self.body(body)
         self.loops.pop()
