@@ -25,6 +25,7 @@ class Line:
     parts: tuple = ()  # trees, types and texts
     declares: bool = False
     header: bool = False  # whether it comes from the body of a function of the headers
+    blocks: tuple = ()  # the lines of a block, and of what may be executed in its place
 
 
 def uncast(node):
@@ -496,9 +497,7 @@ class Expressions(Declarations):
             return
         at = self.temporary(ULONG if length.type.name == "ulong" else INT)
         test = compare("<", at, length, usual(at.type.name, length.type.name))
-        self.emit("for (%s = 0; %s; %s = %s + 1) {", at, test, at, at)
-        act(at)
-        self.emit("}")
+        self.emit("for (%s = 0; %s; %s = %s + 1)", at, test, at, at, blocks=(self.captured(act, at)[0], ()))
 
     @staticmethod
     def allocation(node):

@@ -32,30 +32,26 @@ class Locksets:
         self.pointers = {}  # {text of a lock: (class of the pointer to its struct, its name)}
         for self.function in front.functions.values():
             self.state = (frozenset(), frozenset())
-            self.follow(iter(self.function.lines))
+            self.follow(self.function.lines)
 
     def follow(self, lines):
-        """The lines up to the end of a block, which is given; self.state is None where nothing is reached."""
+        """Through lines and their blocks; self.state is None where nothing is reached."""
         for line in lines:
             for at, part in enumerate(line.parts):
                 if isinstance(part, Expr):
                     self.event(part, line, at == 0 and line.text.startswith("%s = "))
-            if line.text[0] == "}":
-                return line
-            if line.text[-1] == "{":
-                before, end = self.state, self.follow(lines)
-                ends = [self.state] + [before] * (line.text != "{" and end.text == "}")
-                if end.text != "}":
-                    self.state = before
-                    self.follow(lines)
-                    ends.append(self.state)
-                added, removed = zip(*filter(None, ends)) if any(ends) else ((), ())
-                self.state = (frozenset.intersection(*added), frozenset.union(*removed)) if added else None
-            elif line.text.startswith(("lock(&%s", "unlock(&%s")) and self.state:
+            before, ends = self.state, []
+            for block in line.blocks:
+                self.state = before
+                self.follow(block)
+                ends.append(self.state)
+            if any(ends):
+                added, removed = zip(*filter(None, ends))
+                self.state = (frozenset.intersection(*added), frozenset.union(*removed))
+            if line.text.startswith(("lock(&%s", "unlock(&%s")) and self.state:
                 self.changed(line.parts[0], line.text[0] == "l")
             elif line.text.startswith(("return", "break", "continue")) or " = 1 / " in line.text:
                 self.state = None
-        return None
 
     def changed(self, place, locked):
         (added, removed), text, base = self.state, spelled(place), place.args[0]

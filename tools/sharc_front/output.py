@@ -88,7 +88,7 @@ class Front(Places):
         """target = an object of `length` elements, or of pointers to them; `inner`: the mode of these in a struct. The
         arrays in structs are objects of their own, made while the struct is private."""
         self.refuse_if((length.number or 0) > 65536, "object of over 65536 elements")
-        plain, one = self.plain_type(kind), length.number == 1 and not boxes
+        plain, one = self.type_text(kind.bare()).replace(" racy", ""), length.number == 1 and not boxes
         arrays = [(self.part_name(kind.name, path), field) for path, _, field in self.objects(kind)] if not boxes else []
         own = self.own_name("own") if boxes and inner or arrays else target
 
@@ -208,9 +208,22 @@ class Front(Places):
                  for part in line.parts]
         return line.text % tuple(texts) if texts else line.text
 
+    def flat(self, lines):
+        """Lines as text, with their blocks in brackets."""
+        for line in lines:
+            place, text = self.written(line.place, self.shown, line)
+            yield place, f"{text} {{".lstrip() if line.blocks else text
+            for block in line.blocks:
+                if block and block is not line.blocks[0]:
+                    yield place, "} else {"
+                for place, text in self.flat(block):
+                    yield place, text
+            if line.blocks:
+                yield place, "}"
+
     def function_lines(self, symbol):
         """The function as lines, after what main does first."""
-        lines = [self.written(line.place, self.shown, line) for line in symbol.lines]
+        lines = [*self.flat(symbol.lines)]
         yield self.written(symbol.place, self.heading, symbol)
         yield from self.initialisers() if symbol.name == "main" else []
         yield from lines
@@ -228,7 +241,7 @@ class Front(Places):
         for symbol in self.globals:
             for path, lines in symbol.rest:
                 if path not in symbol.constants or self.grouped(symbol, path):
-                    yield from (self.written(line.place, self.shown, line) for line in lines)
+                    yield from self.flat(lines)
                     self.notes.append((symbol.place, f"the initialiser of {symbol.name} is executed by main"))
         data = [(byte ^ 128) - 128 for text in self.text_pool for byte in text]
         for at in range(0, len(data) if self.reads_strings else 0, 16):

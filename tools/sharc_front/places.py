@@ -238,7 +238,3 @@ class Places(Threads):
         known = kind.node.pointee_type(self.here)
         to = (kind.to if kind.to.kind != "void" else known.with_(mode=kind.to.mode)).base()
         return self.type_text(to, context, False) + " *" * (2 if how == "boxes" else 1) + mode
-
-    def plain_type(self, kind):
-        """The same without modes, as sizeof takes it."""
-        return self.type_text(kind.bare()).replace(" racy", "")

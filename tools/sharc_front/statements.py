@@ -1,7 +1,6 @@
 """Statements and functions, lowered to lines (C11 6.8, 6.9.1)."""
 
 from collections import ChainMap
-from dataclasses import replace
 
 from pycparser import c_ast as A, c_parser
 
@@ -54,25 +53,15 @@ class Statements(Expressions):
         """Lines in a block of their own if they declare variables."""
         lines, _ = self.captured(act, *arguments, after=after)
         if any(line.declares for line in lines):
-            self.bracketed("{", lines)
+            self.emit("", blocks=(lines,))
         else:
             self.lines += lines
-
-    def bracketed(self, head, lines, *parts):
-        """Lines in brackets: what they declare ends there."""
-        self.emit(head, *parts)
-        self.lines += [replace(line, declares=False) for line in lines]
-        self.lines.append(Line(self.lines[-1].place, "}"))
 
     def branch(self, test, first, second=()):
         """if (test) first else second"""
         if not first and second:
             test, first, second = joined("!", "int", test), second, first
-        self.bracketed("if (%s) {", first, test)
-        if second:
-            self.here, here = self.lines.pop().place, self.here
-            self.bracketed("} else {", second)
-            self.here = here
+        self.emit("if (%s)", test, blocks=(first, second))
 
     def body(self, node):
         """The lines of a statement."""
@@ -109,19 +98,17 @@ class Statements(Expressions):
         elif node.name is None:
             self.type(node.type)
         else:
-            symbol = self.variable(node, "local" if self.function else "global")
-            values = self.scalars(symbol.type, [node.init]) if node.init is not None else ()
+            symbol, init = self.variable(node, "local" if self.function else "global"), uncast(node.init)
+            values = self.scalars(symbol.type, [node.init]) if init is not None else ()
             if symbol.kind == "global":
                 self.set_initialiser(symbol, values)
-            else:
-                self.declare_local(symbol, values)
-                self.last_use(symbol, uncast(node.init))
-
-    def last_use(self, symbol, init):
-        """A parameter that is used for nothing but `T *x = p` is no second reference to what x points to."""
-        param = self.scopes.get(init.name) if isinstance(init, A.ID) else None
-        if param in self.function.params and not self.loops and symbol.type.kind == param.type.kind == "ptr":
-            self.later(lambda: f"{self.text(variable(param))} = {self.null_text(param.type.node)};" * (param.uses == 1))
+                return
+            self.declare_local(symbol, values)
+            param = self.scopes.get(init.name) if isinstance(init, A.ID) else None
+            if param in self.function.params and not self.loops and symbol.type.kind == param.type.kind == "ptr":
+                # one that is used for nothing else is no second reference to what the local points to
+                self.later(lambda: f"{self.text(variable(param))} = {self.null_text(param.type.node)};" if
+                           param.uses == 1 else "")
 
     def declare_local(self, symbol, values=()):
         """Declares a local, by a name that no other of the function has, and gives it the values of its initialiser."""
@@ -153,7 +140,7 @@ class Statements(Expressions):
         self.loops.append(around or step)
         inner = self.body(body)
         self.loops.pop()
-        self.bracketed("while (%s) {", before + inner + step, test)
+        self.emit("while (%s)", test, blocks=(before + inner + step, ()))
 
     def s_Continue(self, _):
         inner = self.loops[-1]
