@@ -30,7 +30,7 @@ class Library(Statements):
             self.refuse_if(place.type.kind != "mutex", "lock of what is no mutex")
             self.emit(name + "(&%s);", place)
         else:
-            self.emit("%s;", Expr("call", (name, *values), VOID))
+            self.emit(f"{name}({', '.join(['%s'] * len(values))});", *values)
 
     def format(self, arg, rest):
         """The pieces of a format."""

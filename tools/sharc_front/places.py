@@ -52,9 +52,7 @@ class Places(Threads):
         return self.part_name(symbol)
 
     def called_name(self, callee, value=None):
-        """What is called: a function of the language, or of the program, or the one that calls one of several."""
-        if isinstance(callee, str):
-            return callee
+        """What is called: a function of the program, or the one that calls one of several."""
         if hasattr(callee, "params"):
             return self.function_name(callee)
         self.refuse_if(self.how(callee) != "function", "call through a pointer that is always NULL")
