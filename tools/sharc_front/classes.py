@@ -25,9 +25,8 @@ class Node:
 
     def __init__(self, every, to=None):
         self.every, self.parent, self.mixed = every, self, False
-        self.globals, self.functions, self.types = {}, {}, {}  # {(symbol, path of members): place}, ..
-        # {heap, integer, order, or indexed (another element than the one that is pointed to is used): place}
-        self.seen = {}
+        self.globals, self.functions = {}, {}  # as sets in order: (symbol, path of members), symbols
+        self.types, self.seen = {}, set()  # seen: heap, integer, order, taken, or indexed (another element is used)
         self.parts = {}  # the classes of pointers to other elements ("element",), and to members ("member", ..)
         every.append(self)
         if to:
@@ -45,13 +44,13 @@ class Node:
             root.parts[key] = Node(self.every)
         return root.parts[key].find()
 
-    def known(self, *key):
-        """The same, or None where nothing has asked for it."""
-        found = self.find().parts.get(key)
+    def element(self):
+        """The class of pointers to other elements, or None where nothing has asked for it."""
+        found = self.find().parts.get(("element",))
         return found and found.find()
 
-    def mark(self, what, place):
-        self.find().seen.setdefault(what, place)
+    def mark(self, what):
+        self.find().seen.add(what)
 
     def has(self, what):
         return what in self.find().seen
@@ -69,7 +68,7 @@ class Node:
         other.parent = one
         one.globals.update(other.globals)
         one.functions.update(other.functions)
-        one.seen = {**other.seen, **one.seen}
+        one.seen |= other.seen
         for kind in list(other.types.values()):
             one.point_to(kind)
         for key, node in list(other.parts.items()):
@@ -88,10 +87,9 @@ class Node:
             raise Refusal((place, "pointer " + " and ".join(words[kind] for kind in kinds)))
         if kinds != ["heap"] and (kinds or not set(kind[0] for kind in root.types) - {"func"}):
             return kinds[0] if kinds else "none"
-        element = root.known("element")
-        if element is root:
+        if root.element() is root:
             raise Refusal((place, "pointer arithmetic on an object of the heap or a local"))
-        return "boxes" if element else "heap"
+        return "boxes" if root.element() else "heap"
 
     def pointee_type(self, place):
         """The one type that pointers of this class point to."""
@@ -111,9 +109,12 @@ def named(key):
 class Classes:
     """All classes of a program."""
 
-    def __init__(self, structs):
-        self.nodes, self.structs = [], structs
+    def __init__(self):
+        self.nodes, self.structs = [], {}
         self.firsts = []  # (class of &a[0], class of a): a pointer to the array, unless others of its elements have one
+
+    def node(self, to=None):
+        return Node(self.nodes, to)
 
     def everything(self):
         return list(dict.fromkeys(node.find() for node in self.nodes))
@@ -121,50 +122,46 @@ class Classes:
     def settle(self):
         """Goes on until elements and members of globals are known: element i of a global is in its class."""
         for first, whole in self.firsts:
-            first.unite(whole.known("element") or whole)
-        while any([self.settled_element(root) | self.settled_members(root) for root in self.everything()]):
-            pass
+            first.unite(whole.element() or whole)
+        before = None
+        while before != (now := [(id(root), len(root.globals), len(root.seen)) for root in self.everything()]):
+            before = now
+            for root in self.everything():
+                self.settle_element(root.find())
+                self.settle_members(root.find())
 
     @staticmethod
-    def settled_element(root):
-        """One step for the pointers to other elements; whether something changed."""
-        root = root.find()
-        element = root.known("element")
+    def settle_element(root):
+        """One step for the pointers to other elements."""
+        element = root.element()
         if element is None or element is root:
-            return False
-        if root.globals and not root.has("heap") or element.has("indexed") or element.known("element"):
+            return
+        if root.globals and not root.has("heap") or element.has("indexed") or element.element():
             root.unite(element)
-            return True
-        changed = root.has("heap") and not element.has("heap")
-        if changed:
-            element.mark("heap", root.seen["heap"])
-        return changed
+        elif root.has("heap"):
+            element.mark("heap")
 
-    def settled_members(self, root):
+    def settle_members(self, root):
         """The same for pointers to members: `made` is the class of those in objects of the heap."""
-        root, changed = root.find(), False
         in_heap = root.has("heap") and not root.globals
-        for (_, struct, name), node in [item for item in root.parts.items() if item[0][0] == "member"]:
-            node, made = node.find(), self.structs[struct].fields[name].made
-            for (symbol, path), place in list(root.globals.items()):
-                if self.part(symbol.type, path).base().name == struct and (symbol, path + (name,)) not in node.globals:
-                    node.globals[(symbol, path + (name,))] = place
-                    changed = True
-            if in_heap and (not node.has("heap") or made.find() is not node):
-                node.mark("heap", root.seen["heap"])
-                made.unite(node)
-                changed = True
-        structs = [kind for kind in root.types.values() if kind.kind == "struct" and in_heap]
-        for made in [field.made for kind in structs for _, leaf, _, field in self.leaves(kind) if leaf.kind == "array"]:
-            changed |= not made.has("heap")
-            made.mark("heap", root.seen["heap"])
-        return changed
+        for (struct, name), node in [(key[1:], node) for key, node in root.parts.items() if key[0] == "member"]:
+            node.find().globals.update({(symbol, path + (name,)): None for symbol, path in root.globals
+                                        if self.part(symbol.type, path).base().name == struct})
+            if in_heap:
+                node.mark("heap")
+                self.structs[struct].fields[name].made.unite(node)
+                self.structs[struct].fields[name].alone |= node.has("taken")
+        for kind in [kind for kind in root.types.values() if kind.kind == "struct" and in_heap]:
+            for _, leaf, _, field in self.leaves(kind):
+                if leaf.kind == "array":
+                    field.made.mark("heap")
 
-    def leaves(self, kind, path=()):
-        """The members of a type that are no structs, those of structs in it too: (path, type, struct, field)."""
+    def leaves(self, kind, path=(), apart=False):
+        """The members of a type that are no structs, those of structs in it too: (path, type, struct, field). `apart`:
+        of an object of the heap, where those that are objects of their own are not laid open."""
         for name, field in self.structs[kind.name].fields.items():
-            if field.type.kind == "struct":
-                yield from self.leaves(field.type, path + (name,))
+            if field.type.kind == "struct" and not (apart and field.alone):
+                yield from self.leaves(field.type, path + (name,), apart)
             elif field.type.kind != "bad":
                 yield path + (name,), field.type, kind.name, field
 
@@ -173,21 +170,3 @@ class Classes:
         for step in path:
             kind = kind.to if isinstance(step, int) else self.structs[kind.base().name].fields[step].type
         return kind
-
-    def merge(self, group):
-        """Globals that one pointer may point to become elements of one array, which `group` makes."""
-        while several := [root for root in self.everything() if len(root.globals) > 1 and not root.mixed]:
-            root = min(several, key=lambda root: (max(len(path) for _, path in root.globals),
-                                                  sorted(map(named, root.globals))))
-            keys = list(root.globals)
-            made = group(keys)
-            root.mixed = made is None
-            for other in self.everything() if made else []:
-                other.globals = {moved(key, keys, made): place for key, place in other.globals.items()}
-
-
-def moved(key, keys, made):
-    """A global or part of one, where those of `keys` have become elements of the array `made`."""
-    symbol, path = key
-    at = next((at for at in range(len(path) + 1) if (symbol, path[:at]) in keys), None)
-    return key if at is None else (made, path[at:])

@@ -7,16 +7,12 @@ UNSIGNED = {"bool", "uchar", "ushort", "uint", "ulong"}
 # the type of the cell that holds each: SharC has only signed types; an unsigned long is held by its 64 bits
 CELL = {"bool": "int", "char": "char", "uchar": "int", "short": "int", "ushort": "int", "int": "int", "uint": "long",
         "long": "long", "ulong": "long"}
-SIZES = {"mutex": 40, "cond": 8, "sem_t": 32, "pthread_cond_t": 48, "pthread_barrier_t": 32, "pthread_rwlock_t": 56,
-         "ptr": 8, "void": 1}  # in glibc
+SIZES = {"mutex": 40, "cond": 8, "struct sem_t": 32, "struct pthread_cond_t": 48, "struct pthread_barrier_t": 32,
+         "struct pthread_rwlock_t": 56, "ptr": 8, "void": 1}  # in glibc
 
 
 class Refusal(Exception):
-    """Places, as (file, line), each with what is refused there; that is None where it was said already."""
-
-    def __init__(self, *all):
-        super().__init__(*all)
-        self.all = all
+    """Its arguments are places, as (file, line), each with what is refused there, or None where it was said already."""
 
 
 @dataclass(frozen=True)
@@ -32,16 +28,14 @@ class Type:
     atomic: bool = False
     const: bool = False
     node: object = None  # of a pointer: the class of all pointers that may point to the same
+    with_ = replace
 
     def key(self):
         """What is equal for compatible types: the type without marks and classes."""
         return (self.kind, self.name, self.length, self.to and self.to.key())
 
-    def with_(self, **changes):
-        return replace(self, **changes)
-
     def bare(self):
-        return replace(self, mode=None, atomic=False, to=self.to and self.to.bare())
+        return self.with_(mode=None, atomic=False, to=self.to and self.to.bare())
 
     def base(self):
         """The element of an array, of whatever dimensions."""
@@ -50,6 +44,10 @@ class Type:
     def cells(self):
         """How many elements of its base an array has."""
         return self.length * self.to.cells() if self.kind == "array" else 1
+
+    def wide(self):
+        """Whether it is held by a cell of type long."""
+        return self.kind == "int" and CELL[self.name] == "long"
 
     def shown(self):
         if self.kind in ("ptr", "array"):
@@ -67,18 +65,16 @@ def array(to, length):
 
 def limits(name):
     """The least and greatest number that a cell of this C type holds."""
-    if name in UNSIGNED and name != "ulong":
-        return (0, (1 << BITS[name]) - 1)
-    return (-(1 << BITS[name] - 1), (1 << BITS[name] - 1) - 1)
+    signed = name not in UNSIGNED or name == "ulong"
+    return (-(1 << BITS[name] - 1), (1 << BITS[name] - 1) - 1) if signed else (0, (1 << BITS[name]) - 1)
 
 
 def wrapped(value, name):
     """A number converted to a C type, as its cell holds it (C11 6.3.1.3; gcc and clang wrap signed types)."""
     if name == "bool":
         return int(value != 0)
-    value &= (1 << BITS[name]) - 1
-    signed = name not in UNSIGNED or name == "ulong"
-    return value - (1 << BITS[name]) if signed and value >> BITS[name] - 1 else value
+    low = limits(name)[0]
+    return (value - low) % (1 << BITS[name]) + low
 
 
 def promoted(name):

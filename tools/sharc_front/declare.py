@@ -1,11 +1,20 @@
-"""Declarations: types, structs, enums, names and their scopes (C11 6.2.1, 6.7)."""
+"""Declarations: types, structs, enums, names and their scopes, initialisers and strings (C11 6.2.1, 6.4.5, 6.7)."""
+
+import re
+from collections import ChainMap
 
 from pycparser import c_ast as A
 
-from .classes import Classes, Node, unify
+from .classes import Classes, unify
 from .ctype import BAD, BITS, COND, INT, MUTEX, SIZES, UINT, VOID, Refusal, Type, array
+from .tree import number
 
-OPAQUE = {"pthread_mutex_t": MUTEX, "pthread_spinlock_t": MUTEX, "__sharc_cond": COND}
+# the types that a few words name, without `signed` and `int`, in the order of the alphabet
+WORDS = {"": INT, "void": VOID, "pthread_mutex_t": MUTEX, "pthread_spinlock_t": MUTEX, "__sharc_cond": COND,
+         "_Bool": Type("int", "bool"), "long long": Type("int", "long"), "long long unsigned": Type("int", "ulong"),
+         "unsigned": UINT, **{word: Type("int", word) for word in ("char", "short", "long")},
+         **{word + " unsigned": Type("int", "u" + word) for word in ("char", "short", "long")}}
+ESCAPES = dict(zip("abfnrtv\\'\"?e", (7, 8, 12, 10, 13, 9, 11, 92, 39, 34, 63, 27)))
 
 
 class Symbol:
@@ -15,25 +24,26 @@ class Symbol:
         self.name, self.kind, self.type, self.place = name, kind, type, place
         self.address = address  # class of the pointers to it, or to its elements if it is an array
         self.out, self.own = out or name, own  # its name in the text that is written; whether it is none of the user's
-        self.boxed, self.uses = False, 0  # boxed: its address is taken, so it is an object of the heap
-        # [(path, value)]; of a global the constants of its parts, and [(path, whether it is constant, lines of main)]
-        self.initial, self.constants, self.rest = [], {}, []
+        self.shared, self.uses = False, 0  # shared: others than its function may change it
+        self.boxed = False  # its address is taken, so it is an object of the heap
+        self.constants, self.rest = {}, []  # of a global: {path: what a part is declared with}, [(path, lines of main)]
         self.loop, self.started = 0, []  # how many loops are around it, and around each pthread_create of its address
         self.params, self.definition, self.lines = [], None, []  # of a function, as the next three
         self.gives, self.called, self.header = False, False, False  # gives: a pointer that is not NULL
 
 
 class Field:
-    """A member of a struct; `alone` if its address is taken in an object of the heap: it is an array of one element."""
+    """A member of a struct."""
 
-    def __init__(self, type, place, alone, made):
-        self.type, self.place, self.alone = type, place, alone
-        self.made = made  # for an array: the class of pointers to the elements, in objects of the heap
+    def __init__(self, type, place, made):
+        self.type, self.place = type, place
+        self.made = made  # the class of pointers to it, or to its elements if it is an array, in objects of the heap
+        self.alone = False  # its address is taken there, so it is an object of its own, as arrays are
 
 
 class Struct:
-    def __init__(self, name, place):
-        self.name, self.place, self.fields, self.complete = name, place, {}, False
+    def __init__(self, place):
+        self.place, self.fields, self.complete = place, {}, False
 
 
 def place_of(node, otherwise=("", 0)):
@@ -41,12 +51,11 @@ def place_of(node, otherwise=("", 0)):
     return (coord.file, coord.line) if coord is not None and coord.file else otherwise
 
 
-class Declarations:
-    def __init__(self, source, alone):
-        self.source, self.function, self.alone, self.here, self.scopes = source, None, alone, ("", 0), [{}]
-        self.structs, self.globals, self.functions, self.refusals = {}, [], {}, []
-        self.classes = Classes(self.structs)
-        self.leaves = self.classes.leaves
+class Declarations(Classes):
+    def __init__(self, source):
+        super().__init__()
+        self.source, self.function, self.here, self.scopes = source, None, ("", 0), ChainMap()
+        self.globals, self.functions, self.refusals = [], {}, []
         self.tags, self.typedef_names = {}, {}  # by their nodes; in self.scopes they are with a blank before them
         self.names, self.unions = set(source.words), set()
 
@@ -58,60 +67,68 @@ class Declarations:
             self.refuse(node or self.here, what)
 
     def report(self, refusal):
-        for place, what in refusal.all:
-            if what and (place, what) not in self.refusals:
-                self.refusals.append((place, what))
+        self.refusals += [about for about in refusal.args if about[1] and about not in self.refusals]
 
     def fresh(self, name):
         """A name that nothing has, of at most 60 bytes."""
-        made, number = name[:56], 1
+        made, count = name[:56], 1
         while made in self.names:
-            number += 1
-            made = f"{name[:56]}_{number}"
+            count += 1
+            made = f"{name[:56]}_{count}"
         self.names.add(made)
         return made
-
-    def node(self, to=None):
-        return Node(self.classes.nodes, to)
 
     def pointer(self, to, **more):
         """A pointer of a class of its own."""
         return Type("ptr", to=to, node=self.node(to), **more)
 
     def scoped(self, act, *arguments):
-        self.scopes.append({})
+        """What an act gives in a scope of its own."""
+        outer, self.scopes = self.scopes, self.scopes.new_child()
         try:
             return act(*arguments)
         finally:
-            self.scopes.pop()
-
-    @staticmethod
-    def lookup(name, scopes):
-        return next((scope[name] for scope in reversed(scopes) if name in scope), None)
+            self.scopes = outer
 
     def type(self, node):
         """The type that a declarator or a type name gives."""
-        match node:
-            case A.Typename():
-                return self.type(node.type)
-            case A.TypeDecl():
-                return self.qualified(node, self.type(node.type))
-            case A.PtrDecl():
-                return self.qualified(node, self.pointer(self.type(node.type)))
-            case A.Union():
-                known = node.decls is None and node.name in self.unions
-                self.unions.add(node.name)
-                self.refuse(node, None if known else "union")
-            case _:
-                read = getattr(self, "t_" + type(node).__name__, None)
-                return read(node) if read else self.refuse(node, f"type ({type(node).__name__})")
+        if isinstance(node, A.Typename):
+            return self.type(node.type)
+        if isinstance(node, (A.TypeDecl, A.PtrDecl)):
+            kind, words = self.type(node.type), node.quals or []
+            kind = self.pointer(kind) if isinstance(node, A.PtrDecl) else kind
+            self.refuse_if("_Atomic" in words and kind.kind != "int", f"_Atomic {kind.shown()}", node)
+            mode = self.source.mode(words)
+            return kind.with_(mode=(mode, self.scopes) if mode else kind.mode, const=kind.const or "const" in words,
+                              atomic=kind.atomic or "_Atomic" in words)
+        read = getattr(self, "t_" + type(node).__name__, None)
+        return read(node) if read else self.refuse(node, f"type ({type(node).__name__})")
 
-    def qualified(self, node, kind):
-        words = node.quals or []
-        self.refuse_if("_Atomic" in words and kind.kind != "int", f"_Atomic {kind.shown()}", node)
-        mode = self.source.mode(words)
-        return kind.with_(mode=(mode, self.scopes[:]) if mode else kind.mode, atomic=kind.atomic or "_Atomic" in words,
-                          const=kind.const or "const" in words)
+    def t_Union(self, node):
+        known = node.decls is None and node.name in self.unions
+        self.unions.add(node.name)
+        self.refuse(node, None if known else "union")
+
+    def t_IdentifierType(self, node):
+        words = " ".join(sorted(word for word in node.names if word not in ("signed", "int")))
+        named = WORDS.get(words) or self.scopes.get(words)
+        if isinstance(named, A.Typedef):  # each time with classes of its own
+            return self.type(named.type)
+        if isinstance(named, Type) and named != BAD:
+            return named
+        real = {"float", "double"} & set(node.names)
+        return self.refuse(node, None if named == BAD else "floating point" if real else "type " + " ".join(node.names))
+
+    def t_ArrayDecl(self, node):
+        kind = self.type(node.type)
+        length = self.constant(node.dim, "array whose length is not constant") if node.dim is not None else None
+        if kind.kind in ("void", "func") or kind.kind == "array" and kind.length is None or (length or 1) < 1:
+            self.refuse(node, "array of no elements" if length is not None else "array of this type")
+        return array(kind, length)
+
+    def constant(self, node, what):
+        value = self.peeked(node)
+        return value.number if value.number is not None else self.refuse(node, what)
 
     def t_FuncDecl(self, node):
         params, result = node.args.params if node.args else None, self.adjusted(self.type(node.type))
@@ -127,68 +144,38 @@ class Declarations:
             return self.pointer(kind, name="value")
         return self.pointer(kind.to if kind.kind == "array" else kind) if kind.kind in ("array", "func") else kind
 
-    def t_ArrayDecl(self, node):
-        kind, length = self.type(node.type), None
-        if node.dim is not None:
-            length = self.constant(node.dim, "array whose length is not constant")
-        if kind.kind in ("void", "func") or kind.kind == "array" and kind.length is None or (length or 1) < 1:
-            self.refuse(node, "array of no elements" if length is not None else "array of this type")
-        return array(kind, length)
-
-    def constant(self, node, what):
-        value = self.peeked(node)
-        return value.number if value.number is not None else self.refuse(node, what)
-
-    def t_IdentifierType(self, node):
-        words = [word for word in node.names if word not in ("signed", "int")]
-        if len(words) == 1 and words[0] in OPAQUE:
-            return OPAQUE[words[0]]
-        named = self.lookup(words[0], self.scopes) if len(words) == 1 else None
-        if isinstance(named, A.Typedef):  # each time with classes of its own
-            return self.type(named.type)
-        if isinstance(named, Type):
-            return named if named.kind != "bad" else self.refuse(node, None)
-        self.refuse_if({"float", "double"} & set(words), "floating point", node)
-        unsigned = "u" * ("unsigned" in words)
-        for word in ("char", "short", "long", "_Bool"):
-            if word in words:
-                return Type("int", "bool" if word == "_Bool" else unsigned + word)
-        self.refuse_if(words not in ([], ["unsigned"], ["void"]), "type " + " ".join(node.names), node)
-        return VOID if words == ["void"] else UINT if unsigned else INT
-
     def t_Enum(self, node):
         """gcc gives an enumerated type without a negative number the type unsigned int."""
         if node.values is None or id(node) in self.tags:
-            return self.tags.get(id(node)) or self.lookup(f" {node.name}", self.scopes) or UINT
-        number, least = 0, 0
+            return self.tags.get(id(node)) or self.scopes.get(f" {node.name}") or UINT
+        value, least = 0, 0
         for item in node.values.enumerators:
             if item.value is not None:
-                number = self.constant(item.value, "enumerator that is not constant")
-            self.refuse_if(not -(1 << 31) <= number < 1 << 31, "enumerator that is no int", item)
-            self.scopes[-1][item.name] = number
-            number, least = number + 1, min(number, least)
-        self.scopes[-1][f" {node.name}"] = self.tags[id(node)] = INT if least < 0 else UINT
+                value = self.constant(item.value, "enumerator that is not constant")
+            self.refuse_if(not -(1 << 31) <= value < 1 << 31, "enumerator that is no int", item)
+            self.scopes[item.name] = number(value)
+            value, least = value + 1, min(value, least)
+        self.scopes[f" {node.name}"] = self.tags[id(node)] = INT if least < 0 else UINT
         return self.tags[id(node)]
 
     def t_Struct(self, node):
         """Its name, as it is written; its members are read where they are given."""
-        tag, scopes = f" {node.name}", self.scopes if node.decls is None else self.scopes[-1:]
-        name = self.tags.get(id(node))
-        if name is None:
-            name = self.lookup(tag, scopes) if node.name else None
-            wanted = node.name or self.typedef_names.get(id(node), "anonymous")
-            name = name or (self.fresh(wanted) if wanted in self.structs or wanted == "anonymous" else wanted)
-            self.tags[id(node)] = name
-        if node.name and self.lookup(tag, scopes) is None:
-            self.scopes[-1][tag] = name
-        struct = self.structs.setdefault(name, Struct(name, place_of(node, self.here)))
+        if id(node) not in self.tags:
+            tag, wanted = f" {node.name}", node.name or self.typedef_names.get(id(node), "anonymous")
+            known = node.name and (self.scopes if node.decls is None else self.scopes.maps[0]).get(tag)
+            taken = wanted in self.structs or wanted == "anonymous"
+            self.tags[id(node)] = known or (self.fresh(wanted) if taken else wanted)
+            self.scopes.update({tag: self.tags[id(node)]} if node.name and not known else {})
+        name = self.tags[id(node)]
+        struct = self.structs.setdefault(name, Struct(place_of(node, self.here)))
         if node.decls is not None and not struct.complete:
             struct.complete = True
             for decl in node.decls:
-                self.field(struct, decl)
+                self.member_of(name, decl)
         return Type("struct", name)
 
-    def field(self, struct, decl):
+    def member_of(self, struct, decl):
+        """Reads the declaration of a member; its type is bad where it is refused."""
         name, kind = getattr(decl, "name", None), BAD
         try:
             if not isinstance(decl, A.Decl) or name is None or decl.bitsize is not None:
@@ -200,9 +187,7 @@ class Declarations:
             kind = read
         except Refusal as refusal:
             self.report(refusal)
-        alone = (struct.name, name) in self.alone and kind.kind in ("int", "ptr", "struct")
-        kind = array(kind, 1) if alone else kind
-        struct.fields[name or ""] = Field(kind, place_of(decl, self.here), alone, self.node(kind))
+        self.structs[struct].fields[name or ""] = Field(kind, place_of(decl, self.here), self.node(kind))
 
     def complete(self, kind, node):
         base = kind.base()
@@ -218,56 +203,106 @@ class Declarations:
         if kind.kind == "array":
             size, align = self.size(kind.to)
             return size and kind.length and kind.length * size, align
-        known = SIZES.get(kind.name) or SIZES.get(kind.kind)
+        known = SIZES.get(kind.shown() if kind.kind == "struct" else kind.kind)
         if known or kind.kind != "struct":
             return known, 8
         at, align = 0, 1
-        for field in self.structs[kind.name].fields.values():
-            size, step = self.size(field.type)
+        for member in self.structs[kind.name].fields.values():
+            size, step = self.size(member.type)
             if size is None:
                 return None, 8
             at, align = -(-at // step) * step + size, max(align, step)
         return -(-at // align) * align, align
 
-    def has(self, kind, wanted):
-        """Whether something of this kind is in an object of this type."""
+    def has_mutex(self, kind):
         base = kind.base()
-        inner = (leaf for _, leaf, _, _ in self.leaves(base)) if base.kind == "struct" else ()
-        return base.kind == wanted or any(self.has(leaf, wanted) for leaf in inner)
+        inner = self.leaves(base) if base.kind == "struct" else ()
+        return base.kind == "mutex" or any(self.has_mutex(leaf) for _, leaf, _, _ in inner)
 
     def declare(self, name, kind, type, node):
         """A new variable."""
         self.complete(type, node)
-        place = place_of(node, self.here) if not isinstance(node, tuple) else node
+        place = node if isinstance(node, tuple) else place_of(node, self.here)
         symbol = Symbol(name, kind, type, place, self.node(type))
+        symbol.shared = kind == "global" or type.atomic or name in self.addressed
         if kind == "global":
-            symbol.address.globals[(symbol, ())] = place
+            symbol.address.globals[(symbol, ())] = None
         else:
-            symbol.address.mark("heap", place)
-        symbol.boxed = kind != "global" and self.has(type, "mutex")
+            symbol.address.mark("heap")
+            symbol.boxed = self.has_mutex(type)
         return symbol
 
     def variable(self, decl, kind):
         """The object that a declaration declares."""
         type, storage, bare = self.type(decl.type), decl.storage or [], decl.init is None
-        known = self.scopes[-1].get(decl.name) if kind == "global" else None
-        if "extern" in storage and bare:
-            known = known or self.lookup(decl.name, self.scopes)
-            self.refuse_if(kind != "global" and isinstance(known, Symbol) and known.kind != "global",
-                           f"extern {decl.name} below a local of this name", decl)
+        known = self.scopes.maps[-1].get(decl.name) if kind == "global" or "extern" in storage else None
         if type.kind == "array" and type.length is None and not bare:
-            type = type.with_(length=self.counted(type, decl.init))
+            type = type.with_(length=1 + max(path[0] for path, _ in self.scalars(type, [decl.init])))
         kind = "global" if {"static", "extern"} & set(storage) else kind
         symbol = known if isinstance(known, Symbol) else self.declare(decl.name, kind, type, decl)
-        self.scopes[-1][decl.name] = symbol
+        self.scopes[decl.name] = symbol
         if symbol.type.kind == "array" and symbol.type.length is None:
             symbol.type = type
         unify(symbol.type, type)
         if symbol.kind == "global" and symbol not in self.globals and not ("extern" in storage and bare):
             self.globals.append(symbol)
-            symbol.out = self.fresh(f"{self.function.name}_{decl.name}") if len(self.scopes) > 1 else symbol.out
-        if not bare:
-            symbol.initial = self.scalars(symbol.type, decl.init)
-        if symbol.kind == "global":
-            self.set_initialiser(symbol)
+            symbol.out = self.fresh(f"{self.function.name}_{decl.name}") if len(self.scopes.maps) > 1 else symbol.out
         return symbol
+
+    def text_of(self, item, kind):
+        """The bytes of a string that initialises an array of characters."""
+        while isinstance(item, A.InitList) and len(item.exprs) == 1:
+            item = item.exprs[0]
+        literal = isinstance(item, A.Constant) and item.type == "string" and kind.kind == "array"
+        return self.string_bytes(item) if literal and kind.to.name in ("char", "uchar") else None
+
+    def scalars(self, kind, items, path=()):
+        """Takes from `items` what initialises one object, a list in braces, a value, or those of its parts (C11 6.7.9):
+        the scalars, each with its path of members and indices."""
+        item, text = items[0], self.text_of(items[0], kind)
+        if isinstance(item, A.ID) and item.name == "__sharc_init":
+            items.pop(0)
+        elif text is not None:
+            coord = items.pop(0).coord
+            for at, byte in enumerate(text[: kind.length]):
+                yield path + (at,), A.Constant("int", str(byte), coord)
+        elif isinstance(item, A.InitList) and kind.kind not in ("array", "struct"):
+            yield from self.scalars(kind, list(items.pop(0).exprs), path)
+        elif isinstance(item, A.InitList):
+            yield from self.parts(kind, list(items.pop(0).exprs), path, True)
+        elif kind.kind != "array" and (kind.kind != "struct" or self.peeked(item).type.kind == "struct"):
+            yield path, items.pop(0)
+        else:
+            yield from self.parts(kind, items, path, False)
+
+    def parts(self, kind, items, path, braced):
+        """The same for the parts of an array or a struct: in braces all items, else as many as there are parts."""
+        length = 1 << 20 if kind.length is None else kind.length
+        steps, at = range(length) if kind.kind == "array" else list(self.structs[kind.name].fields), 0
+        while items and (braced or at < len(steps) and not isinstance(items[0], A.NamedInitializer)):
+            item, more = items[0], []
+            if isinstance(item, A.NamedInitializer):
+                name, *more = item.name
+                at = steps.index(name.name if kind.kind == "struct" else
+                                 self.constant(name, "designator that is not constant"))
+                items[0] = A.NamedInitializer(more, item.expr) if more else item.expr
+            self.refuse_if(at >= len(steps), "initialiser with too many values", item)
+            part, inside = self.part(kind, steps[at : at + 1]), path + (steps[at],)
+            yield from self.parts(part, [items.pop(0)], inside, True) if more else self.scalars(part, items, inside)
+            at += 1
+
+    def string_bytes(self, node):
+        self.refuse_if(not node.value.startswith('"'), "wide string", node)
+        return [*self.escapes(node, node.value[1:-1]), 0]
+
+    def escapes(self, node, text):
+        """The bytes of a string or character constant, as signed characters."""
+        found = []
+        for piece in re.findall(r"\\x[0-9a-fA-F]+|\\[0-7]{1,3}|\\.|[^\\]", text, re.DOTALL):
+            if piece[0] != "\\":
+                found += list(piece.encode("utf-8"))
+            elif piece[1] == "x" or piece[1].isdigit():
+                found.append(int(piece[2:], 16) if piece[1] == "x" else int(piece[1:], 8))
+            else:
+                found.append(ESCAPES[piece[1]] if piece[1] in ESCAPES else self.refuse(node, f"escape {piece}"))
+        return [byte - 256 if byte > 127 else byte for byte in found]

@@ -1,15 +1,18 @@
 """Calls that C cannot say: a method a function. The rest of the libraries is C in headers/."""
 
+import math
 import re
 
 from pycparser import c_ast as A
 
+from .classes import HEAP
 from .ctype import INT, VOID
 from .express import Line
 from .statements import Statements
-from .tree import PLACES, Expr, binary, convert, helper, number
+from .tree import NOTHING, PLACES, Expr, binary, convert, joined, number, times
 
-CONVERSION = re.compile(r"%([-+ 0#]*)(\d*|\*)(?:\.(\d*|\*))?(hh|h|ll|l|z|j|t|q)?([a-zA-Z%])")
+# of a format: a text, or a conversion by its flags, width, precision, length and letter
+PIECE = re.compile(r"((?:[^%]|%%)+)|%([-+ 0#]*)(\d*|\*)(?:\.(\d*|\*))?(hh|h|ll|l|z|j|t|q)?([a-zA-Z])")
 
 
 class Library(Statements):
@@ -21,35 +24,34 @@ class Library(Statements):
 
     def l_sharc_do(self, args):
         """A call of the language: its name, and pointers; for a lock the mutex itself."""
-        name, values = args[0].name, [self.value(arg) for arg in args[1:]]
+        name, values = args[0].name, self.values(args[1:])
         if name in ("lock", "unlock"):
             place = self.deref(values[0])
             self.refuse_if(place.type.kind != "mutex", "lock of what is no mutex")
             self.emit(name + "(&%s);", place)
         else:
-            self.emit("%s;", Expr("call", (name, *values), VOID))
+            self.emit(f"{name}({', '.join(['%s'] * len(values))});", *values)
 
     def format(self, arg, rest):
-        """The text of a format, and its conversions."""
+        """The pieces of a format."""
         self.refuse_if(not (isinstance(arg, A.Constant) and arg.type == "string"), "format that is no literal", arg)
-        text = "".join(chr(byte & 255) for byte in self.string_bytes(arg)[:-1])
-        found = [found for found in CONVERSION.findall(text) if found[4] != "%"]
+        pieces = PIECE.findall("".join(chr(byte & 255) for byte in self.string_bytes(arg)[:-1]))
+        found = [part for text, *part in pieces if not text]
         self.refuse_if(len(found) != len(rest) or any("*" in part[1] + part[2] for part in found),
                        "format that has other values, or a width of *", arg)
-        return text, found
+        return pieces
 
     def l_printf(self, args, shown="diuxXoc"):
-        rest, (_, found), values = args[1:], self.format(args[0], args[1:]), []
-        for part, arg in zip(found, rest):
+        parts, printed = [part for text, *part in self.format(args[0], args[1:]) if not text], []
+        for part, value in zip(parts, self.values(args[1:])):
             self.refuse_if(part[4] not in "diuxXocsp", f"conversion %{part[4]}")
-            value = self.value(arg)
             if part[4] in shown:
-                values.append(self.shown_number(part, value))
-            elif value.height > 2 and (value.type.kind == "int" or value.bare().op in PLACES):
+                printed.append(self.shown_number(part, value))
+            elif value.height > 2 and (value.type.kind == "int" or value.bare().op in PLACES) or value.calls:
                 self.spilled(value)  # what it reads is read, though nothing is printed
-        for value in [self.direct(values[0])] if len(values) == 1 else values:
+        for value in [self.spilled(value) if value.calls and len(printed) > 1 else value for value in printed]:
             self.emit("print(%s);", value)
-        return number(0).with_(type=VOID)
+        return NOTHING
 
     def l_sharc_fprintf_stderr(self, args):
         return self.l_printf(args, "")
@@ -60,19 +62,16 @@ class Library(Statements):
         name = {"hh": "char", "h": "short", "": "int"}.get(part[3], "long")
         value = convert(value, "u" + name if part[4] in "uxXo" else name)
         shown = value.type.name == "ulong" and (value.number is None or value.number < 0)
-        return helper("shown64", "long", True, value) if shown else value
+        return joined("__sharc_shown64", "long", value) if shown else value
 
     def l_snprintf(self, args):
         """Piece after piece, by functions of headers/stdio.h that give the place of the next one."""
-        pieces, at = CONVERSION.split(self.format(args[2], args[3:])[0]), number(0)
+        pieces, at = self.format(args[2], args[3:]), number(0)
         s, room, *values = (self.stable(self.value(arg)) for arg in [*args[:2], *args[3:]])
-        for text, *part in (pieces[start : start + 6] for start in range(0, len(pieces), 6)):
-            part = [word or "" for word in part] or [""] * 5
-            text += "%" * (part[4] == "%")
-            calls = [("put_text", self.string(text.encode("latin-1")))] if text else []
-            calls += [self.conversion(part, values.pop(0))] if part[4] not in ("", "%") else []
-            for name, *more in calls:
-                at = self.stable(self.inlined(self.functions["__sharc_" + name], [s, room, at, *more]))
+        for text, *part in pieces:
+            name, *more = self.conversion(part, values.pop(0)) if not text else \
+                ("put_text", self.string(text.replace("%%", "%").encode("latin-1")))
+            at = self.stable(self.inlined(self.functions["__sharc_" + name], [s, room, at, *more]))
         return self.inlined(self.functions["__sharc_end"], [s, room, at])
 
     def conversion(self, part, value):
@@ -100,68 +99,59 @@ class Library(Statements):
 
     def elements(self, to, size):
         """How many elements of what a pointer points to a size in bytes is."""
-        made, place = self.stable(self.length(to.type.to, *self.factors(size))), to.place()
-        one = place and to.type.to.key() == place.type.key()
+        made, place = self.stable(self.count(to.type.to, self.factors(self.value(size)))), to.place()
+        one = place and place.op not in ("element", "at") and to.type.to.key() == place.type.key()
         self.refuse_if(one and made.number != 1, "size of more than the object")
         return made
 
-    def factors(self, node):
-        """The type of the sizeof in a size in bytes, if there is one, and the values that are multiplied with it."""
-        while isinstance(node, A.Cast):
-            node = node.expr
-        if isinstance(node, A.UnaryOp) and node.op == "sizeof":
-            return self.sized(node), []
-        if isinstance(node, A.BinaryOp) and node.op == "*":
-            (left, some), (right, more) = self.factors(node.left), self.factors(node.right)
-            return left or right, some + more + ([number(self.size(right)[0])] if left and right else [])
-        return None, [self.stable(self.value(node))]
+    def factors(self, size):
+        """A size in bytes as values that are multiplied."""
+        size = size.bare()
+        if size.op in ("*", "__sharc_product64"):
+            return [factor for arg in size.args for factor in self.factors(arg)]
+        return [self.stable(size)]
 
-    def length(self, to, unit, factors):
+    def count(self, kind, factors):
         """How many objects of a type such a size is."""
-        size, made = self.size(to)[0], number(1)
-        if unit is not None and unit.base().key() == to.base().key():
-            made, size = number(unit.cells() // to.cells()), 1
-        elif unit is not None:
-            factors = [*factors, number(self.size(unit)[0] or 0)]
+        size, constant = self.size(kind)[0], math.prod(f.number for f in factors if f.number is not None)
+        self.refuse_if(not size or constant % size, "size that is not a number of elements of one type")
+        made = number(constant // size, "int" if constant < 1 << 31 else "long")
         for factor in factors:
-            made = factor if made.number == 1 else binary("*", made, factor, "long")
-        if made.number is not None and size and made.number % size == 0:
-            return number(made.number // size, made.type.name)
-        self.refuse_if(size != 1, "size that is not a number of elements of one type")
+            if factor.number is None:
+                made = factor if made.number == 1 else binary("*", made, factor, "long")
         return made
 
     def l_malloc(self, args):
         """malloc within an expression: by a variable, which is cast away."""
         made = self.temporary(self.pointer(VOID))
-        self.allocate(made, A.FuncCall(None, A.ExprList(args)))
-        return self.result(Expr("scast", (made,), made.type))
+        self.allocate(made, args)
+        return Expr("scast", (made,), made.type, height=3)
 
     l_calloc = l_malloc
 
-    def allocate(self, place, call):
-        """place = malloc(..)."""
+    def allocate(self, place, args):
+        """place = malloc(args), or calloc."""
         self.refuse_if(place.type.kind != "ptr", "pointer as a number")
-        node, here = place.type.node, self.here
-        node.mark("heap", here)
-        args = call.args.exprs
-        unit, factors = self.factors(args[0] if len(args) == 1 else A.BinaryOp("*", *args))
+        node, factors = place.type.node, [factor for arg in args for factor in self.factors(self.value(arg))]
+        place = self.stable_place(place)
+        node.mark("heap")
 
         def allocated():
-            to = place.type.to if place.type.to.kind != "void" else node.pointee_type(here)
-            length = binary("*", number(to.cells()), self.length(to, unit, factors), "long")
-            return self.new_object(self.text(place), to.base(), length, node)
+            to = place.type.to if place.type.to.kind != "void" else node.pointee_type(self.here)
+            length = times(self.count(to, factors), to.cells())
+            return self.new_object(self.text(place), to.base(), length, self.boxes(node))
         self.later(allocated, place)
 
     def l_free(self, args):
         value = self.value(args[0])
         if value.null():
             return
-        value = value.bare() if value.bare().op in PLACES and not value.bare().once else self.spilled(value)
+        value = value.bare() if value.bare().op in PLACES else self.spilled(value)
 
         def freed():
             how = self.how(self.class_of(value))
-            self.refuse_if(how not in ("heap", "boxes", "none"), "free of a pointer to a global")
-            return f"free({self.text(value)});" if how != "none" else ";"
+            self.refuse_if(how not in (*HEAP, "none"), "free of a pointer to a global")
+            return f"free({self.text(value)});" if how != "none" else ""
         self.later(freed, value)
 
     def l_sharc_stop(self, args):
@@ -169,7 +159,7 @@ class Library(Statements):
         zero, (file, line) = self.own_name("zero"), self.here
         self.lines.append(Line((f"{file}: {args[0].value[1:-1]}", line),
                                f"{{ int {zero} = 0; {zero} = 1 / {zero}; }}"))
-        return number(0).with_(type=VOID)
+        return NOTHING
 
     def l_exit(self, args):
         code = self.value(args[0])
@@ -177,12 +167,12 @@ class Library(Statements):
             return self.l_sharc_stop([A.Constant("string", f'"exit({code.number})"')])
         self.refuse_if(self.function.name != "main", "exit outside main that may be no failure")
         self.emit("return %s;", self.fitting(code, INT))
-        return number(0).with_(type=VOID)
+        return NOTHING
 
     def l_sharc_scast(self, args):
         kind, place = self.type(args[0].to_type), self.visit(args[1])
         place.type.node.unite(kind.node)
-        return self.result(Expr("scast", (place,), kind))
+        return Expr("scast", (place,), kind, height=3)
 
     def l_sharc_give(self, args):
         return self.given(self.value(args[0]))

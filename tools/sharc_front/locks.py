@@ -6,12 +6,10 @@ unlocks from then on is followed through its lines.
 
 from collections import Counter, namedtuple
 
-from pycparser import c_generator
-
+from .names import in_c
 from .source import HEADERS
 from .tree import PLACES, Expr
 
-GENERATOR = c_generator.CGenerator()
 # a call of a function, or an access of what is called `about`, whose struct is at `prefix`: where, whether it writes,
 # and the locks that were locked and unlocked before it
 Event = namedtuple("Event", "about prefix function place written locks")
@@ -20,7 +18,7 @@ Event = namedtuple("Event", "about prefix function place written locks")
 def spelled(place):
     """A place as in C."""
     if place.source is not None:
-        return " ".join(GENERATOR.visit(place.source).split())
+        return in_c(place.source)
     base = place.args[0]
     if place.op == "variable":
         return base.name
@@ -34,82 +32,60 @@ class Locksets:
         self.pointers = {}  # {text of a lock: (class of the pointer to its struct, its name)}
         for self.function in front.functions.values():
             self.state = (frozenset(), frozenset())
-            self.follow(iter(self.function.lines))
+            self.follow(self.function.lines)
 
     def follow(self, lines):
-        """The lines up to the end of a block, which is given; self.state is None where nothing is reached."""
+        """Through lines and their blocks; self.state is None where nothing is reached."""
         for line in lines:
             for at, part in enumerate(line.parts):
                 if isinstance(part, Expr):
                     self.event(part, line, at == 0 and line.text.startswith("%s = "))
-            if line.text[0] == "}":
-                return line
-            if line.text[-1] == "{":
-                before, end = self.state, self.follow(lines)
-                ends = [self.state] + [before] * (line.text != "{" and end.text == "}")
-                if end.text != "}":
-                    self.state = before
-                    self.follow(lines)
-                    ends.append(self.state)
-                ends = [end for end in ends if end]
-                self.state = (frozenset.intersection(*(added for added, _ in ends)),
-                              frozenset.union(*(removed for _, removed in ends))) if ends else None
-            elif line.text.startswith(("lock(&%s", "unlock(&%s")) and self.state:
+            before, ends = self.state, []
+            for block in line.blocks:
+                self.state = before
+                self.follow(block)
+                ends.append(self.state)
+            if any(ends):
+                added, removed = zip(*filter(None, ends))
+                self.state = (frozenset.intersection(*added), frozenset.union(*removed))
+            if line.text.startswith(("lock(&%s", "unlock(&%s")) and self.state:
                 self.changed(line.parts[0], line.text[0] == "l")
             elif line.text.startswith(("return", "break", "continue")) or " = 1 / " in line.text:
                 self.state = None
-        return None
 
     def changed(self, place, locked):
         (added, removed), text, base = self.state, spelled(place), place.args[0]
-        if text.startswith("__sharc"):
-            return
         if place.op == "member" and base.op == "at":
             self.pointers[text] = (base.args[0].type.node, place.args[1])
-        key = {text}
+        key = {text} if not text.startswith("__sharc") else set()
         self.state = (added | key, removed - key) if locked else (added - key, removed | key)
 
     def event(self, tree, line, written):
         """The calls and accesses in a tree."""
+        for inner in tree.values():
+            self.event(inner, line, tree.op == "text")
         state = self.state or (frozenset(), frozenset())
         if tree.op == "call" and hasattr(tree.args[0], "params"):
             self.calls.append(Event(tree.args[0], None, self.function, line.place, False, state))
-        place = base = tree
-        while base.op in ("member", "element"):
-            for arg in base.args[1:] if base.op == "element" else ():
-                self.event(arg, line, False)
-            base = base.args[0]
-            place = base if place.op == "element" else place
-        for arg in base.args:
-            if isinstance(arg, Expr):
-                self.event(arg, line, tree.op == "text")
+        place = tree
+        while place.op == "element":
+            place = place.args[0]
         if tree.op not in PLACES or line.header and not tree.source or place.type.base().kind not in ("int", "ptr"):
             return
-        key, name, prefix = (self.function, id(place.source or place)), spelled(place), None
+        key, name, prefix, known = (self.function, id(place.source or place)), spelled(place), None, place.args[0]
         if place.op == "member":
-            struct, member = place.args[0].type.name, place.args[1]
+            struct, member = known.type.name, place.args[1]
             prefix, name = name[: -len(member)], f"struct {struct}.{member}"
-            field = self.front.structs[struct].fields[member]
-            if field.type.mode or field.type.base().atomic or field.place[0].startswith(HEADERS):
-                return
-        elif place.op != "variable" or place.args[0].kind != "global" or place.args[0].own or \
-                place.args[0].type.base().atomic:
+            known = self.front.structs[struct].fields[member]
+        elif place.op != "variable" or known.kind != "global" or known.own:
             return
-        written |= key in self.accesses and self.accesses[key].written
-        self.accesses[key] = Event(name, prefix, self.function, line.place, written, state)
+        if not (known.type.base().atomic or prefix and (known.type.mode or known.place[0].startswith(HEADERS))):
+            written |= key in self.accesses and self.accesses[key].written
+            self.accesses[key] = Event(name, prefix, self.function, line.place, written, state)
 
     def held(self, event):
         added, removed = event.locks
         return self.entry.get(event.function, frozenset()) - removed | added
-
-    def entries(self):
-        """The locks that are held where functions begin: until they no longer change."""
-        for _ in range(8):
-            found = {symbol: frozenset() for symbol in self.front.thread_functions()}
-            for event in self.calls:
-                known = frozenset(map(self.everywhere, self.held(event))) - {None}
-                found[event.about] = found.get(event.about, known) & known
-            self.entry = found
 
     def everywhere(self, text):
         """A lock by a name that means the same everywhere, of a global or a member of one; else None."""
@@ -120,10 +96,15 @@ class Locksets:
         return text if not set("[*>(") & set(text) and text.split(".")[0] in self.front.global_names else None
 
     def proposals(self):
-        self.entries()
-        found, threads = {}, set(self.front.thread_functions())
-        for _ in self.front.functions:
-            threads |= {event.about for event in self.calls if event.function in threads}
+        starts, found = self.front.thread_functions(), {}
+        threads = set(starts)
+        for _ in self.front.functions:  # a chain of calls has no more
+            entry = dict.fromkeys(starts, frozenset())
+            for call in self.calls:
+                threads |= {call.about} if call.function in threads else set()
+                known = frozenset(map(self.everywhere, self.held(call))) - {None}
+                entry[call.about] = entry.get(call.about, known) & known
+            self.entry = entry
         for event in self.accesses.values():
             locks = {self.named(text, event.prefix) for text in self.held(event)} - {None}
             found.setdefault(event.about, []).append((event, event.function in threads, locks))
@@ -139,14 +120,13 @@ class Locksets:
     @staticmethod
     def proposal(name, found):
         threads = [(event, locks) for event, thread, locks in found if thread]
-        if threads and not any(event.written for event, _ in threads):
-            written = sorted({event.place[1] for event, _, _ in found if event.written})
-            if written:
-                yield f"{name}: written by main alone (line {', '.join(map(str, written))}), read by threads"
-            return
+        written = sorted({event.place[1] for event, _, _ in found if event.written})
+        if threads and written and not any(event.written for event, _ in threads):
+            yield f"{name}: written by main alone (line {', '.join(map(str, written))}), read by threads"
         counts = Counter(lock for _, locks in threads for lock in locks)
         best = max(counts, key=lambda lock: (counts[lock], lock), default=None)
-        if best is None or counts[best] < 0.6 * len(threads) and not 1 <= counts[best] == len(threads) - 1:
+        few = best is None or counts[best] < 0.6 * len(threads) and not 1 <= counts[best] == len(threads) - 1
+        if few or not any(event.written for event, _ in threads):
             return
         yield f"{name}: SHARC_LOCKED({best}), held at {counts[best]} of {len(threads)} accesses of threads"
         for event, locks in threads:

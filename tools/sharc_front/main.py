@@ -12,7 +12,6 @@ import sys
 
 from .source import HERE, Source  # first: it says where pycparser is missing
 from .locks import Locksets
-from .names import Names
 from .output import Front
 from .ctype import Refusal
 
@@ -44,20 +43,10 @@ class Words:
 
 def lowered(words):
     """(text, names, notes), or a refusal."""
-    source, alone = Source(words.file, words.options), set()
-    while True:
-        names = Names()
-        front = Front(source, words.file, words.arguments, frozenset(alone), names)
-        if words.command == "--locks" and not front.refusals:
-            return "\n".join([*Locksets(front).proposals(), ""]), names, []
-        text = front.program() if not front.refusals else ""
-        if len(text) > 1048576:
-            front.refusals.append(((words.file, 1), "program whose lowered text is over 1048576 bytes"))
-        if front.refusals:
-            raise Refusal(*front.refusals)
-        if front.wanted_alone <= alone:
-            return text, names, front.notes
-        alone |= front.wanted_alone
+    front = Front(Source(words.file, words.options), words)
+    if words.command == "--locks":
+        return "\n".join([*Locksets(front).proposals(), ""]), front.user, []
+    return front.program(), front.user, front.notes
 
 
 def guarded(words):
@@ -99,7 +88,7 @@ def main(arguments):
     try:
         made = guarded(words)
     except Refusal as refused:
-        for (file, line), what in sorted({refusal for refusal in refused.all if refusal[1]}):
+        for (file, line), what in sorted({refusal for refusal in refused.args if refusal[1]}):
             sys.stderr.write(f"{file or '?'}:{line}: refused: {what}\n")
         return 1
     if words.command not in (None, "--locks"):

@@ -2,14 +2,20 @@
 
 import re
 
-from .locks import GENERATOR
+from pycparser import c_generator
 
+GENERATOR = c_generator.CGenerator()
 STOPPED = re.compile(r"(thread \d+: )X3 zero divisor at (.*?): (exit\([^)]*\)|abort\(\)|assert|call through NULL)"
                      r":(\d+)$")
 # how lines name an lvalue, where, and what follows
 TOLD = re.compile(r"\b(?P<what>read of|write of|cast of|free of|waits for mutex) (?P<lvalue>.*?) at (?P<file>\S+):"
                   r"(?P<line>\d+)(?: without lock (?P<lock>.*))?")
 CHECKED = re.compile(r"((\S+):(\d+): (?:M\d+ (?:write to|null of) readonly|warning)) (.*?)(| may be NULL since .*)$")
+
+
+def in_c(node):
+    """A part of the program as the user would write it."""
+    return " ".join(GENERATOR.visit(node).split())
 
 
 def packed(text):
@@ -19,19 +25,13 @@ def packed(text):
 
 class Names:
     def __init__(self):
-        self.words, self.lvalues = {}, {}
+        self.words, self.lvalues = {}, {}  # {name in the text: in C}, {(place, lvalue in the text): its node of C}
         self.own, self.hidden = set(), False  # variables of the front; whether the line before told of one
-
-    def lvalue(self, place, text, node):
-        """The lowering wrote `text` for this lvalue of C."""
-        self.lvalues[(place, packed(text))] = node
 
     def of_lvalue(self, text, file, line):
         """An lvalue of the lowered text as in C."""
         node = self.lvalues.get(((file, int(line)), packed(text)))
-        if type(node).__name__ in ("ID", "ArrayRef", "StructRef", "UnaryOp"):
-            return re.sub(r"\s+", " ", GENERATOR.visit(node))
-        return self.of_words(text)
+        return in_c(node) if node is not None else self.of_words(text)
 
     def of_words(self, text):
         return re.sub(r"[A-Za-z_]\w*", lambda f: "(temporary)" if f[0] in self.own else self.words.get(f[0], f[0]),
@@ -43,7 +43,7 @@ class Names:
         text = f"{found['what']} {known} at {file}:{line}"
         if lock is None:
             return text
-        prefix, shown = re.match(r"(.*(?:->|\.))?", lvalue)[0], re.match(r"(.*(?:->|\.))?", known)[0]
+        prefix, shown = (re.match(r"(.*(?:->|\.))?", name)[0] for name in (lvalue, known))
         beside = prefix and lock.startswith(prefix)  # the lock is in the same object
         return f"{text} without lock {shown + self.of_words(lock[len(prefix):]) if beside else self.of_words(lock)}"
 

@@ -1,61 +1,157 @@
-"""The whole program as text, with line markers so that each line is where it was in C."""
+"""The whole program as text: declarations, the objects that stand for arrays and for locals with an address, functions,
+and line markers so that each line is where it was in C."""
 
-import os
 import re
+from operator import itemgetter
 
 from pycparser import c_ast as A
 
-from .ctype import CHAR, Refusal, array
+from .classes import named
+from .ctype import CHAR, Refusal, Type, array
 from .declare import Symbol
-from .objects import Objects
-from .source import HEADERS
-from .statements import names_in
-from .tree import Expr, variable
+from .names import Names
+from .places import Places
+from .source import HEADERS, texts
+from .statements import addressed_in
+from .tree import NOTHING, Expr, number, variable
 
-CONSTANT = re.compile(r"-?[1-9]\d*L?")
 
-
-class Front(Objects):
-    def __init__(self, source, path, arguments, alone, user):
-        super().__init__(source, alone)
-        self.user, self.here, self.arguments_given = user, (path, 1), [path, *arguments]
+class Front(Places):
+    def __init__(self, source, words):
+        super().__init__(source)
+        self.user, self.here, self.arguments_given = Names(), (words.file, 1), [words.file, *words.arguments]
         self.lines, self.loops, self.notes, self.cells, self.locals = [], [], [], 0, 0
         self.pinned, self.bound = False, None  # in a function of the headers: the place of the call, and its argument
-        self.out_names, self.text_pool, self.calls_by = {}, {}, {}
-        self.groups, self.wanted_alone = {}, set()
+        self.out_names, self.text_pool, self.calls_by, self.groups = {}, {}, {}, {}
         self.numbers, self.joins, self.started, self.ends, self.records = {}, [], [], [], {}
         self.reads_strings, self.helpers = False, set()
-        self.addressed = names_in(source.tree)[1]
+        self.addressed = addressed_in(source.tree)
         self.global_names = {item.name for item in source.tree.ext if isinstance(item, A.Decl)}
         self.strings = self.declare("strings", "global", array(CHAR, 1), self.here)
         self.strings.own, self.strings.out = True, self.fresh("strings")
         self.statements(source.tree.ext)
         if not getattr(self.functions.get("main"), "definition", None):
-            self.report(Refusal(((path, 1), "program without main")))
+            self.report(Refusal(((words.file, 1), "program without main")))
+        if self.refusals:
+            raise Refusal(*self.refusals)
         for symbol in self.thread_functions():
             for node in self.joins if symbol.gives else []:
                 symbol.type.to.node.unite(node)
-        self.classes.settle()
-        self.classes.merge(self.group)
+        self.settle()
+        self.merge()
 
-    def group(self, keys):
-        """An array in which several globals become elements, or None where they cannot."""
-        bases = [self.classes.part(symbol.type, path).base() for symbol, path in keys]
-        inside = [self.classes.part(symbol.type, path[:at]).kind for symbol, path in keys for at in range(len(path))]
-        alike = len({base.key() for base in bases}) == len({base.mode and base.mode[0] for base in bases}) == 1
-        if not alike or "array" in inside or any(symbol is self.strings for symbol, _ in keys):
-            return None
+    def merge(self):
+        """Globals of one type that one pointer may point to become elements of one array."""
+        while several := [root for root in self.everything() if len(root.globals) > 1 and not root.mixed]:
+            root = min(several, key=lambda root: (max(len(path) for _, path in root.globals),
+                                                  sorted(map(named, root.globals))))
+            bases = [self.part(symbol.type, path).base() for symbol, path in root.globals]
+            inside = [self.part(symbol.type, path[:at]).kind for symbol, path in root.globals
+                      for at in range(len(path))]
+            alike = len({base.key() for base in bases}) == len({base.mode and base.mode[0] for base in bases}) == 1
+            root.mixed = not alike or "array" in inside or any(symbol is self.strings for symbol, _ in root.globals)
+            if not root.mixed:
+                self.group(list(root.globals), bases[0].with_(const=all(base.const for base in bases)))
+
+    def group(self, keys, base):
+        """Makes an array of globals, or of parts of them, some of which may be such arrays."""
         old = [found for found, _ in self.groups.values()]
         members = [key for key in keys if key[0] not in old] + \
             [key for key, (found, _) in self.groups.items() if (found, ()) in keys]
-        lengths = [self.classes.part(symbol.type, path).cells() for symbol, path in members]
-        base = bases[0].with_(const=all(base.const for base in bases))
+        lengths = [self.part(symbol.type, path).cells() for symbol, path in members]
         name = "_".join(sorted({key[0].name for key in members}))[:40]
-        symbol = Symbol(name, "global", array(base, sum(lengths)), members[0][0].place, None, self.fresh(name), True)
+        made = Symbol(name, "global", array(base, sum(lengths)), members[0][0].place, None, self.fresh(name), True)
         self.groups = {key: found for key, found in self.groups.items() if (found[0], ()) not in keys}
-        for at, key in enumerate(members):
-            self.groups[key] = (symbol, sum(lengths[:at]))
-        return symbol
+        self.groups.update({key: (made, sum(lengths[:at])) for at, key in enumerate(members)})
+        for root in self.everything():
+            outer = {(symbol, path): next((at for at in range(len(path) + 1) if (symbol, path[:at]) in keys), None)
+                     for symbol, path in root.globals}
+            root.globals = dict.fromkeys(key if at is None else (made, key[1][at:]) for key, at in outer.items())
+
+    def declaration(self, symbol):
+        """A local: a variable; one for each member of a struct; or an object, for an array and what has an address."""
+        kind, texts = symbol.type, []
+        parts = [((), array(kind, 1) if symbol.boxed and kind.kind != "array" else kind)]
+        if kind.kind == "struct" and not symbol.boxed:
+            parts = [(path, leaf.with_(mode=None)) for path, leaf, _, _ in self.leaves(kind)]
+        for path, part in parts:
+            name, made = self.part_name(symbol, path), ""
+            if part.kind == "array":
+                node = self.address_class(self.inner_place(variable(symbol), path)).find()
+                node.mark("heap")
+                made = " " + self.new_object(name, part.base(), number(part.cells()), self.boxes(node))
+                part = Type("ptr", to=part.base(), node=node)
+            texts.append(f"{self.type_text(part)} {name};{made}")
+        return " ".join(texts)
+
+    def new_object(self, target, kind, length, boxes, inner=""):
+        """target = an object of `length` elements, or of pointers to them; `inner`: the mode of these in a struct. The
+        arrays in structs are objects of their own, made while the struct is private."""
+        self.refuse_if((length.number or 0) > 65536, "object of over 65536 elements")
+        plain, one = self.type_text(kind.bare()).replace(" racy", ""), length.number == 1 and not boxes
+        arrays = [(self.part_name(kind.name, path), field) for path, _, field in self.objects(kind)] if not boxes else []
+        own = self.own_name("own") if boxes and inner or arrays else target
+
+        def parts(at):
+            if boxes:
+                return self.new_object(f"{own}[{at}]", kind, number(1), False)
+            return " ".join(self.new_object(f"{own}->{name}" if one else f"{own}[{at}].{name}", field.type.base(),
+                                            number(field.type.cells()), self.boxes(field.made), " readonly")
+                            for name, field in arrays)
+        size = ("" if one else f"{self.text(length, 11)} * ") + f"sizeof({plain}{' *' * boxes})"
+        made = "" if not boxes and not arrays else parts(None) if one else self.each(length, parts)
+        if own == target:
+            return f"{target} = malloc({size}); {made}".rstrip()
+        plain, mode = plain + " dynamic *" * boxes, inner * boxes
+        return f"{{ {plain} private * {own} = malloc({size}); {made} {target} = SCAST({plain}{mode} *, {own}); }}"
+
+    def objects(self, kind):
+        """The members of a struct in an object that are objects of their own: (path, type, field)."""
+        return [(path, leaf, field) for path, leaf, _, field in self.leaves(kind, (), True)
+                if leaf.kind == "array" or field.alone] if kind.kind == "struct" else []
+
+    def each(self, length, act):
+        """act(i) for each i below length."""
+        at = self.own_name("i")
+        return f"for (int {at} = 0; {at} < {self.text(length, 8)}; {at} = {at} + 1) {{ {act(at)} }}"
+
+    def global_declaration(self, symbol):
+        """A global: a variable for each member of a struct."""
+        if symbol.type.kind != "struct" or (symbol, ()) in self.groups:
+            return self.global_cell(symbol.type, None, symbol, ())
+        return " ".join(self.global_cell(leaf, (struct, symbol, path[:-1]), symbol, path)
+                        for path, leaf, struct, _ in self.leaves(symbol.type))
+
+    def struct_text(self, name):
+        """A struct, with pointers to objects of their own for the arrays in it."""
+        texts = []
+        for path, leaf, struct, field in self.leaves(Type("struct", name), (), True):
+            self.here, base, stars = field.place, leaf.base(), ""
+            if leaf.kind == "array" or field.alone:
+                mode = leaf.mode or ("racy" if base.kind == "mutex" else "dynamic", None)
+                base = base if base.mode or base.atomic else base.with_(mode=mode)
+                stars = " * readonly" * (1 + self.boxes(field.made))
+            shown = self.type_text(base, (struct, name, path[:-1]), False)
+            texts.append(f"{shown}{stars} {self.part_name(name, path)};")
+        return f"struct {self.out_names[name]} {{ {' '.join(texts) or 'char unused;'} }};"
+
+    def grouped(self, symbol, path):
+        """Whether a part of a global has become a part of an array of several."""
+        return any((symbol, path[:at]) in self.groups for at in range(len(path) + 1))
+
+    def global_cell(self, kind, context, symbol, path):
+        """A global, or an array, after the arrays in its elements, which are one after the other."""
+        if self.grouped(symbol, path):
+            return ""
+        base, length, constant = kind.base(), kind.cells(), symbol.constants.get(path)
+        inner = [self.global_cell(array(leaf, length), None, symbol, path + at)
+                 for at, leaf, field in self.objects(base)]
+        shared = ("racy", None) if base.kind == "int" and base.const else None
+        text = self.type_text(base.with_(mode=base.mode or kind.mode or shared), context, False)
+        self.cells += length * (8 if base.kind == "struct" else 1)
+        self.refuse_if(self.cells > 60000, "globals of over 60000 cells")
+        name = self.part_name(symbol, path) + (f"[{length}]" if kind.kind == "array" else "")
+        return " ".join([*inner, f"{text} {name}{f' = {self.text(constant)}' if constant else ''};"])
 
     def program(self):
         """The whole program as text."""
@@ -75,12 +171,16 @@ class Front(Objects):
         for at in range(len(self.structs)):  # the writing of one may name others
             structs += [self.written(self.structs[name].place, self.struct_text, name)
                         for name in [key for key in self.out_names if isinstance(key, str)][at : at + 1]]
-        return self.marked(structs + globals_ + functions + last + self.helper_lines())
+        text = self.marked(structs + globals_ + functions + last + self.helper_lines())
+        self.refuse_if(len(text) > 1048576, "program whose lowered text is over 1048576 bytes")
+        if self.refusals:
+            raise Refusal(*self.refusals)
+        return text
 
     def marked(self, lines):
         """The text with line markers where the place is not what would be taken anyway."""
         written, depth, file, line = [], 0, None, 0
-        for place, text in lines:
+        for place, text in filter(itemgetter(1), lines):
             if place == (file, line - 1) and written:
                 written[-1] += " " + text  # the same line of the source
             else:
@@ -108,9 +208,22 @@ class Front(Objects):
                  for part in line.parts]
         return line.text % tuple(texts) if texts else line.text
 
+    def flat(self, lines):
+        """Lines as text, with their blocks in brackets."""
+        for line in lines:
+            place, text = self.written(line.place, self.shown, line)
+            yield place, f"{text} {{".lstrip() if line.blocks else text
+            for block in line.blocks:
+                if block and block is not line.blocks[0]:
+                    yield place, "} else {"
+                for place, text in self.flat(block):
+                    yield place, text
+            if line.blocks:
+                yield place, "}"
+
     def function_lines(self, symbol):
         """The function as lines, after what main does first."""
-        lines = [self.written(line.place, self.shown, line) for line in symbol.lines]
+        lines = [*self.flat(symbol.lines)]
         yield self.written(symbol.place, self.heading, symbol)
         yield from self.initialisers() if symbol.name == "main" else []
         yield from lines
@@ -119,36 +232,33 @@ class Front(Objects):
     def heading(self, symbol):
         if symbol.name == "main":
             return "int main(void) {"
-        texts = [f"{self.type_text(param.type)} {self.piece_name(param, ())}" for param in symbol.params]
+        texts = [f"{self.type_text(param.type)} {self.part_name(param, ())}" for param in symbol.params]
         self.refuse_if(len(texts) > 16, f"function {symbol.name} with over 16 parameters")
         return f"{self.type_text(symbol.type.to)} {self.function_name(symbol)}({', '.join(texts) or 'void'}) {{"
 
     def initialisers(self):
         """What main does before everything else."""
         for symbol in self.globals:
-            for path, constant, lines in symbol.rest:
-                if constant and not self.grouped(symbol, path):
-                    continue
-                yield from (self.written(line.place, self.shown, line) for line in lines)
-                self.notes.append((symbol.place, f"the initialiser of {symbol.name} is executed by main"))
+            for path, lines in symbol.rest:
+                if path not in symbol.constants or self.grouped(symbol, path):
+                    yield from self.flat(lines)
+                    self.notes.append((symbol.place, f"the initialiser of {symbol.name} is executed by main"))
         data = [(byte ^ 128) - 128 for text in self.text_pool for byte in text]
         for at in range(0, len(data) if self.reads_strings else 0, 16):
             texts = [f"{self.strings.out}[{at + k}] = {byte};" for k, byte in enumerate(data[at : at + 16]) if byte]
-            yield self.functions["main"].place, " ".join(texts) or ";"
+            yield self.functions["main"].place, " ".join(texts)
 
-    def set_initialiser(self, symbol):
+    def set_initialiser(self, symbol, values):
         """The constants that parts of a global are declared with; main assigns the rest."""
-        base = variable(symbol)
-        for path, item in symbol.initial:
-            lines, _ = self.captured(self.store, self.inner_place(base, path), item)
-            value = lines[0].parts[-1] if len(lines) == 1 and lines[0].text == "%s = %s;" else None
-            text = self.text(value) if value and value.op == "number" else ""
-            constant = CONSTANT.fullmatch(text) and not any(isinstance(step, int) for step in path)
-            symbol.constants.update({path: text} if constant else {})
-            if not (value and value.null()):
-                symbol.rest.append((path, constant, lines))
+        for path, item in values:
+            lines, _ = self.captured(self.store, self.inner_place(variable(symbol), path), item)
+            value = lines[0].parts[-1] if len(lines) == 1 and lines[0].text == "%s = %s;" else NOTHING
+            if value.op == "number" and value.number > -(1 << 63) and not any(isinstance(step, int) for step in path):
+                symbol.constants.update({path: value} if value.number else {})
+            symbol.rest += [(path, lines)] if value is NOTHING or not value.null() else []
 
     def dispatcher(self, name, kind, root):
+        """A function that calls one of several by its number."""
         names = [f"p{at}" for at in range(len(kind.params))]
         texts = [f"{self.type_text(param.bare())} {name}" for name, param in zip(names, kind.params)]
         lines = [f"{self.type_text(kind.to.bare())} {name}({', '.join(['int function', *texts])}) {{"]
@@ -162,10 +272,9 @@ class Front(Objects):
 
     def helper_lines(self):
         """The functions of headers/arithmetic.sharc that are called, and those that these call."""
-        with open(os.path.join(HEADERS, "arithmetic.sharc"), encoding="utf-8") as file:
-            texts = {re.match(r"\w+ __sharc_(\w+)", text)[1]: text for text in file.read().strip().split("\n\n")}
+        functions = {re.match(r"\w+ (\w+)", text)[1]: text for text in texts("arithmetic.sharc")}
         wanted, place = sorted(self.helpers), "what C does that the language does not"
         for name in wanted:  # which grows
-            wanted += sorted(set(re.findall(r"__sharc_(\w+)", texts[name])) - set(wanted))
-        lines = [line for name in wanted for line in texts[name].split("\n")]
+            wanted += sorted(set(re.findall(r"__sharc_\w+", functions[name])) - set(wanted))
+        lines = [line for name in wanted for line in functions[name].split("\n")]
         return [((place, at), line) for at, line in enumerate(lines, 1)]

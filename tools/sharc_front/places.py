@@ -4,15 +4,13 @@ import re
 
 from .classes import HEAP
 from .ctype import CELL
+from .names import packed
 from .threads import Threads
 from .tree import LEVELS, Expr, number, plus, times, variable
 
-RESERVED = set("private readonly locked racy dynamic SCAST mutex spawn join lock unlock print cond wait signal main "
-               "broadcast malloc free sizeof NULL int char long void struct if else while for break continue return "
-               "auto case const default do double enum extern float goto inline register restrict short signed static "
-               "switch typedef union unsigned volatile _Bool _Complex _Imaginary _Alignas _Alignof _Atomic _Generic "
-               "_Noreturn _Static_assert _Thread_local".split())
-MOVED = "pointer arithmetic on an object of the heap or a local"
+# the words that the language has and C has not
+RESERVED = set("private readonly locked racy dynamic SCAST mutex spawn join lock unlock print cond wait signal "
+               "broadcast malloc free main NULL".split())
 
 
 class Spot:
@@ -29,6 +27,10 @@ class Places(Threads):
     def how(self, node):
         return node.representation(self.here)
 
+    def boxes(self, node):
+        """Whether pointers of this class point to pointers to the elements."""
+        return self.how(node) == "boxes"
+
     def name(self, key, base, renamed, told):
         """The name in the text for a thing, which is none of SharC's words; `told`: how it is called in C."""
         if key not in self.out_names:
@@ -38,30 +40,25 @@ class Places(Threads):
                 self.user.words[made] = told
         return self.out_names[key]
 
-    def piece_name(self, symbol, path):
-        """The variable for a part of a variable."""
-        told = None if symbol.own else ".".join((symbol.name,) + path)
-        return self.name((symbol, path), "_".join((symbol.out,) + path), bool(path), told)
-
-    def leaf(self, struct, path):
-        """The field for a part of a struct in an object: structs in structs are laid open."""
-        return self.name((struct, path), "_".join(path), len(path) > 1, ".".join(path))
+    def part_name(self, owner, path=()):
+        """The variable for a part of a variable, or the field for a part of a struct in an object."""
+        if isinstance(owner, str):
+            return self.name((owner, path), "_".join(path), len(path) > 1, ".".join(path))
+        told = None if owner.own else ".".join((owner.name,) + path)
+        return self.name((owner, path), "_".join((owner.out,) + path), bool(path), told)
 
     def function_name(self, symbol):
         self.refuse_if(symbol.definition is None, f"function {symbol.name}, which is not defined here", symbol.place)
-        return self.piece_name(symbol, ())
+        return self.part_name(symbol)
 
     def called_name(self, callee, value=None):
-        """What is called: a function of the language, or of the program, or the one that calls one of several."""
-        if isinstance(callee, str):
-            return callee
+        """What is called: a function of the program, or the one that calls one of several."""
         if hasattr(callee, "params"):
             return self.function_name(callee)
         self.refuse_if(self.how(callee) != "function", "call through a pointer that is always NULL")
-        key = callee.find()
-        if key not in self.calls_by:
-            self.calls_by[key] = (self.fresh("call"), value.type.to, key, self.here)
-        return self.calls_by[key][0]
+        if callee.find() not in self.calls_by:
+            self.calls_by[callee.find()] = (self.fresh("call"), value.type.to, callee.find(), self.here)
+        return self.calls_by[callee.find()][0]
 
     def spot(self, place):
         base, *rest = place.args
@@ -82,8 +79,7 @@ class Places(Threads):
                            f"variable {symbol.name}, which is not defined here")
             return self.in_group(Spot(symbol, number(0) if is_array else None))
         if is_array or symbol.boxed:
-            return Spot(symbol, number(0), self.piece_name(symbol, ()),
-                        is_array and self.how(symbol.address) == "boxes")
+            return Spot(symbol, number(0), self.part_name(symbol), is_array and self.boxes(symbol.address))
         return Spot(symbol)
 
     def in_group(self, spot):
@@ -97,17 +93,18 @@ class Places(Threads):
         """Where a member of the struct at a spot is."""
         field = self.structs[struct].fields[name]
         is_array, in_global = field.type.kind == "array", spot.symbol and spot.symbol.kind == "global"
+        apart = is_array or field.alone and (spot.pointer or in_global)
         if spot.index is None:
             spot.path, spot.index = spot.path + (name,), number(0) if is_array and in_global else None
             if in_global:
                 return self.in_group(spot)
         else:
             spot.top, spot.inner = spot.top or struct, spot.inner + (name,)
-        if is_array and in_global:  # those of all elements are one after the other
+        if apart and in_global:  # those of all elements are one after the other
             spot.path, spot.inner, spot.top = spot.path + spot.inner, (), None
             spot.index = times(spot.index, field.type.cells())
-        elif is_array:
-            return Spot(spot.symbol, number(0), self.spot_text(spot), self.how(field.made) == "boxes")
+        elif apart:
+            return Spot(spot.symbol, number(0), self.spot_text(spot), self.boxes(field.made))
         return spot
 
     def pointed(self, pointer, index, kind):
@@ -116,39 +113,33 @@ class Places(Threads):
         how = self.how(node)
         if how in HEAP:
             node.pointee_type(self.here)
-            return Spot(None, times(index, kind.cells()), self.text(pointer), how == "boxes")
+            return Spot(None, times(index, kind.cells()), self.text(pointer), self.boxes(node))
         self.refuse_if(how != "global",
                        "use of a pointer that is always NULL" if how == "none" else "dereference of a number")
         symbol, path = next(iter(node.find().globals))
         self.reads_strings |= symbol is self.strings
-        spot, inner, moves = self.variable_spot(symbol), symbol.type, node.has("order")
-        array_at = 0 if inner.kind == "array" else None
-        for at, step in enumerate(path):
-            spot, inner = self.entered(spot, inner.base().name, step), self.structs[inner.base().name].fields[step].type
-            array_at = at + 1 if inner.kind == "array" else array_at
-        self.refuse_if(inner.base().key() != kind.base().key(),
-                       f"pointer to {inner.base().shown()} used for {kind.shown()}")
-        self.refuse_if(array_at is None and (not index.null() or moves and not pointer.place()),
+        kinds = [self.part(symbol.type, path[:at]) for at in range(len(path) + 1)]
+        spot, moves = self.variable_spot(symbol), node.has("order")
+        for outer, step in zip(kinds, path):
+            spot = self.entered(spot, outer.base().name, step)
+        arrays = [at for at, part in enumerate(kinds) if part.kind == "array"]
+        self.refuse_if(kinds[-1].base().key() != kind.base().key(),
+                       f"pointer to {kinds[-1].base().shown()} used for {kind.shown()}")
+        self.refuse_if(not arrays and (not index.null() or moves and not pointer.place()),
                        "arithmetic on a pointer to a single object")
-        self.refuse_if(array_at is not None and moves and array_at < len(path), "arithmetic on a pointer to a member")
-        if array_at is not None:
-            spot.index = plus(plus(self.as_number(pointer), number(1), "-"), times(index, kind.cells()))
+        self.refuse_if(arrays and moves and arrays[-1] < len(path), "arithmetic on a pointer to a member")
+        if arrays:
+            spot.index = plus(plus(self.as_number(pointer), times(index, kind.cells())), number(-1))
         return spot
 
     def as_number(self, pointer):
         """A pointer to an element of a global as the number that it is, from 1."""
-        inner = pointer.bare()
-        if inner.op == "moved":
-            base, op, index = inner.args
-            return plus(self.as_number(base), times(index, base.type.to.cells()), op)
-        if inner.place():
-            spot = self.spot(inner.place())
-            return number(1) if spot.index is None else plus(spot.index, number(1))
-        return inner
+        place = pointer.place()
+        return plus(self.spot(place).index or number(0), number(1)) if place else pointer.bare()
 
     def spot_text(self, spot):
         """The lvalue at a spot."""
-        name = spot.pointer or self.piece_name(spot.symbol, spot.path)
+        name = spot.pointer or self.part_name(spot.symbol, spot.path)
         if spot.index is None:
             return name
         if spot.boxes:
@@ -156,7 +147,7 @@ class Places(Threads):
         index = "0" if spot.boxes else self.text(spot.index)
         if spot.inner:
             alone = spot.boxes or spot.pointer and spot.index.null()
-            return name + ("->" if alone else f"[{index}].") + self.leaf(spot.top, spot.inner)
+            return name + ("->" if alone else f"[{index}].") + self.part_name(spot.top, spot.inner)
         return f"{name}[{index}]"
 
     def text(self, value, level=0):
@@ -168,26 +159,17 @@ class Places(Threads):
             case "variable" | "member" | "element" | "at":
                 made = self.spot_text(self.spot(value))
                 if value.source is not None:
-                    self.user.lvalue(self.here, made, value.source)
+                    self.user.lvalues[(self.here, packed(made))] = value.source
             case "number":
                 made = f"{value.number}{'L' * value.wide}"
                 made, tight = made if value.number != -(1 << 63) else f"(-{(1 << 63) - 1}L - 1)", 12 - (made[0] == "-")
-            case "!" | "~":
+            case "!":
                 tight, made = 11, op + self.text(args[0], 11)
-            case "helper":
-                self.helpers.add(args[0])
-                made = f"__sharc_{args[0]}({', '.join(map(self.text, args[1:]))})"
-            case "null":
-                made = self.null_text(value.type.node)
-            case "string":  # the number of its first character in an array of all literals
-                made = str(self.text_pool.setdefault(args[0], sum(map(len, self.text_pool))) + 1)
-            case "function":
-                made = str(self.numbers[args[0]])
             case "call":
                 made = f"{self.called_name(*args[:2])}({', '.join(map(self.text, args[1:]))})"
             case "scast":
                 made = f"SCAST({self.type_text(value.type)}, {self.text(args[0])})"
-            case "address" | "decay" | "moved":
+            case "address":
                 made = self.pointer_text(value)
             case "text":
                 made = args[0]()
@@ -195,40 +177,35 @@ class Places(Threads):
                 made = self.text(args[0])
                 self.refuse_if(self.how(self.class_of(args[0])) != "global",
                                "order of pointers to objects of the heap or locals")
-            case _:
+            case _ if op in LEVELS:
                 tight = LEVELS[op]
                 made = f"{self.text(args[0], tight)} {op} {self.text(args[1], tight + 1)}"
+            case _:
+                self.helpers.add(op)
+                made = f"{op}({', '.join(map(self.text, args))})"
         return made if tight >= level else f"({made})"
 
     def null_text(self, node):
         return "NULL" if self.how(node) in HEAP else "0"
 
     def pointer_text(self, value):
-        """The address of an object, an array as a pointer, or a pointer to another element."""
-        node, inner = self.class_of(value), value.args
-        if self.how(node) == "global":
+        """The address of a place, or an array as a pointer."""
+        place = value.args[0]
+        is_array = place.type.kind == "array"
+        if self.how(self.class_of(value)) == "global":
             return self.text(self.as_number(value), 12)
-        if value.op == "moved":
-            base, op, index = inner
-            if index.null() and node.find() is base.type.node.find():
-                return self.text(base)
-            self.refuse_if(self.how(base.type.node) != "boxes", MOVED)
-            spot = self.spot(base.place()) if base.place() else Spot(None, number(0), self.text(base))
-            return f"{spot.pointer}[{self.text(plus(spot.index, index, op))}]"
-        spot, is_array = self.spot(inner[0]), inner[0].type.kind == "array"
-        if spot.inner and not is_array and inner[0].op == "member":
-            self.wanted_alone.add((inner[0].args[0].type.name, inner[0].args[1]))
-            return "?"
-        self.refuse_if(spot.pointer is None or spot.inner or not spot.boxes and not spot.index.null(),
-                       "address of this form (a member or element of an object of the heap)")
+        spot = self.spot(place)
+        self.refuse_if(spot.pointer is None or spot.inner, "address of this form")
+        self.refuse_if(not spot.boxes and not spot.index.null(),
+                       "pointer arithmetic on an object of the heap or a local")
         return f"{spot.pointer}[{self.text(spot.index)}]" if spot.boxes and not is_array else spot.pointer
 
     def lock_path(self, path, scopes, context):
-        """A lock path of a mark. `context`: the struct around it, and what gives the names of its fields."""
+        """A lock path of a mark. `context`: the struct around it, and of what it is a part."""
         head, *steps = re.split(r"->|\.", path)
         if context and not steps and head in self.structs[context[0]].fields:
-            return context[1](head)
-        symbol = self.lookup(head, scopes)
+            return self.part_name(context[1], context[2] + (head,))
+        symbol = scopes.get(head)
         self.refuse_if(not hasattr(symbol, "address"), f"lock {path}, which is not known")
         symbol.uses += 1
         place = variable(symbol)
@@ -259,7 +236,3 @@ class Places(Threads):
         known = kind.node.pointee_type(self.here)
         to = (kind.to if kind.to.kind != "void" else known.with_(mode=kind.to.mode)).base()
         return self.type_text(to, context, False) + " *" * (2 if how == "boxes" else 1) + mode
-
-    def plain_type(self, kind):
-        """The same without modes, as sizeof takes it."""
-        return self.type_text(kind.bare()).replace(" racy", "")

@@ -14,6 +14,8 @@ from .ctype import Refusal
 
 HERE = os.path.dirname(os.path.abspath(__file__))
 HEADERS, INCLUDE = os.path.join(HERE, "headers"), os.path.join(HERE, "..", "..", "include")
+PREPROCESSOR = ["gcc", "-E", "-nostdinc", "-undef", "-DSHARC_FRONT", "-I", HEADERS, "-I", INCLUDE,
+                "-include", os.path.join(HEADERS, "sharc_front.h")]
 TOKEN = re.compile(
     r'# (?P<line>\d+) "(?P<file>(?:\\.|[^"\\])*)"[^\n]*|(?P<directive>#[^\n]*)|(?P<newline>\n)'
     r'|__sharc_refuse\("(?P<refused>[^"]*)"\)|"(?:\\.|[^"\\\n])*"' r"|'(?:\\.|[^'\\\n])*'" r"|\.?\d[\w.]*"
@@ -23,20 +25,23 @@ HARMLESS = set("unused noreturn format const pure noinline always_inline cold ho
                "used deprecated returns_nonnull flatten leaf nothrow fallthrough may_alias noclone alloc_size".split())
 
 
+def texts(name):
+    """The texts of a file of headers/ in the language of SharC."""
+    with open(os.path.join(HEADERS, name), encoding="utf-8") as file:
+        return file.read().strip().split("\n\n")
+
+
 def preprocessed(path, options):
-    command = ["gcc", "-E", "-nostdinc", "-undef", "-DSHARC_FRONT", "-I", HEADERS, "-I", INCLUDE,
-               "-include", os.path.join(HEADERS, "sharc_front.h"), *options, path]
     if not os.path.isfile(path):
         raise Refusal(((path, 1), "file that cannot be read"))
-    done = subprocess.run(command, capture_output=True, check=False)
+    done = subprocess.run([*PREPROCESSOR, *options, path], capture_output=True, check=False)
     if done.returncode == 0:
         return done.stdout.decode("utf-8", "replace")
     errors = done.stderr.decode("utf-8", "replace")
-    found = re.search(r"^(.*?):(\d+):\d+: (?:fatal )?error: (.*)", errors, re.MULTILINE)
-    if found:
-        missing = re.match(r"(\S+): No such file or directory", found[3])
-        raise Refusal(((found[1], int(found[2])), f"header {missing[1]}" if missing else found[3]))
-    raise Refusal(((path, 1), f"gcc -E: {errors.strip().splitlines()[-1:]}"))
+    found = re.search(r"^(.*?):(\d+):\d+: (?:fatal )?error: (?:(\S+): No such file.*|(.*))", errors, re.MULTILINE)
+    if found is None:
+        raise Refusal(((path, 1), f"gcc -E: {errors.strip().splitlines()[-1:]}"))
+    raise Refusal(((found[1], int(found[2])), found[4] or f"header {found[3]}"))
 
 
 class Source:
@@ -49,13 +54,11 @@ class Source:
             raise Refusal(*self.refused)
         try:
             self.tree = c_parser.CParser().parse(text, path)
-        except c_parser.ParseError as error:
+        except Exception as error:  # pycparser has others than ParseError for what it does not know
             found = re.match(r"(.*?):(\d+)(?::\d+)?: (.*)", str(error))
-            place = (found[1], int(found[2])) if found else (self.file, text.count("\n"))
-            near = re.sub("^before: ", "near ", found[3]) if found else "to the end"
-            raise Refusal((place, f"syntax that pycparser does not read ({near})")) from None
-        except (RecursionError, AssertionError, AttributeError, ValueError, IndexError, KeyError, TypeError):
-            raise Refusal(((path, 1), "syntax that pycparser does not read")) from None
+            near = f" ({re.sub('^before: ', 'near ', found[3])})" if found else ""
+            place = (found[1], int(found[2])) if found else (self.file, self.line)
+            raise Refusal((place, f"syntax that pycparser does not read{near}")) from None
 
     def token(self, found):
         """A token made ready for pycparser: attributes go, and a mark becomes as many `volatile` as its number says,

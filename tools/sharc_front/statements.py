@@ -1,87 +1,77 @@
 """Statements and functions, lowered to lines (C11 6.8, 6.9.1)."""
 
-from dataclasses import replace
+from collections import ChainMap
 
 from pycparser import c_ast as A, c_parser
 
 from .classes import unify
 from .ctype import BAD, INT, VOID, Refusal, promoted
 from .declare import Symbol, place_of
-from .express import Expressions, Line
+from .express import Expressions, Line, uncast
 from .locks import spelled
 from .source import HEADERS
 from .tree import Expr, compare, convert, joined, number, variable
 
-DECLARATIONS = (A.Decl, A.DeclList, A.Typedef, A.FuncDef)
 # the parameters of main: how many words there are, and the words
 ARGUMENTS = "void main(void) {{ int {} = {}; char *{}[] = {{ {} 0 }}; }}"
 
 
-def names_in(node):
-    """The names that are used in a part of the program, and those of variables whose address is taken."""
-    used, addressed, todo = [], set(), [node]
+def addressed_in(tree):
+    """The names of the variables whose address is taken."""
+    found, todo = set(), [tree]
     for node in todo:  # which grows
         todo += node
-        if isinstance(node, A.ID):
-            used.append(node.name)
-        elif isinstance(node, A.UnaryOp) and node.op == "&":
+        if isinstance(node, A.UnaryOp) and node.op == "&":
             inner = node.expr
             while isinstance(inner, A.StructRef) and inner.type == ".":
                 inner = inner.name
-            addressed.add(getattr(inner, "name", None))
-    return used, addressed
+            found.add(getattr(inner, "name", None))
+    return found
+
+
+def items_of(node):
+    """The statements of a block, or the one that stands for a block."""
+    return node.block_items or [] if isinstance(node, A.Compound) else [node] if node is not None else []
 
 
 class Statements(Expressions):
     def statements(self, nodes):
         """Each that declares something for itself is in a block of its own, with which references end."""
-        for node in nodes or []:
+        for node in nodes:
             self.here = self.here if self.pinned else place_of(node, self.here)
             try:
-                if isinstance(node, DECLARATIONS):
+                if isinstance(node, (A.Decl, A.DeclList, A.Typedef, A.FuncDef)):
                     self.lowered(node)
                 else:
                     self.scoped(self.blocked, self.lowered, node)
             except Refusal as refusal:
                 self.report(refusal)
                 if isinstance(node, (A.Decl, A.Typedef)) and node.name:
-                    self.scopes[-1][node.name] = BAD
+                    self.scopes[node.name] = BAD
 
-    def blocked(self, act, *arguments):
+    def blocked(self, act, *arguments, after=()):
         """Lines in a block of their own if they declare variables."""
-        lines, _ = self.captured(act, *arguments)
+        lines, _ = self.captured(act, *arguments, after=after)
         if any(line.declares for line in lines):
-            self.bracketed("{", lines)
+            self.emit("", blocks=(lines,))
         else:
             self.lines += lines
 
-    def bracketed(self, head, lines, *parts):
-        """Lines in brackets: what they declare ends there."""
-        self.emit(head, *parts)
-        self.lines += [replace(line, declares=False, gives=None) for line in lines]
-        self.lines.append(Line(self.lines[-1].place, "}"))
-
     def branch(self, test, first, second=()):
         """if (test) first else second"""
-        test = self.direct(test)
         if not first and second:
-            test, first, second = joined("!", (test,), "int"), second, first
-        self.bracketed("if (%s) {", first, test)
-        if second:
-            self.here, here = self.lines.pop().place, self.here
-            self.bracketed("} else {", second)
-            self.here = here
+            test, first, second = joined("!", "int", test), second, first
+        self.emit("if (%s)", test, blocks=(first, second))
 
     def body(self, node):
         """The lines of a statement."""
-        nodes = node.block_items if isinstance(node, A.Compound) else [node] if node is not None else []
-        return self.scoped(self.captured, self.statements, nodes)[0]
+        return self.scoped(self.captured, self.statements, items_of(node))[0]
 
     def lowered(self, node):
         """A statement of few lines; of others there is a method each."""
         match node:
             case A.Compound():
-                self.statements(node.block_items)
+                self.statements(items_of(node))
             case A.DeclList():
                 self.statements(node.decls)
             case A.EmptyStatement() | A.StaticAssert():
@@ -92,9 +82,10 @@ class Statements(Expressions):
             case A.While():
                 self.loop(node.cond, [], node.stmt)
             case A.DoWhile():
-                self.loop(None, self.captured(self.leave_unless, node.cond)[0], node.stmt)
+                before, test = self.captured(self.value, node.cond)
+                self.loop(None, self.leave_unless(test, before), node.stmt)
             case A.For():
-                self.statements([node.init] if node.init is not None else [])
+                self.statements(items_of(node.init))
                 self.loop(node.cond, self.body(node.next), node.stmt)
             case A.Break():
                 self.emit("break;")
@@ -107,19 +98,17 @@ class Statements(Expressions):
         elif node.name is None:
             self.type(node.type)
         else:
-            symbol = self.variable(node, "local" if self.function else "global")
-            if symbol.kind != "global":
-                self.declare_local(symbol, symbol.initial)
-                self.last_use(symbol, node.init)
-
-    def last_use(self, symbol, init):
-        """A parameter that is used for nothing but `T *x = p` is no second reference to what x points to."""
-        while isinstance(init, A.Cast):
-            init = init.expr
-        param = self.lookup(init.name, self.scopes) if isinstance(init, A.ID) else None
-        if param in self.function.params and self.mentions.count(param.name) == 1 and not self.loops and \
-                symbol.type.kind == param.type.kind == "ptr":
-            self.put(variable(param), number(0))
+            symbol, init = self.variable(node, "local" if self.function else "global"), uncast(node.init)
+            values = self.scalars(symbol.type, [node.init]) if init is not None else ()
+            if symbol.kind == "global":
+                self.set_initialiser(symbol, values)
+                return
+            self.declare_local(symbol, values)
+            param = self.scopes.get(init.name) if isinstance(init, A.ID) else None
+            if param in self.function.params and not self.loops and symbol.type.kind == param.type.kind == "ptr":
+                # one that is used for nothing else is no second reference to what the local points to
+                self.later(lambda: f"{self.text(variable(param))} = {self.null_text(param.type.node)};" if
+                           param.uses == 1 else "")
 
     def declare_local(self, symbol, values=()):
         """Declares a local, by a name that no other of the function has, and gives it the values of its initialiser."""
@@ -137,19 +126,21 @@ class Statements(Expressions):
         for path, item in values:
             self.blocked(self.store, self.inner_place(variable(symbol), path), item)
 
-    def leave_unless(self, cond):
-        self.blocked(lambda: self.branch(self.value(cond), [], [Line(self.here, "break;")]))
+    def leave_unless(self, test, before):
+        """Lines that leave a loop unless a condition holds, after those of the condition."""
+        leave = [Line(self.here, "break;")]
+        return self.captured(lambda: self.blocked(self.branch, test, [], leave, after=before))[0]
 
-    def loop(self, cond, step, body):
+    def loop(self, cond, step, body, around=None):
         """`step` is at the end of the body, and before each continue: self.loops has it for each loop around, and the
-        flag `again` for each switch."""
-        before, test = self.captured(lambda: self.direct(self.value(cond))) if cond is not None else ([], number(1))
+        flag `around` for each switch."""
+        before, test = self.captured(self.value, cond) if cond is not None else ([], number(1))
         if before:
-            before, test = self.captured(self.leave_unless, cond)[0], number(1)
-        self.loops.append(step)
+            before, test = self.leave_unless(test, before), number(1)
+        self.loops.append(around or step)
         inner = self.body(body)
         self.loops.pop()
-        self.bracketed("while (%s) {", before + inner + step, test)
+        self.emit("while (%s)", test, blocks=(before + inner + step, ()))
 
     def s_Continue(self, _):
         inner = self.loops[-1]
@@ -164,30 +155,27 @@ class Statements(Expressions):
     def s_Switch(self, node):
         """The cases in order, from the number of the one that is chosen on, in a loop that takes the breaks."""
         value = self.value(node.cond)
-        kind, groups, lines = promoted(value.type.name), self.groups_of(node), []
+        kind, groups, cases = promoted(value.type.name), self.groups_of(node), []
         value = self.stable(convert(value, kind))
         default = next((at for at, (labels, _) in enumerate(groups) if None in labels), len(groups))
         at, again = self.temporary(INT, number(default)), self.temporary(INT, number(0))
-        self.loops.append(again.args[0])
+        self.scopes[at.args[0].out] = at
         for chosen, (labels, parts) in enumerate(groups):
             for label in labels:
                 if label is not None:
                     self.emit(f"if (%s) %s = {chosen};", compare("==", value, number(label, kind), kind), at)
             self.refuse_if(any(isinstance(part, (A.Decl, A.DeclList)) for part in parts) and
                            chosen + 1 < len(groups), "declaration in a case that is not the last, outside a block")
-            self.here, here = place_of(parts[0], self.here) if parts and not self.pinned else self.here, self.here
-            inner = self.captured(self.statements, parts)[0]
-            lines = self.captured(self.branch, joined("<=", (at, number(chosen)), "int"), inner, after=lines)[0]
-            self.here = here
-        self.loops.pop()
-        self.bracketed("while (1) {", lines + [Line(self.here, "break;")])
+            reached = A.BinaryOp("<=", A.ID(at.args[0].out), A.Constant("int", str(chosen)))
+            cases.append(A.If(reached, A.Compound(parts), None, parts[0].coord if parts else node.coord))
+        self.loop(None, [Line(self.here, "break;")], A.Compound(cases), again.args[0])
         if again.args[0].uses:
             self.branch(again, self.captured(self.s_Continue, node)[0])
 
     def groups_of(self, node):
         """The cases as (labels, statements); `case 1: case 2:` are inside one another in the tree."""
         groups, labels = [], []
-        for item in (node.stmt.block_items or []) if isinstance(node.stmt, A.Compound) else [node.stmt]:
+        for item in items_of(node.stmt):
             self.refuse_if(not isinstance(item, (A.Case, A.Default)), "statement before the first case of a switch")
             inner = [item]
             while len(inner) == 1 and isinstance(inner[0], (A.Case, A.Default)):
@@ -198,30 +186,29 @@ class Statements(Expressions):
         return groups + ([(labels, [])] if labels else [])
 
     def s_Return(self, node):
-        kind, value = self.function.type.to, number(0)
-        if node.expr is not None and kind.kind == "void":
-            self.effect(node.expr)
-        elif node.expr is not None:
-            value = self.value(node.expr)
-            self.function.gives |= kind.kind == "ptr" and not value.null()
+        kind = self.function.type.to
         if kind.kind == "void":
+            if node.expr is not None:
+                self.effect(node.expr)
             self.emit("return;")
-        else:
-            self.emit("return %s;", self.direct(self.fitting(value, kind)))
+            return
+        value = self.value(node.expr) if node.expr is not None else number(0)
+        self.function.gives |= kind.kind == "ptr" and not value.null()
+        self.emit("return %s;", self.fitting(value, kind))
 
     def s_Typedef(self, item):
         inner = getattr(item.type, "type", None)
         if isinstance(inner, A.Struct) and inner.name is None:
             self.typedef_names.setdefault(id(inner), item.name)
-        self.scopes[-1][item.name] = BAD
+        self.scopes[item.name] = BAD
         self.type(item.type)
-        self.scopes[-1][item.name] = item
+        self.scopes[item.name] = item
 
     def prototype(self, decl):
         """The symbol of a function, with its parameters."""
         kind, place = self.type(decl.type), place_of(decl, self.here)
         symbol = self.functions.setdefault(decl.name, Symbol(decl.name, "function", kind, place))
-        self.scopes[0][decl.name] = symbol
+        self.scopes.maps[-1][decl.name] = symbol
         if symbol.definition is None:
             unify(symbol.type, kind)
             names = [getattr(param, "name", None) for param in decl.type.args.params] if decl.type.args else []
@@ -236,7 +223,6 @@ class Statements(Expressions):
         symbol.definition, symbol.header = item, place_of(item.decl)[0].startswith(HEADERS)
         if not symbol.header:
             self.function, self.loops, self.here, self.locals, self.own_names = symbol, [], symbol.place, 0, set()
-            self.mentions = names_in(item.body)[0]
             symbol.lines = self.scoped(self.captured, self.function_body, symbol)[0]
             self.refuse_if(self.locals > 200, f"function {symbol.name} with over 200 variables", symbol.place)
             self.function = None
@@ -250,16 +236,16 @@ class Statements(Expressions):
             text = ARGUMENTS.format(names[0], len(words), names[1], "".join(f'"{word}", ' for word in words))
             self.statements(c_parser.CParser().parse(text).ext[0].body.block_items[: len(params)])
         for param in params if symbol.name != "main" else []:
-            self.scopes[-1][param.name] = param
+            self.scopes[param.name] = param
             self.declare_local(param)
             value = variable(param)
             if param.type.name == "value":
-                self.scopes[-1][param.name] = Expr("at", (value, number(0)), param.type.to)
+                self.scopes[param.name] = Expr("at", (value, number(0)), param.type.to)
             elif param.name in self.addressed:
-                self.scopes[-1][param.name] = local = self.declare(param.name, "local", param.type, param.place)
+                self.scopes[param.name] = local = self.declare(param.name, "local", param.type, param.place)
                 self.declare_local(local)
                 self.put(variable(local), self.loaded(value))
-        self.statements(symbol.definition.body.block_items)
+        self.statements(items_of(symbol.definition.body))
 
     def inlined(self, symbol, values):
         """The body of a function of the headers in place of a call, with its parameters bound to the arguments: they
@@ -268,8 +254,7 @@ class Statements(Expressions):
         kept, kind = (self.scopes, self.pinned, self.bound), values[0].type if values else INT
         self.pinned, place = self.here, values[0].place() if values else None
         self.bound = spelled(place) if place else self.bound
-        self.scopes = [self.scopes[0], {
-            "__sharc_value": kind.to.bare().with_(atomic=False) if kind.kind == "ptr" else INT}]
+        self.scopes = ChainMap({"__sharc_value": kind.to.bare() if kind.kind == "ptr" else INT}, self.scopes.maps[-1])
         try:
             decl = symbol.definition.decl.type
             for param, value in zip(decl.args.params if decl.args else [], values):
@@ -281,7 +266,7 @@ class Statements(Expressions):
                     value = self.spilled(value) if value.number is None else value
                 elif wanted.kind == "ptr" and wanted.to.kind != "func":
                     value = value.typed(wanted.with_(node=value.type.node))
-                self.scopes[-1][param.name] = value
+                self.scopes[param.name] = value
             *items, last = symbol.definition.body.block_items
             self.statements(items)
             return self.fitting(self.value(last.expr), self.type(decl.type))

@@ -1,21 +1,19 @@
 """Threads: each is started on a record with its argument, in which its result is found."""
 
+from string import Template
+
 from pycparser import c_ast as A
 
+from .classes import HEAP
 from .ctype import VOID
+from .express import uncast
 from .library import Library
+from .source import texts
 from .tree import Expr, number
 
-# a thread function `work` is called by one that has the record; the argument is taken out of it, so that what it points
-# to has one reference
-RECORD = """struct {record} {{ {argument} argument; {result} result; }};
-{argument} {take}(struct {record} * record) {{ {argument} argument = record->argument; \
-record->argument = {none}; return argument; }}
-void {start}(struct {record} * record) {{ record->result = {function}({take}(record)); }}
-struct {record} dynamic * {table}[32];"""
-START = """{{ struct {record} private * {own} = malloc(sizeof(struct {record})); {own}->argument = {argument}; \
-struct {record} dynamic * {given} = SCAST(struct {record} dynamic *, {own}); \
-{target} = spawn({start}, {given}); {table}[{target}] = {given}; }}"""
+# a thread function is called by one that has the record; the argument is taken out of it, so that what it points to has
+# one reference
+RECORD, START = (Template(" ".join(text.split())) for text in texts("threads.sharc"))
 
 
 class Threads(Library):
@@ -27,22 +25,23 @@ class Threads(Library):
 
     def created(self, target, attributes, start, arg):
         self.value(attributes)  # those that can be set change nothing here
-        place, start = self.stable(self.deref(self.value(target)), True), self.stable(self.value(start))
+        place, start = self.stable_place(self.deref(self.value(target))), self.stable(self.value(start))
         kind = start.type.to if start.type.kind == "ptr" else VOID
         self.refuse_if(kind.kind != "func" or len(kind.params or ()) != 1, "thread function of this form")
         self.started.append(start.type.node)
         value = self.value(arg)
-        if value.own_local():
-            value.own_local().started.append(len(self.loops))
+        local = self.own_local(value.place())
+        if local:
+            local.started.append(len(self.loops))
         value = self.given(self.fitting(value, kind.params[0]), True)
 
         def lines():
             """Starts one of the functions that `start` may be."""
-            texts = []
-            for symbol in start.type.node.find().functions:
-                text = START.format(**self.record(symbol), own=self.own_name("own"), given=self.own_name("given"),
+            functions, texts = start.type.node.find().functions, []
+            for symbol in functions:
+                text = START.substitute(**self.record(symbol), own=self.own_name("own"), given=self.own_name("given"),
                                     target=self.text(place), argument=self.text(value))
-                texts.append(text if start.bare().op == "function" else
+                texts.append(text if len(functions) == 1 else
                              f"if ({self.text(start)} == {self.numbers[symbol]}) {text}")
             return " ".join(texts)
         self.later(lines, place, value)
@@ -50,30 +49,37 @@ class Threads(Library):
     def given(self, value, automatic=False):
         """Hands over what `value` points to: a cast whose result is put back. Without a mark this is done for the
         address of an object that this thread alone has."""
-        call, node = self.direct(value), self.class_of(value)
-        if call.bare().op in ("call", "scast"):
+        node = self.class_of(value)
+        if value.calls:
             self.refuse_if(not automatic, "call within what is handed over")
-            return call
-        name, kind = self.own_name("t"), value.type.with_(node=node)
+            return value
+        name, kind = self.own_name("t"), value.type
 
         def lines():
-            self.refuse_if(self.how(node) not in ("heap", "boxes") and not automatic, "SHARC_GIVE of a number")
             if automatic and not self.handed(value):
-                return ";"
+                return ""
+            self.refuse_if(self.how(node) not in HEAP, "SHARC_GIVE of a number")
             self.notes.append((self.here, "what the argument of the thread points to is handed over (SCAST)"))
             kind_text, text = self.type_text(kind), self.text(value)
             return f"{kind_text} {name} = SCAST({kind_text}, {text}); {text} = {name};"
         self.later(lines, declares=True)
         return Expr("text", (lambda: self.text(value) if automatic and not self.handed(value) else name, value), kind)
 
+    @staticmethod
+    def own_local(place):
+        """The local variable that a place is, if it is one."""
+        return place.local() if place and place.op == "variable" else None
+
     def handed(self, value):
         """Whether the argument of a thread is the address of an object of this thread alone."""
-        inner, symbol = value.bare(), value.own_local()
-        if self.how(value.type.node) not in ("heap", "boxes"):
+        place = value.place()
+        if self.how(value.type.node) not in HEAP or place is None or place.type.kind == "array":
             return False
-        if inner.op == "moved":
-            return inner.args[0].own_local() is not None and self.how(inner.args[0].type.node) == "boxes"
-        return symbol is not None and symbol.type.kind != "array" and symbol.started == [symbol.loop]
+        if place.op == "element":
+            array = self.own_local(place.args[0])
+            return array is not None and self.boxes(array.address)
+        symbol = self.own_local(place)
+        return symbol is not None and symbol.started == [symbol.loop]
 
     def record(self, symbol):
         """Names: of the struct, the function that is spawned, the one that takes the argument, the table of starts."""
@@ -87,18 +93,16 @@ class Threads(Library):
         self.refuse_if(len(symbol.params) != 1 or symbol.params[0].type.kind != "ptr" or symbol.type.to.kind != "ptr",
                        f"thread function {symbol.name} whose parameter or result is no pointer", symbol.place)
         kind = symbol.params[0].type
-        return RECORD.format(**self.record(symbol), none=self.null_text(kind.node), function=self.function_name(symbol),
+        return RECORD.substitute(**self.record(symbol), none=self.null_text(kind.node), function=self.function_name(symbol),
                              argument=self.type_text(kind.bare()), result=self.type_text(symbol.type.to.bare()))
 
     def l_pthread_join(self, args):
-        thread, result = self.stable(self.value(args[0])), args[1]
-        while isinstance(result, A.Cast) and not isinstance(result.expr, A.Constant):
-            result = result.expr
+        thread, result = self.stable(self.value(args[0])), uncast(args[1])
         self.emit("join(%s);", thread)
         if not isinstance(result, A.UnaryOp) or result.op != "&":
             self.refuse_if(not self.peeked(result).null(), "result of a thread taken in this form")
             return
-        place = self.stable(self.visit(result.expr), True)
+        place = self.stable_place(self.visit(result.expr))
         self.refuse_if(place.type.kind != "ptr", "result of a thread taken in this form")
         self.joins.append(place.type.node)
         self.put(place, number(0))
@@ -108,7 +112,7 @@ class Threads(Library):
                      if symbol.gives]
             target, none = self.text(place), self.null_text(place.type.node)
             return " ".join(f"if ({at} != NULL) {{ {target} = {at}->result; {at}->result = {none}; }}"
-                            for at in given) or ";"
+                            for at in given)
         self.later(lines, place)
 
     def l_pthread_exit(self, args):

@@ -7,7 +7,7 @@ bits is held by its bits, and functions of headers/arithmetic.sharc compare, mul
 import operator
 from dataclasses import dataclass, replace
 
-from .ctype import BITS, CELL, UNSIGNED, Type, limits, wrapped
+from .ctype import BITS, CELL, UNSIGNED, VOID, Type, limits, wrapped
 
 LEVELS = {"||": 1, "&&": 2, "|": 3, "^": 4, "&": 5, "==": 6, "!=": 6, "<": 7, ">": 7, "<=": 7, ">=": 7, "<<": 8,
           ">>": 8, "+": 9, "-": 9, "*": 10, "/": 10, "%": 10}
@@ -18,18 +18,19 @@ FOLDED = {"+": operator.add, "-": operator.sub, "*": operator.mul, "&": operator
           "^": operator.xor, "<<": operator.lshift, ">>": operator.rshift, **COMPARED,
           "/": lambda a, b: abs(a) // abs(b) * (1 if (a < 0) == (b < 0) else -1),
           "%": lambda a, b: abs(a) % abs(b) * (1 if a >= 0 else -1)}
-NAMES64 = {"+": "sum64", "-": "difference64", "*": "product64", "/": "quotient64", "%": "remainder64", "<<": "left64",
-           ">>": "right64"}
+TRUTHS = (*COMPARED, "&&", "||", "!")
+NAMES64 = {"+": "__sharc_sum64", "-": "__sharc_difference64", "*": "__sharc_product64", "/": "__sharc_quotient64",
+           "%": "__sharc_remainder64", "<<": "__sharc_left64", ">>": "__sharc_right64"}
 
 
 @dataclass(eq=False)
 class Expr:
     """A place: variable(symbol), member(place, name), element(place, index) of an array, at(pointer, index).
 
-    Or a value: what is in a place; number; infix and prefix operators and helper(name, values ..) on integers; a cast,
-    which changes nothing but the type; and pointers: address(place), decay(array), moved(pointer, operator, index),
-    null, string(data), function(symbol), and ordered(pointer), its number. Those with effects, call(function, values
-    ..), scast(place) and text(what gives it, places ..), are in a line of their own, or in the one that uses them.
+    Or a value: what is in a place; number; operators on integers, also those of headers/arithmetic.sharc; a cast,
+    which changes nothing but the type; address(place), also of the first element of an array; ordered(pointer), its
+    number; and text(what gives it, places ..), which is known when all of the program was read, as NULL is. Those with
+    effects are call(function, values ..) and scast(place); they are evaluated once, where they are in a line.
     """
 
     op: str
@@ -37,16 +38,20 @@ class Expr:
     type: Type
     number: int = None  # of a constant
     wide: bool = False  # whether its type in the text is long
-    height: int = 1
+    height: int = 1  # of a place that others than the function may change 3, as of a call
     source: object = None  # of a place: how it was written
-    once: bool = False  # a variable for the result of a call, which is used in one place
+    given: bool = False  # a struct that a call gave: the object has to be freed
+    with_ = replace
+
+    def __post_init__(self):
+        self.wide |= self.op in (*PLACES, "call") and self.type.wide()
+        if self.op in PLACES:
+            self.height = 1 if self.op == "variable" and not self.args[0].shared else 3
+        self.calls = self.op in ("call", "scast") or any(arg.calls for arg in self.args if isinstance(arg, Expr))
 
     def null(self):
         """Whether it is a null pointer constant."""
         return self.number == 0
-
-    def with_(self, **changes):
-        return replace(self, **changes)
 
     def typed(self, type):
         """The same with another type of C, whose cell holds it."""
@@ -57,15 +62,15 @@ class Expr:
     def bare(self):
         return self.args[0].bare() if self.op == "cast" else self
 
+    def values(self):
+        """The values in it: of a place its indices, and the pointer to it."""
+        inner = self.args[0].values() if self.op in ("member", "element") else []
+        return inner + [arg for arg in self.args[self.op in ("member", "element") :] if isinstance(arg, Expr)]
+
     def place(self):
         """What it is the address of, or the array that it is the first element of."""
         inner = self.bare()
-        return inner.args[0] if inner.op in ("address", "decay") else None
-
-    def own_local(self):
-        """The local variable that a pointer is the address of, if it is one."""
-        place = self.place()
-        return place.args[0] if place and place.op == "variable" and place.args[0].kind != "global" else None
+        return inner.args[0] if inner.op == "address" else None
 
     def local(self):
         """The local variable that a place is the whole of or a member of."""
@@ -73,6 +78,9 @@ class Expr:
         while inner.op == "member":
             inner = inner.args[0]
         return inner.args[0] if inner.op == "variable" and inner.args[0].kind != "global" else None
+
+
+NOTHING = Expr("number", (), VOID, 0)
 
 
 def variable(symbol):
@@ -83,21 +91,21 @@ def element(base, index):
     return Expr("element", (base, index), base.type.to)
 
 
+def address(place, to=None):
+    return Expr("address", (place,), Type("ptr", to=to or place.type))
+
+
 def number(value, name="int"):
     """A constant of this C type."""
     value = wrapped(value, name)
     return Expr("number", (), Type("int", name), value, CELL[name] == "long" or not -(1 << 31) < value < 1 << 31)
 
 
-def joined(op, args, name, wide=False):
-    """A value of the C type `name` that is made of others."""
-    return Expr(op, args, Type("int", name), wide=wide,
-                height=1 + max(arg.height for arg in args if isinstance(arg, Expr)))
-
-
-def helper(called, name, wide, *values):
-    """A call of a function of headers/arithmetic.sharc."""
-    return joined("helper", (called, *values), name, wide)
+def joined(op, name, *values):
+    """A value of the C type `name`: an operator of SharC, or a function of headers/arithmetic.sharc, on others."""
+    operands = values[:1] if op in ("<<", ">>") else () if op in TRUTHS else values
+    wide = Type("int", name).wide() if op.startswith("__sharc_") else any(value.wide for value in operands)
+    return Expr(op, values, Type("int", name), wide=wide, height=1 + max(value.height for value in values))
 
 
 def convert(value, name):
@@ -106,21 +114,16 @@ def convert(value, name):
     if value.number is not None or low <= least and most <= high:
         return value.typed(Type("int", name))
     if name == "bool":
-        return joined("!=", (value, number(0)), name)
+        return joined("!=", name, value, number(0))
     if name in UNSIGNED:
-        mask = number(high, name)
-        return joined("&", (value, mask), name, value.wide or mask.wide)
-    return helper("as_" + name, name, False, value)
+        return joined("&", name, value, number(high, name))
+    return joined("__sharc_as_" + name, name, value)
 
 
 def unary(op, value, name):
-    value = convert(value, name)
-    if op == "-":
-        return binary("-", number(0, name), value, name)
-    if op == "+" or value.number is not None:
-        return value if op == "+" else number(~value.number, name)
-    value = joined("+", (value, number(0, "long")), name, True) if name != "int" and not value.wide else value
-    return convert(joined("~", (value,), "long" if value.wide else "int", value.wide), name)
+    if op == "+":
+        return convert(value, name)
+    return binary("-", number(0, name), value, name) if op == "-" else binary("^", value, number(-1, name), name)
 
 
 def folded(op, left, right, name):
@@ -137,20 +140,16 @@ def folded(op, left, right, name):
 
 def binary(op, left, right, name):
     """left op right in the C type `name`, to which both operands are converted (the left one alone for shifts)."""
-    shift = op in ("<<", ">>")
-    left, right = convert(left, name), right if shift else convert(right, name)
+    left, right = convert(left, name), right if op in ("<<", ">>") else convert(right, name)
     value = folded(op, left, right, name) if None not in (left.number, right.number) else None
     if value is not None:
         return value
     small = op in ("+", "-") and right.number is not None and abs(right.number) <= 65536
-    if name == "ulong" and op in NAMES64 and not small:
-        return helper(NAMES64[op], name, True, left, right)
-    if name == "uint" and op == "*":
-        return helper("product32", name, True, left, right)
-    if name != "int" and op not in "&|^" and not (left.wide or right.wide and not shift):
-        left = joined("+", (left, number(0, "long")), name, True)  # of type long in the text
-    wide = left.wide or right.wide and not shift
-    return convert(joined(op, (left, right), "long" if name == "uint" and op in ("+", "-", "<<") else name, wide), name)
+    if name == "ulong" and op in NAMES64 and not small or name == "uint" and op == "*":
+        return joined("__sharc_product32" if name == "uint" else NAMES64[op], name, left, right)
+    if name != "int" and op not in ("&", "|", "^") and not joined(op, name, left, right).wide:
+        left = joined("+", name, left, number(0, "long"))  # of type long in the text
+    return convert(joined(op, "long" if name == "uint" and op in ("+", "-", "<<") else name, left, right), name)
 
 
 def compare(op, left, right, name):
@@ -160,21 +159,24 @@ def compare(op, left, right, name):
     if None not in (left.number, right.number):
         return folded(op, left, right, name)
     if name != "ulong" or op in ("==", "!=") or small:
-        return joined(op, (left, right), "int")
-    less = helper("below64", "int", False, *((right, left) if op in (">", "<=") else (left, right)))
-    return less if op in ("<", ">") else joined("!", (less,), "int")
+        return joined(op, "int", left, right)
+    less = joined("__sharc_below64", "int", *((right, left) if op in (">", "<=") else (left, right)))
+    return less if op in ("<", ">") else joined("!", "int", less)
 
 
-def plus(left, right, op="+"):
-    """left + right or left - right, for indices."""
+def plus(left, right):
+    """left + right, for indices."""
     if None not in (left.number, right.number):
-        return number(FOLDED[op](left.number, right.number))
-    if right.null() or left.null() and op == "+":
-        return left if right.null() else right
-    return joined(op, (left, right), "long", left.wide or right.wide)
+        return number(left.number + right.number)
+    if right.number is None or left.null():
+        return right if left.null() else joined("+", "long", left, right)
+    if left.op in ("+", "-") and left.args[1].number is not None:
+        return plus(left.args[0], number(right.number + left.args[1].number * (1 if left.op == "+" else -1)))
+    op = "-" if right.number < 0 else "+"
+    return left if right.null() else joined(op, "long", left, number(abs(right.number)))
 
 
 def times(value, by):
     if by == 1 or value.number is not None:
         return value if by == 1 else number(value.number * by)
-    return joined("*", (value, number(by)), "long", value.wide)
+    return joined("*", "long", value, number(by))
