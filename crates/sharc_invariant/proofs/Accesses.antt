@@ -22,12 +22,10 @@ back_again w (negsuc n) h =
     (ap (λ b. sign_of b (pos (2 ^ 64 - suc n)) (negsuc (2 ^ 64 - suc (2 ^ 64 - suc n)))) e ∙ ap negsuc q, omega arith)
 
 pub gate_alone : (s : Shape) (w : World) (t : ℕ) (m : Machine) (y : Gate) → IsNotSole y → GateStands s w t m y → (q : ℕ) → w.win t ≡ Sole q → ⊥
-gate_alone s w t m Closed h k q e = cc
-gate_alone s w t m (Checked a c) h k q e = cc
 gate_alone s w t m (Holds c) h k q e = let z = k.0 in cc
-gate_alone s w t m (Loaded c) h k q e = cc
 gate_alone s w t m (HoldsLoaded c) h k q e = let z = k.0 in cc
 gate_alone s w t m (SoleGate r c) h k q e = absurd h
+gate_alone s w t m _ h k q e = cc
 
 -- only the gate of a label changes
 pub gate_top : (x : Targets) (t : ℕ) (v : View) (base ints : ℕ) (names : ℕ → ℤ) (l : Label) (y : Gate) → TopStands x t v base ints names l → TopStands x t v base ints names (gated l y)
@@ -245,6 +243,4 @@ module _ (x : Targets) (code : Code) (s : Shape) (ls : Labels) (wt : IsWellTyped
 
       loaded_window : (found : ℕ) (c : Cell) → GateStands s (set_win world tr.thread (IsLoaded (base_of_cell (g.threads tr.thread) c) (number_in (g.threads tr.thread) c) found)) tr.thread (goes (record (g.threads tr.thread) { pending = found })) (Loaded c)
       loaded_window found (Cell.Global a b) = put_same world.win t (IsLoaded (base_of_cell m (Cell.Global a b)) (number_in m (Cell.Global a b)) found)
-      loaded_window found (Cell.GlobalAt a b) = put_same world.win t (IsLoaded (base_of_cell m (Cell.GlobalAt a b)) (number_in m (Cell.GlobalAt a b)) found)
-      loaded_window found (Cell.Object a b) = put_same world.win t (IsLoaded (base_of_cell m (Cell.Object a b)) (number_in m (Cell.Object a b)) found)
-      loaded_window found (Cell.ObjectAt a b) = put_same world.win t (IsLoaded (base_of_cell m (Cell.ObjectAt a b)) (number_in m (Cell.ObjectAt a b)) found)
+      loaded_window found k = put_same world.win t (IsLoaded (base_of_cell m k) (number_in m k) found)

@@ -14,10 +14,8 @@ at_low s p = ⊎_elim
 
 -- ---- notes
 pub going_on : (y : PlaceState) → may_go y ≡ true → is_ended y ≡ false
-going_on RunsOn e = refl
-going_on Tries e = refl
-going_on Stopped e = refl
 going_on Ended e = absurd (cc)
+going_on _ e = refl
 
 calm_withdrawn : (y : Stage) → is_withdrawing y ≡ false → (order : List ℕ) (ended : Bool) (p : ℕ) → has_withdrawn y order ended p ≡ ended
 calm_withdrawn (Withdraws row) e order ended p = absurd (cc)
@@ -170,8 +168,7 @@ module _ (x : Targets) (code : Code) (s : Shape) (ls : Labels) (laws : ShadowLaw
   plain_turn (Asks step next) e calm k notes =
       let done = asks_turn code s g tr may step next e in
       let found = slice_index g.words step.word in
-      let words = slice_set g.words step.word (word_after step.op found) in
-      left words (next found) done.0
+      left (slice_set g.words step.word (word_after step.op found)) (next found) done.0
       (λ p lt. ⊎_elim
       (λ (q : step.word ≡ shadow_at s p). same_word step.word (word_after step.op found) (shadow_at s p) done.1 (k p lt q found))
       (λ (ne : step.word ≡ shadow_at s p → ⊥). off_word step.word (word_after step.op found) (shadow_at s p) done.1 (λ q. ne (sym q)))
@@ -295,9 +292,8 @@ module _ (x : Targets) (code : Code) (s : Shape) (ls : Labels) (laws : ShadowLaw
       let q = row_of m row in
       let order = m.own.table.order in
       let lists = (st.threads t).has.table in
-      let low : q < granules s = subst (λ n. q < n) (st.threads t).has.notes (row_low m.own.table lists row lt) in
       let d = granule_at s q in
-      let d_is : d ≡ q = in_low s q low in
+      let d_is : d ≡ q = in_low s q (subst (λ n. q < n) (st.threads t).has.notes (row_low m.own.table lists row lt)) in
       let k = shadow_at s d in
       let old = slice_index g.words k in
       let v = without_own m row seen in

@@ -12,12 +12,8 @@ in_filter f [] p h = h
 in_filter f (q ∷ ps) p h = elim (f q) as (λ b. IsIn p (cond b (q ∷ filter f ps) (filter f ps)) → IsIn p (q ∷ ps)) [ true ↦ ⊎_elim (λ e. inl e) (λ k. inr (in_filter f ps p k)) | false ↦ λ k. inr (in_filter f ps p k) ] h
 
 pub number_below : (x : Targets) (elements refs : ℕ → ℕ) (types : ℕ → ObjectType) (names : ℕ → ℤ) (z : ℤ) (k : ℕ) (n : Number) → NumberStands x elements refs types names z n → NumberStands x elements refs types names z (below_number k n)
-number_below x elements refs types names z k Anything h = h
-number_below x elements refs types names z k (Exactly y) h = h
-number_below x elements refs types names z k (Within w) h = h
-number_below x elements refs types names z k (Indexes n) h = h
 number_below x elements refs types names z k (OfElement b f e) h = elim (nat_lt b k) as (λ y. NumberStands x elements refs types names z (cond y (OfElement b f e) Anything)) [ true ↦ h | false ↦ tt ]
-number_below x elements refs types names z k (OfGlobal a b c e) h = h
+number_below x elements refs types names z k _ h = h
 
 caller_frame : (x : Targets) (t : ℕ) (v : View) (base ints : ℕ) (names : ℕ → ℤ) (ls : Labels) (l : Label) (f first k : ℕ) → TopStands x t v base ints names l → FrameStands x t v base ints names (called_label ls l f first k) k first
 caller_frame x t v base ints names ls l f first k tp = record {
@@ -58,10 +54,7 @@ module _ (x : Targets) (t : ℕ) (v : View) (base ints : ℕ) (names : ℕ → �
   passed_lock r (Self i) (Through q j) h = ap (at_cell (refs (k + r))) h.0 ∙ ap (λ o. at_cell o j) (same_ref l refs alls (k + r) (k + q) h.1 ∙ shifted q)
   passed_lock r (Through y i) (Self j) h = ap (at_cell (refs y)) h.0 ∙ ap (λ o. at_cell o j) (same_ref l refs alls y (k + r) h.1 ∙ shifted r)
   passed_lock r (Self i) (Self j) h = ap (at_cell (refs (k + r))) h ∙ ap (λ o. at_cell o j) (shifted r)
-  passed_lock r (OfGlobals i) (Through q j) h = absurd h
-  passed_lock r (OfGlobals i) (Self j) h = absurd h
-  passed_lock r (Through y i) (OfGlobals j) h = absurd h
-  passed_lock r (Self i) (OfGlobals j) h = absurd h
+  passed_lock r _ _ h = absurd h
 
   pub passed_entry : (r : ℕ) (given want : Entry) → Passes l k (k + r) given want → EntryStands refs (types_at v base) (k + r) given → EntryStands refs' (types_at v (base + k)) r want
   passed_entry r Empty Empty h st = sym (shifted r) ∙ st
@@ -155,7 +148,6 @@ module _ (x : Targets) (code : Code) (s : Shape) (ls : Labels) (wt : IsWellTyped
       let settled : (n : Machine) → turn code s m ≡ Local n → State x code s ls (made_turn g t g.words n) world → Turned x code s ls g world tr = λ n e k.
       (world, subst (λ y. State x code s ls y world) (sym (local_turn code s g tr may n e)) k, Silently (record { obj = refl; mutex = refl; passed = λ o p u b q. q; sole = λ u r e. (e, refl) })) in
       let room_at : (n : Machine) → turn code s m ≡ Local n → g.made t + counted n.at.state ≤ 100000000 = λ n e. room_of code s g tr may g.words n (local_turn code s g tr may n e) in
-      let e0 = ap (λ i. Rattle.sharc_code.specs.Machine.act code s i m) is in
       elim (has_room m ints refs) as (λ b. has_room m ints refs ≡ b → turn code s m ≡ Local (cond b m' (stopped m (Trap traps.CallDepth site))) → Turned x code s ls g world tr) [
         | true ↦ λ b e.
             let caller = calls.caller.0 in
@@ -191,4 +183,4 @@ module _ (x : Targets) (code : Code) (s : Shape) (ls : Labels) (wt : IsWellTyped
             (λ q. let z : false ≡ true = entry.room q in absurd (cc)))
             (λ q. absurd (cc)) (room_at m' e))
         | false ↦ λ b e. settled (stopped m (Trap traps.CallDepth site)) e (stop_state x code s ls wt g world st t on go i is refl (Trap traps.CallDepth site) shut (room_at (stopped m (Trap traps.CallDepth site)) e))
-      ] refl e0
+      ] refl (ap (λ i. Rattle.sharc_code.specs.Machine.act code s i m) is)

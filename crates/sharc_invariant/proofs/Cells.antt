@@ -83,8 +83,7 @@ module _ (x : Targets) (code : Code) (s : Shape) (ls : Labels) (wt : IsWellTyped
   cell_there (Cell.Object r i) f k =
       let q = k.field.1 in
       let a = object_at r q.0 q.1 k.base in
-      let whole = st.whole (ref m r) a.0 a.1 in
-      let b = in_object r i q.0 0 i q.1 k.base q.2 whole.0 (omega arith) in
+      let b = in_object r i q.0 0 i q.1 k.base q.2 (st.whole (ref m r) a.0 a.1).0 (omega arith) in
       there (Cell.Object r i) (ref m r) i f refl refl b.0 b.1 (b.2 ∙ sym q.3) (λ z. a.0 (reads r ∙ z)) (sym (reads r))
   cell_there (Cell.ObjectAt r i) f k =
       let q = k.field.1 in
@@ -93,8 +92,7 @@ module _ (x : Targets) (code : Code) (s : Shape) (ls : Labels) (wt : IsWellTyped
       let a = object_at r ty q.3 k.base in
       let nm : NumberStands x st.elements (refs_at view m.at.refs) (types_at view m.at.refs) names (int m i) (OfElement r field q.2) = subst (NumberStands x st.elements (refs_at view m.at.refs) (types_at view m.at.refs) names (int m i)) q.4 ((top 0 (suc i)).numbers i (omega arith)) in
       let n = nm.0 in
-      let ln : n < st.elements (ref m r) = subst (λ o. n < st.elements o) (sym (reads r)) nm.1 in
       let j = n * cells_of x ty.target + field in
-      let b = in_object r j ty n field q.3 k.base q.5 ln refl in
+      let b = in_object r j ty n field q.3 k.base q.5 (subst (λ o. n < st.elements o) (sym (reads r)) nm.1) refl in
       let pl : word_of (int m i) ≡ j = ap word_of nm.2 ∙ ap (λ y. word_of (pos (n * cells_of x y + field))) a.3 in
       there (Cell.ObjectAt r i) (ref m r) j f refl (ap (cell_of (ref m r)) pl) b.0 b.1 (b.2 ∙ sym q.6) (λ z. a.0 (reads r ∙ z)) (sym (reads r))

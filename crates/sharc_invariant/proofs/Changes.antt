@@ -40,17 +40,7 @@ stage_elements code s el el' w heap words t m i e (Lowers j all found) q = map_f
 stage_elements code s el el' w heap words t m i e (FreeLooks done all) q = map_free _ _ i (λ r l o h. let f = e r o (subst OnHold (sym q) tt) in ((h.0.0 ∙ sym f, h.0.1, h.0.2), h.1))
 stage_elements code s el el' w heap words t m i e (FreeClears done all seen) q = map_free _ _ i (λ r l o h. let f = e r o (subst OnHold (sym q) tt) in ((h.0.0 ∙ sym f, h.0.1, h.0.2), h.1))
 stage_elements code s el el' w heap words t m i e (Uncounts all) q = map_free _ _ i (λ r l o h. let f = e r o (subst OnHold (sym q) tt) in ((h.0.0 ∙ sym f, h.0.1, h.0.2), h.1))
-stage_elements code s el el' w heap words t m i e Rests q = λ h. h
-stage_elements code s el el' w heap words t m i e (Makes v) q = λ h. h
-stage_elements code s el el' w heap words t m i e (Links all) q = λ h. h
-stage_elements code s el el' w heap words t m i e (Names n) q = λ h. h
-stage_elements code s el el' w heap words t m i e (Hands n) q = λ h. h
-stage_elements code s el el' w heap words t m i e (Begins n) q = λ h. h
-stage_elements code s el el' w heap words t m i e (Enters f) q = λ h. h
-stage_elements code s el el' w heap words t m i e (Withdraws row) q = λ h. h
-stage_elements code s el el' w heap words t m i e (WithdrawsFrom row seen) q = λ h. h
-stage_elements code s el el' w heap words t m i e Leaves q = λ h. h
-stage_elements code s el el' w heap words t m i e (Wakes seen) q = λ h. h
+stage_elements code s el el' w heap words t m i e _ q = λ h. h
 
 module _ (x : Targets) (code : Code) (s : Shape) (ls : Labels) (wt : IsWellTyped x code ls) (g : Global Machine) (world : World) (st : State x code s ls g world) (t : ℕ) (on : g.started t ≡ true) (words : List ℕ) (m' : Machine) (own : KeepsPart (g.threads t) m')
     (kw : KeepsLower g.words words) where
@@ -142,12 +132,9 @@ module _ (x : Targets) (code : Code) (s : Shape) (ls : Labels) (wt : IsWellTyped
         (callers_agree x code ls u v v' n.frames n.at.depth n.at.refs n.at.ints f (record { refs = λ i _. a.refs i tt; types = λ i _. a.types i tt; vals = λ i _. a.vals i tt; elements = λ i _. a.elements i tt; passed = λ o p b w. a.passed o p b (⊎_elim (λ z. inl z) (λ z. inr (z.0, (tt, z.1.1))) w) }) h.0, h.1, h.2)
 
     gate_kept : (u : ℕ) (n : Machine) (y : Gate) → w'.win u ≡ world.win u → GateStands s world u n y → GateStands s w' u n y
-    gate_kept u n Closed e h = e ∙ h
-    gate_kept u n (Checked write c) e h = e ∙ h
     gate_kept u n (Holds c) e h = (e ∙ h.0, h.1)
-    gate_kept u n (Loaded c) e h = e ∙ h
     gate_kept u n (HoldsLoaded c) e h = (e ∙ h.0, h.1, h.2)
-    gate_kept u n (SoleGate r cleared) e h = e ∙ h
+    gate_kept u n _ e h = e ∙ h
 
     -- an object that a thread walks over it has alone
     walks : (u : ℕ) → Runs x code s ls st.elements world st.heap g u (g.threads u) → (r : ℕ) → operand (instr_at code (g.threads u).at.pc) ≡ Some r → OnHold (g.threads u).own.stage

@@ -1,21 +1,10 @@
 -- The checks of accesses keep the invariant.
-use Rattle.sharc_invariant.proofs.{Imports.{◌≡◌, ℕ, ℤ, suc, ◌+◌, ◌/◌, ◌<◌, ◌⊎◌, Bool, true, false, cond, List, ◌∷◌, Some, None, refl, sym, ap, ◌∙◌, subst, inl, inr, ⊎_elim, length, slice_index, is_some, Kind, Accesses, note_of, site_at, epoch_of, is_write, conflicts_in, noted, ShadowLaws, Code, Cell, Instr, Shape, Rests, Fits, granule_of, Own as Own', Machine, instr_at, check, wrote, with_note, with_own, ref, turn, Turn, Global, put, MayTurn, one_thread, bounds, put_same, put_other, GranuleState, Passed, marked, passed, Targets, Field, FieldMode, Gate, Closed, Checked, Holds, Loaded, HoldsLoaded, SoleGate, Pass, Label, Labels, Leads, LessGate, gated, IsWellTyped, HasCell, IsPlace, LeadsChecked, World, Window, Shut, May, RegisterOf, in_ref, put2, set_gran, set_win, Silent, Silently, made_turn, Runs, State, View, view_of, TopStands, FramesStand, PassStands, GateStands, base_of_cell, object_of_cell, number_in, refs_at, Turned}, Effects.put2_all, Frames.{Agrees, Always, Low, top_agrees, callers_agree, less_stands}, Quiet.heap_now, Own.{is_single, runs, rests, top, gate, runs_at}, Plain.{is_shut, register_plain}, CheckTurns.{refused, passes_state, all_kept}, Rights.pass_at}
+use Rattle.sharc_invariant.proofs.{Imports.{◌≡◌, ℕ, ℤ, ◌+◌, ◌/◌, ◌<◌, ◌⊎◌, Bool, true, false, cond, List, ◌∷◌, Some, None, refl, sym, ap, ◌∙◌, subst, inl, inr, ⊎_elim, length, slice_index, is_some, Kind, Accesses, note_of, site_at, epoch_of, is_write, conflicts_in, noted, ShadowLaws, Code, Cell, Instr, Shape, Rests, Fits, granule_of, Own as Own', Machine, instr_at, check, wrote, with_note, with_own, ref, turn, Turn, Global, MayTurn, one_thread, bounds, put_same, put_other, GranuleState, Passed, marked, passed, Targets, Field, FieldMode, Gate, Closed, Checked, Holds, Loaded, HoldsLoaded, SoleGate, Pass, Label, Labels, Leads, LessGate, gated, IsWellTyped, HasCell, IsPlace, LeadsChecked, World, Window, Shut, May, RegisterOf, in_ref, put2, set_gran, set_win, Silent, Silently, made_turn, Runs, State, View, view_of, TopStands, FramesStand, PassStands, GateStands, base_of_cell, object_of_cell, number_in, refs_at, Turned}, Effects.{put2_all, has_passed as passed_now}, Frames.{Agrees, Always, Low, top_agrees, callers_agree, less_stands}, Quiet.heap_now, Own.{is_single, runs, rests, top, gate, runs_at}, Plain.{is_shut, register_plain}, CheckTurns.{refused, passes_state, all_kept}, Rights.pass_at, Seen.{put2_at as put2_same}}
 use Rattle.sharc_code.specs.Machine.{place}
-
-put2_same : {A : Type 0} (f : ℕ → ℕ → A) (o i : ℕ) (v : A) → put2 f o i v o i ≡ v
-put2_same f o i v = ap (λ g. g i) (put_same f o (put (f o) i v)) ∙ put_same (f o) i v
 
 pub checked_gate : (b : Bool) (c : Cell) (y : Gate) → LessGate (Checked b c) y → (y ≡ Closed) ⊎ (y ≡ Checked b c)
 checked_gate b c Closed h = inl refl
-checked_gate b c (Checked a d) h = inr h
-checked_gate b c (Holds d) h = inr h
-checked_gate b c (Loaded d) h = inr h
-checked_gate b c (HoldsLoaded d) h = inr h
-checked_gate b c (SoleGate r d) h = inr h
-
-passed_now : (g : GranuleState) (t : ℕ) (k : Bool) → Passed (passed g t k) t k
-passed_now g t true = put_same g.write_note t (suc g.epoch)
-passed_now g t false = inl (put_same g.read_note t (suc g.epoch))
+checked_gate b c _ h = inr h
 
 -- a note in the access table leaves what else a thread has
 note_keeps : (A : Own' → Type 0) (o : Own') (p : ℕ) (kind : Kind) (e site : ℕ) → A o → ((n : Accesses) → A (record o { table = n })) → A (with_note o p kind e site)
@@ -125,9 +114,7 @@ module _ (x : Targets) (code : Code) (s : Shape) (ls : Labels) (wt : IsWellTyped
 
   same_window : (c : Cell) (w : World) (e : w.win tr.thread ≡ May (is_write kind) (base_of_cell (g.threads tr.thread) c) (number_in (g.threads tr.thread) c)) → GateStands s w tr.thread m' (Checked (is_write kind) c)
   same_window (Cell.Global a b) w e = e
-  same_window (Cell.GlobalAt a b) w e = e
-  same_window (Cell.Object a b) w e = e
-  same_window (Cell.ObjectAt a b) w e = e
+  same_window _ w e = e
 
   passes_with : conflicts_in found tr.thread kind (wrote (g.threads tr.thread) p found) ≡ false → (k : Label) → Leads ls ((g.threads tr.thread).at.pc + 1) k → k.function ≡ here.function → k.room ≡ here.room → k.gate ≡ Checked (is_write kind) c
       → TopStands x tr.thread view' (g.threads tr.thread).at.refs (g.threads tr.thread).at.ints names k → Turned x code s ls g world tr

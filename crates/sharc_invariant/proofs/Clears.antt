@@ -9,7 +9,7 @@ cleared_small v = omega arith
 pub in_cells : (a d : ℕ) → d < (min a largest + 1) / 2 → 2 * d < a
 in_cells a d h = omega arith
 
-sum_bound : (n c : ℕ) (f : ℕ → ℕ) → ((j : ℕ) → f j ≤ c) → sum_to n f ≤ n * c
+pub sum_bound : (n c : ℕ) (f : ℕ → ℕ) → ((j : ℕ) → f j ≤ c) → sum_to n f ≤ n * c
 sum_bound zero c f h = omega arith
 sum_bound (suc n) c f h = let a = sum_bound n c f h in let b = h n in let e = suc_times n c in omega arith
 
@@ -28,7 +28,6 @@ epochs_low f h = let a = sum_bound THREADS 100000000 f h in omega arith
 pub cleared_reads : (laws : ShadowLaws) (v seen : ℕ) (rn wn : ℕ → ℕ → ℕ) (p : ℕ) (y : GranuleState) → Reads v rn wn p y → epoch_of seen ≡ y.epoch → y.epoch + 1 < 2 ^ 32 → Reads (cleared_of seen) rn wn p (cleared y)
 cleared_reads laws v seen rn wn p y r e low =
     let c = laws.clears seen in
-    let q = c.epoch in
     record {
       epoch = (let z : suc y.epoch ≡ epoch_of (cleared_of seen) = omega arith in z);
       wrote = sym c.written;
@@ -188,7 +187,6 @@ module _ (x : Targets) (code : Code) (s : Shape) (ls : Labels) (wt : IsWellTyped
     pub goes_on : (c : Bool) → staged_of (g.threads tr.thread).own.stage ≡ 0 → Leads ls ((g.threads tr.thread).at.pc + 1) (gated here (SoleGate r true)) → (((g.threads tr.thread).at.pc + 1 == 0) ≡ false) → g.made tr.thread + 1 ≤ 100000000
         → State x code s ls (made_turn g tr.thread words (walked x code s ls wt g world st tr.thread may.started may.next.runs begun walk ((g.threads tr.thread).at.pc + 1) Rests)) world'
     goes_on c none' leads begun' few =
-        let rn = (st.threads t).runs may.started may.next.runs in
         let pc = m.at.pc + 1 in
         let m' = walked x code s ls wt g world st t may.started may.next.runs begun walk pc Rests in
         walk_state x code s ls wt g world st t may.started may.next.runs begun walk pc Rests tt begun' words kw world' kept refl refl others (λ u. refl) inv
@@ -197,4 +195,4 @@ module _ (x : Targets) (code : Code) (s : Shape) (ls : Labels) (wt : IsWellTyped
         (less_stands x t view' base m.at.ints names (gated here (SoleGate r true)) (ls.at pc) leads (gate_top x t view' base m.at.ints names here (SoleGate r true) top'))
         (subst (FramesStand x code ls t view' m') (sym leads.function) (below' pc Rests))
         (subst (GateStands s world' t m') (sym leads.gate) win)
-        (λ q. rn.room (leads.room q))) few
+        (λ q. ((st.threads t).runs may.started may.next.runs).room (leads.room q))) few

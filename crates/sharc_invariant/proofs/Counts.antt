@@ -120,8 +120,7 @@ module _ (x : Targets) (code : Code) (s : Shape) (ls : Labels) (wt : IsWellTyped
       let go = may.next.runs in
       let q = base + d in
       let nzw : h.reference ≢ 0 = λ z. nz (sym on_w ∙ z) in
-      let fit = fits nzw in
-      let live : (world.obj o).live ≡ true = subst (λ p. (world.obj p).live ≡ true) on_w fit.live in
+      let live : (world.obj o).live ≡ true = subst (λ p. (world.obj p).live ≡ true) on_w (fits nzw).live in
       let done0 = asks_turn code s g tr may (raise_of (count_word s o)) (λ found. m') act_is in
       let kw = count_is s o (st.apart.headers o live) in
       let at = count_at s o in
@@ -163,8 +162,7 @@ module _ (x : Targets) (code : Code) (s : Shape) (ls : Labels) (wt : IsWellTyped
       let k = base + d in
       let h0 = world.slots (In (RegisterOf t (base + from))) in
       let m' = goes (set_ref m d (ref m from)) in
-      let gt = f.0 in
-      let shut = is_shut x code s ls wt g world st t on go i is refl gt in
+      let shut = is_shut x code s ls wt g world st t on go i is refl f.0 in
       let tops1 = tops i is refl in
       let is_refs = in_world i is refl from in
       let act_is : turn code s m ≡ raise s (ref m from) m' = ap (λ i. Rattle.sharc_code.specs.Machine.act code s i m) is in
@@ -273,9 +271,8 @@ module _ (x : Targets) (code : Code) (s : Shape) (ls : Labels) (wt : IsWellTyped
       record { env = λ q lt. forgets_stands r q (here.env q) (f.env q lt); same = f.same; known = f.known; numbers = f.numbers; passed = f.passed }
     where
       forgets_stands : (r q : ℕ) (e : Entry) → EntryStands (refs_at view base) (types_at view base) q e → EntryStands (refs_at view base) (types_at view base) q (forgotten r e)
-      forgets_stands r q Empty h = h
-      forgets_stands r q Unknown h = h
       forgets_stands r q (Refers s) h = elim (some_names r s.locks) as (λ b. EntryStands (refs_at view base) (types_at view base) q (cond b Unknown (Refers s))) [ true ↦ tt | false ↦ h ]
+      forgets_stands r q _ h = h
 
   -- a reference is given up
   pub Lower_keeps : (r : ℕ) → instr_at code (g.threads tr.thread).at.pc ≡ Instr.Lower r → Turned
@@ -288,9 +285,8 @@ module _ (x : Targets) (code : Code) (s : Shape) (ls : Labels) (wt : IsWellTyped
       f.2
     where
       names_is : (r : ℕ) (lock : Lock) → Names r lock → (Rattle.sharc_invariant.specs.Labels.names r lock) ≡ true
-      names_is r (OfGlobals j) h = absurd h
       names_is r (Through q j) h = ap (λ n. n == r) h ∙ eq_refl r
-      names_is r (Self j) h = absurd h
+      names_is r _ h = absurd h
 
       some_named : (r : ℕ) (locks : List Lock) → SomeNames r locks → some_names r locks ≡ true
       some_named r [] h = absurd h
@@ -301,9 +297,8 @@ module _ (x : Targets) (code : Code) (s : Shape) (ls : Labels) (wt : IsWellTyped
           either false b e = e
 
       none_named : (r : ℕ) (e : Entry) → EntryMentions (forgotten r e) r → ⊥
-      none_named r Empty = λ h. h
-      none_named r Unknown = λ h. h
       none_named r (Refers s) = elim (some_names r s.locks) as (λ b. some_names r s.locks ≡ b → EntryMentions (cond b Unknown (Refers s)) r → ⊥) [
         | true ↦ λ _ h. h
         | false ↦ λ z h. let y = some_named r s.locks h in cc
       ] refl
+      none_named r _ = λ h. h

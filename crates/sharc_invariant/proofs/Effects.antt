@@ -7,18 +7,7 @@ own_eq (RegisterOf t r) (RegisterOf u q) h = let p = and_parts (nat_eq t u) (nat
 own_eq (ArgumentOf t) (ArgumentOf u) h = ap ArgumentOf (eqb-true t u h)
 own_eq (LogOf t r) (LogOf u q) h = let p = and_parts (nat_eq t u) (nat_eq r q) h in ap (λ x. LogOf x r) (eqb-true t u p.0) ∙ ap (λ x. LogOf u x) (eqb-true r q p.1)
 own_eq (Staged t) (Staged u) h = ap Staged (eqb-true t u h)
-own_eq (RegisterOf t r) (ArgumentOf u) h = absurd (cc)
-own_eq (RegisterOf t r) (LogOf u q) h = absurd (cc)
-own_eq (RegisterOf t r) (Staged u) h = absurd (cc)
-own_eq (ArgumentOf t) (RegisterOf u q) h = absurd (cc)
-own_eq (ArgumentOf t) (LogOf u q) h = absurd (cc)
-own_eq (ArgumentOf t) (Staged u) h = absurd (cc)
-own_eq (LogOf t r) (RegisterOf u q) h = absurd (cc)
-own_eq (LogOf t r) (ArgumentOf u) h = absurd (cc)
-own_eq (LogOf t r) (Staged u) h = absurd (cc)
-own_eq (Staged t) (RegisterOf u q) h = absurd (cc)
-own_eq (Staged t) (ArgumentOf u) h = absurd (cc)
-own_eq (Staged t) (LogOf u q) h = absurd (cc)
+own_eq _ _ h = absurd (cc)
 
 own_refl : (a : Holder) → same_own a a ≡ true
 own_refl (RegisterOf t r) = rw (eq_refl t, eq_refl r) refl
@@ -243,16 +232,12 @@ win_kept l w w' t (Sole r) f g h =
     subst P (sym (ap (λ (h : TypedReference). h.reference) k.0)) (h.0, k.1)
 
 opens_uses : (x : Window) (b : Base) → Opens x b → Uses x b
-opens_uses Shut b h = h
-opens_uses (May k c i) b h = h
-opens_uses (Loaded c i v) b h = h
 opens_uses (Sole r) b h = absurd h
+opens_uses _ b h = h
 
 pub thread_ne : (a : Holder) (t u r : ℕ) → thread_of a ≡ t → (u ≡ t → ⊥) → a ≡ RegisterOf u r → ⊥
 thread_ne (RegisterOf v q) t u r e ne h = let x : v ≡ u = cc in ne (sym x ∙ e)
-thread_ne (ArgumentOf v) t u r e ne h = absurd (cc)
-thread_ne (LogOf v q) t u r e ne h = absurd (cc)
-thread_ne (Staged v) t u r e ne h = absurd (cc)
+thread_ne _ t u r e ne h = absurd (cc)
 
 -- may two threads do this
 exclusive_by : (l : TypeRules) (n : ℕ) (w : World) (t u o i : ℕ) (m : CellMode) → (m ≡ Racy → ⊥) → Bits n (w.gran o (l.granule i)) → CanBy l w t true o i m → CanBy l w u false o i m → t ≡ u
@@ -260,9 +245,7 @@ exclusive_by l n w t u o i Private r b h k = sym h ∙ k
 exclusive_by l n w t u o i Readonly r b h k = absurd (cc)
 exclusive_by l n w t u o i Racy r b h k = absurd (r refl)
 exclusive_by l n w t u o i Dynamic r b h k = b.alone t u h k
-exclusive_by l n w t u o i (Locked p j) r b h k = let e : suc t ≡ suc u = sym h ∙ k in omega arith
-exclusive_by l n w t u o i (Sibling j) r b h k = let e : suc t ≡ suc u = sym h ∙ k in omega arith
-exclusive_by l n w t u o i (Behind j) r b h k = let e : suc t ≡ suc u = sym h ∙ k in omega arith
+exclusive_by l n w t u o i _ r b h k = let e : suc t ≡ suc u = sym h ∙ k in omega arith
 
 -- the same slots and objects give the same bases
 right_of : (l : TypeRules) (w w' : World) (t : ℕ) (k : Bool) (b : Base) (i : ℕ) → w'.slots ≡ w.slots → w'.obj ≡ w.obj → Based w t b → Can l w' t k (base_of w t b) i → Right l w' t k b i
@@ -279,7 +262,7 @@ keeps_passed g t u true false ne h = ⊎_elim (λ e. inl e) (λ e. inr (put_othe
 keeps_passed g t u false true ne h = h
 keeps_passed g t u false false ne h = ⊎_elim (λ e. inl (put_other g.read_note t u (suc g.epoch) ne ∙ e)) (λ e. inr e) h
 
-has_passed : (g : GranuleState) (t : ℕ) (k : Bool) → Passed (passed g t k) t k
+pub has_passed : (g : GranuleState) (t : ℕ) (k : Bool) → Passed (passed g t k) t k
 has_passed g t true = put_same g.write_note t (suc g.epoch)
 has_passed g t false = inl (put_same g.read_note t (suc g.epoch))
 
@@ -536,9 +519,8 @@ module _ (z : Size) (l : TypeRules) (w : World) (inv : WorldInvariant z l w) whe
   apart : (t r u : ℕ) (b : Base) → w.win t ≡ Sole r → Opens (w.win u) b → Based w u b → base_of w u b ≡ in_ref w (RegisterOf t r) → ⊥
   apart t r u b e us h q =
       let so = sole_at t r e in
-      let k = base_other t u r b so.0 so.1 h q in
       let P : Window → Type 0 = λ v. Opens v b in
-      let us' : Opens (w.win t) b = subst (λ u. Opens (w.win u) b) k.0 us in
+      let us' : Opens (w.win t) b = subst (λ u. Opens (w.win u) b) (base_other t u r b so.0 so.1 h q).0 us in
       subst P e us'
 
   pub clear_ok : (t r g : ℕ) → w.win t ≡ Sole r → WorldInvariant z l (set_gran w (in_ref w (RegisterOf t r)) g (cleared (w.gran (in_ref w (RegisterOf t r)) g)))
@@ -576,8 +558,7 @@ module _ (z : Size) (l : TypeRules) (w : World) (inv : WorldInvariant z l w) whe
       let x = passed (w.gran o g) t k in
       let w' = set_win (set_gran w o g x) t (May k b i) in
       let p : Passed (put2 w.gran o g x o g) t k = subst (λ y. Passed y t k) (sym (ap (λ (f : ℕ → GranuleState). f g) (put_same w.gran o (put (w.gran o) g x)) ∙ put_same (w.gran o) g x)) (has_passed (w.gran o g) t k) in
-      let can : Can l w' t k o i = subst (CanBy l w' t k o i) (sym m) p in
-      let right : Right l w' t k b i = right_of l w w' t k b i refl refl based can in
+      let right : Right l w' t k b i = right_of l w w' t k b i refl refl based (subst (CanBy l w' t k o i) (sym m) p) in
       gran_ok t o g x (put w.win t (May k b i)) (bits_passed z.threads (w.gran o g) t k lt c (inv.bits o g))
       (λ u nu b us h q j. keeps_passed (w.gran o g) t u k j nu)
       (λ u nu. put_other w.win t u (May k b i) nu)
@@ -608,7 +589,6 @@ module _ (z : Size) (l : TypeRules) (w : World) (inv : WorldInvariant z l w) whe
 
   pub unlock_ok : (t o j : ℕ) → w.mutex o j ≡ suc t → w.win t ≡ Shut → WorldInvariant z l (set_mutex w o j 0)
   unlock_ok t o j e sh = mutex_ok o j 0 (λ u b us h.
-      let x : suc u ≡ suc t = sym h ∙ e in
       let y : u ≡ t = omega arith in
       let P : Window → Type 0 = λ v. Opens v b in
       absurd (subst P sh (subst (λ u. Opens (w.win u) b) y us)))

@@ -9,7 +9,7 @@ low_row : (e n c i : ℕ) → e * c ≤ i → i < n * c → e < n
 low_row e n c i a b = ⊎_elim (λ (k : e ≡ n). let z = ap (λ e. e * c) k in absurd (omega arith))
     (⊎_elim (λ (k : e < n). k) (λ (k : n < e). let le : n ≤ e = omega arith in let z = mul-le-mul_right c le in absurd (omega arith))) (cases_order e n)
 
-mod_low : (i c : ℕ) → c ≢ 0 → i % c < c
+pub mod_low : (i c : ℕ) → c ≢ 0 → i % c < c
 mod_low i c nz = grind arith
 
 past : (fs : List Field) (n : ℕ) → length fs ≤ n → slice_index_or fs n no_field ≡ no_field
@@ -39,11 +39,10 @@ module _ (x : Targets) (code : Code) (s : Shape) (ls : Labels) (wt : IsWellTyped
       let F = fields l in
       let d = q - l.from in
       let lt : d < F = omega arith in
-      let a = div-mul-add e F d lt in
       let b = mod-mul-add e F d lt in
       let back : l.from + d ≡ q = omega arith in
       let p : pointer_cell code l (e * F + d) ≡ field_of e c fld =
-      ap (λ n. field_of n l.cells (slice_index code.pointers.items (l.from + (e * F + d) % F))) a
+      ap (λ n. field_of n l.cells (slice_index code.pointers.items (l.from + (e * F + d) % F))) (div-mul-add e F d lt)
       ∙ ap (λ n. field_of e l.cells (slice_index code.pointers.items (l.from + n))) b
       ∙ ap (λ n. field_of e l.cells (slice_index code.pointers.items n)) back
       ∙ ap (λ n. field_of e l.cells n) ef ∙ ap (λ c. field_of e c fld) ec in
@@ -59,12 +58,10 @@ module _ (x : Targets) (code : Code) (s : Shape) (ls : Labels) (wt : IsWellTyped
       let c = cells_of x target in
       let E = st.elements o in
       let row = (st.rows o nz live).1 in
-      let size : st.cells o ≡ E * c = (st.whole o nz live).1 ∙ ap (λ t. E * cells_of x t) et in
-      let lt : i < E * c = subst (λ n. i < n) size k.0 in
+      let lt : i < E * c = subst (λ n. i < n) ((st.whole o nz live).1 ∙ ap (λ t. E * cells_of x t) et) k.0 in
       let nc : c ≢ 0 = λ z. let q = ap (λ c. E * c) z in let y : E * 0 ≡ 0 = grind arith in omega arith in
       let e = i / c in
       let fld = i % c in
-      let ei : i ≡ e * c + fld = split i c nc in
       let er : e < E = low_row e E c i (omega arith) lt in
       let field_is : field_in x (world.obj o).ty i ≡ field_at x target fld = field_row (world.obj o).ty i row ∙ ap (λ t. field_of_cell x t i) et in
       let ptr : is_pointer (field_at x target fld).holds ≡ true = subst (λ f. is_pointer f.holds ≡ true) field_is k.1 in
@@ -73,7 +70,7 @@ module _ (x : Targets) (code : Code) (s : Shape) (ls : Labels) (wt : IsWellTyped
       let F = fields l in
       let w = st.apart.within o (i / 2) live (omega arith) in
       let low : i < 2 ^ 63 = let g1 = fits.globals in let g2 = wt.globals.few in let g3 = fits.most in omega arith in
-      let num = cell_number layout e q c fld i lay.cells a.1 a.2 a.3 ei low in
+      let num = cell_number layout e q c fld i lay.cells a.1 a.2 a.3 (split i c nc) low in
       let j = e * F + (q - l.from) in
       let below : j < E * F = let b = mul-le-mul_right F er in let n = suc-mul e F in let a1 = a.1 in let a2 = a.2 in omega arith in
       subst (λ n. (world.slots (Cell o n)).reference ≡ 0) num (empty j below))
@@ -88,21 +85,18 @@ module _ (x : Targets) (code : Code) (s : Shape) (ls : Labels) (wt : IsWellTyped
       let c = cells_of x target in
       let E = st.elements o in
       let nF : F ≢ 0 = λ z. let q = ap (λ c. E * c) z in let y : E * 0 ≡ 0 = grind arith in absurd (omega arith) in
-      let d = i % F in
       let e = i / F in
       let ld = mod_low i F nF in
       let sp = split i F nF in
       let er : e < E = low_row e E F i (omega arith) lt in
-      let q = l.from + d in
+      let q = l.from + (i % F) in
       let fld = slice_index code.pointers.items q in
-      let in_order = lay.in_order in
       let ptr = lay.only q (omega arith) (omega arith) in
       let lf : fld < c = ⊎_elim (λ (a : fld < c). a)
       (λ (a : c ≤ fld). let z : is_pointer (field_at x target fld).holds ≡ false = ap (λ (f : Field). is_pointer f.holds) (past (row_of x target).fields fld a) in absurd (cc)) (cases_lt fld c) in
       let size : st.cells o ≡ E * c = (st.whole o nz live).1 ∙ ap (λ t. E * cells_of x t) et in
       let row = (st.rows o nz live).1 in
       let n : e * c + fld < E * c = let a = mul-le-mul_right c er in let b = suc-mul e c in omega arith in
-      let w = st.apart.within o ((e * c + fld) / 2) live (subst (λ m. 2 * ((e * c + fld) / 2) < m) (sym size) (omega arith)) in
       let low : e * c + fld < 2 ^ 63 = let g1 = fits.globals in let g2 = wt.globals.few in let g3 = fits.most in omega arith in
       let num : pointer_cell code l i ≡ e * c + fld = ap (λ n. field_of e n fld) lay.cells ∙ (let z : min (e * c + fld) largest ≡ e * c + fld = omega arith in z) in
       let field_is : field_in x (world.obj o).ty (e * c + fld) ≡ field_at x target fld =

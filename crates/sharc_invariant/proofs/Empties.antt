@@ -19,12 +19,11 @@ cells_small (suc c) o n h = let a = h (c / 2) (omega arith) in omega arith
 pub cell_word_is : (s : Shape) (o c : ℕ) → o + 1 + c / 2 < granules s → cell_word s (cell_of o c) ≡ cell_at s o c
 cell_word_is s o c lt =
     let w = first_cell s + cell_of o c in
-    let below : w < words_of s = omega arith in
     let e : nat_lt w (words_of s) ≡ true = grind (arith, nat_tests) in
     let q : cell_word s (cell_of o c) ≡ w = rw e refl in
     q ∙ (let z : w ≡ cell_at s o c = omega arith in z)
 
-none_below : (i : ℕ) → i < 0 → ⊥
+pub none_below : (i : ℕ) → i < 0 → ⊥
 none_below i lt = omega arith
 
 module _ (x : Targets) (code : Code) (s : Shape) (ls : Labels) (wt : IsWellTyped x code ls) (fits : FitsShape code s) (few : IsSmall code s) (laws : ShadowLaws) (g : Global Machine) (world : World) (st : State x code s ls g world) (tr : Turn)
@@ -116,16 +115,14 @@ module _ (x : Targets) (code : Code) (s : Shape) (ls : Labels) (wt : IsWellTyped
 
     view_is : (y : Stage) → view_of st.elements w' tr.thread (at_y y) ≡ view
     view_is y =
-        let fr = fun_ext (λ j. ap (λ (h : TypedReference). h.reference) (regs t j)) in
         let ft = fun_ext (λ j. ap (λ (h : TypedReference). h.ty) (regs t j)) in
-        λ i. record view { refs = fr i; types = ft i }
+        λ i. record view { refs = (fun_ext (λ j. ap (λ (h : TypedReference). h.reference) (regs t j))) i; types = ft i }
 
     on_stage : (y : Stage) → IsWalk y → Shows x s st.cells st.elements (conc_of code (made_turn g tr.thread words (at_y y))) w'
         → StageStands code s st.elements w' (heap_now st.heap words) words tr.thread (g.threads tr.thread) (Instr.Free r layout site) y → State x code s ls (made_turn g tr.thread words (at_stage (g.threads tr.thread) y)) w'
     on_stage y wy sim stage =
         let i = instr_at code m.at.pc in
         let hl = label_held here i y (walk_hold y wy) in
-        let gt : GateStands s world t m here.gate = subst (λ (l : Label). GateStands s world t m l.gate) (label_held here i m.own.stage (walk_hold m.own.stage walk)) rn.gate in
         let below : FramesStand x code ls t view (at_y y) here.function = elim here.function as (λ f. FramesStand x code ls t view m f → FramesStand x code ls t view (at_y y) f) [ None ↦ λ h. h | Some f ↦ λ h. h ] rn.below in
         walk_state x code s ls wt g world st t may.started may.next.runs begun walk m.at.pc y wy begun words kw w' kept refl refl others args inv sim (λ i lt. subst (λ v. epoch_of v ≤ sum_to THREADS (put g.made t (g.made t + 1))) (sym (same_epochs i lt)) (later i lt))
         (record {

@@ -19,10 +19,7 @@ same_lock l refs st r (Through a i) (Through b j) h = ap (at_cell (refs a)) h.0 
 same_lock l refs st r (Self i) (Self j) h = ap (at_cell (refs r)) h
 same_lock l refs st r (Self i) (Through b j) h = ap (at_cell (refs r)) h.0 ∙ ap (λ o. at_cell o j) (same_ref l refs st r b h.1)
 same_lock l refs st r (Through a i) (Self j) h = ap (at_cell (refs a)) h.0 ∙ ap (λ o. at_cell o j) (sym (same_ref l refs st r a h.1))
-same_lock l refs st r (Global i) (Through b j) h = absurd h
-same_lock l refs st r (Global i) (Self j) h = absurd h
-same_lock l refs st r (Through a i) (Global j) h = absurd h
-same_lock l refs st r (Self i) (Global j) h = absurd h
+same_lock l refs st r _ _ h = absurd h
 
 pub map_same : {A B C : Type 0} (R : A → B → Type 0) (f : A → C) (g : B → C) → ((a : A) (b : B) → R a b → f a ≡ g b) → (xs : List A) (ys : List B) → AllSame R xs ys → map f xs ≡ map g ys
 map_same R f g h [] [] k = refl
@@ -49,29 +46,24 @@ less_entry l refs types st r (Refers a) (Refers b) h k = λ ne. k ne ∙ same_ty
 pub wider : (v w : Width) (z : ℤ) → Narrower v w → holds v z ≡ true → holds w z ≡ true
 wider Char Char z n h = h
 wider Char Int (pos k) n h = grind (arith, nat_tests)
-wider Char Int (negsuc k) n h = grind (arith, nat_tests)
 wider Char Long (pos k) n h = grind (arith, nat_tests)
-wider Char Long (negsuc k) n h = grind (arith, nat_tests)
 wider Int Char z n h = absurd n
 wider Int Int z n h = h
 wider Int Long (pos k) n h = grind (arith, nat_tests)
-wider Int Long (negsuc k) n h = grind (arith, nat_tests)
 wider Long Char z n h = absurd n
 wider Long Int z n h = absurd n
 wider Long Long z n h = h
+wider _ _ _ n h = grind (arith, nat_tests)
 
 pub less_number : (x : Targets) (elements refs : ℕ → ℕ) (types : ℕ → ObjectType) (names : ℕ → ℤ) (z : ℤ) (a b : Number) → LessNumber a b → NumberStands x elements refs types names z a → NumberStands x elements refs types names z b
 less_number x elements refs types names z a Anything h k = tt
 less_number x elements refs types names z (Within v) (Within w) h k = wider v w z h k
 less_number x elements refs types names z (Exactly y) (Within w) h k = subst (λ (y : ℤ). holds w y ≡ true) (sym k) h
-less_number x elements refs types names z Anything (Within w) h k = absurd (cc)
-less_number x elements refs types names z (Indexes n) (Within w) h k = absurd (cc)
-less_number x elements refs types names z (OfElement b f e) (Within w) h k = absurd (cc)
-less_number x elements refs types names z (OfGlobal f c n e) (Within w) h k = absurd (cc)
 less_number x elements refs types names z a (Exactly y) h k = subst (NumberStands x elements refs types names z) h k
 less_number x elements refs types names z a (Indexes n) h k = subst (NumberStands x elements refs types names z) h k
 less_number x elements refs types names z a (OfElement b f e) h k = subst (NumberStands x elements refs types names z) h k
 less_number x elements refs types names z a (OfGlobal f c n e) h k = subst (NumberStands x elements refs types names z) h k
+less_number x elements refs types names z _ (Within w) h k = absurd (cc)
 
 pub less_stands : (x : Targets) (t : ℕ) (v : View) (base ints : ℕ) (names : ℕ → ℤ) (l k : Label) → Less l k → TopStands x t v base ints names l → TopStands x t v base ints names k
 less_stands x t v base ints names l k less top n m =
@@ -103,15 +95,12 @@ entry_kept f g ty tz r (Refers s) e et h k = λ ne. sym et ∙ k (λ z. ne (sym 
 pub number_kept : (x : Targets) (el el' : ℕ → ℕ) (f g : ℕ → ℕ) (ty tz : ℕ → ObjectType) (names : ℕ → ℤ) (z : ℤ) (n : Number)
     → ((b field : ℕ) (e : Element) → n ≡ OfElement b field e → (f b ≡ g b) × (ty b ≡ tz b) × (el (f b) ≡ el' (f b))) → NumberStands x el f ty names z n → NumberStands x el' g tz names z n
 number_kept x el el' f g ty tz names z Anything h k = tt
-number_kept x el el' f g ty tz names z (Exactly y) h k = k
-number_kept x el el' f g ty tz names z (Within w) h k = k
-number_kept x el el' f g ty tz names z (Indexes n) h k = k
 number_kept x el el' f g ty tz names z (OfElement b field e) h k =
     let q = h b field e refl in
     let lt : k.0 < el' (g b) = let a : el (f b) ≡ el' (g b) = q.2 ∙ ap el' q.0 in let c = k.1 in omega arith in
     let is : z ≡ pos (k.0 * cells_of x (tz b).target + field) = k.2 ∙ ap (λ (t : ObjectType). pos (k.0 * cells_of x t.target + field)) q.1 in
     (k.0, lt, is, k.3)
-number_kept x el el' f g ty tz names z (OfGlobal first c n e) h k = k
+number_kept x el el' f g ty tz names z _ h k = k
 
 -- a pass that is left when those on a register are forgotten
 pub kept_pass : (d : ℕ) (ps : List Pass) (p : Pass) → IsIn p (without_base d ps) → IsIn p ps × ((c : ℕ) → p.base ≡ Some c → c ≡ d → ⊥)
@@ -265,15 +254,11 @@ pub copy_inside : (k : ℕ) (f : ℕ → ℕ) (r : ℕ) → r < k → below_copy
 copy_inside k f r lt = elim (nat_lt r k && nat_lt (f r) k) as (λ y. (nat_lt r k && nat_lt (f r) k) ≡ y → cond y (f r) r < k) [ true ↦ λ e. grind (arith, nat_tests) | false ↦ λ e. lt ] refl
 
 base_inside : (k : ℕ) (n : Number) (b : ℕ) → HasBase (below_number k n) b → b < k
-base_inside k Anything b = λ h. absurd h
-base_inside k (Exactly z) b = λ h. absurd h
-base_inside k (Within w) b = λ h. absurd h
-base_inside k (Indexes n) b = λ h. absurd h
 base_inside k (OfElement c f e) b = elim (nat_lt c k) as (λ y. nat_lt c k ≡ y → HasBase (cond y (OfElement c f e) Anything) b → b < k) [
   | true ↦ λ q h. let lt : c < k = ltb-true c k q in subst (λ b. b < k) h lt
   | false ↦ λ q h. absurd h
 ] refl
-base_inside k (OfGlobal f c n e) b = λ h. absurd h
+base_inside k _ b = λ h. absurd h
 
 pass_inside : (k : ℕ) (ps : List Pass) (p : Pass) (b : ℕ) → IsIn p (filter (λ p. below_pass k p.base) ps) → p.base ≡ Some b → b < k
 pass_inside k [] p b = λ h. absurd h
@@ -306,8 +291,6 @@ agrees_below t v v' a b c d le le' h = record {
 
 pub callers_agree : (x : Targets) (code : Code) (ls : Labels) (t : ℕ) (v v' : View) (frames : List Frame) (d base ints f : ℕ) → Agrees t v v' (Low base) (Low ints)
     → BelowStands x code ls t v frames d base ints f → BelowStands x code ls t v' frames d base ints f
-callers_agree x code ls t v v' frames zero base ints f a h = h
-callers_agree x code ls t v v' frames (suc zero) base ints f a h = h
 callers_agree x code ls t v v' frames (suc (suc d)) base ints f a h =
     let k = h.1 in
     let fr = frame_at frames (suc d) in
@@ -337,3 +320,4 @@ callers_agree x code ls t v v' frames (suc (suc d)) base ints f a h =
       },
       callers_agree x code ls t v v' frames (suc d) fr.refs fr.ints h.0 (agrees_below t v v' base ints fr.refs fr.ints (omega arith) (omega arith) a) h.2,
     )
+callers_agree x code ls t v v' frames _ base ints f a h = h

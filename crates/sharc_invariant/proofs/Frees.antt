@@ -4,7 +4,7 @@ use Rattle.sharc_invariant.proofs.{Imports.{◌≡◌, ℕ, suc, ◌+◌, ◌*�
 pub length_is : (s : Shape) (o : ℕ) → o < granules s → length_word s o ≡ length_at s o
 length_is s o lt = let e : nat_lt o (granules s) ≡ true = grind (arith, nat_tests) in let q : granule_at s o ≡ o = rw e refl in omega arith
 
-same_le : (n : ℕ) → n ≤ n
+pub same_le : (n : ℕ) → n ≤ n
 same_le n = omega arith
 
 no_below : (i n : ℕ) → n ≡ 0 → i < n → ⊥

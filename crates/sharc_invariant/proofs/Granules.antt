@@ -88,7 +88,6 @@ bits_withdrawn n g t b =
       bit = λ u p. let x = was u p in put_other g.has t u false x.1 ∙ b.bit u x.0;
       written = λ u p.
           let x = not_t g.write_note u p in
-          let no : nat_eq (g.write_note t) (suc g.epoch) ≡ false = ne_eq (g.write_note t) (suc g.epoch) (λ e. x.1 (b.alone u t x.0 (inr e))) in
-          rw no (b.written u x.0);
+          rw (ne_eq (g.write_note t) (suc g.epoch) (λ e. x.1 (b.alone u t x.0 (inr e)))) (b.written u x.0);
       alone = λ a u pa pu. b.alone a u (not_t g.write_note a pa).0 (was u pu).0;
     }

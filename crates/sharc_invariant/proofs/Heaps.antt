@@ -5,8 +5,7 @@ use Rattle.sharc_invariant.proofs.{Imports.{◌≡◌, ℕ, ◌+◌, ◌*◌, �
 pub trailing_power : (p : ℕ) → p < 64 → trailing_zeros w64 (2 ^ p) ≡ p
 trailing_power p lt =
     let n = 2 ^ p in
-    let some : 0 < n = pow_pos p in
-    let z = bit_at-trailing_zeros w64 n some (pow-lt {i = p} {j = 64} lt) in
+    let z = bit_at-trailing_zeros w64 n (pow_pos p) (pow-lt {i = p} {j = 64} lt) in
     ⊎_elim (λ (e : trailing_zeros w64 n ≡ p). e)
     (λ (ne : trailing_zeros w64 n ≡ p → ⊥). let a = bit_at-pow_other p (trailing_zeros w64 n) ne in let b = z.1 in absurd (let q : 0 ≡ 1 = sym a ∙ b in omega arith))
     (cases_eq (trailing_zeros w64 n) p)
@@ -70,7 +69,6 @@ module _ (s : Shape) (cells : ℕ → ℕ) (g : Global Machine) (obj : ℕ → O
 
   pub block_word : (b k : ℕ) → heap.size b ≢ 0 → ((obj b).live ≡ true → ⊥) → InBlock (arena s) heap b k → IsApart s obj cells k
   block_word b k nz dead i =
-      let w = h.kept.blocks.within b nz in
       let ne : (o : ℕ) → (obj o).live ≡ true → o ≢ b = λ o l e. dead (subst (λ o. (obj o).live ≡ true) e l) in
       record {
         cell = λ o j l lt e. ⊎_elim

@@ -4,11 +4,7 @@ use Rattle.sharc_tree.specs.declared.trap.Trap.TheVariants as traps
 
 pub held_gate : (c : Cell) (y : Gate) → LessGate (Holds c) y → (y ≡ Closed) ⊎ (y ≡ Holds c)
 held_gate c Closed h = inl refl
-held_gate c (Checked a d) h = inr h
-held_gate c (Holds d) h = inr h
-held_gate c (Loaded d) h = inr h
-held_gate c (HoldsLoaded d) h = inr h
-held_gate c (SoleGate r d) h = inr h
+held_gate c _ h = inr h
 
 module _ (x : Targets) (code : Code) (s : Shape) (ls : Labels) (wt : IsWellTyped x code ls) (fits : Fits code s) (g : Global Machine) (world : World) (st : State x code s ls g world) (tr : Turn) (may : MayTurn bounds (one_thread code s) g tr) where
   abbrev m : Machine
@@ -50,9 +46,7 @@ module _ (x : Targets) (code : Code) (s : Shape) (ls : Labels) (wt : IsWellTyped
 
         same_held : (c : Cell) → is_held (g.threads tr.thread) (word s (g.threads tr.thread) c) ≡ true → is_held (goes (g.threads tr.thread)) (word s (goes (g.threads tr.thread)) c) ≡ true
         same_held (Cell.Global a p) h = h
-        same_held (Cell.GlobalAt a p) h = h
-        same_held (Cell.Object a p) h = h
-        same_held (Cell.ObjectAt a p) h = h
+        same_held _ h = h
 
         below_goes : FramesStand x code ls tr.thread (view_of st.elements world tr.thread (g.threads tr.thread)) (goes (g.threads tr.thread)) here.function
         below_goes = elim here.function as (λ f. FramesStand x code ls tr.thread (view_of st.elements world tr.thread (g.threads tr.thread)) (g.threads tr.thread) f → FramesStand x code ls tr.thread (view_of st.elements world tr.thread (g.threads tr.thread)) (goes (g.threads tr.thread)) f) [ None ↦ λ h. h | Some f ↦ λ h. h ]
@@ -66,9 +60,7 @@ module _ (x : Targets) (code : Code) (s : Shape) (ls : Labels) (wt : IsWellTyped
   pub Lock_check_keeps : (c : Cell) (site : ℕ) → instr_at code (g.threads tr.thread).at.pc ≡ Instr.ChkLock c site → Done
   Lock_check_keeps c site is = let i = Instr.ChkLock c site in let f = fine x code s ls wt g world st tr.thread may.started may.next.runs i is refl in
       let names = (runs x code s ls wt g world st t may.started may.next.runs i is refl).names in
-      let view = view_of st.elements world t m in
       let tp = top x code s ls wt g world st t may.started may.next.runs i is refl in
-      let e0 = of_turn x code s ls wt g world st tr may i is refl _ refl in
       elim (is_of_null m c) as (λ n. is_of_null m c ≡ n → turn code s m ≡ Local (lock_checked m n (word s m c) site) → Done) [
         | true ↦ λ n e. stops x code s ls wt g world st tr may i is refl (Trap traps.NullPointer site) e f.0
         | false ↦ λ n e. elim (is_held m (word s m c)) as (λ b. is_held m (word s m c) ≡ b → turn code s m ≡ Local (cond b (goes m) (stopped m (NoLock site (word s m c)))) → Done) [
@@ -76,22 +68,18 @@ module _ (x : Targets) (code : Code) (s : Shape) (ls : Labels) (wt : IsWellTyped
               (base_top c names n (λ r. reads x code s ls wt g world st tr may i is refl r) tp)
           | false ↦ λ b e. stops x code s ls wt g world st tr may i is refl (NoLock site (word s m c)) e f.0
         ] refl e
-      ] refl e0
+      ] refl (of_turn x code s ls wt g world st tr may i is refl _ refl)
     where
       base_leads : (c : Cell) → Leads ls ((g.threads tr.thread).at.pc + 1) (gated (knows_base here c) (Holds c)) → Leads ls ((g.threads tr.thread).at.pc + 1) (gated (knows_base here c) (Holds c))
       base_leads c h = h
 
       base_function : (c : Cell) → (knows_base here c).function ≡ here.function
       base_function (Cell.Global a p) = refl
-      base_function (Cell.GlobalAt a p) = refl
-      base_function (Cell.Object r p) = refl
-      base_function (Cell.ObjectAt r p) = refl
+      base_function _ = refl
 
       base_room : (c : Cell) → (knows_base here c).room ≡ here.room
       base_room (Cell.Global a p) = refl
-      base_room (Cell.GlobalAt a p) = refl
-      base_room (Cell.Object r p) = refl
-      base_room (Cell.ObjectAt r p) = refl
+      base_room _ = refl
 
       not_null : (r : ℕ) → (ref (g.threads tr.thread) r == 0) ≡ false → ref (g.threads tr.thread) r ≡ in_ref world (RegisterOf tr.thread ((g.threads tr.thread).at.refs + r)) → in_ref world (RegisterOf tr.thread ((g.threads tr.thread).at.refs + r)) ≢ 0
       not_null r n e z = let q : ref (g.threads tr.thread) r ≡ 0 = e ∙ z in let k : (ref (g.threads tr.thread) r == 0) ≡ true = ap (λ n. n == 0) q in cc
@@ -99,10 +87,9 @@ module _ (x : Targets) (code : Code) (s : Shape) (ls : Labels) (wt : IsWellTyped
       base_top : (c : Cell) (names : ℕ → ℤ) → is_of_null (g.threads tr.thread) c ≡ false → ((r : ℕ) → ref (g.threads tr.thread) r ≡ in_ref world (RegisterOf tr.thread ((g.threads tr.thread).at.refs + r)))
           → TopStands x tr.thread (view_of st.elements world tr.thread (g.threads tr.thread)) (g.threads tr.thread).at.refs (g.threads tr.thread).at.ints names here
           → TopStands x tr.thread (view_of st.elements world tr.thread (g.threads tr.thread)) (g.threads tr.thread).at.refs (g.threads tr.thread).at.ints names (knows_base here c)
-      base_top (Cell.Global a p) names n rd tp = tp
-      base_top (Cell.GlobalAt a p) names n rd tp = tp
       base_top (Cell.Object r p) names n rd tp = knows_top x tr.thread (view_of st.elements world tr.thread (g.threads tr.thread)) (g.threads tr.thread).at.refs (g.threads tr.thread).at.ints names here r (not_null r n (rd r)) tp
       base_top (Cell.ObjectAt r p) names n rd tp = knows_top x tr.thread (view_of st.elements world tr.thread (g.threads tr.thread)) (g.threads tr.thread).at.refs (g.threads tr.thread).at.ints names here r (not_null r n (rd r)) tp
+      base_top _ names n rd tp = tp
 
   -- a stop where a reference was loaded: the window stays as it is
   module _ (i : Instr) (is : instr_at code (g.threads tr.thread).at.pc ≡ i) (single : is_single i ≡ true) where
@@ -139,9 +126,7 @@ module _ (x : Targets) (code : Code) (s : Shape) (ls : Labels) (wt : IsWellTyped
         still : (c : Cell) → world.win tr.thread ≡ IsLoaded (base_of_cell (g.threads tr.thread) c) (number_in (g.threads tr.thread) c) (g.threads tr.thread).pending
             → world.win tr.thread ≡ IsLoaded (base_of_cell (stopped (g.threads tr.thread) why) c) (number_in (stopped (g.threads tr.thread) why) c) (g.threads tr.thread).pending
         still (Cell.Global a p) h = h
-        still (Cell.GlobalAt a p) h = h
-        still (Cell.Object r p) h = h
-        still (Cell.ObjectAt r p) h = h
+        still _ h = h
 
   pub Lock_check_loaded_keeps : (site : ℕ) → instr_at code (g.threads tr.thread).at.pc ≡ Instr.ChkLockLoaded site → Done
   Lock_check_loaded_keeps site is =
@@ -154,7 +139,6 @@ module _ (x : Targets) (code : Code) (s : Shape) (ls : Labels) (wt : IsWellTyped
       let mutex = cell_word s (cell_of m.pending 0) in
       let gate' : world.win t ≡ IsLoaded (base_of_cell m c) (number_in m c) m.pending = subst (GateStands s world t m) f.2 (gate x code s ls wt g world st t may.started may.next.runs i is refl) in
       let alone : (r : ℕ) → world.win t ≡ Window.Sole r → ⊥ = λ r q. let z : IsLoaded (base_of_cell m c) (number_in m c) m.pending ≡ Window.Sole r = sym gate' ∙ q in cc in
-      let e0 = of_turn x code s ls wt g world st tr may i is refl _ refl in
       let new = (ls.at (m.at.pc + 1)).gate in
       let m' = goes m in
       let done_with : turn code s m ≡ Local m' → (win : Window) → WinOk (lang_of x) world t win → GateStands s (set_win world t win) t m' new → Done = λ e win ok gt. (
@@ -171,7 +155,7 @@ module _ (x : Targets) (code : Code) (s : Shape) (ls : Labels) (wt : IsWellTyped
               (same_window c, (λ z. let k : (m.pending == 0) ≡ true = ap (λ n. n == 0) z in cc), b))
           | false ↦ λ b e. stop_loaded i is refl (NoLock site mutex) c f.2 gate' e
         ] refl e
-      ] refl e0
+      ] refl (of_turn x code s ls wt g world st tr may i is refl _ refl)
     where
       below_plain : FramesStand x code ls tr.thread (view_of st.elements world tr.thread (g.threads tr.thread)) (goes (g.threads tr.thread)) here.function
       below_plain = elim here.function as (λ f. FramesStand x code ls tr.thread (view_of st.elements world tr.thread (g.threads tr.thread)) (g.threads tr.thread) f → FramesStand x code ls tr.thread (view_of st.elements world tr.thread (g.threads tr.thread)) (goes (g.threads tr.thread)) f) [ None ↦ λ h. h | Some f ↦ λ h. h ]
@@ -180,6 +164,4 @@ module _ (x : Targets) (code : Code) (s : Shape) (ls : Labels) (wt : IsWellTyped
       same_window : (c : Cell) → (set_win world tr.thread (IsLoaded (base_of_cell (g.threads tr.thread) c) (number_in (g.threads tr.thread) c) (g.threads tr.thread).pending)).win tr.thread
           ≡ IsLoaded (base_of_cell (goes (g.threads tr.thread)) c) (number_in (goes (g.threads tr.thread)) c) (g.threads tr.thread).pending
       same_window (Cell.Global a b) = put_same world.win t (IsLoaded (base_of_cell m (Cell.Global a b)) (number_in m (Cell.Global a b)) m.pending)
-      same_window (Cell.GlobalAt a b) = put_same world.win t (IsLoaded (base_of_cell m (Cell.GlobalAt a b)) (number_in m (Cell.GlobalAt a b)) m.pending)
-      same_window (Cell.Object a b) = put_same world.win t (IsLoaded (base_of_cell m (Cell.Object a b)) (number_in m (Cell.Object a b)) m.pending)
-      same_window (Cell.ObjectAt a b) = put_same world.win t (IsLoaded (base_of_cell m (Cell.ObjectAt a b)) (number_in m (Cell.ObjectAt a b)) m.pending)
+      same_window k = put_same world.win t (IsLoaded (base_of_cell m k) (number_in m k) m.pending)

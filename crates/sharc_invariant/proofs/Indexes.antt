@@ -26,15 +26,11 @@ module _ (x : Targets) (t : ℕ) (v : View) (base ints : ℕ) (names : ℕ → �
   names_of (Exactly z) (Nth k) h st = record { names = names; top = tp; stands = let q : pos n ≡ pos k = st ∙ h in cc }
   names_of (Exactly z) (Named name) h st = fresh_names name h
   names_of (Indexes m) (Named name) h st = record { names = names; top = tp; stands = ap names h ∙ sym st }
-  names_of (Indexes m) (Nth k) h st = absurd h
   names_of Anything (Named name) h st = fresh_names name h
-  names_of Anything (Nth k) h st = absurd h
   names_of (Within w) (Named name) h st = fresh_names name h
-  names_of (Within w) (Nth k) h st = absurd h
   names_of (OfElement b f d) (Named name) h st = fresh_names name h
-  names_of (OfElement b f d) (Nth k) h st = absurd h
   names_of (OfGlobal a b c d) (Named name) h st = fresh_names name h
-  names_of (OfGlobal a b c d) (Nth k) h st = absurd h
+  names_of _ (Nth k) h st = absurd h
 
 -- the number of a field
 field_number : (n count field : ℕ) → n * count + field < 2 ^ 63 → int_of (field_of n count field) ≡ pos (n * count + field)
@@ -101,8 +97,7 @@ module _ (x : Targets) (code : Code) (s : Shape) (ls : Labels) (wt : IsWellTyped
   Global_bounds_keeps r elements count field site is =
       let i = Instr.GlobalBounds r elements count field site in
       let f = fine x code s ls wt g world st t may.started may.next.runs i is refl in
-      let d = f.3.0 in
-      indexed_keeps i is refl r count field site elements (OfGlobal field count elements) d f.0 f.1 f.3.1 f.3.2
+      indexed_keeps i is refl r count field site elements (OfGlobal field count elements) f.3.0 f.0 f.1 f.3.1 f.3.2
       (λ n lt names q. let le = times_le n elements count lt in let h = f.2 in (n, lt, field_number n count field (omega arith) ∙ ap pos (omega arith), q))
       (int m r) refl (local_turn code s g tr may (indexed m r (int m r) count field site elements) (ap (λ i. Rattle.sharc_code.specs.Machine.act code s i m) is))
 

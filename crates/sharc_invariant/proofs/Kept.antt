@@ -73,13 +73,10 @@ module _ (x : Targets) (code : Code) (s : Shape) (ls : Labels) (wt : IsWellTyped
   one (Instr.Lock c site) is k o = Lock_keeps x code s ls wt fits g world st tr may c site is
   one (Instr.Unlock r c site) is k o = Unlock_keeps x code s ls wt fits g world st tr may r c site is
   one (Instr.Clear r n) is k o = Clear_keeps x code s ls wt laws g world st tr may r n is
-  one (Instr.Give r site) is k o = absurd (cc)
   one (Instr.Start site) is k o = Start_keeps x code s ls wt fits g world st tr may site is
   one (Instr.Spawn r f (Register.Int i) site) is k o = Spawn_number_keeps x code s ls wt fits few g world st tr may r f i site is
   one (Instr.Spawn r f (Register.Reference q) site) is k o = Spawn_reference_keeps x code s ls wt fits few g world st tr may r f q site is
-  one (Instr.New r count cells site) is k o = absurd (cc)
-  one (Instr.Free r layout site) is k o = absurd (cc)
-  one Instr.Exit is k o = absurd (cc)
+  one _ is k o = absurd (cc)
 
   -- with what becomes of the objects
   abbrev Done : Type 0

@@ -218,8 +218,7 @@ module _ (x : Targets) (code : Code) (s : Shape) (ls : Labels) (wt : IsWellTyped
   same_regs : (i : ℕ) → register_of code m' i ≡ register_of code (g.threads tr.thread) i
   same_regs i =
       let old_is : register_of code m i ≡ cond (i == base + r) 0 (slice_index m.refs i) = ap (λ ins. cond (is_freed ins m.own.stage base i) 0 (slice_index m.refs i)) is ∙ ap (λ y. cond (is_freed (Instr.Free r layout site) y base i) 0 (slice_index m.refs i)) at_stage_is in
-      let new_is : register_of code m' i ≡ slice_index (slice_set m.refs k 0) i = no_freed (instr_at code (m.at.pc + 1)) i in
-      new_is ∙ ⊎_elim
+      (no_freed (instr_at code (m.at.pc + 1)) i) ∙ ⊎_elim
       (λ (e : i ≡ k). ap (slice_index (slice_set m.refs k 0)) e ∙ set_zero m.refs k ∙ sym (ap (λ c. cond c 0 (slice_index m.refs i)) (ap (λ i. i == k) e ∙ eq_refl k)))
       (λ (ne : i ≡ k → ⊥). get_or-set_other m.refs k i 0 0 ne ∙ sym (ap (λ c. cond c 0 (slice_index m.refs i)) (ne_eq i k ne)))
       (cases_eq i k) ∙ sym old_is

@@ -105,7 +105,6 @@ module _ (a : Arena) (h : Heap) (k : Kept a h) where
       let was : (p u d : ℕ) → state' p ≡ Listed u d → (h.state p ≡ Listed u d) × (size' p ≡ h.size p) = λ p u d. put_all (λ p y. y ≡ Listed u d → (h.state p ≡ Listed u d) × (size' p ≡ h.size p)) h.state b x (λ e. absurd (cc)) (λ p ne e. (e, put_other h.size b p s ne)) p in
       let keeps : (u r d q : ℕ) → Begins h.size h.state u r d q → Begins size' state' u r d q = λ u r d q.
       begins_move h.size size' h.state state' u r d q (λ e z. let ne = not_top q (has_size q u d e) in (put_other h.state b q x ne ∙ e, put_other h.size b q s ne ∙ z)) in
-      let lo = k.blocks.low in
       record {
         blocks = record {
           some = k.blocks.some;

@@ -27,12 +27,11 @@ module _ (x : Targets) (code : Code) (s : Shape) (ls : Labels) (wt : IsWellTyped
   known_top r some = knows_top x t view m.at.refs m.at.ints rn.names here r (some_ref r some) top
 
   pub located : (c : Cell) (f : Field) → HasField x code here c f → is_of_null (g.threads t) c ≡ false → IsThere x s st.cells world t (g.threads t) c f
-  located (Cell.Global h p) f field some = cell_there x code s ls wt fits g world st t m rn.names here top reads (Cell.Global h p) f record { field = field; base = tt }
-  located (Cell.GlobalAt h i) f field some = cell_there x code s ls wt fits g world st t m rn.names here top reads (Cell.GlobalAt h i) f record { field = field; base = tt }
   located (Cell.Object r i) f field some =
       cell_there x code s ls wt fits g world st t m rn.names (knows here r) (known_top r some) reads (Cell.Object r i) f record { field = field; base = put_same here.known r true }
   located (Cell.ObjectAt r i) f field some =
       cell_there x code s ls wt fits g world st t m rn.names (knows here r) (known_top r some) reads (Cell.ObjectAt r i) f record { field = field; base = put_same here.known r true }
+  located k f field some = cell_there x code s ls wt fits g world st t m rn.names here top reads k f record { field = field; base = tt }
 
   gate_now : GateStands s world t (g.threads t) here.gate
   gate_now = subst (λ (l : Label). GateStands s world t m l.gate) (label_held here (instr_at code m.at.pc) m.own.stage hold) rn.gate

@@ -13,9 +13,7 @@ room_top x t v base ints names l b tp n k = let h = tp n k in record { env = h.e
 
 same_object : (m : Machine) (c : Cell) → object m c ≡ object_of_cell m c
 same_object m (Cell.Global a p) = refl
-same_object m (Cell.GlobalAt a p) = refl
-same_object m (Cell.Object a p) = refl
-same_object m (Cell.ObjectAt a p) = refl
+same_object m _ = refl
 
 module _ (x : Targets) (code : Code) (s : Shape) (ls : Labels) (wt : IsWellTyped x code ls) (fits : Fits code s) (g : Global Machine) (world : World) (st : State x code s ls g world) (tr : Turn)
     (may : MayTurn bounds (one_thread code s) g tr) (i : Instr) (is : instr_at code (g.threads tr.thread).at.pc ≡ i) (single : is_single i ≡ true) where
@@ -103,13 +101,12 @@ module _ (x : Targets) (code : Code) (s : Shape) (ls : Labels) (wt : IsWellTyped
       } in
       let nt : (kind : Kind) → put (λ u. noted_by (g.threads u) kind) t (noted_by m' kind) ≡ (λ u. noted_by (g.threads u) kind) = λ kind.
       fun_ext (put_self (λ u. noted_by (g.threads u) kind) t (noted_by m' kind) (fun_ext (noted_same m m' refl rest rest (going x code s ls wt g world st t on go i is single) refl kind))) in
-      let nr = nt Read in
       let nw = nt Write in
       let c1 = record (conc_of code g) { regs = put R t (register_of code m'); logs = put L t (logged m') } in
       let sim1 : Shows x s st.cells st.elements (record c1 { words = put (λ n. slice_index g.words n) k v }) w' = mutex_stored x s st.cells st.elements c1 (with_slots f) sim st.apart o j v lo lj mx in
       let sim2 : Shows x s st.cells st.elements (record c1 { words = λ n. slice_index words n }) w' = subst (λ h. Shows x s st.cells st.elements (record c1 { words = h }) w') (sym (fun_ext (index_put g.words k v lt))) sim1 in
       let ce : record (made_conc code (conc_of code g) t words m') { logs = put L t (logged m') } ≡ record c1 { words = λ n. slice_index words n } =
-      λ i. record c1 { words = λ n. slice_index words n; read_notes = nr i; write_notes = nw i } in
+      λ i. record c1 { words = λ n. slice_index words n; read_notes = (nt Read) i; write_notes = nw i } in
       let locks = locks_changed x s st.cells st.elements (conc_of code g) world g st.sim st.apart st.locks t o j v lo lj mx words m' f ch in
       let other : (u q : ℕ) → world.win u ≡ Sole q → u ≡ t → ⊥ = λ u q e z. let y : Shut ≡ Sole q = sym shut ∙ ap world.win (sym z) ∙ e in cc in (
         w',
@@ -322,19 +319,17 @@ module _ (x : Targets) (code : Code) (s : Shape) (ls : Labels) (wt : IsWellTyped
       (zero_now : world.mutex o j ≡ 0) (free_word : object_of (g.threads tr.thread).own.held (cell_at s o j) ≡ None) (room_now : length (g.threads tr.thread).own.held < 16) → o ≡ object_of_cell (g.threads tr.thread) c
       → after ≡ made_turn g tr.thread (slice_set g.words (cell_at s o j) (suc tr.thread)) (goes (record (without_base (g.threads tr.thread) c) { own = record (g.threads tr.thread).own { held = (g.threads tr.thread).own.held ++ record { word = cell_at s o j; object = o } ∷ [] } }))
       → (fld : Field) → HasCell x code here c fld → IsBaseFree here c → here.gate ≡ Closed → Leads ls ((g.threads tr.thread).at.pc + 1) (record (without_base_of here c) { room = false }) → Turned x code s ls g world tr
-  lock_cell (Cell.Global a p) o j lo lj mx shut lt z n r eo e fld h free gt leads = lock_global o j lo lj mx shut lt z n r eo e gt leads
-  lock_cell (Cell.GlobalAt a p) o j lo lj mx shut lt z n r eo e fld h free gt leads = lock_global o j lo lj mx shut lt z n r eo e gt leads
   lock_cell (Cell.Object b p) o j lo lj mx shut lt z n r eo e fld h free gt leads = lock_object o j lo lj mx shut lt z n r b eo e h.field.0 free leads
   lock_cell (Cell.ObjectAt b p) o j lo lj mx shut lt z n r eo e fld h free gt leads = lock_object o j lo lj mx shut lt z n r b eo e h.field.0 free leads
+  lock_cell _ o j lo lj mx shut lt z n r eo e fld h free gt leads = lock_global o j lo lj mx shut lt z n r eo e gt leads
 
   unlock_cell : (c : Cell) (o j : ℕ) (lo : (world.obj o).live ≡ true) (lj : j < st.cells o) (mx : is_mutex (field_in x (world.obj o).ty j).holds ≡ true) (shut : world.win tr.thread ≡ Shut) (lt : cell_at s o j < length g.words)
       (is_mine : world.mutex o j ≡ suc tr.thread) (in_log : object_of (g.threads tr.thread).own.held (cell_at s o j) ≡ Some o) → o ≡ object_of_cell (g.threads tr.thread) c
       → (r : ℕ) → after ≡ made_turn g tr.thread (slice_set g.words (cell_at s o j) 0) (moved (slice_set (g.threads tr.thread).refs (base + r) o) (without (g.threads tr.thread).own.held (cell_at s o j)))
       → (fld : Field) → HasCell x code here c fld → IsVacant code here r → Leads ls ((g.threads tr.thread).at.pc + 1) (unlocked_label here r c) → Turned x code s ls g world tr
-  unlock_cell (Cell.Global a p) o j lo lj mx shut lt mu n eo r e fld h vacant leads = unlock_global o j lo lj mx shut lt mu n eo r e vacant leads
-  unlock_cell (Cell.GlobalAt a p) o j lo lj mx shut lt mu n eo r e fld h vacant leads = unlock_global o j lo lj mx shut lt mu n eo r e vacant leads
   unlock_cell (Cell.Object b p) o j lo lj mx shut lt mu n eo r e fld h vacant leads = unlock_object o j lo lj mx shut lt mu n b eo h.base r e vacant leads
   unlock_cell (Cell.ObjectAt b p) o j lo lj mx shut lt mu n eo r e fld h vacant leads = unlock_object o j lo lj mx shut lt mu n b eo h.base r e vacant leads
+  unlock_cell _ o j lo lj mx shut lt mu n eo r e fld h vacant leads = unlock_global o j lo lj mx shut lt mu n eo r e vacant leads
 
 module _ (x : Targets) (code : Code) (s : Shape) (ls : Labels) (wt : IsWellTyped x code ls) (fits : Fits code s) (g : Global Machine) (world : World) (st : State x code s ls g world) (tr : Turn)
     (may : MayTurn bounds (one_thread code s) g tr) where

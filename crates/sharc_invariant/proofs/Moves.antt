@@ -99,7 +99,6 @@ module _ (x : Targets) (code : Code) (s : Shape) (ls : Labels) (wt : IsWellTyped
       let rest = rests x code s ls wt g world st t on go i is single in
       let rn = runs x code s ls wt g world st t on go i is single in
       let shut = is_shut x code s ls wt g world st t on go i is single gt in
-      let fnc : (ls.at (m.at.pc + 1)).function ≡ here.function = leads.function in
       let lt_f = inside x code s ls wt g world st t on go i is single from isf in
       let lt_r = inside x code s ls wt g world st t on go i is single r vacant.is in
       let lt_r1 : kr < length m1.refs = subst (λ n. kr < n) (sym (length-set m.refs kf 0)) lt_r in
@@ -115,7 +114,7 @@ module _ (x : Targets) (code : Code) (s : Shape) (ls : Labels) (wt : IsWellTyped
         ints = refl;
         frames = refl;
         begun_before = begun_before x code s ls wt g world st t on go i is single;
-        begun = not_begun x code s ls wt g world st t on go i is single (m.at.pc + 1) fnc;
+        begun = not_begun x code s ls wt g world st t on go i is single (m.at.pc + 1) leads.function;
         ended_before = going x code s ls wt g world st t on go i is single;
         ended = refl;
       } in

@@ -3,9 +3,7 @@ use Rattle.sharc_invariant.proofs.{Imports.{◌≡◌, ℕ, suc, ◌+◌, ◌<�
 
 mutex_fits : (h : Content) (v : ℕ) → is_mutex h ≡ true → FitsContent h v
 mutex_fits (Integer w) v e = absurd (cc)
-mutex_fits MutexWord v e = tt
-mutex_fits Waiters v e = tt
-mutex_fits (Pointer f) v e = tt
+mutex_fits _ v e = tt
 
 -- ---- what words and logs show
 module _ (x : Targets) (s : Shape) (cells elements : ℕ → ℕ) (c : MachineView) (w : World) (sim : Shows x s cells elements c w) (lie : Apart s w.obj cells) where
@@ -80,7 +78,6 @@ pub locks_changed : (x : Targets) (s : Shape) (cells elements : ℕ → ℕ) (c 
     → (w.obj o).live ≡ true → j < cells o → is_mutex (field_in x (w.obj o).ty j).holds ≡ true → (words : List ℕ) (m' : Machine) (f : Slot → TypedReference) → Changes x s cells w t o j v (g.threads t).own.held m'.own.held
     → Locks x s cells (record w { slots = f; mutex = put2 w.mutex o j v }) (made_turn g t words m')
 locks_changed x s cells elements c w g sim lie locks t o j v lo lj mx words m' f ch =
-    let k = cell_at s o j in
     let Q : ℕ → ℕ → ℕ → List HeldMutex → Type 0 = λ p q u hd. (put2 w.mutex o j v p q ≡ suc u) ↔ (is_some (object_of hd (cell_at s p q)) ≡ true) in
     record {
       held = λ u p q lt lp lq mq. put_all (λ u (y : Machine). u < THREADS → Q p q u y.own.held) g.threads t m'

@@ -1,5 +1,5 @@
 -- The turns of a New before its last: from the thread's own list, or from the top.
-use Rattle.sharc_invariant.proofs.{Imports.{◌≡◌, ℕ, zero, suc, ◌+◌, ◌*◌, ◌^◌, ◌<◌, ◌≤◌, ◌≢◌, Bool, true, false, cond, List, None, Some, refl, sym, ap, ◌∙◌, subst, ⊎_elim, arith, ltb-true, cases_eq, cases_lt, eqb-true, eqb-false, nat_tests, set-get_or, get_or_past, length-set, pow_mono, fun_ext, length, slice_index, slice_set, nat_lt, nat_le, nat_eq, ◌==◌, THREADS, Load, Swap, Cas, NewLaws, block_of, NewView, told, turn_of, turn_of_stage, next_stage, next_head, try_from, after_cell, word_number, granule_number, top_number, NewArguments, Do, NewStage, Code, Shape, RunsOn, Stopped, Trap, Stage, Rests, Makes, Fits as FitsShape, granules, granule_at, top_word, first_cell, Machine, instr_at, int, elements_of, all_cells, size_of, new_state, new, asks_new, after_new, goes_on_new, at_stage, trapped, turn, Turn, Global, put, MayTurn, after_turn, one_thread, bounds, Instr, put_same, put_other, put_all, Targets, Labels, IsWellTyped, World, put2, Heap, Kept, Built, Live, Listed, InBlock, popped, carved, conc_of, Shows, head_of, head_with, making_of, length_at, made_turn, KeepsOthers, Silently, State, BuildsAt, HeapStands, Turned, ne_eq, eq_refl, not_less as not_lt, le_true}, Listed.{pop_ok, carve_ok, store_ok, below_blocks, put2_same, put2_other}, Quiet.heap_now, Changes.KeepsLower, Turns.{asks_turn, room_of}, Stores.{index_put, arena}, Heaps.{size_power, same_power, apart_stored, built_size, listed_size, low_block}, Builds.{IsMaking, builds_state, own_state, own_off, own_at}, Others.loses}
+use Rattle.sharc_invariant.proofs.{Imports.{◌≡◌, ℕ, zero, suc, ◌+◌, ◌*◌, ◌^◌, ◌<◌, ◌≤◌, ◌≢◌, Bool, true, false, cond, List, None, Some, refl, sym, ap, ◌∙◌, subst, ⊎_elim, arith, ltb-true, cases_eq, cases_lt, eqb-true, eqb-false, nat_tests, set-get_or, get_or_past, length-set, pow_mono, fun_ext, length, slice_index, slice_set, nat_lt, nat_le, nat_eq, ◌==◌, THREADS, Load, Swap, Cas, NewLaws, block_of, NewView, told, turn_of, turn_of_stage, next_stage, next_head, try_from, after_cell, word_number, granule_number, top_number, NewArguments, Do, NewStage, Code, Shape, RunsOn, Stopped, Trap, Stage, Rests, Makes, Fits as FitsShape, granules, granule_at, top_word, first_cell, Machine, instr_at, int, elements_of, all_cells, size_of, new_state, new, asks_new, after_new, goes_on_new, at_stage, trapped, turn, Turn, Global, put, MayTurn, after_turn, one_thread, bounds, Instr, put_same, put_other, put_all, Targets, Labels, IsWellTyped, World, put2, Heap, Kept, Built, Live, Listed, InBlock, popped, carved, conc_of, Shows, head_of, head_with, making_of, length_at, made_turn, KeepsOthers, Silently, State, BuildsAt, HeapStands, Turned, ne_eq, eq_refl, not_less as not_lt, le_true}, Listed.{pop_ok, carve_ok, store_ok, below_blocks, put2_same, put2_other}, Quiet.heap_now, Changes.KeepsLower, Turns.{asks_turn, room_of}, Stores.{index_put, arena}, Heaps.{size_power, same_power, apart_stored, built_size, listed_size, low_block}, Builds.{IsMaking, builds_state, own_state, own_off, own_at}, Others.loses, BitTurns.{in_low as granule_here}, Empties.{none_below as nothing}}
 use Rattle.sharc_tree.specs.declared.trap.Trap.TheVariants as traps
 use Rattle.sharc_heap.specs.Asks.{step_of, cell_word, count_word, length_word}
 
@@ -13,11 +13,10 @@ pub block_power : NewLaws → (c : ℕ) → 1 ≤ c → c ≤ 2 ^ 32 → (n : �
 block_power laws c lo hi =
     let b = laws.block c hi in
     let p = b.power.0 in
-    let is : block_of c ≡ 2 ^ p = b.power.1 in
     let room = b.room in
     let most = b.least 32 (omega arith) in
     let low : p < 33 = ⊎_elim (λ (l : p < 33). l) (λ (le : 33 ≤ p). let z = pow_mono {i = 33} {j = p} le in absurd (omega arith)) (cases_lt p 33) in
-    from p is (omega arith) low (omega arith)
+    from p b.power.1 (omega arith) low (omega arith)
   where
     from : (p : ℕ) → block_of c ≡ 2 ^ p → 2 ≤ block_of c → p < 33 → 2 + c ≤ 2 * block_of c → (n : ℕ) × IsBlockOf c n
     from zero is some low room = absurd (omega arith)
@@ -44,9 +43,6 @@ word_in a place lt = let e : nat_lt place (a.first + 2 * a.end) ≡ true = grind
 
 pub granule_in : (a : NewArguments) (n : ℕ) → n < a.end → granule_number a n ≡ n
 granule_in a n lt = let e : nat_lt n a.end ≡ true = grind (arith, nat_tests) in rw e refl
-
-pub granule_here : (s : Shape) (n : ℕ) → n < granules s → granule_at s n ≡ n
-granule_here s n lt = let e : nat_lt n (granules s) ≡ true = grind (arith, nat_tests) in rw e refl
 
 module _ (x : Targets) (code : Code) (s : Shape) (ls : Labels) (wt : IsWellTyped x code ls) (fits : FitsShape code s) (laws : NewLaws) (g : Global Machine) (world : World) (st : State x code s ls g world) (tr : Turn)
     (may : MayTurn bounds (one_thread code s) g tr) (r count cells site : ℕ) (is : instr_at code (g.threads tr.thread).at.pc ≡ Instr.New r count cells site) (making : IsMaking (g.threads tr.thread).own.stage) where
@@ -171,7 +167,6 @@ module _ (x : Targets) (code : Code) (s : Shape) (ls : Labels) (wt : IsWellTyped
       let v = told (first_view true) found in
       let d0 = asks_turn code s g tr may (step_of top_number Load) (λ found. goes_on_new m r site (told (first_view true) found)) (first_turn rest true e) in
       let d : after ≡ made_turn g t g.words (after_new m r site v (turn_of v)) = d0.0 ∙ ap (λ ws. made_turn g t ws (after_new m r site v (turn_of v))) (set-get_or g.words top_word 0) in
-      let z : a0.head ≡ 0 = eqb-true a0.head 0 e in
       let none' : making_of m.own.stage ≡ None = ap making_of rest in
       let heads : (k : ℕ) → k < 16 → head_with (Some v) m.own.heads k ≡ head_of m k = λ k lk.
       sym (elim (k == size_of B) as (λ b. (k == size_of B) ≡ b → head_of m k ≡ cond b a0.head (slice_index m.own.heads k)) [
@@ -275,9 +270,6 @@ module _ (x : Targets) (code : Code) (s : Shape) (ls : Labels) (wt : IsWellTyped
     where
       under : {a b c d : ℕ} → b ≢ 0 → a + b ≤ c → a ≡ d → d < c
       under ne le e = omega arith
-
-      nothing : (i : ℕ) → i < 0 → ⊥
-      nothing i lt = omega arith
 
       linked : (q : ℕ) → st.heap.size q ≡ B → q < granules s
       linked q e =

@@ -6,9 +6,7 @@ pub zero_fits : (h : Content) → FitsContent h 0
 zero_fits (Integer Char) = refl
 zero_fits (Integer Int) = refl
 zero_fits (Integer Long) = refl
-zero_fits MutexWord = tt
-zero_fits Waiters = tt
-zero_fits (Pointer f) = tt
+zero_fits _ = tt
 
 -- the block is the one for the cells
 pub block_is : (c : ℕ) → 1 ≤ c → c ≤ 2 ^ 32 → block_for c ≡ block_of c

@@ -39,30 +39,23 @@ nth_blank {A} n i v = ⊎_elim (λ (lt : i < n). get_or-replicate n i v v lt) (�
 
 initial_fits : (h : Content) (v : ℕ) → Initial h v → FitsContent h v
 initial_fits (Integer w) v e = e
-initial_fits MutexWord v e = tt
-initial_fits Waiters v e = tt
-initial_fits (Pointer f) v e = tt
+initial_fits _ v e = tt
 
 initial_null : (h : Content) (v : ℕ) → is_pointer h ≡ true → Initial h v → v ≡ 0
 initial_null (Integer w) v p e = absurd (cc)
-initial_null MutexWord v p e = e
-initial_null Waiters v p e = e
-initial_null (Pointer f) v p e = e
+initial_null _ v p e = e
 
 initial_free : (h : Content) (v : ℕ) → is_mutex h ≡ true → Initial h v → v ≡ 0
 initial_free (Integer w) v p e = absurd (cc)
-initial_free MutexWord v p e = e
-initial_free Waiters v p e = e
-initial_free (Pointer f) v p e = e
+initial_free _ v p e = e
 
 pub no_passes : (ps : List Pass) (p : Pass) → ps ≡ [] → IsIn p ps → ⊥
 no_passes [] p e h = h
 no_passes (q ∷ ps) p e h = absurd (cc)
 
 reference_zero : (p : Parameter) → if_reference p 0 ≡ 0
-reference_zero Parameter.None = refl
 reference_zero Parameter.Int = refl
-reference_zero Parameter.Reference = refl
+reference_zero _ = refl
 
 note_zero : (n g : ℕ) (kind : Kind) → note_number (note_of (record { notes = replicate n blank; order = [] }) g kind) ≡ 0
 note_zero n g Read = ap (λ (r : GranuleNotes). note_number r.read) (nth_blank n g blank)
@@ -165,9 +158,8 @@ module _ (x : Targets) (code : Code) (s : Shape) (ls : Labels) (wt : IsWellTyped
   starts_zero : (t : ℕ) → is_started bounds words t ≡ true → t ≡ 0
   starts_zero t e = ⊎_elim (λ z. z) (λ (nz : t ≡ 0 → ⊥).
       let p = and_parts (nat_lt t THREADS) (nat_eq (slice_index words (state_word t)) 1) e in
-      let lt : t < THREADS = ltb-true t THREADS p.0 in
       let a : slice_index words (state_word t) ≡ 1 = eqb-true (slice_index words (state_word t)) 1 p.1 in
-      let b = state_word_is t lt nz in absurd (omega arith)) (cases_eq t 0)
+      let b = state_word_is t (ltb-true t THREADS p.0) nz in absurd (omega arith)) (cases_eq t 0)
 
   state_zero : slice_index words (state_word 0) ≡ 1
   state_zero = word_is code s 4 (omega arith)

@@ -8,21 +8,14 @@ loses {x} e = subst (OnlyLoses x) (sym e) (record { epoch = refl; passed = λ v 
 
 -- ---- a thread that has stopped
 pub stop_kept : (w w' : World) (u : ℕ) (m : Machine) (gate : Gate) → w'.win u ≡ w.win u → StopStands w u m gate → StopStands w' u m gate
-stop_kept w w' u m (Loaded c) e h = e ∙ h
-stop_kept w w' u m (HoldsLoaded c) e h = e ∙ h
-stop_kept w w' u m Closed e h = e ∙ h
-stop_kept w w' u m (Checked write c) e h = e ∙ h
 stop_kept w w' u m (Holds c) e h = e ∙ h
-stop_kept w w' u m (SoleGate r cleared) e h = e ∙ h
+stop_kept w w' u m _ e h = e ∙ h
 
 -- it stops where its window is shut, and so at a gate at which nothing was loaded
 pub stop_at : (s : Shape) (w : World) (t : ℕ) (m m' : Machine) (gate : Gate) → GateStands s w t m gate → w.win t ≡ Shut → StopStands w t m' gate
 stop_at s w t m m' (Loaded c) gate shut = absurd (let e : Shut ≡ IsLoaded (base_of_cell m c) (number_in m c) m.pending = sym shut ∙ gate in cc)
 stop_at s w t m m' (HoldsLoaded c) gate shut = absurd (let e : Shut ≡ IsLoaded (base_of_cell m c) (number_in m c) m.pending = sym shut ∙ gate.0 in cc)
-stop_at s w t m m' Closed gate shut = shut
-stop_at s w t m m' (Checked write c) gate shut = shut
-stop_at s w t m m' (Holds c) gate shut = shut
-stop_at s w t m m' (SoleGate r cleared) gate shut = shut
+stop_at s w t m m' _ gate shut = shut
 
 -- ---- an instruction of a kind
 -- the register whose object it walks over
@@ -75,13 +68,10 @@ module _ (code : Code) (s : Shape) (elements : ℕ → ℕ) (w w' : World) (heap
   built_words h j b lo hi = k.within u ne h b j (lo, hi)
 
   builds_kept : (v : NewView) (x : NewStage) → v.arguments.first ≡ first_cell s → BuildsAt words heap u v x → BuildsAt words' heap' u v x
-  builds_kept v NewStage.Begins e h = absurd h
-  builds_kept v NewStage.Link e h = absurd h
   builds_kept v (NewStage.Cell cell) e h =
       let b = k.built u ne v.arguments.head h.1 in
       let size = h.2 in
       (h.0, b.0, b.1 ∙ h.2, h.3, λ j lt. built_words v.arguments.head (v.arguments.first + 2 * v.arguments.head + 2 + j) h.1 (omega arith) (let r = h.0 in let c = h.3 in omega arith) ∙ h.4 j lt)
-  builds_kept v NewStage.Top e h = absurd h
   builds_kept v (NewStage.Move top moved) e h = h
   builds_kept v (NewStage.Count b) e h =
       let x = k.built u ne b h.1 in
@@ -92,8 +82,7 @@ module _ (code : Code) (s : Shape) (elements : ℕ → ℕ) (w w' : World) (heap
       let size = h.2 in
       let r = h.0 in
       (h.0, x.0, x.1 ∙ h.2, (λ j lt. built_words b (v.arguments.first + 2 * b + 2 + j) h.1 (omega arith) (omega arith) ∙ h.3 j lt), built_words b (v.arguments.first + 2 * b) h.1 (omega arith) (omega arith) ∙ h.4)
-  builds_kept v (NewStage.Made b) e h = absurd h
-  builds_kept v NewStage.Full e h = absurd h
+  builds_kept v _ e h = absurd h
 
   pub stage_kept : (x : Stage) → m.own.stage ≡ x → StageStands code s elements w heap words u m i x → StageStands code s elements w' heap' words' u m i x
   stage_kept Rests q = λ h. tt
@@ -110,7 +99,4 @@ module _ (code : Code) (s : Shape) (elements : ℕ → ℕ) (w w' : World) (heap
   stage_kept (Hands n) q = let sp = subst (λ y. SpawnsNow y n) (sym q) refl in map_spawn _ _ i (λ f from h. (reserved n sp h.0, (handed n sp h.0).0 ∙ h.1))
   stage_kept (Begins n) q = let sp = subst (λ y. SpawnsNow y n) (sym q) refl in map_spawn _ _ i (λ f from h. (reserved n sp h.0, (handed n sp h.0).0 ∙ h.1, (handed n sp h.0).1 ∙ h.2))
   stage_kept (Enters f) q = map_start _ _ i (λ h. own ∙ h)
-  stage_kept (Withdraws row) q = λ h. h
-  stage_kept (WithdrawsFrom row seen) q = λ h. h
-  stage_kept Leaves q = λ h. h
-  stage_kept (Wakes seen) q = λ h. h
+  stage_kept _ q = λ h. h

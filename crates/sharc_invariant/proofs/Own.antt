@@ -45,12 +45,6 @@ single_rests code s elements w heap words t m i Rests e h = refl
 single_rests code s elements w heap words t m i (Looks a b) e h = absurd (no_clear _ i e h)
 single_rests code s elements w heap words t m i (Clears a b c) e h = absurd (no_clear _ i e h)
 single_rests code s elements w heap words t m i (Makes v) e h = absurd (no_new _ i e h)
-single_rests code s elements w heap words t m i (Empties a b) e h = absurd (no_free _ i e h)
-single_rests code s elements w heap words t m i (Lowers a b c) e h = absurd (no_free _ i e h)
-single_rests code s elements w heap words t m i (FreeLooks a b) e h = absurd (no_free _ i e h)
-single_rests code s elements w heap words t m i (FreeClears a b c) e h = absurd (no_free _ i e h)
-single_rests code s elements w heap words t m i (Uncounts a) e h = absurd (no_free _ i e h)
-single_rests code s elements w heap words t m i (Links a) e h = absurd (no_free _ i e h)
 single_rests code s elements w heap words t m i (Names n) e h = absurd (no_spawn _ i e h)
 single_rests code s elements w heap words t m i (Hands n) e h = absurd (no_spawn _ i e h)
 single_rests code s elements w heap words t m i (Begins n) e h = absurd (no_spawn _ i e h)
@@ -59,6 +53,7 @@ single_rests code s elements w heap words t m i (Withdraws a) e h = absurd (no_e
 single_rests code s elements w heap words t m i (WithdrawsFrom a b) e h = absurd (no_exit _ i e h)
 single_rests code s elements w heap words t m i Leaves e h = absurd (no_exit _ i e h)
 single_rests code s elements w heap words t m i (Wakes a) e h = absurd (no_signal i e h)
+single_rests code s elements w heap words t m i _ e h = absurd (no_free _ i e h)
 
 -- ---- registers are within their banks
 most_ge : (f : Function → ℕ) (a : ℕ) (fs : List Function) → a ≤ fold (λ m g. max m (f g)) a fs

@@ -43,8 +43,7 @@ type_is_held x code s ls g w st t r on go rest told nz =
     let v : View = view_of st.elements w t m in
     let rn = (st.threads t).runs on go in
     let here : label_now (ls.at m.at.pc) (instr_at code m.at.pc) m.own.stage ≡ ls.at m.at.pc = label_held (ls.at m.at.pc) (instr_at code m.at.pc) m.own.stage (subst OnHold (sym rest) tt) in
-    let tp : TopStands x t v base m.at.ints rn.names (ls.at m.at.pc) = subst (TopStands x t v base m.at.ints rn.names) here rn.top in
-    let entry = (tp (suc r) 0).env r (omega arith) in
+    let entry = ((subst (TopStands x t v base m.at.ints rn.names) here rn.top) (suc r) 0).env r (omega arith) in
     let same : refs_at v base ≡ ref m = fun_ext (λ q. st.sim.regs t (base + q) ∙ register_plain code m rest (base + q)) in
     elim ((ls.at m.at.pc).env r) as (λ e. e ≢ Unknown → EntryStands (refs_at v base) (types_at v base) r e → (w.slots (In (RegisterOf t (base + r)))).ty ≡ entry_type (ref m) (ref m r) e) [
       | Empty ↦ λ _ k. absurd (nz k)

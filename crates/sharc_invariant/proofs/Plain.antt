@@ -74,11 +74,10 @@ module _ (x : Targets) (code : Code) (s : Shape) (ls : Labels) (wt : IsWellTyped
       → Runs x code s ls st.elements w' heap' g' t m'
   next_runs w' heap' g' m' names k rest fn gt less top' below' shut room' =
       let new = (ls.at m'.at.pc).gate in
-      let e : new ≡ Closed = closed_less new (subst (λ y. LessGate y new) gt less.gate) in
       runs_at x code s ls st.elements w' heap' g' t m' names rest
       (less_stands x t (view_of st.elements w' t m') m'.at.refs m'.at.ints names k (ls.at m'.at.pc) less top')
       (subst (FramesStand x code ls t (view_of st.elements w' t m') m') (sym (less.function ∙ fn)) below')
-      (subst (GateStands s w' t m') (sym e) shut)
+      (subst (GateStands s w' t m') (sym (closed_less new (subst (λ y. LessGate y new) gt less.gate))) shut)
       (λ q. room' (less.room q))
 
   abbrev pub view : View
@@ -204,7 +203,6 @@ module _ (x : Targets) (code : Code) (s : Shape) (ls : Labels) (wt : IsWellTyped
       → Leads ls ((g.threads t).at.pc + 1) (set_number l r n) → g.made t + 1 ≤ 100000000 → State x code s ls (made_turn g t g.words (numbered r z)) world
   numbers_state r z n l names fn rm gt isin tp k leads few =
       let m' = numbered r z in
-      let rn = runs x code s ls wt g world st t on go i is single in
       let lt : m.at.ints + r < length m.ints = subst (λ b. m.at.ints + r < b) (sym (st.threads t).has.ints) (int_inside x code ls t view m here.function r below_here isin) in
       let e = view_set r z lt in
       plain_state m' (record {
@@ -226,5 +224,5 @@ module _ (x : Targets) (code : Code) (s : Shape) (ls : Labels) (wt : IsWellTyped
       (λ _. next_runs world (heap_now st.heap g.words) (made_turn g t g.words m') m' names (set_number l r n) (rests x code s ls wt g world st t on go i is single) fn refl leads
       (subst (λ v. TopStands x t v m.at.refs m.at.ints names (set_number l r n)) (sym e) (number_top names r z n l k tp))
       (vals_below r z (view_of st.elements world t m') e m' refl refl refl refl here.function below_here)
-      (is_shut gt) (λ q. rn.room (sym rm ∙ q)))
+      (is_shut gt) (λ q. (runs x code s ls wt g world st t on go i is single).room (sym rm ∙ q)))
       (λ q. absurd (cc)) few

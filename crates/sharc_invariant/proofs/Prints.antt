@@ -50,8 +50,7 @@ module _ (x : Targets) (code : Code) (s : Shape) (ls : Labels) (wt : IsWellTyped
       let words = slice_set g.words 3 v in
       let done0 = asks_turn code s g tr may (step_of prints_word (Add 1)) (printed m (int m r)) (ap (λ i. Rattle.sharc_code.specs.Machine.act code s i m) is) in
       let done : after_turn bounds (one_thread code s) g tr ≡ made_turn g t words m' = done0.0 in
-      let lt : 3 < length g.words = done0.1 in
-      let at = index_put g.words 3 v lt in
+      let at = index_put g.words 3 v done0.1 in
       let small : v < 2 ^ 64 = omega arith in
       let kept0 = store_ok (record { first = 1 + s.globals; words = first_cell s }) st.heap st.heap_stands.kept 3 v (omega arith) (λ p u d e q. absurd (omega arith)) in
       let fe : put st.heap.words 3 v ≡ (λ i. slice_index words i) = fun_ext (λ i. ap (λ (h : ℕ → ℕ). put h 3 v i) (fun_ext st.heap_stands.words) ∙ sym (at i)) in

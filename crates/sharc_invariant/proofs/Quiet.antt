@@ -112,7 +112,6 @@ pub reserves_kept : (words words' : List ℕ) → ((j : ℕ) → j < 97 → j �
 reserves_kept words words' low u n h =
     let few' = h.few in
     let e = low (state_word n) (omega arith) (λ e. absurd (omega arith)) (λ e. absurd (omega arith)) in
-    let nx = low next_thread_word (omega arith) (λ e. absurd (omega arith)) (λ e. absurd (omega arith)) in
     record { few = h.few; given = (let z = h.given in omega arith); first = h.first; state = e ∙ h.state }
 
 most_words : (s : Shape) (heap : Heap) (g : Global Machine) (t : ℕ) (new : List ℕ) → ((u : ℕ) → g.started u ≡ true → u < THREADS) → KeepsWords s heap g.words new → KeepsMost s heap g t new
@@ -158,12 +157,10 @@ sole_gate x code ls pc l _ r f e = absurd (cc)
 
 pub label_held : (l : Label) (i : Instr) (stage : Stage) → OnHold stage → label_now l i stage ≡ l
 label_held l (Free r layout site) (Links all) h = absurd h
-label_held l (Free r layout site) _ h = refl
 label_held l _ stage h = refl
 
 pub freed_held : (i : Instr) (stage : Stage) (base j : ℕ) → OnHold stage → is_freed i stage base j ≡ false
 freed_held (Free r layout site) (Links all) base j h = absurd h
-freed_held (Free r layout site) _ base j h = refl
 freed_held _ stage base j h = refl
 
 abbrev pub noted_of : Stage → Accesses → Bool → Kind → ℕ → ℕ
@@ -221,12 +218,9 @@ module _ (x : Targets) (code : Code) (s : Shape) (ls : Labels) (g : Global Machi
         (callers_agree x code ls u v v' n.frames n.at.depth n.at.refs n.at.ints f (record { refs = λ i _. a.refs i tt; types = λ i _. a.types i tt; vals = λ i _. a.vals i tt; elements = λ i _. a.elements i tt; passed = λ o p b w. a.passed o p b (⊎_elim (λ z. inl z) (λ z. inr (z.0, (tt, z.1.1))) w) }) h.0, h.1, h.2)
 
     gate_kept : (u : ℕ) (n : Machine) (y : Gate) → w'.win u ≡ world.win u → GateStands s world u n y → GateStands s w' u n y
-    gate_kept u n Closed e h = e ∙ h
-    gate_kept u n (Checked write c) e h = e ∙ h
     gate_kept u n (Holds c) e h = (e ∙ h.0, h.1)
-    gate_kept u n (Loaded c) e h = e ∙ h
     gate_kept u n (HoldsLoaded c) e h = (e ∙ h.0, h.1, h.2)
-    gate_kept u n (SoleGate r cleared) e h = e ∙ h
+    gate_kept u n _ e h = e ∙ h
 
     -- an object that a thread walks over it has alone
     walks : IsWellTyped x code ls → (u : ℕ) → Runs x code s ls st.elements world st.heap g u (g.threads u) → (r : ℕ) → operand (instr_at code (g.threads u).at.pc) ≡ Some r → OnHold (g.threads u).own.stage
@@ -368,9 +362,8 @@ module _ (x : Targets) (code : Code) (s : Shape) (ls : Labels) (g : Global Machi
         logged = λ u. subst (Q w'.obj) (sym (held_now u)) (subst (λ f. Q f (g.threads u).own.held) (sym obj) (st.locks.logged u));
         few = λ o j u e. st.locks.few o j u (sym (ap (λ (f : ℕ → ℕ → ℕ). f o j) mutex) ∙ e);
         only = λ o j ne.
-            let z = st.locks.only o j (λ e. ne (ap (λ (f : ℕ → ℕ → ℕ). f o j) mutex ∙ e)) in
             let O : (ℕ → ObjectState) → Type 0 = λ f. ((f o).live ≡ true) × (j < st.cells o) × (is_mutex (field_in x (f o).ty j).holds ≡ true) in
-            subst O (sym obj) z;
+            subst O (sym obj) (st.locks.only o j (λ e. ne (ap (λ (f : ℕ → ℕ → ℕ). f o j) mutex ∙ e)));
       }
 
 pub locks_kept : (x : Targets) (code : Code) (s : Shape) (ls : Labels) (g : Global Machine) (world : World) (st : State x code s ls g world) (t : ℕ) (words : List ℕ) (m' : Machine) → m'.own.held ≡ (g.threads t).own.held

@@ -11,14 +11,10 @@ below_above k f a b r lt = let e1 : nat_lt r k ≡ false = grind (arith, nat_tes
 
 -- a number without a name
 number_names : (x : Targets) (elements refs : ℕ → ℕ) (types : ℕ → ObjectType) (f g : ℕ → ℤ) (z : ℤ) (n : Number) → ((name : ℕ) → HasName n name → ⊥) → NumberStands x elements refs types f z n → NumberStands x elements refs types g z n
-number_names x elements refs types f g z Anything none h = h
-number_names x elements refs types f g z (Exactly y) none h = h
-number_names x elements refs types f g z (Within w) none h = h
 number_names x elements refs types f g z (Indexes m) none h = absurd (none m refl)
 number_names x elements refs types f g z (OfElement b d (Named m)) none h = absurd (none m refl)
-number_names x elements refs types f g z (OfElement b d (Nth i)) none h = h
 number_names x elements refs types f g z (OfGlobal a b c (Named m)) none h = absurd (none m refl)
-number_names x elements refs types f g z (OfGlobal a b c (Nth i)) none h = h
+number_names x elements refs types f g z _ none h = h
 
 module _ (x : Targets) (t : ℕ) (v : View) (base ints : ℕ) (names names' : ℕ → ℤ) (ls : Labels) (l lc : Label) (f first k : ℕ) (frame : FrameStands x t v base ints names (called_label ls l f first k) k first)
     (tp : TopStands x t v (base + k) (ints + first) names' lc) (ret : Returns ls lc f) (plain : IsPlain (ls.signature f)) where
@@ -54,11 +50,10 @@ module _ (x : Targets) (t : ℕ) (v : View) (base ints : ℕ) (names names' : �
         (cases_order r k);
     same = λ r _. elim (nat_lt r k) as (λ b. nat_lt r k ≡ b → refs (cond (b && nat_lt (l.same r) k) (l.same r) r) ≡ refs r) [
       | true ↦ λ b. let lt : r < k = grind (arith, nat_tests) in
-          let fs = frame.same r lt in
           elim (nat_lt (l.same r) k) as (λ c. refs (below_copy k l.same r) ≡ refs r → nat_lt (l.same r) k ≡ c → refs (cond c (l.same r) r) ≡ refs r) [
             | true ↦ λ h c. subst (λ n. refs n ≡ refs r) (ap (λ a. cond (a && nat_lt (l.same r) k) (l.same r) r) b ∙ ap (λ c. cond c (l.same r) r) c) h
             | false ↦ λ h c. refl
-          ] fs refl
+          ] (frame.same r lt) refl
       | false ↦ λ b. refl
     ] refl;
     known = λ r _ e. elim (nat_lt r k) as (λ b. nat_lt r k ≡ b → refs r ≢ 0) [

@@ -82,18 +82,7 @@ module _ (x : Targets) (code : Code) (s : Shape) (ls : Labels) (wt : IsWellTyped
       let pi : word_of (int m i) ≡ ni.0 * cells_of x (types_at view m.at.refs r).target + field = ap word_of ni.2 in
       let pj : word_of (int m j) ≡ nj.0 * cells_of x (types_at view m.at.refs q).target + other = ap word_of nj.2 in
       (sym eo, omega arith)
-  sibling field other (Cell.Global a p) (Cell.GlobalAt b q) f h hc hd k = absurd k
-  sibling field other (Cell.Global a p) (Cell.Object b q) f h hc hd k = absurd k
-  sibling field other (Cell.Global a p) (Cell.ObjectAt b q) f h hc hd k = absurd k
-  sibling field other (Cell.GlobalAt a p) (Cell.Global b q) f h hc hd k = absurd k
-  sibling field other (Cell.GlobalAt a p) (Cell.Object b q) f h hc hd k = absurd k
-  sibling field other (Cell.GlobalAt a p) (Cell.ObjectAt b q) f h hc hd k = absurd k
-  sibling field other (Cell.Object a p) (Cell.Global b q) f h hc hd k = absurd k
-  sibling field other (Cell.Object a p) (Cell.GlobalAt b q) f h hc hd k = absurd k
-  sibling field other (Cell.Object a p) (Cell.ObjectAt b q) f h hc hd k = absurd k
-  sibling field other (Cell.ObjectAt a p) (Cell.Global b q) f h hc hd k = absurd k
-  sibling field other (Cell.ObjectAt a p) (Cell.GlobalAt b q) f h hc hd k = absurd k
-  sibling field other (Cell.ObjectAt a p) (Cell.Object b q) f h hc hd k = absurd k
+  sibling field other _ _ f h hc hd k = absurd k
 
   -- the lock of the type of the object in a register
   type_lock : (r : ℕ) (ty : StaticType) (k : ℕ) → l.env r ≡ Refers ty → l.known r ≡ true → k < length ty.locks → lock_number (world.obj (ref (g.threads t) r)).ty k ≡ mutex_of refs (refs r) (slice_index_or ty.locks k no_lock)
@@ -110,15 +99,7 @@ module _ (x : Targets) (code : Code) (s : Shape) (ls : Labels) (wt : IsWellTyped
   lock_cell r (Global j) (Cell.Global a p) h hd k = (refl, (let a = k.0 in omega arith))
   lock_cell r (Through q j) (Cell.Object a i) h hd k = (sym (reads q) ∙ sym (same_refs a q k.1), (let b : number_in m (Cell.Object a i) ≡ i = omega arith in sym k.0 ∙ sym b))
   lock_cell r (Self j) (Cell.Object a i) h hd k = (sym (reads r) ∙ sym (same_refs a r k.1), (let b : number_in m (Cell.Object a i) ≡ i = omega arith in sym k.0 ∙ sym b))
-  lock_cell r (Global j) (Cell.GlobalAt a p) h hd k = absurd k
-  lock_cell r (Global j) (Cell.Object a p) h hd k = absurd k
-  lock_cell r (Global j) (Cell.ObjectAt a p) h hd k = absurd k
-  lock_cell r (Through q j) (Cell.Global a p) h hd k = absurd k
-  lock_cell r (Through q j) (Cell.GlobalAt a p) h hd k = absurd k
-  lock_cell r (Through q j) (Cell.ObjectAt a p) h hd k = absurd k
-  lock_cell r (Self j) (Cell.Global a p) h hd k = absurd k
-  lock_cell r (Self j) (Cell.GlobalAt a p) h hd k = absurd k
-  lock_cell r (Self j) (Cell.ObjectAt a p) h hd k = absurd k
+  lock_cell r _ _ h hd k = absurd k
 
   -- a lock in a cell's mode is held where the mutex in that cell is
   lock_held : (write : Bool) (c d : Cell) (f h : Field) (lock : FieldLock) → HasCell x code l c f → HasCell x code l d h → IsMutexOf code l lock c d → world.mutex (object_of_cell (g.threads t) d) (number_in (g.threads t) d) ≡ suc t
@@ -139,13 +120,10 @@ module _ (x : Targets) (code : Code) (s : Shape) (ls : Labels) (wt : IsWellTyped
       let q = type_lock r k.0 n k.1 hc.base k.2 in
       let P : Mutex → Type 0 = λ u. world.mutex u.object u.cell ≡ suc t in
       subst P (sym q) (ap (λ o. world.mutex o (mutex_of refs (refs r) (slice_index_or k.0.locks n no_lock)).cell) e.0 ∙ ap (world.mutex (object_of_cell m d)) e.1 ∙ held)
-  lock_held write (Cell.Global a p) d f h (OfType n) hc hd k held = absurd k
-  lock_held write (Cell.GlobalAt a p) d f h (OfType n) hc hd k held = absurd k
+  lock_held write _ d f h (OfType n) hc hd k held = absurd k
 
   -- a private cell's object is the thread's
   owner_is : (c : Cell) (f : Field) → HasCell x code l c f → IsOwn ls l c → is_private x (world.obj (object_of_cell (g.threads t) c)).ty ≡ true → (world.obj (object_of_cell (g.threads t) c)).owner ≡ t
-  owner_is (Cell.Global a p) f hc own priv = ap (λ (y : ObjectState). y.owner) st.globals ∙ sym ((subst (FramesStand x code ls t view m) own.1.0 below).2 own.1.1)
-  owner_is (Cell.GlobalAt a p) f hc own priv = ap (λ (y : ObjectState). y.owner) st.globals ∙ sym ((subst (FramesStand x code ls t view m) own.1.0 below).2 own.1.1)
   owner_is (Cell.Object r i) f hc own priv = owner_in r hc.base priv
     where
       owner_in : (r : ℕ) → l.known r ≡ true → is_private x (world.obj (ref m r)).ty ≡ true → (world.obj (ref m r)).owner ≡ t
@@ -160,6 +138,7 @@ module _ (x : Targets) (code : Code) (s : Shape) (ls : Labels) (wt : IsWellTyped
           let nz : in_ref world (RegisterOf t (m.at.refs + r)) ≢ 0 = (top (suc r) 0).known r (omega arith) k in
           let fit = st.inv.words.fits (In (RegisterOf t (m.at.refs + r))) nz in
           ap (λ o. (world.obj o).owner) (reads r) ∙ fit.own (sym (ap (is_private x) (ap (λ o. (world.obj o).ty) (reads r) ∙ fit.typed)) ∙ priv)
+  owner_is _ f hc own priv = ap (λ (y : ObjectState). y.owner) st.globals ∙ sym ((subst (FramesStand x code ls t view m) own.1.0 below).2 own.1.1)
 
   -- the cell of a check that is remembered
   pub pass_at : (c : Cell) (f : Field) (b : Option ℕ) (n : ℕ) → HasCell x code l c f → IsPlace x l c b n
@@ -267,24 +246,15 @@ module _ (x : Targets) (code : Code) (s : Shape) (ls : Labels) (wt : IsWellTyped
   global_lock : (ty : ObjectType) (v place : ℕ) (a : Lock) (b : FieldLock) → IsGlobalLock place a b → mutex_of refs v a ≡ field_mutex ty 0 (place - 2) b
   global_lock ty v place (Global i) (OfGlobals k) h = ap (λ j. record { object = 0; cell = j }) h
   global_lock ty v place (Global i) (OfElement field mutex) h = ap (λ j. record { object = 0; cell = j }) (let a = h.0 in let b = h.1 in let e : i ≡ place - 2 - field + mutex = omega arith in e)
-  global_lock ty v place (Global i) (OfType k) h = absurd h
   global_lock ty v place (Through q i) (OfGlobals k) h = absurd h
-  global_lock ty v place (Through q i) (OfElement field mutex) h = absurd h
-  global_lock ty v place (Through q i) (OfType k) h = absurd h
   global_lock ty v place (Self i) (OfGlobals k) h = absurd h
-  global_lock ty v place (Self i) (OfElement field mutex) h = absurd h
-  global_lock ty v place (Self i) (OfType k) h = absurd h
+  global_lock ty v place _ _ h = absurd h
 
   any_global_lock : (ty : ObjectType) (v j : ℕ) (a : Lock) (b : FieldLock) → IsAnyGlobalLock a b → mutex_of refs v a ≡ field_mutex ty 0 j b
   any_global_lock ty v j (Global i) (OfGlobals k) h = ap (λ j. record { object = 0; cell = j }) h
-  any_global_lock ty v j (Global i) (OfElement field mutex) h = absurd h
-  any_global_lock ty v j (Global i) (OfType k) h = absurd h
   any_global_lock ty v j (Through q i) (OfGlobals k) h = absurd h
-  any_global_lock ty v j (Through q i) (OfElement field mutex) h = absurd h
-  any_global_lock ty v j (Through q i) (OfType k) h = absurd h
   any_global_lock ty v j (Self i) (OfGlobals k) h = absurd h
-  any_global_lock ty v j (Self i) (OfElement field mutex) h = absurd h
-  any_global_lock ty v j (Self i) (OfType k) h = absurd h
+  any_global_lock ty v j _ _ h = absurd h
 
   object_lock : (r : ℕ) (s0 : StaticType) (v i : ℕ) → l.env r ≡ Refers s0 → l.known r ≡ true → (a : Lock) (b : FieldLock) → IsFieldLock l r i s0 a b → mutex_of refs v a ≡ field_mutex (world.obj (ref (g.threads t) r)).ty (ref (g.threads t) r) i b
   object_lock r s0 v i e kn (Global j) (OfGlobals k) h = ap (λ j. record { object = 0; cell = j }) h
@@ -292,22 +262,15 @@ module _ (x : Targets) (code : Code) (s : Shape) (ls : Labels) (wt : IsWellTyped
       ap (λ o. record { object = o; cell = j }) (sym (same_ref l refs alls r q h.2) ∙ sym (reads r)) ∙ ap (λ j. record { object = ref m r; cell = j }) h.1
   object_lock r s0 v i e kn (Global j) (OfType k) h = same_lock l refs alls r (Global j) (slice_index_or s0.locks k no_lock) h.1 ∙ sym (type_lock r s0 k e kn h.0)
   object_lock r s0 v i e kn (Through q j) (OfType k) h = same_lock l refs alls r (Through q j) (slice_index_or s0.locks k no_lock) h.1 ∙ sym (type_lock r s0 k e kn h.0)
-  object_lock r s0 v i e kn (Global j) (OfElement field mutex) h = absurd h
-  object_lock r s0 v i e kn (Through q j) (OfGlobals k) h = absurd h
   object_lock r s0 v i e kn (Self j) (OfGlobals k) h = absurd h
-  object_lock r s0 v i e kn (Self j) (OfElement field mutex) h = absurd h
-  object_lock r s0 v i e kn (Self j) (OfType k) h = absurd h
+  object_lock r s0 v i e kn _ _ h = absurd h
 
   any_lock : (r : ℕ) (s0 : StaticType) (v i : ℕ) → l.env r ≡ Refers s0 → l.known r ≡ true → (a : Lock) (b : FieldLock) → IsAnyLock l r s0 a b → mutex_of refs v a ≡ field_mutex (world.obj (ref (g.threads t) r)).ty (ref (g.threads t) r) i b
   any_lock r s0 v i e kn (Global j) (OfGlobals k) h = ap (λ j. record { object = 0; cell = j }) h
   any_lock r s0 v i e kn (Global j) (OfType k) h = object_lock r s0 v 0 e kn (Global j) (OfType k) h
   any_lock r s0 v i e kn (Through q j) (OfType k) h = object_lock r s0 v 0 e kn (Through q j) (OfType k) h
-  any_lock r s0 v i e kn (Global j) (OfElement field mutex) h = absurd h
-  any_lock r s0 v i e kn (Through q j) (OfElement field mutex) h = absurd h
-  any_lock r s0 v i e kn (Through q j) (OfGlobals k) h = absurd h
   any_lock r s0 v i e kn (Self j) (OfGlobals k) h = absurd h
-  any_lock r s0 v i e kn (Self j) (OfElement field mutex) h = absurd h
-  any_lock r s0 v i e kn (Self j) (OfType k) h = absurd h
+  any_lock r s0 v i e kn _ _ h = absurd h
 
   locks_are : (c : Cell) (f : Field) (v : ℕ) (locks : List Lock) (fields : List FieldLock) → HasCell x code l c f → AreFieldLocks l c locks fields
       → map (mutex_of refs v) locks ≡ map (field_mutex (world.obj (object_of_cell (g.threads t) c)).ty (object_of_cell (g.threads t) c) (number_in (g.threads t) c)) fields

@@ -219,29 +219,16 @@ is_behind _ = false
 -- what a type says of a cell is what its field says
 private_mode : (ty : ObjectType) (i : ℕ) (mode : FieldMode) → mode_in ty i mode ≡ CellMode.Private → mode ≡ Private
 private_mode ty i Private e = refl
-private_mode ty i Readonly e = absurd (cc)
-private_mode ty i Racy e = absurd (cc)
-private_mode ty i Dynamic e = absurd (cc)
 private_mode ty i (Under (OfType k)) e = absurd (cc)
-private_mode ty i (Under (OfGlobals k)) e = absurd (cc)
-private_mode ty i (Under (OfElement f m)) e = absurd (cc)
-private_mode ty i (Behind f p) e = absurd (cc)
+private_mode ty i _ e = absurd (cc)
 
 behind_mode : (ty : ObjectType) (i j : ℕ) (mode : FieldMode) → is_behind mode ≡ false → mode_in ty i mode ≡ CellMode.Behind j → ⊥
-behind_mode ty i j Private b e = cc
-behind_mode ty i j Readonly b e = cc
-behind_mode ty i j Racy b e = cc
-behind_mode ty i j Dynamic b e = cc
 behind_mode ty i j (Under (OfType k)) b e = cc
-behind_mode ty i j (Under (OfGlobals k)) b e = cc
-behind_mode ty i j (Under (OfElement f m)) b e = cc
-behind_mode ty i j (Behind f p) b e = cc
+behind_mode ty i j _ b e = cc
 
 no_type : (ty : ObjectType) (o i : ℕ) (h : Content) → is_pointer h ≡ false → type_in ty o i h ≡ nothing
-no_type ty o i (Integer w) e = refl
-no_type ty o i MutexWord e = refl
-no_type ty o i Waiters e = refl
 no_type ty o i (Pointer f) e = absurd (cc)
+no_type ty o i _ e = refl
 
 -- ---- each place
 EachAt : (ℕ → Label → Instr → Type 0) → ℕ → List Label → List Instr → Type 0
@@ -281,28 +268,22 @@ null_less =
     }
 
 recast_same : (field : ℕ) → field < 3 → IsSameContent m34 2 the_private the_dynamic (field_at the_targets 1 field).holds (field_at the_targets 2 field).holds
-recast_same zero lt = refl
-recast_same (suc zero) lt = refl
-recast_same (suc (suc zero)) lt = refl
 recast_same (suc (suc (suc n))) lt = absurd (omega arith)
+recast_same _ lt = refl
 
 gone26 : (r : ℕ) → r ≢ 0 → w26.env r ≡ Empty
 gone26 zero ne = absurd (ne refl)
-gone26 (suc zero) ne = refl
-gone26 (suc (suc zero)) ne = refl
 gone26 (suc (suc (suc n))) ne = s26.few (suc (suc (suc n))) (omega arith)
+gone26 _ ne = refl
 
 gone41 : (r : ℕ) → r ≢ 0 → m41.env r ≡ Empty
 gone41 zero ne = absurd (ne refl)
-gone41 (suc zero) ne = refl
-gone41 (suc (suc zero)) ne = refl
 gone41 (suc (suc (suc n))) ne = s41.few (suc (suc (suc n))) (omega arith)
+gone41 _ ne = refl
 
 no_pointer : (field : ℕ) → is_pointer (field_at the_targets 1 field).holds ≡ false
-no_pointer zero = refl
-no_pointer (suc zero) = refl
-no_pointer (suc (suc zero)) = refl
 no_pointer (suc (suc (suc n))) = refl
+no_pointer _ = refl
 
 abbrev f_mutex : Field
 f_mutex = record { mode = Racy; holds = MutexWord }
@@ -497,17 +478,12 @@ module _ (code : Code) (is : IsSample code) where
   -- no cell is a pointer, and none stands behind one
   plain_field : (target f : ℕ) → (is_pointer (field_at the_targets target f).holds ≡ false) × (is_mutex (field_at the_targets target f).holds ≡ true → (field_at the_targets target f).mode ≡ Racy) × (is_behind (field_at the_targets target f).mode ≡ false)
   plain_field zero zero = (refl, (λ e. refl), refl)
-  plain_field zero (suc f) = (refl, (λ e. refl), refl)
-  plain_field (suc zero) zero = (refl, (λ e. refl), refl)
   plain_field (suc zero) (suc zero) = (refl, (λ e. absurd (cc)), refl)
   plain_field (suc zero) (suc (suc zero)) = (refl, (λ e. absurd (cc)), refl)
-  plain_field (suc zero) (suc (suc (suc f))) = (refl, (λ e. refl), refl)
-  plain_field (suc (suc zero)) zero = (refl, (λ e. refl), refl)
   plain_field (suc (suc zero)) (suc zero) = (refl, (λ e. absurd (cc)), refl)
   plain_field (suc (suc zero)) (suc (suc zero)) = (refl, (λ e. absurd (cc)), refl)
-  plain_field (suc (suc zero)) (suc (suc (suc f))) = (refl, (λ e. refl), refl)
   plain_field (suc (suc (suc n))) zero = (refl, (λ e. refl), refl)
-  plain_field (suc (suc (suc n))) (suc f) = (refl, (λ e. refl), refl)
+  plain_field _ _ = (refl, (λ e. refl), refl)
 
   -- of a cell of any type: a row's field, or none of the globals
   field_cases : (P : Field → Type 0) (ty : ObjectType) (i : ℕ) → ((f : ℕ) → (ty.target ≡ 3 → ⊥) → P (field_at the_targets ty.target f)) → P (record { mode = Racy; holds = Integer Long }) → P (field_in the_targets ty i)
@@ -590,9 +566,8 @@ module _ (code : Code) (is : IsSample code) where
 
   -- ---- the sample is well typed
   sample_plain : (f : ℕ) → IsPlain (the_labels.signature f)
-  sample_plain zero = record { bases = λ i b h. h; names = λ i n h. h; result = λ q h. h; result_base = λ b h. h; result_name = λ n h. h }
-  sample_plain (suc zero) = record { bases = λ i b h. h; names = λ i n h. h; result = λ q h. h; result_base = λ b h. h; result_name = λ n h. h }
   sample_plain (suc (suc f)) = record { bases = λ i b h. h; names = λ i n h. h; result = λ q h. h; result_base = λ b h. h; result_name = λ n h. h }
+  sample_plain _ = record { bases = λ i b h. h; names = λ i n h. h; result = λ q h. h; result_base = λ b h. h; result_name = λ n h. h }
 
   pub sample_typed : IsWellTyped the_targets code the_labels
   sample_typed = record {

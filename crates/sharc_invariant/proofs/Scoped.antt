@@ -4,40 +4,30 @@ use Rattle.sharc_invariant.specs.Types.Lock.{Global}
 
 -- ---- less than itself
 same_lock_refl : (l : Label) (r : ℕ) (a : Lock) → SameLock l r a a
-same_lock_refl l r (Global j) = refl
 same_lock_refl l r (Through q j) = (refl, Itself refl)
-same_lock_refl l r (Self j) = refl
+same_lock_refl l r _ = refl
 
 all_same_refl : (l : Label) (r : ℕ) (xs : List Lock) → AllSame (SameLock l r) xs xs
 all_same_refl l r [] = tt
 all_same_refl l r (x ∷ xs) = (same_lock_refl l r x, all_same_refl l r xs)
 
 pub less_entry_refl : (l : Label) (r : ℕ) (e : Entry) → LessEntry l r e e
-less_entry_refl l r Empty = refl
-less_entry_refl l r Unknown = refl
 less_entry_refl l r (Refers s) = record { target = refl; locks = all_same_refl l r s.locks }
+less_entry_refl l r _ = refl
 
 narrower_refl : (w : Width) → Narrower w w
-narrower_refl Char = tt
 narrower_refl Int = tt
-narrower_refl Long = tt
+narrower_refl _ = tt
 
 pub less_number_refl : (n : Number) → LessNumber n n
 less_number_refl Anything = tt
-less_number_refl (Exactly z) = refl
 less_number_refl (Within w) = narrower_refl w
-less_number_refl (Indexes n) = refl
-less_number_refl (OfElement b f e) = refl
-less_number_refl (OfGlobal f c n e) = refl
+less_number_refl _ = refl
 
 pub less_gate_refl : (g : Gate) → LessGate g g
 less_gate_refl Closed = tt
-less_gate_refl (Checked w c) = refl
-less_gate_refl (Holds c) = refl
-less_gate_refl (Loaded c) = refl
-less_gate_refl (HoldsLoaded c) = refl
 less_gate_refl (Sole r true) = refl
-less_gate_refl (Sole r false) = refl
+less_gate_refl _ = refl
 
 pub less_refl : (l : Label) → Less l l
 less_refl l = record {
@@ -107,15 +97,11 @@ scoped_fill ints refs l d s c b lt paths copy h =
     }
 
 base_without : (d : ℕ) (n : Number) (b : ℕ) → HasBase (without_index d n) b → HasBase n b × (b ≡ d → ⊥)
-base_without d Anything b = λ h. absurd h
-base_without d (Exactly z) b = λ h. absurd h
-base_without d (Within w) b = λ h. absurd h
-base_without d (Indexes n) b = λ h. absurd h
 base_without d (OfElement c f e) b = elim (nat_eq c d) as (λ y. nat_eq c d ≡ y → HasBase (cond y Anything (OfElement c f e)) b → (c ≡ b) × (b ≡ d → ⊥)) [
   | true ↦ λ _ h. absurd h
   | false ↦ λ q h. (h, λ z. eqb-false c d q (h ∙ z))
 ] refl
-base_without d (OfGlobal f c n e) b = λ h. absurd h
+base_without d _ b = λ h. absurd h
 
 any_without : (d : ℕ) (n : Number) → n ≡ Anything → without_index d n ≡ Anything
 any_without d n e = ap (without_index d) e

@@ -1,11 +1,5 @@
 -- What the machine does to its words and registers is what the proof's world does.
-use Rattle.sharc_invariant.proofs.{Imports.{◌≡◌, ℕ, ◌+◌, ◌*◌, ◌<◌, ◌≢◌, true, false, refl, sym, ap, ◌∙◌, subst, ⊎_elim, arith, ◌≤◌, cases_eq, cases_order, Shape, put, granules, put_same, put_other, put_all, GranuleState, Targets, Content, field_in, is_mutex, is_pointer, Integer, MutexWord, Waiters, Pointer, TypedReference, Holder, RegisterOf, ArgumentOf, LogOf, Staged, In, CellOf as Cell, World, in_ref, place, put2, ObjectState, MachineView, Shows, Apart, FitsContent, Reads, shadow_at, count_at, length_at, cell_at, store, set_reg, AreStale, epoch_of}, Effects.{place_same, place_other, place_all, slot_cases}, Listed.pair_cases}
-
-put2_away : (f : ℕ → ℕ → ℕ) (t i v u j : ℕ) → (u ≡ t → j ≡ i → ⊥) → f u j ≡ put2 f t i v u j
-put2_away f t i v u j ne = ⊎_elim
-    (λ (e : u ≡ t). ap (λ u. f u j) e ∙ sym (put_other (f t) i j v (ne e)) ∙ ap (λ (g : ℕ → ℕ). g j) (sym (put_same f t (put (f t) i v))) ∙ ap (λ u. put2 f t i v u j) (sym e))
-    (λ (n : u ≡ t → ⊥). ap (λ (g : ℕ → ℕ). g j) (sym (put_other f t u (put (f t) i v) n)))
-    (cases_eq u t)
+use Rattle.sharc_invariant.proofs.{Imports.{◌≡◌, ℕ, ◌+◌, ◌*◌, ◌<◌, ◌≢◌, true, false, refl, sym, ap, ◌∙◌, subst, ⊎_elim, arith, ◌≤◌, cases_eq, cases_order, Shape, put, granules, put_same, put_other, put_all, GranuleState, Targets, Content, field_in, is_mutex, is_pointer, Integer, MutexWord, Waiters, Pointer, TypedReference, Holder, RegisterOf, ArgumentOf, LogOf, Staged, In, CellOf as Cell, World, in_ref, place, put2, ObjectState, MachineView, Shows, Apart, FitsContent, Reads, shadow_at, count_at, length_at, cell_at, store, set_reg, AreStale, epoch_of}, Effects.{place_same, place_other, place_all, slot_cases}, Listed.{pair_cases, put2_other as put2_away}}
 
 pub put2_at : {A : Type 0} (f : ℕ → ℕ → A) (t i : ℕ) (v : A) → put2 f t i v t i ≡ v
 put2_at {A} f t i v = ap (λ (k : ℕ → A). k i) (put_same f t (put (f t) i v)) ∙ put_same (f t) i v
@@ -18,15 +12,11 @@ put2_off {A} f t i u j v ne = ⊎_elim
 
 pointer_fits : (h : Content) (v : ℕ) → is_pointer h ≡ true → FitsContent h v
 pointer_fits (Integer w) v e = absurd (cc)
-pointer_fits MutexWord v e = tt
-pointer_fits Waiters v e = tt
-pointer_fits (Pointer f) v e = tt
+pointer_fits _ v e = tt
 
 pub pointer_no_mutex : (h : Content) → is_pointer h ≡ true → is_mutex h ≡ true → ⊥
 pointer_no_mutex (Integer w) e f = absurd (cc)
-pointer_no_mutex MutexWord e f = absurd (cc)
-pointer_no_mutex Waiters e f = absurd (cc)
-pointer_no_mutex (Pointer g) e f = absurd (cc)
+pointer_no_mutex _ e f = absurd (cc)
 
 -- the shadow words are as they were
 pub stale_off : (s : Shape) (obj : ℕ → ObjectState) (cells words words' : ℕ → ℕ) (rn wn : ℕ → ℕ → ℕ) → ((p : ℕ) → p < granules s → words (shadow_at s p) ≡ words' (shadow_at s p)) → AreStale s obj cells words rn wn → AreStale s obj cells words' rn wn

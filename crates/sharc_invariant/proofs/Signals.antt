@@ -11,22 +11,7 @@ by_waking P a b stage h = ⊎_elim (λ (e : stage ≡ Rests). subst P (sym e) a)
 signal_stage : (code : Code) (s : Shape) (elements : ℕ → ℕ) (w : World) (heap : Heap) (words : List ℕ) (t : ℕ) (m : Machine) (c : Cell) (site : ℕ) (stage : Stage) → StageStands code s elements w heap words t m (Instr.CondSignal c site) stage → IsWaking stage
 signal_stage code s elements w heap words t m c site Rests h = inl refl
 signal_stage code s elements w heap words t m c site (Wakes a) h = inr (a, refl)
-signal_stage code s elements w heap words t m c site (Looks a b) h = absurd h
-signal_stage code s elements w heap words t m c site (Clears a b d) h = absurd h
-signal_stage code s elements w heap words t m c site (Makes v) h = absurd h
-signal_stage code s elements w heap words t m c site (Empties a b) h = absurd h
-signal_stage code s elements w heap words t m c site (Lowers a b d) h = absurd h
-signal_stage code s elements w heap words t m c site (FreeLooks a b) h = absurd h
-signal_stage code s elements w heap words t m c site (FreeClears a b d) h = absurd h
-signal_stage code s elements w heap words t m c site (Uncounts a) h = absurd h
-signal_stage code s elements w heap words t m c site (Links a) h = absurd h
-signal_stage code s elements w heap words t m c site (Names n) h = absurd h
-signal_stage code s elements w heap words t m c site (Hands n) h = absurd h
-signal_stage code s elements w heap words t m c site (Begins n) h = absurd h
-signal_stage code s elements w heap words t m c site (Enters f) h = absurd h
-signal_stage code s elements w heap words t m c site (Withdraws a) h = absurd h
-signal_stage code s elements w heap words t m c site (WithdrawsFrom a b) h = absurd h
-signal_stage code s elements w heap words t m c site Leaves h = absurd h
+signal_stage code s elements w heap words t m c site _ h = absurd h
 
 registers_are : (code : Code) (m : Machine) → IsWaking m.own.stage → (i : ℕ) → register_of code m i ≡ slice_index m.refs i
 registers_are code m h i = ap (λ b. cond b 0 (slice_index m.refs i)) (freed_held (instr_at code m.at.pc) m.own.stage m.at.refs i (by_waking OnHold tt (λ _. tt) m.own.stage h))
@@ -110,11 +95,10 @@ module _ (x : Targets) (code : Code) (s : Shape) (ls : Labels) (wt : IsWellTyped
       let m' = stands_at (m.at.pc + 1) Rests in
       let leads = fine.2 in
       let new = (ls.at (m.at.pc + 1)).gate in
-      let e : new ≡ Closed = closed_less new (subst (λ y. LessGate y new) fine.0 leads.gate) in
       runs_at x code s ls st.elements world heap now t m' rn.names refl
       (less_stands x t view m.at.refs m.at.ints rn.names here (ls.at (m.at.pc + 1)) leads tops)
       (subst (FramesStand x code ls t view m') (sym leads.function) (below_at (m.at.pc + 1) Rests))
-      (subst (GateStands s world t m') (sym e) gates)
+      (subst (GateStands s world t m') (sym (closed_less new (subst (λ y. LessGate y new) fine.0 leads.gate))) gates)
       (λ q. rn.room (leads.room q))
 
   -- the word of those that wait is written, and the thread comes to stand there

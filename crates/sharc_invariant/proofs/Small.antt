@@ -1,15 +1,11 @@
 -- How many references there can be.
-use Rattle.sharc_invariant.proofs.{Imports.{◌≡◌, ℕ, zero, suc, ◌*◌, ◌≤◌, ap, ◌∙◌, ⊎_elim, arith, cases_eq, one, sum_to, TypedReference, RegisterOf, ArgumentOf, LogOf, Staged, Slot, In, CellOf as Cell, Size, total, most_references}, Sums.{one_same, one_other}}
+use Rattle.sharc_invariant.proofs.{Imports.{◌≡◌, ℕ, ◌≤◌, ap, ◌∙◌, ⊎_elim, arith, cases_eq, one, sum_to, TypedReference, RegisterOf, ArgumentOf, LogOf, Staged, Slot, In, CellOf as Cell, Size, total, most_references}, Sums.{one_same, one_other}, Clears.{sum_bound as sum_low}}
 
 one_low : (x o : ℕ) → one x o ≤ 1
 one_low x o = ⊎_elim
     (λ (e : x ≡ o). let y : one x o ≡ 1 = ap (λ n. one n o) e ∙ one_same o in omega arith)
     (λ (ne : x ≡ o → ⊥). let y = one_other x o ne in omega arith)
     (cases_eq x o)
-
-sum_low : (n l : ℕ) (f : ℕ → ℕ) → ((j : ℕ) → f j ≤ l) → sum_to n f ≤ n * l
-sum_low zero l f h = omega arith
-sum_low (suc n) l f h = let a = sum_low n l f h in let b = h n in omega arith
 
 pub total_low : (z : Size) (f : Slot → TypedReference) (o : ℕ) → total z f o ≤ most_references z
 unfolding total

@@ -3,11 +3,7 @@ use Rattle.sharc_invariant.proofs.{Imports.{◌≡◌, ℕ, suc, ◌+◌, ◌⊎
 
 sole_gate : (r : ℕ) (y : Gate) → LessGate (SoleGate r false) y → (y ≡ Closed) ⊎ (y ≡ SoleGate r false)
 sole_gate r Closed h = inl refl
-sole_gate r (Checked a d) h = inr h
-sole_gate r (Holds d) h = inr h
-sole_gate r (Loaded d) h = inr h
-sole_gate r (HoldsLoaded d) h = inr h
-sole_gate r (SoleGate q d) h = inr h
+sole_gate r _ h = inr h
 
 module _ (x : Targets) (code : Code) (s : Shape) (ls : Labels) (wt : IsWellTyped x code ls) (fits : Fits code s) (few : IsSmall code s) (g : Global Machine) (world : World) (st : State x code s ls g world) (tr : Turn)
     (may : MayTurn bounds (one_thread code s) g tr) where
@@ -47,7 +43,6 @@ module _ (x : Targets) (code : Code) (s : Shape) (ls : Labels) (wt : IsWellTyped
       let found = slice_index g.words k in
       let count : world.count (ref m r) ≡ found = st.sim.counts (ref m r) nzm live ∙ ap (slice_index g.words) (sym (count_is s (ref m r) (st.apart.headers (ref m r) live))) in
       let done0 = asks_turn code s g tr may (test_of k) (tested m site) (ap (λ i. Rattle.sharc_code.specs.Machine.act code s i m) is) in
-      let done = loaded_words x code s ls wt fits g world st tr may i is refl k (tested m site found) done0.0 in
       let never : (q : ℕ) → world.win t ≡ Sole q → ⊥ = λ q e. let z : Shut ≡ Sole q = sym shut ∙ e in cc in
       let new = (ls.at (m.at.pc + 1)).gate in
       let k' = record here { gate = SoleGate r false; passed = without_base r here.passed } in
@@ -72,7 +67,7 @@ module _ (x : Targets) (code : Code) (s : Shape) (ls : Labels) (wt : IsWellTyped
               subst (λ y. State x code s ls y world) (sym e) (stop_state x code s ls wt g world st t on go i is refl why shut (room_of code s g tr may g.words (stopped m why) e)),
               Silently (record { obj = refl; mutex = refl; passed = λ o p u b q. q; sole = λ u r e. (e, refl) }),
             )
-      ] refl done
+      ] refl (loaded_words x code s ls wt fits g world st tr may i is refl k (tested m site found) done0.0)
     where
       below_goes : FramesStand x code ls tr.thread view (g.threads tr.thread) here.function → FramesStand x code ls tr.thread view (goes (g.threads tr.thread)) here.function
       below_goes = elim here.function as (λ f. FramesStand x code ls tr.thread view (g.threads tr.thread) f → FramesStand x code ls tr.thread view (goes (g.threads tr.thread)) f) [ None ↦ λ h. h | Some f ↦ λ h. h ]

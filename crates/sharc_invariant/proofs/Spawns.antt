@@ -1,5 +1,5 @@
 -- Spawn's first three turns keep the invariant: a number is given out, and the function and the argument are written.
-use Rattle.sharc_invariant.proofs.{Imports.{◌≡◌, ℕ, ℤ, pos, zero, suc, ◌+◌, ◌*◌, ◌^◌, ◌<◌, ◌≤◌, ◌≢◌, ◌&&◌, Bool, true, false, cond, List, Option, Some, None, refl, sym, ap, ◌∙◌, subst, inl, inr, ⊎_elim, arith, ltb-true, cases_eq, nat_tests, length-set, get_or-set_same, get_or-set_other, fun_ext, ◌%◌, length, slice_index, slice_set, nat_lt, nat_eq, ◌||◌, ◌==◌, THREADS, Swap, Add, HeldMutex, object_of, Kind, Read, Write, Accesses, note_of, epoch_of, FRAMES, Code, Shape, Frame, RunsOn, Stage, Rests, Looks, Clears, Makes, Empties, Lowers, FreeLooks, FreeClears, Uncounts, Links, Names, Hands, Begins, Enters, Withdraws, WithdrawsFrom, Leaves, Wakes, holds, int_of, Char, Fits, next_thread_word, state_word, function_word, argument_word, first_cell, top_word, Machine, int, ref, set_int, handed, reference_of, function_of, instr_at, step_of, at_stage, stopped, numbered, argument, spawn, start, begun, turn, may_go, counted, Turn, Global, put, is_started, MayTurn, after_turn, one_thread, bounds, Register, Trap, Parameter, Instr, put_same, put_other, put_all, Targets, ObjectType, nothing, is_private, field_in, LessGate, Entry, Empty, Refers, Unknown, Number, Anything, Exactly, Within, Indexes, OfElement, OfGlobal, Named, Nth, HasName, empty, set_number, Closed, Label, Labels, Leads, HasBase, IsShared, Passes, IsWellTyped, Fine, Window, TypedReference, Holder, RegisterOf, ArgumentOf, LogOf, Staged, In, Slot, CellOf, World, Shut, Sole, WorldInvariant, in_ref, none, place, shift, MachineView, conc_of, lang_of, Shows, is_first, is_unread, if_reference, note_number, register_of, argument_of, staged_of, noted_by, logged, is_ended, has_withdrawn, set_reg, making_of, FitsContent, Reads, store, cell_at, count_at, length_at, shadow_at, Silently, made_turn, KeepsOthers, StopStands, State, IsSmall, View, view_of, vals_of, Runs, ThreadStands, Threads, Firsts, Reserves, SpawnsNow, EntryStands, NumberStands, TopStands, BelowStands, FramesStand, GateStands, StageStands, label_now, refs_at, types_at, size_of_run, Turned, Kept, sum_to, ne_eq}, Effects.{place_same, place_other, shift_ok}, Frames.{empty_stands, Agrees, Low, callers_agree, less_number, filled, less_stands, entry_kept}, Quiet.{KeepsThread, KeepsMost, heap_now, most_state, sum_up, label_held}, Others.{OnHold, loses}, Turns.{asks_turn, room_of}, Own.{ref_inside, int_inside, closed_less, runs_at}, Filled.{view_filled, below_filled, free_shut}, Calls.passed_entry, Listed.store_ok, Accesses.back_again, Begun.{begun_stands, begun_regs}, Stores.index_put, Seen.{reg_stored, stale_off}, Sums.sum_one, Starts.{register_held, going_on}}
+use Rattle.sharc_invariant.proofs.{Imports.{◌≡◌, ℕ, ℤ, pos, zero, suc, ◌+◌, ◌*◌, ◌^◌, ◌<◌, ◌≤◌, ◌≢◌, ◌&&◌, Bool, true, false, cond, List, Option, Some, None, refl, sym, ap, ◌∙◌, subst, inl, inr, ⊎_elim, arith, ltb-true, cases_eq, nat_tests, length-set, get_or-set_same, get_or-set_other, fun_ext, ◌%◌, length, slice_index, slice_set, nat_lt, nat_eq, ◌||◌, ◌==◌, THREADS, Swap, Add, HeldMutex, object_of, Kind, Read, Write, Accesses, note_of, epoch_of, FRAMES, Code, Shape, Frame, RunsOn, Stage, Rests, Looks, Clears, Makes, Empties, Lowers, FreeLooks, FreeClears, Uncounts, Links, Names, Hands, Begins, Enters, Withdraws, WithdrawsFrom, Leaves, Wakes, holds, int_of, Char, Fits, next_thread_word, state_word, function_word, argument_word, first_cell, top_word, Machine, int, ref, set_int, handed, reference_of, function_of, instr_at, step_of, at_stage, stopped, numbered, argument, spawn, start, begun, turn, may_go, counted, Turn, Global, put, is_started, MayTurn, after_turn, one_thread, bounds, Register, Trap, Parameter, Instr, put_same, put_other, put_all, Targets, ObjectType, nothing, is_private, field_in, LessGate, Entry, Empty, Refers, Unknown, Number, Anything, Exactly, Within, Indexes, OfElement, OfGlobal, Named, Nth, HasName, empty, set_number, Closed, Label, Labels, Leads, HasBase, IsShared, Passes, IsWellTyped, Fine, Window, TypedReference, Holder, RegisterOf, ArgumentOf, LogOf, Staged, In, Slot, CellOf, World, Shut, Sole, WorldInvariant, in_ref, none, place, shift, MachineView, conc_of, lang_of, Shows, is_first, is_unread, if_reference, note_number, register_of, argument_of, staged_of, noted_by, logged, is_ended, has_withdrawn, set_reg, making_of, FitsContent, Reads, store, cell_at, count_at, length_at, shadow_at, Silently, made_turn, KeepsOthers, StopStands, State, IsSmall, View, view_of, vals_of, Runs, ThreadStands, Threads, Firsts, Reserves, SpawnsNow, EntryStands, NumberStands, TopStands, BelowStands, FramesStand, GateStands, StageStands, label_now, refs_at, types_at, size_of_run, Turned, Kept, sum_to, ne_eq}, Effects.{place_same, place_other, shift_ok}, Frames.{empty_stands, Agrees, Low, callers_agree, less_number, filled, less_stands, entry_kept}, Quiet.{KeepsThread, KeepsMost, heap_now, most_state, sum_up, label_held}, Others.{OnHold, loses}, Turns.{asks_turn, room_of}, Own.{ref_inside, int_inside, closed_less, runs_at}, Filled.{view_filled, below_filled, free_shut}, Calls.passed_entry, Listed.store_ok, Accesses.back_again, Begun.{begun_stands, begun_regs}, Stores.index_put, Seen.{reg_stored, stale_off}, Sums.sum_one, Starts.register_held, BitTurns.going_on}
 use Rattle.sharc_tree.specs.declared.trap.Trap.TheVariants as traps
 
 -- a word below the shadow words shows nothing of the world
@@ -46,7 +46,6 @@ is_spawning (Begins n) = true
 is_spawning _ = false
 
 spawning_hold : (y : Stage) → is_spawning y ≡ true → OnHold y
-spawning_hold (Links all) e = absurd (cc)
 spawning_hold Rests e = tt
 spawning_hold (Names n) e = tt
 spawning_hold (Hands n) e = tt
@@ -466,8 +465,7 @@ module _ (x : Targets) (code : Code) (s : Shape) (ls : Labels) (wt : IsWellTyped
       ⊎_elim (λ (z : v ≡ 0). omega arith)
       (λ (nz : v ≡ 0 → ⊥).
       let fi = st.inv.words.fits (In a) (λ z. nz (sym ev ∙ z)) in
-      let live : (world.obj v).live ≡ true = subst (λ v. (world.obj v).live ≡ true) ev fi.live in
-      let q = st.apart.headers v live in
+      let q = st.apart.headers v (subst (λ v. (world.obj v).live ≡ true) ev fi.live) in
       let g1 = fits.globals in let g2 = wt.globals.few in let g3 = fits.most in omega arith)
       (cases_eq v 0)
 
@@ -485,20 +483,7 @@ module _ (x : Targets) (code : Code) (s : Shape) (ls : Labels) (wt : IsWellTyped
   by_stage last (Begins n) e h d =
       let a = asks_turn code s g tr may (step_of (state_word n) (Swap 1)) (λ found. Rattle.sharc_code.specs.Machine.rests (set_int (handed mm from) r (pos n))) d in
       last n e h.0 h.1 h.2 a.0 a.1
-  by_stage last (Enters g) e h d = absurd h
-  by_stage last (Looks a b) e h d = absurd h
-  by_stage last (Clears a b c) e h d = absurd h
-  by_stage last (Makes v) e h d = absurd h
-  by_stage last (Empties a b) e h d = absurd h
-  by_stage last (Lowers a b c) e h d = absurd h
-  by_stage last (FreeLooks a b) e h d = absurd h
-  by_stage last (FreeClears a b c) e h d = absurd h
-  by_stage last (Uncounts a) e h d = absurd h
-  by_stage last (Links a) e h d = absurd h
-  by_stage last (Withdraws a) e h d = absurd h
-  by_stage last (WithdrawsFrom a b) e h d = absurd h
-  by_stage last Leaves e h d = absurd h
-  by_stage last (Wakes a) e h d = absurd h
+  by_stage last _ e h d = absurd h
 
   -- Spawn keeps the invariant where its last turn does
   pub Spawn_keeps_but_the_last : LastTurn → Turned x code s ls g world tr
@@ -567,7 +552,6 @@ module _ (x : Targets) (code : Code) (s : Shape) (ls : Labels) (wt : IsWellTyped
 
   most_last : KeepsMost s st.heap g tr.thread begun_words
   most_last =
-      let low = reserves.few in
       let kept0 = store_ok (record { first = 1 + s.globals; words = first_cell s }) st.heap st.heap_stands.kept (state_word n) 1 (omega arith) (λ p u d e q. absurd (omega arith)) in
       let fe : put st.heap.words (state_word n) 1 ≡ (λ i. slice_index begun_words i) = fun_ext (λ i. ap (λ (h : ℕ → ℕ). put h (state_word n) 1 i) (fun_ext st.heap_stands.words) ∙ sym (word_at i)) in
       record {
@@ -723,7 +707,6 @@ module _ (x : Targets) (code : Code) (s : Shape) (ls : Labels) (wt : IsWellTyped
       let t = tr.thread in
       let m = g.threads tr.thread in
       let new = (ls.at (m.at.pc + 1)).gate in
-      let closed : new ≡ Closed = closed_less new (subst (λ y. LessGate y new) kg leads.gate) in
       let still : w'.win t ≡ Shut = ap (λ (f : ℕ → Window). f t) ew ∙ shut x code s ls wt fits g world st tr may r f from site is sp in
       let rn' = rn x code s ls wt fits g world st tr may r f from site is sp in
       let off_n : g.started n ≡ false = (st.begins.started n reserves.few).0 reserves.state in
@@ -736,7 +719,7 @@ module _ (x : Targets) (code : Code) (s : Shape) (ls : Labels) (wt : IsWellTyped
       (λ _. runs_at x code s ls st.elements w' (heap_now st.heap begun_words) then_ t last names refl
       (less_stands x t (view_of st.elements w' t last) m.at.refs m.at.ints names k (ls.at (m.at.pc + 1)) leads tops)
       (subst (FramesStand x code ls t (view_of st.elements w' t last) last) (sym leads.function) below)
-      (subst (GateStands s w' t last) (sym closed) still)
+      (subst (GateStands s w' t last) (sym (closed_less new (subst (λ y. LessGate y new) kg leads.gate))) still)
       (λ q. rn'.room (sym kr ∙ leads.room q)))
       (λ e. absurd (cc)) room
 
@@ -744,12 +727,10 @@ module _ (x : Targets) (code : Code) (s : Shape) (ls : Labels) (wt : IsWellTyped
 number_plain : (x : Targets) (el el' refs refs' : ℕ → ℕ) (types types' : ℕ → ObjectType) (names names' : ℕ → ℤ) (z : ℤ) (n : Number) → ((b : ℕ) → HasBase n b → ⊥) → ((name : ℕ) → HasName n name → ⊥)
     → NumberStands x el refs types names z n → NumberStands x el' refs' types' names' z n
 number_plain x el el' refs refs' types types' names names' z Anything hb hn h = tt
-number_plain x el el' refs refs' types types' names names' z (Exactly y) hb hn h = h
-number_plain x el el' refs refs' types types' names names' z (Within w) hb hn h = h
 number_plain x el el' refs refs' types types' names names' z (Indexes k) hb hn h = absurd (hn k refl)
 number_plain x el el' refs refs' types types' names names' z (OfElement b f e) hb hn h = absurd (hb b refl)
 number_plain x el el' refs refs' types types' names names' z (OfGlobal a b c (Named k)) hb hn h = absurd (hn k refl)
-number_plain x el el' refs refs' types types' names names' z (OfGlobal a b c (Nth k)) hb hn h = h
+number_plain x el el' refs refs' types types' names names' z _ hb hn h = h
 
 -- an integer register of the frame on top holds something else
 number_set : (x : Targets) (t : ℕ) (v : View) (base ints : ℕ) (names : ℕ → ℤ) (l : Label) (r : ℕ) (n : Number) (vals : ℕ → ℤ) → ((j : ℕ) → j ≢ ints + r → vals j ≡ v.vals j)
@@ -797,7 +778,6 @@ module _ (x : Targets) (code : Code) (s : Shape) (ls : Labels) (wt : IsWellTyped
       let tp = subst (TopStands x t v m.at.refs m.at.ints rn'.names) (now_here x code s ls wt fits g world st tr may r f (Register.Int i) site is spn) rn'.top in
       let start = wt.starts f fi.3 in
       let z = int m i in
-      let lt_n = reserves.few in
       let nr : (function_of code f).parameter ≢ Parameter.Reference = λ e. let q : Parameter.Int ≡ Parameter.Reference = sym fi.5.0 ∙ e in cc in
       let own_number = (tp 0 (suc i)).numbers i (omega arith) in
       let back = back_again fi.5.2.0 z (less_number x st.elements (refs_at v m.at.refs) (types_at v m.at.refs) rn'.names z (here.ints i) (Within fi.5.2.0) fi.5.2.1 own_number) in

@@ -4,7 +4,6 @@ use Rattle.sharc_invariant.proofs.{Imports.{◌≡◌, ℕ, zero, suc, ◌+◌, 
 -- where something stands directly before, the registers of a thread refer to what they hold
 registers_shown : (l : Label) (i : Instr) (stage : Stage) (base : ℕ) → ((label_now l i stage).gate ≡ Closed) ⊎ ((j : ℕ) → is_freed i stage base j ≡ false)
 registers_shown l (Instr.Free r layout site) (Links all) base = inl refl
-registers_shown l (Instr.Free r layout site) _ base = inr (λ j. refl)
 registers_shown l _ stage base = inr (λ j. refl)
 
 module _ (x : Targets) (code : Code) (s : Shape) (ls : Labels) (wt : IsWellTyped x code ls) (g : Global Machine) (world : World) (st : State x code s ls g world) where
@@ -54,7 +53,6 @@ module _ (x : Targets) (code : Code) (s : Shape) (ls : Labels) (wt : IsWellTyped
   unfolding total
   count_stands o nz live =
       let word : slice_index g.words (count_word s o) ≡ slice_index g.words (count_at s o) = ap (λ i. slice_index g.words i) (count_is s o (st.apart.headers o live)) in
-      let counted : world.count o ≡ total (size_of_run code s) world.slots o = st.inv.words.counts o nz live (st.rows o nz live).0 in
       let shown = st.sim.counts o nz live in
       let f = world.slots in
       let all_regs = FRAMES * most_refs code.functions.items in
@@ -66,7 +64,7 @@ module _ (x : Targets) (code : Code) (s : Shape) (ls : Labels) (wt : IsWellTyped
       let d = sum_ext THREADS (λ t. one (hand_refers g t) o) (λ t. one (f (In (Staged t))).reference o) (λ t _. ap (λ n. one n o) (st.sim.staged t)) in
       let e = sum_ext (granules s) (λ p. sum_to (2 * granules s) (λ i. one (cell_refers x s g obj p i) o)) (λ p. sum_to (2 * granules s) (λ i. one (f (CellOf p i)).reference o))
       (λ p _. sum_ext (2 * granules s) (λ i. one (cell_refers x s g obj p i) o) (λ i. one (f (CellOf p i)).reference o) (λ i _. ap (λ n. one n o) (sym (cell_is p i)))) in
-      word ∙ sym shown ∙ counted ∙ (omega arith)
+      word ∙ sym shown ∙ (st.inv.words.counts o nz live (st.rows o nz live).0) ∙ (omega arith)
 
   -- ---- one reference
   has : (a : Holder) (t o : ℕ) → in_ref world a ≡ o → Rattle.sharc_invariant.specs.World.thread_of a ≡ t → o ≢ 0 → Has x obj t o
@@ -105,23 +103,20 @@ module _ (x : Targets) (code : Code) (s : Shape) (ls : Labels) (wt : IsWellTyped
     reads plain r = st.sim.regs t (m.at.refs + r) ∙ plain (m.at.refs + r)
 
     base_is : Plain → (c : Cell) → base_of world t (base_of_cell (g.threads t) c) ≡ object_of_cell (g.threads t) c
-    base_is plain (Cell.Global h p) = refl
-    base_is plain (Cell.GlobalAt h i) = refl
     base_is plain (Cell.Object r i) = reads plain r
     base_is plain (Cell.ObjectAt r i) = reads plain r
+    base_is plain _ = refl
 
     held : Plain → (r : ℕ) → in_ref world (RegisterOf t ((g.threads t).at.refs + r)) ≢ 0 → (ref (g.threads t) r ≢ 0) × ((obj (ref (g.threads t) r)).live ≡ true)
     held plain r nz =
         let e = reads plain r in
-        let k = st.inv.words.fits (In (RegisterOf t (m.at.refs + r))) nz in
         let P : ℕ → Type 0 = λ o. (obj o).live ≡ true in
-        ((λ z. nz (e ∙ z)), subst P e k.live)
+        ((λ z. nz (e ∙ z)), subst P e (st.inv.words.fits (In (RegisterOf t (m.at.refs + r))) nz).live)
 
     kept : Plain → (c : Cell) → Based world t (base_of_cell (g.threads t) c) → IsKept obj (g.threads t) c
-    kept plain (Cell.Global h p) b = b.0
-    kept plain (Cell.GlobalAt h i) b = b.0
     kept plain (Cell.Object r i) b = held plain r b
     kept plain (Cell.ObjectAt r i) b = held plain r b
+    kept plain _ b = b.0
 
     loaded : Plain → (c : Cell) → world.win t ≡ IsLoaded (base_of_cell (g.threads t) c) (number_in (g.threads t) c) (g.threads t).pending → IsKept obj (g.threads t) c × HoldsStill x s g obj (g.threads t) c
     loaded plain c w =
@@ -153,14 +148,11 @@ module _ (x : Targets) (code : Code) (s : Shape) (ls : Labels) (wt : IsWellTyped
     window : (k : Gate) → (k ≡ Closed) ⊎ Plain → GateStands s world t (g.threads t) k → WindowStands x code s g obj t (g.threads t) k
     window Closed p h = tt
     window (Holds c) p h = tt
-    window (Checked write c) (inl e) h = absurd (cc)
     window (Checked write c) (inr plain) h = kept plain c (subst (WinOk (lang_of x) world t) h (st.inv.wins t)).based
-    window (Loaded c) (inl e) h = absurd (cc)
     window (Loaded c) (inr plain) h = loaded plain c h
-    window (HoldsLoaded c) (inl e) h = absurd (cc)
     window (HoldsLoaded c) (inr plain) h = loaded plain c h.0
-    window (Sole r cleared) (inl e) h = absurd (cc)
     window (Sole r cleared) (inr plain) h = alone plain r h
+    window _ (inl e) h = absurd (cc)
 
     gate_shown : ((label_of code ls (g.threads t)).gate ≡ Closed) ⊎ Plain
     gate_shown = ⊎_elim
@@ -175,17 +167,13 @@ module _ (x : Targets) (code : Code) (s : Shape) (ls : Labels) (wt : IsWellTyped
     loaded_window : (k : Gate) → WasLoaded k → GateStands s world t (g.threads t) k → (c : Cell) × (world.win t ≡ IsLoaded (base_of_cell (g.threads t) c) (number_in (g.threads t) c) (g.threads t).pending)
     loaded_window (Loaded c) w h = (c, h)
     loaded_window (HoldsLoaded c) w h = (c, h.0)
-    loaded_window Closed w h = absurd w
-    loaded_window (Checked write c) w h = absurd w
-    loaded_window (Holds c) w h = absurd w
-    loaded_window (Sole r cleared) w h = absurd w
+    loaded_window _ w h = absurd w
 
     typed_register : IsOn g t → (r : ℕ) → register_refers code g t ((g.threads t).at.refs + r) ≢ 0
         → HasType obj (λ q. register_refers code g t ((g.threads t).at.refs + q)) (register_refers code g t ((g.threads t).at.refs + r)) ((label_of code ls (g.threads t)).env r)
     typed_register on r nz =
         let base = m.at.refs in
         let v = view_of st.elements world t m in
-        let rn = (st.threads t).runs on.0 on.1 in
         let refs : ℕ → ℕ = λ q. register_refers code g t (base + q) in
         let same : refs_at v base ≡ refs = fun_ext (λ q. st.sim.regs t (base + q)) in
         let nz' : in_ref world (RegisterOf t (base + r)) ≢ 0 = λ z. nz (sym (st.sim.regs t (base + r)) ∙ z) in
@@ -194,12 +182,11 @@ module _ (x : Targets) (code : Code) (s : Shape) (ls : Labels) (wt : IsWellTyped
           | Empty ↦ λ k. absurd (nz' k)
           | Unknown ↦ λ k. k
           | Refers y ↦ λ k. typed ∙ k nz' ∙ ap (λ (f : ℕ → ℕ). type_of f (f r) y) same
-        ] ((rn.top (suc r) 0).env r (omega arith))
+        ] ((((st.threads t).runs on.0 on.1).top (suc r) 0).env r (omega arith))
 
   unloaded : (t u r : ℕ) → IsOn g t → IsOn g u → IsSole (label_of code ls (g.threads t)).gate r → WasLoaded (label_of code ls (g.threads u)).gate → (g.threads u).pending ≢ ref (g.threads t) r
   unloaded t u r ont onu sole was e =
-      let a = window_stands t ont in
-      let alone' = at_sole t r (label_of code ls (g.threads t)).gate sole a in
+      let alone' = at_sole t r (label_of code ls (g.threads t)).gate sole (window_stands t ont) in
       let w = loaded_window u (label_of code ls (g.threads u)).gate was ((st.threads u).runs onu.0 onu.1).gate in
       let k = subst (WinOk (lang_of x) world u) w.1 (st.inv.wins u) in
       let o = base_of world u (base_of_cell (g.threads u) w.0) in
@@ -207,11 +194,7 @@ module _ (x : Targets) (code : Code) (s : Shape) (ls : Labels) (wt : IsWellTyped
     where
       at_sole : (t r : ℕ) (k : Gate) → IsSole k r → WindowStands x code s g obj t (g.threads t) k → IsAlone x code s g obj t ((g.threads t).at.refs + r) (ref (g.threads t) r)
       at_sole t r (Sole q cleared) e h = subst (λ q. IsAlone x code s g obj t ((g.threads t).at.refs + q) (ref (g.threads t) q)) e h
-      at_sole t r Closed e h = absurd e
-      at_sole t r (Checked write c) e h = absurd e
-      at_sole t r (Holds c) e h = absurd e
-      at_sole t r (Loaded c) e h = absurd e
-      at_sole t r (HoldsLoaded c) e h = absurd e
+      at_sole t r _ e h = absurd e
 
   pub stands : MachineInvariant x code s ls g world.obj
   stands = record {

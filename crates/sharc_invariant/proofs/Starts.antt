@@ -1,5 +1,5 @@
 -- Start keeps the invariant: a thread loads its function, and then its argument, and enters it.
-use Rattle.sharc_invariant.proofs.{Imports.{◌≡◌, ℕ, ℤ, pos, suc, ◌+◌, ◌*◌, ◌^◌, ◌<◌, ◌≢◌, ◌⊎◌, ◌&&◌, Bool, true, false, cond, List, Some, None, refl, sym, ap, ◌∙◌, subst, inl, inr, ⊎_elim, arith, cases_eq, nat_tests, length-set, get_or-set_same, get_or-set_other, set-get_or, fun_ext, length, slice_index, slice_index_or, slice_set, nat_lt, ◌==◌, THREADS, Load, HeldMutex, object_of, Kind, Read, Write, Accesses, note_of, FRAMES, Code, Parameter, Shape, At, Frame, StateOf, RunsOn, Tries, Stopped, Ended, Stage, Rests, Looks, Clears, Makes, Empties, Lowers, FreeLooks, FreeClears, Uncounts, Links, Names, Hands, Begins, Enters, Withdraws, WithdrawsFrom, Leaves, Wakes, int_of, Fits, function_at, state_word, function_word, argument_word, Machine, Asks, reference_of, function_of, instr_at, no_frame, step_of, at_stage, called, trapped, with_parameter, entered, start, turn, may_go, counted, most_refs, Turn, Global, put, MayTurn, after_turn, one_thread, bounds, Instr, put_same, put_other, put_all, Targets, nothing, Empty, Refers, Unknown, Label, Labels, Less, HasBase, IsWellTyped, Fine, MayStart, entry_label, refs_in, TypedReference, Holder, RegisterOf, ArgumentOf, LogOf, Staged, In, Slot, CellOf, World, Shut, Sole, WorldInvariant, in_ref, none, place, shift, MachineView, conc_of, lang_of, Shows, is_first, is_unread, if_reference, note_number, register_of, argument_of, staged_of, noted_by, logged, is_ended, has_withdrawn, making_of, Silently, made_turn, KeepsOthers, State, View, view_of, Runs, Threads, Firsts, SpawnsNow, EntryStands, NumberStands, TopStands, StartStands, FramesStand, GateStands, StageStands, OnStart, label_now, frame_at, refs_at, types_at, size_of_run, Turned, ne_eq}, Effects.{place_same, place_other, shift_ok}, Frames.{less_stands, entry_kept, number_kept}, Quiet.{KeepsThread, heap_now, started_same, sum_up, kept_state, label_held, freed_held}, Others.{OnHold, loses}, Turns.{asks_turn, room_of}, Own.{closed_less, runs_at, refs_most, ints_most}, Plain.{same_words, same_others}, Filled.free_shut, Seen.reg_stored}
+use Rattle.sharc_invariant.proofs.{Imports.{◌≡◌, ℕ, ℤ, pos, suc, ◌+◌, ◌*◌, ◌^◌, ◌<◌, ◌≢◌, ◌⊎◌, ◌&&◌, Bool, true, false, cond, List, Some, None, refl, sym, ap, ◌∙◌, subst, inl, inr, ⊎_elim, arith, cases_eq, nat_tests, length-set, get_or-set_same, get_or-set_other, set-get_or, fun_ext, length, slice_index, slice_index_or, slice_set, nat_lt, ◌==◌, THREADS, Load, HeldMutex, object_of, Kind, Read, Write, Accesses, note_of, FRAMES, Code, Parameter, Shape, At, Frame, RunsOn, Stage, Rests, Looks, Clears, Makes, Empties, Lowers, FreeLooks, FreeClears, Uncounts, Links, Names, Hands, Begins, Enters, Withdraws, WithdrawsFrom, Leaves, Wakes, int_of, Fits, function_at, state_word, function_word, argument_word, Machine, Asks, reference_of, function_of, instr_at, no_frame, step_of, at_stage, called, trapped, with_parameter, entered, start, turn, counted, most_refs, Turn, Global, put, MayTurn, after_turn, one_thread, bounds, Instr, put_same, put_other, put_all, Targets, nothing, Empty, Refers, Unknown, Label, Labels, Less, HasBase, IsWellTyped, Fine, MayStart, entry_label, refs_in, TypedReference, Holder, RegisterOf, ArgumentOf, LogOf, Staged, In, Slot, CellOf, World, Shut, Sole, WorldInvariant, in_ref, none, place, shift, MachineView, conc_of, lang_of, Shows, is_first, is_unread, if_reference, note_number, register_of, argument_of, staged_of, noted_by, logged, is_ended, has_withdrawn, making_of, Silently, made_turn, KeepsOthers, State, View, view_of, Runs, Threads, Firsts, SpawnsNow, EntryStands, NumberStands, TopStands, StartStands, FramesStand, GateStands, StageStands, OnStart, label_now, frame_at, refs_at, types_at, size_of_run, Turned, ne_eq}, Effects.{place_same, place_other, shift_ok}, Frames.{less_stands, entry_kept, number_kept}, Quiet.{KeepsThread, heap_now, started_same, sum_up, kept_state, label_held, freed_held}, Others.{OnHold, loses}, Turns.{asks_turn, room_of}, Own.{closed_less, runs_at, refs_most, ints_most}, Plain.{same_words, same_others}, Filled.free_shut, Seen.reg_stored, BitTurns.going_on}
 use Rattle.sharc_tree.specs.declared.trap.Trap.{Trap}
 
 -- ---- the machine that enters a function
@@ -29,13 +29,11 @@ early_making _ e = refl
 early_hold : (y : Stage) → is_early y ≡ true → OnHold y
 early_hold Rests e = tt
 early_hold (Enters f) e = tt
-early_hold (Links all) e = absurd (cc)
 early_hold _ e = absurd (cc)
 
 early_staged : (y : Stage) → is_early y ≡ true → staged_of y ≡ 0
 early_staged Rests e = refl
 early_staged (Enters f) e = refl
-early_staged (Lowers a b c) e = absurd (cc)
 early_staged _ e = absurd (cc)
 
 early_spawns : (y : Stage) (n : ℕ) → is_early y ≡ true → SpawnsNow y n → ⊥
@@ -52,12 +50,6 @@ early_withdrawn : (y : Stage) (order : List ℕ) (ended : Bool) (p : ℕ) → is
 early_withdrawn Rests order ended p e = refl
 early_withdrawn (Enters f) order ended p e = refl
 early_withdrawn _ order ended p e = absurd (cc)
-
-pub going_on : (y : StateOf) → may_go y ≡ true → is_ended y ≡ false
-going_on RunsOn e = refl
-going_on Tries e = refl
-going_on Stopped e = refl
-going_on Ended e = absurd (cc)
 
 early_notes : (m m' : Machine) → m'.own.table ≡ m.own.table → is_early m.own.stage ≡ true → is_early m'.own.stage ≡ true → is_ended m.at.state ≡ false → is_ended m'.at.state ≡ false → (kind : Kind) (p : ℕ) → noted_by m' kind p ≡ noted_by m kind p
 early_notes m m' et es er eb ee kind p =
@@ -502,30 +494,14 @@ module _ (x : Targets) (code : Code) (s : Shape) (ls : Labels) (wt : IsWellTyped
   second_turn f e h d =
       let k = argument_word m.own.number in
       let done = loaded k (entered code m f site (slice_index g.words k)) (asks_turn code s g tr may (step_of k Load) (entered code m f site) d).0 in
-      let early : is_early m.own.stage ≡ true = ap is_early e in
       let own = slice_index g.words (function_word t) in
-      by_parameter early (function_of code own).parameter refl
+      by_parameter (ap is_early e) (function_of code own).parameter refl
       (done ∙ ap (λ f. made_turn g t g.words (entered code m f site (slice_index g.words k))) (sym h) ∙ ap (λ n. made_turn g t g.words (entered code m own site (slice_index g.words (argument_word n)))) number_is)
 
   by_stage : (y : Stage) → (g.threads tr.thread).own.stage ≡ y → StageStands code s st.elements world st.heap g.words tr.thread (g.threads tr.thread) (Instr.Start site) y → turn code s (g.threads tr.thread) ≡ start code (g.threads tr.thread) site y → Turned x code s ls g world tr
   by_stage Rests e h d = first_turn Rests e refl d
   by_stage (Enters f) e h d = second_turn f e h d
-  by_stage (Looks a b) e h d = absurd h
-  by_stage (Clears a b c) e h d = absurd h
-  by_stage (Makes v) e h d = absurd h
-  by_stage (Empties a b) e h d = absurd h
-  by_stage (Lowers a b c) e h d = absurd h
-  by_stage (FreeLooks a b) e h d = absurd h
-  by_stage (FreeClears a b c) e h d = absurd h
-  by_stage (Uncounts a) e h d = absurd h
-  by_stage (Links a) e h d = absurd h
-  by_stage (Names n) e h d = absurd h
-  by_stage (Hands n) e h d = absurd h
-  by_stage (Begins n) e h d = absurd h
-  by_stage (Withdraws a) e h d = absurd h
-  by_stage (WithdrawsFrom a b) e h d = absurd h
-  by_stage Leaves e h d = absurd h
-  by_stage (Wakes a) e h d = absurd h
+  by_stage _ e h d = absurd h
 
   pub Start_keeps : Turned x code s ls g world tr
   Start_keeps =

@@ -29,11 +29,10 @@ element_named names name z n (Nth k) ne h = h
 
 pub number_named : (x : Targets) (elements refs : ℕ → ℕ) (types : ℕ → ObjectType) (names : ℕ → ℤ) (name : ℕ) (z v : ℤ) (n : Number) → (HasName n name → ⊥) → NumberStands x elements refs types names v n → NumberStands x elements refs types (put names name z) v n
 number_named x elements refs types names name z v Anything ne h = tt
-number_named x elements refs types names name z v (Exactly y) ne h = h
-number_named x elements refs types names name z v (Within w) ne h = h
 number_named x elements refs types names name z v (Indexes k) ne h = h ∙ sym (put_other names name k z (λ q. ne q))
 number_named x elements refs types names name z v (OfElement b field e) ne h = (h.0, h.1, h.2, element_named names name z h.0 e ne h.3)
 number_named x elements refs types names name z v (OfGlobal first count all e) ne h = (h.0, h.1, h.2, element_named names name z h.0 e ne h.3)
+number_named x elements refs types names name z v _ ne h = h
 
 named_top : (x : Targets) (t : ℕ) (v : View) (base ints : ℕ) (names : ℕ → ℤ) (l : Label) (from name : ℕ) → Fresh l name → TopStands x t v base ints names l
     → TopStands x t v base ints (put names name (v.vals (ints + from))) (record l { ints = put l.ints from (Indexes name) })
@@ -221,9 +220,8 @@ module _ (x : Targets) (code : Code) (s : Shape) (ls : Labels) (wt : IsWellTyped
             (λ k.
             let z : view.refs (mm.at.refs + r) ≡ 0 = sym is_ref ∙ (let q = eqb-true (ref mm r) 0 b in q) in
             let same : filled view (mm.at.refs + r) 0 (types_at view mm.at.refs r) ≡ view =
-            let a = fun_ext (put_self view.refs (mm.at.refs + r) 0 (sym z)) in
             let c = fun_ext (put_self view.types (mm.at.refs + r) (types_at view mm.at.refs r) refl) in
-            λ j. record view { refs = a j; types = c j } in
+            λ j. record view { refs = (fun_ext (put_self view.refs (mm.at.refs + r) 0 (sym z))) j; types = c j } in
             jumps x code s ls wt g world st tr may i is refl to (empty l r) e f.0 k.1 refl refl room'
             (subst (λ v. TopStands x tr.thread v mm.at.refs mm.at.ints names' (empty l r)) same
             (empty_stands x tr.thread view mm.at.refs mm.at.ints names' l r (types_at view mm.at.refs r) k.0.paths here_top)))

@@ -13,12 +13,11 @@ based_refs w v t (OfGlobals n) e eo h = (ap (λ (f : ℕ → _). (f n).live) eo 
 
 can_refs : (l : TypeRules) (w v : World) (t : ℕ) (k : Bool) (o i : ℕ) (m : CellMode) → ((q : Slot) → (v.slots q).reference ≡ (w.slots q).reference) → v.obj ≡ w.obj → v.gran ≡ w.gran → v.mutex ≡ w.mutex → CanBy l w t k o i m → CanBy l v t k o i m
 can_refs l w v t k o i Private e eo eg em h = ap (λ (f : ℕ → _). (f o).owner) eo ∙ h
-can_refs l w v t k o i Readonly e eo eg em h = h
-can_refs l w v t k o i Racy e eo eg em h = h
 can_refs l w v t k o i Dynamic e eo eg em h = subst (λ (f : ℕ → ℕ → _). Rattle.sharc_invariant.specs.Granules.Passed (f o (l.granule i)) t k) (sym eg) h
 can_refs l w v t k o i (Locked p j) e eo eg em h = ap (λ (f : ℕ → ℕ → ℕ). f p j) em ∙ h
 can_refs l w v t k o i (Sibling j) e eo eg em h = ap (λ (f : ℕ → ℕ → ℕ). f o j) em ∙ h
 can_refs l w v t k o i (Behind j) e eo eg em h = ap (λ (f : ℕ → ℕ → ℕ). f (v.slots (CellOf o j)).reference 0) em ∙ ap (λ p. w.mutex p 0) (e (CellOf o j)) ∙ h
+can_refs l w v t k o i _ e eo eg em h = h
 
 module _ (x : Targets) (code : Code) (s : Shape) (ls : Labels) (wt : IsWellTyped x code ls) (fits : Fits code s) (g : Global Machine) (world : World) (st : State x code s ls g world) (tr : Turn)
     (may : MayTurn bounds (one_thread code s) g tr) (i : Instr) (is : instr_at code (g.threads tr.thread).at.pc ≡ i) (single : is_single i ≡ true)
@@ -146,9 +145,8 @@ module _ (x : Targets) (code : Code) (s : Shape) (ls : Labels) (wt : IsWellTyped
 
     inv2 : WorldInvariant (size_of_run code s) (lang_of x) (set_win (swap w1 o j a) tr.thread Shut)
     inv2 =
-        let b = base_of_cell m c in
         subst (λ o. WorldInvariant (size_of_run code s) (lang_of x) (set_win (swap w1 o j a) t Shut)) base1
-        (exchange_ok (size_of_run code s) (lang_of x) w1 inv1 (lang_laws x code ls wt) t b j a rt1 refl
+        (exchange_ok (size_of_run code s) (lang_of x) w1 inv1 (lang_laws x code ls wt) t (base_of_cell m c) j a rt1 refl
         (subst (λ o. Inside (size_of_run code s) (CellOf o j)) (sym base1) inside_c) inside_r
         (ap (λ (y : TypedReference). y.ty) (place_same world.slots (In a) X) ∙ ap (λ o. type_at x (world.obj o).ty o j) (sym base1))
         (λ e. wt.targets.pointers (world.obj o).ty j ptr (ap (λ o. mode_at x (world.obj o).ty j) (sym base1) ∙ e)))
@@ -185,8 +183,7 @@ module _ (x : Targets) (code : Code) (s : Shape) (ls : Labels) (wt : IsWellTyped
     small = ⊎_elim (λ (z : v ≡ 0). omega arith)
         (λ (nz : v ≡ 0 → ⊥).
         let f = st.inv.words.fits (In a) (λ z. nz (sym ev ∙ z)) in
-        let live : (world.obj v).live ≡ true = subst (λ v. (world.obj v).live ≡ true) ev f.live in
-        let q = st.apart.headers v live in
+        let q = st.apart.headers v (subst (λ v. (world.obj v).live ≡ true) ev f.live) in
         let g1 = fits.globals in let g2 = wt.globals.few in let g3 = fits.most in omega arith)
         (cases_eq v 0)
 

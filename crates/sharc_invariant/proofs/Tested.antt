@@ -29,7 +29,6 @@ test_stands x code s ls wt g world st tr may r site is =
     let w = count_word s (ref m r) in
     let found = slice_index g.words w in
     let act_is = ap (λ i. act code s i m) is in
-    let found_is : result_of tr.event ≡ found = found_at code s g tr may (test_of w) (tested m site) act_is in
     let number : found ≡ references_to x code s g world.obj (ref m r) = count_stands x code s ls wt g world st (ref m r) nzm live in
     let counted : world.count (ref m r) ≡ found = st.sim.counts (ref m r) nzm live ∙ ap (slice_index g.words) (sym (count_is s (ref m r) (st.apart.headers (ref m r) live))) in
     let some : 1 ≤ found = subst (λ n. 1 ≤ n) (ap world.count (sym reads) ∙ counted) (count_pos (size_of_run code s) (lang_of x) world st.inv (In (RegisterOf t k)) nz) in
@@ -37,7 +36,7 @@ test_stands x code s ls wt g world st tr may r site is =
     let goes_is : may_go ((after_turn bounds (one_thread code s) g tr).threads t).at.state ≡ (found == 1) =
     ap (λ (y : Global Machine). may_go (y.threads t).at.state) done.0 ∙ ap (λ (n : Machine). may_go n.at.state) (put_same g.threads t (tested m site found)) ∙ goes_at_one m (NotSole site found) (found == 1) in
     record {
-      number = found_is ∙ number;
+      number = (found_at code s g tr may (test_of w) (tested m site) act_is) ∙ number;
       refused = λ z. subst (λ n. 2 ≤ n) number (more_than_one found some (λ e. let one' : (found == 1) ≡ true = ap (λ n. n == 1) e ∙ eq_refl 1 in let none = sym goes_is ∙ z in absurd (cc)));
     }
 

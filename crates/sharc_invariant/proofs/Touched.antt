@@ -106,29 +106,25 @@ module _ (code : Code) (s : Shape) (m : Machine) where
   at_test (suc h) x = λ p lp e. absurd (off_count s (suc h) p lp e)
 
   at_stage_of : (r site : ℕ) (state : NewView) (a : NewArguments) (stage : NewStage) → a.first ≡ first_cell s → LeavesWords s (asks_new m r site state (turn_of_stage a stage))
-  at_stage_of r site state a NewStage.Begins e = tt
   at_stage_of r site state a NewStage.Link e = λ p lp z. absurd (off_new s a (a.first + 2 * a.head + 1) e (omega arith) p lp z)
   at_stage_of r site state a (NewStage.Cell cell) e = λ p lp z. absurd (off_new s a (a.first + 2 * a.head + 2 + cell) e (omega arith) p lp z)
   at_stage_of r site state a NewStage.Top e = λ p lp e. absurd (off_low s 1 (omega arith) p lp e)
   at_stage_of r site state a (NewStage.Move top moved) e = λ p lp e. absurd (off_low s 1 (omega arith) p lp e)
   at_stage_of r site state a (NewStage.Count header) e = λ p lp z. absurd (off_new s a (a.first + 2 * header) e (omega arith) p lp z)
   at_stage_of r site state a (NewStage.Length header) e = λ p lp z. absurd (off_new s a (a.first + 2 * header + 1) e (omega arith) p lp z)
-  at_stage_of r site state a (NewStage.Made header) e = tt
-  at_stage_of r site state a NewStage.Full e = tt
+  at_stage_of r site state a _ e = tt
 
   at_new : (r elements cells site : ℕ) (stage : Stage) → IsFit s stage → LeavesWords s (new s m r elements cells site stage)
   at_new r elements cells site (Makes state) is = at_stage_of r site state state.arguments state.stage is
   at_new r elements cells site _ is = let state = told (new_state s m elements cells) 0 in at_stage_of r site state state.arguments state.stage refl
 
   at_clear : (r h cells : ℕ) (stage : Stage) → IsPlain (Clear r cells) stage → LeavesWords s (clear s m h cells stage)
-  at_clear r h cells (Looks done all) is = λ p lp e v. refl
   at_clear r h cells (Clears done all seen) is = absurd is
   at_clear r h cells _ is = λ p lp e v. refl
 
   at_free : (r layout site : ℕ) (l : Layout) (stage : Stage) → IsPlain (Free r layout site) stage → LeavesWords s (free code s m r l stage)
   at_free r layout site l (Empties i elements) is = λ p lp e. absurd (off_cell s _ p lp e)
   at_free r layout site l (Lowers i elements found) is = λ p lp e. absurd (off_count s found p lp e)
-  at_free r layout site l (FreeLooks done elements) is = λ p lp e v. refl
   at_free r layout site l (FreeClears done elements seen) is = absurd is
   at_free r layout site l (Uncounts elements) is = λ p lp e. absurd (off_count s (ref m r) p lp e)
   at_free r layout site l (Links elements) is = λ p lp e. absurd (off_length s (ref m r) p lp e)

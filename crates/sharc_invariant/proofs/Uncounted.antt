@@ -21,8 +21,6 @@ freed_granule a d h l = omega arith
 -- nobody has passed a check there, so nothing was noted in this epoch
 noted_low : (n : ℕ) (y : GranuleState) → Bits n y → ((t : ℕ) → Passed y t false → ⊥) → (t : ℕ) → (y.read_note t ≤ y.epoch) × (y.write_note t ≤ y.epoch)
 noted_low n y b none' t =
-    let r = b.read_low t in
-    let w = b.write_low t in
     let a : y.read_note t ≡ suc y.epoch → ⊥ = λ e. none' t (inl e) in
     let c : y.write_note t ≡ suc y.epoch → ⊥ = λ e. none' t (inr e) in (
       ⊎_elim (λ (e : y.read_note t ≡ suc y.epoch). absurd (a e)) (λ (ne : y.read_note t ≡ suc y.epoch → ⊥). omega arith) (cases_eq (y.read_note t) (suc y.epoch)),
@@ -126,8 +124,7 @@ module _ (x : Targets) (code : Code) (s : Shape) (ls : Labels) (wt : IsWellTyped
       let u = world.mutex o j - 1 in
       let v : world.mutex o j ≡ suc u = omega arith in
       let lt = st.locks.few o j u v in
-      let h : is_some (object_of (g.threads u).own.held (cell_at s o j)) ≡ true = (st.locks.held u o j lt z.0 z.1 z.2).0 v in
-      let e = logged_entry (g.threads u).own.held (cell_at s o j) h in
+      let e = logged_entry (g.threads u).own.held (cell_at s o j) ((st.locks.held u o j lt z.0 z.1 z.2).0 v) in
       let a = st.locks.logged u e.0 e.1.0 in
       let same = cell_cell x s st.cells st.elements (conc_of code g) world st.sim st.apart o j e.0.object a.0 z.0 a.1.1 z.1 a.1.2 (sym a.1.0 ∙ e.1.1) in
       unlogged x code s ls g world st t k win u e.0 e.1.0 same.0
@@ -195,10 +192,9 @@ module _ (x : Targets) (code : Code) (s : Shape) (ls : Labels) (wt : IsWellTyped
 
   sim : Shows x s st.cells st.elements (set_reg (record (conc_of code g) { words = λ j. slice_index words j }) tr.thread k 0) w'
   sim =
-      let c1 = store (conc_of code g) at 0 in
       let w1 : World = record world { count = put world.count o 0 } in
       let sim1 = count_stored x s st.cells st.elements (conc_of code g) world st.sim st.apart o 0 is_live in
-      let sim2 = reg_stored x s st.cells st.elements c1 w1 sim1 st.apart t k none in
+      let sim2 = reg_stored x s st.cells st.elements (store (conc_of code g) at 0) w1 sim1 st.apart t k none in
       let ws : (λ j. slice_index words j) ≡ put (λ j. slice_index g.words j) at 0 = fun_ext (index_put g.words at 0 done.1) in
       let w2 : World = record w1 { slots = place world.slots (In (RegisterOf t k)) none } in
       let sim3 : Shows x s st.cells st.elements (set_reg (record (conc_of code g) { words = λ j. slice_index words j }) t k 0) w2 = subst (λ f. Shows x s st.cells st.elements (set_reg (record (conc_of code g) { words = f }) t k 0) w2) (sym ws) sim2 in

@@ -30,8 +30,7 @@ logged_entry (a ∷ log) word e = elim (a.word == word) as (λ b. (a.word == wor
 pub unlogged : (x : Targets) (code : Code) (s : Shape) (ls : Labels) (g : Global Machine) (world : World) (st : State x code s ls g world) (t k : ℕ) → world.win t ≡ Sole k
     → (u : ℕ) (e : HeldMutex) → Contains (g.threads u).own.held e → e.object ≡ in_ref world (RegisterOf t k) → ⊥
 unlogged x code s ls g world st t k win u e c eo =
-    let held = (g.threads u).own.held in
-    let f = found held e c.0 c.1 c.2 in
+    let f = found ((g.threads u).own.held) e c.0 c.1 c.2 in
     let h = f.0 in
     let a = st.locks.logged u e c in
     let b = st.locks.logged u h f.1.0 in

@@ -155,8 +155,7 @@ module _ (x : Targets) (code : Code) (s : Shape) (ls : Labels) (wt : IsWellTyped
       let done : after ≡ made_turn g t words m' = done0.0 ∙ ap (λ k. made_turn g t (slice_set g.words k (bit_or (slice_index g.words k) bit)) m') th.word_is in
       let lt : k < length g.words = subst (λ k. k < length g.words) th.word_is done0.1 in
       let low : m.own.number < 64 = let a = (st.threads t).has.number in let b = st.begins.few t may.started in omega arith in
-      let small_bit : bit < 2 ^ 64 = pow_below m.own.number 64 low in
-      let small : v < 2 ^ 64 = or_lt 64 (slice_index g.words k) bit (st.are_words k) small_bit in
+      let small : v < 2 ^ 64 = or_lt 64 (slice_index g.words k) bit (st.are_words k) (pow_below m.own.number 64 low) in
       let ms = cell_store x code s ls g world st o j th.live th.number in
       let content : (field_in x (world.obj o).ty j).holds ≡ Waiters = ap (λ (f : Field). f.holds) th.field ∙ f.1.2 in
       let sim : Shows x s st.cells st.elements (record (conc_of code g) { words = λ n. slice_index words n }) world =
@@ -185,6 +184,4 @@ module _ (x : Targets) (code : Code) (s : Shape) (ls : Labels) (wt : IsWellTyped
 
       still_held : (c : Cell) → is_held (g.threads tr.thread) (word s (g.threads tr.thread) c) ≡ true → is_held (goes (g.threads tr.thread)) (word s (goes (g.threads tr.thread)) c) ≡ true
       still_held (Cell.Global a p) h = h
-      still_held (Cell.GlobalAt a p) h = h
-      still_held (Cell.Object a p) h = h
-      still_held (Cell.ObjectAt a p) h = h
+      still_held _ h = h

@@ -125,9 +125,8 @@ module _ (x : Targets) (code : Code) (s : Shape) (ls : Labels) (wt : IsWellTyped
           logged = λ u. subst (L w'.obj) (sym (held_now u)) (subst (λ f. L f (g.threads u).own.held) (sym eo) (st.locks.logged u));
           few = λ o j u e. st.locks.few o j u (sym (ap (λ (f : ℕ → ℕ → ℕ). f o j) em) ∙ e);
           only = λ o j ne.
-              let z = st.locks.only o j (λ e. ne (ap (λ (f : ℕ → ℕ → ℕ). f o j) em ∙ e)) in
               let O : (ℕ → ObjectState) → Type 0 = λ f. ((f o).live ≡ true) × (j < st.cells o) × (is_mutex (field_in x (f o).ty j).holds ≡ true) in
-              subst O (sym eo) z;
+              subst O (sym eo) (st.locks.only o j (λ e. ne (ap (λ (f : ℕ → ℕ → ℕ). f o j) em ∙ e)));
         } in
         changed_state x code s ls wt g world st t on words m' own (lower kw) st.cells st.elements (heap_now st.heap words) w' others args (λ u r _. refl) inv
         sim

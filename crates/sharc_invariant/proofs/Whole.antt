@@ -8,16 +8,11 @@ joined (x ∷ a) b c = ap (λ l. x ∷ l) (joined a b c)
 
 -- the events of another thread's turn add no access of this one
 others_none : (l : TypeRules) (t : ℕ) (returned changes : Bool) (w w' : World) (log : List Event) (u : ℕ) → u ≢ t → NoneOf l log u → (e : Effect l t returned changes w w') → NoneOf l (events_of l t returned changes w w' e ++ log) u
-others_none l t returned changes w w' log u ne h (Silently s) p i k = h p i k
 others_none l t returned changes w w' log u ne h (Accesses write b i right alone s) o g k = ⊎_elim (λ z. ne (sym z.3)) (h o g k)
-others_none l t returned changes w w' log u ne h (Clears r g e q) p i k = h p i k
 others_none l t returned changes w w' log u ne h (Gives r ty c e q) o g k = λ z. h o g k z.1
-others_none l t returned changes w w' log u ne h (Frees r c e q) p i k = h p i k
 others_none l t returned changes w w' log u ne h (Makes r o ty found c d n q) p g k = λ z. h p g k z.1
-others_none l t returned changes w w' log u ne h (Locks o j f q s) p i k = h p i k
-others_none l t returned changes w w' log u ne h (Unlocks o j f q s) p i k = h p i k
 others_none l t returned changes w w' log u ne h (Returns s) o g k = λ z. h o g k z.1
-others_none l t returned changes w w' log u ne h (Withdraws o g r q) p i k = h p i k
+others_none l t returned changes w w' log u ne h _ p i k = h p i k
 
 -- what a turn leaves of the histories of threads that have returned
 returned_stay : (x : Rattle.sharc_invariant.specs.Types.Targets) (code : Code) (s : Shape) (ls : Rattle.sharc_invariant.specs.Labels.Labels) (g : Global Machine) (world : World) (turn : Turn) (k : Followed x code s ls g world turn) (log : List Event)

@@ -33,8 +33,7 @@ not_before order zero p le h = refl
 not_before [] (suc row) p le h = absurd (omega arith)
 not_before (a ∷ order) (suc row) p le h =
     let q : (p == a) ≡ false = ne_eq p a (λ e. h 0 (omega arith) (sym e)) in
-    let r = not_before order row p (omega arith) (λ i lt. h (suc i) (omega arith)) in
-    rw (q, r) refl
+    rw (q, (not_before order row p (omega arith) (λ i lt. h (suc i) (omega arith)))) refl
 
 -- ---- the table
 -- a row is a granule
@@ -46,8 +45,7 @@ blank_past (a ∷ notes) (suc p) le = blank_past notes p (omega arith)
 pub row_low : (table : Accesses) → ListsNoted table → (row : ℕ) → row < length table.order → slice_index table.order row < length table.notes
 row_low table lists row lt =
     let p = slice_index table.order row in
-    let c : Contains table.order p = (row, lt, same_or table.order row p 0 lt) in
-    let n = lists.only p c in
+    let n = lists.only p (row, lt, same_or table.order row p 0 lt) in
     ⊎_elim (λ (l : p < length table.notes). l) (λ (ge : length table.notes ≤ p). let z = blank_past table.notes p ge in absurd (cc)) (cases_lt p (length table.notes))
 
 -- a granule that is in no row was not noted
