@@ -1,15 +1,6 @@
 -- A pointer cell that refers to an object by the events does so by the words, but where a Free empties its object.
-use Rattle.std.proofs.{Common.{◌≡◌, ◌≢◌, ℕ, ◌+◌, ◌*◌, ◌/◌, ◌^◌, ◌<◌, ◌⊎◌, inl, inr, true, cond, ◌&&◌, List, refl, sym, ap, ◌∙◌, subst, ⊎_elim, arith, ltb-true}, lemmas.Bool.and_parts}
-use Rattle.std.specs.Prelude.{slice_index, nat_lt}
-use Rattle.sharc_tree.specs.declared.event.CellAt.{CellAt}
-use Rattle.sharc_ctype.specs.Resolved.{Resolution}
-use Rattle.sharc_code.specs.{declared.code.Code.Code, declared.shape.Shape.Shape, Laws.RunLaws, Layout.{Fits, cell_word, cell_of}, Machine.Machine, Opening.opening_words, Runs.{Turn, Global, IsRun, opening_of}, Says.reference, Whole.{one_thread, bounds, place_after}}
-use Rattle.sharc_compile.specs.OfRuns.{table_of}
-use Rattle.sharc_meaning.specs.{References.refers, Store.value_after}
-use Rattle.sharc_invariant.specs.{Types.{Targets, field_in, is_pointer}, Labels.Labels, Typed.IsWellTyped, World.{Cell as CellOf, ObjectState, World}, State.{State, IsSmall}, Opened.{first_world, first_place}, Objects.objects_after, MachineInvariant.{cells_now, is_pointer_now, cell_refers}, Laws.{Keeps, Begins as CodeBegins, CellsAreThere, PointersAreThere, AccessesAreAllowed, StateStands}}
+use Rattle.sharc_history_laws.proofs.{Imports.{◌≡◌, ◌≢◌, ℕ, ◌+◌, ◌*◌, ◌/◌, ◌^◌, ◌<◌, ◌⊎◌, inl, inr, true, cond, ◌&&◌, List, refl, sym, ap, ◌∙◌, subst, ⊎_elim, arith, ltb-true, and_parts, slice_index, nat_lt, CellAt, Resolution, Code, Shape, RunLaws, Fits, cell_word, cell_of, Machine, opening_words, Turn, Global, IsRun, opening_of, reference, one_thread, bounds, place_after, table_of, refers, value_after, Targets, field_in, is_pointer, Labels, IsWellTyped, CellOf, ObjectState, World, State, IsSmall, first_world, first_place, objects_after, cells_now, is_pointer_now, cell_refers, Keeps, CodeBegins, CellsAreThere, PointersAreThere, AccessesAreAllowed, StateStands, history_of, IsBeingFreed, IsCellIn, BeginsWith}, Contents.{newest_value, value_is, value_held, IsCellOf, content_of, word_of_cell}, Emptying.IsEmptied, Finds.low_slot, Kept.referred, Locked.Names, OneMode.place_of, Rules.newest, SeenCells.{Seen, seen, cell_word_is, cells_are, freed, holds_reference, names, number_is, place_is}, Shared.number_of, Unwritten.pointer_value}
 use Rattle.sharc_invariant.specs.Words as Words
-use Rattle.sharc_history_laws.specs.{History.history_of, SeenCells.{IsBeingFreed, IsCellIn}, Stores.BeginsWith}
-use Rattle.sharc_history_laws.proofs.{Contents.{newest_value, value_is, value_held, IsCellOf, content_of, word_of_cell}, Emptying.IsEmptied, Finds.low_slot, Kept.referred, Locked.Names, OneMode.place_of, Rules.newest, SeenCells.{Seen, seen, cell_word_is, cells_are, clears, holds_reference, names, number_is, place_is, pointer_value}, Shared.{number_of, some_closing}, Unemptied.on_hold, Unwritten.emptying}
 
 module _ (state_law : StateStands) (cell_laws : CellsAreThere) (x : Targets) (code : Code) (s : Shape) (ls : Labels) (wt : IsWellTyped x code ls) (fits : Fits code s) (r : Resolution)
     (run : List Turn) (k : Seen r x code s ls run) (p i : ℕ) (is : is_pointer_now x s (place_after code s run) k.consists.world.obj p i ≡ true) where
@@ -74,28 +65,10 @@ module _ (state_law : StateStands) (cell_laws : CellsAreThere) (x : Targets) (co
         value_is r (newest code s run) c ∙ e ∙ holds_reference (content_of x code world c) T v is_pointer_cell ∙ ap (λ v. reference v (T v)) same_word in
         word_is ∙ referred o word (T word) low (subst (λ v. refers o v ≡ true) q there)
 
-    freed : IsEmptied code (place_after code s run) (number_of c.object) → IsBeingFreed code (place_after code s run) p
-    freed z =
-        let u = z.0 in
-        let y = z.1.1 in
-        let closing = emptying x code s ls wt fits g world st u (z.1.0, y.on) (on_hold (g.threads u).own.stage y.emptying) (number_of c.object) y.register y.layout y.site y.is_free y.object in
-        record {
-          some = subst (λ n. n ≢ 0) number (some_closing state_law x code s ls wt fits g world st (number_of c.object) closing);
-          thread = u;
-          started = z.1.0;
-          on = y.on;
-          register = y.register;
-          layout = y.layout;
-          site = y.site;
-          is_free = y.is_free;
-          object = y.object ∙ number;
-          clearing = clears (g.threads u).own.stage y.emptying;
-        }
-
     pub cell_kept : (o : ℕ) → refers o (value_after r (history_of code s run) c) ≡ true → (cell_refers x s (place_after code s run) k.consists.world.obj p i ≡ o) ⊎ IsBeingFreed code (place_after code s run) p
     cell_kept o there = ⊎_elim
         (λ (e : newest_value r (newest code s run) c ≡ value_held (content_of x code world c) (table_of code s run) (slice_index g.words (word_of_cell code s c))). inl (by_value o e there))
-        (λ (z : IsEmptied code g (number_of c.object)). inr (freed z))
+        (λ (z : IsEmptied code g (number_of c.object)). inr (freed state_law x code s ls wt fits g world st (number_of c.object) p number z))
         (k.contents c cell (pointer_value (content_of x code world c) is_pointer_cell))
 
 -- by the objects of the turns

@@ -1,10 +1,13 @@
+mod Imports
 pub mod Places
 pub mod Sorts
 pub mod Standing
 pub mod Tells
+pub mod Told
 pub mod Acts
 pub mod Behind
 pub mod Born
+pub mod Onward
 pub mod Arriving
 pub mod Awaited
 pub mod Broken
@@ -22,6 +25,7 @@ pub mod Ends
 pub mod Finds
 pub mod Followed
 pub mod Gates
+pub mod Aims
 pub mod Given
 pub mod Holding
 pub mod Legal
@@ -55,6 +59,7 @@ pub mod Since
 pub mod Single
 pub mod Sole
 pub mod Sparing
+pub mod Touches
 pub mod Spots
 pub mod Stands
 pub mod Started

@@ -1,9 +1,5 @@
 -- Accesses of a cell since its object was made or given, by a history with its newest event first.
-use Rattle.std.proofs.Common.{◌≡◌, false, ◌||◌, [], ◌∷◌, ◌++◌, reverse, refl, sym, ap, ◌∙◌, subst, ◌⊎◌, inl, inr}
-use Rattle.std.specs.List.{list_any}
-use Rattle.sharc_tree.specs.{declared.event.SourceEvent.SourceEvent, declared.event.CellAt.CellAt, declared.event.CellMode.CellMode}
-use Rattle.sharc_meaning.specs.{Events.{Access, begins, frees}, Obeys.{History, IsAccess, UnderOneMode}}
-use Rattle.sharc_history_laws.proofs.{Lists.{Newest, EachAccess, Split, Last, Earlier, split}, Sets.any_append}
+use Rattle.sharc_history_laws.proofs.{Imports.{◌≡◌, false, ◌||◌, [], ◌∷◌, ◌++◌, reverse, refl, sym, ap, ◌∙◌, subst, ◌⊎◌, inl, inr, list_any, SourceEvent, CellAt, CellMode, Access, begins, frees, History, IsAccess, UnderOneMode}, Lists.{Newest, EachAccess, Split, Last, Earlier, split}, Sets.any_append, Broken.append_assoc}
 
 pub record IsTo (e : SourceEvent) (c : CellAt) (mode : CellMode) : Type 0 where
   pub access : Access
@@ -37,10 +33,6 @@ AsBefore before e b = (first : History) (d : SourceEvent) (between : History) (a
 
 pub as_before : (L : Newest) (e : SourceEvent) (b : Access) → ((mode : CellMode) → Since L b.cell mode → mode ≡ b.mode) → AsBefore (reverse L) e b
 as_before L e b h first d between a q is same none = h a.mode (subst (λ c. Since L c a.mode) same (since_split L first d between a q is none))
-
-append_assoc : (xs ys zs : History) → (xs ++ ys) ++ zs ≡ xs ++ (ys ++ zs)
-append_assoc [] ys zs = refl
-append_assoc (x ∷ xs) ys zs = ap (λ l. x ∷ l) (append_assoc xs ys zs)
 
 pub one_mode : (R : History) → EachAccess AsBefore R → UnderOneMode R
 one_mode R h before d between e after a b q is_a is_b same none =
