@@ -1,6 +1,6 @@
 -- The cells, modes and integers of a thread of guarded code are those of the machine that is where it is.
-use Rattle.sharc_wants_laws.proofs.Imports.{◌≡◌, ℕ, ℤ, zero, suc, pos, ◌+◌, ◌-◌, ◌*◌, ◌^◌, ◌<◌, Bool, false, List, refl, sym, ap, ◌∙◌, subst, arith, get_or as slice_index_or, ◌==◌, Some, Object, CellAt, CellMode, through, Access, is_null, number_of, Code, GlobalCells, SourcePlace, PlaceMode, LockedGlobal, LockedThrough, LockedLoaded, Cell, GlobalAt, InObject, ObjectAt, Shape, word_of, Machine, ref, global_cell, mode_of, no_global, made_cell, place_at, reference, lock_through, Program, Thread, source_at, Elements, IsNumber, IsReference, Same, access_at, ne_eq}
-use Rattle.sharc_code.specs.{declared.instr.Cell.TheVariants.Global, Machine.int, Says.cell_at}
+use Rattle.sharc_wants_laws.proofs.Imports.{◌≡◌, ℕ, ℤ, zero, suc, pos, ◌+◌, ◌-◌, ◌*◌, ◌^◌, ◌<◌, Bool, false, List, refl, sym, ap, ◌∙◌, subst, arith, get_or as slice_index_or, ◌==◌, Some, Object, CellAt, CellMode, through, Access, is_null, number_of, Code, GlobalCells, SourcePlace, PlaceMode, LockedGlobal, LockedThrough, LockedLoaded, Cell, GlobalAt, InObject, ObjectAt, Shape, word_of, Machine, ref, global_cell, mode_of, no_global, made_cell, place_at, reference, lock_through, Program, Thread, source_at, Elements, IsNumber, IsReference, Same, access_at, ne_eq, int}
+use Rattle.sharc_code.specs.{declared.instr.Cell.TheVariants.Global, Says.cell_at}
 use Rattle.sharc_guard.specs.Machine as Form
 
 -- ---- references

@@ -1,7 +1,7 @@
 -- What holds of every run: what the parts of the meaning keep, by one induction on the syntax, in which a `free` is one part.
-use Rattle.sharc_wants_laws.proofs.Imports.{◌≡◌, refl, ℕ, zero, suc, ℤ, pos, negsuc, Bool, true, false, cond, not, List, [], ◌∷◌, ◌++◌, length, drop, get_or as slice_index_or, unsigned_abs, Option, Some, None, Result, Ok, Err, nat_lt, codes, AllByRecursion, bytes_eq, Act, Object, GlobalNumber as Global, Made, Site, Span, Declaration, FieldOperator, Dot, Arrow, BinaryOperator, LogicalOr, LogicalAnd, PlaceCall, Lock, Unlock, UnaryOperator, Negate, Not, Complement, Dereference, ValueCall, Join, Print, Expression, identifier, constant, parentheses, call, spawn, on_value, on_place, cast, index, field, unary, binary, Arguments, no_arguments, argument, Right, value, malloc, Simple, assign, does_call, Local, First, nothing, declares, does, Statement, empty, block, declare, simple, jump, return, if_then, if_then_else, while, for, Statements, no_statements, statement, Function, CellMode, Readonly, Locked, Cast, Trap, span_of, Named, Kind, is_pointer, is_array, element_kind, declared_kind, declared_kinds, promoted, Resolution, named_at, kind_at, function_at, class_of, binary_result, parameters_named, Assignment, Sharing, private, locked, cell_at, pointed, written, row_at, declared_row, cast_row, cell_of, element_cells, Guard, mutex, behind, no_mutex, guard_of, instance_mode, bits_of, fits, is_zero, truth, operated, negative as negated, complement, held_mutexes, holds_mutex, NULL, is_null, number_of, elements_of, constant_value, GivenUp, Emptied, Released, Replaced, taken_to_free, Frame, Use, writes, nulls, go, new_variable, with_value, with_temporary, without_temporaries, Run, Step, ◌>>=◌, give, stop, unless_stop, entered, answered, performs, drops, holds_reference, moves, moves_on, is_reference, temporarily, value_of, looks_at, traces, sets, reads_variable, writes_variable, begins_with, in_block, StorePlace, variable, cell, place_named, pointee, based, element, element_in as element_of_array, index_place, pointee_place, field_place, unary_place, guarding, access_mode, fetched, stored, taken_from, cast_to, cell_at_place, moves_base, gives_up_base, lock_call, unlock_call, wait_call, signal_call, broadcast_call, condition_call, Calls, resulting, tested, operand, fitting, passed, named_value, number_named, value_act, spawning as spawned, value_called, place_called, cast_value, place_value, unary_value, binary_value, eval, eval_all, place_of, Flow, next, returned, on_next, loop, left_by, elements_made, is_positive, right_value, done_simple, initialised, declared, done_first, done_step, done_test, return_with, exec_all, parameters_begin, left_at, in_frame, run_function, call_value, calls, goes_away, run_thread, Taken}
+use Rattle.sharc_wants_laws.proofs.Imports.{◌≡◌, refl, ℕ, zero, suc, ℤ, pos, negsuc, Bool, true, false, cond, not, List, [], ◌∷◌, ◌++◌, length, drop, get_or as slice_index_or, unsigned_abs, Option, Some, None, Result, Ok, Err, nat_lt, codes, AllByRecursion, bytes_eq, Act, Object, GlobalNumber as Global, Made, Site, Span, Declaration, FieldOperator, Dot, Arrow, BinaryOperator, LogicalOr, LogicalAnd, PlaceCall, Lock, Unlock, UnaryOperator, Negate, Not, Complement, Dereference, ValueCall, Join, Print, Expression, identifier, constant, parentheses, call, spawn, on_value, on_place, cast, index, field, unary, binary, Arguments, no_arguments, argument, Right, value, malloc, Simple, assign, does_call, Local, First, nothing, declares, does, Statement, empty, block, declare, simple, jump, return, if_then, if_then_else, while, for, Statements, no_statements, statement, Function, CellMode, Readonly, Locked, Cast, Trap, span_of, Named, Kind, is_pointer, is_array, element_kind, declared_kind, declared_kinds, promoted, Resolution, named_at, kind_at, function_at, class_of, binary_result, parameters_named, Assignment, Sharing, private, locked, cell_at, pointed, written, row_at, declared_row, cast_row, cell_of, element_cells, Guard, mutex, behind, no_mutex, guard_of, instance_mode, bits_of, fits, is_zero, truth, operated, negative as negated, complement, held_mutexes, holds_mutex, NULL, is_null, number_of, elements_of, constant_value, GivenUp, Emptied, Released, Replaced, taken_to_free, Frame, Use, writes, nulls, go, new_variable, with_value, with_temporary, without_temporaries, Run, Step, ◌>>=◌, give, stop, unless_stop, entered, answered, performs, drops, holds_reference, moves, moves_on, is_reference, temporarily, value_of, looks_at, traces, sets, reads_variable, writes_variable, begins_with, in_block, StorePlace, variable, cell, place_named, pointee, based, element, element_in as element_of_array, index_place, pointee_place, field_place, unary_place, guarding, access_mode, fetched, stored, taken_from, cast_to, cell_at_place, moves_base, gives_up_base, lock_call, unlock_call, wait_call, signal_call, broadcast_call, condition_call, Calls, resulting, tested, operand, fitting, passed, named_value, number_named, value_act, spawning as spawned, value_called, place_called, cast_value, place_value, unary_value, binary_value, eval, eval_all, place_of, Flow, next, returned, on_next, loop, left_by, elements_made, is_positive, right_value, done_simple, initialised, declared, done_first, done_step, done_test, return_with, exec_all, parameters_begin, left_at, in_frame, run_function, call_value, calls, goes_away, run_thread, Taken, gives_up, holds, called}
 use Rattle.sharc_tree.specs.declared.tree.expression.PlaceCall.TheVariants.{Free}
-use Rattle.sharc_meaning.specs.{State.{gives_up, holds}, Places.no_place, Expressions.called, Statements.exec}
+use Rattle.sharc_meaning.specs.{Places.no_place, Statements.exec}
 
 -- given up by something else than the cells of an object that is freed
 abbrev pub NotEmptied : GivenUp → Type 0

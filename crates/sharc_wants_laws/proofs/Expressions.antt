@@ -1,10 +1,9 @@
 -- Expressions of a typed program lose no reference.
-use Rattle.sharc_wants_laws.proofs.{Imports.{◌≡◌, ℕ, suc, ◌+◌, Bool, true, false, not, cond, List, [], ◌∷◌, ◌++◌, refl, sym, ap, ◌∙◌, subst, length, drop, append_assoc, append-nil, Some, false≢true, true≢false, ℤ, pos, Base, GlobalNumber as Global, Made, TakeKind, Cast, ToFree, Site, Span, Identifier, Dot, Arrow, BinaryOperator, LogicalOr, LogicalAnd, Lock, Unlock, Dereference, ValueCall, is_lvalue, span_of, Expression, identifier, index, field, unary, Arguments, Function, Act, Trap, Named, Kind, object, array, is_array, is_pointer, element_kind, declared_kind, declared_kinds, promoted, class_of, binary_result, named_at, kind_at, function_at, parameters_named, cell_at, pointed, Assignment, cast_row, HasType, HaveTypes, Callee, of_program, of_conditions, a_variable, a_global, a_function, a_constant, in_parentheses, element_of_pointer, element_of_array, a_call, a_field, a_field_behind, complemented, denied, pointed_to, arithmetic, shifted, related, equated, joined, spawned, printed_or_joined, unlocked, a_cast, none_left, one_more, bits_of, fits, is_zero, truth, operated, negative, complement, element_cells, is_null, number_of, elements_of, constant_value, Run, ◌>>=◌, give, answered, moves, is_reference, temporarily, StorePlace, variable, cell, place_named, pointee, field_in, based, element, element_in, index_place, pointee_place, Calls, resulting, tested, operand, fitting, passed, number_named, value_act, spawning, value_called, taking, place_called, cast_value, place_value, binary_value, eval, eval_all, place_of}, Runs.{Same, Starts, same_starts, starts_on}, Steps.slot, Typed.{Facts, Names, names_start, named_variable, named_global, field_names, whole_left, passes, pointer_reference, no_function_object, no_function_array, no_function_pointer}}
+use Rattle.sharc_wants_laws.proofs.{Imports.{◌≡◌, ℕ, suc, ◌+◌, Bool, true, false, not, cond, List, [], ◌∷◌, ◌++◌, refl, sym, ap, ◌∙◌, subst, length, drop, append_assoc, append-nil, Some, false≢true, true≢false, ℤ, pos, Base, GlobalNumber as Global, Made, TakeKind, Cast, ToFree, Site, Span, Identifier, Dot, Arrow, BinaryOperator, LogicalOr, LogicalAnd, Lock, Unlock, Dereference, ValueCall, is_lvalue, span_of, Expression, identifier, index, field, unary, Arguments, Function, Act, Trap, Named, Kind, object, array, is_array, is_pointer, element_kind, declared_kind, declared_kinds, promoted, class_of, binary_result, named_at, kind_at, function_at, parameters_named, cell_at, pointed, Assignment, cast_row, HasType, HaveTypes, Callee, of_program, of_conditions, a_variable, a_global, a_function, a_constant, in_parentheses, element_of_pointer, element_of_array, a_call, a_field, a_field_behind, complemented, denied, pointed_to, arithmetic, shifted, related, equated, joined, spawned, printed_or_joined, unlocked, a_cast, none_left, one_more, bits_of, fits, is_zero, truth, operated, negative, complement, element_cells, is_null, number_of, elements_of, constant_value, Run, ◌>>=◌, give, answered, moves, is_reference, temporarily, StorePlace, variable, cell, place_named, pointee, field_in, based, element, element_in, index_place, pointee_place, Calls, resulting, tested, operand, fitting, passed, number_named, value_act, spawning, value_called, taking, place_called, cast_value, place_value, binary_value, eval, eval_all, place_of, negated, called}, Runs.{Same, Starts, same_starts, starts_on}, Steps.slot, Typed.{Facts, Names, names_start, named_variable, named_global, field_names, whole_left, passes, pointer_reference, no_function_object, no_function_array, no_function_pointer}}
 use Rattle.sharc_tree.specs.declared.tree.expression.PlaceCall.TheVariants.{Free}
 use Rattle.sharc_names.specs.Kinds.{mutex}
 use Rattle.sharc_names.specs.Kinds as kinds
-use Rattle.sharc_ctype_laws.specs.Constraints.{negated, locked, freed}
-use Rattle.sharc_meaning.specs.Expressions.{called}
+use Rattle.sharc_ctype_laws.specs.Constraints.{locked, freed}
 use Rattle.sharc_wants_laws.proofs.Runs as runs
 use Rattle.sharc_wants_laws.proofs.Steps as steps
 

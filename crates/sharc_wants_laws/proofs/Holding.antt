@@ -29,10 +29,10 @@ way flat (suc k) m = by_turn (turn flat m) refl (line_quiet flat (slice_get flat
           mid = r.mid;
           quietly = (m2, e, r.quietly);
           refs = r.refs;
-          events = r.events ∙ q.0;
+          events = r.events ∙ q.0.0;
           same_events = r.same_events;
-          more = q.1 ++ r.more;
-          more_given = r.more_given ∙ ap (λ gs. gs ++ r.more) q.2 ∙ append_assoc m.given q.1 r.more;
+          more = q.0.1 ++ r.more;
+          more_given = r.more_given ∙ ap (λ gs. gs ++ r.more) q.0.2 ∙ append_assoc m.given q.0.1 r.more;
           extra = r.extra;
           given = r.given;
         }

@@ -1,17 +1,55 @@
 -- Flat code by what its events answer, and what it gives up on its way.
-use Rattle.sharc_wants_laws.proofs.Imports.{◌≡◌, ℕ, zero, suc, ℤ, pos, negsuc, ◌+◌, ◌-◌, ◌*◌, ◌≤◌, ◌⊎◌, inl, inr, Bool, true, false, not, List, [], ◌∷◌, ◌++◌, length, refl, sym, ap, ◌∙◌, subst, arith, Some, None, Option, Ok, Err, Result, nat_lt, cond, slice_get, append_assoc, append-nil, map-append, Act, CellAt, CellMode, SourceEvent, Trap, Taken, GivenUp, Emptied, Released, Replaced, is_zero, held_mutexes, holds_mutex, is_null, elements_of, number_of, answer_of, event_of, is_positive, answers_of, computed, negated, holds, GlobalCells, Cell, Parameter, Register, Op, Spot, Flat, At, Caller, goes, asks, halts, int, goes_on, over_lines, stops, asserts, with_result, set_int, set_ref, gives_up, take_kind_of, cell_mode_of, accessed, accesses, lock_is_null, indexed, takes_local, called, op_turn, end_turn, line_turn, turn, on_turn, exec, start, first_at, handed, with_event, without_base, at_after, asked, IsPath, PathsAreRuns}
-use Rattle.sharc_flat.specs.{Machine.{Turn, ref, next, cell_at, returned, begun, function_of}, Path.{after, may_go, asked_by}}
+use Rattle.sharc_wants_laws.proofs.Imports.{◌≡◌, ℕ, zero, suc, ℤ, pos, negsuc, ◌+◌, ◌-◌, ◌*◌, ◌≤◌, ◌⊎◌, inl, inr, Bool, true, false, not, List, [], ◌∷◌, ◌++◌, length, refl, sym, ap, ◌∙◌, subst, arith, Some, None, Option, Ok, Err, Result, nat_lt, cond, slice_get, append_assoc, append-nil, ⊎_elim, ◌==◌, map-append, false≢true, Act, CellAt, CellMode, SourceEvent, Trap, Taken, GivenUp, Emptied, Released, Replaced, is_zero, held_mutexes, holds_mutex, is_null, elements_of, number_of, answer_of, event_of, is_positive, answers_of, refers, computed, GlobalCells, Cell, Parameter, Register, Op, Spot, Flat, At, Caller, goes, asks, halts, goes_on, over_lines, stops, asserts, with_result, set_int, set_ref, take_kind_of, cell_mode_of, accessed, accesses, lock_is_null, indexed, takes_local, op_turn, end_turn, line_turn, turn, on_turn, exec, start, first_at, handed, with_event, without_base, put, at_after, asked, IsPath, PathsAreRuns}
+use Rattle.sharc_code.specs.Arithmetic.{negated, holds}
+use Rattle.sharc_flat.specs.{Machine.{int, gives_up, called, Turn, ref, next, cell_at, returned, begun, function_of}, Path.{after, may_go, asked_by}}
 
 -- ---- events, and what is given up
 -- no event is told, and nothing is taken back of what was given up
 abbrev pub IsStill : At → At → Type 0
 IsStill m m2 = (m2.events ≡ m.events) × (extra : List GivenUp) × (m2.given ≡ m.given ++ extra)
 
--- nor by a turn before it is answered; and what comes with the answer tells no other event
+-- ---- what registers hold
+-- each reference was there before, in one register or another
+abbrev pub AreFrom : At → At → Type 0
+AreFrom m m2 = (k n : ℕ) → refers n (m2.refs k) ≡ true → (j : ℕ) × (refers n (m.refs j) ≡ true)
+
+same : (m : At) → AreFrom m m
+same m k n is = (k, is)
+
+-- a register gets what another one had, or NULL
+put_from : (bank : ℕ → ℤ) (r : ℕ) (v : ℤ) (k n : ℕ) → refers n (put bank r v k) ≡ true → (refers n v ≡ true) ⊎ (refers n (bank k) ≡ true)
+put_from bank r v k n is = by (k == r) is
+  where
+    by : (b : Bool) → refers n (cond b v (bank k)) ≡ true → (refers n v ≡ true) ⊎ (refers n (bank k) ≡ true)
+    by true is = inl is
+    by false is = inr is
+
+emptied : (bank : ℕ → ℤ) (r k n : ℕ) → refers n (put bank r (pos 0) k) ≡ true → refers n (bank k) ≡ true
+emptied bank r k n is = ⊎_elim (λ (none : refers n (pos 0) ≡ true). absurd (false≢true none)) (λ (there : refers n (bank k) ≡ true). there) (put_from bank r (pos 0) k n is)
+
+filled : (bank old : ℕ → ℤ) (r from k n : ℕ) → ((j : ℕ) → refers n (bank j) ≡ true → refers n (old j) ≡ true) → refers n (put bank r (old from) k) ≡ true → (j : ℕ) × (refers n (old j) ≡ true)
+filled bank old r from k n was is = ⊎_elim (λ (moved : refers n (old from) ≡ true). (from, moved)) (λ (there : refers n (bank k) ≡ true). (k, was k there)) (put_from bank r (old from) k n is)
+
+moves_from : (refs : ℕ → ℤ) (r from k n : ℕ) → refers n (put (put refs from (pos 0)) r (refs from) k) ≡ true → (j : ℕ) × (refers n (refs j) ≡ true)
+moves_from refs r from k n is = filled (put refs from (pos 0)) refs r from k n (λ j there. emptied refs from j n there) is
+
+-- ---- one turn
+-- The same by a turn before it is answered; what comes with the answer tells no other event; and a turn that asks for
+-- the Freed of a reference gives up the cells of its object before.
 abbrev pub IsQuiet : At → Turn → Type 0
-IsQuiet m (goes m2) = IsStill m m2
-IsQuiet m (asks m2 site act held go) = IsStill m m2 × (m2.refs ≡ m.refs) × ((v : ℤ) (n : At) → (go v n).events ≡ n.events)
+IsQuiet m (goes m2) = IsStill m m2 × AreFrom m m2
+IsQuiet m (asks m2 site act held go) = IsStill m m2 × (m2.refs ≡ m.refs) × ((v : ℤ) (n : At) → (go v n).events ≡ n.events) × ((v : ℤ) → act ≡ Act.Freed v → m2.given ≡ m.given ++ Emptied (number_of v) ∷ [])
 IsQuiet m (halts o) = Unit {0}
+
+abbrev is_freed : Act → Bool
+is_freed (Act.Freed v) = true
+is_freed _ = false
+
+not_freed : {P : Type 0} {act : Act} {v : ℤ} → act ≡ Act.Freed v → is_freed act ≡ false → P
+not_freed is other = absurd (false≢true (sym other ∙ ap is_freed is))
+
+freed_value : (x v : ℤ) → Act.Freed x ≡ Act.Freed v → x ≡ v
+freed_value x v h = cc
 
 -- as much is given up
 pub same_given : (m : At) → m.given ≡ m.given ++ []
@@ -22,34 +60,34 @@ cond_quiet true x y m p q = p
 cond_quiet false x y m p q = q
 
 asserts_quiet : (b : Bool) (trap : Trap) (spot : Spot) (m : At) → IsQuiet m (asserts b trap spot m)
-asserts_quiet b trap spot m = cond_quiet b (goes_on m) (stops trap spot) m (refl, [], same_given m) tt
+asserts_quiet b trap spot m = cond_quiet b (goes_on m) (stops trap spot) m ((refl, [], same_given m), same m) tt
 
 result_quiet : (i : ℕ) (spot : Spot) (m : At) (r : Result ℤ Trap) → IsQuiet m (with_result i spot m r)
-result_quiet i spot m (Ok v) = (refl, [], same_given m)
+result_quiet i spot m (Ok v) = ((refl, [], same_given m), same m)
 result_quiet i spot m (Err code) = tt
 
 indexed_quiet : (i cells field : ℕ) (v : ℤ) (elements : ℕ) (spot : Spot) (m : At) → IsQuiet m (indexed i cells field v elements spot m)
-indexed_quiet i cells field (pos n) elements spot m = cond_quiet (nat_lt n elements) (goes_on (set_int i (pos (n * cells + field)) m)) (stops Trap.IndexOutOfBounds spot) m (refl, [], same_given m) tt
+indexed_quiet i cells field (pos n) elements spot m = cond_quiet (nat_lt n elements) (goes_on (set_int i (pos (n * cells + field)) m)) (stops Trap.IndexOutOfBounds spot) m ((refl, [], same_given m), same m) tt
 indexed_quiet i cells field (negsuc n) elements spot m = tt
 
-skip_quiet : (b : Bool) (n : ℕ) (m : At) → IsStill m (cond b (over_lines n m) (next m))
-skip_quiet true n m = (refl, [], same_given m)
-skip_quiet false n m = (refl, [], same_given m)
+skip_quiet : (b : Bool) (n : ℕ) (m : At) → IsStill m (cond b (over_lines n m) (next m)) × AreFrom m (cond b (over_lines n m) (next m))
+skip_quiet true n m = ((refl, [], same_given m), same m)
+skip_quiet false n m = ((refl, [], same_given m), same m)
 
-accesses_quiet : (globals : List GlobalCells) (cell : Cell) (spot : Spot) (act : CellAt → CellMode → Act) (then_ : CellAt → ℤ → At → At) (m : At) → ((c : CellAt) (v : ℤ) (n : At) → (then_ c v n).events ≡ n.events)
+accesses_quiet : (globals : List GlobalCells) (cell : Cell) (spot : Spot) (act : CellAt → CellMode → Act) (then_ : CellAt → ℤ → At → At) (m : At) → ((c : CellAt) (v : ℤ) (n : At) → (then_ c v n).events ≡ n.events) → ((c : CellAt) (mode : CellMode) → is_freed (act c mode) ≡ false)
     → IsQuiet m (accesses globals cell spot act then_ m)
-accesses_quiet globals cell spot act then_ m k =
+accesses_quiet globals cell spot act then_ m k other =
     cond_quiet (lock_is_null m spot spot.mode) (stops Trap.NullPointer spot)
     (asks m spot.site (act (cell_at globals m cell) (cell_mode_of globals m (cell_at globals m cell) spot.mode)) (pos 0) (λ v n. accessed (next (then_ (cell_at globals m cell) v n)))) m tt
-    ((refl, [], same_given m), refl, k (cell_at globals m cell))
+    ((refl, [], same_given m), refl, k (cell_at globals m cell), λ v is. not_freed is (other (cell_at globals m cell) (cell_mode_of globals m (cell_at globals m cell) spot.mode)))
 
 returned_quiet : (flat : Flat) (frames : List Caller) (spot : Spot) (m : At) → IsQuiet m (returned flat frames spot m)
-returned_quiet flat [] spot m = cond_quiet (not (nat_lt 0 (length (held_mutexes m.events)))) (goes (record m { pc = length flat.lines })) (stops Trap.ReturnWithLockHeld spot) m (refl, [], same_given m) tt
-returned_quiet flat (c ∷ rest) spot m = (refl, [], same_given m)
+returned_quiet flat [] spot m = cond_quiet (not (nat_lt 0 (length (held_mutexes m.events)))) (goes (record m { pc = length flat.lines })) (stops Trap.ReturnWithLockHeld spot) m ((refl, [], same_given m), same m) tt
+returned_quiet flat (c ∷ rest) spot m = ((refl, [], same_given m), same m)
 
 takes_quiet : (r x : ℕ) (spot : Spot) (m : At) (b : Bool) → IsQuiet m (takes_local r x spot m b)
-takes_quiet r x spot m true = (refl, [], same_given m)
-takes_quiet r x spot m false = ((refl, [], same_given m), refl, λ v n. refl)
+takes_quiet r x spot m true = ((refl, [], same_given m), λ k n is. moves_from m.refs (m.ref_base + r) (m.ref_base + x) k n is)
+takes_quiet r x spot m false = ((refl, [], same_given m), refl, λ v n. refl, λ v is. not_freed is refl)
 
 pub base_events : (cell : Cell) (n : At) → (without_base cell n).events ≡ n.events
 base_events (Cell.Object r k) n = refl
@@ -65,7 +103,7 @@ op_quiet flat (Op.Negate width i a spot) m = result_quiet i spot m (negated widt
 op_quiet flat (Op.ChkWidth width i spot) m = asserts_quiet (holds width (int m i)) Trap.OutOfRange spot m
 op_quiet flat (Op.SkipIfZero i n) m = skip_quiet (is_zero (int m i)) n m
 op_quiet flat (Op.SkipIfNull r n) m = skip_quiet (is_null (ref m r)) n m
-op_quiet flat (Op.Call f ints refs spot) m = cond_quiet (nat_lt (length m.frames) 255) (goes (called flat f ints refs m)) (stops Trap.CallDepth spot) m (refl, [], same_given m) tt
+op_quiet flat (Op.Call f ints refs spot) m = cond_quiet (nat_lt (length m.frames) 255) (goes (called flat f ints refs m)) (stops Trap.CallDepth spot) m ((refl, [], same_given m), same m) tt
 op_quiet flat (Op.Return spot) m = returned_quiet flat m.frames spot m
 op_quiet flat (Op.ChkNull r spot) m = asserts_quiet (not (is_null (ref m r))) Trap.NullPointer spot m
 op_quiet flat (Op.ChkPositive i spot) m = asserts_quiet (is_positive (int m i)) Trap.SizeNotPositive spot m
@@ -74,28 +112,31 @@ op_quiet flat (Op.ChkNotHeld cell spot) m = asserts_quiet (not (holds_mutex m.ev
 op_quiet flat (Op.ChkRoom spot) m = asserts_quiet (nat_lt (length (held_mutexes m.events)) 16) Trap.TooManyLocks spot m
 op_quiet flat (Op.Bounds i r cells field spot) m = indexed_quiet i cells field (int m i) (elements_of (ref m r)) spot m
 op_quiet flat (Op.GlobalBounds i elements cells field spot) m = indexed_quiet i cells field (int m i) elements spot m
-op_quiet flat (Op.Load i cell spot) m = accesses_quiet flat.globals cell spot Act.Read (λ c v. set_int i v) m (λ c v n. refl)
-op_quiet flat (Op.Store i cell spot) m = accesses_quiet flat.globals cell spot (λ c mode. Act.Write c mode (int m i)) (λ c v n. n) m (λ c v n. refl)
-op_quiet flat (Op.LoadRef r cell spot) m = accesses_quiet flat.globals cell spot Act.Read (λ c v. set_ref r v) m (λ c v n. refl)
-op_quiet flat (Op.StoreRef r cell spot) m = accesses_quiet flat.globals cell spot (λ c mode. Act.Write c mode (ref m r)) (λ c v n. gives_up (Replaced c) (set_ref r (pos 0) n)) m (λ c v n. refl)
-op_quiet flat (Op.TakeCell r cell spot) m = accesses_quiet flat.globals cell spot (λ c mode. Act.Take (Taken.Cell c mode) (take_kind_of spot.at)) (λ c v. set_ref r v) m (λ c v n. refl)
+op_quiet flat (Op.Load i cell spot) m = accesses_quiet flat.globals cell spot Act.Read (λ c v. set_int i v) m (λ c v n. refl) (λ c mode. refl)
+op_quiet flat (Op.Store i cell spot) m = accesses_quiet flat.globals cell spot (λ c mode. Act.Write c mode (int m i)) (λ c v n. n) m (λ c v n. refl) (λ c mode. refl)
+op_quiet flat (Op.LoadRef r cell spot) m = accesses_quiet flat.globals cell spot Act.Read (λ c v. set_ref r v) m (λ c v n. refl) (λ c mode. refl)
+op_quiet flat (Op.StoreRef r cell spot) m = accesses_quiet flat.globals cell spot (λ c mode. Act.Write c mode (ref m r)) (λ c v n. gives_up (Replaced c) (set_ref r (pos 0) n)) m (λ c v n. refl) (λ c mode. refl)
+op_quiet flat (Op.TakeCell r cell spot) m = accesses_quiet flat.globals cell spot (λ c mode. Act.Take (Taken.Cell c mode) (take_kind_of spot.at)) (λ c v. set_ref r v) m (λ c v n. refl) (λ c mode. refl)
 op_quiet flat (Op.TakeLocal r x spot) m = takes_quiet r x spot m (is_null (ref m x))
-op_quiet flat (Op.Pop r) m = (refl, Released (number_of (ref m r)) ∷ [], refl)
-op_quiet flat (Op.Settle x from) m = (refl, Released (number_of (ref m x)) ∷ [], refl)
-op_quiet flat (Op.Free r layout spot) m = ((refl, Emptied (number_of (ref m r)) ∷ [], refl), refl, λ v n. refl)
-op_quiet flat (Op.LoadGuard cell spot) m = ((refl, [], same_given m), refl, λ v n. refl)
-op_quiet flat (Op.New r count cells spot) m = ((refl, [], same_given m), refl, λ v n. refl)
-op_quiet flat (Op.Give r cells spot) m = ((refl, [], same_given m), refl, λ v n. refl)
-op_quiet flat (Op.Lock cell spot) m = ((refl, [], same_given m), refl, λ v n. base_events cell n)
-op_quiet flat (Op.Unlock r cell spot) m = ((refl, [], same_given m), refl, λ v n. refl)
-op_quiet flat (Op.CondEnter cell spot) m = ((refl, [], same_given m), refl, λ v n. refl)
-op_quiet flat (Op.CondWait cell spot) m = ((refl, [], same_given m), refl, λ v n. refl)
-op_quiet flat (Op.CondSignal cell spot) m = ((refl, [], same_given m), refl, λ v n. refl)
-op_quiet flat (Op.CondBroadcast cell spot) m = ((refl, [], same_given m), refl, λ v n. refl)
-op_quiet flat (Op.Spawn i f from spot) m = ((refl, [], same_given m), refl, λ v n. handed_events from n)
-op_quiet flat (Op.Join i spot) m = ((refl, [], same_given m), refl, λ v n. refl)
-op_quiet flat (Op.Print i spot) m = ((refl, [], same_given m), refl, λ v n. refl)
-op_quiet flat _ m = (refl, [], same_given m)
+op_quiet flat (Op.Pop r) m = ((refl, Released (number_of (ref m r)) ∷ [], refl), λ k n is. (k, emptied m.refs (m.ref_base + r) k n is))
+op_quiet flat (Op.Settle x from) m = ((refl, Released (number_of (ref m x)) ∷ [], refl), λ k n is. moves_from m.refs (m.ref_base + x) (m.ref_base + from) k n is)
+op_quiet flat (Op.Null r) m = ((refl, [], same_given m), λ k n is. (k, emptied m.refs (m.ref_base + r) k n is))
+op_quiet flat (Op.Local r x) m = ((refl, [], same_given m), λ k n is. filled m.refs m.refs (m.ref_base + r) (m.ref_base + x) k n (λ j there. there) is)
+op_quiet flat (Op.MoveReference r from) m = ((refl, [], same_given m), λ k n is. moves_from m.refs (m.ref_base + r) (m.ref_base + from) k n is)
+op_quiet flat (Op.Free r layout spot) m = ((refl, Emptied (number_of (ref m r)) ∷ [], refl), refl, λ v n. refl, λ v is. ap (λ (x : ℤ). m.given ++ Emptied (number_of x) ∷ []) (freed_value (ref m r) v is))
+op_quiet flat (Op.LoadGuard cell spot) m = ((refl, [], same_given m), refl, λ v n. refl, λ v is. not_freed is refl)
+op_quiet flat (Op.New r count cells spot) m = ((refl, [], same_given m), refl, λ v n. refl, λ v is. not_freed is refl)
+op_quiet flat (Op.Give r cells spot) m = ((refl, [], same_given m), refl, λ v n. refl, λ v is. not_freed is refl)
+op_quiet flat (Op.Lock cell spot) m = ((refl, [], same_given m), refl, λ v n. base_events cell n, λ v is. not_freed is refl)
+op_quiet flat (Op.Unlock r cell spot) m = ((refl, [], same_given m), refl, λ v n. refl, λ v is. not_freed is refl)
+op_quiet flat (Op.CondEnter cell spot) m = ((refl, [], same_given m), refl, λ v n. refl, λ v is. not_freed is refl)
+op_quiet flat (Op.CondWait cell spot) m = ((refl, [], same_given m), refl, λ v n. refl, λ v is. not_freed is refl)
+op_quiet flat (Op.CondSignal cell spot) m = ((refl, [], same_given m), refl, λ v n. refl, λ v is. not_freed is refl)
+op_quiet flat (Op.CondBroadcast cell spot) m = ((refl, [], same_given m), refl, λ v n. refl, λ v is. not_freed is refl)
+op_quiet flat (Op.Spawn i f from spot) m = ((refl, [], same_given m), refl, λ v n. handed_events from n, λ v is. not_freed is refl)
+op_quiet flat (Op.Join i spot) m = ((refl, [], same_given m), refl, λ v n. refl, λ v is. not_freed is refl)
+op_quiet flat (Op.Print i spot) m = ((refl, [], same_given m), refl, λ v n. refl, λ v is. not_freed is refl)
+op_quiet flat _ m = ((refl, [], same_given m), same m)
 
 pub line_quiet : (flat : Flat) (o : Option Op) (m : At) → IsQuiet m (line_turn flat o m)
 line_quiet flat (Some o) m = op_quiet flat o m
@@ -103,7 +144,7 @@ line_quiet flat None m = by_place (m.pc - length flat.lines)
   where
     by_place : (n : ℕ) → IsQuiet m (end_turn flat m n)
     by_place (suc (suc n)) = tt
-    by_place _ = ((refl, [], same_given m), refl, λ v n. refl)
+    by_place _ = ((refl, [], same_given m), refl, λ v n. refl, λ v is. not_freed is refl)
 
 -- so what is not answered leaves the events as they are
 pub still : (flat : Flat) (k : ℕ) (m : At) → (exec flat k [] m).at.events ≡ m.events
@@ -111,7 +152,7 @@ still flat zero m = refl
 still flat (suc k) m = by_turn (turn flat m) (line_quiet flat (slice_get flat.lines m.pc) m) (still flat k)
   where
     by_turn : (t : Turn) → IsQuiet m t → ((m2 : At) → (exec flat k [] m2).at.events ≡ m2.events) → (on_turn t [] m (exec flat k)).at.events ≡ m.events
-    by_turn (goes m2) q rec = rec m2 ∙ q.0
+    by_turn (goes m2) q rec = rec m2 ∙ q.0.0
     by_turn (asks m2 site act held go) q rec = q.0.0
     by_turn (halts o) q rec = refl
 
@@ -144,7 +185,7 @@ given_path flat m (x ∷ earlier) path = (given_path flat m earlier path.0, subs
 
 -- each turn that asks tells one event, with this answer
 told_one : (t : Turn) (now : At) (x : ℤ) → IsQuiet now t → answers_of (after now t x).events ≡ answers_of now.events ++ asked_by t (given_by t x)
-told_one (goes m2) now x q = ap answers_of q.0 ∙ sym (append-nil (answers_of now.events))
+told_one (goes m2) now x q = ap answers_of q.0.0 ∙ sym (append-nil (answers_of now.events))
 told_one (asks m2 site act held go) now x q =
     let answer = answer_of (λ token. held) act x in
     let e = event_of site act answer in

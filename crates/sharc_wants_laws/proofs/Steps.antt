@@ -1,7 +1,6 @@
 -- The few things that a thread does lose no reference, and neither do the accesses that are made of them.
-use Rattle.sharc_wants_laws.proofs.{Imports.{◌≡◌, ℕ, ◌+◌, ◌-◌, ◌*◌, ◌≤◌, Bool, true, false, not, cond, List, [], ◌∷◌, ◌++◌, refl, sym, ap, ◌∙◌, subst, arith, length, take, take_at, length-append, append-nil, nat_lt, get_or as slice_index_or, codes, Some, Result, Ok, Err, false≢true, AllByRecursion, ℤ, pos, negsuc, Act, Readonly, Locked, Object, GlobalNumber as Global, Made, TakeKind, Site, Declaration, Trap, Taken, Named, Kind, is_pointer, Resolution, declaration_at, variable_kind, Sharing, locked, cell_of, Guard, mutex, behind, no_mutex, guard_of, instance_mode, held_mutexes, holds_mutex, NULL, is_null, number_of, GivenUp, Released, Replaced, Emptied, Variable, State, Use, reads, writes, nulls, go, Run, then_on, ◌>>=◌, give, done, stop, unless_stop, happens, answered, performs, all_released, drops, holds_reference, moves, moves_on, is_reference, with_value, value_in, value_of, looks_at, traces, sets, reads_variable, new_variable, begins_with, StorePlace, variable, cell, pointee, based, element, guarding, access_mode, fetched, stored, nulled, taken_from, cast_to, freed, cell_at_place, lock_call, unlock_call, wait_call, signal_call, broadcast_call, condition_call, moves_base, gives_up_base, resulting, named_value}, Counts.{Declared, refs, rel, vars, one, gone, one_gone, one_null, refs_append, rel_append, vars_append, set_loses, set_keeps, still_declared}, Runs.{Same, moves_level, up_level}}
+use Rattle.sharc_wants_laws.proofs.{Imports.{◌≡◌, ℕ, ◌+◌, ◌-◌, ◌*◌, ◌≤◌, Bool, true, false, not, cond, List, [], ◌∷◌, ◌++◌, refl, sym, ap, ◌∙◌, subst, arith, length, take, take_at, length-append, append-nil, nat_lt, get_or as slice_index_or, codes, Some, Result, Ok, Err, false≢true, AllByRecursion, ℤ, pos, negsuc, Act, Readonly, Locked, Object, GlobalNumber as Global, Made, TakeKind, Site, Declaration, Trap, Taken, Named, Kind, is_pointer, Resolution, declaration_at, variable_kind, Sharing, locked, cell_of, Guard, mutex, behind, no_mutex, guard_of, instance_mode, held_mutexes, holds_mutex, NULL, is_null, number_of, GivenUp, Released, Replaced, Emptied, Variable, State, Use, reads, writes, nulls, go, Run, then_on, ◌>>=◌, give, done, stop, unless_stop, happens, answered, performs, all_released, drops, holds_reference, moves, moves_on, is_reference, with_value, value_in, value_of, looks_at, traces, sets, reads_variable, new_variable, begins_with, StorePlace, variable, cell, pointee, based, element, guarding, access_mode, fetched, stored, nulled, taken_from, cast_to, freed, cell_at_place, lock_call, unlock_call, wait_call, signal_call, broadcast_call, condition_call, moves_base, gives_up_base, resulting, named_value, gives_up, holds}, Counts.{Declared, refs, rel, vars, one, gone, one_gone, one_null, refs_append, rel_append, vars_append, set_loses, set_keeps, still_declared}, Runs.{Same, moves_level, up_level}}
 use Rattle.std.proofs.Common.{bytes_eq}
-use Rattle.sharc_meaning.specs.State.{gives_up, holds}
 use Rattle.sharc_wants_laws.proofs.Runs as runs
 
 -- what a temporary holds of a value of this type

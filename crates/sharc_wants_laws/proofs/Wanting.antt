@@ -1,9 +1,9 @@
 -- From the place of a thread of code to what the program wants.
-use Rattle.sharc_wants_laws.proofs.{Imports.{◌≡◌, ℕ, zero, suc, ℤ, pos, ◌+◌, ◌<◌, inl, inr, ⊎_elim, Bool, true, false, List, [], ◌∷◌, length, map, refl, sym, ap, ◌∙◌, Some, subst, arith, IsSomeAnd, get_or as slice_index_or, Act, CellAt, CellMode, SourceEvent, Site, Taken, function_at, Assignment, Access, access_by, held_mutexes, IsNamedAt, answers_of, is_null, number_of, Outcome, wants, ended, stopped, event_of, Code, Row as Function, SourcePlace, Cell, Instr, CondWait, Load, Store, LoadRef, Exchange, TakeCell, ChkRead, ChkWrite, ChkLock, ChkLockLoaded, Exit, Shape, Runs, Stopped, Ended, Stop, Conflict, NoLock, NotSole, Trapped as Trap, Machine, instr_at, no_function, function_of, kind_of, made_cell, place_at, no_place, Flat, At, Came, asks, halts, turn, on_turn, exec, start, at_after, asked, PathsAreRuns, AsksTheSame, MayStart, Guarded, Program, Thread, Check, Accesses, Locks, IsSole, is_held, source_at, statement_at, started, thread_after, Guards, IsAccess, IsOf, IsUnder, Tells, LogsAreHeld, Elements, begins, HasCome, IsGenerated, instr_of, program_of, IsAt, IsLinking, IsOver, Same, StopsAt, ChecksNext, IsRefused, IsReport, WantsRefused, site_of, WantsAct, WantsAccess, WantsBy, StopsOrWantsUnder, IsWhere, IsThere, access_at, access_tested}, Quiet.{still, given_in, given_same, given_path, are_own, beyond}, Cells.{int_is, cell_is, access_is, pending_number}}
+use Rattle.sharc_wants_laws.proofs.{Imports.{◌≡◌, ℕ, zero, suc, ℤ, pos, ◌+◌, ◌<◌, inl, inr, ⊎_elim, Bool, true, false, List, [], ◌∷◌, length, map, refl, sym, ap, ◌∙◌, Some, subst, arith, IsSomeAnd, get_or as slice_index_or, Act, CellAt, CellMode, SourceEvent, Site, Taken, function_at, Assignment, Access, access_by, held_mutexes, IsNamedAt, answers_of, is_null, number_of, Outcome, wants, ended, stopped, event_of, Code, Row as Function, SourcePlace, Cell, Instr, CondWait, Load, Store, LoadRef, Exchange, TakeCell, ChkRead, ChkWrite, ChkLock, ChkLockLoaded, Exit, Shape, Runs, Stopped, Ended, Stop, Conflict, NoLock, NotSole, Trapped as Trap, Machine, instr_at, no_function, function_of, kind_of, made_cell, place_at, no_place, Flat, At, Came, asks, halts, turn, on_turn, exec, start, at_after, asked, PathsAreRuns, AsksTheSame, MayStart, Guarded, Program, Thread, Check, Accesses, Locks, IsSole, is_held, source_at, statement_at, started, thread_after, Guards, IsAccess, IsOf, IsUnder, Tells, LogsAreHeld, Elements, begins, HasCome, IsGenerated, instr_of, program_of, IsAt, IsLinking, IsOver, Same, StopsAt, ChecksNext, IsRefused, IsReport, WantsRefused, site_of, WantsAct, WantsAccess, WantsBy, StopsOrWantsUnder, IsWhere, IsThere, access_at, access_tested, int}, Quiet.{still, given_in, given_same, given_path, are_own, beyond}, Cells.{int_is, cell_is, access_is, pending_number}}
 use Rattle.sharc_tree.specs.declared.trap.Trap.TheVariants as traps
 use Rattle.sharc_heap.specs.declared.shadow_word.Kind.{Kind}
 use Rattle.sharc_meaning.specs.Meaning as Meaning
-use Rattle.sharc_code.specs.{declared.instr.Instr.TheVariants.{Lock, Join}, Machine.int, Says.cell_at}
+use Rattle.sharc_code.specs.{declared.instr.Instr.TheVariants.{Lock, Join}, Says.cell_at}
 use Rattle.sharc_flat.specs.Machine.{Turn}
 use Rattle.sharc_guard.specs.Machine as Form
 use Rattle.sharc_compile.specs.Correct.{by}
