@@ -1,7 +1,3 @@
-//! Steps of several threads at one journal, and code written by hand that workers run over a journal and that is run
-//! again by its
+//! Steps of several threads at one journal.
 
-mod bench;
-mod gates;
 mod journal;
-mod rounds;

@@ -8,6 +8,10 @@ mod cli;
 #[cfg(test)]
 mod hostile;
 #[cfg(test)]
+mod sources;
+#[cfg(test)]
+mod streams;
+#[cfg(test)]
 mod top;
 #[cfg(test)]
 mod trace;

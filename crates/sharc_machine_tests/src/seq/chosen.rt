@@ -3,7 +3,8 @@
 ghost use Rattle.std.specs.Prelude.{◌≡◌, ◌≤◌, ◌<◌};
 ghost use Rattle.sharc_code.specs.Layout.{Fits};
 
-use crate::seq::bench::{LIMIT, Printed, add_prints, code, function, shape, trap_of};
+use crate::code::{Printed, add_prints, code, function, shape, trap_of};
+use crate::seq::bench::LIMIT;
 use sharc_code::{Cell, Code, Function, Instr, Operator, Parameter, Register, Shape, Stop};
 use sharc_seq::{Chooser, End, SeqRun, run_seq, seeded};
 use sharc_tree::trap::Trap;

@@ -1,6 +1,7 @@
 //! Two threads, a turn of each in turn.
 
-use crate::seq::bench::{LIMIT, function, run};
+use crate::code::function;
+use crate::seq::bench::{LIMIT, run};
 use sharc_code::{Cell, Instr, Parameter, Register};
 use sharc_cpu::{Pause, Stop, Wait};
 use sharc_heap::Kind;

@@ -2,8 +2,9 @@
 
 ghost use Rattle.std.specs.Prelude.{◌≡◌, ◌<◌, [], length, IfOk, OnOk, IsErrOf};
 
+use crate::streams::{Dripping, Trickling};
 use sharc_io::{
-    Failed, MemSink, MemSource, ReadError, Sink, Source, StdSink, StdSource, SureSink, SureSource,
+    Failed, MemSink, MemSource, ReadError, Source, StdSink, StdSource, SureSink, SureSource,
     WriteFault, read_all, write_all,
 };
 use std::alloc::Global;
@@ -11,52 +12,6 @@ use std::process::Abort;
 use std::test::Fail;
 
 type Answer = Result<Vec<u8>, ReadError>;
-
-// A source that gives one byte a call.
-#[derive(Drop)]
-struct Dripping(SureSource);
-
-impl Source for Dripping {
-    ghost use Rattle.std.specs.Prelude.{Some};
-
-    ghost left = { λ s. Some s.0 };
-
-    ghost faults = { λ _. 0 };
-
-    fn read(&mut self, buf: &mut [u8]) -> Result<usize, Failed> {
-        if buf.is_empty() {
-            return Ok(0);
-        }
-        self.0.read(&mut buf[..1])
-    }
-}
-
-// A sink that takes one byte a call, and nothing at its third call.
-#[derive(Drop)]
-struct Trickling {
-    sink: SureSink,
-    calls: u64,
-    stalls: u64,
-}
-
-impl Sink for Trickling {
-    ghost use Rattle.std.specs.Prelude.{Some, ◌+◌};
-
-    ghost held = { λ s. Some s.sink.held };
-
-    ghost faults = { λ _. 0 };
-
-    ghost stalls = { λ s. s.stalls + s.sink.stalls };
-
-    fn write(&mut self, piece: &[u8]) -> Result<usize, Failed> {
-        self.calls = self.calls.saturating_add(1);
-        if self.calls == 3 {
-            self.stalls = self.stalls.saturating_add(1);
-            return Ok(0);
-        }
-        self.sink.write(&piece[..piece.len().min(1)])
-    }
-}
 
 // What reading a sure source answers: there is no fault, and the bytes are its own.
 fn read_surely(alloc: Global, source: &mut SureSource, limit: usize) -> Answer
@@ -235,6 +190,7 @@ fn assert_stalled(rt: &impl Abort, sink: &mut Trickling) {
 fn writes_one_byte_at_a_time_up_to_a_stall(rt: HostRuntime) -> Result<(), Fail> {
     let mut sink = Trickling {
         sink: SureSink::new(rt.alloc(), 64)?,
+        nothing_at: 3,
         calls: 0,
         stalls: 0,
     };

@@ -2,7 +2,9 @@
 
 use crate::hostile::outcome::{assert_told, called, told};
 use crate::hostile::texts::add_times;
-use sharc_io::{Failed, MemSink, MemSource, Sink, Source, SureSink, SureSource};
+use crate::sources::READERS;
+use crate::streams::{Dripping, Trickling};
+use sharc_io::{MemSink, MemSource, SureSink, SureSource};
 use std::alloc::{AllocError, Global};
 use std::sync::Wait;
 use std::test::Fail;
@@ -10,71 +12,6 @@ use std::thread::Threads;
 
 /// The program that prints 6 * 7.
 const ANSWER: &str = "int main(void) { print(6 * 7); return 0; }";
-
-/// Three threads print a readonly field, which is 9.
-const READERS: &str = "struct cfg { int readonly k; };
-void r(struct cfg dynamic * c) {
-  print(c->k);
-}
-int main(void) {
-  struct cfg private * p = malloc(sizeof(struct cfg));
-  p->k = 9;
-  struct cfg dynamic * c = SCAST(struct cfg dynamic *, p);
-  int a = spawn(r, c);
-  int b = spawn(r, c);
-  join(a);
-  join(b);
-  print(c->k);
-  return 0;
-}
-";
-
-/// A source that gives one byte at each call.
-#[derive(Drop)]
-struct Dripping(SureSource);
-
-impl Source for Dripping {
-    ghost use Rattle.std.specs.Prelude.{Some};
-
-    ghost left = { λ s. Some s.0 };
-
-    ghost faults = { λ _. 0 };
-
-    fn read(&mut self, buf: &mut [u8]) -> Result<usize, Failed> {
-        if buf.is_empty() {
-            return Ok(0);
-        }
-        self.0.read(&mut buf[..1])
-    }
-}
-
-/// A sink that takes one byte at each call, and nothing at the call of one number, counted from 1.
-#[derive(Drop)]
-struct Trickling {
-    sink: SureSink,
-    nothing_at: u64,
-    calls: u64,
-    stalls: u64,
-}
-
-impl Sink for Trickling {
-    ghost use Rattle.std.specs.Prelude.{Some, ◌+◌};
-
-    ghost held = { λ s. Some s.sink.held };
-
-    ghost faults = { λ _. 0 };
-
-    ghost stalls = { λ s. s.stalls + s.sink.stalls };
-
-    fn write(&mut self, piece: &[u8]) -> Result<usize, Failed> {
-        self.calls = self.calls.saturating_add(1);
-        if self.calls == self.nothing_at {
-            self.stalls = self.stalls.saturating_add(1);
-            return Ok(0);
-        }
-        self.sink.write(&piece[..piece.len().min(1)])
-    }
-}
 
 /// What is reported over a sink that takes one byte at each call, and nothing at this one.
 fn trickled<R: Threads + Wait + Sync>(

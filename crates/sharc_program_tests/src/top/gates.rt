@@ -1,5 +1,6 @@
 //! Runs by two workers whose steps a gate holds.
 
+use crate::sources::READERS;
 use crate::top::outcome::{Outcome, gated};
 use sharc_rounds::Gate;
 use std::alloc::{AllocError, Global};
@@ -63,24 +64,6 @@ impl Gate for Holds {
         }
     }
 }
-
-/// Three threads read a readonly field.
-const READERS: &str = "struct cfg { int readonly k; };
-void r(struct cfg dynamic * c) {
-  print(c->k);
-}
-int main(void) {
-  struct cfg private * p = malloc(sizeof(struct cfg));
-  p->k = 9;
-  struct cfg dynamic * c = SCAST(struct cfg dynamic *, p);
-  int a = spawn(r, c);
-  int b = spawn(r, c);
-  join(a);
-  join(b);
-  print(c->k);
-  return 0;
-}
-";
 
 /// Two threads write a racy global by their third step.
 pub(crate) const WRITERS: &str =

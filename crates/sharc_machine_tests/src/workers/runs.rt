@@ -1,10 +1,11 @@
-//! Recorded runs, each by 1, 2, 4 and 16 workers, and run again by its schedule.
+//! Runs by 1, 2, 4 and 16 workers, each in rounds, and recorded and run again by its schedule.
 
 ghost use Rattle.std.specs.Prelude.{◌<◌, ◌≤◌};
 
-use crate::record::bench::{A, B, LIMIT, Open, VALUE, Worked, function, run};
+use crate::code::function;
+use crate::workers::bench::{A, B, LIMIT, Open, VALUE, Worked, in_rounds, recorded};
 use sharc_code::{Function, Instr, Operator, Parameter, Register};
-use sharc_record::End;
+use sharc_rounds::End;
 use sharc_tree::trap::Trap;
 use std::alloc::{AllocError, Global};
 use std::process::Abort;
@@ -61,6 +62,13 @@ const COUNTS: [Instr; 40] = [
     Instr::Exit,
 ];
 
+// A run in rounds and a recorded one, and whether the recorded one replays.
+#[derive(Clone, Copy)]
+struct Both {
+    worked: [Worked; 2],
+    replays: bool,
+}
+
 fn by<R: Threads + Wait + Sync>(
     rt: &R,
     alloc: Global,
@@ -68,31 +76,60 @@ fn by<R: Threads + Wait + Sync>(
     others: &[Function],
     workers: u32,
     limit: u64,
-) -> Result<Worked, AllocError>
+) -> Result<Both, AllocError>
     requires workers { 0 < workers }
     requires limit { limit ≤ 100000000 }
 {
-    run(rt, alloc, body, others, workers, limit, &Open)
+    let run = in_rounds(rt, alloc, body, others, workers, limit, &Open)?;
+    let (again, replays) = recorded(rt, alloc, body, others, workers, limit, &Open)?;
+    Ok(Both {
+        worked: [run, again],
+        replays,
+    })
+}
+
+// Asserts what is seen of the runs of this code by each number of workers.
+fn assert_worked<R: Threads + Wait + Abort + Sync>(
+    rt: &R,
+    alloc: Global,
+    body: &[Instr],
+    others: &[Function],
+    limit: u64,
+    wanted: Worked,
+) -> Result<(), Fail>
+    requires { limit ≤ 100000000 }
+{
+    for workers in WORKERS {
+        let both = by(rt, alloc, body, others, workers, limit)?;
+        assert!(rt; both.replays, "{workers}");
+        for ran in both.worked {
+            assert_eq!(rt; ran, wanted, "{workers}");
+        }
+    }
+    Ok(())
+}
+
+// What is seen of one thread that prints nothing and leaves the value as it was.
+fn quiet(end: End) -> Worked {
+    Worked {
+        end,
+        printed: [None, None, None],
+        threads: 1,
+        trap: None,
+        value: 0,
+    }
 }
 
 #[test]
 fn locked_increments(rt: HostRuntime) -> Result<(), Fail> {
-    for workers in WORKERS {
-        let ran = by(
-            &rt,
-            rt.alloc(),
-            &COUNTS,
-            &[function(29, Parameter::None)],
-            workers,
-            LIMIT,
-        )?;
-        assert_eq!(rt; ran.end, End::AllDone);
-        assert!(rt; ran.replays);
-        assert_eq!(rt; ran.printed, [Some(4000), None, None]);
-        assert_eq!(rt; ran.value, 4000);
-        assert_eq!(rt; ran.threads, 9);
-    }
-    Ok(())
+    let others = [function(29, Parameter::None)];
+    let wanted = Worked {
+        printed: [Some(4000), None, None],
+        threads: 9,
+        value: 4000,
+        ..quiet(End::AllDone)
+    };
+    assert_worked(&rt, rt.alloc(), &COUNTS, &others, LIMIT, wanted)
 }
 
 // There is a round in which both quanta end Blocked: `main` waits for the mutex, and the thread then gives it back and
@@ -122,20 +159,13 @@ fn blocked_quanta_are_no_deadlock(rt: HostRuntime) -> Result<(), Fail> {
         Instr::Join(0, 4),
         Instr::Return(6),
     ];
-    for workers in WORKERS {
-        let ran = by(
-            &rt,
-            rt.alloc(),
-            &body,
-            &[function(10, Parameter::None)],
-            workers,
-            LIMIT,
-        )?;
-        assert_eq!(rt; ran.end, End::AllDone);
-        assert!(rt; ran.replays);
-        assert_eq!(rt; ran.value, 2);
-    }
-    Ok(())
+    let others = [function(10, Parameter::None)];
+    let wanted = Worked {
+        threads: 2,
+        value: 2,
+        ..quiet(End::AllDone)
+    };
+    assert_worked(&rt, rt.alloc(), &body, &others, LIMIT, wanted)
 }
 
 // `main` holds the mutex for which the thread asks, and joins it.
@@ -150,51 +180,50 @@ fn deadlock(rt: HostRuntime) -> Result<(), Fail> {
         Instr::Lock(A, 8),
         Instr::Return(8),
     ];
-    for workers in WORKERS {
-        let ran = by(
-            &rt,
-            rt.alloc(),
-            &body,
-            &[function(6, Parameter::None)],
-            workers,
-            LIMIT,
-        )?;
-        assert_eq!(rt; ran.end, End::Stuck);
-        assert!(rt; ran.replays);
-        assert_eq!(rt; ran.threads, 2);
-        assert_eq!(rt; ran.trap, None);
-    }
-    Ok(())
+    let others = [function(6, Parameter::None)];
+    let wanted = Worked {
+        threads: 2,
+        ..quiet(End::Stuck)
+    };
+    assert_worked(&rt, rt.alloc(), &body, &others, LIMIT, wanted)
 }
 
 // A thread that waits at its limit is stuck, one that goes on is not; a thread that is stopped is done.
 #[test]
 fn ends(rt: HostRuntime) -> Result<(), Fail> {
     let waits = [Instr::Constant(0, 0), Instr::Join(0, 4)];
+    assert_worked(&rt, rt.alloc(), &waits, &[], 3, quiet(End::Stuck))?;
+    assert_worked(&rt, rt.alloc(), &waits, &[], 2, quiet(End::Budget))?;
+    assert_worked(
+        &rt,
+        rt.alloc(),
+        &[Instr::Return(4)],
+        &[],
+        0,
+        quiet(End::Budget),
+    )?;
+    assert_worked(
+        &rt,
+        rt.alloc(),
+        &[Instr::Jump(2)],
+        &[],
+        6_000,
+        quiet(End::Budget),
+    )?;
+    let wanted = Worked {
+        trap: Some((Trap::NullPointer, 4)),
+        ..quiet(End::AllDone)
+    };
+    assert_worked(&rt, rt.alloc(), &[Instr::ChkNull(0, 4)], &[], LIMIT, wanted)
+}
+
+// So does a thread that goes on for many quanta.
+#[test]
+fn goes_on_to_its_limit(rt: HostRuntime) -> Result<(), Fail> {
+    let body = [Instr::Jump(2)];
     for workers in WORKERS {
-        let ran = by(&rt, rt.alloc(), &waits, &[], workers, 3)?;
-        assert_eq!(rt; ran.end, End::Stuck);
-        assert!(rt; ran.replays);
-        let ran = by(&rt, rt.alloc(), &waits, &[], workers, 2)?;
-        assert_eq!(rt; ran.end, End::Budget);
-        assert!(rt; ran.replays);
-        let ran = by(&rt, rt.alloc(), &[Instr::Jump(2)], &[], workers, 6_000)?;
-        assert_eq!(rt; ran.end, End::Budget);
-        assert!(rt; ran.replays);
-        let ran = by(
-            &rt,
-            rt.alloc(),
-            &[Instr::ChkNull(0, 4)],
-            &[],
-            workers,
-            LIMIT,
-        )?;
-        assert_eq!(rt; ran.end, End::AllDone);
-        assert!(rt; ran.replays);
-        assert_eq!(rt; ran.trap, Some((Trap::NullPointer, 4)));
-        let ran = by(&rt, rt.alloc(), &[Instr::Return(4)], &[], workers, 0)?;
-        assert_eq!(rt; ran.end, End::Budget);
-        assert!(rt; ran.replays);
+        let ran = in_rounds(&rt, rt.alloc(), &body, &[], workers, 120_000, &Open)?;
+        assert_eq!(rt; ran, quiet(End::Budget), "{workers}");
     }
     Ok(())
 }
@@ -208,21 +237,13 @@ fn all_threads(rt: HostRuntime) -> Result<(), Fail> {
         // The thread, at place 4.
         Instr::Return(8),
     ];
-    for workers in WORKERS {
-        let ran = by(
-            &rt,
-            rt.alloc(),
-            &body,
-            &[function(4, Parameter::None)],
-            workers,
-            LIMIT,
-        )?;
-        assert_eq!(rt; ran.end, End::AllDone);
-        assert!(rt; ran.replays);
-        assert_eq!(rt; ran.trap, Some((Trap::ThreadLimit, 9)));
-        assert_eq!(rt; ran.threads, 31);
-    }
-    Ok(())
+    let others = [function(4, Parameter::None)];
+    let wanted = Worked {
+        threads: 31,
+        trap: Some((Trap::ThreadLimit, 9)),
+        ..quiet(End::AllDone)
+    };
+    assert_worked(&rt, rt.alloc(), &body, &others, LIMIT, wanted)
 }
 
 // The thread waits until `main`, which waits for its sign in a loop, wakes it; then it prints.
@@ -246,18 +267,12 @@ fn waits_and_signals(rt: HostRuntime) -> Result<(), Fail> {
         Instr::Print(0, 8),
         Instr::Return(9),
     ];
-    for workers in WORKERS {
-        let ran = by(
-            &rt,
-            rt.alloc(),
-            &body,
-            &[function(10, Parameter::None)],
-            workers,
-            LIMIT,
-        )?;
-        assert_eq!(rt; ran.end, End::AllDone);
-        assert!(rt; ran.replays);
-        assert_eq!(rt; ran.printed, [Some(1), Some(2), None]);
-    }
-    Ok(())
+    let others = [function(10, Parameter::None)];
+    let wanted = Worked {
+        printed: [Some(1), Some(2), None],
+        threads: 2,
+        value: 1,
+        ..quiet(End::AllDone)
+    };
+    assert_worked(&rt, rt.alloc(), &body, &others, LIMIT, wanted)
 }

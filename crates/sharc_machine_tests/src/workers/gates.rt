@@ -2,9 +2,10 @@
 
 ghost use Rattle.std.specs.Prelude.{◌<◌};
 
-use crate::record::bench::{LIMIT, VALUE, Worked, function, run};
+use crate::code::function;
+use crate::workers::bench::{LIMIT, VALUE, Worked, in_rounds, recorded};
 use sharc_code::{Instr, Parameter, Register};
-use sharc_record::{End, Gate};
+use sharc_rounds::{End, Gate};
 use std::alloc::{AllocError, Global};
 use std::process::Abort;
 use std::sync::Wait;
@@ -12,8 +13,8 @@ use std::sync::atomic::{AtomicU64, Ordering};
 use std::test::Fail;
 use std::thread::Threads;
 
-// A gate looks this many times, and then gives up.
-const LOOKS: u64 = 100_000_000;
+/// A gate looks this many times, and then gives up.
+pub const LOOKS: u64 = 100_000_000;
 
 // Holds the first step of thread 1 until this many steps of thread 2 were asked for, and the other way round. It counts
 // how often it gave up, and how often a worker came with a thread that is not its own.
@@ -53,6 +54,15 @@ impl Holds {
         }
         self.given_up.fetch_add(1, Ordering::SeqCst);
     }
+
+    fn counts(&self) -> [u64; 4] {
+        [
+            self.asked_1.load(Ordering::SeqCst),
+            self.asked_2.load(Ordering::SeqCst),
+            self.given_up.load(Ordering::SeqCst),
+            self.strange.load(Ordering::SeqCst),
+        ]
+    }
 }
 
 impl Gate for Holds {
@@ -87,60 +97,74 @@ const WRITES: [Instr; 12] = [
     Instr::Exit,
 ];
 
-// What was seen of the run, how many steps each thread asked for, how often the gate gave up, and how often a worker
+// What was seen of a run, and how many steps each thread asked for, how often the gate gave up, and how often a worker
 // was strange.
-fn held<R: Threads + Wait + Sync>(
+#[derive(Clone, Copy)]
+struct Held {
+    ran: Worked,
+    counts: [u64; 4],
+}
+
+// A run in rounds and a recorded one, and whether the recorded one replays.
+#[derive(Clone, Copy)]
+struct Both {
+    held: [Held; 2],
+    replays: bool,
+}
+
+fn run_both<R: Threads + Wait + Sync>(
     rt: &R,
     alloc: Global,
     workers: u32,
     for_1: u64,
     for_2: u64,
-) -> Result<(Worked, [u64; 4]), AllocError>
+) -> Result<Both, AllocError>
     requires { 0 < workers }
 {
+    let others = [function(11, Parameter::Int)];
     let gate = Holds::new(workers, for_1, for_2);
-    let ran = run(
-        rt,
-        alloc,
-        &WRITES,
-        &[function(11, Parameter::Int)],
-        workers,
-        LIMIT,
-        &gate,
-    )?;
-    Ok((
-        ran,
-        [
-            gate.asked_1.load(Ordering::SeqCst),
-            gate.asked_2.load(Ordering::SeqCst),
-            gate.given_up.load(Ordering::SeqCst),
-            gate.strange.load(Ordering::SeqCst),
-        ],
-    ))
+    let ran = in_rounds(rt, alloc, &WRITES, &others, workers, LIMIT, &gate)?;
+    let counts = gate.counts();
+    let gate = Holds::new(workers, for_1, for_2);
+    let (again, replays) = recorded(rt, alloc, &WRITES, &others, workers, LIMIT, &gate)?;
+    let held = [
+        Held { ran, counts },
+        Held {
+            ran: again,
+            counts: gate.counts(),
+        },
+    ];
+    Ok(Both { held, replays })
 }
 
 // Each of two threads is held until the other asks: so two workers work at once.
 #[test]
 fn two_threads_wait_for_one_another(rt: HostRuntime) -> Result<(), Fail> {
-    let (ran, counts) = held(&rt, rt.alloc(), 2, 1, 1)?;
-    assert_eq!(rt; ran.end, End::AllDone);
-    assert!(rt; ran.replays);
-    assert_eq!(rt; ran.threads, 3);
-    assert_eq!(rt; counts, [5, 5, 0, 0]);
+    let both = run_both(&rt, rt.alloc(), 2, 1, 1)?;
+    assert!(rt; both.replays);
+    for held in both.held {
+        assert_eq!(rt; held.ran.end, End::AllDone);
+        assert_eq!(rt; held.ran.threads, 3);
+        assert_eq!(rt; held.counts, [5, 5, 0, 0]);
+    }
     Ok(())
 }
 
 // The thread that is held writes last.
 #[test]
 fn the_held_thread_writes_last(rt: HostRuntime) -> Result<(), Fail> {
-    let (ran, counts) = held(&rt, rt.alloc(), 2, 4, 0)?;
-    assert_eq!(rt; ran.printed, [Some(1), None, None]);
-    assert!(rt; ran.replays);
-    assert_eq!(rt; counts, [5, 5, 0, 0]);
-    let (ran, counts) = held(&rt, rt.alloc(), 2, 0, 4)?;
-    assert_eq!(rt; ran.printed, [Some(2), None, None]);
-    assert!(rt; ran.replays);
-    assert_eq!(rt; counts, [5, 5, 0, 0]);
+    let both = run_both(&rt, rt.alloc(), 2, 4, 0)?;
+    assert!(rt; both.replays);
+    for held in both.held {
+        assert_eq!(rt; held.ran.printed, [Some(1), None, None]);
+        assert_eq!(rt; held.counts, [5, 5, 0, 0]);
+    }
+    let both = run_both(&rt, rt.alloc(), 2, 0, 4)?;
+    assert!(rt; both.replays);
+    for held in both.held {
+        assert_eq!(rt; held.ran.printed, [Some(2), None, None]);
+        assert_eq!(rt; held.counts, [5, 5, 0, 0]);
+    }
     Ok(())
 }
 
@@ -148,15 +172,19 @@ fn the_held_thread_writes_last(rt: HostRuntime) -> Result<(), Fail> {
 // alone.
 #[test]
 fn each_worker_has_its_own_threads(rt: HostRuntime) -> Result<(), Fail> {
-    let (ran, counts) = held(&rt, rt.alloc(), 1, 0, 0)?;
-    assert_eq!(rt; ran.printed, [Some(2), None, None]);
-    assert!(rt; ran.replays);
-    assert_eq!(rt; counts, [5, 5, 0, 0]);
+    let both = run_both(&rt, rt.alloc(), 1, 0, 0)?;
+    assert!(rt; both.replays);
+    for held in both.held {
+        assert_eq!(rt; held.ran.printed, [Some(2), None, None]);
+        assert_eq!(rt; held.counts, [5, 5, 0, 0]);
+    }
     for workers in [2, 3, 4, 16, 31, 40] {
-        let (ran, counts) = held(&rt, rt.alloc(), workers, 0, 0)?;
-        assert_eq!(rt; ran.end, End::AllDone);
-        assert!(rt; ran.replays);
-        assert_eq!(rt; counts, [5, 5, 0, 0], "{workers}");
+        let both = run_both(&rt, rt.alloc(), workers, 0, 0)?;
+        assert!(rt; both.replays);
+        for held in both.held {
+            assert_eq!(rt; held.ran.end, End::AllDone);
+            assert_eq!(rt; held.counts, [5, 5, 0, 0], "{workers}");
+        }
     }
     Ok(())
 }

@@ -2,16 +2,15 @@
 
 ghost use Rattle.std.specs.Prelude.{◌<◌};
 
-use crate::rounds::bench::{A, LIMIT, VALUE, function, run};
-use crate::rounds::starts::{keeps, own_number};
+use crate::code::function;
+use crate::workers::bench::{A, LIMIT, VALUE, in_rounds};
+use crate::workers::gates::LOOKS;
+use crate::workers::starts::{keeps, own_number};
 use sharc_code::{Instr, Parameter, Register};
 use sharc_rounds::{End, Gate};
 use std::process::Abort;
 use std::sync::atomic::{AtomicU64, Ordering};
 use std::test::Fail;
-
-// A gate looks this many times, and then gives up.
-const LOOKS: u64 = 100_000_000;
 
 // `main` starts two threads and joins both. Each goes round and round: a step, and then 14 turns without one.
 const LOOPS: [Instr; 21] = [
@@ -96,7 +95,7 @@ fn rounds_with_a_gate_that_holds_are_made_by_workers(rt: HostRuntime) -> Result<
         given_up: AtomicU64::new(0),
     };
     let others = [function(7, Parameter::None)];
-    let ran = run(&rt, rt.alloc(), &LOOPS, &others, 2, 12_000, &gate)?;
+    let ran = in_rounds(&rt, rt.alloc(), &LOOPS, &others, 2, 12_000, &gate)?;
     assert_eq!(rt; ran.end, End::Budget);
     assert_eq!(rt; gate.given_up.load(Ordering::SeqCst), 0);
     let asked = gate.asked_1.load(Ordering::SeqCst);
@@ -156,7 +155,7 @@ fn the_caller_makes_the_first_round(rt: HostRuntime) -> Result<(), Fail> {
     let others = [function(7, Parameter::None)];
     for workers in [2, 4, 16] {
         let gate = Timed::new(&rt);
-        let ran = run(&rt, rt.alloc(), &SHORT, &others, workers, LIMIT, &gate)?;
+        let ran = in_rounds(&rt, rt.alloc(), &SHORT, &others, workers, LIMIT, &gate)?;
         assert_eq!(rt; ran.end, End::AllDone);
         assert_eq!(rt; gate.counts().1, 0, "{workers}");
     }
@@ -168,7 +167,7 @@ fn the_caller_makes_the_first_round(rt: HostRuntime) -> Result<(), Fail> {
 fn the_slower_ones_are_left(rt: HostRuntime) -> Result<(), Fail> {
     let others = [function(7, Parameter::None)];
     let gate = Timed::new(&rt);
-    let ran = run(&rt, rt.alloc(), &LOOPS, &others, 2, 2_000_000, &gate)?;
+    let ran = in_rounds(&rt, rt.alloc(), &LOOPS, &others, 2, 2_000_000, &gate)?;
     let (by_first, by_others) = gate.counts();
     assert_eq!(rt; ran.end, End::Budget);
     assert!(rt; by_others > 0);
@@ -224,7 +223,7 @@ impl<'a> Gate for Switches<'a> {
 fn the_caller_makes_whole_quanta_where_no_thread_waits(rt: HostRuntime) -> Result<(), Fail> {
     let others = [function(7, Parameter::None)];
     let gate = Switches::new(&rt);
-    let ran = run(&rt, rt.alloc(), &LOOPS, &others, 2, 2_000_000, &gate)?;
+    let ran = in_rounds(&rt, rt.alloc(), &LOOPS, &others, 2, 2_000_000, &gate)?;
     let switches = gate.switches.load(Ordering::SeqCst);
     assert_eq!(rt; ran.end, End::Budget);
     assert!(rt; switches > 1_000, "{switches}");
@@ -256,7 +255,7 @@ const HOLDS: [Instr; 12] = [
 fn the_caller_makes_parts_where_a_thread_waits(rt: HostRuntime) -> Result<(), Fail> {
     let others = [function(7, Parameter::None), function(11, Parameter::None)];
     let gate = Switches::new(&rt);
-    let ran = run(&rt, rt.alloc(), &HOLDS, &others, 2, 2_000_000, &gate)?;
+    let ran = in_rounds(&rt, rt.alloc(), &HOLDS, &others, 2, 2_000_000, &gate)?;
     let tries = gate.of_2.load(Ordering::SeqCst);
     assert_eq!(rt; ran.end, End::Budget);
     assert!(rt; tries > 1_000, "{tries}");

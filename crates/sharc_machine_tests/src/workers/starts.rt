@@ -1,6 +1,7 @@
 //! In how many threads of the system the steps of a run are made, and how large a place of the table of threads is.
 
-use crate::rounds::bench::{LIMIT, function, run};
+use crate::code::function;
+use crate::workers::bench::{LIMIT, in_rounds};
 use sharc_code::{Instr, Parameter, Register};
 use sharc_cpu::Thread;
 use sharc_rounds::{End, Gate};
@@ -108,13 +109,13 @@ fn workers_are_started_where_two_are_busy(rt: HostRuntime) -> Result<(), Fail> {
     let others = [function(7, Parameter::None)];
     for workers in [1, 2, 4, 16] {
         let gate = Callers::new(&rt);
-        let ran = run(&rt, rt.alloc(), &ONE_BY_ONE, &others, workers, LIMIT, &gate)?;
+        let ran = in_rounds(&rt, rt.alloc(), &ONE_BY_ONE, &others, workers, LIMIT, &gate)?;
         assert_eq!(rt; ran.end, End::AllDone);
         assert_eq!(rt; ran.threads, 3);
         assert_eq!(rt; gate.are_several(), false, "{workers}");
         assert_eq!(rt; gate.unknown.load(Ordering::SeqCst), 0);
         let gate = Callers::new(&rt);
-        let ran = run(&rt, rt.alloc(), &BOTH, &others, workers, LIMIT, &gate)?;
+        let ran = in_rounds(&rt, rt.alloc(), &BOTH, &others, workers, LIMIT, &gate)?;
         assert_eq!(rt; ran.end, End::AllDone);
         assert_eq!(rt; gate.are_several(), workers > 1, "{workers}");
     }
