@@ -1,7 +1,16 @@
 //! Event files at the edges of the grammar and of the fuel, with the status and the line of each.
 
 /// Cases as in `RUNS`.
-pub(crate) const EDGES: &str = r##"int main(void) { print(6 * 7); return 0; }
+pub(crate) const EDGES: &str = r##"%%events 5
+----
+2 V2 not an event file at line 2
+====
+%%events 5
+
+----
+2 V2 not an event file at line 2
+====
+int main(void) { print(6 * 7); return 0; }
 %%events 100
 0 started 0
 0 print 42
@@ -11,7 +20,6 @@ pub(crate) const EDGES: &str = r##"int main(void) { print(6 * 7); return 0; }
 ----
 0 obeys 4 events
 ====
-int main(void) { print(6 * 7); return 0; }
 %%events 100
 0 started 0
 0 print 41
@@ -21,7 +29,6 @@ int main(void) { print(6 * 7); return 0; }
 ----
 12 event 2: E1 not asked for
 ====
-int main(void) { print(6 * 7); return 0; }
 %%events 1
 0 started 0
 0 print 42
@@ -52,17 +59,6 @@ int main(void) {
 ----
 12 event 5: E3 rule 6
 ====
-int g;
-void w(int k) {
-  g = k;
-}
-int main(void) {
-  g = 1;
-  int t = spawn(w, 2);
-  join(t);
-  return 0;
-}
-
 %%events 100
 0 started 0
 0 write g0.0 1
@@ -83,7 +79,6 @@ int main(void) { print(6 * 7); return 0; }
 ----
 13 event 2: U1 fuel 1 spent
 ====
-int main(void) { print(6 * 7); return 0; }
 %%events 2
 0 started 0
 0 print 42
@@ -93,7 +88,6 @@ int main(void) { print(6 * 7); return 0; }
 ----
 13 event 2: U1 fuel 2 spent
 ====
-int main(void) { print(6 * 7); return 0; }
 %%events 3
 0 started 0
 0 print 42
@@ -103,7 +97,6 @@ int main(void) { print(6 * 7); return 0; }
 ----
 13 event 2: U1 fuel 3 spent
 ====
-int main(void) { print(6 * 7); return 0; }
 %%events 4
 0 started 0
 0 print 42
@@ -113,7 +106,6 @@ int main(void) { print(6 * 7); return 0; }
 ----
 13 event 2: U1 fuel 4 spent
 ====
-int main(void) { print(6 * 7); return 0; }
 %%events 5
 0 started 0
 0 print 42
@@ -123,7 +115,6 @@ int main(void) { print(6 * 7); return 0; }
 ----
 13 event 2: U1 fuel 5 spent
 ====
-int main(void) { print(6 * 7); return 0; }
 %%events 6
 0 started 0
 0 print 42
@@ -133,7 +124,6 @@ int main(void) { print(6 * 7); return 0; }
 ----
 13 event 3: U1 fuel 6 spent
 ====
-int main(void) { print(6 * 7); return 0; }
 %%events 7
 0 started 0
 0 print 42
@@ -143,7 +133,6 @@ int main(void) { print(6 * 7); return 0; }
 ----
 13 event 3: U1 fuel 7 spent
 ====
-int main(void) { print(6 * 7); return 0; }
 %%events 8
 0 started 0
 0 print 42
@@ -153,7 +142,6 @@ int main(void) { print(6 * 7); return 0; }
 ----
 0 obeys 4 events
 ====
-int main(void) { print(6 * 7); return 0; }
 %%events 9
 0 started 0
 0 print 42
@@ -163,7 +151,6 @@ int main(void) { print(6 * 7); return 0; }
 ----
 0 obeys 4 events
 ====
-int main(void) { print(6 * 7); return 0; }
 %%events 10
 0 started 0
 0 print 42
@@ -173,7 +160,6 @@ int main(void) { print(6 * 7); return 0; }
 ----
 0 obeys 4 events
 ====
-int main(void) { print(6 * 7); return 0; }
 %%events 11
 0 started 0
 0 print 42
@@ -204,17 +190,6 @@ int main(void) {
 ----
 13 event 2: U1 fuel 1 spent
 ====
-int g;
-void w(int k) {
-  g = k;
-}
-int main(void) {
-  g = 1;
-  int t = spawn(w, 2);
-  join(t);
-  return 0;
-}
-
 %%events 2
 0 started 0
 0 write g0.0 1
@@ -225,17 +200,6 @@ int main(void) {
 ----
 13 event 2: U1 fuel 2 spent
 ====
-int g;
-void w(int k) {
-  g = k;
-}
-int main(void) {
-  g = 1;
-  int t = spawn(w, 2);
-  join(t);
-  return 0;
-}
-
 %%events 3
 0 started 0
 0 write g0.0 1
@@ -246,17 +210,6 @@ int main(void) {
 ----
 13 event 2: U1 fuel 3 spent
 ====
-int g;
-void w(int k) {
-  g = k;
-}
-int main(void) {
-  g = 1;
-  int t = spawn(w, 2);
-  join(t);
-  return 0;
-}
-
 %%events 4
 0 started 0
 0 write g0.0 1
@@ -267,17 +220,6 @@ int main(void) {
 ----
 13 event 3: U1 fuel 4 spent
 ====
-int g;
-void w(int k) {
-  g = k;
-}
-int main(void) {
-  g = 1;
-  int t = spawn(w, 2);
-  join(t);
-  return 0;
-}
-
 %%events 5
 0 started 0
 0 write g0.0 1
@@ -288,17 +230,6 @@ int main(void) {
 ----
 13 event 3: U1 fuel 5 spent
 ====
-int g;
-void w(int k) {
-  g = k;
-}
-int main(void) {
-  g = 1;
-  int t = spawn(w, 2);
-  join(t);
-  return 0;
-}
-
 %%events 6
 0 started 0
 0 write g0.0 1
@@ -309,17 +240,6 @@ int main(void) {
 ----
 13 event 3: U1 fuel 6 spent
 ====
-int g;
-void w(int k) {
-  g = k;
-}
-int main(void) {
-  g = 1;
-  int t = spawn(w, 2);
-  join(t);
-  return 0;
-}
-
 %%events 7
 0 started 0
 0 write g0.0 1
@@ -330,17 +250,6 @@ int main(void) {
 ----
 12 event 5: E3 rule 6
 ====
-int g;
-void w(int k) {
-  g = k;
-}
-int main(void) {
-  g = 1;
-  int t = spawn(w, 2);
-  join(t);
-  return 0;
-}
-
 %%events 8
 0 started 0
 0 write g0.0 1
@@ -351,17 +260,6 @@ int main(void) {
 ----
 12 event 5: E3 rule 6
 ====
-int g;
-void w(int k) {
-  g = k;
-}
-int main(void) {
-  g = 1;
-  int t = spawn(w, 2);
-  join(t);
-  return 0;
-}
-
 %%events 9
 0 started 0
 0 write g0.0 1
@@ -372,17 +270,6 @@ int main(void) {
 ----
 12 event 5: E3 rule 6
 ====
-int g;
-void w(int k) {
-  g = k;
-}
-int main(void) {
-  g = 1;
-  int t = spawn(w, 2);
-  join(t);
-  return 0;
-}
-
 %%events 10
 0 started 0
 0 write g0.0 1
@@ -393,17 +280,6 @@ int main(void) {
 ----
 12 event 5: E3 rule 6
 ====
-int g;
-void w(int k) {
-  g = k;
-}
-int main(void) {
-  g = 1;
-  int t = spawn(w, 2);
-  join(t);
-  return 0;
-}
-
 %%events 11
 0 started 0
 0 write g0.0 1
@@ -420,7 +296,6 @@ int main(void) { print(6 * 7); return 0; }
 ----
 0 obeys 1 events
 ====
-int main(void) { print(6 * 7); return 0; }
 %%events 100
 0 started 0
 0 started 0
@@ -428,7 +303,6 @@ int main(void) { print(6 * 7); return 0; }
 ----
 12 event 2: E1 not asked for
 ====
-int main(void) { print(6 * 7); return 0; }
 %%events 100
 0 started 0
 00 started 0
@@ -436,7 +310,6 @@ int main(void) { print(6 * 7); return 0; }
 ----
 2 V2 not an event file at line 4
 ====
-int main(void) { print(6 * 7); return 0; }
 %%events 100
 0 started 0
 0 started 00
@@ -444,7 +317,6 @@ int main(void) { print(6 * 7); return 0; }
 ----
 2 V2 not an event file at line 4
 ====
-int main(void) { print(6 * 7); return 0; }
 %%events 100
 0 started 0
 0 started -0
@@ -452,7 +324,6 @@ int main(void) { print(6 * 7); return 0; }
 ----
 2 V2 not an event file at line 4
 ====
-int main(void) { print(6 * 7); return 0; }
 %%events 100
 0 started 0
 0 started +0
@@ -460,7 +331,6 @@ int main(void) { print(6 * 7); return 0; }
 ----
 2 V2 not an event file at line 4
 ====
-int main(void) { print(6 * 7); return 0; }
 %%events 100
 0 started 0
 0  started 0
@@ -468,7 +338,6 @@ int main(void) { print(6 * 7); return 0; }
 ----
 2 V2 not an event file at line 4
 ====
-int main(void) { print(6 * 7); return 0; }
 %%events 100
 0 started 0
 0 started 0 
@@ -476,7 +345,6 @@ int main(void) { print(6 * 7); return 0; }
 ----
 2 V2 not an event file at line 4
 ====
-int main(void) { print(6 * 7); return 0; }
 %%events 100
 0 started 0
  0 started 0
@@ -484,13 +352,11 @@ int main(void) { print(6 * 7); return 0; }
 ----
 2 V2 not an event file at line 4
 ====
-int main(void) { print(6 * 7); return 0; }
 %%events 100
 0 started 1:1
 ----
 12 event 1: E1 not asked for
 ====
-int main(void) { print(6 * 7); return 0; }
 %%events 100
 0 started 0
 0 started 1:1
@@ -498,7 +364,6 @@ int main(void) { print(6 * 7); return 0; }
 ----
 12 event 2: E1 not asked for
 ====
-int main(void) { print(6 * 7); return 0; }
 %%events 100
 0 started 0
 0 started 0:1
@@ -506,7 +371,6 @@ int main(void) { print(6 * 7); return 0; }
 ----
 2 V2 not an event file at line 4
 ====
-int main(void) { print(6 * 7); return 0; }
 %%events 100
 0 started 0
 0 started 1:0
@@ -514,7 +378,6 @@ int main(void) { print(6 * 7); return 0; }
 ----
 2 V2 not an event file at line 4
 ====
-int main(void) { print(6 * 7); return 0; }
 %%events 100
 0 started 0
 0 started 4294967296:1
@@ -522,7 +385,6 @@ int main(void) { print(6 * 7); return 0; }
 ----
 2 V2 not an event file at line 4
 ====
-int main(void) { print(6 * 7); return 0; }
 %%events 100
 0 started 0
 0 started 4294967295:2147483647
@@ -530,7 +392,6 @@ int main(void) { print(6 * 7); return 0; }
 ----
 12 event 2: E1 not asked for
 ====
-int main(void) { print(6 * 7); return 0; }
 %%events 100
 0 started 0
 0 started 4294967295:2147483648
@@ -538,7 +399,6 @@ int main(void) { print(6 * 7); return 0; }
 ----
 2 V2 not an event file at line 4
 ====
-int main(void) { print(6 * 7); return 0; }
 %%events 100
 0 started 0
 0 started 9223372036854775807
@@ -546,7 +406,6 @@ int main(void) { print(6 * 7); return 0; }
 ----
 12 event 2: E1 not asked for
 ====
-int main(void) { print(6 * 7); return 0; }
 %%events 100
 0 started 0
 0 started 9223372036854775808
@@ -554,7 +413,6 @@ int main(void) { print(6 * 7); return 0; }
 ----
 2 V2 not an event file at line 4
 ====
-int main(void) { print(6 * 7); return 0; }
 %%events 100
 0 started 0
 0 started -9223372036854775808
@@ -562,7 +420,6 @@ int main(void) { print(6 * 7); return 0; }
 ----
 12 event 2: E1 not asked for
 ====
-int main(void) { print(6 * 7); return 0; }
 %%events 100
 0 started 0
 0 started -9223372036854775809
@@ -570,7 +427,6 @@ int main(void) { print(6 * 7); return 0; }
 ----
 2 V2 not an event file at line 4
 ====
-int main(void) { print(6 * 7); return 0; }
 %%events 100
 0 started 0
 4294967295 gone
@@ -578,7 +434,6 @@ int main(void) { print(6 * 7); return 0; }
 ----
 12 event 2: E1 not asked for
 ====
-int main(void) { print(6 * 7); return 0; }
 %%events 100
 0 started 0
 4294967296 gone
@@ -586,7 +441,6 @@ int main(void) { print(6 * 7); return 0; }
 ----
 2 V2 not an event file at line 4
 ====
-int main(void) { print(6 * 7); return 0; }
 %%events 100
 0 started 0
 0 join 4294967295
@@ -594,7 +448,6 @@ int main(void) { print(6 * 7); return 0; }
 ----
 12 event 2: E1 not asked for
 ====
-int main(void) { print(6 * 7); return 0; }
 %%events 100
 0 started 0
 0 join 4294967296
@@ -602,7 +455,6 @@ int main(void) { print(6 * 7); return 0; }
 ----
 2 V2 not an event file at line 4
 ====
-int main(void) { print(6 * 7); return 0; }
 %%events 100
 0 started 0
 0 join -1
@@ -610,7 +462,6 @@ int main(void) { print(6 * 7); return 0; }
 ----
 2 V2 not an event file at line 4
 ====
-int main(void) { print(6 * 7); return 0; }
 %%events 100
 0 started 0
 0 read g0.0 0
@@ -618,7 +469,6 @@ int main(void) { print(6 * 7); return 0; }
 ----
 12 event 2: E1 not asked for
 ====
-int main(void) { print(6 * 7); return 0; }
 %%events 100
 0 started 0
 0 read g4294967295.9223372036854775807 0
@@ -626,7 +476,6 @@ int main(void) { print(6 * 7); return 0; }
 ----
 12 event 2: E1 not asked for
 ====
-int main(void) { print(6 * 7); return 0; }
 %%events 100
 0 started 0
 0 read g4294967296.0 0
@@ -634,7 +483,6 @@ int main(void) { print(6 * 7); return 0; }
 ----
 2 V2 not an event file at line 4
 ====
-int main(void) { print(6 * 7); return 0; }
 %%events 100
 0 started 0
 0 read g0.9223372036854775808 0
@@ -642,7 +490,6 @@ int main(void) { print(6 * 7); return 0; }
 ----
 2 V2 not an event file at line 4
 ====
-int main(void) { print(6 * 7); return 0; }
 %%events 100
 0 started 0
 0 read o0.0 0
@@ -650,7 +497,6 @@ int main(void) { print(6 * 7); return 0; }
 ----
 2 V2 not an event file at line 4
 ====
-int main(void) { print(6 * 7); return 0; }
 %%events 100
 0 started 0
 0 read o1.0 0
@@ -658,7 +504,6 @@ int main(void) { print(6 * 7); return 0; }
 ----
 12 event 2: E1 not asked for
 ====
-int main(void) { print(6 * 7); return 0; }
 %%events 100
 0 started 0
 0 read g00.0 0
@@ -666,7 +511,6 @@ int main(void) { print(6 * 7); return 0; }
 ----
 2 V2 not an event file at line 4
 ====
-int main(void) { print(6 * 7); return 0; }
 %%events 100
 0 started 0
 0 read g0.00 0
@@ -674,7 +518,6 @@ int main(void) { print(6 * 7); return 0; }
 ----
 2 V2 not an event file at line 4
 ====
-int main(void) { print(6 * 7); return 0; }
 %%events 100
 0 started 0
 0 read g0 0
@@ -682,7 +525,6 @@ int main(void) { print(6 * 7); return 0; }
 ----
 2 V2 not an event file at line 4
 ====
-int main(void) { print(6 * 7); return 0; }
 %%events 100
 0 started 0
 0 read x0.0 0
@@ -690,7 +532,6 @@ int main(void) { print(6 * 7); return 0; }
 ----
 2 V2 not an event file at line 4
 ====
-int main(void) { print(6 * 7); return 0; }
 %%events 100
 0 started 0
 0 new 0
@@ -698,7 +539,6 @@ int main(void) { print(6 * 7); return 0; }
 ----
 12 event 2: E1 not asked for
 ====
-int main(void) { print(6 * 7); return 0; }
 %%events 100
 0 started 0
 0 new 1:1
@@ -706,7 +546,6 @@ int main(void) { print(6 * 7); return 0; }
 ----
 12 event 2: E1 not asked for
 ====
-int main(void) { print(6 * 7); return 0; }
 %%events 100
 0 started 0
 0 new -1
@@ -714,7 +553,6 @@ int main(void) { print(6 * 7); return 0; }
 ----
 2 V2 not an event file at line 4
 ====
-int main(void) { print(6 * 7); return 0; }
 %%events 100
 0 started 0
 0 new 5
@@ -722,7 +560,6 @@ int main(void) { print(6 * 7); return 0; }
 ----
 2 V2 not an event file at line 4
 ====
-int main(void) { print(6 * 7); return 0; }
 %%events 100
 0 started 0
 0 take 0
@@ -730,7 +567,6 @@ int main(void) { print(6 * 7); return 0; }
 ----
 12 event 2: E1 not asked for
 ====
-int main(void) { print(6 * 7); return 0; }
 %%events 100
 0 started 0
 0 give 1:01
@@ -738,7 +574,6 @@ int main(void) { print(6 * 7); return 0; }
 ----
 2 V2 not an event file at line 4
 ====
-int main(void) { print(6 * 7); return 0; }
 %%events 100
 0 started 0
 0 freed 01:1
@@ -746,7 +581,6 @@ int main(void) { print(6 * 7); return 0; }
 ----
 2 V2 not an event file at line 4
 ====
-int main(void) { print(6 * 7); return 0; }
 %%events 100
 0 started 0
 0 lock g0.0
@@ -754,7 +588,6 @@ int main(void) { print(6 * 7); return 0; }
 ----
 12 event 2: E1 not asked for
 ====
-int main(void) { print(6 * 7); return 0; }
 %%events 100
 0 started 0
 0 unlock o1.2
@@ -762,7 +595,6 @@ int main(void) { print(6 * 7); return 0; }
 ----
 12 event 2: E1 not asked for
 ====
-int main(void) { print(6 * 7); return 0; }
 %%events 100
 0 started 0
 0 lock g0.0 1
@@ -770,7 +602,6 @@ int main(void) { print(6 * 7); return 0; }
 ----
 2 V2 not an event file at line 4
 ====
-int main(void) { print(6 * 7); return 0; }
 %%events 100
 0 started 0
 0 spawn f 0 0
@@ -778,7 +609,6 @@ int main(void) { print(6 * 7); return 0; }
 ----
 12 event 2: E1 not asked for
 ====
-int main(void) { print(6 * 7); return 0; }
 %%events 100
 0 started 0
 0 spawn int 0 0
@@ -786,7 +616,6 @@ int main(void) { print(6 * 7); return 0; }
 ----
 2 V2 not an event file at line 4
 ====
-int main(void) { print(6 * 7); return 0; }
 %%events 100
 0 started 0
 0 spawn _Bool 0 0
@@ -794,7 +623,6 @@ int main(void) { print(6 * 7); return 0; }
 ----
 2 V2 not an event file at line 4
 ====
-int main(void) { print(6 * 7); return 0; }
 %%events 100
 0 started 0
 0 spawn 1f 0 0
@@ -802,7 +630,6 @@ int main(void) { print(6 * 7); return 0; }
 ----
 2 V2 not an event file at line 4
 ====
-int main(void) { print(6 * 7); return 0; }
 %%events 100
 0 started 0
 0 spawn f_1 0 4294967295
@@ -810,7 +637,6 @@ int main(void) { print(6 * 7); return 0; }
 ----
 12 event 2: E1 not asked for
 ====
-int main(void) { print(6 * 7); return 0; }
 %%events 100
 0 started 0
 0 spawn f 0 4294967296
@@ -818,7 +644,6 @@ int main(void) { print(6 * 7); return 0; }
 ----
 2 V2 not an event file at line 4
 ====
-int main(void) { print(6 * 7); return 0; }
 %%events 100
 0 started 0
 0 spawn aaaaaaaaaaaaaaaaaaaaaaaaaaaaaaaaaaaaaaaaaaaaaaaaaaaaaaaaaaaaaaaa 0 1
@@ -826,7 +651,6 @@ int main(void) { print(6 * 7); return 0; }
 ----
 12 event 2: E1 not asked for
 ====
-int main(void) { print(6 * 7); return 0; }
 %%events 100
 0 started 0
 0 spawn aaaaaaaaaaaaaaaaaaaaaaaaaaaaaaaaaaaaaaaaaaaaaaaaaaaaaaaaaaaaaaaaa 0 1
@@ -834,7 +658,6 @@ int main(void) { print(6 * 7); return 0; }
 ----
 2 V2 not an event file at line 4
 ====
-int main(void) { print(6 * 7); return 0; }
 %%events 100
 0 started 0
 0 spawn f 0
@@ -842,7 +665,6 @@ int main(void) { print(6 * 7); return 0; }
 ----
 2 V2 not an event file at line 4
 ====
-int main(void) { print(6 * 7); return 0; }
 %%events 100
 0 started 0
 0 return 
@@ -850,7 +672,6 @@ int main(void) { print(6 * 7); return 0; }
 ----
 2 V2 not an event file at line 4
 ====
-int main(void) { print(6 * 7); return 0; }
 %%events 100
 0 started 0
 0 return
@@ -858,7 +679,6 @@ int main(void) { print(6 * 7); return 0; }
 ----
 12 event 2: E1 not asked for
 ====
-int main(void) { print(6 * 7); return 0; }
 %%events 100
 0 started 0
 0 gone
@@ -866,7 +686,6 @@ int main(void) { print(6 * 7); return 0; }
 ----
 12 event 2: E1 not asked for
 ====
-int main(void) { print(6 * 7); return 0; }
 %%events 100
 0 started 0
 0 gone 1
@@ -874,7 +693,6 @@ int main(void) { print(6 * 7); return 0; }
 ----
 2 V2 not an event file at line 4
 ====
-int main(void) { print(6 * 7); return 0; }
 %%events 100
 0 started 0
 0 Print 1
@@ -882,7 +700,6 @@ int main(void) { print(6 * 7); return 0; }
 ----
 2 V2 not an event file at line 4
 ====
-int main(void) { print(6 * 7); return 0; }
 %%events 100
 0 started 0
 0
@@ -890,13 +707,11 @@ int main(void) { print(6 * 7); return 0; }
 ----
 2 V2 not an event file at line 4
 ====
-int main(void) { print(6 * 7); return 0; }
 %%events 100
 
 ----
 0 obeys 0 events
 ====
-int main(void) { print(6 * 7); return 0; }
 %%events 100
 0 started 0
 
@@ -904,7 +719,6 @@ int main(void) { print(6 * 7); return 0; }
 ----
 2 V2 not an event file at line 4
 ====
-int main(void) { print(6 * 7); return 0; }
 %%events 100
 0 started 0
 0 
@@ -912,7 +726,6 @@ int main(void) { print(6 * 7); return 0; }
 ----
 2 V2 not an event file at line 4
 ====
-int main(void) { print(6 * 7); return 0; }
 %%events 100
 0 started 0
 print 1
@@ -920,7 +733,6 @@ print 1
 ----
 2 V2 not an event file at line 4
 ====
-int main(void) { print(6 * 7); return 0; }
 %%events 100
 0 started 0
 0 signal g0.0
@@ -928,7 +740,6 @@ int main(void) { print(6 * 7); return 0; }
 ----
 2 V2 not an event file at line 4
 ====
-int main(void) { print(6 * 7); return 0; }
 %%events 100
 0 started 0
 0 started
@@ -936,7 +747,6 @@ int main(void) { print(6 * 7); return 0; }
 ----
 2 V2 not an event file at line 4
 ====
-int main(void) { print(6 * 7); return 0; }
 %%events 100
 0 started 0
 0 print
@@ -944,7 +754,6 @@ int main(void) { print(6 * 7); return 0; }
 ----
 2 V2 not an event file at line 4
 ====
-int main(void) { print(6 * 7); return 0; }
 %%events 100
 0 started 0
 1 started 0
@@ -952,7 +761,6 @@ int main(void) { print(6 * 7); return 0; }
 ----
 12 event 2: E1 not asked for
 ====
-int main(void) { print(6 * 7); return 0; }
 %%events 100
 0 started 0
 5 started 0
@@ -960,49 +768,40 @@ int main(void) { print(6 * 7); return 0; }
 ----
 12 event 2: E1 not asked for
 ====
-int main(void) { print(6 * 7); return 0; }
 %%events 0
 ----
 2 V2 not an event file at line 2
 ====
-int main(void) { print(6 * 7); return 0; }
 %%events 65536
 ----
 0 obeys 0 events
 ====
-int main(void) { print(6 * 7); return 0; }
 %%events 65537
 ----
 2 V2 not an event file at line 2
 ====
-int main(void) { print(6 * 7); return 0; }
 %%events 01
 ----
 2 V2 not an event file at line 2
 ====
-int main(void) { print(6 * 7); return 0; }
 %%events 
 ----
 2 V2 not an event file at line 2
 ====
-int main(void) { print(6 * 7); return 0; }
 %%events
 ----
 2 V2 not an event file at line 3
 ====
-int main(void) { print(6 * 7); return 0; }
 %%events 5 
 ----
 2 V2 not an event file at line 2
 ====
-int main(void) { print(6 * 7); return 0; }
 %%events 5
 
 
 ----
 2 V2 not an event file at line 3
 ====
-int main(void) { print(6 * 7); return 0; }
 %%events 5
 0 started 0
 
@@ -1024,15 +823,6 @@ int main(void) { print(6 * 7); return 0; }
 ----
 2 V2 not an event file at line 2
 ====
-%%events 5
-----
-2 V2 not an event file at line 2
-====
-%%events 5
-
-----
-2 V2 not an event file at line 2
-====
 
 ----
 2 V2 not an event file at line 1
@@ -1048,20 +838,17 @@ z
 ----
 2 V2 not an event file at line 4
 ====
-int main(void) { print(6 * 7); return 0; }
 %%events 5
 %%events 5
 ----
 2 V2 not an event file at line 3
 ====
-int main(void) { print(6 * 7); return 0; }
 %%events 5
 0 started 0
 0 print 42
 ----
 13 event 2: U1 fuel 5 spent
 ====
-int main(void) { print(6 * 7); return 0; }
 %%events 5
 0 started 0
 0 print 4
