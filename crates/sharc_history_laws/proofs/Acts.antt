@@ -1,15 +1,6 @@
 -- What the event of a turn is about: an access, an object that is made, given or freed; and whose it is.
-use Rattle.std.proofs.Common.{◌≡◌, ℕ, zero, suc, ◌+◌, ◌*◌, ◌%◌, ◌^◌, ◌<◌, Bool, true, false, Option, Some, None, if◌then◌else◌, refl, ap, arith}
-use Rattle.std.specs.Prelude.{◌==◌, ◌||◌}
-use Rattle.sharc_tree.specs.declared.event.SourceEvent.{SourceEvent}
-use Rattle.sharc_heap.specs.{State.NewView, declared.stage.NewStage.NewStage}
-use Rattle.sharc_heap.specs.declared.stage.NewStage.TheVariants as news
-use Rattle.sharc_locks.specs.Waiters.{waits_in}
-use Rattle.sharc_code.specs.{declared.code.Code.Code, declared.instr.Cell.Cell, declared.instr.Register.Register, declared.instr.Instr.Instr, declared.state.Stage.Stage, declared.state.Stage.TheVariants.{Makes, Uncounts, Begins, Enters, Withdraws, WithdrawsFrom, Leaves as Leaving, Wakes}, Machine.{Machine, ref}, Says.{said, reference, take_local, nobody, in_signal, in_exit, in_spawn, in_start, in_free, in_new, new_event, cell_at, mode_of, place_at}}
-use Rattle.sharc_code.specs.declared.instr.Instr.TheVariants as instrs
-use Rattle.sharc_meaning.specs.{Events.{Access, access_by, made_by, given_by, freed_by}, Reference.number_of}
-use Rattle.sharc_invariant.specs.{Types.{Targets, Field}, Labels.Labels, Typed.{Fine, Accesses}}
-use Rattle.sharc_history_laws.proofs.Tables.{header_at, header_in, header_of}
+use Rattle.sharc_history_laws.proofs.{Imports.{◌≡◌, ℕ, zero, suc, ◌+◌, ◌*◌, ◌%◌, ◌^◌, ◌<◌, Bool, true, false, Option, Some, None, if◌then◌else◌, refl, ap, arith, ◌==◌, ◌||◌, SourceEvent, NewView, NewStage, waits_in, Code, Cell, Register, Instr, Stage, Makes, Uncounts, Begins, Enters, Withdraws, WithdrawsFrom, Leaves as Leaving, Wakes, Machine, ref, said, reference, take_local, nobody, in_signal, in_exit, in_spawn, in_start, in_free, in_new, new_event, cell_at, mode_of, place_at, Access, access_by, made_by, given_by, Targets, Field, Labels, Fine, Accesses}, Tables.{header_at, header_in, header_of}}
+use Rattle.sharc_meaning.specs.{Events.freed_by, Reference.number_of}
 
 abbrev pub access_said : Option SourceEvent → Option Access
 access_said None = None
@@ -33,7 +24,7 @@ thread_said t (Some e) = e.thread
 
 -- ---- what a turn gives and frees
 abbrev pub given_at : Instr → Machine → Option ℕ
-given_at (instrs.Give r site) m = Some (ref m r)
+given_at (Instr.Give r site) m = Some (ref m r)
 given_at _ m = None
 
 abbrev pub freed_in : Stage → ℕ → Option ℕ
@@ -41,7 +32,7 @@ freed_in (Uncounts all) o = Some o
 freed_in _ o = None
 
 abbrev pub freed_at : Instr → Machine → Option ℕ
-freed_at (instrs.Free r layout site) m = freed_in m.own.stage (ref m r)
+freed_at (Instr.Free r layout site) m = freed_in m.own.stage (ref m r)
 freed_at _ m = None
 
 pub record About (t : ℕ) (made given freed : Option ℕ) (e : Option SourceEvent) : Type 0 where
@@ -99,7 +90,7 @@ module _ (code : Code) (m : Machine) where
   at_free r site elements _ lt = none
 
   at_new_stage : (site cells : ℕ) (v : NewView) (stage : NewStage) → ((header : ℕ) → header_at stage ≡ Some header → header < 2 ^ 32) → About m.own.number (header_at stage) None None (new_event code m site cells v stage)
-  at_new_stage site cells v (news.Length header) low = record { thread = refl; makes = ap (λ n. Some n) (number_back header v.arguments.elements (low header refl)); gives = refl; frees = refl }
+  at_new_stage site cells v (NewStage.Length header) low = record { thread = refl; makes = ap (λ n. Some n) (number_back header v.arguments.elements (low header refl)); gives = refl; frees = refl }
   at_new_stage site cells v _ low = none
 
   at_new : (site cells : ℕ) (stage : Stage) → ((header : ℕ) → header_in stage ≡ Some header → header < 2 ^ 32) → About m.own.number (header_in stage) None None (in_new code m site cells stage)
@@ -109,39 +100,39 @@ module _ (code : Code) (m : Machine) where
   -- the numbers are of 32 bits
   pub record AreLow (i : Instr) : Type 0 where
     pub header : (header : ℕ) → header_of i m.own.stage ≡ Some header → header < 2 ^ 32
-    pub given : (r site : ℕ) → i ≡ instrs.Give r site → ref m r < 2 ^ 32
-    pub freed : (r layout site all : ℕ) → i ≡ instrs.Free r layout site → m.own.stage ≡ Uncounts all → ref m r < 2 ^ 32
+    pub given : (r site : ℕ) → i ≡ Instr.Give r site → ref m r < 2 ^ 32
+    pub freed : (r layout site all : ℕ) → i ≡ Instr.Free r layout site → m.own.stage ≡ Uncounts all → ref m r < 2 ^ 32
 
   pub about : (i : Instr) (found elements : ℕ) → AreLow i → About m.own.number (header_of i m.own.stage) (given_at i m) (freed_at i m) (said code i m found elements)
-  about (instrs.Load r c site) found elements low = record { thread = refl; makes = refl; gives = refl; frees = refl }
-  about (instrs.Store r c site) found elements low = record { thread = refl; makes = refl; gives = refl; frees = refl }
-  about (instrs.LoadRef c site) found elements low = record { thread = refl; makes = refl; gives = refl; frees = refl }
-  about (instrs.Exchange r c site) found elements low = record { thread = refl; makes = refl; gives = refl; frees = refl }
-  about (instrs.TakeCell r c site) found elements low = record { thread = refl; makes = refl; gives = refl; frees = refl }
-  about (instrs.Unlock r c site) found elements low = record { thread = refl; makes = refl; gives = refl; frees = refl }
-  about (instrs.Print r site) found elements low = record { thread = refl; makes = refl; gives = refl; frees = refl }
-  about (instrs.CondEnter c site) found elements low = record { thread = refl; makes = refl; gives = refl; frees = refl }
-  about (instrs.CondBroadcast c site) found elements low = record { thread = refl; makes = refl; gives = refl; frees = refl }
-  about (instrs.TakeLocal r from site) found elements low = at_local site (ref m from) elements
-  about (instrs.Give r site) found elements low = record { thread = refl; makes = refl; gives = ap (λ n. Some n) (number_back (ref m r) elements (low.given r site refl)); frees = refl }
-  about (instrs.New r count cells site) found elements low = at_new site cells m.own.stage low.header
-  about (instrs.Free r layout site) found elements low = at_free r site elements m.own.stage (λ all e. low.freed r layout site all refl e)
-  about (instrs.Lock c site) found elements low = either m.own.number None None None (found == 0) _ _ (record { thread = refl; makes = refl; gives = refl; frees = refl }) none
-  about (instrs.Spawn r function from site) found elements low = at_spawn function from site elements m.own.stage
-  about (instrs.Join r site) found elements low = either m.own.number None None None (found == 0 || (found == 1 || found == 2)) _ _ none (record { thread = refl; makes = refl; gives = refl; frees = refl })
-  about (instrs.Start site) found elements low = at_start found elements m.own.stage
-  about instrs.Exit found elements low = at_exit m.own.stage
-  about (instrs.CondWait c site) found elements low = either m.own.number None None None (waits_in found m.own.number) _ _ none (record { thread = refl; makes = refl; gives = refl; frees = refl })
-  about (instrs.CondSignal c site) found elements low = at_signal c site found m.own.stage
+  about (Instr.Load r c site) found elements low = record { thread = refl; makes = refl; gives = refl; frees = refl }
+  about (Instr.Store r c site) found elements low = record { thread = refl; makes = refl; gives = refl; frees = refl }
+  about (Instr.LoadRef c site) found elements low = record { thread = refl; makes = refl; gives = refl; frees = refl }
+  about (Instr.Exchange r c site) found elements low = record { thread = refl; makes = refl; gives = refl; frees = refl }
+  about (Instr.TakeCell r c site) found elements low = record { thread = refl; makes = refl; gives = refl; frees = refl }
+  about (Instr.Unlock r c site) found elements low = record { thread = refl; makes = refl; gives = refl; frees = refl }
+  about (Instr.Print r site) found elements low = record { thread = refl; makes = refl; gives = refl; frees = refl }
+  about (Instr.CondEnter c site) found elements low = record { thread = refl; makes = refl; gives = refl; frees = refl }
+  about (Instr.CondBroadcast c site) found elements low = record { thread = refl; makes = refl; gives = refl; frees = refl }
+  about (Instr.TakeLocal r from site) found elements low = at_local site (ref m from) elements
+  about (Instr.Give r site) found elements low = record { thread = refl; makes = refl; gives = ap (λ n. Some n) (number_back (ref m r) elements (low.given r site refl)); frees = refl }
+  about (Instr.New r count cells site) found elements low = at_new site cells m.own.stage low.header
+  about (Instr.Free r layout site) found elements low = at_free r site elements m.own.stage (λ all e. low.freed r layout site all refl e)
+  about (Instr.Lock c site) found elements low = either m.own.number None None None (found == 0) _ _ (record { thread = refl; makes = refl; gives = refl; frees = refl }) none
+  about (Instr.Spawn r function from site) found elements low = at_spawn function from site elements m.own.stage
+  about (Instr.Join r site) found elements low = either m.own.number None None None (found == 0 || (found == 1 || found == 2)) _ _ none (record { thread = refl; makes = refl; gives = refl; frees = refl })
+  about (Instr.Start site) found elements low = at_start found elements m.own.stage
+  about Instr.Exit found elements low = at_exit m.own.stage
+  about (Instr.CondWait c site) found elements low = either m.own.number None None None (waits_in found m.own.number) _ _ none (record { thread = refl; makes = refl; gives = refl; frees = refl })
+  about (Instr.CondSignal c site) found elements low = at_signal c site found m.own.stage
   about _ found elements low = none
 
 -- ---- accesses
 abbrev pub is_access : Instr → Bool
-is_access (instrs.Load r c site) = true
-is_access (instrs.Store r c site) = true
-is_access (instrs.LoadRef c site) = true
-is_access (instrs.Exchange r c site) = true
-is_access (instrs.TakeCell r c site) = true
+is_access (Instr.Load r c site) = true
+is_access (Instr.Store r c site) = true
+is_access (Instr.LoadRef c site) = true
+is_access (Instr.Exchange r c site) = true
+is_access (Instr.TakeCell r c site) = true
 is_access _ = false
 
 either_none : (b : Bool) (x y : Option SourceEvent) → access_said x ≡ None → access_said y ≡ None → access_said (if b then x else y) ≡ None
@@ -183,7 +174,7 @@ module _ (code : Code) (m : Machine) where
   silent_free r site elements _ = refl
 
   silent_new_stage : (site cells : ℕ) (v : NewView) (stage : NewStage) → Silent (new_event code m site cells v stage)
-  silent_new_stage site cells v (news.Length header) = refl
+  silent_new_stage site cells v (NewStage.Length header) = refl
   silent_new_stage site cells v _ = refl
 
   silent_new : (site cells : ℕ) (stage : Stage) → Silent (in_new code m site cells stage)
@@ -191,21 +182,21 @@ module _ (code : Code) (m : Machine) where
   silent_new site cells _ = refl
 
   pub no_access : (i : Instr) (found elements : ℕ) → is_access i ≡ false → access_said (said code i m found elements) ≡ None
-  no_access (instrs.Load r c site) found elements e = absurd (let f : true ≡ false = e in cc)
-  no_access (instrs.Store r c site) found elements e = absurd (let f : true ≡ false = e in cc)
-  no_access (instrs.LoadRef c site) found elements e = absurd (let f : true ≡ false = e in cc)
-  no_access (instrs.Exchange r c site) found elements e = absurd (let f : true ≡ false = e in cc)
-  no_access (instrs.TakeCell r c site) found elements e = absurd (let f : true ≡ false = e in cc)
-  no_access (instrs.TakeLocal r from site) found elements e = silent_local site (ref m from) elements
-  no_access (instrs.New r count cells site) found elements e = silent_new site cells m.own.stage
-  no_access (instrs.Free r layout site) found elements e = silent_free r site elements m.own.stage
-  no_access (instrs.Lock c site) found elements e = either_none (found == 0) _ _ refl refl
-  no_access (instrs.Spawn r function from site) found elements e = silent_spawn function from site elements m.own.stage
-  no_access (instrs.Join r site) found elements e = either_none (found == 0 || (found == 1 || found == 2)) _ _ refl refl
-  no_access (instrs.Start site) found elements e = silent_start found elements m.own.stage
-  no_access instrs.Exit found elements e = silent_exit m.own.stage
-  no_access (instrs.CondWait c site) found elements e = either_none (waits_in found m.own.number) _ _ refl refl
-  no_access (instrs.CondSignal c site) found elements e = silent_signal c site found m.own.stage
+  no_access (Instr.Load r c site) found elements e = absurd (let f : true ≡ false = e in cc)
+  no_access (Instr.Store r c site) found elements e = absurd (let f : true ≡ false = e in cc)
+  no_access (Instr.LoadRef c site) found elements e = absurd (let f : true ≡ false = e in cc)
+  no_access (Instr.Exchange r c site) found elements e = absurd (let f : true ≡ false = e in cc)
+  no_access (Instr.TakeCell r c site) found elements e = absurd (let f : true ≡ false = e in cc)
+  no_access (Instr.TakeLocal r from site) found elements e = silent_local site (ref m from) elements
+  no_access (Instr.New r count cells site) found elements e = silent_new site cells m.own.stage
+  no_access (Instr.Free r layout site) found elements e = silent_free r site elements m.own.stage
+  no_access (Instr.Lock c site) found elements e = either_none (found == 0) _ _ refl refl
+  no_access (Instr.Spawn r function from site) found elements e = silent_spawn function from site elements m.own.stage
+  no_access (Instr.Join r site) found elements e = either_none (found == 0 || (found == 1 || found == 2)) _ _ refl refl
+  no_access (Instr.Start site) found elements e = silent_start found elements m.own.stage
+  no_access Instr.Exit found elements e = silent_exit m.own.stage
+  no_access (Instr.CondWait c site) found elements e = either_none (waits_in found m.own.number) _ _ refl refl
+  no_access (Instr.CondSignal c site) found elements e = silent_signal c site found m.own.stage
   no_access _ found elements e = refl
 
 -- the access that a turn of typed code tells
@@ -221,9 +212,9 @@ pub record IsAccess (x : Targets) (code : Code) (ls : Labels) (m : Machine) (i :
   pub said_is : access_said (said code i m found elements) ≡ Some (access_at code m cell site write)
 
 pub access_of : (x : Targets) (code : Code) (ls : Labels) (m : Machine) (i : Instr) (found elements : ℕ) → is_access i ≡ true → Fine x code ls m.at.pc (ls.at m.at.pc) i → IsAccess x code ls m i found elements
-access_of x code ls m (instrs.Load r c site) found elements e f = record { write = false; cell = c; site = site; field = f.1.0; accesses = f.1.2; said_is = refl }
-access_of x code ls m (instrs.Store r c site) found elements e f = record { write = true; cell = c; site = site; field = f.0; accesses = f.2; said_is = refl }
-access_of x code ls m (instrs.LoadRef c site) found elements e f = record { write = false; cell = c; site = site; field = f.0; accesses = f.2; said_is = refl }
-access_of x code ls m (instrs.Exchange r c site) found elements e f = record { write = true; cell = c; site = site; field = f.1.0; accesses = f.1.2; said_is = refl }
-access_of x code ls m (instrs.TakeCell r c site) found elements e f = record { write = true; cell = c; site = site; field = f.1.0; accesses = f.1.2; said_is = refl }
+access_of x code ls m (Instr.Load r c site) found elements e f = record { write = false; cell = c; site = site; field = f.1.0; accesses = f.1.2; said_is = refl }
+access_of x code ls m (Instr.Store r c site) found elements e f = record { write = true; cell = c; site = site; field = f.0; accesses = f.2; said_is = refl }
+access_of x code ls m (Instr.LoadRef c site) found elements e f = record { write = false; cell = c; site = site; field = f.0; accesses = f.2; said_is = refl }
+access_of x code ls m (Instr.Exchange r c site) found elements e f = record { write = true; cell = c; site = site; field = f.1.0; accesses = f.1.2; said_is = refl }
+access_of x code ls m (Instr.TakeCell r c site) found elements e f = record { write = true; cell = c; site = site; field = f.1.0; accesses = f.1.2; said_is = refl }
 access_of x code ls m _ found elements e f = absurd (let g : false ≡ true = e in cc)

@@ -1,19 +1,6 @@
 -- Only the last turn of a Clear leads to a place where it is known that an object was cleared.
-use Rattle.std.proofs.{Common.{◌≡◌, ℕ, ℤ, pos, negsuc, zero, suc, ◌+◌, ◌-◌, ◌<◌, ◌≤◌, ◌⊎◌, inl, inr, Bool, true, false, not, ◌&&◌, ◌||◌, ◌==◌, nat_lt, length, List, [], ◌∷◌, Some, is_some, if◌then◌else◌, refl, sym, ap, ◌∙◌, subst, ⊎_elim, arith}, lemmas.Bool.cases_lt}
-use Rattle.std.specs.Prelude.{Result, Ok, Err, slice_index_or}
-use Rattle.sharc_tree.specs.declared.trap.Trap.{Trap}
-use Rattle.sharc_tree.specs.declared.trap.Trap.TheVariants as traps
-use Rattle.sharc_word.specs.declared.step.TheConstants.{THREADS}
-use Rattle.sharc_word.specs.declared.step.WordOp.TheVariants as ops
-use Rattle.sharc_locks.specs.Waiters.{waits_in}
-use Rattle.sharc_heap.specs.{declared.shadow_word.Kind.Kind, declared.shadow_word.Kind.TheVariants.{Read, Write}, Accesses.{note_of, site_at}, ShadowWord.epoch_of, Functions.{conflicts_in, noted}, State.{NewView, told, turn_of}, declared.stage.NewTurn.NewTurn, declared.stage.NewTurn.TheVariants.{Do, Made, HeapFull}}
-use Rattle.sharc_code.specs.{declared.code.Code.Code, declared.code.Parameter.Parameter, declared.instr.Cell.Cell, declared.instr.Register.Register, declared.instr.Width.TheVariants.{Int, Long}, declared.instr.Instr.Instr, declared.instr.Instr.TheVariants.{Constant, Move, MoveReference, Null, ComputeInt, ComputeLong, NegateInt, NegateLong, Complement, Not, SameReference, ChkWidth, Jump, JumpIfZero, JumpIfNull, Call, Return, ChkNull, ChkHeld, ChkNotHeld, ChkPositive, ChkRoom, ChkLock, ChkLockLoaded, Bounds, GlobalBounds, ChkRead, ChkWrite, Load, Store, LoadRef, Exchange, Raise, RaiseLoaded, Lower, New, TakeCell, TakeLocal, TestSole, Clear, Give, Free, Lock, Unlock, Spawn, Join, Print, Start, Exit, CondEnter, CondWait, CondSignal, CondBroadcast}, declared.shape.Shape.Shape, declared.state.Stage.Stage, declared.state.Stage.TheVariants.{Rests, Looks, Clears, Makes, FreeLooks, FreeClears, Uncounts, Names, Hands, Begins, Enters, Wakes, Withdraws, WithdrawsFrom, Leaves}, Arithmetic.{computed, negated, is_zero, holds}, Layout.{granule_at, granule_of, cell_of, cell_word, state_word}, Machine.{Machine, Own, act, int, ref, goes, asserts, with_result, has_room, called, returned, holds_none, is_of_null, is_held, indexed, wrote, with_note, checked, lock_checked, raise, lower, test, tested, after_new, asks_new, new, new_state, elements_of, spawn, with_parameter, entered, start, function_of, wakes, signal, is_positive, place, set_ref, accessed, move_ref, trapped, locked, joined, join, woken, word, Local, Asks, step_of, instr_at, no_function, no_frame, exit, withdraws}, Path.{after, may_go}}
-use Rattle.sharc_code.specs.declared.code.Parameter.TheVariants as parameters
-use Rattle.sharc_code.specs.declared.instr.Register.TheVariants as registers
-use Rattle.sharc_code.specs.declared.instr.Cell.TheVariants as cells
-use Rattle.sharc_invariant.specs.{Labels.{Gate, Closed, Checked, Holds, Loaded, HoldsLoaded, Sole, Number, Label, Labels, Leads, LessGate, set_number, empty, forgets, gated, knows}, State.{View, FramesStand, BelowStands, frame_at}, Typed.{IsWellTyped, Fine, Numbers, Passes_on, LeadsChecked, entry_label, called_label, without_base_of, unlocked_label}, Types.Targets}
-use Rattle.sharc_history_laws.proofs.Past.{past_end}
-use Rattle.sharc_lemmas.proofs.Bools.{yes}
+use Rattle.sharc_history_laws.proofs.{Imports.{◌≡◌, ℕ, ℤ, pos, negsuc, zero, suc, ◌+◌, ◌-◌, ◌<◌, ◌≤◌, ◌⊎◌, inl, inr, Bool, true, false, not, ◌&&◌, ◌||◌, ◌==◌, nat_lt, length, List, [], ◌∷◌, Some, is_some, if◌then◌else◌, refl, sym, ap, ◌∙◌, subst, ⊎_elim, arith, cases_lt, Result, Ok, Err, slice_index_or, Trap, THREADS, WordOp, waits_in, Kind, Read, Write, note_of, site_at, epoch_of, conflicts_in, noted, NewView, told, turn_of, NewTurn, Do, Made, HeapFull, Code, Parameter, Cell, Register, Int, Long, Instr, Constant, Move, MoveReference, Null, ComputeInt, ComputeLong, NegateInt, NegateLong, Complement, Not, ChkWidth, Jump, JumpIfZero, JumpIfNull, Call, Return, ChkNull, ChkHeld, ChkNotHeld, ChkPositive, ChkRoom, ChkLock, ChkLockLoaded, Bounds, GlobalBounds, ChkRead, ChkWrite, Load, Store, LoadRef, Exchange, Raise, RaiseLoaded, Lower, New, TakeCell, TakeLocal, TestSole, Clear, Give, Free, Unlock, Spawn, Join, Print, Start, Exit, CondEnter, CondWait, CondSignal, CondBroadcast, Shape, Stage, Rests, Looks, Clears, Makes, FreeLooks, FreeClears, Uncounts, Names, Hands, Begins, Enters, Wakes, Withdraws, WithdrawsFrom, Leaves, computed, negated, is_zero, holds, granule_at, granule_of, cell_of, cell_word, state_word, Machine, Own, act, int, ref, goes, asserts, with_result, has_room, called, returned, holds_none, is_of_null, is_held, indexed, wrote, with_note, checked, lock_checked, raise, lower, test, tested, after_new, asks_new, new, new_state, elements_of, spawn, with_parameter, entered, start, function_of, wakes, signal, is_positive, place, set_ref, accessed, move_ref, trapped, locked, joined, join, woken, word, Local, Asks, step_of, instr_at, no_function, no_frame, exit, withdraws, after, may_go, Gate, Closed, Checked, Holds, Loaded, HoldsLoaded, Sole, Number, Label, Labels, Leads, LessGate, set_number, empty, forgets, gated, knows, View, FramesStand, BelowStands, frame_at, IsWellTyped, Fine, Numbers, Passes_on, LeadsChecked, entry_label, called_label, without_base_of, unlocked_label, Targets, yes}, Past.past_end}
+use Rattle.sharc_code.specs.declared.instr.Instr.TheVariants.{SameReference, Lock}
 
 -- ---- gates
 -- it is not known that an object was cleared that a register has alone
@@ -182,8 +169,8 @@ module _ (x : Targets) (code : Code) (s : Shape) (ls : Labels) (wt : IsWellTyped
   at_spawn : (r function : ℕ) (from : Register) (site : ℕ) (stage : Stage) (found : ℕ) → U (pc + 1) → Arrives ls m (after (spawn m r function from site stage) found)
   at_spawn r function from site (Names n) found u = remains _ refl refl
   at_spawn r function from site (Hands n) found u = remains _ refl refl
-  at_spawn r function (registers.Int a) site (Begins n) found u = arrives _ refl u
-  at_spawn r function (registers.Reference a) site (Begins n) found u = arrives _ refl u
+  at_spawn r function (Register.Int a) site (Begins n) found u = arrives _ refl u
+  at_spawn r function (Register.Reference a) site (Begins n) found u = arrives _ refl u
   at_spawn r function from site _ found u = either (nat_lt found THREADS) _ _ (remains _ refl refl) (halts _ calm refl)
 
   at_joined : (site found : ℕ) → U (pc + 1) → Arrives ls m (joined m site found)
@@ -191,7 +178,7 @@ module _ (x : Targets) (code : Code) (s : Shape) (ls : Labels) (wt : IsWellTyped
 
   at_join : (z : ℤ) (site found : ℕ) → U (pc + 1) → Arrives ls m (after (join m z site) found)
   at_join (pos n) site found u =
-      elim (nat_lt n THREADS) as (λ b. Arrives ls m (after (if b then Asks (step_of (state_word n) ops.Load) (joined m site) else Local (trapped m traps.NoSuchThread site)) found)) [
+      elim (nat_lt n THREADS) as (λ b. Arrives ls m (after (if b then Asks (step_of (state_word n) WordOp.Load) (joined m site) else Local (trapped m Trap.NoSuchThread site)) found)) [
         | true ↦ at_joined site found u
         | false ↦ halts _ calm refl
       ]
@@ -201,30 +188,30 @@ module _ (x : Targets) (code : Code) (s : Shape) (ls : Labels) (wt : IsWellTyped
   at_lock cell mutex found u = either (found == 0) _ _ (base cell) (remains _ calm refl)
     where
       base : (cell : Cell) → Arrives ls m (goes (record (Rattle.sharc_code.specs.Machine.without_base m cell) { own = record m.own { held = Rattle.sharc_code.specs.Machine.taken m mutex (Rattle.sharc_code.specs.Machine.object m cell) } }))
-      base (cells.Global g p) = arrives _ calm u
-      base (cells.GlobalAt g i) = arrives _ calm u
-      base (cells.Object r p) = arrives _ calm u
-      base (cells.ObjectAt r i) = arrives _ calm u
+      base (Cell.Global g p) = arrives _ calm u
+      base (Cell.GlobalAt g i) = arrives _ calm u
+      base (Cell.Object r p) = arrives _ calm u
+      base (Cell.ObjectAt r i) = arrives _ calm u
 
   locks : (c : Cell) → Leads ls (pc + 1) (record (without_base_of l c) { room = false }) → U (pc + 1)
-  locks (cells.Global g p) h = leads (pc + 1) _ tt h
-  locks (cells.GlobalAt g i) h = leads (pc + 1) _ tt h
-  locks (cells.Object r p) h = leads (pc + 1) _ tt h
-  locks (cells.ObjectAt r i) h = leads (pc + 1) _ tt h
+  locks (Cell.Global g p) h = leads (pc + 1) _ tt h
+  locks (Cell.GlobalAt g i) h = leads (pc + 1) _ tt h
+  locks (Cell.Object r p) h = leads (pc + 1) _ tt h
+  locks (Cell.ObjectAt r i) h = leads (pc + 1) _ tt h
 
   unlocks : (r : ℕ) (c : Cell) → Leads ls (pc + 1) (unlocked_label l r c) → U (pc + 1)
-  unlocks r (cells.Global g p) h = leads (pc + 1) _ tt h
-  unlocks r (cells.GlobalAt g i) h = leads (pc + 1) _ tt h
-  unlocks r (cells.Object b p) h = leads (pc + 1) _ tt h
-  unlocks r (cells.ObjectAt b i) h = leads (pc + 1) _ tt h
+  unlocks r (Cell.Global g p) h = leads (pc + 1) _ tt h
+  unlocks r (Cell.GlobalAt g i) h = leads (pc + 1) _ tt h
+  unlocks r (Cell.Object b p) h = leads (pc + 1) _ tt h
+  unlocks r (Cell.ObjectAt b i) h = leads (pc + 1) _ tt h
 
   at_woken : (found : ℕ) → U (pc + 1) → Arrives ls m (woken m found)
   at_woken found u = either (waits_in found m.own.number) _ _ (remains _ calm refl) (arrives _ calm u)
 
   parameter_stage : (y : Machine) (p : Parameter) (argument : ℕ) → (with_parameter y p argument).own.stage ≡ y.own.stage
-  parameter_stage y parameters.None argument = refl
-  parameter_stage y parameters.Int argument = refl
-  parameter_stage y parameters.Reference argument = refl
+  parameter_stage y Parameter.None argument = refl
+  parameter_stage y Parameter.Int argument = refl
+  parameter_stage y Parameter.Reference argument = refl
 
   -- a function begins where nothing is cleared
   entry_closed : (f : ℕ) → U (function_of code f).entry
@@ -272,18 +259,18 @@ module _ (x : Targets) (code : Code) (s : Shape) (ls : Labels) (wt : IsWellTyped
   arriving (Complement r a) found other f = arrives _ calm (numbers r _ f.2)
   arriving (Not r a) found other f = arrives _ calm (numbers r _ f)
   arriving (SameReference r a b) found other f = arrives _ calm (numbers r _ f)
-  arriving (ChkWidth width r site) found other f = at_assert (holds width (int m r)) traps.OutOfRange site (⊎_elim (λ h. passes h) (λ h. numbers r _ h) f)
+  arriving (ChkWidth width r site) found other f = at_assert (holds width (int m r)) Trap.OutOfRange site (⊎_elim (λ h. passes h) (λ h. numbers r _ h) f)
   arriving (Jump to) found other f = arrives _ calm (closed to l f.0 f.1)
   arriving (JumpIfZero r to) found other f = either (is_zero (int m r)) _ _ (arrives _ calm (closed to l f.0 f.1)) (arrives _ calm (closed (pc + 1) l f.0 f.2))
   arriving (JumpIfNull r to) found other f = either (ref m r == 0) _ _
       (arrives _ calm (⊎_elim (λ h. closed to l f.0 h) (λ h. leads to (empty l r) tt h.1) f.1)) (arrives _ calm (closed (pc + 1) (knows l r) f.0 f.2))
   arriving (Call to ints refs site) found other f = at_call m to ints refs site calm (subst U f.1.1.entry (entry_closed f.1.0))
   arriving (Return site) found other f = at_return site f.1.0 f.1.1
-  arriving (ChkNull r site) found other f = at_assert (not (ref m r == 0)) traps.NullPointer site (closed (pc + 1) (knows l r) f.0 f.1)
-  arriving (ChkHeld cell site) found other f = at_assert (is_held m (word s m cell)) traps.MutexNotHeld site (leads (pc + 1) (gated l (Holds cell)) tt f.2)
-  arriving (ChkNotHeld cell site) found other f = at_assert (not (is_held m (word s m cell))) traps.MutexAlreadyHeld site (closed (pc + 1) l f.0 f.2)
-  arriving (ChkPositive r site) found other f = at_assert (is_positive (int m r)) traps.SizeNotPositive site (passes f)
-  arriving (ChkRoom site) found other f = at_assert (nat_lt (length m.own.held) 16) traps.TooManyLocks site (closed (pc + 1) (record l { room = true }) f.0 f.1)
+  arriving (ChkNull r site) found other f = at_assert (not (ref m r == 0)) Trap.NullPointer site (closed (pc + 1) (knows l r) f.0 f.1)
+  arriving (ChkHeld cell site) found other f = at_assert (is_held m (word s m cell)) Trap.MutexNotHeld site (leads (pc + 1) (gated l (Holds cell)) tt f.2)
+  arriving (ChkNotHeld cell site) found other f = at_assert (not (is_held m (word s m cell))) Trap.MutexAlreadyHeld site (closed (pc + 1) l f.0 f.2)
+  arriving (ChkPositive r site) found other f = at_assert (is_positive (int m r)) Trap.SizeNotPositive site (passes f)
+  arriving (ChkRoom site) found other f = at_assert (nat_lt (length m.own.held) 16) Trap.TooManyLocks site (closed (pc + 1) (record l { room = true }) f.0 f.1)
   arriving (ChkLock cell site) found other f = at_lock_check (is_of_null m cell) (word s m cell) site (leads (pc + 1) _ tt f.2)
   arriving (ChkLockLoaded site) found other f = at_lock_check (m.pending == 0) (cell_word s (cell_of m.pending 0)) site (leads (pc + 1) _ tt f.5)
   arriving (Bounds r base cells field site) found other f = at_index r (int m r) cells field site found (leads (pc + 1) _ tt f.5.2)

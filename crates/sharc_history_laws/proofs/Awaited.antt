@@ -1,18 +1,9 @@
 -- The thread that holds a mutex for which another one waits.
-use Rattle.std.proofs.Common.{◌≡◌, ℕ, zero, suc, ◌≢◌, true, List, is_some, refl, sym, ap, ◌∙◌, subst}
-use Rattle.std.specs.Prelude.{slice_index}
-use Rattle.sharc_code.specs.{declared.code.Code.Code, declared.instr.Cell.Cell, declared.shape.Shape.Shape, Laws.RunLaws, Layout.{Fits, cell_word}, Machine.{Machine, instr_at, word, place, object}, Opening.opening_words, Runs.{Turn, Global, IsRun, opening_of}, Says.cell_at, Whole.{one_thread, bounds, place_after}}
-use Rattle.sharc_code.specs.declared.instr.Instr.TheVariants as instrs
-use Rattle.sharc_locks.specs.HeldLog.{object_of}
-use Rattle.sharc_compile.specs.Consistent.{IsApart}
-use Rattle.sharc_meaning.specs.Events.{events_of, holds_mutex}
-use Rattle.sharc_invariant.specs.{Labels.Labels, Laws.{Keeps, Begins as CodeBegins, CellsAreThere, PointersAreThere, AccessesAreAllowed}, MachineInvariant.IsOn, State.{IsSmall, StageStands, object_of_cell, number_in}, Typed.{IsWellTyped, Fine}, Types.{Targets, Field, Content, is_mutex}}
-use Rattle.sharc_history_laws.specs.History.{history_of}
-use Rattle.sharc_history_laws.proofs.{Finds.{is_apart, is_there, object_is}, Locked.{held_told, names_cell}, Locking.{Locks, lock_runs}, Rules.newest, Single.rests_hold, Stands.{there, some_base}}
+use Rattle.sharc_history_laws.proofs.{Imports.{◌≡◌, ℕ, zero, suc, ◌≢◌, true, List, is_some, refl, sym, ap, ◌∙◌, subst, slice_index, Code, Cell, Shape, RunLaws, Fits, cell_word, Machine, instr_at, word, place, object, opening_words, Turn, Global, IsRun, opening_of, cell_at, one_thread, bounds, place_after, Instr, object_of, IsApart, events_of, holds_mutex, Labels, Keeps, CodeBegins, CellsAreThere, PointersAreThere, AccessesAreAllowed, IsOn, IsSmall, StageStands, object_of_cell, number_in, IsWellTyped, Fine, Targets, Field, Content, is_mutex, history_of}, Finds.{is_apart, is_there, object_is}, Locked.{held_told, names_cell}, Locking.{Locks, lock_runs}, Rules.newest, Single.rests_hold, Stands.{there, some_base}}
 
 module _ (cell_laws : CellsAreThere) (pointers : PointersAreThere) (rights : AccessesAreAllowed) (laws : RunLaws) (begins_law : CodeBegins) (keeps : Keeps) (x : Targets) (code : Code) (s : Shape) (ls : Labels) (wt : IsWellTyped x code ls) (fits : Fits code s) (few : IsSmall code s)
     (run : List Turn) (is_run : IsRun bounds (one_thread code s) (opening_of bounds (one_thread code s) (opening_words code s)) run) (t : ℕ) (on : IsOn (place_after code s run) t) (c : Cell) (site : ℕ)
-    (is : instr_at code ((place_after code s run).threads t).at.pc ≡ instrs.Lock c site) (waits : slice_index (place_after code s run).words (word s ((place_after code s run).threads t) c) ≢ 0) where
+    (is : instr_at code ((place_after code s run).threads t).at.pc ≡ Instr.Lock c site) (waits : slice_index (place_after code s run).words (word s ((place_after code s run).threads t) c) ≢ 0) where
   abbrev g : Global Machine
   g = place_after code s run
 
@@ -27,7 +18,7 @@ module _ (cell_laws : CellsAreThere) (pointers : PointersAreThere) (rights : Acc
       let world = k.consists.world in
       let st = k.consists.state in
       let f = subst (Fine x code ls m.at.pc (ls.at m.at.pc)) is (wt.fine m.at.pc) in
-      let hold = rests_hold code s st.elements world st.heap g.words t m (instrs.Lock c site) m.own.stage refl (subst (λ j. StageStands code s st.elements world st.heap g.words t m j m.own.stage) is ((st.threads t).runs on.0 on.1).stage) in
+      let hold = rests_hold code s st.elements world st.heap g.words t m (Instr.Lock c site) m.own.stage refl (subst (λ j. StageStands code s st.elements world st.heap g.words t m j m.own.stage) is ((st.threads t).runs on.0 on.1).stage) in
       let field = f.2.0 in
       let has = f.2.1 in
       let mutex = f.2.2 in

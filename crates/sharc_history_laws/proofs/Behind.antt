@@ -1,19 +1,9 @@
 -- Cells behind the last one of an object, and places beside the cells of a global, have the value that they begin with: no turn of typed code writes one.
-use Rattle.std.proofs.{Common.{◌≡◌, ◌≢◌, ℕ, ◌+◌, ◌*◌, ◌<◌, ◌≤◌, Bool, true, false, ◌||◌, List, ◌∷◌, Option, Some, None, refl, sym, ap, ◌∙◌, subst, ⊎_elim, arith}, lemmas.Bool.or_right}
-use Rattle.std.specs.Prelude.{slice_index_or}
-use Rattle.sharc_tree.specs.{declared.event.CellAt.CellAt, declared.event.Object.Object, declared.event.SourceEvent.SourceEvent}
-use Rattle.sharc_tree.specs.declared.event.Object.TheVariants as objects
-use Rattle.sharc_ctype.specs.Resolved.{Resolution}
-use Rattle.sharc_code.specs.{declared.code.Code.Code, declared.instr.Cell.Cell, declared.instr.Instr.Instr, declared.shape.Shape.Shape, Laws.RunLaws, Layout.Fits, Machine.{Machine, instr_at}, Ranges.IsInGlobal, Runs.{Turn, Global, MayTurn, result_of}, Says.{said, cell_at, speaks_of, no_global}, Whole.{one_thread, bounds, place_after}}
-use Rattle.sharc_code.specs.declared.instr.Instr.TheVariants as instrs
-use Rattle.sharc_compile.specs.OfRuns.{table_of}
-use Rattle.sharc_meaning.specs.{Events.{makes, is_cell, is_number, made_by, same_cell}, Store.{cell_changed, initial_value}}
-use Rattle.sharc_invariant.specs.{Types.{Targets, Field}, Labels.Labels, Typed.{IsWellTyped, Fine, HasCell}, World.World, State.{IsSmall, OnHold}, MachineInvariant.IsOn, Laws.{Keeps, CellsAreThere, PointersAreThere, AccessesAreAllowed}}
-use Rattle.sharc_history_laws.proofs.{Acts.{given_at, freed_at, About, is_access, no_access}, Consists.{Consists, consists_then}, Contents.{newest_value, value_changed, value_kept}, Holding.cell_eq, Lists.Newest, Locked.NamesIn, OneMode.{place_of, numbers_now}, Rules.{pushed, about_now, decide, number_yes, number_not}, Shared.number_of, Stands.there, Tables.header_of, Telling.{changed_said, unchanged_said}, Valued.{made_zero, cell_named, hold}, Values.{was, cells_stay}}
+use Rattle.sharc_history_laws.proofs.{Imports.{◌≡◌, ◌≢◌, ℕ, ◌+◌, ◌*◌, ◌<◌, ◌≤◌, Bool, true, false, ◌||◌, List, ◌∷◌, Option, Some, None, refl, sym, ap, ◌∙◌, subst, ⊎_elim, arith, or_right, slice_index_or, CellAt, Object, SourceEvent, Resolution, Code, Cell, Instr, Shape, RunLaws, Fits, Machine, instr_at, IsInGlobal, Turn, Global, MayTurn, result_of, said, cell_at, speaks_of, no_global, one_thread, bounds, place_after, table_of, makes, is_cell, is_number, made_by, same_cell, cell_changed, initial_value, Targets, Field, Labels, IsWellTyped, Fine, HasCell, World, IsSmall, OnHold, IsOn, Keeps, CellsAreThere, PointersAreThere, AccessesAreAllowed}, Acts.{given_at, freed_at, About, is_access, no_access}, Consists.{Consists, consists_then}, Contents.{newest_value, value_changed, value_kept}, Holding.cell_eq, Lists.Newest, Locked.NamesIn, OneMode.{place_of, numbers_now}, Rules.{pushed, about_now, decide, number_yes, number_not}, Shared.number_of, Stands.there, Tables.header_of, Telling.{changed_said, unchanged_said}, Valued.{made_zero, cell_named, hold}, Values.{was, cells_stay}}
 
 abbrev pub IsBehind : Code → World → (ℕ → ℕ) → Object → ℕ → Type 0
-IsBehind code w cells (objects.Made n) cell = (n ≢ 0) × ((w.obj n).live ≡ true) × (cells n ≤ cell)
-IsBehind code w cells (objects.Global q) cell = IsInGlobal code.globals.items q (2 * (slice_index_or code.globals.items q no_global).granule + cell) → ⊥
+IsBehind code w cells (Object.Made n) cell = (n ≢ 0) × ((w.obj n).live ≡ true) × (cells n ≤ cell)
+IsBehind code w cells (Object.Global q) cell = IsInGlobal code.globals.items q (2 * (slice_index_or code.globals.items q no_global).granule + cell) → ⊥
 
 abbrev pub AreFirst : Resolution → Code → Newest → World → (ℕ → ℕ) → Type 0
 AreFirst r code L w cells = (c : CellAt) → IsBehind code w cells c.object c.cell → newest_value r L c ≡ initial_value r c.object
@@ -67,7 +57,7 @@ module _ (cell_laws : CellsAreThere) (pointers : PointersAreThere) (rights : Acc
   -- ---- one cell after the turn
   module _ (r : Resolution) (L : Newest) (old : AreFirst r code L h.world h.state.cells) (c : CellAt) (behind : IsBehind code then_.world then_.state.cells c.object c.cell) where
     -- of an object that the turn makes
-    made_now : (n : ℕ) → c.object ≡ objects.Made n → header_of i ((place_after code s earlier).threads one.thread).own.stage ≡ Some n → (ev : Option SourceEvent) → Tells ev → newest_value r (pushed ev L) c ≡ initial_value r c.object
+    made_now : (n : ℕ) → c.object ≡ Object.Made n → header_of i ((place_after code s earlier).threads one.thread).own.stage ≡ Some n → (ev : Option SourceEvent) → Tells ev → newest_value r (pushed ev L) c ≡ initial_value r c.object
     made_now n is made None about = absurd (let f : None ≡ Some n = about.makes ∙ made in cc)
     made_now n is made (Some e) about =
         let by : made_by e e.act ≡ Some n = about.makes ∙ made in
@@ -75,13 +65,13 @@ module _ (cell_laws : CellsAreThere) (pointers : PointersAreThere) (rights : Acc
         value_changed r e L c (or_right (is_cell c (cell_changed e.act)) (makes c.object e) makes_it) ∙ made_zero e e.act n by ∙ ap (initial_value r) (sym is)
 
     -- of one that was there
-    module _ (unmade : (n : ℕ) → c.object ≡ objects.Made n → header_of i ((place_after code s earlier).threads one.thread).own.stage ≡ Some n → ⊥) where
+    module _ (unmade : (n : ℕ) → c.object ≡ Object.Made n → header_of i ((place_after code s earlier).threads one.thread).own.stage ≡ Some n → ⊥) where
       was_behind : IsBehind code h.world h.state.cells c.object c.cell
       was_behind = by c.object refl behind
         where
           by : (a : Object) → c.object ≡ a → IsBehind code then_.world then_.state.cells a c.cell → IsBehind code h.world h.state.cells a c.cell
-          by (objects.Global q) is k = k
-          by (objects.Made n) is k = (
+          by (Object.Global q) is k = k
+          by (Object.Made n) is k = (
             k.0,
             was laws keeps cell_laws pointers x code s ls wt fits few one earlier h may n k.1 (unmade n is),
             subst (λ z. z ≤ c.cell) (cells_stay laws keeps cell_laws pointers x code s ls wt fits few one earlier h may n k.1 (unmade n is)) k.2,
@@ -92,8 +82,8 @@ module _ (cell_laws : CellsAreThere) (pointers : PointersAreThere) (rights : Acc
         where
           by : (a : Object) → IsBehind code h.world h.state.cells a c.cell → place_of code a c.cell < h.state.cells (number_of a)
               → NamesIn code a c.cell (number_of a) (2 * (number_of a + 1) + place_of code a c.cell) → ⊥
-          by (objects.Global q) k low named = k (subst (λ at. IsInGlobal code.globals.items q at) named.2 named.1)
-          by (objects.Made n) k low named = let high = k.2 in absurd (omega (arith, high, low))
+          by (Object.Global q) k low named = k (subst (λ at. IsInGlobal code.globals.items q at) named.2 named.1)
+          by (Object.Made n) k low named = let high = k.2 in absurd (omega (arith, high, low))
 
       other : (k : Cell) (f : Field) → OnHold ((place_after code s earlier).threads one.thread).own.stage → HasCell x code (ls.at ((place_after code s earlier).threads one.thread).at.pc) k f → same_cell c (cell_at code ((place_after code s earlier).threads one.thread) k) ≡ false
       other k f rests has = by (same_cell c (cell_at code m k)) refl
@@ -109,25 +99,25 @@ module _ (cell_laws : CellsAreThere) (pointers : PointersAreThere) (rights : Acc
           rests j is single = hold cell_laws pointers rights laws keeps x code s ls wt fits few one earlier h may j is single
 
           by : (j : Instr) → i ≡ j → is_cell c (changed_said event) ≡ false
-          by (instrs.Load q d site) is = ap (λ j. is_cell c (changed_said (said code j m (result_of one.event) elements))) is
-          by (instrs.LoadRef d site) is = ap (λ j. is_cell c (changed_said (said code j m (result_of one.event) elements))) is
-          by (instrs.Store q d site) is =
-              let f = fine (instrs.Store q d site) is in
-              ap (λ j. is_cell c (changed_said (said code j m (result_of one.event) elements))) is ∙ other d f.0 (rests (instrs.Store q d site) is refl) f.2.cell
-          by (instrs.Exchange q d site) is =
-              let f = fine (instrs.Exchange q d site) is in
-              ap (λ j. is_cell c (changed_said (said code j m (result_of one.event) elements))) is ∙ other d f.1.0 (rests (instrs.Exchange q d site) is refl) f.1.2.cell
-          by (instrs.TakeCell q d site) is =
-              let f = fine (instrs.TakeCell q d site) is in
-              ap (λ j. is_cell c (changed_said (said code j m (result_of one.event) elements))) is ∙ other d f.1.0 (rests (instrs.TakeCell q d site) is refl) f.1.2.cell
+          by (Instr.Load q d site) is = ap (λ j. is_cell c (changed_said (said code j m (result_of one.event) elements))) is
+          by (Instr.LoadRef d site) is = ap (λ j. is_cell c (changed_said (said code j m (result_of one.event) elements))) is
+          by (Instr.Store q d site) is =
+              let f = fine (Instr.Store q d site) is in
+              ap (λ j. is_cell c (changed_said (said code j m (result_of one.event) elements))) is ∙ other d f.0 (rests (Instr.Store q d site) is refl) f.2.cell
+          by (Instr.Exchange q d site) is =
+              let f = fine (Instr.Exchange q d site) is in
+              ap (λ j. is_cell c (changed_said (said code j m (result_of one.event) elements))) is ∙ other d f.1.0 (rests (Instr.Exchange q d site) is refl) f.1.2.cell
+          by (Instr.TakeCell q d site) is =
+              let f = fine (Instr.TakeCell q d site) is in
+              ap (λ j. is_cell c (changed_said (said code j m (result_of one.event) elements))) is ∙ other d f.1.0 (rests (Instr.TakeCell q d site) is refl) f.1.2.cell
           by _ is = ap (is_cell c) (unchanged_said event (no_access code m i (result_of one.event) elements (ap is_access is)))
 
       no_make : (e : SourceEvent) → Tells (Some e) → makes c.object e ≡ false
       no_make e about = by c.object refl
         where
           by : (a : Object) → c.object ≡ a → makes a e ≡ false
-          by (objects.Global q) is = refl
-          by (objects.Made n) is = number_not n (made_by e e.act) (λ q. unmade n is (sym about.makes ∙ q))
+          by (Object.Global q) is = refl
+          by (Object.Made n) is = number_not n (made_by e e.act) (λ q. unmade n is (sym about.makes ∙ q))
 
       kept_value : (ev : Option SourceEvent) → event ≡ ev → Tells ev → newest_value r (pushed ev L) c ≡ initial_value r c.object
       kept_value None e about = old c was_behind
@@ -138,12 +128,12 @@ module _ (cell_laws : CellsAreThere) (pointers : PointersAreThere) (rights : Acc
     stays_first : newest_value r (pushed event L) c ≡ initial_value r c.object
     stays_first = by c.object refl
       where
-        object_eq : (n k : ℕ) → objects.Made n ≡ objects.Made k → n ≡ k
+        object_eq : (n k : ℕ) → Object.Made n ≡ Object.Made k → n ≡ k
         object_eq n k e = cc
 
         by : (a : Object) → c.object ≡ a → newest_value r (pushed event L) c ≡ initial_value r c.object
-        by (objects.Global q) is = kept_value (λ n e made. let z : objects.Global q ≡ objects.Made n = sym is ∙ e in absurd (cc)) event refl tells
-        by (objects.Made n) is = ⊎_elim
+        by (Object.Global q) is = kept_value (λ n e made. let z : Object.Global q ≡ Object.Made n = sym is ∙ e in absurd (cc)) event refl tells
+        by (Object.Made n) is = ⊎_elim
             (λ (made : header_of i m.own.stage ≡ Some n). made_now n is made event tells)
             (λ (never : header_of i m.own.stage ≡ Some n → ⊥). kept_value (λ k e made. never (made ∙ ap (λ n. Some n) (sym (object_eq n k (sym is ∙ e))))) event refl tells)
             (decide (header_of i m.own.stage) n)

@@ -1,14 +1,7 @@
 -- The cells of an object that a turn makes are 0, and its type is the one that its New's place says.
-use Rattle.std.proofs.{Common.{◌≡◌, ℕ, ◌+◌, ◌*◌, ◌/◌, ◌^◌, ◌<◌, ◌≢◌, min, max, Bool, true, false, nat_lt, List, ◌∷◌, Option, Some, None, if◌then◌else◌, refl, sym, ap, ◌∙◌, subst, arith}, lemmas.List.get_or-set_other}
-use Rattle.std.specs.Prelude.{slice_index}
-use Rattle.sharc_word.specs.declared.step.WordOp.TheVariants as ops
-use Rattle.sharc_word.specs.{declared.step.WordStep.WordStep, declared.step.WordEvent.WordEvent, Words.word_after}
-use Rattle.sharc_heap.specs.{State.NewView, Asks.word_number, Stages.turn_of_stage, declared.arguments.NewArguments.NewArguments, declared.stage.NewStage.NewStage}
-use Rattle.sharc_heap.specs.declared.stage.NewStage.TheVariants as news
-use Rattle.sharc_code.specs.{declared.code.Code.Code, declared.instr.Instr.Instr, declared.shape.Shape.Shape, declared.state.Stage.Stage, declared.state.Stage.TheVariants.Makes, Laws.RunLaws, Layout.{Fits, first_cell}, Machine.{Machine, instr_at, act, asks_new, elements_of, int, ref, new, all_cells}, Path.{turn, after, asked_by}, Runs.{Turn, Global, MayTurn, after_turn, state_now, result_of, words_now, step_of}, Whole.{one_thread, bounds, place_after}}
-use Rattle.sharc_code.specs.declared.instr.Instr.TheVariants as instrs
-use Rattle.sharc_invariant.specs.{Types.{Targets, StaticType, cells_of}, Labels.{Entry, Empty, Refers, Unknown, Label, Labels, LessEntry, Leads, fill}, Typed.{IsWellTyped, Fine}, World.ObjectState, Words.cell_at, Objects.{objects_behind, made_behind, new_behind, owned, type_held, entry_type}, State.{IsSmall, StageStands, BuildsAt}, Laws.{Keeps, CellsAreThere, PointersAreThere}}
-use Rattle.sharc_history_laws.proofs.{Consists.{Consists, consists_then, objects_then, made_word}, Rules.put_same, Stands.granules_low, Tables.{header_at, header_in, header_of, elements_in_stage}}
+use Rattle.sharc_history_laws.proofs.{Imports.{◌≡◌, ℕ, ◌+◌, ◌*◌, ◌/◌, ◌^◌, ◌<◌, ◌≢◌, min, max, Bool, true, false, nat_lt, List, ◌∷◌, Option, Some, None, if◌then◌else◌, refl, sym, ap, ◌∙◌, subst, arith, get_or-set_other, slice_index, WordOp, WordStep, WordEvent, word_after, NewView, word_number, turn_of_stage, NewArguments, NewStage, Code, Instr, Shape, Stage, Makes, RunLaws, Fits, first_cell, Machine, instr_at, act, asks_new, elements_of, int, ref, new, all_cells, turn, after, asked_by, Turn, Global, MayTurn, after_turn, state_now, result_of, words_now, one_thread, bounds, place_after, Targets, StaticType, cells_of, Entry, Empty, Refers, Unknown, Label, Labels, LessEntry, Leads, fill, IsWellTyped, Fine, ObjectState, objects_behind, made_behind, new_behind, owned, type_held, entry_type, IsSmall, StageStands, BuildsAt, Keeps, CellsAreThere, PointersAreThere}, Consists.{Consists, consists_then, objects_then, made_word}, Rules.put_same, Stands.granules_low, Tables.{header_at, header_in, header_of, elements_in_stage}}
+use Rattle.sharc_code.specs.Runs.{step_of}
+use Rattle.sharc_invariant.specs.Words.{cell_at}
 
 -- ---- words
 pub word_other : (words : List ℕ) (event : Option WordEvent) (step : WordStep) (w : ℕ) → step_of event ≡ Some step → (w ≡ step.word → ⊥) → slice_index (words_now words event) w ≡ slice_index words w
@@ -58,12 +51,12 @@ module _ (laws : RunLaws) (keeps : Keeps) (cells : CellsAreThere) (pointers : Po
   m_is = put_same g.threads t (state_now (one_thread code s) g one)
 
   -- the stage of a New that is to write the length of object o
-  module _ (o : ℕ) (nz : o ≢ 0) (r count cells' site : ℕ) (v : NewView) (is : i ≡ instrs.New r count cells' site) (stage : ((place_after code s earlier).threads one.thread).own.stage ≡ Makes v) (length_is : v.stage ≡ news.Length o) where
-    stands : StageStands code s h.state.elements h.world h.state.heap (place_after code s earlier).words one.thread ((place_after code s earlier).threads one.thread) (instrs.New r count cells' site) (Makes v)
-    stands = subst (StageStands code s h.state.elements h.world h.state.heap g.words t m (instrs.New r count cells' site)) stage
+  module _ (o : ℕ) (nz : o ≢ 0) (r count cells' site : ℕ) (v : NewView) (is : i ≡ Instr.New r count cells' site) (stage : ((place_after code s earlier).threads one.thread).own.stage ≡ Makes v) (length_is : v.stage ≡ NewStage.Length o) where
+    stands : StageStands code s h.state.elements h.world h.state.heap (place_after code s earlier).words one.thread ((place_after code s earlier).threads one.thread) (Instr.New r count cells' site) (Makes v)
+    stands = subst (StageStands code s h.state.elements h.world h.state.heap g.words t m (Instr.New r count cells' site)) stage
         (subst (λ j. StageStands code s h.state.elements h.world h.state.heap g.words t m j m.own.stage) is ((h.state.threads t).runs may.started may.next.runs).stage)
 
-    builds : BuildsAt (place_after code s earlier).words h.state.heap one.thread v (news.Length o)
+    builds : BuildsAt (place_after code s earlier).words h.state.heap one.thread v (NewStage.Length o)
     builds = subst (BuildsAt g.words h.state.heap t v) length_is stands.1
 
     first_is : v.arguments.first ≡ first_cell s
@@ -77,7 +70,7 @@ module _ (laws : RunLaws) (keeps : Keeps) (cells : CellsAreThere) (pointers : Po
         ∙ ap (λ y. (after (new s m r (elements_of (int m count)) cells' site y) found).at.pc) stage
         ∙ ap (λ y. (after (asks_new m r site (record { arguments = v.arguments; stage = y; head = v.head }) (turn_of_stage v.arguments y)) found).at.pc) length_is
 
-    asked : asked_by (turn code s ((place_after code s earlier).threads one.thread)) ≡ Some (Rattle.sharc_heap.specs.Asks.step_of (word_number v.arguments (v.arguments.first + 2 * o + 1)) (ops.Swap v.arguments.elements))
+    asked : asked_by (turn code s ((place_after code s earlier).threads one.thread)) ≡ Some (Rattle.sharc_heap.specs.Asks.step_of (word_number v.arguments (v.arguments.first + 2 * o + 1)) (WordOp.Swap v.arguments.elements))
     asked =
         ap (λ j. asked_by (act code s j m)) is
         ∙ ap (λ y. asked_by (new s m r (elements_of (int m count)) cells' site y)) stage
@@ -89,7 +82,7 @@ module _ (laws : RunLaws) (keeps : Keeps) (cells : CellsAreThere) (pointers : Po
       | false ↦ λ e. omega arith
     ]
 
-    pub fine : Fine x code ls ((place_after code s earlier).threads one.thread).at.pc (ls.at ((place_after code s earlier).threads one.thread).at.pc) (instrs.New r count cells' site)
+    pub fine : Fine x code ls ((place_after code s earlier).threads one.thread).at.pc (ls.at ((place_after code s earlier).threads one.thread).at.pc) (Instr.New r count cells' site)
     fine = subst (Fine x code ls m.at.pc (ls.at m.at.pc)) is (wt.fine m.at.pc)
 
     abbrev ty : StaticType
@@ -135,21 +128,21 @@ module _ (laws : RunLaws) (keeps : Keeps) (cells : CellsAreThere) (pointers : Po
         let k : slice_index g.words (v.arguments.first + 2 * o + 2 + j) ≡ 0 = builds.3 j (inside j lt) in
         let f = first_is in
         let at : cell_at s o j ≡ v.arguments.first + 2 * o + 2 + j = omega arith in
-        word_other g.words one.event (Rattle.sharc_heap.specs.Asks.step_of (word_number v.arguments (v.arguments.first + 2 * o + 1)) (ops.Swap v.arguments.elements)) (cell_at s o j) (may.next.asks ∙ asked) (other_word j)
+        word_other g.words one.event (Rattle.sharc_heap.specs.Asks.step_of (word_number v.arguments (v.arguments.first + 2 * o + 1)) (WordOp.Swap v.arguments.elements)) (cell_at s o j) (may.next.asks ∙ asked) (other_word j)
         ∙ ap (slice_index g.words) at ∙ k
 
   -- each cell of the object that the turn makes is 0
   pub born : (o : ℕ) → o ≢ 0 → header_of i ((place_after code s earlier).threads one.thread).own.stage ≡ Some o → (j : ℕ) → j < then_.state.cells o → slice_index (words_now (place_after code s earlier).words one.event) (cell_at s o j) ≡ 0
   born o nz made j lt = by i refl made
     where
-      at_stage : (r count cells' site : ℕ) → i ≡ instrs.New r count cells' site → (v : NewView) → ((place_after code s earlier).threads one.thread).own.stage ≡ Makes v → (y : NewStage) → v.stage ≡ y → header_at y ≡ Some o → slice_index (words_now (place_after code s earlier).words one.event) (cell_at s o j) ≡ 0
-      at_stage r count cells' site is v stage (news.Length header) length_is q = let same : header ≡ o = cc in zero_word o nz r count cells' site v is stage (length_is ∙ ap news.Length same) j lt
+      at_stage : (r count cells' site : ℕ) → i ≡ Instr.New r count cells' site → (v : NewView) → ((place_after code s earlier).threads one.thread).own.stage ≡ Makes v → (y : NewStage) → v.stage ≡ y → header_at y ≡ Some o → slice_index (words_now (place_after code s earlier).words one.event) (cell_at s o j) ≡ 0
+      at_stage r count cells' site is v stage (NewStage.Length header) length_is q = let same : header ≡ o = cc in zero_word o nz r count cells' site v is stage (length_is ∙ ap NewStage.Length same) j lt
       at_stage r count cells' site is v stage _ length_is q = absurd (cc)
 
-      at_new : (r count cells' site : ℕ) → i ≡ instrs.New r count cells' site → (stage : Stage) → ((place_after code s earlier).threads one.thread).own.stage ≡ stage → header_in stage ≡ Some o → slice_index (words_now (place_after code s earlier).words one.event) (cell_at s o j) ≡ 0
+      at_new : (r count cells' site : ℕ) → i ≡ Instr.New r count cells' site → (stage : Stage) → ((place_after code s earlier).threads one.thread).own.stage ≡ stage → header_in stage ≡ Some o → slice_index (words_now (place_after code s earlier).words one.event) (cell_at s o j) ≡ 0
       at_new r count cells' site is (Makes v) stage q = at_stage r count cells' site is v stage v.stage refl q
       at_new r count cells' site is _ stage q = absurd (cc)
 
       by : (k : Instr) → i ≡ k → header_of k ((place_after code s earlier).threads one.thread).own.stage ≡ Some o → slice_index (words_now (place_after code s earlier).words one.event) (cell_at s o j) ≡ 0
-      by (instrs.New r count cells' site) is q = at_new r count cells' site is m.own.stage refl q
+      by (Instr.New r count cells' site) is q = at_new r count cells' site is m.own.stage refl q
       by _ is q = absurd (cc)

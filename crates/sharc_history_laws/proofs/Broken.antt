@@ -1,17 +1,5 @@
 -- With the access that was refused first no history goes on that keeps the rules.
-use Rattle.std.proofs.{Common.{◌≡◌, ℕ, ◌+◌, ◌≢◌, ◌⊎◌, inl, inr, Bool, true, false, ◌||◌, List, [], ◌∷◌, ◌++◌, reverse, filter, Option, Some, None, is_some, if◌then◌else◌, refl, sym, ap, ◌∙◌, subst, ⊎_elim, eqb-true}, lemmas.Bool.{cases_eq, false_from_ne_true as unset, or_from as or_no}, lemmas.List.reverse-append}
-use Rattle.std.specs.{Prelude.slice_index, List.list_any}
-use Rattle.sharc_tree.specs.{declared.event.Act.Act, declared.event.Object.Object, declared.event.SourceEvent.SourceEvent}
-use Rattle.sharc_tree.specs.declared.event.Act.TheVariants as acts
-use Rattle.sharc_tree.specs.declared.event.CellMode.TheVariants as modes
-use Rattle.sharc_tree.specs.declared.event.Object.TheVariants as objects
-use Rattle.sharc_heap.specs.{declared.shadow_word.Kind.Kind, declared.shadow_word.Kind.TheVariants.{Read, Write}, ShadowWord.{epoch_of, is_write}}
-use Rattle.sharc_code.specs.{declared.code.Code.Code, declared.shape.Shape.Shape, declared.state.ConflictAt.ConflictAt, declared.state.Stop.Stop, declared.state.Stop.TheVariants.{Conflict, NoLock, NotSole, Trap}, Layout.first_shadow, Machine.{Machine, instr_at}, Path.may_go, Runs.{Turn, state_now, told_by}, Whole.{Erase, one_thread, place_after}}
-use Rattle.sharc_meaning.specs.{Events.{Access, access_by, made_by, given_by, is_number, begins, frees, is_of, events_of, granule_of}, Obeys.{History, AccessSet, ends, until_gone, Obeys}, Store.is_gone}
-use Rattle.sharc_invariant.specs.{Bits.CheckOf, Labels.Labels, Reports.touch_at, Types.Targets}
-use Rattle.sharc_history_laws.specs.{Causes.{NothingBetween, IsCause, IsNamed, GoesOn, WasMade, IsNextOf, BreaksRules, HasNamed}, Conflicts.IsCheck, Followed.{ChecksAreFollowed, Follows, IsNext, IsMade, TellsAccess, access_of, access_checked}, History.history_of}
-use Rattle.sharc_history_laws.proofs.{Caused.{cause, has_named}, Checks.{check_cell, write_of_access}, Doing.{Does, Plain, Passes, Refuses, IsNoCheck, does}, Ends.base_run, Lasting.halted, Lists.{Newest, reverse_push}, Rules.{pushed, newest, newest_now, put_other}, Wholes.{TheLaws, Typed, RunOf, whole, fresh_of}}
-use Rattle.sharc_lemmas.proofs.Bools.{yes}
+use Rattle.sharc_history_laws.proofs.{Imports.{◌≡◌, ℕ, ◌+◌, ◌≢◌, ◌⊎◌, inl, inr, Bool, true, false, ◌||◌, List, [], ◌∷◌, ◌++◌, reverse, filter, Option, Some, None, is_some, if◌then◌else◌, refl, sym, ap, ◌∙◌, subst, ⊎_elim, eqb-true, cases_eq, not_true as unset, or_no, reverse-append, slice_index, list_any, Act, Object, SourceEvent, CellMode, Kind, Read, Write, epoch_of, is_write, Code, Shape, ConflictAt, Stop, Conflict, NoLock, NotSole, Trapped as Trap, first_shadow, Machine, instr_at, may_go, Turn, state_now, told_by, Erase, one_thread, place_after, Access, access_by, made_by, given_by, is_number, begins, frees, is_of, events_of, granule_in as granule_of, History, AccessSet, ends, until_gone, Obeys, is_gone, CheckOf, Labels, touch_at, Targets, NothingBetween, IsCause, IsNamed, GoesOn, WasMade, IsNextOf, BreaksRules, HasNamed, IsCheck, ChecksAreFollowed, Follows, IsNext, IsMade, TellsAccess, access_of, access_checked, history_of, yes}, Caused.{cause, has_named}, Checks.{check_cell, write_of_access}, Doing.{Does, Plain, Passes, Refuses, IsNoCheck, does}, Ends.base_run, Lasting.halted, Lists.{Newest, reverse_push}, Rules.{pushed, newest, newest_now, put_other}, Wholes.{TheLaws, Typed, RunOf, whole, fresh_of}}
 
 -- ---- lists
 abbrev pub AllOf : (SourceEvent → Type 0) → History → Type 0
@@ -59,25 +47,25 @@ abbrev Calm : Object → ℕ → SourceEvent → Type 0
 Calm o j e = (begins o e ≡ false) × (is_gone e.act ≡ true → e.thread ≢ j)
 
 same_gone : (act : Act) → ends until_gone act ≡ is_gone act
-same_gone acts.Gone = refl
+same_gone Act.Gone = refl
 same_gone _ = refl
 
 no_made : (e : SourceEvent) (act : Act) (a : Access) → access_by act ≡ Some a → made_by e act ≡ None
-no_made e (acts.New cells elements mode) a h = absurd (let f : None ≡ Some a = h in cc)
+no_made e (Act.New cells elements mode) a h = absurd (let f : None ≡ Some a = h in cc)
 no_made e _ a h = refl
 
 no_given : (act : Act) (a : Access) → access_by act ≡ Some a → given_by act ≡ None
-no_given (acts.Give r mode) a h = absurd (let f : None ≡ Some a = h in cc)
+no_given (Act.Give r mode) a h = absurd (let f : None ≡ Some a = h in cc)
 no_given _ a h = refl
 
 no_gone : (act : Act) (a : Access) → access_by act ≡ Some a → is_gone act ≡ false
-no_gone acts.Gone a h = absurd (let f : None ≡ Some a = h in cc)
+no_gone Act.Gone a h = absurd (let f : None ≡ Some a = h in cc)
 no_gone _ a h = refl
 
 -- an access is none of them
 access_calm : (o : Object) (j : ℕ) (e : SourceEvent) (a : Access) → access_by e.act ≡ Some a → Calm o j e
-access_calm (objects.Global g) j e a is = (refl, λ gone. absurd (yes (sym gone ∙ no_gone e.act a is)))
-access_calm (objects.Made n) j e a is = (
+access_calm (Object.Global g) j e a is = (refl, λ gone. absurd (yes (sym gone ∙ no_gone e.act a is)))
+access_calm (Object.Made n) j e a is = (
   or_no (is_number n (made_by e e.act)) (is_number n (given_by e.act)) (ap (is_number n) (no_made e e.act a is)) (ap (is_number n) (no_given e.act a is)),
   λ gone. absurd (yes (sym gone ∙ no_gone e.act a is)),
 )
@@ -90,7 +78,7 @@ ended_no o j R h = none_of (λ d. ends until_gone d.act) (is_of j) R
     (all_map (Calm o j) (λ e. is_of j e ≡ true → ends until_gone e.act ≡ false) (λ e k mine. unset (ends until_gone e.act) (λ z. k.1 (sym (same_gone e.act) ∙ z) (eqb-true e.thread j mine))) R h)
 
 -- an access in a history, behind which all events are calm, stands in its access set
-in_set : (R : History) (o : Object) (granule : ℕ) (before : History) (d : SourceEvent) (after : History) (a : Access) → R ≡ before ++ d ∷ after → access_by d.act ≡ Some a → a.cell.object ≡ o → granule_of a.cell ≡ granule → a.mode ≡ modes.Dynamic
+in_set : (R : History) (o : Object) (granule : ℕ) (before : History) (d : SourceEvent) (after : History) (a : Access) → R ≡ before ++ d ∷ after → access_by d.act ≡ Some a → a.cell.object ≡ o → granule_of a.cell ≡ granule → a.mode ≡ CellMode.Dynamic
     → AllOf (Calm o d.thread) after → AccessSet R o granule until_gone d a
 in_set R o granule before d after a parts is object at mode calm = record {
   before = before;
@@ -108,7 +96,7 @@ in_set R o granule before d after a parts is object at mode calm = record {
 pub record AreTwo (a b : Access) : Type 0 where
   pub object : a.cell.object ≡ b.cell.object
   pub granule : granule_of a.cell ≡ granule_of b.cell
-  pub dynamic : (a.mode ≡ modes.Dynamic) × (b.mode ≡ modes.Dynamic)
+  pub dynamic : (a.mode ≡ CellMode.Dynamic) × (b.mode ≡ CellMode.Dynamic)
   pub write : (a.is_write || b.is_write) ≡ true
 
 two_break : (R : History) (d e : SourceEvent) (a b : Access) → AreTwo a b → access_by d.act ≡ Some a → access_by e.act ≡ Some b → d.thread ≢ e.thread

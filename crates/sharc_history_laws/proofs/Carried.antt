@@ -1,9 +1,6 @@
 -- What an effect on the world leaves of a passed check, or of an object that a thread has alone or that is gone.
-use Rattle.std.proofs.{Common.{◌≡◌, ℕ, suc, ◌≢◌, ◌⊎◌, inl, inr, Bool, true, false, ◌&&◌, if◌then◌else◌, refl, sym, ap, ◌∙◌, subst, ⊎_elim}, lemmas.Bool.cases_eq}
-use Rattle.std.specs.Prelude.{nat_eq}
-use Rattle.sharc_code.specs.Runs.{put}
-use Rattle.sharc_invariant.specs.{Granules.{GranuleState, Passed, cleared, withdrawn}, Types.ObjectType, World.{TypeRules, Size, RegisterOf, Slot, In, TypedReference, ObjectState, Shut, Sole, World, WorldInvariant, WinOk, in_ref, put2, place, none, retype, give, make, freed, set_gran}, Effect.{Effect, Silent, Silently, Accesses, Clears, Gives, Frees, Makes, Locks, Unlocks, Returns, Withdraws}, History.{Closing, Without}}
-use Rattle.sharc_lemmas.proofs.Numbers.{ne_eq, eq_refl}
+use Rattle.sharc_history_laws.proofs.Imports.{◌≡◌, ℕ, suc, ◌≢◌, ◌⊎◌, inl, inr, Bool, true, false, ◌&&◌, if◌then◌else◌, refl, sym, ap, ◌∙◌, subst, ⊎_elim, cases_eq, nat_eq, put, GranuleState, Passed, cleared, withdrawn, ObjectType, TypeRules, Size, RegisterOf, Slot, In, TypedReference, ObjectState, Shut, IsSole as Sole, World, WorldInvariant, WinOk, in_ref, put2, none, retype, give, make, set_gran, Effect, Silent, Silently, Gives, Frees, Locks, Unlocks, Returns, Closing, Without, ne_eq, eq_refl}
+use Rattle.sharc_invariant.specs.{World.{place, freed}, Effect.{Accesses, Clears, Makes, Withdraws}}
 
 -- thread u has passed a check of granule j of object n, or the object is had alone, or gone
 abbrev pub Stands : World → (n j u : ℕ) → Bool → Type 0

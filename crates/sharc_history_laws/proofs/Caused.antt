@@ -1,16 +1,7 @@
 -- The check that a report may name is its cause, and there is one.
-use Rattle.std.proofs.{Common.{◌≡◌, ℕ, zero, suc, ◌+◌, ◌*◌, ◌/◌, ◌<◌, ◌≤◌, ◌≢◌, ◌⊎◌, inl, inr, Bool, true, false, ◌&&◌, List, [], ◌∷◌, ◌++◌, Option, Some, None, if◌then◌else◌, refl, sym, ap, ◌∙◌, subst, ⊎_elim, arith}, lemmas.Bool.{cases_eq, cases_lt, or_right}, lemmas.Bool.Decides.nat_tests}
-use Rattle.std.specs.Prelude.{slice_index, nat_lt, ◌==◌}
-use Rattle.sharc_tree.specs.declared.event.CellAt.{CellAt}
-use Rattle.sharc_word.specs.declared.step.TheConstants.{THREADS}
-use Rattle.sharc_heap.specs.{declared.shadow_word.Kind.Kind, declared.shadow_word.Kind.TheVariants.{Read, Write}, declared.access_table.Note.Note, Accesses.{note_of, site_at}, Functions.conflicts_in, ShadowWord.{epoch_of, is_of, stands, HasOther, Conflicts}}
-use Rattle.sharc_code.specs.{declared.code.Code.Code, declared.instr.Cell.Cell, declared.shape.Shape.Shape, declared.state.ConflictAt.ConflictAt, declared.state.Stop.TheVariants.Conflict, Layout.{granules, first_shadow, shadow_word}, Machine.{Machine, instr_at, wrote, stopped}, Outcomes.check_of, Runs.{Turn, Global}, Says.cell_at, Whole.place_after}
-use Rattle.sharc_meaning.specs.Events.{granule_of as granule_in}
-use Rattle.sharc_invariant.specs.{Bits.CheckOf, Labels.Labels, Reports.touch_at, State.{object_of_cell, number_in}, Types.Targets}
-use Rattle.sharc_history_laws.specs.{Causes.{noted_site, Stood, StoppedThere, IsNamed, OfWrite, OfRead, OfStop, OfFirst, NothingBetween, IsCause, HasNamed}, Conflicts.{site_of_check, IsCheck}, Followed.ChecksAreFollowed}
-use Rattle.sharc_history_laws.proofs.{Checks.{CheckCell, check_cell, cell_of_access, checked_here, adds, live_then, inside_then}, Conflicting.accesses_show, Doing.IsCheckAt, Followed.of_check, Noting.notes_told, Remaining.{word_at, site_now, Reason, Writes, Written, stop_is}, Shadows.at_low, Spots.{Spot, SameSpot, same_spot, object_is}, Walking.along, Wholes.{TheLaws, Typed, RunOf, Whole, whole, halting, fresh_of}}
+use Rattle.sharc_history_laws.proofs.{Imports.{◌≡◌, ℕ, zero, suc, ◌+◌, ◌*◌, ◌/◌, ◌<◌, ◌≤◌, ◌≢◌, ◌⊎◌, inl, inr, Bool, true, false, ◌&&◌, List, [], ◌∷◌, ◌++◌, Option, Some, None, if◌then◌else◌, refl, sym, ap, ◌∙◌, subst, ⊎_elim, arith, cases_eq, cases_lt, or_right, nat_tests, slice_index, nat_lt, ◌==◌, CellAt, THREADS, Kind, Read, Write, Note, note_of, site_at, conflicts_in, epoch_of, stands, HasOther, Conflicts, Code, Cell, Shape, ConflictAt, Conflict, granules, first_shadow, shadow_word, Machine, instr_at, wrote, stopped, check_of, Turn, Global, cell_at, place_after, granule_in, CheckOf, Labels, touch_at, object_of_cell, number_in, Targets, noted_site, Stood, StoppedThere, IsNamed, OfWrite, OfRead, OfStop, OfFirst, NothingBetween, IsCause, HasNamed, site_of_check, IsCheck, ChecksAreFollowed, same_is, yes, some_or}, Checks.{CheckCell, check_cell, cell_of_access, checked_here, adds, live_then, inside_then}, Conflicting.accesses_show, Doing.IsCheckAt, Followed.of_check, Noting.notes_told, Remaining.{word_at, site_now, Reason, Writes, Written, stop_is}, Shadows.at_low, Spots.{Spot, SameSpot, same_spot, object_is}, Walking.along, Wholes.{TheLaws, Typed, RunOf, Whole, whole, halting, fresh_of}}
+use Rattle.sharc_heap.specs.ShadowWord.{is_of}
 use Rattle.sharc_history_laws.proofs.Remaining as remaining
-use Rattle.sharc_lemmas.proofs.{Numbers.same_is, Bools.yes, Options.some_or}
 
 -- an earlier part of a run is one
 base_of : (code : Code) (s : Shape) (between base : List Turn) → RunOf code s (between ++ base) → RunOf code s base

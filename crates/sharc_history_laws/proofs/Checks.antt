@@ -1,11 +1,6 @@
 -- A turn that is a check: its cell, the bit that it sets, and the access that it is of.
-use Rattle.std.proofs.Common.{◌≡◌, ℕ, ◌+◌, ◌*◌, ◌<◌, Bool, true, false, List, ◌∷◌, Some, None, refl, sym, ap, ◌∙◌, subst}
-use Rattle.sharc_heap.specs.{declared.shadow_word.Kind.Kind, declared.shadow_word.Kind.TheVariants.{Read, Write}, ShadowWord.{AddsAccess, is_write}}
-use Rattle.sharc_code.specs.{declared.code.Code.Code, declared.instr.Cell.Cell, declared.instr.Instr.Instr, declared.shape.Shape.Shape, Layout.{granules, granule_at, granule_of}, Machine.{Machine, instr_at, place}, Outcomes.check_of, Runs.{Turn, Global, result_of, after_turn}, Says.cell_at, Whole.{one_thread, bounds, place_after}}
-use Rattle.sharc_meaning.specs.Events.{Access}
-use Rattle.sharc_invariant.specs.{Bits.CheckOf, Labels.{Label, Labels}, MachineInvariant.IsOn, Reports.touch_at, State.{State, StageStands, OnHold}, Typed.{Fine, HasCell}, Types.{Targets, Field}, World.World}
-use Rattle.sharc_history_laws.specs.Followed.{Accesses, IsFollowed, ChecksAreFollowed, access_to, access_checked}
-use Rattle.sharc_history_laws.proofs.{Consists.Consists, Doing.granule_low, Followed.{IsCheckBy, OfRead, OfWrite, check_by, accessed_is}, Remaining.{word_at, check_bit}, Single.{single, rests_hold}, Spots.{IsChecked, is_checked}, Staying.{StillThere, kept_calm}, Tables.header_of, Acts.{given_at, freed_at}, Wholes.{TheLaws, Typed, RunOf, Whole, whole, whole_next, fresh_of}}
+use Rattle.sharc_history_laws.proofs.{Imports.{◌≡◌, ℕ, ◌+◌, ◌*◌, ◌<◌, Bool, true, false, List, ◌∷◌, Some, None, refl, sym, ap, ◌∙◌, subst, Kind, Read, Write, AddsAccess, is_write, Code, Cell, Instr, Shape, granules, granule_at, granule_of, Machine, instr_at, place, check_of, Turn, Global, result_of, after_turn, cell_at, one_thread, bounds, place_after, Access, CheckOf, Label, Labels, IsOn, touch_at, State, StageStands, OnHold, Fine, HasCell, Targets, Field, World, IsFollowed, ChecksAreFollowed, access_to, access_checked}, Consists.Consists, Doing.granule_low, Followed.{IsCheckBy, OfRead, OfWrite, check_by, accessed_is}, Remaining.{word_at, check_bit}, Single.{single, rests_hold}, Spots.{IsChecked, is_checked}, Staying.{StillThere, kept_calm}, Tables.header_of, Acts.{given_at, freed_at}, Wholes.{TheLaws, Typed, RunOf, Whole, whole, whole_next, fresh_of}}
+use Rattle.sharc_history_laws.specs.Followed.{Accesses}
 
 -- the cell of a check
 pub record CheckCell (code : Code) (s : Shape) (g : Global Machine) (one : Turn) (kind : Kind) (p : ℕ) : Type 0 where

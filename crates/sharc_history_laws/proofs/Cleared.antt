@@ -1,14 +1,5 @@
 -- No bit stands in the granules of an object that is given or freed.
-use Rattle.std.proofs.{Common.{◌≡◌, ℕ, zero, suc, ◌+◌, ◌*◌, ◌/◌, ◌^◌, ◌<◌, ◌≤◌, ◌≢◌, Bool, true, false, ◌&&◌, not, min, None, if◌then◌else◌, refl, sym, ap, ◌∙◌, subst, ⊎_elim, arith}, lemmas.Bool.{cases_eq, cases_lt}, lemmas.Bool.Decides.nat_tests}
-use Rattle.std.specs.Prelude.{slice_index, nat_lt, ◌==◌}
-use Rattle.sharc_heap.specs.{declared.shadow_word.Kind.Kind, declared.shadow_word.Kind.TheVariants.{Read, Write}, ShadowLaws.ShadowLaws, ShadowWord.stands}
-use Rattle.sharc_code.specs.{declared.code.Code.Code, declared.instr.Cell.Cell, declared.instr.Instr.Instr, declared.shape.Shape.Shape, declared.state.Stage.Stage, declared.state.Stage.TheVariants.{Rests, Looks, Clears, Empties, Lowers, FreeLooks, FreeClears, Uncounts, Links}, Layout.{Fits, granules, first_shadow, granule_at, granule_of, length_word}, Machine.{Machine, instr_at, act, ref, place, at_stage, looks, clear, rests, free, free_looks, freed, empties, emptied, fields, layout_at, data_granules, data_granule, largest, step_of, wrote}, Outcomes.{TurnsComeOut, check_of}, Path.{begun, turn, after, may_go, asked_by}, Runs.{Turn, Global, MayTurn, after_turn, state_now, result_of}, Whole.{one_thread, bounds}}
-use Rattle.sharc_code.specs.declared.instr.Cell.TheVariants as cells
-use Rattle.sharc_code.specs.declared.instr.Instr.TheVariants as instrs
-use Rattle.sharc_word.specs.declared.step.WordOp.TheVariants as ops
-use Rattle.sharc_invariant.specs.{Bits.{Touch, Untouched, CheckOf, ClearOf, WithdrawOf, cleared_by, freed_by, touch_of}, History.Closing, Labels.{Gate, Sole, Entry, Refers, Label, Labels, Leads, LessGate, LessEntry, gated, empty}, Laws.{CellsAreThere, PointersAreThere, StateStands}, MachineInvariant.IsOn, Reports.touch_at, State.{State, Runs, StageStands, GateStands, OnClear, OnFree, OnHold, granules_freed, object_of_cell, number_in, view_of}, Typed.{IsWellTyped, Fine, HasCell}, Types.{Targets, StaticType, Field, cells_of}, Words.length_at, World.{World, Sole as IsSole}}
-use Rattle.sharc_history_laws.proofs.{Arriving.{IsUncleared, less_uncleared, walks, is_clearing, Arrives, arriving}, Consists.found_is, Doing.{IsCheckAt, Does, Plain, Passes, Refuses, IsNoCheck, does}, Remaining.{word_at, Remains}, Rules.{put_same, put_other}, Shadows.{IsNext, WordBy, word_by, at_low, in_cells}, Shared.closing_own, Single.{single, rests_hold}, Stands.{there, gate, granules_low, reads_ref, sole_ref, live_ref, target_ref}, Tables.length_kept, Writes.writes}
-use Rattle.sharc_lemmas.proofs.{Numbers.not_below, Bools.yes}
+use Rattle.sharc_history_laws.proofs.{Imports.{◌≡◌, ℕ, zero, suc, ◌+◌, ◌*◌, ◌/◌, ◌^◌, ◌<◌, ◌≤◌, ◌≢◌, Bool, true, false, ◌&&◌, not, min, None, if◌then◌else◌, refl, sym, ap, ◌∙◌, subst, ⊎_elim, arith, cases_eq, cases_lt, nat_tests, slice_index, nat_lt, ◌==◌, Kind, Read, Write, ShadowLaws, stands, Code, Cell, Instr, Shape, Stage, Rests, Looks, Clears, Empties, Lowers, FreeLooks, FreeClears, Uncounts, Links, Fits, granules, first_shadow, granule_at, granule_of, length_word, Machine, instr_at, act, ref, place, at_stage, looks, clear, rests, free, free_looks, freed, empties, emptied, fields, layout_at, data_granules, data_granule, largest, step_of, wrote, TurnsComeOut, check_of, begun, turn, after, may_go, asked_by, Turn, Global, MayTurn, after_turn, state_now, result_of, one_thread, bounds, WordOp, Touch, Untouched, CheckOf, ClearOf, WithdrawOf, cleared_by, freed_by, touch_of, Closing, Gate, Sole, Entry, Refers, Label, Labels, Leads, LessGate, LessEntry, gated, empty, CellsAreThere, PointersAreThere, StateStands, IsOn, touch_at, State, Runs, StageStands, GateStands, OnClear, OnFree, OnHold, granules_freed, object_of_cell, number_in, view_of, IsWellTyped, Fine, HasCell, Targets, StaticType, Field, cells_of, length_at, World, IsSole, not_below, yes}, Arriving.{IsUncleared, less_uncleared, walks, is_clearing, Arrives, arriving}, Consists.found_is, Doing.{IsCheckAt, Does, Plain, Passes, Refuses, IsNoCheck, does}, Remaining.{word_at, Remains}, Rules.{put_same, put_other}, Shadows.{IsNext, WordBy, word_by, at_low, in_cells}, Shared.closing_own, Single.{single, rests_hold}, Stands.{there, gate, granules_low, reads_ref, sole_ref, live_ref, target_ref}, Tables.length_kept, Writes.writes}
 
 -- ---- what is said of a thread that clears an object or gives it
 -- no bit stands in the first granules of an object
@@ -30,9 +21,9 @@ abbrev length_of : Shape → Global Machine → ℕ → ℕ
 length_of s g o = slice_index g.words (length_at s o)
 
 abbrev ClearedAt : Targets → Code → Shape → Labels → Global Machine → Machine → Instr → Stage → Type 0
-ClearedAt x code s ls g m (instrs.Clear r count) y = InClear (NoBits g (ref m r)) y
-ClearedAt x code s ls g m (instrs.Free r layout site) y = InFree (NoBits g (ref m r)) code layout y
-ClearedAt x code s ls g m (instrs.Give r site) y = (a : StaticType) → (ls.at m.at.pc).env r ≡ Refers a → NoBits g (ref m r) (data_granules (length_of s g (ref m r)) (cells_of x a.target))
+ClearedAt x code s ls g m (Instr.Clear r count) y = InClear (NoBits g (ref m r)) y
+ClearedAt x code s ls g m (Instr.Free r layout site) y = InFree (NoBits g (ref m r)) code layout y
+ClearedAt x code s ls g m (Instr.Give r site) y = (a : StaticType) → (ls.at m.at.pc).env r ≡ Refers a → NoBits g (ref m r) (data_granules (length_of s g (ref m r)) (cells_of x a.target))
 ClearedAt x code s ls g m i y = Unit {0}
 
 pub record AllCleared (x : Targets) (code : Code) (s : Shape) (ls : Labels) (g : Global Machine) : Type 0 where
@@ -54,11 +45,11 @@ of_cells : (n done : ℕ) → n ≤ largest → 2 * done < n → done < (min n l
 of_cells n done le lt = omega arith
 
 not_clear : (P : ℕ → ℕ → Type 0) (j : Instr) → is_clearing j ≡ false → OnClear P j → ⊥
-not_clear P (instrs.Clear r count) e h = yes e
+not_clear P (Instr.Clear r count) e h = yes e
 not_clear P _ e h = h
 
 not_free : (P : ℕ → ℕ → Type 0) (j : Instr) → is_clearing j ≡ false → OnFree P j → ⊥
-not_free P (instrs.Free r layout site) e h = yes e
+not_free P (Instr.Free r layout site) e h = yes e
 not_free P _ e h = h
 
 sole_same : (a b : Gate) (r q : ℕ) → a ≡ Sole r true → LessGate a b → b ≡ Sole q true → q ≡ r
@@ -151,10 +142,10 @@ module _ (outs : TurnsComeOut) (laws : ShadowLaws) (state_law : StateStands) (ce
         less a b le ne = grind (arith, nat_tests)
 
     by_cell : (c : Cell) → OnHold (g.threads tr.thread).own.stage → object_of_cell (g.threads tr.thread) c ≡ o → tr.thread ≡ u
-    by_cell (cells.Global h p) hold e = absurd (some (sym e))
-    by_cell (cells.GlobalAt h q) hold e = absurd (some (sym e))
-    by_cell (cells.Object q p) hold e = no_other t q hold e
-    by_cell (cells.ObjectAt q p) hold e = no_other t q hold e
+    by_cell (Cell.Global h p) hold e = absurd (some (sym e))
+    by_cell (Cell.GlobalAt h q) hold e = absurd (some (sym e))
+    by_cell (Cell.Object q p) hold e = no_other t q hold e
+    by_cell (Cell.ObjectAt q p) hold e = no_other t q hold e
 
     check_own : (kind : Kind) (j : ℕ) (ok : Bool) → 2 * j < st.cells o → touch ≡ CheckOf kind (o + 1 + j) ok → tr.thread ≡ u
     check_own kind j ok inside q = by (does outs code s g tr may fresh)
@@ -181,8 +172,8 @@ module _ (outs : TurnsComeOut) (laws : ShadowLaws) (state_law : StateStands) (ce
             halves p o n e = omega arith
 
             fine_check : (kind : Kind) (c : Cell) (site : ℕ) → i ≡ check_of kind c site → (f : Field) × HasCell x code (ls.at (g.threads tr.thread).at.pc) c f
-            fine_check Read c site is = let f = fine_at t (instrs.ChkRead c site) is in (f.1.0, f.1.1)
-            fine_check Write c site is = let f = fine_at t (instrs.ChkWrite c site) is in (f.1.0, f.1.1)
+            fine_check Read c site is = let f = fine_at t (Instr.ChkRead c site) is in (f.1.0, f.1.1)
+            fine_check Write c site is = let f = fine_at t (Instr.ChkWrite c site) is in (f.1.0, f.1.1)
 
             single_check : (kind : Kind) (c : Cell) (site : ℕ) → single (check_of kind c site) ≡ true
             single_check Read c site = refl
@@ -246,37 +237,37 @@ module _ (outs : TurnsComeOut) (laws : ShadowLaws) (state_law : StateStands) (ce
     granules_all n c j e lt = of_cells (n * c) j (subst (λ k. k ≤ largest) e few_cells) (subst (λ k. 2 * j < k) e lt)
 
   -- ---- a thread that does not make the turn
-  pub alone_clear : (u r count : ℕ) (y : Stage) → instr_at code (g.threads u).at.pc ≡ instrs.Clear r count → (g.threads u).own.stage ≡ y → OnHold y → IsAlone u r
-  alone_clear u r count y is at hold = record { hold = subst OnHold (sym at) hold; cleared = false; gate = (fine_at u (instrs.Clear r count) is).0 }
+  pub alone_clear : (u r count : ℕ) (y : Stage) → instr_at code (g.threads u).at.pc ≡ Instr.Clear r count → (g.threads u).own.stage ≡ y → OnHold y → IsAlone u r
+  alone_clear u r count y is at hold = record { hold = subst OnHold (sym at) hold; cleared = false; gate = (fine_at u (Instr.Clear r count) is).0 }
 
-  pub alone_free : (u r layout site : ℕ) (y : Stage) → instr_at code (g.threads u).at.pc ≡ instrs.Free r layout site → (g.threads u).own.stage ≡ y → OnHold y → IsAlone u r
-  alone_free u r layout site y is at hold = let f = fine_at u (instrs.Free r layout site) is in record { hold = subst OnHold (sym at) hold; cleared = f.0.0; gate = f.0.1 }
+  pub alone_free : (u r layout site : ℕ) (y : Stage) → instr_at code (g.threads u).at.pc ≡ Instr.Free r layout site → (g.threads u).own.stage ≡ y → OnHold y → IsAlone u r
+  alone_free u r layout site y is at hold = let f = fine_at u (Instr.Free r layout site) is in record { hold = subst OnHold (sym at) hold; cleared = f.0.0; gate = f.0.1 }
 
-  pub alone_give : (u r site : ℕ) → IsOn g u → instr_at code (g.threads u).at.pc ≡ instrs.Give r site → IsAlone u r
+  pub alone_give : (u r site : ℕ) → IsOn g u → instr_at code (g.threads u).at.pc ≡ Instr.Give r site → IsAlone u r
   alone_give u r site on_u is = record {
-    hold = rests_hold code s st.elements world st.heap g.words u (g.threads u) (instrs.Give r site) (g.threads u).own.stage refl (stage_at u on_u (instrs.Give r site) is);
+    hold = rests_hold code s st.elements world st.heap g.words u (g.threads u) (Instr.Give r site) (g.threads u).own.stage refl (stage_at u on_u (Instr.Give r site) is);
     cleared = true;
-    gate = (fine_at u (instrs.Give r site) is).0;
+    gate = (fine_at u (Instr.Give r site) is).0;
   }
 
   -- the granules of which a Clear has so many behind it are the object's
-  pub clear_inside : (u r count : ℕ) (on_u : IsOn g u) (alone : IsAlone u r) → instr_at code (g.threads u).at.pc ≡ instrs.Clear r count → (all : ℕ) → all ≡ data_granules (st.elements (ref (g.threads u) r)) count → (j : ℕ) → j < all → 2 * j < st.cells (ref (g.threads u) r)
+  pub clear_inside : (u r count : ℕ) (on_u : IsOn g u) (alone : IsAlone u r) → instr_at code (g.threads u).at.pc ≡ Instr.Clear r count → (all : ℕ) → all ≡ data_granules (st.elements (ref (g.threads u) r)) count → (j : ℕ) → j < all → 2 * j < st.cells (ref (g.threads u) r)
   clear_inside u r count on_u alone is all e j lt =
-      let f = fine_at u (instrs.Clear r count) is in
+      let f = fine_at u (Instr.Clear r count) is in
       let n : st.elements (ref (g.threads u) r) ≡ length_of s g (ref (g.threads u) r) = st.sim.lengths (ref (g.threads u) r) (some u on_u r alone) (live u on_u r alone) in
       granules_inside u on_u r alone (length_of s g (ref (g.threads u) r)) count j (cells_are u on_u r alone f.2.0 f.2.1 ∙ ap (λ c. length_of s g (ref (g.threads u) r) * c) (sym f.2.2))
       (subst (λ n. j < data_granules n count) n (subst (λ k. j < k) e lt))
 
-  pub free_inside : (u r layout site : ℕ) (on_u : IsOn g u) (alone : IsAlone u r) → instr_at code (g.threads u).at.pc ≡ instrs.Free r layout site → (all : ℕ) → all ≡ st.elements (ref (g.threads u) r) → (j : ℕ) → j < granules_freed code layout all → 2 * j < st.cells (ref (g.threads u) r)
+  pub free_inside : (u r layout site : ℕ) (on_u : IsOn g u) (alone : IsAlone u r) → instr_at code (g.threads u).at.pc ≡ Instr.Free r layout site → (all : ℕ) → all ≡ st.elements (ref (g.threads u) r) → (j : ℕ) → j < granules_freed code layout all → 2 * j < st.cells (ref (g.threads u) r)
   free_inside u r layout site on_u alone is all e j lt =
-      let f = fine_at u (instrs.Free r layout site) is in
+      let f = fine_at u (Instr.Free r layout site) is in
       let c = (layout_at code layout).cells in
       let n : st.elements (ref (g.threads u) r) ≡ length_of s g (ref (g.threads u) r) = st.sim.lengths (ref (g.threads u) r) (some u on_u r alone) (live u on_u r alone) in
       granules_inside u on_u r alone (length_of s g (ref (g.threads u) r)) c j (cells_are u on_u r alone f.3.0 f.3.1 ∙ ap (λ c. length_of s g (ref (g.threads u) r) * c) (sym f.3.2.cells))
       (subst (λ n. j < data_granules n c) (e ∙ n) lt)
 
-  other_clear : (u : ℕ) → IsOn g u → (tr.thread ≡ u → ⊥) → (r count : ℕ) → instr_at code (g.threads u).at.pc ≡ instrs.Clear r count → (y : Stage) → (g.threads u).own.stage ≡ y
-      → StageStands code s st.elements world st.heap g.words u (g.threads u) (instrs.Clear r count) y → InClear (NoBits g (ref (g.threads u) r)) y → InClear (NoBits g' (ref (g.threads u) r)) y
+  other_clear : (u : ℕ) → IsOn g u → (tr.thread ≡ u → ⊥) → (r count : ℕ) → instr_at code (g.threads u).at.pc ≡ Instr.Clear r count → (y : Stage) → (g.threads u).own.stage ≡ y
+      → StageStands code s st.elements world st.heap g.words u (g.threads u) (Instr.Clear r count) y → InClear (NoBits g (ref (g.threads u) r)) y → InClear (NoBits g' (ref (g.threads u) r)) y
   other_clear u on_u ne r count is (Looks done all) at h none =
       let alone = alone_clear u r count (Looks done all) is at tt in
       bits_kept u on_u r alone done ne (λ j lt. clear_inside u r count on_u alone is all h.0 j (let a = h.1.0 in omega (arith, a, lt))) none
@@ -285,8 +276,8 @@ module _ (outs : TurnsComeOut) (laws : ShadowLaws) (state_law : StateStands) (ce
       bits_kept u on_u r alone done ne (λ j lt. clear_inside u r count on_u alone is all h.0 j (let a = h.1.0 in omega (arith, a, lt))) none
   other_clear u on_u ne r count is _ at h none = tt
 
-  other_free : (u : ℕ) → IsOn g u → (tr.thread ≡ u → ⊥) → (r layout site : ℕ) → instr_at code (g.threads u).at.pc ≡ instrs.Free r layout site → (y : Stage) → (g.threads u).own.stage ≡ y
-      → StageStands code s st.elements world st.heap g.words u (g.threads u) (instrs.Free r layout site) y → InFree (NoBits g (ref (g.threads u) r)) code layout y → InFree (NoBits g' (ref (g.threads u) r)) code layout y
+  other_free : (u : ℕ) → IsOn g u → (tr.thread ≡ u → ⊥) → (r layout site : ℕ) → instr_at code (g.threads u).at.pc ≡ Instr.Free r layout site → (y : Stage) → (g.threads u).own.stage ≡ y
+      → StageStands code s st.elements world st.heap g.words u (g.threads u) (Instr.Free r layout site) y → InFree (NoBits g (ref (g.threads u) r)) code layout y → InFree (NoBits g' (ref (g.threads u) r)) code layout y
   other_free u on_u ne r layout site is (FreeLooks done all) at h none =
       let alone = alone_free u r layout site (FreeLooks done all) is at tt in
       bits_kept u on_u r alone done ne (λ j lt. free_inside u r layout site on_u alone is all h.0.0 j (let a = h.1.0 in omega (arith, a, lt))) none
@@ -298,7 +289,7 @@ module _ (outs : TurnsComeOut) (laws : ShadowLaws) (state_law : StateStands) (ce
       bits_kept u on_u r alone (granules_freed code layout all) ne (λ j lt. free_inside u r layout site on_u alone is all h.0.0 j lt) none
   other_free u on_u ne r layout site is _ at h none = tt
 
-  other_give : (u : ℕ) → IsOn g u → (tr.thread ≡ u → ⊥) → (r site : ℕ) → instr_at code (g.threads u).at.pc ≡ instrs.Give r site
+  other_give : (u : ℕ) → IsOn g u → (tr.thread ≡ u → ⊥) → (r site : ℕ) → instr_at code (g.threads u).at.pc ≡ Instr.Give r site
       → ((a : StaticType) → (ls.at (g.threads u).at.pc).env r ≡ Refers a → NoBits g (ref (g.threads u) r) (data_granules (length_of s g (ref (g.threads u) r)) (cells_of x a.target)))
       → (a : StaticType) → (ls.at (g.threads u).at.pc).env r ≡ Refers a → NoBits g' (ref (g.threads u) r) (data_granules (length_of s g' (ref (g.threads u) r)) (cells_of x a.target))
   other_give u on_u ne r site is none a e =
@@ -308,9 +299,9 @@ module _ (outs : TurnsComeOut) (laws : ShadowLaws) (state_law : StateStands) (ce
       (bits_kept u on_u r alone (data_granules n (cells_of x a.target)) ne (λ j lt. granules_inside u on_u r alone n (cells_of x a.target) j (cells_are u on_u r alone a e) lt) (none a e))
 
   other_kept : (u : ℕ) → IsOn g u → (tr.thread ≡ u → ⊥) → (j : Instr) → instr_at code (g.threads u).at.pc ≡ j → ClearedAt x code s ls g (g.threads u) j (g.threads u).own.stage → ClearedAt x code s ls g' (g.threads u) j (g.threads u).own.stage
-  other_kept u on_u ne (instrs.Clear r count) is none = other_clear u on_u ne r count is (g.threads u).own.stage refl (stage_at u on_u (instrs.Clear r count) is) none
-  other_kept u on_u ne (instrs.Free r layout site) is none = other_free u on_u ne r layout site is (g.threads u).own.stage refl (stage_at u on_u (instrs.Free r layout site) is) none
-  other_kept u on_u ne (instrs.Give r site) is none = other_give u on_u ne r site is none
+  other_kept u on_u ne (Instr.Clear r count) is none = other_clear u on_u ne r count is (g.threads u).own.stage refl (stage_at u on_u (Instr.Clear r count) is) none
+  other_kept u on_u ne (Instr.Free r layout site) is none = other_free u on_u ne r layout site is (g.threads u).own.stage refl (stage_at u on_u (Instr.Free r layout site) is) none
+  other_kept u on_u ne (Instr.Give r site) is none = other_give u on_u ne r site is none
   other_kept u on_u ne _ is none = tt
 
   -- ---- the thread of the turn
@@ -322,10 +313,10 @@ module _ (outs : TurnsComeOut) (laws : ShadowLaws) (state_law : StateStands) (ce
   uncleared y calm u = by (instr_at code y.at.pc) refl
     where
       by : (j : Instr) → instr_at code y.at.pc ≡ j → ClearedAt x code s ls g' y j y.own.stage
-      by (instrs.Clear r count) is = in_clear_calm (NoBits g' (ref y r)) y.own.stage calm
-      by (instrs.Free r layout site) is = in_free_calm (NoBits g' (ref y r)) code layout y.own.stage calm
-      by (instrs.Give r site) is =
-          let f : Fine x code ls y.at.pc (ls.at y.at.pc) (instrs.Give r site) = subst (Fine x code ls y.at.pc (ls.at y.at.pc)) is (wt.fine y.at.pc) in
+      by (Instr.Clear r count) is = in_clear_calm (NoBits g' (ref y r)) y.own.stage calm
+      by (Instr.Free r layout site) is = in_free_calm (NoBits g' (ref y r)) code layout y.own.stage calm
+      by (Instr.Give r site) is =
+          let f : Fine x code ls y.at.pc (ls.at y.at.pc) (Instr.Give r site) = subst (Fine x code ls y.at.pc (ls.at y.at.pc)) is (wt.fine y.at.pc) in
           absurd (subst IsUncleared f.0 u)
       by _ is = tt
 
@@ -366,11 +357,11 @@ module _ (outs : TurnsComeOut) (laws : ShadowLaws) (state_law : StateStands) (ce
         next = (g.threads tr.thread).at.pc + 1
 
         by : (j : Instr) → instr_at code ((g.threads tr.thread).at.pc + 1) ≡ j → ClearedAt x code s ls g' (rests (g.threads tr.thread)) j Rests
-        by (instrs.Clear q count) is = tt
-        by (instrs.Free q layout site) is = tt
-        by (instrs.Give q site) is = λ b e.
+        by (Instr.Clear q count) is = tt
+        by (Instr.Free q layout site) is = tt
+        by (Instr.Give q site) is = λ b e.
             let pc = m.at.pc + 1 in
-            let f : Fine x code ls pc (ls.at pc) (instrs.Give q site) = subst (Fine x code ls pc (ls.at pc)) is (wt.fine pc) in
+            let f : Fine x code ls pc (ls.at pc) (Instr.Give q site) = subst (Fine x code ls pc (ls.at pc)) is (wt.fine pc) in
             let same : q ≡ r = sole_same (Sole r true) (ls.at pc).gate r q refl leads.gate f.0 in
             let target : b.target ≡ a.target = same_target (gated (ls.at m.at.pc) (Sole r true)) r ((ls.at m.at.pc).env r) ((ls.at pc).env r) a b env (leads.env r) (ap (ls.at pc).env (sym same) ∙ e) in
             let n : data_granules (length_of s g' own) (cells_of x b.target) ≡ all =
@@ -379,7 +370,7 @@ module _ (outs : TurnsComeOut) (laws : ShadowLaws) (state_law : StateStands) (ce
         by _ is = tt
 
     -- on to the next granule, or to the next instruction
-    to_looks : (a : StaticType) (count done all : ℕ) → i ≡ instrs.Clear r count → (ls.at (g.threads tr.thread).at.pc).env r ≡ Refers a → count ≡ cells_of x a.target → all ≡ data_granules (length_of s g own) count → Leads ls ((g.threads tr.thread).at.pc + 1) (gated (ls.at (g.threads tr.thread).at.pc) (Sole r true))
+    to_looks : (a : StaticType) (count done all : ℕ) → i ≡ Instr.Clear r count → (ls.at (g.threads tr.thread).at.pc).env r ≡ Refers a → count ≡ cells_of x a.target → all ≡ data_granules (length_of s g own) count → Leads ls ((g.threads tr.thread).at.pc + 1) (gated (ls.at (g.threads tr.thread).at.pc) (Sole r true))
         → NoBits g' own done → Now (looks (g.threads tr.thread) done all)
     to_looks a count done all is env count_is all_is leads none = elim (nat_lt done all) as (λ b. nat_lt done all ≡ b → Now (if b then at_stage m (Looks done all) else rests m)) [
       | true ↦ λ _ _. subst (λ j. ClearedAt x code s ls g' (at_stage m (Looks done all)) j (Looks done all)) (sym is) none
@@ -387,26 +378,26 @@ module _ (outs : TurnsComeOut) (laws : ShadowLaws) (state_law : StateStands) (ce
     ] refl
 
     -- a Free
-    to_free_looks : (layout site done all : ℕ) → i ≡ instrs.Free r layout site → NoBits g' own done → Now (free_looks (g.threads tr.thread) (layout_at code layout) done all)
+    to_free_looks : (layout site done all : ℕ) → i ≡ Instr.Free r layout site → NoBits g' own done → Now (free_looks (g.threads tr.thread) (layout_at code layout) done all)
     to_free_looks layout site done all is none = elim (nat_lt done (data_granules all (layout_at code layout).cells)) as (λ b. nat_lt done (data_granules all (layout_at code layout).cells) ≡ b → Now (if b then at_stage m (FreeLooks done all) else at_stage m (Uncounts all))) [
       | true ↦ λ _ _. subst (λ j. ClearedAt x code s ls g' (at_stage m (FreeLooks done all)) j (FreeLooks done all)) (sym is) none
       | false ↦ λ e _. subst (λ j. ClearedAt x code s ls g' (at_stage m (Uncounts all)) j (Uncounts all)) (sym is) (λ j lt. none j (let le = not_below done (data_granules all (layout_at code layout).cells) e in omega (arith, lt, le)))
     ] refl
 
-    to_empties : (layout site k all : ℕ) → i ≡ instrs.Free r layout site → Now (empties (g.threads tr.thread) (layout_at code layout) k all)
+    to_empties : (layout site k all : ℕ) → i ≡ Instr.Free r layout site → Now (empties (g.threads tr.thread) (layout_at code layout) k all)
     to_empties layout site k all is = elim (nat_lt k (min (all * fields (layout_at code layout)) largest)) as (λ b. Now (if b then at_stage m (Empties k all) else free_looks m (layout_at code layout) 0 all)) [
       | true ↦ λ _. subst (λ j. ClearedAt x code s ls g' (at_stage m (Empties k all)) j (Empties k all)) (sym is) tt
       | false ↦ to_free_looks layout site 0 all is (λ j lt. absurd (omega arith))
     ]
 
-    to_emptied : (layout site k all v : ℕ) → i ≡ instrs.Free r layout site → Now (emptied (g.threads tr.thread) (layout_at code layout) k all v)
+    to_emptied : (layout site k all v : ℕ) → i ≡ Instr.Free r layout site → Now (emptied (g.threads tr.thread) (layout_at code layout) k all v)
     to_emptied layout site k all zero is = to_empties layout site (k + 1) all is
     to_emptied layout site k all (suc v) is = λ _. subst (λ j. ClearedAt x code s ls g' (at_stage m (Lowers k all (suc v))) j (Lowers k all (suc v))) (sym is) tt
 
   then_is : (y : Machine) → after (turn code s (g.threads tr.thread)) (result_of tr.event) ≡ y → Now y → Now m'
   then_is y e h = subst Now (sym (put_same g.threads t (state_now (one_thread code s) g tr) ∙ e)) h
 
-  clears : (r count : ℕ) → i ≡ instrs.Clear r count → (y : Stage) → (g.threads tr.thread).own.stage ≡ y → StageStands code s st.elements world st.heap g.words tr.thread (g.threads tr.thread) (instrs.Clear r count) y
+  clears : (r count : ℕ) → i ≡ Instr.Clear r count → (y : Stage) → (g.threads tr.thread).own.stage ≡ y → StageStands code s st.elements world st.heap g.words tr.thread (g.threads tr.thread) (Instr.Clear r count) y
       → InClear (NoBits g (ref (g.threads tr.thread) r)) y → Now m'
   clears r count is (Looks done all) at h none =
       let alone = alone_clear t r count (Looks done all) is at tt in
@@ -418,7 +409,7 @@ module _ (outs : TurnsComeOut) (laws : ShadowLaws) (state_law : StateStands) (ce
   clears r count is (Clears done all seen) at h none =
       let alone = alone_clear t r count (Clears done all seen) is at tt in
       let o = ref m r in
-      let f = fine_at t (instrs.Clear r count) is in
+      let f = fine_at t (Instr.Clear r count) is in
       let e : touch ≡ ClearOf (granule_at s (data_granule o done)) = ap (λ j. touch_of s j m found m') is ∙ ap (cleared_by s o) at in
       let all_is : all ≡ data_granules (length_of s g o) count = h.0 ∙ ap (λ n. data_granules n count) (st.sim.lengths o (some t on r alone) (live t on r alone)) in
       then_is (looks m (done + 1) all) (ap (λ j. after (act code s j m) found) is ∙ ap (λ y. after (clear s m o count y) found) at)
@@ -426,8 +417,8 @@ module _ (outs : TurnsComeOut) (laws : ShadowLaws) (state_law : StateStands) (ce
   clears r count is Rests at h none =
       let alone = alone_clear t r count Rests is at tt in
       let o = ref m r in
-      let f = fine_at t (instrs.Clear r count) is in
-      let step = step_of (length_word s o) ops.Load in
+      let f = fine_at t (Instr.Clear r count) is in
+      let step = step_of (length_word s o) WordOp.Load in
       let head = st.apart.headers o (live t on r alone) in
       let word_is : length_word s o ≡ length_at s o = length_here o head in
       let found_o : found ≡ length_of s g o = found_is g.words tr.event step (may.next.asks ∙ ap (λ j. asked_by (act code s j m)) is ∙ ap (λ y. asked_by (clear s m o count y)) at) may.answered ∙ ap (slice_index g.words) word_is in
@@ -438,7 +429,7 @@ module _ (outs : TurnsComeOut) (laws : ShadowLaws) (state_law : StateStands) (ce
       length_here o lt = let e = at_low s o lt in omega (arith, e)
   clears r count is _ at h none = absurd h
 
-  frees : (r layout site : ℕ) → i ≡ instrs.Free r layout site → (y : Stage) → (g.threads tr.thread).own.stage ≡ y → StageStands code s st.elements world st.heap g.words tr.thread (g.threads tr.thread) (instrs.Free r layout site) y
+  frees : (r layout site : ℕ) → i ≡ Instr.Free r layout site → (y : Stage) → (g.threads tr.thread).own.stage ≡ y → StageStands code s st.elements world st.heap g.words tr.thread (g.threads tr.thread) (Instr.Free r layout site) y
       → InFree (NoBits g (ref (g.threads tr.thread) r)) code layout y → Now m'
   frees r layout site is (FreeLooks done all) at h none =
       let alone = alone_free t r layout site (FreeLooks done all) is at tt in
@@ -461,7 +452,7 @@ module _ (outs : TurnsComeOut) (laws : ShadowLaws) (state_law : StateStands) (ce
       let y = at_stage m (Links all) in
       then_is y (ap (λ j. after (act code s j m) found) is ∙ ap (λ y. after (free code s m r (layout_at code layout) y) found) at) (λ _. subst (λ j. ClearedAt x code s ls g' y j (Links all)) (sym is) tt)
   frees r layout site is (Links all) at h none =
-      let f = fine_at t (instrs.Free r layout site) is in
+      let f = fine_at t (Instr.Free r layout site) is in
       let y = freed m r (layout_at code layout) all in
       let closed = less_uncleared (empty (ls.at m.at.pc) r).gate (ls.at (m.at.pc + 1)).gate tt f.4.gate in
       then_is y (ap (λ j. after (act code s j m) found) is ∙ ap (λ y. after (free code s m r (layout_at code layout) y) found) at) (λ _. uncleared y refl closed)
@@ -498,17 +489,17 @@ module _ (outs : TurnsComeOut) (laws : ShadowLaws) (state_law : StateStands) (ce
       next n k a b = omega (arith, a, b)
 
       by : y_now.at.pc ≡ (g.threads tr.thread).at.pc → (j : Instr) → i ≡ j → ClearedAt x code s ls g' y_now j y_now.own.stage
-      by same (instrs.Clear r count) is = absurd (yes (sym (ap is_clearing is) ∙ other))
-      by same (instrs.Free r layout site) is = absurd (yes (sym (ap is_clearing is) ∙ other))
-      by same (instrs.Give r site) is = absurd (next y_now.at.pc m.at.pc (ap (λ j. (after (act code s j m) found).at.pc) is) same)
+      by same (Instr.Clear r count) is = absurd (yes (sym (ap is_clearing is) ∙ other))
+      by same (Instr.Free r layout site) is = absurd (yes (sym (ap is_clearing is) ∙ other))
+      by same (Instr.Give r site) is = absurd (next y_now.at.pc m.at.pc (ap (λ j. (after (act code s j m) found).at.pc) is) same)
       by same _ is = tt
 
   mine : AllCleared x code s ls g → Now m'
   mine old = by i refl (old.at t on)
     where
       by : (j : Instr) → i ≡ j → ClearedAt x code s ls g (g.threads tr.thread) j (g.threads tr.thread).own.stage → Now m'
-      by (instrs.Clear r count) is none = clears r count is m.own.stage refl (stage_at t on (instrs.Clear r count) is) none
-      by (instrs.Free r layout site) is none = frees r layout site is m.own.stage refl (stage_at t on (instrs.Free r layout site) is) none
+      by (Instr.Clear r count) is none = clears r count is m.own.stage refl (stage_at t on (Instr.Clear r count) is) none
+      by (Instr.Free r layout site) is none = frees r layout site is m.own.stage refl (stage_at t on (Instr.Free r layout site) is) none
       by j is none = plain (ap is_clearing is)
 
   pub cleared_then : AllCleared x code s ls g → AllCleared x code s ls (after_turn bounds (one_thread code s) g tr)
@@ -534,19 +525,19 @@ module _ (outs : TurnsComeOut) (laws : ShadowLaws) (state_law : StateStands) (ce
 
   -- ---- at a Give and at the end of a Free
   -- no bit stands in a granule of the object
-  pub given_cleared : AllCleared x code s ls g → (r site : ℕ) → instr_at code (g.threads tr.thread).at.pc ≡ instrs.Give r site → (j : ℕ) → 2 * j < st.cells (ref (g.threads tr.thread) r) → (k : ℕ) → stands (word_at g (ref (g.threads tr.thread) r + 1 + j)) k ≡ false
+  pub given_cleared : AllCleared x code s ls g → (r site : ℕ) → instr_at code (g.threads tr.thread).at.pc ≡ Instr.Give r site → (j : ℕ) → 2 * j < st.cells (ref (g.threads tr.thread) r) → (k : ℕ) → stands (word_at g (ref (g.threads tr.thread) r + 1 + j)) k ≡ false
   given_cleared old r site is j lt k =
-      let f = fine_at t (instrs.Give r site) is in
+      let f = fine_at t (Instr.Give r site) is in
       let alone = alone_give t r site on is in
-      let none : ClearedAt x code s ls g m (instrs.Give r site) m.own.stage = subst (λ j. ClearedAt x code s ls g m j m.own.stage) is (old.at t on) in
+      let none : ClearedAt x code s ls g m (Instr.Give r site) m.own.stage = subst (λ j. ClearedAt x code s ls g m j m.own.stage) is (old.at t on) in
       none f.2.0 f.2.2 j (granules_all t on r alone (length_of s g (ref m r)) (cells_of x f.2.0.target) j (cells_are t on r alone f.2.0 f.2.2) lt) k
 
-  pub freed_cleared : AllCleared x code s ls g → (r layout site all : ℕ) → instr_at code (g.threads tr.thread).at.pc ≡ instrs.Free r layout site → (g.threads tr.thread).own.stage ≡ Uncounts all → (j : ℕ) → 2 * j < st.cells (ref (g.threads tr.thread) r) → (k : ℕ) → stands (word_at g (ref (g.threads tr.thread) r + 1 + j)) k ≡ false
+  pub freed_cleared : AllCleared x code s ls g → (r layout site all : ℕ) → instr_at code (g.threads tr.thread).at.pc ≡ Instr.Free r layout site → (g.threads tr.thread).own.stage ≡ Uncounts all → (j : ℕ) → 2 * j < st.cells (ref (g.threads tr.thread) r) → (k : ℕ) → stands (word_at g (ref (g.threads tr.thread) r + 1 + j)) k ≡ false
   freed_cleared old r layout site all is at j lt k =
-      let f = fine_at t (instrs.Free r layout site) is in
+      let f = fine_at t (Instr.Free r layout site) is in
       let alone = alone_free t r layout site (Uncounts all) is at tt in
       let o = ref m r in
-      let h = subst (StageStands code s st.elements world st.heap g.words t m (instrs.Free r layout site)) at (stage_at t on (instrs.Free r layout site) is) in
+      let h = subst (StageStands code s st.elements world st.heap g.words t m (Instr.Free r layout site)) at (stage_at t on (Instr.Free r layout site) is) in
       let none : InFree (NoBits g o) code layout (Uncounts all) = subst (InFree (NoBits g o) code layout) at (subst (λ j. ClearedAt x code s ls g m j m.own.stage) is (old.at t on)) in
       let c = (layout_at code layout).cells in
       let n : all ≡ length_of s g o = h.0.0 ∙ st.sim.lengths o (some t on r alone) (live t on r alone) in

@@ -1,14 +1,5 @@
 -- A refused check of an access comes from checks that others made, in a run of typed code.
-use Rattle.std.proofs.{Common.{◌≡◌, ℕ, ◌+◌, ◌<◌, inl, inr, Bool, true, false, List, [], ◌∷◌, Option, Some, None, is_some, nat_lt, if◌then◌else◌, refl, sym, ap, ◌∙◌, subst, ⊎_elim, arith}, lemmas.Bool.cases_eq, lemmas.Bool.Decides.nat_tests}
-use Rattle.std.specs.Prelude.{slice_index, ◌==◌}
-use Rattle.sharc_heap.specs.{declared.shadow_word.Kind.Kind, declared.shadow_word.Kind.TheVariants.{Read, Write}, ShadowWord.{epoch_of, stands}, Functions.bits_of}
-use Rattle.sharc_word.specs.declared.step.WordOp.TheVariants as ops
-use Rattle.sharc_code.specs.{declared.code.Code.Code, declared.instr.Cell.Cell, declared.instr.Instr.Instr, declared.shape.Shape.Shape, declared.state.ConflictAt.ConflictAt, declared.state.Stage.Stage, declared.state.Stage.TheVariants.{Clears, FreeClears, WithdrawsFrom}, declared.state.Stop.Stop, declared.state.Stop.TheVariants.Conflict, Layout.{Fits, granules, granule_at, granule_of, shadow_word}, Machine.{Machine, instr_at, act, place, word, ref, stopped, step_of}, Opening.opening_words, Outcomes.{TurnsComeOut, MayStop, check_of}, Path.{turn, after, may_go, asked_by}, Runs.{Turn, Global, IsRun, MayTurn, after_turn, put, state_now, result_of, opening_of}, Whole.{one_thread, bounds, place_after}}
-use Rattle.sharc_code.specs.declared.instr.Instr.TheVariants as instrs
-use Rattle.sharc_invariant.specs.{Types.Targets, Labels.Labels, Typed.IsWellTyped, State.IsSmall, Opened.first_place, Bits.{Touch, Untouched, CheckOf, ClearOf, WithdrawOf, Marks, cleared_by, freed_by, withdrawn_by, touch_of, with_check, without_thread, marks_by, marks_after}, Reports.{RunsConflict, CheckStands, touch_at}, Laws.RunsBits}
-use Rattle.sharc_history_laws.specs.Conflicts.{site_of_check, Past, MadeSince, Opposes, ShowsConflict}
-use Rattle.sharc_history_laws.proofs.{Consists.found_is, Outcomes.reports, Rules.{put_same, put_other}, Sole.{Halting, stop_none}}
-use Rattle.sharc_lemmas.proofs.Bools.{yes}
+use Rattle.sharc_history_laws.proofs.{Imports.{◌≡◌, ℕ, ◌+◌, ◌<◌, inl, inr, Bool, true, false, List, [], ◌∷◌, Option, Some, None, is_some, nat_lt, if◌then◌else◌, refl, sym, ap, ◌∙◌, subst, ⊎_elim, arith, cases_eq, nat_tests, slice_index, ◌==◌, Kind, Read, Write, epoch_of, stands, bits_of, WordOp, Code, Cell, Instr, Shape, ConflictAt, Stage, Clears, FreeClears, WithdrawsFrom, Stop, Conflict, Fits, granules, granule_at, granule_of, shadow_word, Machine, instr_at, act, place, word, ref, stopped, step_of, opening_words, TurnsComeOut, MayStop, check_of, turn, after, may_go, asked_by, Turn, Global, IsRun, MayTurn, after_turn, put, state_now, result_of, opening_of, one_thread, bounds, place_after, Targets, Labels, IsWellTyped, IsSmall, first_place, Touch, Untouched, CheckOf, ClearOf, WithdrawOf, Marks, cleared_by, freed_by, withdrawn_by, touch_of, with_check, without_thread, marks_by, marks_after, RunsConflict, CheckStands, touch_at, RunsBits, site_of_check, Past, MadeSince, Opposes, ShowsConflict, yes}, Consists.found_is, Outcomes.reports, Rules.{put_same, put_other}, Sole.{Halting, stop_none}}
 
 -- ---- a turn that is a check has a site
 module _ (s : Shape) (kind : Kind) (p : ℕ) (ok : Bool) where
@@ -28,11 +19,11 @@ module _ (s : Shape) (kind : Kind) (p : ℕ) (ok : Bool) where
   not_withdrawn m found _ e = cc
 
   check_site : (i : Instr) (m : Machine) (found : ℕ) (m' : Machine) → touch_of s i m found m' ≡ CheckOf kind p ok → (site : ℕ) × (site_of_check i ≡ Some site)
-  check_site (instrs.ChkRead c site) m found m' e = (site, refl)
-  check_site (instrs.ChkWrite c site) m found m' e = (site, refl)
-  check_site (instrs.Clear r cells) m found m' e = absurd (not_cleared (ref m r) m.own.stage e)
-  check_site (instrs.Free r layout site) m found m' e = absurd (not_freed (ref m r) m.own.stage e)
-  check_site instrs.Exit m found m' e = absurd (not_withdrawn m found m.own.stage e)
+  check_site (Instr.ChkRead c site) m found m' e = (site, refl)
+  check_site (Instr.ChkWrite c site) m found m' e = (site, refl)
+  check_site (Instr.Clear r cells) m found m' e = absurd (not_cleared (ref m r) m.own.stage e)
+  check_site (Instr.Free r layout site) m found m' e = absurd (not_freed (ref m r) m.own.stage e)
+  check_site Instr.Exit m found m' e = absurd (not_withdrawn m found m.own.stage e)
   check_site _ m found m' e = absurd (let f : Untouched ≡ CheckOf kind p ok = e in cc)
 
 -- ---- marks are of checks
@@ -182,13 +173,13 @@ module _ (outs : TurnsComeOut) (conflicts : RunsConflict) (bits : RunsBits) (x :
 
     -- the check, whose kind is this
     shows_of : (kind : Kind) (cell : Cell) → touch_of s i m (result_of one.event) m' ≡ CheckOf kind (granule_at s (granule_of (place m cell))) (may_go m'.at.state) → site_of_check i ≡ Some c.site
-        → asked_by (turn code s m) ≡ Some (step_of (shadow_word s (granule_of (place m cell))) (ops.Or (bits_of m.own.number kind)))
+        → asked_by (turn code s m) ≡ Some (step_of (shadow_word s (granule_of (place m cell))) (WordOp.Or (bits_of m.own.number kind)))
         → c.kind ≡ kind → c.granule ≡ granule_at s (granule_of (place m cell)) → c.old ≡ result_of one.event → c.epoch ≡ epoch_of (result_of one.event) → ShowsConflict code s (one ∷ earlier) one.thread c
     shows_of kind cell touched site_is asked kind_is granule_is old_is epoch_is =
         let q = granule_of (place m cell) in
         let p = granule_at s q in
         let touch : touch_of s i m (result_of one.event) m' ≡ CheckOf kind p false = touched ∙ ap (CheckOf kind p) stopped_now in
-        let found : result_of one.event ≡ slice_index g.words (shadow_word s q) = found_is g.words one.event (step_of (shadow_word s q) (ops.Or (bits_of m.own.number kind))) (may.next.asks ∙ asked) may.answered in
+        let found : result_of one.event ≡ slice_index g.words (shadow_word s q) = found_is g.words one.event (step_of (shadow_word s q) (WordOp.Or (bits_of m.own.number kind))) (may.next.asks ∙ asked) may.answered in
         let at_p : shadow_word s p ≡ shadow_word s q = ap (λ n. Rattle.sharc_code.specs.Layout.first_shadow + n) (granule_same s q) in
         let word : slice_index g.words (shadow_word s p) ≡ c.old = ap (slice_index g.words) at_p ∙ sym found ∙ sym old_is in
         let k : CheckStands one.thread kind (slice_index g.words (shadow_word s p)) (marks_after code s (first_place code s) earlier p) false = conflicts x code s ls wt fits few earlier one run kind p false touch in

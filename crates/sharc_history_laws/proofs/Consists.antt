@@ -1,17 +1,6 @@
 -- The path of each thread of each run of typed code is consistent.
-use Rattle.std.proofs.{Common.{◌≡◌, ℕ, zero, suc, ◌+◌, ◌*◌, ◌^◌, ◌<◌, ◌≤◌, ◌≢◌, inl, Bool, true, false, cond, length, List, [], ◌∷◌, Option, Some, None, if◌then◌else◌, refl, sym, ap, ◌∙◌, subst, ⊎_elim, arith, eqb-true}, lemmas.Bool.{cases_eq, le-leb, lt-leb, true_from_ne_false as not_false}, lemmas.List.length-map}
-use Rattle.std.specs.Prelude.{slice_index, nat_lt, ◌==◌}
-use Rattle.sharc_word.specs.declared.step.WordOp.TheVariants as ops
-use Rattle.sharc_word.specs.{declared.step.WordStep.WordStep, declared.step.WordEvent.WordEvent, Words.{word_after, words_after_step}}
-use Rattle.sharc_tree.specs.declared.event.SourceEvent.{SourceEvent}
-use Rattle.sharc_heap.specs.{State.NewView, Asks.word_number, Stages.turn_of_stage, declared.arguments.NewArguments.NewArguments, declared.stage.NewStage.NewStage}
-use Rattle.sharc_heap.specs.declared.stage.NewStage.TheVariants as news
-use Rattle.sharc_code.specs.{declared.code.Code.Code, declared.instr.Instr.Instr, declared.shape.Shape.Shape, declared.state.Stage.Stage, declared.state.Stage.TheVariants.{Rests, Makes, Links}, Laws.RunLaws, Layout.{Fits, granules, first_cell}, Machine.{Machine, instr_at, ref, act, asks_new, elements_of, int, new_state}, Opening.opening_words, Path.{begun, machine_after, turn, asked_by, may_go}, Runs.{Said, Turn, Global, IsRun, MayTurn, at, after_turn, put, words_now, state_now, result_of, step_of, turns_of, with_told, state_after, opening_of, Answered}, Whole.{one_thread, bounds, place_after, Erase}, Says.{speaks_of, elements_in}}
-use Rattle.sharc_code.specs.declared.instr.Instr.TheVariants as instrs
-use Rattle.sharc_compile.specs.{Consistent.{Elements, elements_told, said_now, Has, IsConsistent, IsConsistentTurn}, OfRuns.{founds_of, told_in, table_of, elements_before}}
-use Rattle.sharc_invariant.specs.{Types.Targets, Labels.{Gate, Closed, Checked, Holds, Loaded, HoldsLoaded, Sole, Labels}, Typed.{IsWellTyped, Fine}, World.{RegisterOf, In, Cell as CellOf, Base, Loaded as IsLoaded, World, ObjectState, WinOk, in_ref, base_of}, Words.{has_returned, length_at, lang_of, is_freed}, Blocks.{Built, Live}, Opened.first_world, Effect.Effect, Objects.{changes_objects, objects_now}, State.{State, IsSmall, StageStands, GateStands, StopStands, BuildsAt, OnHold, base_of_cell, number_in}, MachineInvariant.{IsOn, WasLoaded}, Laws.{Keeps, Begins as CodeBegins, CellsAreThere, PointersAreThere}}
-use Rattle.sharc_history_laws.proofs.{Gates.{LoadedStands, loaded_still, links_still, takes_loaded, unloaded}, Single.{single, rests_hold}, Stands.{live_slot, granules_low, gate, sole_ref, live_ref}, Tables.{header_at, header_in, header_of, elements_in_stage, told_other, told_made, was_live, length_kept}, Writes.writes, Finds.finds, Carried.{put_other, put_same}}
-use Rattle.sharc_lemmas.proofs.{Numbers.{ne_eq, eq_refl, is_below}, Lists.set_here}
+use Rattle.sharc_history_laws.proofs.{Imports.{◌≡◌, ℕ, zero, suc, ◌+◌, ◌*◌, ◌^◌, ◌<◌, ◌≤◌, ◌≢◌, inl, Bool, true, false, cond, length, List, [], ◌∷◌, Option, Some, None, if◌then◌else◌, refl, sym, ap, ◌∙◌, subst, ⊎_elim, arith, eqb-true, cases_eq, le-leb, lt-leb, not_false, length-map, slice_index, nat_lt, ◌==◌, WordOp, WordStep, WordEvent, word_after, words_after_step, SourceEvent, NewView, word_number, turn_of_stage, NewArguments, NewStage, Code, Instr, Shape, Stage, Rests, Makes, Links, RunLaws, Fits, granules, first_cell, Machine, instr_at, ref, act, asks_new, elements_of, int, new_state, opening_words, begun, machine_after, turn, asked_by, may_go, Said, Turn, Global, IsRun, MayTurn, at, after_turn, put, words_now, state_now, result_of, turns_of, with_told, opening_of, Answered, one_thread, bounds, place_after, Erase, speaks_of, elements_in, Elements, elements_told, said_now, Has, IsConsistent, IsConsistentTurn, founds_of, told_in, table_of, elements_before, Targets, Gate, Closed, Checked, Holds, Loaded, HoldsLoaded, Sole, Labels, IsWellTyped, Fine, RegisterOf, In, CellOf, Base, IsLoaded, World, ObjectState, WinOk, in_ref, base_of, has_returned, length_at, lang_of, is_freed, Built, Live, first_world, Effect, changes_objects, objects_now, State, IsSmall, StageStands, GateStands, StopStands, BuildsAt, OnHold, base_of_cell, number_in, IsOn, WasLoaded, Keeps, CodeBegins, CellsAreThere, PointersAreThere, ne_eq, eq_refl, is_below, set_here}, Gates.{LoadedStands, loaded_still, links_still, takes_loaded, unloaded}, Single.{single, rests_hold}, Stands.{live_slot, granules_low, gate, sole_ref, live_ref}, Tables.{header_at, header_in, header_of, elements_in_stage, told_other, told_made, was_live, length_kept}, Writes.writes, Finds.finds, Carried.{put_other, put_same}}
+use Rattle.sharc_code.specs.Runs.{step_of, state_after}
 
 -- ---- changed functions
 put_all : {A : Type 0} (P : ℕ → A → Type 0) (f : ℕ → A) (i : ℕ) (v : A) → P i v → ((j : ℕ) → (j ≡ i → ⊥) → P j (f j)) → (j : ℕ) → P j (put f i v j)
@@ -94,13 +83,13 @@ pub record Consists (x : Targets) (code : Code) (s : Shape) (ls : Labels) (run :
   pub paths : (t : ℕ) → IsConsistent code s (begun code s t) (elements_before code s t run) (founds_of (turns_of t run))
 
 takes_single : (i : Instr) → takes_loaded i ≡ true → single i ≡ true
-takes_single (instrs.ChkLockLoaded site) e = refl
-takes_single (instrs.Load r c site) e = refl
-takes_single (instrs.Store r c site) e = refl
-takes_single (instrs.LoadRef c site) e = refl
-takes_single (instrs.Exchange r c site) e = refl
-takes_single (instrs.RaiseLoaded r) e = refl
-takes_single (instrs.TakeCell r c site) e = refl
+takes_single (Instr.ChkLockLoaded site) e = refl
+takes_single (Instr.Load r c site) e = refl
+takes_single (Instr.Store r c site) e = refl
+takes_single (Instr.LoadRef c site) e = refl
+takes_single (Instr.Exchange r c site) e = refl
+takes_single (Instr.RaiseLoaded r) e = refl
+takes_single (Instr.TakeCell r c site) e = refl
 takes_single _ e = absurd (cc)
 
 module _ (x : Targets) (code : Code) (s : Shape) (ls : Labels) (wt : IsWellTyped x code ls) (fits : Fits code s) (g : Global Machine) (world : World) (st : State x code s ls g world) where
@@ -122,7 +111,7 @@ module _ (x : Targets) (code : Code) (s : Shape) (ls : Labels) (wt : IsWellTyped
     in_free true i e links h = by (instr_at code (g.threads u).at.pc) refl (g.threads u).own.stage refl e
       where
         by : (j : Instr) → instr_at code (g.threads u).at.pc ≡ j → (stage : Stage) → (g.threads u).own.stage ≡ stage → is_freed j stage (g.threads u).at.refs i ≡ true → ⊥
-        by (instrs.Free r layout site) is (Links all) at freed =
+        by (Instr.Free r layout site) is (Links all) at freed =
             let same : i ≡ (g.threads u).at.refs + r = eqb-true i ((g.threads u).at.refs + r) freed in
             let go = links all at in
             let on : g.started u ≡ true = started_of u (λ off. let w = (st.threads u).waits off in let q : Rests ≡ Links all = sym (ap (λ (y : Machine). y.own.stage) w) ∙ at in cc) in
@@ -132,7 +121,7 @@ module _ (x : Targets) (code : Code) (s : Shape) (ls : Labels) (wt : IsWellTyped
             let q : ref (g.threads u) r ≡ n = ap (λ k. slice_index (g.threads u).refs k) (sym same) ∙ h in
             let both : Built u ≡ Built t = sym mine ∙ ap st.heap.state q ∙ built in
             ne (let f : u ≡ t = cc in f)
-        by (instrs.Free r layout site) is _ at freed = absurd (let f : false ≡ true = freed in cc)
+        by (Instr.Free r layout site) is _ at freed = absurd (let f : false ≡ true = freed in cc)
         by _ is stage at freed = absurd (let f : false ≡ true = freed in cc)
 
     -- the window of what was loaded
@@ -187,11 +176,11 @@ module _ (x : Targets) (code : Code) (s : Shape) (ls : Labels) (wt : IsWellTyped
         has
 
   -- ---- the object that a turn makes
-  header_new : (t : ℕ) (stage : Stage) (r count cells site h : ℕ) → StageStands code s st.elements world st.heap g.words t (g.threads t) (instrs.New r count cells site) stage → header_in stage ≡ Some h → st.heap.state h ≡ Built t
+  header_new : (t : ℕ) (stage : Stage) (r count cells site h : ℕ) → StageStands code s st.elements world st.heap g.words t (g.threads t) (Instr.New r count cells site) stage → header_in stage ≡ Some h → st.heap.state h ≡ Built t
   header_new t (Makes v) r count cells site h stands e = at_stage v.stage stands.1 e
     where
       at_stage : (y : NewStage) → BuildsAt g.words st.heap t v y → header_at y ≡ Some h → st.heap.state h ≡ Built t
-      at_stage (news.Length header) b e = let same : header ≡ h = cc in subst (λ k. st.heap.state k ≡ Built t) same b.1
+      at_stage (NewStage.Length header) b e = let same : header ≡ h = cc in subst (λ k. st.heap.state k ≡ Built t) same b.1
       at_stage _ b e = absurd (cc)
   header_new t _ r count cells site h stands e = absurd (cc)
 
@@ -199,7 +188,7 @@ module _ (x : Targets) (code : Code) (s : Shape) (ls : Labels) (wt : IsWellTyped
   header_built t on h e = by (instr_at code (g.threads t).at.pc) refl e
     where
       by : (i : Instr) → instr_at code (g.threads t).at.pc ≡ i → header_of i (g.threads t).own.stage ≡ Some h → st.heap.state h ≡ Built t
-      by (instrs.New r count cells site) is q = header_new t (g.threads t).own.stage r count cells site h (subst (λ i. StageStands code s st.elements world st.heap g.words t (g.threads t) i (g.threads t).own.stage) is ((st.threads t).runs on.0 on.1).stage) q
+      by (Instr.New r count cells site) is q = header_new t (g.threads t).own.stage r count cells site h (subst (λ i. StageStands code s st.elements world st.heap g.words t (g.threads t) i (g.threads t).own.stage) is ((st.threads t).runs on.0 on.1).stage) q
       by _ is q = absurd (cc)
 
   pub built_low : (h t : ℕ) → st.heap.state h ≡ Built t → (h < granules s) × (h < 2 ^ 32)
@@ -255,19 +244,19 @@ module _ (laws : RunLaws) (keeps : Keeps) (cells : CellsAreThere) (pointers : Po
       → slice_index (words_now (place_after code s earlier).words one.event) (length_at s n) ≡ elements_in_stage ((place_after code s earlier).threads one.thread).own.stage
   made_word n nz e = by i refl e
     where
-      in_stage : (r count cells site : ℕ) (v : NewView) (y : NewStage) → v.stage ≡ y → (((place_after code s earlier).threads one.thread).own.stage ≡ Makes v) → instr_at code ((place_after code s earlier).threads one.thread).at.pc ≡ instrs.New r count cells site
+      in_stage : (r count cells site : ℕ) (v : NewView) (y : NewStage) → v.stage ≡ y → (((place_after code s earlier).threads one.thread).own.stage ≡ Makes v) → instr_at code ((place_after code s earlier).threads one.thread).at.pc ≡ Instr.New r count cells site
           → v.arguments ≡ (new_state s ((place_after code s earlier).threads one.thread) (elements_of (int ((place_after code s earlier).threads one.thread) count)) cells).arguments → header_at y ≡ Some n
           → slice_index (words_now (place_after code s earlier).words one.event) (length_at s n) ≡ v.arguments.elements
-      in_stage r count cells site v (news.Length header) y_is stage is args q =
+      in_stage r count cells site v (NewStage.Length header) y_is stage is args q =
           let same : header ≡ n = cc in
           let a = v.arguments in
           let word = word_number a (a.first + 2 * n + 1) in
-          let step = Rattle.sharc_heap.specs.Asks.step_of word (ops.Swap a.elements) in
+          let step = Rattle.sharc_heap.specs.Asks.step_of word (WordOp.Swap a.elements) in
           let asked : asked_by (turn code s m) ≡ Some step =
           ap (λ j. asked_by (act code s j m)) is
           ∙ ap (λ y. asked_by (Rattle.sharc_code.specs.Machine.new s m r (elements_of (int m count)) cells site y)) stage
           ∙ ap (λ y. asked_by (asks_new m r site v (turn_of_stage a y))) y_is
-          ∙ ap (λ k. asked_by (asks_new m r site v (turn_of_stage a (news.Length k)))) same in
+          ∙ ap (λ k. asked_by (asks_new m r site v (turn_of_stage a (NewStage.Length k)))) same in
           let set : slice_index (words_now g.words one.event) word ≡ a.elements = after_set g.words one.event step (may.next.asks ∙ asked) may.answered in
           let low = (built_low x code s ls wt fits g h.world h.state n t (headed n nz e)).0 in
           let f : a.first ≡ first_cell s = ap (λ (a : NewArguments). a.first) args in
@@ -277,21 +266,21 @@ module _ (laws : RunLaws) (keeps : Keeps) (cells : CellsAreThere) (pointers : Po
           ap (slice_index (words_now g.words one.event)) (sym word_is) ∙ set
       in_stage r count cells site v _ y_is stage is args q = absurd (cc)
 
-      at_new : (r count cells site : ℕ) → instr_at code ((place_after code s earlier).threads one.thread).at.pc ≡ instrs.New r count cells site → (stage : Stage) → ((place_after code s earlier).threads one.thread).own.stage ≡ stage
-          → StageStands code s h.state.elements h.world h.state.heap (place_after code s earlier).words one.thread ((place_after code s earlier).threads one.thread) (instrs.New r count cells site) stage → header_in stage ≡ Some n
+      at_new : (r count cells site : ℕ) → instr_at code ((place_after code s earlier).threads one.thread).at.pc ≡ Instr.New r count cells site → (stage : Stage) → ((place_after code s earlier).threads one.thread).own.stage ≡ stage
+          → StageStands code s h.state.elements h.world h.state.heap (place_after code s earlier).words one.thread ((place_after code s earlier).threads one.thread) (Instr.New r count cells site) stage → header_in stage ≡ Some n
           → slice_index (words_now (place_after code s earlier).words one.event) (length_at s n) ≡ elements_in_stage stage
       at_new r count cells site is (Makes v) stage stands q = in_stage r count cells site v v.stage refl stage is stands.0 q
       at_new r count cells site is _ stage stands q = absurd (cc)
 
       by : (j : Instr) → instr_at code ((place_after code s earlier).threads one.thread).at.pc ≡ j → header_of j ((place_after code s earlier).threads one.thread).own.stage ≡ Some n
           → slice_index (words_now (place_after code s earlier).words one.event) (length_at s n) ≡ elements_in_stage ((place_after code s earlier).threads one.thread).own.stage
-      by (instrs.New r count cells site) is q = at_new r count cells site is m.own.stage refl
+      by (Instr.New r count cells site) is q = at_new r count cells site is m.own.stage refl
           (subst (λ j. StageStands code s h.state.elements h.world h.state.heap g.words t m j m.own.stage) is ((h.state.threads t).runs on.0 on.1).stage) q
       by _ is q = absurd (cc)
 
-  pub given : (r site : ℕ) → i ≡ instrs.Give r site → (h.world.obj (ref ((place_after code s earlier).threads one.thread) r)).live ≡ true
+  pub given : (r site : ℕ) → i ≡ Instr.Give r site → (h.world.obj (ref ((place_after code s earlier).threads one.thread) r)).live ≡ true
   given r site e =
-      let hold = rests_hold code s h.state.elements h.world h.state.heap g.words t m (instrs.Give r site) m.own.stage refl (subst (λ j. StageStands code s h.state.elements h.world h.state.heap g.words t m j m.own.stage) e ((h.state.threads t).runs on.0 on.1).stage) in
+      let hold = rests_hold code s h.state.elements h.world h.state.heap g.words t m (Instr.Give r site) m.own.stage refl (subst (λ j. StageStands code s h.state.elements h.world h.state.heap g.words t m j m.own.stage) e ((h.state.threads t).runs on.0 on.1).stage) in
       let f = subst (Fine x code ls m.at.pc (ls.at m.at.pc)) e (wt.fine m.at.pc) in
       live_ref x code s ls wt fits g h.world h.state t on hold r (sole_ref x code s ls wt fits g h.world h.state t on hold r true f.0)
 

@@ -1,13 +1,6 @@
 -- What cells hold by the events of a run, and as words.
-use Rattle.std.proofs.{Common.{◌≡◌, ℕ, ℤ, pos, negsuc, suc, ◌+◌, ◌-◌, ◌*◌, ◌^◌, ◌<◌, ◌⊎◌, Bool, true, false, cond, ◌∷◌, reverse, Some, sym, ap, ◌∙◌, subst, arith, ltb-true}, lemmas.Bool.Decides.nat_tests}
-use Rattle.std.specs.Prelude.{slice_index, find, nat_lt}
-use Rattle.sharc_tree.specs.{declared.event.CellAt.CellAt, declared.event.SourceEvent.SourceEvent}
-use Rattle.sharc_ctype.specs.Resolved.{Resolution}
-use Rattle.sharc_code.specs.{declared.code.Code.Code, declared.instr.Width.Width, declared.instr.Width.TheVariants.{Char, Int, Long}, declared.shape.Shape.Shape, Arithmetic.{word_of, int_of, holds, value_bits}, Machine.Machine, Runs.Global, Says.reference}
-use Rattle.sharc_compile.specs.Consistent.{Elements}
-use Rattle.sharc_meaning.specs.Store.{changes, value_left, value_by, value_after, initial_value}
-use Rattle.sharc_invariant.specs.{Types.{Targets, ObjectType, Content, Pointer, field_in}, Labels.{Labels, Number, Anything, Exactly, Within, Indexes, OfElement, OfGlobal, Narrower, LessNumber}, Typed.IsWellTyped, World.World, Words.cell_at, State.NumberStands}
-use Rattle.sharc_history_laws.proofs.{Emptying.IsEmptied, Lists.{Newest, latest_is}, Locked.{Names, names_one}, OneMode.place_of, Shared.number_of, Sparing.is_value}
+use Rattle.sharc_history_laws.proofs.{Imports.{◌≡◌, ℕ, ℤ, pos, negsuc, suc, ◌+◌, ◌-◌, ◌*◌, ◌^◌, ◌<◌, ◌⊎◌, Bool, true, false, cond, ◌∷◌, reverse, Some, sym, ap, ◌∙◌, subst, arith, ltb-true, nat_tests, slice_index, find, nat_lt, CellAt, SourceEvent, Resolution, Code, Width, Char, Int, Long, Shape, word_of, int_of, holds, value_bits, Machine, Global, reference, Elements, changes, value_left, value_by, value_after, initial_value, Targets, ObjectType, Content, Pointer, field_in, Labels, Number, Anything, Exactly, Within, Indexes, OfElementCell as OfElement, OfGlobal, Narrower, LessNumber, IsWellTyped, World, NumberStands}, Emptying.IsEmptied, Lists.{Newest, latest_is}, Locked.{Names, names_one}, OneMode.place_of, Shared.number_of, Sparing.is_value}
+use Rattle.sharc_invariant.specs.Words.{cell_at}
 
 -- ---- values by the events, the newest event first
 abbrev pub newest_value : Resolution → Newest → CellAt → ℤ

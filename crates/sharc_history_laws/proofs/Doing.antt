@@ -1,14 +1,7 @@
 -- What a turn does to the access table of its thread and whether it stops the thread at the check of an access.
-use Rattle.std.proofs.{Common.{◌≡◌, ℕ, zero, suc, ◌+◌, ◌<◌, ◌⊎◌, inl, inr, Bool, true, false, length, List, [], ◌∷◌, Option, Some, None, is_some, if◌then◌else◌, refl, sym, ap, ◌∙◌, ⊎_elim, arith}, lemmas.Bool.cases_eq, lemmas.Bool.Decides.nat_tests, lemmas.List.get_or-set_other}
-use Rattle.std.specs.Prelude.{slice_index, slice_index_or, slice_set, nat_lt, ◌==◌}
-use Rattle.sharc_heap.specs.{declared.shadow_word.Kind.Kind, declared.shadow_word.Kind.TheVariants.{Read, Write}, declared.access_table.Note.Note, declared.access_table.GranuleNotes.GranuleNotes, Notes.{blank, of_kind, with_note}, Accesses.{Accesses, note_of, site_at}, ShadowWord.epoch_of, Functions.{bits_of, conflicts_in, noted}}
-use Rattle.sharc_word.specs.declared.step.WordOp.TheVariants as ops
-use Rattle.sharc_code.specs.{declared.code.Code.Code, declared.instr.Cell.Cell, declared.instr.Instr.Instr, declared.shape.Shape.Shape, declared.state.ConflictAt.ConflictAt, declared.state.Stage.Stage, declared.state.Stage.TheVariants.{Clears, FreeClears, WithdrawsFrom}, declared.state.Stop.TheVariants.Conflict, Layout.{granules, first_shadow, granule_at, granule_of, shadow_word}, Outcomes.{TurnsComeOut, check_of}, Machine.{Machine, Own, instr_at, act, place, ref, row_of, checked, stopped, with_own, wrote, step_of}, Path.{turn, after, may_go, asked_by}, Runs.{Turn, Global, MayTurn, after_turn, state_now, result_of}, Whole.{one_thread, bounds}}
-use Rattle.sharc_code.specs.declared.instr.Instr.TheVariants as instrs
+use Rattle.sharc_history_laws.proofs.{Imports.{◌≡◌, ℕ, zero, suc, ◌+◌, ◌<◌, ◌⊎◌, inl, inr, Bool, true, false, length, List, [], ◌∷◌, Option, Some, None, is_some, if◌then◌else◌, refl, sym, ap, ◌∙◌, ⊎_elim, arith, cases_eq, nat_tests, get_or-set_other, slice_index, slice_index_or, slice_set, nat_lt, ◌==◌, Kind, Read, Write, Note, GranuleNotes, blank, of_kind, note_of, site_at, epoch_of, bits_of, conflicts_in, noted, WordOp, Code, Cell, Instr, Shape, ConflictAt, Stage, Clears, FreeClears, WithdrawsFrom, Conflict, granules, first_shadow, granule_at, granule_of, shadow_word, TurnsComeOut, check_of, Machine, Own, instr_at, act, place, ref, row_of, checked, stopped, with_own, wrote, step_of, turn, after, may_go, asked_by, Turn, Global, MayTurn, after_turn, state_now, result_of, one_thread, bounds, Touch, Untouched, CheckOf, WithdrawOf, cleared_by, freed_by, withdrawn_by, touch_of, touch_at, yes}, Consists.found_is, Outcomes.{is_access_check, is_check, tabled, reports}, Rules.put_same}
+use Rattle.sharc_heap.specs.{Notes.with_note, Accesses.Accesses}
 use Rattle.sharc_code.specs.Machine as machines
-use Rattle.sharc_invariant.specs.{Bits.{Touch, Untouched, CheckOf, WithdrawOf, cleared_by, freed_by, withdrawn_by, touch_of}, Reports.touch_at}
-use Rattle.sharc_history_laws.proofs.{Consists.found_is, Outcomes.{is_access_check, is_check, tabled, reports}, Rules.put_same}
-use Rattle.sharc_lemmas.proofs.Bools.{yes}
 
 -- ---- tables
 set_most : (xs : List GranuleNotes) (q : ℕ) (v : GranuleNotes) → (slice_index_or (slice_set xs q v) q blank ≡ v) ⊎ (slice_index_or (slice_set xs q v) q blank ≡ slice_index_or xs q blank)
@@ -141,11 +134,11 @@ exit_no s m found (WithdrawsFrom row seen) = elim (found == seen) as (λ b. IsNo
 exit_no s m found _ = tt
 
 no_check : (s : Shape) (i : Instr) (m : Machine) (found : ℕ) (m' : Machine) → is_access_check i ≡ false → IsNoCheck (touch_of s i m found m')
-no_check s (instrs.ChkRead c site) m found m' e = absurd (yes e)
-no_check s (instrs.ChkWrite c site) m found m' e = absurd (yes e)
-no_check s (instrs.Clear r count) m found m' e = clear_no s (ref m r) m.own.stage
-no_check s (instrs.Free r layout site) m found m' e = free_no s (ref m r) m.own.stage
-no_check s instrs.Exit m found m' e = exit_no s m found m.own.stage
+no_check s (Instr.ChkRead c site) m found m' e = absurd (yes e)
+no_check s (Instr.ChkWrite c site) m found m' e = absurd (yes e)
+no_check s (Instr.Clear r count) m found m' e = clear_no s (ref m r) m.own.stage
+no_check s (Instr.Free r layout site) m found m' e = free_no s (ref m r) m.own.stage
+no_check s Instr.Exit m found m' e = exit_no s m found m.own.stage
 no_check s _ m found m' e = tt
 
 -- the check of a cell of this granule
@@ -196,10 +189,10 @@ module _ (outs : TurnsComeOut) (code : Code) (s : Shape) (g : Global Machine) (t
     abbrev result : Bool → ℕ → Machine
     result b v = if b then stopped (g.threads tr.thread) (Conflict record { kind = kind; site = site; granule = q; epoch = epoch_of v; old = v }) else with_own (g.threads tr.thread) (machines.with_note (g.threads tr.thread).own q kind (epoch_of v) site)
 
-    checks : i ≡ check_of kind c site → touch_of s i m found m' ≡ CheckOf kind q (may_go m'.at.state) → after (turn code s m) found ≡ checked m kind q site found → asked_by (turn code s m) ≡ Some (step_of (shadow_word s (granule_of (place m c))) (ops.Or (bits_of m.own.number kind)))
+    checks : i ≡ check_of kind c site → touch_of s i m found m' ≡ CheckOf kind q (may_go m'.at.state) → after (turn code s m) found ≡ checked m kind q site found → asked_by (turn code s m) ≡ Some (step_of (shadow_word s (granule_of (place m c))) (WordOp.Or (bits_of m.own.number kind)))
         → Does s words m i (touch_of s i m found m') m'
     checks is touched then_ asked =
-        let step = step_of (shadow_word s (granule_of (place m c))) (ops.Or (bits_of m.own.number kind)) in
+        let step = step_of (shadow_word s (granule_of (place m c))) (WordOp.Or (bits_of m.own.number kind)) in
         let found_q : found ≡ words q = found_is g.words tr.event step (may.next.asks ∙ asked) may.answered in
         let now : m' ≡ checked m kind q site (words q) = now_is ∙ then_ ∙ ap (checked m kind q site) found_q in
         let at : IsCheckAt s m i kind q site = record { cell = c; is = is; granule = refl; low = granule_low s (granule_of (place m c)) } in
@@ -216,8 +209,8 @@ module _ (outs : TurnsComeOut) (code : Code) (s : Shape) (g : Global Machine) (t
       yes (sym (is_check d.kind k.0 d.site) ∙ ap is_access_check (sym k.1) ∙ other))
 
   by_instr : (j : Instr) → i ≡ j → Does s words m i (touch_of s i m found m') m'
-  by_instr (instrs.ChkRead c site) is = checks Read c site is (ap (λ j. touch_of s j m found m') is) (ap (λ j. after (act code s j m) found) is) (ap (λ j. asked_by (act code s j m)) is)
-  by_instr (instrs.ChkWrite c site) is = checks Write c site is (ap (λ j. touch_of s j m found m') is) (ap (λ j. after (act code s j m) found) is) (ap (λ j. asked_by (act code s j m)) is)
+  by_instr (Instr.ChkRead c site) is = checks Read c site is (ap (λ j. touch_of s j m found m') is) (ap (λ j. after (act code s j m) found) is) (ap (λ j. asked_by (act code s j m)) is)
+  by_instr (Instr.ChkWrite c site) is = checks Write c site is (ap (λ j. touch_of s j m found m') is) (ap (λ j. after (act code s j m) found) is) (ap (λ j. asked_by (act code s j m)) is)
   by_instr j is = plain (ap is_access_check is)
 
   pub does : Does s (λ q. slice_index g.words (first_shadow + q)) (g.threads tr.thread) (instr_at code (g.threads tr.thread).at.pc) (touch_at code s g tr) ((after_turn bounds (one_thread code s) g tr).threads tr.thread)

@@ -1,8 +1,5 @@
 -- An object whose pointer cells a Free empties: the thread goes on with it until the object is gone.
-use Rattle.std.proofs.{Common.{◌≡◌, ℕ, zero, suc, ◌+◌, ◌*◌, ◌⊎◌, inl, inr, min, Bool, true, false, ◌||◌, nat_lt, Some, if◌then◌else◌, refl, sym, ap, ◌∙◌, subst, ⊎_elim}, lemmas.Bool.cases_eq}
-use Rattle.sharc_code.specs.{declared.code.Code.Code, declared.code.Layout.Layout, declared.shape.Shape.Shape, declared.state.Stage.Stage, declared.state.Stage.TheVariants.{Empties, Lowers, FreeLooks, FreeClears, Uncounts}, Machine.{Machine, instr_at, ref, act, free, layout_at, empties, emptied, free_looks, at_stage, data_granules, fields, largest}, Path.{turn, after, may_go}, Runs.{Turn, Global, after_turn, state_now, result_of, words_now, is_started}, Whole.{one_thread, bounds}}
-use Rattle.sharc_code.specs.declared.instr.Instr.TheVariants as instrs
-use Rattle.sharc_history_laws.proofs.{Acts.{freed_at, freed_in}, Rules.{put_same, put_other}}
+use Rattle.sharc_history_laws.proofs.{Imports.{◌≡◌, ℕ, zero, suc, ◌+◌, ◌*◌, ◌⊎◌, inl, inr, min, Bool, true, false, ◌||◌, nat_lt, Some, if◌then◌else◌, refl, sym, ap, ◌∙◌, subst, ⊎_elim, cases_eq, Code, Layout, Shape, Stage, Empties, Lowers, FreeLooks, FreeClears, Uncounts, Machine, instr_at, ref, act, free, layout_at, empties, emptied, free_looks, at_stage, data_granules, fields, largest, turn, after, may_go, Turn, Global, after_turn, state_now, result_of, words_now, is_started, one_thread, bounds, Instr}, Acts.{freed_at, freed_in}, Rules.{put_same, put_other}}
 
 abbrev pub is_emptying : Stage → Bool
 is_emptying (Empties i all) = true
@@ -17,7 +14,7 @@ pub record IsFreeing (code : Code) (m : Machine) (o : ℕ) : Type 0 where
   pub register : ℕ
   pub layout : ℕ
   pub site : ℕ
-  pub is_free : instr_at code m.at.pc ≡ instrs.Free register layout site
+  pub is_free : instr_at code m.at.pc ≡ Instr.Free register layout site
   pub emptying : is_emptying m.own.stage ≡ true
   pub object : ref m register ≡ o
   pub on : may_go m.at.state ≡ true

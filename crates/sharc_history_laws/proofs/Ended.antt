@@ -1,15 +1,5 @@
 -- A thread that is gone by the events has ended.
-use Rattle.std.proofs.{Common.{◌≡◌, ℕ, pos, ◌⊎◌, ◌↔◌, Bool, true, false, ◌&&◌, List, [], ◌∷◌, Option, Some, None, refl, sym, ap, ◌∙◌, subst, ⊎_elim, arith, eqb-true}, lemmas.Bool.{cases_eq, false_from_ne_true as unset, true_from_ne_false as some_true}}
-use Rattle.std.specs.Prelude.{slice_index}
-use Rattle.sharc_tree.specs.declared.event.SourceEvent.{SourceEvent}
-use Rattle.sharc_code.specs.{declared.code.Code.Code, declared.instr.Instr.Instr, declared.shape.Shape.Shape, declared.state.TurnState.TheVariants.Ended, Laws.RunLaws, Layout.{Fits, state_word}, Machine.{Machine, instr_at, act, exit}, Opening.opening_words, Outcomes.is_exit, Path.{turn, after, may_go}, Runs.{Turn, Global, IsRun, opening_of, result_of, state_now}, Says.said, Whole.{one_thread, bounds, place_after}}
-use Rattle.sharc_code.specs.declared.instr.Instr.TheVariants as instrs
-use Rattle.sharc_compile.specs.{Consistent.said_now, OfRuns.table_of}
-use Rattle.sharc_meaning.specs.Store.{is_gone, is_natural, went}
-use Rattle.sharc_invariant.specs.{Labels.Labels, Laws.{Keeps, Begins as CodeBegins, CellsAreThere, PointersAreThere, AccessesAreAllowed}, State.IsSmall, Typed.IsWellTyped, Types.Targets}
-use Rattle.sharc_history_laws.specs.History.{history_of}
-use Rattle.sharc_history_laws.proofs.{Acts.thread_said, Broken.{AllOf, all_reverse, none_any}, Consists.consists, Leaving.{gone_said, not_gone, leaves_at}, Lists.Newest, Rules.{pushed, newest, newest_now, about_now, number_is, put_same, put_other}}
-use Rattle.sharc_lemmas.proofs.Bools.{yes}
+use Rattle.sharc_history_laws.proofs.{Imports.{◌≡◌, ℕ, pos, ◌⊎◌, ◌↔◌, Bool, true, false, ◌&&◌, List, [], ◌∷◌, Option, Some, None, refl, sym, ap, ◌∙◌, subst, ⊎_elim, arith, eqb-true, cases_eq, not_true as unset, not_false as some_true, slice_index, SourceEvent, Code, Instr, Shape, Ended, RunLaws, Fits, state_word, Machine, instr_at, act, exit, opening_words, is_exit, turn, after, may_go, Turn, Global, IsRun, opening_of, result_of, state_now, said, one_thread, bounds, place_after, said_now, table_of, is_gone, is_natural, went, Labels, Keeps, CodeBegins, CellsAreThere, PointersAreThere, AccessesAreAllowed, IsSmall, IsWellTyped, Targets, history_of, yes}, Acts.thread_said, Broken.{AllOf, all_reverse, none_any}, Consists.consists, Leaving.{gone_said, not_gone, leaves_at}, Lists.Newest, Rules.{pushed, newest, newest_now, about_now, number_is, put_same, put_other}}
 
 -- the event says that thread n is gone
 abbrev GoneBy : ℕ → SourceEvent → Bool
@@ -50,7 +40,7 @@ module _ (cell_laws : CellsAreThere) (pointers : PointersAreThere) (rights : Acc
         (cases_eq n one.thread)
 
     ends_now : (j : Instr) → i ≡ j → is_exit j ≡ true → (elements : ℕ) → gone_said (said code j ((place_after code s earlier).threads one.thread) found elements) ≡ true → (after (act code s j ((place_after code s earlier).threads one.thread)) found).at.state ≡ Ended
-    ends_now instrs.Exit is e elements q = ap (λ y. (after (exit s m y) found).at.state) (leaves_at code m m.own.stage q)
+    ends_now Instr.Exit is e elements q = ap (λ y. (after (exit s m y) found).at.state) (leaves_at code m m.own.stage q)
     ends_now _ is e elements q = absurd (yes (sym e))
 
     calm : (e : SourceEvent) → event ≡ Some e → GoneBy n e ≡ false

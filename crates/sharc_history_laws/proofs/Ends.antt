@@ -1,12 +1,7 @@
 -- What a report may name by the notes and stops at the end of a run is what it may name by those that were there when the check was refused.
-use Rattle.std.proofs.{Common.{◌≡◌, ℕ, ◌≢◌, true, false, List, [], ◌∷◌, ◌++◌, Option, Some, None, refl, sym, ap, ◌∙◌, subst, ⊎_elim}, lemmas.Bool.cases_eq}
-use Rattle.sharc_heap.specs.{declared.shadow_word.Kind.Kind, declared.shadow_word.Kind.TheVariants.{Read, Write}, Accesses.{note_of, site_at}, ShadowWord.{epoch_of, is_of, is_written, stands, Conflicts}}
-use Rattle.sharc_code.specs.{declared.code.Code.Code, declared.shape.Shape.Shape, declared.state.ConflictAt.ConflictAt, declared.state.Stop.TheVariants.Conflict, Machine.{Machine, wrote}, Runs.{Turn, Global, state_now}, Whole.{one_thread, place_after}}
-use Rattle.sharc_invariant.specs.{Labels.Labels, Types.Targets}
-use Rattle.sharc_history_laws.specs.{Causes.{noted_site, Stood, StoppedThere, IsNamed, OfWrite, OfRead, OfStop, OfFirst, ShowsCause, HasNamed}, Followed.ChecksAreFollowed}
-use Rattle.sharc_history_laws.proofs.{Caused.{Report, the_report, cause, has_named}, Lasting.{epoch_is, note_later, write_before, FoundLater, stop_from, stop_later, stopped_later}, Remaining.{word_at, site_now, StoppedAt, Reason, Writes, Written}, Rules.put_other, Wholes.{TheLaws, Typed, RunOf, whole}}
+use Rattle.sharc_history_laws.proofs.{Imports.{◌≡◌, ℕ, ◌≢◌, true, false, List, [], ◌∷◌, ◌++◌, Option, Some, None, refl, sym, ap, ◌∙◌, subst, ⊎_elim, cases_eq, Kind, Read, Write, note_of, site_at, epoch_of, is_written, stands, Conflicts, Code, Shape, ConflictAt, Conflict, Machine, wrote, Turn, Global, state_now, one_thread, place_after, Labels, Targets, noted_site, Stood, StoppedThere, IsNamed, OfWrite, OfRead, OfStop, OfFirst, ShowsCause, HasNamed, ChecksAreFollowed, yes, some_or}, Caused.{Report, the_report, cause, has_named}, Lasting.{epoch_is, note_later, write_before, FoundLater, stop_from, stop_later, stopped_later}, Remaining.{word_at, site_now, StoppedAt, Reason, Writes, Written}, Rules.put_other, Wholes.{TheLaws, Typed, RunOf, whole}}
+use Rattle.sharc_heap.specs.ShadowWord.{is_of}
 use Rattle.sharc_history_laws.proofs.Remaining as remaining
-use Rattle.sharc_lemmas.proofs.{Bools.yes, Options.some_or}
 
 not_both : (o : Option ℕ) (z : ℕ) → o ≡ None → o ≡ Some z → ⊥
 not_both o z a b = let f : None ≡ Some z = sym a ∙ b in cc

@@ -1,16 +1,6 @@
 -- What a turn of typed code finds is consistent.
-use Rattle.std.proofs.{Common.{◌≡◌, ℕ, zero, suc, ◌+◌, ◌*◌, ◌/◌, ◌<◌, ◌≤◌, ◌≢◌, Bool, true, false, Some, refl, sym, ap, ◌∙◌, subst, ⊎_elim, arith}, Math.Nat.mul-le-mul_right, lemmas.Bool.{cases_eq, cases_lt}, lemmas.Bool.Decides.nat_tests, lemmas.List.Elements.All-contains_itself}
-use Rattle.std.specs.Prelude.{slice_index, slice_index_or, nat_lt, ◌==◌}
-use Rattle.sharc_word.specs.{declared.step.TheConstants.THREADS, declared.step.WordStep.WordStep}
-use Rattle.sharc_heap.specs.{declared.stage.NewStage.NewStage, State.NewView}
-use Rattle.sharc_heap.specs.declared.stage.NewStage.TheVariants as news
-use Rattle.sharc_code.specs.{declared.code.Code.Code, declared.code.Parameter.Parameter, declared.instr.Cell.Cell, declared.instr.Instr.Instr, declared.shape.Shape.Shape, declared.state.Stage.Stage, declared.state.Stage.TheVariants.{Rests, Looks, Clears, Makes, Empties, Lowers, FreeLooks, FreeClears, Uncounts, Links, Names, Hands, Begins, Enters, Withdraws, WithdrawsFrom, Leaves, Wakes}, Arithmetic.word_of, Layout.{Fits, granules, first_cell, cell_of, length_word, function_word, argument_word, state_word}, Machine.{Machine, act, instr_at, ref, int, place, object, word, is_held, is_of_null, function_of}, Path.{turn, asked_by}, Ranges.IsInGlobal, Runs.Global}
-use Rattle.sharc_code.specs.declared.code.Parameter.TheVariants as parameters
-use Rattle.sharc_code.specs.declared.instr.Cell.TheVariants as cells
-use Rattle.sharc_code.specs.declared.instr.Instr.TheVariants as instrs
-use Rattle.sharc_compile.specs.Consistent.{Elements, IsNumber, IsApart, IsThere, IsMutex, IsLock, IsFree, IsHeld, IsLength, IsNewIn, IsNewAt, IsArgument, IsArgumentAt, MayFind}
-use Rattle.sharc_invariant.specs.{Types.{Targets, ObjectType, Field, FieldType, Content, cells_of, field_in, is_pointer, is_mutex, type_at}, Types.Content.Pointer, Labels.{Loaded, OfGlobal, Label, Labels}, Typed.{IsWellTyped, Fine, HasField, HasCell, PointsToMutex}, World.{RegisterOf, ArgumentOf, In, Slot, Cell as CellOf, Loaded as IsLoaded, World, WinOk, in_ref}, Words.{cell_at, length_at, lang_of, if_reference, is_unread, argument_of}, Blocks.{Built, Live}, State.{State, Runs, StageStands, GateStands, NumberStands, BuildsAt, OnHold, object_of_cell, number_in, base_of_cell, refs_at, types_at}, MachineInvariant.IsOn, Laws.CellsAreThere}
-use Rattle.sharc_history_laws.proofs.{Gates.{LoadedStands, no_pending}, Single.{single, rests_hold}, Stands.{register_is, live_slot, live_low, top, gate, known_ref, some_base, there, live_ref, target_ref}}
+use Rattle.sharc_history_laws.proofs.{Imports.{◌≡◌, ℕ, zero, suc, ◌+◌, ◌*◌, ◌/◌, ◌<◌, ◌≤◌, ◌≢◌, Bool, true, false, Some, refl, sym, ap, ◌∙◌, subst, ⊎_elim, arith, mul-le-mul_right, cases_eq, cases_lt, nat_tests, All-contains_itself, slice_index, slice_index_or, nat_lt, ◌==◌, THREADS, WordStep, NewStage, NewView, Code, Parameter, Cell, Instr, Shape, Stage, Rests, Looks, Clears, Makes, Empties, Lowers, FreeLooks, FreeClears, Uncounts, Links, Names, Hands, Begins, Enters, Withdraws, WithdrawsFrom, Leaves, Wakes, word_of, Fits, granules, first_cell, cell_of, length_word, function_word, argument_word, state_word, Machine, act, instr_at, ref, int, place, object, word, is_held, is_of_null, function_of, turn, asked_by, IsInGlobal, Global, Elements, IsNumber, IsApart, IsThere, IsMutex, IsLock, IsFree, IsHeld, IsLength, IsNewIn, IsNewAt, IsArgument, IsArgumentAt, MayFind, Targets, ObjectType, Field, FieldType, Content, cells_of, field_in, is_pointer, is_mutex, type_at, Loaded, OfGlobal, Label, Labels, IsWellTyped, Fine, HasField, HasCell, PointsToMutex, RegisterOf, ArgumentOf, In, Slot, CellOf, IsLoaded, World, WinOk, in_ref, length_at, lang_of, if_reference, is_unread, argument_of, Built, Live, State, Runs, StageStands, GateStands, NumberStands, BuildsAt, OnHold, object_of_cell, number_in, base_of_cell, refs_at, types_at, IsOn, CellsAreThere}, Gates.{LoadedStands, no_pending}, Single.{single, rests_hold}, Stands.{register_is, live_slot, live_low, top, gate, known_ref, some_base, there, live_ref, target_ref}}
+use Rattle.sharc_invariant.specs.{Types.Content.Pointer, Words.cell_at}
 
 module _ (there_laws : CellsAreThere) (x : Targets) (code : Code) (s : Shape) (ls : Labels) (wt : IsWellTyped x code ls) (fits : Fits code s) (g : Global Machine) (world : World) (st : State x code s ls g world) where
   -- what a slot holds has a number of 32 bits
@@ -78,22 +68,22 @@ module _ (there_laws : CellsAreThere) (x : Targets) (code : Code) (s : Shape) (l
         above (suc k) ne = omega arith
 
     pub is_there : (hold : OnHold (g.threads t).own.stage) (c : Cell) (f : Field) → HasField x code here c f → is_of_null (g.threads t) c ≡ false → IsThere code (g.threads t) c
-    is_there hold (cells.Global h p) f k some = let q = k.0 in record { known = q.is; low = q.from; high = q.until }
-    is_there hold (cells.GlobalAt h i) f k some =
+    is_there hold (Cell.Global h p) f k some = let q = k.0 in record { known = q.is; low = q.from; high = q.until }
+    is_there hold (Cell.GlobalAt h i) f k some =
         let nm : NumberStands x st.elements (refs_at (Rattle.sharc_invariant.specs.State.view_of st.elements world t m) m.at.refs) (types_at (Rattle.sharc_invariant.specs.State.view_of st.elements world t m) m.at.refs) rn.names (int m i) (OfGlobal k.0 k.1 k.2 k.3) =
         subst (NumberStands x st.elements (refs_at (Rattle.sharc_invariant.specs.State.view_of st.elements world t m) m.at.refs) (types_at (Rattle.sharc_invariant.specs.State.view_of st.elements world t m) m.at.refs) rn.names (int m i)) k.4 ((top x code s ls wt fits g world st t on hold 0 (suc i)).numbers i (omega arith)) in
         let p = k.0 + nm.0 * k.1 in
         let q = (k.5 nm.0 nm.1).0 in
         let pl : word_of (int m i) ≡ p = ap word_of nm.2 in
         subst (IsInGlobal code.globals.items h) (sym pl) (record { known = q.is; low = q.from; high = q.until })
-    is_there hold (cells.Object r i) f k some = positive (ref m r) some
-    is_there hold (cells.ObjectAt r i) f k some = positive (ref m r) some
+    is_there hold (Cell.Object r i) f k some = positive (ref m r) some
+    is_there hold (Cell.ObjectAt r i) f k some = positive (ref m r) some
 
     pub object_is : (c : Cell) → object (g.threads t) c ≡ object_of_cell (g.threads t) c
-    object_is (cells.Global h p) = refl
-    object_is (cells.GlobalAt h i) = refl
-    object_is (cells.Object r i) = refl
-    object_is (cells.ObjectAt r i) = refl
+    object_is (Cell.Global h p) = refl
+    object_is (Cell.GlobalAt h i) = refl
+    object_is (Cell.Object r i) = refl
+    object_is (Cell.ObjectAt r i) = refl
 
     pub mutex_at : (hold : OnHold (g.threads t).own.stage) (c : Cell) (f : Field) → HasField x code here c f → is_of_null (g.threads t) c ≡ false → IsMutex code s (g.threads t) c
     mutex_at hold c f k some =
@@ -111,10 +101,10 @@ module _ (there_laws : CellsAreThere) (x : Targets) (code : Code) (s : Shape) (l
     some_ref r lt = grind (arith, nat_tests)
 
     lock_at : (hold : OnHold (g.threads t).own.stage) (c : Cell) (f : Field) → HasField x code here c f → IsLock code s (g.threads t) c
-    lock_at hold (cells.Global h p) f k = mutex_at hold (cells.Global h p) f k refl
-    lock_at hold (cells.GlobalAt h i) f k = mutex_at hold (cells.GlobalAt h i) f k refl
-    lock_at hold (cells.Object r i) f k = λ lt. mutex_at hold (cells.Object r i) f k (some_ref r lt)
-    lock_at hold (cells.ObjectAt r i) f k = λ lt. mutex_at hold (cells.ObjectAt r i) f k (some_ref r lt)
+    lock_at hold (Cell.Global h p) f k = mutex_at hold (Cell.Global h p) f k refl
+    lock_at hold (Cell.GlobalAt h i) f k = mutex_at hold (Cell.GlobalAt h i) f k refl
+    lock_at hold (Cell.Object r i) f k = λ lt. mutex_at hold (Cell.Object r i) f k (some_ref r lt)
+    lock_at hold (Cell.ObjectAt r i) f k = λ lt. mutex_at hold (Cell.ObjectAt r i) f k (some_ref r lt)
 
     -- the mutex to which a pointer that was loaded refers
     pub pending_apart : (hold : OnHold (g.threads t).own.stage) (c : Cell) (f : Field) → world.win t ≡ IsLoaded (base_of_cell (g.threads t) c) (number_in (g.threads t) c) (g.threads t).pending → HasCell x code here c f → PointsToMutex x f
@@ -143,7 +133,7 @@ module _ (there_laws : CellsAreThere) (x : Targets) (code : Code) (s : Shape) (l
 
     -- ---- a New
     fresh_at : (hold : OnHold (g.threads t).own.stage) → (g.threads t).pending ≡ 0 → (v : NewView) (stage : NewStage) → BuildsAt g.words st.heap t v stage → IsNewIn (g.threads t) stage
-    fresh_at hold none v (news.Length header) h =
+    fresh_at hold none v (NewStage.Length header) h =
         let built : st.heap.state header ≡ Built t = h.1 in
         let no_live : (world.obj header).live ≡ true → header ≢ 0 → ⊥ = λ live nz. let e : Built t ≡ Live = sym built ∙ (st.heap_stands.live header nz).0 live in cc in
         let nzs : st.heap.size header ≢ 0 = λ z. let e = st.heap_stands.kept.blocks.known header z in let f : Built t ≡ Rattle.sharc_invariant.specs.Blocks.Unused = sym built ∙ e in cc in
@@ -158,16 +148,16 @@ module _ (there_laws : CellsAreThere) (x : Targets) (code : Code) (s : Shape) (l
               (λ (z : m.pending ≡ header). let e : header ≡ 0 = sym z ∙ none in omega arith)
               has;
         }
-    fresh_at hold none v news.Begins h = tt
-    fresh_at hold none v news.Link h = tt
-    fresh_at hold none v (news.Cell cell) h = tt
-    fresh_at hold none v news.Top h = tt
-    fresh_at hold none v (news.Move from to) h = tt
-    fresh_at hold none v (news.Count header) h = tt
-    fresh_at hold none v (news.Made header) h = tt
-    fresh_at hold none v news.Full h = tt
+    fresh_at hold none v NewStage.Begins h = tt
+    fresh_at hold none v NewStage.Link h = tt
+    fresh_at hold none v (NewStage.Cell cell) h = tt
+    fresh_at hold none v NewStage.Top h = tt
+    fresh_at hold none v (NewStage.Move from to) h = tt
+    fresh_at hold none v (NewStage.Count header) h = tt
+    fresh_at hold none v (NewStage.Made header) h = tt
+    fresh_at hold none v NewStage.Full h = tt
 
-    new_at : (r count cells site : ℕ) → (g.threads t).pending ≡ 0 → (stage : Stage) → (g.threads t).own.stage ≡ stage → StageStands code s st.elements world st.heap g.words t (g.threads t) (instrs.New r count cells site) stage → IsNewAt (g.threads t) stage
+    new_at : (r count cells site : ℕ) → (g.threads t).pending ≡ 0 → (stage : Stage) → (g.threads t).own.stage ≡ stage → StageStands code s st.elements world st.heap g.words t (g.threads t) (Instr.New r count cells site) stage → IsNewAt (g.threads t) stage
     new_at r count cells site none (Makes v) e h = fresh_at (subst OnHold (sym e) tt) none v v.stage h.1
     new_at r count cells site none _ e h = tt
 
@@ -181,19 +171,19 @@ module _ (there_laws : CellsAreThere) (x : Targets) (code : Code) (s : Shape) (l
         let b : Rattle.sharc_invariant.specs.Words.is_first m.own.stage ≡ true = ap Rattle.sharc_invariant.specs.Words.is_first e ∙ first in
         st.firsts.unread t low_t on.0 (rw (a, b, is_unread) refl)
 
-    start_pc : (site : ℕ) → instr_at code (g.threads t).at.pc ≡ instrs.Start site → (g.threads t).at.pc ≡ 0
-    start_pc site is = ⊎_elim (λ (z : m.at.pc ≡ 0). z) (λ z. let e : instrs.Start site ≡ instrs.Exit = sym is ∙ z in absurd (cc)) (wt.placed m.at.pc (fine (instrs.Start site) is).1)
+    start_pc : (site : ℕ) → instr_at code (g.threads t).at.pc ≡ Instr.Start site → (g.threads t).at.pc ≡ 0
+    start_pc site is = ⊎_elim (λ (z : m.at.pc ≡ 0). z) (λ z. let e : Instr.Start site ≡ Instr.Exit = sym is ∙ z in absurd (cc)) (wt.placed m.at.pc (fine (Instr.Start site) is).1)
 
     argument_low : (function : ℕ) → (p : Parameter) → (function_of code function).parameter ≡ p → slice_index g.words (function_word t) ≡ function → slice_index g.words (state_word t) ≡ 1 → is_unread (g.threads t) ≡ true
         → (found : ℕ) → found ≡ slice_index g.words (argument_word t) → IsArgument p found
-    argument_low function parameters.Reference e is one unread found found_is =
+    argument_low function Parameter.Reference e is one unread found found_is =
         let a : nat_lt t THREADS ≡ true = let lt = low_t in grind (arith, nat_tests) in
         let b : (slice_index g.words (state_word t) == 1) ≡ true = ap (λ n. n == 1) one in
-        let par : (function_of code (slice_index g.words (function_word t))).parameter ≡ parameters.Reference = ap (λ f. (function_of code f).parameter) is ∙ e in
+        let par : (function_of code (slice_index g.words (function_word t))).parameter ≡ Parameter.Reference = ap (λ f. (function_of code f).parameter) is ∙ e in
         let q : argument_of code g t ≡ slice_index g.words (argument_word t) = rw (a, b, unread, argument_of) (ap (λ p. if_reference p (slice_index g.words (argument_word t))) par) in
         subst IsNumber (st.sim.args t ∙ q ∙ sym found_is) (low_slot (In (ArgumentOf t)))
-    argument_low function parameters.None e is one unread found found_is = tt
-    argument_low function parameters.Int e is one unread found found_is = tt
+    argument_low function Parameter.None e is one unread found found_is = tt
+    argument_low function Parameter.Int e is one unread found found_is = tt
 
     module _ (T : Elements) (tab : (o : ℕ) → o ≢ 0 → (world.obj o).live ≡ true → T o ≡ slice_index g.words (length_at s o)) (pend : LoadedStands ls (g.threads t))
         (found : ℕ) (is_found : (step : WordStep) → asked_by (turn code s (g.threads t)) ≡ Some step → found ≡ slice_index g.words step.word) where
@@ -230,17 +220,17 @@ module _ (there_laws : CellsAreThere) (x : Targets) (code : Code) (s : Shape) (l
           above zero ne = absurd (ne refl)
           above (suc k) ne = omega arith
 
-      start_found : (site : ℕ) → instr_at code (g.threads t).at.pc ≡ instrs.Start site → (stage : Stage) → (g.threads t).own.stage ≡ stage → StageStands code s st.elements world st.heap g.words t (g.threads t) (instrs.Start site) stage → IsArgumentAt code stage found
+      start_found : (site : ℕ) → instr_at code (g.threads t).at.pc ≡ Instr.Start site → (stage : Stage) → (g.threads t).own.stage ≡ stage → StageStands code s st.elements world st.heap g.words t (g.threads t) (Instr.Start site) stage → IsArgumentAt code stage found
       start_found site is (Enters function) e h =
           let at : (argument_word m.own.number) ≡ argument_word t = ap argument_word (st.threads t).has.number in
-          let found_is : found ≡ slice_index g.words (argument_word t) = found_at (instrs.Start site) is (Rattle.sharc_code.specs.Machine.step_of (argument_word m.own.number) Rattle.sharc_word.specs.declared.step.WordOp.TheVariants.Load) (ap (λ y. asked_by (Rattle.sharc_code.specs.Machine.start code m site y)) e) ∙ ap (slice_index g.words) at in
+          let found_is : found ≡ slice_index g.words (argument_word t) = found_at (Instr.Start site) is (Rattle.sharc_code.specs.Machine.step_of (argument_word m.own.number) Rattle.sharc_word.specs.declared.step.WordOp.TheVariants.Load) (ap (λ y. asked_by (Rattle.sharc_code.specs.Machine.start code m site y)) e) ∙ ap (slice_index g.words) at in
           let pc = start_pc site is in
           let a : (m.at.pc == 0) ≡ true = ap (λ n. n == 0) pc in
           let b : Rattle.sharc_invariant.specs.Words.is_first m.own.stage ≡ true = ap Rattle.sharc_invariant.specs.Words.is_first e in
           argument_low function (function_of code function).parameter refl h (unread_is (Enters function) e refl pc) (rw (a, b, is_unread) refl) found found_is
       start_found site is Rests e h =
           let at : (function_word m.own.number) ≡ function_word t = ap function_word (st.threads t).has.number in
-          let found_is : found ≡ slice_index g.words (function_word t) = found_at (instrs.Start site) is (Rattle.sharc_code.specs.Machine.step_of (function_word m.own.number) Rattle.sharc_word.specs.declared.step.WordOp.TheVariants.Load) (ap (λ y. asked_by (Rattle.sharc_code.specs.Machine.start code m site y)) e) ∙ ap (slice_index g.words) at in
+          let found_is : found ≡ slice_index g.words (function_word t) = found_at (Instr.Start site) is (Rattle.sharc_code.specs.Machine.step_of (function_word m.own.number) Rattle.sharc_word.specs.declared.step.WordOp.TheVariants.Load) (ap (λ y. asked_by (Rattle.sharc_code.specs.Machine.start code m site y)) e) ∙ ap (slice_index g.words) at in
           let one = unread_is Rests e refl (start_pc site is) in
           let may = wt.starts (slice_index g.words (function_word t)) (st.begins.function t low_t one) in
           let lt = may.is in omega arith
@@ -265,9 +255,9 @@ module _ (there_laws : CellsAreThere) (x : Targets) (code : Code) (s : Shape) (l
       not_true true h = absurd (h refl)
       not_true false h = refl
 
-      free_at : (c : Cell) (site : ℕ) → instr_at code (g.threads t).at.pc ≡ instrs.Lock c site → found ≡ 0 → IsFree code s (g.threads t) c
+      free_at : (c : Cell) (site : ℕ) → instr_at code (g.threads t).at.pc ≡ Instr.Lock c site → found ≡ 0 → IsFree code s (g.threads t) c
       free_at c site is z =
-          let i = instrs.Lock c site in
+          let i = Instr.Lock c site in
           let f = fine i is in
           let hold = rest i is refl in
           let th = there x code s ls wt fits g world st t on hold there_laws c f.2.0 f.2.1 in
@@ -281,9 +271,9 @@ module _ (there_laws : CellsAreThere) (x : Targets) (code : Code) (s : Shape) (l
             room = rn.room f.1;
           }
 
-      held_at : (r : ℕ) (c : Cell) (site : ℕ) → instr_at code (g.threads t).at.pc ≡ instrs.Unlock r c site → IsHeld code s (g.threads t) c
+      held_at : (r : ℕ) (c : Cell) (site : ℕ) → instr_at code (g.threads t).at.pc ≡ Instr.Unlock r c site → IsHeld code s (g.threads t) c
       held_at r c site is =
-          let i = instrs.Unlock r c site in
+          let i = Instr.Unlock r c site in
           let f = fine i is in
           let hold = rest i is refl in
           record {
@@ -291,9 +281,9 @@ module _ (there_laws : CellsAreThere) (x : Targets) (code : Code) (s : Shape) (l
             own = (subst (GateStands s world t m) f.0 (gate x code s ls wt fits g world st t on hold)).1;
           }
 
-      bounds_at : (r base cells field site : ℕ) → instr_at code (g.threads t).at.pc ≡ instrs.Bounds r base cells field site → IsLength T (ref (g.threads t) base) cells field found
+      bounds_at : (r base cells field site : ℕ) → instr_at code (g.threads t).at.pc ≡ Instr.Bounds r base cells field site → IsLength T (ref (g.threads t) base) cells field found
       bounds_at r base cells field site is =
-          let i = instrs.Bounds r base cells field site in
+          let i = Instr.Bounds r base cells field site in
           let f = fine i is in
           let hold = rest i is refl in
           let nz = known_ref x code s ls wt fits g world st t on hold base f.3 in
@@ -305,27 +295,27 @@ module _ (there_laws : CellsAreThere) (x : Targets) (code : Code) (s : Shape) (l
       points f to e = ap is_pointer e
 
       by_instr : (i : Instr) → instr_at code (g.threads t).at.pc ≡ i → MayFind code s T (g.threads t) found i
-      by_instr (instrs.Bounds r base cells field site) is = bounds_at r base cells field site is
-      by_instr (instrs.LoadRef c site) is =
-          let i = instrs.LoadRef c site in
+      by_instr (Instr.Bounds r base cells field site) is = bounds_at r base cells field site is
+      by_instr (Instr.LoadRef c site) is =
+          let i = Instr.LoadRef c site in
           let f = fine i is in
           subst IsNumber (sym (found_at i is (Rattle.sharc_code.specs.Machine.step_of (word s m c) Rattle.sharc_word.specs.declared.step.WordOp.TheVariants.Load) refl)) (number_cell (rest i is refl) c f.0 f.2.cell (points f.0 f.1 f.3))
-      by_instr (instrs.Exchange r c site) is =
-          let i = instrs.Exchange r c site in
+      by_instr (Instr.Exchange r c site) is =
+          let i = Instr.Exchange r c site in
           let f = fine i is in
           subst IsNumber (sym (found_at i is (Rattle.sharc_code.specs.Machine.step_of (word s m c) (Rattle.sharc_word.specs.declared.step.WordOp.TheVariants.Swap (ref m r))) refl)) (number_cell (rest i is refl) c f.1.0 f.1.2.cell (points f.1.0 f.1.3.to f.1.3.holds))
-      by_instr (instrs.TakeCell r c site) is =
-          let i = instrs.TakeCell r c site in
+      by_instr (Instr.TakeCell r c site) is =
+          let i = Instr.TakeCell r c site in
           let f = fine i is in
           subst IsNumber (sym (found_at i is (Rattle.sharc_code.specs.Machine.step_of (word s m c) (Rattle.sharc_word.specs.declared.step.WordOp.TheVariants.Swap 0)) refl)) (number_cell (rest i is refl) c f.1.0 f.1.2.cell (points f.1.0 f.1.3.to f.1.3.holds))
-      by_instr (instrs.New r count cells site) is = new_at r count cells site (none_loaded (instrs.New r count cells site) is refl) m.own.stage refl (subst (λ i. StageStands code s st.elements world st.heap g.words t m i m.own.stage) is rn.stage)
-      by_instr (instrs.Start site) is = start_found site is m.own.stage refl (subst (λ i. StageStands code s st.elements world st.heap g.words t m i m.own.stage) is rn.stage)
-      by_instr (instrs.ChkHeld c site) is = let i = instrs.ChkHeld c site in let f = fine i is in mutex_cell (rest i is refl) c f.1.0 f.1.1
-      by_instr (instrs.ChkNotHeld c site) is = let i = instrs.ChkNotHeld c site in let f = fine i is in mutex_cell (rest i is refl) c f.1.0 f.1.1
-      by_instr (instrs.ChkLock c site) is = let i = instrs.ChkLock c site in let f = fine i is in lock_at (rest i is refl) c f.1.0 f.1.1
-      by_instr (instrs.ChkLockLoaded site) is = let i = instrs.ChkLockLoaded site in let f = fine i is in λ lt. loaded_apart (rest i is refl) f.0 f.1 f.2 f.3 f.4 lt
-      by_instr (instrs.Lock c site) is = λ z. free_at c site is z
-      by_instr (instrs.Unlock r c site) is = held_at r c site is
+      by_instr (Instr.New r count cells site) is = new_at r count cells site (none_loaded (Instr.New r count cells site) is refl) m.own.stage refl (subst (λ i. StageStands code s st.elements world st.heap g.words t m i m.own.stage) is rn.stage)
+      by_instr (Instr.Start site) is = start_found site is m.own.stage refl (subst (λ i. StageStands code s st.elements world st.heap g.words t m i m.own.stage) is rn.stage)
+      by_instr (Instr.ChkHeld c site) is = let i = Instr.ChkHeld c site in let f = fine i is in mutex_cell (rest i is refl) c f.1.0 f.1.1
+      by_instr (Instr.ChkNotHeld c site) is = let i = Instr.ChkNotHeld c site in let f = fine i is in mutex_cell (rest i is refl) c f.1.0 f.1.1
+      by_instr (Instr.ChkLock c site) is = let i = Instr.ChkLock c site in let f = fine i is in lock_at (rest i is refl) c f.1.0 f.1.1
+      by_instr (Instr.ChkLockLoaded site) is = let i = Instr.ChkLockLoaded site in let f = fine i is in λ lt. loaded_apart (rest i is refl) f.0 f.1 f.2 f.3 f.4 lt
+      by_instr (Instr.Lock c site) is = λ z. free_at c site is z
+      by_instr (Instr.Unlock r c site) is = held_at r c site is
       by_instr _ is = tt
 
       pub finds : MayFind code s T (g.threads t) found (instr_at code (g.threads t).at.pc)

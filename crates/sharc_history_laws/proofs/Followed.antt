@@ -1,19 +1,6 @@
 -- A check of an access is directly before it, so where it passed its thread makes the access next.
-use Rattle.std.proofs.{Common.{◌≡◌, ℕ, ◌+◌, Bool, true, false, List, [], ◌∷◌, ◌++◌, Some, is_some, if◌then◌else◌, refl, sym, ap, ◌∙◌, subst, ⊎_elim, arith}, lemmas.Bool.cases_eq, lemmas.Bool.Decides.nat_tests}
-use Rattle.std.specs.Prelude.{◌==◌, nat_eq}
-use Rattle.sharc_tree.specs.{declared.event.SourceEvent.SourceEvent, declared.event.CellAt.CellAt}
-use Rattle.sharc_tree.specs.declared.event.Act.TheVariants as acts
-use Rattle.sharc_tree.specs.declared.event.Taken.TheVariants as takens
-use Rattle.sharc_heap.specs.{declared.shadow_word.Kind.Kind, declared.shadow_word.Kind.TheVariants.{Read, Write}, Accesses.{note_of, site_at}, ShadowWord.epoch_of, Functions.{conflicts_in, noted}}
-use Rattle.sharc_code.specs.{declared.code.Code.Code, declared.code.PlaceMode.PlaceMode, declared.instr.Cell.Cell, declared.instr.Instr.Instr, declared.shape.Shape.Shape, declared.state.Stage.Stage, declared.state.Stage.TheVariants.{Clears, FreeClears, WithdrawsFrom}, declared.state.Stop.Stop, declared.state.Stop.TheVariants.Conflict, Arithmetic.int_of, Layout.{granule_at, granule_of}, Machine.{Machine, Own, instr_at, act, place, ref, int, row_of, stopped, with_own, with_note, wrote, checked}, Path.{turn, after, may_go}, Runs.{Turn, Global, after_turn, paired, state_now, result_of, turns_of}, Says.{cell_at, mode_of, place_at, said, reference, kind_of}, Whole.{one_thread, bounds, place_after, Erase}}
-use Rattle.sharc_code.specs.declared.code.PlaceMode.TheVariants as places
-use Rattle.sharc_code.specs.declared.instr.Cell.TheVariants as cells
-use Rattle.sharc_code.specs.declared.instr.Instr.TheVariants as instrs
-use Rattle.sharc_meaning.specs.Events.{Access, access_by}
-use Rattle.sharc_invariant.specs.Bits.{Touch, Untouched, CheckOf, WithdrawOf, cleared_by, freed_by, withdrawn_by, touch_of}
-use Rattle.sharc_history_laws.specs.{Conflicts.{site_of_check, IsCheck}, Followed.{Accesses, IsFollowed, ChecksAreFollowed, access_to, access_of, TellsAccess, Follows, IsNext, IsMade, IsOfAccess}}
-use Rattle.sharc_history_laws.proofs.Rules.{put_same, put_other}
-use Rattle.sharc_lemmas.proofs.Bools.{yes}
+use Rattle.sharc_history_laws.proofs.{Imports.{◌≡◌, ℕ, ◌+◌, Bool, true, false, List, [], ◌∷◌, ◌++◌, Some, is_some, if◌then◌else◌, refl, sym, ap, ◌∙◌, subst, ⊎_elim, arith, cases_eq, nat_tests, ◌==◌, nat_eq, SourceEvent, CellAt, Act, Taken, Kind, Read, Write, note_of, site_at, epoch_of, conflicts_in, noted, Code, PlaceMode, Cell, Instr, Shape, Stage, Clears, FreeClears, WithdrawsFrom, Stop, Conflict, int_of, granule_at, granule_of, Machine, Own, instr_at, act, place, ref, int, row_of, stopped, with_own, with_note, wrote, checked, turn, after, may_go, Turn, Global, after_turn, paired, state_now, result_of, turns_of, cell_at, mode_of, place_at, said, reference, kind_of, one_thread, bounds, place_after, Erase, Access, access_by, Touch, Untouched, CheckOf, WithdrawOf, cleared_by, freed_by, withdrawn_by, touch_of, site_of_check, IsCheck, IsFollowed, ChecksAreFollowed, access_to, access_of, TellsAccess, Follows, IsNext, IsMade, IsOfAccess, yes}, Rules.{put_same, put_other}}
+use Rattle.sharc_history_laws.specs.Followed.{Accesses}
 
 -- ---- turns that are checks
 abbrev Parts : Touch → Kind → ℕ → Bool → Type 0
@@ -40,15 +27,15 @@ no_exit s m found _ kind p ok z = z
 
 -- the turn of this instruction, after which the machine is that one, is a check
 pub data IsCheckBy (s : Shape) (m m' : Machine) (kind : Kind) (p : ℕ) (ok : Bool) (i : Instr) : Type 0 where
-  OfRead : (c : Cell) (site : ℕ) → i ≡ instrs.ChkRead c site → kind ≡ Read → p ≡ granule_at s (granule_of (place m c)) → ok ≡ may_go m'.at.state → IsCheckBy s m m' kind p ok i
-  OfWrite : (c : Cell) (site : ℕ) → i ≡ instrs.ChkWrite c site → kind ≡ Write → p ≡ granule_at s (granule_of (place m c)) → ok ≡ may_go m'.at.state → IsCheckBy s m m' kind p ok i
+  OfRead : (c : Cell) (site : ℕ) → i ≡ Instr.ChkRead c site → kind ≡ Read → p ≡ granule_at s (granule_of (place m c)) → ok ≡ may_go m'.at.state → IsCheckBy s m m' kind p ok i
+  OfWrite : (c : Cell) (site : ℕ) → i ≡ Instr.ChkWrite c site → kind ≡ Write → p ≡ granule_at s (granule_of (place m c)) → ok ≡ may_go m'.at.state → IsCheckBy s m m' kind p ok i
 
 check_of : (s : Shape) (i : Instr) (m : Machine) (found : ℕ) (m' : Machine) (kind : Kind) (p : ℕ) (ok : Bool) → Parts (touch_of s i m found m') kind p ok → IsCheckBy s m m' kind p ok i
-check_of s (instrs.ChkRead c site) m found m' kind p ok h = OfRead c site refl (sym h.0) (sym h.1) (sym h.2)
-check_of s (instrs.ChkWrite c site) m found m' kind p ok h = OfWrite c site refl (sym h.0) (sym h.1) (sym h.2)
-check_of s (instrs.Clear r cells) m found m' kind p ok h = absurd (no_clear s (ref m r) m.own.stage kind p ok h)
-check_of s (instrs.Free r layout site) m found m' kind p ok h = absurd (no_free s (ref m r) m.own.stage kind p ok h)
-check_of s instrs.Exit m found m' kind p ok h = absurd (no_exit s m found m.own.stage kind p ok h)
+check_of s (Instr.ChkRead c site) m found m' kind p ok h = OfRead c site refl (sym h.0) (sym h.1) (sym h.2)
+check_of s (Instr.ChkWrite c site) m found m' kind p ok h = OfWrite c site refl (sym h.0) (sym h.1) (sym h.2)
+check_of s (Instr.Clear r cells) m found m' kind p ok h = absurd (no_clear s (ref m r) m.own.stage kind p ok h)
+check_of s (Instr.Free r layout site) m found m' kind p ok h = absurd (no_free s (ref m r) m.own.stage kind p ok h)
+check_of s Instr.Exit m found m' kind p ok h = absurd (no_exit s m found m.own.stage kind p ok h)
 check_of s _ m found m' kind p ok h = absurd h
 
 pub check_by : (s : Shape) (i : Instr) (m : Machine) (found : ℕ) (m' : Machine) (kind : Kind) (p : ℕ) (ok : Bool) → touch_of s i m found m' ≡ CheckOf kind p ok → IsCheckBy s m m' kind p ok i
@@ -69,20 +56,20 @@ checked_is m kind granule site found go =
 
 module _ (code : Code) (m : Machine) (own : Own) where
   same_cell : (c : Cell) → cell_at code (with_own m own) c ≡ cell_at code m c
-  same_cell (cells.Global g p) = refl
-  same_cell (cells.GlobalAt g r) = refl
-  same_cell (cells.Object r p) = refl
-  same_cell (cells.ObjectAt r i) = refl
+  same_cell (Cell.Global g p) = refl
+  same_cell (Cell.GlobalAt g r) = refl
+  same_cell (Cell.Object r p) = refl
+  same_cell (Cell.ObjectAt r i) = refl
 
   same_mode : (at : CellAt) (mode : PlaceMode) → mode_of code (with_own m own) at mode ≡ mode_of code m at mode
-  same_mode at places.Private = refl
-  same_mode at places.Readonly = refl
-  same_mode at places.Racy = refl
-  same_mode at places.Dynamic = refl
-  same_mode at (places.LockedGlobal g p) = refl
-  same_mode at (places.LockedSibling f mutex) = refl
-  same_mode at (places.LockedThrough r p) = refl
-  same_mode at places.LockedLoaded = refl
+  same_mode at PlaceMode.Private = refl
+  same_mode at PlaceMode.Readonly = refl
+  same_mode at PlaceMode.Racy = refl
+  same_mode at PlaceMode.Dynamic = refl
+  same_mode at (PlaceMode.LockedGlobal g p) = refl
+  same_mode at (PlaceMode.LockedSibling f mutex) = refl
+  same_mode at (PlaceMode.LockedThrough r p) = refl
+  same_mode at PlaceMode.LockedLoaded = refl
 
   same_access : (c : Cell) (site : ℕ) (write : Bool) → access_to code (with_own m own) c site write ≡ access_to code m c site write
   same_access c site write =
@@ -94,14 +81,14 @@ module _ (code : Code) (m : Machine) (own : Own) where
 -- ---- the access that an instruction makes
 module _ (code : Code) (m : Machine) (c : Cell) (site : ℕ) where
   read_is : (i : Instr) → Accesses false c site i → access_of code m i ≡ Some (access_to code m c site false)
-  read_is (instrs.Load r d at) h = ap (λ d. Some (access_to code m d at false)) (sym h.0) ∙ ap (λ at. Some (access_to code m c at false)) (sym h.1)
-  read_is (instrs.LoadRef d at) h = ap (λ d. Some (access_to code m d at false)) (sym h.0) ∙ ap (λ at. Some (access_to code m c at false)) (sym h.1)
+  read_is (Instr.Load r d at) h = ap (λ d. Some (access_to code m d at false)) (sym h.0) ∙ ap (λ at. Some (access_to code m c at false)) (sym h.1)
+  read_is (Instr.LoadRef d at) h = ap (λ d. Some (access_to code m d at false)) (sym h.0) ∙ ap (λ at. Some (access_to code m c at false)) (sym h.1)
   read_is _ h = absurd h
 
   write_is : (i : Instr) → Accesses true c site i → access_of code m i ≡ Some (access_to code m c site true)
-  write_is (instrs.Store r d at) h = ap (λ d. Some (access_to code m d at true)) (sym h.0) ∙ ap (λ at. Some (access_to code m c at true)) (sym h.1)
-  write_is (instrs.Exchange r d at) h = ap (λ d. Some (access_to code m d at true)) (sym h.0) ∙ ap (λ at. Some (access_to code m c at true)) (sym h.1)
-  write_is (instrs.TakeCell r d at) h = ap (λ d. Some (access_to code m d at true)) (sym h.0) ∙ ap (λ at. Some (access_to code m c at true)) (sym h.1)
+  write_is (Instr.Store r d at) h = ap (λ d. Some (access_to code m d at true)) (sym h.0) ∙ ap (λ at. Some (access_to code m c at true)) (sym h.1)
+  write_is (Instr.Exchange r d at) h = ap (λ d. Some (access_to code m d at true)) (sym h.0) ∙ ap (λ at. Some (access_to code m c at true)) (sym h.1)
+  write_is (Instr.TakeCell r d at) h = ap (λ d. Some (access_to code m d at true)) (sym h.0) ∙ ap (λ at. Some (access_to code m c at true)) (sym h.1)
   write_is _ h = absurd h
 
   pub accessed_is : (write : Bool) (i : Instr) → Accesses write c site i → access_of code m i ≡ Some (access_to code m c site write)
@@ -121,29 +108,29 @@ module _ (code : Code) (m : Machine) (found elements : ℕ) (c : Cell) (site : �
   moved i d at write e f k = subst (λ at. Tells code m i found elements at (access_to code m c at write)) (sym f) (subst (λ d. Tells code m i found elements at (access_to code m d at write)) (sym e) k)
 
   read_told : (i : Instr) → Accesses false c site i → Tells code m i found elements site (access_to code m c site false)
-  read_told (instrs.Load r d at) h = moved (instrs.Load r d at) d at false h.0 h.1
-      (record { event = record { thread = m.own.number; site = (place_at code at).site; answer = int_of found; act = acts.Read (cell_at code m d) (mode_of code m (cell_at code m d) (place_at code at).mode) }; told = refl; thread = refl; at = refl; is = refl })
-  read_told (instrs.LoadRef d at) h = moved (instrs.LoadRef d at) d at false h.0 h.1
-      (record { event = record { thread = m.own.number; site = (place_at code at).site; answer = reference found elements; act = acts.Read (cell_at code m d) (mode_of code m (cell_at code m d) (place_at code at).mode) }; told = refl; thread = refl; at = refl; is = refl })
+  read_told (Instr.Load r d at) h = moved (Instr.Load r d at) d at false h.0 h.1
+      (record { event = record { thread = m.own.number; site = (place_at code at).site; answer = int_of found; act = Act.Read (cell_at code m d) (mode_of code m (cell_at code m d) (place_at code at).mode) }; told = refl; thread = refl; at = refl; is = refl })
+  read_told (Instr.LoadRef d at) h = moved (Instr.LoadRef d at) d at false h.0 h.1
+      (record { event = record { thread = m.own.number; site = (place_at code at).site; answer = reference found elements; act = Act.Read (cell_at code m d) (mode_of code m (cell_at code m d) (place_at code at).mode) }; told = refl; thread = refl; at = refl; is = refl })
   read_told _ h = absurd h
 
   write_told : (i : Instr) → Accesses true c site i → Tells code m i found elements site (access_to code m c site true)
-  write_told (instrs.Store r d at) h = moved (instrs.Store r d at) d at true h.0 h.1 (record {
-    event = record { thread = m.own.number; site = (place_at code at).site; answer = Rattle.std.specs.Prelude.pos 0; act = acts.Write (cell_at code m d) (mode_of code m (cell_at code m d) (place_at code at).mode) (int m r) };
+  write_told (Instr.Store r d at) h = moved (Instr.Store r d at) d at true h.0 h.1 (record {
+    event = record { thread = m.own.number; site = (place_at code at).site; answer = Rattle.std.specs.Prelude.pos 0; act = Act.Write (cell_at code m d) (mode_of code m (cell_at code m d) (place_at code at).mode) (int m r) };
     told = refl;
     thread = refl;
     at = refl;
     is = refl;
   })
-  write_told (instrs.Exchange r d at) h = moved (instrs.Exchange r d at) d at true h.0 h.1 (record {
-    event = record { thread = m.own.number; site = (place_at code at).site; answer = Rattle.std.specs.Prelude.pos 0; act = acts.Write (cell_at code m d) (mode_of code m (cell_at code m d) (place_at code at).mode) (reference (ref m r) elements) };
+  write_told (Instr.Exchange r d at) h = moved (Instr.Exchange r d at) d at true h.0 h.1 (record {
+    event = record { thread = m.own.number; site = (place_at code at).site; answer = Rattle.std.specs.Prelude.pos 0; act = Act.Write (cell_at code m d) (mode_of code m (cell_at code m d) (place_at code at).mode) (reference (ref m r) elements) };
     told = refl;
     thread = refl;
     at = refl;
     is = refl;
   })
-  write_told (instrs.TakeCell r d at) h = moved (instrs.TakeCell r d at) d at true h.0 h.1 (record {
-    event = record { thread = m.own.number; site = (place_at code at).site; answer = reference found elements; act = acts.Take (takens.Cell (cell_at code m d) (mode_of code m (cell_at code m d) (place_at code at).mode)) (kind_of (place_at code at).at) };
+  write_told (Instr.TakeCell r d at) h = moved (Instr.TakeCell r d at) d at true h.0 h.1 (record {
+    event = record { thread = m.own.number; site = (place_at code at).site; answer = reference found elements; act = Act.Take (Taken.Cell (cell_at code m d) (mode_of code m (cell_at code m d) (place_at code at).mode)) (kind_of (place_at code at).at) };
     told = refl;
     thread = refl;
     at = refl;
@@ -250,7 +237,7 @@ module _ (code : Code) (s : Shape) (followed : ChecksAreFollowed code) (check : 
   abbrev checker' : Machine
   checker' = (after_turn bounds (one_thread code s) (place_after code s earlier) check).threads check.thread
 
-  module _ (kind : Kind) (p : ℕ) (c : Cell) (site : ℕ) (write : Bool) (dynamic : (place_at code site).mode ≡ places.Dynamic) (next : Accesses write c site (instr_at code (((place_after code s earlier).threads check.thread).at.pc + 1)))
+  module _ (kind : Kind) (p : ℕ) (c : Cell) (site : ℕ) (write : Bool) (dynamic : (place_at code site).mode ≡ PlaceMode.Dynamic) (next : Accesses write c site (instr_at code (((place_after code s earlier).threads check.thread).at.pc + 1)))
       (is : after (turn code s ((place_after code s earlier).threads check.thread)) (result_of check.event) ≡ checked ((place_after code s earlier).threads check.thread) kind p site (result_of check.event)) where
     of_access : (later : List Turn) (ok : Bool) → ok ≡ may_go checker'.at.state → IsOfAccess code s later check earlier check.thread site ok
     of_access later ok goes = record {
@@ -265,19 +252,19 @@ module _ (code : Code) (s : Shape) (followed : ChecksAreFollowed code) (check : 
           follows code s check earlier c site write number next own (note_number checker.own p kind (epoch_of found) site) now later;
     }
 
-  site_same : (c : Cell) (at site : ℕ) → i ≡ instrs.ChkRead c at → site_of_check i ≡ Some site → at ≡ site
+  site_same : (c : Cell) (at site : ℕ) → i ≡ Instr.ChkRead c at → site_of_check i ≡ Some site → at ≡ site
   site_same c at site e is = let f : Some at ≡ Some site = sym (ap site_of_check e) ∙ is in cc
 
-  write_site : (c : Cell) (at site : ℕ) → i ≡ instrs.ChkWrite c at → site_of_check i ≡ Some site → at ≡ site
+  write_site : (c : Cell) (at site : ℕ) → i ≡ Instr.ChkWrite c at → site_of_check i ≡ Some site → at ≡ site
   write_site c at site e is = let f : Some at ≡ Some site = sym (ap site_of_check e) ∙ is in cc
 
   by_parts : (later : List Turn) (kind : Kind) (p site : ℕ) (ok : Bool) → site_of_check i ≡ Some site → IsCheckBy s checker checker' kind p ok i → IsOfAccess code s later check earlier check.thread site ok
   by_parts later kind p site ok at (OfRead c own is kind_is granule goes) =
-      let f : IsFollowed code (instrs.ChkRead c own) (instr_at code (checker.at.pc + 1)) = subst (λ j. IsFollowed code j (instr_at code (checker.at.pc + 1))) is (followed checker.at.pc) in
+      let f : IsFollowed code (Instr.ChkRead c own) (instr_at code (checker.at.pc + 1)) = subst (λ j. IsFollowed code j (instr_at code (checker.at.pc + 1))) is (followed checker.at.pc) in
       subst (λ site. IsOfAccess code s later check earlier check.thread site ok) (site_same c own site is at)
       (of_access Read (granule_at s (granule_of (place checker c))) c own false f.0 f.1 (ap (λ j. after (act code s j checker) (result_of check.event)) is) later ok goes)
   by_parts later kind p site ok at (OfWrite c own is kind_is granule goes) =
-      let f : IsFollowed code (instrs.ChkWrite c own) (instr_at code (checker.at.pc + 1)) = subst (λ j. IsFollowed code j (instr_at code (checker.at.pc + 1))) is (followed checker.at.pc) in
+      let f : IsFollowed code (Instr.ChkWrite c own) (instr_at code (checker.at.pc + 1)) = subst (λ j. IsFollowed code j (instr_at code (checker.at.pc + 1))) is (followed checker.at.pc) in
       subst (λ site. IsOfAccess code s later check earlier check.thread site ok) (write_site c own site is at)
       (of_access Write (granule_at s (granule_of (place checker c))) c own true f.0 f.1 (ap (λ j. after (act code s j checker) (result_of check.event)) is) later ok goes)
 

@@ -1,10 +1,5 @@
 -- Where a reference was loaded and is not raised the place's gate says so, and a Free that is to put its block into a list goes on.
-use Rattle.std.proofs.Common.{◌≡◌, ℕ, zero, suc, ◌+◌, ◌⊎◌, inl, inr, Bool, true, false, List, refl, sym, ap, ◌∙◌, subst, ⊎_elim}
-use Rattle.std.specs.Prelude.{◌==◌}
-use Rattle.sharc_code.specs.{declared.code.Code.Code, declared.instr.Cell.Cell, declared.instr.Instr.Instr, declared.instr.Instr.TheVariants.{Move, ComputeInt, ComputeLong, Complement, ChkWidth, ChkLockLoaded, Load, Store, LoadRef, Exchange, RaiseLoaded, TakeCell, Clear, Give, Free, Unlock, CondEnter}, declared.shape.Shape.Shape, declared.state.Stage.TheVariants.{Links, Rests}, Layout.{cell_of, cell_word}, Machine.{Machine, act, goes, accessed, set_ref, raise, is_held, lock_checked, free, layout_at, instr_at}, Outcomes.{TurnsComeOut, is_load}, Path.{turn, after, may_go}}
-use Rattle.sharc_invariant.specs.{Types.Targets, Labels.{Closed, Holds, Sole, Label, Labels}, Typed.Fine, World.World, Blocks.Heap, State.{StageStands, OnFree}, MachineInvariant.WasLoaded}
-use Rattle.sharc_history_laws.proofs.Outcomes.{loaded_or_gone, links_on}
-use Rattle.sharc_lemmas.proofs.Bools.{yes}
+use Rattle.sharc_history_laws.proofs.{Imports.{◌≡◌, ℕ, zero, suc, ◌+◌, ◌⊎◌, inl, inr, Bool, true, false, List, refl, sym, ap, ◌∙◌, subst, ⊎_elim, ◌==◌, Code, Cell, Instr, Move, ComputeInt, ComputeLong, Complement, ChkWidth, ChkLockLoaded, Load, Store, LoadRef, Exchange, RaiseLoaded, TakeCell, Clear, Give, Free, Unlock, CondEnter, Shape, Links, Rests, cell_of, cell_word, Machine, act, goes, accessed, set_ref, raise, is_held, lock_checked, free, layout_at, instr_at, TurnsComeOut, is_load, turn, after, may_go, Targets, Closed, Holds, Sole, Label, Labels, Fine, World, Heap, StageStands, OnFree, WasLoaded, yes}, Outcomes.{loaded_or_gone, links_on}}
 
 -- ---- what was loaded
 closed : (l : Label) → l.gate ≡ Closed → WasLoaded l.gate → ⊥

@@ -1,16 +1,6 @@
 -- What a thread was given to begin with, its function and its argument, no turn writes once the thread is started.
-use Rattle.std.proofs.{Common.{◌≡◌, ℕ, ℤ, pos, negsuc, zero, suc, ◌+◌, ◌*◌, ◌<◌, ◌≤◌, ◌≢◌, true, false, nat_lt, List, Option, Some, None, if◌then◌else◌, refl, sym, ap, ◌∙◌, subst, arith}, lemmas.List.get_or-set_other}
-use Rattle.std.specs.Prelude.{slice_index}
-use Rattle.sharc_tree.specs.declared.trap.Trap.TheVariants as traps
-use Rattle.sharc_word.specs.{declared.step.TheConstants.THREADS, declared.step.WordOp.WordOp, declared.step.WordStep.WordStep, declared.step.WordEvent.WordEvent, Words.{word_after, words_after_step}}
-use Rattle.sharc_word.specs.declared.step.WordOp.TheVariants as ops
-use Rattle.sharc_heap.specs.{State.{NewView, told}, Asks.word_number, Stages.turn_of_stage, declared.arguments.NewArguments.NewArguments, declared.stage.NewStage.NewStage}
-use Rattle.sharc_heap.specs.declared.stage.NewStage.TheVariants as news
-use Rattle.sharc_code.specs.{declared.code.Code.Code, declared.code.Layout.Layout, declared.instr.Register.Register, declared.instr.Instr.Instr, declared.shape.Shape.Shape, declared.state.Stage.Stage, declared.state.Stage.TheVariants.{Looks, Clears, Makes, Empties, Lowers, FreeLooks, FreeClears, Uncounts, Links, Names, Hands, Begins, Enters, Withdraws, WithdrawsFrom, Leaves as Leaving, Wakes}, Layout.{words_of, cell_word, shadow_word, count_word, length_word, first_cell, first_shadow, state_word, function_word, argument_word}, Machine.{Machine, Turn as Act, Local, Asks, step_of, act, int, ref, word, place, raise, lower, test, new, asks_new, new_state, elements_of, clear, free, layout_at, spawn, join, start, exit, signal, joined, trapped, instr_at}, Path.{turn, asked_by}, Runs.words_now}
-use Rattle.sharc_code.specs.declared.instr.Instr.TheVariants as instrs
+use Rattle.sharc_history_laws.proofs.{Imports.{◌≡◌, ℕ, ℤ, pos, negsuc, zero, suc, ◌+◌, ◌*◌, ◌<◌, ◌≤◌, ◌≢◌, true, false, nat_lt, List, Option, Some, None, if◌then◌else◌, refl, sym, ap, ◌∙◌, subst, arith, get_or-set_other, slice_index, Trap, THREADS, WordOp, WordStep, WordEvent, word_after, words_after_step, NewView, told, word_number, turn_of_stage, NewArguments, NewStage, Code, Layout, Register, Instr, Shape, Stage, Looks, Clears, Makes, Empties, Lowers, FreeLooks, FreeClears, Uncounts, Links, Names, Hands, Begins, Enters, Withdraws, WithdrawsFrom, Leaves as Leaving, Wakes, words_of, cell_word, shadow_word, count_word, length_word, first_cell, first_shadow, state_word, function_word, argument_word, Machine, StepTurn as Act, Local, Asks, step_of, act, int, ref, word, place, raise, lower, test, new, asks_new, new_state, elements_of, clear, free, layout_at, spawn, join, start, exit, signal, joined, trapped, instr_at, turn, asked_by, words_now, World, Heap, StageStands}, Tables.step_leaves}
 use Rattle.sharc_code.specs.Runs as Runs
-use Rattle.sharc_invariant.specs.{World.World, Blocks.Heap, State.StageStands}
-use Rattle.sharc_history_laws.proofs.Tables.{step_leaves}
 
 -- a step that leaves its word, or is on another than these two of thread n
 pub data SparesGiven (n : ℕ) (step : WordStep) : Type 0 where
@@ -68,7 +58,7 @@ module _ (s : Shape) (n : ℕ) (few : n < THREADS) where
   to_clear m h cells _ = Leaves (λ v. refl)
 
   to_join : (m : Machine) (z : ℤ) (site : ℕ) → K (join m z site)
-  to_join m (pos k) site = elim (nat_lt k THREADS) as (λ b. K (if b then Asks (step_of (state_word k) ops.Load) (joined m site) else Local (trapped m traps.NoSuchThread site))) [
+  to_join m (pos k) site = elim (nat_lt k THREADS) as (λ b. K (if b then Asks (step_of (state_word k) WordOp.Load) (joined m site) else Local (trapped m Trap.NoSuchThread site))) [
     | true ↦ Leaves (λ v. refl)
     | false ↦ tt
   ]
@@ -104,61 +94,61 @@ module _ (s : Shape) (n : ℕ) (few : n < THREADS) where
   ]
 
   to_stage : (m : Machine) (r site : ℕ) (v : NewView) (stage : NewStage) → v.arguments.first ≡ first_cell s → K (asks_new m r site v (turn_of_stage v.arguments stage))
-  to_stage m r site v news.Begins e = tt
-  to_stage m r site v news.Link e = Leaves (λ v. refl)
-  to_stage m r site v (news.Cell cell) e = number_of_block (v.arguments.first + 2 * v.arguments.head + 2 + cell) _ v.arguments (omega arith)
-  to_stage m r site v news.Top e = Leaves (λ v. refl)
-  to_stage m r site v (news.Move top moved) e = first 1 _ (omega arith)
-  to_stage m r site v (news.Count header) e = number_of_block (v.arguments.first + 2 * header) _ v.arguments (omega arith)
-  to_stage m r site v (news.Length header) e = number_of_block (v.arguments.first + 2 * header + 1) _ v.arguments (omega arith)
-  to_stage m r site v (news.Made header) e = tt
-  to_stage m r site v news.Full e = tt
+  to_stage m r site v NewStage.Begins e = tt
+  to_stage m r site v NewStage.Link e = Leaves (λ v. refl)
+  to_stage m r site v (NewStage.Cell cell) e = number_of_block (v.arguments.first + 2 * v.arguments.head + 2 + cell) _ v.arguments (omega arith)
+  to_stage m r site v NewStage.Top e = Leaves (λ v. refl)
+  to_stage m r site v (NewStage.Move top moved) e = first 1 _ (omega arith)
+  to_stage m r site v (NewStage.Count header) e = number_of_block (v.arguments.first + 2 * header) _ v.arguments (omega arith)
+  to_stage m r site v (NewStage.Length header) e = number_of_block (v.arguments.first + 2 * header + 1) _ v.arguments (omega arith)
+  to_stage m r site v (NewStage.Made header) e = tt
+  to_stage m r site v NewStage.Full e = tt
 
   -- ---- the turn of a thread
   module _ (code : Code) (elements : ℕ → ℕ) (w : World) (heap : Heap) (words : List ℕ) (t : ℕ) (m : Machine) (started : slice_index words (state_word n) ≢ 0) where
     abbrev Here : Instr → Type 0
     Here i = StageStands code s elements w heap words t m i m.own.stage
 
-    to_new : (r count cells site : ℕ) (stage : Stage) → StageStands code s elements w heap words t m (instrs.New r count cells site) stage → K (new s m r (elements_of (int m count)) cells site stage)
+    to_new : (r count cells site : ℕ) (stage : Stage) → StageStands code s elements w heap words t m (Instr.New r count cells site) stage → K (new s m r (elements_of (int m count)) cells site stage)
     to_new r count cells site (Makes v) h = to_stage m r site v v.stage (ap (λ (a : NewArguments). a.first) h.0)
     to_new r count cells site _ h = let a = new_state s m (elements_of (int m count)) cells in to_stage m r site (told a 0) (told a 0).stage refl
 
     -- a thread that is being spawned is another
-    to_spawn : (r f site : ℕ) (from : Register) (stage : Stage) → StageStands code s elements w heap words t m (instrs.Spawn r f from site) stage → K (spawn m r f from site stage)
+    to_spawn : (r f site : ℕ) (from : Register) (stage : Stage) → StageStands code s elements w heap words t m (Instr.Spawn r f from site) stage → K (spawn m r f from site stage)
     to_spawn r f site from (Names k) h = Elsewhere (λ e. let same : k ≡ n = omega arith in started (ap (λ k. slice_index words (state_word k)) (sym same) ∙ h.state)) (λ e. omega arith)
     to_spawn r f site from (Hands k) h = Elsewhere (λ e. omega arith) (λ e. let same : k ≡ n = omega arith in started (ap (λ k. slice_index words (state_word k)) (sym same) ∙ h.0.state))
     to_spawn r f site from (Begins k) h = state k _
     to_spawn r f site from _ h = first 2 _ (omega arith)
 
     by_instr : (i : Instr) → Here i → K (act code s i m)
-    by_instr (instrs.Bounds r base count field site) h = Leaves (λ v. refl)
-    by_instr (instrs.ChkRead c site) h = of_shadow _ _
-    by_instr (instrs.ChkWrite c site) h = of_shadow _ _
-    by_instr (instrs.Load r c site) h = Leaves (λ v. refl)
-    by_instr (instrs.Store r c site) h = of_cell (place m c) _
-    by_instr (instrs.LoadRef c site) h = Leaves (λ v. refl)
-    by_instr (instrs.Exchange r c site) h = of_cell (place m c) _
-    by_instr (instrs.Raise r from) h = to_raise (ref m from) _
-    by_instr (instrs.RaiseLoaded r) h = to_raise m.pending _
-    by_instr (instrs.Lower r) h = to_lower (ref m r) _
-    by_instr (instrs.New r count cells site) h = to_new r count cells site m.own.stage h
-    by_instr (instrs.TakeCell r c site) h = of_cell (place m c) _
-    by_instr (instrs.TakeLocal r from site) h = to_test (ref m from) _
-    by_instr (instrs.TestSole r site) h = of_count (ref m r) _
-    by_instr (instrs.Clear r cells) h = to_clear m (ref m r) cells m.own.stage
-    by_instr (instrs.Give r site) h = of_count (ref m r) _
-    by_instr (instrs.Free r layout site) h = to_free code m r (layout_at code layout) m.own.stage
-    by_instr (instrs.Lock c site) h = of_cell (place m c) _
-    by_instr (instrs.Unlock r c site) h = of_cell (place m c) _
-    by_instr (instrs.Spawn r f from site) h = to_spawn r f site from m.own.stage h
-    by_instr (instrs.Join r site) h = to_join m (int m r) site
-    by_instr (instrs.Print r site) h = first 3 _ (omega arith)
-    by_instr (instrs.Start site) h = to_start code m site m.own.stage
-    by_instr instrs.Exit h = to_exit m m.own.stage
-    by_instr (instrs.CondEnter c site) h = of_cell (place m c) _
-    by_instr (instrs.CondWait c site) h = Leaves (λ v. refl)
-    by_instr (instrs.CondSignal c site) h = to_signal m (place m c) m.own.stage
-    by_instr (instrs.CondBroadcast c site) h = of_cell (place m c) _
+    by_instr (Instr.Bounds r base count field site) h = Leaves (λ v. refl)
+    by_instr (Instr.ChkRead c site) h = of_shadow _ _
+    by_instr (Instr.ChkWrite c site) h = of_shadow _ _
+    by_instr (Instr.Load r c site) h = Leaves (λ v. refl)
+    by_instr (Instr.Store r c site) h = of_cell (place m c) _
+    by_instr (Instr.LoadRef c site) h = Leaves (λ v. refl)
+    by_instr (Instr.Exchange r c site) h = of_cell (place m c) _
+    by_instr (Instr.Raise r from) h = to_raise (ref m from) _
+    by_instr (Instr.RaiseLoaded r) h = to_raise m.pending _
+    by_instr (Instr.Lower r) h = to_lower (ref m r) _
+    by_instr (Instr.New r count cells site) h = to_new r count cells site m.own.stage h
+    by_instr (Instr.TakeCell r c site) h = of_cell (place m c) _
+    by_instr (Instr.TakeLocal r from site) h = to_test (ref m from) _
+    by_instr (Instr.TestSole r site) h = of_count (ref m r) _
+    by_instr (Instr.Clear r cells) h = to_clear m (ref m r) cells m.own.stage
+    by_instr (Instr.Give r site) h = of_count (ref m r) _
+    by_instr (Instr.Free r layout site) h = to_free code m r (layout_at code layout) m.own.stage
+    by_instr (Instr.Lock c site) h = of_cell (place m c) _
+    by_instr (Instr.Unlock r c site) h = of_cell (place m c) _
+    by_instr (Instr.Spawn r f from site) h = to_spawn r f site from m.own.stage h
+    by_instr (Instr.Join r site) h = to_join m (int m r) site
+    by_instr (Instr.Print r site) h = first 3 _ (omega arith)
+    by_instr (Instr.Start site) h = to_start code m site m.own.stage
+    by_instr Instr.Exit h = to_exit m m.own.stage
+    by_instr (Instr.CondEnter c site) h = of_cell (place m c) _
+    by_instr (Instr.CondWait c site) h = Leaves (λ v. refl)
+    by_instr (Instr.CondSignal c site) h = to_signal m (place m c) m.own.stage
+    by_instr (Instr.CondBroadcast c site) h = of_cell (place m c) _
     by_instr _ h = tt
 
     pub spares_given : Here (instr_at code m.at.pc) → K (turn code s m)

@@ -1,18 +1,12 @@
 -- The mutexes that a thread holds by a history that grows by one event.
-use Rattle.std.proofs.Common.{◌≡◌, ℕ, Bool, true, false, not, ◌||◌, ◌&&◌, List, [], ◌∷◌, ◌++◌, reverse, Option, Some, None, refl, sym, ap, ◌∙◌, if◌then◌else◌, eqb-true}
-use Rattle.std.specs.{Prelude.{◌==◌}, List.list_any}
-use Rattle.sharc_tree.specs.{declared.event.SourceEvent.SourceEvent, declared.event.CellAt.CellAt, declared.event.Object.Object}
-use Rattle.sharc_tree.specs.declared.event.Object.TheVariants as objects
-use Rattle.sharc_meaning.specs.{Events.{same_object, same_cell, is_cell, locked_by, locks, unlocks, is_of, events_of, unless_unlocked, held_mutexes, holds_mutex}, Obeys.History}
-use Rattle.sharc_history_laws.proofs.{Lists.{Newest, reverse_push}, Sets.own_append}
-use Rattle.sharc_lemmas.proofs.Bools.{both as both_true}
+use Rattle.sharc_history_laws.proofs.{Imports.{◌≡◌, ℕ, Bool, true, false, not, ◌||◌, ◌&&◌, List, [], ◌∷◌, ◌++◌, reverse, Option, Some, None, refl, sym, ap, ◌∙◌, if◌then◌else◌, eqb-true, ◌==◌, list_any, SourceEvent, CellAt, Object, same_object, same_cell, is_cell, locked_by, locks, unlocks, is_of, events_of, unless_unlocked, held_mutexes, holds_mutex, History, both_true}, Lists.{Newest, reverse_push}, Sets.own_append}
 
 -- ---- cells
 object_eq : (a b : Object) → same_object a b ≡ true → a ≡ b
-object_eq (objects.Global g) (objects.Global h) e = ap objects.Global (eqb-true g h e)
-object_eq (objects.Made g) (objects.Made h) e = ap objects.Made (eqb-true g h e)
-object_eq (objects.Global g) (objects.Made h) e = absurd (let f : false ≡ true = e in cc)
-object_eq (objects.Made g) (objects.Global h) e = absurd (let f : false ≡ true = e in cc)
+object_eq (Object.Global g) (Object.Global h) e = ap Object.Global (eqb-true g h e)
+object_eq (Object.Made g) (Object.Made h) e = ap Object.Made (eqb-true g h e)
+object_eq (Object.Global g) (Object.Made h) e = absurd (let f : false ≡ true = e in cc)
+object_eq (Object.Made g) (Object.Global h) e = absurd (let f : false ≡ true = e in cc)
 
 pub cell_eq : (a b : CellAt) → same_cell a b ≡ true → a ≡ b
 cell_eq a b e =

@@ -1,10 +1,5 @@
 -- An object to which a stopped thread refers is neither cleared, given nor freed by another one.
-use Rattle.std.proofs.{Common.{◌≡◌, ℕ, ◌+◌, ◌*◌, ◌<◌, ◌≢◌, true, false, List, ◌∷◌, Some, None, if◌then◌else◌, refl, sym, ◌∙◌, subst, ⊎_elim}, lemmas.Bool.cases_eq}
-use Rattle.std.specs.Prelude.{◌==◌}
-use Rattle.sharc_code.specs.{declared.code.Code.Code, declared.instr.Instr.Instr, declared.shape.Shape.Shape, declared.state.Stage.Stage, declared.state.Stage.TheVariants.{Clears, FreeClears, Uncounts, WithdrawsFrom}, Layout.granule_at, Machine.{Machine, instr_at, ref, row_of, data_granule}, Runs.{Turn, Global, after_turn, result_of}, Whole.{one_thread, bounds, place_after}}
-use Rattle.sharc_code.specs.declared.instr.Instr.TheVariants as instrs
-use Rattle.sharc_invariant.specs.{Bits.{Untouched, ClearOf, WithdrawOf, cleared_by, freed_by, withdrawn_by, touch_of}, Labels.Labels, MachineInvariant.IsOn, Reports.touch_at, State.{State, StageStands, OnHold}, Types.Targets, World.World}
-use Rattle.sharc_history_laws.proofs.{Acts.{given_at, freed_in, freed_at}, Cleared.{IsAlone, some, live as live_one, no_other, object_one, alone_clear, alone_free, alone_give, clear_inside, free_inside}, Shadows.at_low, Staying.{StillThere, kept, kept_globals}, Wholes.{TheLaws, Typed, RunOf, Whole, fresh_of}}
+use Rattle.sharc_history_laws.proofs.{Imports.{◌≡◌, ℕ, ◌+◌, ◌*◌, ◌<◌, ◌≢◌, true, false, List, ◌∷◌, Some, None, if◌then◌else◌, refl, sym, ◌∙◌, subst, ⊎_elim, cases_eq, ◌==◌, Code, Instr, Shape, Stage, Clears, FreeClears, Uncounts, WithdrawsFrom, granule_at, Machine, instr_at, ref, row_of, data_granule, Turn, Global, after_turn, result_of, one_thread, bounds, place_after, Untouched, ClearOf, WithdrawOf, cleared_by, freed_by, withdrawn_by, touch_of, Labels, IsOn, touch_at, State, StageStands, OnHold, Targets, World}, Acts.{given_at, freed_in, freed_at}, Cleared.{IsAlone, some, live as live_one, no_other, object_one, alone_clear, alone_free, alone_give, clear_inside, free_inside}, Shadows.at_low, Staying.{StillThere, kept, kept_globals}, Wholes.{TheLaws, Typed, RunOf, Whole, fresh_of}}
 
 module _ (laws : TheLaws) (x : Targets) (code : Code) (s : Shape) (ls : Labels) (typed : Typed x code s ls) (one : Turn) (earlier : List Turn) (run : RunOf code s (one ∷ earlier)) (w : Whole x code s ls earlier)
     (o k : ℕ) (live : (w.consists.world.obj o).live ≡ true) (inside : 2 * k < w.consists.state.cells o) (v : ℕ) (ne : v ≢ one.thread) (hold : OnHold ((place_after code s earlier).threads v).own.stage)
@@ -50,15 +45,15 @@ module _ (laws : TheLaws) (x : Targets) (code : Code) (s : Shape) (ls : Labels) 
       ne (no_other laws.run.turns.outcomes laws.shadow laws.state laws.cells laws.pointers x code s ls typed.wt typed.fits g world st one run.1 fresh w.remains t on r alone v q.0 hold (q.1 ∙ sym e))
 
   ungiven : (j : Instr) → i ≡ j → given_at j ((place_after code s earlier).threads one.thread) ≡ Some o → ⊥
-  ungiven (instrs.Give r site) is e = let same : ref m r ≡ o = cc in not_alone r (alone_give laws.run.turns.outcomes laws.shadow laws.state laws.cells laws.pointers x code s ls typed.wt typed.fits g world st one run.1 fresh w.remains t r site on is) same
+  ungiven (Instr.Give r site) is e = let same : ref m r ≡ o = cc in not_alone r (alone_give laws.run.turns.outcomes laws.shadow laws.state laws.cells laws.pointers x code s ls typed.wt typed.fits g world st one run.1 fresh w.remains t r site on is) same
   ungiven _ is e = let f : None ≡ Some o = e in cc
 
-  unfreed_at : (r layout site : ℕ) → i ≡ instrs.Free r layout site → (y : Stage) → ((place_after code s earlier).threads one.thread).own.stage ≡ y → freed_in y (ref ((place_after code s earlier).threads one.thread) r) ≡ Some o → ⊥
+  unfreed_at : (r layout site : ℕ) → i ≡ Instr.Free r layout site → (y : Stage) → ((place_after code s earlier).threads one.thread).own.stage ≡ y → freed_in y (ref ((place_after code s earlier).threads one.thread) r) ≡ Some o → ⊥
   unfreed_at r layout site is (Uncounts all) at e = let same : ref m r ≡ o = cc in not_alone r (alone_free laws.run.turns.outcomes laws.shadow laws.state laws.cells laws.pointers x code s ls typed.wt typed.fits g world st one run.1 fresh w.remains t r layout site (Uncounts all) is at tt) same
   unfreed_at r layout site is _ at e = let f : None ≡ Some o = e in cc
 
   unfreed : (j : Instr) → i ≡ j → freed_at j ((place_after code s earlier).threads one.thread) ≡ Some o → ⊥
-  unfreed (instrs.Free r layout site) is e = unfreed_at r layout site is m.own.stage refl e
+  unfreed (Instr.Free r layout site) is e = unfreed_at r layout site is m.own.stage refl e
   unfreed _ is e = let f : None ≡ Some o = e in cc
 
   -- it stays
@@ -75,17 +70,17 @@ module _ (laws : TheLaws) (x : Targets) (code : Code) (s : Shape) (ls : Labels) 
       let q : h + 1 + done ≡ o + 1 + k = sym (at_low s (h + 1 + done) (st.apart.within h done lives low)) ∙ f in
       not_alone r alone (object_one laws.run.turns.outcomes laws.shadow laws.state laws.cells laws.pointers x code s ls typed.wt typed.fits g world st one run.1 fresh w.remains t on r alone h o done k lives live low inside q)
 
-  by_clear : (r count : ℕ) → i ≡ instrs.Clear r count → (y : Stage) → ((place_after code s earlier).threads one.thread).own.stage ≡ y → cleared_by s (ref ((place_after code s earlier).threads one.thread) r) y ≡ ClearOf (o + 1 + k) → ⊥
+  by_clear : (r count : ℕ) → i ≡ Instr.Clear r count → (y : Stage) → ((place_after code s earlier).threads one.thread).own.stage ≡ y → cleared_by s (ref ((place_after code s earlier).threads one.thread) r) y ≡ ClearOf (o + 1 + k) → ⊥
   by_clear r count is (Clears done all seen) at e =
       let alone = alone_clear laws.run.turns.outcomes laws.shadow laws.state laws.cells laws.pointers x code s ls typed.wt typed.fits g world st one run.1 fresh w.remains t r count (Clears done all seen) is at tt in
-      let h = stage_at (instrs.Clear r count) is (Clears done all seen) at in
+      let h = stage_at (Instr.Clear r count) is (Clears done all seen) at in
       clear_is r done alone (clear_inside laws.run.turns.outcomes laws.shadow laws.state laws.cells laws.pointers x code s ls typed.wt typed.fits g world st one run.1 fresh w.remains t r count on alone is all h.0 done h.1.0) e
   by_clear r count is _ at e = cc
 
-  by_free : (r layout site : ℕ) → i ≡ instrs.Free r layout site → (y : Stage) → ((place_after code s earlier).threads one.thread).own.stage ≡ y → freed_by s (ref ((place_after code s earlier).threads one.thread) r) y ≡ ClearOf (o + 1 + k) → ⊥
+  by_free : (r layout site : ℕ) → i ≡ Instr.Free r layout site → (y : Stage) → ((place_after code s earlier).threads one.thread).own.stage ≡ y → freed_by s (ref ((place_after code s earlier).threads one.thread) r) y ≡ ClearOf (o + 1 + k) → ⊥
   by_free r layout site is (FreeClears done all seen) at e =
       let alone = alone_free laws.run.turns.outcomes laws.shadow laws.state laws.cells laws.pointers x code s ls typed.wt typed.fits g world st one run.1 fresh w.remains t r layout site (FreeClears done all seen) is at tt in
-      let h = stage_at (instrs.Free r layout site) is (FreeClears done all seen) at in
+      let h = stage_at (Instr.Free r layout site) is (FreeClears done all seen) at in
       clear_is r done alone (free_inside laws.run.turns.outcomes laws.shadow laws.state laws.cells laws.pointers x code s ls typed.wt typed.fits g world st one run.1 fresh w.remains t r layout site on alone is all h.0.0 done h.1.0) e
   by_free r layout site is _ at e = cc
 
@@ -97,9 +92,9 @@ module _ (laws : TheLaws) (x : Targets) (code : Code) (s : Shape) (ls : Labels) 
   by_exit found _ e = cc
 
   by : (j : Instr) → i ≡ j → touch_of s j ((place_after code s earlier).threads one.thread) (result_of one.event) m' ≡ ClearOf (o + 1 + k) → ⊥
-  by (instrs.Clear r count) is e = by_clear r count is m.own.stage refl e
-  by (instrs.Free r layout site) is e = by_free r layout site is m.own.stage refl e
-  by instrs.Exit is e = by_exit (result_of one.event) m.own.stage e
+  by (Instr.Clear r count) is e = by_clear r count is m.own.stage refl e
+  by (Instr.Free r layout site) is e = by_free r layout site is m.own.stage refl e
+  by Instr.Exit is e = by_exit (result_of one.event) m.own.stage e
   by _ is e = cc
 
   pub uncleared : touch_at code s (place_after code s earlier) one ≡ ClearOf (o + 1 + k) → ⊥

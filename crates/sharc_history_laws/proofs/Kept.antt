@@ -1,22 +1,7 @@
 -- A mutex that is locked by the events is in a held log; and what a Spawn has given a thread that has had no event is
 -- the argument that it is to read.
-use Rattle.std.proofs.{Common.{◌≡◌, ◌≢◌, ℕ, ℤ, pos, zero, suc, ◌^◌, ◌<◌, ◌≤◌, ◌⊎◌, inl, inr, ⊎_elim, Bool, true, false, not, ◌&&◌, length, List, [], ◌∷◌, ◌++◌, reverse, Some, if◌then◌else◌, refl, sym, ap, ◌∙◌, subst, arith, eqb-true, append_assoc}, lemmas.Bool.{and_parts, cases_lt, or_right}, lemmas.Bool.Decides.nat_tests, lemmas.List.{get_or_append_left, get_or_push, length_push}}
-use Rattle.std.specs.{Prelude.{Any, Contains, slice_index, nat_lt, ◌==◌}, List.list_any}
-use Rattle.sharc_word.specs.declared.step.TheConstants.{THREADS}
-use Rattle.sharc_tree.specs.declared.event.Act.TheVariants as acts
-use Rattle.sharc_tree.specs.{declared.event.CellAt.CellAt, declared.event.Object.Object, declared.event.SourceEvent.SourceEvent}
-use Rattle.sharc_tree.specs.declared.event.Object.TheVariants as objects
-use Rattle.sharc_locks.specs.{declared.held_log.HeldMutex.HeldMutex, HeldLog.object_of}
-use Rattle.sharc_ctype.specs.Resolved.{Resolution}
-use Rattle.sharc_code.specs.{declared.code.Code.Code, declared.shape.Shape.Shape, Layout.{Fits, state_word}, Machine.{function_of, reference_of}, Runs.Turn, Says.{reference, started_with}, Whole.place_after}
-use Rattle.sharc_code.specs.declared.code.Parameter.TheVariants as parameters
-use Rattle.sharc_compile.specs.OfRuns.{table_of}
-use Rattle.sharc_meaning.specs.{Events.events_of, Reference.is_null, References.refers, Store.{IsNewThread, MayCome, is_locked, is_natural, is_spawn, spawns, was_spawned}}
+use Rattle.sharc_history_laws.proofs.{Imports.{◌≡◌, ◌≢◌, ℕ, ℤ, pos, zero, suc, ◌^◌, ◌<◌, ◌≤◌, ◌⊎◌, inl, inr, ⊎_elim, Bool, true, false, not, ◌&&◌, length, List, [], ◌∷◌, ◌++◌, reverse, Some, if◌then◌else◌, refl, sym, ap, ◌∙◌, subst, arith, eqb-true, append_assoc, and_parts, cases_lt, or_right, nat_tests, get_or_append_left, get_or_push, length_push, Any, Contains, slice_index, nat_lt, ◌==◌, list_any, THREADS, Act, CellAt, Object, SourceEvent, HeldMutex, object_of, Resolution, Code, Shape, Fits, state_word, function_of, reference_of, Turn, reference, started_with, place_after, Parameter, table_of, events_of, is_null, refers, IsNewThread, MayCome, is_locked, is_natural, is_spawn, spawns, was_spawned, Targets, Labels, IsWellTyped, ArgumentOf, In, argument_of, if_reference, is_unread, log_refers, CellsAreThere, history_of, is_about_waiters, same_is, is_below as below, yes}, Finds.{low_slot, same_object}, Holding.any_push, Lists.{Newest, reverse_push}, Locked.{IsIn, NamesIn}, Mutual.locked_is, Rules.newest, Started.{Begun, IsStart, SpawnedIn, Unheard, WasGiven, argument_given, function_given, unheard}, Stored.{EachMayCome, Stored}, Threaded.or_left}
 use Rattle.sharc_meaning.specs.Reference as Reference
-use Rattle.sharc_invariant.specs.{Types.Targets, Labels.Labels, Typed.IsWellTyped, World.{ArgumentOf, In}, Words.{argument_of, if_reference, is_unread}, MachineInvariant.log_refers, Laws.CellsAreThere}
-use Rattle.sharc_history_laws.specs.{History.history_of, Stores.is_about_waiters}
-use Rattle.sharc_history_laws.proofs.{Finds.{low_slot, same_object}, Holding.any_push, Lists.{Newest, reverse_push}, Locked.{IsIn, NamesIn}, Mutual.locked_is, Rules.newest, Started.{Begun, IsStart, SpawnedIn, Unheard, WasGiven, argument_given, function_given, unheard}, Stored.{EachMayCome, Stored}, Threaded.or_left}
-use Rattle.sharc_lemmas.proofs.{Numbers.{same_is, is_below as below}, Bools.yes}
 
 -- ---- held logs
 -- an entry is found at its word, where no two of the log are at one
@@ -35,16 +20,16 @@ entry_at (k ∷ log) h is same = by (k.word == h.word) refl (entry_at log h)
         equal : k.word ≡ h.word → (k.word == h.word) ≡ true
         equal q = grind (arith, nat_tests)
 
-named_object : (code : Code) (a : Object) (cell o p at : ℕ) → a ≡ objects.Made o → NamesIn code a cell p at → p ≡ o
-named_object code (objects.Made n) cell o p at is h = let e : n ≡ o = cc in sym h.0 ∙ e
-named_object code (objects.Global g) cell o p at is h = absurd (cc)
+named_object : (code : Code) (a : Object) (cell o p at : ℕ) → a ≡ Object.Made o → NamesIn code a cell p at → p ≡ o
+named_object code (Object.Made n) cell o p at is h = let e : n ≡ o = cc in sym h.0 ∙ e
+named_object code (Object.Global g) cell o p at is h = absurd (cc)
 
 contains : (log : List HeldMutex) (b : HeldMutex) → IsIn b log → Contains log b
 contains [] b is = absurd is
 contains (y ∷ log) b is = ⊎_elim (λ (e : y ≡ b). (0, omega arith, e)) (λ rest. let k = contains log b rest in let lt = k.1 in (suc k.0, omega arith, k.2)) is
 
 pub locked_logged : (cell_laws : CellsAreThere) (x : Targets) (code : Code) (s : Shape) (ls : Labels) (wt : IsWellTyped x code ls) (fits : Fits code s) (r : Resolution)
-    (run : List Turn) → Stored r x code s ls run → (c : CellAt) (o : ℕ) → c.object ≡ objects.Made o → is_locked (history_of code s run) c ≡ true
+    (run : List Turn) → Stored r x code s ls run → (c : CellAt) (o : ℕ) → c.object ≡ Object.Made o → is_locked (history_of code s run) c ≡ true
     → (u : ℕ) × (word : ℕ) × (log_refers (place_after code s run) u word ≡ o)
 locked_logged cell_laws x code s ls wt fits r run k c o is locked =
     let g = place_after code s run in
@@ -65,7 +50,7 @@ locked_logged cell_laws x code s ls wt fits r run k c o is locked =
 -- ---- a thread is spawned once
 abbrev FreshSpawns : Newest → Type 0
 FreshSpawns [] = Unit {0}
-FreshSpawns (e ∷ L) = ((f : ℕ) (v : ℤ) → e.act ≡ acts.Spawn f v → IsNewThread (reverse L) e.answer) × FreshSpawns L
+FreshSpawns (e ∷ L) = ((f : ℕ) (v : ℤ) → e.act ≡ Act.Spawn f v → IsNewThread (reverse L) e.answer) × FreshSpawns L
 
 fresh_spawns : (r : Resolution) (L : Newest) → EachMayCome r (reverse L) → FreshSpawns L
 fresh_spawns r [] all = tt
@@ -87,10 +72,10 @@ was_in (e ∷ L) t f v h = ap (list_any (spawns t)) (reverse_push e L) ∙ any_p
 natural_eq : (k t : ℕ) (z : ℤ) → z ≡ pos k → z ≡ pos t → k ≡ t
 natural_eq k t z a b = let e : pos k ≡ pos t = sym a ∙ b in cc
 
-spawn_eq : (f g : ℕ) (v w : ℤ) → acts.Spawn f v ≡ acts.Spawn g w → (f ≡ g) × (v ≡ w)
+spawn_eq : (f g : ℕ) (v w : ℤ) → Act.Spawn f v ≡ Act.Spawn g w → (f ≡ g) × (v ≡ w)
 spawn_eq f g v w e = (cc, cc)
 
-not_again : (e : SourceEvent) (L : Newest) (t f g : ℕ) (v w : ℤ) → ((f : ℕ) (v : ℤ) → e.act ≡ acts.Spawn f v → IsNewThread (reverse L) e.answer) → IsStart t f v e → SpawnedIn L t g w → ⊥
+not_again : (e : SourceEvent) (L : Newest) (t f g : ℕ) (v w : ℤ) → ((f : ℕ) (v : ℤ) → e.act ≡ Act.Spawn f v → IsNewThread (reverse L) e.answer) → IsStart t f v e → SpawnedIn L t g w → ⊥
 not_again e L t f g v w fresh now was =
     let k = fresh f v now.0 in
     yes (sym (was_in L t g w was) ∙ ap (was_spawned (reverse L)) (sym (natural_eq k.thread t e.answer k.tells now.1)) ∙ k.fresh)
@@ -142,7 +127,7 @@ chosen false b c v e f q = absurd (yes (sym e))
 
 pub spawned_given : (cell_laws : CellsAreThere) (x : Targets) (code : Code) (s : Shape) (ls : Labels) (wt : IsWellTyped x code ls) (fits : Fits code s) (r : Resolution)
     (run : List Turn) → Stored r x code s ls run → Begun x code s ls run → (u f o : ℕ) (v : ℤ) → events_of u (history_of code s run) ≡ [] → Any (IsStart u f v) (history_of code s run)
-    → (function_of code f).parameter ≡ parameters.Reference → refers o v ≡ true → argument_of code (place_after code s run) u ≡ o
+    → (function_of code f).parameter ≡ Parameter.Reference → refers o v ≡ true → argument_of code (place_after code s run) u ≡ o
 spawned_given cell_laws x code s ls wt fits r run k b u f o v none spawned takes is = by given
   where
     L : Newest
@@ -180,7 +165,7 @@ spawned_given cell_laws x code s ls wt fits r run k b u f o v none spawned takes
         let h = function_given g u in
         let a = argument_given g u in
         let same = once (newest code s run) fresh u f h v (started_with (function_of code h).parameter a (T a)) here z.2 in
-        let reads : (function_of code h).parameter ≡ parameters.Reference = ap (λ n. (function_of code n).parameter) (sym same.0) ∙ takes in
+        let reads : (function_of code h).parameter ≡ Parameter.Reference = ap (λ n. (function_of code n).parameter) (sym same.0) ∙ takes in
         let value : v ≡ reference a (T a) = same.1 ∙ ap (λ p. started_with p a (T a)) reads in
         let word : (slice_index g.words (state_word u) == 1) ≡ true = ap (λ n. n == 1) state in
         let argument : argument_of code g u ≡ a = chosen (nat_lt u THREADS) (slice_index g.words (state_word u) == 1) (is_unread (g.threads u)) (if_reference (function_of code h).parameter a) (below u THREADS low) word unread ∙ ap (λ p. if_reference p a) reads in

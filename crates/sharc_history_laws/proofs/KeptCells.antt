@@ -1,15 +1,6 @@
 -- A pointer cell that refers to an object by the events does so by the words, but where a Free empties its object.
-use Rattle.std.proofs.{Common.{◌≡◌, ◌≢◌, ℕ, ◌+◌, ◌*◌, ◌/◌, ◌^◌, ◌<◌, ◌⊎◌, inl, inr, true, cond, ◌&&◌, List, refl, sym, ap, ◌∙◌, subst, ⊎_elim, arith, ltb-true}, lemmas.Bool.and_parts}
-use Rattle.std.specs.Prelude.{slice_index, nat_lt}
-use Rattle.sharc_tree.specs.declared.event.CellAt.{CellAt}
-use Rattle.sharc_ctype.specs.Resolved.{Resolution}
-use Rattle.sharc_code.specs.{declared.code.Code.Code, declared.shape.Shape.Shape, Laws.RunLaws, Layout.{Fits, cell_word, cell_of}, Machine.Machine, Opening.opening_words, Runs.{Turn, Global, IsRun, opening_of}, Says.reference, Whole.{one_thread, bounds, place_after}}
-use Rattle.sharc_compile.specs.OfRuns.{table_of}
-use Rattle.sharc_meaning.specs.{References.refers, Store.value_after}
-use Rattle.sharc_invariant.specs.{Types.{Targets, field_in, is_pointer}, Labels.Labels, Typed.IsWellTyped, World.{Cell as CellOf, ObjectState, World}, State.{State, IsSmall}, Opened.{first_world, first_place}, Objects.objects_after, MachineInvariant.{cells_now, is_pointer_now, cell_refers}, Laws.{Keeps, Begins as CodeBegins, CellsAreThere, PointersAreThere, AccessesAreAllowed, StateStands}}
+use Rattle.sharc_history_laws.proofs.{Imports.{◌≡◌, ◌≢◌, ℕ, ◌+◌, ◌*◌, ◌/◌, ◌^◌, ◌<◌, ◌⊎◌, inl, inr, true, cond, ◌&&◌, List, refl, sym, ap, ◌∙◌, subst, ⊎_elim, arith, ltb-true, and_parts, slice_index, nat_lt, CellAt, Resolution, Code, Shape, RunLaws, Fits, cell_word, cell_of, Machine, opening_words, Turn, Global, IsRun, opening_of, reference, one_thread, bounds, place_after, table_of, refers, value_after, Targets, field_in, is_pointer, Labels, IsWellTyped, CellOf, ObjectState, World, State, IsSmall, first_world, first_place, objects_after, cells_now, is_pointer_now, cell_refers, Keeps, CodeBegins, CellsAreThere, PointersAreThere, AccessesAreAllowed, StateStands, history_of, IsBeingFreed, IsCellIn, BeginsWith}, Contents.{newest_value, value_is, value_held, IsCellOf, content_of, word_of_cell}, Emptying.IsEmptied, Finds.low_slot, Kept.referred, Locked.Names, OneMode.place_of, Rules.newest, SeenCells.{Seen, seen, cell_word_is, cells_are, clears, holds_reference, names, number_is, place_is, pointer_value}, Shared.{number_of, some_closing}, Unemptied.on_hold, Unwritten.emptying}
 use Rattle.sharc_invariant.specs.Words as Words
-use Rattle.sharc_history_laws.specs.{History.history_of, SeenCells.{IsBeingFreed, IsCellIn}, Stores.BeginsWith}
-use Rattle.sharc_history_laws.proofs.{Contents.{newest_value, value_is, value_held, IsCellOf, content_of, word_of_cell}, Emptying.IsEmptied, Finds.low_slot, Kept.referred, Locked.Names, OneMode.place_of, Rules.newest, SeenCells.{Seen, seen, cell_word_is, cells_are, clears, holds_reference, names, number_is, place_is, pointer_value}, Shared.{number_of, some_closing}, Unemptied.on_hold, Unwritten.emptying}
 
 module _ (state_law : StateStands) (cell_laws : CellsAreThere) (x : Targets) (code : Code) (s : Shape) (ls : Labels) (wt : IsWellTyped x code ls) (fits : Fits code s) (r : Resolution)
     (run : List Turn) (k : Seen r x code s ls run) (p i : ℕ) (is : is_pointer_now x s (place_after code s run) k.consists.world.obj p i ≡ true) where

@@ -1,16 +1,5 @@
 -- Which cells are pointers: those that are by the source, and refer to an object by the events, are so by the words.
-use Rattle.std.proofs.{Common.{◌≡◌, ◌≢◌, ℕ, pos, ◌+◌, ◌-◌, ◌*◌, ◌<◌, ◌≤◌, ◌⊎◌, inl, inr, Bool, true, false, ◌&&◌, List, [], ◌∷◌, reverse, Option, Some, None, refl, sym, ap, ◌∙◌, subst, ⊎_elim, arith}, lemmas.Bool.{cases_Bool, cases_lt, lt-ltb}, lemmas.Bool.Decides.nat_tests, lemmas.List.reverse-append}
-use Rattle.std.specs.Prelude.{nat_lt, ◌==◌}
-use Rattle.sharc_tree.specs.declared.event.Object.TheVariants as objects
-use Rattle.sharc_tree.specs.declared.event.SourceEvent.{SourceEvent}
-use Rattle.sharc_ctype.specs.Resolved.{Resolution}
-use Rattle.sharc_code.specs.{declared.code.Code.Code, declared.shape.Shape.Shape, Laws.RunLaws, Layout.Fits, Machine.Machine, Opening.opening_words, Ranges.{IsInGlobal, first_place as first_cell_of}, Runs.{Turn, Global, IsRun, result_of, opening_of}, Whole.{one_thread, bounds, place_after}}
-use Rattle.sharc_compile.specs.{Consistent.said_now, OfRuns.table_of}
-use Rattle.sharc_meaning.specs.{Events.{latest, makes, made_by}, References.refers, Store.{initial_value, is_live, value_after}}
-use Rattle.sharc_invariant.specs.{Types.{Targets, Field, field_in, field_of_cell, global_field, globals_target, is_pointer}, Labels.Labels, Typed.IsWellTyped, World.{ObjectState, World}, State.{IsSmall, State}, Opened.{first_world, first_place}, Objects.objects_after, MachineInvariant.{cells_now, is_pointer_now}, Laws.{Keeps, Begins as CodeBegins, CellsAreThere, PointersAreThere, AccessesAreAllowed, StateStands}}
-use Rattle.sharc_history_laws.specs.{History.history_of, Kept.Grows, Stores.BeginsWith}
-use Rattle.sharc_history_laws.proofs.{Acts.made_said, Consists.{Consists, headed, live_not_built}, Contents.value_is, MadeOf.{MadeInRun, lives_in, made_in, pointers_made, some_made}, Rules.{newest, newest_now, pushed, about_now, decide, number_not}, SeenCells.{Seen, seen, cells_are}}
-use Rattle.sharc_lemmas.proofs.Bools.{yes}
+use Rattle.sharc_history_laws.proofs.{Imports.{◌≡◌, ◌≢◌, ℕ, pos, ◌+◌, ◌-◌, ◌*◌, ◌<◌, ◌≤◌, ◌⊎◌, inl, inr, Bool, true, false, ◌&&◌, List, [], ◌∷◌, reverse, Option, Some, None, refl, sym, ap, ◌∙◌, subst, ⊎_elim, arith, cases_Bool, cases_lt, lt-ltb, nat_tests, reverse-append, nat_lt, ◌==◌, Object, SourceEvent, Resolution, Code, Shape, RunLaws, Fits, Machine, opening_words, IsInGlobal, first_cell_of, Turn, Global, IsRun, result_of, opening_of, one_thread, bounds, place_after, said_now, table_of, latest, makes, made_by, refers, initial_value, is_live, value_after, Targets, Field, field_in, field_of_cell, global_field, globals_target, is_pointer, Labels, IsWellTyped, ObjectState, World, IsSmall, State, first_world, first_place, objects_after, cells_now, is_pointer_now, Keeps, CodeBegins, CellsAreThere, PointersAreThere, AccessesAreAllowed, StateStands, history_of, Grows, BeginsWith, yes}, Acts.made_said, Consists.{Consists, headed, live_not_built}, Contents.value_is, MadeOf.{MadeInRun, lives_in, made_in, pointers_made, some_made}, Rules.{newest, newest_now, pushed, about_now, decide, number_not}, SeenCells.{Seen, seen, cells_are}}
 
 all_three : (a b c : Bool) → a ≡ true → b ≡ true → c ≡ true → (a && (b && c)) ≡ true
 all_three a b c p q r = ap (λ z. z && (b && c)) p ∙ ap (λ z. z && c) q ∙ r
@@ -58,20 +47,20 @@ module _ (x : Targets) (code : Code) (s : Shape) (ls : Labels) (wt : IsWellTyped
 module _ (x : Targets) (code : Code) (s : Shape) (ls : Labels) (wt : IsWellTyped x code ls) (fits : Fits code s) (r : Resolution) (run : List Turn) (k : Seen r x code s ls run) where
   -- an object that has fewer cells holds NULL behind them
   made_now : (p i o : ℕ) → p ≢ 0 → (k.consists.world.obj p).live ≡ true → is_pointer (field_in x (k.consists.world.obj p).ty i).holds ≡ true
-      → refers o (value_after r (history_of code s run) (record { object = objects.Made p; cell = i })) ≡ true → is_pointer_now x s (place_after code s run) k.consists.world.obj p i ≡ true
+      → refers o (value_after r (history_of code s run) (record { object = Object.Made p; cell = i })) ≡ true → is_pointer_now x s (place_after code s run) k.consists.world.obj p i ≡ true
   made_now p i o nz live pointer there = ⊎_elim
       (λ (low : i < k.consists.state.cells p). is_now x code s ls wt fits run k.consists p i live low pointer)
       (λ (high : k.consists.state.cells p ≤ i).
-      let null : value_after r (history_of code s run) (record { object = objects.Made p; cell = i }) ≡ pos 0 = value_is r (newest code s run) (record { object = objects.Made p; cell = i }) ∙ k.behind (record { object = objects.Made p; cell = i }) (nz, live, high) in
+      let null : value_after r (history_of code s run) (record { object = Object.Made p; cell = i }) ≡ pos 0 = value_is r (newest code s run) (record { object = Object.Made p; cell = i }) ∙ k.behind (record { object = Object.Made p; cell = i }) (nz, live, high) in
       absurd (yes (sym there ∙ ap (refers o) null)))
       (cases_lt i (k.consists.state.cells p))
 
   other_now : (n cell : ℕ) → (IsInGlobal code.globals.items n (first_cell_of code.globals.items n + cell) → ⊥)
-      → value_after r (history_of code s run) (record { object = objects.Global n; cell = cell }) ≡ initial_value r (objects.Global n)
-  other_now n cell beside = value_is r (newest code s run) (record { object = objects.Global n; cell = cell }) ∙ k.behind (record { object = objects.Global n; cell = cell }) beside
+      → value_after r (history_of code s run) (record { object = Object.Global n; cell = cell }) ≡ initial_value r (Object.Global n)
+  other_now n cell beside = value_is r (newest code s run) (record { object = Object.Global n; cell = cell }) ∙ k.behind (record { object = Object.Global n; cell = cell }) beside
 
 -- ---- the event of a turn
-is_made : (p : ℕ) (e : SourceEvent) → makes (objects.Made p) e ≡ true → made_said (Some e) ≡ Some p
+is_made : (p : ℕ) (e : SourceEvent) → makes (Object.Made p) e ≡ true → made_said (Some e) ≡ Some p
 is_made p e h = ⊎_elim
     (λ (it : made_by e e.act ≡ Some p). it)
     (λ (not : made_by e e.act ≡ Some p → ⊥). absurd (yes (sym h ∙ number_not p (made_by e e.act) not)))
@@ -86,15 +75,15 @@ module _ (cell_laws : CellsAreThere) (pointers : PointersAreThere) (rights : Acc
     there_in : (run : List Turn) → Opened run → Seen r x code s ls run
     there_in run is_run = seen state_law cell_laws pointers rights laws begins_law keeps x code s ls wt fits few r first run is_run
 
-    pub made_kept : (run : List Turn) → IsRun bounds (one_thread code s) (opening_of bounds (one_thread code s) (opening_words code s)) run → (p i o : ℕ) → is_live (history_of code s run) (objects.Made p) ≡ true
-        → (e : SourceEvent) → latest (makes (objects.Made p)) (history_of code s run) ≡ Some e → x.is_made_pointer e.site.token i ≡ true → refers o (value_after r (history_of code s run) (record { object = objects.Made p; cell = i })) ≡ true
+    pub made_kept : (run : List Turn) → IsRun bounds (one_thread code s) (opening_of bounds (one_thread code s) (opening_words code s)) run → (p i o : ℕ) → is_live (history_of code s run) (Object.Made p) ≡ true
+        → (e : SourceEvent) → latest (makes (Object.Made p)) (history_of code s run) ≡ Some e → x.is_made_pointer e.site.token i ≡ true → refers o (value_after r (history_of code s run) (record { object = Object.Made p; cell = i })) ≡ true
         → (p ≢ 0) × (is_pointer_now x s (place_after code s run) (objects_after code s ls (first_place code s) (first_world x).obj run) p i ≡ true)
     made_kept run is_run p i o live e last pointer there =
         let k = there_in run is_run in
         let nz = some_made cell_laws pointers rights laws begins_law keeps x code s ls wt fits few run is_run p e last in
         let is_live = lives_in cell_laws pointers rights laws begins_law keeps x code s ls wt fits few run is_run p live in
         let made = pointers_made cell_laws pointers rights laws begins_law keeps x code s ls wt fits few run is_run p i nz live in
-        let same : made.0 ≡ e = one_event made.0 e (latest (makes (objects.Made p)) (history_of code s run)) made.1 last in
+        let same : made.0 ≡ e = one_event made.0 e (latest (makes (Object.Made p)) (history_of code s run)) made.1 last in
         let is : is_pointer (field_in x (objects_after code s ls (first_place code s) (first_world x).obj run p).ty i).holds ≡ true = made.2 ∙ ap (λ (e : SourceEvent). x.is_made_pointer e.site.token i) same ∙ pointer in (
           nz,
           subst (λ (obj : ℕ → ObjectState). is_pointer_now x s (place_after code s run) obj p i ≡ true) k.same
@@ -103,7 +92,7 @@ module _ (cell_laws : CellsAreThere) (pointers : PointersAreThere) (rights : Acc
         )
 
     pub other_kept : (run : List Turn) → IsRun bounds (one_thread code s) (opening_of bounds (one_thread code s) (opening_words code s)) run → (n cell : ℕ) → (IsInGlobal code.globals.items n (first_cell_of code.globals.items n + cell) → ⊥)
-        → value_after r (history_of code s run) (record { object = objects.Global n; cell = cell }) ≡ initial_value r (objects.Global n)
+        → value_after r (history_of code s run) (record { object = Object.Global n; cell = cell }) ≡ initial_value r (Object.Global n)
     other_kept run is_run n cell beside = other_now x code s ls wt fits r run (there_in run is_run) n cell beside
 
   pub global_kept : (run : List Turn) → IsRun bounds (one_thread code s) (opening_of bounds (one_thread code s) (opening_words code s)) run → (n cell : ℕ) → IsInGlobal code.globals.items n (first_cell_of code.globals.items n + cell)
@@ -127,7 +116,7 @@ module _ (cell_laws : CellsAreThere) (pointers : PointersAreThere) (rights : Acc
       now : (o : Option SourceEvent) → said_now code (table_of code s earlier) ((place_after code s earlier).threads one.thread) (result_of one.event) ≡ o → history_of code s (one ∷ earlier) ≡ reverse (pushed o (newest code s earlier))
       now o is = ap reverse (newest_now code s one earlier) ∙ ap (λ o. reverse (pushed o (newest code s earlier))) is
 
-      dead : (e : SourceEvent) → said_now code (table_of code s earlier) ((place_after code s earlier).threads one.thread) (result_of one.event) ≡ Some e → (p : ℕ) → p ≢ 0 → makes (objects.Made p) e ≡ true
+      dead : (e : SourceEvent) → said_now code (table_of code s earlier) ((place_after code s earlier).threads one.thread) (result_of one.event) ≡ Some e → (p : ℕ) → p ≢ 0 → makes (Object.Made p) e ≡ true
           → (objects_after code s ls (first_place code s) (first_world x).obj earlier p).live ≡ false
       dead e is p nz makes_it =
           let tells = about_now cell_laws pointers rights laws keeps x code s ls wt fits few one earlier k.consists run.1 in

@@ -1,12 +1,5 @@
 -- After a check was refused: the epoch of its granule stays, its object is there, and the notes and stops of the epoch are those that were there.
-use Rattle.std.proofs.{Common.{◌≡◌, ℕ, ◌+◌, ◌*◌, ◌/◌, ◌<◌, ◌≢◌, ◌⊎◌, inl, inr, true, false, List, [], ◌∷◌, ◌++◌, Option, Some, is_some, refl, sym, ap, ◌∙◌, subst, ⊎_elim, arith}, lemmas.Bool.cases_eq, lemmas.Bool.Decides.nat_tests}
-use Rattle.std.specs.Prelude.{◌==◌}
-use Rattle.sharc_heap.specs.{declared.shadow_word.Kind.Kind, declared.shadow_word.Kind.TheVariants.Write, declared.access_table.Note.Note, Accesses.{note_of, site_at}, ShadowWord.{epoch_of, stands}}
-use Rattle.sharc_code.specs.{declared.code.Code.Code, declared.instr.Cell.Cell, declared.shape.Shape.Shape, declared.state.ConflictAt.ConflictAt, declared.state.Stop.Stop, declared.state.Stop.TheVariants.Conflict, Layout.granules, Machine.{Machine, ref}, Path.may_go, Runs.{Turn, state_now}, Whole.{one_thread, place_after}}
-use Rattle.sharc_code.specs.declared.instr.Cell.TheVariants as cells
-use Rattle.sharc_invariant.specs.{Labels.Labels, State.{OnHold, object_of_cell, number_in}, Types.Targets}
-use Rattle.sharc_history_laws.proofs.{Caused.{Report, the_report}, Checks.{CheckCell, check_cell, checked_here, hold as hold_check, adds, live_then, inside_then}, Consists.Consists, Keeping.{remains_there, uncleared}, Remaining.{word_at, site_now, StoppedAt, epoch_still, still_now, note_was, stop_was, refused, some_site}, Rules.put_other, Wholes.{TheLaws, Typed, RunOf, Whole, whole, whole_next, fresh_of}}
-use Rattle.sharc_lemmas.proofs.Bools.{yes}
+use Rattle.sharc_history_laws.proofs.{Imports.{◌≡◌, ℕ, ◌+◌, ◌*◌, ◌/◌, ◌<◌, ◌≢◌, ◌⊎◌, inl, inr, true, false, List, [], ◌∷◌, ◌++◌, Option, Some, is_some, refl, sym, ap, ◌∙◌, subst, ⊎_elim, arith, cases_eq, nat_tests, ◌==◌, Kind, Write, Note, note_of, site_at, epoch_of, stands, Code, Cell, Shape, ConflictAt, Stop, Conflict, granules, Machine, ref, may_go, Turn, state_now, one_thread, place_after, Labels, OnHold, object_of_cell, number_in, Targets, yes}, Caused.{Report, the_report}, Checks.{CheckCell, check_cell, checked_here, hold as hold_check, adds, live_then, inside_then}, Consists.Consists, Keeping.{remains_there, uncleared}, Remaining.{word_at, site_now, StoppedAt, epoch_still, still_now, note_was, stop_was, refused, some_site}, Rules.put_other, Wholes.{TheLaws, Typed, RunOf, Whole, whole, whole_next, fresh_of}}
 
 module _ (laws : TheLaws) (x : Targets) (code : Code) (s : Shape) (ls : Labels) (typed : Typed x code s ls) where
   -- a thread that has stopped makes no turn
@@ -64,10 +57,10 @@ module _ (laws : TheLaws) (x : Targets) (code : Code) (s : Shape) (ls : Labels) 
     refers_base nz = by mine.cell nz
       where
         by : (d : Cell) → object_of_cell ((place_after code s before).threads report.thread) d ≢ 0 → (q : ℕ) × (ref ((place_after code s (report ∷ before)).threads report.thread) q ≡ object_of_cell ((place_after code s before).threads report.thread) d)
-        by (cells.Global h a) nz = absurd (nz refl)
-        by (cells.GlobalAt h a) nz = absurd (nz refl)
-        by (cells.Object r a) nz = (r, ap (λ (y : Machine). ref y r) the.stopped_is)
-        by (cells.ObjectAt r a) nz = (r, ap (λ (y : Machine). ref y r) the.stopped_is)
+        by (Cell.Global h a) nz = absurd (nz refl)
+        by (Cell.GlobalAt h a) nz = absurd (nz refl)
+        by (Cell.Object r a) nz = (r, ap (λ (y : Machine). ref y r) the.stopped_is)
+        by (Cell.ObjectAt r a) nz = (r, ap (λ (y : Machine). ref y r) the.stopped_is)
 
     abbrev epoch_at : List Turn → ℕ
     epoch_at run = epoch_of (word_at (place_after code s run) (o + 1 + k))

@@ -1,13 +1,5 @@
 -- A thread says that it is gone by the last turn of its Exit alone.
-use Rattle.std.proofs.Common.{◌≡◌, ℕ, zero, suc, Bool, true, false, Option, Some, None, if◌then◌else◌, refl}
-use Rattle.std.specs.Prelude.{◌==◌, ◌||◌}
-use Rattle.sharc_tree.specs.declared.event.SourceEvent.{SourceEvent}
-use Rattle.sharc_heap.specs.{State.NewView, declared.stage.NewStage.NewStage}
-use Rattle.sharc_heap.specs.declared.stage.NewStage.TheVariants as news
-use Rattle.sharc_locks.specs.Waiters.{waits_in}
-use Rattle.sharc_code.specs.{declared.code.Code.Code, declared.instr.Cell.Cell, declared.instr.Register.Register, declared.instr.Instr.Instr, declared.state.Stage.Stage, declared.state.Stage.TheVariants.{Makes, Uncounts, Begins, Enters, Withdraws, WithdrawsFrom, Leaves as Leaving, Wakes}, Machine.{Machine, ref}, Outcomes.is_exit, Says.{said, take_local, nobody, in_signal, in_exit, in_spawn, in_start, in_free, in_new, new_event}}
-use Rattle.sharc_code.specs.declared.instr.Instr.TheVariants as instrs
-use Rattle.sharc_meaning.specs.Store.{is_gone}
+use Rattle.sharc_history_laws.proofs.Imports.{◌≡◌, ℕ, zero, suc, Bool, true, false, Option, Some, None, if◌then◌else◌, refl, ◌==◌, ◌||◌, SourceEvent, NewView, NewStage, waits_in, Code, Cell, Register, Instr, Stage, Makes, Uncounts, Begins, Enters, Withdraws, WithdrawsFrom, Leaves as Leaving, Wakes, Machine, ref, is_exit, said, take_local, nobody, in_signal, in_exit, in_spawn, in_start, in_free, in_new, new_event, is_gone}
 
 abbrev pub gone_said : Option SourceEvent → Bool
 gone_said None = false
@@ -46,7 +38,7 @@ module _ (code : Code) (m : Machine) where
   stays_free r site elements _ = refl
 
   stays_new_stage : (site cells : ℕ) (v : NewView) (stage : NewStage) → Stays (new_event code m site cells v stage)
-  stays_new_stage site cells v (news.Length header) = refl
+  stays_new_stage site cells v (NewStage.Length header) = refl
   stays_new_stage site cells v _ = refl
 
   stays_new : (site cells : ℕ) (stage : Stage) → Stays (in_new code m site cells stage)
@@ -54,16 +46,16 @@ module _ (code : Code) (m : Machine) where
   stays_new site cells _ = refl
 
   pub not_gone : (i : Instr) (found elements : ℕ) → is_exit i ≡ false → gone_said (said code i m found elements) ≡ false
-  not_gone (instrs.TakeLocal r from site) found elements e = stays_local site (ref m from) elements
-  not_gone (instrs.New r count cells site) found elements e = stays_new site cells m.own.stage
-  not_gone (instrs.Free r layout site) found elements e = stays_free r site elements m.own.stage
-  not_gone (instrs.Lock c site) found elements e = either_no (found == 0) _ _ refl refl
-  not_gone (instrs.Spawn r function from site) found elements e = stays_spawn function from site elements m.own.stage
-  not_gone (instrs.Join r site) found elements e = either_no (found == 0 || (found == 1 || found == 2)) _ _ refl refl
-  not_gone (instrs.Start site) found elements e = stays_start found elements m.own.stage
-  not_gone instrs.Exit found elements e = absurd (let f : true ≡ false = e in cc)
-  not_gone (instrs.CondWait c site) found elements e = either_no (waits_in found m.own.number) _ _ refl refl
-  not_gone (instrs.CondSignal c site) found elements e = stays_signal c site found m.own.stage
+  not_gone (Instr.TakeLocal r from site) found elements e = stays_local site (ref m from) elements
+  not_gone (Instr.New r count cells site) found elements e = stays_new site cells m.own.stage
+  not_gone (Instr.Free r layout site) found elements e = stays_free r site elements m.own.stage
+  not_gone (Instr.Lock c site) found elements e = either_no (found == 0) _ _ refl refl
+  not_gone (Instr.Spawn r function from site) found elements e = stays_spawn function from site elements m.own.stage
+  not_gone (Instr.Join r site) found elements e = either_no (found == 0 || (found == 1 || found == 2)) _ _ refl refl
+  not_gone (Instr.Start site) found elements e = stays_start found elements m.own.stage
+  not_gone Instr.Exit found elements e = absurd (let f : true ≡ false = e in cc)
+  not_gone (Instr.CondWait c site) found elements e = either_no (waits_in found m.own.number) _ _ refl refl
+  not_gone (Instr.CondSignal c site) found elements e = stays_signal c site found m.own.stage
   not_gone _ found elements e = refl
 
   -- at this stage of an Exit

@@ -1,25 +1,7 @@
 -- The event of each turn of typed code may come after those before it, if it does not tell who waits.
-use Rattle.std.proofs.{Common.{◌≡◌, ℕ, ℤ, pos, negsuc, zero, suc, ◌+◌, ◌<◌, ◌≤◌, ◌≢◌, ◌⊎◌, inl, inr, Bool, true, false, ◌||◌, nat_lt, List, [], ◌∷◌, reverse, Option, Some, None, is_some, if◌then◌else◌, refl, sym, ap, ◌∙◌, subst, ⊎_elim, arith, eqb-true, ltb-true}, lemmas.Bool.Decides.nat_tests, lemmas.Bool.{false_from_ne_true as not_true}}
-use Rattle.std.specs.Prelude.{slice_index, ◌==◌, Contains}
-use Rattle.sharc_word.specs.{declared.step.TheConstants.THREADS, declared.step.WordStep.WordStep}
-use Rattle.sharc_word.specs.declared.step.WordOp.TheVariants as ops
-use Rattle.sharc_tree.specs.declared.event.Act.TheVariants as acts
-use Rattle.sharc_tree.specs.declared.event.SourceEvent.{SourceEvent}
-use Rattle.sharc_tree.specs.declared.trap.Trap.TheVariants as traps
-use Rattle.sharc_heap.specs.declared.stage.NewStage.{NewStage}
-use Rattle.sharc_heap.specs.declared.stage.NewStage.TheVariants as news
-use Rattle.sharc_locks.specs.{Waiters.waits_in, declared.held_log.HeldMutex.HeldMutex, HeldLog.object_of}
-use Rattle.sharc_ctype.specs.Resolved.{Resolution}
-use Rattle.sharc_code.specs.{declared.code.Code.Code, declared.instr.Cell.Cell, declared.instr.Instr.Instr, declared.instr.Register.Register, declared.shape.Shape.Shape, declared.state.Stage.Stage, declared.state.Stage.TheVariants.{Makes, Uncounts, Begins, Enters, Withdraws, WithdrawsFrom, Leaves, Wakes}, Laws.RunLaws, Arithmetic.int_of, Layout.{Fits, first_cell, state_word}, Machine.{Machine, step_of, instr_at, int, ref, word, act, place, object, is_held, join, joined, trapped, Local, Asks}, Outcomes.is_locking, Path.{turn, asked_by}, Runs.{Turn, Global, MayTurn, result_of}, Says.{said, cell_at, speaks_of, take_local, nobody, in_signal, in_exit, in_spawn, in_start, in_free, in_new, new_event, event_at, reference}, Whole.{one_thread, bounds, place_after}}
-use Rattle.sharc_code.specs.declared.instr.Instr.TheVariants as instrs
-use Rattle.sharc_history_laws.specs.{Told.{state_of, TellsState}, Stores.is_about_waiters}
-use Rattle.sharc_compile.specs.{Consistent.{Elements, MayFind}, OfRuns.table_of}
-use Rattle.sharc_meaning.specs.{Events.{is_cell, locked_by, unlocked_by}, Obeys.History, Store.{MayCome, IsFresh, was_spawned, went, was_locked_by, value_after}}
-use Rattle.sharc_invariant.specs.{Types.{Targets, Field}, Labels.Labels, Typed.{IsWellTyped, Fine, Accesses}, Words.is_ended, State.{IsSmall, StageStands, OnHold}, MachineInvariant.IsOn, Laws.{Keeps, CellsAreThere, PointersAreThere, AccessesAreAllowed, StateStands}}
+use Rattle.sharc_history_laws.proofs.{Imports.{◌≡◌, ℕ, ℤ, pos, negsuc, zero, suc, ◌+◌, ◌<◌, ◌≤◌, ◌≢◌, ◌⊎◌, inl, inr, Bool, true, false, ◌||◌, nat_lt, List, [], ◌∷◌, reverse, Option, Some, None, is_some, if◌then◌else◌, refl, sym, ap, ◌∙◌, subst, ⊎_elim, arith, eqb-true, ltb-true, nat_tests, not_true, slice_index, ◌==◌, Contains, THREADS, WordStep, WordOp, Act, SourceEvent, Trap, NewStage, waits_in, HeldMutex, object_of, Resolution, Code, Cell, Instr, Register, Shape, Stage, Makes, Uncounts, Begins, Enters, Withdraws, WithdrawsFrom, Leaves, Wakes, RunLaws, int_of, Fits, first_cell, state_word, Machine, step_of, instr_at, int, ref, word, act, place, object, is_held, join, joined, trapped, Local, Asks, is_locking, turn, asked_by, Turn, Global, MayTurn, result_of, said, cell_at, speaks_of, take_local, nobody, in_signal, in_exit, in_spawn, in_start, in_free, in_new, new_event, event_at, reference, one_thread, bounds, place_after, state_of, TellsState, is_about_waiters, Elements, MayFind, table_of, is_cell, locked_by, unlocked_by, History, MayCome, IsFresh, was_spawned, went, was_locked_by, value_after, Targets, Field, Labels, IsWellTyped, Fine, Accesses, is_ended, IsSmall, StageStands, OnHold, IsOn, Keeps, CellsAreThere, PointersAreThere, AccessesAreAllowed, StateStands, yes}, Consists.{Consists, found_is, quiet_is, own_turn, header_built, built_low, live_not_built}, Contents.{value_is, newest_value, value_held, content_of, word_of_cell, Contents}, Emptying.IsEmptied, Holding.{cell_eq, holds_in}, Lists.{Newest, live_in, is_live_in}, Living.LivesTold, Locked.{IsIn, LogTold, names_cell, one_place, held_told}, Locking.word_is, Logged.{LogHas, is_logged}, Mutual.{Mutual, MayMutex, no_lock, locked_in, locked_by_in, locked_is, locked_by_is}, Mutexless.{mutex_said, no_mutex, not_locked}, Rules.number_is, Shared.number_of, Single.{single, rests_hold}, Sparing.is_value, Tables.header_of, Threaded.ThreadsTold, Unemptied.not_emptied}
 use Rattle.sharc_invariant.specs.Words as Words
-use Rattle.sharc_history_laws.proofs.{Consists.{Consists, found_is, quiet_is, own_turn, header_built, built_low, live_not_built}, Contents.{value_is, newest_value, value_held, content_of, word_of_cell, Contents}, Emptying.IsEmptied, Holding.{cell_eq, holds_in}, Lists.{Newest, live_in, is_live_in}, Living.LivesTold, Locked.{IsIn, LogTold, names_cell, one_place, held_told}, Locking.word_is, Logged.{LogHas, is_logged}, Mutual.{Mutual, MayMutex, no_lock, locked_in, locked_by_in, locked_is, locked_by_is}, Mutexless.{mutex_said, no_mutex, not_locked}, Rules.number_is, Shared.number_of, Single.{single, rests_hold}, Sparing.is_value, Tables.header_of, Threaded.ThreadsTold, Unemptied.not_emptied}
 use Rattle.sharc_history_laws.proofs.Placed as Placed
-use Rattle.sharc_lemmas.proofs.Bools.{yes}
 
 -- it may come, if it does not tell who waits
 abbrev pub IsLegal : Resolution → History → Option SourceEvent → Type 0
@@ -107,31 +89,31 @@ module _ (state_law : StateStands) (cell_laws : CellsAreThere) (pointers : Point
     fine : (j : Instr) → i ≡ j → Fine x code ls ((place_after code s earlier).threads one.thread).at.pc (ls.at ((place_after code s earlier).threads one.thread).at.pc) j
     fine j e = subst (Fine x code ls m.at.pc (ls.at m.at.pc)) e (wt.fine m.at.pc)
 
-    at_load : (q site : ℕ) (k : Cell) → i ≡ instrs.Load q k site → int_of found ≡ value_after r (reverse L) (cell_at code ((place_after code s earlier).threads one.thread) k)
+    at_load : (q site : ℕ) (k : Cell) → i ≡ Instr.Load q k site → int_of found ≡ value_after r (reverse L) (cell_at code ((place_after code s earlier).threads one.thread) k)
     at_load q site k is =
-        let f = fine (instrs.Load q k site) is in
-        let found_here = found_at (step_of (word s m k) ops.Load) (ap (λ j. asked_by (act code s j m)) is) in
-        ap (λ c. value_held c T found) (sym f.1.3) ∙ reads (held_by (instrs.Load q k site) is refl) k site f.1.0 false f.1.2 (ap is_value f.1.3) found_here
+        let f = fine (Instr.Load q k site) is in
+        let found_here = found_at (step_of (word s m k) WordOp.Load) (ap (λ j. asked_by (act code s j m)) is) in
+        ap (λ c. value_held c T found) (sym f.1.3) ∙ reads (held_by (Instr.Load q k site) is refl) k site f.1.0 false f.1.2 (ap is_value f.1.3) found_here
 
-    at_load_ref : (site : ℕ) (k : Cell) → i ≡ instrs.LoadRef k site → reference found elements ≡ value_after r (reverse L) (cell_at code ((place_after code s earlier).threads one.thread) k)
+    at_load_ref : (site : ℕ) (k : Cell) → i ≡ Instr.LoadRef k site → reference found elements ≡ value_after r (reverse L) (cell_at code ((place_after code s earlier).threads one.thread) k)
     at_load_ref site k is =
-        let f = fine (instrs.LoadRef k site) is in
-        let found_here = found_at (step_of (word s m k) ops.Load) (ap (λ j. asked_by (act code s j m)) is) in
+        let f = fine (Instr.LoadRef k site) is in
+        let found_here = found_at (step_of (word s m k) WordOp.Load) (ap (λ j. asked_by (act code s j m)) is) in
         ap (λ j. reference found (T (speaks_of j m found))) is
-        ∙ ap (λ c. value_held c T found) (sym f.3) ∙ reads (held_by (instrs.LoadRef k site) is refl) k site f.0 false f.2 (ap is_value f.3) found_here
+        ∙ ap (λ c. value_held c T found) (sym f.3) ∙ reads (held_by (Instr.LoadRef k site) is refl) k site f.0 false f.2 (ap is_value f.3) found_here
 
-    at_take : (q site : ℕ) (k : Cell) → i ≡ instrs.TakeCell q k site → reference found elements ≡ value_after r (reverse L) (cell_at code ((place_after code s earlier).threads one.thread) k)
+    at_take : (q site : ℕ) (k : Cell) → i ≡ Instr.TakeCell q k site → reference found elements ≡ value_after r (reverse L) (cell_at code ((place_after code s earlier).threads one.thread) k)
     at_take q site k is =
-        let f = fine (instrs.TakeCell q k site) is in
-        let found_here = found_at (step_of (word s m k) (ops.Swap 0)) (ap (λ j. asked_by (act code s j m)) is) in
+        let f = fine (Instr.TakeCell q k site) is in
+        let found_here = found_at (step_of (word s m k) (WordOp.Swap 0)) (ap (λ j. asked_by (act code s j m)) is) in
         ap (λ j. reference found (T (speaks_of j m found))) is
-        ∙ ap (λ c. value_held c T found) (sym f.1.3.holds) ∙ reads (held_by (instrs.TakeCell q k site) is refl) k site f.1.0 true f.1.2 (ap is_value f.1.3.holds) found_here
+        ∙ ap (λ c. value_held c T found) (sym f.1.3.holds) ∙ reads (held_by (Instr.TakeCell q k site) is refl) k site f.1.0 true f.1.2 (ap is_value f.1.3.holds) found_here
 
     -- ---- mutexes
     -- a mutex that is locked by the events is one whose word is not 0
-    unlocked : (k : Cell) (site : ℕ) → i ≡ instrs.Lock k site → found ≡ 0 → locked_in L (cell_at code ((place_after code s earlier).threads one.thread) k) ≡ false
+    unlocked : (k : Cell) (site : ℕ) → i ≡ Instr.Lock k site → found ≡ 0 → locked_in L (cell_at code ((place_after code s earlier).threads one.thread) k) ≡ false
     unlocked k site is z = not_true (locked_in L (cell_at code m k)) (λ locked.
-        let free = may_find (instrs.Lock k site) is z in
+        let free = may_find (Instr.Lock k site) is z in
         let holder = told.mutexes.held (cell_at code m k) locked in
         let u = holder.0 in
         let entry = told.has u (cell_at code m k) holder.1 in
@@ -146,7 +128,7 @@ module _ (state_law : StateStands) (cell_laws : CellsAreThere) (pointers : Point
         let few_ : u < THREADS = holder_few u b entry.1 in
         let mutex : h.world.mutex o j ≡ suc u = (h.state.locks.held u o j few_ inside.1.1 inside.1.2 inside.1.3).1 held in
         let word_there : h.world.mutex o j ≡ slice_index g.words (Words.cell_at s o j) = h.state.sim.mutexes o j inside.1.1 inside.1.2 inside.1.3 in
-        let found_here : found ≡ slice_index g.words (word s m k) = found_at (step_of (word s m k) (ops.Cas 0 (m.own.number + 1))) (ap (λ j. asked_by (act code s j m)) is) in
+        let found_here : found ≡ slice_index g.words (word s m k) = found_at (step_of (word s m k) (WordOp.Cas 0 (m.own.number + 1))) (ap (λ j. asked_by (act code s j m)) is) in
         let zero_word : slice_index g.words (Words.cell_at s o j) ≡ 0 = ap (slice_index g.words) (sym inside.1.0 ∙ w) ∙ sym found_here ∙ z in
         above u (sym mutex ∙ word_there ∙ zero_word))
       where
@@ -163,9 +145,9 @@ module _ (state_law : StateStands) (cell_laws : CellsAreThere) (pointers : Point
           | false ↦ λ e. absurd (subst (IsIn b) (ap (λ (y : Machine). y.own.held) ((h.state.threads u).waits e)) is)
         ] refl
 
-    holds_own : (q site : ℕ) (k : Cell) → i ≡ instrs.Unlock q k site → holds_in L one.thread (cell_at code ((place_after code s earlier).threads one.thread) k) ≡ true
+    holds_own : (q site : ℕ) (k : Cell) → i ≡ Instr.Unlock q k site → holds_in L one.thread (cell_at code ((place_after code s earlier).threads one.thread) k) ≡ true
     holds_own q site k is =
-        let held = may_find (instrs.Unlock q k site) is in
+        let held = may_find (Instr.Unlock q k site) is in
         held_told code s L t m.own.held (object m k) (place m k) (cell_at code m k) (told.logs t) held.mutex.apart held.own (names_cell code m k held.mutex.there)
 
     number : ((place_after code s earlier).threads one.thread).own.number ≡ one.thread
@@ -175,14 +157,14 @@ module _ (state_law : StateStands) (cell_laws : CellsAreThere) (pointers : Point
     pub may_mutex : (e : SourceEvent) → event ≡ Some e → MayMutex L e
     may_mutex e said_is = by i refl
       where
-        locked_act : (k : Cell) (site : ℕ) → i ≡ instrs.Lock k site → found ≡ 0 → e.act ≡ acts.Lock (cell_at code ((place_after code s earlier).threads one.thread) k) → MayMutex L e
+        locked_act : (k : Cell) (site : ℕ) → i ≡ Instr.Lock k site → found ≡ 0 → e.act ≡ Act.Lock (cell_at code ((place_after code s earlier).threads one.thread) k) → MayMutex L e
         locked_act k site is z a = record {
           free = λ c p. let same : c ≡ cell_at code m k = cell_eq c (cell_at code m k) (sym (ap (λ a. is_cell c (locked_by a)) a) ∙ p) in ap (locked_in L) same ∙ unlocked k site is z;
           own = λ c p. absurd (yes (sym p ∙ ap (λ a. is_cell c (unlocked_by a)) a));
           one = λ c p. ap (λ a. is_cell c (unlocked_by a)) a;
         }
 
-        unlocked_act : (q site : ℕ) (k : Cell) → i ≡ instrs.Unlock q k site → e.act ≡ acts.Unlock (cell_at code ((place_after code s earlier).threads one.thread) k) → e.thread ≡ one.thread → MayMutex L e
+        unlocked_act : (q site : ℕ) (k : Cell) → i ≡ Instr.Unlock q k site → e.act ≡ Act.Unlock (cell_at code ((place_after code s earlier).threads one.thread) k) → e.thread ≡ one.thread → MayMutex L e
         unlocked_act q site k is a thread = record {
           free = λ c p. absurd (yes (sym p ∙ ap (λ a. is_cell c (locked_by a)) a));
           own = λ c p. let same : c ≡ cell_at code m k = cell_eq c (cell_at code m k) (sym (ap (λ a. is_cell c (unlocked_by a)) a) ∙ p) in ap (λ u. holds_in L u c) thread ∙ ap (holds_in L t) same ∙ holds_own q site k is;
@@ -190,14 +172,14 @@ module _ (state_law : StateStands) (cell_laws : CellsAreThere) (pointers : Point
         }
 
         act_of : Option SourceEvent → Rattle.sharc_tree.specs.declared.event.Act.Act
-        act_of None = acts.Return
+        act_of None = Act.Return
         act_of (Some d) = d.act
 
         thread_of : Option SourceEvent → ℕ
         thread_of None = 0
         thread_of (Some d) = d.thread
 
-        at_lock : (k : Cell) (site : ℕ) → i ≡ instrs.Lock k site → (b : Bool) → (found == 0) ≡ b → (if b then event_at code ((place_after code s earlier).threads one.thread) site (pos 0) (acts.Lock (cell_at code ((place_after code s earlier).threads one.thread) k)) else None) ≡ Some e → MayMutex L e
+        at_lock : (k : Cell) (site : ℕ) → i ≡ Instr.Lock k site → (b : Bool) → (found == 0) ≡ b → (if b then event_at code ((place_after code s earlier).threads one.thread) site (pos 0) (Act.Lock (cell_at code ((place_after code s earlier).threads one.thread) k)) else None) ≡ Some e → MayMutex L e
         at_lock k site is true z q = locked_act k site is (eqb-true found 0 z) (ap act_of (sym q))
         at_lock k site is false z q = absurd (let f : None ≡ Some e = q in cc)
 
@@ -207,8 +189,8 @@ module _ (state_law : StateStands) (cell_laws : CellsAreThere) (pointers : Point
             no_lock L e (λ c. ap (is_cell c) a.0) (λ c. ap (is_cell c) a.1)
 
         by : (j : Instr) → i ≡ j → MayMutex L e
-        by (instrs.Lock k site) is = at_lock k site is (found == 0) refl (sym (ap (λ j. said code j m found elements) is) ∙ said_is)
-        by (instrs.Unlock q k site) is = let now = sym (ap (λ j. said code j m found elements) is) ∙ said_is in unlocked_act q site k is (ap act_of (sym now)) (ap thread_of (sym now) ∙ number)
+        by (Instr.Lock k site) is = at_lock k site is (found == 0) refl (sym (ap (λ j. said code j m found elements) is) ∙ said_is)
+        by (Instr.Unlock q k site) is = let now = sym (ap (λ j. said code j m found elements) is) ∙ said_is in unlocked_act q site k is (ap act_of (sym now)) (ap thread_of (sym now) ∙ number)
         by _ is = others (ap is_locking is)
 
     -- ---- new objects
@@ -231,18 +213,18 @@ module _ (state_law : StateStands) (cell_laws : CellsAreThere) (pointers : Point
         refers zero k ne = absurd (ne refl)
         refers (suc n) k ne = refl
 
-    at_new : (q count cells' site : ℕ) → i ≡ instrs.New q count cells' site → (stage : Stage) → ((place_after code s earlier).threads one.thread).own.stage ≡ stage → Legal (in_new code ((place_after code s earlier).threads one.thread) site cells' stage)
+    at_new : (q count cells' site : ℕ) → i ≡ Instr.New q count cells' site → (stage : Stage) → ((place_after code s earlier).threads one.thread).own.stage ≡ stage → Legal (in_new code ((place_after code s earlier).threads one.thread) site cells' stage)
     at_new q count cells' site is (Makes v) at = at_stage v.stage refl
       where
         at_stage : (y : NewStage) → v.stage ≡ y → Legal (new_event code ((place_after code s earlier).threads one.thread) site cells' v y)
-        at_stage (news.Length header) y_is = λ w. fresh header v.arguments.elements (ap (λ j. header_of j m.own.stage) is ∙ ap Rattle.sharc_history_laws.proofs.Tables.header_in at ∙ ap Rattle.sharc_history_laws.proofs.Tables.header_at y_is)
+        at_stage (NewStage.Length header) y_is = λ w. fresh header v.arguments.elements (ap (λ j. header_of j m.own.stage) is ∙ ap Rattle.sharc_history_laws.proofs.Tables.header_in at ∙ ap Rattle.sharc_history_laws.proofs.Tables.header_at y_is)
         at_stage _ y_is = tt
     at_new q count cells' site is _ at = tt
 
     -- ---- threads
-    at_spawn : (q f site : ℕ) (from : Register) → i ≡ instrs.Spawn q f from site → (stage : Stage) → ((place_after code s earlier).threads one.thread).own.stage ≡ stage → Legal (in_spawn code ((place_after code s earlier).threads one.thread) f from site elements stage)
+    at_spawn : (q f site : ℕ) (from : Register) → i ≡ Instr.Spawn q f from site → (stage : Stage) → ((place_after code s earlier).threads one.thread).own.stage ≡ stage → Legal (in_spawn code ((place_after code s earlier).threads one.thread) f from site elements stage)
     at_spawn q f site from is (Begins n) at = λ w.
-        let reserves = (subst (StageStands code s h.state.elements h.world h.state.heap g.words t m (instrs.Spawn q f from site)) at (stage_here (instrs.Spawn q f from site) is)).0 in
+        let reserves = (subst (StageStands code s h.state.elements h.world h.state.heap g.words t m (Instr.Spawn q f from site)) at (stage_here (Instr.Spawn q f from site) is)).0 in
         let first = reserves.first in
         record {
           thread = n;
@@ -255,7 +237,7 @@ module _ (state_law : StateStands) (cell_laws : CellsAreThere) (pointers : Point
         }
     at_spawn q f site from is _ at = tt
 
-    at_join : (q site : ℕ) → i ≡ instrs.Join q site → (b : Bool) → (found == 0 || (found == 1 || found == 2)) ≡ b → went (reverse L) (int ((place_after code s earlier).threads one.thread) q) ≡ true ⊎ (b ≡ true)
+    at_join : (q site : ℕ) → i ≡ Instr.Join q site → (b : Bool) → (found == 0 || (found == 1 || found == 2)) ≡ b → went (reverse L) (int ((place_after code s earlier).threads one.thread) q) ≡ true ⊎ (b ≡ true)
     at_join q site is true e = inr refl
     at_join q site is false e = inl (by (int m q) refl)
       where
@@ -280,21 +262,21 @@ module _ (state_law : StateStands) (cell_laws : CellsAreThere) (pointers : Point
 
         by_word : (n : ℕ) (b : Bool) → int ((place_after code s earlier).threads one.thread) q ≡ pos n → nat_lt n THREADS ≡ b → went (reverse L) (pos n) ≡ true
         by_word n true z lt =
-            let asked : asked_by (turn code s m) ≡ Some (step_of (state_word n) ops.Load) =
-            ap (λ j. asked_by (act code s j m)) is ∙ ap (λ z. asked_by (join m z site)) z ∙ ap (λ b. asked_by (if b then Asks (step_of (state_word n) ops.Load) (joined m site) else Local (trapped m traps.NoSuchThread site))) lt in
-            told.threads.gone n (ended n (below n lt) (found_at (step_of (state_word n) ops.Load) asked))
+            let asked : asked_by (turn code s m) ≡ Some (step_of (state_word n) WordOp.Load) =
+            ap (λ j. asked_by (act code s j m)) is ∙ ap (λ z. asked_by (join m z site)) z ∙ ap (λ b. asked_by (if b then Asks (step_of (state_word n) WordOp.Load) (joined m site) else Local (trapped m Trap.NoSuchThread site))) lt in
+            told.threads.gone n (ended n (below n lt) (found_at (step_of (state_word n) WordOp.Load) asked))
           where
             below : (n : ℕ) → nat_lt n THREADS ≡ true → n < THREADS
             below n e = ltb-true n THREADS e
         by_word n false z lt = absurd (none_found (ap (λ j. asked_by (act code s j m)) is ∙ ap (λ z. asked_by (join m z site)) z
-            ∙ ap (λ b. asked_by (if b then Asks (step_of (state_word n) ops.Load) (joined m site) else Local (trapped m traps.NoSuchThread site))) lt))
+            ∙ ap (λ b. asked_by (if b then Asks (step_of (state_word n) WordOp.Load) (joined m site) else Local (trapped m Trap.NoSuchThread site))) lt))
 
         by : (z : ℤ) → int ((place_after code s earlier).threads one.thread) q ≡ z → went (reverse L) (int ((place_after code s earlier).threads one.thread) q) ≡ true
         by (pos n) z = ap (went (reverse L)) z ∙ by_word n (nat_lt n THREADS) z refl
         by (negsuc n) z = absurd (none_found (ap (λ j. asked_by (act code s j m)) is ∙ ap (λ z. asked_by (join m z site)) z))
 
-    join_legal : (q site : ℕ) → i ≡ instrs.Join q site → (b : Bool) → (found == 0 || (found == 1 || found == 2)) ≡ b
-        → Legal (if b then None else event_at code ((place_after code s earlier).threads one.thread) site (pos 0) (acts.Join (int ((place_after code s earlier).threads one.thread) q)))
+    join_legal : (q site : ℕ) → i ≡ Instr.Join q site → (b : Bool) → (found == 0 || (found == 1 || found == 2)) ≡ b
+        → Legal (if b then None else event_at code ((place_after code s earlier).threads one.thread) site (pos 0) (Act.Join (int ((place_after code s earlier).threads one.thread) q)))
     join_legal q site is true e = tt
     join_legal q site is false e = λ w. ⊎_elim (λ (z : went (reverse L) (int m q) ≡ true). z) (λ z. absurd (yes (sym z))) (at_join q site is false e)
 
@@ -330,11 +312,11 @@ module _ (state_law : StateStands) (cell_laws : CellsAreThere) (pointers : Point
     exit_legal Leaves = λ w. tt
     exit_legal _ = λ w. tt
 
-    lock_legal : (k : Cell) (site : ℕ) → i ≡ instrs.Lock k site → (b : Bool) → (found == 0) ≡ b → Legal (if b then event_at code ((place_after code s earlier).threads one.thread) site (pos 0) (acts.Lock (cell_at code ((place_after code s earlier).threads one.thread) k)) else None)
+    lock_legal : (k : Cell) (site : ℕ) → i ≡ Instr.Lock k site → (b : Bool) → (found == 0) ≡ b → Legal (if b then event_at code ((place_after code s earlier).threads one.thread) site (pos 0) (Act.Lock (cell_at code ((place_after code s earlier).threads one.thread) k)) else None)
     lock_legal k site is true z = λ w. locked_is L (cell_at code m k) ∙ unlocked k site is (eqb-true found 0 z)
     lock_legal k site is false z = tt
 
-    unlock_legal : (q site : ℕ) (k : Cell) → i ≡ instrs.Unlock q k site → was_locked_by (reverse L) (cell_at code ((place_after code s earlier).threads one.thread) k) ((place_after code s earlier).threads one.thread).own.number ≡ true
+    unlock_legal : (q site : ℕ) (k : Cell) → i ≡ Instr.Unlock q k site → was_locked_by (reverse L) (cell_at code ((place_after code s earlier).threads one.thread) k) ((place_after code s earlier).threads one.thread).own.number ≡ true
     unlock_legal q site k is = locked_by_is L (cell_at code m k) m.own.number ∙ ap (locked_by_in L (cell_at code m k)) number ∙ (told.mutexes.last t (cell_at code m k) (holds_own q site k is)).1
 
     pub legal_now : Legal event
@@ -344,24 +326,24 @@ module _ (state_law : StateStands) (cell_laws : CellsAreThere) (pointers : Point
         at j is k = subst Legal (sym (ap (λ j. said code j m found elements) is)) k
 
         by : (j : Instr) → i ≡ j → Legal event
-        by (instrs.Load q k site) is = at (instrs.Load q k site) is (λ w. at_load q site k is)
-        by (instrs.Store q k site) is = at (instrs.Store q k site) is (λ w. tt)
-        by (instrs.LoadRef k site) is = at (instrs.LoadRef k site) is (λ w. at_load_ref site k is)
-        by (instrs.Exchange q k site) is = at (instrs.Exchange q k site) is (λ w. tt)
-        by (instrs.TakeCell q k site) is = at (instrs.TakeCell q k site) is (λ w. at_take q site k is)
-        by (instrs.TakeLocal q from site) is = at (instrs.TakeLocal q from site) is (local_legal site (ref m from) elements)
-        by (instrs.Give q site) is = at (instrs.Give q site) is (λ w. tt)
-        by (instrs.New q count cells' site) is = at (instrs.New q count cells' site) is (at_new q count cells' site is m.own.stage refl)
-        by (instrs.Free q layout site) is = at (instrs.Free q layout site) is (free_legal q site m.own.stage)
-        by (instrs.Lock k site) is = at (instrs.Lock k site) is (lock_legal k site is (found == 0) refl)
-        by (instrs.Unlock q k site) is = at (instrs.Unlock q k site) is (λ w. unlock_legal q site k is)
-        by (instrs.Spawn q f from site) is = at (instrs.Spawn q f from site) is (at_spawn q f site from is m.own.stage refl)
-        by (instrs.Join q site) is = at (instrs.Join q site) is (join_legal q site is (found == 0 || (found == 1 || found == 2)) refl)
-        by (instrs.Print q site) is = at (instrs.Print q site) is (λ w. tt)
-        by (instrs.Start site) is = at (instrs.Start site) is (start_legal m.own.stage)
-        by instrs.Exit is = at instrs.Exit is (exit_legal m.own.stage)
-        by (instrs.CondEnter k site) is = at (instrs.CondEnter k site) is (λ w. tt)
-        by (instrs.CondWait k site) is = at (instrs.CondWait k site) is (about_waiters (waits_in found m.own.number) _ _ tt (λ w. absurd (yes w)))
-        by (instrs.CondSignal k site) is = at (instrs.CondSignal k site) is (signal_legal k site m.own.stage)
-        by (instrs.CondBroadcast k site) is = at (instrs.CondBroadcast k site) is (λ w. tt)
+        by (Instr.Load q k site) is = at (Instr.Load q k site) is (λ w. at_load q site k is)
+        by (Instr.Store q k site) is = at (Instr.Store q k site) is (λ w. tt)
+        by (Instr.LoadRef k site) is = at (Instr.LoadRef k site) is (λ w. at_load_ref site k is)
+        by (Instr.Exchange q k site) is = at (Instr.Exchange q k site) is (λ w. tt)
+        by (Instr.TakeCell q k site) is = at (Instr.TakeCell q k site) is (λ w. at_take q site k is)
+        by (Instr.TakeLocal q from site) is = at (Instr.TakeLocal q from site) is (local_legal site (ref m from) elements)
+        by (Instr.Give q site) is = at (Instr.Give q site) is (λ w. tt)
+        by (Instr.New q count cells' site) is = at (Instr.New q count cells' site) is (at_new q count cells' site is m.own.stage refl)
+        by (Instr.Free q layout site) is = at (Instr.Free q layout site) is (free_legal q site m.own.stage)
+        by (Instr.Lock k site) is = at (Instr.Lock k site) is (lock_legal k site is (found == 0) refl)
+        by (Instr.Unlock q k site) is = at (Instr.Unlock q k site) is (λ w. unlock_legal q site k is)
+        by (Instr.Spawn q f from site) is = at (Instr.Spawn q f from site) is (at_spawn q f site from is m.own.stage refl)
+        by (Instr.Join q site) is = at (Instr.Join q site) is (join_legal q site is (found == 0 || (found == 1 || found == 2)) refl)
+        by (Instr.Print q site) is = at (Instr.Print q site) is (λ w. tt)
+        by (Instr.Start site) is = at (Instr.Start site) is (start_legal m.own.stage)
+        by Instr.Exit is = at Instr.Exit is (exit_legal m.own.stage)
+        by (Instr.CondEnter k site) is = at (Instr.CondEnter k site) is (λ w. tt)
+        by (Instr.CondWait k site) is = at (Instr.CondWait k site) is (about_waiters (waits_in found m.own.number) _ _ tt (λ w. absurd (yes w)))
+        by (Instr.CondSignal k site) is = at (Instr.CondSignal k site) is (signal_legal k site m.own.stage)
+        by (Instr.CondBroadcast k site) is = at (Instr.CondBroadcast k site) is (λ w. tt)
         by _ is = subst Legal (sym (ap (λ j. said code j m found elements) is)) tt

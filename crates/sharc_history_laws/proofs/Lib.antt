@@ -1,3 +1,4 @@
+mod Imports
 pub mod Places
 pub mod Sorts
 pub mod Standing

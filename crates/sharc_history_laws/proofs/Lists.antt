@@ -1,8 +1,6 @@
 -- Histories that grow by one event: those of a run, the newest event first, and as the rules have them.
-use Rattle.std.proofs.{Common.{◌≡◌, ℕ, Bool, true, false, ◌||◌, cond, List, [], ◌∷◌, ◌++◌, reverse, Some, refl, sym, ap, ◌∙◌, subst, ⊎_elim, ◌⊎◌, inl, inr}, lemmas.List.{reverse-append, reverse-reverse}}
-use Rattle.std.specs.Prelude.{◌==◌, find}
-use Rattle.sharc_tree.specs.{declared.event.SourceEvent.SourceEvent, declared.event.Object.TheVariants.Made}
-use Rattle.sharc_meaning.specs.{Events.{Access, Stands, latest, makes, frees, begins}, Obeys.{History, IsAccess}, Store.{meets, is_live}}
+use Rattle.sharc_history_laws.proofs.Imports.{◌≡◌, ℕ, Bool, true, false, ◌||◌, cond, List, [], ◌∷◌, ◌++◌, reverse, Some, refl, sym, ap, ◌∙◌, subst, ⊎_elim, ◌⊎◌, inl, inr, reverse-append, reverse-reverse, ◌==◌, find, SourceEvent, Access, Stands, latest, makes, frees, begins, History, IsAccess, meets, is_live}
+use Rattle.sharc_tree.specs.declared.event.Object.TheVariants.{Made}
 
 abbrev pub Newest : Type 0
 Newest = List SourceEvent

@@ -1,28 +1,17 @@
 -- An object that is live by the events of a run is live.
-use Rattle.std.proofs.Common.{◌≡◌, ℕ, Bool, true, false, ◌||◌, cond, List, ◌∷◌, Option, Some, None, refl, sym, ap, ◌∙◌, ⊎_elim}
-use Rattle.std.specs.Prelude.{find}
-use Rattle.sharc_tree.specs.declared.event.SourceEvent.{SourceEvent}
-use Rattle.sharc_tree.specs.declared.event.Object.TheVariants as objects
-use Rattle.sharc_heap.specs.declared.stage.NewStage.{NewStage}
-use Rattle.sharc_heap.specs.declared.stage.NewStage.TheVariants as news
-use Rattle.sharc_code.specs.{declared.code.Code.Code, declared.instr.Instr.Instr, declared.shape.Shape.Shape, declared.state.Stage.Stage, declared.state.Stage.TheVariants.Makes, Laws.RunLaws, Layout.Fits, Machine.{Machine, instr_at, ref}, Runs.{Turn, Global, MayTurn, after_turn}, Whole.{one_thread, bounds, place_after}}
-use Rattle.sharc_code.specs.declared.instr.Instr.TheVariants as instrs
-use Rattle.sharc_meaning.specs.{Events.{makes, frees, is_number, made_by}, Store.meets}
-use Rattle.sharc_invariant.specs.{Types.Targets, Labels.Labels, Typed.IsWellTyped, World.ObjectState, Objects.{objects_behind, made_behind, new_behind, objects_now, owned, type_held}, State.IsSmall, Laws.{Keeps, CellsAreThere, PointersAreThere, AccessesAreAllowed}}
-use Rattle.sharc_history_laws.proofs.{Acts.{given_at, freed_at, About}, Consists.Consists, Lists.{Newest, live_in, live_other}, Rules.{pushed, same_behind, put_same, decide, number_yes, number_not}, Tables.{header_at, header_in, header_of}}
-use Rattle.sharc_lemmas.proofs.Bools.{yes}
+use Rattle.sharc_history_laws.proofs.{Imports.{◌≡◌, ℕ, Bool, true, false, ◌||◌, cond, List, ◌∷◌, Option, Some, None, refl, sym, ap, ◌∙◌, ⊎_elim, find, SourceEvent, Object, NewStage, Code, Instr, Shape, Stage, Makes, RunLaws, Fits, Machine, instr_at, ref, Turn, Global, MayTurn, after_turn, one_thread, bounds, place_after, makes, frees, is_number, made_by, meets, Targets, Labels, IsWellTyped, ObjectState, objects_behind, made_behind, new_behind, objects_now, owned, type_held, IsSmall, Keeps, CellsAreThere, PointersAreThere, AccessesAreAllowed, yes}, Acts.{given_at, freed_at, About}, Consists.Consists, Lists.{Newest, live_in, live_other}, Rules.{pushed, same_behind, put_same, decide, number_yes, number_not}, Tables.{header_at, header_in, header_of}}
 
 -- an event that frees the object, and does not make it
-live_freed : (e : SourceEvent) (L : Newest) (n : ℕ) → makes (objects.Made n) e ≡ false → frees (objects.Made n) e ≡ true → live_in (e ∷ L) n ≡ false
+live_freed : (e : SourceEvent) (L : Newest) (n : ℕ) → makes (Object.Made n) e ≡ false → frees (Object.Made n) e ≡ true → live_in (e ∷ L) n ≡ false
 live_freed e L n a b =
-    ap (λ b. meets (makes (objects.Made n)) (cond (b || frees (objects.Made n) e) (Some e) (find (λ e. makes (objects.Made n) e || frees (objects.Made n) e) L))) a
-    ∙ ap (λ b. meets (makes (objects.Made n)) (cond b (Some e) (find (λ e. makes (objects.Made n) e || frees (objects.Made n) e) L))) b
+    ap (λ b. meets (makes (Object.Made n)) (cond (b || frees (Object.Made n) e) (Some e) (find (λ e. makes (Object.Made n) e || frees (Object.Made n) e) L))) a
+    ∙ ap (λ b. meets (makes (Object.Made n)) (cond b (Some e) (find (λ e. makes (Object.Made n) e || frees (Object.Made n) e) L))) b
     ∙ a
 
 -- ---- objects after a turn
 module _ (ls : Labels) (t : ℕ) (m m' : Machine) (f : ℕ → ObjectState) (n : ℕ) where
   new_live : (r : ℕ) (y : NewStage) → header_at y ≡ Some n → (new_behind ls t r m' y f n).live ≡ true
-  new_live r (news.Length header) e = let same : n ≡ header = cc in ap (λ k. (Rattle.sharc_code.specs.Runs.put f header (owned t (type_held ls m' r)) k).live) same ∙ ap (λ (o : ObjectState). o.live) (put_same f header (owned t (type_held ls m' r)))
+  new_live r (NewStage.Length header) e = let same : n ≡ header = cc in ap (λ k. (Rattle.sharc_code.specs.Runs.put f header (owned t (type_held ls m' r)) k).live) same ∙ ap (λ (o : ObjectState). o.live) (put_same f header (owned t (type_held ls m' r)))
   new_live r _ e = absurd (cc)
 
   makes_live : (r : ℕ) (y : Stage) → header_in y ≡ Some n → (made_behind ls t r m' y f n).live ≡ true
@@ -30,11 +19,11 @@ module _ (ls : Labels) (t : ℕ) (m m' : Machine) (f : ℕ → ObjectState) (n :
   makes_live r _ e = absurd (cc)
 
   pub made_live : (i : Instr) → header_of i m.own.stage ≡ Some n → (objects_behind ls t i m m' f n).live ≡ true
-  made_live (instrs.New r count cells site) e = makes_live r m.own.stage e
+  made_live (Instr.New r count cells site) e = makes_live r m.own.stage e
   made_live _ e = absurd (cc)
 
   given_live : (i : Instr) → given_at i m ≡ Some n → (objects_behind ls t i m m' f n).live ≡ true
-  given_live (instrs.Give r site) e = let same : n ≡ ref m r = cc in ap (λ k. (Rattle.sharc_code.specs.Runs.put f (ref m r) (owned t (type_held ls m' r)) k).live) same ∙ ap (λ (o : ObjectState). o.live) (put_same f (ref m r) (owned t (type_held ls m' r)))
+  given_live (Instr.Give r site) e = let same : n ≡ ref m r = cc in ap (λ k. (Rattle.sharc_code.specs.Runs.put f (ref m r) (owned t (type_held ls m' r)) k).live) same ∙ ap (λ (o : ObjectState). o.live) (put_same f (ref m r) (owned t (type_held ls m' r)))
   given_live _ e = absurd (cc)
 
   -- one that was there, and is not freed
@@ -81,7 +70,7 @@ module _ (cell_laws : CellsAreThere) (pointers : PointersAreThere) (rights : Acc
     kept : live_in L n ≡ true → (freed_at i ((place_after code s earlier).threads one.thread) ≡ Some n → ⊥) → (obj n).live ≡ true
     kept live not = at_n (still_live ls t m m' h.world.obj n i (old n live) not)
 
-    by_event : (e : SourceEvent) → Tells (Some e) → live_in (e ∷ L) n ≡ true → (a b : Bool) → makes (objects.Made n) e ≡ a → frees (objects.Made n) e ≡ b → (obj n).live ≡ true
+    by_event : (e : SourceEvent) → Tells (Some e) → live_in (e ∷ L) n ≡ true → (a b : Bool) → makes (Object.Made n) e ≡ a → frees (Object.Made n) e ≡ b → (obj n).live ≡ true
     by_event e tells live true b p q = at_n (made_live ls t m m' h.world.obj n i (made_is (made_by e e.act) refl))
       where
         made_is : (o : Option ℕ) → made_by e e.act ≡ o → header_of i ((place_after code s earlier).threads one.thread).own.stage ≡ Some n
@@ -95,7 +84,7 @@ module _ (cell_laws : CellsAreThere) (pointers : PointersAreThere) (rights : Acc
 
     lives : (ev : Option SourceEvent) → Tells ev → live_in (pushed ev L) n ≡ true → (obj n).live ≡ true
     lives None tells live = kept live (λ is. let f : None ≡ Some n = tells.frees ∙ is in cc)
-    lives (Some e) tells live = by_event e tells live (makes (objects.Made n) e) (frees (objects.Made n) e) refl refl
+    lives (Some e) tells live = by_event e tells live (makes (Object.Made n) e) (frees (Object.Made n) e) refl refl
 
   pub lives_told : (obj : ℕ → ObjectState) → obj ≡ objects_now code s ls (place_after code s earlier) one h.world.obj → (L : Newest) → LivesTold L h.world.obj → (ev : Option SourceEvent) → Tells ev → LivesTold (pushed ev L) obj
   lives_told obj is L old ev tells n live = lives obj is L old n ev tells live

@@ -1,14 +1,5 @@
 -- The mode of an access that a lock check is before names the mutex that the check looks for.
-use Rattle.std.proofs.Common.{◌≡◌, ℕ, pos, zero, suc, ◌+◌, ◌-◌, ◌*◌, ◌<◌, ◌≤◌, ◌≢◌, Some, refl, sym, ap, ◌∙◌, subst, arith}
-use Rattle.std.specs.Prelude.{slice_index_or}
-use Rattle.sharc_tree.specs.declared.event.CellAt.{CellAt}
-use Rattle.sharc_tree.specs.declared.event.CellMode.TheVariants as modes
-use Rattle.sharc_code.specs.{declared.code.Code.Code, declared.code.PlaceMode.PlaceMode, declared.instr.Cell.Cell, declared.shape.Shape.Shape, Arithmetic.word_of, Layout.Fits, Machine.{Machine, ref, int}, Ranges.IsInGlobal, Runs.Global, Says.{cell_at, global_cell, made_cell, mode_of, no_global, lock_through}}
-use Rattle.sharc_code.specs.declared.code.PlaceMode.TheVariants as places
-use Rattle.sharc_code.specs.declared.instr.Cell.TheVariants as cells
-use Rattle.sharc_compile.specs.Consistent.{IsThere}
-use Rattle.sharc_invariant.specs.{Types.{Targets, Lock, FieldLock, StaticType, ObjectType, cells_of}, Types.Lock.{Global as GlobalLock, Through, Self}, Types.FieldLock.{OfType, OfGlobals, OfElement}, Types.FieldMode.Under, Labels.{Refers, Element, OfElement as OfElementCell, OfGlobal, Number, Anything, Exactly, Within, Indexes, Label, Labels, LessNumber, SameReference, Itself, IsCopy, HasCopy, Copies, Chained}, Typed.{IsWellTyped, IsMutexOf, IsMode, IsTypeMode, IsLockMode, IsLockCell, IsTypeLock, IsSibling, HasBefore, no_lock}, State.{State, ElementStands, OnHold, View, view_of, types_at}, MachineInvariant.IsOn}
-use Rattle.sharc_history_laws.proofs.{Stands.rn, Locked.{Names, names_one, names_cell, element_one, same_refs, number_of_global, number_of_element, same_type}}
+use Rattle.sharc_history_laws.proofs.{Imports.{◌≡◌, ℕ, pos, zero, suc, ◌+◌, ◌-◌, ◌*◌, ◌<◌, ◌≤◌, ◌≢◌, Some, refl, sym, ap, ◌∙◌, subst, arith, slice_index_or, CellAt, CellMode, Code, PlaceMode, Cell, Shape, word_of, Fits, Machine, ref, int, IsInGlobal, Global, cell_at, global_cell, made_cell, mode_of, no_global, lock_through, IsThere, Targets, Lock, FieldLock, StaticType, ObjectType, cells_of, GlobalLock, Through, Self, OfType, OfGlobals, OfElement, Under, Refers, Element, OfElementCell, OfGlobal, Number, Anything, Exactly, Within, Indexes, Label, Labels, LessNumber, SameReference, Itself, IsCopy, HasCopy, Copies, Chained, IsWellTyped, IsMutexOf, IsMode, IsTypeMode, IsLockMode, IsLockCell, IsTypeLock, IsSibling, HasBefore, no_lock, State, ElementStands, OnHold, View, view_of, types_at, IsOn}, Stands.rn, Locked.{Names, names_one, names_cell, element_one, same_refs, number_of_global, number_of_element, same_type}}
 
 refers_eq : (a b : StaticType) → Refers a ≡ Refers b → a ≡ b
 refers_eq a b e = cc
@@ -83,7 +74,7 @@ module _ (x : Targets) (code : Code) (s : Shape) (ls : Labels) (wt : IsWellTyped
   view = view_of st.elements world t (g.threads t)
 
   abbrev IsLockedAs : CellAt → PlaceMode → Cell → Type 0
-  IsLockedAs at mode d = mode_of code (g.threads t) at mode ≡ modes.Locked (Some (cell_at code (g.threads t) d))
+  IsLockedAs at mode d = mode_of code (g.threads t) at mode ≡ CellMode.Locked (Some (cell_at code (g.threads t) d))
 
   same_now : (a b : ℕ) → SameReference k a b → ref (g.threads t) a ≡ ref (g.threads t) b
   same_now a b h = same_refs x code s ls wt fits g world st t on hold a b (same_before here k copies values a b h)
@@ -95,40 +86,40 @@ module _ (x : Targets) (code : Code) (s : Shape) (ls : Labels) (wt : IsWellTyped
   element_now i b field e is = number_of_element x code s ls wt fits g world st t on hold i b field e (element_before here k copies values i b field e is)
 
   -- the lock of a type
-  through_now : (at : CellAt) (a j b i : ℕ) (mode : PlaceMode) → mode ≡ places.LockedThrough b j → ref (g.threads t) b ≡ ref (g.threads t) a → i ≡ j → 0 < ref (g.threads t) a → IsLockedAs at mode (cells.Object a i)
+  through_now : (at : CellAt) (a j b i : ℕ) (mode : PlaceMode) → mode ≡ PlaceMode.LockedThrough b j → ref (g.threads t) b ≡ ref (g.threads t) a → i ≡ j → 0 < ref (g.threads t) a → IsLockedAs at mode (Cell.Object a i)
   through_now at a j b i mode is same same_cell there =
       ap (mode_of code m at) is
-      ∙ ap (λ n. modes.Locked (lock_through n j)) same
-      ∙ ap (λ mutex. modes.Locked mutex) (through_some (ref m a) j (some_ref (ref m a) there))
-      ∙ ap (λ j. modes.Locked (Some (made_cell (ref m a) j))) (sym same_cell)
+      ∙ ap (λ n. CellMode.Locked (lock_through n j)) same
+      ∙ ap (λ mutex. CellMode.Locked mutex) (through_some (ref m a) j (some_ref (ref m a) there))
+      ∙ ap (λ j. CellMode.Locked (Some (made_cell (ref m a) j))) (sym same_cell)
 
   lock_now : (at : CellAt) (r : ℕ) (lock : Lock) (d : Cell) (mode : PlaceMode) → IsLockCell code k r lock d → IsLockMode code k r lock mode → IsThere code (g.threads t) d → IsLockedAs at mode d
-  lock_now at r (GlobalLock j) (cells.Global g' p) mode cell is there =
+  lock_now at r (GlobalLock j) (Cell.Global g' p) mode cell is there =
       let inside : IsInGlobal code.globals.items is.0 (j + 2) = record { known = is.2.is; low = is.2.from; high = is.2.until } in
       let inside' : IsInGlobal code.globals.items is.0 p = subst (IsInGlobal code.globals.items is.0) (sym cell.0) inside in
       let low = inside'.low in
       let a : Names code (global_cell code is.0 p) 0 p = (refl, inside', (let z = low in omega arith)) in
-      let b : Names code (global_cell code g' p) 0 p = names_cell code m (cells.Global g' p) there in
-      ap (mode_of code m at) is.1 ∙ ap (λ q. modes.Locked (Some (global_cell code is.0 q))) (sym cell.0) ∙ ap (λ c. modes.Locked (Some c)) (names_one x code ls wt (global_cell code is.0 p) (global_cell code g' p) 0 p a b)
-  lock_now at r (GlobalLock j) (cells.GlobalAt g' i) mode cell is there = absurd cell
-  lock_now at r (GlobalLock j) (cells.Object a i) mode cell is there = absurd cell
-  lock_now at r (GlobalLock j) (cells.ObjectAt a i) mode cell is there = absurd cell
-  lock_now at r (Through q j) (cells.Object a i) mode cell is there = through_now at a j is.0 i mode is.1 (same_now is.0 q is.2 ∙ sym (same_now a q cell.1)) cell.0 there
-  lock_now at r (Through q j) (cells.Global g' p) mode cell is there = absurd cell
-  lock_now at r (Through q j) (cells.GlobalAt g' i) mode cell is there = absurd cell
-  lock_now at r (Through q j) (cells.ObjectAt a i) mode cell is there = absurd cell
-  lock_now at r (Self j) (cells.Object a i) mode cell is there = through_now at a j is.0 i mode is.1 (same_now is.0 r is.2 ∙ sym (same_now a r cell.1)) cell.0 there
-  lock_now at r (Self j) (cells.Global g' p) mode cell is there = absurd cell
-  lock_now at r (Self j) (cells.GlobalAt g' i) mode cell is there = absurd cell
-  lock_now at r (Self j) (cells.ObjectAt a i) mode cell is there = absurd cell
+      let b : Names code (global_cell code g' p) 0 p = names_cell code m (Cell.Global g' p) there in
+      ap (mode_of code m at) is.1 ∙ ap (λ q. CellMode.Locked (Some (global_cell code is.0 q))) (sym cell.0) ∙ ap (λ c. CellMode.Locked (Some c)) (names_one x code ls wt (global_cell code is.0 p) (global_cell code g' p) 0 p a b)
+  lock_now at r (GlobalLock j) (Cell.GlobalAt g' i) mode cell is there = absurd cell
+  lock_now at r (GlobalLock j) (Cell.Object a i) mode cell is there = absurd cell
+  lock_now at r (GlobalLock j) (Cell.ObjectAt a i) mode cell is there = absurd cell
+  lock_now at r (Through q j) (Cell.Object a i) mode cell is there = through_now at a j is.0 i mode is.1 (same_now is.0 q is.2 ∙ sym (same_now a q cell.1)) cell.0 there
+  lock_now at r (Through q j) (Cell.Global g' p) mode cell is there = absurd cell
+  lock_now at r (Through q j) (Cell.GlobalAt g' i) mode cell is there = absurd cell
+  lock_now at r (Through q j) (Cell.ObjectAt a i) mode cell is there = absurd cell
+  lock_now at r (Self j) (Cell.Object a i) mode cell is there = through_now at a j is.0 i mode is.1 (same_now is.0 r is.2 ∙ sym (same_now a r cell.1)) cell.0 there
+  lock_now at r (Self j) (Cell.Global g' p) mode cell is there = absurd cell
+  lock_now at r (Self j) (Cell.GlobalAt g' i) mode cell is there = absurd cell
+  lock_now at r (Self j) (Cell.ObjectAt a i) mode cell is there = absurd cell
 
   type_now : (at : CellAt) (n : ℕ) (c d : Cell) (mode : PlaceMode) → IsTypeLock code k n c d → IsTypeMode code k n c mode → IsThere code (g.threads t) d → IsLockedAs at mode d
-  type_now at n (cells.Global g' p) d mode cell is there = absurd cell
-  type_now at n (cells.GlobalAt g' i) d mode cell is there = absurd cell
-  type_now at n (cells.Object r i) d mode cell is there =
+  type_now at n (Cell.Global g' p) d mode cell is there = absurd cell
+  type_now at n (Cell.GlobalAt g' i) d mode cell is there = absurd cell
+  type_now at n (Cell.Object r i) d mode cell is there =
       let same : is.0 ≡ cell.0 = refers_eq is.0 cell.0 (sym is.1 ∙ cell.1) in
       lock_now at r (slice_index_or cell.0.locks n no_lock) d mode cell.3 (subst (λ (ty : StaticType). IsLockMode code k r (slice_index_or ty.locks n no_lock) mode) same is.2) there
-  type_now at n (cells.ObjectAt r i) d mode cell is there =
+  type_now at n (Cell.ObjectAt r i) d mode cell is there =
       let same : is.0 ≡ cell.0 = refers_eq is.0 cell.0 (sym is.1 ∙ cell.1) in
       lock_now at r (slice_index_or cell.0.locks n no_lock) d mode cell.3 (subst (λ (ty : StaticType). IsLockMode code k r (slice_index_or ty.locks n no_lock) mode) same is.2) there
 
@@ -137,7 +128,7 @@ module _ (x : Targets) (code : Code) (s : Shape) (ls : Labels) (wt : IsWellTyped
   beside c field mutex = record { object = (cell_at code (g.threads t) c).object; cell = (cell_at code (g.threads t) c).cell - field + mutex }
 
   sibling_now : (c d : Cell) (field mutex : ℕ) → IsSibling k field mutex c d → HasBefore code k field c → IsThere code (g.threads t) d → beside c field mutex ≡ cell_at code (g.threads t) d
-  sibling_now (cells.Global g' p) (cells.Global h q) field mutex is before there =
+  sibling_now (Cell.Global g' p) (Cell.Global h q) field mutex is before there =
       let e : global_cell code g' q ≡ global_cell code h q = ap (λ g. global_cell code g q) is.0 in
       let a = is.2 in
       let n : p - 2 * (slice_index_or code.globals.items g' no_global).granule - field + mutex ≡ q - 2 * (slice_index_or code.globals.items g' no_global).granule = numbers p q (slice_index_or code.globals.items g' no_global).granule field mutex before a in
@@ -145,7 +136,7 @@ module _ (x : Targets) (code : Code) (s : Shape) (ls : Labels) (wt : IsWellTyped
     where
       numbers : (p q granule field mutex : ℕ) → 2 * granule + field ≤ p → q ≡ p - field + mutex → p - 2 * granule - field + mutex ≡ q - 2 * granule
       numbers p q granule field mutex low e = omega arith
-  sibling_now (cells.GlobalAt g' i) (cells.GlobalAt h j) field mutex is before there =
+  sibling_now (Cell.GlobalAt g' i) (Cell.GlobalAt h j) field mutex is before there =
       let w = is.1 in
       let first = w.0 in
       let a = global_now i first w.1 w.2 w.3 w.4 in
@@ -163,10 +154,10 @@ module _ (x : Targets) (code : Code) (s : Shape) (ls : Labels) (wt : IsWellTyped
     where
       numbers : (p q first more granule field mutex : ℕ) → 2 * granule + field ≤ first → p ≡ first + more → q ≡ first - field + mutex + more → p - 2 * granule - field + mutex ≡ q - 2 * granule
       numbers p q first more granule field mutex low a b = omega arith
-  sibling_now (cells.Object r i) (cells.Object q j) field mutex is before there =
+  sibling_now (Cell.Object r i) (Cell.Object q j) field mutex is before there =
       let same = same_now r q is.0 in
       ap (λ n. made_cell n (i - field + mutex)) same ∙ ap (made_cell (ref m q)) (sym is.2)
-  sibling_now (cells.ObjectAt r i) (cells.ObjectAt q j) field mutex is before there =
+  sibling_now (Cell.ObjectAt r i) (Cell.ObjectAt q j) field mutex is before there =
       let same = same_now r q is.0 in
       let w = is.1 in
       let a = element_now i r field w.0 w.1 in
@@ -182,22 +173,22 @@ module _ (x : Targets) (code : Code) (s : Shape) (ls : Labels) (wt : IsWellTyped
     where
       numbers : (p q a b field mutex : ℕ) → p ≡ a + field → q ≡ b + mutex → a ≡ b → p - field + mutex ≡ q
       numbers p q a b field mutex u v e = omega arith
-  sibling_now (cells.Global g' p) (cells.GlobalAt h j) field mutex is before there = absurd is
-  sibling_now (cells.Global g' p) (cells.Object q j) field mutex is before there = absurd is
-  sibling_now (cells.Global g' p) (cells.ObjectAt q j) field mutex is before there = absurd is
-  sibling_now (cells.GlobalAt g' i) (cells.Global h q) field mutex is before there = absurd is
-  sibling_now (cells.GlobalAt g' i) (cells.Object q j) field mutex is before there = absurd is
-  sibling_now (cells.GlobalAt g' i) (cells.ObjectAt q j) field mutex is before there = absurd is
-  sibling_now (cells.Object r i) (cells.Global h q) field mutex is before there = absurd is
-  sibling_now (cells.Object r i) (cells.GlobalAt h j) field mutex is before there = absurd is
-  sibling_now (cells.Object r i) (cells.ObjectAt q j) field mutex is before there = absurd is
-  sibling_now (cells.ObjectAt r i) (cells.Global h q) field mutex is before there = absurd is
-  sibling_now (cells.ObjectAt r i) (cells.GlobalAt h j) field mutex is before there = absurd is
-  sibling_now (cells.ObjectAt r i) (cells.Object q j) field mutex is before there = absurd is
+  sibling_now (Cell.Global g' p) (Cell.GlobalAt h j) field mutex is before there = absurd is
+  sibling_now (Cell.Global g' p) (Cell.Object q j) field mutex is before there = absurd is
+  sibling_now (Cell.Global g' p) (Cell.ObjectAt q j) field mutex is before there = absurd is
+  sibling_now (Cell.GlobalAt g' i) (Cell.Global h q) field mutex is before there = absurd is
+  sibling_now (Cell.GlobalAt g' i) (Cell.Object q j) field mutex is before there = absurd is
+  sibling_now (Cell.GlobalAt g' i) (Cell.ObjectAt q j) field mutex is before there = absurd is
+  sibling_now (Cell.Object r i) (Cell.Global h q) field mutex is before there = absurd is
+  sibling_now (Cell.Object r i) (Cell.GlobalAt h j) field mutex is before there = absurd is
+  sibling_now (Cell.Object r i) (Cell.ObjectAt q j) field mutex is before there = absurd is
+  sibling_now (Cell.ObjectAt r i) (Cell.Global h q) field mutex is before there = absurd is
+  sibling_now (Cell.ObjectAt r i) (Cell.GlobalAt h j) field mutex is before there = absurd is
+  sibling_now (Cell.ObjectAt r i) (Cell.Object q j) field mutex is before there = absurd is
 
   -- of an access of cell c, whose mutex is in cell d
   pub lock_mode_now : (c d : Cell) (lock : FieldLock) (mode : PlaceMode) → IsMutexOf code k lock c d → IsMode code k c (Under lock) mode → IsThere code (g.threads t) d
-      → mode_of code (g.threads t) (cell_at code (g.threads t) c) mode ≡ modes.Locked (Some (cell_at code (g.threads t) d))
+      → mode_of code (g.threads t) (cell_at code (g.threads t) c) mode ≡ CellMode.Locked (Some (cell_at code (g.threads t) d))
   lock_mode_now c d (OfType n) mode cell is there = type_now (cell_at code m c) n c d mode cell is there
   lock_mode_now c d (OfGlobals j) mode cell is there = lock_now (cell_at code m c) 0 (GlobalLock j) d mode cell is there
-  lock_mode_now c d (OfElement field mutex) mode cell is there = ap (mode_of code m (cell_at code m c)) is.0 ∙ ap (λ c. modes.Locked (Some c)) (sibling_now c d field mutex cell is.1 there)
+  lock_mode_now c d (OfElement field mutex) mode cell is there = ap (mode_of code m (cell_at code m c)) is.0 ∙ ap (λ c. CellMode.Locked (Some c)) (sibling_now c d field mutex cell is.1 there)

@@ -1,18 +1,6 @@
 -- A lock check that is refused is of an access whose mode names the mutex that the check looks for.
-use Rattle.std.proofs.{Common.{◌≡◌, ℕ, inl, inr, zero, suc, ◌+◌, Bool, true, false, List, [], ◌∷◌, ◌++◌, Some, None, refl, sym, ap, ◌∙◌, subst, ⊎_elim}, lemmas.Bool.cases_eq}
-use Rattle.std.specs.Prelude.{◌==◌}
-use Rattle.sharc_tree.specs.{declared.event.CellAt.CellAt, declared.event.SourceEvent.SourceEvent}
-use Rattle.sharc_tree.specs.declared.event.CellMode.TheVariants as modes
-use Rattle.sharc_code.specs.{declared.code.Code.Code, declared.code.PlaceMode.PlaceMode, declared.instr.Cell.Cell, declared.instr.Instr.Instr, declared.shape.Shape.Shape, declared.state.Stop.Stop, declared.state.Stop.TheVariants.NoLock, Layout.Fits, Machine.{Machine, instr_at, word, is_of_null, stopped}, Opening.opening_words, Outcomes.{TurnsComeOut, MayStop}, Path.{turn, after}, Runs.{Turn, Global, IsRun, MayTurn, put, state_now, result_of, opening_of}, Says.{cell_at, made_cell, mode_of, place_at, lock_through}, Whole.{one_thread, bounds, place_after}}
-use Rattle.sharc_code.specs.declared.code.PlaceMode.TheVariants as places
-use Rattle.sharc_code.specs.declared.instr.Cell.TheVariants as cells
-use Rattle.sharc_code.specs.declared.instr.Instr.TheVariants as instrs
-use Rattle.sharc_compile.specs.Consistent.{IsThere}
-use Rattle.sharc_meaning.specs.{Events.{Access, access_by, events_of, holds_mutex}, Obeys.{History, Obeys, Until}}
-use Rattle.sharc_invariant.specs.{Types.{Targets, Field, FieldMode, Content}, Labels.{Gate, Closed, Checked, Holds, Loaded, HoldsLoaded, Sole, Label, Labels, LessGate, LessNumber, SameReference, gated}, Typed.{IsWellTyped, Fine, Accesses as TypedAccess, MayAccess, IsMode, knows_base}, State.{State, OnHold}, MachineInvariant.IsOn, Laws.CellsAreThere}
-use Rattle.sharc_history_laws.specs.{Reports.{IsLockCheck, LacksLock}, Followed.{Accesses, IsLocked, IsFollowed, ChecksAreFollowed, access_to, access_of, access_checked, ShowsLock}}
-use Rattle.sharc_history_laws.proofs.{Consists.Consists, Finds.is_there, Followed.accessed_is, LockModes.{same_copies, lock_mode_now}, Outcomes.reports, Rules.{put_same, put_other}, Single.rests_hold, Sole.{Halting, stop_none}}
-use Rattle.sharc_lemmas.proofs.Bools.{yes}
+use Rattle.sharc_history_laws.proofs.{Imports.{◌≡◌, ℕ, inl, inr, zero, suc, ◌+◌, Bool, true, false, List, [], ◌∷◌, ◌++◌, Some, None, refl, sym, ap, ◌∙◌, subst, ⊎_elim, cases_eq, ◌==◌, CellAt, SourceEvent, CellMode, Code, PlaceMode, Cell, Instr, Shape, Stop, NoLock, Fits, Machine, instr_at, word, is_of_null, stopped, opening_words, TurnsComeOut, MayStop, turn, after, Turn, Global, IsRun, MayTurn, put, state_now, result_of, opening_of, cell_at, made_cell, mode_of, place_at, lock_through, one_thread, bounds, place_after, IsThere, Access, access_by, events_of, holds_mutex, History, Obeys, Until, Targets, Field, FieldMode, Content, Gate, Closed, Checked, Holds, Loaded, HoldsLoaded, Sole, Label, Labels, LessGate, LessNumber, SameReference, gated, IsWellTyped, Fine, Accesses as TypedAccess, MayAccess, IsMode, knows_base, State, OnHold, IsOn, CellsAreThere, IsLockCheck, LacksLock, IsLocked, IsFollowed, ChecksAreFollowed, access_to, access_of, access_checked, ShowsLock, yes}, Consists.Consists, Finds.is_there, Followed.accessed_is, LockModes.{same_copies, lock_mode_now}, Outcomes.reports, Rules.{put_same, put_other}, Single.rests_hold, Sole.{Halting, stop_none}}
+use Rattle.sharc_history_laws.specs.Followed.{Accesses}
 
 -- ---- the access that the check is of
 -- of the instruction, which accesses this cell at this site
@@ -28,14 +16,14 @@ typed_access x code ls pc l write c site i h fine = by write i h fine
     moved d at write f e g k = record { write = write; field = f; accesses = subst (λ at. TypedAccess x code ls l write c at f) (sym g) (subst (λ d. TypedAccess x code ls l write d at f) (sym e) k) }
 
     reads : (i : Instr) → Accesses false c site i → Fine x code ls pc l i → IsTypedAccess x code ls l c site
-    reads (instrs.Load r d at) h f = moved d at false f.1.0 h.0 h.1 f.1.2
-    reads (instrs.LoadRef d at) h f = moved d at false f.0 h.0 h.1 f.2
+    reads (Instr.Load r d at) h f = moved d at false f.1.0 h.0 h.1 f.1.2
+    reads (Instr.LoadRef d at) h f = moved d at false f.0 h.0 h.1 f.2
     reads _ h f = absurd h
 
     writes : (i : Instr) → Accesses true c site i → Fine x code ls pc l i → IsTypedAccess x code ls l c site
-    writes (instrs.Store r d at) h f = moved d at true f.0 h.0 h.1 f.2
-    writes (instrs.Exchange r d at) h f = moved d at true f.1.0 h.0 h.1 f.1.2
-    writes (instrs.TakeCell r d at) h f = moved d at true f.1.0 h.0 h.1 f.1.2
+    writes (Instr.Store r d at) h f = moved d at true f.0 h.0 h.1 f.2
+    writes (Instr.Exchange r d at) h f = moved d at true f.1.0 h.0 h.1 f.1.2
+    writes (Instr.TakeCell r d at) h f = moved d at true f.1.0 h.0 h.1 f.1.2
     writes _ h f = absurd h
 
     by : (write : Bool) (i : Instr) → Accesses write c site i → Fine x code ls pc l i → IsTypedAccess x code ls l c site
@@ -51,22 +39,22 @@ holds_is c d (HoldsLoaded b) h e = let f : HoldsLoaded b ≡ Holds d = e in cc
 holds_is c d (Sole r b) h e = let f : Sole r b ≡ Holds d = e in cc
 
 base_copies : (l : Label) (c : Cell) (g : Gate) (r : ℕ) → (gated (knows_base l c) g).same r ≡ l.same r
-base_copies l (cells.Global h p) g r = refl
-base_copies l (cells.GlobalAt h i) g r = refl
-base_copies l (cells.Object q i) g r = refl
-base_copies l (cells.ObjectAt q i) g r = refl
+base_copies l (Cell.Global h p) g r = refl
+base_copies l (Cell.GlobalAt h i) g r = refl
+base_copies l (Cell.Object q i) g r = refl
+base_copies l (Cell.ObjectAt q i) g r = refl
 
 base_numbers : (l : Label) (c : Cell) (g : Gate) (i : ℕ) → (gated (knows_base l c) g).ints i ≡ l.ints i
-base_numbers l (cells.Global h p) g i = refl
-base_numbers l (cells.GlobalAt h q) g i = refl
-base_numbers l (cells.Object q p) g i = refl
-base_numbers l (cells.ObjectAt q p) g i = refl
+base_numbers l (Cell.Global h p) g i = refl
+base_numbers l (Cell.GlobalAt h q) g i = refl
+base_numbers l (Cell.Object q p) g i = refl
+base_numbers l (Cell.ObjectAt q p) g i = refl
 
 base_gate : (l : Label) (c : Cell) (g : Gate) → (gated (knows_base l c) g).gate ≡ g
-base_gate l (cells.Global h p) g = refl
-base_gate l (cells.GlobalAt h q) g = refl
-base_gate l (cells.Object q p) g = refl
-base_gate l (cells.ObjectAt q p) g = refl
+base_gate l (Cell.Global h p) g = refl
+base_gate l (Cell.GlobalAt h q) g = refl
+base_gate l (Cell.Object q p) g = refl
+base_gate l (Cell.ObjectAt q p) g = refl
 
 -- a lock that a ChkLock looks for is that of a field that is under a lock
 module _ (x : Targets) (code : Code) (ls : Labels) (l : Label) (c : Cell) (write : Bool) (holds : Content) where
@@ -100,11 +88,11 @@ module _ (cell_laws : CellsAreThere) (x : Targets) (code : Code) (s : Shape) (ls
   pub record NamesLock (mutex : CellAt) : Type 0 where
     pub access : Access
     pub is : access_of code (g.threads t) (instr_at code ((g.threads t).at.pc + 1)) ≡ Some access
-    pub mode : access.mode ≡ modes.Locked (Some mutex)
+    pub mode : access.mode ≡ CellMode.Locked (Some mutex)
 
-  pub of_cell : (d : Cell) (site : ℕ) → instr_at code (g.threads t).at.pc ≡ instrs.ChkLock d site → is_of_null (g.threads t) d ≡ false → NamesLock (cell_at code (g.threads t) d)
+  pub of_cell : (d : Cell) (site : ℕ) → instr_at code (g.threads t).at.pc ≡ Instr.ChkLock d site → is_of_null (g.threads t) d ≡ false → NamesLock (cell_at code (g.threads t) d)
   of_cell d site is some =
-      let i = instrs.ChkLock d site in
+      let i = Instr.ChkLock d site in
       let pc = m.at.pc in
       let f : IsFollowed code i (instr_at code (pc + 1)) = subst (λ j. IsFollowed code j (instr_at code (pc + 1))) is (followed pc) in
       let locked = f.0 in
@@ -126,16 +114,16 @@ module _ (cell_laws : CellsAreThere) (x : Targets) (code : Code) (s : Shape) (ls
         mode = lock_mode_now x code s ls wt fits g world st t on hold next copies values c d u.lock (place_at code site).mode mutex_of u.is there;
       }
 
-  pub of_loaded : (site : ℕ) → instr_at code (g.threads t).at.pc ≡ instrs.ChkLockLoaded site → ((g.threads t).pending == 0) ≡ false → NamesLock (made_cell (g.threads t).pending 0)
+  pub of_loaded : (site : ℕ) → instr_at code (g.threads t).at.pc ≡ Instr.ChkLockLoaded site → ((g.threads t).pending == 0) ≡ false → NamesLock (made_cell (g.threads t).pending 0)
   of_loaded site is some =
       let pc = m.at.pc in
-      let f : IsFollowed code (instrs.ChkLockLoaded site) (instr_at code (pc + 1)) = subst (λ j. IsFollowed code j (instr_at code (pc + 1))) is (followed pc) in
+      let f : IsFollowed code (Instr.ChkLockLoaded site) (instr_at code (pc + 1)) = subst (λ j. IsFollowed code j (instr_at code (pc + 1))) is (followed pc) in
       let write = f.1.0 in
       let c = f.1.1 in
       record {
         access = access_to code m c site write;
         is = accessed_is code m c site write (instr_at code (pc + 1)) f.1.2;
-        mode = ap (mode_of code m (cell_at code m c)) f.0 ∙ ap (λ mutex. modes.Locked mutex) (through m.pending some);
+        mode = ap (mode_of code m (cell_at code m c)) f.0 ∙ ap (λ mutex. CellMode.Locked mutex) (through m.pending some);
       }
     where
       through : (n : ℕ) → (n == 0) ≡ false → lock_through n 0 ≡ Some (made_cell n 0)
@@ -145,20 +133,20 @@ module _ (cell_laws : CellsAreThere) (x : Targets) (code : Code) (s : Shape) (ls
 -- ---- the machine that stopped has the same registers
 module _ (code : Code) (m : Machine) (stop : Stop) where
   same_cell : (c : Cell) → cell_at code (stopped m stop) c ≡ cell_at code m c
-  same_cell (cells.Global g p) = refl
-  same_cell (cells.GlobalAt g r) = refl
-  same_cell (cells.Object r p) = refl
-  same_cell (cells.ObjectAt r i) = refl
+  same_cell (Cell.Global g p) = refl
+  same_cell (Cell.GlobalAt g r) = refl
+  same_cell (Cell.Object r p) = refl
+  same_cell (Cell.ObjectAt r i) = refl
 
   same_mode : (at : CellAt) (mode : PlaceMode) → mode_of code (stopped m stop) at mode ≡ mode_of code m at mode
-  same_mode at places.Private = refl
-  same_mode at places.Readonly = refl
-  same_mode at places.Racy = refl
-  same_mode at places.Dynamic = refl
-  same_mode at (places.LockedGlobal g p) = refl
-  same_mode at (places.LockedSibling f mutex) = refl
-  same_mode at (places.LockedThrough r p) = refl
-  same_mode at places.LockedLoaded = refl
+  same_mode at PlaceMode.Private = refl
+  same_mode at PlaceMode.Readonly = refl
+  same_mode at PlaceMode.Racy = refl
+  same_mode at PlaceMode.Dynamic = refl
+  same_mode at (PlaceMode.LockedGlobal g p) = refl
+  same_mode at (PlaceMode.LockedSibling f mutex) = refl
+  same_mode at (PlaceMode.LockedThrough r p) = refl
+  same_mode at PlaceMode.LockedLoaded = refl
 
   same_to : (c : Cell) (site : ℕ) (write : Bool) → access_to code (stopped m stop) c site write ≡ access_to code m c site write
   same_to c site write =
@@ -168,11 +156,11 @@ module _ (code : Code) (m : Machine) (stop : Stop) where
       λ i. record { cell = a i; mode = b i; is_write = write }
 
   pub same_access : (i : Instr) → access_of code (stopped m stop) i ≡ access_of code m i
-  same_access (instrs.Load r c site) = ap (λ a. Some a) (same_to c site false)
-  same_access (instrs.LoadRef c site) = ap (λ a. Some a) (same_to c site false)
-  same_access (instrs.Store r c site) = ap (λ a. Some a) (same_to c site true)
-  same_access (instrs.Exchange r c site) = ap (λ a. Some a) (same_to c site true)
-  same_access (instrs.TakeCell r c site) = ap (λ a. Some a) (same_to c site true)
+  same_access (Instr.Load r c site) = ap (λ a. Some a) (same_to c site false)
+  same_access (Instr.LoadRef c site) = ap (λ a. Some a) (same_to c site false)
+  same_access (Instr.Store r c site) = ap (λ a. Some a) (same_to c site true)
+  same_access (Instr.Exchange r c site) = ap (λ a. Some a) (same_to c site true)
+  same_access (Instr.TakeCell r c site) = ap (λ a. Some a) (same_to c site true)
   same_access _ = refl
 
 -- ---- runs
@@ -188,7 +176,7 @@ module _ (outs : TurnsComeOut) (cell_laws : CellsAreThere) (x : Targets) (code :
     pub check : IsLockCheck code m (instr_at code m.at.pc) site mutex
     pub access : Access
     pub is : access_checked code m ≡ Some access
-    pub mode : access.mode ≡ modes.Locked (Some mutex)
+    pub mode : access.mode ≡ CellMode.Locked (Some mutex)
 
   module _ (one : Turn) (earlier : List Turn) (run : RunOf (one ∷ earlier)) (site word : ℕ) where
     abbrev g : Global Machine
@@ -261,11 +249,11 @@ module _ (outs : TurnsComeOut) (cell_laws : CellsAreThere) (x : Targets) (code :
 
 -- the check looks for one mutex
 one_mutex : (code : Code) (m : Machine) (i : Instr) (a b : ℕ) (c d : CellAt) → IsLockCheck code m i a c → IsLockCheck code m i b d → c ≡ d
-one_mutex code m (instrs.ChkLock cell at) a b c d h k = h.1 ∙ sym k.1
-one_mutex code m (instrs.ChkLockLoaded at) a b c d h k = h.1 ∙ sym k.1
+one_mutex code m (Instr.ChkLock cell at) a b c d h k = h.1 ∙ sym k.1
+one_mutex code m (Instr.ChkLockLoaded at) a b c d h k = h.1 ∙ sym k.1
 one_mutex code m _ a b c d h k = absurd h
 
-pub shows_lock : (code : Code) (R : History) (t : ℕ) (m : Machine) (site : ℕ) → LacksLock code R t m site → (mutex : CellAt) → IsLockCheck code m (instr_at code m.at.pc) site mutex → (a : Access) → access_checked code m ≡ Some a → a.mode ≡ modes.Locked (Some mutex) → ShowsLock code R t m site
+pub shows_lock : (code : Code) (R : History) (t : ℕ) (m : Machine) (site : ℕ) → LacksLock code R t m site → (mutex : CellAt) → IsLockCheck code m (instr_at code m.at.pc) site mutex → (a : Access) → access_checked code m ≡ Some a → a.mode ≡ CellMode.Locked (Some mutex) → ShowsLock code R t m site
 shows_lock code R t m site k mutex check a is mode =
     let same : k.mutex ≡ mutex = one_mutex code m (instr_at code m.at.pc) site site k.mutex mutex k.check check in
     record { mutex = mutex; check = check; access = a; is = is; mode = mode; unheld = subst (λ c. holds_mutex (events_of t R) c ≡ false) same k.unheld }

@@ -1,15 +1,5 @@
 -- At an access under a lock the thread holds that mutex by its events.
-use Rattle.std.proofs.{Common.{◌≡◌, ℕ, ℤ, pos, zero, suc, ◌+◌, ◌-◌, ◌*◌, ◌<◌, ◌≤◌, ◌≢◌, ◌⊎◌, inl, inr, true, false, not, cond, List, [], ◌∷◌, ◌++◌, Option, Some, None, is_some, if◌then◌else◌, refl, sym, ap, ◌∙◌, subst, ⊎_elim, arith, eqb-true}, lemmas.Bool.{cases_eq, cases_lt}, lemmas.Bool.Decides.nat_tests}
-use Rattle.std.specs.Prelude.{nat_lt, ◌==◌, slice_index_or, All}
-use Rattle.sharc_tree.specs.{declared.event.CellAt.CellAt, declared.event.Object.Object}
-use Rattle.sharc_tree.specs.declared.event.CellMode.TheVariants as modes
-use Rattle.sharc_tree.specs.declared.event.Object.TheVariants as objects
-use Rattle.sharc_locks.specs.{declared.held_log.HeldMutex.HeldMutex, HeldLog.{without, object_of}}
-use Rattle.sharc_code.specs.{declared.code.Code.Code, declared.code.PlaceMode.PlaceMode, declared.instr.Cell.Cell, declared.shape.Shape.Shape, Arithmetic.word_of, Layout.{Fits, first_cell, words_of, cell_of, cell_word}, Machine.{Machine, ref, int, place, object, word}, Ranges.IsInGlobal, Runs.Global, Says.{said, cell_at, global_cell, made_cell, mode_of, place_at, no_global, speaks_of}}
-use Rattle.sharc_code.specs.declared.instr.Cell.TheVariants as cells
-use Rattle.sharc_compile.specs.Consistent.{IsThere, IsApart}
-use Rattle.sharc_invariant.specs.{Types.{Targets, FieldMode, FieldLock, Lock, StaticType, ObjectType, cells_of}, Types.Lock.{Global as GlobalLock, Through, Self}, Types.FieldLock.{OfType, OfGlobals, OfElement}, Labels.{Refers, Element, Named, Nth, OfElement as OfElementCell, OfGlobal, Label, Labels, SameReference, Itself, IsCopy, HasCopy, Copies, Chained}, Typed.{IsWellTyped, Fine, HasField, HasCell, MayAccess, IsMode, IsTypeMode, IsLockMode, IsLockCell, IsTypeLock, IsMutexOf, IsSibling, no_lock}, World.{RegisterOf, World, ObjectState, in_ref}, State.{State, NumberStands, ElementStands, OnHold, View, view_of, refs_at, types_at}, MachineInvariant.IsOn}
-use Rattle.sharc_history_laws.proofs.{Stands.{top, reads_ref, rn}, Lists.Newest, Holding.holds_in}
+use Rattle.sharc_history_laws.proofs.{Imports.{◌≡◌, ℕ, ℤ, pos, zero, suc, ◌+◌, ◌-◌, ◌*◌, ◌<◌, ◌≤◌, ◌≢◌, ◌⊎◌, inl, inr, true, false, not, cond, List, [], ◌∷◌, ◌++◌, Option, Some, None, is_some, if◌then◌else◌, refl, sym, ap, ◌∙◌, subst, ⊎_elim, arith, eqb-true, cases_eq, cases_lt, nat_tests, nat_lt, ◌==◌, slice_index_or, All, CellAt, Object, CellMode, HeldMutex, without, object_of, Code, PlaceMode, Cell, Shape, word_of, Fits, first_cell, words_of, cell_of, cell_word, Machine, ref, int, place, object, word, IsInGlobal, Global, said, cell_at, global_cell, made_cell, mode_of, place_at, no_global, speaks_of, IsThere, IsApart, Targets, FieldMode, FieldLock, Lock, StaticType, ObjectType, cells_of, GlobalLock, Through, Self, OfType, OfGlobals, OfElement, Refers, Element, Named, Nth, OfElementCell, OfGlobal, Label, Labels, SameReference, Itself, IsCopy, HasCopy, Copies, Chained, IsWellTyped, Fine, HasField, HasCell, MayAccess, IsMode, IsTypeMode, IsLockMode, IsLockCell, IsTypeLock, IsMutexOf, IsSibling, no_lock, RegisterOf, World, ObjectState, in_ref, State, NumberStands, ElementStands, OnHold, View, view_of, refs_at, types_at, IsOn}, Stands.{top, reads_ref, rn}, Lists.Newest, Holding.holds_in}
 
 -- ---- entries of a log
 abbrev pub IsIn : HeldMutex → List HeldMutex → Type 0
@@ -46,8 +36,8 @@ in_without (k ∷ log) word h is = elim (k.word == word) as (λ b. (k.word == wo
 
 -- ---- cells as the log has them: the number of the object, and the place counted from granule 0
 abbrev pub NamesIn : Code → Object → ℕ → ℕ → ℕ → Type 0
-NamesIn code (objects.Made n) cell o at = (n ≡ o) × (o ≢ 0) × (at ≡ cell_of n cell)
-NamesIn code (objects.Global g) cell o at = (o ≡ 0) × IsInGlobal code.globals.items g at × (at ≡ 2 * (slice_index_or code.globals.items g no_global).granule + cell)
+NamesIn code (Object.Made n) cell o at = (n ≡ o) × (o ≢ 0) × (at ≡ cell_of n cell)
+NamesIn code (Object.Global g) cell o at = (o ≡ 0) × IsInGlobal code.globals.items g at × (at ≡ 2 * (slice_index_or code.globals.items g no_global).granule + cell)
 
 abbrev pub Names : Code → CellAt → ℕ → ℕ → Type 0
 Names code c o at = NamesIn code c.object c.cell o at
@@ -67,32 +57,32 @@ module _ (x : Targets) (code : Code) (ls : Labels) (wt : IsWellTyped x code ls) 
 
   -- no two cells are named so
   one_in : (a b : Object) (i j o at : ℕ) → NamesIn code a i o at → NamesIn code b j o at → (a ≡ b) × (i ≡ j)
-  one_in (objects.Made n) (objects.Made k) i j o at p q = let e : n ≡ k = p.0 ∙ sym q.0 in let r = p.2 in let u = q.2 in (ap objects.Made e, omega arith)
-  one_in (objects.Global g) (objects.Global h) i j o at p q =
+  one_in (Object.Made n) (Object.Made k) i j o at p q = let e : n ≡ k = p.0 ∙ sym q.0 in let r = p.2 in let u = q.2 in (ap Object.Made e, omega arith)
+  one_in (Object.Global g) (Object.Global h) i j o at p q =
       let e = one_global g h at p.1 q.1 in
       let r = p.2 in let u = q.2 in
       let same : (slice_index_or code.globals.items g no_global).granule ≡ (slice_index_or code.globals.items h no_global).granule = ap (λ g. (slice_index_or code.globals.items g no_global).granule) e in
-      (ap objects.Global e, omega arith)
-  one_in (objects.Made n) (objects.Global h) i j o at p q = absurd (p.1 q.0)
-  one_in (objects.Global g) (objects.Made k) i j o at p q = absurd (q.1 p.0)
+      (ap Object.Global e, omega arith)
+  one_in (Object.Made n) (Object.Global h) i j o at p q = absurd (p.1 q.0)
+  one_in (Object.Global g) (Object.Made k) i j o at p q = absurd (q.1 p.0)
 
   pub names_one : (c d : CellAt) (o at : ℕ) → Names code c o at → Names code d o at → c ≡ d
   names_one c d o at p q = let e = one_in c.object d.object c.cell d.cell o at p q in let a = e.0 in let b = e.1 in λ i. record { object = a i; cell = b i }
 
 -- a cell has one place
 pub one_place : (code : Code) (a : Object) (i o p at from : ℕ) → NamesIn code a i o at → NamesIn code a i p from → at ≡ from
-one_place code (objects.Made n) i o p at from h k = h.2 ∙ sym k.2
-one_place code (objects.Global g) i o p at from h k = h.2 ∙ sym k.2
+one_place code (Object.Made n) i o p at from h k = h.2 ∙ sym k.2
+one_place code (Object.Global g) i o p at from h k = h.2 ∙ sym k.2
 
 -- the cell that an instruction names
 pub names_cell : (code : Code) (m : Machine) (c : Cell) → IsThere code m c → Names code (cell_at code m c) (object m c) (place m c)
-names_cell code m (cells.Global g p) there = (refl, there, (let low = there.low in omega arith))
-names_cell code m (cells.GlobalAt g r) there = (refl, there, (let low = there.low in omega arith))
-names_cell code m (cells.Object r p) there = (refl, above (ref m r) there, refl)
+names_cell code m (Cell.Global g p) there = (refl, there, (let low = there.low in omega arith))
+names_cell code m (Cell.GlobalAt g r) there = (refl, there, (let low = there.low in omega arith))
+names_cell code m (Cell.Object r p) there = (refl, above (ref m r) there, refl)
   where
     above : (n : ℕ) → 0 < n → n ≢ 0
     above n lt e = omega arith
-names_cell code m (cells.ObjectAt r i) there = (refl, above (ref m r) there, refl)
+names_cell code m (Cell.ObjectAt r i) there = (refl, above (ref m r) there, refl)
   where
     above : (n : ℕ) → 0 < n → n ≢ 0
     above n lt e = omega arith
@@ -122,10 +112,10 @@ pub through_is : (n j : ℕ) (mutex : CellAt) → Rattle.sharc_code.specs.Says.l
 through_is zero j mutex e = absurd (let f : None ≡ Some mutex = e in cc)
 through_is (suc n) j mutex e = ((let f : made_cell (suc n) j ≡ mutex = cc in sym f), λ z. omega arith)
 
-pub some_eq : (a b : CellAt) → modes.Locked (Some a) ≡ modes.Locked (Some b) → a ≡ b
+pub some_eq : (a b : CellAt) → CellMode.Locked (Some a) ≡ CellMode.Locked (Some b) → a ≡ b
 some_eq a b e = cc
 
-pub lock_eq : (a : Option CellAt) (b : CellAt) → modes.Locked a ≡ modes.Locked (Some b) → a ≡ Some b
+pub lock_eq : (a : Option CellAt) (b : CellAt) → CellMode.Locked a ≡ CellMode.Locked (Some b) → a ≡ Some b
 lock_eq a b e = cc
 
 module _ (x : Targets) (code : Code) (s : Shape) (ls : Labels) (wt : IsWellTyped x code ls) (fits : Fits code s) (g : Global Machine) (world : World) (st : State x code s ls g world) (t : ℕ) (on : IsOn g t) (hold : OnHold (g.threads t).own.stage) where
@@ -180,54 +170,54 @@ module _ (x : Targets) (code : Code) (s : Shape) (ls : Labels) (wt : IsWellTyped
   some_ref r lt e = omega arith
 
   -- the lock of a type, and the cell that it names
-  lock_names : (at : CellAt) (r : ℕ) (lock : Lock) (d : Cell) (mode : PlaceMode) (mutex : CellAt) → IsLockCell code here r lock d → IsLockMode code here r lock mode → mode_of code (g.threads t) at mode ≡ modes.Locked (Some mutex) → IsThere code (g.threads t) d
+  lock_names : (at : CellAt) (r : ℕ) (lock : Lock) (d : Cell) (mode : PlaceMode) (mutex : CellAt) → IsLockCell code here r lock d → IsLockMode code here r lock mode → mode_of code (g.threads t) at mode ≡ CellMode.Locked (Some mutex) → IsThere code (g.threads t) d
       → Names code mutex (object (g.threads t) d) (place (g.threads t) d)
-  lock_names at r (GlobalLock j) (cells.Global g' p) mode mutex cell is e there =
-      let q : modes.Locked (Some (global_cell code is.0 (j + 2))) ≡ modes.Locked (Some mutex) = sym (ap (mode_of code m at) is.1) ∙ e in
+  lock_names at r (GlobalLock j) (Cell.Global g' p) mode mutex cell is e there =
+      let q : CellMode.Locked (Some (global_cell code is.0 (j + 2))) ≡ CellMode.Locked (Some mutex) = sym (ap (mode_of code m at) is.1) ∙ e in
       let same = some_eq (global_cell code is.0 (j + 2)) mutex q in
       let inside : IsInGlobal code.globals.items is.0 (j + 2) = record { known = is.2.is; low = is.2.from; high = is.2.until } in
       let low = is.2.from in
       subst (λ c. Names code c 0 p) same (refl, subst (IsInGlobal code.globals.items is.0) (sym cell.0) inside, (let z = cell.0 in omega arith))
-  lock_names at r (GlobalLock j) (cells.GlobalAt g' i) mode mutex cell is e there = absurd cell
-  lock_names at r (GlobalLock j) (cells.Object a i) mode mutex cell is e there = absurd cell
-  lock_names at r (GlobalLock j) (cells.ObjectAt a i) mode mutex cell is e there = absurd cell
-  lock_names at r (Through q j) (cells.Object a i) mode mutex cell is e there =
+  lock_names at r (GlobalLock j) (Cell.GlobalAt g' i) mode mutex cell is e there = absurd cell
+  lock_names at r (GlobalLock j) (Cell.Object a i) mode mutex cell is e there = absurd cell
+  lock_names at r (GlobalLock j) (Cell.ObjectAt a i) mode mutex cell is e there = absurd cell
+  lock_names at r (Through q j) (Cell.Object a i) mode mutex cell is e there =
       let k = through_is (ref m is.0) j mutex (lock_eq (Rattle.sharc_code.specs.Says.lock_through (ref m is.0) j) mutex (sym (ap (mode_of code m at) is.1) ∙ e)) in
       let same : ref m is.0 ≡ ref m a = same_refs is.0 q is.2 ∙ sym (same_refs a q cell.1) in
       subst (λ c. Names code c (ref m a) (cell_of (ref m a) i)) (sym k.0) (same, some_ref a there, ap (λ n. cell_of n i) (sym same) ∙ ap (cell_of (ref m is.0)) cell.0)
-  lock_names at r (Through q j) (cells.Global g' p) mode mutex cell is e there = absurd cell
-  lock_names at r (Through q j) (cells.GlobalAt g' i) mode mutex cell is e there = absurd cell
-  lock_names at r (Through q j) (cells.ObjectAt a i) mode mutex cell is e there = absurd cell
-  lock_names at r (Self j) (cells.Object a i) mode mutex cell is e there =
+  lock_names at r (Through q j) (Cell.Global g' p) mode mutex cell is e there = absurd cell
+  lock_names at r (Through q j) (Cell.GlobalAt g' i) mode mutex cell is e there = absurd cell
+  lock_names at r (Through q j) (Cell.ObjectAt a i) mode mutex cell is e there = absurd cell
+  lock_names at r (Self j) (Cell.Object a i) mode mutex cell is e there =
       let k = through_is (ref m is.0) j mutex (lock_eq (Rattle.sharc_code.specs.Says.lock_through (ref m is.0) j) mutex (sym (ap (mode_of code m at) is.1) ∙ e)) in
       let same : ref m is.0 ≡ ref m a = same_refs is.0 r is.2 ∙ sym (same_refs a r cell.1) in
       subst (λ c. Names code c (ref m a) (cell_of (ref m a) i)) (sym k.0) (same, some_ref a there, ap (λ n. cell_of n i) (sym same) ∙ ap (cell_of (ref m is.0)) cell.0)
-  lock_names at r (Self j) (cells.Global g' p) mode mutex cell is e there = absurd cell
-  lock_names at r (Self j) (cells.GlobalAt g' i) mode mutex cell is e there = absurd cell
-  lock_names at r (Self j) (cells.ObjectAt a i) mode mutex cell is e there = absurd cell
+  lock_names at r (Self j) (Cell.Global g' p) mode mutex cell is e there = absurd cell
+  lock_names at r (Self j) (Cell.GlobalAt g' i) mode mutex cell is e there = absurd cell
+  lock_names at r (Self j) (Cell.ObjectAt a i) mode mutex cell is e there = absurd cell
 
   refers_eq : (a b : StaticType) → Refers a ≡ Refers b → a ≡ b
   refers_eq a b e = cc
 
-  type_names : (at : CellAt) (k : ℕ) (c d : Cell) (mode : PlaceMode) (mutex : CellAt) → IsTypeLock code here k c d → IsTypeMode code here k c mode → mode_of code (g.threads t) at mode ≡ modes.Locked (Some mutex) → IsThere code (g.threads t) d
+  type_names : (at : CellAt) (k : ℕ) (c d : Cell) (mode : PlaceMode) (mutex : CellAt) → IsTypeLock code here k c d → IsTypeMode code here k c mode → mode_of code (g.threads t) at mode ≡ CellMode.Locked (Some mutex) → IsThere code (g.threads t) d
       → Names code mutex (object (g.threads t) d) (place (g.threads t) d)
-  type_names at k (cells.Global g' p) d mode mutex cell is e there = absurd cell
-  type_names at k (cells.GlobalAt g' i) d mode mutex cell is e there = absurd cell
-  type_names at k (cells.Object r i) d mode mutex cell is e there =
+  type_names at k (Cell.Global g' p) d mode mutex cell is e there = absurd cell
+  type_names at k (Cell.GlobalAt g' i) d mode mutex cell is e there = absurd cell
+  type_names at k (Cell.Object r i) d mode mutex cell is e there =
       let same : is.0 ≡ cell.0 = refers_eq is.0 cell.0 (sym is.1 ∙ cell.1) in
       lock_names at r (slice_index_or cell.0.locks k no_lock) d mode mutex cell.3 (subst (λ (ty : StaticType). IsLockMode code here r (slice_index_or ty.locks k no_lock) mode) same is.2) e there
-  type_names at k (cells.ObjectAt r i) d mode mutex cell is e there =
+  type_names at k (Cell.ObjectAt r i) d mode mutex cell is e there =
       let same : is.0 ≡ cell.0 = refers_eq is.0 cell.0 (sym is.1 ∙ cell.1) in
       lock_names at r (slice_index_or cell.0.locks k no_lock) d mode mutex cell.3 (subst (λ (ty : StaticType). IsLockMode code here r (slice_index_or ty.locks k no_lock) mode) same is.2) e there
 
   -- the mutex of the same element
   sibling_names : (c d : Cell) (field mutex : ℕ) → IsSibling here field mutex c d → Rattle.sharc_invariant.specs.Typed.HasBefore code here field c → IsThere code (g.threads t) d
       → Names code (record { object = (cell_at code (g.threads t) c).object; cell = (cell_at code (g.threads t) c).cell - field + mutex }) (object (g.threads t) d) (place (g.threads t) d)
-  sibling_names (cells.Global g' p) (cells.Global h q) field mutex is before there =
+  sibling_names (Cell.Global g' p) (Cell.Global h q) field mutex is before there =
       let inside : IsInGlobal code.globals.items g' q = subst (λ g. IsInGlobal code.globals.items g q) (sym is.0) there in
       let a = is.2 in
       (refl, inside, omega arith)
-  sibling_names (cells.GlobalAt g' i) (cells.GlobalAt h j) field mutex is before there =
+  sibling_names (Cell.GlobalAt g' i) (Cell.GlobalAt h j) field mutex is before there =
       let k = is.1 in
       let first = k.0 in
       let a = number_of_global i first k.1 k.2 k.3 k.4 in
@@ -240,10 +230,10 @@ module _ (x : Targets) (code : Code) (s : Shape) (ls : Labels) (wt : IsWellTyped
       let wj : word_of (int m j) ≡ first - field + mutex + b.0 * k.1 = ap word_of b.1 in
       let times : a.0 * k.1 ≡ b.0 * k.1 = ap (λ n. n * k.1) n in
       (refl, inside, omega arith)
-  sibling_names (cells.Object r i) (cells.Object q j) field mutex is before there =
+  sibling_names (Cell.Object r i) (Cell.Object q j) field mutex is before there =
       let same = same_refs r q is.0 in
       (same, some_ref q there, ap (λ n. cell_of n j) (sym same) ∙ ap (cell_of (ref m r)) is.2)
-  sibling_names (cells.ObjectAt r i) (cells.ObjectAt q j) field mutex is before there =
+  sibling_names (Cell.ObjectAt r i) (Cell.ObjectAt q j) field mutex is before there =
       let same = same_refs r q is.0 in
       let k = is.1 in
       let a = number_of_element i r field k.0 k.1 in
@@ -256,24 +246,24 @@ module _ (x : Targets) (code : Code) (s : Shape) (ls : Labels) (wt : IsWellTyped
       let wj : word_of (int m j) ≡ b.0 * cells_of x (types_at view m.at.refs q).target + mutex = ap word_of b.1 in
       let cell : word_of (int m j) ≡ word_of (int m i) - field + mutex = omega arith in
       (same, some_ref q there, ap (λ n. cell_of n (word_of (int m j))) (sym same) ∙ ap (cell_of (ref m r)) cell)
-  sibling_names (cells.Global g' p) (cells.GlobalAt h j) field mutex is before there = absurd is
-  sibling_names (cells.Global g' p) (cells.Object q j) field mutex is before there = absurd is
-  sibling_names (cells.Global g' p) (cells.ObjectAt q j) field mutex is before there = absurd is
-  sibling_names (cells.GlobalAt g' i) (cells.Global h q) field mutex is before there = absurd is
-  sibling_names (cells.GlobalAt g' i) (cells.Object q j) field mutex is before there = absurd is
-  sibling_names (cells.GlobalAt g' i) (cells.ObjectAt q j) field mutex is before there = absurd is
-  sibling_names (cells.Object r i) (cells.Global h q) field mutex is before there = absurd is
-  sibling_names (cells.Object r i) (cells.GlobalAt h j) field mutex is before there = absurd is
-  sibling_names (cells.Object r i) (cells.ObjectAt q j) field mutex is before there = absurd is
-  sibling_names (cells.ObjectAt r i) (cells.Global h q) field mutex is before there = absurd is
-  sibling_names (cells.ObjectAt r i) (cells.GlobalAt h j) field mutex is before there = absurd is
-  sibling_names (cells.ObjectAt r i) (cells.Object q j) field mutex is before there = absurd is
+  sibling_names (Cell.Global g' p) (Cell.GlobalAt h j) field mutex is before there = absurd is
+  sibling_names (Cell.Global g' p) (Cell.Object q j) field mutex is before there = absurd is
+  sibling_names (Cell.Global g' p) (Cell.ObjectAt q j) field mutex is before there = absurd is
+  sibling_names (Cell.GlobalAt g' i) (Cell.Global h q) field mutex is before there = absurd is
+  sibling_names (Cell.GlobalAt g' i) (Cell.Object q j) field mutex is before there = absurd is
+  sibling_names (Cell.GlobalAt g' i) (Cell.ObjectAt q j) field mutex is before there = absurd is
+  sibling_names (Cell.Object r i) (Cell.Global h q) field mutex is before there = absurd is
+  sibling_names (Cell.Object r i) (Cell.GlobalAt h j) field mutex is before there = absurd is
+  sibling_names (Cell.Object r i) (Cell.ObjectAt q j) field mutex is before there = absurd is
+  sibling_names (Cell.ObjectAt r i) (Cell.Global h q) field mutex is before there = absurd is
+  sibling_names (Cell.ObjectAt r i) (Cell.GlobalAt h j) field mutex is before there = absurd is
+  sibling_names (Cell.ObjectAt r i) (Cell.Object q j) field mutex is before there = absurd is
 
-  pub mutex_names : (c d : Cell) (lock : FieldLock) (mode : PlaceMode) (mutex : CellAt) → IsMutexOf code here lock c d → IsMode code here c (FieldMode.Under lock) mode → mode_of code (g.threads t) (cell_at code (g.threads t) c) mode ≡ modes.Locked (Some mutex) → IsThere code (g.threads t) d
+  pub mutex_names : (c d : Cell) (lock : FieldLock) (mode : PlaceMode) (mutex : CellAt) → IsMutexOf code here lock c d → IsMode code here c (FieldMode.Under lock) mode → mode_of code (g.threads t) (cell_at code (g.threads t) c) mode ≡ CellMode.Locked (Some mutex) → IsThere code (g.threads t) d
       → Names code mutex (object (g.threads t) d) (place (g.threads t) d)
   mutex_names c d (OfType k) mode mutex cell is e there = type_names (cell_at code m c) k c d mode mutex cell is e there
   mutex_names c d (OfGlobals j) mode mutex cell is e there = lock_names (cell_at code m c) 0 (GlobalLock j) d mode mutex cell is e there
   mutex_names c d (OfElement field other) mode mutex cell is e there =
       let named : CellAt = record { object = (cell_at code m c).object; cell = (cell_at code m c).cell - field + other } in
-      let q : modes.Locked (Some named) ≡ modes.Locked (Some mutex) = sym (ap (mode_of code m (cell_at code m c)) is.0) ∙ e in
+      let q : CellMode.Locked (Some named) ≡ CellMode.Locked (Some mutex) = sym (ap (mode_of code m (cell_at code m c)) is.0) ∙ e in
       subst (λ c. Names code c (object m d) (place m d)) (some_eq named mutex q) (sibling_names c d field other cell is.1 there)

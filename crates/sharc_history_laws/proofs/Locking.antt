@@ -1,23 +1,9 @@
 -- The held logs of threads are those that their events tell, so an access under a lock comes while the thread holds the mutex.
-use Rattle.std.proofs.{Common.{◌≡◌, ℕ, zero, suc, ◌+◌, ◌<◌, ◌≢◌, ◌⊎◌, inl, Bool, true, false, not, ◌||◌, ◌&&◌, length, List, [], ◌∷◌, ◌++◌, reverse, Option, Some, None, if◌then◌else◌, refl, sym, ap, ◌∙◌, subst, ⊎_elim, arith}, lemmas.Bool.cases_eq, lemmas.Bool.Decides.nat_tests}
-use Rattle.std.specs.Prelude.{nat_lt, ◌==◌}
-use Rattle.sharc_tree.specs.declared.event.Act.TheVariants as acts
-use Rattle.sharc_tree.specs.{declared.event.SourceEvent.SourceEvent, declared.event.CellAt.CellAt, declared.event.Object.Object}
-use Rattle.sharc_tree.specs.declared.event.CellMode.TheVariants as modes
-use Rattle.sharc_tree.specs.declared.event.Object.TheVariants as objects
-use Rattle.sharc_locks.specs.{declared.held_log.HeldMutex.HeldMutex, HeldLog.{with_mutex, without}}
-use Rattle.sharc_code.specs.{declared.code.Code.Code, declared.code.PlaceMode.PlaceMode, declared.instr.Cell.Cell, declared.instr.Instr.Instr, declared.shape.Shape.Shape, Laws.RunLaws, Layout.{Fits, first_cell, words_of, cell_of}, Machine.{Machine, instr_at, place, object, word, is_held, taken, act, locked, goes, fails}, Opening.opening_words, Outcomes.is_locking, Path.{turn, after}, Runs.{Turn, Global, IsRun, MayTurn, after_turn, put, state_now, result_of, opening_of}, Whole.{one_thread, bounds, place_after}, Says.{said, cell_at, mode_of, place_at, speaks_of, event_at, lock_through}}
-use Rattle.sharc_code.specs.declared.instr.Instr.TheVariants as instrs
-use Rattle.sharc_compile.specs.{Consistent.{said_now, IsMutex}, OfRuns.table_of}
-use Rattle.sharc_meaning.specs.{Events.{Access, same_object, same_cell, is_cell, locks, unlocks, is_of}, Obeys.{History, IsAccess}}
-use Rattle.sharc_invariant.specs.{Types.{Targets, FieldMode}, Labels.Labels, Typed.{IsWellTyped, Fine, MayAccess, IsMode}, World.World, State.{IsSmall, StageStands, GateStands, OnHold}, MachineInvariant.IsOn, Laws.{Keeps, Begins as CodeBegins, CellsAreThere, PointersAreThere, AccessesAreAllowed}}
-use Rattle.sharc_history_laws.specs.History.{history_of}
-use Rattle.sharc_history_laws.proofs.{Single.rests_hold, Stands.gate, Finds.{mutex_cell, pending_apart}, Consists.{Consists, consists_then, at_first}, Acts.{access_said, thread_said, is_access, no_access, access_at, IsAccess as TellsAccess, access_of}, Lists.{Newest, EachAccess, no_event, each_push}, Rules.{pushed, newest, newest_now, number_is, about_now, hold_access, put_same, put_other}, Holding.{cell_eq, holds_in, holds_other, holds_own}, Outcomes.logs, Mutexless.{mutex_said, no_mutex, not_locked}, Locked.{IsIn, in_append, in_without, Names, names_one, names_cell, one_place, LogTold, held_told, mutex_names, lock_eq, through_is}}
-use Rattle.sharc_lemmas.proofs.Numbers.{is_below}
+use Rattle.sharc_history_laws.proofs.{Imports.{◌≡◌, ℕ, zero, suc, ◌+◌, ◌<◌, ◌≢◌, ◌⊎◌, inl, Bool, true, false, not, ◌||◌, ◌&&◌, length, List, [], ◌∷◌, ◌++◌, reverse, Option, Some, None, if◌then◌else◌, refl, sym, ap, ◌∙◌, subst, ⊎_elim, arith, cases_eq, nat_tests, nat_lt, ◌==◌, Act, SourceEvent, CellAt, Object, CellMode, HeldMutex, with_mutex, without, Code, PlaceMode, Cell, Instr, Shape, RunLaws, Fits, first_cell, words_of, cell_of, Machine, instr_at, place, object, word, is_held, taken, act, locked, goes, fails, opening_words, is_locking, turn, after, Turn, Global, IsRun, MayTurn, after_turn, put, state_now, result_of, opening_of, one_thread, bounds, place_after, said, cell_at, mode_of, place_at, speaks_of, event_at, lock_through, said_now, IsMutex, table_of, Access, same_object, same_cell, is_cell, locks, unlocks, is_of, History, IsAccess, Targets, FieldMode, Labels, IsWellTyped, Fine, MayAccess, IsMode, World, IsSmall, StageStands, GateStands, OnHold, IsOn, Keeps, CodeBegins, CellsAreThere, PointersAreThere, AccessesAreAllowed, history_of, is_below}, Single.rests_hold, Stands.gate, Finds.{mutex_cell, pending_apart}, Consists.{Consists, consists_then, at_first}, Acts.{access_said, thread_said, is_access, no_access, access_at, IsAccess as TellsAccess, access_of}, Lists.{Newest, EachAccess, no_event, each_push}, Rules.{pushed, newest, newest_now, number_is, about_now, hold_access, put_same, put_other}, Holding.{cell_eq, holds_in, holds_other, holds_own}, Outcomes.logs, Mutexless.{mutex_said, no_mutex, not_locked}, Locked.{IsIn, in_append, in_without, Names, names_one, names_cell, one_place, LogTold, held_told, mutex_names, lock_eq, through_is}}
 
 object_refl : (a : Object) → same_object a a ≡ true
-object_refl (objects.Global g) = let e : (g == g) ≡ true = grind (arith, nat_tests) in e
-object_refl (objects.Made n) = let e : (n == n) ≡ true = grind (arith, nat_tests) in e
+object_refl (Object.Global g) = let e : (g == g) ≡ true = grind (arith, nat_tests) in e
+object_refl (Object.Made n) = let e : (n == n) ≡ true = grind (arith, nat_tests) in e
 
 pub cell_refl : (c : CellAt) → same_cell c c ≡ true
 cell_refl c = ap (λ b. b && (c.cell == c.cell)) (object_refl c.object) ∙ (let e : (c.cell == c.cell) ≡ true = grind (arith, nat_tests) in e)
@@ -81,10 +67,10 @@ module _ (cell_laws : CellsAreThere) (pointers : PointersAreThere) (rights : Acc
       holds_own d L t c (is_own d e) ∙ ap (λ b. b || (holds_in L t c && not (unlocks c d))) l ∙ ap (λ b. holds_in L t c && not b) u ∙ ap (λ b. b && true) (old k is c at w names)
 
   -- a Lock
-  lock_mutex : (c : Cell) (site : ℕ) → i ≡ instrs.Lock c site → IsMutex code s ((place_after code s earlier).threads one.thread) c
+  lock_mutex : (c : Cell) (site : ℕ) → i ≡ Instr.Lock c site → IsMutex code s ((place_after code s earlier).threads one.thread) c
   lock_mutex c site is =
-      let f = fine (instrs.Lock c site) is in
-      mutex_cell cell_laws x code s ls wt fits g world h.state t on (rests_hold code s h.state.elements world h.state.heap g.words t m (instrs.Lock c site) m.own.stage refl (stage_here (instrs.Lock c site) is)) c f.2.0 f.2.1
+      let f = fine (Instr.Lock c site) is in
+      mutex_cell cell_laws x code s ls wt fits g world h.state t on (rests_hold code s h.state.elements world h.state.heap g.words t m (Instr.Lock c site) m.own.stage refl (stage_here (Instr.Lock c site) is)) c f.2.0 f.2.1
 
   pub word_is : (c : Cell) → IsMutex code s ((place_after code s earlier).threads one.thread) c → word s ((place_after code s earlier).threads one.thread) c ≡ first_cell s + place ((place_after code s earlier).threads one.thread) c
   word_is c k = ap (λ b. if b then first_cell s + place m c else 0) (is_below (first_cell s + place m c) (words_of s) k.apart.inside)
@@ -99,7 +85,7 @@ module _ (cell_laws : CellsAreThere) (pointers : PointersAreThere) (rights : Acc
     ]
   ]
 
-  told_lock : (L : Newest) → LogTold code s L one.thread mine → (c : Cell) → IsMutex code s ((place_after code s earlier).threads one.thread) c → (d : SourceEvent) → event ≡ Some d → d.act ≡ acts.Lock (cell_at code ((place_after code s earlier).threads one.thread) c)
+  told_lock : (L : Newest) → LogTold code s L one.thread mine → (c : Cell) → IsMutex code s ((place_after code s earlier).threads one.thread) c → (d : SourceEvent) → event ≡ Some d → d.act ≡ Act.Lock (cell_at code ((place_after code s earlier).threads one.thread) c)
       → LogTold code s (d ∷ L) one.thread (taken ((place_after code s earlier).threads one.thread) (word s ((place_after code s earlier).threads one.thread) c) (object ((place_after code s earlier).threads one.thread) c))
   told_lock L old c mutex d e act_is k is named at w names =
       let l : locks named d ≡ same_cell named (cell_at code m c) = ap (λ a. is_cell named (Rattle.sharc_meaning.specs.Events.locked_by a)) act_is in
@@ -117,7 +103,7 @@ module _ (cell_laws : CellsAreThere) (pointers : PointersAreThere) (rights : Acc
       or_true true = refl
       or_true false = refl
 
-  told_unlock : (L : Newest) → LogTold code s L one.thread mine → (c : Cell) → IsMutex code s ((place_after code s earlier).threads one.thread) c → (d : SourceEvent) → event ≡ Some d → d.act ≡ acts.Unlock (cell_at code ((place_after code s earlier).threads one.thread) c)
+  told_unlock : (L : Newest) → LogTold code s L one.thread mine → (c : Cell) → IsMutex code s ((place_after code s earlier).threads one.thread) c → (d : SourceEvent) → event ≡ Some d → d.act ≡ Act.Unlock (cell_at code ((place_after code s earlier).threads one.thread) c)
       → LogTold code s (d ∷ L) one.thread (without mine (word s ((place_after code s earlier).threads one.thread) c))
   told_unlock L old c mutex d e act_is k is named at w names =
       let r = in_without m.own.held (word s m c) k is in
@@ -138,39 +124,39 @@ module _ (cell_laws : CellsAreThere) (pointers : PointersAreThere) (rights : Acc
       not_true false h = refl
 
   abbrev pub lock_event : Cell → ℕ → SourceEvent
-  lock_event c site = record { thread = m.own.number; site = (place_at code site).site; answer = Rattle.std.specs.Prelude.pos 0; act = acts.Lock (cell_at code m c) }
+  lock_event c site = record { thread = m.own.number; site = (place_at code site).site; answer = Rattle.std.specs.Prelude.pos 0; act = Act.Lock (cell_at code m c) }
 
   abbrev pub unlock_event : Cell → ℕ → SourceEvent
-  unlock_event c site = record { thread = m.own.number; site = (place_at code site).site; answer = Rattle.std.specs.Prelude.pos 0; act = acts.Unlock (cell_at code m c) }
+  unlock_event c site = record { thread = m.own.number; site = (place_at code site).site; answer = Rattle.std.specs.Prelude.pos 0; act = Act.Unlock (cell_at code m c) }
 
   -- the turn
   own_log : (L : Newest) → LogTold code s L one.thread mine → (ev : Option SourceEvent) → event ≡ ev → LogTold code s (pushed ev L) one.thread (after (turn code s ((place_after code s earlier).threads one.thread)) found).own.held
   own_log L old ev e = by i refl
     where
-      at_lock : (c : Cell) (site : ℕ) → i ≡ instrs.Lock c site → LogTold code s (pushed ev L) one.thread (after (turn code s ((place_after code s earlier).threads one.thread)) found).own.held
+      at_lock : (c : Cell) (site : ℕ) → i ≡ Instr.Lock c site → LogTold code s (pushed ev L) one.thread (after (turn code s ((place_after code s earlier).threads one.thread)) found).own.held
       at_lock c site is =
           let mutex = lock_mutex c site is in
           let held_is : (after (turn code s m) found).own.held ≡ (locked m c (word s m c) found).own.held = ap (λ j. (after (act code s j m) found).own.held) is in
-          let said_is : event ≡ (if found == 0 then event_at code m site (Rattle.std.specs.Prelude.pos 0) (acts.Lock (cell_at code m c)) else None) = ap (λ j. said code j m found elements) is in
+          let said_is : event ≡ (if found == 0 then event_at code m site (Rattle.std.specs.Prelude.pos 0) (Act.Lock (cell_at code m c)) else None) = ap (λ j. said code j m found elements) is in
           subst (LogTold code s (pushed ev L) t) (sym held_is) (choose (found == 0) refl (sym e ∙ said_is))
         where
-          choose : (b : Bool) → (found == 0) ≡ b → ev ≡ (if (found == 0) then event_at code ((place_after code s earlier).threads one.thread) site (Rattle.std.specs.Prelude.pos 0) (acts.Lock (cell_at code ((place_after code s earlier).threads one.thread) c)) else None)
+          choose : (b : Bool) → (found == 0) ≡ b → ev ≡ (if (found == 0) then event_at code ((place_after code s earlier).threads one.thread) site (Rattle.std.specs.Prelude.pos 0) (Act.Lock (cell_at code ((place_after code s earlier).threads one.thread) c)) else None)
               → LogTold code s (pushed ev L) one.thread (locked ((place_after code s earlier).threads one.thread) c (word s ((place_after code s earlier).threads one.thread) c) found).own.held
           choose true z q =
-              let now : ev ≡ event_at code m site (Rattle.std.specs.Prelude.pos 0) (acts.Lock (cell_at code m c)) = q ∙ ap (λ b. if b then event_at code m site (Rattle.std.specs.Prelude.pos 0) (acts.Lock (cell_at code m c)) else None) z in
+              let now : ev ≡ event_at code m site (Rattle.std.specs.Prelude.pos 0) (Act.Lock (cell_at code m c)) = q ∙ ap (λ b. if b then event_at code m site (Rattle.std.specs.Prelude.pos 0) (Act.Lock (cell_at code m c)) else None) z in
               let held : (locked m c (word s m c) found).own.held ≡ taken m (word s m c) (object m c) = ap (λ b. (if b then goes (record (Rattle.sharc_code.specs.Machine.without_base m c) { own = record m.own { held = taken m (word s m c) (object m c) } }) else fails m).own.held) z in
               subst (λ ev. LogTold code s (pushed ev L) t (locked m c (word s m c) found).own.held) (sym now) (subst (LogTold code s (lock_event c site ∷ L) t) (sym held) (told_lock L old c (lock_mutex c site is) (lock_event c site) (e ∙ now) refl))
           choose false z q =
-              let now : ev ≡ None = q ∙ ap (λ b. if b then event_at code m site (Rattle.std.specs.Prelude.pos 0) (acts.Lock (cell_at code m c)) else None) z in
+              let now : ev ≡ None = q ∙ ap (λ b. if b then event_at code m site (Rattle.std.specs.Prelude.pos 0) (Act.Lock (cell_at code m c)) else None) z in
               let held : (locked m c (word s m c) found).own.held ≡ m.own.held = ap (λ b. (if b then goes (record (Rattle.sharc_code.specs.Machine.without_base m c) { own = record m.own { held = taken m (word s m c) (object m c) } }) else fails m).own.held) z in
               subst (λ ev. LogTold code s (pushed ev L) t (locked m c (word s m c) found).own.held) (sym now) (subst (LogTold code s L t) (sym held) old)
 
-      at_unlock : (r : ℕ) (c : Cell) (site : ℕ) → i ≡ instrs.Unlock r c site → LogTold code s (pushed ev L) one.thread (after (turn code s ((place_after code s earlier).threads one.thread)) found).own.held
+      at_unlock : (r : ℕ) (c : Cell) (site : ℕ) → i ≡ Instr.Unlock r c site → LogTold code s (pushed ev L) one.thread (after (turn code s ((place_after code s earlier).threads one.thread)) found).own.held
       at_unlock r c site is =
-          let f = fine (instrs.Unlock r c site) is in
-          let mutex = mutex_cell cell_laws x code s ls wt fits g world h.state t on (rests_hold code s h.state.elements world h.state.heap g.words t m (instrs.Unlock r c site) m.own.stage refl (stage_here (instrs.Unlock r c site) is)) c f.2.0 f.2.1 in
+          let f = fine (Instr.Unlock r c site) is in
+          let mutex = mutex_cell cell_laws x code s ls wt fits g world h.state t on (rests_hold code s h.state.elements world h.state.heap g.words t m (Instr.Unlock r c site) m.own.stage refl (stage_here (Instr.Unlock r c site) is)) c f.2.0 f.2.1 in
           let held_is : (after (turn code s m) found).own.held ≡ without m.own.held (word s m c) = ap (λ j. (after (act code s j m) found).own.held) is in
-          let said_is : event ≡ event_at code m site (Rattle.std.specs.Prelude.pos 0) (acts.Unlock (cell_at code m c)) = ap (λ j. said code j m found elements) is in
+          let said_is : event ≡ event_at code m site (Rattle.std.specs.Prelude.pos 0) (Act.Unlock (cell_at code m c)) = ap (λ j. said code j m found elements) is in
           subst (λ ev. LogTold code s (pushed ev L) t (after (turn code s m) found).own.held) (sym said_is ∙ e) (subst (LogTold code s (unlock_event c site ∷ L) t) (sym held_is) (told_unlock L old c mutex (unlock_event c site) said_is refl))
 
       others : is_locking i ≡ false → LogTold code s (pushed ev L) one.thread (after (turn code s ((place_after code s earlier).threads one.thread)) found).own.held
@@ -180,8 +166,8 @@ module _ (cell_laws : CellsAreThere) (pointers : PointersAreThere) (rights : Acc
           subst (LogTold code s (pushed ev L) t) (sym held) (told_quiet L old ev e quiet)
 
       by : (j : Instr) → i ≡ j → LogTold code s (pushed ev L) one.thread (after (turn code s ((place_after code s earlier).threads one.thread)) found).own.held
-      by (instrs.Lock c site) is = at_lock c site is
-      by (instrs.Unlock r c site) is = at_unlock r c site is
+      by (Instr.Lock c site) is = at_lock c site is
+      by (Instr.Unlock r c site) is = at_unlock r c site is
       by _ is = others (ap is_locking is)
 
   -- the logs of all threads
@@ -201,21 +187,21 @@ module _ (cell_laws : CellsAreThere) (pointers : PointersAreThere) (rights : Acc
 
   -- ---- the rule
   module _ (hold : OnHold ((place_after code s earlier).threads one.thread).own.stage) (k : TellsAccess x code ls ((place_after code s earlier).threads one.thread) i found elements) (L : Newest) (told : LogTold code s L one.thread mine) (mutex : CellAt)
-      (mode_is : mode_of code ((place_after code s earlier).threads one.thread) (cell_at code ((place_after code s earlier).threads one.thread) k.cell) (place_at code k.site).mode ≡ modes.Locked (Some mutex)) where
+      (mode_is : mode_of code ((place_after code s earlier).threads one.thread) (cell_at code ((place_after code s earlier).threads one.thread) k.cell) (place_at code k.site).mode ≡ CellMode.Locked (Some mutex)) where
     abbrev mode : PlaceMode
     mode = (place_at code k.site).mode
 
     gate_now : GateStands s h.world one.thread ((place_after code s earlier).threads one.thread) (ls.at ((place_after code s earlier).threads one.thread).at.pc).gate
     gate_now = gate x code s ls wt fits g world h.state t on hold
 
-    not_locked_mode : (p : PlaceMode) → mode ≡ p → (mode_of code ((place_after code s earlier).threads one.thread) (cell_at code ((place_after code s earlier).threads one.thread) k.cell) p ≡ modes.Locked (Some mutex) → ⊥) → ⊥
+    not_locked_mode : (p : PlaceMode) → mode ≡ p → (mode_of code ((place_after code s earlier).threads one.thread) (cell_at code ((place_after code s earlier).threads one.thread) k.cell) p ≡ CellMode.Locked (Some mutex) → ⊥) → ⊥
     not_locked_mode p e no_lock = no_lock (ap (mode_of code m (cell_at code m k.cell)) (sym e) ∙ mode_is)
 
     at_mode : (f : FieldMode) → MayAccess x code ls (ls.at ((place_after code s earlier).threads one.thread).at.pc) k.write k.cell k.field.holds f → IsMode code (ls.at ((place_after code s earlier).threads one.thread).at.pc) k.cell f mode → holds_in L one.thread mutex ≡ true
-    at_mode FieldMode.Private may_do is = absurd (not_locked_mode _ is (λ e. let z : modes.Private ≡ modes.Locked (Some mutex) = e in cc))
-    at_mode FieldMode.Readonly may_do is = absurd (not_locked_mode _ is (λ e. let z : modes.Readonly ≡ modes.Locked (Some mutex) = e in cc))
-    at_mode FieldMode.Racy may_do is = absurd (not_locked_mode _ is (λ e. let z : modes.Racy ≡ modes.Locked (Some mutex) = e in cc))
-    at_mode FieldMode.Dynamic may_do is = absurd (not_locked_mode _ is (λ e. let z : modes.Dynamic ≡ modes.Locked (Some mutex) = e in cc))
+    at_mode FieldMode.Private may_do is = absurd (not_locked_mode _ is (λ e. let z : CellMode.Private ≡ CellMode.Locked (Some mutex) = e in cc))
+    at_mode FieldMode.Readonly may_do is = absurd (not_locked_mode _ is (λ e. let z : CellMode.Readonly ≡ CellMode.Locked (Some mutex) = e in cc))
+    at_mode FieldMode.Racy may_do is = absurd (not_locked_mode _ is (λ e. let z : CellMode.Racy ≡ CellMode.Locked (Some mutex) = e in cc))
+    at_mode FieldMode.Dynamic may_do is = absurd (not_locked_mode _ is (λ e. let z : CellMode.Dynamic ≡ CellMode.Locked (Some mutex) = e in cc))
     at_mode (FieldMode.Under lock) may_do is =
         let d = may_do.0 in
         let there = mutex_cell cell_laws x code s ls wt fits g world h.state t on hold d may_do.1 may_do.3 in
@@ -235,7 +221,7 @@ module _ (cell_laws : CellsAreThere) (pointers : PointersAreThere) (rights : Acc
     held_now : holds_in L one.thread mutex ≡ true
     held_now = at_mode k.field.mode k.accesses.may k.accesses.mode
 
-  pub under_now : (L : Newest) → LogTold code s L one.thread mine → (e : SourceEvent) → event ≡ Some e → (a : Access) → IsAccess e a → (mutex : CellAt) → a.mode ≡ modes.Locked (Some mutex) → holds_in L e.thread mutex ≡ true
+  pub under_now : (L : Newest) → LogTold code s L one.thread mine → (e : SourceEvent) → event ≡ Some e → (a : Access) → IsAccess e a → (mutex : CellAt) → a.mode ≡ CellMode.Locked (Some mutex) → holds_in L e.thread mutex ≡ true
   under_now L told e said_is a is mutex mode_is =
       let q : access_said event ≡ Some a = ap access_said said_is ∙ is in
       elim (is_access i) as (λ b. is_access i ≡ b → holds_in L e.thread mutex ≡ true) [
@@ -250,7 +236,7 @@ module _ (cell_laws : CellsAreThere) (pointers : PointersAreThere) (rights : Acc
 -- ---- runs
 -- at each access under a lock the thread holds the mutex
 abbrev pub UnderItsLock : History → SourceEvent → Access → Type 0
-UnderItsLock before e a = (mutex : CellAt) → a.mode ≡ modes.Locked (Some mutex) → Rattle.sharc_meaning.specs.Events.holds_mutex (Rattle.sharc_meaning.specs.Events.events_of e.thread before) mutex ≡ true
+UnderItsLock before e a = (mutex : CellAt) → a.mode ≡ CellMode.Locked (Some mutex) → Rattle.sharc_meaning.specs.Events.holds_mutex (Rattle.sharc_meaning.specs.Events.events_of e.thread before) mutex ≡ true
 
 pub record Locks (x : Targets) (code : Code) (s : Shape) (ls : Labels) (run : List Turn) : Type 0 where
   pub consists : Consists x code s ls run

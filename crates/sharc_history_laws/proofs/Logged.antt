@@ -1,18 +1,5 @@
 -- What a thread holds by its events is in its held log, so where a lock check is refused it does not hold the mutex.
-use Rattle.std.proofs.{Common.{◌≡◌, ℕ, pos, zero, suc, ◌+◌, ◌<◌, ◌⊎◌, inl, inr, Bool, true, false, not, cond, ◌||◌, ◌&&◌, length, List, [], ◌∷◌, ◌++◌, reverse, Option, Some, None, is_some, if◌then◌else◌, refl, sym, ap, ◌∙◌, subst, ⊎_elim, arith, eqb-true}, lemmas.Bool.cases_eq, lemmas.Bool.Decides.nat_tests}
-use Rattle.std.specs.Prelude.{nat_lt, ◌==◌}
-use Rattle.sharc_tree.specs.declared.event.Act.TheVariants as acts
-use Rattle.sharc_tree.specs.{declared.event.SourceEvent.SourceEvent, declared.event.CellAt.CellAt}
-use Rattle.sharc_locks.specs.{declared.held_log.HeldMutex.HeldMutex, HeldLog.{with_mutex, without, object_of}}
-use Rattle.sharc_code.specs.{declared.code.Code.Code, declared.instr.Cell.Cell, declared.instr.Instr.Instr, declared.shape.Shape.Shape, declared.state.Stop.TheVariants.NoLock, Laws.RunLaws, Layout.{Fits, first_cell, words_of, cell_of, cell_word}, Machine.{Machine, instr_at, ref, place, object, word, is_held, is_of_null, taken, act, locked, goes, fails, stopped}, Opening.opening_words, Outcomes.{MayStop, is_locking}, Path.{turn, after, may_go}, Runs.{Turn, Global, IsRun, MayTurn, after_turn, put, state_now, result_of, opening_of}, Whole.{one_thread, bounds, place_after}, Says.{said, cell_at, made_cell, speaks_of, event_at}}
-use Rattle.sharc_code.specs.declared.instr.Cell.TheVariants as cells
-use Rattle.sharc_code.specs.declared.instr.Instr.TheVariants as instrs
-use Rattle.sharc_compile.specs.{Consistent.{said_now, MayFind, IsLock, IsMutex, IsApart, IsFree}, OfRuns.table_of}
-use Rattle.sharc_meaning.specs.Events.{same_cell, is_cell, locks, unlocks, is_of}
-use Rattle.sharc_invariant.specs.{Types.Targets, Labels.Labels, Typed.IsWellTyped, State.IsSmall, Laws.{Keeps, Begins as CodeBegins, CellsAreThere, PointersAreThere, AccessesAreAllowed}}
-use Rattle.sharc_history_laws.specs.{History.history_of, Reports.{IsLockCheck, LacksLock}}
-use Rattle.sharc_history_laws.proofs.{Consists.{Consists, consists_then, own_turn, at_first}, Lists.Newest, Rules.{pushed, newest, newest_now, put_same, put_other}, Holding.{cell_eq, holds_in, holds_other, holds_own}, Mutexless.{mutex_said, no_mutex, not_locked}, Locked.{IsIn, all_in, Names, names_one, names_cell, one_place}, Locking.{cell_refl, is_own, is_others, word_is, lock_event, unlock_event}, Outcomes.{logs, reports, halts}, Sole.stop_none}
-use Rattle.sharc_lemmas.proofs.{Numbers.is_below, Bools.yes}
+use Rattle.sharc_history_laws.proofs.{Imports.{◌≡◌, ℕ, pos, zero, suc, ◌+◌, ◌<◌, ◌⊎◌, inl, inr, Bool, true, false, not, cond, ◌||◌, ◌&&◌, length, List, [], ◌∷◌, ◌++◌, reverse, Option, Some, None, is_some, if◌then◌else◌, refl, sym, ap, ◌∙◌, subst, ⊎_elim, arith, eqb-true, cases_eq, nat_tests, nat_lt, ◌==◌, Act, SourceEvent, CellAt, HeldMutex, with_mutex, without, object_of, Code, Cell, Instr, Shape, NoLock, RunLaws, Fits, first_cell, words_of, cell_of, cell_word, Machine, instr_at, ref, place, object, word, is_held, is_of_null, taken, act, locked, goes, fails, stopped, opening_words, MayStop, is_locking, turn, after, may_go, Turn, Global, IsRun, MayTurn, after_turn, put, state_now, result_of, opening_of, one_thread, bounds, place_after, said, cell_at, made_cell, speaks_of, event_at, said_now, MayFind, IsLock, IsMutex, IsApart, IsFree, table_of, same_cell, is_cell, locks, unlocks, is_of, Targets, Labels, IsWellTyped, IsSmall, Keeps, CodeBegins, CellsAreThere, PointersAreThere, AccessesAreAllowed, history_of, IsLockCheck, LacksLock, is_below, yes}, Consists.{Consists, consists_then, own_turn, at_first}, Lists.Newest, Rules.{pushed, newest, newest_now, put_same, put_other}, Holding.{cell_eq, holds_in, holds_other, holds_own}, Mutexless.{mutex_said, no_mutex, not_locked}, Locked.{IsIn, all_in, Names, names_one, names_cell, one_place}, Locking.{cell_refl, is_own, is_others, word_is, lock_event, unlock_event}, Outcomes.{logs, reports, halts}, Sole.stop_none}
 
 above : (n : ℕ) → (n == 0) ≡ false → 0 < n
 above zero e = absurd (yes e)
@@ -102,7 +89,7 @@ module _ (cell_laws : CellsAreThere) (pointers : PointersAreThere) (rights : Acc
       let l : locks c d ≡ false = ap (is_cell c) a.0 in
       ⊎_elim (λ (q : locks c d ≡ true). absurd (yes (sym q ∙ l))) (λ (k : (holds_in L t c ≡ true) × (unlocks c d ≡ false)). old c k.0) (held_parts d e L c is)
 
-  has_lock : (L : Newest) → LogHas code s L one.thread mine → (c : Cell) → IsFree code s ((place_after code s earlier).threads one.thread) c → (d : SourceEvent) → event ≡ Some d → d.act ≡ acts.Lock (cell_at code ((place_after code s earlier).threads one.thread) c)
+  has_lock : (L : Newest) → LogHas code s L one.thread mine → (c : Cell) → IsFree code s ((place_after code s earlier).threads one.thread) c → (d : SourceEvent) → event ≡ Some d → d.act ≡ Act.Lock (cell_at code ((place_after code s earlier).threads one.thread) c)
       → LogHas code s (d ∷ L) one.thread (taken ((place_after code s earlier).threads one.thread) (word s ((place_after code s earlier).threads one.thread) c) (object ((place_after code s earlier).threads one.thread) c))
   has_lock L old c free d e act_is named is =
       let new : HeldMutex = record { word = word s m c; object = object m c } in
@@ -128,7 +115,7 @@ module _ (cell_laws : CellsAreThere) (pointers : PointersAreThere) (rights : Acc
       let o : k.object ≡ object m c = all_in (λ (k : HeldMutex). k.word ≡ first_cell s + place m c → k.object ≡ object m c) m.own.held k mutex.apart.apart is (e ∙ b) in
       names_one x code ls wt named (cell_at code m c) (object m c) (place m c) (subst (λ at. Names code named (object m c) at) same_at (subst (λ o. Names code named o at) o names)) (names_cell code m c mutex.there)
 
-  has_unlock : (L : Newest) → LogHas code s L one.thread mine → (c : Cell) → IsMutex code s ((place_after code s earlier).threads one.thread) c → (d : SourceEvent) → event ≡ Some d → d.act ≡ acts.Unlock (cell_at code ((place_after code s earlier).threads one.thread) c)
+  has_unlock : (L : Newest) → LogHas code s L one.thread mine → (c : Cell) → IsMutex code s ((place_after code s earlier).threads one.thread) c → (d : SourceEvent) → event ≡ Some d → d.act ≡ Act.Unlock (cell_at code ((place_after code s earlier).threads one.thread) c)
       → LogHas code s (d ∷ L) one.thread (without mine (word s ((place_after code s earlier).threads one.thread) c))
   has_unlock L old c mutex d e act_is named is =
       let l : locks named d ≡ false = ap (λ a. is_cell named (Rattle.sharc_meaning.specs.Events.locked_by a)) act_is in
@@ -146,31 +133,31 @@ module _ (cell_laws : CellsAreThere) (pointers : PointersAreThere) (rights : Acc
   own_has : (L : Newest) → LogHas code s L one.thread mine → (ev : Option SourceEvent) → event ≡ ev → LogHas code s (pushed ev L) one.thread (after (turn code s ((place_after code s earlier).threads one.thread)) found).own.held
   own_has L old ev e = by i refl
     where
-      at_lock : (c : Cell) (site : ℕ) → i ≡ instrs.Lock c site → LogHas code s (pushed ev L) one.thread (after (turn code s ((place_after code s earlier).threads one.thread)) found).own.held
+      at_lock : (c : Cell) (site : ℕ) → i ≡ Instr.Lock c site → LogHas code s (pushed ev L) one.thread (after (turn code s ((place_after code s earlier).threads one.thread)) found).own.held
       at_lock c site is =
           let held_is : (after (turn code s m) found).own.held ≡ (locked m c (word s m c) found).own.held = ap (λ j. (after (act code s j m) found).own.held) is in
-          let said_is : event ≡ (if found == 0 then event_at code m site (pos 0) (acts.Lock (cell_at code m c)) else None) = ap (λ j. said code j m found elements) is in
+          let said_is : event ≡ (if found == 0 then event_at code m site (pos 0) (Act.Lock (cell_at code m c)) else None) = ap (λ j. said code j m found elements) is in
           subst (LogHas code s (pushed ev L) t) (sym held_is) (choose (found == 0) refl (sym e ∙ said_is))
         where
-          choose : (b : Bool) → (found == 0) ≡ b → ev ≡ (if (found == 0) then event_at code ((place_after code s earlier).threads one.thread) site (pos 0) (acts.Lock (cell_at code ((place_after code s earlier).threads one.thread) c)) else None)
+          choose : (b : Bool) → (found == 0) ≡ b → ev ≡ (if (found == 0) then event_at code ((place_after code s earlier).threads one.thread) site (pos 0) (Act.Lock (cell_at code ((place_after code s earlier).threads one.thread) c)) else None)
               → LogHas code s (pushed ev L) one.thread (locked ((place_after code s earlier).threads one.thread) c (word s ((place_after code s earlier).threads one.thread) c) found).own.held
           choose true z q =
               let d = lock_event cell_laws pointers rights laws keeps x code s ls wt fits few one earlier h may c site in
-              let now : ev ≡ event_at code m site (pos 0) (acts.Lock (cell_at code m c)) = q ∙ ap (λ b. if b then event_at code m site (pos 0) (acts.Lock (cell_at code m c)) else None) z in
+              let now : ev ≡ event_at code m site (pos 0) (Act.Lock (cell_at code m c)) = q ∙ ap (λ b. if b then event_at code m site (pos 0) (Act.Lock (cell_at code m c)) else None) z in
               let held : (locked m c (word s m c) found).own.held ≡ taken m (word s m c) (object m c) = ap (λ b. (if b then goes (record (Rattle.sharc_code.specs.Machine.without_base m c) { own = record m.own { held = taken m (word s m c) (object m c) } }) else fails m).own.held) z in
-              let free = may_find (instrs.Lock c site) is (eqb-true found 0 z) in
+              let free = may_find (Instr.Lock c site) is (eqb-true found 0 z) in
               subst (λ ev. LogHas code s (pushed ev L) t (locked m c (word s m c) found).own.held) (sym now) (subst (LogHas code s (d ∷ L) t) (sym held) (has_lock L old c free d (e ∙ now) refl))
           choose false z q =
-              let now : ev ≡ None = q ∙ ap (λ b. if b then event_at code m site (pos 0) (acts.Lock (cell_at code m c)) else None) z in
+              let now : ev ≡ None = q ∙ ap (λ b. if b then event_at code m site (pos 0) (Act.Lock (cell_at code m c)) else None) z in
               let held : (locked m c (word s m c) found).own.held ≡ m.own.held = ap (λ b. (if b then goes (record (Rattle.sharc_code.specs.Machine.without_base m c) { own = record m.own { held = taken m (word s m c) (object m c) } }) else fails m).own.held) z in
               subst (λ ev. LogHas code s (pushed ev L) t (locked m c (word s m c) found).own.held) (sym now) (subst (LogHas code s L t) (sym held) old)
 
-      at_unlock : (r : ℕ) (c : Cell) (site : ℕ) → i ≡ instrs.Unlock r c site → LogHas code s (pushed ev L) one.thread (after (turn code s ((place_after code s earlier).threads one.thread)) found).own.held
+      at_unlock : (r : ℕ) (c : Cell) (site : ℕ) → i ≡ Instr.Unlock r c site → LogHas code s (pushed ev L) one.thread (after (turn code s ((place_after code s earlier).threads one.thread)) found).own.held
       at_unlock r c site is =
-          let held = may_find (instrs.Unlock r c site) is in
+          let held = may_find (Instr.Unlock r c site) is in
           let d = unlock_event cell_laws pointers rights laws keeps x code s ls wt fits few one earlier h may c site in
           let held_is : (after (turn code s m) found).own.held ≡ without m.own.held (word s m c) = ap (λ j. (after (act code s j m) found).own.held) is in
-          let said_is : event ≡ event_at code m site (pos 0) (acts.Unlock (cell_at code m c)) = ap (λ j. said code j m found elements) is in
+          let said_is : event ≡ event_at code m site (pos 0) (Act.Unlock (cell_at code m c)) = ap (λ j. said code j m found elements) is in
           subst (λ ev. LogHas code s (pushed ev L) t (after (turn code s m) found).own.held) (sym said_is ∙ e) (subst (LogHas code s (d ∷ L) t) (sym held_is) (has_unlock L old c held.mutex d said_is refl))
 
       others : is_locking i ≡ false → LogHas code s (pushed ev L) one.thread (after (turn code s ((place_after code s earlier).threads one.thread)) found).own.held
@@ -180,8 +167,8 @@ module _ (cell_laws : CellsAreThere) (pointers : PointersAreThere) (rights : Acc
           subst (LogHas code s (pushed ev L) t) (sym held) (has_quiet L old ev e quiet)
 
       by : (j : Instr) → i ≡ j → LogHas code s (pushed ev L) one.thread (after (turn code s ((place_after code s earlier).threads one.thread)) found).own.held
-      by (instrs.Lock c site) is = at_lock c site is
-      by (instrs.Unlock r c site) is = at_unlock r c site is
+      by (Instr.Lock c site) is = at_lock c site is
+      by (Instr.Unlock r c site) is = at_unlock r c site is
       by _ is = others (ap is_locking is)
 
   others_same : (ev : Option SourceEvent) → event ≡ ev → (L : Newest) (u : ℕ) → (u ≡ one.thread → ⊥) → (c : CellAt) → holds_in (pushed ev L) u c ≡ holds_in L u c
@@ -236,12 +223,12 @@ module _ (cell_laws : CellsAreThere) (pointers : PointersAreThere) (rights : Acc
     Shows y = (site word : ℕ) → y.own.stop ≡ Some (NoLock site word) → LacksLock code (reverse (pushed event L)) one.thread y site
 
     mutex_of : (c : Cell) → IsLock code s ((place_after code s earlier).threads one.thread) c → is_of_null ((place_after code s earlier).threads one.thread) c ≡ false → IsMutex code s ((place_after code s earlier).threads one.thread) c
-    mutex_of (cells.Global q p) k e = k
-    mutex_of (cells.GlobalAt q r) k e = k
-    mutex_of (cells.Object r p) k e = k (above (ref m r) e)
-    mutex_of (cells.ObjectAt r q) k e = k (above (ref m r) e)
+    mutex_of (Cell.Global q p) k e = k
+    mutex_of (Cell.GlobalAt q r) k e = k
+    mutex_of (Cell.Object r p) k e = k (above (ref m r) e)
+    mutex_of (Cell.ObjectAt r q) k e = k (above (ref m r) e)
 
-    lacks_cell : (c : Cell) (at mutex : ℕ) → i ≡ instrs.ChkLock c at → IsMutex code s ((place_after code s earlier).threads one.thread) c → is_held ((place_after code s earlier).threads one.thread) (word s ((place_after code s earlier).threads one.thread) c) ≡ false
+    lacks_cell : (c : Cell) (at mutex : ℕ) → i ≡ Instr.ChkLock c at → IsMutex code s ((place_after code s earlier).threads one.thread) c → is_held ((place_after code s earlier).threads one.thread) (word s ((place_after code s earlier).threads one.thread) c) ≡ false
         → LacksLock code (reverse (pushed event L)) one.thread (stopped ((place_after code s earlier).threads one.thread) (NoLock at mutex)) at
     lacks_cell c at mutex is k refused =
         let none : event ≡ None = ap (λ j. said code j m found elements) is in
@@ -252,12 +239,12 @@ module _ (cell_laws : CellsAreThere) (pointers : PointersAreThere) (rights : Acc
         }
       where
         same_cell_at : (c : Cell) → cell_at code ((place_after code s earlier).threads one.thread) c ≡ cell_at code (stopped ((place_after code s earlier).threads one.thread) (NoLock at mutex)) c
-        same_cell_at (cells.Global q p) = refl
-        same_cell_at (cells.GlobalAt q r) = refl
-        same_cell_at (cells.Object r p) = refl
-        same_cell_at (cells.ObjectAt r q) = refl
+        same_cell_at (Cell.Global q p) = refl
+        same_cell_at (Cell.GlobalAt q r) = refl
+        same_cell_at (Cell.Object r p) = refl
+        same_cell_at (Cell.ObjectAt r q) = refl
 
-    lacks_loaded : (at mutex : ℕ) → i ≡ instrs.ChkLockLoaded at → IsApart s mine ((place_after code s earlier).threads one.thread).pending (cell_of ((place_after code s earlier).threads one.thread).pending 0)
+    lacks_loaded : (at mutex : ℕ) → i ≡ Instr.ChkLockLoaded at → IsApart s mine ((place_after code s earlier).threads one.thread).pending (cell_of ((place_after code s earlier).threads one.thread).pending 0)
         → is_held ((place_after code s earlier).threads one.thread) (cell_word s (cell_of ((place_after code s earlier).threads one.thread).pending 0)) ≡ false
         → LacksLock code (reverse (pushed event L)) one.thread (stopped ((place_after code s earlier).threads one.thread) (NoLock at mutex)) at
     lacks_loaded at mutex is k refused =
@@ -274,8 +261,8 @@ module _ (cell_laws : CellsAreThere) (pointers : PointersAreThere) (rights : Acc
         subst (λ y. LacksLock code (reverse (pushed event L)) t y site) (sym k.1) (by k.0)
       where
         by : MayStop s i ((place_after code s earlier).threads one.thread) found (NoLock site word) → LacksLock code (reverse (pushed event L)) one.thread (stopped ((place_after code s earlier).threads one.thread) (NoLock site word)) site
-        by (inl k) = lacks_cell k.0 site word k.1 (mutex_of k.0 (may_find (instrs.ChkLock k.0 site) k.1) k.2) (subst (λ w. is_held m w ≡ false) k.3 k.4)
-        by (inr k) = lacks_loaded site word k.0 (may_find (instrs.ChkLockLoaded site) k.0 (above m.pending k.1)) (subst (λ w. is_held m w ≡ false) k.2 k.3)
+        by (inl k) = lacks_cell k.0 site word k.1 (mutex_of k.0 (may_find (Instr.ChkLock k.0 site) k.1) k.2) (subst (λ w. is_held m w ≡ false) k.3 k.4)
+        by (inr k) = lacks_loaded site word k.0 (may_find (Instr.ChkLockLoaded site) k.0 (above m.pending k.1)) (subst (λ w. is_held m w ≡ false) k.2 k.3)
 
   -- all threads
   abbrev ShowsOf : Newest → ℕ → Machine → Type 0

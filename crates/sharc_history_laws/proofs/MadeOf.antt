@@ -1,24 +1,12 @@
 -- The pointer cells of a made object are those that its last New made pointers.
-use Rattle.std.proofs.{Common.{◌≡◌, ℕ, ◌%◌, ◌<◌, ◌≢◌, true, false, cond, length, List, [], ◌∷◌, Option, Some, None, refl, sym, ap, ◌∙◌, subst, ⊎_elim, arith}, lemmas.Bool.cases_eq}
-use Rattle.std.specs.Prelude.{find, slice_index_or}
-use Rattle.sharc_tree.specs.declared.event.SourceEvent.{SourceEvent}
-use Rattle.sharc_tree.specs.declared.event.Object.TheVariants as objects
-use Rattle.sharc_heap.specs.{State.NewView, declared.stage.NewStage.NewStage}
-use Rattle.sharc_heap.specs.declared.stage.NewStage.TheVariants as news
-use Rattle.sharc_code.specs.{declared.code.Code.Code, declared.instr.Instr.Instr, declared.shape.Shape.Shape, declared.state.Stage.Stage, declared.state.Stage.TheVariants.Makes, Laws.RunLaws, Layout.Fits, Machine.{Machine, instr_at, ref}, Opening.opening_words, Runs.{Turn, Global, IsRun, MayTurn, after_turn, result_of, opening_of}, Says.{said, in_new, new_event, place_at, speaks_of}, Whole.{one_thread, bounds, place_after}}
-use Rattle.sharc_code.specs.declared.instr.Instr.TheVariants as instrs
-use Rattle.sharc_compile.specs.{Consistent.said_now, OfRuns.table_of}
-use Rattle.sharc_meaning.specs.{Events.{latest, makes, is_number}, Store.is_live}
-use Rattle.sharc_invariant.specs.{Types.{Targets, StaticType, Field, Content, Integer, MutexWord, Waiters, Pointer, cells_of, field_at, field_of_cell, field_in, is_pointer, no_field, row_of}, Labels.{Label, Labels}, Typed.{IsWellTyped, IsSameContent, Recasts}, World.ObjectState, Opened.{first_world, first_place}, Objects.{objects_after, objects_behind, objects_now}, State.IsSmall, Laws.{Keeps, Begins as CodeBegins, CellsAreThere, PointersAreThere, AccessesAreAllowed}}
-use Rattle.sharc_history_laws.specs.History.{history_of}
-use Rattle.sharc_history_laws.proofs.{Acts.{About, made_said, given_at, freed_at}, Born.{fine as new_fine, target_is as new_target}, Consists.{Consists, consists_then, objects_then, at_first, none_live, given}, Lists.{Newest, latest_is, is_live_in}, Living.{LivesTold, lives_told}, Rules.{pushed, newest, newest_now, about_now, number_yes, number_not, same_behind, freed_gone, decide}, Tables.{header_at, header_in, header_of, was_live}, Valued.header_some, Values.{field_is, fine as give_fine, old_target, new_target as cast_target}}
-use Rattle.sharc_lemmas.proofs.Bools.{yes}
+use Rattle.sharc_history_laws.proofs.{Imports.{◌≡◌, ℕ, ◌%◌, ◌<◌, ◌≢◌, true, false, cond, length, List, [], ◌∷◌, Option, Some, None, refl, sym, ap, ◌∙◌, subst, ⊎_elim, arith, cases_eq, find, slice_index_or, SourceEvent, Object, NewView, NewStage, Code, Instr, Shape, Stage, Makes, RunLaws, Fits, Machine, instr_at, ref, opening_words, Turn, Global, IsRun, MayTurn, after_turn, result_of, opening_of, said, in_new, new_event, place_at, speaks_of, one_thread, bounds, place_after, said_now, table_of, latest, makes, is_number, is_live, Targets, StaticType, Field, Content, Integer, MutexWord, Waiters, Pointer, cells_of, field_at, field_of_cell, field_in, is_pointer, no_field, Label, Labels, IsWellTyped, IsSameContent, Recasts, ObjectState, first_world, first_place, objects_after, objects_behind, objects_now, IsSmall, Keeps, CodeBegins, CellsAreThere, PointersAreThere, AccessesAreAllowed, history_of, yes}, Acts.{About, made_said, given_at, freed_at}, Born.{fine as new_fine, target_is as new_target}, Consists.{Consists, consists_then, objects_then, at_first, none_live, given}, Lists.{Newest, latest_is, is_live_in}, Living.{LivesTold, lives_told}, Rules.{pushed, newest, newest_now, about_now, number_yes, number_not, same_behind, freed_gone, decide}, Tables.{header_at, header_in, header_of, was_live}, Valued.header_some, Values.{field_is, fine as give_fine, old_target, new_target as cast_target}}
+use Rattle.sharc_invariant.specs.Types.{row_of}
 
 -- ---- the last New of an object
 -- it is this event, and a cell of an object of this target is a pointer where it is one of what is made there
 pub record MadeAt (x : Targets) (L : Newest) (p target : ℕ) : Type 0 where
   pub event : SourceEvent
-  pub last : find (makes (objects.Made p)) L ≡ Some event
+  pub last : find (makes (Object.Made p)) L ≡ Some event
   pub cells : (i : ℕ) → is_pointer (field_of_cell x target i).holds ≡ x.is_made_pointer event.site.token i
 
 abbrev pub AreMade : Targets → Newest → (ℕ → ObjectState) → Type 0
@@ -34,7 +22,7 @@ module _ (x : Targets) (L : Newest) (p : ℕ) where
   made_begins target token None made same cells = absurd (cc)
   made_begins target token (Some e) made same cells = record {
     event = e;
-    last = ap (λ b. cond b (Some e) (find (makes (objects.Made p)) L)) (ap (is_number p) made ∙ number_yes p);
+    last = ap (λ b. cond b (Some e) (find (makes (Object.Made p)) L)) (ap (is_number p) made ∙ number_yes p);
     cells = λ i. cells i ∙ ap (λ n. x.is_made_pointer n i) (sym same);
   }
 
@@ -43,7 +31,7 @@ module _ (x : Targets) (L : Newest) (p : ℕ) where
   made_stays target None never k = k
   made_stays target (Some e) never k = record {
     event = k.event;
-    last = ap (λ b. cond b (Some e) (find (makes (objects.Made p)) L)) (number_not p (made_said (Some e)) never) ∙ k.last;
+    last = ap (λ b. cond b (Some e) (find (makes (Object.Made p)) L)) (number_not p (made_said (Some e)) never) ∙ k.last;
     cells = k.cells;
   }
 
@@ -53,7 +41,7 @@ module _ (x : Targets) (L : Newest) (p : ℕ) where
 
 -- no New makes object 0, that of the globals
 abbrev pub NoneIsGlobals : Newest → Type 0
-NoneIsGlobals L = find (makes (objects.Made 0)) L ≡ None
+NoneIsGlobals L = find (makes (Object.Made 0)) L ≡ None
 
 -- ---- casts
 same_kind : (l : Label) (r : ℕ) (s t : StaticType) (a b : Content) → IsSameContent l r s t a b → is_pointer b ≡ is_pointer a
@@ -117,7 +105,7 @@ module _ (cell_laws : CellsAreThere) (pointers : PointersAreThere) (rights : Acc
     Made = MadeAt x (pushed ev L) p (then_.world.obj p).ty.target
 
     -- the turn makes it
-    at_length : (r count cells site : ℕ) (v : NewView) → i ≡ instrs.New r count cells site → ((place_after code s earlier).threads one.thread).own.stage ≡ Makes v → v.stage ≡ news.Length p → made_said ev ≡ Some p → Made
+    at_length : (r count cells site : ℕ) (v : NewView) → i ≡ Instr.New r count cells site → ((place_after code s earlier).threads one.thread).own.stage ≡ Makes v → v.stage ≡ NewStage.Length p → made_said ev ≡ Some p → Made
     at_length r count cells site v is stage length_is made =
         let fine = new_fine laws keeps cell_laws pointers x code s ls wt fits few one earlier h may p nz r count cells site v is stage length_is in
         let token : token_said ev ≡ (place_at code site).site.token =
@@ -127,11 +115,11 @@ module _ (cell_laws : CellsAreThere) (pointers : PointersAreThere) (rights : Acc
         subst (MadeAt x (pushed ev L) p) (sym (new_target laws keeps cell_laws pointers x code s ls wt fits few one earlier h may p nz r count cells site v is stage length_is))
         (made_begins x L p fine.2.0.target (place_at code site).site.token ev made token fine.2.5)
 
-    at_stage : (r count cells site : ℕ) (v : NewView) → i ≡ instrs.New r count cells site → ((place_after code s earlier).threads one.thread).own.stage ≡ Makes v → (y : NewStage) → v.stage ≡ y → header_at y ≡ Some p → made_said ev ≡ Some p → Made
-    at_stage r count cells site v is stage (news.Length header) length_is q made = let same : header ≡ p = cc in at_length r count cells site v is stage (length_is ∙ ap news.Length same) made
+    at_stage : (r count cells site : ℕ) (v : NewView) → i ≡ Instr.New r count cells site → ((place_after code s earlier).threads one.thread).own.stage ≡ Makes v → (y : NewStage) → v.stage ≡ y → header_at y ≡ Some p → made_said ev ≡ Some p → Made
+    at_stage r count cells site v is stage (NewStage.Length header) length_is q made = let same : header ≡ p = cc in at_length r count cells site v is stage (length_is ∙ ap NewStage.Length same) made
     at_stage r count cells site v is stage _ length_is q made = absurd (cc)
 
-    at_new : (r count cells site : ℕ) → i ≡ instrs.New r count cells site → (stage : Stage) → ((place_after code s earlier).threads one.thread).own.stage ≡ stage → header_in stage ≡ Some p → made_said ev ≡ Some p → Made
+    at_new : (r count cells site : ℕ) → i ≡ Instr.New r count cells site → (stage : Stage) → ((place_after code s earlier).threads one.thread).own.stage ≡ stage → header_in stage ≡ Some p → made_said ev ≡ Some p → Made
     at_new r count cells site is (Makes v) stage q made = at_stage r count cells site v is stage v.stage refl q made
     at_new r count cells site is _ stage q made = absurd (cc)
 
@@ -139,7 +127,7 @@ module _ (cell_laws : CellsAreThere) (pointers : PointersAreThere) (rights : Acc
     begun q = by i refl q
       where
         by : (k : Instr) → i ≡ k → header_of k ((place_after code s earlier).threads one.thread).own.stage ≡ Some p → Made
-        by (instrs.New r count cells site) is z = at_new r count cells site is m.own.stage refl z (tells.makes ∙ q)
+        by (Instr.New r count cells site) is z = at_new r count cells site is m.own.stage refl z (tells.makes ∙ q)
         by _ is z = absurd (cc)
 
     -- it was there
@@ -154,7 +142,7 @@ module _ (cell_laws : CellsAreThere) (pointers : PointersAreThere) (rights : Acc
       before : MadeAt x (pushed ev L) p (h.world.obj p).ty.target
       before = made_stays x L p (h.world.obj p).ty.target ev (λ e. never (sym tells.makes ∙ e)) (old p nz was)
 
-      at_give : (r site : ℕ) → i ≡ instrs.Give r site → ref ((place_after code s earlier).threads one.thread) r ≡ p → Made
+      at_give : (r site : ℕ) → i ≡ Instr.Give r site → ref ((place_after code s earlier).threads one.thread) r ≡ p → Made
       at_give r site is object =
           let fine = give_fine laws keeps cell_laws pointers x code s ls wt fits few one earlier h may p r site is object in
           let was_target = old_target laws keeps cell_laws pointers x code s ls wt fits few one earlier h may p r site is object in
@@ -169,7 +157,7 @@ module _ (cell_laws : CellsAreThere) (pointers : PointersAreThere) (rights : Acc
           (decide (given_at i m) p)
         where
           by : (k : Instr) → i ≡ k → given_at k ((place_after code s earlier).threads one.thread) ≡ Some p → Made
-          by (instrs.Give r site) is q = at_give r site is (let same : ref m r ≡ p = cc in same)
+          by (Instr.Give r site) is q = at_give r site is (let same : ref m r ≡ p = cc in same)
           by _ is q = absurd (cc)
 
     now_made : Made
@@ -178,8 +166,8 @@ module _ (cell_laws : CellsAreThere) (pointers : PointersAreThere) (rights : Acc
   none_pushed : (L : Newest) → NoneIsGlobals L → (o : Option SourceEvent) → ev ≡ o → NoneIsGlobals (pushed o L)
   none_pushed L old None is = old
   none_pushed L old (Some e) is =
-      let other : makes (objects.Made 0) e ≡ false = number_not 0 (made_said (Some e)) (λ q. header_some cell_laws pointers rights laws keeps x code s ls wt fits few one earlier h may 0 (sym tells.makes ∙ ap made_said is ∙ q) refl) in
-      ap (λ b. cond b (Some e) (find (makes (objects.Made 0)) L)) other ∙ old
+      let other : makes (Object.Made 0) e ≡ false = number_not 0 (made_said (Some e)) (λ q. header_some cell_laws pointers rights laws keeps x code s ls wt fits few one earlier h may 0 (sym tells.makes ∙ ap made_said is ∙ q) refl) in
+      ap (λ b. cond b (Some e) (find (makes (Object.Made 0)) L)) other ∙ old
 
   pub none_then : (L : Newest) → NoneIsGlobals L → NoneIsGlobals (pushed ev L)
   none_then L old = none_pushed L old ev refl
@@ -225,23 +213,23 @@ module _ (cell_laws : CellsAreThere) (pointers : PointersAreThere) (rights : Acc
       }
 
   -- no object that is made is that of the globals
-  pub some_made : (run : List Turn) → IsRun bounds (one_thread code s) (opening_of bounds (one_thread code s) (opening_words code s)) run → (p : ℕ) (e : SourceEvent) → latest (makes (objects.Made p)) (history_of code s run) ≡ Some e → p ≢ 0
+  pub some_made : (run : List Turn) → IsRun bounds (one_thread code s) (opening_of bounds (one_thread code s) (opening_words code s)) run → (p : ℕ) (e : SourceEvent) → latest (makes (Object.Made p)) (history_of code s run) ≡ Some e → p ≢ 0
   some_made run is_run p e last z =
-      let none : find (makes (objects.Made 0)) (newest code s run) ≡ None = (made_in run is_run).none in
-      let made : find (makes (objects.Made 0)) (newest code s run) ≡ Some e = sym (latest_is (makes (objects.Made 0)) (newest code s run)) ∙ ap (λ n. latest (makes (objects.Made n)) (history_of code s run)) (sym z) ∙ last in
+      let none : find (makes (Object.Made 0)) (newest code s run) ≡ None = (made_in run is_run).none in
+      let made : find (makes (Object.Made 0)) (newest code s run) ≡ Some e = sym (latest_is (makes (Object.Made 0)) (newest code s run)) ∙ ap (λ n. latest (makes (Object.Made n)) (history_of code s run)) (sym z) ∙ last in
       let f : None ≡ Some e = sym none ∙ made in
       absurd (cc)
 
   -- an object that is live by the events is so by the turns
-  pub lives_in : (run : List Turn) → IsRun bounds (one_thread code s) (opening_of bounds (one_thread code s) (opening_words code s)) run → (p : ℕ) → is_live (history_of code s run) (objects.Made p) ≡ true
+  pub lives_in : (run : List Turn) → IsRun bounds (one_thread code s) (opening_of bounds (one_thread code s) (opening_words code s)) run → (p : ℕ) → is_live (history_of code s run) (Object.Made p) ≡ true
       → (objects_after code s ls (first_place code s) (first_world x).obj run p).live ≡ true
   lives_in run is_run p live =
       let k = made_in run is_run in
       ap (λ (f : ℕ → ObjectState). (f p).live) (sym k.same) ∙ k.lives p (sym (is_live_in (newest code s run) p) ∙ live)
 
   -- by the objects of the turns
-  pub pointers_made : (run : List Turn) → IsRun bounds (one_thread code s) (opening_of bounds (one_thread code s) (opening_words code s)) run → (p i : ℕ) → p ≢ 0 → is_live (history_of code s run) (objects.Made p) ≡ true
-      → (e : SourceEvent) × (latest (makes (objects.Made p)) (history_of code s run) ≡ Some e)
+  pub pointers_made : (run : List Turn) → IsRun bounds (one_thread code s) (opening_of bounds (one_thread code s) (opening_words code s)) run → (p i : ℕ) → p ≢ 0 → is_live (history_of code s run) (Object.Made p) ≡ true
+      → (e : SourceEvent) × (latest (makes (Object.Made p)) (history_of code s run) ≡ Some e)
       × (is_pointer (field_in x (objects_after code s ls (first_place code s) (first_world x).obj run p).ty i).holds ≡ x.is_made_pointer e.site.token i)
   pointers_made run is_run p i nz live =
       let k = made_in run is_run in
@@ -253,4 +241,4 @@ module _ (cell_laws : CellsAreThere) (pointers : PointersAreThere) (rights : Acc
       let field = field_is x code s ls (place_after code s run) world st p i nz there in
       let same : is_pointer (field_in x (objects_after code s ls (first_place code s) (first_world x).obj run p).ty i).holds ≡ is_pointer (field_in x (world.obj p).ty i).holds =
       ap (λ (f : ℕ → ObjectState). is_pointer (field_in x (f p).ty i).holds) (sym k.same) in
-      (made.event, latest_is (makes (objects.Made p)) L ∙ made.last, same ∙ ap (λ (f : Field). is_pointer f.holds) field ∙ made.cells i)
+      (made.event, latest_is (makes (Object.Made p)) L ∙ made.last, same ∙ ap (λ (f : Field). is_pointer f.holds) field ∙ made.cells i)

@@ -1,20 +1,10 @@
 -- In each run of typed code the cells of an object keep their modes until it is given or freed.
-use Rattle.std.proofs.{Common.{◌≡◌, ℕ, ◌+◌, ◌-◌, ◌*◌, ◌<◌, ◌≢◌, ◌⊎◌, inl, inr, Bool, true, false, ◌||◌, List, [], ◌∷◌, reverse, Option, Some, None, refl, sym, ap, ◌∙◌, subst, ⊎_elim}, lemmas.Bool.cases_eq, lemmas.List.get_or-set_other}
-use Rattle.std.specs.Prelude.{slice_index}
-use Rattle.sharc_word.specs.{declared.step.WordStep.WordStep, declared.step.WordEvent.WordEvent, Words.{word_after, words_after_step}}
-use Rattle.sharc_tree.specs.{declared.event.Act.{Act as SourceAct}, declared.event.SourceEvent.SourceEvent, declared.event.CellAt.CellAt, declared.event.CellMode.{CellMode as EventMode}, declared.event.Object.Object}
+use Rattle.sharc_history_laws.proofs.{Imports.{◌≡◌, ℕ, ◌+◌, ◌-◌, ◌*◌, ◌<◌, ◌≢◌, ◌⊎◌, inl, inr, Bool, true, false, ◌||◌, List, [], ◌∷◌, reverse, Option, Some, None, refl, sym, ap, ◌∙◌, subst, ⊎_elim, cases_eq, get_or-set_other, slice_index, WordStep, WordEvent, word_after, words_after_step, Act as SourceAct, SourceEvent, CellAt, CellMode as EventMode, Object, Code, Cell, Instr, Shape, RunLaws, Fits, Machine, StepTurn as Act, Local, Asks, instr_at, opening_words, turn, asked_by, Turn, Global, IsRun, MayTurn, after_turn, result_of, words_now, opening_of, one_thread, bounds, place_after, said, cell_at, made_cell, place_at, speaks_of, said_now, table_of, Access, makes, gives, begins, frees, is_number, IsAccess, Targets, Field, FieldMode, cells_of, field_in, mode_in, mode_at, is_pointer, lock_number, OfType, OfGlobals, OfElement, Labels, IsWellTyped, CellOf, World, ObjectState, lang_of, has_returned, Closing, Without, changes_objects, IsSmall, OnHold, object_of_cell, number_in, size_of_run, IsOn, Keeps, CodeBegins, CellsAreThere, PointersAreThere, AccessesAreAllowed, StateStands, history_of, or_first, yes}, Stands.gate, Tables.{header_of, length_kept, step_leaves}, Writes.writes, Sparing.{Spares, SparesTurn, Leaves, Elsewhere, Had}, Unwritten.spares, Consists.{Consists, consists_then, objects_then, effect_then, at_first}, Acts.{access_said, given_at, freed_at, About, is_access, no_access, access_at, IsAccess as TellsAccess, access_of}, Lists.{Newest, EachAccess, no_event, each_push}, Rules.{pushed, newest, newest_now, about_now, hold_access, cell_is, same_behind, number_yes}, Shared.{number_of, closing_own, some_closing, not_sole, unless_given, unless_made}, Carried.without_carried, Locked.Names, OneMode.{ModeBy, ModeOf, place_of, one_by, mode_now, numbers_now}, Since.{IsTo, Since, AsBefore, as_before}}
 use Rattle.sharc_tree.specs.declared.event.Act.TheVariants as acts
 use Rattle.sharc_tree.specs.declared.event.CellMode.TheVariants as modes
-use Rattle.sharc_tree.specs.declared.event.Object.TheVariants as objects
-use Rattle.sharc_code.specs.{declared.code.Code.Code, declared.instr.Cell.Cell, declared.instr.Instr.Instr, declared.shape.Shape.Shape, Laws.RunLaws, Layout.Fits, Machine.{Machine, Turn as Act, Local, Asks, instr_at}, Opening.opening_words, Path.{turn, asked_by}, Runs.{Turn, Global, IsRun, MayTurn, after_turn, result_of, step_of, words_now, opening_of}, Whole.{one_thread, bounds, place_after}, Says.{said, cell_at, made_cell, place_at, speaks_of}}
-use Rattle.sharc_code.specs.declared.instr.Cell.TheVariants as cells
-use Rattle.sharc_compile.specs.{Consistent.said_now, OfRuns.table_of}
-use Rattle.sharc_meaning.specs.{Events.{Access, makes, gives, begins, frees, is_number}, Obeys.IsAccess}
-use Rattle.sharc_invariant.specs.{Types.{Targets, Field, FieldMode, CellMode, cells_of, field_in, mode_in, mode_at, is_pointer, lock_number}, Types.FieldLock.{OfType, OfGlobals, OfElement}, Labels.Labels, Typed.IsWellTyped, World.{Cell as CellOf, World, ObjectState}, Words.{lang_of, has_returned}, History.{Closing, Without}, Objects.changes_objects, State.{IsSmall, OnHold, object_of_cell, number_in, size_of_run}, MachineInvariant.IsOn, Laws.{Keeps, Begins as CodeBegins, CellsAreThere, PointersAreThere, AccessesAreAllowed, StateStands}}
+use Rattle.sharc_code.specs.Runs.{step_of}
+use Rattle.sharc_invariant.specs.Types.{CellMode}
 use Rattle.sharc_invariant.specs.Words as Words
-use Rattle.sharc_history_laws.specs.History.{history_of}
-use Rattle.sharc_history_laws.proofs.{Stands.gate, Tables.{header_of, length_kept, step_leaves}, Writes.writes, Sparing.{Spares, SparesTurn, Leaves, Elsewhere, Had}, Unwritten.spares, Consists.{Consists, consists_then, objects_then, effect_then, at_first}, Acts.{access_said, given_at, freed_at, About, is_access, no_access, access_at, IsAccess as TellsAccess, access_of}, Lists.{Newest, EachAccess, no_event, each_push}, Rules.{pushed, newest, newest_now, about_now, hold_access, cell_is, same_behind, number_yes}, Shared.{number_of, closing_own, some_closing, not_sole, unless_given, unless_made}, Carried.without_carried, Locked.Names, OneMode.{ModeBy, ModeOf, place_of, one_by, mode_now, numbers_now}, Since.{IsTo, Since, AsBefore, as_before}}
-use Rattle.sharc_lemmas.proofs.Bools.{or_first, yes}
 
 -- ---- a word that a turn spares
 module _ (target : ℕ) (P : Type 0) where
@@ -34,8 +24,8 @@ or_second true b e = absurd (yes e)
 or_second false b e = e
 
 access_leaves : (o : Object) (e : SourceEvent) (a : Access) → IsAccess e a → (begins o e || frees o e) ≡ false
-access_leaves (objects.Global g) e a is = refl
-access_leaves (objects.Made n) e a is = by e.act is
+access_leaves (Object.Global g) e a is = refl
+access_leaves (Object.Made n) e a is = by e.act is
   where
     by : (act : SourceAct) → Rattle.sharc_meaning.specs.Events.access_by act ≡ Some a → ((is_number n (Rattle.sharc_meaning.specs.Events.made_by e act) || is_number n (Rattle.sharc_meaning.specs.Events.given_by act)) || is_number n (Rattle.sharc_meaning.specs.Events.freed_by act)) ≡ false
     by (acts.Read c mode) q = refl
@@ -93,27 +83,27 @@ module _ (state_law : StateStands) (cell_laws : CellsAreThere) (pointers : Point
         (unless_given state_law cell_laws pointers rights laws keeps x code s ls wt fits few one earlier h may o begins_none)
         (unless_made state_law cell_laws pointers rights laws keeps x code s ls wt fits few one earlier h may o begins_none) w
 
-  not_made : (n : ℕ) (ev : Option SourceEvent) → Tells ev → ((e : SourceEvent) → ev ≡ Some e → (begins (objects.Made n) e || frees (objects.Made n) e) ≡ false) → header_of i ((place_after code s earlier).threads one.thread).own.stage ≡ Some n → ⊥
+  not_made : (n : ℕ) (ev : Option SourceEvent) → Tells ev → ((e : SourceEvent) → ev ≡ Some e → (begins (Object.Made n) e || frees (Object.Made n) e) ≡ false) → header_of i ((place_after code s earlier).threads one.thread).own.stage ≡ Some n → ⊥
   not_made n None about none is = let f : None ≡ Some n = about.makes ∙ is in cc
   not_made n (Some e) about none is =
-      let a : makes (objects.Made n) e ≡ true = ap (is_number n) (about.makes ∙ is) ∙ number_yes n in
-      yes (sym a ∙ or_first (makes (objects.Made n) e) (gives (objects.Made n) e) (or_first (begins (objects.Made n) e) (frees (objects.Made n) e) (none e refl)))
+      let a : makes (Object.Made n) e ≡ true = ap (is_number n) (about.makes ∙ is) ∙ number_yes n in
+      yes (sym a ∙ or_first (makes (Object.Made n) e) (gives (Object.Made n) e) (or_first (begins (Object.Made n) e) (frees (Object.Made n) e) (none e refl)))
 
-  not_given : (n : ℕ) (ev : Option SourceEvent) → Tells ev → ((e : SourceEvent) → ev ≡ Some e → (begins (objects.Made n) e || frees (objects.Made n) e) ≡ false) → given_at i ((place_after code s earlier).threads one.thread) ≡ Some n → ⊥
+  not_given : (n : ℕ) (ev : Option SourceEvent) → Tells ev → ((e : SourceEvent) → ev ≡ Some e → (begins (Object.Made n) e || frees (Object.Made n) e) ≡ false) → given_at i ((place_after code s earlier).threads one.thread) ≡ Some n → ⊥
   not_given n None about none is = let f : None ≡ Some n = about.gives ∙ is in cc
   not_given n (Some e) about none is =
-      let a : gives (objects.Made n) e ≡ true = ap (is_number n) (about.gives ∙ is) ∙ number_yes n in
-      yes (sym a ∙ or_second (makes (objects.Made n) e) (gives (objects.Made n) e) (or_first (begins (objects.Made n) e) (frees (objects.Made n) e) (none e refl)))
+      let a : gives (Object.Made n) e ≡ true = ap (is_number n) (about.gives ∙ is) ∙ number_yes n in
+      yes (sym a ∙ or_second (makes (Object.Made n) e) (gives (Object.Made n) e) (or_first (begins (Object.Made n) e) (frees (Object.Made n) e) (none e refl)))
 
-  not_freed : (n : ℕ) (ev : Option SourceEvent) → Tells ev → ((e : SourceEvent) → ev ≡ Some e → (begins (objects.Made n) e || frees (objects.Made n) e) ≡ false) → freed_at i ((place_after code s earlier).threads one.thread) ≡ Some n → ⊥
+  not_freed : (n : ℕ) (ev : Option SourceEvent) → Tells ev → ((e : SourceEvent) → ev ≡ Some e → (begins (Object.Made n) e || frees (Object.Made n) e) ≡ false) → freed_at i ((place_after code s earlier).threads one.thread) ≡ Some n → ⊥
   not_freed n None about none is = let f : None ≡ Some n = about.frees ∙ is in cc
   not_freed n (Some e) about none is =
-      let a : frees (objects.Made n) e ≡ true = ap (is_number n) (about.frees ∙ is) ∙ number_yes n in
-      yes (sym a ∙ or_second (begins (objects.Made n) e) (frees (objects.Made n) e) (none e refl))
+      let a : frees (Object.Made n) e ≡ true = ap (is_number n) (about.frees ∙ is) ∙ number_yes n in
+      yes (sym a ∙ or_second (begins (Object.Made n) e) (frees (Object.Made n) e) (none e refl))
 
   same_object : (o : Object) → ((e : SourceEvent) → event ≡ Some e → (begins o e || frees o e) ≡ false) → then_.world.obj (number_of o) ≡ h.world.obj (number_of o)
-  same_object (objects.Global q) none = then_.state.globals ∙ sym h.state.globals
-  same_object (objects.Made n) none =
+  same_object (Object.Global q) none = then_.state.globals ∙ sym h.state.globals
+  same_object (Object.Made n) none =
       let m' = (after_turn bounds (one_thread code s) g one).threads t in
       ap (λ (f : ℕ → ObjectState). f n) (objects_then laws keeps cell_laws pointers x code s ls wt fits few one earlier h may)
       ∙ same_behind ls t m m' world.obj n i (not_made n event tells none) (not_given n event tells none) (not_freed n event tells none)
@@ -229,10 +219,10 @@ module _ (state_law : StateStands) (cell_laws : CellsAreThere) (pointers : Point
 
     -- nobody has the object alone
     register_of_cell : (c : Cell) → object_of_cell ((place_after code s earlier).threads one.thread) c ≢ 0 → (r : ℕ) × (slice_index ((place_after code s earlier).threads one.thread).refs r ≡ object_of_cell ((place_after code s earlier).threads one.thread) c)
-    register_of_cell (cells.Global q p) nz = absurd (nz refl)
-    register_of_cell (cells.GlobalAt q r) nz = absurd (nz refl)
-    register_of_cell (cells.Object r p) nz = (m.at.refs + r, refl)
-    register_of_cell (cells.ObjectAt r q) nz = (m.at.refs + r, refl)
+    register_of_cell (Cell.Global q p) nz = absurd (nz refl)
+    register_of_cell (Cell.GlobalAt q r) nz = absurd (nz refl)
+    register_of_cell (Cell.Object r p) nz = (m.at.refs + r, refl)
+    register_of_cell (Cell.ObjectAt r q) nz = (m.at.refs + r, refl)
 
     not_closing : Closing h.world (object_of_cell ((place_after code s earlier).threads one.thread) k.cell) → ⊥
     not_closing c =

@@ -1,18 +1,9 @@
 -- A turn that is none of Lock or Unlock tells no event of a mutex.
-use Rattle.std.proofs.Common.{◌≡◌, ℕ, zero, suc, Bool, true, false, Option, Some, None, if◌then◌else◌, refl}
-use Rattle.std.specs.Prelude.{◌==◌, ◌||◌}
-use Rattle.sharc_tree.specs.{declared.event.SourceEvent.SourceEvent, declared.event.Act.Act}
-use Rattle.sharc_heap.specs.{State.NewView, declared.stage.NewStage.NewStage}
-use Rattle.sharc_heap.specs.declared.stage.NewStage.TheVariants as news
-use Rattle.sharc_locks.specs.Waiters.{waits_in}
-use Rattle.sharc_code.specs.{declared.code.Code.Code, declared.instr.Cell.Cell, declared.instr.Register.Register, declared.instr.Instr.Instr, declared.state.Stage.Stage, declared.state.Stage.TheVariants.{Makes, Uncounts, Begins, Enters, Withdraws, WithdrawsFrom, Leaves as Leaving, Wakes}, Machine.{Machine, ref}, Outcomes.is_locking, Says.{said, take_local, nobody, in_signal, in_exit, in_spawn, in_start, in_free, in_new, new_event}}
-use Rattle.sharc_code.specs.declared.instr.Instr.TheVariants as instrs
-use Rattle.sharc_tree.specs.declared.event.Act.TheVariants as acts
-use Rattle.sharc_meaning.specs.Events.{locked_by, unlocked_by}
+use Rattle.sharc_history_laws.proofs.Imports.{◌≡◌, ℕ, zero, suc, Bool, true, false, Option, Some, None, if◌then◌else◌, refl, ◌==◌, ◌||◌, SourceEvent, Act, NewView, NewStage, waits_in, Code, Cell, Register, Instr, Stage, Makes, Uncounts, Begins, Enters, Withdraws, WithdrawsFrom, Leaves as Leaving, Wakes, Machine, ref, is_locking, said, take_local, nobody, in_signal, in_exit, in_spawn, in_start, in_free, in_new, new_event, locked_by, unlocked_by}
 
 abbrev pub is_mutex_act : Act → Bool
-is_mutex_act (acts.Lock c) = true
-is_mutex_act (acts.Unlock c) = true
+is_mutex_act (Act.Lock c) = true
+is_mutex_act (Act.Unlock c) = true
 is_mutex_act _ = false
 
 abbrev pub mutex_said : Option SourceEvent → Bool
@@ -20,8 +11,8 @@ mutex_said None = false
 mutex_said (Some e) = is_mutex_act e.act
 
 pub not_locked : (a : Act) → is_mutex_act a ≡ false → (locked_by a ≡ None) × (unlocked_by a ≡ None)
-not_locked (acts.Lock c) e = absurd (let f : true ≡ false = e in cc)
-not_locked (acts.Unlock c) e = absurd (let f : true ≡ false = e in cc)
+not_locked (Act.Lock c) e = absurd (let f : true ≡ false = e in cc)
+not_locked (Act.Unlock c) e = absurd (let f : true ≡ false = e in cc)
 not_locked _ e = (refl, refl)
 
 either_no : (b : Bool) (x y : Option SourceEvent) → mutex_said x ≡ false → mutex_said y ≡ false → mutex_said (if b then x else y) ≡ false
@@ -63,7 +54,7 @@ module _ (code : Code) (m : Machine) where
   mutexless_free r site elements _ = refl
 
   mutexless_new_stage : (site cells : ℕ) (v : NewView) (stage : NewStage) → Mutexless (new_event code m site cells v stage)
-  mutexless_new_stage site cells v (news.Length header) = refl
+  mutexless_new_stage site cells v (NewStage.Length header) = refl
   mutexless_new_stage site cells v _ = refl
 
   mutexless_new : (site cells : ℕ) (stage : Stage) → Mutexless (in_new code m site cells stage)
@@ -71,15 +62,15 @@ module _ (code : Code) (m : Machine) where
   mutexless_new site cells _ = refl
 
   pub no_mutex : (i : Instr) (found elements : ℕ) → is_locking i ≡ false → mutex_said (said code i m found elements) ≡ false
-  no_mutex (instrs.Unlock r c site) found elements e = absurd (let f : true ≡ false = e in cc)
-  no_mutex (instrs.TakeLocal r from site) found elements e = mutexless_local site (ref m from) elements
-  no_mutex (instrs.New r count cells site) found elements e = mutexless_new site cells m.own.stage
-  no_mutex (instrs.Free r layout site) found elements e = mutexless_free r site elements m.own.stage
-  no_mutex (instrs.Lock c site) found elements e = absurd (let f : true ≡ false = e in cc)
-  no_mutex (instrs.Spawn r function from site) found elements e = mutexless_spawn function from site elements m.own.stage
-  no_mutex (instrs.Join r site) found elements e = either_no (found == 0 || (found == 1 || found == 2)) _ _ refl refl
-  no_mutex (instrs.Start site) found elements e = mutexless_start found elements m.own.stage
-  no_mutex instrs.Exit found elements e = mutexless_exit m.own.stage
-  no_mutex (instrs.CondWait c site) found elements e = either_no (waits_in found m.own.number) _ _ refl refl
-  no_mutex (instrs.CondSignal c site) found elements e = mutexless_signal c site found m.own.stage
+  no_mutex (Instr.Unlock r c site) found elements e = absurd (let f : true ≡ false = e in cc)
+  no_mutex (Instr.TakeLocal r from site) found elements e = mutexless_local site (ref m from) elements
+  no_mutex (Instr.New r count cells site) found elements e = mutexless_new site cells m.own.stage
+  no_mutex (Instr.Free r layout site) found elements e = mutexless_free r site elements m.own.stage
+  no_mutex (Instr.Lock c site) found elements e = absurd (let f : true ≡ false = e in cc)
+  no_mutex (Instr.Spawn r function from site) found elements e = mutexless_spawn function from site elements m.own.stage
+  no_mutex (Instr.Join r site) found elements e = either_no (found == 0 || (found == 1 || found == 2)) _ _ refl refl
+  no_mutex (Instr.Start site) found elements e = mutexless_start found elements m.own.stage
+  no_mutex Instr.Exit found elements e = mutexless_exit m.own.stage
+  no_mutex (Instr.CondWait c site) found elements e = either_no (waits_in found m.own.number) _ _ refl refl
+  no_mutex (Instr.CondSignal c site) found elements e = mutexless_signal c site found m.own.stage
   no_mutex _ found elements e = refl

@@ -1,10 +1,5 @@
 -- At each time one thread at most holds a mutex by the events of a run, and it is the one that locked it last.
-use Rattle.std.proofs.Common.{◌≡◌, ℕ, Bool, true, false, not, ◌||◌, ◌&&◌, cond, [], ◌∷◌, reverse, Option, Some, None, refl, sym, ap, ◌∙◌, eqb-true}
-use Rattle.std.specs.Prelude.{◌==◌, find}
-use Rattle.sharc_tree.specs.{declared.event.SourceEvent.SourceEvent, declared.event.CellAt.CellAt}
-use Rattle.sharc_meaning.specs.{Events.{locks, unlocks, is_of}, Store.{meets, is_locked, was_locked_by}}
-use Rattle.sharc_history_laws.proofs.{Holding.{holds_in, holds_own, holds_other}, Lists.{Newest, latest_is}}
-use Rattle.sharc_lemmas.proofs.{Numbers.same_is, Bools.yes}
+use Rattle.sharc_history_laws.proofs.{Imports.{◌≡◌, ℕ, Bool, true, false, not, ◌||◌, ◌&&◌, cond, [], ◌∷◌, reverse, Option, Some, None, refl, sym, ap, ◌∙◌, eqb-true, ◌==◌, find, SourceEvent, CellAt, locks, unlocks, is_of, meets, is_locked, was_locked_by, same_is, yes}, Holding.{holds_in, holds_own, holds_other}, Lists.{Newest, latest_is}}
 
 -- ---- the newest event first
 abbrev pub locked_in : Newest → CellAt → Bool

@@ -1,9 +1,6 @@
 -- The other access that a report names is a check that its thread made in the run.
-use Rattle.std.proofs.Common.{◌≡◌, ℕ, true, false, List, Option, Some, None, if◌then◌else◌, refl, ap, ◌∙◌, subst, eqb-true}
-use Rattle.std.specs.Prelude.{◌==◌}
-use Rattle.sharc_heap.specs.{declared.shadow_word.Kind.Kind, declared.access_table.Note.Note, Accesses.{note_of, site_at}, ShadowWord.epoch_of}
-use Rattle.sharc_code.specs.{declared.code.Code.Code, declared.shape.Shape.Shape, declared.state.ConflictAt.ConflictAt, declared.state.Stop.TheVariants.Conflict, Runs.Turn, Whole.place_after}
-use Rattle.sharc_history_laws.specs.Conflicts.{ShowsConflict, IsNoted, Names, ByNote, ByStop, CheckedThere}
+use Rattle.sharc_history_laws.proofs.Imports.{◌≡◌, ℕ, true, false, List, Option, Some, None, if◌then◌else◌, refl, ap, ◌∙◌, subst, eqb-true, ◌==◌, Kind, Note, note_of, site_at, epoch_of, Code, Shape, ConflictAt, Conflict, Turn, place_after, ShowsConflict, IsNoted, ByNote, ByStop, CheckedThere}
+use Rattle.sharc_history_laws.specs.Conflicts.{Names}
 
 -- a note with that epoch
 note_at : (o : Option Note) (epoch site : ℕ) → site_at o epoch ≡ Some site → (note : Note) × ((o ≡ Some note) × ((note.epoch ≡ epoch) × (note.site ≡ site)))

@@ -1,14 +1,7 @@
 -- Each note in the access table of a thread is of a check that the thread made in the run, and that passed.
-use Rattle.std.proofs.{Common.{◌≡◌, ℕ, zero, suc, ◌+◌, ◌⊎◌, inl, inr, Bool, true, false, List, [], ◌∷◌, Some, None, is_some, if◌then◌else◌, refl, sym, ap, ◌∙◌, subst, ⊎_elim}, lemmas.Bool.cases_eq, lemmas.List.get_or-set_other}
-use Rattle.std.specs.Prelude.{slice_index, slice_index_or, slice_set, replicate}
-use Rattle.sharc_heap.specs.{declared.shadow_word.Kind.Kind, declared.shadow_word.Kind.TheVariants.{Read, Write}, declared.access_table.Note.Note, declared.access_table.GranuleNotes.GranuleNotes, Notes.{blank, of_kind, with_note}, Accesses.{Accesses, note_of, site_at}, ShadowWord.epoch_of, Functions.{bits_of, conflicts_in, noted}}
-use Rattle.sharc_word.specs.declared.step.WordOp.TheVariants as ops
-use Rattle.sharc_code.specs.{declared.code.Code.Code, declared.instr.Cell.Cell, declared.instr.Instr.Instr, declared.shape.Shape.Shape, declared.state.Stop.TheVariants.Conflict, Layout.{granules, granule_at, granule_of, shadow_word}, Machine.{Machine, instr_at, act, place, checked, stopped, with_own, wrote, step_of}, Opening.opening_words, Outcomes.TurnsComeOut, Path.{turn, after, may_go, asked_by}, Runs.{Turn, Global, IsRun, MayTurn, after_turn, put, state_now, result_of, opening_of}, Whole.{one_thread, bounds, place_after}}
-use Rattle.sharc_code.specs.declared.instr.Instr.TheVariants as instrs
+use Rattle.sharc_history_laws.proofs.{Imports.{◌≡◌, ℕ, zero, suc, ◌+◌, ◌⊎◌, inl, inr, Bool, true, false, List, [], ◌∷◌, Some, None, is_some, if◌then◌else◌, refl, sym, ap, ◌∙◌, subst, ⊎_elim, cases_eq, get_or-set_other, slice_index, slice_index_or, slice_set, replicate, Kind, Read, Write, Note, GranuleNotes, blank, of_kind, note_of, site_at, epoch_of, bits_of, conflicts_in, noted, WordOp, Code, Cell, Instr, Shape, Conflict, granules, granule_at, granule_of, shadow_word, Machine, instr_at, act, place, checked, stopped, with_own, wrote, step_of, opening_words, TurnsComeOut, turn, after, may_go, asked_by, Turn, Global, IsRun, MayTurn, after_turn, put, state_now, result_of, opening_of, one_thread, bounds, place_after, CheckOf, touch_of, site_of_check, IsNoted}, Conflicting.granule_same, Consists.found_is, Outcomes.{is_access_check, tabled}, Rules.{put_same, put_other}}
+use Rattle.sharc_heap.specs.{Notes.with_note, Accesses.Accesses}
 use Rattle.sharc_code.specs.Machine as machines
-use Rattle.sharc_invariant.specs.Bits.{CheckOf, touch_of}
-use Rattle.sharc_history_laws.specs.Conflicts.{site_of_check, IsNoted}
-use Rattle.sharc_history_laws.proofs.{Conflicting.granule_same, Consists.found_is, Outcomes.{is_access_check, tabled}, Rules.{put_same, put_other}}
 
 -- ---- tables
 set_at_most : (xs : List GranuleNotes) (q : ℕ) (v : GranuleNotes) → (slice_index_or (slice_set xs q v) q blank ≡ v) ⊎ (slice_index_or (slice_set xs q v) q blank ≡ slice_index_or xs q blank)
@@ -96,14 +89,14 @@ module _ (outs : TurnsComeOut) (code : Code) (s : Shape) where
       ] e
 
       module _ (site_is : site_of_check i ≡ Some site) (touched : touch_of s i m found ((after_turn bounds (one_thread code s) (place_after code s earlier) one).threads one.thread) ≡ CheckOf k q (may_go ((after_turn bounds (one_thread code s) (place_after code s earlier) one).threads one.thread).at.state))
-          (asked : asked_by (turn code s m) ≡ Some (step_of (shadow_word s (granule_of (place m cell))) (ops.Or (bits_of m.own.number k)))) where
+          (asked : asked_by (turn code s m) ≡ Some (step_of (shadow_word s (granule_of (place m cell))) (WordOp.Or (bits_of m.own.number k)))) where
         made : may_go now.at.state ≡ true → p ≡ q → kind ≡ k → fresh ≡ note → New
         made goes same kind_is note_is =
             let x' = (after_turn bounds (one_thread code s) g one).threads one.thread in
             let goes' : may_go x'.at.state ≡ true = ap (λ (y : Machine). may_go y.at.state) (put_same g.threads one.thread (state_now (one_thread code s) g one)) ∙ goes in
             let touch : touch_of s i m found x' ≡ CheckOf kind p true = touched ∙ ap (CheckOf k q) goes' ∙ ap (λ k. CheckOf k q true) (sym kind_is) ∙ ap (λ q. CheckOf kind q true) (sym same) in
             let at_p : shadow_word s p ≡ shadow_word s (granule_of (place m cell)) = ap (shadow_word s) same ∙ ap (λ n. Rattle.sharc_code.specs.Layout.first_shadow + n) (granule_same s (granule_of (place m cell))) in
-            let found' : found ≡ slice_index g.words (shadow_word s (granule_of (place m cell))) = found_is g.words one.event (step_of (shadow_word s (granule_of (place m cell))) (ops.Or (bits_of m.own.number k))) (may.next.asks ∙ asked) may.answered in
+            let found' : found ≡ slice_index g.words (shadow_word s (granule_of (place m cell))) = found_is g.words one.event (step_of (shadow_word s (granule_of (place m cell))) (WordOp.Or (bits_of m.own.number k))) (may.next.asks ∙ asked) may.answered in
             record {
               later = [];
               check = one;
@@ -127,8 +120,8 @@ module _ (outs : TurnsComeOut) (code : Code) (s : Shape) where
     noted_now has = by i refl
       where
         by : (j : Instr) → i ≡ j → Has m ⊎ New
-        by (instrs.ChkRead cell site) is = at_check Read cell site (ap site_of_check is) (ap (λ j. touch_of s j m found ((after_turn bounds (one_thread code s) g one).threads one.thread)) is) (ap (λ j. asked_by (act code s j m)) is) (ap (λ j. after (act code s j m) found) is) has
-        by (instrs.ChkWrite cell site) is = at_check Write cell site (ap site_of_check is) (ap (λ j. touch_of s j m found ((after_turn bounds (one_thread code s) g one).threads one.thread)) is) (ap (λ j. asked_by (act code s j m)) is) (ap (λ j. after (act code s j m) found) is) has
+        by (Instr.ChkRead cell site) is = at_check Read cell site (ap site_of_check is) (ap (λ j. touch_of s j m found ((after_turn bounds (one_thread code s) g one).threads one.thread)) is) (ap (λ j. asked_by (act code s j m)) is) (ap (λ j. after (act code s j m) found) is) has
+        by (Instr.ChkWrite cell site) is = at_check Write cell site (ap site_of_check is) (ap (λ j. touch_of s j m found ((after_turn bounds (one_thread code s) g one).threads one.thread)) is) (ap (λ j. asked_by (act code s j m)) is) (ap (λ j. after (act code s j m) found) is) has
         by _ is = inl (ap (λ (t : Accesses). note_of t p kind) (sym (tabled s i found m _ (outs code s i m found) (ap is_access_check is))) ∙ has)
 
   further : (one : Turn) (earlier : List Turn) (j p : ℕ) (kind : Kind) (note : Note) → IsNoted code s earlier j p kind note → IsNoted code s (one ∷ earlier) j p kind note

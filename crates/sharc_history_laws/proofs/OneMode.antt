@@ -1,30 +1,21 @@
 -- From its New or Give to its next Give or Freed each cell of an object is accessed under one mode, and a cell of a global always.
-use Rattle.std.proofs.Common.{◌≡◌, ℕ, zero, suc, ◌+◌, ◌-◌, ◌*◌, ◌≤◌, ◌≢◌, Bool, List, [], ◌∷◌, Some, refl, sym, ap, ◌∙◌, subst, arith}
-use Rattle.std.specs.Prelude.{map, slice_index_or}
-use Rattle.sharc_tree.specs.{declared.event.CellAt.CellAt, declared.event.CellMode.{CellMode as EventMode}, declared.event.Object.Object}
-use Rattle.sharc_tree.specs.declared.event.CellMode.TheVariants as modes
-use Rattle.sharc_tree.specs.declared.event.Object.TheVariants as objects
-use Rattle.sharc_code.specs.{declared.code.Code.Code, declared.code.PlaceMode.PlaceMode, declared.instr.Cell.Cell, declared.shape.Shape.Shape, Arithmetic.word_of, Layout.Fits, Machine.{Machine, ref, int, place}, Ranges.IsInGlobal, Runs.Global, Says.{cell_at, global_cell, made_cell, mode_of, no_global, lock_through}}
-use Rattle.sharc_code.specs.declared.code.PlaceMode.TheVariants as places
-use Rattle.sharc_code.specs.declared.instr.Cell.TheVariants as cells
-use Rattle.sharc_invariant.specs.{Types.{Targets, Field, FieldMode, Lock, Mutex, ObjectType, StaticType, field_in, lock_number, mutex_of, type_of}, Types.Lock.{Global as GlobalLock, Through, Self}, Types.FieldLock.{OfType, OfGlobals, OfElement}, Labels.{HoldsLoaded, Refers, Label, Labels}, Typed.{IsWellTyped, HasCell, HasBase, MayAccess, IsMode, IsTypeMode, IsLockMode, IsLockCell, IsTypeLock, IsSibling, no_lock}, World.{RegisterOf, In, Cell as CellOf, Loaded as IsLoaded, World, WinOk, in_ref, base_of}, Words.lang_of, State.{State, GateStands, EntryStands, OnHold, View, view_of, refs_at, types_at, base_of_cell, object_of_cell, number_in}, MachineInvariant.IsOn, Laws.CellsAreThere}
-use Rattle.sharc_history_laws.proofs.{Stands.{top, gate, reads_ref, known_ref, there, rn}, Finds.is_there, Shared.number_of, Locked.{Names, names_one, same_refs, number_of_global, number_of_element, same_type, element_one}, LockModes.through_some}
+use Rattle.sharc_history_laws.proofs.{Imports.{◌≡◌, ℕ, zero, suc, ◌+◌, ◌-◌, ◌*◌, ◌≤◌, ◌≢◌, Bool, List, [], ◌∷◌, Some, refl, sym, ap, ◌∙◌, subst, arith, map, slice_index_or, CellAt, CellMode as EventMode, Object, CellMode, Code, PlaceMode, Cell, Shape, word_of, Fits, Machine, ref, int, place, IsInGlobal, Global, cell_at, global_cell, made_cell, mode_of, no_global, lock_through, Targets, Field, FieldMode, Lock, Mutex, ObjectType, StaticType, field_in, lock_number, mutex_of, type_of, GlobalLock, Through, Self, OfType, OfGlobals, OfElement, HoldsLoaded, Refers, Label, Labels, IsWellTyped, HasCell, HasBase, MayAccess, IsMode, IsTypeMode, IsLockMode, IsLockCell, IsTypeLock, IsSibling, no_lock, RegisterOf, In, CellOf, IsLoaded, World, WinOk, in_ref, base_of, lang_of, State, GateStands, EntryStands, OnHold, View, view_of, refs_at, types_at, base_of_cell, object_of_cell, number_in, IsOn, CellsAreThere}, Stands.{top, gate, reads_ref, known_ref, there, rn}, Finds.is_there, Shared.number_of, Locked.{Names, names_one, same_refs, number_of_global, number_of_element, same_type, element_one}, LockModes.through_some}
 
 -- the number of a cell in its object, as the world has it
 abbrev pub place_of : Code → Object → ℕ → ℕ
-place_of code (objects.Global g) cell = 2 * (slice_index_or code.globals.items g no_global).granule + cell - 2
-place_of code (objects.Made n) cell = cell
+place_of code (Object.Global g) cell = 2 * (slice_index_or code.globals.items g no_global).granule + cell - 2
+place_of code (Object.Made n) cell = cell
 
 -- the mode that a cell of such a field has now
 abbrev pub ModeBy : Code → World → CellAt → (o j : ℕ) → FieldMode → EventMode → Type 0
-ModeBy code w c o j FieldMode.Private mode = mode ≡ modes.Private
-ModeBy code w c o j FieldMode.Readonly mode = mode ≡ modes.Readonly
-ModeBy code w c o j FieldMode.Racy mode = mode ≡ modes.Racy
-ModeBy code w c o j FieldMode.Dynamic mode = mode ≡ modes.Dynamic
-ModeBy code w c o j (FieldMode.Under (OfType k)) mode = (d : CellAt) × (mode ≡ modes.Locked (Some d)) × Names code d (lock_number (w.obj o).ty k).object (2 * ((lock_number (w.obj o).ty k).object + 1) + (lock_number (w.obj o).ty k).cell)
-ModeBy code w c o j (FieldMode.Under (OfGlobals q)) mode = (d : CellAt) × (mode ≡ modes.Locked (Some d)) × Names code d 0 (2 * (0 + 1) + q)
-ModeBy code w c o j (FieldMode.Under (OfElement field mutex)) mode = mode ≡ modes.Locked (Some record { object = c.object; cell = c.cell - field + mutex })
-ModeBy code w c o j (FieldMode.Behind field pointer) mode = (mode ≡ modes.Locked (Some (made_cell (w.slots (CellOf o (j - field + pointer))).reference 0))) × ((w.slots (CellOf o (j - field + pointer))).reference ≢ 0)
+ModeBy code w c o j FieldMode.Private mode = mode ≡ CellMode.Private
+ModeBy code w c o j FieldMode.Readonly mode = mode ≡ CellMode.Readonly
+ModeBy code w c o j FieldMode.Racy mode = mode ≡ CellMode.Racy
+ModeBy code w c o j FieldMode.Dynamic mode = mode ≡ CellMode.Dynamic
+ModeBy code w c o j (FieldMode.Under (OfType k)) mode = (d : CellAt) × (mode ≡ CellMode.Locked (Some d)) × Names code d (lock_number (w.obj o).ty k).object (2 * ((lock_number (w.obj o).ty k).object + 1) + (lock_number (w.obj o).ty k).cell)
+ModeBy code w c o j (FieldMode.Under (OfGlobals q)) mode = (d : CellAt) × (mode ≡ CellMode.Locked (Some d)) × Names code d 0 (2 * (0 + 1) + q)
+ModeBy code w c o j (FieldMode.Under (OfElement field mutex)) mode = mode ≡ CellMode.Locked (Some record { object = c.object; cell = c.cell - field + mutex })
+ModeBy code w c o j (FieldMode.Behind field pointer) mode = (mode ≡ CellMode.Locked (Some (made_cell (w.slots (CellOf o (j - field + pointer))).reference 0))) × ((w.slots (CellOf o (j - field + pointer))).reference ≢ 0)
 
 abbrev pub ModeOf : Targets → Code → World → CellAt → EventMode → Type 0
 ModeOf x code w c mode = ModeBy code w c (number_of c.object) (place_of code c.object c.cell) (field_in x (w.obj (number_of c.object)).ty (place_of code c.object c.cell)).mode mode
@@ -35,8 +26,8 @@ one_by x code ls wt w c o j FieldMode.Private a b h k = h ∙ sym k
 one_by x code ls wt w c o j FieldMode.Readonly a b h k = h ∙ sym k
 one_by x code ls wt w c o j FieldMode.Racy a b h k = h ∙ sym k
 one_by x code ls wt w c o j FieldMode.Dynamic a b h k = h ∙ sym k
-one_by x code ls wt w c o j (FieldMode.Under (OfType q)) a b h k = h.1 ∙ ap (λ d. modes.Locked (Some d)) (names_one x code ls wt h.0 k.0 _ _ h.2 k.2) ∙ sym k.1
-one_by x code ls wt w c o j (FieldMode.Under (OfGlobals q)) a b h k = h.1 ∙ ap (λ d. modes.Locked (Some d)) (names_one x code ls wt h.0 k.0 _ _ h.2 k.2) ∙ sym k.1
+one_by x code ls wt w c o j (FieldMode.Under (OfType q)) a b h k = h.1 ∙ ap (λ d. CellMode.Locked (Some d)) (names_one x code ls wt h.0 k.0 _ _ h.2 k.2) ∙ sym k.1
+one_by x code ls wt w c o j (FieldMode.Under (OfGlobals q)) a b h k = h.1 ∙ ap (λ d. CellMode.Locked (Some d)) (names_one x code ls wt h.0 k.0 _ _ h.2 k.2) ∙ sym k.1
 one_by x code ls wt w c o j (FieldMode.Under (OfElement field mutex)) a b h k = h ∙ sym k
 one_by x code ls wt w c o j (FieldMode.Behind field pointer) a b h k = h.0 ∙ sym k.0
 
@@ -66,7 +57,7 @@ module _ (cell_laws : CellsAreThere) (x : Targets) (code : Code) (s : Shape) (ls
   NamesMutex d mutex = Names code d mutex.object (2 * (mutex.object + 1) + mutex.cell)
 
   abbrev IsLockedAs : CellAt → PlaceMode → Mutex → Type 0
-  IsLockedAs at mode mutex = (d : CellAt) × (mode_of code (g.threads t) at mode ≡ modes.Locked (Some d)) × NamesMutex d mutex
+  IsLockedAs at mode mutex = (d : CellAt) × (mode_of code (g.threads t) at mode ≡ CellMode.Locked (Some d)) × NamesMutex d mutex
 
   global_mode : (at : CellAt) (q : ℕ) (mode : PlaceMode) → IsLockMode code here 0 (GlobalLock q) mode → IsLockedAs at mode (record { object = 0; cell = q })
   global_mode at q mode is =
@@ -75,28 +66,28 @@ module _ (cell_laws : CellsAreThere) (x : Targets) (code : Code) (s : Shape) (ls
       let e : q + 2 ≡ 2 * (0 + 1) + q = omega arith in
       (global_cell code is.0 (q + 2), ap (mode_of code m at) is.1, (refl, subst (IsInGlobal code.globals.items is.0) e inside, omega arith))
 
-  through_mode : (at : CellAt) (a j v : ℕ) (mode : PlaceMode) → mode ≡ places.LockedThrough a j → ref (g.threads t) a ≡ v → v ≢ 0 → IsLockedAs at mode (record { object = v; cell = j })
+  through_mode : (at : CellAt) (a j v : ℕ) (mode : PlaceMode) → mode ≡ PlaceMode.LockedThrough a j → ref (g.threads t) a ≡ v → v ≢ 0 → IsLockedAs at mode (record { object = v; cell = j })
   through_mode at a j v mode is same nz =
       let some : lock_through (ref m a) j ≡ Some (made_cell v j) = ap (λ n. lock_through n j) same ∙ through_some v j nz in
-      (made_cell v j, ap (mode_of code m at) is ∙ ap (λ mutex. modes.Locked mutex) some, (refl, nz, refl))
+      (made_cell v j, ap (mode_of code m at) is ∙ ap (λ mutex. CellMode.Locked mutex) some, (refl, nz, refl))
 
   -- the lock of a type
   lock_mode_is : (at : CellAt) (r : ℕ) (lock : Lock) (d : Cell) (mode : PlaceMode) → IsLockCell code here r lock d → HasBase here d → IsLockMode code here r lock mode → IsLockedAs at mode (mutex_of refs (refs r) lock)
   lock_mode_is at r (GlobalLock q) d mode cell base is = global_mode at q mode is
-  lock_mode_is at r (Through q j) (cells.Object a i) mode cell base is =
+  lock_mode_is at r (Through q j) (Cell.Object a i) mode cell base is =
       let same : ref m is.0 ≡ refs q = same_refs x code s ls wt fits g world st t on hold is.0 q is.2 ∙ reads q in
       let nz : refs q ≢ 0 = λ z. known_ref x code s ls wt fits g world st t on hold a base (same_refs x code s ls wt fits g world st t on hold a q cell.1 ∙ reads q ∙ z) in
       through_mode at is.0 j (refs q) mode is.1 same nz
-  lock_mode_is at r (Through q j) (cells.Global g' p) mode cell base is = absurd cell
-  lock_mode_is at r (Through q j) (cells.GlobalAt g' i) mode cell base is = absurd cell
-  lock_mode_is at r (Through q j) (cells.ObjectAt a i) mode cell base is = absurd cell
-  lock_mode_is at r (Self j) (cells.Object a i) mode cell base is =
+  lock_mode_is at r (Through q j) (Cell.Global g' p) mode cell base is = absurd cell
+  lock_mode_is at r (Through q j) (Cell.GlobalAt g' i) mode cell base is = absurd cell
+  lock_mode_is at r (Through q j) (Cell.ObjectAt a i) mode cell base is = absurd cell
+  lock_mode_is at r (Self j) (Cell.Object a i) mode cell base is =
       let same : ref m is.0 ≡ refs r = same_refs x code s ls wt fits g world st t on hold is.0 r is.2 ∙ reads r in
       let nz : refs r ≢ 0 = λ z. known_ref x code s ls wt fits g world st t on hold a base (same_refs x code s ls wt fits g world st t on hold a r cell.1 ∙ reads r ∙ z) in
       through_mode at is.0 j (refs r) mode is.1 same nz
-  lock_mode_is at r (Self j) (cells.Global g' p) mode cell base is = absurd cell
-  lock_mode_is at r (Self j) (cells.GlobalAt g' i) mode cell base is = absurd cell
-  lock_mode_is at r (Self j) (cells.ObjectAt a i) mode cell base is = absurd cell
+  lock_mode_is at r (Self j) (Cell.Global g' p) mode cell base is = absurd cell
+  lock_mode_is at r (Self j) (Cell.GlobalAt g' i) mode cell base is = absurd cell
+  lock_mode_is at r (Self j) (Cell.ObjectAt a i) mode cell base is = absurd cell
 
   -- of the object in a register
   type_is : (r : ℕ) (ty : StaticType) → here.env r ≡ Refers ty → ref (g.threads t) r ≢ 0 → (world.obj (ref (g.threads t) r)).ty ≡ type_of refs (refs r) ty
@@ -113,21 +104,21 @@ module _ (cell_laws : CellsAreThere) (x : Targets) (code : Code) (s : Shape) (ls
   refers_eq a b e = cc
 
   type_mode_is : (at : CellAt) (k : ℕ) (c d : Cell) (mode : PlaceMode) → IsTypeLock code here k c d → HasBase here c → HasBase here d → IsTypeMode code here k c mode → IsLockedAs at mode (lock_number (world.obj (object_of_cell (g.threads t) c)).ty k)
-  type_mode_is at k (cells.Global g' p) d mode cell bc bd is = absurd cell
-  type_mode_is at k (cells.GlobalAt g' i) d mode cell bc bd is = absurd cell
-  type_mode_is at k (cells.Object r i) d mode cell bc bd is =
+  type_mode_is at k (Cell.Global g' p) d mode cell bc bd is = absurd cell
+  type_mode_is at k (Cell.GlobalAt g' i) d mode cell bc bd is = absurd cell
+  type_mode_is at k (Cell.Object r i) d mode cell bc bd is =
       let same : is.0 ≡ cell.0 = refers_eq is.0 cell.0 (sym is.1 ∙ cell.1) in
       let a = lock_mode_is at r (slice_index_or cell.0.locks k no_lock) d mode cell.3 bd (subst (λ (ty : StaticType). IsLockMode code here r (slice_index_or ty.locks k no_lock) mode) same is.2) in
       subst (IsLockedAs at mode) (sym (type_lock r k cell.0 cell.1 (known_ref x code s ls wt fits g world st t on hold r bc))) a
-  type_mode_is at k (cells.ObjectAt r i) d mode cell bc bd is =
+  type_mode_is at k (Cell.ObjectAt r i) d mode cell bc bd is =
       let same : is.0 ≡ cell.0 = refers_eq is.0 cell.0 (sym is.1 ∙ cell.1) in
       let a = lock_mode_is at r (slice_index_or cell.0.locks k no_lock) d mode cell.3 bd (subst (λ (ty : StaticType). IsLockMode code here r (slice_index_or ty.locks k no_lock) mode) same is.2) in
       subst (IsLockedAs at mode) (sym (type_lock r k cell.0 cell.1 (known_ref x code s ls wt fits g world st t on hold r bc))) a
 
   -- the pointer of the same element
   sibling_is : (c d : Cell) (field pointer : ℕ) → IsSibling here field pointer c d → HasBase here c → (object_of_cell (g.threads t) d ≡ object_of_cell (g.threads t) c) × (number_in (g.threads t) d ≡ number_in (g.threads t) c - field + pointer)
-  sibling_is (cells.Global g' p) (cells.Global h q) field pointer is b = let a = is.1 in let z = is.2 in (refl, omega arith)
-  sibling_is (cells.GlobalAt g' i) (cells.GlobalAt h j) field pointer is b =
+  sibling_is (Cell.Global g' p) (Cell.Global h q) field pointer is b = let a = is.1 in let z = is.2 in (refl, omega arith)
+  sibling_is (Cell.GlobalAt g' i) (Cell.GlobalAt h j) field pointer is b =
       let k = is.1 in
       let first = k.0 in
       let a = number_of_global x code s ls wt fits g world st t on hold i first k.1 k.2 k.3 k.4 in
@@ -141,14 +132,14 @@ module _ (cell_laws : CellsAreThere) (x : Targets) (code : Code) (s : Shape) (ls
     where
       numbers : (p q first more field pointer : ℕ) → field + 2 ≤ first → p ≡ first + more → q ≡ first - field + pointer + more → q - 2 * (0 + 1) ≡ p - 2 * (0 + 1) - field + pointer
       numbers p q first more field pointer low a b = omega arith
-  sibling_is (cells.Object r i) (cells.Object q j) field pointer is b =
+  sibling_is (Cell.Object r i) (Cell.Object q j) field pointer is b =
       let same = same_refs x code s ls wt fits g world st t on hold r q is.0 in
       let a = is.1 in let e = is.2 in
       (sym same, numbers (ref m q) (ref m r) i j field pointer e)
     where
       numbers : (n k i j field pointer : ℕ) → j ≡ i - field + pointer → 2 * (n + 1) + j - 2 * (n + 1) ≡ 2 * (k + 1) + i - 2 * (k + 1) - field + pointer
       numbers n k i j field pointer e = omega arith
-  sibling_is (cells.ObjectAt r i) (cells.ObjectAt q j) field pointer is b =
+  sibling_is (Cell.ObjectAt r i) (Cell.ObjectAt q j) field pointer is b =
       let same = same_refs x code s ls wt fits g world st t on hold r q is.0 in
       let k = is.1 in
       let a = number_of_element x code s ls wt fits g world st t on hold i r field k.0 k.1 in
@@ -164,22 +155,22 @@ module _ (cell_laws : CellsAreThere) (x : Targets) (code : Code) (s : Shape) (ls
     where
       numbers : (n k i j more field pointer : ℕ) → i ≡ more + field → j ≡ more + pointer → 2 * (n + 1) + j - 2 * (n + 1) ≡ 2 * (k + 1) + i - 2 * (k + 1) - field + pointer
       numbers n k i j more field pointer a b = omega arith
-  sibling_is (cells.Global g' p) (cells.GlobalAt h j) field pointer is b = absurd is
-  sibling_is (cells.Global g' p) (cells.Object q j) field pointer is b = absurd is
-  sibling_is (cells.Global g' p) (cells.ObjectAt q j) field pointer is b = absurd is
-  sibling_is (cells.GlobalAt g' i) (cells.Global h q) field pointer is b = absurd is
-  sibling_is (cells.GlobalAt g' i) (cells.Object q j) field pointer is b = absurd is
-  sibling_is (cells.GlobalAt g' i) (cells.ObjectAt q j) field pointer is b = absurd is
-  sibling_is (cells.Object r i) (cells.Global h q) field pointer is b = absurd is
-  sibling_is (cells.Object r i) (cells.GlobalAt h j) field pointer is b = absurd is
-  sibling_is (cells.Object r i) (cells.ObjectAt q j) field pointer is b = absurd is
-  sibling_is (cells.ObjectAt r i) (cells.Global h q) field pointer is b = absurd is
-  sibling_is (cells.ObjectAt r i) (cells.GlobalAt h j) field pointer is b = absurd is
-  sibling_is (cells.ObjectAt r i) (cells.Object q j) field pointer is b = absurd is
+  sibling_is (Cell.Global g' p) (Cell.GlobalAt h j) field pointer is b = absurd is
+  sibling_is (Cell.Global g' p) (Cell.Object q j) field pointer is b = absurd is
+  sibling_is (Cell.Global g' p) (Cell.ObjectAt q j) field pointer is b = absurd is
+  sibling_is (Cell.GlobalAt g' i) (Cell.Global h q) field pointer is b = absurd is
+  sibling_is (Cell.GlobalAt g' i) (Cell.Object q j) field pointer is b = absurd is
+  sibling_is (Cell.GlobalAt g' i) (Cell.ObjectAt q j) field pointer is b = absurd is
+  sibling_is (Cell.Object r i) (Cell.Global h q) field pointer is b = absurd is
+  sibling_is (Cell.Object r i) (Cell.GlobalAt h j) field pointer is b = absurd is
+  sibling_is (Cell.Object r i) (Cell.ObjectAt q j) field pointer is b = absurd is
+  sibling_is (Cell.ObjectAt r i) (Cell.Global h q) field pointer is b = absurd is
+  sibling_is (Cell.ObjectAt r i) (Cell.GlobalAt h j) field pointer is b = absurd is
+  sibling_is (Cell.ObjectAt r i) (Cell.Object q j) field pointer is b = absurd is
 
   -- a lock behind a pointer
-  behind_mode_is : (at : CellAt) (c d : Cell) (f f' : Field) (field pointer : ℕ) (mode : PlaceMode) → here.gate ≡ HoldsLoaded d → HasCell x code here c f → HasCell x code here d f' → IsSibling here field pointer c d → mode ≡ places.LockedLoaded
-      → (mode_of code (g.threads t) at mode ≡ modes.Locked (Some (made_cell (world.slots (CellOf (object_of_cell (g.threads t) c) (number_in (g.threads t) c - field + pointer))).reference 0)))
+  behind_mode_is : (at : CellAt) (c d : Cell) (f f' : Field) (field pointer : ℕ) (mode : PlaceMode) → here.gate ≡ HoldsLoaded d → HasCell x code here c f → HasCell x code here d f' → IsSibling here field pointer c d → mode ≡ PlaceMode.LockedLoaded
+      → (mode_of code (g.threads t) at mode ≡ CellMode.Locked (Some (made_cell (world.slots (CellOf (object_of_cell (g.threads t) c) (number_in (g.threads t) c - field + pointer))).reference 0)))
       × ((world.slots (CellOf (object_of_cell (g.threads t) c) (number_in (g.threads t) c - field + pointer))).reference ≢ 0)
   behind_mode_is at c d f f' field pointer mode gt hc hd sib is =
       let k = subst (GateStands s world t m) gt (gate x code s ls wt fits g world st t on hold) in
@@ -188,7 +179,7 @@ module _ (cell_laws : CellsAreThere) (x : Targets) (code : Code) (s : Shape) (ls
       let ok : WinOk (lang_of x) world t (IsLoaded (base_of_cell m d) (number_in m d) m.pending) = subst (WinOk (lang_of x) world t) k.0 (st.inv.wins t) in
       let slot : (world.slots (CellOf (object_of_cell m c) (number_in m c - field + pointer))).reference ≡ m.pending =
       ap (λ o. (world.slots (CellOf o (number_in m c - field + pointer))).reference) (sym (th.base ∙ e.0)) ∙ ap (λ j. (world.slots (CellOf (base_of world t (base_of_cell m d)) j)).reference) (sym e.1) ∙ ok.1 in
-      (ap (mode_of code m at) is ∙ ap (λ mutex. modes.Locked mutex) (through_some m.pending 0 k.1) ∙ ap (λ v. modes.Locked (Some (made_cell v 0))) (sym slot), λ z. k.1 (sym slot ∙ z))
+      (ap (mode_of code m at) is ∙ ap (λ mutex. CellMode.Locked mutex) (through_some m.pending 0 k.1) ∙ ap (λ v. CellMode.Locked (Some (made_cell v 0))) (sym slot), λ z. k.1 (sym slot ∙ z))
 
   -- all of them
   pub mode_now : (c : Cell) (f : Field) (write : Bool) (at : CellAt) (mode : PlaceMode) → at ≡ cell_at code (g.threads t) c → HasCell x code here c f → (fm : FieldMode) → MayAccess x code ls here write c f.holds fm → IsMode code here c fm mode
@@ -204,19 +195,19 @@ module _ (cell_laws : CellsAreThere) (x : Targets) (code : Code) (s : Shape) (ls
 
   -- where the cell is in the world
   pub numbers_now : (c : Cell) (f : Field) → HasCell x code here c f → (number_of (cell_at code (g.threads t) c).object ≡ object_of_cell (g.threads t) c) × (place_of code (cell_at code (g.threads t) c).object (cell_at code (g.threads t) c).cell ≡ number_in (g.threads t) c)
-  numbers_now (cells.Global q p) f c =
-      let there = is_there cell_laws x code s ls wt fits g world st t on hold (cells.Global q p) f c.field refl in
+  numbers_now (Cell.Global q p) f c =
+      let there = is_there cell_laws x code s ls wt fits g world st t on hold (Cell.Global q p) f c.field refl in
       let from = there.low in
       (refl, omega arith)
-  numbers_now (cells.GlobalAt q r) f c =
-      let there = is_there cell_laws x code s ls wt fits g world st t on hold (cells.GlobalAt q r) f c.field refl in
+  numbers_now (Cell.GlobalAt q r) f c =
+      let there = is_there cell_laws x code s ls wt fits g world st t on hold (Cell.GlobalAt q r) f c.field refl in
       let from = there.low in
-      (refl, halves (place m (cells.GlobalAt q r)) (slice_index_or code.globals.items q no_global).granule from)
+      (refl, halves (place m (Cell.GlobalAt q r)) (slice_index_or code.globals.items q no_global).granule from)
     where
       halves : (p granule : ℕ) → 2 * granule ≤ p → 2 * granule + (p - 2 * granule) - 2 ≡ p - 2 * (0 + 1)
       halves p granule from = omega arith
-  numbers_now (cells.Object r p) f c = (refl, omega arith)
-  numbers_now (cells.ObjectAt r q) f c = (refl, within (ref m r) (word_of (int m q)))
+  numbers_now (Cell.Object r p) f c = (refl, omega arith)
+  numbers_now (Cell.ObjectAt r q) f c = (refl, within (ref m r) (word_of (int m q)))
     where
       within : (o p : ℕ) → p ≡ 2 * (o + 1) + p - 2 * (o + 1)
       within o p = omega arith

@@ -1,15 +1,6 @@
 -- What the cells of the globals hold at first is what their definitions say.
-use Rattle.std.proofs.{Common.{◌≡◌, ℕ, ◌+◌, ◌-◌, ◌*◌, ◌<◌, ◌≤◌, ◌≢◌, ◌⊎◌, inl, Bool, true, false, [], refl, sym, ap, ◌∙◌, subst, arith}, lemmas.Bool.Decides.nat_tests, lemmas.List.FromFn.get_or-map-range_with_len}
-use Rattle.std.specs.Prelude.{slice_index, nat_lt, nat_le, ◌==◌}
-use Rattle.sharc_tree.specs.{declared.event.CellAt.CellAt, declared.event.Object.Object}
-use Rattle.sharc_tree.specs.declared.event.Object.TheVariants as objects
-use Rattle.sharc_ctype.specs.Resolved.{Resolution}
-use Rattle.sharc_code.specs.{declared.code.Code.Code, declared.shape.Shape.Shape, Arithmetic.int_of, Layout.{Fits, words_of, first_cell}, Opening.{opening_words, opens_with, opening_cell, first_global, first_heap as first_heap_word}, Ranges.IsInGlobal, Whole.place_after}
-use Rattle.sharc_compile.specs.OfRuns.{table_of}
-use Rattle.sharc_meaning.specs.Store.{initial_value}
-use Rattle.sharc_invariant.specs.{Types.{Targets, Field, Content, Integer, MutexWord, Waiters, Pointer, field_in, global_field, globals_target}, Labels.Labels, Typed.{IsWellTyped, Initial}, Words.cell_at, Opened.{first_world, the_globals}, Laws.{Begins as CodeBegins}}
-use Rattle.sharc_history_laws.specs.Stores.{BeginsWith}
-use Rattle.sharc_history_laws.proofs.{Consists.{Consists, at_first, none_live}, Contents.{newest_value, value_held, IsCellOf, content_of, word_of_cell, Contents}, Emptying.IsEmptied, Locked.Names, OneMode.place_of, Shared.number_of, Sparing.{is_value, holds_waiters}}
+use Rattle.sharc_history_laws.proofs.{Imports.{◌≡◌, ℕ, ◌+◌, ◌-◌, ◌*◌, ◌<◌, ◌≤◌, ◌≢◌, ◌⊎◌, inl, Bool, true, false, [], refl, sym, ap, ◌∙◌, subst, arith, nat_tests, get_or-map-range_with_len, slice_index, nat_lt, nat_le, ◌==◌, CellAt, Object, Resolution, Code, Shape, int_of, Fits, words_of, first_cell, opening_words, opens_with, opening_cell, first_global, first_heap_word, IsInGlobal, place_after, table_of, initial_value, Targets, Field, Content, Integer, MutexWord, Waiters, Pointer, field_in, global_field, globals_target, Labels, IsWellTyped, Initial, first_world, the_globals, CodeBegins, BeginsWith}, Consists.{Consists, at_first, none_live}, Contents.{newest_value, value_held, IsCellOf, content_of, word_of_cell, Contents}, Emptying.IsEmptied, Locked.Names, OneMode.place_of, Shared.number_of, Sparing.{is_value, holds_waiters}}
+use Rattle.sharc_invariant.specs.Words.{cell_at}
 
 module _ (code : Code) (s : Shape) where
   other : (a b : ℕ) → (a ≡ b → ⊥) → (a == b) ≡ false
@@ -44,11 +35,11 @@ module _ (begins : CodeBegins) (x : Targets) (code : Code) (s : Shape) (ls : Lab
       by false e = absurd (let z : false ≡ true = e in cc)
 
   -- the place of a cell of a global is one of that global
-  inside_global : (q : ℕ) (c : CellAt) → c.object ≡ objects.Global q → IsCellOf code (first_world x) start.state.cells c → IsInGlobal code.globals.items q (2 * (0 + 1) + place_of code c.object c.cell)
+  inside_global : (q : ℕ) (c : CellAt) → c.object ≡ Object.Global q → IsCellOf code (first_world x) start.state.cells c → IsInGlobal code.globals.items q (2 * (0 + 1) + place_of code c.object c.cell)
   inside_global q c is k =
       let o : number_of c.object ≡ 0 = ap number_of is in
       let j = place_of code c.object c.cell in
-      let named : Names code (record { object = objects.Global q; cell = c.cell }) 0 (2 * (0 + 1) + j) = subst (λ b. Names code (record { object = b; cell = c.cell }) 0 (2 * (0 + 1) + j)) is (subst (λ n. Names code c n (2 * (n + 1) + j)) o k.named) in
+      let named : Names code (record { object = Object.Global q; cell = c.cell }) 0 (2 * (0 + 1) + j) = subst (λ b. Names code (record { object = b; cell = c.cell }) 0 (2 * (0 + 1) + j)) is (subst (λ n. Names code c n (2 * (n + 1) + j)) o k.named) in
       named.1
 
   held : (k : Content) (v : ℕ) → is_value k ≡ true → Initial k v → int_of v ≡ value_held k (table_of code s []) v
@@ -62,7 +53,7 @@ module _ (begins : CodeBegins) (x : Targets) (code : Code) (s : Shape) (ls : Lab
     pub word : slice_index (place_after code s []).words (word_of_cell code s c) ≡ slice_index code.initial.items (place_of code c.object c.cell)
     pub content : content_of x code (first_world x) c ≡ (global_field x (place_of code c.object c.cell)).holds
 
-  pub opened : (q : ℕ) (c : CellAt) → c.object ≡ objects.Global q → IsCellOf code (first_world x) start.state.cells c → Opened c
+  pub opened : (q : ℕ) (c : CellAt) → c.object ≡ Object.Global q → IsCellOf code (first_world x) start.state.cells c → Opened c
   opened q c is k =
       let o : number_of c.object ≡ 0 = ap number_of is in
       let j = place_of code c.object c.cell in
@@ -81,13 +72,13 @@ module _ (begins : CodeBegins) (x : Targets) (code : Code) (s : Shape) (ls : Lab
         content = ap (λ o. (field_in x ((first_world x).obj o).ty j).holds) o ∙ ap (λ (f : Field). f.holds) (global_is j);
       }
 
-  at_global : (q : ℕ) (c : CellAt) → c.object ≡ objects.Global q → IsCellOf code (first_world x) start.state.cells c → is_value (content_of x code (first_world x) c) ≡ true
+  at_global : (q : ℕ) (c : CellAt) → c.object ≡ Object.Global q → IsCellOf code (first_world x) start.state.cells c → is_value (content_of x code (first_world x) c) ≡ true
       → newest_value r [] c ≡ value_held (content_of x code (first_world x) c) (table_of code s []) (slice_index (place_after code s []).words (word_of_cell code s c))
   at_global q c is k value =
       let j = place_of code c.object c.cell in
       let inside = inside_global q c is k in
       let low = inside.low in
-      let value_is : int_of (slice_index code.initial.items (2 * (0 + 1) + j - 2)) ≡ initial_value r (objects.Global q) = first q (2 * (0 + 1) + j) inside in
+      let value_is : int_of (slice_index code.initial.items (2 * (0 + 1) + j - 2)) ≡ initial_value r (Object.Global q) = first q (2 * (0 + 1) + j) inside in
       let place : 2 * (0 + 1) + j - 2 ≡ j = omega arith in
       let there = opened q c is k in
       let v = slice_index code.initial.items j in
@@ -97,7 +88,7 @@ module _ (begins : CodeBegins) (x : Targets) (code : Code) (s : Shape) (ls : Lab
       ∙ ap (value_held (content_of x code (first_world x) c) (table_of code s [])) (sym there.word)
 
   -- nobody waits in a word of waiters
-  pub waiters_first : (q : ℕ) (c : CellAt) → c.object ≡ objects.Global q → IsCellOf code (first_world x) start.state.cells c → holds_waiters (content_of x code (first_world x) c) ≡ true → slice_index (place_after code s []).words (word_of_cell code s c) ≡ 0
+  pub waiters_first : (q : ℕ) (c : CellAt) → c.object ≡ Object.Global q → IsCellOf code (first_world x) start.state.cells c → holds_waiters (content_of x code (first_world x) c) ≡ true → slice_index (place_after code s []).words (word_of_cell code s c) ≡ 0
   waiters_first q c is k holds =
       let there = opened q c is k in
       there.word ∙ zero_word (global_field x (place_of code c.object c.cell)).holds _ (ap holds_waiters (sym there.content) ∙ holds) (wt.globals.initial (place_of code c.object c.cell))
@@ -109,7 +100,7 @@ module _ (begins : CodeBegins) (x : Targets) (code : Code) (s : Shape) (ls : Lab
       zero_word MutexWord v e h = absurd (let z : false ≡ true = e in cc)
 
   -- no other object is there
-  pub only_globals : (n : ℕ) (c : CellAt) → c.object ≡ objects.Made n → IsCellOf code (first_world x) start.state.cells c → ⊥
+  pub only_globals : (n : ℕ) (c : CellAt) → c.object ≡ Object.Made n → IsCellOf code (first_world x) start.state.cells c → ⊥
   only_globals n c is k =
       let named : (n ≡ number_of c.object) × (number_of c.object ≢ 0) × (2 * (number_of c.object + 1) + place_of code c.object c.cell ≡ Rattle.sharc_code.specs.Layout.cell_of n c.cell) =
       subst (λ b. Names code (record { object = b; cell = c.cell }) (number_of c.object) (2 * (number_of c.object + 1) + place_of code c.object c.cell)) is k.named in
@@ -119,5 +110,5 @@ module _ (begins : CodeBegins) (x : Targets) (code : Code) (s : Shape) (ls : Lab
   contents_first c k value = by c.object refl
     where
       by : (b : Object) → c.object ≡ b → (newest_value r [] c ≡ value_held (content_of x code (first_world x) c) (table_of code s []) (slice_index (place_after code s []).words (word_of_cell code s c))) ⊎ IsEmptied code (place_after code s []) (number_of c.object)
-      by (objects.Global q) is = inl (at_global q c is k value)
-      by (objects.Made n) is = absurd (only_globals n c is k)
+      by (Object.Global q) is = inl (at_global q c is k value)
+      by (Object.Made n) is = absurd (only_globals n c is k)

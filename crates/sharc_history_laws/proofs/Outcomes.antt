@@ -1,16 +1,9 @@
 -- What a turn changes of what its thread has for itself, and whether it goes on, by the outcome of the turn.
-use Rattle.std.proofs.Common.{◌≡◌, ◌==◌, ◌⊎◌, ℕ, inl, inr, Bool, true, false, not, Some, None, is_some, refl, sym, ap, ◌∙◌, subst}
-use Rattle.sharc_tree.specs.declared.trap.Trap.TheVariants as traps
-use Rattle.sharc_heap.specs.{declared.shadow_word.Kind.Kind, declared.shadow_word.Kind.TheVariants.{Read, Write}}
-use Rattle.sharc_code.specs.{declared.instr.Cell.Cell, declared.instr.Instr.Instr, declared.shape.Shape.Shape, declared.state.Stage.Stage, declared.state.Stage.TheVariants.{Links, Wakes, Withdraws, WithdrawsFrom, Leaves}, declared.state.Stop.Stop, Machine.{Machine, Own, stopped}, Outcomes.{TurnOutcome, Stops, Stays, Rested, Notes, Logs, Begun, Refused, Gone, own_after, state_after, MayComeOut, MayStop, IsStill, ComesOut, has_stage, check_of, is_load, is_locking, is_exit}, Path.may_go}
-use Rattle.sharc_code.specs.declared.instr.Instr.TheVariants as instrs
-use Rattle.sharc_code.specs.declared.state.Stop.TheVariants.{Trap as Trapped}
-use Rattle.sharc_invariant.specs.Words.{is_withdrawing, is_ended}
-use Rattle.sharc_lemmas.proofs.Bools.{yes}
+use Rattle.sharc_history_laws.proofs.Imports.{◌≡◌, ◌==◌, ◌⊎◌, ℕ, inl, inr, Bool, true, false, not, Some, None, is_some, refl, sym, ap, ◌∙◌, subst, Trap, Kind, Read, Write, Cell, Instr, Shape, Stage, Links, Wakes, Withdraws, WithdrawsFrom, Leaves, Stop, Machine, Own, stopped, TurnOutcome, Stops, Stays, Rested, Notes, Logs, Begun, Refused, Gone, own_after, state_after, MayComeOut, MayStop, IsStill, ComesOut, has_stage, check_of, is_load, is_locking, is_exit, may_go, Trapped, is_withdrawing, is_ended, yes}
 
 abbrev pub is_access_check : Instr → Bool
-is_access_check (instrs.ChkRead cell site) = true
-is_access_check (instrs.ChkWrite cell site) = true
+is_access_check (Instr.ChkRead cell site) = true
+is_access_check (Instr.ChkWrite cell site) = true
 is_access_check _ = false
 
 pub is_check : (kind : Kind) (cell : Cell) (site : ℕ) → is_access_check (check_of kind cell site) ≡ true
@@ -28,14 +21,14 @@ wakes_nobody _ = false
 
 -- only the stages of an Exit withdraw, and no stage of an instruction wakes nobody
 withdraws_of : (i : Instr) (stage : Stage) → has_stage i stage ≡ true → is_withdrawing stage ≡ true → is_exit i ≡ true
-withdraws_of instrs.Exit stage has w = refl
+withdraws_of Instr.Exit stage has w = refl
 withdraws_of _ (Withdraws row) has w = absurd (yes (sym has))
 withdraws_of _ (WithdrawsFrom row seen) has w = absurd (yes (sym has))
 withdraws_of _ Leaves has w = absurd (yes (sym has))
 withdraws_of _ _ has w = absurd (yes (sym w))
 
 wakes_some : (i : Instr) (stage : Stage) → has_stage i stage ≡ true → wakes_nobody stage ≡ true → ⊥
-wakes_some (instrs.CondSignal cell site) (Wakes seen) has w = yes (sym has ∙ ap not w)
+wakes_some (Instr.CondSignal cell site) (Wakes seen) has w = yes (sym has ∙ ap not w)
 wakes_some _ (Wakes seen) has w = yes (sym has)
 wakes_some _ _ has w = yes (sym w)
 
@@ -62,7 +55,7 @@ module _ (s : Shape) (i : Instr) (found : ℕ) (m x : Machine) (out : ComesOut s
     where
       by : (o : TurnOutcome) → MayComeOut s i m found o → IsStill o m x → (own_after o m.own).stop ≡ Some why → MayStop s i m found why × (x ≡ stopped m why)
       by (Stops w) may still e = let same : w ≡ why = cc in subst (λ w. MayStop s i m found w × (x ≡ stopped m w)) same (may, still)
-      by (Refused function site) may still e = absurd (let same : Trapped traps.CallDepth site ≡ why = cc in yes (ap is_trap same ∙ report))
+      by (Refused function site) may still e = absurd (let same : Trapped Trap.CallDepth site ≡ why = cc in yes (ap is_trap same ∙ report))
       by _ may still e = absurd (let f : None ≡ Some why = sym none ∙ e in cc)
 
   -- who has a stop does not go on

@@ -1,16 +1,6 @@
 -- No turn but that of a Start leads to the place where threads begin.
-use Rattle.std.proofs.Common.{◌≡◌, ℕ, ◌*◌, ◌≢◌, ℤ, pos, negsuc, zero, suc, ◌+◌, ◌-◌, ◌<◌, ◌⊎◌, inl, inr, Bool, true, false, not, ◌&&◌, ◌||◌, ◌==◌, nat_lt, length, List, [], ◌∷◌, Some, None, if◌then◌else◌, refl, sym, ap, ◌∙◌, subst, ⊎_elim, arith}
-use Rattle.std.specs.Prelude.{Result, Ok, Err, slice_index_or, min}
-use Rattle.sharc_tree.specs.declared.trap.Trap.{Trap}
-use Rattle.sharc_tree.specs.declared.trap.Trap.TheVariants as traps
-use Rattle.sharc_word.specs.declared.step.TheConstants.{THREADS}
-use Rattle.sharc_word.specs.declared.step.WordOp.TheVariants as ops
-use Rattle.sharc_locks.specs.Waiters.{waits_in}
-use Rattle.sharc_heap.specs.{declared.shadow_word.Kind.Kind, declared.shadow_word.Kind.TheVariants.{Read, Write}, Functions.conflicts_in, State.{NewView, told, turn_of}, declared.stage.NewTurn.NewTurn, declared.stage.NewTurn.TheVariants.{Do, Made, HeapFull}}
-use Rattle.sharc_code.specs.{declared.code.Code.Code, declared.code.Layout.Layout, declared.instr.Cell.Cell, declared.instr.Register.Register, declared.instr.Width.TheVariants.{Char, Int, Long}, declared.instr.Instr.Instr, declared.instr.Instr.TheVariants.{Constant, Move, MoveReference, Null, ComputeInt, ComputeLong, NegateInt, NegateLong, Complement, Not, SameReference, ChkWidth, Jump, JumpIfZero, JumpIfNull, Call, Return, ChkNull, ChkHeld, ChkNotHeld, ChkPositive, ChkRoom, ChkLock, ChkLockLoaded, Bounds, GlobalBounds, ChkRead, ChkWrite, Load, Store, LoadRef, Exchange, Raise, RaiseLoaded, Lower, New, TakeCell, TakeLocal, TestSole, Clear, Give, Free, Lock, Unlock, Spawn, Join, Print, Start, Exit, CondEnter, CondWait, CondSignal, CondBroadcast}, declared.shape.Shape.Shape, declared.state.Stage.Stage, Arithmetic.{computed, negated, is_zero, holds}, Layout.{granule_at, granule_of, cell_of, cell_word, state_word}, Machine.{Machine, act, int, ref, goes, asserts, with_result, has_room, called, returned, holds_none, is_of_null, is_held, indexed, wrote, checked, lock_checked, raise, lower, test, tested, after_new, asks_new, new, new_state, elements_of, looks, clear, data_granules, free_looks, empties, emptied, free, layout_at, spawn, function_of, wakes, signal, is_positive, fields, largest, place, set_ref, accessed, move_ref, trapped, locked, joined, join, woken, word, Local, Asks, step_of, instr_at, no_frame, exit, withdraws}, Path.after, declared.state.Stage.TheVariants.{Looks, Clears, Makes, Empties, Lowers, FreeLooks, FreeClears, Uncounts, Links, Names, Hands, Begins, Wakes, Withdraws, WithdrawsFrom, Leaves}}
-use Rattle.sharc_code.specs.declared.instr.Register.TheVariants as registers
-use Rattle.sharc_code.specs.declared.instr.Cell.TheVariants as cells
-use Rattle.sharc_invariant.specs.{Labels.{Gate, Within, Checked, Holds, Number, Label, Labels, Leads, set_number, empty, forgets, gated, knows}, State.{View, FramesStand, BelowStands, frame_at}, Typed.{IsWellTyped, Fine, Numbers, Passes_on, LeadsChecked, handed_label, knows_base, without_base_of, unlocked_label}, Types.Targets}
+use Rattle.sharc_history_laws.proofs.Imports.{◌≡◌, ℕ, ◌*◌, ◌≢◌, ℤ, pos, negsuc, zero, suc, ◌+◌, ◌-◌, ◌<◌, ◌⊎◌, inl, inr, Bool, true, false, not, ◌&&◌, ◌||◌, ◌==◌, nat_lt, length, List, [], ◌∷◌, Some, None, if◌then◌else◌, refl, sym, ap, ◌∙◌, subst, ⊎_elim, arith, Result, Ok, Err, slice_index_or, min, Trap, THREADS, WordOp, waits_in, Kind, Read, Write, conflicts_in, NewView, told, turn_of, NewTurn, Do, Made, HeapFull, Code, Layout, Cell, Register, Char, Int, Long, Instr, Constant, Move, MoveReference, Null, ComputeInt, ComputeLong, NegateInt, NegateLong, Complement, Not, ChkWidth, Jump, JumpIfZero, JumpIfNull, Call, Return, ChkNull, ChkHeld, ChkNotHeld, ChkPositive, ChkRoom, ChkLock, ChkLockLoaded, Bounds, GlobalBounds, ChkRead, ChkWrite, Load, Store, LoadRef, Exchange, Raise, RaiseLoaded, Lower, New, TakeCell, TakeLocal, TestSole, Clear, Give, Free, Unlock, Spawn, Join, Print, Start, Exit, CondEnter, CondWait, CondSignal, CondBroadcast, Shape, Stage, computed, negated, is_zero, holds, granule_at, granule_of, cell_of, cell_word, state_word, Machine, act, int, ref, goes, asserts, with_result, has_room, called, returned, holds_none, is_of_null, is_held, indexed, wrote, checked, lock_checked, raise, lower, test, tested, after_new, asks_new, new, new_state, elements_of, looks, clear, data_granules, free_looks, empties, emptied, free, layout_at, spawn, function_of, wakes, signal, is_positive, fields, largest, place, set_ref, accessed, move_ref, trapped, locked, joined, join, woken, word, Local, Asks, step_of, instr_at, no_frame, exit, withdraws, after, Looks, Clears, Makes, Empties, Lowers, FreeLooks, FreeClears, Uncounts, Links, Names, Hands, Begins, Wakes, Withdraws, WithdrawsFrom, Leaves, Gate, Within, Checked, Holds, Number, Label, Labels, Leads, set_number, empty, forgets, gated, knows, View, FramesStand, BelowStands, frame_at, IsWellTyped, Fine, Numbers, Passes_on, LeadsChecked, handed_label, knows_base, without_base_of, unlocked_label, Targets}
+use Rattle.sharc_code.specs.declared.instr.Instr.TheVariants.{SameReference, Lock}
 
 -- after its turn the thread is at its place still, or at none where threads begin
 pub record Departs (m y : Machine) : Type 0 where
@@ -97,14 +87,14 @@ module _ (x : Targets) (code : Code) (s : Shape) (ls : Labels) (wt : IsWellTyped
       (remains _ refl) (arrives _ u)
 
   bases : (c : Cell) (k : Gate) → Leads ls (pc + 1) (gated (knows_base l c) k) → U (pc + 1)
-  bases (cells.Global g p) k h = leads (pc + 1) (gated l k) refl h
-  bases (cells.GlobalAt g i) k h = leads (pc + 1) (gated l k) refl h
-  bases (cells.Object r i) k h = leads (pc + 1) (gated (knows l r) k) refl h
-  bases (cells.ObjectAt r i) k h = leads (pc + 1) (gated (knows l r) k) refl h
+  bases (Cell.Global g p) k h = leads (pc + 1) (gated l k) refl h
+  bases (Cell.GlobalAt g i) k h = leads (pc + 1) (gated l k) refl h
+  bases (Cell.Object r i) k h = leads (pc + 1) (gated (knows l r) k) refl h
+  bases (Cell.ObjectAt r i) k h = leads (pc + 1) (gated (knows l r) k) refl h
 
   hands : (from : Register) (r : ℕ) (n : Number) → Leads ls (pc + 1) (set_number (handed_label l from) r n) → U (pc + 1)
-  hands (registers.Int a) r n h = leads (pc + 1) (set_number (handed_label l (registers.Int a)) r n) refl h
-  hands (registers.Reference a) r n h = leads (pc + 1) (set_number (handed_label l (registers.Reference a)) r n) refl h
+  hands (Register.Int a) r n h = leads (pc + 1) (set_number (handed_label l (Register.Int a)) r n) refl h
+  hands (Register.Reference a) r n h = leads (pc + 1) (set_number (handed_label l (Register.Reference a)) r n) refl h
 
   checks : (write : Bool) (c : Cell) → LeadsChecked x ls l pc write c → U (pc + 1)
   checks write c h = ⊎_elim (λ k. leads (pc + 1) (gated l (Checked write c)) refl k) (λ k. leads (pc + 1) (record l { gate = Checked write c; passed = k.0 ∷ l.passed }) refl k.3) h
@@ -145,8 +135,8 @@ module _ (x : Targets) (code : Code) (s : Shape) (ls : Labels) (wt : IsWellTyped
   at_spawn : (r function : ℕ) (from : Register) (site : ℕ) (stage : Stage) (found : ℕ) → U (pc + 1) → Departs m (after (spawn m r function from site stage) found)
   at_spawn r function from site (Names n) found u = remains _ refl
   at_spawn r function from site (Hands n) found u = remains _ refl
-  at_spawn r function (registers.Int a) site (Begins n) found u = arrives _ u
-  at_spawn r function (registers.Reference a) site (Begins n) found u = arrives _ u
+  at_spawn r function (Register.Int a) site (Begins n) found u = arrives _ u
+  at_spawn r function (Register.Reference a) site (Begins n) found u = arrives _ u
   at_spawn r function from site _ found u = either (nat_lt found THREADS) _ _ (remains _ refl) (remains _ refl)
 
   at_joined : (site found : ℕ) → U (pc + 1) → Departs m (joined m site found)
@@ -154,7 +144,7 @@ module _ (x : Targets) (code : Code) (s : Shape) (ls : Labels) (wt : IsWellTyped
 
   at_join : (z : ℤ) (site found : ℕ) → U (pc + 1) → Departs m (after (join m z site) found)
   at_join (pos n) site found u =
-      elim (nat_lt n THREADS) as (λ b. Departs m (after (if b then Asks (step_of (state_word n) ops.Load) (joined m site) else Local (trapped m traps.NoSuchThread site)) found)) [
+      elim (nat_lt n THREADS) as (λ b. Departs m (after (if b then Asks (step_of (state_word n) WordOp.Load) (joined m site) else Local (trapped m Trap.NoSuchThread site)) found)) [
         | true ↦ at_joined site found u
         | false ↦ remains _ refl
       ]
@@ -164,22 +154,22 @@ module _ (x : Targets) (code : Code) (s : Shape) (ls : Labels) (wt : IsWellTyped
   at_lock cell mutex found u = either (found == 0) _ _ (base cell) (remains _ refl)
     where
       base : (cell : Cell) → Departs m (goes (record (Rattle.sharc_code.specs.Machine.without_base m cell) { own = record m.own { held = Rattle.sharc_code.specs.Machine.taken m mutex (Rattle.sharc_code.specs.Machine.object m cell) } }))
-      base (cells.Global g p) = arrives _ u
-      base (cells.GlobalAt g i) = arrives _ u
-      base (cells.Object r p) = arrives _ u
-      base (cells.ObjectAt r i) = arrives _ u
+      base (Cell.Global g p) = arrives _ u
+      base (Cell.GlobalAt g i) = arrives _ u
+      base (Cell.Object r p) = arrives _ u
+      base (Cell.ObjectAt r i) = arrives _ u
 
   locks : (c : Cell) → Leads ls (pc + 1) (record (without_base_of l c) { room = false }) → U (pc + 1)
-  locks (cells.Global g p) h = leads (pc + 1) _ refl h
-  locks (cells.GlobalAt g i) h = leads (pc + 1) _ refl h
-  locks (cells.Object r p) h = leads (pc + 1) _ refl h
-  locks (cells.ObjectAt r i) h = leads (pc + 1) _ refl h
+  locks (Cell.Global g p) h = leads (pc + 1) _ refl h
+  locks (Cell.GlobalAt g i) h = leads (pc + 1) _ refl h
+  locks (Cell.Object r p) h = leads (pc + 1) _ refl h
+  locks (Cell.ObjectAt r i) h = leads (pc + 1) _ refl h
 
   unlocks : (r : ℕ) (c : Cell) → Leads ls (pc + 1) (unlocked_label l r c) → U (pc + 1)
-  unlocks r (cells.Global g p) h = leads (pc + 1) _ refl h
-  unlocks r (cells.GlobalAt g i) h = leads (pc + 1) _ refl h
-  unlocks r (cells.Object b p) h = leads (pc + 1) _ refl h
-  unlocks r (cells.ObjectAt b i) h = leads (pc + 1) _ refl h
+  unlocks r (Cell.Global g p) h = leads (pc + 1) _ refl h
+  unlocks r (Cell.GlobalAt g i) h = leads (pc + 1) _ refl h
+  unlocks r (Cell.Object b p) h = leads (pc + 1) _ refl h
+  unlocks r (Cell.ObjectAt b i) h = leads (pc + 1) _ refl h
 
   at_woken : (found : ℕ) → U (pc + 1) → Departs m (woken m found)
   at_woken found u = either (waits_in found m.own.number) _ _ (remains _ refl) (arrives _ u)
@@ -243,18 +233,18 @@ module _ (x : Targets) (code : Code) (s : Shape) (ls : Labels) (wt : IsWellTyped
   arriving (Complement r a) found f = arrives _ (numbers r _ f.2)
   arriving (Not r a) found f = arrives _ (numbers r _ f)
   arriving (SameReference r a b) found f = arrives _ (numbers r _ f)
-  arriving (ChkWidth width r site) found f = at_assert (holds width (int m r)) traps.OutOfRange site (⊎_elim (λ h. passes h) (λ h. numbers r _ h) f)
+  arriving (ChkWidth width r site) found f = at_assert (holds width (int m r)) Trap.OutOfRange site (⊎_elim (λ h. passes h) (λ h. numbers r _ h) f)
   arriving (Jump to) found f = arrives _ (leads to l refl f.1)
   arriving (JumpIfZero r to) found f = either (is_zero (int m r)) _ _ (arrives _ (leads to l refl f.1)) (arrives _ (leads (pc + 1) l refl f.2))
   arriving (JumpIfNull r to) found f = either (ref m r == 0) _ _
       (arrives _ (⊎_elim (λ h. leads to l refl h) (λ h. leads to (empty l r) refl h.1) f.1)) (arrives _ (leads (pc + 1) (knows l r) refl f.2))
   arriving (Call to ints refs site) found f = at_call m to ints refs site refl (subst U f.1.1.entry (entry_closed f.1.0 f.1.1.is))
   arriving (Return site) found f = at_return site f.1.0 f.1.1
-  arriving (ChkNull r site) found f = at_assert (not (ref m r == 0)) traps.NullPointer site (leads (pc + 1) (knows l r) refl f.1)
-  arriving (ChkHeld cell site) found f = at_assert (is_held m (word s m cell)) traps.MutexNotHeld site (leads (pc + 1) (gated l (Holds cell)) refl f.2)
-  arriving (ChkNotHeld cell site) found f = at_assert (not (is_held m (word s m cell))) traps.MutexAlreadyHeld site (leads (pc + 1) l refl f.2)
-  arriving (ChkPositive r site) found f = at_assert (is_positive (int m r)) traps.SizeNotPositive site (passes f)
-  arriving (ChkRoom site) found f = at_assert (nat_lt (length m.own.held) 16) traps.TooManyLocks site (leads (pc + 1) (record l { room = true }) refl f.1)
+  arriving (ChkNull r site) found f = at_assert (not (ref m r == 0)) Trap.NullPointer site (leads (pc + 1) (knows l r) refl f.1)
+  arriving (ChkHeld cell site) found f = at_assert (is_held m (word s m cell)) Trap.MutexNotHeld site (leads (pc + 1) (gated l (Holds cell)) refl f.2)
+  arriving (ChkNotHeld cell site) found f = at_assert (not (is_held m (word s m cell))) Trap.MutexAlreadyHeld site (leads (pc + 1) l refl f.2)
+  arriving (ChkPositive r site) found f = at_assert (is_positive (int m r)) Trap.SizeNotPositive site (passes f)
+  arriving (ChkRoom site) found f = at_assert (nat_lt (length m.own.held) 16) Trap.TooManyLocks site (leads (pc + 1) (record l { room = true }) refl f.1)
   arriving (ChkLock cell site) found f = at_lock_check (is_of_null m cell) (word s m cell) site (bases cell (Holds cell) f.2)
   arriving (ChkLockLoaded site) found f = at_lock_check (m.pending == 0) (cell_word s (cell_of m.pending 0)) site (leads (pc + 1) _ refl f.5)
   arriving (Bounds r base cells field site) found f = at_index r (int m r) cells field site found (leads (pc + 1) _ refl f.5.2)

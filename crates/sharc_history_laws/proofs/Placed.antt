@@ -1,11 +1,6 @@
 -- The cell that an instruction names, at a place of a run: it is one of a live object, its word is the one that the instruction asks for, and it holds what its field says.
-use Rattle.std.proofs.Common.{◌≡◌, ℕ, ◌+◌, ◌*◌, ◌<◌, refl, sym, ap, ◌∙◌, subst}
-use Rattle.sharc_code.specs.{declared.code.Code.Code, declared.instr.Cell.Cell, declared.shape.Shape.Shape, Layout.Fits, Machine.{Machine, object, place, word}, Runs.Global, Says.cell_at}
-use Rattle.sharc_code.specs.declared.instr.Cell.TheVariants as cells
-use Rattle.sharc_tree.specs.declared.event.CellAt.{CellAt}
-use Rattle.sharc_invariant.specs.{Types.{Targets, Field, field_in}, Labels.Labels, Typed.{IsWellTyped, HasCell}, World.World, Cells.IsThere, State.{State, OnHold, object_of_cell, number_in}, MachineInvariant.IsOn, Laws.CellsAreThere}
+use Rattle.sharc_history_laws.proofs.{Imports.{◌≡◌, ℕ, ◌+◌, ◌*◌, ◌<◌, refl, sym, ap, ◌∙◌, subst, Code, Cell, Shape, Fits, Machine, object, place, word, Global, cell_at, CellAt, Targets, Field, field_in, Labels, IsWellTyped, HasCell, World, CellIsThere as IsThere, State, OnHold, object_of_cell, number_in, IsOn, CellsAreThere}, Contents.{IsCellOf, content_of, word_of_cell}, Finds.is_there, Locked.{Names, names_cell}, OneMode.{place_of, numbers_now}, Shared.number_of, Stands.{some_base, there}}
 use Rattle.sharc_invariant.specs.Words as Words
-use Rattle.sharc_history_laws.proofs.{Contents.{IsCellOf, content_of, word_of_cell}, Finds.is_there, Locked.{Names, names_cell}, OneMode.{place_of, numbers_now}, Shared.number_of, Stands.{some_base, there}}
 
 module _ (cell_laws : CellsAreThere) (x : Targets) (code : Code) (s : Shape) (ls : Labels) (wt : IsWellTyped x code ls) (fits : Fits code s) (g : Global Machine) (world : World) (st : State x code s ls g world) (t : ℕ) (on : IsOn g t) (hold : OnHold (g.threads t).own.stage)
     (k : Cell) (f : Field) (has : HasCell x code (ls.at (g.threads t).at.pc) k f) where
@@ -28,10 +23,10 @@ module _ (cell_laws : CellsAreThere) (x : Targets) (code : Code) (s : Shape) (ls
       subst (λ o. Names code d o (2 * (o + 1) + place_of code d.object d.cell)) (sym numbers.0) (subst (λ j. Names code d (object_of_cell m k) (2 * (object_of_cell m k + 1) + j)) (sym numbers.1) a)
     where
       object_is : (c : Cell) → object (g.threads t) c ≡ object_of_cell (g.threads t) c
-      object_is (cells.Global h p) = refl
-      object_is (cells.GlobalAt h i) = refl
-      object_is (cells.Object r i) = refl
-      object_is (cells.ObjectAt r i) = refl
+      object_is (Cell.Global h p) = refl
+      object_is (Cell.GlobalAt h i) = refl
+      object_is (Cell.Object r i) = refl
+      object_is (Cell.ObjectAt r i) = refl
 
   pub content : content_of x code world (cell_at code (g.threads t) k) ≡ f.holds
   content =

@@ -1,15 +1,6 @@
 -- Who waits by a history that grows by one event, and which turns tell it.
-use Rattle.std.proofs.{Common.{◌≡◌, ℕ, pos, zero, suc, ◌+◌, Bool, true, false, ◌||◌, ◌&&◌, cond, reverse, Option, Some, None, if◌then◌else◌, refl, sym, ap, ◌∙◌, subst}, lemmas.Bool.{and_left as and_no}}
-use Rattle.std.specs.Prelude.{◌==◌, find}
-use Rattle.sharc_tree.specs.{declared.event.Act.Act, declared.event.CellAt.CellAt, declared.event.SourceEvent.SourceEvent}
-use Rattle.sharc_tree.specs.declared.event.Act.TheVariants as acts
-use Rattle.sharc_heap.specs.{State.NewView, declared.stage.NewStage.NewStage}
-use Rattle.sharc_heap.specs.declared.stage.NewStage.TheVariants as news
-use Rattle.sharc_locks.specs.Waiters.{waits_in, lowest_of}
-use Rattle.sharc_code.specs.{declared.code.Code.Code, declared.instr.Cell.Cell, declared.instr.Instr.Instr, declared.instr.Register.Register, declared.state.Stage.Stage, declared.state.Stage.TheVariants.{Makes, Uncounts, Begins, Enters, Withdraws, WithdrawsFrom, Leaves, Wakes}, Machine.{Machine, ref}, Says.{said, event_at, cell_at, take_local, nobody, in_signal, in_start, in_free, in_new, in_spawn, in_exit, new_event}}
-use Rattle.sharc_code.specs.declared.instr.Instr.TheVariants as instrs
-use Rattle.sharc_meaning.specs.{Events.is_cell, Store.{meets, is_waiter, is_natural, entered, signalled, broadcast_on, enters, takes_away}}
-use Rattle.sharc_history_laws.proofs.{Lists.{Newest, latest_is}, Rules.pushed, Sparing.waited_cell}
+use Rattle.sharc_history_laws.proofs.{Imports.{◌≡◌, ℕ, pos, zero, suc, ◌+◌, Bool, true, false, ◌||◌, ◌&&◌, cond, reverse, Option, Some, None, if◌then◌else◌, refl, sym, ap, ◌∙◌, subst, and_no, ◌==◌, find, Act, CellAt, SourceEvent, NewView, NewStage, waits_in, lowest_of, Code, Cell, Instr, Register, Stage, Makes, Uncounts, Begins, Enters, Withdraws, WithdrawsFrom, Leaves, Wakes, Machine, ref, said, event_at, cell_at, take_local, nobody, in_signal, in_start, in_free, in_new, in_spawn, in_exit, new_event, is_cell, meets, is_waiter, is_natural, signalled, broadcast_on, enters, takes_away}, Lists.{Newest, latest_is}, Rules.pushed, Sparing.waited_cell}
+use Rattle.sharc_meaning.specs.Store.{entered}
 
 -- ---- who waits, the newest event first
 abbrev pub waits_by : Newest → CellAt → ℕ → Bool
@@ -33,10 +24,10 @@ waiter_behind (Some e) L c u = by (enters c u e || takes_away c u e)
 
 -- ---- the cell of whose waiters an event tells
 abbrev pub condition_of : Act → Option CellAt
-condition_of (acts.Enter c) = Some c
-condition_of (acts.Signal c) = Some c
-condition_of (acts.Broadcast c) = Some c
-condition_of (acts.Woken c) = Some c
+condition_of (Act.Enter c) = Some c
+condition_of (Act.Signal c) = Some c
+condition_of (Act.Broadcast c) = Some c
+condition_of (Act.Woken c) = Some c
 condition_of _ = None
 
 abbrev pub condition_said : Option SourceEvent → Option CellAt
@@ -54,10 +45,10 @@ other_act c u e = by e.act refl
     by a is h = subst (λ a. is_cell c (condition_of a) ≡ false → ((is_cell c (entered a) && (e.thread == u)) ≡ false) × (away a ≡ false)) (sym is) (at a) h
       where
         at : (a : Act) → is_cell c (condition_of a) ≡ false → ((is_cell c (entered a) && (e.thread == u)) ≡ false) × (away a ≡ false)
-        at (acts.Enter d) h = (and_no (is_cell c (Some d)) (e.thread == u) h, refl)
-        at (acts.Signal d) h = (refl, ap (λ b. b || false) (and_no (is_cell c (Some d)) (is_natural (u + 1) e.answer) h))
-        at (acts.Broadcast d) h = (refl, h)
-        at (acts.Woken d) h = (refl, refl)
+        at (Act.Enter d) h = (and_no (is_cell c (Some d)) (e.thread == u) h, refl)
+        at (Act.Signal d) h = (refl, ap (λ b. b || false) (and_no (is_cell c (Some d)) (is_natural (u + 1) e.answer) h))
+        at (Act.Broadcast d) h = (refl, h)
+        at (Act.Woken d) h = (refl, refl)
         at _ h = (refl, refl)
 
 pub other_event : (ev : Option SourceEvent) (c : CellAt) (u : ℕ) (was : Bool) → is_cell c (condition_said ev) ≡ false → waits_behind ev c u was ≡ was
@@ -84,25 +75,25 @@ condition_enters None e = refl
 condition_enters (Some d) e = by d.act refl e
   where
     by : (a : Act) → d.act ≡ a → condition_of d.act ≡ None → entered d.act ≡ None
-    by (acts.Enter c) is e = absurd (let z : Some c ≡ None = sym (ap condition_of is) ∙ e in cc)
+    by (Act.Enter c) is e = absurd (let z : Some c ≡ None = sym (ap condition_of is) ∙ e in cc)
     by _ is e = ap entered is
 
 -- a Woken leaves the waiters
-pub woken_leaves : (ev : Option SourceEvent) (a : CellAt) (c : CellAt) (u : ℕ) (was : Bool) → ((e : SourceEvent) → ev ≡ Some e → e.act ≡ acts.Woken a) → waits_behind ev c u was ≡ was
+pub woken_leaves : (ev : Option SourceEvent) (a : CellAt) (c : CellAt) (u : ℕ) (was : Bool) → ((e : SourceEvent) → ev ≡ Some e → e.act ≡ Act.Woken a) → waits_behind ev c u was ≡ was
 woken_leaves None a c u was h = refl
 woken_leaves (Some e) a c u was h =
     ap (λ act. cond ((is_cell c (entered act) && (e.thread == u)) || ((is_cell c (signalled act) && is_natural (u + 1) e.answer) || is_cell c (broadcast_on act))) (is_cell c (entered act) && (e.thread == u)) was) (h e refl)
 
 -- ---- which turns tell of waiters
 abbrev pub is_condition : Instr → Bool
-is_condition (instrs.CondEnter c site) = true
-is_condition (instrs.CondSignal c site) = true
-is_condition (instrs.CondBroadcast c site) = true
-is_condition (instrs.CondWait c site) = true
+is_condition (Instr.CondEnter c site) = true
+is_condition (Instr.CondSignal c site) = true
+is_condition (Instr.CondBroadcast c site) = true
+is_condition (Instr.CondWait c site) = true
 is_condition _ = false
 
 abbrev pub is_enter : Instr → Bool
-is_enter (instrs.CondEnter c site) = true
+is_enter (Instr.CondEnter c site) = true
 is_enter _ = false
 
 either_none : (b : Bool) (x y : Option SourceEvent) → condition_said x ≡ None → condition_said y ≡ None → condition_said (if b then x else y) ≡ None
@@ -126,7 +117,7 @@ module _ (code : Code) (m : Machine) where
   of_free r site elements _ = refl
 
   of_new_stage : (site cells : ℕ) (v : NewView) (stage : NewStage) → Conditionless (new_event code m site cells v stage)
-  of_new_stage site cells v (news.Length header) = refl
+  of_new_stage site cells v (NewStage.Length header) = refl
   of_new_stage site cells v _ = refl
 
   of_new : (site cells : ℕ) (stage : Stage) → Conditionless (in_new code m site cells stage)
@@ -144,18 +135,18 @@ module _ (code : Code) (m : Machine) where
   of_exit _ = refl
 
   pub no_condition : (i : Instr) (found elements : ℕ) → is_condition i ≡ false → condition_said (said code i m found elements) ≡ None
-  no_condition (instrs.TakeLocal r from site) found elements e = of_local site (ref m from) elements
-  no_condition (instrs.New r count cells site) found elements e = of_new site cells m.own.stage
-  no_condition (instrs.Free r layout site) found elements e = of_free r site elements m.own.stage
-  no_condition (instrs.Lock c site) found elements e = either_none (found == 0) _ _ refl refl
-  no_condition (instrs.Spawn r function from site) found elements e = of_spawn function from site elements m.own.stage
-  no_condition (instrs.Join r site) found elements e = either_none (found == 0 || (found == 1 || found == 2)) _ _ refl refl
-  no_condition (instrs.Start site) found elements e = of_start found elements m.own.stage
-  no_condition instrs.Exit found elements e = of_exit m.own.stage
-  no_condition (instrs.CondWait c site) found elements e = absurd (let z : true ≡ false = e in cc)
-  no_condition (instrs.CondEnter c site) found elements e = absurd (let z : true ≡ false = e in cc)
-  no_condition (instrs.CondSignal c site) found elements e = absurd (let z : true ≡ false = e in cc)
-  no_condition (instrs.CondBroadcast c site) found elements e = absurd (let z : true ≡ false = e in cc)
+  no_condition (Instr.TakeLocal r from site) found elements e = of_local site (ref m from) elements
+  no_condition (Instr.New r count cells site) found elements e = of_new site cells m.own.stage
+  no_condition (Instr.Free r layout site) found elements e = of_free r site elements m.own.stage
+  no_condition (Instr.Lock c site) found elements e = either_none (found == 0) _ _ refl refl
+  no_condition (Instr.Spawn r function from site) found elements e = of_spawn function from site elements m.own.stage
+  no_condition (Instr.Join r site) found elements e = either_none (found == 0 || (found == 1 || found == 2)) _ _ refl refl
+  no_condition (Instr.Start site) found elements e = of_start found elements m.own.stage
+  no_condition Instr.Exit found elements e = of_exit m.own.stage
+  no_condition (Instr.CondWait c site) found elements e = absurd (let z : true ≡ false = e in cc)
+  no_condition (Instr.CondEnter c site) found elements e = absurd (let z : true ≡ false = e in cc)
+  no_condition (Instr.CondSignal c site) found elements e = absurd (let z : true ≡ false = e in cc)
+  no_condition (Instr.CondBroadcast c site) found elements e = absurd (let z : true ≡ false = e in cc)
   no_condition _ found elements e = refl
 
   -- ---- a turn that wakes a waiter, or finds that there is none
@@ -166,16 +157,16 @@ module _ (code : Code) (m : Machine) where
   of_signal : (c : CellAt) (k : Cell) (site found : ℕ) (stage : Stage) → is_cell c (Some (cell_at code m k)) ≡ false → is_cell c (condition_said (in_signal code m k site found stage)) ≡ false
   of_signal c k site found (Wakes seen) h = by (found == seen)
     where
-      by : (b : Bool) → is_cell c (condition_said (if b then event_at code m site (pos (lowest_of seen + 1)) (acts.Signal (cell_at code m k)) else nobody code m k site found)) ≡ false
+      by : (b : Bool) → is_cell c (condition_said (if b then event_at code m site (pos (lowest_of seen + 1)) (Act.Signal (cell_at code m k)) else nobody code m k site found)) ≡ false
       by true = h
       by false = of_nobody c k site found h
   of_signal c k site found _ h = of_nobody c k site found h
 
   -- a turn that changes the waiters of one cell tells of no other
   pub condition_elsewhere : (i : Instr) (found elements : ℕ) (c : CellAt) (k : Cell) → waited_cell i ≡ Some k → is_cell c (Some (cell_at code m k)) ≡ false → is_cell c (condition_said (said code i m found elements)) ≡ false
-  condition_elsewhere (instrs.CondEnter d site) found elements c k w h = ap (λ d. is_cell c (Some (cell_at code m d))) (let e : d ≡ k = cc in e) ∙ h
-  condition_elsewhere (instrs.CondSignal d site) found elements c k w h = of_signal c d site found m.own.stage (ap (λ d. is_cell c (Some (cell_at code m d))) (let e : d ≡ k = cc in e) ∙ h)
-  condition_elsewhere (instrs.CondBroadcast d site) found elements c k w h = ap (λ d. is_cell c (Some (cell_at code m d))) (let e : d ≡ k = cc in e) ∙ h
+  condition_elsewhere (Instr.CondEnter d site) found elements c k w h = ap (λ d. is_cell c (Some (cell_at code m d))) (let e : d ≡ k = cc in e) ∙ h
+  condition_elsewhere (Instr.CondSignal d site) found elements c k w h = of_signal c d site found m.own.stage (ap (λ d. is_cell c (Some (cell_at code m d))) (let e : d ≡ k = cc in e) ∙ h)
+  condition_elsewhere (Instr.CondBroadcast d site) found elements c k w h = ap (λ d. is_cell c (Some (cell_at code m d))) (let e : d ≡ k = cc in e) ∙ h
   condition_elsewhere _ found elements c k w h = absurd (cc)
 
   -- ---- which turns make a waiter
@@ -192,8 +183,8 @@ module _ (code : Code) (m : Machine) where
   enterless_signal k site found _ = enterless_nobody k site found
 
   pub enterless : (i : Instr) (found elements : ℕ) → is_enter i ≡ false → enter_said (said code i m found elements) ≡ None
-  enterless (instrs.CondEnter c site) found elements e = absurd (let z : true ≡ false = e in cc)
-  enterless (instrs.CondSignal c site) found elements e = enterless_signal c site found m.own.stage
-  enterless (instrs.CondBroadcast c site) found elements e = refl
-  enterless (instrs.CondWait c site) found elements e = enterless_either (waits_in found m.own.number) _ _ refl refl
+  enterless (Instr.CondEnter c site) found elements e = absurd (let z : true ≡ false = e in cc)
+  enterless (Instr.CondSignal c site) found elements e = enterless_signal c site found m.own.stage
+  enterless (Instr.CondBroadcast c site) found elements e = refl
+  enterless (Instr.CondWait c site) found elements e = enterless_either (waits_in found m.own.number) _ _ refl refl
   enterless i found elements e = condition_enters (said code i m found elements) (no_condition i found elements refl)

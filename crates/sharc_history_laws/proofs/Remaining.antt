@@ -1,13 +1,7 @@
 -- What remains of checks in shadow words, access tables and stops: why a bit and the written bit stand.
-use Rattle.std.proofs.{Common.{◌≡◌, ℕ, suc, ◌+◌, ◌*◌, ◌/◌, ◌<◌, ◌≤◌, ◌⊎◌, inl, inr, Bool, true, false, not, ◌&&◌, Option, Some, None, is_some, if◌then◌else◌, refl, sym, ap, ◌∙◌, subst, ⊎_elim, arith}, lemmas.Bool.{cases_eq, or_right, false_from_ne_true as unset}}
-use Rattle.std.specs.Prelude.{slice_index, ◌==◌}
-use Rattle.sharc_heap.specs.{declared.shadow_word.Kind.Kind, declared.shadow_word.Kind.TheVariants.{Read, Write}, declared.access_table.Note.Note, Accesses.{note_of, site_at}, Functions.conflicts_in, ShadowLaws.ShadowLaws, ShadowWord.{epoch_of, is_of, is_write, is_written, stands, AddsAccess, Conflicts, Withdraws as WithdrawsWord}}
-use Rattle.sharc_code.specs.{declared.code.Code.Code, declared.instr.Cell.Cell, declared.instr.Instr.Instr, declared.shape.Shape.Shape, declared.state.ConflictAt.ConflictAt, declared.state.Stop.TheVariants.Conflict, Layout.{Fits, granules, first_shadow, granule_at, granule_of}, Machine.{Machine, instr_at, place, wrote, stopped, with_own}, Outcomes.{TurnsComeOut, check_of}, Runs.{Turn, Global, MayTurn, after_turn, state_now}, Whole.{one_thread, bounds}}
-use Rattle.sharc_code.specs.declared.instr.Instr.TheVariants as instrs
+use Rattle.sharc_history_laws.proofs.{Imports.{◌≡◌, ℕ, suc, ◌+◌, ◌*◌, ◌/◌, ◌<◌, ◌≤◌, ◌⊎◌, inl, inr, Bool, true, false, not, ◌&&◌, Option, Some, None, is_some, if◌then◌else◌, refl, sym, ap, ◌∙◌, subst, ⊎_elim, arith, cases_eq, or_right, not_true as unset, slice_index, ◌==◌, Kind, Read, Write, Note, note_of, site_at, conflicts_in, ShadowLaws, epoch_of, is_write, is_written, stands, AddsAccess, Conflicts, WithdrawsWord, Code, Cell, Instr, Shape, ConflictAt, Conflict, Fits, granules, first_shadow, granule_at, granule_of, Machine, instr_at, place, wrote, stopped, with_own, TurnsComeOut, check_of, Turn, Global, MayTurn, after_turn, state_now, one_thread, bounds, Touch, Untouched, CheckOf, ClearOf, WithdrawOf, Passed, Labels, CellsAreThere, IsOn, touch_at, State, StageStands, OnHold, object_of_cell, number_in, IsWellTyped, Fine, HasCell, Targets, Field, note_number, noted_by, World, same_is, ne_of, eq_of, and_left, or_split as or_cases, yes}, Doing.{Does, Plain, Passes, Refuses, IsCheckAt, IsNoCheck, site_still, site_new, note_from, does}, Rules.put_other, Shadows.{IsNext, WordBy, word_by, at_low}, Single.rests_hold, Stands.there, Withdrawing.{has_left, Noted, leaving}, Threaded.or_left}
+use Rattle.sharc_heap.specs.ShadowWord.{is_of}
 use Rattle.sharc_code.specs.Machine as machines
-use Rattle.sharc_invariant.specs.{Bits.{Touch, Untouched, CheckOf, ClearOf, WithdrawOf}, Granules.Passed, Labels.Labels, Laws.CellsAreThere, MachineInvariant.IsOn, Reports.touch_at, State.{State, StageStands, OnHold, object_of_cell, number_in}, Typed.{IsWellTyped, Fine, HasCell}, Types.{Targets, Field}, Words.{note_number, noted_by}, World.World}
-use Rattle.sharc_history_laws.proofs.{Doing.{Does, Plain, Passes, Refuses, IsCheckAt, IsNoCheck, site_still, site_new, note_from, does}, Rules.put_other, Shadows.{IsNext, WordBy, word_by, at_low}, Single.rests_hold, Stands.there, Withdrawing.{has_left, Noted, leaving}, Threaded.or_left}
-use Rattle.sharc_lemmas.proofs.{Numbers.{same_is, eqb_other as ne_of, same_number as eq_of}, Bools.{and_left, or_split as or_cases, yes}}
 
 -- ---- what remains
 abbrev pub word_at : Global Machine → ℕ → ℕ
@@ -474,8 +468,8 @@ module _ (outs : TurnsComeOut) (laws : ShadowLaws) (cell_laws : CellsAreThere) (
 
   -- the check of this turn is of a granule of a live object, whose notes are of threads that have passed checks there
   check_fine : (kind : Kind) (c : Cell) (site : ℕ) → i ≡ check_of kind c site → (f : Field) × HasCell x code (ls.at (g.threads tr.thread).at.pc) c f
-  check_fine Read c site is = let f : Fine x code ls m.at.pc (ls.at m.at.pc) (instrs.ChkRead c site) = subst (Fine x code ls m.at.pc (ls.at m.at.pc)) is (wt.fine m.at.pc) in (f.1.0, f.1.1)
-  check_fine Write c site is = let f : Fine x code ls m.at.pc (ls.at m.at.pc) (instrs.ChkWrite c site) = subst (Fine x code ls m.at.pc (ls.at m.at.pc)) is (wt.fine m.at.pc) in (f.1.0, f.1.1)
+  check_fine Read c site is = let f : Fine x code ls m.at.pc (ls.at m.at.pc) (Instr.ChkRead c site) = subst (Fine x code ls m.at.pc (ls.at m.at.pc)) is (wt.fine m.at.pc) in (f.1.0, f.1.1)
+  check_fine Write c site is = let f : Fine x code ls m.at.pc (ls.at m.at.pc) (Instr.ChkWrite c site) = subst (Fine x code ls m.at.pc (ls.at m.at.pc)) is (wt.fine m.at.pc) in (f.1.0, f.1.1)
 
   check_hold : (kind : Kind) (c : Cell) (site : ℕ) → i ≡ check_of kind c site → OnHold (g.threads tr.thread).own.stage
   check_hold kind c site is = rests_hold code s st.elements world st.heap g.words t m (check_of kind c site) m.own.stage (one kind)

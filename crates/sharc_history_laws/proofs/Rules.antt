@@ -1,20 +1,6 @@
 -- Each access of a run of typed code is to a live object, by its owner where the cell is private, and no write under mode readonly.
-use Rattle.std.proofs.{Common.{◌≡◌, ℕ, ◌^◌, ◌<◌, ◌≢◌, ◌⊎◌, inl, inr, Bool, true, false, ◌||◌, List, [], ◌∷◌, reverse, Option, Some, None, refl, sym, ap, ◌∙◌, subst, ⊎_elim, arith}, lemmas.Bool.cases_eq, lemmas.Bool.Decides.nat_tests}
-use Rattle.std.specs.Prelude.{nat_eq, ◌==◌}
-use Rattle.sharc_tree.specs.declared.event.SourceEvent.{SourceEvent}
-use Rattle.sharc_tree.specs.declared.event.CellMode.TheVariants as modes
-use Rattle.sharc_tree.specs.declared.event.Object.TheVariants as objects
-use Rattle.sharc_heap.specs.declared.stage.NewStage.{NewStage}
-use Rattle.sharc_heap.specs.declared.stage.NewStage.TheVariants as news
-use Rattle.sharc_code.specs.{declared.code.Code.Code, declared.instr.Cell.Cell, declared.instr.Instr.Instr, declared.shape.Shape.Shape, declared.state.Stage.Stage, declared.state.Stage.TheVariants.{Makes, Uncounts}, Laws.RunLaws, Layout.Fits, Machine.{Machine, instr_at, ref}, Opening.opening_words, Runs.{Said, Turn, Global, IsRun, MayTurn, after_turn, put, result_of, with_told, opening_of}, Whole.{one_thread, bounds, place_after, Erase}, Says.{said, cell_at, place_at, speaks_of}}
-use Rattle.sharc_code.specs.declared.instr.Cell.TheVariants as cells
-use Rattle.sharc_code.specs.declared.instr.Instr.TheVariants as instrs
-use Rattle.sharc_compile.specs.{Consistent.said_now, OfRuns.{told_in, table_of}}
-use Rattle.sharc_meaning.specs.{Events.{Access, makes, gives, frees, begins, is_number, made_by, given_by, freed_by}, Obeys.{History, IsAccess, IsThere, is_owner}}
-use Rattle.sharc_invariant.specs.{Types.{Targets, Field, FieldMode, field_in, mode_in}, Labels.Labels, Typed.{IsWellTyped, Fine}, World.{ObjectState, World, CanBy}, Words.lang_of, Cells.{IsThere as CellIsThere}, Objects.{objects_behind, made_behind, new_behind, freed_behind, objects_now, owned, gone, type_held}, State.{IsSmall, StageStands, OnHold, object_of_cell, number_in}, MachineInvariant.IsOn, Laws.{Keeps, Begins as CodeBegins, CellsAreThere, PointersAreThere, AccessesAreAllowed}}
-use Rattle.sharc_history_laws.specs.History.{history_of}
-use Rattle.sharc_history_laws.proofs.{Single.{single, rests_hold}, Stands.{live_low, known_ref, there, live_ref, sole_ref}, Tables.{header_at, header_in, header_of, was_live}, Consists.{Consists, consists_then, objects_then, given, header_built, built_low}, Acts.{access_said, thread_said, given_at, freed_in, freed_at, About, about, AreLow, is_access, no_access, access_at, IsAccess as TellsAccess, access_of}, Lists.{Newest, EachAccess, no_event, each_push, live_in, owned_in, is_live_in, owned_is, live_made, live_other, owned_begun, owned_other}, Modes.{private_field, readonly_field}}
-use Rattle.sharc_lemmas.proofs.Numbers.{same_is as eq_refl}
+use Rattle.sharc_history_laws.proofs.{Imports.{◌≡◌, ℕ, ◌^◌, ◌<◌, ◌≢◌, ◌⊎◌, inl, inr, Bool, true, false, ◌||◌, List, [], ◌∷◌, reverse, Option, Some, None, refl, sym, ap, ◌∙◌, subst, ⊎_elim, arith, cases_eq, nat_tests, nat_eq, ◌==◌, SourceEvent, CellMode, Object, NewStage, Code, Cell, Instr, Shape, Stage, Makes, Uncounts, RunLaws, Fits, Machine, instr_at, ref, opening_words, Said, Turn, Global, IsRun, MayTurn, after_turn, put, result_of, with_told, opening_of, one_thread, bounds, place_after, Erase, said, cell_at, place_at, speaks_of, said_now, told_in, table_of, Access, makes, gives, frees, begins, is_number, made_by, given_by, History, IsAccess, is_owner, Targets, Field, FieldMode, field_in, mode_in, Labels, IsWellTyped, Fine, ObjectState, World, CanBy, lang_of, CellIsThere, objects_behind, made_behind, new_behind, freed_behind, objects_now, owned, gone, type_held, IsSmall, StageStands, OnHold, object_of_cell, number_in, IsOn, Keeps, CodeBegins, CellsAreThere, PointersAreThere, AccessesAreAllowed, history_of, same_is as eq_refl}, Single.{single, rests_hold}, Stands.{live_low, known_ref, there, live_ref, sole_ref}, Tables.{header_at, header_in, header_of, was_live}, Consists.{Consists, consists_then, objects_then, given, header_built, built_low}, Acts.{access_said, thread_said, given_at, freed_in, freed_at, About, about, AreLow, is_access, no_access, access_at, IsAccess as TellsAccess, access_of}, Lists.{Newest, EachAccess, no_event, each_push, live_in, owned_in, is_live_in, owned_is, live_made, live_other, owned_begun, owned_other}, Modes.{private_field, readonly_field}}
+use Rattle.sharc_meaning.specs.{Events.freed_by, Obeys.IsThere}
 
 -- ---- numbers of objects
 pub number_yes : (n : ℕ) → is_number n (Some n) ≡ true
@@ -33,7 +19,7 @@ put_other f i j v ne = let e : nat_eq j i ≡ false = grind (arith, nat_tests) i
 -- ---- objects after a turn
 module _ (ls : Labels) (t : ℕ) (m m' : Machine) (f : ℕ → ObjectState) (n : ℕ) where
   new_owner : (r : ℕ) (y : NewStage) → header_at y ≡ Some n → (new_behind ls t r m' y f n).owner ≡ t
-  new_owner r (news.Length header) e = let same : header ≡ n = cc in ap (λ h. (put f h (owned t (type_held ls m' r)) n).owner) same ∙ ap (λ (o : ObjectState). o.owner) (put_same f n (owned t (type_held ls m' r)))
+  new_owner r (NewStage.Length header) e = let same : header ≡ n = cc in ap (λ h. (put f h (owned t (type_held ls m' r)) n).owner) same ∙ ap (λ (o : ObjectState). o.owner) (put_same f n (owned t (type_held ls m' r)))
   new_owner r _ e = absurd (cc)
 
   makes_owner : (r : ℕ) (y : Stage) → header_in y ≡ Some n → (made_behind ls t r m' y f n).owner ≡ t
@@ -41,11 +27,11 @@ module _ (ls : Labels) (t : ℕ) (m m' : Machine) (f : ℕ → ObjectState) (n :
   makes_owner r _ e = absurd (cc)
 
   pub made_owner : (i : Instr) → header_of i m.own.stage ≡ Some n → (objects_behind ls t i m m' f n).owner ≡ t
-  made_owner (instrs.New r count cells site) e = makes_owner r m.own.stage e
+  made_owner (Instr.New r count cells site) e = makes_owner r m.own.stage e
   made_owner _ e = absurd (cc)
 
   pub given_owner : (i : Instr) → given_at i m ≡ Some n → (objects_behind ls t i m m' f n).owner ≡ t
-  given_owner (instrs.Give r site) e = let same : ref m r ≡ n = cc in ap (λ h. (put f h (owned t (type_held ls m' r)) n).owner) same ∙ ap (λ (o : ObjectState). o.owner) (put_same f n (owned t (type_held ls m' r)))
+  given_owner (Instr.Give r site) e = let same : ref m r ≡ n = cc in ap (λ h. (put f h (owned t (type_held ls m' r)) n).owner) same ∙ ap (λ (o : ObjectState). o.owner) (put_same f n (owned t (type_held ls m' r)))
   given_owner _ e = absurd (cc)
 
   freed_dead : (o : ℕ) (y : Stage) → freed_in y o ≡ Some n → (freed_behind o y f n).live ≡ false
@@ -53,11 +39,11 @@ module _ (ls : Labels) (t : ℕ) (m m' : Machine) (f : ℕ → ObjectState) (n :
   freed_dead o _ e = absurd (cc)
 
   pub freed_gone : (i : Instr) → freed_at i m ≡ Some n → (objects_behind ls t i m m' f n).live ≡ false
-  freed_gone (instrs.Free r layout site) e = freed_dead (ref m r) m.own.stage e
+  freed_gone (Instr.Free r layout site) e = freed_dead (ref m r) m.own.stage e
   freed_gone _ e = absurd (cc)
 
   same_new : (r : ℕ) (y : NewStage) → (header_at y ≡ Some n → ⊥) → new_behind ls t r m' y f n ≡ f n
-  same_new r (news.Length header) never = put_other f header n (owned t (type_held ls m' r)) (λ e. never (ap (λ k. Some k) (sym e)))
+  same_new r (NewStage.Length header) never = put_other f header n (owned t (type_held ls m' r)) (λ e. never (ap (λ k. Some k) (sym e)))
   same_new r _ never = refl
 
   same_makes : (r : ℕ) (y : Stage) → (header_in y ≡ Some n → ⊥) → made_behind ls t r m' y f n ≡ f n
@@ -69,16 +55,16 @@ module _ (ls : Labels) (t : ℕ) (m m' : Machine) (f : ℕ → ObjectState) (n :
   same_freed o _ never = refl
 
   pub same_behind : (i : Instr) → (header_of i m.own.stage ≡ Some n → ⊥) → (given_at i m ≡ Some n → ⊥) → (freed_at i m ≡ Some n → ⊥) → objects_behind ls t i m m' f n ≡ f n
-  same_behind (instrs.New r count cells site) a b c = same_makes r m.own.stage a
-  same_behind (instrs.Give r site) a b c = put_other f (ref m r) n (owned t (type_held ls m' r)) (λ e. b (ap (λ k. Some k) (sym e)))
-  same_behind (instrs.Free r layout site) a b c = same_freed (ref m r) m.own.stage c
+  same_behind (Instr.New r count cells site) a b c = same_makes r m.own.stage a
+  same_behind (Instr.Give r site) a b c = put_other f (ref m r) n (owned t (type_held ls m' r)) (λ e. b (ap (λ k. Some k) (sym e)))
+  same_behind (Instr.Free r layout site) a b c = same_freed (ref m r) m.own.stage c
   same_behind _ a b c = refl
 
 -- ---- what holds of each access
 pub record AllowedAccess (before : History) (e : SourceEvent) (a : Access) : Type 0 where
   pub there : IsThere before a.cell.object
-  pub owner : a.mode ≡ modes.Private → is_owner before a.cell.object e.thread ≡ true
-  pub unwritten : a.mode ≡ modes.Readonly → a.is_write ≡ false
+  pub owner : a.mode ≡ CellMode.Private → is_owner before a.cell.object e.thread ≡ true
+  pub unwritten : a.mode ≡ CellMode.Readonly → a.is_write ≡ false
 
 -- ---- the history of a run
 abbrev pub newest : Code → Shape → List Turn → Newest
@@ -154,7 +140,7 @@ module _ (cell_laws : CellsAreThere) (pointers : PointersAreThere) (rights : Acc
     given = λ r site e. low_live (ref m r) (given laws keeps cell_laws pointers x code s ls wt fits few one earlier h may r site e);
     freed = λ r layout site all e at.
         let hold : OnHold m.own.stage = subst OnHold (sym at) tt in
-        let f = fine_here (instrs.Free r layout site) e in
+        let f = fine_here (Instr.Free r layout site) e in
         low_live (ref m r) (live_ref x code s ls wt fits g world h.state t is_on hold r (sole_ref x code s ls wt fits g world h.state t is_on hold r f.0.0 f.0.1));
   }
 
@@ -187,19 +173,19 @@ module _ (cell_laws : CellsAreThere) (pointers : PointersAreThere) (rights : Acc
       thread_is : e.thread ≡ one.thread
       thread_is = tells.thread ∙ number_is
 
-      make_yes : header_of i ((place_after code s earlier).threads one.thread).own.stage ≡ Some n → makes (objects.Made n) e ≡ true
+      make_yes : header_of i ((place_after code s earlier).threads one.thread).own.stage ≡ Some n → makes (Object.Made n) e ≡ true
       make_yes is = ap (is_number n) (tells.makes ∙ is) ∙ number_yes n
 
-      make_no : (header_of i ((place_after code s earlier).threads one.thread).own.stage ≡ Some n → ⊥) → makes (objects.Made n) e ≡ false
+      make_no : (header_of i ((place_after code s earlier).threads one.thread).own.stage ≡ Some n → ⊥) → makes (Object.Made n) e ≡ false
       make_no never = number_not n (made_by e e.act) (λ q. never (sym tells.makes ∙ q))
 
-      give_yes : given_at i ((place_after code s earlier).threads one.thread) ≡ Some n → gives (objects.Made n) e ≡ true
+      give_yes : given_at i ((place_after code s earlier).threads one.thread) ≡ Some n → gives (Object.Made n) e ≡ true
       give_yes is = ap (is_number n) (tells.gives ∙ is) ∙ number_yes n
 
-      give_no : (given_at i ((place_after code s earlier).threads one.thread) ≡ Some n → ⊥) → gives (objects.Made n) e ≡ false
+      give_no : (given_at i ((place_after code s earlier).threads one.thread) ≡ Some n → ⊥) → gives (Object.Made n) e ≡ false
       give_no never = number_not n (given_by e.act) (λ q. never (sym tells.gives ∙ q))
 
-      free_no : frees (objects.Made n) e ≡ false
+      free_no : frees (Object.Made n) e ≡ false
       free_no = number_not n (freed_by e.act) (λ q. unfreed (sym tells.frees ∙ q))
 
       live_still : live_in (e ∷ L) n ≡ true
@@ -208,7 +194,7 @@ module _ (cell_laws : CellsAreThere) (pointers : PointersAreThere) (rights : Acc
           (λ (never : header_of i m.own.stage ≡ Some n → ⊥). live_other e L n (make_no never) free_no ∙ old.live n nz (before never))
           (decide (header_of i m.own.stage) n)
 
-      mine : begins (objects.Made n) e ≡ true → (behind n).owner ≡ one.thread → owned_in (e ∷ L) n (obj n).owner ≡ true
+      mine : begins (Object.Made n) e ≡ true → (behind n).owner ≡ one.thread → owned_in (e ∷ L) n (obj n).owner ≡ true
       mine begun owner =
           let o : (obj n).owner ≡ e.thread = ap (λ (y : ObjectState). y.owner) at_n ∙ owner ∙ sym thread_is in
           ap (owned_in (e ∷ L) n) o ∙ owned_begun e L n begun ∙ eq_refl e.thread
@@ -227,13 +213,13 @@ module _ (cell_laws : CellsAreThere) (pointers : PointersAreThere) (rights : Acc
 
       owner_still : owned_in (e ∷ L) n (obj n).owner ≡ true
       owner_still = ⊎_elim
-          (λ (made : header_of i m.own.stage ≡ Some n). mine (or_left (makes (objects.Made n) e) (gives (objects.Made n) e) (make_yes made)) (made_owner ls t m m' world.obj n i made))
+          (λ (made : header_of i m.own.stage ≡ Some n). mine (or_left (makes (Object.Made n) e) (gives (Object.Made n) e) (make_yes made)) (made_owner ls t m m' world.obj n i made))
           (λ (never : header_of i m.own.stage ≡ Some n → ⊥). ⊎_elim
-          (λ (gave : given_at i m ≡ Some n). mine (or_right (makes (objects.Made n) e) (gives (objects.Made n) e) (give_yes gave)) (given_owner ls t m m' world.obj n i gave))
+          (λ (gave : given_at i m ≡ Some n). mine (or_right (makes (Object.Made n) e) (gives (Object.Made n) e) (give_yes gave)) (given_owner ls t m m' world.obj n i gave))
           (λ (not : given_at i m ≡ Some n → ⊥).
           let same : obj n ≡ world.obj n = at_n ∙ same_behind ls t m m' world.obj n i never not unfreed in
           ap (λ (y : ObjectState). owned_in (e ∷ L) n y.owner) same
-          ∙ owned_other e L n (world.obj n).owner (or_false (makes (objects.Made n) e) (gives (objects.Made n) e) (make_no never) (give_no not))
+          ∙ owned_other e L n (world.obj n).owner (or_false (makes (Object.Made n) e) (gives (Object.Made n) e) (make_no never) (give_no not))
           ∙ old.owner n nz (before never))
           (decide (given_at i m) n))
           (decide (header_of i m.own.stage) n)
@@ -259,11 +245,11 @@ module _ (cell_laws : CellsAreThere) (pointers : PointersAreThere) (rights : Acc
   hold_access e = rests_hold code s h.state.elements world h.state.heap g.words t m i m.own.stage (access_single i e) ((h.state.threads t).runs is_on.0 is_on.1).stage
     where
       access_single : (j : Instr) → is_access j ≡ true → single j ≡ true
-      access_single (instrs.Load r c site) e = refl
-      access_single (instrs.Store r c site) e = refl
-      access_single (instrs.LoadRef c site) e = refl
-      access_single (instrs.Exchange r c site) e = refl
-      access_single (instrs.TakeCell r c site) e = refl
+      access_single (Instr.Load r c site) e = refl
+      access_single (Instr.Store r c site) e = refl
+      access_single (Instr.LoadRef c site) e = refl
+      access_single (Instr.Exchange r c site) e = refl
+      access_single (Instr.TakeCell r c site) e = refl
       access_single _ e = absurd (cc)
 
   module _ (hold : OnHold ((place_after code s earlier).threads one.thread).own.stage) (k : TellsAccess x code ls ((place_after code s earlier).threads one.thread) i found elements) where
@@ -286,17 +272,17 @@ module _ (cell_laws : CellsAreThere) (pointers : PointersAreThere) (rights : Acc
 
     some_base : (c : Cell) → Rattle.sharc_invariant.specs.Typed.HasBase (ls.at ((place_after code s earlier).threads one.thread).at.pc) c → (L : Newest) → ObjectsTold L h.world.obj → (h.world.obj (object_of_cell ((place_after code s earlier).threads one.thread) c)).live ≡ true
         → IsThere (reverse L) (cell_at code ((place_after code s earlier).threads one.thread) c).object
-    some_base (cells.Global q p) b L old live = tt
-    some_base (cells.GlobalAt q p) b L old live = tt
-    some_base (cells.Object r p) b L old live = is_live_in L (ref m r) ∙ old.live (ref m r) (known_ref x code s ls wt fits g world h.state t is_on hold r b) live
-    some_base (cells.ObjectAt r p) b L old live = is_live_in L (ref m r) ∙ old.live (ref m r) (known_ref x code s ls wt fits g world h.state t is_on hold r b) live
+    some_base (Cell.Global q p) b L old live = tt
+    some_base (Cell.GlobalAt q p) b L old live = tt
+    some_base (Cell.Object r p) b L old live = is_live_in L (ref m r) ∙ old.live (ref m r) (known_ref x code s ls wt fits g world h.state t is_on hold r b) live
+    some_base (Cell.ObjectAt r p) b L old live = is_live_in L (ref m r) ∙ old.live (ref m r) (known_ref x code s ls wt fits g world h.state t is_on hold r b) live
 
     owner_base : (c : Cell) → Rattle.sharc_invariant.specs.Typed.HasBase (ls.at ((place_after code s earlier).threads one.thread).at.pc) c → (L : Newest) → ObjectsTold L h.world.obj → (h.world.obj (object_of_cell ((place_after code s earlier).threads one.thread) c)).live ≡ true
         → (who : ℕ) → (h.world.obj (object_of_cell ((place_after code s earlier).threads one.thread) c)).owner ≡ who → is_owner (reverse L) (cell_at code ((place_after code s earlier).threads one.thread) c).object who ≡ true
-    owner_base (cells.Global q p) b L old live who e = let z : who ≡ 0 = sym e ∙ ap (λ (y : ObjectState). y.owner) h.state.globals in ap (λ n. n == 0) z
-    owner_base (cells.GlobalAt q p) b L old live who e = let z : who ≡ 0 = sym e ∙ ap (λ (y : ObjectState). y.owner) h.state.globals in ap (λ n. n == 0) z
-    owner_base (cells.Object r p) b L old live who e = owned_is L (ref m r) who ∙ ap (owned_in L (ref m r)) (sym e) ∙ old.owner (ref m r) (known_ref x code s ls wt fits g world h.state t is_on hold r b) live
-    owner_base (cells.ObjectAt r p) b L old live who e = owned_is L (ref m r) who ∙ ap (owned_in L (ref m r)) (sym e) ∙ old.owner (ref m r) (known_ref x code s ls wt fits g world h.state t is_on hold r b) live
+    owner_base (Cell.Global q p) b L old live who e = let z : who ≡ 0 = sym e ∙ ap (λ (y : ObjectState). y.owner) h.state.globals in ap (λ n. n == 0) z
+    owner_base (Cell.GlobalAt q p) b L old live who e = let z : who ≡ 0 = sym e ∙ ap (λ (y : ObjectState). y.owner) h.state.globals in ap (λ n. n == 0) z
+    owner_base (Cell.Object r p) b L old live who e = owned_is L (ref m r) who ∙ ap (owned_in L (ref m r)) (sym e) ∙ old.owner (ref m r) (known_ref x code s ls wt fits g world h.state t is_on hold r b) live
+    owner_base (Cell.ObjectAt r p) b L old live who e = owned_is L (ref m r) who ∙ ap (owned_in L (ref m r)) (sym e) ∙ old.owner (ref m r) (known_ref x code s ls wt fits g world h.state t is_on hold r b) live
 
     pub allowed : (L : Newest) → ObjectsTold L h.world.obj → (e : SourceEvent) → e.thread ≡ one.thread → AllowedAccess (reverse L) e (access_at code ((place_after code s earlier).threads one.thread) k.cell k.site k.write)
     allowed L old e thread =

@@ -1,15 +1,6 @@
 -- Where the held log of a thread refers to an object, a mutex of that object is locked by the events; and the beginning of a checked run is a checked run.
-use Rattle.std.proofs.Common.{◌≡◌, ◌≢◌, ℕ, suc, ◌+◌, ◌*◌, Bool, true, false, List, [], ◌∷◌, ◌++◌, Some, inl, inr, if◌then◌else◌, refl, sym, ap, ◌∙◌, ⊎_elim, arith}
-use Rattle.std.specs.Prelude.{◌==◌, Contains}
-use Rattle.sharc_tree.specs.declared.event.CellAt.{CellAt}
-use Rattle.sharc_tree.specs.declared.event.Object.TheVariants as objects
-use Rattle.sharc_locks.specs.{declared.held_log.HeldMutex.HeldMutex, HeldLog.object_of}
-use Rattle.sharc_ctype.specs.Resolved.{Resolution}
-use Rattle.sharc_code.specs.{declared.code.Code.Code, declared.shape.Shape.Shape, Laws.RunLaws, Layout.{Fits, first_cell}, Machine.reference_of, Opening.opening_words, Runs.{Turn, IsRun, opening_of}, Whole.{CheckedRun, one_thread, bounds, place_after}}
-use Rattle.sharc_meaning.specs.Store.{is_locked}
-use Rattle.sharc_invariant.specs.{Types.Targets, Labels.Labels, Typed.IsWellTyped, Words.cell_at, MachineInvariant.log_refers, Laws.CellsAreThere}
-use Rattle.sharc_history_laws.specs.History.{history_of}
-use Rattle.sharc_history_laws.proofs.{Finds.is_apart, Locked.IsIn, Mutual.locked_is, Rules.newest, Stored.Stored}
+use Rattle.sharc_history_laws.proofs.{Imports.{◌≡◌, ◌≢◌, ℕ, suc, ◌+◌, ◌*◌, Bool, true, false, List, [], ◌∷◌, ◌++◌, Some, inl, inr, if◌then◌else◌, refl, sym, ap, ◌∙◌, ⊎_elim, arith, ◌==◌, Contains, CellAt, Object, HeldMutex, object_of, Resolution, Code, Shape, RunLaws, Fits, first_cell, reference_of, opening_words, Turn, IsRun, opening_of, CheckedRun, one_thread, bounds, place_after, is_locked, Targets, Labels, IsWellTyped, log_refers, CellsAreThere, history_of}, Finds.is_apart, Locked.IsIn, Mutual.locked_is, Rules.newest, Stored.Stored}
+use Rattle.sharc_invariant.specs.Words.{cell_at}
 
 -- ---- beginnings of runs
 begins_run : (code : Code) (s : Shape) (later earlier : List Turn) → IsRun bounds (one_thread code s) (opening_of bounds (one_thread code s) (opening_words code s)) (later ++ earlier)
@@ -35,7 +26,7 @@ contains (y ∷ log) b is = ⊎_elim (λ (e : y ≡ b). (0, omega arith, e)) (λ
 
 pub logs_locked : (cell_laws : CellsAreThere) (x : Targets) (code : Code) (s : Shape) (ls : Labels) (wt : IsWellTyped x code ls) (fits : Fits code s) (r : Resolution)
     (run : List Turn) → Stored r x code s ls run → (u word o : ℕ) → o ≢ 0 → log_refers (place_after code s run) u word ≡ o
-    → (c : CellAt) × (c.object ≡ objects.Made o) × (is_locked (history_of code s run) c ≡ true)
+    → (c : CellAt) × (c.object ≡ Object.Made o) × (is_locked (history_of code s run) c ≡ true)
 logs_locked cell_laws x code s ls wt fits r run k u word o nz refers =
     let g = place_after code s run in
     let L = newest code s run in
@@ -46,8 +37,8 @@ logs_locked cell_laws x code s ls wt fits r run k u word o nz refers =
     let inside = state.locks.logged u h (contains log h found.1) in
     let j = inside.0 in
     let apart = is_apart cell_laws x code s ls wt fits g k.consists.world state u h.object j inside.1.1 inside.1.2 in
-    let c : CellAt = record { object = objects.Made h.object; cell = j } in
+    let c : CellAt = record { object = Object.Made h.object; cell = j } in
     let some : h.object ≢ 0 = λ z. nz (sym found.2 ∙ z) in
     let at : h.word ≡ first_cell s + (2 * (h.object + 1) + j) = inside.1.0 ∙ (let z : cell_at s h.object j ≡ first_cell s + (2 * (h.object + 1) + j) = omega arith in z) in
     let holds = k.told.logs u h found.1 c (2 * (h.object + 1) + j) at (refl, some, refl) in
-    (c, ap objects.Made found.2, locked_is L c ∙ (k.told.mutexes.last u c holds).0)
+    (c, ap Object.Made found.2, locked_is L c ∙ (k.told.mutexes.last u c holds).0)

@@ -1,17 +1,6 @@
 -- A pointer cell that refers to an object by the words does so by the events, but where a Free empties its object.
-use Rattle.std.proofs.{Common.{◌≡◌, ℕ, pos, zero, suc, ◌+◌, ◌*◌, ◌/◌, ◌^◌, ◌<◌, ◌≢◌, inl, inr, Bool, true, false, cond, not, ◌&&◌, List, [], ◌∷◌, refl, sym, ap, ◌∙◌, subst, ⊎_elim, arith, ltb-true}, lemmas.Bool.{cases_Bool, and_parts}, lemmas.Bool.Decides.nat_tests}
-use Rattle.std.specs.Prelude.{slice_index, nat_lt, ◌==◌, ◌%◌}
-use Rattle.sharc_tree.specs.{declared.event.CellAt.CellAt, declared.event.Object.Object}
-use Rattle.sharc_tree.specs.declared.event.Object.TheVariants as objects
-use Rattle.sharc_ctype.specs.Resolved.{Resolution}
-use Rattle.sharc_code.specs.{declared.code.Code.Code, declared.shape.Shape.Shape, declared.state.Stage.Stage, declared.state.Stage.TheVariants.{Empties, Lowers, FreeLooks, FreeClears, Uncounts}, Laws.RunLaws, Layout.{Fits, granules, granule_at, words_of, first_cell, cell_word, cell_of, length_word}, Machine.Machine, Opening.opening_words, Ranges.IsInGlobal, Runs.{Turn, Global, IsRun, result_of, opening_of}, Says.reference, Whole.{one_thread, bounds, place_after}}
-use Rattle.sharc_compile.specs.{Consistent.{Elements, said_now}, OfRuns.table_of}
-use Rattle.sharc_meaning.specs.{Reference.is_null, References.refers, Store.value_after}
-use Rattle.sharc_invariant.specs.{Types.{Targets, Field, Content, Pointer, field_in, field_of_cell, global_field, globals_target, is_pointer, cells_of}, Labels.Labels, Typed.IsWellTyped, World.{Cell as CellOf, World, ObjectState}, State.{State, IsSmall}, Opened.{first_world, first_place}, Objects.{objects_after, objects_now}, MachineInvariant.{cells_now, is_pointer_now, cell_refers}, Laws.{Keeps, Begins as CodeBegins, CellsAreThere, PointersAreThere, AccessesAreAllowed, StateStands}}
+use Rattle.sharc_history_laws.proofs.{Imports.{◌≡◌, ℕ, pos, zero, suc, ◌+◌, ◌*◌, ◌/◌, ◌^◌, ◌<◌, ◌≢◌, inl, inr, Bool, true, false, cond, not, ◌&&◌, List, [], ◌∷◌, refl, sym, ap, ◌∙◌, subst, ⊎_elim, arith, ltb-true, cases_Bool, and_parts, nat_tests, slice_index, nat_lt, ◌==◌, ◌%◌, CellAt, Object, Resolution, Code, Shape, Stage, Empties, Lowers, FreeLooks, FreeClears, Uncounts, RunLaws, Fits, granules, granule_at, words_of, first_cell, cell_word, cell_of, length_word, Machine, opening_words, IsInGlobal, Turn, Global, IsRun, result_of, opening_of, reference, one_thread, bounds, place_after, Elements, said_now, table_of, is_null, refers, value_after, Targets, Field, Content, Pointer, field_in, field_of_cell, global_field, globals_target, is_pointer, cells_of, Labels, IsWellTyped, CellOf, World, ObjectState, State, IsSmall, first_world, first_place, objects_after, objects_now, cells_now, is_pointer_now, cell_refers, Keeps, CodeBegins, CellsAreThere, PointersAreThere, AccessesAreAllowed, StateStands, history_of, BeginsWith, is_clearing, IsCellIn, IsLiveBy, IsBeingFreed, RefersBy, CellIsSeen, same_is as eq_refl, ne_zero}, Behind.{AreFirst, first_then}, Consists.{Consists, consists_then, objects_then, at_first, none_live}, Contents.{newest_value, value_is, value_held, IsCellOf, content_of, word_of_cell, Contents}, Emptying.{IsEmptied, is_emptying}, Lists.{Newest, is_live_in}, Locked.{Names, NamesIn}, OneMode.place_of, Opening.contents_first, Rules.{ObjectsTold, newest, newest_now, about_now, objects_told}, Shared.{number_of, some_closing}, Sparing.is_value, Stands.live_low, Unemptied.on_hold, Unwritten.emptying, Valued.contents_then}
 use Rattle.sharc_invariant.specs.Words as Words
-use Rattle.sharc_history_laws.specs.{History.history_of, Stores.BeginsWith, SeenCells.{is_clearing, IsCellIn, IsLiveBy, IsBeingFreed, RefersBy, CellIsSeen}}
-use Rattle.sharc_history_laws.proofs.{Behind.{AreFirst, first_then}, Consists.{Consists, consists_then, objects_then, at_first, none_live}, Contents.{newest_value, value_is, value_held, IsCellOf, content_of, word_of_cell, Contents}, Emptying.{IsEmptied, is_emptying}, Lists.{Newest, is_live_in}, Locked.{Names, NamesIn}, OneMode.place_of, Opening.contents_first, Rules.{ObjectsTold, newest, newest_now, about_now, objects_told}, Shared.{number_of, some_closing}, Sparing.is_value, Stands.live_low, Unemptied.on_hold, Unwritten.emptying, Valued.contents_then}
-use Rattle.sharc_lemmas.proofs.Numbers.{same_is as eq_refl, ne_zero}
 
 -- ---- references
 not_null : (n : ℕ) → n ≢ 0 → is_null (pos n) ≡ false
@@ -68,20 +57,20 @@ module _ (x : Targets) (code : Code) (s : Shape) (ls : Labels) (g : Global Machi
 
 -- the cell of the source in the world
 pub number_is : (code : Code) (a : Object) (cell p i : ℕ) → IsCellIn code a cell p i → number_of a ≡ p
-number_is code (objects.Made n) cell p i h = h.0
-number_is code (objects.Global g) cell p i h = sym h.0
+number_is code (Object.Made n) cell p i h = h.0
+number_is code (Object.Global g) cell p i h = sym h.0
 
 pub place_is : (code : Code) (a : Object) (cell p i : ℕ) → IsCellIn code a cell p i → place_of code a cell ≡ i
-place_is code (objects.Made n) cell p i h = h.2
-place_is code (objects.Global g) cell p i h = let e = h.2 in omega arith
+place_is code (Object.Made n) cell p i h = h.2
+place_is code (Object.Global g) cell p i h = let e = h.2 in omega arith
 
 pub names : (code : Code) (c : CellAt) (a : Object) (p i : ℕ) → c.object ≡ a → IsCellIn code a c.cell p i → Names code c p (2 * (p + 1) + i)
-names code c (objects.Made n) p i is h =
+names code c (Object.Made n) p i is h =
     subst (λ b. NamesIn code b c.cell p (2 * (p + 1) + i)) (sym is) (h.0, h.1, in_made n c.cell p i h.0 h.2)
   where
     in_made : (n j p i : ℕ) → n ≡ p → j ≡ i → 2 * (p + 1) + i ≡ cell_of n j
     in_made n j p i a b = omega arith
-names code c (objects.Global g) p i is h =
+names code c (Object.Global g) p i is h =
     let at : i + 2 ≡ 2 * (p + 1) + i = in_globals p i h.0 in
     subst (λ b. NamesIn code b c.cell p (2 * (p + 1) + i)) (sym is) (h.0, subst (λ k. IsInGlobal code.globals.items g k) at h.1, sym at ∙ h.2)
   where
@@ -229,8 +218,8 @@ module _ (state_law : StateStands) (cell_laws : CellsAreThere) (pointers : Point
       live_by = by c.object at
         where
           by : (a : Object) → IsCellIn code a c.cell p i → IsLiveBy (history_of code s run) a
-          by (objects.Global q) h = tt
-          by (objects.Made n) h = subst (λ n. IsLiveBy (history_of code s run) (objects.Made n)) (sym h.0) (is_live_in (newest code s run) p ∙ k.objects.live p h.1 live)
+          by (Object.Global q) h = tt
+          by (Object.Made n) h = subst (λ n. IsLiveBy (history_of code s run) (Object.Made n)) (sym h.0) (is_live_in (newest code s run) p ∙ k.objects.live p h.1 live)
 
       by_events : RefersBy r code (place_after code s run) (history_of code s run) c p o
       by_events = record {

@@ -1,9 +1,5 @@
 -- Access sets by a history with its newest event first.
-use Rattle.std.proofs.Common.{◌≡◌, ℕ, ◌≢◌, Bool, true, false, ◌||◌, ◌&&◌, cond, [], ◌∷◌, ◌++◌, reverse, refl, sym, ap, ◌∙◌, subst, ⊎_elim, ◌⊎◌, inl, inr, if◌then◌else◌}
-use Rattle.std.specs.List.{list_any}
-use Rattle.sharc_tree.specs.{declared.event.SourceEvent.SourceEvent, declared.event.CellMode.TheVariants.Dynamic, declared.event.Object.Object}
-use Rattle.sharc_meaning.specs.{Events.{Access, granule_of, begins, is_of, events_of}, Obeys.{History, IsAccess, AccessSet, until_return, ends, ReadSharedOrOwn}}
-use Rattle.sharc_history_laws.proofs.Lists.{Newest, Split, Last, Earlier, split, reverse_push}
+use Rattle.sharc_history_laws.proofs.{Imports.{◌≡◌, ℕ, ◌≢◌, Bool, true, false, ◌||◌, ◌&&◌, cond, [], ◌∷◌, ◌++◌, reverse, refl, sym, ap, ◌∙◌, subst, ⊎_elim, ◌⊎◌, inl, inr, if◌then◌else◌, list_any, SourceEvent, Dynamic, Object, Access, granule_in as granule_of, begins, is_of, events_of, History, IsAccess, AccessSet, until_return, ends, ReadSharedOrOwn}, Lists.{Newest, Split, Last, Earlier, split, reverse_push}}
 
 -- the event is an access of mode dynamic to that granule, by this thread, and a write or not
 pub record IsHere (e : SourceEvent) (o : Object) (granule t : ℕ) (write : Bool) : Type 0 where

@@ -1,17 +1,7 @@
 -- What a turn does to the shadow word of each granule.
-use Rattle.std.proofs.{Common.{◌≡◌, ℕ, ℤ, pos, negsuc, zero, suc, ◌+◌, ◌*◌, ◌/◌, ◌%◌, ◌^◌, ◌<◌, ◌≤◌, ◌≢◌, Bool, true, false, length, List, [], ◌∷◌, Option, Some, None, if◌then◌else◌, min, refl, sym, ap, ◌∙◌, subst, ⊎_elim, arith, eqb-true}, lemmas.Bool.{cases_eq, cases_lt}, lemmas.Bool.Decides.nat_tests, lemmas.List.get_or-set_other}
-use Rattle.std.specs.Prelude.{slice_index, nat_lt, bit_or, ◌==◌, Contains}
-use Rattle.sharc_tree.specs.declared.trap.Trap.TheVariants as traps
-use Rattle.sharc_word.specs.{declared.step.TheConstants.THREADS, declared.step.WordEvent.WordEvent, declared.step.WordOp.WordOp, declared.step.WordStep.WordStep, Words.{word_after, words_after_step}}
-use Rattle.sharc_word.specs.declared.step.WordOp.TheVariants as ops
-use Rattle.sharc_heap.specs.{declared.shadow_word.Kind.Kind, declared.shadow_word.Kind.TheVariants.{Read, Write}, declared.access_table.GranuleNotes.GranuleNotes, Accesses.{Accesses, ListsNoted, is_noted}, Functions.{bits_of, cleared_of, withdrawn_of}, ShadowLaws.ShadowLaws, ShadowWord.{epoch_of, is_written, stands, AddsAccess, Withdraws as WithdrawsWord}, Asks.word_number, Stages.turn_of_stage, State.{NewView, told}, declared.arguments.NewArguments.NewArguments, declared.stage.NewStage.NewStage}
-use Rattle.sharc_heap.specs.declared.stage.NewStage.TheVariants as news
-use Rattle.sharc_code.specs.{declared.code.Code.Code, declared.instr.Instr.Instr, declared.instr.Register.Register, declared.shape.Shape.Shape, declared.state.Stage.Stage, declared.state.Stage.TheVariants.{Looks, Clears, Makes, Empties, Lowers, FreeLooks, FreeClears, Uncounts, Links, Names, Hands, Begins, Enters, Withdraws, WithdrawsFrom, Leaves as Leaving, Wakes}, Layout.{Fits, granules, first_cell, first_shadow, words_of, granule_at, granule_of, shadow_word, count_word, length_word, cell_word, state_word}, Machine.{Machine, Turn as StepTurn, Local, Asks, act, instr_at, step_of, int, ref, place, word, goes, set_ref, move_ref, accessed, trapped, raise, lower, test, new, asks_new, new_state, elements_of, clear, free, layout_at, data_granules, data_granule, spawn, joined, join, start, exit, row_of, without_own, withdrew, signal, largest, wrote}, Path.{turn, asked_by, may_go}, Runs.{Turn, Global, MayTurn, Answered, after_turn, words_now, result_of}, Whole.{one_thread, bounds}}
-use Rattle.sharc_code.specs.declared.instr.Instr.TheVariants as instrs
+use Rattle.sharc_history_laws.proofs.{Imports.{◌≡◌, ℕ, ℤ, pos, negsuc, zero, suc, ◌+◌, ◌*◌, ◌/◌, ◌%◌, ◌^◌, ◌<◌, ◌≤◌, ◌≢◌, Bool, true, false, length, List, [], ◌∷◌, Option, Some, None, if◌then◌else◌, min, refl, sym, ap, ◌∙◌, subst, ⊎_elim, arith, eqb-true, cases_eq, cases_lt, nat_tests, get_or-set_other, slice_index, nat_lt, bit_or, ◌==◌, Contains, Trap, THREADS, WordEvent, WordOp, WordStep, word_after, words_after_step, Kind, Read, Write, GranuleNotes, ListsNoted, is_noted, bits_of, cleared_of, withdrawn_of, ShadowLaws, epoch_of, is_written, stands, AddsAccess, WithdrawsWord, word_number, turn_of_stage, NewView, told, NewArguments, NewStage, Code, Instr, Register, Shape, Stage, Looks, Clears, Makes, Empties, Lowers, FreeLooks, FreeClears, Uncounts, Links, Names, Hands, Begins, Enters, Withdraws, WithdrawsFrom, Leaves as Leaving, Wakes, Fits, granules, first_cell, first_shadow, words_of, granule_at, granule_of, shadow_word, count_word, length_word, cell_word, state_word, Machine, StepTurn, Local, Asks, act, instr_at, step_of, int, ref, place, word, goes, set_ref, move_ref, accessed, trapped, raise, lower, test, new, asks_new, new_state, elements_of, clear, free, layout_at, data_granules, data_granule, spawn, joined, join, start, exit, row_of, without_own, withdrew, signal, largest, wrote, turn, asked_by, may_go, Turn, Global, MayTurn, Answered, after_turn, words_now, result_of, one_thread, bounds, Touch, Untouched, CheckOf, ClearOf, WithdrawOf, cleared_by, freed_by, withdrawn_by, touch_of, sum_to, Labels, IsOn, touch_at, State, StageStands, OnHold, IsWellTyped, Fine, Targets, cells_of, World, set_here as set_at, same_or}, Consists.found_is, Stands.{sole_ref, live_ref, target_ref}, Tables.step_leaves}
+use Rattle.sharc_heap.specs.Accesses.{Accesses}
 use Rattle.sharc_code.specs.Runs as runs
-use Rattle.sharc_invariant.specs.{Bits.{Touch, Untouched, CheckOf, ClearOf, WithdrawOf, cleared_by, freed_by, withdrawn_by, touch_of}, Granules.sum_to, Labels.Labels, MachineInvariant.IsOn, Reports.touch_at, State.{State, StageStands, OnHold}, Typed.{IsWellTyped, Fine}, Types.{Targets, cells_of}, World.World}
-use Rattle.sharc_history_laws.proofs.{Consists.found_is, Stands.{sole_ref, live_ref, target_ref}, Tables.step_leaves}
-use Rattle.sharc_lemmas.proofs.Lists.{set_here as set_at, same_or}
 
 -- ---- words by what a turn is to them
 -- no bit stands, and the epoch is one more
@@ -66,7 +56,7 @@ module _ (s : Shape) where
   to_test (suc h) x = of_count (suc h) _
 
   to_join : (m : Machine) (z : ℤ) (site : ℕ) → A (join m z site)
-  to_join m (pos n) site = elim (nat_lt n THREADS) as (λ b. A (if b then Asks (step_of (state_word n) ops.Load) (joined m site) else Local (trapped m traps.NoSuchThread site))) [
+  to_join m (pos n) site = elim (nat_lt n THREADS) as (λ b. A (if b then Asks (step_of (state_word n) WordOp.Load) (joined m site) else Local (trapped m Trap.NoSuchThread site))) [
     | true ↦ Leaves (λ v. refl)
     | false ↦ tt
   ]
@@ -94,26 +84,26 @@ module _ (s : Shape) where
   ]
 
   to_stage : (m : Machine) (r site : ℕ) (v : NewView) (stage : NewStage) → v.arguments.first ≡ first_cell s → A (asks_new m r site v (turn_of_stage v.arguments stage))
-  to_stage m r site v news.Begins e = tt
-  to_stage m r site v news.Link e = Leaves (λ n. refl)
-  to_stage m r site v (news.Cell cell) e = of_number v.arguments (v.arguments.first + 2 * v.arguments.head + 2 + cell) _ e (omega arith)
-  to_stage m r site v news.Top e = Leaves (λ n. refl)
-  to_stage m r site v (news.Move top moved) e = Below (omega arith)
-  to_stage m r site v (news.Count header) e = of_number v.arguments (v.arguments.first + 2 * header) _ e (omega arith)
-  to_stage m r site v (news.Length header) e = of_number v.arguments (v.arguments.first + 2 * header + 1) _ e (omega arith)
-  to_stage m r site v (news.Made header) e = tt
-  to_stage m r site v news.Full e = tt
+  to_stage m r site v NewStage.Begins e = tt
+  to_stage m r site v NewStage.Link e = Leaves (λ n. refl)
+  to_stage m r site v (NewStage.Cell cell) e = of_number v.arguments (v.arguments.first + 2 * v.arguments.head + 2 + cell) _ e (omega arith)
+  to_stage m r site v NewStage.Top e = Leaves (λ n. refl)
+  to_stage m r site v (NewStage.Move top moved) e = Below (omega arith)
+  to_stage m r site v (NewStage.Count header) e = of_number v.arguments (v.arguments.first + 2 * header) _ e (omega arith)
+  to_stage m r site v (NewStage.Length header) e = of_number v.arguments (v.arguments.first + 2 * header + 1) _ e (omega arith)
+  to_stage m r site v (NewStage.Made header) e = tt
+  to_stage m r site v NewStage.Full e = tt
 
-  to_first : (m : Machine) (r site : ℕ) (v : NewView) (b : Bool) → A (asks_new m r site v (turn_of_stage v.arguments (if b then news.Top else news.Link)))
+  to_first : (m : Machine) (r site : ℕ) (v : NewView) (b : Bool) → A (asks_new m r site v (turn_of_stage v.arguments (if b then NewStage.Top else NewStage.Link)))
   to_first m r site v true = Leaves (λ n. refl)
   to_first m r site v false = Leaves (λ n. refl)
 
 abbrev is_touching : Instr → Bool
-is_touching (instrs.ChkRead c site) = true
-is_touching (instrs.ChkWrite c site) = true
-is_touching (instrs.Clear r count) = true
-is_touching (instrs.Free r layout site) = true
-is_touching instrs.Exit = true
+is_touching (Instr.ChkRead c site) = true
+is_touching (Instr.ChkWrite c site) = true
+is_touching (Instr.Clear r count) = true
+is_touching (Instr.Free r layout site) = true
+is_touching Instr.Exit = true
 is_touching _ = false
 
 -- ---- rows of the access table
@@ -232,17 +222,17 @@ module _ (laws : ShadowLaws) (x : Targets) (code : Code) (s : Shape) (ls : Label
   by_check : (kind : Kind) (granule site : ℕ) (ok : Bool) → turn code s (g.threads tr.thread) ≡ Rattle.sharc_code.specs.Machine.check s (g.threads tr.thread) kind granule site → (p : ℕ) → WordBy (CheckOf kind (granule_at s granule) ok) tr.thread p (old_word p) (new_word p) (wrote (g.threads tr.thread) p (old_word p))
   by_check kind granule site ok e p =
       let q = granule_at s granule in
-      let k = at_word q (ops.Or (bits_of m.own.number kind)) (Rattle.sharc_code.specs.Machine.checked m kind q site) e in
+      let k = at_word q (WordOp.Or (bits_of m.own.number kind)) (Rattle.sharc_code.specs.Machine.checked m kind q site) e in
       let adds : AddsAccess (old_word q) (new_word q) t kind = subst (λ v. AddsAccess (old_word q) v t kind) (sym (k.here ∙ ap (λ n. bit_or (old_word q) (bits_of n kind)) number)) (laws.or_adds (old_word q) t kind few_threads) in
       (λ same. subst (λ p. AddsAccess (old_word p) (new_word p) t kind) (sym same) adds, k.others p)
 
   -- ---- a Swap to `cleared`
-  by_swap : (h done seen : ℕ) (go : ℕ → Machine) → turn code s (g.threads tr.thread) ≡ Asks (step_of (shadow_word s (data_granule h done)) (ops.Swap (cleared_of seen))) go
+  by_swap : (h done seen : ℕ) (go : ℕ → Machine) → turn code s (g.threads tr.thread) ≡ Asks (step_of (shadow_word s (data_granule h done)) (WordOp.Swap (cleared_of seen))) go
       → epoch_of seen ≡ epoch_of (old_word (granule_at s (data_granule h done))) → epoch_of (old_word (granule_at s (data_granule h done))) ≤ 3100000000
       → (p : ℕ) → WordBy (ClearOf (granule_at s (data_granule h done))) tr.thread p (old_word p) (new_word p) (wrote (g.threads tr.thread) p (old_word p))
   by_swap h done seen go e seen_is low p =
       let q = granule_at s (data_granule h done) in
-      let k = at_word q (ops.Swap (cleared_of seen)) go e in
+      let k = at_word q (WordOp.Swap (cleared_of seen)) go e in
       let c = laws.clears seen in
       let ep : epoch_of (cleared_of seen) ≡ (epoch_of seen + 1) % 2 ^ 32 = c.epoch in
       let next : IsNext (old_word q) (new_word q) = subst (IsNext (old_word q)) (sym k.here) (record { threads = c.threads; written = c.written; epoch = ep ∙ numbers (epoch_of seen) (epoch_of (old_word q)) seen_is low }) in
@@ -275,21 +265,21 @@ module _ (laws : ShadowLaws) (x : Targets) (code : Code) (s : Shape) (ls : Label
       bound : (a b : ℕ) → a ≤ b → b ≤ 31 * 100000000 → a ≤ 3100000000
       bound a b p q = omega arith
 
-  clear_seen : (r count done all seen : ℕ) → i ≡ instrs.Clear r count → (g.threads tr.thread).own.stage ≡ Clears done all seen → Seen (ref (g.threads tr.thread) r) done seen
+  clear_seen : (r count done all seen : ℕ) → i ≡ Instr.Clear r count → (g.threads tr.thread).own.stage ≡ Clears done all seen → Seen (ref (g.threads tr.thread) r) done seen
   clear_seen r count done all seen is at =
-      let f = fine_here (instrs.Clear r count) is in
+      let f = fine_here (Instr.Clear r count) is in
       let hold : OnHold m.own.stage = subst OnHold (sym at) tt in
-      let h = subst (StageStands code s st.elements world st.heap g.words t m (instrs.Clear r count)) at (stage_here (instrs.Clear r count) is) in
+      let h = subst (StageStands code s st.elements world st.heap g.words t m (Instr.Clear r count)) at (stage_here (Instr.Clear r count) is) in
       let nz = sole_ref x code s ls wt fits g world st t on hold r false f.0 in
       let live = live_ref x code s ls wt fits g world st t on hold r nz in
       let target = target_ref x code s ls wt fits g world st t on hold r f.2.0 f.2.1 nz in
       seen_at r count done seen nz live (ap (cells_of x) target ∙ sym f.2.2) (subst (λ n. done < n) h.0 h.1.0) h.1.2
 
-  free_seen : (r layout site done all seen : ℕ) → i ≡ instrs.Free r layout site → (g.threads tr.thread).own.stage ≡ FreeClears done all seen → Seen (ref (g.threads tr.thread) r) done seen
+  free_seen : (r layout site done all seen : ℕ) → i ≡ Instr.Free r layout site → (g.threads tr.thread).own.stage ≡ FreeClears done all seen → Seen (ref (g.threads tr.thread) r) done seen
   free_seen r layout site done all seen is at =
-      let f = fine_here (instrs.Free r layout site) is in
+      let f = fine_here (Instr.Free r layout site) is in
       let hold : OnHold m.own.stage = subst OnHold (sym at) tt in
-      let h = subst (StageStands code s st.elements world st.heap g.words t m (instrs.Free r layout site)) at (stage_here (instrs.Free r layout site) is) in
+      let h = subst (StageStands code s st.elements world st.heap g.words t m (Instr.Free r layout site)) at (stage_here (Instr.Free r layout site) is) in
       let nz = sole_ref x code s ls wt fits g world st t on hold r f.0.0 f.0.1 in
       let live = live_ref x code s ls wt fits g world st t on hold r nz in
       let target = target_ref x code s ls wt fits g world st t on hold r f.3.0 f.3.1 nz in
@@ -298,14 +288,14 @@ module _ (laws : ShadowLaws) (x : Targets) (code : Code) (s : Shape) (ls : Label
   abbrev By : Touch → ℕ → Type 0
   By y p = WordBy y tr.thread p (old_word p) (new_word p) (wrote (g.threads tr.thread) p (old_word p))
 
-  to_clear : (r count : ℕ) → i ≡ instrs.Clear r count → (stage : Stage) → (g.threads tr.thread).own.stage ≡ stage → (p : ℕ) → p < granules s → By (cleared_by s (ref (g.threads tr.thread) r) stage) p
+  to_clear : (r count : ℕ) → i ≡ Instr.Clear r count → (stage : Stage) → (g.threads tr.thread).own.stage ≡ stage → (p : ℕ) → p < granules s → By (cleared_by s (ref (g.threads tr.thread) r) stage) p
   to_clear r count is (Clears done all seen) at p lt =
       let k = clear_seen r count done all seen is at in
       by_swap (ref m r) done seen (λ found. Rattle.sharc_code.specs.Machine.looks m (done + 1) all) (ap (λ j. act code s j m) is ∙ ap (clear s m (ref m r) count) at) k.is k.low p
   to_clear r count is (Looks done all) at p lt = spared p lt _ (ap (λ j. act code s j m) is ∙ ap (clear s m (ref m r) count) at) (Leaves (λ v. refl))
   to_clear r count is stage at p lt = spared p lt _ (ap (λ j. act code s j m) is ∙ ap (clear s m (ref m r) count) at) (Leaves (λ v. refl))
 
-  to_free : (r layout site : ℕ) → i ≡ instrs.Free r layout site → (stage : Stage) → (g.threads tr.thread).own.stage ≡ stage → (p : ℕ) → p < granules s → By (freed_by s (ref (g.threads tr.thread) r) stage) p
+  to_free : (r layout site : ℕ) → i ≡ Instr.Free r layout site → (stage : Stage) → (g.threads tr.thread).own.stage ≡ stage → (p : ℕ) → p < granules s → By (freed_by s (ref (g.threads tr.thread) r) stage) p
   to_free r layout site is (FreeClears done all seen) at p lt =
       let k = free_seen r layout site done all seen is at in
       by_swap (ref m r) done seen (λ found. Rattle.sharc_code.specs.Machine.free_looks m (layout_at code layout) (done + 1) all) (ap (λ j. act code s j m) is ∙ ap (free code s m r (layout_at code layout)) at) k.is k.low p
@@ -320,14 +310,14 @@ module _ (laws : ShadowLaws) (x : Targets) (code : Code) (s : Shape) (ls : Label
   low_number : (g.threads tr.thread).own.number < THREADS
   low_number = subst (λ n. n < THREADS) (sym number) few_threads
 
-  to_withdraw : (row seen : ℕ) → i ≡ instrs.Exit → (g.threads tr.thread).own.stage ≡ WithdrawsFrom row seen → (p : ℕ) → By (withdrawn_by s (g.threads tr.thread) (result_of tr.event) (WithdrawsFrom row seen)) p
+  to_withdraw : (row seen : ℕ) → i ≡ Instr.Exit → (g.threads tr.thread).own.stage ≡ WithdrawsFrom row seen → (p : ℕ) → By (withdrawn_by s (g.threads tr.thread) (result_of tr.event) (WithdrawsFrom row seen)) p
   to_withdraw row seen is at p =
-      let h = subst (StageStands code s st.elements world st.heap g.words t m instrs.Exit) at (stage_here instrs.Exit is) in
+      let h = subst (StageStands code s st.elements world st.heap g.words t m Instr.Exit) at (stage_here Instr.Exit is) in
       let n = row_of m row in
       let low : n < granules s = subst (λ k. n < k) (st.threads t).has.notes (row_low m.own.table (st.threads t).has.table row h) in
       let q = granule_at s n in
       let q_is : q ≡ n = at_low s n low in
-      let k = at_word q (ops.Cas seen (without_own m row seen)) (withdrew m row seen) (ap (λ j. act code s j m) is ∙ ap (exit s m) at) in
+      let k = at_word q (WordOp.Cas seen (without_own m row seen)) (withdrew m row seen) (ap (λ j. act code s j m) is ∙ ap (exit s m) at) in
       elim (result_of tr.event == seen) as (λ b. (result_of tr.event == seen) ≡ b → By (if b then WithdrawOf q else Untouched) p) [
         | true ↦ λ e.
             let same : old_word q ≡ seen = sym k.found_is ∙ eqb-true (result_of tr.event) seen e in
@@ -346,61 +336,61 @@ module _ (laws : ShadowLaws) (x : Targets) (code : Code) (s : Shape) (ls : Label
       yes_is : (n v : ℕ) → (if n == n then v else n) ≡ v
       yes_is n v = let e : (n == n) ≡ true = grind (arith, nat_tests) in ap (λ b. if b then v else n) e
 
-  to_exit : i ≡ instrs.Exit → (stage : Stage) → (g.threads tr.thread).own.stage ≡ stage → (p : ℕ) → p < granules s → By (withdrawn_by s (g.threads tr.thread) (result_of tr.event) stage) p
+  to_exit : i ≡ Instr.Exit → (stage : Stage) → (g.threads tr.thread).own.stage ≡ stage → (p : ℕ) → p < granules s → By (withdrawn_by s (g.threads tr.thread) (result_of tr.event) stage) p
   to_exit is (WithdrawsFrom row seen) at p lt = to_withdraw row seen is at p
   to_exit is (Withdraws row) at p lt = spared p lt _ (ap (λ j. act code s j m) is ∙ ap (exit s m) at) (Leaves (λ v. refl))
   to_exit is Leaving at p lt = spared p lt _ (ap (λ j. act code s j m) is ∙ ap (exit s m) at) (Below (omega (arith, low_number)))
   to_exit is stage at p lt = spared p lt _ (ap (λ j. act code s j m) is ∙ ap (exit s m) at) (Below (omega (arith, low_number)))
 
   -- ---- the others
-  spawn_low : (r f site : ℕ) (from : Register) → i ≡ instrs.Spawn r f from site → (n : ℕ) → ((g.threads tr.thread).own.stage ≡ Names n → n < THREADS) × ((g.threads tr.thread).own.stage ≡ Hands n → n < THREADS) × ((g.threads tr.thread).own.stage ≡ Begins n → n < THREADS)
+  spawn_low : (r f site : ℕ) (from : Register) → i ≡ Instr.Spawn r f from site → (n : ℕ) → ((g.threads tr.thread).own.stage ≡ Names n → n < THREADS) × ((g.threads tr.thread).own.stage ≡ Hands n → n < THREADS) × ((g.threads tr.thread).own.stage ≡ Begins n → n < THREADS)
   spawn_low r f site from is n = (
-    λ e. (subst (StageStands code s st.elements world st.heap g.words t m (instrs.Spawn r f from site)) e (stage_here (instrs.Spawn r f from site) is)).few,
-    λ e. (subst (StageStands code s st.elements world st.heap g.words t m (instrs.Spawn r f from site)) e (stage_here (instrs.Spawn r f from site) is)).0.few,
-    λ e. (subst (StageStands code s st.elements world st.heap g.words t m (instrs.Spawn r f from site)) e (stage_here (instrs.Spawn r f from site) is)).0.few,
+    λ e. (subst (StageStands code s st.elements world st.heap g.words t m (Instr.Spawn r f from site)) e (stage_here (Instr.Spawn r f from site) is)).few,
+    λ e. (subst (StageStands code s st.elements world st.heap g.words t m (Instr.Spawn r f from site)) e (stage_here (Instr.Spawn r f from site) is)).0.few,
+    λ e. (subst (StageStands code s st.elements world st.heap g.words t m (Instr.Spawn r f from site)) e (stage_here (Instr.Spawn r f from site) is)).0.few,
   )
 
-  to_new : (r count cells site : ℕ) (stage : Stage) → StageStands code s st.elements world st.heap g.words tr.thread (g.threads tr.thread) (instrs.New r count cells site) stage → SparesAll s (new s (g.threads tr.thread) r (elements_of (int (g.threads tr.thread) count)) cells site stage)
+  to_new : (r count cells site : ℕ) (stage : Stage) → StageStands code s st.elements world st.heap g.words tr.thread (g.threads tr.thread) (Instr.New r count cells site) stage → SparesAll s (new s (g.threads tr.thread) r (elements_of (int (g.threads tr.thread) count)) cells site stage)
   to_new r count cells site (Makes v) h = to_stage s m r site v v.stage (ap (λ (a : NewArguments). a.first) h.0)
   to_new r count cells site _ h = let a = new_state s m (elements_of (int m count)) cells in to_first s m r site (told a 0) (a.arguments.head == 0)
 
   rest_spares : (j : Instr) → i ≡ j → is_touching j ≡ false → SparesAll s (act code s j (g.threads tr.thread))
-  rest_spares (instrs.Bounds r base count field site) is other = Leaves (λ v. refl)
-  rest_spares (instrs.ChkRead c site) is other = absurd (let e : true ≡ false = other in cc)
-  rest_spares (instrs.ChkWrite c site) is other = absurd (let e : true ≡ false = other in cc)
-  rest_spares (instrs.Load r c site) is other = Leaves (λ v. refl)
-  rest_spares (instrs.Store r c site) is other = of_cell s (place m c) _
-  rest_spares (instrs.LoadRef c site) is other = Leaves (λ v. refl)
-  rest_spares (instrs.Exchange r c site) is other = of_cell s (place m c) _
-  rest_spares (instrs.Raise r from) is other = to_raise s (ref m from) (goes (set_ref m r (ref m from)))
-  rest_spares (instrs.RaiseLoaded r) is other = to_raise s m.pending (goes (accessed (set_ref m r m.pending)))
-  rest_spares (instrs.Lower r) is other = to_lower s (ref m r) (goes (set_ref m r 0))
-  rest_spares (instrs.New r count cells site) is other = to_new r count cells site m.own.stage (stage_here (instrs.New r count cells site) is)
-  rest_spares (instrs.TakeCell r c site) is other = of_cell s (place m c) _
-  rest_spares (instrs.TakeLocal r from site) is other = to_test s (ref m from) (goes (move_ref m r from))
-  rest_spares (instrs.TestSole r site) is other = of_count s (ref m r) _
-  rest_spares (instrs.Clear r cells) is other = absurd (let e : true ≡ false = other in cc)
-  rest_spares (instrs.Give r site) is other = of_count s (ref m r) _
-  rest_spares (instrs.Free r layout site) is other = absurd (let e : true ≡ false = other in cc)
-  rest_spares (instrs.Lock c site) is other = of_cell s (place m c) _
-  rest_spares (instrs.Unlock r c site) is other = of_cell s (place m c) _
-  rest_spares (instrs.Spawn r f from site) is other = to_spawn s m r f from site m.own.stage (λ n. (spawn_low r f site from is n).0) (λ n. (spawn_low r f site from is n).1) (λ n. (spawn_low r f site from is n).2)
-  rest_spares (instrs.Join r site) is other = to_join s m (int m r) site
-  rest_spares (instrs.Print r site) is other = Below (omega arith)
-  rest_spares (instrs.Start site) is other = to_start s code m site m.own.stage
-  rest_spares instrs.Exit is other = absurd (let e : true ≡ false = other in cc)
-  rest_spares (instrs.CondEnter c site) is other = of_cell s (place m c) _
-  rest_spares (instrs.CondWait c site) is other = Leaves (λ v. refl)
-  rest_spares (instrs.CondSignal c site) is other = to_signal s m (place m c) m.own.stage
-  rest_spares (instrs.CondBroadcast c site) is other = of_cell s (place m c) _
+  rest_spares (Instr.Bounds r base count field site) is other = Leaves (λ v. refl)
+  rest_spares (Instr.ChkRead c site) is other = absurd (let e : true ≡ false = other in cc)
+  rest_spares (Instr.ChkWrite c site) is other = absurd (let e : true ≡ false = other in cc)
+  rest_spares (Instr.Load r c site) is other = Leaves (λ v. refl)
+  rest_spares (Instr.Store r c site) is other = of_cell s (place m c) _
+  rest_spares (Instr.LoadRef c site) is other = Leaves (λ v. refl)
+  rest_spares (Instr.Exchange r c site) is other = of_cell s (place m c) _
+  rest_spares (Instr.Raise r from) is other = to_raise s (ref m from) (goes (set_ref m r (ref m from)))
+  rest_spares (Instr.RaiseLoaded r) is other = to_raise s m.pending (goes (accessed (set_ref m r m.pending)))
+  rest_spares (Instr.Lower r) is other = to_lower s (ref m r) (goes (set_ref m r 0))
+  rest_spares (Instr.New r count cells site) is other = to_new r count cells site m.own.stage (stage_here (Instr.New r count cells site) is)
+  rest_spares (Instr.TakeCell r c site) is other = of_cell s (place m c) _
+  rest_spares (Instr.TakeLocal r from site) is other = to_test s (ref m from) (goes (move_ref m r from))
+  rest_spares (Instr.TestSole r site) is other = of_count s (ref m r) _
+  rest_spares (Instr.Clear r cells) is other = absurd (let e : true ≡ false = other in cc)
+  rest_spares (Instr.Give r site) is other = of_count s (ref m r) _
+  rest_spares (Instr.Free r layout site) is other = absurd (let e : true ≡ false = other in cc)
+  rest_spares (Instr.Lock c site) is other = of_cell s (place m c) _
+  rest_spares (Instr.Unlock r c site) is other = of_cell s (place m c) _
+  rest_spares (Instr.Spawn r f from site) is other = to_spawn s m r f from site m.own.stage (λ n. (spawn_low r f site from is n).0) (λ n. (spawn_low r f site from is n).1) (λ n. (spawn_low r f site from is n).2)
+  rest_spares (Instr.Join r site) is other = to_join s m (int m r) site
+  rest_spares (Instr.Print r site) is other = Below (omega arith)
+  rest_spares (Instr.Start site) is other = to_start s code m site m.own.stage
+  rest_spares Instr.Exit is other = absurd (let e : true ≡ false = other in cc)
+  rest_spares (Instr.CondEnter c site) is other = of_cell s (place m c) _
+  rest_spares (Instr.CondWait c site) is other = Leaves (λ v. refl)
+  rest_spares (Instr.CondSignal c site) is other = to_signal s m (place m c) m.own.stage
+  rest_spares (Instr.CondBroadcast c site) is other = of_cell s (place m c) _
   rest_spares _ is other = tt
 
   by_instr : (j : Instr) → i ≡ j → (p : ℕ) → p < granules s → By (touch_of s j (g.threads tr.thread) (result_of tr.event) m') p
-  by_instr (instrs.ChkRead c site) is p lt = by_check Read (granule_of (place m c)) site (may_go m'.at.state) (ap (λ j. act code s j m) is) p
-  by_instr (instrs.ChkWrite c site) is p lt = by_check Write (granule_of (place m c)) site (may_go m'.at.state) (ap (λ j. act code s j m) is) p
-  by_instr (instrs.Clear r count) is p lt = to_clear r count is m.own.stage refl p lt
-  by_instr (instrs.Free r layout site) is p lt = to_free r layout site is m.own.stage refl p lt
-  by_instr instrs.Exit is p lt = to_exit is m.own.stage refl p lt
+  by_instr (Instr.ChkRead c site) is p lt = by_check Read (granule_of (place m c)) site (may_go m'.at.state) (ap (λ j. act code s j m) is) p
+  by_instr (Instr.ChkWrite c site) is p lt = by_check Write (granule_of (place m c)) site (may_go m'.at.state) (ap (λ j. act code s j m) is) p
+  by_instr (Instr.Clear r count) is p lt = to_clear r count is m.own.stage refl p lt
+  by_instr (Instr.Free r layout site) is p lt = to_free r layout site is m.own.stage refl p lt
+  by_instr Instr.Exit is p lt = to_exit is m.own.stage refl p lt
   by_instr j is p lt = spared p lt (act code s j m) (ap (λ j. act code s j m) is) (rest_spares j is refl)
 
   pub word_by : (p : ℕ) → p < granules s → WordBy (touch_at code s g tr) tr.thread p (slice_index g.words (first_shadow + p)) (slice_index (words_now g.words tr.event) (first_shadow + p)) (wrote (g.threads tr.thread) p (slice_index g.words (first_shadow + p)))

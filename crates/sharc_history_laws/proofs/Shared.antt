@@ -1,28 +1,14 @@
 -- No access set of a run of typed code holds accesses of two threads of which one writes.
-use Rattle.std.proofs.{Common.{◌≡◌, ℕ, ◌+◌, ◌-◌, ◌*◌, ◌/◌, ◌≤◌, ◌≢◌, ◌⊎◌, inl, inr, Bool, true, false, ◌||◌, ◌&&◌, List, [], ◌∷◌, Option, Some, None, refl, sym, ap, ◌∙◌, subst, ⊎_elim, arith}, lemmas.Bool.cases_eq, lemmas.Bool.Decides.nat_tests}
-use Rattle.std.specs.Prelude.{◌==◌, slice_index, slice_index_or}
-use Rattle.sharc_tree.specs.declared.event.Act.TheVariants as acts
-use Rattle.sharc_tree.specs.{declared.event.SourceEvent.SourceEvent, declared.event.Object.Object}
-use Rattle.sharc_tree.specs.declared.event.CellMode.TheVariants as modes
-use Rattle.sharc_tree.specs.declared.event.Object.TheVariants as objects
-use Rattle.sharc_code.specs.{declared.code.Code.Code, declared.instr.Cell.Cell, declared.instr.Instr.Instr, declared.shape.Shape.Shape, declared.state.Stage.Stage, declared.state.Stage.TheVariants.{Rests, Makes, Uncounts, Links, Withdraws, WithdrawsFrom, Leaves}, Laws.RunLaws, Layout.Fits, Machine.{Machine, instr_at, ref, place, act}, Opening.opening_words, Outcomes.is_exit, Path.{turn, after, may_go}, Runs.{Turn, Global, IsRun, MayTurn, after_turn, put, state_now, result_of, opening_of}, Whole.{one_thread, bounds, place_after}, Says.{said, cell_at, place_at, speaks_of, in_exit, no_global}}
-use Rattle.sharc_code.specs.declared.instr.Cell.TheVariants as cells
-use Rattle.sharc_code.specs.declared.instr.Instr.TheVariants as instrs
-use Rattle.sharc_code.specs.declared.state.TurnState.TheVariants as states
-use Rattle.sharc_compile.specs.{Consistent.said_now, OfRuns.table_of}
-use Rattle.sharc_meaning.specs.{Events.{Access, granule_of, makes, gives, begins, is_of, access_by}, Obeys.{until_return, ends}}
-use Rattle.sharc_invariant.specs.{Granules.Passed, Types.{Targets, Field, FieldMode}, Labels.{Gate, Closed, Checked, Holds, Loaded, HoldsLoaded, Sole, Labels}, Typed.{IsWellTyped, Fine, IsNotSole}, World.{RegisterOf, ObjectState, Shut, Sole as IsSole, World, WinOk, in_ref}, Words.{lang_of, has_returned, is_withdrawing, is_ended}, History.{Closing, Without}, Objects.{changes_objects, makes_object, frees_object, objects_behind}, State.{State, Runs, IsSmall, StageStands, GateStands, StopStands, OnHold, OnExit, object_of_cell, number_in, label_now, size_of_run}, MachineInvariant.{IsOn, MachineInvariant, IsAlone, WindowStands, label_of}, Laws.{Keeps, Begins as CodeBegins, CellsAreThere, PointersAreThere, AccessesAreAllowed, StateStands}}
-use Rattle.sharc_history_laws.proofs.{Single.{single, rests_hold}, Stands.{register_is, gate, reads_ref}, Finds.is_there, Tables.{header_of, was_live}, Consists.{Consists, consists_then, objects_then, effect_then, given, at_first}, Acts.{access_said, thread_said, given_at, freed_in, freed_at, About, is_access, no_access, access_at, IsAccess as TellsAccess, access_of}, Lists.Newest, Modes.dynamic_field, Rules.{pushed, newest, newest_now, number_is, about_now, hold_access, cell_is, can_mode, freed_gone, number_yes, put_same, put_other}, Sets.{IsHere, Goes, InSet, NoConflict, Clean}, Carried.{Stands, carried}, Outcomes.{unended, withdraws_still}}
-use Rattle.sharc_lemmas.proofs.Bools.{yes}
+use Rattle.sharc_history_laws.proofs.{Imports.{◌≡◌, ℕ, ◌+◌, ◌-◌, ◌*◌, ◌/◌, ◌≤◌, ◌≢◌, ◌⊎◌, inl, inr, Bool, true, false, ◌||◌, ◌&&◌, List, [], ◌∷◌, Option, Some, None, refl, sym, ap, ◌∙◌, subst, ⊎_elim, arith, cases_eq, nat_tests, ◌==◌, slice_index, slice_index_or, Act, SourceEvent, Object, CellMode, Code, Cell, Instr, Shape, Stage, Rests, Makes, Uncounts, Links, Withdraws, WithdrawsFrom, Leaves, RunLaws, Fits, Machine, instr_at, ref, place, act, opening_words, is_exit, turn, after, may_go, Turn, Global, IsRun, MayTurn, after_turn, put, state_now, result_of, opening_of, one_thread, bounds, place_after, said, cell_at, place_at, speaks_of, in_exit, no_global, TurnState, said_now, table_of, Access, granule_in as granule_of, makes, gives, begins, is_of, access_by, until_return, ends, Passed, Targets, Field, FieldMode, Gate, Closed, Checked, Holds, Loaded, HoldsLoaded, Sole, Labels, IsWellTyped, Fine, IsNotSole, RegisterOf, ObjectState, Shut, IsSole, World, WinOk, in_ref, lang_of, has_returned, is_withdrawing, is_ended, Closing, Without, changes_objects, makes_object, frees_object, objects_behind, State, Runs, IsSmall, StageStands, GateStands, StopStands, OnHold, OnExit, object_of_cell, number_in, label_now, size_of_run, IsOn, MachineInvariant, IsAlone, WindowStands, label_of, Keeps, CodeBegins, CellsAreThere, PointersAreThere, AccessesAreAllowed, StateStands, yes}, Single.{single, rests_hold}, Stands.{register_is, gate, reads_ref}, Finds.is_there, Tables.{header_of, was_live}, Consists.{Consists, consists_then, objects_then, effect_then, given, at_first}, Acts.{access_said, thread_said, given_at, freed_in, freed_at, About, is_access, no_access, access_at, IsAccess as TellsAccess, access_of}, Lists.Newest, Modes.dynamic_field, Rules.{pushed, newest, newest_now, number_is, about_now, hold_access, cell_is, can_mode, freed_gone, number_yes, put_same, put_other}, Sets.{IsHere, Goes, InSet, NoConflict, Clean}, Carried.{Stands, carried}, Outcomes.{unended, withdraws_still}}
 
 -- ---- objects and granules as the world has them
 abbrev pub number_of : Object → ℕ
-number_of (objects.Global g) = 0
-number_of (objects.Made n) = n
+number_of (Object.Global g) = 0
+number_of (Object.Made n) = n
 
 abbrev pub index_of : Code → Object → ℕ → ℕ
-index_of code (objects.Global g) granule = granule + (slice_index_or code.globals.items g no_global).granule - 1
-index_of code (objects.Made n) granule = granule
+index_of code (Object.Global g) granule = granule + (slice_index_or code.globals.items g no_global).granule - 1
+index_of code (Object.Made n) granule = granule
 
 -- ---- gates
 pub not_sole : (s : Shape) (w : World) (t : ℕ) (m : Machine) (y : Gate) → IsNotSole y → GateStands s w t m y → (q : ℕ) → w.win t ≡ IsSole q → ⊥
@@ -71,7 +57,7 @@ module _ (state_law : StateStands) (x : Targets) (code : Code) (s : Shape) (ls :
       by (instr_at code (g.threads v).at.pc) (g.threads v).own.stage rn.stage rn.gate
     where
       by : (i : Instr) (stage : Stage) → StageStands code s st.elements world st.heap g.words v (g.threads v) i stage → GateStands s world v (g.threads v) (label_now (ls.at (g.threads v).at.pc) i stage).gate → OnHold stage
-      by (instrs.Free r layout site) (Links all) h k = absurd (let f : Shut ≡ IsSole q = sym k ∙ e in cc)
+      by (Instr.Free r layout site) (Links all) h k = absurd (let f : Shut ≡ IsSole q = sym k ∙ e in cc)
       by _ (Links all) h k = absurd h
       by _ _ h k = tt
 
@@ -172,27 +158,27 @@ module _ (state_law : StateStands) (cell_laws : CellsAreThere) (pointers : Point
     at_place : (c : Cell) (f : Field) → Rattle.sharc_invariant.specs.Typed.HasCell x code (ls.at ((place_after code s earlier).threads one.thread).at.pc) c f
         → (number_of (cell_at code ((place_after code s earlier).threads one.thread) c).object ≡ object_of_cell ((place_after code s earlier).threads one.thread) c)
         × (index_of code (cell_at code ((place_after code s earlier).threads one.thread) c).object (granule_of (cell_at code ((place_after code s earlier).threads one.thread) c)) ≡ number_in ((place_after code s earlier).threads one.thread) c / 2)
-    at_place (cells.Global q p) f c =
-        let there = is_there cell_laws x code s ls wt fits g world h.state t on hold (cells.Global q p) f c.field refl in
+    at_place (Cell.Global q p) f c =
+        let there = is_there cell_laws x code s ls wt fits g world h.state t on hold (Cell.Global q p) f c.field refl in
         let low = wt.globals.low q there.known in
         let from = there.low in
         (refl, halves p (slice_index_or code.globals.items q no_global).granule low from)
       where
         halves : (p granule : ℕ) → 1 ≤ granule → 2 * granule ≤ p → (p - 2 * granule) / 2 + granule - 1 ≡ (p - 2 * (0 + 1)) / 2
         halves p granule low from = omega arith
-    at_place (cells.GlobalAt q r) f c =
-        let there = is_there cell_laws x code s ls wt fits g world h.state t on hold (cells.GlobalAt q r) f c.field refl in
+    at_place (Cell.GlobalAt q r) f c =
+        let there = is_there cell_laws x code s ls wt fits g world h.state t on hold (Cell.GlobalAt q r) f c.field refl in
         let low = wt.globals.low q there.known in
         let from = there.low in
-        (refl, halves (place m (cells.GlobalAt q r)) (slice_index_or code.globals.items q no_global).granule low from)
+        (refl, halves (place m (Cell.GlobalAt q r)) (slice_index_or code.globals.items q no_global).granule low from)
       where
         halves : (p granule : ℕ) → 1 ≤ granule → 2 * granule ≤ p → (p - 2 * granule) / 2 + granule - 1 ≡ (p - 2 * (0 + 1)) / 2
         halves p granule low from = omega arith
-    at_place (cells.Object r p) f c = (refl, within (ref m r) p)
+    at_place (Cell.Object r p) f c = (refl, within (ref m r) p)
       where
         within : (o p : ℕ) → p / 2 ≡ (2 * (o + 1) + p - 2 * (o + 1)) / 2
         within o p = omega arith
-    at_place (cells.ObjectAt r q) f c = (refl, within (ref m r) (Rattle.sharc_code.specs.Arithmetic.word_of (Rattle.sharc_code.specs.Machine.int m q)))
+    at_place (Cell.ObjectAt r q) f c = (refl, within (ref m r) (Rattle.sharc_code.specs.Arithmetic.word_of (Rattle.sharc_code.specs.Machine.int m q)))
       where
         within : (o p : ℕ) → p / 2 ≡ (2 * (o + 1) + p - 2 * (o + 1)) / 2
         within o p = omega arith
@@ -209,7 +195,7 @@ module _ (state_law : StateStands) (cell_laws : CellsAreThere) (pointers : Point
     -- the thread has passed a check of it
     passed_now : Passed (h.world.gran (number_of o) (index_of code o granule)) one.thread write
     passed_now =
-        let mode : (access_at code m k.cell k.site k.write).mode ≡ modes.Dynamic = ap (λ (a : Access). a.mode) same_access ∙ here.dynamic in
+        let mode : (access_at code m k.cell k.site k.write).mode ≡ CellMode.Dynamic = ap (λ (a : Access). a.mode) same_access ∙ here.dynamic in
         let f = dynamic_field code m (cell_at code m k.cell) (ls.at m.at.pc) k.cell k.field.mode (place_at code k.site).mode k.accesses.mode mode in
         let p : Passed (world.gran n (number_in m k.cell / 2)) t k.write = can_mode cell_laws pointers rights laws keeps x code s ls wt fits few one earlier h may hold k FieldMode.Dynamic f in
         subst (Passed (world.gran (number_of o) (index_of code o granule)) t) write_is
@@ -220,10 +206,10 @@ module _ (state_law : StateStands) (cell_laws : CellsAreThere) (pointers : Point
 
     -- nobody has the object alone
     register_of_cell : (c : Cell) → object_of_cell ((place_after code s earlier).threads one.thread) c ≢ 0 → (r : ℕ) × (slice_index ((place_after code s earlier).threads one.thread).refs r ≡ object_of_cell ((place_after code s earlier).threads one.thread) c)
-    register_of_cell (cells.Global q p) nz = absurd (nz refl)
-    register_of_cell (cells.GlobalAt q r) nz = absurd (nz refl)
-    register_of_cell (cells.Object r p) nz = (m.at.refs + r, refl)
-    register_of_cell (cells.ObjectAt r q) nz = (m.at.refs + r, refl)
+    register_of_cell (Cell.Global q p) nz = absurd (nz refl)
+    register_of_cell (Cell.GlobalAt q r) nz = absurd (nz refl)
+    register_of_cell (Cell.Object r p) nz = (m.at.refs + r, refl)
+    register_of_cell (Cell.ObjectAt r q) nz = (m.at.refs + r, refl)
 
     not_closing : Closing h.world (number_of o) → ⊥
     not_closing c =
@@ -242,28 +228,28 @@ module _ (state_law : StateStands) (cell_laws : CellsAreThere) (pointers : Point
         ap (λ y. is_withdrawing y || is_ended m.at.state) rest ∙ going_on m.at.state may.next.runs
       where
         access_single : (j : Instr) → is_access j ≡ true → single j ≡ true
-        access_single (instrs.Load r c site) e = refl
-        access_single (instrs.Store r c site) e = refl
-        access_single (instrs.LoadRef c site) e = refl
-        access_single (instrs.Exchange r c site) e = refl
-        access_single (instrs.TakeCell r c site) e = refl
+        access_single (Instr.Load r c site) e = refl
+        access_single (Instr.Store r c site) e = refl
+        access_single (Instr.LoadRef c site) e = refl
+        access_single (Instr.Exchange r c site) e = refl
+        access_single (Instr.TakeCell r c site) e = refl
         access_single _ e = absurd (cc)
 
         going_on : (y : _) → may_go y ≡ true → is_ended y ≡ false
-        going_on states.Runs e = refl
-        going_on states.Tries e = refl
-        going_on states.Stopped e = refl
-        going_on states.Ended e = absurd (cc)
+        going_on TurnState.Runs e = refl
+        going_on TurnState.Tries e = refl
+        going_on TurnState.Stopped e = refl
+        going_on TurnState.Ended e = absurd (cc)
 
     not_changing : changes_objects i ((place_after code s earlier).threads one.thread) ≡ true → ⊥
     not_changing e = by i access e
       where
         by : (j : Instr) → is_access j ≡ true → changes_objects j ((place_after code s earlier).threads one.thread) ≡ true → ⊥
-        by (instrs.Load r c site) a e = cc
-        by (instrs.Store r c site) a e = cc
-        by (instrs.LoadRef c site) a e = cc
-        by (instrs.Exchange r c site) a e = cc
-        by (instrs.TakeCell r c site) a e = cc
+        by (Instr.Load r c site) a e = cc
+        by (Instr.Store r c site) a e = cc
+        by (Instr.LoadRef c site) a e = cc
+        by (Instr.Exchange r c site) a e = cc
+        by (Instr.TakeCell r c site) a e = cc
         by _ a e = cc
 
     -- what it passed stands after the turn
@@ -276,8 +262,8 @@ module _ (state_law : StateStands) (cell_laws : CellsAreThere) (pointers : Point
   -- a turn that gives an object begins it
   pub unless_given : (o : Object) → ((e : SourceEvent) → event ≡ Some e → begins o e ≡ false) → (r : ℕ) → changes_objects i ((place_after code s earlier).threads one.thread) ≡ true → h.world.win one.thread ≡ IsSole r → (then_.world.obj (number_of o)).live ≡ true
       → number_of o ≡ in_ref h.world (RegisterOf one.thread r) → ⊥
-  unless_given (objects.Global q) none r c win live e = (subst (WinOk (lang_of x) world t) win (h.state.inv.wins t)).0 (sym e)
-  unless_given (objects.Made n) none r c win live e = by i refl c
+  unless_given (Object.Global q) none r c win live e = (subst (WinOk (lang_of x) world t) win (h.state.inv.wins t)).0 (sym e)
+  unless_given (Object.Made n) none r c win live e = by i refl c
     where
       at_gate : (j : Instr) → i ≡ j → (q : ℕ) (cleared : Bool) → (hold : OnHold ((place_after code s earlier).threads one.thread).own.stage) → (ls.at ((place_after code s earlier).threads one.thread).at.pc).gate ≡ Sole q cleared → n ≡ ref ((place_after code s earlier).threads one.thread) q
       at_gate j is q cleared hold gt =
@@ -285,11 +271,11 @@ module _ (state_law : StateStands) (cell_laws : CellsAreThere) (pointers : Point
           let same : r ≡ m.at.refs + q = let f : IsSole r ≡ IsSole (m.at.refs + q) = sym win ∙ w in cc in
           e ∙ ap (λ r. in_ref world (RegisterOf t r)) same ∙ sym (reads_ref x code s ls wt fits g world h.state t on hold q)
 
-      gives_it : (ev : Option SourceEvent) → Tells ev → given_at i ((place_after code s earlier).threads one.thread) ≡ Some n → ((e : SourceEvent) → ev ≡ Some e → begins (objects.Made n) e ≡ false) → ⊥
+      gives_it : (ev : Option SourceEvent) → Tells ev → given_at i ((place_after code s earlier).threads one.thread) ≡ Some n → ((e : SourceEvent) → ev ≡ Some e → begins (Object.Made n) e ≡ false) → ⊥
       gives_it None about is none = let f : None ≡ Some n = about.gives ∙ is in cc
       gives_it (Some e) about is none =
-          let a : gives (objects.Made n) e ≡ true = ap (Rattle.sharc_meaning.specs.Events.is_number n) (about.gives ∙ is) ∙ number_yes n in
-          yes (sym (or_right (makes (objects.Made n) e) (gives (objects.Made n) e) a) ∙ none e refl)
+          let a : gives (Object.Made n) e ≡ true = ap (Rattle.sharc_meaning.specs.Events.is_number n) (about.gives ∙ is) ∙ number_yes n in
+          yes (sym (or_right (makes (Object.Made n) e) (gives (Object.Made n) e) a) ∙ none e refl)
         where
           or_right : (a b : Bool) → b ≡ true → (a || b) ≡ true
           or_right true b e = refl
@@ -308,20 +294,20 @@ module _ (state_law : StateStands) (cell_laws : CellsAreThere) (pointers : Point
       new_hold _ e = absurd (cc)
 
       by : (j : Instr) → i ≡ j → changes_objects j ((place_after code s earlier).threads one.thread) ≡ true → ⊥
-      by (instrs.New q count cells site) is change =
+      by (Instr.New q count cells site) is change =
           let hold = new_hold m.own.stage change in
-          let f = fine (instrs.New q count cells site) is in
+          let f = fine (Instr.New q count cells site) is in
           let shut : world.win t ≡ Shut = subst (GateStands s world t m) f.0 (gate_at hold) in
           let z : Shut ≡ IsSole r = sym shut ∙ win in cc
-      by (instrs.Give q site) is change =
-          let f = fine (instrs.Give q site) is in
-          let hold = rests_hold code s h.state.elements world h.state.heap g.words t m (instrs.Give q site) m.own.stage refl (subst (λ j. StageStands code s h.state.elements world h.state.heap g.words t m j m.own.stage) is rn.stage) in
-          let same = at_gate (instrs.Give q site) is q true hold f.0 in
+      by (Instr.Give q site) is change =
+          let f = fine (Instr.Give q site) is in
+          let hold = rests_hold code s h.state.elements world h.state.heap g.words t m (Instr.Give q site) m.own.stage refl (subst (λ j. StageStands code s h.state.elements world h.state.heap g.words t m j m.own.stage) is rn.stage) in
+          let same = at_gate (Instr.Give q site) is q true hold f.0 in
           gives_it event tells (ap (λ j. given_at j m) is ∙ ap (λ k. Some k) (sym same)) none
-      by (instrs.Free q layout site) is change =
-          let f = fine (instrs.Free q layout site) is in
+      by (Instr.Free q layout site) is change =
+          let f = fine (Instr.Free q layout site) is in
           let hold = free_hold m.own.stage change in
-          let same = at_gate (instrs.Free q layout site) is q f.0.0 hold f.0.1 in
+          let same = at_gate (Instr.Free q layout site) is q f.0.0 hold f.0.1 in
           let freed : freed_at i m ≡ Some n = ap (λ j. freed_at j m) is ∙ free_at m.own.stage (ref m q) change ∙ ap (λ k. Some k) (sym same) in
           let m' = (after_turn bounds (one_thread code s) g one).threads t in
           let dead = freed_gone ls t m m' world.obj n i freed in
@@ -330,8 +316,8 @@ module _ (state_law : StateStands) (cell_laws : CellsAreThere) (pointers : Point
       by _ is change = absurd (cc)
 
   pub unless_made : (o : Object) → ((e : SourceEvent) → event ≡ Some e → begins o e ≡ false) → changes_objects i ((place_after code s earlier).threads one.thread) ≡ true → (h.world.obj (number_of o)).live ≡ false → (then_.world.obj (number_of o)).live ≡ true → ⊥
-  unless_made (objects.Global q) none c dead live = let a : (world.obj 0).live ≡ true = ap (λ (y : ObjectState). y.live) h.state.globals in yes (sym a ∙ dead)
-  unless_made (objects.Made n) none c dead live =
+  unless_made (Object.Global q) none c dead live = let a : (world.obj 0).live ≡ true = ap (λ (y : ObjectState). y.live) h.state.globals in yes (sym a ∙ dead)
+  unless_made (Object.Made n) none c dead live =
       let m' = (after_turn bounds (one_thread code s) g one).threads t in
       let live' : (objects_behind ls t i m m' world.obj n).live ≡ true = ap (λ (f : ℕ → ObjectState). (f n).live) (sym (objects_then laws keeps cell_laws pointers x code s ls wt fits few one earlier h may)) ∙ live in
       ⊎_elim
@@ -339,11 +325,11 @@ module _ (state_law : StateStands) (cell_laws : CellsAreThere) (pointers : Point
       (λ (made : header_of i m.own.stage ≡ Some n). makes_it event tells made none)
       (was_live ls t m m' world.obj n i (λ r site e. given laws keeps cell_laws pointers x code s ls wt fits few one earlier h may r site e) live')
     where
-      makes_it : (ev : Option SourceEvent) → Tells ev → header_of i ((place_after code s earlier).threads one.thread).own.stage ≡ Some n → ((e : SourceEvent) → ev ≡ Some e → begins (objects.Made n) e ≡ false) → ⊥
+      makes_it : (ev : Option SourceEvent) → Tells ev → header_of i ((place_after code s earlier).threads one.thread).own.stage ≡ Some n → ((e : SourceEvent) → ev ≡ Some e → begins (Object.Made n) e ≡ false) → ⊥
       makes_it None about is none = let f : None ≡ Some n = about.makes ∙ is in cc
       makes_it (Some e) about is none =
-          let a : makes (objects.Made n) e ≡ true = ap (Rattle.sharc_meaning.specs.Events.is_number n) (about.makes ∙ is) ∙ number_yes n in
-          yes (sym (or_left (makes (objects.Made n) e) (gives (objects.Made n) e) a) ∙ none e refl)
+          let a : makes (Object.Made n) e ≡ true = ap (Rattle.sharc_meaning.specs.Events.is_number n) (about.makes ∙ is) ∙ number_yes n in
+          yes (sym (or_left (makes (Object.Made n) e) (gives (Object.Made n) e) a) ∙ none e refl)
         where
           or_left : (a b : Bool) → a ≡ true → (a || b) ≡ true
           or_left true b e = refl
@@ -418,14 +404,14 @@ module _ (state_law : StateStands) (cell_laws : CellsAreThere) (pointers : Point
     x' = after (turn code s ((place_after code s earlier).threads one.thread)) found
 
     -- a turn of Exit that says that the thread returns, or one of a thread that has
-    own_returned : has_returned (after (turn code s ((place_after code s earlier).threads one.thread)) found) ≡ true → (has_returned ((place_after code s earlier).threads one.thread) ≡ true × (access_said event ≡ None)) ⊎ ((d : SourceEvent) × (event ≡ Some d) × (d.act ≡ acts.Return))
-    own_returned is = elim (is_exit i) as (λ b. is_exit i ≡ b → (has_returned m ≡ true × (access_said event ≡ None)) ⊎ ((d : SourceEvent) × (event ≡ Some d) × (d.act ≡ acts.Return))) [
+    own_returned : has_returned (after (turn code s ((place_after code s earlier).threads one.thread)) found) ≡ true → (has_returned ((place_after code s earlier).threads one.thread) ≡ true × (access_said event ≡ None)) ⊎ ((d : SourceEvent) × (event ≡ Some d) × (d.act ≡ Act.Return))
+    own_returned is = elim (is_exit i) as (λ b. is_exit i ≡ b → (has_returned m ≡ true × (access_said event ≡ None)) ⊎ ((d : SourceEvent) × (event ≡ Some d) × (d.act ≡ Act.Return))) [
       | true ↦ λ yes_. at_exit (exit_is i yes_) m.own.stage refl
       | false ↦ λ never. absurd (not_exit never)
     ] refl
       where
-        exit_is : (j : Instr) → is_exit j ≡ true → j ≡ instrs.Exit
-        exit_is instrs.Exit e = refl
+        exit_is : (j : Instr) → is_exit j ≡ true → j ≡ Instr.Exit
+        exit_is Instr.Exit e = refl
         exit_is _ e = absurd (cc)
 
         not_exit : is_exit i ≡ false → ⊥
@@ -439,7 +425,7 @@ module _ (state_law : StateStands) (cell_laws : CellsAreThere) (pointers : Point
             parts false b e f = absurd (let z : true ≡ false = sym e ∙ f in cc)
 
             exit_of : (P : Type 0) (j : Instr) → OnExit P j → is_exit j ≡ true
-            exit_of P instrs.Exit z = refl
+            exit_of P Instr.Exit z = refl
             exit_of P _ z = absurd z
 
             no_exit : (j : Instr) → is_exit j ≡ false → (stage : Stage) → is_withdrawing stage ≡ true → StageStands code s h.state.elements h.world h.state.heap (place_after code s earlier).words one.thread ((place_after code s earlier).threads one.thread) j stage → ⊥
@@ -448,19 +434,19 @@ module _ (state_law : StateStands) (cell_laws : CellsAreThere) (pointers : Point
             no_exit j n Leaves w z = yes (sym (exit_of _ j z) ∙ n)
             no_exit j n _ w z = absurd (cc)
 
-        event_at : i ≡ instrs.Exit → (stage : Stage) → ((place_after code s earlier).threads one.thread).own.stage ≡ stage → event ≡ in_exit code ((place_after code s earlier).threads one.thread) stage
+        event_at : i ≡ Instr.Exit → (stage : Stage) → ((place_after code s earlier).threads one.thread).own.stage ≡ stage → event ≡ in_exit code ((place_after code s earlier).threads one.thread) stage
         event_at is stage e = ap (λ j. said code j m found elements) is ∙ ap (in_exit code m) e
 
         back : (stage : Stage) → ((place_after code s earlier).threads one.thread).own.stage ≡ stage → is_withdrawing stage ≡ true → has_returned ((place_after code s earlier).threads one.thread) ≡ true
         back stage e w = ap (λ b. b || is_ended m.at.state) (ap is_withdrawing e ∙ w)
 
-        at_exit : i ≡ instrs.Exit → (stage : Stage) → ((place_after code s earlier).threads one.thread).own.stage ≡ stage → (has_returned ((place_after code s earlier).threads one.thread) ≡ true × (access_said event ≡ None)) ⊎ ((d : SourceEvent) × (event ≡ Some d) × (d.act ≡ acts.Return))
+        at_exit : i ≡ Instr.Exit → (stage : Stage) → ((place_after code s earlier).threads one.thread).own.stage ≡ stage → (has_returned ((place_after code s earlier).threads one.thread) ≡ true × (access_said event ≡ None)) ⊎ ((d : SourceEvent) × (event ≡ Some d) × (d.act ≡ Act.Return))
         at_exit is (Withdraws row) e = inl (back (Withdraws row) e refl, ap access_said (event_at is (Withdraws row) e))
         at_exit is (WithdrawsFrom row seen) e = inl (back (WithdrawsFrom row seen) e refl, ap access_said (event_at is (WithdrawsFrom row seen) e))
         at_exit is Leaves e = inl (back Leaves e refl, ap access_said (event_at is Leaves e))
         at_exit is _ e = inr (_, event_at is _ e, refl)
 
-    goes_not : (d : SourceEvent) → event ≡ Some d → d.act ≡ acts.Return → Goes d one.thread → ⊥
+    goes_not : (d : SourceEvent) → event ≡ Some d → d.act ≡ Act.Return → Goes d one.thread → ⊥
     goes_not d e act goes =
         let thread : d.thread ≡ t = ap (thread_said m.own.number) (sym e) ∙ tells.thread ∙ number_is cell_laws pointers rights laws keeps x code s ls wt fits few one earlier h may in
         let a : is_of t d ≡ true = ap (λ n. n == t) thread ∙ (let q : (t == t) ≡ true = grind (arith, nat_tests) in q) in
@@ -469,18 +455,18 @@ module _ (state_law : StateStands) (cell_laws : CellsAreThere) (pointers : Point
     own_none : (ev : Option SourceEvent) → event ≡ ev → has_returned (after (turn code s ((place_after code s earlier).threads one.thread)) found) ≡ true → (o : Object) (granule : ℕ) (write : Bool) → InSet (pushed ev L) o granule one.thread write → ⊥
     own_none None e is o granule write member = ⊎_elim
         (λ z. returned t z.0 o granule write member)
-        (λ (z : (d : SourceEvent) × (event ≡ Some d) × (d.act ≡ acts.Return)). let f : None ≡ Some z.0 = sym e ∙ z.1 in cc)
+        (λ (z : (d : SourceEvent) × (event ≡ Some d) × (d.act ≡ Act.Return)). let f : None ≡ Some z.0 = sym e ∙ z.1 in cc)
         (own_returned is)
     own_none (Some d) e is o granule write member = ⊎_elim
         (λ (here : IsHere d o granule t write). ⊎_elim
         (λ z. let f : None ≡ Some here.access = sym z.1 ∙ ap access_said e ∙ here.is in cc)
-        (λ (z : (d : SourceEvent) × (event ≡ Some d) × (d.act ≡ acts.Return)).
+        (λ (z : (d : SourceEvent) × (event ≡ Some d) × (d.act ≡ Act.Return)).
         let same : z.0 ≡ d = let f : Some z.0 ≡ Some d = sym z.1 ∙ e in cc in
         let f : None ≡ Some here.access = sym (ap access_by (ap (λ (d : SourceEvent). d.act) (sym same) ∙ z.2)) ∙ here.is in cc)
         (own_returned is))
         (λ (old : (begins o d ≡ false) × Goes d t × InSet L o granule t write). ⊎_elim
         (λ z. returned t z.0 o granule write old.2)
-        (λ (z : (d : SourceEvent) × (event ≡ Some d) × (d.act ≡ acts.Return)). goes_not z.0 z.1 z.2 (let same : d ≡ z.0 = let f : Some d ≡ Some z.0 = sym e ∙ z.1 in cc in subst (λ d. Goes d t) same old.1))
+        (λ (z : (d : SourceEvent) × (event ≡ Some d) × (d.act ≡ Act.Return)). goes_not z.0 z.1 z.2 (let same : d ≡ z.0 = let f : Some d ≡ Some z.0 = sym e ∙ z.1 in cc in subst (λ d. Goes d t) same old.1))
         (own_returned is))
         member
 

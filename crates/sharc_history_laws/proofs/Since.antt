@@ -1,9 +1,5 @@
 -- Accesses of a cell since its object was made or given, by a history with its newest event first.
-use Rattle.std.proofs.Common.{◌≡◌, false, ◌||◌, [], ◌∷◌, ◌++◌, reverse, refl, sym, ap, ◌∙◌, subst, ◌⊎◌, inl, inr}
-use Rattle.std.specs.List.{list_any}
-use Rattle.sharc_tree.specs.{declared.event.SourceEvent.SourceEvent, declared.event.CellAt.CellAt, declared.event.CellMode.CellMode}
-use Rattle.sharc_meaning.specs.{Events.{Access, begins, frees}, Obeys.{History, IsAccess, UnderOneMode}}
-use Rattle.sharc_history_laws.proofs.{Lists.{Newest, EachAccess, Split, Last, Earlier, split}, Sets.any_append}
+use Rattle.sharc_history_laws.proofs.{Imports.{◌≡◌, false, ◌||◌, [], ◌∷◌, ◌++◌, reverse, refl, sym, ap, ◌∙◌, subst, ◌⊎◌, inl, inr, list_any, SourceEvent, CellAt, CellMode, Access, begins, frees, History, IsAccess, UnderOneMode}, Lists.{Newest, EachAccess, Split, Last, Earlier, split}, Sets.any_append}
 
 pub record IsTo (e : SourceEvent) (c : CellAt) (mode : CellMode) : Type 0 where
   pub access : Access

@@ -1,46 +1,43 @@
 -- Instructions of one turn: a thread that stands at one is in the middle of nothing.
-use Rattle.std.proofs.Common.{◌≡◌, ℕ, Bool, true, false, List, refl, sym, subst}
-use Rattle.sharc_code.specs.{declared.code.Code.Code, declared.instr.Instr.Instr, declared.instr.Register.Register, declared.shape.Shape.Shape, declared.state.Stage.Stage, declared.state.Stage.TheVariants.{Rests, Looks, Clears, Makes, Empties, Lowers, FreeLooks, FreeClears, Uncounts, Links, Names, Hands, Begins, Enters, Withdraws, WithdrawsFrom, Leaves, Wakes}, Machine.Machine}
-use Rattle.sharc_code.specs.declared.instr.Instr.TheVariants as instrs
-use Rattle.sharc_invariant.specs.{World.World, Blocks.Heap, State.{StageStands, OnClear, OnNew, OnFree, OnSpawn, OnStart, OnExit, OnSignal, OnHold}}
+use Rattle.sharc_history_laws.proofs.Imports.{◌≡◌, ℕ, Bool, true, false, List, refl, sym, subst, Code, Instr, Register, Shape, Stage, Rests, Looks, Clears, Makes, Empties, Lowers, FreeLooks, FreeClears, Uncounts, Links, Names, Hands, Begins, Enters, Withdraws, WithdrawsFrom, Leaves, Wakes, Machine, World, Heap, StageStands, OnClear, OnNew, OnFree, OnSpawn, OnStart, OnExit, OnSignal, OnHold}
 
 -- ---- instructions of one turn
 abbrev pub single : Instr → Bool
-single (instrs.Clear r n) = false
-single (instrs.New r c n site) = false
-single (instrs.Free r l site) = false
-single (instrs.Spawn r f from site) = false
-single (instrs.Start site) = false
-single instrs.Exit = false
-single (instrs.CondSignal c site) = false
+single (Instr.Clear r n) = false
+single (Instr.New r c n site) = false
+single (Instr.Free r l site) = false
+single (Instr.Spawn r f from site) = false
+single (Instr.Start site) = false
+single Instr.Exit = false
+single (Instr.CondSignal c site) = false
 single _ = true
 
 no_clear : (P : ℕ → ℕ → Type 0) (i : Instr) → single i ≡ true → OnClear P i → ⊥
-no_clear P (instrs.Clear r n) e h = absurd (cc)
+no_clear P (Instr.Clear r n) e h = absurd (cc)
 no_clear P _ e h = h
 
 no_new : (P : ℕ → ℕ → ℕ → Type 0) (i : Instr) → single i ≡ true → OnNew P i → ⊥
-no_new P (instrs.New r c n site) e h = absurd (cc)
+no_new P (Instr.New r c n site) e h = absurd (cc)
 no_new P _ e h = h
 
 no_free : (P : ℕ → ℕ → Type 0) (i : Instr) → single i ≡ true → OnFree P i → ⊥
-no_free P (instrs.Free r l site) e h = absurd (cc)
+no_free P (Instr.Free r l site) e h = absurd (cc)
 no_free P _ e h = h
 
 no_spawn : (P : ℕ → Register → Type 0) (i : Instr) → single i ≡ true → OnSpawn P i → ⊥
-no_spawn P (instrs.Spawn r f from site) e h = absurd (cc)
+no_spawn P (Instr.Spawn r f from site) e h = absurd (cc)
 no_spawn P _ e h = h
 
 no_start : (P : Type 0) (i : Instr) → single i ≡ true → OnStart P i → ⊥
-no_start P (instrs.Start site) e h = absurd (cc)
+no_start P (Instr.Start site) e h = absurd (cc)
 no_start P _ e h = h
 
 no_exit : (P : Type 0) (i : Instr) → single i ≡ true → OnExit P i → ⊥
-no_exit P instrs.Exit e h = absurd (cc)
+no_exit P Instr.Exit e h = absurd (cc)
 no_exit P _ e h = h
 
 no_signal : (i : Instr) → single i ≡ true → OnSignal i → ⊥
-no_signal (instrs.CondSignal c site) e h = absurd (cc)
+no_signal (Instr.CondSignal c site) e h = absurd (cc)
 no_signal _ e h = h
 
 pub single_rests : (code : Code) (s : Shape) (elements : ℕ → ℕ) (w : World) (heap : Heap) (words : List ℕ) (t : ℕ) (m : Machine) (i : Instr) (stage : Stage) → single i ≡ true → StageStands code s elements w heap words t m i stage → stage ≡ Rests

@@ -1,14 +1,5 @@
 -- A thread that stopped at a test of a sole reference found the number of references to its object, of which there is another one.
-use Rattle.std.proofs.{Common.{◌≡◌, ℕ, zero, suc, ◌+◌, ◌*◌, ◌<◌, ◌≤◌, ◌⊎◌, inl, inr, true, false, List, [], ◌∷◌, Option, Some, None, is_some, if◌then◌else◌, refl, sym, ap, ◌∙◌, subst, ⊎_elim, arith, eqb-true}, lemmas.Bool.cases_eq}
-use Rattle.std.specs.Prelude.{nat_eq, slice_index}
-use Rattle.sharc_word.specs.declared.step.TheConstants.{THREADS}
-use Rattle.sharc_heap.specs.{Count.test_of}
-use Rattle.sharc_code.specs.{declared.state.TheConstants.FRAMES, declared.code.Code.Code, declared.shape.Shape.Shape, declared.state.Stop.Stop, declared.state.Stop.TheVariants.NotSole, Layout.{Fits, granules, words_of, count_word}, Machine.{Machine, instr_at, act, ref}, Opening.opening_words, Outcomes.{TurnsComeOut, MayStop}, Path.{turn, after, may_go, most_refs, asked_by}, Runs.{Turn, Global, IsRun, MayTurn, after_turn, put, state_now, result_of, opening_of}, Whole.{one_thread, bounds, place_after}}
-use Rattle.sharc_code.specs.declared.instr.Instr.TheVariants as instrs
-use Rattle.sharc_invariant.specs.{Granules.{one, sum_to}, Types.Targets, Labels.Labels, Typed.{IsWellTyped, Fine}, World.ObjectState, Words.argument_of, State.{IsSmall, StageStands}, Opened.{first_world, first_place}, Objects.objects_after, MachineInvariant.{register_refers, log_refers, hand_refers, cell_refers, references_to}, Reports.{RunsTest, TestStands}}
-use Rattle.sharc_history_laws.specs.Reports.{OtherReference, InRegister, InArgument, InLog, InHand, InCell, FindsOthers}
-use Rattle.sharc_history_laws.proofs.{Consists.{Consists, found_is}, Outcomes.reports, Rules.{put_same, put_other}, Single.rests_hold, Stands.known_ref}
-use Rattle.sharc_lemmas.proofs.Bools.{yes}
+use Rattle.sharc_history_laws.proofs.{Imports.{◌≡◌, ℕ, zero, suc, ◌+◌, ◌*◌, ◌<◌, ◌≤◌, ◌⊎◌, inl, inr, true, false, List, [], ◌∷◌, Option, Some, None, is_some, if◌then◌else◌, refl, sym, ap, ◌∙◌, subst, ⊎_elim, arith, eqb-true, cases_eq, nat_eq, slice_index, THREADS, test_of, FRAMES, Code, Shape, Stop, NotSole, Fits, granules, words_of, count_word, Machine, instr_at, act, ref, opening_words, TurnsComeOut, MayStop, turn, after, may_go, most_refs, asked_by, Turn, Global, IsRun, MayTurn, after_turn, put, state_now, result_of, opening_of, one_thread, bounds, place_after, Instr, one, sum_to, Targets, Labels, IsWellTyped, Fine, ObjectState, argument_of, IsSmall, StageStands, first_world, first_place, objects_after, register_refers, log_refers, hand_refers, cell_refers, references_to, RunsTest, TestStands, OtherReference, InRegister, InArgument, InLog, InHand, InCell, FindsOthers, yes}, Consists.{Consists, found_is}, Outcomes.reports, Rules.{put_same, put_other}, Single.rests_hold, Stands.known_ref}
 
 -- ---- sums
 some_of : (n : ℕ) (f : ℕ → ℕ) → ((i : ℕ) × (i < n) × (1 ≤ f i)) ⊎ (sum_to n f ≡ 0)
@@ -169,7 +160,7 @@ module _ (outs : TurnsComeOut) (tests : RunsTest) (x : Targets) (code : Code) (s
     some =
         let h = each earlier run.0 in
         let rn = (h.state.threads one.thread).runs may.started may.next.runs in
-        let test = instrs.TestSole stop.0 site in
+        let test = Instr.TestSole stop.0 site in
         let stands = subst (λ i. StageStands code s h.state.elements h.world h.state.heap g.words one.thread m i m.own.stage) stop.1 rn.stage in
         let hold = rests_hold code s h.state.elements h.world h.state.heap g.words one.thread m test m.own.stage refl stands in
         let fine = subst (Fine x code ls m.at.pc (ls.at m.at.pc)) stop.1 (wt.fine m.at.pc) in

@@ -1,15 +1,6 @@
 -- What each turn is to the state words and to the number of the next thread, and what it makes of the number that a Spawn has drawn.
-use Rattle.std.proofs.{Common.{◌≡◌, ℕ, ℤ, pos, negsuc, zero, suc, ◌+◌, ◌*◌, ◌<◌, ◌≤◌, min, Bool, true, false, not, ◌&&◌, ◌||◌, ◌==◌, nat_lt, length, is_some, Option, Some, None, if◌then◌else◌, refl, sym, ap, ◌∙◌, arith}, lemmas.Bool.Decides.Decides-ltb}
-use Rattle.std.specs.Prelude.{Result, Ok, Err}
-use Rattle.sharc_tree.specs.declared.trap.Trap.{Trap}
-use Rattle.sharc_tree.specs.declared.trap.Trap.TheVariants as traps
-use Rattle.sharc_word.specs.{declared.step.TheConstants.THREADS, declared.step.WordOp.WordOp, declared.step.WordStep.WordStep, Words.word_after}
-use Rattle.sharc_word.specs.declared.step.WordOp.TheVariants as ops
-use Rattle.sharc_locks.specs.Waiters.{waits_in}
-use Rattle.sharc_heap.specs.{declared.shadow_word.Kind.Kind, declared.shadow_word.Kind.TheVariants.{Read, Write}, Accesses.{note_of, site_at}, ShadowWord.epoch_of, Functions.{conflicts_in, noted}, State.{NewView, told, turn_of}, Asks.word_number, Stages.turn_of_stage, declared.arguments.NewArguments.NewArguments, declared.stage.NewStage.NewStage, declared.stage.NewTurn.NewTurn, declared.stage.NewTurn.TheVariants.{Do, Made, HeapFull}}
-use Rattle.sharc_heap.specs.declared.stage.NewStage.TheVariants as news
-use Rattle.sharc_code.specs.{declared.code.Code.Code, declared.code.Layout.Layout, declared.code.Parameter.Parameter, declared.instr.Cell.Cell, declared.instr.Register.Register, declared.instr.Width.TheVariants.{Int, Long}, declared.instr.Instr.Instr, declared.instr.Instr.TheVariants.{ComputeInt, ComputeLong, NegateInt, NegateLong, ChkWidth, JumpIfZero, JumpIfNull, Call, Return, ChkNull, ChkHeld, ChkNotHeld, ChkPositive, ChkRoom, ChkLock, ChkLockLoaded, Bounds, GlobalBounds, ChkRead, ChkWrite, Load, Store, LoadRef, Exchange, Raise, RaiseLoaded, Lower, New, TakeCell, TakeLocal, TestSole, Clear, Give, Free, Lock, Unlock, Spawn, Join, Print, Start, Exit, CondEnter, CondWait, CondSignal, CondBroadcast}, declared.shape.Shape.Shape, declared.state.TurnState.TurnState, declared.state.TurnState.TheVariants.{Runs, Tries, Stopped, Ended}, declared.state.Stage.Stage, declared.state.Stage.TheVariants.{Rests, Looks, Clears, Makes, Empties, Lowers, FreeLooks, FreeClears, Uncounts, Links, Names, Hands, Begins, Enters, Withdraws, WithdrawsFrom, Leaves, Wakes}, Arithmetic.{computed, negated, is_zero, holds}, Layout.{granule_at, granule_of, words_of, cell_of, cell_word, shadow_word, count_word, first_cell, first_shadow, state_word, next_thread_word}, Machine.{Machine, Own, Turn, act, int, ref, goes, goes_to, asserts, with_result, has_room, called, returned, holds_none, is_of_null, is_held, indexed, wrote, with_note, checked, lock_checked, raise, lower, test, tested, after_new, asks_new, new, new_state, elements_of, looks, clear, data_granules, free_looks, empties, emptied, free, layout_at, spawn, with_parameter, entered, start, function_of, withdraws, exit, wakes, signal, is_positive, fields, largest, at_stage, place, set_ref, accessed, move_ref, numbered, trapped, locked, joined, join, woken, word, Local, Asks, step_of, instr_at}, Path.{after, turn, asked_by, counted}, Stages.{IsStageOf, drawn_of}}
-use Rattle.sharc_code.specs.declared.code.Parameter.TheVariants as parameters
+use Rattle.sharc_history_laws.proofs.Imports.{◌≡◌, ℕ, ℤ, pos, negsuc, zero, suc, ◌+◌, ◌*◌, ◌<◌, ◌≤◌, min, Bool, true, false, not, ◌&&◌, ◌||◌, ◌==◌, nat_lt, length, is_some, Option, Some, None, if◌then◌else◌, refl, sym, ap, ◌∙◌, arith, Decides-ltb, Result, Ok, Err, Trap, THREADS, WordOp, WordStep, word_after, waits_in, Kind, Read, Write, note_of, site_at, epoch_of, conflicts_in, noted, NewView, told, turn_of, word_number, turn_of_stage, NewArguments, NewStage, NewTurn, Do, Made, HeapFull, Code, Layout, Parameter, Cell, Register, Int, Long, Instr, ComputeInt, ComputeLong, NegateInt, NegateLong, ChkWidth, JumpIfZero, JumpIfNull, Call, Return, ChkNull, ChkHeld, ChkNotHeld, ChkPositive, ChkRoom, ChkLock, ChkLockLoaded, Bounds, GlobalBounds, ChkRead, ChkWrite, Load, Store, LoadRef, Exchange, Raise, RaiseLoaded, Lower, New, TakeCell, TakeLocal, TestSole, Clear, Give, Free, Unlock, Spawn, Join, Print, Start, Exit, CondEnter, CondWait, CondSignal, CondBroadcast, Shape, TurnState, Tries, Stopped, Ended, Stage, Rests, Looks, Clears, Makes, Empties, Lowers, FreeLooks, FreeClears, Uncounts, Links, Names, Hands, Begins, Enters, Withdraws, WithdrawsFrom, Leaves, Wakes, computed, negated, is_zero, holds, granule_at, granule_of, words_of, cell_of, cell_word, shadow_word, count_word, first_cell, first_shadow, state_word, next_thread_word, Machine, Own, StepTurn as Turn, act, int, ref, goes, goes_to, asserts, with_result, has_room, called, returned, holds_none, is_of_null, is_held, indexed, wrote, with_note, checked, lock_checked, raise, lower, test, tested, after_new, asks_new, new, new_state, elements_of, looks, clear, data_granules, free_looks, empties, emptied, free, layout_at, spawn, with_parameter, entered, start, function_of, withdraws, exit, wakes, signal, is_positive, fields, largest, at_stage, place, set_ref, accessed, move_ref, numbered, trapped, locked, joined, join, woken, word, Local, Asks, step_of, instr_at, after, turn, asked_by, counted, IsStageOf, drawn_of}
+use Rattle.sharc_code.specs.{declared.instr.Instr.TheVariants.Lock, declared.state.TurnState.TheVariants.Runs}
 
 abbrev pub is_ended : TurnState → Bool
 is_ended Runs = false
@@ -34,7 +25,7 @@ Elsewhere (Some step) = LeavesThem step
 apart : (word : ℕ) (op : WordOp) → IsOther word → LeavesThem (step_of word op)
 apart word op h = record { next = λ e. absurd (h.next e); states = λ t low e. absurd (h.states t low e) }
 
-loads : (word : ℕ) → LeavesThem (step_of word ops.Load)
+loads : (word : ℕ) → LeavesThem (step_of word WordOp.Load)
 loads word = record { next = λ e v. refl; states = λ t low e v. refl }
 
 either_number : (b : Bool) (x y : ℕ) → IsOther x → IsOther y → IsOther (if b then x else y)
@@ -82,10 +73,10 @@ pub record Spawned (x : Machine) : Type 0 where
 
 pub data Sort (m : Machine) (t : Turn) : Type 0 where
   Ordinary : Elsewhere (asked_by t) → ((found : ℕ) → Plain m (after t found)) → Sort m t
-  Draws : asked_by t ≡ Some (step_of next_thread_word (ops.Add 1)) → ((found : ℕ) → Drew found (after t found)) → Sort m t
-  Starts : (n : ℕ) → drawn_of m.own.stage ≡ Some n → asked_by t ≡ Some (step_of (state_word n) (ops.Swap 1)) → ((found : ℕ) → Spawned (after t found)) → Sort m t
-  Returns : asked_by t ≡ Some (step_of (state_word m.own.number) (ops.Swap 2)) → ((found : ℕ) → Plain m (after t found)) → Sort m t
-  Ends : asked_by t ≡ Some (step_of (state_word m.own.number) (ops.Swap 3)) → ((found : ℕ) → is_ended (after t found).at.state ≡ true) → ((found : ℕ) → drawn_of (after t found).own.stage ≡ None) → Sort m t
+  Draws : asked_by t ≡ Some (step_of next_thread_word (WordOp.Add 1)) → ((found : ℕ) → Drew found (after t found)) → Sort m t
+  Starts : (n : ℕ) → drawn_of m.own.stage ≡ Some n → asked_by t ≡ Some (step_of (state_word n) (WordOp.Swap 1)) → ((found : ℕ) → Spawned (after t found)) → Sort m t
+  Returns : asked_by t ≡ Some (step_of (state_word m.own.number) (WordOp.Swap 2)) → ((found : ℕ) → Plain m (after t found)) → Sort m t
+  Ends : asked_by t ≡ Some (step_of (state_word m.own.number) (WordOp.Swap 3)) → ((found : ℕ) → is_ended (after t found).at.state ≡ true) → ((found : ℕ) → drawn_of (after t found).own.stage ≡ None) → Sort m t
 
 either : (m : Machine) (b : Bool) (x y : Machine) → Plain m x → Plain m y → Plain m (if b then x else y)
 either m true x y h k = h
@@ -177,15 +168,15 @@ module _ (code : Code) (s : Shape) (m : Machine) where
   top_other = record { next = λ e. omega (arith, e); states = λ t low e. omega (arith, e) }
 
   to_stage : (r site : ℕ) (state : NewView) (a : NewArguments) (stage : NewStage) → a.first ≡ first_cell s → Elsewhere (asked_by (asks_new m r site state (turn_of_stage a stage)))
-  to_stage r site state a news.Begins e = tt
-  to_stage r site state a news.Link e = apart _ _ (of_new s a (a.first + 2 * a.head + 1) e (omega arith))
-  to_stage r site state a (news.Cell cell) e = apart _ _ (of_new s a (a.first + 2 * a.head + 2 + cell) e (omega arith))
-  to_stage r site state a news.Top e = apart _ _ top_other
-  to_stage r site state a (news.Move top moved) e = apart _ _ top_other
-  to_stage r site state a (news.Count header) e = apart _ _ (of_new s a (a.first + 2 * header) e (omega arith))
-  to_stage r site state a (news.Length header) e = apart _ _ (of_new s a (a.first + 2 * header + 1) e (omega arith))
-  to_stage r site state a (news.Made header) e = tt
-  to_stage r site state a news.Full e = tt
+  to_stage r site state a NewStage.Begins e = tt
+  to_stage r site state a NewStage.Link e = apart _ _ (of_new s a (a.first + 2 * a.head + 1) e (omega arith))
+  to_stage r site state a (NewStage.Cell cell) e = apart _ _ (of_new s a (a.first + 2 * a.head + 2 + cell) e (omega arith))
+  to_stage r site state a NewStage.Top e = apart _ _ top_other
+  to_stage r site state a (NewStage.Move top moved) e = apart _ _ top_other
+  to_stage r site state a (NewStage.Count header) e = apart _ _ (of_new s a (a.first + 2 * header) e (omega arith))
+  to_stage r site state a (NewStage.Length header) e = apart _ _ (of_new s a (a.first + 2 * header + 1) e (omega arith))
+  to_stage r site state a (NewStage.Made header) e = tt
+  to_stage r site state a NewStage.Full e = tt
 
   at_new : (r elements cells site : ℕ) (stage : Stage) → IsStageOf s stage → Sort m (new s m r elements cells site stage)
   at_new r elements cells site (Makes state) is = Ordinary (to_stage r site state state.arguments state.stage is.0) (λ found. at_ask_new r site state (turn_of state) found)
@@ -224,7 +215,7 @@ module _ (code : Code) (s : Shape) (m : Machine) where
   at_numbered : (site n : ℕ) → drawn_of m.own.stage ≡ None → Drew n (numbered m site n)
   at_numbered site n undrawn = by (nat_lt n THREADS) refl
     where
-      by : (b : Bool) → nat_lt n THREADS ≡ b → Drew n (if b then at_stage m (Names n) else trapped m traps.ThreadLimit site)
+      by : (b : Bool) → nat_lt n THREADS ≡ b → Drew n (if b then at_stage m (Names n) else trapped m Trap.ThreadLimit site)
       by true e = record { drawn = λ k is. let same : n ≡ k = cc in (sym same, let low = (Decides-ltb n THREADS).0 e in omega arith); on = refl; counts = refl }
       by false e = record { drawn = λ k is. absurd (let f : None ≡ Some k = sym undrawn ∙ is in cc); on = refl; counts = refl }
 
@@ -246,7 +237,7 @@ module _ (code : Code) (s : Shape) (m : Machine) where
 
   at_join : (z : ℤ) (site : ℕ) → Sort m (join m z site)
   at_join (pos n) site =
-      elim (nat_lt n THREADS) as (λ b. Sort m (if b then Asks (step_of (state_word n) ops.Load) (joined m site) else Local (trapped m traps.NoSuchThread site))) [
+      elim (nat_lt n THREADS) as (λ b. Sort m (if b then Asks (step_of (state_word n) WordOp.Load) (joined m site) else Local (trapped m Trap.NoSuchThread site))) [
         | true ↦ Ordinary (loads _) (λ found. at_joined site found)
         | false ↦ Ordinary tt (λ found. same _ refl refl)
       ]
@@ -260,9 +251,9 @@ module _ (code : Code) (s : Shape) (m : Machine) where
 
   -- the beginning and the end of a thread
   parameter_stage : (x : Machine) (p : Parameter) (argument : ℕ) → (with_parameter x p argument).own.stage ≡ x.own.stage
-  parameter_stage x parameters.None argument = refl
-  parameter_stage x parameters.Int argument = refl
-  parameter_stage x parameters.Reference argument = refl
+  parameter_stage x Parameter.None argument = refl
+  parameter_stage x Parameter.Int argument = refl
+  parameter_stage x Parameter.Reference argument = refl
 
   at_enter : (function site argument : ℕ) → Plain m (entered code m function site argument)
   at_enter function site argument =
@@ -303,16 +294,16 @@ module _ (code : Code) (s : Shape) (m : Machine) where
   at_instr (ComputeLong operator r a b site) is = quiet _ (at_result r site (computed Long operator (int m a) (int m b)))
   at_instr (NegateInt r a site) is = quiet _ (at_result r site (negated Int (int m a)))
   at_instr (NegateLong r a site) is = quiet _ (at_result r site (negated Long (int m a)))
-  at_instr (ChkWidth width r site) is = quiet _ (at_assert (holds width (int m r)) traps.OutOfRange site)
+  at_instr (ChkWidth width r site) is = quiet _ (at_assert (holds width (int m r)) Trap.OutOfRange site)
   at_instr (JumpIfZero r pc) is = quiet _ (at_jump (is_zero (int m r)) pc)
   at_instr (JumpIfNull r pc) is = quiet _ (at_jump (ref m r == 0) pc)
   at_instr (Call pc ints refs site) is = quiet _ (at_call m m pc ints refs site (λ n e. e))
   at_instr (Return site) is = quiet _ (at_return site)
-  at_instr (ChkNull r site) is = quiet _ (at_assert (not (ref m r == 0)) traps.NullPointer site)
-  at_instr (ChkHeld cell site) is = quiet _ (at_assert (is_held m (word s m cell)) traps.MutexNotHeld site)
-  at_instr (ChkNotHeld cell site) is = quiet _ (at_assert (not (is_held m (word s m cell))) traps.MutexAlreadyHeld site)
-  at_instr (ChkPositive r site) is = quiet _ (at_assert (is_positive (int m r)) traps.SizeNotPositive site)
-  at_instr (ChkRoom site) is = quiet _ (at_assert (nat_lt (length m.own.held) 16) traps.TooManyLocks site)
+  at_instr (ChkNull r site) is = quiet _ (at_assert (not (ref m r == 0)) Trap.NullPointer site)
+  at_instr (ChkHeld cell site) is = quiet _ (at_assert (is_held m (word s m cell)) Trap.MutexNotHeld site)
+  at_instr (ChkNotHeld cell site) is = quiet _ (at_assert (not (is_held m (word s m cell))) Trap.MutexAlreadyHeld site)
+  at_instr (ChkPositive r site) is = quiet _ (at_assert (is_positive (int m r)) Trap.SizeNotPositive site)
+  at_instr (ChkRoom site) is = quiet _ (at_assert (nat_lt (length m.own.held) 16) Trap.TooManyLocks site)
   at_instr (ChkLock cell site) is = quiet _ (at_lock_check (is_of_null m cell) (word s m cell) site)
   at_instr (ChkLockLoaded site) is = quiet _ (at_lock_check (m.pending == 0) (cell_word s (cell_of m.pending 0)) site)
   at_instr (Bounds r base cells field site) is = Ordinary (loads _) (λ found. at_index r (int m r) cells field site found)

@@ -1,15 +1,6 @@
 -- A cell of a live object that is no mutex is written by no turn of typed code but that of an instruction that writes this cell, or of a Free that empties it.
-use Rattle.std.proofs.{Common.{◌≡◌, ℕ, ℤ, pos, negsuc, zero, suc, ◌+◌, ◌*◌, ◌/◌, ◌<◌, ◌≤◌, ◌≢◌, Bool, true, false, nat_lt, List, Option, Some, None, if◌then◌else◌, refl, sym, ap, ◌∙◌, subst, arith, ⊎_elim}, lemmas.Bool.{cases_eq, cases_lt}, lemmas.Bool.Decides.nat_tests}
-use Rattle.std.specs.Prelude.{slice_index, ◌==◌}
-use Rattle.sharc_tree.specs.declared.trap.Trap.TheVariants as traps
-use Rattle.sharc_word.specs.{declared.step.TheConstants.THREADS, declared.step.WordOp.WordOp, declared.step.WordStep.WordStep, Words.word_after}
-use Rattle.sharc_word.specs.declared.step.WordOp.TheVariants as ops
-use Rattle.sharc_heap.specs.{State.{NewView, told}, Asks.word_number, Stages.turn_of_stage, declared.arguments.NewArguments.NewArguments, declared.stage.NewStage.NewStage}
-use Rattle.sharc_heap.specs.declared.stage.NewStage.TheVariants as news
-use Rattle.sharc_code.specs.{declared.code.Code.Code, declared.instr.Cell.Cell, declared.instr.Register.Register, declared.instr.Instr.Instr, declared.shape.Shape.Shape, declared.state.Stage.Stage, declared.state.Stage.TheVariants.{Looks, Clears, Makes, Empties, Lowers, FreeLooks, FreeClears, Uncounts, Links, Names, Hands, Begins, Enters, Withdraws, WithdrawsFrom, Leaves as Leaving, Wakes}, Layout.{Fits, granules, granule_at, words_of, cell_word, cell_of, shadow_word, count_word, length_word, first_cell, first_shadow, state_word}, Machine.{Machine, Turn, Local, Asks, step_of, act, int, ref, word, raise, lower, test, new, asks_new, new_state, elements_of, clear, free, layout_at, spawn, join, start, exit, signal, goes, set_ref, accessed, move_ref, joined, trapped, instr_at, pointer_cell}, Path.turn, Runs.Global}
-use Rattle.sharc_code.specs.declared.instr.Instr.TheVariants as instrs
-use Rattle.sharc_invariant.specs.{Types.{Targets, Field, Content, Integer, MutexWord, Waiters, Pointer, field_in}, Labels.{Label, Labels}, Typed.{IsWellTyped, Fine, HasCell, Accesses}, World.{World, In, RegisterOf, in_ref, Staged, Cell as CellOf, Loaded as IsLoaded, WinOk, base_of}, Words.{cell_at, staged_of, lang_of}, Blocks.{Heap, Built, Live}, State.{State, Runs, StageStands, BuildsAt, all_pointers, OnHold, object_of_cell, number_in, GateStands, base_of_cell}, MachineInvariant.IsOn, Laws.{CellsAreThere, PointersAreThere}}
-use Rattle.sharc_history_laws.proofs.{Single.{single, rests_hold}, Stands.{there, sole_ref, live_ref, target_ref, register_is, live_slot, known_ref, gate}, Finds.same_object}
+use Rattle.sharc_history_laws.proofs.{Imports.{◌≡◌, ℕ, ℤ, pos, negsuc, zero, suc, ◌+◌, ◌*◌, ◌/◌, ◌<◌, ◌≤◌, ◌≢◌, Bool, true, false, nat_lt, List, Option, Some, None, if◌then◌else◌, refl, sym, ap, ◌∙◌, subst, arith, ⊎_elim, cases_eq, cases_lt, nat_tests, slice_index, ◌==◌, Trap, THREADS, WordOp, WordStep, word_after, NewView, told, word_number, turn_of_stage, NewArguments, NewStage, Code, Cell, Register, Instr, Shape, Stage, Looks, Clears, Makes, Empties, Lowers, FreeLooks, FreeClears, Uncounts, Links, Names, Hands, Begins, Enters, Withdraws, WithdrawsFrom, Leaves as Leaving, Wakes, Fits, granules, granule_at, words_of, cell_word, cell_of, shadow_word, count_word, length_word, first_cell, first_shadow, state_word, Machine, StepTurn as Turn, Local, Asks, step_of, act, int, ref, word, raise, lower, test, new, asks_new, new_state, elements_of, clear, free, layout_at, spawn, join, start, exit, signal, goes, set_ref, accessed, move_ref, joined, trapped, instr_at, pointer_cell, turn, Global, Targets, Field, Content, Integer, MutexWord, Waiters, Pointer, field_in, Label, Labels, IsWellTyped, Fine, HasCell, Accesses, World, In, RegisterOf, in_ref, Staged, CellOf, IsLoaded, WinOk, base_of, staged_of, lang_of, Heap, Built, Live, State, Runs, StageStands, BuildsAt, all_pointers, OnHold, object_of_cell, number_in, GateStands, base_of_cell, IsOn, CellsAreThere, PointersAreThere}, Single.{single, rests_hold}, Stands.{there, sole_ref, live_ref, target_ref, register_is, live_slot, known_ref, gate}, Finds.same_object}
+use Rattle.sharc_invariant.specs.Words.{cell_at}
 
 -- a step that leaves its word, or is on another one than this, where this does not hold
 pub data Spares (target : ℕ) (P : Type 0) (step : WordStep) : Type 0 where
@@ -39,16 +30,16 @@ value_other Waiters e = absurd (let z : false ≡ true = e in cc)
 
 -- the cell with waiters that the instruction changes
 abbrev pub waited_cell : Instr → Option Cell
-waited_cell (instrs.CondEnter c site) = Some c
-waited_cell (instrs.CondSignal c site) = Some c
-waited_cell (instrs.CondBroadcast c site) = Some c
+waited_cell (Instr.CondEnter c site) = Some c
+waited_cell (Instr.CondSignal c site) = Some c
+waited_cell (Instr.CondBroadcast c site) = Some c
 waited_cell _ = None
 
 -- the cell that the instruction writes
 abbrev pub written_cell : Instr → Option Cell
-written_cell (instrs.Store r c site) = Some c
-written_cell (instrs.Exchange r c site) = Some c
-written_cell (instrs.TakeCell r c site) = Some c
+written_cell (Instr.Store r c site) = Some c
+written_cell (Instr.Exchange r c site) = Some c
+written_cell (Instr.TakeCell r c site) = Some c
 written_cell _ = None
 
 abbrev pub SparesTurn : ℕ → Type 0 → Turn → Type 0
@@ -90,7 +81,7 @@ module _ (P : Type 0) (s : Shape) (target : ℕ) (high : first_cell s ≤ target
   to_clear m h cells _ = Leaves (λ v. refl)
 
   to_join : (m : Machine) (z : ℤ) (site : ℕ) → W (join m z site)
-  to_join m (pos n) site = elim (nat_lt n THREADS) as (λ b. W (if b then Asks (step_of (state_word n) ops.Load) (joined m site) else Local (trapped m traps.NoSuchThread site))) [
+  to_join m (pos n) site = elim (nat_lt n THREADS) as (λ b. W (if b then Asks (step_of (state_word n) WordOp.Load) (joined m site) else Local (trapped m Trap.NoSuchThread site))) [
     | true ↦ Leaves (λ v. refl)
     | false ↦ tt
   ]
@@ -128,15 +119,15 @@ module _ (P : Type 0) (s : Shape) (target : ℕ) (high : first_cell s ≤ target
   to_stage : (heap : Heap) (t : ℕ) (m : Machine) (r site : ℕ) (state : NewView) (words : List ℕ) (stage : NewStage) → state.arguments.first ≡ first_cell s
       → ((b word : ℕ) → heap.state b ≡ Built t → first_cell s + 2 * b ≤ word → (heap.size b ≢ 0 → word < first_cell s + 2 * (b + heap.size b)) → word ≡ target → ⊥) → BuildsAt words heap t state stage
       → W (asks_new m r site state (turn_of_stage state.arguments stage))
-  to_stage heap t m r site state words news.Begins e apart h = absurd h
-  to_stage heap t m r site state words news.Link e apart h = absurd h
-  to_stage heap t m r site state words (news.Cell cell) e apart h =
+  to_stage heap t m r site state words NewStage.Begins e apart h = absurd h
+  to_stage heap t m r site state words NewStage.Link e apart h = absurd h
+  to_stage heap t m r site state words (NewStage.Cell cell) e apart h =
       let a = state.arguments in
       let size = h.2 in let room = h.0 in let lt = h.3 in
       number_of_block (a.first + 2 * a.head + 2 + cell) _ a (apart a.head (a.first + 2 * a.head + 2 + cell) h.1 (omega arith) (λ nz. omega arith))
-  to_stage heap t m r site state words news.Top e apart h = absurd h
-  to_stage heap t m r site state words (news.Move top moved) e apart h = of_low _ _ (omega arith)
-  to_stage heap t m r site state words (news.Count header) e apart h =
+  to_stage heap t m r site state words NewStage.Top e apart h = absurd h
+  to_stage heap t m r site state words (NewStage.Move top moved) e apart h = of_low _ _ (omega arith)
+  to_stage heap t m r site state words (NewStage.Count header) e apart h =
       let a = state.arguments in
       number_of_block (a.first + 2 * header) _ a (apart header (a.first + 2 * header) h.1 (omega arith) (above header (a.first + 2 * header) 0 (omega arith) (omega arith)))
     where
@@ -146,7 +137,7 @@ module _ (P : Type 0) (s : Shape) (target : ℕ) (high : first_cell s ≤ target
           by : (n : ℕ) → heap.size b ≡ n → word < first_cell s + 2 * (b + heap.size b)
           by zero z = absurd (nz z)
           by (suc n) z = omega arith
-  to_stage heap t m r site state words (news.Length header) e apart h =
+  to_stage heap t m r site state words (NewStage.Length header) e apart h =
       let a = state.arguments in
       number_of_block (a.first + 2 * header + 1) _ a (apart header (a.first + 2 * header + 1) h.1 (omega arith) (above header (a.first + 2 * header + 1) 1 (omega arith) (omega arith)))
     where
@@ -156,15 +147,15 @@ module _ (P : Type 0) (s : Shape) (target : ℕ) (high : first_cell s ≤ target
           by : (n : ℕ) → heap.size b ≡ n → word < first_cell s + 2 * (b + heap.size b)
           by zero z = absurd (nz z)
           by (suc n) z = omega arith
-  to_stage heap t m r site state words (news.Made header) e apart h = absurd h
-  to_stage heap t m r site state words news.Full e apart h = absurd h
+  to_stage heap t m r site state words (NewStage.Made header) e apart h = absurd h
+  to_stage heap t m r site state words NewStage.Full e apart h = absurd h
 
 -- ---- the turn of an instruction
 module _ (there_laws : CellsAreThere) (pointer_laws : PointersAreThere) (x : Targets) (code : Code) (s : Shape) (ls : Labels) (wt : IsWellTyped x code ls) (fits : Fits code s) (g : Global Machine) (world : World) (st : State x code s ls g world) (t : ℕ) (on : IsOn g t)
     (o j : ℕ) (live : (world.obj o).live ≡ true) (inside : j < st.cells o) (other : is_mutex (field_in x (world.obj o).ty j).holds ≡ false) (P : Type 0)
     (written : (c : Cell) → written_cell (instr_at code (g.threads t).at.pc) ≡ Some c → (site : ℕ) (f : Field) → Accesses x code ls (ls.at (g.threads t).at.pc) true c site f → object_of_cell (g.threads t) c ≡ o → number_in (g.threads t) c ≡ j → P)
     (waited : (c : Cell) → waited_cell (instr_at code (g.threads t).at.pc) ≡ Some c → OnHold (g.threads t).own.stage → (f : Field) → HasCell x code (ls.at (g.threads t).at.pc) c f → f.holds ≡ Waiters → object_of_cell (g.threads t) c ≡ o → number_in (g.threads t) c ≡ j → P)
-    (emptied : (r layout site q all : ℕ) → instr_at code (g.threads t).at.pc ≡ instrs.Free r layout site → (g.threads t).own.stage ≡ Empties q all → ref (g.threads t) r ≡ o → P) where
+    (emptied : (r layout site q all : ℕ) → instr_at code (g.threads t).at.pc ≡ Instr.Free r layout site → (g.threads t).own.stage ≡ Empties q all → ref (g.threads t) r ≡ o → P) where
   abbrev target : ℕ
   target = cell_at s o j
 
@@ -273,15 +264,15 @@ module _ (there_laws : CellsAreThere) (pointer_laws : PointersAreThere) (x : Tar
   rest : (i : Instr) → instr_at code (g.threads t).at.pc ≡ i → single i ≡ true → OnHold (g.threads t).own.stage
   rest i is one = rests_hold code s st.elements world st.heap g.words t m i m.own.stage one (subst (λ i. StageStands code s st.elements world st.heap g.words t m i m.own.stage) is rn.stage)
 
-  to_new : (r count cells site : ℕ) (stage : Stage) → StageStands code s st.elements world st.heap g.words t (g.threads t) (instrs.New r count cells site) stage → Written (new s (g.threads t) r (elements_of (int (g.threads t) count)) cells site stage)
+  to_new : (r count cells site : ℕ) (stage : Stage) → StageStands code s st.elements world st.heap g.words t (g.threads t) (Instr.New r count cells site) stage → Written (new s (g.threads t) r (elements_of (int (g.threads t) count)) cells site stage)
   to_new r count cells site (Makes v) h = to_stage P s target high st.heap t m r site v g.words v.stage (ap (λ (a : NewArguments). a.first) h.0) other_block h.1
   to_new r count cells site _ h = let a = new_state s m (elements_of (int m count)) cells in begin (a.arguments.head == 0) (told a 0)
     where
-      begin : (b : Bool) (v : NewView) → Written (asks_new (g.threads t) r site v (turn_of_stage v.arguments (if b then news.Top else news.Link)))
+      begin : (b : Bool) (v : NewView) → Written (asks_new (g.threads t) r site v (turn_of_stage v.arguments (if b then NewStage.Top else NewStage.Link)))
       begin true v = Leaves (λ n. refl)
       begin false v = Leaves (λ n. refl)
 
-  to_free : (r layout site : ℕ) (stage : Stage) → instr_at code (g.threads t).at.pc ≡ instrs.Free r layout site → (g.threads t).own.stage ≡ stage → StageStands code s st.elements world st.heap g.words t (g.threads t) (instrs.Free r layout site) stage
+  to_free : (r layout site : ℕ) (stage : Stage) → instr_at code (g.threads t).at.pc ≡ Instr.Free r layout site → (g.threads t).own.stage ≡ stage → StageStands code s st.elements world st.heap g.words t (g.threads t) (Instr.Free r layout site) stage
       → Written (free code s (g.threads t) r (layout_at code layout) stage)
   to_free r layout site (Empties q all) is at h =
       let hold : OnHold m.own.stage = subst OnHold (sym at) tt in
@@ -341,17 +332,17 @@ module _ (there_laws : CellsAreThere) (pointer_laws : PointersAreThere) (x : Tar
           by (suc n) z = let e = number b lt in omega arith
   to_free r layout site _ is at h = Leaves (λ v. refl)
 
-  spawn_low : (n : ℕ) → (g.threads t).own.stage ≡ Names n → (r f : ℕ) (from : Register) (site : ℕ) → instr_at code (g.threads t).at.pc ≡ instrs.Spawn r f from site → n < THREADS
-  spawn_low n e r f from site is = (subst (StageStands code s st.elements world st.heap g.words t m (instrs.Spawn r f from site)) e (subst (λ i. StageStands code s st.elements world st.heap g.words t m i m.own.stage) is rn.stage)).few
+  spawn_low : (n : ℕ) → (g.threads t).own.stage ≡ Names n → (r f : ℕ) (from : Register) (site : ℕ) → instr_at code (g.threads t).at.pc ≡ Instr.Spawn r f from site → n < THREADS
+  spawn_low n e r f from site is = (subst (StageStands code s st.elements world st.heap g.words t m (Instr.Spawn r f from site)) e (subst (λ i. StageStands code s st.elements world st.heap g.words t m i m.own.stage) is rn.stage)).few
 
-  hand_low : (n : ℕ) → (g.threads t).own.stage ≡ Hands n → (r f : ℕ) (from : Register) (site : ℕ) → instr_at code (g.threads t).at.pc ≡ instrs.Spawn r f from site → n < THREADS
-  hand_low n e r f from site is = (subst (StageStands code s st.elements world st.heap g.words t m (instrs.Spawn r f from site)) e (subst (λ i. StageStands code s st.elements world st.heap g.words t m i m.own.stage) is rn.stage)).0.few
+  hand_low : (n : ℕ) → (g.threads t).own.stage ≡ Hands n → (r f : ℕ) (from : Register) (site : ℕ) → instr_at code (g.threads t).at.pc ≡ Instr.Spawn r f from site → n < THREADS
+  hand_low n e r f from site is = (subst (StageStands code s st.elements world st.heap g.words t m (Instr.Spawn r f from site)) e (subst (λ i. StageStands code s st.elements world st.heap g.words t m i m.own.stage) is rn.stage)).0.few
 
-  begin_low : (n : ℕ) → (g.threads t).own.stage ≡ Begins n → (r f : ℕ) (from : Register) (site : ℕ) → instr_at code (g.threads t).at.pc ≡ instrs.Spawn r f from site → n < THREADS
-  begin_low n e r f from site is = (subst (StageStands code s st.elements world st.heap g.words t m (instrs.Spawn r f from site)) e (subst (λ i. StageStands code s st.elements world st.heap g.words t m i m.own.stage) is rn.stage)).0.few
+  begin_low : (n : ℕ) → (g.threads t).own.stage ≡ Begins n → (r f : ℕ) (from : Register) (site : ℕ) → instr_at code (g.threads t).at.pc ≡ Instr.Spawn r f from site → n < THREADS
+  begin_low n e r f from site is = (subst (StageStands code s st.elements world st.heap g.words t m (Instr.Spawn r f from site)) e (subst (λ i. StageStands code s st.elements world st.heap g.words t m i m.own.stage) is rn.stage)).0.few
 
   -- what was loaded is live
-  live_pending : (r : ℕ) → (hold : OnHold (g.threads t).own.stage) → instr_at code (g.threads t).at.pc ≡ instrs.RaiseLoaded r → (g.threads t).pending ≢ 0 → (world.obj (g.threads t).pending).live ≡ true
+  live_pending : (r : ℕ) → (hold : OnHold (g.threads t).own.stage) → instr_at code (g.threads t).at.pc ≡ Instr.RaiseLoaded r → (g.threads t).pending ≢ 0 → (world.obj (g.threads t).pending).live ≡ true
   live_pending r hold is nz =
       let f = subst (Fine x code ls m.at.pc here) is (wt.fine m.at.pc) in
       let win : world.win t ≡ IsLoaded (base_of_cell m f.1.0) (number_in m f.1.0) m.pending = subst (GateStands s world t m) f.1.3 (gate x code s ls wt fits g world st t on hold) in
@@ -363,49 +354,49 @@ module _ (there_laws : CellsAreThere) (pointer_laws : PointersAreThere) (x : Tar
   fine_of i is = subst (Fine x code ls m.at.pc here) is (wt.fine m.at.pc)
 
   by_instr : (i : Instr) → instr_at code (g.threads t).at.pc ≡ i → Written (act code s i (g.threads t))
-  by_instr (instrs.Bounds r base count field site) is = Leaves (λ v. refl)
-  by_instr (instrs.ChkRead c site) is = of_shadow P s target high _ _
-  by_instr (instrs.ChkWrite c site) is = of_shadow P s target high _ _
-  by_instr (instrs.Load r c site) is = Leaves (λ v. refl)
-  by_instr (instrs.Store r c site) is = let i = instrs.Store r c site in let f = fine_of i is in to_written c site f.0 _ (rest i is refl) (ap written_cell is) f.2
-  by_instr (instrs.LoadRef c site) is = Leaves (λ v. refl)
-  by_instr (instrs.Exchange r c site) is = let i = instrs.Exchange r c site in let f = fine_of i is in to_written c site f.1.0 _ (rest i is refl) (ap written_cell is) f.1.2
-  by_instr (instrs.Raise r from) is = let hold = rest (instrs.Raise r from) is refl in
+  by_instr (Instr.Bounds r base count field site) is = Leaves (λ v. refl)
+  by_instr (Instr.ChkRead c site) is = of_shadow P s target high _ _
+  by_instr (Instr.ChkWrite c site) is = of_shadow P s target high _ _
+  by_instr (Instr.Load r c site) is = Leaves (λ v. refl)
+  by_instr (Instr.Store r c site) is = let i = Instr.Store r c site in let f = fine_of i is in to_written c site f.0 _ (rest i is refl) (ap written_cell is) f.2
+  by_instr (Instr.LoadRef c site) is = Leaves (λ v. refl)
+  by_instr (Instr.Exchange r c site) is = let i = Instr.Exchange r c site in let f = fine_of i is in to_written c site f.1.0 _ (rest i is refl) (ap written_cell is) f.1.2
+  by_instr (Instr.Raise r from) is = let hold = rest (Instr.Raise r from) is refl in
       to_raise P s target high (ref m from) (goes (set_ref m r (ref m from))) (λ nz. other_count (ref m from) (live_in_register (m.at.refs + from) hold nz))
-  by_instr (instrs.RaiseLoaded r) is = let hold = rest (instrs.RaiseLoaded r) is refl in
+  by_instr (Instr.RaiseLoaded r) is = let hold = rest (Instr.RaiseLoaded r) is refl in
       to_raise P s target high m.pending (goes (accessed (set_ref m r m.pending))) (λ nz. other_count m.pending (live_pending r hold is nz))
-  by_instr (instrs.Lower r) is = let hold = rest (instrs.Lower r) is refl in
+  by_instr (Instr.Lower r) is = let hold = rest (Instr.Lower r) is refl in
       to_lower P s target high (ref m r) (goes (set_ref m r 0)) (λ nz. other_count (ref m r) (live_in_register (m.at.refs + r) hold nz))
-  by_instr (instrs.New r count cells site) is = to_new r count cells site m.own.stage (subst (λ i. StageStands code s st.elements world st.heap g.words t m i m.own.stage) is rn.stage)
-  by_instr (instrs.TakeCell r c site) is = let i = instrs.TakeCell r c site in let f = fine_of i is in to_written c site f.1.0 _ (rest i is refl) (ap written_cell is) f.1.2
-  by_instr (instrs.TakeLocal r from site) is = let hold = rest (instrs.TakeLocal r from site) is refl in
+  by_instr (Instr.New r count cells site) is = to_new r count cells site m.own.stage (subst (λ i. StageStands code s st.elements world st.heap g.words t m i m.own.stage) is rn.stage)
+  by_instr (Instr.TakeCell r c site) is = let i = Instr.TakeCell r c site in let f = fine_of i is in to_written c site f.1.0 _ (rest i is refl) (ap written_cell is) f.1.2
+  by_instr (Instr.TakeLocal r from site) is = let hold = rest (Instr.TakeLocal r from site) is refl in
       to_test P s target high (ref m from) (goes (move_ref m r from)) (λ nz. other_count (ref m from) (live_in_register (m.at.refs + from) hold nz))
-  by_instr (instrs.TestSole r site) is =
-      let hold = rest (instrs.TestSole r site) is refl in
-      let f = fine_of (instrs.TestSole r site) is in
+  by_instr (Instr.TestSole r site) is =
+      let hold = rest (Instr.TestSole r site) is refl in
+      let f = fine_of (Instr.TestSole r site) is in
       Elsewhere (other_count (ref m r) (live_ref x code s ls wt fits g world st t on hold r (known_ref x code s ls wt fits g world st t on hold r f.2)))
-  by_instr (instrs.Clear r cells) is = to_clear P s target high m (ref m r) cells m.own.stage
-  by_instr (instrs.Give r site) is =
-      let hold = rest (instrs.Give r site) is refl in
-      let f = fine_of (instrs.Give r site) is in
+  by_instr (Instr.Clear r cells) is = to_clear P s target high m (ref m r) cells m.own.stage
+  by_instr (Instr.Give r site) is =
+      let hold = rest (Instr.Give r site) is refl in
+      let f = fine_of (Instr.Give r site) is in
       Elsewhere (other_count (ref m r) (live_ref x code s ls wt fits g world st t on hold r (sole_ref x code s ls wt fits g world st t on hold r true f.0)))
-  by_instr (instrs.Free r layout site) is = to_free r layout site m.own.stage is refl (subst (λ i. StageStands code s st.elements world st.heap g.words t m i m.own.stage) is rn.stage)
-  by_instr (instrs.Lock c site) is = let i = instrs.Lock c site in let f = fine_of i is in to_mutex c f.2.0 _ (rest i is refl) f.2.1 (ap is_mutex f.2.2)
-  by_instr (instrs.Unlock r c site) is = let i = instrs.Unlock r c site in let f = fine_of i is in to_mutex c f.2.0 _ (rest i is refl) f.2.1 (ap is_mutex f.2.2)
-  by_instr (instrs.Spawn r f from site) is = to_spawn P s target high m r f from site m.own.stage (λ n e. spawn_low n e r f from site is) (λ n e. hand_low n e r f from site is) (λ n e. begin_low n e r f from site is)
-  by_instr (instrs.Join r site) is = to_join P s target high m (int m r) site
-  by_instr (instrs.Print r site) is = of_low P s target high _ _ (omega arith)
-  by_instr (instrs.Start site) is = to_start P s target high code m site m.own.stage
-  by_instr instrs.Exit is = to_exit P s target high m m.own.stage low_number
-  by_instr (instrs.CondEnter c site) is = let i = instrs.CondEnter c site in let f = fine_of i is in to_waited c f.1.0 _ (rest i is refl) (ap waited_cell is) f.1.1 f.1.2
-  by_instr (instrs.CondWait c site) is = Leaves (λ v. refl)
-  by_instr (instrs.CondSignal c site) is = let f = fine_of (instrs.CondSignal c site) is in
+  by_instr (Instr.Free r layout site) is = to_free r layout site m.own.stage is refl (subst (λ i. StageStands code s st.elements world st.heap g.words t m i m.own.stage) is rn.stage)
+  by_instr (Instr.Lock c site) is = let i = Instr.Lock c site in let f = fine_of i is in to_mutex c f.2.0 _ (rest i is refl) f.2.1 (ap is_mutex f.2.2)
+  by_instr (Instr.Unlock r c site) is = let i = Instr.Unlock r c site in let f = fine_of i is in to_mutex c f.2.0 _ (rest i is refl) f.2.1 (ap is_mutex f.2.2)
+  by_instr (Instr.Spawn r f from site) is = to_spawn P s target high m r f from site m.own.stage (λ n e. spawn_low n e r f from site is) (λ n e. hand_low n e r f from site is) (λ n e. begin_low n e r f from site is)
+  by_instr (Instr.Join r site) is = to_join P s target high m (int m r) site
+  by_instr (Instr.Print r site) is = of_low P s target high _ _ (omega arith)
+  by_instr (Instr.Start site) is = to_start P s target high code m site m.own.stage
+  by_instr Instr.Exit is = to_exit P s target high m m.own.stage low_number
+  by_instr (Instr.CondEnter c site) is = let i = Instr.CondEnter c site in let f = fine_of i is in to_waited c f.1.0 _ (rest i is refl) (ap waited_cell is) f.1.1 f.1.2
+  by_instr (Instr.CondWait c site) is = Leaves (λ v. refl)
+  by_instr (Instr.CondSignal c site) is = let f = fine_of (Instr.CondSignal c site) is in
       to_signal P s target high m (word s m c) m.own.stage (λ op. to_waited c f.1.0 op (signal_hold m.own.stage (subst (λ i. StageStands code s st.elements world st.heap g.words t m i m.own.stage) is rn.stage)) (ap waited_cell is) f.1.1 f.1.2)
     where
-      signal_hold : (stage : Stage) → StageStands code s st.elements world st.heap g.words t (g.threads t) (instrs.CondSignal c site) stage → OnHold stage
+      signal_hold : (stage : Stage) → StageStands code s st.elements world st.heap g.words t (g.threads t) (Instr.CondSignal c site) stage → OnHold stage
       signal_hold (Links all) h = absurd h
       signal_hold _ h = tt
-  by_instr (instrs.CondBroadcast c site) is = let i = instrs.CondBroadcast c site in let f = fine_of i is in to_waited c f.1.0 _ (rest i is refl) (ap waited_cell is) f.1.1 f.1.2
+  by_instr (Instr.CondBroadcast c site) is = let i = Instr.CondBroadcast c site in let f = fine_of i is in to_waited c f.1.0 _ (rest i is refl) (ap waited_cell is) f.1.1 f.1.2
   by_instr _ is = tt
 
   pub spares_cell : Written (turn code s (g.threads t))
@@ -423,6 +414,6 @@ module _ (there_laws : CellsAreThere) (pointer_laws : PointersAreThere) (x : Tar
       absurd (let z : true ≡ false = sym q ∙ ap is_value waiters in cc)
 
   pub spares : ((c : Cell) → written_cell (instr_at code (g.threads t).at.pc) ≡ Some c → (site : ℕ) (f : Field) → Accesses x code ls (ls.at (g.threads t).at.pc) true c site f → object_of_cell (g.threads t) c ≡ o → number_in (g.threads t) c ≡ j → P)
-      → ((r layout site q all : ℕ) → instr_at code (g.threads t).at.pc ≡ instrs.Free r layout site → (g.threads t).own.stage ≡ Empties q all → ref (g.threads t) r ≡ o → P)
+      → ((r layout site q all : ℕ) → instr_at code (g.threads t).at.pc ≡ Instr.Free r layout site → (g.threads t).own.stage ≡ Empties q all → ref (g.threads t) r ≡ o → P)
       → SparesTurn (cell_at s o j) P (turn code s (g.threads t))
   spares written emptied = spares_cell there_laws pointer_laws x code s ls wt fits g world st t on o j live inside (value_other (field_in x (world.obj o).ty j).holds value) P written no_waiters emptied

@@ -1,11 +1,5 @@
 -- Which threads were started and have ended, at each place of a run.
-use Rattle.std.proofs.{Common.{◌≡◌, true, List, [], ◌∷◌, is_some, sym, ap, subst, arith}, lemmas.List.FromFn.get_or-map-range_with_len, lemmas.Bool.or_right}
-use Rattle.std.specs.Prelude.{nat_eq, slice_index}
-use Rattle.sharc_code.specs.{declared.code.Code.Code, declared.shape.Shape.Shape, Laws.RunLaws, Layout.{Fits, state_word, words_of}, Opening.{opening_words, opens_with}, Runs.{Turn, IsRun, is_started, opening_of, words_now}, Whole.{one_thread, bounds, place_after}}
-use Rattle.sharc_invariant.specs.{Types.Targets, Labels.Labels, Laws.{Keeps, Begins as CodeBegins, CellsAreThere, PointersAreThere, AccessesAreAllowed}, State.IsSmall, Typed.IsWellTyped, Words.is_ended}
-use Rattle.sharc_history_laws.specs.Threads.{ThreadsAreTold}
-use Rattle.sharc_history_laws.proofs.{Consists.{Consists, consists_then, at_first}, Lists.Newest, Logged.lacking, Rules.{newest, newest_now}, Threaded.{ThreadsTold, threads_then, nobody_yet}}
-use Rattle.sharc_lemmas.proofs.Bools.{yes}
+use Rattle.sharc_history_laws.proofs.{Imports.{◌≡◌, true, List, [], ◌∷◌, is_some, sym, ap, subst, arith, get_or-map-range_with_len, or_right, nat_eq, slice_index, Code, Shape, RunLaws, Fits, state_word, words_of, opening_words, opens_with, Turn, IsRun, is_started, opening_of, words_now, one_thread, bounds, place_after, Targets, Labels, Keeps, CodeBegins, CellsAreThere, PointersAreThere, AccessesAreAllowed, IsSmall, IsWellTyped, is_ended, ThreadsAreTold, yes}, Consists.{Consists, consists_then, at_first}, Lists.Newest, Logged.lacking, Rules.{newest, newest_now}, Threaded.{ThreadsTold, threads_then, nobody_yet}}
 
 -- ---- thread 0
 module _ (code : Code) (s : Shape) where

@@ -1,13 +1,6 @@
 -- Where the cell of a check lies: two checked cells of the same granule of memory are of the same object and granule to the source.
-use Rattle.std.proofs.{Common.{◌≡◌, ℕ, suc, ◌+◌, ◌-◌, ◌*◌, ◌/◌, ◌<◌, ◌≤◌, ◌≢◌, true, refl, sym, ap, ◌∙◌, subst, ⊎_elim, arith}, lemmas.Bool.{cases_eq, cases_lt}, lemmas.Bool.Decides.nat_tests}
-use Rattle.std.specs.Prelude.{slice_index_or}
-use Rattle.sharc_tree.specs.declared.event.CellAt.{CellAt}
-use Rattle.sharc_tree.specs.declared.event.Object.TheVariants as objects
-use Rattle.sharc_code.specs.{declared.code.Code.Code, declared.instr.Cell.Cell, declared.shape.Shape.Shape, Arithmetic.word_of, Layout.{Fits, granule_at, granule_of}, Machine.{Machine, int, ref, place}, Runs.Global, Says.{cell_at, global_cell, made_cell, no_global}}
-use Rattle.sharc_code.specs.declared.instr.Cell.TheVariants as cells
-use Rattle.sharc_meaning.specs.Events.{granule_of as granule_in}
-use Rattle.sharc_invariant.specs.{Labels.{Label, Labels, OfGlobal}, Laws.CellsAreThere, MachineInvariant.IsOn, State.{State, OnHold, NumberStands, object_of_cell, number_in, view_of, refs_at, types_at}, Typed.{IsWellTyped, AreGlobals, HasCell, IsInGlobal}, Types.{Targets, Field}, World.World}
-use Rattle.sharc_history_laws.proofs.{Shadows.at_low, Stands.{rn, top, known_ref, there}, Staying.IsObject}
+use Rattle.sharc_history_laws.proofs.{Imports.{◌≡◌, ℕ, suc, ◌+◌, ◌-◌, ◌*◌, ◌/◌, ◌<◌, ◌≤◌, ◌≢◌, true, refl, sym, ap, ◌∙◌, subst, ⊎_elim, arith, cases_eq, cases_lt, nat_tests, slice_index_or, CellAt, Object, Code, Cell, Shape, word_of, Fits, granule_at, granule_of, Machine, int, ref, place, Global, cell_at, global_cell, made_cell, no_global, granule_in, Label, Labels, OfGlobal, CellsAreThere, IsOn, State, OnHold, NumberStands, object_of_cell, number_in, view_of, refs_at, types_at, IsWellTyped, AreGlobals, HasCell, Targets, Field, World}, Shadows.at_low, Stands.{rn, top, known_ref, there}, Staying.IsObject}
+use Rattle.sharc_invariant.specs.Typed.{IsInGlobal}
 
 -- the cell is of granule k of object o, which is granule p of memory
 pub data Spot (code : Code) (at : CellAt) (o k p : ℕ) : Type 0 where
@@ -57,7 +50,7 @@ module _ (x : Targets) (code : Code) (globals : AreGlobals x code) where
       let e : place / 2 ≡ place' / 2 = half ∙ sym half' in
       let same : h ≡ h' = same_global h h' place place' inside inside' e in
       let from' : 2 * low_of h ≤ place' = subst (λ h. 2 * low_of h ≤ place') (sym same) inside'.from in (
-        ap (λ (y : CellAt). y.object) is ∙ ap (λ h. objects.Global h) same ∙ sym (ap (λ (y : CellAt). y.object) is'),
+        ap (λ (y : CellAt). y.object) is ∙ ap (λ h. Object.Global h) same ∙ sym (ap (λ (y : CellAt). y.object) is'),
         ap granule_in is ∙ halves place place' (low_of h) inside.from from' e ∙ ap (λ h. (place' - 2 * low_of h) / 2) same ∙ sym (ap granule_in is'),
       )
 
@@ -81,7 +74,7 @@ module _ (x : Targets) (code : Code) (s : Shape) (ls : Labels) (wt : IsWellTyped
   back : (a n : ℕ) → a + n - a ≡ n
   back a n = omega arith
 
-  in_global : (h i : ℕ) (f : Field) → HasCell x code here (cells.GlobalAt h i) f → IsInGlobal code h (word_of (int (g.threads t) i))
+  in_global : (h i : ℕ) (f : Field) → HasCell x code here (Cell.GlobalAt h i) f → IsInGlobal code h (word_of (int (g.threads t) i))
   in_global h i f k =
       let q = k.field in
       let names = (rn x code s ls wt fits g world st t on hold).names in
@@ -93,10 +86,10 @@ module _ (x : Targets) (code : Code) (s : Shape) (ls : Labels) (wt : IsWellTyped
       subst (IsInGlobal code h) (sym pl) inside.0
 
   spot_of : (c : Cell) (f : Field) (k : HasCell x code here c f) (p : ℕ) → place (g.threads t) c / 2 ≡ p → Spot code (cell_at code (g.threads t) c) (object_of_cell (g.threads t) c) (number_in (g.threads t) c / 2) p
-  spot_of (cells.Global h q) f k p e = InGlobal h q refl refl k.field.0 e
-  spot_of (cells.GlobalAt h i) f k p e = InGlobal h (word_of (int m i)) refl refl (in_global h i f k) e
-  spot_of (cells.Object r i) f k p e = InObject i (known_ref x code s ls wt fits g world st t on hold r k.base) refl (ap (λ n. n / 2) (sym (back (2 * (ref m r + 1)) i)))
-  spot_of (cells.ObjectAt r i) f k p e = InObject (word_of (int m i)) (known_ref x code s ls wt fits g world st t on hold r k.base) refl (ap (λ n. n / 2) (sym (back (2 * (ref m r + 1)) (word_of (int m i)))))
+  spot_of (Cell.Global h q) f k p e = InGlobal h q refl refl k.field.0 e
+  spot_of (Cell.GlobalAt h i) f k p e = InGlobal h (word_of (int m i)) refl refl (in_global h i f k) e
+  spot_of (Cell.Object r i) f k p e = InObject i (known_ref x code s ls wt fits g world st t on hold r k.base) refl (ap (λ n. n / 2) (sym (back (2 * (ref m r + 1)) i)))
+  spot_of (Cell.ObjectAt r i) f k p e = InObject (word_of (int m i)) (known_ref x code s ls wt fits g world st t on hold r k.base) refl (ap (λ n. n / 2) (sym (back (2 * (ref m r + 1)) (word_of (int m i)))))
 
   pub is_checked : (c : Cell) (f : Field) → HasCell x code here c f → (p : ℕ) → p ≡ granule_at s (granule_of (place (g.threads t) c)) → IsChecked c p
   is_checked c f k p e =

@@ -1,12 +1,6 @@
 -- What the state words say wherever a run is.
-use Rattle.std.proofs.{Common.{◌≡◌, ℕ, ◌+◌, ◌%◌, ◌^◌, ◌<◌, ◌≤◌, ◌⊎◌, Bool, true, false, ◌||◌, ◌&&◌, List, [], ◌∷◌, Option, Some, None, refl, sym, ap, ◌∙◌, subst, ⊎_elim, inl, inr, arith}, lemmas.Bool.{cases_eq, or_right, or_left}, lemmas.Bool.Decides.nat_tests, lemmas.List.get_or-set_other, lemmas.List.FromFn.get_or-map-range_with_len}
-use Rattle.std.specs.Prelude.{nat_eq, nat_lt, nat_le, ◌==◌, slice_index}
-use Rattle.sharc_word.specs.{declared.step.TheConstants.THREADS, declared.step.WordStep.WordStep, declared.step.WordEvent.WordEvent, Words.{word_after, words_after_step}}
-use Rattle.sharc_word.specs.declared.step.WordOp.TheVariants as ops
-use Rattle.sharc_code.specs.{declared.code.Code.Code, declared.shape.Shape.Shape, declared.state.TurnState.TurnState, declared.state.TurnState.TheVariants.{Runs, Tries, Stopped, Ended}, Layout.{state_word, next_thread_word, words_of}, Machine.{Machine, Turn as Act, step_of as step_at}, Opening.{opening_words, opens_with, opening_cell, first_global}, Path.{turn, after, asked_by, may_go, counted}, Runs.{Turn, Global, IsRun, put, words_now, result_of, step_of, is_started, opening_of, Answered}, Laws.RunLaws, StandingLaws.StandingLaws, Stages.drawn_of, Whole.{one_thread, bounds, place_after}}
-use Rattle.sharc_history_laws.specs.Told.{state_of}
-use Rattle.sharc_history_laws.proofs.{Places.{put_same, put_other, sum_to, sum_few, sum_grows, sum_more}, Sorts.{is_ended, LeavesThem, Elsewhere, Plain, Drew, Spawned, Sort, Ordinary, Draws, Starts, Returns, Ends, sorted}, Tells.{Tells, StateChange, Same, Begins, Own, Changes, tells_still}}
-use Rattle.sharc_lemmas.proofs.{Bools.{or_split, not_ended}, Lists.{set_here, set_same}}
+use Rattle.sharc_history_laws.proofs.{Imports.{◌≡◌, ℕ, ◌+◌, ◌%◌, ◌^◌, ◌<◌, ◌≤◌, ◌⊎◌, Bool, true, false, ◌||◌, ◌&&◌, List, [], ◌∷◌, Option, Some, None, refl, sym, ap, ◌∙◌, subst, ⊎_elim, inl, inr, arith, cases_eq, or_right, or_left, nat_tests, get_or-set_other, get_or-map-range_with_len, nat_eq, nat_lt, nat_le, ◌==◌, slice_index, THREADS, WordStep, WordEvent, word_after, words_after_step, WordOp, Code, Shape, TurnState, Tries, Stopped, Ended, state_word, next_thread_word, words_of, Machine, StepTurn as Act, step_of as step_at, opening_words, opens_with, opening_cell, first_global, turn, after, asked_by, may_go, counted, Turn, Global, IsRun, put, words_now, result_of, is_started, opening_of, Answered, RunLaws, StandingLaws, drawn_of, one_thread, bounds, place_after, state_of, or_split, not_ended, set_here, set_same}, Places.{put_same, put_other, sum_to, sum_few, sum_grows, sum_more}, Sorts.{is_ended, LeavesThem, Elsewhere, Plain, Drew, Spawned, Sort, Ordinary, Draws, Starts, Returns, Ends, sorted}, Tells.{Tells, StateChange, Same, Begins, Own, Changes, tells_still}}
+use Rattle.sharc_code.specs.{declared.state.TurnState.TheVariants.Runs, Runs.step_of}
 
 -- ---- words
 step_keeps : (words : List ℕ) (step : WordStep) (w : ℕ) → (step.word ≡ w → (v : ℕ) → word_after step.op v ≡ v) → slice_index (words_after_step words step) w ≡ slice_index words w
@@ -169,10 +163,10 @@ module _ (g : Global Machine) (k : ℕ) (event : Option WordEvent) (h : Holds g)
       of_state None step is u low away = absurd (cc)
       of_state (Some y) step is u low away = let same : y ≡ step = cc in (subst LeavesThem same away).states u low
 
-  draws : asked_by t ≡ Some (step_at next_thread_word (ops.Add 1)) → Drew (result_of event) x → Told
+  draws : asked_by t ≡ Some (step_at next_thread_word (WordOp.Add 1)) → Drew (result_of event) x → Told
   draws is drew =
       let q = asks ∙ is in
-      let step = step_at next_thread_word (ops.Add 1) in
+      let step = step_at next_thread_word (WordOp.Add 1) in
       let found : result_of event ≡ next_of g = found_is g.words event step q answered in
       let new : next ≡ (next_of g + 1) % 2 ^ 64 = after_set g.words event step q answered in
       let old = h.few in
@@ -187,10 +181,10 @@ module _ (g : Global Machine) (k : ℕ) (event : Option WordEvent) (h : Holds g)
         omega arith,
       )
 
-  starts : (n : ℕ) → drawn_of m.own.stage ≡ Some n → asked_by t ≡ Some (step_at (state_word n) (ops.Swap 1)) → Spawned x → Told
+  starts : (n : ℕ) → drawn_of m.own.stage ≡ Some n → asked_by t ≡ Some (step_at (state_word n) (WordOp.Swap 1)) → Spawned x → Told
   starts n drawn is over =
       let q = asks ∙ is in
-      let step = step_at (state_word n) (ops.Swap 1) in
+      let step = step_at (state_word n) (WordOp.Swap 1) in
       let next_is : next ≡ next_of g = after_other g.words event step next_thread_word q (no n) in
       let here : state n ≡ 1 = after_set g.words event step q answered in
       let other : (u : ℕ) → (u ≡ n → ⊥) → state u ≡ state_of g u = λ u ne. after_other g.words event step (state_word u) q (λ e. ne (omega (arith, e))) in
@@ -200,11 +194,11 @@ module _ (g : Global Machine) (k : ℕ) (event : Option WordEvent) (h : Holds g)
       (λ (ne : k ≡ n → ⊥). not_ended (is_ended m.at.state) (h.tells.end k k_low (sym (other k ne) ∙ e)) on) (cases_eq k n) in
       (changes (λ u low. one u) (omega arith) (λ j e. absurd (let f : None ≡ Some j = sym over.drawn ∙ e in cc)) (λ e. absurd (not_ended (is_ended x.at.state) e over.on)) (λ e. absurd (k_three e)), few_same next_is)
 
-  own : (v : ℕ) → (v ≡ 2) ⊎ (v ≡ 3) → asked_by t ≡ Some (step_at (state_word m.own.number) (ops.Swap v))
+  own : (v : ℕ) → (v ≡ 2) ⊎ (v ≡ 3) → asked_by t ≡ Some (step_at (state_word m.own.number) (WordOp.Swap v))
       → (next ≡ next_of g) × (state k ≡ v) × States
   own v is_v is =
       let q = asks ∙ is in
-      let step = step_at (state_word m.own.number) (ops.Swap v) in
+      let step = step_at (state_word m.own.number) (WordOp.Swap v) in
       let next_is : next ≡ next_of g = after_other g.words event step next_thread_word q (no m.own.number) in
       let there : state m.own.number ≡ v = after_set g.words event step q answered in
       let here : state k ≡ v = ap state (sym number) ∙ there in
@@ -216,14 +210,14 @@ module _ (g : Global Machine) (k : ℕ) (event : Option WordEvent) (h : Holds g)
             (λ (ne : u ≡ k → ⊥). Same (other u ne)) (cases_eq u k),
       )
 
-  returns : asked_by t ≡ Some (step_at (state_word m.own.number) (ops.Swap 2)) → Plain m x → Told
+  returns : asked_by t ≡ Some (step_at (state_word m.own.number) (WordOp.Swap 2)) → Plain m x → Told
   returns is plain =
       let o = own 2 (inl refl) is in
       let next_is = o.0 in
       let two = o.1 in
       (changes o.2 (omega arith) (λ n e. inl (plain.drawn n e)) (λ e. absurd (not_ended (is_ended x.at.state) e plain.on)) (λ e. absurd (omega arith)), few_same next_is)
 
-  ends : asked_by t ≡ Some (step_at (state_word m.own.number) (ops.Swap 3)) → is_ended x.at.state ≡ true → drawn_of x.own.stage ≡ None → Told
+  ends : asked_by t ≡ Some (step_at (state_word m.own.number) (WordOp.Swap 3)) → is_ended x.at.state ≡ true → drawn_of x.own.stage ≡ None → Told
   ends is ended none =
       let o = own 3 (inr refl) is in
       let next_is = o.0 in

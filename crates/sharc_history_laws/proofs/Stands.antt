@@ -1,20 +1,15 @@
 -- What the invariant says of a thread that goes on: its registers, the gate of its place, and the cells that its instruction names.
-use Rattle.std.proofs.{Common.{◌≡◌, ℕ, suc, ◌+◌, ◌^◌, ◌<◌, ◌≢◌, Bool, true, false, cond, refl, sym, ap, ◌∙◌, subst, arith}, lemmas.Bool.Decides.nat_tests}
-use Rattle.std.specs.Prelude.{slice_index, ◌==◌}
-use Rattle.sharc_code.specs.{declared.code.Code.Code, declared.instr.Cell.Cell, declared.instr.Instr.Instr, declared.shape.Shape.Shape, declared.state.Stage.Stage, declared.state.Stage.TheVariants.Links, Layout.{Fits, granules}, Machine.{Machine, instr_at, ref, is_of_null}, Runs.Global}
-use Rattle.sharc_code.specs.declared.instr.Cell.TheVariants as cells
-use Rattle.sharc_code.specs.declared.instr.Instr.TheVariants as instrs
-use Rattle.sharc_invariant.specs.{Types.{Targets, ObjectType, StaticType, Field}, Labels.{Sole, Refers, Label, Labels}, Typed.{IsWellTyped, HasCell, HasBase}, World.{RegisterOf, In, Slot, Sole as IsSole, World, ObjectState, in_ref}, Words.{lang_of, is_freed}, Cells.IsThere, State.{State, Runs, View, TopStands, EntryStands, GateStands, OnHold, view_of, label_now, refs_at, types_at}, MachineInvariant.IsOn, Laws.CellsAreThere}
+use Rattle.sharc_history_laws.proofs.Imports.{◌≡◌, ℕ, suc, ◌+◌, ◌^◌, ◌<◌, ◌≢◌, Bool, true, false, cond, refl, sym, ap, ◌∙◌, subst, arith, nat_tests, slice_index, ◌==◌, Code, Cell, Instr, Shape, Stage, Links, Fits, granules, Machine, instr_at, ref, is_of_null, Global, Targets, ObjectType, StaticType, Field, Sole, Refers, Label, Labels, IsWellTyped, HasCell, HasBase, RegisterOf, In, Slot, IsSole, World, ObjectState, in_ref, lang_of, is_freed, CellIsThere as IsThere, State, Runs, View, TopStands, EntryStands, GateStands, OnHold, view_of, label_now, refs_at, types_at, IsOn, CellsAreThere}
 
 -- ---- stages at which no block is to be linked
 label_held : (l : Label) (i : Instr) (stage : Stage) → OnHold stage → label_now l i stage ≡ l
-label_held l (instrs.Free r layout site) (Links all) h = absurd h
-label_held l (instrs.Free r layout site) _ h = refl
+label_held l (Instr.Free r layout site) (Links all) h = absurd h
+label_held l (Instr.Free r layout site) _ h = refl
 label_held l _ stage h = refl
 
 freed_held : (i : Instr) (stage : Stage) (base j : ℕ) → OnHold stage → is_freed i stage base j ≡ false
-freed_held (instrs.Free r layout site) (Links all) base j h = absurd h
-freed_held (instrs.Free r layout site) _ base j h = refl
+freed_held (Instr.Free r layout site) (Links all) base j h = absurd h
+freed_held (Instr.Free r layout site) _ base j h = refl
 freed_held _ stage base j h = refl
 
 module _ (x : Targets) (code : Code) (s : Shape) (ls : Labels) (wt : IsWellTyped x code ls) (fits : Fits code s) (g : Global Machine) (world : World) (st : State x code s ls g world) where
@@ -65,10 +60,10 @@ module _ (x : Targets) (code : Code) (s : Shape) (ls : Labels) (wt : IsWellTyped
     not_zero n ne = grind (arith, nat_tests)
 
     pub some_base : (c : Cell) → HasBase here c → is_of_null (g.threads t) c ≡ false
-    some_base (cells.Global h p) b = refl
-    some_base (cells.GlobalAt h i) b = refl
-    some_base (cells.Object r i) b = not_zero (ref m r) (known_ref r b)
-    some_base (cells.ObjectAt r i) b = not_zero (ref m r) (known_ref r b)
+    some_base (Cell.Global h p) b = refl
+    some_base (Cell.GlobalAt h i) b = refl
+    some_base (Cell.Object r i) b = not_zero (ref m r) (known_ref r b)
+    some_base (Cell.ObjectAt r i) b = not_zero (ref m r) (known_ref r b)
 
     pub there : CellsAreThere → (c : Cell) (f : Field) → HasCell x code here c f → IsThere x s st.cells world t (g.threads t) c f
     there laws c f k = laws x code s ls wt fits g world st t on hold c f k.field (some_base c k.base)

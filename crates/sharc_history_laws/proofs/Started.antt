@@ -1,25 +1,11 @@
 -- The first event of a thread is the Started of the function and the argument with which an earlier Spawn started it, or of main.
-use Rattle.std.proofs.{Common.{◌≡◌, ℕ, ℤ, pos, suc, ◌<◌, ◌≢◌, ◌⊎◌, inl, inr, Bool, true, false, ◌&&◌, length, List, [], ◌∷◌, ◌++◌, reverse, Option, Some, None, if◌then◌else◌, refl, sym, ap, ◌∙◌, subst, ⊎_elim, arith, eqb-true}, lemmas.Bool.cases_eq, lemmas.Bool.Decides.nat_tests, lemmas.List.{get_or_append_left, get_or_push, length_push}, lemmas.List.FromFn.get_or-map-range_with_len}
-use Rattle.std.specs.Prelude.{slice_index, nat_lt, nat_eq, nat_le, ◌==◌, Any}
-use Rattle.sharc_word.specs.declared.step.TheConstants.{THREADS}
-use Rattle.sharc_word.specs.declared.step.WordOp.TheVariants as ops
-use Rattle.sharc_tree.specs.declared.event.Act.TheVariants as acts
-use Rattle.sharc_tree.specs.declared.event.SourceEvent.{SourceEvent}
-use Rattle.sharc_code.specs.{declared.code.Code.Code, declared.code.Parameter.Parameter, declared.instr.Instr.Instr, declared.instr.Register.Register, declared.shape.Shape.Shape, declared.state.Stage.Stage, declared.state.Stage.TheVariants.{Rests, Begins, Enters}, Arithmetic.word_of, Laws.RunLaws, Layout.{Fits, words_of, state_word, function_word, argument_word}, Machine.{Machine, instr_at, act, start, spawn, int, ref, argument, function_of}, Opening.{opening_words, opens_with, opening_cell, first_global}, Path.{turn, after, asked_by}, Runs.{Turn, Global, IsRun, MayTurn, put, state_now, result_of, is_started, opening_of}, Says.{said, speaks_of, reference, started_with, in_start, argument_of, of_argument}, StandingLaws.SpawnsStart, Stages.begins_of, Whole.{one_thread, bounds, place_after}}
-use Rattle.sharc_code.specs.declared.code.Parameter.TheVariants as parameters
-use Rattle.sharc_code.specs.declared.instr.Instr.TheVariants as instrs
-use Rattle.sharc_code.specs.declared.instr.Register.TheVariants as registers
-use Rattle.sharc_compile.specs.{Consistent.{Elements, said_now}, OfRuns.table_of}
-use Rattle.sharc_meaning.specs.{Events.{Stands, is_of, events_of}, Obeys.History}
-use Rattle.sharc_invariant.specs.{Types.Targets, Labels.Labels, Typed.{IsWellTyped, Fine}, World.{ArgumentOf, In, in_ref}, Words.{is_unread, if_reference}, State.{IsSmall, StageStands, OnSpawn, OnHold, view_of, refs_at, types_at}, MachineInvariant.IsOn, Laws.{Keeps, Begins as CodeBegins, CellsAreThere, PointersAreThere, AccessesAreAllowed}}
+use Rattle.sharc_history_laws.proofs.{Imports.{◌≡◌, ℕ, ℤ, pos, suc, ◌<◌, ◌≢◌, ◌⊎◌, inl, inr, Bool, true, false, ◌&&◌, length, List, [], ◌∷◌, ◌++◌, reverse, Option, Some, None, if◌then◌else◌, refl, sym, ap, ◌∙◌, subst, ⊎_elim, arith, eqb-true, cases_eq, nat_tests, get_or_append_left, get_or_push, length_push, get_or-map-range_with_len, slice_index, nat_lt, nat_eq, nat_le, ◌==◌, Any, THREADS, WordOp, Act, SourceEvent, Code, Parameter, Instr, Register, Shape, Stage, Rests, Begins, Enters, word_of, RunLaws, Fits, words_of, state_word, function_word, argument_word, Machine, instr_at, act, start, spawn, int, ref, argument, function_of, opening_words, opens_with, opening_cell, first_global, turn, after, asked_by, Turn, Global, IsRun, MayTurn, put, state_now, result_of, is_started, opening_of, said, speaks_of, reference, started_with, in_start, of_argument, SpawnsStart, begins_of, one_thread, bounds, place_after, Elements, said_now, table_of, Stands, is_of, events_of, History, Targets, Labels, IsWellTyped, Fine, ArgumentOf, In, in_ref, is_unread, if_reference, IsSmall, StageStands, OnSpawn, OnHold, view_of, refs_at, types_at, IsOn, Keeps, CodeBegins, CellsAreThere, PointersAreThere, AccessesAreAllowed, history_of, IsSpawnedByCode, IsStartedBy, yes}, Consists.{Consists, consists_then, at_first, found_is, same_table}, Contents.{back_again, fits_in}, Given.{spares_given, given_stays}, Holding.own_push, Lists.{Newest, Split, Last, Earlier, split, reverse_push}, Locking.is_own, Rules.{pushed, newest, newest_now, number_is, put_same, put_other}, Stands.{live_slot, top, rn}, Tables.header_of, Valued.{same_elements, reference_as}}
+use Rattle.sharc_code.specs.Says.{argument_of}
 use Rattle.sharc_invariant.specs.Words as Words
-use Rattle.sharc_history_laws.specs.{History.history_of, Starts.{IsSpawnedByCode, IsStartedBy}}
-use Rattle.sharc_history_laws.proofs.{Consists.{Consists, consists_then, at_first, found_is, same_table}, Contents.{back_again, fits_in}, Given.{spares_given, given_stays}, Holding.own_push, Lists.{Newest, Split, Last, Earlier, split, reverse_push}, Locking.is_own, Rules.{pushed, newest, newest_now, number_is, put_same, put_other}, Stands.{live_slot, top, rn}, Tables.header_of, Valued.{same_elements, reference_as}}
-use Rattle.sharc_lemmas.proofs.Bools.{yes}
 
 -- ---- what a thread was given, by the events
 abbrev pub IsStart : ℕ → ℕ → ℤ → SourceEvent → Type 0
-IsStart t f v e = (e.act ≡ acts.Spawn f v) × (e.answer ≡ pos t)
+IsStart t f v e = (e.act ≡ Act.Spawn f v) × (e.answer ≡ pos t)
 
 -- a Spawn answered the number of this thread
 abbrev pub SpawnedIn : Newest → (t f : ℕ) → ℤ → Type 0
@@ -69,8 +55,8 @@ pub record StartsTold (code : Code) (L : Newest) (T : Elements) (g : Global Mach
   pub unread : (t : ℕ) → Unheard L t → is_unread (g.threads t) ≡ true
   pub given : (t : ℕ) → t < THREADS → Unheard L t → slice_index g.words (state_word t) ≡ 1 → WasGiven code L T g t
 
-on_spawn : (P : ℕ → Register → Type 0) (j : Instr) → OnSpawn P j → (r : ℕ) × (f : ℕ) × (from : Register) × (site : ℕ) × (j ≡ instrs.Spawn r f from site)
-on_spawn P (instrs.Spawn r f from site) h = (r, f, from, site, refl)
+on_spawn : (P : ℕ → Register → Type 0) (j : Instr) → OnSpawn P j → (r : ℕ) × (f : ℕ) × (from : Register) × (site : ℕ) × (j ≡ Instr.Spawn r f from site)
+on_spawn P (Instr.Spawn r f from site) h = (r, f, from, site, refl)
 on_spawn P _ h = absurd h
 
 -- ---- one turn
@@ -133,7 +119,7 @@ module _ (cell_laws : CellsAreThere) (pointers : PointersAreThere) (rights : Acc
     parts true b e = (refl, e)
     parts false b e = absurd (yes (sym e))
 
-    at_start : i ≡ instrs.Start wt.begin.0
+    at_start : i ≡ Instr.Start wt.begin.0
     at_start = let z = eqb-true m.at.pc 0 (parts (m.at.pc == 0) (Words.is_first m.own.stage) unread).0 in ap (instr_at code) z ∙ wt.begin.1
 
     first_stage : Words.is_first ((place_after code s earlier).threads one.thread).own.stage ≡ true
@@ -148,7 +134,7 @@ module _ (cell_laws : CellsAreThere) (pointers : PointersAreThere) (rights : Acc
       where
         told : (f : ℕ) → ((place_after code s earlier).threads one.thread).own.stage ≡ Enters f → (e : SourceEvent) × (event ≡ Some e)
         told f at = (
-          record { thread = m.own.number; site = (function_of code f).site; answer = pos 0; act = acts.Started (started_with (function_of code f).parameter found elements) },
+          record { thread = m.own.number; site = (function_of code f).site; answer = pos 0; act = Act.Started (started_with (function_of code f).parameter found elements) },
           ap (λ j. said code j m found elements) at_start ∙ ap (in_start code m found elements) at,
         )
 
@@ -187,9 +173,9 @@ module _ (cell_laws : CellsAreThere) (pointers : PointersAreThere) (rights : Acc
       -- its argument, if it is a reference, has the elements that it had
       same_argument : (p : Parameter) → (function_of code (function_given (place_after code s earlier) t)).parameter ≡ p
           → started_with p (argument_given (place_after code s earlier) t) (T (argument_given (place_after code s earlier) t)) ≡ started_with p (argument_given (place_after code s earlier) t) (T' (argument_given (place_after code s earlier) t))
-      same_argument parameters.None e = refl
-      same_argument parameters.Int e = refl
-      same_argument parameters.Reference e = reference_as (argument_given g t) T T' (λ nz.
+      same_argument Parameter.None e = refl
+      same_argument Parameter.Int e = refl
+      same_argument Parameter.Reference e = reference_as (argument_given g t) T T' (λ nz.
           let lt' : nat_lt t THREADS ≡ true = below t lt in
           let state : (slice_index g.words (state_word t) == 1) ≡ true = ap (λ n. n == 1) was in
           let slot : in_ref h.world (ArgumentOf t) ≡ argument_given g t = h.state.sim.args t
@@ -224,15 +210,15 @@ module _ (cell_laws : CellsAreThere) (pointers : PointersAreThere) (rights : Acc
           (old.given t lt k was)
 
     -- ---- one that the turn starts
-    module _ (t : ℕ) (lt : t < THREADS) (r f site : ℕ) (from : Register) (is : i ≡ instrs.Spawn r f from site) (at : ((place_after code s earlier).threads one.thread).own.stage ≡ Begins t) where
-      stands : StageStands code s h.state.elements h.world h.state.heap (place_after code s earlier).words one.thread ((place_after code s earlier).threads one.thread) (instrs.Spawn r f from site) (Begins t)
-      stands = subst (StageStands code s h.state.elements h.world h.state.heap g.words u m (instrs.Spawn r f from site)) at (stage_here (instrs.Spawn r f from site) is)
+    module _ (t : ℕ) (lt : t < THREADS) (r f site : ℕ) (from : Register) (is : i ≡ Instr.Spawn r f from site) (at : ((place_after code s earlier).threads one.thread).own.stage ≡ Begins t) where
+      stands : StageStands code s h.state.elements h.world h.state.heap (place_after code s earlier).words one.thread ((place_after code s earlier).threads one.thread) (Instr.Spawn r f from site) (Begins t)
+      stands = subst (StageStands code s h.state.elements h.world h.state.heap g.words u m (Instr.Spawn r f from site)) at (stage_here (Instr.Spawn r f from site) is)
 
-      step_is : asked_by (turn code s ((place_after code s earlier).threads one.thread)) ≡ Some (Rattle.sharc_code.specs.Machine.step_of (state_word t) (ops.Swap 1))
+      step_is : asked_by (turn code s ((place_after code s earlier).threads one.thread)) ≡ Some (Rattle.sharc_code.specs.Machine.step_of (state_word t) (WordOp.Swap 1))
       step_is = ap (λ j. asked_by (act code s j m)) is ∙ ap (λ y. asked_by (spawn m r f from site y)) at
 
       other : (w : ℕ) → (w ≡ state_word t → ⊥) → slice_index g'.words w ≡ slice_index (place_after code s earlier).words w
-      other w ne = Rattle.sharc_history_laws.proofs.Born.word_other g.words one.event (Rattle.sharc_code.specs.Machine.step_of (state_word t) (ops.Swap 1)) w (may.next.asks ∙ step_is) ne
+      other w ne = Rattle.sharc_history_laws.proofs.Born.word_other g.words one.event (Rattle.sharc_code.specs.Machine.step_of (state_word t) (WordOp.Swap 1)) w (may.next.asks ∙ step_is) ne
 
       function_is : function_given g' t ≡ f
       function_is = other (function_word t) (λ e. omega arith) ∙ stands.1
@@ -241,21 +227,21 @@ module _ (cell_laws : CellsAreThere) (pointers : PointersAreThere) (rights : Acc
       argument_is = other (argument_word t) (λ e. omega arith) ∙ stands.2
 
       abbrev spawn_event : SourceEvent
-      spawn_event = record { thread = m.own.number; site = (Rattle.sharc_code.specs.Says.place_at code site).site; answer = pos t; act = acts.Spawn f (argument_of m from elements) }
+      spawn_event = record { thread = m.own.number; site = (Rattle.sharc_code.specs.Says.place_at code site).site; answer = pos t; act = Act.Spawn f (argument_of m from elements) }
 
       said_is : event ≡ Some spawn_event
       said_is = ap (λ j. said code j m found elements) is ∙ ap (Rattle.sharc_code.specs.Says.in_spawn code m f from site elements) at
 
       value_is : (q : Register) → from ≡ q → argument_of ((place_after code s earlier).threads one.thread) q elements ≡ started_with (function_of code f).parameter (argument ((place_after code s earlier).threads one.thread) q) (T' (argument ((place_after code s earlier).threads one.thread) q))
-      value_is (registers.Int n) e =
-          let hands = subst (λ from. Fine x code ls m.at.pc (ls.at m.at.pc) (instrs.Spawn r f from site)) e (fine (instrs.Spawn r f from site) is) in
+      value_is (Register.Int n) e =
+          let hands = subst (λ from. Fine x code ls m.at.pc (ls.at m.at.pc) (Instr.Spawn r f from site)) e (fine (Instr.Spawn r f from site) is) in
           let hold : OnHold m.own.stage = subst OnHold (sym at) tt in
           let number = (top x code s ls wt fits g h.world h.state u on hold 0 (suc n)).numbers n (omega arith) in
           let view = view_of h.state.elements h.world u m in
           let fit = fits_in x h.state.elements (refs_at view m.at.refs) (types_at view m.at.refs) (rn x code s ls wt fits g h.world h.state u on hold).names (int m n) ((ls.at m.at.pc).ints n) hands.5.2.0 hands.5.2.1 number in
           sym (back_again hands.5.2.0 (int m n) fit) ∙ sym (ap (λ p. started_with p (word_of (int m n)) (T' (word_of (int m n)))) hands.5.0)
-      value_is (registers.Reference n) e =
-          let hands = subst (λ from. Fine x code ls m.at.pc (ls.at m.at.pc) (instrs.Spawn r f from site)) e (fine (instrs.Spawn r f from site) is) in
+      value_is (Register.Reference n) e =
+          let hands = subst (λ from. Fine x code ls m.at.pc (ls.at m.at.pc) (Instr.Spawn r f from site)) e (fine (Instr.Spawn r f from site) is) in
           let speaks : elements ≡ T (ref m n) = ap (λ j. T (speaks_of j m found)) is ∙ ap (λ q. T (of_argument m q)) e in
           let stays : ref m n ≢ 0 → T' (ref m n) ≡ T (ref m n) = λ nz. same_table laws keeps cell_laws pointers x code s ls wt fits few one earlier h may (ref m n) nz
           (λ made. let z : None ≡ Some (ref m n) = sym (ap (λ j. header_of j m.own.stage) is) ∙ made in cc) in
@@ -265,7 +251,7 @@ module _ (cell_laws : CellsAreThere) (pointers : PointersAreThere) (rights : Acc
       given_now =
           let some = stands.0.first in
           let v = started_with (function_of code f).parameter (argument m from) (T' (argument m from)) in
-          let here : SpawnedIn (pushed event L) t f v = subst (λ ev. SpawnedIn (pushed ev L) t f v) (sym said_is) (inl (ap (acts.Spawn f) (value_is from refl), refl)) in
+          let here : SpawnedIn (pushed event L) t f v = subst (λ ev. SpawnedIn (pushed ev L) t f v) (sym said_is) (inl (ap (Act.Spawn f) (value_is from refl), refl)) in
           inr (
             λ z. omega arith,
             subst (IsSpawnedByCode code) (sym function_is) (m.at.pc, r, from, site, is),
@@ -315,7 +301,7 @@ module _ (cell_laws : CellsAreThere) (pointers : PointersAreThere) (rights : Acc
     starts_then = record { unread = unread_then; given = given_then }
 
     -- ---- the Started of the turn
-    module _ (e : SourceEvent) (said_is : event ≡ Some e) (v : ℤ) (is : e.act ≡ acts.Started v) (quiet : Unheard L one.thread) where
+    module _ (e : SourceEvent) (said_is : event ≡ Some e) (v : ℤ) (is : e.act ≡ Act.Started v) (quiet : Unheard L one.thread) where
       thread_now : e.thread ≡ one.thread
       thread_now = eqb-true e.thread u (is_own cell_laws pointers rights laws keeps x code s ls wt fits few one earlier h may e said_is)
 
@@ -327,10 +313,10 @@ module _ (cell_laws : CellsAreThere) (pointers : PointersAreThere) (rights : Acc
           let begun = at_start unread in
           let lt : u < THREADS = h.state.begins.few u on.0 in
           let state : slice_index g.words (state_word u) ≡ 1 = h.state.firsts.unread u lt on.0 unread in
-          let f_is : function_given g u ≡ f = subst (StageStands code s h.state.elements h.world h.state.heap g.words u m (instrs.Start wt.begin.0)) at (stage_here (instrs.Start wt.begin.0) begun) in
-          let asked : asked_by (turn code s m) ≡ Some (Rattle.sharc_code.specs.Machine.step_of (argument_word m.own.number) ops.Load) = ap (λ j. asked_by (act code s j m)) begun ∙ ap (λ y. asked_by (start code m wt.begin.0 y)) at in
-          let found_here : found ≡ argument_given g u = found_is g.words one.event (Rattle.sharc_code.specs.Machine.step_of (argument_word m.own.number) ops.Load) (may.next.asks ∙ asked) may.answered ∙ ap (λ n. slice_index g.words (argument_word n)) number in
-          let own : SourceEvent = record { thread = m.own.number; site = (function_of code f).site; answer = pos 0; act = acts.Started (started_with (function_of code f).parameter found elements) } in
+          let f_is : function_given g u ≡ f = subst (StageStands code s h.state.elements h.world h.state.heap g.words u m (Instr.Start wt.begin.0)) at (stage_here (Instr.Start wt.begin.0) begun) in
+          let asked : asked_by (turn code s m) ≡ Some (Rattle.sharc_code.specs.Machine.step_of (argument_word m.own.number) WordOp.Load) = ap (λ j. asked_by (act code s j m)) begun ∙ ap (λ y. asked_by (start code m wt.begin.0 y)) at in
+          let found_here : found ≡ argument_given g u = found_is g.words one.event (Rattle.sharc_code.specs.Machine.step_of (argument_word m.own.number) WordOp.Load) (may.next.asks ∙ asked) may.answered ∙ ap (λ n. slice_index g.words (argument_word n)) number in
+          let own : SourceEvent = record { thread = m.own.number; site = (function_of code f).site; answer = pos 0; act = Act.Started (started_with (function_of code f).parameter found elements) } in
           let said_own : event ≡ Some own = ap (λ j. said code j m found elements) begun ∙ ap (in_start code m found elements) at in
           let same : own ≡ e = let z : Some own ≡ Some e = sym said_own ∙ said_is in cc in
           let speaks : elements ≡ T found = ap (λ j. T (speaks_of j m found)) begun in
@@ -357,13 +343,13 @@ module _ (cell_laws : CellsAreThere) (pointers : PointersAreThere) (rights : Acc
                 (old.given u lt quiet state);
           }
         where
-          value_of : (a b : ℤ) → acts.Started a ≡ acts.Started b → a ≡ b
+          value_of : (a b : ℤ) → Act.Started a ≡ Act.Started b → a ≡ b
           value_of a b q = cc
 
           nothing : (p : Parameter) (n : ℕ) → started_with p 0 n ≡ pos 0
-          nothing parameters.None n = refl
-          nothing parameters.Int n = refl
-          nothing parameters.Reference n = refl
+          nothing Parameter.None n = refl
+          nothing Parameter.Int n = refl
+          nothing Parameter.Reference n = refl
 
       silent : (y : Stage) → ((place_after code s earlier).threads one.thread).own.stage ≡ y → in_start code ((place_after code s earlier).threads one.thread) found elements y ≡ None → ⊥
       silent y at q = let z : None ≡ Some e = sym q ∙ sym (ap (in_start code m found elements) at) ∙ sym (ap (λ j. said code j m found elements) (at_start unread)) ∙ said_is in cc
@@ -373,7 +359,7 @@ module _ (cell_laws : CellsAreThere) (pointers : PointersAreThere) (rights : Acc
       first_event Rests at = absurd (silent Rests at refl)
       first_event _ at = absurd (let z : false ≡ true = sym (ap Words.is_first at) ∙ first_stage unread in cc)
 
-    pub started_now : (e : SourceEvent) → event ≡ Some e → events_of e.thread (reverse L) ≡ [] → (v : ℤ) → e.act ≡ acts.Started v → IsStartedBy code (reverse L) e v
+    pub started_now : (e : SourceEvent) → event ≡ Some e → events_of e.thread (reverse L) ≡ [] → (v : ℤ) → e.act ≡ Act.Started v → IsStartedBy code (reverse L) e v
     started_now e said_is none v is =
         let thread : e.thread ≡ u = eqb-true e.thread u (is_own cell_laws pointers rights laws keeps x code s ls wt fits few one earlier h may e said_is) in
         let quiet : Unheard L u = unheard L u (ap (λ t. events_of t (reverse L)) (sym thread) ∙ none) in
@@ -414,21 +400,21 @@ module _ (code : Code) (s : Shape) where
 
 -- ---- runs
 abbrev pub StartsAre : Code → History → Type 0
-StartsAre code R = (before : History) (e : SourceEvent) (after : History) → Stands R before e after → events_of e.thread before ≡ [] → (v : ℤ) → e.act ≡ acts.Started v → IsStartedBy code before e v
+StartsAre code R = (before : History) (e : SourceEvent) (after : History) → Stands R before e after → events_of e.thread before ≡ [] → (v : ℤ) → e.act ≡ Act.Started v → IsStartedBy code before e v
 
 none_yet : (code : Code) → StartsAre code []
 none_yet code [] e after stands = absurd (cc)
 none_yet code (b ∷ bs) e after stands = absurd (cc)
 
-one_more : (code : Code) (e : SourceEvent) (L : Newest) → StartsAre code (reverse L) → (events_of e.thread (reverse L) ≡ [] → (v : ℤ) → e.act ≡ acts.Started v → IsStartedBy code (reverse L) e v) → StartsAre code (reverse (e ∷ L))
+one_more : (code : Code) (e : SourceEvent) (L : Newest) → StartsAre code (reverse L) → (events_of e.thread (reverse L) ≡ [] → (v : ℤ) → e.act ≡ Act.Started v → IsStartedBy code (reverse L) e v) → StartsAre code (reverse (e ∷ L))
 one_more code e L old new before d after stands = by (split e L before d after stands)
   where
-    by : Split e L before d after → events_of d.thread before ≡ [] → (v : ℤ) → d.act ≡ acts.Started v → IsStartedBy code before d v
-    by (Last b same n) = subst (λ before. events_of d.thread before ≡ [] → (v : ℤ) → d.act ≡ acts.Started v → IsStartedBy code before d v) (sym b)
-        (subst (λ (d : SourceEvent). events_of d.thread (reverse L) ≡ [] → (v : ℤ) → d.act ≡ acts.Started v → IsStartedBy code (reverse L) d v) (sym same) new)
+    by : Split e L before d after → events_of d.thread before ≡ [] → (v : ℤ) → d.act ≡ Act.Started v → IsStartedBy code before d v
+    by (Last b same n) = subst (λ before. events_of d.thread before ≡ [] → (v : ℤ) → d.act ≡ Act.Started v → IsStartedBy code before d v) (sym b)
+        (subst (λ (d : SourceEvent). events_of d.thread (reverse L) ≡ [] → (v : ℤ) → d.act ≡ Act.Started v → IsStartedBy code (reverse L) d v) (sym same) new)
     by (Earlier rest n stands') = old before d rest stands'
 
-with_event : (code : Code) (ev : Option SourceEvent) (L : Newest) → StartsAre code (reverse L) → ((e : SourceEvent) → ev ≡ Some e → events_of e.thread (reverse L) ≡ [] → (v : ℤ) → e.act ≡ acts.Started v → IsStartedBy code (reverse L) e v)
+with_event : (code : Code) (ev : Option SourceEvent) (L : Newest) → StartsAre code (reverse L) → ((e : SourceEvent) → ev ≡ Some e → events_of e.thread (reverse L) ≡ [] → (v : ℤ) → e.act ≡ Act.Started v → IsStartedBy code (reverse L) e v)
     → StartsAre code (reverse (pushed ev L))
 with_event code None L old new = old
 with_event code (Some e) L old new = one_more code e L old (new e refl)

@@ -1,15 +1,6 @@
 -- An object in whose granules bits stand stays, and no event of a turn is about its beginning or its end.
-use Rattle.std.proofs.{Common.{◌≡◌, ℕ, ◌+◌, ◌*◌, ◌<◌, ◌≢◌, Bool, true, false, List, ◌∷◌, Option, Some, None, refl, sym, ap, ◌∙◌, subst, ⊎_elim, arith}, lemmas.Bool.{cases_eq, or_from as or_no}, lemmas.Bool.Decides.nat_tests}
-use Rattle.std.specs.Prelude.{◌==◌}
-use Rattle.sharc_tree.specs.{declared.event.Object.Object, declared.event.SourceEvent.SourceEvent}
-use Rattle.sharc_tree.specs.declared.event.Object.TheVariants as objects
-use Rattle.sharc_heap.specs.ShadowWord.{stands}
-use Rattle.sharc_code.specs.{declared.code.Code.Code, declared.instr.Instr.Instr, declared.shape.Shape.Shape, declared.state.Stage.Stage, declared.state.Stage.TheVariants.{Uncounts, Leaves as Leaving}, Layout.granules, Machine.{Machine, instr_at, ref}, Outcomes.is_exit, Path.turn, Runs.{Turn, Global, result_of, paired, told_by, after_turn}, Says.said, Whole.{Erase, one_thread, bounds, place_after}}
-use Rattle.sharc_code.specs.declared.instr.Instr.TheVariants as instrs
-use Rattle.sharc_meaning.specs.{Events.{begins, frees, is_number, made_by, given_by, freed_by}, Store.is_gone}
-use Rattle.sharc_invariant.specs.{Blocks.{Built, Live}, Labels.Labels, MachineInvariant.IsOn, State.State, Types.{Targets, cells_of}, Words.{has_withdrawn, is_ended}, World.{World, ObjectState}}
-use Rattle.sharc_history_laws.proofs.{Acts.{given_at, freed_in, freed_at, About, about}, Cleared.{given_cleared, freed_cleared}, Consists.{Consists, objects_then, header_built}, Leaving.{gone_said, not_gone, leaves_at}, Remaining.word_at, Rules.{same_behind, low_numbers}, Tables.{header_of, length_kept}, Wholes.{TheLaws, Typed, RunOf, Whole, fresh_of, next_consists}, Withdrawing.has_left, Writes.writes}
-use Rattle.sharc_lemmas.proofs.Bools.{yes}
+use Rattle.sharc_history_laws.proofs.{Imports.{◌≡◌, ℕ, ◌+◌, ◌*◌, ◌<◌, ◌≢◌, Bool, true, false, List, ◌∷◌, Option, Some, None, refl, sym, ap, ◌∙◌, subst, ⊎_elim, arith, cases_eq, or_no, nat_tests, ◌==◌, Object, SourceEvent, stands, Code, Instr, Shape, Stage, Uncounts, Leaves as Leaving, granules, Machine, instr_at, ref, is_exit, turn, Turn, Global, result_of, paired, told_by, after_turn, said, Erase, one_thread, bounds, place_after, begins, frees, is_number, made_by, given_by, is_gone, Built, Live, Labels, IsOn, State, Targets, cells_of, has_withdrawn, is_ended, World, ObjectState, yes}, Acts.{given_at, freed_in, freed_at, About, about}, Cleared.{given_cleared, freed_cleared}, Consists.{Consists, objects_then, header_built}, Leaving.{gone_said, not_gone, leaves_at}, Remaining.word_at, Rules.{same_behind, low_numbers}, Tables.{header_of, length_kept}, Wholes.{TheLaws, Typed, RunOf, Whole, fresh_of, next_consists}, Withdrawing.has_left, Writes.writes}
+use Rattle.sharc_meaning.specs.Events.{freed_by}
 
 number_no : (n : ℕ) (o : Option ℕ) → (o ≡ Some n → ⊥) → is_number n o ≡ false
 number_no n None never = refl
@@ -20,8 +11,8 @@ number_no n (Some k) never = let ne : n ≡ k → ⊥ = λ e. never (ap (λ j. S
 
 -- the object of this number, where it is one that was made
 abbrev pub IsObject : Object → ℕ → Type 0
-IsObject (objects.Global g) o = Unit {0}
-IsObject (objects.Made n) o = (n ≡ o) × (o ≢ 0)
+IsObject (Object.Global g) o = Unit {0}
+IsObject (Object.Made n) o = (n ≡ o) × (o ≢ 0)
 
 module _ (laws : TheLaws) (x : Targets) (code : Code) (s : Shape) (ls : Labels) (typed : Typed x code s ls) (one : Turn) (earlier : List Turn) (run : RunOf code s (one ∷ earlier)) (w : Whole x code s ls earlier)
     (o k : ℕ) (live : (w.consists.world.obj o).live ≡ true) (inside : 2 * k < w.consists.state.cells o) where
@@ -92,14 +83,14 @@ module _ (laws : TheLaws) (x : Targets) (code : Code) (s : Shape) (ls : Labels) 
   -- ---- where a bit stands
   module _ (u : ℕ) (bit : stands (word_at (place_after code s earlier) (o + 1 + k)) u ≡ true) where
     ungiven : (j : Instr) → i ≡ j → given_at j ((place_after code s earlier).threads one.thread) ≡ Some o → ⊥
-    ungiven (instrs.Give r site) is e =
+    ungiven (Instr.Give r site) is e =
         let same : ref m r ≡ o = cc in
         let low : 2 * k < st.cells (ref m r) = subst (λ o. 2 * k < st.cells o) (sym same) inside in
         let none = given_cleared laws.run.turns.outcomes laws.shadow laws.state laws.cells laws.pointers x code s ls typed.wt typed.fits g world st one run.1 fresh w.remains w.cleared r site is k low u in
         yes (sym bit ∙ ap (λ o. stands (word_at g (o + 1 + k)) u) (sym same) ∙ none)
     ungiven _ is e = let f : None ≡ Some o = e in cc
 
-    unfreed_at : (r layout site : ℕ) → i ≡ instrs.Free r layout site → (y : Stage) → ((place_after code s earlier).threads one.thread).own.stage ≡ y → freed_in y (ref ((place_after code s earlier).threads one.thread) r) ≡ Some o → ⊥
+    unfreed_at : (r layout site : ℕ) → i ≡ Instr.Free r layout site → (y : Stage) → ((place_after code s earlier).threads one.thread).own.stage ≡ y → freed_in y (ref ((place_after code s earlier).threads one.thread) r) ≡ Some o → ⊥
     unfreed_at r layout site is (Uncounts all) at e =
         let same : ref m r ≡ o = cc in
         let low : 2 * k < st.cells (ref m r) = subst (λ o. 2 * k < st.cells o) (sym same) inside in
@@ -108,7 +99,7 @@ module _ (laws : TheLaws) (x : Targets) (code : Code) (s : Shape) (ls : Labels) 
     unfreed_at r layout site is _ at e = let f : None ≡ Some o = e in cc
 
     unfreed : (j : Instr) → i ≡ j → freed_at j ((place_after code s earlier).threads one.thread) ≡ Some o → ⊥
-    unfreed (instrs.Free r layout site) is e = unfreed_at r layout site is m.own.stage refl e
+    unfreed (Instr.Free r layout site) is e = unfreed_at r layout site is m.own.stage refl e
     unfreed _ is e = let f : None ≡ Some o = e in cc
 
     pub stays : StillThere
@@ -126,8 +117,8 @@ module _ (laws : TheLaws) (x : Targets) (code : Code) (s : Shape) (ls : Labels) 
       of = subst tells told (about code m i (result_of one.event) elements (low_numbers laws.cells laws.pointers laws.rights laws.run laws.keeps x code s ls typed.wt typed.fits typed.few one earlier w.consists run.1))
 
       pub nothing : (object : Object) → IsObject object o → (begins object e ≡ false) × (frees object e ≡ false)
-      nothing (objects.Global h) is = (refl, refl)
-      nothing (objects.Made n) is = (
+      nothing (Object.Global h) is = (refl, refl)
+      nothing (Object.Made n) is = (
         or_no (is_number n (made_by e e.act)) (is_number n (given_by e.act))
             (number_no n (made_by e e.act) (λ q. unmade is.1 (sym of.makes ∙ q ∙ ap (λ j. Some j) is.0)))
             (number_no n (given_by e.act) (λ q. ungiven i refl (sym of.gives ∙ q ∙ ap (λ j. Some j) is.0))),
@@ -136,7 +127,7 @@ module _ (laws : TheLaws) (x : Targets) (code : Code) (s : Shape) (ls : Labels) 
 
       -- the thread of the bit does not end
       leaving : (j : Instr) → i ≡ j → is_exit j ≡ true → gone_said (said code j ((place_after code s earlier).threads one.thread) (result_of one.event) elements) ≡ true → ((place_after code s earlier).threads one.thread).own.stage ≡ Leaving
-      leaving instrs.Exit is e q = leaves_at code m m.own.stage q
+      leaving Instr.Exit is e q = leaves_at code m m.own.stage q
       leaving _ is e q = absurd (yes (sym e))
 
       pub stays_on : o + 1 + k < granules s → is_gone e.act ≡ true → e.thread ≢ u

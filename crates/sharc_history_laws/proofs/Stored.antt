@@ -1,14 +1,5 @@
 -- The source events of each run of typed code may come one after the other, but that nothing is said of those that tell who waits.
-use Rattle.std.proofs.Common.{◌≡◌, false, List, [], ◌∷◌, reverse, Option, Some, None, refl, sym, subst}
-use Rattle.sharc_tree.specs.declared.event.SourceEvent.{SourceEvent}
-use Rattle.sharc_ctype.specs.Resolved.{Resolution}
-use Rattle.sharc_code.specs.{declared.code.Code.Code, declared.shape.Shape.Shape, Laws.RunLaws, Layout.Fits, Opening.opening_words, Runs.{Turn, IsRun, result_of, opening_of}, Whole.{one_thread, bounds, place_after}}
-use Rattle.sharc_history_laws.specs.{Told.StatesAreTold, History.history_of, Stores.{BeginsWith, is_about_waiters}}
-use Rattle.sharc_compile.specs.{Consistent.said_now, OfRuns.table_of}
-use Rattle.sharc_meaning.specs.{Events.Stands, Obeys.History, Store.MayCome}
-use Rattle.sharc_invariant.specs.{Types.Targets, Labels.Labels, Typed.IsWellTyped, State.IsSmall, Laws.{Keeps, Begins as CodeBegins, CellsAreThere, PointersAreThere, AccessesAreAllowed, StateStands}}
-use Rattle.sharc_history_laws.proofs.{Consists.{Consists, consists_then, objects_then, at_first}, Legal.{IsLegal, Told, legal_now, may_mutex}, Lists.{Newest, Split, Last, Earlier, split}, Living.lives_told, Locking.logs_then, Logged.has_then, Mutual.{Mutual, MayMutex, mutual_then, nobody_holds}, Opening.contents_first, Rules.{pushed, newest, newest_now, about_now}, Threaded.{threads_then, nobody_yet}, Valued.contents_then}
-use Rattle.sharc_lemmas.proofs.Bools.{yes}
+use Rattle.sharc_history_laws.proofs.{Imports.{◌≡◌, false, List, [], ◌∷◌, reverse, Option, Some, None, refl, sym, subst, SourceEvent, Resolution, Code, Shape, RunLaws, Fits, opening_words, Turn, IsRun, result_of, opening_of, one_thread, bounds, place_after, StatesAreTold, history_of, BeginsWith, is_about_waiters, said_now, table_of, Stands, History, MayCome, Targets, Labels, IsWellTyped, IsSmall, Keeps, CodeBegins, CellsAreThere, PointersAreThere, AccessesAreAllowed, StateStands, yes}, Consists.{Consists, consists_then, objects_then, at_first}, Legal.{IsLegal, Told, legal_now, may_mutex}, Lists.{Newest, Split, Last, Earlier, split}, Living.lives_told, Locking.logs_then, Logged.has_then, Mutual.{Mutual, MayMutex, mutual_then, nobody_holds}, Opening.contents_first, Rules.{pushed, newest, newest_now, about_now}, Threaded.{threads_then, nobody_yet}, Valued.contents_then}
 
 -- each event of the history, but those that tell who waits
 abbrev pub EachMayCome : Resolution → History → Type 0

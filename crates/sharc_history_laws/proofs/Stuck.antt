@@ -1,19 +1,6 @@
 -- The event for which a thread waits may not come.
-use Rattle.std.proofs.Common.{◌≡◌, ℕ, ℤ, pos, negsuc, zero, suc, ◌≢◌, ◌⊎◌, inl, inr, Bool, true, false, not, ◌||◌, List, nat_lt, ltb-true, Some, None, if◌then◌else◌, refl, sym, ap, ◌∙◌, subst, ⊎_elim, arith, eqb-true}
-use Rattle.std.specs.Prelude.{slice_index, ◌==◌}
-use Rattle.sharc_word.specs.declared.step.TheConstants.{THREADS}
-use Rattle.sharc_tree.specs.{declared.event.Act.Act, declared.event.SourceEvent.SourceEvent}
-use Rattle.sharc_ctype.specs.Resolved.{Resolution}
-use Rattle.sharc_locks.specs.Waiters.{waits_in}
-use Rattle.sharc_code.specs.{declared.code.Code.Code, declared.instr.Cell.Cell, declared.instr.Instr.Instr, declared.shape.Shape.Shape, Layout.{Fits, state_word}, Machine.{Machine, instr_at, int, word}, Runs.{Turn, Global}, Says.cell_at, Waits.{asks_for, joins, held_up}, Whole.{CheckedRun, place_after, Waits}}
-use Rattle.sharc_code.specs.declared.instr.Instr.TheVariants as instrs
-use Rattle.sharc_code.specs.declared.state.Wait.TheVariants as waits
-use Rattle.sharc_meaning.specs.Store.{MayCome, is_locked, is_waiter, went}
-use Rattle.sharc_invariant.specs.{Types.Targets, Labels.Labels, Typed.{IsWellTyped, Fine, IsNotSole}, State.{IsSmall, StageStands}, MachineInvariant.IsOn, Laws.{CellsAreThere, StateStands}}
-use Rattle.sharc_history_laws.specs.{Awaits.{AwaitedIsHeld, AwaitedIsNotGone}, History.history_of, Stuck.act_awaited}
-use Rattle.sharc_history_laws.proofs.{Contents.word_of_cell, Emptying.IsEmptied, Mutual.locked_is, Queued.{waits_by, waiter_is}, Rules.newest, Shared.number_of, Single.rests_hold, Sparing.holds_waiters, Stored.Stored, Unemptied.not_emptied, Woken.Awaited}
+use Rattle.sharc_history_laws.proofs.{Imports.{◌≡◌, ℕ, ℤ, pos, negsuc, zero, suc, ◌≢◌, ◌⊎◌, inl, inr, Bool, true, false, not, ◌||◌, List, nat_lt, ltb-true, Some, None, if◌then◌else◌, refl, sym, ap, ◌∙◌, subst, ⊎_elim, arith, eqb-true, slice_index, ◌==◌, THREADS, Act, SourceEvent, Resolution, waits_in, Code, Cell, Instr, Shape, Fits, state_word, Machine, instr_at, int, word, Turn, Global, cell_at, asks_for, joins, held_up, CheckedRun, place_after, Waits, Wait, MayCome, is_locked, is_waiter, went, Targets, Labels, IsWellTyped, Fine, IsNotSole, IsSmall, StageStands, IsOn, CellsAreThere, StateStands, AwaitedIsHeld, AwaitedIsNotGone, history_of, act_awaited, yes}, Contents.word_of_cell, Emptying.IsEmptied, Mutual.locked_is, Queued.{waits_by, waiter_is}, Rules.newest, Shared.number_of, Single.rests_hold, Sparing.holds_waiters, Stored.Stored, Unemptied.not_emptied, Woken.Awaited}
 use Rattle.sharc_history_laws.proofs.Placed as Placed
-use Rattle.sharc_lemmas.proofs.Bools.{yes}
 
 not_zero : (n : ℕ) → not (n == 0) ≡ true → n ≢ 0
 not_zero zero e z = yes (sym e)
@@ -31,17 +18,17 @@ module _ (held_law : AwaitedIsHeld) (gone_law : AwaitedIsNotGone) (state_law : S
   i = instr_at code ((place_after code s run).threads t).at.pc
 
   -- a mutex
-  lock_may_not : (k : Cell) (site : ℕ) → i ≡ instrs.Lock k site → slice_index (place_after code s run).words (word s ((place_after code s run).threads t) k) ≢ 0 → is_locked (history_of code s run) (cell_at code ((place_after code s run).threads t) k) ≡ true
+  lock_may_not : (k : Cell) (site : ℕ) → i ≡ Instr.Lock k site → slice_index (place_after code s run).words (word s ((place_after code s run).threads t) k) ≢ 0 → is_locked (history_of code s run) (cell_at code ((place_after code s run).threads t) k) ≡ true
   lock_may_not k site is nz =
       let u = held_law x code s ls wt fits few run checked t on k site is nz in
       locked_is (newest code s run) (cell_at code m k) ∙ (stored.told.mutexes.last u.0 (cell_at code m k) u.1).0
 
   -- a condition
-  wait_may_not : (k : Cell) (site : ℕ) → i ≡ instrs.CondWait k site → (u : ℕ) → is_waiter (history_of code s run) (cell_at code ((place_after code s run).threads t) k) u ≡ waits_in (slice_index (place_after code s run).words (word s ((place_after code s run).threads t) k)) u
+  wait_may_not : (k : Cell) (site : ℕ) → i ≡ Instr.CondWait k site → (u : ℕ) → is_waiter (history_of code s run) (cell_at code ((place_after code s run).threads t) k) u ≡ waits_in (slice_index (place_after code s run).words (word s ((place_after code s run).threads t) k)) u
   wait_may_not k site is u =
       let h = waiters.consists in
       let f = subst (Fine x code ls m.at.pc (ls.at m.at.pc)) is (wt.fine m.at.pc) in
-      let hold = rests_hold code s h.state.elements h.world h.state.heap g.words t m (instrs.CondWait k site) m.own.stage refl (subst (λ j. StageStands code s h.state.elements h.world h.state.heap g.words t m j m.own.stage) is ((h.state.threads t).runs on.0 on.1).stage) in
+      let hold = rests_hold code s h.state.elements h.world h.state.heap g.words t m (Instr.CondWait k site) m.own.stage refl (subst (λ j. StageStands code s h.state.elements h.world h.state.heap g.words t m j m.own.stage) is ((h.state.threads t).runs on.0 on.1).stage) in
       let apart : IsNotSole (ls.at m.at.pc).gate = subst IsNotSole (sym f.0) tt in
       let numbers = Placed.numbers cell_laws x code s ls wt fits g h.world h.state t on hold k f.1.0 f.1.1 in
       let content = Placed.content cell_laws x code s ls wt fits g h.world h.state t on hold k f.1.0 f.1.1 in
@@ -61,7 +48,7 @@ module _ (held_law : AwaitedIsHeld) (gone_law : AwaitedIsNotGone) (state_law : S
       either true b e = inl refl
       either false b e = inr e
 
-      by : (b : Bool) → nat_lt n THREADS ≡ b → held_up (place_after code s run).words ((place_after code s run).threads t).own.number (if b then Some (waits.Join n site) else None) ≡ true → went (history_of code s run) (pos n) ≡ false
+      by : (b : Bool) → nat_lt n THREADS ≡ b → held_up (place_after code s run).words ((place_after code s run).threads t).own.number (if b then Some (Wait.Join n site) else None) ≡ true → went (history_of code s run) (pos n) ≡ false
       by true lt e =
           let v = slice_index g.words (state_word n) in
           gone_law x code s ls wt fits few run checked n (ltb-true n THREADS lt) (⊎_elim
@@ -91,8 +78,8 @@ module _ (held_law : AwaitedIsHeld) (gone_law : AwaitedIsNotGone) (state_law : S
       up_at j is = ap (λ j. held_up g.words m.own.number (asks_for s j m)) (sym is) ∙ asks up
 
       by : (j : Instr) → i ≡ j → act_awaited code ((place_after code s run).threads t) j ≡ Some e.act → ⊥
-      by (instrs.Lock k site) is q = yes (sym (lock_may_not k site is (not_zero _ (up_at (instrs.Lock k site) is))) ∙ of_act _ (act_eq _ _ q))
-      by (instrs.Join n site) is q = yes (sym (of_act _ (act_eq _ _ q)) ∙ join_may_not (int m n) site (up_at (instrs.Join n site) is))
-      by (instrs.CondWait k site) is q =
-          yes (sym (up_at (instrs.CondWait k site) is) ∙ ap (waits_in (slice_index g.words (word s m k))) number ∙ sym (wait_may_not k site is t) ∙ ap (is_waiter (history_of code s run) (cell_at code m k)) (sym own) ∙ of_act _ (act_eq _ _ q))
+      by (Instr.Lock k site) is q = yes (sym (lock_may_not k site is (not_zero _ (up_at (Instr.Lock k site) is))) ∙ of_act _ (act_eq _ _ q))
+      by (Instr.Join n site) is q = yes (sym (of_act _ (act_eq _ _ q)) ∙ join_may_not (int m n) site (up_at (Instr.Join n site) is))
+      by (Instr.CondWait k site) is q =
+          yes (sym (up_at (Instr.CondWait k site) is) ∙ ap (waits_in (slice_index g.words (word s m k))) number ∙ sym (wait_may_not k site is t) ∙ ap (is_waiter (history_of code s run) (cell_at code m k)) (sym own) ∙ of_act _ (act_eq _ _ q))
       by _ is q = cc

@@ -1,21 +1,11 @@
 -- The elements of objects by the source events are those that the length words of live objects hold.
-use Rattle.std.proofs.{Common.{◌≡◌, ℕ, zero, suc, ◌+◌, ◌*◌, ◌%◌, ◌^◌, ◌<◌, ◌≤◌, ◌≢◌, ◌⊎◌, inl, inr, Bool, true, false, List, Option, Some, None, if◌then◌else◌, refl, sym, ap, ◌∙◌, subst, ⊎_elim, arith, eqb-true}, lemmas.Bool.{cases_eq, cases_lt}, lemmas.Bool.Decides.nat_tests, lemmas.List.get_or-set_other}
-use Rattle.std.specs.Prelude.{slice_index, nat_eq, ◌==◌, ◌||◌}
-use Rattle.sharc_word.specs.{declared.step.WordStep.WordStep, declared.step.WordEvent.WordEvent, Words.{word_after, words_after_step}}
-use Rattle.sharc_tree.specs.declared.event.SourceEvent.{SourceEvent}
-use Rattle.sharc_heap.specs.{State.NewView, declared.stage.NewStage.NewStage}
-use Rattle.sharc_heap.specs.declared.stage.NewStage.TheVariants as news
-use Rattle.sharc_locks.specs.Waiters.{waits_in}
-use Rattle.sharc_code.specs.{declared.code.Code.Code, declared.instr.Cell.Cell, declared.instr.Register.Register, declared.instr.Instr.Instr, declared.shape.Shape.Shape, declared.state.Stage.Stage, declared.state.Stage.TheVariants.{Makes, Uncounts, Begins, Enters, Withdraws, WithdrawsFrom, Leaves as Leaving, Wakes}, Layout.first_cell, Machine.{Machine, Turn, Local, Asks, ref}, Path.asked_by, Runs.{Global, put, words_now, step_of}, Says.{said, reference, number_of, take_local, nobody, in_signal, in_exit, in_spawn, in_start, in_free, in_new, new_event}}
-use Rattle.sharc_code.specs.declared.instr.Instr.TheVariants as instrs
-use Rattle.sharc_compile.specs.Consistent.{Elements, elements_told}
-use Rattle.sharc_invariant.specs.{Types.Targets, Labels.Labels, World.{ObjectState, World}, Words.{length_at, cell_at}, Blocks.{Built, Live}, Objects.{objects_behind, made_behind, new_behind, freed_behind, owned, gone, type_held}, State.State}
-use Rattle.sharc_history_laws.proofs.Writes.{Wrote, Leaves, Low, CountOf, InCell, InBlock, Writes}
-use Rattle.sharc_lemmas.proofs.Lists.{set_same}
+use Rattle.sharc_history_laws.proofs.{Imports.{◌≡◌, ℕ, zero, suc, ◌+◌, ◌*◌, ◌%◌, ◌^◌, ◌<◌, ◌≤◌, ◌≢◌, ◌⊎◌, inl, inr, Bool, true, false, List, Option, Some, None, if◌then◌else◌, refl, sym, ap, ◌∙◌, subst, ⊎_elim, arith, eqb-true, cases_eq, cases_lt, nat_tests, get_or-set_other, slice_index, nat_eq, ◌==◌, ◌||◌, WordStep, WordEvent, word_after, words_after_step, SourceEvent, NewView, NewStage, waits_in, Code, Cell, Register, Instr, Shape, Stage, Makes, Uncounts, Begins, Enters, Withdraws, WithdrawsFrom, Leaves as Leaving, Wakes, first_cell, Machine, StepTurn as Turn, Local, Asks, ref, asked_by, Global, put, words_now, said, reference, number_of, take_local, nobody, in_signal, in_exit, in_spawn, in_start, in_free, in_new, new_event, Elements, elements_told, Targets, Labels, ObjectState, World, length_at, Built, Live, objects_behind, made_behind, new_behind, freed_behind, owned, gone, type_held, State, set_same}, Writes.{Wrote, Leaves, Low, CountOf, InCell, InBlock, Writes}}
+use Rattle.sharc_code.specs.Runs.{step_of}
+use Rattle.sharc_invariant.specs.Words.{cell_at}
 
 -- ---- the object that a turn makes
 abbrev pub header_at : NewStage → Option ℕ
-header_at (news.Length header) = Some header
+header_at (NewStage.Length header) = Some header
 header_at _ = None
 
 abbrev pub header_in : Stage → Option ℕ
@@ -23,7 +13,7 @@ header_in (Makes v) = header_at v.stage
 header_in _ = None
 
 abbrev pub header_of : Instr → Stage → Option ℕ
-header_of (instrs.New r count cells site) stage = header_in stage
+header_of (Instr.New r count cells site) stage = header_in stage
 header_of _ stage = None
 
 abbrev pub elements_in_stage : Stage → ℕ
@@ -74,7 +64,7 @@ module _ (T : Elements) (n : ℕ) where
   at_signal code m cell site found _ = at_nobody code m cell site found
 
   at_new_stage : (code : Code) (m : Machine) (site cells : ℕ) (v : NewView) (stage : NewStage) → ((header : ℕ) → header_at stage ≡ Some header → (header < 2 ^ 32) × (header ≢ n)) → Kept (new_event code m site cells v stage)
-  at_new_stage code m site cells v (news.Length header) h =
+  at_new_stage code m site cells v (NewStage.Length header) h =
       let k = h header refl in
       let e : (number_of (reference header v.arguments.elements) == n) ≡ false = ap (λ j. j == n) (number_back header v.arguments.elements k.0) ∙ (let ne = k.1 in grind (arith, nat_tests)) in
       ap (λ b. if b then v.arguments.elements else T n) e
@@ -86,20 +76,20 @@ module _ (T : Elements) (n : ℕ) where
 
   -- a turn that does not make the object tells no other number of elements
   pub told_other : (code : Code) (i : Instr) (m : Machine) (found elements : ℕ) → ((header : ℕ) → header_of i m.own.stage ≡ Some header → (header < 2 ^ 32) × (header ≢ n)) → Kept (said code i m found elements)
-  told_other code (instrs.New r count cells site) m found elements h = at_new code m site cells m.own.stage h
-  told_other code (instrs.TakeLocal r from site) m found elements h = at_local code m site (ref m from) elements
-  told_other code (instrs.Free r layout site) m found elements h = at_free code m r site elements m.own.stage
-  told_other code (instrs.Lock c site) m found elements h = either (found == 0) _ _ refl refl
-  told_other code (instrs.Spawn r function from site) m found elements h = at_spawn code m function from site elements m.own.stage
-  told_other code (instrs.Join r site) m found elements h = either (found == 0 || (found == 1 || found == 2)) _ _ refl refl
-  told_other code (instrs.Start site) m found elements h = at_start code m found elements m.own.stage
-  told_other code instrs.Exit m found elements h = at_exit code m m.own.stage
-  told_other code (instrs.CondWait c site) m found elements h = either (waits_in found m.own.number) _ _ refl refl
-  told_other code (instrs.CondSignal c site) m found elements h = at_signal code m c site found m.own.stage
+  told_other code (Instr.New r count cells site) m found elements h = at_new code m site cells m.own.stage h
+  told_other code (Instr.TakeLocal r from site) m found elements h = at_local code m site (ref m from) elements
+  told_other code (Instr.Free r layout site) m found elements h = at_free code m r site elements m.own.stage
+  told_other code (Instr.Lock c site) m found elements h = either (found == 0) _ _ refl refl
+  told_other code (Instr.Spawn r function from site) m found elements h = at_spawn code m function from site elements m.own.stage
+  told_other code (Instr.Join r site) m found elements h = either (found == 0 || (found == 1 || found == 2)) _ _ refl refl
+  told_other code (Instr.Start site) m found elements h = at_start code m found elements m.own.stage
+  told_other code Instr.Exit m found elements h = at_exit code m m.own.stage
+  told_other code (Instr.CondWait c site) m found elements h = either (waits_in found m.own.number) _ _ refl refl
+  told_other code (Instr.CondSignal c site) m found elements h = at_signal code m c site found m.own.stage
   told_other code _ m found elements h = refl
 
   made_stage : (code : Code) (m : Machine) (site cells : ℕ) (v : NewView) (stage : NewStage) → header_at stage ≡ Some n → n < 2 ^ 32 → elements_told (new_event code m site cells v stage) T n ≡ v.arguments.elements
-  made_stage code m site cells v (news.Length header) e lt =
+  made_stage code m site cells v (NewStage.Length header) e lt =
       let same : header ≡ n = cc in
       let q : (number_of (reference header v.arguments.elements) == n) ≡ true = ap (λ j. j == n) (number_back header v.arguments.elements (subst (λ j. j < 2 ^ 32) (sym same) lt) ∙ same) ∙ (grind (arith, nat_tests)) in
       ap (λ b. if b then v.arguments.elements else T n) q
@@ -111,7 +101,7 @@ module _ (T : Elements) (n : ℕ) where
 
   -- one that makes it tells its own
   pub told_made : (code : Code) (i : Instr) (m : Machine) (found elements : ℕ) → header_of i m.own.stage ≡ Some n → n < 2 ^ 32 → elements_told (said code i m found elements) T n ≡ elements_in_stage m.own.stage
-  told_made code (instrs.New r count cells site) m found elements e lt = made_in code m site cells m.own.stage e lt
+  told_made code (Instr.New r count cells site) m found elements e lt = made_in code m site cells m.own.stage e lt
   told_made code _ m found elements e lt = absurd (cc)
 
 -- ---- the objects that there are
@@ -123,7 +113,7 @@ module _ (ls : Labels) (t : ℕ) (m m' : Machine) (f : ℕ → ObjectState) (o :
   ] refl
 
   at_made : (r : ℕ) (stage : NewStage) → (new_behind ls t r m' stage f o).live ≡ true → ((f o).live ≡ true) ⊎ (header_at stage ≡ Some o)
-  at_made r (news.Length header) h = ⊎_elim (λ (old : (f o).live ≡ true). inl old) (λ z. inr (ap (λ k. Some k) (sym z.0))) (put_live header (owned t (type_held ls m' r)) h)
+  at_made r (NewStage.Length header) h = ⊎_elim (λ (old : (f o).live ≡ true). inl old) (λ z. inr (ap (λ k. Some k) (sym z.0))) (put_live header (owned t (type_held ls m' r)) h)
   at_made r _ h = inl h
 
   at_makes : (r : ℕ) (stage : Stage) → (made_behind ls t r m' stage f o).live ≡ true → ((f o).live ≡ true) ⊎ (header_in stage ≡ Some o)
@@ -135,10 +125,10 @@ module _ (ls : Labels) (t : ℕ) (m m' : Machine) (f : ℕ → ObjectState) (o :
   at_freed at _ h = h
 
   -- an object that there is after a turn was there before, or the turn makes it
-  pub was_live : (i : Instr) → ((r site : ℕ) → i ≡ instrs.Give r site → (f (ref m r)).live ≡ true) → (objects_behind ls t i m m' f o).live ≡ true → ((f o).live ≡ true) ⊎ (header_of i m.own.stage ≡ Some o)
-  was_live (instrs.New r count cells site) given h = at_makes r m.own.stage h
-  was_live (instrs.Give r site) given h = ⊎_elim (λ (old : (f o).live ≡ true). inl old) (λ z. inl (ap (λ k. (f k).live) z.0 ∙ given r site refl)) (put_live (ref m r) (owned t (type_held ls m' r)) h)
-  was_live (instrs.Free r layout site) given h = inl (at_freed (ref m r) m.own.stage h)
+  pub was_live : (i : Instr) → ((r site : ℕ) → i ≡ Instr.Give r site → (f (ref m r)).live ≡ true) → (objects_behind ls t i m m' f o).live ≡ true → ((f o).live ≡ true) ⊎ (header_of i m.own.stage ≡ Some o)
+  was_live (Instr.New r count cells site) given h = at_makes r m.own.stage h
+  was_live (Instr.Give r site) given h = ⊎_elim (λ (old : (f o).live ≡ true). inl old) (λ z. inl (ap (λ k. (f k).live) z.0 ∙ given r site refl)) (put_live (ref m r) (owned t (type_held ls m' r)) h)
+  was_live (Instr.Free r layout site) given h = inl (at_freed (ref m r) m.own.stage h)
   was_live _ given h = inl h
 
 -- ---- length words

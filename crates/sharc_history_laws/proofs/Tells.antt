@@ -1,7 +1,5 @@
 -- What a turn keeps of the state words: stated of their values, of the numbers that are drawn, and of who was started and who has ended.
-use Rattle.std.proofs.{Common.{◌≡◌, ℕ, ◌<◌, ◌≤◌, ◌⊎◌, Bool, true, false, Option, Some, None, sym, ap, ◌∙◌, ⊎_elim, arith}, lemmas.Bool.{cases_eq, false_from_ne_true as not_true}}
-use Rattle.sharc_word.specs.declared.step.TheConstants.{THREADS}
-use Rattle.sharc_lemmas.proofs.Bools.{not_ended as both}
+use Rattle.sharc_history_laws.proofs.Imports.{◌≡◌, ℕ, ◌<◌, ◌≤◌, ◌⊎◌, Bool, true, false, Option, Some, None, sym, ap, ◌∙◌, ⊎_elim, arith, cases_eq, not_true, THREADS, not_ended as both}
 
 pub record Tells (next : ℕ) (state : ℕ → ℕ) (drawn : ℕ → Option ℕ) (ended started : ℕ → Bool) : Type 0 where
   pub low : (t : ℕ) → started t ≡ true → t < THREADS

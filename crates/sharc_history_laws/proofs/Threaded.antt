@@ -1,17 +1,5 @@
 -- Who was started, and who has ended, by the events of a run.
-use Rattle.std.proofs.{Common.{◌≡◌, ℕ, ℤ, pos, ◌+◌, ◌<◌, Bool, true, false, ◌||◌, ◌&&◌, length, List, [], ◌∷◌, reverse, Option, Some, None, if◌then◌else◌, refl, sym, ap, ◌∙◌, subst, ⊎_elim, arith, eqb-true}, lemmas.Bool.{cases_eq, or_right}, lemmas.Bool.Decides.nat_tests}
-use Rattle.std.specs.{Prelude.{slice_index, nat_lt, nat_eq, ◌==◌}, List.list_any}
-use Rattle.sharc_word.specs.declared.step.TheConstants.{THREADS}
-use Rattle.sharc_word.specs.declared.step.WordOp.TheVariants as ops
-use Rattle.sharc_tree.specs.declared.event.Act.TheVariants as acts
-use Rattle.sharc_tree.specs.declared.event.SourceEvent.{SourceEvent}
-use Rattle.sharc_code.specs.{declared.code.Code.Code, declared.instr.Instr.Instr, declared.instr.Register.Register, declared.shape.Shape.Shape, declared.state.Stage.Stage, declared.state.Stage.TheVariants.{Begins, Withdraws, WithdrawsFrom, Leaves}, Laws.RunLaws, Layout.{Fits, state_word}, Machine.{Machine, instr_at, act, exit, spawn, withdraws, withdrew, at_stage}, Outcomes.is_exit, Path.{turn, after, asked_by}, Runs.{Turn, Global, MayTurn, after_turn, put, state_now, result_of, words_now, is_started}, Says.{said, speaks_of, in_exit, in_spawn}, Whole.{one_thread, bounds, place_after}}
-use Rattle.sharc_code.specs.declared.instr.Instr.TheVariants as instrs
-use Rattle.sharc_compile.specs.OfRuns.{table_of}
-use Rattle.sharc_meaning.specs.{Obeys.History, Store.{spawns, is_spawn, is_natural, is_gone, was_spawned, went}}
-use Rattle.sharc_invariant.specs.{Types.Targets, Labels.Labels, Typed.IsWellTyped, Words.is_ended, State.{IsSmall, StageStands}, Laws.{Keeps, CellsAreThere, PointersAreThere, AccessesAreAllowed}}
-use Rattle.sharc_history_laws.proofs.{Consists.{Consists, after_set}, Outcomes.unended, Holding.any_push, Lists.{Newest, reverse_push}, Rules.{pushed, number_is, put_same, put_other}, Telling.{threads_said, is_threading, neither, no_thread}}
-use Rattle.sharc_lemmas.proofs.{Numbers.same_is, Bools.{or_split as or_cases, yes}}
+use Rattle.sharc_history_laws.proofs.{Imports.{◌≡◌, ℕ, ℤ, pos, ◌+◌, ◌<◌, Bool, true, false, ◌||◌, ◌&&◌, length, List, [], ◌∷◌, reverse, Option, Some, None, if◌then◌else◌, refl, sym, ap, ◌∙◌, subst, ⊎_elim, arith, eqb-true, cases_eq, or_right, nat_tests, slice_index, nat_lt, nat_eq, ◌==◌, list_any, THREADS, WordOp, Act, SourceEvent, Code, Instr, Register, Shape, Stage, Begins, Withdraws, WithdrawsFrom, Leaves, RunLaws, Fits, state_word, Machine, instr_at, act, exit, spawn, withdraws, withdrew, at_stage, is_exit, turn, after, asked_by, Turn, Global, MayTurn, after_turn, put, state_now, result_of, words_now, is_started, said, speaks_of, in_exit, in_spawn, one_thread, bounds, place_after, table_of, History, spawns, is_spawn, is_natural, is_gone, was_spawned, went, Targets, Labels, IsWellTyped, is_ended, IsSmall, StageStands, Keeps, CellsAreThere, PointersAreThere, AccessesAreAllowed, same_is, or_split as or_cases, yes}, Consists.{Consists, after_set}, Outcomes.unended, Holding.any_push, Lists.{Newest, reverse_push}, Rules.{pushed, number_is, put_same, put_other}, Telling.{threads_said, is_threading, neither, no_thread}}
 
 pub or_left : (a b : Bool) → a ≡ true → (a || b) ≡ true
 or_left true b e = refl
@@ -87,13 +75,13 @@ module _ (cell_laws : CellsAreThere) (pointers : PointersAreThere) (rights : Acc
 
   -- ---- a thread that is spawned
   -- the turn that says so sets its state word to 1
-  begun_now : (r f site n : ℕ) (from : Register) → i ≡ instrs.Spawn r f from site → ((place_after code s earlier).threads one.thread).own.stage ≡ Begins n → (after_turn bounds (one_thread code s) (place_after code s earlier) one).started n ≡ true
+  begun_now : (r f site n : ℕ) (from : Register) → i ≡ Instr.Spawn r f from site → ((place_after code s earlier).threads one.thread).own.stage ≡ Begins n → (after_turn bounds (one_thread code s) (place_after code s earlier) one).started n ≡ true
   begun_now r f site n from is at =
-      let reserves = subst (StageStands code s h.state.elements h.world h.state.heap g.words t m (instrs.Spawn r f from site)) at (stage_here (instrs.Spawn r f from site) is) in
+      let reserves = subst (StageStands code s h.state.elements h.world h.state.heap g.words t m (Instr.Spawn r f from site)) at (stage_here (Instr.Spawn r f from site) is) in
       let lt : n < THREADS = reserves.0.few in
-      let asked : asked_by (turn code s m) ≡ Some (Rattle.sharc_code.specs.Machine.step_of (state_word n) (ops.Swap 1)) =
+      let asked : asked_by (turn code s m) ≡ Some (Rattle.sharc_code.specs.Machine.step_of (state_word n) (WordOp.Swap 1)) =
       ap (λ j. asked_by (act code s j m)) is ∙ ap (λ y. asked_by (spawn m r f from site y)) at in
-      let word : slice_index (words_now g.words one.event) (state_word n) ≡ 1 = after_set g.words one.event (Rattle.sharc_code.specs.Machine.step_of (state_word n) (ops.Swap 1)) (may.next.asks ∙ asked) may.answered in
+      let word : slice_index (words_now g.words one.event) (state_word n) ≡ 1 = after_set g.words one.event (Rattle.sharc_code.specs.Machine.step_of (state_word n) (WordOp.Swap 1)) (may.next.asks ∙ asked) may.answered in
       let a : nat_lt n THREADS ≡ true = grind (arith, nat_tests) in
       let b : nat_eq (slice_index (words_now g.words one.event) (state_word n)) 1 ≡ true = ap (λ v. nat_eq v 1) word in
       let started : is_started bounds (words_now g.words one.event) n ≡ true = ap (λ c. c && nat_eq (slice_index (words_now g.words one.event) (state_word n)) 1) a ∙ b in
@@ -108,7 +96,7 @@ module _ (cell_laws : CellsAreThere) (pointers : PointersAreThere) (rights : Acc
       natural : (k : ℕ) → is_natural n (pos k) ≡ true → k ≡ n
       natural k q = sym (eqb-true n k q)
 
-      at_spawn : (r f site : ℕ) (from : Register) → i ≡ instrs.Spawn r f from site → (stage : Stage) → ((place_after code s earlier).threads one.thread).own.stage ≡ stage → in_spawn code ((place_after code s earlier).threads one.thread) f from site elements stage ≡ Some e
+      at_spawn : (r f site : ℕ) (from : Register) → i ≡ Instr.Spawn r f from site → (stage : Stage) → ((place_after code s earlier).threads one.thread).own.stage ≡ stage → in_spawn code ((place_after code s earlier).threads one.thread) f from site elements stage ≡ Some e
           → (after_turn bounds (one_thread code s) (place_after code s earlier) one).started n ≡ true
       at_spawn r f site from i_is (Begins k) at q =
           let answer : pos k ≡ e.answer = ap (λ (o : Option SourceEvent). answer_of o) q in
@@ -140,22 +128,22 @@ module _ (cell_laws : CellsAreThere) (pointers : PointersAreThere) (rights : Acc
           yes (sym parts.0 ∙ (neither e.act a).0)
 
       by : (j : Instr) → i ≡ j → (after_turn bounds (one_thread code s) (place_after code s earlier) one).started n ≡ true
-      by (instrs.Spawn r f from site) i_is = at_spawn r f site from i_is m.own.stage refl (sym (ap (λ j. said code j m found elements) i_is) ∙ said_is)
-      by instrs.Exit i_is = absurd (at_exit m.own.stage (sym (ap (λ j. said code j m found elements) i_is) ∙ said_is))
+      by (Instr.Spawn r f from site) i_is = at_spawn r f site from i_is m.own.stage refl (sym (ap (λ j. said code j m found elements) i_is) ∙ said_is)
+      by Instr.Exit i_is = absurd (at_exit m.own.stage (sym (ap (λ j. said code j m found elements) i_is) ∙ said_is))
       by _ i_is = absurd (others (ap is_threading i_is))
 
   -- ---- a thread that ends
   gone_now : is_ended (after (turn code s ((place_after code s earlier).threads one.thread)) found).at.state ≡ true → (e : SourceEvent) × (event ≡ Some e) × (is_gone e.act ≡ true) × (e.thread ≡ one.thread)
   gone_now ended = by i refl
     where
-      at_exit : i ≡ instrs.Exit → (stage : Stage) → ((place_after code s earlier).threads one.thread).own.stage ≡ stage → stage ≡ Leaves → (e : SourceEvent) × (event ≡ Some e) × (is_gone e.act ≡ true) × (e.thread ≡ one.thread)
+      at_exit : i ≡ Instr.Exit → (stage : Stage) → ((place_after code s earlier).threads one.thread).own.stage ≡ stage → stage ≡ Leaves → (e : SourceEvent) × (event ≡ Some e) × (is_gone e.act ≡ true) × (e.thread ≡ one.thread)
       at_exit is Leaves at q =
-          let e : SourceEvent = record { thread = m.own.number; site = (Rattle.sharc_code.specs.Machine.function_of code m.own.function).site; answer = pos 0; act = acts.Gone } in
+          let e : SourceEvent = record { thread = m.own.number; site = (Rattle.sharc_code.specs.Machine.function_of code m.own.function).site; answer = pos 0; act = Act.Gone } in
           (e, ap (λ j. said code j m found elements) is ∙ ap (in_exit code m) at, refl, number_is cell_laws pointers rights laws keeps x code s ls wt fits few one earlier h may)
       at_exit is _ at q = absurd (cc)
 
       by : (j : Instr) → i ≡ j → (e : SourceEvent) × (event ≡ Some e) × (is_gone e.act ≡ true) × (e.thread ≡ one.thread)
-      by instrs.Exit is =
+      by Instr.Exit is =
           let now : is_ended (after (exit s m m.own.stage) found).at.state ≡ true = ap (λ j. is_ended (after (act code s j m) found).at.state) (sym is) ∙ ended in
           at_exit is m.own.stage refl (leaving s m found m.own.stage now)
       by _ is = absurd (yes (sym ended ∙ unended s i found m _ (laws.turns.outcomes code s i m found) (ap is_exit is)))

@@ -1,10 +1,5 @@
 -- No Free empties the object of a cell at which a thread is whose gate is no sole reference.
-use Rattle.std.proofs.Common.{◌≡◌, ℕ, ◌+◌, ◌≢◌, true, false, refl, ap, ◌∙◌}
-use Rattle.std.specs.Prelude.{slice_index}
-use Rattle.sharc_code.specs.{declared.code.Code.Code, declared.instr.Cell.Cell, declared.shape.Shape.Shape, declared.state.Stage.Stage, declared.state.Stage.TheVariants.Links, Layout.Fits, Machine.Machine, Runs.Global}
-use Rattle.sharc_code.specs.declared.instr.Cell.TheVariants as cells
-use Rattle.sharc_invariant.specs.{Types.Targets, Labels.Labels, Typed.{IsWellTyped, IsNotSole}, World.World, History.Closing, State.{State, OnHold, object_of_cell}, MachineInvariant.IsOn, Laws.StateStands}
-use Rattle.sharc_history_laws.proofs.{Emptying.{IsEmptied, is_emptying}, Shared.{closing_own, some_closing, not_sole}, Stands.gate, Unwritten.emptying}
+use Rattle.sharc_history_laws.proofs.{Imports.{◌≡◌, ℕ, ◌+◌, ◌≢◌, true, false, refl, ap, ◌∙◌, slice_index, Code, Cell, Shape, Stage, Links, Fits, Machine, Global, Targets, Labels, IsWellTyped, IsNotSole, World, Closing, State, OnHold, object_of_cell, IsOn, StateStands}, Emptying.{IsEmptied, is_emptying}, Shared.{closing_own, some_closing, not_sole}, Stands.gate, Unwritten.emptying}
 
 pub on_hold : (stage : Stage) → is_emptying stage ≡ true → OnHold stage
 on_hold (Links all) e = absurd (let z : false ≡ true = e in cc)
@@ -16,10 +11,10 @@ module _ (state_law : StateStands) (x : Targets) (code : Code) (s : Shape) (ls :
   m = g.threads t
 
   register_of_cell : (k : Cell) → object_of_cell (g.threads t) k ≢ 0 → (q : ℕ) × (slice_index (g.threads t).refs q ≡ object_of_cell (g.threads t) k)
-  register_of_cell (cells.Global q p) nz = absurd (nz refl)
-  register_of_cell (cells.GlobalAt q p) nz = absurd (nz refl)
-  register_of_cell (cells.Object q p) nz = (m.at.refs + q, refl)
-  register_of_cell (cells.ObjectAt q p) nz = (m.at.refs + q, refl)
+  register_of_cell (Cell.Global q p) nz = absurd (nz refl)
+  register_of_cell (Cell.GlobalAt q p) nz = absurd (nz refl)
+  register_of_cell (Cell.Object q p) nz = (m.at.refs + q, refl)
+  register_of_cell (Cell.ObjectAt q p) nz = (m.at.refs + q, refl)
 
   -- nobody has it alone
   not_alone : Closing world (object_of_cell (g.threads t) k) → ⊥

@@ -1,17 +1,5 @@
 -- A thread that has its argument to read has had no event, and a Spawn has answered its number that gave it what it is to read.
-use Rattle.std.proofs.{Common.{◌≡◌, ◌≢◌, ℕ, ◌+◌, ◌<◌, inl, inr, Bool, true, false, ◌&&◌, length, List, [], ◌∷◌, ◌++◌, reverse, Option, Some, None, if◌then◌else◌, refl, sym, ap, ◌∙◌, subst, ⊎_elim, arith, eqb-true}, lemmas.Bool.cases_eq, lemmas.Bool.Decides.nat_tests}
-use Rattle.std.specs.Prelude.{slice_index, nat_lt, ◌==◌, ◌^◌}
-use Rattle.sharc_word.specs.declared.step.TheConstants.{THREADS}
-use Rattle.sharc_tree.specs.declared.event.SourceEvent.{SourceEvent}
-use Rattle.sharc_code.specs.{declared.code.Code.Code, declared.code.Parameter.Parameter, declared.instr.Instr.Instr, declared.shape.Shape.Shape, declared.state.Stage.Stage, declared.state.Stage.TheVariants.{Rests, Enters, Withdraws, WithdrawsFrom, Leaves}, declared.state.TheConstants.FRAMES, Laws.RunLaws, Layout.{Fits, state_word, function_word}, Machine.{Machine, instr_at, act, start, exit, withdraws, has_room, called, entered, with_parameter, function_of}, Opening.opening_words, Path.{turn, after}, Runs.{Turn, Global, IsRun, MayTurn, put, state_now, result_of, opening_of}, Says.{said, speaks_of, reference, started_with, in_start}, StandingLaws.SpawnsStart, Whole.{one_thread, bounds, place_after}}
-use Rattle.sharc_code.specs.declared.code.Parameter.TheVariants as parameters
-use Rattle.sharc_code.specs.declared.instr.Instr.TheVariants as instrs
-use Rattle.sharc_compile.specs.OfRuns.{table_of}
-use Rattle.sharc_meaning.specs.Events.{events_of}
-use Rattle.sharc_invariant.specs.{Types.Targets, Labels.Labels, Typed.IsWellTyped, World.{ArgumentOf, In}, Words.{is_unread, is_first, if_reference, argument_of}, State.{IsSmall, StageStands, FramesStand, view_of}, MachineInvariant.IsOn, Laws.{Keeps, Begins as CodeBegins, CellsAreThere, PointersAreThere, AccessesAreAllowed}}
-use Rattle.sharc_history_laws.specs.{History.history_of, Seen.IsGivenTo}
-use Rattle.sharc_history_laws.proofs.{Consists.Consists, Finds.low_slot, Holding.own_push, Lists.Newest, Locking.is_others, Past.arriving, Rules.{pushed, newest, newest_now, put_same, put_other}, Started.{Unheard, SpawnedIn, WasGiven, function_given, argument_given, spawned_any, begun_runs}}
-use Rattle.sharc_lemmas.proofs.{Numbers.{is_below as less}, Bools.yes}
+use Rattle.sharc_history_laws.proofs.{Imports.{◌≡◌, ◌≢◌, ℕ, ◌+◌, ◌<◌, inl, inr, Bool, true, false, ◌&&◌, length, List, [], ◌∷◌, ◌++◌, reverse, Option, Some, None, if◌then◌else◌, refl, sym, ap, ◌∙◌, subst, ⊎_elim, arith, eqb-true, cases_eq, nat_tests, slice_index, nat_lt, ◌==◌, ◌^◌, THREADS, SourceEvent, Code, Parameter, Instr, Shape, Stage, Rests, Enters, Withdraws, WithdrawsFrom, Leaves, FRAMES, RunLaws, Fits, state_word, function_word, Machine, instr_at, act, start, exit, withdraws, has_room, called, entered, with_parameter, function_of, opening_words, turn, after, Turn, Global, IsRun, MayTurn, put, state_now, result_of, opening_of, said, speaks_of, reference, started_with, in_start, SpawnsStart, one_thread, bounds, place_after, table_of, events_of, Targets, Labels, IsWellTyped, ArgumentOf, In, is_unread, is_first, if_reference, argument_of, IsSmall, StageStands, FramesStand, view_of, IsOn, Keeps, CodeBegins, CellsAreThere, PointersAreThere, AccessesAreAllowed, history_of, IsGivenTo, is_below as less, yes}, Consists.Consists, Finds.low_slot, Holding.own_push, Lists.Newest, Locking.is_others, Past.arriving, Rules.{pushed, newest, newest_now, put_same, put_other}, Started.{Unheard, SpawnedIn, WasGiven, function_given, argument_given, spawned_any, begun_runs}}
 
 some_none : (f : ℕ) → Some f ≡ None → ⊥
 some_none f e = cc
@@ -49,9 +37,9 @@ pc_entered : (code : Code) (m : Machine) (f site found : ℕ) → m.at.depth ≡
 pc_entered code m f site found d r n long = by (function_of code f).parameter
   where
     by : (p : Parameter) → (called (with_parameter (record m { own = record m.own { stage = Rests; function = f } }) p found) (function_of code f).entry 0 0 site).at.pc ≡ (function_of code f).entry
-    by parameters.None = pc_called (record m { own = record m.own { stage = Rests; function = f } }) (function_of code f).entry site d r n long
-    by parameters.Int = pc_called (with_parameter (record m { own = record m.own { stage = Rests; function = f } }) parameters.Int found) (function_of code f).entry site d r n long
-    by parameters.Reference = pc_called (with_parameter (record m { own = record m.own { stage = Rests; function = f } }) parameters.Reference found) (function_of code f).entry site d r n long
+    by Parameter.None = pc_called (record m { own = record m.own { stage = Rests; function = f } }) (function_of code f).entry site d r n long
+    by Parameter.Int = pc_called (with_parameter (record m { own = record m.own { stage = Rests; function = f } }) Parameter.Int found) (function_of code f).entry site d r n long
+    by Parameter.Reference = pc_called (with_parameter (record m { own = record m.own { stage = Rests; function = f } }) Parameter.Reference found) (function_of code f).entry site d r n long
 
 -- an Exit stays at its place
 same_pc : (b : Bool) (m y n : Machine) → y.at.pc ≡ m.at.pc → n.at.pc ≡ m.at.pc → (if b then y else n).at.pc ≡ m.at.pc
@@ -110,13 +98,13 @@ module _ (cell_laws : CellsAreThere) (pointers : PointersAreThere) (rights : Acc
         (arriving x code s ls wt m f is u (view_of h.state.elements h.world u m) ((h.state.threads u).runs on.0 on.1).below i found (wt.fine m.at.pc)).place
     before_function None is = ⊎_elim
         (λ (z : m.at.pc ≡ 0). z)
-        (λ (out : i ≡ instrs.Exit). sym (ap (λ j. (after (act code s j m) found).at.pc) out ∙ exit_stays s m m.own.stage found) ∙ zero_then)
+        (λ (out : i ≡ Instr.Exit). sym (ap (λ j. (after (act code s j m) found).at.pc) out ∙ exit_stays s m m.own.stage found) ∙ zero_then)
         (wt.placed m.at.pc is)
 
     was_zero : ((place_after code s earlier).threads one.thread).at.pc ≡ 0
     was_zero = before_function (ls.at m.at.pc).function refl
 
-    at_start : instr_at code ((place_after code s earlier).threads one.thread).at.pc ≡ instrs.Start wt.begin.0
+    at_start : instr_at code ((place_after code s earlier).threads one.thread).at.pc ≡ Instr.Start wt.begin.0
     at_start = ap (instr_at code) was_zero ∙ wt.begin.1
 
     unread_first : is_first ((place_after code s earlier).threads one.thread).own.stage ≡ true → is_unread ((place_after code s earlier).threads one.thread) ≡ true
@@ -131,7 +119,7 @@ module _ (cell_laws : CellsAreThere) (pointers : PointersAreThere) (rights : Acc
         let lt : u < THREADS = h.state.begins.few u on.0 in
         let unread : is_unread m ≡ true = unread_first (ap is_first at) in
         let state : slice_index g.words (state_word u) ≡ 1 = h.state.firsts.unread u lt on.0 unread in
-        let f_is : slice_index g.words (function_word u) ≡ f = subst (StageStands code s h.state.elements h.world h.state.heap g.words u m (instrs.Start wt.begin.0)) at
+        let f_is : slice_index g.words (function_word u) ≡ f = subst (StageStands code s h.state.elements h.world h.state.heap g.words u m (Instr.Start wt.begin.0)) at
         (subst (λ j. StageStands code s h.state.elements h.world h.state.heap g.words u m j m.own.stage) at_start ((h.state.threads u).runs on.0 on.1).stage) in
         let is = (wt.starts f (subst (λ f. ls.starts f ≡ true) f_is (h.state.begins.function u lt state))).is in
         let q : y.at.pc ≡ (after (start code m wt.begin.0 (Enters f)) found).at.pc = ap (λ j. (after (act code s j m) found).at.pc) at_start ∙ ap (λ z. (after (start code m wt.begin.0 z) found).at.pc) at in
@@ -142,12 +130,12 @@ module _ (cell_laws : CellsAreThere) (pointers : PointersAreThere) (rights : Acc
     quiet_own L old = by m.own.stage refl (subst (λ j. StageStands code s h.state.elements h.world h.state.heap g.words u m j m.own.stage) at_start ((h.state.threads u).runs on.0 on.1).stage)
       where
         by : (stage : Stage) → ((place_after code s earlier).threads one.thread).own.stage ≡ stage
-            → StageStands code s h.state.elements h.world h.state.heap (place_after code s earlier).words one.thread ((place_after code s earlier).threads one.thread) (instrs.Start wt.begin.0) ((place_after code s earlier).threads one.thread).own.stage → Unheard (pushed event L) one.thread
+            → StageStands code s h.state.elements h.world h.state.heap (place_after code s earlier).words one.thread ((place_after code s earlier).threads one.thread) (Instr.Start wt.begin.0) ((place_after code s earlier).threads one.thread).own.stage → Unheard (pushed event L) one.thread
         by Rests at k =
             let none : event ≡ None = ap (λ j. said code j m found elements) at_start ∙ ap (in_start code m found elements) at in
             subst (λ ev. Unheard (pushed ev L) u) (sym none) (old u (unread_first (ap is_first at)))
         by (Enters f) at k = absurd (enters f at)
-        by stage at k = absurd (subst (StageStands code s h.state.elements h.world h.state.heap g.words u m (instrs.Start wt.begin.0)) at k)
+        by stage at k = absurd (subst (StageStands code s h.state.elements h.world h.state.heap g.words u m (Instr.Start wt.begin.0)) at k)
 
   quiet_other : (L : Newest) (ev : Option SourceEvent) → event ≡ ev → (t : ℕ) → (t ≡ one.thread → ⊥) → Unheard L t → Unheard (pushed ev L) t
   quiet_other L None is t ne k = k
@@ -164,10 +152,10 @@ module _ (cell_laws : CellsAreThere) (pointers : PointersAreThere) (rights : Acc
       (cases_eq t u)
 
 -- ---- runs
-opened : (a b c : Bool) (p : Parameter) (v o : ℕ) → o ≢ 0 → (if (a && b) && c then if_reference p v else 0) ≡ o → (a ≡ true) × (b ≡ true) × (c ≡ true) × (p ≡ parameters.Reference) × (v ≡ o)
-opened true true true parameters.Reference v o nz e = (refl, refl, refl, refl, e)
-opened true true true parameters.None v o nz e = absurd (nz (sym e))
-opened true true true parameters.Int v o nz e = absurd (nz (sym e))
+opened : (a b c : Bool) (p : Parameter) (v o : ℕ) → o ≢ 0 → (if (a && b) && c then if_reference p v else 0) ≡ o → (a ≡ true) × (b ≡ true) × (c ≡ true) × (p ≡ Parameter.Reference) × (v ≡ o)
+opened true true true Parameter.Reference v o nz e = (refl, refl, refl, refl, e)
+opened true true true Parameter.None v o nz e = absurd (nz (sym e))
+opened true true true Parameter.Int v o nz e = absurd (nz (sym e))
 opened true true false p v o nz e = absurd (nz (sym e))
 opened true false c p v o nz e = absurd (nz (sym e))
 opened false b c p v o nz e = absurd (nz (sym e))
@@ -198,7 +186,7 @@ module _ (cell_laws : CellsAreThere) (pointers : PointersAreThere) (rights : Acc
       under : (t : ℕ) → nat_lt t THREADS ≡ true → t < THREADS
       under t e = grind (arith, nat_tests)
 
-      by : o < 2 ^ 32 → (function_of code (function_given (place_after code s run) u)).parameter ≡ parameters.Reference → argument_given (place_after code s run) u ≡ o → Unheard (newest code s run) u
+      by : o < 2 ^ 32 → (function_of code (function_given (place_after code s run) u)).parameter ≡ Parameter.Reference → argument_given (place_after code s run) u ≡ o → Unheard (newest code s run) u
           → WasGiven code (newest code s run) (table_of code s run) (place_after code s run) u → IsGivenTo code (history_of code s run) u o
       by low p v quiet (inl z) = absurd (nz (sym v ∙ z.2))
       by low p v quiet (inr z) =

@@ -1,9 +1,6 @@
 -- A readonly pointer cell of an object that no thread has alone is written by no turn of typed code.
-use Rattle.std.proofs.Common.{◌≡◌, ℕ, ◌+◌, ◌<◌, true, false, Some, refl, sym, ◌∙◌, subst}
-use Rattle.sharc_code.specs.{declared.code.Code.Code, declared.instr.Cell.Cell, declared.instr.Instr.Instr, declared.shape.Shape.Shape, declared.state.Stage.TheVariants.Empties, Layout.Fits, Machine.{Machine, instr_at, ref}, Path.turn, Runs.Global}
-use Rattle.sharc_code.specs.declared.instr.Instr.TheVariants as instrs
-use Rattle.sharc_invariant.specs.{Types.{Targets, Field, Content, Integer, MutexWord, Waiters, Pointer, CellMode, field_in, mode_at, is_pointer}, Labels.Labels, Typed.{IsWellTyped, Fine, Accesses}, World.{Sole as IsSole, World, CanBy}, Words.{lang_of, cell_at}, History.Closing, State.{State, GateStands, OnHold, object_of_cell, number_in}, MachineInvariant.IsOn, Laws.{CellsAreThere, PointersAreThere, AccessesAreAllowed}}
-use Rattle.sharc_history_laws.proofs.{Single.{single, rests_hold}, Sparing.{SparesTurn, is_value, written_cell}, Stands.{there, gate, reads_ref}}
+use Rattle.sharc_history_laws.proofs.{Imports.{◌≡◌, ℕ, ◌+◌, ◌<◌, true, false, Some, refl, sym, ◌∙◌, subst, Code, Cell, Instr, Shape, Empties, Fits, Machine, instr_at, ref, turn, Global, Targets, Field, Content, Integer, MutexWord, Waiters, Pointer, field_in, mode_at, is_pointer, Labels, IsWellTyped, Fine, Accesses, IsSole, World, CanBy, lang_of, Closing, State, GateStands, OnHold, object_of_cell, number_in, IsOn, CellsAreThere, PointersAreThere, AccessesAreAllowed}, Single.{single, rests_hold}, Sparing.{SparesTurn, is_value, written_cell}, Stands.{there, gate, reads_ref}}
+use Rattle.sharc_invariant.specs.{Types.CellMode, Words.cell_at}
 use Rattle.sharc_history_laws.proofs.Sparing as Sparing
 
 pointer_value : (c : Content) → is_pointer c ≡ true → is_value c ≡ true
@@ -13,14 +10,14 @@ pointer_value MutexWord e = absurd (let f : false ≡ true = e in cc)
 pointer_value Waiters e = absurd (let f : false ≡ true = e in cc)
 
 pub writes_single : (i : Instr) (c : Cell) → written_cell i ≡ Some c → single i ≡ true
-writes_single (instrs.Store r d site) c e = refl
-writes_single (instrs.Exchange r d site) c e = refl
-writes_single (instrs.TakeCell r d site) c e = refl
+writes_single (Instr.Store r d site) c e = refl
+writes_single (Instr.Exchange r d site) c e = refl
+writes_single (Instr.TakeCell r d site) c e = refl
 writes_single _ c e = absurd (cc)
 
 -- a Free that empties an object has it alone
 pub emptying : (x : Targets) (code : Code) (s : Shape) (ls : Labels) (wt : IsWellTyped x code ls) (fits : Fits code s) (g : Global Machine) (world : World) (st : State x code s ls g world) (t : ℕ) (on : IsOn g t) (hold : OnHold (g.threads t).own.stage) (o r layout site : ℕ)
-    → instr_at code (g.threads t).at.pc ≡ instrs.Free r layout site → ref (g.threads t) r ≡ o → Closing world o
+    → instr_at code (g.threads t).at.pc ≡ Instr.Free r layout site → ref (g.threads t) r ≡ o → Closing world o
 emptying x code s ls wt fits g world st t on hold o r layout site is e =
     let m = g.threads t in
     let fine = subst (Fine x code ls m.at.pc (ls.at m.at.pc)) is (wt.fine m.at.pc) in
@@ -45,7 +42,7 @@ module _ (there_laws : CellsAreThere) (pointer_laws : PointersAreThere) (rights 
       let q : true ≡ false = subst (CanBy (lang_of x) world t true o j) readonly b in
       absurd (let z : true ≡ false = q in cc)
 
-  emptied : (r layout site q all : ℕ) → instr_at code (g.threads t).at.pc ≡ instrs.Free r layout site → (g.threads t).own.stage ≡ Empties q all → ref (g.threads t) r ≡ o → Closing world o
+  emptied : (r layout site q all : ℕ) → instr_at code (g.threads t).at.pc ≡ Instr.Free r layout site → (g.threads t).own.stage ≡ Empties q all → ref (g.threads t) r ≡ o → Closing world o
   emptied r layout site q all is at e = emptying x code s ls wt fits g world st t on (subst OnHold (sym at) tt) o r layout site is e
 
   pub spares : SparesTurn (cell_at s o j) (Closing world o) (turn code s (g.threads t))

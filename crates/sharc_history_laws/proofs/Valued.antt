@@ -1,25 +1,12 @@
 -- Each turn of typed code leaves the cells with what the events say that they hold.
-use Rattle.std.proofs.Common.{◌≡◌, ℕ, pos, zero, suc, ◌+◌, ◌*◌, ◌≢◌, ◌⊎◌, inl, inr, Bool, true, false, ◌||◌, List, ◌∷◌, Option, Some, None, refl, sym, ap, ◌∙◌, subst, ⊎_elim, arith}
-use Rattle.std.specs.Prelude.{slice_index}
-use Rattle.sharc_word.specs.declared.step.WordOp.TheVariants as ops
-use Rattle.sharc_tree.specs.{declared.event.Act.Act, declared.event.CellAt.CellAt, declared.event.Object.Object, declared.event.SourceEvent.SourceEvent}
-use Rattle.sharc_tree.specs.declared.event.Act.TheVariants as acts
-use Rattle.sharc_tree.specs.declared.event.Object.TheVariants as objects
-use Rattle.sharc_ctype.specs.Resolved.{Resolution}
-use Rattle.sharc_code.specs.{declared.code.Code.Code, declared.instr.Cell.Cell, declared.instr.Instr.Instr, declared.shape.Shape.Shape, declared.state.Stage.TheVariants.Empties, Arithmetic.word_of, Laws.RunLaws, Layout.Fits, Machine.{Machine, instr_at, int, ref, word, act, object}, Path.{turn, asked_by}, Runs.{Turn, Global, MayTurn, after_turn, result_of, words_now}, Says.{said, cell_at, speaks_of, reference}, Whole.{one_thread, bounds, place_after}}
-use Rattle.sharc_code.specs.declared.instr.Instr.TheVariants as instrs
-use Rattle.sharc_compile.specs.{Consistent.Elements, OfRuns.table_of}
-use Rattle.sharc_meaning.specs.{Events.{makes, is_cell, is_number, made_by, same_cell}, Store.{changes, cell_changed, value_left}}
-use Rattle.sharc_invariant.specs.{Types.{Targets, Field, Content, Integer, MutexWord, Waiters, Pointer, field_in, is_pointer}, Labels.Labels, Typed.{IsWellTyped, Fine, Accesses, HasCell}, World.{Cell as CellOf, ObjectState}, State.{IsSmall, StageStands, OnHold, object_of_cell, number_in, view_of, refs_at, types_at}, MachineInvariant.IsOn, Laws.{Keeps, CellsAreThere, PointersAreThere, AccessesAreAllowed}}
+use Rattle.sharc_history_laws.proofs.{Imports.{◌≡◌, ℕ, pos, zero, suc, ◌+◌, ◌*◌, ◌≢◌, ◌⊎◌, inl, inr, Bool, true, false, ◌||◌, List, ◌∷◌, Option, Some, None, refl, sym, ap, ◌∙◌, subst, ⊎_elim, arith, slice_index, WordOp, Act, CellAt, Object, SourceEvent, Resolution, Code, Cell, Instr, Shape, Empties, word_of, RunLaws, Fits, Machine, instr_at, int, ref, word, act, object, turn, asked_by, Turn, Global, MayTurn, after_turn, result_of, words_now, said, cell_at, speaks_of, reference, one_thread, bounds, place_after, Elements, table_of, makes, is_cell, is_number, made_by, same_cell, changes, cell_changed, value_left, Targets, Field, Content, Integer, MutexWord, Waiters, Pointer, field_in, is_pointer, Labels, IsWellTyped, Fine, Accesses, HasCell, CellOf, ObjectState, IsSmall, StageStands, OnHold, object_of_cell, number_in, view_of, refs_at, types_at, IsOn, Keeps, CellsAreThere, PointersAreThere, AccessesAreAllowed, yes}, Acts.{given_at, freed_at, About, no_access}, Born.born, Consists.{Consists, consists_then, objects_then, after_set, same_table, headed, live_not_built, header_built}, Contents.{newest_value, value_changed, value_kept, value_held, IsCellOf, content_of, word_of_cell, Contents, one_cell, back_again, fits_in}, Emptying.{IsFreeing, IsEmptied, emptied_then}, Holding.cell_eq, Lists.Newest, Locked.Names, Locking.cell_refl, ModesKept.word_spared, OneMode.{place_of, numbers_now}, Rules.{pushed, about_now, decide, number_yes, number_not, freed_gone}, Shared.number_of, Single.{single, rests_hold}, Sparing.{is_value, written_cell, spares}, Stands.{live_slot, there, top, rn}, Tables.header_of, Telling.{changed_said, unchanged_said}, Unwritten.writes_single, Values.{Kept, kept}}
 use Rattle.sharc_invariant.specs.Words as Words
-use Rattle.sharc_history_laws.proofs.{Acts.{given_at, freed_at, About, no_access}, Born.born, Consists.{Consists, consists_then, objects_then, after_set, same_table, headed, live_not_built, header_built}, Contents.{newest_value, value_changed, value_kept, value_held, IsCellOf, content_of, word_of_cell, Contents, one_cell, back_again, fits_in}, Emptying.{IsFreeing, IsEmptied, emptied_then}, Holding.cell_eq, Lists.Newest, Locked.Names, Locking.cell_refl, ModesKept.word_spared, OneMode.{place_of, numbers_now}, Rules.{pushed, about_now, decide, number_yes, number_not, freed_gone}, Shared.number_of, Single.{single, rests_hold}, Sparing.{is_value, written_cell, spares}, Stands.{live_slot, there, top, rn}, Tables.header_of, Telling.{changed_said, unchanged_said}, Unwritten.writes_single, Values.{Kept, kept}}
 use Rattle.sharc_history_laws.proofs.Acts as Acts
 use Rattle.sharc_history_laws.proofs.Placed as Placed
-use Rattle.sharc_lemmas.proofs.Bools.{yes}
 
 -- a New leaves 0
 pub made_zero : (e : SourceEvent) (a : Act) (n : ℕ) → made_by e a ≡ Some n → value_left a ≡ pos 0
-made_zero e (acts.New cells elements mode) n q = refl
+made_zero e (Act.New cells elements mode) n q = refl
 made_zero e _ n q = absurd (cc)
 
 held_zero : (c : Content) (T : Elements) → value_held c T 0 ≡ pos 0
@@ -96,11 +83,11 @@ module _ (cell_laws : CellsAreThere) (pointers : PointersAreThere) (rights : Acc
       others never = unchanged_said event (no_access code m i found elements never)
 
       by : (j : Instr) → i ≡ j → changed_said event ≡ changed
-      by (instrs.Load r c site) is = ap (λ j. changed_said (said code j m found elements)) is ∙ sym (ap (λ j. source_cell (written_cell j)) is)
-      by (instrs.LoadRef c site) is = ap (λ j. changed_said (said code j m found elements)) is ∙ sym (ap (λ j. source_cell (written_cell j)) is)
-      by (instrs.Store r c site) is = ap (λ j. changed_said (said code j m found elements)) is ∙ sym (ap (λ j. source_cell (written_cell j)) is)
-      by (instrs.Exchange r c site) is = ap (λ j. changed_said (said code j m found elements)) is ∙ sym (ap (λ j. source_cell (written_cell j)) is)
-      by (instrs.TakeCell r c site) is = ap (λ j. changed_said (said code j m found elements)) is ∙ sym (ap (λ j. source_cell (written_cell j)) is)
+      by (Instr.Load r c site) is = ap (λ j. changed_said (said code j m found elements)) is ∙ sym (ap (λ j. source_cell (written_cell j)) is)
+      by (Instr.LoadRef c site) is = ap (λ j. changed_said (said code j m found elements)) is ∙ sym (ap (λ j. source_cell (written_cell j)) is)
+      by (Instr.Store r c site) is = ap (λ j. changed_said (said code j m found elements)) is ∙ sym (ap (λ j. source_cell (written_cell j)) is)
+      by (Instr.Exchange r c site) is = ap (λ j. changed_said (said code j m found elements)) is ∙ sym (ap (λ j. source_cell (written_cell j)) is)
+      by (Instr.TakeCell r c site) is = ap (λ j. changed_said (said code j m found elements)) is ∙ sym (ap (λ j. source_cell (written_cell j)) is)
       by _ is = others (ap Acts.is_access is) ∙ sym (ap (λ j. source_cell (written_cell j)) is)
 
   -- the names of a cell that an instruction names
@@ -139,7 +126,7 @@ module _ (cell_laws : CellsAreThere) (pointers : PointersAreThere) (rights : Acc
     Holds L' = (newest_value r L' c ≡ value_held (content_of x code then_.world c) T' (slice_index words (word_of_cell code s c))) ⊎ IsEmptied code (after_turn bounds (one_thread code s) (place_after code s earlier) one) o
 
     -- ---- an object that the turn makes
-    made_cell : (ev : Option SourceEvent) → Tells ev → (n : ℕ) → c.object ≡ objects.Made n → header_of i ((place_after code s earlier).threads one.thread).own.stage ≡ Some n → Holds (pushed ev L)
+    made_cell : (ev : Option SourceEvent) → Tells ev → (n : ℕ) → c.object ≡ Object.Made n → header_of i ((place_after code s earlier).threads one.thread).own.stage ≡ Some n → Holds (pushed ev L)
     made_cell None about n is made = absurd (let f : None ≡ Some n = about.makes ∙ made in cc)
     made_cell (Some e) about n is made =
         let by : made_by e e.act ≡ Some n = about.makes ∙ made in
@@ -154,7 +141,7 @@ module _ (cell_laws : CellsAreThere) (pointers : PointersAreThere) (rights : Acc
         or_right false b e = e
 
     -- ---- one that was there
-    module _ (was : Kept laws keeps cell_laws pointers x code s ls wt fits few one earlier h may o j) (unmade : (n : ℕ) → c.object ≡ objects.Made n → header_of i ((place_after code s earlier).threads one.thread).own.stage ≡ Some n → ⊥) where
+    module _ (was : Kept laws keeps cell_laws pointers x code s ls wt fits few one earlier h may o j) (unmade : (n : ℕ) → c.object ≡ Object.Made n → header_of i ((place_after code s earlier).threads one.thread).own.stage ≡ Some n → ⊥) where
       old_value : is_value (content_of x code h.world c) ≡ true
       old_value = was.content.kind ∙ value
 
@@ -165,8 +152,8 @@ module _ (cell_laws : CellsAreThere) (pointers : PointersAreThere) (rights : Acc
       no_make e about = by c.object refl
         where
           by : (b : Object) → c.object ≡ b → makes b e ≡ false
-          by (objects.Global q) is = refl
-          by (objects.Made n) is = number_not n (made_by e e.act) (λ q. unmade n is (sym about.makes ∙ q))
+          by (Object.Global q) is = refl
+          by (Object.Made n) is = number_not n (made_by e e.act) (λ q. unmade n is (sym about.makes ∙ q))
 
       -- ---- the turn does not write the cell
       module _ (other : is_cell c changed ≡ false) where
@@ -185,7 +172,7 @@ module _ (cell_laws : CellsAreThere) (pointers : PointersAreThere) (rights : Acc
             let hit : is_cell c changed ≡ true = ap (λ k. is_cell c (source_cell k)) is ∙ ap (λ d. same_cell d (cell_at code m k)) same ∙ cell_refl (cell_at code m k) in
             absurd (yes (sym hit ∙ other))
 
-        is_emptied : (q layout site n all : ℕ) → instr_at code ((place_after code s earlier).threads one.thread).at.pc ≡ instrs.Free q layout site → ((place_after code s earlier).threads one.thread).own.stage ≡ Empties n all → ref ((place_after code s earlier).threads one.thread) q ≡ o
+        is_emptied : (q layout site n all : ℕ) → instr_at code ((place_after code s earlier).threads one.thread).at.pc ≡ Instr.Free q layout site → ((place_after code s earlier).threads one.thread).own.stage ≡ Empties n all → ref ((place_after code s earlier).threads one.thread) q ≡ o
             → IsFreeing code ((place_after code s earlier).threads one.thread) o
         is_emptied q layout site n all is at e = record {
           register = q;
@@ -246,10 +233,10 @@ module _ (cell_laws : CellsAreThere) (pointers : PointersAreThere) (rights : Acc
         at_place : j ≡ number_in ((place_after code s earlier).threads one.thread) k
         at_place = ap (λ (c : CellAt). place_of code c.object c.cell) same ∙ numbers.1
 
-        word_now : (v : ℕ) → asked_by (turn code s ((place_after code s earlier).threads one.thread)) ≡ Some (Rattle.sharc_code.specs.Machine.step_of (word s ((place_after code s earlier).threads one.thread) k) (ops.Swap v))
+        word_now : (v : ℕ) → asked_by (turn code s ((place_after code s earlier).threads one.thread)) ≡ Some (Rattle.sharc_code.specs.Machine.step_of (word s ((place_after code s earlier).threads one.thread) k) (WordOp.Swap v))
             → slice_index words (word_of_cell code s c) ≡ v
         word_now v asked =
-            let set : slice_index words (word s m k) ≡ v = after_set g.words one.event (Rattle.sharc_code.specs.Machine.step_of (word s m k) (ops.Swap v)) (may.next.asks ∙ asked) may.answered in
+            let set : slice_index words (word s m k) ≡ v = after_set g.words one.event (Rattle.sharc_code.specs.Machine.step_of (word s m k) (WordOp.Swap v)) (may.next.asks ∙ asked) may.answered in
             let at : word_of_cell code s c ≡ word s m k = ap (λ o. Words.cell_at s o j) at_object ∙ ap (Words.cell_at s (object_of_cell m k)) at_place ∙ sym th.word_is in
             ap (slice_index words) at ∙ set
 
@@ -263,7 +250,7 @@ module _ (cell_laws : CellsAreThere) (pointers : PointersAreThere) (rights : Acc
         held_now v = ap (λ k. value_held k T' v) (sym old_content) ∙ was.content.held T' v
 
         -- its event
-        written : (e : SourceEvent) → event ≡ Some e → (v : ℕ) → asked_by (turn code s ((place_after code s earlier).threads one.thread)) ≡ Some (Rattle.sharc_code.specs.Machine.step_of (word s ((place_after code s earlier).threads one.thread) k) (ops.Swap v))
+        written : (e : SourceEvent) → event ≡ Some e → (v : ℕ) → asked_by (turn code s ((place_after code s earlier).threads one.thread)) ≡ Some (Rattle.sharc_code.specs.Machine.step_of (word s ((place_after code s earlier).threads one.thread) k) (WordOp.Swap v))
             → value_left e.act ≡ value_held f.holds T' v → Holds (pushed event L)
         written e said_is v asked left =
             let hit : is_cell c (cell_changed e.act) ≡ true = ap (λ ev. is_cell c (changed_said ev)) (sym said_is) ∙ ap (is_cell c) changed_now ∙ ap (λ k. is_cell c (source_cell k)) is
@@ -278,10 +265,10 @@ module _ (cell_laws : CellsAreThere) (pointers : PointersAreThere) (rights : Acc
           some_eq : (a b : Cell) → Some a ≡ Some b → b ≡ a
           some_eq a b e = cc
 
-          at_store : (q site : ℕ) (d : Cell) → i ≡ instrs.Store q d site → c ≡ cell_at code ((place_after code s earlier).threads one.thread) d → Holds (pushed event L)
+          at_store : (q site : ℕ) (d : Cell) → i ≡ Instr.Store q d site → c ≡ cell_at code ((place_after code s earlier).threads one.thread) d → Holds (pushed event L)
           at_store q site d is same =
-              let f = fine (instrs.Store q d site) is in
-              let hold = hold (instrs.Store q d site) is refl in
+              let f = fine (Instr.Store q d site) is in
+              let hold = hold (Instr.Store q d site) is refl in
               let now = ap (λ j. said code j m found elements) is in
               let number = (top x code s ls wt fits g h.world h.state t on hold 0 (suc q)).numbers q (omega arith) in
               let view = view_of h.state.elements h.world t m in
@@ -289,9 +276,9 @@ module _ (cell_laws : CellsAreThere) (pointers : PointersAreThere) (rights : Acc
               written d same site f.0 f.2 (ap written_cell is) _ now (word_of (int m q)) (ap (λ j. asked_by (act code s j m)) is)
               (sym (back_again f.1 (int m q) fit) ∙ sym (ap (λ k. value_held k T' (word_of (int m q))) f.3))
 
-          at_exchange : (q site : ℕ) (d : Cell) → i ≡ instrs.Exchange q d site → c ≡ cell_at code ((place_after code s earlier).threads one.thread) d → Holds (pushed event L)
+          at_exchange : (q site : ℕ) (d : Cell) → i ≡ Instr.Exchange q d site → c ≡ cell_at code ((place_after code s earlier).threads one.thread) d → Holds (pushed event L)
           at_exchange q site d is same =
-              let f = fine (instrs.Exchange q d site) is in
+              let f = fine (Instr.Exchange q d site) is in
               let now = ap (λ j. said code j m found elements) is in
               let speaks : elements ≡ T (ref m q) = ap (λ j. T (speaks_of j m found)) is in
               let stays : ref m q ≢ 0 → T' (ref m q) ≡ T (ref m q) = λ nz. same_table laws keeps cell_laws pointers x code s ls wt fits few one earlier h may (ref m q) nz
@@ -299,16 +286,16 @@ module _ (cell_laws : CellsAreThere) (pointers : PointersAreThere) (rights : Acc
               written d same site f.1.0 f.1.2 (ap written_cell is) _ now (ref m q) (ap (λ j. asked_by (act code s j m)) is)
               (ap (reference (ref m q)) speaks ∙ reference_as (ref m q) T T' stays ∙ sym (ap (λ k. value_held k T' (ref m q)) f.1.3.holds))
 
-          at_take : (q site : ℕ) (d : Cell) → i ≡ instrs.TakeCell q d site → c ≡ cell_at code ((place_after code s earlier).threads one.thread) d → Holds (pushed event L)
+          at_take : (q site : ℕ) (d : Cell) → i ≡ Instr.TakeCell q d site → c ≡ cell_at code ((place_after code s earlier).threads one.thread) d → Holds (pushed event L)
           at_take q site d is same =
-              let f = fine (instrs.TakeCell q d site) is in
+              let f = fine (Instr.TakeCell q d site) is in
               let now = ap (λ j. said code j m found elements) is in
               written d same site f.1.0 f.1.2 (ap written_cell is) _ now 0 (ap (λ j. asked_by (act code s j m)) is) (sym (held_zero f.1.0.holds T'))
 
           by : (n : Instr) → i ≡ n → Holds (pushed event L)
-          by (instrs.Store q d site) is = at_store q site d is (same ∙ ap (cell_at code m) (some_eq d k (sym (ap written_cell is) ∙ w)))
-          by (instrs.Exchange q d site) is = at_exchange q site d is (same ∙ ap (cell_at code m) (some_eq d k (sym (ap written_cell is) ∙ w)))
-          by (instrs.TakeCell q d site) is = at_take q site d is (same ∙ ap (cell_at code m) (some_eq d k (sym (ap written_cell is) ∙ w)))
+          by (Instr.Store q d site) is = at_store q site d is (same ∙ ap (cell_at code m) (some_eq d k (sym (ap written_cell is) ∙ w)))
+          by (Instr.Exchange q d site) is = at_exchange q site d is (same ∙ ap (cell_at code m) (some_eq d k (sym (ap written_cell is) ∙ w)))
+          by (Instr.TakeCell q d site) is = at_take q site d is (same ∙ ap (cell_at code m) (some_eq d k (sym (ap written_cell is) ∙ w)))
           by _ is = absurd (let z : None ≡ Some k = sym (ap written_cell is) ∙ w in cc)
 
       -- ---- both
@@ -326,19 +313,19 @@ module _ (cell_laws : CellsAreThere) (pointers : PointersAreThere) (rights : Acc
     holds_cell : Holds (pushed event L)
     holds_cell = by c.object refl
       where
-        old_one : (unmade : (n : ℕ) → c.object ≡ objects.Made n → header_of i ((place_after code s earlier).threads one.thread).own.stage ≡ Some n → ⊥) → Holds (pushed event L)
+        old_one : (unmade : (n : ℕ) → c.object ≡ Object.Made n → header_of i ((place_after code s earlier).threads one.thread).own.stage ≡ Some n → ⊥) → Holds (pushed event L)
         old_one unmade = holds_old (kept laws keeps cell_laws pointers x code s ls wt fits few one earlier h may o j cell.live cell.inside (λ made. unmade_number c.object refl made)) unmade
           where
             unmade_number : (b : Object) → c.object ≡ b → header_of i ((place_after code s earlier).threads one.thread).own.stage ≡ Some (number_of c.object) → ⊥
-            unmade_number (objects.Global q) is made = header_some (number_of c.object) made (ap number_of is)
-            unmade_number (objects.Made n) is made = unmade n is (made ∙ ap (λ (b : Object). Some (number_of b)) is)
+            unmade_number (Object.Global q) is made = header_some (number_of c.object) made (ap number_of is)
+            unmade_number (Object.Made n) is made = unmade n is (made ∙ ap (λ (b : Object). Some (number_of b)) is)
 
-        object_eq : (n k : ℕ) → objects.Made n ≡ objects.Made k → n ≡ k
+        object_eq : (n k : ℕ) → Object.Made n ≡ Object.Made k → n ≡ k
         object_eq n k e = cc
 
         by : (b : Object) → c.object ≡ b → Holds (pushed event L)
-        by (objects.Global q) is = old_one (λ n e made. let z : objects.Global q ≡ objects.Made n = sym is ∙ e in cc)
-        by (objects.Made n) is = ⊎_elim
+        by (Object.Global q) is = old_one (λ n e made. let z : Object.Global q ≡ Object.Made n = sym is ∙ e in cc)
+        by (Object.Made n) is = ⊎_elim
             (λ (made : header_of i m.own.stage ≡ Some n). made_cell event tells n is made)
             (λ (never : header_of i m.own.stage ≡ Some n → ⊥). old_one (λ k e made. never (made ∙ ap (λ n. Some n) (sym (object_eq n k (sym is ∙ e))))))
             (decide (header_of i m.own.stage) n)

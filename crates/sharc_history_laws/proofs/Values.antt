@@ -1,12 +1,5 @@
 -- An object that was there before a turn and is there after it has cells with the same contents.
-use Rattle.std.proofs.{Common.{◌≡◌, ℕ, ◌+◌, ◌*◌, ◌%◌, ◌<◌, ◌≢◌, Bool, true, false, length, List, ◌∷◌, Some, refl, sym, ap, ◌∙◌, subst, ⊎_elim, arith}, lemmas.Bool.cases_eq, lemmas.Bool.Decides.nat_tests}
-use Rattle.std.specs.Prelude.{◌==◌}
-use Rattle.sharc_code.specs.{declared.code.Code.Code, declared.instr.Instr.Instr, declared.shape.Shape.Shape, Laws.RunLaws, Layout.Fits, Machine.{Machine, instr_at, act, ref}, Path.{turn, after}, Runs.{Turn, Global, MayTurn, after_turn, state_now, result_of}, Whole.{one_thread, bounds, place_after}}
-use Rattle.sharc_code.specs.declared.instr.Instr.TheVariants as instrs
-use Rattle.sharc_compile.specs.Consistent.{Elements}
-use Rattle.sharc_invariant.specs.{Types.{Targets, StaticType, Field, Content, Integer, MutexWord, Waiters, Pointer, cells_of, field_at, field_of_cell, field_in, globals_target}, Labels.{Label, Labels, empty}, Typed.{IsWellTyped, Fine, IsSameContent}, World.{ObjectState, World}, Objects.{objects_behind, owned, type_held}, State.{State, IsSmall, StageStands}, Laws.{Keeps, CellsAreThere, PointersAreThere}}
-use Rattle.sharc_history_laws.proofs.{Acts.{given_at, freed_at}, Born.filled_target, Consists.{Consists, consists_then, objects_then, given}, Contents.value_held, Rules.{put_same, same_behind, freed_gone, decide}, Single.rests_hold, Sparing.{is_value, holds_waiters}, Stands.{target_ref, sole_ref}, Tables.{header_of, was_live, length_kept}, Writes.writes}
-use Rattle.sharc_lemmas.proofs.Bools.{yes}
+use Rattle.sharc_history_laws.proofs.{Imports.{◌≡◌, ℕ, ◌+◌, ◌*◌, ◌%◌, ◌<◌, ◌≢◌, Bool, true, false, length, List, ◌∷◌, Some, refl, sym, ap, ◌∙◌, subst, ⊎_elim, arith, cases_eq, nat_tests, ◌==◌, Code, Instr, Shape, RunLaws, Fits, Machine, instr_at, act, ref, turn, after, Turn, Global, MayTurn, after_turn, state_now, result_of, one_thread, bounds, place_after, Elements, Targets, StaticType, Field, Content, Integer, MutexWord, Waiters, Pointer, cells_of, field_at, field_of_cell, field_in, globals_target, Label, Labels, empty, IsWellTyped, Fine, IsSameContent, ObjectState, World, objects_behind, owned, type_held, State, IsSmall, StageStands, Keeps, CellsAreThere, PointersAreThere, yes}, Acts.{given_at, freed_at}, Born.filled_target, Consists.{Consists, consists_then, objects_then, given}, Contents.value_held, Rules.{put_same, same_behind, freed_gone, decide}, Single.rests_hold, Sparing.{is_value, holds_waiters}, Stands.{target_ref, sole_ref}, Tables.{header_of, was_live, length_kept}, Writes.writes}
 
 -- ---- contents of one kind
 pub record SameContent (a b : Content) : Type 0 where
@@ -69,12 +62,12 @@ module _ (laws : RunLaws) (keeps : Keeps) (cells : CellsAreThere) (pointers : Po
   at_object o = ap (λ (f : ℕ → ObjectState). f o) (objects_then laws keeps cells pointers x code s ls wt fits few one earlier h may)
 
   -- ---- a Give: what the object's target was, and what it is
-  module _ (o r site : ℕ) (is : i ≡ instrs.Give r site) (object : ref ((place_after code s earlier).threads one.thread) r ≡ o) where
-    pub fine : Fine x code ls ((place_after code s earlier).threads one.thread).at.pc (ls.at ((place_after code s earlier).threads one.thread).at.pc) (instrs.Give r site)
+  module _ (o r site : ℕ) (is : i ≡ Instr.Give r site) (object : ref ((place_after code s earlier).threads one.thread) r ≡ o) where
+    pub fine : Fine x code ls ((place_after code s earlier).threads one.thread).at.pc (ls.at ((place_after code s earlier).threads one.thread).at.pc) (Instr.Give r site)
     fine = subst (Fine x code ls m.at.pc (ls.at m.at.pc)) is (wt.fine m.at.pc)
 
     hold : Rattle.sharc_invariant.specs.State.OnHold ((place_after code s earlier).threads one.thread).own.stage
-    hold = rests_hold code s h.state.elements h.world h.state.heap g.words t m (instrs.Give r site) m.own.stage refl (subst (λ j. StageStands code s h.state.elements h.world h.state.heap g.words t m j m.own.stage) is ((h.state.threads t).runs may.started may.next.runs).stage)
+    hold = rests_hold code s h.state.elements h.world h.state.heap g.words t m (Instr.Give r site) m.own.stage refl (subst (λ j. StageStands code s h.state.elements h.world h.state.heap g.words t m j m.own.stage) is ((h.state.threads t).runs may.started may.next.runs).stage)
 
     some : ref ((place_after code s earlier).threads one.thread) r ≢ 0
     some = sole_ref x code s ls wt fits g h.world h.state t (may.started, may.next.runs) hold r true fine.0
@@ -131,8 +124,8 @@ module _ (laws : RunLaws) (keeps : Keeps) (cells : CellsAreThere) (pointers : Po
           (cases_eq o 0)
 
     -- a Give of it
-    module _ (r site : ℕ) (is : i ≡ instrs.Give r site) (object : ref ((place_after code s earlier).threads one.thread) r ≡ o) where
-      abbrev gave : Fine x code ls ((place_after code s earlier).threads one.thread).at.pc (ls.at ((place_after code s earlier).threads one.thread).at.pc) (instrs.Give r site)
+    module _ (r site : ℕ) (is : i ≡ Instr.Give r site) (object : ref ((place_after code s earlier).threads one.thread) r ≡ o) where
+      abbrev gave : Fine x code ls ((place_after code s earlier).threads one.thread).at.pc (ls.at ((place_after code s earlier).threads one.thread).at.pc) (Instr.Give r site)
       gave = fine o r site is object
 
       same_count : cells_of x (then_.world.obj o).ty.target ≡ cells_of x (h.world.obj o).ty.target
@@ -149,7 +142,7 @@ module _ (laws : RunLaws) (keeps : Keeps) (cells : CellsAreThere) (pointers : Po
         (decide (given_at i m) o)
       where
         by : (k : Instr) → i ≡ k → given_at k ((place_after code s earlier).threads one.thread) ≡ Some o → then_.state.cells o ≡ h.state.cells o
-        by (instrs.Give r site) is q = all r site is (let same : ref m r ≡ o = cc in same)
+        by (Instr.Give r site) is q = all r site is (let same : ref m r ≡ o = cc in same)
         by _ is q = absurd (cc)
 
   module _ (o j : ℕ) (live' : (then_.world.obj o).live ≡ true) (inside : j < then_.state.cells o) (old : header_of i ((place_after code s earlier).threads one.thread).own.stage ≡ Some o → ⊥) where
@@ -165,8 +158,8 @@ module _ (laws : RunLaws) (keeps : Keeps) (cells : CellsAreThere) (pointers : Po
     }
 
     -- a Give of it
-    module _ (r site : ℕ) (is : i ≡ instrs.Give r site) (object : ref ((place_after code s earlier).threads one.thread) r ≡ o) where
-      abbrev give : Fine x code ls ((place_after code s earlier).threads one.thread).at.pc (ls.at ((place_after code s earlier).threads one.thread).at.pc) (instrs.Give r site)
+    module _ (r site : ℕ) (is : i ≡ Instr.Give r site) (object : ref ((place_after code s earlier).threads one.thread) r ≡ o) where
+      abbrev give : Fine x code ls ((place_after code s earlier).threads one.thread).at.pc (ls.at ((place_after code s earlier).threads one.thread).at.pc) (Instr.Give r site)
       give = fine o r site is object
 
       some_cells : (n count k : ℕ) → k < n → n ≡ count * cells_of x give.2.0.target → cells_of x give.2.0.target ≢ 0
@@ -206,5 +199,5 @@ module _ (laws : RunLaws) (keeps : Keeps) (cells : CellsAreThere) (pointers : Po
         (decide (given_at i m) o)
       where
         by : (k : Instr) → i ≡ k → given_at k ((place_after code s earlier).threads one.thread) ≡ Some o → Kept o j
-        by (instrs.Give r site) is q = recasted r site is (let same : ref m r ≡ o = cc in same)
+        by (Instr.Give r site) is q = recasted r site is (let same : ref m r ≡ o = cc in same)
         by _ is q = absurd (cc)

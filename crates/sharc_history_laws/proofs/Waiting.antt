@@ -1,28 +1,13 @@
 -- Whoever waits by the events stands where it waits, and the words of conditions have the bits of those who wait.
-use Rattle.std.proofs.{Common.{◌≡◌, ℕ, pos, zero, suc, ◌+◌, ◌^◌, ◌<◌, ◌≢◌, ◌⊎◌, inl, inr, Bool, true, false, not, ◌||◌, ◌&&◌, cond, List, ◌∷◌, Option, Some, None, if◌then◌else◌, refl, sym, ap, ◌∙◌, subst, ⊎_elim, arith, eqb-true}, lemmas.Bool.{cases_eq, false_from_ne_true as not_true}, lemmas.Bool.Decides.nat_tests, lemmas.List.get_or-set_other}
-use Rattle.std.specs.Prelude.{slice_index, ◌==◌}
-use Rattle.sharc_word.specs.{declared.step.TheConstants.THREADS, declared.step.WordOp.WordOp, Words.word_after}
-use Rattle.sharc_word.specs.declared.step.WordOp.TheVariants as ops
-use Rattle.sharc_tree.specs.{declared.event.Act.Act, declared.event.CellAt.CellAt, declared.event.Object.Object, declared.event.SourceEvent.SourceEvent}
-use Rattle.sharc_tree.specs.declared.event.Act.TheVariants as acts
-use Rattle.sharc_tree.specs.declared.event.Object.TheVariants as objects
-use Rattle.sharc_locks.specs.{Laws.WaitersLaws, Waiters.{waits_in, lowest_of, without_lowest}}
-use Rattle.sharc_code.specs.{declared.code.Code.Code, declared.instr.Cell.Cell, declared.instr.Instr.Instr, declared.shape.Shape.Shape, declared.state.Stage.Stage, declared.state.Stage.TheVariants.{Empties, Links, Wakes}, Arithmetic.word_of, Laws.RunLaws, Layout.Fits, Machine.{Machine, instr_at, int, ref, word, act, signal, is_of_null, step_of, goes, fails}, Path.{turn, after, asked_by}, Runs.{Turn, Global, MayTurn, after_turn, put, state_now, result_of, words_now}, Says.{said, cell_at, speaks_of, nobody, in_signal, event_at}, Whole.{one_thread, bounds, place_after}}
-use Rattle.sharc_code.specs.declared.instr.Cell.TheVariants as cells
-use Rattle.sharc_code.specs.declared.instr.Instr.TheVariants as instrs
-use Rattle.sharc_compile.specs.OfRuns.{table_of}
-use Rattle.sharc_meaning.specs.{Events.{is_cell, same_cell}, Store.{entered, takes_away}}
-use Rattle.sharc_invariant.specs.{Types.{Targets, Field, Content, Integer, MutexWord, Waiters, Pointer, field_in}, Labels.{Gate, Closed, Labels}, Typed.{IsWellTyped, Fine, Accesses, HasCell, IsNotSole}, World.{In, RegisterOf, ObjectState, World}, State.{IsSmall, StageStands, EntryStands, OnHold, object_of_cell, number_in, view_of, refs_at, types_at}, MachineInvariant.IsOn, Laws.{Keeps, CellsAreThere, PointersAreThere, AccessesAreAllowed, StateStands}}
-use Rattle.sharc_history_laws.specs.Waiters.{WaitsFollow}
-use Rattle.sharc_history_laws.proofs.{Acts.{freed_at, thread_said}, Born.born, Consists.{Consists, consists_then, objects_then, after_set, found_is, headed, live_not_built, header_built}, Contents.{IsCellOf, content_of, word_of_cell, one_cell}, Emptying.{IsFreeing, IsEmptied, is_emptying, emptied_then}, Holding.cell_eq, Lists.Newest, Locking.cell_refl, ModesKept.word_spared, OneMode.{place_of, numbers_now}, Queued.{waits_by, waits_behind, waiter_behind, other_event, is_condition, no_condition, condition_elsewhere, no_enter, woken_leaves, is_enter, enterless}, Outcomes.wakes_nobody, Rules.{pushed, about_now, number_is, decide, freed_gone, put_same, put_other}, Shared.number_of, Single.{single, rests_hold}, Sparing.{holds_waiters, is_mutex, waited_cell, written_cell, spares_cell}, Stands.{register_is, live_slot, some_base, there, top, reads_ref}, Tables.header_of, Unemptied.not_emptied, Valued.cell_named, Values.{Kept, kept}}
+use Rattle.sharc_history_laws.proofs.{Imports.{◌≡◌, ℕ, pos, zero, suc, ◌+◌, ◌^◌, ◌<◌, ◌≢◌, ◌⊎◌, inl, inr, Bool, true, false, not, ◌||◌, ◌&&◌, cond, List, ◌∷◌, Option, Some, None, if◌then◌else◌, refl, sym, ap, ◌∙◌, subst, ⊎_elim, arith, eqb-true, cases_eq, not_true, nat_tests, get_or-set_other, slice_index, ◌==◌, THREADS, WordOp, word_after, Act, CellAt, Object, SourceEvent, WaitersLaws, waits_in, lowest_of, without_lowest, Code, Cell, Instr, Shape, Stage, Empties, Links, Wakes, word_of, RunLaws, Fits, Machine, instr_at, int, ref, word, act, signal, is_of_null, step_of, goes, fails, turn, after, asked_by, Turn, Global, MayTurn, after_turn, put, state_now, result_of, words_now, said, cell_at, speaks_of, nobody, in_signal, event_at, one_thread, bounds, place_after, table_of, is_cell, same_cell, takes_away, Targets, Field, Content, Integer, MutexWord, Waiters, Pointer, field_in, Gate, Closed, Labels, IsWellTyped, Fine, Accesses, HasCell, IsNotSole, In, RegisterOf, ObjectState, World, IsSmall, StageStands, EntryStands, OnHold, object_of_cell, number_in, view_of, refs_at, types_at, IsOn, Keeps, CellsAreThere, PointersAreThere, AccessesAreAllowed, StateStands, WaitsFollow, same_is, ne_of as other_is, yes}, Acts.{freed_at, thread_said}, Born.born, Consists.{Consists, consists_then, objects_then, after_set, found_is, headed, live_not_built, header_built}, Contents.{IsCellOf, content_of, word_of_cell, one_cell}, Emptying.{IsFreeing, IsEmptied, is_emptying, emptied_then}, Holding.cell_eq, Lists.Newest, Locking.cell_refl, ModesKept.word_spared, OneMode.{place_of, numbers_now}, Queued.{waits_by, waits_behind, waiter_behind, other_event, is_condition, no_condition, condition_elsewhere, no_enter, woken_leaves, is_enter, enterless}, Outcomes.wakes_nobody, Rules.{pushed, about_now, number_is, decide, freed_gone, put_same, put_other}, Shared.number_of, Single.{single, rests_hold}, Sparing.{holds_waiters, is_mutex, waited_cell, written_cell, spares_cell}, Stands.{register_is, live_slot, some_base, there, top, reads_ref}, Tables.header_of, Unemptied.not_emptied, Valued.cell_named, Values.{Kept, kept}}
+use Rattle.sharc_meaning.specs.Store.{entered}
 use Rattle.sharc_history_laws.proofs.Placed as Placed
-use Rattle.sharc_lemmas.proofs.{Numbers.{same_is, eqb_other as other_is}, Bools.yes}
 
 -- ---- who waits by the events
 -- where a thread waits at a cell, or unlocks its mutex before that
 pub data IsAtWait (code : Code) (pc : ℕ) (k : Cell) : Type 0 where
-  Waits : (site : ℕ) → instr_at code pc ≡ instrs.CondWait k site → IsAtWait code pc k
-  Unlocks : (q : ℕ) (mutex : Cell) (unlock_site site : ℕ) → instr_at code pc ≡ instrs.Unlock q mutex unlock_site → instr_at code (pc + 1) ≡ instrs.CondWait k site → IsAtWait code pc k
+  Waits : (site : ℕ) → instr_at code pc ≡ Instr.CondWait k site → IsAtWait code pc k
+  Unlocks : (q : ℕ) (mutex : Cell) (unlock_site site : ℕ) → instr_at code pc ≡ Instr.Unlock q mutex unlock_site → instr_at code (pc + 1) ≡ Instr.CondWait k site → IsAtWait code pc k
 
 pub record StandsWaiting (code : Code) (m : Machine) (c : CellAt) : Type 0 where
   pub cell : Cell
@@ -41,9 +26,9 @@ WordsTell x code s L g w cells = (c : CellAt) → IsCellOf code w cells c → ho
 
 -- ---- bits
 module _ (bits : WaitersLaws) where
-  enter_bits : (w t u : ℕ) → t < THREADS → (was : Bool) → was ≡ waits_in w u → cond ((t == u) || false) (t == u) was ≡ waits_in (word_after (ops.Or (2 ^ t)) w) u
+  enter_bits : (w t u : ℕ) → t < THREADS → (was : Bool) → was ≡ waits_in w u → cond ((t == u) || false) (t == u) was ≡ waits_in (word_after (WordOp.Or (2 ^ t)) w) u
   enter_bits w t u lt was e = ⊎_elim
-      (λ (same : t ≡ u). ap (λ b. cond (b || false) b was) (ap (λ n. t == n) (sym same) ∙ same_is t) ∙ sym (bits.waits w t lt) ∙ ap (waits_in (word_after (ops.Or (2 ^ t)) w)) same)
+      (λ (same : t ≡ u). ap (λ b. cond (b || false) b was) (ap (λ n. t == n) (sym same) ∙ same_is t) ∙ sym (bits.waits w t lt) ∙ ap (waits_in (word_after (WordOp.Or (2 ^ t)) w)) same)
       (λ (ne : t ≡ u → ⊥). ap (λ b. cond (b || false) b was) (other_is t u ne) ∙ e ∙ sym (bits.others w t u lt (λ z. ne (sym z))))
       (cases_eq t u)
 
@@ -78,8 +63,8 @@ of_other (Some e) c u t was thread ne h = by (is_cell c (entered e.act)) (takes_
     by false false h = h
 
 abbrev pub is_waiting : Instr → Bool
-is_waiting (instrs.CondWait k site) = true
-is_waiting (instrs.Unlock q k site) = true
+is_waiting (Instr.CondWait k site) = true
+is_waiting (Instr.Unlock q k site) = true
 is_waiting _ = false
 
 -- a waiter stands at one of these
@@ -149,8 +134,8 @@ module _ (bits : WaitersLaws) (cell_laws : CellsAreThere) (pointers : PointersAr
   closed : (b : Gate) → b ≡ Closed → IsNotSole b
   closed b e = subst IsNotSole (sym e) tt
 
-  pub here_at_wait : (k : Cell) (site : ℕ) → i ≡ instrs.CondWait k site → Here k
-  here_at_wait k site is = let f = fine (instrs.CondWait k site) is in record { field = f.1.0; has = f.1.1; holds = f.1.2; hold = held_by (instrs.CondWait k site) is refl; apart = closed _ f.0 }
+  pub here_at_wait : (k : Cell) (site : ℕ) → i ≡ Instr.CondWait k site → Here k
+  here_at_wait k site is = let f = fine (Instr.CondWait k site) is in record { field = f.1.0; has = f.1.1; holds = f.1.2; hold = held_by (Instr.CondWait k site) is refl; apart = closed _ f.0 }
 
   pub here : (k : Cell) → waited_cell i ≡ Some k → Here k
   here k w = by i refl w
@@ -162,14 +147,14 @@ module _ (bits : WaitersLaws) (cell_laws : CellsAreThere) (pointers : PointersAr
       cell_is : (d : Cell) → Some d ≡ Some k → d ≡ k
       cell_is d e = cc
 
-      signal_hold : (d : Cell) (site : ℕ) (stage : Stage) → StageStands code s h.state.elements h.world h.state.heap (place_after code s earlier).words one.thread ((place_after code s earlier).threads one.thread) (instrs.CondSignal d site) stage → OnHold stage
+      signal_hold : (d : Cell) (site : ℕ) (stage : Stage) → StageStands code s h.state.elements h.world h.state.heap (place_after code s earlier).words one.thread ((place_after code s earlier).threads one.thread) (Instr.CondSignal d site) stage → OnHold stage
       signal_hold d site (Links all) h = absurd h
       signal_hold d site _ h = tt
 
       by : (j : Instr) → i ≡ j → waited_cell j ≡ Some k → Here k
-      by (instrs.CondEnter d site) is w = subst Here (cell_is d w) (let f = fine (instrs.CondEnter d site) is in record { field = f.1.0; has = f.1.1; holds = f.1.2; hold = held_by (instrs.CondEnter d site) is refl; apart = open_gate _ f.0 })
-      by (instrs.CondSignal d site) is w = subst Here (cell_is d w) (let f = fine (instrs.CondSignal d site) is in record { field = f.1.0; has = f.1.1; holds = f.1.2; hold = signal_hold d site m.own.stage (stage_here (instrs.CondSignal d site) is); apart = closed _ f.0 })
-      by (instrs.CondBroadcast d site) is w = subst Here (cell_is d w) (let f = fine (instrs.CondBroadcast d site) is in record { field = f.1.0; has = f.1.1; holds = f.1.2; hold = held_by (instrs.CondBroadcast d site) is refl; apart = closed _ f.0 })
+      by (Instr.CondEnter d site) is w = subst Here (cell_is d w) (let f = fine (Instr.CondEnter d site) is in record { field = f.1.0; has = f.1.1; holds = f.1.2; hold = held_by (Instr.CondEnter d site) is refl; apart = open_gate _ f.0 })
+      by (Instr.CondSignal d site) is w = subst Here (cell_is d w) (let f = fine (Instr.CondSignal d site) is in record { field = f.1.0; has = f.1.1; holds = f.1.2; hold = signal_hold d site m.own.stage (stage_here (Instr.CondSignal d site) is); apart = closed _ f.0 })
+      by (Instr.CondBroadcast d site) is w = subst Here (cell_is d w) (let f = fine (Instr.CondBroadcast d site) is in record { field = f.1.0; has = f.1.1; holds = f.1.2; hold = held_by (Instr.CondBroadcast d site) is refl; apart = closed _ f.0 })
       by _ is w = absurd (cc)
 
   module _ (k : Cell) (at : Here k) where
@@ -218,10 +203,10 @@ module _ (bits : WaitersLaws) (cell_laws : CellsAreThere) (pointers : PointersAr
             subst (λ n. (h.world.obj n).live ≡ true) (e ∙ same) (live_slot x code s ls wt fits g h.world h.state (In (RegisterOf u (mu.at.refs + r))) (λ z. nz (sym same ∙ sym e ∙ z)))
 
         by : (k : Cell) → cell_at code ((place_after code s earlier).threads u) k ≡ c → is_of_null ((place_after code s earlier).threads u) k ≡ false → (h.world.obj (number_of c.object)).live ≡ true
-        by (cells.Global q p) is b = absurd (nz (sym (ap (λ (c : CellAt). number_of c.object) is)))
-        by (cells.GlobalAt q p) is b = absurd (nz (sym (ap (λ (c : CellAt). number_of c.object) is)))
-        by (cells.Object r p) is b = of_register r p (cell_at code (g.threads u) (cells.Object r p)) refl is
-        by (cells.ObjectAt r p) is b = of_register r p (cell_at code (g.threads u) (cells.ObjectAt r p)) refl is
+        by (Cell.Global q p) is b = absurd (nz (sym (ap (λ (c : CellAt). number_of c.object) is)))
+        by (Cell.GlobalAt q p) is b = absurd (nz (sym (ap (λ (c : CellAt). number_of c.object) is)))
+        by (Cell.Object r p) is b = of_register r p (cell_at code (g.threads u) (Cell.Object r p)) refl is
+        by (Cell.ObjectAt r p) is b = of_register r p (cell_at code (g.threads u) (Cell.ObjectAt r p)) refl is
 
     module _ (c : CellAt) (cell : IsCellOf code then_.world then_.state.cells c) (holds : holds_waiters (content_of x code then_.world c) ≡ true) where
       abbrev o : ℕ
@@ -239,13 +224,13 @@ module _ (bits : WaitersLaws) (cell_laws : CellsAreThere) (pointers : PointersAr
       made_plain n = by i
         where
           by : (j : Instr) → header_of j ((place_after code s earlier).threads one.thread).own.stage ≡ Some n → is_condition j ≡ false
-          by (instrs.CondEnter k site) e = absurd (let z : None ≡ Some n = e in cc)
-          by (instrs.CondSignal k site) e = absurd (let z : None ≡ Some n = e in cc)
-          by (instrs.CondBroadcast k site) e = absurd (let z : None ≡ Some n = e in cc)
-          by (instrs.CondWait k site) e = absurd (let z : None ≡ Some n = e in cc)
+          by (Instr.CondEnter k site) e = absurd (let z : None ≡ Some n = e in cc)
+          by (Instr.CondSignal k site) e = absurd (let z : None ≡ Some n = e in cc)
+          by (Instr.CondBroadcast k site) e = absurd (let z : None ≡ Some n = e in cc)
+          by (Instr.CondWait k site) e = absurd (let z : None ≡ Some n = e in cc)
           by _ e = refl
 
-      made_cell : (n : ℕ) → c.object ≡ objects.Made n → header_of i ((place_after code s earlier).threads one.thread).own.stage ≡ Some n → Tells (pushed event L)
+      made_cell : (n : ℕ) → c.object ≡ Object.Made n → header_of i ((place_after code s earlier).threads one.thread).own.stage ≡ Some n → Tells (pushed event L)
       made_cell n is made =
           let same : o ≡ n = ap number_of is in
           let nz = header_some n made in
@@ -306,12 +291,12 @@ module _ (bits : WaitersLaws) (cell_laws : CellsAreThere) (pointers : PointersAr
             cell_is d e = cc
 
             by : (n : Instr) → i ≡ n → written_cell n ≡ Some k → ⊥
-            by (instrs.Store q d site) is e = let f = fine (instrs.Store q d site) is in of_field d f.0 (held_by (instrs.Store q d site) is refl) f.2.cell (cell_is d e) (ap holds_waiters f.3)
-            by (instrs.Exchange q d site) is e = let f = fine (instrs.Exchange q d site) is in of_field d f.1.0 (held_by (instrs.Exchange q d site) is refl) f.1.2.cell (cell_is d e) (ap holds_waiters f.1.3.holds)
-            by (instrs.TakeCell q d site) is e = let f = fine (instrs.TakeCell q d site) is in of_field d f.1.0 (held_by (instrs.TakeCell q d site) is refl) f.1.2.cell (cell_is d e) (ap holds_waiters f.1.3.holds)
+            by (Instr.Store q d site) is e = let f = fine (Instr.Store q d site) is in of_field d f.0 (held_by (Instr.Store q d site) is refl) f.2.cell (cell_is d e) (ap holds_waiters f.3)
+            by (Instr.Exchange q d site) is e = let f = fine (Instr.Exchange q d site) is in of_field d f.1.0 (held_by (Instr.Exchange q d site) is refl) f.1.2.cell (cell_is d e) (ap holds_waiters f.1.3.holds)
+            by (Instr.TakeCell q d site) is e = let f = fine (Instr.TakeCell q d site) is in of_field d f.1.0 (held_by (Instr.TakeCell q d site) is refl) f.1.2.cell (cell_is d e) (ap holds_waiters f.1.3.holds)
             by _ is e = cc
 
-        is_emptied : (q layout site n all : ℕ) → i ≡ instrs.Free q layout site → ((place_after code s earlier).threads one.thread).own.stage ≡ Empties n all → ref ((place_after code s earlier).threads one.thread) q ≡ o
+        is_emptied : (q layout site n all : ℕ) → i ≡ Instr.Free q layout site → ((place_after code s earlier).threads one.thread).own.stage ≡ Empties n all → ref ((place_after code s earlier).threads one.thread) q ≡ o
             → Own ⊎ IsFreeing code ((place_after code s earlier).threads one.thread) o
         is_emptied q layout site n all is at e = inr (record {
           register = q;
@@ -358,22 +343,22 @@ module _ (bits : WaitersLaws) (cell_laws : CellsAreThere) (pointers : PointersAr
               (λ (q : IsEmptied code g o). inr (emptied_still q))
               (old c old_cell old_holds)
 
-          at_enter : (site : ℕ) → i ≡ instrs.CondEnter k site → Tells (pushed event L)
+          at_enter : (site : ℕ) → i ≡ Instr.CondEnter k site → Tells (pushed event L)
           at_enter site is = told_from (λ u was e.
               let asked = ap (λ j. asked_by (act code s j m)) is in
-              let left = left_at k (ops.Or (2 ^ m.own.number)) asked in
+              let left = left_at k (WordOp.Or (2 ^ m.own.number)) asked in
               let now = ap (λ j. said code j m found elements) is in
-              let word_is : word_after (ops.Or (2 ^ m.own.number)) seen ≡ word_after (ops.Or (2 ^ t)) seen = ap (λ n. word_after (ops.Or (2 ^ n)) seen) number in
+              let word_is : word_after (WordOp.Or (2 ^ m.own.number)) seen ≡ word_after (WordOp.Or (2 ^ t)) seen = ap (λ n. word_after (WordOp.Or (2 ^ n)) seen) number in
               ap (λ ev. waits_behind ev c u was) now
               ∙ ap (λ b. cond ((b && (m.own.number == u)) || false) (b && (m.own.number == u)) was) hit
               ∙ ap (λ n. cond ((n == u) || false) (n == u) was) number
               ∙ enter_bits bits seen t u few_threads was e
               ∙ ap (λ n. waits_in n u) (sym (left ∙ word_is)))
 
-          at_broadcast : (site : ℕ) → i ≡ instrs.CondBroadcast k site → Tells (pushed event L)
+          at_broadcast : (site : ℕ) → i ≡ Instr.CondBroadcast k site → Tells (pushed event L)
           at_broadcast site is = told_from (λ u was e.
               let asked = ap (λ j. asked_by (act code s j m)) is in
-              let left = left_at k (ops.Swap 0) asked in
+              let left = left_at k (WordOp.Swap 0) asked in
               let now = ap (λ j. said code j m found elements) is in
               ap (λ ev. waits_behind ev c u was) now
               ∙ ap (λ b. cond b false was) hit
@@ -386,27 +371,27 @@ module _ (bits : WaitersLaws) (cell_laws : CellsAreThere) (pointers : PointersAr
           nobody_behind site (suc n) u was = refl
 
           -- it makes no change
-          module _ (site : ℕ) (is : i ≡ instrs.CondSignal k site) where
+          module _ (site : ℕ) (is : i ≡ Instr.CondSignal k site) where
             at_look : (stage : Stage) → ((place_after code s earlier).threads one.thread).own.stage ≡ stage → in_signal code ((place_after code s earlier).threads one.thread) k site found stage ≡ nobody code ((place_after code s earlier).threads one.thread) k site found
-                → asked_by (signal ((place_after code s earlier).threads one.thread) (word s ((place_after code s earlier).threads one.thread) k) stage) ≡ Some (step_of (word s ((place_after code s earlier).threads one.thread) k) ops.Load)
+                → asked_by (signal ((place_after code s earlier).threads one.thread) (word s ((place_after code s earlier).threads one.thread) k) stage) ≡ Some (step_of (word s ((place_after code s earlier).threads one.thread) k) WordOp.Load)
                 → Tells (pushed event L)
             at_look stage at said_is asks = told_from (λ u was e.
                 let asked = ap (λ j. asked_by (act code s j m)) is ∙ ap (λ y. asked_by (signal m (word s m k) y)) at ∙ asks in
-                let left = left_at k ops.Load asked in
+                let left = left_at k WordOp.Load asked in
                 let now = ap (λ j. said code j m found elements) is ∙ ap (in_signal code m k site found) at ∙ said_is in
                 ap (λ ev. waits_behind ev c u was) now ∙ nobody_behind site found u was ∙ e ∙ ap (λ n. waits_in n u) (sym left))
 
             at_wakes : (was_seen : ℕ) → ((place_after code s earlier).threads one.thread).own.stage ≡ Wakes was_seen → (b : Bool) → (found == was_seen) ≡ b → Tells (pushed event L)
             at_wakes was_seen at b eq = told_from (λ u was e. by b eq u was e)
               where
-                asked : asked_by (turn code s ((place_after code s earlier).threads one.thread)) ≡ Some (step_of (word s ((place_after code s earlier).threads one.thread) k) (ops.Cas was_seen (without_lowest was_seen)))
+                asked : asked_by (turn code s ((place_after code s earlier).threads one.thread)) ≡ Some (step_of (word s ((place_after code s earlier).threads one.thread) k) (WordOp.Cas was_seen (without_lowest was_seen)))
                 asked = ap (λ j. asked_by (act code s j m)) is ∙ ap (λ y. asked_by (signal m (word s m k) y)) at
 
                 now : event ≡ in_signal code ((place_after code s earlier).threads one.thread) k site found (Wakes was_seen)
                 now = ap (λ j. said code j m found elements) is ∙ ap (in_signal code m k site found) at
 
                 found_is_seen : found ≡ seen
-                found_is_seen = found_at k (ops.Cas was_seen (without_lowest was_seen)) asked
+                found_is_seen = found_at k (WordOp.Cas was_seen (without_lowest was_seen)) asked
 
                 some : 0 < was_seen
                 some = positive was_seen (sym (ap wakes_nobody at) ∙ wake t)
@@ -415,20 +400,20 @@ module _ (bits : WaitersLaws) (cell_laws : CellsAreThere) (pointers : PointersAr
                     positive n e = grind (arith, nat_tests)
 
                 left : slice_index words (word s ((place_after code s earlier).threads one.thread) k) ≡ (if seen == was_seen then without_lowest was_seen else seen)
-                left = left_at k (ops.Cas was_seen (without_lowest was_seen)) asked
+                left = left_at k (WordOp.Cas was_seen (without_lowest was_seen)) asked
 
                 by : (b : Bool) → (found == was_seen) ≡ b → (u : ℕ) (was : Bool) → was ≡ waits_in seen u → waits_behind event c u was ≡ waits_in (slice_index words (word s ((place_after code s earlier).threads one.thread) k)) u
                 by true eq u was e =
                     let same_word : seen ≡ was_seen = sym found_is_seen ∙ eqb-true found was_seen eq in
                     let small : was_seen < 2 ^ 64 = subst (λ n. n < 2 ^ 64) same_word (h.state.are_words (word s m k)) in
                     let left' : slice_index words (word s m k) ≡ without_lowest was_seen = left ∙ ap (λ b. if b then without_lowest was_seen else seen) (ap (λ n. n == was_seen) (sym found_is_seen) ∙ eq) in
-                    ap (λ ev. waits_behind ev c u was) (now ∙ ap (λ b. if b then event_at code m site (pos (lowest_of was_seen + 1)) (acts.Signal (cell_at code m k)) else nobody code m k site found) eq)
+                    ap (λ ev. waits_behind ev c u was) (now ∙ ap (λ b. if b then event_at code m site (pos (lowest_of was_seen + 1)) (Act.Signal (cell_at code m k)) else nobody code m k site found) eq)
                     ∙ ap (λ b. cond (false || ((b && (u + 1 == lowest_of was_seen + 1)) || false)) false was) hit
                     ∙ wake_bits bits was_seen u some small was (e ∙ ap (λ n. waits_in n u) same_word)
                     ∙ ap (λ n. waits_in n u) (sym left')
                 by false eq u was e =
                     let left' : slice_index words (word s m k) ≡ seen = left ∙ ap (λ b. if b then without_lowest was_seen else seen) (ap (λ n. n == was_seen) (sym found_is_seen) ∙ eq) in
-                    ap (λ ev. waits_behind ev c u was) (now ∙ ap (λ b. if b then event_at code m site (pos (lowest_of was_seen + 1)) (acts.Signal (cell_at code m k)) else nobody code m k site found) eq)
+                    ap (λ ev. waits_behind ev c u was) (now ∙ ap (λ b. if b then event_at code m site (pos (lowest_of was_seen + 1)) (Act.Signal (cell_at code m k)) else nobody code m k site found) eq)
                     ∙ nobody_behind site found u was ∙ e ∙ ap (λ n. waits_in n u) (sym left')
 
             at_signal : (stage : Stage) → ((place_after code s earlier).threads one.thread).own.stage ≡ stage → Tells (pushed event L)
@@ -442,29 +427,29 @@ module _ (bits : WaitersLaws) (cell_laws : CellsAreThere) (pointers : PointersAr
               cell_is d e = cc
 
               by : (j : Instr) → i ≡ j → waited_cell j ≡ Some k → Tells (pushed event L)
-              by (instrs.CondEnter d site) is e = at_enter site (is ∙ ap (λ d. instrs.CondEnter d site) (cell_is d e))
-              by (instrs.CondSignal d site) is e = at_signal site (is ∙ ap (λ d. instrs.CondSignal d site) (cell_is d e)) m.own.stage refl
-              by (instrs.CondBroadcast d site) is e = at_broadcast site (is ∙ ap (λ d. instrs.CondBroadcast d site) (cell_is d e))
+              by (Instr.CondEnter d site) is e = at_enter site (is ∙ ap (λ d. Instr.CondEnter d site) (cell_is d e))
+              by (Instr.CondSignal d site) is e = at_signal site (is ∙ ap (λ d. Instr.CondSignal d site) (cell_is d e)) m.own.stage refl
+              by (Instr.CondBroadcast d site) is e = at_broadcast site (is ∙ ap (λ d. Instr.CondBroadcast d site) (cell_is d e))
               by _ is e = absurd (cc)
 
         -- ---- both
         told_old : Tells (pushed event L)
         told_old = by (waited_cell i) refl
           where
-            of_wait : (d : Cell) (site : ℕ) (b : Bool) (e : SourceEvent) → (if b then None else event_at code ((place_after code s earlier).threads one.thread) site (pos 0) (acts.Woken (cell_at code ((place_after code s earlier).threads one.thread) d))) ≡ Some e
-                → e.act ≡ acts.Woken (cell_at code ((place_after code s earlier).threads one.thread) d)
+            of_wait : (d : Cell) (site : ℕ) (b : Bool) (e : SourceEvent) → (if b then None else event_at code ((place_after code s earlier).threads one.thread) site (pos 0) (Act.Woken (cell_at code ((place_after code s earlier).threads one.thread) d))) ≡ Some e
+                → e.act ≡ Act.Woken (cell_at code ((place_after code s earlier).threads one.thread) d)
             of_wait d site true e q = absurd (cc)
             of_wait d site false e q = sym (ap act_of q)
               where
                 act_of : Option SourceEvent → Act
-                act_of None = acts.Gone
+                act_of None = Act.Gone
                 act_of (Some e) = e.act
 
             plain : (j : Instr) → i ≡ j → waited_cell j ≡ None → (u : ℕ) (was : Bool) → waits_behind event c u was ≡ was
-            plain (instrs.CondEnter d site) is e = absurd (let z : Some d ≡ None = e in cc)
-            plain (instrs.CondSignal d site) is e = absurd (let z : Some d ≡ None = e in cc)
-            plain (instrs.CondBroadcast d site) is e = absurd (let z : Some d ≡ None = e in cc)
-            plain (instrs.CondWait d site) is e = λ u was. ap (λ j. waits_behind (said code j m found elements) c u was) is ∙ woken_leaves (said code (instrs.CondWait d site) m found elements) (cell_at code m d) c u was (of_wait d site (waits_in found m.own.number))
+            plain (Instr.CondEnter d site) is e = absurd (let z : Some d ≡ None = e in cc)
+            plain (Instr.CondSignal d site) is e = absurd (let z : Some d ≡ None = e in cc)
+            plain (Instr.CondBroadcast d site) is e = absurd (let z : Some d ≡ None = e in cc)
+            plain (Instr.CondWait d site) is e = λ u was. ap (λ j. waits_behind (said code j m found elements) c u was) is ∙ woken_leaves (said code (Instr.CondWait d site) m found elements) (cell_at code m d) c u was (of_wait d site (waits_in found m.own.number))
             plain _ is e = λ u was. other_event event c u was (ap (is_cell c) (no_condition code m i found elements (ap is_condition is)))
 
             some_eq : (d k : Cell) → Some d ≡ Some k → d ≡ k
@@ -486,8 +471,8 @@ module _ (bits : WaitersLaws) (cell_laws : CellsAreThere) (pointers : PointersAr
           old_one unmade = told_old (kept laws keeps cell_laws pointers x code s ls wt fits few one earlier h may o j cell.live cell.inside unmade)
 
           by : (b : Object) → c.object ≡ b → Tells (pushed event L)
-          by (objects.Global q) is = old_one (λ made. header_some o made (ap number_of is))
-          by (objects.Made n) is = ⊎_elim
+          by (Object.Global q) is = old_one (λ made. header_some o made (ap number_of is))
+          by (Object.Made n) is = ⊎_elim
               (λ (made : header_of i m.own.stage ≡ Some n). made_cell n is made)
               (λ (never : header_of i m.own.stage ≡ Some n → ⊥). old_one (λ made. never (made ∙ ap (λ (b : Object). Some (number_of b)) is)))
               (decide (header_of i m.own.stage) n)
@@ -515,17 +500,17 @@ module _ (bits : WaitersLaws) (cell_laws : CellsAreThere) (pointers : PointersAr
       stays_not : is_waiting i ≡ false → Stand ((place_after code s earlier).threads one.thread) → ⊥
       stays_not plain w = yes (sym (at_waiting code m.at.pc w.cell w.at) ∙ plain)
 
-      cell_eq_of : (a b : Cell) (m n : ℕ) → instrs.CondWait a m ≡ instrs.CondWait b n → a ≡ b
+      cell_eq_of : (a b : Cell) (m n : ℕ) → Instr.CondWait a m ≡ Instr.CondWait b n → a ≡ b
       cell_eq_of a b m n e = cc
 
       -- it enters
-      enters_now : (k : Cell) (site : ℕ) → i ≡ instrs.CondEnter k site → waits_by (pushed event L) c one.thread ≡ true → Stand (after (act code s (instrs.CondEnter k site) ((place_after code s earlier).threads one.thread)) found)
+      enters_now : (k : Cell) (site : ℕ) → i ≡ Instr.CondEnter k site → waits_by (pushed event L) c one.thread ≡ true → Stand (after (act code s (Instr.CondEnter k site) ((place_after code s earlier).threads one.thread)) found)
       enters_now k site is w = split (same_cell c (cell_at code m k)) refl
         where
           at : Here k
           at = here k (ap waited_cell is)
 
-          split : (b : Bool) → same_cell c (cell_at code ((place_after code s earlier).threads one.thread) k) ≡ b → Stand (after (act code s (instrs.CondEnter k site) ((place_after code s earlier).threads one.thread)) found)
+          split : (b : Bool) → same_cell c (cell_at code ((place_after code s earlier).threads one.thread) k) ≡ b → Stand (after (act code s (Instr.CondEnter k site) ((place_after code s earlier).threads one.thread)) found)
           split true e = let f = follow m.at.pc site k is in record {
             cell = k;
             is = sym (cell_eq c (cell_at code m k) e);
@@ -537,7 +522,7 @@ module _ (bits : WaitersLaws) (cell_laws : CellsAreThere) (pointers : PointersAr
               (stand c t (sym (other_event event c t (waits_by L c t) (condition_elsewhere code m i found elements c k (ap waited_cell is) e)) ∙ sym (waiter_behind event L c t) ∙ w)))
 
       -- it waits on, or is no waiter
-      waits_on : (k : Cell) (site : ℕ) → i ≡ instrs.CondWait k site → waits_by (pushed event L) c one.thread ≡ true → Stand (after (act code s (instrs.CondWait k site) ((place_after code s earlier).threads one.thread)) found)
+      waits_on : (k : Cell) (site : ℕ) → i ≡ Instr.CondWait k site → waits_by (pushed event L) c one.thread ≡ true → Stand (after (act code s (Instr.CondWait k site) ((place_after code s earlier).threads one.thread)) found)
       waits_on k site is w = split (waits_in found m.own.number) refl
         where
           st : Stand ((place_after code s earlier).threads one.thread)
@@ -545,14 +530,14 @@ module _ (bits : WaitersLaws) (cell_laws : CellsAreThere) (pointers : PointersAr
 
           own_cell : IsAtWait code ((place_after code s earlier).threads one.thread).at.pc st.cell → st.cell ≡ k
           own_cell (Waits a e) = cell_eq_of st.cell k a site (sym e ∙ is)
-          own_cell (Unlocks q mutex a b e v) = absurd (let z : instrs.Unlock q mutex a ≡ instrs.CondWait k site = sym e ∙ is in cc)
+          own_cell (Unlocks q mutex a b e v) = absurd (let z : Instr.Unlock q mutex a ≡ Instr.CondWait k site = sym e ∙ is in cc)
 
           here_is : c ≡ cell_at code ((place_after code s earlier).threads one.thread) k
           here_is = sym st.is ∙ ap (cell_at code m) (own_cell st.at)
 
           bit : waits_in found ((place_after code s earlier).threads one.thread).own.number ≡ true
           bit =
-              let f = found_at k ops.Load (ap (λ j. asked_by (act code s j m)) is) in
+              let f = found_at k WordOp.Load (ap (λ j. asked_by (act code s j m)) is) in
               ap (λ n. waits_in found n) number ∙ ap (λ n. waits_in n t) f ∙ sym (bit_here state_law k (here_at_wait k site is) t) ∙ ap (λ d. waits_by L d t) (sym here_is)
               ∙ no_enter event c t (waits_by L c t) (enterless code m i found elements (ap is_enter is)) (sym (waiter_behind event L c t) ∙ w)
 
@@ -561,15 +546,15 @@ module _ (bits : WaitersLaws) (cell_laws : CellsAreThere) (pointers : PointersAr
           split false e = absurd (yes (sym bit ∙ e))
 
       -- it unlocks the mutex
-      module _ (q : ℕ) (mutex : Cell) (site : ℕ) (is : i ≡ instrs.Unlock q mutex site) where
+      module _ (q : ℕ) (mutex : Cell) (site : ℕ) (is : i ≡ Instr.Unlock q mutex site) where
         abbrev released : Machine
-        released = after (act code s (instrs.Unlock q mutex site) ((place_after code s earlier).threads one.thread)) found
+        released = after (act code s (Instr.Unlock q mutex site) ((place_after code s earlier).threads one.thread)) found
 
         -- the register that takes the reference had none
         vacant : ref ((place_after code s earlier).threads one.thread) q ≡ 0
         vacant =
-            let hold = held_by (instrs.Unlock q mutex site) is refl in
-            let f = fine (instrs.Unlock q mutex site) is in
+            let hold = held_by (Instr.Unlock q mutex site) is refl in
+            let f = fine (Instr.Unlock q mutex site) is in
             reads_ref x code s ls wt fits g h.world h.state t on hold q
             ∙ subst (EntryStands (refs_at (view_of h.state.elements h.world t m) m.at.refs) (types_at (view_of h.state.elements h.world t m) m.at.refs) q) f.1.empty ((top x code s ls wt fits g h.world h.state t on hold (suc q) 0).env q (omega arith))
 
@@ -579,10 +564,10 @@ module _ (bits : WaitersLaws) (cell_laws : CellsAreThere) (pointers : PointersAr
             yes (sym (ap (λ r. ref m r == 0) same ∙ ap (λ n. n == 0) vacant) ∙ some))
 
         same_cell_at : (k : Cell) → is_of_null ((place_after code s earlier).threads one.thread) k ≡ false → (cell_at code released k ≡ cell_at code ((place_after code s earlier).threads one.thread) k) × (is_of_null released k ≡ false)
-        same_cell_at (cells.Global h p) b = (refl, refl)
-        same_cell_at (cells.GlobalAt h p) b = (refl, refl)
-        same_cell_at (cells.Object r p) b = (ap (λ n. record { object = objects.Made n; cell = p }) (same_ref r b), ap (λ n. n == 0) (same_ref r b) ∙ b)
-        same_cell_at (cells.ObjectAt r p) b = (ap (λ n. record { object = objects.Made n; cell = word_of (int m p) }) (same_ref r b), ap (λ n. n == 0) (same_ref r b) ∙ b)
+        same_cell_at (Cell.Global h p) b = (refl, refl)
+        same_cell_at (Cell.GlobalAt h p) b = (refl, refl)
+        same_cell_at (Cell.Object r p) b = (ap (λ n. record { object = Object.Made n; cell = p }) (same_ref r b), ap (λ n. n == 0) (same_ref r b) ∙ b)
+        same_cell_at (Cell.ObjectAt r p) b = (ap (λ n. record { object = Object.Made n; cell = word_of (int m p) }) (same_ref r b), ap (λ n. n == 0) (same_ref r b) ∙ b)
 
         unlocks_now : waits_by (pushed event L) c one.thread ≡ true → Stand released
         unlocks_now w = by st.at
@@ -591,7 +576,7 @@ module _ (bits : WaitersLaws) (cell_laws : CellsAreThere) (pointers : PointersAr
             st = was_waiting (ap is_enter is) w
 
             by : IsAtWait code ((place_after code s earlier).threads one.thread).at.pc st.cell → Stand released
-            by (Waits a e) = absurd (let z : instrs.Unlock q mutex site ≡ instrs.CondWait st.cell a = sym is ∙ e in cc)
+            by (Waits a e) = absurd (let z : Instr.Unlock q mutex site ≡ Instr.CondWait st.cell a = sym is ∙ e in cc)
             by (Unlocks p d a b e v) =
                 let k = same_cell_at st.cell st.based in
                 record { cell = st.cell; is = k.0 ∙ st.is; based = k.1; hold = st.hold; at = Waits b v }
@@ -600,9 +585,9 @@ module _ (bits : WaitersLaws) (cell_laws : CellsAreThere) (pointers : PointersAr
       own_then w = by i refl
         where
           by : (j : Instr) → i ≡ j → Stand (after (act code s i ((place_after code s earlier).threads one.thread)) found)
-          by (instrs.CondEnter k site) is = subst (λ j. Stand (after (act code s j m) found)) (sym is) (enters_now k site is w)
-          by (instrs.CondWait k site) is = subst (λ j. Stand (after (act code s j m) found)) (sym is) (waits_on k site is w)
-          by (instrs.Unlock q k site) is = subst (λ j. Stand (after (act code s j m) found)) (sym is) (unlocks_now q k site is w)
+          by (Instr.CondEnter k site) is = subst (λ j. Stand (after (act code s j m) found)) (sym is) (enters_now k site is w)
+          by (Instr.CondWait k site) is = subst (λ j. Stand (after (act code s j m) found)) (sym is) (waits_on k site is w)
+          by (Instr.Unlock q k site) is = subst (λ j. Stand (after (act code s j m) found)) (sym is) (unlocks_now q k site is w)
           by _ is = absurd (stays_not (ap is_waiting is) (was_waiting (ap is_enter is) w))
 
       pub stands_then : (u : ℕ) → waits_by (pushed event L) c u ≡ true → StandsWaiting code ((after_turn bounds (one_thread code s) (place_after code s earlier) one).threads u) c

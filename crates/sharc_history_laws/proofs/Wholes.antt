@@ -1,11 +1,5 @@
 -- What holds behind each run of typed code, by all that is known of it.
-use Rattle.std.proofs.Common.{◌≡◌, ℕ, zero, suc, ◌+◌, ◌<◌, true, List, [], ◌∷◌, Some, None, replicate, refl, sym, ap, ◌∙◌, subst}
-use Rattle.std.specs.Prelude.{slice_index, slice_index_or}
-use Rattle.sharc_heap.specs.{declared.shadow_word.Kind.Kind, declared.access_table.Note.Note, Notes.{blank, of_kind}, Accesses.note_of, ShadowLaws.ShadowLaws, ShadowWord.stands}
-use Rattle.sharc_code.specs.{declared.code.Code.Code, declared.shape.Shape.Shape, declared.state.ConflictAt.ConflictAt, declared.state.Stop.TheVariants.Conflict, Laws.RunLaws, Layout.{Fits, granules, first_shadow}, Machine.Machine, Opening.opening_words, Runs.{Turn, Global, IsRun, opening_of}, Whole.{one_thread, bounds, place_after}}
-use Rattle.sharc_invariant.specs.{Bits.{BitsStand, marks_after}, Labels.Labels, Laws.{Keeps, Begins as CodeBegins, CellsAreThere, PointersAreThere, AccessesAreAllowed, StateStands, RunsBits}, Opened.first_place, Reports.RunsConflict, State.IsSmall, Typed.IsWellTyped, Types.Targets}
-use Rattle.sharc_history_laws.proofs.{Cleared.{AllCleared, cleared_then, first_cleared}, Consists.{Consists, consists_then, at_first}, Logged.lacking, Remaining.{word_at, Remains, remains_then}, Shadows.at_low, Sole.{Halting, stop_none}, Noting.blank_none}
-use Rattle.sharc_lemmas.proofs.Bools.{yes}
+use Rattle.sharc_history_laws.proofs.{Imports.{◌≡◌, ℕ, zero, suc, ◌+◌, ◌<◌, true, List, [], ◌∷◌, Some, None, replicate, refl, sym, ap, ◌∙◌, subst, slice_index, slice_index_or, Kind, Note, blank, of_kind, note_of, ShadowLaws, stands, Code, Shape, ConflictAt, Conflict, RunLaws, Fits, granules, first_shadow, Machine, opening_words, Turn, Global, IsRun, opening_of, one_thread, bounds, place_after, BitsStand, marks_after, Labels, Keeps, CodeBegins, CellsAreThere, PointersAreThere, AccessesAreAllowed, StateStands, RunsBits, first_place, RunsConflict, IsSmall, IsWellTyped, Targets, yes}, Cleared.{AllCleared, cleared_then, first_cleared}, Consists.{Consists, consists_then, at_first}, Logged.lacking, Remaining.{word_at, Remains, remains_then}, Shadows.at_low, Sole.{Halting, stop_none}, Noting.blank_none}
 
 -- the laws that it takes
 pub record TheLaws : Type 0 where

@@ -1,12 +1,7 @@
 -- From which granules a thread has withdrawn, after each turn.
-use Rattle.std.proofs.{Common.{◌≡◌, ℕ, zero, suc, ◌+◌, ◌<◌, ◌≤◌, Bool, true, false, ◌||◌, length, List, [], ◌∷◌, Option, Some, None, is_some, if◌then◌else◌, refl, sym, ap, ◌∙◌, subst, ⊎_elim, arith, eqb-true}, lemmas.Bool.{cases_eq, false_from_ne_true as unset}, lemmas.Bool.Decides.nat_tests}
-use Rattle.std.specs.{Prelude.{slice_index, slice_index_or, take, nat_lt, ◌==◌}, List.list_any}
-use Rattle.sharc_heap.specs.{declared.shadow_word.Kind.Kind, declared.shadow_word.Kind.TheVariants.{Read, Write}, declared.access_table.Note.Note, declared.access_table.GranuleNotes.GranuleNotes, Notes.{blank, has_note, of_kind}, Accesses.{Accesses, ListsNoted, note_of, site_at}}
-use Rattle.sharc_code.specs.{declared.code.Code.Code, declared.instr.Instr.Instr, declared.shape.Shape.Shape, declared.state.Stage.Stage, declared.state.Stage.TheVariants.{Clears, FreeClears, Withdraws, WithdrawsFrom, Leaves}, declared.state.TurnState.{TurnState as PlaceState}, declared.state.TurnState.TheVariants.{Runs, Tries, Stopped, Ended}, Layout.{granules, granule_at}, Machine.{Machine, instr_at, act, exit, withdraws, withdrew, at_stage, row_of, ref}, Outcomes.{TurnsComeOut, is_exit}, Path.{turn, after, may_go}, Runs.{Turn, Global, MayTurn, after_turn, state_now, result_of}, Whole.{one_thread, bounds}}
-use Rattle.sharc_code.specs.declared.instr.Instr.TheVariants as instrs
-use Rattle.sharc_invariant.specs.{Bits.{Touch, Untouched, CheckOf, WithdrawOf, cleared_by, freed_by, withdrawn_by, touch_of}, Blocks.Heap, Labels.Labels, Reports.touch_at, State.{State, StageStands, OnExit}, Types.Targets, Words.{has_withdrawn, is_withdrawing, is_ended}, World.World}
-use Rattle.sharc_history_laws.proofs.{Outcomes.{unended, withdraws_still}, Rules.put_same, Shadows.{row_low, at_low}}
-use Rattle.sharc_lemmas.proofs.{Numbers.same_is, Bools.yes, Lists.same_or}
+use Rattle.sharc_history_laws.proofs.{Imports.{◌≡◌, ℕ, zero, suc, ◌+◌, ◌<◌, ◌≤◌, Bool, true, false, ◌||◌, length, List, [], ◌∷◌, Option, Some, None, is_some, if◌then◌else◌, refl, sym, ap, ◌∙◌, subst, ⊎_elim, arith, eqb-true, cases_eq, not_true as unset, nat_tests, slice_index, slice_index_or, take, nat_lt, ◌==◌, list_any, Kind, Read, Write, Note, GranuleNotes, blank, has_note, of_kind, ListsNoted, note_of, site_at, Code, Instr, Shape, Stage, Clears, FreeClears, Withdraws, WithdrawsFrom, Leaves, TurnState as PlaceState, Tries, Stopped, Ended, granules, granule_at, Machine, instr_at, act, exit, withdraws, withdrew, at_stage, row_of, ref, TurnsComeOut, is_exit, turn, after, may_go, Turn, Global, MayTurn, after_turn, state_now, result_of, one_thread, bounds, Touch, Untouched, CheckOf, WithdrawOf, cleared_by, freed_by, withdrawn_by, touch_of, Heap, Labels, touch_at, State, StageStands, OnExit, Targets, has_withdrawn, is_withdrawing, is_ended, World, same_is, yes, same_or}, Outcomes.{unended, withdraws_still}, Rules.put_same, Shadows.{row_low, at_low}}
+use Rattle.sharc_heap.specs.Accesses.{Accesses}
+use Rattle.sharc_code.specs.declared.state.TurnState.TheVariants.{Runs}
 
 -- the thread has withdrawn from the granule
 abbrev pub has_left : Machine → ℕ → Bool
@@ -70,7 +65,7 @@ listed table lists p kind e z h =
 
 -- ---- stages of other instructions
 not_exit : (P : Type 0) (i : Instr) → is_exit i ≡ false → OnExit P i → ⊥
-not_exit P instrs.Exit e h = yes e
+not_exit P Instr.Exit e h = yes e
 not_exit P _ e h = h
 
 calm_stage : (code : Code) (s : Shape) (elements : ℕ → ℕ) (w : World) (heap : Heap) (words : List ℕ) (t : ℕ) (m : Machine) (i : Instr) (y : Stage) → is_exit i ≡ false → StageStands code s elements w heap words t m i y → is_withdrawing y ≡ false
@@ -186,7 +181,7 @@ module _ (outs : TurnsComeOut) (x : Targets) (code : Code) (s : Shape) (ls : Lab
 
   -- a turn of Exit
   abbrev StageAt : Stage → Type 0
-  StageAt y = StageStands code s st.elements world st.heap g.words tr.thread (g.threads tr.thread) instrs.Exit y
+  StageAt y = StageStands code s st.elements world st.heap g.words tr.thread (g.threads tr.thread) Instr.Exit y
 
   at_stage_left : (y : Stage) → (g.threads tr.thread).own.stage ≡ y → (p : ℕ) → has_left (g.threads tr.thread) p ≡ has_withdrawn y order (is_ended (g.threads tr.thread).at.state) p
   at_stage_left y e p = ap (λ y. has_withdrawn y order (is_ended m.at.state) p) e
@@ -250,19 +245,19 @@ module _ (outs : TurnsComeOut) (x : Targets) (code : Code) (s : Shape) (ls : Lab
   to_exit y at h = to_first y at refl
 
   other_touch : (j : Instr) → is_exit j ≡ false → (q : ℕ) → touch_of s j (g.threads tr.thread) found m' ≡ WithdrawOf q → ⊥
-  other_touch (instrs.ChkRead c site) e q h = cc
-  other_touch (instrs.ChkWrite c site) e q h = cc
-  other_touch (instrs.Clear r count) e q h = cleared m.own.stage h
+  other_touch (Instr.ChkRead c site) e q h = cc
+  other_touch (Instr.ChkWrite c site) e q h = cc
+  other_touch (Instr.Clear r count) e q h = cleared m.own.stage h
     where
       cleared : (y : Stage) → cleared_by s (ref (g.threads tr.thread) r) y ≡ WithdrawOf q → ⊥
       cleared (Clears done all seen) h = cc
       cleared _ h = cc
-  other_touch (instrs.Free r layout site) e q h = freed m.own.stage h
+  other_touch (Instr.Free r layout site) e q h = freed m.own.stage h
     where
       freed : (y : Stage) → freed_by s (ref (g.threads tr.thread) r) y ≡ WithdrawOf q → ⊥
       freed (FreeClears done all seen) h = cc
       freed _ h = cc
-  other_touch instrs.Exit e q h = yes e
+  other_touch Instr.Exit e q h = yes e
   other_touch _ e q h = cc
 
   other : is_exit i ≡ false → Leaving (touch_at code s g tr) m'
@@ -279,7 +274,7 @@ module _ (outs : TurnsComeOut) (x : Targets) (code : Code) (s : Shape) (ls : Lab
   leaving = by i refl
     where
       by : (j : Instr) → i ≡ j → Leaving (touch_at code s g tr) m'
-      by instrs.Exit is =
+      by Instr.Exit is =
           let k = to_exit m.own.stage refl (subst (λ j. StageStands code s st.elements world st.heap g.words t m j m.own.stage) is ((st.threads t).runs may.started may.next.runs).stage) in
           subst (λ (y : Machine). Leaving (touch_at code s g tr) y) (sym (is_at (after (exit s m m.own.stage) found) (ap (λ j. after (act code s j m) found) is)))
           (subst (λ touch. Leaving touch (after (exit s m m.own.stage) found)) (sym (ap (λ j. touch_of s j m found m') is)) k)

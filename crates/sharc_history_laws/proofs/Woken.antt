@@ -1,21 +1,5 @@
 -- The source events of each run of typed code that tell who waits may come after those before them.
-use Rattle.std.proofs.{Common.{◌≡◌, ℕ, pos, zero, suc, ◌+◌, ◌<◌, ◌^◌, ◌⊎◌, inl, inr, Bool, true, false, List, [], ◌∷◌, reverse, Option, Some, None, if◌then◌else◌, refl, sym, ap, ◌∙◌, subst, ⊎_elim, arith, eqb-true}, lemmas.Bool.{cases_eq, false_from_ne_true as not_true}, lemmas.Bool.Decides.nat_tests}
-use Rattle.std.specs.Prelude.{slice_index, ◌==◌}
-use Rattle.sharc_word.specs.declared.step.WordOp.{WordOp}
-use Rattle.sharc_word.specs.declared.step.WordOp.TheVariants as ops
-use Rattle.sharc_tree.specs.{declared.event.Act.Act, declared.event.Object.Object, declared.event.CellAt.CellAt, declared.event.SourceEvent.SourceEvent}
-use Rattle.sharc_tree.specs.declared.event.Act.TheVariants as acts
-use Rattle.sharc_tree.specs.declared.event.Object.TheVariants as objects
-use Rattle.sharc_ctype.specs.Resolved.{Resolution}
-use Rattle.sharc_locks.specs.{Laws.WaitersLaws, Waiters.{waits_in, lowest_of, without_lowest}}
-use Rattle.sharc_code.specs.{declared.code.Code.Code, declared.instr.Cell.Cell, declared.instr.Instr.Instr, declared.shape.Shape.Shape, declared.state.Stage.Stage, declared.state.Stage.TheVariants.Wakes, Laws.RunLaws, Layout.Fits, Machine.{Machine, instr_at, word, act, signal, step_of}, Opening.opening_words, Path.{turn, after, asked_by}, Runs.{Turn, Global, IsRun, MayTurn, after_turn, put, state_now, result_of, opening_of}, Says.{said, cell_at, speaks_of, nobody, in_signal, event_at}, Whole.{one_thread, bounds, place_after}}
-use Rattle.sharc_code.specs.declared.instr.Instr.TheVariants as instrs
-use Rattle.sharc_compile.specs.{Consistent.said_now, OfRuns.table_of}
-use Rattle.sharc_meaning.specs.{Events.Stands, Obeys.History, Store.{MayCome, is_waiter}}
-use Rattle.sharc_invariant.specs.{Types.Targets, Labels.Labels, Typed.IsWellTyped, State.IsSmall, Laws.{Keeps, Begins as CodeBegins, CellsAreThere, PointersAreThere, AccessesAreAllowed, StateStands}}
-use Rattle.sharc_history_laws.specs.{History.history_of, Stores.{BeginsWith, is_about_waiters}, Waiters.WaitsFollow}
-use Rattle.sharc_history_laws.proofs.{Consists.{Consists, consists_then, at_first, found_is}, Contents.{IsCellOf, content_of, word_of_cell}, Emptying.IsEmptied, Outcomes.{wakes_still, wakes_nobody}, Lists.{Newest, Split, Last, Earlier, split}, Opening.{waiters_first, only_globals}, Queued.{waits_by, waiter_is, condition_of, condition_said, is_condition, no_condition}, Rules.{pushed, newest, newest_now, put_same, put_other}, Shared.number_of, Sparing.{waited_cell, holds_waiters}, Waiting.{WaitersStand, WordsTell, Here, here, here_at_wait, bit_here, words_then, stands_then}}
-use Rattle.sharc_lemmas.proofs.Bools.{yes}
+use Rattle.sharc_history_laws.proofs.{Imports.{◌≡◌, ℕ, pos, zero, suc, ◌+◌, ◌<◌, ◌^◌, ◌⊎◌, inl, inr, Bool, true, false, List, [], ◌∷◌, reverse, Option, Some, None, if◌then◌else◌, refl, sym, ap, ◌∙◌, subst, ⊎_elim, arith, eqb-true, cases_eq, not_true, nat_tests, slice_index, ◌==◌, WordOp, Act, Object, CellAt, SourceEvent, Resolution, WaitersLaws, waits_in, lowest_of, without_lowest, Code, Cell, Instr, Shape, Stage, Wakes, RunLaws, Fits, Machine, instr_at, word, act, signal, step_of, opening_words, turn, after, asked_by, Turn, Global, IsRun, MayTurn, after_turn, put, state_now, result_of, opening_of, said, cell_at, speaks_of, nobody, in_signal, event_at, one_thread, bounds, place_after, said_now, table_of, Stands, History, MayCome, is_waiter, Targets, Labels, IsWellTyped, IsSmall, Keeps, CodeBegins, CellsAreThere, PointersAreThere, AccessesAreAllowed, StateStands, history_of, BeginsWith, is_about_waiters, WaitsFollow, yes}, Consists.{Consists, consists_then, at_first, found_is}, Contents.{IsCellOf, content_of, word_of_cell}, Emptying.IsEmptied, Outcomes.{wakes_still, wakes_nobody}, Lists.{Newest, Split, Last, Earlier, split}, Opening.{waiters_first, only_globals}, Queued.{waits_by, waiter_is, condition_of, condition_said, is_condition, no_condition}, Rules.{pushed, newest, newest_now, put_same, put_other}, Shared.number_of, Sparing.{waited_cell, holds_waiters}, Waiting.{WaitersStand, WordsTell, Here, here, here_at_wait, bit_here, words_then, stands_then}}
 
 -- ---- one turn
 module _ (bits : WaitersLaws) (state_law : StateStands) (cell_laws : CellsAreThere) (pointers : PointersAreThere) (rights : AccessesAreAllowed) (laws : RunLaws) (keeps : Keeps) (x : Targets) (code : Code) (s : Shape) (ls : Labels) (wt : IsWellTyped x code ls) (fits : Fits code s) (few : IsSmall code s)
@@ -64,8 +48,8 @@ module _ (bits : WaitersLaws) (state_law : StateStands) (cell_laws : CellsAreThe
   plain_legal (Some d) e = λ w. absurd (by d.act e w)
     where
       by : (a : Act) → condition_of a ≡ None → is_about_waiters a ≡ true → ⊥
-      by (acts.Woken c) e w = let z : Some c ≡ None = e in cc
-      by (acts.Signal c) e w = let z : Some c ≡ None = e in cc
+      by (Act.Woken c) e w = let z : Some c ≡ None = e in cc
+      by (Act.Signal c) e w = let z : Some c ≡ None = e in cc
       by _ e w = yes (sym w)
 
   -- what the turn finds at a condition
@@ -82,7 +66,7 @@ module _ (bits : WaitersLaws) (state_law : StateStands) (cell_laws : CellsAreThe
     nobody_legal site (suc n) e = tt
 
     wakes_legal : (site seen : ℕ) → ((place_after code s earlier).threads one.thread).own.stage ≡ Wakes seen → (b : Bool) → (found == seen) ≡ b
-        → Legal (if b then event_at code ((place_after code s earlier).threads one.thread) site (pos (lowest_of seen + 1)) (acts.Signal (cell_at code ((place_after code s earlier).threads one.thread) k)) else nobody code ((place_after code s earlier).threads one.thread) k site found)
+        → Legal (if b then event_at code ((place_after code s earlier).threads one.thread) site (pos (lowest_of seen + 1)) (Act.Signal (cell_at code ((place_after code s earlier).threads one.thread) k)) else nobody code ((place_after code s earlier).threads one.thread) k site found)
     wakes_legal site seen stage true e =
         let same : found ≡ seen = eqb-true found seen e in
         let small : seen < 2 ^ 64 = subst (λ n. n < 2 ^ 64) (sym found_here ∙ same) (h.state.are_words (word s m k)) in
@@ -99,27 +83,27 @@ module _ (bits : WaitersLaws) (state_law : StateStands) (cell_laws : CellsAreThe
     wakes_legal site seen stage false e = nobody_legal site found refl
 
     woken_legal : (site : ℕ) (b : Bool) → waits_in found ((place_after code s earlier).threads one.thread).own.number ≡ b
-        → Legal (if b then None else event_at code ((place_after code s earlier).threads one.thread) site (pos 0) (acts.Woken (cell_at code ((place_after code s earlier).threads one.thread) k)))
+        → Legal (if b then None else event_at code ((place_after code s earlier).threads one.thread) site (pos 0) (Act.Woken (cell_at code ((place_after code s earlier).threads one.thread) k)))
     woken_legal site true e = tt
     woken_legal site false e = λ w. waits_there m.own.number ∙ e
 
-  signal_legal : (k : Cell) (site : ℕ) → i ≡ instrs.CondSignal k site → (stage : Stage) → ((place_after code s earlier).threads one.thread).own.stage ≡ stage → Legal (in_signal code ((place_after code s earlier).threads one.thread) k site found stage)
+  signal_legal : (k : Cell) (site : ℕ) → i ≡ Instr.CondSignal k site → (stage : Stage) → ((place_after code s earlier).threads one.thread).own.stage ≡ stage → Legal (in_signal code ((place_after code s earlier).threads one.thread) k site found stage)
   signal_legal k site is (Wakes seen) at =
-      wakes_legal k (here bits cell_laws pointers rights laws keeps x code s ls wt fits few one earlier h may k (ap waited_cell is)) (ops.Cas seen (without_lowest seen))
+      wakes_legal k (here bits cell_laws pointers rights laws keeps x code s ls wt fits few one earlier h may k (ap waited_cell is)) (WordOp.Cas seen (without_lowest seen))
       (ap (λ j. asked_by (act code s j m)) is ∙ ap (λ y. asked_by (signal m (word s m k) y)) at) site seen at (found == seen) refl
   signal_legal k site is stage at =
-      nobody_legal k (here bits cell_laws pointers rights laws keeps x code s ls wt fits few one earlier h may k (ap waited_cell is)) ops.Load
+      nobody_legal k (here bits cell_laws pointers rights laws keeps x code s ls wt fits few one earlier h may k (ap waited_cell is)) WordOp.Load
       (ap (λ j. asked_by (act code s j m)) is ∙ ap (λ y. asked_by (signal m (word s m k) y)) at) site found refl
 
   pub legal_now : Legal event
   legal_now = by i refl
     where
       by : (j : Instr) → i ≡ j → Legal event
-      by (instrs.CondEnter k site) is = subst (λ j. Legal (said code j m found elements)) (sym is) (λ w. absurd (yes (sym w)))
-      by (instrs.CondBroadcast k site) is = subst (λ j. Legal (said code j m found elements)) (sym is) (λ w. absurd (yes (sym w)))
-      by (instrs.CondSignal k site) is = subst (λ j. Legal (said code j m found elements)) (sym is) (signal_legal k site is m.own.stage refl)
-      by (instrs.CondWait k site) is = subst (λ j. Legal (said code j m found elements)) (sym is)
-          (woken_legal k (here_at_wait bits cell_laws pointers rights laws keeps x code s ls wt fits few one earlier h may k site is) ops.Load (ap (λ j. asked_by (act code s j m)) is) site (waits_in found m.own.number) refl)
+      by (Instr.CondEnter k site) is = subst (λ j. Legal (said code j m found elements)) (sym is) (λ w. absurd (yes (sym w)))
+      by (Instr.CondBroadcast k site) is = subst (λ j. Legal (said code j m found elements)) (sym is) (λ w. absurd (yes (sym w)))
+      by (Instr.CondSignal k site) is = subst (λ j. Legal (said code j m found elements)) (sym is) (signal_legal k site is m.own.stage refl)
+      by (Instr.CondWait k site) is = subst (λ j. Legal (said code j m found elements)) (sym is)
+          (woken_legal k (here_at_wait bits cell_laws pointers rights laws keeps x code s ls wt fits few one earlier h may k site is) WordOp.Load (ap (λ j. asked_by (act code s j m)) is) site (waits_in found m.own.number) refl)
       by _ is = plain_legal event (no_condition code m i found elements (ap is_condition is))
 
 -- ---- runs
@@ -166,8 +150,8 @@ module _ (bits : WaitersLaws) (state_law : StateStands) (cell_laws : CellsAreThe
       opened : (c : CellAt) (b : Object) → c.object ≡ b → IsCellOf code (at_first begins_law x code s ls wt fits).world (at_first begins_law x code s ls wt fits).state.cells c
           → holds_waiters (content_of x code (at_first begins_law x code s ls wt fits).world c) ≡ true
           → ((u : ℕ) → waits_by [] c u ≡ waits_in (slice_index (place_after code s []).words (word_of_cell code s c)) u) ⊎ IsEmptied code (place_after code s []) (number_of c.object)
-      opened c (objects.Global q) is cell holds = inl (λ u. sym (ap (λ n. waits_in n u) (waiters_first begins_law x code s ls wt fits r first q c is cell holds) ∙ bits.empty u))
-      opened c (objects.Made n) is cell holds = absurd (only_globals begins_law x code s ls wt fits r first n c is cell)
+      opened c (Object.Global q) is cell holds = inl (λ u. sym (ap (λ n. waits_in n u) (waiters_first begins_law x code s ls wt fits r first q c is cell holds) ∙ bits.empty u))
+      opened c (Object.Made n) is cell holds = absurd (only_globals begins_law x code s ls wt fits r first n c is cell)
   awaited (one ∷ earlier) run =
       let old = awaited earlier run.0 in
       let h = old.consists in

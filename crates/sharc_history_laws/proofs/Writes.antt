@@ -1,15 +1,6 @@
 -- Which word a turn of typed code writes: one below the blocks, a count, a cell of a live object, or one of a block that the thread builds.
-use Rattle.std.proofs.{Common.{◌≡◌, ℕ, ℤ, pos, negsuc, zero, suc, ◌+◌, ◌*◌, ◌/◌, ◌<◌, ◌≤◌, ◌≢◌, Bool, true, false, nat_lt, List, if◌then◌else◌, refl, sym, ap, ◌∙◌, subst, arith}, lemmas.Bool.Decides.nat_tests}
-use Rattle.std.specs.Prelude.{◌==◌}
-use Rattle.sharc_tree.specs.declared.trap.Trap.TheVariants as traps
-use Rattle.sharc_word.specs.{declared.step.TheConstants.THREADS, declared.step.WordOp.WordOp, declared.step.WordStep.WordStep, Words.word_after}
-use Rattle.sharc_word.specs.declared.step.WordOp.TheVariants as ops
-use Rattle.sharc_heap.specs.{State.{NewView, told}, Asks.word_number, Stages.turn_of_stage, declared.arguments.NewArguments.NewArguments, declared.stage.NewStage.NewStage}
-use Rattle.sharc_heap.specs.declared.stage.NewStage.TheVariants as news
-use Rattle.sharc_code.specs.{declared.code.Code.Code, declared.instr.Cell.Cell, declared.instr.Register.Register, declared.instr.Instr.Instr, declared.shape.Shape.Shape, declared.state.Stage.Stage, declared.state.Stage.TheVariants.{Looks, Clears, Makes, Empties, Lowers, FreeLooks, FreeClears, Uncounts, Links, Names, Hands, Begins, Enters, Withdraws, WithdrawsFrom, Leaves as Leaving, Wakes}, Layout.{Fits, granules, granule_at, words_of, cell_word, cell_of, shadow_word, count_word, length_word, first_cell, first_shadow, state_word}, Machine.{Machine, Turn, Local, Asks, step_of, act, int, ref, word, raise, lower, test, new, asks_new, new_state, elements_of, clear, free, layout_at, spawn, join, start, exit, signal, goes, set_ref, accessed, move_ref, joined, trapped, instr_at, pointer_cell}, Path.turn, Runs.Global}
-use Rattle.sharc_code.specs.declared.instr.Instr.TheVariants as instrs
-use Rattle.sharc_invariant.specs.{Types.{Targets, Field}, Labels.{Label, Labels}, Typed.{IsWellTyped, Fine, HasCell}, World.{World, ObjectState}, Words.cell_at, Blocks.{Heap, Built}, State.{State, Runs, StageStands, BuildsAt, all_pointers, OnHold, object_of_cell, number_in}, MachineInvariant.IsOn, Laws.{CellsAreThere, PointersAreThere}}
-use Rattle.sharc_history_laws.proofs.{Single.{single, rests_hold}, Stands.{there, sole_ref, live_ref, target_ref}}
+use Rattle.sharc_history_laws.proofs.{Imports.{◌≡◌, ℕ, ℤ, pos, negsuc, zero, suc, ◌+◌, ◌*◌, ◌/◌, ◌<◌, ◌≤◌, ◌≢◌, Bool, true, false, nat_lt, List, if◌then◌else◌, refl, sym, ap, ◌∙◌, subst, arith, nat_tests, ◌==◌, Trap, THREADS, WordOp, WordStep, word_after, NewView, told, word_number, turn_of_stage, NewArguments, NewStage, Code, Cell, Register, Instr, Shape, Stage, Looks, Clears, Makes, Empties, Lowers, FreeLooks, FreeClears, Uncounts, Links, Names, Hands, Begins, Enters, Withdraws, WithdrawsFrom, Leaves as Leaving, Wakes, Fits, granules, granule_at, words_of, cell_word, cell_of, shadow_word, count_word, length_word, first_cell, first_shadow, state_word, Machine, StepTurn as Turn, Local, Asks, step_of, act, int, ref, word, raise, lower, test, new, asks_new, new_state, elements_of, clear, free, layout_at, spawn, join, start, exit, signal, goes, set_ref, accessed, move_ref, joined, trapped, instr_at, pointer_cell, turn, Global, Targets, Field, Label, Labels, IsWellTyped, Fine, HasCell, World, ObjectState, Heap, Built, State, Runs, StageStands, BuildsAt, all_pointers, OnHold, object_of_cell, number_in, IsOn, CellsAreThere, PointersAreThere}, Single.{single, rests_hold}, Stands.{there, sole_ref, live_ref, target_ref}}
+use Rattle.sharc_invariant.specs.Words.{cell_at}
 
 pub data Wrote (s : Shape) (obj : ℕ → ObjectState) (cells : ℕ → ℕ) (heap : Heap) (t : ℕ) (step : WordStep) : Type 0 where
   Leaves : ((v : ℕ) → word_after step.op v ≡ v) → Wrote s obj cells heap t step
@@ -61,7 +52,7 @@ module _ (s : Shape) (obj : ℕ → ObjectState) (cells : ℕ → ℕ) (heap : H
   to_clear m h cells _ = Leaves (λ v. refl)
 
   to_join : (m : Machine) (z : ℤ) (site : ℕ) → W (join m z site)
-  to_join m (pos n) site = elim (nat_lt n THREADS) as (λ b. W (if b then Asks (step_of (state_word n) ops.Load) (joined m site) else Local (trapped m traps.NoSuchThread site))) [
+  to_join m (pos n) site = elim (nat_lt n THREADS) as (λ b. W (if b then Asks (step_of (state_word n) WordOp.Load) (joined m site) else Local (trapped m Trap.NoSuchThread site))) [
     | true ↦ Leaves (λ v. refl)
     | false ↦ tt
   ]
@@ -98,15 +89,15 @@ module _ (s : Shape) (obj : ℕ → ObjectState) (cells : ℕ → ℕ) (heap : H
 
   to_stage : (m : Machine) (r site : ℕ) (state : NewView) (words : List ℕ) (stage : NewStage) → state.arguments.first ≡ first_cell s → ((b : ℕ) → heap.state b ≡ Built t → heap.size b ≢ 0) → BuildsAt words heap t state stage
       → W (asks_new m r site state (turn_of_stage state.arguments stage))
-  to_stage m r site state words news.Begins e some h = absurd h
-  to_stage m r site state words news.Link e some h = absurd h
-  to_stage m r site state words (news.Cell cell) e some h =
+  to_stage m r site state words NewStage.Begins e some h = absurd h
+  to_stage m r site state words NewStage.Link e some h = absurd h
+  to_stage m r site state words (NewStage.Cell cell) e some h =
       let a = state.arguments in
       let size = h.2 in let room = h.0 in let lt = h.3 in
       number_of_block (a.first + 2 * a.head + 2 + cell) _ a a.head e h.1 (omega arith) (omega arith)
-  to_stage m r site state words news.Top e some h = absurd h
-  to_stage m r site state words (news.Move top moved) e some h = Low (omega arith)
-  to_stage m r site state words (news.Count header) e some h =
+  to_stage m r site state words NewStage.Top e some h = absurd h
+  to_stage m r site state words (NewStage.Move top moved) e some h = Low (omega arith)
+  to_stage m r site state words (NewStage.Count header) e some h =
       let a = state.arguments in
       let size = h.2 in let nz = some header h.1 in
       number_of_block (a.first + 2 * header) _ a header e h.1 (omega arith) (above header (first_cell s) (a.first + 2 * header) 0 (omega arith) nz (omega arith))
@@ -117,7 +108,7 @@ module _ (s : Shape) (obj : ℕ → ObjectState) (cells : ℕ → ℕ) (heap : H
           by : (n : ℕ) → heap.size b ≡ n → word < c + 2 * (b + heap.size b)
           by zero z = absurd (nz z)
           by (suc n) z = omega arith
-  to_stage m r site state words (news.Length header) e some h =
+  to_stage m r site state words (NewStage.Length header) e some h =
       let a = state.arguments in
       let nz = some header h.1 in
       number_of_block (a.first + 2 * header + 1) _ a header e h.1 (omega arith) (above header (first_cell s) (a.first + 2 * header + 1) 1 (omega arith) nz (omega arith))
@@ -128,8 +119,8 @@ module _ (s : Shape) (obj : ℕ → ObjectState) (cells : ℕ → ℕ) (heap : H
           by : (n : ℕ) → heap.size b ≡ n → word < c + 2 * (b + heap.size b)
           by zero z = absurd (nz z)
           by (suc n) z = omega arith
-  to_stage m r site state words (news.Made header) e some h = absurd h
-  to_stage m r site state words news.Full e some h = absurd h
+  to_stage m r site state words (NewStage.Made header) e some h = absurd h
+  to_stage m r site state words NewStage.Full e some h = absurd h
 
 -- ---- the turn of an instruction
 module _ (there_laws : CellsAreThere) (pointer_laws : PointersAreThere) (x : Targets) (code : Code) (s : Shape) (ls : Labels) (wt : IsWellTyped x code ls) (fits : Fits code s) (g : Global Machine) (world : World) (st : State x code s ls g world) (t : ℕ) (on : IsOn g t) where
@@ -161,15 +152,15 @@ module _ (there_laws : CellsAreThere) (pointer_laws : PointersAreThere) (x : Tar
   rest : (i : Instr) → instr_at code (g.threads t).at.pc ≡ i → single i ≡ true → OnHold (g.threads t).own.stage
   rest i is one = rests_hold code s st.elements world st.heap g.words t m i m.own.stage one (subst (λ i. StageStands code s st.elements world st.heap g.words t m i m.own.stage) is rn.stage)
 
-  to_new : (r count cells site : ℕ) (stage : Stage) → StageStands code s st.elements world st.heap g.words t (g.threads t) (instrs.New r count cells site) stage → Written (new s (g.threads t) r (elements_of (int (g.threads t) count)) cells site stage)
+  to_new : (r count cells site : ℕ) (stage : Stage) → StageStands code s st.elements world st.heap g.words t (g.threads t) (Instr.New r count cells site) stage → Written (new s (g.threads t) r (elements_of (int (g.threads t) count)) cells site stage)
   to_new r count cells site (Makes v) h = to_stage s world.obj st.cells st.heap t m r site v g.words v.stage (ap (λ (a : NewArguments). a.first) h.0) some_size h.1
   to_new r count cells site _ h = let a = new_state s m (elements_of (int m count)) cells in begin (a.arguments.head == 0) (told a 0)
     where
-      begin : (b : Bool) (v : NewView) → Written (asks_new (g.threads t) r site v (turn_of_stage v.arguments (if b then news.Top else news.Link)))
+      begin : (b : Bool) (v : NewView) → Written (asks_new (g.threads t) r site v (turn_of_stage v.arguments (if b then NewStage.Top else NewStage.Link)))
       begin true v = Leaves (λ n. refl)
       begin false v = Leaves (λ n. refl)
 
-  to_free : (r layout site : ℕ) (stage : Stage) → instr_at code (g.threads t).at.pc ≡ instrs.Free r layout site → (g.threads t).own.stage ≡ stage → StageStands code s st.elements world st.heap g.words t (g.threads t) (instrs.Free r layout site) stage
+  to_free : (r layout site : ℕ) (stage : Stage) → instr_at code (g.threads t).at.pc ≡ Instr.Free r layout site → (g.threads t).own.stage ≡ stage → StageStands code s st.elements world st.heap g.words t (g.threads t) (Instr.Free r layout site) stage
       → Written (free code s (g.threads t) r (layout_at code layout) stage)
   to_free r layout site (Empties j all) is at h =
       let hold : OnHold m.own.stage = subst OnHold (sym at) tt in
@@ -220,53 +211,53 @@ module _ (there_laws : CellsAreThere) (pointer_laws : PointersAreThere) (x : Tar
           by (suc n) z = let e = number b lt in omega arith
   to_free r layout site _ is at h = Leaves (λ v. refl)
 
-  spawn_low : (n : ℕ) → (g.threads t).own.stage ≡ Names n → (r f : ℕ) (from : Register) (site : ℕ) → instr_at code (g.threads t).at.pc ≡ instrs.Spawn r f from site → n < THREADS
-  spawn_low n e r f from site is = (subst (StageStands code s st.elements world st.heap g.words t m (instrs.Spawn r f from site)) e (subst (λ i. StageStands code s st.elements world st.heap g.words t m i m.own.stage) is rn.stage)).few
+  spawn_low : (n : ℕ) → (g.threads t).own.stage ≡ Names n → (r f : ℕ) (from : Register) (site : ℕ) → instr_at code (g.threads t).at.pc ≡ Instr.Spawn r f from site → n < THREADS
+  spawn_low n e r f from site is = (subst (StageStands code s st.elements world st.heap g.words t m (Instr.Spawn r f from site)) e (subst (λ i. StageStands code s st.elements world st.heap g.words t m i m.own.stage) is rn.stage)).few
 
-  hand_low : (n : ℕ) → (g.threads t).own.stage ≡ Hands n → (r f : ℕ) (from : Register) (site : ℕ) → instr_at code (g.threads t).at.pc ≡ instrs.Spawn r f from site → n < THREADS
-  hand_low n e r f from site is = (subst (StageStands code s st.elements world st.heap g.words t m (instrs.Spawn r f from site)) e (subst (λ i. StageStands code s st.elements world st.heap g.words t m i m.own.stage) is rn.stage)).0.few
+  hand_low : (n : ℕ) → (g.threads t).own.stage ≡ Hands n → (r f : ℕ) (from : Register) (site : ℕ) → instr_at code (g.threads t).at.pc ≡ Instr.Spawn r f from site → n < THREADS
+  hand_low n e r f from site is = (subst (StageStands code s st.elements world st.heap g.words t m (Instr.Spawn r f from site)) e (subst (λ i. StageStands code s st.elements world st.heap g.words t m i m.own.stage) is rn.stage)).0.few
 
-  begin_low : (n : ℕ) → (g.threads t).own.stage ≡ Begins n → (r f : ℕ) (from : Register) (site : ℕ) → instr_at code (g.threads t).at.pc ≡ instrs.Spawn r f from site → n < THREADS
-  begin_low n e r f from site is = (subst (StageStands code s st.elements world st.heap g.words t m (instrs.Spawn r f from site)) e (subst (λ i. StageStands code s st.elements world st.heap g.words t m i m.own.stage) is rn.stage)).0.few
+  begin_low : (n : ℕ) → (g.threads t).own.stage ≡ Begins n → (r f : ℕ) (from : Register) (site : ℕ) → instr_at code (g.threads t).at.pc ≡ Instr.Spawn r f from site → n < THREADS
+  begin_low n e r f from site is = (subst (StageStands code s st.elements world st.heap g.words t m (Instr.Spawn r f from site)) e (subst (λ i. StageStands code s st.elements world st.heap g.words t m i m.own.stage) is rn.stage)).0.few
 
   -- the fields that accesses are to
   fine_of : (i : Instr) → instr_at code (g.threads t).at.pc ≡ i → Fine x code ls (g.threads t).at.pc here i
   fine_of i is = subst (Fine x code ls m.at.pc here) is (wt.fine m.at.pc)
 
   by_instr : (i : Instr) → instr_at code (g.threads t).at.pc ≡ i → Written (act code s i (g.threads t))
-  by_instr (instrs.Bounds r base count field site) is = Leaves (λ v. refl)
-  by_instr (instrs.ChkRead c site) is = of_shadow s world.obj st.cells st.heap t _ _
-  by_instr (instrs.ChkWrite c site) is = of_shadow s world.obj st.cells st.heap t _ _
-  by_instr (instrs.Load r c site) is = Leaves (λ v. refl)
-  by_instr (instrs.Store r c site) is = let i = instrs.Store r c site in let f = fine_of i is in to_cell c f.0 _ (rest i is refl) f.2.cell
-  by_instr (instrs.LoadRef c site) is = Leaves (λ v. refl)
-  by_instr (instrs.Exchange r c site) is = let i = instrs.Exchange r c site in let f = fine_of i is in to_cell c f.1.0 _ (rest i is refl) f.1.2.cell
-  by_instr (instrs.Raise r from) is = to_raise s world.obj st.cells st.heap t (ref m from) (goes (set_ref m r (ref m from)))
-  by_instr (instrs.RaiseLoaded r) is = to_raise s world.obj st.cells st.heap t m.pending (goes (accessed (set_ref m r m.pending)))
-  by_instr (instrs.Lower r) is = to_lower s world.obj st.cells st.heap t (ref m r) (goes (set_ref m r 0))
-  by_instr (instrs.New r count cells site) is = to_new r count cells site m.own.stage (subst (λ i. StageStands code s st.elements world st.heap g.words t m i m.own.stage) is rn.stage)
-  by_instr (instrs.TakeCell r c site) is = let i = instrs.TakeCell r c site in let f = fine_of i is in to_cell c f.1.0 _ (rest i is refl) f.1.2.cell
-  by_instr (instrs.TakeLocal r from site) is = to_test s world.obj st.cells st.heap t (ref m from) (goes (move_ref m r from))
-  by_instr (instrs.TestSole r site) is = of_count s world.obj st.cells st.heap t (ref m r) _
-  by_instr (instrs.Clear r cells) is = to_clear s world.obj st.cells st.heap t m (ref m r) cells m.own.stage
-  by_instr (instrs.Give r site) is = of_count s world.obj st.cells st.heap t (ref m r) _
-  by_instr (instrs.Free r layout site) is = to_free r layout site m.own.stage is refl (subst (λ i. StageStands code s st.elements world st.heap g.words t m i m.own.stage) is rn.stage)
-  by_instr (instrs.Lock c site) is = let i = instrs.Lock c site in let f = fine_of i is in to_cell c f.2.0 _ (rest i is refl) f.2.1
-  by_instr (instrs.Unlock r c site) is = let i = instrs.Unlock r c site in let f = fine_of i is in to_cell c f.2.0 _ (rest i is refl) f.2.1
-  by_instr (instrs.Spawn r f from site) is = to_spawn s world.obj st.cells st.heap t m r f from site m.own.stage (λ n e. spawn_low n e r f from site is) (λ n e. hand_low n e r f from site is) (λ n e. begin_low n e r f from site is)
-  by_instr (instrs.Join r site) is = to_join s world.obj st.cells st.heap t m (int m r) site
-  by_instr (instrs.Print r site) is = Low (omega arith)
-  by_instr (instrs.Start site) is = to_start s world.obj st.cells st.heap t code m site m.own.stage
-  by_instr instrs.Exit is = to_exit s world.obj st.cells st.heap t m m.own.stage low_number
-  by_instr (instrs.CondEnter c site) is = let i = instrs.CondEnter c site in let f = fine_of i is in to_cell c f.1.0 _ (rest i is refl) f.1.1
-  by_instr (instrs.CondWait c site) is = Leaves (λ v. refl)
-  by_instr (instrs.CondSignal c site) is = let f = fine_of (instrs.CondSignal c site) is in
+  by_instr (Instr.Bounds r base count field site) is = Leaves (λ v. refl)
+  by_instr (Instr.ChkRead c site) is = of_shadow s world.obj st.cells st.heap t _ _
+  by_instr (Instr.ChkWrite c site) is = of_shadow s world.obj st.cells st.heap t _ _
+  by_instr (Instr.Load r c site) is = Leaves (λ v. refl)
+  by_instr (Instr.Store r c site) is = let i = Instr.Store r c site in let f = fine_of i is in to_cell c f.0 _ (rest i is refl) f.2.cell
+  by_instr (Instr.LoadRef c site) is = Leaves (λ v. refl)
+  by_instr (Instr.Exchange r c site) is = let i = Instr.Exchange r c site in let f = fine_of i is in to_cell c f.1.0 _ (rest i is refl) f.1.2.cell
+  by_instr (Instr.Raise r from) is = to_raise s world.obj st.cells st.heap t (ref m from) (goes (set_ref m r (ref m from)))
+  by_instr (Instr.RaiseLoaded r) is = to_raise s world.obj st.cells st.heap t m.pending (goes (accessed (set_ref m r m.pending)))
+  by_instr (Instr.Lower r) is = to_lower s world.obj st.cells st.heap t (ref m r) (goes (set_ref m r 0))
+  by_instr (Instr.New r count cells site) is = to_new r count cells site m.own.stage (subst (λ i. StageStands code s st.elements world st.heap g.words t m i m.own.stage) is rn.stage)
+  by_instr (Instr.TakeCell r c site) is = let i = Instr.TakeCell r c site in let f = fine_of i is in to_cell c f.1.0 _ (rest i is refl) f.1.2.cell
+  by_instr (Instr.TakeLocal r from site) is = to_test s world.obj st.cells st.heap t (ref m from) (goes (move_ref m r from))
+  by_instr (Instr.TestSole r site) is = of_count s world.obj st.cells st.heap t (ref m r) _
+  by_instr (Instr.Clear r cells) is = to_clear s world.obj st.cells st.heap t m (ref m r) cells m.own.stage
+  by_instr (Instr.Give r site) is = of_count s world.obj st.cells st.heap t (ref m r) _
+  by_instr (Instr.Free r layout site) is = to_free r layout site m.own.stage is refl (subst (λ i. StageStands code s st.elements world st.heap g.words t m i m.own.stage) is rn.stage)
+  by_instr (Instr.Lock c site) is = let i = Instr.Lock c site in let f = fine_of i is in to_cell c f.2.0 _ (rest i is refl) f.2.1
+  by_instr (Instr.Unlock r c site) is = let i = Instr.Unlock r c site in let f = fine_of i is in to_cell c f.2.0 _ (rest i is refl) f.2.1
+  by_instr (Instr.Spawn r f from site) is = to_spawn s world.obj st.cells st.heap t m r f from site m.own.stage (λ n e. spawn_low n e r f from site is) (λ n e. hand_low n e r f from site is) (λ n e. begin_low n e r f from site is)
+  by_instr (Instr.Join r site) is = to_join s world.obj st.cells st.heap t m (int m r) site
+  by_instr (Instr.Print r site) is = Low (omega arith)
+  by_instr (Instr.Start site) is = to_start s world.obj st.cells st.heap t code m site m.own.stage
+  by_instr Instr.Exit is = to_exit s world.obj st.cells st.heap t m m.own.stage low_number
+  by_instr (Instr.CondEnter c site) is = let i = Instr.CondEnter c site in let f = fine_of i is in to_cell c f.1.0 _ (rest i is refl) f.1.1
+  by_instr (Instr.CondWait c site) is = Leaves (λ v. refl)
+  by_instr (Instr.CondSignal c site) is = let f = fine_of (Instr.CondSignal c site) is in
       to_signal s world.obj st.cells st.heap t m (word s m c) m.own.stage (λ op. to_cell c f.1.0 op (signal_hold m.own.stage (subst (λ i. StageStands code s st.elements world st.heap g.words t m i m.own.stage) is rn.stage)) f.1.1)
     where
-      signal_hold : (stage : Stage) → StageStands code s st.elements world st.heap g.words t (g.threads t) (instrs.CondSignal c site) stage → OnHold stage
+      signal_hold : (stage : Stage) → StageStands code s st.elements world st.heap g.words t (g.threads t) (Instr.CondSignal c site) stage → OnHold stage
       signal_hold (Links all) h = absurd h
       signal_hold _ h = tt
-  by_instr (instrs.CondBroadcast c site) is = let i = instrs.CondBroadcast c site in let f = fine_of i is in to_cell c f.1.0 _ (rest i is refl) f.1.1
+  by_instr (Instr.CondBroadcast c site) is = let i = Instr.CondBroadcast c site in let f = fine_of i is in to_cell c f.1.0 _ (rest i is refl) f.1.1
   by_instr _ is = tt
 
   pub writes : Written (turn code s (g.threads t))

@@ -1,7 +1,4 @@
-use Rattle.std.proofs.Common.{List, [], ◌∷◌, ◌++◌, subst}
-use Rattle.sharc_code.specs.{declared.code.Code.Code, declared.shape.Shape.Shape, Opening.opening_words, Runs.{Turn, IsRun, opening_of}, Whole.{one_thread, bounds, place_after}}
-use Rattle.sharc_history_laws.specs.History.{history_of}
-use Rattle.sharc_history_laws.proofs.{Consists.consists, Followed.of_check, Logged.lacking, LockShown.{locks_named, shows_lock, breaks}}
+use Rattle.sharc_history_laws.proofs.{Imports.{List, [], ◌∷◌, ◌++◌, subst, Code, Shape, opening_words, Turn, IsRun, opening_of, one_thread, bounds, place_after, history_of}, Consists.consists, Followed.of_check, Logged.lacking, LockShown.{locks_named, shows_lock, breaks}}
 use Rattle.sharc_history_laws.proofs.laws.followed_law.Goals as goal
 
 -- an earlier part of a run is one

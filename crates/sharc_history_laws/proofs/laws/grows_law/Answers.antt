@@ -1,5 +1,4 @@
-use Rattle.std.specs.Prelude.{◌∷◌}
-use Rattle.sharc_history_laws.proofs.KeptPointers.{grown}
+use Rattle.sharc_history_laws.proofs.{Imports.{◌∷◌}, KeptPointers.grown}
 use Rattle.sharc_history_laws.proofs.laws.grows_law.Goals as goal
 
 pub returns : goal.returns

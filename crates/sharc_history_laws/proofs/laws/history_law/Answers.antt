@@ -1,5 +1,4 @@
-use Rattle.sharc_history_laws.proofs.{Locking.lock_runs, ModesKept.keeps_modes, Rules.{newest, obeyed}, Sets.clean_shares, Shared.shares, Since.one_mode}
-use Rattle.sharc_history_laws.specs.History.{history_of}
+use Rattle.sharc_history_laws.proofs.{Imports.history_of, Locking.lock_runs, ModesKept.keeps_modes, Rules.{newest, obeyed}, Sets.clean_shares, Shared.shares, Since.one_mode}
 use Rattle.sharc_history_laws.proofs.laws.history_law.Goals as goal
 
 pub returns : goal.returns

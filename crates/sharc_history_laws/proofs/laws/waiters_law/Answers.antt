@@ -1,9 +1,4 @@
-use Rattle.std.proofs.Common.{◌≡◌, Bool, true, false, refl}
-use Rattle.sharc_tree.specs.declared.event.SourceEvent.{SourceEvent}
-use Rattle.sharc_ctype.specs.Resolved.{Resolution}
-use Rattle.sharc_meaning.specs.{Obeys.History, Store.MayCome}
-use Rattle.sharc_history_laws.specs.Stores.{is_about_waiters}
-use Rattle.sharc_history_laws.proofs.Woken.{awaited}
+use Rattle.sharc_history_laws.proofs.{Imports.{◌≡◌, Bool, true, false, refl, SourceEvent, Resolution, History, MayCome, is_about_waiters}, Woken.awaited}
 use Rattle.sharc_history_laws.proofs.laws.waiters_law.Goals as goal
 
 -- whether it tells who waits or not

@@ -1,6 +1,5 @@
-use Rattle.std.proofs.Common.{◌≡◌, true, false, refl, sym, ap, ◌∙◌}
-use Rattle.sharc_code.specs.{declared.state.TurnState.TurnState, declared.state.TurnState.TheVariants.{Runs, Tries, Stopped, Ended}, Whole.place_after}
-use Rattle.sharc_history_laws.proofs.{Sorts.is_ended, Standing.holds}
+use Rattle.sharc_history_laws.proofs.{Imports.{◌≡◌, true, false, refl, sym, ap, ◌∙◌, TurnState, Tries, Stopped, Ended, place_after}, Sorts.is_ended, Standing.holds}
+use Rattle.sharc_code.specs.declared.state.TurnState.TheVariants.{Runs}
 use Rattle.sharc_history_laws.proofs.words.states_law.Goals as goal
 
 ended_is : (state : TurnState) → is_ended state ≡ true → state ≡ Ended
