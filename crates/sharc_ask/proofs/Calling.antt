@@ -1,21 +1,5 @@
 -- Calls: arguments that are left, a frame that is entered, and the way back.
-use Rattle.std.proofs.{Common.{◌≡◌, ◌<◌, ◌+◌, arith, ℕ, zero, suc, ◌-◌, List, [], ◌∷◌, ◌++◌, length, Some, None, Result, Ok, Err, refl, sym, ap, ◌∙◌, subst, append-nil}, lemmas.List.append_assoc}
-use Rattle.std.specs.{Prelude.{ℤ, pos, drop}, Borrow.Bor}
-use Rattle.sharc_tree.specs.{declared.token.Site.Site, declared.tree.declaration.Declaration.Declaration, declared.tree.expression.Expr.Expr, Tree.{Function, Expression, Arguments, no_arguments, argument}, View.{view_expr, view_arguments, view_function}}
-use Rattle.sharc_tree.specs.declared.trap.Trap.TheVariants as traps
-use Rattle.sharc_names.specs.Kinds.{Kind, declared_kind, declared_kinds}
-use Rattle.sharc_ctype.specs.Resolved.{function_at}
-use Rattle.sharc_mode.specs.Moded.{Assignment}
-use Rattle.sharc_meaning.specs.{declared.variable.Variable.Variable, Expressions.{Calls, called, passed, eval, eval_all}, Meaning.{with_frame, back_in, calls, call_value, run_function, parameters_begin, pointers_passed, left_at}, State.{Frame, State, Out, go, over, Run, Step, then_on, ◌>>=◌, ◌>>◌, give, enters, without_temporaries, ends_variables, ends_temporaries}, Statements.{Flow, exec_all}}
-use Rattle.sharc_ask.specs.{declared.state.RunEnd.RunEnd, StepView.{Known, known, Over, Does, held_below}, declared.plan.Call.Call, declared.plan.Plan.Plan, declared.stack.At.At, declared.stack.Caller.Caller, declared.stack.Left.Left, declared.stack.PendingCall.PendingCall, View.{WasKept, variables_ended}, Values.{Value, number, flow, number_in, flow_in, gives, as_left}, Plans.{ends_above, rest_means, plan_means, Plans, PlanEnds}, Stack.{Behind, all_behind, IsCaller, AreBehind, awaits, comes_back, Reached, Moves}}
-use Rattle.sharc_ask.specs.declared.state.RunEnd.TheVariants as ends
-use Rattle.sharc_ask.specs.declared.plan.After.TheVariants as afters
-use Rattle.sharc_ask.specs.declared.plan.Plan.TheVariants as plans
-use Rattle.sharc_ask.specs.declared.plan.Rest.TheVariants as rests
-use Rattle.sharc_ask.specs.declared.plan.Task.TheVariants as tasks
-use Rattle.sharc_ask.specs.declared.plan.WithValue.TheVariants as with_values
-use Rattle.sharc_ask.specs.declared.stack.Later.TheVariants as laters
-use Rattle.sharc_ask.proofs.{Framing.{frame_begins, call_is}, Stacking.{bound_twice, reached_from, plan_reached}, Stating.argument_begins}
+use Rattle.sharc_ask.proofs.{Imports.{◌≡◌, ◌<◌, ◌+◌, arith, ℕ, zero, suc, ◌-◌, List, [], ◌∷◌, ◌++◌, length, Some, None, Result, Ok, Err, refl, sym, ap, ◌∙◌, subst, append-nil, append_assoc, ℤ, pos, drop, Bor, Site, Declaration, Expr, Function, Expression, Arguments, no_arguments, argument, view_expr, view_arguments, view_function, Trap, Kind, declared_kind, declared_kinds, function_at, Assignment, Variable, Calls, called, passed, eval, eval_all, with_frame, back_in, calls, call_value, run_function, parameters_begin, pointers_passed, left_at, Frame, State, Out, go, over, Run, Step, then_on, ◌>>=◌, ◌>>◌, give, enters, without_temporaries, ends_variables, ends_temporaries, Flow, exec_all, RunEnd, Known, known, Over, Does, held_below, Call, Plan, At, Caller, Left, PendingCall, WasKept, variables_ended, Value, number, flow, number_in, flow_in, gives, as_left, ends_above, rest_means, plan_means, Plans, PlanEnds, Behind, all_behind, IsCaller, AreBehind, awaits, comes_back, Reached, Moves, After, Rest, WithValue, Later}, Framing.{frame_begins, call_is}, Stacking.{bound_twice, reached_from, plan_reached}, Stating.argument_begins}
 
 -- ---- a frame that is entered
 
@@ -26,7 +10,7 @@ body_then : (f : Function) (caller : Frame) (others : List Frame) (behind : List
 body_then f caller others behind (go z t) = refl
 body_then f caller others behind (over o t) = refl
 
-pub enters_function : (m : Assignment) (n : ℕ) (c : Caller) (vs : List ℤ) (k mid k1 k2 : Known) (stack stack1 : List Left) (p : Plan) (u v : Unit {0}) → stack1 ≡ record { frames = n; later = laters.Returns c } ∷ stack
+pub enters_function : (m : Assignment) (n : ℕ) (c : Caller) (vs : List ℤ) (k mid k1 k2 : Known) (stack stack1 : List Left) (p : Plan) (u v : Unit {0}) → stack1 ≡ record { frames = n; later = Later.Returns c } ∷ stack
     → WasKept (pointers_passed (view_function c.function.now)) k mid (Some (c.kept.frame.variables.items, c.kept.frame.temporaries.items, c.kept.below.items))
     → Does mid (Ok u) k1 (parameters_begin (view_function c.function.now).parameters vs) → Does k1 (Ok v) k2 enters
     → ((s : State) → plan_means (calls m n) m p s ≡ then_on (gives flow (exec_all (calls m n) m (declared_kind (view_function c.function.now).result) (view_function c.function.now).statements) s) (λ x. give x))
@@ -108,16 +92,16 @@ comes_back_moves m n c fl left k k1 stack f v p w value_is left_is same plan = �
 
 result_then : (mark : ℕ) (behind : List Behind) (on_call : Calls) (m : Assignment) (out : Out (Site × ℤ))
     → then_on (then_on (ends_temporaries mark (then_on out (λ left. give left.1))) (λ x. give (number x))) (all_behind behind)
-    ≡ then_on (then_on out (λ x. give (as_left x))) (all_behind (rest_means on_call m (rests.After (afters.Call mark)) ∷ behind))
+    ≡ then_on (then_on out (λ x. give (as_left x))) (all_behind (rest_means on_call m (Rest.After (After.Call mark)) ∷ behind))
 result_then mark behind on_call m (go left t) = refl
 result_then mark behind on_call m (over o t) = refl
 
 pub call_moves : (m : Assignment) (n f : ℕ) (site : Site) (vs : List ℤ) (mark : ℕ) (g : Function) (k k1 : Known) (stack stack0 stack1 : List Left) (r : Result At RunEnd) → (n ≡ 0 → ⊥) → function_at m.typed f ≡ Some g
-    → stack0 ≡ record { frames = n; later = laters.Rest (rests.After (afters.Call mark)) } ∷ stack
+    → stack0 ≡ record { frames = n; later = Later.Rest (Rest.After (After.Call mark)) } ∷ stack
     → Moves m k stack0 r k1 stack1 (gives as_left (run_function (calls m (n - 1)) m g vs)) → Moves m k stack r k1 stack1 (gives number (ends_above mark (calls m n f site vs)))
 call_moves m n f site vs mark g k k1 stack stack0 stack1 r some there top h = λ s behind is stands.
-    let back = rest_means (calls m n) m (rests.After (afters.Call mark)) in
-    let h1 : Moves m k (record { frames = n; later = laters.Rest (rests.After (afters.Call mark)) } ∷ stack) r k1 stack1 (gives as_left (run_function (calls m (n - 1)) m g vs)) = subst (λ z. Moves m k z r k1 stack1 (gives as_left (run_function (calls m (n - 1)) m g vs))) top h in
+    let back = rest_means (calls m n) m (Rest.After (After.Call mark)) in
+    let h1 : Moves m k (record { frames = n; later = Later.Rest (Rest.After (After.Call mark)) } ∷ stack) r k1 stack1 (gives as_left (run_function (calls m (n - 1)) m g vs)) = subst (λ z. Moves m k z r k1 stack1 (gives as_left (run_function (calls m (n - 1)) m g vs))) top h in
     subst (Reached m r stack1 k1)
     (sym (ap (λ (z : Run ℤ). then_on (gives number (ends_above mark z) s) (all_behind behind)) (call_is m n f site vs some ∙ ap (λ o. call_value (calls m (n - 1)) m o vs) there)
     ∙ result_then mark behind (calls m n) m (run_function (calls m (n - 1)) m g vs s)))
@@ -126,9 +110,9 @@ call_moves m n f site vs mark g k k1 stack stack0 stack1 r some there top h = λ
 pub call_none_is : (m : Assignment) (n f : ℕ) (site : Site) (vs : List ℤ) → (n ≡ 0 → ⊥) → function_at m.typed f ≡ None → calls m n f site vs ≡ give (pos 0)
 call_none_is m n f site vs some none = call_is m n f site vs some ∙ ap (λ o. call_value (calls m (n - 1)) m o vs) none
 
-pub call_stops_moves : (m : Assignment) (n f : ℕ) (site : Site) (vs : List ℤ) (mark : ℕ) (k : Known) (stack stack1 : List Left) → n ≡ 0 → Moves m k stack (Err (ends.Stopped traps.CallDepth site)) k stack1 (gives number (ends_above mark (calls m n f site vs)))
+pub call_stops_moves : (m : Assignment) (n f : ℕ) (site : Site) (vs : List ℤ) (mark : ℕ) (k : Known) (stack stack1 : List Left) → n ≡ 0 → Moves m k stack (Err (RunEnd.Stopped Trap.CallDepth site)) k stack1 (gives number (ends_above mark (calls m n f site vs)))
 call_stops_moves m n f site vs mark k stack stack1 none =
-    subst (λ z. Moves m k stack (Err (ends.Stopped traps.CallDepth site)) k stack1 (gives number (ends_above mark (calls m z f site vs)))) (sym none) (λ s behind is stands. record { outcome = _; state = s; is = refl; ends_so = refl; looks = is })
+    subst (λ z. Moves m k stack (Err (RunEnd.Stopped Trap.CallDepth site)) k stack1 (gives number (ends_above mark (calls m z f site vs)))) (sym none) (λ s behind is stands. record { outcome = _; state = s; is = refl; ends_so = refl; looks = is })
 
 -- ---- arguments
 
@@ -152,7 +136,7 @@ first_then on_call m c mark kinds rest values behind (over o t) = refl
 
 pub more_moves : (m : Assignment) (n : ℕ) (c : Call) (mark : ℕ) (parameters rest_parameters : Bor (List Declaration)) (e : Bor Expr) (others : PendingCall) (k k1 : Known) (stack stack0 stack1 : List Left) (p : Plan)
     → declared_kinds rest_parameters.now ≡ drop 1 (declared_kinds parameters.now) → others.call ≡ c → others.mark ≡ mark → others.parameters ≡ rest_parameters
-    → stack0 ≡ record { frames = n; later = laters.Passes others } ∷ stack → stack1 ≡ record { frames = n; later = laters.Rest (rests.Value e (with_values.Passed parameters)) } ∷ stack0
+    → stack0 ≡ record { frames = n; later = Later.Passes others } ∷ stack → stack1 ≡ record { frames = n; later = Later.Rest (Rest.Value e (WithValue.Passed parameters)) } ∷ stack0
     → Plans (calls m n) m k (Ok p) k1 (gives number (eval (calls m n) m (view_expr e.now)))
     → Moves m k stack (Ok (record { frames = n; plan = p })) k1 stack1 (awaits (calls m n) m c mark (declared_kinds parameters.now) (argument (view_expr e.now) (view_arguments others.arguments.now)) others.values.items)
 more_moves m n c mark parameters rest_parameters e others k k1 stack stack0 stack1 p kinds_are call_same mark_is parameters_are below top h = λ s behind is stands.
@@ -162,7 +146,7 @@ more_moves m n c mark parameters rest_parameters e others k k1 stack stack0 stac
     let rest = view_arguments others.arguments.now in
     let values = others.values.items in
     let w = h s is in
-    let pass : Behind = rest_means on_call m (rests.Value e (with_values.Passed parameters)) in
+    let pass : Behind = rest_means on_call m (Rest.Value e (WithValue.Passed parameters)) in
     let f0 : Call → ℕ → List Kind → Behind = λ c1 mark1 kinds1 v. awaits on_call m c1 mark1 kinds1 rest (values ++ number_in v ∷ []) in
     let f1 : Behind = f0 others.call others.mark (declared_kinds others.parameters.now) in
     let same : f0 c mark (drop 1 kinds) ≡ f1 =
@@ -177,7 +161,7 @@ more_moves m n c mark parameters rest_parameters e others k k1 stack stack0 stac
           ∙ bound_twice (gives number (eval on_call m x) s) pass (all_behind (f1 ∷ behind))
           ∙ ap (λ o. then_on o (all_behind (pass ∷ f1 ∷ behind))) w.is;
       looks = w.looks;
-      stands = subst (λ l. AreBehind m l (pass ∷ f1 ∷ behind)) (sym (top ∙ ap (λ l. record { frames = n; later = laters.Rest (rests.Value e (with_values.Passed parameters)) } ∷ l) below)) (refl, (refl, stands));
+      stands = subst (λ l. AreBehind m l (pass ∷ f1 ∷ behind)) (sym (top ∙ ap (λ l. record { frames = n; later = Later.Rest (Rest.Value e (WithValue.Passed parameters)) } ∷ l) below)) (refl, (refl, stands));
     }
 
 pub more_ends : (m : Assignment) (n : ℕ) (c : Call) (mark : ℕ) (kinds : List Kind) (x : Expression) (rest : Arguments) (values : List ℤ) (k k1 : Known) (stack stack1 : List Left) (e : RunEnd) → Plans (calls m n) m k (Err e) k1 (gives number (eval (calls m n) m x))

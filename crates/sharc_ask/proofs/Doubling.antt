@@ -1,29 +1,24 @@
 -- Products with powers of two, in two halves.
-use Rattle.std.proofs.{Common.{◌≡◌, ℕ, ℤ, pos, negsuc, zero, suc, ◌+◌, ◌*◌, ◌^◌, ◌<◌, ◌≤◌, ◌*ℤ◌, neg_ℤ, false, nat_lt, Result, Ok, Err, sym, ap, ◌∙◌, subst, arith, FitsSigned, w64, to_z, of_z}, Math.IntN.{pos-*ℤ-pos, negsuc-*ℤ-pos}, Math.Nat.mul_assoc, lemmas.Bool.Decides.nat_tests, Math.Pow.pow-lt, lemmas.Nat.{pow-add, pow_pos}, lemmas.Int.to_z-of_z}
-use Rattle.std.specs.Prelude.{if◌then◌else◌}
-use Rattle.sharc_tree.specs.declared.trap.Trap.{Trap}
-use Rattle.sharc_tree.specs.declared.trap.Trap.TheVariants as traps
-use Rattle.sharc_ask.specs.{declared.arithmetic.Width.Width, declared.arithmetic.Width.TheVariants.{Char, Int, Long}, Width.value_bits}
-use Rattle.sharc_meaning.specs.Arithmetic.{in_range}
-use Rattle.sharc_lemmas.proofs.Numbers.{not_below2 as not_below, grown, neg_times}
+use Rattle.sharc_ask.proofs.Imports.{◌≡◌, ℕ, ℤ, pos, negsuc, zero, suc, ◌+◌, ◌*◌, ◌^◌, ◌<◌, ◌≤◌, ◌*ℤ◌, neg_ℤ, false, nat_lt, Result, Ok, Err, sym, ap, ◌∙◌, subst, arith, FitsSigned, w64, to_z, of_z, pos-*ℤ-pos, negsuc-*ℤ-pos, mul_assoc, nat_tests, pow-lt, pow-add, pow_pos, if◌then◌else◌, Trap, Width, Char, Int, Long, value_bits, in_range, not_below, grown, neg_times}
+use Rattle.std.proofs.lemmas.Int.{to_z-of_z}
 
 pub times : (a : ℤ) (m n : ℕ) → (a *ℤ pos m) *ℤ pos n ≡ a *ℤ pos (m * n)
 times (pos a) m n = ap (λ z. z *ℤ pos n) (pos-*ℤ-pos a m) ∙ pos-*ℤ-pos (a * m) n ∙ ap pos (mul_assoc a m n) ∙ sym (pos-*ℤ-pos a (m * n))
 times (negsuc a) m n = ap (λ z. z *ℤ pos n) (negsuc-*ℤ-pos a m) ∙ neg_times (suc a * m) n ∙ ap (λ (k : ℕ). neg_ℤ (pos k)) (mul_assoc (suc a) m n) ∙ sym (negsuc-*ℤ-pos a (m * n))
 
 -- what does not fit does not fit when it is made larger
-too_many : (width : Width) (k : ℕ) → 2 ^ 63 ≤ k → Err traps.OutOfRange ≡ in_range (value_bits width) (pos k)
-too_many Char k h = let e : nat_lt k 128 ≡ false = search (nat_tests, arith) in ap (λ b. if b then Ok (pos k) else Err traps.OutOfRange) (sym e)
-too_many Int k h = let e : nat_lt k 2147483648 ≡ false = search (nat_tests, arith) in ap (λ b. if b then Ok (pos k) else Err traps.OutOfRange) (sym e)
-too_many Long k h = let e : nat_lt k 9223372036854775808 ≡ false = search (nat_tests, arith) in ap (λ b. if b then Ok (pos k) else Err traps.OutOfRange) (sym e)
+too_many : (width : Width) (k : ℕ) → 2 ^ 63 ≤ k → Err Trap.OutOfRange ≡ in_range (value_bits width) (pos k)
+too_many Char k h = let e : nat_lt k 128 ≡ false = search (nat_tests, arith) in ap (λ b. if b then Ok (pos k) else Err Trap.OutOfRange) (sym e)
+too_many Int k h = let e : nat_lt k 2147483648 ≡ false = search (nat_tests, arith) in ap (λ b. if b then Ok (pos k) else Err Trap.OutOfRange) (sym e)
+too_many Long k h = let e : nat_lt k 9223372036854775808 ≡ false = search (nat_tests, arith) in ap (λ b. if b then Ok (pos k) else Err Trap.OutOfRange) (sym e)
 
-too_few : (width : Width) (k : ℕ) → 2 ^ 63 < k → Err traps.OutOfRange ≡ in_range (value_bits width) (neg_ℤ (pos k))
+too_few : (width : Width) (k : ℕ) → 2 ^ 63 < k → Err Trap.OutOfRange ≡ in_range (value_bits width) (neg_ℤ (pos k))
 too_few width zero h = absurd (omega arith)
-too_few Char (suc k) h = let e : nat_lt k 128 ≡ false = search (nat_tests, arith) in ap (λ b. if b then Ok (negsuc k) else Err traps.OutOfRange) (sym e)
-too_few Int (suc k) h = let e : nat_lt k 2147483648 ≡ false = search (nat_tests, arith) in ap (λ b. if b then Ok (negsuc k) else Err traps.OutOfRange) (sym e)
-too_few Long (suc k) h = let e : nat_lt k 9223372036854775808 ≡ false = search (nat_tests, arith) in ap (λ b. if b then Ok (negsuc k) else Err traps.OutOfRange) (sym e)
+too_few Char (suc k) h = let e : nat_lt k 128 ≡ false = search (nat_tests, arith) in ap (λ b. if b then Ok (negsuc k) else Err Trap.OutOfRange) (sym e)
+too_few Int (suc k) h = let e : nat_lt k 2147483648 ≡ false = search (nat_tests, arith) in ap (λ b. if b then Ok (negsuc k) else Err Trap.OutOfRange) (sym e)
+too_few Long (suc k) h = let e : nat_lt k 9223372036854775808 ≡ false = search (nat_tests, arith) in ap (λ b. if b then Ok (negsuc k) else Err Trap.OutOfRange) (sym e)
 
-pub outgrown : (width : Width) (z : ℤ) (n : ℕ) → 0 < n → (FitsSigned w64 z → ⊥) → Err traps.OutOfRange ≡ in_range (value_bits width) (z *ℤ pos n)
+pub outgrown : (width : Width) (z : ℤ) (n : ℕ) → 0 < n → (FitsSigned w64 z → ⊥) → Err Trap.OutOfRange ≡ in_range (value_bits width) (z *ℤ pos n)
 outgrown width (pos a) n some out =
     let low : 2 ^ 63 ≤ a = not_below a (2 ^ 63) (λ h. out (record { sfits = h })) in
     too_many width (a * n) (omega (arith, low, grown a n some)) ∙ ap (in_range (value_bits width)) (sym (pos-*ℤ-pos a n))
@@ -49,7 +44,7 @@ in_halves width v p q so_far r by half rest fv fs ep eq sum lh lr es er =
     ∙ ap (λ z. in_range (value_bits width) ((v *ℤ pos (2 ^ half)) *ℤ z)) (backed q rest lr eq)
     ∙ ap (in_range (value_bits width)) (times v (2 ^ half) (2 ^ rest) ∙ ap (λ n. v *ℤ pos n) pw)
 
-pub past_half : (width : Width) (v p : ℤ) (by half rest : ℕ) → FitsSigned w64 v → p ≡ pos (2 ^ half) → half + rest ≡ by → half < 63 → (FitsSigned w64 (back v *ℤ back p) → ⊥) → Err traps.OutOfRange ≡ in_range (value_bits width) (v *ℤ pos (2 ^ by))
+pub past_half : (width : Width) (v p : ℤ) (by half rest : ℕ) → FitsSigned w64 v → p ≡ pos (2 ^ half) → half + rest ≡ by → half < 63 → (FitsSigned w64 (back v *ℤ back p) → ⊥) → Err Trap.OutOfRange ≡ in_range (value_bits width) (v *ℤ pos (2 ^ by))
 past_half width v p by half rest fv ep sum lh out =
     let e : back v *ℤ back p ≡ v *ℤ pos (2 ^ half) = ap (λ z. z *ℤ back p) (to_z-of_z w64 v fv) ∙ ap (λ z. v *ℤ z) (backed p half lh ep) in
     let pw : 2 ^ half * 2 ^ rest ≡ 2 ^ by = sym (pow-add 2 half rest) ∙ ap (λ n. 2 ^ n) sum in

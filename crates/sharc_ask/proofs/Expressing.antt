@@ -1,14 +1,6 @@
 -- What expressions are begun with, and what goes on with the value of that.
-use Rattle.std.proofs.Common.{◌≡◌, ℕ, Bool, List, [], ◌∷◌, length, Option, Some, refl, sym, ap, ◌∙◌, subst}
-use Rattle.std.specs.Prelude.{ℤ, pos, if◌then◌else◌}
-use Rattle.sharc_tree.specs.declared.event.Act.TheVariants as acts
-use Rattle.sharc_tree.specs.{declared.event.TakeKind.TheVariants.{Cast, Free as ToFree}, declared.token.Site.Site, declared.token.Span.Span, declared.tree.expression.FieldOperator.TheVariants.Arrow, declared.tree.expression.BinaryOperator.BinaryOperator, declared.tree.expression.BinaryOperator.TheVariants.{LogicalOr, LogicalAnd}, declared.tree.expression.PlaceCall.TheVariants.{Lock, Unlock, Free}, declared.tree.expression.UnaryOperator.TheVariants.Negate, Spans.span_of, declared.tree.declaration.Identifier.Identifier, declared.tree.declaration.WrittenType.WrittenType, declared.tree.expression.PlaceCall.PlaceCall, declared.tree.expression.UnaryOperator.UnaryOperator, Tree.{Expression, identifier, call, spawn, on_place, cast, unary, binary, Arguments}}
-use Rattle.sharc_ctype.specs.{Expressions.{class_of, binary_result}, Resolved.{Resolution, named_at, kind_at}, Transfers.parameters_named}
-use Rattle.sharc_names.specs.{declared.fault.Named.Named, Kinds.{Kind, declared_kinds}}
-use Rattle.sharc_mode.specs.{Cells.{cell_at, pointed}, Moded.Assignment, Rows.cast_row}
-use Rattle.sharc_meaning.specs.{Arithmetic.bits_of, Cells.field_place_named, Expressions.{Calls, passed, number_named, named_value, spawned, place_called, cast_value, place_value, unary_value, binary_value, eval, place_of}, Places.{StorePlace, field_in, pointee_place, field_place, taken_from, cast_to, freed}, Reference.is_null, State.{State, Outcome, Out, go, over, Run, then_on, ◌>>=◌, ◌>>◌, give, done, answered, moves, ends_temporaries}, Waiting.{lock_call, unlock_call}}
-use Rattle.sharc_ask.specs.{View.{joined, binary_by, logic_of, place_fetched, calling}, Values.{Value, number, place, number_in, place_in, gives}, Plans.{ends_above, inside, zero_behind, spawned_with, free_unless_null, and_with, or_with, left_with}}
-use Rattle.sharc_ask.proofs.{Outs.begun, Steps.binary_is}
+use Rattle.sharc_ask.proofs.{Imports.{◌≡◌, ℕ, Bool, List, [], ◌∷◌, length, Option, Some, refl, sym, ap, ◌∙◌, subst, ℤ, pos, if◌then◌else◌, Act, Cast, ToFree, Site, Span, Arrow, BinaryOperator, LogicalOr, LogicalAnd, Free, Negate, span_of, Identifier, WrittenType, PlaceCall, UnaryOperator, Expression, identifier, call, spawn, on_place, cast, unary, binary, Arguments, class_of, binary_result, Resolution, named_at, kind_at, parameters_named, Named, Kind, declared_kinds, cell_at, pointed, Assignment, cast_row, bits_of, field_place_named, Calls, passed, number_named, named_value, spawned, place_called, cast_value, place_value, unary_value, binary_value, eval, place_of, StorePlace, field_in, pointee_place, field_place, taken_from, cast_to, freed, is_null, State, Outcome, Out, go, over, Run, then_on, ◌>>=◌, ◌>>◌, give, done, answered, moves, ends_temporaries, lock_call, unlock_call, joined, binary_by, logic_of, place_fetched, calling, Value, number, place, number_in, place_in, gives, ends_above, inside, zero_behind, spawned_with, free_unless_null, and_with, or_with, left_with}, Outs.begun, Steps.binary_is}
+use Rattle.sharc_tree.specs.declared.tree.expression.PlaceCall.TheVariants.{Lock, Unlock}
 
 -- ---- a value that is made of that of one expression
 
@@ -34,7 +26,7 @@ pub spawn_begins : (r : Resolution) (site : Site) (f : Named) (a : Expression) (
     → gives number (spawned r site f a of_a) s ≡ then_on (gives number of_a s) (λ v. gives number (ends_above mark (spawned_with r site f a (number_in v))))
 spawn_begins r site f a of_a mark s same =
     let kinds = declared_kinds (parameters_named r f) in
-    let rest : ℤ → Run ℤ = λ v. answered site (acts.Spawn (number_named f) v) >>= (λ t. moves (kind_at r a) >> give t) in
+    let rest : ℤ → Run ℤ = λ v. answered site (Act.Spawn (number_named f) v) >>= (λ t. moves (kind_at r a) >> give t) in
     let behind : ℕ → Out ℤ → Out Value = λ n out. then_on (ends_temporaries n (then_on out rest)) (λ x. give (number x)) in
     subst (λ (n : ℕ). gives number (spawned r site f a of_a) s ≡ then_on (gives number of_a s) (λ v. gives number (ends_above n (spawned_with r site f a (number_in v))))) same
     (ap (behind (length s.frame.temporaries)) (passed_same r kinds a of_a s)

@@ -1,18 +1,8 @@
 -- What is done with a value that has to fit.
-use Rattle.std.proofs.Common.{◌≡◌, Bool, Result, Ok, Err, ap, sym, ◌∙◌, subst}
-use Rattle.std.specs.Prelude.{ℕ, ℤ, unsigned_abs}
-use Rattle.sharc_tree.specs.{declared.event.Act.Act, declared.event.CellMode.CellMode, declared.tree.declaration.WrittenType.WrittenType, Spans.span_of, Tree.Expression, declared.token.Site.Site}
-use Rattle.sharc_tree.specs.declared.event.Act.TheVariants as acts
-use Rattle.sharc_mode.specs.Sharings.{Sharing}
-use Rattle.sharc_meaning.specs.{Cells.{element_cells, instance_mode}, Arithmetic.fits, Expressions.{fitting, operand}, State.{Run, Step, then_on, ◌>>=◌, ◌>>◌, give, unless_stop, holds, answered, looks_at, value_of, value_in}, Statements.{returned, is_positive}}
-use Rattle.sharc_tree.specs.declared.trap.Trap.TheVariants as traps
-use Rattle.sharc_names.specs.Kinds.{Kind, declared_kind}
-use Rattle.sharc_ctype.specs.Resolved.{Resolution, kind_at}
-use Rattle.sharc_ask.specs.{declared.state.RunEnd.RunEnd, StepView.{Known, Ends, Does, DoesAs}, declared.values.Flow.{Flow as RustFlow}, View.{view_flow, made}, Plans.returned_with}
-use Rattle.sharc_ask.proofs.Steps.{over_then, over_then_as}
+use Rattle.sharc_ask.proofs.{Imports.{◌≡◌, Bool, Result, Ok, Err, ap, sym, ◌∙◌, subst, ℕ, ℤ, unsigned_abs, Act, CellMode, WrittenType, span_of, Expression, Site, Sharing, element_cells, instance_mode, fits, fitting, operand, Run, Step, then_on, ◌>>=◌, ◌>>◌, give, unless_stop, holds, answered, looks_at, value_of, value_in, returned, is_positive, Trap, Kind, declared_kind, Resolution, kind_at, RunEnd, Known, Ends, Does, DoesAs, RustFlow, view_flow, made, returned_with}, Steps.{over_then, over_then_as}}
 
 abbrev test_of : Site → Bool → Step
-test_of at b = unless_stop b traps.OutOfRange at
+test_of at b = unless_stop b Trap.OutOfRange at
 
 pub fitted_goes : (k k1 : Known) (r : Resolution) (kind : Kind) (e : Expression) (x x1 : ℤ) (b : Bool) (at : Site) (u : Unit {0}) (result : Result ℤ RunEnd) → b ≡ fits kind x → at ≡ (span_of e).first → x1 ≡ x → Does k (Ok u) k (test_of at b) → Does k result k1 (operand r e (give x1))
     → Does k result k1 (operand r e (fitting kind e (give x)))
@@ -44,13 +34,13 @@ returned_over k kind site e x b at end eb ea h =
 
 -- a new object
 pub made_goes : (k k1 : Known) (r : Resolution) (site : Site) (target : Sharing) (x : ℤ) (w : WrittenType) (b : Bool) (u : Unit {0}) (cells n : ℕ) (mode : CellMode) (result : Result ℤ RunEnd)
-    → b ≡ is_positive x → cells ≡ element_cells r (declared_kind w) → n ≡ unsigned_abs x → mode ≡ instance_mode r (value_in k.variables) target → Does k (Ok u) k (unless_stop b traps.SizeNotPositive site) → Does k result k1 (answered site (acts.New cells n mode))
+    → b ≡ is_positive x → cells ≡ element_cells r (declared_kind w) → n ≡ unsigned_abs x → mode ≡ instance_mode r (value_in k.variables) target → Does k (Ok u) k (unless_stop b Trap.SizeNotPositive site) → Does k result k1 (answered site (Act.New cells n mode))
     → Does k result k1 (made r site target x w)
 made_goes k k1 r site target x w b u cells n mode result eb ec en em h later = λ s is.
-    let g : Does k (Ok u) k (unless_stop (is_positive x) traps.SizeNotPositive site) = subst (λ z. Does k (Ok u) k (unless_stop z traps.SizeNotPositive site)) eb h in
+    let g : Does k (Ok u) k (unless_stop (is_positive x) Trap.SizeNotPositive site) = subst (λ z. Does k (Ok u) k (unless_stop z Trap.SizeNotPositive site)) eb h in
     let a = g s is in
-    let rest : Run ℤ = looks_at value_of >>= (λ held. answered site (acts.New (element_cells r (declared_kind w)) (unsigned_abs x) (instance_mode r held target))) in
+    let rest : Run ℤ = looks_at value_of >>= (λ held. answered site (Act.New (element_cells r (declared_kind w)) (unsigned_abs x) (instance_mode r held target))) in
     let same : mode ≡ instance_mode r (value_of a.state) target = em ∙ ap (λ (z : Known). instance_mode r (value_in z.variables) target) (sym a.looks) in
-    let act : acts.New cells n mode ≡ acts.New (element_cells r (declared_kind w)) (unsigned_abs x) (instance_mode r (value_of a.state) target) =
-    ap (λ z. acts.New z n mode) ec ∙ ap (λ z. acts.New (element_cells r (declared_kind w)) z mode) en ∙ ap (λ z. acts.New (element_cells r (declared_kind w)) (unsigned_abs x) z) same in
+    let act : Act.New cells n mode ≡ Act.New (element_cells r (declared_kind w)) (unsigned_abs x) (instance_mode r (value_of a.state) target) =
+    ap (λ z. Act.New z n mode) ec ∙ ap (λ z. Act.New (element_cells r (declared_kind w)) z mode) en ∙ ap (λ z. Act.New (element_cells r (declared_kind w)) (unsigned_abs x) z) same in
     subst (λ o. Ends result k1 (then_on o (λ z. rest))) (sym a.is) (subst (λ (y : Act). Ends result k1 (answered site y a.state)) act (later a.state a.looks))

@@ -1,13 +1,5 @@
 -- What statements are begun with, and what goes on behind that.
-use Rattle.std.proofs.{Common.{◌≡◌, ℕ, zero, suc, ◌-◌, ◌≤◌, List, [], ◌∷◌, length, take, Err, refl, sym, ap, ◌∙◌, subst, arith}, lemmas.List.take_all}
-use Rattle.std.specs.Prelude.{Bool, true, slice_index_or, drop}
-use Rattle.sharc_tree.specs.{declared.tree.statement.Stmt.Stmt, View.{view_stmt, view_statements}}
-use Rattle.sharc_names.specs.Kinds.{Kind}
-use Rattle.sharc_mode.specs.Moded.{Assignment}
-use Rattle.sharc_meaning.specs.{Expressions.Calls, State.{State, Run, Step, then_on, ◌>>=◌, ◌>>◌, give, ends_variables, in_block}, Statements.{Flow, exec, exec_all}}
-use Rattle.sharc_ask.specs.declared.state.RunEnd.TheVariants as ends
-use Rattle.sharc_ask.specs.{StepView.Known, declared.plan.Loop.Loop, View.{loop_test, loop_body}, Values.{test, flow, test_in, flow_in, gives, as_nothing}, Plans.{ends_block, turns_of, others_done, tested_done, left_body, Plans}}
-use Rattle.sharc_ask.proofs.Outs.{begun}
+use Rattle.sharc_ask.proofs.{Imports.{◌≡◌, ℕ, zero, suc, ◌-◌, ◌≤◌, List, [], ◌∷◌, length, take, Err, refl, sym, ap, ◌∙◌, subst, arith, take_all, Bool, true, slice_index_or, drop, Stmt, view_stmt, view_statements, Kind, Assignment, Calls, State, Run, Step, then_on, ◌>>=◌, ◌>>◌, give, ends_variables, in_block, Flow, exec, exec_all, RunEnd, Known, Loop, loop_test, loop_body, test, flow, test_in, flow_in, gives, as_nothing, ends_block, turns_of, others_done, tested_done, left_body, Plans}, Outs.begun}
 
 pub flow_then : (run : Run Flow) (f : Flow → Run Flow) (s : State) → gives flow (run >>= f) s ≡ then_on (gives flow run s) (λ v. gives flow (f (flow_in v)))
 flow_then run f s = begun flow (λ v. gives flow (f (flow_in v))) (run s) (λ out. then_on (then_on out f) (λ x. give (flow x))) (λ o t. refl) (λ x t. refl)
@@ -46,8 +38,8 @@ all_begins on_call m kind list a more s same = ap (λ l. gives flow (exec_all on
 
 -- ---- loops
 
-pub turns_none : (on_call : Calls) (m : Assignment) (l : Loop) (n : ℕ) (k : Known) → n ≡ 0 → Plans on_call m k (Err ends.Spent) k (gives flow (turns_of on_call m l n))
-turns_none on_call m l n k none = subst (λ j. Plans on_call m k (Err ends.Spent) k (gives flow (turns_of on_call m l j))) (sym none) (λ s is. record { outcome = _; state = s; is = refl; ends_so = refl; looks = is })
+pub turns_none : (on_call : Calls) (m : Assignment) (l : Loop) (n : ℕ) (k : Known) → n ≡ 0 → Plans on_call m k (Err RunEnd.Spent) k (gives flow (turns_of on_call m l n))
+turns_none on_call m l n k none = subst (λ j. Plans on_call m k (Err RunEnd.Spent) k (gives flow (turns_of on_call m l j))) (sym none) (λ s is. record { outcome = _; state = s; is = refl; ends_so = refl; looks = is })
 
 pub turns_begin : (on_call : Calls) (m : Assignment) (l : Loop) (n : ℕ) (s : State) → (n ≡ 0 → ⊥) → gives flow (turns_of on_call m l n) s ≡ then_on (gives test (loop_test on_call m l) s) (λ v. gives flow (tested_done on_call m l (n - 1) (test_in v)))
 turns_begin on_call m l zero s some = absurd (some refl)

@@ -1,13 +1,5 @@
 -- Calls: a frame of their own, and as many frames as are allowed.
-use Rattle.std.proofs.{Common.{◌≡◌, ℕ, zero, suc, ◌-◌, List, [], ◌∷◌, ◌++◌, Some, None, Ok, Err, refl, sym, ap, ◌∙◌, subst, arith, length, take, append-nil}, lemmas.List.reverse-append, lemmas.Grind.flat_map-append}
-use Rattle.std.specs.Prelude.{ℤ, pos, reverse, flat_map}
-use Rattle.sharc_tree.specs.{declared.token.Site.Site, Tree.Function}
-use Rattle.sharc_ctype.specs.Resolved.{function_at}
-use Rattle.sharc_mode.specs.Moded.{Assignment}
-use Rattle.sharc_meaning.specs.{declared.variable.Variable.Variable, Meaning.{with_frame, back_in, in_frame, run_function, call_value, calls}, State.{Frame, State, Run, then_on, give, without_temporaries, held_by_frame, pointers_among}}
-use Rattle.sharc_ask.specs.{declared.state.RunEnd.RunEnd, StepView.{Known, known, held_below, Does}, View.WasKept}
-use Rattle.sharc_ask.specs.declared.state.RunEnd.TheVariants as ends
-use Rattle.sharc_ask.proofs.Steps.{ends_same}
+use Rattle.sharc_ask.proofs.{Imports.{◌≡◌, ℕ, zero, suc, ◌-◌, List, [], ◌∷◌, ◌++◌, Some, None, Ok, Err, refl, sym, ap, ◌∙◌, subst, arith, length, take, append-nil, reverse-append, flat_map-append, ℤ, pos, reverse, flat_map, Site, Function, function_at, Assignment, Variable, with_frame, back_in, in_frame, run_function, call_value, calls, Frame, State, Run, then_on, give, without_temporaries, held_by_frame, pointers_among, RunEnd, Known, known, held_below, Does, WasKept}, Steps.ends_same}
 
 held_more : (caller : Frame) (callers : List Frame) → held_below (caller ∷ callers) ≡ held_below callers ++ held_by_frame caller
 held_more caller callers =

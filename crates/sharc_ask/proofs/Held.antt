@@ -1,10 +1,5 @@
 -- Which mutexes are held after one more event.
-use Rattle.std.proofs.Common.{◌≡◌, Bool, true, false, cond, not, ◌||◌, List, [], ◌∷◌, ◌++◌, refl, ap, ◌∙◌}
-use Rattle.std.specs.{Prelude.{Option, Some, None, filter}, List.list_any}
-use Rattle.sharc_tree.specs.{declared.event.Act.Act, declared.event.Act.TheVariants.{Lock, Unlock}, declared.event.CellAt.CellAt, declared.event.SourceEvent.SourceEvent}
-use Rattle.sharc_meaning.specs.Events.{same_cell, is_cell, locked_by, unlocked_by, unlocks, unless_unlocked, held_mutexes}
-use Rattle.sharc_ask.specs.StepView.{held_after}
-use Rattle.sharc_lemmas.proofs.Bools.{or_false as or_none}
+use Rattle.sharc_ask.proofs.Imports.{◌≡◌, Bool, true, false, cond, not, ◌||◌, List, [], ◌∷◌, ◌++◌, refl, ap, ◌∙◌, Option, Some, None, filter, list_any, Act, Lock, Unlock, CellAt, SourceEvent, same_cell, is_cell, locked_by, unlocked_by, unlocks, unless_unlocked, held_mutexes, held_after, or_none}
 
 either_later : (a b c : Bool) (f : Bool) → a ≡ (b || c) → (f || a) ≡ ((f || b) || c)
 either_later a b c true h = refl

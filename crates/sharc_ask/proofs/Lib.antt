@@ -1,3 +1,4 @@
+mod Imports
 mod Doubling
 mod Held
 mod Locks

@@ -1,10 +1,5 @@
 -- An event with the next answer of the list, as the code has it.
-use Rattle.std.proofs.{Common.{◌≡◌, ◌<◌, List, [], ◌∷◌, ◌++◌, refl, sym, ap, ◌∙◌, subst, arith, length, slice_index_or, drop, take, ◌-◌}, lemmas.List.take_all}
-use Rattle.std.specs.Prelude.{ℤ, pos}
-use Rattle.sharc_tree.specs.{declared.event.Act.Act, declared.event.CellAt.CellAt, declared.token.Site.Site}
-use Rattle.sharc_meaning.specs.State.{State, answered, happens, answer_of, event_of, value_in}
-use Rattle.sharc_ask.specs.StepView.{Known, known, Went, held_after}
-use Rattle.sharc_ask.proofs.Held.{held_behind}
+use Rattle.sharc_ask.proofs.{Imports.{◌≡◌, ◌<◌, List, [], ◌∷◌, ◌++◌, refl, sym, ap, ◌∙◌, subst, arith, length, slice_index_or, drop, take, ◌-◌, take_all, ℤ, pos, Act, CellAt, Site, State, answered, happens, answer_of, event_of, value_in, Known, known, Went, held_after}, Held.held_behind}
 
 -- what is left after the first, as the code has it
 pub all_left : (xs : List ℤ) → drop 1 xs ≡ take (length xs - 1) (drop 1 xs)

@@ -1,10 +1,5 @@
 -- Runs that begin with the value of another.
-use Rattle.std.proofs.Common.{◌≡◌, ℕ, zero, suc, Bool, Result, Ok, Err, refl, sym, ap, ◌∙◌, subst}
-use Rattle.std.specs.Prelude.{ℤ, if◌then◌else◌}
-use Rattle.sharc_mode.specs.Moded.{Assignment}
-use Rattle.sharc_meaning.specs.{Expressions.Calls, State.{State, Outcome, Out, go, over, Run, then_on, ◌>>=◌, give, enters_with, enters, ends_temporaries}}
-use Rattle.sharc_ask.specs.{declared.state.RunEnd.RunEnd, StepView.{Known, known, Over, Ends, Does}, declared.plan.Plan.Plan, Values.{Value, number, gives}, View.temporaries_ended, Plans.{plan_means, PlanEnds, Plans, LeadsFrom, inside, ends_above}}
-use Rattle.sharc_ask.specs.declared.state.RunEnd.TheVariants as ends
+use Rattle.sharc_ask.proofs.Imports.{◌≡◌, ℕ, zero, suc, Bool, Result, Ok, Err, refl, sym, ap, ◌∙◌, subst, ℤ, if◌then◌else◌, Assignment, Calls, State, Outcome, Out, go, over, Run, then_on, ◌>>=◌, give, enters_with, enters, ends_temporaries, RunEnd, Known, known, Over, Ends, Does, Plan, Value, number, gives, temporaries_ended, plan_means, PlanEnds, Plans, LeadsFrom, inside, ends_above}
 
 -- what a run makes of the value of another, which it begins with
 pub begun : {A : Type 0} (w : A → Value) (F : Value → Run Value) (out : Out A) (G : Out A → Out Value) → ((o : Outcome) (t : State) → G (over o t) ≡ over o t) → ((x : A) (t : State) → G (go x t) ≡ F (w x) t) → G out ≡ then_on (then_on out (λ x. give (w x))) F
@@ -29,10 +24,10 @@ over_same e k a A b same w = record { outcome = w.outcome; state = w.state; is =
 
 -- an end of a part is the end of the whole
 pub plan_over : {A : Type 0} (on_call : Calls) (m : Assignment) (e : RunEnd) (k : Known) (a : Out Value) (b : Out A) → ((o : Outcome) (t : State) → b ≡ over o t → a ≡ over o t) → Ends {A = A} (Err e) k b → PlanEnds on_call m (Err e) k a
-plan_over {A} on_call m ends.Memory k a b same h = tt
-plan_over {A} on_call m (ends.Wants x) k a b same h = over_same (ends.Wants x) k a A b same h
-plan_over {A} on_call m (ends.Stopped trap site) k a b same h = over_same (ends.Stopped trap site) k a A b same h
-plan_over {A} on_call m ends.Spent k a b same h = over_same ends.Spent k a A b same h
+plan_over {A} on_call m RunEnd.Memory k a b same h = tt
+plan_over {A} on_call m (RunEnd.Wants x) k a b same h = over_same (RunEnd.Wants x) k a A b same h
+plan_over {A} on_call m (RunEnd.Stopped trap site) k a b same h = over_same (RunEnd.Stopped trap site) k a A b same h
+plan_over {A} on_call m RunEnd.Spent k a b same h = over_same RunEnd.Spent k a A b same h
 
 pub step_over : {A : Type 0} (on_call : Calls) (m : Assignment) (k k1 : Known) (e : RunEnd) (first : Run A) (f : A → Run Value) → Does {A = A} k (Err e) k1 first → Plans on_call m k (Err e) k1 (first >>= f)
 step_over {A} on_call m k k1 e first f h = λ s is. plan_over {A = A} on_call m e k1 (then_on (first s) f) (first s) (λ o t is_over. ap (λ z. then_on z f) is_over) (h s is)

@@ -1,8 +1,5 @@
 -- How the code's steps are put together.
-use Rattle.std.proofs.Common.{◌≡◌, Result, Ok, Err, sym, ap, subst}
-use Rattle.sharc_meaning.specs.State.{State, Outcome, Out, over, Run, then_on, ◌>>=◌}
-use Rattle.sharc_ask.specs.{declared.state.RunEnd.RunEnd, StepView.{Known, Over, Ends, Does}}
-use Rattle.sharc_ask.specs.declared.state.RunEnd.TheVariants as ends
+use Rattle.sharc_ask.proofs.Imports.{◌≡◌, Result, Ok, Err, sym, ap, subst, State, Outcome, Out, over, Run, then_on, ◌>>=◌, RunEnd, Known, Over, Ends, Does}
 
 -- one step, and the next with its value
 pub does_then : {A B : Type 0} (k k1 k2 : Known) (x : A) (r : Result B RunEnd) (m : Run A) (f : A → Run B) → Does k (Ok x) k1 m → Does k1 r k2 (f x) → Does k r k2 (m >>= f)
@@ -12,7 +9,7 @@ pub over_same : {A B : Type 0} (e : RunEnd) (k : Known) (a : Out A) (b : Out B) 
 over_same e k a b same w = record { outcome = w.outcome; state = w.state; is = same w.outcome w.state w.is; ends_so = w.ends_so; looks = w.looks }
 
 ends_same : {A B : Type 0} (e : RunEnd) (k : Known) (a : Out A) (b : Out B) → ((o : Outcome) (t : State) → a ≡ over o t → b ≡ over o t) → Ends {A = A} (Err e) k a → Ends {A = B} (Err e) k b
-ends_same ends.Memory k a b same h = tt
+ends_same RunEnd.Memory k a b same h = tt
 ends_same j k a b same h = over_same j k a b same h
 
 -- a step that is over, and with it what it begins

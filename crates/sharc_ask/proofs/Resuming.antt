@@ -1,12 +1,5 @@
 -- What goes on with a value, where it is more than one step.
-use Rattle.std.proofs.Common.{◌≡◌, ℕ, Bool, true, false, refl}
-use Rattle.std.specs.Prelude.{ℤ, pos, if◌then◌else◌}
-use Rattle.sharc_tree.specs.{declared.token.Site.Site, declared.tree.expression.BinaryOperator.BinaryOperator, Tree.Expression}
-use Rattle.sharc_ctype.specs.Resolved.{Resolution, kind_at}
-use Rattle.sharc_mode.specs.Moded.{Assignment}
-use Rattle.sharc_meaning.specs.{Arithmetic.truth, Expressions.tested, Places.{StorePlace, based}, State.{State, Run, then_on, ◌>>=◌, give, holds, ends_temporaries}}
-use Rattle.sharc_ask.specs.{Values.{number, place, number_in, gives, as_nothing}, Plans.{ends_above, step_then, test_then, truth_with, and_with, or_with, joined_with, left_with, element_behind, behind_pointer, element_in, assigned_to}}
-use Rattle.sharc_ask.proofs.Outs.{begun, both_begun}
+use Rattle.sharc_ask.proofs.{Imports.{◌≡◌, ℕ, Bool, true, false, refl, ℤ, pos, if◌then◌else◌, Site, BinaryOperator, Expression, Resolution, kind_at, Assignment, truth, tested, StorePlace, based, State, Run, then_on, ◌>>=◌, give, holds, ends_temporaries, number, place, number_in, gives, as_nothing, ends_above, step_then, test_then, truth_with, and_with, or_with, joined_with, left_with, element_behind, behind_pointer, element_in, assigned_to}, Outs.{begun, both_begun}}
 
 truth_of_right : (r : Resolution) (b : Expression) (of_b : Run ℤ) (t : State) → then_on (then_on (tested r b of_b t) (λ right. give (truth right))) (λ x. give (number x)) ≡ then_on (gives number of_b t) (λ v. gives number (truth_with r b (number_in v)))
 truth_of_right r b of_b t = begun number (λ v. gives number (truth_with r b (number_in v))) (of_b t) (λ out. then_on (then_on (tested r b (λ z. out) t) (λ right. give (truth right))) (λ x. give (number x))) (λ o u. refl) (λ x u. refl)

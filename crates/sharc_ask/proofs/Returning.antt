@@ -1,11 +1,5 @@
 -- A function that is over before its body begins.
-use Rattle.std.proofs.Common.{◌≡◌, List, [], Err, ap, ◌∙◌}
-use Rattle.std.specs.Prelude.{ℤ}
-use Rattle.sharc_tree.specs.declared.token.Site.{Site}
-use Rattle.sharc_mode.specs.Moded.{Assignment}
-use Rattle.sharc_meaning.specs.State.{State, Outcome, Out, go, over, Run, then_on, give}
-use Rattle.sharc_ask.specs.{declared.state.RunEnd.RunEnd, StepView.{Known, Does}, declared.stack.Left.Left, Values.{Value, view_value, gives, as_left}, Stack.Moves}
-use Rattle.sharc_ask.proofs.{Stacking.whole_over, Steps.{ends_same, plainly_over}}
+use Rattle.sharc_ask.proofs.{Imports.{◌≡◌, List, [], Err, ap, ◌∙◌, ℤ, Site, Assignment, State, Outcome, Out, go, over, Run, then_on, give, RunEnd, Known, Does, Left, Value, view_value, gives, as_left, Moves}, Stacking.whole_over, Steps.{ends_same, plainly_over}}
 
 came_over : (out : Out (Site × ℤ)) (o : Outcome) (t : State) → then_on out (λ x. give (as_left x)) ≡ over o t → out ≡ over o t
 came_over (go x s) o t h = absurd (cc)

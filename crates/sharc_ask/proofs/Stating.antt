@@ -1,22 +1,12 @@
 -- What parts of statements are begun with, and what goes on with the value of that.
-use Rattle.std.proofs.Common.{◌≡◌, ℕ, List, length, Some, refl, ap, ◌∙◌, subst}
-use Rattle.std.specs.Prelude.{ℤ}
-use Rattle.sharc_tree.specs.{declared.token.Site.Site, declared.token.Span.Span, declared.tree.declaration.Declaration.Declaration, declared.tree.declaration.WrittenType.WrittenType, Spans.span_of, Tree.{Expression, Right, malloc, assign, does_call}}
-use Rattle.sharc_names.specs.Kinds.{Kind, declared_kind}
-use Rattle.sharc_ctype.specs.Resolved.{Resolution, kind_at}
-use Rattle.sharc_mode.specs.{Cells.pointed, Moded.Assignment, Rows.{written, row_at, declared_row}, Sharings.{Sharing, private}}
-use Rattle.sharc_meaning.specs.{Expressions.{Calls, fitting, passed, eval, place_of}, Places.{variable, stored}, State.{State, Out, go, over, Run, Step, then_on, ◌>>=◌, ◌>>◌, give, drops}, Statements.{right_value, done_simple, initialised, return_with, returned}}
-use Rattle.sharc_ask.specs.{declared.plan.Plan.Plan, declared.plan.Task.Task, View.made, Values.{Value, number, place, flow, number_in, place_in, gives, as_nothing}, Plans.{ends_above, step_then, assigned_to, returned_with, task_means, plan_means, Leads, inside}}
-use Rattle.sharc_ask.specs.declared.plan.Plan.TheVariants as plans
-use Rattle.sharc_ask.specs.declared.plan.Rest.TheVariants as rests
-use Rattle.sharc_ask.proofs.{Expressing.{passed_goes, passed_ends, passed_first}, Outs.{begun, both_begun}}
+use Rattle.sharc_ask.proofs.{Imports.{◌≡◌, ℕ, List, length, Some, refl, ap, ◌∙◌, subst, ℤ, Site, Span, Declaration, WrittenType, span_of, Expression, Right, malloc, assign, does_call, Kind, declared_kind, Resolution, kind_at, pointed, Assignment, written, row_at, declared_row, Sharing, private, Calls, fitting, passed, eval, place_of, variable, stored, State, Out, go, over, Run, Step, then_on, ◌>>=◌, ◌>>◌, give, drops, right_value, done_simple, initialised, return_with, returned, Plan, Task, made, Value, number, place, flow, number_in, place_in, gives, as_nothing, ends_above, step_then, assigned_to, returned_with, task_means, plan_means, Leads, inside, Rest}, Expressing.{passed_goes, passed_ends, passed_first}, Outs.{begun, both_begun}}
 
 pub out_given : (out : Out Value) → out ≡ then_on out (λ v. give v)
 out_given (go v t) = refl
 out_given (over o t) = refl
 
 -- a task alone
-pub same_begins : (on_call : Calls) (m : Assignment) (t : Task) → Leads on_call m (task_means on_call m t) (plans.Goes t rests.Same)
+pub same_begins : (on_call : Calls) (m : Assignment) (t : Task) → Leads on_call m (task_means on_call m t) (Plan.Goes t Rest.Same)
 same_begins on_call m t = λ s. out_given (task_means on_call m t s)
 
 -- a step, and what a plan is for

@@ -1,14 +1,5 @@
 -- How the code's steps are put together.
-use Rattle.std.proofs.Common.{◌≡◌, [], ◌∷◌, Err, refl, ap, ◌∙◌}
-use Rattle.std.specs.Prelude.{ℤ}
-use Rattle.sharc_tree.specs.{declared.token.Site.Site, declared.tree.expression.BinaryOperator.BinaryOperator, declared.tree.expression.BinaryOperator.TheVariants.Add, Tree.{Expression, Statement, empty}}
-use Rattle.sharc_names.specs.Kinds.{Kind}
-use Rattle.sharc_ctype.specs.{Expressions.{class_of, binary_result}, Resolved.{Resolution, kind_at}}
-use Rattle.sharc_mode.specs.Moded.{Assignment}
-use Rattle.sharc_ask.specs.{declared.state.RunEnd.RunEnd, StepView.{Known, Ends, EndsAs, Does, DoesAs}, View.{logic_of, binary_by}}
-use Rattle.sharc_ask.specs.declared.state.RunEnd.TheVariants as ends
-use Rattle.sharc_meaning.specs.{Arithmetic.bits_of, Expressions.{Calls, binary_value}, State.{State, Outcome, Out, over, Run, then_on, ◌>>=◌, enters}, Statements.exec}
-use Rattle.sharc_ask.proofs.OwnSteps.{over_same}
+use Rattle.sharc_ask.proofs.{Imports.{◌≡◌, [], ◌∷◌, Err, refl, ap, ◌∙◌, ℤ, Site, BinaryOperator, Add, Expression, Statement, empty, Kind, class_of, binary_result, Resolution, kind_at, Assignment, RunEnd, Known, Ends, EndsAs, Does, DoesAs, logic_of, binary_by, bits_of, Calls, binary_value, State, Outcome, Out, over, Run, then_on, ◌>>=◌, enters, exec}, OwnSteps.over_same}
 
 -- ---- what stops where it is entered
 
@@ -17,11 +8,11 @@ exec_over on_call m kind (empty x) s t o h = rw h refl
 exec_over on_call m kind _ s t o h = rw h refl
 
 pub ends_same : {A B : Type 0} (e : RunEnd) (k : Known) (a : Out A) (b : Out B) → ((o : Outcome) (t : State) → a ≡ over o t → b ≡ over o t) → Ends {A = A} (Err e) k a → Ends {A = B} (Err e) k b
-ends_same ends.Memory k a b same h = tt
+ends_same RunEnd.Memory k a b same h = tt
 ends_same j k a b same h = over_same j k a b same h
 
 pub ends_as_same : {A B C : Type 0} (v : B → C) (e : RunEnd) (k : Known) (a : Out A) (b : Out C) → ((o : Outcome) (t : State) → a ≡ over o t → b ≡ over o t) → Ends {A = A} (Err e) k a → EndsAs v (Err e) k b
-ends_as_same v ends.Memory k a b same h = tt
+ends_as_same v RunEnd.Memory k a b same h = tt
 ends_as_same v j k a b same h = over_same j k a b same h
 
 -- a step that is over, and with it what it begins
@@ -33,7 +24,7 @@ pub over_then_as : {A B C : Type 0} (u : C → B) (k k1 : Known) (e : RunEnd) (m
 over_then_as u k k1 e m f h = λ s is. ends_as_same u e k1 (m s) (then_on (m s) f) (λ o t is_over. ap (λ z. then_on z f) is_over) (h s is)
 
 pub plainly_over : {B C : Type 0} (u : C → B) (k k1 : Known) (e : RunEnd) (m : Run B) → DoesAs u k (Err e) k1 m → Does {A = B} k (Err e) k1 m
-plainly_over u k k1 ends.Memory m h = λ s is. tt
+plainly_over u k k1 RunEnd.Memory m h = λ s is. tt
 plainly_over u k k1 _ m h = λ s is. h s is
 
 -- ---- variables that end with a run

@@ -1,7 +1,5 @@
 -- A variable's place among those of its frame.
-use Rattle.std.proofs.Common.{◌≡◌, ℕ, suc, ◌+◌, ◌<◌, Bool, true, false, cond, List, [], ◌∷◌, refl, sym, ap, subst, ◌∙◌, arith, length, slice_index_or, slice_set}
-use Rattle.std.specs.Prelude.{ℤ, ◌==◌}
-use Rattle.sharc_meaning.specs.{declared.variable.Variable.Variable, State.with_value}
+use Rattle.sharc_ask.proofs.Imports.{◌≡◌, ℕ, suc, ◌+◌, ◌<◌, Bool, true, false, cond, List, [], ◌∷◌, refl, sym, ap, subst, ◌∙◌, arith, length, slice_index_or, slice_set, ℤ, ◌==◌, Variable, with_value}
 use Rattle.sharc_ask.specs.StepView.{place_of}
 
 abbrev pub valued : ℤ → Variable → Variable

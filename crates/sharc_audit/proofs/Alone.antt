@@ -1,11 +1,5 @@
 -- A text is one event line at most.
-use Rattle.std.proofs.{Common.{◌≡◌, inl, inr, ℕ, suc, ◌<◌, ◌≤◌, ◌^◌, Bool, cond, false, List, [], ◌∷◌, ◌++◌, length, drop, refl, ap, sym, subst, ◌∙◌, arith}, lemmas.Bool.{or_from, or_parts, ltb-true}}
-use Rattle.std.specs.{Prelude.{ℤ, pos, negsuc, nat_eq, decimal, codes}, List.list_any, Str.bytes_eq}
-use Rattle.sharc_tree.specs.{declared.event.CellAt.CellAt, declared.event.Object.Object, declared.event.Object.TheVariants.{Global, Made}}
-use Rattle.sharc_meaning.specs.Reference.{reference}
-use Rattle.sharc_audit.specs.{declared.line.EventLine.EventLine, declared.line.LineAct.LineAct, Grammar.{Text, read_on, IsNumber, thread_most, IsObject, IsPair, IsSigned, Behind, Both, HasCell, HasValue, HasReference, IsThread, IsFunctionName, IsAct, IsEventLine, AreEventLines}}
-use Rattle.sharc_audit.specs.declared.line.LineAct.TheVariants as line
-use Rattle.sharc_audit.proofs.{Numerals.{value_back, decimal_free_above, one_cut, no_cut}, Parts.{held_small, digits_no_minus, object_free}, Blanks.{cell_blank, value_blank, name_blank, number_blank}}
+use Rattle.sharc_audit.proofs.{Imports.{◌≡◌, inl, inr, ℕ, suc, ◌<◌, ◌≤◌, ◌^◌, Bool, cond, false, List, [], ◌∷◌, ◌++◌, length, drop, refl, ap, sym, subst, ◌∙◌, arith, or_from, or_parts, ltb-true, ℤ, pos, negsuc, nat_eq, decimal, codes, list_any, bytes_eq, CellAt, Object, Global, Made, reference, EventLine, LineAct, Text, read_on, IsNumber, thread_most, IsObject, IsPair, IsSigned, Behind, Both, HasCell, HasValue, HasReference, IsThread, IsFunctionName, IsAct, IsEventLine, AreEventLines}, Numerals.{value_back, decimal_free_above, one_cut, no_cut}, Parts.{held_small, digits_no_minus, object_free}, Blanks.{cell_blank, value_blank, name_blank, number_blank}}
 
 -- ---- numbers, cells and values
 
@@ -104,47 +98,47 @@ abbrev no_cell : CellAt
 no_cell = record { object = Global 0; cell = 0 }
 
 abbrev word_of : LineAct → Text
-word_of (line.Read c v) = codes "read"
-word_of (line.Write c v) = codes "write"
-word_of (line.New r) = codes "new"
-word_of (line.Take r) = codes "take"
-word_of (line.Give r) = codes "give"
-word_of (line.Freed r) = codes "freed"
-word_of (line.Lock c) = codes "lock"
-word_of (line.Unlock c) = codes "unlock"
-word_of (line.Spawn name v n) = codes "spawn"
-word_of (line.Started v) = codes "started"
-word_of (line.Join n) = codes "join"
-word_of (line.Print v) = codes "print"
-word_of line.Return = codes "return"
-word_of line.Gone = codes "gone"
+word_of (LineAct.Read c v) = codes "read"
+word_of (LineAct.Write c v) = codes "write"
+word_of (LineAct.New r) = codes "new"
+word_of (LineAct.Take r) = codes "take"
+word_of (LineAct.Give r) = codes "give"
+word_of (LineAct.Freed r) = codes "freed"
+word_of (LineAct.Lock c) = codes "lock"
+word_of (LineAct.Unlock c) = codes "unlock"
+word_of (LineAct.Spawn name v n) = codes "spawn"
+word_of (LineAct.Started v) = codes "started"
+word_of (LineAct.Join n) = codes "join"
+word_of (LineAct.Print v) = codes "print"
+word_of LineAct.Return = codes "return"
+word_of LineAct.Gone = codes "gone"
 
 abbrev cell_of : LineAct → CellAt
-cell_of (line.Read c v) = c
-cell_of (line.Write c v) = c
-cell_of (line.Lock c) = c
-cell_of (line.Unlock c) = c
+cell_of (LineAct.Read c v) = c
+cell_of (LineAct.Write c v) = c
+cell_of (LineAct.Lock c) = c
+cell_of (LineAct.Unlock c) = c
 cell_of _ = no_cell
 
 abbrev value_of : LineAct → ℤ
-value_of (line.Read c v) = v
-value_of (line.Write c v) = v
-value_of (line.New r) = r
-value_of (line.Take r) = r
-value_of (line.Give r) = r
-value_of (line.Freed r) = r
-value_of (line.Spawn name v n) = v
-value_of (line.Started v) = v
-value_of (line.Join n) = n
-value_of (line.Print v) = v
+value_of (LineAct.Read c v) = v
+value_of (LineAct.Write c v) = v
+value_of (LineAct.New r) = r
+value_of (LineAct.Take r) = r
+value_of (LineAct.Give r) = r
+value_of (LineAct.Freed r) = r
+value_of (LineAct.Spawn name v n) = v
+value_of (LineAct.Started v) = v
+value_of (LineAct.Join n) = n
+value_of (LineAct.Print v) = v
 value_of _ = pos 0
 
 abbrev name_of : LineAct → Text
-name_of (line.Spawn name v n) = name
+name_of (LineAct.Spawn name v n) = name
 name_of _ = []
 
 abbrev number_of : LineAct → ℤ
-number_of (line.Spawn name v n) = n
+number_of (LineAct.Spawn name v n) = n
 number_of _ = pos 0
 
 -- the shape of the word's act, and that act of these parts
@@ -159,26 +153,26 @@ shape_of w =
 
 abbrev made_of : Text → CellAt → ℤ → Text → ℤ → LineAct
 made_of w c v name n =
-    cond (is_word (codes "read") w) (line.Read c v) (cond (is_word (codes "write") w) (line.Write c v) (cond (is_word (codes "new") w) (line.New v) (cond (is_word (codes "take") w) (line.Take v)
-    (cond (is_word (codes "give") w) (line.Give v) (cond (is_word (codes "freed") w) (line.Freed v) (cond (is_word (codes "lock") w) (line.Lock c) (cond (is_word (codes "unlock") w) (line.Unlock c)
-    (cond (is_word (codes "spawn") w) (line.Spawn name v n) (cond (is_word (codes "started") w) (line.Started v) (cond (is_word (codes "join") w) (line.Join v) (cond (is_word (codes "print") w) (line.Print v)
-    (cond (is_word (codes "return") w) line.Return line.Gone))))))))))))
+    cond (is_word (codes "read") w) (LineAct.Read c v) (cond (is_word (codes "write") w) (LineAct.Write c v) (cond (is_word (codes "new") w) (LineAct.New v) (cond (is_word (codes "take") w) (LineAct.Take v)
+    (cond (is_word (codes "give") w) (LineAct.Give v) (cond (is_word (codes "freed") w) (LineAct.Freed v) (cond (is_word (codes "lock") w) (LineAct.Lock c) (cond (is_word (codes "unlock") w) (LineAct.Unlock c)
+    (cond (is_word (codes "spawn") w) (LineAct.Spawn name v n) (cond (is_word (codes "started") w) (LineAct.Started v) (cond (is_word (codes "join") w) (LineAct.Join v) (cond (is_word (codes "print") w) (LineAct.Print v)
+    (cond (is_word (codes "return") w) LineAct.Return LineAct.Gone))))))))))))
 
 made_again : (a : LineAct) → made_of (word_of a) (cell_of a) (value_of a) (name_of a) (number_of a) ≡ a
-made_again (line.Read c v) = refl
-made_again (line.Write c v) = refl
-made_again (line.New r) = refl
-made_again (line.Take r) = refl
-made_again (line.Give r) = refl
-made_again (line.Freed r) = refl
-made_again (line.Lock c) = refl
-made_again (line.Unlock c) = refl
-made_again (line.Spawn name v n) = refl
-made_again (line.Started v) = refl
-made_again (line.Join n) = refl
-made_again (line.Print v) = refl
-made_again line.Return = refl
-made_again line.Gone = refl
+made_again (LineAct.Read c v) = refl
+made_again (LineAct.Write c v) = refl
+made_again (LineAct.New r) = refl
+made_again (LineAct.Take r) = refl
+made_again (LineAct.Give r) = refl
+made_again (LineAct.Freed r) = refl
+made_again (LineAct.Lock c) = refl
+made_again (LineAct.Unlock c) = refl
+made_again (LineAct.Spawn name v n) = refl
+made_again (LineAct.Started v) = refl
+made_again (LineAct.Join n) = refl
+made_again (LineAct.Print v) = refl
+made_again LineAct.Return = refl
+made_again LineAct.Gone = refl
 
 -- what the text after the word says
 abbrev Says : Shape → CellAt → ℤ → Text → ℤ → Text → Type 0
@@ -261,20 +255,20 @@ abbrev AsParts : LineAct → Text → Type 0
 AsParts a text = Spelt (word_of a) text (Says (shape_of (word_of a)) (cell_of a) (value_of a) (name_of a) (number_of a))
 
 parts_of_act : (a : LineAct) (text : Text) → IsAct a text → AsParts a text
-parts_of_act (line.Read c v) text h = behind_spelt (codes "read") (Both (HasCell c) (HasValue v)) _ text refl (λ t p. (p, refl, refl)) h
-parts_of_act (line.Write c v) text h = behind_spelt (codes "write") (Both (HasCell c) (HasValue v)) _ text refl (λ t p. (p, refl, refl)) h
-parts_of_act (line.New r) text h = behind_spelt (codes "new") (HasReference r) _ text refl (λ t p. (p, refl, refl, refl)) h
-parts_of_act (line.Take r) text h = behind_spelt (codes "take") (HasReference r) _ text refl (λ t p. (p, refl, refl, refl)) h
-parts_of_act (line.Give r) text h = behind_spelt (codes "give") (HasReference r) _ text refl (λ t p. (p, refl, refl, refl)) h
-parts_of_act (line.Freed r) text h = behind_spelt (codes "freed") (HasReference r) _ text refl (λ t p. (p, refl, refl, refl)) h
-parts_of_act (line.Lock c) text h = behind_spelt (codes "lock") (HasCell c) _ text refl (λ t p. (p, refl, refl, refl)) h
-parts_of_act (line.Unlock c) text h = behind_spelt (codes "unlock") (HasCell c) _ text refl (λ t p. (p, refl, refl, refl)) h
-parts_of_act (line.Spawn name v n) text h = behind_spelt (codes "spawn") (Both (IsFunctionName name) (Both (HasValue v) (IsThread n))) _ text refl (λ t p. (p, refl)) h
-parts_of_act (line.Started v) text h = behind_spelt (codes "started") (HasValue v) _ text refl (λ t p. (p, refl, refl, refl)) h
-parts_of_act (line.Join n) text h = behind_spelt (codes "join") (IsThread n) _ text refl (λ t p. (p, refl, refl, refl)) h
-parts_of_act (line.Print v) text h = behind_spelt (codes "print") (HasValue v) _ text refl (λ t p. (p, refl, refl, refl)) h
-parts_of_act line.Return text h = record { word = ap first_word h ∙ word_alone (codes "return") refl; rest = (refl, refl, refl, refl) }
-parts_of_act line.Gone text h = record { word = ap first_word h ∙ word_alone (codes "gone") refl; rest = (refl, refl, refl, refl) }
+parts_of_act (LineAct.Read c v) text h = behind_spelt (codes "read") (Both (HasCell c) (HasValue v)) _ text refl (λ t p. (p, refl, refl)) h
+parts_of_act (LineAct.Write c v) text h = behind_spelt (codes "write") (Both (HasCell c) (HasValue v)) _ text refl (λ t p. (p, refl, refl)) h
+parts_of_act (LineAct.New r) text h = behind_spelt (codes "new") (HasReference r) _ text refl (λ t p. (p, refl, refl, refl)) h
+parts_of_act (LineAct.Take r) text h = behind_spelt (codes "take") (HasReference r) _ text refl (λ t p. (p, refl, refl, refl)) h
+parts_of_act (LineAct.Give r) text h = behind_spelt (codes "give") (HasReference r) _ text refl (λ t p. (p, refl, refl, refl)) h
+parts_of_act (LineAct.Freed r) text h = behind_spelt (codes "freed") (HasReference r) _ text refl (λ t p. (p, refl, refl, refl)) h
+parts_of_act (LineAct.Lock c) text h = behind_spelt (codes "lock") (HasCell c) _ text refl (λ t p. (p, refl, refl, refl)) h
+parts_of_act (LineAct.Unlock c) text h = behind_spelt (codes "unlock") (HasCell c) _ text refl (λ t p. (p, refl, refl, refl)) h
+parts_of_act (LineAct.Spawn name v n) text h = behind_spelt (codes "spawn") (Both (IsFunctionName name) (Both (HasValue v) (IsThread n))) _ text refl (λ t p. (p, refl)) h
+parts_of_act (LineAct.Started v) text h = behind_spelt (codes "started") (HasValue v) _ text refl (λ t p. (p, refl, refl, refl)) h
+parts_of_act (LineAct.Join n) text h = behind_spelt (codes "join") (IsThread n) _ text refl (λ t p. (p, refl, refl, refl)) h
+parts_of_act (LineAct.Print v) text h = behind_spelt (codes "print") (HasValue v) _ text refl (λ t p. (p, refl, refl, refl)) h
+parts_of_act LineAct.Return text h = record { word = ap first_word h ∙ word_alone (codes "return") refl; rest = (refl, refl, refl, refl) }
+parts_of_act LineAct.Gone text h = record { word = ap first_word h ∙ word_alone (codes "gone") refl; rest = (refl, refl, refl, refl) }
 
 one_act : (a b : LineAct) (text : Text) → IsAct a text → IsAct b text → a ≡ b
 one_act a b text h k =

@@ -1,14 +1,5 @@
 -- What is computed of a line is what its thread asks for.
-use Rattle.std.proofs.Common.{◌≡◌, ◌⊎◌, inl, inr, ℕ, true, false, List, [], ◌∷◌, ◌++◌, length, map, Option, Some, None, refl, ap, sym, subst, ◌∙◌, append-nil}
-use Rattle.std.specs.Prelude.{ℤ, pos, if◌then◌else◌}
-use Rattle.sharc_tree.specs.{declared.event.Act.Act, declared.event.Taken.TheVariants.{Cell, Local}, declared.event.SourceEvent.SourceEvent, Tree.Function}
-use Rattle.sharc_tree.specs.declared.event.Act.TheVariants as acts
-use Rattle.sharc_ctype.specs.Resolved.{Resolution, function_at}
-use Rattle.sharc_mode.specs.Moded.{Assignment}
-use Rattle.sharc_meaning.specs.{Events.events_of, Laws.{AskLaws, IsAnswer, Starts, IsNext, AskedFor}, Meaning.{Asked, asks}, Runs.{by, answers_of, IsNamedAt, Follows, SourceRunWith}, Store.LegalStore}
-use Rattle.sharc_audit.specs.{declared.line.EventLine.EventLine, declared.line.LineAct.LineAct, declared.threads.NextEvent.TheVariants.{Wants, Spent, Nothing}, Asked.IsSpent, Judging.{entry, has_begun, start_at, start_of, is_spent, next_in, next_of, own_answers, next_told, next_asked}, Lines.{spawned_by, written, IsLine, told_by, told}, Mains.OneMain}
-use Rattle.sharc_audit.proofs.{Telling.{NextBy, comes, lacks, nothing, next_by, at_mapped}, Entries.{entry_by_right, right_by_entry, events_begun, own_told, follows_begun, follows_entry}}
-use Rattle.sharc_lemmas.proofs.Lists.{map_length, map_both}
+use Rattle.sharc_audit.proofs.{Imports.{◌≡◌, ◌⊎◌, inl, inr, ℕ, true, false, List, [], ◌∷◌, ◌++◌, length, map, Option, Some, None, refl, ap, sym, subst, ◌∙◌, append-nil, ℤ, pos, if◌then◌else◌, Act, Cell, Local, SourceEvent, Function, Resolution, function_at, Assignment, events_of, AskLaws, IsAnswer, Starts, IsNext, AskedFor, Asked, asks, by, answers_of, IsNamedAt, Follows, SourceRunWith, LegalStore, EventLine, LineAct, Wants, Spent, Nothing, IsSpent, entry, has_begun, start_at, start_of, is_spent, next_in, next_of, own_answers, next_told, next_asked, spawned_by, written, IsLine, told_by, told, OneMain, map_length, map_both}, Telling.{NextBy, comes, lacks, nothing, next_by, at_mapped}, Entries.{entry_by_right, right_by_entry, events_begun, own_told, follows_begun, follows_entry}}
 
 -- ---- what a line reports is what its event answers
 
@@ -21,25 +12,25 @@ spawn_told None v answer k h = absurd (cc)
 spawn_told (Some f) v answer k h = sym (ap told_in h)
 
 by_act : (r : Resolution) (a : Act) (x answer : ℤ) (k : LineAct) → written r a answer ≡ Some k → IsAnswer a x answer → told_by k ≡ answer
-by_act r (acts.Read c mode) x answer k h i = sym (ap told_in h)
-by_act r (acts.Write c mode v) x answer k h i = sym (ap told_in h) ∙ sym i
-by_act r (acts.New cells elements mode) x answer k h i = sym (ap told_in h)
-by_act r (acts.Take (Cell c mode) kind) x answer k h i = sym (ap told_in h)
-by_act r (acts.Take (Local token) kind) x answer k h i = sym (ap told_in h)
-by_act r (acts.Give reference mode) x answer k h i = sym (ap told_in h) ∙ sym i
-by_act r (acts.Freed reference) x answer k h i = sym (ap told_in h) ∙ sym i
-by_act r (acts.Lock c) x answer k h i = sym (ap told_in h) ∙ sym i
-by_act r (acts.Unlock c) x answer k h i = sym (ap told_in h) ∙ sym i
-by_act r (acts.Spawn f v) x answer k h i = spawn_told (function_at r f) v answer k h
-by_act r (acts.Started v) x answer k h i = sym (ap told_in h) ∙ sym i
-by_act r (acts.Join v) x answer k h i = sym (ap told_in h) ∙ sym i
-by_act r (acts.Print v) x answer k h i = sym (ap told_in h) ∙ sym i
-by_act r acts.Return x answer k h i = sym (ap told_in h) ∙ sym i
-by_act r acts.Gone x answer k h i = sym (ap told_in h) ∙ sym i
-by_act r (acts.Enter c) x answer k h i = absurd (cc)
-by_act r (acts.Woken c) x answer k h i = absurd (cc)
-by_act r (acts.Signal c) x answer k h i = absurd (cc)
-by_act r (acts.Broadcast c) x answer k h i = absurd (cc)
+by_act r (Act.Read c mode) x answer k h i = sym (ap told_in h)
+by_act r (Act.Write c mode v) x answer k h i = sym (ap told_in h) ∙ sym i
+by_act r (Act.New cells elements mode) x answer k h i = sym (ap told_in h)
+by_act r (Act.Take (Cell c mode) kind) x answer k h i = sym (ap told_in h)
+by_act r (Act.Take (Local token) kind) x answer k h i = sym (ap told_in h)
+by_act r (Act.Give reference mode) x answer k h i = sym (ap told_in h) ∙ sym i
+by_act r (Act.Freed reference) x answer k h i = sym (ap told_in h) ∙ sym i
+by_act r (Act.Lock c) x answer k h i = sym (ap told_in h) ∙ sym i
+by_act r (Act.Unlock c) x answer k h i = sym (ap told_in h) ∙ sym i
+by_act r (Act.Spawn f v) x answer k h i = spawn_told (function_at r f) v answer k h
+by_act r (Act.Started v) x answer k h i = sym (ap told_in h) ∙ sym i
+by_act r (Act.Join v) x answer k h i = sym (ap told_in h) ∙ sym i
+by_act r (Act.Print v) x answer k h i = sym (ap told_in h) ∙ sym i
+by_act r Act.Return x answer k h i = sym (ap told_in h) ∙ sym i
+by_act r Act.Gone x answer k h i = sym (ap told_in h) ∙ sym i
+by_act r (Act.Enter c) x answer k h i = absurd (cc)
+by_act r (Act.Woken c) x answer k h i = absurd (cc)
+by_act r (Act.Signal c) x answer k h i = absurd (cc)
+by_act r (Act.Broadcast c) x answer k h i = absurd (cc)
 
 pub told_is : (r : Resolution) (l : EventLine) (e : SourceEvent) (x : ℤ) → IsLine r l e → IsAnswer e.act x e.answer → told l ≡ e.answer
 told_is r l e x h i = by_act r e.act x e.answer l.act h.act i
@@ -102,7 +93,7 @@ module _ (laws : AskLaws) (m : Assignment) (one_main : OneMain m.typed) (fuel : 
       by_function : (o : Option Function) → function_at m.typed f ≡ o → start_at t v o ≡ Wants e → (t ≡ e.thread) × AskedFor m fuel R e
       by_function None j h = absurd (cc)
       by_function (Some d) j h =
-          let is : record { thread = t; site = d.name.site; answer = pos 0; act = acts.Started v } ≡ e = cc in
+          let is : record { thread = t; site = d.name.site; answer = pos 0; act = Act.Started v } ≡ e = cc in
           subst (λ z. (t ≡ z.thread) × AskedFor m fuel R z) is (
             refl,
             inl (record {
@@ -151,8 +142,8 @@ module _ (laws : AskLaws) (m : Assignment) (one_main : OneMain m.typed) (fuel : 
       by_function : (o : Option Function) → IsNamedAt o e.site → start_at e.thread s.argument o ≡ Wants e
       by_function None h = absurd (h)
       by_function (Some d) h =
-          ap (λ z. Wants (record { thread = e.thread; site = z; answer = pos 0; act = acts.Started s.argument })) (sym h)
-          ∙ ap (λ z. Wants (record { thread = e.thread; site = e.site; answer = z; act = acts.Started s.argument })) (sym s.answer)
+          ap (λ z. Wants (record { thread = e.thread; site = z; answer = pos 0; act = Act.Started s.argument })) (sym h)
+          ∙ ap (λ z. Wants (record { thread = e.thread; site = e.site; answer = z; act = Act.Started s.argument })) (sym s.answer)
           ∙ ap (λ z. Wants (record { thread = e.thread; site = e.site; answer = e.answer; act = z })) (sym s.act)
 
   next_asked_for : (e : SourceEvent) (n : IsNext m fuel R e) → next_told m fuel R e.thread e.answer ≡ Wants e

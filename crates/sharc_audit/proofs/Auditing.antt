@@ -1,15 +1,5 @@
 -- Verdicts.
-use Rattle.std.proofs.{Common.{◌≡◌, ◌⊎◌, inl, inr, ℕ, zero, suc, ◌-◌, ◌<◌, ◌≤◌, ◌==◌, cond, true, false, List, [], ◌∷◌, ◌++◌, length, length-drop, take, drop, Option, Some, None, refl, ap, sym, subst, ◌∙◌, arith, append_assoc}, lemmas.Bool.cases_order}
-use Rattle.std.specs.Prelude.{slice_get, slice_index_or}
-use Rattle.sharc_tree.specs.declared.event.SourceEvent.{SourceEvent}
-use Rattle.sharc_ctype.specs.Resolved.{Resolution}
-use Rattle.sharc_mode.specs.Moded.{Assignment}
-use Rattle.sharc_meaning.specs.{Laws.{AskLaws, StoreLaws, RunLaws, AskedFor}, Obeys.{Obeys, until_return}, Runs.SourceRunWith, Store.{MayCome, LegalStore}}
-use Rattle.sharc_judge.specs.{declared.rule.Rule.Rule, declared.rule.Rule.TheVariants.{Live, OneMode, Owner, NotWritten, UnderItsLock, ReadSharedOrOneThread}, Judged.{Holds, number}, Laws.RuleLaws, declared.pair.Until.TheVariants.Return, Kept.IsLowestAt}
-use Rattle.sharc_audit.specs.{declared.audit.EventFault.EventFault, declared.audit.Verdict.Verdict, declared.line.EventLine.EventLine, declared.threads.NextEvent.NextEvent, declared.threads.NextEvent.TheVariants.{Wants, Spent, Nothing}, Asked.IsSpent, Audited.{Accepted, IsFirstRefused, IsAsked, IsNotLegal, IsAgainst, FailsBy, Refused, Audits}, Breaking.IsFault, Judging.next_asked, Lines.{IsLine, AreLines, told}, Mains.OneMain, Known.AreKnown}
-use Rattle.sharc_audit.specs.declared.audit.EventFault.TheVariants as fault
-use Rattle.sharc_audit.specs.declared.audit.Verdict.TheVariants as verdict
-use Rattle.sharc_audit.proofs.{Answering.{told_asked, asked_is, computed_asked, spent_is, is_spent_at}, Breaking.{obeys_more, lowest_broken_last, broken_is}}
+use Rattle.sharc_audit.proofs.{Imports.{◌≡◌, ◌⊎◌, inl, inr, ℕ, zero, suc, ◌-◌, ◌<◌, ◌≤◌, ◌==◌, cond, true, false, List, [], ◌∷◌, ◌++◌, length, length-drop, take, drop, Option, Some, None, refl, ap, sym, subst, ◌∙◌, arith, append_assoc, cases_order, slice_get, slice_index_or, SourceEvent, Resolution, Assignment, AskLaws, StoreLaws, RunLaws, AskedFor, Obeys, until_return, SourceRunWith, MayCome, LegalStore, Rule, Live, OneMode, Owner, NotWritten, UnderItsLock, ReadSharedOrOneThread, Holds, number, RuleLaws, Return, IsLowestAt, EventFault, Verdict, EventLine, NextEvent, Wants, Spent, Nothing, IsSpent, Accepted, IsFirstRefused, IsAsked, IsNotLegal, IsAgainst, FailsBy, Refused, Audits, IsFault, next_asked, IsLine, AreLines, told, OneMain, AreKnown}, Answering.{told_asked, asked_is, computed_asked, spent_is, is_spent_at}, Breaking.{obeys_more, lowest_broken_last, broken_is}}
 
 -- ---- rules
 
@@ -170,7 +160,7 @@ module _ (ask : AskLaws) (store : StoreLaws) (runs : RunLaws) (rules : RuleLaws)
     same_next e d next line asked = let z : Wants e ≡ Wants d = sym next ∙ asked_is ask m one fuel R s.run.legal l d line asked in cc
 
     -- a fault that was found
-    pub says_spent : (n : ℕ) → n ≡ suc place → Next_is Spent → Audits m fuel lines (verdict.Fuel n)
+    pub says_spent : (n : ℕ) → n ≡ suc place → Next_is Spent → Audits m fuel lines (Verdict.Fuel n)
     says_spent n count next = (
       record {
         place = place;
@@ -181,7 +171,7 @@ module _ (ask : AskLaws) (store : StoreLaws) (runs : RunLaws) (rules : RuleLaws)
       is_spent_at ask m one fuel R s.run.legal l.thread (told l) s.run next,
     )
 
-    pub says_nothing : (n : ℕ) → n ≡ suc place → Next_is Nothing → Audits m fuel lines (verdict.Fails n fault.NotAsked)
+    pub says_nothing : (n : ℕ) → n ≡ suc place → Next_is Nothing → Audits m fuel lines (Verdict.Fails n EventFault.NotAsked)
     says_nothing n count next = (
       record {
         place = place;
@@ -198,7 +188,7 @@ module _ (ask : AskLaws) (store : StoreLaws) (runs : RunLaws) (rules : RuleLaws)
         none : (e : SourceEvent) → IsLine m.typed l e → AskedFor m fuel R e → ⊥
         none e line asked = let z : Nothing ≡ Wants e = sym next ∙ asked_is ask m one fuel R s.run.legal l e line asked in absurd (cc)
 
-    pub says_other : (n : ℕ) (e : SourceEvent) → n ≡ suc place → Next_is (Wants e) → (IsLine m.typed l e → ⊥) → Audits m fuel lines (verdict.Fails n fault.NotAsked)
+    pub says_other : (n : ℕ) (e : SourceEvent) → n ≡ suc place → Next_is (Wants e) → (IsLine m.typed l e → ⊥) → Audits m fuel lines (Verdict.Fails n EventFault.NotAsked)
     says_other n e count next other = (
       record {
         place = place;
@@ -215,7 +205,7 @@ module _ (ask : AskLaws) (store : StoreLaws) (runs : RunLaws) (rules : RuleLaws)
         none : (d : SourceEvent) → IsLine m.typed l d → AskedFor m fuel R d → ⊥
         none d line asked = other (subst (IsLine m.typed l) (sym (same_next e d next line asked)) line)
 
-    pub says_illegal : (n : ℕ) (e : SourceEvent) → n ≡ suc place → Next_is (Wants e) → IsLine m.typed l e → (MayCome m.typed R e e.act → ⊥) → Audits m fuel lines (verdict.Fails n fault.NotLegal)
+    pub says_illegal : (n : ℕ) (e : SourceEvent) → n ≡ suc place → Next_is (Wants e) → IsLine m.typed l e → (MayCome m.typed R e e.act → ⊥) → Audits m fuel lines (Verdict.Fails n EventFault.NotLegal)
     says_illegal n e count next line illegal = (
       record {
         place = place;
@@ -226,7 +216,7 @@ module _ (ask : AskLaws) (store : StoreLaws) (runs : RunLaws) (rules : RuleLaws)
       record { asked = is_asked_by e next line; illegal = illegal },
     )
 
-    pub says_against : (n : ℕ) (e : SourceEvent) (rule : Rule) → n ≡ suc place → Next_is (Wants e) → IsLine m.typed l e → MayCome m.typed R e e.act → IsLowestAt R e (Some rule) → Audits m fuel lines (verdict.Fails n (fault.Rule rule))
+    pub says_against : (n : ℕ) (e : SourceEvent) (rule : Rule) → n ≡ suc place → Next_is (Wants e) → IsLine m.typed l e → MayCome m.typed R e e.act → IsLowestAt R e (Some rule) → Audits m fuel lines (Verdict.Fails n (EventFault.Rule rule))
     says_against n e rule count next line may lowest = (
       record {
         place = place;
@@ -237,10 +227,10 @@ module _ (ask : AskLaws) (store : StoreLaws) (runs : RunLaws) (rules : RuleLaws)
       record { asked = is_asked_by e next line; legal = may; lowest = lowest_broken_last rules R e rule s.obeys lowest },
     )
 
-    pub says_fault : (n : ℕ) (e : SourceEvent) (why : EventFault) → n ≡ suc place → Next_is (Wants e) → IsLine m.typed l e → IsFault m R e why → Audits m fuel lines (verdict.Fails n why)
-    says_fault n e fault.NotAsked count next line f = absurd (f)
-    says_fault n e fault.NotLegal count next line f = says_illegal n e count next line f
-    says_fault n e (fault.Rule rule) count next line f = says_against n e rule count next line f.legal f.lowest
+    pub says_fault : (n : ℕ) (e : SourceEvent) (why : EventFault) → n ≡ suc place → Next_is (Wants e) → IsLine m.typed l e → IsFault m R e why → Audits m fuel lines (Verdict.Fails n why)
+    says_fault n e EventFault.NotAsked count next line f = absurd (f)
+    says_fault n e EventFault.NotLegal count next line f = says_illegal n e count next line f
+    says_fault n e (EventFault.Rule rule) count next line f = says_against n e rule count next line f.legal f.lowest
 
     pub told_so : (e : SourceEvent) → Next_is (Wants e) → IsLine m.typed l e → told l ≡ e.answer
     told_so e next line = told_asked ask m one fuel R s.run.legal l e line (computed_asked ask m one fuel R s.run.legal s.run l e next line)
@@ -294,21 +284,21 @@ module _ (ask : AskLaws) (store : StoreLaws) (runs : RunLaws) (rules : RuleLaws)
 
     one_reason : (v w : Option EventFault) → Said R l v → Said R l w → v ≡ w
     one_reason None None a b = refl
-    one_reason None (Some fault.NotAsked) a b = absurd (b.unspent a)
-    one_reason None (Some fault.NotLegal) a b = absurd (spent_or_asked a b.asked)
-    one_reason None (Some (fault.Rule d)) a b = absurd (spent_or_asked a b.asked)
-    one_reason (Some fault.NotAsked) None a b = absurd (a.unspent b)
-    one_reason (Some fault.NotAsked) (Some fault.NotAsked) a b = refl
-    one_reason (Some fault.NotAsked) (Some fault.NotLegal) a b = absurd (a.none b.asked)
-    one_reason (Some fault.NotAsked) (Some (fault.Rule d)) a b = absurd (a.none b.asked)
-    one_reason (Some fault.NotLegal) None a b = absurd (spent_or_asked b a.asked)
-    one_reason (Some fault.NotLegal) (Some fault.NotAsked) a b = absurd (b.none a.asked)
-    one_reason (Some fault.NotLegal) (Some fault.NotLegal) a b = refl
-    one_reason (Some fault.NotLegal) (Some (fault.Rule d)) a b = absurd (illegal_or_not a d b)
-    one_reason (Some (fault.Rule c)) None a b = absurd (spent_or_asked b a.asked)
-    one_reason (Some (fault.Rule c)) (Some fault.NotAsked) a b = absurd (b.none a.asked)
-    one_reason (Some (fault.Rule c)) (Some fault.NotLegal) a b = absurd (illegal_or_not b c a)
-    one_reason (Some (fault.Rule c)) (Some (fault.Rule d)) a b = ap (λ z. Some (fault.Rule z)) (one_rule c d a b)
+    one_reason None (Some EventFault.NotAsked) a b = absurd (b.unspent a)
+    one_reason None (Some EventFault.NotLegal) a b = absurd (spent_or_asked a b.asked)
+    one_reason None (Some (EventFault.Rule d)) a b = absurd (spent_or_asked a b.asked)
+    one_reason (Some EventFault.NotAsked) None a b = absurd (a.unspent b)
+    one_reason (Some EventFault.NotAsked) (Some EventFault.NotAsked) a b = refl
+    one_reason (Some EventFault.NotAsked) (Some EventFault.NotLegal) a b = absurd (a.none b.asked)
+    one_reason (Some EventFault.NotAsked) (Some (EventFault.Rule d)) a b = absurd (a.none b.asked)
+    one_reason (Some EventFault.NotLegal) None a b = absurd (spent_or_asked b a.asked)
+    one_reason (Some EventFault.NotLegal) (Some EventFault.NotAsked) a b = absurd (b.none a.asked)
+    one_reason (Some EventFault.NotLegal) (Some EventFault.NotLegal) a b = refl
+    one_reason (Some EventFault.NotLegal) (Some (EventFault.Rule d)) a b = absurd (illegal_or_not a d b)
+    one_reason (Some (EventFault.Rule c)) None a b = absurd (spent_or_asked b a.asked)
+    one_reason (Some (EventFault.Rule c)) (Some EventFault.NotAsked) a b = absurd (b.none a.asked)
+    one_reason (Some (EventFault.Rule c)) (Some EventFault.NotLegal) a b = absurd (illegal_or_not b c a)
+    one_reason (Some (EventFault.Rule c)) (Some (EventFault.Rule d)) a b = ap (λ z. Some (EventFault.Rule z)) (one_rule c d a b)
 
   said_there : (lines : List EventLine) (i j : ℕ) (k l : EventLine) (R S : List SourceEvent) (v w : Option EventFault) → i ≡ j → Here lines i k R → Here lines j l S → Said R k v → Said S l w → v ≡ w
   said_there lines i j k l R S v w same a b p q =
@@ -328,16 +318,16 @@ module _ (ask : AskLaws) (store : StoreLaws) (runs : RunLaws) (rules : RuleLaws)
       )
 
   pub one_verdict : (lines : List EventLine) (v w : Verdict) → Audits m fuel lines v → Audits m fuel lines w → v ≡ w
-  one_verdict lines (verdict.Obeys n) (verdict.Obeys k) a b = ap verdict.Obeys (a.0 ∙ sym b.0)
-  one_verdict lines (verdict.Obeys n) (verdict.Fails k why) a b = absurd (all_or_refused lines k a.1 b.0)
-  one_verdict lines (verdict.Obeys n) (verdict.Fuel k) a b = absurd (all_or_refused lines k a.1 b.0)
-  one_verdict lines (verdict.Fails n why) (verdict.Obeys k) a b = absurd (all_or_refused lines n b.1 a.0)
-  one_verdict lines (verdict.Fuel n) (verdict.Obeys k) a b = absurd (all_or_refused lines n b.1 a.0)
-  one_verdict lines (verdict.Fails n why) (verdict.Fails k other) a b = let h = two_refused lines n k a.0 b.0 (Some why) (Some other) a.1 b.1 in
-      let s : why ≡ other = let z = h.1 in cc in ap (λ z. verdict.Fails z why) h.0 ∙ ap (verdict.Fails k) s
-  one_verdict lines (verdict.Fails n why) (verdict.Fuel k) a b = let h = two_refused lines n k a.0 b.0 (Some why) None a.1 b.1 in let z = h.1 in absurd (cc)
-  one_verdict lines (verdict.Fuel n) (verdict.Fails k why) a b = let h = two_refused lines n k a.0 b.0 None (Some why) a.1 b.1 in let z = h.1 in absurd (cc)
-  one_verdict lines (verdict.Fuel n) (verdict.Fuel k) a b = let h = two_refused lines n k a.0 b.0 None None a.1 b.1 in ap verdict.Fuel h.0
+  one_verdict lines (Verdict.Obeys n) (Verdict.Obeys k) a b = ap Verdict.Obeys (a.0 ∙ sym b.0)
+  one_verdict lines (Verdict.Obeys n) (Verdict.Fails k why) a b = absurd (all_or_refused lines k a.1 b.0)
+  one_verdict lines (Verdict.Obeys n) (Verdict.Fuel k) a b = absurd (all_or_refused lines k a.1 b.0)
+  one_verdict lines (Verdict.Fails n why) (Verdict.Obeys k) a b = absurd (all_or_refused lines n b.1 a.0)
+  one_verdict lines (Verdict.Fuel n) (Verdict.Obeys k) a b = absurd (all_or_refused lines n b.1 a.0)
+  one_verdict lines (Verdict.Fails n why) (Verdict.Fails k other) a b = let h = two_refused lines n k a.0 b.0 (Some why) (Some other) a.1 b.1 in
+      let s : why ≡ other = let z = h.1 in cc in ap (λ z. Verdict.Fails z why) h.0 ∙ ap (Verdict.Fails k) s
+  one_verdict lines (Verdict.Fails n why) (Verdict.Fuel k) a b = let h = two_refused lines n k a.0 b.0 (Some why) None a.1 b.1 in let z = h.1 in absurd (cc)
+  one_verdict lines (Verdict.Fuel n) (Verdict.Fails k why) a b = let h = two_refused lines n k a.0 b.0 None (Some why) a.1 b.1 in let z = h.1 in absurd (cc)
+  one_verdict lines (Verdict.Fuel n) (Verdict.Fuel k) a b = let h = two_refused lines n k a.0 b.0 None None a.1 b.1 in ap Verdict.Fuel h.0
 
 -- ---- no line
 

@@ -1,10 +1,5 @@
 -- Lines of events, by their parts.
-use Rattle.std.proofs.{Common.{◌≡◌, inl, inr, ℕ, ◌<◌, ◌^◌, true, false, [], ◌∷◌, ◌++◌, ◌||◌, suc, refl, ap, sym, subst, ◌∙◌, arith}, lemmas.Slice.Eq.bytes_eq-Decides, lemmas.Bool.{or_from, or_parts, and_parts, eqb-true, ltb-true, false≢true}}
-use Rattle.std.specs.{Prelude.{Option, Some, None, MatchOption, ℤ, pos, negsuc, nat_eq, decimal, codes, Bool}, List.{list_any, list_all}, Str.bytes_eq}
-use Rattle.sharc_tree.specs.{declared.event.CellAt.CellAt, declared.event.Object.Object, declared.event.Object.TheVariants.{Global, Made}}
-use Rattle.sharc_audit.specs.{declared.line.EventLine.EventLine, declared.line.LineAct.LineAct, Grammar.{Text, IsCut, IsNumber, thread_most, IsObject, IsPair, IsSigned, is_letter, is_digit, Behind, Both, HasCell, HasValue, HasReference, IsThread, IsFunctionName, IsPlain, IsAct, IsEventLine}}
-use Rattle.sharc_audit.specs.declared.line.LineAct.TheVariants as line
-use Rattle.sharc_audit.proofs.{Numerals.{decimal_free, parts_of, no_cut}, Parts.held_small}
+use Rattle.sharc_audit.proofs.{Imports.{◌≡◌, inl, inr, ℕ, ◌<◌, ◌^◌, true, false, [], ◌∷◌, ◌++◌, ◌||◌, suc, refl, ap, sym, subst, ◌∙◌, arith, bytes_eq-Decides, or_from, or_parts, and_parts, eqb-true, ltb-true, false≢true, Option, Some, None, MatchOption, ℤ, pos, negsuc, nat_eq, decimal, codes, Bool, list_any, list_all, bytes_eq, CellAt, Object, Global, Made, EventLine, LineAct, Text, IsCut, IsNumber, thread_most, IsObject, IsPair, IsSigned, is_letter, is_digit, Behind, Both, HasCell, HasValue, HasReference, IsThread, IsFunctionName, IsPlain, IsAct, IsEventLine}, Numerals.{decimal_free, parts_of, no_cut}, Parts.held_small}
 
 free_append : (x : ℕ) (a b : Text) → list_any (nat_eq x) a ≡ false → list_any (nat_eq x) b ≡ false → list_any (nat_eq x) (a ++ b) ≡ false
 free_append x [] b p q = q
@@ -69,217 +64,217 @@ differ : (a b : Text) → bytes_eq a b ≡ false → a ≡ b → ⊥
 differ a b d e = false≢true (sym d ∙ (bytes_eq-Decides a b).1 e)
 
 pub none_read : (kind text : Text) → kind ≡ codes "read" → ((c : CellAt) (v : ℤ) → Both (HasCell c) (HasValue v) text → ⊥) → (a : LineAct) → IsPlain kind a text → ⊥
-none_read kind text e none (line.Read c v) h = none c v h.1
-none_read kind text e none (line.Write c v) h = differ (codes "read") (codes "write") refl (sym e ∙ h.0)
-none_read kind text e none (line.New r) h = differ (codes "read") (codes "new") refl (sym e ∙ h.0)
-none_read kind text e none (line.Take r) h = differ (codes "read") (codes "take") refl (sym e ∙ h.0)
-none_read kind text e none (line.Give r) h = differ (codes "read") (codes "give") refl (sym e ∙ h.0)
-none_read kind text e none (line.Freed r) h = differ (codes "read") (codes "freed") refl (sym e ∙ h.0)
-none_read kind text e none (line.Lock c) h = differ (codes "read") (codes "lock") refl (sym e ∙ h.0)
-none_read kind text e none (line.Unlock c) h = differ (codes "read") (codes "unlock") refl (sym e ∙ h.0)
-none_read kind text e none (line.Spawn name v n) h = h
-none_read kind text e none (line.Started v) h = differ (codes "read") (codes "started") refl (sym e ∙ h.0)
-none_read kind text e none (line.Join n) h = differ (codes "read") (codes "join") refl (sym e ∙ h.0)
-none_read kind text e none (line.Print v) h = differ (codes "read") (codes "print") refl (sym e ∙ h.0)
-none_read kind text e none line.Return h = h
-none_read kind text e none line.Gone h = h
+none_read kind text e none (LineAct.Read c v) h = none c v h.1
+none_read kind text e none (LineAct.Write c v) h = differ (codes "read") (codes "write") refl (sym e ∙ h.0)
+none_read kind text e none (LineAct.New r) h = differ (codes "read") (codes "new") refl (sym e ∙ h.0)
+none_read kind text e none (LineAct.Take r) h = differ (codes "read") (codes "take") refl (sym e ∙ h.0)
+none_read kind text e none (LineAct.Give r) h = differ (codes "read") (codes "give") refl (sym e ∙ h.0)
+none_read kind text e none (LineAct.Freed r) h = differ (codes "read") (codes "freed") refl (sym e ∙ h.0)
+none_read kind text e none (LineAct.Lock c) h = differ (codes "read") (codes "lock") refl (sym e ∙ h.0)
+none_read kind text e none (LineAct.Unlock c) h = differ (codes "read") (codes "unlock") refl (sym e ∙ h.0)
+none_read kind text e none (LineAct.Spawn name v n) h = h
+none_read kind text e none (LineAct.Started v) h = differ (codes "read") (codes "started") refl (sym e ∙ h.0)
+none_read kind text e none (LineAct.Join n) h = differ (codes "read") (codes "join") refl (sym e ∙ h.0)
+none_read kind text e none (LineAct.Print v) h = differ (codes "read") (codes "print") refl (sym e ∙ h.0)
+none_read kind text e none LineAct.Return h = h
+none_read kind text e none LineAct.Gone h = h
 
 pub none_write : (kind text : Text) → kind ≡ codes "write" → ((c : CellAt) (v : ℤ) → Both (HasCell c) (HasValue v) text → ⊥) → (a : LineAct) → IsPlain kind a text → ⊥
-none_write kind text e none (line.Read c v) h = differ (codes "write") (codes "read") refl (sym e ∙ h.0)
-none_write kind text e none (line.Write c v) h = none c v h.1
-none_write kind text e none (line.New r) h = differ (codes "write") (codes "new") refl (sym e ∙ h.0)
-none_write kind text e none (line.Take r) h = differ (codes "write") (codes "take") refl (sym e ∙ h.0)
-none_write kind text e none (line.Give r) h = differ (codes "write") (codes "give") refl (sym e ∙ h.0)
-none_write kind text e none (line.Freed r) h = differ (codes "write") (codes "freed") refl (sym e ∙ h.0)
-none_write kind text e none (line.Lock c) h = differ (codes "write") (codes "lock") refl (sym e ∙ h.0)
-none_write kind text e none (line.Unlock c) h = differ (codes "write") (codes "unlock") refl (sym e ∙ h.0)
-none_write kind text e none (line.Spawn name v n) h = h
-none_write kind text e none (line.Started v) h = differ (codes "write") (codes "started") refl (sym e ∙ h.0)
-none_write kind text e none (line.Join n) h = differ (codes "write") (codes "join") refl (sym e ∙ h.0)
-none_write kind text e none (line.Print v) h = differ (codes "write") (codes "print") refl (sym e ∙ h.0)
-none_write kind text e none line.Return h = h
-none_write kind text e none line.Gone h = h
+none_write kind text e none (LineAct.Read c v) h = differ (codes "write") (codes "read") refl (sym e ∙ h.0)
+none_write kind text e none (LineAct.Write c v) h = none c v h.1
+none_write kind text e none (LineAct.New r) h = differ (codes "write") (codes "new") refl (sym e ∙ h.0)
+none_write kind text e none (LineAct.Take r) h = differ (codes "write") (codes "take") refl (sym e ∙ h.0)
+none_write kind text e none (LineAct.Give r) h = differ (codes "write") (codes "give") refl (sym e ∙ h.0)
+none_write kind text e none (LineAct.Freed r) h = differ (codes "write") (codes "freed") refl (sym e ∙ h.0)
+none_write kind text e none (LineAct.Lock c) h = differ (codes "write") (codes "lock") refl (sym e ∙ h.0)
+none_write kind text e none (LineAct.Unlock c) h = differ (codes "write") (codes "unlock") refl (sym e ∙ h.0)
+none_write kind text e none (LineAct.Spawn name v n) h = h
+none_write kind text e none (LineAct.Started v) h = differ (codes "write") (codes "started") refl (sym e ∙ h.0)
+none_write kind text e none (LineAct.Join n) h = differ (codes "write") (codes "join") refl (sym e ∙ h.0)
+none_write kind text e none (LineAct.Print v) h = differ (codes "write") (codes "print") refl (sym e ∙ h.0)
+none_write kind text e none LineAct.Return h = h
+none_write kind text e none LineAct.Gone h = h
 
 pub none_new : (kind text : Text) → kind ≡ codes "new" → ((r : ℤ) → HasReference r text → ⊥) → (a : LineAct) → IsPlain kind a text → ⊥
-none_new kind text e none (line.Read c v) h = differ (codes "new") (codes "read") refl (sym e ∙ h.0)
-none_new kind text e none (line.Write c v) h = differ (codes "new") (codes "write") refl (sym e ∙ h.0)
-none_new kind text e none (line.New r) h = none r h.1
-none_new kind text e none (line.Take r) h = differ (codes "new") (codes "take") refl (sym e ∙ h.0)
-none_new kind text e none (line.Give r) h = differ (codes "new") (codes "give") refl (sym e ∙ h.0)
-none_new kind text e none (line.Freed r) h = differ (codes "new") (codes "freed") refl (sym e ∙ h.0)
-none_new kind text e none (line.Lock c) h = differ (codes "new") (codes "lock") refl (sym e ∙ h.0)
-none_new kind text e none (line.Unlock c) h = differ (codes "new") (codes "unlock") refl (sym e ∙ h.0)
-none_new kind text e none (line.Spawn name v n) h = h
-none_new kind text e none (line.Started v) h = differ (codes "new") (codes "started") refl (sym e ∙ h.0)
-none_new kind text e none (line.Join n) h = differ (codes "new") (codes "join") refl (sym e ∙ h.0)
-none_new kind text e none (line.Print v) h = differ (codes "new") (codes "print") refl (sym e ∙ h.0)
-none_new kind text e none line.Return h = h
-none_new kind text e none line.Gone h = h
+none_new kind text e none (LineAct.Read c v) h = differ (codes "new") (codes "read") refl (sym e ∙ h.0)
+none_new kind text e none (LineAct.Write c v) h = differ (codes "new") (codes "write") refl (sym e ∙ h.0)
+none_new kind text e none (LineAct.New r) h = none r h.1
+none_new kind text e none (LineAct.Take r) h = differ (codes "new") (codes "take") refl (sym e ∙ h.0)
+none_new kind text e none (LineAct.Give r) h = differ (codes "new") (codes "give") refl (sym e ∙ h.0)
+none_new kind text e none (LineAct.Freed r) h = differ (codes "new") (codes "freed") refl (sym e ∙ h.0)
+none_new kind text e none (LineAct.Lock c) h = differ (codes "new") (codes "lock") refl (sym e ∙ h.0)
+none_new kind text e none (LineAct.Unlock c) h = differ (codes "new") (codes "unlock") refl (sym e ∙ h.0)
+none_new kind text e none (LineAct.Spawn name v n) h = h
+none_new kind text e none (LineAct.Started v) h = differ (codes "new") (codes "started") refl (sym e ∙ h.0)
+none_new kind text e none (LineAct.Join n) h = differ (codes "new") (codes "join") refl (sym e ∙ h.0)
+none_new kind text e none (LineAct.Print v) h = differ (codes "new") (codes "print") refl (sym e ∙ h.0)
+none_new kind text e none LineAct.Return h = h
+none_new kind text e none LineAct.Gone h = h
 
 pub none_take : (kind text : Text) → kind ≡ codes "take" → ((r : ℤ) → HasReference r text → ⊥) → (a : LineAct) → IsPlain kind a text → ⊥
-none_take kind text e none (line.Read c v) h = differ (codes "take") (codes "read") refl (sym e ∙ h.0)
-none_take kind text e none (line.Write c v) h = differ (codes "take") (codes "write") refl (sym e ∙ h.0)
-none_take kind text e none (line.New r) h = differ (codes "take") (codes "new") refl (sym e ∙ h.0)
-none_take kind text e none (line.Take r) h = none r h.1
-none_take kind text e none (line.Give r) h = differ (codes "take") (codes "give") refl (sym e ∙ h.0)
-none_take kind text e none (line.Freed r) h = differ (codes "take") (codes "freed") refl (sym e ∙ h.0)
-none_take kind text e none (line.Lock c) h = differ (codes "take") (codes "lock") refl (sym e ∙ h.0)
-none_take kind text e none (line.Unlock c) h = differ (codes "take") (codes "unlock") refl (sym e ∙ h.0)
-none_take kind text e none (line.Spawn name v n) h = h
-none_take kind text e none (line.Started v) h = differ (codes "take") (codes "started") refl (sym e ∙ h.0)
-none_take kind text e none (line.Join n) h = differ (codes "take") (codes "join") refl (sym e ∙ h.0)
-none_take kind text e none (line.Print v) h = differ (codes "take") (codes "print") refl (sym e ∙ h.0)
-none_take kind text e none line.Return h = h
-none_take kind text e none line.Gone h = h
+none_take kind text e none (LineAct.Read c v) h = differ (codes "take") (codes "read") refl (sym e ∙ h.0)
+none_take kind text e none (LineAct.Write c v) h = differ (codes "take") (codes "write") refl (sym e ∙ h.0)
+none_take kind text e none (LineAct.New r) h = differ (codes "take") (codes "new") refl (sym e ∙ h.0)
+none_take kind text e none (LineAct.Take r) h = none r h.1
+none_take kind text e none (LineAct.Give r) h = differ (codes "take") (codes "give") refl (sym e ∙ h.0)
+none_take kind text e none (LineAct.Freed r) h = differ (codes "take") (codes "freed") refl (sym e ∙ h.0)
+none_take kind text e none (LineAct.Lock c) h = differ (codes "take") (codes "lock") refl (sym e ∙ h.0)
+none_take kind text e none (LineAct.Unlock c) h = differ (codes "take") (codes "unlock") refl (sym e ∙ h.0)
+none_take kind text e none (LineAct.Spawn name v n) h = h
+none_take kind text e none (LineAct.Started v) h = differ (codes "take") (codes "started") refl (sym e ∙ h.0)
+none_take kind text e none (LineAct.Join n) h = differ (codes "take") (codes "join") refl (sym e ∙ h.0)
+none_take kind text e none (LineAct.Print v) h = differ (codes "take") (codes "print") refl (sym e ∙ h.0)
+none_take kind text e none LineAct.Return h = h
+none_take kind text e none LineAct.Gone h = h
 
 pub none_give : (kind text : Text) → kind ≡ codes "give" → ((r : ℤ) → HasReference r text → ⊥) → (a : LineAct) → IsPlain kind a text → ⊥
-none_give kind text e none (line.Read c v) h = differ (codes "give") (codes "read") refl (sym e ∙ h.0)
-none_give kind text e none (line.Write c v) h = differ (codes "give") (codes "write") refl (sym e ∙ h.0)
-none_give kind text e none (line.New r) h = differ (codes "give") (codes "new") refl (sym e ∙ h.0)
-none_give kind text e none (line.Take r) h = differ (codes "give") (codes "take") refl (sym e ∙ h.0)
-none_give kind text e none (line.Give r) h = none r h.1
-none_give kind text e none (line.Freed r) h = differ (codes "give") (codes "freed") refl (sym e ∙ h.0)
-none_give kind text e none (line.Lock c) h = differ (codes "give") (codes "lock") refl (sym e ∙ h.0)
-none_give kind text e none (line.Unlock c) h = differ (codes "give") (codes "unlock") refl (sym e ∙ h.0)
-none_give kind text e none (line.Spawn name v n) h = h
-none_give kind text e none (line.Started v) h = differ (codes "give") (codes "started") refl (sym e ∙ h.0)
-none_give kind text e none (line.Join n) h = differ (codes "give") (codes "join") refl (sym e ∙ h.0)
-none_give kind text e none (line.Print v) h = differ (codes "give") (codes "print") refl (sym e ∙ h.0)
-none_give kind text e none line.Return h = h
-none_give kind text e none line.Gone h = h
+none_give kind text e none (LineAct.Read c v) h = differ (codes "give") (codes "read") refl (sym e ∙ h.0)
+none_give kind text e none (LineAct.Write c v) h = differ (codes "give") (codes "write") refl (sym e ∙ h.0)
+none_give kind text e none (LineAct.New r) h = differ (codes "give") (codes "new") refl (sym e ∙ h.0)
+none_give kind text e none (LineAct.Take r) h = differ (codes "give") (codes "take") refl (sym e ∙ h.0)
+none_give kind text e none (LineAct.Give r) h = none r h.1
+none_give kind text e none (LineAct.Freed r) h = differ (codes "give") (codes "freed") refl (sym e ∙ h.0)
+none_give kind text e none (LineAct.Lock c) h = differ (codes "give") (codes "lock") refl (sym e ∙ h.0)
+none_give kind text e none (LineAct.Unlock c) h = differ (codes "give") (codes "unlock") refl (sym e ∙ h.0)
+none_give kind text e none (LineAct.Spawn name v n) h = h
+none_give kind text e none (LineAct.Started v) h = differ (codes "give") (codes "started") refl (sym e ∙ h.0)
+none_give kind text e none (LineAct.Join n) h = differ (codes "give") (codes "join") refl (sym e ∙ h.0)
+none_give kind text e none (LineAct.Print v) h = differ (codes "give") (codes "print") refl (sym e ∙ h.0)
+none_give kind text e none LineAct.Return h = h
+none_give kind text e none LineAct.Gone h = h
 
 pub none_freed : (kind text : Text) → kind ≡ codes "freed" → ((r : ℤ) → HasReference r text → ⊥) → (a : LineAct) → IsPlain kind a text → ⊥
-none_freed kind text e none (line.Read c v) h = differ (codes "freed") (codes "read") refl (sym e ∙ h.0)
-none_freed kind text e none (line.Write c v) h = differ (codes "freed") (codes "write") refl (sym e ∙ h.0)
-none_freed kind text e none (line.New r) h = differ (codes "freed") (codes "new") refl (sym e ∙ h.0)
-none_freed kind text e none (line.Take r) h = differ (codes "freed") (codes "take") refl (sym e ∙ h.0)
-none_freed kind text e none (line.Give r) h = differ (codes "freed") (codes "give") refl (sym e ∙ h.0)
-none_freed kind text e none (line.Freed r) h = none r h.1
-none_freed kind text e none (line.Lock c) h = differ (codes "freed") (codes "lock") refl (sym e ∙ h.0)
-none_freed kind text e none (line.Unlock c) h = differ (codes "freed") (codes "unlock") refl (sym e ∙ h.0)
-none_freed kind text e none (line.Spawn name v n) h = h
-none_freed kind text e none (line.Started v) h = differ (codes "freed") (codes "started") refl (sym e ∙ h.0)
-none_freed kind text e none (line.Join n) h = differ (codes "freed") (codes "join") refl (sym e ∙ h.0)
-none_freed kind text e none (line.Print v) h = differ (codes "freed") (codes "print") refl (sym e ∙ h.0)
-none_freed kind text e none line.Return h = h
-none_freed kind text e none line.Gone h = h
+none_freed kind text e none (LineAct.Read c v) h = differ (codes "freed") (codes "read") refl (sym e ∙ h.0)
+none_freed kind text e none (LineAct.Write c v) h = differ (codes "freed") (codes "write") refl (sym e ∙ h.0)
+none_freed kind text e none (LineAct.New r) h = differ (codes "freed") (codes "new") refl (sym e ∙ h.0)
+none_freed kind text e none (LineAct.Take r) h = differ (codes "freed") (codes "take") refl (sym e ∙ h.0)
+none_freed kind text e none (LineAct.Give r) h = differ (codes "freed") (codes "give") refl (sym e ∙ h.0)
+none_freed kind text e none (LineAct.Freed r) h = none r h.1
+none_freed kind text e none (LineAct.Lock c) h = differ (codes "freed") (codes "lock") refl (sym e ∙ h.0)
+none_freed kind text e none (LineAct.Unlock c) h = differ (codes "freed") (codes "unlock") refl (sym e ∙ h.0)
+none_freed kind text e none (LineAct.Spawn name v n) h = h
+none_freed kind text e none (LineAct.Started v) h = differ (codes "freed") (codes "started") refl (sym e ∙ h.0)
+none_freed kind text e none (LineAct.Join n) h = differ (codes "freed") (codes "join") refl (sym e ∙ h.0)
+none_freed kind text e none (LineAct.Print v) h = differ (codes "freed") (codes "print") refl (sym e ∙ h.0)
+none_freed kind text e none LineAct.Return h = h
+none_freed kind text e none LineAct.Gone h = h
 
 pub none_lock : (kind text : Text) → kind ≡ codes "lock" → ((c : CellAt) → HasCell c text → ⊥) → (a : LineAct) → IsPlain kind a text → ⊥
-none_lock kind text e none (line.Read c v) h = differ (codes "lock") (codes "read") refl (sym e ∙ h.0)
-none_lock kind text e none (line.Write c v) h = differ (codes "lock") (codes "write") refl (sym e ∙ h.0)
-none_lock kind text e none (line.New r) h = differ (codes "lock") (codes "new") refl (sym e ∙ h.0)
-none_lock kind text e none (line.Take r) h = differ (codes "lock") (codes "take") refl (sym e ∙ h.0)
-none_lock kind text e none (line.Give r) h = differ (codes "lock") (codes "give") refl (sym e ∙ h.0)
-none_lock kind text e none (line.Freed r) h = differ (codes "lock") (codes "freed") refl (sym e ∙ h.0)
-none_lock kind text e none (line.Lock c) h = none c h.1
-none_lock kind text e none (line.Unlock c) h = differ (codes "lock") (codes "unlock") refl (sym e ∙ h.0)
-none_lock kind text e none (line.Spawn name v n) h = h
-none_lock kind text e none (line.Started v) h = differ (codes "lock") (codes "started") refl (sym e ∙ h.0)
-none_lock kind text e none (line.Join n) h = differ (codes "lock") (codes "join") refl (sym e ∙ h.0)
-none_lock kind text e none (line.Print v) h = differ (codes "lock") (codes "print") refl (sym e ∙ h.0)
-none_lock kind text e none line.Return h = h
-none_lock kind text e none line.Gone h = h
+none_lock kind text e none (LineAct.Read c v) h = differ (codes "lock") (codes "read") refl (sym e ∙ h.0)
+none_lock kind text e none (LineAct.Write c v) h = differ (codes "lock") (codes "write") refl (sym e ∙ h.0)
+none_lock kind text e none (LineAct.New r) h = differ (codes "lock") (codes "new") refl (sym e ∙ h.0)
+none_lock kind text e none (LineAct.Take r) h = differ (codes "lock") (codes "take") refl (sym e ∙ h.0)
+none_lock kind text e none (LineAct.Give r) h = differ (codes "lock") (codes "give") refl (sym e ∙ h.0)
+none_lock kind text e none (LineAct.Freed r) h = differ (codes "lock") (codes "freed") refl (sym e ∙ h.0)
+none_lock kind text e none (LineAct.Lock c) h = none c h.1
+none_lock kind text e none (LineAct.Unlock c) h = differ (codes "lock") (codes "unlock") refl (sym e ∙ h.0)
+none_lock kind text e none (LineAct.Spawn name v n) h = h
+none_lock kind text e none (LineAct.Started v) h = differ (codes "lock") (codes "started") refl (sym e ∙ h.0)
+none_lock kind text e none (LineAct.Join n) h = differ (codes "lock") (codes "join") refl (sym e ∙ h.0)
+none_lock kind text e none (LineAct.Print v) h = differ (codes "lock") (codes "print") refl (sym e ∙ h.0)
+none_lock kind text e none LineAct.Return h = h
+none_lock kind text e none LineAct.Gone h = h
 
 pub none_unlock : (kind text : Text) → kind ≡ codes "unlock" → ((c : CellAt) → HasCell c text → ⊥) → (a : LineAct) → IsPlain kind a text → ⊥
-none_unlock kind text e none (line.Read c v) h = differ (codes "unlock") (codes "read") refl (sym e ∙ h.0)
-none_unlock kind text e none (line.Write c v) h = differ (codes "unlock") (codes "write") refl (sym e ∙ h.0)
-none_unlock kind text e none (line.New r) h = differ (codes "unlock") (codes "new") refl (sym e ∙ h.0)
-none_unlock kind text e none (line.Take r) h = differ (codes "unlock") (codes "take") refl (sym e ∙ h.0)
-none_unlock kind text e none (line.Give r) h = differ (codes "unlock") (codes "give") refl (sym e ∙ h.0)
-none_unlock kind text e none (line.Freed r) h = differ (codes "unlock") (codes "freed") refl (sym e ∙ h.0)
-none_unlock kind text e none (line.Lock c) h = differ (codes "unlock") (codes "lock") refl (sym e ∙ h.0)
-none_unlock kind text e none (line.Unlock c) h = none c h.1
-none_unlock kind text e none (line.Spawn name v n) h = h
-none_unlock kind text e none (line.Started v) h = differ (codes "unlock") (codes "started") refl (sym e ∙ h.0)
-none_unlock kind text e none (line.Join n) h = differ (codes "unlock") (codes "join") refl (sym e ∙ h.0)
-none_unlock kind text e none (line.Print v) h = differ (codes "unlock") (codes "print") refl (sym e ∙ h.0)
-none_unlock kind text e none line.Return h = h
-none_unlock kind text e none line.Gone h = h
+none_unlock kind text e none (LineAct.Read c v) h = differ (codes "unlock") (codes "read") refl (sym e ∙ h.0)
+none_unlock kind text e none (LineAct.Write c v) h = differ (codes "unlock") (codes "write") refl (sym e ∙ h.0)
+none_unlock kind text e none (LineAct.New r) h = differ (codes "unlock") (codes "new") refl (sym e ∙ h.0)
+none_unlock kind text e none (LineAct.Take r) h = differ (codes "unlock") (codes "take") refl (sym e ∙ h.0)
+none_unlock kind text e none (LineAct.Give r) h = differ (codes "unlock") (codes "give") refl (sym e ∙ h.0)
+none_unlock kind text e none (LineAct.Freed r) h = differ (codes "unlock") (codes "freed") refl (sym e ∙ h.0)
+none_unlock kind text e none (LineAct.Lock c) h = differ (codes "unlock") (codes "lock") refl (sym e ∙ h.0)
+none_unlock kind text e none (LineAct.Unlock c) h = none c h.1
+none_unlock kind text e none (LineAct.Spawn name v n) h = h
+none_unlock kind text e none (LineAct.Started v) h = differ (codes "unlock") (codes "started") refl (sym e ∙ h.0)
+none_unlock kind text e none (LineAct.Join n) h = differ (codes "unlock") (codes "join") refl (sym e ∙ h.0)
+none_unlock kind text e none (LineAct.Print v) h = differ (codes "unlock") (codes "print") refl (sym e ∙ h.0)
+none_unlock kind text e none LineAct.Return h = h
+none_unlock kind text e none LineAct.Gone h = h
 
 pub none_started : (kind text : Text) → kind ≡ codes "started" → ((v : ℤ) → HasValue v text → ⊥) → (a : LineAct) → IsPlain kind a text → ⊥
-none_started kind text e none (line.Read c v) h = differ (codes "started") (codes "read") refl (sym e ∙ h.0)
-none_started kind text e none (line.Write c v) h = differ (codes "started") (codes "write") refl (sym e ∙ h.0)
-none_started kind text e none (line.New r) h = differ (codes "started") (codes "new") refl (sym e ∙ h.0)
-none_started kind text e none (line.Take r) h = differ (codes "started") (codes "take") refl (sym e ∙ h.0)
-none_started kind text e none (line.Give r) h = differ (codes "started") (codes "give") refl (sym e ∙ h.0)
-none_started kind text e none (line.Freed r) h = differ (codes "started") (codes "freed") refl (sym e ∙ h.0)
-none_started kind text e none (line.Lock c) h = differ (codes "started") (codes "lock") refl (sym e ∙ h.0)
-none_started kind text e none (line.Unlock c) h = differ (codes "started") (codes "unlock") refl (sym e ∙ h.0)
-none_started kind text e none (line.Spawn name v n) h = h
-none_started kind text e none (line.Started v) h = none v h.1
-none_started kind text e none (line.Join n) h = differ (codes "started") (codes "join") refl (sym e ∙ h.0)
-none_started kind text e none (line.Print v) h = differ (codes "started") (codes "print") refl (sym e ∙ h.0)
-none_started kind text e none line.Return h = h
-none_started kind text e none line.Gone h = h
+none_started kind text e none (LineAct.Read c v) h = differ (codes "started") (codes "read") refl (sym e ∙ h.0)
+none_started kind text e none (LineAct.Write c v) h = differ (codes "started") (codes "write") refl (sym e ∙ h.0)
+none_started kind text e none (LineAct.New r) h = differ (codes "started") (codes "new") refl (sym e ∙ h.0)
+none_started kind text e none (LineAct.Take r) h = differ (codes "started") (codes "take") refl (sym e ∙ h.0)
+none_started kind text e none (LineAct.Give r) h = differ (codes "started") (codes "give") refl (sym e ∙ h.0)
+none_started kind text e none (LineAct.Freed r) h = differ (codes "started") (codes "freed") refl (sym e ∙ h.0)
+none_started kind text e none (LineAct.Lock c) h = differ (codes "started") (codes "lock") refl (sym e ∙ h.0)
+none_started kind text e none (LineAct.Unlock c) h = differ (codes "started") (codes "unlock") refl (sym e ∙ h.0)
+none_started kind text e none (LineAct.Spawn name v n) h = h
+none_started kind text e none (LineAct.Started v) h = none v h.1
+none_started kind text e none (LineAct.Join n) h = differ (codes "started") (codes "join") refl (sym e ∙ h.0)
+none_started kind text e none (LineAct.Print v) h = differ (codes "started") (codes "print") refl (sym e ∙ h.0)
+none_started kind text e none LineAct.Return h = h
+none_started kind text e none LineAct.Gone h = h
 
 pub none_print : (kind text : Text) → kind ≡ codes "print" → ((v : ℤ) → HasValue v text → ⊥) → (a : LineAct) → IsPlain kind a text → ⊥
-none_print kind text e none (line.Read c v) h = differ (codes "print") (codes "read") refl (sym e ∙ h.0)
-none_print kind text e none (line.Write c v) h = differ (codes "print") (codes "write") refl (sym e ∙ h.0)
-none_print kind text e none (line.New r) h = differ (codes "print") (codes "new") refl (sym e ∙ h.0)
-none_print kind text e none (line.Take r) h = differ (codes "print") (codes "take") refl (sym e ∙ h.0)
-none_print kind text e none (line.Give r) h = differ (codes "print") (codes "give") refl (sym e ∙ h.0)
-none_print kind text e none (line.Freed r) h = differ (codes "print") (codes "freed") refl (sym e ∙ h.0)
-none_print kind text e none (line.Lock c) h = differ (codes "print") (codes "lock") refl (sym e ∙ h.0)
-none_print kind text e none (line.Unlock c) h = differ (codes "print") (codes "unlock") refl (sym e ∙ h.0)
-none_print kind text e none (line.Spawn name v n) h = h
-none_print kind text e none (line.Started v) h = differ (codes "print") (codes "started") refl (sym e ∙ h.0)
-none_print kind text e none (line.Join n) h = differ (codes "print") (codes "join") refl (sym e ∙ h.0)
-none_print kind text e none (line.Print v) h = none v h.1
-none_print kind text e none line.Return h = h
-none_print kind text e none line.Gone h = h
+none_print kind text e none (LineAct.Read c v) h = differ (codes "print") (codes "read") refl (sym e ∙ h.0)
+none_print kind text e none (LineAct.Write c v) h = differ (codes "print") (codes "write") refl (sym e ∙ h.0)
+none_print kind text e none (LineAct.New r) h = differ (codes "print") (codes "new") refl (sym e ∙ h.0)
+none_print kind text e none (LineAct.Take r) h = differ (codes "print") (codes "take") refl (sym e ∙ h.0)
+none_print kind text e none (LineAct.Give r) h = differ (codes "print") (codes "give") refl (sym e ∙ h.0)
+none_print kind text e none (LineAct.Freed r) h = differ (codes "print") (codes "freed") refl (sym e ∙ h.0)
+none_print kind text e none (LineAct.Lock c) h = differ (codes "print") (codes "lock") refl (sym e ∙ h.0)
+none_print kind text e none (LineAct.Unlock c) h = differ (codes "print") (codes "unlock") refl (sym e ∙ h.0)
+none_print kind text e none (LineAct.Spawn name v n) h = h
+none_print kind text e none (LineAct.Started v) h = differ (codes "print") (codes "started") refl (sym e ∙ h.0)
+none_print kind text e none (LineAct.Join n) h = differ (codes "print") (codes "join") refl (sym e ∙ h.0)
+none_print kind text e none (LineAct.Print v) h = none v h.1
+none_print kind text e none LineAct.Return h = h
+none_print kind text e none LineAct.Gone h = h
 
 -- ---- acts
 
 pub act_of : (text kind rest : Text) → IsCut 32 text kind rest → (a : LineAct) → IsPlain kind a rest → IsAct a text
-act_of text kind rest cut (line.Read c v) h = behind_of (codes "read") (Both (HasCell c) (HasValue v)) text kind rest cut h.0 h.1
-act_of text kind rest cut (line.Write c v) h = behind_of (codes "write") (Both (HasCell c) (HasValue v)) text kind rest cut h.0 h.1
-act_of text kind rest cut (line.New r) h = behind_of (codes "new") (HasReference r) text kind rest cut h.0 h.1
-act_of text kind rest cut (line.Take r) h = behind_of (codes "take") (HasReference r) text kind rest cut h.0 h.1
-act_of text kind rest cut (line.Give r) h = behind_of (codes "give") (HasReference r) text kind rest cut h.0 h.1
-act_of text kind rest cut (line.Freed r) h = behind_of (codes "freed") (HasReference r) text kind rest cut h.0 h.1
-act_of text kind rest cut (line.Lock c) h = behind_of (codes "lock") (HasCell c) text kind rest cut h.0 h.1
-act_of text kind rest cut (line.Unlock c) h = behind_of (codes "unlock") (HasCell c) text kind rest cut h.0 h.1
-act_of text kind rest cut (line.Spawn name v n) h = absurd h
-act_of text kind rest cut (line.Started v) h = behind_of (codes "started") (HasValue v) text kind rest cut h.0 h.1
-act_of text kind rest cut (line.Join n) h = behind_of (codes "join") (IsThread n) text kind rest cut h.0 h.1
-act_of text kind rest cut (line.Print v) h = behind_of (codes "print") (HasValue v) text kind rest cut h.0 h.1
-act_of text kind rest cut line.Return h = absurd h
-act_of text kind rest cut line.Gone h = absurd h
+act_of text kind rest cut (LineAct.Read c v) h = behind_of (codes "read") (Both (HasCell c) (HasValue v)) text kind rest cut h.0 h.1
+act_of text kind rest cut (LineAct.Write c v) h = behind_of (codes "write") (Both (HasCell c) (HasValue v)) text kind rest cut h.0 h.1
+act_of text kind rest cut (LineAct.New r) h = behind_of (codes "new") (HasReference r) text kind rest cut h.0 h.1
+act_of text kind rest cut (LineAct.Take r) h = behind_of (codes "take") (HasReference r) text kind rest cut h.0 h.1
+act_of text kind rest cut (LineAct.Give r) h = behind_of (codes "give") (HasReference r) text kind rest cut h.0 h.1
+act_of text kind rest cut (LineAct.Freed r) h = behind_of (codes "freed") (HasReference r) text kind rest cut h.0 h.1
+act_of text kind rest cut (LineAct.Lock c) h = behind_of (codes "lock") (HasCell c) text kind rest cut h.0 h.1
+act_of text kind rest cut (LineAct.Unlock c) h = behind_of (codes "unlock") (HasCell c) text kind rest cut h.0 h.1
+act_of text kind rest cut (LineAct.Spawn name v n) h = absurd h
+act_of text kind rest cut (LineAct.Started v) h = behind_of (codes "started") (HasValue v) text kind rest cut h.0 h.1
+act_of text kind rest cut (LineAct.Join n) h = behind_of (codes "join") (IsThread n) text kind rest cut h.0 h.1
+act_of text kind rest cut (LineAct.Print v) h = behind_of (codes "print") (HasValue v) text kind rest cut h.0 h.1
+act_of text kind rest cut LineAct.Return h = absurd h
+act_of text kind rest cut LineAct.Gone h = absurd h
 
-pub spawn_of : (text kind rest name : Text) (v n : ℤ) → IsCut 32 text kind rest → kind ≡ codes "spawn" → Both (IsFunctionName name) (Both (HasValue v) (IsThread n)) rest → IsAct (line.Spawn name v n) text
+pub spawn_of : (text kind rest name : Text) (v n : ℤ) → IsCut 32 text kind rest → kind ≡ codes "spawn" → Both (IsFunctionName name) (Both (HasValue v) (IsThread n)) rest → IsAct (LineAct.Spawn name v n) text
 spawn_of text kind rest name v n cut e h = behind_of (codes "spawn") (Both (IsFunctionName name) (Both (HasValue v) (IsThread n))) text kind rest cut e h
 
 pub no_act_spawn : (text kind rest : Text) → (text ≡ codes "return" → ⊥) → (text ≡ codes "gone" → ⊥) → IsCut 32 text kind rest → kind ≡ codes "spawn" → ((name : Text) (v n : ℤ) → Both (IsFunctionName name) (Both (HasValue v) (IsThread n)) rest → ⊥) → (a : LineAct) → IsAct a text → ⊥
-no_act_spawn text kind rest no_return no_gone cut e none (line.Read c v) h = differ (codes "spawn") (codes "read") refl (sym e ∙ (behind_parts (codes "read") (Both (HasCell c) (HasValue v)) text kind rest refl cut h).0)
-no_act_spawn text kind rest no_return no_gone cut e none (line.Write c v) h = differ (codes "spawn") (codes "write") refl (sym e ∙ (behind_parts (codes "write") (Both (HasCell c) (HasValue v)) text kind rest refl cut h).0)
-no_act_spawn text kind rest no_return no_gone cut e none (line.New r) h = differ (codes "spawn") (codes "new") refl (sym e ∙ (behind_parts (codes "new") (HasReference r) text kind rest refl cut h).0)
-no_act_spawn text kind rest no_return no_gone cut e none (line.Take r) h = differ (codes "spawn") (codes "take") refl (sym e ∙ (behind_parts (codes "take") (HasReference r) text kind rest refl cut h).0)
-no_act_spawn text kind rest no_return no_gone cut e none (line.Give r) h = differ (codes "spawn") (codes "give") refl (sym e ∙ (behind_parts (codes "give") (HasReference r) text kind rest refl cut h).0)
-no_act_spawn text kind rest no_return no_gone cut e none (line.Freed r) h = differ (codes "spawn") (codes "freed") refl (sym e ∙ (behind_parts (codes "freed") (HasReference r) text kind rest refl cut h).0)
-no_act_spawn text kind rest no_return no_gone cut e none (line.Lock c) h = differ (codes "spawn") (codes "lock") refl (sym e ∙ (behind_parts (codes "lock") (HasCell c) text kind rest refl cut h).0)
-no_act_spawn text kind rest no_return no_gone cut e none (line.Unlock c) h = differ (codes "spawn") (codes "unlock") refl (sym e ∙ (behind_parts (codes "unlock") (HasCell c) text kind rest refl cut h).0)
-no_act_spawn text kind rest no_return no_gone cut e none (line.Spawn name v n) h = none name v n (behind_parts (codes "spawn") (Both (IsFunctionName name) (Both (HasValue v) (IsThread n))) text kind rest refl cut h).1
-no_act_spawn text kind rest no_return no_gone cut e none (line.Started v) h = differ (codes "spawn") (codes "started") refl (sym e ∙ (behind_parts (codes "started") (HasValue v) text kind rest refl cut h).0)
-no_act_spawn text kind rest no_return no_gone cut e none (line.Join n) h = differ (codes "spawn") (codes "join") refl (sym e ∙ (behind_parts (codes "join") (IsThread n) text kind rest refl cut h).0)
-no_act_spawn text kind rest no_return no_gone cut e none (line.Print v) h = differ (codes "spawn") (codes "print") refl (sym e ∙ (behind_parts (codes "print") (HasValue v) text kind rest refl cut h).0)
-no_act_spawn text kind rest no_return no_gone cut e none line.Return h = no_return h
-no_act_spawn text kind rest no_return no_gone cut e none line.Gone h = no_gone h
+no_act_spawn text kind rest no_return no_gone cut e none (LineAct.Read c v) h = differ (codes "spawn") (codes "read") refl (sym e ∙ (behind_parts (codes "read") (Both (HasCell c) (HasValue v)) text kind rest refl cut h).0)
+no_act_spawn text kind rest no_return no_gone cut e none (LineAct.Write c v) h = differ (codes "spawn") (codes "write") refl (sym e ∙ (behind_parts (codes "write") (Both (HasCell c) (HasValue v)) text kind rest refl cut h).0)
+no_act_spawn text kind rest no_return no_gone cut e none (LineAct.New r) h = differ (codes "spawn") (codes "new") refl (sym e ∙ (behind_parts (codes "new") (HasReference r) text kind rest refl cut h).0)
+no_act_spawn text kind rest no_return no_gone cut e none (LineAct.Take r) h = differ (codes "spawn") (codes "take") refl (sym e ∙ (behind_parts (codes "take") (HasReference r) text kind rest refl cut h).0)
+no_act_spawn text kind rest no_return no_gone cut e none (LineAct.Give r) h = differ (codes "spawn") (codes "give") refl (sym e ∙ (behind_parts (codes "give") (HasReference r) text kind rest refl cut h).0)
+no_act_spawn text kind rest no_return no_gone cut e none (LineAct.Freed r) h = differ (codes "spawn") (codes "freed") refl (sym e ∙ (behind_parts (codes "freed") (HasReference r) text kind rest refl cut h).0)
+no_act_spawn text kind rest no_return no_gone cut e none (LineAct.Lock c) h = differ (codes "spawn") (codes "lock") refl (sym e ∙ (behind_parts (codes "lock") (HasCell c) text kind rest refl cut h).0)
+no_act_spawn text kind rest no_return no_gone cut e none (LineAct.Unlock c) h = differ (codes "spawn") (codes "unlock") refl (sym e ∙ (behind_parts (codes "unlock") (HasCell c) text kind rest refl cut h).0)
+no_act_spawn text kind rest no_return no_gone cut e none (LineAct.Spawn name v n) h = none name v n (behind_parts (codes "spawn") (Both (IsFunctionName name) (Both (HasValue v) (IsThread n))) text kind rest refl cut h).1
+no_act_spawn text kind rest no_return no_gone cut e none (LineAct.Started v) h = differ (codes "spawn") (codes "started") refl (sym e ∙ (behind_parts (codes "started") (HasValue v) text kind rest refl cut h).0)
+no_act_spawn text kind rest no_return no_gone cut e none (LineAct.Join n) h = differ (codes "spawn") (codes "join") refl (sym e ∙ (behind_parts (codes "join") (IsThread n) text kind rest refl cut h).0)
+no_act_spawn text kind rest no_return no_gone cut e none (LineAct.Print v) h = differ (codes "spawn") (codes "print") refl (sym e ∙ (behind_parts (codes "print") (HasValue v) text kind rest refl cut h).0)
+no_act_spawn text kind rest no_return no_gone cut e none LineAct.Return h = no_return h
+no_act_spawn text kind rest no_return no_gone cut e none LineAct.Gone h = no_gone h
 
 pub no_act_plain : (text kind rest : Text) → (text ≡ codes "return" → ⊥) → (text ≡ codes "gone" → ⊥) → IsCut 32 text kind rest → (kind ≡ codes "spawn" → ⊥) → ((a : LineAct) → IsPlain kind a rest → ⊥) → (a : LineAct) → IsAct a text → ⊥
-no_act_plain text kind rest no_return no_gone cut no_spawn none (line.Read c v) h = none (line.Read c v) (behind_parts (codes "read") (Both (HasCell c) (HasValue v)) text kind rest refl cut h)
-no_act_plain text kind rest no_return no_gone cut no_spawn none (line.Write c v) h = none (line.Write c v) (behind_parts (codes "write") (Both (HasCell c) (HasValue v)) text kind rest refl cut h)
-no_act_plain text kind rest no_return no_gone cut no_spawn none (line.New r) h = none (line.New r) (behind_parts (codes "new") (HasReference r) text kind rest refl cut h)
-no_act_plain text kind rest no_return no_gone cut no_spawn none (line.Take r) h = none (line.Take r) (behind_parts (codes "take") (HasReference r) text kind rest refl cut h)
-no_act_plain text kind rest no_return no_gone cut no_spawn none (line.Give r) h = none (line.Give r) (behind_parts (codes "give") (HasReference r) text kind rest refl cut h)
-no_act_plain text kind rest no_return no_gone cut no_spawn none (line.Freed r) h = none (line.Freed r) (behind_parts (codes "freed") (HasReference r) text kind rest refl cut h)
-no_act_plain text kind rest no_return no_gone cut no_spawn none (line.Lock c) h = none (line.Lock c) (behind_parts (codes "lock") (HasCell c) text kind rest refl cut h)
-no_act_plain text kind rest no_return no_gone cut no_spawn none (line.Unlock c) h = none (line.Unlock c) (behind_parts (codes "unlock") (HasCell c) text kind rest refl cut h)
-no_act_plain text kind rest no_return no_gone cut no_spawn none (line.Spawn name v n) h = no_spawn (behind_parts (codes "spawn") (Both (IsFunctionName name) (Both (HasValue v) (IsThread n))) text kind rest refl cut h).0
-no_act_plain text kind rest no_return no_gone cut no_spawn none (line.Started v) h = none (line.Started v) (behind_parts (codes "started") (HasValue v) text kind rest refl cut h)
-no_act_plain text kind rest no_return no_gone cut no_spawn none (line.Join n) h = none (line.Join n) (behind_parts (codes "join") (IsThread n) text kind rest refl cut h)
-no_act_plain text kind rest no_return no_gone cut no_spawn none (line.Print v) h = none (line.Print v) (behind_parts (codes "print") (HasValue v) text kind rest refl cut h)
-no_act_plain text kind rest no_return no_gone cut no_spawn none line.Return h = no_return h
-no_act_plain text kind rest no_return no_gone cut no_spawn none line.Gone h = no_gone h
+no_act_plain text kind rest no_return no_gone cut no_spawn none (LineAct.Read c v) h = none (LineAct.Read c v) (behind_parts (codes "read") (Both (HasCell c) (HasValue v)) text kind rest refl cut h)
+no_act_plain text kind rest no_return no_gone cut no_spawn none (LineAct.Write c v) h = none (LineAct.Write c v) (behind_parts (codes "write") (Both (HasCell c) (HasValue v)) text kind rest refl cut h)
+no_act_plain text kind rest no_return no_gone cut no_spawn none (LineAct.New r) h = none (LineAct.New r) (behind_parts (codes "new") (HasReference r) text kind rest refl cut h)
+no_act_plain text kind rest no_return no_gone cut no_spawn none (LineAct.Take r) h = none (LineAct.Take r) (behind_parts (codes "take") (HasReference r) text kind rest refl cut h)
+no_act_plain text kind rest no_return no_gone cut no_spawn none (LineAct.Give r) h = none (LineAct.Give r) (behind_parts (codes "give") (HasReference r) text kind rest refl cut h)
+no_act_plain text kind rest no_return no_gone cut no_spawn none (LineAct.Freed r) h = none (LineAct.Freed r) (behind_parts (codes "freed") (HasReference r) text kind rest refl cut h)
+no_act_plain text kind rest no_return no_gone cut no_spawn none (LineAct.Lock c) h = none (LineAct.Lock c) (behind_parts (codes "lock") (HasCell c) text kind rest refl cut h)
+no_act_plain text kind rest no_return no_gone cut no_spawn none (LineAct.Unlock c) h = none (LineAct.Unlock c) (behind_parts (codes "unlock") (HasCell c) text kind rest refl cut h)
+no_act_plain text kind rest no_return no_gone cut no_spawn none (LineAct.Spawn name v n) h = no_spawn (behind_parts (codes "spawn") (Both (IsFunctionName name) (Both (HasValue v) (IsThread n))) text kind rest refl cut h).0
+no_act_plain text kind rest no_return no_gone cut no_spawn none (LineAct.Started v) h = none (LineAct.Started v) (behind_parts (codes "started") (HasValue v) text kind rest refl cut h)
+no_act_plain text kind rest no_return no_gone cut no_spawn none (LineAct.Join n) h = none (LineAct.Join n) (behind_parts (codes "join") (IsThread n) text kind rest refl cut h)
+no_act_plain text kind rest no_return no_gone cut no_spawn none (LineAct.Print v) h = none (LineAct.Print v) (behind_parts (codes "print") (HasValue v) text kind rest refl cut h)
+no_act_plain text kind rest no_return no_gone cut no_spawn none LineAct.Return h = no_return h
+no_act_plain text kind rest no_return no_gone cut no_spawn none LineAct.Gone h = no_gone h
 
 pub act_by : (text kind rest : Text) → (text ≡ codes "return" → ⊥) → (text ≡ codes "gone" → ⊥) → IsCut 32 text kind rest → (kind ≡ codes "spawn" → ⊥) → (r : Option LineAct) → MatchOption r ((a : LineAct) → IsPlain kind a rest → ⊥) (λ a. IsPlain kind a rest) → MatchOption r ((a : LineAct) → IsAct a text → ⊥) (λ a. IsAct a text)
 act_by text kind rest no_return no_gone cut no_spawn None h = no_act_plain text kind rest no_return no_gone cut no_spawn h

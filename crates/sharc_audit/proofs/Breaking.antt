@@ -1,8 +1,5 @@
 -- Rules, one event more.
-use Rattle.std.proofs.Common.{◌≡◌, ◌⊎◌, inl, inr, true, false, List, [], ◌∷◌, ◌++◌, Option, Some, None, refl, ap, sym, ◌∙◌}
-use Rattle.sharc_tree.specs.declared.event.SourceEvent.{SourceEvent}
-use Rattle.sharc_meaning.specs.{Events.{Access, access_by, Stands}, Obeys.{Obeys, until_return}}
-use Rattle.sharc_judge.specs.{declared.pair.Until.TheVariants.Return, declared.rule.Rule.Rule, Deciding.{breaks, of_access, breaks_with, breaks_by}, Judged.{Holds, IsLowestBroken}, Laws.{Unbroken, RuleLaws}, Kept.{AreUnbroken, IsLowestAt}}
+use Rattle.sharc_audit.proofs.Imports.{◌≡◌, ◌⊎◌, inl, inr, true, false, List, [], ◌∷◌, ◌++◌, Option, Some, None, refl, ap, sym, ◌∙◌, SourceEvent, Access, access_by, Stands, Obeys, until_return, Return, Rule, breaks, of_access, breaks_with, breaks_by, Holds, IsLowestBroken, Unbroken, RuleLaws, AreUnbroken, IsLowestAt}
 
 -- what is in a list with one more at its end is that one, or is in the list
 pub record InFront (R before : List SourceEvent) (e : SourceEvent) : Type 0 where

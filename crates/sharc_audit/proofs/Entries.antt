@@ -1,14 +1,5 @@
 -- The function and the argument of a thread, after the events of a legal store.
-use Rattle.std.proofs.{Common.{◌≡◌, ◌⊎◌, inl, inr, ℕ, zero, suc, ◌+◌, Bool, true, false, cond, List, [], ◌∷◌, ◌++◌, length, length-append, Option, Some, None, refl, ap, sym, subst, ◌∙◌, arith, append_assoc}, lemmas.Bool.{eq-eqb, eqb-true, ne_eqb, and_parts}}
-use Rattle.std.specs.{Prelude.{ℤ, pos, ◌≢◌, ◌==◌, ◌||◌, ◌&&◌, slice_get, find, drop, slice_index_or, negsuc, Any, codes, IsTrue, if◌then◌else◌}, Str.bytes_eq}
-use Rattle.sharc_tree.specs.{declared.event.Act.Act, declared.event.SourceEvent.SourceEvent, Tree.Function}
-use Rattle.sharc_tree.specs.declared.event.Act.TheVariants as acts
-use Rattle.sharc_ctype.specs.Resolved.{Resolution, function_at, functions_in}
-use Rattle.sharc_mode.specs.Moded.{Assignment}
-use Rattle.sharc_meaning.specs.{Events.{events_of, is_of}, Runs.{answers_of, is_named_main, IsFirst, IsSpawned, Follows}, Store.{spawns, is_natural, was_spawned, is_spawn, IsNewThread, MayCome, LegalStore}}
-use Rattle.sharc_audit.specs.{Judging.{main_from, main_of, with_zero, spawned_with, spawned_by_event, entry, has_begun, own_answers}, Mains.OneMain}
-use Rattle.sharc_audit.proofs.Lists.{events_append}
-use Rattle.sharc_lemmas.proofs.Lists.{find_none}
+use Rattle.sharc_audit.proofs.{Imports.{◌≡◌, ◌⊎◌, inl, inr, ℕ, zero, suc, ◌+◌, Bool, true, false, cond, List, [], ◌∷◌, ◌++◌, length, length-append, Option, Some, None, refl, ap, sym, subst, ◌∙◌, arith, append_assoc, eq-eqb, eqb-true, ne_eqb, and_parts, ℤ, pos, ◌≢◌, ◌==◌, ◌||◌, ◌&&◌, slice_get, find, drop, slice_index_or, negsuc, Any, codes, IsTrue, if◌then◌else◌, bytes_eq, Act, SourceEvent, Function, Resolution, function_at, functions_in, Assignment, events_of, is_of, answers_of, is_named_main, IsFirst, IsSpawned, Follows, spawns, is_natural, was_spawned, is_spawn, IsNewThread, MayCome, LegalStore, main_from, main_of, with_zero, spawned_with, spawned_by_event, entry, has_begun, own_answers, OneMain, find_none}, Lists.events_append}
 
 -- ---- finding
 
@@ -56,7 +47,7 @@ any_placed {A = A} P before x after is = (length before, x, (let l = length-appe
 -- ---- the threads that were spawned
 
 abbrev pub SpawnedBy : ℕ → ℕ → ℤ → SourceEvent → Type 0
-SpawnedBy thread f v e = (e.act ≡ acts.Spawn f v) × (e.answer ≡ pos thread)
+SpawnedBy thread f v e = (e.act ≡ Act.Spawn f v) × (e.answer ≡ pos thread)
 
 spawns_it : (thread f : ℕ) (v : ℤ) (e : SourceEvent) → SpawnedBy thread f v e → spawns thread e ≡ true
 spawns_it thread f v e (a, n) = ap (λ z. is_spawn z && is_natural thread e.answer) a ∙ ap (is_natural thread) n ∙ eq-eqb thread thread refl
@@ -76,25 +67,25 @@ second_of_pair (Some p) = p.1
 pub pair_of_some : (g f : ℕ) (w v : ℤ) → ◌≡◌ {A = Option (ℕ × ℤ)} (Some (g, w)) (Some (f, v)) → (g ≡ f) × (w ≡ v)
 pair_of_some g f w v h = (ap first_of_pair h, ap second_of_pair h)
 
-by_spawn : (a : Act) (f : ℕ) (v : ℤ) → spawned_with a ≡ Some (f, v) → a ≡ acts.Spawn f v
-by_spawn (acts.Spawn g w) f v h = let p = pair_of_some g f w v h in ap (λ z. acts.Spawn z w) p.0 ∙ ap (acts.Spawn f) p.1
-by_spawn (acts.Read c mode) f v h = absurd (cc)
-by_spawn (acts.Write c mode w) f v h = absurd (cc)
-by_spawn (acts.New cells elements mode) f v h = absurd (cc)
-by_spawn (acts.Take taken kind) f v h = absurd (cc)
-by_spawn (acts.Give reference mode) f v h = absurd (cc)
-by_spawn (acts.Freed reference) f v h = absurd (cc)
-by_spawn (acts.Lock c) f v h = absurd (cc)
-by_spawn (acts.Unlock c) f v h = absurd (cc)
-by_spawn (acts.Started w) f v h = absurd (cc)
-by_spawn (acts.Join w) f v h = absurd (cc)
-by_spawn (acts.Print w) f v h = absurd (cc)
-by_spawn acts.Return f v h = absurd (cc)
-by_spawn acts.Gone f v h = absurd (cc)
-by_spawn (acts.Enter c) f v h = absurd (cc)
-by_spawn (acts.Woken c) f v h = absurd (cc)
-by_spawn (acts.Signal c) f v h = absurd (cc)
-by_spawn (acts.Broadcast c) f v h = absurd (cc)
+by_spawn : (a : Act) (f : ℕ) (v : ℤ) → spawned_with a ≡ Some (f, v) → a ≡ Act.Spawn f v
+by_spawn (Act.Spawn g w) f v h = let p = pair_of_some g f w v h in ap (λ z. Act.Spawn z w) p.0 ∙ ap (Act.Spawn f) p.1
+by_spawn (Act.Read c mode) f v h = absurd (cc)
+by_spawn (Act.Write c mode w) f v h = absurd (cc)
+by_spawn (Act.New cells elements mode) f v h = absurd (cc)
+by_spawn (Act.Take taken kind) f v h = absurd (cc)
+by_spawn (Act.Give reference mode) f v h = absurd (cc)
+by_spawn (Act.Freed reference) f v h = absurd (cc)
+by_spawn (Act.Lock c) f v h = absurd (cc)
+by_spawn (Act.Unlock c) f v h = absurd (cc)
+by_spawn (Act.Started w) f v h = absurd (cc)
+by_spawn (Act.Join w) f v h = absurd (cc)
+by_spawn (Act.Print w) f v h = absurd (cc)
+by_spawn Act.Return f v h = absurd (cc)
+by_spawn Act.Gone f v h = absurd (cc)
+by_spawn (Act.Enter c) f v h = absurd (cc)
+by_spawn (Act.Woken c) f v h = absurd (cc)
+by_spawn (Act.Signal c) f v h = absurd (cc)
+by_spawn (Act.Broadcast c) f v h = absurd (cc)
 
 module _ (r : Resolution) (R : List SourceEvent) (legal : LegalStore r R) (thread f : ℕ) (v : ℤ) where
   new_thread : (p : Placed (SpawnedBy thread f v) R) → was_spawned p.before thread ≡ false
@@ -176,7 +167,7 @@ module _ (r : Resolution) (one : OneMain r) (R : List SourceEvent) (legal : Lega
       by_event (Some e) i h =
           let p = found (spawns thread) e R i in
           let parts = and_parts (is_spawn p.element.act) (is_natural thread p.element.answer) p.is.1 in
-          let act : p.element.act ≡ acts.Spawn f v = ap (λ (z : SourceEvent). z.act) p.is.0 ∙ by_spawn e.act f v h in
+          let act : p.element.act ≡ Act.Spawn f v = ap (λ (z : SourceEvent). z.act) p.is.0 ∙ by_spawn e.act f v h in
           record { other = other; spawned = subst (Any (SpawnedBy thread f v)) (sym p.stands) (any_placed (SpawnedBy thread f v) p.before p.element p.after (act, natural_is thread p.element.answer parts.1)) }
 
   pub right_by_entry : entry r R thread ≡ Some (f, v) → IsFirst r thread f v ⊎ IsSpawned R thread f v

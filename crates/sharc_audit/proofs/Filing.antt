@@ -1,10 +1,6 @@
 -- Event files, read line by line.
-use Rattle.std.proofs.{Common.{◌≡◌, inl, inr, ℕ, suc, ◌+◌, ◌-◌, ◌<◌, ◌≤◌, Bool, cond, true, false, List, [], ◌∷◌, ◌++◌, length, length-append, take, drop, All, refl, ap, sym, subst, ◌∙◌, arith, append_assoc}, lemmas.Bool.{or_parts, false≢true}, lemmas.List.Elements.{All-push, All-head, All-tail}}
-use Rattle.std.specs.{Prelude.{Option, Some, None, MatchOption, nat_eq, codes}, List.{list_any, slice_split, join_with_byte, onto_first}}
-use Rattle.sharc_audit.proofs.Numerals.{is_decimal}
-use Rattle.sharc_audit.specs.{declared.line.EventLine.EventLine, declared.file.FileFault.FileFault, Grammar.{Text, IsCut, IsNumber, mark, without_empty_end, text_lines, AreEventLines, IsEventLine, IsEventFile, Continues, IsFirstBad, HasMany}, Files.{IsFirstLine, IsNoHeader, IsHead, IsBadEvent, IsEventsFault, IsFault}}
-use Rattle.sharc_audit.specs.declared.file.FileFault.TheVariants as fault
-use Rattle.sharc_lemmas.proofs.Lists.{length_push}
+use Rattle.sharc_audit.proofs.{Imports.{◌≡◌, inl, inr, ℕ, suc, ◌+◌, ◌-◌, ◌<◌, ◌≤◌, Bool, cond, true, false, List, [], ◌∷◌, ◌++◌, length, length-append, take, drop, All, refl, ap, sym, subst, ◌∙◌, arith, append_assoc, or_parts, false≢true, All-push, All-head, All-tail, Option, Some, None, MatchOption, nat_eq, codes, list_any, slice_split, join_with_byte, onto_first, EventLine, FileFault, Text, IsCut, IsNumber, mark, without_empty_end, text_lines, AreEventLines, IsEventLine, IsEventFile, Continues, IsFirstBad, HasMany, IsFirstLine, IsNoHeader, IsHead, IsBadEvent, IsEventsFault, length_push}, Numerals.is_decimal}
+use Rattle.sharc_audit.specs.Files.{IsFault}
 
 -- ---- a line
 
@@ -313,9 +309,9 @@ no_line text None e h = h
 no_line text (Some k) e h = absurd (let z : Some k ≡ None = e in cc)
 
 pub fault_of : (bytes source : Text) (fuel : ℕ) (behind : Text) (first : ℕ) (f : FileFault) → IsHead bytes source fuel behind first → IsEventsFault 4097 (text_lines behind) first f → IsFault (text_lines bytes) f
-fault_of bytes source fuel behind first (fault.Line n) h b = file_bad bytes source fuel behind first n h b
-fault_of bytes source fuel behind first fault.Many h b = many_of bytes source fuel behind first b.events h b.are (let m = b.many in omega (arith, m))
-fault_of bytes source fuel behind first fault.Memory h b = b
+fault_of bytes source fuel behind first (FileFault.Line n) h b = file_bad bytes source fuel behind first n h b
+fault_of bytes source fuel behind first FileFault.Many h b = many_of bytes source fuel behind first b.events h b.are (let m = b.many in omega (arith, m))
+fault_of bytes source fuel behind first FileFault.Memory h b = b
 
 -- ---- events after those that are audited
 
@@ -328,7 +324,7 @@ are_append (t ∷ a) b (x ∷ l) m h k = (h.0, are_append a b l m h.1 k)
 -- a fault of the rest is one of the whole, which has more events
 pub further_fault : (least : ℕ) (texts : List Text) (rest : Text) (first n : ℕ) (events : List EventLine) (f : FileFault) → Listing texts rest first n events → least ≤ length events → IsEventsFault 0 (text_lines rest) n f
     → IsEventsFault least texts first f
-further_fault least texts rest first n events (fault.Line m) h many b = record {
+further_fault least texts rest first n events (FileFault.Line m) h many b = record {
   passed = h.passed ++ b.passed;
   line = b.line;
   more = b.more;
@@ -338,12 +334,12 @@ further_fault least texts rest first n events (fault.Line m) h many b = record {
   are = are_append h.passed b.passed events b.events h.are b.are;
   bad = b.bad;
 }
-further_fault least texts rest first n events fault.Many h many b = record {
+further_fault least texts rest first n events FileFault.Many h many b = record {
   events = events ++ b.events;
   are = subst (λ z. AreEventLines z (events ++ b.events)) (sym h.parts) (are_append h.passed (text_lines rest) events b.events h.are b.are);
   many = (let k = length-append events b.events in omega (arith, many, k));
 }
-further_fault least texts rest first n events fault.Memory h many b = b
+further_fault least texts rest first n events FileFault.Memory h many b = b
 
 -- lines that are events, whichever these are
 pub record Passed (texts : List Text) (rest : Text) (first n : ℕ) : Type 0 where

@@ -1,10 +1,5 @@
 -- A source run, in which each thread has a fuel of its own, is one with one fuel for all threads.
-use Rattle.std.proofs.Common.{◌≡◌, ◌⊎◌, inl, inr, ℕ, ◌+◌, ◌≤◌, Bool, true, false, cond, List, [], ◌∷◌, ◌++◌, length, length-append, map, refl, ap, sym, subst, ◌∙◌, arith, append-nil, eqb-true}
-use Rattle.std.specs.Prelude.{ℤ}
-use Rattle.sharc_tree.specs.declared.event.SourceEvent.{SourceEvent}
-use Rattle.sharc_mode.specs.Moded.{Assignment}
-use Rattle.sharc_meaning.specs.{Events.{events_of, is_of}, Laws.AskLaws, Meaning.asks, Runs.{by, answers_of, Follows, SourceRun, SourceRunWith}}
-use Rattle.sharc_lemmas.proofs.Lists.{map_length}
+use Rattle.sharc_audit.proofs.Imports.{◌≡◌, ◌⊎◌, inl, inr, ℕ, ◌+◌, ◌≤◌, Bool, true, false, cond, List, [], ◌∷◌, ◌++◌, length, length-append, map, refl, ap, sym, subst, ◌∙◌, arith, append-nil, eqb-true, ℤ, SourceEvent, Assignment, events_of, is_of, AskLaws, asks, by, answers_of, Follows, SourceRun, SourceRunWith, map_length}
 
 none_more : {A : Type 0} (xs ys : List A) → length (xs ++ ys) ≤ length xs → ys ≡ []
 none_more xs [] few = refl

@@ -1,12 +1,5 @@
 -- What is known of threads, one event more.
-use Rattle.std.proofs.{Common.{◌≡◌, ◌⊎◌, inl, inr, ℕ, zero, suc, ◌-◌, ◌<◌, ◌≤◌, Bool, true, false, ◌||◌, cond, List, [], ◌∷◌, ◌++◌, length, map, drop, slice_index_or, Some, Ok, Err, refl, ap, sym, subst, ◌∙◌, arith, append_assoc}, lemmas.Bool.{eq-eqb, eqb-true, or_cases, or_left, or_right}, lemmas.List.Folds.list_any-append}
-use Rattle.std.specs.{Prelude.{ℤ, ◌==◌, Result, OnOk, slice_set, if◌then◌else◌}, List.list_any}
-use Rattle.sharc_tree.specs.declared.event.SourceEvent.{SourceEvent}
-use Rattle.sharc_mode.specs.Moded.{Assignment}
-use Rattle.sharc_meaning.specs.{Events.{events_of, is_of}, Laws.AskLaws, Meaning.asks, Runs.answers_of}
-use Rattle.sharc_audit.specs.{declared.line.EventLine.EventLine, declared.run.ThreadRun.ThreadRun, Judging.{entry, has_begun, start_of, next_in, next_of, own_answers, next_asked}, Known.{IsKnown, EachKnown, AreKnown, IsPlaceOf}, Lines.{told, lines_of, told_to}, Walks.IsWalk}
-use Rattle.sharc_audit.proofs.{Lists.{one_own, one_other}, Entries.{entry_more, begun_events, events_begun}, Telling.ask_once}
-use Rattle.sharc_lemmas.proofs.Lists.{map_length, map_both}
+use Rattle.sharc_audit.proofs.{Imports.{◌≡◌, ◌⊎◌, inl, inr, ℕ, zero, suc, ◌-◌, ◌<◌, ◌≤◌, Bool, true, false, ◌||◌, cond, List, [], ◌∷◌, ◌++◌, length, map, drop, slice_index_or, Some, Ok, Err, refl, ap, sym, subst, ◌∙◌, arith, append_assoc, eq-eqb, eqb-true, or_cases, or_left, or_right, list_any-append, ℤ, ◌==◌, Result, OnOk, slice_set, if◌then◌else◌, list_any, SourceEvent, Assignment, events_of, is_of, AskLaws, asks, answers_of, EventLine, ThreadRun, entry, has_begun, start_of, next_in, next_of, own_answers, next_asked, IsKnown, EachKnown, AreKnown, IsPlaceOf, told, lines_of, told_to, IsWalk, map_length, map_both}, Lists.{one_own, one_other}, Entries.{entry_more, begun_events, events_begun}, Telling.ask_once}
 
 -- ---- lists
 

@@ -1,3 +1,4 @@
+mod Imports
 pub mod Lists
 pub mod Telling
 pub mod Entries

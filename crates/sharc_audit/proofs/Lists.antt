@@ -1,8 +1,5 @@
 -- Lists of events in parts.
-use Rattle.std.proofs.Common.{◌≡◌, ℕ, ◌+◌, ◌<◌, true, false, cond, List, [], ◌∷◌, ◌++◌, refl, ap, sym, ◌∙◌, length, take, slice_index_or, append-nil, add-one, take-suc}
-use Rattle.sharc_tree.specs.declared.event.SourceEvent.{SourceEvent}
-use Rattle.sharc_meaning.specs.Events.{events_of, is_of}
-use Rattle.sharc_lemmas.proofs.Lists.{pick}
+use Rattle.sharc_audit.proofs.Imports.{◌≡◌, ℕ, ◌+◌, ◌<◌, true, false, cond, List, [], ◌∷◌, ◌++◌, refl, ap, sym, ◌∙◌, length, take, slice_index_or, append-nil, add-one, take-suc, SourceEvent, events_of, is_of, pick}
 
 pub take_next : {A : Type 0} (l : List A) (i : ℕ) (a : A) → i < length l → a ≡ slice_index_or l i a → take (i + 1) l ≡ take i l ++ a ∷ []
 take_next l i a h is = rw (add-one) (take-suc l i a h ∙ ap (λ z. take i l ++ z ∷ []) (sym is))

@@ -1,8 +1,5 @@
 -- A text is one event file at most.
-use Rattle.std.proofs.{Common.{◌≡◌, inl, inr, ℕ, suc, ◌<◌, ◌≤◌, List, [], ◌∷◌, ◌++◌, length, take, drop, All, refl, ap, sym, subst, ◌∙◌, arith, append_assoc}, lemmas.List.{take-append-drop, take-take}, lemmas.List.Elements.{All-head, All-tail}}
-use Rattle.std.specs.List.{join_with_byte}
-use Rattle.sharc_audit.specs.{declared.line.EventLine.EventLine, Grammar.{Text, IsNumber, mark, AreEventLines, IsEventFile, Continues, FailsThere, IsFirstBad}, Files.IsNoHeader}
-use Rattle.sharc_audit.proofs.{Alone.{one_number, one_listing}, Filing.{append_none, behind_first, behind_mark, no_plain_mark, one_header, same_header}}
+use Rattle.sharc_audit.proofs.{Imports.{◌≡◌, inl, inr, ℕ, suc, ◌<◌, ◌≤◌, List, [], ◌∷◌, ◌++◌, length, take, drop, All, refl, ap, sym, subst, ◌∙◌, arith, append_assoc, take-append-drop, take-take, All-head, All-tail, join_with_byte, EventLine, Text, IsNumber, mark, AreEventLines, IsEventFile, Continues, FailsThere, IsFirstBad, IsNoHeader}, Alone.{one_number, one_listing}, Filing.{append_none, behind_first, behind_mark, no_plain_mark, one_header, same_header}}
 
 -- the lines before the header are the same
 same_source : (a b : List Text) (h : Text) (c d : List Text) (t : Text) → All IsNoHeader a → All IsNoHeader b → a ++ (mark ++ h) ∷ c ≡ b ++ (mark ++ t) ∷ d → a ≡ b

@@ -1,10 +1,5 @@
 -- Cells, references and values, by their parts.
-use Rattle.std.proofs.{Common.{◌≡◌, inl, inr, ℕ, suc, ◌<◌, ◌≤◌, ◌^◌, true, false, [], ◌∷◌, ◌-◌, length, take, drop, slice_index_or, Option, Some, None, refl, ap, sym, subst, ◌∙◌, arith}, lemmas.Bool.{or_from, ltb-true}}
-use Rattle.std.specs.{Prelude.{ℤ, pos, negsuc, nat_eq, decimal, codes, MatchOption}, Str.all_ascii_digits, List.list_any}
-use Rattle.sharc_tree.specs.{declared.event.CellAt.CellAt, declared.event.Object.Object, declared.event.Object.TheVariants.{Global, Made}}
-use Rattle.sharc_meaning.specs.Arithmetic.{is_held_by}
-use Rattle.sharc_audit.specs.Grammar.{Text, IsCut, IsNumber, thread_most, IsObject, IsCell, IsPair, IsReference, IsSigned, IsValue}
-use Rattle.sharc_audit.proofs.Numerals.{decimal_free, decimal_free_above, parts_of, all_digits, some_digit}
+use Rattle.sharc_audit.proofs.{Imports.{◌≡◌, inl, inr, ℕ, suc, ◌<◌, ◌≤◌, ◌^◌, true, false, [], ◌∷◌, ◌-◌, length, take, drop, slice_index_or, Option, Some, None, refl, ap, sym, subst, ◌∙◌, arith, or_from, ltb-true, ℤ, pos, negsuc, nat_eq, decimal, codes, MatchOption, all_ascii_digits, list_any, CellAt, Object, Global, Made, is_held_by, Text, IsCut, IsNumber, thread_most, IsObject, IsCell, IsPair, IsReference, IsSigned, IsValue}, Numerals.{decimal_free, decimal_free_above, parts_of, all_digits, some_digit}}
 
 pub object_free : (o : Object) (text : Text) → IsObject o text → list_any (nat_eq 46) text ≡ false
 object_free (Global i) text h = ap (list_any (nat_eq 46)) h.1 ∙ or_from (nat_eq 46 103) (list_any (nat_eq 46) (decimal i)) refl (decimal_free 46 i (omega arith) (let b = h.0 in omega (arith, b)))

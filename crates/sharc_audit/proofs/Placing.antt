@@ -1,13 +1,5 @@
 -- Where the runs of threads are, and what lines report to threads that have not begun.
-use Rattle.std.proofs.{Common.{◌≡◌, ℕ, zero, suc, ◌+◌, ◌<◌, Bool, true, false, ◌||◌, cond, List, [], ◌∷◌, ◌++◌, length, map, drop, slice_index_or, Option, Some, None, Ok, Err, refl, ap, sym, subst, ◌∙◌, arith, add-one, drop-cons}, lemmas.Bool.{eq-eqb, eqb-true, and_parts, or_parts}, lemmas.List.Folds.list_any-append}
-use Rattle.std.specs.{Prelude.{ℤ, pos, ◌==◌, nat_eq, slice_set, MatchOption, Result, OnOk, if◌then◌else◌}, HashMap.{get, HashMap}, declared.vec.Vec.Vec}
-use Rattle.sharc_tree.specs.{declared.event.SourceEvent.SourceEvent, declared.event.Act.Act}
-use Rattle.sharc_ctype.specs.Resolved.{Resolution}
-use Rattle.sharc_meaning.specs.{Events.is_of, Store.{was_spawned, is_natural, is_spawn, MayCome, LegalStore}}
-use Rattle.sharc_tree.specs.declared.event.Act.TheVariants as acts
-use Rattle.sharc_audit.specs.{declared.line.EventLine.EventLine, declared.run.ThreadRun.ThreadRun, Judging.has_begun, Known.ArePlaces, Lines.{told, lines_of, told_to}, Reported.{told_in, AreTold}}
-use Rattle.sharc_judge.specs.Kept.{IsSpawnedOnce}
-use Rattle.sharc_audit.proofs.Knowing.{any_set}
+use Rattle.sharc_audit.proofs.{Imports.{◌≡◌, ℕ, zero, suc, ◌+◌, ◌<◌, Bool, true, false, ◌||◌, cond, List, [], ◌∷◌, ◌++◌, length, map, drop, slice_index_or, Option, Some, None, Ok, Err, refl, ap, sym, subst, ◌∙◌, arith, add-one, drop-cons, eq-eqb, eqb-true, and_parts, or_parts, list_any-append, ℤ, pos, ◌==◌, nat_eq, slice_set, MatchOption, Result, OnOk, if◌then◌else◌, get, HashMap, Vec, SourceEvent, Act, Resolution, is_of, was_spawned, is_natural, is_spawn, MayCome, LegalStore, EventLine, ThreadRun, has_begun, ArePlaces, told, lines_of, told_to, told_in, AreTold, IsSpawnedOnce}, Knowing.any_set}
 
 pub on_ok_always : {A E : Type 0} (r : Result A E) {P : Type 0} → P → OnOk r P
 on_ok_always (Ok a) h = h
@@ -80,7 +72,7 @@ pub once_if_legal : (r : Resolution) (R : List SourceEvent) → LegalStore r R �
 once_if_legal r R legal before e after n stands h = by_act e.act (legal before e after stands) (and_parts (is_spawn e.act) (is_natural n e.answer) h)
   where
     by_act : (a : Act) → MayCome r before e a → (is_spawn a ≡ true) × (is_natural n e.answer ≡ true) → was_spawned before n ≡ false
-    by_act (acts.Spawn f v) new k = ap (was_spawned before) (same_number n new.thread e.answer new.tells k.1) ∙ new.fresh
+    by_act (Act.Spawn f v) new k = ap (was_spawned before) (same_number n new.thread e.answer new.tells k.1) ∙ new.fresh
     by_act _ new k = absurd (let z = k.0 in cc)
 
 -- ---- lines in parts

@@ -1,14 +1,5 @@
 -- The lines of a source run that obeys never fail.
-use Rattle.std.proofs.{Common.{◌≡◌, ◌⊎◌, inl, inr, ℕ, suc, ◌+◌, ◌<◌, Bool, true, false, List, [], ◌∷◌, ◌++◌, length, take, Option, Some, None, refl, ap, sym, subst, ◌∙◌, arith}, lemmas.Bool.cases_order}
-use Rattle.std.specs.Prelude.{ℤ, slice_get, if◌then◌else◌}
-use Rattle.sharc_tree.specs.declared.event.SourceEvent.{SourceEvent}
-use Rattle.sharc_mode.specs.Moded.{Assignment}
-use Rattle.sharc_meaning.specs.{Laws.{AskLaws, StoreLaws, RunLaws, AskedFor}, Meaning.asks, Obeys.{Obeys, until_return}, Runs.{SourceRun, SourceRunWith}, State.{Outcome, wants, ended, stopped, spent}}
-use Rattle.sharc_judge.specs.Laws.{RuleLaws}
-use Rattle.sharc_audit.specs.{declared.audit.EventFault.EventFault, declared.line.EventLine.EventLine, declared.threads.NextEvent.TheVariants.{Wants, Spent}, Asked.IsSpent, Audited.{Accepted, Audits, FailsBy, IsAsked, IsFirstRefused}, Judging.{entry, event_at, has_begun, is_spent, next_in, next_of, next_told, own_answers, start_of, without_event}, Lines.{AreLines, IsLine, told}, Mains.OneMain}
-use Rattle.sharc_audit.specs.declared.audit.EventFault.TheVariants as fault
-use Rattle.sharc_audit.specs.declared.audit.Verdict.TheVariants as verdict
-use Rattle.sharc_audit.proofs.{Answering.{asked_is, computed_asked, is_spent_at, spent_is}, Auditing.{FrontLines, LastLine, front_lines, last_line, lines_more, same_events, take_one}, Fuels.{more_run, one_fuel}, Telling.{at_front, past_end}}
+use Rattle.sharc_audit.proofs.{Imports.{◌≡◌, ◌⊎◌, inl, inr, ℕ, suc, ◌+◌, ◌<◌, Bool, true, false, List, [], ◌∷◌, ◌++◌, length, take, Option, Some, None, refl, ap, sym, subst, ◌∙◌, arith, cases_order, ℤ, slice_get, if◌then◌else◌, SourceEvent, Assignment, AskLaws, StoreLaws, RunLaws, AskedFor, asks, Obeys, until_return, SourceRun, SourceRunWith, Outcome, wants, ended, stopped, spent, RuleLaws, EventFault, EventLine, Wants, Spent, IsSpent, Accepted, Audits, FailsBy, IsAsked, IsFirstRefused, entry, event_at, has_begun, is_spent, next_in, next_of, next_told, own_answers, start_of, without_event, AreLines, IsLine, told, OneMain, Verdict}, Answering.{asked_is, computed_asked, is_spent_at, spent_is}, Auditing.{FrontLines, LastLine, front_lines, last_line, lines_more, same_events, take_one}, Fuels.{more_run, one_fuel}, Telling.{at_front, past_end}}
 
 -- ---- one thread: more fuel changes what it asks for next only where its fuel was spent
 module _ (ask : AskLaws) (m : Assignment) (fuel more t place f : ℕ) (v : ℤ) (answers : List ℤ) where
@@ -61,9 +52,9 @@ module _ (ask : AskLaws) (store : StoreLaws) (runs : RunLaws) (rules : RuleLaws)
     not_asked s a = let z : Spent ≡ Wants a.event = sym (spent_is ask m one fuel R run.legal l.thread (told l) s) ∙ asked_is ask m one fuel R run.legal l a.event a.line_is a.asked in absurd (cc)
 
     not_failed : (why : EventFault) → FailsBy m fuel R l why → IsSpent m fuel R l.thread → ⊥
-    not_failed fault.NotAsked f s = f.unspent s
-    not_failed fault.NotLegal f s = not_asked s f.asked
-    not_failed (fault.Rule rule) f s = not_asked s f.asked
+    not_failed EventFault.NotAsked f s = f.unspent s
+    not_failed EventFault.NotLegal f s = not_asked s f.asked
+    not_failed (EventFault.Rule rule) f s = not_asked s f.asked
 
   -- ---- the first line that is refused
   -- the events of a run that obeys, up to that line
@@ -116,5 +107,5 @@ module _ (ask : AskLaws) (store : StoreLaws) (runs : RunLaws) (rules : RuleLaws)
         let r = reaches R run obeys are in
         not_here why fails r (asked_or_spent before first.before.run l r.more r.event r.line_is (runs.last_asked m (fuel + r.more) before r.event r.run))
 
-  pub never_fails : (R : List SourceEvent) (lines : List EventLine) (n : ℕ) (why : EventFault) → SourceRun m R → Obeys R until_return → AreLines m.typed lines R → Audits m fuel lines (verdict.Fails n why) → ⊥
+  pub never_fails : (R : List SourceEvent) (lines : List EventLine) (n : ℕ) (why : EventFault) → SourceRun m R → Obeys R until_return → AreLines m.typed lines R → Audits m fuel lines (Verdict.Fails n why) → ⊥
   never_fails R lines n why run obeys are audits = no_fault lines audits.0.place audits.0.line_at audits.0.first why audits.1 R run obeys are

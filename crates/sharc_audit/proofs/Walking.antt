@@ -1,10 +1,5 @@
 -- Walks that are long enough.
-use Rattle.std.proofs.{Common.{◌≡◌, ℕ, ◌+◌, ◌-◌, ◌<◌, ◌≤◌, Bool, true, false, not, ◌&&◌, List, length, refl, ap, sym, subst, ◌∙◌, arith}, lemmas.Bool.{ltb-true, ltb-false}}
-use Rattle.std.specs.Prelude.{ℤ, ◌≢◌, nat_lt, slice_get}
-use Rattle.sharc_mode.specs.Moded.{Assignment}
-use Rattle.sharc_meaning.specs.{Laws.AskLaws, Meaning.asks, State.spent}
-use Rattle.sharc_audit.specs.{declared.run.ThreadWalk.ThreadWalk, Judging.{is_spent, event_at, next_in}, Walks.{IsWalk, needs_more}}
-use Rattle.sharc_audit.proofs.Telling.{at_front}
+use Rattle.sharc_audit.proofs.{Imports.{◌≡◌, ℕ, ◌+◌, ◌-◌, ◌<◌, ◌≤◌, Bool, true, false, not, ◌&&◌, List, length, refl, ap, sym, subst, ◌∙◌, arith, ltb-true, ltb-false, ℤ, ◌≢◌, nat_lt, slice_get, Assignment, AskLaws, asks, spent, ThreadWalk, is_spent, event_at, next_in, IsWalk, needs_more}, Telling.at_front}
 
 module _ (laws : AskLaws) (m : Assignment) (f : ℕ) (v : ℤ) (answers : List ℤ) (fuel t place : ℕ) (w : ThreadWalk) (walk : IsWalk m f v answers w) (within : w.fuel ≤ fuel) where
   all_fuel : w.fuel + (fuel - w.fuel) ≡ fuel

@@ -1,12 +1,5 @@
 -- What a seat knows that has the parts of all ports: a rest, a round, and the one legal history of a round that ends.
-use Rattle.std.proofs.{Common.{◌≡◌, ◌≢◌, ℕ, zero, suc, ◌+◌, ◌<◌, ◌≤◌, ◌⊎◌, ⊎_elim, inl, inr, List, [], ◌∷◌, ◌++◌, length, get_or, refl, sym, ap, ◌∙◌, subst, arith, All, slice_index_or, length-append}, lemmas.Bool.cases_lt, lemmas.List.{get_or_append_left, get_or_push, get_or-map, get_or_past, length-map}}
-use mathlib.Core.Logic.{dite}
-use mathlib.Core.Option.{some, some-injective, some-ne-none}
-use native.Mathlib.Decide.{ℕ_discrete}
-use lib.ListN.{get_elem?}
-use Rattle.sharc_word.specs.{declared.step.WordEvent.WordEvent, Words.words_after, History.{LegalHistory, events_of}}
-use Rattle.sharc_bus.specs.{declared.rule.Part.Part, Rule.{IsAmong, unbegun, words_known, Settled}, Bus.{BusView, SeatView, RestView, IsOf, AreSeatsOf, OneHistory, lists_of}, Table.{HasPart, HasAll, ports_of_all, ports_of_last}}
-use Rattle.sharc_bus.proofs.{Members.{among_left, among_right}, Settling.{HasNumber, length-unbegun}}
+use Rattle.sharc_bus.proofs.{Imports.{◌≡◌, ◌≢◌, ℕ, zero, suc, ◌+◌, ◌<◌, ◌≤◌, ◌⊎◌, ⊎_elim, inl, inr, List, [], ◌∷◌, ◌++◌, length, get_or, refl, sym, ap, ◌∙◌, subst, arith, All, get_or as slice_index_or, length-append, cases_lt, get_or_append_left, get_or_push, get_or-map, get_or_past, length-map, dite, some, some-injective, some-ne-none, ℕ_discrete, get_elem?, WordEvent, words_after, LegalHistory, events_of, Part, IsAmong, unbegun, words_known, Settled, BusView, SeatView, RestView, IsOf, AreSeatsOf, OneHistory, lists_of, HasPart, HasAll, ports_of_all, ports_of_last}, Members.{among_left, among_right}, Settling.{HasNumber, length-unbegun}}
 
 module _ {X : Type 0} (P : X → Type 0) where
   pub all_left : (xs : List X) (x : X) → All P (xs ++ x ∷ []) → All P xs

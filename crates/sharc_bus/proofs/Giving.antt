@@ -1,7 +1,5 @@
 -- The seats that are given out, one for each port.
-use Rattle.std.proofs.{Common.{◌≡◌, ℕ, zero, suc, ◌+◌, ◌-◌, ◌%◌, ◌^◌, ◌<◌, List, [], ◌∷◌, ◌++◌, length, refl, sym, ap, ◌∙◌, subst, arith, append_assoc, All, slice_index_or}, Math.Nat.{two-pow-succ, mod-add-mod, add-mod-mod}}
-use Rattle.atomic_table.specs.Seated.{TableId}
-use Rattle.sharc_bus.specs.{Rule.{unbegun, own_bit}, Bus.{BusView, SeatView, AreSeatsOf}, Table.seats_with}
+use Rattle.sharc_bus.proofs.Imports.{◌≡◌, ℕ, zero, suc, ◌+◌, ◌-◌, ◌%◌, ◌^◌, ◌<◌, List, [], ◌∷◌, ◌++◌, length, refl, sym, ap, ◌∙◌, subst, arith, append_assoc, All, get_or as slice_index_or, two-pow-succ, mod-add-mod, add-mod-mod, TableId, unbegun, own_bit, BusView, SeatView, AreSeatsOf, seats_with}
 
 -- the bit of the next port
 pub next_bit : (b n : ℕ) → b ≡ own_bit n → (b + b) % 2 ^ 64 ≡ own_bit (n + 1)

@@ -1,3 +1,4 @@
+mod Imports
 pub mod Members
 pub mod Steps
 pub mod Seats

@@ -1,7 +1,5 @@
 -- Names of ports tell buses and numbers apart.
-use Rattle.std.proofs.Common.{◌≡◌}
-use Rattle.atomic_table.specs.Seated.{TableId}
-use Rattle.sharc_bus.specs.Bus.{SeatView, name_of}
+use Rattle.sharc_bus.proofs.Imports.{◌≡◌, TableId, SeatView, name_of}
 
 same_table : (a b : TableId) → a.words ≡ b.words → a.slots ≡ b.slots → a.views_name ≡ b.views_name → a.atom ≡ b.atom → a.block ≡ b.block → a.offset ≡ b.offset → a.slot_names ≡ b.slot_names → a ≡ b
 same_table a b w s v m k o n = λ i. record { words = w i; slots = s i; views_name = v i; atom = m i; block = k i; offset = o i; slot_names = n i }

@@ -1,13 +1,5 @@
 -- The rule holds where a bus is opened, and is kept where a seat is cut in two and where two become one.
-use Rattle.std.proofs.Common.{◌≡◌, ◌≢◌, ℕ, zero, suc, ◌+◌, ◌<◌, ◌≤◌, ◌==◌, ◌⊎◌, ⊎_elim, inl, inr, List, [], ◌∷◌, ◌++◌, length, slice_set, take, drop, refl, sym, ap, ◌∙◌, subst, arith, if◌then◌else◌, eq-eqb, ne_eqb, length-set}
-use mathlib.Core.Option.{some, some-injective, some-ne-none}
-use lib.ListN.{get_elem?}
-use Rattle.atomic_table.specs.Table.{State, Splits, Joins, opening}
-use Rattle.atomic_table.proofs.Lists.{at_set, set_else}
-use Rattle.sharc_word.specs.{declared.step.WordEvent.WordEvent, History.events_of, Laws.HistoryLaws}
-use Rattle.sharc_bus.specs.{declared.rule.Part.Part, Rule.{IsAmong, BusRule, unbegun}}
-use Rattle.sharc_bus.proofs.Members.{among_one, among_append}
-use Rattle.sharc_lemmas.proofs.Bools.{if_false, if_true}
+use Rattle.sharc_bus.proofs.{Imports.{◌≡◌, ◌≢◌, ℕ, zero, suc, ◌+◌, ◌<◌, ◌≤◌, ◌==◌, ◌⊎◌, ⊎_elim, inl, inr, List, [], ◌∷◌, ◌++◌, length, slice_set, take, drop, refl, sym, ap, ◌∙◌, subst, arith, if◌then◌else◌, eq-eqb, ne_eqb, length-set, some, some-injective, some-ne-none, get_elem?, State, Splits, Joins, opening, at_set, set_else, WordEvent, events_of, HistoryLaws, Part, IsAmong, BusRule, unbegun, if_false, if_true}, Members.{among_one, among_append}}
 
 abbrev St : Type 0
 St = State (Unit {0}) (List Part)

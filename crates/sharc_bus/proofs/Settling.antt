@@ -1,12 +1,5 @@
 -- A seat that has the parts of all numbers begins a new round, and finds the words while no part has begun.
-use Rattle.std.proofs.{Common.{◌≡◌, ℕ, zero, suc, ◌+◌, ◌<◌, ◌≤◌, Bool, true, false, ◌==◌, ◌⊎◌, ⊎_elim, inl, inr, List, [], ◌∷◌, length, slice_index, slice_set, refl, sym, ap, ◌∙◌, subst, arith, eq-eqb, cond}, lemmas.Bool.cases_lt}
-use mathlib.Core.Option.{some}
-use lib.ListN.{get_elem?}
-use Rattle.atomic_table.specs.Table.{State, Me, Allows, keeps}
-use Rattle.atomic_table.proofs.Lists.{at_set, set_again}
-use Rattle.sharc_word.specs.{declared.step.WordEvent.WordEvent, Words.words_after, History.{LegalHistory, events_of}, Laws.HistoryLaws}
-use Rattle.sharc_bus.specs.{declared.rule.Part.Part, Rule.{IsAmong, BusRule, unbegun, words_known, Settled}}
-use Rattle.sharc_bus.proofs.Seats.{among_unbegun}
+use Rattle.sharc_bus.proofs.{Imports.{◌≡◌, ℕ, zero, suc, ◌+◌, ◌<◌, ◌≤◌, Bool, true, false, ◌==◌, ◌⊎◌, ⊎_elim, inl, inr, List, [], ◌∷◌, length, slice_index, slice_set, refl, sym, ap, ◌∙◌, subst, arith, eq-eqb, cond, cases_lt, some, get_elem?, State, Me, Allows, keeps, at_set, set_again, WordEvent, words_after, LegalHistory, events_of, HistoryLaws, Part, IsAmong, BusRule, unbegun, words_known, Settled}, Seats.among_unbegun}
 
 abbrev St : Type 0
 St = State (Unit {0}) (List Part)

@@ -1,12 +1,5 @@
 -- A step of any operation keeps the rule: its event goes to the end of the history, and of its seat's part.
-use Rattle.std.proofs.{Common.{◌≡◌, ◌≢◌, ℕ, ◌<◌, ◌≤◌, ◌==◌, Bool, true, false, bit_or, if◌then◌else◌, ⊎_elim, inl, List, [], ◌∷◌, ◌++◌, length, slice_index, slice_set, refl, sym, ap, ◌∙◌, subst, arith, eq-eqb, ne_eqb}, lemmas.Bool.eqb-true, lemmas.List.append-nil, lemmas.List.Elements.filter-append}
-use mathlib.Core.Option.{some}
-use lib.ListN.{get_elem?}
-use Rattle.atomic_table.specs.Table.{State, Me, Allows, keeps}
-use Rattle.atomic_table.proofs.Lists.{at_set, set_again}
-use Rattle.sharc_word.specs.{declared.step.WordOp.TheVariants.Or, declared.step.WordStep.WordStep, declared.step.WordEvent.WordEvent, Words.{word_after, words_after_step, words_after}, History.{MayFollow, events_of}, Place.event_of, Laws.HistoryLaws}
-use Rattle.sharc_bus.specs.{declared.rule.Part.Part, Rule.{IsAmong, BusRule, with_step}}
-use Rattle.sharc_bus.proofs.{Members.among_one, Settling.set_same}
+use Rattle.sharc_bus.proofs.{Imports.{◌≡◌, ◌≢◌, ℕ, ◌<◌, ◌≤◌, ◌==◌, Bool, true, false, bit_or, if◌then◌else◌, ⊎_elim, inl, List, [], ◌∷◌, ◌++◌, length, slice_index, slice_set, refl, sym, ap, ◌∙◌, subst, arith, eq-eqb, ne_eqb, eqb-true, append-nil, filter-append, some, get_elem?, State, Me, Allows, keeps, at_set, set_again, Or, WordStep, WordEvent, word_after, words_after_step, words_after, MayFollow, events_of, event_of, HistoryLaws, Part, IsAmong, BusRule, with_step}, Members.among_one, Settling.set_same}
 
 pub events_push_same : (thread : ℕ) (history : List WordEvent) (e : WordEvent) → e.thread ≡ thread → events_of thread (history ++ e ∷ []) ≡ events_of thread history ++ e ∷ []
 events_push_same thread history e is = rw (filter-append, eq-eqb e.thread thread is)

@@ -1,8 +1,5 @@
 -- What is said of a call.
-use Rattle.std.proofs.Common.{◌≡◌, List, ◌++◌, ap, sym, ◌∙◌, append_assoc}
-use Rattle.sharc_tree.specs.{declared.token.Span.Span, declared.tree.declaration.Identifier.Identifier, declared.tree.expression.Expr.Expr, Tree.{Expression, call}, View.view_arguments}
-use Rattle.sharc_ctype.specs.{Resolved.named_at, Transfers.parameters_named}
-use Rattle.sharc_mode.specs.{declared.finding.Finding.Finding, Expressions.{notes_of, notes_of_all}, Moded.Assignment, Notes.call_notes}
+use Rattle.sharc_check.proofs.Imports.{◌≡◌, List, ◌++◌, ap, sym, ◌∙◌, append_assoc, Span, Identifier, Expr, Expression, call, view_arguments, named_at, parameters_named, Finding, notes_of, notes_of_all, Assignment, call_notes}
 
 pub call_said : (m : Assignment) (e : Expression) (s : Span) (f : Identifier) (list slice : List Expr) (n : List Finding)
     → e ≡ call s f (view_arguments list) → slice ≡ list

@@ -1,11 +1,5 @@
 -- Arguments that the paths of parameters' types need, there and back.
-use Rattle.std.proofs.Common.{◌≡◌, ⊎_elim, ℕ, List, [], ◌∷◌, refl, ap, sym, ◌∙◌, subst, Option, Some, None, Contains}
-use Rattle.sharc_tree.specs.{declared.ctype.Mode.Mode, declared.ctype.Mode.TheVariants.{Private, Readonly, Locked, Racy, Dynamic}, declared.ctype.Path.Path, declared.tree.declaration.Declaration.Declaration, Tree.Arguments}
-use Rattle.sharc_ctype.specs.Resolved.{Resolution}
-use Rattle.sharc_mode.specs.{Moded.Assignment, Notes.{unmet_by, unmet_for, unmet, unmet_in, unmet_level, unmet_written, unmet_parameter, first_unmet}, Rows.{written, argument_use, path_variable, declared_row, modes_of}, Sharings.{Lock, Sharing, private, readonly, locked, racy, dynamic, lock_of}}
-use Rattle.sharc_check.specs.Paths.{HasPath, at_target, at_level}
-use Rattle.sharc_check.proofs.Options.{or_none, none_or, none_of}
-use Rattle.sharc_lemmas.proofs.{Options.{same_some, none_some}, Lists.{head_there, head_or_tail, tail_there}, Equal.none_there}
+use Rattle.sharc_check.proofs.{Imports.{◌≡◌, ⊎_elim, ℕ, List, [], ◌∷◌, refl, ap, sym, ◌∙◌, subst, Option, Some, None, Contains, Mode, Private, Readonly, Locked, Racy, Dynamic, Path, Declaration, Arguments, Resolution, Assignment, unmet_by, unmet_for, unmet, unmet_in, unmet_level, unmet_written, unmet_parameter, first_unmet, written, argument_use, path_variable, declared_row, modes_of, Lock, Sharing, private, readonly, locked, racy, dynamic, lock_of, HasPath, at_target, at_level, same_some, none_some, head_there, head_or_tail, tail_there, none_there}, Options.{or_none, none_or, none_of}}
 
 module _ (r : Resolution) (ds : List Declaration) (all : Arguments) where
   -- what the path needs is there

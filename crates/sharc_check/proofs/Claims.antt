@@ -1,11 +1,5 @@
 -- What holds of each note of a short list, by what the list is made of, there and back.
-use Rattle.std.proofs.{Common.{◌≡◌, ℕ, Bool, true, false, cond, List, [], ◌∷◌, refl, ap, ◌∙◌, subst, drop, Option, Some, None, Contains}, lemmas.Bool.{false≢true, true≢false}}
-use Rattle.std.specs.List.{AllByRecursion, flat_map}
-use Rattle.sharc_tree.specs.{declared.ctype.Base.Base, declared.ctype.Mode.Mode, declared.ctype.Mode.TheVariants.{Private, Readonly, Locked, Racy, Dynamic}, declared.ctype.Path.Path, declared.token.Span.Span}
-use Rattle.sharc_ctype.specs.Resolved.{Resolution}
-use Rattle.sharc_mode.specs.{declared.error.ErrorCode.ErrorCode, declared.error.ModeError.ModeError, declared.finding.Finding.Finding, declared.finding.Finding.TheVariants.{Wrong, Names, Takes}, Notes.{error_where, agree, path_notes, mode_notes, names_of, names_in, names_in_all, names_in_level, names_read, takes, unmet_notes, cast_notes}, Rows.{PathReading, read_lock}, Sharings.{Lock, Sharing, private, readonly, locked, racy, dynamic, lock_of, same_all, object_of}}
-use Rattle.sharc_check.proofs.Lists.{spread, gather}
-use Rattle.sharc_lemmas.proofs.{Options.{same_some, none_some}, Lists.{of_each, to_each}}
+use Rattle.sharc_check.proofs.{Imports.{◌≡◌, ℕ, Bool, true, false, cond, List, [], ◌∷◌, refl, ap, ◌∙◌, subst, drop, Option, Some, None, Contains, false≢true, true≢false, AllByRecursion, flat_map, Base, Mode, Private, Readonly, Locked, Racy, Dynamic, Path, Span, Resolution, ErrorCode, ModeError, Finding, Wrong, Names, Takes, error_where, agree, path_notes, mode_notes, names_of, names_in, names_in_all, names_in_level, names_read, takes, unmet_notes, cast_notes, PathReading, read_lock, Lock, Sharing, private, readonly, locked, racy, dynamic, lock_of, same_all, object_of, same_some, none_some, of_each, to_each}, Lists.{spread, gather}}
 
 -- where something is wrong, W; of what a path names, N; of what is taken, T
 abbrev pub Said : Type 0 → (ℕ → Type 0) → (ℕ → Type 0) → Finding → Type 0

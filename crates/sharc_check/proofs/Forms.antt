@@ -1,24 +1,14 @@
 -- Lock paths of the allowed forms, there and back.
-use Rattle.std.proofs.{Common.{◌≡◌, ⊎_elim, ℕ, zero, suc, ◌+◌, ◌<◌, Bool, true, false, not, ◌||◌, List, [], ◌∷◌, length, slice_get, refl, ap, sym, ◌∙◌, arith, eqb-true, Option, Some, None}, lemmas.Bool.{false≢true, true≢false, or_cases, and_parts, and_from, or_right, or_left, or_parts as or_false, or_from as false_or, not_from_true as false_not}}
-use Rattle.sharc_tree.specs.{declared.ctype.Base.Base, declared.ctype.Mode.Mode, declared.ctype.Mode.TheVariants.{Private, Readonly, Locked, Racy, Dynamic}, declared.ctype.Path.Path, declared.ctype.Path.TheVariants.{One, Through}, declared.tree.declaration.Declaration.Declaration, declared.tree.item.StructDefinition.StructDefinition}
-use Rattle.sharc_tree.specs.declared.ctype.Base.TheVariants as base
-use Rattle.sharc_names.specs.{declared.fault.Named.Named, Kinds.{Kind, object, array, null, mutex, declared_kind}, Names.field_of}
-use Rattle.sharc_names.specs.declared.fault.Named.TheVariants as named
+use Rattle.sharc_check.proofs.{Imports.{◌≡◌, ⊎_elim, ℕ, zero, suc, ◌+◌, ◌<◌, Bool, true, false, not, ◌||◌, List, [], ◌∷◌, length, slice_get, refl, ap, sym, ◌∙◌, arith, eqb-true, Option, Some, None, false≢true, true≢false, or_cases, and_parts, and_from, or_right, or_left, or_false, false_or, false_not, Base, Mode, Private, Readonly, Locked, Racy, Dynamic, Path, One, Through, Declaration, StructDefinition, Named, Kind, object, array, null, mutex, declared_kind, field_of, Entity, is_constant, Resolution, named_at, struct_at, declaration_at, named_kind, Place, is_mutex_kind, top_of, is_mutex, lock_of, place_of, names_global_mutex, names_sibling_mutex, is_mutex_pointer, is_readonly_top, is_readonly_lock, names_sibling_pointer, fields_of, fields_named, fields_behind, is_mutex_field, is_through_constant, allows_path, leaves_open, allows_pointer, path_fits, top_path_fits, unfit_path, unfit_top_path, unfit_path_in, first_unfit_path, IsWritten, IsMutexBehind, IsLockPointer, AreTargetsWritten, IsAllowed, global_mutex, sibling_mutex, sibling_pointer, through_constant, same_some, none_some}, Options.{or_none, none_or, unless_none, none_unless, none_of}}
 use Rattle.sharc_names.specs.Kinds as kinds
-use Rattle.sharc_ctype.specs.{declared.entity.Entity.Entity, Constants.is_constant, Resolved.{Resolution, named_at, struct_at, declaration_at, named_kind}}
-use Rattle.sharc_mode.specs.{declared.place.Place.Place, Cells.{is_mutex_kind, top_of}, Settled.is_mutex, Sharings.lock_of, WellFormed.{place_of, names_global_mutex, names_sibling_mutex, is_mutex_pointer, is_readonly_top, is_readonly_lock, names_sibling_pointer, fields_of, fields_named, fields_behind, is_mutex_field, is_through_constant, allows_path, leaves_open, allows_pointer, path_fits, top_path_fits, unfit_path, unfit_top_path, unfit_path_in, first_unfit_path}}
-use Rattle.sharc_mode.specs.declared.place.Place.TheVariants as place
-use Rattle.sharc_check.specs.{Constructs.IsWritten, Paths.{IsMutexBehind, IsLockPointer, AreTargetsWritten, IsAllowed, global_mutex, sibling_mutex, sibling_pointer, through_constant}}
-use Rattle.sharc_check.proofs.Options.{or_none, none_or, unless_none, none_unless, none_of}
-use Rattle.sharc_lemmas.proofs.Options.{same_some, none_some}
 
 mutex_is : (k : Kind) → is_mutex_kind k ≡ true → k ≡ mutex
-mutex_is (object base.Int n) h = absurd (false≢true h)
-mutex_is (object base.Char n) h = absurd (false≢true h)
-mutex_is (object base.Long n) h = absurd (false≢true h)
-mutex_is (object base.Mutex n) h = ap (object base.Mutex) (eqb-true n 0 h)
-mutex_is (object base.Void n) h = absurd (false≢true h)
-mutex_is (object (base.Struct x) n) h = absurd (false≢true h)
+mutex_is (object Base.Int n) h = absurd (false≢true h)
+mutex_is (object Base.Char n) h = absurd (false≢true h)
+mutex_is (object Base.Long n) h = absurd (false≢true h)
+mutex_is (object Base.Mutex n) h = ap (object Base.Mutex) (eqb-true n 0 h)
+mutex_is (object Base.Void n) h = absurd (false≢true h)
+mutex_is (object (Base.Struct x) n) h = absurd (false≢true h)
 mutex_is (array b n) h = absurd (false≢true h)
 mutex_is null h = absurd (false≢true h)
 mutex_is kinds.function h = absurd (false≢true h)
@@ -26,13 +16,13 @@ mutex_is kinds.function h = absurd (false≢true h)
 is_mutex_by : (k : Kind) → k ≡ mutex → is_mutex_kind k ≡ true
 is_mutex_by k is = ap is_mutex_kind is
 
-pointer_is : (k : Kind) → is_mutex_pointer k ≡ true → k ≡ object base.Mutex 1
-pointer_is (object base.Int n) h = absurd (false≢true h)
-pointer_is (object base.Char n) h = absurd (false≢true h)
-pointer_is (object base.Long n) h = absurd (false≢true h)
-pointer_is (object base.Mutex n) h = ap (object base.Mutex) (eqb-true n 1 h)
-pointer_is (object base.Void n) h = absurd (false≢true h)
-pointer_is (object (base.Struct x) n) h = absurd (false≢true h)
+pointer_is : (k : Kind) → is_mutex_pointer k ≡ true → k ≡ object Base.Mutex 1
+pointer_is (object Base.Int n) h = absurd (false≢true h)
+pointer_is (object Base.Char n) h = absurd (false≢true h)
+pointer_is (object Base.Long n) h = absurd (false≢true h)
+pointer_is (object Base.Mutex n) h = ap (object Base.Mutex) (eqb-true n 1 h)
+pointer_is (object Base.Void n) h = absurd (false≢true h)
+pointer_is (object (Base.Struct x) n) h = absurd (false≢true h)
 pointer_is (array b n) h = absurd (false≢true h)
 pointer_is null h = absurd (false≢true h)
 pointer_is kinds.function h = absurd (false≢true h)
@@ -47,16 +37,16 @@ readonly_is (Some Dynamic) h = absurd (false≢true h)
 
 -- ---- targets that take no mode from the top
 
-base_level_is : (b : Base) (below : List (Option Mode)) → is_mutex b below ≡ true → (b ≡ base.Mutex) × (length below ≡ 0)
-base_level_is base.Int below h = absurd (false≢true h)
-base_level_is base.Char below h = absurd (false≢true h)
-base_level_is base.Long below h = absurd (false≢true h)
-base_level_is base.Mutex [] h = (refl, refl)
-base_level_is base.Mutex (x ∷ below) h = absurd (false≢true h)
-base_level_is base.Void below h = absurd (false≢true h)
-base_level_is (base.Struct x) below h = absurd (false≢true h)
+base_level_is : (b : Base) (below : List (Option Mode)) → is_mutex b below ≡ true → (b ≡ Base.Mutex) × (length below ≡ 0)
+base_level_is Base.Int below h = absurd (false≢true h)
+base_level_is Base.Char below h = absurd (false≢true h)
+base_level_is Base.Long below h = absurd (false≢true h)
+base_level_is Base.Mutex [] h = (refl, refl)
+base_level_is Base.Mutex (x ∷ below) h = absurd (false≢true h)
+base_level_is Base.Void below h = absurd (false≢true h)
+base_level_is (Base.Struct x) below h = absurd (false≢true h)
 
-base_level_by : (b : Base) (below : List (Option Mode)) → b ≡ base.Mutex → length below ≡ 0 → is_mutex b below ≡ true
+base_level_by : (b : Base) (below : List (Option Mode)) → b ≡ Base.Mutex → length below ≡ 0 → is_mutex b below ≡ true
 base_level_by b [] is size = ap (λ z. is_mutex z []) is
 base_level_by b (x ∷ below) is size = absurd (omega (arith, size))
 
@@ -64,7 +54,7 @@ not_false : (a : Bool) → not a ≡ false → a ≡ true
 not_false true h = refl
 not_false false h = absurd (true≢false h)
 
-closed_at : (b : Base) (below : List (Option Mode)) → leaves_open b below ≡ false → (j : ℕ) → slice_get below j ≡ Some None → (b ≡ base.Mutex) × (suc j ≡ length below)
+closed_at : (b : Base) (below : List (Option Mode)) → leaves_open b below ≡ false → (j : ℕ) → slice_get below j ≡ Some None → (b ≡ Base.Mutex) × (suc j ≡ length below)
 closed_at b [] h j is = absurd (none_some None is)
 closed_at b (None ∷ below) h zero is =
     let mutex_level = base_level_is b below (not_false (is_mutex b below) (or_false (not (is_mutex b below)) (leaves_open b below) h).0) in
@@ -80,7 +70,7 @@ closed_at b (Some x ∷ below) h (suc j) is =
     let size = later.1 in
     (later.0, omega (arith, size))
 
-closed_by : (b : Base) (below : List (Option Mode)) → ((j : ℕ) → slice_get below j ≡ Some None → (b ≡ base.Mutex) × (suc j ≡ length below)) → leaves_open b below ≡ false
+closed_by : (b : Base) (below : List (Option Mode)) → ((j : ℕ) → slice_get below j ≡ Some None → (b ≡ Base.Mutex) × (suc j ≡ length below)) → leaves_open b below ≡ false
 closed_by b [] h = refl
 closed_by b (None ∷ below) h =
     let here = h zero refl in
@@ -93,44 +83,44 @@ closed_by b (Some x ∷ below) h = closed_by b below (λ j is. let later = h (su
 
 module _ (r : Resolution) (e : Entity) (depth : ℕ) where
   global_by : (text : List ℕ) (token : ℕ) (what : Named) → named_at r token ≡ what → names_global_mutex r what ≡ true → IsAllowed r e depth (One text token)
-  global_by text token (named.Struct n) is h = absurd (false≢true h)
-  global_by text token (named.Global n) is h = global_mutex is (mutex_is (named_kind r (named.Global n)) h)
-  global_by text token (named.Function n) is h = absurd (false≢true h)
-  global_by text token (named.Variable n) is h = absurd (false≢true h)
-  global_by text token (named.Field n) is h = absurd (false≢true h)
-  global_by text token named.Known is h = absurd (false≢true h)
+  global_by text token (Named.Struct n) is h = absurd (false≢true h)
+  global_by text token (Named.Global n) is h = global_mutex is (mutex_is (named_kind r (Named.Global n)) h)
+  global_by text token (Named.Function n) is h = absurd (false≢true h)
+  global_by text token (Named.Variable n) is h = absurd (false≢true h)
+  global_by text token (Named.Field n) is h = absurd (false≢true h)
+  global_by text token Named.Known is h = absurd (false≢true h)
 
-  sibling_by : (text : List ℕ) (token : ℕ) (what : Named) → place_of e.role ≡ place.Field → named_at r token ≡ what → names_sibling_mutex r what ≡ true → IsAllowed r e depth (One text token)
-  sibling_by text token (named.Struct n) field is h = absurd (false≢true h)
-  sibling_by text token (named.Global n) field is h = absurd (false≢true h)
-  sibling_by text token (named.Function n) field is h = absurd (false≢true h)
-  sibling_by text token (named.Variable n) field is h = absurd (false≢true h)
-  sibling_by text token (named.Field n) field is h = sibling_mutex field is (mutex_is (named_kind r (named.Field n)) h)
-  sibling_by text token named.Known field is h = absurd (false≢true h)
+  sibling_by : (text : List ℕ) (token : ℕ) (what : Named) → place_of e.role ≡ Place.Field → named_at r token ≡ what → names_sibling_mutex r what ≡ true → IsAllowed r e depth (One text token)
+  sibling_by text token (Named.Struct n) field is h = absurd (false≢true h)
+  sibling_by text token (Named.Global n) field is h = absurd (false≢true h)
+  sibling_by text token (Named.Function n) field is h = absurd (false≢true h)
+  sibling_by text token (Named.Variable n) field is h = absurd (false≢true h)
+  sibling_by text token (Named.Field n) field is h = sibling_mutex field is (mutex_is (named_kind r (Named.Field n)) h)
+  sibling_by text token Named.Known field is h = absurd (false≢true h)
 
   one_by : (text : List ℕ) (token : ℕ) (where_is : Place) (what : Named) → place_of e.role ≡ where_is → named_at r token ≡ what → allows_path r where_is what None ≡ true → IsAllowed r e depth (One text token)
-  one_by text token place.Field what at is h = ⊎_elim (λ g. global_by text token what is g) (λ s. sibling_by text token what at is s) (or_cases (names_global_mutex r what) (names_sibling_mutex r what) h)
-  one_by text token place.Local what at is h = global_by text token what is h
-  one_by text token place.Global what at is h = global_by text token what is h
-  one_by text token place.Result what at is h = global_by text token what is h
+  one_by text token Place.Field what at is h = ⊎_elim (λ g. global_by text token what is g) (λ s. sibling_by text token what at is s) (or_cases (names_global_mutex r what) (names_sibling_mutex r what) h)
+  one_by text token Place.Local what at is h = global_by text token what is h
+  one_by text token Place.Global what at is h = global_by text token what is h
+  one_by text token Place.Result what at is h = global_by text token what is h
 
-member_by : (r : Resolution) (x : ℕ) (m : List ℕ) (d : Declaration) (n : ℕ) (s : StructDefinition) (o : Option Declaration) → declaration_at r x ≡ Some d → named_at r d.written.base.token ≡ named.Struct n → struct_at r n ≡ Some s → field_of s.fields m ≡ o
+member_by : (r : Resolution) (x : ℕ) (m : List ℕ) (d : Declaration) (n : ℕ) (s : StructDefinition) (o : Option Declaration) → declaration_at r x ≡ Some d → named_at r d.written.base.token ≡ Named.Struct n → struct_at r n ≡ Some s → field_of s.fields m ≡ o
     → is_mutex_field o ≡ true → IsMutexBehind r x m
 member_by r x m d n s None a b c is h = absurd (false≢true h)
 member_by r x m d n s (Some f) a b c is h = record { variable = d; declared = a; number = n; names = b; struct = s; defined = c; member = f; has = is; mutex = mutex_is (declared_kind f.written) h }
 
-struct_by : (r : Resolution) (x : ℕ) (m : List ℕ) (d : Declaration) (n : ℕ) (o : Option StructDefinition) → declaration_at r x ≡ Some d → named_at r d.written.base.token ≡ named.Struct n → struct_at r n ≡ o
+struct_by : (r : Resolution) (x : ℕ) (m : List ℕ) (d : Declaration) (n : ℕ) (o : Option StructDefinition) → declaration_at r x ≡ Some d → named_at r d.written.base.token ≡ Named.Struct n → struct_at r n ≡ o
     → is_mutex_field (field_of (fields_of o) m) ≡ true → IsMutexBehind r x m
 struct_by r x m d n None a b c h = absurd (false≢true h)
 struct_by r x m d n (Some s) a b c h = member_by r x m d n s (field_of s.fields m) a b c refl h
 
 named_by : (r : Resolution) (x : ℕ) (m : List ℕ) (d : Declaration) (what : Named) → declaration_at r x ≡ Some d → named_at r d.written.base.token ≡ what → is_mutex_field (field_of (fields_named r what) m) ≡ true → IsMutexBehind r x m
-named_by r x m d (named.Struct n) a b h = struct_by r x m d n (struct_at r n) a b refl h
-named_by r x m d (named.Global n) a b h = absurd (false≢true h)
-named_by r x m d (named.Function n) a b h = absurd (false≢true h)
-named_by r x m d (named.Variable n) a b h = absurd (false≢true h)
-named_by r x m d (named.Field n) a b h = absurd (false≢true h)
-named_by r x m d named.Known a b h = absurd (false≢true h)
+named_by r x m d (Named.Struct n) a b h = struct_by r x m d n (struct_at r n) a b refl h
+named_by r x m d (Named.Global n) a b h = absurd (false≢true h)
+named_by r x m d (Named.Function n) a b h = absurd (false≢true h)
+named_by r x m d (Named.Variable n) a b h = absurd (false≢true h)
+named_by r x m d (Named.Field n) a b h = absurd (false≢true h)
+named_by r x m d Named.Known a b h = absurd (false≢true h)
 
 behind_by : (r : Resolution) (x : ℕ) (m : List ℕ) (o : Option Declaration) → declaration_at r x ≡ o → is_mutex_field (field_of (fields_behind r o) m) ≡ true → IsMutexBehind r x m
 behind_by r x m None a h = absurd (false≢true h)
@@ -145,21 +135,21 @@ by_behind r x m b =
     ∙ is_mutex_by (declared_kind b.member.written) b.mutex
 
 module _ (r : Resolution) (e : Entity) (depth : ℕ) where
-  variable_by : (text m : List ℕ) (token : ℕ) (what : Named) → place_of e.role ≡ place.Local → named_at r token ≡ what → is_through_constant r what m ≡ true → IsAllowed r e depth (Through text token m)
-  variable_by text m token (named.Struct n) at is h = absurd (false≢true h)
-  variable_by text m token (named.Global n) at is h = absurd (false≢true h)
-  variable_by text m token (named.Function n) at is h = absurd (false≢true h)
-  variable_by text m token (named.Variable x) at is h =
+  variable_by : (text m : List ℕ) (token : ℕ) (what : Named) → place_of e.role ≡ Place.Local → named_at r token ≡ what → is_through_constant r what m ≡ true → IsAllowed r e depth (Through text token m)
+  variable_by text m token (Named.Struct n) at is h = absurd (false≢true h)
+  variable_by text m token (Named.Global n) at is h = absurd (false≢true h)
+  variable_by text m token (Named.Function n) at is h = absurd (false≢true h)
+  variable_by text m token (Named.Variable x) at is h =
       let parts = and_parts (is_constant r x) (is_mutex_field (field_of (fields_behind r (declaration_at r x)) m)) h in
       through_constant at is parts.0 (behind_by r x m (declaration_at r x) refl parts.1)
-  variable_by text m token (named.Field n) at is h = absurd (false≢true h)
-  variable_by text m token named.Known at is h = absurd (false≢true h)
+  variable_by text m token (Named.Field n) at is h = absurd (false≢true h)
+  variable_by text m token Named.Known at is h = absurd (false≢true h)
 
   through_by : (text m : List ℕ) (token : ℕ) (where_is : Place) → place_of e.role ≡ where_is → allows_path r where_is (named_at r token) (Some m) ≡ true → IsAllowed r e depth (Through text token m)
-  through_by text m token place.Field at h = absurd (false≢true h)
-  through_by text m token place.Local at h = variable_by text m token (named_at r token) at refl h
-  through_by text m token place.Global at h = absurd (false≢true h)
-  through_by text m token place.Result at h = absurd (false≢true h)
+  through_by text m token Place.Field at h = absurd (false≢true h)
+  through_by text m token Place.Local at h = variable_by text m token (named_at r token) at refl h
+  through_by text m token Place.Global at h = absurd (false≢true h)
+  through_by text m token Place.Result at h = absurd (false≢true h)
 
   fits_allowed : (path : Path) → path_fits r (place_of e.role) (lock_of path) ≡ true → IsAllowed r e depth path
   fits_allowed (One text token) h = one_by r e depth text token (place_of e.role) (named_at r token) refl refl h
@@ -194,32 +184,32 @@ written_below e top below size h = closed_by e.written.ctype.base below (λ j is
     (found.0, omega (arith, many)))
 
 module _ (r : Resolution) (e : Entity) where
-  named_pointer : (text : List ℕ) (token : ℕ) (what : Named) → place_of e.role ≡ place.Field → named_at r token ≡ what → names_sibling_pointer r what ≡ true → AreTargetsWritten e → IsAllowed r e 0 (One text token)
-  named_pointer text token (named.Struct n) at is h w = absurd (false≢true h)
-  named_pointer text token (named.Global n) at is h w = absurd (false≢true h)
-  named_pointer text token (named.Function n) at is h w = absurd (false≢true h)
-  named_pointer text token (named.Variable n) at is h w = absurd (false≢true h)
-  named_pointer text token (named.Field f) at is h w = sibling_pointer at refl is (lock_pointer_by r f (declaration_at r f) refl h) w
-  named_pointer text token named.Known at is h w = absurd (false≢true h)
+  named_pointer : (text : List ℕ) (token : ℕ) (what : Named) → place_of e.role ≡ Place.Field → named_at r token ≡ what → names_sibling_pointer r what ≡ true → AreTargetsWritten e → IsAllowed r e 0 (One text token)
+  named_pointer text token (Named.Struct n) at is h w = absurd (false≢true h)
+  named_pointer text token (Named.Global n) at is h w = absurd (false≢true h)
+  named_pointer text token (Named.Function n) at is h w = absurd (false≢true h)
+  named_pointer text token (Named.Variable n) at is h w = absurd (false≢true h)
+  named_pointer text token (Named.Field f) at is h w = sibling_pointer at refl is (lock_pointer_by r f (declaration_at r f) refl h) w
+  named_pointer text token Named.Known at is h w = absurd (false≢true h)
 
   pointer_by : (text : List ℕ) (token : ℕ) (top : Option Mode) (below : List (Option Mode)) (where_is : Place) → e.written.ctype.levels ≡ top ∷ below → place_of e.role ≡ where_is
       → allows_pointer r where_is e.written.ctype.base below (named_at r token) None ≡ true → IsAllowed r e 0 (One text token)
-  pointer_by text token top below place.Field size at h =
+  pointer_by text token top below Place.Field size at h =
       let parts = and_parts (names_sibling_pointer r (named_at r token)) (not (leaves_open e.written.ctype.base below)) h in
       named_pointer text token (named_at r token) at refl parts.0 (below_written e top below size (not_true (leaves_open e.written.ctype.base below) parts.1))
     where
       not_true : (b : Bool) → not b ≡ true → b ≡ false
       not_true true h = absurd (false≢true h)
       not_true false h = refl
-  pointer_by text token top below place.Local size at h = absurd (false≢true h)
-  pointer_by text token top below place.Global size at h = absurd (false≢true h)
-  pointer_by text token top below place.Result size at h = absurd (false≢true h)
+  pointer_by text token top below Place.Local size at h = absurd (false≢true h)
+  pointer_by text token top below Place.Global size at h = absurd (false≢true h)
+  pointer_by text token top below Place.Result size at h = absurd (false≢true h)
 
   no_pointer : (where_is : Place) (b : Base) (below : List (Option Mode)) (what : Named) (m : List ℕ) → allows_pointer r where_is b below what (Some m) ≡ true → ⊥
-  no_pointer place.Field b below what m h = false≢true h
-  no_pointer place.Local b below what m h = false≢true h
-  no_pointer place.Global b below what m h = false≢true h
-  no_pointer place.Result b below what m h = false≢true h
+  no_pointer Place.Field b below what m h = false≢true h
+  no_pointer Place.Local b below what m h = false≢true h
+  no_pointer Place.Global b below what m h = false≢true h
+  no_pointer Place.Result b below what m h = false≢true h
 
   top_allowed : (top : Option Mode) (below : List (Option Mode)) → e.written.ctype.levels ≡ top ∷ below → (path : Path) → top_path_fits r (place_of e.role) e.written.ctype.base below (lock_of path) ≡ true → IsAllowed r e 0 path
   top_allowed top below size (One text token) h =
@@ -232,21 +222,21 @@ module _ (r : Resolution) (e : Entity) where
 -- ---- back: an allowed path fits
 
 anywhere : (r : Resolution) (where_is : Place) (what : Named) → names_global_mutex r what ≡ true → allows_path r where_is what None ≡ true
-anywhere r place.Field what h = or_left (names_global_mutex r what) (names_sibling_mutex r what) h
-anywhere r place.Local what h = h
-anywhere r place.Global what h = h
-anywhere r place.Result what h = h
+anywhere r Place.Field what h = or_left (names_global_mutex r what) (names_sibling_mutex r what) h
+anywhere r Place.Local what h = h
+anywhere r Place.Global what h = h
+anywhere r Place.Result what h = h
 
 -- it fits at any depth, or it is a pointer to a mutex on the top
 pub data Fits (r : Resolution) (e : Entity) (depth : ℕ) : Path → Type 0 where
   at_any : {path : Path} → path_fits r (place_of e.role) (lock_of path) ≡ true → Fits r e depth path
-  at_top : {text : List ℕ} {token : ℕ} → depth ≡ 0 → place_of e.role ≡ place.Field → names_sibling_pointer r (named_at r token) ≡ true → AreTargetsWritten e → Fits r e depth (One text token)
+  at_top : {text : List ℕ} {token : ℕ} → depth ≡ 0 → place_of e.role ≡ Place.Field → names_sibling_pointer r (named_at r token) ≡ true → AreTargetsWritten e → Fits r e depth (One text token)
 
 pub allowed_fits : (r : Resolution) (e : Entity) (depth : ℕ) (path : Path) → IsAllowed r e depth path → Fits r e depth path
 allowed_fits r e depth _ (global_mutex {text = text} {token = token} {g = g} is kind) =
-    at_any (anywhere r (place_of e.role) (named_at r token) (ap (names_global_mutex r) is ∙ is_mutex_by (named_kind r (named.Global g)) kind))
+    at_any (anywhere r (place_of e.role) (named_at r token) (ap (names_global_mutex r) is ∙ is_mutex_by (named_kind r (Named.Global g)) kind))
 allowed_fits r e depth _ (sibling_mutex {text = text} {token = token} {f = f} at is kind) =
-    at_any (ap (λ z. allows_path r z (named_at r token) None) at ∙ or_right (names_global_mutex r (named_at r token)) (names_sibling_mutex r (named_at r token)) (ap (names_sibling_mutex r) is ∙ is_mutex_by (named_kind r (named.Field f)) kind))
+    at_any (ap (λ z. allows_path r z (named_at r token) None) at ∙ or_right (names_global_mutex r (named_at r token)) (names_sibling_mutex r (named_at r token)) (ap (names_sibling_mutex r) is ∙ is_mutex_by (named_kind r (Named.Field f)) kind))
 allowed_fits r e depth _ (sibling_pointer {text = text} {token = token} {f = f} at top is pointer targets) = at_top top at (ap (names_sibling_pointer r) is ∙ by_lock_pointer r f pointer) targets
 allowed_fits r e depth _ (through_constant {text = text} {m = m} {token = token} {x = x} at is constant behind) =
     at_any (ap (λ z. allows_path r z (named_at r token) (Some m)) at ∙ ap (λ z. is_through_constant r z m) is ∙ and_from (is_constant r x) (is_mutex_field (field_of (fields_behind r (declaration_at r x)) m)) constant (by_behind r x m behind))

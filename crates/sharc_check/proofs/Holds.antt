@@ -1,14 +1,8 @@
 -- What all notes of a program say, by its constructs, there and back.
-use Rattle.std.proofs.{Common.{◌≡◌, ⊎_elim, ◌+◌, ℕ, zero, suc, Bool, true, false, ◌&&◌, cond, arith, List, [], ◌∷◌, ◌++◌, drop, refl, ap, sym, ◌∙◌, subst, slice_get, Option, Some, None, Contains}, lemmas.Bool.false≢true}
-use Rattle.std.specs.List.{AllByRecursion, flat_map, list_any}
-use Rattle.sharc_tree.specs.{declared.ctype.Mode.Mode, declared.ctype.Mode.TheVariants.Locked, declared.ctype.Path.Path, declared.token.Span.Span, declared.tree.declaration.Declaration.Declaration, declared.tree.declaration.Identifier.Identifier, declared.tree.declaration.WrittenType.WrittenType, declared.tree.expression.FieldOperator.FieldOperator, declared.tree.expression.PlaceCall.PlaceCall, declared.tree.expression.PlaceCall.TheVariants.{Lock, Unlock, Free}, declared.tree.item.GlobalDefinition.GlobalDefinition, Forms.without_parentheses, Measures.in_function, Spans.span_of, Tree.{Expression, Arguments, no_arguments, argument, Right, value, malloc, Local, Function}}
+use Rattle.sharc_check.proofs.{Imports.{◌≡◌, ⊎_elim, ◌+◌, ℕ, zero, suc, Bool, true, false, ◌&&◌, cond, arith, List, [], ◌∷◌, ◌++◌, drop, refl, ap, sym, ◌∙◌, subst, slice_get, Option, Some, None, Contains, false≢true, AllByRecursion, flat_map, list_any, Mode, Locked, Path, Span, Declaration, Identifier, WrittenType, FieldOperator, PlaceCall, Unlock, Free, GlobalDefinition, without_parentheses, in_function, span_of, Expression, Arguments, no_arguments, argument, Right, value, malloc, Local, Function, Numbered, entities_in, numbered, functions_in, globals_in, named_at, kind_at, function_at, global_at, Receiver, lvalue, variable, result, Transfer, passed, parameters_named, function_transfers, ReadonlyWrite, PrivateField, PrivateReachesThread, ReadonlySource, Finding, cell_at, top_of, expected, place_notes, items_notes, Assignment, base_of, span_text, agree_notes, error_where, levels_of, private_notes, path_notes, mode_notes, is_private_level, is_field_role, private_field_notes, names_in_level, names_in_all, names_read, type_notes, first_unmet, unmet_notes, parameter_names, names_at_call, call_notes, cast_notes, taken_variable, source_notes, takes, sibling_notes, PathReading, written, at_call, base_use, declared_row, cast_row, named_row, modes_of, modes_at, Sharing, same_all, is_readonly, is_sibling, text_at, variable_named, object_of, lock_of, place_of, holds_private, first_unfit_path, first_unfit_mode, is_spawned, has_private_target, parameter_notes, spawned_notes, touched_notes, notes_about, IsFunction, IsExpression, IsCall, called, spawned, IsTaken, cast_away, freed, IsAssigned, IsGiven, assigned, initial, an_argument, returned, IsEntity, locals_in_all, HasPath, at_target, at_level, same_some, none_some, front, back, both, head_there, head_or_tail, of_each, to_each, tail_there, none_there}, Claims.{Said, Hold, where_said, where_back, when_said, when_back, agree_said, agree_back, path_said, path_back, mode_said, mode_back, unmet_said, unmet_back, cast_said, cast_back, takes_said, takes_back, names_said, names_back, in_all_said, in_all_back, levels_said, levels_back, all_read_said, all_read_back}, Lists.{spread, gather}, Walk.{argument_notes, own_notes, OwnSaid, ReceiverSaid, TransferSaid, InitialSaid, LocalSaid, FunctionSaid, items_said, items_back}}
+use Rattle.sharc_tree.specs.declared.tree.expression.PlaceCall.TheVariants.{Lock}
 use Rattle.sharc_tree.specs.Tree as tree
-use Rattle.sharc_ctype.specs.{declared.entity.Numbered.Numbered, Entities.{entities_in, numbered}, Resolved.{functions_in, globals_in, named_at, kind_at, function_at, global_at}, Transfers.{Receiver, lvalue, variable, result, Transfer, passed, parameters_named, function_transfers}}
-use Rattle.sharc_mode.specs.{declared.error.ErrorCode.TheVariants.{ReadonlyWrite, PrivateField, PrivateReachesThread, ReadonlySource}, declared.finding.Finding.Finding, Cells.{cell_at, top_of}, Expressions.{expected, place_notes, items_notes}, Moded.Assignment, Notes.{base_of, span_text, agree_notes, error_where, levels_of, private_notes, path_notes, mode_notes, is_private_level, is_field_role, private_field_notes, names_in_level, names_in_all, names_read, type_notes, first_unmet, unmet_notes, parameter_names, names_at_call, call_notes, cast_notes, taken_variable, source_notes, takes, sibling_notes}, Rows.{PathReading, written, at_call, base_use, declared_row, cast_row, named_row, modes_of, modes_at}, Sharings.{Sharing, same_all, is_readonly, is_sibling, text_at, variable_named, object_of, lock_of}, WellFormed.{place_of, holds_private, first_unfit_path, first_unfit_mode}, WellModed.{is_spawned, has_private_target, parameter_notes, spawned_notes, touched_notes, notes_about}}
 use Rattle.sharc_mode.specs.Sharings as sharing
-use Rattle.sharc_check.specs.{Constructs.{IsFunction, IsExpression, IsCall, called, spawned, IsTaken, cast_away, freed, IsAssigned, IsGiven, assigned, initial, an_argument, returned, IsEntity, locals_in_all}, Paths.{HasPath, at_target, at_level}}
-use Rattle.sharc_check.proofs.{Claims.{Said, Hold, where_said, where_back, when_said, when_back, agree_said, agree_back, path_said, path_back, mode_said, mode_back, unmet_said, unmet_back, cast_said, cast_back, takes_said, takes_back, names_said, names_back, in_all_said, in_all_back, levels_said, levels_back, all_read_said, all_read_back}, Lists.{spread, gather}, Walk.{argument_notes, own_notes, OwnSaid, ReceiverSaid, TransferSaid, InitialSaid, LocalSaid, FunctionSaid, items_said, items_back}}
-use Rattle.sharc_lemmas.proofs.{Options.{same_some, none_some}, Lists.{front, back, both, head_there, head_or_tail, of_each, to_each, tail_there}, Equal.none_there}
 
 -- the paths that name a variable or a global, as the notes have them: the use of a field by the token of its base
 pub data Named (m : Assignment) (x : ℕ) : Type 0 where

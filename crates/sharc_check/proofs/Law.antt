@@ -1,16 +1,7 @@
 -- A program is well-moded exactly where it meets the rules.
-use Rattle.std.proofs.{Common.{◌≡◌, ◌↔◌, ℕ, ◌==◌, Bool, true, false, cond, List, [], ◌∷◌, ◌++◌, drop, refl, ap, sym, ◌∙◌, subst, eq-eqb, ne_eqb, Option, Some, None, Contains}, lemmas.Bool.{false≢true, true≢false, and_parts, and_from, true_from_ne_false as true_by, or_parts as or_false, or_from as false_or}}
-use Rattle.std.specs.List.{AllByRecursion, flat_map, list_any}
-use Rattle.sharc_tree.specs.{declared.token.Span.Span, declared.tree.declaration.Identifier.Identifier, declared.tree.expression.FieldOperator.FieldOperator, declared.tree.expression.FieldOperator.TheVariants.{Dot, Arrow}, Forms.without_parentheses, Tree.Expression}
+use Rattle.sharc_check.proofs.{Imports.{◌≡◌, ◌↔◌, ℕ, ◌==◌, Bool, true, false, cond, List, [], ◌∷◌, ◌++◌, drop, refl, ap, sym, ◌∙◌, subst, eq-eqb, ne_eqb, Option, Some, None, Contains, false≢true, true≢false, and_parts, and_from, true_by, or_false, false_or, AllByRecursion, flat_map, list_any, Span, Identifier, FieldOperator, Dot, Arrow, without_parentheses, Expression, Named, is_constant, Resolution, named_at, NamedByLockPath, Finding, Wrong, Names, Takes, cell_at, top_of, Assignment, is_private_level, error_where, is_named, error_of, errors_by, taken_variable, written, is_constant_named, base_use, declared_row, cast_row, named_row, modes_of, Lock, Sharing, private, readonly, locked, racy, dynamic, is_readonly, same_all, is_sibling, is_sibling_lock, text_at, variable_named, object_named, WellModed, TellsTouched, mode_errors, notes_about, IsExpression, IsThroughConstant, through, IsSiblingUse, IsNamedByPath, is_written, is_substituted, is_made, MeetsRules, same_some, none_some, each, no_head, none_of, not_both}, Calls.{arguments_met, met_arguments}, Claims.Said, Forms.{forms_allowed, allowed_forms}, Holds.{Holds, facts, from_facts, holds, from_holds}, Levels.{above_none, none_above}, Lists.{passes_there, passes_by}, Modes.{level_is, modes_allowed, allowed_modes, no_private, private_none}, ThreadRules.{spawned_by, by_spawned, private_target, target_private}, Touched.{touched, tells}}
 use Rattle.sharc_tree.specs.Tree as tree
-use Rattle.sharc_names.specs.declared.fault.Named.{Named}
-use Rattle.sharc_names.specs.declared.fault.Named.TheVariants as named
-use Rattle.sharc_ctype.specs.{Constants.is_constant, Resolved.{Resolution, named_at}}
-use Rattle.sharc_mode.specs.{declared.error.ErrorCode.TheVariants.NamedByLockPath, declared.finding.Finding.Finding, declared.finding.Finding.TheVariants.{Wrong, Names, Takes}, Cells.{cell_at, top_of}, Moded.Assignment, Notes.{is_private_level, error_where, is_named, error_of, errors_by, taken_variable}, Rows.{written, is_constant_named, base_use, declared_row, cast_row, named_row, modes_of}, Sharings.{Lock, Sharing, private, readonly, locked, racy, dynamic, is_readonly, same_all, is_sibling, is_sibling_lock, text_at, variable_named, object_named}, WellModed.{WellModed, TellsTouched, mode_errors, notes_about}}
-use Rattle.sharc_check.specs.{Constructs.IsExpression, Paths.{IsThroughConstant, through, IsSiblingUse, IsNamedByPath, is_written, is_substituted, is_made}, Rules.MeetsRules}
-use Rattle.sharc_check.proofs.{Calls.{arguments_met, met_arguments}, Claims.Said, Forms.{forms_allowed, allowed_forms}, Holds.{Holds, facts, from_facts, holds, from_holds}, Levels.{above_none, none_above}, Lists.{passes_there, passes_by}, Modes.{level_is, modes_allowed, allowed_modes, no_private, private_none}, ThreadRules.{spawned_by, by_spawned, private_target, target_private}, Touched.{touched, tells}}
 use Rattle.sharc_check.proofs.Holds as by_notes
-use Rattle.sharc_lemmas.proofs.{Options.{same_some, none_some}, Lists.{each, no_head, none_of}, Bools.{not_ended as not_both}}
 
 -- ---- lists of errors
 
@@ -108,17 +99,17 @@ use_is m a w u = passes_by (is_sibling m.typed) (modes_used m u.name) (locked u.
 abbrev token_if : Bool → ℕ → Option ℕ
 token_if b token = cond b (Some token) None
 
-constant_by : (r : Resolution) (s : Span) (i : Identifier) (x : ℕ) (b : Bool) → named_at r i.site.token ≡ named.Variable x → is_constant r x ≡ b → (token_if b i.site.token ≡ None → ⊥) → (y : ℕ) × IsThroughConstant r Arrow (tree.identifier s i) y
+constant_by : (r : Resolution) (s : Span) (i : Identifier) (x : ℕ) (b : Bool) → named_at r i.site.token ≡ Named.Variable x → is_constant r x ≡ b → (token_if b i.site.token ≡ None → ⊥) → (y : ℕ) × IsThroughConstant r Arrow (tree.identifier s i) y
 constant_by r s i x true is constant h = (x, through is constant)
 constant_by r s i x false is constant h = absurd (h refl)
 
 named_by : (r : Resolution) (s : Span) (i : Identifier) (what : Named) → named_at r i.site.token ≡ what → (token_if (is_constant_named r what) i.site.token ≡ None → ⊥) → (y : ℕ) × IsThroughConstant r Arrow (tree.identifier s i) y
-named_by r s i (named.Struct n) is h = absurd (h refl)
-named_by r s i (named.Global n) is h = absurd (h refl)
-named_by r s i (named.Function n) is h = absurd (h refl)
-named_by r s i (named.Variable x) is h = constant_by r s i x (is_constant r x) is refl h
-named_by r s i (named.Field n) is h = absurd (h refl)
-named_by r s i named.Known is h = absurd (h refl)
+named_by r s i (Named.Struct n) is h = absurd (h refl)
+named_by r s i (Named.Global n) is h = absurd (h refl)
+named_by r s i (Named.Function n) is h = absurd (h refl)
+named_by r s i (Named.Variable x) is h = constant_by r s i x (is_constant r x) is refl h
+named_by r s i (Named.Field n) is h = absurd (h refl)
+named_by r s i Named.Known is h = absurd (h refl)
 
 through_by : (r : Resolution) (w : FieldOperator) (a : Expression) → (base_use r w a ≡ None → ⊥) → (x : ℕ) × IsThroughConstant r w a x
 through_by r Dot a h = absurd (h refl)
@@ -138,20 +129,20 @@ through_by r Arrow (tree.binary s o at a b) h = absurd (h refl)
 record IsBase (r : Resolution) (w : FieldOperator) (a : Expression) (x : ℕ) : Type 0 where
   at : ℕ
   base : base_use r w a ≡ Some at
-  names : named_at r at ≡ named.Variable x
+  names : named_at r at ≡ Named.Variable x
 
 base_by : (r : Resolution) (w : FieldOperator) (a : Expression) (x : ℕ) → IsThroughConstant r w a x → IsBase r w a x
 base_by r _ _ x (through {s = s} {i = i} is constant) = record { at = i.site.token; base = ap (λ b. token_if b i.site.token) (ap (is_constant_named r) is ∙ constant); names = is }
 
-variable_is : (what : Named) (x : ℕ) → variable_named what ≡ Some x → what ≡ named.Variable x
-variable_is (named.Struct n) x h = absurd (none_some x h)
-variable_is (named.Global n) x h = absurd (none_some x h)
-variable_is (named.Function n) x h = absurd (none_some x h)
-variable_is (named.Variable y) x h = ap named.Variable (same_some y x h)
-variable_is (named.Field n) x h = absurd (none_some x h)
-variable_is named.Known x h = absurd (none_some x h)
+variable_is : (what : Named) (x : ℕ) → variable_named what ≡ Some x → what ≡ Named.Variable x
+variable_is (Named.Struct n) x h = absurd (none_some x h)
+variable_is (Named.Global n) x h = absurd (none_some x h)
+variable_is (Named.Function n) x h = absurd (none_some x h)
+variable_is (Named.Variable y) x h = ap Named.Variable (same_some y x h)
+variable_is (Named.Field n) x h = absurd (none_some x h)
+variable_is Named.Known x h = absurd (none_some x h)
 
-same_variable : (x y : ℕ) → named.Variable x ≡ named.Variable y → x ≡ y
+same_variable : (x y : ℕ) → Named.Variable x ≡ Named.Variable y → x ≡ y
 same_variable x y h = cc
 
 -- the constant variable is the one that the use names

@@ -1,10 +1,5 @@
 -- The levels of a type, from the top down; and the positions of an entity that is listed.
-use Rattle.std.proofs.{Common.{◌≡◌, ℕ, zero, suc, ◌+◌, ◌<◌, ◌≤◌, Bool, true, false, ◌&&◌, ◌||◌, not, List, [], ◌∷◌, ◌++◌, length, take, drop, map, Option, Some, get_or, refl, ap, sym, ◌∙◌, subst, add-one, drop-cons, append_assoc, arith}, lemmas.List.{get_or-drop, get_or-take, length-map, length-drop, length-take-le}, Math.ListN.get_or-map}
-use Rattle.std.specs.Prelude.{slice_index_or}
-use Rattle.sharc_tree.specs.{declared.ctype.Mode.Mode, declared.ctype.Mode.TheVariants.Private}
-use Rattle.sharc_ctype.specs.{declared.entity.Entity.Entity, declared.entity.Numbered.Numbered, Entities.{entities_in, numbered, numbered_from, positions_of, positions_in}, Resolved.Resolution}
-use Rattle.sharc_mode.specs.{Moded.{Assignment, position_count}, Notes.position_levels, WellFormed.is_private_mode}
-use Rattle.sharc_check.specs.Levels.{holds_below}
+use Rattle.sharc_check.proofs.Imports.{◌≡◌, ℕ, zero, suc, ◌+◌, ◌<◌, ◌≤◌, Bool, true, false, ◌&&◌, ◌||◌, not, List, [], ◌∷◌, ◌++◌, length, take, drop, map, Option, Some, get_or, refl, ap, sym, ◌∙◌, subst, add-one, drop-cons, append_assoc, arith, get_or-drop, get_or-take, length-map, length-drop, length-take-le, get_or-map, get_or as slice_index_or, Mode, Private, Entity, Numbered, entities_in, numbered, numbered_from, positions_of, positions_in, Resolution, Assignment, position_count, position_levels, is_private_mode, holds_below}
 
 -- the level at a position
 level_at : (modes : List Mode) (first count i : ℕ) → i < count → first + count ≤ length modes

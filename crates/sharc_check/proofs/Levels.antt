@@ -1,13 +1,5 @@
 -- Levels above private targets, there and back.
-use Rattle.std.proofs.{Common.{◌≡◌, ◌⊎◌, inl, inr, ⊎_elim, ℕ, zero, suc, ◌+◌, ◌<◌, Bool, true, false, not, ◌&&◌, List, [], ◌∷◌, ◌++◌, map, take, drop, slice_get, refl, ap, sym, ◌∙◌, arith, Option, Some, None}, lemmas.Bool.{false≢true, true≢false, or_cases, and_parts, or_right, or_left}}
-use Rattle.std.specs.Option.{option_or}
-use Rattle.sharc_tree.specs.{declared.ctype.Mode.Mode, declared.ctype.Mode.TheVariants.{Private, Readonly, Locked, Racy, Dynamic}}
-use Rattle.sharc_names.specs.declared.types.Role.{Role}
-use Rattle.sharc_names.specs.declared.types.Role.TheVariants as role
-use Rattle.sharc_ctype.specs.{declared.entity.Numbered.Numbered, Entities.positions_of}
-use Rattle.sharc_mode.specs.{Cells.top_of, Moded.Assignment, Notes.{top_levels, position_levels, levels_of}, WellFormed.{is_private_mode, begins_private, holds_private}}
-use Rattle.sharc_check.specs.{Constructs.IsEntity, Rules.NoneAbovePrivate}
-use Rattle.sharc_lemmas.proofs.{Options.{same_some, none_some}, Bools.{not_true as not_above}}
+use Rattle.sharc_check.proofs.Imports.{◌≡◌, ◌⊎◌, inl, inr, ⊎_elim, ℕ, zero, suc, ◌+◌, ◌<◌, Bool, true, false, not, ◌&&◌, List, [], ◌∷◌, ◌++◌, map, take, drop, slice_get, refl, ap, sym, ◌∙◌, arith, Option, Some, None, false≢true, true≢false, or_cases, and_parts, or_right, or_left, option_or, Mode, Private, Readonly, Locked, Racy, Dynamic, Role, Numbered, positions_of, top_of, Assignment, top_levels, position_levels, levels_of, is_private_mode, begins_private, holds_private, IsEntity, NoneAbovePrivate, same_some, none_some, not_above}
 
 -- ---- places in lists
 
@@ -117,17 +109,17 @@ holds_top y list x is s below = holds_at (y ∷ list) zero x (ap Some is) s belo
 
 -- the top of what is no global
 pub record BreaksTop (what : Role) (levels ps : List (Option Mode)) : Type 0 where
-  pub not_global : what ≡ role.Global → ⊥
+  pub not_global : what ≡ Role.Global → ⊥
   pub mode : Mode
   pub top : top_of levels ≡ Some mode
   pub shared : is_private_mode mode ≡ false
   pub below : slice_get ps 0 ≡ Some (Some Private)
 
 abbrev is_global : Role → Bool
-is_global role.Global = true
+is_global Role.Global = true
 is_global _ = false
 
-not_global : (what : Role) → is_global what ≡ false → what ≡ role.Global → ⊥
+not_global : (what : Role) → is_global what ≡ false → what ≡ Role.Global → ⊥
 not_global what other is = true≢false (sym (ap is_global is) ∙ other)
 
 or_private : (o : Option Mode) (x : Mode) → option_or o (Some Private) ≡ Some x → is_private_mode x ≡ false → o ≡ Some x
@@ -149,31 +141,31 @@ topped what levels (Some x) ps other back h =
     (or_cases (not (is_private_mode x) && begins_private ps) (holds_private ps) h)
 
 levels_to : (what : Role) (levels ps : List (Option Mode)) → holds_private (top_levels what levels ++ ps) ≡ true → (holds_private ps ≡ true) ⊎ BreaksTop what levels ps
-levels_to role.Global levels ps h = inl h
-levels_to role.Field levels ps h = topped role.Field levels (top_of levels) ps refl (λ x is s. is) h
-levels_to role.Local levels ps h = topped role.Local levels (option_or (top_of levels) (Some Private)) ps refl (or_private (top_of levels)) h
-levels_to role.Parameter levels ps h = topped role.Parameter levels (option_or (top_of levels) (Some Private)) ps refl (or_private (top_of levels)) h
-levels_to role.Result levels ps h = topped role.Result levels (top_of levels) ps refl (λ x is s. is) h
-levels_to role.Cast levels ps h = topped role.Cast levels (top_of levels) ps refl (λ x is s. is) h
-levels_to role.Made levels ps h = topped role.Made levels (top_of levels) ps refl (λ x is s. is) h
+levels_to Role.Global levels ps h = inl h
+levels_to Role.Field levels ps h = topped Role.Field levels (top_of levels) ps refl (λ x is s. is) h
+levels_to Role.Local levels ps h = topped Role.Local levels (option_or (top_of levels) (Some Private)) ps refl (or_private (top_of levels)) h
+levels_to Role.Parameter levels ps h = topped Role.Parameter levels (option_or (top_of levels) (Some Private)) ps refl (or_private (top_of levels)) h
+levels_to Role.Result levels ps h = topped Role.Result levels (top_of levels) ps refl (λ x is s. is) h
+levels_to Role.Cast levels ps h = topped Role.Cast levels (top_of levels) ps refl (λ x is s. is) h
+levels_to Role.Made levels ps h = topped Role.Made levels (top_of levels) ps refl (λ x is s. is) h
 
 levels_from : (what : Role) (levels ps : List (Option Mode)) → holds_private ps ≡ true → holds_private (top_levels what levels ++ ps) ≡ true
-levels_from role.Global levels ps h = h
-levels_from role.Field levels ps h = holds_later (top_of levels) ps h
-levels_from role.Local levels ps h = holds_later (option_or (top_of levels) (Some Private)) ps h
-levels_from role.Parameter levels ps h = holds_later (option_or (top_of levels) (Some Private)) ps h
-levels_from role.Result levels ps h = holds_later (top_of levels) ps h
-levels_from role.Cast levels ps h = holds_later (top_of levels) ps h
-levels_from role.Made levels ps h = holds_later (top_of levels) ps h
+levels_from Role.Global levels ps h = h
+levels_from Role.Field levels ps h = holds_later (top_of levels) ps h
+levels_from Role.Local levels ps h = holds_later (option_or (top_of levels) (Some Private)) ps h
+levels_from Role.Parameter levels ps h = holds_later (option_or (top_of levels) (Some Private)) ps h
+levels_from Role.Result levels ps h = holds_later (top_of levels) ps h
+levels_from Role.Cast levels ps h = holds_later (top_of levels) ps h
+levels_from Role.Made levels ps h = holds_later (top_of levels) ps h
 
-levels_by : (what : Role) (levels ps : List (Option Mode)) (x : Mode) → (what ≡ role.Global → ⊥) → top_of levels ≡ Some x → is_private_mode x ≡ false → slice_get ps 0 ≡ Some (Some Private) → holds_private (top_levels what levels ++ ps) ≡ true
-levels_by role.Global levels ps x other is s below = absurd (other refl)
-levels_by role.Field levels ps x other is s below = holds_top (top_of levels) ps x is s below
-levels_by role.Local levels ps x other is s below = holds_top (option_or (top_of levels) (Some Private)) ps x (private_or (top_of levels) x is) s below
-levels_by role.Parameter levels ps x other is s below = holds_top (option_or (top_of levels) (Some Private)) ps x (private_or (top_of levels) x is) s below
-levels_by role.Result levels ps x other is s below = holds_top (top_of levels) ps x is s below
-levels_by role.Cast levels ps x other is s below = holds_top (top_of levels) ps x is s below
-levels_by role.Made levels ps x other is s below = holds_top (top_of levels) ps x is s below
+levels_by : (what : Role) (levels ps : List (Option Mode)) (x : Mode) → (what ≡ Role.Global → ⊥) → top_of levels ≡ Some x → is_private_mode x ≡ false → slice_get ps 0 ≡ Some (Some Private) → holds_private (top_levels what levels ++ ps) ≡ true
+levels_by Role.Global levels ps x other is s below = absurd (other refl)
+levels_by Role.Field levels ps x other is s below = holds_top (top_of levels) ps x is s below
+levels_by Role.Local levels ps x other is s below = holds_top (option_or (top_of levels) (Some Private)) ps x (private_or (top_of levels) x is) s below
+levels_by Role.Parameter levels ps x other is s below = holds_top (option_or (top_of levels) (Some Private)) ps x (private_or (top_of levels) x is) s below
+levels_by Role.Result levels ps x other is s below = holds_top (top_of levels) ps x is s below
+levels_by Role.Cast levels ps x other is s below = holds_top (top_of levels) ps x is s below
+levels_by Role.Made levels ps x other is s below = holds_top (top_of levels) ps x is s below
 
 top_written : (levels : List (Option Mode)) (x : Mode) → slice_get levels 0 ≡ Some (Some x) → top_of levels ≡ Some x
 top_written [] x is = absurd (none_some (Some x) is)

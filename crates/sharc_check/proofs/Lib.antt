@@ -1,3 +1,4 @@
+mod Imports
 pub mod Calls
 pub mod Claims
 pub mod Forms

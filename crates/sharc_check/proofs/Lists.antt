@@ -1,7 +1,5 @@
 -- What holds of each element of a list, and what is an element.
-use Rattle.std.proofs.{Common.{◌≡◌, ◌⊎◌, ⊎_elim, ◌<◌, Bool, true, false, ◌||◌, List, [], ◌∷◌, ◌++◌, ap, ◌∙◌, Contains}, lemmas.Bool.{false≢true, or_cases, or_right, or_left}}
-use Rattle.std.specs.List.{AllByRecursion, flat_map, list_any}
-use Rattle.sharc_lemmas.proofs.{Lists.{front, back, both, head_there, head_or_tail, tail_there}, Equal.none_there}
+use Rattle.sharc_check.proofs.Imports.{◌≡◌, ◌⊎◌, ⊎_elim, ◌<◌, Bool, true, false, ◌||◌, List, [], ◌∷◌, ◌++◌, ap, ◌∙◌, Contains, false≢true, or_cases, or_right, or_left, AllByRecursion, flat_map, list_any, front, back, both, head_there, head_or_tail, tail_there, none_there}
 
 pub spread : {A B : Type 0} (P : B → Type 0) (f : A → List B) (xs : List A) → AllByRecursion P (flat_map f xs) → AllByRecursion (λ x. AllByRecursion P (f x)) xs
 spread P f [] h = tt

@@ -1,16 +1,5 @@
 -- Modes that are where they may be, there and back.
-use Rattle.std.proofs.{Common.{◌≡◌, ℕ, zero, suc, ◌+◌, ◌<◌, true, not, ◌&&◌, List, [], ◌∷◌, length, slice_get, refl, ap, sym, ◌∙◌, arith, Option, Some, None}, lemmas.Bool.{false≢true, and_parts, and_from}}
-use Rattle.std.specs.List.{list_any}
-use Rattle.sharc_tree.specs.{declared.ctype.Base.Base, declared.ctype.Mode.Mode, declared.ctype.Mode.TheVariants.{Private, Readonly, Locked, Racy, Dynamic}}
-use Rattle.sharc_tree.specs.declared.ctype.Base.TheVariants as base
-use Rattle.sharc_names.specs.declared.types.Role.{Role}
-use Rattle.sharc_names.specs.declared.types.Role.TheVariants as role
-use Rattle.sharc_ctype.specs.declared.entity.Entity.{Entity}
-use Rattle.sharc_mode.specs.{declared.place.Place.Place, Notes.{is_private_level, is_field_role}, WellFormed.{place_of, is_private_mode, is_racy_mode, base_allows, level_allows, top_allows, unfit_mode, unfit_top, unfit_mode_in, first_unfit_mode}}
-use Rattle.sharc_mode.specs.declared.place.Place.TheVariants as place
-use Rattle.sharc_check.specs.{Constructs.IsWritten, Rules.{HasPrivateTop, of_variable, of_result, IsModeAllowed}}
-use Rattle.sharc_check.proofs.{Levels.private_is, Lists.{passes_there, passes_by}, Options.{or_none, none_or, unless_none, none_unless, none_of}}
-use Rattle.sharc_lemmas.proofs.{Options.{same_some, none_some}, Lists.{place_of_element, in_list as place_there}}
+use Rattle.sharc_check.proofs.{Imports.{◌≡◌, ℕ, zero, suc, ◌+◌, ◌<◌, true, not, ◌&&◌, List, [], ◌∷◌, length, slice_get, refl, ap, sym, ◌∙◌, arith, Option, Some, None, false≢true, and_parts, and_from, list_any, Base, Mode, Private, Readonly, Locked, Racy, Dynamic, Role, Entity, Place, is_private_level, is_field_role, place_of, is_private_mode, is_racy_mode, base_allows, level_allows, top_allows, unfit_mode, unfit_top, unfit_mode_in, first_unfit_mode, IsWritten, HasPrivateTop, of_variable, of_result, IsModeAllowed, same_some, none_some, place_of_element, place_there}, Levels.private_is, Lists.{passes_there, passes_by}, Options.{or_none, none_or, unless_none, none_unless, none_of}}
 
 racy_is : (mode : Mode) → is_racy_mode mode ≡ true → mode ≡ Racy
 racy_is Private h = absurd (false≢true h)
@@ -33,8 +22,8 @@ unraced Dynamic h = refl
 
 record LevelRules (b : Base) (size : ℕ) (mode : Mode) : Type 0 where
   pointer : 0 < size → mode ≡ Racy → ⊥
-  struct : (name : List ℕ) → b ≡ base.Struct name → size ≡ 0 → mode ≡ Racy → ⊥
-  mutex : b ≡ base.Mutex → size ≡ 0 → mode ≡ Racy
+  struct : (name : List ℕ) → b ≡ Base.Struct name → size ≡ 0 → mode ≡ Racy → ⊥
+  mutex : b ≡ Base.Mutex → size ≡ 0 → mode ≡ Racy
 
 base_rules : (b : Base) (mode : Mode) → base_allows b mode ≡ true → LevelRules b 0 mode
 base_rules b mode h = record {
@@ -44,12 +33,12 @@ base_rules b mode h = record {
 }
 
 rules_base : (b : Base) (mode : Mode) → LevelRules b 0 mode → base_allows b mode ≡ true
-rules_base base.Int mode h = refl
-rules_base base.Char mode h = refl
-rules_base base.Long mode h = refl
-rules_base base.Void mode h = refl
-rules_base base.Mutex mode h = ap is_racy_mode (h.mutex refl refl)
-rules_base (base.Struct name) mode h = unraced mode (h.struct name refl refl)
+rules_base Base.Int mode h = refl
+rules_base Base.Char mode h = refl
+rules_base Base.Long mode h = refl
+rules_base Base.Void mode h = refl
+rules_base Base.Mutex mode h = ap is_racy_mode (h.mutex refl refl)
+rules_base (Base.Struct name) mode h = unraced mode (h.struct name refl refl)
 
 level_rules : (b : Base) (below : List (Option Mode)) (mode : Mode) → level_allows b below mode ≡ true → LevelRules b (length below) mode
 level_rules b [] mode h = base_rules b mode h
@@ -108,10 +97,10 @@ private_top _ mode h of_variable = private_is mode h
 private_top _ mode h of_result = private_is mode h
 
 top_private : (p : Place) (mode : Mode) → (HasPrivateTop p → mode ≡ Private) → top_allows p mode ≡ true
-top_private place.Global mode h = refl
-top_private place.Field mode h = refl
-top_private place.Local mode h = ap is_private_mode (h of_variable)
-top_private place.Result mode h = ap is_private_mode (h of_result)
+top_private Place.Global mode h = refl
+top_private Place.Field mode h = refl
+top_private Place.Local mode h = ap is_private_mode (h of_variable)
+top_private Place.Result mode h = ap is_private_mode (h of_result)
 
 -- what holds of a level with this many below it
 from_below : (e : Entity) (depth size : ℕ) (mode : Mode) → size + depth + 1 ≡ length e.written.ctype.levels → LevelRules e.written.ctype.base size mode → (HasPrivateTop (place_of e.role) → depth ≡ 0 → mode ≡ Private) → IsModeAllowed e depth mode
@@ -165,23 +154,23 @@ allowed_modes e h mode is = none_some mode (sym (modes_all e e.written.ctype.lev
 
 -- ---- `private` in a field
 
-field_is : (what : Role) → is_field_role what ≡ true → what ≡ role.Field
-field_is role.Global h = absurd (false≢true h)
-field_is role.Field h = refl
-field_is role.Local h = absurd (false≢true h)
-field_is role.Parameter h = absurd (false≢true h)
-field_is role.Result h = absurd (false≢true h)
-field_is role.Cast h = absurd (false≢true h)
-field_is role.Made h = absurd (false≢true h)
+field_is : (what : Role) → is_field_role what ≡ true → what ≡ Role.Field
+field_is Role.Global h = absurd (false≢true h)
+field_is Role.Field h = refl
+field_is Role.Local h = absurd (false≢true h)
+field_is Role.Parameter h = absurd (false≢true h)
+field_is Role.Result h = absurd (false≢true h)
+field_is Role.Cast h = absurd (false≢true h)
+field_is Role.Made h = absurd (false≢true h)
 
 pub level_is : (o : Option Mode) → is_private_level o ≡ true → o ≡ Some Private
 level_is None h = absurd (false≢true h)
 level_is (Some mode) h = ap Some (private_is mode h)
 
-pub no_private : (e : Entity) → (is_field_role e.role ≡ true → list_any is_private_level e.written.ctype.levels ≡ true → ⊥) → (depth : ℕ) → e.role ≡ role.Field → IsWritten e depth Private → ⊥
+pub no_private : (e : Entity) → (is_field_role e.role ≡ true → list_any is_private_level e.written.ctype.levels ≡ true → ⊥) → (depth : ℕ) → e.role ≡ Role.Field → IsWritten e depth Private → ⊥
 no_private e h depth field is = h (ap is_field_role field) (passes_by is_private_level e.written.ctype.levels (Some Private) (place_there e.written.ctype.levels depth (Some Private) is) refl)
 
-pub private_none : (e : Entity) → ((depth : ℕ) → e.role ≡ role.Field → IsWritten e depth Private → ⊥) → is_field_role e.role ≡ true → list_any is_private_level e.written.ctype.levels ≡ true → ⊥
+pub private_none : (e : Entity) → ((depth : ℕ) → e.role ≡ Role.Field → IsWritten e depth Private → ⊥) → is_field_role e.role ≡ true → list_any is_private_level e.written.ctype.levels ≡ true → ⊥
 private_none e h field is =
     let found = passes_there is_private_level e.written.ctype.levels is in
     let at = place_of_element e.written.ctype.levels found.0 found.1 in

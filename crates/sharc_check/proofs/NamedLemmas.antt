@@ -1,12 +1,5 @@
 -- What is said of threads names nothing, so all that is said names what is said of types, expressions and statements.
-use Rattle.std.proofs.Common.{◌≡◌, ℕ, ◌+◌, ◌==◌, Bool, true, false, ◌&&◌, ◌||◌, cond, List, [], ◌∷◌, ◌++◌, refl, ap, sym, ◌∙◌}
-use Rattle.std.specs.{Prelude.slice_index_or, List.flat_map}
-use Rattle.sharc_tree.specs.{declared.token.Span.Span, declared.tree.declaration.Declaration.Declaration, declared.tree.item.GlobalDefinition.GlobalDefinition, Tree.Function}
-use Rattle.sharc_ctype.specs.{Entities.{entities_in, numbered}, Resolved.{functions_in, globals_in}}
-use Rattle.sharc_mode.specs.{declared.error.ErrorCode.ErrorCode, declared.error.ErrorCode.TheVariants.PrivateReachesThread, declared.finding.Finding.Finding, declared.finding.Finding.TheVariants.{Wrong, Names, Takes}, Cells.top_of, Expressions.items_notes, Moded.Assignment, Notes.{error_where, is_named, is_private_level, type_notes}, Rows.{written, declared_row, modes_of}, WellModed.{has_private_target, is_spawned, parameter_notes, spawned_notes, touched_notes, notes_about}}
-use Rattle.sharc_check.specs.{Named.{TellNamed, said_of_paths}, Settles.marks}
-use Rattle.sharc_check.proofs.SettleLemmas.{marks_are}
-use Rattle.sharc_lemmas.proofs.Bools.{or_false as or_none, or_assoc}
+use Rattle.sharc_check.proofs.{Imports.{◌≡◌, ℕ, ◌+◌, ◌==◌, Bool, true, false, ◌&&◌, ◌||◌, cond, List, [], ◌∷◌, ◌++◌, refl, ap, sym, ◌∙◌, get_or as slice_index_or, flat_map, Span, Declaration, GlobalDefinition, Function, entities_in, numbered, functions_in, globals_in, ErrorCode, PrivateReachesThread, Finding, Wrong, Names, Takes, top_of, items_notes, Assignment, error_where, is_named, is_private_level, type_notes, written, declared_row, modes_of, has_private_target, is_spawned, parameter_notes, spawned_notes, touched_notes, notes_about, TellNamed, said_of_paths, marks, or_none, or_assoc}, SettleLemmas.marks_are}
 
 named_in_both : (x : ℕ) (a b : List Finding) → is_named x (a ++ b) ≡ (is_named x a || is_named x b)
 named_in_both x [] b = refl

@@ -1,6 +1,5 @@
 -- Two lists in order, in which those that tie are ordered alike, are one.
-use Rattle.std.proofs.{Common.{◌≡◌, suc, ◌+◌, Bool, true, false, not, ◌&&◌, cond, List, [], ◌∷◌, get_or, refl, ap, sym, ◌∙◌, subst, arith}, lemmas.Cmp.{upto, tied_itself}}
-use Rattle.std.specs.{Cmp.IsTotalOrder, List.{filter, AllByRecursion}, List.Sorted.{IsSortedBy, ties}, Ordering.{is_lt, is_gt, ordering_reverse}, declared.cmp.Ordering.Ordering, declared.cmp.Ordering.TheVariants.{Less, Equal, Greater}}
+use Rattle.sharc_check.proofs.Imports.{◌≡◌, suc, ◌+◌, Bool, true, false, not, ◌&&◌, cond, List, [], ◌∷◌, get_or, refl, ap, sym, ◌∙◌, subst, arith, upto, tied_itself, IsTotalOrder, filter, AllByRecursion, IsSortedBy, ties, is_lt, is_gt, ordering_reverse, Ordering, Less, Equal, Greater}
 
 abbrev head_or : {X : Type 0} → X → List X → X
 head_or d [] = d

@@ -1,9 +1,5 @@
 -- Cases have one order.
-use Rattle.std.proofs.{Common.{◌≡◌, List}, lemmas.Cmp.{on_total, then_total, nat_cmp_total}}
-use Rattle.std.specs.Cmp.{IsTotalOrder}
-use Rattle.sharc_mode.specs.{declared.error.ModeError.ModeError, Errors.number_of}
-use Rattle.sharc_check.specs.Orders.{IsInOrder, place_and_code, by_place}
-use Rattle.sharc_check.proofs.OnceLemmas.{one_order}
+use Rattle.sharc_check.proofs.{Imports.{◌≡◌, List, on_total, then_total, nat_cmp_total, IsTotalOrder, ModeError, number_of, IsInOrder, place_and_code, by_place}, OnceLemmas.one_order}
 
 total : IsTotalOrder (λ (x y : ModeError). by_place (place_and_code x) (place_and_code y))
 total = then_total (on_total (λ (x : ModeError). x.site.token) nat_cmp_total) (on_total (λ (x : ModeError). number_of x.code) nat_cmp_total)

@@ -1,8 +1,5 @@
 -- The first of several options: that there is none, and that each is none.
-use Rattle.std.proofs.{Common.{◌≡◌, Bool, true, false, refl, ap, sym, ◌∙◌, Option, Some, None}, lemmas.Bool.false≢true}
-use Rattle.std.specs.Option.{option_or}
-use Rattle.sharc_mode.specs.WellFormed.{unless}
-use Rattle.sharc_lemmas.proofs.Options.{none_some}
+use Rattle.sharc_check.proofs.Imports.{◌≡◌, Bool, true, false, refl, ap, sym, ◌∙◌, Option, Some, None, false≢true, option_or, unless, none_some}
 
 pub or_none : {A : Type 0} (a b : Option A) → option_or a b ≡ None → (a ≡ None) × (b ≡ None)
 or_none None b h = (refl, h)

@@ -1,7 +1,5 @@
 -- No case in order is no case.
-use Rattle.std.proofs.{Common.{◌≡◌, ℕ, ◌==◌, Bool, true, false, List, [], ◌∷◌, length, refl, ap, sym, ◌∙◌, subst, arith}, lemmas.Bool.Decides.nat_tests, lemmas.List.Sorted.length_permutation}
-use Rattle.sharc_mode.specs.{declared.error.ModeError.ModeError, Laws.ModeLaws, Moded.Assignment, WellModed.{AreModeErrors, WellModed}}
-use Rattle.sharc_check.specs.{RuleLaws.RulesAreMet, Rules.MeetsRules, Checks.{AreAll, IsRefused}}
+use Rattle.sharc_check.proofs.Imports.{◌≡◌, ℕ, ◌==◌, Bool, true, false, List, [], ◌∷◌, length, refl, ap, sym, ◌∙◌, subst, arith, nat_tests, length_permutation, ModeError, ModeLaws, Assignment, AreModeErrors, WellModed, RulesAreMet, MeetsRules, AreAll, IsRefused}
 
 empty_of_length : (l : List ModeError) → length l ≡ 0 → l ≡ []
 empty_of_length [] h = refl

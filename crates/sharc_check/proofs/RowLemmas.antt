@@ -1,9 +1,5 @@
 -- Going over a row from its first target down.
-use Rattle.std.proofs.Common.{◌≡◌, ℕ, ◌+◌, ◌<◌, ◌≤◌, Bool, false, ◌||◌, cond, List, [], ◌∷◌, ◌++◌, length, drop, Option, Some, None, refl, ap, sym, ◌∙◌, subst, append_assoc}
-use Rattle.std.specs.{List.{flat_map, list_any}, Option.{option_map, option_or}}
-use Rattle.sharc_tree.specs.{declared.ctype.Base.Base, declared.token.Span.Span, declared.tree.declaration.Declaration.Declaration, Tree.Arguments}
-use Rattle.sharc_ctype.specs.Resolved.{Resolution}
-use Rattle.sharc_mode.specs.{declared.error.ErrorCode.TheVariants.CastChangesInnerMode, Cells.pointed, Moded.Assignment, Notes.{cast_notes, mismatch, shown, unmet, unmet_in}, RowLaws.RowLaws, Rows.{Targets, deeper, modes_of}, Sharings.{Lock, Sharing, same_all}}
+use Rattle.sharc_check.proofs.Imports.{◌≡◌, ℕ, ◌+◌, ◌<◌, ◌≤◌, Bool, false, ◌||◌, cond, List, [], ◌∷◌, ◌++◌, length, drop, Option, Some, None, refl, ap, sym, ◌∙◌, subst, append_assoc, flat_map, list_any, option_map, option_or, Base, Span, Declaration, Arguments, Resolution, CastChangesInnerMode, pointed, Assignment, cast_notes, mismatch, shown, unmet, unmet_in, RowLaws, Targets, deeper, modes_of, Lock, Sharing, same_all}
 
 pub step_row : (laws : RowLaws) (m : Assignment) (row next : Targets) (s : Sharing) → 0 < row.count → row.first + row.count ≤ length m.modes → s ≡ pointed m (Some row) → next ≡ deeper row → modes_of m row ≡ s ∷ modes_of m next
 step_row laws m row next s some ends s_is next_is =

@@ -1,10 +1,6 @@
 -- What is settled when all is said.
-use Rattle.std.proofs.{Common.{◌≡◌, ℕ, ◌+◌, ◌<◌, ◌≤◌, ◌==◌, max, Bool, true, false, ◌||◌, List, [], ◌∷◌, ◌++◌, length, fold, replicate, get_or, refl, ap, sym, ◌∙◌, subst, set, arith, reverse}, lemmas.List.{get_or-set_other, get_or-replicate, length-set, length-replicate}, lemmas.Grind.{common_steps, get_or-set_at}, lemmas.Bool.Decides.nat_tests}
-use Rattle.std.specs.{Prelude.slice_index_or, List.flat_map}
-use Rattle.sharc_ctype.specs.Resolved.{Resolution}
-use Rattle.sharc_mode.specs.{declared.error.ModeError.ModeError, declared.finding.Finding.Finding, declared.finding.Finding.TheVariants.{Wrong, Names, Takes}, Notes.{is_named, errors_by, errors_of}}
-use Rattle.sharc_check.specs.Settles.{past, past_all, marked, marks, taken_errors, settled}
-use Rattle.sharc_lemmas.proofs.Bools.{or_assoc, or_false2 as or_false}
+use Rattle.sharc_check.proofs.Imports.{◌≡◌, ℕ, ◌+◌, ◌<◌, ◌≤◌, ◌==◌, max, Bool, true, false, ◌||◌, List, [], ◌∷◌, ◌++◌, length, fold, replicate, get_or, refl, ap, sym, ◌∙◌, subst, set, arith, reverse, get_or-set_other, get_or-replicate, length-set, length-replicate, common_steps, get_or-set_at, nat_tests, get_or as slice_index_or, flat_map, Resolution, ModeError, Finding, Wrong, Names, Takes, is_named, errors_by, errors_of, past, past_all, marked, marks, taken_errors, settled, or_assoc}
+use Rattle.sharc_lemmas.proofs.Bools.{or_false2 as or_false}
 
 one_flag : (flags : List Bool) (y x : ℕ) → y < length flags → get_or (set flags y true) x false ≡ (get_or flags x false || (x == y))
 one_flag flags y x below = grind (arith, nat_tests, get_or-set_at, get_or-set_other, common_steps)

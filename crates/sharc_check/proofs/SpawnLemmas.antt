@@ -1,10 +1,5 @@
 -- What is answered of which functions are spawned is what the rules ask.
-use Rattle.std.proofs.Common.{◌≡◌, ℕ, ◌<◌, length, arith}
-use Rattle.sharc_ctype.specs.Resolved.{Resolution, functions_in}
-use Rattle.sharc_reach.specs.Reaching.{Reaching, AreReached, is_chosen}
-use Rattle.sharc_mode.specs.WellModed.{is_spawned}
-use Rattle.sharc_check.specs.RuleLaws.{SpawnedAreTold}
-use Rattle.sharc_lemmas.proofs.Bools.{same_test}
+use Rattle.sharc_check.proofs.Imports.{◌≡◌, ℕ, ◌<◌, length, arith, Resolution, functions_in, Reaching, AreReached, is_chosen, is_spawned, SpawnedAreTold, same_test}
 
 pub is_told : (laws : SpawnedAreTold) (r : Resolution) (a : Reaching) → AreReached r a → (n : ℕ) → n < length (functions_in r.program.items) → is_chosen a.spawned n ≡ is_spawned r n
 is_told laws r a reached n below =

@@ -1,9 +1,6 @@
 -- Functions and globals, one by one.
-use Rattle.std.proofs.Common.{◌≡◌, ℕ, zero, suc, ◌+◌, ◌<◌, Bool, List, [], ◌∷◌, ◌++◌, length, drop, Some, refl, ap, sym, ◌∙◌, add-one, append_assoc, cond, arith}
-use Rattle.std.specs.List.{slice_get, flat_map}
-use Rattle.sharc_tree.specs.{declared.tree.item.GlobalDefinition.GlobalDefinition, Tree.Function}
-use Rattle.sharc_mode.specs.{declared.finding.Finding.Finding, Moded.Assignment, WellModed.{is_spawned, parameter_notes, spawned_notes, touched_notes}}
-use Rattle.sharc_check.specs.Threads.{function_notes, global_notes}
+use Rattle.sharc_check.proofs.Imports.{◌≡◌, ℕ, zero, suc, ◌+◌, ◌<◌, Bool, List, [], ◌∷◌, ◌++◌, length, drop, Some, refl, ap, sym, ◌∙◌, add-one, append_assoc, cond, arith, flat_map, GlobalDefinition, Function, Finding, Assignment, is_spawned, parameter_notes, spawned_notes, touched_notes, function_notes, global_notes}
+use Rattle.std.specs.List.{slice_get}
 
 at_place : {X : Type 0} (xs : List X) (n : ℕ) → n < length xs → (x : X) × (slice_get xs n ≡ Some x) × (drop n xs ≡ x ∷ drop (suc n) xs)
 at_place [] n below = absurd (omega arith)

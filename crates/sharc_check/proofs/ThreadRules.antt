@@ -1,13 +1,6 @@
 -- What threads get: which functions are spawned; and that it can be determined which globals they touch.
-use Rattle.std.proofs.{Common.{◌≡◌, ⊎_elim, ℕ, ◌==◌, Bool, true, false, List, [], ◌∷◌, refl, ap, sym, ◌∙◌, subst, eqb-true, Contains}, lemmas.Bool.false≢true, lemmas.List.Elements.{Contains-append_left, Contains-append_right, Contains-append_cases}}
-use Rattle.std.specs.List.{flat_map}
-use Rattle.sharc_tree.specs.Measures.{in_function}
-use Rattle.sharc_names.specs.declared.fault.Named.{Named}
-use Rattle.sharc_names.specs.declared.fault.Named.TheVariants as named
-use Rattle.sharc_ctype.specs.{Reaches.{spawns, of_all, Names, Spawns}, Resolved.{Resolution, functions_in, function_at, named_at}}
-use Rattle.sharc_mode.specs.{Sharings.{Sharing, private, readonly, locked, racy, dynamic}, WellModed.{names_function, all_spawned, is_spawned, has_private_target}}
-use Rattle.sharc_check.proofs.Lists.{passes_there, passes_by}
-use Rattle.sharc_lemmas.proofs.{Numbers.{same_is as same_number}, Options.{some_there, and_some as there_some}, Lists.{head_there, head_or_tail, place_of_element, in_list as place_there, tail_there}, Equal.none_there}
+use Rattle.sharc_check.proofs.{Imports.{◌≡◌, ⊎_elim, ℕ, ◌==◌, Bool, true, false, List, [], ◌∷◌, refl, ap, sym, ◌∙◌, subst, eqb-true, Contains, false≢true, Contains-append_left, Contains-append_right, Contains-append_cases, flat_map, in_function, Named, spawns, of_all, Spawns, Resolution, functions_in, function_at, named_at, Sharing, private, readonly, locked, racy, dynamic, names_function, all_spawned, is_spawned, has_private_target, equal_number as same_number, some_there, and_some as there_some, head_there, head_or_tail, place_of_element, place_there, tail_there, none_there}, Lists.{passes_there, passes_by}}
+use Rattle.sharc_ctype.specs.Reaches.{Names}
 
 -- ---- words on lists
 
@@ -28,37 +21,37 @@ flat_from f (z ∷ rest) y has = ⊎_elim (λ here. (z, head_there z rest, here)
 
 -- ---- names of functions and globals
 
-pub names_is : (n : ℕ) (what : Named) → names_function n what ≡ true → what ≡ named.Function n
-names_is n (named.Struct k) h = absurd (false≢true h)
-names_is n (named.Global k) h = absurd (false≢true h)
-names_is n (named.Function k) h = ap named.Function (sym (eqb-true n k h))
-names_is n (named.Variable k) h = absurd (false≢true h)
-names_is n (named.Field k) h = absurd (false≢true h)
-names_is n named.Known h = absurd (false≢true h)
+pub names_is : (n : ℕ) (what : Named) → names_function n what ≡ true → what ≡ Named.Function n
+names_is n (Named.Struct k) h = absurd (false≢true h)
+names_is n (Named.Global k) h = absurd (false≢true h)
+names_is n (Named.Function k) h = ap Named.Function (sym (eqb-true n k h))
+names_is n (Named.Variable k) h = absurd (false≢true h)
+names_is n (Named.Field k) h = absurd (false≢true h)
+names_is n Named.Known h = absurd (false≢true h)
 
-pub is_names : (n : ℕ) (what : Named) → what ≡ named.Function n → names_function n what ≡ true
+pub is_names : (n : ℕ) (what : Named) → what ≡ Named.Function n → names_function n what ≡ true
 is_names n what is = ap (names_function n) is ∙ same_number n
 
 abbrev pub names_global : ℕ → Named → Bool
-names_global n (named.Global k) = n == k
+names_global n (Named.Global k) = n == k
 names_global n _ = false
 
-pub global_is : (n : ℕ) (what : Named) → names_global n what ≡ true → what ≡ named.Global n
-global_is n (named.Struct k) h = absurd (false≢true h)
-global_is n (named.Global k) h = ap named.Global (sym (eqb-true n k h))
-global_is n (named.Function k) h = absurd (false≢true h)
-global_is n (named.Variable k) h = absurd (false≢true h)
-global_is n (named.Field k) h = absurd (false≢true h)
-global_is n named.Known h = absurd (false≢true h)
+pub global_is : (n : ℕ) (what : Named) → names_global n what ≡ true → what ≡ Named.Global n
+global_is n (Named.Struct k) h = absurd (false≢true h)
+global_is n (Named.Global k) h = ap Named.Global (sym (eqb-true n k h))
+global_is n (Named.Function k) h = absurd (false≢true h)
+global_is n (Named.Variable k) h = absurd (false≢true h)
+global_is n (Named.Field k) h = absurd (false≢true h)
+global_is n Named.Known h = absurd (false≢true h)
 
-pub is_global : (n : ℕ) (what : Named) → what ≡ named.Global n → names_global n what ≡ true
+pub is_global : (n : ℕ) (what : Named) → what ≡ Named.Global n → names_global n what ≡ true
 is_global n what is = ap (names_global n) is ∙ same_number n
 
 -- ---- which functions are spawned
 
 pub spawned_by : (r : Resolution) (n k : ℕ) → Spawns r n k → is_spawned r k ≡ true
 spawned_by r n k s =
-    let f = some_there (λ f. Names r (named.Function k) (of_all spawns (in_function f))) (function_at r n) s in
+    let f = some_there (λ f. Names r (Named.Function k) (of_all spawns (in_function f))) (function_at r n) s in
     passes_by (λ token. names_function k (named_at r token)) (all_spawned (functions_in r.program.items)) f.2.0
     (flat_there (λ f. of_all spawns (in_function f)) (functions_in r.program.items) f.0 f.2.0 (place_there (functions_in r.program.items) n f.0 f.1) f.2.1)
     (is_names k (named_at r f.2.0) f.2.2)
@@ -68,7 +61,7 @@ by_spawned r k h =
     let token = passes_there (λ token. names_function k (named_at r token)) (all_spawned (functions_in r.program.items)) h in
     let f = flat_from (λ f. of_all spawns (in_function f)) (functions_in r.program.items) token.0 token.1 in
     let n = place_of_element (functions_in r.program.items) f.0 f.1 in
-    (n.0, there_some (λ f. Names r (named.Function k) (of_all spawns (in_function f))) (function_at r n.0) f.0 n.1 (token.0, f.2, names_is k (named_at r token.0) token.2))
+    (n.0, there_some (λ f. Names r (Named.Function k) (of_all spawns (in_function f))) (function_at r n.0) f.0 n.1 (token.0, f.2, names_is k (named_at r token.0) token.2))
 
 pub private_target : (modes below : List Sharing) → modes ≡ private ∷ below → has_private_target modes ≡ true
 private_target modes below is = ap has_private_target is

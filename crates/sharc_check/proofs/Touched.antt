@@ -1,13 +1,6 @@
 -- Which globals threads touch can be determined: by the calls that lead only through functions below a number, as that grows.
-use Rattle.std.proofs.{Common.{◌≡◌, ◌⊎◌, ⊎_elim, ℕ, zero, suc, ◌+◌, ◌<◌, ◌==◌, Bool, true, false, ◌&&◌, ◌||◌, List, [], ◌∷◌, ◌++◌, length, slice_get, refl, ap, sym, ◌∙◌, subst, arith, eqb-true, Option, Some, None}, lemmas.Bool.{false≢true, or_cases, and_parts, and_from, or_right, or_left}, lemmas.Option.slice_get_within}
-use Rattle.std.specs.List.{list_any}
-use Rattle.sharc_tree.specs.{Measures.in_function, Tree.Function}
-use Rattle.sharc_names.specs.declared.fault.Named.{Named}
-use Rattle.sharc_names.specs.declared.fault.Named.TheVariants as named
-use Rattle.sharc_ctype.specs.{Reaches.{runs, spawns, of_all, Names, Runs, Leads, IsReached, tokens_of, IsTouched}, Resolved.{Resolution, functions_in, function_at, named_at}}
-use Rattle.sharc_mode.specs.WellModed.{names_function, all_spawned, TellsTouched}
-use Rattle.sharc_check.proofs.{Lists.{passes_there, passes_by}, ThreadRules.{flat_there, flat_from, names_is, is_names, names_global, global_is, is_global}}
-use Rattle.sharc_lemmas.proofs.{Numbers.{same_is as same_number}, Options.{same_some, none_some, some_there, and_some as there_some}, Lists.{place_of_element, in_list as place_there}}
+use Rattle.sharc_check.proofs.{Imports.{◌≡◌, ◌⊎◌, ⊎_elim, ℕ, zero, suc, ◌+◌, ◌<◌, ◌==◌, Bool, true, false, ◌&&◌, ◌||◌, List, [], ◌∷◌, ◌++◌, length, slice_get, refl, ap, sym, ◌∙◌, subst, arith, eqb-true, Option, Some, None, false≢true, or_cases, and_parts, and_from, or_right, or_left, slice_get_within, list_any, in_function, Function, Named, runs, spawns, of_all, Runs, Leads, IsReached, tokens_of, IsTouched, Resolution, functions_in, function_at, named_at, names_function, all_spawned, TellsTouched, equal_number as same_number, same_some, none_some, some_there, and_some as there_some, place_of_element, place_there}, Lists.{passes_there, passes_by}, ThreadRules.{flat_there, flat_from, names_is, is_names, names_global, global_is, is_global}}
+use Rattle.sharc_ctype.specs.Reaches.{Names}
 
 equal_or_below : (j k : ℕ) → j < suc k → (j ≡ k) ⊎ (j < k)
 equal_or_below j k low = grind arith
@@ -21,16 +14,16 @@ module _ (r : Resolution) where
   runs_is None n m is h = absurd (false≢true h)
   runs_is (Some f) n m is h =
       let token = passes_there (λ t. names_function m (named_at r t)) (of_all runs (in_function f)) h in
-      there_some (λ f. Names r (named.Function m) (of_all runs (in_function f))) (function_at r n) f is (token.0, token.1, names_is m (named_at r token.0) token.2)
+      there_some (λ f. Names r (Named.Function m) (of_all runs (in_function f))) (function_at r n) f is (token.0, token.1, names_is m (named_at r token.0) token.2)
 
   is_runs : (n m : ℕ) → Runs r n m → runs_in (function_at r n) m ≡ true
   is_runs n m h =
-      let f = some_there (λ f. Names r (named.Function m) (of_all runs (in_function f))) (function_at r n) h in
+      let f = some_there (λ f. Names r (Named.Function m) (of_all runs (in_function f))) (function_at r n) h in
       ap (λ o. runs_in o m) f.1 ∙ passes_by (λ t. names_function m (named_at r t)) (of_all runs (in_function f.0)) f.2.0 f.2.1 (is_names m (named_at r f.2.0) f.2.2)
 
   runs_within : (n m : ℕ) → Runs r n m → n < length (functions_in r.program.items)
   runs_within n m h =
-      let f = some_there (λ f. Names r (named.Function m) (of_all runs (in_function f))) (function_at r n) h in
+      let f = some_there (λ f. Names r (Named.Function m) (of_all runs (in_function f))) (function_at r n) h in
       slice_get_within (functions_in r.program.items) n f.0 f.1
 
   -- it leads from one function to the other, between them through functions below this number alone
@@ -107,21 +100,21 @@ module _ (r : Resolution) where
   -- ---- which functions are reached
 
   abbrev starts : Named → ℕ → Bool
-  starts (named.Function k) m = leads many k m
+  starts (Named.Function k) m = leads many k m
   starts _ m = false
 
   record IsStart (what : Named) (m : ℕ) : Type 0 where
     first : ℕ
-    is : what ≡ named.Function first
+    is : what ≡ Named.Function first
     leads_on : leads many first m ≡ true
 
   start_is : (what : Named) (m : ℕ) → starts what m ≡ true → IsStart what m
-  start_is (named.Struct k) m h = absurd (false≢true h)
-  start_is (named.Global k) m h = absurd (false≢true h)
-  start_is (named.Function k) m h = record { first = k; is = refl; leads_on = h }
-  start_is (named.Variable k) m h = absurd (false≢true h)
-  start_is (named.Field k) m h = absurd (false≢true h)
-  start_is named.Known m h = absurd (false≢true h)
+  start_is (Named.Struct k) m h = absurd (false≢true h)
+  start_is (Named.Global k) m h = absurd (false≢true h)
+  start_is (Named.Function k) m h = record { first = k; is = refl; leads_on = h }
+  start_is (Named.Variable k) m h = absurd (false≢true h)
+  start_is (Named.Field k) m h = absurd (false≢true h)
+  start_is Named.Known m h = absurd (false≢true h)
 
   abbrev pub reached : ℕ → Bool
   reached m = list_any (λ token. starts (named_at r token) m) (all_spawned (functions_in r.program.items))
@@ -136,14 +129,14 @@ module _ (r : Resolution) where
       record {
         spawner = n.0;
         first = start.first;
-        spawned = there_some (λ f. Names r (named.Function start.first) (of_all spawns (in_function f))) (function_at r n.0) f.0 n.1 (token.0, f.2, start.is);
+        spawned = there_some (λ f. Names r (Named.Function start.first) (of_all spawns (in_function f))) (function_at r n.0) f.0 n.1 (token.0, f.2, start.is);
         between = path.0;
         leads = path.1;
       }
 
   pub is_reached : (m : ℕ) → IsReached r m → reached m ≡ true
   is_reached m h =
-      let f = some_there (λ f. Names r (named.Function h.first) (of_all spawns (in_function f))) (function_at r h.spawner) h.spawned in
+      let f = some_there (λ f. Names r (Named.Function h.first) (of_all spawns (in_function f))) (function_at r h.spawner) h.spawned in
       passes_by (λ token. starts (named_at r token) m) (all_spawned (functions_in r.program.items)) f.2.0
       (flat_there (λ f. of_all spawns (in_function f)) (functions_in r.program.items) f.0 f.2.0 (place_there (functions_in r.program.items) h.spawner f.0 f.1) f.2.1)
       (ap (λ what. starts what m) f.2.2 ∙ is_lead h.between h.first m h.leads)
@@ -197,12 +190,12 @@ module _ (r : Resolution) where
       record {
         by = t.number;
         reached = reached_is t.number t.reaches;
-        names = there_some (λ f. Names r (named.Global g) (tokens_of f)) (function_at r t.number) t.function (ap (slice_get (functions_in r.program.items)) same ∙ t.at) (token.0, token.1, global_is g (named_at r token.0) token.2);
+        names = there_some (λ f. Names r (Named.Global g) (tokens_of f)) (function_at r t.number) t.function (ap (slice_get (functions_in r.program.items)) same ∙ t.at) (token.0, token.1, global_is g (named_at r token.0) token.2);
       }
 
   is_touched : (g : ℕ) → IsTouched r g → touched g ≡ true
   is_touched g h =
-      let f = some_there (λ f. Names r (named.Global g) (tokens_of f)) (function_at r h.by) h.names in
+      let f = some_there (λ f. Names r (Named.Global g) (tokens_of f)) (function_at r h.by) h.names in
       let same : h.by ≡ 0 + h.by = omega arith in
       touches 0 (functions_in r.program.items) g h.by h.by f.0 same f.1 (is_reached h.by h.reached) (passes_by (λ x. names_global g (named_at r x)) (tokens_of f.0) f.2.0 f.2.1 (is_global g (named_at r f.2.0) f.2.2))
 

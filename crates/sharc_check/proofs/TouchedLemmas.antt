@@ -1,14 +1,7 @@
 -- Which globals are touched can be determined for every number, from what is answered of those that there are.
-use Rattle.std.proofs.{Common.{◌≡◌, inl, inr, ℕ, zero, suc, ◌+◌, ◌<◌, ◌≤◌, ◌==◌, Bool, true, false, ◌||◌, ◌&&◌, List, [], ◌∷◌, ◌++◌, length, get_or, Option, Some, None, is_some, refl, ap, sym, ◌∙◌, subst, arith}, lemmas.Option.slice_get_within}
-use Rattle.std.specs.{Prelude.{IfSome, unwrap_or}, List.{slice_get, list_any, flat_map}}
-use Rattle.sharc_tree.specs.{declared.tree.item.GlobalDefinition.GlobalDefinition, Tree.Function}
-use Rattle.sharc_names.specs.declared.fault.Named.{Named}
-use Rattle.sharc_names.specs.declared.fault.Named.TheVariants as named
-use Rattle.sharc_ctype.specs.{Reaches.{Names, tokens_of, IsTouched}, Resolved.{Resolution, named_at, functions_in, globals_in, function_at}, Entities.{entities_in, numbered}}
-use Rattle.sharc_reach.specs.Reaching.{Reaching, AreReached, IsFirstOf, is_chosen, first_of}
-use Rattle.sharc_mode.specs.{declared.error.ErrorCode.TheVariants.PrivateReachesThread, Cells.top_of, Expressions.items_notes, Moded.Assignment, Notes.{error_where, is_private_level, type_notes, errors_of}, WellModed.{AreModeErrors, spawned_notes, touched_notes, notes_about}}
-use Rattle.sharc_check.specs.Threads.{touched_by}
-use Rattle.sharc_lemmas.proofs.{Numbers.{same_is as equal_number, same_number}, Bools.{or_split as either, both as both_true, false_true}, Options.{some_there as some_and, and_some}}
+use Rattle.sharc_check.proofs.Imports.{◌≡◌, inl, inr, ℕ, zero, suc, ◌+◌, ◌<◌, ◌≤◌, ◌==◌, Bool, true, false, ◌||◌, ◌&&◌, List, [], ◌∷◌, ◌++◌, length, get_or, Option, Some, None, is_some, refl, ap, sym, ◌∙◌, subst, arith, slice_get_within, IfSome, unwrap_or, list_any, flat_map, GlobalDefinition, Function, Named, tokens_of, IsTouched, Resolution, named_at, functions_in, globals_in, function_at, entities_in, numbered, Reaching, AreReached, IsFirstOf, is_chosen, first_of, PrivateReachesThread, top_of, items_notes, Assignment, error_where, is_private_level, type_notes, errors_of, AreModeErrors, spawned_notes, touched_notes, notes_about, touched_by, equal_number, same_number, either, both_true, false_true, some_there as some_and, and_some}
+use Rattle.std.specs.List.{slice_get}
+use Rattle.sharc_ctype.specs.Reaches.{Names}
 
 not_true : (b : Bool) → (b ≡ true → ⊥) → false ≡ b
 not_true true never = absurd (never refl)
@@ -21,28 +14,28 @@ some_same : {X : Type 0} {x y : X} → Some x ≡ Some y → x ≡ y
 some_same {X} {x} e = ap (λ o. unwrap_or o x) e
 
 abbrev is_global : ℕ → Named → Bool
-is_global g (named.Global n) = n == g
-is_global g (named.Struct n) = false
-is_global g (named.Function n) = false
-is_global g (named.Variable x) = false
-is_global g (named.Field f) = false
-is_global g named.Known = false
+is_global g (Named.Global n) = n == g
+is_global g (Named.Struct n) = false
+is_global g (Named.Function n) = false
+is_global g (Named.Variable x) = false
+is_global g (Named.Field f) = false
+is_global g Named.Known = false
 
-global_told : (g : ℕ) (what : Named) → is_global g what ≡ true → what ≡ named.Global g
-global_told g (named.Global n) h = ap named.Global (same_number n g h)
-global_told g (named.Struct n) h = false_true h
-global_told g (named.Function n) h = false_true h
-global_told g (named.Variable x) h = false_true h
-global_told g (named.Field f) h = false_true h
-global_told g named.Known h = false_true h
+global_told : (g : ℕ) (what : Named) → is_global g what ≡ true → what ≡ Named.Global g
+global_told g (Named.Global n) h = ap Named.Global (same_number n g h)
+global_told g (Named.Struct n) h = false_true h
+global_told g (Named.Function n) h = false_true h
+global_told g (Named.Variable x) h = false_true h
+global_told g (Named.Field f) h = false_true h
+global_told g Named.Known h = false_true h
 
-global_tells : (g : ℕ) (what : Named) → what ≡ named.Global g → is_global g what ≡ true
+global_tells : (g : ℕ) (what : Named) → what ≡ Named.Global g → is_global g what ≡ true
 global_tells g what is = ap (is_global g) is ∙ equal_number g
 
 abbrev any_names : Resolution → ℕ → List ℕ → Bool
 any_names r g tokens = list_any (λ token. is_global g (named_at r token)) tokens
 
-names_told : (r : Resolution) (g : ℕ) (tokens : List ℕ) → any_names r g tokens ≡ true → Names r (named.Global g) tokens
+names_told : (r : Resolution) (g : ℕ) (tokens : List ℕ) → any_names r g tokens ≡ true → Names r (Named.Global g) tokens
 names_told r g [] h = false_true h
 names_told r g (token ∷ rest) h =
     elim (either (is_global g (named_at r token)) (any_names r g rest) h) [
@@ -54,12 +47,12 @@ or_right : (a : Bool) → (a || true) ≡ true
 or_right true = refl
 or_right false = refl
 
-any_at : (r : Resolution) (g : ℕ) (tokens : List ℕ) (i token : ℕ) → i < length tokens → get_or tokens i token ≡ token → named_at r token ≡ named.Global g → any_names r g tokens ≡ true
+any_at : (r : Resolution) (g : ℕ) (tokens : List ℕ) (i token : ℕ) → i < length tokens → get_or tokens i token ≡ token → named_at r token ≡ Named.Global g → any_names r g tokens ≡ true
 any_at r g [] i token below at is = absurd (omega (arith, below))
 any_at r g (x ∷ xs) zero token below at is = ap (λ b. b || any_names r g xs) (global_tells g (named_at r x) (ap (named_at r) at ∙ is))
 any_at r g (x ∷ xs) (suc i) token below at is = ap (λ b. is_global g (named_at r x) || b) (any_at r g xs i token (omega (arith, below)) at is) ∙ or_right (is_global g (named_at r x))
 
-names_tell : (r : Resolution) (g : ℕ) (tokens : List ℕ) → Names r (named.Global g) tokens → any_names r g tokens ≡ true
+names_tell : (r : Resolution) (g : ℕ) (tokens : List ℕ) → Names r (Named.Global g) tokens → any_names r g tokens ≡ true
 names_tell r g tokens names = let at = names.1 in any_at r g tokens at.0 names.0 at.1 at.2 names.2
 
 -- ---- some reached function names the global
@@ -119,13 +112,13 @@ module _ (r : Resolution) (a : Reaching) (reached : AreReached r a) where
       record {
         by = found.number;
         reached = (reached.functions found.number below).0 found.chosen;
-        names = and_some (λ f. Names r (named.Global g) (tokens_of f)) (function_at r found.number) found.f at (names_told r g (tokens_of found.f) found.names);
+        names = and_some (λ f. Names r (Named.Global g) (tokens_of f)) (function_at r found.number) found.f at (names_told r g (tokens_of found.f) found.names);
       }
 
   tell : (g : ℕ) → IsTouched r g → decided r a g ≡ true
   tell g touched =
       let n = touched.by in
-      let found = some_and (λ f. Names r (named.Global g) (tokens_of f)) (function_at r n) touched.names in
+      let found = some_and (λ f. Names r (Named.Global g) (tokens_of f)) (function_at r n) touched.names in
       let within = slice_get_within (functions_in r.program.items) n found.0 found.1 in
       let count = reached.function_count in
       let below : n < length a.functions = omega (arith, within, count) in

@@ -1,14 +1,8 @@
 -- What is said of expressions and statements, by the constructs in them: one clause for each production, there and back.
-use Rattle.std.proofs.Common.{ℕ, List, [], ◌∷◌, ◌++◌, drop, Option, Some, None}
-use Rattle.std.specs.List.{AllByRecursion}
-use Rattle.sharc_tree.specs.{declared.tree.declaration.Declaration.Declaration, declared.tree.declaration.WrittenType.WrittenType, Measures.{expressions, in_arguments, in_right, in_simple, in_local, in_first, in_head, in_statement, in_statements, in_function}, Tree.{Expression, Arguments, no_arguments, argument, Right, value, malloc, Simple, assign, does_call, Local, First, nothing, declares, does, Head, Statement, Statements, no_statements, statement, Function, Item}}
+use Rattle.sharc_check.proofs.Imports.{ℕ, List, [], ◌∷◌, ◌++◌, drop, Option, Some, None, AllByRecursion, Declaration, WrittenType, expressions, in_arguments, in_right, in_simple, in_local, in_first, in_head, in_statement, in_statements, in_function, Expression, Arguments, no_arguments, argument, Right, value, malloc, Simple, assign, does_call, Local, First, nothing, declares, does, Head, Statement, Statements, no_statements, statement, Function, Item, functions_in, named_at, Receiver, lvalue, variable, result, Transfer, passed, parameters_named, transfers, argument_transfers, right_transfers, simple_transfers, local_transfers, first_transfers, statement_transfers, statements_transfers, function_transfers, Finding, expected, place_notes, notes_of, notes_of_all, option_notes, right_notes, simple_notes, local_notes, return_notes, first_notes, head_notes, notes_in, notes_in_all, item_notes, items_notes, Assignment, agree_notes, write_notes, call_notes, cast_notes, source_notes, field_notes, written, base_use, declared_row, cast_row, named_row, modes_of, modes_at, Sharing, locals_in_first, locals_in, locals_in_all, front, back, both}
 use Rattle.sharc_tree.specs.Measures as measures
 use Rattle.sharc_tree.specs.Tree as tree
-use Rattle.sharc_ctype.specs.{Resolved.{functions_in, named_at}, Transfers.{Receiver, lvalue, variable, result, Transfer, passed, parameters_named, transfers, argument_transfers, right_transfers, simple_transfers, local_transfers, first_transfers, statement_transfers, statements_transfers, function_transfers}}
 use Rattle.sharc_ctype.specs.Transfers as given
-use Rattle.sharc_mode.specs.{declared.finding.Finding.Finding, Expressions.{expected, place_notes, notes_of, notes_of_all, option_notes, right_notes, simple_notes, local_notes, return_notes, first_notes, head_notes, notes_in, notes_in_all, item_notes, items_notes}, Moded.Assignment, Notes.{agree_notes, write_notes, call_notes, cast_notes, source_notes, field_notes}, Rows.{written, base_use, declared_row, cast_row, named_row, modes_of, modes_at}, Sharings.Sharing}
-use Rattle.sharc_check.specs.Constructs.{locals_in_first, locals_in, locals_in_all}
-use Rattle.sharc_lemmas.proofs.Lists.{front, back, both}
 
 -- what is said of an expression itself, without those in it
 

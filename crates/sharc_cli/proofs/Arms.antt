@@ -1,11 +1,6 @@
 -- What is read from the matches.
-use Rattle.std.proofs.{Common.{◌≡◌, ◌∙◌, inl, inr, true, List, [], ◌∷◌, ap, ap₂, sym, refl, Bor, Option, Some, None, option_map, codes}, lemmas.Option.{none-some, same_Some}}
-use Rattle.std.specs.List.{list_all}
-use Rattle.clap.specs.{Matches.{first_value, subcommand_name_of}, Simple.{HasMatchesOf, app_of, is_simple, subcommand_of, subcommand_rows_of}, Faults.{fault_of, is_simple_and_free}, Kinds.{HasKind, Kinds}, Values.kind_of, declared.error.Error.Error, declared.builder.command.Command.Command, Walk.{Row, Text, rows_of}, declared.parser.matches.ArgMatches.ArgMatches, declared.parser.matches.ArgMatches.TheViews.out-ArgMatches, declared.parser.matches.Found.Found}
+use Rattle.sharc_cli.proofs.{Imports.{◌≡◌, ◌∙◌, inl, inr, true, List, [], ◌∷◌, ap, ap₂, sym, refl, Bor, Option, Some, None, option_map, codes, none-some, same_Some, list_all, first_value, subcommand_name_of, HasMatchesOf, app_of, is_simple, subcommand_of, subcommand_rows_of, fault_of, is_simple_and_free, HasKind, Kinds, kind_of, Error, Command, Row, Text, rows_of, ArgMatches, out-ArgMatches, Found, first_value-rows, commands, command_of, load_of, record_of, run_of, command_in, is_plain, line, seen, values_in}, Walks.{line_is_free, line_is_simple}, Lines.{accepted, cons_is_not, refused}}
 use Rattle.clap.specs.declared.error.kind.ErrorKind.TheVariants as kind
-use Rattle.clap.proofs.WalkLemmas.{first_value-rows}
-use Rattle.sharc_cli.specs.{Commands.{commands, command_of, load_of, record_of, run_of}, Line.{command_in, is_plain, line, seen, values_in}}
-use Rattle.sharc_cli.proofs.{Walks.{line_is_free, line_is_simple}, Lines.{accepted, cons_is_not, refused}}
 
 module _ (m : Found) (name : Text) where
   abbrev Reads : Option (Bor Text) → Text → Type 0

@@ -1,9 +1,6 @@
 -- The numbers of a command are within their bounds.
-use Rattle.std.proofs.Common.{◌≡◌, ℕ, ◌≤◌, Bool, true, false, List, [], ◌∷◌, find, Option, Some, None, refl, subst, arith}
-use Rattle.std.specs.{Prelude.{◌&&◌, nat_le, codes, option_map, option_and_then, IfSome, if◌then◌else◌}, Str.bytes_eq, Str.Parse.digits_value}
-use Rattle.sharc_cli.specs.{declared.command.Command.Command, Bounds.{IsWithin, AreWithin}, Commands.{Word, Values, forms, is_number, number_in, number_or, workers_of, granules_of, seed_of, run_of, load_of, record_of, command_of, command_behind, commands, entries_of, values_of}}
-use Rattle.sharc_cli.specs.declared.command.Command.TheVariants as command
-use Rattle.sharc_lemmas.proofs.{Bools.{and_left as and_first, and_right as and_second}, Numbers.le_true}
+use Rattle.sharc_cli.proofs.Imports.{◌≡◌, ℕ, ◌≤◌, Bool, true, false, List, [], ◌∷◌, find, Option, Some, None, refl, subst, arith, ◌&&◌, nat_le, codes, option_map, option_and_then, IfSome, if◌then◌else◌, bytes_eq, digits_value, IsWithin, AreWithin, Word, Values, forms, is_number, number_in, number_or, workers_of, granules_of, seed_of, run_of, load_of, record_of, command_of, command_behind, commands, entries_of, values_of, and_first, and_second, le_true}
+use Rattle.sharc_cli.specs.declared.command.Command.{Command}
 
 -- ---- numbers
 within_when : (low high n : ℕ) (b : Bool) → (b ≡ true → IsWithin low high n) → IfSome (if b then Some n else None) (IsWithin low high)
@@ -43,13 +40,13 @@ run_bounded v =
     then_bounded (IsWithin 1 16) (workers_of v) _ (within_or 4 1 16 v.workers (omega arith) (omega arith))
     (λ workers w. then_bounded (IsWithin 16 65536) (granules_of v) _ (within_or 4096 16 65536 v.granules (omega arith) (omega arith))
     (λ granules g. then_bounded (IsWithin 1 100000000) (number_or 1000000 1 100000000 v.events) _ (within_or 1000000 1 100000000 v.events (omega arith) (omega arith))
-    (λ events e. any_bounded (seed_of v.seed) (λ seed. command.Run workers granules events seed) (λ seed. record { few_workers = w; some_granules = g; few_events = e }))))
+    (λ events e. any_bounded (seed_of v.seed) (λ seed. Command.Run workers granules events seed) (λ seed. record { few_workers = w; some_granules = g; few_events = e }))))
 
 record_bounded : (v : Values) → Bounded (record_of v)
 record_bounded v =
     then_bounded (IsWithin 1 16) (workers_of v) _ (within_or 4 1 16 v.workers (omega arith) (omega arith))
     (λ workers w. then_bounded (IsWithin 16 65536) (granules_of v) _ (within_or 4096 16 65536 v.granules (omega arith) (omega arith))
-    (λ granules g. map_bounded (IsWithin 1 200000) (number_or 100000 1 200000 v.events) (λ events. command.Record workers granules events) (within_or 100000 1 200000 v.events (omega arith) (omega arith))
+    (λ granules g. map_bounded (IsWithin 1 200000) (number_or 100000 1 200000 v.events) (λ events. Command.Record workers granules events) (within_or 100000 1 200000 v.events (omega arith) (omega arith))
     (λ events e. record { few_workers = w; some_granules = g; few_events = e })))
 
 number_within : (o : Option Word) → IfSome (option_and_then (number_in 1 10000) o) (IsWithin 1 10000)
@@ -59,7 +56,7 @@ number_within (Some w) = within 1 10000 w
 load_bounded : (v : Values) → Bounded (load_of v)
 load_bounded v =
     then_bounded (IsWithin 1 10000) (option_and_then (number_in 1 10000) v.number) _ (number_within v.number)
-    (λ n h. map_bounded (IsWithin 1 16) (workers_of v) (λ workers. command.Load n workers) (within_or 4 1 16 v.workers (omega arith) (omega arith)) (λ workers w. record { numbered = h; few_workers = w }))
+    (λ n h. map_bounded (IsWithin 1 16) (workers_of v) (λ workers. Command.Load n workers) (within_or 4 1 16 v.workers (omega arith) (omega arith)) (λ workers w. record { numbered = h; few_workers = w }))
 
 either : (b : Bool) (x y : Option Command) → Bounded x → Bounded y → Bounded (if b then x else y)
 either true x y h k = h

@@ -1,3 +1,4 @@
+mod Imports
 pub mod Walks
 pub mod Readings
 pub mod Lines

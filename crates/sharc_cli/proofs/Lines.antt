@@ -1,12 +1,6 @@
 -- clap reads the words of the command line as the definition does.
-use Rattle.std.proofs.{Common.{◌≡◌, ◌∙◌, ap, ap₂, sym, subst, refl, Bool, true, false, not, ◌&&◌, List, [], ◌∷◌, map, Option, Some, None, is_some, codes, find}, lemmas.Option.{none-some, same_Some}, lemmas.Slice.Eq.bytes_eq-Decides, lemmas.Bool.{false≢true, true≢false}}
-use Rattle.std.specs.{Prelude.{fold, option_map, option_and_then}, List.{list_any, list_all}, Option.option_map_or, Str.bytes_eq}
-use Rattle.clap.specs.{Walk.{idle, Names, Row, Rule, Text, Walk, answers_to, finished, first_of, has_row, nothing_held, rows_after, settled, subcommand_met, walk, walk_from, walked, with_default}, Simple.{rows_at, Shape, built, entered, label_of, names_of, subcommand_of}, Faults.{turn_fault, check_fault, defaults_fault, entered_fault, fault_of, level_fault, settle_fault, walk_fault}, Kinds.{Kinds, or_else}, declared.error.kind.ErrorKind.ErrorKind, Takes.is_given}
+use Rattle.sharc_cli.proofs.{Imports.{◌≡◌, ◌∙◌, ap, ap₂, sym, subst, refl, Bool, true, false, not, ◌&&◌, List, [], ◌∷◌, map, Option, Some, None, is_some, codes, find, none-some, same_Some, bytes_eq-Decides, false≢true, true≢false, fold, option_map, option_and_then, list_any, list_all, option_map_or, bytes_eq, idle, Names, Row, Rule, Text, Walk, answers_to, finished, first_of, has_row, nothing_held, rows_after, settled, subcommand_met, walk, walk_from, walked, with_default, rows_at, Shape, built, entered, label_of, names_of, subcommand_of, turn_fault, check_fault, defaults_fault, entered_fault, fault_of, level_fault, settle_fault, walk_fault, Kinds, or_else, ErrorKind, is_given, stopped_fault, walk_stopped, Reading, command_of, ended, is_option, next, Entry, Form, Word, command_behind, commands, entries_of, forms, nothing_read, number, value_of, values_of, command_in, is_plain, line, values_in, and_false, both as both_true}, Walks.{gate_or, gate, leaf, number_rule, option_rule, rules_by, rules_of}, Readings.{none_ends, IsProper, as_flag, as_word, look_of, not_plain, reads, rows}}
 use Rattle.clap.specs.declared.error.kind.ErrorKind.TheVariants as kind
-use Rattle.clap.proofs.{FaultLemmas.stopped_fault, WalkLemmas.walk_stopped}
-use Rattle.sharc_cli.specs.{Commands.{Reading, command_of, ended, is_option, next, Entry, Form, Word, command_behind, commands, entries_of, forms, nothing_read, number, value_of, values_of}, Line.{command_in, is_plain, line, values_in}}
-use Rattle.sharc_cli.proofs.{Walks.{gate_or, gate, leaf, number_rule, option_rule, rules_by, rules_of}, Readings.{none_ends, IsProper, as_flag, as_word, look_of, not_plain, reads, rows}}
-use Rattle.sharc_lemmas.proofs.Bools.{and_false, both as both_true}
 
 -- ---- one subcommand
 

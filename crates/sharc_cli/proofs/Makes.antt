@@ -1,7 +1,5 @@
 -- How clap's commands are made.
-use Rattle.std.proofs.Common.{◌≡◌, ◌∙◌, ap, ap₂, sym, refl, subst, ℕ, zero, suc, ◌+◌, ◌<◌, ◌≤◌, false, ◌||◌, List, [], ◌∷◌, ◌++◌, append_assoc, map, take, take_all, get_or, length, Option, Some, arith, Bor}
-use Rattle.clap.specs.{Walk.{Rule, Text, rule_of}, Simple.{app_of, new_app, new_rule, new_shape, with_rule}, Built.AddsArg, declared.builder.arg.Arg.Arg, declared.builder.command.Command.Command, declared.builder.command.Command.TheViews.{out-Command as fields_of}}
-use Rattle.sharc_cli.specs.Line.{IsSubcommand, number_argument, option_argument, subcommand_with}
+use Rattle.sharc_cli.proofs.Imports.{◌≡◌, ◌∙◌, ap, ap₂, sym, refl, subst, ℕ, zero, suc, ◌+◌, ◌<◌, ◌≤◌, false, ◌||◌, List, [], ◌∷◌, ◌++◌, append_assoc, map, take, take_all, get_or, length, Option, Some, arith, Bor, Rule, Text, rule_of, app_of, new_app, new_rule, new_shape, with_rule, AddsArg, Arg, Command, fields_of, IsSubcommand, number_argument, option_argument, subcommand_with}
 
 pub one_number : (start c : Command) (name n : Text) (a : Arg) → AddsArg start a c → a.global ≡ false → (fields_of start).has_globals ≡ false
     → app_of start ≡ new_app name → rule_of a ≡ new_rule n → IsSubcommand c name (Some n) []

@@ -1,8 +1,5 @@
 -- Tests of all elements, and of numbers.
-use Rattle.std.proofs.{Common.{◌≡◌, ◌∙◌, ap, sym, refl, ℕ, zero, suc, ◌+◌, ◌<◌, ◌≤◌, ◌^◌, Bool, true, false, ◌&&◌, List, [], ◌∷◌, map, drop, get_or, length, Result, Err, None, nat_le, lt_of_le_of_lt, OkIff, arith}, lemmas.Bool.leb-true, lemmas.List.get_or_default, lemmas.Str.Parse.{IsNumeralModel, numerals_by_value, parse_digits, tells_all_ascii_digits}}
-use Rattle.std.specs.{List.list_all, Char.is_ascii_digit, Str.all_ascii_digits, Str.Parse.{ParsesUnsigned, digits_value}}
-use Rattle.sharc_cli.specs.Commands.{is_number, number_in}
-use Rattle.sharc_lemmas.proofs.Bools.{both}
+use Rattle.sharc_cli.proofs.Imports.{◌≡◌, ◌∙◌, ap, sym, refl, ℕ, zero, suc, ◌+◌, ◌<◌, ◌≤◌, ◌^◌, Bool, true, false, ◌&&◌, List, [], ◌∷◌, map, drop, get_or, length, Result, Err, None, nat_le, lt_of_le_of_lt, OkIff, arith, leb-true, get_or_default, IsNumeralModel, numerals_by_value, parse_digits, tells_all_ascii_digits, list_all, is_ascii_digit, all_ascii_digits, ParsesUnsigned, digits_value, is_number, number_in, both}
 
 module _ {X Y : Type 0} (p : Y → Bool) (h : X → Y) where
   all_from : (xs : List X) (i : ℕ) (d : X) → i < length xs → list_all p (map h (drop i xs)) ≡ (p (h (get_or xs i d)) && list_all p (map h (drop (i + 1) xs)))

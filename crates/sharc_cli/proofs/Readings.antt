@@ -1,10 +1,5 @@
 -- clap reads what follows a command as the definition does.
-use Rattle.std.proofs.{Common.{◌≡◌, ◌∙◌, ◌⊎◌, inl, inr, ap, ap₂, sym, refl, ℕ, ◌<◌, Bool, true, false, ◌&&◌, ◌||◌, ◌==◌, nat_lt, List, [], ◌∷◌, ◌++◌, map, Option, Some, None, length, arith}, lemmas.Bool.{lt-ltb, false≢true, true≢false}, lemmas.List.Folds.list_any-append}
-use Rattle.std.specs.{Prelude.{if◌then◌else◌, fold, option_map}, List.list_all, Str.bytes_eq}
-use Rattle.clap.specs.{Lexer.long_of, Walk.{Row, Text, settled_rows, used}, Faults.{settle_fault, walk_fault}}
-use Rattle.sharc_cli.specs.{Commands.{name_and_value, next_by, Entry, Form, Reading, Word, ended, has, has_hyphen, is_option, next, number, option_of, with_entry, with_option}, Line.is_plain}
-use Rattle.sharc_cli.proofs.Walks.{IsApart, IsBare, at_idle, at_option, by_id, dashes, entry_row, gate, gate_none, has_entry_row, held, no_index, not_number, number_id, option_rule, repeated, rows_by, rules_of, second_index, step_filled, step_number, step_option, step_stray, step_unfilled, step_unknown, step_value, use_repeats, used_adds}
-use Rattle.sharc_lemmas.proofs.Bools.{or_false, and_false, both as both_true}
+use Rattle.sharc_cli.proofs.{Imports.{◌≡◌, ◌∙◌, ◌⊎◌, inl, inr, ap, ap₂, sym, refl, ℕ, ◌<◌, Bool, true, false, ◌&&◌, ◌||◌, ◌==◌, nat_lt, List, [], ◌∷◌, ◌++◌, map, Option, Some, None, length, arith, lt-ltb, false≢true, true≢false, list_any-append, if◌then◌else◌, fold, option_map, list_all, bytes_eq, long_of, Row, Text, settled_rows, used, settle_fault, walk_fault, name_and_value, next_by, Entry, Form, Reading, Word, ended, has, has_hyphen, is_option, next, number, option_of, with_entry, with_option, is_plain, or_false, and_false, both as both_true}, Walks.{IsApart, IsBare, at_idle, at_option, by_id, dashes, entry_row, gate, gate_none, has_entry_row, held, no_index, not_number, number_id, option_rule, repeated, rows_by, rules_of, second_index, step_filled, step_number, step_option, step_stray, step_unfilled, step_unknown, step_value, use_repeats, used_adds}}
 
 -- ---- what a plain word looks like
 

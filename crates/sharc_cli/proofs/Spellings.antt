@@ -1,8 +1,6 @@
 -- The fold over the words and the list of written arguments say the same.
-use Rattle.std.proofs.{Common.{◌≡◌, ◌∙◌, ap, sym, refl, subst, ℕ, suc, ◌+◌, Bool, true, false, not, cond, ◌||◌, ◌==◌, List, [], ◌∷◌, ◌++◌, map, take, drop, Option, Some, None, arith, one-add, codes}, lemmas.Bool.{eqb-true, false≢true, and_parts}, lemmas.List.{append-nil, append_assoc}, lemmas.Slice.Eq.bytes_eq-Decides}
-use Rattle.std.specs.{Prelude.{fold, find, option_map, option_and_then}, List.{list_any, list_all, position_or_len, before_first, after_first}, Str.bytes_eq}
-use Rattle.sharc_cli.specs.{Commands.{Word, Form, Entry, forms, number, has, has_hyphen, behind, is_equals, name_and_value, option_of, is_option, with_entry, with_option, next, ended, entries_of, command_of, values_of, command_behind, commands}, Written.{Argument, alone, apart, joined, words_of, all_words, entry_of, Takes, TakesAll, Once, form_of, IsCommand}, declared.command.Command.Command}
-use Rattle.sharc_lemmas.proofs.{Bools.{not_true as opposite}, Options.{bind_some as some_of}}
+use Rattle.sharc_cli.proofs.Imports.{◌≡◌, ◌∙◌, ap, sym, refl, subst, ℕ, suc, ◌+◌, Bool, true, false, not, cond, ◌||◌, ◌==◌, List, [], ◌∷◌, ◌++◌, map, take, drop, Option, Some, None, arith, one-add, codes, eqb-true, false≢true, and_parts, append-nil, append_assoc, bytes_eq-Decides, fold, find, option_map, option_and_then, list_any, list_all, position_or_len, before_first, after_first, bytes_eq, Word, Form, Entry, forms, number, has, has_hyphen, behind, is_equals, name_and_value, option_of, is_option, with_entry, with_option, next, ended, entries_of, command_of, values_of, command_behind, commands, Argument, alone, apart, joined, words_of, all_words, entry_of, Takes, TakesAll, Once, form_of, IsCommand, opposite, some_of}
+use Rattle.sharc_cli.specs.declared.command.Command.{Command}
 
 -- ---- where a text is cut at its first `=`
 

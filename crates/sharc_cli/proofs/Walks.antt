@@ -1,11 +1,6 @@
 -- What clap makes of the words after a command.
-use Rattle.std.proofs.{Common.{◌≡◌, ◌∙◌, ap, ap₂, sym, subst, refl, ℕ, Bool, true, false, ◌&&◌, ◌||◌, List, [], ◌∷◌, ◌++◌, map, Option, Some, None}, lemmas.Slice.Eq.bytes_eq-Decides, lemmas.Bool.{false≢true, true≢false}, lemmas.List.append-nil}
-use Rattle.std.specs.{Prelude.{if◌then◌else◌, fold, codes}, List.list_any, Str.bytes_eq}
-use Rattle.clap.specs.{Lexer.{long_of, short_of}, Walk.{is_pending, more_values, reading_by, Held, Row, Rule, Text, Walk, arg_by_id, arg_by_index, arg_by_long, at_row, has_row, idle, option, settled, settled_rows, used, walked}, Simple.{Shape, built, filled, is_simple, new_rule, new_shape, with_index}, Faults.{is_simple_and_free, settle_fault, turn_fault, use_fault, walk_fault}, Kinds.{Kinds, or_else}, declared.parser.matches.ValueSource.TheVariants.CommandLine}
+use Rattle.sharc_cli.proofs.Imports.{◌≡◌, ◌∙◌, ap, ap₂, sym, subst, refl, ℕ, Bool, true, false, ◌&&◌, ◌||◌, List, [], ◌∷◌, ◌++◌, map, Option, Some, None, bytes_eq-Decides, false≢true, true≢false, append-nil, if◌then◌else◌, fold, codes, list_any, bytes_eq, long_of, short_of, is_pending, more_values, reading_by, Held, Row, Rule, Text, Walk, arg_by_id, arg_by_index, arg_by_long, at_row, has_row, idle, option, settled, settled_rows, used, walked, Shape, built, filled, is_simple, new_rule, new_shape, with_index, is_simple_and_free, settle_fault, turn_fault, use_fault, walk_fault, Kinds, or_else, CommandLine, clap_on_literals, Entry, Form, has, is_option, number, line, option_argument, and_false}
 use Rattle.clap.specs.declared.error.kind.ErrorKind.TheVariants as kind
-use Rattle.clap.proofs.OnLiterals.{clap_on_literals}
-use Rattle.sharc_cli.specs.{Commands.{Entry, Form, has, is_option, number}, Line.{line, option_argument}}
-use Rattle.sharc_lemmas.proofs.Bools.{and_false}
 
 pub line_is_simple : is_simple line ≡ true
 unfolding clap_on_literals

@@ -1,10 +1,6 @@
 -- A legal history with a path of each thread is a run by turns, and the other way round.
-use Rattle.std.proofs.{Common.{◌≡◌, ℕ, ◌+◌, ◌≤◌, true, false, cond, ◌||◌, List, [], ◌∷◌, ◌++◌, Option, Some, None, refl, sym, ap, ◌∙◌, subst, arith, eqb-true}, lemmas.List.append-nil}
-use Rattle.std.specs.Prelude.{nat_eq}
-use Rattle.sharc_word.specs.{declared.step.WordEvent.WordEvent, Words.words_after, Place.event_of, History.LegalHistory, Laws.HistoryLaws}
-use Rattle.sharc_code.specs.Runs.{OneThread, Bounds, Turn, turn_with, result_of, step_of, event_list, IsOf, word_events, turns_of, state_after, IsNext, IsPath, made_in, is_started, was_started, CheckedFrom, Global, words_now, state_now, made_now, after_turn, at, Answered, MayTurn, IsRun, Said, with_told, paired, told_by, erase, said_by, path_says, pairs_of, made_event, turn_by, scheduled, threads_of}
-use Rattle.sharc_code.proofs.Places.{put_all}
-use Rattle.sharc_lemmas.proofs.Numbers.{eq_refl}
+use Rattle.sharc_code.proofs.{Imports.{◌≡◌, ℕ, ◌+◌, ◌≤◌, true, false, cond, ◌||◌, List, [], ◌∷◌, ◌++◌, Option, Some, None, refl, sym, ap, ◌∙◌, subst, arith, eqb-true, append-nil, nat_eq, WordEvent, words_after, event_of, LegalHistory, HistoryLaws, OneThread, Bounds, Turn, turn_with, result_of, step_in as step_of, event_list, IsOf, word_events, turns_of, IsNext, IsPath, made_in, is_started, was_started, CheckedFrom, Global, words_now, state_now, made_now, after_turn, at, Answered, MayTurn, IsRun, Said, with_told, paired, told_by, erase, said_by, path_says, pairs_of, made_event, turn_by, scheduled, threads_of, eq_refl}, Places.put_all}
+use Rattle.sharc_code.specs.Runs.{state_after}
 
 -- ---- one event more
 words_push : (e : Option WordEvent) (words : List ℕ) → words_after words (event_list e) ≡ words_now words e

@@ -1,9 +1,5 @@
 -- A run in which no thread makes an event leaves the words as they are, and each thread that made a turn waits.
-use Rattle.std.proofs.{Common.{◌≡◌, ℕ, ◌≤◌, true, false, List, [], ◌∷◌, Option, Some, None, cond, refl, sym, ap, ◌∙◌, subst, arith, ◌⊎◌, inl, inr, ⊎_elim, eqb-true}, lemmas.Bool.cases_eq}
-use Rattle.std.specs.Prelude.{nat_eq, slice_index}
-use Rattle.sharc_word.specs.{declared.step.WordStep.WordStep, declared.step.WordEvent.WordEvent}
-use Rattle.sharc_code.specs.{declared.code.Code.Code, declared.shape.Shape.Shape, declared.state.TurnState.TurnState, declared.state.TurnState.TheVariants.{Runs, Tries, Stopped, Ended}, Machine.{Machine, Turn as Act, Local, Asks}, Path.{turn, after, asked_by, counted}, Runs.{Turn, IsRun, MayTurn, at, put, words_now, state_now, made_now, result_of, step_of, Answered, turns_of, Global}, Waits.waits_now, Whole.{one_thread, bounds}, ThreadLaws.{found_now, behind}, StandingLaws.IsIdle}
-use Rattle.sharc_code.proofs.{Places.{put_same, put_other}, Failing.failed_stays, Trying.waits_where}
+use Rattle.sharc_code.proofs.{Imports.{◌≡◌, ℕ, ◌≤◌, true, false, List, [], ◌∷◌, Option, Some, None, cond, refl, sym, ap, ◌∙◌, subst, arith, ◌⊎◌, inl, inr, ⊎_elim, eqb-true, cases_eq, nat_eq, slice_index, WordStep, WordEvent, Code, Shape, TurnState, Runs, Tries, Stopped, Ended, Machine, Act, Local, Asks, turn, after, asked_by, counted, Turn, IsRun, MayTurn, at, put, words_now, state_now, made_now, result_of, step_in as step_of, Answered, turns_of, Global, waits_now, one_thread, bounds, found_now, behind, IsIdle}, Places.{put_same, put_other}, Failing.failed_stays, Trying.waits_where}
 
 uncounted : (state : TurnState) → counted state ≡ 0 → state ≡ Tries
 uncounted Runs e = absurd (omega (arith, e))

@@ -1,8 +1,5 @@
 -- What every turn keeps: the number of the thread, the rows of its table, a stage of the shape, and the prints but for one more.
-use Rattle.std.proofs.{Common.{◌≡◌, ℕ, length, refl, sym, subst, [], ◌∷◌, length-append, arith}, lemmas.List.length-set}
-use Rattle.sharc_heap.specs.Functions.{noted}
-use Rattle.sharc_code.specs.{declared.code.Code.Code, declared.instr.Instr.Instr, declared.shape.Shape.Shape, declared.state.Stage.Stage, declared.state.Stage.TheVariants.{Makes, Names, Hands, Begins}, Machine.{Machine, Own, instr_at}, Outcomes.{TurnOutcome, Stays, Rested, Notes, Prints, Begun, Refused, Gone, own_after, IsNextStage, MayComeOut}, Path.{after, turn}, Stages.IsStageOf, ThreadLaws.Keeps}
-use Rattle.sharc_code.proofs.Outcomes.{comes_out}
+use Rattle.sharc_code.proofs.{Imports.{◌≡◌, ℕ, length, refl, sym, subst, [], ◌∷◌, length-append, arith, length-set, noted, Code, Instr, Shape, Stage, Makes, Names, Hands, Begins, Machine, Own, instr_at, TurnOutcome, Stays, Rested, Notes, Prints, Begun, Refused, Gone, own_after, IsNextStage, MayComeOut, after, turn, IsStageOf, Keeps}, Outcomes.comes_out}
 
 next : (s : Shape) (found : ℕ) (old stage : Stage) → IsNextStage s found old stage → IsStageOf s old → IsStageOf s stage
 next s found old (Makes view) comes is = comes is

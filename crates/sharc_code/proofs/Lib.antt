@@ -1,3 +1,4 @@
+mod Imports
 pub mod ByTurns
 pub mod Failing
 pub mod Idling

@@ -1,10 +1,6 @@
 -- The paths of some threads, whose word events are the parts of one history, are the parts of one list of turns with that history.
-use Rattle.std.proofs.{Common.{◌≡◌, ℕ, zero, suc, ◌+◌, ◌<◌, ◌≤◌, true, false, cond, List, [], ◌∷◌, ◌++◌, Option, Some, None, refl, sym, ap, ◌∙◌, subst, ⊎_elim, arith, eq-eqb, ne_eqb}, lemmas.Bool.{cases_eq, cases_lt, or_right}, lemmas.List.{append-nil, append_assoc}, lemmas.List.Elements.filter-append}
-use Rattle.std.specs.Prelude.{nat_eq}
-use Rattle.sharc_word.specs.{declared.step.WordEvent.WordEvent, Words.words_after, History.{LegalHistory, events_of}, Laws.HistoryLaws}
-use Rattle.sharc_code.specs.Runs.{put, OneThread, made_in, Bounds, Turn, event_list, word_events, turns_of, IsPath, is_started, was_started, CheckedFrom, Global, Owns, Parts, Round, state_after, at}
-use Rattle.sharc_code.proofs.{ByTurns.{words_are, threads_are}, Places.{put_same, put_other, put_all}}
-use Rattle.sharc_lemmas.proofs.Numbers.{ne_eq, eq_refl}
+use Rattle.sharc_code.proofs.{Imports.{◌≡◌, ℕ, zero, suc, ◌+◌, ◌<◌, ◌≤◌, true, false, cond, List, [], ◌∷◌, ◌++◌, Option, Some, None, refl, sym, ap, ◌∙◌, subst, ⊎_elim, arith, eq-eqb, ne_eqb, cases_eq, cases_lt, or_right, append-nil, append_assoc, filter-append, nat_eq, WordEvent, words_after, LegalHistory, events_of, HistoryLaws, put, OneThread, made_in, Bounds, Turn, event_list, word_events, turns_of, IsPath, is_started, was_started, CheckedFrom, Global, Owns, Parts, Round, at, ne_eq, eq_refl}, ByTurns.{words_are, threads_are}, Places.{put_same, put_other, put_all}}
+use Rattle.sharc_code.specs.Runs.{state_after}
 
 -- ---- lists
 same_end : {A : Type 0} (xs ys : List A) (x y : A) → xs ++ x ∷ [] ≡ ys ++ y ∷ [] → (xs ≡ ys) × (x ≡ y)

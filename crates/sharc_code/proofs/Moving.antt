@@ -1,7 +1,5 @@
 -- No turn but that of Lock, Join and CondWait is a failed try.
-use Rattle.std.proofs.Common.{◌≡◌, ℕ, Bool, true, false, None, refl, sym, ap, ◌∙◌}
-use Rattle.sharc_code.specs.{declared.code.Code.Code, declared.instr.Cell.Cell, declared.instr.Instr.Instr, declared.instr.Instr.TheVariants.{Lock, Join, CondWait}, declared.shape.Shape.Shape, declared.state.TurnState.TurnState, declared.state.TurnState.TheVariants.{Runs, Tries, Stopped, Ended}, Machine.{Machine, act}, Outcomes.{TurnOutcome, Fails, state_after, is_trying, MayComeOut}, Path.after, Waits.asks_for}
-use Rattle.sharc_code.proofs.Outcomes.{comes_out}
+use Rattle.sharc_code.proofs.{Imports.{◌≡◌, ℕ, Bool, true, false, None, refl, sym, ap, ◌∙◌, Code, Cell, Instr, Lock, Join, CondWait, Shape, TurnState, Runs, Tries, Stopped, Ended, Machine, act, TurnOutcome, Fails, state_after, is_trying, MayComeOut, after, asks_for}, Outcomes.comes_out}
 
 abbrev pub is_try : TurnState → Bool
 is_try Runs = false

@@ -1,6 +1,5 @@
 -- Lists of what a function gives for the first numbers.
-use Rattle.std.proofs.{Common.{◌≡◌, ℕ, ◌+◌, [], ◌∷◌, ◌++◌, map, length, arith}, lemmas.List.FromFn.{map-range_with_len_more, length-map-range_with_len}}
-use Rattle.std.specs.List.{range_with_len}
+use Rattle.sharc_code.proofs.Imports.{◌≡◌, ℕ, ◌+◌, [], ◌∷◌, ◌++◌, map, length, arith, map-range_with_len_more, length-map-range_with_len, range_with_len}
 
 pub one_more : {X : Type 0} (f : ℕ → X) (n : ℕ) → map f (range_with_len 0 (n + 1)) ≡ map f (range_with_len 0 n) ++ f n ∷ []
 one_more f n = map-range_with_len_more f 0 n n (omega arith)

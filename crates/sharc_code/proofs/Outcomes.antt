@@ -1,15 +1,6 @@
 -- Each turn comes out in one of eleven ways.
-use Rattle.std.proofs.{Common.{◌≡◌, ℕ, ℤ, pos, negsuc, zero, suc, ◌+◌, ◌*◌, min, Bool, true, false, not, ◌&&◌, ◌||◌, ◌==◌, nat_lt, length, is_some, if◌then◌else◌, refl, ap, inl, inr, Some}, lemmas.Bool.Decides.Decides-ltb}
-use Rattle.std.specs.Prelude.{Result, Ok, Err}
-use Rattle.sharc_tree.specs.declared.trap.Trap.{Trap}
-use Rattle.sharc_tree.specs.declared.trap.Trap.TheVariants as traps
-use Rattle.sharc_word.specs.declared.step.TheConstants.{THREADS}
-use Rattle.sharc_word.specs.declared.step.WordOp.TheVariants as ops
-use Rattle.sharc_locks.specs.Waiters.{waits_in}
-use Rattle.sharc_heap.specs.{declared.shadow_word.Kind.Kind, declared.shadow_word.Kind.TheVariants.{Read, Write}, Accesses.{note_of, site_at}, ShadowWord.epoch_of, Functions.{conflicts_in, noted}, State.{NewView, told, turn_of}, declared.stage.NewTurn.NewTurn, declared.stage.NewTurn.TheVariants.{Do, Made, HeapFull}}
-use Rattle.sharc_code.specs.{declared.instr.Width.TheVariants.{Int, Long}, declared.code.Code.Code, declared.code.Layout.Layout, declared.code.Parameter.Parameter, declared.instr.Cell.Cell, declared.instr.Cell.TheVariants.{Global, GlobalAt, Object, ObjectAt}, declared.instr.Register.Register, declared.instr.Instr.Instr, declared.instr.Instr.TheVariants.{ComputeInt, ComputeLong, NegateInt, NegateLong, ChkWidth, JumpIfZero, JumpIfNull, Call, Return, ChkNull, ChkHeld, ChkNotHeld, ChkPositive, ChkRoom, ChkLock, ChkLockLoaded, Bounds, GlobalBounds, ChkRead, ChkWrite, Load, Store, LoadRef, Exchange, Raise, RaiseLoaded, Lower, New, TakeCell, TakeLocal, TestSole, Clear, Free, Lock, Unlock, Spawn, Join, Print, Start, Exit, CondWait, CondSignal}, declared.shape.Shape.Shape, declared.state.Stage.Stage, declared.state.Stage.TheVariants.{Rests, Looks, Clears, Makes, Empties, Lowers, FreeLooks, FreeClears, Uncounts, Links, Names, Hands, Begins, Enters, Withdraws, WithdrawsFrom, Leaves, Wakes}, declared.state.Stop.Stop, declared.state.Stop.TheVariants.{Conflict, NoLock, NotSole, Trap as Trapped}, declared.state.TurnState.TheVariants.Runs, Arithmetic.{computed, negated, is_zero, holds}, Layout.{granule_at, granule_of, cell_of, cell_word, state_word}, Machine.{Machine, Own, act, int, ref, goes, goes_to, asserts, with_result, has_room, called, returned, holds_none, is_of_null, is_held, indexed, wrote, checked, lock_checked, raise, lower, test, tested, after_new, asks_new, new, new_state, elements_of, rests, looks, clear, data_granules, free_looks, empties, emptied, free, layout_at, spawn, with_parameter, start, function_of, withdraws, exit, signal, is_positive, fields, largest, at_stage, place, set_ref, accessed, move_ref, trapped, stopped, fails, locked, joined, join, woken, word, Local, Asks, step_of}, Outcomes.{TurnOutcome, Goes, Fails, Stops, Stays, Rested, Notes, Logs, Prints, Begun, Refused, Gone, own_after, state_after, MayComeOut, ComesOut, IsNextStage, has_stage, is_trying, check_of, MayStop, IsStill}, Path.after, Stages.IsStageOf}
-use Rattle.sharc_code.specs.declared.code.Parameter.TheVariants as parameters
-use Rattle.sharc_code.specs.declared.instr.Register.TheVariants as registers
+use Rattle.sharc_code.proofs.Imports.{◌≡◌, ℕ, ℤ, pos, negsuc, zero, suc, ◌+◌, ◌*◌, min, Bool, true, false, not, ◌&&◌, ◌||◌, ◌==◌, nat_lt, length, is_some, if◌then◌else◌, refl, ap, inl, inr, Some, Decides-ltb, Result, Ok, Err, Trap, THREADS, WordOp, waits_in, Kind, Read, Write, note_of, site_at, epoch_of, conflicts_in, noted, NewView, told, turn_of, NewTurn, Do, Made, HeapFull, Int, Long, Code, Layout, Parameter, Cell, GlobalAt, Object, ObjectAt, Register, Instr, ComputeInt, ComputeLong, NegateInt, NegateLong, ChkWidth, JumpIfZero, JumpIfNull, Call, Return, ChkNull, ChkHeld, ChkNotHeld, ChkPositive, ChkRoom, ChkLock, ChkLockLoaded, GlobalBounds, ChkRead, ChkWrite, Load, Store, LoadRef, Exchange, Raise, RaiseLoaded, Lower, New, TakeCell, TakeLocal, TestSole, Clear, Free, Lock, Unlock, Spawn, Join, Print, Start, Exit, CondWait, CondSignal, Shape, Stage, Rests, Looks, Clears, Makes, Empties, Lowers, FreeLooks, FreeClears, Uncounts, Links, Names, Hands, Begins, Enters, Withdraws, WithdrawsFrom, Leaves, Wakes, Stop, Conflict, NoLock, NotSole, Trapped, Runs, computed, negated, is_zero, holds, granule_at, granule_of, cell_of, cell_word, state_word, Machine, Own, act, int, ref, goes, goes_to, asserts, with_result, has_room, called, returned, holds_none, is_of_null, is_held, indexed, wrote, checked, lock_checked, raise, lower, test, tested, after_new, asks_new, new, new_state, elements_of, rests, looks, clear, data_granules, free_looks, empties, emptied, free, layout_at, spawn, with_parameter, start, function_of, withdraws, exit, signal, is_positive, fields, largest, at_stage, place, set_ref, accessed, move_ref, trapped, stopped, fails, locked, joined, join, woken, word, Local, Asks, step_of, TurnOutcome, Goes, Fails, Stops, Stays, Rested, Notes, Logs, Prints, Begun, Refused, Gone, own_after, state_after, MayComeOut, ComesOut, IsNextStage, has_stage, is_trying, check_of, MayStop, IsStill, after, IsStageOf}
+use Rattle.sharc_code.specs.{declared.instr.Cell.TheVariants.Global, declared.instr.Instr.TheVariants.Bounds}
 
 -- ---- what instructions share
 module _ (s : Shape) (i : Instr) (found : ℕ) (m : Machine) where
@@ -45,7 +36,7 @@ module _ (s : Shape) (i : Instr) (found : ℕ) (m : Machine) where
   either false x y h k = k
 
   at_call : (pc ints refs site : ℕ) → Out (called m pc ints refs site)
-  at_call pc ints refs site = either (has_room m ints refs) _ _ (plain _ refl refl refl) (trap traps.CallDepth site)
+  at_call pc ints refs site = either (has_room m ints refs) _ _ (plain _ refl refl refl) (trap Trap.CallDepth site)
 
   at_result : (r site : ℕ) (z : Result ℤ Trap) → Out (with_result m r site z)
   at_result r site (Ok z) = plain _ refl refl refl
@@ -60,11 +51,11 @@ module _ (s : Shape) (i : Instr) (found : ℕ) (m : Machine) where
 
   at_return : (code : Code) (site : ℕ) → Out (returned code m site)
   at_return code site = either (m.at.depth == 0) _ _ (plain _ refl refl refl)
-      (either (m.at.depth == 1 && not (holds_none m.own.held)) _ _ (trap traps.ReturnWithLockHeld site) (plain _ refl refl refl))
+      (either (m.at.depth == 1 && not (holds_none m.own.held)) _ _ (trap Trap.ReturnWithLockHeld site) (plain _ refl refl refl))
 
   at_index : (r : ℕ) (z : ℤ) (cells field site elements : ℕ) → Out (indexed m r z cells field site elements)
-  at_index r (pos n) cells field site elements = either (nat_lt n elements) _ _ (plain _ refl refl refl) (trap traps.IndexOutOfBounds site)
-  at_index r (negsuc n) cells field site elements = trap traps.IndexOutOfBounds site
+  at_index r (pos n) cells field site elements = either (nat_lt n elements) _ _ (plain _ refl refl refl) (trap Trap.IndexOutOfBounds site)
+  at_index r (negsuc n) cells field site elements = trap Trap.IndexOutOfBounds site
 
   module _ (kind : Kind) (cell : Cell) (site : ℕ) (is : i ≡ check_of kind cell site) where
     abbrev granule : ℕ
@@ -80,7 +71,7 @@ module _ (s : Shape) (i : Instr) (found : ℕ) (m : Machine) where
         (noted_or_not (is_some (site_at (note_of m.own.table granule kind) (epoch_of found))))
 
   at_lock_check : (null : Bool) (mutex site : ℕ) → (null ≡ false → is_held m mutex ≡ false → MayStop s i m found (NoLock site mutex)) → Out (lock_checked m null mutex site)
-  at_lock_check true mutex site reports = trap traps.NullPointer site
+  at_lock_check true mutex site reports = trap Trap.NullPointer site
   at_lock_check false mutex site reports = elim (is_held m mutex) as (λ b. is_held m mutex ≡ b → Out (if b then goes m else stopped m (NoLock site mutex))) [
     | true ↦ λ e. plain _ refl refl refl
     | false ↦ λ e. stop (NoLock site mutex) (reports refl e)
@@ -108,12 +99,12 @@ module _ (s : Shape) (i : Instr) (found : ℕ) (m : Machine) where
   at_after_new : (r site : ℕ) (view : NewView) (t : NewTurn) → has_stage i (Makes view) ≡ true → Keeps_shape view → Out (after_new m r site view t)
   at_after_new r site view (Do step) has next = stays (Makes view) has next
   at_after_new r site view (Made header) has next = rested _ refl refl refl
-  at_after_new r site view HeapFull has next = trap traps.HeapFull site
+  at_after_new r site view HeapFull has next = trap Trap.HeapFull site
 
   at_ask_new : (r site : ℕ) (view : NewView) (t : NewTurn) → has_stage i (Makes (told view found)) ≡ true → Keeps_shape view → Out (after (asks_new m r site view t) found)
   at_ask_new r site view (Do step) has next = at_after_new r site (told view found) (turn_of (told view found)) has next
   at_ask_new r site view (Made header) has next = rested _ refl refl refl
-  at_ask_new r site view HeapFull has next = trap traps.HeapFull site
+  at_ask_new r site view HeapFull has next = trap Trap.HeapFull site
 
 -- ---- instructions of several turns, and those that try
 module _ (code : Code) (s : Shape) (m : Machine) where
@@ -158,27 +149,27 @@ module _ (code : Code) (s : Shape) (m : Machine) where
     at_free l (Links elements) = rested _ _ _ _ _ refl refl refl
     at_free l _ = at_empty l 0 found
 
-  at_numbered : (r function : ℕ) (from : Register) (site n : ℕ) (b : Bool) → nat_lt n THREADS ≡ b → ComesOut s (Spawn r function from site) n m (if b then at_stage m (Names n) else trapped m traps.ThreadLimit site)
+  at_numbered : (r function : ℕ) (from : Register) (site n : ℕ) (b : Bool) → nat_lt n THREADS ≡ b → ComesOut s (Spawn r function from site) n m (if b then at_stage m (Names n) else trapped m Trap.ThreadLimit site)
   at_numbered r function from site n true e = stays _ _ _ _ (Names n) refl (refl, (Decides-ltb n THREADS).0 e)
-  at_numbered r function from site n false e = trap _ _ _ _ traps.ThreadLimit site
+  at_numbered r function from site n false e = trap _ _ _ _ Trap.ThreadLimit site
 
   at_spawn : (r function : ℕ) (from : Register) (site : ℕ) (stage : Stage) (found : ℕ) → m.own.stage ≡ stage → ComesOut s (Spawn r function from site) found m (after (spawn m r function from site stage) found)
   at_spawn r function from site (Names n) found e = stays _ _ _ _ (Hands n) refl e
   at_spawn r function from site (Hands n) found e = stays _ _ _ _ (Begins n) refl e
-  at_spawn r function (registers.Int a) site (Begins n) found e = rested _ _ _ _ _ refl refl refl
-  at_spawn r function (registers.Reference a) site (Begins n) found e = rested _ _ _ _ _ refl refl refl
+  at_spawn r function (Register.Int a) site (Begins n) found e = rested _ _ _ _ _ refl refl refl
+  at_spawn r function (Register.Reference a) site (Begins n) found e = rested _ _ _ _ _ refl refl refl
   at_spawn r function from site _ found e = at_numbered r function from site found (nat_lt found THREADS) refl
 
   at_joined : (r site found : ℕ) → ComesOut s (Join r site) found m (joined m site found)
-  at_joined r site found = either _ _ _ _ (found == 0) _ _ (trap _ _ _ _ traps.NoSuchThread site) (either _ _ _ _ (found == 1 || found == 2) _ _ (fail _ _ _ _ refl) (plain _ _ _ _ _ refl refl refl))
+  at_joined r site found = either _ _ _ _ (found == 0) _ _ (trap _ _ _ _ Trap.NoSuchThread site) (either _ _ _ _ (found == 1 || found == 2) _ _ (fail _ _ _ _ refl) (plain _ _ _ _ _ refl refl refl))
 
   at_join : (r : ℕ) (z : ℤ) (site found : ℕ) → ComesOut s (Join r site) found m (after (join m z site) found)
   at_join r (pos n) site found =
-      elim (nat_lt n THREADS) as (λ b. ComesOut s (Join r site) found m (after (if b then Asks (step_of (state_word n) ops.Load) (joined m site) else Local (trapped m traps.NoSuchThread site)) found)) [
+      elim (nat_lt n THREADS) as (λ b. ComesOut s (Join r site) found m (after (if b then Asks (step_of (state_word n) WordOp.Load) (joined m site) else Local (trapped m Trap.NoSuchThread site)) found)) [
         | true ↦ at_joined r site found
-        | false ↦ trap _ _ _ _ traps.NoSuchThread site
+        | false ↦ trap _ _ _ _ Trap.NoSuchThread site
       ]
-  at_join r (negsuc n) site found = trap _ _ _ _ traps.NoSuchThread site
+  at_join r (negsuc n) site found = trap _ _ _ _ Trap.NoSuchThread site
 
   at_lock : (cell : Cell) (site mutex found : ℕ) → ComesOut s (Lock cell site) found m (locked m cell mutex found)
   at_lock (Global global cell) site mutex found = either _ _ _ _ (found == 0) _ _ (comes _ _ _ _ (Logs _) refl _ refl refl refl tt) (fail _ _ _ _ refl)
@@ -192,12 +183,12 @@ module _ (code : Code) (s : Shape) (m : Machine) where
   module _ (site function entry found : ℕ) where
     begins : (x : Machine) → x.own ≡ record m.own { stage = Rests; function = function } → x.pending ≡ m.pending → ComesOut s (Start site) found m (called x entry 0 0 site)
     begins x own pending = either _ _ _ _ (has_room x 0 0) _ _ (comes _ _ _ _ (Begun function) refl _ own refl pending tt)
-        (comes _ _ _ _ (Refused function site) refl _ (ap (λ (o : Own). record o { stop = Some (Trapped traps.CallDepth site) }) own) refl pending tt)
+        (comes _ _ _ _ (Refused function site) refl _ (ap (λ (o : Own). record o { stop = Some (Trapped Trap.CallDepth site) }) own) refl pending tt)
 
     at_enter : (p : Parameter) → ComesOut s (Start site) found m (called (with_parameter (record m { own = record m.own { stage = Rests; function = function } }) p found) entry 0 0 site)
-    at_enter parameters.None = begins (record m { own = record m.own { stage = Rests; function = function } }) refl refl
-    at_enter parameters.Int = begins (with_parameter (record m { own = record m.own { stage = Rests; function = function } }) parameters.Int found) refl refl
-    at_enter parameters.Reference = begins (with_parameter (record m { own = record m.own { stage = Rests; function = function } }) parameters.Reference found) refl refl
+    at_enter Parameter.None = begins (record m { own = record m.own { stage = Rests; function = function } }) refl refl
+    at_enter Parameter.Int = begins (with_parameter (record m { own = record m.own { stage = Rests; function = function } }) Parameter.Int found) refl refl
+    at_enter Parameter.Reference = begins (with_parameter (record m { own = record m.own { stage = Rests; function = function } }) Parameter.Reference found) refl refl
 
   at_start : (site : ℕ) (stage : Stage) (found : ℕ) → ComesOut s (Start site) found m (after (start code m site stage) found)
   at_start site (Enters function) found = at_enter site function (function_of code function).entry found (function_of code function).parameter
@@ -226,16 +217,16 @@ module _ (code : Code) (s : Shape) (m : Machine) where
   comes_out (ComputeLong operator r a b site) found = at_result _ _ _ _ r site (computed Long operator (int m a) (int m b))
   comes_out (NegateInt r a site) found = at_result _ _ _ _ r site (negated Int (int m a))
   comes_out (NegateLong r a site) found = at_result _ _ _ _ r site (negated Long (int m a))
-  comes_out (ChkWidth width r site) found = at_assert _ _ _ _ (holds width (int m r)) traps.OutOfRange site
+  comes_out (ChkWidth width r site) found = at_assert _ _ _ _ (holds width (int m r)) Trap.OutOfRange site
   comes_out (JumpIfZero r pc) found = at_jump _ _ _ _ (is_zero (int m r)) pc
   comes_out (JumpIfNull r pc) found = at_jump _ _ _ _ (ref m r == 0) pc
   comes_out (Call pc ints refs site) found = at_call _ _ _ _ pc ints refs site
   comes_out (Return site) found = at_return _ _ _ _ code site
-  comes_out (ChkNull r site) found = at_assert _ _ _ _ (not (ref m r == 0)) traps.NullPointer site
-  comes_out (ChkHeld cell site) found = at_assert _ _ _ _ (is_held m (word s m cell)) traps.MutexNotHeld site
-  comes_out (ChkNotHeld cell site) found = at_assert _ _ _ _ (not (is_held m (word s m cell))) traps.MutexAlreadyHeld site
-  comes_out (ChkPositive r site) found = at_assert _ _ _ _ (is_positive (int m r)) traps.SizeNotPositive site
-  comes_out (ChkRoom site) found = at_assert _ _ _ _ (nat_lt (length m.own.held) 16) traps.TooManyLocks site
+  comes_out (ChkNull r site) found = at_assert _ _ _ _ (not (ref m r == 0)) Trap.NullPointer site
+  comes_out (ChkHeld cell site) found = at_assert _ _ _ _ (is_held m (word s m cell)) Trap.MutexNotHeld site
+  comes_out (ChkNotHeld cell site) found = at_assert _ _ _ _ (not (is_held m (word s m cell))) Trap.MutexAlreadyHeld site
+  comes_out (ChkPositive r site) found = at_assert _ _ _ _ (is_positive (int m r)) Trap.SizeNotPositive site
+  comes_out (ChkRoom site) found = at_assert _ _ _ _ (nat_lt (length m.own.held) 16) Trap.TooManyLocks site
   comes_out (ChkLock cell site) found = at_lock_check _ _ _ _ (is_of_null m cell) (word s m cell) site (λ e unheld. inl (cell, refl, e, refl, unheld))
   comes_out (ChkLockLoaded site) found = at_lock_check _ _ _ _ (m.pending == 0) (cell_word s (cell_of m.pending 0)) site (λ e unheld. inr (refl, e, refl, unheld))
   comes_out (Bounds r base cells field site) found = at_index _ _ _ _ r (int m r) cells field site found

@@ -1,6 +1,6 @@
 -- The found words of a path are turns, with the same events.
-use Rattle.std.proofs.Common.{◌≡◌, ℕ, ◌+◌, List, [], ◌∷◌, ◌++◌, true, refl, sym, ap, ◌∙◌, subst}
-use Rattle.sharc_code.specs.{declared.code.Code.Code, declared.shape.Shape.Shape, Machine.{Machine, Turn as Act, Local, Asks}, Path.{turn, after, asked_by, events_of_turn, machine_after, events_of_path, may_go, counted, IsPath as IsCodePath, made_in as made_in_path}, Runs.{turn_with, result_of, step_of, event_list, IsOf, word_events, IsPath, IsNext, Owns, state_after, made_in}, Whole.{one_thread, event_in, turns_by}, Laws.IsPathOf}
+use Rattle.sharc_code.proofs.Imports.{◌≡◌, ℕ, ◌+◌, List, [], ◌∷◌, ◌++◌, true, refl, sym, ap, ◌∙◌, subst, Code, Shape, Machine, Act, Local, Asks, turn, after, asked_by, events_of_turn, machine_after, events_of_path, may_go, counted, IsCodePath, made_in_path, turn_with, result_of, step_in as step_of, event_list, IsOf, word_events, IsPath, IsNext, Owns, made_in, one_thread, event_in, turns_by, IsPathOf}
+use Rattle.sharc_code.specs.Runs.{state_after}
 
 -- ---- one turn
 after_found : (t : ℕ) (a : Act) (found : ℕ) → after a (result_of (event_in t a found)) ≡ after a found

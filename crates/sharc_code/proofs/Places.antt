@@ -1,7 +1,5 @@
 -- Functions changed at one place.
-use Rattle.std.proofs.{Common.{◌≡◌, ℕ, refl, sym, subst, ⊎_elim}, lemmas.Bool.cases_eq}
-use Rattle.sharc_code.specs.Runs.{put}
-use Rattle.sharc_lemmas.proofs.Numbers.{ne_eq, eq_refl}
+use Rattle.sharc_code.proofs.Imports.{◌≡◌, ℕ, refl, sym, subst, ⊎_elim, cases_eq, put, ne_eq, eq_refl}
 
 pub put_same : {A : Type 0} (f : ℕ → A) (i : ℕ) (v : A) → put f i v i ≡ v
 put_same f i v = rw (eq_refl i) refl

@@ -1,6 +1,5 @@
 -- What follows of the ranges of a code's numbers.
-use Rattle.std.proofs.{Common.{◌≡◌, ℕ, ◌+◌, ◌*◌, ◌<◌, ◌≤◌, ◌^◌, List, arith, ⊎_elim}, lemmas.Bool.cases_lt, lemmas.Nat.mul-le}
-use Rattle.sharc_code.specs.{declared.code.Code.Code, declared.code.GlobalCells.GlobalCells, declared.shape.Shape.Shape, declared.state.TheConstants.FRAMES, Layout.{Fits, granules, words_of}, Path.most_refs, Ranges.{IsInGlobal, GlobalsFit, NumbersFit, first_place, end_place, most_references}}
+use Rattle.sharc_code.proofs.Imports.{◌≡◌, ℕ, ◌+◌, ◌*◌, ◌<◌, ◌≤◌, ◌^◌, List, arith, ⊎_elim, cases_lt, mul-le, Code, GlobalCells, Shape, FRAMES, Fits, granules, words_of, most_refs, IsInGlobal, GlobalsFit, NumbersFit, first_place, end_place, most_references}
 
 not_before : (globals : List GlobalCells) (granules g h place : ℕ) → GlobalsFit globals granules → IsInGlobal globals g place → IsInGlobal globals h place → g < h → ⊥
 not_before globals granules g h place fit at_g at_h less =

@@ -1,9 +1,5 @@
 -- Where a run is: the numbers of its threads, their stages, and who was started.
-use Rattle.std.proofs.{Common.{◌≡◌, ℕ, zero, suc, ◌<◌, Bool, true, false, ◌||◌, ◌&&◌, List, [], ◌∷◌, ◌++◌, Option, Some, None, refl, sym, ap, ◌∙◌, subst, arith, ⊎_elim}, lemmas.Bool.{cases_eq, or_left}, lemmas.Bool.Decides.nat_tests, lemmas.List.get_or-set_other}
-use Rattle.std.specs.Prelude.{nat_eq, nat_lt, slice_index, slice_set}
-use Rattle.sharc_word.specs.{declared.step.TheConstants.THREADS, declared.step.WordStep.WordStep, declared.step.WordEvent.WordEvent, Words.{word_after, words_after_step}, declared.step.WordOp.WordOp}
-use Rattle.sharc_code.specs.{declared.code.Code.Code, declared.shape.Shape.Shape, Layout.state_word, Machine.{Machine, Turn as Act, Local, Asks}, Path.{turn, asked_by}, Runs.{Turn, IsRun, MayTurn, at, after_turn, put, words_now, state_now, result_of, step_of, is_started, opening_of, Global}, Opening.opening_words, Whole.{one_thread, bounds, place_after}, Stages.{IsStageOf, begins_of}}
-use Rattle.sharc_code.proofs.{Places.{put_same, put_other}, Keeps.keeps_turn, Touching.{OnState, Leaves_it, Starts_it, Ends_it, Leaves_for_good, Touches, touches}}
+use Rattle.sharc_code.proofs.{Imports.{◌≡◌, ℕ, zero, suc, ◌<◌, Bool, true, false, ◌||◌, ◌&&◌, List, [], ◌∷◌, ◌++◌, Option, Some, None, refl, sym, ap, ◌∙◌, subst, arith, ⊎_elim, cases_eq, or_left, nat_tests, get_or-set_other, nat_eq, nat_lt, slice_index, slice_set, THREADS, WordStep, WordEvent, word_after, words_after_step, WordOp, Code, Shape, state_word, Machine, Act, Local, Asks, turn, asked_by, Turn, IsRun, MayTurn, at, after_turn, put, words_now, state_now, result_of, step_in as step_of, is_started, opening_of, Global, opening_words, one_thread, bounds, place_after, IsStageOf, begins_of}, Places.{put_same, put_other}, Keeps.keeps_turn, Touching.{OnState, Leaves_it, Starts_it, Ends_it, Leaves_for_good, Touches, touches}}
 
 abbrev Standing : Type 0
 Standing = Global Machine

@@ -1,11 +1,6 @@
 -- What a turn does to the state word of a thread: it leaves the word, starts the thread, or is a turn of the thread itself.
-use Rattle.std.proofs.Common.{◌≡◌, ℕ, ℤ, pos, negsuc, zero, suc, ◌+◌, ◌*◌, ◌<◌, ◌≤◌, Bool, true, false, nat_lt, Some, if◌then◌else◌, refl, ap, ◌∙◌, arith}
-use Rattle.sharc_tree.specs.declared.trap.Trap.TheVariants as traps
-use Rattle.sharc_word.specs.{declared.step.TheConstants.THREADS, declared.step.WordOp.WordOp, Words.word_after}
-use Rattle.sharc_word.specs.declared.step.WordOp.TheVariants as ops
-use Rattle.sharc_heap.specs.{declared.shadow_word.Kind.Kind, declared.shadow_word.Kind.TheVariants.{Read, Write}, State.{NewView, told}, Asks.word_number, declared.arguments.NewArguments.NewArguments, declared.stage.NewStage.NewStage, Stages.turn_of_stage}
-use Rattle.sharc_heap.specs.declared.stage.NewStage.TheVariants as news
-use Rattle.sharc_code.specs.{declared.code.Code.Code, declared.code.Layout.Layout, declared.instr.Register.Register, declared.instr.Instr.Instr, declared.instr.Instr.TheVariants.{Bounds, ChkRead, ChkWrite, Load, Store, LoadRef, Exchange, Raise, RaiseLoaded, Lower, New, TakeCell, TakeLocal, TestSole, Clear, Give, Free, Lock, Unlock, Spawn, Join, Print, Start, Exit, CondEnter, CondWait, CondSignal, CondBroadcast}, declared.shape.Shape.Shape, declared.state.Stage.Stage, declared.state.Stage.TheVariants.{Looks, Clears, Makes, Empties, Lowers, FreeLooks, FreeClears, Uncounts, Links, Names, Hands, Begins, Enters, Withdraws, WithdrawsFrom, Leaves, Wakes}, Layout.{granule_at, granule_of, words_of, cell_word, shadow_word, count_word, first_cell, first_shadow, state_word}, Machine.{Machine, Turn, Local, Asks, step_of, act, int, ref, place, word, check, raise, lower, test, new, asks_new, new_state, elements_of, clear, free, layout_at, spawn, join, start, exit, signal, goes, set_ref, accessed, move_ref, joined, trapped, instr_at}, Path.turn, Stages.{IsStageOf, begins_of}}
+use Rattle.sharc_code.proofs.Imports.{◌≡◌, ℕ, ℤ, pos, negsuc, zero, suc, ◌+◌, ◌*◌, ◌<◌, ◌≤◌, Bool, true, false, nat_lt, Some, if◌then◌else◌, refl, ap, ◌∙◌, arith, Trap, THREADS, WordOp, word_after, Kind, Read, Write, NewView, told, word_number, NewArguments, NewStage, turn_of_stage, Code, Layout, Register, Instr, ChkRead, ChkWrite, Load, Store, LoadRef, Exchange, Raise, RaiseLoaded, Lower, New, TakeCell, TakeLocal, TestSole, Clear, Give, Free, Lock, Unlock, Spawn, Join, Print, Start, Exit, CondEnter, CondWait, CondSignal, CondBroadcast, Shape, Stage, Looks, Clears, Makes, Empties, Lowers, FreeLooks, FreeClears, Uncounts, Links, Names, Hands, Begins, Enters, Withdraws, WithdrawsFrom, Leaves, Wakes, granule_at, granule_of, words_of, cell_word, shadow_word, count_word, first_cell, first_shadow, state_word, Machine, Act as Turn, Local, Asks, step_of, act, int, ref, place, word, check, raise, lower, test, new, asks_new, new_state, elements_of, clear, free, layout_at, spawn, join, start, exit, signal, goes, set_ref, accessed, move_ref, joined, trapped, instr_at, turn, IsStageOf, begins_of}
+use Rattle.sharc_code.specs.declared.instr.Instr.TheVariants.{Bounds}
 
 -- ---- words that are no state word of a thread
 abbrev IsOther : ℕ → Type 0
@@ -41,9 +36,9 @@ module _ (s : Shape) where
 -- what an operation that this thread makes on the state word of thread t is: it leaves every word, it starts t, or t is this thread
 pub data OnState (m : Machine) (t : ℕ) (op : WordOp) : Type 0 where
   Leaves_it : ((v : ℕ) → word_after op v ≡ v) → OnState m t op
-  Starts_it : begins_of m.own.stage ≡ Some t → op ≡ ops.Swap 1 → OnState m t op
-  Ends_it : m.own.number ≡ t → op ≡ ops.Swap 2 → OnState m t op
-  Leaves_for_good : m.own.number ≡ t → op ≡ ops.Swap 3 → OnState m t op
+  Starts_it : begins_of m.own.stage ≡ Some t → op ≡ WordOp.Swap 1 → OnState m t op
+  Ends_it : m.own.number ≡ t → op ≡ WordOp.Swap 2 → OnState m t op
+  Leaves_for_good : m.own.number ≡ t → op ≡ WordOp.Swap 3 → OnState m t op
 
 abbrev pub Touches : Machine → ℕ → Turn → Type 0
 Touches m t (Local x) = Unit {0}
@@ -72,15 +67,15 @@ module _ (code : Code) (s : Shape) (m : Machine) (t : ℕ) (low : t < THREADS) w
   top_other k h e = omega (arith, e)
 
   at_stage_of : (r site : ℕ) (state : NewView) (a : NewArguments) (stage : NewStage) → a.first ≡ first_cell s → Touches m t (asks_new m r site state (turn_of_stage a stage))
-  at_stage_of r site state a news.Begins e = tt
-  at_stage_of r site state a news.Link e = λ is. absurd (of_new s a (a.first + 2 * a.head + 1) e (omega arith) t low is)
-  at_stage_of r site state a (news.Cell cell) e = λ is. absurd (of_new s a (a.first + 2 * a.head + 2 + cell) e (omega arith) t low is)
-  at_stage_of r site state a news.Top e = λ is. absurd (top_other t low is)
-  at_stage_of r site state a (news.Move top moved) e = λ is. absurd (top_other t low is)
-  at_stage_of r site state a (news.Count header) e = λ is. absurd (of_new s a (a.first + 2 * header) e (omega arith) t low is)
-  at_stage_of r site state a (news.Length header) e = λ is. absurd (of_new s a (a.first + 2 * header + 1) e (omega arith) t low is)
-  at_stage_of r site state a (news.Made header) e = tt
-  at_stage_of r site state a news.Full e = tt
+  at_stage_of r site state a NewStage.Begins e = tt
+  at_stage_of r site state a NewStage.Link e = λ is. absurd (of_new s a (a.first + 2 * a.head + 1) e (omega arith) t low is)
+  at_stage_of r site state a (NewStage.Cell cell) e = λ is. absurd (of_new s a (a.first + 2 * a.head + 2 + cell) e (omega arith) t low is)
+  at_stage_of r site state a NewStage.Top e = λ is. absurd (top_other t low is)
+  at_stage_of r site state a (NewStage.Move top moved) e = λ is. absurd (top_other t low is)
+  at_stage_of r site state a (NewStage.Count header) e = λ is. absurd (of_new s a (a.first + 2 * header) e (omega arith) t low is)
+  at_stage_of r site state a (NewStage.Length header) e = λ is. absurd (of_new s a (a.first + 2 * header + 1) e (omega arith) t low is)
+  at_stage_of r site state a (NewStage.Made header) e = tt
+  at_stage_of r site state a NewStage.Full e = tt
 
   at_new : (r elements cells site : ℕ) (stage : Stage) → IsStageOf s stage → Touches m t (new s m r elements cells site stage)
   at_new r elements cells site (Makes state) is = at_stage_of r site state state.arguments state.stage is.0
@@ -107,7 +102,7 @@ module _ (code : Code) (s : Shape) (m : Machine) (t : ℕ) (low : t < THREADS) w
   at_spawn r function from site _ is = λ e. absurd (omega (arith, e))
 
   at_join : (z : ℤ) (site : ℕ) → Touches m t (join m z site)
-  at_join (pos n) site = elim (nat_lt n THREADS) as (λ b. Touches m t (if b then Asks (step_of (state_word n) ops.Load) (joined m site) else Local (trapped m traps.NoSuchThread site))) [
+  at_join (pos n) site = elim (nat_lt n THREADS) as (λ b. Touches m t (if b then Asks (step_of (state_word n) WordOp.Load) (joined m site) else Local (trapped m Trap.NoSuchThread site))) [
     | true ↦ λ e. Leaves_it (λ v. refl)
     | false ↦ tt
   ]

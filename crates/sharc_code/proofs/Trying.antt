@@ -1,13 +1,5 @@
 -- A thread waits where its next turn would be a failed try, and a failed try changes nothing else.
-use Rattle.std.proofs.Common.{◌≡◌, ℕ, ℤ, pos, negsuc, Bool, true, false, not, ◌||◌, ◌==◌, nat_lt, Some, None, List, if◌then◌else◌, refl, sym, ap, ◌∙◌, subst, eqb-true}
-use Rattle.std.specs.Prelude.{◌↔◌, slice_index}
-use Rattle.sharc_tree.specs.declared.trap.Trap.TheVariants as traps
-use Rattle.sharc_word.specs.declared.step.WordOp.TheVariants as ops
-use Rattle.sharc_word.specs.declared.step.TheConstants.{THREADS}
-use Rattle.sharc_locks.specs.Waiters.{waits_in}
-use Rattle.sharc_code.specs.{declared.code.Code.Code, declared.instr.Instr.Instr, declared.shape.Shape.Shape, declared.state.TurnState.TheVariants.Tries, Layout.state_word, Machine.{Machine, Local, Asks, step_of, act, int, word, fails, goes, trapped, joined, join, instr_at}, Outcomes.{TurnOutcome, Fails, state_after, IsStill}, Path.{after, may_go}, Waits.{asks_for, joins, held_up, waits_now}, ThreadLaws.{found_now, behind}}
-use Rattle.sharc_code.specs.declared.state.Wait.TheVariants as waits
-use Rattle.sharc_code.proofs.{Moving.{is_try, Sorted, Other, Locks, Joins, Conds, sorted}, Outcomes.comes_out}
+use Rattle.sharc_code.proofs.{Imports.{◌≡◌, ℕ, ℤ, pos, negsuc, Bool, true, false, not, ◌||◌, ◌==◌, nat_lt, Some, None, List, if◌then◌else◌, refl, sym, ap, ◌∙◌, subst, eqb-true, ◌↔◌, slice_index, Trap, WordOp, THREADS, waits_in, Code, Instr, Shape, Tries, state_word, Machine, Local, Asks, step_of, act, int, word, fails, goes, trapped, joined, join, instr_at, TurnOutcome, Fails, state_after, IsStill, after, may_go, asks_for, joins, held_up, waits_now, found_now, behind, Wait}, Moving.{is_try, Sorted, Other, Locks, Joins, Conds, sorted}, Outcomes.comes_out}
 
 untried : (m x : Machine) → is_try x.at.state ≡ false → x.at.state ≡ Tries → ⊥
 untried m x off is = let e : is_try Tries ≡ false = ap is_try (sym is) ∙ off in cc
@@ -34,10 +26,10 @@ provided m false x off = no_wait m x false refl off
 
 join_waits : (m : Machine) (site found : ℕ) → ((found == 1 || found == 2) ≡ true) ↔ ((joined m site found).at.state ≡ Tries)
 join_waits m site found =
-    elim (found == 0) as (λ b. (found == 0) ≡ b → ((found == 1 || found == 2) ≡ true) ↔ ((if b then trapped m traps.NoSuchThread site else (if found == 1 || found == 2 then fails m else goes m)).at.state ≡ Tries)) [
+    elim (found == 0) as (λ b. (found == 0) ≡ b → ((found == 1 || found == 2) ≡ true) ↔ ((if b then trapped m Trap.NoSuchThread site else (if found == 1 || found == 2 then fails m else goes m)).at.state ≡ Tries)) [
       | true ↦ λ e.
           let zero : found ≡ 0 = eqb-true found 0 e in
-          no_wait m (trapped m traps.NoSuchThread site) (found == 1 || found == 2) (ap (λ f. f == 1 || f == 2) zero) refl
+          no_wait m (trapped m Trap.NoSuchThread site) (found == 1 || found == 2) (ap (λ f. f == 1 || f == 2) zero) refl
       | false ↦ λ e. provided m (found == 1 || found == 2) (goes m) refl
     ] refl
 
@@ -45,13 +37,13 @@ module _ (code : Code) (s : Shape) (words : List ℕ) (m : Machine) where
   at_join_waits : (z : ℤ) (site : ℕ) → (held_up words m.own.number (joins z site) ≡ true) ↔ ((after (join m z site) (found_now words (join m z site))).at.state ≡ Tries)
   at_join_waits (pos n) site =
       elim (nat_lt n THREADS) as (λ b.
-      (held_up words m.own.number (if b then Some (waits.Join n site) else None) ≡ true)
-      ↔ ((after (if b then Asks (step_of (state_word n) ops.Load) (joined m site) else Local (trapped m traps.NoSuchThread site))
-      (found_now words (if b then Asks (step_of (state_word n) ops.Load) (joined m site) else Local (trapped m traps.NoSuchThread site)))).at.state ≡ Tries)) [
+      (held_up words m.own.number (if b then Some (Wait.Join n site) else None) ≡ true)
+      ↔ ((after (if b then Asks (step_of (state_word n) WordOp.Load) (joined m site) else Local (trapped m Trap.NoSuchThread site))
+      (found_now words (if b then Asks (step_of (state_word n) WordOp.Load) (joined m site) else Local (trapped m Trap.NoSuchThread site)))).at.state ≡ Tries)) [
         | true ↦ join_waits m site (slice_index words (state_word n))
-        | false ↦ no_wait m (trapped m traps.NoSuchThread site) false refl refl
+        | false ↦ no_wait m (trapped m Trap.NoSuchThread site) false refl refl
       ]
-  at_join_waits (negsuc n) site = no_wait m (trapped m traps.NoSuchThread site) false refl refl
+  at_join_waits (negsuc n) site = no_wait m (trapped m Trap.NoSuchThread site) false refl refl
 
   asks_waits : (i : Instr) → Sorted code s m i → (held_up words m.own.number (asks_for s i m) ≡ true) ↔ ((after (act code s i m) (found_now words (act code s i m))).at.state ≡ Tries)
   asks_waits i (Other none moves) = no_wait m (after (act code s i m) (found_now words (act code s i m))) (held_up words m.own.number (asks_for s i m)) (ap (held_up words m.own.number) none) (moves (found_now words (act code s i m)))

@@ -1,9 +1,5 @@
 -- From the checks of guarded code to those of its code.
-use Rattle.std.proofs.Common.{◌≡◌, ℕ, zero, suc, ◌+◌, ◌-◌, ◌<◌, inl, inr, Bool, true, false, List, [], ◌∷◌, length, map, refl, sym, ap, ◌∙◌, subst, arith, Some, slice_get}
-use Rattle.std.specs.Prelude.{slice_index_or, if◌then◌else◌}
-use Rattle.sharc_code.specs.{declared.code.Code.Code, declared.code.Function.Function, declared.code.PlaceMode.PlaceMode, declared.code.PlaceMode.TheVariants.{Private, Readonly, Racy, Dynamic, LockedGlobal, LockedSibling, LockedThrough, LockedLoaded}, declared.code.SourcePlace.SourcePlace, declared.instr.Instr.Instr, declared.instr.Instr.TheVariants.{Jump, JumpIfZero, JumpIfNull, Call, ChkRead, ChkWrite}, Machine.no_function, Says.{place_at, no_place}}
-use Rattle.sharc_guard.specs.{declared.guarded.Guarded.Guarded, Checked.{Access, access_of, IsCheckOf}}
-use Rattle.sharc_compile.specs.{Generated.{IsGenerated, program_of, instr_of}, Checked.{LeadsTo, IsNoTarget, IsAfterCheck, IsCheckedAt}}
+use Rattle.sharc_compile.proofs.Imports.{◌≡◌, ℕ, zero, suc, ◌+◌, ◌-◌, ◌<◌, inl, inr, Bool, true, false, List, [], ◌∷◌, length, map, refl, sym, ap, ◌∙◌, subst, arith, Some, slice_get, get_or as slice_index_or, if◌then◌else◌, Code, Function, PlaceMode, Private, Readonly, Racy, Dynamic, LockedGlobal, LockedSibling, LockedThrough, LockedLoaded, SourcePlace, Instr, Jump, JumpIfZero, JumpIfNull, Call, ChkRead, ChkWrite, no_function, place_at, no_place, Guarded, Access, access_of, IsCheckOf, IsGenerated, program_of, instr_of, LeadsTo, IsNoTarget, IsAfterCheck, IsCheckedAt}
 use Rattle.sharc_guard.specs.Checked as Guarded
 
 -- the statement of an instruction

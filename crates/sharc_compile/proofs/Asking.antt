@@ -1,19 +1,7 @@
 -- The statements of one turn that ask for an event.
-use Rattle.std.proofs.{Common.{is_some, length, eqb-true, ◌≡◌, ℕ, ℤ, zero, suc, pos, negsuc, ◌+◌, ◌<◌, ◌≤◌, inr, Bool, true, false, ◌||◌, List, [], ◌∷◌, ◌++◌, refl, sym, ap, ◌∙◌, subst, arith, ◌==◌, nat_lt, Option, Some, None}, lemmas.Bool.{ne_eqb, lt-ltb}}
-use Rattle.std.specs.Prelude.{if◌then◌else◌}
-use Rattle.sharc_tree.specs.{declared.event.Act.Act, declared.event.CellAt.CellAt, declared.event.CellMode.CellMode, declared.event.SourceEvent.SourceEvent, declared.token.Site.Site}
-use Rattle.sharc_tree.specs.declared.event.Act.TheVariants as acts
-use Rattle.sharc_tree.specs.declared.event.Taken.TheVariants as takens
+use Rattle.sharc_compile.proofs.{Imports.{is_some, length, eqb-true, ◌≡◌, ℕ, ℤ, zero, suc, pos, negsuc, ◌+◌, ◌<◌, ◌≤◌, inr, Bool, true, false, ◌||◌, List, [], ◌∷◌, ◌++◌, refl, sym, ap, ◌∙◌, subst, arith, ◌==◌, nat_lt, Option, Some, None, ne_eqb, lt-ltb, if◌then◌else◌, Act, CellAt, CellMode, SourceEvent, Site, Taken, HeldMutex, object_of, without, waits_in, THREADS, WordOp, Code, GlobalCells, PlaceMode, Cell, Global, GlobalAt, InObject, ObjectAt, Instr, Join, Shape, Runs, Rests, Trapped as Trap, int_of, first_cell, state_word, Machine, int, ref, set_int, set_ref, move_ref, goes, fails, trapped, accessed, place, object, word, raise, lower, test, reference_of, taken, locked, unlocked, joined, join, woken, Local, AsksStep, step_of, after, asked_by, is_failed_try, reference, cell_at, mode_of, place_at, kind_of, variable_of, access, event_at, take_local, BaseWithin, Program, Thread, Turn, Goes, Asks, Running, event_of, source_at, statement_at, turn, NULL, is_null, program_over, Elements, IsNumber, IsFree, IsHeld, elements_told, Same, AreHeld, IsReference, Refuses, by}, Registers.no_reference, Logs.{Apart, without_is, object_held, log_pushed}, Sames.{all_ints, all_refs, int_is, ref_is, null_at, set_int_same, set_ref_same, null_same, pending_same, base_is, cell_is, mode_is, is_cell, word_is}, Turns.{Turned, asks_on, plain, halts, tries_again}}
 use Rattle.sharc_tree.specs.declared.trap.Trap.TheVariants as traps
-use Rattle.sharc_locks.specs.{declared.held_log.HeldMutex.HeldMutex, HeldLog.{object_of, without}, Waiters.waits_in}
-use Rattle.sharc_word.specs.declared.step.TheConstants.{THREADS}
-use Rattle.sharc_word.specs.declared.step.WordOp.TheVariants as ops
-use Rattle.sharc_code.specs.{declared.code.Code.Code, declared.code.GlobalCells.GlobalCells, declared.code.PlaceMode.PlaceMode, declared.instr.Cell.Cell, declared.instr.Cell.TheVariants.{Global, GlobalAt, Object as InObject, ObjectAt}, declared.instr.Instr.Instr, declared.instr.Instr.TheVariants.Join, declared.shape.Shape.Shape, declared.state.TurnState.TheVariants.Runs, declared.state.Stage.TheVariants.Rests, declared.state.Stop.TheVariants.Trap, Arithmetic.int_of, Layout.{first_cell, state_word}, Machine.{Machine, int, ref, set_int, set_ref, move_ref, goes, fails, trapped, accessed, place, object, word, raise, lower, test, reference_of, taken, locked, unlocked, joined, join, woken, Local, Asks as AsksStep, step_of}, Path.{after, asked_by}, Paced.is_failed_try, Says.{reference, cell_at, mode_of, place_at, kind_of, variable_of, access, event_at, take_local}}
-use Rattle.sharc_guard.specs.{Form.BaseWithin, Machine.{Program, Thread, Turn, Goes, Asks, Running, event_of, source_at, statement_at, turn}}
-use Rattle.sharc_meaning.specs.Reference.{NULL, is_null}
 use Rattle.sharc_guard.specs.Machine as Form
-use Rattle.sharc_compile.specs.{Generated.program_over, Consistent.{Elements, IsNumber, IsFree, IsHeld, elements_told}, Related.{Same, AreHeld, IsReference, Refuses}, Correct.by}
-use Rattle.sharc_compile.proofs.{Registers.no_reference, Logs.{Apart, without_is, object_held, log_pushed}, Sames.{all_ints, all_refs, int_is, ref_is, null_at, set_int_same, set_ref_same, null_same, pending_same, base_is, cell_is, mode_is, is_cell, word_is}, Turns.{Turned, asks_on, plain, halts, tries_again}}
 
 -- a turn that may ask for a step leads to the same machine in any case
 pub raised : (s : Shape) (n : ℕ) (x : Machine) (found : ℕ) → after (raise s n x) found ≡ x
@@ -72,22 +60,22 @@ module _ (code : Code) (s : Shape) (statements : List Instr) (T : Elements) (m :
       (act_is cell (place_at code site).mode of of' e) answering answer x f go m' events k pc1 pc2 phase runs rests
 
   pub loads : (r : ℕ) (cell : Cell) (site found : ℕ) → r < fi
-      → Done (Form.access_at p a site cell acts.Read Form.given (λ x b. Form.next (Form.accessed (Form.set_int b r x)))) (goes (accessed (set_int m r (int_of found)))) (access code m site cell (int_of found) acts.Read)
+      → Done (Form.access_at p a site cell Act.Read Form.given (λ x b. Form.next (Form.accessed (Form.set_int b r x)))) (goes (accessed (set_int m r (int_of found)))) (access code m site cell (int_of found) Act.Read)
   loads r cell site found lt =
-      accesses site cell acts.Read acts.Read (λ c md. refl) Form.given (int_of found) (int_of found) refl (λ x b. Form.next (Form.accessed (Form.set_int b r x))) (goes (accessed (set_int m r (int_of found)))) refl
+      accesses site cell Act.Read Act.Read (λ c md. refl) Form.given (int_of found) (int_of found) refl (λ x b. Form.next (Form.accessed (Form.set_int b r x))) (goes (accessed (set_int m r (int_of found)))) refl
       (pending_same code s T (set_int m r (int_of found)) (Form.set_int a r (int_of found)) (set_int_same code s T m a same r (int_of found) (int_of found) refl (int_ok r lt)) 0 NULL (no_reference T))
       refl refl refl refl refl
 
   pub stores : (r : ℕ) (cell : Cell) (site : ℕ)
-      → Done (Form.access_at p a site cell (λ at mode. acts.Write at mode (Form.int a r)) Form.no_answer (λ x b. Form.next (Form.accessed b))) (goes (accessed m)) (access code m site cell (pos 0) (λ at mode. acts.Write at mode (int m r)))
+      → Done (Form.access_at p a site cell (λ at mode. Act.Write at mode (Form.int a r)) Form.no_answer (λ x b. Form.next (Form.accessed b))) (goes (accessed m)) (access code m site cell (pos 0) (λ at mode. Act.Write at mode (int m r)))
   stores r cell site =
-      accesses site cell (λ at mode. acts.Write at mode (int m r)) (λ at mode. acts.Write at mode (Form.int a r)) (λ c md. ap (acts.Write c md) (sym (int_is code s T m a same r))) Form.no_answer (pos 0) (pos 0) refl
+      accesses site cell (λ at mode. Act.Write at mode (int m r)) (λ at mode. Act.Write at mode (Form.int a r)) (λ c md. ap (Act.Write c md) (sym (int_is code s T m a same r))) Form.no_answer (pos 0) (pos 0) refl
       (λ x b. Form.next (Form.accessed b)) (goes (accessed m)) refl (pending_same code s T m a same 0 NULL (no_reference T)) refl refl refl refl refl
 
   pub loads_ref : (cell : Cell) (site found : ℕ) → IsNumber found
-      → Done (Form.access_at p a site cell acts.Read Form.given (λ x b. Form.next (record b { pending = x }))) (goes (record m { pending = found })) (access code m site cell (reference found (T found)) acts.Read)
+      → Done (Form.access_at p a site cell Act.Read Form.given (λ x b. Form.next (record b { pending = x }))) (goes (record m { pending = found })) (access code m site cell (reference found (T found)) Act.Read)
   loads_ref cell site found small =
-      accesses site cell acts.Read acts.Read (λ c md. refl) Form.given (reference found (T found)) (reference found (T found)) refl (λ x b. Form.next (record b { pending = x })) (goes (record m { pending = found })) refl
+      accesses site cell Act.Read Act.Read (λ c md. refl) Form.given (reference found (T found)) (reference found (T found)) refl (λ x b. Form.next (record b { pending = x })) (goes (record m { pending = found })) refl
       (pending_same code s T m a same found (reference found (T found)) (record { is = refl; small = small })) refl refl refl refl refl
 
   -- the register has what was found
@@ -96,17 +84,17 @@ module _ (code : Code) (s : Shape) (statements : List Instr) (T : Elements) (m :
       pending_same code s T (set_ref m r found) (Form.set_ref a r (reference found (T found))) (set_ref_same code s T m a same r found (reference found (T found)) (record { is = refl; small = small }) (ref_ok r lt)) 0 NULL (no_reference T)
 
   pub exchanges : (r : ℕ) (cell : Cell) (site found : ℕ) → IsNumber found → r < fr
-      → Done (Form.access_at p a site cell (λ at mode. acts.Write at mode (Form.ref a r)) Form.no_answer (λ x b. Form.next (Form.accessed (Form.set_ref b r x)))) (goes (accessed (set_ref m r found)))
-      (access code m site cell (pos 0) (λ at mode. acts.Write at mode (reference (ref m r) (T (ref m r)))))
+      → Done (Form.access_at p a site cell (λ at mode. Act.Write at mode (Form.ref a r)) Form.no_answer (λ x b. Form.next (Form.accessed (Form.set_ref b r x)))) (goes (accessed (set_ref m r found)))
+      (access code m site cell (pos 0) (λ at mode. Act.Write at mode (reference (ref m r) (T (ref m r)))))
   exchanges r cell site found small lt =
-      accesses site cell (λ at mode. acts.Write at mode (reference (ref m r) (T (ref m r)))) (λ at mode. acts.Write at mode (Form.ref a r)) (λ c md. ap (acts.Write c md) (sym (ref_is code s T m a same r).is)) Form.no_answer (pos 0) (reference found (T found)) refl
+      accesses site cell (λ at mode. Act.Write at mode (reference (ref m r) (T (ref m r)))) (λ at mode. Act.Write at mode (Form.ref a r)) (λ c md. ap (Act.Write c md) (sym (ref_is code s T m a same r).is)) Form.no_answer (pos 0) (reference found (T found)) refl
       (λ x b. Form.next (Form.accessed (Form.set_ref b r x))) (goes (accessed (set_ref m r found))) refl (put_found r found small lt) refl refl refl refl refl
 
   pub takes_cell : (r : ℕ) (cell : Cell) (site found : ℕ) → IsNumber found → r < fr
-      → Done (Form.access_at p a site cell (λ at mode. acts.Take (takens.Cell at mode) (kind_of (source_at p site).at)) Form.given (λ x b. Form.next (Form.accessed (Form.set_ref b r x)))) (goes (accessed (set_ref m r found)))
-      (access code m site cell (reference found (T found)) (λ at mode. acts.Take (takens.Cell at mode) (kind_of (place_at code site).at)))
+      → Done (Form.access_at p a site cell (λ at mode. Act.Take (Taken.Cell at mode) (kind_of (source_at p site).at)) Form.given (λ x b. Form.next (Form.accessed (Form.set_ref b r x)))) (goes (accessed (set_ref m r found)))
+      (access code m site cell (reference found (T found)) (λ at mode. Act.Take (Taken.Cell at mode) (kind_of (place_at code site).at)))
   takes_cell r cell site found small lt =
-      accesses site cell (λ at mode. acts.Take (takens.Cell at mode) (kind_of (place_at code site).at)) (λ at mode. acts.Take (takens.Cell at mode) (kind_of (source_at p site).at)) (λ c md. refl) Form.given (reference found (T found)) (reference found (T found)) refl
+      accesses site cell (λ at mode. Act.Take (Taken.Cell at mode) (kind_of (place_at code site).at)) (λ at mode. Act.Take (Taken.Cell at mode) (kind_of (source_at p site).at)) (λ c md. refl) Form.given (reference found (T found)) (reference found (T found)) refl
       (λ x b. Form.next (Form.accessed (Form.set_ref b r x))) (goes (accessed (set_ref m r found))) refl (put_found r found small lt) refl refl refl refl refl
 
   moved_same : (r from : ℕ) → r < fr → from < fr → Same code s T (move_ref m r from) (Form.move_ref a r from)
@@ -120,7 +108,7 @@ module _ (code : Code) (s : Shape) (statements : List Instr) (T : Elements) (m :
       (each (ref m from) refl)
     where
       taking : Turn
-      taking = Form.asks_at p a site (acts.Take (takens.Local (variable_of (source_at p site).at)) (kind_of (source_at p site).at)) (λ x. Form.ref a from) (λ x b. Form.next (Form.move_ref b r from))
+      taking = Form.asks_at p a site (Act.Take (Taken.Local (variable_of (source_at p site).at)) (kind_of (source_at p site).at)) (λ x. Form.ref a from) (λ x b. Form.next (Form.move_ref b r from))
 
       some : (n : ℕ) → ref m from ≡ suc n → is_null (Form.ref a from) ≡ false
       some n e = null_at code s T m a same from ∙ ap (λ k. k == 0) e ∙ ne_eqb (suc n) 0 (λ q. omega arith)
@@ -129,7 +117,7 @@ module _ (code : Code) (s : Shape) (statements : List Instr) (T : Elements) (m :
       each zero e = subst (λ b. Done (if b then Form.goes (Form.move_ref a r from) else taking) (goes (move_ref m r from)) None) (sym (null_at code s T m a same from ∙ ap (λ k. k == 0) e))
           (plain code s statements T m a cost one rest same pc running 1 (omega arith) (goes (move_ref m r from)) (Form.next (Form.move_ref a r from)) (moved_same r from lr lf) refl refl refl refl refl refl)
       each (suc n) e = subst (λ b. Done (if b then Form.goes (Form.move_ref a r from) else taking) (goes (move_ref m r from)) (take_local code m site (suc n) (T (suc n)))) (sym (some n e))
-          (asks 1 (omega arith) site (acts.Take (takens.Local (variable_of (place_at code site).at)) (kind_of (place_at code site).at)) (acts.Take (takens.Local (variable_of (source_at p site).at)) (kind_of (source_at p site).at)) refl
+          (asks 1 (omega arith) site (Act.Take (Taken.Local (variable_of (place_at code site).at)) (kind_of (place_at code site).at)) (Act.Take (Taken.Local (variable_of (source_at p site).at)) (kind_of (source_at p site).at)) refl
           (λ x. Form.ref a from) (reference (suc n) (T (suc n))) (pos 0) (ap (λ n. reference n (T n)) (sym e) ∙ sym (ref_is code s T m a same from).is) (λ x b. Form.next (Form.move_ref b r from)) (goes (move_ref m r from)) refl
           (moved_same r from lr lf) refl refl refl refl refl)
 
@@ -159,8 +147,8 @@ module _ (code : Code) (s : Shape) (statements : List Instr) (T : Elements) (m :
     }
 
     pub unlocks : (r : ℕ) (cell : Cell) (site : ℕ) → IsHeld code s m cell → r < fr
-        → Done (Form.asks_at p a site (acts.Unlock (Form.cell_at p a cell)) Form.no_answer (λ x b. Form.next (record (Form.set_ref b r (Form.base_of a cell)) { held = Form.without_mutex a.held (Form.cell_at p a cell) })))
-        (unlocked m r (word s m cell)) (event_at code m site (pos 0) (acts.Unlock (cell_at code m cell)))
+        → Done (Form.asks_at p a site (Act.Unlock (Form.cell_at p a cell)) Form.no_answer (λ x b. Form.next (record (Form.set_ref b r (Form.base_of a cell)) { held = Form.without_mutex a.held (Form.cell_at p a cell) })))
+        (unlocked m r (word s m cell)) (event_at code m site (pos 0) (Act.Unlock (cell_at code m cell)))
     unlocks r cell site h lt =
         let k = h.mutex in
         let c = Form.cell_at p a cell in
@@ -170,7 +158,7 @@ module _ (code : Code) (s : Shape) (statements : List Instr) (T : Elements) (m :
         let object_is : reference_of (object_of m.own.held (word s m cell)) ≡ object m cell = ap (λ w. reference_of (object_of m.own.held w)) w ∙ object_held (object m cell) (first_cell s + place m cell) m.own.held k.apart.apart some in
         let kept = subst (λ n. IsReference T n (Form.base_of a cell)) (sym object_is) (base_is code s T m a same cell) in
         let log = subst (λ w. AreHeld gs (first_cell s) (Form.without_mutex a.held c) (without m.own.held w)) (sym w) (without_is gs (first_cell s) apart (object m cell) (place m cell) c isc a.held m.own.held same.in_log k.apart.apart) in
-        asks 1 (omega arith) site (acts.Unlock (cell_at code m cell)) (acts.Unlock (Form.cell_at p a cell)) (ap acts.Unlock (sym (cell_is code s T m a same statements cell))) Form.no_answer (pos 0) (pos 0) refl
+        asks 1 (omega arith) site (Act.Unlock (cell_at code m cell)) (Act.Unlock (Form.cell_at p a cell)) (ap Act.Unlock (sym (cell_is code s T m a same statements cell))) Form.no_answer (pos 0) (pos 0) refl
         (λ x b. Form.next (record (Form.set_ref b r (Form.base_of a cell)) { held = Form.without_mutex a.held (Form.cell_at p a cell) })) (unlocked m r (word s m cell)) refl
         (relogged (set_ref m r (reference_of (object_of m.own.held (word s m cell)))) (Form.set_ref a r (Form.base_of a cell)) _ _
         (set_ref_same code s T m a same r (reference_of (object_of m.own.held (word s m cell))) (Form.base_of a cell) kept (ref_ok r lt)) same.function_is log)
@@ -183,10 +171,10 @@ module _ (code : Code) (s : Shape) (statements : List Instr) (T : Elements) (m :
     locks_at : (cell : Cell) (site found : ℕ) → (found ≡ 0 → IsFree code s m cell) → (m2 : Machine) (f : Thread → Thread) → ((b : Thread) → (f b).pc ≡ b.pc) → ((b : Thread) → (f b).phase ≡ b.phase) → ((b : Thread) → (f b).events ≡ b.events)
         → m2.at.pc ≡ m.at.pc
         → ((log : List HeldMutex) (log' : List CellAt) → AreHeld gs (first_cell s) log' log
-        → Same code s T (record m2 { own = record m.own { held = log } }) (record (f (Form.told a (source_at p site).site (acts.Lock (Form.cell_at p a cell)) (pos 0))) { held = log' }))
+        → Same code s T (record m2 { own = record m.own { held = log } }) (record (f (Form.told a (source_at p site).site (Act.Lock (Form.cell_at p a cell)) (pos 0))) { held = log' }))
         → (is_failed_try (if found == 0 then goes (record m2 { own = record m.own { held = taken m (word s m cell) (object m cell) } }) else fails m).at.state ≡ true → cost ≡ 0)
-        → Done (Form.asks_at p a site (acts.Lock (Form.cell_at p a cell)) Form.no_answer (λ x b. locking cell f b))
-        (if found == 0 then goes (record m2 { own = record m.own { held = taken m (word s m cell) (object m cell) } }) else fails m) (if found == 0 then event_at code m site (pos 0) (acts.Lock (cell_at code m cell)) else None)
+        → Done (Form.asks_at p a site (Act.Lock (Form.cell_at p a cell)) Form.no_answer (λ x b. locking cell f b))
+        (if found == 0 then goes (record m2 { own = record m.own { held = taken m (word s m cell) (object m cell) } }) else fails m) (if found == 0 then event_at code m site (pos 0) (Act.Lock (cell_at code m cell)) else None)
     locks_at cell site found k m2 f fpc fphase fevents mpc rel tried = each (found == 0) refl tried
       where
         log_is : IsFree code s m cell → AreHeld gs (first_cell s) (a.held ++ Form.cell_at p a cell ∷ []) (taken m (word s m cell) (object m cell))
@@ -198,17 +186,17 @@ module _ (code : Code) (s : Shape) (statements : List Instr) (T : Elements) (m :
             rw (other, room) pushed
 
         each : (b : Bool) → (found == 0) ≡ b → (is_failed_try (if b then goes (record m2 { own = record m.own { held = taken m (word s m cell) (object m cell) } }) else fails m).at.state ≡ true → cost ≡ 0)
-            → Done (Form.asks_at p a site (acts.Lock (Form.cell_at p a cell)) Form.no_answer (λ x b. locking cell f b))
-            (if b then goes (record m2 { own = record m.own { held = taken m (word s m cell) (object m cell) } }) else fails m) (if b then event_at code m site (pos 0) (acts.Lock (cell_at code m cell)) else None)
+            → Done (Form.asks_at p a site (Act.Lock (Form.cell_at p a cell)) Form.no_answer (λ x b. locking cell f b))
+            (if b then goes (record m2 { own = record m.own { held = taken m (word s m cell) (object m cell) } }) else fails m) (if b then event_at code m site (pos 0) (Act.Lock (cell_at code m cell)) else None)
         each true e tried =
-            asks 1 (omega arith) site (acts.Lock (cell_at code m cell)) (acts.Lock (Form.cell_at p a cell)) (ap acts.Lock (sym (cell_is code s T m a same statements cell))) Form.no_answer (pos 0) (pos 0) refl
+            asks 1 (omega arith) site (Act.Lock (cell_at code m cell)) (Act.Lock (Form.cell_at p a cell)) (ap Act.Lock (sym (cell_is code s T m a same statements cell))) Form.no_answer (pos 0) (pos 0) refl
             (λ x b. locking cell f b) (goes (record m2 { own = record m.own { held = taken m (word s m cell) (object m cell) } }))
             (fevents _) (rel _ _ (log_is (k (eqb-true found 0 e)))) (ap (λ n. n + 1) (fpc _)) (ap (λ n. n + 1) mpc) (fphase _) refl refl
         each false e tried = tries_again code s statements T m a cost one rest same pc running _ 1 (tried refl)
 
     pub locks : (cell : Cell) (site found : ℕ) → (found ≡ 0 → IsFree code s m cell) → BaseWithin fr cell → (is_failed_try (locked m cell (word s m cell) found).at.state ≡ true → cost ≡ 0)
-        → Done (Form.asks_at p a site (acts.Lock (Form.cell_at p a cell)) Form.no_answer (λ x b. locking cell (λ b. Form.without_base b cell) b))
-        (locked m cell (word s m cell) found) (if found == 0 then event_at code m site (pos 0) (acts.Lock (cell_at code m cell)) else None)
+        → Done (Form.asks_at p a site (Act.Lock (Form.cell_at p a cell)) Form.no_answer (λ x b. locking cell (λ b. Form.without_base b cell) b))
+        (locked m cell (word s m cell) found) (if found == 0 then event_at code m site (pos 0) (Act.Lock (cell_at code m cell)) else None)
     locks (Global g c) site found k within tried = locks_at (Global g c) site found k m (λ b. b) (λ b. refl) (λ b. refl) (λ b. refl) refl (λ log log' l. relogged m a log log' same same.function_is l) tried
     locks (GlobalAt g r) site found k within tried = locks_at (GlobalAt g r) site found k m (λ b. b) (λ b. refl) (λ b. refl) (λ b. refl) refl (λ log log' l. relogged m a log log' same same.function_is l) tried
     locks (InObject r c) site found k within tried =
@@ -220,13 +208,13 @@ module _ (code : Code) (s : Shape) (statements : List Instr) (T : Elements) (m :
 
   -- ---- waiting
   pub wakes : (cell : Cell) (site found : ℕ) → (is_failed_try (woken m found).at.state ≡ true → cost ≡ 0)
-      → Done (Form.tells_at p a site (acts.Woken (Form.cell_at p a cell))) (woken m found) (if waits_in found m.own.number then None else event_at code m site (pos 0) (acts.Woken (cell_at code m cell)))
+      → Done (Form.tells_at p a site (Act.Woken (Form.cell_at p a cell))) (woken m found) (if waits_in found m.own.number then None else event_at code m site (pos 0) (Act.Woken (cell_at code m cell)))
   wakes cell site found tried = each (waits_in found m.own.number) tried
     where
       each : (b : Bool) → (is_failed_try (if b then fails m else goes m).at.state ≡ true → cost ≡ 0)
-          → Done (Form.tells_at p a site (acts.Woken (Form.cell_at p a cell))) (if b then fails m else goes m) (if b then None else event_at code m site (pos 0) (acts.Woken (cell_at code m cell)))
+          → Done (Form.tells_at p a site (Act.Woken (Form.cell_at p a cell))) (if b then fails m else goes m) (if b then None else event_at code m site (pos 0) (Act.Woken (cell_at code m cell)))
       each true tried = tries_again code s statements T m a cost one rest same pc running _ 1 (tried refl)
-      each false tried = tells site (acts.Woken (cell_at code m cell)) (acts.Woken (Form.cell_at p a cell)) (ap acts.Woken (sym (cell_is code s T m a same statements cell))) (goes m) same refl refl refl
+      each false tried = tells site (Act.Woken (cell_at code m cell)) (Act.Woken (Form.cell_at p a cell)) (ap Act.Woken (sym (cell_is code s T m a same statements cell))) (goes m) same refl refl refl
 
   -- a Join: the thread is gone, or not yet, or there is none
   no_thread : (r site : ℕ) (t : Turn) → statement_at p a.pc ≡ Join r site → Done t (trapped m traps.NoSuchThread site) None
@@ -234,25 +222,25 @@ module _ (code : Code) (s : Shape) (statements : List Instr) (T : Elements) (m :
 
   pub joins : (r site found : ℕ) (z : ℤ) → z ≡ Form.int a r → statement_at p a.pc ≡ Join r site
       → (asked_by (join m z site) ≡ None → found ≡ 0) → (is_failed_try (after (join m z site) found).at.state ≡ true → cost ≡ 0)
-      → Done (Form.tells_at p a site (acts.Join (Form.int a r))) (after (join m z site) found) (if found == 0 || (found == 1 || found == 2) then None else event_at code m site (pos 0) (acts.Join z))
+      → Done (Form.tells_at p a site (Act.Join (Form.int a r))) (after (join m z site) found) (if found == 0 || (found == 1 || found == 2) then None else event_at code m site (pos 0) (Act.Join z))
   joins r site found (negsuc n) e st quiet tried =
       let q = quiet refl in
-      subst (λ found. Done (Form.tells_at p a site (acts.Join (Form.int a r))) (trapped m traps.NoSuchThread site) (if found == 0 || (found == 1 || found == 2) then None else event_at code m site (pos 0) (acts.Join (negsuc n)))) (sym q) (no_thread r site _ st)
+      subst (λ found. Done (Form.tells_at p a site (Act.Join (Form.int a r))) (trapped m traps.NoSuchThread site) (if found == 0 || (found == 1 || found == 2) then None else event_at code m site (pos 0) (Act.Join (negsuc n)))) (sym q) (no_thread r site _ st)
   joins r site found (pos n) e st quiet tried = each (nat_lt n THREADS) quiet tried
     where
       tell : Turn
-      tell = Form.tells_at p a site (acts.Join (Form.int a r))
+      tell = Form.tells_at p a site (Act.Join (Form.int a r))
 
       found_at : (b c : Bool) → (is_failed_try (if b then trapped m traps.NoSuchThread site else (if c then fails m else goes m)).at.state ≡ true → cost ≡ 0)
-          → Done tell (if b then trapped m traps.NoSuchThread site else (if c then fails m else goes m)) (if b || c then None else event_at code m site (pos 0) (acts.Join (pos n)))
+          → Done tell (if b then trapped m traps.NoSuchThread site else (if c then fails m else goes m)) (if b || c then None else event_at code m site (pos 0) (Act.Join (pos n)))
       found_at true c tried = no_thread r site tell st
       found_at false true tried = tries_again code s statements T m a cost one rest same pc running tell 1 (tried refl)
-      found_at false false tried = tells site (acts.Join (pos n)) (acts.Join (Form.int a r)) (ap acts.Join e) (goes m) same refl refl refl
+      found_at false false tried = tells site (Act.Join (pos n)) (Act.Join (Form.int a r)) (ap Act.Join e) (goes m) same refl refl refl
 
-      each : (b : Bool) → (asked_by (if b then AsksStep (step_of (state_word n) ops.Load) (joined m site) else Local (trapped m traps.NoSuchThread site)) ≡ None → found ≡ 0)
-          → (is_failed_try (after (if b then AsksStep (step_of (state_word n) ops.Load) (joined m site) else Local (trapped m traps.NoSuchThread site)) found).at.state ≡ true → cost ≡ 0)
-          → Done tell (after (if b then AsksStep (step_of (state_word n) ops.Load) (joined m site) else Local (trapped m traps.NoSuchThread site)) found) (if found == 0 || (found == 1 || found == 2) then None else event_at code m site (pos 0) (acts.Join (pos n)))
+      each : (b : Bool) → (asked_by (if b then AsksStep (step_of (state_word n) WordOp.Load) (joined m site) else Local (trapped m traps.NoSuchThread site)) ≡ None → found ≡ 0)
+          → (is_failed_try (after (if b then AsksStep (step_of (state_word n) WordOp.Load) (joined m site) else Local (trapped m traps.NoSuchThread site)) found).at.state ≡ true → cost ≡ 0)
+          → Done tell (after (if b then AsksStep (step_of (state_word n) WordOp.Load) (joined m site) else Local (trapped m traps.NoSuchThread site)) found) (if found == 0 || (found == 1 || found == 2) then None else event_at code m site (pos 0) (Act.Join (pos n)))
       each true quiet tried = found_at (found == 0) (found == 1 || found == 2) tried
       each false quiet tried =
           let q = quiet refl in
-          subst (λ found. Done tell (trapped m traps.NoSuchThread site) (if found == 0 || (found == 1 || found == 2) then None else event_at code m site (pos 0) (acts.Join (pos n)))) (sym q) (no_thread r site tell st)
+          subst (λ found. Done tell (trapped m traps.NoSuchThread site) (if found == 0 || (found == 1 || found == 2) then None else event_at code m site (pos 0) (Act.Join (pos n)))) (sym q) (no_thread r site tell st)

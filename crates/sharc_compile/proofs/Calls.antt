@@ -1,14 +1,6 @@
 -- Calls and returns: the frames of code beside those of guarded code.
-use Rattle.std.proofs.{Common.{◌≡◌, ℕ, suc, ◌+◌, ◌-◌, ◌^◌, ◌<◌, ◌≤◌, Bool, true, false, not, ◌&&◌, List, [], ◌∷◌, length, refl, sym, ap, ◌∙◌, subst, arith, slice_index_or, slice_set, ◌==◌, nat_lt, None}, lemmas.Bool.{lt-ltb, ltb-true, ne_eqb}, lemmas.List.{length-set, get_or-set_same, get_or-set_other, append-nil}}
-use Rattle.std.specs.Prelude.{if◌then◌else◌}
-use Rattle.sharc_tree.specs.declared.event.CellAt.{CellAt}
-use Rattle.sharc_tree.specs.declared.trap.Trap.TheVariants as traps
-use Rattle.sharc_locks.specs.declared.held_log.HeldMutex.{HeldMutex}
-use Rattle.sharc_code.specs.{declared.code.Code.Code, declared.instr.Instr.Instr, declared.shape.Shape.Shape, declared.state.Frame.Frame, declared.state.TurnState.TheVariants.Runs, declared.state.Stage.TheVariants.Rests, Layout.first_cell, Machine.{Machine, goes_to, trapped, called, has_room, returned, back_to, no_frame, holds_none}}
+use Rattle.sharc_compile.proofs.{Imports.{◌≡◌, ℕ, suc, ◌+◌, ◌-◌, ◌^◌, ◌<◌, ◌≤◌, Bool, true, false, not, ◌&&◌, List, [], ◌∷◌, length, refl, sym, ap, ◌∙◌, subst, arith, get_or as slice_index_or, slice_set, ◌==◌, nat_lt, None, lt-ltb, ltb-true, ne_eqb, length-set, get_or-set_same, get_or-set_other, append-nil, if◌then◌else◌, CellAt, Trap, HeldMutex, Code, Instr, Shape, Frame, Runs, Rests, first_cell, Machine, goes_to, trapped, called, has_room, returned, back_to, no_frame, holds_none, Program, Thread, Turn, Goes, Halts, Running, turn, function_at, program_over, Elements, Same, AreFrames, AreHeld}, Turns.{Turned, goes_on, trapped_now}}
 use Rattle.sharc_guard.specs.Machine as Form
-use Rattle.sharc_guard.specs.Machine.{Program, Thread, Turn, Goes, Halts, Running, turn, function_at}
-use Rattle.sharc_compile.specs.{Generated.program_over, Consistent.Elements, Related.{Same, AreFrames, AreHeld}}
-use Rattle.sharc_compile.proofs.Turns.{Turned, goes_on, trapped_now}
 
 depth_is : (fs : List Frame) (d : ℕ) (slots : List Frame) → AreFrames fs d slots → d ≡ length fs
 depth_is [] d slots h = h
@@ -86,10 +78,10 @@ module _ (code : Code) (s : Shape) (statements : List Instr) (T : Elements) (m :
             function_is = same.function_is;
           }
 
-      each : (b c : Bool) → c ≡ b → nat_lt (length a.frames) 256 ≡ b → turn p a ≡ (if b then Goes (inner f ints refs) else Halts (Form.Stopped traps.CallDepth site))
-          → Done (if b then Goes (inner f ints refs) else Halts (Form.Stopped traps.CallDepth site)) (if c then callee f ints refs else trapped m traps.CallDepth site)
+      each : (b c : Bool) → c ≡ b → nat_lt (length a.frames) 256 ≡ b → turn p a ≡ (if b then Goes (inner f ints refs) else Halts (Form.Stopped Trap.CallDepth site))
+          → Done (if b then Goes (inner f ints refs) else Halts (Form.Stopped Trap.CallDepth site)) (if c then callee f ints refs else trapped m Trap.CallDepth site)
       each true true e q is = goes_on code s statements T m a cost one rest 1 (omega arith) (callee f ints refs) (inner f ints refs) (callee_same (ltb-true (length a.frames) 256 q)) refl (sym (append-nil a.events)) running refl rest
-      each false false e q is = trapped_now code s statements T m a cost one rest same pc running traps.CallDepth site 1 is
+      each false false e q is = trapped_now code s statements T m a cost one rest same pc running Trap.CallDepth site 1 is
       each true false e q is = absurd (cc)
       each false true e q is = absurd (cc)
 
@@ -112,7 +104,7 @@ module _ (code : Code) (s : Shape) (statements : List Instr) (T : Elements) (m :
   abbrev Returned : ℕ → ℕ → Machine
   Returned site d =
       if d == 0 then goes_to m (length code.instrs.items)
-      else (if d == 1 && not (holds_none m.own.held) then trapped m traps.ReturnWithLockHeld site
+      else (if d == 1 && not (holds_none m.own.held) then trapped m Trap.ReturnWithLockHeld site
       else back_to m (d - 1) (slice_index_or m.frames (d - 1) no_frame))
 
   some_held : (hs : List CellAt) (es : List HeldMutex) → AreHeld code.globals.items (first_cell s) hs es → nat_lt 0 (length hs) ≡ not (holds_none es)
@@ -128,9 +120,9 @@ module _ (code : Code) (s : Shape) (statements : List Instr) (T : Elements) (m :
       subst (λ d. Done (Form.returned p a site (f ∷ [])) (Returned site d)) (sym e)
       (each (nat_lt 0 (length a.held)) (not (holds_none m.own.held)) (some_held a.held m.own.held same.in_log) is)
     where
-      each : (b c : Bool) → b ≡ c → turn p a ≡ (if b then Halts (Form.Stopped traps.ReturnWithLockHeld site) else Goes (Form.back_to a f []))
-          → Done (if b then Halts (Form.Stopped traps.ReturnWithLockHeld site) else Goes (Form.back_to a f [])) (if c then trapped m traps.ReturnWithLockHeld site else back_to m 0 (slice_index_or m.frames 0 no_frame))
-      each true true e is = trapped_now code s statements T m a cost one rest same pc running traps.ReturnWithLockHeld site 1 is
+      each : (b c : Bool) → b ≡ c → turn p a ≡ (if b then Halts (Form.Stopped Trap.ReturnWithLockHeld site) else Goes (Form.back_to a f []))
+          → Done (if b then Halts (Form.Stopped Trap.ReturnWithLockHeld site) else Goes (Form.back_to a f [])) (if c then trapped m Trap.ReturnWithLockHeld site else back_to m 0 (slice_index_or m.frames 0 no_frame))
+      each true true e is = trapped_now code s statements T m a cost one rest same pc running Trap.ReturnWithLockHeld site 1 is
       each false false e is = subst (λ g. Done (Goes (Form.back_to a f [])) (back_to m 0 g)) (sym h.1) (goes_back f [] 0 refl)
       each true false e is = absurd (cc)
       each false true e is = absurd (cc)

@@ -1,17 +1,9 @@
 -- A path of code comes to where a path of guarded code is.
-use Rattle.std.proofs.{Common.{◌≡◌, ℕ, ℤ, zero, suc, pos, ◌+◌, ◌*◌, ◌<◌, ◌≤◌, ◌⊎◌, inl, inr, Bool, true, false, ◌||◌, List, [], ◌∷◌, ◌++◌, length, map, replicate, refl, sym, ap, ◌∙◌, subst, ⊎_elim, arith, Option, Some, None, slice_index, slice_index_or, slice_set}, lemmas.Bool.{lt-ltb, cases_eq, cases_lt}, lemmas.List.{append-nil, map-append, length-replicate, length-set, get_or-set_same, get_or-set_other, get_or-replicate, get_or_past}}
-use Rattle.std.specs.{Prelude.{if◌then◌else◌}, Option.{option_map, option_to_list}}
-use Rattle.sharc_tree.specs.declared.event.SourceEvent.{SourceEvent}
-use Rattle.sharc_code.specs.{declared.code.Code.Code, declared.code.Layout.Layout, declared.code.Parameter.Parameter, declared.instr.Instr.Instr, declared.instr.Instr.TheVariants.{Start, Exit, Lower}, declared.shape.Shape.Shape, declared.state.At.At, declared.state.Frame.Frame, declared.state.TurnState.TurnState, declared.state.TurnState.TheVariants.{Runs, Tries, Stopped, Ended}, declared.state.Stage.TheVariants.{Rests, Enters}, declared.state.TheConstants.FRAMES, Arithmetic.int_of, Layout.function_at, Machine.{Machine, ref, set_ref, goes, act, at_stage, instr_at, free, freed, layout_at, entered, called, with_parameter, function_of, no_frame}, Path.{begun, turn, after, machine_after, may_go, IsPath, asked_by, most_ints, most_refs}, Paced.{is_left_out, is_failed_try, repeats, paced_in}, Says.{said, speaks_of, reference, started_with, in_free}, ThreadLaws.ThreadLaws}
-use Rattle.sharc_code.specs.declared.code.Parameter.TheVariants as parameters
-use Rattle.sharc_guard.specs.{Form.{IsGuarded, HasParameter}, Machine.{Program, Thread, statement_at}, Path.{started, fresh, thread_after, weight_in, weight}}
-use Rattle.sharc_meaning.specs.Reference.{NULL}
+use Rattle.sharc_compile.proofs.{Imports.{◌≡◌, ℕ, ℤ, zero, suc, pos, ◌+◌, ◌*◌, ◌<◌, ◌≤◌, ◌⊎◌, inl, inr, Bool, true, false, ◌||◌, List, [], ◌∷◌, ◌++◌, length, map, replicate, refl, sym, ap, ◌∙◌, subst, ⊎_elim, arith, Option, Some, None, slice_index, get_or as slice_index_or, slice_set, lt-ltb, cases_eq, cases_lt, append-nil, map-append, length-replicate, length-set, get_or-set_same, get_or-set_other, get_or-replicate, get_or_past, if◌then◌else◌, option_map, option_to_list, SourceEvent, Code, Layout, Parameter, Instr, Start, Exit, Lower, Shape, Frame, TurnState, Runs, Tries, Stopped, Ended, Rests, Enters, FRAMES, int_of, Machine, ref, set_ref, goes, act, at_stage, instr_at, free, freed, layout_at, entered, called, with_parameter, function_of, no_frame, begun, after, machine_after, may_go, IsPath, asked_by, most_ints, most_refs, is_left_out, is_failed_try, repeats, paced_in, said, speaks_of, reference, started_with, in_free, ThreadLaws, IsGuarded, HasParameter, Program, Thread, statement_at, started, fresh, thread_after, weight_in, weight, NULL, instr_of, generated, program_over, Elements, elements_told, said_now, said_in, Has, IsConsistentTurn, IsConsistent, MayFind, IsArgument, IsArgumentAt, Same, IsReference, IsAt, IsLinking, MatchesThread, IsAtStage, phase_of, phase_at, IsOver, spent_at, by, begins, stop_turn, IsBeginning, HasCome, lowered_by, unless_told, lowered_in, all_null}, Registers.no_reference, Lowering.{lowered_of, lowered_same, step_lowers, lowers_next, is_lower, lower_goes}, Sames.{number_at, all_ints, all_refs, set_int_same, set_ref_same, same_retabled}, Turns.{Turned, Moved, Stayed, left_at}, OneTurn.{phase_now, by_kind, at_exit}}
+use Rattle.sharc_code.specs.{declared.state.At.At, Layout.function_at, Path.turn}
 use Rattle.sharc_guard.specs.Machine as Form
 use Rattle.sharc_guard.specs.Path as Guarded
-use Rattle.sharc_compile.specs.{Generated.{instr_of, generated, program_over}, Consistent.{Elements, elements_told, said_now, said_in, Has, IsConsistentTurn, IsConsistent, MayFind, IsArgument, IsArgumentAt}, Related.{Same, IsReference, IsAt, IsLinking, MatchesThread, IsAtStage, phase_of, phase_at, IsOver, spent_at}, Correct.{by, begins, stop_turn, IsBeginning, HasCome}, Lowered.{lowered_by, unless_told, lowered_in}}
-use Rattle.sharc_compile.proofs.{Registers.no_reference, Lowering.{lowered_of, lowered_same, step_lowers, lowers_next, is_lower, lower_goes}, Sames.{number_at, all_ints, all_refs, set_int_same, set_ref_same, same_retabled}, Turns.{Turned, Moved, Stayed, left_at}, OneTurn.{phase_now, by_kind, at_exit}}
 use Rattle.sharc_compile.proofs.Inside as Inner
-use Rattle.sharc_lemmas.proofs.Lists.{all_null}
 
 -- ---- the instruction of a statement
 mapped_at : (f : Instr → Instr) (xs : List Instr) (n : ℕ) → f Exit ≡ Exit → slice_index_or (map f xs) n Exit ≡ f (slice_index_or xs n Exit)
@@ -320,10 +312,10 @@ module _ (code : Code) (s : Shape) (statements : List Instr) (is : code.instrs.i
     entered_is : (T : Elements) (f found site : ℕ) (q : Parameter) → HasParameter (function_of code f) q → IsArgument q found
         → let m2 = called (with_parameter (record (entering f) { own = record (entering f).own { stage = Rests; function = f } }) q found) (function_of code f).entry 0 0 site in
         Same code s T m2 (Guarded.with_parameter (fresh p f) q (started_with q found (T found))) × (m2.at ≡ (called_first f).at) × (m2.own.stage ≡ Rests)
-    entered_is T f found site parameters.None has arg = (fresh_same T f, refl, refl)
-    entered_is T f found site parameters.Int has arg =
+    entered_is T f found site Parameter.None has arg = (fresh_same T f, refl, refl)
+    entered_is T f found site Parameter.Int has arg =
         (set_int_same code s T (called_first f) (fresh p f) (fresh_same T f) 0 (int_of found) (int_of found) refl (let q = int_room f has in omega arith), refl, refl)
-    entered_is T f found site parameters.Reference has arg =
+    entered_is T f found site Parameter.Reference has arg =
         (set_ref_same code s T (called_first f) (fresh p f) (fresh_same T f) 0 found (reference found (T found)) (record { is = refl; small = arg }) (let q = ref_room f has in omega arith), refl, refl)
 
     -- ---- all of a path
@@ -405,24 +397,24 @@ module _ (code : Code) (s : Shape) (statements : List Instr) (is : code.instrs.i
           }))
         where
           started_pc : (a : Thread) (v : ℤ) (q : Parameter) → (Guarded.with_parameter a q v).pc ≡ a.pc
-          started_pc a v parameters.None = refl
-          started_pc a v parameters.Int = refl
-          started_pc a v parameters.Reference = refl
+          started_pc a v Parameter.None = refl
+          started_pc a v Parameter.Int = refl
+          started_pc a v Parameter.Reference = refl
 
           started_phase : (a : Thread) (v : ℤ) (q : Parameter) → (Guarded.with_parameter a q v).phase ≡ a.phase
-          started_phase a v parameters.None = refl
-          started_phase a v parameters.Int = refl
-          started_phase a v parameters.Reference = refl
+          started_phase a v Parameter.None = refl
+          started_phase a v Parameter.Int = refl
+          started_phase a v Parameter.Reference = refl
 
           started_lowered : (a : Thread) (v : ℤ) (q : Parameter) → (Guarded.with_parameter a q v).lowered ≡ a.lowered
-          started_lowered a v parameters.None = refl
-          started_lowered a v parameters.Int = refl
-          started_lowered a v parameters.Reference = refl
+          started_lowered a v Parameter.None = refl
+          started_lowered a v Parameter.Int = refl
+          started_lowered a v Parameter.Reference = refl
 
           started_events : (a : Thread) (v : ℤ) (q : Parameter) → (Guarded.with_parameter a q v).events ≡ a.events
-          started_events a v parameters.None = refl
-          started_events a v parameters.Int = refl
-          started_events a v parameters.Reference = refl
+          started_events a v Parameter.None = refl
+          started_events a v Parameter.Int = refl
+          started_events a v Parameter.Reference = refl
 
       from_any : Where T m events low paced → Next
       from_any (inl h) = from_first h

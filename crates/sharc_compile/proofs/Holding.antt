@@ -1,16 +1,10 @@
 -- From the registers of code to what the program holds.
-use Rattle.std.proofs.{Common.{◌≡◌, ◌≢◌, ℕ, zero, suc, ℤ, pos, ◌+◌, ◌^◌, ◌<◌, ◌⊎◌, inl, inr, ⊎_elim, Bool, List, [], ◌∷◌, ◌++◌, length, map, refl, sym, ap, ◌∙◌, Some, subst, arith, get_or, slice_get, append_assoc, append-nil}, lemmas.List.length-map}
-use Rattle.std.specs.Prelude.{IsSomeAnd, slice_index, slice_index_or}
-use Rattle.sharc_tree.specs.{declared.event.Act.Act, declared.event.CellAt.CellAt, declared.event.SourceEvent.SourceEvent}
-use Rattle.sharc_mode.specs.Moded.{Assignment}
-use Rattle.sharc_meaning.specs.{declared.given.GivenUp.GivenUp, declared.given.GivenUp.TheVariants.{Emptied, Released, Replaced}, Events.held_mutexes, State.{wants, event_of}, Reference.number_of}
+use Rattle.sharc_compile.proofs.{Imports.{◌≡◌, ◌≢◌, ℕ, zero, suc, ℤ, pos, ◌+◌, ◌^◌, ◌<◌, ◌⊎◌, inl, inr, ⊎_elim, Bool, List, [], ◌∷◌, ◌++◌, length, map, refl, sym, ap, ◌∙◌, Some, subst, arith, get_or, slice_get, append_assoc, append-nil, length-map, IsSomeAnd, slice_index, get_or as slice_index_or, Act, CellAt, SourceEvent, Assignment, GivenUp, Emptied, Released, Replaced, held_mutexes, wants, number_of, Code, Instr, Exit, Shape, Conflict, NoLock, NotSole, Trapped as Trap, Stop, Runs, Stopped, Machine, instr_at, place_at, reference, Flat, At, Came, asks, halts, on_turn, exec, start, at_after, asked, PathsAreRuns, AsksTheSame, MayStart, Guarded, Program, Thread, Check, Accesses, Locks, IsSole, is_held, statement_at, started, thread_after, Resolved, AreLowered, GuardedCounts, IsReleased, IsOf, IsReplaced, LocksStand, OnWay, Quietly, Tells, entered_at, guarded, IsLevel, LogsAreHeld, Elements, IsNumber, by, begins, HasCome, IsGenerated, instr_of, program_of, IsReference, IsAt, IsLinking, IsOver, StopsAt, ChecksNext, IsAccountedFor, HoldsBy, HoldsWhatIsCounted, IsRefused, IsReport, site_of}, Joined.sites_are, Sourced.{IsQuiet, line_quiet, same_given, beyond}}
+use Rattle.sharc_meaning.specs.State.{event_of}
 use Rattle.sharc_meaning.specs.Meaning as Meaning
-use Rattle.sharc_code.specs.{declared.code.Code.Code, declared.instr.Instr.Instr, declared.instr.Instr.TheVariants.Exit, declared.shape.Shape.Shape, declared.state.Stop.TheVariants.{Conflict, NoLock, NotSole, Trap}, declared.state.Stop.Stop, declared.state.TurnState.TheVariants.{Runs, Stopped}, Machine.{Machine, instr_at}, Says.{place_at, reference}}
-use Rattle.sharc_flat.specs.{Machine.{Flat, At, Came, Turn, goes, asks, halts, turn, on_turn, exec, start}, Path.{at_after, asked, PathsAreRuns}, Correct.{AsksTheSame, MayStart}}
-use Rattle.sharc_guard.specs.{declared.guarded.Guarded.Guarded, Machine.{Program, Thread, Check, Accesses, Locks, IsSole, is_held, statement_at}, Path.{started, thread_after}, Correct.Resolved, Counted.{AreLowered, GuardedCounts, IsReleased, IsOf, IsReplaced, LocksStand, OnWay, Quietly, Tells}, Guard.{entered_at, guarded, place}, Level.IsLevel, Logged.LogsAreHeld}
+use Rattle.sharc_flat.specs.Machine.{Turn, goes, turn}
+use Rattle.sharc_guard.specs.Guard.{place}
 use Rattle.sharc_guard.specs.Machine as Form
-use Rattle.sharc_compile.specs.{Consistent.{Elements, IsNumber}, Correct.{by, begins, HasCome}, Generated.{IsGenerated, instr_of, program_of}, Related.{IsReference, IsAt, IsLinking, IsOver, StopsAt, ChecksNext}, Held.{IsAccountedFor, HoldsBy, HoldsWhatIsCounted}, Refused.{IsRefused, IsReport, site_of}}
-use Rattle.sharc_compile.proofs.{Joined.sites_are, Sourced.{IsQuiet, line_quiet, same_given, beyond}}
 
 -- ---- what flat code does without an answer
 record Way (flat : Flat) (m final : At) : Type 0 where

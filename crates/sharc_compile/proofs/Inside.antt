@@ -1,15 +1,6 @@
 -- A thread of well-formed guarded code stays within its functions, and its registers within the banks.
-use Rattle.std.proofs.{Common.{◌≡◌, ℕ, ℤ, zero, suc, pos, negsuc, ◌+◌, ◌*◌, ◌<◌, ◌≤◌, ◌⊎◌, inl, inr, max, Bool, true, false, List, [], ◌∷◌, ◌++◌, length, fold, refl, sym, ap, ◌∙◌, subst, ⊎_elim, arith, Some, Result, Ok, Err, nat_lt, slice_get, slice_index_or}, lemmas.Bool.ltb-true}
-use Rattle.std.specs.Prelude.{if◌then◌else◌}
-use Rattle.sharc_tree.specs.{declared.event.SourceEvent.SourceEvent, declared.event.CellAt.CellAt, declared.trap.Trap.Trap}
-use Rattle.sharc_tree.specs.declared.event.Act.TheVariants as acts
-use Rattle.sharc_tree.specs.declared.trap.Trap.TheVariants as traps
-use Rattle.sharc_code.specs.{declared.code.Function.Function, declared.code.Parameter.Parameter, declared.instr.Cell.Cell, declared.instr.Cell.TheVariants.{Global, GlobalAt, Object as InObject, ObjectAt}, declared.instr.Register.Register, declared.instr.Instr.Instr, declared.instr.Instr.TheVariants.{Constant, Move, MoveReference, Null, ComputeInt, ComputeLong, NegateInt, NegateLong, Complement, Not, SameReference, ChkWidth, Jump, JumpIfZero, JumpIfNull, Call, Return, ChkNull, ChkHeld, ChkNotHeld, ChkPositive, ChkRoom, ChkLock, ChkLockLoaded, Bounds, GlobalBounds, ChkRead, ChkWrite, Load, Store, LoadRef, Exchange, Raise, RaiseLoaded, Lower, New, TakeCell, TakeLocal, TestSole, Clear, Give, Free, Lock, Unlock, Spawn, Join, Print, Start, Exit, CondEnter, CondWait, CondSignal, CondBroadcast}, declared.state.Frame.Frame, Arithmetic.is_zero, Machine.no_function, Path.{most_ints, most_refs}}
-use Rattle.sharc_code.specs.declared.code.Parameter.TheVariants as parameters
-use Rattle.sharc_code.specs.declared.instr.Register.TheVariants as registers
-use Rattle.sharc_meaning.specs.Reference.{is_null}
-use Rattle.sharc_guard.specs.{Form.{IsBody, IsAtPlace, IsGuarded}, Machine.{Program, Thread, turn, Phase, Running, Leaving, Left, Turn, Goes, Halts, int, ref, function_at, statement_at, step, asserts, with_result, indexed, called, returned, lock_checked, handed, without_base, exit, Stopped, back_to, next, to, set_int, source_at, cell_at, event_of, argument}, Path.{after, started, with_parameter, fresh}}
-use Rattle.sharc_lemmas.proofs.Numbers.{times_more, times_low as times_le}
+use Rattle.sharc_compile.proofs.Imports.{◌≡◌, ℕ, ℤ, zero, suc, pos, negsuc, ◌+◌, ◌*◌, ◌<◌, ◌≤◌, ◌⊎◌, inl, inr, max, Bool, true, false, List, [], ◌∷◌, ◌++◌, length, fold, refl, sym, ap, ◌∙◌, subst, ⊎_elim, arith, Some, Result, Ok, Err, nat_lt, slice_get, get_or as slice_index_or, ltb-true, if◌then◌else◌, SourceEvent, CellAt, Trap, Act, Function, Parameter, Cell, Global, GlobalAt, InObject, ObjectAt, Register, Instr, Constant, Move, MoveReference, Null, ComputeInt, ComputeLong, NegateInt, NegateLong, Complement, Not, SameReference, ChkWidth, Jump, JumpIfZero, JumpIfNull, Call, Return, ChkNull, ChkHeld, ChkNotHeld, ChkPositive, ChkRoom, ChkLock, ChkLockLoaded, Bounds, GlobalBounds, ChkRead, ChkWrite, Load, Store, LoadRef, Exchange, Raise, RaiseLoaded, Lower, New, TakeCell, TakeLocal, TestSole, Clear, Give, Free, Lock, Unlock, Spawn, Join, Print, Start, Exit, CondEnter, CondWait, CondSignal, CondBroadcast, Frame, is_zero, no_function, most_ints, most_refs, is_null, IsBody, IsAtPlace, IsGuarded, Program, Thread, turn, Phase, Running, Leaving, Left, Turn, Goes, Halts, function_at, statement_at, step, handed, without_base, to, source_at, event_of, argument, started, fresh, times_more, times_le}
+use Rattle.sharc_guard.specs.{Machine.{int, ref, asserts, with_result, indexed, called, returned, lock_checked, exit, Stopped, back_to, next, set_int, cell_at}, Path.{after, with_parameter}}
 
 -- ---- the largest function
 fold_least : (g : Function → ℕ) (s : ℕ) (xs : List Function) → s ≤ fold (λ most f. max most (g f)) s xs
@@ -121,7 +112,7 @@ module _ (p : Program) (good : IsGuarded p) where
           ints_from = a.ints_from + ints;
           refs_from = a.refs_from + refs;
           frames = record { pc = a.pc + 1; ints = a.ints_from; refs = a.refs_from } ∷ a.frames;
-        }) else Halts (Stopped traps.CallDepth site)) x)) [
+        }) else Halts (Stopped Trap.CallDepth site)) x)) [
           | true ↦ λ e.
               let few = ltb-true (length a.frames) 256 e in
               let en = (good.entries f lf).body in
@@ -149,7 +140,7 @@ module _ (p : Program) (good : IsGuarded p) where
     returning : (site : ℕ) (x : ℤ) (frames : List Frame) → length frames ≤ 256 → Returns frames → Inside (after a (returned p a site frames) x) ⊎ (frames ≡ [])
     returning site x [] few r = inr refl
     returning site x (f ∷ []) few r =
-        inl (elim (nat_lt 0 (length a.held)) as (λ t. Inside (after a (if t then Halts (Stopped traps.ReturnWithLockHeld site) else Goes (back_to a f [])) x)) [
+        inl (elim (nat_lt 0 (length a.held)) as (λ t. Inside (after a (if t then Halts (Stopped Trap.ReturnWithLockHeld site) else Goes (back_to a f [])) x)) [
           | true ↦ inl h
           | false ↦ inr (record { pc_is = r; none = refl })
         ])
@@ -178,7 +169,7 @@ module _ (p : Program) (good : IsGuarded p) where
 
     index_inside : (r : ℕ) (z : ℤ) (cells field site elements : ℕ) (x : ℤ) → Next → Inside (after a (indexed a r z cells field site elements) x)
     index_inside r (pos i) cells field site elements x n =
-        elim (nat_lt i elements) as (λ t. Inside (after a (if t then Goes (next (set_int a r (pos (i * cells + field)))) else Halts (Stopped traps.IndexOutOfBounds site)) x)) [
+        elim (nat_lt i elements) as (λ t. Inside (after a (if t then Goes (next (set_int a r (pos (i * cells + field)))) else Halts (Stopped Trap.IndexOutOfBounds site)) x)) [
           | true ↦ inl (goes_to (a.pc + 1) n)
           | false ↦ inl h
         ]
@@ -208,8 +199,8 @@ module _ (p : Program) (good : IsGuarded p) where
 
     spawns_inside : (from : Register) (r : ℕ) (x : ℤ) (events : List SourceEvent) → Next
         → Inside (next (set_int (handed (record a { events = events; lowered = [] }) from) r x))
-    spawns_inside (registers.Int s) r x events n = inl (goes_to (a.pc + 1) n)
-    spawns_inside (registers.Reference s) r x events n = inl (goes_to (a.pc + 1) n)
+    spawns_inside (Register.Int s) r x events n = inl (goes_to (a.pc + 1) n)
+    spawns_inside (Register.Reference s) r x events n = inl (goes_to (a.pc + 1) n)
 
     -- each statement of a body
     stays_inside : (i : Instr) → IsAtPlace p good.owner a.pc i → (x : ℤ) → Inside (after a (step p i a) x)
@@ -224,17 +215,17 @@ module _ (p : Program) (good : IsGuarded p) where
     stays_inside (Complement r y) k x = goes_next k.leads
     stays_inside (Not r y) k x = goes_next k.leads
     stays_inside (SameReference r y z) k x = goes_next k.leads
-    stays_inside (ChkWidth width r site) k x = asserted _ traps.OutOfRange site x k.leads
+    stays_inside (ChkWidth width r site) k x = asserted _ Trap.OutOfRange site x k.leads
     stays_inside (Jump pc) k x = inl (goes_to pc k.leads)
     stays_inside (JumpIfZero r pc) k x = jumps (is_zero (int a r)) pc x k.leads.0 k.leads.1
     stays_inside (JumpIfNull r pc) k x = jumps (is_null (ref a r)) pc x k.leads.0 k.leads.1
     stays_inside (Call f ints refs site) k x = calls f ints refs site x k.writes.0 k.writes.1 k.leads.0 k.leads.1
     stays_inside (Return site) k x = returns_inside site x
-    stays_inside (ChkNull r site) k x = asserted _ traps.NullPointer site x k.leads
-    stays_inside (ChkHeld cell site) k x = asserted _ traps.MutexNotHeld site x k.leads
-    stays_inside (ChkNotHeld cell site) k x = asserted _ traps.MutexAlreadyHeld site x k.leads
-    stays_inside (ChkPositive r site) k x = asserted _ traps.SizeNotPositive site x k.leads
-    stays_inside (ChkRoom site) k x = asserted _ traps.TooManyLocks site x k.leads
+    stays_inside (ChkNull r site) k x = asserted _ Trap.NullPointer site x k.leads
+    stays_inside (ChkHeld cell site) k x = asserted _ Trap.MutexNotHeld site x k.leads
+    stays_inside (ChkNotHeld cell site) k x = asserted _ Trap.MutexAlreadyHeld site x k.leads
+    stays_inside (ChkPositive r site) k x = asserted _ Trap.SizeNotPositive site x k.leads
+    stays_inside (ChkRoom site) k x = asserted _ Trap.TooManyLocks site x k.leads
     stays_inside (ChkLock cell site) k x = lock_inside _ _ site x k.leads
     stays_inside (ChkLockLoaded site) k x = lock_inside _ _ site x k.leads
     stays_inside (Bounds r base cells field site) k x = index_inside r (int a r) cells field site _ x k.leads
@@ -255,9 +246,9 @@ module _ (p : Program) (good : IsGuarded p) where
     stays_inside (Clear r cells) k x = goes_next k.leads
     stays_inside (Give r site) k x = goes_next k.leads
     stays_inside (Free r layout site) k x = goes_next k.leads
-    stays_inside (Lock cell site) k x = locks_inside cell (a.held ++ cell_at p a cell ∷ []) (a.events ++ event_of (source_at p site).site (acts.Lock (cell_at p a cell)) (pos 0) ∷ []) k.leads
+    stays_inside (Lock cell site) k x = locks_inside cell (a.held ++ cell_at p a cell ∷ []) (a.events ++ event_of (source_at p site).site (Act.Lock (cell_at p a cell)) (pos 0) ∷ []) k.leads
     stays_inside (Unlock r cell site) k x = goes_next k.leads
-    stays_inside (Spawn r function from site) k x = spawns_inside from r x (a.events ++ event_of (source_at p site).site (acts.Spawn function (argument a from)) x ∷ []) k.leads
+    stays_inside (Spawn r function from site) k x = spawns_inside from r x (a.events ++ event_of (source_at p site).site (Act.Spawn function (argument a from)) x ∷ []) k.leads
     stays_inside (Join r site) k x = goes_next k.leads
     stays_inside (Print r site) k x = goes_next k.leads
     stays_inside (Start site) k x = absurd k.leads
@@ -291,9 +282,9 @@ module _ (p : Program) (good : IsGuarded p) where
       }
 
   parameter_inside : (a : Thread) (v : ℤ) (q : Parameter) → Within a → Within (with_parameter a q v)
-  parameter_inside a v parameters.None h = h
-  parameter_inside a v parameters.Int h = h
-  parameter_inside a v parameters.Reference h = h
+  parameter_inside a v Parameter.None h = h
+  parameter_inside a v Parameter.Int h = h
+  parameter_inside a v Parameter.Reference h = h
 
   pub started_inside : (f : ℕ) (v : ℤ) → f < length p.functions → Within (started p f v)
   started_inside f v lf = parameter_inside (fresh p f) v (function_at p f).parameter (fresh_inside f lf)

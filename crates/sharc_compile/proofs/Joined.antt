@@ -1,16 +1,11 @@
 -- From code over guarded code to flat code.
-use Rattle.std.proofs.{Common.{◌≡◌, ℕ, ℤ, ◌<◌, ◌≤◌, inl, inr, Bool, List, ◌∷◌, ◌++◌, length, map, refl, sym, ap, ◌∙◌, subst, arith, Some, None, Option}, lemmas.List.length-map}
-use Rattle.std.specs.Prelude.{slice_index_or}
-use Rattle.sharc_tree.specs.{declared.event.Act.Act, declared.event.SourceEvent.SourceEvent, declared.trap.Trap.Trap}
-use Rattle.sharc_code.specs.{declared.code.Code.Code, declared.shape.Shape.Shape, declared.instr.Instr.Instr, declared.instr.Instr.TheVariants.{Join, Spawn, New}, declared.state.TurnState.TurnState, declared.state.TurnState.TheVariants.{Runs, Tries, Stopped, Ended}, declared.state.Stage.Stage, declared.state.Stage.TheVariants.Makes, declared.state.Stop.Stop, declared.state.Stop.TheVariants.{Conflict, NoLock, NotSole, Trap as Trapped}, Machine.Machine, Says.{place_at, no_place}}
-use Rattle.sharc_heap.specs.{declared.stage.NewStage.NewStage, declared.stage.NewStage.TheVariants.Cell}
+use Rattle.sharc_compile.proofs.Imports.{◌≡◌, ℕ, ℤ, ◌<◌, ◌≤◌, inl, inr, Bool, List, ◌∷◌, ◌++◌, length, map, refl, sym, ap, ◌∙◌, subst, arith, Some, None, Option, length-map, get_or as slice_index_or, Act, SourceEvent, Trap, Code, Shape, Instr, Join, Spawn, New, TurnState, Runs, Tries, Stopped, Ended, Stage, Makes, Stop, Conflict, NoLock, NotSole, Trapped, Machine, place_at, no_place, NewStage, Guarded, Program, Thread, source_at, statement_at, turn, step, started, thread_after, GuardedKeepsPaths, Resolved, Wants, guarded, entered_at, Elements, by, begins, stop_turn, HasCome, IsGenerated, program_of, MatchesThread, IsOver, StopsAt, Refuses, spent_at, spent_in_new, WantsAt, IsRefusal, StopsFor, IsOverFor, FollowsFlat, IsFlat}
+use Rattle.sharc_heap.specs.declared.stage.NewStage.TheVariants.{Cell}
 use Rattle.sharc_meaning.specs.State.{stopped}
 use Rattle.sharc_flat.specs.Machine as Flat
-use Rattle.sharc_guard.specs.{declared.guarded.Guarded.Guarded, Machine.{Program, Thread, source_at, statement_at, turn, step}, Path.{started, thread_after}, Correct.{GuardedKeepsPaths, Resolved, Wants}, Guard.{guarded, entered_at, place}}
+use Rattle.sharc_guard.specs.Guard.{place}
 use Rattle.sharc_guard.specs.Machine as Form
-use Rattle.sharc_compile.specs.{Consistent.Elements, Correct.{by, begins, stop_turn, HasCome}, Generated.{IsGenerated, program_of}, Related.{MatchesThread, IsOver, StopsAt, Refuses, spent_at, spent_in_new}, Coded.{WantsAt, IsRefusal, StopsFor, IsOverFor, FollowsFlat}}
 use Rattle.sharc_flat.specs.Path as Flow
-use Rattle.sharc_flat.specs.Framed.{IsFlat}
 
 few_in_new : (st : NewStage) → spent_in_new st ≤ 3
 few_in_new (Cell c) = omega arith

@@ -1,3 +1,4 @@
+mod Imports
 pub mod Registers
 pub mod Logs
 pub mod Numbers

@@ -1,14 +1,5 @@
 -- The log of code beside that of guarded code.
-use Rattle.std.proofs.{Common.{◌&&◌, ◌||◌, ◌≡◌, ℕ, suc, ◌+◌, Bool, true, false, not, List, [], ◌∷◌, ◌++◌, length, All, refl, sym, ap, ◌∙◌, subst, arith, is_some, Some, ◌==◌, eqb-true}, lemmas.Bool.Decides.nat_tests, lemmas.Bool.and_parts}
-use Rattle.std.specs.Prelude.{if◌then◌else◌}
-use Rattle.sharc_tree.specs.{declared.event.Object.Object, declared.event.CellAt.CellAt}
-use Rattle.sharc_tree.specs.declared.event.Object.TheVariants as objects
-use Rattle.sharc_locks.specs.{declared.held_log.HeldMutex.HeldMutex, HeldLog.{without, object_of}}
-use Rattle.sharc_code.specs.{declared.code.GlobalCells.GlobalCells, Machine.reference_of, Ranges.IsInGlobal}
-use Rattle.sharc_meaning.specs.Events.{same_cell}
-use Rattle.sharc_guard.specs.Machine.{is_held, without_mutex}
-use Rattle.sharc_compile.specs.Related.{place_in, number_in, IsKnown, IsCell, IsHeldAs, AreHeld}
-use Rattle.sharc_lemmas.proofs.Bools.{same_test as same_bool}
+use Rattle.sharc_compile.proofs.Imports.{◌&&◌, ◌||◌, ◌≡◌, ℕ, suc, ◌+◌, Bool, true, false, not, List, [], ◌∷◌, ◌++◌, length, All, refl, sym, ap, ◌∙◌, subst, arith, is_some, Some, ◌==◌, eqb-true, nat_tests, and_parts, if◌then◌else◌, Object, CellAt, HeldMutex, without, object_of, GlobalCells, reference_of, IsInGlobal, same_cell, is_held, without_mutex, place_in, number_in, IsKnown, IsCell, IsHeldAs, AreHeld, same_bool}
 
 all_first : {X : Type 0} (P : X → Type 0) (x : X) (xs : List X) → All P (x ∷ xs) → P x
 all_first P x xs h = h 0 x (omega arith)
@@ -20,10 +11,10 @@ eq_sym : (m n : ℕ) → (m == n) ≡ (n == m)
 eq_sym m n = grind (arith, nat_tests)
 
 cell_sym : (o o' : Object) (x x' : ℕ) → same_cell record { object = o; cell = x } record { object = o'; cell = x' } ≡ same_cell record { object = o'; cell = x' } record { object = o; cell = x }
-cell_sym (objects.Global g) (objects.Global h) x y = ap (λ b. b && (x == y)) (eq_sym g h) ∙ ap (λ b. (h == g) && b) (eq_sym x y)
-cell_sym (objects.Global g) (objects.Made h) x y = refl
-cell_sym (objects.Made g) (objects.Global h) x y = refl
-cell_sym (objects.Made g) (objects.Made h) x y = ap (λ b. b && (x == y)) (eq_sym g h) ∙ ap (λ b. (h == g) && b) (eq_sym x y)
+cell_sym (Object.Global g) (Object.Global h) x y = ap (λ b. b && (x == y)) (eq_sym g h) ∙ ap (λ b. (h == g) && b) (eq_sym x y)
+cell_sym (Object.Global g) (Object.Made h) x y = refl
+cell_sym (Object.Made g) (Object.Global h) x y = refl
+cell_sym (Object.Made g) (Object.Made h) x y = ap (λ b. b && (x == y)) (eq_sym g h) ∙ ap (λ b. (h == g) && b) (eq_sym x y)
 
 abbrev pub Apart : List GlobalCells → Type 0
 Apart globals = (g h place : ℕ) → IsInGlobal globals g place → IsInGlobal globals h place → g ≡ h
@@ -33,27 +24,27 @@ module _ (globals : List GlobalCells) (first : ℕ) (apart : Apart globals) wher
   cells_from : (o o' : Object) (x x' number number' place place' : ℕ) → number_in o ≡ number → number_in o' ≡ number' → place_in globals o x ≡ place → place_in globals o' x' ≡ place'
       → IsKnown globals o x → IsKnown globals o' x' → (place ≡ place' → number ≡ number')
       → (place ≡ place' → same_cell record { object = o; cell = x } record { object = o'; cell = x' } ≡ true)
-  cells_from (objects.Global g) (objects.Global h) x y n n' l l' en en' el el' k k' a q =
+  cells_from (Object.Global g) (Object.Global h) x y n n' l l' en en' el el' k k' a q =
       let e : g ≡ h = apart g h l (subst (IsInGlobal globals g) el k) (subst (IsInGlobal globals h) (el' ∙ sym q) k') in
-      let z : x ≡ y = let w = ap (λ g. place_in globals (objects.Global g) x) e in omega arith in
+      let z : x ≡ y = let w = ap (λ g. place_in globals (Object.Global g) x) e in omega arith in
       grind (arith, nat_tests)
-  cells_from (objects.Global g) (objects.Made h) x y n n' l l' en en' el el' k k' a q = let w = a q in absurd (omega arith)
-  cells_from (objects.Made g) (objects.Global h) x y n n' l l' en en' el el' k k' a q = let w = a q in absurd (omega arith)
-  cells_from (objects.Made g) (objects.Made h) x y n n' l l' en en' el el' k k' a q =
+  cells_from (Object.Global g) (Object.Made h) x y n n' l l' en en' el el' k k' a q = let w = a q in absurd (omega arith)
+  cells_from (Object.Made g) (Object.Global h) x y n n' l l' en en' el el' k k' a q = let w = a q in absurd (omega arith)
+  cells_from (Object.Made g) (Object.Made h) x y n n' l l' en en' el el' k k' a q =
       let w = a q in
       let e : g ≡ h = omega arith in
       let z : x ≡ y = omega arith in
       grind (arith, nat_tests)
 
   places_from : (o o' : Object) (x x' : ℕ) → same_cell record { object = o; cell = x } record { object = o'; cell = x' } ≡ true → place_in globals o x ≡ place_in globals o' x'
-  places_from (objects.Global g) (objects.Global h) x y q =
+  places_from (Object.Global g) (Object.Global h) x y q =
       let w = and_parts (g == h) (x == y) q in
-      ap (λ g. place_in globals (objects.Global g) x) (eqb-true g h w.0) ∙ ap (place_in globals (objects.Global h)) (eqb-true x y w.1)
-  places_from (objects.Global g) (objects.Made h) x y q = absurd (cc)
-  places_from (objects.Made g) (objects.Global h) x y q = absurd (cc)
-  places_from (objects.Made g) (objects.Made h) x y q =
+      ap (λ g. place_in globals (Object.Global g) x) (eqb-true g h w.0) ∙ ap (place_in globals (Object.Global h)) (eqb-true x y w.1)
+  places_from (Object.Global g) (Object.Made h) x y q = absurd (cc)
+  places_from (Object.Made g) (Object.Global h) x y q = absurd (cc)
+  places_from (Object.Made g) (Object.Made h) x y q =
       let w = and_parts (g == h) (x == y) q in
-      ap (λ g. place_in globals (objects.Made g) x) (eqb-true g h w.0) ∙ ap (place_in globals (objects.Made h)) (eqb-true x y w.1)
+      ap (λ g. place_in globals (Object.Made g) x) (eqb-true g h w.0) ∙ ap (place_in globals (Object.Made h)) (eqb-true x y w.1)
 
   module _ (number place : ℕ) (c : CellAt) (is : IsCell globals number place c) where
     abbrev Only : HeldMutex → Type 0

@@ -1,15 +1,8 @@
 -- What a turn lowers, in guarded code and in code.
-use Rattle.std.proofs.{Common.{◌≡◌, ℕ, ℤ, pos, negsuc, zero, suc, ◌+◌, ◌*◌, ◌⊎◌, inl, inr, Bool, true, false, not, List, [], ◌∷◌, ◌++◌, length, Option, Some, None, Result, Ok, Err, nat_lt, refl, sym, ap, ◌∙◌, arith, cond}, lemmas.List.{append-nil, length-append}}
-use Rattle.std.specs.Option.{option_to_list}
-use Rattle.sharc_tree.specs.{declared.event.SourceEvent.SourceEvent, declared.trap.Trap.Trap}
-use Rattle.sharc_tree.specs.declared.trap.Trap.TheVariants as traps
-use Rattle.sharc_code.specs.{declared.code.Function.Function, declared.instr.Cell.Cell, declared.instr.Cell.TheVariants.{Global, GlobalAt, Object as InObject, ObjectAt}, declared.instr.Instr.Instr, declared.instr.Instr.TheVariants.{ComputeInt, ComputeLong, NegateInt, NegateLong, ChkWidth, JumpIfZero, JumpIfNull, Call, Return, ChkNull, ChkHeld, ChkNotHeld, ChkPositive, ChkRoom, ChkLock, ChkLockLoaded, Bounds, GlobalBounds, Load, Store, LoadRef, Exchange, Lower, New, TakeCell, TakeLocal, Give, Free, Lock, Unlock, Spawn, Join, Print, Start, Exit, CondEnter, CondWait, CondSignal, CondBroadcast}, declared.instr.Register.Register, declared.instr.Width.TheVariants.{Int, Long}, declared.shape.Shape.Shape, declared.state.Frame.Frame, Arithmetic.{holds, is_zero, computed, negated}, Machine.{Machine, ref, lower, is_positive}, Says.made_cell}
-use Rattle.sharc_code.specs.declared.instr.Register.TheVariants as registers
+use Rattle.sharc_compile.proofs.Imports.{◌≡◌, ℕ, ℤ, pos, negsuc, zero, suc, ◌+◌, ◌*◌, ◌⊎◌, inl, inr, Bool, true, false, not, List, [], ◌∷◌, ◌++◌, length, Option, Some, None, Result, Ok, Err, nat_lt, refl, sym, ap, ◌∙◌, arith, cond, append-nil, length-append, option_to_list, SourceEvent, Trap, Function, Cell, Global, GlobalAt, InObject, ObjectAt, Instr, ComputeInt, ComputeLong, NegateInt, NegateLong, ChkWidth, JumpIfZero, JumpIfNull, Call, Return, ChkNull, ChkHeld, ChkNotHeld, ChkPositive, ChkRoom, ChkLock, ChkLockLoaded, Bounds, GlobalBounds, Load, Store, LoadRef, Exchange, Lower, New, TakeCell, TakeLocal, Give, Free, Lock, Unlock, Spawn, Join, Print, Start, Exit, CondEnter, CondWait, CondSignal, CondBroadcast, Register, Int, Long, Shape, Frame, holds, is_zero, computed, negated, Machine, ref, lower, is_positive, made_cell, is_null, number_of, elements_of, Program, Thread, Phase, Running, Leaving, Left, Turn, Goes, Asks, Checks, Halts, is_held, without_base, handed, step, instr_of, lowered_by, unless_told}
 use Rattle.sharc_code.specs.Path as Code
-use Rattle.sharc_meaning.specs.Reference.{is_null, number_of, elements_of}
 use Rattle.sharc_guard.specs.Machine as Form
-use Rattle.sharc_guard.specs.{Machine.{Program, Thread, Phase, Running, Leaving, Left, Turn, Goes, Asks, Checks, Halts, int, cell_at, is_of_null, is_held, without_base, handed, step}, Path.{after, may_go}}
-use Rattle.sharc_compile.specs.{Generated.instr_of, Lowered.{lowered_by, unless_told}}
+use Rattle.sharc_guard.specs.{Machine.{int, cell_at, is_of_null}, Path.{after, may_go}}
 
 -- what a statement lowers
 abbrev pub lowered_of : Thread → Instr → List ℕ
@@ -53,12 +46,12 @@ resulted a r site (Ok z) = (refl, kept a)
 resulted a r site (Err code) = tt
 
 indexes : (a : Thread) (r : ℕ) (v : ℤ) (cells field site elements : ℕ) → Lowers a [] (Form.indexed a r v cells field site elements)
-indexes a r (pos i) cells field site elements = choice a [] (nat_lt i elements) (Form.goes (Form.set_int a r (pos (i * cells + field)))) (Halts (Form.Stopped traps.IndexOutOfBounds site)) (refl, kept a) tt
+indexes a r (pos i) cells field site elements = choice a [] (nat_lt i elements) (Form.goes (Form.set_int a r (pos (i * cells + field)))) (Halts (Form.Stopped Trap.IndexOutOfBounds site)) (refl, kept a) tt
 indexes a r (negsuc i) cells field site elements = tt
 
 returns : (p : Program) (a : Thread) (site : ℕ) (frames : List Frame) → Lowers a [] (Form.returned p a site frames)
 returns p a site [] = (refl, kept a)
-returns p a site (f ∷ []) = choice a [] (nat_lt 0 (length a.held)) (Halts (Form.Stopped traps.ReturnWithLockHeld site)) (Goes (Form.back_to a f [])) tt (refl, kept a)
+returns p a site (f ∷ []) = choice a [] (nat_lt 0 (length a.held)) (Halts (Form.Stopped Trap.ReturnWithLockHeld site)) (Goes (Form.back_to a f [])) tt (refl, kept a)
 returns p a site (f ∷ g ∷ frames) = (refl, kept a)
 
 locks : (a : Thread) (b : Bool) (site : ℕ) (cell : Cell) (p : Program) → Lowers a [] (Form.lock_checked a b (cell_at p a cell) site)
@@ -81,24 +74,24 @@ base_same b (InObject r cell) = (refl, refl)
 base_same b (ObjectAt r at) = (refl, refl)
 
 handed_same : (b : Thread) (from : Register) → ((handed b from).events ≡ b.events) × ((handed b from).lowered ≡ b.lowered)
-handed_same b (registers.Int r) = (refl, refl)
-handed_same b (registers.Reference r) = (refl, refl)
+handed_same b (Register.Int r) = (refl, refl)
+handed_same b (Register.Reference r) = (refl, refl)
 
 pub step_lowers : (p : Program) (i : Instr) (a : Thread) → Lowers a (lowered_of a i) (step p i a)
 step_lowers p (ComputeInt operator r x y site) a = resulted a r site (computed Int operator (int a x) (int a y))
 step_lowers p (ComputeLong operator r x y site) a = resulted a r site (computed Long operator (int a x) (int a y))
 step_lowers p (NegateInt r x site) a = resulted a r site (negated Int (int a x))
 step_lowers p (NegateLong r x site) a = resulted a r site (negated Long (int a x))
-step_lowers p (ChkWidth width r site) a = asserted a (holds width (int a r)) traps.OutOfRange site
+step_lowers p (ChkWidth width r site) a = asserted a (holds width (int a r)) Trap.OutOfRange site
 step_lowers p (JumpIfZero r pc) a = choice a [] (is_zero (int a r)) (Goes (Form.to a pc)) (Form.goes a) (refl, kept a) (refl, kept a)
 step_lowers p (JumpIfNull r pc) a = choice a [] (is_null (Form.ref a r)) (Goes (Form.to a pc)) (Form.goes a) (refl, kept a) (refl, kept a)
-step_lowers p (Call f ints refs site) a = choice a [] (nat_lt (length a.frames) 256) _ (Halts (Form.Stopped traps.CallDepth site)) (refl, kept a) tt
+step_lowers p (Call f ints refs site) a = choice a [] (nat_lt (length a.frames) 256) _ (Halts (Form.Stopped Trap.CallDepth site)) (refl, kept a) tt
 step_lowers p (Return site) a = returns p a site a.frames
-step_lowers p (ChkNull r site) a = asserted a (not (is_null (Form.ref a r))) traps.NullPointer site
-step_lowers p (ChkHeld cell site) a = asserted a (is_held a.held (cell_at p a cell)) traps.MutexNotHeld site
-step_lowers p (ChkNotHeld cell site) a = asserted a (not (is_held a.held (cell_at p a cell))) traps.MutexAlreadyHeld site
-step_lowers p (ChkPositive r site) a = asserted a (is_positive (int a r)) traps.SizeNotPositive site
-step_lowers p (ChkRoom site) a = asserted a (nat_lt (length a.held) 16) traps.TooManyLocks site
+step_lowers p (ChkNull r site) a = asserted a (not (is_null (Form.ref a r))) Trap.NullPointer site
+step_lowers p (ChkHeld cell site) a = asserted a (is_held a.held (cell_at p a cell)) Trap.MutexNotHeld site
+step_lowers p (ChkNotHeld cell site) a = asserted a (not (is_held a.held (cell_at p a cell))) Trap.MutexAlreadyHeld site
+step_lowers p (ChkPositive r site) a = asserted a (is_positive (int a r)) Trap.SizeNotPositive site
+step_lowers p (ChkRoom site) a = asserted a (nat_lt (length a.held) 16) Trap.TooManyLocks site
 step_lowers p (ChkLock cell site) a = locks a (is_of_null a cell) site cell p
 step_lowers p (ChkLockLoaded site) a = locks_loaded a (is_null a.pending) site
 step_lowers p (Bounds r base cells field site) a = indexes a r (int a r) cells field site (elements_of (Form.ref a base))

@@ -1,9 +1,5 @@
 -- The numbers of generated code are in the ranges of those of its guarded code.
-use Rattle.std.proofs.Common.{◌≡◌, ℕ, zero, suc, ◌+◌, ◌*◌, ◌^◌, ◌<◌, ◌≤◌, List, [], ◌∷◌, length, map, sym, ap, ◌∙◌, subst, arith, Some, slice_get, slice_index_or}
-use Rattle.std.specs.Prelude.{slice_index}
-use Rattle.sharc_code.specs.{declared.code.Code.Code, declared.code.Function.Function, declared.instr.Instr.Instr, declared.instr.Instr.TheVariants.{Call, Exit, GlobalBounds, Spawn, Start}, declared.instr.Register.Register, Machine.instr_at, Path.{most_ints, most_refs}, Ranges.{GlobalsFit, NumbersFit}}
-use Rattle.sharc_guard.specs.{declared.guarded.Guarded.Guarded, Form.IsGuarded, GuardedTables.TablesFit}
-use Rattle.sharc_compile.specs.Generated.{IsGenerated, instr_of, program_of}
+use Rattle.sharc_compile.proofs.Imports.{◌≡◌, ℕ, zero, suc, ◌+◌, ◌*◌, ◌^◌, ◌<◌, ◌≤◌, List, [], ◌∷◌, length, map, sym, ap, ◌∙◌, subst, arith, Some, slice_get, get_or as slice_index_or, slice_index, Code, Function, Instr, Call, Exit, GlobalBounds, Spawn, Start, Register, instr_at, most_ints, most_refs, GlobalsFit, NumbersFit, Guarded, IsGuarded, TablesFit, IsGenerated, instr_of, program_of}
 
 -- an instruction that is no call is where its statement is
 module _ (fs : List Function) where

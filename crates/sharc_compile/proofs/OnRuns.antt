@@ -1,11 +1,7 @@
 -- The path of a thread of a checked run.
-use Rattle.std.proofs.{Common.{◌≡◌, ℕ, suc, ◌<◌, true, false, cond, List, [], ◌∷◌, ◌++◌, length, reverse, refl, sym, ap, ◌∙◌, arith, Option, Some, None}, lemmas.Bool.{le-leb, lt-leb, eqb-true}, lemmas.List.{reverse-append, length-map}}
-use Rattle.std.specs.{Prelude.{nat_eq, if◌then◌else◌}, Option.option_to_list}
-use Rattle.sharc_tree.specs.declared.event.SourceEvent.{SourceEvent}
-use Rattle.sharc_word.specs.declared.step.WordEvent.{WordEvent}
-use Rattle.sharc_code.specs.{declared.code.Code.Code, declared.shape.Shape.Shape, Machine.{Machine, instr_at}, Laws.RunLaws, Opening.opening_words, Path.{begun, machine_after, IsPath}, Runs.{Said, Turn, Global, result_of, step_of, turns_of, with_told, state_after, path_says, pairs_of, opening_of, at}, Whole.{one_thread, bounds, CheckedRun}, Says.{says, speaks_of}}
+use Rattle.sharc_compile.proofs.Imports.{◌≡◌, ℕ, suc, ◌<◌, true, false, cond, List, [], ◌∷◌, ◌++◌, length, reverse, refl, sym, ap, ◌∙◌, arith, Option, Some, None, le-leb, lt-leb, eqb-true, reverse-append, length-map, nat_eq, if◌then◌else◌, option_to_list, SourceEvent, WordEvent, Code, Shape, Machine, instr_at, RunLaws, opening_words, begun, machine_after, IsPath, Said, result_of, turns_of, with_told, state_after, path_says, pairs_of, opening_of, at, one_thread, bounds, CheckedRun, says, speaks_of, Elements, said_in, said_now, founds_of, told_in, table_of, elements_before, AreQuiet, IsPathIn}
+use Rattle.sharc_code.specs.Runs.{Turn, Global, step_of}
 use Rattle.sharc_code.specs.Runs as Run
-use Rattle.sharc_compile.specs.{Consistent.{Elements, said_in, said_now}, OfRuns.{founds_of, told_in, table_of, elements_before, AreQuiet, IsPathIn}}
 
 module _ (code : Code) (s : Shape) where
   state_is : (m : Machine) (turns : List Turn) → state_after (one_thread code s) m turns ≡ machine_after code s m (founds_of turns)

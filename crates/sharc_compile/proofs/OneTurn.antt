@@ -1,17 +1,7 @@
 -- One turn of code beside guarded code, whatever the statement is.
-use Rattle.std.proofs.Common.{◌≡◌, ℕ, zero, suc, ◌+◌, ◌^◌, ◌<◌, ◌≤◌, true, false, not, ◌==◌, List, length, refl, sym, ap, ◌∙◌, subst, arith, nat_lt, None}
-use Rattle.sharc_tree.specs.declared.event.Act.TheVariants as acts
-use Rattle.sharc_tree.specs.declared.trap.Trap.TheVariants as traps
-use Rattle.sharc_heap.specs.declared.shadow_word.Kind.TheVariants as kinds
-use Rattle.sharc_heap.specs.State.{NewView}
-use Rattle.sharc_code.specs.{declared.code.Code.Code, declared.instr.Width.TheVariants.{Int, Long}, declared.instr.Cell.Cell, declared.instr.Cell.TheVariants.{Global, GlobalAt, Object as InObject, ObjectAt}, declared.instr.Instr.Instr, declared.instr.Instr.TheVariants.{Constant, Move, MoveReference, Null, ComputeInt, ComputeLong, NegateInt, NegateLong, Complement, Not, SameReference, ChkWidth, Jump, JumpIfZero, JumpIfNull, Call, Return, ChkNull, ChkHeld, ChkNotHeld, ChkPositive, ChkRoom, ChkLock, ChkLockLoaded, Bounds, GlobalBounds, ChkRead, ChkWrite, Load, Store, LoadRef, Exchange, Raise, RaiseLoaded, Lower, New, TakeCell, TakeLocal, TestSole, Clear, Give, Free, Lock, Unlock, Spawn, Join, Print, Start, Exit, CondEnter, CondWait, CondSignal, CondBroadcast}, declared.shape.Shape.Shape, declared.state.TurnState.TurnState, declared.state.TurnState.TheVariants.{Runs, Tries, Stopped, Ended}, declared.state.Stage.Stage, declared.state.Stage.TheVariants.{Rests, Looks, Clears, Makes, Empties, Lowers, FreeLooks, FreeClears, Uncounts, Links, Names, Hands, Begins, Enters, Withdraws, WithdrawsFrom, Leaves, Wakes}, Arithmetic.{computed, negated, complement, is_zero, truth, holds}, Layout.{cell_of, granule_at, granule_of}, Machine.{Machine, int, ref, act, goes, accessed, set_ref, is_positive, place, object, is_of_null}, Path.{after, asked_by, may_go}, Paced.{is_failed_try, repeats}, Says.{said, speaks_of, cell_at, made_cell, place_at, mode_of}}
-use Rattle.sharc_meaning.specs.Reference.{NULL, is_null, number_of, elements_of}
-use Rattle.sharc_guard.specs.{Form.{IsAtPlace, IsGuarded}, Machine.{Program, Thread, Phase, Turn, Running, statement_at, turn, step, function_at}, Path.weight}
+use Rattle.sharc_compile.proofs.{Imports.{◌≡◌, ℕ, zero, suc, ◌+◌, ◌^◌, ◌<◌, ◌≤◌, true, false, not, ◌==◌, List, length, refl, sym, ap, ◌∙◌, subst, arith, nat_lt, None, Act, Trap, Kind, NewView, Code, Int, Long, Cell, Global, GlobalAt, InObject, ObjectAt, Instr, Constant, Move, MoveReference, Null, ComputeInt, ComputeLong, NegateInt, NegateLong, Complement, Not, SameReference, ChkWidth, Jump, JumpIfZero, JumpIfNull, Call, Return, ChkNull, ChkHeld, ChkNotHeld, ChkPositive, ChkRoom, ChkLock, ChkLockLoaded, Bounds, GlobalBounds, ChkRead, ChkWrite, Load, Store, LoadRef, Exchange, Raise, RaiseLoaded, Lower, New, TakeCell, TakeLocal, TestSole, Clear, Give, Free, Lock, Unlock, Spawn, Join, Print, Start, Exit, CondEnter, CondWait, CondSignal, CondBroadcast, Shape, TurnState, Runs, Tries, Stopped, Ended, Stage, Rests, Looks, Clears, Makes, Empties, Lowers, FreeLooks, FreeClears, Uncounts, Links, Names, Hands, Begins, Enters, Withdraws, WithdrawsFrom, Leaves, Wakes, computed, negated, complement, is_zero, truth, holds, cell_of, granule_at, granule_of, Machine, int, ref, act, goes, accessed, set_ref, is_positive, place, object, is_of_null, after, asked_by, may_go, is_failed_try, repeats, said, speaks_of, cell_at, made_cell, place_at, mode_of, NULL, is_null, number_of, elements_of, IsAtPlace, IsGuarded, Program, Thread, Phase, Turn, Running, statement_at, turn, step, function_at, weight, instr_of, program_over, Elements, MayFind, IsMutex, IsLock, Same, IsAtStage, IsInClear, IsInFree, IsInSpawn, IsInExit, IsInSignal, IsInNew, phase_of, phase_at, IsCell, times_le}, Registers.{no_reference, elements_are}, Logs.log_length, Sames.{all_ints, all_refs, int_is, ref_is, null_at, pending_null, pending_number, set_ref_same, null_same, pending_same, null_cell, cell_is, mode_is}, Turns.Turned}
 use Rattle.sharc_guard.specs.Machine as Form
-use Rattle.sharc_compile.specs.{Generated.{instr_of, program_over}, Consistent.{Elements, MayFind, IsMutex, IsLock}, Related.{Same, IsAtStage, IsInClear, IsInFree, IsInSpawn, IsInExit, IsInSignal, IsInNew, phase_of, phase_at, IsCell}}
-use Rattle.sharc_compile.proofs.{Registers.{no_reference, elements_are}, Logs.log_length, Sames.{all_ints, all_refs, int_is, ref_is, null_at, pending_null, pending_number, set_ref_same, null_same, pending_same, null_cell, cell_is, mode_is}, Turns.Turned}
 use Rattle.sharc_compile.proofs.Inside as Inner
-use Rattle.sharc_lemmas.proofs.Numbers.{times_low as times_le}
 use Rattle.sharc_compile.proofs.Single as Single
 use Rattle.sharc_compile.proofs.Calls as Calling
 use Rattle.sharc_compile.proofs.Asking as Asking
@@ -203,7 +193,7 @@ module _ (code : Code) (s : Shape) (statements : List Instr) (good : IsGuarded (
           Single.writes_int code s statements T m a cost one rest same pc running fi fr int_ok ref_ok r (truth (ref m x == ref m y)) _
           (Single.same_reference code s statements T m a cost one rest same pc running fi fr int_ok ref_ok x y) k.writes
       single (ChkWidth width r site) one_turn is k finds quiet tried =
-          Single.is_asserted code s statements T m a cost one rest same pc running fi fr int_ok ref_ok (holds width (int m r)) (holds width (Form.int a r)) traps.OutOfRange site (ap (holds width) (int_is code s T m a same r)) (ap (λ i. step p i a) is)
+          Single.is_asserted code s statements T m a cost one rest same pc running fi fr int_ok ref_ok (holds width (int m r)) (holds width (Form.int a r)) Trap.OutOfRange site (ap (holds width) (int_is code s T m a same r)) (ap (λ i. step p i a) is)
       single (Jump to) one_turn is k finds quiet tried = Single.jumps code s statements T m a cost one rest same pc running fi fr int_ok ref_ok to
       single (JumpIfZero r to) one_turn is k finds quiet tried = Single.jumps_if code s statements T m a cost one rest same pc running fi fr int_ok ref_ok (is_zero (int m r)) (is_zero (Form.int a r)) to (ap is_zero (int_is code s T m a same r))
       single (JumpIfNull r to) one_turn is k finds quiet tried = Single.jumps_if code s statements T m a cost one rest same pc running fi fr int_ok ref_ok (ref m r == 0) (is_null (Form.ref a r)) to (null_at code s T m a same r)
@@ -211,17 +201,17 @@ module _ (code : Code) (s : Shape) (statements : List Instr) (good : IsGuarded (
           Calling.calls code s statements T m a cost one rest same pc running f ints refs site w.few (call_ints ints k.writes.0) (call_refs refs k.writes.1) (ap (λ i. step p i a) is)
       single (Return site) one_turn is k finds quiet tried = Calling.returns code s statements T m a cost one rest same pc running site w.some (ap (λ i. step p i a) is)
       single (ChkNull r site) one_turn is k finds quiet tried =
-          Single.is_asserted code s statements T m a cost one rest same pc running fi fr int_ok ref_ok (not (ref m r == 0)) (not (is_null (Form.ref a r))) traps.NullPointer site (ap not (null_at code s T m a same r)) (ap (λ i. step p i a) is)
+          Single.is_asserted code s statements T m a cost one rest same pc running fi fr int_ok ref_ok (not (ref m r == 0)) (not (is_null (Form.ref a r))) Trap.NullPointer site (ap not (null_at code s T m a same r)) (ap (λ i. step p i a) is)
       single (ChkHeld cell site) one_turn is k finds quiet tried =
-          Single.is_asserted code s statements T m a cost one rest same pc running fi fr int_ok ref_ok _ (Form.is_held a.held (Form.cell_at p a cell)) traps.MutexNotHeld site
+          Single.is_asserted code s statements T m a cost one rest same pc running fi fr int_ok ref_ok _ (Form.is_held a.held (Form.cell_at p a cell)) Trap.MutexNotHeld site
           (Single.mutex_held code s statements T m a cost one rest same pc running fi fr int_ok ref_ok good.apart cell finds) (ap (λ i. step p i a) is)
       single (ChkNotHeld cell site) one_turn is k finds quiet tried =
-          Single.is_asserted code s statements T m a cost one rest same pc running fi fr int_ok ref_ok _ (not (Form.is_held a.held (Form.cell_at p a cell))) traps.MutexAlreadyHeld site
+          Single.is_asserted code s statements T m a cost one rest same pc running fi fr int_ok ref_ok _ (not (Form.is_held a.held (Form.cell_at p a cell))) Trap.MutexAlreadyHeld site
           (ap not (Single.mutex_held code s statements T m a cost one rest same pc running fi fr int_ok ref_ok good.apart cell finds)) (ap (λ i. step p i a) is)
       single (ChkPositive r site) one_turn is k finds quiet tried =
-          Single.is_asserted code s statements T m a cost one rest same pc running fi fr int_ok ref_ok (is_positive (int m r)) (is_positive (Form.int a r)) traps.SizeNotPositive site (ap is_positive (int_is code s T m a same r)) (ap (λ i. step p i a) is)
+          Single.is_asserted code s statements T m a cost one rest same pc running fi fr int_ok ref_ok (is_positive (int m r)) (is_positive (Form.int a r)) Trap.SizeNotPositive site (ap is_positive (int_is code s T m a same r)) (ap (λ i. step p i a) is)
       single (ChkRoom site) one_turn is k finds quiet tried =
-          Single.is_asserted code s statements T m a cost one rest same pc running fi fr int_ok ref_ok (nat_lt (length m.own.held) 16) (nat_lt (length a.held) 16) traps.TooManyLocks site
+          Single.is_asserted code s statements T m a cost one rest same pc running fi fr int_ok ref_ok (nat_lt (length m.own.held) 16) (nat_lt (length a.held) 16) Trap.TooManyLocks site
           (ap (λ n. nat_lt n 16) (log_length _ _ a.held m.own.held same.in_log)) (ap (λ i. step p i a) is)
       single (ChkLock cell site) one_turn is k finds quiet tried =
           Single.locks_checked code s statements T m a cost one rest same pc running fi fr int_ok ref_ok good.apart (is_of_null m cell) (Form.is_of_null a cell) (object m cell) (place m cell) (Form.cell_at p a cell) site (null_cell code s T m a same cell)
@@ -235,9 +225,9 @@ module _ (code : Code) (s : Shape) (statements : List Instr) (good : IsGuarded (
       single (GlobalBounds r elements cells field site) one_turn is k finds quiet tried =
           Single.indexes code s statements T m a cost one rest same pc running fi fr int_ok ref_ok r (int m r) (Form.int a r) cells field site elements elements (int_is code s T m a same r) refl k.few k.writes (ap (λ i. step p i a) is)
       single (ChkRead cell site) one_turn is k finds quiet tried =
-          Single.checks code s statements T m a cost one rest same pc running fi fr int_ok ref_ok kinds.Read (granule_at s (granule_of (place m cell))) site found (Form.cell_at p a cell) (ap (λ i. step p i a) is)
+          Single.checks code s statements T m a cost one rest same pc running fi fr int_ok ref_ok Kind.Read (granule_at s (granule_of (place m cell))) site found (Form.cell_at p a cell) (ap (λ i. step p i a) is)
       single (ChkWrite cell site) one_turn is k finds quiet tried =
-          Single.checks code s statements T m a cost one rest same pc running fi fr int_ok ref_ok kinds.Write (granule_at s (granule_of (place m cell))) site found (Form.cell_at p a cell) (ap (λ i. step p i a) is)
+          Single.checks code s statements T m a cost one rest same pc running fi fr int_ok ref_ok Kind.Write (granule_at s (granule_of (place m cell))) site found (Form.cell_at p a cell) (ap (λ i. step p i a) is)
       single (Load r cell site) one_turn is k finds quiet tried = Asking.loads code s statements T m a cost one rest same pc running fi fr int_ok ref_ok r cell site found k.writes
       single (Store r cell site) one_turn is k finds quiet tried = Asking.stores code s statements T m a cost one rest same pc running fi fr int_ok ref_ok r cell site
       single (LoadRef cell site) one_turn is k finds quiet tried = Asking.loads_ref code s statements T m a cost one rest same pc running fi fr int_ok ref_ok cell site found finds
@@ -256,20 +246,20 @@ module _ (code : Code) (s : Shape) (statements : List Instr) (good : IsGuarded (
       single (TakeLocal r from site) one_turn is k finds quiet tried = Asking.takes_local code s statements T m a cost one rest same pc running fi fr int_ok ref_ok r from site found k.writes.0 k.writes.1
       single (TestSole r site) one_turn is k finds quiet tried = Single.tests_sole code s statements T m a cost one rest same pc running fi fr int_ok ref_ok (Form.ref a r) site found (ap (λ i. step p i a) is)
       single (Give r site) one_turn is k finds quiet tried =
-          Asking.tells code s statements T m a cost one rest same pc running fi fr int_ok ref_ok site _ (acts.Give (Form.ref a r) (Form.object_mode p a site))
-          (ap (λ v. acts.Give v (mode_of code m (made_cell 0 0) (place_at code site).mode)) (sym (ref_is code s T m a same r).is) ∙ ap (acts.Give (Form.ref a r)) (sym (mode_is code s T m a same statements (made_cell 0 0) (place_at code site).mode)))
+          Asking.tells code s statements T m a cost one rest same pc running fi fr int_ok ref_ok site _ (Act.Give (Form.ref a r) (Form.object_mode p a site))
+          (ap (λ v. Act.Give v (mode_of code m (made_cell 0 0) (place_at code site).mode)) (sym (ref_is code s T m a same r).is) ∙ ap (Act.Give (Form.ref a r)) (sym (mode_is code s T m a same statements (made_cell 0 0) (place_at code site).mode)))
           (goes m) same refl refl refl
       single (Lock cell site) one_turn is k finds quiet tried = Asking.locks code s statements T m a cost one rest same pc running fi fr int_ok ref_ok good.apart cell site found finds k.writes tried
       single (Unlock r cell site) one_turn is k finds quiet tried = Asking.unlocks code s statements T m a cost one rest same pc running fi fr int_ok ref_ok good.apart r cell site finds k.writes
       single (Join r site) one_turn is k finds quiet tried = Asking.joins code s statements T m a cost one rest same pc running fi fr int_ok ref_ok r site found (int m r) (sym (int_is code s T m a same r)) is quiet tried
       single (Print r site) one_turn is k finds quiet tried =
-          Asking.tells code s statements T m a cost one rest same pc running fi fr int_ok ref_ok site (acts.Print (int m r)) (acts.Print (Form.int a r)) (ap acts.Print (sym (int_is code s T m a same r))) _ same refl refl refl
+          Asking.tells code s statements T m a cost one rest same pc running fi fr int_ok ref_ok site (Act.Print (int m r)) (Act.Print (Form.int a r)) (ap Act.Print (sym (int_is code s T m a same r))) _ same refl refl refl
       single (Start site) one_turn is k finds quiet tried = absurd k.leads
       single (CondEnter cell site) one_turn is k finds quiet tried =
-          Asking.tells code s statements T m a cost one rest same pc running fi fr int_ok ref_ok site (acts.Enter (cell_at code m cell)) (acts.Enter (Form.cell_at p a cell)) (ap acts.Enter (sym (cell_is code s T m a same statements cell))) (goes m) same refl refl refl
+          Asking.tells code s statements T m a cost one rest same pc running fi fr int_ok ref_ok site (Act.Enter (cell_at code m cell)) (Act.Enter (Form.cell_at p a cell)) (ap Act.Enter (sym (cell_is code s T m a same statements cell))) (goes m) same refl refl refl
       single (CondWait cell site) one_turn is k finds quiet tried = Asking.wakes code s statements T m a cost one rest same pc running fi fr int_ok ref_ok cell site found tried
       single (CondBroadcast cell site) one_turn is k finds quiet tried =
-          Asking.tells code s statements T m a cost one rest same pc running fi fr int_ok ref_ok site (acts.Broadcast (cell_at code m cell)) (acts.Broadcast (Form.cell_at p a cell)) (ap acts.Broadcast (sym (cell_is code s T m a same statements cell))) (goes m) same refl refl refl
+          Asking.tells code s statements T m a cost one rest same pc running fi fr int_ok ref_ok site (Act.Broadcast (cell_at code m cell)) (Act.Broadcast (Form.cell_at p a cell)) (ap Act.Broadcast (sym (cell_is code s T m a same statements cell))) (goes m) same refl refl refl
       single (New r count cells site) one_turn is k finds quiet tried = absurd one_turn
       single (Clear r cells) one_turn is k finds quiet tried = absurd one_turn
       single (Free r layout site) one_turn is k finds quiet tried = absurd one_turn

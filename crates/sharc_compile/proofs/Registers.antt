@@ -1,10 +1,6 @@
 -- Registers and references of code beside those of guarded code.
-use Rattle.std.proofs.{Common.{◌≡◌, ℕ, ℤ, zero, suc, pos, ◌+◌, ◌*◌, ◌^◌, ◌<◌, ◌&&◌, false, List, refl, sym, ap, ◌∙◌, subst, ⊎_elim, arith, slice_index, slice_index_or, slice_set, ◌==◌, Some}, lemmas.Bool.Decides.nat_tests, lemmas.Bool.cases_eq, lemmas.List.{length-set, get_or-set_same, get_or-set_other}}
-use Rattle.std.specs.Prelude.{nat_eq, int_le}
-use Rattle.sharc_code.specs.{Runs.put, Says.{reference, number_of, lock_through, made_cell}}
-use Rattle.sharc_meaning.specs.{Cells.through, Reference.{is_null, number_of as number_in, elements_of}}
-use Rattle.sharc_compile.specs.{Consistent.{Elements, IsNumber}, Related.{AreInts, IsReference, AreRefs}}
-use Rattle.sharc_lemmas.proofs.Numbers.{ne_eq, eq_refl}
+use Rattle.sharc_compile.proofs.Imports.{◌≡◌, ℕ, ℤ, zero, suc, pos, ◌+◌, ◌*◌, ◌^◌, ◌<◌, ◌&&◌, false, List, refl, sym, ap, ◌∙◌, subst, ⊎_elim, arith, slice_index, get_or as slice_index_or, slice_set, ◌==◌, Some, nat_tests, cases_eq, length-set, get_or-set_same, get_or-set_other, nat_eq, int_le, put, reference, lock_through, made_cell, through, is_null, number_of as number_in, elements_of, Elements, IsNumber, AreInts, IsReference, AreRefs, ne_eq, eq_refl}
+use Rattle.sharc_code.specs.Says.{number_of}
 
 -- ---- functions changed at one place
 pub put_same : {A : Type 0} (f : ℕ → A) (i : ℕ) (v : A) → put f i v i ≡ v

@@ -1,13 +1,6 @@
 -- What is the same in a machine of code and in a thread of guarded code, and stays so where both write the same.
-use Rattle.std.proofs.{Common.{◌≡◌, ℕ, ℤ, ◌+◌, ◌-◌, ◌*◌, ◌<◌, inl, inr, List, refl, sym, ap, ◌∙◌, subst, arith, slice_index, slice_index_or, slice_set, ◌==◌}, lemmas.Bool.lt-ltb}
-use Rattle.sharc_tree.specs.declared.event.CellAt.{CellAt}
-use Rattle.sharc_tree.specs.declared.event.CellMode.TheVariants as modes
-use Rattle.sharc_code.specs.{declared.code.Code.Code, declared.code.PlaceMode.PlaceMode, declared.code.PlaceMode.TheVariants.{Private, Readonly, Racy, Dynamic, LockedGlobal, LockedSibling, LockedThrough, LockedLoaded}, declared.instr.Cell.Cell, declared.instr.Cell.TheVariants.{Global, GlobalAt, Object as InObject, ObjectAt}, declared.instr.Instr.Instr, declared.shape.Shape.Shape, declared.state.TheConstants.FRAMES, Arithmetic.word_of, Layout.{first_cell, words_of, word_at}, Machine.{Machine, int, ref, set_int, set_ref, place, object, is_of_null}, Path.{most_ints, most_refs}, Says.{cell_at, mode_of, no_global, made_cell}, Ranges.IsInGlobal}
-use Rattle.sharc_meaning.specs.Reference.{NULL, is_null, number_of}
+use Rattle.sharc_compile.proofs.{Imports.{◌≡◌, ℕ, ℤ, ◌+◌, ◌-◌, ◌*◌, ◌<◌, inl, inr, List, refl, sym, ap, ◌∙◌, subst, arith, slice_index, get_or as slice_index_or, slice_set, ◌==◌, lt-ltb, CellAt, CellMode, Code, PlaceMode, Private, Readonly, Racy, Dynamic, LockedGlobal, LockedSibling, LockedThrough, LockedLoaded, Cell, Global, GlobalAt, InObject, ObjectAt, Instr, Shape, FRAMES, word_of, first_cell, words_of, word_at, Machine, int, ref, set_int, set_ref, place, object, is_of_null, most_ints, most_refs, cell_at, mode_of, no_global, made_cell, IsInGlobal, NULL, is_null, number_of, Program, Thread, program_over, Elements, Has, IsThere, AreInts, AreRefs, IsReference, IsCell, Same}, Registers.{int_written, ref_written, no_reference, retabled, null_of, number_from, through_is}}
 use Rattle.sharc_guard.specs.Machine as Form
-use Rattle.sharc_guard.specs.Machine.{Program, Thread}
-use Rattle.sharc_compile.specs.{Generated.program_over, Consistent.{Elements, Has, IsThere}, Related.{AreInts, AreRefs, IsReference, IsCell, Same}}
-use Rattle.sharc_compile.proofs.Registers.{int_written, ref_written, no_reference, retabled, null_of, number_from, through_is}
 
 abbrev pub all_ints : Code → ℕ
 all_ints code = FRAMES * most_ints code.functions.items
@@ -106,8 +99,8 @@ module _ (code : Code) (s : Shape) (T : Elements) (m : Machine) (a : Thread) (h 
     mode_is c Dynamic = refl
     mode_is c (LockedGlobal g place) = refl
     mode_is c (LockedSibling field mutex) = refl
-    mode_is c (LockedThrough r place) = ap modes.Locked (through_is T (ref m r) place (Form.ref a r) (ref_is r))
-    mode_is c LockedLoaded = ap modes.Locked (through_is T m.pending 0 a.pending h.loaded)
+    mode_is c (LockedThrough r place) = ap CellMode.Locked (through_is T (ref m r) place (Form.ref a r) (ref_is r))
+    mode_is c LockedLoaded = ap CellMode.Locked (through_is T m.pending 0 a.pending h.loaded)
 
     -- a global's cell is at its place
     in_global : (g place : ℕ) → IsInGlobal code.globals.items g place → IsCell code.globals.items 0 place (Form.global_at p g place)

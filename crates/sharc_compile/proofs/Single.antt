@@ -1,17 +1,7 @@
 -- The statements of one turn, kind by kind.
-use Rattle.std.proofs.{Common.{min, ◌^◌, ◌*◌, ◌-◌, ◌≡◌, ℕ, ℤ, pos, negsuc, ◌+◌, ◌<◌, ◌≤◌, Bool, true, false, ◌&&◌, List, refl, sym, ap, ◌∙◌, subst, arith, is_some, ◌==◌, nat_lt, Option, None, Result, Ok, Err}, lemmas.List.append-nil, lemmas.Bool.ltb-true, lemmas.Int.to_z_pos}
-use Rattle.std.specs.{Prelude.{int_le, if◌then◌else◌}, Int.w64}
-use Rattle.sharc_tree.specs.{declared.event.CellAt.CellAt, declared.event.SourceEvent.SourceEvent, declared.trap.Trap.Trap}
-use Rattle.sharc_tree.specs.declared.trap.Trap.TheVariants as traps
-use Rattle.sharc_heap.specs.{declared.shadow_word.Kind.Kind, Accesses.{note_of, site_at}, ShadowWord.epoch_of, Functions.{conflicts_in, noted as noted_in}}
-use Rattle.sharc_locks.specs.HeldLog.{object_of}
-use Rattle.sharc_code.specs.{declared.code.Code.Code, declared.code.GlobalCells.GlobalCells, declared.instr.Cell.Cell, declared.instr.Instr.Instr, declared.shape.Shape.Shape, declared.state.TurnState.TheVariants.Runs, declared.state.Stage.TheVariants.Rests, declared.state.Stop.TheVariants.{Conflict, NoLock, NotSole}, Arithmetic.{int_of, truth}, Layout.{first_cell, cell_word}, Machine.{Machine, ref, set_int, set_ref, move_ref, goes, goes_to, trapped, stopped, asserts, with_result, indexed, field_of, place, object, word, is_held, wrote, checked, with_note, lock_checked, tested, with_own}}
-use Rattle.sharc_meaning.specs.Reference.{NULL}
+use Rattle.sharc_compile.proofs.{Imports.{min, ◌^◌, ◌*◌, ◌-◌, ◌≡◌, ℕ, ℤ, pos, negsuc, ◌+◌, ◌<◌, ◌≤◌, Bool, true, false, ◌&&◌, List, refl, sym, ap, ◌∙◌, subst, arith, is_some, ◌==◌, nat_lt, Option, None, Result, Ok, Err, append-nil, ltb-true, to_z_pos, int_le, if◌then◌else◌, w64, CellAt, SourceEvent, Trap, Kind, note_of, site_at, epoch_of, conflicts_in, noted_in, object_of, Code, GlobalCells, Cell, Instr, Shape, Runs, Rests, Conflict, NoLock, NotSole, int_of, truth, first_cell, cell_word, Machine, ref, set_int, set_ref, move_ref, goes, goes_to, trapped, stopped, asserts, with_result, indexed, field_of, place, object, word, wrote, checked, with_note, lock_checked, tested, with_own, NULL, Program, Thread, Turn, Goes, Checks, Halts, Running, turn, program_over, Elements, IsMutex, IsApart, Same, IsReference, IsCell, times_le}, Registers.same_refs, Logs.{Apart, held_is}, Sames.{all_ints, all_refs, ref_is, set_int_same, set_ref_same, null_same, is_cell, word_is}, Turns.{Turned, goes_on, passes, halts, trapped_now, plain, asserted}}
+use Rattle.sharc_code.specs.Machine.{is_held}
 use Rattle.sharc_guard.specs.Machine as Form
-use Rattle.sharc_guard.specs.Machine.{Program, Thread, Turn, Goes, Checks, Halts, Running, turn}
-use Rattle.sharc_compile.specs.{Generated.program_over, Consistent.{Elements, IsMutex, IsApart}, Related.{Same, IsReference, IsCell}}
-use Rattle.sharc_compile.proofs.{Registers.same_refs, Logs.{Apart, held_is}, Sames.{all_ints, all_refs, ref_is, set_int_same, set_ref_same, null_same, is_cell, word_is}, Turns.{Turned, goes_on, passes, halts, trapped_now, plain, asserted}}
-use Rattle.sharc_lemmas.proofs.Numbers.{times_low as times_le}
 
 module _ (code : Code) (s : Shape) (statements : List Instr) (T : Elements) (m : Machine) (a : Thread) (cost : ℕ) (one : cost ≤ 1) (rest : m.own.stage ≡ Rests)
     (same : Same code s T m a) (pc : a.pc ≡ m.at.pc) (running : a.phase ≡ Running)
@@ -82,14 +72,14 @@ module _ (code : Code) (s : Shape) (statements : List Instr) (T : Elements) (m :
       (subst (λ e'. Done (Form.indexed a r z cells field site e') (indexed m r z cells field site elements) None) (sym ee)
       (each z (is ∙ ap (λ z. Form.indexed a r z cells field site elements') ez ∙ ap (Form.indexed a r z cells field site) ee)))
     where
-      within : (i : ℕ) (b : Bool) → nat_lt i elements ≡ b → turn p a ≡ (if b then Form.goes (Form.set_int a r (pos (i * cells + field))) else Halts (Form.Stopped traps.IndexOutOfBounds site))
-          → Done (if b then Form.goes (Form.set_int a r (pos (i * cells + field))) else Halts (Form.Stopped traps.IndexOutOfBounds site)) (if b then goes (set_int m r (int_of (field_of i cells field))) else trapped m traps.IndexOutOfBounds site) None
+      within : (i : ℕ) (b : Bool) → nat_lt i elements ≡ b → turn p a ≡ (if b then Form.goes (Form.set_int a r (pos (i * cells + field))) else Halts (Form.Stopped Trap.IndexOutOfBounds site))
+          → Done (if b then Form.goes (Form.set_int a r (pos (i * cells + field))) else Halts (Form.Stopped Trap.IndexOutOfBounds site)) (if b then goes (set_int m r (int_of (field_of i cells field))) else trapped m Trap.IndexOutOfBounds site) None
       within i true e is = writes_int r _ _ (index_is i elements cells field e few) lt
-      within i false e is = stops_with traps.IndexOutOfBounds site is
+      within i false e is = stops_with Trap.IndexOutOfBounds site is
 
       each : (z : ℤ) → turn p a ≡ Form.indexed a r z cells field site elements → Done (Form.indexed a r z cells field site elements) (indexed m r z cells field site elements) None
       each (pos i) is = within i (nat_lt i elements) refl is
-      each (negsuc i) is = stops_with traps.IndexOutOfBounds site is
+      each (negsuc i) is = stops_with Trap.IndexOutOfBounds site is
 
   -- ---- checks
   passed : (check : Form.Check) (site : ℕ) (m' : Machine) → Same code s T m' a → m'.at.pc ≡ m.at.pc + 1 → m'.at.state ≡ Runs → m'.own.stage ≡ m.own.stage → Done (Checks check site (Form.next a)) m' None
@@ -138,5 +128,5 @@ module _ (code : Code) (s : Shape) (statements : List Instr) (T : Elements) (m :
         held false q is = halts code s statements T m a cost one rest same pc running _ _ 1 (c, record { next = Form.next a; checks = is }, q)
 
         each : (b : Bool) → (b ≡ false → Form.is_held a.held c ≡ is_held m (cell_word s cell)) → turn p a ≡ Form.lock_checked a b c site → Done (Form.lock_checked a b c site) (lock_checked m b (cell_word s cell) site) None
-        each true k is = stops_with traps.NullPointer site is
+        each true k is = stops_with Trap.NullPointer site is
         each false k is = held (is_held m (cell_word s cell)) (k refl) is

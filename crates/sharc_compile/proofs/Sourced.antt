@@ -1,20 +1,8 @@
 -- From flat code to the source.
-use Rattle.std.proofs.{Common.{◌≡◌, ℕ, zero, suc, ℤ, pos, negsuc, ◌+◌, ◌-◌, ◌*◌, ◌<◌, ◌≤◌, ◌⊎◌, inl, inr, Bool, true, false, not, List, [], ◌∷◌, ◌++◌, length, map, refl, sym, ap, ◌∙◌, subst, arith, Some, None, Option, Ok, Err, Result, nat_lt, cond, slice_get, append_assoc, append-nil}, lemmas.Bool.cases_lt, lemmas.List.map-append}
-use Rattle.sharc_tree.specs.{declared.event.Act.Act, declared.event.CellAt.CellAt, declared.event.CellMode.CellMode, declared.event.SourceEvent.SourceEvent, declared.token.Site.Site, declared.trap.Trap.Trap}
-use Rattle.sharc_tree.specs.declared.event.Act.TheVariants as acts
-use Rattle.sharc_tree.specs.declared.event.Taken.TheVariants as taken
-use Rattle.sharc_tree.specs.declared.trap.Trap.TheVariants as traps
-use Rattle.sharc_mode.specs.Moded.{Assignment}
-use Rattle.sharc_meaning.specs.{declared.given.GivenUp.GivenUp, declared.given.GivenUp.TheVariants.{Emptied, Released, Replaced}, Arithmetic.is_zero, Events.{held_mutexes, holds_mutex}, Reference.{is_null, elements_of, number_of}, State.{Outcome, answer_of, ended, event_of, stopped, spent}, Statements.is_positive, Runs.answers_of}
+use Rattle.sharc_compile.proofs.Imports.{◌≡◌, ℕ, zero, suc, ℤ, pos, negsuc, ◌+◌, ◌-◌, ◌*◌, ◌<◌, ◌≤◌, ◌⊎◌, inl, inr, Bool, true, false, not, List, [], ◌∷◌, ◌++◌, length, map, refl, sym, ap, ◌∙◌, subst, arith, Some, None, Option, Ok, Err, Result, nat_lt, cond, slice_get, append_assoc, append-nil, cases_lt, map-append, Act, CellAt, CellMode, SourceEvent, Site, Trap, Taken, Assignment, GivenUp, Emptied, Released, Replaced, held_mutexes, holds_mutex, is_null, elements_of, number_of, Outcome, answer_of, ended, spent, answers_of, computed, negated, holds, Code, GlobalCells, Cell, TurnState, Runs, Tries, Stopped, Ended, Stop, Conflict, NoLock, NotSole, Trapped, Machine, place_at, Parameter, Register, Op, Spot, Flat, At, Caller, Came, asks, halts, goes_on, next, over_lines, stops, gives_up, take_kind_of, cell_mode_of, accesses, lock_is_null, takes_local, op_turn, end_turn, line_turn, on_turn, exec, start, first_at, with_event, at_after, asked, PathsAreRuns, AsksTheSame, MayStart, Guarded, Resolved, by, begins, program_of, WantsAt, StopsFor, IsOverFor, FollowsFlat, WantsEventAt, IsStopOf, IsOverAs, IsToldBy, FollowsSource}
+use Rattle.sharc_meaning.specs.{Arithmetic.is_zero, State.{event_of, stopped}, Statements.is_positive}
 use Rattle.sharc_meaning.specs.Meaning as Meaning
-use Rattle.sharc_code.specs.{Arithmetic.{computed, negated, holds}, declared.code.Code.Code, declared.code.GlobalCells.GlobalCells, declared.instr.Cell.Cell, declared.state.TurnState.TurnState, declared.state.TurnState.TheVariants.{Runs, Tries, Stopped, Ended}, declared.state.Stop.Stop, declared.state.Stop.TheVariants.{Conflict, NoLock, NotSole, Trap as Trapped}, Machine.Machine, Says.place_at, declared.code.Parameter.Parameter, declared.instr.Register.Register}
-use Rattle.sharc_flat.specs.{declared.op.Op.Op, declared.op.Spot.Spot, Machine.{Flat, At, Caller, Came, Turn, goes, asks, halts, int, ref, goes_on, next, over_lines, stops, asserts, with_result, set_int, set_ref, gives_up, take_kind_of, cell_at, cell_mode_of, accessed, accesses, lock_is_null, indexed, takes_local, returned, called, op_turn, end_turn, line_turn, turn, on_turn, exec, start, begun, first_at, function_of, handed, with_event, without_base}, Path.{after, at_after, may_go, asked, asked_by, IsPath, PathsAreRuns}, Correct.{AsksTheSame, MayStart}}
-use Rattle.sharc_flat.specs.declared.op.Op.TheVariants as op
-use Rattle.sharc_code.specs.declared.code.Parameter.TheVariants as parameters
-use Rattle.sharc_code.specs.declared.instr.Cell.TheVariants as cells
-use Rattle.sharc_code.specs.declared.instr.Register.TheVariants as registers
-use Rattle.sharc_guard.specs.{declared.guarded.Guarded.Guarded, Correct.Resolved}
-use Rattle.sharc_compile.specs.{Correct.{by, begins}, Generated.program_of, Coded.{WantsAt, StopsFor, IsOverFor, FollowsFlat}, Source.{WantsEventAt, IsStopOf, IsOverAs, IsToldBy, FollowsSource}}
+use Rattle.sharc_flat.specs.{Machine.{Turn, goes, int, ref, asserts, with_result, set_int, set_ref, cell_at, accessed, indexed, returned, called, turn, begun, function_of, handed, without_base}, Path.{after, may_go, asked_by, IsPath}}
 
 -- ---- events, and what is given up
 -- no event is reported, and nothing is taken back of what was given up
@@ -43,7 +31,7 @@ result_quiet i spot m (Ok v) = (refl, [], same_given m)
 result_quiet i spot m (Err code) = tt
 
 indexed_quiet : (i cells field : ℕ) (v : ℤ) (elements : ℕ) (spot : Spot) (m : At) → IsQuiet m (indexed i cells field v elements spot m)
-indexed_quiet i cells field (pos n) elements spot m = cond_quiet (nat_lt n elements) (goes_on (set_int i (pos (n * cells + field)) m)) (stops traps.IndexOutOfBounds spot) m (refl, [], same_given m) tt
+indexed_quiet i cells field (pos n) elements spot m = cond_quiet (nat_lt n elements) (goes_on (set_int i (pos (n * cells + field)) m)) (stops Trap.IndexOutOfBounds spot) m (refl, [], same_given m) tt
 indexed_quiet i cells field (negsuc n) elements spot m = tt
 
 skip_quiet : (b : Bool) (n : ℕ) (m : At) → IsStill m (cond b (over_lines n m) (next m))
@@ -53,12 +41,12 @@ skip_quiet false n m = (refl, [], same_given m)
 accesses_quiet : (globals : List GlobalCells) (cell : Cell) (spot : Spot) (act : CellAt → CellMode → Act) (then_ : CellAt → ℤ → At → At) (m : At) → ((c : CellAt) (v : ℤ) (n : At) → (then_ c v n).events ≡ n.events)
     → IsQuiet m (accesses globals cell spot act then_ m)
 accesses_quiet globals cell spot act then_ m k =
-    cond_quiet (lock_is_null m spot spot.mode) (stops traps.NullPointer spot)
+    cond_quiet (lock_is_null m spot spot.mode) (stops Trap.NullPointer spot)
     (asks m spot.site (act (cell_at globals m cell) (cell_mode_of globals m (cell_at globals m cell) spot.mode)) (pos 0) (λ v n. accessed (next (then_ (cell_at globals m cell) v n)))) m tt
     ((refl, [], same_given m), refl, k (cell_at globals m cell))
 
 returned_quiet : (flat : Flat) (frames : List Caller) (spot : Spot) (m : At) → IsQuiet m (returned flat frames spot m)
-returned_quiet flat [] spot m = cond_quiet (not (nat_lt 0 (length (held_mutexes m.events)))) (goes (record m { pc = length flat.lines })) (stops traps.ReturnWithLockHeld spot) m (refl, [], same_given m) tt
+returned_quiet flat [] spot m = cond_quiet (not (nat_lt 0 (length (held_mutexes m.events)))) (goes (record m { pc = length flat.lines })) (stops Trap.ReturnWithLockHeld spot) m (refl, [], same_given m) tt
 returned_quiet flat (c ∷ rest) spot m = (refl, [], same_given m)
 
 takes_quiet : (r x : ℕ) (spot : Spot) (m : At) (b : Bool) → IsQuiet m (takes_local r x spot m b)
@@ -66,51 +54,51 @@ takes_quiet r x spot m true = (refl, [], same_given m)
 takes_quiet r x spot m false = ((refl, [], same_given m), refl, λ v n. refl)
 
 base_events : (cell : Cell) (n : At) → (without_base cell n).events ≡ n.events
-base_events (cells.Global g place) n = refl
-base_events (cells.GlobalAt g i) n = refl
-base_events (cells.Object r k) n = refl
-base_events (cells.ObjectAt r i) n = refl
+base_events (Cell.Global g place) n = refl
+base_events (Cell.GlobalAt g i) n = refl
+base_events (Cell.Object r k) n = refl
+base_events (Cell.ObjectAt r i) n = refl
 
 handed_events : (from : Register) (n : At) → (handed from n).events ≡ n.events
-handed_events (registers.Int i) n = refl
-handed_events (registers.Reference r) n = refl
+handed_events (Register.Int i) n = refl
+handed_events (Register.Reference r) n = refl
 
 op_quiet : (flat : Flat) (o : Op) (m : At) → IsQuiet m (op_turn flat o m)
-op_quiet flat (op.Compute width o i a b spot) m = result_quiet i spot m (computed width o (int m a) (int m b))
-op_quiet flat (op.Negate width i a spot) m = result_quiet i spot m (negated width (int m a))
-op_quiet flat (op.ChkWidth width i spot) m = asserts_quiet (holds width (int m i)) traps.OutOfRange spot m
-op_quiet flat (op.SkipIfZero i n) m = skip_quiet (is_zero (int m i)) n m
-op_quiet flat (op.SkipIfNull r n) m = skip_quiet (is_null (ref m r)) n m
-op_quiet flat (op.Call f ints refs spot) m = cond_quiet (nat_lt (length m.frames) 255) (goes (called flat f ints refs m)) (stops traps.CallDepth spot) m (refl, [], same_given m) tt
-op_quiet flat (op.Return spot) m = returned_quiet flat m.frames spot m
-op_quiet flat (op.ChkNull r spot) m = asserts_quiet (not (is_null (ref m r))) traps.NullPointer spot m
-op_quiet flat (op.ChkPositive i spot) m = asserts_quiet (is_positive (int m i)) traps.SizeNotPositive spot m
-op_quiet flat (op.ChkHeld cell spot) m = asserts_quiet (holds_mutex m.events (cell_at flat.globals m cell)) traps.MutexNotHeld spot m
-op_quiet flat (op.ChkNotHeld cell spot) m = asserts_quiet (not (holds_mutex m.events (cell_at flat.globals m cell))) traps.MutexAlreadyHeld spot m
-op_quiet flat (op.ChkRoom spot) m = asserts_quiet (nat_lt (length (held_mutexes m.events)) 16) traps.TooManyLocks spot m
-op_quiet flat (op.Bounds i r cells field spot) m = indexed_quiet i cells field (int m i) (elements_of (ref m r)) spot m
-op_quiet flat (op.GlobalBounds i elements cells field spot) m = indexed_quiet i cells field (int m i) elements spot m
-op_quiet flat (op.Load i cell spot) m = accesses_quiet flat.globals cell spot acts.Read (λ c v. set_int i v) m (λ c v n. refl)
-op_quiet flat (op.Store i cell spot) m = accesses_quiet flat.globals cell spot (λ c mode. acts.Write c mode (int m i)) (λ c v n. n) m (λ c v n. refl)
-op_quiet flat (op.LoadRef r cell spot) m = accesses_quiet flat.globals cell spot acts.Read (λ c v. set_ref r v) m (λ c v n. refl)
-op_quiet flat (op.StoreRef r cell spot) m = accesses_quiet flat.globals cell spot (λ c mode. acts.Write c mode (ref m r)) (λ c v n. gives_up (Replaced c) (set_ref r (pos 0) n)) m (λ c v n. refl)
-op_quiet flat (op.TakeCell r cell spot) m = accesses_quiet flat.globals cell spot (λ c mode. acts.Take (taken.Cell c mode) (take_kind_of spot.at)) (λ c v. set_ref r v) m (λ c v n. refl)
-op_quiet flat (op.TakeLocal r x spot) m = takes_quiet r x spot m (is_null (ref m x))
-op_quiet flat (op.Pop r) m = (refl, Released (number_of (ref m r)) ∷ [], refl)
-op_quiet flat (op.Settle x from) m = (refl, Released (number_of (ref m x)) ∷ [], refl)
-op_quiet flat (op.Free r layout spot) m = ((refl, Emptied (number_of (ref m r)) ∷ [], refl), refl, λ v n. refl)
-op_quiet flat (op.LoadGuard cell spot) m = ((refl, [], same_given m), refl, λ v n. refl)
-op_quiet flat (op.New r count cells spot) m = ((refl, [], same_given m), refl, λ v n. refl)
-op_quiet flat (op.Give r cells spot) m = ((refl, [], same_given m), refl, λ v n. refl)
-op_quiet flat (op.Lock cell spot) m = ((refl, [], same_given m), refl, λ v n. base_events cell n)
-op_quiet flat (op.Unlock r cell spot) m = ((refl, [], same_given m), refl, λ v n. refl)
-op_quiet flat (op.CondEnter cell spot) m = ((refl, [], same_given m), refl, λ v n. refl)
-op_quiet flat (op.CondWait cell spot) m = ((refl, [], same_given m), refl, λ v n. refl)
-op_quiet flat (op.CondSignal cell spot) m = ((refl, [], same_given m), refl, λ v n. refl)
-op_quiet flat (op.CondBroadcast cell spot) m = ((refl, [], same_given m), refl, λ v n. refl)
-op_quiet flat (op.Spawn i f from spot) m = ((refl, [], same_given m), refl, λ v n. handed_events from n)
-op_quiet flat (op.Join i spot) m = ((refl, [], same_given m), refl, λ v n. refl)
-op_quiet flat (op.Print i spot) m = ((refl, [], same_given m), refl, λ v n. refl)
+op_quiet flat (Op.Compute width o i a b spot) m = result_quiet i spot m (computed width o (int m a) (int m b))
+op_quiet flat (Op.Negate width i a spot) m = result_quiet i spot m (negated width (int m a))
+op_quiet flat (Op.ChkWidth width i spot) m = asserts_quiet (holds width (int m i)) Trap.OutOfRange spot m
+op_quiet flat (Op.SkipIfZero i n) m = skip_quiet (is_zero (int m i)) n m
+op_quiet flat (Op.SkipIfNull r n) m = skip_quiet (is_null (ref m r)) n m
+op_quiet flat (Op.Call f ints refs spot) m = cond_quiet (nat_lt (length m.frames) 255) (goes (called flat f ints refs m)) (stops Trap.CallDepth spot) m (refl, [], same_given m) tt
+op_quiet flat (Op.Return spot) m = returned_quiet flat m.frames spot m
+op_quiet flat (Op.ChkNull r spot) m = asserts_quiet (not (is_null (ref m r))) Trap.NullPointer spot m
+op_quiet flat (Op.ChkPositive i spot) m = asserts_quiet (is_positive (int m i)) Trap.SizeNotPositive spot m
+op_quiet flat (Op.ChkHeld cell spot) m = asserts_quiet (holds_mutex m.events (cell_at flat.globals m cell)) Trap.MutexNotHeld spot m
+op_quiet flat (Op.ChkNotHeld cell spot) m = asserts_quiet (not (holds_mutex m.events (cell_at flat.globals m cell))) Trap.MutexAlreadyHeld spot m
+op_quiet flat (Op.ChkRoom spot) m = asserts_quiet (nat_lt (length (held_mutexes m.events)) 16) Trap.TooManyLocks spot m
+op_quiet flat (Op.Bounds i r cells field spot) m = indexed_quiet i cells field (int m i) (elements_of (ref m r)) spot m
+op_quiet flat (Op.GlobalBounds i elements cells field spot) m = indexed_quiet i cells field (int m i) elements spot m
+op_quiet flat (Op.Load i cell spot) m = accesses_quiet flat.globals cell spot Act.Read (λ c v. set_int i v) m (λ c v n. refl)
+op_quiet flat (Op.Store i cell spot) m = accesses_quiet flat.globals cell spot (λ c mode. Act.Write c mode (int m i)) (λ c v n. n) m (λ c v n. refl)
+op_quiet flat (Op.LoadRef r cell spot) m = accesses_quiet flat.globals cell spot Act.Read (λ c v. set_ref r v) m (λ c v n. refl)
+op_quiet flat (Op.StoreRef r cell spot) m = accesses_quiet flat.globals cell spot (λ c mode. Act.Write c mode (ref m r)) (λ c v n. gives_up (Replaced c) (set_ref r (pos 0) n)) m (λ c v n. refl)
+op_quiet flat (Op.TakeCell r cell spot) m = accesses_quiet flat.globals cell spot (λ c mode. Act.Take (Taken.Cell c mode) (take_kind_of spot.at)) (λ c v. set_ref r v) m (λ c v n. refl)
+op_quiet flat (Op.TakeLocal r x spot) m = takes_quiet r x spot m (is_null (ref m x))
+op_quiet flat (Op.Pop r) m = (refl, Released (number_of (ref m r)) ∷ [], refl)
+op_quiet flat (Op.Settle x from) m = (refl, Released (number_of (ref m x)) ∷ [], refl)
+op_quiet flat (Op.Free r layout spot) m = ((refl, Emptied (number_of (ref m r)) ∷ [], refl), refl, λ v n. refl)
+op_quiet flat (Op.LoadGuard cell spot) m = ((refl, [], same_given m), refl, λ v n. refl)
+op_quiet flat (Op.New r count cells spot) m = ((refl, [], same_given m), refl, λ v n. refl)
+op_quiet flat (Op.Give r cells spot) m = ((refl, [], same_given m), refl, λ v n. refl)
+op_quiet flat (Op.Lock cell spot) m = ((refl, [], same_given m), refl, λ v n. base_events cell n)
+op_quiet flat (Op.Unlock r cell spot) m = ((refl, [], same_given m), refl, λ v n. refl)
+op_quiet flat (Op.CondEnter cell spot) m = ((refl, [], same_given m), refl, λ v n. refl)
+op_quiet flat (Op.CondWait cell spot) m = ((refl, [], same_given m), refl, λ v n. refl)
+op_quiet flat (Op.CondSignal cell spot) m = ((refl, [], same_given m), refl, λ v n. refl)
+op_quiet flat (Op.CondBroadcast cell spot) m = ((refl, [], same_given m), refl, λ v n. refl)
+op_quiet flat (Op.Spawn i f from spot) m = ((refl, [], same_given m), refl, λ v n. handed_events from n)
+op_quiet flat (Op.Join i spot) m = ((refl, [], same_given m), refl, λ v n. refl)
+op_quiet flat (Op.Print i spot) m = ((refl, [], same_given m), refl, λ v n. refl)
 op_quiet flat _ m = (refl, [], same_given m)
 
 pub line_quiet : (flat : Flat) (o : Option Op) (m : At) → IsQuiet m (line_turn flat o m)
@@ -160,8 +148,8 @@ given_in flat m [] = []
 given_in flat m (x ∷ earlier) = given_by (turn flat (at_after flat m earlier)) x ∷ given_in flat m earlier
 
 again : (held : ℤ) (act : Act) (x : ℤ) → answer_of (λ token. held) act (answer_of (λ token. held) act x) ≡ answer_of (λ token. held) act x
-again held (acts.Take (taken.Cell c mode) kind) x = refl
-again held (acts.Take (taken.Local token) kind) x = refl
+again held (Act.Take (Taken.Cell c mode) kind) x = refl
+again held (Act.Take (Taken.Local token) kind) x = refl
 again held _ x = refl
 
 same_after : (m : At) (t : Turn) (x : ℤ) → after m t (given_by t x) ≡ after m t x
@@ -205,9 +193,9 @@ no_events : (flat : Flat) (f : ℕ) (v : ℤ) → (start flat f v).events ≡ []
 no_events flat f v = by (function_of flat f).parameter
   where
     by : (q : Parameter) → (begun q v (first_at flat f)).events ≡ []
-    by parameters.None = refl
-    by parameters.Int = refl
-    by parameters.Reference = refl
+    by Parameter.None = refl
+    by Parameter.Int = refl
+    by Parameter.Reference = refl
 
 -- ---- a path and its beginnings
 record Begins (flat : Flat) (m : At) (answers : List ℤ) (n : ℕ) : Type 0 where

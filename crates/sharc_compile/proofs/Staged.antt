@@ -1,20 +1,8 @@
 -- The statements of several turns, stage by stage.
-use Rattle.std.proofs.{Common.{◌≡◌, ℕ, ℤ, zero, suc, pos, ◌+◌, ◌*◌, ◌<◌, ◌≤◌, inl, inr, Bool, true, false, not, ◌||◌, List, [], ◌∷◌, ◌++◌, length, min, refl, sym, ap, ◌∙◌, subst, arith, ◌==◌, nat_lt, Option, Some, None}, lemmas.Bool.{ne_eqb, eq-eqb}, lemmas.List.append-nil}
-use Rattle.std.specs.Prelude.{nat_eq, nat_le, if◌then◌else◌}
-use Rattle.sharc_tree.specs.{declared.event.Act.Act, declared.event.SourceEvent.SourceEvent, declared.token.Site.Site}
-use Rattle.sharc_tree.specs.declared.event.Act.TheVariants as acts
+use Rattle.sharc_compile.proofs.{Imports.{◌≡◌, ℕ, ℤ, zero, suc, pos, ◌+◌, ◌*◌, ◌<◌, ◌≤◌, inl, inr, Bool, true, false, not, ◌||◌, List, [], ◌∷◌, ◌++◌, length, min, refl, sym, ap, ◌∙◌, subst, arith, ◌==◌, nat_lt, Option, Some, None, ne_eqb, eq-eqb, append-nil, nat_eq, nat_le, if◌then◌else◌, Act, SourceEvent, Site, THREADS, lowest_of, NewView, told, next_stage, try_from, after_cell, turn_of_stage, NewArguments, NewStage, Code, Layout, Cell, Register, Instr, New, Clear, Free, Spawn, Exit, CondSignal, Shape, Runs, Stage, Rests, Looks, Clears, Makes, Empties, Lowers, FreeLooks, FreeClears, Uncounts, Links, Names, Hands, Begins, Enters, Withdraws, WithdrawsFrom, Leaves, Wakes, Stop, Trapped as Trap, Machine, int, ref, set_int, set_ref, at_stage, rests, trapped, stopped, new_state, new, asks_new, after_new, made, looks, clear, data_granules, fields, largest, free, free_looks, empties, emptied, layout_at, spawn, withdraws, exit, wakes, signal, word, ends, function_of, goes_on_new, after, repeats, clears_cell, fails_in_new, reference, cell_at, mode_of, place_at, event_at, made_cell, argument_of, of_argument, new_event, in_new, in_free, in_spawn, in_exit, in_signal, nobody, own_event, HandedWithin, Program, Thread, Turn, Goes, Asks, Halts, Running, Leaving, Left, event_of, source_at, statement_at, turn, NULL, program_over, Elements, IsNew, IsNewIn, IsNewAt, Has, elements_told, Same, MatchesThread, IsAtStage, IsInNew, IsGoing, phase_of, phase_at, StopsAt, IsOver, Refuses, spent_at, spent_in_new, by}, Registers.number_is, Sames.{all_ints, all_refs, int_is, ref_is, cell_is, mode_is, set_int_same, set_ref_same, null_same, same_retabled}, Turns.{Turned, left_at}}
 use Rattle.sharc_tree.specs.declared.trap.Trap.TheVariants as traps
-use Rattle.sharc_word.specs.declared.step.TheConstants.{THREADS}
-use Rattle.sharc_locks.specs.Waiters.{lowest_of}
-use Rattle.sharc_heap.specs.{State.{NewView, told}, Stages.{next_stage, try_from, after_cell, turn_of_stage}, declared.arguments.NewArguments.NewArguments, declared.stage.NewStage.NewStage}
-use Rattle.sharc_heap.specs.declared.stage.NewStage.TheVariants as news
-use Rattle.sharc_code.specs.{declared.code.Code.Code, declared.code.Layout.Layout, declared.instr.Cell.Cell, declared.instr.Register.Register, declared.instr.Instr.Instr, declared.instr.Instr.TheVariants.{New, Clear, Free, Spawn, Exit, CondSignal}, declared.shape.Shape.Shape, declared.state.TurnState.TheVariants.Runs, declared.state.Stage.Stage, declared.state.Stage.TheVariants.{Rests, Looks, Clears, Makes, Empties, Lowers, FreeLooks, FreeClears, Uncounts, Links, Names, Hands, Begins, Enters, Withdraws, WithdrawsFrom, Leaves, Wakes}, declared.state.Stop.Stop, declared.state.Stop.TheVariants.Trap, Machine.{Machine, int, ref, set_int, set_ref, at_stage, rests, trapped, stopped, elements_of, new_state, new, asks_new, after_new, made, looks, clear, data_granules, fields, largest, free, free_looks, empties, emptied, layout_at, spawn, handed, withdraws, exit, wakes, signal, word, ends, function_of, goes_on_new}, Path.after, Paced.{repeats, clears_cell, fails_in_new}, Says.{reference, number_of, cell_at, mode_of, place_at, event_at, made_cell, argument_of, of_argument, new_event, in_new, in_free, in_spawn, in_exit, in_signal, nobody, own_event}}
-use Rattle.sharc_code.specs.declared.instr.Register.TheVariants as registers
-use Rattle.sharc_guard.specs.{Form.HandedWithin, Machine.{Program, Thread, Turn, Goes, Asks, Halts, Running, Leaving, Left, event_of, source_at, statement_at, turn}}
-use Rattle.sharc_meaning.specs.Reference.{NULL}
+use Rattle.sharc_code.specs.{Machine.{elements_of, handed}, Says.number_of}
 use Rattle.sharc_guard.specs.Machine as Form
-use Rattle.sharc_compile.specs.{Generated.program_over, Consistent.{Elements, IsNew, IsNewIn, IsNewAt, Has, elements_told}, Related.{Same, MatchesThread, IsAtStage, IsInNew, IsGoing, phase_of, phase_at, StopsAt, IsOver, Refuses, spent_at, spent_in_new}, Correct.by}
-use Rattle.sharc_compile.proofs.{Registers.number_is, Sames.{all_ints, all_refs, int_is, ref_is, cell_is, mode_is, set_int_same, set_ref_same, null_same, same_retabled}, Turns.{Turned, left_at}}
 
 module _ (code : Code) (s : Shape) (statements : List Instr) (T : Elements) (m : Machine) (a : Thread) (cost : ℕ) (one : cost ≤ 1)
     (same : Same code s T m a) (pc : a.pc ≡ m.at.pc)
@@ -151,20 +139,20 @@ module _ (code : Code) (s : Shape) (statements : List Instr) (T : Elements) (m :
   -- ---- Spawn
   module _ (r function : ℕ) (from : Register) (site : ℕ) (is : statement_at p a.pc ≡ Spawn r function from site) (running : a.phase ≡ Running) (lt : r < fi) (within : HandedWithin fr from) where
     abbrev spawning : Turn
-    spawning = Form.asks_at p a site (acts.Spawn function (Form.argument a from)) Form.given (λ x b. Form.next (Form.set_int (Form.handed b from) r x))
+    spawning = Form.asks_at p a site (Act.Spawn function (Form.argument a from)) Form.given (λ x b. Form.next (Form.set_int (Form.handed b from) r x))
 
     argument_is : (from : Register) → argument_of m from (T (of_argument m from)) ≡ Form.argument a from
-    argument_is (registers.Int k) = sym (int_is code s T m a same k)
-    argument_is (registers.Reference k) = sym (ref_is code s T m a same k).is
+    argument_is (Register.Int k) = sym (int_is code s T m a same k)
+    argument_is (Register.Reference k) = sym (ref_is code s T m a same k).is
 
     began : (n : ℕ) (from : Register) → HandedWithin fr from → cost + spent_at m.own.stage ≤ 4
-        → Done (Form.asks_at p a site (acts.Spawn function (Form.argument a from)) Form.given (λ x b. Form.next (Form.set_int (Form.handed b from) r x))) 4 (rests (set_int (handed m from) r (pos n)))
-        (event_at code m site (pos n) (acts.Spawn function (argument_of m from (T (of_argument m from)))))
-    began n (registers.Int k) w pace =
-        tells_in 4 site (acts.Spawn function (int m k)) (acts.Spawn function (Form.int a k)) (ap (acts.Spawn function) (argument_is (registers.Int k))) Form.given (pos n) (pos n) refl (λ x b. Form.next (Form.set_int b r x)) (rests (set_int m r (pos n)))
+        → Done (Form.asks_at p a site (Act.Spawn function (Form.argument a from)) Form.given (λ x b. Form.next (Form.set_int (Form.handed b from) r x))) 4 (rests (set_int (handed m from) r (pos n)))
+        (event_at code m site (pos n) (Act.Spawn function (argument_of m from (T (of_argument m from)))))
+    began n (Register.Int k) w pace =
+        tells_in 4 site (Act.Spawn function (int m k)) (Act.Spawn function (Form.int a k)) (ap (Act.Spawn function) (argument_is (Register.Int k))) Form.given (pos n) (pos n) refl (λ x b. Form.next (Form.set_int b r x)) (rests (set_int m r (pos n)))
         pace refl (set_int_same code s T m a same r (pos n) (pos n) refl (int_ok r lt)) refl refl running refl refl
-    began n (registers.Reference k) w pace =
-        tells_in 4 site (acts.Spawn function (argument_of m (registers.Reference k) (T (ref m k)))) (acts.Spawn function (Form.ref a k)) (ap (acts.Spawn function) (argument_is (registers.Reference k))) Form.given (pos n) (pos n) refl
+    began n (Register.Reference k) w pace =
+        tells_in 4 site (Act.Spawn function (argument_of m (Register.Reference k) (T (ref m k)))) (Act.Spawn function (Form.ref a k)) (ap (Act.Spawn function) (argument_is (Register.Reference k))) Form.given (pos n) (pos n) refl
         (λ x b. Form.next (Form.set_int (Form.set_ref b k NULL) r x)) (rests (set_int (set_ref m k 0) r (pos n)))
         pace refl (set_int_same code s T (set_ref m k 0) (Form.set_ref a k NULL) (null_same code s T m a same k (ref_ok k w)) r (pos n) (pos n) refl (int_ok r lt)) refl refl running refl refl
 
@@ -207,11 +195,11 @@ module _ (code : Code) (s : Shape) (statements : List Instr) (T : Elements) (m :
   -- ---- CondSignal
   module _ (cell : Cell) (site : ℕ) (is : statement_at p a.pc ≡ CondSignal cell site) (running : a.phase ≡ Running) where
     abbrev signalling : Turn
-    signalling = Form.asks_at p a site (acts.Signal (Form.cell_at p a cell)) Form.given (λ x b. Form.next b)
+    signalling = Form.asks_at p a site (Act.Signal (Form.cell_at p a cell)) Form.given (λ x b. Form.next b)
 
-    signalled : (n : ℕ) → cost + spent_at m.own.stage ≤ 2 → Done signalling 2 (rests m) (event_at code m site (pos n) (acts.Signal (cell_at code m cell)))
+    signalled : (n : ℕ) → cost + spent_at m.own.stage ≤ 2 → Done signalling 2 (rests m) (event_at code m site (pos n) (Act.Signal (cell_at code m cell)))
     signalled n pace =
-        tells_in 2 site (acts.Signal (cell_at code m cell)) (acts.Signal (Form.cell_at p a cell)) (ap acts.Signal (sym (cell_is code s T m a same statements cell))) Form.given (pos n) (pos n) refl (λ x b. Form.next b) (rests m) pace refl same refl refl running refl refl
+        tells_in 2 site (Act.Signal (cell_at code m cell)) (Act.Signal (Form.cell_at p a cell)) (ap Act.Signal (sym (cell_is code s T m a same statements cell))) Form.given (pos n) (pos n) refl (λ x b. Form.next b) (rests m) pace refl same refl refl running refl refl
 
     seen_now : (found : ℕ) → cost + spent_at m.own.stage ≤ 1 → left_at m.own.stage ≡ 0 → Done signalling 2 (wakes m found) (nobody code m cell site found)
     seen_now zero pace l = signalled 0 (omega arith)
@@ -226,7 +214,7 @@ module _ (code : Code) (s : Shape) (statements : List Instr) (T : Elements) (m :
         seen_now found (omega arith) (ap left_at e)
     signals (Wakes seen) e at found rep = each (found == seen) rep
       where
-        each : (b : Bool) → (not b ≡ true → cost ≡ 0) → Done signalling 2 (if b then rests m else wakes m found) (if b then event_at code m site (pos (lowest_of seen + 1)) (acts.Signal (cell_at code m cell)) else nobody code m cell site found)
+        each : (b : Bool) → (not b ≡ true → cost ≡ 0) → Done signalling 2 (if b then rests m else wakes m found) (if b then event_at code m site (pos (lowest_of seen + 1)) (Act.Signal (cell_at code m cell)) else nobody code m cell site found)
         each true rep =
             let q1 = ap spent_at e in
             signalled (lowest_of seen + 1) (omega arith)
@@ -254,7 +242,7 @@ module _ (code : Code) (s : Shape) (statements : List Instr) (T : Elements) (m :
   -- ---- Free
   module _ (r layout site : ℕ) (is : statement_at p a.pc ≡ Free r layout site) (running : a.phase ≡ Running) (lt : r < fr) where
     abbrev freeing : Turn
-    freeing = Form.asks_at p a site (acts.Freed (Form.ref a r)) Form.no_answer (λ x b. Form.next (Form.set_ref b r NULL))
+    freeing = Form.asks_at p a site (Act.Freed (Form.ref a r)) Form.no_answer (λ x b. Form.next (Form.set_ref b r NULL))
 
     abbrev l : Layout
     l = layout_at code layout
@@ -279,12 +267,12 @@ module _ (code : Code) (s : Shape) (statements : List Instr) (T : Elements) (m :
 
     -- the event, after which the block is to be linked
     uncounted : (elements : ℕ) → cost + spent_at m.own.stage ≤ 2 → left_at m.own.stage ≡ 0
-        → Done freeing 3 (at_stage m (Links elements)) (event_at code m site (pos 0) (acts.Freed (reference (ref m r) (T (ref m r)))))
+        → Done freeing 3 (at_stage m (Links elements)) (event_at code m site (pos 0) (Act.Freed (reference (ref m r) (T (ref m r)))))
     uncounted elements pace q = inl (record {
       answer = pos 0;
       go = refl;
-      event = Some (event_of (source_at p site).site (acts.Freed (Form.ref a r)) (pos 0));
-      said = event_is (source_at p site).site (acts.Freed (reference (ref m r) (T (ref m r)))) (acts.Freed (Form.ref a r)) (pos 0) (pos 0) (ap acts.Freed (sym (ref_is code s T m a same r).is)) refl;
+      event = Some (event_of (source_at p site).site (Act.Freed (Form.ref a r)) (pos 0));
+      said = event_is (source_at p site).site (Act.Freed (reference (ref m r) (T (ref m r)))) (Act.Freed (Form.ref a r)) (pos 0) (pos 0) (ap Act.Freed (sym (ref_is code s T m a same r).is)) refl;
       events = refl;
       stands = inr (record {
         register = r;
@@ -342,7 +330,7 @@ module _ (code : Code) (s : Shape) (statements : List Instr) (T : Elements) (m :
   -- ---- New
   module _ (r count cells site : ℕ) (is : statement_at p a.pc ≡ New r count cells site) (running : a.phase ≡ Running) (lt : r < fr) where
     abbrev making : Turn
-    making = Form.asks_at p a site (acts.New cells (elements_of (Form.int a count)) (Form.object_mode p a site)) Form.given (λ x b. Form.next (Form.set_ref b r x))
+    making = Form.asks_at p a site (Act.New cells (elements_of (Form.int a count)) (Form.object_mode p a site)) Form.given (λ x b. Form.next (Form.set_ref b r x))
 
     abbrev NewTurned : Machine → Option SourceEvent → Type 0
     NewTurned m' e = Done making 4 m' e
@@ -357,69 +345,69 @@ module _ (code : Code) (s : Shape) (statements : List Instr) (T : Elements) (m :
     full at phase = stops_in (New r count cells site) is making 4 (Trap traps.HeapFull site) at phase (inr (subst (λ i. Refuses i traps.HeapFull site) (sym is) (refl, refl)))
 
     -- the machine after a step, by the stage that comes next
-    lands : (state : NewView) (st : NewStage) → state.stage ≡ st → IsGoing st → (st ≡ news.Begins → ⊥) → state.arguments.elements ≡ elements_of (int m count) → left_at m.own.stage ≡ 0
-        → ((st ≡ news.Full → ⊥) → cost + spent_at m.own.stage ≤ spent_in_new st)
+    lands : (state : NewView) (st : NewStage) → state.stage ≡ st → IsGoing st → (st ≡ NewStage.Begins → ⊥) → state.arguments.elements ≡ elements_of (int m count) → left_at m.own.stage ≡ 0
+        → ((st ≡ NewStage.Full → ⊥) → cost + spent_at m.own.stage ≤ spent_in_new st)
         → IsAtStage m (New r count cells site) m.own.stage → a.phase ≡ phase_at m.own.stage → NewTurned (after_new m r site state (turn_of_stage state.arguments st)) None
-    lands state news.Begins e going begins args q pace at phase = absurd (begins refl)
-    lands state news.Link e going begins args q pace at phase = goes_on state news.Link e tt args q (pace (λ x. absurd (cc)))
-    lands state (news.Cell c) e going begins args q pace at phase = goes_on state (news.Cell c) e tt args q (pace (λ x. absurd (cc)))
-    lands state news.Top e going begins args q pace at phase = goes_on state news.Top e tt args q (pace (λ x. absurd (cc)))
-    lands state (news.Move t u) e going begins args q pace at phase = goes_on state (news.Move t u) e tt args q (pace (λ x. absurd (cc)))
-    lands state (news.Count h) e going begins args q pace at phase = goes_on state (news.Count h) e tt args q (pace (λ x. absurd (cc)))
-    lands state (news.Length h) e going begins args q pace at phase = goes_on state (news.Length h) e tt args q (pace (λ x. absurd (cc)))
-    lands state (news.Made h) e going begins args q pace at phase = absurd going
-    lands state news.Full e going begins args q pace at phase = full at phase
+    lands state NewStage.Begins e going begins args q pace at phase = absurd (begins refl)
+    lands state NewStage.Link e going begins args q pace at phase = goes_on state NewStage.Link e tt args q (pace (λ x. absurd (cc)))
+    lands state (NewStage.Cell c) e going begins args q pace at phase = goes_on state (NewStage.Cell c) e tt args q (pace (λ x. absurd (cc)))
+    lands state NewStage.Top e going begins args q pace at phase = goes_on state NewStage.Top e tt args q (pace (λ x. absurd (cc)))
+    lands state (NewStage.Move t u) e going begins args q pace at phase = goes_on state (NewStage.Move t u) e tt args q (pace (λ x. absurd (cc)))
+    lands state (NewStage.Count h) e going begins args q pace at phase = goes_on state (NewStage.Count h) e tt args q (pace (λ x. absurd (cc)))
+    lands state (NewStage.Length h) e going begins args q pace at phase = goes_on state (NewStage.Length h) e tt args q (pace (λ x. absurd (cc)))
+    lands state (NewStage.Made h) e going begins args q pace at phase = absurd going
+    lands state NewStage.Full e going begins args q pace at phase = full at phase
 
     -- the stage after a look at the top
     tried : (state : NewView) (top found : ℕ) → state.stage ≡ try_from state.arguments top → state.arguments.elements ≡ elements_of (int m count) → left_at m.own.stage ≡ 0 → cost + spent_at m.own.stage ≤ 1
         → IsAtStage m (New r count cells site) m.own.stage → a.phase ≡ phase_at m.own.stage → NewTurned (after_new m r site state (turn_of_stage state.arguments (try_from state.arguments top))) None
     tried state top found e args q pace at phase = each (nat_le (top + state.arguments.block) state.arguments.end) e
       where
-        each : (b : Bool) → state.stage ≡ (if b then news.Move top (top + state.arguments.block) else news.Full)
-            → NewTurned (after_new m r site state (turn_of_stage state.arguments (if b then news.Move top (top + state.arguments.block) else news.Full))) None
-        each true e = lands state (news.Move top (top + state.arguments.block)) e tt (λ x. absurd (cc)) args q (λ f. pace) at phase
+        each : (b : Bool) → state.stage ≡ (if b then NewStage.Move top (top + state.arguments.block) else NewStage.Full)
+            → NewTurned (after_new m r site state (turn_of_stage state.arguments (if b then NewStage.Move top (top + state.arguments.block) else NewStage.Full))) None
+        each true e = lands state (NewStage.Move top (top + state.arguments.block)) e tt (λ x. absurd (cc)) args q (λ f. pace) at phase
         each false e = full at phase
 
     cleared : (state : NewView) (c : ℕ) → state.stage ≡ after_cell state.arguments c → state.arguments.elements ≡ elements_of (int m count) → left_at m.own.stage ≡ 0 → cost + spent_at m.own.stage ≤ 1
         → IsAtStage m (New r count cells site) m.own.stage → a.phase ≡ phase_at m.own.stage → NewTurned (after_new m r site state (turn_of_stage state.arguments (after_cell state.arguments c))) None
     cleared state c e args q pace at phase = each (nat_lt (c + 1) state.arguments.cells) e
       where
-        each : (b : Bool) → state.stage ≡ (if b then news.Cell (c + 1) else news.Count state.arguments.head)
-            → NewTurned (after_new m r site state (turn_of_stage state.arguments (if b then news.Cell (c + 1) else news.Count state.arguments.head))) None
-        each true e = lands state (news.Cell (c + 1)) e tt (λ x. absurd (cc)) args q (λ f. pace) at phase
-        each false e = lands state (news.Count state.arguments.head) e tt (λ x. absurd (cc)) args q (λ f. omega arith) at phase
+        each : (b : Bool) → state.stage ≡ (if b then NewStage.Cell (c + 1) else NewStage.Count state.arguments.head)
+            → NewTurned (after_new m r site state (turn_of_stage state.arguments (if b then NewStage.Cell (c + 1) else NewStage.Count state.arguments.head))) None
+        each true e = lands state (NewStage.Cell (c + 1)) e tt (λ x. absurd (cc)) args q (λ f. pace) at phase
+        each false e = lands state (NewStage.Count state.arguments.head) e tt (λ x. absurd (cc)) args q (λ f. omega arith) at phase
 
-    moved : (state : NewView) (top u found : ℕ) → state.stage ≡ (if nat_eq top found then news.Count top else try_from state.arguments found) → state.arguments.elements ≡ elements_of (int m count) → left_at m.own.stage ≡ 0 → spent_at m.own.stage ≡ 1
+    moved : (state : NewView) (top u found : ℕ) → state.stage ≡ (if nat_eq top found then NewStage.Count top else try_from state.arguments found) → state.arguments.elements ≡ elements_of (int m count) → left_at m.own.stage ≡ 0 → spent_at m.own.stage ≡ 1
         → (not (found == top) ≡ true → cost ≡ 0)
         → IsAtStage m (New r count cells site) m.own.stage → a.phase ≡ phase_at m.own.stage
-        → NewTurned (after_new m r site state (turn_of_stage state.arguments (if nat_eq top found then news.Count top else try_from state.arguments found))) None
+        → NewTurned (after_new m r site state (turn_of_stage state.arguments (if nat_eq top found then NewStage.Count top else try_from state.arguments found))) None
     moved state top u found e args q sp rep at phase = each (nat_eq top found) refl e
       where
         other : nat_eq top found ≡ false → not (found == top) ≡ true
         other x = ap not (ne_eqb found top (λ k. let y = eq-eqb top found (sym k) in let z : true ≡ false = sym y ∙ x in cc))
 
-        each : (b : Bool) → nat_eq top found ≡ b → state.stage ≡ (if b then news.Count top else try_from state.arguments found)
-            → NewTurned (after_new m r site state (turn_of_stage state.arguments (if b then news.Count top else try_from state.arguments found))) None
-        each true x e = lands state (news.Count top) e tt (λ x. absurd (cc)) args q (λ f. omega arith) at phase
+        each : (b : Bool) → nat_eq top found ≡ b → state.stage ≡ (if b then NewStage.Count top else try_from state.arguments found)
+            → NewTurned (after_new m r site state (turn_of_stage state.arguments (if b then NewStage.Count top else try_from state.arguments found))) None
+        each true x e = lands state (NewStage.Count top) e tt (λ x. absurd (cc)) args q (λ f. omega arith) at phase
         each false x e = let z = rep (other x) in tried state found found e args q (omega arith) at phase
 
     -- the object is made
     made_event : (state : NewView) (header : ℕ) → state.arguments.elements ≡ elements_of (int m count) → IsNew m header → cost + spent_at m.own.stage ≤ 4
-        → NewTurned (made m r state header) (event_at code m site (reference header state.arguments.elements) (acts.New cells state.arguments.elements (mode_of code m (made_cell 0 0) (place_at code site).mode)))
+        → NewTurned (made m r state header) (event_at code m site (reference header state.arguments.elements) (Act.New cells state.arguments.elements (mode_of code m (made_cell 0 0) (place_at code site).mode)))
     made_event state header args fresh pace =
         let n = state.arguments.elements in
-        let T1 : Elements = elements_told (event_at code m site (reference header n) (acts.New cells n (mode_of code m (made_cell 0 0) (place_at code site).mode))) T in
+        let T1 : Elements = elements_told (event_at code m site (reference header n) (Act.New cells n (mode_of code m (made_cell 0 0) (place_at code site).mode))) T in
         let num = number_is header n fresh.number in
         let k : Same code s T1 m a = same_retabled code s T m a same T1 (λ i some has. untouched n header i num (λ e. fresh.fresh (subst (λ i. 0 < i) (sym e) some) (subst (Has m) (sym e) has))) in
-        tells_in 4 site (acts.New cells n (mode_of code m (made_cell 0 0) (place_at code site).mode)) (acts.New cells (elements_of (Form.int a count)) (Form.object_mode p a site))
+        tells_in 4 site (Act.New cells n (mode_of code m (made_cell 0 0) (place_at code site).mode)) (Act.New cells (elements_of (Form.int a count)) (Form.object_mode p a site))
         (act_same n args) Form.given (reference header n) (reference header n) refl (λ x b. Form.next (Form.set_ref b r x)) (made m r state header) pace refl
         (set_ref_same code s T1 m a k r header (reference header n) (record { is = of_new header n num; small = fresh.number }) (ref_ok r lt)) refl refl running refl refl
       where
         act_same : (n : ℕ) → n ≡ elements_of (int m count)
-            → acts.New cells n (mode_of code m (made_cell 0 0) (place_at code site).mode) ≡ acts.New cells (elements_of (Form.int a count)) (Form.object_mode p a site)
+            → Act.New cells n (mode_of code m (made_cell 0 0) (place_at code site).mode) ≡ Act.New cells (elements_of (Form.int a count)) (Form.object_mode p a site)
         act_same n e =
-            ap (λ n. acts.New cells n (mode_of code m (made_cell 0 0) (place_at code site).mode)) (e ∙ ap elements_of (sym (int_is code s T m a same count)))
-            ∙ ap (acts.New cells (elements_of (Form.int a count))) (sym (mode_is code s T m a same statements (made_cell 0 0) (place_at code site).mode))
+            ap (λ n. Act.New cells n (mode_of code m (made_cell 0 0) (place_at code site).mode)) (e ∙ ap elements_of (sym (int_is code s T m a same count)))
+            ∙ ap (Act.New cells (elements_of (Form.int a count))) (sym (mode_is code s T m a same statements (made_cell 0 0) (place_at code site).mode))
 
         -- another object has the elements that it had
         untouched : (n header i : ℕ) → number_of (reference header n) ≡ header → (header ≡ i → ⊥) → (if number_of (reference header n) == i then n else T i) ≡ T i
@@ -447,20 +435,20 @@ module _ (code : Code) (s : Shape) (statements : List Instr) (T : Elements) (m :
 
         by_stage : (st : NewStage) → state.stage ≡ st → IsGoing st → spent_at m.own.stage ≡ spent_in_new st → IsNewIn m st → (leaves_out state.arguments found st ≡ true → cost ≡ 0)
             → NewTurned (after (asks_new m r site state (turn_of_stage state.arguments st)) found) (new_event code m site cells state st)
-        by_stage news.Begins e going sp fresh rep = full at phase
-        by_stage news.Link e going sp fresh rep = go (news.Cell 0) (next_is news.Link e) (lands (told state found) (news.Cell 0) (next_is news.Link e) tt (λ x. absurd (cc)) args q (λ f. omega arith) at phase)
-        by_stage (news.Cell c) e going sp fresh rep =
+        by_stage NewStage.Begins e going sp fresh rep = full at phase
+        by_stage NewStage.Link e going sp fresh rep = go (NewStage.Cell 0) (next_is NewStage.Link e) (lands (told state found) (NewStage.Cell 0) (next_is NewStage.Link e) tt (λ x. absurd (cc)) args q (λ f. omega arith) at phase)
+        by_stage (NewStage.Cell c) e going sp fresh rep =
             let z = rep refl in
-            go (after_cell state.arguments c) (next_is (news.Cell c) e) (cleared (told state found) c (next_is (news.Cell c) e) args q (omega arith) at phase)
-        by_stage news.Top e going sp fresh rep = go (try_from state.arguments found) (next_is news.Top e) (tried (told state found) found found (next_is news.Top e) args q (omega arith) at phase)
-        by_stage (news.Move t u) e going sp fresh rep =
-            go (if nat_eq t found then news.Count t else try_from state.arguments found) (next_is (news.Move t u) e) (moved (told state found) t u found (next_is (news.Move t u) e) args q sp rep at phase)
-        by_stage (news.Count h) e going sp fresh rep = go (news.Length h) (next_is (news.Count h) e) (lands (told state found) (news.Length h) (next_is (news.Count h) e) tt (λ x. absurd (cc)) args q (λ f. omega arith) at phase)
-        by_stage (news.Length h) e going sp fresh rep =
-            subst (λ st. NewTurned (after_new m r site (told state found) (turn_of_stage state.arguments st)) (new_event code m site cells state (news.Length h))) (sym (next_is (news.Length h) e))
+            go (after_cell state.arguments c) (next_is (NewStage.Cell c) e) (cleared (told state found) c (next_is (NewStage.Cell c) e) args q (omega arith) at phase)
+        by_stage NewStage.Top e going sp fresh rep = go (try_from state.arguments found) (next_is NewStage.Top e) (tried (told state found) found found (next_is NewStage.Top e) args q (omega arith) at phase)
+        by_stage (NewStage.Move t u) e going sp fresh rep =
+            go (if nat_eq t found then NewStage.Count t else try_from state.arguments found) (next_is (NewStage.Move t u) e) (moved (told state found) t u found (next_is (NewStage.Move t u) e) args q sp rep at phase)
+        by_stage (NewStage.Count h) e going sp fresh rep = go (NewStage.Length h) (next_is (NewStage.Count h) e) (lands (told state found) (NewStage.Length h) (next_is (NewStage.Count h) e) tt (λ x. absurd (cc)) args q (λ f. omega arith) at phase)
+        by_stage (NewStage.Length h) e going sp fresh rep =
+            subst (λ st. NewTurned (after_new m r site (told state found) (turn_of_stage state.arguments st)) (new_event code m site cells state (NewStage.Length h))) (sym (next_is (NewStage.Length h) e))
             (made_event (told state found) h args fresh (omega arith))
-        by_stage (news.Made h) e going sp fresh rep = absurd going
-        by_stage news.Full e going sp fresh rep = full at phase
+        by_stage (NewStage.Made h) e going sp fresh rep = absurd going
+        by_stage NewStage.Full e going sp fresh rep = full at phase
 
     pub makes_new : (st : Stage) → m.own.stage ≡ st → IsAtStage m (New r count cells site) st → (found : ℕ) → IsNewAt m st → (repeats st found ≡ true → cost ≡ 0)
         → NewTurned (after (new s m r (elements_of (int m count)) cells site st) found) (in_new code m site cells st)
@@ -474,9 +462,9 @@ module _ (code : Code) (s : Shape) (statements : List Instr) (T : Elements) (m :
         here = subst (IsAtStage m (New r count cells site)) (sym e) tt
 
         each : (b : Bool) → nat_eq (new_state s m (elements_of (int m count)) cells).arguments.head 0 ≡ b
-            → NewTurned (after (asks_new m r site (told (new_state s m (elements_of (int m count)) cells) 0) (turn_of_stage (new_state s m (elements_of (int m count)) cells).arguments (if b then news.Top else news.Link))) found) None
-        each true x = makes (told (new_state s m (elements_of (int m count)) cells) 0) news.Top (ap (λ b. if b then news.Top else news.Link) x) tt refl found (ap spent_at e) (ap left_at e) tt (λ z. absurd (cc)) here (running ∙ sym (ap phase_at e))
-        each false x = makes (told (new_state s m (elements_of (int m count)) cells) 0) news.Link (ap (λ b. if b then news.Top else news.Link) x) tt refl found (ap spent_at e) (ap left_at e) tt (λ z. absurd (cc)) here (running ∙ sym (ap phase_at e))
+            → NewTurned (after (asks_new m r site (told (new_state s m (elements_of (int m count)) cells) 0) (turn_of_stage (new_state s m (elements_of (int m count)) cells).arguments (if b then NewStage.Top else NewStage.Link))) found) None
+        each true x = makes (told (new_state s m (elements_of (int m count)) cells) 0) NewStage.Top (ap (λ b. if b then NewStage.Top else NewStage.Link) x) tt refl found (ap spent_at e) (ap left_at e) tt (λ z. absurd (cc)) here (running ∙ sym (ap phase_at e))
+        each false x = makes (told (new_state s m (elements_of (int m count)) cells) 0) NewStage.Link (ap (λ b. if b then NewStage.Top else NewStage.Link) x) tt refl found (ap spent_at e) (ap left_at e) tt (λ z. absurd (cc)) here (running ∙ sym (ap phase_at e))
     makes_new (Makes state) e at found fresh rep =
         makes state state.stage refl at.1 at.0 found (ap spent_at e) (ap left_at e) fresh rep (subst (IsAtStage m (New r count cells site)) (sym e) at) (running ∙ sym (ap phase_at e))
     makes_new (Looks n k) e at found fresh rep = absurd at
@@ -515,44 +503,44 @@ module _ (code : Code) (s : Shape) (statements : List Instr) (T : Elements) (m :
     own_said act = ap (λ site. Some record { thread = m.own.number; site = site; answer = pos 0; act = act }) (sym site_is)
 
     -- Return
-    returned : m.own.stage ≡ Rests → Done (Form.exit p a Running) 1 (withdraws m 0) (own_event code m acts.Return)
+    returned : m.own.stage ≡ Rests → Done (Form.exit p a Running) 1 (withdraws m 0) (own_event code m Act.Return)
     returned e = each (nat_lt 0 (length m.own.table.order))
       where
-        gone : (m' : Machine) (st : Stage) → m'.own.stage ≡ st → IsAtStage m' Exit st → phase_at st ≡ Leaving → spent_at st ≡ 0 → left_at st ≡ 0 → m'.at.state ≡ Runs → m'.at.pc ≡ m.at.pc → Same code s T m' a → Done (Form.exit p a Running) 1 m' (own_event code m acts.Return)
+        gone : (m' : Machine) (st : Stage) → m'.own.stage ≡ st → IsAtStage m' Exit st → phase_at st ≡ Leaving → spent_at st ≡ 0 → left_at st ≡ 0 → m'.at.state ≡ Runs → m'.at.pc ≡ m.at.pc → Same code s T m' a → Done (Form.exit p a Running) 1 m' (own_event code m Act.Return)
         gone m' st e' at phase q3 q4 runs here k = inl (record {
           answer = pos 0;
           go = refl;
-          event = Some (event_of (Form.function_at p a.function).site acts.Return (pos 0));
-          said = own_said acts.Return;
+          event = Some (event_of (Form.function_at p a.function).site Act.Return (pos 0));
+          said = own_said Act.Return;
           events = refl;
           stands = inl (record {
             same = k;
             pc_is = pc ∙ sym here;
             stage = subst (IsAtStage m' (statement_at p a.pc)) (sym e') (subst (λ i. IsAtStage m' i st) (sym is) at);
             phase_is = sym (ap (λ x. phase_of x m'.own.stage) runs ∙ ap phase_at e' ∙ phase);
-            over = subst (λ x. IsOver p (record (Form.told a (Form.function_at p a.function).site acts.Return (pos 0)) { phase = Leaving }) x m'.own.stop) (sym runs) tt;
+            over = subst (λ x. IsOver p (record (Form.told a (Form.function_at p a.function).site Act.Return (pos 0)) { phase = Leaving }) x m'.own.stop) (sym runs) tt;
           });
           pace = let q1 = ap spent_at e in let q2 = ap spent_at e' ∙ q3 in let q5 = ap left_at e' ∙ q4 in omega arith;
         })
 
-        each : (b : Bool) → Done (Form.exit p a Running) 1 (if b then at_stage m (Withdraws 0) else at_stage m Leaves) (own_event code m acts.Return)
+        each : (b : Bool) → Done (Form.exit p a Running) 1 (if b then at_stage m (Withdraws 0) else at_stage m Leaves) (own_event code m Act.Return)
         each true = gone (at_stage m (Withdraws 0)) (Withdraws 0) refl tt refl refl refl refl refl same
         each false = gone (at_stage m Leaves) Leaves refl tt refl refl refl refl refl same
 
     -- Gone
-    left_now : m.own.stage ≡ Leaves → Done (Form.exit p a Leaving) 1 (record m { at = ends m.at; own = record m.own { stage = Rests } }) (own_event code m acts.Gone)
+    left_now : m.own.stage ≡ Leaves → Done (Form.exit p a Leaving) 1 (record m { at = ends m.at; own = record m.own { stage = Rests } }) (own_event code m Act.Gone)
     left_now e = inl (record {
       answer = pos 0;
       go = refl;
-      event = Some (event_of (Form.function_at p a.function).site acts.Gone (pos 0));
-      said = own_said acts.Gone;
+      event = Some (event_of (Form.function_at p a.function).site Act.Gone (pos 0));
+      said = own_said Act.Gone;
       events = refl;
       stands = inl (record {
         same = same;
         pc_is = pc;
         stage = tt;
         phase_is = refl;
-        over = ap (λ i. Form.step p i (record (Form.told a (Form.function_at p a.function).site acts.Gone (pos 0)) { phase = Left })) is;
+        over = ap (λ i. Form.step p i (record (Form.told a (Form.function_at p a.function).site Act.Gone (pos 0)) { phase = Left })) is;
       });
       pace = let q1 = ap spent_at e in omega arith;
     })

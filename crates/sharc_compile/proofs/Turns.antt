@@ -1,11 +1,7 @@
 -- One turn of code beside guarded code: the guarded turn is made with it, or guarded code stays where it is.
-use Rattle.std.proofs.{Common.{◌≡◌, ℕ, ℤ, pos, ◌+◌, ◌≤◌, ◌⊎◌, inl, inr, Bool, true, false, List, [], ◌∷◌, ◌++◌, refl, sym, ap, ◌∙◌, subst, arith, Option, Some, None}, lemmas.List.append-nil}
-use Rattle.std.specs.Option.{option_map, option_to_list}
-use Rattle.sharc_tree.specs.{declared.event.Act.Act, declared.event.SourceEvent.SourceEvent, declared.token.Site.Site, declared.trap.Trap.Trap}
-use Rattle.sharc_code.specs.{declared.code.Code.Code, declared.instr.Instr.Instr, declared.shape.Shape.Shape, declared.state.TurnState.TheVariants.Runs, declared.state.Stage.Stage, declared.state.Stage.TheVariants.{Rests, Links}, declared.state.Stop.Stop, declared.state.Stop.TheVariants.{Trap as Trapped}, Machine.{Machine, goes, trapped, stopped, fails, asserts}}
+use Rattle.sharc_compile.proofs.Imports.{◌≡◌, ℕ, ℤ, pos, ◌+◌, ◌≤◌, ◌⊎◌, inl, inr, Bool, true, false, List, [], ◌∷◌, ◌++◌, refl, sym, ap, ◌∙◌, subst, arith, Option, Some, None, append-nil, option_map, option_to_list, Act, SourceEvent, Site, Trap, Code, Instr, Shape, Runs, Stage, Rests, Links, Stop, Trapped, Machine, goes, trapped, stopped, fails, asserts, Program, Thread, Turn, Goes, Asks, Checks, Halts, Running, event_of, statement_at, turn, program_over, Elements, elements_told, Same, MatchesThread, IsAtStage, phase_of, phase_at, StopsAt, IsOver, spent_at, by, stop_turn}
 use Rattle.sharc_guard.specs.Machine as Form
-use Rattle.sharc_guard.specs.{Machine.{Program, Thread, Turn, Goes, Asks, Checks, Halts, Running, event_of, statement_at, turn}, Path.{after, may_go}}
-use Rattle.sharc_compile.specs.{Generated.program_over, Consistent.{Elements, elements_told}, Related.{Same, MatchesThread, IsAtStage, phase_of, phase_at, StopsAt, IsOver, spent_at}, Correct.{by, stop_turn}}
+use Rattle.sharc_guard.specs.Path.{after, may_go}
 
 -- the counted turns that are to come after an event that was reported before them
 abbrev pub left_at : Stage → ℕ

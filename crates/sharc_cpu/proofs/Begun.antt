@@ -1,8 +1,5 @@
 -- A thread that made no turn, field by field.
-use Rattle.std.proofs.Common.{◌≡◌, ℕ, ℤ, List, None}
-use Rattle.sharc_locks.specs.declared.held_log.HeldMutex.{HeldMutex}
-use Rattle.sharc_heap.specs.Accesses.{Accesses}
-use Rattle.sharc_code.specs.{declared.state.At.At, declared.state.Frame.Frame, declared.state.Print.Print, declared.state.Stage.TheVariants.Rests, Machine.Machine}
+use Rattle.sharc_cpu.proofs.Imports.{◌≡◌, ℕ, ℤ, List, None, HeldMutex, Accesses, At, Frame, Print, Rests, Machine}
 
 abbrev pub fresh : At → List ℤ → List ℕ → List Frame → ℕ → ℕ → Accesses → List HeldMutex → List ℕ → List Print → Machine
 fresh at ints refs frames number function table held heads prints = record {

@@ -1,7 +1,5 @@
 -- Whether a mutex is held, as a test.
-use Rattle.std.proofs.{Common.{◌≡◌, ℕ, zero, suc, ◌<◌, Bool, true, false, List, [], ◌∷◌, ◌==◌, Some, length, get_or, refl, sym, ap, ◌∙◌, Decides, eqb-true, eq-eqb, arith}, lemmas.Bool.false≢true, lemmas.Bool.Decides.same_from_decides}
-use Rattle.std.specs.Prelude.{IsTrue, ◌↔◌, is_some, if◌then◌else◌}
-use Rattle.sharc_locks.specs.{declared.held_log.HeldMutex.HeldMutex, HeldLog.{Holds, object_of}}
+use Rattle.sharc_cpu.proofs.Imports.{◌≡◌, ℕ, zero, suc, ◌<◌, Bool, true, false, List, [], ◌∷◌, ◌==◌, Some, length, get_or, refl, sym, ap, ◌∙◌, Decides, eqb-true, eq-eqb, arith, false≢true, same_from_decides, IsTrue, ◌↔◌, is_some, if◌then◌else◌, HeldMutex, Holds, object_of}
 
 at_first : (held : HeldMutex) (log : List HeldMutex) (word : ℕ) → held.word ≡ word → Holds (held ∷ log) word
 at_first held log word e = (zero, held, omega arith, refl, e)

@@ -1,3 +1,4 @@
+mod Imports
 pub mod Advancing
 pub mod Begun
 pub mod Doubling

@@ -1,7 +1,5 @@
 -- A thread has a stop exactly where its state is Stopped.
-use Rattle.std.proofs.Common.{◌≡◌, ℕ, false, is_some, refl, sym, ap, ◌∙◌, true, List, [], ◌∷◌}
-use Rattle.sharc_code.specs.{declared.code.Code.Code, declared.shape.Shape.Shape, declared.state.TurnState.TurnState, declared.state.TurnState.TheVariants.{Runs, Tries, Stopped, Ended}, Machine.{Machine, Own, instr_at}, Outcomes.{TurnOutcome, Stops, Refused, TurnsComeOut, own_after, state_after}, Path.{IsPath, machine_after, may_go}}
-use Rattle.sharc_cpu.specs.Thread.{is_stop}
+use Rattle.sharc_cpu.proofs.Imports.{◌≡◌, ℕ, false, is_some, refl, sym, ap, ◌∙◌, true, List, [], ◌∷◌, Code, Shape, TurnState, Runs, Tries, Stopped, Ended, Machine, Own, instr_at, TurnOutcome, Stops, Refused, TurnsComeOut, own_after, state_after, IsPath, machine_after, may_go, is_stop}
 
 abbrev pub Settled : Machine → Type 0
 Settled x = is_some x.own.stop ≡ is_stop x.at.state

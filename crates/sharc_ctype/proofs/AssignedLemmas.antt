@@ -1,8 +1,5 @@
 -- What is assigned among all that is assigned, initialised, passed and returned is what is written left of an `=`.
-use Rattle.std.proofs.{Common.{◌≡◌, ℕ, ◌||◌, ◌&&◌, not, List, [], ◌∷◌, ◌++◌, refl, ap, sym, ◌∙◌, Option, Some, None}, Math.Bool.or-false, lemmas.List.Folds.list_any-append}
-use Rattle.std.specs.{List.list_any, Prelude.{◌==◌}}
-use Rattle.sharc_tree.specs.{declared.tree.declaration.WrittenType.WrittenType, declared.tree.declaration.Declaration.Declaration, Tree.{Expression, identifier, constant, parentheses, call, spawn, on_value, on_place, cast, index, field, unary, binary, Arguments, no_arguments, argument, Right, value, malloc, Simple, assign, does_call, Local, First, nothing, declares, does, Statement, empty, block, declare, simple, jump, return, if_then, if_then_else, while, for, Statements, no_statements, statement, Item, structure, global, function}}
-use Rattle.sharc_ctype.specs.{Resolved.{Resolution, functions_in, named_at}, Transfers.{Transfer, passed, parameters_named, transfers, argument_transfers, in_option, right_transfers, simple_transfers, local_transfers, first_transfers, statement_transfers, statements_transfers}, Variables.{assigned, assigned_first, assigned_step, assigned_in, assigned_in_all, all_assigned, all_with_value}, Constants.{is_among, is_assigned_by, is_assigned_in, is_constant, HasConstants}}
+use Rattle.sharc_ctype.proofs.Imports.{◌≡◌, ℕ, ◌||◌, ◌&&◌, not, List, [], ◌∷◌, ◌++◌, refl, ap, sym, ◌∙◌, Option, Some, None, or-false, list_any-append, list_any, ◌==◌, WrittenType, Declaration, Expression, identifier, constant, parentheses, call, spawn, on_value, on_place, cast, index, field, unary, binary, Arguments, no_arguments, argument, Right, value, malloc, Simple, assign, does_call, Local, First, nothing, declares, does, Statement, empty, block, declare, simple, jump, return, if_then, if_then_else, while, for, Statements, no_statements, statement, Item, structure, global, function, Resolution, functions_in, named_at, Transfer, passed, parameters_named, transfers, argument_transfers, in_option, right_transfers, simple_transfers, local_transfers, first_transfers, statement_transfers, statements_transfers, assigned, assigned_first, assigned_step, assigned_in, assigned_in_all, all_assigned, all_with_value, is_among, is_assigned_by, is_assigned_in, is_constant, HasConstants}
 
 module _ (r : Resolution) (token : ℕ) where
   -- these transfers assign the variable exactly where it is among those tokens

@@ -1,8 +1,5 @@
 -- Calls and their arguments.
-use Rattle.std.proofs.{Common.{◌≡◌, ℕ, ◌+◌, ◌<◌, Bool, true, false, ◌&&◌, List, [], ◌∷◌, ◌++◌, length, drop, get_or, fold, refl, ap, sym, ◌∙◌, Option, is_some, add-one, drop-cons}, lemmas.List.Sums.fold-append}
-use Rattle.sharc_tree.specs.{declared.token.Span.Span, declared.tree.declaration.Identifier.Identifier, declared.tree.expression.Expr.Expr, Tree.{Expression, call}, View.{view_expr, view_arguments}}
-use Rattle.sharc_names.specs.{declared.need.Need.TheVariants.Value, declared.scope.Scope.Scope, Kinds.Kind, Names.{Entry, look_up}, Notes.{Note, Findings, noted}, Needs.{met, unmet, agreed, unagreed}, Wants.first_wanted}
-use Rattle.sharc_ctype.specs.{declared.expr.Standing.Standing, Expressions.{count, wanted, call_result, call_kind, callee_notes, type_of, are_fine, notes_at, notes_of, notes_of_all}}
+use Rattle.sharc_ctype.proofs.Imports.{◌≡◌, ℕ, ◌+◌, ◌<◌, Bool, true, false, ◌&&◌, List, [], ◌∷◌, ◌++◌, length, drop, get_or, fold, refl, ap, sym, ◌∙◌, Option, is_some, add-one, drop-cons, fold-append, Span, Identifier, Expr, Expression, call, view_expr, view_arguments, Value, Scope, Kind, Entry, look_up, Note, Findings, noted, met, unmet, agreed, unagreed, first_wanted, Standing, count, wanted, call_result, call_kind, callee_notes, type_of, are_fine, notes_at, notes_of, notes_of_all}
 
 count_is : (list : List Expr) → count (view_arguments list) ≡ length list
 count_is [] = refl

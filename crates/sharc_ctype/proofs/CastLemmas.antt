@@ -1,7 +1,5 @@
 -- The casts of expressions that follow others.
-use Rattle.std.proofs.Common.{◌≡◌, List, [], ◌∷◌, ◌++◌, refl, ap, sym, subst, ◌∙◌, append_assoc, OnOk, Result}
-use Rattle.sharc_tree.specs.Tree.{Expression, identifier, constant, parentheses, call, spawn, on_value, on_place, cast, index, field, unary, binary}
-use Rattle.sharc_ctype.specs.{declared.entity.Entity.Entity, Entities.{casts, cast_entity}}
+use Rattle.sharc_ctype.proofs.Imports.{◌≡◌, List, [], ◌∷◌, ◌++◌, refl, ap, sym, subst, ◌∙◌, append_assoc, OnOk, Result, Expression, identifier, constant, parentheses, call, spawn, on_value, on_place, cast, index, field, unary, binary, Entity, casts, cast_entity}
 
 pub casts_both : (a b : List Expression) → casts (a ++ b) ≡ casts a ++ casts b
 casts_both [] b = refl

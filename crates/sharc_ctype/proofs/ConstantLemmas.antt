@@ -1,6 +1,5 @@
 -- Sets of tokens that lists are written into.
-use Rattle.std.proofs.{Common.{◌≡◌, ℕ, ◌+◌, ◌<◌, ◌==◌, ◌||◌, Bool, true, cond, List, ◌∷◌, drop, length, get_or, add-one, drop-cons, ap, sym, ◌∙◌, arith}, lemmas.Bool.Decides.nat_tests}
-use Rattle.sharc_ctype.specs.Constants.{is_among}
+use Rattle.sharc_ctype.proofs.Imports.{◌≡◌, ℕ, ◌+◌, ◌<◌, ◌==◌, ◌||◌, Bool, true, cond, List, ◌∷◌, drop, length, get_or, add-one, drop-cons, ap, sym, ◌∙◌, arith, nat_tests, is_among}
 
 turned : (e q : ℕ) (old rest : Bool) → (cond (e == q) true old || rest) ≡ (old || ((q == e) || rest))
 turned e q old rest = grind (arith, nat_tests)

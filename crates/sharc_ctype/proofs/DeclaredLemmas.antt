@@ -1,9 +1,5 @@
 -- The place of the first declaration of a token.
-use Rattle.std.proofs.Common.{◌≡◌, ℕ, suc, ◌+◌, ◌<◌, ◌==◌, Bool, true, false, cond, List, [], ◌∷◌, ◌++◌, length, refl, ap, sym, ◌∙◌, arith, Option, Some, None}
-use Rattle.std.specs.{List.{position_from, slice_get}, Option.{option_or, option_map, option_and_then}}
-use Rattle.sharc_tree.specs.declared.tree.declaration.Declaration.{Declaration}
-use Rattle.sharc_ctype.specs.{Resolved.declared_at, FirstPlaces.{place_of, PlaceRows, HasPlace, HasFirstPlaces}}
-use Rattle.sharc_ctype.proofs.EntityLemmas.{shifted_either, or_either}
+use Rattle.sharc_ctype.proofs.{Imports.{◌≡◌, ℕ, suc, ◌+◌, ◌<◌, ◌==◌, Bool, true, false, cond, List, [], ◌∷◌, ◌++◌, length, refl, ap, sym, ◌∙◌, arith, Option, Some, None, position_from, slice_get, option_or, option_map, option_and_then, Declaration, declared_at, place_of, PlaceRows, HasPlace, HasFirstPlaces}, EntityLemmas.{shifted_either, or_either}}
 
 position_end : (t : Declaration → Bool) (k : ℕ) (list : List Declaration) (d : Declaration)
     → position_from t k (list ++ d ∷ []) ≡ option_or (position_from t k list) (cond (t d) (Some (k + length list)) None)

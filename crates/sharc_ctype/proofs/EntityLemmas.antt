@@ -1,7 +1,6 @@
 -- The place of the first entity that two tokens determine, and the numbers of first positions.
-use Rattle.std.proofs.{Common.{◌≡◌, ℕ, suc, ◌+◌, ◌<◌, ◌==◌, ◌&&◌, Bool, true, false, cond, List, [], ◌∷◌, ◌++◌, length, add-one, refl, ap, sym, subst, ◌∙◌, arith, Option, Some, None, is_some, Bor}, lemmas.Bool.eqb-true}
-use Rattle.std.specs.{List.{position_from, slice_get, find}, Option.{option_or, option_map, option_and_then, option_copied}}
-use Rattle.sharc_ctype.specs.{declared.entity.Entity.Entity, declared.entity.Numbered.Numbered, Entities.{is_told_by, numbered, numbered_from, numbered_at, positions_in, positions_of}, FirstEntities.{row_at, entity_place, EntityRows, HasEntityPlace, HasFirstEntities, entities_of, AreNumbered}}
+use Rattle.sharc_ctype.proofs.Imports.{◌≡◌, ℕ, suc, ◌+◌, ◌<◌, ◌==◌, ◌&&◌, Bool, true, false, cond, List, [], ◌∷◌, ◌++◌, length, add-one, refl, ap, sym, subst, ◌∙◌, arith, Option, Some, None, is_some, eqb-true, position_from, slice_get, find, option_or, option_map, option_and_then, option_copied, Entity, Numbered, is_told_by, numbered, numbered_from, numbered_at, positions_in, positions_of, row_at, entity_place, EntityRows, HasEntityPlace, HasFirstEntities, entities_of, AreNumbered}
+use Rattle.std.proofs.Common.{Bor}
 
 pub or_either : (b : Bool) (k : ℕ) (o p : Option ℕ) → cond b (Some k) (option_or o p) ≡ option_or (cond b (Some k) o) p
 or_either true k o p = refl

@@ -1,3 +1,4 @@
+mod Imports
 pub mod AssignedLemmas
 pub mod BitLemmas
 pub mod CallLemmas

@@ -1,10 +1,5 @@
 -- In a typed program no struct has more than 256 fields.
-use Rattle.std.proofs.{Common.{◌≡◌, ℕ, zero, suc, ◌+◌, ◌<◌, ◌≤◌, Bool, true, false, nat_lt, List, [], ◌∷◌, ◌++◌, length, refl, ap, sym, subst, ◌∙◌, arith, length-append, Option, Some, None}, lemmas.Bool.Decides.nat_tests}
-use Rattle.std.specs.{Borrow.Bor, List.slice_get, Option.{option_copied, IfSome}}
-use Rattle.sharc_tree.specs.{declared.tree.declaration.Declaration.Declaration, declared.tree.item.StructDefinition.StructDefinition, Tree.{Item, structure, global, function, Program}}
-use Rattle.sharc_names.specs.{declared.fault.Fault.Fault, declared.fault.FaultCode.TheVariants.LimitPassed, declared.scope.Scope.Scope, Notes.{Note, fault, refers, yields, faults, fault_unless}, Types.type_notes}
-use Rattle.sharc_names.specs.declared.types.Role.TheVariants as role
-use Rattle.sharc_ctype.specs.{Globals.{sizes_notes, global_notes}, Heads.{twice, within, heads_notes, no_heads}, Items.{field_notes, fields_notes, function_notes, items_notes, file_scope, main_missing, IsTyped}, Resolved.structs_in}
+use Rattle.sharc_ctype.proofs.Imports.{◌≡◌, ℕ, zero, suc, ◌+◌, ◌<◌, ◌≤◌, Bool, true, false, nat_lt, List, [], ◌∷◌, ◌++◌, length, refl, ap, sym, subst, ◌∙◌, arith, length-append, Option, Some, None, nat_tests, Bor, slice_get, option_copied, IfSome, Declaration, StructDefinition, Item, structure, global, function, Program, Fault, LimitPassed, Scope, Note, fault, refers, yields, faults, fault_unless, type_notes, Role, sizes_notes, global_notes, twice, within, heads_notes, no_heads, field_notes, fields_notes, function_notes, items_notes, file_scope, main_missing, IsTyped, structs_in}
 
 pub faults_append : (a b : List Note) → faults (a ++ b) ≡ faults a ++ faults b
 faults_append [] b = refl
@@ -36,7 +31,7 @@ within_fine before token e = let is : nat_lt before 256 ≡ true = unless_fine (
 field_fine : (scope : Scope) (all earlier : List Declaration) (d : Declaration) → faults (field_notes scope all earlier d) ≡ [] → length earlier < 256
 field_fine scope all earlier d e =
     let token = d.name.site.token in
-    let behind = fine_second (type_notes scope all role.Field d.written) _ e in
+    let behind = fine_second (type_notes scope all Role.Field d.written) _ e in
     within_fine (length earlier) token (fine_second (twice _ token) (within 256 (length earlier) token) behind)
 
 fields_fine : (scope : Scope) (all earlier list : List Declaration) → length earlier ≤ 256 → faults (fields_notes scope all earlier list) ≡ [] → length earlier + length list ≤ 256

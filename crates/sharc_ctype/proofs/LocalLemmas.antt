@@ -1,8 +1,5 @@
 -- The limit on locals over two lists, one after the other.
-use Rattle.std.proofs.{Common.{◌≡◌, ℕ, ◌+◌, ◌-◌, ◌<◌, ◌==◌, List, [], ◌∷◌, ◌++◌, length, fold, ap, sym, ◌∙◌, arith, append_assoc, length-append}, lemmas.List.Sums.fold-append}
-use Rattle.sharc_tree.specs.declared.tree.declaration.Declaration.{Declaration}
-use Rattle.sharc_names.specs.{declared.fault.FaultCode.TheVariants.LimitPassed, Notes.{Findings, noted, fault_where}}
-use Rattle.sharc_ctype.specs.Items.{beyond}
+use Rattle.sharc_ctype.proofs.Imports.{◌≡◌, ℕ, ◌+◌, ◌-◌, ◌<◌, ◌==◌, List, [], ◌∷◌, ◌++◌, length, fold, ap, sym, ◌∙◌, arith, append_assoc, length-append, fold-append, Declaration, LimitPassed, Findings, noted, fault_where, beyond}
 
 pub beyond_append : (room : ℕ) (a b : List Declaration) → beyond room (a ++ b) ≡ beyond room a ++ beyond (room - length a) b
 beyond_append room [] b = ap (λ n. beyond n b) (let e : room ≡ room - 0 = omega arith in e)

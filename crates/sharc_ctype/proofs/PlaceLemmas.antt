@@ -1,9 +1,5 @@
 -- The places of the items of one form lead to what has its number.
-use Rattle.std.proofs.{Common.{◌≡◌, ℕ, zero, suc, ◌+◌, Bool, true, false, cond, List, [], ◌∷◌, ◌++◌, length, refl, ap, sym, ◌∙◌, arith, append_assoc, length-append, Option, Some, None, is_some}, lemmas.Option.slice_get-map}
-use Rattle.std.specs.{List.slice_get, Option.{option_map, option_and_then}}
-use Rattle.sharc_tree.specs.{declared.tree.item.Item.{Item as RustItem}, Tree.{Item, structure, global, function}, View.{view_item, view_items}}
-use Rattle.sharc_ctype.specs.{Resolved.{structs_in, globals_in, functions_in}, Tables.{has_form, places_of, as_structure, as_global, as_function}, declared.tables.ItemForm.ItemForm}
-use Rattle.sharc_ctype.specs.declared.tables.ItemForm.TheVariants as form
+use Rattle.sharc_ctype.proofs.Imports.{◌≡◌, ℕ, zero, suc, ◌+◌, Bool, true, false, cond, List, [], ◌∷◌, ◌++◌, length, refl, ap, sym, ◌∙◌, arith, append_assoc, length-append, Option, Some, None, is_some, slice_get-map, slice_get, option_map, option_and_then, RustItem, Item, structure, global, function, view_item, view_items, structs_in, globals_in, functions_in, has_form, places_of, as_structure, as_global, as_function, ItemForm}
 
 at_end : (before : List Item) (i : Item) (rest : List Item) (k : ℕ) → k ≡ length before → slice_get (before ++ i ∷ rest) k ≡ Some i
 at_end [] i rest k e = ap (slice_get (i ∷ rest)) e
@@ -79,38 +75,38 @@ functions_are (structure s ∷ rest) = functions_are rest
 functions_are (global g ∷ rest) = functions_are rest
 functions_are (function f ∷ rest) = ap (λ l. f ∷ l) (functions_are rest)
 
-structs_fit : (i : Item) → is_some (as_structure i) ≡ has_form form.Struct i
+structs_fit : (i : Item) → is_some (as_structure i) ≡ has_form ItemForm.Struct i
 structs_fit (structure s) = refl
 structs_fit (global g) = refl
 structs_fit (function f) = refl
 
-globals_fit : (i : Item) → is_some (as_global i) ≡ has_form form.Global i
+globals_fit : (i : Item) → is_some (as_global i) ≡ has_form ItemForm.Global i
 globals_fit (structure s) = refl
 globals_fit (global g) = refl
 globals_fit (function f) = refl
 
-functions_fit : (i : Item) → is_some (as_function i) ≡ has_form form.Function i
+functions_fit : (i : Item) → is_some (as_function i) ≡ has_form ItemForm.Function i
 functions_fit (structure s) = refl
 functions_fit (global g) = refl
 functions_fit (function f) = refl
 
-pub to_struct : (items : List RustItem) (places : List ℕ) (n : ℕ) (found : Option RustItem) → places ≡ places_of form.Struct 0 (view_items items) → found ≡ option_and_then (slice_get items) (slice_get places n)
+pub to_struct : (items : List RustItem) (places : List ℕ) (n : ℕ) (found : Option RustItem) → places ≡ places_of ItemForm.Struct 0 (view_items items) → found ≡ option_and_then (slice_get items) (slice_get places n)
     → option_and_then as_structure (option_map view_item found) ≡ slice_get (structs_in (view_items items)) n
-to_struct items places n found are is = leads_to as_structure form.Struct structs_fit items places n found are is ∙ ap (λ l. slice_get l n) (structs_are (view_items items))
+to_struct items places n found are is = leads_to as_structure ItemForm.Struct structs_fit items places n found are is ∙ ap (λ l. slice_get l n) (structs_are (view_items items))
 
-pub to_global : (items : List RustItem) (places : List ℕ) (n : ℕ) (found : Option RustItem) → places ≡ places_of form.Global 0 (view_items items) → found ≡ option_and_then (slice_get items) (slice_get places n)
+pub to_global : (items : List RustItem) (places : List ℕ) (n : ℕ) (found : Option RustItem) → places ≡ places_of ItemForm.Global 0 (view_items items) → found ≡ option_and_then (slice_get items) (slice_get places n)
     → option_and_then as_global (option_map view_item found) ≡ slice_get (globals_in (view_items items)) n
-to_global items places n found are is = leads_to as_global form.Global globals_fit items places n found are is ∙ ap (λ l. slice_get l n) (globals_are (view_items items))
+to_global items places n found are is = leads_to as_global ItemForm.Global globals_fit items places n found are is ∙ ap (λ l. slice_get l n) (globals_are (view_items items))
 
-pub to_function : (items : List RustItem) (places : List ℕ) (n : ℕ) (found : Option RustItem) → places ≡ places_of form.Function 0 (view_items items) → found ≡ option_and_then (slice_get items) (slice_get places n)
+pub to_function : (items : List RustItem) (places : List ℕ) (n : ℕ) (found : Option RustItem) → places ≡ places_of ItemForm.Function 0 (view_items items) → found ≡ option_and_then (slice_get items) (slice_get places n)
     → option_and_then as_function (option_map view_item found) ≡ slice_get (functions_in (view_items items)) n
-to_function items places n found are is = leads_to as_function form.Function functions_fit items places n found are is ∙ ap (λ l. slice_get l n) (functions_are (view_items items))
+to_function items places n found are is = leads_to as_function ItemForm.Function functions_fit items places n found are is ∙ ap (λ l. slice_get l n) (functions_are (view_items items))
 
-pub struct_places_counted : (items : List Item) → length (places_of form.Struct 0 items) ≡ length (structs_in items)
-struct_places_counted items = counted as_structure form.Struct structs_fit 0 items ∙ ap length (structs_are items)
+pub struct_places_counted : (items : List Item) → length (places_of ItemForm.Struct 0 items) ≡ length (structs_in items)
+struct_places_counted items = counted as_structure ItemForm.Struct structs_fit 0 items ∙ ap length (structs_are items)
 
-pub global_places_counted : (items : List Item) → length (places_of form.Global 0 items) ≡ length (globals_in items)
-global_places_counted items = counted as_global form.Global globals_fit 0 items ∙ ap length (globals_are items)
+pub global_places_counted : (items : List Item) → length (places_of ItemForm.Global 0 items) ≡ length (globals_in items)
+global_places_counted items = counted as_global ItemForm.Global globals_fit 0 items ∙ ap length (globals_are items)
 
-pub function_places_counted : (items : List Item) → length (places_of form.Function 0 items) ≡ length (functions_in items)
-function_places_counted items = counted as_function form.Function functions_fit 0 items ∙ ap length (functions_are items)
+pub function_places_counted : (items : List Item) → length (places_of ItemForm.Function 0 items) ≡ length (functions_in items)
+function_places_counted items = counted as_function ItemForm.Function functions_fit 0 items ∙ ap length (functions_are items)

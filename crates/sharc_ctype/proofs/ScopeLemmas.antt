@@ -1,8 +1,6 @@
 -- What a statement declares lies above the names that were in scope before it.
-use Rattle.std.proofs.{Common.{◌≡◌, ℕ, ◌-◌, ◌≤◌, Bool, true, false, cond, List, [], ◌∷◌, ◌++◌, length, drop, refl, ap, sym, ◌∙◌, arith, append_assoc, length-append}, lemmas.Grind.common_steps}
-use Rattle.sharc_tree.specs.{declared.tree.declaration.Declaration.Declaration, Tree.{First, nothing, declares, does, Statement, empty, block, declare, simple, jump, return, if_then, if_then_else, while, for, Statements, no_statements, statement}}
-use Rattle.sharc_names.specs.Names.{Entry, variable}
-use Rattle.sharc_ctype.specs.{Statements.{Around, is_here, declared, behind_first, after, after_all}, Items.with_parameters}
+use Rattle.sharc_ctype.proofs.Imports.{◌≡◌, ℕ, ◌-◌, ◌≤◌, Bool, true, false, cond, List, [], ◌∷◌, ◌++◌, length, drop, refl, ap, sym, ◌∙◌, arith, append_assoc, length-append, common_steps, Declaration, First, nothing, declares, does, Statement, empty, block, declare, simple, jump, return, if_then, if_then_else, while, for, Statements, no_statements, statement, Entry, variable, Around, is_here, behind_first, after, after_all, with_parameters}
+use Rattle.sharc_ctype.specs.Statements.{declared}
 
 record Grows (new old : List Entry) : Type 0 where
   above : List Entry

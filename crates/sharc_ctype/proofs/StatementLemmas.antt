@@ -1,8 +1,5 @@
 -- A block's statements.
-use Rattle.std.proofs.Common.{◌≡◌, fold, ap, sym, ◌∙◌}
-use Rattle.sharc_tree.specs.{declared.token.Span.Span, Tree.{Statement, block, Statements}}
-use Rattle.sharc_names.specs.{declared.scope.Scope.Scope, Notes.{Findings, noted}}
-use Rattle.sharc_ctype.specs.Statements.{Around, opened, notes_in, notes_in_all}
+use Rattle.sharc_ctype.proofs.Imports.{◌≡◌, fold, ap, sym, ◌∙◌, Span, Statement, block, Statements, Scope, Findings, noted, Around, opened, notes_in, notes_in_all}
 
 pub block_noted : (around inner : Around) (scope : Scope) (x : Statement) (s : Span) (all : Statements) (f0 f1 : Findings) → x ≡ block s all → inner ≡ opened around scope.names
     → f1 ≡ fold noted f0 (notes_in_all inner scope all) → f1 ≡ fold noted f0 (notes_in around scope x)

@@ -1,6 +1,5 @@
 -- The algebra of the ways to an exit.
-use Rattle.std.proofs.{Common.{◌≡◌, ℕ, ◌⊎◌, inl, inr, ◌≤◌, ◌<◌, Option, Some, None, Bool, true, false, min, ◌&&◌, ◌||◌, le_trans, ap, sym, ◌∙◌, arith}, Math.Nat.{min-le_left, min-le_right, min-eq_left, min-eq_right}, lemmas.Bool.cases_lt}
-use Rattle.sharc_dataflow.specs.{declared.way.Way.Way, declared.way.Ways.Ways, Flow.{To, Next, Broken, Continued, Ends, Leaves}, Sums.{lower, kept, behind, way, then_of, either_of}}
+use Rattle.sharc_dataflow.proofs.Imports.{◌≡◌, ℕ, ◌⊎◌, inl, inr, ◌≤◌, ◌<◌, Option, Some, None, Bool, true, false, min, ◌&&◌, ◌||◌, le_trans, ap, sym, ◌∙◌, arith, min-le_left, min-le_right, min-eq_left, min-eq_right, cases_lt, Way, Ways, To, Next, Broken, Continued, Ends, Leaves, lower, kept, behind, way, then_of, either_of}
 
 abbrev pub Yes : Bool → Type 0
 Yes true = Unit {0}

@@ -1,7 +1,5 @@
 -- Code that is the same for some variables: laws of Same.
-use Rattle.std.proofs.Common.{◌≡◌, ℕ, [], ◌++◌, Option, None, Bool, true, false, ◌&&◌, ◌||◌, refl, ap, sym, ◌∙◌, append_assoc, append-nil}
-use Rattle.sharc_dataflow.specs.{declared.way.Way.Way, declared.way.Ways.Ways, declared.exits.Exits.Exits, Flow.{To, Next, Broken, Continued, Ends}, Code.{Code, goes_to, first_then, one_of, catches, repeats}, Sums.{lower, behind, follow, either, then_of, either_of, caught_of, loop_of, ways, warns}, Narrow.{Same, exits_of, exits_to, then_exits, either_exits, caught_exits, loop_exits, leading}}
-use Rattle.sharc_dataflow.proofs.{Laws.kept_none, Summed.{same_ways, then_assoc, nothing_then, then_nothing}, Told.behind_follow}
+use Rattle.sharc_dataflow.proofs.{Imports.{◌≡◌, ℕ, [], ◌++◌, Option, None, Bool, true, false, ◌&&◌, ◌||◌, refl, ap, sym, ◌∙◌, append_assoc, append-nil, Way, Ways, Exits, To, Next, Broken, Continued, Ends, Code, goes_to, first_then, one_of, catches, repeats, lower, behind, follow, either, then_of, either_of, caught_of, loop_of, ways, warns, Same, exits_of, exits_to, then_exits, either_exits, caught_exits, loop_exits, leading}, Laws.kept_none, Summed.{same_ways, then_assoc, nothing_then, then_nothing}, Told.behind_follow}
 
 module _ (first last : ℕ) where
   pub same_self : (c : Code) → Same first last c c

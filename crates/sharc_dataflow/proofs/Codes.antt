@@ -1,8 +1,5 @@
 -- Exactness of the smallest pieces, and of all code.
-use Rattle.std.proofs.Common.{◌≡◌, ℕ, zero, suc, List, [], ◌∷◌, ◌⊎◌, inl, inr, ◌<◌, Option, Some, None, Bool, true, false, Contains, refl, ap, subst, eqb-true, eq-eqb, nat_eq, arith, length}
-use Rattle.std.specs.Prelude.{slice_index_or}
-use Rattle.sharc_dataflow.specs.{declared.way.Way.Way, declared.way.FlowWarning.FlowWarning, Flow.{Act, Reads, Nulls, Writes, From, Start, To, Next, Broken, Continued, Ends, Goes, goes, before, Does, done, ended, before as not_yet, Spares, Clear, NullingStands, Shows, Hits, Reaches}, Code.{Code, goes_to, acts, first_then, one_of, catches, repeats, paths}, Sums.{way, goes_of, free, only, nulled, written, way_of_act, ways, Warns, quiet, warn_read, warned_of, warn_act, warns}}
-use Rattle.sharc_dataflow.proofs.{Algebra.{Yes, AtMost, Joins}, Exact.{Exact, exact_then, ClearPath, StandingPath, ShownPath, Warned, warning}, Pieces.{exact_either, exact_caught, exact_loop}}
+use Rattle.sharc_dataflow.proofs.{Imports.{◌≡◌, ℕ, zero, suc, List, [], ◌∷◌, ◌⊎◌, inl, inr, ◌<◌, Option, Some, None, Bool, true, false, Contains, refl, ap, subst, eqb-true, eq-eqb, nat_eq, arith, length, slice_index_or, Way, FlowWarning, Act, Reads, Nulls, Writes, From, Start, To, Next, Broken, Continued, Ends, Goes, goes, before, Does, done, ended, before as not_yet, Spares, Clear, NullingStands, Shows, Hits, Reaches, Code, goes_to, acts, first_then, one_of, catches, repeats, paths, way, goes_of, free, only, nulled, written, way_of_act, ways, Warns, quiet, warn_read, warned_of, warn_act, warns}, Algebra.{Yes, AtMost, Joins}, Exact.{Exact, exact_then, ClearPath, StandingPath, ShownPath, Warned, warning}, Pieces.{exact_either, exact_caught, exact_loop}}
 
 has_none : (w : FlowWarning) → Contains [] w → ⊥
 has_none w h = omega (arith, h.1)

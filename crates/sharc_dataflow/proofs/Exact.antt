@@ -1,7 +1,5 @@
 -- That what is computed of a piece of code is exactly what its paths do.
-use Rattle.std.proofs.{Common.{◌≡◌, ℕ, List, ◌++◌, ◌⊎◌, inl, inr, ◌≤◌, Option, Some, Contains}, lemmas.List.Elements.{Contains-append_left, Contains-append_right, Contains-append_cases}}
-use Rattle.sharc_dataflow.specs.{declared.way.Ways.Ways, declared.way.FlowWarning.FlowWarning, Flow.{Act, From, Start, Inside, To, Next, Ends, Piece, Leaves, Then, through, leaves, behind as late, Clear, NullingStands, Shows, Hits, Reaches}, Sums.{behind, way, then_of, Warns, warn_then}}
-use Rattle.sharc_dataflow.proofs.{Lists.{clear_both, clear_first, clear_last, stands_on, stands_cases, shows_behind, shows_cases, hits_across, hits_cases, Split, first, across, last}, Algebra.{Yes, AtMost, Joins, most_behind, most_of, behind_is, then_clear, through_clear, leaves_clear, Came, second, passed, left as came_left, then_least, through_most, second_most, left_most}}
+use Rattle.sharc_dataflow.proofs.{Imports.{◌≡◌, ℕ, List, ◌++◌, ◌⊎◌, inl, inr, ◌≤◌, Option, Some, Contains, Contains-append_left, Contains-append_right, Contains-append_cases, Ways, FlowWarning, Act, From, Start, Inside, To, Next, Ends, Piece, Leaves, Then, through, leaves, late, Clear, NullingStands, Shows, Hits, Reaches, behind, way, then_of, Warns, warn_then}, Lists.{clear_both, clear_first, clear_last, stands_on, stands_cases, shows_behind, shows_cases, hits_across, hits_cases, Split, first, across, last}, Algebra.{Yes, AtMost, Joins, most_behind, most_of, behind_is, then_clear, through_clear, leaves_clear, Came, second, passed, left as came_left, then_least, through_most, second_most, left_most}}
 
 abbrev pub warning : ℕ → ℕ → FlowWarning
 warning r k = record { read = r; since = k }

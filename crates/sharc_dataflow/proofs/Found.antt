@@ -1,8 +1,5 @@
 -- The warnings that are found are those of the paths.
-use Rattle.std.proofs.{Common.{◌≡◌, ℕ, List, [], ◌∷◌, ◌++◌, ◌⊎◌, inl, inr, Option, Some, None, Contains, ap, sym, subst, ◌∙◌, append-nil, arith, zero, suc, ◌+◌, ◌<◌, length}, lemmas.List.Elements.{Contains-append_left, Contains-append_right, Contains-append_cases}}
-use Rattle.std.specs.Prelude.{slice_index_or}
-use Rattle.sharc_dataflow.specs.{declared.step.Step.Step, declared.way.FlowWarning.FlowWarning, Flow.{Inside, Ends, Reaches}, Code.{Code, paths, listing}, Sums.warns, Passes.{Summing, Telling, summed, sum_start, told, tell_start, nowhere, heads}, Gathered.{all_nulled, all_warns}, Uses.{warning, IsUse, AddsUses}}
-use Rattle.sharc_dataflow.proofs.{Exact.{Warned, ShownPath}, Codes.exact_code, Named.{hit_nulls, in_code}, Summed.summed_piece, Told.told_piece}
+use Rattle.sharc_dataflow.proofs.{Imports.{◌≡◌, ℕ, List, [], ◌∷◌, ◌++◌, ◌⊎◌, inl, inr, Option, Some, None, Contains, ap, sym, subst, ◌∙◌, append-nil, arith, zero, suc, ◌+◌, ◌<◌, length, Contains-append_left, Contains-append_right, Contains-append_cases, slice_index_or, Step, FlowWarning, Inside, Ends, Reaches, Code, paths, listing, warns, Summing, Telling, summed, sum_start, told, tell_start, nowhere, heads, all_nulled, all_warns, warning, IsUse, AddsUses}, Exact.{Warned, ShownPath}, Codes.exact_code, Named.{hit_nulls, in_code}, Summed.summed_piece, Told.told_piece}
 
 -- the two passes, one after the other
 pub heads_are : (x : ℕ) (c : Code) → (summed x (listing c) sum_start).heads ≡ heads x c

@@ -1,7 +1,5 @@
 -- Variables by halves.
-use Rattle.std.proofs.{Common.{◌≡◌, ℕ, ◌<◌, ◌+◌, List, [], ◌∷◌, ◌++◌, ◌⊎◌, inl, inr, None, Contains, length, take, min, max, slice_index_or, refl, ap, sym, subst, ◌∙◌, append_assoc, add-one, arith}, Math.Seq.take-suc, lemmas.List.Elements.{Contains-append_left, Contains-append_right, Contains-append_cases}}
-use Rattle.sharc_dataflow.specs.{declared.step.Step.Step, declared.way.FlowWarning.FlowWarning, Code.{Code, listing}, Sums.warns, Gathered.all_warns, Narrow.{IsBetween, AreBetween, Same, IsSame}}
-use Rattle.sharc_dataflow.proofs.Found.{one_is}
+use Rattle.sharc_dataflow.proofs.{Imports.{◌≡◌, ℕ, ◌<◌, ◌+◌, List, [], ◌∷◌, ◌++◌, ◌⊎◌, inl, inr, None, Contains, length, take, min, max, slice_index_or, refl, ap, sym, subst, ◌∙◌, append_assoc, add-one, arith, take-suc, Contains-append_left, Contains-append_right, Contains-append_cases, Step, FlowWarning, Code, listing, warns, all_warns, IsBetween, AreBetween, Same, IsSame}, Found.one_is}
 
 -- ---- from the least to the greatest
 

@@ -1,6 +1,5 @@
 -- Laws of the ways to an exit.
-use Rattle.std.proofs.Common.{◌≡◌, ℕ, Option, Some, None, Bool, true, false, ◌&&◌, ◌||◌, refl, ap, sym, ◌∙◌, arith}
-use Rattle.sharc_dataflow.specs.{declared.way.Way.Way, Sums.{lower, kept, follow, either, free, closed}}
+use Rattle.sharc_dataflow.proofs.Imports.{◌≡◌, ℕ, Option, Some, None, Bool, true, false, ◌&&◌, ◌||◌, refl, ap, sym, ◌∙◌, arith, Way, lower, kept, follow, either, free, closed}
 
 pub lower_none : (o : Option ℕ) → lower o None ≡ o
 lower_none None = refl

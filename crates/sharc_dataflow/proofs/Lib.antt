@@ -1,3 +1,4 @@
+mod Imports
 pub mod Lists
 pub mod Algebra
 pub mod Exact

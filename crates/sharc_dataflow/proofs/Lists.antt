@@ -1,6 +1,5 @@
 -- What a list of actions has, where it is put together from two.
-use Rattle.std.proofs.Common.{ℕ, List, [], ◌∷◌, ◌++◌, ◌⊎◌, inl, inr}
-use Rattle.sharc_dataflow.specs.Flow.{Act, Spares, Clear, NullingStands, Shows, Hits}
+use Rattle.sharc_dataflow.proofs.Imports.{ℕ, List, [], ◌∷◌, ◌++◌, ◌⊎◌, inl, inr, Act, Spares, Clear, NullingStands, Shows, Hits}
 
 module _ (x : ℕ) where
   pub clear_both : (l m : List Act) → Clear x l → Clear x m → Clear x (l ++ m)

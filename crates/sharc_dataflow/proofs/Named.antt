@@ -1,7 +1,5 @@
 -- What a path nulls, a step nulls.
-use Rattle.std.proofs.{Common.{◌≡◌, ℕ, List, [], ◌∷◌, ◌++◌, ◌⊎◌, inl, inr, Contains, refl, ap, sym, subst, ◌∙◌, append_assoc}, lemmas.List.Elements.{Contains-append_left, Contains-append_right, Contains-push}}
-use Rattle.sharc_dataflow.specs.{declared.step.Step.Step, Flow.{Act, Nulls, From, Start, To, Next, Piece, Goes, goes, before, Does, done, ended, before as not_yet, Then, through, leaves, behind, Caught, on, as_is, Loop, left, ended as loop_ended, again, Hits}, Code.{Code, goes_to, acts, first_then, one_of, catches, repeats, paths, listing, step_of}, Gathered.{nulled_at, all_nulled}}
-use Rattle.sharc_dataflow.specs.declared.step.Step.TheVariants as steps
+use Rattle.sharc_dataflow.proofs.Imports.{◌≡◌, ℕ, List, [], ◌∷◌, ◌++◌, ◌⊎◌, inl, inr, Contains, refl, ap, sym, subst, ◌∙◌, append_assoc, Contains-append_left, Contains-append_right, Contains-push, Step, Act, Nulls, From, Start, To, Next, Piece, Goes, goes, before, Does, done, ended, before as not_yet, Then, through, leaves, late as behind, Caught, on, as_is, Loop, left, ended as loop_ended, again, Hits, Code, goes_to, acts, first_then, one_of, catches, repeats, paths, listing, step_of, nulled_at, all_nulled}
 
 abbrev pub NullIn : ℕ → List Act → Type 0
 NullIn x [] = ⊥
@@ -80,7 +78,7 @@ module _ (x : ℕ) where
   in_code (first_then a b) f t l p h =
       in_then (paths a) (paths b) (InSteps (listing a ++ listing b)) (λ f t l p h. in_first (listing a) (listing b) (in_code a f t l p h)) (λ f t l p h. in_second (listing a) (listing b) (in_code b f t l p h)) f t l p h
   in_code (one_of a b) f t l p h =
-      let rest = steps.Other ∷ (listing b ++ steps.Join ∷ []) in
-      in_either (paths a) (paths b) (InSteps (listing (one_of a b))) (λ f t l p h. in_first (listing a) rest (in_code a f t l p h)) (λ f t l p h. in_second (listing a) rest (in_first (listing b) (steps.Join ∷ []) (in_code b f t l p h))) f t l p h
-  in_code (catches a) f t l p h = in_caught (paths a) (InSteps (listing (catches a))) (λ f t l p h. in_first (listing a) (steps.Caught ∷ []) (in_code a f t l p h)) f t l p h
-  in_code (repeats a) f t l p h = in_loop (paths a) (InSteps (listing (repeats a))) (λ f t l p h. in_first (listing a) (steps.Again ∷ []) (in_code a f t l p h)) f t l p h
+      let rest = Step.Other ∷ (listing b ++ Step.Join ∷ []) in
+      in_either (paths a) (paths b) (InSteps (listing (one_of a b))) (λ f t l p h. in_first (listing a) rest (in_code a f t l p h)) (λ f t l p h. in_second (listing a) rest (in_first (listing b) (Step.Join ∷ []) (in_code b f t l p h))) f t l p h
+  in_code (catches a) f t l p h = in_caught (paths a) (InSteps (listing (catches a))) (λ f t l p h. in_first (listing a) (Step.Caught ∷ []) (in_code a f t l p h)) f t l p h
+  in_code (repeats a) f t l p h = in_loop (paths a) (InSteps (listing (repeats a))) (λ f t l p h. in_first (listing a) (Step.Again ∷ []) (in_code a f t l p h)) f t l p h

@@ -1,8 +1,6 @@
 -- What is kept of code is the same for the variables at hand.
-use Rattle.std.proofs.Common.{◌≡◌, ℕ, List, [], ◌∷◌, ◌++◌, Bool, true, false, nat_eq, refl, ap, sym, ◌∙◌, append_assoc, append-nil, arith}
-use Rattle.sharc_dataflow.specs.{declared.step.Step.Step, declared.exits.Exits.Exits, Flow.{Act, Reads, Nulls, Writes, To, Next, Broken, Continued, Ends}, Code.{Code, goes_to, acts, first_then, one_of, catches, repeats, step_of, listing}, Sums.{only, nulled, written, warn_read}, Passes.{last_or, front}, Narrow.{IsBetween, Same, IsSame, exits_to, either_exits, caught_exits, loop_exits, leading, Kept, kept, whole, nothing_kept, put_behind, then_kept, unless_none, either_kept, caught_kept, loop_kept, AllKept, all_kept, is_between, acts_if, narrows, narrowed, narrow_start}}
-use Rattle.sharc_dataflow.specs.declared.step.Step.TheVariants as steps
-use Rattle.sharc_dataflow.proofs.{Summed.{last_pushed, front_pushed, regroup, regroup_two}, Alike.{same_self, same_turned, same_then_same, same_then, same_either, same_caught, same_loop, same_assoc, start_same, same_end, out_same_then, out_same_either, out_same_caught, out_same_loop, out_same_goes}}
+use Rattle.sharc_dataflow.proofs.{Imports.{◌≡◌, ℕ, List, [], ◌∷◌, ◌++◌, Bool, true, false, nat_eq, refl, ap, sym, ◌∙◌, append_assoc, append-nil, arith, Step, Exits, Act, Reads, Nulls, Writes, To, Next, Broken, Continued, Ends, Code, goes_to, acts, first_then, one_of, catches, repeats, step_of, listing, only, nulled, written, warn_read, last_or, front, IsBetween, Same, IsSame, exits_to, either_exits, caught_exits, loop_exits, leading, Kept, whole, nothing_kept, put_behind, then_kept, unless_none, either_kept, caught_kept, loop_kept, AllKept, all_kept, is_between, acts_if, narrows, narrowed, narrow_start}, Summed.{last_pushed, front_pushed, regroup, regroup_two}, Alike.{same_self, same_turned, same_then_same, same_then, same_either, same_caught, same_loop, same_assoc, start_same, same_end, out_same_then, out_same_either, out_same_caught, out_same_loop, out_same_goes}}
+use Rattle.sharc_dataflow.specs.Narrow.{kept}
 
 left_nil : (l m : List Step) → l ++ m ≡ [] → l ≡ []
 left_nil [] m e = refl
@@ -73,34 +71,34 @@ module _ (first last : ℕ) where
   either_means a b c d m n = found (a.steps ++ b.steps) refl
     where
       around : List Step
-      around = steps.Fork ∷ (whole a ++ steps.Other ∷ (whole b ++ steps.Join ∷ []))
+      around = Step.Fork ∷ (whole a ++ Step.Other ∷ (whole b ++ Step.Join ∷ []))
 
       found : (l : List Step) → a.steps ++ b.steps ≡ l → Means (unless_none l around (either_exits a.behind b.behind)) (one_of c d)
       found [] e = left_out_means (either_exits a.behind b.behind)
           (same_then_same first last (same_turned first last (out_same_either first last a.behind b.behind)) (same_either first last (leads_same m (left_nil a.steps b.steps e)) (leads_same n (right_nil a.steps b.steps e))))
       found (s ∷ l) e = steps_mean around (one_of (first_then m.code (leading a.behind)) (first_then n.code (leading b.behind)))
-          (ap (λ z. steps.Fork ∷ z) (same_lists (same_lists m.lists refl) (ap (λ z. steps.Other ∷ z) (same_lists (same_lists n.lists refl) refl))))
+          (ap (λ z. Step.Fork ∷ z) (same_lists (same_lists m.lists refl) (ap (λ z. Step.Other ∷ z) (same_lists (same_lists n.lists refl) refl))))
           (same_either first last m.same n.same)
 
   caught_means : (a : Kept) (c : Code) → Means a c → Means (caught_kept a) (catches c)
   caught_means a c m = found a.steps refl
     where
       around : List Step
-      around = steps.Catch ∷ (whole a ++ steps.Caught ∷ [])
+      around = Step.Catch ∷ (whole a ++ Step.Caught ∷ [])
 
       found : (l : List Step) → a.steps ≡ l → Means (unless_none l around (caught_exits a.behind)) (catches c)
       found [] e = left_out_means (caught_exits a.behind) (same_then_same first last (same_turned first last (out_same_caught first last a.behind)) (same_caught first last (leads_same m e)))
-      found (s ∷ l) e = steps_mean around (catches (first_then m.code (leading a.behind))) (ap (λ z. steps.Catch ∷ z) (same_lists (same_lists m.lists refl) refl)) (same_caught first last m.same)
+      found (s ∷ l) e = steps_mean around (catches (first_then m.code (leading a.behind))) (ap (λ z. Step.Catch ∷ z) (same_lists (same_lists m.lists refl) refl)) (same_caught first last m.same)
 
   loop_means : (a : Kept) (c : Code) → Means a c → Means (loop_kept a) (repeats c)
   loop_means a c m = found a.steps refl
     where
       around : List Step
-      around = steps.Head ∷ (whole a ++ steps.Again ∷ [])
+      around = Step.Head ∷ (whole a ++ Step.Again ∷ [])
 
       found : (l : List Step) → a.steps ≡ l → Means (unless_none l around (loop_exits a.behind)) (repeats c)
       found [] e = left_out_means (loop_exits a.behind) (same_then_same first last (same_turned first last (out_same_loop first last a.behind)) (same_loop first last (leads_same m e)))
-      found (s ∷ l) e = steps_mean around (repeats (first_then m.code (leading a.behind))) (ap (λ z. steps.Head ∷ z) (same_lists (same_lists m.lists refl) refl)) (same_loop first last m.same)
+      found (s ∷ l) e = steps_mean around (repeats (first_then m.code (leading a.behind))) (ap (λ z. Step.Head ∷ z) (same_lists (same_lists m.lists refl) refl)) (same_loop first last m.same)
 
   -- ---- a variable that is not at hand
 
@@ -159,7 +157,7 @@ module _ (first last : ℕ) where
   closed_is f k g w = rw (last_pushed nothing_kept k w, front_pushed k w) refl
 
   joined_is : (k g h : Kept) (w : List Kept)
-      → narrows first last steps.Join (all_kept h ((w ++ k ∷ []) ++ g ∷ [])) ≡ all_kept (then_kept k (either_kept g h)) w
+      → narrows first last Step.Join (all_kept h ((w ++ k ∷ []) ++ g ∷ [])) ≡ all_kept (then_kept k (either_kept g h)) w
   joined_is k g h w = rw (last_pushed nothing_kept g (w ++ k ∷ []), front_pushed g (w ++ k ∷ []), last_pushed nothing_kept k w, front_pushed k w) refl
 
   pub goes : (c : Code) (rest : List Step) (k : Kept) (w : List Kept) (e : Code) → Means k e → Goes c rest k w e
@@ -179,26 +177,26 @@ module _ (first last : ℕ) where
         is = ap (λ z. narrowed first last z (all_kept k w)) (append_assoc (listing a) (listing b) rest) ∙ g.is ∙ h.is;
       }
   goes (one_of a b) rest k w e m =
-      let g = goes a (steps.Other ∷ (listing b ++ steps.Join ∷ rest)) nothing_kept (w ++ k ∷ []) (goes_to Next) begun in
-      let h = goes b (steps.Join ∷ rest) nothing_kept ((w ++ k ∷ []) ++ g.kept_now ∷ []) (goes_to Next) begun in
+      let g = goes a (Step.Other ∷ (listing b ++ Step.Join ∷ rest)) nothing_kept (w ++ k ∷ []) (goes_to Next) begun in
+      let h = goes b (Step.Join ∷ rest) nothing_kept ((w ++ k ∷ []) ++ g.kept_now ∷ []) (goes_to Next) begun in
       record {
         kept_now = then_kept k (either_kept g.kept_now h.kept_now);
         means = then_means k (either_kept g.kept_now h.kept_now) e (one_of a b) m (either_means g.kept_now h.kept_now a b (means_same g.means (start_same first last a)) (means_same h.means (start_same first last b)));
-        is = ap (λ z. narrowed first last z (all_kept k w)) (regroup_two steps.Fork steps.Other steps.Join (listing a) (listing b) rest) ∙ g.is ∙ h.is ∙ ap (narrowed first last rest) (joined_is k g.kept_now h.kept_now w);
+        is = ap (λ z. narrowed first last z (all_kept k w)) (regroup_two Step.Fork Step.Other Step.Join (listing a) (listing b) rest) ∙ g.is ∙ h.is ∙ ap (narrowed first last rest) (joined_is k g.kept_now h.kept_now w);
       }
   goes (catches a) rest k w e m =
-      let g = goes a (steps.Caught ∷ rest) nothing_kept (w ++ k ∷ []) (goes_to Next) begun in
+      let g = goes a (Step.Caught ∷ rest) nothing_kept (w ++ k ∷ []) (goes_to Next) begun in
       record {
         kept_now = then_kept k (caught_kept g.kept_now);
         means = then_means k (caught_kept g.kept_now) e (catches a) m (caught_means g.kept_now a (means_same g.means (start_same first last a)));
-        is = ap (λ z. narrowed first last z (all_kept k w)) (regroup steps.Catch steps.Caught (listing a) rest) ∙ g.is ∙ ap (narrowed first last rest) (closed_is caught_kept k g.kept_now w);
+        is = ap (λ z. narrowed first last z (all_kept k w)) (regroup Step.Catch Step.Caught (listing a) rest) ∙ g.is ∙ ap (narrowed first last rest) (closed_is caught_kept k g.kept_now w);
       }
   goes (repeats a) rest k w e m =
-      let g = goes a (steps.Again ∷ rest) nothing_kept (w ++ k ∷ []) (goes_to Next) begun in
+      let g = goes a (Step.Again ∷ rest) nothing_kept (w ++ k ∷ []) (goes_to Next) begun in
       record {
         kept_now = then_kept k (loop_kept g.kept_now);
         means = then_means k (loop_kept g.kept_now) e (repeats a) m (loop_means g.kept_now a (means_same g.means (start_same first last a)));
-        is = ap (λ z. narrowed first last z (all_kept k w)) (regroup steps.Head steps.Again (listing a) rest) ∙ g.is ∙ ap (narrowed first last rest) (closed_is loop_kept k g.kept_now w);
+        is = ap (λ z. narrowed first last z (all_kept k w)) (regroup Step.Head Step.Again (listing a) rest) ∙ g.is ∙ ap (narrowed first last rest) (closed_is loop_kept k g.kept_now w);
       }
 
   -- all steps that are kept of a body

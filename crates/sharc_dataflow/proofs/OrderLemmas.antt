@@ -1,8 +1,5 @@
 -- Of warnings in order, the first of each read.
-use Rattle.std.proofs.{Common.{◌≡◌, ℕ, suc, ◌+◌, ◌<◌, ◌≤◌, nat_lt, ◌==◌, List, [], ◌∷◌, ◌⊎◌, inl, inr, Option, Some, None, Bool, true, false, Contains, refl, ap, subst, ◌∙◌, arith, cond}, lemmas.Bool.Decides.nat_tests, lemmas.List.Elements.{Contains-append_left, Contains-append_right, Contains-append_cases, Contains-push}, lemmas.List.Sorted.{Contains-permutation, IsPermutation-sym}}
-use Rattle.std.specs.{Prelude.{slice_index_or, if◌then◌else◌}, declared.cmp.Ordering.TheVariants.{Less, Equal, Greater}, Ordering.{is_lt, ordering_then}, List.Sorted.IsSortedByKey}
-use Rattle.sharc_dataflow.specs.{declared.way.FlowWarning.FlowWarning, Orders.{read_and_since, by_read, IsInOrder, is_read, first_each}, Uses.{warning, HasWarning, Rising, AreFirsts}}
-use Rattle.sharc_dataflow.proofs.Found.{one_is}
+use Rattle.sharc_dataflow.proofs.{Imports.{◌≡◌, ℕ, suc, ◌+◌, ◌<◌, ◌≤◌, nat_lt, ◌==◌, List, [], ◌∷◌, ◌⊎◌, inl, inr, Option, Some, None, Bool, true, false, Contains, refl, ap, subst, ◌∙◌, arith, cond, nat_tests, Contains-append_left, Contains-append_right, Contains-append_cases, Contains-push, Contains-permutation, IsPermutation-sym, slice_index_or, if◌then◌else◌, Less, Equal, Greater, is_lt, ordering_then, IsSortedByKey, FlowWarning, read_and_since, by_read, IsInOrder, is_read, first_each, warning, HasWarning, Rising, AreFirsts}, Found.one_is}
 
 abbrev Before : FlowWarning → FlowWarning → Type 0
 Before a b = (a.read < b.read) ⊎ ((a.read ≡ b.read) × (a.since ≤ b.since))

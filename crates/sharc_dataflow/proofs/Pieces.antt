@@ -1,7 +1,5 @@
 -- Exactness of the other ways to put pieces of code together.
-use Rattle.std.proofs.{Common.{◌≡◌, ℕ, List, ◌++◌, ◌⊎◌, inl, inr, Option, Some, Contains}, lemmas.List.Elements.Contains-append_cases}
-use Rattle.sharc_dataflow.specs.{declared.way.Ways.Ways, Flow.{Act, From, Start, To, Next, Broken, Continued, Ends, Piece, Either, Caught, on, as_is, Loop, left, ended, again, Clear, NullingStands, Shows, Hits, Reaches}, Sums.{lower, way, either_of, caught_of, loop_of, Warns, warn_either, warn_loop}}
-use Rattle.sharc_dataflow.proofs.{Lists.{clear_last, stands_on, stands_cases, shows_cases, hits_across, hits_cases, Split, first, across, last}, Algebra.{Yes, AtMost, Joins, most_left, most_right, lower_is, most_behind, most_of, behind_is, either_clear, clear_left, clear_right, either_least, either_left, either_right, yes_left, yes_right, yes_either}, Exact.{Exact, ClearPath, StandingPath, ShownPath, Warned, warning, warned_left, warned_right}}
+use Rattle.sharc_dataflow.proofs.{Imports.{◌≡◌, ℕ, List, ◌++◌, ◌⊎◌, inl, inr, Option, Some, Contains, Contains-append_cases, Ways, Act, From, Start, To, Next, Broken, Continued, Ends, Piece, Either, Caught, on, as_is, Loop, left, ended, again, Clear, NullingStands, Shows, Hits, Reaches, lower, way, either_of, caught_of, loop_of, Warns, warn_either, warn_loop}, Lists.{clear_last, stands_on, stands_cases, shows_cases, hits_across, hits_cases, Split, first, across, last}, Algebra.{Yes, AtMost, Joins, most_left, most_right, lower_is, most_behind, most_of, behind_is, either_clear, clear_left, clear_right, either_least, either_left, either_right, yes_left, yes_right, yes_either}, Exact.{Exact, ClearPath, StandingPath, ShownPath, Warned, warning, warned_left, warned_right}}
 
 -- the one or the other
 module _ (x : ℕ) (A B : Piece) (a b : Ways) (wa wb : Warns) (ea : Exact x A a wa) (eb : Exact x B b wb) where

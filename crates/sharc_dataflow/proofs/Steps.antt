@@ -1,2 +1,2 @@
 -- One step more of a pass.
-use Rattle.std.proofs.Common.{◌≡◌, ◌+◌, ◌<◌, ◌∷◌, ◌∙◌}
+use Rattle.sharc_dataflow.proofs.Imports.{◌≡◌, ◌+◌, ◌<◌, ◌∷◌, ◌∙◌}

@@ -1,8 +1,5 @@
 -- What the backward pass finds of code.
-use Rattle.std.proofs.Common.{◌≡◌, ℕ, List, [], ◌∷◌, ◌++◌, Option, refl, ap, sym, ◌∙◌, append_assoc, append-nil}
-use Rattle.sharc_dataflow.specs.{declared.step.Step.Step, declared.way.Way.Way, declared.way.Ways.Ways, Flow.{Reads, Nulls, Writes, Next, Broken, Continued, Ends}, Code.{Code, goes_to, acts, first_then, one_of, catches, repeats, listing}, Sums.{follow, either, then_of, either_of, caught_of, loop_of, ways}, Passes.{last_or, front, heads, Summing, summing, nothing, back, summed}}
-use Rattle.sharc_dataflow.specs.declared.step.Step.TheVariants as steps
-use Rattle.sharc_dataflow.proofs.Laws.{follow_free, free_follow, follow_closed, follow_assoc, follow_either, either_assoc, either_closed}
+use Rattle.sharc_dataflow.proofs.{Imports.{◌≡◌, ℕ, List, [], ◌∷◌, ◌++◌, Option, refl, ap, sym, ◌∙◌, append_assoc, append-nil, Step, Way, Ways, Reads, Nulls, Writes, Next, Broken, Continued, Ends, Code, goes_to, acts, first_then, one_of, catches, repeats, listing, follow, either, then_of, either_of, caught_of, loop_of, ways, last_or, front, heads, Summing, summing, nothing, back, summed}, Laws.{follow_free, free_follow, follow_closed, follow_assoc, follow_either, either_assoc, either_closed}}
 
 pub last_pushed : {A : Type 0} (d a : A) (l : List A) → last_or d (l ++ a ∷ []) ≡ a
 last_pushed d a [] = refl
@@ -52,7 +49,7 @@ unchanged : (s : Summing) → s ≡ summing (then_of nothing s.now) s.waiting (s
 unchanged s = same_sums s.now (then_of nothing s.now) s.waiting s.waiting s.heads (s.heads ++ []) (sym (nothing_then s.now)) refl (sym (append-nil s.heads))
 
 module _ (x : ℕ) where
-  either_back : (a b : Code) (s : Summing) → back x steps.Fork (with_piece x a (back x steps.Other (with_piece x b (back x steps.Join s)))) ≡ with_piece x (one_of a b) s
+  either_back : (a b : Code) (s : Summing) → back x Step.Fork (with_piece x a (back x Step.Other (with_piece x b (back x Step.Join s)))) ≡ with_piece x (one_of a b) s
   either_back a b s =
       let one = s.waiting ++ s.now ∷ [] in
       let two = one ++ then_of (ways x b) nothing ∷ [] in
@@ -64,13 +61,13 @@ module _ (x : ℕ) where
       (ap front (front_pushed (then_of (ways x b) nothing) one) ∙ front_pushed s.now s.waiting)
       (append_assoc s.heads (heads x b) (heads x a))
 
-  caught_back : (a : Code) (s : Summing) → back x steps.Catch (with_piece x a (back x steps.Caught s)) ≡ with_piece x (catches a) s
+  caught_back : (a : Code) (s : Summing) → back x Step.Catch (with_piece x a (back x Step.Caught s)) ≡ with_piece x (catches a) s
   caught_back a s = same_sums _ (then_of (caught_of (ways x a)) s.now) _ s.waiting _ _
       (ap (λ z. then_of (caught_of z) (last_or nothing (s.waiting ++ s.now ∷ []))) (then_nothing (ways x a)) ∙ ap (then_of (caught_of (ways x a))) (last_pushed nothing s.now s.waiting))
       (front_pushed s.now s.waiting)
       refl
 
-  loop_back : (a : Code) (s : Summing) → back x steps.Head (with_piece x a (back x steps.Again s)) ≡ with_piece x (repeats a) s
+  loop_back : (a : Code) (s : Summing) → back x Step.Head (with_piece x a (back x Step.Again s)) ≡ with_piece x (repeats a) s
   loop_back a s = same_sums _ (then_of (loop_of (ways x a)) s.now) _ s.waiting _ _
       (ap (λ z. then_of (loop_of z) (last_or nothing (s.waiting ++ s.now ∷ []))) (then_nothing (ways x a)) ∙ ap (then_of (loop_of (ways x a))) (last_pushed nothing s.now s.waiting))
       (front_pushed s.now s.waiting)
@@ -89,11 +86,11 @@ module _ (x : ℕ) where
       ap (λ z. summed x z s) (append_assoc (listing a) (listing b) rest) ∙ summed_piece a (listing b ++ rest) s ∙ ap (with_piece x a) (summed_piece b rest s)
       ∙ same_sums _ _ t.waiting t.waiting _ _ (sym (then_assoc (ways x a) (ways x b) t.now)) refl (append_assoc t.heads (heads x b) (heads x a))
   summed_piece (one_of a b) rest s =
-      ap (λ z. summed x z s) (regroup_two steps.Fork steps.Other steps.Join (listing a) (listing b) rest)
-      ∙ ap (back x steps.Fork) (summed_piece a (steps.Other ∷ (listing b ++ steps.Join ∷ rest)) s)
-      ∙ ap (λ z. back x steps.Fork (with_piece x a (back x steps.Other z))) (summed_piece b (steps.Join ∷ rest) s)
+      ap (λ z. summed x z s) (regroup_two Step.Fork Step.Other Step.Join (listing a) (listing b) rest)
+      ∙ ap (back x Step.Fork) (summed_piece a (Step.Other ∷ (listing b ++ Step.Join ∷ rest)) s)
+      ∙ ap (λ z. back x Step.Fork (with_piece x a (back x Step.Other z))) (summed_piece b (Step.Join ∷ rest) s)
       ∙ either_back a b (summed x rest s)
   summed_piece (catches a) rest s =
-      ap (λ z. summed x z s) (regroup steps.Catch steps.Caught (listing a) rest) ∙ ap (back x steps.Catch) (summed_piece a (steps.Caught ∷ rest) s) ∙ caught_back a (summed x rest s)
+      ap (λ z. summed x z s) (regroup Step.Catch Step.Caught (listing a) rest) ∙ ap (back x Step.Catch) (summed_piece a (Step.Caught ∷ rest) s) ∙ caught_back a (summed x rest s)
   summed_piece (repeats a) rest s =
-      ap (λ z. summed x z s) (regroup steps.Head steps.Again (listing a) rest) ∙ ap (back x steps.Head) (summed_piece a (steps.Again ∷ rest) s) ∙ loop_back a (summed x rest s)
+      ap (λ z. summed x z s) (regroup Step.Head Step.Again (listing a) rest) ∙ ap (back x Step.Head) (summed_piece a (Step.Again ∷ rest) s) ∙ loop_back a (summed x rest s)

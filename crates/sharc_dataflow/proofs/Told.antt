@@ -1,8 +1,5 @@
 -- What the forward pass reports of code.
-use Rattle.std.proofs.Common.{◌≡◌, ℕ, List, [], ◌∷◌, ◌++◌, Option, None, true, nat_eq, refl, ap, sym, ◌∙◌, append_assoc, append-nil}
-use Rattle.sharc_dataflow.specs.{declared.step.Step.Step, declared.way.Way.Way, declared.way.Ways.Ways, declared.way.StandingNullings.StandingNullings, declared.way.FlowWarning.FlowWarning, Flow.{Reads, Nulls, Writes, Next, Broken, Continued, Ends}, Code.{Code, goes_to, acts, first_then, one_of, catches, repeats, listing}, Sums.{lower, behind, closed, free, follow, either, only, goes_of, then_of, nulled, written, ways, warns}, Passes.{last_or, front, heads, Telling, telling, forth, told, turning}}
-use Rattle.sharc_dataflow.specs.declared.step.Step.TheVariants as steps
-use Rattle.sharc_dataflow.proofs.{Laws.{lower_none, lower_turned, lower_assoc, follow_assoc, follow_either}, Summed.{last_pushed, front_pushed, regroup, regroup_two}}
+use Rattle.sharc_dataflow.proofs.{Imports.{◌≡◌, ℕ, List, [], ◌∷◌, ◌++◌, Option, None, true, nat_eq, refl, ap, sym, ◌∙◌, append_assoc, append-nil, Step, Way, Ways, StandingNullings, FlowWarning, Reads, Nulls, Writes, Next, Broken, Continued, Ends, Code, goes_to, acts, first_then, one_of, catches, repeats, listing, lower, behind, closed, free, follow, either, only, goes_of, then_of, nulled, written, ways, warns, last_or, front, heads, Telling, telling, forth, told, turning}, Laws.{lower_none, lower_turned, lower_assoc, follow_assoc, follow_either}, Summed.{last_pushed, front_pushed, regroup, regroup_two}}
 
 -- what a piece does to all that holds
 abbrev pub passed : Ways → StandingNullings → StandingNullings
@@ -53,11 +50,11 @@ module _ (x : ℕ) where
   plain c s s2 o hs f e q = same_telling _ _ _ _ _ _ _ _ e refl (append-nil hs) (sym (ap (λ z. f ++ z) q ∙ append-nil f))
 
   after_other : (a b : Code) (s : StandingNullings) (o hs : List (Option ℕ)) (f : List FlowWarning)
-      → forth x steps.Other (behind_piece a s (o ++ s.next ∷ []) (hs ++ heads x b) f) ≡ telling (standing_of s.next (passed (ways x a) s).broken (passed (ways x a) s).continued) (o ++ (passed (ways x a) s).next ∷ []) (hs ++ heads x b) (f ++ warns x a s.next)
+      → forth x Step.Other (behind_piece a s (o ++ s.next ∷ []) (hs ++ heads x b) f) ≡ telling (standing_of s.next (passed (ways x a) s).broken (passed (ways x a) s).continued) (o ++ (passed (ways x a) s).next ∷ []) (hs ++ heads x b) (f ++ warns x a s.next)
   after_other a b s o hs f = let s1 = passed (ways x a) s in same_telling _ _ _ _ _ _ _ _ (ap (λ z. standing_of z s1.broken s1.continued) (last_pushed None s.next o)) (ap (λ z. z ++ s1.next ∷ []) (front_pushed s.next o)) refl refl
 
   after_join : (a b : Code) (s : StandingNullings) (o hs : List (Option ℕ)) (f : List FlowWarning)
-      → forth x steps.Join (behind_piece b (standing_of s.next (passed (ways x a) s).broken (passed (ways x a) s).continued) (o ++ (passed (ways x a) s).next ∷ []) hs (f ++ warns x a s.next)) ≡ behind_piece (one_of a b) s o hs f
+      → forth x Step.Join (behind_piece b (standing_of s.next (passed (ways x a) s).broken (passed (ways x a) s).continued) (o ++ (passed (ways x a) s).next ∷ []) hs (f ++ warns x a s.next)) ≡ behind_piece (one_of a b) s o hs f
   after_join a b s o hs f =
       let s1 = passed (ways x a) s in
       let wa = ways x a in
@@ -70,7 +67,7 @@ module _ (x : ℕ) where
       (front_pushed s1.next o) refl (append_assoc f (warns x a s.next) (warns x b s.next))
 
   after_caught : (a : Code) (s : StandingNullings) (o hs : List (Option ℕ)) (f : List FlowWarning)
-      → forth x steps.Caught (behind_piece a (standing_of s.next s.broken None) (o ++ s.continued ∷ []) hs f) ≡ behind_piece (catches a) s o hs f
+      → forth x Step.Caught (behind_piece a (standing_of s.next s.broken None) (o ++ s.continued ∷ []) hs f) ≡ behind_piece (catches a) s o hs f
   after_caught a s o hs f =
       let wa = ways x a in
       same_telling _ _ _ _ _ _ _ _
@@ -78,7 +75,7 @@ module _ (x : ℕ) where
       (front_pushed s.continued o) refl refl
 
   after_again : (a : Code) (s : StandingNullings) (o hs : List (Option ℕ)) (f : List FlowWarning)
-      → forth x steps.Again (behind_piece a (turning (ways x a).next.least s) ((o ++ s.broken ∷ []) ++ s.continued ∷ []) hs f) ≡ behind_piece (repeats a) s o hs f
+      → forth x Step.Again (behind_piece a (turning (ways x a).next.least s) ((o ++ s.broken ∷ []) ++ s.continued ∷ []) hs f) ≡ behind_piece (repeats a) s o hs f
   after_again a s o hs f =
       let wa = ways x a in
       let k = wa.next.least in
@@ -107,20 +104,20 @@ module _ (x : ℕ) where
       ∙ ap (told x rest) (same_telling _ _ _ _ _ _ _ _ (passed_then (ways x a) (ways x b) s) refl refl (append_assoc f (warns x a s.next) (warns x b s1.next)))
   told_piece (one_of a b) rest s o hs f =
       let s1 = passed (ways x a) s in
-      ap (λ z. told x z (telling s o (hs ++ (heads x b ++ heads x a)) f)) (regroup_two steps.Fork steps.Other steps.Join (listing a) (listing b) rest)
-      ∙ ap (λ z. told x (listing a ++ steps.Other ∷ (listing b ++ steps.Join ∷ rest)) (telling s (o ++ s.next ∷ []) z f)) (sym (append_assoc hs (heads x b) (heads x a)))
-      ∙ told_piece a (steps.Other ∷ (listing b ++ steps.Join ∷ rest)) s (o ++ s.next ∷ []) (hs ++ heads x b) f
-      ∙ ap (told x (listing b ++ steps.Join ∷ rest)) (after_other a b s o hs f)
-      ∙ told_piece b (steps.Join ∷ rest) (standing_of s.next s1.broken s1.continued) (o ++ s1.next ∷ []) hs (f ++ warns x a s.next)
+      ap (λ z. told x z (telling s o (hs ++ (heads x b ++ heads x a)) f)) (regroup_two Step.Fork Step.Other Step.Join (listing a) (listing b) rest)
+      ∙ ap (λ z. told x (listing a ++ Step.Other ∷ (listing b ++ Step.Join ∷ rest)) (telling s (o ++ s.next ∷ []) z f)) (sym (append_assoc hs (heads x b) (heads x a)))
+      ∙ told_piece a (Step.Other ∷ (listing b ++ Step.Join ∷ rest)) s (o ++ s.next ∷ []) (hs ++ heads x b) f
+      ∙ ap (told x (listing b ++ Step.Join ∷ rest)) (after_other a b s o hs f)
+      ∙ told_piece b (Step.Join ∷ rest) (standing_of s.next s1.broken s1.continued) (o ++ s1.next ∷ []) hs (f ++ warns x a s.next)
       ∙ ap (told x rest) (after_join a b s o hs f)
   told_piece (catches a) rest s o hs f =
-      ap (λ z. told x z (telling s o (hs ++ heads x a) f)) (regroup steps.Catch steps.Caught (listing a) rest)
-      ∙ told_piece a (steps.Caught ∷ rest) (standing_of s.next s.broken None) (o ++ s.continued ∷ []) hs f
+      ap (λ z. told x z (telling s o (hs ++ heads x a) f)) (regroup Step.Catch Step.Caught (listing a) rest)
+      ∙ told_piece a (Step.Caught ∷ rest) (standing_of s.next s.broken None) (o ++ s.continued ∷ []) hs f
       ∙ ap (told x rest) (after_caught a s o hs f)
   told_piece (repeats a) rest s o hs f =
       let k = (ways x a).next.least in
-      ap (λ z. told x z (telling s o (hs ++ (heads x a ++ k ∷ [])) f)) (regroup steps.Head steps.Again (listing a) rest)
-      ∙ ap (λ z. told x (steps.Head ∷ (listing a ++ steps.Again ∷ rest)) (telling s o z f)) (sym (append_assoc hs (heads x a) (k ∷ [])))
-      ∙ ap (told x (listing a ++ steps.Again ∷ rest)) (same_telling _ _ _ _ _ _ _ _ (ap (λ z. turning z s) (last_pushed None k (hs ++ heads x a))) refl (front_pushed k (hs ++ heads x a)) refl)
-      ∙ told_piece a (steps.Again ∷ rest) (turning k s) ((o ++ s.broken ∷ []) ++ s.continued ∷ []) hs f
+      ap (λ z. told x z (telling s o (hs ++ (heads x a ++ k ∷ [])) f)) (regroup Step.Head Step.Again (listing a) rest)
+      ∙ ap (λ z. told x (Step.Head ∷ (listing a ++ Step.Again ∷ rest)) (telling s o z f)) (sym (append_assoc hs (heads x a) (k ∷ [])))
+      ∙ ap (told x (listing a ++ Step.Again ∷ rest)) (same_telling _ _ _ _ _ _ _ _ (ap (λ z. turning z s) (last_pushed None k (hs ++ heads x a))) refl (front_pushed k (hs ++ heads x a)) refl)
+      ∙ told_piece a (Step.Again ∷ rest) (turning k s) ((o ++ s.broken ∷ []) ++ s.continued ∷ []) hs f
       ∙ ap (told x rest) (after_again a s o hs f)

@@ -1,20 +1,6 @@
 -- Accesses of cells, with the mutex of their mode.
-use Rattle.std.proofs.{Common.{◌≡◌, ℕ, ◌+◌, ◌-◌, ◌<◌, ◌≤◌, Bool, true, false, cond, List, [], ◌∷◌, ◌++◌, length, get_or, Option, Some, None, refl, sym, ap, ◌∙◌, subst, arith}, lemmas.List.{get_or-append-add, get_or_append_left}}
-use Rattle.std.specs.Prelude.{ℤ, pos, slice_get, not}
-use Rattle.sharc_tree.specs.{declared.event.Act.Act, declared.event.CellAt.CellAt, declared.event.CellMode.CellMode, declared.event.Object.TheVariants.{Global, Made}, declared.event.SourceEvent.SourceEvent, declared.token.Site.Site, declared.token.Span.Span}
-use Rattle.sharc_tree.specs.declared.event.Act.TheVariants as acts
-use Rattle.sharc_tree.specs.declared.event.CellMode.TheVariants as modes
-use Rattle.sharc_tree.specs.declared.trap.Trap.TheVariants as traps
-use Rattle.sharc_names.specs.declared.fault.Named.{Named}
-use Rattle.sharc_names.specs.declared.fault.Named.TheVariants as named
-use Rattle.sharc_code.specs.{declared.code.PlaceMode.PlaceMode, declared.instr.Cell.Cell, declared.instr.Register.TheVariants.Reference}
-use Rattle.sharc_code.specs.declared.code.PlaceMode.TheVariants as places
-use Rattle.sharc_ctype.specs.Resolved.{named_at}
-use Rattle.sharc_mode.specs.{Cells.is_behind_pointer, Moded.Assignment, Sharings.{Lock, Sharing, private, readonly, locked, racy, dynamic}}
-use Rattle.sharc_meaning.specs.{declared.given.GivenUp.GivenUp, Cells.{cell_of, through, guard_named, guard_beside, guard_by, mutex_named, field_place, field_place_behind, behind}, Places.{guarding, access_mode}, Reference.{is_null, number_of}, State.{State, stopped, Run, then_on, ◌>>◌, give, unless_stop, happens, answered, answer_of, event_of, value_in, value_of, pointers_among}}
-use Rattle.sharc_flat.specs.{declared.op.Op.Op, declared.op.Spot.Spot, Machine.{At, asks, halts, cell_at, accessed, next as on, op_turn, first_cell}, declared.slot.Lvalue.Lvalue, Scope.{Context, ref_count, register_of, number_in, slot_kind}, declared.slot.Slot.Slot, Places.{Target, guard_field, beside_field, place_mode, mode_named, mode_beside, guard_code, guard_cell, field_of, spot_of}, Suits.{PathNamed, PathStands}}
-use Rattle.sharc_flat.specs.declared.op.Op.TheVariants as op
-use Rattle.sharc_flat.proofs.{Under.{under, under_lock, mutex_of, accesses_under}, Runs.{HasAt, Fin, fin_of, fin_then, Same, weaken, Holds, ends, bind, asks_at, after_event}, Agreeing.{PointerAt, pointer_at, Standing, place, Agree, below, holding, refs_length, same_frame}}
+use Rattle.sharc_flat.proofs.{Imports.{◌≡◌, ℕ, ◌+◌, ◌-◌, ◌<◌, ◌≤◌, Bool, true, false, cond, List, [], ◌∷◌, ◌++◌, length, get_or, Option, Some, None, refl, sym, ap, ◌∙◌, subst, arith, get_or-append-add, get_or_append_left, ℤ, pos, slice_get, not, Act, CellAt, CellMode, Global, Made, SourceEvent, Site, Span, Trap, Named, PlaceMode, Cell, Reference, named_at, is_behind_pointer, Assignment, Sharing, private, readonly, locked, racy, dynamic, GivenUp, cell_of, through, guard_named, guard_beside, guard_by, mutex_named, field_place, field_place_behind, behind, guarding, access_mode, is_null, number_of, State, stopped, Run, then_on, ◌>>◌, give, unless_stop, happens, answered, answer_of, event_of, value_in, value_of, pointers_among, Op, Spot, At, asks, halts, cell_at, accessed, on, op_turn, first_cell, Lvalue, Context, ref_count, register_of, number_in, slot_kind, Slot, Target, guard_field, beside_field, place_mode, mode_named, mode_beside, guard_code, guard_cell, field_of, spot_of, PathNamed, PathStands}, Under.{under, under_lock, mutex_of, accesses_under}, Runs.{HasAt, Fin, fin_of, fin_then, Same, weaken, Holds, ends, bind, asks_at, after_event}, Agreeing.{PointerAt, pointer_at, Standing, place, Agree, below, holding, refs_length, same_frame}}
+use Rattle.sharc_mode.specs.Sharings.{Lock}
 use Rattle.sharc_flat.specs.Places as places_of
 
 -- with what was read for a lock
@@ -83,72 +69,72 @@ module _ (m : Assignment) (z : Standing) (scope : List Slot) where
 
     -- where its path leads through NULL
     stops_access : (pc c : ℕ) (p : ℤ) (ys : List ℤ) (es : List SourceEvent) (gs : List GivenUp) → slice_get z.flat.lines pc ≡ Some o
-        → (let u = record s { answers = ys; events = es; given_up = gs } in op_turn z.flat o (pending_place z pc ints refs u p) ≡ halts (stopped traps.NullPointer spot.site))
-        → (let u = record s { answers = ys; events = es; given_up = gs } in Same z.flat s.fuel (c + 1) (fin_of (stopped traps.NullPointer site) u) ys (pending_place z pc ints refs u p))
+        → (let u = record s { answers = ys; events = es; given_up = gs } in op_turn z.flat o (pending_place z pc ints refs u p) ≡ halts (stopped Trap.NullPointer spot.site))
+        → (let u = record s { answers = ys; events = es; given_up = gs } in Same z.flat s.fuel (c + 1) (fin_of (stopped Trap.NullPointer site) u) ys (pending_place z pc ints refs u p))
     stops_access pc c p ys es gs at is =
         let u : State = record s { answers = ys; events = es; given_up = gs } in
-        ends z.flat o (stopped traps.NullPointer site) c u (pending_place z pc ints refs u p) (holding z T scope ints refs u (same_frame z T scope [] ints refs s u refl refl agree)) refl refl at (is ∙ ap (λ w. halts (stopped traps.NullPointer w)) site_is)
+        ends z.flat o (stopped Trap.NullPointer site) c u (pending_place z pc ints refs u p) (holding z T scope ints refs u (same_frame z T scope [] ints refs s u refl refl agree)) refl refl at (is ∙ ap (λ w. halts (stopped Trap.NullPointer w)) site_is)
 
     -- a mutex behind a variable
-    by_variable : (b : Bool) (x n field pc c : ℕ) → is_null (value_of s x) ≡ b → refs (z.refs + n) ≡ value_of s x → spot.mode ≡ places.LockedThrough n field → slice_get z.flat.lines pc ≡ Some o → Goes pc c
-        → Same z.flat s.fuel (c + 1) (fin_then (then_on (then_on (guarding site (guard_by (through (value_of s x) field)) s) (λ mutex. give (modes.Locked (Some mutex)))) f) k) s.answers (place z pc ints refs s)
+    by_variable : (b : Bool) (x n field pc c : ℕ) → is_null (value_of s x) ≡ b → refs (z.refs + n) ≡ value_of s x → spot.mode ≡ PlaceMode.LockedThrough n field → slice_get z.flat.lines pc ≡ Some o → Goes pc c
+        → Same z.flat s.fuel (c + 1) (fin_then (then_on (then_on (guarding site (guard_by (through (value_of s x) field)) s) (λ mutex. give (CellMode.Locked (Some mutex)))) f) k) s.answers (place z pc ints refs s)
     by_variable true x n field pc c e is mode at rest =
         let none : through (refs (z.refs + n)) field ≡ None = ap (λ v. through v field) is ∙ null_mutex (value_of s x) field e in
-        subst (λ t. Same z.flat s.fuel (c + 1) (fin_then (then_on (then_on (guarding site (guard_by t) s) (λ mutex. give (modes.Locked (Some mutex)))) f) k) s.answers (place z pc ints refs s)) (sym (null_mutex (value_of s x) field e))
+        subst (λ t. Same z.flat s.fuel (c + 1) (fin_then (then_on (then_on (guarding site (guard_by t) s) (λ mutex. give (CellMode.Locked (Some mutex)))) f) k) s.answers (place z pc ints refs s)) (sym (null_mutex (value_of s x) field e))
         (stops_access pc c (pos 0) s.answers s.events s.given_up at
         (turn_is pc (pos 0) s ∙ ap (λ w. under w (mutex_of z.flat.globals (place z pc ints refs s) cell w) spot (λ mode. asks (place z pc ints refs s) spot.site (act mode) (pos 0) (λ v n. accessed (on (then_ v n))))) mode
         ∙ ap (λ t. under_lock t spot (λ mode. asks (place z pc ints refs s) spot.site (act mode) (pos 0) (λ v n. accessed (on (then_ v n))))) none))
     by_variable false x n field pc c e is mode at rest =
         let some : through (refs (z.refs + n)) field ≡ Some (cell_of (Made (number_of (value_of s x))) field) = ap (λ v. through v field) is ∙ some_mutex (value_of s x) field e in
-        subst (λ t. Same z.flat s.fuel (c + 1) (fin_then (then_on (then_on (guarding site (guard_by t) s) (λ mutex. give (modes.Locked (Some mutex)))) f) k) s.answers (place z pc ints refs s)) (sym (some_mutex (value_of s x) field e))
-        (asks_access (modes.Locked (Some (cell_of (Made (number_of (value_of s x))) field))) pc c (pos 0) s.answers s.events s.given_up at
+        subst (λ t. Same z.flat s.fuel (c + 1) (fin_then (then_on (then_on (guarding site (guard_by t) s) (λ mutex. give (CellMode.Locked (Some mutex)))) f) k) s.answers (place z pc ints refs s)) (sym (some_mutex (value_of s x) field e))
+        (asks_access (CellMode.Locked (Some (cell_of (Made (number_of (value_of s x))) field))) pc c (pos 0) s.answers s.events s.given_up at
         (turn_is pc (pos 0) s ∙ ap (λ w. under w (mutex_of z.flat.globals (place z pc ints refs s) cell w) spot (λ mode. asks (place z pc ints refs s) spot.site (act mode) (pos 0) (λ v n. accessed (on (then_ v n))))) mode
         ∙ ap (λ t. under_lock t spot (λ mode. asks (place z pc ints refs s) spot.site (act mode) (pos 0) (λ v n. accessed (on (then_ v n))))) some) rest)
 
     -- a mutex in a cell that is known
     by_cell : (at_mutex : CellAt) (pc c : ℕ) → (mode : PlaceMode) → spot.mode ≡ mode
         → ((u : State) → under mode (mutex_of z.flat.globals (place z pc ints refs u) cell mode) spot (λ mode. asks (place z pc ints refs u) spot.site (act mode) (pos 0) (λ v n. accessed (on (then_ v n))))
-        ≡ asks (place z pc ints refs u) spot.site (act (modes.Locked (Some at_mutex))) (pos 0) (λ v n. accessed (on (then_ v n))))
+        ≡ asks (place z pc ints refs u) spot.site (act (CellMode.Locked (Some at_mutex))) (pos 0) (λ v n. accessed (on (then_ v n))))
         → slice_get z.flat.lines pc ≡ Some o → Goes pc c
-        → Same z.flat s.fuel (c + 1) (fin_then (f (modes.Locked (Some at_mutex)) s) k) s.answers (place z pc ints refs s)
+        → Same z.flat s.fuel (c + 1) (fin_then (f (CellMode.Locked (Some at_mutex)) s) k) s.answers (place z pc ints refs s)
     by_cell at_mutex pc c mode is turn at rest =
-        asks_access (modes.Locked (Some at_mutex)) pc c (pos 0) s.answers s.events s.given_up at
+        asks_access (CellMode.Locked (Some at_mutex)) pc c (pos 0) s.answers s.events s.given_up at
         (turn_is pc (pos 0) s ∙ ap (λ w. under w (mutex_of z.flat.globals (place z pc ints refs s) cell w) spot (λ mode. asks (place z pc ints refs s) spot.site (act mode) (pos 0) (λ v n. accessed (on (then_ v n))))) is ∙ turn s) rest
 
     -- no mutex at all
-    by_none : (pc c : ℕ) → spot.mode ≡ places.LockedLoaded → slice_get z.flat.lines pc ≡ Some o → Same z.flat s.fuel (c + 1) (fin_of (stopped traps.NullPointer site) s) s.answers (place z pc ints refs s)
+    by_none : (pc c : ℕ) → spot.mode ≡ PlaceMode.LockedLoaded → slice_get z.flat.lines pc ≡ Some o → Same z.flat s.fuel (c + 1) (fin_of (stopped Trap.NullPointer site) s) s.answers (place z pc ints refs s)
     by_none pc c mode at =
         stops_access pc c (pos 0) s.answers s.events s.given_up at
         (turn_is pc (pos 0) s ∙ ap (λ w. under w (mutex_of z.flat.globals (place z pc ints refs s) cell w) spot (λ mode. asks (place z pc ints refs s) spot.site (act mode) (pos 0) (λ v n. accessed (on (then_ v n))))) mode)
 
     -- a mutex behind a pointer, which has been read
-    behind_read : (b : Bool) (p : ℤ) (pc c : ℕ) (ys : List ℤ) (es : List SourceEvent) → is_null p ≡ b → spot.mode ≡ places.LockedLoaded → slice_get z.flat.lines pc ≡ Some o → Goes pc c
-        → Same z.flat s.fuel (c + 1) (fin_then (then_on (unless_stop (not (is_null p)) traps.NullPointer site (after_event s ys es)) (λ _. give (cell_of (Made (number_of p)) 0))) (λ mutex u. fin_then (f (modes.Locked (Some mutex)) u) k)) ys (pending_place z pc ints refs (after_event s ys es) p)
+    behind_read : (b : Bool) (p : ℤ) (pc c : ℕ) (ys : List ℤ) (es : List SourceEvent) → is_null p ≡ b → spot.mode ≡ PlaceMode.LockedLoaded → slice_get z.flat.lines pc ≡ Some o → Goes pc c
+        → Same z.flat s.fuel (c + 1) (fin_then (then_on (unless_stop (not (is_null p)) Trap.NullPointer site (after_event s ys es)) (λ _. give (cell_of (Made (number_of p)) 0))) (λ mutex u. fin_then (f (CellMode.Locked (Some mutex)) u) k)) ys (pending_place z pc ints refs (after_event s ys es) p)
     behind_read true p pc c ys es e mode at rest =
-        subst (λ b. Same z.flat s.fuel (c + 1) (fin_then (then_on (unless_stop (not b) traps.NullPointer site (after_event s ys es)) (λ _. give (cell_of (Made (number_of p)) 0))) (λ mutex u. fin_then (f (modes.Locked (Some mutex)) u) k)) ys (pending_place z pc ints refs (after_event s ys es) p)) (sym e)
+        subst (λ b. Same z.flat s.fuel (c + 1) (fin_then (then_on (unless_stop (not b) Trap.NullPointer site (after_event s ys es)) (λ _. give (cell_of (Made (number_of p)) 0))) (λ mutex u. fin_then (f (CellMode.Locked (Some mutex)) u) k)) ys (pending_place z pc ints refs (after_event s ys es) p)) (sym e)
         (stops_access pc c p ys es [] at
         (turn_is pc p (after_event s ys es) ∙ ap (λ w. under w (mutex_of z.flat.globals (pending_place z pc ints refs (after_event s ys es) p) cell w) spot (λ mode. asks (pending_place z pc ints refs (after_event s ys es) p) spot.site (act mode) (pos 0) (λ v n. accessed (on (then_ v n))))) mode
         ∙ ap (λ t. under_lock t spot (λ mode. asks (pending_place z pc ints refs (after_event s ys es) p) spot.site (act mode) (pos 0) (λ v n. accessed (on (then_ v n))))) (null_mutex p 0 e)))
     behind_read false p pc c ys es e mode at rest =
-        subst (λ b. Same z.flat s.fuel (c + 1) (fin_then (then_on (unless_stop (not b) traps.NullPointer site (after_event s ys es)) (λ _. give (cell_of (Made (number_of p)) 0))) (λ mutex u. fin_then (f (modes.Locked (Some mutex)) u) k)) ys (pending_place z pc ints refs (after_event s ys es) p)) (sym e)
-        (asks_access (modes.Locked (Some (cell_of (Made (number_of p)) 0))) pc c p ys es [] at
+        subst (λ b. Same z.flat s.fuel (c + 1) (fin_then (then_on (unless_stop (not b) Trap.NullPointer site (after_event s ys es)) (λ _. give (cell_of (Made (number_of p)) 0))) (λ mutex u. fin_then (f (CellMode.Locked (Some mutex)) u) k)) ys (pending_place z pc ints refs (after_event s ys es) p)) (sym e)
+        (asks_access (CellMode.Locked (Some (cell_of (Made (number_of p)) 0))) pc c p ys es [] at
         (turn_is pc p (after_event s ys es) ∙ ap (λ w. under w (mutex_of z.flat.globals (pending_place z pc ints refs (after_event s ys es) p) cell w) spot (λ mode. asks (pending_place z pc ints refs (after_event s ys es) p) spot.site (act mode) (pos 0) (λ v n. accessed (on (then_ v n))))) mode
         ∙ ap (λ t. under_lock t spot (λ mode. asks (pending_place z pc ints refs (after_event s ys es) p) spot.site (act mode) (pos 0) (λ v n. accessed (on (then_ v n))))) (some_mutex p 0 e)) rest)
 
-    by_behind : (guard : Op) (gspot : Spot) (gcell : Cell) (at_guard : CellAt) (pc c : ℕ) → guard ≡ op.LoadGuard gcell gspot → gspot.site ≡ site → ((u : State) → cell_at z.flat.globals (place z pc ints refs u) gcell ≡ at_guard)
-        → spot.mode ≡ places.LockedLoaded → slice_get z.flat.lines pc ≡ Some guard → slice_get z.flat.lines (pc + 1) ≡ Some o → Goes (pc + 1) c
-        → Same z.flat s.fuel (c + 2) (fin_then (then_on (then_on (guarding site (behind at_guard) s) (λ mutex. give (modes.Locked (Some mutex)))) f) k) s.answers (place z pc ints refs s)
+    by_behind : (guard : Op) (gspot : Spot) (gcell : Cell) (at_guard : CellAt) (pc c : ℕ) → guard ≡ Op.LoadGuard gcell gspot → gspot.site ≡ site → ((u : State) → cell_at z.flat.globals (place z pc ints refs u) gcell ≡ at_guard)
+        → spot.mode ≡ PlaceMode.LockedLoaded → slice_get z.flat.lines pc ≡ Some guard → slice_get z.flat.lines (pc + 1) ≡ Some o → Goes (pc + 1) c
+        → Same z.flat s.fuel (c + 2) (fin_then (then_on (then_on (guarding site (behind at_guard) s) (λ mutex. give (CellMode.Locked (Some mutex)))) f) k) s.answers (place z pc ints refs s)
     by_behind guard gspot gcell at_guard pc c g gsite cell_is mode at_g at rest =
         let m0 = place z pc ints refs s in
         let two : c + 1 + 1 ≡ c + 2 = omega arith in
-        bind z.flat s.fuel (c + 2) s.answers (then_on (guarding site (behind at_guard) s) (λ mutex. give (modes.Locked (Some mutex)))) f k m0
-        (bind z.flat s.fuel (c + 2) s.answers (guarding site (behind at_guard) s) (λ mutex. give (modes.Locked (Some mutex))) (λ mode u. fin_then (f mode u) k) m0
-        (bind z.flat s.fuel (c + 2) s.answers (answered site (acts.Read at_guard modes.Readonly) s) (λ p. unless_stop (not (is_null p)) traps.NullPointer site >> give (cell_of (Made (number_of p)) 0)) (λ mutex u. fin_then (give (modes.Locked (Some mutex)) u) (λ mode u. fin_then (f mode u) k)) m0
-        (subst (λ n. Same z.flat s.fuel n (fin_then (happens s.answers site (acts.Read at_guard modes.Readonly) s) (λ p u. fin_then ((unless_stop (not (is_null p)) traps.NullPointer site >> give (cell_of (Made (number_of p)) 0)) u) (λ mutex u. fin_then (give (modes.Locked (Some mutex)) u) (λ mode u. fin_then (f mode u) k)))) s.answers m0) two
-        (asks_at z.flat guard site (acts.Read at_guard modes.Readonly) (pos 0) (λ v n. on (record n { pending = v })) (c + 1) s.answers s m0 m0 _ (holding z T scope ints refs s agree) refl refl at_g
-        (ap (λ q. op_turn z.flat q m0) g ∙ ap (λ w. asks m0 gspot.site (acts.Read w modes.Readonly) (pos 0) (λ v n. on (record n { pending = v }))) (cell_is s) ∙ ap (λ w. asks m0 w (acts.Read at_guard modes.Readonly) (pos 0) (λ v n. on (record n { pending = v }))) gsite)
+        bind z.flat s.fuel (c + 2) s.answers (then_on (guarding site (behind at_guard) s) (λ mutex. give (CellMode.Locked (Some mutex)))) f k m0
+        (bind z.flat s.fuel (c + 2) s.answers (guarding site (behind at_guard) s) (λ mutex. give (CellMode.Locked (Some mutex))) (λ mode u. fin_then (f mode u) k) m0
+        (bind z.flat s.fuel (c + 2) s.answers (answered site (Act.Read at_guard CellMode.Readonly) s) (λ p. unless_stop (not (is_null p)) Trap.NullPointer site >> give (cell_of (Made (number_of p)) 0)) (λ mutex u. fin_then (give (CellMode.Locked (Some mutex)) u) (λ mode u. fin_then (f mode u) k)) m0
+        (subst (λ n. Same z.flat s.fuel n (fin_then (happens s.answers site (Act.Read at_guard CellMode.Readonly) s) (λ p u. fin_then ((unless_stop (not (is_null p)) Trap.NullPointer site >> give (cell_of (Made (number_of p)) 0)) u) (λ mutex u. fin_then (give (CellMode.Locked (Some mutex)) u) (λ mode u. fin_then (f mode u) k)))) s.answers m0) two
+        (asks_at z.flat guard site (Act.Read at_guard CellMode.Readonly) (pos 0) (λ v n. on (record n { pending = v })) (c + 1) s.answers s m0 m0 _ (holding z T scope ints refs s agree) refl refl at_g
+        (ap (λ q. op_turn z.flat q m0) g ∙ ap (λ w. asks m0 gspot.site (Act.Read w CellMode.Readonly) (pos 0) (λ v n. on (record n { pending = v }))) (cell_is s) ∙ ap (λ w. asks m0 w (Act.Read at_guard CellMode.Readonly) (pos 0) (λ v n. on (record n { pending = v }))) gsite)
         (λ x. refl)
-        (λ x rest_of. behind_read (is_null x) x (pc + 1) c rest_of (s.events ++ event_of site (acts.Read at_guard modes.Readonly) x ∷ []) refl mode at rest)))))
+        (λ x rest_of. behind_read (is_null x) x (pc + 1) c rest_of (s.events ++ event_of site (Act.Read at_guard CellMode.Readonly) x ∷ []) refl mode at rest)))))
 
     -- where the guard's statement lies, and that of the access after it
     module _ (i r first n : ℕ) (lvalue : Lvalue) (t : Target) (cell_is : cell ≡ cell_of cell.object (first + field_of t))
@@ -176,37 +162,37 @@ module _ (m : Assignment) (z : Standing) (scope : List Slot) where
       sibling_runs : (b : Bool) (mutex pc c : ℕ) (os : List Op) → guard ≡ Some mutex → spot.mode ≡ mode_beside b (field_of t) mutex
           → HasAt z.flat.lines pc (guard_code ctx i r site lvalue t (cond b (Some mutex) None) ++ o ∷ os)
           → Goes (pc + length (guard_code ctx i r site lvalue t (cond b (Some mutex) None))) c
-          → Same z.flat s.fuel (c + 1 + length (guard_code ctx i r site lvalue t (cond b (Some mutex) None))) (fin_then (then_on (then_on (guarding site (guard_beside b (cell_of cell.object (first + mutex))) s) (λ mutex. give (modes.Locked (Some mutex)))) f) k) s.answers (place z pc ints refs s)
+          → Same z.flat s.fuel (c + 1 + length (guard_code ctx i r site lvalue t (cond b (Some mutex) None))) (fin_then (then_on (then_on (guarding site (guard_beside b (cell_of cell.object (first + mutex))) s) (λ mutex. give (CellMode.Locked (Some mutex)))) f) k) s.answers (place z pc ints refs s)
       sibling_runs true mutex pc c os ge mode has rest =
           weaken z.flat s.fuel (c + 2) (c + 1 + 1) _ s.answers _ (omega arith) (by_behind _ _ (guard_cell z.flat.globals mutex i r t) (cell_of cell.object (first + mutex)) pc c refl refl (λ u. guard_is mutex u ge) mode has.0 has.1.0 rest)
       sibling_runs false mutex pc c os ge mode has rest =
           let e : cell.cell ≡ first + field_of t = ap (λ (w : CellAt). w.cell) cell_is in
           let at : cell.cell - field_of t + mutex ≡ first + mutex = omega (arith, e) in
           weaken z.flat s.fuel (c + 1) (c + 1 + 0) _ s.answers _ (omega arith)
-          (by_cell (cell_of cell.object (first + mutex)) pc c (places.LockedSibling (field_of t) mutex) mode
-          (λ u. ap (λ w. asks (place z pc ints refs u) spot.site (act (modes.Locked (Some (cell_of cell.object w)))) (pos 0) (λ v n. accessed (on (then_ v n)))) at)
+          (by_cell (cell_of cell.object (first + mutex)) pc c (PlaceMode.LockedSibling (field_of t) mutex) mode
+          (λ u. ap (λ w. asks (place z pc ints refs u) spot.site (act (CellMode.Locked (Some (cell_of cell.object w)))) (pos 0) (λ v n. accessed (on (then_ v n)))) at)
           has.0 (here pc c rest))
 
       path_runs : (l : Lock) (what : Named) (second : Option (List ℕ)) (pc c : ℕ) (os : List Op) → guard ≡ places_of.beside_named m.typed l what → spot.mode ≡ mode_named ctx (field_of t) l what second → PathNamed scope what second
           → HasAt z.flat.lines pc (guard_code ctx i r site lvalue t (places_of.guard_named m.typed l what) ++ o ∷ os)
           → Goes (pc + length (guard_code ctx i r site lvalue t (places_of.guard_named m.typed l what))) c → l.second ≡ second
-          → Same z.flat s.fuel (c + 1 + length (guard_code ctx i r site lvalue t (places_of.guard_named m.typed l what))) (fin_then (then_on (then_on (guarding site (guard_named m.typed (value_of s) cell.object first l what) s) (λ mutex. give (modes.Locked (Some mutex)))) f) k) s.answers (place z pc ints refs s)
-      path_runs l (named.Field token) second pc c os ge mode path has rest e =
+          → Same z.flat s.fuel (c + 1 + length (guard_code ctx i r site lvalue t (places_of.guard_named m.typed l what))) (fin_then (then_on (then_on (guarding site (guard_named m.typed (value_of s) cell.object first l what) s) (λ mutex. give (CellMode.Locked (Some mutex)))) f) k) s.answers (place z pc ints refs s)
+      path_runs l (Named.Field token) second pc c os ge mode path has rest e =
           sibling_runs (is_behind_pointer m.typed l) (field_place m.typed token) pc c os ge mode has rest
-      path_runs l (named.Global g) second pc c os ge mode path has rest e =
+      path_runs l (Named.Global g) second pc c os ge mode path has rest e =
           let zero_is : first_cell z.flat.globals g - first_cell z.flat.globals g ≡ 0 = omega arith in
           weaken z.flat s.fuel (c + 1) (c + 1 + 0) _ s.answers _ (omega arith)
-          (by_cell (cell_of (Global g) 0) pc c (places.LockedGlobal g (first_cell z.flat.globals g)) mode
-          (λ u. ap (λ w. asks (place z pc ints refs u) spot.site (act (modes.Locked (Some (cell_of (Global g) w)))) (pos 0) (λ v n. accessed (on (then_ v n)))) zero_is)
+          (by_cell (cell_of (Global g) 0) pc c (PlaceMode.LockedGlobal g (first_cell z.flat.globals g)) mode
+          (λ u. ap (λ w. asks (place z pc ints refs u) spot.site (act (CellMode.Locked (Some (cell_of (Global g) w)))) (pos 0) (λ v n. accessed (on (then_ v n)))) zero_is)
           has.0 (here pc c rest))
-      path_runs l (named.Variable x) (Some field) pc c os ge mode path has rest e =
+      path_runs l (Named.Variable x) (Some field) pc c os ge mode path has rest e =
           let w = variable_ref z T scope [] ints refs s x path agree in
           let num : number_in (register_of scope x) ≡ w.n = ap number_in w.register in
-          subst (λ sec. Same z.flat s.fuel (c + 1 + 0) (fin_then (then_on (then_on (guarding site (guard_by (mutex_named m.typed (value_of s) (named.Variable x) sec)) s) (λ mutex. give (modes.Locked (Some mutex)))) f) k) s.answers (place z pc ints refs s)) (sym e)
+          subst (λ sec. Same z.flat s.fuel (c + 1 + 0) (fin_then (then_on (then_on (guarding site (guard_by (mutex_named m.typed (value_of s) (Named.Variable x) sec)) s) (λ mutex. give (CellMode.Locked (Some mutex)))) f) k) s.answers (place z pc ints refs s)) (sym e)
           (weaken z.flat s.fuel (c + 1) (c + 1 + 0) _ s.answers _ (omega arith)
-          (by_variable (is_null (value_of s x)) x w.n (field_place_behind m.typed x field) pc c refl w.value (mode ∙ ap (λ n. places.LockedThrough n (field_place_behind m.typed x field)) num) has.0 (here pc c rest)))
-      path_runs l (named.Variable x) None pc c os ge mode path has rest e =
-          subst (λ sec. Same z.flat s.fuel (c + 1 + 0) (fin_then (then_on (then_on (guarding site (guard_by (mutex_named m.typed (value_of s) (named.Variable x) sec)) s) (λ mutex. give (modes.Locked (Some mutex)))) f) k) s.answers (place z pc ints refs s)) (sym e)
+          (by_variable (is_null (value_of s x)) x w.n (field_place_behind m.typed x field) pc c refl w.value (mode ∙ ap (λ n. PlaceMode.LockedThrough n (field_place_behind m.typed x field)) num) has.0 (here pc c rest)))
+      path_runs l (Named.Variable x) None pc c os ge mode path has rest e =
+          subst (λ sec. Same z.flat s.fuel (c + 1 + 0) (fin_then (then_on (then_on (guarding site (guard_by (mutex_named m.typed (value_of s) (Named.Variable x) sec)) s) (λ mutex. give (CellMode.Locked (Some mutex)))) f) k) s.answers (place z pc ints refs s)) (sym e)
           (weaken z.flat s.fuel (c + 1) (c + 1 + 0) _ s.answers _ (omega arith) (by_none pc c mode has.0))
       path_runs l _ second pc c os ge mode path has rest e = weaken z.flat s.fuel (c + 1) (c + 1 + 0) _ s.answers _ (omega arith) (by_none pc c mode has.0)
 
@@ -214,10 +200,10 @@ module _ (m : Assignment) (z : Standing) (scope : List Slot) where
           → HasAt z.flat.lines pc (guard_code ctx i r site lvalue t (guard_field m.typed mode) ++ o ∷ os)
           → Goes (pc + length (guard_code ctx i r site lvalue t (guard_field m.typed mode))) c
           → Same z.flat s.fuel (c + 1 + length (guard_code ctx i r site lvalue t (guard_field m.typed mode))) (fin_then (then_on (access_mode m.typed site mode cell.object first s) f) k) s.answers (place z pc ints refs s)
-      access_exact private pc c os ge mode path has rest = plain modes.Private pc c os has (turn_at places.Private pc mode) rest
-      access_exact readonly pc c os ge mode path has rest = plain modes.Readonly pc c os has (turn_at places.Readonly pc mode) rest
-      access_exact racy pc c os ge mode path has rest = plain modes.Racy pc c os has (turn_at places.Racy pc mode) rest
-      access_exact dynamic pc c os ge mode path has rest = plain modes.Dynamic pc c os has (turn_at places.Dynamic pc mode) rest
+      access_exact private pc c os ge mode path has rest = plain CellMode.Private pc c os has (turn_at PlaceMode.Private pc mode) rest
+      access_exact readonly pc c os ge mode path has rest = plain CellMode.Readonly pc c os has (turn_at PlaceMode.Readonly pc mode) rest
+      access_exact racy pc c os ge mode path has rest = plain CellMode.Racy pc c os has (turn_at PlaceMode.Racy pc mode) rest
+      access_exact dynamic pc c os ge mode path has rest = plain CellMode.Dynamic pc c os has (turn_at PlaceMode.Dynamic pc mode) rest
       access_exact (locked l) pc c os ge mode path has rest = path_runs l (named_at m.typed l.first) l.second pc c os ge mode path has rest refl
 
       guard_length : (g : Option ℕ) → length (guard_code ctx i r site lvalue t g) ≤ 1

@@ -1,11 +1,5 @@
 -- How the registers of a frame agree with what the source's frame has.
-use Rattle.std.proofs.{Common.{◌≡◌, ℕ, suc, ◌+◌, ◌<◌, ◌≤◌, Bool, true, false, cond, List, [], ◌∷◌, ◌++◌, length, get_or, map, Some, refl, sym, ap, ◌∙◌, arith, append_assoc, length-append}, lemmas.List.append-nil}
-use Rattle.std.specs.Prelude.{ℤ, pos, flat_map, reverse, set, ◌==◌, if◌then◌else◌}
-use Rattle.sharc_code.specs.declared.instr.Register.TheVariants.{Int, Reference}
-use Rattle.sharc_names.specs.Kinds.{Kind, is_integer}
-use Rattle.sharc_meaning.specs.{declared.variable.Variable.Variable, State.{Frame, State, is_reference, value_in, with_value, pointers_among, held_by_frame, with_temporary}}
-use Rattle.sharc_flat.specs.{Machine.{Flat, Caller, At, put}, Scope.{int_count, ref_count, register_from, slot_kind}, declared.slot.Slot.Slot}
-use Rattle.sharc_flat.proofs.{Banks.{Bank, bank_is, bank_pop, bank_push, bank_at, put_other}, Runs.{Same, Holds, Fin}}
+use Rattle.sharc_flat.proofs.{Imports.{◌≡◌, ℕ, suc, ◌+◌, ◌<◌, ◌≤◌, Bool, true, false, cond, List, [], ◌∷◌, ◌++◌, length, get_or, map, Some, refl, sym, ap, ◌∙◌, arith, append_assoc, length-append, append-nil, ℤ, pos, flat_map, reverse, set, ◌==◌, if◌then◌else◌, Int, Reference, Kind, is_integer, Variable, Frame, State, is_reference, value_in, with_value, pointers_among, held_by_frame, with_temporary, Flat, Caller, At, put, int_count, ref_count, register_from, slot_kind, Slot}, Banks.{Bank, bank_is, bank_pop, bank_push, bank_at, put_other}, Runs.{Same, Holds, Fin}}
 
 abbrev pub slot_in : Variable → Slot
 slot_in x = record { token = x.token; is_pointer = x.is_pointer }

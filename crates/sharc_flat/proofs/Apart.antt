@@ -1,11 +1,5 @@
 -- Globals lie one after the other.
-use Rattle.std.proofs.Common.{◌≡◌, ℕ, zero, suc, ◌+◌, ◌*◌, ◌/◌, ◌<◌, ◌≤◌, List, [], ◌∷◌, length, refl, ap, arith}
-use Rattle.std.specs.Prelude.{slice_index_or}
-use Rattle.sharc_tree.specs.declared.tree.item.GlobalDefinition.{GlobalDefinition}
-use Rattle.sharc_code.specs.Says.{no_global}
-use Rattle.sharc_ctype.specs.Resolved.{Resolution, globals_in}
-use Rattle.sharc_flat.specs.{Framed.IsInGlobal, Laws.GlobalsLieApart, Tables.{cells_in, granules_in, globals_from}}
-use Rattle.sharc_lemmas.proofs.Numbers.{half}
+use Rattle.sharc_flat.proofs.Imports.{◌≡◌, ℕ, zero, suc, ◌+◌, ◌*◌, ◌/◌, ◌<◌, ◌≤◌, List, [], ◌∷◌, length, refl, ap, arith, get_or as slice_index_or, GlobalDefinition, no_global, Resolution, globals_in, IsInGlobal, GlobalsLieApart, cells_in, granules_in, globals_from, half}
 
 -- the cells of a global lie after the first
 behind : (r : Resolution) (at : ℕ) (gs : List GlobalDefinition) (g : ℕ) → g < length (globals_from r at gs) → at ≤ (slice_index_or (globals_from r at gs) g no_global).granule

@@ -1,15 +1,6 @@
 -- Assignments, declarations, calls as statements, and returns.
-use Rattle.std.proofs.{Common.{◌≡◌, ℕ, ◌+◌, ◌<◌, Bool, true, false, cond, List, [], ◌∷◌, ◌++◌, length, Option, Some, None, refl, sym, ap, ◌∙◌, subst, arith, length-append}, lemmas.List.append-nil}
-use Rattle.std.specs.Prelude.{ℤ, pos}
-use Rattle.sharc_tree.specs.{declared.token.Site.Site, declared.token.Span.Span}
-use Rattle.sharc_names.specs.Kinds.{Kind, is_integer, is_pointer}
-use Rattle.sharc_code.specs.{declared.instr.Register.Register, declared.instr.Register.TheVariants.{Int, Reference}}
-use Rattle.sharc_mode.specs.{Moded.Assignment, Sharings.Sharing}
-use Rattle.sharc_meaning.specs.{declared.given.GivenUp.TheVariants.Released, Places.{StorePlace, variable, stored}, Reference.number_of, State.{State, Run, ◌>>=◌, is_reference, all_released, temporarily, done, gives_up as source_gives_up, drops}}
-use Rattle.sharc_flat.specs.{declared.op.Op.Op, declared.op.Spot.Spot, Machine.{goes, put}, declared.slot.Lvalue.Lvalue, Scope.{int_count, ref_count, register_of, slot_kind}, declared.slot.Slot.Slot, Places.{Target, in_global_at, in_object_at, has_base, base_width, field_of, guard_field, beside_field, guard_cell, guard_code, spot_of, drop_base, settle_base, settle_code, cell_store_code, store_code, cell_take_code, take_code, target, own_field, global_of, bounds_code, index_code, pointee_code, width_of, base_as_width, width_code, guard_width, index_width}, Suits.{PathStands, is_cell}, Flattened.drop_code}
-use Rattle.sharc_flat.specs.declared.op.Op.TheVariants as op
+use Rattle.sharc_flat.proofs.{Imports.{◌≡◌, ℕ, ◌+◌, ◌<◌, Bool, true, false, cond, List, [], ◌∷◌, ◌++◌, length, Option, Some, None, refl, sym, ap, ◌∙◌, subst, arith, length-append, append-nil, ℤ, pos, Site, Span, Kind, is_integer, is_pointer, Register, Int, Reference, Assignment, Sharing, Released, StorePlace, variable, stored, number_of, State, Run, ◌>>=◌, is_reference, all_released, temporarily, done, gives_up as source_gives_up, drops, Op, Spot, goes, put, Lvalue, int_count, ref_count, register_of, slot_kind, Slot, Target, in_global_at, in_object_at, has_base, base_width, field_of, guard_field, beside_field, guard_cell, guard_code, spot_of, drop_base, settle_base, settle_code, cell_store_code, store_code, cell_take_code, take_code, target, own_field, global_of, bounds_code, index_code, pointee_code, width_of, base_as_width, width_code, guard_width, index_width, PathStands, is_cell, drop_code}, Runs.{HasAt, has_front, has_back, Fin, fin_then, Same, weaken, step, bind, without}, Agreeing.{Standing, place, Agree, drop_last, last_is, same_frame, loose_of, Valued}, Accessing.context, Values.{bases_count, BasesOf, RunsAs, Lies, bases_are, PlaceAs, at_cell, temporarily_runs}, Computing.none_end, Executing.Stand, Statements.StepAs, Storing.{store_cell, store_int, store_reference, stores}}
 use Rattle.sharc_flat.specs.Places as targets
-use Rattle.sharc_flat.proofs.{Runs.{HasAt, has_front, has_back, Fin, fin_then, Same, weaken, step, bind, without}, Agreeing.{Standing, place, Agree, drop_last, last_is, same_frame, loose_of, Valued}, Accessing.context, Values.{bases_count, BasesOf, RunsAs, Lies, bases_are, PlaceAs, at_cell, temporarily_runs}, Computing.none_end, Executing.Stand, Statements.StepAs, Storing.{store_cell, store_int, store_reference, stores}}
 
 module _ (m : Assignment) (z : Standing) (kind : Kind) (ints0 : ℕ → ℤ) where
   abbrev S : List Slot → List ℤ → (ℕ → ℤ) → (ℕ → ℤ) → State → Type 0
@@ -172,10 +163,10 @@ module _ (m : Assignment) (z : Standing) (kind : Kind) (ints0 : ℕ → ℤ) whe
       let C = ce i r in
       let r0 : r ≡ r + 0 = omega arith in
       let r1 : r ≡ r + 0 + 0 = omega arith in
-      let end : pc + length C + 1 ≡ pc + length (C ++ op.Pop r ∷ []) = omega (arith, length-append C (op.Pop r ∷ [])) in
+      let end : pc + length C + 1 ≡ pc + length (C ++ Op.Pop r ∷ []) = omega (arith, length-append C (Op.Pop r ∷ [])) in
       bind z.flat s.fuel (c + 0 + ref_count scope) s.answers (run s) (λ v. source_gives_up (all_released (v ∷ []))) k (place z pc ints refs s)
       (weaken z.flat s.fuel (d + 0) (c + 0 + ref_count scope) _ s.answers _ (omega arith)
-      (of_run [] i r pc d ints refs s (λ v u. k tt (record u { given_up = u.given_up ++ all_released (v ∷ []) })) (has_front z.flat.lines pc C (op.Pop r ∷ []) has) (omega arith) r0 st.agree
+      (of_run [] i r pc d ints refs s (λ v u. k tt (record u { given_up = u.given_up ++ all_released (v ∷ []) })) (has_front z.flat.lines pc C (Op.Pop r ∷ []) has) (omega arith) r0 st.agree
       (λ v ints1 refs1 s1 w.
       let a1 : Agree z [] scope (v ∷ []) ints1 refs1 s1 = subst (λ b. Agree z [] scope (loose_of b v) ints1 refs1 s1) e w.agree in
       let u : State = record s1 { given_up = s1.given_up ++ Released (number_of v) ∷ [] } in
@@ -183,7 +174,7 @@ module _ (m : Assignment) (z : Standing) (kind : Kind) (ints0 : ℕ → ℤ) whe
       let v_is : refs1 (z.refs + r) ≡ v = last_is z [] scope [] v [] r ints1 refs1 s1 r1 a1 in
       let a2 : Agree z [] scope [] ints1 refs2 u = same_frame z [] scope [] ints1 refs2 s1 u refl refl (drop_last z [] scope [] v r ints1 refs1 s1 r1 a1) in
       weaken z.flat s1.fuel (d + 1) (d + 6) _ s1.answers _ (omega arith)
-      (step z.flat (op.Pop r) s1.fuel d (k tt u) s1.answers (place z (pc + length C) ints1 refs1 s1) (place z (pc + length C + 1) ints1 refs2 u) (has_back z.flat.lines pc C (op.Pop r ∷ []) has).0
+      (step z.flat (Op.Pop r) s1.fuel d (k tt u) s1.answers (place z (pc + length C) ints1 refs1 s1) (place z (pc + length C + 1) ints1 refs2 u) (has_back z.flat.lines pc C (Op.Pop r ∷ []) has).0
       (ap (λ x. goes (record (place z (pc + length C + 1) ints1 refs2 s1) { given = s1.given_up ++ Released (number_of x) ∷ [] })) v_is)
       (subst (λ q. Same z.flat s1.fuel d (k tt u) s1.answers (place z q ints1 refs2 u)) (sym end)
       (rest ints1 refs2 u (record { agree = a2; kept = λ n lt. w.kept n (omega arith) ∙ st.kept n lt })))))))

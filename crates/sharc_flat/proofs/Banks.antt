@@ -1,8 +1,5 @@
 -- Banks of registers that hold a list from their first register on, and NULL after it.
-use Rattle.std.proofs.{Common.{◌≡◌, ℕ, ◌+◌, ◌<◌, ◌≤◌, List, [], ◌∷◌, ◌++◌, length, get_or, refl, sym, ap, ◌∙◌, subst, ⊎_elim, arith, length-append}, lemmas.Bool.{cases_eq, cases_lt}, lemmas.List.{get_or-set_same, get_or-set_other, get_or_past, get_or_at, set_at, get_or_append_left}}
-use Rattle.std.specs.Prelude.{ℤ, pos, set, ◌==◌}
-use Rattle.sharc_flat.specs.Machine.{put}
-use Rattle.sharc_lemmas.proofs.Numbers.{same_is as eqb_same, eqb_other}
+use Rattle.sharc_flat.proofs.Imports.{◌≡◌, ℕ, ◌+◌, ◌<◌, ◌≤◌, List, [], ◌∷◌, ◌++◌, length, get_or, refl, sym, ap, ◌∙◌, subst, ⊎_elim, arith, length-append, cases_eq, cases_lt, get_or-set_same, get_or-set_other, get_or_past, get_or_at, set_at, get_or_append_left, ℤ, pos, set, ◌==◌, put, eqb_same, eqb_other}
 
 pub put_same : (bank : ℕ → ℤ) (r : ℕ) (v : ℤ) → put bank r v r ≡ v
 put_same bank r v = rw (eqb_same r) refl

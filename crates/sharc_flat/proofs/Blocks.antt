@@ -1,13 +1,8 @@
 -- The variables of a block end.
-use Rattle.std.proofs.{Common.{◌≡◌, ℕ, zero, suc, ◌+◌, Bool, true, false, cond, List, [], ◌∷◌, ◌++◌, length, get_or, take, drop, refl, sym, ap, ◌∙◌, subst, arith, append_assoc, length-append}, lemmas.List.{get_or_append_left, take-map, take-append-drop}}
-use Rattle.std.specs.Prelude.{ℤ, pos}
-use Rattle.sharc_meaning.specs.{State.{State, pointers_among}, declared.variable.Variable.Variable}
-use Rattle.sharc_flat.specs.{declared.op.Op.Op, declared.op.Spot.Spot, Scope.{int_count, ref_count, pops, ends_from}, declared.slot.Slot.Slot}
-use Rattle.sharc_flat.specs.declared.op.Op.TheVariants as op
-use Rattle.sharc_flat.proofs.{Banks.bank_is, Runs.{HasAt, Fin, Same, without_variables}, Agreeing.{slots_of, int_values, refs_length, ints_length, Standing, place, Agree, below, same_frame, slot_in}, Popping.{AllNull, null_behind, pop_all, popping_under}}
+use Rattle.sharc_flat.proofs.{Imports.{◌≡◌, ℕ, zero, suc, ◌+◌, Bool, true, false, cond, List, [], ◌∷◌, ◌++◌, length, get_or, take, drop, refl, sym, ap, ◌∙◌, subst, arith, append_assoc, length-append, get_or_append_left, take-map, take-append-drop, ℤ, pos, State, pointers_among, Variable, Op, Spot, int_count, ref_count, pops, ends_from, Slot}, Banks.bank_is, Runs.{HasAt, Fin, Same, without_variables}, Agreeing.{slots_of, int_values, refs_length, ints_length, Standing, place, Agree, below, same_frame, slot_in}, Popping.{AllNull, null_behind, pop_all, popping_under}}
 
-pops_by : (b : Bool) (r : ℕ) (v : ℤ) (rest : List Variable) → ((r : ℕ) → pops r (slots_of rest) ≡ pop_all r (pointers_among rest)) → cond b (op.Pop r ∷ pops (r + 1) (slots_of rest)) (pops r (slots_of rest)) ≡ pop_all r (cond b (v ∷ pointers_among rest) (pointers_among rest))
-pops_by true r v rest h = ap (λ l. op.Pop r ∷ l) (h (r + 1))
+pops_by : (b : Bool) (r : ℕ) (v : ℤ) (rest : List Variable) → ((r : ℕ) → pops r (slots_of rest) ≡ pop_all r (pointers_among rest)) → cond b (Op.Pop r ∷ pops (r + 1) (slots_of rest)) (pops r (slots_of rest)) ≡ pop_all r (cond b (v ∷ pointers_among rest) (pointers_among rest))
+pops_by true r v rest h = ap (λ l. Op.Pop r ∷ l) (h (r + 1))
 pops_by false r v rest h = h r
 
 pub pops_are : (vs : List Variable) (r : ℕ) → pops r (slots_of vs) ≡ pop_all r (pointers_among vs)

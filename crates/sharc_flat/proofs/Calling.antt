@@ -1,13 +1,5 @@
 -- Arguments, calls and functions.
-use Rattle.std.proofs.{Common.{◌≡◌, ℕ, zero, suc, ◌+◌, ◌<◌, ◌≤◌, Bool, true, false, cond, List, [], ◌∷◌, ◌++◌, length, get_or, refl, sym, ap, ◌∙◌, subst, arith, append_assoc, length-append}, lemmas.List.append-nil}
-use Rattle.std.specs.Prelude.{ℤ, pos}
-use Rattle.sharc_names.specs.Kinds.{Kind, is_integer, is_pointer}
-use Rattle.sharc_mode.specs.Moded.{Assignment}
-use Rattle.sharc_meaning.specs.{State.{State, Run, ◌>>=◌, ◌>>◌, give, is_reference, done, holds_reference, with_temporary, holds}, Expressions.{fitting, passed}}
-use Rattle.sharc_flat.specs.{declared.op.Op.Op, Scope.{int_count, ref_count}, declared.slot.Slot.Slot, Flattened.{passed_code, behind_int, behind_ref}}
-use Rattle.sharc_flat.proofs.{Runs.{HasAt, has_front, has_back, Fin, fin_then, Same, weaken, bind}, Agreeing.{Standing, place, Agree, hold, loose_of}, Values.RunsAs, Testing.fitting_runs}
-use Rattle.sharc_tree.specs.{Tree.Expression, Spans.span_of}
-use Rattle.sharc_ctype.specs.Resolved.{kind_at}
+use Rattle.sharc_flat.proofs.{Imports.{◌≡◌, ℕ, zero, suc, ◌+◌, ◌<◌, ◌≤◌, Bool, true, false, cond, List, [], ◌∷◌, ◌++◌, length, get_or, refl, sym, ap, ◌∙◌, subst, arith, append_assoc, length-append, append-nil, ℤ, pos, Kind, is_integer, is_pointer, Assignment, State, Run, ◌>>=◌, ◌>>◌, give, is_reference, done, holds_reference, with_temporary, holds, fitting, passed, Op, int_count, ref_count, Slot, passed_code, behind_int, behind_ref, Expression, span_of, kind_at}, Runs.{HasAt, has_front, has_back, Fin, fin_then, Same, weaken, bind}, Agreeing.{Standing, place, Agree, hold, loose_of}, Values.RunsAs, Testing.fitting_runs}
 
 -- the references among the arguments, and the integers
 abbrev pub refs_of : List Kind → List ℤ → List ℤ

@@ -1,15 +1,6 @@
 -- Comparisons of references.
-use Rattle.std.proofs.{Common.{◌≡◌, ℕ, ◌+◌, ◌<◌, ◌≤◌, Bool, true, false, cond, List, [], ◌∷◌, ◌++◌, length, refl, sym, ap, ◌∙◌, subst, arith, append_assoc, length-append}, lemmas.List.append-nil}
-use Rattle.std.specs.Prelude.{ℤ, not, Result, Ok}
-use Rattle.sharc_tree.specs.{declared.token.Site.Site, declared.trap.Trap.Trap, Tree.Expression}
-use Rattle.sharc_names.specs.Kinds.{Kind}
-use Rattle.sharc_mode.specs.Moded.{Assignment}
-use Rattle.sharc_meaning.specs.{State.{State, Run, ◌>>=◌, ◌>>◌, give, is_reference, all_released, temporarily, done, holds_reference, with_temporary, holds}, Arithmetic.{is_zero, is_equal, truth}, Expressions.{resulting, operand}}
-use Rattle.sharc_flat.specs.{declared.op.Op.Op, declared.op.Spot.Spot, Machine.put, Scope.{int_count, ref_count}, declared.slot.Slot.Slot}
-use Rattle.sharc_flat.specs.declared.op.Op.TheVariants as op
-use Rattle.sharc_flat.proofs.{Banks.{put_same, put_other}, Runs.{HasAt, has_front, has_back, Fin, fin_then, Same, weaken, step, bind, without}, Agreeing.{Standing, place, Agree, last_is, hold, with_int, same_frame, loose_of}, Values.{loosen, released, given_place, int_valued, RunsAs, temporarily_runs}, Popping.{popping, pop_all}, Computing.truth_same, Testing.zero_of}
+use Rattle.sharc_flat.proofs.{Imports.{◌≡◌, ℕ, ◌+◌, ◌<◌, ◌≤◌, Bool, true, false, cond, List, [], ◌∷◌, ◌++◌, length, refl, sym, ap, ◌∙◌, subst, arith, append_assoc, length-append, append-nil, ℤ, not, Result, Ok, Site, Trap, Expression, Kind, Assignment, State, Run, ◌>>=◌, ◌>>◌, give, is_reference, all_released, temporarily, done, holds_reference, with_temporary, holds, is_zero, is_equal, truth, resulting, operand, Op, Spot, put, int_count, ref_count, Slot, kind_at}, Banks.{put_same, put_other}, Runs.{HasAt, has_front, has_back, Fin, fin_then, Same, weaken, step, bind, without}, Agreeing.{Standing, place, Agree, last_is, hold, with_int, same_frame, loose_of}, Values.{loosen, released, given_place, int_valued, RunsAs, temporarily_runs}, Popping.{popping, pop_all}, Computing.truth_same, Testing.zero_of}
 use Rattle.sharc_code.specs.Arithmetic as code
-use Rattle.sharc_ctype.specs.Resolved.{kind_at}
 
 module _ (m : Assignment) (z : Standing) (scope : List Slot) where
   -- the temporaries of a run end, in the order of their registers
@@ -27,13 +18,13 @@ module _ (m : Assignment) (z : Standing) (scope : List Slot) where
       subst (λ w. Same z.flat s.fuel c fin s.answers w) (sym (given_place z (pc + length L) ints refs' (without (length T) s) (s.given_up ++ all_released L) is))
       (rest refs' (same_frame z T scope [] ints refs' u (without (length T) s) refl refl a3)))
 
-  differ_by : (b t : Bool) (T : List ℤ) (i pc c : ℕ) (ints refs : ℕ → ℤ) (s : State) (fin : Fin) → int_count scope ≤ i → HasAt z.flat.lines pc (cond b (op.IsFalse i i ∷ []) []) → Agree z T scope [] ints refs s → ints (z.ints + i) ≡ code.truth t
-      → ((ints' : ℕ → ℤ) → Agree z T scope [] ints' refs s → ((n : ℕ) → n < z.ints + i → ints' n ≡ ints n) → ints' (z.ints + i) ≡ truth (cond b (not t) t) → Same z.flat s.fuel c fin s.answers (place z (pc + length (cond b (op.IsFalse i i ∷ []) [])) ints' refs s))
+  differ_by : (b t : Bool) (T : List ℤ) (i pc c : ℕ) (ints refs : ℕ → ℤ) (s : State) (fin : Fin) → int_count scope ≤ i → HasAt z.flat.lines pc (cond b (Op.IsFalse i i ∷ []) []) → Agree z T scope [] ints refs s → ints (z.ints + i) ≡ code.truth t
+      → ((ints' : ℕ → ℤ) → Agree z T scope [] ints' refs s → ((n : ℕ) → n < z.ints + i → ints' n ≡ ints n) → ints' (z.ints + i) ≡ truth (cond b (not t) t) → Same z.flat s.fuel c fin s.answers (place z (pc + length (cond b (Op.IsFalse i i ∷ []) [])) ints' refs s))
       → Same z.flat s.fuel (c + 1) fin s.answers (place z pc ints refs s)
   differ_by true t T i pc c ints refs s fin le has a e rest =
       let t1 = code.truth (is_zero (ints (z.ints + i))) in
       let ints1 = put ints (z.ints + i) t1 in
-      step z.flat (op.IsFalse i i) s.fuel c fin s.answers (place z pc ints refs s) (place z (pc + 1) ints1 refs s) has.0 refl
+      step z.flat (Op.IsFalse i i) s.fuel c fin s.answers (place z pc ints refs s) (place z (pc + 1) ints1 refs s) has.0 refl
       (rest ints1 (with_int z T scope [] i t1 ints refs s le a) (λ n lt. put_other ints (z.ints + i) _ n (λ q. omega arith)) (put_same ints (z.ints + i) t1 ∙ ap (λ x. code.truth (is_zero x)) e ∙ ap code.truth (zero_of t) ∙ truth_same (not t)))
   differ_by false t T i pc c ints refs s fin le has a e rest =
       let q0 : pc + 0 ≡ pc = omega arith in
@@ -44,13 +35,13 @@ module _ (m : Assignment) (z : Standing) (scope : List Slot) where
   pub compare_runs : (b : Bool) (ka kb kind : Kind) (ea eb : Expression) (site : Site) (f : ℤ → ℤ → Result ℤ Trap) (of_a of_b : Run ℤ) (ca cb : ℕ → ℕ → List Op) → ((x y : ℤ) → f x y ≡ Ok (truth (cond b (not (is_equal x y)) (is_equal x y))))
       → ka ≡ kind_at m.typed ea → kb ≡ kind_at m.typed eb → is_reference ka ≡ true → is_reference kb ≡ true → is_reference kind ≡ false → RunsAs m z scope ka 0 of_a ca → RunsAs m z scope kb 0 of_b cb
       → RunsAs m z scope kind 0 (temporarily (operand m.typed ea of_a >>= λ x. operand m.typed eb of_b >>= λ y. resulting site (f x y)))
-      (λ i r. ca i r ++ (cb i (r + 1) ++ (op.SameReference i r (r + 1) ∷ (cond b (op.IsFalse i i ∷ []) [] ++ (op.Pop r ∷ op.Pop (r + 1) ∷ [])))))
+      (λ i r. ca i r ++ (cb i (r + 1) ++ (Op.SameReference i r (r + 1) ∷ (cond b (Op.IsFalse i i ∷ []) [] ++ (Op.Pop r ∷ Op.Pop (r + 1) ∷ [])))))
   compare_runs b ka kb kind xa xb site f of_a of_b ca cb f_is ia ib ra rb er runs_a runs_b T i r pc c ints refs s k has le re a rest =
       let C = ca i r in
       let B = cb i (r + 1) in
-      let D = cond b (op.IsFalse i i ∷ []) [] in
-      let pops = op.Pop r ∷ op.Pop (r + 1) ∷ [] in
-      let tail = op.SameReference i r (r + 1) ∷ (D ++ pops) in
+      let D = cond b (Op.IsFalse i i ∷ []) [] in
+      let pops = Op.Pop r ∷ Op.Pop (r + 1) ∷ [] in
+      let tail = Op.SameReference i r (r + 1) ∷ (D ++ pops) in
       let end : pc + length C + length B + 1 + length D + 2 ≡ pc + length (C ++ (B ++ tail)) = omega (arith, length-append C (B ++ tail), length-append B tail, length-append D pops) in
       let has_b = has_back z.flat.lines pc C (B ++ tail) has in
       let has_t = has_back z.flat.lines (pc + length C) B tail has_b in
@@ -95,7 +86,7 @@ module _ (m : Assignment) (z : Standing) (scope : List Slot) where
       subst (λ b. Same z.flat s2.fuel (c + 4 + 6) (fin_then ((cond b (holds_reference y) done >> give y) s2) (λ y u. fin_then (resulting site (f x y) u) K)) s2.answers (place z pc2 ints2 refs2 s2)) (sym eb)
       (subst (λ q. Same z.flat s2.fuel (c + 4 + 6) (fin_then (resulting site q u) K) s2.answers (place z pc2 ints2 refs2 u)) (sym (f_is x y))
       (subst (λ q. Same z.flat s2.fuel q fin s2.answers (place z pc2 ints2 refs2 u)) four
-      (step z.flat (op.SameReference i r (r + 1)) s2.fuel (c + 6 + 2 + 1) fin s2.answers (place z pc2 ints2 refs2 u) (place z (pc2 + 1) ints3 refs2 u) has_t.0 refl
+      (step z.flat (Op.SameReference i r (r + 1)) s2.fuel (c + 6 + 2 + 1) fin s2.answers (place z pc2 ints2 refs2 u) (place z (pc2 + 1) ints3 refs2 u) has_t.0 refl
       (differ_by b (is_equal x y) (T ++ L) i (pc2 + 1) (c + 6 + 2) ints3 refs2 u fin le (has_front z.flat.lines (pc2 + 1) D pops has_d) a4 e3 (λ ints4 a5 kept4 e4.
       all_end T L r (pc2 + 1 + length D) (c + 6) ints4 refs2 u fin re (has_back z.flat.lines (pc2 + 1) D pops has_d) a5 (λ refs5 a6.
       subst (λ q. Same z.flat s2.fuel (c + 6) fin s2.answers (place z q ints4 refs5 (without (length T) u))) (sym end)

@@ -1,18 +1,6 @@
 -- Operators and constants.
-use Rattle.std.proofs.{Common.{◌≡◌, ℕ, suc, ◌+◌, ◌<◌, ◌≤◌, Bool, true, false, cond, List, [], ◌∷◌, ◌++◌, length, Option, Some, refl, sym, ap, ◌∙◌, subst, arith, length-append}, lemmas.List.append-nil}
-use Rattle.std.specs.Prelude.{ℤ, pos, negsuc, slice_get, not, nat_lt, Result, Ok, Err, int_div, int_lt, int_le}
-use Rattle.sharc_tree.specs.{declared.ctype.Base.Base, declared.tree.expression.BinaryOperator.BinaryOperator, declared.tree.expression.BinaryOperator.TheVariants.{LogicalOr, LogicalAnd, Equal, NotEqual, Less, Greater, LessOrEqual, GreaterOrEqual, ShiftLeft, ShiftRight, Add, Subtract, Multiply, Divide, Remainder}, declared.trap.Trap.Trap, Tree.Expression}
-use Rattle.sharc_tree.specs.declared.ctype.Base.TheVariants as base
-use Rattle.sharc_names.specs.Kinds.{Kind, object, array, is_integer, int, long, promoted, is_long}
-use Rattle.sharc_mode.specs.Moded.{Assignment}
-use Rattle.sharc_meaning.specs.{Places.StorePlace, State.{State, Run, ◌>>=◌, ◌>>◌, give, entered, is_reference, temporarily, done, holds_reference, stopped, holds}, Arithmetic.{bits_of, bits_of_base, is_zero, is_equal, truth, operated, in_range, is_held_by, divided, shifted}, Expressions.{resulting, operand}}
-use Rattle.sharc_flat.specs.{declared.op.Op.Op, declared.op.Spot.Spot, Machine.{put, op_turn, with_result}, Scope.int_count, declared.slot.Slot.Slot, Places.{Target, width_of, base_as_width}, Flattened.operator_of}
-use Rattle.sharc_flat.specs.declared.op.Op.TheVariants as op
-use Rattle.sharc_flat.proofs.{Banks.{put_same, put_other}, Runs.{has_front, has_back, Fin, fin_then, Same, weaken, step, bind, without, enters_at, ends}, Agreeing.{Standing, place, Agree, holding, with_int, same_frame, loose_of, Rest}, Values.{integer_is, loosen, released, given_place, int_valued, RunsAs, RestAt, PlaceAs, temporarily_runs}}
-use Rattle.sharc_tree.specs.declared.trap.Trap.TheVariants as traps
-use Rattle.sharc_code.specs.declared.instr.Width.{Width}
+use Rattle.sharc_flat.proofs.{Imports.{◌≡◌, ℕ, suc, ◌+◌, ◌<◌, ◌≤◌, Bool, true, false, cond, List, [], ◌∷◌, ◌++◌, length, Option, Some, refl, sym, ap, ◌∙◌, subst, arith, length-append, append-nil, ℤ, pos, negsuc, slice_get, not, nat_lt, Result, Ok, Err, int_div, int_lt, int_le, Base, BinaryOperator, LogicalOr, LogicalAnd, Equal, NotEqual, Less, Greater, LessOrEqual, GreaterOrEqual, ShiftLeft, ShiftRight, Add, Subtract, Multiply, Divide, Remainder, Trap, Expression, Kind, object, array, is_integer, int, long, promoted, is_long, Assignment, StorePlace, State, Run, ◌>>=◌, ◌>>◌, give, entered, is_reference, temporarily, done, holds_reference, stopped, holds, bits_of, bits_of_base, is_zero, is_equal, truth, operated, in_range, is_held_by, divided, shifted, resulting, operand, Op, Spot, put, op_turn, with_result, int_count, Slot, Target, width_of, base_as_width, operator_of, Width, kind_at}, Banks.{put_same, put_other}, Runs.{has_front, has_back, Fin, fin_then, Same, weaken, step, bind, without, enters_at, ends}, Agreeing.{Standing, place, Agree, holding, with_int, same_frame, loose_of, Rest}, Values.{integer_is, loosen, released, given_place, int_valued, RunsAs, RestAt, PlaceAs, temporarily_runs}}
 use Rattle.sharc_code.specs.Arithmetic as code
-use Rattle.sharc_ctype.specs.Resolved.{kind_at}
 
 -- ---- arithmetic: the two sides say the same
 pub holds_same : (w : Width) (v : ℤ) → code.holds w v ≡ is_held_by (code.value_bits w) v
@@ -20,7 +8,7 @@ holds_same w (pos n) = refl
 holds_same w (negsuc n) = refl
 
 pub range_same : (w : Width) (v : ℤ) → code.in_range w v ≡ in_range (code.value_bits w) v
-range_same w v = ap (λ b. cond b (Ok v) (Err traps.OutOfRange)) (holds_same w v)
+range_same w v = ap (λ b. cond b (Ok v) (Err Trap.OutOfRange)) (holds_same w v)
 
 pub zero_same : (v : ℤ) → code.is_zero v ≡ is_zero v
 zero_same (pos (suc n)) = refl
@@ -31,10 +19,10 @@ truth_same true = refl
 truth_same false = refl
 
 divided_same : (w : Width) (a b v : ℤ) → code.divided w a b v ≡ divided (code.value_bits w) a b v
-divided_same w a b v = ap (λ x. cond x (Err traps.DivisionByZero) (cond (code.holds w (int_div a b)) (Ok v) (Err traps.OutOfRange))) (zero_same b) ∙ ap (λ x. cond (is_zero b) (Err traps.DivisionByZero) (cond x (Ok v) (Err traps.OutOfRange))) (holds_same w (int_div a b))
+divided_same w a b v = ap (λ x. cond x (Err Trap.DivisionByZero) (cond (code.holds w (int_div a b)) (Ok v) (Err Trap.OutOfRange))) (zero_same b) ∙ ap (λ x. cond (is_zero b) (Err Trap.DivisionByZero) (cond x (Ok v) (Err Trap.OutOfRange))) (holds_same w (int_div a b))
 
 shifted_same : (w : Width) (b : ℤ) (f g : ℕ → Result ℤ Trap) → ((n : ℕ) → f n ≡ g n) → code.shifted w b f ≡ shifted (code.value_bits w) b g
-shifted_same w (pos n) f g h = ap (λ x. cond (nat_lt n (code.value_bits w + 1)) x (Err traps.OutOfRange)) (h n)
+shifted_same w (pos n) f g h = ap (λ x. cond (nat_lt n (code.value_bits w + 1)) x (Err Trap.OutOfRange)) (h n)
 shifted_same w (negsuc n) f g h = refl
 
 -- an operator that looks at both of its operands
@@ -62,7 +50,7 @@ computed_same w Remainder a b h = divided_same w a b _
 computed_same w _ a b h = refl
 
 base_bits : (b : Base) → code.value_bits (base_as_width b) ≡ bits_of_base b
-base_bits (base.Struct name) = refl
+base_bits (Base.Struct name) = refl
 base_bits _ = refl
 
 pub bits_same : (kind : Kind) → code.value_bits (width_of kind) ≡ bits_of kind
@@ -79,18 +67,18 @@ promoted_int kind = (promoted_by (is_long kind)).0
 
 module _ (m : Assignment) (z : Standing) (scope : List Slot) where
   -- one more is entered
-  pub entered_runs : (kind : Kind) (need : ℕ) (run : Run ℤ) (code : ℕ → ℕ → List Op) → need ≤ 7 → RunsAs m z scope kind need run code → RunsAs m z scope kind 0 (entered run) (λ i r. op.Enter ∷ code i r)
+  pub entered_runs : (kind : Kind) (need : ℕ) (run : Run ℤ) (code : ℕ → ℕ → List Op) → need ≤ 7 → RunsAs m z scope kind need run code → RunsAs m z scope kind 0 (entered run) (λ i r. Op.Enter ∷ code i r)
   entered_runs kind need run code few of_run T i r pc c ints refs s k has le re a rest =
-      let end : pc + 1 + length (code i r) ≡ pc + length (op.Enter ∷ code i r) = omega arith in
+      let end : pc + 1 + length (code i r) ≡ pc + length (Op.Enter ∷ code i r) = omega arith in
       weaken z.flat s.fuel c (c + 0) _ s.answers _ (omega arith)
       (enters_at z.flat s.fuel c run k s (place z pc ints refs s) (place z (pc + 1) ints refs s) refl (holding z T scope ints refs s a) refl refl has.0 refl
       (λ f. weaken z.flat f (c + need) (c + 7) _ s.answers _ (omega arith)
       (of_run T i r (pc + 1) c ints refs (record s { fuel = f }) k has.1 le re (same_frame z T scope [] ints refs s (record s { fuel = f }) refl refl a)
       (subst (λ q. Rest z kind T scope i q (c + 6) ints k) (sym end) rest))))
 
-  pub entered_place : (t : Target) (f guard : Option ℕ) (need : ℕ) (run : Run StorePlace) (code : ℕ → ℕ → List Op) → need ≤ 7 → PlaceAs m z scope t f guard need run code → PlaceAs m z scope t f guard 0 (entered run) (λ i r. op.Enter ∷ code i r)
+  pub entered_place : (t : Target) (f guard : Option ℕ) (need : ℕ) (run : Run StorePlace) (code : ℕ → ℕ → List Op) → need ≤ 7 → PlaceAs m z scope t f guard need run code → PlaceAs m z scope t f guard 0 (entered run) (λ i r. Op.Enter ∷ code i r)
   entered_place t f guard need run code few of_run T i r pc c ints refs s k has le re a rest =
-      let end : pc + 1 + length (code i r) ≡ pc + length (op.Enter ∷ code i r) = omega arith in
+      let end : pc + 1 + length (code i r) ≡ pc + length (Op.Enter ∷ code i r) = omega arith in
       weaken z.flat s.fuel c (c + 0) _ s.answers _ (omega arith)
       (enters_at z.flat s.fuel c run k s (place z pc ints refs s) (place z (pc + 1) ints refs s) refl (holding z T scope ints refs s a) refl refl has.0 refl
       (λ f0. weaken z.flat f0 (c + need) (c + 7) _ s.answers _ (omega arith)

@@ -1,14 +1,5 @@
 -- Declarations, returns, and loops with a head.
-use Rattle.std.proofs.{Common.{◌≡◌, ℕ, ◌+◌, ◌<◌, Bool, true, false, cond, List, [], ◌∷◌, ◌++◌, length, get_or, Some, refl, sym, ap, ◌∙◌, subst, ⊎_elim, arith, length-append, inl, inr}, lemmas.List.{append-nil, get_or_append_left, get_or_at, map-append}, lemmas.Bool.cases_eq}
-use Rattle.std.specs.Prelude.{ℤ, pos, ◌||◌}
-use Rattle.sharc_tree.specs.{declared.token.Site.Site, declared.tree.declaration.Declaration.Declaration, declared.tree.declaration.WrittenType.WrittenType}
-use Rattle.sharc_names.specs.Kinds.{Kind, is_integer, is_pointer, declared_kind}
-use Rattle.sharc_mode.specs.{Moded.Assignment, Sharings.Sharing}
-use Rattle.sharc_meaning.specs.{Places.{variable, stored}, State.{State, Run, ◌>>=◌, ◌>>◌, give, is_reference, pointers_among, writes, begins_with, new_variable}, Statements.{Flow, next, returned, loop}}
-use Rattle.sharc_flat.specs.{declared.op.Op.Op, Machine.put, Scope.{int_count, ref_count, register_of, slot_kind, at_site, leaves, slot_of}, declared.slot.Slot.Slot, Places.settle_code, Flattened.{Around, looping, result_code, zero_code, loop_code}}
-use Rattle.sharc_flat.specs.declared.op.Op.TheVariants as op
-use Rattle.sharc_flat.proofs.{Banks.{bank_is, put_at, put_other}, Runs.{HasAt, has_front, has_back, Fin, fin_then, Same, weaken, step, bind}, Agreeing.{slot_in, int_values, ints_length, Standing, place, Agree, below, push, loose_of}, Values.RunsAs, Executing.{Stand, After, Here, Beyond, StatementAs}, Statements.{StepAs, DecidesAs, loop_runs}, Blocks.{pointers_append, ints_append}, Assigning.{assign_variable_runs, settle_length}}
-use Rattle.sharc_lemmas.proofs.Bools.{or_false}
+use Rattle.sharc_flat.proofs.{Imports.{◌≡◌, ℕ, ◌+◌, ◌<◌, Bool, true, false, cond, List, [], ◌∷◌, ◌++◌, length, get_or, Some, refl, sym, ap, ◌∙◌, subst, ⊎_elim, arith, length-append, inl, inr, append-nil, get_or_append_left, get_or_at, map-append, cases_eq, ℤ, pos, ◌||◌, Site, Declaration, WrittenType, Kind, is_integer, is_pointer, declared_kind, Assignment, Sharing, variable, stored, State, Run, ◌>>=◌, ◌>>◌, give, is_reference, pointers_among, writes, begins_with, new_variable, Flow, next, returned, loop, Op, put, int_count, ref_count, register_of, slot_kind, at_site, leaves, slot_of, Slot, settle_code, Around, looping, result_code, zero_code, loop_code, or_false}, Banks.{bank_is, put_at, put_other}, Runs.{HasAt, has_front, has_back, Fin, fin_then, Same, weaken, step, bind}, Agreeing.{slot_in, int_values, ints_length, Standing, place, Agree, below, push, loose_of}, Values.RunsAs, Executing.{Stand, After, Here, Beyond, StatementAs}, Statements.{StepAs, DecidesAs, loop_runs}, Blocks.{pointers_append, ints_append}, Assigning.{assign_variable_runs, settle_length}}
 
 pub declared_reference : (w : WrittenType) → is_reference (declared_kind w) ≡ is_pointer (declared_kind w)
 declared_reference w = or_false (is_pointer (declared_kind w))
@@ -71,7 +62,7 @@ module _ (m : Assignment) (z : Standing) (kind : Kind) (ints0 : ℕ → ℤ) whe
       } in
       let credit : c + ref_count (scope ++ slot_of d ∷ []) + 1 ≡ c + 2 + r = omega (arith, refs_count) in
       subst (λ q. Same z.flat s.fuel q (k tt u) s.answers (place z pc ints refs s)) credit
-      (step z.flat (op.Null r) s.fuel (c + ref_count (scope ++ slot_of d ∷ [])) (k tt u) s.answers (place z pc ints refs s) (place z (pc + 1) ints refs1 u) has.0 refl
+      (step z.flat (Op.Null r) s.fuel (c + ref_count (scope ++ slot_of d ∷ [])) (k tt u) s.answers (place z pc ints refs s) (place z (pc + 1) ints refs1 u) has.0 refl
       (rest ints refs1 (record { agree = a2; kept = st.kept })))
   begin_by false scope d pc c ints refs s k e has st rest =
       let V = s.frame.variables in
@@ -100,7 +91,7 @@ module _ (m : Assignment) (z : Standing) (kind : Kind) (ints0 : ℕ → ℤ) whe
       let credit : c + ref_count (scope ++ slot_of d ∷ []) + 1 ≡ c + 1 + ref_count scope = omega (arith, refs_count) in
       weaken z.flat s.fuel (c + 1 + ref_count scope) (c + 2 + ref_count scope) _ s.answers _ (omega arith)
       (subst (λ q. Same z.flat s.fuel q (k tt u) s.answers (place z pc ints refs s)) credit
-      (step z.flat (op.Constant i (pos 0)) s.fuel (c + ref_count (scope ++ slot_of d ∷ [])) (k tt u) s.answers (place z pc ints refs s) (place z (pc + 1) ints1 refs u) has.0 refl
+      (step z.flat (Op.Constant i (pos 0)) s.fuel (c + ref_count (scope ++ slot_of d ∷ [])) (k tt u) s.answers (place z pc ints refs s) (place z (pc + 1) ints1 refs u) has.0 refl
       (rest ints1 refs (record { agree = a2; kept = λ n lt. put_other ints (z.ints + i) (pos 0) n (λ h. omega arith) ∙ st.kept n lt }))))
 
   zero_length : (b : Bool) (i r : ℕ) → length (zero_code b i r) ≡ 1
@@ -136,18 +127,18 @@ module _ (m : Assignment) (z : Standing) (kind : Kind) (ints0 : ℕ → ℤ) whe
 
   -- ---- returns
   pub return_none_runs : (a : Around) (scope : List Slot) (site : Site) → StatementAs m z kind ints0 a (Here m z kind ints0 scope) scope scope 4 (give (returned site (pos 0)))
-      (λ pc. leaves scope (a.inside ++ a.outside) ++ (zero_code (is_reference kind) 0 0 ++ op.Return (at_site site) ∷ []))
+      (λ pc. leaves scope (a.inside ++ a.outside) ++ (zero_code (is_reference kind) 0 0 ++ Op.Return (at_site site) ∷ []))
   return_none_runs a scope site pc c ints refs s k has st rest =
-      rest.returned_runs scope refl site (pos 0) pc ints refs s (record { tail = zero_code (is_reference kind) 0 0 ++ op.Return (at_site site) ∷ []; code = has; Z = []; X = []; nulls_are = λ j. refl; stand = st; made = inr (refl, refl, refl) })
+      rest.returned_runs scope refl site (pos 0) pc ints refs s (record { tail = zero_code (is_reference kind) 0 0 ++ Op.Return (at_site site) ∷ []; code = has; Z = []; X = []; nulls_are = λ j. refl; stand = st; made = inr (refl, refl, refl) })
 
   pub return_value_runs : (a : Around) (scope : List Slot) (site : Site) (kr : Kind) (right : Run ℤ) (rcode : ℕ → ℕ → List Op) → is_reference kr ≡ is_reference kind → (is_integer kind ≡ true → is_integer kr ≡ true) → RunsAs m z scope kr 1 right rcode
       → StatementAs m z kind ints0 a (Here m z kind ints0 scope) scope scope 1 (right >>= λ v. give (returned site v))
-      (λ pc. rcode (int_count scope) (ref_count scope) ++ (leaves scope (a.inside ++ a.outside) ++ (result_code (is_reference kind) (int_count scope) (ref_count scope) ++ op.Return (at_site site) ∷ [])))
+      (λ pc. rcode (int_count scope) (ref_count scope) ++ (leaves scope (a.inside ++ a.outside) ++ (result_code (is_reference kind) (int_count scope) (ref_count scope) ++ Op.Return (at_site site) ∷ [])))
   return_value_runs a scope site kr right rcode same ints_same of_right pc c ints refs s k has st rest =
       let i = int_count scope in
       let r = ref_count scope in
       let R = rcode i r in
-      let tail = result_code (is_reference kind) i r ++ op.Return (at_site site) ∷ [] in
+      let tail = result_code (is_reference kind) i r ++ Op.Return (at_site site) ∷ [] in
       let L = leaves scope (a.inside ++ a.outside) ++ tail in
       let r0 : r ≡ r + 0 = omega arith in
       bind z.flat s.fuel (c + 1 + r) s.answers (right s) (λ v. give (returned site v)) k (place z pc ints refs s)

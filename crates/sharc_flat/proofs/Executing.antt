@@ -1,13 +1,5 @@
 -- Statements, by how they are left.
-use Rattle.std.proofs.{Common.{◌≡◌, ℕ, ◌+◌, ◌<◌, ◌≤◌, true, List, [], ◌∷◌, ◌++◌, length, get_or, take, refl, sym, ap, ◌∙◌, subst, ⊎_elim, arith, append_assoc, length-append, inl, inr}, lemmas.List.{append-nil, take_at, length-map}}
-use Rattle.std.specs.Prelude.{ℤ, pos, ◌⊎◌}
-use Rattle.sharc_tree.specs.declared.token.Site.{Site}
-use Rattle.sharc_names.specs.Kinds.{Kind, is_integer}
-use Rattle.sharc_mode.specs.Moded.{Assignment}
-use Rattle.sharc_meaning.specs.{State.{State, Run, entered, is_reference, in_block}, Statements.{Flow, next, broken, continued, returned}}
-use Rattle.sharc_flat.specs.{declared.op.Op.Op, declared.op.Spot.Spot, Scope.{ref_count, at_site, ends_from, leaves}, declared.slot.Slot.Slot, Flattened.{Around, result_code, zero_code}}
-use Rattle.sharc_flat.specs.declared.op.Op.TheVariants as op
-use Rattle.sharc_flat.proofs.{Runs.{HasAt, has_front, has_back, Fin, fin_then, Same, weaken, step, enters_at, without_variables, unblock}, Agreeing.{slot_in, Standing, place, Agree, holding, same_frame, loose_of}, Popping.{AllNull, none_behind}, Blocks.block_ends}
+use Rattle.sharc_flat.proofs.{Imports.{◌≡◌, ℕ, ◌+◌, ◌<◌, ◌≤◌, true, List, [], ◌∷◌, ◌++◌, length, get_or, take, refl, sym, ap, ◌∙◌, subst, ⊎_elim, arith, append_assoc, length-append, inl, inr, append-nil, take_at, length-map, ℤ, pos, ◌⊎◌, Site, Kind, is_integer, Assignment, State, Run, entered, is_reference, in_block, Flow, next, broken, continued, returned, Op, Spot, ref_count, at_site, ends_from, leaves, Slot, Around, result_code, zero_code}, Runs.{HasAt, has_front, has_back, Fin, fin_then, Same, weaken, step, enters_at, without_variables, unblock}, Agreeing.{slot_in, Standing, place, Agree, holding, same_frame, loose_of}, Popping.{AllNull, none_behind}, Blocks.block_ends}
 
 module _ (m : Assignment) (z : Standing) (kind : Kind) (ints0 : ℕ → ℤ) where
   -- the variables of a scope are in place, and the callers' integers are untouched
@@ -23,14 +15,14 @@ module _ (m : Assignment) (z : Standing) (kind : Kind) (ints0 : ℕ → ℤ) whe
     pub X : List ℤ
     pub nulls_are : AllNull Z
     pub stand : Stand scope (Z ++ X) int_bank ref_bank s
-    pub made : ((i r : ℕ) × (tail ≡ result_code (is_reference kind) i r ++ op.Return (at_site site) ∷ []) × (X ≡ loose_of (is_reference kind) v) × (r ≡ ref_count scope + length Z) × (is_integer kind ≡ true → int_bank (z.ints + i) ≡ v))
-        ⊎ ((tail ≡ zero_code (is_reference kind) 0 0 ++ op.Return (at_site site) ∷ []) × (X ≡ []) × (v ≡ pos 0))
+    pub made : ((i r : ℕ) × (tail ≡ result_code (is_reference kind) i r ++ Op.Return (at_site site) ∷ []) × (X ≡ loose_of (is_reference kind) v) × (r ≡ ref_count scope + length Z) × (is_integer kind ≡ true → int_bank (z.ints + i) ≡ v))
+        ⊎ ((tail ≡ zero_code (is_reference kind) 0 0 ++ Op.Return (at_site site) ∷ []) × (X ≡ []) × (v ≡ pos 0))
 
   -- from where a statement is left, in each way
   pub record After (a : Around) (leaving : List Slot → Type 0) (end : ℕ) (scope : List Slot) (c : ℕ) (k : Flow → State → Fin) : Type 0 where
     pub next_runs : (ints refs : ℕ → ℤ) (s : State) → Stand scope [] ints refs s → Same z.flat s.fuel (c + 1 + ref_count scope) (k next s) s.answers (place z end ints refs s)
-    pub broken_runs : (a.broken ≡ 0 → ⊥) → (at : List Slot) → leaving at → (pc : ℕ) (ints refs : ℕ → ℤ) (s : State) → HasAt z.flat.lines pc (leaves at a.inside ++ op.Jump a.broken ∷ []) → Stand at [] ints refs s → Same z.flat s.fuel (c + 3 + ref_count at) (k broken s) s.answers (place z pc ints refs s)
-    pub continued_runs : (a.broken ≡ 0 → ⊥) → (at : List Slot) → leaving at → (pc : ℕ) (ints refs : ℕ → ℤ) (s : State) → HasAt z.flat.lines pc (leaves at a.inside ++ op.Jump a.continued ∷ []) → Stand at [] ints refs s → Same z.flat s.fuel (c + 3 + ref_count at) (k continued s) s.answers (place z pc ints refs s)
+    pub broken_runs : (a.broken ≡ 0 → ⊥) → (at : List Slot) → leaving at → (pc : ℕ) (ints refs : ℕ → ℤ) (s : State) → HasAt z.flat.lines pc (leaves at a.inside ++ Op.Jump a.broken ∷ []) → Stand at [] ints refs s → Same z.flat s.fuel (c + 3 + ref_count at) (k broken s) s.answers (place z pc ints refs s)
+    pub continued_runs : (a.broken ≡ 0 → ⊥) → (at : List Slot) → leaving at → (pc : ℕ) (ints refs : ℕ → ℤ) (s : State) → HasAt z.flat.lines pc (leaves at a.inside ++ Op.Jump a.continued ∷ []) → Stand at [] ints refs s → Same z.flat s.fuel (c + 3 + ref_count at) (k continued s) s.answers (place z pc ints refs s)
     pub returned_runs : (at : List Slot) → leaving at → (site : Site) (v : ℤ) (pc : ℕ) (ints refs : ℕ → ℤ) (s : State) → Returning at (a.inside ++ a.outside) site v pc ints refs s → Same z.flat s.fuel (c + 4 + ref_count at) (k (returned site v) s) s.answers (place z pc ints refs s)
 
   abbrev pub Here : List Slot → List Slot → Type 0
@@ -59,9 +51,9 @@ module _ (m : Assignment) (z : Standing) (kind : Kind) (ints0 : ℕ → ℤ) whe
   stand_same scope L ints refs s s' ef ec h = record { agree = same_frame z [] scope L ints refs s s' ef ec h.agree; kept = h.kept }
 
   -- one more is entered
-  pub entered_statement : (a : Around) (leaving : List Slot → Type 0) (scope scope' : List Slot) (need : ℕ) (run : Run Flow) (code : ℕ → List Op) → need ≤ 7 → StatementAs a leaving scope scope' need run code → StatementAs a leaving scope scope' 0 (entered run) (λ pc. op.Enter ∷ code (pc + 1))
+  pub entered_statement : (a : Around) (leaving : List Slot → Type 0) (scope scope' : List Slot) (need : ℕ) (run : Run Flow) (code : ℕ → List Op) → need ≤ 7 → StatementAs a leaving scope scope' need run code → StatementAs a leaving scope scope' 0 (entered run) (λ pc. Op.Enter ∷ code (pc + 1))
   entered_statement a leaving scope scope' need run code few of_run pc c ints refs s k has st rest =
-      let end : pc + 1 + length (code (pc + 1)) ≡ pc + length (op.Enter ∷ code (pc + 1)) = omega arith in
+      let end : pc + 1 + length (code (pc + 1)) ≡ pc + length (Op.Enter ∷ code (pc + 1)) = omega arith in
       weaken z.flat s.fuel (c + ref_count scope) (c + 0 + ref_count scope) _ s.answers _ (omega arith)
       (enters_at z.flat s.fuel (c + ref_count scope) run k s (place z pc ints refs s) (place z (pc + 1) ints refs s) refl (holding z [] scope ints refs s st.agree) refl refl has.0 refl
       (λ f. weaken z.flat f (c + need + ref_count scope) (c + ref_count scope + 7) _ s.answers _ (omega arith)
@@ -69,16 +61,16 @@ module _ (m : Assignment) (z : Standing) (kind : Kind) (ints0 : ℕ → ℤ) whe
 
   -- the line that marks the end of a block
   pub closed_runs : (a : Around) (scope : List Slot) (need : ℕ) (run : Run Flow) (code : ℕ → List Op) → StatementAs a (Here scope) scope scope need run code
-      → StatementAs a (Here scope) scope scope (need + 1) run (λ pc. code pc ++ op.BlockEnd ∷ [])
+      → StatementAs a (Here scope) scope scope (need + 1) run (λ pc. code pc ++ Op.BlockEnd ∷ [])
   closed_runs a scope need run code of_run pc c ints refs s k has st rest =
       let cs = code pc in
-      let end : pc + length cs + 1 ≡ pc + length (cs ++ op.BlockEnd ∷ []) = omega (arith, length-append cs (op.BlockEnd ∷ [])) in
+      let end : pc + length cs + 1 ≡ pc + length (cs ++ Op.BlockEnd ∷ []) = omega (arith, length-append cs (Op.BlockEnd ∷ [])) in
       let more = after_less a (Here scope) _ scope c (c + 1) k (omega arith) rest in
       weaken z.flat s.fuel (c + 1 + need + ref_count scope) (c + (need + 1) + ref_count scope) _ s.answers _ (omega arith)
-      (of_run pc (c + 1) ints refs s k (has_front z.flat.lines pc cs (op.BlockEnd ∷ []) has) st (record {
+      (of_run pc (c + 1) ints refs s k (has_front z.flat.lines pc cs (Op.BlockEnd ∷ []) has) st (record {
         next_runs = λ ints1 refs1 s1 st1.
             weaken z.flat s1.fuel (c + 1 + ref_count scope + 1) (c + 1 + 1 + ref_count scope) _ s1.answers _ (omega arith)
-            (step z.flat op.BlockEnd s1.fuel (c + 1 + ref_count scope) (k next s1) s1.answers (place z (pc + length cs) ints1 refs1 s1) (place z (pc + length cs + 1) ints1 refs1 s1) (has_back z.flat.lines pc cs (op.BlockEnd ∷ []) has).0 refl
+            (step z.flat Op.BlockEnd s1.fuel (c + 1 + ref_count scope) (k next s1) s1.answers (place z (pc + length cs) ints1 refs1 s1) (place z (pc + length cs + 1) ints1 refs1 s1) (has_back z.flat.lines pc cs (Op.BlockEnd ∷ []) has).0 refl
             (subst (λ q. Same z.flat s1.fuel (c + 1 + ref_count scope) (k next s1) s1.answers (place z q ints1 refs1 s1)) (sym end) (rest.next_runs ints1 refs1 s1 st1)));
         broken_runs = more.broken_runs;
         continued_runs = more.continued_runs;
@@ -130,12 +122,12 @@ module _ (m : Assignment) (z : Standing) (kind : Kind) (ints0 : ℕ → ℤ) whe
             (rest.next_runs ints1 refs' (without_variables n s1) (record { agree = a2; kept = st1.kept }))));
         broken_runs = λ il at l pc1 ints1 refs1 s1 has1 st1.
             subst (λ q. Same z.flat s1.fuel (c + 3 + ref_count q) (K broken s1) s1.answers (place z pc1 ints1 refs1 s1)) (sym l.1)
-            (leave_block scope l.0 a.inside (op.Jump a.broken ∷ []) [] [] pc1 (c + 3) broken ints1 refs1 s1 k (λ j. refl) (subst (λ q. HasAt z.flat.lines pc1 (leaves q (n ∷ a.inside) ++ op.Jump a.broken ∷ [])) l.1 has1) (subst (λ q. Stand q [] ints1 refs1 s1) l.1 st1)
+            (leave_block scope l.0 a.inside (Op.Jump a.broken ∷ []) [] [] pc1 (c + 3) broken ints1 refs1 s1 k (λ j. refl) (subst (λ q. HasAt z.flat.lines pc1 (leaves q (n ∷ a.inside) ++ Op.Jump a.broken ∷ [])) l.1 has1) (subst (λ q. Stand q [] ints1 refs1 s1) l.1 st1)
             (λ pc2 refs' N nn ln has2 st2. rest.broken_runs il scope refl pc2 ints1 refs' (without_variables n s1) has2
             (record { agree = none_behind z scope [] (N ++ []) ints1 refs' (without_variables n s1) (λ j. ap (λ l. get_or l j (pos 0)) (append-nil N) ∙ nn j) st2.agree; kept = st2.kept })));
         continued_runs = λ il at l pc1 ints1 refs1 s1 has1 st1.
             subst (λ q. Same z.flat s1.fuel (c + 3 + ref_count q) (K continued s1) s1.answers (place z pc1 ints1 refs1 s1)) (sym l.1)
-            (leave_block scope l.0 a.inside (op.Jump a.continued ∷ []) [] [] pc1 (c + 3) continued ints1 refs1 s1 k (λ j. refl) (subst (λ q. HasAt z.flat.lines pc1 (leaves q (n ∷ a.inside) ++ op.Jump a.continued ∷ [])) l.1 has1) (subst (λ q. Stand q [] ints1 refs1 s1) l.1 st1)
+            (leave_block scope l.0 a.inside (Op.Jump a.continued ∷ []) [] [] pc1 (c + 3) continued ints1 refs1 s1 k (λ j. refl) (subst (λ q. HasAt z.flat.lines pc1 (leaves q (n ∷ a.inside) ++ Op.Jump a.continued ∷ [])) l.1 has1) (subst (λ q. Stand q [] ints1 refs1 s1) l.1 st1)
             (λ pc2 refs' N nn ln has2 st2. rest.continued_runs il scope refl pc2 ints1 refs' (without_variables n s1) has2
             (record { agree = none_behind z scope [] (N ++ []) ints1 refs' (without_variables n s1) (λ j. ap (λ l. get_or l j (pos 0)) (append-nil N) ∙ nn j) st2.agree; kept = st2.kept })));
         returned_runs = λ at l site v pc1 ints1 refs1 s1 w.
@@ -149,9 +141,9 @@ module _ (m : Assignment) (z : Standing) (kind : Kind) (ints0 : ℕ → ℤ) whe
               nulls_are = nn;
               stand = st2;
               made = ⊎_elim
-                  (λ (h : (i r : ℕ) × (w.tail ≡ result_code (is_reference kind) i r ++ op.Return (at_site site) ∷ []) × (w.X ≡ loose_of (is_reference kind) v) × (r ≡ ref_count at + length w.Z) × (is_integer kind ≡ true → ints1 (z.ints + i) ≡ v)).
+                  (λ (h : (i r : ℕ) × (w.tail ≡ result_code (is_reference kind) i r ++ Op.Return (at_site site) ∷ []) × (w.X ≡ loose_of (is_reference kind) v) × (r ≡ ref_count at + length w.Z) × (is_integer kind ≡ true → ints1 (z.ints + i) ≡ v)).
                   inl (h.0, h.1, h.2, h.3, h.4 ∙ ap (λ q. ref_count q + length w.Z) l.1 ∙ sym ln, h.5))
-                  (λ (h : (w.tail ≡ zero_code (is_reference kind) 0 0 ++ op.Return (at_site site) ∷ []) × (w.X ≡ []) × (v ≡ pos 0)). inr h)
+                  (λ (h : (w.tail ≡ zero_code (is_reference kind) 0 0 ++ Op.Return (at_site site) ∷ []) × (w.X ≡ []) × (v ≡ pos 0)). inr h)
                   w.made;
             })));
       })))

@@ -1,45 +1,33 @@
 -- Constants, names, calls and other single expressions.
-use Rattle.std.proofs.{Common.{◌≡◌, ℕ, ◌+◌, ◌-◌, Bool, true, false, List, [], ◌∷◌, ◌++◌, length, Option, Some, None, refl, sym, ap, ◌∙◌, subst, arith, append_assoc, length-append}, lemmas.List.length-map}
-use Rattle.std.specs.Prelude.{ℤ, pos, not}
-use Rattle.sharc_tree.specs.declared.event.Act.TheVariants as acts
-use Rattle.sharc_tree.specs.{declared.event.Object.TheVariants.Global, declared.token.Site.Site, declared.token.Span.Span, declared.event.Act.Act, Tree.{Expression, Function}, declared.tree.expression.Constant.Constant, declared.tree.expression.Constant.TheVariants.{Number, Character, Null}, declared.tree.expression.ValueCall.ValueCall, declared.tree.expression.ValueCall.TheVariants.{Join, Print}, declared.token.NumberType.NumberType}
-use Rattle.sharc_names.specs.Kinds.{Kind, null, is_integer, int, long, declared_kind, declared_kinds}
-use Rattle.sharc_code.specs.declared.code.Use.TheVariants as uses
-use Rattle.sharc_mode.specs.{Moded.Assignment, Sharings.Sharing}
-use Rattle.sharc_meaning.specs.{Cells.cell_of, Places.{cell, fetched}, State.{State, Run, ◌>>=◌, ◌>>◌, give, happens, answered, answer_of, value_in, is_reference, temporarily, performs, event_of}, Arithmetic.{is_zero, truth}, Expressions.{tested, Calls, value_called}, Reference.constant_value}
-use Rattle.sharc_flat.specs.{declared.op.Op.Op, declared.op.Spot.Spot, Machine.{At, is_of_null, asks, put, global_cell, first_cell, accessed, next as on, set_int, set_ref, op_turn}, declared.slot.Lvalue.Lvalue, Scope.{Context, ref_count, at_site}, declared.slot.Slot.Slot, Places.{Target, in_global, in_global_at, in_object, in_object_at, has_base, base_width, field_of, guard_field, beside_field, guard_cell, guard_code, lock_beside, spot_of, drop_base, settle_base, settle_code, cell_value_code, cell_store_code, store_code, cell_take_code, take_code, target, own_field, global_of, bounds_code, index_code, pointee_code, width_of, base_as_width, width_code, guard_width, index_width}, Suits.PathStands, Flattened.{truth_code, IsFlattened, constant_code, value_call_code}}
-use Rattle.sharc_flat.specs.declared.op.Op.TheVariants as op
-use Rattle.sharc_flat.proofs.{Under.{under, mutex_of, accesses_under}, Banks.{put_same, put_other}, Runs.{HasAt, has_front, has_back, Fin, fin_then, Same, weaken, step, bind, without, after_event, asks_at}, Agreeing.{Standing, place, Agree, holding, push, with_int, same_frame, loose_of}, Accessing.{context, pending_place, access_exact}, Values.{integer_is, int_valued, ref_valued, RunsAs, temporarily_runs}, Computing.{truth_same, none_end}, Linking.CallsAs, Storing.performs_then, Calling.ArgumentsAs, Testing.tested_runs}
+use Rattle.sharc_flat.proofs.{Imports.{◌≡◌, ℕ, ◌+◌, ◌-◌, Bool, true, false, List, [], ◌∷◌, ◌++◌, length, Option, Some, None, refl, sym, ap, ◌∙◌, subst, arith, append_assoc, length-append, length-map, ℤ, pos, not, Global, Site, Span, Act, Expression, Function, Constant, Number, Character, Null, ValueCall, Join, Print, NumberType, Kind, null, is_integer, int, long, declared_kind, declared_kinds, Use, Assignment, Sharing, cell_of, cell, fetched, State, Run, ◌>>=◌, ◌>>◌, give, happens, answered, answer_of, value_in, is_reference, temporarily, performs, event_of, is_zero, truth, tested, Calls, value_called, constant_value, Op, Spot, At, is_of_null, asks, put, global_cell, first_cell, accessed, on, set_int, set_ref, op_turn, Lvalue, Context, ref_count, at_site, Slot, Target, in_global, in_global_at, in_object, in_object_at, has_base, base_width, field_of, guard_field, beside_field, guard_cell, guard_code, lock_beside, spot_of, drop_base, settle_base, settle_code, cell_value_code, cell_store_code, store_code, cell_take_code, take_code, target, own_field, global_of, bounds_code, index_code, pointee_code, width_of, base_as_width, width_code, guard_width, index_width, PathStands, truth_code, IsFlattened, constant_code, value_call_code, kind_at, function_at, constant_kind, number_kind}, Under.{under, mutex_of, accesses_under}, Banks.{put_same, put_other}, Runs.{HasAt, has_front, has_back, Fin, fin_then, Same, weaken, step, bind, without, after_event, asks_at}, Agreeing.{Standing, place, Agree, holding, push, with_int, same_frame, loose_of}, Accessing.{context, pending_place, access_exact}, Values.{integer_is, int_valued, ref_valued, RunsAs, temporarily_runs}, Computing.{truth_same, none_end}, Linking.CallsAs, Storing.performs_then, Calling.ArgumentsAs, Testing.tested_runs}
 use Rattle.sharc_flat.specs.Places as targets
 use Rattle.sharc_code.specs.Arithmetic as code
-use Rattle.sharc_ctype.specs.{Resolved.{kind_at, function_at}, Expressions.{constant_kind, number_kind}}
-use Rattle.sharc_tree.specs.declared.token.NumberType.TheVariants as number_types
 
 module _ (m : Assignment) (z : Standing) (scope : List Slot) where
   abbrev ctx : Context
   ctx = context m z scope
 
   -- ---- constants
-  pub give_int : (kind : Kind) (v : ℤ) → is_reference kind ≡ false → RunsAs m z scope kind 7 (give v) (λ i r. op.Constant i v ∷ [])
+  pub give_int : (kind : Kind) (v : ℤ) → is_reference kind ≡ false → RunsAs m z scope kind 7 (give v) (λ i r. Op.Constant i v ∷ [])
   give_int kind v e T i r pc c ints refs s k has le re a rest =
       let ints1 = put ints (z.ints + i) v in
       let seven : c + 6 + 1 ≡ c + 7 = omega arith in
       subst (λ q. Same z.flat s.fuel q (k v s) s.answers (place z pc ints refs s)) seven
-      (step z.flat (op.Constant i v) s.fuel (c + 6) (k v s) s.answers (place z pc ints refs s) (place z (pc + 1) ints1 refs s) has.0 refl
+      (step z.flat (Op.Constant i v) s.fuel (c + 6) (k v s) s.answers (place z pc ints refs s) (place z (pc + 1) ints1 refs s) has.0 refl
       (rest v ints1 refs s (int_valued m z scope kind T i v ints ints1 refs s e (with_int z T scope [] i v ints refs s le a) (λ n lt. put_other ints (z.ints + i) v n (λ q. omega arith)) (put_same ints (z.ints + i) v))))
 
-  give_null : (kind : Kind) → is_reference kind ≡ true → RunsAs m z scope kind 7 (give (pos 0)) (λ i r. op.Null r ∷ [])
+  give_null : (kind : Kind) → is_reference kind ≡ true → RunsAs m z scope kind 7 (give (pos 0)) (λ i r. Op.Null r ∷ [])
   give_null kind e T i r pc c ints refs s k has le re a rest =
       let refs1 = put refs (z.refs + r) (pos 0) in
       let r0 : r ≡ ref_count scope + length T + 0 = omega arith in
       let seven : c + 6 + 1 ≡ c + 7 = omega arith in
       subst (λ q. Same z.flat s.fuel q (k (pos 0) s) s.answers (place z pc ints refs s)) seven
-      (step z.flat (op.Null r) s.fuel (c + 6) (k (pos 0) s) s.answers (place z pc ints refs s) (place z (pc + 1) ints refs1 s) has.0 refl
+      (step z.flat (Op.Null r) s.fuel (c + 6) (k (pos 0) s) s.answers (place z pc ints refs s) (place z (pc + 1) ints refs1 s) has.0 refl
       (rest (pos 0) ints refs1 s (ref_valued m z scope kind T i (pos 0) ints ints refs1 s e (push z T scope [] (pos 0) r ints refs s r0 a) (λ n lt. refl))))
 
   number_runs : (t : NumberType) (v : ℤ) (k : Constant) → constant_value k ≡ v → RunsAs m z scope (number_kind t) 7 (give (constant_value k)) (λ i r. constant_code (is_reference (number_kind t)) i r k)
-  number_runs number_types.Int v k e = give_int int (constant_value k) refl
-  number_runs number_types.Long v k e = give_int long (constant_value k) refl
+  number_runs NumberType.Int v k e = give_int int (constant_value k) refl
+  number_runs NumberType.Long v k e = give_int long (constant_value k) refl
 
   pub constant_runs : (k : Constant) → RunsAs m z scope (constant_kind k) 7 (give (constant_value k)) (λ i r. constant_code (is_reference (constant_kind k)) i r k)
   constant_runs (Number n) = number_runs n.number_type n.value (Number n) refl
@@ -64,17 +52,17 @@ module _ (m : Assignment) (z : Standing) (scope : List Slot) where
   global_by false g kind site lvalue mode e none path T i r pc c ints refs s k has le re a rest =
       let t = in_global g 0 in
       let gc = guard_code ctx i r site lvalue t (guard_field m.typed mode) in
-      let spot = spot_of ctx i r site lvalue uses.Read mode t in
+      let spot = spot_of ctx i r site lvalue Use.Read mode t in
       let here = cell_of (Global g) 0 in
-      let o = op.Load i (targets.cell_of z.flat.globals i r t) spot in
+      let o = Op.Load i (targets.cell_of z.flat.globals i r t) spot in
       let no_guard : length gc ≡ 0 = ap (λ x. length (guard_code ctx i r site lvalue t x)) none in
       let cell_is : global_cell z.flat.globals g (first_cell z.flat.globals g + 0) ≡ here = ap (λ n. cell_of (Global g) n) (let q : first_cell z.flat.globals g + 0 - first_cell z.flat.globals g ≡ 0 = omega arith in q) in
       let end : pc + length gc + 1 ≡ pc + length (gc ++ o ∷ []) = omega (arith, length-append gc (o ∷ [])) in
       weaken z.flat s.fuel (c + 6 + 1 + length gc) (c + 7) _ s.answers _ (omega (arith, no_guard))
-      (access_exact m z scope T site spot refl ints refs s a o here (acts.Read here) (set_int i) (λ q v u. place z (q + 1) (put ints (z.ints + i) v) refs u)
-      (λ q pending u. accesses_under z.flat.globals (targets.cell_of z.flat.globals i r t) spot acts.Read (λ c v. set_int i v) (pending_place z q ints refs u pending) (open_beside g i r (beside_field m.typed mode) (pending_place z q ints refs u pending)) ∙ ap (λ x. under spot.mode (mutex_of z.flat.globals (pending_place z q ints refs u pending) x spot.mode) spot (λ mode. asks (pending_place z q ints refs u pending) spot.site (acts.Read x mode) (pos 0) (λ v n. accessed (on (set_int i v n))))) cell_is)
+      (access_exact m z scope T site spot refl ints refs s a o here (Act.Read here) (set_int i) (λ q v u. place z (q + 1) (put ints (z.ints + i) v) refs u)
+      (λ q pending u. accesses_under z.flat.globals (targets.cell_of z.flat.globals i r t) spot Act.Read (λ c v. set_int i v) (pending_place z q ints refs u pending) (open_beside g i r (beside_field m.typed mode) (pending_place z q ints refs u pending)) ∙ ap (λ x. under spot.mode (mutex_of z.flat.globals (pending_place z q ints refs u pending) x spot.mode) spot (λ mode. asks (pending_place z q ints refs u pending) spot.site (Act.Read x mode) (pos 0) (λ v n. accessed (on (set_int i v n))))) cell_is)
       (λ q pending v u. refl) (λ mode x. refl)
-      (λ mode. answered site (acts.Read here mode)) k k (λ mode u. refl)
+      (λ mode. answered site (Act.Read here mode)) k k (λ mode u. refl)
       i r 0 0 lvalue t refl (beside_field m.typed mode) (λ mutex u h. ap (λ n. cell_of (Global g) n) (let q : first_cell z.flat.globals g + mutex - first_cell z.flat.globals g ≡ 0 + mutex = omega arith in q)) mode pc (c + 6) [] refl refl path has
       (λ v answers events.
       let u = after_event s answers events in
@@ -84,18 +72,18 @@ module _ (m : Assignment) (z : Standing) (scope : List Slot) where
   global_by true g kind site lvalue mode e none path T i r pc c ints refs s k has le re a rest =
       let t = in_global g 0 in
       let gc = guard_code ctx i r site lvalue t (guard_field m.typed mode) in
-      let spot = spot_of ctx i r site lvalue uses.Read mode t in
+      let spot = spot_of ctx i r site lvalue Use.Read mode t in
       let here = cell_of (Global g) 0 in
-      let o = op.LoadRef (r + 0) (targets.cell_of z.flat.globals i r t) spot in
+      let o = Op.LoadRef (r + 0) (targets.cell_of z.flat.globals i r t) spot in
       let no_guard : length gc ≡ 0 = ap (λ x. length (guard_code ctx i r site lvalue t x)) none in
       let cell_is : global_cell z.flat.globals g (first_cell z.flat.globals g + 0) ≡ here = ap (λ n. cell_of (Global g) n) (let q : first_cell z.flat.globals g + 0 - first_cell z.flat.globals g ≡ 0 = omega arith in q) in
       let end : pc + length gc + 1 ≡ pc + length (gc ++ o ∷ []) = omega (arith, length-append gc (o ∷ [])) in
       let r0 : r + 0 ≡ ref_count scope + length T + 0 = omega arith in
       weaken z.flat s.fuel (c + 6 + 1 + length gc) (c + 7) _ s.answers _ (omega (arith, no_guard))
-      (access_exact m z scope T site spot refl ints refs s a o here (acts.Read here) (set_ref (r + 0)) (λ q v u. place z (q + 1) ints (put refs (z.refs + (r + 0)) v) u)
-      (λ q pending u. accesses_under z.flat.globals (targets.cell_of z.flat.globals i r t) spot acts.Read (λ c v. set_ref (r + 0) v) (pending_place z q ints refs u pending) (open_beside g i r (beside_field m.typed mode) (pending_place z q ints refs u pending)) ∙ ap (λ x. under spot.mode (mutex_of z.flat.globals (pending_place z q ints refs u pending) x spot.mode) spot (λ mode. asks (pending_place z q ints refs u pending) spot.site (acts.Read x mode) (pos 0) (λ v n. accessed (on (set_ref (r + 0) v n))))) cell_is)
+      (access_exact m z scope T site spot refl ints refs s a o here (Act.Read here) (set_ref (r + 0)) (λ q v u. place z (q + 1) ints (put refs (z.refs + (r + 0)) v) u)
+      (λ q pending u. accesses_under z.flat.globals (targets.cell_of z.flat.globals i r t) spot Act.Read (λ c v. set_ref (r + 0) v) (pending_place z q ints refs u pending) (open_beside g i r (beside_field m.typed mode) (pending_place z q ints refs u pending)) ∙ ap (λ x. under spot.mode (mutex_of z.flat.globals (pending_place z q ints refs u pending) x spot.mode) spot (λ mode. asks (pending_place z q ints refs u pending) spot.site (Act.Read x mode) (pos 0) (λ v n. accessed (on (set_ref (r + 0) v n))))) cell_is)
       (λ q pending v u. refl) (λ mode x. refl)
-      (λ mode. answered site (acts.Read here mode)) k k (λ mode u. refl)
+      (λ mode. answered site (Act.Read here mode)) k k (λ mode u. refl)
       i r 0 0 lvalue t refl (beside_field m.typed mode) (λ mutex u h. ap (λ n. cell_of (Global g) n) (let q : first_cell z.flat.globals g + mutex - first_cell z.flat.globals g ≡ 0 + mutex = omega arith in q)) mode pc (c + 6) [] refl refl path has
       (λ v answers events.
       let u = after_event s answers events in
@@ -109,10 +97,10 @@ module _ (m : Assignment) (z : Standing) (scope : List Slot) where
 
   -- ---- `!a`
   pub denied_runs : (ka : Kind) (e : Expression) (run : Run ℤ) (ce : ℕ → ℕ → List Op) → ka ≡ kind_at m.typed e → (is_reference ka ≡ false → is_integer ka ≡ true) → RunsAs m z scope ka 0 run ce
-      → RunsAs m z scope int 5 (tested m.typed e run >>= λ is_true. give (truth (not is_true))) (λ i r. ce i r ++ (truth_code (is_reference ka) i r ++ op.IsFalse i i ∷ []))
+      → RunsAs m z scope int 5 (tested m.typed e run >>= λ is_true. give (truth (not is_true))) (λ i r. ce i r ++ (truth_code (is_reference ka) i r ++ Op.IsFalse i i ∷ []))
   denied_runs ka e run ce ek scalar of_run T i r pc c ints refs s k has le re a rest =
       let C = ce i r ++ truth_code (is_reference ka) i r in
-      let o = op.IsFalse i i in
+      let o = Op.IsFalse i i in
       let code_is : ce i r ++ (truth_code (is_reference ka) i r ++ o ∷ []) ≡ C ++ o ∷ [] = sym (append_assoc (ce i r) (truth_code (is_reference ka) i r) (o ∷ [])) in
       let has1 = subst (HasAt z.flat.lines pc) code_is has in
       let end : pc + length (ce i r ++ (truth_code (is_reference ka) i r ++ o ∷ [])) ≡ pc + length C + 1 = ap (λ l. pc + length l) code_is ∙ (let q : pc + length (C ++ o ∷ []) ≡ pc + length C + 1 = omega (arith, length-append C (o ∷ [])) in q) in
@@ -152,16 +140,16 @@ module _ (m : Assignment) (z : Standing) (scope : List Slot) where
 
   pub value_call_runs : (ka kind : Kind) (w : ValueCall) (site : Site) (run : Run ℤ) (ce : ℕ → ℕ → List Op) → is_integer ka ≡ true → is_reference kind ≡ false → is_integer kind ≡ false → RunsAs m z scope ka 0 run ce
       → RunsAs m z scope kind 1 (value_called site w run) (λ i r. ce i r ++ value_call_code w i (at_site site))
-  value_call_runs ka kind Join site run ce ia ek ik of_run = event_runs ka kind site (λ v. acts.Join v) (λ i. op.Join i (at_site site)) run ce ia ek ik (λ i pc ints refs s. refl) (λ v x held. refl) of_run
-  value_call_runs ka kind Print site run ce ia ek ik of_run = event_runs ka kind site (λ v. acts.Print v) (λ i. op.Print i (at_site site)) run ce ia ek ik (λ i pc ints refs s. refl) (λ v x held. refl) of_run
+  value_call_runs ka kind Join site run ce ia ek ik of_run = event_runs ka kind site (λ v. Act.Join v) (λ i. Op.Join i (at_site site)) run ce ia ek ik (λ i pc ints refs s. refl) (λ v x held. refl) of_run
+  value_call_runs ka kind Print site run ce ia ek ik of_run = event_runs ka kind site (λ v. Act.Print v) (λ i. Op.Print i (at_site site)) run ce ia ek ik (λ i pc ints refs s. refl) (λ v x held. refl) of_run
 
   -- ---- a call of a function of the program
   pub function_call_runs : (on_call : Calls) (n : ℕ) → CallsAs m on_call n → IsFlattened m z.flat → length z.frames + n ≡ 255 → (f : ℕ) (fn : Function) (site : Site) (all : Run (List ℤ)) (ca : ℕ → ℕ → List Op) → function_at m.typed f ≡ Some fn
       → ArgumentsAs m z scope (declared_kinds fn.parameters) all ca
-      → RunsAs m z scope (declared_kind fn.result) 7 (temporarily (all >>= λ vs. on_call f site vs)) (λ i r. ca i r ++ op.Call f i r (at_site site) ∷ [])
+      → RunsAs m z scope (declared_kind fn.result) 7 (temporarily (all >>= λ vs. on_call f site vs)) (λ i r. ca i r ++ Op.Call f i r (at_site site) ∷ [])
   function_call_runs on_call n calls_as is room f fn site all ca fn_at of_all T i r pc c ints refs s k has le re a rest =
       let C = ca i r in
-      let o = op.Call f i r (at_site site) in
+      let o = Op.Call f i r (at_site site) in
       let kind = declared_kind fn.result in
       let end : pc + length C + 1 ≡ pc + length (C ++ o ∷ []) = omega (arith, length-append C (o ∷ [])) in
       let seven : c + 6 + 1 ≡ c + 7 = omega arith in

@@ -1,16 +1,5 @@
 -- What is done at places: reads, writes and takes of cells and variables.
-use Rattle.std.proofs.Common.{◌≡◌, ℕ, ◌+◌, ◌<◌, ◌≤◌, Bool, true, false, List, [], ◌∷◌, ◌++◌, length, Option, Some, None, refl, sym, ap, ◌∙◌, subst, arith, length-append}
-use Rattle.std.specs.Prelude.{ℤ, pos}
-use Rattle.sharc_tree.specs.declared.event.Act.TheVariants as acts
-use Rattle.sharc_tree.specs.{declared.event.CellAt.CellAt, declared.event.CellMode.CellMode, declared.token.Site.Site, declared.token.Span.Span, declared.event.Act.Act}
-use Rattle.sharc_names.specs.Kinds.{Kind}
-use Rattle.sharc_code.specs.declared.code.Use.{Use}
-use Rattle.sharc_code.specs.declared.code.Use.TheVariants as uses
-use Rattle.sharc_mode.specs.{Moded.Assignment, Sharings.Sharing}
-use Rattle.sharc_meaning.specs.{Cells.cell_of, Places.{StorePlace, cell, fetched, access_mode}, State.{State, Run, then_on, ◌>>=◌, answered, answer_of, value_in, value_of, is_reference, temporarily, reads_variable, reads}}
-use Rattle.sharc_flat.specs.{declared.op.Op.Op, declared.op.Spot.Spot, Machine.{At, asks, put, accesses, accessed, next as on, set_int, set_ref, op_turn}, declared.slot.Lvalue.Lvalue, Scope.{Context, int_count, ref_count, register_of, slot_kind}, declared.slot.Slot.Slot, Places.{Target, has_base, base_width, field_of, guard_field, beside_field, guard_cell, guard_code, spot_of, drop_base, settle_base, copy_code, value_code, cell_value_code}, Suits.{PathStands, is_cell}}
-use Rattle.sharc_flat.specs.declared.op.Op.TheVariants as op
-use Rattle.sharc_flat.proofs.{Under.{under, mutex_of, accesses_under}, Banks.{put_same, put_other}, Runs.{HasAt, has_front, has_back, Fin, fin_then, Same, step, bind, without, after_event}, Agreeing.{Standing, place, Agree, push, with_int, same_frame, Rest}, Accessing.{variable_ref, context, access_runs, pending_place}, Values.{bases_count, variable_int, BasesOf, base_ends, base_settles, int_valued, ref_valued, RunsAs, bases_are, PlaceAs, AtCell, at_cell, open_at, temporarily_runs}}
+use Rattle.sharc_flat.proofs.{Imports.{◌≡◌, ℕ, ◌+◌, ◌<◌, ◌≤◌, Bool, true, false, List, [], ◌∷◌, ◌++◌, length, Option, Some, None, refl, sym, ap, ◌∙◌, subst, arith, length-append, ℤ, pos, CellAt, CellMode, Site, Span, Act, Kind, Use, Assignment, Sharing, cell_of, StorePlace, cell, fetched, access_mode, State, Run, then_on, ◌>>=◌, answered, answer_of, value_in, value_of, is_reference, temporarily, reads_variable, reads, Op, Spot, At, asks, put, accesses, accessed, on, set_int, set_ref, op_turn, Lvalue, Context, int_count, ref_count, register_of, slot_kind, Slot, Target, has_base, base_width, field_of, guard_field, beside_field, guard_cell, guard_code, spot_of, drop_base, settle_base, copy_code, value_code, cell_value_code, PathStands, is_cell}, Under.{under, mutex_of, accesses_under}, Banks.{put_same, put_other}, Runs.{HasAt, has_front, has_back, Fin, fin_then, Same, step, bind, without, after_event}, Agreeing.{Standing, place, Agree, push, with_int, same_frame, Rest}, Accessing.{variable_ref, context, access_runs, pending_place}, Values.{bases_count, variable_int, BasesOf, base_ends, base_settles, int_valued, ref_valued, RunsAs, bases_are, PlaceAs, AtCell, at_cell, open_at, temporarily_runs}}
 use Rattle.sharc_flat.specs.Places as targets
 
 module _ (m : Assignment) (z : Standing) (scope : List Slot) where
@@ -57,15 +46,15 @@ module _ (m : Assignment) (z : Standing) (scope : List Slot) where
     cell_value_by false kind pc c ints0 s k e has a kept rest =
         let gc = guard_code ctx i r site lvalue t (guard_field m.typed mode) in
         let at = targets.cell_of z.flat.globals i r t in
-        let spot = spot_of ctx i r site lvalue uses.Read mode t in
-        let o = op.Load i at spot in
+        let spot = spot_of ctx i r site lvalue Use.Read mode t in
+        let o = Op.Load i at spot in
         let here = cell_of w.object (w.first + field_of t) in
         let two : c + 1 + 2 ≡ c + 3 = omega arith in
         subst (λ n. Same z.flat s.fuel n (fin_then (fetched m.typed site mode (cell w.object w.first (w.first + field_of t)) s) (λ x u. k x (without (length T) u))) s.answers (place z pc ints refs s)) two
-        (access_runs m z scope (T ++ bases) site spot refl ints refs s a o here (acts.Read here) (set_int i) (λ q v u. place z (q + 1) (put ints (z.ints + i) v) refs u)
-        (λ q pending u. accesses_under z.flat.globals at spot acts.Read (λ c v. set_int i v) (pending_place z q ints refs u pending) (open_at m z scope t guard i r ints refs p w (beside_field m.typed mode) q pending u) ∙ ap (λ x. under spot.mode (mutex_of z.flat.globals (pending_place z q ints refs u pending) x spot.mode) spot (λ mode. asks (pending_place z q ints refs u pending) spot.site (acts.Read x mode) (pos 0) (λ v n. accessed (on (set_int i v n))))) (w.cell_is q pending u))
+        (access_runs m z scope (T ++ bases) site spot refl ints refs s a o here (Act.Read here) (set_int i) (λ q v u. place z (q + 1) (put ints (z.ints + i) v) refs u)
+        (λ q pending u. accesses_under z.flat.globals at spot Act.Read (λ c v. set_int i v) (pending_place z q ints refs u pending) (open_at m z scope t guard i r ints refs p w (beside_field m.typed mode) q pending u) ∙ ap (λ x. under spot.mode (mutex_of z.flat.globals (pending_place z q ints refs u pending) x spot.mode) spot (λ mode. asks (pending_place z q ints refs u pending) spot.site (Act.Read x mode) (pos 0) (λ v n. accessed (on (set_int i v n))))) (w.cell_is q pending u))
         (λ q pending v u. refl) (λ mode x. refl)
-        (λ mode. answered site (acts.Read here mode)) (λ x u. k x (without (length T) u)) (λ x u. k x (without (length T) u)) (λ mode u. refl)
+        (λ mode. answered site (Act.Read here mode)) (λ x u. k x (without (length T) u)) (λ x u. k x (without (length T) u)) (λ mode u. refl)
         i r w.first 0 lvalue t refl guard w.guard_is mode pc (c + 1) (drop_base r t) guard_as refl path has
         (λ v answers events.
         let u = after_event s answers events in
@@ -78,7 +67,7 @@ module _ (m : Assignment) (z : Standing) (scope : List Slot) where
         (rest v ints' refs' (without (length T) u) (int_valued m z scope kind T i v ints0 ints' refs' (without (length T) u) e a2
         (λ n lt. put_other ints (z.ints + i) v n (λ q. omega arith) ∙ kept n lt) (put_same ints (z.ints + i) v))))))
     cell_value_by true kind pc c ints0 s k e has a kept rest =
-        ref_cell_by (op.LoadRef (r + base_width t) (targets.cell_of z.flat.globals i r t) (spot_of ctx i r site lvalue uses.Read mode t)) uses.Read acts.Read (λ x. refl) (λ c mode x. refl) kind pc c ints0 s k e has a kept rest
+        ref_cell_by (Op.LoadRef (r + base_width t) (targets.cell_of z.flat.globals i r t) (spot_of ctx i r site lvalue Use.Read mode t)) Use.Read Act.Read (λ x. refl) (λ c mode x. refl) kind pc c ints0 s k e has a kept rest
 
   -- ---- variables
   pub copy_runs : (kind : Kind) (x : ℕ) (site : Site) → slot_kind scope x ≡ Some (is_reference kind) → RunsAs m z scope kind 7 (reads_variable site x) (λ i r. copy_code i r (register_of scope x))
@@ -88,12 +77,12 @@ module _ (m : Assignment) (z : Standing) (scope : List Slot) where
       by false e T i r pc c ints refs s k has le re a rest =
           let w = variable_int z T scope [] ints refs s x (stands ∙ ap Some e) a in
           let u : State = record s { trace = s.trace ++ record { use_made = reads; variable = x; site = site; call = s.frame.call } ∷ [] } in
-          let has1 : HasAt z.flat.lines pc (op.Move i w.n ∷ []) = subst (λ g. HasAt z.flat.lines pc (copy_code i r g)) w.register has in
+          let has1 : HasAt z.flat.lines pc (Op.Move i w.n ∷ []) = subst (λ g. HasAt z.flat.lines pc (copy_code i r g)) w.register has in
           let end : pc + length (copy_code i r (register_of scope x)) ≡ pc + 1 = ap (λ g. pc + length (copy_code i r g)) w.register in
           let ints1 = put ints (z.ints + i) (ints (z.ints + w.n)) in
           let seven : c + 6 + 1 ≡ c + 7 = omega arith in
           subst (λ n. Same z.flat s.fuel n (k (value_of s x) u) s.answers (place z pc ints refs s)) seven
-          (step z.flat (op.Move i w.n) s.fuel (c + 6) (k (value_of s x) u) s.answers (place z pc ints refs s) (place z (pc + 1) ints1 refs u) has1.0 refl
+          (step z.flat (Op.Move i w.n) s.fuel (c + 6) (k (value_of s x) u) s.answers (place z pc ints refs s) (place z (pc + 1) ints1 refs u) has1.0 refl
           (subst (λ q. Same z.flat s.fuel (c + 6) (k (value_of s x) u) s.answers (place z q ints1 refs u)) end
           (rest (value_of s x) ints1 refs u (int_valued m z scope kind T i (value_of s x) ints ints1 refs u e
           (with_int z T scope [] i (ints (z.ints + w.n)) ints refs u le (same_frame z T scope [] ints refs s u refl refl a))
@@ -101,14 +90,14 @@ module _ (m : Assignment) (z : Standing) (scope : List Slot) where
       by true e T i r pc c ints refs s k has le re a rest =
           let w = variable_ref z T scope [] ints refs s x (stands ∙ ap Some e) a in
           let u : State = record s { trace = s.trace ++ record { use_made = reads; variable = x; site = site; call = s.frame.call } ∷ [] } in
-          let has1 : HasAt z.flat.lines pc (op.Local r w.n ∷ []) = subst (λ g. HasAt z.flat.lines pc (copy_code i r g)) w.register has in
+          let has1 : HasAt z.flat.lines pc (Op.Local r w.n ∷ []) = subst (λ g. HasAt z.flat.lines pc (copy_code i r g)) w.register has in
           let end : pc + length (copy_code i r (register_of scope x)) ≡ pc + 1 = ap (λ g. pc + length (copy_code i r g)) w.register in
           let refs1 = put refs (z.refs + r) (refs (z.refs + w.n)) in
           let seven : c + 6 + 1 ≡ c + 7 = omega arith in
           let n : r ≡ ref_count scope + length T + 0 = omega arith in
           let a1 : Agree z T scope (refs (z.refs + w.n) ∷ []) ints refs1 u = push z T scope [] (refs (z.refs + w.n)) r ints refs u n (same_frame z T scope [] ints refs s u refl refl a) in
           subst (λ n. Same z.flat s.fuel n (k (value_of s x) u) s.answers (place z pc ints refs s)) seven
-          (step z.flat (op.Local r w.n) s.fuel (c + 6) (k (value_of s x) u) s.answers (place z pc ints refs s) (place z (pc + 1) ints refs1 u) has1.0 refl
+          (step z.flat (Op.Local r w.n) s.fuel (c + 6) (k (value_of s x) u) s.answers (place z pc ints refs s) (place z (pc + 1) ints refs1 u) has1.0 refl
           (subst (λ q. Same z.flat s.fuel (c + 6) (k (value_of s x) u) s.answers (place z q ints refs1 u)) end
           (rest (value_of s x) ints refs1 u (ref_valued m z scope kind T i (value_of s x) ints ints refs1 u e
           (subst (λ v. Agree z T scope (v ∷ []) ints refs1 u) w.value a1) (λ n lt. refl)))))

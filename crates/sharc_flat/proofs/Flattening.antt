@@ -1,11 +1,5 @@
 -- There is flat code of every program, for every table of its globals.
-use Rattle.std.proofs.Common.{ℕ, List, [], ◌∷◌, ◌+◌, length, refl}
-use Rattle.sharc_tree.specs.Tree.{Function}
-use Rattle.sharc_code.specs.{declared.code.Function.{Function as Row}, declared.code.GlobalCells.GlobalCells}
-use Rattle.sharc_ctype.specs.Resolved.{functions_in}
-use Rattle.sharc_mode.specs.Moded.{Assignment}
-use Rattle.sharc_flat.specs.{Machine.Flat, Frames.{ints_in, refs_in}, Scope.{int_count, ref_count}, Flattened.{parameters_scope, function_code, functions_code, parameter_of, AreRows, IsFlattened, row_of, rows_of, flattened}}
-use Rattle.std.specs.Prelude.{max}
+use Rattle.sharc_flat.proofs.Imports.{ℕ, List, [], ◌∷◌, ◌+◌, length, refl, Function, Row, GlobalCells, functions_in, Assignment, Flat, ints_in, refs_in, int_count, ref_count, parameters_scope, function_code, functions_code, parameter_of, AreRows, IsFlattened, row_of, rows_of, flattened, max}
 
 are_rows : (m : Assignment) (globals : List GlobalCells) (pc : ℕ) (fs : List Function) → AreRows m globals pc fs (rows_of m globals pc fs)
 are_rows m globals pc [] = refl

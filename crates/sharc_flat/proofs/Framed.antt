@@ -1,19 +1,5 @@
 -- Flattened code is framed: each line writes in the frame of its function and leads to lines of it.
-use Rattle.std.proofs.{Common.{◌≡◌, ℕ, zero, suc, ◌+◌, ◌-◌, ◌*◌, ◌^◌, ◌<◌, ◌≤◌, Bool, true, false, cond, List, [], ◌∷◌, ◌++◌, length, map, max, get_or, Some, None, refl, sym, ap, ◌∙◌, subst, arith, length-append, nat_lt}, lemmas.Bool.Decides.nat_tests}
-use Rattle.std.specs.Prelude.{slice_get}
-use Rattle.sharc_tree.specs.{declared.tree.declaration.Declaration.Declaration, Tree.Function}
-use Rattle.sharc_names.specs.Kinds.{is_pointer, declared_kind}
-use Rattle.sharc_code.specs.{declared.code.Function.{Function as Row}, declared.instr.Cell.Cell, declared.instr.Register.Register, Machine.no_function, declared.instr.Width.Width, declared.code.GlobalCells.GlobalCells}
-use Rattle.sharc_code.specs.declared.code.Parameter.TheVariants as parameters
-use Rattle.sharc_code.specs.declared.instr.Cell.TheVariants as cells
-use Rattle.sharc_code.specs.declared.instr.Register.TheVariants as registers
-use Rattle.sharc_ctype.specs.Resolved.{function_at, functions_in}
-use Rattle.sharc_mode.specs.Moded.{Assignment}
-use Rattle.sharc_flat.specs.{declared.op.Op.Op, declared.op.Spot.Spot, Machine.{Flat, function_of}, Framed.{BaseWithin, HandedWithin, HasParameter, OpWrites, InLine, OpLeads, IsFramedAt, IsFramed, IsWide, Leads, IsFlat}, Laws.FitsFrames, Scope.{int_count, ref_count, slot_of, at_site}, Frames.{int_need, ref_need, base_need, handed_need, ints_in, refs_in}, Flattened.{IsRow, AreRows, IsFlattened, parameter_of, function_code, functions_code, in_function}, Correct.ProgramSuits}
-use Rattle.sharc_flat.specs.declared.op.Op.TheVariants as op
-use Rattle.sharc_code.specs.declared.instr.Width.TheVariants as widths
-use Rattle.sharc_flat.proofs.{Declaring.declared_reference, Staying.{Wide, OpStays, Stays}, Keeping.{InLoopsAll, front, front_is, function_keeps}, Knowing.all_loops}
-use Rattle.sharc_lemmas.proofs.Lists.{there_is as inside_list}
+use Rattle.sharc_flat.proofs.{Imports.{◌≡◌, ℕ, zero, suc, ◌+◌, ◌-◌, ◌*◌, ◌^◌, ◌<◌, ◌≤◌, Bool, true, false, cond, List, [], ◌∷◌, ◌++◌, length, map, max, get_or, Some, None, refl, sym, ap, ◌∙◌, subst, arith, length-append, nat_lt, nat_tests, slice_get, Declaration, Function, is_pointer, declared_kind, Row, Cell, Register, no_function, Width, GlobalCells, Parameter, function_at, functions_in, Assignment, Op, Spot, Flat, function_of, BaseWithin, HandedWithin, HasParameter, OpWrites, InLine, OpLeads, IsFramedAt, IsFramed, IsWide, Leads, IsFlat, FitsFrames, int_count, ref_count, slot_of, at_site, int_need, ref_need, base_need, handed_need, ints_in, refs_in, IsRow, AreRows, IsFlattened, parameter_of, function_code, functions_code, in_function, ProgramSuits, inside_list}, Declaring.declared_reference, Staying.{Wide, OpStays, Stays}, Keeping.{InLoopsAll, front, front_is, function_keeps}, Knowing.all_loops}
 
 -- ---- lists
 get_left : (xs ys : List Op) (j : ℕ) → j < length xs → slice_get (xs ++ ys) j ≡ slice_get xs j
@@ -53,73 +39,73 @@ none_some e = cc
 
 -- ---- what an operation writes, and where it leads
 base_within : (refs : ℕ) (cell : Cell) → base_need cell ≤ refs → BaseWithin refs cell
-base_within refs (cells.Object r n) le = omega arith
-base_within refs (cells.ObjectAt r i) le = omega arith
+base_within refs (Cell.Object r n) le = omega arith
+base_within refs (Cell.ObjectAt r i) le = omega arith
 base_within refs _ le = tt
 
 handed_within : (refs : ℕ) (from : Register) → handed_need from ≤ refs → HandedWithin refs from
-handed_within refs (registers.Int i) le = tt
-handed_within refs (registers.Reference r) le = omega arith
+handed_within refs (Register.Int i) le = tt
+handed_within refs (Register.Reference r) le = omega arith
 
-writes : (I R : ℕ) (o : Op) → int_need o ≤ I → ref_need o ≤ R → ((i elements cells field : ℕ) (spot : Spot) → o ≡ op.GlobalBounds i elements cells field spot → elements * cells + field < 2 ^ 63) → OpWrites I R o
-writes I R (op.Constant a b) p q few = omega arith
-writes I R (op.Move a b) p q few = omega arith
-writes I R (op.Compute a b c d e f) p q few = omega arith
-writes I R (op.Negate a b c d) p q few = omega arith
-writes I R (op.Complement a b) p q few = omega arith
-writes I R (op.IsFalse a b) p q few = omega arith
-writes I R (op.SameReference a b c) p q few = omega arith
-writes I R (op.Call a b c d) p q few = (omega arith, omega arith)
-writes I R (op.Null a) p q few = omega arith
-writes I R (op.Local a b) p q few = omega arith
-writes I R (op.MoveReference a b) p q few = (omega arith, omega arith)
-writes I R (op.Pop a) p q few = omega arith
-writes I R (op.Settle a b) p q few = (omega arith, omega arith)
-writes I R (op.Bounds a b c d e) p q few = omega arith
-writes I R (op.GlobalBounds a b c d e) p q few = (omega arith, few a b c d e refl)
-writes I R (op.Load a b c) p q few = omega arith
-writes I R (op.LoadRef a b c) p q few = omega arith
-writes I R (op.StoreRef a b c) p q few = omega arith
-writes I R (op.New a b c d) p q few = omega arith
-writes I R (op.TakeCell a b c) p q few = omega arith
-writes I R (op.TakeLocal a b c) p q few = (omega arith, omega arith)
-writes I R (op.Free a b c) p q few = omega arith
-writes I R (op.Lock a b) p q few = base_within R a q
-writes I R (op.Unlock a b c) p q few = omega arith
-writes I R (op.Spawn a b c d) p q few = (omega arith, handed_within R c q)
+writes : (I R : ℕ) (o : Op) → int_need o ≤ I → ref_need o ≤ R → ((i elements cells field : ℕ) (spot : Spot) → o ≡ Op.GlobalBounds i elements cells field spot → elements * cells + field < 2 ^ 63) → OpWrites I R o
+writes I R (Op.Constant a b) p q few = omega arith
+writes I R (Op.Move a b) p q few = omega arith
+writes I R (Op.Compute a b c d e f) p q few = omega arith
+writes I R (Op.Negate a b c d) p q few = omega arith
+writes I R (Op.Complement a b) p q few = omega arith
+writes I R (Op.IsFalse a b) p q few = omega arith
+writes I R (Op.SameReference a b c) p q few = omega arith
+writes I R (Op.Call a b c d) p q few = (omega arith, omega arith)
+writes I R (Op.Null a) p q few = omega arith
+writes I R (Op.Local a b) p q few = omega arith
+writes I R (Op.MoveReference a b) p q few = (omega arith, omega arith)
+writes I R (Op.Pop a) p q few = omega arith
+writes I R (Op.Settle a b) p q few = (omega arith, omega arith)
+writes I R (Op.Bounds a b c d e) p q few = omega arith
+writes I R (Op.GlobalBounds a b c d e) p q few = (omega arith, few a b c d e refl)
+writes I R (Op.Load a b c) p q few = omega arith
+writes I R (Op.LoadRef a b c) p q few = omega arith
+writes I R (Op.StoreRef a b c) p q few = omega arith
+writes I R (Op.New a b c d) p q few = omega arith
+writes I R (Op.TakeCell a b c) p q few = omega arith
+writes I R (Op.TakeLocal a b c) p q few = (omega arith, omega arith)
+writes I R (Op.Free a b c) p q few = omega arith
+writes I R (Op.Lock a b) p q few = base_within R a q
+writes I R (Op.Unlock a b c) p q few = omega arith
+writes I R (Op.Spawn a b c d) p q few = (omega arith, handed_within R c q)
 writes I R _ p q few = tt
 
 leads : (A Fn : ℕ → Type 0) (flat : Flat) (owner : ℕ → ℕ) (n rest : ℕ) (o : Op) → OpStays A Fn rest o → ((k : ℕ) → k ≤ rest → InLine flat owner (owner n) (n + 1 + k)) → ((q : ℕ) → A q → InLine flat owner (owner n) q) → InLine flat owner (owner n) (n + 1)
     → ((f : ℕ) → Fn f → f < length flat.functions) → OpLeads flat owner n o
-leads A Fn flat owner n rest (op.Skip a) s over at next calls = over a s
-leads A Fn flat owner n rest (op.SkipIfZero a b) s over at next calls = (over b s, next)
-leads A Fn flat owner n rest (op.SkipIfNull a b) s over at next calls = (over b s, next)
-leads A Fn flat owner n rest (op.Jump a) s over at next calls = at a s
-leads A Fn flat owner n rest (op.Call a b c d) s over at next calls = (calls a s, next)
-leads A Fn flat owner n rest (op.Return a) s over at next calls = tt
+leads A Fn flat owner n rest (Op.Skip a) s over at next calls = over a s
+leads A Fn flat owner n rest (Op.SkipIfZero a b) s over at next calls = (over b s, next)
+leads A Fn flat owner n rest (Op.SkipIfNull a b) s over at next calls = (over b s, next)
+leads A Fn flat owner n rest (Op.Jump a) s over at next calls = at a s
+leads A Fn flat owner n rest (Op.Call a b c d) s over at next calls = (calls a s, next)
+leads A Fn flat owner n rest (Op.Return a) s over at next calls = tt
 leads A Fn flat owner n rest _ s over at next calls = next
 
 wide_is : (w : Width) → Wide w → IsWide w
-wide_is widths.Char h = h
+wide_is Width.Char h = h
 wide_is _ h = tt
 
 flat_leads : (A Fn : ℕ → Type 0) (flat : Flat) (owner : ℕ → ℕ) (n rest : ℕ) (o : Op) → OpStays A Fn rest o → OpLeads flat owner n o → Leads flat n o
-flat_leads A Fn flat owner n rest (op.Compute a b c d e f) s l = (wide_is a s, l.inside)
-flat_leads A Fn flat owner n rest (op.Negate a b c d) s l = (wide_is a s, l.inside)
-flat_leads A Fn flat owner n rest (op.SkipIfZero a b) s l = (l.0.inside, l.1.inside)
-flat_leads A Fn flat owner n rest (op.SkipIfNull a b) s l = (l.0.inside, l.1.inside)
-flat_leads A Fn flat owner n rest (op.Call a b c d) s l = (l.0, l.1.inside)
-flat_leads A Fn flat owner n rest (op.Return a) s l = tt
-flat_leads A Fn flat owner n rest (op.Settle a b) s l = (s, l.inside)
+flat_leads A Fn flat owner n rest (Op.Compute a b c d e f) s l = (wide_is a s, l.inside)
+flat_leads A Fn flat owner n rest (Op.Negate a b c d) s l = (wide_is a s, l.inside)
+flat_leads A Fn flat owner n rest (Op.SkipIfZero a b) s l = (l.0.inside, l.1.inside)
+flat_leads A Fn flat owner n rest (Op.SkipIfNull a b) s l = (l.0.inside, l.1.inside)
+flat_leads A Fn flat owner n rest (Op.Call a b c d) s l = (l.0, l.1.inside)
+flat_leads A Fn flat owner n rest (Op.Return a) s l = tt
+flat_leads A Fn flat owner n rest (Op.Settle a b) s l = (s, l.inside)
 flat_leads A Fn flat owner n rest _ s l = l.inside
 
-parameter_by : (row : Row) (b : Bool) (n r : ℕ) → cond b n (n + 1) ≤ row.ints → cond b (r + 1) r ≤ row.refs → HasParameter row (cond b parameters.Reference parameters.Int)
+parameter_by : (row : Row) (b : Bool) (n r : ℕ) → cond b n (n + 1) ≤ row.ints → cond b (r + 1) r ≤ row.refs → HasParameter row (cond b Parameter.Reference Parameter.Int)
 parameter_by row true n r p q = omega arith
 parameter_by row false n r p q = omega arith
 
 has_parameter : (row : Row) (ds : List Declaration) → int_count (map slot_of ds) ≤ row.ints → ref_count (map slot_of ds) ≤ row.refs → HasParameter row (parameter_of ds)
 has_parameter row [] p q = tt
-has_parameter row (d ∷ rest) p q = subst (λ b. HasParameter row (cond b parameters.Reference parameters.Int)) (sym (declared_reference d.written)) (parameter_by row (is_pointer (declared_kind d.written)) (int_count (map slot_of rest)) (ref_count (map slot_of rest)) p q)
+has_parameter row (d ∷ rest) p q = subst (λ b. HasParameter row (cond b Parameter.Reference Parameter.Int)) (sym (declared_reference d.written)) (parameter_by row (is_pointer (declared_kind d.written)) (int_count (map slot_of rest)) (ref_count (map slot_of rest)) p q)
 
 -- ---- the functions one after the other
 module _ (Fn : ℕ → Type 0) (m : Assignment) (globals : List GlobalCells) where
@@ -231,7 +217,7 @@ module _ (m : Assignment) (flat : Flat) (is : IsFlattened m flat) (loops : (f : 
   entry_of f lt =
       let row = row_at Fn m T 0 0 fs flat.functions is.functions loops f lt in
       let fn = row.function in
-      let some = ap length (front_is m T row.begin fn) ∙ length-append (front m T row.begin fn) (op.Return (at_site fn.body.last) ∷ []) in
+      let some = ap length (front_is m T row.begin fn) ∙ length-append (front m T row.begin fn) (Op.Return (at_site fn.body.last) ∷ []) in
       let ints = row.is.ints in
       let refs = row.is.refs in (
         subst (InLine flat owner f) (sym row.is.entry) (in_line f row row.begin (omega arith) (omega (arith, some))),
@@ -254,7 +240,7 @@ module _ (m : Assignment) (flat : Flat) (is : IsFlattened m flat) (loops : (f : 
       F = front m T w.row.begin fn
 
       R : List Op
-      R = op.Return (at_site fn.body.last) ∷ []
+      R = Op.Return (at_site fn.body.last) ∷ []
 
       C : List Op
       C = function_code m T w.row.begin fn
@@ -298,7 +284,7 @@ module _ (m : Assignment) (flat : Flat) (is : IsFlattened m flat) (loops : (f : 
         where
           last : (j : ℕ) → w.place ≡ length F + j → IsFramedAt flat owner n o × Leads flat n o
           last zero z =
-              let same : op.Return (at_site fn.body.last) ≡ o = some_same (op.Return (at_site fn.body.last)) o (sym (get_right F R zero) ∙ ap (slice_get (F ++ R)) (sym z) ∙ get_in) in
+              let same : Op.Return (at_site fn.body.last) ≡ o = some_same (Op.Return (at_site fn.body.last)) o (sym (get_right F R zero) ∙ ap (slice_get (F ++ R)) (sym z) ∙ get_in) in
               (framed_at (omega (arith, count, z)) (subst (OpLeads flat owner n) same tt), subst (Leads flat n) same tt)
           last (suc j) z = absurd (none_some (sym (get_right F R (suc j)) ∙ ap (slice_get (F ++ R)) (sym z) ∙ get_in))
 

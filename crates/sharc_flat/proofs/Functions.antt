@@ -1,13 +1,5 @@
 -- Functions, from their first statement to where they return.
-use Rattle.std.proofs.{Common.{◌≡◌, ℕ, ◌+◌, ◌<◌, Bool, true, false, cond, List, [], ◌∷◌, ◌++◌, length, get_or, map, Some, refl, sym, ap, ◌∙◌, subst, ⊎_elim, arith, append_assoc}, lemmas.List.append-nil}
-use Rattle.std.specs.Prelude.{ℤ, pos, slice_get}
-use Rattle.sharc_tree.specs.{declared.token.Site.Site, declared.tree.declaration.Declaration.Declaration, Tree.Function}
-use Rattle.sharc_names.specs.Kinds.{Kind, is_integer, is_pointer, declared_kind, declared_kinds}
-use Rattle.sharc_mode.specs.Moded.{Assignment}
-use Rattle.sharc_meaning.specs.{State.{State, Run, ◌>>=◌, ◌>>◌, give, entered, is_reference, pointers_among, ends_variables, new_variable}, Statements.Flow, declared.variable.Variable.Variable, Meaning.{parameters_begin, left_at}}
-use Rattle.sharc_flat.specs.{declared.op.Op.Op, declared.op.Spot.Spot, Machine.put, Scope.{int_count, ref_count, at_site, ends_from, slot_of}, declared.slot.Slot.Slot, Flattened.{result_code, zero_code, around_body, parameters_scope}}
-use Rattle.sharc_flat.specs.declared.op.Op.TheVariants as op
-use Rattle.sharc_flat.proofs.{Banks.{bank_is, put_same, put_other}, Runs.{HasAt, has_front, has_back, Fin, fin_then, Same, weaken, step, bind, enters_at, without_variables, unblock}, Agreeing.{slots_of, int_values, ints_length, Standing, place, Agree, below, holding, push, drop_last, last_is, with_int, same_frame, loose_of}, Values.apart, Popping.{AllNull, none_behind}, Blocks.block_ends, Executing.{Stand, Beyond, StatementAs, leave_block}, Calling.{refs_of, ints_of}}
+use Rattle.sharc_flat.proofs.{Imports.{◌≡◌, ℕ, ◌+◌, ◌<◌, Bool, true, false, cond, List, [], ◌∷◌, ◌++◌, length, get_or, map, Some, refl, sym, ap, ◌∙◌, subst, ⊎_elim, arith, append_assoc, append-nil, ℤ, pos, slice_get, Site, Declaration, Function, Kind, is_integer, is_pointer, declared_kind, declared_kinds, Assignment, State, Run, ◌>>=◌, ◌>>◌, give, entered, is_reference, pointers_among, ends_variables, new_variable, Flow, Variable, parameters_begin, left_at, Op, Spot, put, int_count, ref_count, at_site, ends_from, slot_of, Slot, result_code, zero_code, around_body, parameters_scope}, Banks.{bank_is, put_same, put_other}, Runs.{HasAt, has_front, has_back, Fin, fin_then, Same, weaken, step, bind, enters_at, without_variables, unblock}, Agreeing.{slots_of, int_values, ints_length, Standing, place, Agree, below, holding, push, drop_last, last_is, with_int, same_frame, loose_of}, Values.apart, Popping.{AllNull, none_behind}, Blocks.block_ends, Executing.{Stand, Beyond, StatementAs, leave_block}, Calling.{refs_of, ints_of}}
 
 -- the variables that the parameters are
 abbrev pub begun : List Declaration → List ℤ → List Variable
@@ -50,27 +42,27 @@ module _ (m : Assignment) (z : Standing) (f : Function) (ints0 : ℕ → ℤ) wh
 
   -- where a function returns
   abbrev pub AtReturn : ℕ → (Site × ℤ → State → Fin) → Type 0
-  AtReturn c k = (site : Site) (v : ℤ) (pc : ℕ) (ints refs : ℕ → ℤ) (s : State) → slice_get z.flat.lines pc ≡ Some (op.Return (at_site site)) → S [] (loose_of (is_reference kind) v) ints refs s → (is_integer kind ≡ true → ints (z.ints + 0) ≡ v)
+  AtReturn c k = (site : Site) (v : ℤ) (pc : ℕ) (ints refs : ℕ → ℤ) (s : State) → slice_get z.flat.lines pc ≡ Some (Op.Return (at_site site)) → S [] (loose_of (is_reference kind) v) ints refs s → (is_integer kind ≡ true → ints (z.ints + 0) ≡ v)
       → Same z.flat s.fuel (c + 1) (k (site, v) s) s.answers (place z pc ints refs s)
 
-  zero_by : (b : Bool) (site : Site) (pc c : ℕ) (ints refs : ℕ → ℤ) (s : State) (k : Site × ℤ → State → Fin) → is_reference kind ≡ b → HasAt z.flat.lines pc (zero_code b 0 0 ++ op.Return (at_site site) ∷ []) → S [] [] ints refs s → AtReturn c k
+  zero_by : (b : Bool) (site : Site) (pc c : ℕ) (ints refs : ℕ → ℤ) (s : State) (k : Site × ℤ → State → Fin) → is_reference kind ≡ b → HasAt z.flat.lines pc (zero_code b 0 0 ++ Op.Return (at_site site) ∷ []) → S [] [] ints refs s → AtReturn c k
       → Same z.flat s.fuel (c + 2) (k (site, pos 0) s) s.answers (place z pc ints refs s)
   zero_by true site pc c ints refs s k e has st rest =
       let refs1 = put refs (z.refs + 0) (pos 0) in
       let two : c + 1 + 1 ≡ c + 2 = omega arith in
       let a1 : Agree z [] [] (pos 0 ∷ []) ints refs1 s = push z [] [] [] (pos 0) 0 ints refs s refl st.agree in
       subst (λ q. Same z.flat s.fuel q (k (site, pos 0) s) s.answers (place z pc ints refs s)) two
-      (step z.flat (op.Null 0) s.fuel (c + 1) (k (site, pos 0) s) s.answers (place z pc ints refs s) (place z (pc + 1) ints refs1 s) has.0 refl
+      (step z.flat (Op.Null 0) s.fuel (c + 1) (k (site, pos 0) s) s.answers (place z pc ints refs s) (place z (pc + 1) ints refs1 s) has.0 refl
       (rest site (pos 0) (pc + 1) ints refs1 s has.1.0 (record { agree = subst (λ b. Agree z [] [] (loose_of b (pos 0)) ints refs1 s) (sym e) a1; kept = st.kept }) (λ h. absurd (apart kind e h))))
   zero_by false site pc c ints refs s k e has st rest =
       let ints1 = put ints (z.ints + 0) (pos 0) in
       let two : c + 1 + 1 ≡ c + 2 = omega arith in
       let a1 : Agree z [] [] [] ints1 refs s = with_int z [] [] [] 0 (pos 0) ints refs s (omega arith) st.agree in
       subst (λ q. Same z.flat s.fuel q (k (site, pos 0) s) s.answers (place z pc ints refs s)) two
-      (step z.flat (op.Constant 0 (pos 0)) s.fuel (c + 1) (k (site, pos 0) s) s.answers (place z pc ints refs s) (place z (pc + 1) ints1 refs s) has.0 refl
+      (step z.flat (Op.Constant 0 (pos 0)) s.fuel (c + 1) (k (site, pos 0) s) s.answers (place z pc ints refs s) (place z (pc + 1) ints1 refs s) has.0 refl
       (rest site (pos 0) (pc + 1) ints1 refs s has.1.0 (record { agree = subst (λ b. Agree z [] [] (loose_of b (pos 0)) ints1 refs s) (sym e) a1; kept = λ n lt. put_other ints (z.ints + 0) (pos 0) n (λ h. omega arith) ∙ st.kept n lt }) (λ h. put_same ints (z.ints + 0) (pos 0))))
 
-  value_by : (b : Bool) (site : Site) (v : ℤ) (i r pc c : ℕ) (N : List ℤ) (ints refs : ℕ → ℤ) (s : State) (k : Site × ℤ → State → Fin) → is_reference kind ≡ b → HasAt z.flat.lines pc (result_code b i r ++ op.Return (at_site site) ∷ []) → AllNull N → r ≡ length N
+  value_by : (b : Bool) (site : Site) (v : ℤ) (i r pc c : ℕ) (N : List ℤ) (ints refs : ℕ → ℤ) (s : State) (k : Site × ℤ → State → Fin) → is_reference kind ≡ b → HasAt z.flat.lines pc (result_code b i r ++ Op.Return (at_site site) ∷ []) → AllNull N → r ≡ length N
       → S [] (N ++ loose_of b v) ints refs s → (is_integer kind ≡ true → ints (z.ints + i) ≡ v) → AtReturn c k → Same z.flat s.fuel (c + 2) (k (site, v) s) s.answers (place z pc ints refs s)
   value_by true site v i r pc c N ints refs s k e has nn rn st value rest =
       let r1 : r ≡ 0 + 0 + length N = omega arith in
@@ -81,7 +73,7 @@ module _ (m : Assignment) (z : Standing) (f : Function) (ints0 : ℕ → ℤ) wh
       let bank = put (put refs (z.refs + r) (pos 0)) (z.refs + 0) (refs (z.refs + r)) in
       let a3 : Agree z [] [] (v ∷ []) ints bank s = subst (λ x. Agree z [] [] (x ∷ []) ints bank s) v_is (push z [] [] [] (refs (z.refs + r)) 0 ints (put refs (z.refs + r) (pos 0)) s refl a2) in
       subst (λ q. Same z.flat s.fuel q (k (site, v) s) s.answers (place z pc ints refs s)) two
-      (step z.flat (op.MoveReference 0 r) s.fuel (c + 1) (k (site, v) s) s.answers (place z pc ints refs s) (place z (pc + 1) ints bank s) has.0 refl
+      (step z.flat (Op.MoveReference 0 r) s.fuel (c + 1) (k (site, v) s) s.answers (place z pc ints refs s) (place z (pc + 1) ints bank s) has.0 refl
       (rest site v (pc + 1) ints bank s has.1.0 (record { agree = subst (λ b. Agree z [] [] (loose_of b v) ints bank s) (sym e) a3; kept = st.kept }) (λ h. absurd (apart kind e h))))
   value_by false site v i r pc c N ints refs s k e has nn rn st value rest =
       let ints1 = put ints (z.ints + 0) (ints (z.ints + i)) in
@@ -89,14 +81,14 @@ module _ (m : Assignment) (z : Standing) (f : Function) (ints0 : ℕ → ℤ) wh
       let a0 : Agree z [] [] [] ints refs s = none_behind z [] [] (N ++ []) ints refs s (λ j. ap (λ l. get_or l j (pos 0)) (append-nil N) ∙ nn j) st.agree in
       let a1 : Agree z [] [] [] ints1 refs s = with_int z [] [] [] 0 (ints (z.ints + i)) ints refs s (omega arith) a0 in
       subst (λ q. Same z.flat s.fuel q (k (site, v) s) s.answers (place z pc ints refs s)) two
-      (step z.flat (op.Move 0 i) s.fuel (c + 1) (k (site, v) s) s.answers (place z pc ints refs s) (place z (pc + 1) ints1 refs s) has.0 refl
+      (step z.flat (Op.Move 0 i) s.fuel (c + 1) (k (site, v) s) s.answers (place z pc ints refs s) (place z (pc + 1) ints1 refs s) has.0 refl
       (rest site v (pc + 1) ints1 refs s has.1.0 (record { agree = subst (λ b. Agree z [] [] (loose_of b v) ints1 refs s) (sym e) a1; kept = λ n lt. put_other ints (z.ints + 0) _ n (λ h. omega arith) ∙ st.kept n lt })
       (λ h. put_same ints (z.ints + 0) _ ∙ value h)))
 
   -- a function runs, from its first statement on
   pub function_runs : (vs : List ℤ) (entry c : ℕ) (refs : ℕ → ℤ) (run : Run Flow) (inner : List Slot) (code : ℕ → List Op) → (let ps = parameters_scope f.parameters in
       Beyond m z kind ints0 ps inner → StatementAs m z kind ints0 (around_body f) (Beyond m z kind ints0 ps) ps inner 1 run code
-      → HasAt z.flat.lines entry (op.Enter ∷ (code (entry + 1) ++ (ends_from inner 0 ++ (zero_code (is_reference kind) 0 0 ++ op.Return (at_site f.body.last) ∷ []))))
+      → HasAt z.flat.lines entry (Op.Enter ∷ (code (entry + 1) ++ (ends_from inner 0 ++ (zero_code (is_reference kind) 0 0 ++ Op.Return (at_site f.body.last) ∷ []))))
       → (s : State) (k : Site × ℤ → State → Fin) → s.frame.variables ≡ [] → Agree z [] [] (pointers_among (begun f.parameters vs)) ints0 refs s
       → ((j : ℕ) → j < length (int_values (begun f.parameters vs)) → ints0 (z.ints + j) ≡ get_or (int_values (begun f.parameters vs)) j (pos 0))
       → AtReturn c k
@@ -104,7 +96,7 @@ module _ (m : Assignment) (z : Standing) (f : Function) (ints0 : ℕ → ℤ) wh
   function_runs vs entry c refs run inner code beyond statements has s k none a values rest =
       let ps = parameters_scope f.parameters in
       let C = code (entry + 1) in
-      let tail = zero_code (is_reference kind) 0 0 ++ op.Return (at_site f.body.last) ∷ [] in
+      let tail = zero_code (is_reference kind) 0 0 ++ Op.Return (at_site f.body.last) ∷ [] in
       let E = ends_from inner 0 in
       let has_e = has_back z.flat.lines (entry + 1) C (E ++ tail) has.1 in
       let K : Site × ℤ → State → Fin = λ x u. k x (without_variables 0 u) in
@@ -143,9 +135,9 @@ module _ (m : Assignment) (z : Standing) (f : Function) (ints0 : ℕ → ℤ) wh
             (λ pc2 refs2 N nn ln has2 st2.
             weaken z.flat s3.fuel (c + 2) (c + 2 + 0) _ s3.answers _ (omega arith)
             (⊎_elim
-            (λ (h : (i r : ℕ) × (w3.tail ≡ result_code (is_reference kind) i r ++ op.Return (at_site site) ∷ []) × (w3.X ≡ loose_of (is_reference kind) v) × (r ≡ ref_count at + length w3.Z) × (is_integer kind ≡ true → ints1 (z.ints + i) ≡ v)).
+            (λ (h : (i r : ℕ) × (w3.tail ≡ result_code (is_reference kind) i r ++ Op.Return (at_site site) ∷ []) × (w3.X ≡ loose_of (is_reference kind) v) × (r ≡ ref_count at + length w3.Z) × (is_integer kind ≡ true → ints1 (z.ints + i) ≡ v)).
             value_by (is_reference kind) site v h.0 h.1 pc2 c N ints1 refs2 (without_variables 0 s3) k refl (subst (HasAt z.flat.lines pc2) h.2 has2) nn (omega (arith, h.4, ln)) (subst (λ x. S [] (N ++ x) ints1 refs2 (without_variables 0 s3)) h.3 st2) h.5 rest)
-            (λ (h : (w3.tail ≡ zero_code (is_reference kind) 0 0 ++ op.Return (at_site site) ∷ []) × (w3.X ≡ []) × (v ≡ pos 0)).
+            (λ (h : (w3.tail ≡ zero_code (is_reference kind) 0 0 ++ Op.Return (at_site site) ∷ []) × (w3.X ≡ []) × (v ≡ pos 0)).
             let a4 : Agree z [] [] [] ints1 refs2 (without_variables 0 s3) = none_behind z [] [] (N ++ []) ints1 refs2 (without_variables 0 s3) (λ j. ap (λ l. get_or l j (pos 0)) (append-nil N) ∙ nn j) (subst (λ x. Agree z [] [] (N ++ x) ints1 refs2 (without_variables 0 s3)) h.1 st2.agree) in
             subst (λ x. Same z.flat s3.fuel (c + 2) (k (site, x) (without_variables 0 s3)) s3.answers (place z pc2 ints1 refs2 (without_variables 0 s3))) (sym h.2)
             (zero_by (is_reference kind) site pc2 c ints1 refs2 (without_variables 0 s3) k refl (subst (HasAt z.flat.lines pc2) h.0 has2) (record { agree = a4; kept = st2.kept }) rest))

@@ -1,19 +1,7 @@
 -- Every expression, by its form.
-use Rattle.std.proofs.{Common.{◌≡◌, ℕ, zero, suc, ◌+◌, ◌≤◌, Bool, true, false, cond, List, [], ◌∷◌, ◌++◌, length, Option, Some, None, refl, sym, ap, ◌∙◌, subst, arith, append_assoc}, lemmas.List.append-nil}
-use Rattle.std.specs.{Prelude.{neg_ℤ, ℤ, pos, ◌||◌, Ok, codes}, Str.bytes_eq}
-use Rattle.sharc_tree.specs.{declared.event.Object.TheVariants.{Global, Made}, declared.token.Site.Site, declared.token.Span.Span, declared.tree.expression.BinaryOperator.BinaryOperator, declared.tree.expression.BinaryOperator.TheVariants.{LogicalOr, LogicalAnd, Equal, NotEqual}, Tree.{Expression, identifier, constant, parentheses, call, spawn, on_value, on_place, cast, index, field, unary, binary, Arguments, no_arguments, argument}, Spans.span_of, declared.tree.expression.FieldOperator.TheVariants.{Dot, Arrow}, declared.tree.expression.UnaryOperator.TheVariants.{Negate, Not, Complement, Dereference}, declared.event.TakeKind.TakeKind, declared.tree.expression.PlaceCall.TheVariants.{Lock, Unlock, Free}}
-use Rattle.sharc_names.specs.{Kinds.{Kind, is_integer, int, promoted, is_long, declared_kinds, is_array, element_kind}, declared.fault.Named.Named}
-use Rattle.sharc_code.specs.declared.code.Use.{Use}
-use Rattle.sharc_code.specs.declared.code.Use.TheVariants as uses
-use Rattle.sharc_mode.specs.{Moded.Assignment, Sharings.Sharing, Cells.{cell_at as mode_in, pointed}, Rows.cast_row}
-use Rattle.sharc_meaning.specs.{Cells.{global_elements, element_cells, field_place_named}, Places.{StorePlace, variable, cell, field_in, based, element, element_of_array, index_place, pointee_place, place_named, taken_from}, Reference.{number_of, elements_of, constant_value}, State.{Run, ◌>>=◌, ◌>>◌, give, entered, is_reference, temporarily}, Arithmetic.{bits_of, operated, negated, complement, in_range}, Expressions.{resulting, tested, operand, Calls, value_called, called, named_value, eval, eval_all, place_of, unary_value, binary_value, place_value, spawned, number_named, cast_value, place_called, taking}}
-use Rattle.sharc_ctype.specs.{Resolved.{global_at, kind_at, named_at, structs_in}, Expressions.{constant_kind, class_of, binary_result}, declared.expr.OperatorClass.OperatorClass, declared.expr.OperatorClass.TheVariants.{Shift, Arithmetic}, Transfers.{parameters_named, parameters_of}}
-use Rattle.sharc_flat.specs.{declared.op.Op.Op, declared.op.Spot.Spot, Machine.{first_cell, with_result, take_kind_of, variable_of}, Places.{lvalue_of, take_use, Target, in_global, in_global_at, in_object, in_object_at, has_base, base_width, field_of, guard_field, beside_field, guard_cell, guard_code, spot_of, drop_base, settle_base, settle_code, cell_value_code, cell_store_code, store_code, cell_take_code, take_code, target, own_field, global_of, bounds_code, index_code, pointee_code, width_of, base_as_width, width_code, guard_width, index_width, object_spot}, Scope.{tokens_in, at_words, Context, at_site}, declared.slot.Lvalue.Lvalue, declared.slot.Slot.Slot, Suits.{PathStands, is_cell, NameSuits, Either, CallSuits, Suits, ArgumentsSuit, PlaceSuits, ReferencesSuit, TakeSuits, OperandsSuit}, Flattened.{operator_of, truth_code, compare_code, passed_code, behind_int, behind_ref, IsFlattened, constant_code, value_call_code, expression_code, arguments_code, place_code, named_code, called_code, lvalue_code, binary_code, spawn_code, cast_code, place_call_code, layout_of}}
-use Rattle.sharc_flat.specs.declared.op.Op.TheVariants as op
+use Rattle.sharc_flat.proofs.{Imports.{◌≡◌, ℕ, zero, suc, ◌+◌, ◌≤◌, Bool, true, false, cond, List, [], ◌∷◌, ◌++◌, length, Option, Some, None, refl, sym, ap, ◌∙◌, subst, arith, append_assoc, append-nil, neg_ℤ, ℤ, pos, ◌||◌, Ok, codes, bytes_eq, Global, Made, Site, Span, BinaryOperator, LogicalOr, LogicalAnd, Equal, NotEqual, Expression, identifier, constant, parentheses, call, spawn, on_value, on_place, cast, index, field, unary, binary, Arguments, no_arguments, argument, span_of, Dot, Arrow, Negate, Not, Complement, Dereference, TakeKind, Lock, Unlock, Free, Kind, is_integer, int, promoted, is_long, declared_kinds, is_array, element_kind, Named, Use, Assignment, Sharing, mode_in, pointed, cast_row, global_elements, element_cells, field_place_named, StorePlace, variable, cell, field_in, based, element, element_of_array, index_place, pointee_place, place_named, taken_from, number_of, elements_of, constant_value, Run, ◌>>=◌, ◌>>◌, give, entered, is_reference, temporarily, bits_of, operated, complement, in_range, resulting, tested, operand, Calls, value_called, called, named_value, eval, eval_all, place_of, unary_value, binary_value, place_value, spawned, number_named, cast_value, place_called, taking, global_at, kind_at, named_at, structs_in, constant_kind, class_of, binary_result, OperatorClass, Shift, Arithmetic, parameters_named, parameters_of, Op, Spot, first_cell, with_result, take_kind_of, variable_of, lvalue_of, take_use, Target, in_global, in_global_at, in_object, in_object_at, has_base, base_width, field_of, guard_field, beside_field, guard_cell, guard_code, spot_of, drop_base, settle_base, settle_code, cell_value_code, cell_store_code, store_code, cell_take_code, take_code, target, own_field, global_of, bounds_code, index_code, pointee_code, width_of, base_as_width, width_code, guard_width, index_width, object_spot, tokens_in, at_words, Context, at_site, Lvalue, Slot, PathStands, is_cell, NameSuits, Either, CallSuits, Suits, ArgumentsSuit, PlaceSuits, ReferencesSuit, TakeSuits, OperandsSuit, operator_of, truth_code, compare_code, passed_code, behind_int, behind_ref, IsFlattened, constant_code, value_call_code, expression_code, arguments_code, place_code, named_code, called_code, lvalue_code, binary_code, spawn_code, cast_code, place_call_code, layout_of}, Runs.{HasAt, Same, weaken}, Agreeing.{Standing, place, Agree, Rest}, Accessing.context, Values.{integer_is, RunsAs, within, Lies, PlaceAs}, Computing.{bits_same, entered_runs, unary_runs, entered_place, binary_runs, computed_same, promoted_int, promoted_by, range_same, is_strict as is_strict_operator}, Linking.CallsAs, Calling.{ArgumentsAs, no_arguments_run, argument_runs}, Testing.tested_runs, Expressing.{constant_runs, nothing_runs, global_runs, denied_runs, value_call_runs, function_call_runs}, Fetching.{copy_runs, fetch_runs}, Placing.{pointer_index_runs, array_index_runs, pointee_place_runs, arrow_runs, dot_runs}, Taking.{take_cell_runs, take_variable_runs, cast_runs, free_runs, need_more}, Deciding.{and_runs, or_runs}, Spawning.spawn_runs, Waiting.{RefsAs, no_refs_run, ref_run, known_runs}, Comparing.compare_runs, Locking.{lock_runs, unlock_runs}}
+use Rattle.sharc_meaning.specs.Arithmetic.{negated}
 use Rattle.sharc_flat.specs.Places as targets
-use Rattle.sharc_flat.proofs.{Runs.{HasAt, Same, weaken}, Agreeing.{Standing, place, Agree, Rest}, Accessing.context, Values.{integer_is, RunsAs, within, Lies, PlaceAs}, Computing.{bits_same, entered_runs, unary_runs, entered_place, binary_runs, computed_same, promoted_int, promoted_by, range_same, is_strict as is_strict_operator}, Linking.CallsAs, Calling.{ArgumentsAs, no_arguments_run, argument_runs}, Testing.tested_runs, Expressing.{constant_runs, nothing_runs, global_runs, denied_runs, value_call_runs, function_call_runs}, Fetching.{copy_runs, fetch_runs}, Placing.{pointer_index_runs, array_index_runs, pointee_place_runs, arrow_runs, dot_runs}, Taking.{take_cell_runs, take_variable_runs, cast_runs, free_runs, need_more}, Deciding.{and_runs, or_runs}, Spawning.spawn_runs, Waiting.{RefsAs, no_refs_run, ref_run, known_runs}, Comparing.compare_runs, Locking.{lock_runs, unlock_runs}}
-use Rattle.sharc_names.specs.declared.fault.Named.TheVariants as named
-use Rattle.sharc_tree.specs.declared.event.TakeKind.TheVariants as kinds
 
 result_by : (o : OperatorClass) (a b : Kind) → is_reference (binary_result o a b) ≡ false
 result_by Shift a b = promoted_int a
@@ -26,8 +14,8 @@ module _ (m : Assignment) (z : Standing) (scope : List Slot) where
 
   -- ---- names
   name_runs : (kind : Kind) (site : Site) (span : Lvalue) (mode : Sharing) (what : Named) → NameSuits ctx kind mode what → RunsAs m z scope kind 7 (named_value m.typed mode site what) (λ i r. named_code ctx i r site span mode (is_reference kind) what)
-  name_runs kind site span mode (named.Variable x) h = copy_runs m z scope kind x site h
-  name_runs kind site span mode (named.Global g) h = global_runs m z scope g kind site span mode h.0 h.1
+  name_runs kind site span mode (Named.Variable x) h = copy_runs m z scope kind x site h
+  name_runs kind site span mode (Named.Global g) h = global_runs m z scope g kind site span mode h.0 h.1
   name_runs kind site span mode _ h = nothing_runs m z scope kind h.0 h.1
 
   give_place : (t : Target) (f guard : Option ℕ) (p : StorePlace) → ((i : ℕ) (bank : ℕ → ℤ) → Lies m z scope t guard i bank [] (within m z scope f p)) → PlaceAs m z scope t f guard 7 (give p) (λ i r. [])
@@ -46,8 +34,8 @@ module _ (m : Assignment) (z : Standing) (scope : List Slot) where
   global_within (Some n) g = refl
 
   named_place_runs : (f guard : Option ℕ) (what : Named) → PlaceAs m z scope (targets.named_target what (own_field f 0)) f guard 7 (give (place_named what)) (λ i r. [])
-  named_place_runs f guard (named.Variable x) = give_place _ f guard (variable x) (λ i bank. (refl, variable_within f x))
-  named_place_runs f guard (named.Global g) = give_place _ f guard (cell (Global g) 0 0) (λ i bank. (refl, global_within f g))
+  named_place_runs f guard (Named.Variable x) = give_place _ f guard (variable x) (λ i bank. (refl, variable_within f x))
+  named_place_runs f guard (Named.Global g) = give_place _ f guard (cell (Global g) 0 0) (λ i bank. (refl, global_within f g))
   named_place_runs f guard _ = give_place _ f guard (variable 0) (λ i bank. (refl, variable_within f 0))
 
   no_place_runs : (f guard : Option ℕ) → PlaceAs m z scope (targets.variable 0) f guard 7 (give (variable 0)) (λ i r. [])
@@ -58,38 +46,38 @@ module _ (m : Assignment) (z : Standing) (scope : List Slot) where
       → CallSuits ctx kind what suits known → (suits (declared_kinds (parameters_named m.typed what)) → ArgumentsAs m z scope (declared_kinds (parameters_named m.typed what)) all ca)
       → (declared_kinds (parameters_named m.typed what) ≡ [] → known → RefsAs m z scope (cond (bytes_eq text (codes "wait")) 2 1) all ca)
       → RunsAs m z scope kind 7 (temporarily (all >>= λ vs. called on_call site what text vs)) (λ i r. ca i r ++ called_code i r (at_site site) what text written)
-  named_call_runs on_call n calls_as is room kind (named.Function g) site text written all ca suits known h of_all of_refs =
-      let same : parameters_named m.typed (named.Function g) ≡ h.0.parameters = ap parameters_of h.1 in
-      subst (λ k. RunsAs m z scope k 7 (temporarily (all >>= λ vs. on_call g site vs)) (λ i r. ca i r ++ op.Call g i r (at_site site) ∷ [])) (sym h.2)
+  named_call_runs on_call n calls_as is room kind (Named.Function g) site text written all ca suits known h of_all of_refs =
+      let same : parameters_named m.typed (Named.Function g) ≡ h.0.parameters = ap parameters_of h.1 in
+      subst (λ k. RunsAs m z scope k 7 (temporarily (all >>= λ vs. on_call g site vs)) (λ i r. ca i r ++ Op.Call g i r (at_site site) ∷ [])) (sym h.2)
       (function_call_runs m z scope on_call n calls_as is room g h.0 site all ca h.1
       (subst (λ ps. ArgumentsAs m z scope (declared_kinds ps) all ca) same (of_all (subst (λ ps. suits (declared_kinds ps)) (sym same) h.3))))
-  named_call_runs on_call n calls_as is room kind named.Known site text written all ca suits known h of_all of_refs = known_runs m z scope on_call kind site text written all ca h.1 h.2 (of_refs refl h.0)
+  named_call_runs on_call n calls_as is room kind Named.Known site text written all ca suits known h of_all of_refs = known_runs m z scope on_call kind site text written all ca h.1 h.2 (of_refs refl h.0)
   named_call_runs on_call n calls_as is room kind _ site text written all ca suits known h of_all of_refs = absurd h
 
   -- ---- operators
   negate_runs : (ka : Kind) (e : Expression) (s : Span) (run : Run ℤ) (ce : ℕ → ℕ → List Op) → ka ≡ kind_at m.typed e → is_integer ka ≡ true → RunsAs m z scope ka 0 run ce
-      → RunsAs m z scope (promoted ka) 1 (unary_value m s Negate e run) (λ i r. ce i r ++ op.Negate (width_of (promoted (kind_at m.typed e))) i i (at_site s.first) ∷ [])
+      → RunsAs m z scope (promoted ka) 1 (unary_value m s Negate e run) (λ i r. ce i r ++ Op.Negate (width_of (promoted (kind_at m.typed e))) i i (at_site s.first) ∷ [])
   negate_runs ka e s run ce ek ia of_run =
       let w = width_of (promoted (kind_at m.typed e)) in
-      unary_runs m z scope ka (promoted ka) run ce (λ i. op.Negate w i i (at_site s.first)) (at_site s.first) (λ v. negated (bits_of (promoted (kind_at m.typed e))) v) ia (promoted_int ka)
+      unary_runs m z scope ka (promoted ka) run ce (λ i. Op.Negate w i i (at_site s.first)) (at_site s.first) (λ v. negated (bits_of (promoted (kind_at m.typed e))) v) ia (promoted_int ka)
       (λ i pc ints refs u. ap (λ x. with_result i (at_site s.first) (place z pc ints refs u) x) (range_same w (neg_ℤ (ints (z.ints + i))) ∙ ap (λ n. in_range n (neg_ℤ (ints (z.ints + i)))) (bits_same (promoted (kind_at m.typed e))))) of_run
 
   complement_runs : (ka : Kind) (e : Expression) (s : Span) (run : Run ℤ) (ce : ℕ → ℕ → List Op) → is_integer ka ≡ true → RunsAs m z scope ka 0 run ce
-      → RunsAs m z scope (promoted ka) 1 (unary_value m s Complement e run) (λ i r. ce i r ++ op.Complement i i ∷ [])
+      → RunsAs m z scope (promoted ka) 1 (unary_value m s Complement e run) (λ i r. ce i r ++ Op.Complement i i ∷ [])
   complement_runs ka e s run ce ia of_run =
-      unary_runs m z scope ka (promoted ka) run ce (λ i. op.Complement i i) (at_site s.first) (λ v. Ok (complement v)) ia (promoted_int ka) (λ i pc ints refs u. refl) of_run
+      unary_runs m z scope ka (promoted ka) run ce (λ i. Op.Complement i i) (at_site s.first) (λ v. Ok (complement v)) ia (promoted_int ka) (λ i pc ints refs u. refl) of_run
 
   strict_runs : (o : BinaryOperator) (a b : Expression) (at : Site) (of_a of_b : Run ℤ) (ca cb : ℕ → ℕ → List Op) → is_strict_operator o ≡ true → is_integer (kind_at m.typed a) ≡ true → is_integer (kind_at m.typed b) ≡ true
       → RunsAs m z scope (kind_at m.typed a) 0 of_a ca → RunsAs m z scope (kind_at m.typed b) 0 of_b cb
       → RunsAs m z scope (binary_result (class_of o) (kind_at m.typed a) (kind_at m.typed b)) 0
       (temporarily (operand m.typed a of_a >>= λ x. operand m.typed b of_b >>= λ y. resulting at (operated (bits_of (binary_result (class_of o) (kind_at m.typed a) (kind_at m.typed b))) o x y)))
-      (λ i r. ca i r ++ (cb (i + 1) r ++ op.Compute (width_of (binary_result (class_of o) (kind_at m.typed a) (kind_at m.typed b))) (operator_of o) i i (i + 1) (at_site at) ∷ []))
+      (λ i r. ca i r ++ (cb (i + 1) r ++ Op.Compute (width_of (binary_result (class_of o) (kind_at m.typed a) (kind_at m.typed b))) (operator_of o) i i (i + 1) (at_site at) ∷ []))
   strict_runs o a b at of_a of_b ca cb strict ia ib runs_a runs_b =
       let ka = kind_at m.typed a in
       let kb = kind_at m.typed b in
       let kind = binary_result (class_of o) ka kb in
       let w = width_of kind in
-      binary_runs m z scope ka kb kind a b of_a of_b ca cb (λ i. op.Compute w (operator_of o) i i (i + 1) (at_site at)) (at_site at) (λ x y. operated (bits_of kind) o x y) refl refl ia ib (result_by (class_of o) ka kb)
+      binary_runs m z scope ka kb kind a b of_a of_b ca cb (λ i. Op.Compute w (operator_of o) i i (i + 1) (at_site at)) (at_site at) (λ x y. operated (bits_of kind) o x y) refl refl ia ib (result_by (class_of o) ka kb)
       (λ i pc ints refs u. ap (λ x. with_result i (at_site at) (place z pc ints refs u) x) (computed_same w o (ints (z.ints + i)) (ints (z.ints + (i + 1))) strict ∙ ap (λ n. operated n o (ints (z.ints + i)) (ints (z.ints + (i + 1)))) (bits_same kind))) runs_a runs_b
 
   strict_code : (b : Bool) (kind : Kind) (run : Run ℤ) (ca cb : ℕ → ℕ → List Op) (compare : ℕ → ℕ → List Op) (compute : ℕ → Op) → b ≡ false → RunsAs m z scope kind 0 run (λ i r. ca i r ++ (cb (i + 1) r ++ compute i ∷ []))
@@ -97,7 +85,7 @@ module _ (m : Assignment) (z : Standing) (scope : List Slot) where
   strict_code b kind run ca cb compare compute e h = subst (λ b. RunsAs m z scope kind 0 run (λ i r. ca i r ++ (cb (behind_int b i) (behind_ref b r) ++ cond b (compare i r) (compute i ∷ [])))) (sym e) h
 
   abbrev compute_of : BinaryOperator → Expression → Expression → Site → ℕ → Op
-  compute_of o a b at i = op.Compute (width_of (binary_result (class_of o) (kind_at m.typed a) (kind_at m.typed b))) (operator_of o) i i (i + 1) (at_site at)
+  compute_of o a b at i = Op.Compute (width_of (binary_result (class_of o) (kind_at m.typed a) (kind_at m.typed b))) (operator_of o) i i (i + 1) (at_site at)
 
   integer_operator_runs : (o : BinaryOperator) (a b : Expression) (at : Site) (of_a of_b : Run ℤ) (ca cb : ℕ → ℕ → List Op) → is_strict_operator o ≡ true → is_integer (kind_at m.typed a) ≡ true → is_integer (kind_at m.typed b) ≡ true
       → RunsAs m z scope (kind_at m.typed a) 0 of_a ca → RunsAs m z scope (kind_at m.typed b) 0 of_b cb
@@ -148,11 +136,11 @@ module _ (m : Assignment) (z : Standing) (scope : List Slot) where
       → RunsAs m z scope kc 5 (cast_value m s a run) (λ i r. cast_code ctx i r s a (pcode i r))
   cast_expression_runs kc s a run pcode ec h ea path found =
       let site = (span_of a).first in
-      let taken : ℕ → ℕ → List Op = λ i r. take_code ctx i r site (lvalue_of m.typed a) (mode_in m a) uses.Cast (target m.typed None a) in
-      let tail : ℕ → ℕ → List Op = λ i r. op.SkipIfNull r 1 ∷ op.Give r (element_cells m.typed (element_kind (kind_at m.typed a))) (object_spot ctx site (tokens_in (span_of a)) (take_use uses.Cast (target m.typed None a)) (pointed m (Some (cast_row m.typed s)))) ∷ [] in
+      let taken : ℕ → ℕ → List Op = λ i r. take_code ctx i r site (lvalue_of m.typed a) (mode_in m a) Use.Cast (target m.typed None a) in
+      let tail : ℕ → ℕ → List Op = λ i r. Op.SkipIfNull r 1 ∷ Op.Give r (element_cells m.typed (element_kind (kind_at m.typed a))) (object_spot ctx site (tokens_in (span_of a)) (take_use Use.Cast (target m.typed None a)) (pointed m (Some (cast_row m.typed s)))) ∷ [] in
       code_same kc 5 (cast_value m s a run) (λ i r. (pcode i r ++ taken i r) ++ tail i r) (λ i r. pcode i r ++ (taken i r ++ tail i r)) (λ i r. append_assoc (pcode i r) (taken i r) (tail i r))
-      (cast_runs m z scope (element_cells m.typed (element_kind (kind_at m.typed a))) (kind_at m.typed a) kc (taking m s kinds.Cast a run) (λ i r. pcode i r ++ taken i r) site (tokens_in (span_of a)) (take_use uses.Cast (target m.typed None a)) (pointed m (Some (cast_row m.typed s))) ea ec path
-      (take_by (target m.typed None a) (kind_at m.typed a) run pcode s.first site (lvalue_of m.typed a) (mode_in m a) uses.Cast kinds.Cast h found ea (λ o. refl) (λ x. refl)))
+      (cast_runs m z scope (element_cells m.typed (element_kind (kind_at m.typed a))) (kind_at m.typed a) kc (taking m s TakeKind.Cast a run) (λ i r. pcode i r ++ taken i r) site (tokens_in (span_of a)) (take_use Use.Cast (target m.typed None a)) (pointed m (Some (cast_row m.typed s))) ea ec path
+      (take_by (target m.typed None a) (kind_at m.typed a) run pcode s.first site (lvalue_of m.typed a) (mode_in m a) Use.Cast TakeKind.Cast h found ea (λ o. refl) (λ x. refl)))
 
   free_expression_runs : (kv : Kind) (s : Span) (a : Expression) (run : Run StorePlace) (pcode : ℕ → ℕ → List Op) → is_reference kv ≡ false → is_integer kv ≡ false → TakeSuits ctx (mode_in m a) (target m.typed None a) → is_reference (kind_at m.typed a) ≡ true
       → PlaceAs m z scope (target m.typed None a) None (beside_field m.typed (mode_in m a)) 0 run pcode
@@ -160,11 +148,11 @@ module _ (m : Assignment) (z : Standing) (scope : List Slot) where
   free_expression_runs kv s a run pcode er ei h ea found =
       let site = (span_of a).first in
       let layout = layout_of (structs_in m.typed.program.items) (element_kind (kind_at m.typed a)) in
-      let taken : ℕ → ℕ → List Op = λ i r. take_code ctx i r site (lvalue_of m.typed a) (mode_in m a) uses.Free (target m.typed None a) in
-      let tail : ℕ → ℕ → List Op = λ i r. op.SkipIfNull r 1 ∷ op.Free r layout (at_words site (span_of a) (take_use uses.Free (target m.typed None a))) ∷ [] in
+      let taken : ℕ → ℕ → List Op = λ i r. take_code ctx i r site (lvalue_of m.typed a) (mode_in m a) Use.Free (target m.typed None a) in
+      let tail : ℕ → ℕ → List Op = λ i r. Op.SkipIfNull r 1 ∷ Op.Free r layout (at_words site (span_of a) (take_use Use.Free (target m.typed None a))) ∷ [] in
       code_same kv 5 (place_called m s Free a run >> give (pos 0)) (λ i r. (pcode i r ++ taken i r) ++ tail i r) (λ i r. pcode i r ++ (taken i r ++ tail i r)) (λ i r. append_assoc (pcode i r) (taken i r) (tail i r))
-      (free_runs m z scope (kind_at m.typed a) kv (taking m s kinds.Free a run) (λ i r. pcode i r ++ taken i r) site (span_of a) (take_use uses.Free (target m.typed None a)) layout ea er ei
-      (take_by (target m.typed None a) (kind_at m.typed a) run pcode s.first site (lvalue_of m.typed a) (mode_in m a) uses.Free kinds.Free h found ea (λ o. refl) (λ x. refl)))
+      (free_runs m z scope (kind_at m.typed a) kv (taking m s TakeKind.Free a run) (λ i r. pcode i r ++ taken i r) site (span_of a) (take_use Use.Free (target m.typed None a)) layout ea er ei
+      (take_by (target m.typed None a) (kind_at m.typed a) run pcode s.first site (lvalue_of m.typed a) (mode_in m a) Use.Free TakeKind.Free h found ea (λ o. refl) (λ x. refl)))
 
   -- ---- indexes
   index_cell : (b : Bool) (g f h : ℕ) → is_cell (cond b (in_global_at g f) (in_object_at h)) ≡ true
@@ -177,8 +165,8 @@ module _ (m : Assignment) (z : Standing) (scope : List Slot) where
       → (A → PlaceAs m z scope (target r0 None a) None None 0 of_array ca) → (B → RunsAs m z scope (kind_at r0 a) 0 of_pointer cp) → RunsAs m z scope ki 0 number ci
       → PlaceAs m z scope (cond b (in_global_at g (own_field f 0)) (in_object_at (own_field f 0))) f guard 0
       (cond b (of_array >>= λ base. number >>= λ n. element_of_array r0 site cells base n) (of_pointer >>= λ p. based site (kind_at r0 a) p >> (number >>= λ n. element site (Made (number_of p)) cells (elements_of p) n)))
-      (λ i r. cond b (ca i r ++ (ci i r ++ bounds_code (λ i n. op.GlobalBounds i (global_elements (global_at r0 g)) cells (first_cell z.flat.globals g + n) (at_site site)) i (own_field f 0) guard))
-      (cp i r ++ (op.ChkNull r (at_site site) ∷ (ci i (r + 1) ++ bounds_code (λ i n. op.Bounds i r cells n (at_site site)) i (own_field f 0) guard)))))
+      (λ i r. cond b (ca i r ++ (ci i r ++ bounds_code (λ i n. Op.GlobalBounds i (global_elements (global_at r0 g)) cells (first_cell z.flat.globals g + n) (at_site site)) i (own_field f 0) guard))
+      (cp i r ++ (Op.ChkNull r (at_site site) ∷ (ci i (r + 1) ++ bounds_code (λ i n. Op.Bounds i r cells n (at_site site)) i (own_field f 0) guard)))))
   index_by true a f guard site ki of_array of_pointer number ca cp ci A B h ii of_a of_p of_i =
       array_index_runs m z scope (global_of (target m.typed None a)) (target m.typed None a) ki f guard site (element_cells m.typed (element_kind (kind_at m.typed a))) of_array number ca ci h.1 ii (of_a h.0) of_i
   index_by false a f guard site ki of_array of_pointer number ca cp ci A B h ii of_a of_p of_i =
@@ -206,12 +194,12 @@ module _ (m : Assignment) (z : Standing) (scope : List Slot) where
     -- what is read of an lvalue
     fetched_runs : (e : Expression) (need : ℕ) (run : Run StorePlace) (pcode : ℕ → ℕ → List Op) → need ≤ 4 → PlaceAs m z scope (target m.typed None e) None (beside_field m.typed (mode_in m e)) need run pcode
         → is_cell (target m.typed None e) ≡ true → PathStands m.typed scope (mode_in m e)
-        → RunsAs m z scope (K e) 0 (entered (place_value m e run)) (λ i r. op.Enter ∷ (pcode i r ++ lvalue_code ctx i r e))
+        → RunsAs m z scope (K e) 0 (entered (place_value m e run)) (λ i r. Op.Enter ∷ (pcode i r ++ lvalue_code ctx i r e))
     fetched_runs e need run pcode few found cell_t path =
         entered_runs m z scope (K e) (need + 3) (place_value m e run) (λ i r. pcode i r ++ lvalue_code ctx i r e) (omega arith)
         (fetch_runs m z scope (K e) (target m.typed None e) need run pcode (span_of e).first (lvalue_of m.typed e) (mode_in m e) found cell_t path)
 
-    none_runs : (f guard : Option ℕ) → PlaceAs m z scope (targets.variable 0) f guard 0 (entered (give (variable 0))) (λ i r. op.Enter ∷ [])
+    none_runs : (f guard : Option ℕ) → PlaceAs m z scope (targets.variable 0) f guard 0 (entered (give (variable 0))) (λ i r. Op.Enter ∷ [])
     none_runs f guard = entered_place m z scope (targets.variable 0) f guard 7 (give (variable 0)) (λ i r. []) (omega arith) (no_place_runs f guard)
 
     abbrev at_index : Site → Expression → Expression → Run StorePlace
@@ -255,9 +243,9 @@ module _ (m : Assignment) (z : Standing) (scope : List Slot) where
           (place_runs a s.first (Some (field_place_named m.typed (N x.site.token))) (beside_field m.typed (mode_in m (field s a Dot x))) h.0)) h.2 h.1
       eval_runs (field s a Arrow x) h = fetched_runs (field s a Arrow x) 1 (arrow s.first a (field_place_named m.typed (N x.site.token))) (λ i r. pointee_code r s.first (X a i r)) (omega arith)
           (arrow_runs m z scope (K a) None (beside_field m.typed (mode_in m (field s a Arrow x))) (field_place_named m.typed (N x.site.token)) s.first (E a) (X a) h.0.1 (eval_runs a h.0.0)) refl h.1
-      eval_runs (unary s Negate a) h = entered_runs m z scope (promoted (K a)) 1 (unary_value m s Negate a (E a)) (λ i r. X a i r ++ op.Negate (width_of (promoted (K a))) i i (at_site s.first) ∷ []) (omega arith) (negate_runs (K a) a s (E a) (X a) refl h.1 (eval_runs a h.0))
-      eval_runs (unary s Not a) h = entered_runs m z scope int 5 (unary_value m s Not a (E a)) (λ i r. X a i r ++ (truth_code (is_reference (K a)) i r ++ op.IsFalse i i ∷ [])) (omega arith) (denied_runs m z scope (K a) a (E a) (X a) refl h.1 (eval_runs a h.0))
-      eval_runs (unary s Complement a) h = entered_runs m z scope (promoted (K a)) 1 (unary_value m s Complement a (E a)) (λ i r. X a i r ++ op.Complement i i ∷ []) (omega arith) (complement_runs (K a) a s (E a) (X a) h.1 (eval_runs a h.0))
+      eval_runs (unary s Negate a) h = entered_runs m z scope (promoted (K a)) 1 (unary_value m s Negate a (E a)) (λ i r. X a i r ++ Op.Negate (width_of (promoted (K a))) i i (at_site s.first) ∷ []) (omega arith) (negate_runs (K a) a s (E a) (X a) refl h.1 (eval_runs a h.0))
+      eval_runs (unary s Not a) h = entered_runs m z scope int 5 (unary_value m s Not a (E a)) (λ i r. X a i r ++ (truth_code (is_reference (K a)) i r ++ Op.IsFalse i i ∷ [])) (omega arith) (denied_runs m z scope (K a) a (E a) (X a) refl h.1 (eval_runs a h.0))
+      eval_runs (unary s Complement a) h = entered_runs m z scope (promoted (K a)) 1 (unary_value m s Complement a (E a)) (λ i r. X a i r ++ Op.Complement i i ∷ []) (omega arith) (complement_runs (K a) a s (E a) (X a) h.1 (eval_runs a h.0))
       eval_runs (unary s Dereference a) h = fetched_runs (unary s Dereference a) 1 (pointee_place m.typed s.first a (E a)) (λ i r. pointee_code r s.first (X a i r)) (omega arith)
           (pointee_place_runs m z scope (K a) None (beside_field m.typed (mode_in m (unary s Dereference a))) s.first (E a) (X a) h.1 (eval_runs a h.0)) refl h.2
       eval_runs (binary s o at a b) h = entered_runs m z scope (binary_result (class_of o) (K a) (K b)) 7 (binary_value m.typed at o a b (E a) (E b)) (λ i r. binary_code ctx i r at o a b (X a i r) (λ i2 r2. X b i2 r2)) (omega arith)

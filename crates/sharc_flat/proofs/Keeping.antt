@@ -1,14 +1,6 @@
 -- The jumps of the code of a statement stay in it or lead directly after it, or to the places of the loop around it.
-use Rattle.std.proofs.Common.{◌≡◌, ◌==◌, ℕ, ◌+◌, ◌<◌, ◌≤◌, Bool, true, false, cond, List, [], ◌∷◌, ◌++◌, length, take, drop, Option, Some, None, refl, sym, ap, ◌∙◌, subst, arith, length-append, append_assoc}
-use Rattle.sharc_tree.specs.{declared.token.Site.Site, declared.token.Span.Span, declared.tree.declaration.Declaration.Declaration, declared.tree.statement.Jump.Jump, declared.tree.statement.Jump.TheVariants.{Break, Continue}, Spans.span_of, Tree.{Expression, Right, value, malloc, Simple, assign, does_call, Local, First, nothing, declares, does, Statement, empty, block, declare, simple, jump, return, if_then, if_then_else, while, for, Statements, no_statements, statement, Function}}
-use Rattle.sharc_names.specs.Kinds.{Kind, declared_kind}
-use Rattle.sharc_code.specs.{declared.instr.Register.Register, declared.instr.Register.TheVariants.{Int, Reference}, declared.code.GlobalCells.GlobalCells}
-use Rattle.sharc_meaning.specs.State.{is_reference}
-use Rattle.sharc_mode.specs.{Cells.pointed, Moded.Assignment, Rows.{written, row_at, declared_row}, Sharings.{Sharing, private}}
-use Rattle.sharc_flat.specs.{declared.op.Op.Op, declared.slot.Lvalue.Lvalue, Scope.{ref_count, Context, register_from, register_of, at_site, pops, ends_from, leaves}, declared.slot.Slot.Slot, Places.{Target, variable, base_width, index_width, guard_field, guard_code, drop_base, settle_code, cell_store_code, store_code, width_code}, Flattened.{kind_of, is_ref, target_of, mode_of, guard_of, drop_code, truth_code, expression_code, place_code, elements_code, right_code, simple_code, with_variable, ints_of, refs_of, zero_code, initial_code, local_code, first_code, behind_first, step_code, test_code, turn_code, Around, opened, looping, jump_code, result_code, return_code, if_code, sides_code, choice_code, turns_code, body_at, loop_code, behind_statement, behind_statements, statement_code, statements_code, in_function, around_body, function_code, lvalue_in, declared_lvalue}, Suits.IfThere}
-use Rattle.sharc_flat.specs.declared.op.Op.TheVariants as op
-use Rattle.sharc_ctype.specs.Resolved.{Resolution}
-use Rattle.sharc_flat.proofs.Staying.{Knows, KnowsPlace, OpStays, Stays, joins, choose, guards, drops_base, widths_stay, truths_stay, expressions_stay, places_stay}
+use Rattle.sharc_flat.proofs.{Imports.{◌≡◌, ◌==◌, ℕ, ◌+◌, ◌<◌, ◌≤◌, Bool, true, false, cond, List, [], ◌∷◌, ◌++◌, length, take, drop, Option, Some, None, refl, sym, ap, ◌∙◌, subst, arith, length-append, append_assoc, Site, Span, Declaration, Jump, Break, Continue, span_of, Expression, Right, value, malloc, Simple, assign, does_call, Local, First, nothing, declares, does, Statement, empty, block, declare, simple, jump, return, if_then, if_then_else, while, for, Statements, no_statements, statement, Function, Kind, declared_kind, Register, Int, Reference, GlobalCells, is_reference, pointed, Assignment, written, row_at, declared_row, Sharing, private, Op, Lvalue, ref_count, Context, register_from, register_of, at_site, pops, ends_from, leaves, Slot, Target, base_width, index_width, guard_field, guard_code, drop_base, settle_code, cell_store_code, store_code, width_code, kind_of, is_ref, target_of, mode_of, guard_of, drop_code, truth_code, expression_code, place_code, elements_code, right_code, simple_code, with_variable, ints_of, refs_of, zero_code, initial_code, local_code, first_code, behind_first, step_code, test_code, turn_code, Around, opened, looping, jump_code, result_code, return_code, if_code, sides_code, choice_code, turns_code, body_at, loop_code, behind_statement, behind_statements, statement_code, statements_code, in_function, around_body, function_code, lvalue_in, declared_lvalue, IfThere, Resolution}, Staying.{Knows, KnowsPlace, OpStays, Stays, joins, choose, guards, drops_base, widths_stay, truths_stay, expressions_stay, places_stay}}
+use Rattle.sharc_flat.specs.Places.{variable}
 
 -- ---- what is known of the calls in statements; and break and continue are in loops
 abbrev pub KnowsRight : (ℕ → Type 0) → Resolution → Right → Type 0
@@ -43,21 +35,21 @@ abbrev mutual
 
 turn_length : (c : Context) (e : Option Expression) (over : ℕ) → length (turn_code c e over) ≡ length (turn_code c e 0)
 turn_length c None over = refl
-turn_length c (Some e) over = length-append (test_code c e) (op.SkipIfZero (ints_of c) over ∷ []) ∙ sym (length-append (test_code c e) (op.SkipIfZero (ints_of c) 0 ∷ []))
+turn_length c (Some e) over = length-append (test_code c e) (Op.SkipIfZero (ints_of c) over ∷ []) ∙ sym (length-append (test_code c e) (Op.SkipIfZero (ints_of c) 0 ∷ []))
 
 -- ---- a function, but for the Return at its end
 abbrev pub front : Assignment → (List GlobalCells) → ℕ → Function → List Op
-front m globals pc f = op.Enter ∷ (statements_code (in_function m globals f) (around_body f) (pc + 1) f.statements
+front m globals pc f = Op.Enter ∷ (statements_code (in_function m globals f) (around_body f) (pc + 1) f.statements
     ++ (ends_from (behind_statements (in_function m globals f) f.statements).scope 0 ++ zero_code (is_reference (declared_kind f.result)) 0 0))
 
-pub front_is : (m : Assignment) (globals : List GlobalCells) (pc : ℕ) (f : Function) → function_code m globals pc f ≡ front m globals pc f ++ op.Return (at_site f.body.last) ∷ []
+pub front_is : (m : Assignment) (globals : List GlobalCells) (pc : ℕ) (f : Function) → function_code m globals pc f ≡ front m globals pc f ++ Op.Return (at_site f.body.last) ∷ []
 front_is m globals pc f =
     let c = in_function m globals f in
     let code = statements_code c (around_body f) (pc + 1) f.statements in
     let ends = ends_from (behind_statements c f.statements).scope 0 in
     let zero_is = zero_code (is_reference (declared_kind f.result)) 0 0 in
-    let R = op.Return (at_site f.body.last) ∷ [] in
-    ap (λ l. op.Enter ∷ l) (sym (append_assoc code (ends ++ zero_is) R ∙ ap (λ l. code ++ l) (append_assoc ends zero_is R)))
+    let R = Op.Return (at_site f.body.last) ∷ [] in
+    ap (λ l. Op.Enter ∷ l) (sym (append_assoc code (ends ++ zero_is) R ∙ ap (λ l. code ++ l) (append_assoc ends zero_is R)))
 
 -- a variable's reference is below all that is free
 named_below : (xs : List Slot) (i r token n : ℕ) → register_from i r xs token ≡ Reference n → n < r + ref_count xs
@@ -89,7 +81,7 @@ module _ (A Fn : ℕ → Type 0) where
 
   pops_stay : (r : ℕ) (xs : List Slot) → S (pops r xs)
   pops_stay r [] = tt
-  pops_stay r (x ∷ rest) = choose A Fn x.is_pointer (op.Pop r ∷ pops (r + 1) rest) (pops r rest) (tt, pops_stay (r + 1) rest) (pops_stay r rest)
+  pops_stay r (x ∷ rest) = choose A Fn x.is_pointer (Op.Pop r ∷ pops (r + 1) rest) (pops r rest) (tt, pops_stay (r + 1) rest) (pops_stay r rest)
 
   ends_stay : (scope : List Slot) (n : ℕ) → S (ends_from scope n)
   ends_stay scope n = pops_stay (ref_count (take n scope)) (drop n scope)
@@ -119,7 +111,7 @@ module _ (A Fn : ℕ → Type 0) where
   rights c i r kind mode (malloc s n w) h = (tt, joins A Fn (elements_code c i r n) _ (counts c i r n h) (tt, (tt, tt)))
 
   drops : (b : Bool) (r : ℕ) → S (drop_code b r)
-  drops b r = choose A Fn b (op.Pop r ∷ []) [] (tt, tt) tt
+  drops b r = choose A Fn b (Op.Pop r ∷ []) [] (tt, tt) tt
 
   simples : (c : Context) (i r : ℕ) (x : Simple) → ref_count c.scope ≤ r → KnowsSimple Fn c.program.typed x → S (simple_code c i r x)
   simples c i r (assign s u x) le h = joins A Fn (place_code c i r (span_of u).first None (guard_of c u) u) _ (places_stay A Fn c i r (span_of u).first None (guard_of c u) u h.0)
@@ -153,7 +145,7 @@ module _ (A Fn : ℕ → Type 0) where
   -- what decides, and what comes after it
   turns : (c : Context) (e : Option Expression) (over : ℕ) (ys : List Op) → over ≤ length ys → IfThere (Knows Fn c.program.typed) e → S ys → S (turn_code c e over ++ ys)
   turns c None over ys le k h = h
-  turns c (Some e) over ys le k h = subst S (sym (append_assoc (test_code c e) (op.SkipIfZero (ints_of c) over ∷ []) ys))
+  turns c (Some e) over ys le k h = subst S (sym (append_assoc (test_code c e) (Op.SkipIfZero (ints_of c) over ∷ []) ys))
       (joins A Fn (test_code c e) _ (joins A Fn (expression_code c (ints_of c) (refs_of c) e) _ (expressions_stay A Fn c (ints_of c) (refs_of c) e k) (truths_stay A Fn c (is_ref c e) (ints_of c) (refs_of c))) (le, h))
 
   results : (b : Bool) (i r : ℕ) → S (result_code b i r)
@@ -180,7 +172,7 @@ module _ (A Fn : ℕ → Type 0) where
   -- a loop, whose body is given with its length and what it does
   loops : (c : Context) (e : Option Expression) (pc : ℕ) (step B : List Op) → IfThere (Knows Fn c.program.typed) e → S step → S B → A (pc + 3) → S (turns_code pc step (turn_code c e (length B + length step + 1)) B)
   loops c e pc step B t h k w =
-      let J = op.Jump (pc + 3) ∷ [] in
+      let J = Op.Jump (pc + 3) ∷ [] in
       let T = turn_code c e (length B + length step + 1) in
       let l1 = length-append T (B ++ (step ++ J)) in
       let l2 = length-append B (step ++ J) in
@@ -202,10 +194,10 @@ module _ (A Fn : ℕ → Type 0) where
         let code = statements_code c (opened c a) (pc + 1) all in
         let ends = ends_from (behind_statements c all).scope (length c.scope) in
         let n = length-append code ends in
-        let n2 = length-append (code ++ ends) (op.BlockEnd ∷ []) in (
+        let n2 = length-append (code ++ ends) (Op.BlockEnd ∷ []) in (
           tt,
-          joins A Fn (code ++ ends) (op.BlockEnd ∷ [])
-              (joins A Fn code ends (all_keep c (opened c a) b (pc + 1) all l u v (part pc (1 + length ((code ++ ends) ++ op.BlockEnd ∷ [])) (pc + 1) (length code) (omega arith) (omega (arith, n, n2)) (λ q p1 p2. w q p1 (omega arith)))) (ends_stay (behind_statements c all).scope (length c.scope)))
+          joins A Fn (code ++ ends) (Op.BlockEnd ∷ [])
+              (joins A Fn code ends (all_keep c (opened c a) b (pc + 1) all l u v (part pc (1 + length ((code ++ ends) ++ Op.BlockEnd ∷ [])) (pc + 1) (length code) (omega arith) (omega (arith, n, n2)) (λ q p1 p2. w q p1 (omega arith)))) (ends_stay (behind_statements c all).scope (length c.scope)))
               (tt, tt),
         )
     statements_keep c a b pc (declare s l) h u v w = (tt, locals c l h)
@@ -224,7 +216,7 @@ module _ (A Fn : ℕ → Type 0) where
         let at2 = at + length X + 1 in
         let Y = statement_code c a at2 y in
         let T = turn_code c (Some e) (length X + 1) in
-        let tail = op.Skip (length Y) ∷ Y in
+        let tail = Op.Skip (length Y) ∷ Y in
         let n1 = length-append T (X ++ tail) in
         let n2 = length-append X tail in
         let m = turn_length c (Some e) (length X + 1) in (
@@ -238,7 +230,7 @@ module _ (A Fn : ℕ → Type 0) where
         let a1 = looping a (pc + 1 + 1) (pc + 1 + 2) in
         let B = statement_code c a1 at x in
         let T = turn_code c (Some e) (length B + 0 + 1) in
-        let J = op.Jump (pc + 1 + 3) ∷ [] in
+        let J = Op.Jump (pc + 1 + 3) ∷ [] in
         let n1 = length-append T (B ++ J) in
         let n2 = length-append B J in
         let m = turn_length c (Some e) (length B + 0 + 1) in (
@@ -257,7 +249,7 @@ module _ (A Fn : ℕ → Type 0) where
         let a1 = looping (opened c a) (p1 + 1) (p1 + 2) in
         let B = statement_code c1 a1 at x in
         let T = turn_code c1 hd.test (length B + length step + 1) in
-        let J = op.Jump (p1 + 3) ∷ [] in
+        let J = Op.Jump (p1 + 3) ∷ [] in
         let L = turns_code p1 step T B in
         let ends = ends_from c1.scope (length c.scope) in
         let n0 = length-append (F ++ L) ends in

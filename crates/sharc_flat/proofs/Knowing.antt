@@ -1,12 +1,5 @@
 -- What a program that suits says of its calls: each names a function. And break and continue are in loops.
-use Rattle.std.proofs.Common.{◌≡◌, ℕ, zero, suc, Bool, true, false, List, [], ◌∷◌, Option, Some, None}
-use Rattle.sharc_tree.specs.{declared.tree.expression.FieldOperator.FieldOperator, declared.tree.expression.FieldOperator.TheVariants.{Dot, Arrow}, declared.tree.expression.UnaryOperator.TheVariants.{Negate, Not, Complement, Dereference}, declared.tree.declaration.Declaration.Declaration, Tree.{Expression, parentheses, call, spawn, on_value, on_place, cast, index, field, unary, binary, Arguments, no_arguments, argument, Right, value, malloc, Simple, assign, does_call, First, nothing, declares, does, Statement, empty, block, declare, simple, jump, return, if_then, if_then_else, while, for, Statements, no_statements, statement, Function}}
-use Rattle.sharc_names.specs.{declared.fault.Named.Named, Kinds.{Kind, is_array, declared_kind}}
-use Rattle.sharc_names.specs.declared.fault.Named.TheVariants as named
-use Rattle.sharc_ctype.specs.Resolved.{Resolution, function_at, kind_at, named_at}
-use Rattle.sharc_mode.specs.{Cells.pointed, Rows.{written, row_at, declared_row}, Sharings.Sharing}
-use Rattle.sharc_flat.specs.{Scope.Context, Suits.{kind_in, Either, CallSuits, FieldSuits, Suits, ArgumentsSuit, ReferencesSuit, PlaceSuits, CountSuits, RightSuits, SimpleSuits, InitialSuits, FirstSuits, IfThere, TestSuits, StatementSuits, StatementsSuit, behind_declaration, in_first, in_statement}}
-use Rattle.sharc_flat.proofs.{Staying.{KnownName, ByAccess, Knows, KnowsAll, KnowsPlace, either_map}, Keeping.{KnowsRight, KnowsSimple, KnowsFirst, InLoops, InLoopsAll}}
+use Rattle.sharc_flat.proofs.{Imports.{◌≡◌, ℕ, zero, suc, Bool, true, false, List, [], ◌∷◌, Option, Some, None, FieldOperator, Dot, Arrow, Negate, Not, Complement, Dereference, Declaration, Expression, parentheses, call, spawn, on_value, on_place, cast, index, field, unary, binary, Arguments, no_arguments, argument, Right, value, malloc, Simple, assign, does_call, First, nothing, declares, does, Statement, empty, block, declare, simple, jump, return, if_then, if_then_else, while, for, Statements, no_statements, statement, Function, Named, Kind, is_array, declared_kind, Resolution, function_at, kind_at, named_at, pointed, written, row_at, declared_row, Sharing, Context, kind_in, Either, CallSuits, FieldSuits, Suits, ArgumentsSuit, ReferencesSuit, PlaceSuits, CountSuits, RightSuits, SimpleSuits, InitialSuits, FirstSuits, IfThere, TestSuits, StatementSuits, StatementsSuit, behind_declaration, in_first, in_statement}, Staying.{KnownName, ByAccess, Knows, KnowsAll, KnowsPlace, either_map}, Keeping.{KnowsRight, KnowsSimple, KnowsFirst, InLoops, InLoopsAll}}
 
 module _ (F : ℕ → Type 0) where
   -- what is a function of this program is one that is known
@@ -14,8 +7,8 @@ module _ (F : ℕ → Type 0) where
   Known c = (n : ℕ) (f : Function) → function_at c.program.typed n ≡ Some f → F n
 
   call_know : (c : Context) → Known c → (kind : Kind) (what : Named) (arguments : List Kind → Type 0) (known X : Type 0) → CallSuits c kind what arguments known → ((kinds : List Kind) → arguments kinds → X) → (known → X) → KnownName F what × X
-  call_know c k kind (named.Function n) arguments known X h f g = (k n h.0 h.1, f _ h.3)
-  call_know c k kind named.Known arguments known X h f g = (tt, g h.0)
+  call_know c k kind (Named.Function n) arguments known X h f g = (k n h.0 h.1, f _ h.3)
+  call_know c k kind Named.Known arguments known X h f g = (tt, g h.0)
   call_know c k kind _ arguments known X h f g = absurd h
 
   field_know : {A B X Y : Type 0} (c : Context) (w : FieldOperator) (a : Expression) → FieldSuits c w a A B → (A → X) → (B → Y) → ByAccess w X Y

@@ -1,15 +1,6 @@
 -- The machine does not look at texts: code that is laid out does what the code does whose texts are given.
-use Rattle.std.proofs.Common.{◌≡◌, ℕ, zero, suc, ◌+◌, ◌-◌, Bool, true, false, ◌≤◌, cond, List, [], ◌∷◌, ◌++◌, length, nat_lt, Option, Some, None, inl, inr, ⊎_elim, refl, ap, sym, ◌∙◌, subst, arith}
-use Rattle.std.specs.Prelude.{ℤ, pos, negsuc, Result, Ok, Err, slice_get, slice_index_or, not}
-use Rattle.sharc_tree.specs.declared.event.Act.TheVariants as acts
-use Rattle.sharc_tree.specs.declared.trap.Trap.{Trap}
-use Rattle.sharc_tree.specs.declared.trap.Trap.TheVariants as traps
-use Rattle.sharc_code.specs.{declared.code.Function.{Function as Row}, declared.code.Text.Text, Machine.no_function, Arithmetic.{computed, negated}}
-use Rattle.sharc_ctype.specs.Resolved.{Resolution}
-use Rattle.sharc_mode.specs.Moded.{Assignment}
-use Rattle.sharc_meaning.specs.{Events.held_mutexes, Meaning.{Asked, asks as source_asks}, Reference.{is_null, elements_of}}
-use Rattle.sharc_flat.specs.{declared.op.Op.Op, declared.op.Spot.Spot, Machine.{Flat, At, Caller, Turn, Came, goes, asks, halts, stops, function_of, op_turn, returned, end_turn, line_turn, turn, on_turn, on_answer, exec, begun, start, next as on, with_result, indexed, takes_local, int, ref}, Correct.{SameAs, Forth, Back, MayStart, AsksTheSame}, Laid.{told_by, with_texts, IsLaid, AreLaid, IsNamed, AreNamed, Lays}}
-use Rattle.sharc_flat.specs.declared.op.Op.TheVariants as op
+use Rattle.sharc_flat.proofs.Imports.{◌≡◌, ℕ, zero, suc, ◌+◌, ◌-◌, Bool, true, false, ◌≤◌, cond, List, [], ◌∷◌, ◌++◌, length, nat_lt, Option, Some, None, inl, inr, ⊎_elim, refl, ap, sym, ◌∙◌, subst, arith, ℤ, pos, negsuc, Result, Ok, Err, slice_get, get_or as slice_index_or, not, Act, Trap, Row, Text, no_function, computed, negated, Resolution, Assignment, held_mutexes, Asked, source_asks, is_null, elements_of, Op, Spot, Flat, At, Caller, Turn, Came, goes, asks, halts, stops, function_of, op_turn, end_turn, line_turn, turn, on_turn, on_answer, exec, begun, start, on, with_result, indexed, takes_local, ref, SameAs, Forth, Back, MayStart, AsksTheSame, told_by, with_texts, IsLaid, AreLaid, IsNamed, AreNamed, Lays}
+use Rattle.sharc_flat.specs.Machine.{returned, int}
 
 -- a thread before its first line, at this one
 abbrev first_from : ℕ → ℕ → At
@@ -21,7 +12,7 @@ module _ (flat : Flat) (lines : List Op) (functions : List Row) (count : length 
   made = record { lines = lines; functions = functions; globals = flat.globals }
 
   same_return : (lv lk : Text) (spot : Spot) (m : At) (frames : List Caller) → returned made frames (told_by lv lk spot) m ≡ returned flat frames spot m
-  same_return lv lk spot m [] = ap (λ n. cond (not (nat_lt 0 (length (held_mutexes m.events)))) (goes (record m { pc = n })) (stops traps.ReturnWithLockHeld spot)) count
+  same_return lv lk spot m [] = ap (λ n. cond (not (nat_lt 0 (length (held_mutexes m.events)))) (goes (record m { pc = n })) (stops Trap.ReturnWithLockHeld spot)) count
   same_return lv lk spot m (c ∷ rest) = refl
 
   same_result : (lv lk : Text) (i : ℕ) (spot : Spot) (m : At) (q : Result ℤ Trap) → with_result i (told_by lv lk spot) m q ≡ with_result i spot m q
@@ -37,19 +28,19 @@ module _ (flat : Flat) (lines : List Op) (functions : List Row) (count : length 
   same_take lv lk r x spot m false = refl
 
   same_op : (lv lk : Text) (o : Op) (m : At) → op_turn made (with_texts lv lk o) m ≡ op_turn flat o m
-  same_op lv lk (op.Compute width o i a b spot) m = same_result lv lk i spot m (computed width o (int m a) (int m b))
-  same_op lv lk (op.Negate width i a spot) m = same_result lv lk i spot m (negated width (int m a))
-  same_op lv lk (op.Call f ints refs spot) m = ap (λ pc. cond (nat_lt (length m.frames) 255) (goes (record m { pc = pc; int_base = m.int_base + ints; ref_base = m.ref_base + refs; frames = record { pc = m.pc + 1; ints = m.int_base; refs = m.ref_base } ∷ m.frames })) (stops traps.CallDepth spot)) (entries f)
-  same_op lv lk (op.Return spot) m = same_return lv lk spot m m.frames
-  same_op lv lk (op.Bounds i r cells field spot) m = same_index lv lk i cells field (elements_of (ref m r)) spot m (int m i)
-  same_op lv lk (op.GlobalBounds i elements cells field spot) m = same_index lv lk i cells field elements spot m (int m i)
-  same_op lv lk (op.TakeLocal r x spot) m = same_take lv lk r x spot m (is_null (ref m x))
+  same_op lv lk (Op.Compute width o i a b spot) m = same_result lv lk i spot m (computed width o (int m a) (int m b))
+  same_op lv lk (Op.Negate width i a spot) m = same_result lv lk i spot m (negated width (int m a))
+  same_op lv lk (Op.Call f ints refs spot) m = ap (λ pc. cond (nat_lt (length m.frames) 255) (goes (record m { pc = pc; int_base = m.int_base + ints; ref_base = m.ref_base + refs; frames = record { pc = m.pc + 1; ints = m.int_base; refs = m.ref_base } ∷ m.frames })) (stops Trap.CallDepth spot)) (entries f)
+  same_op lv lk (Op.Return spot) m = same_return lv lk spot m m.frames
+  same_op lv lk (Op.Bounds i r cells field spot) m = same_index lv lk i cells field (elements_of (ref m r)) spot m (int m i)
+  same_op lv lk (Op.GlobalBounds i elements cells field spot) m = same_index lv lk i cells field elements spot m (int m i)
+  same_op lv lk (Op.TakeLocal r x spot) m = same_take lv lk r x spot m (is_null (ref m x))
   same_op lv lk _ m = refl
 
   module _ (r : Resolution) (bytes : List ℕ) (sites : (f : ℕ) → (slice_index_or functions f no_function).site ≡ (function_of flat f).site) where
     same_end : (m : At) (n k : ℕ) → n ≡ k → end_turn made m n ≡ end_turn flat m k
-    same_end m zero k e = subst (λ k. end_turn made m 0 ≡ end_turn flat m k) e (ap (λ s. asks m s acts.Return (pos 0) (λ v n. on n)) (sites m.function))
-    same_end m (suc zero) k e = subst (λ k. end_turn made m 1 ≡ end_turn flat m k) e (ap (λ s. asks m s acts.Gone (pos 0) (λ v n. on n)) (sites m.function))
+    same_end m zero k e = subst (λ k. end_turn made m 0 ≡ end_turn flat m k) e (ap (λ s. asks m s Act.Return (pos 0) (λ v n. on n)) (sites m.function))
+    same_end m (suc zero) k e = subst (λ k. end_turn made m 1 ≡ end_turn flat m k) e (ap (λ s. asks m s Act.Gone (pos 0) (λ v n. on n)) (sites m.function))
     same_end m (suc (suc n)) k e = subst (λ k. end_turn made m (suc (suc n)) ≡ end_turn flat m k) e refl
 
     same_line : (m : At) (os ps : List Op) (n : ℕ) → AreLaid r bytes os ps → line_turn made (slice_get ps n) m ≡ line_turn flat (slice_get os n) m

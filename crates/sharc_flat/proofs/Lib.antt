@@ -1,3 +1,4 @@
+mod Imports
 pub mod PathRuns
 pub mod Banks
 pub mod Runs

@@ -1,17 +1,5 @@
 -- A call of a function of the program.
-use Rattle.std.proofs.{Common.{◌≡◌, ℕ, zero, suc, ◌+◌, ◌-◌, ◌<◌, ◌≤◌, Bool, true, false, cond, List, [], ◌∷◌, ◌++◌, length, get_or, take, Some, refl, sym, ap, ◌∙◌, subst, arith, append_assoc, length-append}, lemmas.Bool.Decides.nat_tests, lemmas.List.{append-nil, take_at, flat_map_more}, lemmas.Option.slice_get-get_or, Math.Seq.get_or-append_seam, lemmas.List.Sums.sum_by-cons}
-use Rattle.std.specs.Prelude.{ℤ, pos, slice_get, nat_lt, reverse, flat_map, count_by}
-use Rattle.sharc_tree.specs.{declared.token.Site.Site, declared.tree.declaration.Declaration.Declaration, Tree.Function}
-use Rattle.sharc_names.specs.Kinds.{is_pointer, declared_kind, declared_kinds}
-use Rattle.sharc_mode.specs.Moded.{Assignment}
-use Rattle.sharc_meaning.specs.{State.{Frame, State, Out, go, over, ◌>>=◌, ◌>>◌, give, entered, is_reference, pointers_among, without_temporaries, stopped, ends_variables, held_by_frame}, declared.variable.Variable.Variable, Expressions.Calls, Meaning.{parameters_begin, left_at, pointers_passed, with_frame, back_in, run_function, call_value, calls}, Statements.exec_all}
-use Rattle.sharc_flat.specs.{declared.op.Op.Op, declared.op.Spot.Spot, Machine.{Flat, At, goes, halts, function_of, called as called_at}, Scope.{int_count, ref_count, at_site}, declared.slot.Slot.Slot, Flattened.{around_body, function_code, in_function, statements_code, behind_statements, parameters_scope, functions_code, AreRows, IsFlattened, parameter_of}}
-use Rattle.sharc_flat.specs.declared.op.Op.TheVariants as op
-use Rattle.sharc_flat.proofs.{Banks.bank_is, Runs.{HasAt, has_front, Fin, fin_then, Same, weaken, step, bind, ends}, Agreeing.{slots_of, int_values, refs_length, Standing, place, Agree, below, holding, loose_of, Rest}, Executing.{Beyond, StatementAs}, Calling.{refs_of, ints_of}, Functions.{begun, begun_slots, begun_refs, begun_ints, function_runs}}
-use Rattle.sharc_tree.specs.declared.trap.Trap.TheVariants as traps
-use Rattle.sharc_code.specs.{declared.code.Function.{Function as Row}, Machine.no_function, declared.code.GlobalCells.GlobalCells}
-use Rattle.sharc_ctype.specs.Resolved.{function_at, functions_in}
-use mathlib.Core.List.{reverse-cons}
+use Rattle.sharc_flat.proofs.{Imports.{◌≡◌, ℕ, zero, suc, ◌+◌, ◌-◌, ◌<◌, ◌≤◌, Bool, true, false, cond, List, [], ◌∷◌, ◌++◌, length, get_or, take, Some, refl, sym, ap, ◌∙◌, subst, arith, append_assoc, length-append, nat_tests, append-nil, take_at, flat_map_more, slice_get-get_or, get_or-append_seam, sum_by-cons, ℤ, pos, slice_get, nat_lt, reverse, flat_map, count_by, Site, Declaration, Function, is_pointer, declared_kind, declared_kinds, Assignment, Frame, State, Out, go, over, ◌>>=◌, ◌>>◌, give, entered, is_reference, pointers_among, without_temporaries, stopped, ends_variables, held_by_frame, Variable, Calls, parameters_begin, left_at, pointers_passed, with_frame, back_in, run_function, call_value, calls, exec_all, Op, Spot, Flat, At, goes, halts, function_of, called_at, int_count, ref_count, at_site, Slot, around_body, function_code, in_function, statements_code, behind_statements, parameters_scope, functions_code, AreRows, IsFlattened, parameter_of, Trap, Row, no_function, GlobalCells, function_at, functions_in, reverse-cons}, Banks.bank_is, Runs.{HasAt, has_front, Fin, fin_then, Same, weaken, step, bind, ends}, Agreeing.{slots_of, int_values, refs_length, Standing, place, Agree, below, holding, loose_of, Rest}, Executing.{Beyond, StatementAs}, Calling.{refs_of, ints_of}, Functions.{begun, begun_slots, begun_refs, begun_ints, function_runs}}
 
 pub has_all : (os pre : List Op) → HasAt (pre ++ os) (length pre) os
 has_all [] pre = tt
@@ -71,7 +59,7 @@ module _ (m : Assignment) where
   -- calls of functions of the program, where this many more frames may be open
   abbrev pub CallsAs : Calls → ℕ → Type 0
   CallsAs call n = (z : Standing) → IsFlattened m z.flat → length z.frames + n ≡ 255 → (scope : List Slot) (T : List ℤ) (f : ℕ) (fn : Function) (vs : List ℤ) (i r pc c : ℕ) (ints refs : ℕ → ℤ) (s : State) (site : Site) (k : ℤ → State → Fin)
-      → function_at m.typed f ≡ Some fn → length vs ≡ length fn.parameters → slice_get z.flat.lines pc ≡ Some (op.Call f i r (at_site site)) → int_count scope ≤ i → r ≡ ref_count scope + length T
+      → function_at m.typed f ≡ Some fn → length vs ≡ length fn.parameters → slice_get z.flat.lines pc ≡ Some (Op.Call f i r (at_site site)) → int_count scope ≤ i → r ≡ ref_count scope + length T
       → Agree z (T ++ refs_of (declared_kinds fn.parameters) vs) scope [] ints refs s → ((j : ℕ) → j < length (ints_of (declared_kinds fn.parameters) vs) → ints (z.ints + (i + j)) ≡ get_or (ints_of (declared_kinds fn.parameters) vs) j (pos 0))
       → Rest z (declared_kind fn.result) T scope i (pc + 1) c ints k → Same z.flat s.fuel (c + 1 + length (refs_of (declared_kinds fn.parameters) vs)) (fin_then (call f site vs s) k) s.answers (place z pc ints refs s)
 
@@ -89,8 +77,8 @@ module _ (m : Assignment) where
   no_room z is room scope T f fn vs i r pc c ints refs s site k fn_at len at le re a values rest =
       let full : nat_lt (length z.frames) 255 ≡ false = grind (arith, nat_tests, room) in
       weaken z.flat s.fuel (c + 1) (c + 1 + length (refs_of (declared_kinds fn.parameters) vs)) _ s.answers _ (omega arith)
-      (ends z.flat (op.Call f i r (at_site site)) (stopped traps.CallDepth site) c s (place z pc ints refs s) (holding z (T ++ refs_of (declared_kinds fn.parameters) vs) scope ints refs s a) refl refl at
-      (ap (λ b. cond b (goes (called_at z.flat f i r (place z pc ints refs s))) (halts (stopped traps.CallDepth site))) full))
+      (ends z.flat (Op.Call f i r (at_site site)) (stopped Trap.CallDepth site) c s (place z pc ints refs s) (holding z (T ++ refs_of (declared_kinds fn.parameters) vs) scope ints refs s a) refl refl at
+      (ap (λ b. cond b (goes (called_at z.flat f i r (place z pc ints refs s))) (halts (stopped Trap.CallDepth site))) full))
 
   pub one_call : (n : ℕ) → BodiesAs (calls m n) n → CallsAs (calls m (suc n)) (suc n)
   one_call n bodies z is room scope T f fn vs i r pc c ints refs s site k fn_at len at le re a values rest =
@@ -135,8 +123,8 @@ module _ (m : Assignment) where
       (bind z.flat s.fuel (c + 1 + length P) s.answers (run_function (calls m n) m fn vs s) (λ left. give left.1) k (place z pc ints refs s)
       (unframe z.flat s.fuel (c + 1 + length P) s.answers caller s.callers (ends_variables 0 ((parameters_begin ds vs >> (entered (exec_all (calls m n) m (declared_kind fn.result) fn.statements) >>= λ flow. give (left_at fn flow))) s1)) (λ x u. k x.1 u) (place z pc ints refs s)
       (subst (λ q. Same z.flat s.fuel q (fin_then (ends_variables 0 ((parameters_begin ds vs >> (entered (exec_all (calls m n) m (declared_kind fn.result) fn.statements) >>= λ flow. give (left_at fn flow))) s1)) K1) s.answers (place z pc ints refs s)) (let q : c + length P + 1 ≡ c + 1 + length P = omega arith in q)
-      (step z.flat (op.Call f i r (at_site site)) s.fuel (c + length P) _ s.answers (place z pc ints refs s) (place z1 entry ints refs s1) at
-      (ap (λ b. cond b (goes (called_at z.flat f i r (place z pc ints refs s))) (halts (stopped traps.CallDepth site))) lt_is)
+      (step z.flat (Op.Call f i r (at_site site)) s.fuel (c + length P) _ s.answers (place z pc ints refs s) (place z1 entry ints refs s1) at
+      (ap (λ b. cond b (goes (called_at z.flat f i r (place z pc ints refs s))) (halts (stopped Trap.CallDepth site))) lt_is)
       (subst (λ q. Same z.flat s.fuel (c + q) (fin_then (ends_variables 0 ((parameters_begin ds vs >> (entered (exec_all (calls m n) m (declared_kind fn.result) fn.statements) >>= λ flow. give (left_at fn flow))) s1)) K1) s.answers (place z1 entry ints refs s1)) count
       (function_runs m z1 fn ints vs entry c refs (exec_all (calls m n) m (declared_kind fn.result) fn.statements) (inner_scope z1 fn) (λ q. statements_code (in_function m z.flat.globals fn) (around_body fn) q fn.statements) body.0 body.1 link.stands s1 K1 refl a1 values1
       (λ left v pc1 ints1 refs1 u at1 st value.
@@ -152,7 +140,7 @@ module _ (m : Assignment) where
         refs = bank_is refs1 _ _ back_stack st.agree.refs;
       } in
       let i0 : z.ints + i ≡ z.ints + i + 0 = omega arith in
-      (step z.flat (op.Return (at_site left)) u.fuel c (k v u1) u.answers (place z1 pc1 ints1 refs1 u) (place z (pc + 1) ints1 refs1 u1) at1 refl
+      (step z.flat (Op.Return (at_site left)) u.fuel c (k v u1) u.answers (place z1 pc1 ints1 refs1 u) (place z (pc + 1) ints1 refs1 u1) at1 refl
       (rest v ints1 refs1 u1 (record { agree = a2; kept = λ q lt. st.kept q lt; value = λ h. ap ints1 i0 ∙ value h }))))))))))
     where
       no_variables : (vs : List Variable) → slots_of vs ≡ [] → pointers_among vs ≡ []

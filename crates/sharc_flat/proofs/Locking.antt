@@ -1,17 +1,6 @@
 -- Mutexes.
-use Rattle.std.proofs.{Common.{◌≡◌, ℕ, zero, suc, ◌+◌, Bool, true, false, cond, List, [], ◌∷◌, ◌++◌, length, Option, Some, None, refl, sym, ap, ◌∙◌, subst, ⊎_elim, arith, length-append, inl, inr}, lemmas.List.append-nil}
-use Rattle.std.specs.Prelude.{ℤ, pos, slice_get, not, nat_lt, ◌⊎◌}
-use Rattle.sharc_tree.specs.declared.event.Act.TheVariants as acts
-use Rattle.sharc_tree.specs.{declared.token.Site.Site, declared.token.Span.Span, declared.trap.Trap.Trap}
-use Rattle.sharc_names.specs.Kinds.{Kind, is_integer}
-use Rattle.sharc_mode.specs.Moded.{Assignment}
-use Rattle.sharc_meaning.specs.{declared.given.GivenUp.TheVariants.Released, Cells.cell_of, Places.StorePlace, Reference.number_of, State.{State, Run, ◌>>=◌, ◌>>◌, give, happens, is_reference, temporarily, performs, without_temporaries, stopped, unless_stop, event_of}, Waiting.{lock_call, unlock_call, moves_base, gives_up_base, cell_at_place}, Events.{holds_mutex, held_mutexes}}
-use Rattle.sharc_flat.specs.{declared.op.Op.Op, declared.op.Spot.Spot, Machine.{At, goes, asks, put, cell_at, next as on, set_ref, op_turn, asserts, without_base, base_of}, Scope.{at_words, Context, ref_count, at_site}, declared.slot.Slot.Slot, Places.{Target, in_global, in_global_at, in_object, in_object_at, has_base, base_width, field_of, guard_field, guard_cell, guard_code, spot_of, drop_base, settle_base, settle_code, cell_value_code, cell_store_code, store_code, cell_take_code, take_code, target, own_field, global_of, bounds_code, index_code, pointee_code, width_of, base_as_width, width_code, guard_width, index_width, object_mode, object_mode_named, object_spot}, Suits.is_cell, Flattened.unlocked_code}
-use Rattle.sharc_flat.specs.declared.op.Op.TheVariants as op
-use Rattle.sharc_tree.specs.declared.trap.Trap.TheVariants as traps
-use Rattle.sharc_code.specs.declared.code.Use.TheVariants.{Other}
+use Rattle.sharc_flat.proofs.{Imports.{◌≡◌, ℕ, zero, suc, ◌+◌, Bool, true, false, cond, List, [], ◌∷◌, ◌++◌, length, Option, Some, None, refl, sym, ap, ◌∙◌, subst, ⊎_elim, arith, length-append, inl, inr, append-nil, ℤ, pos, slice_get, not, nat_lt, ◌⊎◌, Act, Site, Span, Trap, Kind, is_integer, Assignment, Released, cell_of, StorePlace, number_of, State, Run, ◌>>=◌, ◌>>◌, give, happens, is_reference, temporarily, performs, without_temporaries, stopped, unless_stop, event_of, lock_call, unlock_call, moves_base, gives_up_base, cell_at_place, holds_mutex, held_mutexes, Op, Spot, At, goes, asks, put, cell_at, on, set_ref, op_turn, asserts, without_base, base_of, at_words, Context, ref_count, at_site, Slot, Target, in_global, in_global_at, in_object, in_object_at, has_base, base_width, field_of, guard_field, guard_cell, guard_code, spot_of, drop_base, settle_base, settle_code, cell_value_code, cell_store_code, store_code, cell_take_code, take_code, target, own_field, global_of, bounds_code, index_code, pointee_code, width_of, base_as_width, width_code, guard_width, index_width, object_mode, object_mode_named, object_spot, is_cell, unlocked_code, Other}, Banks.put_same, Runs.{HasAt, has_front, has_back, Fin, fin_then, Same, weaken, step, Holds, bind, without, after_event, ends, asks_at}, Agreeing.{Standing, place, Agree, holding, push, drop_last, last_is, same_frame, loose_of}, Accessing.context, Values.{loosen, BasesOf, base_ends, RunsAs, Lies, PlaceAs, at_cell, temporarily_runs}, Popping.{AllNull, trailing}, Computing.none_end, Storing.{performs_then, moved_on}}
 use Rattle.sharc_flat.specs.Places as targets
-use Rattle.sharc_flat.proofs.{Banks.put_same, Runs.{HasAt, has_front, has_back, Fin, fin_then, Same, weaken, step, Holds, bind, without, after_event, ends, asks_at}, Agreeing.{Standing, place, Agree, holding, push, drop_last, last_is, same_frame, loose_of}, Accessing.context, Values.{loosen, BasesOf, base_ends, RunsAs, Lies, PlaceAs, at_cell, temporarily_runs}, Popping.{AllNull, trailing}, Computing.none_end, Storing.{performs_then, moved_on}}
 
 module _ (m : Assignment) (z : Standing) (scope : List Slot) where
   abbrev ctx : Context
@@ -72,17 +61,17 @@ module _ (m : Assignment) (z : Standing) (scope : List Slot) where
 
   -- `lock`, after its tests
   lock_by : (b : Bool) (T bases : List ℤ) (t : Target) (i r pc c : ℕ) (p : StorePlace) (site : Site) (words : Span) (ints refs : ℕ → ℤ) (s : State) (k : Unit {0} → State → Fin) → BaseAs b t i r p bases → r ≡ ref_count scope + length T
-      → ((pc : ℕ) (u : State) → cell_at z.flat.globals (place z pc ints refs u) (targets.cell_of z.flat.globals i r t) ≡ cell_at_place p) → slice_get z.flat.lines pc ≡ Some (op.Lock (targets.cell_of z.flat.globals i r t) (at_words site words Other)) → Agree z (T ++ bases) scope [] ints refs s
+      → ((pc : ℕ) (u : State) → cell_at z.flat.globals (place z pc ints refs u) (targets.cell_of z.flat.globals i r t) ≡ cell_at_place p) → slice_get z.flat.lines pc ≡ Some (Op.Lock (targets.cell_of z.flat.globals i r t) (at_words site words Other)) → Agree z (T ++ bases) scope [] ints refs s
       → ((refs' : ℕ → ℤ) (u : State) → Agree z T scope [] ints refs' u → Same z.flat u.fuel c (k tt u) u.answers (place z (pc + 1) ints refs' u))
-      → Same z.flat s.fuel (c + 1) (fin_then ((performs site (acts.Lock (cell_at_place p)) >> moves_base p) s) k) s.answers (place z pc ints refs s)
+      → Same z.flat s.fuel (c + 1) (fin_then ((performs site (Act.Lock (cell_at_place p)) >> moves_base p) s) k) s.answers (place z pc ints refs s)
   lock_by b T bases t i r pc c p site words ints refs s k ba re cell_is at a rest =
       let m0 = place z pc ints refs s in
       let C = targets.cell_of z.flat.globals i r t in
-      subst (λ q. Same z.flat s.fuel (c + 1) q s.answers m0) (sym (performs_then (happens s.answers site (acts.Lock (cell_at_place p)) s) (moves_base p) k))
-      (asks_at z.flat (op.Lock C (at_words site words Other)) site (acts.Lock (cell_at_place p)) (pos 0) (λ v w. on (without_base C w)) c s.answers s m0 m0 (λ x u. fin_then (moves_base p u) k) (holding z (T ++ bases) scope ints refs s a) refl refl at
-      (ap (λ q. asks m0 site (acts.Lock q) (pos 0) (λ v w. on (without_base C w))) (cell_is pc s)) (λ x. refl)
+      subst (λ q. Same z.flat s.fuel (c + 1) q s.answers m0) (sym (performs_then (happens s.answers site (Act.Lock (cell_at_place p)) s) (moves_base p) k))
+      (asks_at z.flat (Op.Lock C (at_words site words Other)) site (Act.Lock (cell_at_place p)) (pos 0) (λ v w. on (without_base C w)) c s.answers s m0 m0 (λ x u. fin_then (moves_base p u) k) (holding z (T ++ bases) scope ints refs s a) refl refl at
+      (ap (λ q. asks m0 site (Act.Lock q) (pos 0) (λ v w. on (without_base C w))) (cell_is pc s)) (λ x. refl)
       (λ x answers.
-      let u = after_event s answers (s.events ++ event_of site (acts.Lock (cell_at_place p)) x ∷ []) in
+      let u = after_event s answers (s.events ++ event_of site (Act.Lock (cell_at_place p)) x ∷ []) in
       subst (λ q. Same z.flat s.fuel c q answers (on (without_base C (place z pc ints refs u)))) (sym (ba.moves u k))
       (subst (λ q. Same z.flat s.fuel c (cond b (k tt (record u { frame = without_temporaries 1 u.frame })) (k tt u)) answers (on q)) (sym (ba.without_is (place z pc ints refs u)))
       (by b ba.count u refl refl (same_frame z (T ++ bases) scope [] ints refs s u refl refl a)))))
@@ -93,11 +82,11 @@ module _ (m : Assignment) (z : Standing) (scope : List Slot) where
 
   pub lock_runs : (kv : Kind) (t : Target) (run : Run StorePlace) (pcode : ℕ → ℕ → List Op) (site : Site) (words : Span) → PlaceAs m z scope t None None 0 run pcode → is_cell t ≡ true → is_reference kv ≡ false → is_integer kv ≡ false
       → RunsAs m z scope kv 4 (temporarily (run >>= λ p. lock_call site p) >> give (pos 0))
-      (λ i r. pcode i r ++ (op.ChkNotHeld (targets.cell_of z.flat.globals i r t) (at_site site) ∷ op.ChkRoom (at_site site) ∷ op.Lock (targets.cell_of z.flat.globals i r t) (at_words site words Other) ∷ []))
+      (λ i r. pcode i r ++ (Op.ChkNotHeld (targets.cell_of z.flat.globals i r t) (at_site site) ∷ Op.ChkRoom (at_site site) ∷ Op.Lock (targets.cell_of z.flat.globals i r t) (at_words site words Other) ∷ []))
   lock_runs kv t run pcode site words found cell_t er ei T i r pc c ints refs s k has le re a rest =
       let P = pcode i r in
       let C = targets.cell_of z.flat.globals i r t in
-      let tail = op.ChkNotHeld C (at_site site) ∷ op.ChkRoom (at_site site) ∷ op.Lock C (at_words site words Other) ∷ [] in
+      let tail = Op.ChkNotHeld C (at_site site) ∷ Op.ChkRoom (at_site site) ∷ Op.Lock C (at_words site words Other) ∷ [] in
       let end : pc + length P + 1 + 1 + 1 ≡ pc + length (P ++ tail) = omega (arith, length-append P tail) in
       let K0 : Unit {0} → State → Fin = λ x u. k (pos 0) u in
       let K : Unit {0} → State → Fin = λ x u. K0 x (without (length T) u) in
@@ -115,10 +104,10 @@ module _ (m : Assignment) (z : Standing) (scope : List Slot) where
       let held = holding z (T ++ bases) scope ints1 refs1 s1 w.agree in
       let three : c + 6 + 1 + 1 + 1 ≡ c + 3 + 6 = omega arith in
       subst (λ q. Same z.flat s1.fuel q (fin_then (lock_call site p s1) K) s1.answers (place z pc1 ints1 refs1 s1)) three
-      (bind z.flat s1.fuel (c + 6 + 1 + 1 + 1) s1.answers (unless_stop (not (holds_mutex s1.events (cell_at_place p))) traps.MutexAlreadyHeld site s1) (λ _. unless_stop (nat_lt (length (held_mutexes s1.events)) 16) traps.TooManyLocks site >> (performs site (acts.Lock (cell_at_place p)) >> moves_base p)) K (place z pc1 ints1 refs1 s1)
-      (chk_by (not (holds_mutex s1.events (cell_at_place p))) (op.ChkNotHeld C (at_site site)) traps.MutexAlreadyHeld site pc1 (c + 6 + 1 + 1) ints1 refs1 s1 _ has_t.0 (ap (λ q. asserts (not (holds_mutex s1.events q)) traps.MutexAlreadyHeld (at_site site) (place z pc1 ints1 refs1 s1)) (cell_is pc1 s1)) held
-      (bind z.flat s1.fuel (c + 6 + 1 + 1) s1.answers (unless_stop (nat_lt (length (held_mutexes s1.events)) 16) traps.TooManyLocks site s1) (λ _. performs site (acts.Lock (cell_at_place p)) >> moves_base p) K (place z (pc1 + 1) ints1 refs1 s1)
-      (chk_by (nat_lt (length (held_mutexes s1.events)) 16) (op.ChkRoom (at_site site)) traps.TooManyLocks site (pc1 + 1) (c + 6 + 1) ints1 refs1 s1 _ has_t.1.0 refl held
+      (bind z.flat s1.fuel (c + 6 + 1 + 1 + 1) s1.answers (unless_stop (not (holds_mutex s1.events (cell_at_place p))) Trap.MutexAlreadyHeld site s1) (λ _. unless_stop (nat_lt (length (held_mutexes s1.events)) 16) Trap.TooManyLocks site >> (performs site (Act.Lock (cell_at_place p)) >> moves_base p)) K (place z pc1 ints1 refs1 s1)
+      (chk_by (not (holds_mutex s1.events (cell_at_place p))) (Op.ChkNotHeld C (at_site site)) Trap.MutexAlreadyHeld site pc1 (c + 6 + 1 + 1) ints1 refs1 s1 _ has_t.0 (ap (λ q. asserts (not (holds_mutex s1.events q)) Trap.MutexAlreadyHeld (at_site site) (place z pc1 ints1 refs1 s1)) (cell_is pc1 s1)) held
+      (bind z.flat s1.fuel (c + 6 + 1 + 1) s1.answers (unless_stop (nat_lt (length (held_mutexes s1.events)) 16) Trap.TooManyLocks site s1) (λ _. performs site (Act.Lock (cell_at_place p)) >> moves_base p) K (place z (pc1 + 1) ints1 refs1 s1)
+      (chk_by (nat_lt (length (held_mutexes s1.events)) 16) (Op.ChkRoom (at_site site)) Trap.TooManyLocks site (pc1 + 1) (c + 6 + 1) ints1 refs1 s1 _ has_t.1.0 refl held
       (lock_by (has_base t) T bases t i r (pc1 + 1 + 1) (c + 6) p site words ints1 refs1 s1 K ba re cell_is has_t.1.1.0 w.agree
       (λ refs2 u a2.
       let n3 = none_end m z scope T [] (pc1 + 1 + 1 + 1) ints1 refs2 u a2 in
@@ -133,9 +122,9 @@ module _ (m : Assignment) (z : Standing) (scope : List Slot) where
   -- `unlock`, after its test
   unlock_by : (b : Bool) (T bases : List ℤ) (t : Target) (i r pc c : ℕ) (p : StorePlace) (site : Site) (ints refs : ℕ → ℤ) (s : State) (k : Unit {0} → State → Fin) → BaseAs b t i r p bases → r ≡ ref_count scope + length T
       → ((pc : ℕ) (u : State) → cell_at z.flat.globals (place z pc ints refs u) (targets.cell_of z.flat.globals i r t) ≡ cell_at_place p)
-      → HasAt z.flat.lines pc (op.Unlock (r + cond b 1 0) (targets.cell_of z.flat.globals i r t) (at_site site) ∷ cond b (op.Pop (r + 1) ∷ op.Pop r ∷ []) []) → Agree z (T ++ bases) scope [] ints refs s
-      → ((refs' : ℕ → ℤ) (u : State) → Agree z T scope [] ints refs' (without (length T) u) → Same z.flat u.fuel c (k tt u) u.answers (place z (pc + 1 + length (cond b (op.Pop (r + 1) ∷ op.Pop r ∷ []) [])) ints refs' (without (length T) u)))
-      → Same z.flat s.fuel (c + 3) (fin_then ((performs site (acts.Unlock (cell_at_place p)) >> gives_up_base p) s) k) s.answers (place z pc ints refs s)
+      → HasAt z.flat.lines pc (Op.Unlock (r + cond b 1 0) (targets.cell_of z.flat.globals i r t) (at_site site) ∷ cond b (Op.Pop (r + 1) ∷ Op.Pop r ∷ []) []) → Agree z (T ++ bases) scope [] ints refs s
+      → ((refs' : ℕ → ℤ) (u : State) → Agree z T scope [] ints refs' (without (length T) u) → Same z.flat u.fuel c (k tt u) u.answers (place z (pc + 1 + length (cond b (Op.Pop (r + 1) ∷ Op.Pop r ∷ []) [])) ints refs' (without (length T) u)))
+      → Same z.flat s.fuel (c + 3) (fin_then ((performs site (Act.Unlock (cell_at_place p)) >> gives_up_base p) s) k) s.answers (place z pc ints refs s)
   unlock_by true T bases t i r pc c p site ints refs s k ba re cell_is has a rest =
       let v = ba.count.0 in
       let m0 = place z pc ints refs s in
@@ -149,19 +138,19 @@ module _ (m : Assignment) (z : Standing) (scope : List Slot) where
       let refs3 = put refs2 (z.refs + (r + 1)) (pos 0) in
       let three : c + 1 + 1 + 1 ≡ c + 3 = omega arith in
       let two : pc + 1 + 1 + 1 ≡ pc + 1 + 2 = omega arith in
-      subst (λ q. Same z.flat s.fuel (c + 3) q s.answers m0) (sym (performs_then (happens s.answers site (acts.Unlock (cell_at_place p)) s) (gives_up_base p) k))
-      (subst (λ q. Same z.flat s.fuel q (fin_then (happens s.answers site (acts.Unlock (cell_at_place p)) s) (λ x u. fin_then (gives_up_base p u) k)) s.answers m0) three
-      (asks_at z.flat (op.Unlock (r + 1) C (at_site site)) site (acts.Unlock (cell_at_place p)) (pos 0) (λ x w. on (set_ref (r + 1) (base_of w C) w)) (c + 1 + 1) s.answers s m0 m0 (λ x u. fin_then (gives_up_base p u) k) (holding z (T ++ bases) scope ints refs s a) refl refl has.0
-      (ap (λ q. asks m0 site (acts.Unlock q) (pos 0) (λ x w. on (set_ref (r + 1) (base_of w C) w))) (cell_is pc s)) (λ x. refl)
+      subst (λ q. Same z.flat s.fuel (c + 3) q s.answers m0) (sym (performs_then (happens s.answers site (Act.Unlock (cell_at_place p)) s) (gives_up_base p) k))
+      (subst (λ q. Same z.flat s.fuel q (fin_then (happens s.answers site (Act.Unlock (cell_at_place p)) s) (λ x u. fin_then (gives_up_base p u) k)) s.answers m0) three
+      (asks_at z.flat (Op.Unlock (r + 1) C (at_site site)) site (Act.Unlock (cell_at_place p)) (pos 0) (λ x w. on (set_ref (r + 1) (base_of w C) w)) (c + 1 + 1) s.answers s m0 m0 (λ x u. fin_then (gives_up_base p u) k) (holding z (T ++ bases) scope ints refs s a) refl refl has.0
+      (ap (λ q. asks m0 site (Act.Unlock q) (pos 0) (λ x w. on (set_ref (r + 1) (base_of w C) w))) (cell_is pc s)) (λ x. refl)
       (λ x answers.
-      let u = after_event s answers (s.events ++ event_of site (acts.Unlock (cell_at_place p)) x ∷ []) in
+      let u = after_event s answers (s.events ++ event_of site (Act.Unlock (cell_at_place p)) x ∷ []) in
       let u1 : State = record u { given_up = u.given_up ++ Released (number_of v) ∷ [] } in
       let a2 : Agree z (T ++ v ∷ []) scope (v ∷ []) ints refs2 u = push z (T ++ v ∷ []) scope [] v (r + 1) ints refs u r1 (same_frame z (T ++ v ∷ []) scope [] ints refs s u refl refl a0) in
       let w_is : refs2 (z.refs + (r + 1)) ≡ v = put_same refs (z.refs + (r + 1)) v in
       let a3 : Agree z (T ++ v ∷ []) scope [] ints refs3 u1 = same_frame z (T ++ v ∷ []) scope [] ints refs3 u u1 refl refl (drop_last z (T ++ v ∷ []) scope [] v (r + 1) ints refs2 u r1 a2) in
       subst (λ q. Same z.flat s.fuel (c + 1 + 1) q answers (on (set_ref (r + 1) (base_of (place z pc ints refs u) C) (place z pc ints refs u)))) (sym (ba.gives v u k (inr ba.count.1)))
       (subst (λ q. Same z.flat s.fuel (c + 1 + 1) (k tt u1) answers (on (set_ref (r + 1) q (place z pc ints refs u)))) (sym (ba.base_is (place z pc ints refs u) ∙ v_is))
-      (step z.flat (op.Pop (r + 1)) s.fuel (c + 1) (k tt u1) answers (place z (pc + 1) ints refs2 u) (place z (pc + 1 + 1) ints refs3 u1) has.1.0
+      (step z.flat (Op.Pop (r + 1)) s.fuel (c + 1) (k tt u1) answers (place z (pc + 1) ints refs2 u) (place z (pc + 1 + 1) ints refs3 u1) has.1.0
       (ap (λ q. goes (record (place z (pc + 1 + 1) ints refs3 u) { given = u.given_up ++ Released (number_of q) ∷ [] })) w_is)
       (base_ends m z scope true (v ∷ []) T r (pc + 1 + 1) c ints refs3 u1 (k tt u1) (v, refl) has.1.1 re a3
       (λ refs4 a4. subst (λ q. Same z.flat s.fuel c (k tt u1) answers (place z q ints refs4 (without (length T) u1))) (sym two) (rest refs4 u1 a4))))))))
@@ -172,12 +161,12 @@ module _ (m : Assignment) (z : Standing) (scope : List Slot) where
       let r0 : r + 0 ≡ ref_count scope + length T + 0 = omega arith in
       let refs2 = put refs (z.refs + (r + 0)) (pos 0) in
       let q0 : pc + 1 ≡ pc + 1 + 0 = omega arith in
-      subst (λ q. Same z.flat s.fuel (c + 3) q s.answers m0) (sym (performs_then (happens s.answers site (acts.Unlock (cell_at_place p)) s) (gives_up_base p) k))
+      subst (λ q. Same z.flat s.fuel (c + 3) q s.answers m0) (sym (performs_then (happens s.answers site (Act.Unlock (cell_at_place p)) s) (gives_up_base p) k))
       (weaken z.flat s.fuel (c + 1) (c + 3) _ s.answers m0 (omega arith)
-      (asks_at z.flat (op.Unlock (r + 0) C (at_site site)) site (acts.Unlock (cell_at_place p)) (pos 0) (λ x w. on (set_ref (r + 0) (base_of w C) w)) c s.answers s m0 m0 (λ x u. fin_then (gives_up_base p u) k) (holding z (T ++ bases) scope ints refs s a) refl refl has.0
-      (ap (λ q. asks m0 site (acts.Unlock q) (pos 0) (λ x w. on (set_ref (r + 0) (base_of w C) w))) (cell_is pc s)) (λ x. refl)
+      (asks_at z.flat (Op.Unlock (r + 0) C (at_site site)) site (Act.Unlock (cell_at_place p)) (pos 0) (λ x w. on (set_ref (r + 0) (base_of w C) w)) c s.answers s m0 m0 (λ x u. fin_then (gives_up_base p u) k) (holding z (T ++ bases) scope ints refs s a) refl refl has.0
+      (ap (λ q. asks m0 site (Act.Unlock q) (pos 0) (λ x w. on (set_ref (r + 0) (base_of w C) w))) (cell_is pc s)) (λ x. refl)
       (λ x answers.
-      let u = after_event s answers (s.events ++ event_of site (acts.Unlock (cell_at_place p)) x ∷ []) in
+      let u = after_event s answers (s.events ++ event_of site (Act.Unlock (cell_at_place p)) x ∷ []) in
       let a2 : Agree z T scope (pos 0 ∷ []) ints refs2 u = push z T scope [] (pos 0) (r + 0) ints refs u r0 (same_frame z T scope [] ints refs s u refl refl a0) in
       let a3 : Agree z T scope [] ints refs2 u = trailing z scope T [] (pos 0 ∷ []) ints refs2 u null_one a2 in
       let n3 = none_end m z scope T [] (pc + 1) ints refs2 u a3 in
@@ -188,12 +177,12 @@ module _ (m : Assignment) (z : Standing) (scope : List Slot) where
 
   pub unlock_runs : (kv : Kind) (t : Target) (run : Run StorePlace) (pcode : ℕ → ℕ → List Op) (site : Site) → PlaceAs m z scope t None None 0 run pcode → is_cell t ≡ true → is_reference kv ≡ false → is_integer kv ≡ false
       → RunsAs m z scope kv 4 (temporarily (run >>= λ p. unlock_call site p) >> give (pos 0))
-      (λ i r. pcode i r ++ (op.ChkHeld (targets.cell_of z.flat.globals i r t) (at_site site) ∷ op.Unlock (r + base_width t) (targets.cell_of z.flat.globals i r t) (at_site site) ∷ unlocked_code r t))
+      (λ i r. pcode i r ++ (Op.ChkHeld (targets.cell_of z.flat.globals i r t) (at_site site) ∷ Op.Unlock (r + base_width t) (targets.cell_of z.flat.globals i r t) (at_site site) ∷ unlocked_code r t))
   unlock_runs kv t run pcode site found cell_t er ei T i r pc c ints refs s k has le re a rest =
       let P = pcode i r in
       let C = targets.cell_of z.flat.globals i r t in
       let pops = unlocked_code r t in
-      let tail = op.ChkHeld C (at_site site) ∷ op.Unlock (r + base_width t) C (at_site site) ∷ pops in
+      let tail = Op.ChkHeld C (at_site site) ∷ Op.Unlock (r + base_width t) C (at_site site) ∷ pops in
       let end : pc + length P + 1 + 1 + length pops ≡ pc + length (P ++ tail) = omega (arith, length-append P tail) in
       let K0 : Unit {0} → State → Fin = λ x u. k (pos 0) u in
       let K : Unit {0} → State → Fin = λ x u. K0 x (without (length T) u) in
@@ -211,8 +200,8 @@ module _ (m : Assignment) (z : Standing) (scope : List Slot) where
       let held = holding z (T ++ bases) scope ints1 refs1 s1 w.agree in
       let four : c + 6 + 3 + 1 ≡ c + 4 + 6 = omega arith in
       subst (λ q. Same z.flat s1.fuel q (fin_then (unlock_call site p s1) K) s1.answers (place z pc1 ints1 refs1 s1)) four
-      (bind z.flat s1.fuel (c + 6 + 3 + 1) s1.answers (unless_stop (holds_mutex s1.events (cell_at_place p)) traps.MutexNotHeld site s1) (λ _. performs site (acts.Unlock (cell_at_place p)) >> gives_up_base p) K (place z pc1 ints1 refs1 s1)
-      (chk_by (holds_mutex s1.events (cell_at_place p)) (op.ChkHeld C (at_site site)) traps.MutexNotHeld site pc1 (c + 6 + 3) ints1 refs1 s1 _ has_t.0 (ap (λ q. asserts (holds_mutex s1.events q) traps.MutexNotHeld (at_site site) (place z pc1 ints1 refs1 s1)) (cell_is pc1 s1)) held
+      (bind z.flat s1.fuel (c + 6 + 3 + 1) s1.answers (unless_stop (holds_mutex s1.events (cell_at_place p)) Trap.MutexNotHeld site s1) (λ _. performs site (Act.Unlock (cell_at_place p)) >> gives_up_base p) K (place z pc1 ints1 refs1 s1)
+      (chk_by (holds_mutex s1.events (cell_at_place p)) (Op.ChkHeld C (at_site site)) Trap.MutexNotHeld site pc1 (c + 6 + 3) ints1 refs1 s1 _ has_t.0 (ap (λ q. asserts (holds_mutex s1.events q) Trap.MutexNotHeld (at_site site) (place z pc1 ints1 refs1 s1)) (cell_is pc1 s1)) held
       (unlock_by (has_base t) T bases t i r (pc1 + 1) (c + 6) p site ints1 refs1 s1 K ba re cell_is has_t.1 w.agree
       (λ refs2 u a2.
       subst (λ q. Same z.flat u.fuel (c + 6) (k (pos 0) (without (length T) u)) u.answers (place z q ints1 refs2 (without (length T) u))) (sym end)

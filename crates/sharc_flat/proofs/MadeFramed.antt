@@ -1,13 +1,5 @@
 -- Code that is laid out stays within its frames, as the code does whose texts are given.
-use Rattle.std.proofs.Common.{◌≡◌, ℕ, zero, suc, ◌+◌, ◌*◌, ◌^◌, ◌<◌, max, List, [], ◌∷◌, length, Option, Some, None, refl, ap, sym, ◌∙◌, subst, arith}
-use Rattle.std.specs.Prelude.{slice_get, slice_index_or, fold}
-use Rattle.sharc_code.specs.{declared.code.Function.{Function as Row}, declared.code.Parameter.Parameter, declared.code.Text.Text, Machine.no_function, Path.{most_ints, most_refs}}
-use Rattle.sharc_code.specs.declared.code.Parameter.TheVariants as parameters
-use Rattle.sharc_ctype.specs.Resolved.{Resolution, functions_in}
-use Rattle.sharc_mode.specs.Moded.{Assignment}
-use Rattle.sharc_flat.specs.{declared.flat.Flat.{Flat as FlatCode}, declared.op.Op.Op, declared.op.Spot.Spot, Framed.{HasParameter, IsInGlobal, OpWrites, InLine, OpLeads, IsFramedAt, IsFramed, Leads, IsFlat}, Machine.{Flat, function_of}, Made.flat_of, Correct.ProgramSuits, Flattened.flattened, Flattens.{Flattens, names_of}, Laid.{told_by, with_texts, AreLaid, AreNamed, Lays}, Laws.{FitsFrames, FitsMade}, Tables.globals_of}
-use Rattle.sharc_flat.specs.declared.op.Op.TheVariants as op
-use Rattle.sharc_flat.proofs.{Apart.apart, Flattening.is_flattened, Framed.{flattened_is_framed, some_same as one_line}, Laying.{same_length, rows_same}}
+use Rattle.sharc_flat.proofs.{Imports.{◌≡◌, ℕ, zero, suc, ◌+◌, ◌*◌, ◌^◌, ◌<◌, max, List, [], ◌∷◌, length, Option, Some, None, refl, ap, sym, ◌∙◌, subst, arith, slice_get, get_or as slice_index_or, fold, Row, Parameter, Text, no_function, most_ints, most_refs, Resolution, functions_in, Assignment, FlatCode, Op, Spot, HasParameter, IsInGlobal, OpWrites, InLine, OpLeads, IsFramedAt, IsFramed, Leads, IsFlat, Flat, function_of, flat_of, ProgramSuits, flattened, Flattens, names_of, told_by, with_texts, AreLaid, AreNamed, Lays, FitsFrames, FitsMade, globals_of}, Apart.apart, Flattening.is_flattened, Framed.{flattened_is_framed, some_same as one_line}, Laying.{same_length, rows_same}}
 
 -- ---- lines
 -- a line that is made is one that is given, with other texts
@@ -38,7 +30,7 @@ laid_at r bytes (x ∷ os) (q ∷ ps) h zero o at = record { lvalue = h.0.lvalue
 laid_at r bytes (x ∷ os) (q ∷ ps) h (suc n) o at = let w = laid_at r bytes os ps h.1 n o at in record { lvalue = w.lvalue; lock = w.lock; at = w.at }
 
 writes_made : (lv lk : Text) (most_i most_r : ℕ) (o : Op) → OpWrites most_i most_r o → OpWrites most_i most_r (with_texts lv lk o)
-writes_made lv lk most_i most_r (op.Pop r) h = h
+writes_made lv lk most_i most_r (Op.Pop r) h = h
 writes_made lv lk most_i most_r _ h = h
 
 -- ---- rows
@@ -58,9 +50,9 @@ as_many bytes (x ∷ xs) (y ∷ ys) (n ∷ ns) e = ap suc (as_many bytes xs ys n
 as_many bytes _ _ _ e = absurd e
 
 parameter_made : (x y : Row) (p : Parameter) → y.ints ≡ x.ints → y.refs ≡ x.refs → HasParameter x p → HasParameter y p
-parameter_made x y parameters.None i r h = tt
-parameter_made x y parameters.Int i r h = subst (λ (k : ℕ). 0 < k) (sym i) h
-parameter_made x y parameters.Reference i r h = subst (λ (k : ℕ). 0 < k) (sym r) h
+parameter_made x y Parameter.None i r h = tt
+parameter_made x y Parameter.Int i r h = subst (λ (k : ℕ). 0 < k) (sym i) h
+parameter_made x y Parameter.Reference i r h = subst (λ (k : ℕ). 0 < k) (sym r) h
 
 -- ---- where lines lead
 module _ (told made : Flat) (owner : ℕ → ℕ) (count : length told.lines ≡ length made.lines) (many : length told.functions ≡ length made.functions) where
@@ -71,24 +63,24 @@ module _ (told made : Flat) (owner : ℕ → ℕ) (count : length told.lines ≡
   low n lt = subst (λ (k : ℕ). n < k) count lt
 
   leads_made : (lv lk : Text) (place : ℕ) (o : Op) → OpLeads told owner place o → OpLeads made owner place (with_texts lv lk o)
-  leads_made lv lk place (op.Skip n) l = in_made (owner place) (place + 1 + n) l
-  leads_made lv lk place (op.SkipIfZero i n) l = (in_made (owner place) (place + 1 + n) l.0, in_made (owner place) (place + 1) l.1)
-  leads_made lv lk place (op.SkipIfNull r n) l = (in_made (owner place) (place + 1 + n) l.0, in_made (owner place) (place + 1) l.1)
-  leads_made lv lk place (op.Jump to) l = in_made (owner place) to l
-  leads_made lv lk place (op.Call f ints refs spot) l = (subst (λ (k : ℕ). f < k) many l.0, in_made (owner place) (place + 1) l.1)
-  leads_made lv lk place (op.Return spot) l = tt
+  leads_made lv lk place (Op.Skip n) l = in_made (owner place) (place + 1 + n) l
+  leads_made lv lk place (Op.SkipIfZero i n) l = (in_made (owner place) (place + 1 + n) l.0, in_made (owner place) (place + 1) l.1)
+  leads_made lv lk place (Op.SkipIfNull r n) l = (in_made (owner place) (place + 1 + n) l.0, in_made (owner place) (place + 1) l.1)
+  leads_made lv lk place (Op.Jump to) l = in_made (owner place) to l
+  leads_made lv lk place (Op.Call f ints refs spot) l = (subst (λ (k : ℕ). f < k) many l.0, in_made (owner place) (place + 1) l.1)
+  leads_made lv lk place (Op.Return spot) l = tt
   leads_made lv lk place _ l = in_made (owner place) (place + 1) l
 
   flat_leads_made : (lv lk : Text) (place : ℕ) (o : Op) → Leads told place o → Leads made place (with_texts lv lk o)
-  flat_leads_made lv lk place (op.Compute width o i a b spot) l = (l.0, low (place + 1) l.1)
-  flat_leads_made lv lk place (op.Negate width i a spot) l = (l.0, low (place + 1) l.1)
-  flat_leads_made lv lk place (op.Skip n) l = low (place + 1 + n) l
-  flat_leads_made lv lk place (op.SkipIfZero i n) l = (low (place + 1 + n) l.0, low (place + 1) l.1)
-  flat_leads_made lv lk place (op.SkipIfNull r n) l = (low (place + 1 + n) l.0, low (place + 1) l.1)
-  flat_leads_made lv lk place (op.Jump to) l = low to l
-  flat_leads_made lv lk place (op.Call f ints refs spot) l = (subst (λ (k : ℕ). f < k) many l.0, low (place + 1) l.1)
-  flat_leads_made lv lk place (op.Return spot) l = tt
-  flat_leads_made lv lk place (op.Settle x from) l = (l.0, low (place + 1) l.1)
+  flat_leads_made lv lk place (Op.Compute width o i a b spot) l = (l.0, low (place + 1) l.1)
+  flat_leads_made lv lk place (Op.Negate width i a spot) l = (l.0, low (place + 1) l.1)
+  flat_leads_made lv lk place (Op.Skip n) l = low (place + 1 + n) l
+  flat_leads_made lv lk place (Op.SkipIfZero i n) l = (low (place + 1 + n) l.0, low (place + 1) l.1)
+  flat_leads_made lv lk place (Op.SkipIfNull r n) l = (low (place + 1 + n) l.0, low (place + 1) l.1)
+  flat_leads_made lv lk place (Op.Jump to) l = low to l
+  flat_leads_made lv lk place (Op.Call f ints refs spot) l = (subst (λ (k : ℕ). f < k) many l.0, low (place + 1) l.1)
+  flat_leads_made lv lk place (Op.Return spot) l = tt
+  flat_leads_made lv lk place (Op.Settle x from) l = (l.0, low (place + 1) l.1)
   flat_leads_made lv lk place _ l = low (place + 1) l
 
 -- ---- the whole
@@ -122,7 +114,7 @@ module _ (m : Assignment) (code : FlatCode) (is : Flattens m code) where
     few_ints = subst (λ (k : ℕ). 256 * k < 2 ^ 32) ints_same fits.few_ints;
     few_refs = subst (λ (k : ℕ). 256 * k < 2 ^ 32) refs_same fits.few_refs;
     apart = apart m.typed;
-    few_cells = λ n i elements cells field spot at. let w = laid_at m.typed code.texts.items told.lines made.lines lays.lines n (op.GlobalBounds i elements cells field spot) at in
+    few_cells = λ n i elements cells field spot at. let w = laid_at m.typed code.texts.items told.lines made.lines lays.lines n (Op.GlobalBounds i elements cells field spot) at in
         fits.few_cells n i elements cells field (told_by w.lvalue w.lock spot) w.at;
   }
 

@@ -1,6 +1,5 @@
 -- A path of flat code is the beginning of what it makes of a list of answers.
-use Rattle.std.proofs.Common.{◌≡◌, ℕ, ℤ, suc, ◌+◌, true, List, [], ◌∷◌, ◌++◌, length, refl, ap, ◌∙◌, arith, append_assoc}
-use Rattle.sharc_flat.specs.{Machine.{Flat, At, Turn, halts, turn, on_turn, exec}, Path.{after, IsPath, may_go, at_after, asked_by, asked, PathsAreRuns}}
+use Rattle.sharc_flat.proofs.Imports.{◌≡◌, ℕ, ℤ, suc, ◌+◌, true, List, [], ◌∷◌, ◌++◌, length, refl, ap, ◌∙◌, arith, append_assoc, Flat, At, Turn, halts, turn, on_turn, exec, after, IsPath, may_go, at_after, asked_by, asked, PathsAreRuns}
 
 one : (flat : Flat) (m : At) (t : Turn) (x : ℤ) (more : ℕ) (rest : List ℤ) → may_go t ≡ true → on_turn t (asked_by t x ++ rest) m (exec flat more) ≡ exec flat more rest (after m t x)
 one flat m (halts o) x more rest e = absurd (cc)

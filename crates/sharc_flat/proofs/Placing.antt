@@ -1,23 +1,12 @@
 -- Where the places are found that lvalues name.
-use Rattle.std.proofs.{Common.{◌≡◌, ℕ, ◌+◌, ◌*◌, ◌<◌, ◌≤◌, Bool, true, false, cond, List, [], ◌∷◌, ◌++◌, length, Option, Some, None, refl, sym, ap, ◌∙◌, subst, arith, length-append}, lemmas.List.append-nil}
-use Rattle.std.specs.Prelude.{ℤ, pos, negsuc, not, nat_lt}
-use Rattle.sharc_tree.specs.{declared.event.Object.Object, declared.event.Object.TheVariants.{Global, Made}, declared.token.Site.Site}
-use Rattle.sharc_tree.specs.declared.trap.Trap.TheVariants as traps
-use Rattle.sharc_names.specs.Kinds.{Kind, is_integer}
-use Rattle.sharc_mode.specs.Moded.{Assignment}
-use Rattle.sharc_meaning.specs.{Cells.global_elements, Places.{StorePlace, variable, cell, field_in, pointee, based, element, element_of_array}, Reference.{number_of, is_null, elements_of}, State.{State, Run, then_on, ◌>>=◌, ◌>>◌, give, is_reference, done, holds_reference, with_temporary, stop, stopped, unless_stop}}
-use Rattle.sharc_ctype.specs.Resolved.{global_at}
-use Rattle.sharc_flat.specs.{declared.op.Op.Op, declared.op.Spot.Spot, Machine.{goes, put, first_cell, set_int, op_turn, indexed, halts, asserts, goes_on}, Scope.{Context, int_count, ref_count, at_site}, declared.slot.Slot.Slot, Places.{Target, in_global, in_global_at, in_object, in_object_at, own_field, bounds_code, pointee_code}}
-use Rattle.sharc_flat.specs.declared.op.Op.TheVariants as op
-use Rattle.sharc_flat.proofs.{Banks.{put_same, put_other}, Runs.{HasAt, has_front, has_back, Fin, fin_of, fin_then, Same, weaken, step, bind, without, ends}, Agreeing.{Standing, place, Agree, holding, last_is, hold, with_int, loose_of}, Accessing.context, Values.{integer_is, loosen, RunsAs, within, Lies, PlaceAs}}
-use Rattle.sharc_lemmas.proofs.Options.{some_is as same_mutex}
+use Rattle.sharc_flat.proofs.{Imports.{◌≡◌, ℕ, ◌+◌, ◌*◌, ◌<◌, ◌≤◌, Bool, true, false, cond, List, [], ◌∷◌, ◌++◌, length, Option, Some, None, refl, sym, ap, ◌∙◌, subst, arith, length-append, append-nil, ℤ, pos, negsuc, not, nat_lt, Object, Global, Made, Site, Trap, Kind, is_integer, Assignment, global_elements, StorePlace, variable, cell, field_in, pointee, based, element, element_of_array, number_of, is_null, elements_of, State, Run, then_on, ◌>>=◌, ◌>>◌, give, is_reference, done, holds_reference, with_temporary, stop, stopped, unless_stop, global_at, Op, Spot, goes, put, first_cell, set_int, op_turn, indexed, halts, asserts, goes_on, Context, int_count, ref_count, at_site, Slot, Target, in_global, in_global_at, in_object, in_object_at, own_field, bounds_code, pointee_code, same_mutex}, Banks.{put_same, put_other}, Runs.{HasAt, has_front, has_back, Fin, fin_of, fin_then, Same, weaken, step, bind, without, ends}, Agreeing.{Standing, place, Agree, holding, last_is, hold, with_int, loose_of}, Accessing.context, Values.{integer_is, loosen, RunsAs, within, Lies, PlaceAs}}
 
 module _ (m : Assignment) (z : Standing) (scope : List Slot) where
   abbrev ctx : Context
   ctx = context m z scope
 
   -- a base that is a pointer is held, and is not NULL
-  pub based_runs : (T : List ℤ) (kind : Kind) (site : Site) (p : ℤ) (r pc c : ℕ) (os : List Op) (ints refs : ℕ → ℤ) (s : State) (k : Unit {0} → State → Fin) → is_reference kind ≡ true → HasAt z.flat.lines pc (op.ChkNull r (at_site site) ∷ os) → r ≡ ref_count scope + length T
+  pub based_runs : (T : List ℤ) (kind : Kind) (site : Site) (p : ℤ) (r pc c : ℕ) (os : List Op) (ints refs : ℕ → ℤ) (s : State) (k : Unit {0} → State → Fin) → is_reference kind ≡ true → HasAt z.flat.lines pc (Op.ChkNull r (at_site site) ∷ os) → r ≡ ref_count scope + length T
       → Agree z T scope (p ∷ []) ints refs s
       → (let u = record s { frame = with_temporary p s.frame } in Agree z (T ++ p ∷ []) scope [] ints refs u → is_null p ≡ false → Same z.flat s.fuel c (k tt u) s.answers (place z (pc + 1) ints refs u))
       → Same z.flat s.fuel (c + 1) (fin_then (based site kind p s) k) s.answers (place z pc ints refs s)
@@ -26,13 +15,13 @@ module _ (m : Assignment) (z : Standing) (scope : List Slot) where
       let a1 : Agree z (T ++ p ∷ []) scope [] ints refs u = hold z T scope p ints refs s a in
       let r0 : r ≡ ref_count scope + length T + 0 = omega arith in
       let v : refs (z.refs + r) ≡ p = last_is z T scope [] p [] r ints refs s r0 a in
-      subst (λ b. Same z.flat s.fuel (c + 1) (fin_then (then_on ((cond b (holds_reference p) done) s) (λ _. unless_stop (not (is_null p)) traps.NullPointer site)) k) s.answers (place z pc ints refs s)) (sym e)
-      (by (is_null p) refl (ap (λ q. asserts (not (is_null q)) traps.NullPointer (at_site site) (place z pc ints refs s)) v) a1)
+      subst (λ b. Same z.flat s.fuel (c + 1) (fin_then (then_on ((cond b (holds_reference p) done) s) (λ _. unless_stop (not (is_null p)) Trap.NullPointer site)) k) s.answers (place z pc ints refs s)) (sym e)
+      (by (is_null p) refl (ap (λ q. asserts (not (is_null q)) Trap.NullPointer (at_site site) (place z pc ints refs s)) v) a1)
     where
-      by : (b : Bool) → is_null p ≡ b → (let u = record s { frame = with_temporary p s.frame } in op_turn z.flat (op.ChkNull r (at_site site)) (place z pc ints refs s) ≡ asserts (not b) traps.NullPointer (at_site site) (place z pc ints refs s)
-          → Agree z (T ++ p ∷ []) scope [] ints refs u → Same z.flat s.fuel (c + 1) (fin_then (unless_stop (not b) traps.NullPointer site u) k) s.answers (place z pc ints refs s))
-      by false e0 is a1 = step z.flat (op.ChkNull r (at_site site)) s.fuel c (k tt (record s { frame = with_temporary p s.frame })) s.answers (place z pc ints refs s) _ has.0 is (rest a1 e0)
-      by true e0 is a1 = ends z.flat (op.ChkNull r (at_site site)) (stopped traps.NullPointer site) c (record s { frame = with_temporary p s.frame }) (place z pc ints refs s)
+      by : (b : Bool) → is_null p ≡ b → (let u = record s { frame = with_temporary p s.frame } in op_turn z.flat (Op.ChkNull r (at_site site)) (place z pc ints refs s) ≡ asserts (not b) Trap.NullPointer (at_site site) (place z pc ints refs s)
+          → Agree z (T ++ p ∷ []) scope [] ints refs u → Same z.flat s.fuel (c + 1) (fin_then (unless_stop (not b) Trap.NullPointer site u) k) s.answers (place z pc ints refs s))
+      by false e0 is a1 = step z.flat (Op.ChkNull r (at_site site)) s.fuel c (k tt (record s { frame = with_temporary p s.frame })) s.answers (place z pc ints refs s) _ has.0 is (rest a1 e0)
+      by true e0 is a1 = ends z.flat (Op.ChkNull r (at_site site)) (stopped Trap.NullPointer site) c (record s { frame = with_temporary p s.frame }) (place z pc ints refs s)
           (holding z (T ++ p ∷ []) scope ints refs (record s { frame = with_temporary p s.frame }) a1) refl refl has.0 is
 
   -- an index becomes the number of a cell
@@ -43,16 +32,16 @@ module _ (m : Assignment) (z : Standing) (scope : List Slot) where
         → ((mutex : ℕ) → guard ≡ Some mutex → ints' (z.ints + (i + 1)) ≡ pos (n * cells + off mutex)) → Same z.flat s.fuel c (k (cell o (n * cells) (n * cells)) s) s.answers (place z pc ints' refs s)
 
     goes_index : (j f n pc : ℕ) (ints : ℕ → ℤ) (u : State) → nat_lt n elements ≡ true → ints (z.ints + j) ≡ pos n → op_turn z.flat (bounds j f) (place z pc ints refs u) ≡ goes (place z (pc + 1) (put ints (z.ints + j) (pos (n * cells + off f))) refs u)
-    goes_index j f n pc ints u e v = turn_is j f pc ints u ∙ ap (λ x. indexed j cells (off f) x elements (at_site site) (place z pc ints refs u)) v ∙ ap (λ b. cond b (goes_on (set_int j (pos (n * cells + off f)) (place z pc ints refs u))) (halts (stopped traps.IndexOutOfBounds site))) e
+    goes_index j f n pc ints u e v = turn_is j f pc ints u ∙ ap (λ x. indexed j cells (off f) x elements (at_site site) (place z pc ints refs u)) v ∙ ap (λ b. cond b (goes_on (set_int j (pos (n * cells + off f)) (place z pc ints refs u))) (halts (stopped Trap.IndexOutOfBounds site))) e
 
-    stops_index : (j f n pc : ℕ) (ints : ℕ → ℤ) (u : State) → nat_lt n elements ≡ false → ints (z.ints + j) ≡ pos n → op_turn z.flat (bounds j f) (place z pc ints refs u) ≡ halts (stopped traps.IndexOutOfBounds site)
-    stops_index j f n pc ints u e v = turn_is j f pc ints u ∙ ap (λ x. indexed j cells (off f) x elements (at_site site) (place z pc ints refs u)) v ∙ ap (λ b. cond b (goes_on (set_int j (pos (n * cells + off f)) (place z pc ints refs u))) (halts (stopped traps.IndexOutOfBounds site))) e
+    stops_index : (j f n pc : ℕ) (ints : ℕ → ℤ) (u : State) → nat_lt n elements ≡ false → ints (z.ints + j) ≡ pos n → op_turn z.flat (bounds j f) (place z pc ints refs u) ≡ halts (stopped Trap.IndexOutOfBounds site)
+    stops_index j f n pc ints u e v = turn_is j f pc ints u ∙ ap (λ x. indexed j cells (off f) x elements (at_site site) (place z pc ints refs u)) v ∙ ap (λ b. cond b (goes_on (set_int j (pos (n * cells + off f)) (place z pc ints refs u))) (halts (stopped Trap.IndexOutOfBounds site))) e
 
-    stops_below : (j f n pc : ℕ) (ints : ℕ → ℤ) (u : State) → ints (z.ints + j) ≡ negsuc n → op_turn z.flat (bounds j f) (place z pc ints refs u) ≡ halts (stopped traps.IndexOutOfBounds site)
+    stops_below : (j f n pc : ℕ) (ints : ℕ → ℤ) (u : State) → ints (z.ints + j) ≡ negsuc n → op_turn z.flat (bounds j f) (place z pc ints refs u) ≡ halts (stopped Trap.IndexOutOfBounds site)
     stops_below j f n pc ints u v = turn_is j f pc ints u ∙ ap (λ x. indexed j cells (off f) x elements (at_site site) (place z pc ints refs u)) v
 
     element_by : (b : Bool) (n i f : ℕ) (guard : Option ℕ) (pc c : ℕ) (ints : ℕ → ℤ) (s : State) (k : StorePlace → State → Fin) → nat_lt n elements ≡ b → int_count scope ≤ i → HasAt z.flat.lines pc (bounds_code bounds i f guard) → Agree z (T ++ bases) scope [] ints refs s → ints (z.ints + i) ≡ pos n
-        → Found i f guard (pc + length (bounds_code bounds i f guard)) c ints s k → Same z.flat s.fuel (c + 3) (fin_then ((cond b (give (cell o (n * cells) (n * cells))) (stop traps.IndexOutOfBounds site)) s) k) s.answers (place z pc ints refs s)
+        → Found i f guard (pc + length (bounds_code bounds i f guard)) c ints s k → Same z.flat s.fuel (c + 3) (fin_then ((cond b (give (cell o (n * cells) (n * cells))) (stop Trap.IndexOutOfBounds site)) s) k) s.answers (place z pc ints refs s)
     element_by true n i f None pc c ints s k e le has a v rest =
         weaken z.flat s.fuel (c + 1) (c + 3) _ s.answers _ (omega arith)
         (step z.flat (bounds i f) s.fuel c _ s.answers (place z pc ints refs s) (place z (pc + 1) (put ints (z.ints + i) (pos (n * cells + off f))) refs s) has.0 (goes_index i f n pc ints s e v)
@@ -69,7 +58,7 @@ module _ (m : Assignment) (z : Standing) (scope : List Slot) where
         let three : c + 1 + 1 + 1 ≡ c + 3 = omega arith in
         let end : pc + length (bounds_code bounds i f (Some mutex)) ≡ pc + 1 + 1 + 1 = omega arith in
         subst (λ q. Same z.flat s.fuel q (k (cell o (n * cells) (n * cells)) s) s.answers (place z pc ints refs s)) three
-        (step z.flat (op.Move (i + 1) i) s.fuel (c + 1 + 1) _ s.answers (place z pc ints refs s) (place z (pc + 1) ints1 refs s) has.0 refl
+        (step z.flat (Op.Move (i + 1) i) s.fuel (c + 1 + 1) _ s.answers (place z pc ints refs s) (place z (pc + 1) ints1 refs s) has.0 refl
         (step z.flat (bounds i f) s.fuel (c + 1) _ s.answers (place z (pc + 1) ints1 refs s) (place z (pc + 1 + 1) ints2 refs s) has.1.0 (goes_index i f n (pc + 1) ints1 s e v1)
         (step z.flat (bounds (i + 1) mutex) s.fuel c _ s.answers (place z (pc + 1 + 1) ints2 refs s) (place z (pc + 1 + 1 + 1) ints3 refs s) has.1.1.0 (goes_index (i + 1) mutex n (pc + 1 + 1) ints2 s e w2)
         (subst (λ q. Same z.flat s.fuel c (k (cell o (n * cells) (n * cells)) s) s.answers (place z q ints3 refs s)) end
@@ -79,25 +68,25 @@ module _ (m : Assignment) (z : Standing) (scope : List Slot) where
         (λ x h. put_same ints2 (z.ints + (i + 1)) _ ∙ ap (λ q. pos (n * cells + off q)) (same_mutex mutex x h)))))))
     element_by false n i f None pc c ints s k e le has a v rest =
         weaken z.flat s.fuel (c + 1) (c + 3) _ s.answers _ (omega arith)
-        (ends z.flat (bounds i f) (stopped traps.IndexOutOfBounds site) c s (place z pc ints refs s) (holding z (T ++ bases) scope ints refs s a) refl refl has.0 (stops_index i f n pc ints s e v))
+        (ends z.flat (bounds i f) (stopped Trap.IndexOutOfBounds site) c s (place z pc ints refs s) (holding z (T ++ bases) scope ints refs s a) refl refl has.0 (stops_index i f n pc ints s e v))
     element_by false n i f (Some mutex) pc c ints s k e le has a v rest =
         let ints1 = put ints (z.ints + (i + 1)) (ints (z.ints + i)) in
         let v1 : ints1 (z.ints + i) ≡ pos n = put_other ints (z.ints + (i + 1)) (ints (z.ints + i)) (z.ints + i) (λ h. omega arith) ∙ v in
         weaken z.flat s.fuel (c + 1 + 1) (c + 3) _ s.answers _ (omega arith)
-        (step z.flat (op.Move (i + 1) i) s.fuel (c + 1) _ s.answers (place z pc ints refs s) (place z (pc + 1) ints1 refs s) has.0 refl
-        (ends z.flat (bounds i f) (stopped traps.IndexOutOfBounds site) c s (place z (pc + 1) ints1 refs s) (holding z (T ++ bases) scope ints refs s a) refl refl has.1.0 (stops_index i f n (pc + 1) ints1 s e v1)))
+        (step z.flat (Op.Move (i + 1) i) s.fuel (c + 1) _ s.answers (place z pc ints refs s) (place z (pc + 1) ints1 refs s) has.0 refl
+        (ends z.flat (bounds i f) (stopped Trap.IndexOutOfBounds site) c s (place z (pc + 1) ints1 refs s) (holding z (T ++ bases) scope ints refs s a) refl refl has.1.0 (stops_index i f n (pc + 1) ints1 s e v1)))
 
     below_by : (n i f : ℕ) (guard : Option ℕ) (pc c : ℕ) (ints : ℕ → ℤ) (s : State) → HasAt z.flat.lines pc (bounds_code bounds i f guard) → Agree z (T ++ bases) scope [] ints refs s → ints (z.ints + i) ≡ negsuc n
-        → Same z.flat s.fuel (c + 3) (fin_of (stopped traps.IndexOutOfBounds site) s) s.answers (place z pc ints refs s)
+        → Same z.flat s.fuel (c + 3) (fin_of (stopped Trap.IndexOutOfBounds site) s) s.answers (place z pc ints refs s)
     below_by n i f None pc c ints s has a v =
         weaken z.flat s.fuel (c + 1) (c + 3) _ s.answers _ (omega arith)
-        (ends z.flat (bounds i f) (stopped traps.IndexOutOfBounds site) c s (place z pc ints refs s) (holding z (T ++ bases) scope ints refs s a) refl refl has.0 (stops_below i f n pc ints s v))
+        (ends z.flat (bounds i f) (stopped Trap.IndexOutOfBounds site) c s (place z pc ints refs s) (holding z (T ++ bases) scope ints refs s a) refl refl has.0 (stops_below i f n pc ints s v))
     below_by n i f (Some mutex) pc c ints s has a v =
         let ints1 = put ints (z.ints + (i + 1)) (ints (z.ints + i)) in
         let v1 : ints1 (z.ints + i) ≡ negsuc n = put_other ints (z.ints + (i + 1)) (ints (z.ints + i)) (z.ints + i) (λ h. omega arith) ∙ v in
         weaken z.flat s.fuel (c + 1 + 1) (c + 3) _ s.answers _ (omega arith)
-        (step z.flat (op.Move (i + 1) i) s.fuel (c + 1) _ s.answers (place z pc ints refs s) (place z (pc + 1) ints1 refs s) has.0 refl
-        (ends z.flat (bounds i f) (stopped traps.IndexOutOfBounds site) c s (place z (pc + 1) ints1 refs s) (holding z (T ++ bases) scope ints refs s a) refl refl has.1.0 (stops_below i f n (pc + 1) ints1 s v1)))
+        (step z.flat (Op.Move (i + 1) i) s.fuel (c + 1) _ s.answers (place z pc ints refs s) (place z (pc + 1) ints1 refs s) has.0 refl
+        (ends z.flat (bounds i f) (stopped Trap.IndexOutOfBounds site) c s (place z (pc + 1) ints1 refs s) (holding z (T ++ bases) scope ints refs s a) refl refl has.1.0 (stops_below i f n (pc + 1) ints1 s v1)))
 
     pub element_runs : (v : ℤ) (i f : ℕ) (guard : Option ℕ) (pc c : ℕ) (ints : ℕ → ℤ) (s : State) (k : StorePlace → State → Fin) → int_count scope ≤ i → HasAt z.flat.lines pc (bounds_code bounds i f guard) → Agree z (T ++ bases) scope [] ints refs s → ints (z.ints + i) ≡ v
         → Found i f guard (pc + length (bounds_code bounds i f guard)) c ints s k → Same z.flat s.fuel (c + 3) (fin_then (element site o cells elements v s) k) s.answers (place z pc ints refs s)
@@ -113,10 +102,10 @@ module _ (m : Assignment) (z : Standing) (scope : List Slot) where
   -- `a[i]` behind a pointer
   pub pointer_index_runs : (ka ki : Kind) (f guard : Option ℕ) (site : Site) (cells : ℕ) (pointer number : Run ℤ) (cp : ℕ → ℕ → List Op) (ci : ℕ → ℕ → List Op) → is_reference ka ≡ true → is_integer ki ≡ true → RunsAs m z scope ka 0 pointer cp → RunsAs m z scope ki 0 number ci
       → PlaceAs m z scope (in_object_at (own_field f 0)) f guard 0 (pointer >>= λ p. based site ka p >> (number >>= λ n. element site (Made (number_of p)) cells (elements_of p) n))
-      (λ i r. cp i r ++ (op.ChkNull r (at_site site) ∷ (ci i (r + 1) ++ bounds_code (λ j n. op.Bounds j r cells n (at_site site)) i (own_field f 0) guard)))
+      (λ i r. cp i r ++ (Op.ChkNull r (at_site site) ∷ (ci i (r + 1) ++ bounds_code (λ j n. Op.Bounds j r cells n (at_site site)) i (own_field f 0) guard)))
   pointer_index_runs ka ki f guard site cells pointer number cp ci ea ei of_pointer of_number T i r pc c ints refs s k has le re a rest =
-      let bc = bounds_code (λ j n. op.Bounds j r cells n (at_site site)) i (own_field f 0) guard in
-      let tail = op.ChkNull r (at_site site) ∷ (ci i (r + 1) ++ bc) in
+      let bc = bounds_code (λ j n. Op.Bounds j r cells n (at_site site)) i (own_field f 0) guard in
+      let tail = Op.ChkNull r (at_site site) ∷ (ci i (r + 1) ++ bc) in
       let K0 : ℤ → State → Fin = λ p u. fin_then ((based site ka p >> (number >>= λ n. element site (Made (number_of p)) cells (elements_of p) n)) u) k in
       let six : c + 0 + 6 ≡ c + 5 + 1 = omega arith in
       let has_p = has_front z.flat.lines pc (cp i r) tail has in
@@ -140,7 +129,7 @@ module _ (m : Assignment) (z : Standing) (scope : List Slot) where
       let r0 : r ≡ ref_count scope + length T + 0 = omega arith in
       let v : refs2 (z.refs + r) ≡ p = last_is z T scope [] p [] r ints2 refs2 (without (length T) s2) r0 (loosen z T scope (p ∷ []) [] ints2 refs2 s2 a3) in
       weaken z.flat s2.fuel (c + 6 + 3) (c + 3 + 6) _ s2.answers _ (omega arith)
-      (element_runs T (p ∷ []) site refs2 (λ j x. op.Bounds j r cells x (at_site site)) cells (elements_of p) (λ x. x) (Made (number_of p))
+      (element_runs T (p ∷ []) site refs2 (λ j x. Op.Bounds j r cells x (at_site site)) cells (elements_of p) (λ x. x) (Made (number_of p))
       (λ j x q bank u. ap (λ y. indexed j cells x (bank (z.ints + j)) (elements_of y) (at_site site) (place z q bank refs2 u)) v)
       n i (own_field f 0) guard (pc + length (cp i r) + 1 + length (ci i (r + 1))) (c + 6) ints2 s2 k le has_b a3 (w2.value ei)
       (λ q ints3 a4 kept v3 g3.
@@ -163,10 +152,10 @@ module _ (m : Assignment) (z : Standing) (scope : List Slot) where
   pub array_index_runs : (g : ℕ) (t : Target) (ki : Kind) (f guard : Option ℕ) (site : Site) (cells : ℕ) (of_base : Run StorePlace) (number : Run ℤ) (ca : ℕ → ℕ → List Op) (ci : ℕ → ℕ → List Op) → t ≡ in_global g 0 → is_integer ki ≡ true
       → PlaceAs m z scope t None None 0 of_base ca → RunsAs m z scope ki 0 number ci
       → PlaceAs m z scope (in_global_at g (own_field f 0)) f guard 0 (of_base >>= λ base. number >>= λ n. element_of_array m.typed site cells base n)
-      (λ i r. ca i r ++ (ci i r ++ bounds_code (λ j n. op.GlobalBounds j (global_elements (global_at m.typed g)) cells (first_cell z.flat.globals g + n) (at_site site)) i (own_field f 0) guard))
+      (λ i r. ca i r ++ (ci i r ++ bounds_code (λ j n. Op.GlobalBounds j (global_elements (global_at m.typed g)) cells (first_cell z.flat.globals g + n) (at_site site)) i (own_field f 0) guard))
   array_index_runs g t ki f guard site cells of_base number ca ci et ei of_array of_number T i r pc c ints refs s k has le re a rest =
       let elements = global_elements (global_at m.typed g) in
-      let bounds : ℕ → ℕ → Op = λ j n. op.GlobalBounds j elements cells (first_cell z.flat.globals g + n) (at_site site) in
+      let bounds : ℕ → ℕ → Op = λ j n. Op.GlobalBounds j elements cells (first_cell z.flat.globals g + n) (at_site site) in
       let bc = bounds_code bounds i (own_field f 0) guard in
       let tail = ci i r ++ bc in
       let has_a = has_front z.flat.lines pc (ca i r) tail has in
@@ -201,7 +190,7 @@ module _ (m : Assignment) (z : Standing) (scope : List Slot) where
       → ((p : ℤ) (ints' refs' : ℕ → ℤ) (u : State) → is_null p ≡ false → Agree z (T ++ p ∷ []) scope [] ints' refs' u → ((q : ℕ) → q < z.ints + i → ints' q ≡ ints q) → Same z.flat u.fuel (c + 6) (k (pointee p) u) u.answers (place z (pc + length (pointee_code r site (cp i r))) ints' refs' u))
       → Same z.flat s.fuel (c + 1) (fin_then ((pointer >>= λ p. based site ka p >> give (pointee p)) s) k) s.answers (place z pc ints refs s)
   pointee_runs ka site pointer cp ea of_pointer T i r pc c ints refs s k has le re a rest =
-      let tail = op.ChkNull r (at_site site) ∷ [] in
+      let tail = Op.ChkNull r (at_site site) ∷ [] in
       let end : pc + length (cp i r) + 1 ≡ pc + length (cp i r ++ tail) = omega (arith, length-append (cp i r) tail) in
       let seven : c + 6 + 1 ≡ c + 1 + 6 = omega arith in
       bind z.flat s.fuel (c + 1) s.answers (pointer s) (λ p. based site ka p >> give (pointee p)) k (place z pc ints refs s)

@@ -1,10 +1,5 @@
 -- References are given up in the order in which they lie.
-use Rattle.std.proofs.{Common.{◌≡◌, ℕ, zero, suc, ◌+◌, List, [], ◌∷◌, ◌++◌, length, get_or, refl, sym, ap, ◌∙◌, subst, arith, append_assoc, length-append}, lemmas.List.append-nil}
-use Rattle.std.specs.Prelude.{ℤ, pos}
-use Rattle.sharc_meaning.specs.{declared.given.GivenUp.TheVariants.Released, Reference.number_of, State.{State, pointers_among, all_released}}
-use Rattle.sharc_flat.specs.{declared.op.Op.Op, declared.op.Spot.Spot, Machine.put, Scope.ref_count, declared.slot.Slot.Slot}
-use Rattle.sharc_flat.specs.declared.op.Op.TheVariants as op
-use Rattle.sharc_flat.proofs.{Banks.{bank_is, bank_put}, Runs.{HasAt, Fin, Same, weaken, step}, Agreeing.{Standing, place, Agree, below, stack_length, last_is, same_frame}, Values.given_place}
+use Rattle.sharc_flat.proofs.{Imports.{◌≡◌, ℕ, zero, suc, ◌+◌, List, [], ◌∷◌, ◌++◌, length, get_or, refl, sym, ap, ◌∙◌, subst, arith, append_assoc, length-append, append-nil, ℤ, pos, Released, number_of, State, pointers_among, all_released, Op, Spot, put, ref_count, Slot}, Banks.{bank_is, bank_put}, Runs.{HasAt, Fin, Same, weaken, step}, Agreeing.{Standing, place, Agree, below, stack_length, last_is, same_frame}, Values.given_place}
 
 abbrev pub AllNull : List ℤ → Type 0
 AllNull xs = (k : ℕ) → get_or xs k (pos 0) ≡ pos 0
@@ -22,7 +17,7 @@ null_behind (x ∷ xs) ys (suc k) h = null_behind xs ys k h
 
 abbrev pub pop_all : ℕ → List ℤ → List Op
 pop_all r [] = []
-pop_all r (v ∷ vs) = op.Pop r ∷ pop_all (r + 1) vs
+pop_all r (v ∷ vs) = Op.Pop r ∷ pop_all (r + 1) vs
 
 module _ (z : Standing) (scope : List Slot) where
   -- nothing but NULL comes after
@@ -92,7 +87,7 @@ module _ (z : Standing) (scope : List Slot) where
       let end : pc + length (v ∷ L) ≡ pc + 1 + length L = omega arith in
       let gs : s.given_up ++ all_released (v ∷ L) ≡ s1.given_up ++ all_released L = sym (append_assoc s.given_up (Released (number_of v) ∷ []) (all_released L)) in
       subst (λ q. Same z.flat s.fuel q fin s.answers (place z pc ints refs s)) more
-      (step z.flat (op.Pop r) s.fuel (c + length L) fin s.answers (place z pc ints refs s) _ has.0 refl
+      (step z.flat (Op.Pop r) s.fuel (c + length L) fin s.answers (place z pc ints refs s) _ has.0 refl
       (subst (λ w. Same z.flat s.fuel (c + length L) fin s.answers (record (place z (pc + 1) ints refs1 s) { given = s.given_up ++ Released (number_of w) ∷ [] })) (sym v_is)
       (popping_under L (Z ++ pos 0 ∷ []) X T (r + 1) (pc + 1) c ints refs1 s1 fin (null_more Z h) e1 has.1 a1
       (λ refs' N null len a2.

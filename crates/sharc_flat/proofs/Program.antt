@@ -1,18 +1,7 @@
 -- Every statement, by its form, and every function.
-use Rattle.std.proofs.{Common.{◌≡◌, ℕ, ◌+◌, ◌≤◌, Bool, true, false, cond, List, [], ◌∷◌, ◌++◌, length, Option, Some, None, refl, sym, ap, ◌∙◌, subst, arith, append_assoc, length-append}, lemmas.List.append-nil}
-use Rattle.std.specs.Prelude.{ℤ, pos, unsigned_abs}
-use Rattle.sharc_tree.specs.declared.event.Act.TheVariants as acts
-use Rattle.sharc_tree.specs.{declared.token.Span.Span, Tree.{Expression, Right, value, malloc, Simple, assign, does_call, Local, First, nothing, declares, does, Statement, empty, block, declare, simple, jump, return, if_then, if_then_else, while, for, Statements, no_statements, statement}, Spans.span_of, declared.tree.declaration.Declaration.Declaration}
-use Rattle.sharc_names.specs.Kinds.{Kind, is_integer, int, declared_kind}
-use Rattle.sharc_mode.specs.{Moded.Assignment, Sharings.{Sharing, private}, Cells.{cell_at as mode_in, pointed}, Rows.{written, row_at, declared_row}}
-use Rattle.sharc_meaning.specs.{Places.stored, State.{Run, ◌>>=◌, ◌>>◌, give, entered, answered, value_of, is_reference, temporarily, done, unless_stop, in_block, begins_with}, Expressions.{tested, fitting, Calls, eval, place_of}, Statements.{Flow, next, returned, loop, left_by, exec_all, is_positive, right_value, done_simple, initialised, declared, done_first, done_step, done_test, exec}, Cells.{element_cells, instance_mode}}
-use Rattle.sharc_flat.specs.{declared.op.Op.Op, Places.{lvalue_of, Target, base_width, beside_field, store_code, target, width_code, index_width, object_spot}, Scope.{no_text, Context, int_count, ref_count, at_site, ends_from, leaves, slot_of}, declared.slot.Slot.Slot, Flattened.{truth_code, Around, opened, looping, result_code, zero_code, jump_code, return_code, loop_code, choice_code, statements_code, behind_statements, IsFlattened, expression_code, place_code, right_code, simple_code, initial_code, local_code, first_code, behind_first, step_code, turn_code, if_code, statement_code, behind_statement}, Suits.{RightSuits, LeftSuits, SimpleSuits, InitialSuits, FirstSuits, in_first, TestSuits, IfThere, is_declaration, in_statement, StatementSuits, StatementsSuit}}
-use Rattle.sharc_flat.specs.declared.op.Op.TheVariants as op
-use Rattle.sharc_code.specs.declared.code.Use.TheVariants as uses
+use Rattle.sharc_flat.proofs.{Imports.{◌≡◌, ℕ, ◌+◌, ◌≤◌, Bool, true, false, cond, List, [], ◌∷◌, ◌++◌, length, Option, Some, None, refl, sym, ap, ◌∙◌, subst, arith, append_assoc, length-append, append-nil, ℤ, pos, unsigned_abs, Act, Span, Expression, Right, value, malloc, Simple, assign, does_call, Local, First, nothing, declares, does, Statement, empty, block, declare, simple, jump, return, if_then, if_then_else, while, for, Statements, no_statements, statement, span_of, Declaration, Kind, is_integer, int, declared_kind, Assignment, Sharing, private, mode_in, pointed, written, row_at, declared_row, stored, Run, ◌>>=◌, ◌>>◌, give, entered, answered, value_of, is_reference, temporarily, done, unless_stop, in_block, begins_with, tested, fitting, Calls, eval, place_of, Flow, next, returned, loop, left_by, exec_all, is_positive, right_value, done_simple, initialised, declared, done_first, done_step, done_test, element_cells, instance_mode, Op, lvalue_of, Target, base_width, beside_field, store_code, target, width_code, index_width, object_spot, no_text, Context, int_count, ref_count, at_site, ends_from, leaves, slot_of, Slot, truth_code, Around, opened, looping, result_code, zero_code, jump_code, return_code, loop_code, choice_code, statements_code, behind_statements, IsFlattened, expression_code, place_code, right_code, simple_code, initial_code, local_code, first_code, behind_first, step_code, turn_code, if_code, statement_code, behind_statement, RightSuits, LeftSuits, SimpleSuits, InitialSuits, FirstSuits, in_first, TestSuits, IfThere, is_declaration, in_statement, StatementSuits, StatementsSuit, Use, kind_at, Trap}, Runs.{HasAt, has_front, Same, weaken, bind, enters_at}, Agreeing.{Standing, place, holding, same_frame}, Accessing.context, Values.{RunsAs, PlaceAs}, Testing.{TestAs, fitting_runs, tested_runs}, Executing.{After, Here, Beyond, StatementAs, entered_statement, block_runs, closed_runs}, Statements.{StepAs, step_then, DecidesAs, loop_runs, no_more, one_more, jump_runs, empty_runs, decides_runs, always_runs, if_runs, choice_runs}, Linking.CallsAs, Taking.{need_more, entered_more, new_runs}, Expressing.give_int, Inducing.{eval_runs, place_runs}, Assigning.{assign_cell_runs, assign_name_runs, call_runs}, Declaring.{begin_runs, initial_runs, return_none_runs, return_value_runs, headed_runs}}
+use Rattle.sharc_meaning.specs.Statements.{exec}
 use Rattle.sharc_flat.specs.Places as targets
-use Rattle.sharc_flat.proofs.{Runs.{HasAt, has_front, Same, weaken, bind, enters_at}, Agreeing.{Standing, place, holding, same_frame}, Accessing.context, Values.{RunsAs, PlaceAs}, Testing.{TestAs, fitting_runs, tested_runs}, Executing.{After, Here, Beyond, StatementAs, entered_statement, block_runs, closed_runs}, Statements.{StepAs, step_then, DecidesAs, loop_runs, no_more, one_more, jump_runs, empty_runs, decides_runs, always_runs, if_runs, choice_runs}, Linking.CallsAs, Taking.{need_more, entered_more, new_runs}, Expressing.give_int, Inducing.{eval_runs, place_runs}, Assigning.{assign_cell_runs, assign_name_runs, call_runs}, Declaring.{begin_runs, initial_runs, return_none_runs, return_value_runs, headed_runs}}
-use Rattle.sharc_ctype.specs.Resolved.{kind_at}
-use Rattle.sharc_tree.specs.declared.trap.Trap.TheVariants as traps
 
 module _ (m : Assignment) (z : Standing) (result : Kind) (ints0 : ℕ → ℤ) (on_call : Calls) (n : ℕ) (calls_as : CallsAs m on_call n) (is : IsFlattened m z.flat) (room : length z.frames + n ≡ 255) where
   abbrev C : List Slot → Context
@@ -28,10 +17,10 @@ module _ (m : Assignment) (z : Standing) (result : Kind) (ints0 : ℕ → ℤ) (
   K e = kind_at m.typed e
 
   abbrev New : Run ℤ → Span → Sharing → ℕ → Run ℤ
-  New count s mode cells = count >>= λ v. unless_stop (is_positive v) traps.SizeNotPositive s.first >> (λ u. answered s.first (acts.New cells (unsigned_abs v) (instance_mode m.typed (value_of u) mode)) u)
+  New count s mode cells = count >>= λ v. unless_stop (is_positive v) Trap.SizeNotPositive s.first >> (λ u. answered s.first (Act.New cells (unsigned_abs v) (instance_mode m.typed (value_of u) mode)) u)
 
   abbrev new_op : List Slot → (ℕ → ℕ → List Op) → Span → Sharing → ℕ → ℕ → ℕ → List Op
-  new_op scope counts s mode cells i r = counts i r ++ (op.ChkPositive i (at_site s.first) ∷ op.New r i cells (object_spot (C scope) s.first no_text uses.Other mode) ∷ [])
+  new_op scope counts s mode cells i r = counts i r ++ (Op.ChkPositive i (at_site s.first) ∷ Op.New r i cells (object_spot (C scope) s.first no_text Use.Other mode) ∷ [])
 
   -- the right side of `=`
   record RightRuns (scope : List Slot) (kind : Kind) (mode : Sharing) (x : Right) : Type 0 where
@@ -46,13 +35,13 @@ module _ (m : Assignment) (z : Standing) (result : Kind) (ints0 : ℕ → ℤ) (
     kr = kind;
     same = refl;
     scalar = λ e. absurd (cc (h.0, e));
-    runs = entered_more m z scope kind 9 3 (New (give (pos 1)) s mode (element_cells m.typed (declared_kind w))) (new_op scope (λ i r. op.Constant i (pos 1) ∷ []) s mode (element_cells m.typed (declared_kind w))) (omega arith) (new_runs m z scope int kind 7 (give (pos 1)) (λ i r. op.Constant i (pos 1) ∷ []) s.first no_text uses.Other mode (element_cells m.typed (declared_kind w)) refl h.0 h.1 (give_int m z scope int (pos 1) refl));
+    runs = entered_more m z scope kind 9 3 (New (give (pos 1)) s mode (element_cells m.typed (declared_kind w))) (new_op scope (λ i r. Op.Constant i (pos 1) ∷ []) s mode (element_cells m.typed (declared_kind w))) (omega arith) (new_runs m z scope int kind 7 (give (pos 1)) (λ i r. Op.Constant i (pos 1) ∷ []) s.first no_text Use.Other mode (element_cells m.typed (declared_kind w)) refl h.0 h.1 (give_int m z scope int (pos 1) refl));
   }
   right_runs scope kind mode (malloc s (Some x) w) h = record {
     kr = kind;
     same = refl;
     scalar = λ e. absurd (cc (h.0, e));
-    runs = entered_more m z scope kind 2 3 (New (E x) s mode (element_cells m.typed (declared_kind w))) (new_op scope (X scope x) s mode (element_cells m.typed (declared_kind w))) (omega arith) (new_runs m z scope (K x) kind 0 (E x) (X scope x) s.first no_text uses.Other mode (element_cells m.typed (declared_kind w)) h.2.1 h.0 h.1 (eval_runs m z scope on_call n calls_as is room x h.2.0));
+    runs = entered_more m z scope kind 2 3 (New (E x) s mode (element_cells m.typed (declared_kind w))) (new_op scope (X scope x) s mode (element_cells m.typed (declared_kind w))) (omega arith) (new_runs m z scope (K x) kind 0 (E x) (X scope x) s.first no_text Use.Other mode (element_cells m.typed (declared_kind w)) h.2.1 h.0 h.1 (eval_runs m z scope on_call n calls_as is room x h.2.0));
   }
 
   abbrev Steps : List Slot → List Slot → ℕ → Run (Unit {0}) → List Op → Type 0
@@ -64,9 +53,9 @@ module _ (m : Assignment) (z : Standing) (result : Kind) (ints0 : ℕ → ℤ) (
       weaken z.flat s.fuel (c + ref_count scope) (c + 0 + ref_count scope) _ s.answers _ (omega arith)
       (subst (λ q. Same z.flat s.fuel (c + ref_count scope) (k tt s) s.answers (place z q ints refs s)) p (rest ints refs s st))
 
-  entered_step : (scope scope' : List Slot) (need : ℕ) (run : Run (Unit {0})) (code : List Op) → need ≤ 7 → Steps scope scope' need run code → Steps scope scope' 0 (entered run) (op.Enter ∷ code)
+  entered_step : (scope scope' : List Slot) (need : ℕ) (run : Run (Unit {0})) (code : List Op) → need ≤ 7 → Steps scope scope' need run code → Steps scope scope' 0 (entered run) (Op.Enter ∷ code)
   entered_step scope scope' need run code few of_run pc c ints refs s k has st rest =
-      let end : pc + 1 + length code ≡ pc + length (op.Enter ∷ code) = omega arith in
+      let end : pc + 1 + length code ≡ pc + length (Op.Enter ∷ code) = omega arith in
       weaken z.flat s.fuel (c + ref_count scope) (c + 0 + ref_count scope) _ s.answers _ (omega arith)
       (enters_at z.flat s.fuel (c + ref_count scope) run k s (place z pc ints refs s) (place z (pc + 1) ints refs s) refl (holding z [] scope ints refs s st.agree) refl refl has.0 refl
       (λ f. weaken z.flat f (c + need + ref_count scope) (c + ref_count scope + 7) _ s.answers _ (omega arith)
@@ -135,7 +124,7 @@ module _ (m : Assignment) (z : Standing) (result : Kind) (ints0 : ℕ → ℤ) (
   turn_length scope None k = refl
   turn_length scope (Some e) k =
       let t = X scope e (int_count scope) (ref_count scope) ++ truth_code (is_reference (K e)) (int_count scope) (ref_count scope) in
-      length-append t (op.SkipIfZero (int_count scope) k ∷ []) ∙ sym (length-append t (op.SkipIfZero (int_count scope) 0 ∷ []))
+      length-append t (Op.SkipIfZero (int_count scope) k ∷ []) ∙ sym (length-append t (Op.SkipIfZero (int_count scope) 0 ∷ []))
 
   step_runs : (scope : List Slot) (x : Option Simple) → IfThere (SimpleSuits (C scope)) x → Steps scope scope 0 (done_step on_call m x) (step_code (C scope) x)
   step_runs scope None h = no_step scope
@@ -214,7 +203,7 @@ module _ (m : Assignment) (z : Standing) (result : Kind) (ints0 : ℕ → ℤ) (
         → Runs1 a scope (behind_statement (C scope) x).scope (exec on_call m result x) (λ pc. statement_code (C scope) a pc x)
     statement_runs (empty s) a scope in_loop er il h = entered_statement m z result ints0 a (Here m z result ints0 scope) scope scope 1 (give next) (λ pc. []) (omega arith) (empty_runs m z result ints0 a scope)
     statement_runs (block s all) a scope in_loop er il h =
-        entered_statement m z result ints0 a (Here m z result ints0 scope) scope scope 2 (in_block (exec_all on_call m result all)) (λ pc. (statements_code (C scope) (opened (C scope) a) pc all ++ ends_from (behind_statements (C scope) all).scope (length scope)) ++ op.BlockEnd ∷ []) (omega arith)
+        entered_statement m z result ints0 a (Here m z result ints0 scope) scope scope 2 (in_block (exec_all on_call m result all)) (λ pc. (statements_code (C scope) (opened (C scope) a) pc all ++ ends_from (behind_statements (C scope) all).scope (length scope)) ++ Op.BlockEnd ∷ []) (omega arith)
         (closed_runs m z result ints0 a scope 1 (in_block (exec_all on_call m result all)) (λ pc. statements_code (C scope) (opened (C scope) a) pc all ++ ends_from (behind_statements (C scope) all).scope (length scope))
         (block_runs m z result ints0 a scope (behind_statements (C scope) all).scope 1 (exec_all on_call m result all) (λ pc. statements_code (C scope) (opened (C scope) a) pc all) (beyond_all scope all) (statements_run all (opened (C scope) a) scope in_loop er il h)))
     statement_runs (declare s l) a scope in_loop er il h =
@@ -227,11 +216,11 @@ module _ (m : Assignment) (z : Standing) (result : Kind) (ints0 : ℕ → ℤ) (
         entered_statement m z result ints0 a (Here m z result ints0 scope) scope scope 3 (give (left_by j)) (λ pc. jump_code (C scope) a j) (omega arith) (jump_runs m z result ints0 a scope j (il h))
     statement_runs (return s None) a scope in_loop er il h =
         entered_statement m z result ints0 a (Here m z result ints0 scope) scope scope 4 (give (returned s.first (pos 0))) (λ pc. return_code (C scope) a s.first None) (omega arith)
-        (subst (λ q. here a scope scope 4 (give (returned s.first (pos 0))) (λ pc. leaves scope (a.inside ++ a.outside) ++ (zero_code (is_reference q) 0 0 ++ op.Return (at_site s.first) ∷ []))) (sym er) (return_none_runs m z result ints0 a scope s.first))
+        (subst (λ q. here a scope scope 4 (give (returned s.first (pos 0))) (λ pc. leaves scope (a.inside ++ a.outside) ++ (zero_code (is_reference q) 0 0 ++ Op.Return (at_site s.first) ∷ []))) (sym er) (return_none_runs m z result ints0 a scope s.first))
     statement_runs (return s (Some e)) a scope in_loop er il h =
         entered_statement m z result ints0 a (Here m z result ints0 scope) scope scope 1 (fitting result e (E e) >>= λ v. give (returned s.first v)) (λ pc. return_code (C scope) a s.first (Some e)) (omega arith)
-        (subst (λ q. here a scope scope 1 (fitting result e (E e) >>= λ v. give (returned s.first v)) (λ pc. X scope e (int_count scope) (ref_count scope) ++ (width_code (int_count scope) q (span_of e).first ++ (leaves scope (a.inside ++ a.outside) ++ (result_code (is_reference q) (int_count scope) (ref_count scope) ++ op.Return (at_site s.first) ∷ []))))) (sym er)
-        (λ pc c ints refs u k has st rest. let code_is = append_assoc (X scope e (int_count scope) (ref_count scope)) (width_code (int_count scope) result (span_of e).first) (leaves scope (a.inside ++ a.outside) ++ (result_code (is_reference result) (int_count scope) (ref_count scope) ++ op.Return (at_site s.first) ∷ [])) in
+        (subst (λ q. here a scope scope 1 (fitting result e (E e) >>= λ v. give (returned s.first v)) (λ pc. X scope e (int_count scope) (ref_count scope) ++ (width_code (int_count scope) q (span_of e).first ++ (leaves scope (a.inside ++ a.outside) ++ (result_code (is_reference q) (int_count scope) (ref_count scope) ++ Op.Return (at_site s.first) ∷ []))))) (sym er)
+        (λ pc c ints refs u k has st rest. let code_is = append_assoc (X scope e (int_count scope) (ref_count scope)) (width_code (int_count scope) result (span_of e).first) (leaves scope (a.inside ++ a.outside) ++ (result_code (is_reference result) (int_count scope) (ref_count scope) ++ Op.Return (at_site s.first) ∷ [])) in
         return_value_runs m z result ints0 a scope s.first (K e) (fitting result e (E e)) (λ i r. X scope e i r ++ width_code i result (span_of e).first) h.1.0 h.1.2 (fitting_runs m z scope result (K e) e (E e) (X scope e) h.1.2 (eval_runs m z scope on_call n calls_as is room e h.0))
         pc c ints refs u k (subst (HasAt z.flat.lines pc) (sym code_is) has) st (subst (λ l. After m z result ints0 a (Here m z result ints0 scope) (pc + length l) scope c k) (sym code_is) rest)))
     statement_runs (if_then s e x) a scope in_loop er il h =

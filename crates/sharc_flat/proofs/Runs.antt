@@ -1,11 +1,5 @@
 -- Flat code asks for what the source asks for: what the parts of the meaning are to the machine.
-use Rattle.std.proofs.Common.{◌≡◌, ℕ, zero, suc, ◌+◌, ◌*◌, ◌≤◌, List, [], ◌∷◌, ◌++◌, length, take, drop, Some, refl, sym, ap, ◌∙◌, subst, arith}
-use Rattle.std.specs.Prelude.{ℤ, pos, slice_get}
-use Rattle.sharc_tree.specs.{declared.event.Act.Act, declared.event.SourceEvent.SourceEvent, declared.token.Site.Site}
-use Rattle.sharc_meaning.specs.{declared.given.GivenUp.GivenUp, State.{State, Outcome, wants, spent, Out, go, over, Run, then_on, enters_with, happens, answer_of, event_of, value_in, all_released, ends_temporaries, ends_variables, pointers_among, held_references}}
-use Rattle.sharc_flat.specs.{declared.op.Op.Op, declared.op.Spot.Spot, Machine.{Flat, At, goes, asks, halts, Came, exec, on_turn, on_answer, with_event, line_turn, op_turn}}
-use Rattle.sharc_flat.specs.declared.op.Op.TheVariants as op
-use Rattle.sharc_flat.proofs.Banks.{Bank}
+use Rattle.sharc_flat.proofs.{Imports.{◌≡◌, ℕ, zero, suc, ◌+◌, ◌*◌, ◌≤◌, List, [], ◌∷◌, ◌++◌, length, take, drop, Some, refl, sym, ap, ◌∙◌, subst, arith, ℤ, pos, slice_get, Act, SourceEvent, Site, GivenUp, State, Outcome, wants, spent, Out, go, over, Run, then_on, enters_with, happens, answer_of, event_of, value_in, all_released, ends_temporaries, ends_variables, pointers_among, held_references, Op, Spot, Flat, At, goes, asks, halts, Came, exec, on_turn, on_answer, with_event, line_turn, op_turn}, Banks.Bank}
 
 -- these statements are in the code at this place
 abbrev pub HasAt : List Op → ℕ → List Op → Type 0
@@ -117,7 +111,7 @@ unblock flat fuel c n answers (go x s) k m h = h
 unblock flat fuel c n answers (over o s) k m h = h
 
 -- one more is entered
-pub enters_at : (flat : Flat) {A : Type 0} (n c : ℕ) (a : Run A) (k : A → State → Fin) (s : State) (m m' : At) → s.fuel ≡ n → Holds m.refs s → m.events ≡ s.events → m.given ≡ s.given_up → slice_get flat.lines m.pc ≡ Some op.Enter → op_turn flat op.Enter m ≡ goes m'
+pub enters_at : (flat : Flat) {A : Type 0} (n c : ℕ) (a : Run A) (k : A → State → Fin) (s : State) (m m' : At) → s.fuel ≡ n → Holds m.refs s → m.events ≡ s.events → m.given ≡ s.given_up → slice_get flat.lines m.pc ≡ Some Op.Enter → op_turn flat Op.Enter m ≡ goes m'
     → ((f : ℕ) → Same flat f (c + 7) (fin_then (a (record s { fuel = f })) k) s.answers m') → Same flat n c (fin_then (then_on (enters_with n s) (λ _. a)) k) s.answers m
 enters_at flat zero c a k s m m' e holds ev gi at is h = is_spent flat c s m e holds ev gi
 enters_at flat (suc n) c a k s m m' e holds ev gi at is h =

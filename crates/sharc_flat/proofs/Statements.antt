@@ -1,13 +1,6 @@
 -- Lists of statements, choices, loops, jumps and returns.
-use Rattle.std.proofs.{Common.{◌≡◌, ℕ, zero, suc, ◌+◌, ◌≤◌, Bool, true, false, cond, List, [], ◌∷◌, ◌++◌, length, Some, refl, sym, ap, ◌∙◌, subst, arith, append_assoc, length-append}, lemmas.List.append-nil}
-use Rattle.std.specs.Prelude.{ℤ, slice_get, not}
-use Rattle.sharc_names.specs.Kinds.{Kind}
-use Rattle.sharc_mode.specs.Moded.{Assignment}
-use Rattle.sharc_meaning.specs.{State.{State, Run, ◌>>=◌, ◌>>◌, give, spent}, Arithmetic.is_zero, Statements.{Flow, next, on_next, on_turn, turns, loop, left_by}}
-use Rattle.sharc_flat.specs.{declared.op.Op.Op, declared.op.Spot.Spot, Machine.{goes, next as on, over_lines}, Scope.{int_count, ref_count}, declared.slot.Slot.Slot, Flattened.{Around, looping, turns_code, jump_code}}
-use Rattle.sharc_flat.specs.declared.op.Op.TheVariants as op
-use Rattle.sharc_flat.proofs.{Runs.{HasAt, has_front, has_back, Fin, fin_of, fin_then, Same, weaken, step, Holds, bind}, Agreeing.{Standing, place, holding}, Accessing.context, Testing.TestAs, Executing.{Stand, After, Here, Beyond, StatementAs, after_less, after_at}}
-use Rattle.sharc_tree.specs.{declared.tree.statement.Jump.Jump, declared.tree.statement.Jump.TheVariants.{Break, Continue}}
+use Rattle.sharc_flat.proofs.{Imports.{◌≡◌, ℕ, zero, suc, ◌+◌, ◌≤◌, Bool, true, false, cond, List, [], ◌∷◌, ◌++◌, length, Some, refl, sym, ap, ◌∙◌, subst, arith, append_assoc, length-append, append-nil, ℤ, slice_get, not, Kind, Assignment, State, Run, ◌>>=◌, ◌>>◌, give, spent, is_zero, Flow, next, on_next, turns, loop, left_by, Op, Spot, goes, on, over_lines, int_count, ref_count, Slot, Around, looping, turns_code, jump_code, Jump, Break, Continue}, Runs.{HasAt, has_front, has_back, Fin, fin_of, fin_then, Same, weaken, step, Holds, bind}, Agreeing.{Standing, place, holding}, Accessing.context, Testing.TestAs, Executing.{Stand, After, Here, Beyond, StatementAs, after_less, after_at}}
+use Rattle.sharc_meaning.specs.Statements.{on_turn}
 
 module _ (m : Assignment) (z : Standing) (kind : Kind) (ints0 : ℕ → ℤ) where
   spent_here : (c : ℕ) (s : State) (pc : ℕ) (ints refs : ℕ → ℤ) → Holds refs s → Same z.flat s.fuel c (fin_of spent s) s.answers (place z pc ints refs s)
@@ -75,17 +68,17 @@ module _ (m : Assignment) (z : Standing) (kind : Kind) (ints0 : ℕ → ℤ) whe
       → ((ints' refs' : ℕ → ℤ) (s' : State) → S scope [] ints' refs' s' → Same z.flat s'.fuel (c + 1 + ref_count scope) (k false s') s'.answers (place z (pc + length (code n) + n) ints' refs' s'))
       → Same z.flat s.fuel (c + ref_count scope) (fin_then (run s) k) s.answers (place z pc ints refs s)
 
-  chooses : (b : Bool) (i n pc c : ℕ) (ints refs : ℕ → ℤ) (s : State) (k : Bool → State → Fin) → slice_get z.flat.lines pc ≡ Some (op.SkipIfZero i n) → is_zero (ints (z.ints + i)) ≡ not b
+  chooses : (b : Bool) (i n pc c : ℕ) (ints refs : ℕ → ℤ) (s : State) (k : Bool → State → Fin) → slice_get z.flat.lines pc ≡ Some (Op.SkipIfZero i n) → is_zero (ints (z.ints + i)) ≡ not b
       → Same z.flat s.fuel c (k true s) s.answers (place z (pc + 1) ints refs s) → Same z.flat s.fuel c (k false s) s.answers (place z (pc + 1 + n) ints refs s) → Same z.flat s.fuel (c + 1) (k b s) s.answers (place z pc ints refs s)
-  chooses true i n pc c ints refs s k at e yes_runs no_runs = step z.flat (op.SkipIfZero i n) s.fuel c (k true s) s.answers (place z pc ints refs s) _ at (ap (λ b. goes (cond b (over_lines n (place z pc ints refs s)) (on (place z pc ints refs s)))) e) yes_runs
-  chooses false i n pc c ints refs s k at e yes_runs no_runs = step z.flat (op.SkipIfZero i n) s.fuel c (k false s) s.answers (place z pc ints refs s) _ at (ap (λ b. goes (cond b (over_lines n (place z pc ints refs s)) (on (place z pc ints refs s)))) e) no_runs
+  chooses true i n pc c ints refs s k at e yes_runs no_runs = step z.flat (Op.SkipIfZero i n) s.fuel c (k true s) s.answers (place z pc ints refs s) _ at (ap (λ b. goes (cond b (over_lines n (place z pc ints refs s)) (on (place z pc ints refs s)))) e) yes_runs
+  chooses false i n pc c ints refs s k at e yes_runs no_runs = step z.flat (Op.SkipIfZero i n) s.fuel c (k false s) s.answers (place z pc ints refs s) _ at (ap (λ b. goes (cond b (over_lines n (place z pc ints refs s)) (on (place z pc ints refs s)))) e) no_runs
 
-  pub decides_runs : (scope : List Slot) (run : Run Bool) (ct : ℕ → ℕ → List Op) → TestAs m z scope run ct → DecidesAs scope 1 run (λ n. ct (int_count scope) (ref_count scope) ++ op.SkipIfZero (int_count scope) n ∷ [])
+  pub decides_runs : (scope : List Slot) (run : Run Bool) (ct : ℕ → ℕ → List Op) → TestAs m z scope run ct → DecidesAs scope 1 run (λ n. ct (int_count scope) (ref_count scope) ++ Op.SkipIfZero (int_count scope) n ∷ [])
   decides_runs scope run ct of_run n pc c ints refs s k has st yes_runs no_runs =
       let i = int_count scope in
       let r = ref_count scope in
       let t = ct i r in
-      let o = op.SkipIfZero i n in
+      let o = Op.SkipIfZero i n in
       let has_o = (has_back z.flat.lines pc t (o ∷ []) has).0 in
       let r_is : r ≡ r + 0 = omega arith in
       let behind_is : pc + length t + 1 ≡ pc + length (t ++ o ∷ []) = omega (arith, length-append t (o ∷ [])) in
@@ -126,13 +119,13 @@ module _ (m : Assignment) (z : Standing) (kind : Kind) (ints0 : ℕ → ℤ) whe
   pub choice_runs : (a : Around) (scope : List Slot) (run : Run Bool) (ct : ℕ → List Op) (first second : Run Flow) (ca cb : ℕ → List Op) → DecidesAs scope 1 run ct
       → StatementAs m z kind ints0 a (Here m z kind ints0 scope) scope scope 0 first ca → StatementAs m z kind ints0 a (Here m z kind ints0 scope) scope scope 0 second cb → ((n : ℕ) → length (ct n) ≡ length (ct 0))
       → StatementAs m z kind ints0 a (Here m z kind ints0 scope) scope scope 0 (run >>= λ b. cond b first second)
-      (λ pc. ct (length (ca (pc + length (ct 0))) + 1) ++ (ca (pc + length (ct 0)) ++ (op.Skip (length (cb (pc + length (ct 0) + length (ca (pc + length (ct 0))) + 1))) ∷ cb (pc + length (ct 0) + length (ca (pc + length (ct 0))) + 1))))
+      (λ pc. ct (length (ca (pc + length (ct 0))) + 1) ++ (ca (pc + length (ct 0)) ++ (Op.Skip (length (cb (pc + length (ct 0) + length (ca (pc + length (ct 0))) + 1))) ∷ cb (pc + length (ct 0) + length (ca (pc + length (ct 0))) + 1))))
   choice_runs a scope run ct first second ca cb decides of_a of_b len pc c ints refs s k has st rest =
       let A = ca (pc + length (ct 0)) in
       let pb = pc + length (ct 0) + length A + 1 in
       let B = cb pb in
       let t = ct (length A + 1) in
-      let tail = op.Skip (length B) ∷ B in
+      let tail = Op.Skip (length B) ∷ B in
       let same : pc + length t ≡ pc + length (ct 0) = ap (λ q. pc + q) (len (length A + 1)) in
       let has1 : HasAt z.flat.lines (pc + length (ct 0)) (A ++ tail) = subst (λ q. HasAt z.flat.lines q (A ++ tail)) same (has_back z.flat.lines pc t (A ++ tail) has) in
       let has2 = has_back z.flat.lines (pc + length (ct 0)) A tail has1 in
@@ -148,7 +141,7 @@ module _ (m : Assignment) (z : Standing) (kind : Kind) (ints0 : ℕ → ℤ) whe
         next_runs = λ ints2 refs2 s2 st2.
             let credit : c + 1 + ref_count scope + 1 ≡ c + 1 + 1 + ref_count scope = omega arith in
             subst (λ q. Same z.flat s2.fuel q (k next s2) s2.answers (place z (pc + length (ct 0) + length A) ints2 refs2 s2)) credit
-            (step z.flat (op.Skip (length B)) s2.fuel (c + 1 + ref_count scope) (k next s2) s2.answers (place z (pc + length (ct 0) + length A) ints2 refs2 s2) (place z (pc + length (ct 0) + length A + 1 + length B) ints2 refs2 s2) has2.0 refl
+            (step z.flat (Op.Skip (length B)) s2.fuel (c + 1 + ref_count scope) (k next s2) s2.answers (place z (pc + length (ct 0) + length A) ints2 refs2 s2) (place z (pc + length (ct 0) + length A + 1 + length B) ints2 refs2 s2) has2.0 refl
             (subst (λ q. Same z.flat s2.fuel (c + 1 + ref_count scope) (k next s2) s2.answers (place z q ints2 refs2 s2)) (sym over_is) (rest.next_runs ints2 refs2 s2 st2)));
         broken_runs = (after_less m z kind ints0 a (Here m z kind ints0 scope) _ scope c (c + 1) k (omega arith) rest).broken_runs;
         continued_runs = (after_less m z kind ints0 a (Here m z kind ints0 scope) _ scope c (c + 1) k (omega arith) rest).continued_runs;
@@ -172,7 +165,7 @@ module _ (m : Assignment) (z : Standing) (kind : Kind) (ints0 : ℕ → ℤ) whe
     test_of = ct (length body_code + length cs + 1)
 
     abbrev back : List Op
-    back = op.Jump (pc + 3) ∷ []
+    back = Op.Jump (pc + 3) ∷ []
 
     abbrev at_step : ℕ
     at_step = at_body + length body_code
@@ -190,7 +183,7 @@ module _ (m : Assignment) (z : Standing) (kind : Kind) (ints0 : ℕ → ℤ) whe
       has_step : HasAt z.flat.lines at_step (cs ++ back)
       has_step = has_back z.flat.lines at_body body_code _ has_body
 
-      has_jump : slice_get z.flat.lines (at_step + length cs) ≡ Some (op.Jump (pc + 3))
+      has_jump : slice_get z.flat.lines (at_step + length cs) ≡ Some (Op.Jump (pc + 3))
       has_jump = (has_back z.flat.lines at_step cs _ has_step).0
 
       whole_length : length whole ≡ 3 + length test_of + length body_code + length cs + 1
@@ -203,7 +196,7 @@ module _ (m : Assignment) (z : Standing) (kind : Kind) (ints0 : ℕ → ℤ) whe
           let credit : c + 1 + ref_count scope + 1 ≡ c + 2 + ref_count scope = omega arith in
           let to : pc + length whole ≡ pc + 1 + 1 + over = omega (arith, whole_length) in
           subst (λ q. Same z.flat s.fuel q (k next s) s.answers (place z (pc + 1) ints refs s)) credit
-          (step z.flat (op.Skip over) s.fuel (c + 1 + ref_count scope) (k next s) s.answers (place z (pc + 1) ints refs s) (place z (pc + 1 + 1 + over) ints refs s) has.1.0 refl
+          (step z.flat (Op.Skip over) s.fuel (c + 1 + ref_count scope) (k next s) s.answers (place z (pc + 1) ints refs s) (place z (pc + 1 + 1 + over) ints refs s) has.1.0 refl
           (subst (λ q. Same z.flat s.fuel (c + 1 + ref_count scope) (k next s) s.answers (place z q ints refs s)) to (rest.next_runs ints refs s st)))
 
       -- from the step, and back
@@ -215,7 +208,7 @@ module _ (m : Assignment) (z : Standing) (kind : Kind) (ints0 : ℕ → ℤ) whe
           (weaken z.flat s.fuel (c + 1 + 0 + ref_count scope) (c + 1 + ref_count scope) _ s.answers _ (omega arith)
           (updates at_step (c + 1) ints refs s (λ _ u. fin_then (again u) k) (has_front z.flat.lines at_step cs _ has_step) st (λ ints1 refs1 s1 st1.
           subst (λ q. Same z.flat s1.fuel q (fin_then (again s1) k) s1.answers (place z (at_step + length cs) ints1 refs1 s1)) credit
-          (step z.flat (op.Jump (pc + 3)) s1.fuel (c + ref_count scope) _ s1.answers (place z (at_step + length cs) ints1 refs1 s1) (place z (pc + 3) ints1 refs1 s1) has_jump refl (ih ints1 refs1 s1 st1)))))
+          (step z.flat (Op.Jump (pc + 3)) s1.fuel (c + ref_count scope) _ s1.answers (place z (at_step + length cs) ints1 refs1 s1) (place z (pc + 3) ints1 refs1 s1) has_jump refl (ih ints1 refs1 s1 st1)))))
 
       -- from the way to the step
       way_runs : (again : Run Flow) → ((ints refs : ℕ → ℤ) (s : State) → S scope [] ints refs s → Same z.flat s.fuel (c + ref_count scope) (fin_then (again s) k) s.answers (place z (pc + 3) ints refs s))
@@ -226,7 +219,7 @@ module _ (m : Assignment) (z : Standing) (kind : Kind) (ints0 : ℕ → ℤ) whe
           let to : at_step ≡ pc + 2 + 1 + over = omega (arith, len (length body_code + length cs + 1)) in
           let two : pc + 1 + 1 ≡ pc + 2 = omega arith in
           subst (λ q. Same z.flat s.fuel q (fin_then ((update >> again) s) k) s.answers (place z (pc + 2) ints refs s)) credit
-          (step z.flat (op.Skip over) s.fuel (c + 1 + ref_count scope) _ s.answers (place z (pc + 2) ints refs s) (place z (pc + 2 + 1 + over) ints refs s) (subst (λ q. slice_get z.flat.lines q ≡ Some (op.Skip over)) two has.1.1.0) refl
+          (step z.flat (Op.Skip over) s.fuel (c + 1 + ref_count scope) _ s.answers (place z (pc + 2) ints refs s) (place z (pc + 2 + 1 + over) ints refs s) (subst (λ q. slice_get z.flat.lines q ≡ Some (Op.Skip over)) two has.1.1.0) refl
           (subst (λ q. Same z.flat s.fuel (c + 1 + ref_count scope) (fin_then ((update >> again) s) k) s.answers (place z q ints refs s)) to (again_runs again ih ints refs s st)))
 
       turns_run : (n : ℕ) (ints refs : ℕ → ℤ) (s : State) → S scope [] ints refs s → Same z.flat s.fuel (c + ref_count scope) (fin_then (turns n test update body s) k) s.answers (place z (pc + 3) ints refs s)
@@ -247,13 +240,13 @@ module _ (m : Assignment) (z : Standing) (kind : Kind) (ints0 : ℕ → ℤ) whe
                 subst (λ q. Same z.flat s2.fuel (c + 3 + ref_count q) (k next s2) s2.answers (place z pc2 ints2 refs2 s2)) (sym l)
                 (let credit : c + 2 + ref_count scope + 1 ≡ c + 3 + ref_count scope = omega arith in
                 subst (λ q. Same z.flat s2.fuel q (k next s2) s2.answers (place z pc2 ints2 refs2 s2)) credit
-                (step z.flat (op.Jump (pc + 1)) s2.fuel (c + 2 + ref_count scope) (k next s2) s2.answers (place z pc2 ints2 refs2 s2) (place z (pc + 1) ints2 refs2 s2) has2.0 refl
+                (step z.flat (Op.Jump (pc + 1)) s2.fuel (c + 2 + ref_count scope) (k next s2) s2.answers (place z pc2 ints2 refs2 s2) (place z (pc + 1) ints2 refs2 s2) has2.0 refl
                 (out_runs ints2 refs2 s2 (subst (λ q. S q [] ints2 refs2 s2) l st2))));
             continued_runs = λ il at l pc2 ints2 refs2 s2 has2 st2.
                 subst (λ q. Same z.flat s2.fuel (c + 3 + ref_count q) (fin_then ((update >> again) s2) k) s2.answers (place z pc2 ints2 refs2 s2)) (sym l)
                 (let credit : c + 2 + ref_count scope + 1 ≡ c + 3 + ref_count scope = omega arith in
                 subst (λ q. Same z.flat s2.fuel q (fin_then ((update >> again) s2) k) s2.answers (place z pc2 ints2 refs2 s2)) credit
-                (step z.flat (op.Jump (pc + 2)) s2.fuel (c + 2 + ref_count scope) _ s2.answers (place z pc2 ints2 refs2 s2) (place z (pc + 2) ints2 refs2 s2) has2.0 refl
+                (step z.flat (Op.Jump (pc + 2)) s2.fuel (c + 2 + ref_count scope) _ s2.answers (place z pc2 ints2 refs2 s2) (place z (pc + 2) ints2 refs2 s2) has2.0 refl
                 (way_runs again (turns_run n) ints2 refs2 s2 (subst (λ q. S q [] ints2 refs2 s2) l st2))));
             returned_runs = λ at l. rest.returned_runs at l;
           })))))
@@ -264,5 +257,5 @@ module _ (m : Assignment) (z : Standing) (kind : Kind) (ints0 : ℕ → ℤ) whe
           let credit : c + ref_count scope + 1 ≡ c + 1 + ref_count scope = omega arith in
           let to : pc + 1 + 2 ≡ pc + 3 = omega arith in
           subst (λ q. Same z.flat s.fuel q (fin_then (loop test update body s) k) s.answers (place z pc ints refs s)) credit
-          (step z.flat (op.Skip 2) s.fuel (c + ref_count scope) _ s.answers (place z pc ints refs s) (place z (pc + 1 + 2) ints refs s) has.0 refl
+          (step z.flat (Op.Skip 2) s.fuel (c + ref_count scope) _ s.answers (place z pc ints refs s) (place z (pc + 1 + 2) ints refs s) has.0 refl
           (subst (λ q. Same z.flat s.fuel (c + ref_count scope) (fin_then (loop test update body s) k) s.answers (place z q ints refs s)) (sym to) (turns_run s.fuel ints refs s st)))

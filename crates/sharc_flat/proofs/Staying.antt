@@ -1,21 +1,10 @@
 -- Forward jumps of the code of an expression stay in it, or lead directly after it, and it has no other jumps.
-use Rattle.std.proofs.Common.{◌≡◌, ℕ, ◌+◌, ◌≤◌, Bool, true, false, cond, List, [], ◌∷◌, ◌++◌, length, drop, Option, Some, None, refl, arith, length-append}
-use Rattle.std.specs.{Prelude.{codes, ◌||◌}, Str.bytes_eq}
-use Rattle.sharc_tree.specs.{declared.token.Site.Site, declared.token.Span.Span, declared.tree.declaration.Identifier.Identifier, declared.tree.expression.FieldOperator.FieldOperator, declared.tree.expression.FieldOperator.TheVariants.{Dot, Arrow}, declared.tree.expression.BinaryOperator.BinaryOperator, declared.tree.expression.BinaryOperator.TheVariants.{LogicalOr, LogicalAnd, Equal, NotEqual, Less, Greater, LessOrEqual, GreaterOrEqual, ShiftLeft, ShiftRight}, declared.tree.expression.PlaceCall.PlaceCall, declared.tree.expression.PlaceCall.TheVariants.{Lock, Unlock, Free}, declared.tree.expression.UnaryOperator.UnaryOperator, declared.tree.expression.UnaryOperator.TheVariants.{Negate, Not, Complement, Dereference}, declared.tree.expression.ValueCall.ValueCall, declared.tree.expression.ValueCall.TheVariants.{Join, Print}, Spans.span_of, Tree.{Expression, identifier, constant, parentheses, call, spawn, on_value, on_place, cast, index, field, unary, binary, Arguments, no_arguments, argument}}
-use Rattle.sharc_names.specs.{declared.fault.Named.Named, Kinds.{int, long, is_long, promoted, common, Kind, is_array, is_integer, element_kind, declared_kinds}}
-use Rattle.sharc_names.specs.declared.fault.Named.TheVariants as named
-use Rattle.sharc_code.specs.{declared.instr.Width.Width, declared.code.Use.Use, declared.instr.Register.Register, declared.instr.Register.TheVariants.{Int, Reference}}
-use Rattle.sharc_code.specs.declared.instr.Width.TheVariants as widths
-use Rattle.sharc_code.specs.declared.code.Use.TheVariants as uses
-use Rattle.sharc_ctype.specs.{Resolved.{kind_at, global_at, Resolution, named_at}, Transfers.parameters_named}
-use Rattle.sharc_mode.specs.Sharings.{Sharing}
-use Rattle.sharc_meaning.specs.{Cells.{element_cells, field_place_named, global_elements}, Expressions.number_named}
-use Rattle.sharc_flat.specs.{declared.op.Op.Op, declared.op.Spot.Spot, Machine.first_cell, Suits.Either, declared.slot.Lvalue.Lvalue, Scope.{Context, register_of, at_site}, Places.{width_of, Target, variable, in_global, target, own_field, has_base, global_of, guard_field, guard_code, drop_base, settle_base, copy_code, cell_value_code, value_code, cell_take_code, take_code, bounds_code, index_code, pointee_code, width_code}, Flattened.{kind_of, is_ref, target_of, mode_of, what_names, constant_code, named_code, drop_code, truth_code, differ_code, compare_code, logical_code, either_code, unary_code, binary_code, behind_int, behind_ref, wait_code, condition_code, called_code, passed_code, spawn_code, value_call_code, unlocked_code, place_call_code, cast_code, guard_of, taken_guard, field_code, unary_place_code, lvalue_code, expression_code, arguments_code, place_code, lvalue_in, with_words, argument_words}}
-use Rattle.sharc_flat.specs.declared.op.Op.TheVariants as op
+use Rattle.sharc_flat.proofs.Imports.{◌≡◌, ℕ, ◌+◌, ◌≤◌, Bool, true, false, cond, List, [], ◌∷◌, ◌++◌, length, drop, Option, Some, None, refl, arith, length-append, codes, ◌||◌, bytes_eq, Site, Span, Identifier, FieldOperator, Dot, Arrow, BinaryOperator, LogicalOr, LogicalAnd, Equal, NotEqual, Less, Greater, LessOrEqual, GreaterOrEqual, ShiftLeft, ShiftRight, PlaceCall, Lock, Unlock, Free, UnaryOperator, Negate, Not, Complement, Dereference, ValueCall, Join, Print, span_of, Expression, identifier, constant, parentheses, call, spawn, on_value, on_place, cast, index, field, unary, binary, Arguments, no_arguments, argument, Named, int, long, is_long, promoted, common, Kind, is_array, is_integer, element_kind, declared_kinds, Width, Use, Register, Int, Reference, kind_at, global_at, Resolution, named_at, parameters_named, Sharing, element_cells, field_place_named, global_elements, number_named, Op, Spot, first_cell, Either, Lvalue, Context, register_of, at_site, width_of, Target, in_global, target, own_field, has_base, global_of, guard_field, guard_code, drop_base, settle_base, copy_code, cell_value_code, value_code, cell_take_code, take_code, bounds_code, index_code, pointee_code, width_code, kind_of, is_ref, target_of, mode_of, what_names, constant_code, named_code, drop_code, truth_code, differ_code, compare_code, logical_code, either_code, unary_code, binary_code, behind_int, behind_ref, wait_code, condition_code, called_code, passed_code, spawn_code, value_call_code, unlocked_code, place_call_code, cast_code, guard_of, taken_guard, field_code, unary_place_code, lvalue_code, expression_code, arguments_code, place_code, lvalue_in, with_words, argument_words}
+use Rattle.sharc_flat.specs.Places.{variable}
 
 -- nothing is computed in a `char`
 abbrev pub Wide : Width → Type 0
-Wide widths.Char = ⊥
+Wide Width.Char = ⊥
 Wide _ = Unit {0}
 
 wide_by : (b : Bool) → Wide (width_of (cond b long int))
@@ -30,7 +19,7 @@ wide_common a b = wide_by (is_long a || is_long b)
 
 -- ---- which functions the calls in an expression name
 abbrev pub KnownName : (ℕ → Type 0) → Named → Type 0
-KnownName F (named.Function f) = F f
+KnownName F (Named.Function f) = F f
 KnownName F _ = Unit {0}
 
 abbrev pub ByAccess : FieldOperator → Type 0 → Type 0 → Type 0
@@ -74,14 +63,14 @@ access_map Arrow f g h = g h
 module _ (A F : ℕ → Type 0) where
   -- an operation with this many after it: a jump leads over them at most, or to one of these places
   abbrev pub OpStays : ℕ → Op → Type 0
-  OpStays rest (op.Skip k) = k ≤ rest
-  OpStays rest (op.SkipIfZero i k) = k ≤ rest
-  OpStays rest (op.SkipIfNull r k) = k ≤ rest
-  OpStays rest (op.Jump to) = A to
-  OpStays rest (op.Compute width o i a b spot) = Wide width
-  OpStays rest (op.Negate width i a spot) = Wide width
-  OpStays rest (op.Call f i r spot) = F f
-  OpStays rest (op.Settle x from) = x ≡ from → ⊥
+  OpStays rest (Op.Skip k) = k ≤ rest
+  OpStays rest (Op.SkipIfZero i k) = k ≤ rest
+  OpStays rest (Op.SkipIfNull r k) = k ≤ rest
+  OpStays rest (Op.Jump to) = A to
+  OpStays rest (Op.Compute width o i a b spot) = Wide width
+  OpStays rest (Op.Negate width i a spot) = Wide width
+  OpStays rest (Op.Call f i r spot) = F f
+  OpStays rest (Op.Settle x from) = x ≡ from → ⊥
   OpStays rest _ = Unit {0}
 
   abbrev pub Stays : List Op → Type 0
@@ -89,14 +78,14 @@ module _ (A F : ℕ → Type 0) where
   Stays (o ∷ os) = OpStays (length os) o × Stays os
 
   longer : (o : Op) (m n : ℕ) → m ≤ n → OpStays m o → OpStays n o
-  longer (op.Compute a b c d e f) m n le h = h
-  longer (op.Negate a b c d) m n le h = h
-  longer (op.Skip a) m n le h = omega arith
-  longer (op.SkipIfZero a b) m n le h = omega arith
-  longer (op.SkipIfNull a b) m n le h = omega arith
-  longer (op.Jump a) m n le h = h
-  longer (op.Call a b c d) m n le h = h
-  longer (op.Settle a b) m n le h = h
+  longer (Op.Compute a b c d e f) m n le h = h
+  longer (Op.Negate a b c d) m n le h = h
+  longer (Op.Skip a) m n le h = omega arith
+  longer (Op.SkipIfZero a b) m n le h = omega arith
+  longer (Op.SkipIfNull a b) m n le h = omega arith
+  longer (Op.Jump a) m n le h = h
+  longer (Op.Call a b c d) m n le h = h
+  longer (Op.Settle a b) m n le h = h
   longer _ m n le h = tt
 
   pub joins : (xs ys : List Op) → Stays xs → Stays ys → Stays (xs ++ ys)
@@ -113,10 +102,10 @@ module _ (A F : ℕ → Type 0) where
     guards i r site lvalue t (Some mutex) = (tt, tt)
 
     pub drops_base : (r : ℕ) (t : Target) → Stays (drop_base r t)
-    drops_base r t = choose (has_base t) (op.Pop r ∷ []) [] (tt, tt) tt
+    drops_base r t = choose (has_base t) (Op.Pop r ∷ []) [] (tt, tt) tt
 
     settles_base : (r : ℕ) (t : Target) → Stays (settle_base r t)
-    settles_base r t = choose (has_base t) (op.Settle r (r + 1) ∷ []) [] ((λ e. absurd (omega arith)), tt) tt
+    settles_base r t = choose (has_base t) (Op.Settle r (r + 1) ∷ []) [] ((λ e. absurd (omega arith)), tt) tt
 
     copies : (i r : ℕ) (x : Register) → Stays (copy_code i r x)
     copies i r (Int x) = (tt, tt)
@@ -141,8 +130,8 @@ module _ (A F : ℕ → Type 0) where
     widths_stay i kind site = choose (is_integer kind) _ [] (tt, tt) tt
 
     names : (i r : ℕ) (site : Site) (lvalue : Lvalue) (mode : Sharing) (b : Bool) (n : Named) → Stays (named_code c i r site lvalue mode b n)
-    names i r site lvalue mode b (named.Variable x) = values i r site lvalue mode b (variable x)
-    names i r site lvalue mode b (named.Global g) = values i r site lvalue mode b (in_global g 0)
+    names i r site lvalue mode b (Named.Variable x) = values i r site lvalue mode b (variable x)
+    names i r site lvalue mode b (Named.Global g) = values i r site lvalue mode b (in_global g 0)
     names i r site lvalue mode b _ = tt
 
     pub truths_stay : (b : Bool) (i r : ℕ) → Stays (truth_code b i r)
@@ -154,20 +143,20 @@ module _ (A F : ℕ → Type 0) where
     differs _ i = tt
 
     compares : (o : BinaryOperator) (i r : ℕ) → Stays (compare_code o i r)
-    compares o i r = (tt, joins (differ_code o i) (op.Pop r ∷ op.Pop (r + 1) ∷ []) (differs o i) (tt, (tt, tt)))
+    compares o i r = (tt, joins (differ_code o i) (Op.Pop r ∷ Op.Pop (r + 1) ∷ []) (differs o i) (tt, (tt, tt)))
 
     logicals : (i : ℕ) (xs ys : List Op) → Stays xs → Stays ys → Stays (logical_code i xs ys)
-    logicals i xs ys a b = joins xs _ a (omega (arith, length-append ys (op.IsFalse i i ∷ op.IsFalse i i ∷ [])), joins ys (op.IsFalse i i ∷ op.IsFalse i i ∷ []) b (tt, (tt, tt)))
+    logicals i xs ys a b = joins xs _ a (omega (arith, length-append ys (Op.IsFalse i i ∷ Op.IsFalse i i ∷ [])), joins ys (Op.IsFalse i i ∷ Op.IsFalse i i ∷ []) b (tt, (tt, tt)))
 
     eithers : (i : ℕ) (xs ys : List Op) → Stays xs → Stays ys → Stays (either_code i xs ys)
-    eithers i xs ys a b = joins xs _ a (tt, (omega (arith, length-append ys (op.IsFalse i i ∷ op.IsFalse i i ∷ [])), joins ys (op.IsFalse i i ∷ op.IsFalse i i ∷ []) b (tt, (tt, tt))))
+    eithers i xs ys a b = joins xs _ a (tt, (omega (arith, length-append ys (Op.IsFalse i i ∷ Op.IsFalse i i ∷ [])), joins ys (Op.IsFalse i i ∷ Op.IsFalse i i ∷ []) b (tt, (tt, tt))))
 
     pointees : (r : ℕ) (site : Site) (xs : List Op) → Stays xs → Stays (pointee_code r site xs)
-    pointees r site xs a = joins xs (op.ChkNull r (at_site site) ∷ []) a (tt, tt)
+    pointees r site xs a = joins xs (Op.ChkNull r (at_site site) ∷ []) a (tt, tt)
 
     unaries : (i r : ℕ) (s : Span) (o : UnaryOperator) (a : Expression) (xs : List Op) → Stays xs → Stays (unary_code c i r s o a xs)
     unaries i r s Negate a xs h = joins xs _ h (wide_promoted (kind_of c a), tt)
-    unaries i r s Not a xs h = joins xs _ h (joins (truth_code (is_ref c a) i r) (op.IsFalse i i ∷ []) (truths_stay (is_ref c a) i r) (tt, tt))
+    unaries i r s Not a xs h = joins xs _ h (joins (truth_code (is_ref c a) i r) (Op.IsFalse i i ∷ []) (truths_stay (is_ref c a) i r) (tt, tt))
     unaries i r s Complement a xs h = joins xs _ h (tt, tt)
     unaries i r s Dereference a xs h = joins (pointee_code r s.first xs) _ (pointees r s.first xs h) (values i r s.first (lvalue_in c (unary s Dereference a)) (mode_of c (unary s Dereference a)) (is_ref c (unary s Dereference a)) (target_of c (unary s Dereference a)))
 
@@ -195,8 +184,8 @@ module _ (A F : ℕ → Type 0) where
     conditions r spot name all = choose (bytes_eq name (codes "wait")) (wait_code r spot (with_words spot (argument_words 0 all)) (with_words spot (argument_words 1 all))) _ (waits r spot (with_words spot (argument_words 0 all)) (with_words spot (argument_words 1 all))) (choose (bytes_eq name (codes "signal")) _ _ (tt, (tt, (tt, tt))) (tt, (tt, (tt, tt))))
 
     calls_stay : (i r : ℕ) (spot : Spot) (n : Named) (name : List ℕ) (all : Arguments) → KnownName F n → Stays (called_code i r spot n name all)
-    calls_stay i r spot (named.Function f) name all h = (h, tt)
-    calls_stay i r spot named.Known name all h = conditions r spot name all
+    calls_stay i r spot (Named.Function f) name all h = (h, tt)
+    calls_stay i r spot Named.Known name all h = conditions r spot name all
     calls_stay i r spot _ name all h = tt
 
     passes_stay : (i : ℕ) (kinds : List Kind) (site : Site) → Stays (passed_code i kinds site)
@@ -209,13 +198,13 @@ module _ (A F : ℕ → Type 0) where
 
     place_calls : (i r : ℕ) (s : Span) (w : PlaceCall) (a : Expression) (xs : List Op) → Stays xs → Stays (place_call_code c i r s w a xs)
     place_calls i r s Lock a xs h = joins xs _ h (tt, (tt, (tt, tt)))
-    place_calls i r s Unlock a xs h = joins xs _ h (tt, (tt, choose (has_base (target_of c a)) (op.Pop (r + 1) ∷ op.Pop r ∷ []) [] (tt, (tt, tt)) tt))
-    place_calls i r s Free a xs h = joins xs _ h (joins (take_code c i r (span_of a).first (lvalue_in c a) (mode_of c a) uses.Free (target_of c a)) _
-        (takes i r (span_of a).first (lvalue_in c a) (mode_of c a) uses.Free (target_of c a)) (omega arith, (tt, tt)))
+    place_calls i r s Unlock a xs h = joins xs _ h (tt, (tt, choose (has_base (target_of c a)) (Op.Pop (r + 1) ∷ Op.Pop r ∷ []) [] (tt, (tt, tt)) tt))
+    place_calls i r s Free a xs h = joins xs _ h (joins (take_code c i r (span_of a).first (lvalue_in c a) (mode_of c a) Use.Free (target_of c a)) _
+        (takes i r (span_of a).first (lvalue_in c a) (mode_of c a) Use.Free (target_of c a)) (omega arith, (tt, tt)))
 
     casts : (i r : ℕ) (s : Span) (a : Expression) (xs : List Op) → Stays xs → Stays (cast_code c i r s a xs)
-    casts i r s a xs h = joins xs _ h (joins (take_code c i r (span_of a).first (lvalue_in c a) (mode_of c a) uses.Cast (target_of c a)) _
-        (takes i r (span_of a).first (lvalue_in c a) (mode_of c a) uses.Cast (target_of c a)) (omega arith, (tt, tt)))
+    casts i r s a xs h = joins xs _ h (joins (take_code c i r (span_of a).first (lvalue_in c a) (mode_of c a) Use.Cast (target_of c a)) _
+        (takes i r (span_of a).first (lvalue_in c a) (mode_of c a) Use.Cast (target_of c a)) (omega arith, (tt, tt)))
 
     bounded : (bounds : ℕ → ℕ → Op) (i n : ℕ) (guard : Option ℕ) → ((i n k : ℕ) → OpStays k (bounds i n)) → Stays (bounds_code bounds i n guard)
     bounded bounds i n None h = (h i n 0, tt)
@@ -228,9 +217,9 @@ module _ (A F : ℕ → Type 0) where
 
     indexes : (i r : ℕ) (site : Site) (f guard : Option ℕ) (a : Expression) (xs ys : List Op) (number : ℕ → List Op) → Either (is_array (kind_at c.program.typed a)) (Stays xs) (Stays ys) → ((d : ℕ) → Stays (number d)) → Stays (index_code c i r site f guard a xs ys number)
     indexes i r site f guard a xs ys number h n =
-        let of_array : ℕ → ℕ → Op = λ i n. op.GlobalBounds i (global_elements (global_at c.program.typed (global_of (target c.program.typed None a)))) (element_cells c.program.typed (element_kind (kind_at c.program.typed a))) (first_cell c.globals (global_of (target c.program.typed None a)) + n) (at_site site) in
-        let of_pointer : ℕ → ℕ → Op = λ i n. op.Bounds i r (element_cells c.program.typed (element_kind (kind_at c.program.typed a))) n (at_site site) in
-        indexes_by (is_array (kind_at c.program.typed a)) r xs ys (bounds_code of_array i (own_field f 0) guard) (bounds_code of_pointer i (own_field f 0) guard) number (op.ChkNull r (at_site site)) tt h n
+        let of_array : ℕ → ℕ → Op = λ i n. Op.GlobalBounds i (global_elements (global_at c.program.typed (global_of (target c.program.typed None a)))) (element_cells c.program.typed (element_kind (kind_at c.program.typed a))) (first_cell c.globals (global_of (target c.program.typed None a)) + n) (at_site site) in
+        let of_pointer : ℕ → ℕ → Op = λ i n. Op.Bounds i r (element_cells c.program.typed (element_kind (kind_at c.program.typed a))) n (at_site site) in
+        indexes_by (is_array (kind_at c.program.typed a)) r xs ys (bounds_code of_array i (own_field f 0) guard) (bounds_code of_pointer i (own_field f 0) guard) number (Op.ChkNull r (at_site site)) tt h n
         (bounded of_array i (own_field f 0) guard (λ i n k. tt)) (bounded of_pointer i (own_field f 0) guard (λ i n k. tt))
 
     fields : (r : ℕ) (site : Site) (f : Option ℕ) (w : FieldOperator) (n : Identifier) (place : Option ℕ → List Op) (pointer : List Op) → ByAccess w ((g : Option ℕ) → Stays (place g)) (Stays pointer) → Stays (field_code c r site f w n place pointer)

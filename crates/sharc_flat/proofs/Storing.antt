@@ -1,16 +1,5 @@
 -- What goes to places, and what is taken from them.
-use Rattle.std.proofs.{Common.{◌≡◌, ℕ, ◌+◌, ◌-◌, ◌<◌, ◌≤◌, Bool, true, false, cond, List, [], ◌∷◌, ◌++◌, length, get_or, take, Option, Some, refl, sym, ap, ◌∙◌, subst, ⊎_elim, arith, length-append}, lemmas.List.{take_at, set-append_left, set-append_right, get_or-set_same, get_or-set_other}, lemmas.Bool.cases_eq}
-use Rattle.std.specs.Prelude.{set, ℤ, pos}
-use Rattle.sharc_tree.specs.declared.event.Act.TheVariants as acts
-use Rattle.sharc_tree.specs.{declared.event.Object.Object, declared.token.Site.Site, declared.token.Span.Span}
-use Rattle.sharc_names.specs.Kinds.{Kind}
-use Rattle.sharc_code.specs.declared.code.Use.TheVariants as uses
-use Rattle.sharc_code.specs.declared.instr.Register.TheVariants.{Int, Reference}
-use Rattle.sharc_mode.specs.{Moded.Assignment, Sharings.Sharing}
-use Rattle.sharc_meaning.specs.{declared.given.GivenUp.TheVariants.{Released, Replaced}, Cells.cell_of, Places.{StorePlace, variable, access_mode, stored}, Reference.number_of, State.{State, Out, go, over, Run, then_on, ◌>>=◌, ◌>>◌, happens, value_of, is_reference, pointers_among, all_released, writes, Step, done, performs, holds_reference, moves_on, gives_up, with_value, with_temporary, without_temporaries}}
-use Rattle.sharc_flat.specs.{declared.op.Op.Op, declared.op.Spot.Spot, Machine.{asks, put, accessed, next as on, set_ref, gives_up as also}, declared.slot.Lvalue.Lvalue, Scope.{Context, ref_count, register_of, number_in, slot_kind}, declared.slot.Slot.Slot, Places.{Target, in_global, in_global_at, in_object, in_object_at, has_base, base_width, field_of, guard_field, beside_field, guard_cell, guard_code, spot_of, drop_base, settle_base, settle_code, cell_store_code, store_code, cell_take_code, take_code}, Suits.PathStands}
-use Rattle.sharc_flat.specs.declared.op.Op.TheVariants as op
-use Rattle.sharc_flat.proofs.{Under.{under, mutex_of, accesses_under}, Banks.{bank_is, bank_set, put_at, put_other}, Runs.{HasAt, has_back, Fin, fin_then, Same, step, without, after_event}, Agreeing.{int_values, PointerAt, pointer_at, IntAt, int_at, Standing, place, Agree, below, drop_last, last_is, hold, same_frame, loose_of}, Accessing.{variable_ref, context, access_runs, pending_place}, Values.{bases_count, loosen, BasesOf, base_ends, AtCell, open_at}}
+use Rattle.sharc_flat.proofs.{Imports.{◌≡◌, ℕ, ◌+◌, ◌-◌, ◌<◌, ◌≤◌, Bool, true, false, cond, List, [], ◌∷◌, ◌++◌, length, get_or, take, Option, Some, refl, sym, ap, ◌∙◌, subst, ⊎_elim, arith, length-append, take_at, set-append_left, set-append_right, get_or-set_same, get_or-set_other, cases_eq, set, ℤ, pos, Act, Object, Site, Span, Kind, Use, Int, Reference, Assignment, Sharing, Released, Replaced, cell_of, StorePlace, variable, access_mode, stored, number_of, State, Out, go, over, Run, then_on, ◌>>=◌, ◌>>◌, happens, value_of, is_reference, pointers_among, all_released, writes, Step, done, performs, holds_reference, moves_on, gives_up, with_value, with_temporary, without_temporaries, Op, Spot, asks, put, accessed, on, set_ref, also, Lvalue, Context, ref_count, register_of, number_in, slot_kind, Slot, Target, in_global, in_global_at, in_object, in_object_at, has_base, base_width, field_of, guard_field, beside_field, guard_cell, guard_code, spot_of, drop_base, settle_base, settle_code, cell_store_code, store_code, cell_take_code, take_code, PathStands}, Under.{under, mutex_of, accesses_under}, Banks.{bank_is, bank_set, put_at, put_other}, Runs.{HasAt, has_back, Fin, fin_then, Same, step, without, after_event}, Agreeing.{int_values, PointerAt, pointer_at, IntAt, int_at, Standing, place, Agree, below, drop_last, last_is, hold, same_frame, loose_of}, Accessing.{variable_ref, context, access_runs, pending_place}, Values.{bases_count, loosen, BasesOf, base_ends, AtCell, open_at}}
 use Rattle.sharc_flat.specs.Places as targets
 
 pub performs_then : {B : Type 0} (o : Out ℤ) (g : Run B) (k : B → State → Fin) → fin_then (then_on (then_on o (λ _. done)) (λ _. g)) k ≡ fin_then o (λ x u. fin_then (g u) k)
@@ -41,7 +30,7 @@ module _ (m : Assignment) (z : Standing) (scope : List Slot) where
   -- what is done, by whether the value is a reference
   abbrev pub stores : Bool → Bool → Site → Sharing → Object → ℕ → ℕ → ℤ → Step
   stores b bp site mode o first n v =
-      (cond b (holds_reference v) done) >> (access_mode m.typed site mode o first >>= λ under. performs site (acts.Write (cell_of o n) under v) >> ((cond b (moves_on 1) done) >> (cond bp (gives_up (Replaced (cell_of o n) ∷ [])) done)))
+      (cond b (holds_reference v) done) >> (access_mode m.typed site mode o first >>= λ under. performs site (Act.Write (cell_of o n) under v) >> ((cond b (moves_on 1) done) >> (cond bp (gives_up (Replaced (cell_of o n) ∷ [])) done)))
 
   module _ (T bases : List ℤ) (t : Target) (guard : Option ℕ) (i r vi vr : ℕ) (ints refs : ℕ → ℤ) (p : StorePlace) (w : AtCell m z scope t guard i r ints refs p)
       (site : Site) (lvalue : Lvalue) (mode : Sharing) (guard_as : guard ≡ beside_field m.typed mode) (path : PathStands m.typed scope mode) (vr_is : vr ≡ r + base_width t) (r_is : r ≡ ref_count scope + length T) (count : BasesOf (has_base t) bases) where
@@ -52,17 +41,17 @@ module _ (m : Assignment) (z : Standing) (scope : List Slot) where
     store_cell false v pc c s k has a value rest =
         let gc = guard_code ctx i r site lvalue t (guard_field m.typed mode) in
         let at = targets.cell_of z.flat.globals i r t in
-        let spot = spot_of ctx i r site lvalue uses.Write mode t in
-        let o = op.Store vi at spot in
+        let spot = spot_of ctx i r site lvalue Use.Write mode t in
+        let o = Op.Store vi at spot in
         let here = cell_of w.object (w.first + field_of t) in
         let two : c + 1 + 2 ≡ c + 3 = omega arith in
         let k1 : Unit {0} → State → Fin = λ x u. k x (without (length T) u) in
         subst (λ n. Same z.flat s.fuel n (fin_then (stores false false site mode w.object w.first (w.first + field_of t) v s) k1) s.answers (place z pc ints refs s)) two
-        (access_runs m z scope (T ++ bases) site spot refl ints refs s a o here (λ mode. acts.Write here mode v) (λ v n. n) (λ q v u. place z (q + 1) ints refs u)
-        (λ q pending u. accesses_under z.flat.globals at spot (λ c mode. acts.Write c mode (ints (z.ints + vi))) (λ c v n. n) (pending_place z q ints refs u pending) (open_at m z scope t guard i r ints refs p w (beside_field m.typed mode) q pending u) ∙ ap (λ x. under spot.mode (mutex_of z.flat.globals (pending_place z q ints refs u pending) x spot.mode) spot (λ mode. asks (pending_place z q ints refs u pending) spot.site (acts.Write x mode (ints (z.ints + vi))) (pos 0) (λ v n. accessed (on n)))) (w.cell_is q pending u)
-        ∙ ap (λ y. under spot.mode (mutex_of z.flat.globals (pending_place z q ints refs u pending) here spot.mode) spot (λ mode. asks (pending_place z q ints refs u pending) spot.site (acts.Write here mode y) (pos 0) (λ v n. accessed (on n)))) (value refl))
+        (access_runs m z scope (T ++ bases) site spot refl ints refs s a o here (λ mode. Act.Write here mode v) (λ v n. n) (λ q v u. place z (q + 1) ints refs u)
+        (λ q pending u. accesses_under z.flat.globals at spot (λ c mode. Act.Write c mode (ints (z.ints + vi))) (λ c v n. n) (pending_place z q ints refs u pending) (open_at m z scope t guard i r ints refs p w (beside_field m.typed mode) q pending u) ∙ ap (λ x. under spot.mode (mutex_of z.flat.globals (pending_place z q ints refs u pending) x spot.mode) spot (λ mode. asks (pending_place z q ints refs u pending) spot.site (Act.Write x mode (ints (z.ints + vi))) (pos 0) (λ v n. accessed (on n)))) (w.cell_is q pending u)
+        ∙ ap (λ y. under spot.mode (mutex_of z.flat.globals (pending_place z q ints refs u pending) here spot.mode) spot (λ mode. asks (pending_place z q ints refs u pending) spot.site (Act.Write here mode y) (pos 0) (λ v n. accessed (on n)))) (value refl))
         (λ q pending v u. refl) (λ mode x. refl)
-        (λ mode. performs site (acts.Write here mode v) >> (done >> done)) k1 (λ x u. k1 tt u) (λ mode u. performs_then (happens u.answers site (acts.Write here mode v) u) (done >> done) k1)
+        (λ mode. performs site (Act.Write here mode v) >> (done >> done)) k1 (λ x u. k1 tt u) (λ mode u. performs_then (happens u.answers site (Act.Write here mode v) u) (done >> done) k1)
         i r w.first 0 lvalue t refl guard w.guard_is mode pc (c + 1) (drop_base r t) guard_as refl path has
         (λ v answers events.
         let u = after_event s answers events in
@@ -74,8 +63,8 @@ module _ (m : Assignment) (z : Standing) (scope : List Slot) where
     store_cell true v pc c s k has a value rest =
         let gc = guard_code ctx i r site lvalue t (guard_field m.typed mode) in
         let at = targets.cell_of z.flat.globals i r t in
-        let spot = spot_of ctx i r site lvalue uses.Write mode t in
-        let o = op.StoreRef vr at spot in
+        let spot = spot_of ctx i r site lvalue Use.Write mode t in
+        let o = Op.StoreRef vr at spot in
         let here = cell_of w.object (w.first + field_of t) in
         let two : c + 1 + 2 ≡ c + 3 = omega arith in
         let k1 : Unit {0} → State → Fin = λ x u. k x (without (length T) u) in
@@ -86,12 +75,12 @@ module _ (m : Assignment) (z : Standing) (scope : List Slot) where
         let a0 : Agree z ((T ++ bases) ++ v ∷ []) scope [] ints refs s1 = hold z (T ++ bases) scope v ints refs s a in
         let refs1 = put refs (z.refs + vr) (pos 0) in
         subst (λ n. Same z.flat s.fuel n (fin_then (stores true true site mode w.object w.first (w.first + field_of t) v s) k1) s.answers (place z pc ints refs s)) two
-        (access_runs m z scope ((T ++ bases) ++ v ∷ []) site spot refl ints refs s1 a0 o here (λ mode. acts.Write here mode v) (λ v n. also (Replaced here) (set_ref vr (pos 0) n)) (λ q v u. place z (q + 1) ints refs1 (record u { given_up = u.given_up ++ Replaced here ∷ [] }))
-        (λ q pending u. accesses_under z.flat.globals at spot (λ c mode. acts.Write c mode (refs (z.refs + vr))) (λ c v n. also (Replaced c) (set_ref vr (pos 0) n)) (pending_place z q ints refs u pending) (open_at m z scope t guard i r ints refs p w (beside_field m.typed mode) q pending u) ∙ ap (λ x. under spot.mode (mutex_of z.flat.globals (pending_place z q ints refs u pending) x spot.mode) spot (λ mode. asks (pending_place z q ints refs u pending) spot.site (acts.Write x mode (refs (z.refs + vr))) (pos 0) (λ v n. accessed (on (also (Replaced x) (set_ref vr (pos 0) n)))))) (w.cell_is q pending u)
-        ∙ ap (λ y. under spot.mode (mutex_of z.flat.globals (pending_place z q ints refs u pending) here spot.mode) spot (λ mode. asks (pending_place z q ints refs u pending) spot.site (acts.Write here mode y) (pos 0) (λ v n. accessed (on (also (Replaced here) (set_ref vr (pos 0) n)))))) value_is)
+        (access_runs m z scope ((T ++ bases) ++ v ∷ []) site spot refl ints refs s1 a0 o here (λ mode. Act.Write here mode v) (λ v n. also (Replaced here) (set_ref vr (pos 0) n)) (λ q v u. place z (q + 1) ints refs1 (record u { given_up = u.given_up ++ Replaced here ∷ [] }))
+        (λ q pending u. accesses_under z.flat.globals at spot (λ c mode. Act.Write c mode (refs (z.refs + vr))) (λ c v n. also (Replaced c) (set_ref vr (pos 0) n)) (pending_place z q ints refs u pending) (open_at m z scope t guard i r ints refs p w (beside_field m.typed mode) q pending u) ∙ ap (λ x. under spot.mode (mutex_of z.flat.globals (pending_place z q ints refs u pending) x spot.mode) spot (λ mode. asks (pending_place z q ints refs u pending) spot.site (Act.Write x mode (refs (z.refs + vr))) (pos 0) (λ v n. accessed (on (also (Replaced x) (set_ref vr (pos 0) n)))))) (w.cell_is q pending u)
+        ∙ ap (λ y. under spot.mode (mutex_of z.flat.globals (pending_place z q ints refs u pending) here spot.mode) spot (λ mode. asks (pending_place z q ints refs u pending) spot.site (Act.Write here mode y) (pos 0) (λ v n. accessed (on (also (Replaced here) (set_ref vr (pos 0) n)))))) value_is)
         (λ q pending v u. refl) (λ mode x. refl)
-        (λ mode. performs site (acts.Write here mode v) >> (moves_on 1 >> gives_up (Replaced here ∷ []))) k1 (λ x u. fin_then ((moves_on 1 >> gives_up (Replaced here ∷ [])) u) k1)
-        (λ mode u. performs_then (happens u.answers site (acts.Write here mode v) u) (moves_on 1 >> gives_up (Replaced here ∷ [])) k1)
+        (λ mode. performs site (Act.Write here mode v) >> (moves_on 1 >> gives_up (Replaced here ∷ []))) k1 (λ x u. fin_then ((moves_on 1 >> gives_up (Replaced here ∷ [])) u) k1)
+        (λ mode u. performs_then (happens u.answers site (Act.Write here mode v) u) (moves_on 1 >> gives_up (Replaced here ∷ [])) k1)
         i r w.first 0 lvalue t refl guard w.guard_is mode pc (c + 1) (drop_base r t) guard_as refl path has
         (λ x answers events.
         let u = after_event s1 answers events in
@@ -114,7 +103,7 @@ module _ (m : Assignment) (z : Standing) (scope : List Slot) where
       let w : IntAt 0 0 s.frame.variables x = int_at s.frame.variables x 0 0 (subst (λ sc. slot_kind sc x ≡ Some false) (sym a.shape) stands) in
       let n0 : 0 + w.n ≡ w.n = omega arith in
       let reg : register_of scope x ≡ Int w.n = subst (λ sc. register_of sc x ≡ Int (0 + w.n)) a.shape w.register ∙ ap Int n0 in
-      let has1 : HasAt z.flat.lines pc (op.Move w.n vi ∷ []) = subst (λ g. HasAt z.flat.lines pc (settle_code vi vr g)) reg has in
+      let has1 : HasAt z.flat.lines pc (Op.Move w.n vi ∷ []) = subst (λ g. HasAt z.flat.lines pc (settle_code vi vr g)) reg has in
       let u1 : State = record s { trace = s.trace ++ record { use_made = writes; variable = x; site = site; call = s.frame.call } ∷ [] } in
       let u : State = record u1 { frame = record s.frame { variables = with_value s.frame.variables x v } } in
       let ints1 = put ints (z.ints + w.n) (ints (z.ints + vi)) in
@@ -131,7 +120,7 @@ module _ (m : Assignment) (z : Standing) (scope : List Slot) where
         refs = bank_is refs _ _ (ap (λ l. below z.callers ++ (l ++ (T ++ []))) (sym (w.refs_stay v))) a.refs;
       } in
       subst (λ b. Same z.flat s.fuel (c + 1) (fin_then ((cond b (gives_up (all_released (value_of s x ∷ []))) done) u) k) s.answers (place z pc ints refs s)) (sym e)
-      (step z.flat (op.Move w.n vi) s.fuel c (k tt u) s.answers (place z pc ints refs s) (place z (pc + 1) ints1 refs u) has1.0 refl (rest ints1 u a1 (λ q lt. put_other ints (z.ints + w.n) _ q (λ h. omega arith))))
+      (step z.flat (Op.Move w.n vi) s.fuel c (k tt u) s.answers (place z pc ints refs s) (place z (pc + 1) ints1 refs u) has1.0 refl (rest ints1 u a1 (λ q lt. put_other ints (z.ints + w.n) _ q (λ h. omega arith))))
 
   -- a reference
   pub store_reference : (T : List ℤ) (x : ℕ) (kind : Kind) (site : Site) (mode : Sharing) (v : ℤ) (vi vr pc c : ℕ) (ints refs : ℕ → ℤ) (s : State) (k : Unit {0} → State → Fin) → slot_kind scope x ≡ Some true → is_reference kind ≡ true
@@ -145,7 +134,7 @@ module _ (m : Assignment) (z : Standing) (scope : List Slot) where
       let reg : register_of scope x ≡ Reference w.n = subst (λ sc. register_of sc x ≡ Reference (0 + w.n)) a.shape w.register ∙ ap Reference n0 in
       let same_n : g.n ≡ w.n = ap number_in (sym g.register ∙ reg) in
       let old_is : refs (z.refs + w.n) ≡ value_of s x = subst (λ q. refs (z.refs + q) ≡ value_of s x) same_n g.value in
-      let has1 : HasAt z.flat.lines pc (op.Settle w.n vr ∷ []) = subst (λ g. HasAt z.flat.lines pc (settle_code vi vr g)) reg has in
+      let has1 : HasAt z.flat.lines pc (Op.Settle w.n vr ∷ []) = subst (λ g. HasAt z.flat.lines pc (settle_code vi vr g)) reg has in
       let u1 : State = record s { trace = s.trace ++ record { use_made = writes; variable = x; site = site; call = s.frame.call } ∷ [] } in
       let u2 : State = record u1 { frame = record s.frame { variables = with_value s.frame.variables x v } } in
       let u : State = record u2 { given_up = s.given_up ++ Released (number_of (value_of s x)) ∷ [] } in
@@ -177,5 +166,5 @@ module _ (m : Assignment) (z : Standing) (scope : List Slot) where
       let gp : record (place z (pc + 1) ints refs1 u) { given = s.given_up ++ Released (number_of (refs (z.refs + w.n))) ∷ [] } ≡ place z (pc + 1) ints refs1 u =
       ap (λ q. record (place z (pc + 1) ints refs1 u) { given = s.given_up ++ Released (number_of q) ∷ [] }) old_is in
       subst (λ b. Same z.flat s.fuel (c + 1) (fin_then ((cond b (gives_up (all_released (value_of s x ∷ []))) done) u2) k) s.answers (place z pc ints refs s)) (sym e)
-      (step z.flat (op.Settle w.n vr) s.fuel c (k tt u) s.answers (place z pc ints refs s) _ has1.0 refl
+      (step z.flat (Op.Settle w.n vr) s.fuel c (k tt u) s.answers (place z pc ints refs s) _ has1.0 refl
       (subst (λ q. Same z.flat s.fuel c (k tt u) s.answers q) (sym gp) (rest refs1 u a1)))

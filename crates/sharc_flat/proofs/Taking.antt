@@ -1,21 +1,6 @@
 -- What is taken, given and freed, and what is made.
-use Rattle.std.proofs.{Common.{◌≡◌, ℕ, zero, suc, ◌+◌, ◌-◌, ◌<◌, ◌≤◌, Bool, true, false, cond, List, [], ◌∷◌, ◌++◌, length, get_or, take, Option, Some, None, refl, sym, ap, ◌∙◌, subst, arith, length-append}, lemmas.List.{append-nil, take_at, set-append_left, set-append_right}}
-use Rattle.std.specs.Prelude.{set, ℤ, pos, slice_get, unsigned_abs}
-use Rattle.sharc_tree.specs.declared.event.Act.TheVariants as acts
-use Rattle.sharc_tree.specs.{declared.event.Object.TheVariants.Global, declared.token.Site.Site, declared.token.Span.Span, declared.event.TakeKind.TakeKind}
-use Rattle.sharc_names.specs.{Kinds.{Kind, is_integer}, declared.fault.Named.Named}
-use Rattle.sharc_code.specs.{declared.code.Use.Use, declared.instr.Register.TheVariants.Reference, declared.code.Text.Text, Machine.{elements_of as elements_made}}
-use Rattle.sharc_mode.specs.{Moded.Assignment, Sharings.{Sharing, locked}}
-use Rattle.sharc_meaning.specs.{Cells.{cell_of, instance_mode, mutex_named, through, field_place_behind}, Places.{StorePlace, variable, cell, taken_from, nulled, cast_to, freed}, Reference.{number_of, is_null, NULL}, State.{State, Run, then_on, ◌>>=◌, ◌>>◌, give, entered, happens, answered, value_of, is_reference, pointers_among, temporarily, nulls, done, moves_on, with_value, with_temporary, without_temporaries, stopped, unless_stop, event_of}, declared.given.GivenUp.TheVariants.Emptied, Statements.is_positive}
-use Rattle.sharc_flat.specs.{declared.op.Op.Op, declared.op.Spot.Spot, Machine.{goes, asks, put, accesses, first_cell, next as on, set_ref, asserts, over_lines, take_kind_of, variable_of, instance_mode as mode_of_object, takes_local, moved}, Scope.{at_words, Context, ref_count, register_of, number_in, slot_kind, at_site}, declared.slot.Lvalue.Lvalue, declared.slot.Slot.Slot, Places.{Target, in_global, in_global_at, in_object, in_object_at, has_base, base_width, field_of, guard_field, beside_field, guard_cell, guard_code, spot_of, drop_base, settle_base, settle_code, cell_value_code, cell_store_code, store_code, cell_take_code, take_code, target, own_field, global_of, bounds_code, index_code, pointee_code, width_of, base_as_width, width_code, guard_width, index_width, object_mode, object_mode_named, object_spot}, Suits.{PathStands, is_cell, PathNamed}}
-use Rattle.sharc_flat.specs.declared.op.Op.TheVariants as op
+use Rattle.sharc_flat.proofs.{Imports.{◌≡◌, ℕ, zero, suc, ◌+◌, ◌-◌, ◌<◌, ◌≤◌, Bool, true, false, cond, List, [], ◌∷◌, ◌++◌, length, get_or, take, Option, Some, None, refl, sym, ap, ◌∙◌, subst, arith, length-append, append-nil, take_at, set-append_left, set-append_right, set, ℤ, pos, slice_get, unsigned_abs, Act, Global, Site, Span, TakeKind, Kind, is_integer, Named, Use, Reference, Text, elements_made, Assignment, Sharing, locked, cell_of, instance_mode, mutex_named, through, field_place_behind, StorePlace, variable, cell, taken_from, nulled, cast_to, freed, number_of, is_null, NULL, State, Run, then_on, ◌>>=◌, ◌>>◌, give, entered, happens, answered, value_of, is_reference, pointers_among, temporarily, nulls, done, moves_on, with_value, with_temporary, without_temporaries, stopped, unless_stop, event_of, Emptied, is_positive, Op, Spot, goes, asks, put, accesses, first_cell, on, set_ref, asserts, over_lines, take_kind_of, variable_of, mode_of_object, takes_local, moved, at_words, Context, ref_count, register_of, number_in, slot_kind, at_site, Lvalue, Slot, Target, in_global, in_global_at, in_object, in_object_at, has_base, base_width, field_of, guard_field, beside_field, guard_cell, guard_code, spot_of, drop_base, settle_base, settle_code, cell_value_code, cell_store_code, store_code, cell_take_code, take_code, target, own_field, global_of, bounds_code, index_code, pointee_code, width_of, base_as_width, width_code, guard_width, index_width, object_mode, object_mode_named, object_spot, PathStands, is_cell, PathNamed, Taken, named_at, CellMode, Trap}, Banks.{Bank, bank_is, bank_set}, Runs.{HasAt, has_front, has_back, Fin, fin_then, Same, weaken, step, bind, without, enters_at, after_event, ends, asks_at}, Agreeing.{slots_of, int_values, PointerAt, pointer_at, Standing, place, Agree, below, holding, push, last_is, hold, same_frame, loose_of, Rest}, Accessing.{variable_ref, context}, Values.{integer_is, loosen, ref_valued, RunsAs, bases_are, PlaceAs, at_cell, temporarily_runs}, Fetching.ref_cell_by, Popping.{AllNull, trailing}, Computing.none_end, Storing.{performs_then, moved_on}, Under.positive_elements}
 use Rattle.sharc_flat.specs.Places as targets
-use Rattle.sharc_flat.proofs.{Banks.{Bank, bank_is, bank_set}, Runs.{HasAt, has_front, has_back, Fin, fin_then, Same, weaken, step, bind, without, enters_at, after_event, ends, asks_at}, Agreeing.{slots_of, int_values, PointerAt, pointer_at, Standing, place, Agree, below, holding, push, last_is, hold, same_frame, loose_of, Rest}, Accessing.{variable_ref, context}, Values.{integer_is, loosen, ref_valued, RunsAs, bases_are, PlaceAs, at_cell, temporarily_runs}, Fetching.ref_cell_by, Popping.{AllNull, trailing}, Computing.none_end, Storing.{performs_then, moved_on}, Under.positive_elements}
-use Rattle.sharc_tree.specs.declared.event.Taken.TheVariants as taken
-use Rattle.sharc_names.specs.declared.fault.Named.TheVariants as named
-use Rattle.sharc_ctype.specs.Resolved.{named_at}
-use Rattle.sharc_tree.specs.declared.event.CellMode.TheVariants as modes
-use Rattle.sharc_tree.specs.declared.trap.Trap.TheVariants as traps
 
 null_is : (v : ℤ) → is_null v ≡ true → v ≡ pos 0
 null_is (pos zero) h = refl
@@ -81,8 +66,8 @@ module _ (m : Assignment) (z : Standing) (scope : List Slot) where
       subst (λ q. Same z.flat s1.fuel (c + 3 + 6) (fin_then (taken_from m.typed token site mode kind q s1) k1) s1.answers (place z (pc + length (pcode i r)) ints1 refs1 s1)) (sym at.is)
       (subst (λ n. Same z.flat s1.fuel n (fin_then (taken_from m.typed token site mode kind (cell at.object at.first (at.first + field_of t)) s1) k1) s1.answers (place z (pc + length (pcode i r)) ints1 refs1 s1)) some
       (ref_cell_by m z scope T bases t (beside_field m.typed mode) i r ints1 refs1 p at site lvalue mode refl path le re (bases_are m z scope t (beside_field m.typed mode) i ints1 bases p w.lies)
-      (op.TakeCell d cell_op spot) (form None) (λ c mode. acts.Take (taken.Cell c mode) kind)
-      (λ x. ap (λ q. accesses z.flat.globals cell_op spot (λ c mode. acts.Take (taken.Cell c mode) q) (λ c v. set_ref d v) x) ek) (λ s mode x. refl)
+      (Op.TakeCell d cell_op spot) (form None) (λ c mode. Act.Take (Taken.Cell c mode) kind)
+      (λ x. ap (λ q. accesses z.flat.globals cell_op spot (λ c mode. Act.Take (Taken.Cell c mode) q) (λ c v. set_ref d v) x) ek) (λ s mode x. refl)
       ka (pc + length (pcode i r)) (c + 6) ints s1 k er (has_back z.flat.lines pc (pcode i r) cv has) w.agree w.kept
       (subst (λ q. Rest z ka T scope i q (c + 6) ints k) (sym end) rest)))))))
 
@@ -107,16 +92,16 @@ module _ (m : Assignment) (z : Standing) (scope : List Slot) where
 
   take_local_by : (b : Bool) (T : List ℤ) (x : ℕ) (token site : Site) (lvalue : Lvalue) (mode : Sharing) (form : Option ℕ → Use) (kind : TakeKind) (r pc c : ℕ) (ints refs : ℕ → ℤ) (s : State) (k : ℤ → State → Fin)
       → slot_kind scope x ≡ Some true → take_kind_of (form (Some x)) ≡ kind → variable_of (form (Some x)) ≡ x → is_null (value_of s x) ≡ b → r ≡ ref_count scope + length T
-      → slice_get z.flat.lines pc ≡ Some (op.TakeLocal r (number_in (register_of scope x)) (spot_of ctx 0 0 site lvalue (form (Some x)) mode (targets.variable x))) → Agree z T scope [] ints refs s
+      → slice_get z.flat.lines pc ≡ Some (Op.TakeLocal r (number_in (register_of scope x)) (spot_of ctx 0 0 site lvalue (form (Some x)) mode (targets.variable x))) → Agree z T scope [] ints refs s
       → ((refs' : ℕ → ℤ) (u : State) → Agree z T scope (value_of s x ∷ []) ints refs' u → Same z.flat u.fuel c (k (value_of s x) u) u.answers (place z (pc + 1) ints refs' u))
-      → Same z.flat s.fuel (c + 1) (fin_then (then_on ((cond b (give (value_of s x)) (answered site (acts.Take (taken.Local x) kind))) s) (λ _. nulled token x >> give (value_of s x))) k) s.answers (place z pc ints refs s)
+      → Same z.flat s.fuel (c + 1) (fin_then (then_on ((cond b (give (value_of s x)) (answered site (Act.Take (Taken.Local x) kind))) s) (λ _. nulled token x >> give (value_of s x))) k) s.answers (place z pc ints refs s)
   take_local_by true T x token site lvalue mode form kind r pc c ints refs s k stands ek ex eb re at a rest =
       let n = number_in (register_of scope x) in
       let v = value_of s x in
       let spot = spot_of ctx 0 0 site lvalue (form (Some x)) mode (targets.variable x) in
       let v_is = held_is T x ints refs s stands a in
       let bank = put (put refs (z.refs + n) (pos 0)) (z.refs + r) (refs (z.refs + n)) in
-      step z.flat (op.TakeLocal r n spot) s.fuel c _ s.answers (place z pc ints refs s) (place z (pc + 1) ints bank s) at
+      step z.flat (Op.TakeLocal r n spot) s.fuel c _ s.answers (place z pc ints refs s) (place z (pc + 1) ints bank s) at
       (ap (λ q. takes_local r n spot (place z pc ints refs s) (is_null q)) v_is ∙ ap (takes_local r n spot (place z pc ints refs s)) eb)
       (rest bank (null_state x token s) (nulled_agrees T x v token r ints refs s s stands re a v_is refl refl))
   take_local_by false T x token site lvalue mode form kind r pc c ints refs s k stands ek ex eb re at a rest =
@@ -126,20 +111,20 @@ module _ (m : Assignment) (z : Standing) (scope : List Slot) where
       let v_is = held_is T x ints refs s stands a in
       let bank = put (put refs (z.refs + n) (pos 0)) (z.refs + r) (refs (z.refs + n)) in
       let m0 = place z pc ints refs s in
-      bind z.flat s.fuel (c + 1) s.answers (answered site (acts.Take (taken.Local x) kind) s) (λ _. nulled token x >> give v) k m0
-      (asks_at z.flat (op.TakeLocal r n spot) site (acts.Take (taken.Local x) kind) (refs (z.refs + n)) (λ v w. on (moved r n w)) c s.answers s m0 m0 (λ y u. k v (null_state x token u)) (holding z T scope ints refs s a) refl refl at
+      bind z.flat s.fuel (c + 1) s.answers (answered site (Act.Take (Taken.Local x) kind) s) (λ _. nulled token x >> give v) k m0
+      (asks_at z.flat (Op.TakeLocal r n spot) site (Act.Take (Taken.Local x) kind) (refs (z.refs + n)) (λ v w. on (moved r n w)) c s.answers s m0 m0 (λ y u. k v (null_state x token u)) (holding z T scope ints refs s a) refl refl at
       (ap (λ q. takes_local r n spot m0 (is_null q)) v_is ∙ ap (takes_local r n spot m0) eb
-      ∙ ap (λ q. asks m0 site (acts.Take (taken.Local q) (take_kind_of (form (Some x)))) (refs (z.refs + n)) (λ v w. on (moved r n w))) ex ∙ ap (λ q. asks m0 site (acts.Take (taken.Local x) q) (refs (z.refs + n)) (λ v w. on (moved r n w))) ek)
+      ∙ ap (λ q. asks m0 site (Act.Take (Taken.Local q) (take_kind_of (form (Some x)))) (refs (z.refs + n)) (λ v w. on (moved r n w))) ex ∙ ap (λ q. asks m0 site (Act.Take (Taken.Local x) q) (refs (z.refs + n)) (λ v w. on (moved r n w))) ek)
       (λ y. sym v_is)
       (λ y answers.
-      let u = after_event s answers (s.events ++ event_of site (acts.Take (taken.Local x) kind) y ∷ []) in
+      let u = after_event s answers (s.events ++ event_of site (Act.Take (Taken.Local x) kind) y ∷ []) in
       rest bank (null_state x token u) (nulled_agrees T x v token r ints refs s u stands re a v_is refl refl)))
 
   pub take_variable_runs : (ka : Kind) (x : ℕ) (need : ℕ) (run : Run StorePlace) (pcode : ℕ → ℕ → List Op) (token site : Site) (lvalue : Lvalue) (mode : Sharing) (form : Option ℕ → Use) (kind : TakeKind) (guard : Option ℕ) → PlaceAs m z scope (targets.variable x) None guard need run pcode
       → slot_kind scope x ≡ Some true → is_reference ka ≡ true → take_kind_of (form (Some x)) ≡ kind → variable_of (form (Some x)) ≡ x
-      → RunsAs m z scope ka (need + 3) (temporarily (run >>= λ p. taken_from m.typed token site mode kind p)) (λ i r. pcode i r ++ op.TakeLocal r (number_in (register_of scope x)) (spot_of ctx 0 0 site lvalue (form (Some x)) mode (targets.variable x)) ∷ [])
+      → RunsAs m z scope ka (need + 3) (temporarily (run >>= λ p. taken_from m.typed token site mode kind p)) (λ i r. pcode i r ++ Op.TakeLocal r (number_in (register_of scope x)) (spot_of ctx 0 0 site lvalue (form (Some x)) mode (targets.variable x)) ∷ [])
   take_variable_runs ka x need run pcode token site lvalue mode form kind guard found stands er ek ex T i r pc c ints refs s k has le re a rest =
-      let o = op.TakeLocal r (number_in (register_of scope x)) (spot_of ctx 0 0 site lvalue (form (Some x)) mode (targets.variable x)) in
+      let o = Op.TakeLocal r (number_in (register_of scope x)) (spot_of ctx 0 0 site lvalue (form (Some x)) mode (targets.variable x)) in
       let end : pc + length (pcode i r) + 1 ≡ pc + length (pcode i r ++ o ∷ []) = omega (arith, length-append (pcode i r) (o ∷ [])) in
       let k1 : ℤ → State → Fin = λ x u. k x (without (length T) u) in
       weaken z.flat s.fuel (c + 1 + need) (c + (need + 3)) _ s.answers _ (omega arith)
@@ -161,11 +146,11 @@ module _ (m : Assignment) (z : Standing) (scope : List Slot) where
 
   -- ---- the mode of an object that is made or given
   mode_by : (T L : List ℤ) (what : Named) (second : Option (List ℕ)) (pc : ℕ) (ints refs : ℕ → ℤ) (s : State) → PathNamed scope what second → Agree z T scope L ints refs s
-      → mode_of_object z.flat.globals (place z pc ints refs s) (object_mode_named ctx what second) ≡ modes.Locked (mutex_named m.typed (value_of s) what second)
-  mode_by T L (named.Global g) second pc ints refs s h a = ap (λ n. modes.Locked (Some (cell_of (Global g) n))) (let q : first_cell z.flat.globals g - first_cell z.flat.globals g ≡ 0 = omega arith in q)
-  mode_by T L (named.Variable x) (Some f) pc ints refs s h a =
+      → mode_of_object z.flat.globals (place z pc ints refs s) (object_mode_named ctx what second) ≡ CellMode.Locked (mutex_named m.typed (value_of s) what second)
+  mode_by T L (Named.Global g) second pc ints refs s h a = ap (λ n. CellMode.Locked (Some (cell_of (Global g) n))) (let q : first_cell z.flat.globals g - first_cell z.flat.globals g ≡ 0 = omega arith in q)
+  mode_by T L (Named.Variable x) (Some f) pc ints refs s h a =
       let w = variable_ref z T scope L ints refs s x h a in
-      ap (λ v. modes.Locked (through v (field_place_behind m.typed x f))) (ap (λ q. refs (z.refs + q)) (ap number_in w.register) ∙ w.value)
+      ap (λ v. CellMode.Locked (through v (field_place_behind m.typed x f))) (ap (λ q. refs (z.refs + q)) (ap number_in w.register) ∙ w.value)
   mode_by T L _ _ pc ints refs s h a = refl
 
   pub object_mode_is : (T L : List ℤ) (mode : Sharing) (pc : ℕ) (ints refs : ℕ → ℤ) (s : State) → PathStands m.typed scope mode → Agree z T scope L ints refs s
@@ -175,7 +160,7 @@ module _ (m : Assignment) (z : Standing) (scope : List Slot) where
 
   -- ---- a sharing cast: what was taken is given, where it is not NULL
   cast_by : (b : Bool) (cells : ℕ) (T : List ℤ) (v : ℤ) (site : Site) (words : Text) (use_made : Use) (mode : Sharing) (r pc c : ℕ) (ints refs : ℕ → ℤ) (s : State) (k : ℤ → State → Fin) → is_null v ≡ b → PathStands m.typed scope mode → r ≡ ref_count scope + length T
-      → HasAt z.flat.lines pc (op.SkipIfNull r 1 ∷ op.Give r cells (object_spot ctx site words use_made mode) ∷ []) → Agree z T scope (v ∷ []) ints refs s
+      → HasAt z.flat.lines pc (Op.SkipIfNull r 1 ∷ Op.Give r cells (object_spot ctx site words use_made mode) ∷ []) → Agree z T scope (v ∷ []) ints refs s
       → ((u : State) → Agree z T scope (v ∷ []) ints refs u → Same z.flat u.fuel c (k v u) u.answers (place z (pc + 2) ints refs u))
       → Same z.flat s.fuel (c + 2) (fin_then ((cond b (give v) (cast_to m.typed site mode v)) s) k) s.answers (place z pc ints refs s)
   cast_by true cells T v site words use_made mode r pc c ints refs s k e path re has a rest =
@@ -183,7 +168,7 @@ module _ (m : Assignment) (z : Standing) (scope : List Slot) where
       let v_is : refs (z.refs + r) ≡ v = last_is z T scope [] v [] r ints refs s r0 a in
       let two : pc + 1 + 1 ≡ pc + 2 = omega arith in
       weaken z.flat s.fuel (c + 1) (c + 2) _ s.answers _ (omega arith)
-      (step z.flat (op.SkipIfNull r 1) s.fuel c _ s.answers (place z pc ints refs s) (place z (pc + 1 + 1) ints refs s) has.0
+      (step z.flat (Op.SkipIfNull r 1) s.fuel c _ s.answers (place z pc ints refs s) (place z (pc + 1 + 1) ints refs s) has.0
       (ap (λ q. goes (cond (is_null q) (over_lines 1 (place z pc ints refs s)) (on (place z pc ints refs s)))) v_is ∙ ap (λ b. goes (cond b (over_lines 1 (place z pc ints refs s)) (on (place z pc ints refs s)))) e)
       (subst (λ q. Same z.flat s.fuel c (k v s) s.answers (place z q ints refs s)) (sym two) (rest s a)))
   cast_by false cells T v site words use_made mode r pc c ints refs s k e path re has a rest =
@@ -196,23 +181,23 @@ module _ (m : Assignment) (z : Standing) (scope : List Slot) where
       let m1 = place z (pc + 1) ints refs s1 in
       let M = instance_mode m.typed (value_of s1) mode in
       subst (λ q. Same z.flat s.fuel q (fin_then (cast_to m.typed site mode v s) k) s.answers (place z pc ints refs s)) credit
-      (step z.flat (op.SkipIfNull r 1) s.fuel (c + 1) _ s.answers (place z pc ints refs s) (place z (pc + 1) ints refs s) has.0
+      (step z.flat (Op.SkipIfNull r 1) s.fuel (c + 1) _ s.answers (place z pc ints refs s) (place z (pc + 1) ints refs s) has.0
       (ap (λ q. goes (cond (is_null q) (over_lines 1 (place z pc ints refs s)) (on (place z pc ints refs s)))) v_is ∙ ap (λ b. goes (cond b (over_lines 1 (place z pc ints refs s)) (on (place z pc ints refs s)))) e)
-      (subst (λ q. Same z.flat s.fuel (c + 1) q s.answers m1) (sym (performs_then (happens s1.answers site (acts.Give v M) s1) (moves_on 1 >> give v) k))
-      (asks_at z.flat (op.Give r cells (object_spot ctx site words use_made mode)) site (acts.Give v M) (pos 0) (λ v w. on w) c s.answers s1 m1 m1 (λ x u. k v (record u { frame = without_temporaries 1 u.frame })) (holding z (T ++ v ∷ []) scope ints refs s1 a1) refl refl has.1.0
-      (ap (λ q. asks m1 site (acts.Give q (mode_of_object z.flat.globals m1 (object_mode ctx mode))) (pos 0) (λ v w. on w)) v_is ∙ ap (λ q. asks m1 site (acts.Give v q) (pos 0) (λ v w. on w)) (object_mode_is (T ++ v ∷ []) [] mode (pc + 1) ints refs s1 path a1))
+      (subst (λ q. Same z.flat s.fuel (c + 1) q s.answers m1) (sym (performs_then (happens s1.answers site (Act.Give v M) s1) (moves_on 1 >> give v) k))
+      (asks_at z.flat (Op.Give r cells (object_spot ctx site words use_made mode)) site (Act.Give v M) (pos 0) (λ v w. on w) c s.answers s1 m1 m1 (λ x u. k v (record u { frame = without_temporaries 1 u.frame })) (holding z (T ++ v ∷ []) scope ints refs s1 a1) refl refl has.1.0
+      (ap (λ q. asks m1 site (Act.Give q (mode_of_object z.flat.globals m1 (object_mode ctx mode))) (pos 0) (λ v w. on w)) v_is ∙ ap (λ q. asks m1 site (Act.Give v q) (pos 0) (λ v w. on w)) (object_mode_is (T ++ v ∷ []) [] mode (pc + 1) ints refs s1 path a1))
       (λ x. refl)
       (λ x answers.
-      let u = after_event s1 answers (s1.events ++ event_of site (acts.Give v M) x ∷ []) in
+      let u = after_event s1 answers (s1.events ++ event_of site (Act.Give v M) x ∷ []) in
       let u1 : State = record u { frame = without_temporaries 1 u.frame } in
       subst (λ q. Same z.flat s.fuel c (k v u1) answers (place z q ints refs u1)) (sym two)
       (rest u1 (let_go T v ints refs u (same_frame z (T ++ v ∷ []) scope [] ints refs s1 u refl refl a1)))))))
 
   pub cast_runs : (cells : ℕ) (ka kc : Kind) (take_run : Run ℤ) (tcode : ℕ → ℕ → List Op) (site : Site) (words : Text) (use_made : Use) (mode : Sharing) → is_reference ka ≡ true → is_reference kc ≡ true → PathStands m.typed scope mode → RunsAs m z scope ka 3 take_run tcode
-      → RunsAs m z scope kc 5 (take_run >>= λ v. cond (is_null v) (give v) (cast_to m.typed site mode v)) (λ i r. tcode i r ++ (op.SkipIfNull r 1 ∷ op.Give r cells (object_spot ctx site words use_made mode) ∷ []))
+      → RunsAs m z scope kc 5 (take_run >>= λ v. cond (is_null v) (give v) (cast_to m.typed site mode v)) (λ i r. tcode i r ++ (Op.SkipIfNull r 1 ∷ Op.Give r cells (object_spot ctx site words use_made mode) ∷ []))
   cast_runs cells ka kc take_run tcode site words use_made mode ea ec path of_take T i r pc c ints refs s k has le re a rest =
       let C = tcode i r in
-      let tail = op.SkipIfNull r 1 ∷ op.Give r cells (object_spot ctx site words use_made mode) ∷ [] in
+      let tail = Op.SkipIfNull r 1 ∷ Op.Give r cells (object_spot ctx site words use_made mode) ∷ [] in
       let end : pc + length C + 2 ≡ pc + length (C ++ tail) = omega (arith, length-append C tail) in
       bind z.flat s.fuel (c + 5) s.answers (take_run s) (λ v. cond (is_null v) (give v) (cast_to m.typed site mode v)) k (place z pc ints refs s)
       (weaken z.flat s.fuel (c + 2 + 3) (c + 5) _ s.answers _ (omega arith)
@@ -224,7 +209,7 @@ module _ (m : Assignment) (z : Standing) (scope : List Slot) where
 
   -- ---- `free`: what was taken ends, where it is not NULL
   free_by : (b : Bool) (T : List ℤ) (v : ℤ) (site : Site) (words : Span) (use_made : Use) (layout r pc c : ℕ) (ints refs : ℕ → ℤ) (s : State) (k : Unit {0} → State → Fin) → is_null v ≡ b → r ≡ ref_count scope + length T
-      → HasAt z.flat.lines pc (op.SkipIfNull r 1 ∷ op.Free r layout (at_words site words use_made) ∷ []) → Agree z T scope (v ∷ []) ints refs s
+      → HasAt z.flat.lines pc (Op.SkipIfNull r 1 ∷ Op.Free r layout (at_words site words use_made) ∷ []) → Agree z T scope (v ∷ []) ints refs s
       → ((refs' : ℕ → ℤ) (u : State) → Agree z T scope [] ints refs' u → Same z.flat u.fuel c (k tt u) u.answers (place z (pc + 2) ints refs' u))
       → Same z.flat s.fuel (c + 2) (fin_then ((cond b done (freed site v)) s) k) s.answers (place z pc ints refs s)
   free_by true T v site words use_made layout r pc c ints refs s k e re has a rest =
@@ -232,7 +217,7 @@ module _ (m : Assignment) (z : Standing) (scope : List Slot) where
       let v_is : refs (z.refs + r) ≡ v = last_is z T scope [] v [] r ints refs s r0 a in
       let two : pc + 1 + 1 ≡ pc + 2 = omega arith in
       weaken z.flat s.fuel (c + 1) (c + 2) _ s.answers _ (omega arith)
-      (step z.flat (op.SkipIfNull r 1) s.fuel c _ s.answers (place z pc ints refs s) (place z (pc + 1 + 1) ints refs s) has.0
+      (step z.flat (Op.SkipIfNull r 1) s.fuel c _ s.answers (place z pc ints refs s) (place z (pc + 1 + 1) ints refs s) has.0
       (ap (λ q. goes (cond (is_null q) (over_lines 1 (place z pc ints refs s)) (on (place z pc ints refs s)))) v_is ∙ ap (λ b. goes (cond b (over_lines 1 (place z pc ints refs s)) (on (place z pc ints refs s)))) e)
       (subst (λ q. Same z.flat s.fuel c (k tt s) s.answers (place z q ints refs s)) (sym two) (rest refs s (trailing z scope T [] (v ∷ []) ints refs s (one_null v (null_is v e)) a))))
     where
@@ -251,23 +236,23 @@ module _ (m : Assignment) (z : Standing) (scope : List Slot) where
       let m2 = place z (pc + 1) ints refs s1 in
       let refs2 = put refs (z.refs + r) (pos 0) in
       subst (λ q. Same z.flat s.fuel q (fin_then (freed site v s) k) s.answers (place z pc ints refs s)) credit
-      (step z.flat (op.SkipIfNull r 1) s.fuel (c + 1) _ s.answers (place z pc ints refs s) m1 has.0
+      (step z.flat (Op.SkipIfNull r 1) s.fuel (c + 1) _ s.answers (place z pc ints refs s) m1 has.0
       (ap (λ q. goes (cond (is_null q) (over_lines 1 (place z pc ints refs s)) (on (place z pc ints refs s)))) v_is ∙ ap (λ b. goes (cond b (over_lines 1 (place z pc ints refs s)) (on (place z pc ints refs s)))) e)
-      (subst (λ q. Same z.flat s.fuel (c + 1) q s.answers m1) (sym (performs_then (happens s1.answers site (acts.Freed v) s1) (moves_on 1) k))
-      (asks_at z.flat (op.Free r layout (at_words site words use_made)) site (acts.Freed v) (pos 0) (λ v w. on (set_ref r (pos 0) w)) c s.answers s1 m1 m2 (λ x u. fin_then (moves_on 1 u) k) (holding z (T ++ v ∷ []) scope ints refs s1 a1) refl refl has.1.0
-      (ap (λ q. asks (record m1 { given = s.given_up ++ Emptied (number_of q) ∷ [] }) site (acts.Freed q) (pos 0) (λ v w. on (set_ref r (pos 0) w))) v_is)
+      (subst (λ q. Same z.flat s.fuel (c + 1) q s.answers m1) (sym (performs_then (happens s1.answers site (Act.Freed v) s1) (moves_on 1) k))
+      (asks_at z.flat (Op.Free r layout (at_words site words use_made)) site (Act.Freed v) (pos 0) (λ v w. on (set_ref r (pos 0) w)) c s.answers s1 m1 m2 (λ x u. fin_then (moves_on 1 u) k) (holding z (T ++ v ∷ []) scope ints refs s1 a1) refl refl has.1.0
+      (ap (λ q. asks (record m1 { given = s.given_up ++ Emptied (number_of q) ∷ [] }) site (Act.Freed q) (pos 0) (λ v w. on (set_ref r (pos 0) w))) v_is)
       (λ x. refl)
       (λ x answers.
-      let u = after_event s1 answers (s1.events ++ event_of site (acts.Freed v) x ∷ []) in
+      let u = after_event s1 answers (s1.events ++ event_of site (Act.Freed v) x ∷ []) in
       let u1 : State = record u { frame = without_temporaries 1 u.frame } in
       subst (λ q. Same z.flat s.fuel c (k tt u1) answers (place z q ints refs2 u1)) (sym two)
       (rest refs2 u1 (moved_on m z scope T v r ints refs u re (same_frame z (T ++ v ∷ []) scope [] ints refs s1 u refl refl a1)))))))
 
   pub free_runs : (ka kv : Kind) (take_run : Run ℤ) (tcode : ℕ → ℕ → List Op) (site : Site) (words : Span) (use_made : Use) (layout : ℕ) → is_reference ka ≡ true → is_reference kv ≡ false → is_integer kv ≡ false → RunsAs m z scope ka 3 take_run tcode
-      → RunsAs m z scope kv 5 ((take_run >>= λ v. cond (is_null v) done (freed site v)) >> give (pos 0)) (λ i r. tcode i r ++ (op.SkipIfNull r 1 ∷ op.Free r layout (at_words site words use_made) ∷ []))
+      → RunsAs m z scope kv 5 ((take_run >>= λ v. cond (is_null v) done (freed site v)) >> give (pos 0)) (λ i r. tcode i r ++ (Op.SkipIfNull r 1 ∷ Op.Free r layout (at_words site words use_made) ∷ []))
   free_runs ka kv take_run tcode site words use_made layout ea er ei of_take T i r pc c ints refs s k has le re a rest =
       let C = tcode i r in
-      let tail = op.SkipIfNull r 1 ∷ op.Free r layout (at_words site words use_made) ∷ [] in
+      let tail = Op.SkipIfNull r 1 ∷ Op.Free r layout (at_words site words use_made) ∷ [] in
       let end : pc + length C + 2 ≡ pc + length (C ++ tail) = omega (arith, length-append C tail) in
       let K : Unit {0} → State → Fin = λ x u. k (pos 0) u in
       bind z.flat s.fuel (c + 5) s.answers ((take_run >>= λ v. cond (is_null v) done (freed site v)) s) (λ _. give (pos 0)) k (place z pc ints refs s)
@@ -282,36 +267,36 @@ module _ (m : Assignment) (z : Standing) (scope : List Slot) where
 
   -- ---- a new object
   positive_by : (b : Bool) (T : List ℤ) (v : ℤ) (site : Site) (words : Text) (use_made : Use) (mode : Sharing) (cells i r pc c : ℕ) (ints refs : ℕ → ℤ) (s : State) (k : ℤ → State → Fin) → is_positive v ≡ b → PathStands m.typed scope mode → r ≡ ref_count scope + length T → ints (z.ints + i) ≡ v
-      → HasAt z.flat.lines pc (op.ChkPositive i (at_site site) ∷ op.New r i cells (object_spot ctx site words use_made mode) ∷ []) → Agree z T scope [] ints refs s
+      → HasAt z.flat.lines pc (Op.ChkPositive i (at_site site) ∷ Op.New r i cells (object_spot ctx site words use_made mode) ∷ []) → Agree z T scope [] ints refs s
       → ((x : ℤ) (refs' : ℕ → ℤ) (u : State) → Agree z T scope (x ∷ []) ints refs' u → Same z.flat u.fuel c (k x u) u.answers (place z (pc + 2) ints refs' u))
-      → Same z.flat s.fuel (c + 2) (fin_then ((unless_stop b traps.SizeNotPositive site >> (λ u. answered site (acts.New cells (unsigned_abs v) (instance_mode m.typed (value_of u) mode)) u)) s) k) s.answers (place z pc ints refs s)
+      → Same z.flat s.fuel (c + 2) (fin_then ((unless_stop b Trap.SizeNotPositive site >> (λ u. answered site (Act.New cells (unsigned_abs v) (instance_mode m.typed (value_of u) mode)) u)) s) k) s.answers (place z pc ints refs s)
   positive_by false T v site words use_made mode cells i r pc c ints refs s k e path re v_is has a rest =
       weaken z.flat s.fuel (c + 1) (c + 2) _ s.answers _ (omega arith)
-      (ends z.flat (op.ChkPositive i (at_site site)) (stopped traps.SizeNotPositive site) c s (place z pc ints refs s) (holding z T scope ints refs s a) refl refl has.0 (ap (λ q. asserts (is_positive q) traps.SizeNotPositive (at_site site) (place z pc ints refs s)) v_is ∙ ap (λ b. asserts b traps.SizeNotPositive (at_site site) (place z pc ints refs s)) e))
+      (ends z.flat (Op.ChkPositive i (at_site site)) (stopped Trap.SizeNotPositive site) c s (place z pc ints refs s) (holding z T scope ints refs s a) refl refl has.0 (ap (λ q. asserts (is_positive q) Trap.SizeNotPositive (at_site site) (place z pc ints refs s)) v_is ∙ ap (λ b. asserts b Trap.SizeNotPositive (at_site site) (place z pc ints refs s)) e))
   positive_by true T v site words use_made mode cells i r pc c ints refs s k e path re v_is has a rest =
       let m1 = place z (pc + 1) ints refs s in
       let M = instance_mode m.typed (value_of s) mode in
       let two : pc + 1 + 1 ≡ pc + 2 = omega arith in
       let credit : c + 1 + 1 ≡ c + 2 = omega arith in
       let r0 : r ≡ ref_count scope + length T + 0 = omega arith in
-      subst (λ q. Same z.flat s.fuel q (fin_then (happens s.answers site (acts.New cells (unsigned_abs v) M) s) k) s.answers (place z pc ints refs s)) credit
-      (step z.flat (op.ChkPositive i (at_site site)) s.fuel (c + 1) _ s.answers (place z pc ints refs s) m1 has.0 (ap (λ q. asserts (is_positive q) traps.SizeNotPositive (at_site site) (place z pc ints refs s)) v_is ∙ ap (λ b. asserts b traps.SizeNotPositive (at_site site) (place z pc ints refs s)) e)
-      (asks_at z.flat (op.New r i cells (object_spot ctx site words use_made mode)) site (acts.New cells (unsigned_abs v) M) (pos 0) (λ x w. on (set_ref r x w)) c s.answers s m1 m1 k (holding z T scope ints refs s a) refl refl has.1.0
-      (ap (λ q. asks m1 site (acts.New cells (elements_made q) (mode_of_object z.flat.globals m1 (object_mode ctx mode))) (pos 0) (λ x w. on (set_ref r x w))) v_is ∙ ap (λ q. asks m1 site (acts.New cells q (mode_of_object z.flat.globals m1 (object_mode ctx mode))) (pos 0) (λ x w. on (set_ref r x w))) (positive_elements v e) ∙ ap (λ q. asks m1 site (acts.New cells (unsigned_abs v) q) (pos 0) (λ x w. on (set_ref r x w))) (object_mode_is T [] mode (pc + 1) ints refs s path a))
+      subst (λ q. Same z.flat s.fuel q (fin_then (happens s.answers site (Act.New cells (unsigned_abs v) M) s) k) s.answers (place z pc ints refs s)) credit
+      (step z.flat (Op.ChkPositive i (at_site site)) s.fuel (c + 1) _ s.answers (place z pc ints refs s) m1 has.0 (ap (λ q. asserts (is_positive q) Trap.SizeNotPositive (at_site site) (place z pc ints refs s)) v_is ∙ ap (λ b. asserts b Trap.SizeNotPositive (at_site site) (place z pc ints refs s)) e)
+      (asks_at z.flat (Op.New r i cells (object_spot ctx site words use_made mode)) site (Act.New cells (unsigned_abs v) M) (pos 0) (λ x w. on (set_ref r x w)) c s.answers s m1 m1 k (holding z T scope ints refs s a) refl refl has.1.0
+      (ap (λ q. asks m1 site (Act.New cells (elements_made q) (mode_of_object z.flat.globals m1 (object_mode ctx mode))) (pos 0) (λ x w. on (set_ref r x w))) v_is ∙ ap (λ q. asks m1 site (Act.New cells q (mode_of_object z.flat.globals m1 (object_mode ctx mode))) (pos 0) (λ x w. on (set_ref r x w))) (positive_elements v e) ∙ ap (λ q. asks m1 site (Act.New cells (unsigned_abs v) q) (pos 0) (λ x w. on (set_ref r x w))) (object_mode_is T [] mode (pc + 1) ints refs s path a))
       (λ x. refl)
       (λ x answers.
-      let u = after_event s answers (s.events ++ event_of site (acts.New cells (unsigned_abs v) M) x ∷ []) in
+      let u = after_event s answers (s.events ++ event_of site (Act.New cells (unsigned_abs v) M) x ∷ []) in
       subst (λ q. Same z.flat s.fuel c (k x u) answers (place z q ints (put refs (z.refs + r) x) u)) (sym two)
       (rest x (put refs (z.refs + r) x) u (push z T scope [] x r ints refs u r0 (same_frame z T scope [] ints refs s u refl refl a))))))
 
   pub new_runs : (ke kn : Kind) (need : ℕ) (count : Run ℤ) (counts : ℕ → ℕ → List Op) (site : Site) (words : Text) (use_made : Use) (mode : Sharing) (cells : ℕ) → is_integer ke ≡ true → is_reference kn ≡ true → PathStands m.typed scope mode → RunsAs m z scope ke need count counts
-      → RunsAs m z scope kn (need + 2) (count >>= λ v. unless_stop (is_positive v) traps.SizeNotPositive site >> (λ u. answered site (acts.New cells (unsigned_abs v) (instance_mode m.typed (value_of u) mode)) u))
-      (λ i r. counts i r ++ (op.ChkPositive i (at_site site) ∷ op.New r i cells (object_spot ctx site words use_made mode) ∷ []))
+      → RunsAs m z scope kn (need + 2) (count >>= λ v. unless_stop (is_positive v) Trap.SizeNotPositive site >> (λ u. answered site (Act.New cells (unsigned_abs v) (instance_mode m.typed (value_of u) mode)) u))
+      (λ i r. counts i r ++ (Op.ChkPositive i (at_site site) ∷ Op.New r i cells (object_spot ctx site words use_made mode) ∷ []))
   new_runs ke kn need count counts site words use_made mode cells ie rn path of_count T i r pc c ints refs s k has le re a rest =
       let C = counts i r in
-      let tail = op.ChkPositive i (at_site site) ∷ op.New r i cells (object_spot ctx site words use_made mode) ∷ [] in
+      let tail = Op.ChkPositive i (at_site site) ∷ Op.New r i cells (object_spot ctx site words use_made mode) ∷ [] in
       let end : pc + length C + 2 ≡ pc + length (C ++ tail) = omega (arith, length-append C tail) in
-      let then_run : ℤ → Run ℤ = λ v. unless_stop (is_positive v) traps.SizeNotPositive site >> (λ u. answered site (acts.New cells (unsigned_abs v) (instance_mode m.typed (value_of u) mode)) u) in
+      let then_run : ℤ → Run ℤ = λ v. unless_stop (is_positive v) Trap.SizeNotPositive site >> (λ u. answered site (Act.New cells (unsigned_abs v) (instance_mode m.typed (value_of u) mode)) u) in
       bind z.flat s.fuel (c + (need + 2)) s.answers (count s) then_run k (place z pc ints refs s)
       (weaken z.flat s.fuel (c + 2 + need) (c + (need + 2)) _ s.answers _ (omega arith)
       (of_count T i r pc (c + 2) ints refs s (λ v u. fin_then (then_run v u) k) (has_front z.flat.lines pc C tail has) le re a (λ v ints1 refs1 s1 w.
@@ -320,9 +305,9 @@ module _ (m : Assignment) (z : Standing) (scope : List Slot) where
       (positive_by (is_positive v) T v site words use_made mode cells i r (pc + length C) (c + 6) ints1 refs1 s1 k refl path re (w.value ie) (has_back z.flat.lines pc C tail has) a1
       (λ x refs2 u a2. subst (λ q. Same z.flat u.fuel (c + 6) (k x u) u.answers (place z q ints1 refs2 u)) (sym end) (rest x ints1 refs2 u (ref_valued m z scope kn T i x ints ints1 refs2 u rn a2 w.kept)))))))
 
-  pub entered_more : (kind : Kind) (need e : ℕ) (run : Run ℤ) (code : ℕ → ℕ → List Op) → need ≤ 7 + e → RunsAs m z scope kind need run code → RunsAs m z scope kind e (entered run) (λ i r. op.Enter ∷ code i r)
+  pub entered_more : (kind : Kind) (need e : ℕ) (run : Run ℤ) (code : ℕ → ℕ → List Op) → need ≤ 7 + e → RunsAs m z scope kind need run code → RunsAs m z scope kind e (entered run) (λ i r. Op.Enter ∷ code i r)
   entered_more kind need e run code few of_run T i r pc c ints refs s k has le re a rest =
-      let end : pc + 1 + length (code i r) ≡ pc + length (op.Enter ∷ code i r) = omega arith in
+      let end : pc + 1 + length (code i r) ≡ pc + length (Op.Enter ∷ code i r) = omega arith in
       enters_at z.flat s.fuel (c + e) run k s (place z pc ints refs s) (place z (pc + 1) ints refs s) refl (holding z T scope ints refs s a) refl refl has.0 refl
       (λ f. weaken z.flat f (c + need) (c + e + 7) _ s.answers _ (omega arith)
       (of_run T i r (pc + 1) c ints refs (record s { fuel = f }) k has.1 le re (same_frame z T scope [] ints refs s (record s { fuel = f }) refl refl a)

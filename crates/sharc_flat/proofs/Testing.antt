@@ -1,16 +1,6 @@
 -- Tests, and values that go to something of a type.
-use Rattle.std.proofs.{Common.{◌≡◌, ℕ, zero, suc, ◌+◌, ◌<◌, ◌≤◌, Bool, true, false, cond, List, [], ◌∷◌, ◌++◌, length, Some, refl, sym, ap, ◌∙◌, subst, arith, length-append}, lemmas.Bool.Decides.nat_tests, lemmas.List.append-nil}
-use Rattle.std.specs.Prelude.{nat_le, ℤ, pos, slice_get, not, ◌&&◌, ◌||◌}
-use Rattle.sharc_tree.specs.{declared.token.Site.Site, Tree.Expression, Spans.span_of}
-use Rattle.sharc_tree.specs.declared.trap.Trap.TheVariants as traps
-use Rattle.sharc_names.specs.Kinds.{Kind, is_integer}
-use Rattle.sharc_mode.specs.Moded.{Assignment}
-use Rattle.sharc_meaning.specs.{declared.given.GivenUp.TheVariants.Released, Reference.number_of, State.{State, Run, ◌>>◌, give, is_reference, all_released, done, gives_up as source_gives_up, stopped, unless_stop, holds, drops}, Arithmetic.{bits_of, is_zero, is_equal, is_held_by, fits}, Expressions.{tested, fitting}}
-use Rattle.sharc_flat.specs.{declared.op.Op.Op, Machine.{goes, put, op_turn, asserts}, Scope.{int_count, ref_count, at_site}, declared.slot.Slot.Slot, Places.{width_of, width_code}, Flattened.truth_code}
-use Rattle.sharc_flat.specs.declared.op.Op.TheVariants as op
-use Rattle.sharc_flat.proofs.{Banks.{put_same, put_other}, Runs.{HasAt, has_front, has_back, Fin, fin_then, Same, weaken, step, Holds, bind, ends}, Agreeing.{Standing, place, Agree, holding, push, drop_last, last_is, with_int, same_frame, loose_of}, Values.{integer_is, RunsAs}, Popping.{AllNull, trailing}, Computing.{holds_same, bits_same}}
+use Rattle.sharc_flat.proofs.{Imports.{◌≡◌, ℕ, zero, suc, ◌+◌, ◌<◌, ◌≤◌, Bool, true, false, cond, List, [], ◌∷◌, ◌++◌, length, Some, refl, sym, ap, ◌∙◌, subst, arith, length-append, nat_tests, append-nil, nat_le, ℤ, pos, slice_get, not, ◌&&◌, ◌||◌, Site, Expression, span_of, Trap, Kind, is_integer, Assignment, Released, number_of, State, Run, ◌>>◌, give, is_reference, all_released, done, gives_up as source_gives_up, stopped, unless_stop, holds, drops, bits_of, is_zero, is_equal, is_held_by, fits, tested, fitting, Op, goes, put, op_turn, asserts, int_count, ref_count, at_site, Slot, width_of, width_code, truth_code, kind_at}, Banks.{put_same, put_other}, Runs.{HasAt, has_front, has_back, Fin, fin_then, Same, weaken, step, Holds, bind, ends}, Agreeing.{Standing, place, Agree, holding, push, drop_last, last_is, with_int, same_frame, loose_of}, Values.{integer_is, RunsAs}, Popping.{AllNull, trailing}, Computing.{holds_same, bits_same}}
 use Rattle.sharc_code.specs.Arithmetic as code
-use Rattle.sharc_ctype.specs.Resolved.{kind_at}
 
 -- what is compared with NULL
 le_zero : (n : ℕ) → nat_le (suc n) 0 ≡ false
@@ -80,11 +70,11 @@ module _ (m : Assignment) (z : Standing) (scope : List Slot) where
       let four : c + 2 + 1 + 1 + 1 + 1 ≡ c + 6 = omega arith in
       subst (λ b. Same z.flat s1.fuel (c + 6) (fin_then ((cond b (source_gives_up (all_released (v ∷ []))) done >> give (not (is_zero v))) s1) k) s1.answers (place z (pc + length (ce i r)) ints1 refs1 s1)) (sym eb')
       (subst (λ q. Same z.flat s1.fuel q (k (not (is_zero v)) u) s1.answers (place z (pc + length (ce i r)) ints1 refs1 s1)) four
-      (step z.flat (op.Null (r + 1)) s1.fuel (c + 2 + 1 + 1 + 1) _ s1.answers _ (place z (pc + length (ce i r) + 1) ints1 refs2 s1) has_t.0 refl
-      (step z.flat (op.SameReference i r (r + 1)) s1.fuel (c + 2 + 1 + 1) _ s1.answers _ (place z (pc + length (ce i r) + 1 + 1) ints3 refs2 s1) has_t.1.0 refl
-      (step z.flat (op.Pop r) s1.fuel (c + 2 + 1) _ s1.answers _ (place z (pc + length (ce i r) + 1 + 1 + 1) ints3 refs4 u) has_t.1.1.0
+      (step z.flat (Op.Null (r + 1)) s1.fuel (c + 2 + 1 + 1 + 1) _ s1.answers _ (place z (pc + length (ce i r) + 1) ints1 refs2 s1) has_t.0 refl
+      (step z.flat (Op.SameReference i r (r + 1)) s1.fuel (c + 2 + 1 + 1) _ s1.answers _ (place z (pc + length (ce i r) + 1 + 1) ints3 refs2 s1) has_t.1.0 refl
+      (step z.flat (Op.Pop r) s1.fuel (c + 2 + 1) _ s1.answers _ (place z (pc + length (ce i r) + 1 + 1 + 1) ints3 refs4 u) has_t.1.1.0
       (ap (λ x. goes (record (place z (pc + length (ce i r) + 1 + 1 + 1) ints3 refs4 s1) { given = s1.given_up ++ Released (number_of x) ∷ [] })) v2)
-      (step z.flat (op.IsFalse i i) s1.fuel (c + 2) _ s1.answers _ (place z (pc + length (ce i r) + 1 + 1 + 1 + 1) ints6 refs4 u) has_t.1.1.1.0 refl
+      (step z.flat (Op.IsFalse i i) s1.fuel (c + 2) _ s1.answers _ (place z (pc + length (ce i r) + 1 + 1 + 1 + 1) ints6 refs4 u) has_t.1.1.1.0 refl
       (subst (λ q. Same z.flat s1.fuel (c + 2) (k (not (is_zero v)) u) s1.answers (place z q ints6 refs4 u)) (sym end)
       (rest (not (is_zero v)) ints6 refs4 u a6
       (λ n lt. put_other ints3 (z.ints + i) _ n (λ q. omega arith) ∙ put_other ints1 (z.ints + i) _ n (λ q. omega arith) ∙ w.kept n lt) value)))))))))
@@ -102,34 +92,34 @@ module _ (m : Assignment) (z : Standing) (scope : List Slot) where
 
   -- a value that what it goes to has to hold
   fitting_by : (b : Bool) (kind ka : Kind) (e : Expression) (run : Run ℤ) (ce : ℕ → ℕ → List Op) → is_integer kind ≡ b → (b ≡ true → is_integer ka ≡ true) → RunsAs m z scope ka 0 run ce
-      → RunsAs m z scope ka 1 (fitting kind e run) (λ i r. ce i r ++ cond b (op.ChkWidth (width_of kind) i (at_site (span_of e).first) ∷ []) [])
+      → RunsAs m z scope ka 1 (fitting kind e run) (λ i r. ce i r ++ cond b (Op.ChkWidth (width_of kind) i (at_site (span_of e).first) ∷ []) [])
   fitting_by false kind ka e run ce eb ints of_run T i r pc c ints0 refs s k has le re a rest =
       let end : pc + length (ce i r) ≡ pc + length (ce i r ++ []) = ap (λ l. pc + length l) (sym (append-nil (ce i r))) in
-      bind z.flat s.fuel (c + 1) s.answers (run s) (λ v. unless_stop (fits kind v) traps.OutOfRange (span_of e).first >> give v) k (place z pc ints0 refs s)
+      bind z.flat s.fuel (c + 1) s.answers (run s) (λ v. unless_stop (fits kind v) Trap.OutOfRange (span_of e).first >> give v) k (place z pc ints0 refs s)
       (weaken z.flat s.fuel (c + 0) (c + 1) _ s.answers _ (omega arith)
       (of_run T i r pc c ints0 refs s _ (has_front z.flat.lines pc (ce i r) [] has) le re a (λ v ints1 refs1 s1 w.
-      subst (λ b. Same z.flat s1.fuel (c + 6) (fin_then ((unless_stop b traps.OutOfRange (span_of e).first >> give v) s1) k) s1.answers (place z (pc + length (ce i r)) ints1 refs1 s1)) (sym (fits_by false kind v eb))
+      subst (λ b. Same z.flat s1.fuel (c + 6) (fin_then ((unless_stop b Trap.OutOfRange (span_of e).first >> give v) s1) k) s1.answers (place z (pc + length (ce i r)) ints1 refs1 s1)) (sym (fits_by false kind v eb))
       (subst (λ q. Same z.flat s1.fuel (c + 6) (k v s1) s1.answers (place z q ints1 refs1 s1)) (sym end) (rest v ints1 refs1 s1 w)))))
   fitting_by true kind ka e run ce eb ints of_run T i r pc c ints0 refs s k has le re a rest =
       let site = (span_of e).first in
-      let o = op.ChkWidth (width_of kind) i (at_site site) in
+      let o = Op.ChkWidth (width_of kind) i (at_site site) in
       let end : pc + length (ce i r) + 1 ≡ pc + length (ce i r ++ o ∷ []) = omega (arith, length-append (ce i r) (o ∷ [])) in
       let has_o = (has_back z.flat.lines pc (ce i r) (o ∷ []) has).0 in
-      bind z.flat s.fuel (c + 1) s.answers (run s) (λ v. unless_stop (fits kind v) traps.OutOfRange site >> give v) k (place z pc ints0 refs s)
+      bind z.flat s.fuel (c + 1) s.answers (run s) (λ v. unless_stop (fits kind v) Trap.OutOfRange site >> give v) k (place z pc ints0 refs s)
       (weaken z.flat s.fuel (c + 1 + 0) (c + 1) _ s.answers _ (omega arith)
       (of_run T i r pc (c + 1) ints0 refs s _ (has_front z.flat.lines pc (ce i r) (o ∷ []) has) le re a (λ v ints1 refs1 s1 w.
       let pc1 = pc + length (ce i r) in
       let a1 : Agree z T scope [] ints1 refs1 s1 = subst (λ b. Agree z T scope (loose_of b v) ints1 refs1 s1) (integer_is ka (ints refl)) w.agree in
       let held_same : code.holds (width_of kind) (ints1 (z.ints + i)) ≡ is_held_by (bits_of kind) v = ap (code.holds (width_of kind)) (w.value (ints refl)) ∙ holds_same (width_of kind) v ∙ ap (λ n. is_held_by n v) (bits_same kind) in
-      subst (λ b. Same z.flat s1.fuel (c + 1 + 6) (fin_then ((unless_stop b traps.OutOfRange site >> give v) s1) k) s1.answers (place z pc1 ints1 refs1 s1)) (sym (fits_by true kind v eb))
-      (by (is_held_by (bits_of kind) v) v pc1 c o site ints1 refs1 s1 k has_o (ap (λ b. asserts b traps.OutOfRange (at_site site) (place z pc1 ints1 refs1 s1)) held_same) (holding z T scope ints1 refs1 s1 a1)
+      subst (λ b. Same z.flat s1.fuel (c + 1 + 6) (fin_then ((unless_stop b Trap.OutOfRange site >> give v) s1) k) s1.answers (place z pc1 ints1 refs1 s1)) (sym (fits_by true kind v eb))
+      (by (is_held_by (bits_of kind) v) v pc1 c o site ints1 refs1 s1 k has_o (ap (λ b. asserts b Trap.OutOfRange (at_site site) (place z pc1 ints1 refs1 s1)) held_same) (holding z T scope ints1 refs1 s1 a1)
       (subst (λ q. Same z.flat s1.fuel (c + 6) (k v s1) s1.answers (place z q ints1 refs1 s1)) (sym end) (rest v ints1 refs1 s1 w))))))
     where
-      by : (b : Bool) (v : ℤ) (pc c : ℕ) (o : Op) (site : Site) (ints refs : ℕ → ℤ) (s : State) (k : ℤ → State → Fin) → slice_get z.flat.lines pc ≡ Some o → op_turn z.flat o (place z pc ints refs s) ≡ asserts b traps.OutOfRange (at_site site) (place z pc ints refs s) → Holds refs s
+      by : (b : Bool) (v : ℤ) (pc c : ℕ) (o : Op) (site : Site) (ints refs : ℕ → ℤ) (s : State) (k : ℤ → State → Fin) → slice_get z.flat.lines pc ≡ Some o → op_turn z.flat o (place z pc ints refs s) ≡ asserts b Trap.OutOfRange (at_site site) (place z pc ints refs s) → Holds refs s
           → Same z.flat s.fuel (c + 6) (k v s) s.answers (place z (pc + 1) ints refs s)
-          → Same z.flat s.fuel (c + 1 + 6) (fin_then ((unless_stop b traps.OutOfRange site >> give v) s) k) s.answers (place z pc ints refs s)
+          → Same z.flat s.fuel (c + 1 + 6) (fin_then ((unless_stop b Trap.OutOfRange site >> give v) s) k) s.answers (place z pc ints refs s)
       by true v pc c o site ints refs s k at is holds rest = weaken z.flat s.fuel (c + 6 + 1) (c + 1 + 6) _ s.answers _ (omega arith) (step z.flat o s.fuel (c + 6) (k v s) s.answers _ _ at is rest)
-      by false v pc c o site ints refs s k at is holds rest = weaken z.flat s.fuel (c + 6 + 1) (c + 1 + 6) _ s.answers _ (omega arith) (ends z.flat o (stopped traps.OutOfRange site) (c + 6) s _ holds refl refl at is)
+      by false v pc c o site ints refs s k at is holds rest = weaken z.flat s.fuel (c + 6 + 1) (c + 1 + 6) _ s.answers _ (omega arith) (ends z.flat o (stopped Trap.OutOfRange site) (c + 6) s _ holds refl refl at is)
 
   pub fitting_runs : (kind ka : Kind) (e : Expression) (run : Run ℤ) (ce : ℕ → ℕ → List Op) → (is_integer kind ≡ true → is_integer ka ≡ true) → RunsAs m z scope ka 0 run ce
       → RunsAs m z scope ka 1 (fitting kind e run) (λ i r. ce i r ++ width_code i kind (span_of e).first)

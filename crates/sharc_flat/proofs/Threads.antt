@@ -1,17 +1,6 @@
 -- A thread, from its start to its end, and both directions.
-use Rattle.std.proofs.{Common.{◌≡◌, ℕ, zero, suc, ◌+◌, ◌-◌, ◌<◌, ◌≤◌, Bool, true, false, cond, List, [], ◌∷◌, ◌++◌, length, get_or, take, map, Some, None, refl, sym, ap, ◌∙◌, subst, ⊎_elim, arith, inl, inr}, lemmas.Bool.cases_lt}
-use Rattle.std.specs.Prelude.{ℤ, pos, slice_get, not, nat_lt, ◌⊎◌, ◌≢◌}
-use Rattle.sharc_tree.specs.declared.event.Act.TheVariants as acts
-use Rattle.sharc_tree.specs.{declared.token.Site.Site, declared.event.Act.Act, declared.tree.declaration.Declaration.Declaration}
-use Rattle.sharc_names.specs.Kinds.{is_pointer, declared_kind}
-use Rattle.sharc_mode.specs.Moded.{Assignment}
-use Rattle.sharc_meaning.specs.{State.{Frame, State, Out, go, over, then_on, ◌>>=◌, ◌>>◌, give, entered, happens, answer_of, value_in, is_reference, pointers_among, done, performs, without_temporaries, stopped, unless_stop, holds, spent, ends_variables, event_of, Outcome, wants, ended, held_references}, Statements.{turns, exec_all}, declared.variable.Variable.Variable, Meaning.{parameters_begin, left_at, pointers_passed, with_frame, run_function, calls, run_thread, goes_away, asked_by, asks as source_asks, start as source_start, no_frame}, Events.held_mutexes, Laws.SpentIsNone}
-use Rattle.sharc_flat.specs.{declared.op.Op.Op, declared.op.Spot.Spot, Machine.{Flat, At, goes, asks, put, next as on, halts, function_of, Turn, Came, exec, on_turn, on_answer, turn, line_turn, end_turn, start as start_at, first_at, begun as begun_at, with_event}, Scope.{ref_count, at_site, slot_of}, Flattened.{around_body, in_function, statements_code, parameters_scope, IsFlattened, parameter_of}, Correct.{SameAs, ProgramSuits, MayStart, Forth, Back, AsksTheSame}}
-use Rattle.sharc_flat.specs.declared.op.Op.TheVariants as op
-use Rattle.sharc_flat.proofs.{Banks.{Bank, bank_is, bank_push}, Runs.{Fin, fin_of, fin_then, Same, weaken, step, Holds, bind, after_event, ends, Tells}, Agreeing.{slots_of, int_values, Standing, place, Agree, below, loose_of}, Declaring.declared_reference, Functions.{begun, function_runs}, Linking.{CallsAs, BodiesAs, inner_scope, no_room, one_call, linked, unframe, below_more}, Storing.performs_then, Program.{statements_run, beyond_all}}
-use Rattle.sharc_tree.specs.declared.trap.Trap.TheVariants as traps
-use Rattle.sharc_ctype.specs.Resolved.{function_at}
-use Rattle.sharc_code.specs.declared.code.Parameter.TheVariants as parameters
+use Rattle.sharc_flat.proofs.{Imports.{◌≡◌, ℕ, zero, suc, ◌+◌, ◌-◌, ◌<◌, ◌≤◌, Bool, true, false, cond, List, [], ◌∷◌, ◌++◌, length, get_or, take, map, Some, None, refl, sym, ap, ◌∙◌, subst, ⊎_elim, arith, inl, inr, cases_lt, ℤ, pos, slice_get, not, nat_lt, ◌⊎◌, ◌≢◌, Site, Act, Declaration, is_pointer, declared_kind, Assignment, Frame, State, Out, go, over, then_on, ◌>>=◌, ◌>>◌, give, entered, happens, answer_of, value_in, is_reference, pointers_among, done, performs, without_temporaries, stopped, unless_stop, holds, spent, ends_variables, event_of, Outcome, wants, ended, held_references, turns, exec_all, Variable, parameters_begin, left_at, pointers_passed, with_frame, run_function, calls, run_thread, goes_away, source_asks, source_start, no_frame, held_mutexes, SpentIsNone, Op, Spot, Flat, At, goes, asks, put, on, halts, function_of, Turn, Came, exec, on_turn, on_answer, turn, line_turn, end_turn, start as start_at, first_at, begun as begun_at, with_event, ref_count, at_site, slot_of, around_body, in_function, statements_code, parameters_scope, IsFlattened, parameter_of, SameAs, ProgramSuits, MayStart, Forth, Back, AsksTheSame, Trap, function_at, Parameter}, Banks.{Bank, bank_is, bank_push}, Runs.{Fin, fin_of, fin_then, Same, weaken, step, Holds, bind, after_event, ends, Tells}, Agreeing.{slots_of, int_values, Standing, place, Agree, below, loose_of}, Declaring.declared_reference, Functions.{begun, function_runs}, Linking.{CallsAs, BodiesAs, inner_scope, no_room, one_call, linked, unframe, below_more}, Storing.performs_then, Program.{statements_run, beyond_all}}
+use Rattle.sharc_meaning.specs.Meaning.{asked_by}
 
 -- one event, also at a place after the code
 asks_turn : (flat : Flat) (site : Site) (act : Act) (c : ℕ) (s : State) (w : At) (k : ℤ → State → Fin) → Holds w.refs s → w.events ≡ s.events → w.given ≡ s.given_up → turn flat w ≡ asks w site act (pos 0) (λ v n. on n)
@@ -88,27 +77,27 @@ module _ (m : Assignment) (suits : ProgramSuits m) where
         let diff : pc - length flat.lines ≡ d = omega arith in
         ap (λ o. line_turn flat o (place z0 pc ints refs s)) none ∙ ap (end_turn flat (place z0 pc ints refs s)) diff
 
-    goes_by : (b : Bool) (pc c : ℕ) (ints refs : ℕ → ℤ) (s : State) → not (nat_lt 0 (length (held_mutexes s.events))) ≡ b → Holds refs s → slice_get flat.lines pc ≡ Some (op.Return (at_site site))
-        → Same flat s.fuel (c + 4) (fin_then ((unless_stop b traps.ReturnWithLockHeld site >> (performs name acts.Return >> performs name acts.Gone)) s) (λ _ u. fin_of ended u)) s.answers (place z0 pc ints refs s)
+    goes_by : (b : Bool) (pc c : ℕ) (ints refs : ℕ → ℤ) (s : State) → not (nat_lt 0 (length (held_mutexes s.events))) ≡ b → Holds refs s → slice_get flat.lines pc ≡ Some (Op.Return (at_site site))
+        → Same flat s.fuel (c + 4) (fin_then ((unless_stop b Trap.ReturnWithLockHeld site >> (performs name Act.Return >> performs name Act.Gone)) s) (λ _ u. fin_of ended u)) s.answers (place z0 pc ints refs s)
     goes_by false pc c ints refs s e h at =
         weaken flat s.fuel (c + 1) (c + 4) _ s.answers _ (omega arith)
-        (ends flat (op.Return (at_site site)) (stopped traps.ReturnWithLockHeld site) c s (place z0 pc ints refs s) h refl refl at (ap (λ b. cond b (goes (record (place z0 pc ints refs s) { pc = length flat.lines })) (halts (stopped traps.ReturnWithLockHeld site))) e))
+        (ends flat (Op.Return (at_site site)) (stopped Trap.ReturnWithLockHeld site) c s (place z0 pc ints refs s) h refl refl at (ap (λ b. cond b (goes (record (place z0 pc ints refs s) { pc = length flat.lines })) (halts (stopped Trap.ReturnWithLockHeld site))) e))
     goes_by true pc c ints refs s e h at =
         let n = length flat.lines in
         let four : c + 1 + 1 + 1 + 1 ≡ c + 4 = omega arith in
         let n0 : n ≡ n + 0 = omega arith in
-        subst (λ q. Same flat s.fuel q (fin_then ((performs name acts.Return >> performs name acts.Gone) s) (λ _ u. fin_of ended u)) s.answers (place z0 pc ints refs s)) four
-        (step flat (op.Return (at_site site)) s.fuel (c + 1 + 1 + 1) _ s.answers (place z0 pc ints refs s) (place z0 n ints refs s) at (ap (λ b. cond b (goes (place z0 n ints refs s)) (halts (stopped traps.ReturnWithLockHeld site))) e)
-        (subst (λ q. Same flat s.fuel (c + 1 + 1 + 1) q s.answers (place z0 n ints refs s)) (sym (performs_then (happens s.answers name acts.Return s) (performs name acts.Gone) (λ _ u. fin_of ended u)))
-        (asks_turn flat name acts.Return (c + 1 + 1) s (place z0 n ints refs s) (λ x u. fin_then (performs name acts.Gone u) (λ _ u. fin_of ended u)) h refl refl
-        (gone_at n 0 ints refs s n0 ∙ ap (λ q. asks (place z0 n ints refs s) q acts.Return (pos 0) (λ v n. on n)) name_is) (λ x. refl)
+        subst (λ q. Same flat s.fuel q (fin_then ((performs name Act.Return >> performs name Act.Gone) s) (λ _ u. fin_of ended u)) s.answers (place z0 pc ints refs s)) four
+        (step flat (Op.Return (at_site site)) s.fuel (c + 1 + 1 + 1) _ s.answers (place z0 pc ints refs s) (place z0 n ints refs s) at (ap (λ b. cond b (goes (place z0 n ints refs s)) (halts (stopped Trap.ReturnWithLockHeld site))) e)
+        (subst (λ q. Same flat s.fuel (c + 1 + 1 + 1) q s.answers (place z0 n ints refs s)) (sym (performs_then (happens s.answers name Act.Return s) (performs name Act.Gone) (λ _ u. fin_of ended u)))
+        (asks_turn flat name Act.Return (c + 1 + 1) s (place z0 n ints refs s) (λ x u. fin_then (performs name Act.Gone u) (λ _ u. fin_of ended u)) h refl refl
+        (gone_at n 0 ints refs s n0 ∙ ap (λ q. asks (place z0 n ints refs s) q Act.Return (pos 0) (λ v n. on n)) name_is) (λ x. refl)
         (λ x rest.
-        let u = after_event s rest (s.events ++ event_of name acts.Return x ∷ []) in
-        subst (λ q. Same flat s.fuel (c + 1 + 1) q rest (place z0 (n + 1) ints refs u)) (sym (last_then (happens u.answers name acts.Gone u)))
-        (asks_turn flat name acts.Gone (c + 1) u (place z0 (n + 1) ints refs u) (λ y v. fin_of ended v) h refl refl
-        (gone_at (n + 1) 1 ints refs u refl ∙ ap (λ q. asks (place z0 (n + 1) ints refs u) q acts.Gone (pos 0) (λ v n. on n)) name_is) (λ y. refl)
+        let u = after_event s rest (s.events ++ event_of name Act.Return x ∷ []) in
+        subst (λ q. Same flat s.fuel (c + 1 + 1) q rest (place z0 (n + 1) ints refs u)) (sym (last_then (happens u.answers name Act.Gone u)))
+        (asks_turn flat name Act.Gone (c + 1) u (place z0 (n + 1) ints refs u) (λ y v. fin_of ended v) h refl refl
+        (gone_at (n + 1) 1 ints refs u refl ∙ ap (λ q. asks (place z0 (n + 1) ints refs u) q Act.Gone (pos 0) (λ v n. on n)) name_is) (λ y. refl)
         (λ y rest2.
-        let v = after_event u rest2 (u.events ++ event_of name acts.Gone y ∷ []) in
+        let v = after_event u rest2 (u.events ++ event_of name Act.Gone y ∷ []) in
         let n2 : n + 1 + 1 ≡ n + 2 = omega arith in
         ends_turn flat ended c v (place z0 (n + 1 + 1) ints refs v) h refl refl (gone_at (n + 1 + 1) 2 ints refs v n2)) rest)) s.answers)))
       where
@@ -128,7 +117,7 @@ module _ (m : Assignment) (suits : ProgramSuits m) where
     pointers : Bank refs (pointers_among (begun ds (v ∷ [])))
     values : (j : ℕ) → j < length (int_values (begun ds (v ∷ []))) → ints (0 + j) ≡ get_or (int_values (begun ds (v ∷ []))) j (pos 0)
 
-  started_by : (b : Bool) (flat : Flat) (f : ℕ) (v : ℤ) (d : Declaration) → is_pointer (declared_kind d.written) ≡ b → (function_of flat f).parameter ≡ cond b parameters.Reference parameters.Int → Started flat f v (d ∷ [])
+  started_by : (b : Bool) (flat : Flat) (f : ℕ) (v : ℤ) (d : Declaration) → is_pointer (declared_kind d.written) ≡ b → (function_of flat f).parameter ≡ cond b Parameter.Reference Parameter.Int → Started flat f v (d ∷ [])
   started_by true flat f v d e pe = record {
     ints = λ k. pos 0;
     refs = put (λ k. pos 0) 0 v;
@@ -150,7 +139,7 @@ module _ (m : Assignment) (suits : ProgramSuits m) where
 
   started : (flat : Flat) (f : ℕ) (v : ℤ) (ds : List Declaration) → (function_of flat f).parameter ≡ parameter_of ds → length ds ≤ 1 → Started flat f v ds
   started flat f v [] pe le = record { ints = λ k. pos 0; refs = λ k. pos 0; at = ap (λ q. begun_at q v (first_at flat f)) pe; pointers = λ k. refl; values = λ j lt. absurd (omega arith) }
-  started flat f v (d ∷ []) pe le = started_by (is_pointer (declared_kind d.written)) flat f v d refl (pe ∙ ap (λ b. cond b parameters.Reference parameters.Int) (declared_reference d.written))
+  started flat f v (d ∷ []) pe le = started_by (is_pointer (declared_kind d.written)) flat f v d refl (pe ∙ ap (λ b. cond b Parameter.Reference Parameter.Int) (declared_reference d.written))
   started flat f v (d ∷ e ∷ ds) pe le = absurd (omega arith)
 
   no_pointers : (vs : List Variable) → slots_of vs ≡ [] → pointers_among vs ≡ []

@@ -1,13 +1,5 @@
 -- An access by its mode: under no lock, under one, or stopped.
-use Rattle.std.proofs.Common.{◌≡◌, ℕ, ◌+◌, ◌-◌, Bool, true, false, cond, List, Option, Some, None, refl, ap, ◌∙◌, arith}
-use Rattle.std.specs.Prelude.{ℤ, pos, max, suc, unsigned_abs}
-use Rattle.sharc_tree.specs.{declared.event.Act.Act, declared.event.CellAt.CellAt, declared.event.CellMode.CellMode}
-use Rattle.sharc_tree.specs.declared.event.CellMode.TheVariants as modes
-use Rattle.sharc_tree.specs.declared.event.Object.TheVariants as objects
-use Rattle.sharc_tree.specs.declared.trap.Trap.TheVariants as traps
-use Rattle.sharc_code.specs.{declared.code.GlobalCells.GlobalCells, declared.code.PlaceMode.PlaceMode, declared.code.PlaceMode.TheVariants.{Private, Readonly, Racy, Dynamic, LockedGlobal, LockedSibling, LockedThrough, LockedLoaded}, declared.instr.Cell.Cell, Machine.{elements_of as elements_made}}
-use Rattle.sharc_meaning.specs.{Cells.{cell_of, through}, Reference.{is_null, number_of}, Statements.is_positive}
-use Rattle.sharc_flat.specs.{declared.op.Spot.Spot, Machine.{At, Turn, asks, ref, cell_at, global_cell, lock_is_null, is_of_null, cell_mode_of, stops, accesses, accessed, next as on}}
+use Rattle.sharc_flat.proofs.Imports.{◌≡◌, ℕ, ◌+◌, ◌-◌, Bool, true, false, cond, List, Option, Some, None, refl, ap, ◌∙◌, arith, ℤ, pos, max, suc, unsigned_abs, Act, CellAt, CellMode, Object, Trap, GlobalCells, PlaceMode, Private, Readonly, Racy, Dynamic, LockedGlobal, LockedSibling, LockedThrough, LockedLoaded, Cell, elements_made, cell_of, through, is_null, number_of, is_positive, Spot, At, Turn, asks, ref, cell_at, global_cell, lock_is_null, is_of_null, cell_mode_of, stops, accesses, accessed, on}
 
 -- the mutex of a place, if its mode is locked and the path does not lead through NULL
 abbrev pub mutex_of : List GlobalCells → At → CellAt → PlaceMode → Option CellAt
@@ -19,25 +11,25 @@ mutex_of globals m c _ = None
 
 -- under a lock, or X1 where the path leads through NULL
 abbrev pub under_lock : Option CellAt → Spot → (CellMode → Turn) → Turn
-under_lock None spot f = stops traps.NullPointer spot
-under_lock (Some c) spot f = f (modes.Locked (Some c))
+under_lock None spot f = stops Trap.NullPointer spot
+under_lock (Some c) spot f = f (CellMode.Locked (Some c))
 
 abbrev pub under : PlaceMode → Option CellAt → Spot → (CellMode → Turn) → Turn
-under Private c spot f = f modes.Private
-under Readonly c spot f = f modes.Readonly
-under Racy c spot f = f modes.Racy
-under Dynamic c spot f = f modes.Dynamic
+under Private c spot f = f CellMode.Private
+under Readonly c spot f = f CellMode.Readonly
+under Racy c spot f = f CellMode.Racy
+under Dynamic c spot f = f CellMode.Dynamic
 under _ c spot f = under_lock c spot f
 
-through_by : (b : Bool) (c : CellAt) (spot : Spot) (f : CellMode → Turn) → cond b (stops traps.NullPointer spot) (f (modes.Locked (cond b None (Some c)))) ≡ under_lock (cond b None (Some c)) spot f
+through_by : (b : Bool) (c : CellAt) (spot : Spot) (f : CellMode → Turn) → cond b (stops Trap.NullPointer spot) (f (CellMode.Locked (cond b None (Some c)))) ≡ under_lock (cond b None (Some c)) spot f
 through_by true c spot f = refl
 through_by false c spot f = refl
 
 under_by : (globals : List GlobalCells) (m : At) (c : CellAt) (spot : Spot) (f : CellMode → Turn) (mode : PlaceMode) → is_of_null m spot.lock ≡ false
-    → cond (lock_is_null m spot mode) (stops traps.NullPointer spot) (f (cell_mode_of globals m c mode)) ≡ under mode (mutex_of globals m c mode) spot f
-under_by globals m c spot f (LockedSibling field mutex) e = ap (λ b. cond b (stops traps.NullPointer spot) (f (cell_mode_of globals m c (LockedSibling field mutex)))) e
-under_by globals m c spot f (LockedThrough r place) e = through_by (is_null (ref m r)) (cell_of (objects.Made (number_of (ref m r))) place) spot f
-under_by globals m c spot f LockedLoaded e = through_by (is_null m.pending) (cell_of (objects.Made (number_of m.pending)) 0) spot f
+    → cond (lock_is_null m spot mode) (stops Trap.NullPointer spot) (f (cell_mode_of globals m c mode)) ≡ under mode (mutex_of globals m c mode) spot f
+under_by globals m c spot f (LockedSibling field mutex) e = ap (λ b. cond b (stops Trap.NullPointer spot) (f (cell_mode_of globals m c (LockedSibling field mutex)))) e
+under_by globals m c spot f (LockedThrough r place) e = through_by (is_null (ref m r)) (cell_of (Object.Made (number_of (ref m r))) place) spot f
+under_by globals m c spot f LockedLoaded e = through_by (is_null m.pending) (cell_of (Object.Made (number_of m.pending)) 0) spot f
 under_by globals m c spot f _ e = refl
 
 -- where the mutex beside what is accessed is not one of NULL

@@ -1,15 +1,6 @@
 -- Runs of values and places, and what is in the registers after them.
-use Rattle.std.proofs.{Common.{◌≡◌, ℕ, ◌+◌, ◌-◌, ◌<◌, ◌≤◌, Bool, true, false, cond, List, [], ◌∷◌, ◌++◌, length, take, drop, Option, Some, None, refl, sym, ap, ◌∙◌, subst, arith, append_assoc}, lemmas.Bool.Decides.nat_tests, lemmas.List.{append-nil, take_at, drop_at}}
-use Rattle.std.specs.Prelude.{ℤ, pos, ◌&&◌, ◌||◌, nat_lt, ◌==◌}
-use Rattle.sharc_tree.specs.{declared.event.Object.Object, declared.event.Object.TheVariants.{Global, Made}}
-use Rattle.sharc_names.specs.Kinds.{Kind, object, is_integer, is_integral}
-use Rattle.sharc_code.specs.{declared.instr.Register.TheVariants.Int, Arithmetic.word_of}
-use Rattle.sharc_mode.specs.Moded.{Assignment}
-use Rattle.sharc_meaning.specs.{declared.given.GivenUp.GivenUp, declared.given.GivenUp.TheVariants.Released, Cells.cell_of, Places.{StorePlace, variable, cell, field_in}, Reference.{is_null, number_of}, State.{State, Run, value_of, is_reference, pointers_among, all_released, temporarily}}
-use Rattle.sharc_flat.specs.{declared.op.Op.Op, declared.op.Spot.Spot, Machine.{At, put, cell_at, global_cell, is_of_null, first_cell}, Scope.{Context, int_count, ref_count, register_of, slot_kind}, declared.slot.Slot.Slot, Places.{Target, in_global, in_global_at, in_object, in_object_at, has_base, base_width, field_of, guard_field, guard_cell, guard_code, lock_beside, spot_of, drop_base, settle_base, copy_code, value_code, cell_value_code}, Suits.is_cell}
-use Rattle.sharc_flat.specs.declared.op.Op.TheVariants as op
+use Rattle.sharc_flat.proofs.{Imports.{◌≡◌, ℕ, ◌+◌, ◌-◌, ◌<◌, ◌≤◌, Bool, true, false, cond, List, [], ◌∷◌, ◌++◌, length, take, drop, Option, Some, None, refl, sym, ap, ◌∙◌, subst, arith, append_assoc, nat_tests, append-nil, take_at, drop_at, ℤ, pos, ◌&&◌, ◌||◌, nat_lt, ◌==◌, Object, Global, Made, Kind, object, is_integer, is_integral, Int, word_of, Assignment, GivenUp, Released, cell_of, StorePlace, variable, cell, field_in, is_null, number_of, State, Run, value_of, is_reference, pointers_among, all_released, temporarily, Op, Spot, At, put, cell_at, global_cell, is_of_null, first_cell, Context, int_count, ref_count, register_of, slot_kind, Slot, Target, in_global, in_global_at, in_object, in_object_at, has_base, base_width, field_of, guard_field, guard_cell, guard_code, lock_beside, spot_of, drop_base, settle_base, copy_code, value_code, cell_value_code, is_cell}, Banks.{bank_is, bank_put}, Runs.{HasAt, Fin, fin_then, Same, weaken, step, unhold, without}, Agreeing.{ints_length, IntAt, int_at, Standing, place, Agree, below, stack_length, drop_last, last_is, loose_of, Valued, Rest}, Accessing.{context, pending_place}}
 use Rattle.sharc_flat.specs.Places as targets
-use Rattle.sharc_flat.proofs.{Banks.{bank_is, bank_put}, Runs.{HasAt, Fin, fin_then, Same, weaken, step, unhold, without}, Agreeing.{ints_length, IntAt, int_at, Standing, place, Agree, below, stack_length, drop_last, last_is, loose_of, Valued, Rest}, Accessing.{context, pending_place}}
 
 -- ---- types
 apart_at : (stars : ℕ) (b : Bool) → (nat_lt 0 stars || false) ≡ true → ((stars == 0) && b) ≡ true → ⊥
@@ -89,8 +80,8 @@ module _ (m : Assignment) (z : Standing) (scope : List Slot) where
       }
 
   -- the base of a place ends
-  pub base_ends : (b : Bool) (bases : List ℤ) (T : List ℤ) (r pc c : ℕ) (ints refs : ℕ → ℤ) (s : State) (fin : Fin) → BasesOf b bases → HasAt z.flat.lines pc (cond b (op.Pop r ∷ []) []) → r ≡ ref_count scope + length T → Agree z (T ++ bases) scope [] ints refs s
-      → ((refs' : ℕ → ℤ) → Agree z T scope [] ints refs' (without (length T) s) → Same z.flat s.fuel c fin s.answers (place z (pc + length (cond b (op.Pop r ∷ []) [])) ints refs' (without (length T) s)))
+  pub base_ends : (b : Bool) (bases : List ℤ) (T : List ℤ) (r pc c : ℕ) (ints refs : ℕ → ℤ) (s : State) (fin : Fin) → BasesOf b bases → HasAt z.flat.lines pc (cond b (Op.Pop r ∷ []) []) → r ≡ ref_count scope + length T → Agree z (T ++ bases) scope [] ints refs s
+      → ((refs' : ℕ → ℤ) → Agree z T scope [] ints refs' (without (length T) s) → Same z.flat s.fuel c fin s.answers (place z (pc + length (cond b (Op.Pop r ∷ []) [])) ints refs' (without (length T) s)))
       → Same z.flat s.fuel (c + 1) fin s.answers (place z pc ints refs s)
   base_ends true bases T r pc c ints refs s fin is has e a rest =
       let a1 : Agree z (T ++ is.0 ∷ []) scope [] ints refs s = subst (λ bs. Agree z (T ++ bs) scope [] ints refs s) is.1 a in
@@ -100,7 +91,7 @@ module _ (m : Assignment) (z : Standing) (scope : List Slot) where
       let a3 : Agree z T scope [] ints (put refs (z.refs + r) (pos 0)) u = drop_last z T scope [] is.0 r ints refs u n a2 in
       let v : refs (z.refs + r) ≡ is.0 = last_is z T scope [] is.0 [] r ints refs u n a2 in
       let g : u.given_up ≡ s.given_up ++ Released (number_of (refs (z.refs + r))) ∷ [] = released z T scope (is.0 ∷ []) [] ints refs s a1 ∙ ap (λ w. s.given_up ++ Released (number_of w) ∷ []) (sym v) in
-      step z.flat (op.Pop r) s.fuel c fin s.answers (place z pc ints refs s) _ has.0 refl
+      step z.flat (Op.Pop r) s.fuel c fin s.answers (place z pc ints refs s) _ has.0 refl
       (subst (λ w. Same z.flat s.fuel c fin s.answers w) (sym (given_place z (pc + 1) ints (put refs (z.refs + r) (pos 0)) u (s.given_up ++ Released (number_of (refs (z.refs + r))) ∷ []) g)) (rest (put refs (z.refs + r) (pos 0)) a3))
   base_ends false bases T r pc c ints refs s fin is has e a rest =
       let a1 : Agree z (T ++ []) scope [] ints refs s = subst (λ bs. Agree z (T ++ bs) scope [] ints refs s) is a in
@@ -112,8 +103,8 @@ module _ (m : Assignment) (z : Standing) (scope : List Slot) where
       (subst (λ w. Same z.flat s.fuel c fin s.answers w) (sym (given_place z pc ints refs u s.given_up g)) (subst (λ q. Same z.flat s.fuel c fin s.answers (place z q ints refs u)) p (rest refs a2)))
 
   -- or a reference takes its place
-  pub base_settles : (b : Bool) (bases : List ℤ) (T : List ℤ) (v : ℤ) (r pc c : ℕ) (ints refs : ℕ → ℤ) (s : State) (fin : Fin) → BasesOf b bases → HasAt z.flat.lines pc (cond b (op.Settle r (r + 1) ∷ []) []) → r ≡ ref_count scope + length T → Agree z (T ++ bases) scope (v ∷ []) ints refs s
-      → ((refs' : ℕ → ℤ) → Agree z T scope (v ∷ []) ints refs' (without (length T) s) → Same z.flat s.fuel c fin s.answers (place z (pc + length (cond b (op.Settle r (r + 1) ∷ []) [])) ints refs' (without (length T) s)))
+  pub base_settles : (b : Bool) (bases : List ℤ) (T : List ℤ) (v : ℤ) (r pc c : ℕ) (ints refs : ℕ → ℤ) (s : State) (fin : Fin) → BasesOf b bases → HasAt z.flat.lines pc (cond b (Op.Settle r (r + 1) ∷ []) []) → r ≡ ref_count scope + length T → Agree z (T ++ bases) scope (v ∷ []) ints refs s
+      → ((refs' : ℕ → ℤ) → Agree z T scope (v ∷ []) ints refs' (without (length T) s) → Same z.flat s.fuel c fin s.answers (place z (pc + length (cond b (Op.Settle r (r + 1) ∷ []) [])) ints refs' (without (length T) s)))
       → Same z.flat s.fuel (c + 1) fin s.answers (place z pc ints refs s)
   base_settles true bases T v r pc c ints refs s fin is has e a rest =
       let a1 : Agree z (T ++ is.0 ∷ []) scope (v ∷ []) ints refs s = subst (λ bs. Agree z (T ++ bs) scope (v ∷ []) ints refs s) is.1 a in
@@ -127,7 +118,7 @@ module _ (m : Assignment) (z : Standing) (scope : List Slot) where
       let bank = put (put refs (z.refs + (r + 1)) (pos 0)) (z.refs + r) (refs (z.refs + (r + 1))) in
       let a4 : Agree z T scope (v ∷ []) ints bank u = subst (λ w. Agree z T scope (v ∷ []) ints (put (put refs (z.refs + (r + 1)) (pos 0)) (z.refs + r) w) u) (sym v1) (replace_last T is.0 v r ints (put refs (z.refs + (r + 1)) (pos 0)) u e a3) in
       let g : u.given_up ≡ s.given_up ++ Released (number_of (refs (z.refs + r))) ∷ [] = released z T scope (is.0 ∷ []) (v ∷ []) ints refs s a1 ∙ ap (λ w. s.given_up ++ Released (number_of w) ∷ []) (sym v0) in
-      step z.flat (op.Settle r (r + 1)) s.fuel c fin s.answers (place z pc ints refs s) _ has.0 refl
+      step z.flat (Op.Settle r (r + 1)) s.fuel c fin s.answers (place z pc ints refs s) _ has.0 refl
       (subst (λ w. Same z.flat s.fuel c fin s.answers w) (sym (given_place z (pc + 1) ints bank u (s.given_up ++ Released (number_of (refs (z.refs + r))) ∷ []) g)) (rest bank a4))
   base_settles false bases T v r pc c ints refs s fin is has e a rest =
       let a1 : Agree z (T ++ []) scope (v ∷ []) ints refs s = subst (λ bs. Agree z (T ++ bs) scope (v ∷ []) ints refs s) is a in

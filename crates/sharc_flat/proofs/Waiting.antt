@@ -1,18 +1,5 @@
 -- Condition variables.
-use Rattle.std.proofs.{Common.{◌≡◌, ℕ, zero, suc, ◌+◌, ◌<◌, ◌≤◌, Bool, true, false, cond, List, [], ◌∷◌, ◌++◌, length, Some, refl, sym, ap, ◌∙◌, subst, arith, append_assoc, length-append}, lemmas.List.append-nil}
-use Rattle.std.specs.{Prelude.{ℤ, pos, slice_get, not, codes, slice_index_or}, Str.bytes_eq}
-use Rattle.sharc_tree.specs.declared.event.Act.TheVariants as acts
-use Rattle.sharc_tree.specs.{declared.event.CellAt.CellAt, declared.event.Object.TheVariants.Made, declared.token.Site.Site, declared.event.Act.Act, Tree.{Expression, Arguments}}
-use Rattle.sharc_names.specs.Kinds.{Kind, is_integer}
-use Rattle.sharc_tree.specs.declared.trap.Trap.TheVariants as traps
-use Rattle.sharc_mode.specs.Moded.{Assignment}
-use Rattle.sharc_meaning.specs.{Cells.cell_of, Places.pointee, Reference.{number_of, is_null, NULL}, State.{State, Out, go, over, Run, then_on, ◌>>=◌, ◌>>◌, give, happens, answer_of, value_in, is_reference, temporarily, Step, done, performs, holds_reference, moves_on, with_temporary, without_temporaries, unless_stop, holds, event_of, looks_at}, Expressions.{operand, Calls, called}, Waiting.{cell_at_place, wait_call, signal_call, broadcast_call}, Events.holds_mutex}
-use Rattle.sharc_flat.specs.{declared.op.Op.Op, declared.op.Spot.Spot, Machine.{At, asks, put, cell_at, next as on, set_ref, op_turn, asserts, base_of}, Scope.{int_count, ref_count, at_site}, declared.slot.Slot.Slot, Flattened.{behind_int, behind_ref, wait_code, with_words, argument_words, condition_code, first_cell_of}}
-use Rattle.sharc_flat.specs.declared.op.Op.TheVariants as op
-use Rattle.sharc_flat.proofs.{Banks.{put_same, put_other}, Runs.{HasAt, has_front, has_back, Fin, fin_then, Same, weaken, Holds, bind, without, after_event, asks_at}, Agreeing.{Standing, place, Agree, holding, push, last_is, hold, same_frame, loose_of, Rest}, Values.{loosen, base_ends, RunsAs, temporarily_runs}, Storing.{performs_then, moved_on}, Locking.chk_by, Comparing.all_end}
-use Rattle.sharc_ctype.specs.Resolved.{kind_at}
-use Rattle.sharc_names.specs.declared.fault.Named.TheVariants as named
-use Rattle.sharc_code.specs.declared.code.Text.{Text}
+use Rattle.sharc_flat.proofs.{Imports.{◌≡◌, ℕ, zero, suc, ◌+◌, ◌<◌, ◌≤◌, Bool, true, false, cond, List, [], ◌∷◌, ◌++◌, length, Some, refl, sym, ap, ◌∙◌, subst, arith, append_assoc, length-append, append-nil, ℤ, pos, slice_get, not, codes, get_or as slice_index_or, bytes_eq, CellAt, Made, Site, Act, Expression, Arguments, Kind, is_integer, Trap, Assignment, cell_of, pointee, number_of, is_null, NULL, State, Out, go, over, Run, then_on, ◌>>=◌, ◌>>◌, give, happens, answer_of, value_in, is_reference, temporarily, Step, done, performs, holds_reference, moves_on, with_temporary, without_temporaries, unless_stop, holds, event_of, looks_at, operand, Calls, called, cell_at_place, wait_call, signal_call, broadcast_call, holds_mutex, Op, Spot, At, asks, put, cell_at, on, set_ref, op_turn, asserts, base_of, int_count, ref_count, at_site, Slot, behind_int, behind_ref, wait_code, with_words, argument_words, condition_code, first_cell_of, kind_at, Named, Text}, Banks.{put_same, put_other}, Runs.{HasAt, has_front, has_back, Fin, fin_then, Same, weaken, Holds, bind, without, after_event, asks_at}, Agreeing.{Standing, place, Agree, holding, push, last_is, hold, same_frame, loose_of, Rest}, Values.{loosen, base_ends, RunsAs, temporarily_runs}, Storing.{performs_then, moved_on}, Locking.chk_by, Comparing.all_end}
 
 -- what the references of a call leave to spend
 abbrev pub earned : ℕ → ℕ
@@ -78,8 +65,8 @@ module _ (m : Assignment) (z : Standing) (scope : List Slot) where
 
   -- ---- `signal` and `broadcast`
   tell_by : (o : Op) (mk : CellAt → Act) (T : List ℤ) (v : ℤ) (kind : Kind) (site : Site) (i r pc c : ℕ) (ints0 ints refs : ℕ → ℤ) (s : State) (k : ℤ → State → Fin) → ((c : CellAt) → Plain (mk c)) → ((w : At) → op_turn z.flat o w ≡ asks w site (mk (cell_at z.flat.globals w (first_cell_of r))) (pos 0) (λ v n. on n))
-      → is_reference kind ≡ false → is_integer kind ≡ false → HasAt z.flat.lines pc (op.ChkNull r (at_site site) ∷ o ∷ op.Pop r ∷ []) → r ≡ ref_count scope + length T → Agree z (T ++ v ∷ []) scope [] ints refs s → ((n : ℕ) → n < z.ints + i → ints n ≡ ints0 n) → Rest z kind T scope i (pc + 3) (c + 6) ints0 k
-      → Same z.flat s.fuel (c + 6 + 1 + 1 + 1) (fin_then ((unless_stop (not (is_null v)) traps.NullPointer site >> (performs site (mk (cell_at_place (pointee v))) >> done)) s) (λ x u. k (pos 0) (without (length T) u))) s.answers (place z pc ints refs s)
+      → is_reference kind ≡ false → is_integer kind ≡ false → HasAt z.flat.lines pc (Op.ChkNull r (at_site site) ∷ o ∷ Op.Pop r ∷ []) → r ≡ ref_count scope + length T → Agree z (T ++ v ∷ []) scope [] ints refs s → ((n : ℕ) → n < z.ints + i → ints n ≡ ints0 n) → Rest z kind T scope i (pc + 3) (c + 6) ints0 k
+      → Same z.flat s.fuel (c + 6 + 1 + 1 + 1) (fin_then ((unless_stop (not (is_null v)) Trap.NullPointer site >> (performs site (mk (cell_at_place (pointee v))) >> done)) s) (λ x u. k (pos 0) (without (length T) u))) s.answers (place z pc ints refs s)
   tell_by o mk T v kind site i r pc c ints0 ints refs s k plain is er ei has re a kept rest =
       let r0 : r ≡ ref_count scope + length T + 0 = omega arith in
       let al : Agree z T scope (v ∷ []) ints refs (without (length T) s) = loosen z T scope (v ∷ []) [] ints refs s a in
@@ -88,8 +75,8 @@ module _ (m : Assignment) (z : Standing) (scope : List Slot) where
       let m0 = place z pc ints refs s in
       let held = holding z (T ++ v ∷ []) scope ints refs s a in
       let three : pc + 1 + 1 + 1 ≡ pc + 3 = omega arith in
-      bind z.flat s.fuel (c + 6 + 1 + 1 + 1) s.answers (unless_stop (not (is_null v)) traps.NullPointer site s) (λ _. performs site (mk (cell_at_place (pointee v))) >> done) K m0
-      (chk_by m z scope (not (is_null v)) (op.ChkNull r (at_site site)) traps.NullPointer site pc (c + 6 + 1 + 1) ints refs s _ has.0 (ap (λ q. asserts (not (is_null q)) traps.NullPointer (at_site site) m0) v_is) held
+      bind z.flat s.fuel (c + 6 + 1 + 1 + 1) s.answers (unless_stop (not (is_null v)) Trap.NullPointer site s) (λ _. performs site (mk (cell_at_place (pointee v))) >> done) K m0
+      (chk_by m z scope (not (is_null v)) (Op.ChkNull r (at_site site)) Trap.NullPointer site pc (c + 6 + 1 + 1) ints refs s _ has.0 (ap (λ q. asserts (not (is_null q)) Trap.NullPointer (at_site site) m0) v_is) held
       (event_step o site (mk (cell_at_place (pointee v))) (λ w. w) (pc + 1) (c + 6 + 1) ints refs s done K (plain (cell_at_place (pointee v))) has.1.0
       (is (place z (pc + 1) ints refs s) ∙ ap (λ q. asks (place z (pc + 1) ints refs s) site (mk (cell_of (Made (number_of q)) 0)) (pos 0) (λ v n. on n)) v_is) held
       (λ answers x.
@@ -121,11 +108,11 @@ module _ (m : Assignment) (z : Standing) (scope : List Slot) where
       let refs3 = put refs2 (z.refs + (r + 2)) (pos 0) in
       let a2_is : refs2 (z.refs + r) ≡ a = put_other refs (z.refs + (r + 2)) b (z.refs + r) (λ q. omega arith) ∙ a_is in
       let b2_is : refs2 (z.refs + (r + 2)) ≡ b = put_same refs (z.refs + (r + 2)) b in
-      let g4 : Step = performs site (acts.Lock cb) >> moves_on 1 in
-      let g3 : Step = holds_reference b >> (performs site (acts.Woken ca) >> g4) in
-      let g2 : Step = performs site (acts.Unlock cb) >> g3 in
-      let g1 : Step = performs site (acts.Enter ca) >> g2 in
-      let test : Step = looks_at (λ v. v.events) >>= λ own. unless_stop (holds_mutex own cb) traps.MutexNotHeld site >> g1 in
+      let g4 : Step = performs site (Act.Lock cb) >> moves_on 1 in
+      let g3 : Step = holds_reference b >> (performs site (Act.Woken ca) >> g4) in
+      let g2 : Step = performs site (Act.Unlock cb) >> g3 in
+      let g1 : Step = performs site (Act.Enter ca) >> g2 in
+      let test : Step = looks_at (λ v. v.events) >>= λ own. unless_stop (holds_mutex own cb) Trap.MutexNotHeld site >> g1 in
       let p1 = pc + 1 in
       let p2 = p1 + 1 in
       let p3 = p2 + 1 in
@@ -134,36 +121,36 @@ module _ (m : Assignment) (z : Standing) (scope : List Slot) where
       let p6 = p5 + 1 in
       let p7 = p6 + 1 in
       let nine : p7 + 2 ≡ pc + 9 = omega arith in
-      bind z.flat s.fuel (c + 6 + 2 + 1 + 1 + 1 + 1 + 1 + 1 + 1) s.answers (unless_stop (not (is_null a)) traps.NullPointer site s) (λ _. unless_stop (not (is_null b)) traps.NullPointer site >> test) K m0
-      (chk_by m z scope (not (is_null a)) (op.ChkNull r spot) traps.NullPointer site pc (c + 6 + 2 + 1 + 1 + 1 + 1 + 1 + 1) ints refs s _ has.0 (ap (λ q. asserts (not (is_null q)) traps.NullPointer spot m0) a_is) held
-      (bind z.flat s.fuel (c + 6 + 2 + 1 + 1 + 1 + 1 + 1 + 1) s.answers (unless_stop (not (is_null b)) traps.NullPointer site s) (λ _. test) K (place z p1 ints refs s)
-      (chk_by m z scope (not (is_null b)) (op.ChkNull (r + 1) spot) traps.NullPointer site p1 (c + 6 + 2 + 1 + 1 + 1 + 1 + 1) ints refs s _ has.1.0 (ap (λ q. asserts (not (is_null q)) traps.NullPointer spot (place z p1 ints refs s)) b_is) held
-      (bind z.flat s.fuel (c + 6 + 2 + 1 + 1 + 1 + 1 + 1) s.answers (unless_stop (holds_mutex s.events cb) traps.MutexNotHeld site s) (λ _. g1) K (place z p2 ints refs s)
-      (chk_by m z scope (holds_mutex s.events cb) (op.ChkHeld (first_cell_of (r + 1)) spot) traps.MutexNotHeld site p2 (c + 6 + 2 + 1 + 1 + 1 + 1) ints refs s _ has.1.1.0 (ap (λ q. asserts (holds_mutex s.events (cell_of (Made (number_of q)) 0)) traps.MutexNotHeld spot (place z p2 ints refs s)) b_is) held
-      (event_step (op.CondEnter (first_cell_of r) spot) site (acts.Enter ca) (λ w. w) p3 (c + 6 + 2 + 1 + 1 + 1) ints refs s g2 K (λ f g x. refl) has.1.1.1.0 (ap (λ q. asks (place z p3 ints refs s) site (acts.Enter (cell_of (Made (number_of q)) 0)) (pos 0) (λ v n. on n)) a_is) held
+      bind z.flat s.fuel (c + 6 + 2 + 1 + 1 + 1 + 1 + 1 + 1 + 1) s.answers (unless_stop (not (is_null a)) Trap.NullPointer site s) (λ _. unless_stop (not (is_null b)) Trap.NullPointer site >> test) K m0
+      (chk_by m z scope (not (is_null a)) (Op.ChkNull r spot) Trap.NullPointer site pc (c + 6 + 2 + 1 + 1 + 1 + 1 + 1 + 1) ints refs s _ has.0 (ap (λ q. asserts (not (is_null q)) Trap.NullPointer spot m0) a_is) held
+      (bind z.flat s.fuel (c + 6 + 2 + 1 + 1 + 1 + 1 + 1 + 1) s.answers (unless_stop (not (is_null b)) Trap.NullPointer site s) (λ _. test) K (place z p1 ints refs s)
+      (chk_by m z scope (not (is_null b)) (Op.ChkNull (r + 1) spot) Trap.NullPointer site p1 (c + 6 + 2 + 1 + 1 + 1 + 1 + 1) ints refs s _ has.1.0 (ap (λ q. asserts (not (is_null q)) Trap.NullPointer spot (place z p1 ints refs s)) b_is) held
+      (bind z.flat s.fuel (c + 6 + 2 + 1 + 1 + 1 + 1 + 1) s.answers (unless_stop (holds_mutex s.events cb) Trap.MutexNotHeld site s) (λ _. g1) K (place z p2 ints refs s)
+      (chk_by m z scope (holds_mutex s.events cb) (Op.ChkHeld (first_cell_of (r + 1)) spot) Trap.MutexNotHeld site p2 (c + 6 + 2 + 1 + 1 + 1 + 1) ints refs s _ has.1.1.0 (ap (λ q. asserts (holds_mutex s.events (cell_of (Made (number_of q)) 0)) Trap.MutexNotHeld spot (place z p2 ints refs s)) b_is) held
+      (event_step (Op.CondEnter (first_cell_of r) spot) site (Act.Enter ca) (λ w. w) p3 (c + 6 + 2 + 1 + 1 + 1) ints refs s g2 K (λ f g x. refl) has.1.1.1.0 (ap (λ q. asks (place z p3 ints refs s) site (Act.Enter (cell_of (Made (number_of q)) 0)) (pos 0) (λ v n. on n)) a_is) held
       (λ answers4 x4.
-      let s4 = after_event s answers4 (s.events ++ event_of site (acts.Enter ca) x4 ∷ []) in
+      let s4 = after_event s answers4 (s.events ++ event_of site (Act.Enter ca) x4 ∷ []) in
       let ag4 : Agree z (T ++ L) scope [] ints refs s4 = same_frame z (T ++ L) scope [] ints refs s s4 refl refl ag in
       let m4 = place z p4 ints refs s4 in
-      event_step (op.Unlock (r + 2) (first_cell_of (r + 1)) spot) site (acts.Unlock cb) (λ w. set_ref (r + 2) (base_of w (first_cell_of (r + 1))) w) p4 (c + 6 + 2 + 1 + 1) ints refs s4 g3 K (λ f g x. refl) has.1.1.1.1.0
-      (ap (λ q. asks m4 site (acts.Unlock (cell_of (Made (number_of q)) 0)) (pos 0) (λ v w. on (set_ref (r + 2) (base_of w (first_cell_of (r + 1))) w))) b_is) (holding z (T ++ L) scope ints refs s4 ag4)
+      event_step (Op.Unlock (r + 2) (first_cell_of (r + 1)) spot) site (Act.Unlock cb) (λ w. set_ref (r + 2) (base_of w (first_cell_of (r + 1))) w) p4 (c + 6 + 2 + 1 + 1) ints refs s4 g3 K (λ f g x. refl) has.1.1.1.1.0
+      (ap (λ q. asks m4 site (Act.Unlock (cell_of (Made (number_of q)) 0)) (pos 0) (λ v w. on (set_ref (r + 2) (base_of w (first_cell_of (r + 1))) w))) b_is) (holding z (T ++ L) scope ints refs s4 ag4)
       (λ answers5 x5.
-      let s5 = after_event s4 answers5 (s4.events ++ event_of site (acts.Unlock cb) x5 ∷ []) in
+      let s5 = after_event s4 answers5 (s4.events ++ event_of site (Act.Unlock cb) x5 ∷ []) in
       let ag5 : Agree z (T ++ L) scope (b ∷ []) ints refs2 s5 = push z (T ++ L) scope [] b (r + 2) ints refs s5 r3 (same_frame z (T ++ L) scope [] ints refs s4 s5 refl refl ag4) in
       let h5 : State = record s5 { frame = with_temporary b s5.frame } in
       let ah5 : Agree z ((T ++ L) ++ b ∷ []) scope [] ints refs2 h5 = hold z (T ++ L) scope b ints refs2 s5 ag5 in
       let m5 = place z p5 ints refs2 h5 in
-      subst (λ q. Same z.flat s.fuel (c + 6 + 2 + 1 + 1) (fin_then ((performs site (acts.Woken ca) >> g4) h5) K) answers5 (on (set_ref (r + 2) q (place z p4 ints refs s5)))) (sym b_is)
-      (event_step (op.CondWait (first_cell_of r) (with_words spot wc)) site (acts.Woken ca) (λ w. w) p5 (c + 6 + 2 + 1) ints refs2 h5 g4 K (λ f g x. refl) has.1.1.1.1.1.0
-      (ap (λ q. asks m5 site (acts.Woken (cell_of (Made (number_of q)) 0)) (pos 0) (λ v n. on n)) a2_is) (holding z ((T ++ L) ++ b ∷ []) scope ints refs2 h5 ah5)
+      subst (λ q. Same z.flat s.fuel (c + 6 + 2 + 1 + 1) (fin_then ((performs site (Act.Woken ca) >> g4) h5) K) answers5 (on (set_ref (r + 2) q (place z p4 ints refs s5)))) (sym b_is)
+      (event_step (Op.CondWait (first_cell_of r) (with_words spot wc)) site (Act.Woken ca) (λ w. w) p5 (c + 6 + 2 + 1) ints refs2 h5 g4 K (λ f g x. refl) has.1.1.1.1.1.0
+      (ap (λ q. asks m5 site (Act.Woken (cell_of (Made (number_of q)) 0)) (pos 0) (λ v n. on n)) a2_is) (holding z ((T ++ L) ++ b ∷ []) scope ints refs2 h5 ah5)
       (λ answers6 x6.
-      let s6 = after_event h5 answers6 (h5.events ++ event_of site (acts.Woken ca) x6 ∷ []) in
+      let s6 = after_event h5 answers6 (h5.events ++ event_of site (Act.Woken ca) x6 ∷ []) in
       let ag6 : Agree z ((T ++ L) ++ b ∷ []) scope [] ints refs2 s6 = same_frame z ((T ++ L) ++ b ∷ []) scope [] ints refs2 h5 s6 refl refl ah5 in
       let m6 = place z p6 ints refs2 s6 in
-      event_step (op.Lock (first_cell_of (r + 2)) (with_words spot wm)) site (acts.Lock cb) (λ w. set_ref (r + 2) (pos 0) w) p6 (c + 6 + 2) ints refs2 s6 (moves_on 1) K (λ f g x. refl) has.1.1.1.1.1.1.0
-      (ap (λ q. asks m6 site (acts.Lock (cell_of (Made (number_of q)) 0)) (pos 0) (λ v w. on (set_ref (r + 2) (pos 0) w))) b2_is) (holding z ((T ++ L) ++ b ∷ []) scope ints refs2 s6 ag6)
+      event_step (Op.Lock (first_cell_of (r + 2)) (with_words spot wm)) site (Act.Lock cb) (λ w. set_ref (r + 2) (pos 0) w) p6 (c + 6 + 2) ints refs2 s6 (moves_on 1) K (λ f g x. refl) has.1.1.1.1.1.1.0
+      (ap (λ q. asks m6 site (Act.Lock (cell_of (Made (number_of q)) 0)) (pos 0) (λ v w. on (set_ref (r + 2) (pos 0) w))) b2_is) (holding z ((T ++ L) ++ b ∷ []) scope ints refs2 s6 ag6)
       (λ answers7 x7.
-      let s7 = after_event s6 answers7 (s6.events ++ event_of site (acts.Lock cb) x7 ∷ []) in
+      let s7 = after_event s6 answers7 (s6.events ++ event_of site (Act.Lock cb) x7 ∷ []) in
       let u : State = record s7 { frame = without_temporaries 1 s7.frame } in
       let ag7 : Agree z (T ++ L) scope [] ints refs3 u = moved_on m z scope (T ++ L) b (r + 2) ints refs2 s7 r2 (same_frame z ((T ++ L) ++ b ∷ []) scope [] ints refs2 s6 s7 refl refl ag6) in
       all_end m z scope T L r p7 (c + 6) ints refs3 u (K tt u) re has.1.1.1.1.1.1.1 ag7 (λ refs8 ag8.
@@ -184,13 +171,13 @@ module _ (m : Assignment) (z : Standing) (scope : List Slot) where
   calls_by b1 b2 site vs = cond b1 (wait_call site (slice_index_or vs 0 NULL) (slice_index_or vs 1 NULL)) (cond b2 (signal_call site (slice_index_or vs 0 NULL)) (broadcast_call site (slice_index_or vs 0 NULL)))
 
   abbrev code_by : Text → Text → Bool → Bool → Site → ℕ → List Op
-  code_by wc wm b1 b2 site r = cond b1 (wait_code r (at_site site) (with_words (at_site site) wc) (with_words (at_site site) wm)) (cond b2 (op.ChkNull r (at_site site) ∷ op.CondSignal (first_cell_of r) (at_site site) ∷ op.Pop r ∷ []) (op.ChkNull r (at_site site) ∷ op.CondBroadcast (first_cell_of r) (at_site site) ∷ op.Pop r ∷ []))
+  code_by wc wm b1 b2 site r = cond b1 (wait_code r (at_site site) (with_words (at_site site) wc) (with_words (at_site site) wm)) (cond b2 (Op.ChkNull r (at_site site) ∷ Op.CondSignal (first_cell_of r) (at_site site) ∷ Op.Pop r ∷ []) (Op.ChkNull r (at_site site) ∷ Op.CondBroadcast (first_cell_of r) (at_site site) ∷ Op.Pop r ∷ []))
 
   by_out : (o : Out ℤ) (k : Unit {0} → State → Fin) → fin_then (then_on o (λ _. done)) k ≡ fin_then (then_on (then_on o (λ _. done)) (λ _. done)) k
   by_out (go x s) k = refl
   by_out (over o s) k = refl
 
-  tell_done : (mk : CellAt → Act) (b : Bool) (site : Site) (v : ℤ) (s : State) (k : Unit {0} → State → Fin) → fin_then ((unless_stop b traps.NullPointer site >> performs site (mk (cell_at_place (pointee v)))) s) k ≡ fin_then ((unless_stop b traps.NullPointer site >> (performs site (mk (cell_at_place (pointee v))) >> done)) s) k
+  tell_done : (mk : CellAt → Act) (b : Bool) (site : Site) (v : ℤ) (s : State) (k : Unit {0} → State → Fin) → fin_then ((unless_stop b Trap.NullPointer site >> performs site (mk (cell_at_place (pointee v)))) s) k ≡ fin_then ((unless_stop b Trap.NullPointer site >> (performs site (mk (cell_at_place (pointee v))) >> done)) s) k
   tell_done mk true site v s k = by_out (happens s.answers site (mk (cell_at_place (pointee v))) s) k
   tell_done mk false site v s k = refl
 
@@ -208,15 +195,15 @@ module _ (m : Assignment) (z : Standing) (scope : List Slot) where
       let e : earned 1 ≡ 6 = refl in
       subst (λ vs. Same z.flat s.fuel (c + 7 + earned 1) (fin_then (calls_by false true site vs s) (λ x u. k (pos 0) (without (length T) u))) s.answers (place z pc ints refs s)) (sym w.1)
       (weaken z.flat s.fuel (c + 6 + 1 + 1 + 1) (c + 7 + earned 1) _ s.answers _ (omega (arith, e))
-      (subst (λ o. Same z.flat s.fuel (c + 6 + 1 + 1 + 1) o s.answers (place z pc ints refs s)) (sym (tell_done acts.Signal (not (is_null w.0)) site w.0 s (λ x u. k (pos 0) (without (length T) u))))
-      (tell_by (op.CondSignal (first_cell_of r) (at_site site)) acts.Signal T w.0 kind site i r pc c ints0 ints refs s k (λ c f g x. refl) (λ w. refl) er ei has re (subst (λ vs. Agree z (T ++ vs) scope [] ints refs s) w.1 a) kept rest)))
+      (subst (λ o. Same z.flat s.fuel (c + 6 + 1 + 1 + 1) o s.answers (place z pc ints refs s)) (sym (tell_done Act.Signal (not (is_null w.0)) site w.0 s (λ x u. k (pos 0) (without (length T) u))))
+      (tell_by (Op.CondSignal (first_cell_of r) (at_site site)) Act.Signal T w.0 kind site i r pc c ints0 ints refs s k (λ c f g x. refl) (λ w. refl) er ei has re (subst (λ vs. Agree z (T ++ vs) scope [] ints refs s) w.1 a) kept rest)))
   condition_by wc wm false false T vs kind site i r pc c ints0 ints refs s k er ei l has re a kept rest =
       let w = one_of vs l in
       let e : earned 1 ≡ 6 = refl in
       subst (λ vs. Same z.flat s.fuel (c + 7 + earned 1) (fin_then (calls_by false false site vs s) (λ x u. k (pos 0) (without (length T) u))) s.answers (place z pc ints refs s)) (sym w.1)
       (weaken z.flat s.fuel (c + 6 + 1 + 1 + 1) (c + 7 + earned 1) _ s.answers _ (omega (arith, e))
-      (subst (λ o. Same z.flat s.fuel (c + 6 + 1 + 1 + 1) o s.answers (place z pc ints refs s)) (sym (tell_done acts.Broadcast (not (is_null w.0)) site w.0 s (λ x u. k (pos 0) (without (length T) u))))
-      (tell_by (op.CondBroadcast (first_cell_of r) (at_site site)) acts.Broadcast T w.0 kind site i r pc c ints0 ints refs s k (λ c f g x. refl) (λ w. refl) er ei has re (subst (λ vs. Agree z (T ++ vs) scope [] ints refs s) w.1 a) kept rest)))
+      (subst (λ o. Same z.flat s.fuel (c + 6 + 1 + 1 + 1) o s.answers (place z pc ints refs s)) (sym (tell_done Act.Broadcast (not (is_null w.0)) site w.0 s (λ x u. k (pos 0) (without (length T) u))))
+      (tell_by (Op.CondBroadcast (first_cell_of r) (at_site site)) Act.Broadcast T w.0 kind site i r pc c ints0 ints refs s k (λ c f g x. refl) (λ w. refl) er ei has re (subst (λ vs. Agree z (T ++ vs) scope [] ints refs s) w.1 a) kept rest)))
 
   known_by : (wc wm : Text) (b1 b2 : Bool) (kind : Kind) (site : Site) (all : Run (List ℤ)) (ca : ℕ → ℕ → List Op) → is_reference kind ≡ false → is_integer kind ≡ false → RefsAs (cond b1 2 1) all ca
       → RunsAs m z scope kind 7 (temporarily (all >>= λ vs. calls_by b1 b2 site vs >> give (pos 0))) (λ i r. ca i r ++ code_by wc wm b1 b2 site r)
@@ -233,5 +220,5 @@ module _ (m : Assignment) (z : Standing) (scope : List Slot) where
       (condition_by wc wm b1 b2 T vs kind site i r (pc + length C) c ints ints1 refs1 s1 k er ei l (has_back z.flat.lines pc C D has) re a1 kept (subst (λ q. Rest z kind T scope i q (c + 6) ints k) (sym end) rest)))))
 
   pub known_runs : (on_call : Calls) (kind : Kind) (site : Site) (name : List ℕ) (written : Arguments) (all : Run (List ℤ)) (ca : ℕ → ℕ → List Op) → is_reference kind ≡ false → is_integer kind ≡ false → RefsAs (cond (bytes_eq name (codes "wait")) 2 1) all ca
-      → RunsAs m z scope kind 7 (temporarily (all >>= λ vs. called on_call site named.Known name vs)) (λ i r. ca i r ++ condition_code r (at_site site) name written)
+      → RunsAs m z scope kind 7 (temporarily (all >>= λ vs. called on_call site Named.Known name vs)) (λ i r. ca i r ++ condition_code r (at_site site) name written)
   known_runs on_call kind site name written all ca er ei of_all = known_by (argument_words 0 written) (argument_words 1 written) (bytes_eq name (codes "wait")) (bytes_eq name (codes "signal")) kind site all ca er ei of_all

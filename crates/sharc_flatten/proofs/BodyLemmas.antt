@@ -1,11 +1,5 @@
 -- The lines of statements, made one after the other.
-use Rattle.std.proofs.{Common.{◌≡◌, ℕ, ◌+◌, ◌-◌, ◌<◌, ◌≤◌, Bool, List, [], ◌∷◌, ◌++◌, length, set, Option, Some, None, refl, ap, sym, ◌∙◌, append_assoc}, lemmas.List.length-set}
-use Rattle.sharc_tree.specs.{declared.token.Span.Span, Tree.{Expression, Simple, Statement, Statements, block, if_then_else}, declared.token.Site.Site, Spans.span_of}
-use Rattle.sharc_names.specs.declared.kind.ExpressionKind.{ExpressionKind as RustKind}
-use Rattle.sharc_flat.specs.{declared.op.Op.Op, declared.op.Op.TheVariants.{Enter, Return, Skip, SkipIfZero}, declared.op.Spot.Spot, declared.slot.Slot.Slot, Places.width_code, Scope.{Context, at_site, leaves}, Flattened.{Around, refs_of, expression_code, return_code, result_code, zero_code, looping, ints_of, test_code, turn_code, step_code, if_code, choice_code, loop_code, statement_code}}
-use Rattle.sharc_meaning.specs.State.{is_reference}
-use Rattle.sharc_flatten.specs.{declared.bodies.Around.{Around as RustAround}, declared.patch.Hole.Hole, declared.source.PlacedProgram.PlacedProgram, View.{context, outermost, around_of, hole_at, hole_of, finished, block_code}}
-use Rattle.sharc_flatten.proofs.{ScopeLemmas.{innermost_none, outermost_whole}, WalkLemmas.{entered, chosen, chosen_sides, looped_always, looped_while}}
+use Rattle.sharc_flatten.proofs.{Imports.{◌≡◌, ℕ, ◌+◌, ◌-◌, ◌<◌, ◌≤◌, Bool, List, [], ◌∷◌, ◌++◌, length, set, Option, Some, None, refl, ap, sym, ◌∙◌, append_assoc, length-set, Span, Expression, Simple, Statement, Statements, block, if_then_else, Site, span_of, RustKind, Op, Enter, Return, Skip, SkipIfZero, Spot, Slot, width_code, Context, at_site, leaves, Around, refs_of, expression_code, return_code, result_code, zero_code, looping, ints_of, test_code, turn_code, step_code, if_code, choice_code, loop_code, statement_code, is_reference, RustAround, Hole, PlacedProgram, context, outermost, around_of, hole_at, hole_of, finished, block_code}, ScopeLemmas.{innermost_none, outermost_whole}, WalkLemmas.{entered, chosen, chosen_sides, looped_always, looped_while}}
 
 -- ---- choices, where the code of the test is over an equal context
 pub choice_lines : (c d : Context) (e : Expression) (old l1 l2 l3 : List Op) (h : Hole) (F : ℕ → List Op) → d ≡ c → l1 ≡ old ++ turn_code d (Some e) 0 → h ≡ hole_at d (length l1)

@@ -1,41 +1,34 @@
 -- The code of an expression is that of its operands, and then its own.
-use Rattle.std.proofs.Common.{◌≡◌, ℕ, ◌+◌, Bool, true, false, List, [], ◌∷◌, ◌++◌, length, Option, None, if◌then◌else◌, refl, ap, sym, ◌∙◌, append_assoc}
-use Rattle.sharc_tree.specs.{declared.token.Site.Site, declared.tree.expression.BinaryOperator.BinaryOperator, declared.tree.expression.BinaryOperator.TheVariants.{LogicalOr, LogicalAnd}, declared.token.Span.Span, declared.tree.declaration.Declaration.Declaration, declared.tree.declaration.Identifier.Identifier, Tree.{Expression, Arguments, call, index, binary}}
-use Rattle.sharc_names.specs.{declared.fault.Named.Named, Kinds.{declared_kinds, is_array, element_kind}}
-use Rattle.sharc_ctype.specs.{Resolved.{named_at, kind_at, global_at}, Transfers.parameters_named}
-use Rattle.sharc_flat.specs.{declared.op.Spot.Spot, declared.op.Op.Op, Machine.first_cell, Scope.{Context, at_site}, Places.{bounds_code, global_of, index_code, own_field, target}, Flattened.{is_ref, truth_code, binary_code, expression_code, arguments_code, called_code, place_code, guard_of, lvalue_code}}
-use Rattle.sharc_meaning.specs.Cells.{element_cells, global_elements}
-use Rattle.sharc_flat.specs.declared.op.Op.TheVariants as op
-use Rattle.sharc_flatten.specs.View.{indexed_code, index_register, element_code, operation_code}
+use Rattle.sharc_flatten.proofs.Imports.{◌≡◌, ℕ, ◌+◌, Bool, true, false, List, [], ◌∷◌, ◌++◌, length, Option, None, if◌then◌else◌, refl, ap, sym, ◌∙◌, append_assoc, Site, BinaryOperator, LogicalOr, LogicalAnd, Span, Declaration, Identifier, Expression, Arguments, call, index, binary, Named, declared_kinds, is_array, element_kind, named_at, kind_at, global_at, parameters_named, Spot, Op, first_cell, Context, at_site, bounds_code, global_of, index_code, own_field, target, is_ref, truth_code, binary_code, expression_code, arguments_code, called_code, place_code, guard_of, lvalue_code, element_cells, global_elements, indexed_code, index_register, element_code, operation_code}
 
 binary_split : (c : Context) (i r : ℕ) (at : Site) (o : BinaryOperator) (a b : Expression) (of_a : List Op) (of_b : ℕ → ℕ → List Op) → binary_code c i r at o a b of_a of_b ≡ of_a ++ binary_code c i r at o a b [] of_b
 binary_split c i r at LogicalOr a b of_a of_b =
     let t = truth_code (is_ref c a) i r in
     let u = of_b i r ++ truth_code (is_ref c b) i r in
-    append_assoc of_a t (op.IsFalse i i ∷ op.SkipIfZero i (length u + 1) ∷ (u ++ (op.IsFalse i i ∷ op.IsFalse i i ∷ [])))
+    append_assoc of_a t (Op.IsFalse i i ∷ Op.SkipIfZero i (length u + 1) ∷ (u ++ (Op.IsFalse i i ∷ Op.IsFalse i i ∷ [])))
 binary_split c i r at LogicalAnd a b of_a of_b =
     let t = truth_code (is_ref c a) i r in
     let u = of_b i r ++ truth_code (is_ref c b) i r in
-    append_assoc of_a t (op.SkipIfZero i (length u) ∷ (u ++ (op.IsFalse i i ∷ op.IsFalse i i ∷ [])))
+    append_assoc of_a t (Op.SkipIfZero i (length u) ∷ (u ++ (Op.IsFalse i i ∷ Op.IsFalse i i ∷ [])))
 binary_split c i r at _ a b of_a of_b = refl
 
 -- what is indexed, the index, and the element
 abbrev of_global : Context → ℕ → Site → Option ℕ → Option ℕ → Expression → List Op
 of_global c i site f guard a = bounds_code
-    (λ i n. op.GlobalBounds i (global_elements (global_at c.program.typed (global_of (target c.program.typed None a)))) (element_cells c.program.typed (element_kind (kind_at c.program.typed a)))
+    (λ i n. Op.GlobalBounds i (global_elements (global_at c.program.typed (global_of (target c.program.typed None a)))) (element_cells c.program.typed (element_kind (kind_at c.program.typed a)))
     (first_cell c.globals (global_of (target c.program.typed None a)) + n) (at_site site))
     i (own_field f 0) guard
 
 abbrev of_object : Context → ℕ → ℕ → Site → Option ℕ → Option ℕ → Expression → List Op
 of_object c i r site f guard a = bounds_code
-    (λ i n. op.Bounds i r (element_cells c.program.typed (element_kind (kind_at c.program.typed a))) n (at_site site))
+    (λ i n. Op.Bounds i r (element_cells c.program.typed (element_kind (kind_at c.program.typed a))) n (at_site site))
     i (own_field f 0) guard
 
 either : (b : Bool) (r : ℕ) (site : Site) (of_array of_pointer global object : List Op) (number : ℕ → List Op)
-    → (if b then of_array ++ (number r ++ global) else of_pointer ++ (op.ChkNull r (at_site site) ∷ (number (r + 1) ++ object)))
-    ≡ (if b then of_array else of_pointer ++ op.ChkNull r (at_site site) ∷ []) ++ (number (if b then r else r + 1) ++ (if b then global else object))
+    → (if b then of_array ++ (number r ++ global) else of_pointer ++ (Op.ChkNull r (at_site site) ∷ (number (r + 1) ++ object)))
+    ≡ (if b then of_array else of_pointer ++ Op.ChkNull r (at_site site) ∷ []) ++ (number (if b then r else r + 1) ++ (if b then global else object))
 either true r site of_array of_pointer global object number = refl
-either false r site of_array of_pointer global object number = sym (append_assoc of_pointer (op.ChkNull r (at_site site) ∷ []) (number (r + 1) ++ object))
+either false r site of_array of_pointer global object number = sym (append_assoc of_pointer (Op.ChkNull r (at_site site) ∷ []) (number (r + 1) ++ object))
 
 index_split : (c : Context) (i r : ℕ) (site : Site) (f guard : Option ℕ) (a : Expression) (of_array of_pointer : List Op) (number : ℕ → List Op)
     → index_code c i r site f guard a of_array of_pointer number ≡ indexed_code c r site a of_array of_pointer ++ (number (index_register c r a) ++ element_code c i r site f guard a)
@@ -63,15 +56,15 @@ binary_lines c i r at o a b old l2 l3 e2 e3 =
     let B = binary_code c i r at o a b [] (λ j q. expression_code c j q b) in
     e3 ∙ ap (λ l. l ++ B) e2 ∙ append_assoc old A B ∙ ap (λ l. old ++ l) (sym (binary_split c i r at o a b A (λ j q. expression_code c j q b)))
 
-two_lines : (old l1 l2 l3 A B : List Op) → l1 ≡ old ++ op.Enter ∷ [] → l2 ≡ l1 ++ A → l3 ≡ l2 ++ B → l3 ≡ old ++ op.Enter ∷ (A ++ B)
+two_lines : (old l1 l2 l3 A B : List Op) → l1 ≡ old ++ Op.Enter ∷ [] → l2 ≡ l1 ++ A → l3 ≡ l2 ++ B → l3 ≡ old ++ Op.Enter ∷ (A ++ B)
 two_lines old l1 l2 l3 A B e1 e2 e3 =
-    let all : l3 ≡ ((old ++ op.Enter ∷ []) ++ A) ++ B = e3 ∙ ap (λ l. l ++ B) (e2 ∙ ap (λ l. l ++ A) e1) in
-    all ∙ append_assoc (old ++ op.Enter ∷ []) A B ∙ append_assoc old (op.Enter ∷ []) (A ++ B)
+    let all : l3 ≡ ((old ++ Op.Enter ∷ []) ++ A) ++ B = e3 ∙ ap (λ l. l ++ B) (e2 ∙ ap (λ l. l ++ A) e1) in
+    all ∙ append_assoc (old ++ Op.Enter ∷ []) A B ∙ append_assoc old (Op.Enter ∷ []) (A ++ B)
 
 -- ---- the forms of expressions with equal parts
 pub call_at : (c : Context) (i r : ℕ) (s : Span) (f : Identifier) (e : Expression) (args first second : Arguments) (parameters : List Declaration) (n : Named) (spot : Spot) (old l1 l2 l3 : List Op)
     → e ≡ call s f args → first ≡ args → second ≡ args → parameters ≡ parameters_named c.program.typed (named_at c.program.typed f.site.token) → n ≡ named_at c.program.typed f.site.token → spot ≡ at_site s.first
-    → l1 ≡ old ++ op.Enter ∷ [] → l2 ≡ l1 ++ arguments_code c i r (declared_kinds parameters) first → l3 ≡ l2 ++ called_code i r spot n f.text second → l3 ≡ old ++ expression_code c i r e
+    → l1 ≡ old ++ Op.Enter ∷ [] → l2 ≡ l1 ++ arguments_code c i r (declared_kinds parameters) first → l3 ≡ l2 ++ called_code i r spot n f.text second → l3 ≡ old ++ expression_code c i r e
 call_at c i r s f e args first second parameters n spot old l1 l2 l3 ee ef es ep en eo e1 e2 e3 =
     let named = named_at c.program.typed f.site.token in
     let ks = declared_kinds (parameters_named c.program.typed named) in

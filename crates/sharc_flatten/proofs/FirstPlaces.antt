@@ -1,7 +1,5 @@
 -- The place of the first that passes, counted from a number on.
-use Rattle.std.proofs.{Common.{◌≡◌, ℕ, suc, ◌+◌, Bool, true, false, cond, List, [], ◌∷◌, length, Option, Some, None, unwrap_or, refl, ap, sym, ◌∙◌, arith}, lemmas.Bool.Decides.nat_tests, lemmas.List.Recursion.is_position_or_len}
-use Rattle.std.specs.{Prelude.{nat_lt, position, ◌==◌, if◌then◌else◌}, Str.bytes_eq, List.position_or_len}
-use Rattle.sharc_tree.specs.declared.tree.declaration.Declaration.{Declaration}
+use Rattle.sharc_flatten.proofs.Imports.{◌≡◌, ℕ, suc, ◌+◌, Bool, true, false, cond, List, [], ◌∷◌, length, Option, Some, None, unwrap_or, refl, ap, sym, ◌∙◌, arith, nat_tests, is_position_or_len, nat_lt, position, ◌==◌, if◌then◌else◌, bytes_eq, position_or_len, Declaration}
 
 abbrev pub from_place : {X : Type 0} → (X → Bool) → ℕ → List X → Option ℕ
 from_place p n [] = None

@@ -1,12 +1,5 @@
 -- The tables of the globals, from one on.
-use Rattle.std.proofs.Common.{◌≡◌, ℕ, ◌+◌, ◌-◌, ◌*◌, ◌/◌, ◌%◌, ◌^◌, ◌<◌, List, [], ◌∷◌, ◌++◌, take, drop, replicate, Some, ap, sym, ◌∙◌, arith, append_assoc}
-use Rattle.std.specs.Prelude.{slice_get}
-use Rattle.sharc_tree.specs.declared.tree.item.GlobalDefinition.{GlobalDefinition}
-use Rattle.sharc_code.specs.{declared.code.GlobalCells.GlobalCells, Arithmetic.word_of}
-use Rattle.sharc_ctype.specs.Resolved.{Resolution}
-use Rattle.sharc_meaning.specs.Store.{form_value}
-use Rattle.sharc_flat.specs.Tables.{cells_in, granules_in, globals_from, all_granules, first_words, all_first_words}
-use Rattle.sharc_lemmas.proofs.Lists.{got as drop_got}
+use Rattle.sharc_flatten.proofs.Imports.{◌≡◌, ℕ, ◌+◌, ◌-◌, ◌*◌, ◌/◌, ◌%◌, ◌^◌, ◌<◌, List, [], ◌∷◌, ◌++◌, take, drop, replicate, Some, ap, sym, ◌∙◌, arith, append_assoc, slice_get, GlobalDefinition, GlobalCells, word_of, Resolution, form_value, cells_in, granules_in, globals_from, all_granules, first_words, all_first_words, got as drop_got}
 
 pub list_more : (r : Resolution) (gs : List GlobalDefinition) (n granules cells after : ℕ) (g : GlobalDefinition) (list new whole : List GlobalCells) → slice_get gs n ≡ Some g → cells ≡ cells_in r g
     → after ≡ granules + (cells + 1) / 2 → new ≡ list ++ record { granule = granules + 1; cells = cells } ∷ [] → list ++ globals_from r (granules + 1) (drop n gs) ≡ whole → new ++ globals_from r (after + 1) (drop (n + 1) gs) ≡ whole

@@ -1,10 +1,5 @@
 -- The layouts of the structs, from one on.
-use Rattle.std.proofs.Common.{◌≡◌, ℕ, ◌+◌, List, [], ◌∷◌, ◌++◌, length, drop, Some, ap, sym, ◌∙◌, append_assoc, length-append}
-use Rattle.std.specs.Prelude.{slice_get}
-use Rattle.sharc_tree.specs.declared.tree.item.StructDefinition.{StructDefinition}
-use Rattle.sharc_code.specs.declared.code.Layout.{Layout}
-use Rattle.sharc_flat.specs.Tables.{pointers_among, layouts_from, all_pointers}
-use Rattle.sharc_lemmas.proofs.Lists.{got as drop_got}
+use Rattle.sharc_flatten.proofs.Imports.{◌≡◌, ℕ, ◌+◌, List, [], ◌∷◌, ◌++◌, length, drop, Some, ap, sym, ◌∙◌, append_assoc, length-append, slice_get, StructDefinition, Layout, pointers_among, layouts_from, all_pointers, got as drop_got}
 
 pub layouts_more : (structs : List StructDefinition) (n : ℕ) (s : StructDefinition) (pointers after : List ℕ) (list new whole : List Layout) → slice_get structs n ≡ Some s → after ≡ pointers ++ pointers_among 0 s.fields
     → new ≡ list ++ record { cells = length s.fields; from = length pointers; until = length after } ∷ [] → list ++ layouts_from (length pointers) (drop n structs) ≡ whole

@@ -1,3 +1,4 @@
+mod Imports
 pub mod BodyLemmas
 pub mod ExpressionLemmas
 pub mod FirstPlaces

@@ -1,31 +1,24 @@
 -- Lines with where their texts lie, and rows with where the names of their functions lie.
-use Rattle.std.proofs.{Common.{◌≡◌, ℕ, ◌+◌, ◌<◌, ◌≤◌, List, [], ◌∷◌, ◌++◌, length, take, drop, get_or, set, refl, ap, sym, ◌∙◌, subst, Option, Some, None, arith, append_assoc}, lemmas.List.{append-nil, take_all, take_more, take_more_set}}
-use Rattle.std.specs.Prelude.{slice_get}
-use Rattle.sharc_code.specs.{declared.code.Function.{Function as Row}, declared.code.Text.Text}
-use Rattle.sharc_ctype.specs.Resolved.{Resolution}
-use Rattle.sharc_flat.specs.{declared.op.Op.Op, declared.op.Spot.Spot, Laid.{with_texts, spot_in, AreTexts, AreTextsIn, IsLaid, AreLaid, IsNamed, AreNamed}}
-use Rattle.sharc_flat.specs.declared.op.Op.TheVariants as op
-use Rattle.sharc_flatten.specs.Places.{Grows}
-use Rattle.sharc_flatten.proofs.ListLemmas.{take_got, same_at}
+use Rattle.sharc_flatten.proofs.{Imports.{◌≡◌, ℕ, ◌+◌, ◌<◌, ◌≤◌, List, [], ◌∷◌, ◌++◌, length, take, drop, get_or, set, refl, ap, sym, ◌∙◌, subst, Option, Some, None, arith, append_assoc, append-nil, take_all, take_more, take_more_set, slice_get, Row, Text, Resolution, Op, Spot, with_texts, spot_in, AreTexts, AreTextsIn, IsLaid, AreLaid, IsNamed, AreNamed, Grows}, ListLemmas.{take_got, same_at}}
 
 -- an operation without a spot has no texts
 pub same_texts : (o : Op) (a b : Text) → spot_in o ≡ None → o ≡ with_texts a b o
-same_texts op.Enter a b h = refl
-same_texts (op.Constant i v) a b h = refl
-same_texts (op.Move i from) a b h = refl
-same_texts (op.Complement i v) a b h = refl
-same_texts (op.IsFalse i v) a b h = refl
-same_texts (op.SameReference i v w) a b h = refl
-same_texts (op.Skip n) a b h = refl
-same_texts (op.SkipIfZero i n) a b h = refl
-same_texts (op.SkipIfNull r n) a b h = refl
-same_texts (op.Jump to) a b h = refl
-same_texts op.BlockEnd a b h = refl
-same_texts (op.Null r) a b h = refl
-same_texts (op.Local r x) a b h = refl
-same_texts (op.MoveReference r from) a b h = refl
-same_texts (op.Pop r) a b h = refl
-same_texts (op.Settle x from) a b h = refl
+same_texts Op.Enter a b h = refl
+same_texts (Op.Constant i v) a b h = refl
+same_texts (Op.Move i from) a b h = refl
+same_texts (Op.Complement i v) a b h = refl
+same_texts (Op.IsFalse i v) a b h = refl
+same_texts (Op.SameReference i v w) a b h = refl
+same_texts (Op.Skip n) a b h = refl
+same_texts (Op.SkipIfZero i n) a b h = refl
+same_texts (Op.SkipIfNull r n) a b h = refl
+same_texts (Op.Jump to) a b h = refl
+same_texts Op.BlockEnd a b h = refl
+same_texts (Op.Null r) a b h = refl
+same_texts (Op.Local r x) a b h = refl
+same_texts (Op.MoveReference r from) a b h = refl
+same_texts (Op.Pop r) a b h = refl
+same_texts (Op.Settle x from) a b h = refl
 same_texts _ a b h = cc
 
 pub none_laid : (r : Resolution) (bytes : List ℕ) (o : Op) (a : Text) → spot_in o ≡ None → IsLaid r bytes o o

@@ -1,6 +1,5 @@
 -- The element of a list at a place, and what is left after it.
-use Rattle.std.proofs.{Common.{◌≡◌, ℕ, ◌+◌, List, [], ◌∷◌, ◌++◌, take, drop, get_or, set, Some, ap, sym, ◌∙◌, arith, add-zero}, lemmas.List.{take_more, drop-drop, drop-set-lt, get_or-drop}, lemmas.Option.{slice_get_within, get_or_from_slice_get}}
-use Rattle.std.specs.Prelude.{slice_get}
+use Rattle.sharc_flatten.proofs.Imports.{◌≡◌, ℕ, ◌+◌, List, [], ◌∷◌, ◌++◌, take, drop, get_or, set, Some, ap, sym, ◌∙◌, arith, add-zero, take_more, drop-drop, drop-set-lt, get_or-drop, slice_get_within, get_or_from_slice_get, slice_get}
 
 pub take_got : {X : Type 0} (xs : List X) (n : ℕ) (x : X) → slice_get xs n ≡ Some x → take (n + 1) xs ≡ take n xs ++ x ∷ []
 take_got xs n x at = take_more xs n x (slice_get_within xs n x at) ∙ ap (λ y. take n xs ++ y ∷ []) (get_or_from_slice_get xs n x x at)

@@ -1,8 +1,5 @@
 -- Where tokens lie in the text of all of them.
-use Rattle.std.proofs.{Common.{◌≡◌, ℕ, zero, suc, ◌+◌, ◌-◌, ◌<◌, ◌≤◌, min, List, [], ◌∷◌, ◌++◌, length, take, drop, get_or, refl, ap, sym, ◌∙◌, arith, append_assoc, zero-add}, lemmas.List.{append-nil, take_at, drop_at, take_min, length-drop}}
-use Rattle.sharc_tree.specs.{declared.token.Token.Token, Texts.{blank_between, tokens_text}}
-use Rattle.sharc_code.specs.declared.code.Text.{Text}
-use Rattle.sharc_flatten.specs.Places.{places_from, LiesIn, Grows}
+use Rattle.sharc_flatten.proofs.Imports.{◌≡◌, ℕ, zero, suc, ◌+◌, ◌-◌, ◌<◌, ◌≤◌, min, List, [], ◌∷◌, ◌++◌, length, take, drop, get_or, refl, ap, sym, ◌∙◌, arith, append_assoc, zero-add, append-nil, take_at, drop_at, take_min, length-drop, Token, blank_between, tokens_text, Text, places_from, LiesIn, Grows}
 
 abbrev piece : Token → List Token → List ℕ
 piece t rest = t.text ++ blank_between t rest

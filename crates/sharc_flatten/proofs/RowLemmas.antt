@@ -1,11 +1,5 @@
 -- The code and the rows of the functions, from one on.
-use Rattle.std.proofs.Common.{◌≡◌, ℕ, suc, ◌+◌, List, [], ◌∷◌, ◌++◌, length, drop, Some, refl, ap, sym, ◌∙◌, append_assoc, length-append}
-use Rattle.std.specs.Prelude.{slice_get}
-use Rattle.sharc_tree.specs.Tree.{Function}
-use Rattle.sharc_code.specs.{declared.code.Function.{Function as Row}, declared.code.GlobalCells.GlobalCells}
-use Rattle.sharc_mode.specs.Moded.{Assignment}
-use Rattle.sharc_flat.specs.{declared.op.Op.Op, Flattened.{row_of, rows_of, function_code, functions_code}}
-use Rattle.sharc_lemmas.proofs.Lists.{got as drop_got}
+use Rattle.sharc_flatten.proofs.Imports.{◌≡◌, ℕ, suc, ◌+◌, List, [], ◌∷◌, ◌++◌, length, drop, Some, refl, ap, sym, ◌∙◌, append_assoc, length-append, slice_get, Function, Row, GlobalCells, Assignment, Op, row_of, rows_of, function_code, functions_code, got as drop_got}
 
 end_of : (m : Assignment) (globals : List GlobalCells) (lines new : List Op) (f : Function) → new ≡ lines ++ function_code m globals (length lines) f → length new ≡ length lines + length (function_code m globals (length lines) f)
 end_of m globals lines new f made = ap length made ∙ length-append lines (function_code m globals (length lines) f)

@@ -1,6 +1,5 @@
 -- How blocks end, one after the other.
-use Rattle.std.proofs.{Common.{◌≡◌, ℕ, ◌+◌, ◌-◌, ◌<◌, ◌≤◌, List, [], ◌∷◌, ◌++◌, length, take, drop, reverse, ap, sym, ◌∙◌, arith}, lemmas.List.{take_all, take-append-drop, reverse-append, drop_all}}
-use Rattle.sharc_flatten.specs.View.{innermost, outermost}
+use Rattle.sharc_flatten.proofs.Imports.{◌≡◌, ℕ, ◌+◌, ◌-◌, ◌<◌, ◌≤◌, List, [], ◌∷◌, ◌++◌, length, take, drop, reverse, ap, sym, ◌∙◌, arith, take_all, take-append-drop, reverse-append, drop_all, innermost, outermost}
 
 -- all blocks, those within the innermost loop first
 pub innermost_all : (kept : ℕ) (marks : List ℕ) → innermost 0 marks ≡ innermost kept marks ++ outermost kept marks

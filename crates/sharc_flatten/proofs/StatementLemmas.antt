@@ -1,9 +1,5 @@
 -- Statements one after the other, and the variables that they begin.
-use Rattle.std.proofs.{Common.{◌≡◌, ◌+◌, ◌<◌, List, [], ◌∷◌, ◌++◌, length, take, refl, ap, sym, ◌∙◌, append_assoc}, lemmas.List.append-nil}
-use Rattle.sharc_tree.specs.Tree.{Statement, declare, Statements, no_statements, statement}
-use Rattle.sharc_flat.specs.{declared.slot.Slot.Slot, Scope.{Context, slot_of}, Flattened.{behind_statement, behind_statements}}
-use Rattle.sharc_flatten.specs.{declared.source.PlacedProgram.PlacedProgram, View.context}
-use Rattle.sharc_flatten.proofs.WalkLemmas.{kept_first}
+use Rattle.sharc_flatten.proofs.{Imports.{◌≡◌, ◌+◌, ◌<◌, List, [], ◌∷◌, ◌++◌, length, take, refl, ap, sym, ◌∙◌, append_assoc, append-nil, Statement, declare, Statements, no_statements, statement, Slot, Context, slot_of, behind_statement, behind_statements, PlacedProgram, context}, WalkLemmas.kept_first}
 
 abbrev in_scope : Context → List Slot → Context
 in_scope c s = record c { scope = s }

@@ -1,12 +1,5 @@
 -- Structs and fields that are entered one after the other, the last first.
-use Rattle.std.proofs.Common.{◌≡◌, ℕ, ◌+◌, ◌-◌, ◌<◌, ◌≤◌, Bool, true, false, cond, List, [], ◌∷◌, length, drop, Option, Some, unwrap_or, nat_eq, refl, ap, sym, ◌∙◌, subst, arith}
-use Rattle.std.specs.{Prelude.slice_get, Option.option_map_or, Str.bytes_eq}
-use Rattle.sharc_tree.specs.{declared.tree.declaration.Declaration.Declaration, declared.tree.item.StructDefinition.StructDefinition}
-use Rattle.sharc_meaning.specs.Cells.{struct_cells, field_place_in, place_in}
-use Rattle.sharc_flat.specs.Flattened.{struct_layout}
-use Rattle.sharc_flatten.specs.{declared.row.StructRow.StructRow, Lookups.{Rows, row_at, HasCells, HasLayouts, HasRow, Places, place_found, HasFields, HasPlaces}}
-use Rattle.sharc_flatten.proofs.FirstPlaces.{from_first, place_from}
-use Rattle.sharc_lemmas.proofs.Lists.{got}
+use Rattle.sharc_flatten.proofs.{Imports.{◌≡◌, ℕ, ◌+◌, ◌-◌, ◌<◌, ◌≤◌, Bool, true, false, cond, List, [], ◌∷◌, length, drop, Option, Some, unwrap_or, nat_eq, refl, ap, sym, ◌∙◌, subst, arith, slice_get, option_map_or, bytes_eq, Declaration, StructDefinition, struct_cells, field_place_in, place_in, struct_layout, StructRow, Rows, row_at, HasCells, HasLayouts, HasRow, Places, place_found, HasFields, HasPlaces, got}, FirstPlaces.{from_first, place_from}}
 
 abbrev pub row_of : ℕ → ℕ → StructRow
 row_of layout cells = record { layout = layout; cells = cells }

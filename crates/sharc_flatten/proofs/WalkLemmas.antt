@@ -1,7 +1,5 @@
 -- Lines that are made one after the other.
-use Rattle.std.proofs.{Common.{◌≡◌, ℕ, ◌+◌, ◌-◌, ◌<◌, List, [], ◌∷◌, ◌++◌, length, set, take, Some, None, refl, ap, sym, ◌∙◌, arith, append_assoc, length-append}, lemmas.List.{set-append_right, length_push, take_at}}
-use Rattle.sharc_flat.specs.{declared.op.Op.Op, declared.op.Op.TheVariants.{Enter, IsFalse, Jump, Skip, SkipIfZero}, Flattened.{if_code, choice_code, turns_code, loop_code}}
-use Rattle.sharc_flatten.specs.View.{decided_code, finished}
+use Rattle.sharc_flatten.proofs.Imports.{◌≡◌, ℕ, ◌+◌, ◌-◌, ◌<◌, List, [], ◌∷◌, ◌++◌, length, set, take, Some, None, refl, ap, sym, ◌∙◌, arith, append_assoc, length-append, set-append_right, length_push, take_at, Op, Enter, IsFalse, Jump, Skip, SkipIfZero, if_code, choice_code, turns_code, loop_code, decided_code, finished}
 
 set_at : (xs ys : List Op) (n k : ℕ) (v : Op) → n ≡ length xs + k → set (xs ++ ys) n v ≡ xs ++ set ys k v
 set_at xs ys n k v e =

@@ -1,6 +1,5 @@
 -- The inferred positions are closed under the links, and are the least that are.
-use Rattle.std.proofs.Common.{◌≡◌, ℕ, List, [], ◌∷◌, ◌++◌, refl, sym, subst, inl, inr}
-use Rattle.sharc_graph.specs.{declared.graph.NodeFinding.NodeFinding, declared.graph.NodeFinding.TheVariants.{Apart, Source, Behind}, Findings.finding_at, Paths.last_of, Flow.{Flow, IsUnwritten, IsOrigin, IsFirstFor, HasLink, IsEqual, FollowLinks, FlowsTo, IsInferred, AreInferred}, FlowLaws.{IsDynamic, IsClosed}}
+use Rattle.sharc_graph.proofs.Imports.{◌≡◌, ℕ, List, [], ◌∷◌, ◌++◌, refl, sym, subst, inl, inr, NodeFinding, Apart, Source, Behind, finding_at, last_of, Flow, IsUnwritten, IsOrigin, IsFirstFor, HasLink, IsEqual, FollowLinks, FlowsTo, IsInferred, AreInferred, IsDynamic, IsClosed}
 
 module _ (f : Flow) where
   -- ---- one edge more

@@ -1,8 +1,5 @@
 -- The edges that are kept are those by which a path may go on.
-use Rattle.std.proofs.{Common.{◌≡◌, ℕ, zero, suc, ◌+◌, ◌<◌, ◌≤◌, ◌⊎◌, Bool, true, false, cond, List, [], ◌∷◌, ◌++◌, length, get_or, take, map, refl, sym, ap, ◌∙◌, inl, inr, arith}, lemmas.Bool.cases_Bool, lemmas.List.{take_more, append-nil}, lemmas.List.Elements.{All-nil, All-cons, All-head, All-tail}}
-use Rattle.std.specs.List.{Contains, All}
-use Rattle.sharc_graph.specs.{declared.graph.Edge.Edge, Paths.{edge_of, node_at, IsWithin}, declared.place.PositionKind.PositionKind, declared.place.Link.Link, Flow.{place_at, link_of, leads, kept_edges, node_of}}
-use Rattle.sharc_lemmas.proofs.Lists.{contains_behind}
+use Rattle.sharc_graph.proofs.Imports.{◌≡◌, ℕ, zero, suc, ◌+◌, ◌<◌, ◌≤◌, ◌⊎◌, Bool, true, false, cond, List, [], ◌∷◌, ◌++◌, length, get_or, take, map, refl, sym, ap, ◌∙◌, inl, inr, arith, cases_Bool, take_more, append-nil, All-nil, All-cons, All-head, All-tail, Contains, All, Edge, edge_of, node_at, IsWithin, PositionKind, Link, place_at, link_of, leads, kept_edges, node_of, contains_behind}
 
 -- ---- as they are made
 kept_push : (places : List PositionKind) (links : List Link) (link : Link) → kept_edges places (links ++ link ∷ []) ≡ kept_edges places links ++ kept_edges places (link ∷ [])

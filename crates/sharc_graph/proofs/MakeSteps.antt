@@ -1,7 +1,5 @@
 -- One depth more.
-use Rattle.std.proofs.Common.{◌≡◌, ℕ, ◌+◌, true, false, List, [], ◌∷◌, ◌++◌, ap, ◌∙◌, append_assoc}
-use Rattle.sharc_graph.specs.{declared.place.Link.Link, Flow.link_of, Make.{equal_links, below_links}}
-use Rattle.sharc_lemmas.proofs.Numbers.{next}
+use Rattle.sharc_graph.proofs.Imports.{◌≡◌, ℕ, ◌+◌, true, false, List, [], ◌∷◌, ◌++◌, ap, ◌∙◌, append_assoc, Link, link_of, equal_links, below_links, next}
 
 pub equal_more : (links new : List Link) (first second depth : ℕ) → new ≡ ((links ++ equal_links first second depth) ++ link_of (first + depth) (second + depth) false ∷ []) ++ link_of (second + depth) (first + depth) false ∷ [] → new ≡ links ++ equal_links first second (depth + 1)
 equal_more links new first second depth is =

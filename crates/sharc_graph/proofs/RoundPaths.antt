@@ -1,8 +1,5 @@
 -- Final ranks are those of the shortest paths, and the lowest links to a position its reason.
-use Rattle.std.proofs.{Common.{◌≡◌, ℕ, zero, suc, ◌+◌, ◌<◌, ◌≤◌, ◌⊎◌, Bool, true, false, List, [], ◌∷◌, ◌++◌, length, get_or, Option, Some, None, refl, sym, ap, ◌∙◌, subst, inl, inr, arith}, lemmas.Bool.false≢true, lemmas.List.get_or_default}
-use Rattle.std.specs.List.{Contains}
-use Rattle.sharc_graph.specs.{Paths.last_of, declared.place.PositionKind.PositionKind, declared.place.PositionKind.TheVariants.{Root, Unwritten, Dynamic, Private, Other}, declared.place.Link.Link, Flow.{Flow, place_at, link_of, is_unwritten, is_source, IsUnwritten, IsOrigin, LeadsDown, HasLink, IsFirstFor, FollowLinks, FlowsTo, IsInferredRank, IsRankFor, IsInferredReason}, Rounds.{Ranks, rank_in, link_at, rank_by, rank_for, IsFound, HasRank, IsServed, AreFinal, IsLowest, IsSome}}
-use Rattle.sharc_graph.proofs.{Closed.path_more, SamePaths.end_unwritten, RoundSteps.{none_some, same_rank}}
+use Rattle.sharc_graph.proofs.{Imports.{◌≡◌, ℕ, zero, suc, ◌+◌, ◌<◌, ◌≤◌, ◌⊎◌, Bool, true, false, List, [], ◌∷◌, ◌++◌, length, get_or, Option, Some, None, refl, sym, ap, ◌∙◌, subst, inl, inr, arith, false≢true, get_or_default, Contains, last_of, PositionKind, Root, Unwritten, Dynamic, Private, Other, Link, Flow, place_at, link_of, is_unwritten, is_source, IsUnwritten, IsOrigin, LeadsDown, HasLink, IsFirstFor, FollowLinks, FlowsTo, IsInferredRank, IsRankFor, IsInferredReason, Ranks, rank_in, link_at, rank_by, rank_for, IsFound, HasRank, IsServed, AreFinal, IsLowest, IsSome}, Closed.path_more, SamePaths.end_unwritten, RoundSteps.{none_some, same_rank}}
 
 -- ---- places
 root_of : (place : PositionKind) → is_source place ≡ true → is_unwritten place ≡ true → place ≡ Root

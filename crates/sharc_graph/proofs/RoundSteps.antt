@@ -1,7 +1,5 @@
 -- What following a link, a round and all rounds make of the ranks.
-use Rattle.std.proofs.{Common.{◌≡◌, ℕ, zero, suc, ◌+◌, ◌<◌, ◌≤◌, ◌⊎◌, min, Bool, true, false, cond, ◌&&◌, List, [], ◌∷◌, length, map, Option, Some, None, refl, sym, ap, ◌∙◌, subst, inl, inr, arith}, lemmas.Bool.{cases_eq, cases_lt, cases_Bool, and_parts, and_cases, eq-eqb, eqb-true, false≢true}, lemmas.List.{length-set, get_or-set_same, get_or-set_other, length-map}, lemmas.List.Sums.{sum_by-set, count_by-le-length}}
-use Rattle.std.specs.Prelude.{nat_eq, slice_set}
-use Rattle.sharc_graph.specs.{declared.place.PositionKind.PositionKind, declared.place.PositionKind.TheVariants.{Root, Unwritten, Dynamic, Private, Other}, declared.place.Link.Link, Flow.{Flow, flow_of, place_at, is_unwritten}, Rounds.{Ranks, rank_in, link_at, first_rank, rank_by, rank_for, is_none, is_rank, is_next, ranks_behind, IsFound, IsServed, AreRanks, AreUpTo, unranked, IsLowest, IsSome}}
+use Rattle.sharc_graph.proofs.Imports.{◌≡◌, ℕ, zero, suc, ◌+◌, ◌<◌, ◌≤◌, ◌⊎◌, min, Bool, true, false, cond, ◌&&◌, List, [], ◌∷◌, length, map, Option, Some, None, refl, sym, ap, ◌∙◌, subst, inl, inr, arith, cases_eq, cases_lt, cases_Bool, and_parts, and_cases, eq-eqb, eqb-true, false≢true, length-set, get_or-set_same, get_or-set_other, length-map, sum_by-set, count_by-le-length, nat_eq, set as slice_set, PositionKind, Root, Unwritten, Dynamic, Private, Other, Link, Flow, flow_of, place_at, is_unwritten, Ranks, rank_in, link_at, first_rank, rank_by, rank_for, is_none, is_rank, is_next, ranks_behind, IsFound, IsServed, AreRanks, AreUpTo, unranked, IsLowest, IsSome}
 
 -- ---- tests
 three_true : (a b c : Bool) → (a && (b && c)) ≡ true → (a ≡ true) × (b ≡ true) × (c ≡ true)

@@ -1,8 +1,5 @@
 -- The paths of the graph are those of the positions and links.
-use Rattle.std.proofs.{Common.{◌≡◌, ℕ, zero, suc, ◌<◌, ◌⊎◌, Bool, true, false, List, [], ◌∷◌, length, map, refl, sym, ap, ◌∙◌, subst, inl, inr, arith}, lemmas.Bool.{false≢true, cases_lt}, lemmas.List.{length-map, get_or_past}}
-use Rattle.std.specs.List.{Contains}
-use Rattle.sharc_graph.specs.{declared.graph.Node.Node, declared.graph.NodeFinding.NodeFinding, declared.graph.NodeFinding.TheVariants.{Apart, Source, Behind}, Findings.finding_at, Paths.{Graph, graph_of, last_of, AreFindings, IsFinding, HasEdge as GraphEdge, IsSource as GraphSource, IsFree as GraphFree, Follow as GraphFollow, LeadsTo as GraphPath, IsRank as GraphRank, IsReason as GraphReason}, declared.place.PositionKind.PositionKind, declared.place.PositionKind.TheVariants.{Root, Unwritten, Dynamic, Private, Other}, Flow.{Flow, place_at, is_unwritten, is_source, IsUnwritten, LeadsDown, HasLink, IsFirstFor, FollowLinks, FlowsTo, IsInferredRank, IsRankFor, IsInferredReason, IsInferred, AreInferred, node_of, leads, link_of, kept_edges}}
-use Rattle.sharc_graph.proofs.Edges.{node_is, link_from_edge, edge_from_link}
+use Rattle.sharc_graph.proofs.{Imports.{◌≡◌, ℕ, zero, suc, ◌<◌, ◌⊎◌, Bool, true, false, List, [], ◌∷◌, length, map, refl, sym, ap, ◌∙◌, subst, inl, inr, arith, false≢true, cases_lt, length-map, get_or_past, Contains, Node, NodeFinding, Apart, Source, Behind, finding_at, Graph, graph_of, last_of, AreFindings, IsFinding, HasEdge as GraphEdge, IsSource as GraphSource, IsFree as GraphFree, Follow as GraphFollow, LeadsTo as GraphPath, IsRank as GraphRank, IsReason as GraphReason, PositionKind, Root, Unwritten, Dynamic, Private, Other, Flow, place_at, is_unwritten, is_source, IsUnwritten, LeadsDown, HasLink, IsFirstFor, FollowLinks, FlowsTo, IsInferredRank, IsRankFor, IsInferredReason, IsInferred, AreInferred, node_of, leads, link_of, kept_edges}, Edges.{node_is, link_from_edge, edge_from_link}}
 
 abbrev pub graph : Flow → Graph
 graph f = graph_of (map node_of f.places) (kept_edges f.places f.links)

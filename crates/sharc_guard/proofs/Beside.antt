@@ -1,16 +1,8 @@
 -- What flat and guarded code have in common where the one is beside the other.
-use Rattle.std.proofs.Common.{◌≡◌, ℕ, ℤ, pos, suc, Bool, List, [], ◌∷◌, length, Some, refl, ap}
-use Rattle.sharc_tree.specs.declared.event.CellAt.{CellAt}
-use Rattle.sharc_code.specs.{declared.code.PlaceMode.PlaceMode, declared.code.PlaceMode.TheVariants.LockedGlobal, declared.code.Use.Use, declared.instr.Cell.Cell, declared.instr.Register.Register, declared.state.Frame.Frame}
-use Rattle.sharc_code.specs.declared.code.Use.TheVariants as uses
-use Rattle.sharc_code.specs.declared.instr.Cell.TheVariants as cells
-use Rattle.sharc_code.specs.declared.instr.Register.TheVariants as registers
+use Rattle.sharc_guard.proofs.Imports.{◌≡◌, ℕ, ℤ, pos, suc, Bool, List, [], ◌∷◌, length, Some, refl, ap, CellAt, PlaceMode, LockedGlobal, Use, Cell, Register, Frame, is_zero, Flat, Caller, At, cell_at, is_of_null, cell_mode_of, instance_mode, take_kind_of, variable_of, argument, Program, Thread, Running, place, guarded}
 use Rattle.sharc_code.specs.Arithmetic as Code
 use Rattle.sharc_code.specs.Says as Says
-use Rattle.sharc_meaning.specs.Arithmetic.{is_zero}
-use Rattle.sharc_flat.specs.Machine.{Flat, Caller, At, cell_at, is_of_null, cell_mode_of, instance_mode, take_kind_of, variable_of, argument}
 use Rattle.sharc_guard.specs.Machine as Form
-use Rattle.sharc_guard.specs.{Machine.{Program, Thread, Running}, Guard.{place, guarded}}
 
 -- ---- the words of both
 pub zero_same : (z : ℤ) → Code.is_zero z ≡ is_zero z
@@ -18,12 +10,12 @@ zero_same (pos (suc n)) = refl
 zero_same _ = refl
 
 pub kind_same : (u : Use) → Says.kind_of u ≡ take_kind_of u
-kind_same (uses.Free x) = refl
+kind_same (Use.Free x) = refl
 kind_same _ = refl
 
 pub variable_same : (u : Use) → Says.variable_of u ≡ variable_of u
-variable_same (uses.Cast (Some x)) = refl
-variable_same (uses.Free (Some x)) = refl
+variable_same (Use.Cast (Some x)) = refl
+variable_same (Use.Free (Some x)) = refl
 variable_same _ = refl
 
 -- ---- guarded code beside flat code
@@ -60,16 +52,16 @@ module _ (dropped : ℕ → Bool) (flat : Flat) (m : At) (q : ℕ) (h : List Cel
   me = beside (place dropped flat.lines) m q h l
 
   pub cell_same : (c : Cell) → Form.cell_at p me c ≡ cell_at flat.globals m c
-  cell_same (cells.Global g n) = refl
+  cell_same (Cell.Global g n) = refl
   cell_same _ = refl
 
   pub null_same : (c : Cell) → Form.is_of_null me c ≡ is_of_null m c
-  null_same (cells.Global g n) = refl
+  null_same (Cell.Global g n) = refl
   null_same _ = refl
 
   pub argument_same : (r : Register) → Form.argument me r ≡ argument m r
-  argument_same (registers.Int i) = refl
-  argument_same (registers.Reference r) = refl
+  argument_same (Register.Int i) = refl
+  argument_same (Register.Reference r) = refl
 
   pub mode_same : (c : CellAt) (mode : PlaceMode) → Form.mode_of p me c mode ≡ cell_mode_of flat.globals m c mode
   mode_same c (LockedGlobal g n) = refl

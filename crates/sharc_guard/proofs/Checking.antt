@@ -1,10 +1,6 @@
 -- Each access comes after its check.
-use Rattle.std.proofs.{Common.{◌≡◌, ℕ, zero, suc, ◌+◌, ◌-◌, ◌<◌, ◌≤◌, ◌⊎◌, inl, inr, Bool, true, false, List, [], ◌∷◌, ◌++◌, length, map, refl, sym, ap, ◌∙◌, subst, ⊎_elim, arith, Some, None, slice_get, slice_index_or, cond}, lemmas.Bool.cases_lt, lemmas.List.{append_assoc, length-map}}
-use Rattle.sharc_code.specs.{declared.code.Function.Function, declared.code.PlaceMode.PlaceMode, declared.code.PlaceMode.TheVariants.{Dynamic, LockedGlobal, LockedSibling, LockedThrough, LockedLoaded}, declared.code.SourcePlace.SourcePlace, declared.instr.Cell.TheVariants.{Global, Object}, declared.instr.Width.TheVariants.Char, declared.instr.Instr.Instr, declared.instr.Instr.TheVariants.{Start, Exit, ChkRead, ChkWrite, ChkLock, ChkLockLoaded, Load, Store, LoadRef, Exchange, TakeCell}, Machine.no_function}
-use Rattle.sharc_flat.specs.{declared.op.Op.Op, declared.op.Spot.Spot, Machine.Flat}
-use Rattle.sharc_flat.specs.declared.op.Op.TheVariants as op
-use Rattle.sharc_guard.specs.{Machine.{Program, source_at}, Guard.{expand, head, body, tail, own, width, offset, place, guarded, entered_at, source_of, check_under}, Checked.{Access, access_of, IsCheckOf, LeadsTo, IsNoTarget, IsAfterCheck, IsCheckedAt}}
-use Rattle.sharc_guard.proofs.{Placing.{HasAt, width_is, stands, place_next, source_is}, Framing.{there_is, AllIn, all_append, all_at, has_at, get_inside, head_all}}
+use Rattle.sharc_guard.proofs.{Imports.{◌≡◌, ℕ, zero, suc, ◌+◌, ◌-◌, ◌<◌, ◌≤◌, ◌⊎◌, inl, inr, Bool, true, false, List, [], ◌∷◌, ◌++◌, length, map, refl, sym, ap, ◌∙◌, subst, ⊎_elim, arith, Some, None, slice_get, get_or as slice_index_or, cond, cases_lt, append_assoc, length-map, Function, PlaceMode, Dynamic, LockedGlobal, LockedSibling, LockedThrough, LockedLoaded, SourcePlace, Global, Object, Char, Instr, Start, Exit, ChkRead, ChkWrite, ChkLock, ChkLockLoaded, Load, Store, LoadRef, Exchange, TakeCell, no_function, Op, Spot, Flat, Program, source_at, expand, head, body, tail, own, width, offset, place, guarded, entered_at, source_of, check_under, access_of, IsCheckOf, LeadsTo, IsNoTarget, IsAfterCheck, IsCheckedAt}, Placing.{HasAt, width_is, stands, place_next, source_is}, Framing.{there_is, AllIn, all_append, all_at, has_at, get_inside, head_all}}
+use Rattle.sharc_guard.specs.Checked.{Access}
 
 -- ---- places grow
 pub grows : (dropped : ℕ → Bool) (k : ℕ) (lines : List Op) (n d : ℕ) → offset dropped k lines n ≤ offset dropped k lines (n + d)
@@ -48,20 +44,20 @@ module _ (flat : Flat) (dropped : ℕ → Bool) where
   ToLine i = (pc : ℕ) → LeadsTo i pc → (k : ℕ) × (pl k ≡ pc)
 
   own_to : (n : ℕ) (o : Op) → AllIn ToLine (own (body pl n o))
-  own_to n op.Enter = tt
-  own_to n op.BlockEnd = tt
-  own_to n (op.Compute Char operator i a b spot) = (λ pc h. absurd h, tt)
-  own_to n (op.Negate Char i a spot) = (λ pc h. absurd h, tt)
-  own_to n (op.Skip k) = (λ pc h. (n + 1 + k, h), tt)
-  own_to n (op.SkipIfZero i k) = (λ pc h. (n + 1 + k, h), tt)
-  own_to n (op.SkipIfNull r k) = (λ pc h. (n + 1 + k, h), tt)
-  own_to n (op.Jump to) = (λ pc h. (to, h), tt)
+  own_to n Op.Enter = tt
+  own_to n Op.BlockEnd = tt
+  own_to n (Op.Compute Char operator i a b spot) = (λ pc h. absurd h, tt)
+  own_to n (Op.Negate Char i a spot) = (λ pc h. absurd h, tt)
+  own_to n (Op.Skip k) = (λ pc h. (n + 1 + k, h), tt)
+  own_to n (Op.SkipIfZero i k) = (λ pc h. (n + 1 + k, h), tt)
+  own_to n (Op.SkipIfNull r k) = (λ pc h. (n + 1 + k, h), tt)
+  own_to n (Op.Jump to) = (λ pc h. (to, h), tt)
   own_to n _ = (λ pc h. absurd h, tt)
 
   tail_to : (o : Op) → AllIn ToLine (tail o)
-  tail_to (op.LoadRef r cell spot) = (λ pc h. absurd h, tt)
-  tail_to (op.StoreRef r cell spot) = (λ pc h. absurd h, tt)
-  tail_to (op.Settle x from) = (λ pc h. absurd h, tt)
+  tail_to (Op.LoadRef r cell spot) = (λ pc h. absurd h, tt)
+  tail_to (Op.StoreRef r cell spot) = (λ pc h. absurd h, tt)
+  tail_to (Op.Settle x from) = (λ pc h. absurd h, tt)
   tail_to _ = tt
 
   expand_to : (drop : Bool) (n : ℕ) (o : Op) → AllIn ToLine (expand pl drop n o)
@@ -149,32 +145,32 @@ module _ (flat : Flat) (dropped : ℕ → Bool) where
   head_idle drop n o = head_all Idle drop n o (λ c. refl) (λ c. refl) (λ c. refl) refl (λ r. refl) (λ r c. refl)
 
   tail_idle : (o : Op) → AllIn Idle (tail o)
-  tail_idle (op.LoadRef r cell spot) = (refl, tt)
-  tail_idle (op.StoreRef r cell spot) = (refl, tt)
-  tail_idle (op.Settle x from) = (refl, tt)
+  tail_idle (Op.LoadRef r cell spot) = (refl, tt)
+  tail_idle (Op.StoreRef r cell spot) = (refl, tt)
+  tail_idle (Op.Settle x from) = (refl, tt)
   tail_idle _ = tt
 
   -- an operation with an access of its own, or with none
   abbrev Accesses : Op → Type 0
-  Accesses (op.Load i cell spot) = Unit {0}
-  Accesses (op.Store i cell spot) = Unit {0}
-  Accesses (op.LoadRef r cell spot) = Unit {0}
-  Accesses (op.StoreRef r cell spot) = Unit {0}
-  Accesses (op.LoadGuard cell spot) = Unit {0}
-  Accesses (op.TakeCell r cell spot) = Unit {0}
+  Accesses (Op.Load i cell spot) = Unit {0}
+  Accesses (Op.Store i cell spot) = Unit {0}
+  Accesses (Op.LoadRef r cell spot) = Unit {0}
+  Accesses (Op.StoreRef r cell spot) = Unit {0}
+  Accesses (Op.LoadGuard cell spot) = Unit {0}
+  Accesses (Op.TakeCell r cell spot) = Unit {0}
   Accesses _ = ⊥
 
   own_idle : (n : ℕ) (o : Op) → Accesses o ⊎ AllIn Idle (own (body pl n o))
-  own_idle n op.Enter = inr tt
-  own_idle n op.BlockEnd = inr tt
-  own_idle n (op.Compute Char operator i a b spot) = inr (refl, tt)
-  own_idle n (op.Negate Char i a spot) = inr (refl, tt)
-  own_idle n (op.Load i cell spot) = inl tt
-  own_idle n (op.Store i cell spot) = inl tt
-  own_idle n (op.LoadRef r cell spot) = inl tt
-  own_idle n (op.StoreRef r cell spot) = inl tt
-  own_idle n (op.LoadGuard cell spot) = inl tt
-  own_idle n (op.TakeCell r cell spot) = inl tt
+  own_idle n Op.Enter = inr tt
+  own_idle n Op.BlockEnd = inr tt
+  own_idle n (Op.Compute Char operator i a b spot) = inr (refl, tt)
+  own_idle n (Op.Negate Char i a spot) = inr (refl, tt)
+  own_idle n (Op.Load i cell spot) = inl tt
+  own_idle n (Op.Store i cell spot) = inl tt
+  own_idle n (Op.LoadRef r cell spot) = inl tt
+  own_idle n (Op.StoreRef r cell spot) = inl tt
+  own_idle n (Op.LoadGuard cell spot) = inl tt
+  own_idle n (Op.TakeCell r cell spot) = inl tt
   own_idle n _ = inr (refl, tt)
 
   found_own : (hs : List Instr) (x : Instr) (ts : List Instr) (j : ℕ) (i : Instr) (a : Access) → AllIn Idle hs → AllIn Idle ts → slice_get (hs ++ x ∷ ts) j ≡ Some i → access_of i ≡ Some a → (j ≡ length hs) × (x ≡ i)
@@ -199,28 +195,28 @@ module _ (flat : Flat) (dropped : ℕ → Bool) where
   whole_is drop n o i b = ap (λ b. head drop n o ++ own b ++ tail o) b ∙ append_assoc (head drop n o) (i ∷ []) (tail o)
 
   by_op : (n : ℕ) (o : Op) (e : slice_get flat.lines n ≡ Some o) (j : ℕ) (i : Instr) (a : Access) → Accesses o → slice_get (expand pl (dropped n) n o) j ≡ Some i → access_of i ≡ Some a → IsCheckedAt dropped p (pl n + j) (source_at p a.site).mode a
-  by_op n (op.Load r cell spot) e j i a w st acc =
-      let wh = whole_is (dropped n) n (op.Load r cell spot) (Load r cell n) refl in
-      access_checked n (op.Load r cell spot) e j i a (dropped n) spot (ChkRead cell n) (Load r cell n) record { cell = cell; site = n; is_write = false } [] (sym (ap (λ xs. slice_get xs j) wh) ∙ st) acc (head_idle (dropped n) n (op.Load r cell spot)) tt refl refl refl (λ k. k) wh refl
-  by_op n (op.Store r cell spot) e j i a w st acc =
-      let wh = whole_is (dropped n) n (op.Store r cell spot) (Store r cell n) refl in
-      access_checked n (op.Store r cell spot) e j i a (dropped n) spot (ChkWrite cell n) (Store r cell n) record { cell = cell; site = n; is_write = true } [] (sym (ap (λ xs. slice_get xs j) wh) ∙ st) acc (head_idle (dropped n) n (op.Store r cell spot)) tt refl refl refl (λ k. k) wh refl
-  by_op n (op.LoadRef r cell spot) e j i a w st acc =
-      let wh = whole_is (dropped n) n (op.LoadRef r cell spot) (LoadRef cell n) refl in
-      access_checked n (op.LoadRef r cell spot) e j i a false spot (ChkRead cell n) (LoadRef cell n) record { cell = cell; site = n; is_write = false } (tail (op.LoadRef r cell spot)) (sym (ap (λ xs. slice_get xs j) wh) ∙ st) acc (head_idle (dropped n) n (op.LoadRef r cell spot)) (tail_idle (op.LoadRef r cell spot)) refl refl refl (λ k. absurd (cc)) wh refl
-  by_op n (op.StoreRef r cell spot) e j i a w st acc =
-      let wh = whole_is (dropped n) n (op.StoreRef r cell spot) (Exchange r cell n) refl in
-      access_checked n (op.StoreRef r cell spot) e j i a false spot (ChkWrite cell n) (Exchange r cell n) record { cell = cell; site = n; is_write = true } (tail (op.StoreRef r cell spot)) (sym (ap (λ xs. slice_get xs j) wh) ∙ st) acc (head_idle (dropped n) n (op.StoreRef r cell spot)) (tail_idle (op.StoreRef r cell spot)) refl refl refl (λ k. absurd (cc)) wh refl
-  by_op n (op.TakeCell r cell spot) e j i a w st acc =
-      let wh = whole_is (dropped n) n (op.TakeCell r cell spot) (TakeCell r cell n) refl in
-      access_checked n (op.TakeCell r cell spot) e j i a false spot (ChkWrite cell n) (TakeCell r cell n) record { cell = cell; site = n; is_write = true } [] (sym (ap (λ xs. slice_get xs j) wh) ∙ st) acc (head_idle (dropped n) n (op.TakeCell r cell spot)) tt refl refl refl (λ k. absurd (cc)) wh refl
-  by_op n (op.LoadGuard cell spot) e j i a w st acc =
-      let wh = whole_is (dropped n) n (op.LoadGuard cell spot) (LoadRef cell n) refl in
+  by_op n (Op.Load r cell spot) e j i a w st acc =
+      let wh = whole_is (dropped n) n (Op.Load r cell spot) (Load r cell n) refl in
+      access_checked n (Op.Load r cell spot) e j i a (dropped n) spot (ChkRead cell n) (Load r cell n) record { cell = cell; site = n; is_write = false } [] (sym (ap (λ xs. slice_get xs j) wh) ∙ st) acc (head_idle (dropped n) n (Op.Load r cell spot)) tt refl refl refl (λ k. k) wh refl
+  by_op n (Op.Store r cell spot) e j i a w st acc =
+      let wh = whole_is (dropped n) n (Op.Store r cell spot) (Store r cell n) refl in
+      access_checked n (Op.Store r cell spot) e j i a (dropped n) spot (ChkWrite cell n) (Store r cell n) record { cell = cell; site = n; is_write = true } [] (sym (ap (λ xs. slice_get xs j) wh) ∙ st) acc (head_idle (dropped n) n (Op.Store r cell spot)) tt refl refl refl (λ k. k) wh refl
+  by_op n (Op.LoadRef r cell spot) e j i a w st acc =
+      let wh = whole_is (dropped n) n (Op.LoadRef r cell spot) (LoadRef cell n) refl in
+      access_checked n (Op.LoadRef r cell spot) e j i a false spot (ChkRead cell n) (LoadRef cell n) record { cell = cell; site = n; is_write = false } (tail (Op.LoadRef r cell spot)) (sym (ap (λ xs. slice_get xs j) wh) ∙ st) acc (head_idle (dropped n) n (Op.LoadRef r cell spot)) (tail_idle (Op.LoadRef r cell spot)) refl refl refl (λ k. absurd (cc)) wh refl
+  by_op n (Op.StoreRef r cell spot) e j i a w st acc =
+      let wh = whole_is (dropped n) n (Op.StoreRef r cell spot) (Exchange r cell n) refl in
+      access_checked n (Op.StoreRef r cell spot) e j i a false spot (ChkWrite cell n) (Exchange r cell n) record { cell = cell; site = n; is_write = true } (tail (Op.StoreRef r cell spot)) (sym (ap (λ xs. slice_get xs j) wh) ∙ st) acc (head_idle (dropped n) n (Op.StoreRef r cell spot)) (tail_idle (Op.StoreRef r cell spot)) refl refl refl (λ k. absurd (cc)) wh refl
+  by_op n (Op.TakeCell r cell spot) e j i a w st acc =
+      let wh = whole_is (dropped n) n (Op.TakeCell r cell spot) (TakeCell r cell n) refl in
+      access_checked n (Op.TakeCell r cell spot) e j i a false spot (ChkWrite cell n) (TakeCell r cell n) record { cell = cell; site = n; is_write = true } [] (sym (ap (λ xs. slice_get xs j) wh) ∙ st) acc (head_idle (dropped n) n (Op.TakeCell r cell spot)) tt refl refl refl (λ k. absurd (cc)) wh refl
+  by_op n (Op.LoadGuard cell spot) e j i a w st acc =
+      let wh = whole_is (dropped n) n (Op.LoadGuard cell spot) (LoadRef cell n) refl in
       let r = found_own [] (LoadRef cell n) [] j i a tt tt (sym (ap (λ xs. slice_get xs j) wh) ∙ st) acc in
       let same : Some record { cell = cell; site = n; is_write = false } ≡ Some a = ap access_of r.1 ∙ acc in
       let a_is : record { cell = cell; site = n; is_write = false } ≡ a = cc in
       subst (λ (a : Access). IsCheckedAt dropped p (pl n + j) (source_at p a.site).mode a) a_is
-      (subst (λ (sp : SourcePlace). IsCheckedAt dropped p (pl n + j) sp.mode record { cell = cell; site = n; is_write = false }) (sym (source_is dropped flat n (op.LoadGuard cell spot) e)) tt)
+      (subst (λ (sp : SourcePlace). IsCheckedAt dropped p (pl n + j) sp.mode record { cell = cell; site = n; is_write = false }) (sym (source_is dropped flat n (Op.LoadGuard cell spot) e)) tt)
   by_op n _ e j i a w st acc = absurd w
 
   pub accesses_checked : (pc : ℕ) (i : Instr) (a : Access) → slice_get p.statements pc ≡ Some i → access_of i ≡ Some a → IsCheckedAt dropped p pc (source_at p a.site).mode a

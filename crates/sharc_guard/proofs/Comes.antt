@@ -1,15 +1,7 @@
 -- Flat code comes to wherever guarded code comes.
-use Rattle.std.proofs.{Common.{◌≡◌, ℕ, ℤ, pos, zero, suc, ◌+◌, ◌*◌, ◌≤◌, ◌⊎◌, Bool, true, List, [], ◌∷◌, ◌++◌, length, None, refl, sym, ap, ◌∙◌, subst, arith, append-nil, inr}, lemmas.Option.slice_get_past}
-use Rattle.std.specs.Prelude.{slice_get}
-use Rattle.sharc_tree.specs.declared.event.Act.{Act}
-use Rattle.sharc_tree.specs.declared.event.Act.TheVariants as acts
-use Rattle.sharc_code.specs.declared.instr.Instr.{Instr}
-use Rattle.sharc_meaning.specs.{Events.held_mutexes, State.{event_of, answer_of}}
-use Rattle.sharc_flat.specs.{declared.op.Op.Op, Machine.{Flat, At, Turn, asks, next, function_of, end_turn, line_turn, op_turn, turn, with_event}, Path.{may_go, at_after, asked_by, asked}}
+use Rattle.sharc_guard.proofs.{Imports.{◌≡◌, ℕ, ℤ, pos, zero, suc, ◌+◌, ◌*◌, ◌≤◌, ◌⊎◌, Bool, true, List, [], ◌∷◌, ◌++◌, length, None, refl, sym, ap, ◌∙◌, subst, arith, append-nil, inr, slice_get_past, slice_get, Act, Instr, held_mutexes, event_of, answer_of, Op, Flat, At, Turn, asks, next, function_of, end_turn, line_turn, op_turn, turn, with_event, may_go, at_after, asked_by, asked, Program, Thread, Phase, Running, Leaving, Left, source_at, statement_at, thread_after, IsPath, weight, weight_in, place, guarded, own, body, tail, IsLevel, guarded_asked_by, guarded_asked, is_enter, OverwritesNone, LocksFrom}, Placing.HasAt, Turns.behind, Places.place_of, Beside.beside, Near.{quiet, leaving, Near, Ending, Follow, lands}, Turning.{IsOpenFor, FollowsBy, follows}, Gates.{Passes, GivesNow, Guards}, Phases.{weight_all, Ahead, Behind, Stage, ahead, behind_it, leaves, Bound}, Steps.{statement_is, one_body, StraightBy, straight, quiet_turn, function_site, Coming, Was, PassedBy, landed, own_turn}}
 use Rattle.sharc_guard.specs.Machine as Form
-use Rattle.sharc_guard.specs.{Machine.{Program, Thread, Phase, Running, Leaving, Left, source_at, statement_at}, Path.{thread_after, IsPath, weight, weight_in}, Guard.{place, guarded, own, body, tail}, Level.IsLevel, Asked.{guarded_asked_by, guarded_asked, is_enter}, Counted.{OverwritesNone, LocksFrom}}
 use Rattle.sharc_guard.specs.Path as Path
-use Rattle.sharc_guard.proofs.{Placing.HasAt, Turns.behind, Places.place_of, Beside.beside, Near.{quiet, leaving, Near, Ending, Follow, lands}, Turning.{IsOpenFor, FollowsBy, follows}, Gates.{Passes, GivesNow, Guards}, Phases.{weight_all, Ahead, Behind, Stage, ahead, behind_it, leaves, Bound}, Steps.{statement_is, one_body, StraightBy, straight, quiet_turn, function_site, Coming, Was, PassedBy, landed, own_turn}}
 
 -- at a statement's own turn
 pub record Own (o : Op) (is : List Instr) : Type 0 where
@@ -232,8 +224,8 @@ module _ (dropped : ℕ → Bool) (flat : Flat) (level : IsLevel flat) where
             }
 
         by : (n : ℕ) → y.steps ≡ n → C (x ∷ earlier)
-        by zero e = told zero acts.Return Leaving refl (omega arith) e refl (flat_turn ∙ ap (end_turn flat m) e) (guarded_turn ∙ ap (λ n. Form.exit p a (leaving n)) e)
-        by (suc zero) e = told (suc zero) acts.Gone Left refl (omega arith) e refl (flat_turn ∙ ap (end_turn flat m) e) (guarded_turn ∙ ap (λ n. Form.exit p a (leaving n)) e)
+        by zero e = told zero Act.Return Leaving refl (omega arith) e refl (flat_turn ∙ ap (end_turn flat m) e) (guarded_turn ∙ ap (λ n. Form.exit p a (leaving n)) e)
+        by (suc zero) e = told (suc zero) Act.Gone Left refl (omega arith) e refl (flat_turn ∙ ap (end_turn flat m) e) (guarded_turn ∙ ap (λ n. Form.exit p a (leaving n)) e)
         by (suc (suc n)) e = let z : Form.turn p a ≡ Form.Halts Form.Ended = guarded_turn ∙ ap (λ n. Form.exit p a (leaving n)) e in let z2 : Path.may_go (Form.Halts Form.Ended) ≡ true = subst (λ t. Path.may_go t ≡ true) z go in absurd (cc)
 
     step : (earlier : List ℤ) (x : ℤ) (c : C earlier) (s : Stage dropped flat level (at_after flat from c.ys) (thread_after p begun earlier))

@@ -1,23 +1,6 @@
 -- Wherever flat code comes to an access whose check is dropped, the same cell was checked before.
-use Rattle.std.proofs.{Common.{◌≡◌, ◌≢◌, ℕ, ℤ, pos, negsuc, zero, suc, ◌+◌, ◌-◌, ◌*◌, ◌<◌, ◌≤◌, ◌⊎◌, inl, inr, Bool, true, false, not, ◌&&◌, ◌||◌, List, [], ◌∷◌, length, Option, Some, None, Result, Ok, Err, refl, sym, ap, ◌∙◌, subst, arith, cond, ⊎_elim, nat_lt}, lemmas.Bool.{cases_lt, or_right, or_left}, lemmas.Option.{slice_get_past, slice_get-get_or}}
-use Rattle.std.specs.Prelude.{slice_get, slice_index_or, ◌==◌}
-use Rattle.sharc_tree.specs.{declared.event.Act.Act, declared.event.CellAt.CellAt, declared.event.CellMode.CellMode, declared.event.SourceEvent.SourceEvent, declared.trap.Trap.Trap}
-use Rattle.sharc_tree.specs.declared.event.Act.TheVariants as acts
-use Rattle.sharc_tree.specs.declared.event.CellMode.TheVariants as modes
-use Rattle.sharc_tree.specs.declared.event.Object.TheVariants as objects
-use Rattle.sharc_tree.specs.declared.event.Taken.TheVariants as taken
-use Rattle.sharc_tree.specs.declared.trap.Trap.TheVariants as traps
-use Rattle.sharc_heap.specs.{declared.shadow_word.Kind.Kind, declared.shadow_word.Kind.TheVariants.{Read, Write}}
-use Rattle.sharc_code.specs.{declared.code.Function.Function, declared.code.Parameter.Parameter, declared.instr.Cell.Cell, Arithmetic.{computed, negated, holds, word_of}, Machine.no_function}
-use Rattle.sharc_code.specs.declared.code.Parameter.TheVariants as parameters
-use Rattle.sharc_code.specs.declared.instr.Cell.TheVariants as cells
-use Rattle.sharc_code.specs.declared.instr.Register.TheVariants as registers
-use Rattle.sharc_meaning.specs.{declared.given.GivenUp.TheVariants.Replaced, Arithmetic.is_zero, Cells.cell_of, Events.{held_mutexes, holds_mutex}, Reference.{number_of, elements_of}, Statements.is_positive}
-use Rattle.sharc_flat.specs.{declared.op.Op.Op, declared.op.Spot.Spot, Machine.{Flat, Caller, At, Turn, goes, asks, put, int, ref, set_int, set_ref, gives_up, next, over_lines, goes_on, stops, asserts, with_result, cell_at, global_cell, cell_mode_of, lock_is_null, accesses, accessed, take_kind_of, indexed, takes_local, called, returned, function_of, first_at, begun, start, end_turn, line_turn, op_turn, turn, with_event}, Path.{after, may_go, at_after, IsPath}}
-use Rattle.sharc_flat.specs.declared.op.Op.TheVariants as op
-use Rattle.sharc_guard.specs.{Counted.IsAccess, Known.{is_straight, leads_to, line_leads, is_led_to, is_entry, is_target, writes_ref, writes_int, SimplePlace, in_variable, in_global, assigns, counts, Access, access, is_dynamic, tells, Know, nothing, number_given, copy_given, unless_written, with_element, variable_place, global_place, place_of, is_at, passes_by, know_next, know_after, known, has_passed, drops, drops_at, dropped}, Repeated.IsStraight, Covered.{Makes, Since, IsCovered, DroppedIsCovered}}
-use Rattle.sharc_guard.proofs.{Ready.{put_at, put_other}, Repeating.{eq_same, place_is, dynamic_is, no_some, true_false, constant_is, element_is, unwritten, copy_is, counts_more}, Untargeted.itself as self}
-use Rattle.sharc_lemmas.proofs.{Options.{same_some as some_is}, Bools.{and_left, or_split as or_either, not_true, and_right, false_true}, Lists.{there_is as within}, Numbers.{same_number as eq_true}}
+use Rattle.sharc_guard.proofs.{Imports.{◌≡◌, ◌≢◌, ℕ, ℤ, pos, negsuc, zero, suc, ◌+◌, ◌-◌, ◌*◌, ◌<◌, ◌≤◌, ◌⊎◌, inl, inr, Bool, true, false, not, ◌&&◌, ◌||◌, List, [], ◌∷◌, length, Option, Some, None, Result, Ok, Err, refl, sym, ap, ◌∙◌, subst, arith, cond, ⊎_elim, nat_lt, cases_lt, or_right, or_left, slice_get_past, slice_get-get_or, slice_get, get_or as slice_index_or, ◌==◌, Act, CellAt, CellMode, SourceEvent, Trap, Taken, Kind, Read, Write, Function, Parameter, Cell, computed, negated, holds, word_of, no_function, Register, Replaced, is_zero, cell_of, held_mutexes, holds_mutex, number_of, elements_of, is_positive, Op, Spot, Flat, Caller, At, Turn, goes, asks, put, int, ref, set_int, set_ref, gives_up, next, over_lines, goes_on, stops, asserts, with_result, cell_at, global_cell, cell_mode_of, lock_is_null, accesses, accessed, take_kind_of, indexed, takes_local, called, returned, function_of, first_at, begun, start, end_turn, line_turn, op_turn, turn, with_event, after, may_go, at_after, IsFlatPath as IsPath, IsAccess, is_straight, leads_to, line_leads, is_led_to, is_entry, is_target, writes_ref, writes_int, SimplePlace, in_variable, in_global, assigns, counts, Access, access, is_dynamic, tells, Know, nothing, number_given, copy_given, unless_written, with_element, variable_place, global_place, place_of, is_at, passes_by, know_next, know_after, known, has_passed, drops, drops_at, dropped, IsStraight, Makes, Since, IsCovered, DroppedIsCovered, some_is, and_left, or_either, not_true, and_right, false_true, within, eq_true}, Ready.{put_at, put_other}, Repeating.{eq_same, place_is, dynamic_is, no_some, true_false, constant_is, element_is, unwritten, copy_is, counts_more}, Untargeted.{itself as self}}
+use Rattle.sharc_tree.specs.declared.event.Object.{Object}
 
 or_false : (a b : Bool) → (a || b) ≡ false → (a ≡ false) × (b ≡ false)
 or_false true b e = true_false e
@@ -112,7 +95,7 @@ module _ (flat : Flat) (from : At) where
   at = at_after flat from
 
   abbrev cell_in : At → SimplePlace → CellAt
-  cell_in m (in_variable x n) = cell_of (objects.Made (number_of (ref m x))) n
+  cell_in m (in_variable x n) = cell_of (Object.Made (number_of (ref m x))) n
   cell_in m (in_global g n) = global_cell flat.globals g n
 
   abbrev register_in : At → SimplePlace → ℕ
@@ -145,24 +128,24 @@ module _ (flat : Flat) (from : At) where
       by _ z = absurd z
 
   place_true : (answers : List ℤ) (k : Know) → Holds k answers → (cell : Cell) (place : SimplePlace) → place_of k cell ≡ Some place → cell_at flat.globals (at answers) cell ≡ cell_in (at answers) place
-  place_true answers k ks (cells.Global g n) place e = ap (cell_in (at answers)) (some_is (in_global g n) place e)
-  place_true answers k ks (cells.GlobalAt g i) place e = by (k.number i) refl e
+  place_true answers k ks (Cell.Global g n) place e = ap (cell_in (at answers)) (some_is (in_global g n) place e)
+  place_true answers k ks (Cell.GlobalAt g i) place e = by (k.number i) refl e
     where
       by : (q : Option ℕ) → k.number i ≡ q → global_place g q ≡ Some place → global_cell flat.globals g (word_of (int (at answers) i)) ≡ cell_in (at answers) place
       by None h e = no_some place e
       by (Some n) h e = ap (λ v. global_cell flat.globals g (word_of v)) (ks.numbers i n h) ∙ ap (cell_in (at answers)) (some_is (in_global g n) place e)
-  place_true answers k ks (cells.Object r n) place e = by (k.copy r) refl e
+  place_true answers k ks (Cell.Object r n) place e = by (k.copy r) refl e
     where
-      by : (q : Option ℕ) → k.copy r ≡ q → variable_place q (Some n) ≡ Some place → cell_of (objects.Made (number_of (ref (at answers) r))) n ≡ cell_in (at answers) place
+      by : (q : Option ℕ) → k.copy r ≡ q → variable_place q (Some n) ≡ Some place → cell_of (Object.Made (number_of (ref (at answers) r))) n ≡ cell_in (at answers) place
       by None h e = no_some place e
-      by (Some y) h e = ap (λ v. cell_of (objects.Made (number_of v)) n) (ks.copies r y h) ∙ ap (cell_in (at answers)) (some_is (in_variable y n) place e)
-  place_true answers k ks (cells.ObjectAt r i) place e = by (k.copy r) (k.number i) refl refl e
+      by (Some y) h e = ap (λ v. cell_of (Object.Made (number_of v)) n) (ks.copies r y h) ∙ ap (cell_in (at answers)) (some_is (in_variable y n) place e)
+  place_true answers k ks (Cell.ObjectAt r i) place e = by (k.copy r) (k.number i) refl refl e
     where
-      by : (q p : Option ℕ) → k.copy r ≡ q → k.number i ≡ p → variable_place q p ≡ Some place → cell_of (objects.Made (number_of (ref (at answers) r))) (word_of (int (at answers) i)) ≡ cell_in (at answers) place
+      by : (q p : Option ℕ) → k.copy r ≡ q → k.number i ≡ p → variable_place q p ≡ Some place → cell_of (Object.Made (number_of (ref (at answers) r))) (word_of (int (at answers) i)) ≡ cell_in (at answers) place
       by None p h h2 e = no_some place e
       by (Some y) None h h2 e = no_some place e
       by (Some y) (Some n) h h2 e =
-          ap (λ v. cell_of (objects.Made (number_of v)) (word_of (int (at answers) i))) (ks.copies r y h) ∙ ap (λ v. cell_of (objects.Made (number_of (ref (at answers) y))) (word_of v)) (ks.numbers i n h2) ∙ ap (cell_in (at answers)) (some_is (in_variable y n) place e)
+          ap (λ v. cell_of (Object.Made (number_of v)) (word_of (int (at answers) i))) (ks.copies r y h) ∙ ap (λ v. cell_of (Object.Made (number_of (ref (at answers) y))) (word_of v)) (ks.numbers i n h2) ∙ ap (cell_in (at answers)) (some_is (in_variable y n) place e)
 
   -- ---- one turn of a straight piece
   module _ (x : ℤ) (earlier : List ℤ) (o : Op) (at_o : slice_get flat.lines (at earlier).pc ≡ Some o) (straight : is_straight o ≡ true) (s : Step (at earlier) o (at (x ∷ earlier)))
@@ -200,7 +183,7 @@ module _ (flat : Flat) (from : At) where
         → Since flat from (x ∷ earlier) kind (cell_in later place) (register_in later place)
     since kind (in_variable y n) stays h =
         let st : ref later y ≡ ref now0 y = s.refs y stays in
-        let e : cell_in later (in_variable y n) ≡ cell_in now0 (in_variable y n) = ap (λ v. cell_of (objects.Made (number_of v)) n) st in
+        let e : cell_in later (in_variable y n) ≡ cell_in now0 (in_variable y n) = ap (λ v. cell_of (Object.Made (number_of v)) n) st in
         let j : register_in later (in_variable y n) ≡ register_in now0 (in_variable y n) = ap (λ b. b + y) s.ref_base in (
           ⊎_elim
               (λ (z : Makes (turn flat now0) kind (cell_in now0 (in_variable y n)) × (dropped flat now0.pc ≡ false)). inl (subst (Makes (turn flat now0) kind) (sym e) z.0, z.1))
@@ -212,8 +195,8 @@ module _ (flat : Flat) (from : At) where
     since kind (in_global g n) stays h = (h, line_straight, tt)
 
     drops_passed : (o2 : Op) (a : Access) → access o2 ≡ Some a → drops kn o2 ≡ true → has_passed kn a.kind (place_of kn a.cell) ≡ true
-    drops_passed (op.Load i cell spot) a e d = subst (λ (a : Access). has_passed kn a.kind (place_of kn a.cell) ≡ true) (some_is record { kind = Read; cell = cell; spot = spot } a e) (and_right (tells spot) (has_passed kn Read (place_of kn cell)) d)
-    drops_passed (op.Store i cell spot) a e d = subst (λ (a : Access). has_passed kn a.kind (place_of kn a.cell) ≡ true) (some_is record { kind = Write; cell = cell; spot = spot } a e) (and_right (tells spot) (has_passed kn Write (place_of kn cell)) d)
+    drops_passed (Op.Load i cell spot) a e d = subst (λ (a : Access). has_passed kn a.kind (place_of kn a.cell) ≡ true) (some_is record { kind = Read; cell = cell; spot = spot } a e) (and_right (tells spot) (has_passed kn Read (place_of kn cell)) d)
+    drops_passed (Op.Store i cell spot) a e d = subst (λ (a : Access). has_passed kn a.kind (place_of kn a.cell) ≡ true) (some_is record { kind = Write; cell = cell; spot = spot } a e) (and_right (tells spot) (has_passed kn Write (place_of kn cell)) d)
     drops_passed _ a e d = false_true d
 
     found_here : (a : Access) → access o ≡ Some a → is_dynamic a.spot.mode ≡ true → (kind : Kind) (place : SimplePlace) → counts a.kind kind ≡ true → place_of kn a.cell ≡ Some place
@@ -350,7 +333,7 @@ module _ (flat : Flat) (from : At) where
     of_index : (i cells field elements : ℕ) (spot : Spot) (z : ℤ) → may_go (indexed i cells field z elements spot m) ≡ true → (n : ℕ) × (z ≡ pos n) × (after m (indexed i cells field z elements spot m) x ≡ next (set_int i (pos (n * cells + field)) m))
     of_index i cells field elements spot (pos n) e = by (nat_lt n elements) e
       where
-        by : (b : Bool) → may_go (cond b (goes_on (set_int i (pos (n * cells + field)) m)) (stops traps.IndexOutOfBounds spot)) ≡ true → (j : ℕ) × (pos n ≡ pos j) × (after m (cond b (goes_on (set_int i (pos (n * cells + field)) m)) (stops traps.IndexOutOfBounds spot)) x ≡ next (set_int i (pos (j * cells + field)) m))
+        by : (b : Bool) → may_go (cond b (goes_on (set_int i (pos (n * cells + field)) m)) (stops Trap.IndexOutOfBounds spot)) ≡ true → (j : ℕ) × (pos n ≡ pos j) × (after m (cond b (goes_on (set_int i (pos (n * cells + field)) m)) (stops Trap.IndexOutOfBounds spot)) x ≡ next (set_int i (pos (j * cells + field)) m))
         by true e = (n, refl, refl)
         by false e = false_true e
     of_index i cells field elements spot (negsuc n) e = false_true e
@@ -365,16 +348,16 @@ module _ (flat : Flat) (from : At) where
         wants : Turn
         wants = asks m spot.site (act c (cell_mode_of flat.globals m c spot.mode)) (pos 0) (λ v n. accessed (next (next_of c v n)))
 
-        by : (b : Bool) → may_go (cond b (stops traps.NullPointer spot) wants) ≡ true → (v : ℤ) × (e : SourceEvent) × (after m (cond b (stops traps.NullPointer spot) wants) x ≡ accessed (next (next_of c v (with_event e m))))
+        by : (b : Bool) → may_go (cond b (stops Trap.NullPointer spot) wants) ≡ true → (v : ℤ) × (e : SourceEvent) × (after m (cond b (stops Trap.NullPointer spot) wants) x ≡ accessed (next (next_of c v (with_event e m))))
         by true e = false_true e
         by false e = (_, _, refl)
 
-    makes_access : (cell : Cell) (spot : Spot) (act : CellAt → CellMode → Act) (next_of : CellAt → ℤ → At → At) (kind : Kind) → IsAccess kind (cell_at flat.globals m cell) (act (cell_at flat.globals m cell) modes.Dynamic)
+    makes_access : (cell : Cell) (spot : Spot) (act : CellAt → CellMode → Act) (next_of : CellAt → ℤ → At → At) (kind : Kind) → IsAccess kind (cell_at flat.globals m cell) (act (cell_at flat.globals m cell) CellMode.Dynamic)
         → is_dynamic spot.mode ≡ true → (other : Kind) → counts kind other ≡ true → Makes (accesses flat.globals cell spot act next_of m) other (cell_at flat.globals m cell)
     makes_access cell spot act next_of kind a d other h =
         let c = cell_at flat.globals m cell in
         let e = dynamic_is spot.mode d in
-        subst (λ b. Makes (cond b (stops traps.NullPointer spot) (asks m spot.site (act c (cell_mode_of flat.globals m c spot.mode)) (pos 0) (λ v n. accessed (next (next_of c v n))))) other c) (sym (ap (lock_is_null m spot) e))
+        subst (λ b. Makes (cond b (stops Trap.NullPointer spot) (asks m spot.site (act c (cell_mode_of flat.globals m c spot.mode)) (pos 0) (λ v n. accessed (next (next_of c v n))))) other c) (sym (ap (lock_is_null m spot) e))
         (kind, h, subst (λ z. IsAccess kind c (act c z)) (sym (ap (cell_mode_of flat.globals m c) e)) a)
 
     -- the same of the access that an operation has
@@ -407,125 +390,125 @@ module _ (flat : Flat) (from : At) where
     ref_at o a E e st na ep ef ei er r w hr hi wr wi copied = goes_straight o a st (ref_step m o (at (x ∷ earlier)) E (here o a ∙ e) ep ef ei er r w hr hi wr wi copied) (λ b. λ eb. no_some b (sym na ∙ eb))
 
     steps : (o : Op) → slice_get flat.lines m.pc ≡ Some o → may_go (op_turn flat o m) ≡ true → Stepped x earlier o
-    steps op.Enter a go = same_at op.Enter a (next m) refl refl refl refl refl refl refl refl refl (λ k. refl) (λ k. refl)
-    steps op.BlockEnd a go = blank_on op.BlockEnd a refl (next m) refl refl refl
-    steps (op.Constant i v) a go = int_at (op.Constant i v) a (next (set_int i v m)) refl refl refl refl refl refl refl i v refl refl (λ k. refl) (λ k. refl) (λ q u h g. (constant_is v u g).0)
-    steps (op.Move i j) a go = int_at (op.Move i j) a (next (set_int i (int m j) m)) refl refl refl refl refl refl refl i (int m j) refl refl (λ k. refl) (λ k. refl) (λ q u h g. no_some u g)
-    steps (op.Compute w f i j n spot) a go =
+    steps Op.Enter a go = same_at Op.Enter a (next m) refl refl refl refl refl refl refl refl refl (λ k. refl) (λ k. refl)
+    steps Op.BlockEnd a go = blank_on Op.BlockEnd a refl (next m) refl refl refl
+    steps (Op.Constant i v) a go = int_at (Op.Constant i v) a (next (set_int i v m)) refl refl refl refl refl refl refl i v refl refl (λ k. refl) (λ k. refl) (λ q u h g. (constant_is v u g).0)
+    steps (Op.Move i j) a go = int_at (Op.Move i j) a (next (set_int i (int m j) m)) refl refl refl refl refl refl refl i (int m j) refl refl (λ k. refl) (λ k. refl) (λ q u h g. no_some u g)
+    steps (Op.Compute w f i j n spot) a go =
         let r = of_result i spot (computed w f (int m j) (int m n)) go in
-        int_at (op.Compute w f i j n spot) a (next (set_int i r.0 m)) r.1 refl refl refl refl refl refl i r.0 refl refl (λ k. refl) (λ k. refl) (λ q u h g. no_some u g)
-    steps (op.Negate w i j spot) a go =
+        int_at (Op.Compute w f i j n spot) a (next (set_int i r.0 m)) r.1 refl refl refl refl refl refl i r.0 refl refl (λ k. refl) (λ k. refl) (λ q u h g. no_some u g)
+    steps (Op.Negate w i j spot) a go =
         let r = of_result i spot (negated w (int m j)) go in
-        int_at (op.Negate w i j spot) a (next (set_int i r.0 m)) r.1 refl refl refl refl refl refl i r.0 refl refl (λ k. refl) (λ k. refl) (λ q u h g. no_some u g)
-    steps (op.Complement i j) a go = int_at (op.Complement i j) a (then_ (op.Complement i j)) refl refl refl refl refl refl refl i _ refl refl (λ k. refl) (λ k. refl) (λ q u h g. no_some u g)
-    steps (op.IsFalse i j) a go = int_at (op.IsFalse i j) a (then_ (op.IsFalse i j)) refl refl refl refl refl refl refl i _ refl refl (λ k. refl) (λ k. refl) (λ q u h g. no_some u g)
-    steps (op.SameReference i j n) a go = int_at (op.SameReference i j n) a (then_ (op.SameReference i j n)) refl refl refl refl refl refl refl i _ refl refl (λ k. refl) (λ k. refl) (λ q u h g. no_some u g)
-    steps (op.ChkWidth w i spot) a go = same_at (op.ChkWidth w i spot) a (next m) (of_assert (holds w (int m i)) _ spot go) refl refl refl refl refl refl refl refl (λ k. refl) (λ k. refl)
-    steps (op.Skip n) a go = jumps_to (op.Skip n) a (m.pc + 1 + n) refl (self (m.pc + 1 + n))
-    steps (op.SkipIfZero i n) a go = by (is_zero (int m i)) refl
+        int_at (Op.Negate w i j spot) a (next (set_int i r.0 m)) r.1 refl refl refl refl refl refl i r.0 refl refl (λ k. refl) (λ k. refl) (λ q u h g. no_some u g)
+    steps (Op.Complement i j) a go = int_at (Op.Complement i j) a (then_ (Op.Complement i j)) refl refl refl refl refl refl refl i _ refl refl (λ k. refl) (λ k. refl) (λ q u h g. no_some u g)
+    steps (Op.IsFalse i j) a go = int_at (Op.IsFalse i j) a (then_ (Op.IsFalse i j)) refl refl refl refl refl refl refl i _ refl refl (λ k. refl) (λ k. refl) (λ q u h g. no_some u g)
+    steps (Op.SameReference i j n) a go = int_at (Op.SameReference i j n) a (then_ (Op.SameReference i j n)) refl refl refl refl refl refl refl i _ refl refl (λ k. refl) (λ k. refl) (λ q u h g. no_some u g)
+    steps (Op.ChkWidth w i spot) a go = same_at (Op.ChkWidth w i spot) a (next m) (of_assert (holds w (int m i)) _ spot go) refl refl refl refl refl refl refl refl (λ k. refl) (λ k. refl)
+    steps (Op.Skip n) a go = jumps_to (Op.Skip n) a (m.pc + 1 + n) refl (self (m.pc + 1 + n))
+    steps (Op.SkipIfZero i n) a go = by (is_zero (int m i)) refl
       where
         o : Op
-        o = op.SkipIfZero i n
+        o = Op.SkipIfZero i n
 
         by : (b : Bool) → is_zero (int m i) ≡ b → Stepped x earlier o
         by true e = jumps_to o a (m.pc + 1 + n) (ap (λ b. after m (goes (cond b (over_lines n m) (next m))) x) e) (self (m.pc + 1 + n))
         by false e = blank_on o a refl (next m) (ap (λ b. after m (goes (cond b (over_lines n m) (next m))) x) e) refl refl
-    steps (op.SkipIfNull r n) a go = by (is_zero (ref m r)) refl
+    steps (Op.SkipIfNull r n) a go = by (is_zero (ref m r)) refl
       where
         o : Op
-        o = op.SkipIfNull r n
+        o = Op.SkipIfNull r n
 
         by : (b : Bool) → is_zero (ref m r) ≡ b → Stepped x earlier o
         by true e = jumps_to o a (m.pc + 1 + n) (ap (λ b. after m (goes (cond b (over_lines n m) (next m))) x) e) (self (m.pc + 1 + n))
         by false e = blank_on o a refl (next m) (ap (λ b. after m (goes (cond b (over_lines n m) (next m))) x) e) refl refl
-    steps (op.Jump to) a go = jumps_to (op.Jump to) a to refl (self to)
-    steps (op.Call f i r spot) a go = by (nat_lt (length m.frames) 255) refl go
+    steps (Op.Jump to) a go = jumps_to (Op.Jump to) a to refl (self to)
+    steps (Op.Call f i r spot) a go = by (nat_lt (length m.frames) 255) refl go
       where
         o : Op
-        o = op.Call f i r spot
+        o = Op.Call f i r spot
 
-        by : (b : Bool) → nat_lt (length m.frames) 255 ≡ b → may_go (cond b (goes (called flat f i r m)) (stops traps.CallDepth spot)) ≡ true → Stepped x earlier o
-        by true e g = goes_away o a (called flat f i r m) (ap (λ b. after m (cond b (goes (called flat f i r m)) (stops traps.CallDepth spot)) x) e) (inl (entry_blank f)) (after_end m.pc o a refl, fr)
+        by : (b : Bool) → nat_lt (length m.frames) 255 ≡ b → may_go (cond b (goes (called flat f i r m)) (stops Trap.CallDepth spot)) ≡ true → Stepped x earlier o
+        by true e g = goes_away o a (called flat f i r m) (ap (λ b. after m (cond b (goes (called flat f i r m)) (stops Trap.CallDepth spot)) x) e) (inl (entry_blank f)) (after_end m.pc o a refl, fr)
         by false e g = false_true g
-    steps (op.Return spot) a go = by m.frames refl fr go
+    steps (Op.Return spot) a go = by m.frames refl fr go
       where
         o : Op
-        o = op.Return spot
+        o = Op.Return spot
 
         by : (cs : List Caller) → m.frames ≡ cs → Blank cs → may_go (returned flat cs spot m) ≡ true → Stepped x earlier o
         by [] e f g = end (nat_lt 0 (length (held_mutexes m.events))) refl g
           where
-            end : (b : Bool) → nat_lt 0 (length (held_mutexes m.events)) ≡ b → may_go (cond (not b) (goes (record m { pc = length flat.lines })) (stops traps.ReturnWithLockHeld spot)) ≡ true → Stepped x earlier o
+            end : (b : Bool) → nat_lt 0 (length (held_mutexes m.events)) ≡ b → may_go (cond (not b) (goes (record m { pc = length flat.lines })) (stops Trap.ReturnWithLockHeld spot)) ≡ true → Stepped x earlier o
             end true eb g = false_true g
             end false eb g = goes_away o a (record m { pc = length flat.lines })
-                (ap (λ cs. after m (returned flat cs spot m) x) e ∙ ap (λ b. after m (cond (not b) (goes (record m { pc = length flat.lines })) (stops traps.ReturnWithLockHeld spot)) x) eb) (inr (omega arith)) fr
+                (ap (λ cs. after m (returned flat cs spot m) x) e ∙ ap (λ b. after m (cond (not b) (goes (record m { pc = length flat.lines })) (stops Trap.ReturnWithLockHeld spot)) x) eb) (inr (omega arith)) fr
         by (c ∷ rest) e f g = goes_away o a (record m { pc = c.pc; int_base = c.ints; ref_base = c.refs; frames = rest }) (ap (λ cs. after m (returned flat cs spot m) x) e) (inl f.0) f.1
-    steps (op.Null r) a go = ref_at (op.Null r) a (next (set_ref r (pos 0) m)) refl refl refl refl refl refl refl r (pos 0) refl refl (λ k. refl) (λ k. refl) (λ y c. no_some y c)
-    steps (op.Local r y) a go = ref_at (op.Local r y) a (next (set_ref r (ref m y) m)) refl refl refl refl refl refl refl r (ref m y) refl refl (λ k. refl) (λ k. refl)
-        (λ z c. (let h = copy_is (op.Local r y) r z (self r) c in let e : y ≡ z = same_variable h.0 in (λ q. h.1 (sym q), ap (λ y. ref m y) e)))
+    steps (Op.Null r) a go = ref_at (Op.Null r) a (next (set_ref r (pos 0) m)) refl refl refl refl refl refl refl r (pos 0) refl refl (λ k. refl) (λ k. refl) (λ y c. no_some y c)
+    steps (Op.Local r y) a go = ref_at (Op.Local r y) a (next (set_ref r (ref m y) m)) refl refl refl refl refl refl refl r (ref m y) refl refl (λ k. refl) (λ k. refl)
+        (λ z c. (let h = copy_is (Op.Local r y) r z (self r) c in let e : y ≡ z = same_variable h.0 in (λ q. h.1 (sym q), ap (λ y. ref m y) e)))
       where
-        same_variable : {z : ℕ} → op.Local r y ≡ op.Local r z → y ≡ z
+        same_variable : {z : ℕ} → Op.Local r y ≡ Op.Local r z → y ≡ z
         same_variable e = cc
-    steps (op.MoveReference r j) a go = goes_straight (op.MoveReference r j) a refl
-        (two_step m (op.MoveReference r j) (at (x ∷ earlier)) (then_ (op.MoveReference r j)) (here (op.MoveReference r j) a) refl refl refl refl r j (pos 0) (ref m j) refl refl (λ k. refl) (λ k. refl) refl) (λ b eb. no_some b eb)
-    steps (op.Pop r) a go = ref_at (op.Pop r) a (then_ (op.Pop r)) refl refl refl refl refl refl refl r (pos 0) refl refl (λ k. refl) (λ k. refl) (λ y c. no_some y c)
-    steps (op.Settle y j) a go = goes_straight (op.Settle y j) a refl
-        (two_step m (op.Settle y j) (at (x ∷ earlier)) (then_ (op.Settle y j)) (here (op.Settle y j) a) refl refl refl refl y j (pos 0) (ref m j) refl refl (λ k. refl) (λ k. refl) refl) (λ b eb. no_some b eb)
-    steps (op.ChkNull r spot) a go = same_at (op.ChkNull r spot) a (next m) (of_assert (not (is_zero (ref m r))) _ spot go) refl refl refl refl refl refl refl refl (λ k. refl) (λ k. refl)
-    steps (op.ChkPositive i spot) a go = same_at (op.ChkPositive i spot) a (next m) (of_assert (is_positive (int m i)) _ spot go) refl refl refl refl refl refl refl refl (λ k. refl) (λ k. refl)
-    steps (op.ChkHeld cell spot) a go = same_at (op.ChkHeld cell spot) a (next m) (of_assert (holds_mutex m.events (cell_at flat.globals m cell)) _ spot go) refl refl refl refl refl refl refl refl (λ k. refl) (λ k. refl)
-    steps (op.ChkNotHeld cell spot) a go = same_at (op.ChkNotHeld cell spot) a (next m) (of_assert (not (holds_mutex m.events (cell_at flat.globals m cell))) _ spot go) refl refl refl refl refl refl refl refl (λ k. refl) (λ k. refl)
-    steps (op.ChkRoom spot) a go = same_at (op.ChkRoom spot) a (next m) (of_assert (nat_lt (length (held_mutexes m.events)) 16) _ spot go) refl refl refl refl refl refl refl refl (λ k. refl) (λ k. refl)
-    steps (op.Bounds i r cells field spot) a go =
+    steps (Op.MoveReference r j) a go = goes_straight (Op.MoveReference r j) a refl
+        (two_step m (Op.MoveReference r j) (at (x ∷ earlier)) (then_ (Op.MoveReference r j)) (here (Op.MoveReference r j) a) refl refl refl refl r j (pos 0) (ref m j) refl refl (λ k. refl) (λ k. refl) refl) (λ b eb. no_some b eb)
+    steps (Op.Pop r) a go = ref_at (Op.Pop r) a (then_ (Op.Pop r)) refl refl refl refl refl refl refl r (pos 0) refl refl (λ k. refl) (λ k. refl) (λ y c. no_some y c)
+    steps (Op.Settle y j) a go = goes_straight (Op.Settle y j) a refl
+        (two_step m (Op.Settle y j) (at (x ∷ earlier)) (then_ (Op.Settle y j)) (here (Op.Settle y j) a) refl refl refl refl y j (pos 0) (ref m j) refl refl (λ k. refl) (λ k. refl) refl) (λ b eb. no_some b eb)
+    steps (Op.ChkNull r spot) a go = same_at (Op.ChkNull r spot) a (next m) (of_assert (not (is_zero (ref m r))) _ spot go) refl refl refl refl refl refl refl refl (λ k. refl) (λ k. refl)
+    steps (Op.ChkPositive i spot) a go = same_at (Op.ChkPositive i spot) a (next m) (of_assert (is_positive (int m i)) _ spot go) refl refl refl refl refl refl refl refl (λ k. refl) (λ k. refl)
+    steps (Op.ChkHeld cell spot) a go = same_at (Op.ChkHeld cell spot) a (next m) (of_assert (holds_mutex m.events (cell_at flat.globals m cell)) _ spot go) refl refl refl refl refl refl refl refl (λ k. refl) (λ k. refl)
+    steps (Op.ChkNotHeld cell spot) a go = same_at (Op.ChkNotHeld cell spot) a (next m) (of_assert (not (holds_mutex m.events (cell_at flat.globals m cell))) _ spot go) refl refl refl refl refl refl refl refl (λ k. refl) (λ k. refl)
+    steps (Op.ChkRoom spot) a go = same_at (Op.ChkRoom spot) a (next m) (of_assert (nat_lt (length (held_mutexes m.events)) 16) _ spot go) refl refl refl refl refl refl refl refl (λ k. refl) (λ k. refl)
+    steps (Op.Bounds i r cells field spot) a go =
         let z = of_index i cells field (elements_of (ref m r)) spot (int m i) go in
-        int_at (op.Bounds i r cells field spot) a (next (set_int i (pos (z.0 * cells + field)) m)) z.2 refl refl refl refl refl refl i (pos (z.0 * cells + field)) refl refl (λ k. refl) (λ k. refl) (index_is i cells field z.0 z.1)
-    steps (op.GlobalBounds i elements cells field spot) a go =
+        int_at (Op.Bounds i r cells field spot) a (next (set_int i (pos (z.0 * cells + field)) m)) z.2 refl refl refl refl refl refl i (pos (z.0 * cells + field)) refl refl (λ k. refl) (λ k. refl) (index_is i cells field z.0 z.1)
+    steps (Op.GlobalBounds i elements cells field spot) a go =
         let z = of_index i cells field elements spot (int m i) go in
-        int_at (op.GlobalBounds i elements cells field spot) a (next (set_int i (pos (z.0 * cells + field)) m)) z.2 refl refl refl refl refl refl i (pos (z.0 * cells + field)) refl refl (λ k. refl) (λ k. refl) (index_is i cells field z.0 z.1)
-    steps (op.Load i cell spot) a go =
-        let o = op.Load i cell spot in
-        let r = of_access cell spot acts.Read (λ c v. set_int i v) go in
+        int_at (Op.GlobalBounds i elements cells field spot) a (next (set_int i (pos (z.0 * cells + field)) m)) z.2 refl refl refl refl refl refl i (pos (z.0 * cells + field)) refl refl (λ k. refl) (λ k. refl) (index_is i cells field z.0 z.1)
+    steps (Op.Load i cell spot) a go =
+        let o = Op.Load i cell spot in
+        let r = of_access cell spot Act.Read (λ c v. set_int i v) go in
         goes_straight o a refl (int_step m o (at (x ∷ earlier)) (accessed (next (set_int i r.0 (with_event r.1 m)))) (here o a ∙ r.2) refl refl refl refl i r.0 refl refl (λ k. refl) (λ k. refl) (λ q u h g. no_some u g))
-        (makes_own o record { kind = Read; cell = cell; spot = spot } refl (makes_access cell spot acts.Read (λ c v. set_int i v) Read refl))
-    steps (op.Store i cell spot) a go =
-        let o = op.Store i cell spot in
-        let r = of_access cell spot (λ c mode. acts.Write c mode (int m i)) (λ c v n. n) go in
+        (makes_own o record { kind = Read; cell = cell; spot = spot } refl (makes_access cell spot Act.Read (λ c v. set_int i v) Read refl))
+    steps (Op.Store i cell spot) a go =
+        let o = Op.Store i cell spot in
+        let r = of_access cell spot (λ c mode. Act.Write c mode (int m i)) (λ c v n. n) go in
         goes_straight o a refl (same_step m o (at (x ∷ earlier)) (accessed (next (with_event r.1 m))) (here o a ∙ r.2) refl refl refl refl refl refl (λ k. refl) (λ k. refl))
-        (makes_own o record { kind = Write; cell = cell; spot = spot } refl (makes_access cell spot (λ c mode. acts.Write c mode (int m i)) (λ c v n. n) Write (inl (_, refl))))
-    steps (op.LoadRef r cell spot) a go =
-        let o = op.LoadRef r cell spot in
-        let z = of_access cell spot acts.Read (λ c v. set_ref r v) go in
+        (makes_own o record { kind = Write; cell = cell; spot = spot } refl (makes_access cell spot (λ c mode. Act.Write c mode (int m i)) (λ c v n. n) Write (inl (_, refl))))
+    steps (Op.LoadRef r cell spot) a go =
+        let o = Op.LoadRef r cell spot in
+        let z = of_access cell spot Act.Read (λ c v. set_ref r v) go in
         goes_straight o a refl (ref_step m o (at (x ∷ earlier)) (accessed (next (set_ref r z.0 (with_event z.1 m)))) (here o a ∙ z.2) refl refl refl refl r z.0 refl refl (λ k. refl) (λ k. refl) (λ y c. no_some y c))
-        (makes_own o record { kind = Read; cell = cell; spot = spot } refl (makes_access cell spot acts.Read (λ c v. set_ref r v) Read refl))
-    steps (op.StoreRef r cell spot) a go =
-        let o = op.StoreRef r cell spot in
+        (makes_own o record { kind = Read; cell = cell; spot = spot } refl (makes_access cell spot Act.Read (λ c v. set_ref r v) Read refl))
+    steps (Op.StoreRef r cell spot) a go =
+        let o = Op.StoreRef r cell spot in
         let then2 : CellAt → ℤ → At → At = λ c v n. gives_up (Replaced c) (set_ref r (pos 0) n) in
-        let z = of_access cell spot (λ c mode. acts.Write c mode (ref m r)) then2 go in
+        let z = of_access cell spot (λ c mode. Act.Write c mode (ref m r)) then2 go in
         goes_straight o a refl (ref_step m o (at (x ∷ earlier)) (accessed (next (then2 (cell_at flat.globals m cell) z.0 (with_event z.1 m)))) (here o a ∙ z.2) refl refl refl refl r (pos 0) refl refl (λ k. refl) (λ k. refl) (λ y c. no_some y c))
-        (makes_own o record { kind = Write; cell = cell; spot = spot } refl (makes_access cell spot (λ c mode. acts.Write c mode (ref m r)) then2 Write (inl (_, refl))))
-    steps (op.LoadGuard cell spot) a go = same_at (op.LoadGuard cell spot) a (then_ (op.LoadGuard cell spot)) refl refl refl refl refl refl refl refl refl (λ k. refl) (λ k. refl)
-    steps (op.New r count cells spot) a go = ref_at (op.New r count cells spot) a (then_ (op.New r count cells spot)) refl refl refl refl refl refl refl r _ refl refl (λ k. refl) (λ k. refl) (λ y c. no_some y c)
-    steps (op.TakeCell r cell spot) a go =
-        let z = of_access cell spot (λ c mode. acts.Take (taken.Cell c mode) (take_kind_of spot.at)) (λ c v. set_ref r v) go in
-        blank_on (op.TakeCell r cell spot) a refl (accessed (next (set_ref r z.0 (with_event z.1 m)))) z.2 refl refl
-    steps (op.TakeLocal r y spot) a go = by (is_zero (ref m y)) refl
+        (makes_own o record { kind = Write; cell = cell; spot = spot } refl (makes_access cell spot (λ c mode. Act.Write c mode (ref m r)) then2 Write (inl (_, refl))))
+    steps (Op.LoadGuard cell spot) a go = same_at (Op.LoadGuard cell spot) a (then_ (Op.LoadGuard cell spot)) refl refl refl refl refl refl refl refl refl (λ k. refl) (λ k. refl)
+    steps (Op.New r count cells spot) a go = ref_at (Op.New r count cells spot) a (then_ (Op.New r count cells spot)) refl refl refl refl refl refl refl r _ refl refl (λ k. refl) (λ k. refl) (λ y c. no_some y c)
+    steps (Op.TakeCell r cell spot) a go =
+        let z = of_access cell spot (λ c mode. Act.Take (Taken.Cell c mode) (take_kind_of spot.at)) (λ c v. set_ref r v) go in
+        blank_on (Op.TakeCell r cell spot) a refl (accessed (next (set_ref r z.0 (with_event z.1 m)))) z.2 refl refl
+    steps (Op.TakeLocal r y spot) a go = by (is_zero (ref m y)) refl
       where
         o : Op
-        o = op.TakeLocal r y spot
+        o = Op.TakeLocal r y spot
 
         by : (b : Bool) → is_zero (ref m y) ≡ b → Stepped x earlier o
         by true e = blank_on o a refl (after m (takes_local r y spot m true) x) (ap (λ b. after m (takes_local r y spot m b) x) e) refl refl
         by false e = blank_on o a refl (after m (takes_local r y spot m false) x) (ap (λ b. after m (takes_local r y spot m b) x) e) refl refl
-    steps (op.Give r cells spot) a go = blank_on (op.Give r cells spot) a refl (then_ (op.Give r cells spot)) refl refl refl
-    steps (op.Lock cell spot) a go = by cell a
+    steps (Op.Give r cells spot) a go = blank_on (Op.Give r cells spot) a refl (then_ (Op.Give r cells spot)) refl refl refl
+    steps (Op.Lock cell spot) a go = by cell a
       where
-        by : (c : Cell) → slice_get flat.lines m.pc ≡ Some (op.Lock c spot) → Stepped x earlier (op.Lock c spot)
-        by (cells.Global g n) a = blank_on (op.Lock (cells.Global g n) spot) a refl (then_ (op.Lock (cells.Global g n) spot)) refl refl refl
-        by k a = blank_on (op.Lock k spot) a refl (then_ (op.Lock k spot)) refl refl refl
-    steps (op.CondSignal cell spot) a go = same_at (op.CondSignal cell spot) a (then_ (op.CondSignal cell spot)) refl refl refl refl refl refl refl refl refl (λ k. refl) (λ k. refl)
-    steps (op.CondBroadcast cell spot) a go = same_at (op.CondBroadcast cell spot) a (then_ (op.CondBroadcast cell spot)) refl refl refl refl refl refl refl refl refl (λ k. refl) (λ k. refl)
-    steps (op.Spawn i f (registers.Int j) spot) a go = blank_on (op.Spawn i f (registers.Int j) spot) a refl (then_ (op.Spawn i f (registers.Int j) spot)) refl refl refl
-    steps (op.Print i spot) a go = same_at (op.Print i spot) a (then_ (op.Print i spot)) refl refl refl refl refl refl refl refl refl (λ k. refl) (λ k. refl)
+        by : (c : Cell) → slice_get flat.lines m.pc ≡ Some (Op.Lock c spot) → Stepped x earlier (Op.Lock c spot)
+        by (Cell.Global g n) a = blank_on (Op.Lock (Cell.Global g n) spot) a refl (then_ (Op.Lock (Cell.Global g n) spot)) refl refl refl
+        by k a = blank_on (Op.Lock k spot) a refl (then_ (Op.Lock k spot)) refl refl refl
+    steps (Op.CondSignal cell spot) a go = same_at (Op.CondSignal cell spot) a (then_ (Op.CondSignal cell spot)) refl refl refl refl refl refl refl refl refl (λ k. refl) (λ k. refl)
+    steps (Op.CondBroadcast cell spot) a go = same_at (Op.CondBroadcast cell spot) a (then_ (Op.CondBroadcast cell spot)) refl refl refl refl refl refl refl refl refl (λ k. refl) (λ k. refl)
+    steps (Op.Spawn i f (Register.Int j) spot) a go = blank_on (Op.Spawn i f (Register.Int j) spot) a refl (then_ (Op.Spawn i f (Register.Int j) spot)) refl refl refl
+    steps (Op.Print i spot) a go = same_at (Op.Print i spot) a (then_ (Op.Print i spot)) refl refl refl refl refl refl refl refl refl (λ k. refl) (λ k. refl)
     steps k a go = blank_on k a refl (then_ k) refl refl refl
 
   -- ---- every place of a path
@@ -575,7 +558,7 @@ module _ (flat : Flat) (from : At) where
     one_more go = ⊎_elim
         (λ (ks : Holds (known flat now.pc) earlier). ⊎_elim
         (λ (lt : now.pc < length flat.lines).
-        let at_o = slice_get-get_or flat.lines now.pc op.Enter lt in
+        let at_o = slice_get-get_or flat.lines now.pc Op.Enter lt in
         stepped _ at_o (steps x earlier ks h.frames _ at_o (subst (λ l. may_go (line_turn flat l now) ≡ true) at_o go)))
         (λ (le : length flat.lines ≤ now.pc). behind_end le go)
         (cases_lt now.pc (length flat.lines)))
@@ -598,12 +581,12 @@ module _ (flat : Flat) (from : At) where
           (register_in (at answers) place, subst (λ c. Since flat from answers kind c (register_in (at answers) place)) (sym (place_true answers (known flat (at answers).pc) ks cell place e)) (ks.passed kind place h))
 
       each : (ks : Holds (known flat (at answers).pc) answers) (o : Op) → drops (known flat (at answers).pc) o ≡ true → IsCovered flat from answers (Some o)
-      each ks (op.Load i cell spot) d = by_place ks Read cell (place_of (known flat (at answers).pc) cell) refl (and_right (tells spot) (has_passed (known flat (at answers).pc) Read (place_of (known flat (at answers).pc) cell)) d)
-      each ks (op.Store i cell spot) d = by_place ks Write cell (place_of (known flat (at answers).pc) cell) refl (and_right (tells spot) (has_passed (known flat (at answers).pc) Write (place_of (known flat (at answers).pc) cell)) d)
+      each ks (Op.Load i cell spot) d = by_place ks Read cell (place_of (known flat (at answers).pc) cell) refl (and_right (tells spot) (has_passed (known flat (at answers).pc) Read (place_of (known flat (at answers).pc) cell)) d)
+      each ks (Op.Store i cell spot) d = by_place ks Write cell (place_of (known flat (at answers).pc) cell) refl (and_right (tells spot) (has_passed (known flat (at answers).pc) Write (place_of (known flat (at answers).pc) cell)) d)
       each ks _ d = false_true d
 
 begun_pc : (q : Parameter) (v : ℤ) (m : At) → ((begun q v m).pc ≡ m.pc) × ((begun q v m).frames ≡ m.frames)
-begun_pc parameters.Int v m = (refl, refl)
+begun_pc Parameter.Int v m = (refl, refl)
 begun_pc _ v m = (refl, refl)
 
 pub covered : DroppedIsCovered

@@ -1,19 +1,9 @@
 -- One operation of flat code and its own guarded statement.
-use Rattle.std.proofs.{Common.{◌≡◌, ℕ, ℤ, zero, suc, pos, negsuc, ◌+◌, ◌*◌, ◌<◌, ◌⊎◌, inl, inr, Bool, true, false, not, List, [], ◌∷◌, ◌++◌, length, map, refl, sym, ap, ◌∙◌, subst, arith, Some, None, Option, Result, Ok, Err, nat_lt, slice_get, slice_index_or}, lemmas.Bool.Decides.nat_tests, lemmas.Bool.ne_eqb, lemmas.List.{length-append, length-map, append-nil}}
-use Rattle.std.specs.Prelude.{nat_eq, if◌then◌else◌}
-use Rattle.sharc_tree.specs.{declared.event.Act.Act, declared.event.CellAt.CellAt, declared.event.CellMode.CellMode, declared.event.SourceEvent.SourceEvent, declared.trap.Trap.Trap}
-use Rattle.sharc_tree.specs.declared.event.Act.TheVariants as acts
-use Rattle.sharc_tree.specs.declared.event.Taken.TheVariants as takens
-use Rattle.sharc_tree.specs.declared.trap.Trap.TheVariants as traps
-use Rattle.sharc_code.specs.{declared.code.Function.Function, declared.code.SourcePlace.SourcePlace, declared.instr.Width.Width, declared.instr.Width.TheVariants.{Char, Int}, declared.instr.Cell.Cell, declared.instr.Cell.TheVariants.{Object as InObject, ObjectAt}, declared.instr.Register.Register, declared.instr.Instr.Instr, declared.instr.Instr.TheVariants.{RaiseLoaded, Lower, MoveReference, LoadRef, TakeCell, Lock, Spawn, Exit}, declared.instr.Operator.Operator, Arithmetic.{computed, negated}, Machine.{no_function, is_positive, elements_of as elements_made}, Says.{variable_of, kind_of, made_cell}, declared.code.PlaceMode.TheVariants.Readonly, Runs.put}
-use Rattle.sharc_code.specs.declared.instr.Register.TheVariants as registers
-use Rattle.sharc_meaning.specs.{Statements.{is_positive as positive}, declared.given.GivenUp.GivenUp, declared.given.GivenUp.TheVariants.{Released, Replaced, Emptied}, Events.{held_mutexes, locked_by, unlocked_by}, Reference.{NULL, is_null, number_of}, State.{stopped, ended, event_of, answer_of}}
-use Rattle.sharc_flat.specs.{declared.op.Op.Op, declared.op.Spot.Spot, Machine.{goes, asks, halts, op_turn}, Path.after, Framed.{IsFlat, Leads, IsWide}}
-use Rattle.sharc_flat.specs.declared.op.Op.TheVariants as op
+use Rattle.sharc_guard.proofs.{Imports.{◌≡◌, ℕ, ℤ, zero, suc, pos, negsuc, ◌+◌, ◌*◌, ◌<◌, ◌⊎◌, inl, inr, Bool, true, false, not, List, [], ◌∷◌, ◌++◌, length, map, refl, sym, ap, ◌∙◌, subst, arith, Some, None, Option, Result, Ok, Err, nat_lt, slice_get, get_or as slice_index_or, nat_tests, ne_eqb, length-append, length-map, append-nil, nat_eq, if◌then◌else◌, Act, CellAt, CellMode, SourceEvent, Trap, Taken, Function, SourcePlace, Width, Char, Int, Cell, Object as InObject, ObjectAt, Register, Instr, RaiseLoaded, Lower, MoveReference, LoadRef, TakeCell, Lock, Spawn, Exit, Operator, computed, negated, no_function, elements_made, kind_of, made_cell, Readonly, is_positive as positive, GivenUp, Released, Replaced, Emptied, held_mutexes, locked_by, unlocked_by, NULL, is_null, number_of, stopped, ended, event_of, answer_of, Op, Spot, goes, asks, halts, op_turn, after, IsFlat, Leads, IsWide, Program, Thread, Phase, Running, Leaving, Left, Goes, Asks, Checks, Halts, Stopped, step, source_at, statement_at, weight, source_of, source_at_spot, compute, negate, body, tail, entered_at, Resolved, bottom, image}, Holding.{quiet_held, lock_held, unlock_held, funext}, Placing.{HasAt, pl, p}, Beside.{variable_same, kind_same}}
+use Rattle.sharc_code.specs.{Machine.is_positive, Says.variable_of, Runs.put}
 use Rattle.sharc_flat.specs.Machine as Flat
 use Rattle.sharc_guard.specs.Machine as Form
-use Rattle.sharc_guard.specs.{Machine.{Program, Thread, Phase, Running, Leaving, Left, Turn, Goes, Asks, Checks, Halts, Stopped, step, source_at, statement_at}, Path.weight, Guard.{source_of, source_at_spot, compute, negate, body, tail, entered_at}, Correct.{Resolved, moved, bottom, image}}
-use Rattle.sharc_guard.proofs.{Holding.{quiet_held, lock_held, unlock_held, funext}, Placing.{HasAt, pl, p}, Beside.{variable_same, kind_same}}
+use Rattle.sharc_guard.specs.{Machine.Turn, Correct.moved}
 
 resolved_push : (gs : List GivenUp) (ks : List ℕ) (n : ℕ) → Resolved gs ks → Resolved (gs ++ Released n ∷ []) (ks ++ n ∷ [])
 resolved_push [] [] n h = (refl, tt)
@@ -24,11 +14,11 @@ resolved_push _ _ n h = absurd h
 
 -- an access finds its lock's path not leading through NULL
 abbrev pub Unlocked : Flat.At → Op → Type 0
-Unlocked m (op.Load i cell spot) = Flat.lock_is_null m spot spot.mode ≡ false
-Unlocked m (op.Store i cell spot) = Flat.lock_is_null m spot spot.mode ≡ false
-Unlocked m (op.LoadRef r cell spot) = Flat.lock_is_null m spot spot.mode ≡ false
-Unlocked m (op.StoreRef r cell spot) = Flat.lock_is_null m spot spot.mode ≡ false
-Unlocked m (op.TakeCell r cell spot) = Flat.lock_is_null m spot spot.mode ≡ false
+Unlocked m (Op.Load i cell spot) = Flat.lock_is_null m spot spot.mode ≡ false
+Unlocked m (Op.Store i cell spot) = Flat.lock_is_null m spot spot.mode ≡ false
+Unlocked m (Op.LoadRef r cell spot) = Flat.lock_is_null m spot spot.mode ≡ false
+Unlocked m (Op.StoreRef r cell spot) = Flat.lock_is_null m spot spot.mode ≡ false
+Unlocked m (Op.TakeCell r cell spot) = Flat.lock_is_null m spot spot.mode ≡ false
 Unlocked m _ = Unit {0}
 
 module _ (dropped : ℕ → Bool) (flat : Flat.Flat) where
@@ -105,7 +95,7 @@ module _ (dropped : ℕ → Bool) (flat : Flat.Flat) where
           ((x : ℤ) → (y : ℤ) × Near (Flat.accessed (Flat.next (then_ (Flat.cell_at flat.globals m cell) (answer_of (λ token. pos 0) act y) (Flat.with_event (event_of spot.site act (answer_of (λ token. pos 0) act y)) m)))) (go x (Form.told me spot.site act (answering x))))
           → Follow (Flat.accesses flat.globals cell spot of then_ m) (Form.access_at g me n cell of answering go)
       accessed cell of then_ answering go free k =
-          subst (λ b. Follow (if b then Flat.stops traps.NullPointer spot else asks m spot.site (of (Flat.cell_at flat.globals m cell) (Flat.cell_mode_of flat.globals m (Flat.cell_at flat.globals m cell) spot.mode)) (pos 0) (λ v n. Flat.accessed (Flat.next (then_ (Flat.cell_at flat.globals m cell) v n)))) (Form.access_at g me n cell of answering go)) (sym free)
+          subst (λ b. Follow (if b then Flat.stops Trap.NullPointer spot else asks m spot.site (of (Flat.cell_at flat.globals m cell) (Flat.cell_mode_of flat.globals m (Flat.cell_at flat.globals m cell) spot.mode)) (pos 0) (λ v n. Flat.accessed (Flat.next (then_ (Flat.cell_at flat.globals m cell) v n)))) (Form.access_at g me n cell of answering go)) (sym free)
           (subst (λ sp. Follow (asks m spot.site (of (Flat.cell_at flat.globals m cell) (Flat.cell_mode_of flat.globals m (Flat.cell_at flat.globals m cell) spot.mode)) (pos 0) (λ v n. Flat.accessed (Flat.next (then_ (Flat.cell_at flat.globals m cell) v n))))
           (Form.asks me sp.site (of (Form.cell_at g me cell) (Form.mode_of g me (Form.cell_at g me cell) sp.mode)) answering go)) (sym s) (refl, act_is, λ x. (k x)))
         where
@@ -141,10 +131,10 @@ module _ (dropped : ℕ → Bool) (flat : Flat.Flat) where
       indexes : (i cells field n : ℕ) (z : ℤ) (elements : ℕ) (spot : Spot) → spot.site ≡ (source_at g n).site → Follow (Flat.indexed i cells field z elements spot m) (Form.indexed me i z cells field n elements)
       indexes i cells field n (pos k) elements spot s = each (nat_lt k elements)
         where
-          each : (b : Bool) → Follow (if b then Flat.goes_on (Flat.set_int i (pos (k * cells + field)) m) else Flat.stops traps.IndexOutOfBounds spot) (if b then Form.goes (Form.set_int me i (pos (k * cells + field))) else Halts (Stopped traps.IndexOutOfBounds n))
+          each : (b : Bool) → Follow (if b then Flat.goes_on (Flat.set_int i (pos (k * cells + field)) m) else Flat.stops Trap.IndexOutOfBounds spot) (if b then Form.goes (Form.set_int me i (pos (k * cells + field))) else Halts (Stopped Trap.IndexOutOfBounds n))
           each true = plain (Flat.next (Flat.set_int i (pos (k * cells + field)) m)) refl refl refl calls
-          each false = ap (stopped traps.IndexOutOfBounds) s
-      indexes i cells field n (negsuc k) elements spot s = ap (stopped traps.IndexOutOfBounds) s
+          each false = ap (stopped Trap.IndexOutOfBounds) s
+      indexes i cells field n (negsuc k) elements spot s = ap (stopped Trap.IndexOutOfBounds) s
 
     -- ---- what the operations of one statement and of two do
     abbrev pub Bodied : Op → Option Instr → Type 0
@@ -177,9 +167,9 @@ module _ (dropped : ℕ → Bool) (flat : Flat.Flat) where
         one_less n = grind (arith, nat_tests)
 
     called : (ok : IsFlat flat) (f ints refs : ℕ) (spot : Spot) → f < length flat.functions → q + 1 ≡ at (m.pc + 1) → m.pc + 1 < length flat.lines → spot.site ≡ (source_at g m.pc).site
-        → Follow (if nat_lt (length m.frames) 255 then goes (Flat.called flat f ints refs m) else Flat.stops traps.CallDepth spot) (Form.called g me f ints refs m.pc)
+        → Follow (if nat_lt (length m.frames) 255 then goes (Flat.called flat f ints refs m) else Flat.stops Trap.CallDepth spot) (Form.called g me f ints refs m.pc)
     called ok f ints refs spot lf e lt s =
-        subst (λ b. Follow (if nat_lt (length m.frames) 255 then goes (Flat.called flat f ints refs m) else Flat.stops traps.CallDepth spot) (if b then Goes inner else Halts (Stopped traps.CallDepth m.pc))) (sym depth_is) (each (nat_lt (length m.frames) 255))
+        subst (λ b. Follow (if nat_lt (length m.frames) 255 then goes (Flat.called flat f ints refs m) else Flat.stops Trap.CallDepth spot) (if b then Goes inner else Halts (Stopped Trap.CallDepth m.pc))) (sym depth_is) (each (nat_lt (length m.frames) 255))
       where
         inner : Thread
         inner = record me {
@@ -197,7 +187,7 @@ module _ (dropped : ℕ → Bool) (flat : Flat.Flat) where
           frames = record { pc = y; ints = m.int_base; refs = m.ref_base } ∷ me.frames;
         }
 
-        each : (b : Bool) → Follow (if b then goes (Flat.called flat f ints refs m) else Flat.stops traps.CallDepth spot) (if b then Goes inner else Halts (Stopped traps.CallDepth m.pc))
+        each : (b : Bool) → Follow (if b then goes (Flat.called flat f ints refs m) else Flat.stops Trap.CallDepth spot) (if b then Goes inner else Halts (Stopped Trap.CallDepth m.pc))
         each true = inl (record {
           lowered = L;
           is = ap (λ x. placed x (q + 1)) (entry_is f lf) ∙ ap (placed (at (Flat.function_of flat f).entry)) e;
@@ -205,13 +195,13 @@ module _ (dropped : ℕ → Bool) (flat : Flat.Flat) where
           inside = ok.entries f lf;
           callers = (lt, calls);
         })
-        each false = ap (stopped traps.CallDepth) s
+        each false = ap (stopped Trap.CallDepth) s
 
     returns : (spot : Spot) (fs : List Flat.Caller) → m.frames ≡ fs → Callers fs → spot.site ≡ (source_at g m.pc).site → Follow (Flat.returned flat fs spot m) (Form.returned g me m.pc (map (moved at) fs ++ bottom ∷ []))
     returns spot [] e cs s = each (nat_lt 0 (length (held_mutexes m.events)))
       where
-        each : (b : Bool) → Follow (if not b then goes (record m { pc = length flat.lines }) else Flat.stops traps.ReturnWithLockHeld spot) (if b then Halts (Stopped traps.ReturnWithLockHeld m.pc) else Goes (Form.back_to me bottom []))
-        each true = ap (stopped traps.ReturnWithLockHeld) s
+        each : (b : Bool) → Follow (if not b then goes (record m { pc = length flat.lines }) else Flat.stops Trap.ReturnWithLockHeld spot) (if b then Halts (Stopped Trap.ReturnWithLockHeld m.pc) else Goes (Form.back_to me bottom []))
+        each true = ap (stopped Trap.ReturnWithLockHeld) s
         each false = inr (inr (record { steps = 0; pc_is = omega arith; statement = refl; phase_is = refl; function_is = refl; events = refl; resolved = res }))
     returns spot (c ∷ []) e cs s = inl (record { lowered = L; is = refl; resolved = res; inside = cs.0; callers = tt })
     returns spot (c ∷ d ∷ ds) e cs s = inl (record { lowered = L; is = refl; resolved = res; inside = cs.0; callers = cs.1 })
@@ -345,55 +335,55 @@ module _ (dropped : ℕ → Bool) (flat : Flat.Flat) where
           ))
 
       abbrev taking : ℕ → ℕ → Turn
-      taking r x = Form.asks_at g me m.pc (acts.Take (takens.Local (variable_of (source_at g m.pc).at)) (kind_of (source_at g m.pc).at)) (λ y. Form.ref me x) (λ y b. Form.next (Form.move_ref b r x))
+      taking r x = Form.asks_at g me m.pc (Act.Take (Taken.Local (variable_of (source_at g m.pc).at)) (kind_of (source_at g m.pc).at)) (λ y. Form.ref me x) (λ y b. Form.next (Form.move_ref b r x))
 
       takes : (e : q + 1 ≡ at (m.pc + 1)) (lt : m.pc + 1 < length flat.lines) (r x : ℕ) (spot : Spot) (s : source_at g m.pc ≡ source_at_spot spot) (b : Bool) → is_null (Flat.ref m x) ≡ b
           → Follow (Flat.takes_local r x spot m b) (Form.taken_local g me r x m.pc)
       takes e lt r x spot s true k = subst (λ b. Follow (Flat.goes_on (Flat.moved r x m)) (if b then Form.goes (Form.move_ref me r x) else taking r x)) (sym k) (plain e lt (Flat.next (Flat.moved r x m)) refl refl refl calls)
       takes e lt r x spot s false k =
           subst (λ b. Follow (Flat.takes_local r x spot m false) (if b then Form.goes (Form.move_ref me r x) else taking r x)) (sym k)
-          (subst (λ sp. Follow (Flat.takes_local r x spot m false) (Form.asks me sp.site (acts.Take (takens.Local (variable_of sp.at)) (kind_of sp.at)) (λ y. Form.ref me x) (λ y b. Form.next (Form.move_ref b r x)))) (sym s) (
+          (subst (λ sp. Follow (Flat.takes_local r x spot m false) (Form.asks me sp.site (Act.Take (Taken.Local (variable_of sp.at)) (kind_of sp.at)) (λ y. Form.ref me x) (λ y b. Form.next (Form.move_ref b r x)))) (sym s) (
             refl,
-            ap (λ v. acts.Take (takens.Local v) (kind_of spot.at)) (variable_same spot.at) ∙ ap (acts.Take (takens.Local (Flat.variable_of spot.at))) (kind_same spot.at),
-            λ y. (pos 0, quiet e lt (Flat.next (Flat.moved r x (Flat.with_event (event_of spot.site (acts.Take (takens.Local (Flat.variable_of spot.at)) (Flat.take_kind_of spot.at)) (Flat.ref m x)) m))) (event_of spot.site (acts.Take (takens.Local (Flat.variable_of spot.at)) (Flat.take_kind_of spot.at)) (Flat.ref m x)) refl refl refl refl refl calls),
+            ap (λ v. Act.Take (Taken.Local v) (kind_of spot.at)) (variable_same spot.at) ∙ ap (Act.Take (Taken.Local (Flat.variable_of spot.at))) (kind_same spot.at),
+            λ y. (pos 0, quiet e lt (Flat.next (Flat.moved r x (Flat.with_event (event_of spot.site (Act.Take (Taken.Local (Flat.variable_of spot.at)) (Flat.take_kind_of spot.at)) (Flat.ref m x)) m))) (event_of spot.site (Act.Take (Taken.Local (Flat.variable_of spot.at)) (Flat.take_kind_of spot.at)) (Flat.ref m x)) refl refl refl refl refl calls),
           ))
 
-      locks : (e : q + 1 ≡ at (m.pc + 1)) (lt : m.pc + 1 < length flat.lines) (cell : Cell) (spot : Spot) (s : source_at g m.pc ≡ source_at_spot spot) → Follow (op_turn flat (op.Lock cell spot) m) (step g (Lock cell m.pc) me)
+      locks : (e : q + 1 ≡ at (m.pc + 1)) (lt : m.pc + 1 < length flat.lines) (cell : Cell) (spot : Spot) (s : source_at g m.pc ≡ source_at_spot spot) → Follow (op_turn flat (Op.Lock cell spot) m) (step g (Lock cell m.pc) me)
       locks e lt cell spot s =
           let c = Flat.cell_at flat.globals m cell in
-          let ev = event_of spot.site (acts.Lock c) (pos 0) in
-          told m.pc spot s m (acts.Lock c) (pos 0) (λ v n. Flat.next (Flat.without_base cell n)) Form.no_answer (λ x b. Form.next (record (Form.without_base b cell) { held = me.held ++ Form.cell_at g me cell ∷ [] }))
+          let ev = event_of spot.site (Act.Lock c) (pos 0) in
+          told m.pc spot s m (Act.Lock c) (pos 0) (λ v n. Flat.next (Flat.without_base cell n)) Form.no_answer (λ x b. Form.next (record (Form.without_base b cell) { held = me.held ++ Form.cell_at g me cell ∷ [] }))
           (λ x. (pos 0, by_cell cell c))
         where
-          by_cell : (cell : Cell) (c : CellAt) → Near (Flat.next (Flat.without_base cell (Flat.with_event (event_of spot.site (acts.Lock c) (pos 0)) m))) (Form.next (record (Form.without_base (Form.told me spot.site (acts.Lock c) (pos 0)) cell) { held = held_mutexes m.events ++ c ∷ [] }))
-          by_cell (InObject r n) c = near e lt (Flat.next (Flat.set_ref r (pos 0) (Flat.with_event (event_of spot.site (acts.Lock c) (pos 0)) m))) [] (held_mutexes m.events ++ c ∷ []) (sym (lock_held m.events (event_of spot.site (acts.Lock c) (pos 0)) c refl refl)) refl tt calls
-          by_cell (ObjectAt r n) c = near e lt (Flat.next (Flat.set_ref r (pos 0) (Flat.with_event (event_of spot.site (acts.Lock c) (pos 0)) m))) [] (held_mutexes m.events ++ c ∷ []) (sym (lock_held m.events (event_of spot.site (acts.Lock c) (pos 0)) c refl refl)) refl tt calls
-          by_cell _ c = near e lt (Flat.next (Flat.with_event (event_of spot.site (acts.Lock c) (pos 0)) m)) [] (held_mutexes m.events ++ c ∷ []) (sym (lock_held m.events (event_of spot.site (acts.Lock c) (pos 0)) c refl refl)) refl tt calls
+          by_cell : (cell : Cell) (c : CellAt) → Near (Flat.next (Flat.without_base cell (Flat.with_event (event_of spot.site (Act.Lock c) (pos 0)) m))) (Form.next (record (Form.without_base (Form.told me spot.site (Act.Lock c) (pos 0)) cell) { held = held_mutexes m.events ++ c ∷ [] }))
+          by_cell (InObject r n) c = near e lt (Flat.next (Flat.set_ref r (pos 0) (Flat.with_event (event_of spot.site (Act.Lock c) (pos 0)) m))) [] (held_mutexes m.events ++ c ∷ []) (sym (lock_held m.events (event_of spot.site (Act.Lock c) (pos 0)) c refl refl)) refl tt calls
+          by_cell (ObjectAt r n) c = near e lt (Flat.next (Flat.set_ref r (pos 0) (Flat.with_event (event_of spot.site (Act.Lock c) (pos 0)) m))) [] (held_mutexes m.events ++ c ∷ []) (sym (lock_held m.events (event_of spot.site (Act.Lock c) (pos 0)) c refl refl)) refl tt calls
+          by_cell _ c = near e lt (Flat.next (Flat.with_event (event_of spot.site (Act.Lock c) (pos 0)) m)) [] (held_mutexes m.events ++ c ∷ []) (sym (lock_held m.events (event_of spot.site (Act.Lock c) (pos 0)) c refl refl)) refl tt calls
 
       spawns : (e : q + 1 ≡ at (m.pc + 1)) (lt : m.pc + 1 < length flat.lines) (i f : ℕ) (from : Register) (spot : Spot) (s : source_at g m.pc ≡ source_at_spot spot)
-          → Follow (op_turn flat (op.Spawn i f from spot) m) (step g (Spawn i f from m.pc) me)
-      spawns e lt i f (registers.Int k) spot s =
-          told m.pc spot s m (acts.Spawn f (Flat.int m k)) (pos 0) (λ v n. Flat.next (Flat.set_int i v n)) Form.given (λ x b. Form.next (Form.set_int b i x))
-          (λ x. (x, quiet e lt (Flat.next (Flat.set_int i x (Flat.with_event (event_of spot.site (acts.Spawn f (Flat.int m k)) x) m))) (event_of spot.site (acts.Spawn f (Flat.int m k)) x) refl refl refl refl refl calls))
-      spawns e lt i f (registers.Reference k) spot s =
-          told m.pc spot s m (acts.Spawn f (Flat.ref m k)) (pos 0) (λ v n. Flat.next (Flat.set_int i v (Flat.set_ref k (pos 0) n))) Form.given (λ x b. Form.next (Form.set_int (Form.set_ref b k NULL) i x))
-          (λ x. (x, quiet e lt (Flat.next (Flat.set_int i x (Flat.set_ref k (pos 0) (Flat.with_event (event_of spot.site (acts.Spawn f (Flat.ref m k)) x) m)))) (event_of spot.site (acts.Spawn f (Flat.ref m k)) x) refl refl refl refl refl calls))
+          → Follow (op_turn flat (Op.Spawn i f from spot) m) (step g (Spawn i f from m.pc) me)
+      spawns e lt i f (Register.Int k) spot s =
+          told m.pc spot s m (Act.Spawn f (Flat.int m k)) (pos 0) (λ v n. Flat.next (Flat.set_int i v n)) Form.given (λ x b. Form.next (Form.set_int b i x))
+          (λ x. (x, quiet e lt (Flat.next (Flat.set_int i x (Flat.with_event (event_of spot.site (Act.Spawn f (Flat.int m k)) x) m))) (event_of spot.site (Act.Spawn f (Flat.int m k)) x) refl refl refl refl refl calls))
+      spawns e lt i f (Register.Reference k) spot s =
+          told m.pc spot s m (Act.Spawn f (Flat.ref m k)) (pos 0) (λ v n. Flat.next (Flat.set_int i v (Flat.set_ref k (pos 0) n))) Form.given (λ x b. Form.next (Form.set_int (Form.set_ref b k NULL) i x))
+          (λ x. (x, quiet e lt (Flat.next (Flat.set_int i x (Flat.set_ref k (pos 0) (Flat.with_event (event_of spot.site (Act.Spawn f (Flat.ref m k)) x) m)))) (event_of spot.site (Act.Spawn f (Flat.ref m k)) x) refl refl refl refl refl calls))
 
       positive_same : (z : ℤ) → is_positive z ≡ positive z
       positive_same (pos (suc n)) = ap not (ne_eqb (suc n) 0 (λ k. omega arith))
       positive_same _ = refl
 
       taken_same : (r : ℕ) (cell : Cell) (spot : Spot) → source_at g m.pc ≡ source_at_spot spot
-          → step g (TakeCell r cell m.pc) me ≡ Form.access_at g me m.pc cell (λ c mode. acts.Take (takens.Cell c mode) (Flat.take_kind_of spot.at)) Form.given (λ x b. Form.next (Form.accessed (Form.set_ref b r x)))
+          → step g (TakeCell r cell m.pc) me ≡ Form.access_at g me m.pc cell (λ c mode. Act.Take (Taken.Cell c mode) (Flat.take_kind_of spot.at)) Form.given (λ x b. Form.next (Form.accessed (Form.set_ref b r x)))
       taken_same r cell spot s =
-          ap (λ k. Form.access_at g me m.pc cell (λ c mode. acts.Take (takens.Cell c mode) k) Form.given (λ x b. Form.next (Form.accessed (Form.set_ref b r x)))) (ap (λ (sp : SourcePlace). kind_of sp.at) s ∙ kind_same spot.at)
+          ap (λ k. Form.access_at g me m.pc cell (λ c mode. Act.Take (Taken.Cell c mode) k) Form.given (λ x b. Form.next (Form.accessed (Form.set_ref b r x)))) (ap (λ (sp : SourcePlace). kind_of sp.at) s ∙ kind_same spot.at)
 
       unlocks : (e : q + 1 ≡ at (m.pc + 1)) (lt : m.pc + 1 < length flat.lines) (r : ℕ) (cell : Cell) (spot : Spot)
-          → let ev = event_of spot.site (acts.Unlock (Flat.cell_at flat.globals m cell)) (pos 0) in
+          → let ev = event_of spot.site (Act.Unlock (Flat.cell_at flat.globals m cell)) (pos 0) in
           Near (Flat.next (Flat.set_ref r (Flat.base_of (Flat.with_event ev m) cell) (Flat.with_event ev m)))
-          (Form.next (record (Form.set_ref (Form.told me spot.site (acts.Unlock (Flat.cell_at flat.globals m cell)) (pos 0)) r (Form.base_of me cell)) { held = Form.without_mutex (held_mutexes m.events) (Flat.cell_at flat.globals m cell) }))
+          (Form.next (record (Form.set_ref (Form.told me spot.site (Act.Unlock (Flat.cell_at flat.globals m cell)) (pos 0)) r (Form.base_of me cell)) { held = Form.without_mutex (held_mutexes m.events) (Flat.cell_at flat.globals m cell) }))
       unlocks e lt r cell spot =
-          let ev = event_of spot.site (acts.Unlock (Flat.cell_at flat.globals m cell)) (pos 0) in
+          let ev = event_of spot.site (Act.Unlock (Flat.cell_at flat.globals m cell)) (pos 0) in
           near e lt (Flat.next (Flat.set_ref r (Flat.base_of (Flat.with_event ev m) cell) (Flat.with_event ev m))) [] (Form.without_mutex (held_mutexes m.events) (Flat.cell_at flat.globals m cell))
           (sym (unlock_held m.events ev (Flat.cell_at flat.globals m cell) refl refl)) refl tt calls
 
@@ -402,78 +392,78 @@ module _ (dropped : ℕ → Bool) (flat : Flat.Flat) where
       site_of o spot s k = sym (ap (λ (sp : SourcePlace). sp.site) s ∙ k)
 
       pub follows : (o : Op) → source_at g m.pc ≡ source_of o → Leads flat m.pc o → q + (1 + length (tail o)) ≡ at (m.pc + 1) → HasAt g.statements (q + 1) (tail o) → Unlocked m o → Bodied o (body at m.pc o)
-      follows (op.Constant i v) s lead e has un = plain (omega arith) lead (Flat.next (Flat.set_int i v m)) refl refl refl calls
-      follows (op.Move i from) s lead e has un = plain (omega arith) lead (Flat.next (Flat.set_int i (Flat.int m from) m)) refl refl refl calls
-      follows (op.Compute width operator i a b spot) s lead e has un = computes width operator i a b spot lead.0 (omega arith) lead.1 (site_of (op.Compute width operator i a b spot) spot s refl)
-      follows (op.Negate width i a spot) s lead e has un = negates width i a spot lead.0 (omega arith) lead.1 (site_of (op.Negate width i a spot) spot s refl)
-      follows (op.Complement i a) s lead e has un = plain (omega arith) lead (Flat.next (Flat.set_int i _ m)) refl refl refl calls
-      follows (op.IsFalse i a) s lead e has un = plain (omega arith) lead (Flat.next (Flat.set_int i _ m)) refl refl refl calls
-      follows (op.SameReference i a b) s lead e has un = plain (omega arith) lead (Flat.next (Flat.set_int i _ m)) refl refl refl calls
-      follows (op.ChkWidth width i spot) s lead e has un = asserted (omega arith) lead _ traps.OutOfRange m.pc spot (site_of (op.ChkWidth width i spot) spot s refl)
-      follows (op.Skip k) s lead e has un = jumped (m.pc + 1 + k) lead
-      follows (op.SkipIfZero i k) s lead e has un = chosen _ (Flat.over_lines k m) (Flat.next m) (Form.to me (at (m.pc + 1 + k))) (Form.next me) (jumped (m.pc + 1 + k) lead.0) (plain (omega arith) lead.1 (Flat.next m) refl refl refl calls)
-      follows (op.SkipIfNull r k) s lead e has un = chosen _ (Flat.over_lines k m) (Flat.next m) (Form.to me (at (m.pc + 1 + k))) (Form.next me) (jumped (m.pc + 1 + k) lead.0) (plain (omega arith) lead.1 (Flat.next m) refl refl refl calls)
-      follows (op.Jump to) s lead e has un = jumped to lead
-      follows (op.Call f ints refs spot) s lead e has un = called ok f ints refs spot lead.0 (omega arith) lead.1 (site_of (op.Call f ints refs spot) spot s refl)
-      follows (op.Return spot) s lead e has un = returns spot m.frames refl calls (site_of (op.Return spot) spot s refl)
-      follows (op.Null r) s lead e has un = plain (omega arith) lead (Flat.next (Flat.set_ref r (pos 0) m)) refl refl refl calls
-      follows (op.Local r x) s lead e has un = plain (omega arith) lead (Flat.next (Flat.set_ref r (Flat.ref m x) m)) refl refl refl calls
-      follows (op.MoveReference r from) s lead e has un = plain (omega arith) lead (Flat.next (Flat.moved r from m)) refl refl refl calls
-      follows (op.Pop r) s lead e has un = near (omega arith) lead (Flat.next (Flat.popped r m)) (L ++ number_of (Flat.ref m r) ∷ []) (held_mutexes m.events) refl refl (resolved_push m.given L (number_of (Flat.ref m r)) res) calls
-      follows (op.Settle x from) s lead e has un = settles (omega arith) lead.1 x from lead.0 has
-      follows (op.ChkNull r spot) s lead e has un = asserted (omega arith) lead _ traps.NullPointer m.pc spot (site_of (op.ChkNull r spot) spot s refl)
-      follows (op.ChkPositive i spot) s lead e has un =
-          subst (λ b. Follow (Flat.asserts b traps.SizeNotPositive spot m) (Form.asserts me (is_positive (Flat.int m i)) traps.SizeNotPositive m.pc)) (positive_same (Flat.int m i))
-          (asserted (omega arith) lead (is_positive (Flat.int m i)) traps.SizeNotPositive m.pc spot (site_of (op.ChkPositive i spot) spot s refl))
-      follows (op.ChkHeld cell spot) s lead e has un = asserted (omega arith) lead _ traps.MutexNotHeld m.pc spot (site_of (op.ChkHeld cell spot) spot s refl)
-      follows (op.ChkNotHeld cell spot) s lead e has un = asserted (omega arith) lead _ traps.MutexAlreadyHeld m.pc spot (site_of (op.ChkNotHeld cell spot) spot s refl)
-      follows (op.ChkRoom spot) s lead e has un = asserted (omega arith) lead _ traps.TooManyLocks m.pc spot (site_of (op.ChkRoom spot) spot s refl)
-      follows (op.Bounds i r cells field spot) s lead e has un = indexes (omega arith) lead i cells field m.pc (Flat.int m i) _ spot (site_of (op.Bounds i r cells field spot) spot s refl)
-      follows (op.GlobalBounds i elements cells field spot) s lead e has un = indexes (omega arith) lead i cells field m.pc (Flat.int m i) elements spot (site_of (op.GlobalBounds i elements cells field spot) spot s refl)
-      follows (op.Load i cell spot) s lead e has un =
-          accessed m.pc spot s cell acts.Read (λ c v. Flat.set_int i v) Form.given (λ x b. Form.next (Form.accessed (Form.set_int b i x))) un
+      follows (Op.Constant i v) s lead e has un = plain (omega arith) lead (Flat.next (Flat.set_int i v m)) refl refl refl calls
+      follows (Op.Move i from) s lead e has un = plain (omega arith) lead (Flat.next (Flat.set_int i (Flat.int m from) m)) refl refl refl calls
+      follows (Op.Compute width operator i a b spot) s lead e has un = computes width operator i a b spot lead.0 (omega arith) lead.1 (site_of (Op.Compute width operator i a b spot) spot s refl)
+      follows (Op.Negate width i a spot) s lead e has un = negates width i a spot lead.0 (omega arith) lead.1 (site_of (Op.Negate width i a spot) spot s refl)
+      follows (Op.Complement i a) s lead e has un = plain (omega arith) lead (Flat.next (Flat.set_int i _ m)) refl refl refl calls
+      follows (Op.IsFalse i a) s lead e has un = plain (omega arith) lead (Flat.next (Flat.set_int i _ m)) refl refl refl calls
+      follows (Op.SameReference i a b) s lead e has un = plain (omega arith) lead (Flat.next (Flat.set_int i _ m)) refl refl refl calls
+      follows (Op.ChkWidth width i spot) s lead e has un = asserted (omega arith) lead _ Trap.OutOfRange m.pc spot (site_of (Op.ChkWidth width i spot) spot s refl)
+      follows (Op.Skip k) s lead e has un = jumped (m.pc + 1 + k) lead
+      follows (Op.SkipIfZero i k) s lead e has un = chosen _ (Flat.over_lines k m) (Flat.next m) (Form.to me (at (m.pc + 1 + k))) (Form.next me) (jumped (m.pc + 1 + k) lead.0) (plain (omega arith) lead.1 (Flat.next m) refl refl refl calls)
+      follows (Op.SkipIfNull r k) s lead e has un = chosen _ (Flat.over_lines k m) (Flat.next m) (Form.to me (at (m.pc + 1 + k))) (Form.next me) (jumped (m.pc + 1 + k) lead.0) (plain (omega arith) lead.1 (Flat.next m) refl refl refl calls)
+      follows (Op.Jump to) s lead e has un = jumped to lead
+      follows (Op.Call f ints refs spot) s lead e has un = called ok f ints refs spot lead.0 (omega arith) lead.1 (site_of (Op.Call f ints refs spot) spot s refl)
+      follows (Op.Return spot) s lead e has un = returns spot m.frames refl calls (site_of (Op.Return spot) spot s refl)
+      follows (Op.Null r) s lead e has un = plain (omega arith) lead (Flat.next (Flat.set_ref r (pos 0) m)) refl refl refl calls
+      follows (Op.Local r x) s lead e has un = plain (omega arith) lead (Flat.next (Flat.set_ref r (Flat.ref m x) m)) refl refl refl calls
+      follows (Op.MoveReference r from) s lead e has un = plain (omega arith) lead (Flat.next (Flat.moved r from m)) refl refl refl calls
+      follows (Op.Pop r) s lead e has un = near (omega arith) lead (Flat.next (Flat.popped r m)) (L ++ number_of (Flat.ref m r) ∷ []) (held_mutexes m.events) refl refl (resolved_push m.given L (number_of (Flat.ref m r)) res) calls
+      follows (Op.Settle x from) s lead e has un = settles (omega arith) lead.1 x from lead.0 has
+      follows (Op.ChkNull r spot) s lead e has un = asserted (omega arith) lead _ Trap.NullPointer m.pc spot (site_of (Op.ChkNull r spot) spot s refl)
+      follows (Op.ChkPositive i spot) s lead e has un =
+          subst (λ b. Follow (Flat.asserts b Trap.SizeNotPositive spot m) (Form.asserts me (is_positive (Flat.int m i)) Trap.SizeNotPositive m.pc)) (positive_same (Flat.int m i))
+          (asserted (omega arith) lead (is_positive (Flat.int m i)) Trap.SizeNotPositive m.pc spot (site_of (Op.ChkPositive i spot) spot s refl))
+      follows (Op.ChkHeld cell spot) s lead e has un = asserted (omega arith) lead _ Trap.MutexNotHeld m.pc spot (site_of (Op.ChkHeld cell spot) spot s refl)
+      follows (Op.ChkNotHeld cell spot) s lead e has un = asserted (omega arith) lead _ Trap.MutexAlreadyHeld m.pc spot (site_of (Op.ChkNotHeld cell spot) spot s refl)
+      follows (Op.ChkRoom spot) s lead e has un = asserted (omega arith) lead _ Trap.TooManyLocks m.pc spot (site_of (Op.ChkRoom spot) spot s refl)
+      follows (Op.Bounds i r cells field spot) s lead e has un = indexes (omega arith) lead i cells field m.pc (Flat.int m i) _ spot (site_of (Op.Bounds i r cells field spot) spot s refl)
+      follows (Op.GlobalBounds i elements cells field spot) s lead e has un = indexes (omega arith) lead i cells field m.pc (Flat.int m i) elements spot (site_of (Op.GlobalBounds i elements cells field spot) spot s refl)
+      follows (Op.Load i cell spot) s lead e has un =
+          accessed m.pc spot s cell Act.Read (λ c v. Flat.set_int i v) Form.given (λ x b. Form.next (Form.accessed (Form.set_int b i x))) un
           (λ x. (x, quiet (omega arith) lead (Flat.accessed (Flat.next (Flat.set_int i x (Flat.with_event _ m)))) _ refl refl refl refl refl calls))
-      follows (op.Store i cell spot) s lead e has un =
-          accessed m.pc spot s cell (λ c mode. acts.Write c mode (Flat.int m i)) (λ c v n. n) Form.no_answer (λ x b. Form.next (Form.accessed b)) un
+      follows (Op.Store i cell spot) s lead e has un =
+          accessed m.pc spot s cell (λ c mode. Act.Write c mode (Flat.int m i)) (λ c v n. n) Form.no_answer (λ x b. Form.next (Form.accessed b)) un
           (λ x. (pos 0, quiet (omega arith) lead (Flat.accessed (Flat.next (Flat.with_event _ m))) _ refl refl refl refl refl calls))
-      follows (op.LoadRef r cell spot) s lead e has un =
-          accessed m.pc spot s cell acts.Read (λ c v. Flat.set_ref r v) Form.given (λ x b. Form.next (record b { pending = x })) un
+      follows (Op.LoadRef r cell spot) s lead e has un =
+          accessed m.pc spot s cell Act.Read (λ c v. Flat.set_ref r v) Form.given (λ x b. Form.next (record b { pending = x })) un
           (λ x. (x, loads (omega arith) lead r x _ refl refl has))
-      follows (op.StoreRef r cell spot) s lead e has un =
-          accessed m.pc spot s cell (λ c mode. acts.Write c mode (Flat.ref m r)) (λ c v n. Flat.gives_up (Replaced c) (Flat.set_ref r (pos 0) n)) Form.no_answer (λ x b. Form.next (Form.accessed (Form.set_ref b r x))) un
+      follows (Op.StoreRef r cell spot) s lead e has un =
+          accessed m.pc spot s cell (λ c mode. Act.Write c mode (Flat.ref m r)) (λ c v n. Flat.gives_up (Replaced c) (Flat.set_ref r (pos 0) n)) Form.no_answer (λ x b. Form.next (Form.accessed (Form.set_ref b r x))) un
           (λ x. (pos 0, exchanges (omega arith) lead r _ x _ refl refl has))
-      follows (op.LoadGuard cell spot) s lead e has un =
+      follows (Op.LoadGuard cell spot) s lead e has un =
           guarding s
         where
-          guarding : source_at g m.pc ≡ record (source_at_spot spot) { mode = Readonly } → Follow (op_turn flat (op.LoadGuard cell spot) m) (step g (LoadRef cell m.pc) me)
-          guarding s = subst (λ (sp : SourcePlace). Follow (op_turn flat (op.LoadGuard cell spot) m) (Form.asks me sp.site (acts.Read (Form.cell_at g me cell) (Form.mode_of g me (Form.cell_at g me cell) sp.mode)) Form.given (λ x b. Form.next (record b { pending = x })))) (sym s)
+          guarding : source_at g m.pc ≡ record (source_at_spot spot) { mode = Readonly } → Follow (op_turn flat (Op.LoadGuard cell spot) m) (step g (LoadRef cell m.pc) me)
+          guarding s = subst (λ (sp : SourcePlace). Follow (op_turn flat (Op.LoadGuard cell spot) m) (Form.asks me sp.site (Act.Read (Form.cell_at g me cell) (Form.mode_of g me (Form.cell_at g me cell) sp.mode)) Form.given (λ x b. Form.next (record b { pending = x })))) (sym s)
               (refl, refl, λ x. (x, quiet (omega arith) lead (Flat.next (record (Flat.with_event _ m) { pending = x })) _ refl refl refl refl refl calls))
-      follows (op.New r count cells spot) s lead e has un =
-          subst (λ (sp : SourcePlace). Follow (op_turn flat (op.New r count cells spot) m) (Form.asks me sp.site (acts.New cells (elements_made (Flat.int m count)) (Form.mode_of g me (made_cell 0 0) sp.mode)) Form.given (λ x b. Form.next (Form.set_ref b r x)))) (sym s)
+      follows (Op.New r count cells spot) s lead e has un =
+          subst (λ (sp : SourcePlace). Follow (op_turn flat (Op.New r count cells spot) m) (Form.asks me sp.site (Act.New cells (elements_made (Flat.int m count)) (Form.mode_of g me (made_cell 0 0) sp.mode)) Form.given (λ x b. Form.next (Form.set_ref b r x)))) (sym s)
           (refl, refl, λ x. (x, quiet (omega arith) lead (Flat.next (Flat.set_ref r x (Flat.with_event _ m))) _ refl refl refl refl refl calls))
-      follows (op.TakeCell r cell spot) s lead e has un =
-          subst (λ act. Follow (op_turn flat (op.TakeCell r cell spot) m) act) (sym (taken_same r cell spot s))
-          (accessed m.pc spot s cell (λ c mode. acts.Take (takens.Cell c mode) (Flat.take_kind_of spot.at)) (λ c v. Flat.set_ref r v) Form.given (λ x b. Form.next (Form.accessed (Form.set_ref b r x))) un
+      follows (Op.TakeCell r cell spot) s lead e has un =
+          subst (λ act. Follow (op_turn flat (Op.TakeCell r cell spot) m) act) (sym (taken_same r cell spot s))
+          (accessed m.pc spot s cell (λ c mode. Act.Take (Taken.Cell c mode) (Flat.take_kind_of spot.at)) (λ c v. Flat.set_ref r v) Form.given (λ x b. Form.next (Form.accessed (Form.set_ref b r x))) un
           (λ x. (x, quiet (omega arith) lead (Flat.accessed (Flat.next (Flat.set_ref r x (Flat.with_event _ m)))) _ refl refl refl refl refl calls)))
-      follows (op.TakeLocal r x spot) s lead e has un = takes (omega arith) lead r x spot s (is_null (Flat.ref m x)) refl
-      follows (op.Give r cells spot) s lead e has un =
-          subst (λ (sp : SourcePlace). Follow (op_turn flat (op.Give r cells spot) m) (Form.asks me sp.site (acts.Give (Flat.ref m r) (Form.mode_of g me (made_cell 0 0) sp.mode)) Form.no_answer (λ x b. Form.next b))) (sym s)
+      follows (Op.TakeLocal r x spot) s lead e has un = takes (omega arith) lead r x spot s (is_null (Flat.ref m x)) refl
+      follows (Op.Give r cells spot) s lead e has un =
+          subst (λ (sp : SourcePlace). Follow (op_turn flat (Op.Give r cells spot) m) (Form.asks me sp.site (Act.Give (Flat.ref m r) (Form.mode_of g me (made_cell 0 0) sp.mode)) Form.no_answer (λ x b. Form.next b))) (sym s)
           (refl, refl, λ x. (pos 0, quiet (omega arith) lead (Flat.next (Flat.with_event _ m)) _ refl refl refl refl refl calls))
-      follows (op.Free r layout spot) s lead e has un =
-          told m.pc spot s (Flat.gives_up (Emptied (number_of (Flat.ref m r))) m) (acts.Freed (Flat.ref m r)) (pos 0) (λ v n. Flat.next (Flat.set_ref r (pos 0) n)) Form.no_answer (λ x b. Form.next (Form.set_ref b r NULL))
+      follows (Op.Free r layout spot) s lead e has un =
+          told m.pc spot s (Flat.gives_up (Emptied (number_of (Flat.ref m r))) m) (Act.Freed (Flat.ref m r)) (pos 0) (λ v n. Flat.next (Flat.set_ref r (pos 0) n)) Form.no_answer (λ x b. Form.next (Form.set_ref b r NULL))
           (λ x. (pos 0, quiet (omega arith) lead (Flat.next (Flat.set_ref r (pos 0) (Flat.with_event _ m))) _ refl refl refl refl refl calls))
-      follows (op.Lock cell spot) s lead e has un = locks (omega arith) lead cell spot s
-      follows (op.Unlock r cell spot) s lead e has un =
-          told m.pc spot s m (acts.Unlock (Flat.cell_at flat.globals m cell)) (pos 0) (λ v n. Flat.next (Flat.set_ref r (Flat.base_of n cell) n)) Form.no_answer
+      follows (Op.Lock cell spot) s lead e has un = locks (omega arith) lead cell spot s
+      follows (Op.Unlock r cell spot) s lead e has un =
+          told m.pc spot s m (Act.Unlock (Flat.cell_at flat.globals m cell)) (pos 0) (λ v n. Flat.next (Flat.set_ref r (Flat.base_of n cell) n)) Form.no_answer
           (λ x b. Form.next (record (Form.set_ref b r (Form.base_of me cell)) { held = Form.without_mutex me.held (Form.cell_at g me cell) }))
           (λ x. (pos 0, unlocks (omega arith) lead r cell spot))
-      follows (op.CondEnter cell spot) s lead e has un = tells (omega arith) lead spot s (acts.Enter (Flat.cell_at flat.globals m cell)) refl refl (λ x. refl)
-      follows (op.CondWait cell spot) s lead e has un = tells (omega arith) lead spot s (acts.Woken (Flat.cell_at flat.globals m cell)) refl refl (λ x. refl)
-      follows (op.CondSignal cell spot) s lead e has un =
-          told m.pc spot s m (acts.Signal (Flat.cell_at flat.globals m cell)) (pos 0) (λ v n. Flat.next n) Form.given (λ x b. Form.next b)
+      follows (Op.CondEnter cell spot) s lead e has un = tells (omega arith) lead spot s (Act.Enter (Flat.cell_at flat.globals m cell)) refl refl (λ x. refl)
+      follows (Op.CondWait cell spot) s lead e has un = tells (omega arith) lead spot s (Act.Woken (Flat.cell_at flat.globals m cell)) refl refl (λ x. refl)
+      follows (Op.CondSignal cell spot) s lead e has un =
+          told m.pc spot s m (Act.Signal (Flat.cell_at flat.globals m cell)) (pos 0) (λ v n. Flat.next n) Form.given (λ x b. Form.next b)
           (λ x. (x, quiet (omega arith) lead (Flat.next (Flat.with_event _ m)) _ refl refl refl refl refl calls))
-      follows (op.CondBroadcast cell spot) s lead e has un = tells (omega arith) lead spot s (acts.Broadcast (Flat.cell_at flat.globals m cell)) refl refl (λ x. refl)
-      follows (op.Spawn i f from spot) s lead e has un = spawns (omega arith) lead i f from spot s
-      follows (op.Join i spot) s lead e has un = tells (omega arith) lead spot s (acts.Join (Flat.int m i)) refl refl (λ x. refl)
-      follows (op.Print i spot) s lead e has un = tells (omega arith) lead spot s (acts.Print (Flat.int m i)) refl refl (λ x. refl)
+      follows (Op.CondBroadcast cell spot) s lead e has un = tells (omega arith) lead spot s (Act.Broadcast (Flat.cell_at flat.globals m cell)) refl refl (λ x. refl)
+      follows (Op.Spawn i f from spot) s lead e has un = spawns (omega arith) lead i f from spot s
+      follows (Op.Join i spot) s lead e has un = tells (omega arith) lead spot s (Act.Join (Flat.int m i)) refl refl (λ x. refl)
+      follows (Op.Print i spot) s lead e has un = tells (omega arith) lead spot s (Act.Print (Flat.int m i)) refl refl (λ x. refl)
       follows _ s lead e has un = tt

@@ -1,15 +1,7 @@
 -- The guarded code of framed flat code is well formed.
-use Rattle.std.proofs.{Common.{◌≡◌, ℕ, zero, suc, ◌+◌, ◌-◌, ◌*◌, ◌^◌, ◌<◌, ◌≤◌, max, Bool, false, List, [], ◌∷◌, ◌++◌, length, map, fold, refl, sym, ap, ◌∙◌, subst, ⊎_elim, arith, Some, nat_lt, slice_get, slice_index_or}, lemmas.Bool.{lt-ltb, le-ltb, cases_lt}, lemmas.List.{length-append, length-map}}
-use Rattle.std.specs.Prelude.{if◌then◌else◌}
-use Rattle.sharc_code.specs.{declared.code.Function.Function, declared.code.Parameter.Parameter, declared.code.PlaceMode.PlaceMode, declared.code.PlaceMode.TheVariants.{Dynamic, LockedGlobal, LockedSibling, LockedThrough, LockedLoaded}, declared.code.GlobalCells.GlobalCells, declared.instr.Cell.Cell, declared.instr.Register.Register, declared.instr.Width.TheVariants.{Char, Int}, declared.instr.Instr.Instr, declared.instr.Instr.TheVariants.{Jump, JumpIfZero, JumpIfNull, Call, Return, Start, Exit, ChkRead, ChkWrite, ChkLock, ChkLockLoaded, TestSole, Clear}, Machine.no_function, Ranges.IsInGlobal}
-use Rattle.sharc_code.specs.declared.code.Parameter.TheVariants as parameters
-use Rattle.sharc_code.specs.declared.instr.Cell.TheVariants as cells
-use Rattle.sharc_code.specs.declared.instr.Register.TheVariants as registers
-use Rattle.sharc_flat.specs.{declared.op.Op.Op, declared.op.Spot.Spot, Machine.{Flat, function_of}, Framed.{OpWrites, InLine, OpLeads, IsFramed}}
-use Rattle.sharc_flat.specs.declared.op.Op.TheVariants as op
-use Rattle.sharc_guard.specs.{Form.{WritesWithin, BaseWithin, HandedWithin, HasFewCells, IsBody, Leads, IsAtPlace, HasParameter, IsEntry, IsGuarded}, Machine.{Program, function_at}, Guard.{expand, head, body, tail, own, width, offset, place, expanded, guarded, entered_at, check_under}}
+use Rattle.sharc_guard.proofs.{Imports.{◌≡◌, ℕ, zero, suc, ◌+◌, ◌-◌, ◌*◌, ◌^◌, ◌<◌, ◌≤◌, max, Bool, false, List, [], ◌∷◌, ◌++◌, length, map, fold, refl, sym, ap, ◌∙◌, subst, ⊎_elim, arith, Some, nat_lt, slice_get, get_or as slice_index_or, lt-ltb, le-ltb, cases_lt, length-append, length-map, if◌then◌else◌, Function, Parameter, PlaceMode, Dynamic, LockedGlobal, LockedSibling, LockedThrough, LockedLoaded, GlobalCells, Cell, Register, Char, Int, Instr, Jump, JumpIfZero, JumpIfNull, Call, Return, Start, Exit, ChkRead, ChkWrite, ChkLock, ChkLockLoaded, TestSole, Clear, no_function, IsInGlobal, Op, Spot, Flat, function_of, OpWrites, InLine, OpLeads, IsFramed, WritesWithin, BaseWithin, HandedWithin, HasFewCells, IsBody, IsAtPlace, IsEntry, IsGuarded, Program, function_at, expand, head, body, tail, own, width, offset, place, expanded, guarded, entered_at, check_under}, Placing.{HasAt, width_is, stands, place_next}, Walking.{IsIdle, idle_length, bodied, line_at as line_there}}
+use Rattle.sharc_guard.specs.Form.{Leads, HasParameter}
 use Rattle.sharc_flat.specs.Framed as Framed
-use Rattle.sharc_guard.proofs.{Placing.{HasAt, width_is, stands, place_next}, Walking.{IsIdle, idle_length, bodied, line_at as line_there}}
 
 -- ---- the line of a place
 line_from : (ℕ → Bool) → ℕ → List Op → ℕ → ℕ
@@ -121,44 +113,44 @@ check_all P _ dynamic spot n _ d l m = tt
 
 pub head_all : (P : Instr → Type 0) (drop : Bool) (n : ℕ) (o : Op) → ((c : Cell) → P (ChkRead c n)) → ((c : Cell) → P (ChkWrite c n)) → ((c : Cell) → P (ChkLock c n)) → P (ChkLockLoaded n)
     → ((r : ℕ) → P (TestSole r n)) → ((r c : ℕ) → P (Clear r c)) → AllIn P (head drop n o)
-head_all P drop n (op.Load i cell spot) rd wr l m s c = check_all P drop (ChkRead cell n) spot n spot.mode (rd cell) l m
-head_all P drop n (op.Store i cell spot) rd wr l m s c = check_all P drop (ChkWrite cell n) spot n spot.mode (wr cell) l m
-head_all P drop n (op.LoadRef r cell spot) rd wr l m s c = check_all P false (ChkRead cell n) spot n spot.mode (rd cell) l m
-head_all P drop n (op.StoreRef r cell spot) rd wr l m s c = check_all P false (ChkWrite cell n) spot n spot.mode (wr cell) l m
-head_all P drop n (op.TakeCell r cell spot) rd wr l m s c = check_all P false (ChkWrite cell n) spot n spot.mode (wr cell) l m
-head_all P drop n (op.Give r cells spot) rd wr l m s c = (s r, (c r cells, tt))
-head_all P drop n (op.Free r layout spot) rd wr l m s c = (s r, tt)
+head_all P drop n (Op.Load i cell spot) rd wr l m s c = check_all P drop (ChkRead cell n) spot n spot.mode (rd cell) l m
+head_all P drop n (Op.Store i cell spot) rd wr l m s c = check_all P drop (ChkWrite cell n) spot n spot.mode (wr cell) l m
+head_all P drop n (Op.LoadRef r cell spot) rd wr l m s c = check_all P false (ChkRead cell n) spot n spot.mode (rd cell) l m
+head_all P drop n (Op.StoreRef r cell spot) rd wr l m s c = check_all P false (ChkWrite cell n) spot n spot.mode (wr cell) l m
+head_all P drop n (Op.TakeCell r cell spot) rd wr l m s c = check_all P false (ChkWrite cell n) spot n spot.mode (wr cell) l m
+head_all P drop n (Op.Give r cells spot) rd wr l m s c = (s r, (c r cells, tt))
+head_all P drop n (Op.Free r layout spot) rd wr l m s c = (s r, tt)
 head_all P drop n _ rd wr l m s c = tt
 
 base_within : (refs : ℕ) (c : Cell) → Framed.BaseWithin refs c → BaseWithin refs c
-base_within refs (cells.Global g place) h = tt
-base_within refs (cells.GlobalAt g i) h = tt
+base_within refs (Cell.Global g place) h = tt
+base_within refs (Cell.GlobalAt g i) h = tt
 base_within refs _ h = h
 
 handed_within : (refs : ℕ) (r : Register) → Framed.HandedWithin refs r → HandedWithin refs r
-handed_within refs (registers.Int i) h = tt
-handed_within refs (registers.Reference r) h = h
+handed_within refs (Register.Int i) h = tt
+handed_within refs (Register.Reference r) h = h
 
 in_global : (globals : List GlobalCells) (g place : ℕ) → IsInGlobal globals g place → Framed.IsInGlobal globals g place
 in_global globals g place h = record { known = h.known; low = h.low; high = h.high }
 
 own_good : (pl : ℕ → ℕ) (n ints refs : ℕ) (o : Op) → OpWrites ints refs o → AllIn (Good ints refs) (own (body pl n o))
-own_good pl n ints refs op.Enter w = tt
-own_good pl n ints refs op.BlockEnd w = tt
-own_good pl n ints refs (op.Compute Char operator i a b spot) w = ((w, tt), tt)
-own_good pl n ints refs (op.Negate Char i a spot) w = ((w, tt), tt)
-own_good pl n ints refs (op.Call f i r spot) w = let a = w.0 in let b = w.1 in (((omega arith, omega arith), tt), tt)
-own_good pl n ints refs (op.Settle x from) w = ((w.0, tt), tt)
-own_good pl n ints refs (op.GlobalBounds i elements cells field spot) w = ((w.0, w.1), tt)
-own_good pl n ints refs (op.LoadRef r cell spot) w = ((tt, tt), tt)
-own_good pl n ints refs (op.Lock cell spot) w = ((base_within refs cell w, tt), tt)
-own_good pl n ints refs (op.Spawn i f from spot) w = (((w.0, handed_within refs from w.1), tt), tt)
+own_good pl n ints refs Op.Enter w = tt
+own_good pl n ints refs Op.BlockEnd w = tt
+own_good pl n ints refs (Op.Compute Char operator i a b spot) w = ((w, tt), tt)
+own_good pl n ints refs (Op.Negate Char i a spot) w = ((w, tt), tt)
+own_good pl n ints refs (Op.Call f i r spot) w = let a = w.0 in let b = w.1 in (((omega arith, omega arith), tt), tt)
+own_good pl n ints refs (Op.Settle x from) w = ((w.0, tt), tt)
+own_good pl n ints refs (Op.GlobalBounds i elements cells field spot) w = ((w.0, w.1), tt)
+own_good pl n ints refs (Op.LoadRef r cell spot) w = ((tt, tt), tt)
+own_good pl n ints refs (Op.Lock cell spot) w = ((base_within refs cell w, tt), tt)
+own_good pl n ints refs (Op.Spawn i f from spot) w = (((w.0, handed_within refs from w.1), tt), tt)
 own_good pl n ints refs _ w = ((w, tt), tt)
 
 tail_good : (ints refs : ℕ) (o : Op) → OpWrites ints refs o → AllIn (Good ints refs) (tail o)
-tail_good ints refs (op.LoadRef r cell spot) w = ((w, tt), tt)
-tail_good ints refs (op.StoreRef r cell spot) w = ((w, tt), tt)
-tail_good ints refs (op.Settle x from) w = ((w, tt), tt)
+tail_good ints refs (Op.LoadRef r cell spot) w = ((w, tt), tt)
+tail_good ints refs (Op.StoreRef r cell spot) w = ((w, tt), tt)
+tail_good ints refs (Op.Settle x from) w = ((w, tt), tt)
 tail_good ints refs _ w = tt
 
 expand_good : (pl : ℕ → ℕ) (drop : Bool) (n ints refs : ℕ) (o : Op) → OpWrites ints refs o → AllIn (Good ints refs) (expand pl drop n o)
@@ -169,31 +161,31 @@ expand_good pl drop n ints refs o w =
 
 -- ---- the operations of which each statement leads on
 abbrev Straight : Op → Type 0
-Straight (op.Skip k) = ⊥
-Straight (op.SkipIfZero i k) = ⊥
-Straight (op.SkipIfNull r k) = ⊥
-Straight (op.Jump to) = ⊥
-Straight (op.Call f ints refs spot) = ⊥
-Straight (op.Return spot) = ⊥
+Straight (Op.Skip k) = ⊥
+Straight (Op.SkipIfZero i k) = ⊥
+Straight (Op.SkipIfNull r k) = ⊥
+Straight (Op.Jump to) = ⊥
+Straight (Op.Call f ints refs spot) = ⊥
+Straight (Op.Return spot) = ⊥
 Straight _ = Unit {0}
 
 own_plain : (pl : ℕ → ℕ) (n : ℕ) (o : Op) → Straight o → AllIn IsPlain (own (body pl n o))
-own_plain pl n op.Enter w = tt
-own_plain pl n op.BlockEnd w = tt
-own_plain pl n (op.Compute Char operator i a b spot) w = (tt, tt)
-own_plain pl n (op.Negate Char i a spot) w = (tt, tt)
-own_plain pl n (op.Skip k) w = absurd w
-own_plain pl n (op.SkipIfZero i k) w = absurd w
-own_plain pl n (op.SkipIfNull r k) w = absurd w
-own_plain pl n (op.Jump to) w = absurd w
-own_plain pl n (op.Call f ints refs spot) w = absurd w
-own_plain pl n (op.Return spot) w = absurd w
+own_plain pl n Op.Enter w = tt
+own_plain pl n Op.BlockEnd w = tt
+own_plain pl n (Op.Compute Char operator i a b spot) w = (tt, tt)
+own_plain pl n (Op.Negate Char i a spot) w = (tt, tt)
+own_plain pl n (Op.Skip k) w = absurd w
+own_plain pl n (Op.SkipIfZero i k) w = absurd w
+own_plain pl n (Op.SkipIfNull r k) w = absurd w
+own_plain pl n (Op.Jump to) w = absurd w
+own_plain pl n (Op.Call f ints refs spot) w = absurd w
+own_plain pl n (Op.Return spot) w = absurd w
 own_plain pl n _ w = (tt, tt)
 
 tail_plain : (o : Op) → AllIn IsPlain (tail o)
-tail_plain (op.LoadRef r cell spot) = (tt, tt)
-tail_plain (op.StoreRef r cell spot) = (tt, tt)
-tail_plain (op.Settle x from) = (tt, tt)
+tail_plain (Op.LoadRef r cell spot) = (tt, tt)
+tail_plain (Op.StoreRef r cell spot) = (tt, tt)
+tail_plain (Op.Settle x from) = (tt, tt)
 tail_plain _ = tt
 
 expand_plain : (pl : ℕ → ℕ) (drop : Bool) (n : ℕ) (o : Op) → Straight o → AllIn IsPlain (expand pl drop n o)
@@ -279,8 +271,8 @@ module _ (flat : Flat) (dropped : ℕ → Bool) (framed : IsFramed flat) where
               subst (IsBody p owner (framed.owner n)) w2 (subst (λ f. IsBody p owner f (pl (n + 1))) next.owned (rec next.inside next.owned))
             where
               idle_leads : (o : Op) → IsIdle o → OpLeads flat framed.owner n o → InLine flat framed.owner (framed.owner n) (n + 1)
-              idle_leads op.Enter k h = h
-              idle_leads op.BlockEnd k h = h
+              idle_leads Op.Enter k h = h
+              idle_leads Op.BlockEnd k h = h
               idle_leads _ k h = absurd k
 
           some : (o : Op) → slice_get flat.lines n ≡ Some o → (i : Instr) → body pl n o ≡ Some i → IsBody p owner (framed.owner n) (pl n)
@@ -347,17 +339,17 @@ module _ (flat : Flat) (dropped : ℕ → Bool) (framed : IsFramed flat) where
       subst (λ q. LeadAll q (expand pl (dropped n) n o)) z (plain_all n 0 o e (expand pl (dropped n) n o) (expand_plain pl (dropped n) n o w) (omega arith) next)
 
   lead_all : (n : ℕ) (o : Op) (e : slice_get flat.lines n ≡ Some o) → OpLeads flat framed.owner n o → LeadAll (pl n) (expand pl (dropped n) n o)
-  lead_all n (op.Skip k) e h = (to_line n (n + 1 + k) (op.Skip k) e refl h, tt)
-  lead_all n (op.SkipIfZero i k) e h = ((to_line n (n + 1 + k) (op.SkipIfZero i k) e refl h.0, next_there n (op.SkipIfZero i k) e refl h.1), tt)
-  lead_all n (op.SkipIfNull r k) e h = ((to_line n (n + 1 + k) (op.SkipIfNull r k) e refl h.0, next_there n (op.SkipIfNull r k) e refl h.1), tt)
-  lead_all n (op.Jump to) e h = (to_line n to (op.Jump to) e refl h, tt)
-  lead_all n (op.Call f ints refs spot) e h =
+  lead_all n (Op.Skip k) e h = (to_line n (n + 1 + k) (Op.Skip k) e refl h, tt)
+  lead_all n (Op.SkipIfZero i k) e h = ((to_line n (n + 1 + k) (Op.SkipIfZero i k) e refl h.0, next_there n (Op.SkipIfZero i k) e refl h.1), tt)
+  lead_all n (Op.SkipIfNull r k) e h = ((to_line n (n + 1 + k) (Op.SkipIfNull r k) e refl h.0, next_there n (Op.SkipIfNull r k) e refl h.1), tt)
+  lead_all n (Op.Jump to) e h = (to_line n to (Op.Jump to) e refl h, tt)
+  lead_all n (Op.Call f ints refs spot) e h =
       let l = length-map flat.functions (entered_at pl) in
       let lf = h.0 in
-      ((omega arith, next_there n (op.Call f ints refs spot) e refl h.1), tt)
-  lead_all n (op.Return spot) e h = (tt, tt)
-  lead_all n op.Enter e h = straight_all n op.Enter e tt h
-  lead_all n op.BlockEnd e h = straight_all n op.BlockEnd e tt h
+      ((omega arith, next_there n (Op.Call f ints refs spot) e refl h.1), tt)
+  lead_all n (Op.Return spot) e h = (tt, tt)
+  lead_all n Op.Enter e h = straight_all n Op.Enter e tt h
+  lead_all n Op.BlockEnd e h = straight_all n Op.BlockEnd e tt h
   lead_all n o e h = straight_all n o e tt h
 
   -- ---- the whole
@@ -395,7 +387,7 @@ module _ (flat : Flat) (dropped : ℕ → Bool) (framed : IsFramed flat) where
       }
     where
       moved_parameter : (fn : Function) (q : Parameter) → Framed.HasParameter fn q → HasParameter (entered_at pl fn) q
-      moved_parameter fn parameters.None h = tt
+      moved_parameter fn Parameter.None h = tt
       moved_parameter fn _ h = h
 
   pub is_guarded : IsGuarded p

@@ -1,18 +1,8 @@
 -- What comes before an operation's own statement: it passes, or stops where flat code stops.
-use Rattle.std.proofs.Common.{◌≡◌, ℕ, ℤ, pos, ◌+◌, Bool, true, false, List, [], ◌∷◌, refl, sym, ap, ◌∙◌, subst}
-use Rattle.std.specs.Prelude.{if◌then◌else◌}
-use Rattle.sharc_tree.specs.{declared.event.Act.Act, declared.event.CellAt.CellAt, declared.event.CellMode.CellMode}
-use Rattle.sharc_tree.specs.declared.event.Act.TheVariants as acts
-use Rattle.sharc_tree.specs.declared.event.Taken.TheVariants as takens
-use Rattle.sharc_tree.specs.declared.trap.Trap.TheVariants as traps
-use Rattle.sharc_code.specs.{declared.code.PlaceMode.PlaceMode, declared.code.PlaceMode.TheVariants.{Dynamic, LockedGlobal, LockedSibling, LockedThrough, LockedLoaded}, declared.instr.Cell.Cell, declared.instr.Cell.TheVariants.{Global, Object}, declared.instr.Instr.Instr, declared.instr.Instr.TheVariants.{ChkRead, ChkWrite, ChkLock, ChkLockLoaded, TestSole, Clear}}
-use Rattle.sharc_meaning.specs.{declared.given.GivenUp.TheVariants.{Replaced, Emptied}, Reference.number_of, State.stopped}
-use Rattle.sharc_flat.specs.{declared.op.Op.Op, declared.op.Spot.Spot, Machine.{goes, asks, halts, op_turn}}
-use Rattle.sharc_flat.specs.declared.op.Op.TheVariants as op
+use Rattle.sharc_guard.proofs.{Imports.{◌≡◌, ℕ, ℤ, pos, ◌+◌, Bool, true, false, List, [], ◌∷◌, refl, sym, ap, ◌∙◌, subst, if◌then◌else◌, Act, CellAt, CellMode, Taken, Trap, PlaceMode, Dynamic, LockedGlobal, LockedSibling, LockedThrough, LockedLoaded, Cell, Global, Object, Instr, ChkRead, ChkWrite, ChkLock, ChkLockLoaded, TestSole, Clear, Replaced, Emptied, number_of, stopped, Op, Spot, goes, asks, halts, op_turn, Thread, Goes, Asks, Checks, Halts, Stopped, step, weight, source_of, check_under, head, image}, Follows.{g, at, Unlocked}}
 use Rattle.sharc_flat.specs.Machine as Flat
 use Rattle.sharc_guard.specs.Machine as Form
-use Rattle.sharc_guard.specs.{Machine.{Thread, Turn, Goes, Asks, Checks, Halts, Stopped, step}, Path.weight, Guard.{source_of, check_under, head}, Correct.image}
-use Rattle.sharc_guard.proofs.Follows.{g, at, Unlocked}
+use Rattle.sharc_guard.specs.Machine.{Turn}
 
 -- a turn that leads on, where what it checks is well
 abbrev pub IsPass : ℕ → Turn → Thread → Type 0
@@ -32,8 +22,8 @@ module _ (dropped : ℕ → Bool) (flat : Flat.Flat) (m : Flat.At) where
   pub record IsHead (o : Op) (h : Instr) (rest : Type 0) : Type 0 where
     pub blocked : Bool
     pub passes : (q : ℕ) (L : List ℕ) → blocked ≡ false → IsPass m.pc (step (g dropped flat) h (image (at dropped flat) m q L)) (image (at dropped flat) m (q + 1) L)
-    pub stops : (q : ℕ) (L : List ℕ) → blocked ≡ true → step (g dropped flat) h (image (at dropped flat) m q L) ≡ Halts (Stopped traps.NullPointer m.pc)
-    pub flat_stops : blocked ≡ true → op_turn flat o m ≡ halts (stopped traps.NullPointer (source_of o).site)
+    pub stops : (q : ℕ) (L : List ℕ) → blocked ≡ true → step (g dropped flat) h (image (at dropped flat) m q L) ≡ Halts (Stopped Trap.NullPointer m.pc)
+    pub flat_stops : blocked ≡ true → op_turn flat o m ≡ halts (stopped Trap.NullPointer (source_of o).site)
     pub wants : blocked ≡ false → Asking o
     pub then_ : blocked ≡ false → rest
     pub light : weight h ≡ 1
@@ -46,7 +36,7 @@ module _ (dropped : ℕ → Bool) (flat : Flat.Flat) (m : Flat.At) where
   -- an operation that accesses a cell at this spot
   record IsAccess (o : Op) (spot : Spot) : Type 0 where
     unlocked : Flat.lock_is_null m spot spot.mode ≡ false → Unlocked m o
-    stops_at : Flat.lock_is_null m spot spot.mode ≡ true → op_turn flat o m ≡ halts (stopped traps.NullPointer (source_of o).site)
+    stops_at : Flat.lock_is_null m spot spot.mode ≡ true → op_turn flat o m ≡ halts (stopped Trap.NullPointer (source_of o).site)
     asks_for : Flat.lock_is_null m spot spot.mode ≡ false → Asking o
 
   -- a check that passes or reports
@@ -87,8 +77,8 @@ module _ (dropped : ℕ → Bool) (flat : Flat.Flat) (m : Flat.At) where
       → (Flat.lock_is_null m spot spot.mode ≡ false → Unlocked m o) → IsAccess o spot
   access o cell spot of then_ e s un = record {
     unlocked = un;
-    stops_at = λ f. e ∙ ap (λ b. if b then Flat.stops traps.NullPointer spot else asking) f ∙ ap (λ site. halts (stopped traps.NullPointer site)) (sym s);
-    asks_for = λ f. record { from = m; act = of (Flat.cell_at flat.globals m cell) (Flat.cell_mode_of flat.globals m (Flat.cell_at flat.globals m cell) spot.mode); held = pos 0; go = λ v n. Flat.accessed (Flat.next (then_ (Flat.cell_at flat.globals m cell) v n)); asks_it = e ∙ ap (λ b. if b then Flat.stops traps.NullPointer spot else asking) f ∙ ap (λ site. asks m site (of (Flat.cell_at flat.globals m cell) (Flat.cell_mode_of flat.globals m (Flat.cell_at flat.globals m cell) spot.mode)) (pos 0) (λ v n. Flat.accessed (Flat.next (then_ (Flat.cell_at flat.globals m cell) v n)))) (sym s) };
+    stops_at = λ f. e ∙ ap (λ b. if b then Flat.stops Trap.NullPointer spot else asking) f ∙ ap (λ site. halts (stopped Trap.NullPointer site)) (sym s);
+    asks_for = λ f. record { from = m; act = of (Flat.cell_at flat.globals m cell) (Flat.cell_mode_of flat.globals m (Flat.cell_at flat.globals m cell) spot.mode); held = pos 0; go = λ v n. Flat.accessed (Flat.next (then_ (Flat.cell_at flat.globals m cell) v n)); asks_it = e ∙ ap (λ b. if b then Flat.stops Trap.NullPointer spot else asking) f ∙ ap (λ site. asks m site (of (Flat.cell_at flat.globals m cell) (Flat.cell_mode_of flat.globals m (Flat.cell_at flat.globals m cell) spot.mode)) (pos 0) (λ v n. Flat.accessed (Flat.next (then_ (Flat.cell_at flat.globals m cell) v n)))) (sym s) };
   }
     where
       asking : Flat.Turn
@@ -107,14 +97,14 @@ module _ (dropped : ℕ → Bool) (flat : Flat.Flat) (m : Flat.At) where
   }
 
   pub heads : (drop : Bool) (o : Op) → AreHeads o (head drop m.pc o)
-  heads drop (op.Load i cell spot) = checked (op.Load i cell spot) spot drop (ChkRead cell m.pc) (access (op.Load i cell spot) cell spot acts.Read (λ c v. Flat.set_int i v) refl refl (λ e. e)) (λ q L. (refl, refl)) refl spot.mode refl
-  heads drop (op.Store i cell spot) = checked (op.Store i cell spot) spot drop (ChkWrite cell m.pc) (access (op.Store i cell spot) cell spot (λ c mode. acts.Write c mode (Flat.int m i)) (λ c v n. n) refl refl (λ e. e)) (λ q L. (refl, refl)) refl spot.mode refl
-  heads drop (op.LoadRef r cell spot) = checked (op.LoadRef r cell spot) spot false (ChkRead cell m.pc) (access (op.LoadRef r cell spot) cell spot acts.Read (λ c v. Flat.set_ref r v) refl refl (λ e. e)) (λ q L. (refl, refl)) refl spot.mode refl
-  heads drop (op.StoreRef r cell spot) = checked (op.StoreRef r cell spot) spot false (ChkWrite cell m.pc) (access (op.StoreRef r cell spot) cell spot (λ c mode. acts.Write c mode (Flat.ref m r)) (λ c v n. Flat.gives_up (Replaced c) (Flat.set_ref r (pos 0) n)) refl refl (λ e. e)) (λ q L. (refl, refl)) refl spot.mode refl
-  heads drop (op.TakeCell r cell spot) = checked (op.TakeCell r cell spot) spot false (ChkWrite cell m.pc) (access (op.TakeCell r cell spot) cell spot (λ c mode. acts.Take (takens.Cell c mode) (Flat.take_kind_of spot.at)) (λ c v. Flat.set_ref r v) refl refl (λ e. e)) (λ q L. (refl, refl)) refl spot.mode refl
-  heads drop (op.Give r cells spot) =
-      let want : Asking (op.Give r cells spot) = record { from = m; act = _; held = pos 0; go = λ v n. Flat.next n; asks_it = refl } in
-      before (op.Give r cells spot) (TestSole r m.pc) _ want (before (op.Give r cells spot) (Clear r cells) _ want tt (λ q L. refl) refl) (λ q L. (refl, refl)) refl
-  heads drop (op.Free r layout spot) =
-      before (op.Free r layout spot) (TestSole r m.pc) _ (record { from = Flat.gives_up (Emptied (number_of (Flat.ref m r))) m; act = _; held = pos 0; go = λ v n. Flat.next (Flat.set_ref r (pos 0) n); asks_it = refl }) tt (λ q L. (refl, refl)) refl
+  heads drop (Op.Load i cell spot) = checked (Op.Load i cell spot) spot drop (ChkRead cell m.pc) (access (Op.Load i cell spot) cell spot Act.Read (λ c v. Flat.set_int i v) refl refl (λ e. e)) (λ q L. (refl, refl)) refl spot.mode refl
+  heads drop (Op.Store i cell spot) = checked (Op.Store i cell spot) spot drop (ChkWrite cell m.pc) (access (Op.Store i cell spot) cell spot (λ c mode. Act.Write c mode (Flat.int m i)) (λ c v n. n) refl refl (λ e. e)) (λ q L. (refl, refl)) refl spot.mode refl
+  heads drop (Op.LoadRef r cell spot) = checked (Op.LoadRef r cell spot) spot false (ChkRead cell m.pc) (access (Op.LoadRef r cell spot) cell spot Act.Read (λ c v. Flat.set_ref r v) refl refl (λ e. e)) (λ q L. (refl, refl)) refl spot.mode refl
+  heads drop (Op.StoreRef r cell spot) = checked (Op.StoreRef r cell spot) spot false (ChkWrite cell m.pc) (access (Op.StoreRef r cell spot) cell spot (λ c mode. Act.Write c mode (Flat.ref m r)) (λ c v n. Flat.gives_up (Replaced c) (Flat.set_ref r (pos 0) n)) refl refl (λ e. e)) (λ q L. (refl, refl)) refl spot.mode refl
+  heads drop (Op.TakeCell r cell spot) = checked (Op.TakeCell r cell spot) spot false (ChkWrite cell m.pc) (access (Op.TakeCell r cell spot) cell spot (λ c mode. Act.Take (Taken.Cell c mode) (Flat.take_kind_of spot.at)) (λ c v. Flat.set_ref r v) refl refl (λ e. e)) (λ q L. (refl, refl)) refl spot.mode refl
+  heads drop (Op.Give r cells spot) =
+      let want : Asking (Op.Give r cells spot) = record { from = m; act = _; held = pos 0; go = λ v n. Flat.next n; asks_it = refl } in
+      before (Op.Give r cells spot) (TestSole r m.pc) _ want (before (Op.Give r cells spot) (Clear r cells) _ want tt (λ q L. refl) refl) (λ q L. (refl, refl)) refl
+  heads drop (Op.Free r layout spot) =
+      before (Op.Free r layout spot) (TestSole r m.pc) _ (record { from = Flat.gives_up (Emptied (number_of (Flat.ref m r))) m; act = _; held = pos 0; go = λ v n. Flat.next (Flat.set_ref r (pos 0) n); asks_it = refl }) tt (λ q L. (refl, refl)) refl
   heads drop _ = tt

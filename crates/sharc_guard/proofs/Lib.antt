@@ -1,3 +1,4 @@
+mod Imports
 pub mod Beside
 pub mod Checking
 pub mod Comes

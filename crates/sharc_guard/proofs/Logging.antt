@@ -1,25 +1,18 @@
 -- What a turn of guarded code does to the log.
-use Rattle.std.proofs.Common.{◌≡◌, ℕ, ℤ, pos, negsuc, ◌+◌, ◌*◌, Bool, true, false, not, filter, cond, List, [], ◌∷◌, ◌++◌, length, Result, Ok, Err, nat_lt, refl, sym, ap, ◌∙◌}
-use Rattle.sharc_tree.specs.{declared.event.Act.Act, declared.event.CellAt.CellAt, declared.event.SourceEvent.SourceEvent, declared.trap.Trap.Trap}
-use Rattle.sharc_tree.specs.declared.event.Act.TheVariants as acts
-use Rattle.sharc_tree.specs.declared.trap.Trap.TheVariants as traps
-use Rattle.sharc_code.specs.{declared.code.Parameter.Parameter, declared.instr.Cell.Cell, declared.instr.Cell.TheVariants.ObjectAt, declared.instr.Instr.Instr, declared.instr.Instr.TheVariants.{ComputeInt, ComputeLong, NegateInt, NegateLong, ChkWidth, JumpIfZero, JumpIfNull, Call, Return, ChkNull, ChkHeld, ChkNotHeld, ChkPositive, ChkRoom, ChkLock, ChkLockLoaded, Bounds, GlobalBounds, Load, Store, LoadRef, Exchange, New, TakeCell, TakeLocal, Give, Free, Lock, Unlock, Spawn, Join, Print, Start, Exit, CondEnter, CondWait, CondSignal, CondBroadcast}, declared.instr.Register.Register, declared.instr.Width.TheVariants.{Int, Long}, declared.state.Frame.Frame, Arithmetic.{holds, is_zero, computed, negated}, Machine.is_positive, Says.made_cell}
-use Rattle.sharc_code.specs.declared.code.Parameter.TheVariants as parameters
-use Rattle.sharc_code.specs.declared.instr.Register.TheVariants as registers
-use Rattle.sharc_meaning.specs.{Events.{held_mutexes, locked_by, same_cell, unlocked_by}, Reference.{is_null, number_of, elements_of}}
+use Rattle.sharc_guard.proofs.{Imports.{◌≡◌, ℕ, ℤ, pos, negsuc, ◌+◌, ◌*◌, Bool, true, false, not, filter, cond, List, [], ◌∷◌, ◌++◌, length, Result, Ok, Err, nat_lt, refl, sym, ap, ◌∙◌, Act, CellAt, SourceEvent, Trap, Parameter, Cell, ObjectAt, Instr, ComputeInt, ComputeLong, NegateInt, NegateLong, ChkWidth, JumpIfZero, JumpIfNull, Call, Return, ChkNull, ChkHeld, ChkNotHeld, ChkPositive, ChkRoom, ChkLock, ChkLockLoaded, Bounds, GlobalBounds, Load, Store, LoadRef, Exchange, New, TakeCell, TakeLocal, Give, Free, Lock, Unlock, Spawn, Join, Print, Start, Exit, CondEnter, CondWait, CondSignal, CondBroadcast, Register, Int, Long, Frame, holds, computed, negated, made_cell, held_mutexes, locked_by, same_cell, unlocked_by, is_null, number_of, elements_of, Program, Thread, Phase, Left, Goes, Asks, Checks, Halts, is_held, function_at, statement_at, step, fresh, started, thread_after, with_parameter, LogsAreHeld}, Holding.{quiet_held, lock_held, unlock_held}}
+use Rattle.sharc_code.specs.{Arithmetic.is_zero, Machine.is_positive}
 use Rattle.sharc_guard.specs.Machine as Form
-use Rattle.sharc_guard.specs.{Machine.{Program, Thread, Phase, Left, Turn, Goes, Asks, Checks, Halts, int, cell_at, is_of_null, is_held, without_base, handed, function_at, statement_at, step, turn}, Path.{after, fresh, started, thread_after, with_parameter}, Logged.LogsAreHeld}
-use Rattle.sharc_guard.proofs.Holding.{quiet_held, lock_held, unlock_held}
+use Rattle.sharc_guard.specs.{Machine.{Turn, int, cell_at, is_of_null, without_base, handed, turn}, Path.after}
 
 -- the log after an event
 abbrev logged : Act → List CellAt → List CellAt
-logged (acts.Lock c) held = held ++ c ∷ []
-logged (acts.Unlock c) held = filter (λ d. not (same_cell d c)) held
+logged (Act.Lock c) held = held ++ c ∷ []
+logged (Act.Unlock c) held = filter (λ d. not (same_cell d c)) held
 logged _ held = held
 
 next_held : (es : List SourceEvent) (e : SourceEvent) (act : Act) → e.act ≡ act → held_mutexes (es ++ e ∷ []) ≡ logged act (held_mutexes es)
-next_held es e (acts.Lock c) q = lock_held es e c (ap locked_by q) (ap unlocked_by q)
-next_held es e (acts.Unlock c) q = unlock_held es e c (ap locked_by q) (ap unlocked_by q)
+next_held es e (Act.Lock c) q = lock_held es e c (ap locked_by q) (ap unlocked_by q)
+next_held es e (Act.Unlock c) q = unlock_held es e c (ap locked_by q) (ap unlocked_by q)
 next_held es e _ q = quiet_held es e (ap locked_by q) (ap unlocked_by q)
 
 -- ---- one turn
@@ -42,11 +35,11 @@ resulted a r site (Ok z) = (refl, refl)
 resulted a r site (Err code) = tt
 
 indexes : (a : Thread) (r : ℕ) (v : ℤ) (cells field site elements : ℕ) → Logs a (Form.indexed a r v cells field site elements)
-indexes a r (pos i) cells field site elements = choice a (nat_lt i elements) (Form.goes (Form.set_int a r (pos (i * cells + field)))) (Halts (Form.Stopped traps.IndexOutOfBounds site)) (refl, refl) tt
+indexes a r (pos i) cells field site elements = choice a (nat_lt i elements) (Form.goes (Form.set_int a r (pos (i * cells + field)))) (Halts (Form.Stopped Trap.IndexOutOfBounds site)) (refl, refl) tt
 indexes a r (negsuc i) cells field site elements = tt
 
 returns : (p : Program) (a : Thread) (site : ℕ) (frames : List Frame) → Logs a (Form.returned p a site frames)
-returns p a site (f ∷ []) = choice a (nat_lt 0 (length a.held)) (Halts (Form.Stopped traps.ReturnWithLockHeld site)) (Goes (Form.back_to a f [])) tt (refl, refl)
+returns p a site (f ∷ []) = choice a (nat_lt 0 (length a.held)) (Halts (Form.Stopped Trap.ReturnWithLockHeld site)) (Goes (Form.back_to a f [])) tt (refl, refl)
 returns p a site _ = (refl, refl)
 
 locks : (a : Thread) (b : Bool) (mutex : CellAt) (site : ℕ) → Logs a (Form.lock_checked a b mutex site)
@@ -62,24 +55,24 @@ base_events b (ObjectAt r at) = refl
 base_events b _ = refl
 
 handed_same : (b : Thread) (from : Register) → ((handed b from).events ≡ b.events) × ((handed b from).held ≡ b.held)
-handed_same b (registers.Int r) = (refl, refl)
-handed_same b (registers.Reference r) = (refl, refl)
+handed_same b (Register.Int r) = (refl, refl)
+handed_same b (Register.Reference r) = (refl, refl)
 
 step_logs : (p : Program) (i : Instr) (a : Thread) → Logs a (step p i a)
 step_logs p (ComputeInt operator r x y site) a = resulted a r site (computed Int operator (int a x) (int a y))
 step_logs p (ComputeLong operator r x y site) a = resulted a r site (computed Long operator (int a x) (int a y))
 step_logs p (NegateInt r x site) a = resulted a r site (negated Int (int a x))
 step_logs p (NegateLong r x site) a = resulted a r site (negated Long (int a x))
-step_logs p (ChkWidth width r site) a = asserted a (holds width (int a r)) traps.OutOfRange site
+step_logs p (ChkWidth width r site) a = asserted a (holds width (int a r)) Trap.OutOfRange site
 step_logs p (JumpIfZero r pc) a = choice a (is_zero (int a r)) (Goes (Form.to a pc)) (Form.goes a) (refl, refl) (refl, refl)
 step_logs p (JumpIfNull r pc) a = choice a (is_null (Form.ref a r)) (Goes (Form.to a pc)) (Form.goes a) (refl, refl) (refl, refl)
-step_logs p (Call f ints refs site) a = choice a (nat_lt (length a.frames) 256) _ (Halts (Form.Stopped traps.CallDepth site)) (refl, refl) tt
+step_logs p (Call f ints refs site) a = choice a (nat_lt (length a.frames) 256) _ (Halts (Form.Stopped Trap.CallDepth site)) (refl, refl) tt
 step_logs p (Return site) a = returns p a site a.frames
-step_logs p (ChkNull r site) a = asserted a (not (is_null (Form.ref a r))) traps.NullPointer site
-step_logs p (ChkHeld cell site) a = asserted a (is_held a.held (cell_at p a cell)) traps.MutexNotHeld site
-step_logs p (ChkNotHeld cell site) a = asserted a (not (is_held a.held (cell_at p a cell))) traps.MutexAlreadyHeld site
-step_logs p (ChkPositive r site) a = asserted a (is_positive (int a r)) traps.SizeNotPositive site
-step_logs p (ChkRoom site) a = asserted a (nat_lt (length a.held) 16) traps.TooManyLocks site
+step_logs p (ChkNull r site) a = asserted a (not (is_null (Form.ref a r))) Trap.NullPointer site
+step_logs p (ChkHeld cell site) a = asserted a (is_held a.held (cell_at p a cell)) Trap.MutexNotHeld site
+step_logs p (ChkNotHeld cell site) a = asserted a (not (is_held a.held (cell_at p a cell))) Trap.MutexAlreadyHeld site
+step_logs p (ChkPositive r site) a = asserted a (is_positive (int a r)) Trap.SizeNotPositive site
+step_logs p (ChkRoom site) a = asserted a (nat_lt (length a.held) 16) Trap.TooManyLocks site
 step_logs p (ChkLock cell site) a = locks a (is_of_null a cell) (cell_at p a cell) site
 step_logs p (ChkLockLoaded site) a = locks a (is_null a.pending) (made_cell (number_of a.pending) 0) site
 step_logs p (Bounds r base cells field site) a = indexes a r (int a r) cells field site (elements_of (Form.ref a base))
@@ -115,7 +108,7 @@ goes_on a (Halts outcome) x h e = e
 goes_on a _ x h e = h.1 ∙ e ∙ ap held_mutexes (sym h.0)
 
 begun : (a : Thread) (v : ℤ) (q : Parameter) → a.held ≡ held_mutexes a.events → (with_parameter a q v).held ≡ held_mutexes (with_parameter a q v).events
-begun a v parameters.Int e = e
+begun a v Parameter.Int e = e
 begun a v _ e = e
 
 pub logs_are_held : LogsAreHeld

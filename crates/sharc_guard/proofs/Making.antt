@@ -1,10 +1,5 @@
 -- The lists that guarding fills.
-use Rattle.std.proofs.{Common.{◌≡◌, ◌≤◌, ◌<◌, ℕ, zero, suc, ◌+◌, ◌-◌, ◌*◌, Bool, true, false, List, [], ◌∷◌, ◌++◌, length, drop, refl, sym, ap, ◌∙◌, arith, Some, slice_get, get_or, nat_lt, if◌then◌else◌}, lemmas.List.{length-append, get_or_append_left}, Math.Seq.get_or-append_seam, lemmas.Bool.{ltb-true, ltb-false}}
-use Rattle.sharc_code.specs.{declared.instr.Instr.Instr, declared.instr.Instr.TheVariants.{Start, Exit}}
-use Rattle.sharc_flat.specs.declared.op.Op.{Op}
-use Rattle.sharc_flat.specs.declared.op.Op.TheVariants as op
-use Rattle.sharc_guard.specs.{Guard.{width, offset, place, expanded, head, own, body, tail}, Made.{among, places, marked}}
-use Rattle.sharc_guard.proofs.{Placing.offset_next, Holding.funext}
+use Rattle.sharc_guard.proofs.{Imports.{◌≡◌, ◌≤◌, ◌<◌, ℕ, zero, suc, ◌+◌, ◌-◌, ◌*◌, Bool, true, false, List, [], ◌∷◌, ◌++◌, length, drop, refl, sym, ap, ◌∙◌, arith, Some, slice_get, get_or, nat_lt, if◌then◌else◌, length-append, get_or_append_left, get_or-append_seam, ltb-true, ltb-false, Instr, Start, Exit, Op, width, offset, place, expanded, head, own, body, tail, among, places, marked}, Placing.offset_next, Holding.funext}
 
 abbrev pub Summed : List Bool → List Op → ℕ → ℕ → List ℕ → Type 0
 Summed marks lines n at starts = (starts ≡ places (marked marks) lines n) × (at ≡ place (marked marks) lines n) × (at ≤ 2 + 4 * n)
@@ -32,7 +27,7 @@ width_parts dropped n o =
     length-append (head dropped n o ++ own (body (λ k. 0) n o)) (tail o) ∙ ap (λ k. k + length (tail o)) (length-append (head dropped n o) (own (body (λ k. 0) n o)) ∙ ap (λ k. length (head dropped n o) + k) (same o))
   where
     same : (o : Op) → length (own (body (λ k. 0) n o)) ≡ length (own (body (λ k. 0) 0 o))
-    same op.Enter = refl
+    same Op.Enter = refl
     same _ = refl
 
 pub place_none : (d : ℕ → Bool) (lines : List Op) → 2 ≡ place d lines 0

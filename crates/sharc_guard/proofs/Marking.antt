@@ -1,13 +1,6 @@
 -- The notes of the pass say what is known.
-use mathlib.Core.Path.{fun_ext}
-use Rattle.std.proofs.{Common.{◌≡◌, ◌≢◌, ℕ, ◌+◌, ◌<◌, ◌≤◌, Bool, true, false, not, ◌&&◌, ◌||◌, Option, Some, None, refl, sym, ap, ◌∙◌, arith, cond, nat_lt}, lemmas.Bool.Decides.nat_tests}
-use Rattle.std.specs.Prelude.{◌==◌, nat_le}
-use Rattle.sharc_heap.specs.{declared.shadow_word.Kind.Kind, declared.shadow_word.Kind.TheVariants.{Read, Write}}
-use Rattle.sharc_flat.specs.declared.op.Op.{Op}
-use Rattle.sharc_flat.specs.declared.op.Op.TheVariants as op
-use Rattle.sharc_guard.specs.{declared.marks.Copied.Copied, declared.marks.KnownNumber.KnownNumber, declared.marks.PassedCheck.PassedCheck, declared.operations.Copying.Copying, Known.{writes_ref, writes_int, SimplePlace, in_variable, in_global, same_place, assigns, counts, Access, access, tells, Know, nothing, number_given, copy_given, unless_written, with_element, place_of, is_at, passes_by, know_next}, Marked.{access_of, copy_of, number_of_line, Notes, or_never, copy_by, number_by, passed_by, passed_at, know_of, with_written, with_copy, with_number, stronger, with_place, with_access, CopyBefore, NumberBefore, PassedBefore, AreBefore}}
-use Rattle.sharc_guard.proofs.Repeating.{eq_same, true_false}
-use Rattle.sharc_lemmas.proofs.{Bools.{or_false, and_false, and_true}, Options.{same_some as some_is}, Numbers.{eqb_other as eq_other, is_below as lt_true, same_number as eq_true, le_true2 as le_true}}
+use Rattle.sharc_guard.proofs.{Imports.{fun_ext, ◌≡◌, ◌≢◌, ℕ, ◌+◌, ◌<◌, ◌≤◌, Bool, true, false, not, ◌&&◌, ◌||◌, Option, Some, None, refl, sym, ap, ◌∙◌, arith, cond, nat_lt, nat_tests, ◌==◌, nat_le, Kind, Read, Write, Op, Copied, KnownNumber, PassedCheck, Copying, writes_ref, writes_int, SimplePlace, in_variable, in_global, same_place, assigns, counts, Access, access, tells, Know, nothing, number_given, copy_given, unless_written, with_element, place_of, is_at, passes_by, know_next, copy_of, number_of_line, Notes, or_never, copy_by, number_by, passed_by, passed_at, know_of, with_written, with_copy, with_number, stronger, with_place, with_access, CopyBefore, NumberBefore, PassedBefore, AreBefore, or_false, and_false, and_true, some_is, eqb_other as eq_other, lt_true, eq_true, le_true}, Repeating.{eq_same, true_false}}
+use Rattle.sharc_guard.specs.Marked.{access_of}
 
 -- ---- tests
 lt_false : (a b : ℕ) → b ≤ a → nat_lt a b ≡ false
@@ -118,7 +111,7 @@ module _ (o : Op) (t : ℕ) (a : Notes) (b : AreUpTo t a) where
   copy_now r None e = copy_old r (a.copies r) (b.copies r) ∙ ap (λ z. cond (writes_ref o r) z (unless_written o (copy_by a.floor a.written (or_never (a.written r)) (a.copies r)))) (sym (no_copy o e))
     where
       no_copy : (o : Op) → copy_of o ≡ None → copy_given o ≡ None
-      no_copy (op.Local d y) e = by (d == y) e
+      no_copy (Op.Local d y) e = by (d == y) e
         where
           by : (z : Bool) → cond {A = Option Copying} z None (Some record { register = d; variable = y }) ≡ None → cond z None (Some y) ≡ None
           by true e = refl
@@ -126,19 +119,19 @@ module _ (o : Op) (t : ℕ) (a : Notes) (b : AreUpTo t a) where
       no_copy _ e = refl
   copy_now r (Some c) e = at_register (r == c.register) refl
     where
-      made : (o ≡ op.Local c.register c.variable) × (c.register ≢ c.variable)
+      made : (o ≡ Op.Local c.register c.variable) × (c.register ≢ c.variable)
       made = copying o c e
         where
-          copying : (o : Op) (c : Copying) → copy_of o ≡ Some c → (o ≡ op.Local c.register c.variable) × (c.register ≢ c.variable)
-          copying (op.Local d y) c e = by (d == y) refl e
+          copying : (o : Op) (c : Copying) → copy_of o ≡ Some c → (o ≡ Op.Local c.register c.variable) × (c.register ≢ c.variable)
+          copying (Op.Local d y) c e = by (d == y) refl e
             where
-              by : (z : Bool) → (d == y) ≡ z → cond {A = Option Copying} z None (Some record { register = d; variable = y }) ≡ Some c → (op.Local d y ≡ op.Local c.register c.variable) × (c.register ≢ c.variable)
+              by : (z : Bool) → (d == y) ≡ z → cond {A = Option Copying} z None (Some record { register = d; variable = y }) ≡ Some c → (Op.Local d y ≡ Op.Local c.register c.variable) × (c.register ≢ c.variable)
               by true z e = absurd (cc)
               by false z e =
                   let same : record { register = d; variable = y } ≡ c = some_is record { register = d; variable = y } c e in
                   let er : d ≡ c.register = ap (λ (c : Copying). c.register) same in
                   let ev : y ≡ c.variable = ap (λ (c : Copying). c.variable) same in
-                  (ap (λ d. op.Local d y) er ∙ ap (op.Local c.register) ev, λ q. true_false (sym (eq_same d y (er ∙ q ∙ sym ev)) ∙ z))
+                  (ap (λ d. Op.Local d y) er ∙ ap (Op.Local c.register) ev, λ q. true_false (sym (eq_same d y (er ∙ q ∙ sym ev)) ∙ z))
           copying _ c e = absurd (cc)
 
       variable_kept : writes_ref o c.variable ≡ false
@@ -359,8 +352,8 @@ module _ (t : ℕ) (s : Notes) (b : AreBefore t s) where
           in_place (Some p) e = at_place a p ez e
 
   number_same : (o : Op) (i : ℕ) → writes_int o i ≡ true → number_of_line o k ≡ number_given o (k.number i)
-  number_same (op.Bounds j r cells field spot) i w = ap (λ j. with_element cells field (k.number j)) (sym (eq_true i j w))
-  number_same (op.GlobalBounds j elements cells field spot) i w = ap (λ j. with_element cells field (k.number j)) (sym (eq_true i j w))
+  number_same (Op.Bounds j r cells field spot) i w = ap (λ j. with_element cells field (k.number j)) (sym (eq_true i j w))
+  number_same (Op.GlobalBounds j elements cells field spot) i w = ap (λ j. with_element cells field (k.number j)) (sym (eq_true i j w))
   number_same _ i w = refl
 
   -- after an operation of a straight piece

@@ -1,12 +1,6 @@
 -- Where guarded code is after one turn of flat code.
-use Rattle.std.proofs.Common.{◌≡◌, ℕ, ℤ, zero, suc, ◌+◌, ◌≤◌, ◌⊎◌, inl, Bool, List, [], ◌∷◌, length, refl, ap, ◌∙◌, arith}
-use Rattle.sharc_tree.specs.declared.event.CellAt.{CellAt}
-use Rattle.sharc_code.specs.{declared.instr.Instr.Instr, declared.instr.Instr.TheVariants.{RaiseLoaded, Lower, MoveReference}}
-use Rattle.sharc_meaning.specs.{declared.given.GivenUp.TheVariants.Replaced, Events.held_mutexes, State.{event_of, answer_of}}
-use Rattle.sharc_flat.specs.Machine.{Flat, At, Turn, goes, asks, halts, with_event}
+use Rattle.sharc_guard.proofs.{Imports.{◌≡◌, ℕ, ℤ, zero, suc, ◌+◌, ◌≤◌, ◌⊎◌, inl, Bool, List, [], ◌∷◌, length, refl, ap, ◌∙◌, arith, CellAt, Instr, RaiseLoaded, Lower, MoveReference, Replaced, held_mutexes, event_of, answer_of, Flat, At, Turn, goes, asks, halts, with_event, Program, Thread, Phase, Running, Leaving, Left, place, guarded, IsLevel, IsEnd, IsSettling, AreLowered, OverwritesNone}, Beside.beside, Ready.Ready}
 use Rattle.sharc_guard.specs.Machine as Form
-use Rattle.sharc_guard.specs.{Machine.{Program, Thread, Phase, Running, Leaving, Left}, Guard.{place, guarded}, Level.IsLevel, Counted.{IsEnd, IsSettling, AreLowered, OverwritesNone}}
-use Rattle.sharc_guard.proofs.{Beside.beside, Ready.Ready}
 
 -- what the statement does that settles the counts
 abbrev pub quiet : Instr → Thread → Thread

@@ -1,11 +1,6 @@
 -- What an entry of a table makes of the notes.
-use mathlib.Core.Path.{fun_ext}
-use Rattle.std.proofs.Common.{◌≡◌, ℕ, ◌+◌, Bool, true, false, ◌&&◌, ◌||◌, Option, Some, refl, sym, ap, ◌∙◌, subst, cond}
-use Rattle.std.specs.Prelude.{◌==◌, OnOk, Result, Ok, Err}
-use Rattle.sharc_heap.specs.{declared.shadow_word.Kind.Kind, declared.shadow_word.Kind.TheVariants.Write}
-use Rattle.sharc_flat.specs.declared.op.Op.{Op}
-use Rattle.sharc_guard.specs.{declared.marks.Copied.Copied, declared.marks.KnownNumber.KnownNumber, declared.marks.PassedCheck.PassedCheck, declared.operations.Copying.Copying, declared.operations.Written.Written, Known.{SimplePlace, in_variable, in_global, access, know_next, writes_int, writes_ref}, Marked.{access_of, copy_of, is_one, is_written, number_of_line, Notes, know_of, passed_at, noted_place, stronger, with_access, with_copy, with_noted, with_number, with_place, with_written, AreBefore}}
-use Rattle.sharc_guard.proofs.Marking.{turned, known_after, noted_before}
+use Rattle.sharc_guard.proofs.{Imports.{fun_ext, ◌≡◌, ℕ, ◌+◌, Bool, true, false, ◌&&◌, ◌||◌, Option, Some, refl, sym, ap, ◌∙◌, subst, cond, ◌==◌, OnOk, Result, Ok, Err, Kind, Write, Op, Copied, KnownNumber, PassedCheck, Copying, Written, SimplePlace, in_variable, in_global, access, know_next, writes_int, writes_ref, copy_of, is_one, is_written, number_of_line, Notes, know_of, passed_at, noted_place, stronger, with_access, with_copy, with_noted, with_number, with_place, with_written, AreBefore}, Marking.{turned, known_after, noted_before}}
+use Rattle.sharc_guard.specs.Marked.{access_of}
 
 pub on_ok : {A E : Type 0} (P Q : Type 0) (r : Result A E) → (P → Q) → OnOk r P → OnOk r Q
 on_ok P Q (Ok x) f h = f h

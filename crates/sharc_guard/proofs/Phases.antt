@@ -1,17 +1,10 @@
 -- Where guarded code is, beside flat code.
-use Rattle.std.proofs.{Common.{◌≡◌, ℕ, ℤ, pos, zero, suc, ◌+◌, ◌*◌, ◌<◌, ◌≤◌, ◌⊎◌, inl, inr, Bool, true, false, List, [], ◌∷◌, ◌++◌, length, Some, refl, sym, ap, ◌∙◌, subst, arith, ⊎_elim, append-nil}, lemmas.Option.slice_get-get_or}
-use Rattle.std.specs.Prelude.{slice_get}
-use Rattle.sharc_code.specs.{declared.code.PlaceMode.PlaceMode, declared.code.PlaceMode.TheVariants.Dynamic, declared.instr.Instr.Instr, declared.instr.Instr.TheVariants.{ChkRead, ChkWrite, RaiseLoaded, Lower, MoveReference}, declared.instr.Width.TheVariants.Char}
-use Rattle.sharc_meaning.specs.Events.{held_mutexes}
-use Rattle.sharc_flat.specs.{declared.op.Op.Op, declared.op.Spot.Spot, Machine.{Flat, At, goes, next, line_turn, op_turn, turn}, Path.{may_go, at_after, IsPath as IsFlatPath, asked_by, asked}}
-use Rattle.sharc_flat.specs.declared.op.Op.TheVariants as op
-use Rattle.sharc_guard.specs.{Machine.{Program, Thread}, Path.weight, Guard.{place, guarded, check_under, head, own, body, tail}, Level.{Enters, Level, IsLevel}, Asked.{is_enter, moves}, Counted.{AreLowered, LockStands}}
-use Rattle.sharc_guard.proofs.{Placing.HasAt, Places.{pieces, stands, place_next, place_of}, Walking.IsIdle, Turns.behind, Beside.beside, Ready.{Ready, enters}, Near.{IsQuiet, SettlingBy, Near, Ending}, Turning.IsOpenFor, Gates.{Guards, heads}}
+use Rattle.sharc_guard.proofs.{Imports.{◌≡◌, ℕ, ℤ, pos, zero, suc, ◌+◌, ◌*◌, ◌<◌, ◌≤◌, ◌⊎◌, inl, inr, Bool, true, false, List, [], ◌∷◌, ◌++◌, length, Some, refl, sym, ap, ◌∙◌, subst, arith, ⊎_elim, append-nil, slice_get-get_or, slice_get, PlaceMode, Dynamic, Instr, ChkRead, ChkWrite, RaiseLoaded, Lower, MoveReference, Char, held_mutexes, Op, Spot, Flat, At, goes, next, line_turn, op_turn, turn, may_go, at_after, IsFlatPath, asked_by, asked, Program, Thread, weight, place, guarded, check_under, head, own, body, tail, Enters, Level, IsLevel, is_enter, moves, AreLowered, LockStands}, Placing.HasAt, Places.{pieces, stands, place_next, place_of}, Walking.IsIdle, Turns.behind, Beside.beside, Ready.{Ready, enters}, Near.{IsQuiet, SettlingBy, Near, Ending}, Turning.IsOpenFor, Gates.{Guards, heads}}
 
 -- it does not only enter an expression
 abbrev pub IsMoving : Op → Type 0
-IsMoving op.Enter = ⊥
-IsMoving op.BlockEnd = ⊥
+IsMoving Op.Enter = ⊥
+IsMoving Op.BlockEnd = ⊥
 IsMoving _ = Unit {0}
 
 -- ---- turns of one statement
@@ -25,13 +18,13 @@ few_checks chk spot false Dynamic s = omega arith
 few_checks chk spot d _ s = omega arith
 
 pub few_turns : (pl : ℕ → ℕ) (s : ℕ) (d : Bool) (o : Op) → length (head d s o) + (weight_all (own (body pl s o)) + length (tail o)) ≤ 4
-few_turns pl s d (op.Compute Char o i a b spot) = omega arith
-few_turns pl s d (op.Negate Char i a spot) = omega arith
-few_turns pl s d (op.Load i cell spot) = let f = few_checks (ChkRead cell s) spot d spot.mode s in omega arith
-few_turns pl s d (op.Store i cell spot) = let f = few_checks (ChkWrite cell s) spot d spot.mode s in omega arith
-few_turns pl s d (op.LoadRef r cell spot) = let f = few_checks (ChkRead cell s) spot false spot.mode s in omega arith
-few_turns pl s d (op.StoreRef r cell spot) = let f = few_checks (ChkWrite cell s) spot false spot.mode s in omega arith
-few_turns pl s d (op.TakeCell r cell spot) = let f = few_checks (ChkWrite cell s) spot false spot.mode s in omega arith
+few_turns pl s d (Op.Compute Char o i a b spot) = omega arith
+few_turns pl s d (Op.Negate Char i a spot) = omega arith
+few_turns pl s d (Op.Load i cell spot) = let f = few_checks (ChkRead cell s) spot d spot.mode s in omega arith
+few_turns pl s d (Op.Store i cell spot) = let f = few_checks (ChkWrite cell s) spot d spot.mode s in omega arith
+few_turns pl s d (Op.LoadRef r cell spot) = let f = few_checks (ChkRead cell s) spot false spot.mode s in omega arith
+few_turns pl s d (Op.StoreRef r cell spot) = let f = few_checks (ChkWrite cell s) spot false spot.mode s in omega arith
+few_turns pl s d (Op.TakeCell r cell spot) = let f = few_checks (ChkWrite cell s) spot false spot.mode s in omega arith
 few_turns pl s d _ = omega arith
 
 settling_next : (m : At) (a : Thread) (k : ℕ) (rest : List Instr) → IsQuiet rest → SettlingBy rest a m k → SettlingBy rest a (next m) k
@@ -104,23 +97,23 @@ module _ (dropped : ℕ → Bool) (flat : Flat) (level : IsLevel flat) where
 
   -- ---- over what only enters an expression
   idle_length : (q : ℕ) (d : Bool) (o : Op) → IsIdle o → length (pieces pl d q o) ≡ 0
-  idle_length q d op.Enter h = refl
-  idle_length q d op.BlockEnd h = refl
+  idle_length q d Op.Enter h = refl
+  idle_length q d Op.BlockEnd h = refl
   idle_length q d _ h = absurd h
 
   idle_enters : (q : ℕ) (o : Op) → IsIdle o → Level flat level.owner level.gives level.slots q (level.owner q) (level.slots q) o → Enters flat level.owner level.gives level.slots (level.owner q) (level.slots q) (q + 1)
-  idle_enters q op.Enter h l = l
-  idle_enters q op.BlockEnd h l = l
+  idle_enters q Op.Enter h l = l
+  idle_enters q Op.BlockEnd h l = l
   idle_enters q _ h l = absurd h
 
   idle_turn : (m : At) (o : Op) → IsIdle o → op_turn flat o m ≡ goes (next m)
-  idle_turn m op.Enter h = refl
-  idle_turn m op.BlockEnd h = refl
+  idle_turn m Op.Enter h = refl
+  idle_turn m Op.BlockEnd h = refl
   idle_turn m _ h = absurd h
 
   idle_enter : (o : Op) → IsIdle o → is_enter (Some o) ≡ 0
-  idle_enter op.Enter h = refl
-  idle_enter op.BlockEnd h = refl
+  idle_enter Op.Enter h = refl
+  idle_enter Op.BlockEnd h = refl
   idle_enter _ h = absurd h
 
   entered : (m : At) (a : Thread) (rest : List Instr) (o : Op) → IsIdle o → Near dropped flat level m a rest → slice_get flat.lines m.pc ≡ Some o → Near dropped flat level (next m) a rest
@@ -156,11 +149,11 @@ module _ (dropped : ℕ → Bool) (flat : Flat) (level : IsLevel flat) where
     pub more : length zs ≤ length ys
 
   line_at : (pc : ℕ) → pc < length flat.lines → (o : Op) × (slice_get flat.lines pc ≡ Some o)
-  line_at pc lt = (_, slice_get-get_or flat.lines pc op.Enter lt)
+  line_at pc lt = (_, slice_get-get_or flat.lines pc Op.Enter lt)
 
   is_entering : (o : Op) → IsIdle o ⊎ IsMoving o
-  is_entering op.Enter = inl tt
-  is_entering op.BlockEnd = inl tt
+  is_entering Op.Enter = inl tt
+  is_entering Op.BlockEnd = inl tt
   is_entering _ = inr tt
 
   pub enters_all : (n : ℕ) (from : At) (a : Thread) (rest : List Instr) (zs : List ℤ) → IsFlatPath flat from zs → Near dropped flat level (at_after flat from zs) a rest → length flat.lines ≤ (at_after flat from zs).pc + n → Entered from a rest zs

@@ -1,46 +1,40 @@
 -- Where the pieces of guarded code lie, and what the site of a line says.
-use Rattle.std.proofs.Common.{◌≡◌, ℕ, Bool, ◌+◌, ◌<◌, ◌≤◌, List, [], ◌∷◌, ◌++◌, length, Option, Some, None, sym, ap, ◌∙◌, subst, append_assoc}
-use Rattle.std.specs.Prelude.{slice_get}
-use Rattle.sharc_code.specs.{declared.code.PlaceMode.TheVariants.Readonly, declared.code.SourcePlace.SourcePlace, declared.instr.Instr.Instr}
-use Rattle.sharc_flat.specs.{declared.op.Op.Op, declared.op.Spot.Spot, Machine.Flat}
-use Rattle.sharc_flat.specs.declared.op.Op.TheVariants as op
-use Rattle.sharc_guard.specs.{Machine.source_at, Guard.{place, guarded, source_of, head, own, body, tail, expand}}
-use Rattle.sharc_guard.proofs.Placing.{HasAt, stands as stands_at, place_next as next_at, source_is as source_of_line}
+use Rattle.sharc_guard.proofs.{Imports.{◌≡◌, ℕ, Bool, ◌+◌, ◌<◌, ◌≤◌, List, [], ◌∷◌, ◌++◌, length, Option, Some, None, sym, ap, ◌∙◌, subst, append_assoc, slice_get, Readonly, SourcePlace, Instr, Op, Spot, Flat, source_at, place, guarded, source_of, head, own, body, tail, expand}, Placing.{HasAt, stands as stands_at, place_next as next_at, source_is as source_of_line}}
 
 -- ---- sites
 -- what an operation is in the source, if it may stop, check or ask; the pointer to a mutex is readonly
 abbrev pub spot_of : Op → Option Spot
-spot_of (op.Compute width o i a b spot) = Some spot
-spot_of (op.Negate width i a spot) = Some spot
-spot_of (op.ChkWidth width i spot) = Some spot
-spot_of (op.Call f ints refs spot) = Some spot
-spot_of (op.Return spot) = Some spot
-spot_of (op.ChkNull r spot) = Some spot
-spot_of (op.ChkPositive i spot) = Some spot
-spot_of (op.ChkHeld cell spot) = Some spot
-spot_of (op.ChkNotHeld cell spot) = Some spot
-spot_of (op.ChkRoom spot) = Some spot
-spot_of (op.Bounds i r cells field spot) = Some spot
-spot_of (op.GlobalBounds i elements cells field spot) = Some spot
-spot_of (op.Load i cell spot) = Some spot
-spot_of (op.Store i cell spot) = Some spot
-spot_of (op.LoadRef r cell spot) = Some spot
-spot_of (op.StoreRef r cell spot) = Some spot
-spot_of (op.LoadGuard cell spot) = Some (record spot { mode = Readonly })
-spot_of (op.New r count cells spot) = Some spot
-spot_of (op.TakeCell r cell spot) = Some spot
-spot_of (op.TakeLocal r x spot) = Some spot
-spot_of (op.Give r cells spot) = Some spot
-spot_of (op.Free r layout spot) = Some spot
-spot_of (op.Lock cell spot) = Some spot
-spot_of (op.Unlock r cell spot) = Some spot
-spot_of (op.CondEnter cell spot) = Some spot
-spot_of (op.CondWait cell spot) = Some spot
-spot_of (op.CondSignal cell spot) = Some spot
-spot_of (op.CondBroadcast cell spot) = Some spot
-spot_of (op.Spawn i f from spot) = Some spot
-spot_of (op.Join i spot) = Some spot
-spot_of (op.Print i spot) = Some spot
+spot_of (Op.Compute width o i a b spot) = Some spot
+spot_of (Op.Negate width i a spot) = Some spot
+spot_of (Op.ChkWidth width i spot) = Some spot
+spot_of (Op.Call f ints refs spot) = Some spot
+spot_of (Op.Return spot) = Some spot
+spot_of (Op.ChkNull r spot) = Some spot
+spot_of (Op.ChkPositive i spot) = Some spot
+spot_of (Op.ChkHeld cell spot) = Some spot
+spot_of (Op.ChkNotHeld cell spot) = Some spot
+spot_of (Op.ChkRoom spot) = Some spot
+spot_of (Op.Bounds i r cells field spot) = Some spot
+spot_of (Op.GlobalBounds i elements cells field spot) = Some spot
+spot_of (Op.Load i cell spot) = Some spot
+spot_of (Op.Store i cell spot) = Some spot
+spot_of (Op.LoadRef r cell spot) = Some spot
+spot_of (Op.StoreRef r cell spot) = Some spot
+spot_of (Op.LoadGuard cell spot) = Some (record spot { mode = Readonly })
+spot_of (Op.New r count cells spot) = Some spot
+spot_of (Op.TakeCell r cell spot) = Some spot
+spot_of (Op.TakeLocal r x spot) = Some spot
+spot_of (Op.Give r cells spot) = Some spot
+spot_of (Op.Free r layout spot) = Some spot
+spot_of (Op.Lock cell spot) = Some spot
+spot_of (Op.Unlock r cell spot) = Some spot
+spot_of (Op.CondEnter cell spot) = Some spot
+spot_of (Op.CondWait cell spot) = Some spot
+spot_of (Op.CondSignal cell spot) = Some spot
+spot_of (Op.CondBroadcast cell spot) = Some spot
+spot_of (Op.Spawn i f from spot) = Some spot
+spot_of (Op.Join i spot) = Some spot
+spot_of (Op.Print i spot) = Some spot
 spot_of _ = None
 
 pub record IsPlaceOf (s : Spot) (p : SourcePlace) : Type 0 where
@@ -58,37 +52,37 @@ none : {A : Type 0} (s : Spot) → None ≡ Some s → A
 none s e = absurd (cc)
 
 source_is : (o : Op) (s : Spot) → spot_of o ≡ Some s → IsPlaceOf s (source_of o)
-source_is (op.Compute width o i a b spot) s e = place_is spot s e
-source_is (op.Negate width i a spot) s e = place_is spot s e
-source_is (op.ChkWidth width i spot) s e = place_is spot s e
-source_is (op.Call f ints refs spot) s e = place_is spot s e
-source_is (op.Return spot) s e = place_is spot s e
-source_is (op.ChkNull r spot) s e = place_is spot s e
-source_is (op.ChkPositive i spot) s e = place_is spot s e
-source_is (op.ChkHeld cell spot) s e = place_is spot s e
-source_is (op.ChkNotHeld cell spot) s e = place_is spot s e
-source_is (op.ChkRoom spot) s e = place_is spot s e
-source_is (op.Bounds i r cells field spot) s e = place_is spot s e
-source_is (op.GlobalBounds i elements cells field spot) s e = place_is spot s e
-source_is (op.Load i cell spot) s e = place_is spot s e
-source_is (op.Store i cell spot) s e = place_is spot s e
-source_is (op.LoadRef r cell spot) s e = place_is spot s e
-source_is (op.StoreRef r cell spot) s e = place_is spot s e
-source_is (op.LoadGuard cell spot) s e = place_is (record spot { mode = Readonly }) s e
-source_is (op.New r count cells spot) s e = place_is spot s e
-source_is (op.TakeCell r cell spot) s e = place_is spot s e
-source_is (op.TakeLocal r x spot) s e = place_is spot s e
-source_is (op.Give r cells spot) s e = place_is spot s e
-source_is (op.Free r layout spot) s e = place_is spot s e
-source_is (op.Lock cell spot) s e = place_is spot s e
-source_is (op.Unlock r cell spot) s e = place_is spot s e
-source_is (op.CondEnter cell spot) s e = place_is spot s e
-source_is (op.CondWait cell spot) s e = place_is spot s e
-source_is (op.CondSignal cell spot) s e = place_is spot s e
-source_is (op.CondBroadcast cell spot) s e = place_is spot s e
-source_is (op.Spawn i f from spot) s e = place_is spot s e
-source_is (op.Join i spot) s e = place_is spot s e
-source_is (op.Print i spot) s e = place_is spot s e
+source_is (Op.Compute width o i a b spot) s e = place_is spot s e
+source_is (Op.Negate width i a spot) s e = place_is spot s e
+source_is (Op.ChkWidth width i spot) s e = place_is spot s e
+source_is (Op.Call f ints refs spot) s e = place_is spot s e
+source_is (Op.Return spot) s e = place_is spot s e
+source_is (Op.ChkNull r spot) s e = place_is spot s e
+source_is (Op.ChkPositive i spot) s e = place_is spot s e
+source_is (Op.ChkHeld cell spot) s e = place_is spot s e
+source_is (Op.ChkNotHeld cell spot) s e = place_is spot s e
+source_is (Op.ChkRoom spot) s e = place_is spot s e
+source_is (Op.Bounds i r cells field spot) s e = place_is spot s e
+source_is (Op.GlobalBounds i elements cells field spot) s e = place_is spot s e
+source_is (Op.Load i cell spot) s e = place_is spot s e
+source_is (Op.Store i cell spot) s e = place_is spot s e
+source_is (Op.LoadRef r cell spot) s e = place_is spot s e
+source_is (Op.StoreRef r cell spot) s e = place_is spot s e
+source_is (Op.LoadGuard cell spot) s e = place_is (record spot { mode = Readonly }) s e
+source_is (Op.New r count cells spot) s e = place_is spot s e
+source_is (Op.TakeCell r cell spot) s e = place_is spot s e
+source_is (Op.TakeLocal r x spot) s e = place_is spot s e
+source_is (Op.Give r cells spot) s e = place_is spot s e
+source_is (Op.Free r layout spot) s e = place_is spot s e
+source_is (Op.Lock cell spot) s e = place_is spot s e
+source_is (Op.Unlock r cell spot) s e = place_is spot s e
+source_is (Op.CondEnter cell spot) s e = place_is spot s e
+source_is (Op.CondWait cell spot) s e = place_is spot s e
+source_is (Op.CondSignal cell spot) s e = place_is spot s e
+source_is (Op.CondBroadcast cell spot) s e = place_is spot s e
+source_is (Op.Spawn i f from spot) s e = place_is spot s e
+source_is (Op.Join i spot) s e = place_is spot s e
+source_is (Op.Print i spot) s e = place_is spot s e
 source_is _ s e = none s e
 
 -- the statements of a line

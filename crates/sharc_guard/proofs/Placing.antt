@@ -1,9 +1,5 @@
 -- Where the statements of lines lie.
-use Rattle.std.proofs.{Common.{◌≡◌, ℕ, zero, suc, ◌+◌, Bool, List, [], ◌∷◌, ◌++◌, length, map, refl, sym, ap, ◌∙◌, subst, arith, Some, slice_get, slice_index_or}, lemmas.List.length-append}
-use Rattle.sharc_code.specs.{declared.instr.Instr.Instr, declared.instr.Instr.TheVariants.{Start, Exit}, declared.code.SourcePlace.SourcePlace}
-use Rattle.sharc_flat.specs.{declared.op.Op.Op, Machine.Flat}
-use Rattle.sharc_flat.specs.declared.op.Op.TheVariants as op
-use Rattle.sharc_guard.specs.{Machine.{Program, statement_at, source_at}, Guard.{expand, width, offset, place, expanded, guarded, source_of, head, own, body, tail}}
+use Rattle.sharc_guard.proofs.Imports.{◌≡◌, ℕ, zero, suc, ◌+◌, Bool, List, [], ◌∷◌, ◌++◌, length, map, refl, sym, ap, ◌∙◌, subst, arith, Some, slice_get, get_or as slice_index_or, length-append, Instr, Start, Exit, SourcePlace, Op, Flat, Program, statement_at, source_at, expand, width, offset, place, expanded, guarded, source_of, head, own, body, tail}
 
 -- the statements lie in the list from a place on
 abbrev pub HasAt : List Instr → ℕ → List Instr → Type 0
@@ -24,7 +20,7 @@ first (x ∷ xs) g = (refl, subst (λ n. HasAt (x ∷ (xs ++ g)) n xs) (omega ar
 
 -- where the lines have gone does not change how many statements an operation becomes
 own_length : (pl : ℕ → ℕ) (n : ℕ) (o : Op) → length (own (body pl n o)) ≡ length (own (body (λ k. 0) n o))
-own_length pl n op.Enter = refl
+own_length pl n Op.Enter = refl
 own_length pl n _ = refl
 
 pub width_is : (pl : ℕ → ℕ) (dropped : Bool) (n : ℕ) (o : Op) → length (expand pl dropped n o) ≡ width dropped n o

@@ -1,13 +1,5 @@
 -- What is known of checks is what the lines of the piece say.
-use Rattle.std.proofs.{Common.{◌≡◌, ◌≢◌, ℕ, ℤ, pos, negsuc, zero, suc, ◌+◌, ◌*◌, ◌^◌, ◌<◌, ◌≤◌, ◌⊎◌, inl, inr, Bool, true, false, not, ◌&&◌, ◌||◌, Option, Some, None, refl, sym, ap, ◌∙◌, subst, arith, cond, ⊎_elim, nat_lt}, lemmas.Bool.{cases_lt, ltb-true, lt-ltb, or_right, or_left, and_from as and_both, not_from_false as true_not}, lemmas.Bool.Decides.nat_tests}
-use Rattle.std.specs.Prelude.{slice_get, ◌==◌}
-use Rattle.sharc_heap.specs.{declared.shadow_word.Kind.Kind, declared.shadow_word.Kind.TheVariants.{Read, Write}}
-use Rattle.sharc_code.specs.{declared.code.PlaceMode.PlaceMode, declared.code.PlaceMode.TheVariants.Dynamic, declared.instr.Cell.Cell}
-use Rattle.sharc_code.specs.declared.instr.Cell.TheVariants as cells
-use Rattle.sharc_flat.specs.{declared.op.Spot.Spot, declared.op.Op.Op, Machine.Flat}
-use Rattle.sharc_flat.specs.declared.op.Op.TheVariants as op
-use Rattle.sharc_guard.specs.{Known.{is_straight, is_target, writes_ref, writes_int, SimplePlace, in_variable, in_global, same_place, assigns, counts, Access, access, is_dynamic, tells, Know, nothing, few, of_constant, element, with_element, number_given, copy_given, unless_written, variable_place, global_place, place_of, is_at, passes_by, know_next, know_after, known, has_passed, drops_at, dropped}, Repeated.{IsStraight, Keeps, IsPiece, AllKeep, IsCopy, IsNumber, constant, of_object, of_global, IsPlaceAt, IsSimple, IsChecked, IsOfInteger, IsRepeated, DropsRepeated, ItsCheckStands, RepeatedCheckStands}}
-use Rattle.sharc_lemmas.proofs.{Options.{same_some as some_is}, Bools.{and_left, or_split as or_either, not_true, and_right, false_true}, Numbers.{eqb_other as eq_other, same_number as eq_true}}
+use Rattle.sharc_guard.proofs.Imports.{◌≡◌, ◌≢◌, ℕ, ℤ, pos, negsuc, zero, suc, ◌+◌, ◌*◌, ◌^◌, ◌<◌, ◌≤◌, ◌⊎◌, inl, inr, Bool, true, false, not, ◌&&◌, ◌||◌, Option, Some, None, refl, sym, ap, ◌∙◌, subst, arith, cond, ⊎_elim, nat_lt, cases_lt, ltb-true, lt-ltb, or_right, or_left, and_both, true_not, nat_tests, slice_get, ◌==◌, Kind, Read, Write, PlaceMode, Dynamic, Cell, Spot, Op, Flat, is_straight, is_target, writes_ref, writes_int, SimplePlace, in_variable, in_global, same_place, assigns, counts, Access, access, is_dynamic, tells, Know, nothing, few, of_constant, element, with_element, number_given, copy_given, unless_written, variable_place, global_place, place_of, is_at, passes_by, know_next, know_after, known, has_passed, drops_at, dropped, IsStraight, Keeps, IsPiece, AllKeep, IsCopy, IsNumber, constant, of_object, of_global, IsPlaceAt, IsSimple, IsChecked, IsOfInteger, IsRepeated, DropsRepeated, ItsCheckStands, RepeatedCheckStands, some_is, and_left, or_either, not_true, and_right, false_true, eqb_other as eq_other, eq_true}
 
 -- ---- tests
 pub eq_same : (m n : ℕ) → m ≡ n → (m == n) ≡ true
@@ -37,15 +29,15 @@ tells_both : (spot : Spot) → spot.mode ≡ Dynamic → spot.is_simple ≡ true
 tells_both spot e s = and_both (is_dynamic spot.mode) spot.is_simple (ap is_dynamic e) s
 
 -- ---- what operations give
-pub copy_is : (o : Op) (r x : ℕ) → writes_ref o r ≡ true → copy_given o ≡ Some x → (o ≡ op.Local r x) × (r ≢ x)
-copy_is (op.Local d y) r x w e = by (d == y) refl e
+pub copy_is : (o : Op) (r x : ℕ) → writes_ref o r ≡ true → copy_given o ≡ Some x → (o ≡ Op.Local r x) × (r ≢ x)
+copy_is (Op.Local d y) r x w e = by (d == y) refl e
   where
-    by : (b : Bool) → (d == y) ≡ b → cond b None (Some y) ≡ Some x → (op.Local d y ≡ op.Local r x) × (r ≢ x)
+    by : (b : Bool) → (d == y) ≡ b → cond b None (Some y) ≡ Some x → (Op.Local d y ≡ Op.Local r x) × (r ≢ x)
     by true eb e = absurd (cc)
     by false eb e =
         let same : r ≡ d = eq_true r d w in
         let of : y ≡ x = cc in
-        (ap (λ z. op.Local z y) (sym same) ∙ ap (op.Local r) of, λ q. (let z : (d == y) ≡ true = eq_same d y (sym same ∙ q ∙ sym of) in true_false (sym z ∙ eb)))
+        (ap (λ z. Op.Local z y) (sym same) ∙ ap (Op.Local r) of, λ q. (let z : (d == y) ≡ true = eq_same d y (sym same ∙ q ∙ sym of) in true_false (sym z ∙ eb)))
 copy_is _ r x w e = no_some x e
 
 few_is : (n v : ℕ) → few n ≡ Some v → (n ≡ v) × (v < 2 ^ 32)
@@ -150,18 +142,18 @@ module _ (flat : Flat) where
   says_nothing n = record { copies = λ r x e. no_some x e; numbers = λ i v e. no_some v e; passed = λ kind place e. false_true e }
 
   pub place_true : (n : ℕ) (k : Know) → Says n k → (cell : Cell) (place : SimplePlace) → place_of k cell ≡ Some place → IsPlaceAt flat cell place n
-  place_true n k h (cells.Global g c) place e = sym (some_is (in_global g c) place e)
-  place_true n k h (cells.GlobalAt g i) place e = by (k.number i) refl e
+  place_true n k h (Cell.Global g c) place e = sym (some_is (in_global g c) place e)
+  place_true n k h (Cell.GlobalAt g i) place e = by (k.number i) refl e
     where
       by : (q : Option ℕ) → k.number i ≡ q → global_place g q ≡ Some place → (v : ℕ) × IsNumber flat i v n × (place ≡ in_global g v)
       by None eq e = no_some place e
       by (Some v) eq e = (v, h.numbers i v eq, sym (some_is (in_global g v) place e))
-  place_true n k h (cells.Object r c) place e = by (k.copy r) refl e
+  place_true n k h (Cell.Object r c) place e = by (k.copy r) refl e
     where
       by : (q : Option ℕ) → k.copy r ≡ q → variable_place q (Some c) ≡ Some place → (x : ℕ) × IsCopy flat r x n × (place ≡ in_variable x c)
       by None eq e = no_some place e
       by (Some x) eq e = (x, h.copies r x eq, sym (some_is (in_variable x c) place e))
-  place_true n k h (cells.ObjectAt r i) place e = by (k.copy r) (k.number i) refl refl e
+  place_true n k h (Cell.ObjectAt r i) place e = by (k.copy r) (k.number i) refl refl e
     where
       by : (q p : Option ℕ) → k.copy r ≡ q → k.number i ≡ p → variable_place q p ≡ Some place → (x : ℕ) × (v : ℕ) × IsCopy flat r x n × IsNumber flat i v n × (place ≡ in_variable x v)
       by None p eq ep e = no_some place e
@@ -211,18 +203,18 @@ module _ (flat : Flat) where
     after_own c = λ j a b. absurd (omega arith)
 
     number_made : (o2 : Op) → L n ≡ Some o2 → (i v : ℕ) → writes_int o2 i ≡ true → number_given o2 (k.number i) ≡ Some v → IsNumber flat i v (suc n)
-    number_made (op.Constant d z) l i v w e =
+    number_made (Op.Constant d z) l i v w e =
         let same : i ≡ d = eq_true i d w in
         let c = constant_is z v e in
-        constant i v (suc n) n (omega arith) (l ∙ ap (λ d. Some (op.Constant d z)) (sym same) ∙ ap (λ z. Some (op.Constant i z)) c.0) c.1 one (after_own (λ o. writes_int o i))
-    number_made (op.Bounds d r cells field spot) l i v w e =
+        constant i v (suc n) n (omega arith) (l ∙ ap (λ d. Some (Op.Constant d z)) (sym same) ∙ ap (λ z. Some (Op.Constant i z)) c.0) c.1 one (after_own (λ o. writes_int o i))
+    number_made (Op.Bounds d r cells field spot) l i v w e =
         let same : i ≡ d = eq_true i d w in
         let c = element_is cells field v (k.number i) e in
-        of_object i v (suc n) n c.0 r cells field spot (omega arith) (l ∙ ap (λ d. Some (op.Bounds d r cells field spot)) (sym same)) (h.numbers i c.0 c.1) c.2 c.3 one (after_own (λ o. writes_int o i))
-    number_made (op.GlobalBounds d elements cells field spot) l i v w e =
+        of_object i v (suc n) n c.0 r cells field spot (omega arith) (l ∙ ap (λ d. Some (Op.Bounds d r cells field spot)) (sym same)) (h.numbers i c.0 c.1) c.2 c.3 one (after_own (λ o. writes_int o i))
+    number_made (Op.GlobalBounds d elements cells field spot) l i v w e =
         let same : i ≡ d = eq_true i d w in
         let c = element_is cells field v (k.number i) e in
-        of_global i v (suc n) n c.0 elements cells field spot (omega arith) (l ∙ ap (λ d. Some (op.GlobalBounds d elements cells field spot)) (sym same)) (h.numbers i c.0 c.1) c.2 c.3 one (after_own (λ o. writes_int o i))
+        of_global i v (suc n) n c.0 elements cells field spot (omega arith) (l ∙ ap (λ d. Some (Op.GlobalBounds d elements cells field spot)) (sym same)) (h.numbers i c.0 c.1) c.2 c.3 one (after_own (λ o. writes_int o i))
     number_made _ l i v w e = no_some v e
 
     number_more : (i v : ℕ) → writes_int o i ≡ false → IsNumber flat i v n → IsNumber flat i v (suc n)
@@ -313,10 +305,10 @@ module _ (flat : Flat) where
     pub passed : (kind : Kind) (place : SimplePlace) → IsChecked flat n kind place → k.passed kind place ≡ true
 
   pub place_known : (n : ℕ) (k : Know) → Knows n k → (cell : Cell) (place : SimplePlace) → IsPlaceAt flat cell place n → place_of k cell ≡ Some place
-  place_known n k h (cells.Global g c) place p = ap Some (sym p)
-  place_known n k h (cells.GlobalAt g i) place p = ap (global_place g) (h.numbers i p.0 p.1) ∙ ap Some (sym p.2)
-  place_known n k h (cells.Object r c) place p = ap (λ q. variable_place q (Some c)) (h.copies r p.0 p.1) ∙ ap Some (sym p.2)
-  place_known n k h (cells.ObjectAt r i) place p = ap (λ q. variable_place q (k.number i)) (h.copies r p.0 p.2) ∙ ap (variable_place (Some p.0)) (h.numbers i p.1 p.3) ∙ ap Some (sym p.4)
+  place_known n k h (Cell.Global g c) place p = ap Some (sym p)
+  place_known n k h (Cell.GlobalAt g i) place p = ap (global_place g) (h.numbers i p.0 p.1) ∙ ap Some (sym p.2)
+  place_known n k h (Cell.Object r c) place p = ap (λ q. variable_place q (Some c)) (h.copies r p.0 p.1) ∙ ap Some (sym p.2)
+  place_known n k h (Cell.ObjectAt r i) place p = ap (λ q. variable_place q (k.number i)) (h.copies r p.0 p.2) ∙ ap (variable_place (Some p.0)) (h.numbers i p.1 p.3) ∙ ap Some (sym p.4)
 
   module _ (n : ℕ) (o : Op) (at : L n ≡ Some o) (k : Know) (h : Knows n k) where
     of_line : (o2 : Op) → L n ≡ Some o2 → o ≡ o2
@@ -341,7 +333,7 @@ module _ (flat : Flat) where
         } in
         ap (λ b. cond b (copy_given o) (unless_written o (k.copy r))) w ∙ ap (unless_written o) (h.copies r x before) ∙ ap (λ b. cond b None (Some x)) v)
         (λ (e : n ≡ c.at).
-        let is : o ≡ op.Local r x = of_line (op.Local r x) (ap L e ∙ c.copies) in
+        let is : o ≡ Op.Local r x = of_line (Op.Local r x) (ap L e ∙ c.copies) in
         let w : writes_ref o r ≡ true = ap (λ o. writes_ref o r) is ∙ eq_same r r refl in
         ap (λ b. cond b (copy_given o) (unless_written o (k.copy r))) w ∙ ap copy_given is ∙ ap (λ b. cond b None (Some x)) (eq_other r x c.other))
         (earlier c.at c.before)
@@ -358,16 +350,16 @@ module _ (flat : Flat) where
     knows_number : (i v : ℕ) → IsNumber flat i v (suc n) → (know_next o k).number i ≡ Some v
     knows_number i v (constant _ _ _ m lt l f p q) = ⊎_elim
         (λ (before : m < n). number_kept i v m before q (h.numbers i v (constant i v n m before l f (piece_less m n p) (keep_less (λ o. writes_int o i) (m + 1) n q))))
-        (λ (e : n ≡ m). number_new (op.Constant i (pos v)) (of_line (op.Constant i (pos v)) (ap L e ∙ l)) i v (eq_same i i refl) (few_same v f))
+        (λ (e : n ≡ m). number_new (Op.Constant i (pos v)) (of_line (Op.Constant i (pos v)) (ap L e ∙ l)) i v (eq_same i i refl) (few_same v f))
         (earlier m lt)
     knows_number i v (of_object _ _ _ m u r cells field spot lt l from f e p q) = ⊎_elim
         (λ (before : m < n). number_kept i v m before q (h.numbers i v (of_object i v n m u r cells field spot before l from f e (piece_less m n p) (keep_less (λ o. writes_int o i) (m + 1) n q))))
-        (λ (z : n ≡ m). number_new (op.Bounds i r cells field spot) (of_line (op.Bounds i r cells field spot) (ap L z ∙ l)) i v (eq_same i i refl)
+        (λ (z : n ≡ m). number_new (Op.Bounds i r cells field spot) (of_line (Op.Bounds i r cells field spot) (ap L z ∙ l)) i v (eq_same i i refl)
         (ap (with_element cells field) (h.numbers i u (subst (λ m. IsNumber flat i u m) (sym z) from)) ∙ element_same cells field u v f e))
         (earlier m lt)
     knows_number i v (of_global _ _ _ m u elements cells field spot lt l from f e p q) = ⊎_elim
         (λ (before : m < n). number_kept i v m before q (h.numbers i v (of_global i v n m u elements cells field spot before l from f e (piece_less m n p) (keep_less (λ o. writes_int o i) (m + 1) n q))))
-        (λ (z : n ≡ m). number_new (op.GlobalBounds i elements cells field spot) (of_line (op.GlobalBounds i elements cells field spot) (ap L z ∙ l)) i v (eq_same i i refl)
+        (λ (z : n ≡ m). number_new (Op.GlobalBounds i elements cells field spot) (of_line (Op.GlobalBounds i elements cells field spot) (ap L z ∙ l)) i v (eq_same i i refl)
         (ap (with_element cells field) (h.numbers i u (subst (λ m. IsNumber flat i u m) (sym z) from)) ∙ element_same cells field u v f e))
         (earlier m lt)
 
@@ -456,8 +448,8 @@ module _ (flat : Flat) where
   repeated n e = by (L n) refl e
     where
       by : (l : Option Op) → L n ≡ l → drops_at (known flat n) l ≡ true → IsRepeated flat n
-      by (Some (op.Load i cell spot)) el e = repeated_by n (op.Load i cell spot) record { kind = Read; cell = cell; spot = spot } el tt refl e
-      by (Some (op.Store i cell spot)) el e = repeated_by n (op.Store i cell spot) record { kind = Write; cell = cell; spot = spot } el tt refl e
+      by (Some (Op.Load i cell spot)) el e = repeated_by n (Op.Load i cell spot) record { kind = Read; cell = cell; spot = spot } el tt refl e
+      by (Some (Op.Store i cell spot)) el e = repeated_by n (Op.Store i cell spot) record { kind = Write; cell = cell; spot = spot } el tt refl e
       by _ el e = false_true e
 
   drops_by : (n : ℕ) (o : Op) (a : Access) (kind : Kind) (place : SimplePlace) → L n ≡ Some o → access o ≡ Some a → (s : IsSimple flat n kind place) → IsChecked flat n kind place → (tells a.spot && has_passed (known flat n) a.kind (place_of (known flat n) a.cell)) ≡ true
@@ -473,8 +465,8 @@ module _ (flat : Flat) where
   drops_it n r = by (L n) refl r.integer
     where
       by : (l : Option Op) → L n ≡ l → IsOfInteger l → drops_at (known flat n) l ≡ true
-      by (Some (op.Load i cell spot)) el int = drops_by n (op.Load i cell spot) record { kind = Read; cell = cell; spot = spot } r.kind r.place el refl r.simple r.checked
-      by (Some (op.Store i cell spot)) el int = drops_by n (op.Store i cell spot) record { kind = Write; cell = cell; spot = spot } r.kind r.place el refl r.simple r.checked
+      by (Some (Op.Load i cell spot)) el int = drops_by n (Op.Load i cell spot) record { kind = Read; cell = cell; spot = spot } r.kind r.place el refl r.simple r.checked
+      by (Some (Op.Store i cell spot)) el int = drops_by n (Op.Store i cell spot) record { kind = Write; cell = cell; spot = spot } r.kind r.place el refl r.simple r.checked
       by _ el i = absurd i
 
   -- ---- the check that is repeated

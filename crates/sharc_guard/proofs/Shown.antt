@@ -1,7 +1,5 @@
 -- The example is well formed.
-use Rattle.std.proofs.Common.{◌≡◌, ℕ, zero, suc, ◌+◌, ◌<◌, List, [], ◌∷◌, Some, slice_get, refl, sym, ◌∙◌, subst, arith}
-use Rattle.sharc_flat.specs.{declared.op.Op.Op, Machine.function_of, Framed.{IsFlat, Leads, IsFramed, IsFramedAt, InLine, HasParameter}}
-use Rattle.sharc_guard.specs.Example.{example, lines}
+use Rattle.sharc_guard.proofs.Imports.{◌≡◌, ℕ, zero, suc, ◌+◌, ◌<◌, List, [], ◌∷◌, Some, slice_get, refl, sym, ◌∙◌, subst, arith, Op, function_of, IsFlat, Leads, IsFramed, IsFramedAt, InLine, HasParameter, example, lines}
 
 -- a property of each line, by its number
 abbrev pub AllFrom : (ℕ → Op → Type 0) → ℕ → List Op → Type 0

@@ -1,14 +1,8 @@
 -- One more turn of guarded code.
-use Rattle.std.proofs.Common.{◌≡◌, ℕ, ℤ, zero, suc, ◌+◌, ◌*◌, ◌≤◌, ◌⊎◌, inl, inr, Bool, true, List, [], ◌∷◌, ◌++◌, length, map, Some, refl, sym, ap, ◌∙◌, subst, arith, ⊎_elim}
-use Rattle.std.specs.Prelude.{slice_get, slice_index_or}
-use Rattle.sharc_code.specs.{declared.code.Function.Function, declared.instr.Instr.Instr, declared.instr.Instr.TheVariants.{RaiseLoaded, Lower, MoveReference, Exit}, declared.instr.Width.TheVariants.{Char, Int, Long}}
+use Rattle.sharc_guard.proofs.{Imports.{◌≡◌, ℕ, ℤ, zero, suc, ◌+◌, ◌*◌, ◌≤◌, ◌⊎◌, inl, inr, Bool, true, List, [], ◌∷◌, ◌++◌, length, map, Some, refl, sym, ap, ◌∙◌, subst, arith, ⊎_elim, slice_get, get_or as slice_index_or, Function, Instr, RaiseLoaded, Lower, MoveReference, Exit, Char, Int, Long, Op, Flat, At, Turn, goes, asks, halts, turn, op_turn, may_go, at_after, IsFlatPath, asked_by, asked, Program, Thread, Phase, Running, Leaving, Left, source_at, statement_at, thread_after, IsPath, weight, weight_in, place, guarded, entered_at, head, own, body, tail, Tells, LocksFrom, IsLevel, guarded_asked_by, guarded_asked, is_enter, moves}, Placing.HasAt, Gates.GivesNow, Turns.behind, Near.{quiet, IsQuiet, Near, Ending, Follow}, Phases.{IsMoving, Stage, ahead, behind_it, leaves, Bound, opens, enters_all}}
 use Rattle.sharc_code.specs.Machine as CodeMachine
-use Rattle.sharc_flat.specs.{declared.op.Op.Op, Machine.{Flat, At, Turn, goes, asks, halts, turn, op_turn}, Path.{may_go, at_after, IsPath as IsFlatPath, asked_by, asked}}
-use Rattle.sharc_flat.specs.declared.op.Op.TheVariants as op
 use Rattle.sharc_guard.specs.Machine as Form
-use Rattle.sharc_guard.specs.{Machine.{Program, Thread, Phase, Running, Leaving, Left, source_at, statement_at}, Path.{thread_after, IsPath, weight, weight_in}, Guard.{place, guarded, entered_at, head, own, body, tail}, Counted.{Tells, LocksFrom}, Level.IsLevel, Asked.{guarded_asked_by, guarded_asked, is_enter, moves}}
 use Rattle.sharc_guard.specs.Path as Path
-use Rattle.sharc_guard.proofs.{Placing.HasAt, Gates.GivesNow, Turns.behind, Near.{quiet, IsQuiet, Near, Ending, Follow}, Phases.{IsMoving, Stage, ahead, behind_it, leaves, Bound, opens, enters_all}}
 
 pub statement_is : (xs : List Instr) (n : ℕ) (i : Instr) → slice_get xs n ≡ Some i → slice_index_or xs n Exit ≡ i
 statement_is [] n i e = absurd (cc)
@@ -16,15 +10,15 @@ statement_is (x ∷ xs) zero i e = cc
 statement_is (x ∷ xs) (suc n) i e = statement_is xs n i e
 
 pub one_body : (pl : ℕ → ℕ) (s : ℕ) (o : Op) → IsMoving o → (i : Instr) × (own (body pl s o) ≡ i ∷ [])
-one_body pl s op.Enter h = absurd h
-one_body pl s op.BlockEnd h = absurd h
-one_body pl s (op.Compute Char o i a b spot) h = (_, refl)
-one_body pl s (op.Negate Char i a spot) h = (_, refl)
+one_body pl s Op.Enter h = absurd h
+one_body pl s Op.BlockEnd h = absurd h
+one_body pl s (Op.Compute Char o i a b spot) h = (_, refl)
+one_body pl s (Op.Negate Char i a spot) h = (_, refl)
 one_body pl s _ h = (_, refl)
 
 enters_one : (o : Op) → IsMoving o → is_enter (Some o) ≡ 1
-enters_one op.Enter h = absurd h
-enters_one op.BlockEnd h = absurd h
+enters_one Op.Enter h = absurd h
+enters_one Op.BlockEnd h = absurd h
 enters_one _ h = refl
 
 module _ (dropped : ℕ → Bool) (flat : Flat) (level : IsLevel flat) where
@@ -42,17 +36,17 @@ module _ (dropped : ℕ → Bool) (flat : Flat) (level : IsLevel flat) where
   StraightBy o (i ∷ is) = (a : Thread) (x : ℤ) → (tail o ≡ []) ⊎ ((Path.after a (Form.step p i a) x).pc ≡ a.pc + 1)
 
   pub straight : (s : ℕ) (o : Op) → StraightBy o (own (body pl s o))
-  straight s op.Enter = tt
-  straight s op.BlockEnd = tt
-  straight s (op.Compute Char o i a b spot) = λ a x. inl refl
-  straight s (op.Compute Int o i a b spot) = λ a x. inl refl
-  straight s (op.Compute Long o i a b spot) = λ a x. inl refl
-  straight s (op.Negate Char i a spot) = λ a x. inl refl
-  straight s (op.Negate Int i a spot) = λ a x. inl refl
-  straight s (op.Negate Long i a spot) = λ a x. inl refl
-  straight s (op.LoadRef r cell spot) = λ a x. inr refl
-  straight s (op.StoreRef r cell spot) = λ a x. inr refl
-  straight s (op.Settle r from) = λ a x. inr refl
+  straight s Op.Enter = tt
+  straight s Op.BlockEnd = tt
+  straight s (Op.Compute Char o i a b spot) = λ a x. inl refl
+  straight s (Op.Compute Int o i a b spot) = λ a x. inl refl
+  straight s (Op.Compute Long o i a b spot) = λ a x. inl refl
+  straight s (Op.Negate Char i a spot) = λ a x. inl refl
+  straight s (Op.Negate Int i a spot) = λ a x. inl refl
+  straight s (Op.Negate Long i a spot) = λ a x. inl refl
+  straight s (Op.LoadRef r cell spot) = λ a x. inr refl
+  straight s (Op.StoreRef r cell spot) = λ a x. inr refl
+  straight s (Op.Settle r from) = λ a x. inr refl
   straight s _ = λ a x. inl refl
 
   pub quiet_turn : (i : Instr) (a : Thread) → IsQuiet (i ∷ []) → (Form.step p i a ≡ Form.Goes (quiet i a)) × (weight i ≡ 1)

@@ -1,11 +1,5 @@
 -- The functions that guarded code spawns are those that flat code spawns.
-use Rattle.std.proofs.{Common.{◌≡◌, ℕ, suc, ◌+◌, ◌<◌, ◌^◌, Bool, List, [], ◌∷◌, ◌++◌, length, refl, sym, ap, ◌∙◌, subst, arith, Some, slice_get}, lemmas.List.length-map}
-use Rattle.std.specs.Prelude.{slice_index}
-use Rattle.sharc_code.specs.{declared.code.GlobalCells.GlobalCells, declared.instr.Width.TheVariants.Char, declared.instr.Instr.Instr, declared.instr.Instr.TheVariants.Spawn, Ranges.GlobalsFit}
-use Rattle.sharc_flat.specs.{declared.flat.Flat.{Flat as FlatCode}, declared.op.Op.Op, Made.flat_of}
-use Rattle.sharc_flat.specs.declared.op.Op.TheVariants as op
-use Rattle.sharc_guard.specs.{declared.guarded.Guarded.Guarded, GuardedTables.TablesFit, Guard.{head, own, body, tail, expand, expanded, guarded, entered_at, place}, Made.IsMade, Tables.FlatTablesFit}
-use Rattle.sharc_guard.proofs.Framing.{AllIn, all_append, all_at, head_all}
+use Rattle.sharc_guard.proofs.{Imports.{◌≡◌, ℕ, suc, ◌+◌, ◌<◌, ◌^◌, Bool, List, [], ◌∷◌, ◌++◌, length, refl, sym, ap, ◌∙◌, subst, arith, Some, slice_get, length-map, slice_index, GlobalCells, Char, Instr, Spawn, GlobalsFit, FlatCode, Op, flat_of, Guarded, TablesFit, head, own, body, tail, expand, expanded, guarded, entered_at, place, IsMade, FlatTablesFit}, Framing.{AllIn, all_append, all_at, head_all}}
 
 -- what a statement spawns is one of this many functions
 abbrev Spawns : ℕ → Instr → Type 0
@@ -13,21 +7,21 @@ Spawns count (Spawn to function from site) = function < count
 Spawns count _ = Unit {0}
 
 abbrev OpSpawns : ℕ → Op → Type 0
-OpSpawns count (op.Spawn to function from spot) = function < count
+OpSpawns count (Op.Spawn to function from spot) = function < count
 OpSpawns count _ = Unit {0}
 
 own_spawns : (pl : ℕ → ℕ) (n count : ℕ) (o : Op) → OpSpawns count o → AllIn (Spawns count) (own (body pl n o))
-own_spawns pl n count op.Enter h = tt
-own_spawns pl n count op.BlockEnd h = tt
-own_spawns pl n count (op.Compute Char operator i a b spot) h = (tt, tt)
-own_spawns pl n count (op.Negate Char i a spot) h = (tt, tt)
-own_spawns pl n count (op.Spawn to function from spot) h = (h, tt)
+own_spawns pl n count Op.Enter h = tt
+own_spawns pl n count Op.BlockEnd h = tt
+own_spawns pl n count (Op.Compute Char operator i a b spot) h = (tt, tt)
+own_spawns pl n count (Op.Negate Char i a spot) h = (tt, tt)
+own_spawns pl n count (Op.Spawn to function from spot) h = (h, tt)
 own_spawns pl n count _ h = (tt, tt)
 
 tail_spawns : (count : ℕ) (o : Op) → AllIn (Spawns count) (tail o)
-tail_spawns count (op.LoadRef r cell spot) = (tt, tt)
-tail_spawns count (op.StoreRef r cell spot) = (tt, tt)
-tail_spawns count (op.Settle x from) = (tt, tt)
+tail_spawns count (Op.LoadRef r cell spot) = (tt, tt)
+tail_spawns count (Op.StoreRef r cell spot) = (tt, tt)
+tail_spawns count (Op.Settle x from) = (tt, tt)
 tail_spawns count _ = tt
 
 line_spawns : (pl : ℕ → ℕ) (drop : Bool) (n count : ℕ) (o : Op) → OpSpawns count o → AllIn (Spawns count) (expand pl drop n o)
@@ -42,7 +36,7 @@ lines_spawn pl dropped k count (o ∷ os) h =
     all_append (Spawns count) (expand pl (dropped k) k o) (expanded pl dropped (k + 1) os) (line_spawns pl (dropped k) k count o (h 0 o refl)) (lines_spawn pl dropped (k + 1) count os (λ n. h (suc n)))
 
 each_op : (f : FlatCode) → FlatTablesFit f → (n : ℕ) (o : Op) → slice_get f.lines.items n ≡ Some o → OpSpawns (length f.functions.items) o
-each_op f h n (op.Spawn to function from spot) e = h.spawned n to function from spot e
+each_op f h n (Op.Spawn to function from spot) e = h.spawned n to function from spot e
 each_op f h n _ e = tt
 
 pub tables : (dropped : ℕ → Bool) (f : FlatCode) (g : Guarded) → IsMade dropped f g → FlatTablesFit f → TablesFit g

@@ -1,12 +1,6 @@
 -- The lists that marking fills: the lines that are led to, and the marks of the lines so far.
-use mathlib.Core.Path.{fun_ext}
-use Rattle.std.proofs.{Common.{◌≡◌, ◌≤◌, ◌<◌, ◌⊎◌, inl, inr, ℕ, zero, suc, ◌+◌, Bool, false, ◌||◌, List, [], ◌∷◌, ◌++◌, length, drop, take, get_or, replicate, refl, sym, ap, ◌∙◌, subst, arith, cond, Option, Some, None, slice_get}, lemmas.List.{append-nil, drop_all, length_push, get_or_push, get_or_append_left, get_or_past, get_or-replicate, length-replicate, take_all}, lemmas.Bool.cases_lt}
-use Rattle.std.specs.Prelude.{◌==◌}
-use Rattle.sharc_heap.specs.declared.shadow_word.Kind.{Kind}
-use Rattle.sharc_code.specs.declared.code.Function.{Function}
-use Rattle.sharc_flat.specs.{declared.op.Op.Op, Machine.Flat}
-use Rattle.sharc_guard.specs.{Known.{SimplePlace, in_variable, in_global, nothing, know_after, known, drops, drops_at, dropped, is_entry, is_led_to, is_target, leads_to, line_leads}, Marked.{AreBefore, AreMarks, AreTargets, Notes, is_one, know_of, no_notes}, Made.marked}
-use Rattle.sharc_lemmas.proofs.{Bools.{or_false, or_assoc}, Numbers.next}
+use Rattle.sharc_guard.proofs.Imports.{fun_ext, ◌≡◌, ◌≤◌, ◌<◌, ◌⊎◌, inl, inr, ℕ, zero, suc, ◌+◌, Bool, false, ◌||◌, List, [], ◌∷◌, ◌++◌, length, drop, take, get_or, replicate, refl, sym, ap, ◌∙◌, subst, arith, cond, Option, Some, None, slice_get, append-nil, drop_all, length_push, get_or_push, get_or_append_left, get_or_past, get_or-replicate, length-replicate, take_all, cases_lt, ◌==◌, Kind, Function, Op, Flat, SimplePlace, in_variable, in_global, nothing, know_after, known, drops, drops_at, dropped, is_entry, is_led_to, is_target, leads_to, line_leads, AreBefore, AreMarks, AreTargets, Notes, is_one, know_of, no_notes, marked, or_false, or_assoc}
+use Rattle.sharc_lemmas.proofs.Numbers.{next}
 
 -- ---- lines that are led to
 -- the first n lines are marked

@@ -1,21 +1,8 @@
 -- The paths of guarded code are those of flat code.
-use Rattle.sharc_guard.proofs.{Gates.{Guards as GuardsOf, Passes, GivesNow}, Turning.IsOpenFor, Beside.beside, Ready.{Is, null_is, put_other, Ready}, Near.{IsLowering, Near, Ending, leaving, Follow, lands}, Phases.{Ahead, Stage, ahead, behind_it, leaves, Bound}, Steps.{statement_is, quiet_turn, function_site, Coming, landed, Was, PassedBy, LastPassed}, Ways.ways, Comes.{at_body, at_check, comes}}
-use Rattle.sharc_tree.specs.declared.event.Act.TheVariants as acts
-use Rattle.sharc_tree.specs.declared.event.CellMode.TheVariants as modes
-use Rattle.sharc_tree.specs.declared.event.Taken.TheVariants as taken
-use Rattle.sharc_meaning.specs.{Statements.is_positive, Reference.elements_of, Arithmetic.is_zero, declared.given.GivenUp.TheVariants.Replaced, Events.{held_mutexes, holds_mutex}}
-use Rattle.sharc_code.specs.{Arithmetic.holds, declared.code.PlaceMode.TheVariants.{Private, Readonly, Racy, Dynamic}, declared.code.PlaceMode.PlaceMode, declared.instr.Cell.Cell, declared.code.Function.Function, declared.code.Parameter.Parameter, declared.instr.Instr.Instr, declared.instr.Instr.TheVariants.{RaiseLoaded, Lower, MoveReference, ChkRead, ChkWrite}, declared.instr.Width.TheVariants.{Char, Int}}
-use Rattle.sharc_tree.specs.{declared.event.CellMode.CellMode, declared.event.Act.Act, declared.token.Site.Site, declared.event.CellAt.CellAt, declared.trap.Trap.Trap}
-use Rattle.std.proofs.{Common.{◌≡◌, ◌≢◌, ℕ, ℤ, pos, zero, suc, ◌+◌, ◌*◌, ◌<◌, ◌≤◌, ◌⊎◌, inl, inr, Bool, List, [], ◌∷◌, length, map, refl, sym, ap, ◌∙◌, subst, arith, ⊎_elim, cond, Result, Ok, Err, false, true, not, negsuc, nat_lt}, lemmas.Bool.cases_eq, lemmas.Option.slice_get_past}
-use Rattle.std.specs.Prelude.{slice_index_or}
-use Rattle.sharc_code.specs.declared.code.Parameter.TheVariants as parameters
+use Rattle.sharc_guard.proofs.{Imports.{Taken, is_positive, elements_of, is_zero, Replaced, held_mutexes, holds_mutex, holds, Private, Readonly, Racy, Dynamic, PlaceMode, Cell, Function, Parameter, Instr, RaiseLoaded, Lower, MoveReference, ChkRead, ChkWrite, Char, Int, CellMode, Act, Site, CellAt, Trap, ◌≡◌, ◌≢◌, ℕ, ℤ, pos, zero, suc, ◌+◌, ◌*◌, ◌<◌, ◌≤◌, ◌⊎◌, inl, inr, Bool, List, [], ◌∷◌, length, map, refl, sym, ap, ◌∙◌, subst, arith, ⊎_elim, cond, Result, Ok, Err, false, true, not, negsuc, nat_lt, cases_eq, slice_get_past, get_or as slice_index_or, Op, Spot, Flat, At, Turn, goes, asks, halts, function_of, end_turn, line_turn, op_turn, turn, first_at, begun, start, Caller, indexed, asserts, with_result, takes_local, goes_on, stops, returned, called, set_int, int, ref, cell_at, cell_mode_of, lock_is_null, accesses, accessed, next, set_ref, gives_up, take_kind_of, at_after, Program, Thread, statement_at, with_parameter, fresh, started, thread_after, IsPath, weight_in, place, guarded, entered_at, own, body, tail, head, check_under, Takes, Level, IsLevel, Tells, IsSettling, AreLowered, OverwritesNone, Quietly, OnWay, IsReplaced, MatchesFlat, HasCome, LocksFrom, GuardedCounts, NeedsCheck, IsPassed, WasChecked, IsOf, false_true}, Gates.{Guards as GuardsOf, Passes, GivesNow}, Turning.IsOpenFor, Beside.beside, Ready.{Is, null_is, put_other, Ready}, Near.{IsLowering, Near, Ending, leaving, Follow, lands}, Phases.{Ahead, Stage, ahead, behind_it, leaves, Bound}, Steps.{statement_is, quiet_turn, function_site, Coming, landed, Was, PassedBy, LastPassed}, Ways.ways, Comes.{at_body, at_check, comes}}
 use Rattle.sharc_code.specs.Machine as CodeMachine
-use Rattle.sharc_tree.specs.declared.trap.Trap.TheVariants as traps
-use Rattle.sharc_flat.specs.{declared.op.Op.Op, declared.op.Spot.Spot, Machine.{Flat, At, Turn, goes, asks, halts, function_of, end_turn, line_turn, op_turn, turn, first_at, begun, start, Caller, indexed, asserts, with_result, takes_local, goes_on, stops, returned, called, set_int, int, ref, cell_at, cell_mode_of, lock_is_null, accesses, accessed, next, set_ref, gives_up, take_kind_of}, Path.at_after}
-use Rattle.sharc_flat.specs.declared.op.Op.TheVariants as op
 use Rattle.sharc_guard.specs.Machine as Form
-use Rattle.sharc_guard.specs.{Machine.{Program, Thread, statement_at}, Path.{with_parameter, fresh, started, thread_after, IsPath, weight_in}, Guard.{place, guarded, entered_at, own, body, tail, head, check_under}, Level.{IsEntry, Takes, Level, IsLevel}, Counted.{Tells, IsSettling, AreLowered, OverwritesNone, Quietly, OnWay, IsReplaced, MatchesFlat, HasCome, LocksFrom, GuardedCounts, NeedsCheck, IsPassed, WasChecked, IsOf}}
-use Rattle.sharc_lemmas.proofs.Bools.{false_true}
+use Rattle.sharc_guard.specs.Level.{IsEntry}
 
 module _ (dropped : ℕ → Bool) (flat : Flat) (level : IsLevel flat) where
   abbrev pl : ℕ → ℕ
@@ -41,16 +28,16 @@ module _ (dropped : ℕ → Bool) (flat : Flat) (level : IsLevel flat) where
   ClearBody (i ∷ is) a = OverwritesNone i a
 
   clear_body : (m : At) (q : ℕ) (low : List ℕ) → Ready flat level m → (s : ℕ) (o : Op) → Level flat level.owner level.gives level.slots m.pc (level.owner m.pc) (level.slots m.pc) o → ClearBody (own (body pl s o)) (beside pl m q (held_mutexes m.events) low)
-  clear_body m q low rd s (op.Compute Char o i a b spot) lv = tt
-  clear_body m q low rd s (op.Negate Char i a spot) lv = tt
-  clear_body m q low rd s (op.Null r) lv = subst (λ x. Is x (m.refs (m.ref_base + r))) lv.0 (rd.hold r)
-  clear_body m q low rd s (op.Local r x) lv = subst (λ x. Is x (m.refs (m.ref_base + r))) lv.0 (rd.hold r)
-  clear_body m q low rd s (op.MoveReference r from) (inl lv) = inl lv.0
-  clear_body m q low rd s (op.MoveReference r from) (inr lv) = inr (subst (λ x. Is x (m.refs (m.ref_base + r))) lv.0 (rd.hold r))
-  clear_body m q low rd s (op.New r count cells spot) lv = subst (λ x. Is x (m.refs (m.ref_base + r))) lv.0 (rd.hold r)
-  clear_body m q low rd s (op.TakeCell r cell spot) lv = subst (λ x. Is x (m.refs (m.ref_base + r))) lv.0 (rd.hold r)
-  clear_body m q low rd s (op.TakeLocal r x spot) lv = subst (λ x. Is x (m.refs (m.ref_base + r))) lv.0 (rd.hold r)
-  clear_body m q low rd s (op.Unlock r cell spot) lv = subst (λ x. Is x (m.refs (m.ref_base + r))) lv.0 (rd.hold r)
+  clear_body m q low rd s (Op.Compute Char o i a b spot) lv = tt
+  clear_body m q low rd s (Op.Negate Char i a spot) lv = tt
+  clear_body m q low rd s (Op.Null r) lv = subst (λ x. Is x (m.refs (m.ref_base + r))) lv.0 (rd.hold r)
+  clear_body m q low rd s (Op.Local r x) lv = subst (λ x. Is x (m.refs (m.ref_base + r))) lv.0 (rd.hold r)
+  clear_body m q low rd s (Op.MoveReference r from) (inl lv) = inl lv.0
+  clear_body m q low rd s (Op.MoveReference r from) (inr lv) = inr (subst (λ x. Is x (m.refs (m.ref_base + r))) lv.0 (rd.hold r))
+  clear_body m q low rd s (Op.New r count cells spot) lv = subst (λ x. Is x (m.refs (m.ref_base + r))) lv.0 (rd.hold r)
+  clear_body m q low rd s (Op.TakeCell r cell spot) lv = subst (λ x. Is x (m.refs (m.ref_base + r))) lv.0 (rd.hold r)
+  clear_body m q low rd s (Op.TakeLocal r x spot) lv = subst (λ x. Is x (m.refs (m.ref_base + r))) lv.0 (rd.hold r)
+  clear_body m q low rd s (Op.Unlock r cell spot) lv = subst (λ x. Is x (m.refs (m.ref_base + r))) lv.0 (rd.hold r)
   clear_body m q low rd s _ lv = tt
 
   stand_ahead : (m : At) (a : Thread) (x : Ahead dropped flat level m a) (hs : List Instr) → x.hs ≡ hs → Tells p (Form.turn p a) (turn flat m) × OverwritesNone (statement_at p a.pc) a
@@ -136,14 +123,14 @@ module _ (dropped : ℕ → Bool) (flat : Flat) (level : IsLevel flat) where
   needs_result m i spot (Err c) h = h
 
   needs_index : (m : At) (i cells field elements : ℕ) (spot : Spot) (z : ℤ) → NeedsTurn (indexed i cells field z elements spot m) → ⊥
-  needs_index m i cells field elements spot (pos n) h = needs_cond (nat_lt n elements) (goes_on (set_int i (pos (n * cells + field)) m)) (stops traps.IndexOutOfBounds spot) (λ z. z) (λ z. z) h
+  needs_index m i cells field elements spot (pos n) h = needs_cond (nat_lt n elements) (goes_on (set_int i (pos (n * cells + field)) m)) (stops Trap.IndexOutOfBounds spot) (λ z. z) (λ z. z) h
   needs_index m i cells field elements spot (negsuc n) h = h
 
   needs_assert : (m : At) (b : Bool) (trap : Trap) (spot : Spot) → NeedsTurn (asserts b trap spot m) → ⊥
   needs_assert m b trap spot h = needs_cond b (goes_on m) (stops trap spot) (λ z. z) (λ z. z) h
 
   needs_return : (m : At) (spot : Spot) (cs : List Caller) → NeedsTurn (returned flat cs spot m) → ⊥
-  needs_return m spot [] h = needs_cond (not (nat_lt 0 (length (held_mutexes m.events)))) (goes (record m { pc = length flat.lines })) (stops traps.ReturnWithLockHeld spot) (λ z. z) (λ z. z) h
+  needs_return m spot [] h = needs_cond (not (nat_lt 0 (length (held_mutexes m.events)))) (goes (record m { pc = length flat.lines })) (stops Trap.ReturnWithLockHeld spot) (λ z. z) (λ z. z) h
   needs_return m spot (c ∷ rest) h = h
 
   needs_take : (m : At) (r x : ℕ) (spot : Spot) (b : Bool) → NeedsTurn (takes_local r x spot m b) → ⊥
@@ -152,7 +139,7 @@ module _ (dropped : ℕ → Bool) (flat : Flat) (level : IsLevel flat) where
 
   -- an access whose check is none, in such a mode, has a check that is dropped
   unchecked : (m : At) (chk : Instr) (d : Bool) (cell : Cell) (spot : Spot) (act : CellAt → CellMode → Act) (then_ : CellAt → ℤ → At → At) (s : ℕ) (pm : PlaceMode) → spot.mode ≡ pm
-      → ((c : CellAt) → NeedsCheck (act c modes.Private) → ⊥) → ((c : CellAt) → NeedsCheck (act c modes.Readonly) → ⊥) → ((c : CellAt) → NeedsCheck (act c modes.Racy) → ⊥)
+      → ((c : CellAt) → NeedsCheck (act c CellMode.Private) → ⊥) → ((c : CellAt) → NeedsCheck (act c CellMode.Readonly) → ⊥) → ((c : CellAt) → NeedsCheck (act c CellMode.Racy) → ⊥)
       → check_under d chk spot s pm ≡ [] → NeedsTurn (accesses flat.globals cell spot act then_ m) → d ≡ true
   unchecked m chk d cell spot act then_ s pm e n1 n2 n3 none h = by d pm e none (wanted (lock_is_null m spot spot.mode) h)
     where
@@ -162,7 +149,7 @@ module _ (dropped : ℕ → Bool) (flat : Flat) (level : IsLevel flat) where
       mode : CellMode
       mode = cell_mode_of flat.globals m c spot.mode
 
-      wanted : (b : Bool) → NeedsTurn (cond b (stops traps.NullPointer spot) (asks m spot.site (act c mode) (pos 0) (λ v n. accessed (next (then_ c v n))))) → NeedsCheck (act c mode)
+      wanted : (b : Bool) → NeedsTurn (cond b (stops Trap.NullPointer spot) (asks m spot.site (act c mode) (pos 0) (λ v n. accessed (next (then_ c v n))))) → NeedsCheck (act c mode)
       wanted true h = absurd h
       wanted false h = h
 
@@ -177,24 +164,24 @@ module _ (dropped : ℕ → Bool) (flat : Flat) (level : IsLevel flat) where
       by _ _ e z h = absurd (cc)
 
   no_head : (m : At) (d : Bool) (s : ℕ) (o : Op) → head d s o ≡ [] → NeedsTurn (op_turn flat o m) → d ≡ true
-  no_head m d s (op.Compute w o i a b spot) e h = absurd (needs_result m i spot _ h)
-  no_head m d s (op.Negate w i a spot) e h = absurd (needs_result m i spot _ h)
-  no_head m d s (op.ChkWidth w i spot) e h = absurd (needs_assert m (holds w (int m i)) _ spot h)
-  no_head m d s (op.Call f i r spot) e h = absurd (needs_cond (nat_lt (length m.frames) 255) (goes (called flat f i r m)) (stops traps.CallDepth spot) (λ z. z) (λ z. z) h)
-  no_head m d s (op.Return spot) e h = absurd (needs_return m spot m.frames h)
-  no_head m d s (op.ChkNull r spot) e h = absurd (needs_assert m (not (is_zero (ref m r))) _ spot h)
-  no_head m d s (op.ChkPositive i spot) e h = absurd (needs_assert m (is_positive (int m i)) _ spot h)
-  no_head m d s (op.ChkHeld cell spot) e h = absurd (needs_assert m (holds_mutex m.events (cell_at flat.globals m cell)) _ spot h)
-  no_head m d s (op.ChkNotHeld cell spot) e h = absurd (needs_assert m (not (holds_mutex m.events (cell_at flat.globals m cell))) _ spot h)
-  no_head m d s (op.ChkRoom spot) e h = absurd (needs_assert m (nat_lt (length (held_mutexes m.events)) 16) _ spot h)
-  no_head m d s (op.Bounds i r cells field spot) e h = absurd (needs_index m i cells field (elements_of (ref m r)) spot (int m i) h)
-  no_head m d s (op.GlobalBounds i elements cells field spot) e h = absurd (needs_index m i cells field elements spot (int m i) h)
-  no_head m d s (op.TakeLocal r x spot) e h = absurd (needs_take m r x spot (is_zero (ref m x)) h)
-  no_head m d s (op.Load i cell spot) e h = unchecked m (ChkRead cell s) d cell spot acts.Read (λ c v. set_int i v) s spot.mode refl (λ c z. z) (λ c z. z) (λ c z. z) e h
-  no_head m d s (op.Store i cell spot) e h = unchecked m (ChkWrite cell s) d cell spot (λ c mode. acts.Write c mode (int m i)) (λ c v n. n) s spot.mode refl (λ c z. z) (λ c z. z) (λ c z. z) e h
-  no_head m d s (op.LoadRef r cell spot) e h = false_true (unchecked m (ChkRead cell s) false cell spot acts.Read (λ c v. set_ref r v) s spot.mode refl (λ c z. z) (λ c z. z) (λ c z. z) e h)
-  no_head m d s (op.StoreRef r cell spot) e h = false_true (unchecked m (ChkWrite cell s) false cell spot (λ c mode. acts.Write c mode (ref m r)) (λ c v n. gives_up (Replaced c) (set_ref r (pos 0) n)) s spot.mode refl (λ c z. z) (λ c z. z) (λ c z. z) e h)
-  no_head m d s (op.TakeCell r cell spot) e h = false_true (unchecked m (ChkWrite cell s) false cell spot (λ c mode. acts.Take (taken.Cell c mode) (take_kind_of spot.at)) (λ c v. set_ref r v) s spot.mode refl (λ c z. z) (λ c z. z) (λ c z. z) e h)
+  no_head m d s (Op.Compute w o i a b spot) e h = absurd (needs_result m i spot _ h)
+  no_head m d s (Op.Negate w i a spot) e h = absurd (needs_result m i spot _ h)
+  no_head m d s (Op.ChkWidth w i spot) e h = absurd (needs_assert m (holds w (int m i)) _ spot h)
+  no_head m d s (Op.Call f i r spot) e h = absurd (needs_cond (nat_lt (length m.frames) 255) (goes (called flat f i r m)) (stops Trap.CallDepth spot) (λ z. z) (λ z. z) h)
+  no_head m d s (Op.Return spot) e h = absurd (needs_return m spot m.frames h)
+  no_head m d s (Op.ChkNull r spot) e h = absurd (needs_assert m (not (is_zero (ref m r))) _ spot h)
+  no_head m d s (Op.ChkPositive i spot) e h = absurd (needs_assert m (is_positive (int m i)) _ spot h)
+  no_head m d s (Op.ChkHeld cell spot) e h = absurd (needs_assert m (holds_mutex m.events (cell_at flat.globals m cell)) _ spot h)
+  no_head m d s (Op.ChkNotHeld cell spot) e h = absurd (needs_assert m (not (holds_mutex m.events (cell_at flat.globals m cell))) _ spot h)
+  no_head m d s (Op.ChkRoom spot) e h = absurd (needs_assert m (nat_lt (length (held_mutexes m.events)) 16) _ spot h)
+  no_head m d s (Op.Bounds i r cells field spot) e h = absurd (needs_index m i cells field (elements_of (ref m r)) spot (int m i) h)
+  no_head m d s (Op.GlobalBounds i elements cells field spot) e h = absurd (needs_index m i cells field elements spot (int m i) h)
+  no_head m d s (Op.TakeLocal r x spot) e h = absurd (needs_take m r x spot (is_zero (ref m x)) h)
+  no_head m d s (Op.Load i cell spot) e h = unchecked m (ChkRead cell s) d cell spot Act.Read (λ c v. set_int i v) s spot.mode refl (λ c z. z) (λ c z. z) (λ c z. z) e h
+  no_head m d s (Op.Store i cell spot) e h = unchecked m (ChkWrite cell s) d cell spot (λ c mode. Act.Write c mode (int m i)) (λ c v n. n) s spot.mode refl (λ c z. z) (λ c z. z) (λ c z. z) e h
+  no_head m d s (Op.LoadRef r cell spot) e h = false_true (unchecked m (ChkRead cell s) false cell spot Act.Read (λ c v. set_ref r v) s spot.mode refl (λ c z. z) (λ c z. z) (λ c z. z) e h)
+  no_head m d s (Op.StoreRef r cell spot) e h = false_true (unchecked m (ChkWrite cell s) false cell spot (λ c mode. Act.Write c mode (ref m r)) (λ c v n. gives_up (Replaced c) (set_ref r (pos 0) n)) s spot.mode refl (λ c z. z) (λ c z. z) (λ c z. z) e h)
+  no_head m d s (Op.TakeCell r cell spot) e h = false_true (unchecked m (ChkWrite cell s) false cell spot (λ c mode. Act.Take (Taken.Cell c mode) (take_kind_of spot.at)) (λ c v. set_ref r v) s spot.mode refl (λ c z. z) (λ c z. z) (λ c z. z) e h)
   no_head m d s _ e h = absurd h
 
   needs_told : (site : Site) (act : Act) (go : ℤ → Thread) (t : Turn) → Tells p (Form.Asks site act go) t → NeedsCheck act → NeedsTurn t
@@ -210,7 +197,7 @@ module _ (dropped : ℕ → Bool) (flat : Flat) (level : IsLevel flat) where
       by (Form.Goes b) (asks m3 s2 act2 held f) h l = absurd (no_give act2 (subst NeedsCheck h.1 n) l)
         where
           no_give : (act2 : Act) → NeedsCheck act2 → GivesNow dropped flat m (asks m3 s2 act2 held f) → ⊥
-          no_give (acts.Give v mode) n g = n
+          no_give (Act.Give v mode) n g = n
           no_give _ n g = g
       by (Form.Halts o) t h l = absurd l
       by (Form.Asks s2 act2 g) t h l = absurd l
@@ -273,11 +260,11 @@ module _ (dropped : ℕ → Bool) (flat : Flat) (level : IsLevel flat) where
     begun_of g = with_parameter (record (fresh p f) { pc = g.entry }) g.parameter v
 
     begins : (q : Parameter) → Takes flat level.owner level.gives level.slots (level.slots F.entry) q → Near dropped flat level (begun q v (first_at flat f)) (with_parameter (record (fresh p f) { pc = pl F.entry }) q v) []
-    begins parameters.None t = lands dropped flat level (first_at flat f) (pl F.entry) [] [] refl
+    begins Parameter.None t = lands dropped flat level (first_at flat f) (pl F.entry) [] [] refl
         (record { inside = entry.inside; hold = λ k. null_is (level.slots F.entry k) (pos 0) refl; frames = tt }) refl tt
-    begins parameters.Int t = let m = begun parameters.Int v (first_at flat f) in lands dropped flat level m (pl F.entry) [] [] refl
+    begins Parameter.Int t = let m = begun Parameter.Int v (first_at flat f) in lands dropped flat level m (pl F.entry) [] [] refl
         (record { inside = entry.inside; hold = λ k. null_is (level.slots F.entry k) (pos 0) refl; frames = tt }) refl tt
-    begins parameters.Reference t = let m = begun parameters.Reference v (first_at flat f) in lands dropped flat level m (pl F.entry) [] [] refl
+    begins Parameter.Reference t = let m = begun Parameter.Reference v (first_at flat f) in lands dropped flat level m (pl F.entry) [] [] refl
         (record {
           inside = entry.inside;
           hold = λ k. let z : 0 + k ≡ k = omega arith in subst (λ n. Is (level.slots F.entry k) (m.refs n)) (sym z) (⊎_elim

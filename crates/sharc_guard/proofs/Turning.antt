@@ -1,32 +1,17 @@
 -- One statement of flat code and its own guarded statement.
-use Rattle.std.proofs.{Common.{◌≡◌, ◌≢◌, ℕ, ℤ, pos, negsuc, zero, suc, ◌+◌, ◌*◌, ◌<◌, ◌≤◌, inl, inr, Bool, true, false, not, List, [], ◌∷◌, ◌++◌, length, map, Some, None, refl, sym, ap, ◌∙◌, subst, arith, cond, ⊎_elim, Result, Ok, Err}, lemmas.Bool.{cases_eq, cases_lt}, lemmas.Bool.Decides.nat_tests}
-use mathlib.Core.Path.{fun_ext}
-use Rattle.std.specs.Prelude.{slice_index_or, nat_lt, ◌==◌}
-use Rattle.sharc_tree.specs.{declared.event.Act.Act, declared.event.CellAt.CellAt, declared.event.CellMode.CellMode, declared.event.SourceEvent.SourceEvent, declared.token.Site.Site, declared.trap.Trap.Trap}
-use Rattle.sharc_tree.specs.declared.event.Act.TheVariants as acts
-use Rattle.sharc_tree.specs.declared.event.CellMode.TheVariants as modes
-use Rattle.sharc_tree.specs.declared.event.Taken.TheVariants as taken
-use Rattle.sharc_tree.specs.declared.trap.Trap.TheVariants as traps
-use Rattle.sharc_code.specs.{declared.code.Function.Function, declared.code.PlaceMode.TheVariants.Readonly, declared.code.Use.Use, declared.instr.Cell.Cell, declared.instr.Instr.Instr, declared.instr.Instr.TheVariants.{RaiseLoaded, Lower, MoveReference}, declared.instr.Register.Register, declared.instr.Width.TheVariants.{Char, Int, Long}, Arithmetic.{computed, negated, holds, complement, truth}}
-use Rattle.sharc_code.specs.declared.instr.Cell.TheVariants as cells
-use Rattle.sharc_code.specs.declared.instr.Register.TheVariants as registers
+use Rattle.sharc_guard.proofs.{Imports.{◌≡◌, ◌≢◌, ℕ, ℤ, pos, negsuc, zero, suc, ◌+◌, ◌*◌, ◌<◌, ◌≤◌, inl, inr, Bool, true, false, not, List, [], ◌∷◌, ◌++◌, length, map, Some, None, refl, sym, ap, ◌∙◌, subst, arith, cond, ⊎_elim, Result, Ok, Err, cases_eq, cases_lt, nat_tests, fun_ext, get_or as slice_index_or, nat_lt, ◌==◌, Act, CellAt, CellMode, SourceEvent, Site, Trap, Taken, Function, Readonly, Use, Cell, Instr, RaiseLoaded, Lower, MoveReference, Register, Char, Int, Long, computed, negated, holds, complement, truth, GivenUp, Released, Replaced, Emptied, is_zero, is_equal, held_mutexes, holds_mutex, locked_by, unlocked_by, number_of, elements_of, stopped, event_of, answer_of, is_positive, Op, Spot, Flat, Caller, At, Turn, goes, asks, put, int, ref, set_int, set_ref, gives_up, popped, moved, settled, next, over_lines, goes_on, stops, asserts, with_result, cell_at, base_of, without_base, cell_mode_of, lock_is_null, instance_mode, accessed, accesses, event, indexed, take_kind_of, variable_of, takes_local, called, returned, argument, handed, op_turn, with_event, Program, Thread, source_at, place, guarded, entered_at, own, body, tail, Slot, free, full, Slots, with_slot, with_moved, without_cell, slot_of, without_handed, Enters, Calls, Resumes, Leaves, Level, IsLevel, IsEnd, AreLowered}, Places.{IsPlaceOf, spot_of}, Holding.{quiet_held, lock_held, unlock_held}, Beside.{zero_same, kind_same, variable_same, callers, callers_length, beside, cell_same, mode_same, argument_same, object_same}, Ready.{put_at, put_other, moved_same, Is, Hold, hold_as, Frames, Ready, enters, keeps as keeps_at, puts as puts_at, moves as moves_at, call_ready as call_ready_at, return_ready as return_ready_at, null_here as null_here_at, is_free as is_free_at}, Near.{Near, Follow, lands}}
 use Rattle.sharc_code.specs.Arithmetic as Code
 use Rattle.sharc_code.specs.Machine as CodeMachine
 use Rattle.sharc_code.specs.Says as Says
-use Rattle.sharc_meaning.specs.{declared.given.GivenUp.GivenUp, declared.given.GivenUp.TheVariants.{Released, Replaced, Emptied}, Arithmetic.{is_zero, is_equal}, Events.{held_mutexes, holds_mutex, locked_by, unlocked_by}, Reference.{number_of, elements_of}, State.{stopped, event_of, answer_of}, Statements.is_positive}
-use Rattle.sharc_flat.specs.{declared.op.Op.Op, declared.op.Spot.Spot, Machine.{Flat, Caller, At, Turn, goes, asks, put, int, ref, set_int, set_ref, gives_up, popped, moved, settled, next, over_lines, goes_on, stops, asserts, with_result, cell_at, base_of, without_base, cell_mode_of, lock_is_null, instance_mode, accessed, accesses, event, indexed, take_kind_of, variable_of, takes_local, called, returned, argument, handed, op_turn, with_event}}
-use Rattle.sharc_flat.specs.declared.op.Op.TheVariants as op
 use Rattle.sharc_guard.specs.Machine as Form
-use Rattle.sharc_guard.specs.{Machine.{Program, Thread, source_at}, Guard.{place, guarded, entered_at, own, body, tail}, Level.{Slot, free, full, Slots, with_slot, with_moved, without_cell, slot_of, without_handed, Enters, Calls, Resumes, Leaves, Level, IsLevel}, Counted.{IsEnd, AreLowered}}
-use Rattle.sharc_guard.proofs.{Places.{IsPlaceOf, spot_of}, Holding.{quiet_held, lock_held, unlock_held}, Beside.{zero_same, kind_same, variable_same, callers, callers_length, beside, cell_same, mode_same, argument_same, object_same}, Ready.{put_at, put_other, moved_same, Is, Hold, hold_as, Frames, Ready, enters, keeps as keeps_at, puts as puts_at, moves as moves_at, call_ready as call_ready_at, return_ready as return_ready_at, null_here as null_here_at, is_free as is_free_at}, Near.{Near, Follow, lands}}
 
 -- the path of an access's lock leads not through NULL
 abbrev pub IsOpenFor : Op → At → Type 0
-IsOpenFor (op.Load i cell spot) m = lock_is_null m spot spot.mode ≡ false
-IsOpenFor (op.Store i cell spot) m = lock_is_null m spot spot.mode ≡ false
-IsOpenFor (op.LoadRef r cell spot) m = lock_is_null m spot spot.mode ≡ false
-IsOpenFor (op.StoreRef r cell spot) m = lock_is_null m spot spot.mode ≡ false
-IsOpenFor (op.TakeCell r cell spot) m = lock_is_null m spot spot.mode ≡ false
+IsOpenFor (Op.Load i cell spot) m = lock_is_null m spot spot.mode ≡ false
+IsOpenFor (Op.Store i cell spot) m = lock_is_null m spot spot.mode ≡ false
+IsOpenFor (Op.LoadRef r cell spot) m = lock_is_null m spot spot.mode ≡ false
+IsOpenFor (Op.StoreRef r cell spot) m = lock_is_null m spot spot.mode ≡ false
+IsOpenFor (Op.TakeCell r cell spot) m = lock_is_null m spot spot.mode ≡ false
 IsOpenFor _ m = Unit {0}
 
 lowered_more : (gs : List GivenUp) (ns : List ℕ) (n : ℕ) → AreLowered gs ns → AreLowered (gs ++ Released n ∷ []) (ns ++ n ∷ [])
@@ -129,10 +114,10 @@ module _ (dropped : ℕ → Bool) (flat : Flat) (level : IsLevel flat) (m : At) 
   index_follows : (e : q + 1 ≡ pl (m.pc + 1)) (i cells field elements : ℕ) (spot : Spot) → IsPlaceOf spot (source_at p s) → En here (m.pc + 1) → (z : ℤ) → F [] (indexed i cells field z elements spot m) (Form.indexed me i z cells field s elements)
   index_follows e i cells field elements spot k en (pos n) = each (nat_lt n elements)
     where
-      each : (b : Bool) → F [] (cond b (goes_on (set_int i (pos (n * cells + field)) m)) (stops traps.IndexOutOfBounds spot)) (cond b (Form.goes (Form.set_int me i (pos (n * cells + field)))) (Form.Halts (Form.Stopped traps.IndexOutOfBounds s)))
+      each : (b : Bool) → F [] (cond b (goes_on (set_int i (pos (n * cells + field)) m)) (stops Trap.IndexOutOfBounds spot)) (cond b (Form.goes (Form.set_int me i (pos (n * cells + field)))) (Form.Halts (Form.Stopped Trap.IndexOutOfBounds s)))
       each true = inl (ints e i (pos (n * cells + field)) en)
-      each false = stops_so traps.IndexOutOfBounds spot k
-  index_follows e i cells field elements spot k en (negsuc n) = stops_so traps.IndexOutOfBounds spot k
+      each false = stops_so Trap.IndexOutOfBounds spot k
+  index_follows e i cells field elements spot k en (negsuc n) = stops_so Trap.IndexOutOfBounds spot k
 
   -- ---- asks
   asked : (rest : List Instr) (site site2 : Site) (act act2 : Act) (held : ℤ) (f : ℤ → At → At) (answer : ℤ → ℤ) (go : ℤ → Thread → Thread) (m2 : At) → site2 ≡ site → act2 ≡ act
@@ -152,7 +137,7 @@ module _ (dropped : ℕ → Bool) (flat : Flat) (level : IsLevel flat) (m : At) 
       N (accessed (next (then_ c v (with_event (event_of spot.site (act c mode) v) m)))) (go x (Form.told me spot.site (act c mode) (answer x))) rest)
       → F rest (accesses flat.globals cell spot act then_ m) (Form.access_at p me s cell act answer go)
   accessing rest cell spot act then_ answer go k way h =
-      subst (λ b. F rest (cond b (stops traps.NullPointer spot) (asks m spot.site (act c mode) (pos 0) (λ v n. accessed (next (then_ c v n))))) (Form.access_at p me s cell act answer go)) (sym way)
+      subst (λ b. F rest (cond b (stops Trap.NullPointer spot) (asks m spot.site (act c mode) (pos 0) (λ v n. accessed (next (then_ c v n))))) (Form.access_at p me s cell act answer go)) (sym way)
       (asked rest spot.site (source_at p s).site (act c mode) (act (Form.cell_at p me cell) (Form.mode_of p me (Form.cell_at p me cell) (source_at p s).mode)) (pos 0) (λ v n. accessed (next (then_ c v n))) answer go m
       k.site (ap (λ z. act z (Form.mode_of p me z (source_at p s).mode)) (cell_same dropped flat m q log low cell) ∙ ap (λ z. act c (Form.mode_of p me c z)) k.mode ∙ ap (act c) (mode_same dropped flat m q log low c spot.mode))
       (h mode))
@@ -186,8 +171,8 @@ module _ (dropped : ℕ → Bool) (flat : Flat) (level : IsLevel flat) (m : At) 
           (cases_lt n 255)
 
   calls : (e : q + 1 ≡ pl (m.pc + 1)) (f i r : ℕ) (spot : Spot) → IsPlaceOf spot (source_at p s) → Calls flat level.owner level.gives level.slots f here r → Resumes flat level.owner level.gives level.slots (level.owner m.pc) here r (m.pc + 1) f
-      → F [] (cond (nat_lt (length m.frames) 255) (goes (called flat f i r m)) (stops traps.CallDepth spot)) (Form.called p me f i r s)
-  calls e f i r spot k c back = subst (λ b. F [] (cond (nat_lt (length m.frames) 255) (goes (called flat f i r m)) (stops traps.CallDepth spot)) (cond b (Form.Goes there) (Form.Halts (Form.Stopped traps.CallDepth s)))) (sym few_frames) (each (nat_lt (length m.frames) 255))
+      → F [] (cond (nat_lt (length m.frames) 255) (goes (called flat f i r m)) (stops Trap.CallDepth spot)) (Form.called p me f i r s)
+  calls e f i r spot k c back = subst (λ b. F [] (cond (nat_lt (length m.frames) 255) (goes (called flat f i r m)) (stops Trap.CallDepth spot)) (cond b (Form.Goes there) (Form.Halts (Form.Stopped Trap.CallDepth s)))) (sym few_frames) (each (nat_lt (length m.frames) 255))
     where
       there : Thread
       there = record me {
@@ -205,9 +190,9 @@ module _ (dropped : ℕ → Bool) (flat : Flat) (level : IsLevel flat) (m : At) 
           ap (λ z. record me { pc = z; ints_from = m.int_base + i; refs_from = m.ref_base + r; frames = record { pc = q + 1; ints = m.int_base; refs = m.ref_base } ∷ callers pl m.frames }) (function_same flat.functions f c.known)
           ∙ ap (λ z. record me { pc = pl m2.pc; ints_from = m.int_base + i; refs_from = m.ref_base + r; frames = record { pc = z; ints = m.int_base; refs = m.ref_base } ∷ callers pl m.frames }) e
 
-      each : (b : Bool) → F [] (cond b (goes m2) (stops traps.CallDepth spot)) (cond b (Form.Goes there) (Form.Halts (Form.Stopped traps.CallDepth s)))
+      each : (b : Bool) → F [] (cond b (goes m2) (stops Trap.CallDepth spot)) (cond b (Form.Goes there) (Form.Halts (Form.Stopped Trap.CallDepth s)))
       each true = inl (subst (λ a. N m2 a []) (sym is_there) (lands dropped flat level m2 (pl m2.pc) log low refl (call_ready f i r c back) refl lows))
-      each false = stops_so traps.CallDepth spot k
+      each false = stops_so Trap.CallDepth spot k
 
   -- back in a caller's frame
 
@@ -215,8 +200,8 @@ module _ (dropped : ℕ → Bool) (flat : Flat) (level : IsLevel flat) (m : At) 
       → F [] (returned flat cs spot m) (Form.returned p me s (callers pl cs))
   returns spot k lv [] fr = each (nat_lt 0 (length log))
     where
-      each : (b : Bool) → F [] (cond (not b) (goes (record m { pc = length flat.lines })) (stops traps.ReturnWithLockHeld spot)) (cond b (Form.Halts (Form.Stopped traps.ReturnWithLockHeld s)) (Form.Goes (Form.back_to me (record { pc = 1; ints = 0; refs = 0 }) [])))
-      each true = stops_so traps.ReturnWithLockHeld spot k
+      each : (b : Bool) → F [] (cond (not b) (goes (record m { pc = length flat.lines })) (stops Trap.ReturnWithLockHeld spot)) (cond b (Form.Halts (Form.Stopped Trap.ReturnWithLockHeld s)) (Form.Goes (Form.back_to me (record { pc = 1; ints = 0; refs = 0 }) [])))
+      each true = stops_so Trap.ReturnWithLockHeld spot k
       each false = inr (record { steps = 0; few = omega arith; pc_is = omega arith; at_exit = refl; phase_is = refl; refs = refl; events = refl; function = refl; lows = lows })
   returns spot k lv (c ∷ []) fr = inl (lands dropped flat level (record m { pc = c.pc; int_base = c.ints; ref_base = c.refs; frames = [] }) (pl c.pc) log low refl (return_ready c [] fr lv) refl lows)
   returns spot k lv (c ∷ d ∷ rest) fr = inl (lands dropped flat level (record m { pc = c.pc; int_base = c.ints; ref_base = c.refs; frames = d ∷ rest }) (pl c.pc) log low refl (return_ready c (d ∷ rest) fr lv) refl lows)
@@ -328,15 +313,15 @@ module _ (dropped : ℕ → Bool) (flat : Flat) (level : IsLevel flat) (m : At) 
   takes e r x spot k en = each (is_zero (ref m x))
     where
       act : Act
-      act = acts.Take (taken.Local (variable_of spot.at)) (take_kind_of spot.at)
+      act = Act.Take (Taken.Local (variable_of spot.at)) (take_kind_of spot.at)
 
-      same_act : acts.Take (taken.Local (Says.variable_of (source_at p s).at)) (Says.kind_of (source_at p s).at) ≡ act
+      same_act : Act.Take (Taken.Local (Says.variable_of (source_at p s).at)) (Says.kind_of (source_at p s).at) ≡ act
       same_act =
-          ap (λ u. acts.Take (taken.Local (Says.variable_of u)) (Says.kind_of u)) k.at
-          ∙ ap (λ v. acts.Take (taken.Local v) (Says.kind_of spot.at)) (variable_same spot.at) ∙ ap (λ w. acts.Take (taken.Local (variable_of spot.at)) w) (kind_same spot.at)
+          ap (λ u. Act.Take (Taken.Local (Says.variable_of u)) (Says.kind_of u)) k.at
+          ∙ ap (λ v. Act.Take (Taken.Local v) (Says.kind_of spot.at)) (variable_same spot.at) ∙ ap (λ w. Act.Take (Taken.Local (variable_of spot.at)) w) (kind_same spot.at)
 
       each : (b : Bool) → F [] (takes_local r x spot m b)
-          (cond b (Form.goes (Form.move_ref me r x)) (Form.asks_at p me s (acts.Take (taken.Local (Says.variable_of (source_at p s).at)) (Says.kind_of (source_at p s).at)) (λ y. ref m x) (λ y b. Form.next (Form.move_ref b r x))))
+          (cond b (Form.goes (Form.move_ref me r x)) (Form.asks_at p me s (Act.Take (Taken.Local (Says.variable_of (source_at p s).at)) (Says.kind_of (source_at p s).at)) (λ y. ref m x) (λ y b. Form.next (Form.move_ref b r x))))
       each true = inl (stays e (next (moved r x m)) (moves (next (moved r x m)) r x en refl refl refl) refl refl refl)
       each false =
           asked [] spot.site (source_at p s).site act _ (ref m x) (λ v n. next (moved r x n)) (λ y. ref m x) (λ y b. Form.next (Form.move_ref b r x)) m k.site same_act
@@ -345,12 +330,12 @@ module _ (dropped : ℕ → Bool) (flat : Flat) (level : IsLevel flat) (m : At) 
 
   -- ---- mutexes
   locks : (e : q + 1 ≡ pl (m.pc + 1)) (cell : Cell) (spot : Spot) → IsPlaceOf spot (source_at p s) → En (without_cell here cell) (m.pc + 1)
-      → F [] (event spot (acts.Lock (cell_at flat.globals m cell)) (λ v. without_base cell) m)
-      (Form.asks_at p me s (acts.Lock (Form.cell_at p me cell)) Form.no_answer (λ x b. Form.next (record (Form.without_base b cell) { held = log ++ Form.cell_at p me cell ∷ [] })))
+      → F [] (event spot (Act.Lock (cell_at flat.globals m cell)) (λ v. without_base cell) m)
+      (Form.asks_at p me s (Act.Lock (Form.cell_at p me cell)) Form.no_answer (λ x b. Form.next (record (Form.without_base b cell) { held = log ++ Form.cell_at p me cell ∷ [] })))
   locks e cell spot k en =
-      asked [] spot.site (source_at p s).site (acts.Lock c) (acts.Lock (Form.cell_at p me cell)) (pos 0) (λ v n. next (without_base cell n)) Form.no_answer (λ x b. Form.next (record (Form.without_base b cell) { held = log ++ Form.cell_at p me cell ∷ [] })) m
-      k.site (ap acts.Lock same)
-      (λ x. subst (λ c2. N (next (without_base cell (with_event ev m))) (Form.next (record (Form.without_base (Form.told me spot.site (acts.Lock c) (pos 0)) cell) { held = log ++ c2 ∷ [] })) []) (sym same) (each cell en))
+      asked [] spot.site (source_at p s).site (Act.Lock c) (Act.Lock (Form.cell_at p me cell)) (pos 0) (λ v n. next (without_base cell n)) Form.no_answer (λ x b. Form.next (record (Form.without_base b cell) { held = log ++ Form.cell_at p me cell ∷ [] })) m
+      k.site (ap Act.Lock same)
+      (λ x. subst (λ c2. N (next (without_base cell (with_event ev m))) (Form.next (record (Form.without_base (Form.told me spot.site (Act.Lock c) (pos 0)) cell) { held = log ++ c2 ∷ [] })) []) (sym same) (each cell en))
     where
       c : CellAt
       c = cell_at flat.globals m cell
@@ -359,7 +344,7 @@ module _ (dropped : ℕ → Bool) (flat : Flat) (level : IsLevel flat) (m : At) 
       same = cell_same dropped flat m q log low cell
 
       ev : SourceEvent
-      ev = event_of spot.site (acts.Lock c) (pos 0)
+      ev = event_of spot.site (Act.Lock c) (pos 0)
 
       eh : log ++ c ∷ [] ≡ held_mutexes (m.events ++ ev ∷ [])
       eh = sym (lock_held m.events ev c refl refl)
@@ -368,19 +353,19 @@ module _ (dropped : ℕ → Bool) (flat : Flat) (level : IsLevel flat) (m : At) 
       land m2 r e1 e2 e3 = lands dropped flat level m2 (q + 1) (log ++ c ∷ []) [] (e ∙ ap pl (sym e3)) r (eh ∙ ap held_mutexes (sym e1)) (subst (λ g. AreLowered g []) (sym e2) tt)
 
       each : (cell : Cell) → En (without_cell here cell) (m.pc + 1)
-          → N (next (without_base cell (with_event ev m))) (Form.next (record (Form.without_base (Form.told me spot.site (acts.Lock c) (pos 0)) cell) { held = log ++ c ∷ [] })) []
-      each (cells.Object r n) en = let m2 = next (set_ref r (pos 0) (with_event ev m)) in land m2 (puts m2 r free (pos 0) refl en refl refl refl) refl refl refl
-      each (cells.ObjectAt r i) en = let m2 = next (set_ref r (pos 0) (with_event ev m)) in land m2 (puts m2 r free (pos 0) refl en refl refl refl) refl refl refl
+          → N (next (without_base cell (with_event ev m))) (Form.next (record (Form.without_base (Form.told me spot.site (Act.Lock c) (pos 0)) cell) { held = log ++ c ∷ [] })) []
+      each (Cell.Object r n) en = let m2 = next (set_ref r (pos 0) (with_event ev m)) in land m2 (puts m2 r free (pos 0) refl en refl refl refl) refl refl refl
+      each (Cell.ObjectAt r i) en = let m2 = next (set_ref r (pos 0) (with_event ev m)) in land m2 (puts m2 r free (pos 0) refl en refl refl refl) refl refl refl
       each _ en = let m2 = next (with_event ev m) in land m2 (keeps m2 en refl refl refl) refl refl refl
 
   unlocks : (e : q + 1 ≡ pl (m.pc + 1)) (r : ℕ) (cell : Cell) (spot : Spot) → IsPlaceOf spot (source_at p s) → En (with_slot here r (slot_of here cell)) (m.pc + 1)
-      → F [] (event spot (acts.Unlock (cell_at flat.globals m cell)) (λ v n. set_ref r (base_of n cell) n) m)
-      (Form.asks_at p me s (acts.Unlock (Form.cell_at p me cell)) Form.no_answer (λ x b. Form.next (record (Form.set_ref b r (Form.base_of me cell)) { held = Form.without_mutex log (Form.cell_at p me cell) })))
+      → F [] (event spot (Act.Unlock (cell_at flat.globals m cell)) (λ v n. set_ref r (base_of n cell) n) m)
+      (Form.asks_at p me s (Act.Unlock (Form.cell_at p me cell)) Form.no_answer (λ x b. Form.next (record (Form.set_ref b r (Form.base_of me cell)) { held = Form.without_mutex log (Form.cell_at p me cell) })))
   unlocks e r cell spot k en =
-      asked [] spot.site (source_at p s).site (acts.Unlock c) (acts.Unlock (Form.cell_at p me cell)) (pos 0) (λ v n. next (set_ref r (base_of n cell) n)) Form.no_answer
+      asked [] spot.site (source_at p s).site (Act.Unlock c) (Act.Unlock (Form.cell_at p me cell)) (pos 0) (λ v n. next (set_ref r (base_of n cell) n)) Form.no_answer
       (λ x b. Form.next (record (Form.set_ref b r (Form.base_of me cell)) { held = Form.without_mutex log (Form.cell_at p me cell) })) m
-      k.site (ap acts.Unlock same)
-      (λ x. subst (λ c2. N (next (set_ref r (base_of (with_event ev m) cell) (with_event ev m))) (Form.next (record (Form.set_ref (Form.told me spot.site (acts.Unlock c) (pos 0)) r (Form.base_of me cell)) { held = Form.without_mutex log c2 })) []) (sym same)
+      k.site (ap Act.Unlock same)
+      (λ x. subst (λ c2. N (next (set_ref r (base_of (with_event ev m) cell) (with_event ev m))) (Form.next (record (Form.set_ref (Form.told me spot.site (Act.Unlock c) (pos 0)) r (Form.base_of me cell)) { held = Form.without_mutex log c2 })) []) (sym same)
       (each cell en))
     where
       c : CellAt
@@ -390,7 +375,7 @@ module _ (dropped : ℕ → Bool) (flat : Flat) (level : IsLevel flat) (m : At) 
       same = cell_same dropped flat m q log low cell
 
       ev : SourceEvent
-      ev = event_of spot.site (acts.Unlock c) (pos 0)
+      ev = event_of spot.site (Act.Unlock c) (pos 0)
 
       eh : Form.without_mutex log c ≡ held_mutexes (m.events ++ ev ∷ [])
       eh = sym (unlock_held m.events ev c refl refl)
@@ -399,28 +384,28 @@ module _ (dropped : ℕ → Bool) (flat : Flat) (level : IsLevel flat) (m : At) 
       land v x i en = let m2 = next (set_ref r v (with_event ev m)) in lands dropped flat level m2 (q + 1) (Form.without_mutex log c) [] e (puts m2 r x v i en refl refl refl) eh tt
 
       each : (cell : Cell) → En (with_slot here r (slot_of here cell)) (m.pc + 1)
-          → N (next (set_ref r (base_of (with_event ev m) cell) (with_event ev m))) (Form.next (record (Form.set_ref (Form.told me spot.site (acts.Unlock c) (pos 0)) r (Form.base_of me cell)) { held = Form.without_mutex log c })) []
-      each (cells.Object b n) en = land (m.refs (m.ref_base + b)) (here b) (rd.hold b) en
-      each (cells.ObjectAt b i) en = land (m.refs (m.ref_base + b)) (here b) (rd.hold b) en
+          → N (next (set_ref r (base_of (with_event ev m) cell) (with_event ev m))) (Form.next (record (Form.set_ref (Form.told me spot.site (Act.Unlock c) (pos 0)) r (Form.base_of me cell)) { held = Form.without_mutex log c })) []
+      each (Cell.Object b n) en = land (m.refs (m.ref_base + b)) (here b) (rd.hold b) en
+      each (Cell.ObjectAt b i) en = land (m.refs (m.ref_base + b)) (here b) (rd.hold b) en
       each _ en = land (pos 0) free refl en
 
   -- ---- threads
   spawns : (e : q + 1 ≡ pl (m.pc + 1)) (i f : ℕ) (from : Register) (spot : Spot) → IsPlaceOf spot (source_at p s) → En (without_handed here from) (m.pc + 1)
-      → F [] (event spot (acts.Spawn f (argument m from)) (λ v n. set_int i v (handed from n)) m)
-      (Form.asks_at p me s (acts.Spawn f (Form.argument me from)) Form.given (λ x b. Form.next (Form.set_int (Form.handed b from) i x)))
+      → F [] (event spot (Act.Spawn f (argument m from)) (λ v n. set_int i v (handed from n)) m)
+      (Form.asks_at p me s (Act.Spawn f (Form.argument me from)) Form.given (λ x b. Form.next (Form.set_int (Form.handed b from) i x)))
   spawns e i f from spot k en =
-      asked [] spot.site (source_at p s).site (acts.Spawn f v) (acts.Spawn f (Form.argument me from)) (pos 0) (λ v n. next (set_int i v (handed from n))) Form.given (λ x b. Form.next (Form.set_int (Form.handed b from) i x)) m
-      k.site (ap (acts.Spawn f) (argument_same dropped flat m q log low from)) (each from en)
+      asked [] spot.site (source_at p s).site (Act.Spawn f v) (Act.Spawn f (Form.argument me from)) (pos 0) (λ v n. next (set_int i v (handed from n))) Form.given (λ x b. Form.next (Form.set_int (Form.handed b from) i x)) m
+      k.site (ap (Act.Spawn f) (argument_same dropped flat m q log low from)) (each from en)
     where
       v : ℤ
       v = argument m from
 
       each : (from : Register) → En (without_handed here from) (m.pc + 1) → (x : ℤ)
-          → N (next (set_int i x (handed from (with_event (event_of spot.site (acts.Spawn f v) x) m)))) (Form.next (Form.set_int (Form.handed (Form.told me spot.site (acts.Spawn f v) x) from) i x)) []
-      each (registers.Int j) en x = let m2 = next (set_int i x (with_event (event_of spot.site (acts.Spawn f v) x) m)) in
-          behind e m2 (keeps m2 en refl refl refl) (plain spot.site (acts.Spawn f v) x refl refl) refl refl
-      each (registers.Reference r) en x = let m2 = next (set_int i x (set_ref r (pos 0) (with_event (event_of spot.site (acts.Spawn f v) x) m))) in
-          behind e m2 (puts m2 r free (pos 0) refl en refl refl refl) (plain spot.site (acts.Spawn f v) x refl refl) refl refl
+          → N (next (set_int i x (handed from (with_event (event_of spot.site (Act.Spawn f v) x) m)))) (Form.next (Form.set_int (Form.handed (Form.told me spot.site (Act.Spawn f v) x) from) i x)) []
+      each (Register.Int j) en x = let m2 = next (set_int i x (with_event (event_of spot.site (Act.Spawn f v) x) m)) in
+          behind e m2 (keeps m2 en refl refl refl) (plain spot.site (Act.Spawn f v) x refl refl) refl refl
+      each (Register.Reference r) en x = let m2 = next (set_int i x (set_ref r (pos 0) (with_event (event_of spot.site (Act.Spawn f v) x) m))) in
+          behind e m2 (puts m2 r free (pos 0) refl en refl refl refl) (plain spot.site (Act.Spawn f v) x refl refl) refl refl
 
   -- an event that leaves the registers
   tells : (e : q + 1 ≡ pl (m.pc + 1)) (spot : Spot) (act act2 : Act) → IsPlaceOf spot (source_at p s) → En here (m.pc + 1) → act2 ≡ act → locked_by act ≡ None → unlocked_by act ≡ None → answer_of (λ token. pos 0) act ≡ (λ x. pos 0)
@@ -448,30 +433,30 @@ module _ (dropped : ℕ → Bool) (flat : Flat) (level : IsLevel flat) (m : At) 
 
   pub follows : (o : Op) → Level flat level.owner level.gives level.slots m.pc (level.owner m.pc) here o → ((spot : Spot) → spot_of o ≡ Some spot → IsPlaceOf spot (source_at p s)) → IsOpenFor o m
       → q + (1 + length (tail o)) ≡ pl (m.pc + 1) → FollowsBy o (own (body pl m.pc o))
-  follows (op.Constant i v) lv k way e = inl (ints (omega arith) i v lv)
-  follows (op.Move i from) lv k way e = inl (ints (omega arith) i (int m from) lv)
-  follows (op.Compute Char o i a b spot) lv k way e = absurd lv.0
-  follows (op.Compute Int o i a b spot) lv k way e = resulted (omega arith) i spot (k spot refl) lv.1 (computed Int o (int m a) (int m b))
-  follows (op.Compute Long o i a b spot) lv k way e = resulted (omega arith) i spot (k spot refl) lv.1 (computed Long o (int m a) (int m b))
-  follows (op.Negate Char i a spot) lv k way e = absurd lv.0
-  follows (op.Negate Int i a spot) lv k way e = resulted (omega arith) i spot (k spot refl) lv.1 (negated Int (int m a))
-  follows (op.Negate Long i a spot) lv k way e = resulted (omega arith) i spot (k spot refl) lv.1 (negated Long (int m a))
-  follows (op.Complement i a) lv k way e = inl (ints (omega arith) i (complement (int m a)) lv)
-  follows (op.IsFalse i a) lv k way e =
+  follows (Op.Constant i v) lv k way e = inl (ints (omega arith) i v lv)
+  follows (Op.Move i from) lv k way e = inl (ints (omega arith) i (int m from) lv)
+  follows (Op.Compute Char o i a b spot) lv k way e = absurd lv.0
+  follows (Op.Compute Int o i a b spot) lv k way e = resulted (omega arith) i spot (k spot refl) lv.1 (computed Int o (int m a) (int m b))
+  follows (Op.Compute Long o i a b spot) lv k way e = resulted (omega arith) i spot (k spot refl) lv.1 (computed Long o (int m a) (int m b))
+  follows (Op.Negate Char i a spot) lv k way e = absurd lv.0
+  follows (Op.Negate Int i a spot) lv k way e = resulted (omega arith) i spot (k spot refl) lv.1 (negated Int (int m a))
+  follows (Op.Negate Long i a spot) lv k way e = resulted (omega arith) i spot (k spot refl) lv.1 (negated Long (int m a))
+  follows (Op.Complement i a) lv k way e = inl (ints (omega arith) i (complement (int m a)) lv)
+  follows (Op.IsFalse i a) lv k way e =
       subst (λ b. F [] (goes (next (set_int i (truth (is_zero (int m a))) m))) (Form.goes (Form.set_int me i (truth b)))) (sym (zero_same (int m a))) (inl (ints (omega arith) i (truth (is_zero (int m a))) lv))
-  follows (op.SameReference i a b) lv k way e = inl (ints (omega arith) i (truth (is_equal (ref m a) (ref m b))) lv)
-  follows (op.ChkWidth width i spot) lv k way e = asserted (holds width (int m i)) (holds width (int m i)) traps.OutOfRange spot (k spot refl) refl (λ t. on (omega arith) lv)
-  follows (op.Skip n) lv k way e = inl (jumps (m.pc + 1 + n) here lv rd.hold)
-  follows (op.SkipIfZero i n) lv k way e =
+  follows (Op.SameReference i a b) lv k way e = inl (ints (omega arith) i (truth (is_equal (ref m a) (ref m b))) lv)
+  follows (Op.ChkWidth width i spot) lv k way e = asserted (holds width (int m i)) (holds width (int m i)) Trap.OutOfRange spot (k spot refl) refl (λ t. on (omega arith) lv)
+  follows (Op.Skip n) lv k way e = inl (jumps (m.pc + 1 + n) here lv rd.hold)
+  follows (Op.SkipIfZero i n) lv k way e =
       chooses (is_zero (int m i)) (Code.is_zero (int m i)) (over_lines n m) (next m) _ _ (zero_same (int m i)) (λ t. jumps (m.pc + 1 + n) here lv.0 rd.hold) (λ t. on (omega arith) lv.1)
-  follows (op.SkipIfNull r n) lv k way e =
+  follows (Op.SkipIfNull r n) lv k way e =
       chooses (is_zero (ref m r)) (is_zero (ref m r)) (over_lines n m) (next m) _ _ refl
       (λ t. jumps (m.pc + 1 + n) (with_slot here r free) lv.0 (hold_as here m.ref_base m.refs r free (is_free r t) rd.hold))
       (λ t. stays (omega arith) (next m) (enters flat level m (next m) here rd.frames lv.1 rd.hold (λ j lt. refl) refl refl) refl refl refl)
-  follows (op.Jump to) lv k way e = inl (jumps to here lv rd.hold)
-  follows (op.Call f i r spot) lv k way e = calls (omega arith) f i r spot (k spot refl) lv.0 lv.1
-  follows (op.Return spot) lv k way e = returns spot (k spot refl) lv m.frames rd.frames
-  follows (op.Null r) lv k way e = inl (stays (omega arith) (next (set_ref r (pos 0) m)) (null_ready r lv.0 lv.1) refl refl refl)
+  follows (Op.Jump to) lv k way e = inl (jumps to here lv rd.hold)
+  follows (Op.Call f i r spot) lv k way e = calls (omega arith) f i r spot (k spot refl) lv.0 lv.1
+  follows (Op.Return spot) lv k way e = returns spot (k spot refl) lv m.frames rd.frames
+  follows (Op.Null r) lv k way e = inl (stays (omega arith) (next (set_ref r (pos 0) m)) (null_ready r lv.0 lv.1) refl refl refl)
     where
       null_ready : (r : ℕ) → here r ≡ free → En2x here (m.pc + 1) → R (next (set_ref r (pos 0) m))
       null_ready r fr en =
@@ -480,84 +465,84 @@ module _ (dropped : ℕ → Bool) (flat : Flat) (level : IsLevel flat) (m : At) 
           (λ (ne : k ≡ m.ref_base + r → ⊥). put_other m.refs (m.ref_base + r) (pos 0) k ne)
           (cases_eq k (m.ref_base + r))) in
           keeps (next (set_ref r (pos 0) m)) en same refl refl
-  follows (op.Local r x) lv k way e = inl (stays (omega arith) (next (set_ref r (ref m x) m)) (puts (next (set_ref r (ref m x) m)) r (here x) (ref m x) (rd.hold x) lv.1 refl refl refl) refl refl refl)
-  follows (op.MoveReference r from) lv k way e = inl (stays (omega arith) (next (moved r from m)) (⊎_elim
+  follows (Op.Local r x) lv k way e = inl (stays (omega arith) (next (set_ref r (ref m x) m)) (puts (next (set_ref r (ref m x) m)) r (here x) (ref m x) (rd.hold x) lv.1 refl refl refl) refl refl refl)
+  follows (Op.MoveReference r from) lv k way e = inl (stays (omega arith) (next (moved r from m)) (⊎_elim
       (λ (z : (r ≡ from) × En2x here (m.pc + 1)). keeps (next (moved r from m)) z.1 (moved_same m.refs (m.ref_base + r) (m.ref_base + from) (ap (λ n. m.ref_base + n) z.0)) refl refl)
       (λ (z : (here r ≡ free) × (r ≢ from) × En2x (with_moved here r from) (m.pc + 1)). moves (next (moved r from m)) r from z.2 refl refl refl)
       lv) refl refl refl)
-  follows (op.Pop r) lv k way e =
+  follows (Op.Pop r) lv k way e =
       let m2 = next (popped r m) in
       inl (lands dropped flat level m2 (q + 1) log (low ++ number_of (ref m r) ∷ []) (omega arith) (puts m2 r free (pos 0) refl lv refl refl refl) refl (lowered_more m.given low (number_of (ref m r)) lows))
-  follows (op.Settle x from) lv k way e = inl (settles (omega arith) x from lv.0 lv.1)
-  follows (op.ChkNull r spot) lv k way e =
-      asserted (not (is_zero (ref m r))) (not (is_zero (ref m r))) traps.NullPointer spot (k spot refl) refl
+  follows (Op.Settle x from) lv k way e = inl (settles (omega arith) x from lv.0 lv.1)
+  follows (Op.ChkNull r spot) lv k way e =
+      asserted (not (is_zero (ref m r))) (not (is_zero (ref m r))) Trap.NullPointer spot (k spot refl) refl
       (λ t. stays (omega arith) (next m) (enters flat level m (next m) here rd.frames lv rd.hold (λ j lt. refl) refl refl) refl refl refl)
-  follows (op.ChkPositive i spot) lv k way e = asserted (is_positive (int m i)) (CodeMachine.is_positive (int m i)) traps.SizeNotPositive spot (k spot refl) (positive_same (int m i)) (λ t. on (omega arith) lv)
-  follows (op.ChkHeld cell spot) lv k way e =
-      asserted (holds_mutex m.events (cell_at flat.globals m cell)) (Form.is_held log (Form.cell_at p me cell)) traps.MutexNotHeld spot (k spot refl) (ap (Form.is_held log) (same_cells cell)) (λ t. on (omega arith) lv)
-  follows (op.ChkNotHeld cell spot) lv k way e =
-      asserted (not (holds_mutex m.events (cell_at flat.globals m cell))) (not (Form.is_held log (Form.cell_at p me cell))) traps.MutexAlreadyHeld spot (k spot refl) (ap (λ c. not (Form.is_held log c)) (same_cells cell)) (λ t. on (omega arith) lv)
-  follows (op.ChkRoom spot) lv k way e = asserted (nat_lt (length log) 16) (nat_lt (length log) 16) traps.TooManyLocks spot (k spot refl) refl (λ t. on (omega arith) lv)
-  follows (op.Bounds i r cells field spot) lv k way e = index_follows (omega arith) i cells field (elements_of (ref m r)) spot (k spot refl) lv (int m i)
-  follows (op.GlobalBounds i elements cells field spot) lv k way e = index_follows (omega arith) i cells field elements spot (k spot refl) lv (int m i)
-  follows (op.Load i cell spot) lv k way e =
-      accessing [] cell spot acts.Read (λ c v. set_int i v) Form.given (λ x b. Form.next (Form.accessed (Form.set_int b i x))) (k spot refl) way
-      (λ mode x. let c = cell_at flat.globals m cell in let m2 = accessed (next (set_int i x (with_event (event_of spot.site (acts.Read c mode) x) m))) in
-      behind (omega arith) m2 (keeps m2 lv refl refl refl) (plain spot.site (acts.Read c mode) x refl refl) refl refl)
-  follows (op.Store i cell spot) lv k way e =
-      accessing [] cell spot (λ c mode. acts.Write c mode (int m i)) (λ c v n. n) Form.no_answer (λ x b. Form.next (Form.accessed b)) (k spot refl) way
-      (λ mode x. let c = cell_at flat.globals m cell in let m2 = accessed (next (with_event (event_of spot.site (acts.Write c mode (int m i)) (pos 0)) m)) in
-      behind (omega arith) m2 (keeps m2 lv refl refl refl) (plain spot.site (acts.Write c mode (int m i)) (pos 0) refl refl) refl refl)
-  follows (op.LoadRef r cell spot) lv k way e =
-      accessing (RaiseLoaded r ∷ []) cell spot acts.Read (λ c v. set_ref r v) Form.given (λ x b. Form.next (record b { pending = x })) (k spot refl) way
+  follows (Op.ChkPositive i spot) lv k way e = asserted (is_positive (int m i)) (CodeMachine.is_positive (int m i)) Trap.SizeNotPositive spot (k spot refl) (positive_same (int m i)) (λ t. on (omega arith) lv)
+  follows (Op.ChkHeld cell spot) lv k way e =
+      asserted (holds_mutex m.events (cell_at flat.globals m cell)) (Form.is_held log (Form.cell_at p me cell)) Trap.MutexNotHeld spot (k spot refl) (ap (Form.is_held log) (same_cells cell)) (λ t. on (omega arith) lv)
+  follows (Op.ChkNotHeld cell spot) lv k way e =
+      asserted (not (holds_mutex m.events (cell_at flat.globals m cell))) (not (Form.is_held log (Form.cell_at p me cell))) Trap.MutexAlreadyHeld spot (k spot refl) (ap (λ c. not (Form.is_held log c)) (same_cells cell)) (λ t. on (omega arith) lv)
+  follows (Op.ChkRoom spot) lv k way e = asserted (nat_lt (length log) 16) (nat_lt (length log) 16) Trap.TooManyLocks spot (k spot refl) refl (λ t. on (omega arith) lv)
+  follows (Op.Bounds i r cells field spot) lv k way e = index_follows (omega arith) i cells field (elements_of (ref m r)) spot (k spot refl) lv (int m i)
+  follows (Op.GlobalBounds i elements cells field spot) lv k way e = index_follows (omega arith) i cells field elements spot (k spot refl) lv (int m i)
+  follows (Op.Load i cell spot) lv k way e =
+      accessing [] cell spot Act.Read (λ c v. set_int i v) Form.given (λ x b. Form.next (Form.accessed (Form.set_int b i x))) (k spot refl) way
+      (λ mode x. let c = cell_at flat.globals m cell in let m2 = accessed (next (set_int i x (with_event (event_of spot.site (Act.Read c mode) x) m))) in
+      behind (omega arith) m2 (keeps m2 lv refl refl refl) (plain spot.site (Act.Read c mode) x refl refl) refl refl)
+  follows (Op.Store i cell spot) lv k way e =
+      accessing [] cell spot (λ c mode. Act.Write c mode (int m i)) (λ c v n. n) Form.no_answer (λ x b. Form.next (Form.accessed b)) (k spot refl) way
+      (λ mode x. let c = cell_at flat.globals m cell in let m2 = accessed (next (with_event (event_of spot.site (Act.Write c mode (int m i)) (pos 0)) m)) in
+      behind (omega arith) m2 (keeps m2 lv refl refl refl) (plain spot.site (Act.Write c mode (int m i)) (pos 0) refl refl) refl refl)
+  follows (Op.LoadRef r cell spot) lv k way e =
+      accessing (RaiseLoaded r ∷ []) cell spot Act.Read (λ c v. set_ref r v) Form.given (λ x b. Form.next (record b { pending = x })) (k spot refl) way
       (λ mode x. let c = cell_at flat.globals m cell in
-      loads (omega arith) r x (event_of spot.site (acts.Read c mode) x) (plain spot.site (acts.Read c mode) x refl refl) lv.0 lv.1)
-  follows (op.StoreRef r cell spot) lv k way e =
-      accessing (Lower r ∷ []) cell spot (λ c mode. acts.Write c mode (ref m r)) (λ c v n. gives_up (Replaced c) (set_ref r (pos 0) n)) Form.no_answer (λ x b. Form.next (Form.accessed (Form.set_ref b r x))) (k spot refl) way
+      loads (omega arith) r x (event_of spot.site (Act.Read c mode) x) (plain spot.site (Act.Read c mode) x refl refl) lv.0 lv.1)
+  follows (Op.StoreRef r cell spot) lv k way e =
+      accessing (Lower r ∷ []) cell spot (λ c mode. Act.Write c mode (ref m r)) (λ c v n. gives_up (Replaced c) (set_ref r (pos 0) n)) Form.no_answer (λ x b. Form.next (Form.accessed (Form.set_ref b r x))) (k spot refl) way
       (λ mode x. let c = cell_at flat.globals m cell in
-      stores (omega arith) r c x (event_of spot.site (acts.Write c mode (ref m r)) (pos 0)) (plain spot.site (acts.Write c mode (ref m r)) (pos 0) refl refl) lv)
-  follows (op.LoadGuard cell spot) lv k way e =
+      stores (omega arith) r c x (event_of spot.site (Act.Write c mode (ref m r)) (pos 0)) (plain spot.site (Act.Write c mode (ref m r)) (pos 0) refl refl) lv)
+  follows (Op.LoadGuard cell spot) lv k way e =
       let kk = k (record spot { mode = Readonly }) refl in
       let c = cell_at flat.globals m cell in
-      asked [] spot.site (source_at p s).site (acts.Read c modes.Readonly) (acts.Read (Form.cell_at p me cell) (Form.mode_of p me (Form.cell_at p me cell) (source_at p s).mode)) (pos 0) (λ v n. next (record n { pending = v })) Form.given (λ x b. Form.next (record b { pending = x })) m
-      kk.site (ap (λ z. acts.Read z (Form.mode_of p me z (source_at p s).mode)) (same_cells cell) ∙ ap (λ z. acts.Read c (Form.mode_of p me c z)) kk.mode)
-      (λ x. let m2 = next (record (with_event (event_of spot.site (acts.Read c modes.Readonly) x) m) { pending = x }) in
-      behind (omega arith) m2 (keeps m2 lv refl refl refl) (plain spot.site (acts.Read c modes.Readonly) x refl refl) refl refl)
-  follows (op.New r count cells spot) lv k way e =
+      asked [] spot.site (source_at p s).site (Act.Read c CellMode.Readonly) (Act.Read (Form.cell_at p me cell) (Form.mode_of p me (Form.cell_at p me cell) (source_at p s).mode)) (pos 0) (λ v n. next (record n { pending = v })) Form.given (λ x b. Form.next (record b { pending = x })) m
+      kk.site (ap (λ z. Act.Read z (Form.mode_of p me z (source_at p s).mode)) (same_cells cell) ∙ ap (λ z. Act.Read c (Form.mode_of p me c z)) kk.mode)
+      (λ x. let m2 = next (record (with_event (event_of spot.site (Act.Read c CellMode.Readonly) x) m) { pending = x }) in
+      behind (omega arith) m2 (keeps m2 lv refl refl refl) (plain spot.site (Act.Read c CellMode.Readonly) x refl refl) refl refl)
+  follows (Op.New r count cells spot) lv k way e =
       let mode = instance_mode flat.globals m spot.mode in
       let elements = CodeMachine.elements_of (int m count) in
-      asked [] spot.site (source_at p s).site (acts.New cells elements mode) (acts.New cells elements (Form.object_mode p me s)) (pos 0) (λ v n. next (set_ref r v n)) Form.given (λ x b. Form.next (Form.set_ref b r x)) m
-      (k spot refl).site (ap (λ z. acts.New cells elements (Form.mode_of p me (Says.made_cell 0 0) z)) (k spot refl).mode ∙ ap (acts.New cells elements) (object_same dropped flat m q log low spot.mode))
-      (λ x. let m2 = next (set_ref r x (with_event (event_of spot.site (acts.New cells elements mode) x) m)) in
-      behind (omega arith) m2 (puts m2 r full x tt lv.1 refl refl refl) (plain spot.site (acts.New cells elements mode) x refl refl) refl refl)
-  follows (op.TakeCell r cell spot) lv k way e =
-      let f : Use → CellAt → CellMode → Act = λ u c mode. acts.Take (taken.Cell c mode) (Says.kind_of u) in
-      let same : f (source_at p s).at ≡ (λ c mode. acts.Take (taken.Cell c mode) (take_kind_of spot.at)) =
-      ap f (k spot refl).at ∙ ap (λ w. λ c mode. acts.Take (taken.Cell c mode) w) (kind_same spot.at) in
-      subst (λ (of : CellAt → CellMode → Act). F [] (op_turn flat (op.TakeCell r cell spot) m) (Form.access_at p me s cell of Form.given (λ x b. Form.next (Form.accessed (Form.set_ref b r x))))) (sym same)
-      (accessing [] cell spot (λ c mode. acts.Take (taken.Cell c mode) (take_kind_of spot.at)) (λ c v. set_ref r v) Form.given (λ x b. Form.next (Form.accessed (Form.set_ref b r x))) (k spot refl) way
-      (λ mode x. let c = cell_at flat.globals m cell in let act = acts.Take (taken.Cell c mode) (take_kind_of spot.at) in let m2 = accessed (next (set_ref r x (with_event (event_of spot.site act x) m))) in
+      asked [] spot.site (source_at p s).site (Act.New cells elements mode) (Act.New cells elements (Form.object_mode p me s)) (pos 0) (λ v n. next (set_ref r v n)) Form.given (λ x b. Form.next (Form.set_ref b r x)) m
+      (k spot refl).site (ap (λ z. Act.New cells elements (Form.mode_of p me (Says.made_cell 0 0) z)) (k spot refl).mode ∙ ap (Act.New cells elements) (object_same dropped flat m q log low spot.mode))
+      (λ x. let m2 = next (set_ref r x (with_event (event_of spot.site (Act.New cells elements mode) x) m)) in
+      behind (omega arith) m2 (puts m2 r full x tt lv.1 refl refl refl) (plain spot.site (Act.New cells elements mode) x refl refl) refl refl)
+  follows (Op.TakeCell r cell spot) lv k way e =
+      let f : Use → CellAt → CellMode → Act = λ u c mode. Act.Take (Taken.Cell c mode) (Says.kind_of u) in
+      let same : f (source_at p s).at ≡ (λ c mode. Act.Take (Taken.Cell c mode) (take_kind_of spot.at)) =
+      ap f (k spot refl).at ∙ ap (λ w. λ c mode. Act.Take (Taken.Cell c mode) w) (kind_same spot.at) in
+      subst (λ (of : CellAt → CellMode → Act). F [] (op_turn flat (Op.TakeCell r cell spot) m) (Form.access_at p me s cell of Form.given (λ x b. Form.next (Form.accessed (Form.set_ref b r x))))) (sym same)
+      (accessing [] cell spot (λ c mode. Act.Take (Taken.Cell c mode) (take_kind_of spot.at)) (λ c v. set_ref r v) Form.given (λ x b. Form.next (Form.accessed (Form.set_ref b r x))) (k spot refl) way
+      (λ mode x. let c = cell_at flat.globals m cell in let act = Act.Take (Taken.Cell c mode) (take_kind_of spot.at) in let m2 = accessed (next (set_ref r x (with_event (event_of spot.site act x) m))) in
       behind (omega arith) m2 (puts m2 r full x tt lv.1 refl refl refl) (plain spot.site act x refl refl) refl refl))
-  follows (op.TakeLocal r x spot) lv k way e = takes (omega arith) r x spot (k spot refl) lv.2
-  follows (op.Give r cells spot) lv k way e =
-      tells (omega arith) spot (acts.Give (ref m r) (instance_mode flat.globals m spot.mode)) (acts.Give (ref m r) (Form.object_mode p me s)) (k spot refl) lv
-      (ap (λ z. acts.Give (ref m r) (Form.mode_of p me (Says.made_cell 0 0) z)) (k spot refl).mode ∙ ap (acts.Give (ref m r)) (object_same dropped flat m q log low spot.mode)) refl refl refl
-  follows (op.Free r layout spot) lv k way e =
+  follows (Op.TakeLocal r x spot) lv k way e = takes (omega arith) r x spot (k spot refl) lv.2
+  follows (Op.Give r cells spot) lv k way e =
+      tells (omega arith) spot (Act.Give (ref m r) (instance_mode flat.globals m spot.mode)) (Act.Give (ref m r) (Form.object_mode p me s)) (k spot refl) lv
+      (ap (λ z. Act.Give (ref m r) (Form.mode_of p me (Says.made_cell 0 0) z)) (k spot refl).mode ∙ ap (Act.Give (ref m r)) (object_same dropped flat m q log low spot.mode)) refl refl refl
+  follows (Op.Free r layout spot) lv k way e =
       let from = gives_up (Emptied (number_of (ref m r))) m in
-      asked [] spot.site (source_at p s).site (acts.Freed (ref m r)) (acts.Freed (ref m r)) (pos 0) (λ v n. next (set_ref r (pos 0) n)) Form.no_answer (λ x b. Form.next (Form.set_ref b r (pos 0))) from
+      asked [] spot.site (source_at p s).site (Act.Freed (ref m r)) (Act.Freed (ref m r)) (pos 0) (λ v n. next (set_ref r (pos 0) n)) Form.no_answer (λ x b. Form.next (Form.set_ref b r (pos 0))) from
       (k spot refl).site refl
-      (λ x. let m2 = next (set_ref r (pos 0) (with_event (event_of spot.site (acts.Freed (ref m r)) (pos 0)) from)) in
-      behind (omega arith) m2 (puts m2 r free (pos 0) refl lv refl refl refl) (plain spot.site (acts.Freed (ref m r)) (pos 0) refl refl) refl refl)
-  follows (op.Lock cell spot) lv k way e = locks (omega arith) cell spot (k spot refl) lv
-  follows (op.Unlock r cell spot) lv k way e = unlocks (omega arith) r cell spot (k spot refl) lv.1
-  follows (op.CondEnter cell spot) lv k way e = tells (omega arith) spot (acts.Enter (cell_at flat.globals m cell)) (acts.Enter (Form.cell_at p me cell)) (k spot refl) lv (ap acts.Enter (same_cells cell)) refl refl refl
-  follows (op.CondWait cell spot) lv k way e = tells (omega arith) spot (acts.Woken (cell_at flat.globals m cell)) (acts.Woken (Form.cell_at p me cell)) (k spot refl) lv (ap acts.Woken (same_cells cell)) refl refl refl
-  follows (op.CondSignal cell spot) lv k way e =
-      let act = acts.Signal (cell_at flat.globals m cell) in
-      asked [] spot.site (source_at p s).site act (acts.Signal (Form.cell_at p me cell)) (pos 0) (λ v n. next n) Form.given (λ x b. Form.next b) m (k spot refl).site (ap acts.Signal (same_cells cell))
+      (λ x. let m2 = next (set_ref r (pos 0) (with_event (event_of spot.site (Act.Freed (ref m r)) (pos 0)) from)) in
+      behind (omega arith) m2 (puts m2 r free (pos 0) refl lv refl refl refl) (plain spot.site (Act.Freed (ref m r)) (pos 0) refl refl) refl refl)
+  follows (Op.Lock cell spot) lv k way e = locks (omega arith) cell spot (k spot refl) lv
+  follows (Op.Unlock r cell spot) lv k way e = unlocks (omega arith) r cell spot (k spot refl) lv.1
+  follows (Op.CondEnter cell spot) lv k way e = tells (omega arith) spot (Act.Enter (cell_at flat.globals m cell)) (Act.Enter (Form.cell_at p me cell)) (k spot refl) lv (ap Act.Enter (same_cells cell)) refl refl refl
+  follows (Op.CondWait cell spot) lv k way e = tells (omega arith) spot (Act.Woken (cell_at flat.globals m cell)) (Act.Woken (Form.cell_at p me cell)) (k spot refl) lv (ap Act.Woken (same_cells cell)) refl refl refl
+  follows (Op.CondSignal cell spot) lv k way e =
+      let act = Act.Signal (cell_at flat.globals m cell) in
+      asked [] spot.site (source_at p s).site act (Act.Signal (Form.cell_at p me cell)) (pos 0) (λ v n. next n) Form.given (λ x b. Form.next b) m (k spot refl).site (ap Act.Signal (same_cells cell))
       (λ x. let m2 = next (with_event (event_of spot.site act x) m) in behind (omega arith) m2 (keeps m2 lv refl refl refl) (plain spot.site act x refl refl) refl refl)
-  follows (op.CondBroadcast cell spot) lv k way e = tells (omega arith) spot (acts.Broadcast (cell_at flat.globals m cell)) (acts.Broadcast (Form.cell_at p me cell)) (k spot refl) lv (ap acts.Broadcast (same_cells cell)) refl refl refl
-  follows (op.Spawn i f from spot) lv k way e = spawns (omega arith) i f from spot (k spot refl) lv
-  follows (op.Join i spot) lv k way e = tells (omega arith) spot (acts.Join (int m i)) (acts.Join (int m i)) (k spot refl) lv refl refl refl refl
-  follows (op.Print i spot) lv k way e = tells (omega arith) spot (acts.Print (int m i)) (acts.Print (int m i)) (k spot refl) lv refl refl refl refl
+  follows (Op.CondBroadcast cell spot) lv k way e = tells (omega arith) spot (Act.Broadcast (cell_at flat.globals m cell)) (Act.Broadcast (Form.cell_at p me cell)) (k spot refl) lv (ap Act.Broadcast (same_cells cell)) refl refl refl
+  follows (Op.Spawn i f from spot) lv k way e = spawns (omega arith) i f from spot (k spot refl) lv
+  follows (Op.Join i spot) lv k way e = tells (omega arith) spot (Act.Join (int m i)) (Act.Join (int m i)) (k spot refl) lv refl refl refl refl
+  follows (Op.Print i spot) lv k way e = tells (omega arith) spot (Act.Print (int m i)) (Act.Print (int m i)) (k spot refl) lv refl refl refl refl
   follows _ lv k way e = tt

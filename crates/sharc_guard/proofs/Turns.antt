@@ -1,6 +1,5 @@
 -- Where flat code is after a turn.
-use Rattle.std.specs.Prelude.{ℤ}
-use Rattle.sharc_flat.specs.{Machine.{At, Turn}, Path.after}
+use Rattle.sharc_guard.proofs.Imports.{ℤ, At, Turn, after}
 
 abbrev pub behind : Turn → At → ℤ → At
 behind t m x = after m t x

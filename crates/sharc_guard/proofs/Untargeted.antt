@@ -1,14 +1,7 @@
 -- Nothing leads to an access whose check is dropped.
-use Rattle.std.proofs.{Common.{◌≡◌, ℕ, zero, suc, ◌+◌, ◌-◌, ◌<◌, ◌≤◌, Bool, true, false, List, [], ◌∷◌, ◌++◌, length, Some, refl, sym, ap, ◌∙◌, subst, ⊎_elim, arith, slice_get, slice_index_or}, lemmas.Bool.{cases_lt, or_right, or_left}, lemmas.List.{length-append, length-map}}
-use Rattle.std.specs.Prelude.{◌==◌}
-use Rattle.sharc_code.specs.{declared.code.Function.Function, declared.instr.Instr.Instr, declared.instr.Instr.TheVariants.{Start, Exit, ChkRead, ChkWrite, Load, Store, LoadRef, Exchange}, declared.instr.Width.TheVariants.Char, Machine.no_function}
-use Rattle.sharc_heap.specs.declared.shadow_word.Kind.TheVariants as kinds
-use Rattle.sharc_flat.specs.{declared.op.Op.Op, declared.op.Spot.Spot, Machine.Flat}
-use Rattle.sharc_flat.specs.declared.op.Op.TheVariants as op
-use Rattle.sharc_guard.specs.{Machine.Program, Guard.{expand, head, body, tail, own, offset, place, guarded, entered_at, check_under}, Checked.{Access, access_of, LeadsTo, IsNoTarget}, Known.{leads_to, line_leads, is_led_to, is_entry, is_target, is_dynamic, tells, has_passed, place_of, known, drops, drops_at, dropped}, Untargeted.DroppedIsNoTarget}
+use Rattle.sharc_guard.proofs.{Imports.{◌≡◌, ℕ, zero, suc, ◌+◌, ◌-◌, ◌<◌, ◌≤◌, Bool, true, false, List, [], ◌∷◌, ◌++◌, length, Some, refl, sym, ap, ◌∙◌, subst, ⊎_elim, arith, slice_get, get_or as slice_index_or, cases_lt, or_right, or_left, length-append, length-map, ◌==◌, Function, Instr, Start, Exit, ChkRead, ChkWrite, Load, Store, LoadRef, Exchange, Char, no_function, Kind, Op, Spot, Flat, Program, expand, head, body, tail, own, offset, place, guarded, entered_at, check_under, access_of, LeadsTo, IsNoTarget, leads_to, line_leads, is_led_to, is_entry, is_target, is_dynamic, tells, has_passed, place_of, known, drops, drops_at, dropped, DroppedIsNoTarget, and_left, within}, Checking.{grows, entry_placed, at_line}, Framing.{AllIn, all_append, all_at, head_all}, Placing.{width_is, place_next}, Repeating.{eq_same, no_some, true_false, dynamic_is, repeated}}
+use Rattle.sharc_guard.specs.Checked.{Access}
 use Rattle.sharc_guard.specs.Known as Known
-use Rattle.sharc_guard.proofs.{Checking.{grows, entry_placed, at_line}, Framing.{AllIn, all_append, all_at, head_all}, Placing.{width_is, place_next}, Repeating.{eq_same, no_some, true_false, dynamic_is, repeated}}
-use Rattle.sharc_lemmas.proofs.{Bools.and_left, Lists.{there_is as within}}
 
 -- ---- where the statements of a line lead
 abbrev Leads : (ℕ → ℕ) → ℕ → Op → Instr → Type 0
@@ -18,20 +11,20 @@ pub itself : (n : ℕ) → (n == n) ≡ true
 itself n = eq_same n n refl
 
 own_leads : (pl : ℕ → ℕ) (n : ℕ) (o : Op) → AllIn (Leads pl n o) (own (body pl n o))
-own_leads pl n op.Enter = tt
-own_leads pl n op.BlockEnd = tt
-own_leads pl n (op.Compute Char operator i a b spot) = (λ pc h. absurd h, tt)
-own_leads pl n (op.Negate Char i a spot) = (λ pc h. absurd h, tt)
-own_leads pl n (op.Skip k) = (λ pc h. (n + 1 + k, itself (n + 1 + k), h), tt)
-own_leads pl n (op.SkipIfZero i k) = (λ pc h. (n + 1 + k, itself (n + 1 + k), h), tt)
-own_leads pl n (op.SkipIfNull r k) = (λ pc h. (n + 1 + k, itself (n + 1 + k), h), tt)
-own_leads pl n (op.Jump to) = (λ pc h. (to, itself to, h), tt)
+own_leads pl n Op.Enter = tt
+own_leads pl n Op.BlockEnd = tt
+own_leads pl n (Op.Compute Char operator i a b spot) = (λ pc h. absurd h, tt)
+own_leads pl n (Op.Negate Char i a spot) = (λ pc h. absurd h, tt)
+own_leads pl n (Op.Skip k) = (λ pc h. (n + 1 + k, itself (n + 1 + k), h), tt)
+own_leads pl n (Op.SkipIfZero i k) = (λ pc h. (n + 1 + k, itself (n + 1 + k), h), tt)
+own_leads pl n (Op.SkipIfNull r k) = (λ pc h. (n + 1 + k, itself (n + 1 + k), h), tt)
+own_leads pl n (Op.Jump to) = (λ pc h. (to, itself to, h), tt)
 own_leads pl n _ = (λ pc h. absurd h, tt)
 
 tail_leads : (pl : ℕ → ℕ) (n : ℕ) (o of : Op) → AllIn (Leads pl n of) (tail o)
-tail_leads pl n (op.LoadRef r cell spot) of = (λ pc h. absurd h, tt)
-tail_leads pl n (op.StoreRef r cell spot) of = (λ pc h. absurd h, tt)
-tail_leads pl n (op.Settle x from) of = (λ pc h. absurd h, tt)
+tail_leads pl n (Op.LoadRef r cell spot) of = (λ pc h. absurd h, tt)
+tail_leads pl n (Op.StoreRef r cell spot) of = (λ pc h. absurd h, tt)
+tail_leads pl n (Op.Settle x from) of = (λ pc h. absurd h, tt)
 tail_leads pl n _ of = tt
 
 all_leads : (pl : ℕ → ℕ) (drop : Bool) (n : ℕ) (o : Op) → AllIn (Leads pl n o) (expand pl drop n o)
@@ -64,22 +57,22 @@ same_site : (a b : Access) → Some a ≡ Some b → b.site ≡ a.site
 same_site a b e = let q : a ≡ b = cc in ap (λ (a : Access). a.site) (sym q)
 
 own_sited : (pl : ℕ → ℕ) (n : ℕ) (o : Op) → AllIn (Sited n) (own (body pl n o))
-own_sited pl n op.Enter = tt
-own_sited pl n op.BlockEnd = tt
-own_sited pl n (op.Compute Char operator i a b spot) = (λ q e. no_some q e, tt)
-own_sited pl n (op.Negate Char i a spot) = (λ q e. no_some q e, tt)
-own_sited pl n (op.Load i cell spot) = (λ q e. same_site record { cell = cell; site = n; is_write = false } q e, tt)
-own_sited pl n (op.Store i cell spot) = (λ q e. same_site record { cell = cell; site = n; is_write = true } q e, tt)
-own_sited pl n (op.LoadRef r cell spot) = (λ q e. same_site record { cell = cell; site = n; is_write = false } q e, tt)
-own_sited pl n (op.LoadGuard cell spot) = (λ q e. same_site record { cell = cell; site = n; is_write = false } q e, tt)
-own_sited pl n (op.StoreRef r cell spot) = (λ q e. same_site record { cell = cell; site = n; is_write = true } q e, tt)
-own_sited pl n (op.TakeCell r cell spot) = (λ q e. same_site record { cell = cell; site = n; is_write = true } q e, tt)
+own_sited pl n Op.Enter = tt
+own_sited pl n Op.BlockEnd = tt
+own_sited pl n (Op.Compute Char operator i a b spot) = (λ q e. no_some q e, tt)
+own_sited pl n (Op.Negate Char i a spot) = (λ q e. no_some q e, tt)
+own_sited pl n (Op.Load i cell spot) = (λ q e. same_site record { cell = cell; site = n; is_write = false } q e, tt)
+own_sited pl n (Op.Store i cell spot) = (λ q e. same_site record { cell = cell; site = n; is_write = true } q e, tt)
+own_sited pl n (Op.LoadRef r cell spot) = (λ q e. same_site record { cell = cell; site = n; is_write = false } q e, tt)
+own_sited pl n (Op.LoadGuard cell spot) = (λ q e. same_site record { cell = cell; site = n; is_write = false } q e, tt)
+own_sited pl n (Op.StoreRef r cell spot) = (λ q e. same_site record { cell = cell; site = n; is_write = true } q e, tt)
+own_sited pl n (Op.TakeCell r cell spot) = (λ q e. same_site record { cell = cell; site = n; is_write = true } q e, tt)
 own_sited pl n _ = (λ q e. no_some q e, tt)
 
 tail_sited : (n : ℕ) (o : Op) → AllIn (Sited n) (tail o)
-tail_sited n (op.LoadRef r cell spot) = (λ q e. no_some q e, tt)
-tail_sited n (op.StoreRef r cell spot) = (λ q e. no_some q e, tt)
-tail_sited n (op.Settle x from) = (λ q e. no_some q e, tt)
+tail_sited n (Op.LoadRef r cell spot) = (λ q e. no_some q e, tt)
+tail_sited n (Op.StoreRef r cell spot) = (λ q e. no_some q e, tt)
+tail_sited n (Op.Settle x from) = (λ q e. no_some q e, tt)
 tail_sited n _ = tt
 
 all_sited : (pl : ℕ → ℕ) (drop : Bool) (n : ℕ) (o : Op) → AllIn (Sited n) (expand pl drop n o)
@@ -99,10 +92,10 @@ count pl drop n o i e =
 
 -- that of an access, one at least
 is_some : (pl : ℕ → ℕ) (drop : Bool) (n : ℕ) (o : Op) (a : Known.Access) → Known.access o ≡ Some a → 0 < length (expand pl drop n o)
-is_some pl drop n (op.Load i cell spot) a e = let c = count pl drop n (op.Load i cell spot) (Load i cell n) refl in omega arith
-is_some pl drop n (op.Store i cell spot) a e = let c = count pl drop n (op.Store i cell spot) (Store i cell n) refl in omega arith
-is_some pl drop n (op.LoadRef r cell spot) a e = let c = count pl drop n (op.LoadRef r cell spot) (LoadRef cell n) refl in omega arith
-is_some pl drop n (op.StoreRef r cell spot) a e = let c = count pl drop n (op.StoreRef r cell spot) (Exchange r cell n) refl in omega arith
+is_some pl drop n (Op.Load i cell spot) a e = let c = count pl drop n (Op.Load i cell spot) (Load i cell n) refl in omega arith
+is_some pl drop n (Op.Store i cell spot) a e = let c = count pl drop n (Op.Store i cell spot) (Store i cell n) refl in omega arith
+is_some pl drop n (Op.LoadRef r cell spot) a e = let c = count pl drop n (Op.LoadRef r cell spot) (LoadRef cell n) refl in omega arith
+is_some pl drop n (Op.StoreRef r cell spot) a e = let c = count pl drop n (Op.StoreRef r cell spot) (Exchange r cell n) refl in omega arith
 is_some pl drop n _ a e = no_some a e
 
 -- without its check, an access alone
@@ -110,13 +103,13 @@ unchecked : (dynamic : Instr) (spot : Spot) (n : ℕ) → tells spot ≡ true �
 unchecked dynamic spot n e = ap (check_under true dynamic spot n) (dynamic_is spot.mode (and_left (is_dynamic spot.mode) spot.is_simple e))
 
 is_one : (pl : ℕ → ℕ) (k : Known.Know) (n : ℕ) (o : Op) → drops k o ≡ true → length (expand pl true n o) ≡ 1
-is_one pl k n (op.Load i cell spot) e =
-    let c = count pl true n (op.Load i cell spot) (Load i cell n) refl in
-    let h = ap length (unchecked (ChkRead cell n) spot n (and_left (tells spot) (has_passed k kinds.Read (place_of k cell)) e)) in
+is_one pl k n (Op.Load i cell spot) e =
+    let c = count pl true n (Op.Load i cell spot) (Load i cell n) refl in
+    let h = ap length (unchecked (ChkRead cell n) spot n (and_left (tells spot) (has_passed k Kind.Read (place_of k cell)) e)) in
     omega arith
-is_one pl k n (op.Store i cell spot) e =
-    let c = count pl true n (op.Store i cell spot) (Store i cell n) refl in
-    let h = ap length (unchecked (ChkWrite cell n) spot n (and_left (tells spot) (has_passed k kinds.Write (place_of k cell)) e)) in
+is_one pl k n (Op.Store i cell spot) e =
+    let c = count pl true n (Op.Store i cell spot) (Store i cell n) refl in
+    let h = ap length (unchecked (ChkWrite cell n) spot n (and_left (tells spot) (has_passed k Kind.Write (place_of k cell)) e)) in
     omega arith
 is_one pl k n _ e = true_false (sym e)
 

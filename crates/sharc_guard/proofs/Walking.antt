@@ -1,19 +1,10 @@
 -- A path of guarded code comes to where a path of flat code is.
-use Rattle.std.proofs.{Common.{◌≡◌, ℕ, ℤ, zero, suc, pos, ◌+◌, ◌-◌, ◌*◌, ◌<◌, ◌≤◌, ◌⊎◌, inl, inr, Bool, true, false, List, [], ◌∷◌, ◌++◌, length, map, refl, sym, ap, ◌∙◌, subst, arith, Some, None, Option, slice_get, slice_index_or}, lemmas.List.{append-nil, append_assoc, length-append}}
-use Rattle.sharc_tree.specs.{declared.event.Act.Act, declared.token.Site.Site, declared.trap.Trap.Trap}
-use Rattle.sharc_tree.specs.declared.event.Act.TheVariants as acts
-use Rattle.sharc_tree.specs.declared.trap.Trap.TheVariants as traps
-use Rattle.sharc_code.specs.{declared.code.Function.Function, declared.code.Parameter.Parameter, declared.code.PlaceMode.PlaceMode, declared.code.PlaceMode.TheVariants.Dynamic, declared.code.SourcePlace.SourcePlace, declared.instr.Width.TheVariants.{Char, Int}, declared.instr.Instr.Instr, declared.instr.Instr.TheVariants.{ChkRead, ChkWrite}, Machine.no_function}
-use Rattle.sharc_code.specs.declared.code.Parameter.TheVariants as parameters
-use Rattle.sharc_meaning.specs.{Reference.NULL, State.{stopped, event_of}}
-use Rattle.sharc_flat.specs.{declared.op.Op.Op, declared.op.Spot.Spot, Machine.{goes, asks, halts, op_turn}, Path.at_after, Framed.{IsFlat, Leads}}
-use Rattle.sharc_flat.specs.declared.op.Op.TheVariants as op
+use Rattle.sharc_guard.proofs.{Imports.{◌≡◌, ℕ, ℤ, zero, suc, pos, ◌+◌, ◌-◌, ◌*◌, ◌<◌, ◌≤◌, ◌⊎◌, inl, inr, Bool, true, false, List, [], ◌∷◌, ◌++◌, length, map, refl, sym, ap, ◌∙◌, subst, arith, Some, None, Option, slice_get, get_or as slice_index_or, append-nil, append_assoc, length-append, Act, Site, Trap, Function, Parameter, PlaceMode, Dynamic, SourcePlace, Char, Int, Instr, ChkRead, ChkWrite, no_function, NULL, stopped, event_of, Op, Spot, goes, asks, halts, op_turn, at_after, IsFlat, Leads, Thread, Phase, Running, Leaving, Left, Goes, Asks, Checks, Halts, Stopped, Ended, Check, step, source_at, statement_at, weight, started, fresh, thread_after, weight_in, source_of, head, body, tail, own, expand, entered_at, check_under, Resolved, bottom, image, Wants, IsBeside}, Placing.{HasAt, stands, place_next, statement_is, source_is}, Follows.{g, at, Callers, Is, Trailing, AtEnd, Near, Follow, follows, Bodied, Unlocked, leaving}, Heads.{IsPass, Asking, IsHead, AreHeads, heads}, Targets.{none_at as past}}
 use Rattle.sharc_flat.specs.Machine as Flat
 use Rattle.sharc_guard.specs.Machine as Form
-use Rattle.sharc_guard.specs.{Machine.{Thread, Phase, Running, Leaving, Left, Turn, Goes, Asks, Checks, Halts, Stopped, Ended, Check, step, source_at, statement_at}, Path.{weight, started, fresh, thread_after, weight_in}, Guard.{source_of, head, body, tail, own, expand, entered_at, check_under}, Correct.{Resolved, bottom, image, Wants, IsBeside}}
+use Rattle.sharc_guard.specs.Machine.{Turn}
 use Rattle.sharc_guard.specs.Path as Guarded
 use Rattle.sharc_flat.specs.Path as Flow
-use Rattle.sharc_guard.proofs.{Placing.{HasAt, stands, place_next, statement_is, source_is}, Follows.{g, at, Callers, Is, Trailing, AtEnd, Near, Follow, follows, Bodied, Unlocked, leaving}, Heads.{IsPass, Asking, IsHead, AreHeads, heads}, Targets.none_at as past}
 
 pub line_at : (lines : List Op) (n : ℕ) → n < length lines → (o : Op) × (slice_get lines n ≡ Some o)
 line_at [] n lt = absurd (omega arith)
@@ -31,41 +22,41 @@ Few drop n o None = Unit {0}
 Few drop n o (Some i) = (length (head drop n o) + weight i + length (tail o) ≤ 4) × (length (head drop n o) ≤ 2)
 
 few : (pl : ℕ → ℕ) (drop : Bool) (n : ℕ) (o : Op) → Few drop n o (body pl n o)
-few pl drop n op.Enter = tt
-few pl drop n op.BlockEnd = tt
-few pl drop n (op.Compute Char operator i a b spot) = (omega arith, omega arith)
-few pl drop n (op.Negate Char i a spot) = (omega arith, omega arith)
-few pl drop n (op.Load i cell spot) = let h = one_check drop (ChkRead cell n) spot n spot.mode in (omega arith, omega arith)
-few pl drop n (op.Store i cell spot) = let h = one_check drop (ChkWrite cell n) spot n spot.mode in (omega arith, omega arith)
-few pl drop n (op.LoadRef r cell spot) = let h = one_check false (ChkRead cell n) spot n spot.mode in (omega arith, omega arith)
-few pl drop n (op.StoreRef r cell spot) = let h = one_check false (ChkWrite cell n) spot n spot.mode in (omega arith, omega arith)
-few pl drop n (op.TakeCell r cell spot) = let h = one_check false (ChkWrite cell n) spot n spot.mode in (omega arith, omega arith)
+few pl drop n Op.Enter = tt
+few pl drop n Op.BlockEnd = tt
+few pl drop n (Op.Compute Char operator i a b spot) = (omega arith, omega arith)
+few pl drop n (Op.Negate Char i a spot) = (omega arith, omega arith)
+few pl drop n (Op.Load i cell spot) = let h = one_check drop (ChkRead cell n) spot n spot.mode in (omega arith, omega arith)
+few pl drop n (Op.Store i cell spot) = let h = one_check drop (ChkWrite cell n) spot n spot.mode in (omega arith, omega arith)
+few pl drop n (Op.LoadRef r cell spot) = let h = one_check false (ChkRead cell n) spot n spot.mode in (omega arith, omega arith)
+few pl drop n (Op.StoreRef r cell spot) = let h = one_check false (ChkWrite cell n) spot n spot.mode in (omega arith, omega arith)
+few pl drop n (Op.TakeCell r cell spot) = let h = one_check false (ChkWrite cell n) spot n spot.mode in (omega arith, omega arith)
 few pl drop n _ = (omega arith, omega arith)
 
 -- it has no statement of its own
 abbrev pub IsIdle : Op → Type 0
-IsIdle op.Enter = Unit {0}
-IsIdle op.BlockEnd = Unit {0}
+IsIdle Op.Enter = Unit {0}
+IsIdle Op.BlockEnd = Unit {0}
 IsIdle _ = ⊥
 
 pub idle_length : (pl : ℕ → ℕ) (drop : Bool) (n : ℕ) (o : Op) → IsIdle o → length (expand pl drop n o) ≡ 0
-idle_length pl drop n op.Enter h = refl
-idle_length pl drop n op.BlockEnd h = refl
+idle_length pl drop n Op.Enter h = refl
+idle_length pl drop n Op.BlockEnd h = refl
 idle_length pl drop n _ h = absurd h
 
 idle_turn : (flat : Flat.Flat) (m : Flat.At) (o : Op) → IsIdle o → op_turn flat o m ≡ goes (Flat.next m)
-idle_turn flat m op.Enter h = refl
-idle_turn flat m op.BlockEnd h = refl
+idle_turn flat m Op.Enter h = refl
+idle_turn flat m Op.BlockEnd h = refl
 idle_turn flat m _ h = absurd h
 
 idle_next : (flat : Flat.Flat) (n : ℕ) (o : Op) → IsIdle o → Leads flat n o → n + 1 < length flat.lines
-idle_next flat n op.Enter h l = l
-idle_next flat n op.BlockEnd h l = l
+idle_next flat n Op.Enter h l = l
+idle_next flat n Op.BlockEnd h l = l
 idle_next flat n _ h l = absurd h
 
 pub bodied : (pl : ℕ → ℕ) (n : ℕ) (o : Op) → IsIdle o ⊎ ((i : Instr) × (body pl n o ≡ Some i))
-bodied pl n op.Enter = inl tt
-bodied pl n op.BlockEnd = inl tt
+bodied pl n Op.Enter = inl tt
+bodied pl n Op.BlockEnd = inl tt
 bodied pl n _ = inr (_, refl)
 
 after_pass : (site : ℕ) (a : Thread) (t : Turn) (b : Thread) (x : ℤ) → IsPass site t b → Guarded.after a t x ≡ b
@@ -339,20 +330,20 @@ module _ (dropped : ℕ → Bool) (flat : Flat.Flat) (ok : IsFlat flat) where
           let t = end_at answers h ∙ ap (Flat.end_turn flat m) e in
           let uu : Form.turn p a ≡ Form.exit p a Running = ap (λ i. step p i a) h.statement ∙ ap (Form.exit p a) (h.phase_is ∙ ap (leaving dropped flat) e) in
           let site = site_same a.function ∙ ap (λ f. (Flat.function_of flat f).site) h.function_is in
-          let to : next_a ≡ record (Form.told a (Form.function_at p a.function).site acts.Return (pos 0)) { phase = Leaving } = ap (λ t. Guarded.after a t x) uu in
-          let mto : at_after flat m0 (pos 0 ∷ answers) ≡ Flat.next (Flat.with_event (event_of (Flat.function_of flat m.function).site acts.Return (pos 0)) m) = ap (λ t. Flow.after m t (pos 0)) t in
+          let to : next_a ≡ record (Form.told a (Form.function_at p a.function).site Act.Return (pos 0)) { phase = Leaving } = ap (λ t. Guarded.after a t x) uu in
+          let mto : at_after flat m0 (pos 0 ∷ answers) ≡ Flat.next (Flat.with_event (event_of (Flat.function_of flat m.function).site Act.Return (pos 0)) m) = ap (λ t. Flow.after m t (pos 0)) t in
           let wi : w ≡ 1 = ap weight h.statement in
           let hp = h.pc_is in
           record {
             answers = pos 0 ∷ answers;
             path = (path, ap Flow.may_go t);
-            stands_at = inr (inr (inr (subst (λ m. AtEnd dropped flat m next_a) (sym mto) (subst (AtEnd dropped flat (Flat.next (Flat.with_event (event_of (Flat.function_of flat m.function).site acts.Return (pos 0)) m))) (sym to) (record {
+            stands_at = inr (inr (inr (subst (λ m. AtEnd dropped flat m next_a) (sym mto) (subst (AtEnd dropped flat (Flat.next (Flat.with_event (event_of (Flat.function_of flat m.function).site Act.Return (pos 0)) m))) (sym to) (record {
               steps = 1;
               pc_is = omega arith;
               statement = h.statement;
               phase_is = refl;
               function_is = h.function_is;
-              events = ap (λ es. es ++ event_of (Form.function_at p a.function).site acts.Return (pos 0) ∷ []) h.events ∙ ap (λ s. m.events ++ event_of s acts.Return (pos 0) ∷ []) site;
+              events = ap (λ es. es ++ event_of (Form.function_at p a.function).site Act.Return (pos 0) ∷ []) h.events ∙ ap (λ s. m.events ++ event_of s Act.Return (pos 0) ∷ []) site;
               resolved = tt;
             })))));
             count = omega arith;
@@ -363,20 +354,20 @@ module _ (dropped : ℕ → Bool) (flat : Flat.Flat) (ok : IsFlat flat) where
           let t = end_at answers h ∙ ap (Flat.end_turn flat m) e in
           let uu : Form.turn p a ≡ Form.exit p a Leaving = ap (λ i. step p i a) h.statement ∙ ap (Form.exit p a) (h.phase_is ∙ ap (leaving dropped flat) e) in
           let site = site_same a.function ∙ ap (λ f. (Flat.function_of flat f).site) h.function_is in
-          let to : next_a ≡ record (Form.told a (Form.function_at p a.function).site acts.Gone (pos 0)) { phase = Left } = ap (λ t. Guarded.after a t x) uu in
-          let mto : at_after flat m0 (pos 0 ∷ answers) ≡ Flat.next (Flat.with_event (event_of (Flat.function_of flat m.function).site acts.Gone (pos 0)) m) = ap (λ t. Flow.after m t (pos 0)) t in
+          let to : next_a ≡ record (Form.told a (Form.function_at p a.function).site Act.Gone (pos 0)) { phase = Left } = ap (λ t. Guarded.after a t x) uu in
+          let mto : at_after flat m0 (pos 0 ∷ answers) ≡ Flat.next (Flat.with_event (event_of (Flat.function_of flat m.function).site Act.Gone (pos 0)) m) = ap (λ t. Flow.after m t (pos 0)) t in
           let wi : w ≡ 1 = ap weight h.statement in
           let hp = h.pc_is in
           record {
             answers = pos 0 ∷ answers;
             path = (path, ap Flow.may_go t);
-            stands_at = inr (inr (inr (subst (λ m. AtEnd dropped flat m next_a) (sym mto) (subst (AtEnd dropped flat (Flat.next (Flat.with_event (event_of (Flat.function_of flat m.function).site acts.Gone (pos 0)) m))) (sym to) (record {
+            stands_at = inr (inr (inr (subst (λ m. AtEnd dropped flat m next_a) (sym mto) (subst (AtEnd dropped flat (Flat.next (Flat.with_event (event_of (Flat.function_of flat m.function).site Act.Gone (pos 0)) m))) (sym to) (record {
               steps = 2;
               pc_is = omega arith;
               statement = h.statement;
               phase_is = refl;
               function_is = h.function_is;
-              events = ap (λ es. es ++ event_of (Form.function_at p a.function).site acts.Gone (pos 0) ∷ []) h.events ∙ ap (λ s. m.events ++ event_of s acts.Gone (pos 0) ∷ []) site;
+              events = ap (λ es. es ++ event_of (Form.function_at p a.function).site Act.Gone (pos 0) ∷ []) h.events ∙ ap (λ s. m.events ++ event_of s Act.Gone (pos 0) ∷ []) site;
               resolved = tt;
             })))));
             count = omega arith;
@@ -429,19 +420,19 @@ module _ (dropped : ℕ → Bool) (flat : Flat.Flat) (ok : IsFlat flat) where
     starts = Flat.start flat f v
 
     parameter_is : (q : Parameter) → Guarded.with_parameter (image pl (Flat.first_at flat f) (pl (Flat.function_of flat f).entry) []) q v ≡ image pl (Flat.begun q v (Flat.first_at flat f)) (pl (Flat.function_of flat f).entry) []
-    parameter_is parameters.Int = refl
+    parameter_is Parameter.Int = refl
     parameter_is _ = refl
 
     pc_is : (q : Parameter) → (Flat.begun q v (Flat.first_at flat f)).pc ≡ (Flat.function_of flat f).entry
-    pc_is parameters.Int = refl
+    pc_is Parameter.Int = refl
     pc_is _ = refl
 
     given_is : (q : Parameter) → Resolved (Flat.begun q v (Flat.first_at flat f)).given []
-    given_is parameters.Int = tt
+    given_is Parameter.Int = tt
     given_is _ = tt
 
     callers_are : (q : Parameter) → Callers dropped flat (Flat.begun q v (Flat.first_at flat f)).frames
-    callers_are parameters.Int = tt
+    callers_are Parameter.Int = tt
     callers_are _ = tt
 
     begins : Is dropped flat starts (started p f v)
@@ -538,7 +529,7 @@ module _ (dropped : ℕ → Bool) (flat : Flat.Flat) (ok : IsFlat flat) where
           → (b : Bool) → kk.blocked ≡ b → Wants flat p m (Form.turn p a)
       head_wants m a h i rest kk uu t true f =
           let site : (source_of h.line).site ≡ (source_at p m.pc).site = sym (ap (λ (sp : SourcePlace). sp.site) (source_is dropped flat m.pc h.line h.stands_there)) in
-          stopping_wants m (Form.turn p a) traps.NullPointer m.pc (uu ∙ kk.stops a.pc h.lowered f) (t ∙ kk.flat_stops f ∙ ap (λ s. halts (stopped traps.NullPointer s)) site)
+          stopping_wants m (Form.turn p a) Trap.NullPointer m.pc (uu ∙ kk.stops a.pc h.lowered f) (t ∙ kk.flat_stops f ∙ ap (λ s. halts (stopped Trap.NullPointer s)) site)
       head_wants m a h i rest kk uu t false f =
           subst (Wants flat p m) (sym uu) (asking_wants m (step p i (image pl m a.pc h.lowered)) (image pl m (a.pc + 1) h.lowered) h.line h.stands_there (kk.wants f) t (kk.passes a.pc h.lowered f))
 
@@ -574,8 +565,8 @@ module _ (dropped : ℕ → Bool) (flat : Flat.Flat) (ok : IsFlat flat) where
           there (y ∷ fs) (suc f) = there fs f
 
       by_steps : (k : ℕ) → Flat.turn flat m ≡ Flat.end_turn flat m k → Form.turn p a ≡ Form.exit p a (leaving dropped flat k) → Wants flat p m (Form.turn p a)
-      by_steps zero t u = asked_wants m a (Flat.function_of flat m.function).site (Form.function_at p a.function).site acts.Return (λ v n. Flat.next n) (λ x. record (Form.told a (Form.function_at p a.function).site acts.Return (pos 0)) { phase = Leaving }) t u site
-      by_steps (suc zero) t u = asked_wants m a (Flat.function_of flat m.function).site (Form.function_at p a.function).site acts.Gone (λ v n. Flat.next n) (λ x. record (Form.told a (Form.function_at p a.function).site acts.Gone (pos 0)) { phase = Left }) t u site
+      by_steps zero t u = asked_wants m a (Flat.function_of flat m.function).site (Form.function_at p a.function).site Act.Return (λ v n. Flat.next n) (λ x. record (Form.told a (Form.function_at p a.function).site Act.Return (pos 0)) { phase = Leaving }) t u site
+      by_steps (suc zero) t u = asked_wants m a (Flat.function_of flat m.function).site (Form.function_at p a.function).site Act.Gone (λ v n. Flat.next n) (λ x. record (Form.told a (Form.function_at p a.function).site Act.Gone (pos 0)) { phase = Left }) t u site
       by_steps (suc (suc n)) t u = subst (Wants flat p m) (sym u) (record { halts = λ c s q. absurd (cc); ends = λ q. t; asks = λ s act go q. absurd (cc); checks = λ c s b q. absurd (cc) })
 
   -- ---- the whole

@@ -1,17 +1,5 @@
 -- What flat code holds stays held until it is given up.
-use mathlib.Core.Path.{fun_ext}
-use Rattle.std.proofs.{Common.{◌≡◌, ◌≢◌, ℕ, ℤ, pos, negsuc, zero, suc, ◌+◌, ◌-◌, ◌*◌, ◌≤◌, ◌⊎◌, inl, inr, Bool, true, false, not, List, [], ◌∷◌, ◌++◌, length, Option, Some, None, refl, sym, ap, ◌∙◌, subst, arith, cond, ⊎_elim, append-nil, append_assoc, Result, Ok, Err}, lemmas.Bool.cases_eq, lemmas.Option.{slice_get_past, slice_get-get_or}}
-use Rattle.std.specs.Prelude.{slice_get, nat_lt}
-use Rattle.sharc_tree.specs.{declared.event.Act.Act, declared.event.CellAt.CellAt, declared.event.CellMode.CellMode, declared.trap.Trap.Trap}
-use Rattle.sharc_tree.specs.declared.event.Act.TheVariants as acts
-use Rattle.sharc_tree.specs.declared.event.Taken.TheVariants as taken
-use Rattle.sharc_tree.specs.declared.trap.Trap.TheVariants as traps
-use Rattle.sharc_code.specs.{declared.instr.Cell.Cell, Arithmetic.{computed, negated, holds}}
-use Rattle.sharc_meaning.specs.{declared.given.GivenUp.GivenUp, declared.given.GivenUp.TheVariants.{Released, Replaced, Emptied}, Arithmetic.is_zero, Events.{held_mutexes, holds_mutex}, Reference.{number_of, elements_of}, Statements.is_positive}
-use Rattle.sharc_flat.specs.{declared.op.Op.Op, declared.op.Spot.Spot, Machine.{Flat, Caller, At, Turn, goes, asks, put, int, ref, set_int, set_ref, popped, moved, settled, next, over_lines, goes_on, stops, asserts, with_result, cell_at, cell_mode_of, lock_is_null, accesses, accessed, gives_up, take_kind_of, indexed, takes_local, called, returned, end_turn, line_turn, op_turn}}
-use Rattle.sharc_flat.specs.declared.op.Op.TheVariants as op
-use Rattle.sharc_guard.specs.{Level.{free, Slots, with_slot, with_moved, Enters, Leaves, Level, IsLevel}, Counted.{IsReleased, Quietly, OnWay}}
-use Rattle.sharc_guard.proofs.Ready.{Is, Hold, put_at, put_other, Frames, Ready, enters, hold_as, slot_same, moved_same, keeps, puts, moves, null_here, call_ready, return_ready, is_free}
+use Rattle.sharc_guard.proofs.{Imports.{fun_ext, ◌≡◌, ◌≢◌, ℕ, ℤ, pos, negsuc, zero, suc, ◌+◌, ◌-◌, ◌*◌, ◌≤◌, ◌⊎◌, inl, inr, Bool, true, false, not, List, [], ◌∷◌, ◌++◌, length, Option, Some, None, refl, sym, ap, ◌∙◌, subst, arith, cond, ⊎_elim, append-nil, append_assoc, Result, Ok, Err, cases_eq, slice_get_past, slice_get-get_or, slice_get, nat_lt, Act, CellAt, CellMode, Trap, Taken, Cell, computed, negated, holds, GivenUp, Released, Replaced, Emptied, is_zero, held_mutexes, holds_mutex, number_of, elements_of, is_positive, Op, Spot, Flat, Caller, At, Turn, goes, asks, put, int, ref, set_int, set_ref, popped, moved, settled, next, over_lines, goes_on, stops, asserts, with_result, cell_at, cell_mode_of, lock_is_null, accesses, accessed, gives_up, take_kind_of, indexed, takes_local, called, returned, end_turn, line_turn, op_turn, free, Slots, with_slot, with_moved, Enters, Leaves, Level, IsLevel, IsReleased, Quietly, OnWay}, Ready.{Is, Hold, put_at, put_other, Frames, Ready, enters, hold_as, slot_same, moved_same, keeps, puts, moves, null_here, call_ready, return_ready, is_free}}
 
 released_left : (a b : List GivenUp) (n : ℕ) → IsReleased a n → IsReleased (a ++ b) n
 released_left [] b n h = absurd h
@@ -81,7 +69,7 @@ module _ (flat : Flat) (level : IsLevel flat) where
     index_way : (i cells field elements : ℕ) (spot : Spot) (z : ℤ) → En2 s (m.pc + 1) → After m v (indexed i cells field z elements spot m)
     index_way i cells field elements spot (pos n) en = each (nat_lt n elements)
       where
-        each : (b : Bool) → After m v (cond b (goes_on (set_int i (pos (n * cells + field)) m)) (stops traps.IndexOutOfBounds spot))
+        each : (b : Bool) → After m v (cond b (goes_on (set_int i (pos (n * cells + field)) m)) (stops Trap.IndexOutOfBounds spot))
         each true = int_way i (pos (n * cells + field)) en
         each false = tt
     index_way i cells field elements spot (negsuc n) en = tt
@@ -92,7 +80,7 @@ module _ (flat : Flat) (level : IsLevel flat) where
         c : CellAt
         c = cell_at flat.globals m cell
 
-        each : (b : Bool) → After m v (cond b (stops traps.NullPointer spot) (asks m spot.site (act c (cell_mode_of flat.globals m c spot.mode)) (pos 0) (λ v n. accessed (next (then_ c v n)))))
+        each : (b : Bool) → After m v (cond b (stops Trap.NullPointer spot) (asks m spot.site (act c (cell_mode_of flat.globals m c spot.mode)) (pos 0) (λ v n. accessed (next (then_ c v n)))))
         each true = tt
         each false = tt
 
@@ -124,49 +112,49 @@ module _ (flat : Flat) (level : IsLevel flat) where
     return_way : (spot : Spot) (cs : List Caller) → Frames flat level (level.owner m.pc) m.ref_base m.refs cs → Leaves flat level.owner level.gives level.slots (level.owner m.pc) s → After m v (returned flat cs spot m)
     return_way spot [] fr lv = each (nat_lt 0 (length (held_mutexes m.events)))
       where
-        each : (b : Bool) → After m v (cond (not b) (goes (record m { pc = length flat.lines })) (stops traps.ReturnWithLockHeld spot))
+        each : (b : Bool) → After m v (cond (not b) (goes (record m { pc = length flat.lines })) (stops Trap.ReturnWithLockHeld spot))
         each true = tt
         each false = (inr (omega arith), same (record m { pc = length flat.lines }) refl refl)
     return_way spot (c ∷ rest) fr lv = let m2 = record m { pc = c.pc; int_base = c.ints; ref_base = c.refs; frames = rest } in (inl (return_ready flat level m rd c rest fr lv), same m2 refl refl)
 
     way : (o : Op) → Level flat level.owner level.gives level.slots m.pc (level.owner m.pc) s o → After m v (op_turn flat o m)
-    way op.Enter lv = on lv
-    way op.BlockEnd lv = on lv
-    way (op.Constant i x) lv = int_way i x lv
-    way (op.Move i from) lv = int_way i (int m from) lv
-    way (op.Compute w o i a b spot) lv = result_way i spot (computed w o (int m a) (int m b)) lv.1
-    way (op.Negate w i a spot) lv = result_way i spot (negated w (int m a)) lv.1
-    way (op.Complement i a) lv = int_way i _ lv
-    way (op.IsFalse i a) lv = int_way i _ lv
-    way (op.SameReference i a b) lv = int_way i _ lv
-    way (op.ChkWidth w i spot) lv = asserts_way (holds w (int m i)) _ spot (λ t. on lv)
-    way (op.Skip n) lv = stays (over_lines n m) lv refl refl refl refl
-    way (op.SkipIfZero i n) lv = goes_if (is_zero (int m i)) (over_lines n m) (next m) (λ t. stays (over_lines n m) lv.0 refl refl refl refl) (λ t. on lv.1)
-    way (op.SkipIfNull r n) lv = goes_if (is_zero (ref m r)) (over_lines n m) (next m)
+    way Op.Enter lv = on lv
+    way Op.BlockEnd lv = on lv
+    way (Op.Constant i x) lv = int_way i x lv
+    way (Op.Move i from) lv = int_way i (int m from) lv
+    way (Op.Compute w o i a b spot) lv = result_way i spot (computed w o (int m a) (int m b)) lv.1
+    way (Op.Negate w i a spot) lv = result_way i spot (negated w (int m a)) lv.1
+    way (Op.Complement i a) lv = int_way i _ lv
+    way (Op.IsFalse i a) lv = int_way i _ lv
+    way (Op.SameReference i a b) lv = int_way i _ lv
+    way (Op.ChkWidth w i spot) lv = asserts_way (holds w (int m i)) _ spot (λ t. on lv)
+    way (Op.Skip n) lv = stays (over_lines n m) lv refl refl refl refl
+    way (Op.SkipIfZero i n) lv = goes_if (is_zero (int m i)) (over_lines n m) (next m) (λ t. stays (over_lines n m) lv.0 refl refl refl refl) (λ t. on lv.1)
+    way (Op.SkipIfNull r n) lv = goes_if (is_zero (ref m r)) (over_lines n m) (next m)
         (λ t. known (over_lines n m) (with_slot s r free) lv.0 (hold_as s m.ref_base m.refs r free (is_free flat level m rd r t) rd.hold) refl refl refl refl)
         (λ t. on lv.1)
-    way (op.Jump to) lv = stays (record m { pc = to }) lv refl refl refl refl
-    way (op.Call f i r spot) lv = each (nat_lt (length m.frames) 255)
+    way (Op.Jump to) lv = stays (record m { pc = to }) lv refl refl refl refl
+    way (Op.Call f i r spot) lv = each (nat_lt (length m.frames) 255)
       where
-        each : (b : Bool) → After m v (cond b (goes (called flat f i r m)) (stops traps.CallDepth spot))
+        each : (b : Bool) → After m v (cond b (goes (called flat f i r m)) (stops Trap.CallDepth spot))
         each true = (inl (call_ready flat level m rd f i r lv.0 lv.1), same (called flat f i r m) refl refl)
         each false = tt
-    way (op.Return spot) lv = return_way spot m.frames rd.frames lv
-    way (op.Null r) lv = let m2 = next (set_ref r (pos 0) m) in
+    way (Op.Return spot) lv = return_way spot m.frames rd.frames lv
+    way (Op.Null r) lv = let m2 = next (set_ref r (pos 0) m) in
         (inl (puts flat level m rd m2 r free (pos 0) refl (null_enters r lv.0 lv.1) refl refl refl), same m2 refl (put_other m.refs (m.ref_base + r) (pos 0) k (not_null r lv.0)))
       where
         null_enters : (r : ℕ) → s r ≡ free → En2 s (m.pc + 1) → En2 (with_slot s r free) (m.pc + 1)
         null_enters r fr en = subst (λ s2. En2 s2 (m.pc + 1)) (sym (fun_ext (λ j. slot_same s r j fr))) en
-    way (op.Local r x) lv = let m2 = next (set_ref r (ref m x) m) in
+    way (Op.Local r x) lv = let m2 = next (set_ref r (ref m x) m) in
         (inl (puts flat level m rd m2 r (s x) (ref m x) (rd.hold x) lv.1 refl refl refl), same m2 refl (put_other m.refs (m.ref_base + r) (ref m x) k (not_null r lv.0)))
-    way (op.MoveReference r from) lv = let m2 = next (moved r from m) in ⊎_elim
+    way (Op.MoveReference r from) lv = let m2 = next (moved r from m) in ⊎_elim
         (λ (z : (r ≡ from) × En2 s (m.pc + 1)).
         let e = moved_same m.refs (m.ref_base + r) (m.ref_base + from) (ap (λ n. m.ref_base + n) z.0) in
         (inl (keeps flat level m rd m2 z.1 e refl refl), same m2 refl (ap (λ b. b k) e)))
         (λ (z : (s r ≡ free) × (r ≢ from) × En2 (with_moved s r from) (m.pc + 1)).
         (inl (moves flat level m rd m2 r from z.2 refl refl refl), record { more = []; given_is = sym (append-nil m.given); stays = inl (moved_way r from z.0 z.1) }))
         lv
-    way (op.Pop r) lv = let m2 = next (popped r m) in (
+    way (Op.Pop r) lv = let m2 = next (popped r m) in (
       inl (puts flat level m rd m2 r free (pos 0) refl lv refl refl refl),
       record {
         more = Released (number_of (ref m r)) ∷ [];
@@ -177,20 +165,20 @@ module _ (flat : Flat) (level : IsLevel flat) where
             (cases_eq k (m.ref_base + r));
       },
     )
-    way (op.Settle x from) lv = (inl (moves flat level m rd (next (settled x from m)) x from lv.1 refl refl refl), settled_way x from lv.0)
-    way (op.ChkNull r spot) lv = asserts_way (not (is_zero (ref m r))) _ spot (λ t. on lv)
-    way (op.ChkPositive i spot) lv = asserts_way (is_positive (int m i)) _ spot (λ t. on lv)
-    way (op.ChkHeld cell spot) lv = asserts_way (holds_mutex m.events (cell_at flat.globals m cell)) _ spot (λ t. on lv)
-    way (op.ChkNotHeld cell spot) lv = asserts_way (not (holds_mutex m.events (cell_at flat.globals m cell))) _ spot (λ t. on lv)
-    way (op.ChkRoom spot) lv = asserts_way (nat_lt (length (held_mutexes m.events)) 16) _ spot (λ t. on lv)
-    way (op.Bounds i r cells field spot) lv = index_way i cells field (elements_of (ref m r)) spot (int m i) lv
-    way (op.GlobalBounds i elements cells field spot) lv = index_way i cells field elements spot (int m i) lv
-    way (op.Load i cell spot) lv = access_way cell spot acts.Read (λ c v. set_int i v)
-    way (op.Store i cell spot) lv = access_way cell spot (λ c mode. acts.Write c mode (int m i)) (λ c v n. n)
-    way (op.LoadRef r cell spot) lv = access_way cell spot acts.Read (λ c v. set_ref r v)
-    way (op.StoreRef r cell spot) lv = access_way cell spot (λ c mode. acts.Write c mode (ref m r)) (λ c v n. gives_up (Replaced c) (set_ref r (pos 0) n))
-    way (op.TakeCell r cell spot) lv = access_way cell spot (λ c mode. acts.Take (taken.Cell c mode) (take_kind_of spot.at)) (λ c v. set_ref r v)
-    way (op.TakeLocal r x spot) lv = takes_way r x spot (is_zero (ref m x)) lv.0 lv.1 lv.2
+    way (Op.Settle x from) lv = (inl (moves flat level m rd (next (settled x from m)) x from lv.1 refl refl refl), settled_way x from lv.0)
+    way (Op.ChkNull r spot) lv = asserts_way (not (is_zero (ref m r))) _ spot (λ t. on lv)
+    way (Op.ChkPositive i spot) lv = asserts_way (is_positive (int m i)) _ spot (λ t. on lv)
+    way (Op.ChkHeld cell spot) lv = asserts_way (holds_mutex m.events (cell_at flat.globals m cell)) _ spot (λ t. on lv)
+    way (Op.ChkNotHeld cell spot) lv = asserts_way (not (holds_mutex m.events (cell_at flat.globals m cell))) _ spot (λ t. on lv)
+    way (Op.ChkRoom spot) lv = asserts_way (nat_lt (length (held_mutexes m.events)) 16) _ spot (λ t. on lv)
+    way (Op.Bounds i r cells field spot) lv = index_way i cells field (elements_of (ref m r)) spot (int m i) lv
+    way (Op.GlobalBounds i elements cells field spot) lv = index_way i cells field elements spot (int m i) lv
+    way (Op.Load i cell spot) lv = access_way cell spot Act.Read (λ c v. set_int i v)
+    way (Op.Store i cell spot) lv = access_way cell spot (λ c mode. Act.Write c mode (int m i)) (λ c v n. n)
+    way (Op.LoadRef r cell spot) lv = access_way cell spot Act.Read (λ c v. set_ref r v)
+    way (Op.StoreRef r cell spot) lv = access_way cell spot (λ c mode. Act.Write c mode (ref m r)) (λ c v n. gives_up (Replaced c) (set_ref r (pos 0) n))
+    way (Op.TakeCell r cell spot) lv = access_way cell spot (λ c mode. Act.Take (Taken.Cell c mode) (take_kind_of spot.at)) (λ c v. set_ref r v)
+    way (Op.TakeLocal r x spot) lv = takes_way r x spot (is_zero (ref m x)) lv.0 lv.1 lv.2
     way _ lv = tt
 
   -- ---- what was given up stays so
@@ -217,7 +205,7 @@ module _ (flat : Flat) (level : IsLevel flat) where
     grows_index : (i cells field elements : ℕ) (spot : Spot) (z : ℤ) → Grows m (indexed i cells field z elements spot m)
     grows_index i cells field elements spot (pos n) = each (nat_lt n elements)
       where
-        each : (b : Bool) → Grows m (cond b (goes_on (set_int i (pos (n * cells + field)) m)) (stops traps.IndexOutOfBounds spot))
+        each : (b : Bool) → Grows m (cond b (goes_on (set_int i (pos (n * cells + field)) m)) (stops Trap.IndexOutOfBounds spot))
         each true = none
         each false = tt
     grows_index i cells field elements spot (negsuc n) = tt
@@ -228,7 +216,7 @@ module _ (flat : Flat) (level : IsLevel flat) where
         c : CellAt
         c = cell_at flat.globals m cell
 
-        each : (b : Bool) → Grows m (cond b (stops traps.NullPointer spot) (asks m spot.site (act c (cell_mode_of flat.globals m c spot.mode)) (pos 0) (λ v n. accessed (next (then_ c v n)))))
+        each : (b : Bool) → Grows m (cond b (stops Trap.NullPointer spot) (asks m spot.site (act c (cell_mode_of flat.globals m c spot.mode)) (pos 0) (λ v n. accessed (next (then_ c v n)))))
         each true = tt
         each false = tt
 
@@ -239,50 +227,50 @@ module _ (flat : Flat) (level : IsLevel flat) where
     grows_return : (spot : Spot) (cs : List Caller) → Grows m (returned flat cs spot m)
     grows_return spot [] = each (nat_lt 0 (length (held_mutexes m.events)))
       where
-        each : (b : Bool) → Grows m (cond (not b) (goes (record m { pc = length flat.lines })) (stops traps.ReturnWithLockHeld spot))
+        each : (b : Bool) → Grows m (cond (not b) (goes (record m { pc = length flat.lines })) (stops Trap.ReturnWithLockHeld spot))
         each true = tt
         each false = none
     grows_return spot (c ∷ rest) = none
 
     grows : (o : Op) → Grows m (op_turn flat o m)
-    grows op.Enter = none
-    grows op.BlockEnd = none
-    grows (op.Constant i x) = none
-    grows (op.Move i from) = none
-    grows (op.Compute w o i a b spot) = grows_result i spot _
-    grows (op.Negate w i a spot) = grows_result i spot _
-    grows (op.Complement i a) = none
-    grows (op.IsFalse i a) = none
-    grows (op.SameReference i a b) = none
-    grows (op.ChkWidth w i spot) = grows_asserts (holds w (int m i)) _ spot
-    grows (op.Skip n) = none
-    grows (op.SkipIfZero i n) = grows_if (is_zero (int m i)) (over_lines n m) (next m) refl refl
-    grows (op.SkipIfNull r n) = grows_if (is_zero (ref m r)) (over_lines n m) (next m) refl refl
-    grows (op.Jump to) = none
-    grows (op.Call f i r spot) = each (nat_lt (length m.frames) 255)
+    grows Op.Enter = none
+    grows Op.BlockEnd = none
+    grows (Op.Constant i x) = none
+    grows (Op.Move i from) = none
+    grows (Op.Compute w o i a b spot) = grows_result i spot _
+    grows (Op.Negate w i a spot) = grows_result i spot _
+    grows (Op.Complement i a) = none
+    grows (Op.IsFalse i a) = none
+    grows (Op.SameReference i a b) = none
+    grows (Op.ChkWidth w i spot) = grows_asserts (holds w (int m i)) _ spot
+    grows (Op.Skip n) = none
+    grows (Op.SkipIfZero i n) = grows_if (is_zero (int m i)) (over_lines n m) (next m) refl refl
+    grows (Op.SkipIfNull r n) = grows_if (is_zero (ref m r)) (over_lines n m) (next m) refl refl
+    grows (Op.Jump to) = none
+    grows (Op.Call f i r spot) = each (nat_lt (length m.frames) 255)
       where
-        each : (b : Bool) → Grows m (cond b (goes (called flat f i r m)) (stops traps.CallDepth spot))
+        each : (b : Bool) → Grows m (cond b (goes (called flat f i r m)) (stops Trap.CallDepth spot))
         each true = none
         each false = tt
-    grows (op.Return spot) = grows_return spot m.frames
-    grows (op.Null r) = none
-    grows (op.Local r x) = none
-    grows (op.MoveReference r from) = none
-    grows (op.Pop r) = (Released (number_of (ref m r)) ∷ [], refl)
-    grows (op.Settle x from) = (Released (number_of (ref m x)) ∷ [], refl)
-    grows (op.ChkNull r spot) = grows_asserts (not (is_zero (ref m r))) _ spot
-    grows (op.ChkPositive i spot) = grows_asserts (is_positive (int m i)) _ spot
-    grows (op.ChkHeld cell spot) = grows_asserts (holds_mutex m.events (cell_at flat.globals m cell)) _ spot
-    grows (op.ChkNotHeld cell spot) = grows_asserts (not (holds_mutex m.events (cell_at flat.globals m cell))) _ spot
-    grows (op.ChkRoom spot) = grows_asserts (nat_lt (length (held_mutexes m.events)) 16) _ spot
-    grows (op.Bounds i r cells field spot) = grows_index i cells field (elements_of (ref m r)) spot (int m i)
-    grows (op.GlobalBounds i elements cells field spot) = grows_index i cells field elements spot (int m i)
-    grows (op.Load i cell spot) = grows_access cell spot acts.Read (λ c v. set_int i v)
-    grows (op.Store i cell spot) = grows_access cell spot (λ c mode. acts.Write c mode (int m i)) (λ c v n. n)
-    grows (op.LoadRef r cell spot) = grows_access cell spot acts.Read (λ c v. set_ref r v)
-    grows (op.StoreRef r cell spot) = grows_access cell spot (λ c mode. acts.Write c mode (ref m r)) (λ c v n. gives_up (Replaced c) (set_ref r (pos 0) n))
-    grows (op.TakeCell r cell spot) = grows_access cell spot (λ c mode. acts.Take (taken.Cell c mode) (take_kind_of spot.at)) (λ c v. set_ref r v)
-    grows (op.TakeLocal r x spot) = grows_takes r x spot (is_zero (ref m x))
+    grows (Op.Return spot) = grows_return spot m.frames
+    grows (Op.Null r) = none
+    grows (Op.Local r x) = none
+    grows (Op.MoveReference r from) = none
+    grows (Op.Pop r) = (Released (number_of (ref m r)) ∷ [], refl)
+    grows (Op.Settle x from) = (Released (number_of (ref m x)) ∷ [], refl)
+    grows (Op.ChkNull r spot) = grows_asserts (not (is_zero (ref m r))) _ spot
+    grows (Op.ChkPositive i spot) = grows_asserts (is_positive (int m i)) _ spot
+    grows (Op.ChkHeld cell spot) = grows_asserts (holds_mutex m.events (cell_at flat.globals m cell)) _ spot
+    grows (Op.ChkNotHeld cell spot) = grows_asserts (not (holds_mutex m.events (cell_at flat.globals m cell))) _ spot
+    grows (Op.ChkRoom spot) = grows_asserts (nat_lt (length (held_mutexes m.events)) 16) _ spot
+    grows (Op.Bounds i r cells field spot) = grows_index i cells field (elements_of (ref m r)) spot (int m i)
+    grows (Op.GlobalBounds i elements cells field spot) = grows_index i cells field elements spot (int m i)
+    grows (Op.Load i cell spot) = grows_access cell spot Act.Read (λ c v. set_int i v)
+    grows (Op.Store i cell spot) = grows_access cell spot (λ c mode. Act.Write c mode (int m i)) (λ c v n. n)
+    grows (Op.LoadRef r cell spot) = grows_access cell spot Act.Read (λ c v. set_ref r v)
+    grows (Op.StoreRef r cell spot) = grows_access cell spot (λ c mode. Act.Write c mode (ref m r)) (λ c v n. gives_up (Replaced c) (set_ref r (pos 0) n))
+    grows (Op.TakeCell r cell spot) = grows_access cell spot (λ c mode. Act.Take (Taken.Cell c mode) (take_kind_of spot.at)) (λ c v. set_ref r v)
+    grows (Op.TakeLocal r x spot) = grows_takes r x spot (is_zero (ref m x))
     grows _ = tt
 
   grows_end : (m : At) (n : ℕ) → Grows m (end_turn flat m n)
@@ -314,7 +302,7 @@ module _ (flat : Flat) (level : IsLevel flat) where
       absurd (no_end m q.0 (m.pc - length flat.lines) (sym (ap (λ o. line_turn flat o m) at) ∙ q.1))
   ways (suc n) m m2 (inl rd) k v is some q =
       let mid = q.0 in
-      let at = slice_get-get_or flat.lines m.pc op.Enter rd.inside in
+      let at = slice_get-get_or flat.lines m.pc Op.Enter rd.inside in
       let t = ap (λ o. line_turn flat o m) at in
       let a : After m v (goes mid) = subst (After m v) (sym t ∙ q.1) (way m rd k v is some _ (level.each m.pc _ at)) in
       let w = a.1 in

@@ -1,8 +1,5 @@
 -- What the steps of a New are of: the top, or a word of its block.
-use Rattle.std.proofs.{Common.{◌≡◌, ◌≢◌, ℕ, ◌+◌, ◌-◌, ◌*◌, ◌<◌, ◌≤◌, zero, suc, List, length, drop, refl, sym, ap, ◌∙◌, subst, inl, inr, arith}, lemmas.Bool.{cases_lt, lt-ltb, le-ltb}}
-use Rattle.sharc_word.specs.{declared.step.WordStep.WordStep, declared.step.WordOp.WordOp, declared.step.WordOp.TheVariants.{Load, Swap, Cas}}
-use Rattle.sharc_heap.specs.{declared.arguments.NewArguments.NewArguments, declared.stage.NewTurn.TheVariants.{Do, Made, HeapFull}, Block.granules_of, Handed.MovesOn, Asks.{Asks, TakesOwn, ReadsTop, MovesTop, FindsNoRoom, TakesTop, top_word, word_number, step_of, last_steps, own_steps, turn_at}, NewLaws.{words_of, StepsAreOfWords, ComesFrom, OwnList, MovedTop, BlocksHaveTheirWords, GranulesStay, IsOwnStep, OfTheTop, OfItsBlock, StepsAreOwn, StepsKeepTop}}
-use Rattle.sharc_heap.proofs.Steps.{turn_in_cells, rest_after_cells}
+use Rattle.sharc_heap.proofs.{Imports.{◌≡◌, ◌≢◌, ℕ, ◌+◌, ◌-◌, ◌*◌, ◌<◌, ◌≤◌, zero, suc, List, length, drop, refl, sym, ap, ◌∙◌, subst, inl, inr, arith, cases_lt, lt-ltb, le-ltb, WordStep, WordOp, Load, Swap, Cas, NewArguments, Do, Made, HeapFull, granules_of, MovesOn, Asks, TakesOwn, ReadsTop, MovesTop, FindsNoRoom, TakesTop, top_word, word_number, step_of, last_steps, own_steps, turn_at, words_of, StepsAreOfWords, ComesFrom, OwnList, MovedTop, BlocksHaveTheirWords, GranulesStay, IsOwnStep, OfTheTop, OfItsBlock, StepsAreOwn, StepsKeepTop}, Steps.{turn_in_cells, rest_after_cells}}
 
 -- ---- the numbers of words
 word_within : (a : NewArguments) (place : ℕ) → 1 < words_of a → word_number a place < words_of a

@@ -1,8 +1,5 @@
 -- The functions meet the relations.
-use Rattle.std.proofs.{Common.{◌≡◌, ℕ, ◌+◌, ◌^◌, ◌%◌, ◌==◌, ◌||◌, ◌&&◌, true, false, not, bit_and, refl, sym, ap, ◌∙◌, subst, inl, inr, arith, Option}, lemmas.Bool.{cases_Bool, eq-eqb, ne_eqb, or_right}}
-use Rattle.sharc_heap.specs.{declared.shadow_word.Kind.TheVariants.{Read, Write}, ShadowWord.{stands, is_of, epoch_of, Withdraws}, Functions.{bits_of, cleared_of, withdrawn_of, all_but}, ShadowLaws.{BitsAreOfAccess, OrAddsAccess, OrLeavesOthers, OrSetsOwnBit, WithdrawnWithdraws, WithdrawnLeavesOthers, ClearedClears}}
-use Rattle.sharc_heap.proofs.{OneBit.{without_bit, and_fits}, Sets.{thread_bit, write_bits, adds_access, withdraws_reader, withdraws_writer, clears}}
-use Rattle.sharc_lemmas.proofs.Bools.{or_false, and_true}
+use Rattle.sharc_heap.proofs.{Imports.{◌≡◌, ℕ, ◌+◌, ◌^◌, ◌%◌, ◌==◌, ◌||◌, ◌&&◌, true, false, not, bit_and, refl, sym, ap, ◌∙◌, subst, inl, inr, arith, Option, cases_Bool, eq-eqb, ne_eqb, or_right, Read, Write, stands, is_of, epoch_of, Withdraws, bits_of, cleared_of, withdrawn_of, all_but, BitsAreOfAccess, OrAddsAccess, OrLeavesOthers, OrSetsOwnBit, WithdrawnWithdraws, WithdrawnLeavesOthers, ClearedClears, or_false, and_true}, OneBit.{without_bit, and_fits}, Sets.{thread_bit, write_bits, adds_access, withdraws_reader, withdraws_writer, clears}}
 
 pub bits_are_of_access : BitsAreOfAccess
 unfolding bits_of

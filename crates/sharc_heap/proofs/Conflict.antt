@@ -1,9 +1,5 @@
 -- The bits of the other threads, and the lowest of them.
-use Rattle.std.proofs.{Common.{◌≡◌, ◌≢◌, ℕ, ◌+◌, ◌-◌, ◌^◌, ◌<◌, ◌≤◌, ◌==◌, ◌&&◌, true, false, not, min, bit_and, sym, ap, ◌∙◌, inl, inr, arith, w64, Option}, lemmas.Nat.Bits.{bit_at-zero, bit_at-lt, bit_at_and, bit_at_mask_inside, bit_at_mask_below, bit_at_mask_above, bit_at-trailing_zeros}, lemmas.Bool.{cases_eq, cases_lt, eq-eqb, ne_eqb, and_parts, false≢true}}
-use Rattle.std.specs.Int.{bit_at, trailing_zeros}
-use Rattle.sharc_heap.specs.{declared.shadow_word.Kind.Kind, declared.shadow_word.Kind.TheVariants.{Read, Write}, ShadowWord.{stands, IsOther, HasOther, IsFirstOther, Conflicts}, Others.AreOthers}
-use Rattle.sharc_heap.proofs.{OneBit.IsWithout, Sets.{stands_below, stands_above, without_thread}}
-use Rattle.sharc_lemmas.proofs.Bools.{and_true}
+use Rattle.sharc_heap.proofs.{Imports.{◌≡◌, ◌≢◌, ℕ, ◌+◌, ◌-◌, ◌^◌, ◌<◌, ◌≤◌, ◌==◌, ◌&&◌, true, false, not, min, bit_and, sym, ap, ◌∙◌, inl, inr, arith, w64, Option, bit_at-zero, bit_at-lt, bit_at_and, bit_at_mask_inside, bit_at_mask_below, bit_at_mask_above, bit_at-trailing_zeros, cases_eq, cases_lt, eq-eqb, ne_eqb, and_parts, false≢true, bit_at, trailing_zeros, Kind, Read, Write, stands, IsOther, HasOther, IsFirstOther, Conflicts, AreOthers, and_true}, OneBit.IsWithout, Sets.{stands_below, stands_above, without_thread}}
 
 -- the bits of all threads
 masked : (x i : ℕ) → bit_at (bit_and x 4294967294) i ≡ min (bit_at x i) (bit_at (2 ^ 32 - 2 ^ 1) i)

@@ -1,6 +1,5 @@
 -- What the steps make of a count.
-use Rattle.std.proofs.Common.{refl, arith}
-use Rattle.sharc_heap.specs.CountLaws.{RaiseCounts, LowerCounts, TestLeaves}
+use Rattle.sharc_heap.proofs.Imports.{refl, arith, RaiseCounts, LowerCounts, TestLeaves}
 
 pub raise_counts : RaiseCounts
 raise_counts word count small = omega arith

@@ -1,8 +1,5 @@
 -- What a history hands out from the top lies in order.
-use Rattle.std.proofs.{Common.{◌≡◌, ℕ, ◌≤◌, ◌==◌, append_assoc, if◌then◌else◌, suc, List, [], ◌∷◌, ◌++◌, slice_index, refl, sym, ap, ◌∙◌, subst, inl, inr, arith, get_or-set_same, get_or-set_other, eq-eqb, ne_eqb}, lemmas.Bool.cases_eq, lemmas.List.Elements.All-cons, lemmas.List.Kept.AllPairs-cons}
-use Rattle.std.specs.Prelude.{All, AllPairs}
-use Rattle.sharc_word.specs.{declared.step.WordOp.WordOp, declared.step.WordOp.TheVariants.{Load, Swap, Add, Sub, Or, And, Cas}, declared.step.WordStep.WordStep, declared.step.WordEvent.WordEvent, Words.{word_after, words_after_step, words_after}, History.{MayFollow, LegalHistory}}
-use Rattle.sharc_heap.specs.{Asks.{top_word, step_of}, Handed.{Granules, MovesOn, KeepsTop, HandsOut, moved_over, handed_by, handed_out, LieInOrder}, NewLaws.{TopHandsOutApart, CasHandsOut, HandedApart}}
+use Rattle.sharc_heap.proofs.Imports.{◌≡◌, ℕ, ◌≤◌, ◌==◌, append_assoc, if◌then◌else◌, suc, List, [], ◌∷◌, ◌++◌, slice_index, refl, sym, ap, ◌∙◌, subst, inl, inr, arith, get_or-set_same, get_or-set_other, eq-eqb, ne_eqb, cases_eq, All-cons, AllPairs-cons, All, AllPairs, WordOp, Load, Swap, Add, Sub, Or, And, Cas, WordStep, WordEvent, word_after, words_after_step, words_after, MayFollow, LegalHistory, top_word, step_of, Granules, MovesOn, KeepsTop, HandsOut, moved_over, handed_by, handed_out, LieInOrder, TopHandsOutApart, CasHandsOut, HandedApart}
 
 -- an operation on the top
 at_top : (op : WordOp) (top found to : ℕ) (gs : List Granules) → MovesOn op → found ≡ top → LieInOrder (word_after op top) gs to → LieInOrder top (moved_over op found ++ gs) to

@@ -1,7 +1,5 @@
 -- The least power of two that is a number or more.
-use Rattle.std.proofs.{Common.{◌≡◌, ℕ, ◌+◌, ◌*◌, ◌/◌, ◌^◌, ◌<◌, ◌≤◌, zero, suc, max, refl, ap, sym, subst, inl, inr, arith}, Math.Nat.pow-succ', Math.Pow.pow_mono, lemmas.Bool.{cases_lt, le-leb, lt-leb}}
-use Rattle.std.specs.Int.{IsPowerOfTwo}
-use Rattle.sharc_heap.specs.{NewLaws.{OneBlock, BlockOfIsBlock}, Block.{granules_of, IsBlock, doubled, block_of}}
+use Rattle.sharc_heap.proofs.Imports.{◌≡◌, ℕ, ◌+◌, ◌*◌, ◌/◌, ◌^◌, ◌<◌, ◌≤◌, zero, suc, max, refl, ap, sym, subst, inl, inr, arith, pow-succ', pow_mono, cases_lt, le-leb, lt-leb, IsPowerOfTwo, OneBlock, BlockOfIsBlock, granules_of, IsBlock, doubled, block_of}
 
 -- half of a power of two, above the first, is the one before
 half : (j k : ℕ) → j < k → 2 ^ j ≤ 2 ^ k / 2

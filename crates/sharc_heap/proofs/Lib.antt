@@ -1,3 +1,4 @@
+mod Imports
 pub mod Aims
 pub mod Handing
 pub mod Least

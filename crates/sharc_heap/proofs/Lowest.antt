@@ -1,8 +1,5 @@
 -- The lowest other thread, and conflicts as a test.
-use Rattle.std.proofs.{Common.{◌≡◌, ◌≢◌, ℕ, ◌+◌, ◌<◌, ◌≤◌, zero, suc, ◌==◌, ◌&&◌, Bool, true, false, not, Option, Some, None, is_some, IsTrue, ◌↔◌, refl, sym, ap, ◌∙◌, inl, inr, arith, Decides, if◌then◌else◌}, lemmas.Bool.{cases_eq, cases_lt, cases_Bool, eq-eqb, ne_eqb, and_parts, false≢true, true≢false}, lemmas.Bool.Decides.{same_from_decides, Decides-and, Decides-like}}
-use Rattle.sharc_heap.specs.{declared.shadow_word.Kind.Kind, declared.shadow_word.Kind.TheVariants.{Read, Write}, ShadowWord.{stands, is_written, is_of, epoch_of, IsOther, HasOther, IsFirstOther, Conflicts}, Functions.{lowest_from, lowest_other, conflicts_in, first_in}}
-use Rattle.sharc_heap.proofs.{Sets.stands_above, Conflict.other_of_conflict}
-use Rattle.sharc_lemmas.proofs.{Bools.{and_false, if_false, if_true, and_true}, Options.{no_guard as some_is_not_none, some_of as some_or_none}}
+use Rattle.sharc_heap.proofs.{Imports.{◌≡◌, ◌≢◌, ℕ, ◌+◌, ◌<◌, ◌≤◌, zero, suc, ◌==◌, ◌&&◌, Bool, true, false, not, Option, Some, None, is_some, IsTrue, ◌↔◌, refl, sym, ap, ◌∙◌, inl, inr, arith, Decides, if◌then◌else◌, cases_eq, cases_lt, cases_Bool, eq-eqb, ne_eqb, and_parts, false≢true, true≢false, same_from_decides, Decides-and, Decides-like, Kind, Read, Write, stands, is_written, is_of, epoch_of, IsOther, HasOther, IsFirstOther, Conflicts, lowest_from, lowest_other, conflicts_in, first_in, and_false, if_false, if_true, and_true, some_is_not_none, some_or_none}, Sets.stands_above, Conflict.other_of_conflict}
 
 -- the test of one thread
 abbrev test : ℕ → ℕ → ℕ → Bool

@@ -1,6 +1,5 @@
 -- Bits of a number: shifted, and with one of them cleared.
-use Rattle.std.proofs.{Common.{◌≡◌, ◌≢◌, ℕ, ◌+◌, ◌-◌, ◌*◌, ◌/◌, ◌^◌, ◌%◌, ◌<◌, ◌==◌, ◌||◌, ◌&&◌, min, max, bit_and, sym, ap, subst, ◌∙◌, inl, inr, arith, w64}, Math.Nat.{div-div-eq-div-mul, mod-eq_of_lt}, Math.Pow.pow-lt, lemmas.Nat.{pow-add, and_le_l}, lemmas.Nat.Bits.{bit_at_and, bit_at_above, bit_at_clear_same, bit_at_clear_other}, lemmas.Bool.cases_lt, lemmas.Bool.Decides.nat_tests}
-use Rattle.std.specs.Int.{bit_at, bit_not}
+use Rattle.sharc_heap.proofs.Imports.{◌≡◌, ◌≢◌, ℕ, ◌+◌, ◌-◌, ◌*◌, ◌/◌, ◌^◌, ◌%◌, ◌<◌, ◌==◌, ◌||◌, ◌&&◌, min, max, bit_and, sym, ap, subst, ◌∙◌, inl, inr, arith, w64, div-div-eq-div-mul, mod-eq_of_lt, pow-lt, pow-add, and_le_l, bit_at_and, bit_at_above, bit_at_clear_same, bit_at_clear_other, cases_lt, nat_tests, bit_at, bit_not}
 
 pub max_test : (x y : ℕ) → x < 2 → y < 2 → (max x y == 1) ≡ (x == 1 || y == 1)
 max_test x y x_bit y_bit = grind (arith, nat_tests)

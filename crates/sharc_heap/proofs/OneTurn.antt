@@ -1,8 +1,5 @@
 -- A New asks for one turn, and what follows from it.
-use Rattle.std.proofs.{Common.{◌≡◌, ℕ, ◌+◌, ◌-◌, ◌≤◌, zero, suc, List, [], ◌∷◌, length, drop, refl, sym, ap, ◌∙◌, arith, inl, inr, subst}, lemmas.Bool.cases_lt}
-use Rattle.sharc_word.specs.{declared.step.WordStep.WordStep, declared.step.WordOp.WordOp, declared.step.WordOp.TheVariants.{Load, Swap, Cas}}
-use Rattle.sharc_heap.specs.{declared.stage.NewTurn.NewTurn, declared.stage.NewTurn.TheVariants.{Do, Made, HeapFull}, declared.arguments.NewArguments.NewArguments, Asks.{Asks, TakesOwn, ReadsTop, MovesTop, FindsNoRoom, TakesTop, AreTops, HasMoved, top_word, step_of, last_steps, own_steps, turn_at}, NewLaws.{AsksOneTurn, HasNoRoom, HeapIsFullWithoutRoom, MovesByOneBlock, TopMovesByOneBlock, OwnListEnds, TopEnds, OwnList, MovedTop, MadeIsItsBlock}}
-use Rattle.sharc_heap.proofs.{Steps.{turn_in_cells, rest_after_cells}, Tops.{moved_is_not_trying, moved_once, tops_once, tops_are_some, moved_is_some}, Aims.same_step}
+use Rattle.sharc_heap.proofs.{Imports.{◌≡◌, ℕ, ◌+◌, ◌-◌, ◌≤◌, zero, suc, List, [], ◌∷◌, length, drop, refl, sym, ap, ◌∙◌, arith, inl, inr, subst, cases_lt, WordStep, WordOp, Load, Swap, Cas, NewTurn, Do, Made, HeapFull, NewArguments, Asks, TakesOwn, ReadsTop, MovesTop, FindsNoRoom, TakesTop, AreTops, HasMoved, top_word, step_of, last_steps, own_steps, turn_at, AsksOneTurn, HasNoRoom, HeapIsFullWithoutRoom, MovesByOneBlock, TopMovesByOneBlock, OwnListEnds, TopEnds, OwnList, MovedTop, MadeIsItsBlock}, Steps.{turn_in_cells, rest_after_cells}, Tops.{moved_is_not_trying, moved_once, tops_once, tops_are_some, moved_is_some}, Aims.same_step}
 
 tops_of_nothing : (results : List ℕ) (top : ℕ) → results ≡ [] → AreTops results top → ⊥
 tops_of_nothing results top none tops = let P = λ (r : List ℕ). AreTops r top in tops_are_some top (subst P none tops)

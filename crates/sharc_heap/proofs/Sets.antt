@@ -1,9 +1,5 @@
 -- What setting and clearing bits makes of the sets of a shadow word.
-use Rattle.std.proofs.{Common.{◌≡◌, ℕ, ◌+◌, ◌-◌, ◌*◌, ◌/◌, ◌^◌, ◌%◌, ◌<◌, ◌≤◌, ◌==◌, ◌||◌, ◌&&◌, true, false, not, bit_or, refl, sym, ap, ◌∙◌, inl, inr, arith, Option, subst}, Math.Nat.{div-eq_of_lt, mul-div_cancel, mod-eq_of_lt}, Math.Pow.pow-lt, lemmas.Nat.Bits.{bit_at-zero, bit_at-lt, bit_at_or, bit_at-pow_same, bit_at-pow_other, bit_at_cat_low, same_from_bits}, lemmas.Bool.{cases_eq, cases_lt, eq-eqb, ne_eqb, lt-ltb, le-ltb, or_right}}
-use Rattle.std.specs.Int.{bit_at}
-use Rattle.sharc_heap.specs.{declared.shadow_word.Kind.Kind, declared.shadow_word.Kind.TheVariants.{Read, Write}, ShadowWord.{is_written, stands, epoch_of, is_of, HasBits, AddsAccess, Clears, Withdraws, WordIsItsSets, IsBlank}, Functions.cleared_of}
-use Rattle.sharc_heap.proofs.OneBit.{max_test, bit_at_shifted, IsWithout}
-use Rattle.sharc_lemmas.proofs.{Bools.{or_false, and_false, and_true}, Numbers.same_bit}
+use Rattle.sharc_heap.proofs.{Imports.{◌≡◌, ℕ, ◌+◌, ◌-◌, ◌*◌, ◌/◌, ◌^◌, ◌%◌, ◌<◌, ◌≤◌, ◌==◌, ◌||◌, ◌&&◌, true, false, not, bit_or, refl, sym, ap, ◌∙◌, inl, inr, arith, Option, subst, div-eq_of_lt, mul-div_cancel, mod-eq_of_lt, pow-lt, bit_at-zero, bit_at-lt, bit_at_or, bit_at-pow_same, bit_at-pow_other, bit_at_cat_low, same_from_bits, cases_eq, cases_lt, eq-eqb, ne_eqb, lt-ltb, le-ltb, or_right, bit_at, Kind, Read, Write, is_written, stands, epoch_of, is_of, HasBits, AddsAccess, Clears, Withdraws, WordIsItsSets, IsBlank, cleared_of, or_false, and_false, and_true, same_bit}, OneBit.{max_test, bit_at_shifted, IsWithout}}
 
 -- ---- the sets by their bits
 pub stands_below : (word k : ℕ) → k < 31 → stands word k ≡ (bit_at word (1 + k) == 1)

@@ -1,8 +1,5 @@
 -- The steps of a New, by their number.
-use Rattle.std.proofs.{Common.{◌≡◌, ℕ, ◌+◌, ◌<◌, suc, List, ◌++◌, length, get_or, drop, map, ap, ◌∙◌, arith}, Math.Seq.{drop-cons, drop-append-add}, lemmas.List.{get_or_append_left, length-append}, lemmas.List.FromFn.{length-map-range_with_len, get_or-map-range_with_len}}
-use Rattle.std.specs.List.{range_with_len}
-use Rattle.sharc_word.specs.{declared.step.WordStep.WordStep, declared.step.WordOp.TheVariants.Swap}
-use Rattle.sharc_heap.specs.{declared.stage.NewTurn.TheVariants.Do, declared.arguments.NewArguments.NewArguments, Asks.{cell_word, step_of, last_steps, own_steps, turn_at}}
+use Rattle.sharc_heap.proofs.Imports.{◌≡◌, ℕ, ◌+◌, ◌<◌, suc, List, ◌++◌, length, get_or, drop, map, ap, ◌∙◌, arith, drop-cons, drop-append-add, get_or_append_left, length-append, length-map-range_with_len, get_or-map-range_with_len, range_with_len, WordStep, Swap, Do, NewArguments, cell_word, step_of, last_steps, own_steps, turn_at}
 
 -- the clearing of a cell, and of them all
 abbrev pub clearing : NewArguments → ℕ → WordStep

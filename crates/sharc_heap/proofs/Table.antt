@@ -1,7 +1,5 @@
 -- What one note makes of a table.
-use Rattle.std.proofs.{Common.{◌≡◌, ◌≢◌, ℕ, ◌+◌, ◌<◌, ◌∷◌, [], ◌++◌, Bool, true, false, List, Some, None, is_some, cond, length, get_or, set, refl, sym, ap, ◌∙◌, inl, inr, arith, if◌then◌else◌}, lemmas.List.{get_or-set_same, get_or-set_other, get_or_default, length_push}, Math.ListN.length-set, lemmas.List.Sums.{sum_by-set, count_by-le-length}, lemmas.List.Elements.{Contains-get_or, Contains-append_left, Contains-push, Contains-push_cases}, lemmas.List.Quantifiers.all_pairs_push, lemmas.Bool.{cases_eq, cases_Bool, true≢false, or_right}}
-use Rattle.std.specs.List.{count_by}
-use Rattle.sharc_heap.specs.{declared.shadow_word.Kind.Kind, declared.shadow_word.Kind.TheVariants.{Read, Write}, declared.access_table.Note.Note, declared.access_table.GranuleNotes.GranuleNotes, Notes.{blank, of_kind, with_note, has_note}, Accesses.{Accesses, is_noted, NotesAccess, ListsNoted, IsTable}, Functions.{noted as noted_in}}
+use Rattle.sharc_heap.proofs.Imports.{◌≡◌, ◌≢◌, ℕ, ◌+◌, ◌<◌, ◌∷◌, [], ◌++◌, Bool, true, false, List, Some, None, is_some, cond, length, get_or, set, refl, sym, ap, ◌∙◌, inl, inr, arith, if◌then◌else◌, get_or-set_same, get_or-set_other, get_or_default, length_push, length-set, sum_by-set, count_by-le-length, Contains-get_or, Contains-append_left, Contains-push, Contains-push_cases, all_pairs_push, cases_eq, cases_Bool, true≢false, or_right, count_by, Kind, Read, Write, Note, GranuleNotes, blank, of_kind, with_note, has_note, Accesses, is_noted, NotesAccess, ListsNoted, IsTable, noted_in}
 
 -- a granule with a note has one after the next, too
 pub has_with_note : (kind : Kind) (note : Note) (row : GranuleNotes) → has_note (with_note kind note row) ≡ true

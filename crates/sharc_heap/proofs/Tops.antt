@@ -1,6 +1,5 @@
 -- Lists of tops: where the first two equal neighbours are.
-use Rattle.std.proofs.Common.{◌≡◌, ℕ, List, [], ◌∷◌, ◌++◌, sym, ap, ◌∙◌, append_assoc}
-use Rattle.sharc_heap.specs.Asks.{NoneTwice, AreTops, HasMoved}
+use Rattle.sharc_heap.proofs.Imports.{◌≡◌, ℕ, List, [], ◌∷◌, ◌++◌, sym, ap, ◌∙◌, append_assoc, NoneTwice, AreTops, HasMoved}
 
 -- a list that goes on has no end
 nil_is_not_longer : (xs : List ℕ) (x : ℕ) → [] ≡ xs ++ x ∷ [] → ⊥

@@ -1,8 +1,5 @@
 -- Which results were found up to a stage, and what is asked for there.
-use Rattle.std.proofs.{Common.{◌≡◌, ◌≢◌, ℕ, ◌+◌, ◌<◌, ◌≤◌, List, [], ◌∷◌, ◌++◌, length, drop, refl, sym, ap, ◌∙◌, inl, inr, arith, append_assoc, if◌then◌else◌}, lemmas.List.{length-append, length_push}, lemmas.Bool.{cases_eq, cases_lt, eq-eqb, ne_eqb, le-leb, lt-leb, lt-ltb, le-ltb}}
-use Rattle.sharc_word.specs.declared.step.WordOp.TheVariants.{Cas}
-use Rattle.sharc_heap.specs.{declared.stage.NewTurn.NewTurn, declared.stage.NewTurn.TheVariants.Do, declared.stage.NewStage.NewStage, declared.stage.NewStage.TheVariants.{Begins, Link, Cell, Top, Move, Count, Length, Made as Finished, Full}, declared.arguments.NewArguments.NewArguments, Asks.{Asks, TakesOwn, ReadsTop, MovesTop, FindsNoRoom, TakesTop, AreTops, NoneTwice, top_word, step_of, last_steps, own_steps, turn_at, granule_number, head_after}, Stages.{turn_of_stage, try_from, next_stage, next_head, HasBlock, OfOwn, OfTop, IsInCell, IsAtTop, IsAtStage}, State.{NewView, IsStep, IsAfter}, NewLaws.{NewBegins, NewGoesOn, NewStays}}
-use Rattle.sharc_heap.proofs.Steps.{turn_in_cells, rest_after_cells}
+use Rattle.sharc_heap.proofs.{Imports.{◌≡◌, ◌≢◌, ℕ, ◌+◌, ◌<◌, ◌≤◌, List, [], ◌∷◌, ◌++◌, length, drop, refl, sym, ap, ◌∙◌, inl, inr, arith, append_assoc, if◌then◌else◌, length-append, length_push, cases_eq, cases_lt, eq-eqb, ne_eqb, le-leb, lt-leb, lt-ltb, le-ltb, Cas, NewTurn, Do, NewStage, Begins, Link, Cell, Top, Move, Count, Length, Finished, Full, NewArguments, Asks, TakesOwn, ReadsTop, MovesTop, FindsNoRoom, TakesTop, AreTops, NoneTwice, top_word, step_of, last_steps, own_steps, turn_at, granule_number, head_after, turn_of_stage, try_from, next_stage, next_head, HasBlock, OfOwn, OfTop, IsInCell, IsAtTop, IsAtStage, NewView, IsStep, IsAfter, NewBegins, NewGoesOn, NewStays}, Steps.{turn_in_cells, rest_after_cells}}
 
 -- ---- what a stage asks for is what a New asks for
 last_turn : (a : NewArguments) (results : List ℕ) (header made : ℕ) (turn : NewTurn) → HasBlock a results header made → turn ≡ turn_at (drop made (last_steps a header)) header → Asks a results turn

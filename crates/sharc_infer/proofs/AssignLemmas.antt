@@ -1,14 +1,5 @@
 -- The least assignment, from what is settled, why positions are roots and what is found.
-use Rattle.std.proofs.{Common.{◌≡◌, ℕ, ◌<◌, ◌≤◌, true, List, Option, Some, None, length, refl, ap, sym, ◌∙◌, subst, inl, inr, arith}, lemmas.Bool.{cases_lt, false≢true}, lemmas.List.{get_or_default, get_or_past}}
-use Rattle.std.specs.Prelude.{slice_index_or}
-use Rattle.sharc_graph.specs.{declared.graph.NodeFinding.NodeFinding, declared.graph.NodeFinding.TheVariants.{Apart, Source, Behind}, Findings.finding_at, declared.place.PositionKind.PositionKind, Flow.{flow_of, place_at, is_unwritten, is_source, IsUnwritten, IsOrigin, IsInferred, AreInferred}}
-use Rattle.sharc_graph.specs.declared.place.PositionKind.TheVariants as place
-use Rattle.sharc_tree.specs.{declared.ctype.Mode.Mode, declared.ctype.Mode.TheVariants.Private}
-use Rattle.sharc_ctype.specs.{Entities.entities_in, Resolved.Resolution}
-use Rattle.sharc_mode.specs.{declared.position.Reason.Reason, declared.position.Reason.TheVariants.{Touched, Spawned, From}, Flows.{IsRoot, IsRootReason, IsPlaceFor, ArePlaces, IsReasonFor, IsLeastAssignment, mode_found, links_of}, Moded.position_count, Settled.{settled_in, settled_at}}
-use Rattle.sharc_reach.specs.Reaching.{Reaching, AreReached}
-use Rattle.sharc_infer.specs.{Positions.{place_of, reason_of, settled_of, root_of, ArePlacesOf, AreModesOf, AreReasonsOf}, Roots.{Roots, roots_of}}
-use Rattle.sharc_infer.proofs.RootLemmas.{HasRoot, Sound, roots_size, roots_sound, roots_complete}
+use Rattle.sharc_infer.proofs.{Imports.{◌≡◌, ℕ, ◌<◌, ◌≤◌, true, List, Option, Some, None, length, refl, ap, sym, ◌∙◌, subst, inl, inr, arith, cases_lt, false≢true, get_or_default, get_or_past, get_or as slice_index_or, NodeFinding, Apart, Source, Behind, finding_at, PositionKind, flow_of, place_at, is_unwritten, is_source, IsUnwritten, IsOrigin, IsInferred, AreInferred, Mode, Private, entities_in, Resolution, Reason, Touched, Spawned, From, IsRoot, IsRootReason, IsPlaceFor, ArePlaces, IsReasonFor, IsLeastAssignment, mode_found, links_of, position_count, settled_in, settled_at, Reaching, AreReached, place_of, reason_of, settled_of, root_of, ArePlacesOf, AreModesOf, AreReasonsOf, Roots, roots_of}, RootLemmas.{HasRoot, Sound, roots_size, roots_sound, roots_complete}}
 
 is_root : (r : Resolution) (p : ℕ) (reason : Reason) → IsRootReason r p (Some reason) → IsRoot r p
 is_root r p (Touched f) is = (f, inl is)
@@ -73,7 +64,7 @@ module _ (r : Resolution) (a : Reaching) (are : AreReached r a) (settled : List 
         let size = place_size in
         let none : settled_at r p ≡ Some Private = get_or_past (settled_in (entities_in r.program.items)) p (Some Private) (omega arith) in
         let P : Option Mode → Type 0 = λ o. IsPlaceFor r p o (place_at places p) in
-        subst P (sym none) (get_or_past places p place.Private (omega arith))
+        subst P (sym none) (get_or_past places p PositionKind.Private (omega arith))
 
     pub are_places : ArePlaces r places
     are_places = record { size = place_size; each = λ p. elim (cases_lt p (position_count r)) [ inl inside ↦ inside_place p inside | inr past ↦ past_place p past ] }

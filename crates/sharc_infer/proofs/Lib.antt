@@ -1,3 +1,4 @@
+mod Imports
 pub mod AssignLemmas
 pub mod LinkLemmas
 pub mod PositionLemmas

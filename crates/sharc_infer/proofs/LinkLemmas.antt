@@ -1,11 +1,5 @@
 -- The links of what follows other things.
-use Rattle.std.proofs.{Common.{◌≡◌, ℕ, zero, suc, ◌+◌, ◌<◌, ◌≤◌, min, map, length, drop, get_or, arith, Some, inl, inr, List, [], ◌∷◌, ◌++◌, Result, OnOk, refl, ap, sym, ◌∙◌, subst, append_assoc}, lemmas.Grind.flat_map-append, lemmas.Bool.cases_lt, lemmas.List.{drop_all, append-nil, get_or-map, length-map}}
-use Rattle.sharc_graph.specs.declared.place.Link.{Link}
-use Rattle.sharc_tree.specs.{declared.tree.declaration.Declaration.Declaration, declared.tree.expression.Expr.Expr, Tree.{Expression, no_arguments, argument, value}, View.view_arguments}
-use Rattle.sharc_ctype.specs.{Resolved.Resolution, Entities.{numbered_from, positions_of, positions_in}, Transfers.{Transfer, variable, gives, passed}, declared.entity.Entity.Entity, declared.entity.Numbered.Numbered}
-use Rattle.sharc_mode.specs.{Flows.{cast_links, equal_rows}, Rows.{written, declared_row, row_at}}
-use Rattle.sharc_infer.specs.Links.{given, given_by, casts_in}
-use Rattle.sharc_lemmas.proofs.Lists.{first_of_rest as from_place}
+use Rattle.sharc_infer.proofs.Imports.{◌≡◌, ℕ, zero, suc, ◌+◌, ◌<◌, ◌≤◌, min, map, length, drop, get_or, arith, Some, inl, inr, List, [], ◌∷◌, ◌++◌, Result, OnOk, refl, ap, sym, ◌∙◌, subst, append_assoc, flat_map-append, cases_lt, drop_all, append-nil, get_or-map, length-map, Link, Declaration, Expr, Expression, no_arguments, argument, value, view_arguments, Resolution, numbered_from, positions_of, positions_in, Transfer, variable, gives, passed, Entity, Numbered, cast_links, equal_rows, written, declared_row, row_at, given, given_by, casts_in, from_place}
 
 pub casts_both : (r : Resolution) (a b : List Expression) → casts_in r (a ++ b) ≡ casts_in r a ++ casts_in r b
 casts_both r a b = flat_map-append (cast_links r) a b

@@ -1,5 +1,5 @@
 -- Lists that are made position by position.
-use Rattle.std.proofs.{Common.{◌≡◌, ℕ, ◌+◌, ◌<◌, List, [], ◌∷◌, ◌++◌, length, length-append, get_or, ap, sym, ◌∙◌, inl, inr, arith}, lemmas.Bool.cases_lt, lemmas.List.{get_or_append_left, get_or_push}}
+use Rattle.sharc_infer.proofs.Imports.{◌≡◌, ℕ, ◌+◌, ◌<◌, List, [], ◌∷◌, ◌++◌, length, length-append, get_or, ap, sym, ◌∙◌, inl, inr, arith, cases_lt, get_or_append_left, get_or_push}
 
 -- one position more
 pub size_more : {A : Type 0} (xs new : List A) (n : ℕ) (x : A) → length xs ≡ n → new ≡ xs ++ x ∷ [] → length new ≡ n + 1

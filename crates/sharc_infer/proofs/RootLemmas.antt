@@ -1,12 +1,5 @@
 -- The list of roots has a reason exactly where a position is a root.
-use Rattle.std.proofs.{Common.{◌≡◌, ◌⊎◌, ℕ, zero, suc, ◌<◌, ◌≤◌, Bool, true, false, List, [], ◌∷◌, Option, Some, None, length, get_or, set, replicate, refl, ap, sym, ◌∙◌, subst, inl, inr, arith}, lemmas.Bool.{cases_eq, cases_lt, cases_Bool, ltb-true, lt-ltb}, lemmas.List.{length-set, get_or-set_same, get_or-set_other, get_or_past, get_or-replicate, length-replicate, set_past}}
-use Rattle.std.specs.Prelude.{IsSomeAnd, Contains, nat_lt}
-use Rattle.sharc_tree.specs.{declared.tree.declaration.Declaration.Declaration, declared.tree.item.GlobalDefinition.GlobalDefinition, Tree.Function}
-use Rattle.sharc_ctype.specs.{declared.entity.Numbered.Numbered, Entities.{entity_at, positions_of}, Reaches.{IsReached, NamesGlobal}, Resolved.{Resolution, global_at, function_at, globals_in, functions_in}}
-use Rattle.sharc_mode.specs.{declared.position.Reason.Reason, declared.position.Reason.TheVariants.{Touched, Spawned}, Flows.{IsFirst, IsTouchedIn, IsPassedTo, IsRoot, IsRootReason}, Moded.position_count}
-use Rattle.sharc_reach.specs.Reaching.{Reaching, first_of, is_chosen, IsFirstOf, AreReached}
-use Rattle.sharc_infer.specs.{Positions.root_of, Roots.{Roots, marked, rooted, touch, touched_below, mark_all, pass, passed_below, roots_of}}
-use Rattle.sharc_lemmas.proofs.{Options.{same_some, none_some as none_not_some, some_and}, Lists.{there_is as some_inside, head_there as contains_here, contains_behind}}
+use Rattle.sharc_infer.proofs.Imports.{◌≡◌, ◌⊎◌, ℕ, zero, suc, ◌<◌, ◌≤◌, Bool, true, false, List, [], ◌∷◌, Option, Some, None, length, get_or, set, replicate, refl, ap, sym, ◌∙◌, subst, inl, inr, arith, cases_eq, cases_lt, cases_Bool, ltb-true, lt-ltb, length-set, get_or-set_same, get_or-set_other, get_or_past, get_or-replicate, length-replicate, set_past, IsSomeAnd, Contains, nat_lt, Declaration, GlobalDefinition, Function, Numbered, entity_at, positions_of, IsReached, NamesGlobal, Resolution, global_at, function_at, globals_in, functions_in, Reason, Touched, Spawned, IsFirst, IsTouchedIn, IsPassedTo, IsRoot, IsRootReason, position_count, Reaching, first_of, is_chosen, IsFirstOf, AreReached, root_of, Roots, marked, rooted, touch, touched_below, mark_all, pass, passed_below, roots_of, same_some, none_not_some, some_and, some_inside, contains_here, contains_behind}
 
 and_some : {A : Type 0} (o : Option A) (P : A → Type 0) (x : A) → o ≡ Some x → P x → IsSomeAnd o P
 and_some {A = A} o P x is p = let Q : Option A → Type 0 = λ z. IsSomeAnd z P in subst Q (sym is) p

@@ -1,10 +1,5 @@
 -- What the grammar reads are tokens in order, each the slice of its span, with white space and line markers alone between them.
-use Rattle.std.proofs.{Common.{◌≡◌, ℕ, zero, suc, ◌+◌, ◌-◌, ◌<◌, ◌≤◌, ◌==◌, min, Bool, true, false, cond, List, [], ◌∷◌, ◌++◌, length, get_or, take, drop, slice_index, Result, Ok, Err, sym, refl, ap, ◌∙◌, subst, inl, inr, arith, add-zero, one-add, length-drop, length-take-le, get_or-drop}, lemmas.Bool.{cases_lt, eqb-true}, lemmas.List.{drop-drop, take-append-le, take-append-drop}, lemmas.List.Elements.{All-nil, All-cons, All-append, All-weaker}, lemmas.List.Sums.{prefix_len-le-length, passes_at_first}}
-use Rattle.std.specs.{Prelude.{ok_or, not, All}, List.{prefix_len, position_or_len}}
-use Rattle.sharc_tree.specs.declared.token.Token.{Token}
-use Rattle.sharc_lex.specs.{declared.fault.TokenFault.TokenFault, declared.fault.SourceLine.SourceLine, declared.token_at.Lexeme.Lexeme, Bytes.{is_white_space, is_blank}, Files.with_file, Grammar.{Read, tokens_of, token, at_offset, behind_tokens, marker_line, text_line, line_read, marked, with_tokens, with_place, IsWithin, ◌>>=◌}, Laws.{IsLongest, IsBetween, IsSlice, Covers}, Lines.{line_at, BeginsLine}, Markers.{is_marker_line, marker}, TokenAt.token_at}
-use Rattle.sharc_lex.specs.declared.fault.TokenFault.TheVariants as fault
-use Rattle.sharc_lex.proofs.{LongestLemmas.token_longest, ReadingLemmas.{lines_from, lines_from-first, lines_from-end, len_of}, WithinLemmas.{chosen, bind_ok, ok_injective, with_file-length, with_place-ok, behind_tokens-ok}}
+use Rattle.sharc_lex.proofs.{Imports.{◌≡◌, ℕ, zero, suc, ◌+◌, ◌-◌, ◌<◌, ◌≤◌, ◌==◌, min, Bool, true, false, cond, List, [], ◌∷◌, ◌++◌, length, get_or, take, drop, slice_index, Result, Ok, Err, sym, refl, ap, ◌∙◌, subst, inl, inr, arith, add-zero, one-add, length-drop, length-take-le, get_or-drop, cases_lt, eqb-true, drop-drop, take-append-le, take-append-drop, All-nil, All-cons, All-append, All-weaker, prefix_len-le-length, passes_at_first, ok_or, not, All, prefix_len, position_or_len, Token, TokenFault, SourceLine, Lexeme, is_white_space, is_blank, with_file, Read, tokens_of, token, at_offset, behind_tokens, marker_line, text_line, line_read, marked, with_tokens, with_place, IsWithin, ◌>>=◌, IsLongest, IsBetween, IsSlice, Covers, line_at, BeginsLine, is_marker_line, marker, token_at}, LongestLemmas.token_longest, ReadingLemmas.{lines_from, lines_from-first, lines_from-end, len_of}, WithinLemmas.{chosen, bind_ok, ok_injective, with_file-length, with_place-ok, behind_tokens-ok}}
 
 -- the bytes up to the first newline, and those after the first of them
 abbrev line_of : List ℕ → List ℕ
@@ -191,7 +186,7 @@ module _ (source : List ℕ) (at : ℕ) (inside : at ≤ length source) where
   covered_marker : (read more : Read) → Covered source at read → is_marker_line line ≡ true → marker_line read at line ≡ Ok more → Covered source (end + 1) more
   covered_marker read more covered marks e =
       let start = prefix_len is_blank line in
-      let found = bind_ok (ok_or (marker (drop (start + 1) line)) (record { offset = at + start; fault = fault.Marker })) (λ found. Ok (marked read found)) more e in
+      let found = bind_ok (ok_or (marker (drop (start + 1) line)) (record { offset = at + start; fault = TokenFault.Marker })) (λ found. Ok (marked read found)) more e in
       let same : marked read found.0 ≡ more = ok_injective (marked read found.0) more found.2 in
       let files = with_file-length read.files found.0.1 in
       let old : Covers source 0 at read.tokens = renumbered source 0 (min at (length source)) 0 at read.tokens refl (omega arith) covered.covers in

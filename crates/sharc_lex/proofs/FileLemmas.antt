@@ -1,8 +1,5 @@
 -- The names of files in a set of slices.
-use Rattle.std.proofs.{Common.{◌≡◌, ℕ, ◌+◌, Bool, true, false, not, cond, nat_eq, List, [], ◌∷◌, ◌++◌, map, refl, ap, ◌∙◌, ◌||◌}, lemmas.List.map-append}
-use Rattle.std.specs.{Borrow.Bor, List.{list_any, position_or_len}, Cmp.Lexicographic.pointwise, Str.bytes_eq}
-use Rattle.indexmap.specs.IndexSet.{insert_key}
-use Rattle.sharc_lex.specs.Files.{with_file, place_of}
+use Rattle.sharc_lex.proofs.Imports.{◌≡◌, ℕ, ◌+◌, Bool, true, false, not, cond, eqb as nat_eq, List, [], ◌∷◌, ◌++◌, map, refl, ap, ◌∙◌, ◌||◌, map-append, Bor, list_any, position_or_len, pointwise, bytes_eq, insert_key, with_file, place_of}
 
 abbrev Slice : Type 0
 Slice = Bor (List ℕ)

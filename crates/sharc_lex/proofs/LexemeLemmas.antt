@@ -1,9 +1,5 @@
 -- A token has a byte at least, and no more than there are.
-use Rattle.std.proofs.{Common.{◌≡◌, ℕ, ◌+◌, ◌<◌, ◌≤◌, min, Bool, true, cond, ◌||◌, ltb, eqb, nat_eq, ◌⊎◌, List, [], ◌∷◌, ◌++◌, length, take, Option, Some, None, Result, Ok, Err, sym, refl, ap, ◌∙◌, subst, inl, inr, arith, length-take}, lemmas.List.Sums.prefix_len-le-length, lemmas.Bool.{and_parts, ltb-true}, lemmas.Slice.Eq.bytes_eq-Decides}
-use Rattle.std.specs.{Prelude.{ok_or, option_map, IfOk}, List.{prefix_len, starts_with, list_all}}
-use Rattle.sharc_tree.specs.declared.token.TokenKind.{TokenKind}
-use Rattle.sharc_lex.specs.{declared.fault.TokenFault.TokenFault, declared.token_at.Lexeme.Lexeme, Bytes.{is_letter, is_digit, is_word_byte}, Characters.{character, constant, plain, behind_backslash}, Punctuators.{first_begun, singles, pairs, triples, quadruples}, TokenAt.{LiesIn, token_at, of_len}}
-use Rattle.sharc_lex.proofs.WithinLemmas.{chosen}
+use Rattle.sharc_lex.proofs.{Imports.{◌≡◌, ℕ, ◌+◌, ◌<◌, ◌≤◌, min, Bool, true, cond, ◌||◌, ltb, eqb, eqb as nat_eq, ◌⊎◌, List, [], ◌∷◌, ◌++◌, length, take, Option, Some, None, Result, Ok, Err, sym, refl, ap, ◌∙◌, subst, inl, inr, arith, length-take, prefix_len-le-length, and_parts, ltb-true, bytes_eq-Decides, ok_or, option_map, IfOk, prefix_len, starts_with, list_all, TokenKind, TokenFault, Lexeme, is_letter, is_digit, is_word_byte, character, constant, plain, behind_backslash, first_begun, singles, pairs, triples, quadruples, LiesIn, token_at, of_len}, WithinLemmas.chosen}
 
 pub of_len-len : (len : ℕ) (r : Result TokenKind TokenFault) (found : Lexeme) → of_len len r ≡ Ok found → found.len ≡ len
 of_len-len len (Ok k) found e = let same : found ≡ record { len = len; kind = k } = cc in ap (λ (x : Lexeme). x.len) same

@@ -1,3 +1,4 @@
+mod Imports
 pub mod CoverLemmas
 pub mod FileLemmas
 pub mod LexemeLemmas

@@ -1,8 +1,5 @@
 -- The tokens of a line, a step at a time.
-use Rattle.std.proofs.Common.{◌≡◌, ℕ, zero, suc, ◌+◌, ◌-◌, ◌<◌, false, cond, List, [], ◌∷◌, ◌++◌, length, get_or, drop, Result, Ok, Err, sym, refl, ap, ◌∙◌, arith, add-zero, append_assoc}
-use Rattle.sharc_tree.specs.declared.token.Token.{Token}
-use Rattle.sharc_lex.specs.{declared.fault.TokenFault.TokenFault, declared.fault.LineFault.LineFault, declared.fault.SourceLine.SourceLine, declared.token_at.Lexeme.Lexeme, Bytes.is_white_space, Grammar.{tokens_of, token, at_offset, behind_tokens, Steps, ◌>>=◌}, TokenAt.token_at}
-use Rattle.sharc_lex.proofs.LexemeLemmas.{token_lies}
+use Rattle.sharc_lex.proofs.{Imports.{◌≡◌, ℕ, zero, suc, ◌+◌, ◌-◌, ◌<◌, false, cond, List, [], ◌∷◌, ◌++◌, length, get_or, drop, Result, Ok, Err, sym, refl, ap, ◌∙◌, arith, add-zero, append_assoc, Token, TokenFault, LineFault, SourceLine, Lexeme, is_white_space, tokens_of, token, at_offset, behind_tokens, Steps, ◌>>=◌, token_at}, LexemeLemmas.token_lies}
 
 -- after the bytes that belong to a token
 pub tokens_of-taken : (place : SourceLine) (taken offset : ℕ) (bytes : List ℕ) → tokens_of place taken offset bytes ≡ tokens_of place 0 (offset + taken) (drop taken bytes)

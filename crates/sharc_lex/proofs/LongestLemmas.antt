@@ -1,11 +1,5 @@
 -- The token at the front of the bytes is the longest one there.
-use Rattle.std.proofs.{Common.{◌≡◌, ℕ, zero, suc, ◌+◌, ◌-◌, ◌<◌, ◌≤◌, ◌==◌, Bool, true, false, not, cond, ◌&&◌, leb, eqb, nat_eq, ◌⊎◌, List, [], ◌∷◌, length, get_or, take, Some, Result, Ok, Err, sym, refl, ap, ◌∙◌, subst, inl, inr, arith, one-add, length-take-le}, lemmas.Bool.{cases_Bool, and_parts, leb-true, false≢true, eqb-true, eq-eqb, not-true}, lemmas.List.take_all, lemmas.List.Elements.{All-cons, All-contains, All-weaker}, lemmas.List.Sums.AllPass-from_list_all, lemmas.Slice.Eq.bytes_eq-Decides}
-use Rattle.std.specs.{Prelude.{ok_or, option_map, All, Contains, IfOk}, List.{prefix_len, starts_with, list_all}}
-use Rattle.sharc_tree.specs.declared.token.TokenKind.{TokenKind}
-use Rattle.sharc_tree.specs.declared.token.TokenKind.TheVariants as kind
-use Rattle.sharc_lex.specs.{declared.fault.TokenFault.TokenFault, declared.token_at.Lexeme.Lexeme, Bytes.{is_letter, is_digit, is_word_byte}, Characters.{character, constant, plain, behind_backslash}, Laws.{IsRun, IsConstant, IsToken, IsLongest}, Numbers.number, Punctuators.{punctuator, punctuators, first_begun}, TokenAt.{token_at, word_at, number_at, of_len}, Words.word}
-use Rattle.sharc_lex.specs.declared.fault.TokenFault.TheVariants as fault
-use Rattle.sharc_lex.proofs.{LexemeLemmas.{token_lies, of_len-len, constant_len, ok_or_some}, WithinLemmas.chosen}
+use Rattle.sharc_lex.proofs.{Imports.{◌≡◌, ℕ, zero, suc, ◌+◌, ◌-◌, ◌<◌, ◌≤◌, ◌==◌, Bool, true, false, not, cond, ◌&&◌, leb, eqb, eqb as nat_eq, ◌⊎◌, List, [], ◌∷◌, length, get_or, take, Some, Result, Ok, Err, sym, refl, ap, ◌∙◌, subst, inl, inr, arith, one-add, length-take-le, cases_Bool, and_parts, leb-true, false≢true, eqb-true, eq-eqb, not-true, take_all, All-cons, All-contains, All-weaker, AllPass-from_list_all, bytes_eq-Decides, ok_or, option_map, All, Contains, IfOk, prefix_len, starts_with, list_all, TokenKind, TokenFault, Lexeme, is_letter, is_digit, is_word_byte, character, constant, plain, behind_backslash, IsRun, IsConstant, IsToken, IsLongest, number, punctuator, punctuators, first_begun, token_at, word_at, number_at, of_len, word}, LexemeLemmas.{token_lies, of_len-len, constant_len, ok_or_some}, WithinLemmas.chosen}
 
 abbrev Table : Type 0
 Table = List (List ℕ × TokenKind)
@@ -29,7 +23,7 @@ word_len : (l : List ℕ) (found : Lexeme) → word_at l ≡ Ok found → found.
 word_len l found e = of_len-len (prefix_len is_word_byte l) (word (take (prefix_len is_word_byte l) l)) found e
 
 number_len : (l : List ℕ) (found : Lexeme) → number_at l ≡ Ok found → found.len ≡ prefix_len is_word_byte l
-number_len l found e = of_len-len (prefix_len is_word_byte l) (ok_or (option_map kind.Number (number (take (prefix_len is_word_byte l) l))) fault.Number) found e
+number_len l found e = of_len-len (prefix_len is_word_byte l) (ok_or (option_map TokenKind.Number (number (take (prefix_len is_word_byte l) l))) TokenFault.Number) found e
 
 -- no longer front of the bytes is a run
 no_longer_run : (begins : ℕ → Bool) (read : List ℕ → Result Lexeme TokenFault) (bytes : List ℕ) (n : ℕ) (k : TokenKind) → ((l : List ℕ) (found : Lexeme) → read l ≡ Ok found → found.len ≡ prefix_len is_word_byte l) → prefix_len is_word_byte bytes < n → n ≤ length bytes → IsRun begins read (take n bytes) k → ⊥
@@ -223,12 +217,12 @@ token_longest b bytes found e =
       | inr h ↦ elim (chosen (is_digit b) _ _ _ h.1) [
         | inl d ↦ record {
           lies = lies;
-          token = inr (inl (found_run is_digit (λ text. ok_or (option_map kind.Number (number text)) fault.Number) b bytes found d.0 lies.some lies.within d.1));
+          token = inr (inl (found_run is_digit (λ text. ok_or (option_map TokenKind.Number (number text)) TokenFault.Number) b bytes found d.0 lies.some lies.within d.1));
           longest = λ n k longer inside token. let len = number_len (b ∷ bytes) found d.1 in no_longer_word b bytes n k (inr d.0) (omega arith) inside token;
         }
         | inr d ↦ elim (chosen (eqb b 39) _ _ _ d.1) [
           | inl q ↦
-              let constant = ok_or_some (character bytes) fault.Character found q.1 in
+              let constant = ok_or_some (character bytes) TokenFault.Character found q.1 in
               record {
                 lies = lies;
                 token = inr (inr (inl (found_constant b bytes found (eqb-true b 39 q.0) constant)));
@@ -246,7 +240,7 @@ token_longest b bytes found e =
                     ];
               }
           | inr q ↦
-              let sign = ok_or_some (punctuator (b ∷ bytes)) (fault.Byte b) found q.1 in
+              let sign = ok_or_some (punctuator (b ∷ bytes)) (TokenFault.Byte b) found q.1 in
               record {
                 lies = lies;
                 token = inr (inr (inr (found_sign punctuators (b ∷ bytes) found sign)));

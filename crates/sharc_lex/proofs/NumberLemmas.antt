@@ -1,6 +1,5 @@
 -- A value that is too large stays so, whatever digits follow.
-use Rattle.std.proofs.{Common.{◌≡◌, ℕ, ◌+◌, ◌*◌, ◌^◌, ◌<◌, ◌≤◌, Bool, true, false, cond, ltb, ◌&&◌, List, [], ◌∷◌, Some, None, ap, ◌∙◌, inl, inr, arith}, Math.Nat.mul-le-mul_left, lemmas.Bool.{ltb-true, ltb-false, le-ltb, cases_Bool}}
-use Rattle.sharc_lex.specs.Numbers.{digit_value, value_behind, with_digit, small_value}
+use Rattle.sharc_lex.proofs.Imports.{◌≡◌, ℕ, ◌+◌, ◌*◌, ◌^◌, ◌<◌, ◌≤◌, Bool, true, false, cond, ltb, ◌&&◌, List, [], ◌∷◌, Some, None, ap, ◌∙◌, inl, inr, arith, mul-le-mul_left, ltb-true, ltb-false, le-ltb, cases_Bool, digit_value, value_behind, with_digit, small_value}
 
 -- either the digit is one of the base or there is no value
 value_behind-digit : (base high d : ℕ) (ds : List ℕ) (b : Bool) → ltb (digit_value d) base ≡ b → value_behind base high (d ∷ ds) ≡ cond b (value_behind base (high * base + digit_value d) ds) None

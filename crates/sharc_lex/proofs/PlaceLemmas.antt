@@ -1,8 +1,5 @@
 -- The file and the line in which an offset lies: within a line, after a line of text, and after a line marker.
-use Rattle.std.proofs.{Common.{◌≡◌, ℕ, zero, suc, ◌+◌, ◌-◌, ◌<◌, ◌≤◌, ◌==◌, Bool, false, codes, List, length, get_or, take, drop, slice_index, Some, sym, ap, ◌∙◌, subst, inl, inr, arith, length-drop, get_or-drop}, lemmas.Bool.{cases_lt, eq-eqb, false≢true}, lemmas.List.Sums.{count_by_more_no, count_by_more_yes, fails_before_first}}
-use Rattle.std.specs.List.{count_by}
-use Rattle.sharc_lex.specs.{Lines.{line_at, BeginsLine, newlines, marker_of, NoMarker, StandsIn}, Markers.is_marker_line}
-use Rattle.sharc_lex.proofs.CoverLemmas.{line_length, end_inside, newline}
+use Rattle.sharc_lex.proofs.{Imports.{◌≡◌, ℕ, zero, suc, ◌+◌, ◌-◌, ◌<◌, ◌≤◌, ◌==◌, Bool, false, codes, List, length, get_or, take, drop, slice_index, Some, sym, ap, ◌∙◌, subst, inl, inr, arith, length-drop, get_or-drop, cases_lt, eq-eqb, false≢true, count_by_more_no, count_by_more_yes, fails_before_first, count_by, line_at, BeginsLine, newlines, marker_of, NoMarker, StandsIn, is_marker_line}, CoverLemmas.{line_length, end_inside, newline}}
 
 abbrev is_newline : ℕ → Bool
 is_newline b = b == 10

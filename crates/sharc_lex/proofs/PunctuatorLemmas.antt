@@ -1,8 +1,5 @@
 -- The first of a table that is given in parts.
-use Rattle.std.proofs.Common.{◌≡◌, ℕ, Bool, true, false, cond, List, [], ◌∷◌, ◌++◌, nat_eq, Option, Some, None, refl}
-use Rattle.std.specs.List.{starts_with}
-use Rattle.sharc_tree.specs.declared.token.TokenKind.{TokenKind}
-use Rattle.sharc_lex.specs.{declared.token_at.Lexeme.Lexeme, Punctuators.first_begun}
+use Rattle.sharc_lex.proofs.Imports.{◌≡◌, ℕ, Bool, true, false, cond, List, [], ◌∷◌, ◌++◌, eqb as nat_eq, Option, Some, None, refl, starts_with, TokenKind, Lexeme, first_begun}
 
 abbrev Table : Type 0
 Table = List (List ℕ × TokenKind)

@@ -1,10 +1,5 @@
 -- The lines of a source, one at a time.
-use Rattle.std.proofs.{Common.{◌≡◌, ℕ, suc, ◌+◌, ◌-◌, ◌<◌, ◌≤◌, ◌==◌, Bool, true, false, not, cond, leb, List, [], ◌∷◌, length, take, drop, Result, Ok, Err, sym, refl, ap, ◌∙◌, subst, inl, inr, arith, one-add, length-drop, length-take-le}, lemmas.Bool.{cases_Bool, le-leb, lt-leb, leb-true, leb-false}, lemmas.List.{drop-drop, take_all}}
-use Rattle.std.specs.List.{position_or_len}
-use Rattle.sharc_tree.specs.declared.token.FaultAt.{FaultAt}
-use Rattle.sharc_lex.specs.{declared.fault.TokenFault.TokenFault, Faults.Refuses, declared.fault.LexFault.LexFault, Grammar.{lines_of, in_front, Read, line_read, with_place, lines_read, opening, tokens_read, reading, IsWithin, ◌>>=◌}}
-use Rattle.sharc_lex.specs.declared.fault.LexFault.TheVariants as lex
-use Rattle.sharc_lex.proofs.WithinLemmas.{within_line}
+use Rattle.sharc_lex.proofs.{Imports.{◌≡◌, ℕ, suc, ◌+◌, ◌-◌, ◌<◌, ◌≤◌, ◌==◌, Bool, true, false, not, cond, leb, List, [], ◌∷◌, length, take, drop, Result, Ok, Err, sym, refl, ap, ◌∙◌, subst, inl, inr, arith, one-add, length-drop, length-take-le, cases_Bool, le-leb, lt-leb, leb-true, leb-false, drop-drop, take_all, position_or_len, FaultAt, TokenFault, Refuses, LexFault, lines_of, in_front, Read, line_read, with_place, lines_read, opening, tokens_read, reading, IsWithin, ◌>>=◌}, WithinLemmas.within_line}
 
 -- the lines from an offset on
 abbrev pub lines_from : ℕ → List ℕ → List (List ℕ)
@@ -70,8 +65,8 @@ reading-fault source fault e = ap (λ r. r >>= λ read. Ok (tokens_read read)) e
 
 -- what a line is refused for is what the source is refused for
 pub reading-refused : (source : List ℕ) (read : Read) (at : ℕ) (line : List ℕ) (lines : List (List ℕ)) (refused : LexFault) → lines_read read at (line ∷ lines) ≡ lines_read opening 0 (lines_of source) → Refuses refused (with_place read (line_read read at line)) → Refuses refused (reading source)
-reading-refused source read at line lines (lex.At fault) all refused = reading-fault source fault (sym all ∙ lines_read-fault read fault at line lines refused)
-reading-refused source read at line lines lex.Memory all refused = tt
+reading-refused source read at line lines (LexFault.At fault) all refused = reading-fault source fault (sym all ∙ lines_read-fault read fault at line lines refused)
+reading-refused source read at line lines LexFault.Memory all refused = tt
 
 -- the bytes from an offset on, as a slice has them
 pub tail_is : (source : List ℕ) (at : ℕ) → take (length source - at) (drop at source) ≡ drop at source

@@ -1,11 +1,5 @@
 -- What holds of what was read is kept from line to line, up to the end of the source or its first fault.
-use Rattle.std.proofs.{Common.{◌≡◌, ℕ, zero, suc, ◌+◌, ◌-◌, ◌<◌, ◌≤◌, min, Bool, true, false, not, cond, ◌||◌, ◌⊎◌, List, [], ◌∷◌, ◌++◌, length, get_or, drop, Option, Some, None, Result, Ok, Err, sym, refl, ap, ◌∙◌, subst, inl, inr, arith, one-add}, Math.Seq.get_or-append_seam, lemmas.Bool.le-leb, lemmas.List.get_or_append_left, lemmas.List.Elements.{All-nil, All-append, All-weaker}, lemmas.List.Sums.prefix_len-le-length, lemmas.Slice.Eq.bytes_eq-Decides}
-use Rattle.std.specs.{Prelude.{ok_or, All}, List.{prefix_len, list_any}, Str.bytes_eq}
-use Rattle.sharc_tree.specs.{declared.token.FaultAt.FaultAt, declared.token.Token.Token, declared.token.Tokens.Tokens}
-use Rattle.sharc_lex.specs.{declared.fault.TokenFault.TokenFault, declared.fault.LexFault.LexFault, declared.fault.LineFault.LineFault, declared.fault.SourceLine.SourceLine, Bytes.{is_white_space, is_blank}, Faults.Refuses, Files.{with_file, place_of}, Grammar.{Read, tokens_of, token, at_offset, behind_tokens, marker_line, text_line, line_read, marked, with_tokens, fault_at, with_place, lines_read, lines_of, opening, tokens_read, reading, IsWithin, ◌>>=◌}, Laws.{name_in, AreTokensOf, IsFaultIn, TellsPlace, Covers}, Lines.{line_at, BeginsLine, StandsIn}, Markers.{is_marker_line, marker}, TokenAt.token_at}
-use Rattle.sharc_lex.specs.declared.fault.TokenFault.TheVariants as fault
-use Rattle.sharc_lex.specs.declared.fault.LexFault.TheVariants as lex
-use Rattle.sharc_lex.proofs.{CoverLemmas.{Covered, IsOnLine, tokens_of-on_line, empty, renumbered, covers_count, line_length, end_inside, covered_line, end_of_lines, line_is_there}, PlaceLemmas.{stands_within, stands_behind_text, stands_behind_marker, stands_first}, ReadingLemmas.{lines_from, lines_from-first, len_of}, WithinLemmas.{chosen, bind_ok, ok_or-ok, ok_injective, with_file-length, with_place-ok, behind_tokens-ok, within_line}}
+use Rattle.sharc_lex.proofs.{Imports.{◌≡◌, ℕ, zero, suc, ◌+◌, ◌-◌, ◌<◌, ◌≤◌, min, Bool, true, false, not, cond, ◌||◌, ◌⊎◌, List, [], ◌∷◌, ◌++◌, length, get_or, drop, Option, Some, None, Result, Ok, Err, sym, refl, ap, ◌∙◌, subst, inl, inr, arith, one-add, get_or-append_seam, le-leb, get_or_append_left, All-nil, All-append, All-weaker, prefix_len-le-length, bytes_eq-Decides, ok_or, All, prefix_len, list_any, bytes_eq, FaultAt, Token, Tokens, TokenFault, LexFault, LineFault, SourceLine, is_white_space, is_blank, Refuses, with_file, place_of, Read, tokens_of, token, at_offset, behind_tokens, marker_line, text_line, line_read, marked, with_tokens, fault_at, with_place, lines_read, lines_of, opening, tokens_read, reading, IsWithin, ◌>>=◌, name_in, AreTokensOf, IsFaultIn, TellsPlace, Covers, line_at, BeginsLine, StandsIn, is_marker_line, marker, token_at}, CoverLemmas.{Covered, IsOnLine, tokens_of-on_line, empty, renumbered, covers_count, line_length, end_inside, covered_line, end_of_lines, line_is_there}, PlaceLemmas.{stands_within, stands_behind_text, stands_behind_marker, stands_first}, ReadingLemmas.{lines_from, lines_from-first, len_of}, WithinLemmas.{chosen, bind_ok, ok_or-ok, ok_injective, with_file-length, with_place-ok, behind_tokens-ok, within_line}}
 
 -- a file that is looked up is found, and those before it keep their places
 
@@ -79,7 +73,7 @@ line_fault : (read : Read) (at : ℕ) (line : List ℕ) (found : LineFault) → 
 line_fault read at line found e = elim (chosen (is_marker_line line) _ _ _ e) [
   | inl h ↦
       let start = prefix_len is_blank line in
-      let bad : LineFault = record { offset = at + start; fault = fault.Marker } in
+      let bad : LineFault = record { offset = at + start; fault = TokenFault.Marker } in
       elim (bind_err (ok_or (marker (drop (start + 1) line)) bad) (λ found. Ok (marked read found)) found h.1) [
         | inl wrong ↦
             let same : at + start ≡ found.offset = ap (λ (x : LineFault). x.offset) (ok_or-err (marker (drop (start + 1) line)) bad found wrong) in
@@ -132,7 +126,7 @@ module _ (source : List ℕ) (at : ℕ) (inside : at ≤ length source) (begins 
   placed_marker : (read more : Read) → IsWithin at read → Placed source at read → is_marker_line line ≡ true → marker_line read at line ≡ Ok more → Placed source (end + 1) more
   placed_marker read more within placed marks e =
       let start = prefix_len is_blank line in
-      let found = bind_ok (ok_or (marker (drop (start + 1) line)) (record { offset = at + start; fault = fault.Marker })) (λ found. Ok (marked read found)) more e in
+      let found = bind_ok (ok_or (marker (drop (start + 1) line)) (record { offset = at + start; fault = TokenFault.Marker })) (λ found. Ok (marked read found)) more e in
       let place = ok_or-ok (marker (drop (start + 1) line)) _ found.0 found.1 in
       let gives = ap (λ t. cond t (marker (drop (start + 1) line)) None) marks ∙ place in
       let same : marked read found.0 ≡ more = ok_injective (marked read found.0) more found.2 in
@@ -260,5 +254,5 @@ fault_is source told e = elim (bind_err (lines_read opening 0 (lines_of source))
 ]
 
 pub refused_place : (source : List ℕ) (refused : LexFault) → Refuses refused (reading source) → TellsPlace source refused
-refused_place source (lex.At told) e = fault_is source told e
-refused_place source lex.Memory e = tt
+refused_place source (LexFault.At told) e = fault_is source told e
+refused_place source LexFault.Memory e = tt

@@ -1,10 +1,5 @@
 -- A line that is read keeps what was read within the limits.
-use Rattle.std.proofs.{Common.{◌≡◌, ℕ, zero, suc, ◌+◌, ◌-◌, ◌^◌, ◌<◌, ◌≤◌, ◌==◌, Bool, true, false, not, cond, ◌||◌, ltb, ◌⊎◌, List, [], ◌∷◌, ◌++◌, length, take, drop, Option, Some, None, Result, Ok, Err, refl, ap, subst, inl, inr, arith, length-append}, lemmas.Bool.ltb-true, lemmas.List.Sums.prefix_len-le-length}
-use Rattle.std.specs.{Prelude.{option_and_then, ok_or}, List.{prefix_len, list_any, list_all}, Str.bytes_eq}
-use Rattle.sharc_tree.specs.declared.token.Token.{Token}
-use Rattle.sharc_lex.specs.declared.fault.TokenFault.TheVariants as fault
-use Rattle.sharc_lex.specs.{declared.fault.LineFault.LineFault, declared.fault.SourceLine.SourceLine, Bytes.{is_blank, is_digit, is_white_space, behind}, Files.{with_file, place_of}, Grammar.{Read, tokens_of, token, at_offset, behind_tokens, line_read, marker_line, text_line, marked, with_tokens, with_place, IsWithin, ◌>>=◌}, Markers.{marker, line_number, file_name, is_flag, is_marker_line}, Numbers.value_behind, TokenAt.token_at}
-use Rattle.sharc_lemmas.proofs.Options.{bind_some}
+use Rattle.sharc_lex.proofs.Imports.{◌≡◌, ℕ, zero, suc, ◌+◌, ◌-◌, ◌^◌, ◌<◌, ◌≤◌, ◌==◌, Bool, true, false, not, cond, ◌||◌, ltb, ◌⊎◌, List, [], ◌∷◌, ◌++◌, length, take, drop, Option, Some, None, Result, Ok, Err, refl, ap, subst, inl, inr, arith, length-append, ltb-true, prefix_len-le-length, option_and_then, ok_or, prefix_len, list_any, list_all, bytes_eq, Token, TokenFault, LineFault, SourceLine, is_blank, is_digit, is_white_space, behind, with_file, place_of, Read, tokens_of, token, at_offset, behind_tokens, line_read, marker_line, text_line, marked, with_tokens, with_place, IsWithin, ◌>>=◌, marker, line_number, file_name, is_flag, is_marker_line, value_behind, token_at, bind_some}
 
 -- which way a test goes
 pub chosen : {A : Type 0} (b : Bool) (x y z : A) → cond b x y ≡ z → ((b ≡ true) × (x ≡ z)) ⊎ ((b ≡ false) × (y ≡ z))
@@ -92,7 +87,7 @@ with_place-ok read (Err f) more e = cc
 within_marker : (offset : ℕ) (read more : Read) (line : List ℕ) → IsWithin offset read → marker_line read offset line ≡ Ok more → IsWithin (offset + length line + 1) more
 within_marker offset read more line within e =
     let start = prefix_len is_blank line in
-    let found = bind_ok (ok_or (marker (drop (start + 1) line)) (record { offset = offset + start; fault = fault.Marker })) (λ found. Ok (marked read found)) more e in
+    let found = bind_ok (ok_or (marker (drop (start + 1) line)) (record { offset = offset + start; fault = TokenFault.Marker })) (λ found. Ok (marked read found)) more e in
     let place = ok_or-ok (marker (drop (start + 1) line)) _ found.0 found.1 in
     let small = marker-small (drop (start + 1) line) found.0 place in
     let files = with_file-length read.files found.0.1 in

@@ -1,8 +1,5 @@
 -- In a table of texts only those of the text's own length matter.
-use Rattle.std.proofs.{Common.{◌≡◌, ◌≢◌, ℕ, Bool, true, false, cond, ◌==◌, ◌||◌, List, [], ◌∷◌, length, Some, None, sym, refl, ap, ◌∙◌, inl, inr}, lemmas.Bool.{eqb-false, ne_eqb, and_parts, false≢true, cases_Bool}, lemmas.Slice.Eq.bytes_eq-Decides}
-use Rattle.std.specs.{Prelude.filter, List.{list_all, list_any}, Str.bytes_eq}
-use Rattle.sharc_tree.specs.declared.token.TokenKind.{TokenKind}
-use Rattle.sharc_lex.specs.Words.{entry_at}
+use Rattle.sharc_lex.proofs.Imports.{◌≡◌, ◌≢◌, ℕ, Bool, true, false, cond, ◌==◌, ◌||◌, List, [], ◌∷◌, length, Some, None, sym, refl, ap, ◌∙◌, inl, inr, eqb-false, ne_eqb, and_parts, false≢true, cases_Bool, bytes_eq-Decides, filter, list_all, list_any, bytes_eq, TokenKind, entry_at}
 
 abbrev Table : Type 0
 Table = List (List ℕ × TokenKind)

@@ -1,2 +1,3 @@
+mod Imports
 pub mod TurnLemmas
 pub mod Warned

@@ -1,13 +1,6 @@
 -- From the warnings by numbers of tokens to those by places.
-use Rattle.std.proofs.{Common.{◌≡◌, ℕ, ◌<◌, ◌≤◌, List, [], ◌∷◌, length, map, ◌⊎◌, inl, inr, Option, Some, None, Contains, refl, ap, sym, subst, arith, zero, suc, ◌+◌, ◌++◌, drop, add-one, drop-cons}, lemmas.List.Elements.{Contains-append_left, Contains-append_right, Contains-append_cases, Contains-push}}
-use Rattle.std.specs.Prelude.{slice_get, slice_index_or}
-use Rattle.sharc_tree.specs.{declared.token.Token.Token, Tree.Function, declared.tree.item.Item.Item, View.{view_item, view_items}}
+use Rattle.sharc_live.proofs.Imports.{◌≡◌, ℕ, ◌<◌, ◌≤◌, List, [], ◌∷◌, length, map, ◌⊎◌, inl, inr, Option, Some, None, Contains, refl, ap, sym, subst, arith, zero, suc, ◌+◌, ◌++◌, drop, add-one, drop-cons, Contains-append_left, Contains-append_right, Contains-append_cases, Contains-push, slice_get, slice_index_or, Token, Function, Item, view_item, view_items, Resolution, functions_in, Warning, FlowWarning, warning, HasWarning, IsUse, AddsUses, Rising, AreFirsts, function_flow, AddsAll, site_of, site_at, warning_at, IsUseAmong, IsUseIn, IsWarned, InOrder, IsWarning, AreWarnings, from_cons}
 use Rattle.sharc_tree.specs.Tree as tree
-use Rattle.sharc_ctype.specs.Resolved.{Resolution, functions_in}
-use Rattle.sharc_mode.specs.declared.error.Warning.{Warning}
-use Rattle.sharc_dataflow.specs.{declared.way.FlowWarning.FlowWarning, Uses.{warning, HasWarning, IsUse, AddsUses, Rising, AreFirsts}}
-use Rattle.sharc_live.specs.{Flows.function_flow, Gathers.AddsAll, Uses.{site_of, site_at, warning_at, IsUseAmong, IsUseIn, IsWarned, InOrder, IsWarning, AreWarnings}}
-use Rattle.sharc_lemmas.proofs.Lists.{head_or_tail as from_cons}
 
 from_map : {A B : Type 0} (f : A → B) (l : List A) (b : B) → Contains (map f l) b → (a : A) × Contains l a × (f a ≡ b)
 from_map f [] b h = absurd (omega (arith, h.1))

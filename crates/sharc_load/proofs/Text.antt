@@ -1,7 +1,5 @@
 -- The text of lines, line after line.
-use Rattle.std.proofs.{Common.{◌≡◌, ℕ, ◌+◌, List, [], ◌∷◌, ◌++◌, map, codes, decimal, refl, sym, ap, ◌∙◌, append_assoc, append-nil}, lemmas.List.Concat.flat_map-append, lemmas.List.FromFn.map-range_with_len_more}
-use Rattle.std.specs.List.{range_with_len}
-use Rattle.sharc_load.specs.Source.{text_of, step_line, call_line, spawn_line, join_line, step_numbers, thread_numbers, globals, worker, main_function, source_of}
+use Rattle.sharc_load.proofs.Imports.{◌≡◌, ℕ, ◌+◌, List, [], ◌∷◌, ◌++◌, map, codes, decimal, refl, sym, ap, ◌∙◌, append_assoc, append-nil, flat_map-append, map-range_with_len_more, range_with_len, text_of, step_line, call_line, spawn_line, join_line, step_numbers, thread_numbers, globals, worker, main_function, source_of}
 
 text_of-append : (a b : List (List ℕ)) → text_of (a ++ b) ≡ text_of a ++ text_of b
 unfolding text_of

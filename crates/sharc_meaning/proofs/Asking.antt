@@ -1,11 +1,5 @@
 -- The laws of what a thread asks for.
-use Rattle.std.proofs.Common.{◌≡◌, ℕ, suc, ◌+◌, ◌≤◌, List, [], ◌∷◌, ◌++◌, refl, sym, ap, ◌∙◌, subst, arith, append-nil, length, length-append}
-use Rattle.std.specs.Prelude.{ℤ, ◌≢◌}
-use Rattle.sharc_tree.specs.declared.event.SourceEvent.{SourceEvent}
-use Rattle.sharc_ctype.specs.Resolved.{function_at}
-use Rattle.sharc_mode.specs.Moded.{Assignment}
-use Rattle.sharc_meaning.specs.{Laws.{IsPrefix, GoesOn, MoreIsGivenUp, MoreFuel, MoreFuelChangesNothing, MoreAnswers, MoreAnswersChangeNothing, NoMoreThanAnswers, WantsBehindAnswers, Comes, OneAnswerMore}, Meaning.{Asked, asked_by, asks, run_thread, start}, State.{Outcome, wants, ended, spent, Out, go, over}}
-use Rattle.sharc_meaning.proofs.{Closed.thread_kept, Growing.prefix_refl, Going.{with_more, NoMore, ComesIn}, Counting.{Counting, counting, Counts, NoneLeft}}
+use Rattle.sharc_meaning.proofs.{Imports.{◌≡◌, ℕ, suc, ◌+◌, ◌≤◌, List, [], ◌∷◌, ◌++◌, refl, sym, ap, ◌∙◌, subst, arith, append-nil, length, length-append, ℤ, ◌≢◌, SourceEvent, function_at, Assignment, IsPrefix, GoesOn, MoreIsGivenUp, MoreFuel, MoreFuelChangesNothing, MoreAnswers, MoreAnswersChangeNothing, NoMoreThanAnswers, WantsBehindAnswers, Comes, OneAnswerMore, Asked, asked_by, asks, run_thread, start, Outcome, wants, ended, spent, Out, go, over}, Closed.thread_kept, Growing.prefix_refl, Going.{with_more, NoMore, ComesIn}, Counting.{Counting, counting, Counts, NoneLeft}}
 use Rattle.sharc_meaning.proofs.Going as going
 
 abbrev outcome_of : {A : Type 0} → Out A → Outcome

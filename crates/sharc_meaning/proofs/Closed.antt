@@ -1,14 +1,5 @@
 -- What holds of every run: what the parts of the meaning keep, by one induction on the syntax.
-use Rattle.std.specs.{Prelude.{ℕ, zero, suc, ℤ, pos, negsuc, Bool, true, false, cond, not, List, [], ◌∷◌, ◌++◌, length, drop, slice_index_or, unsigned_abs, Option, Some, None, Result, Ok, Err, nat_lt, codes}, Str.bytes_eq}
-use Rattle.sharc_tree.specs.{declared.event.Act.Act, declared.event.Object.Object, declared.event.Object.TheVariants.{Global, Made}, declared.event.TakeKind.TakeKind, declared.token.Site.Site, declared.token.Span.Span, declared.tree.declaration.Declaration.Declaration, declared.tree.expression.FieldOperator.FieldOperator, declared.tree.expression.FieldOperator.TheVariants.{Dot, Arrow}, declared.tree.expression.BinaryOperator.BinaryOperator, declared.tree.expression.BinaryOperator.TheVariants.{LogicalOr, LogicalAnd}, declared.tree.expression.PlaceCall.PlaceCall, declared.tree.expression.PlaceCall.TheVariants.{Lock, Unlock, Free}, declared.tree.expression.UnaryOperator.UnaryOperator, declared.tree.expression.UnaryOperator.TheVariants.{Negate, Not, Complement, Dereference}, declared.tree.expression.ValueCall.ValueCall, Tree.{Expression, identifier, constant, parentheses, call, spawn, on_value, on_place, cast, index, field, unary, binary, Arguments, no_arguments, argument, Right, value, malloc, Simple, assign, does_call, Local, First, nothing, declares, does, Statement, empty, block, declare, simple, jump, return, if_then, if_then_else, while, for, Statements, no_statements, statement, Function}, declared.event.CellMode.TheVariants.{Readonly, Locked}, declared.event.TakeKind.TheVariants.{Cast, Free as ToFree}, declared.trap.Trap.Trap, Spans.span_of}
-use Rattle.sharc_names.specs.{declared.fault.Named.Named, Kinds.{Kind, is_pointer, is_array, element_kind, declared_kind, declared_kinds, promoted}}
-use Rattle.sharc_names.specs.declared.fault.Named.TheVariants as named
-use Rattle.sharc_ctype.specs.{Resolved.{Resolution, named_at, kind_at, function_at}, Expressions.{class_of, binary_result}, Transfers.parameters_named}
-use Rattle.sharc_mode.specs.{Moded.Assignment, Sharings.{Sharing, private, locked}, Cells.{cell_at, pointed}, Rows.{written, row_at, declared_row, cast_row}}
-use Rattle.sharc_meaning.specs.{Cells.{cell_of, element_cells, Guard, mutex, behind, nothing as no_mutex, guard_of, instance_mode}, Arithmetic.{bits_of, fits, is_zero, truth, operated, negated, complement}, Events.{held_mutexes, holds_mutex}, Reference.{NULL, is_null, number_of, elements_of, constant_value}, declared.given.GivenUp.GivenUp, declared.given.GivenUp.TheVariants.{Released, Replaced, Emptied}, State.{Frame, Use, writes, nulls, go, new_variable, with_value, with_temporary, without_temporaries, Run, Step, ◌>>=◌, give, stop, unless_stop, entered, answered, performs, gives_up, drops, holds, holds_reference, moves, moves_on, is_reference, temporarily, value_of, looks_at, traces, sets, reads_variable, writes_variable, begins_with, in_block}, Places.{StorePlace, variable, cell, no_place, place_named, pointee, based, element, element_of_array, index_place, pointee_place, field_place, unary_place, guarding, access_mode, fetched, stored, taken_from, cast_to, freed}, Waiting.{cell_at_place, moves_base, gives_up_base, lock_call, unlock_call, wait_call, signal_call, broadcast_call, condition_call}, Expressions.{Calls, resulting, tested, operand, fitting, passed, named_value, called, number_named, value_act, spawned, value_called, taking, place_called, cast_value, place_value, unary_value, binary_value, eval, eval_all, place_of}, Statements.{Flow, next, returned, on_next, loop, left_by, elements_made, is_positive, right_value, done_simple, initialised, declared, done_first, done_step, done_test, return_with, exec, exec_all}, Meaning.{parameters_begin, left_at, in_frame, run_function, call_value, calls, goes_away, run_thread}}
-use Rattle.sharc_tree.specs.declared.event.Act.TheVariants as acts
-use Rattle.sharc_tree.specs.declared.event.Taken.TheVariants as taken
-use Rattle.sharc_tree.specs.declared.trap.Trap.TheVariants as traps
+use Rattle.sharc_meaning.proofs.Imports.{ℕ, zero, suc, ℤ, pos, negsuc, Bool, true, false, cond, not, List, [], ◌∷◌, ◌++◌, length, drop, slice_index_or, unsigned_abs, Option, Some, None, Result, Ok, Err, nat_lt, codes, bytes_eq, Act, Object, Global, Made, TakeKind, Site, Span, Declaration, FieldOperator, Dot, Arrow, BinaryOperator, LogicalOr, LogicalAnd, PlaceCall, Lock, Unlock, Free, UnaryOperator, Negate, Not, Complement, Dereference, ValueCall, Expression, identifier, constant, parentheses, call, spawn, on_value, on_place, cast, index, field, unary, binary, Arguments, no_arguments, argument, Right, value, malloc, Simple, assign, does_call, Local, First, nothing, declares, does, Statement, empty, block, declare, simple, jump, return, if_then, if_then_else, while, for, Statements, no_statements, statement, Function, Readonly, Locked, Cast, ToFree, Trap, span_of, Named, Kind, is_pointer, is_array, element_kind, declared_kind, declared_kinds, promoted, Resolution, named_at, kind_at, function_at, class_of, binary_result, parameters_named, Assignment, Sharing, private, locked, cell_at, pointed, written, row_at, declared_row, cast_row, cell_of, element_cells, Guard, mutex, behind, no_mutex, guard_of, instance_mode, bits_of, fits, is_zero, truth, operated, negated, complement, held_mutexes, holds_mutex, NULL, is_null, number_of, elements_of, constant_value, GivenUp, Released, Replaced, Emptied, Frame, Use, writes, nulls, go, new_variable, with_value, with_temporary, without_temporaries, Run, Step, ◌>>=◌, give, stop, unless_stop, entered, answered, performs, gives_up, drops, holds, holds_reference, moves, moves_on, is_reference, temporarily, value_of, looks_at, traces, sets, reads_variable, writes_variable, begins_with, in_block, StorePlace, variable, cell, no_place, place_named, pointee, based, element, element_of_array, index_place, pointee_place, field_place, unary_place, guarding, access_mode, fetched, stored, taken_from, cast_to, freed, cell_at_place, moves_base, gives_up_base, lock_call, unlock_call, wait_call, signal_call, broadcast_call, condition_call, Calls, resulting, tested, operand, fitting, passed, named_value, called, number_named, value_act, spawned, value_called, taking, place_called, cast_value, place_value, unary_value, binary_value, eval, eval_all, place_of, Flow, next, returned, on_next, loop, left_by, elements_made, is_positive, right_value, done_simple, initialised, declared, done_first, done_step, done_test, return_with, exec, exec_all, parameters_begin, left_at, in_frame, run_function, call_value, calls, goes_away, run_thread, Taken}
 
 -- A property of runs that the parts of the meaning keep. Its flag says that a statement or an expression was entered.
 pub record Closed (Q : Bool → (A : Type 0) → Run A → Type 0) : Type 1 where
@@ -75,7 +66,7 @@ module _ (Q : Bool → (A : Type 0) → Run A → Type 0) (q : Closed Q) where
 
   -- ---- places
   based_kept : (site : Site) (kind : Kind) (p : ℤ) → Keeps (based site kind p)
-  based_kept site kind p = q.binds _ _ _ _ (holds_kept kind p) (λ _. unless (not (is_null p)) traps.NullPointer site)
+  based_kept site kind p = q.binds _ _ _ _ (holds_kept kind p) (λ _. unless (not (is_null p)) Trap.NullPointer site)
 
   element_kept : (site : Site) (o : Object) (cells elements : ℕ) (i : ℤ) → Keeps (element site o cells elements i)
   element_kept site o cells elements (pos n) = either (nat_lt n elements) _ _ _ (q.give _ _) (q.stop _ _ site)
@@ -104,7 +95,7 @@ module _ (Q : Bool → (A : Type 0) → Run A → Type 0) (q : Closed Q) where
   -- ---- accesses
   guarding_kept : (site : Site) (g : Guard) → Keeps (guarding site g)
   guarding_kept site (mutex c) = q.give _ _
-  guarding_kept site (behind c) = q.binds _ _ _ _ (q.event site (acts.Read c Readonly)) (λ p. q.binds _ _ _ _ (unless (not (is_null p)) traps.NullPointer site) (λ _. q.give _ (cell_of (Made (number_of p)) 0)))
+  guarding_kept site (behind c) = q.binds _ _ _ _ (q.event site (Act.Read c Readonly)) (λ p. q.binds _ _ _ _ (unless (not (is_null p)) Trap.NullPointer site) (λ _. q.give _ (cell_of (Made (number_of p)) 0)))
   guarding_kept site no_mutex = q.stop _ _ site
 
   mode_kept : (r : Resolution) (site : Site) (mode : Sharing) (o : Object) (first : ℕ) → Keeps (access_mode r site mode o first)
@@ -113,23 +104,23 @@ module _ (Q : Bool → (A : Type 0) → Run A → Type 0) (q : Closed Q) where
 
   fetched_kept : (r : Resolution) (site : Site) (mode : Sharing) (p : StorePlace) → Keeps (fetched r site mode p)
   fetched_kept r site mode (variable x) = reads_kept site x
-  fetched_kept r site mode (cell o first c) = q.binds _ _ _ _ (mode_kept r site mode o first) (λ under. q.event site (acts.Read (cell_of o c) under))
+  fetched_kept r site mode (cell o first c) = q.binds _ _ _ _ (mode_kept r site mode o first) (λ under. q.event site (Act.Read (cell_of o c) under))
 
   stored_kept : (r : Resolution) (site : Site) (kind : Kind) (mode : Sharing) (p : StorePlace) (v : ℤ) → Keeps (stored r site kind mode p v)
   stored_kept r site kind mode (variable x) v = q.binds _ _ _ _ (looks x) (λ old. q.binds _ _ _ _ (writes_kept site x v) (λ _. drops_kept kind old))
   stored_kept r site kind mode (cell o first c) v = q.binds _ _ _ _ (holds_kept kind v) (λ _. q.binds _ _ _ _ (mode_kept r site mode o first) (λ under.
-      q.binds _ _ _ _ (performs_kept site (acts.Write (cell_of o c) under v)) (λ _. q.binds _ _ _ _ (moves_kept kind) (λ _. either (is_pointer kind) _ _ _ (q.given (Replaced (cell_of o c) ∷ [])) (q.give _ tt)))))
+      q.binds _ _ _ _ (performs_kept site (Act.Write (cell_of o c) under v)) (λ _. q.binds _ _ _ _ (moves_kept kind) (λ _. either (is_pointer kind) _ _ _ (q.given (Replaced (cell_of o c) ∷ [])) (q.give _ tt)))))
 
   taken_kept : (r : Resolution) (token site : Site) (mode : Sharing) (kind : TakeKind) (p : StorePlace) → Keeps (taken_from r token site mode kind p)
-  taken_kept r token site mode kind (variable x) = q.binds _ _ _ _ (looks x) (λ v. q.binds _ _ _ _ (either (is_null v) _ _ _ (q.give _ v) (q.event site (acts.Take (taken.Local x) kind))) (λ _.
+  taken_kept r token site mode kind (variable x) = q.binds _ _ _ _ (looks x) (λ v. q.binds _ _ _ _ (either (is_null v) _ _ _ (q.give _ v) (q.event site (Act.Take (Taken.Local x) kind))) (λ _.
       q.binds _ _ _ _ (q.binds _ _ _ _ (q.trace nulls x token) (λ _. sets_kept x NULL)) (λ _. q.give _ v)))
-  taken_kept r token site mode kind (cell o first c) = q.binds _ _ _ _ (mode_kept r site mode o first) (λ under. q.event site (acts.Take (taken.Cell (cell_of o c) under) kind))
+  taken_kept r token site mode kind (cell o first c) = q.binds _ _ _ _ (mode_kept r site mode o first) (λ under. q.event site (Act.Take (Taken.Cell (cell_of o c) under) kind))
 
   cast_kept : (r : Resolution) (site : Site) (mode : Sharing) (v : ℤ) → Keeps (cast_to r site mode v)
-  cast_kept r site mode v = q.binds _ _ _ _ (held_kept v) (λ _. q.binds _ _ _ _ q.values (λ held. q.binds _ _ _ _ (performs_kept site (acts.Give v (instance_mode r held mode))) (λ _. q.binds _ _ _ _ (moved_kept 1) (λ _. q.give _ v))))
+  cast_kept r site mode v = q.binds _ _ _ _ (held_kept v) (λ _. q.binds _ _ _ _ q.values (λ held. q.binds _ _ _ _ (performs_kept site (Act.Give v (instance_mode r held mode))) (λ _. q.binds _ _ _ _ (moved_kept 1) (λ _. q.give _ v))))
 
   freed_kept : (site : Site) (v : ℤ) → Keeps (freed site v)
-  freed_kept site v = q.binds _ _ _ _ (q.given (Emptied (number_of v) ∷ [])) (λ _. q.binds _ _ _ _ (held_kept v) (λ _. q.binds _ _ _ _ (performs_kept site (acts.Freed v)) (λ _. moved_kept 1)))
+  freed_kept site v = q.binds _ _ _ _ (q.given (Emptied (number_of v) ∷ [])) (λ _. q.binds _ _ _ _ (held_kept v) (λ _. q.binds _ _ _ _ (performs_kept site (Act.Freed v)) (λ _. moved_kept 1)))
 
   -- ---- mutexes and condition variables
   moves_base_kept : (p : StorePlace) → Keeps (moves_base p)
@@ -141,24 +132,24 @@ module _ (Q : Bool → (A : Type 0) → Run A → Type 0) (q : Closed Q) where
   gives_up_base_kept _ = q.give _ tt
 
   lock_kept : (site : Site) (p : StorePlace) → Keeps (lock_call site p)
-  lock_kept site p = q.binds _ _ _ _ q.events (λ own. q.binds _ _ _ _ (unless (not (holds_mutex own (cell_at_place p))) traps.MutexAlreadyHeld site) (λ _.
-      q.binds _ _ _ _ (unless (nat_lt (length (held_mutexes own)) 16) traps.TooManyLocks site) (λ _. q.binds _ _ _ _ (performs_kept site (acts.Lock (cell_at_place p))) (λ _. moves_base_kept p))))
+  lock_kept site p = q.binds _ _ _ _ q.events (λ own. q.binds _ _ _ _ (unless (not (holds_mutex own (cell_at_place p))) Trap.MutexAlreadyHeld site) (λ _.
+      q.binds _ _ _ _ (unless (nat_lt (length (held_mutexes own)) 16) Trap.TooManyLocks site) (λ _. q.binds _ _ _ _ (performs_kept site (Act.Lock (cell_at_place p))) (λ _. moves_base_kept p))))
 
   unlock_kept : (site : Site) (p : StorePlace) → Keeps (unlock_call site p)
-  unlock_kept site p = q.binds _ _ _ _ q.events (λ own. q.binds _ _ _ _ (unless (holds_mutex own (cell_at_place p)) traps.MutexNotHeld site) (λ _.
-      q.binds _ _ _ _ (performs_kept site (acts.Unlock (cell_at_place p))) (λ _. gives_up_base_kept p)))
+  unlock_kept site p = q.binds _ _ _ _ q.events (λ own. q.binds _ _ _ _ (unless (holds_mutex own (cell_at_place p)) Trap.MutexNotHeld site) (λ _.
+      q.binds _ _ _ _ (performs_kept site (Act.Unlock (cell_at_place p))) (λ _. gives_up_base_kept p)))
 
   wait_kept : (site : Site) (c m : ℤ) → Keeps (wait_call site c m)
-  wait_kept site c m = q.binds _ _ _ _ (unless (not (is_null c)) traps.NullPointer site) (λ _. q.binds _ _ _ _ (unless (not (is_null m)) traps.NullPointer site) (λ _. q.binds _ _ _ _ q.events (λ own.
-      q.binds _ _ _ _ (unless (holds_mutex own (cell_at_place (pointee m))) traps.MutexNotHeld site) (λ _. q.binds _ _ _ _ (performs_kept site (acts.Enter (cell_at_place (pointee c)))) (λ _.
-      q.binds _ _ _ _ (performs_kept site (acts.Unlock (cell_at_place (pointee m)))) (λ _. q.binds _ _ _ _ (held_kept m) (λ _. q.binds _ _ _ _ (performs_kept site (acts.Woken (cell_at_place (pointee c)))) (λ _.
-      q.binds _ _ _ _ (performs_kept site (acts.Lock (cell_at_place (pointee m)))) (λ _. moved_kept 1)))))))))
+  wait_kept site c m = q.binds _ _ _ _ (unless (not (is_null c)) Trap.NullPointer site) (λ _. q.binds _ _ _ _ (unless (not (is_null m)) Trap.NullPointer site) (λ _. q.binds _ _ _ _ q.events (λ own.
+      q.binds _ _ _ _ (unless (holds_mutex own (cell_at_place (pointee m))) Trap.MutexNotHeld site) (λ _. q.binds _ _ _ _ (performs_kept site (Act.Enter (cell_at_place (pointee c)))) (λ _.
+      q.binds _ _ _ _ (performs_kept site (Act.Unlock (cell_at_place (pointee m)))) (λ _. q.binds _ _ _ _ (held_kept m) (λ _. q.binds _ _ _ _ (performs_kept site (Act.Woken (cell_at_place (pointee c)))) (λ _.
+      q.binds _ _ _ _ (performs_kept site (Act.Lock (cell_at_place (pointee m)))) (λ _. moved_kept 1)))))))))
 
   signal_kept : (site : Site) (c : ℤ) → Keeps (signal_call site c)
-  signal_kept site c = q.binds _ _ _ _ (unless (not (is_null c)) traps.NullPointer site) (λ _. q.binds _ _ _ _ (q.event site (acts.Signal (cell_at_place (pointee c)))) (λ _. q.give _ tt))
+  signal_kept site c = q.binds _ _ _ _ (unless (not (is_null c)) Trap.NullPointer site) (λ _. q.binds _ _ _ _ (q.event site (Act.Signal (cell_at_place (pointee c)))) (λ _. q.give _ tt))
 
   broadcast_kept : (site : Site) (c : ℤ) → Keeps (broadcast_call site c)
-  broadcast_kept site c = q.binds _ _ _ _ (unless (not (is_null c)) traps.NullPointer site) (λ _. performs_kept site (acts.Broadcast (cell_at_place (pointee c))))
+  broadcast_kept site c = q.binds _ _ _ _ (unless (not (is_null c)) Trap.NullPointer site) (λ _. performs_kept site (Act.Broadcast (cell_at_place (pointee c))))
 
   condition_kept : (site : Site) (name : List ℕ) (vs : List ℤ) → Keeps (condition_call site name vs)
   condition_kept site name vs = either (bytes_eq name (codes "wait")) _ _ _ (wait_kept site (slice_index_or vs 0 NULL) (slice_index_or vs 1 NULL))
@@ -176,20 +167,20 @@ module _ (Q : Bool → (A : Type 0) → Run A → Type 0) (q : Closed Q) where
   operand_kept r a of_a h = q.binds _ _ _ _ h (λ v. q.binds _ _ _ _ (holds_kept (kind_at r a) v) (λ _. q.give _ v))
 
   fitting_kept : (kind : Kind) (a : Expression) (of_a : Run ℤ) → Keeps of_a → Keeps (fitting kind a of_a)
-  fitting_kept kind a of_a h = q.binds _ _ _ _ h (λ v. q.binds _ _ _ _ (unless (fits kind v) traps.OutOfRange (span_of a).first) (λ _. q.give _ v))
+  fitting_kept kind a of_a h = q.binds _ _ _ _ h (λ v. q.binds _ _ _ _ (unless (fits kind v) Trap.OutOfRange (span_of a).first) (λ _. q.give _ v))
 
   passed_kept : (r : Resolution) (kinds : List Kind) (a : Expression) (of_a : Run ℤ) → Keeps of_a → Keeps (passed r kinds a of_a)
   passed_kept r [] a of_a h = operand_kept r a of_a h
   passed_kept r (kind ∷ rest) a of_a h = operand_kept r a (fitting kind a of_a) (fitting_kept kind a of_a h)
 
   named_kept : (r : Resolution) (mode : Sharing) (site : Site) (n : Named) → Keeps (named_value r mode site n)
-  named_kept r mode site (named.Variable token) = reads_kept site token
-  named_kept r mode site (named.Global n) = fetched_kept r site mode (cell (Global n) 0 0)
+  named_kept r mode site (Named.Variable token) = reads_kept site token
+  named_kept r mode site (Named.Global n) = fetched_kept r site mode (cell (Global n) 0 0)
   named_kept r mode site _ = q.give _ (pos 0)
 
   spawned_kept : (r : Resolution) (site : Site) (f : Named) (a : Expression) (of_a : Run ℤ) → Keeps of_a → Keeps (spawned r site f a of_a)
   spawned_kept r site f a of_a h = q.scope _ _ (q.binds _ _ _ _ (passed_kept r (declared_kinds (parameters_named r f)) a of_a h) (λ v.
-      q.binds _ _ _ _ (q.event site (acts.Spawn (number_named f) v)) (λ t. q.binds _ _ _ _ (moves_kept (kind_at r a)) (λ _. q.give _ t))))
+      q.binds _ _ _ _ (q.event site (Act.Spawn (number_named f) v)) (λ t. q.binds _ _ _ _ (moves_kept (kind_at r a)) (λ _. q.give _ t))))
 
   value_called_kept : (site : Site) (w : ValueCall) (of_a : Run ℤ) → Keeps of_a → Keeps (value_called site w of_a)
   value_called_kept site w of_a h = q.binds _ _ _ _ h (λ v. q.binds _ _ _ _ (performs_kept site (value_act w v)) (λ _. q.give _ (pos 0)))
@@ -224,8 +215,8 @@ module _ (Q : Bool → (A : Type 0) → Run A → Type 0) (q : Closed Q) where
 
   module _ (on_call : Calls) (hc : (f : ℕ) (site : Site) (vs : List ℤ) → Keeps (on_call f site vs)) (m : Assignment) where
     called_kept : (site : Site) (n : Named) (name : List ℕ) (vs : List ℤ) → Keeps (called on_call site n name vs)
-    called_kept site (named.Function f) name vs = hc f site vs
-    called_kept site named.Known name vs = q.binds _ _ _ _ (condition_kept site name vs) (λ _. q.give _ (pos 0))
+    called_kept site (Named.Function f) name vs = hc f site vs
+    called_kept site Named.Known name vs = q.binds _ _ _ _ (condition_kept site name vs) (λ _. q.give _ (pos 0))
     called_kept site _ name vs = q.give _ (pos 0)
 
     mutual
@@ -269,8 +260,8 @@ module _ (Q : Bool → (A : Type 0) → Run A → Type 0) (q : Closed Q) where
 
     right_kept : (kind : Kind) (target : Sharing) (x : Right) → Keeps (right_value on_call m kind target x)
     right_kept kind target (value e) = fitting_kept kind e (eval on_call m e) (value_kept e)
-    right_kept kind target (malloc s n w) = q.eases _ _ (q.enters _ _ (q.binds _ _ _ _ (elements_kept n) (λ elements. q.binds _ _ _ _ (unless (is_positive elements) traps.SizeNotPositive s.first) (λ _.
-        q.binds _ _ _ _ q.values (λ held. q.event s.first (acts.New (element_cells m.typed (declared_kind w)) (unsigned_abs elements) (instance_mode m.typed held target)))))))
+    right_kept kind target (malloc s n w) = q.eases _ _ (q.enters _ _ (q.binds _ _ _ _ (elements_kept n) (λ elements. q.binds _ _ _ _ (unless (is_positive elements) Trap.SizeNotPositive s.first) (λ _.
+        q.binds _ _ _ _ q.values (λ held. q.event s.first (Act.New (element_cells m.typed (declared_kind w)) (unsigned_abs elements) (instance_mode m.typed held target)))))))
 
     simple_kept : (x : Simple) → Keeps (done_simple on_call m x)
     simple_kept (assign s u x) = q.scope _ _ (q.binds _ _ _ _ (q.eases _ _ (place_kept (span_of u).first u)) (λ p. q.binds _ _ _ _ (right_kept (kind_at m.typed u) (pointed m (row_at m.typed u)) x) (λ v.
@@ -334,12 +325,12 @@ module _ (Q : Bool → (A : Type 0) → Run A → Type 0) (q : Closed Q) where
     call_value_kept (Some f) vs = q.binds _ _ _ _ (function_kept f vs) (λ left. q.give _ left.1)
 
   calls_kept : (m : Assignment) (n f : ℕ) (site : Site) (vs : List ℤ) → Keeps (calls m n f site vs)
-  calls_kept m zero f site vs = q.stop _ traps.CallDepth site
+  calls_kept m zero f site vs = q.stop _ Trap.CallDepth site
   calls_kept m (suc n) f site vs = call_value_kept (calls m n) (calls_kept m n) m (function_at m.typed f) vs
 
   away_kept : (name site : Site) → Keeps (goes_away name site)
-  away_kept name site = q.binds _ _ _ _ q.events (λ own. q.binds _ _ _ _ (unless (not (nat_lt 0 (length (held_mutexes own)))) traps.ReturnWithLockHeld site) (λ _.
-      q.binds _ _ _ _ (performs_kept name acts.Return) (λ _. performs_kept name acts.Gone)))
+  away_kept name site = q.binds _ _ _ _ q.events (λ own. q.binds _ _ _ _ (unless (not (nat_lt 0 (length (held_mutexes own)))) Trap.ReturnWithLockHeld site) (λ _.
+      q.binds _ _ _ _ (performs_kept name Act.Return) (λ _. performs_kept name Act.Gone)))
 
   pub thread_kept : (m : Assignment) (f : Option Function) (v : ℤ) → Keeps (run_thread m f v)
   thread_kept m None v = q.give _ tt

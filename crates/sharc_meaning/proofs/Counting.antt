@@ -1,9 +1,5 @@
 -- Each event uses up one answer, and an event is wanted where none is left.
-use Rattle.std.proofs.Common.{◌≡◌, ℕ, zero, suc, ◌+◌, Bool, true, false, cond, List, [], ◌∷◌, ◌++◌, refl, sym, ap, arith, length, length-append}
-use Rattle.std.specs.Prelude.{ℤ}
-use Rattle.sharc_tree.specs.{declared.event.Act.Act, declared.token.Site.Site}
-use Rattle.sharc_meaning.specs.{State.{Frame, State, Outcome, wants, Out, go, over, Run, Step, then_on, give, enters_with, happens, answer_of, value_of, event_of, ends_temporaries, ends_variables, without_temporaries}, Statements.{Flow, next, broken, returned, on_turn, turns}, Meaning.{back_in, with_frame}}
-use Rattle.sharc_meaning.proofs.Closed.{Closed}
+use Rattle.sharc_meaning.proofs.{Imports.{◌≡◌, ℕ, zero, suc, ◌+◌, Bool, true, false, cond, List, [], ◌∷◌, ◌++◌, refl, sym, ap, arith, length, length-append, ℤ, Act, Site, Frame, State, Outcome, wants, Out, go, over, Run, Step, then_on, give, enters_with, happens, answer_of, value_of, event_of, ends_temporaries, ends_variables, without_temporaries, Flow, next, broken, returned, on_turn, turns, back_in, with_frame}, Closed.Closed}
 
 -- the number of events and answers together
 abbrev pub both : State → ℕ

@@ -1,11 +1,5 @@
 -- Source runs grow by events that are wanted and may come.
-use Rattle.std.proofs.{Common.{◌≡◌, ◌⊎◌, inl, inr, ℕ, ◌≤◌, Bool, true, false, cond, List, [], ◌∷◌, ◌++◌, map, refl, sym, ap, ◌∙◌, subst, arith, append-nil, length}, lemmas.Bool.Decides.nat_tests}
-use Rattle.std.specs.Prelude.{◌==◌}
-use Rattle.sharc_tree.specs.declared.event.SourceEvent.{SourceEvent}
-use Rattle.sharc_mode.specs.Moded.{Assignment}
-use Rattle.sharc_meaning.specs.{Events.{events_of, is_of}, Laws.{Next, RunsGrow, RunsStart}, Meaning.asks, Runs.{by, answers_of, Follows}}
-use Rattle.sharc_meaning.proofs.{Asking.no_more_than_answers, Legal.stores_grow, Obeying.further, Running.events_append}
-use Rattle.sharc_lemmas.proofs.{Numbers.{same_number as same_thread}, Lists.map_both}
+use Rattle.sharc_meaning.proofs.{Imports.{◌≡◌, ◌⊎◌, inl, inr, ℕ, ◌≤◌, Bool, true, false, cond, List, [], ◌∷◌, ◌++◌, map, refl, sym, ap, ◌∙◌, subst, arith, append-nil, length, nat_tests, ◌==◌, SourceEvent, Assignment, events_of, is_of, Next, RunsGrow, RunsStart, asks, by, answers_of, Follows, same_thread, map_both}, Asking.no_more_than_answers, Legal.stores_grow, Obeying.further, Running.events_append}
 
 -- the events of a thread, with one more at the end of the list
 module _ (e : SourceEvent) (u : ℕ) where

@@ -1,11 +1,5 @@
 -- More fuel and more answers change nothing but an end for want of them, and what was wanted then comes.
-use Rattle.std.proofs.Common.{◌≡◌, ℕ, zero, suc, ◌+◌, Bool, true, false, cond, List, [], ◌∷◌, ◌++◌, refl, sym, ap, ◌∙◌, subst, arith, length, append-nil, drop}
-use Rattle.std.specs.Prelude.{ℤ, pos}
-use Rattle.sharc_tree.specs.{declared.event.Act.Act, declared.event.SourceEvent.SourceEvent, declared.token.Site.Site}
-use Rattle.sharc_tree.specs.declared.event.Act.TheVariants as acts
-use Rattle.sharc_tree.specs.declared.event.Taken.TheVariants as taken
-use Rattle.sharc_meaning.specs.{declared.given.GivenUp.GivenUp, Laws.{IsPrefix, IsAnswer}, State.{Frame, State, all_released, pointers_among, Outcome, wants, spent, Out, go, over, Run, Step, then_on, ◌>>◌, give, enters_with, happens, answer_of, event_of, ends_temporaries, value_of, ends_variables, without_temporaries}, Statements.{Flow, next, broken, returned, on_turn, turns}, Meaning.{back_in, with_frame}}
-use Rattle.sharc_meaning.proofs.{Closed.Closed, Growing.{Grows, grows_refl, grows_on, one_more, prefix_refl, prefix_on, state_of, Growing, growing, grows_then, grows_turn, grows_turns, grows_cond, gives_more}}
+use Rattle.sharc_meaning.proofs.{Imports.{◌≡◌, ℕ, zero, suc, ◌+◌, Bool, true, false, cond, List, [], ◌∷◌, ◌++◌, refl, sym, ap, ◌∙◌, subst, arith, length, append-nil, drop, ℤ, pos, Act, SourceEvent, Site, Taken, GivenUp, IsPrefix, IsAnswer, Frame, State, all_released, pointers_among, Outcome, wants, spent, Out, go, over, Run, Step, then_on, ◌>>◌, give, enters_with, happens, answer_of, event_of, ends_temporaries, value_of, ends_variables, without_temporaries, Flow, next, broken, returned, on_turn, turns, back_in, with_frame}, Closed.Closed, Growing.{Grows, grows_refl, grows_on, one_more, prefix_refl, prefix_on, state_of, Growing, growing, grows_then, grows_turn, grows_turns, grows_cond, gives_more}}
 
 abbrev pub with_more : ℕ → List ℤ → State → State
 with_more d ys s = record s { answers = s.answers ++ ys; fuel = s.fuel + d }
@@ -32,7 +26,7 @@ comes_on (wants e) (y ∷ ys) before all more h k = record { answer = h.answer; 
 comes_on _ _ before all more h k = tt
 
 is_answer : (held : ℕ → ℤ) (act : Act) (y : ℤ) → IsAnswer act y (answer_of held act y)
-is_answer held (acts.Take (taken.Local x) kind) y = tt
+is_answer held (Act.Take (Taken.Local x) kind) y = tt
 is_answer held _ y = refl
 
 pub record GoesPast {A : Type 0} (d : ℕ) (ys : List ℤ) (o : Outcome) (s : State) (o' : Out A) : Type 0 where

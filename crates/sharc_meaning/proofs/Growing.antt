@@ -1,9 +1,5 @@
 -- No event is taken back, and nothing of the trace; nor is anything that was given up before the next event comes.
-use Rattle.std.proofs.Common.{◌≡◌, ℕ, zero, suc, Bool, true, false, cond, List, [], ◌∷◌, ◌++◌, refl, sym, ap, ◌∙◌, append_assoc, append-nil, length, drop}
-use Rattle.std.specs.Prelude.{ℤ}
-use Rattle.sharc_tree.specs.{declared.event.Act.Act, declared.event.SourceEvent.SourceEvent, declared.token.Site.Site}
-use Rattle.sharc_meaning.specs.{declared.given.GivenUp.GivenUp, Laws.IsPrefix, State.{Frame, Traced, State, all_released, pointers_among, Out, go, over, Run, Step, then_on, give, enters_with, happens, answer_of, event_of, ends_temporaries, value_of, ends_variables, without_temporaries}, Statements.{Flow, next, broken, returned, on_turn, turns}, Meaning.{back_in, with_frame}}
-use Rattle.sharc_meaning.proofs.Closed.{Closed}
+use Rattle.sharc_meaning.proofs.{Imports.{◌≡◌, ℕ, zero, suc, Bool, true, false, cond, List, [], ◌∷◌, ◌++◌, refl, sym, ap, ◌∙◌, append_assoc, append-nil, length, drop, ℤ, Act, SourceEvent, Site, GivenUp, IsPrefix, Frame, Traced, State, all_released, pointers_among, Out, go, over, Run, Step, then_on, give, enters_with, happens, answer_of, event_of, ends_temporaries, value_of, ends_variables, without_temporaries, Flow, next, broken, returned, on_turn, turns, back_in, with_frame}, Closed.Closed}
 
 pub prefix_refl : {A : Type 0} (a : List A) → IsPrefix a a
 prefix_refl a = ([], sym (append-nil a))

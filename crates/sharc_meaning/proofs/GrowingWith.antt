@@ -1,11 +1,5 @@
 -- Source runs with one fuel grow by events that are asked for and may come, and by no other.
-use Rattle.std.proofs.Common.{◌≡◌, ◌⊎◌, inl, inr, ℕ, Bool, true, false, List, [], ◌∷◌, ◌++◌, map, refl, sym, ap, ◌∙◌, subst, append-nil, append_assoc}
-use Rattle.sharc_tree.specs.declared.event.SourceEvent.{SourceEvent}
-use Rattle.sharc_ctype.specs.Resolved.{function_at}
-use Rattle.sharc_mode.specs.Moded.{Assignment}
-use Rattle.sharc_meaning.specs.{Events.{events_of, is_of}, Laws.{Starts, IsNext, AskedFor, RunsGrowWith, LastAsked}, Meaning.asks, Runs.{by, answers_of, IsNamedAt, IsFirst, IsSpawned, Follows, SourceRunWith}, Store.MayCome}
-use Rattle.sharc_meaning.proofs.{Asking.no_more_than_answers, Extending.{one_own, one_other, with_more, is_itself, nothing_in}, Legal.stores_grow, Running.{stands_where, asks_in_first, InFirst, InSecond}}
-use Rattle.sharc_lemmas.proofs.{Numbers.{same_number as same_thread}, Lists.map_both}
+use Rattle.sharc_meaning.proofs.{Imports.{◌≡◌, ◌⊎◌, inl, inr, ℕ, Bool, true, false, List, [], ◌∷◌, ◌++◌, map, refl, sym, ap, ◌∙◌, subst, append-nil, append_assoc, SourceEvent, function_at, Assignment, events_of, is_of, Starts, IsNext, AskedFor, RunsGrowWith, LastAsked, asks, by, answers_of, IsNamedAt, IsFirst, IsSpawned, Follows, SourceRunWith, MayCome, same_thread, map_both}, Asking.no_more_than_answers, Extending.{one_own, one_other, with_more, is_itself, nothing_in}, Legal.stores_grow, Running.{stands_where, asks_in_first, InFirst, InSecond}}
 
 module _ (m : Assignment) (R : List SourceEvent) (e : SourceEvent) where
   other_asks : (fuel u : ℕ) → is_of u e ≡ false → (events_of u R ≡ []) ⊎ Follows m R fuel u → (events_of u (R ++ e ∷ []) ≡ []) ⊎ Follows m (R ++ e ∷ []) fuel u

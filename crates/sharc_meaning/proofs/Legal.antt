@@ -1,8 +1,5 @@
 -- Legal stores grow by one event at a time.
-use Rattle.std.proofs.Common.{◌≡◌, ◌⊎◌, List, [], ◌∷◌, ◌++◌, refl, sym, ap, ◌∙◌, append_assoc}
-use mathlib.Core.Logic.{inl, inr}
-use Rattle.sharc_tree.specs.declared.event.SourceEvent.{SourceEvent}
-use Rattle.sharc_meaning.specs.{Events.Stands, Laws.{StoresGrow, PrefixesAreLegal}, Store.MayCome}
+use Rattle.sharc_meaning.proofs.Imports.{◌≡◌, ◌⊎◌, List, [], ◌∷◌, ◌++◌, refl, sym, ap, ◌∙◌, append_assoc, inl, inr, SourceEvent, Stands, StoresGrow, PrefixesAreLegal, MayCome}
 
 -- what is in a list with one more at its end is that one, or is in the list
 pub record InFront (R before : List SourceEvent) (e : SourceEvent) : Type 0 where

@@ -1,3 +1,4 @@
+mod Imports
 mod Asking
 mod Closed
 mod Counting

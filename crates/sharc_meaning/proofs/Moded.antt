@@ -1,11 +1,5 @@
 -- The reasons of an assignment say nothing of the modes of cells.
-use Rattle.std.proofs.Common.{◌≡◌, List, Option, Some, None, refl, ap, ◌∙◌, Bool, true, false, if◌then◌else◌}
-use Rattle.sharc_tree.specs.{declared.ctype.Mode.Mode, declared.tree.item.GlobalDefinition.GlobalDefinition, Tree.{Expression, identifier, parentheses, index, field, unary}}
-use Rattle.sharc_names.specs.{declared.fault.Named.Named, Kinds.is_array}
-use Rattle.sharc_names.specs.declared.fault.Named.TheVariants as named
-use Rattle.sharc_ctype.specs.{declared.entity.Numbered.Numbered, Entities.entity_at, Resolved.{Resolution, named_at, global_at, kind_at}}
-use Rattle.sharc_mode.specs.{declared.position.Reason.Reason, Cells.{first_mode, global_cell, named_cell, pointed, unary_cell, instance, field_named, cell_at}, Moded.Assignment, Rows.{Targets, row_at}, Sharings.Sharing}
-use Rattle.sharc_meaning.specs.Laws.{SameModes, ModesAlone}
+use Rattle.sharc_meaning.proofs.Imports.{◌≡◌, List, Option, Some, None, refl, ap, ◌∙◌, Bool, true, false, if◌then◌else◌, Mode, GlobalDefinition, Expression, identifier, parentheses, index, field, unary, Named, is_array, Numbered, entity_at, Resolution, named_at, global_at, kind_at, Reason, first_mode, global_cell, named_cell, pointed, unary_cell, instance, field_named, cell_at, Assignment, Targets, row_at, Sharing, SameModes, ModesAlone}
 
 module _ (r : Resolution) (modes : List Mode) (a b : List (Option Reason)) where
   abbrev m : Assignment
@@ -23,7 +17,7 @@ module _ (r : Resolution) (modes : List Mode) (a b : List (Option Reason)) where
   same_global (Some g) = same_first (entity_at r g.declaration.name.site.token g.declaration.name.site.token)
 
   same_named : (what : Named) → named_cell m what ≡ named_cell n what
-  same_named (named.Global k) = same_global (global_at r k)
+  same_named (Named.Global k) = same_global (global_at r k)
   same_named _ = refl
 
   same_pointed : (o : Option Targets) → pointed m o ≡ pointed n o

@@ -1,7 +1,5 @@
 -- What comes before in a run that obeys obeys.
-use Rattle.std.proofs.Common.{◌≡◌, List, ◌∷◌, ◌++◌, ap, ◌∙◌, append_assoc}
-use Rattle.sharc_tree.specs.declared.event.SourceEvent.{SourceEvent}
-use Rattle.sharc_meaning.specs.Laws.{ObeyingPrefixes}
+use Rattle.sharc_meaning.proofs.Imports.{◌≡◌, List, ◌∷◌, ◌++◌, ap, ◌∙◌, append_assoc, SourceEvent, ObeyingPrefixes}
 
 pub further : (R S before : List SourceEvent) (e : SourceEvent) (after : List SourceEvent) → R ≡ before ++ e ∷ after → R ++ S ≡ before ++ e ∷ (after ++ S)
 further R S before e after h = ap (λ l. l ++ S) h ∙ append_assoc before (e ∷ after) S

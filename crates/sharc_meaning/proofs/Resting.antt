@@ -1,10 +1,5 @@
 -- What a thread holds where more fuel changes nothing.
-use Rattle.std.proofs.Common.{◌≡◌, ℕ, ◌+◌, ◌-◌, ◌<◌, ◌≤◌, List, sym, subst, arith}
-use Rattle.std.specs.Prelude.{◌≢◌}
-use Rattle.sharc_tree.specs.declared.event.SourceEvent.{SourceEvent}
-use Rattle.sharc_mode.specs.Moded.{Assignment}
-use Rattle.sharc_meaning.specs.{Events.events_of, Laws.{ReferencesAtRest, ReferencesFromSomeFuel}, References.{Begun, asked_with, held_count, ThreadHolds, ThreadHoldsWith, in_thread}, Runs.answers_of, State.spent}
-use Rattle.sharc_meaning.proofs.Asking.{more_fuel_same}
+use Rattle.sharc_meaning.proofs.{Imports.{◌≡◌, ℕ, ◌+◌, ◌-◌, ◌<◌, ◌≤◌, List, sym, subst, arith, ◌≢◌, SourceEvent, Assignment, events_of, ReferencesAtRest, ReferencesFromSomeFuel, Begun, asked_with, held_count, ThreadHolds, ThreadHoldsWith, in_thread, answers_of, spent}, Asking.more_fuel_same}
 
 module _ (m : Assignment) (R : List SourceEvent) (thread : ℕ) where
   same_at : (b : Begun m R thread) (fuel more : ℕ) → (asked_with b fuel).outcome ≢ spent → asked_with b (fuel + more) ≡ asked_with b fuel

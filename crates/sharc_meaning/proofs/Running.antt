@@ -1,11 +1,5 @@
 -- Source runs: what comes before in one is one.
-use Rattle.std.proofs.Common.{◌≡◌, ◌⊎◌, inl, inr, ℕ, ◌+◌, ◌≤◌, List, [], ◌∷◌, ◌++◌, map, refl, sym, ap, ◌∙◌, subst, arith, length, length-append}
-use Rattle.std.specs.Prelude.{ℤ, ◌≢◌}
-use Rattle.sharc_tree.specs.declared.event.SourceEvent.{SourceEvent}
-use Rattle.sharc_mode.specs.Moded.{Assignment}
-use Rattle.sharc_meaning.specs.{Events.{Stands, events_of, is_of}, Laws.{RunPrefixes, RunPrefixesWith}, Meaning.{Asked, asks}, Runs.{by, answers_of, Follows}, State.{Outcome, wants}}
-use Rattle.sharc_meaning.proofs.{Asking.{more_answers, more_answers_same, no_more_than_answers, wants_behind_answers}, Legal.prefixes_legal, Growing.first_nothing as no_front}
-use Rattle.sharc_lemmas.proofs.Lists.{map_length, map_both, pick}
+use Rattle.sharc_meaning.proofs.{Imports.{◌≡◌, ◌⊎◌, inl, inr, ℕ, ◌+◌, ◌≤◌, List, [], ◌∷◌, ◌++◌, map, refl, sym, ap, ◌∙◌, subst, arith, length, length-append, ℤ, ◌≢◌, SourceEvent, Assignment, Stands, events_of, is_of, RunPrefixes, RunPrefixesWith, Asked, asks, by, answers_of, Follows, Outcome, wants, map_length, map_both, pick}, Asking.{more_answers, more_answers_same, no_more_than_answers, wants_behind_answers}, Legal.prefixes_legal, Growing.{first_nothing as no_front}}
 
 -- ---- lists
 pub events_append : (t : ℕ) (a b : List SourceEvent) → events_of t (a ++ b) ≡ events_of t a ++ events_of t b

@@ -1,10 +1,5 @@
 -- The fuel that a run leaves: none where it ends for want of it, and less than before where something was entered.
-use Rattle.std.proofs.Common.{◌≡◌, ℕ, zero, suc, ◌<◌, ◌≤◌, Bool, true, false, cond, List, [], ◌∷◌, refl, sym, subst, arith, length}
-use Rattle.std.specs.Prelude.{ℤ}
-use Rattle.sharc_tree.specs.{declared.event.Act.Act, declared.token.Site.Site}
-use Rattle.sharc_meaning.specs.{State.{Frame, State, spent, Out, go, over, Run, Step, then_on, ◌>>=◌, ◌>>◌, give, enters_with, happens, ends_temporaries, ends_variables, without_temporaries}, Statements.{Flow, next, broken, returned, on_turn, turns}, Laws.SpentIsNone, Meaning.{back_in, with_frame, run_thread, start}}
-use Rattle.sharc_ctype.specs.Resolved.{function_at}
-use Rattle.sharc_meaning.proofs.Closed.{Closed, thread_kept}
+use Rattle.sharc_meaning.proofs.{Imports.{◌≡◌, ℕ, zero, suc, ◌<◌, ◌≤◌, Bool, true, false, cond, List, [], ◌∷◌, refl, sym, subst, arith, length, ℤ, Act, Site, Frame, State, spent, Out, go, over, Run, Step, then_on, ◌>>=◌, ◌>>◌, give, enters_with, happens, ends_temporaries, ends_variables, without_temporaries, Flow, next, broken, returned, on_turn, turns, SpentIsNone, back_in, with_frame, run_thread, start, function_at}, Closed.{Closed, thread_kept}}
 
 abbrev pub Spends : {A : Type 0} → Bool → ℕ → Out A → Type 0
 Spends true f (go x s) = s.fuel < f

@@ -1,14 +1,5 @@
 -- The list is that of the references, each once.
-use Rattle.std.proofs.{Common.{◌≡◌, ◌↔◌, ℕ, true, List, Option, Some, None, refl, sym, ◌∙◌, rules}, lemmas.Slice.Eq.bytes_eq-Decides}
-use Rattle.std.specs.{Prelude.{IsTrue, codes}, List.AllByRecursion, Str.bytes_eq}
-use Rattle.sharc_tree.specs.{declared.event.SourceEvent.SourceEvent, Tree.Function}
-use Rattle.sharc_ctype.specs.Resolved.{Resolution, IsResolved, globals_in, function_at}
-use Rattle.sharc_ctype_laws.specs.{Initials.MeetsGlobal, Laws.{MeetsGlobals, OneFunctionOfName}}
-use Rattle.sharc_mode.specs.Moded.{Assignment}
-use Rattle.sharc_meaning.specs.{References.ReferencesWith, Runs.{is_named_main, SourceRun}}
-use Rattle.sharc_judge.specs.Laws.{SameLaws}
-use Rattle.sharc_meaning_tests.specs.{declared.holder.Holder.Holder, declared.holder.Holder.TheVariants.{InCell, InArgument, InMutex, InThread}, Answered.{view_holder, IsListed, AreReferences}, Listed.holders}
-use Rattle.sharc_meaning_tests.proofs.{Complete.{cell_listed, mutex_listed, argument_listed, thread_listed}, Distinct.all_distinct, Entries.OneMain, Sound.all_sound}
+use Rattle.sharc_meaning_tests.proofs.{Imports.{◌≡◌, ◌↔◌, ℕ, true, List, Option, Some, None, refl, sym, ◌∙◌, rules, bytes_eq-Decides, IsTrue, codes, AllByRecursion, bytes_eq, SourceEvent, Function, Resolution, IsResolved, globals_in, function_at, MeetsGlobal, MeetsGlobals, OneFunctionOfName, Assignment, ReferencesWith, is_named_main, SourceRun, SameLaws, Holder, InCell, InArgument, InMutex, InThread, view_holder, IsListed, AreReferences, holders}, Complete.{cell_listed, mutex_listed, argument_listed, thread_listed}, Distinct.all_distinct, Entries.OneMain, Sound.all_sound}
 
 called_main : (f : Function) → bytes_eq f.name.text (codes "main") ≡ true → f.name.text ≡ codes "main"
 called_main f h = search (rules, bytes_eq-Decides f.name.text (codes "main"))

@@ -1,17 +1,5 @@
 -- What holds a reference is listed.
-use Rattle.std.proofs.{Common.{◌≡◌, ◌⊎◌, inl, inr, ℕ, zero, suc, ◌+◌, ◌<◌, Bool, true, false, not, ◌&&◌, ◌||◌, List, [], ◌∷◌, ◌++◌, Option, Some, None, refl, ap, sym, subst, ◌∙◌}, lemmas.Bool.{not_from_false, both_ways, and_parts, and_from, or_cases, eqb-true}}
-use Rattle.std.specs.{Prelude.{ℤ, pos, negsuc, ◌==◌, ◌%◌, length, slice_get, slice_index_or, IsTrue, if◌then◌else◌}, List.{list_any, AllByRecursion}}
-use Rattle.sharc_tree.specs.{declared.ctype.Base.Base, declared.ctype.Base.TheVariants.{Int, Char, Long, Mutex, Void, Struct}, declared.event.Act.Act, declared.event.CellAt.CellAt, declared.event.CellMode.CellMode, declared.event.Object.Object, declared.event.Object.TheVariants.{Global, Made}, declared.event.SourceEvent.SourceEvent, declared.tree.declaration.WrittenType.WrittenType, declared.tree.expression.Constant.TheVariants.Null, declared.tree.item.GlobalDefinition.GlobalDefinition, declared.tree.item.GlobalForm.GlobalForm, declared.tree.item.GlobalForm.TheVariants.{Plain, Array, Initial}}
-use Rattle.sharc_tree.specs.declared.event.Act.TheVariants as acts
-use Rattle.sharc_tree.specs.declared.event.Taken.TheVariants as taken
-use Rattle.sharc_names.specs.Kinds.{Kind, object, is_pointer, is_integral, declared_kind}
-use Rattle.sharc_ctype.specs.{Layouts.pointer_cells, Resolved.{Resolution, globals_in, global_at}}
-use Rattle.sharc_ctype_laws.specs.{Constraints.IsInteger, Initials.{MeetsInitial, MeetsGlobal}}
-use Rattle.sharc_mode.specs.Moded.{Assignment}
-use Rattle.sharc_meaning.specs.{Events.{is_of, is_cell, is_number, made_by, makes, same_object, same_cell, locks, unlocks, locked_by}, References.{refers, base_fields, is_pointer_in, is_pointer_of_global, is_pointer_of, passes, CellRefers, ArgumentRefers, ThreadHoldsWith}, Runs.SourceRun, Store.{cell_changed, changes, value_left, form_value, global_value, initial_value, value_by, value_after, meets, is_locked, spawns, is_spawn, is_natural}}
-use Rattle.sharc_judge.specs.Laws.{SameLaws}
-use Rattle.sharc_meaning_tests.specs.{declared.holder.Holder.Holder, declared.holder.Holder.TheVariants.{InCell, InArgument, InMutex, InThread}, Answered.IsListed, Listed.{cell_refers, cell_at, mutex_at, is_passed, argument_at, in_thread_all, thread_at, by_act, holders_at, holders}, Starting.thread_count}
-use Rattle.sharc_meaning_tests.proofs.{Entries.{OneMain, placed, events_begun, follows_begun}, Latest.{LastAt, last_found, latest_last, latest_none, stands_any}, Places.{alone, in_front, in_back, of_threads, here}, Sound.{true_cell, count_is}}
+use Rattle.sharc_meaning_tests.proofs.{Imports.{◌≡◌, ◌⊎◌, inl, inr, ℕ, zero, suc, ◌+◌, ◌<◌, Bool, true, false, not, ◌&&◌, ◌||◌, List, [], ◌∷◌, ◌++◌, Option, Some, None, refl, ap, sym, subst, ◌∙◌, not_from_false, both_ways, and_parts, and_from, or_cases, eqb-true, ℤ, pos, negsuc, ◌==◌, ◌%◌, length, slice_get, slice_index_or, IsTrue, if◌then◌else◌, list_any, AllByRecursion, Base, Int, Char, Long, Mutex, Void, Struct, Act, CellAt, CellMode, Object, Global, Made, SourceEvent, WrittenType, Null, GlobalDefinition, GlobalForm, Plain, Array, Initial, Kind, object, is_pointer, is_integral, declared_kind, pointer_cells, Resolution, globals_in, global_at, IsInteger, MeetsInitial, MeetsGlobal, Assignment, is_of, is_cell, is_number, made_by, makes, same_object, same_cell, locks, unlocks, locked_by, refers, base_fields, is_pointer_in, is_pointer_of_global, is_pointer_of, passes, CellRefers, ArgumentRefers, ThreadHoldsWith, SourceRun, cell_changed, changes, value_left, form_value, global_value, initial_value, value_by, value_after, meets, is_locked, spawns, is_spawn, is_natural, SameLaws, Holder, InCell, InArgument, InMutex, InThread, IsListed, cell_refers, cell_at, mutex_at, is_passed, argument_at, in_thread_all, thread_at, by_act, holders_at, holders, thread_count}, Entries.{OneMain, placed, events_begun, follows_begun}, Latest.{LastAt, last_found, latest_last, latest_none, stands_any}, Places.{alone, in_front, in_back, of_threads, here}, Sound.{true_cell, count_is}}
 
 -- ---- what a cell has that nobody wrote
 
@@ -65,95 +53,95 @@ record IsWrite (c : CellAt) (a : Act) : Type 0 where
   to : CellAt
   mode : CellMode
   value : ℤ
-  is : a ≡ acts.Write to mode value
+  is : a ≡ Act.Write to mode value
   same : same_cell c to ≡ true
 
 module _ (n : ℕ) (c : CellAt) (e : SourceEvent) where
   no_write : {P : Type 0} → refers n (pos 0) ≡ true → P
   no_write h = absurd (cc)
 
-  a_write_makes_none : (to : CellAt) (mode : _) (v : ℤ) → e.act ≡ acts.Write to mode v → (o : Object) → makes o e ≡ false
+  a_write_makes_none : (to : CellAt) (mode : _) (v : ℤ) → e.act ≡ Act.Write to mode v → (o : Object) → makes o e ≡ false
   a_write_makes_none to mode v is (Global g) = refl
   a_write_makes_none to mode v is (Made k) = ap (λ z. is_number k (made_by e z)) is
 
-  by_write : (to : CellAt) (mode : _) (v : ℤ) → e.act ≡ acts.Write to mode v → changes c e ≡ true → IsWrite c (acts.Write to mode v)
+  by_write : (to : CellAt) (mode : _) (v : ℤ) → e.act ≡ Act.Write to mode v → changes c e ≡ true → IsWrite c (Act.Write to mode v)
   by_write to mode v is h = by_part (or_cases (is_cell c (cell_changed e.act)) (makes c.object e) h)
     where
-      by_part : (is_cell c (cell_changed e.act) ≡ true) ⊎ (makes c.object e ≡ true) → IsWrite c (acts.Write to mode v)
+      by_part : (is_cell c (cell_changed e.act) ≡ true) ⊎ (makes c.object e ≡ true) → IsWrite c (Act.Write to mode v)
       by_part (inl i) = record { to = to; mode = mode; value = v; is = refl; same = sym (ap (λ z. is_cell c (cell_changed z)) is) ∙ i }
       by_part (inr i) = absurd (both_ways _ (a_write_makes_none to mode v is c.object) i)
 
   to_write : (a : Act) → e.act ≡ a → changes c e ≡ true → refers n (value_left a) ≡ true → IsWrite c a
-  to_write (acts.Write to mode v) is h k = by_write to mode v is h
-  to_write (acts.Read d mode) is h k = no_write k
-  to_write (acts.New cells elements mode) is h k = no_write k
-  to_write (acts.Take what kind) is h k = no_write k
-  to_write (acts.Give r mode) is h k = no_write k
-  to_write (acts.Freed r) is h k = no_write k
-  to_write (acts.Lock d) is h k = no_write k
-  to_write (acts.Unlock d) is h k = no_write k
-  to_write (acts.Spawn f v) is h k = no_write k
-  to_write (acts.Started v) is h k = no_write k
-  to_write (acts.Join v) is h k = no_write k
-  to_write (acts.Print v) is h k = no_write k
-  to_write acts.Return is h k = no_write k
-  to_write acts.Gone is h k = no_write k
-  to_write (acts.Enter d) is h k = no_write k
-  to_write (acts.Woken d) is h k = no_write k
-  to_write (acts.Signal d) is h k = no_write k
-  to_write (acts.Broadcast d) is h k = no_write k
+  to_write (Act.Write to mode v) is h k = by_write to mode v is h
+  to_write (Act.Read d mode) is h k = no_write k
+  to_write (Act.New cells elements mode) is h k = no_write k
+  to_write (Act.Take what kind) is h k = no_write k
+  to_write (Act.Give r mode) is h k = no_write k
+  to_write (Act.Freed r) is h k = no_write k
+  to_write (Act.Lock d) is h k = no_write k
+  to_write (Act.Unlock d) is h k = no_write k
+  to_write (Act.Spawn f v) is h k = no_write k
+  to_write (Act.Started v) is h k = no_write k
+  to_write (Act.Join v) is h k = no_write k
+  to_write (Act.Print v) is h k = no_write k
+  to_write Act.Return is h k = no_write k
+  to_write Act.Gone is h k = no_write k
+  to_write (Act.Enter d) is h k = no_write k
+  to_write (Act.Woken d) is h k = no_write k
+  to_write (Act.Signal d) is h k = no_write k
+  to_write (Act.Broadcast d) is h k = no_write k
 
 -- ---- a Lock of a mutex, and a Spawn
 
 record IsLock (c : CellAt) (a : Act) : Type 0 where
   to : CellAt
-  is : a ≡ acts.Lock to
+  is : a ≡ Act.Lock to
   same : same_cell c to ≡ true
 
 to_lock : (c : CellAt) (a : Act) → is_cell c (locked_by a) ≡ true → IsLock c a
-to_lock c (acts.Lock d) h = record { to = d; is = refl; same = h }
-to_lock c (acts.Write to mode v) h = absurd (cc)
-to_lock c (acts.Read d mode) h = absurd (cc)
-to_lock c (acts.New cells elements mode) h = absurd (cc)
-to_lock c (acts.Take what kind) h = absurd (cc)
-to_lock c (acts.Give r mode) h = absurd (cc)
-to_lock c (acts.Freed r) h = absurd (cc)
-to_lock c (acts.Unlock d) h = absurd (cc)
-to_lock c (acts.Spawn f v) h = absurd (cc)
-to_lock c (acts.Started v) h = absurd (cc)
-to_lock c (acts.Join v) h = absurd (cc)
-to_lock c (acts.Print v) h = absurd (cc)
-to_lock c acts.Return h = absurd (cc)
-to_lock c acts.Gone h = absurd (cc)
-to_lock c (acts.Enter d) h = absurd (cc)
-to_lock c (acts.Woken d) h = absurd (cc)
-to_lock c (acts.Signal d) h = absurd (cc)
-to_lock c (acts.Broadcast d) h = absurd (cc)
+to_lock c (Act.Lock d) h = record { to = d; is = refl; same = h }
+to_lock c (Act.Write to mode v) h = absurd (cc)
+to_lock c (Act.Read d mode) h = absurd (cc)
+to_lock c (Act.New cells elements mode) h = absurd (cc)
+to_lock c (Act.Take what kind) h = absurd (cc)
+to_lock c (Act.Give r mode) h = absurd (cc)
+to_lock c (Act.Freed r) h = absurd (cc)
+to_lock c (Act.Unlock d) h = absurd (cc)
+to_lock c (Act.Spawn f v) h = absurd (cc)
+to_lock c (Act.Started v) h = absurd (cc)
+to_lock c (Act.Join v) h = absurd (cc)
+to_lock c (Act.Print v) h = absurd (cc)
+to_lock c Act.Return h = absurd (cc)
+to_lock c Act.Gone h = absurd (cc)
+to_lock c (Act.Enter d) h = absurd (cc)
+to_lock c (Act.Woken d) h = absurd (cc)
+to_lock c (Act.Signal d) h = absurd (cc)
+to_lock c (Act.Broadcast d) h = absurd (cc)
 
 record IsSpawnAct (a : Act) : Type 0 where
   function : ℕ
   argument : ℤ
-  is : a ≡ acts.Spawn function argument
+  is : a ≡ Act.Spawn function argument
 
 to_spawn : (a : Act) → is_spawn a ≡ true → IsSpawnAct a
-to_spawn (acts.Spawn f v) h = record { function = f; argument = v; is = refl }
-to_spawn (acts.Lock d) h = absurd (cc)
-to_spawn (acts.Write to mode v) h = absurd (cc)
-to_spawn (acts.Read d mode) h = absurd (cc)
-to_spawn (acts.New cells elements mode) h = absurd (cc)
-to_spawn (acts.Take what kind) h = absurd (cc)
-to_spawn (acts.Give r mode) h = absurd (cc)
-to_spawn (acts.Freed r) h = absurd (cc)
-to_spawn (acts.Unlock d) h = absurd (cc)
-to_spawn (acts.Started v) h = absurd (cc)
-to_spawn (acts.Join v) h = absurd (cc)
-to_spawn (acts.Print v) h = absurd (cc)
-to_spawn acts.Return h = absurd (cc)
-to_spawn acts.Gone h = absurd (cc)
-to_spawn (acts.Enter d) h = absurd (cc)
-to_spawn (acts.Woken d) h = absurd (cc)
-to_spawn (acts.Signal d) h = absurd (cc)
-to_spawn (acts.Broadcast d) h = absurd (cc)
+to_spawn (Act.Spawn f v) h = record { function = f; argument = v; is = refl }
+to_spawn (Act.Lock d) h = absurd (cc)
+to_spawn (Act.Write to mode v) h = absurd (cc)
+to_spawn (Act.Read d mode) h = absurd (cc)
+to_spawn (Act.New cells elements mode) h = absurd (cc)
+to_spawn (Act.Take what kind) h = absurd (cc)
+to_spawn (Act.Give r mode) h = absurd (cc)
+to_spawn (Act.Freed r) h = absurd (cc)
+to_spawn (Act.Unlock d) h = absurd (cc)
+to_spawn (Act.Started v) h = absurd (cc)
+to_spawn (Act.Join v) h = absurd (cc)
+to_spawn (Act.Print v) h = absurd (cc)
+to_spawn Act.Return h = absurd (cc)
+to_spawn Act.Gone h = absurd (cc)
+to_spawn (Act.Enter d) h = absurd (cc)
+to_spawn (Act.Woken d) h = absurd (cc)
+to_spawn (Act.Signal d) h = absurd (cc)
+to_spawn (Act.Broadcast d) h = absurd (cc)
 
 natural_is : (thread : ℕ) (v : ℤ) → is_natural thread v ≡ true → v ≡ pos thread
 natural_is thread (pos k) h = ap pos (sym (eqb-true thread k h))

@@ -1,13 +1,5 @@
 -- No holder is listed twice: it is listed at the last event that marks it.
-use Rattle.std.proofs.{Common.{◌≡◌, ◌⊎◌, inl, inr, ℕ, Bool, true, false, not, ◌&&◌, ◌||◌, List, [], ◌∷◌, ◌++◌, refl, ap, sym, subst, ◌∙◌}, lemmas.Bool.{not-true, both_ways, and_parts, and_from, or_left, eq-eqb}}
-use Rattle.std.specs.{Prelude.{ℤ, pos, negsuc, ◌==◌, if◌then◌else◌}, List.list_any}
-use Rattle.sharc_tree.specs.{declared.event.Act.Act, declared.event.CellAt.CellAt, declared.event.Object.TheVariants.Made, declared.event.SourceEvent.SourceEvent}
-use Rattle.sharc_tree.specs.declared.event.Act.TheVariants as acts
-use Rattle.sharc_mode.specs.Moded.{Assignment}
-use Rattle.sharc_meaning.specs.{Events.{is_of, is_cell, makes, same_object, locks, unlocks, locked_by}, References.passes, Store.{cell_changed, changes, spawns, is_spawn, is_natural}}
-use Rattle.sharc_judge.specs.Laws.{SameLaws}
-use Rattle.sharc_meaning_tests.specs.{declared.holder.Holder.Holder, declared.holder.Holder.TheVariants.{InCell, InArgument, InMutex, InThread}, Answered.{IsListed, AreDistinct}, Listed.{at_places, cell_refers, cell_at, mutex_at, is_passed, argument_at, in_thread_all, thread_at, by_act, holders_at, holders}, Starting.thread_count}
-use Rattle.sharc_meaning_tests.proofs.{Latest.stands_any, Places.{AtPlace, only, one_distinct, in_either, in_threads, threads_distinct, both_distinct, somewhere}}
+use Rattle.sharc_meaning_tests.proofs.{Imports.{◌≡◌, ◌⊎◌, inl, inr, ℕ, Bool, true, false, not, ◌&&◌, ◌||◌, List, [], ◌∷◌, ◌++◌, refl, ap, sym, subst, ◌∙◌, not-true, both_ways, and_parts, and_from, or_left, eq-eqb, ℤ, pos, negsuc, ◌==◌, if◌then◌else◌, list_any, Act, CellAt, Made, SourceEvent, Assignment, is_of, is_cell, makes, same_object, locks, unlocks, locked_by, passes, cell_changed, changes, spawns, is_spawn, is_natural, SameLaws, Holder, InCell, InArgument, InMutex, InThread, IsListed, AreDistinct, at_places, cell_refers, cell_at, mutex_at, is_passed, argument_at, in_thread_all, thread_at, by_act, holders_at, holders, thread_count}, Latest.stands_any, Places.{AtPlace, only, one_distinct, in_either, in_threads, threads_distinct, both_distinct, somewhere}}
 
 module _ (fuel : ℕ) (m : Assignment) (R : List SourceEvent) (n : ℕ) where
   -- the event is one after which the holder may be listed
@@ -34,7 +26,7 @@ module _ (fuel : ℕ) (m : Assignment) (R : List SourceEvent) (n : ℕ) where
           let t = in_threads e.thread (thread_count fuel m R e.thread n) h j in
           moved e after (InThread e.thread t.which) h t.is (record { marked = eq-eqb e.thread e.thread refl; later = k })
 
-  argument_last : (e : SourceEvent) (after : List SourceEvent) (f : ℕ) (v : ℤ) → e.act ≡ acts.Spawn f v → (a : ℤ) → e.answer ≡ a → (h : Holder) → IsListed h (argument_at m.typed R n e after a) → IsLast e after h
+  argument_last : (e : SourceEvent) (after : List SourceEvent) (f : ℕ) (v : ℤ) → e.act ≡ Act.Spawn f v → (a : ℤ) → e.answer ≡ a → (h : Holder) → IsListed h (argument_at m.typed R n e after a) → IsLast e after h
   argument_last e after f v is (negsuc k) answer h i = absurd i
   argument_last e after f v is (pos thread) answer h i =
       let found = only ((passes m.typed n e.act && not (list_any (is_of thread) R)) && not (list_any (is_passed m.typed n thread) after)) (InArgument thread) h i in
@@ -44,14 +36,14 @@ module _ (fuel : ℕ) (m : Assignment) (R : List SourceEvent) (n : ℕ) where
       moved e after (InArgument thread) h found.1 (record { marked = and_from _ _ spawned first.0; later = not-true _ parts.1 })
 
   module _ (same : SameLaws) where
-    cell_last : (e : SourceEvent) (after : List SourceEvent) (c : CellAt) (mode : _) (v : ℤ) → e.act ≡ acts.Write c mode v → (h : Holder) → IsListed h (cell_at m.typed R n c after) → IsLast e after h
+    cell_last : (e : SourceEvent) (after : List SourceEvent) (c : CellAt) (mode : _) (v : ℤ) → e.act ≡ Act.Write c mode v → (h : Holder) → IsListed h (cell_at m.typed R n c after) → IsLast e after h
     cell_last e after c mode v is h i =
         let found = only (not (list_any (changes c) after) && cell_refers m.typed R n c) (InCell c) h i in
         let parts = and_parts (not (list_any (changes c) after)) (cell_refers m.typed R n c) found.0 in
         let own : is_cell c (cell_changed e.act) ≡ true = ap (λ z. is_cell c (cell_changed z)) is ∙ (same.cells c c).1 refl in
         moved e after (InCell c) h found.1 (record { marked = or_left (is_cell c (cell_changed e.act)) (makes c.object e) own; later = not-true _ parts.0 })
 
-    mutex_last : (e : SourceEvent) (after : List SourceEvent) (c : CellAt) → e.act ≡ acts.Lock c → (h : Holder) → IsListed h (mutex_at n c after) → IsLast e after h
+    mutex_last : (e : SourceEvent) (after : List SourceEvent) (c : CellAt) → e.act ≡ Act.Lock c → (h : Holder) → IsListed h (mutex_at n c after) → IsLast e after h
     mutex_last e after c is h i =
         let found = only (same_object c.object (Made n) && not (list_any (λ x. locks c x || unlocks c x) after)) (InMutex c) h i in
         let parts = and_parts (same_object c.object (Made n)) (not (list_any (λ x. locks c x || unlocks c x) after)) found.0 in
@@ -59,24 +51,24 @@ module _ (fuel : ℕ) (m : Assignment) (R : List SourceEvent) (n : ℕ) where
         moved e after (InMutex c) h found.1 (record { marked = or_left (locks c e) (unlocks c e) own; later = not-true _ parts.1 })
 
     act_last : (e : SourceEvent) (after : List SourceEvent) (a : Act) → e.act ≡ a → (h : Holder) → IsListed h (by_act m.typed R n e after a) → IsLast e after h
-    act_last e after (acts.Write c mode v) is h i = cell_last e after c mode v is h i
-    act_last e after (acts.Lock c) is h i = mutex_last e after c is h i
-    act_last e after (acts.Spawn f v) is h i = argument_last e after f v is e.answer refl h i
-    act_last e after (acts.Read c mode) is h i = absurd i
-    act_last e after (acts.New cells elements mode) is h i = absurd i
-    act_last e after (acts.Take taken kind) is h i = absurd i
-    act_last e after (acts.Give r mode) is h i = absurd i
-    act_last e after (acts.Freed r) is h i = absurd i
-    act_last e after (acts.Unlock c) is h i = absurd i
-    act_last e after (acts.Started v) is h i = absurd i
-    act_last e after (acts.Join v) is h i = absurd i
-    act_last e after (acts.Print v) is h i = absurd i
-    act_last e after acts.Return is h i = absurd i
-    act_last e after acts.Gone is h i = absurd i
-    act_last e after (acts.Enter c) is h i = absurd i
-    act_last e after (acts.Woken c) is h i = absurd i
-    act_last e after (acts.Signal c) is h i = absurd i
-    act_last e after (acts.Broadcast c) is h i = absurd i
+    act_last e after (Act.Write c mode v) is h i = cell_last e after c mode v is h i
+    act_last e after (Act.Lock c) is h i = mutex_last e after c is h i
+    act_last e after (Act.Spawn f v) is h i = argument_last e after f v is e.answer refl h i
+    act_last e after (Act.Read c mode) is h i = absurd i
+    act_last e after (Act.New cells elements mode) is h i = absurd i
+    act_last e after (Act.Take taken kind) is h i = absurd i
+    act_last e after (Act.Give r mode) is h i = absurd i
+    act_last e after (Act.Freed r) is h i = absurd i
+    act_last e after (Act.Unlock c) is h i = absurd i
+    act_last e after (Act.Started v) is h i = absurd i
+    act_last e after (Act.Join v) is h i = absurd i
+    act_last e after (Act.Print v) is h i = absurd i
+    act_last e after Act.Return is h i = absurd i
+    act_last e after Act.Gone is h i = absurd i
+    act_last e after (Act.Enter c) is h i = absurd i
+    act_last e after (Act.Woken c) is h i = absurd i
+    act_last e after (Act.Signal c) is h i = absurd i
+    act_last e after (Act.Broadcast c) is h i = absurd i
 
     all_last : (e : SourceEvent) (after : List SourceEvent) (h : Holder) → IsListed h (holders_at fuel m R n e after) → IsLast e after h
     all_last e after h i = by_part (in_either h (by_act m.typed R n e after e.act) (thread_at fuel m R n e.thread after) i)
@@ -88,28 +80,28 @@ module _ (fuel : ℕ) (m : Assignment) (R : List SourceEvent) (n : ℕ) where
     -- ---- at one place
 
     act_distinct : (e : SourceEvent) (after : List SourceEvent) (a : Act) → AreDistinct (by_act m.typed R n e after a)
-    act_distinct e after (acts.Write c mode v) = one_distinct _ (InCell c)
-    act_distinct e after (acts.Lock c) = one_distinct _ (InMutex c)
-    act_distinct e after (acts.Spawn f v) = by_answer e.answer
+    act_distinct e after (Act.Write c mode v) = one_distinct _ (InCell c)
+    act_distinct e after (Act.Lock c) = one_distinct _ (InMutex c)
+    act_distinct e after (Act.Spawn f v) = by_answer e.answer
       where
         by_answer : (a : ℤ) → AreDistinct (argument_at m.typed R n e after a)
         by_answer (pos thread) = one_distinct _ (InArgument thread)
         by_answer (negsuc k) = tt
-    act_distinct e after (acts.Read c mode) = tt
-    act_distinct e after (acts.New cells elements mode) = tt
-    act_distinct e after (acts.Take taken kind) = tt
-    act_distinct e after (acts.Give r mode) = tt
-    act_distinct e after (acts.Freed r) = tt
-    act_distinct e after (acts.Unlock c) = tt
-    act_distinct e after (acts.Started v) = tt
-    act_distinct e after (acts.Join v) = tt
-    act_distinct e after (acts.Print v) = tt
-    act_distinct e after acts.Return = tt
-    act_distinct e after acts.Gone = tt
-    act_distinct e after (acts.Enter c) = tt
-    act_distinct e after (acts.Woken c) = tt
-    act_distinct e after (acts.Signal c) = tt
-    act_distinct e after (acts.Broadcast c) = tt
+    act_distinct e after (Act.Read c mode) = tt
+    act_distinct e after (Act.New cells elements mode) = tt
+    act_distinct e after (Act.Take taken kind) = tt
+    act_distinct e after (Act.Give r mode) = tt
+    act_distinct e after (Act.Freed r) = tt
+    act_distinct e after (Act.Unlock c) = tt
+    act_distinct e after (Act.Started v) = tt
+    act_distinct e after (Act.Join v) = tt
+    act_distinct e after (Act.Print v) = tt
+    act_distinct e after Act.Return = tt
+    act_distinct e after Act.Gone = tt
+    act_distinct e after (Act.Enter c) = tt
+    act_distinct e after (Act.Woken c) = tt
+    act_distinct e after (Act.Signal c) = tt
+    act_distinct e after (Act.Broadcast c) = tt
 
     thread_distinct : (thread : ℕ) (after : List SourceEvent) → AreDistinct (thread_at fuel m R n thread after)
     thread_distinct thread after = by_case (list_any (is_of thread) after)
@@ -136,28 +128,28 @@ module _ (fuel : ℕ) (m : Assignment) (R : List SourceEvent) (n : ℕ) where
     no_thread b x h other i = let found = only b x h i in sym (ap is_thread found.1) ∙ other
 
     act_other : (e : SourceEvent) (after : List SourceEvent) (a : Act) (h : Holder) → IsListed h (by_act m.typed R n e after a) → is_thread h ≡ false
-    act_other e after (acts.Write c mode v) h i = no_thread _ (InCell c) h refl i
-    act_other e after (acts.Lock c) h i = no_thread _ (InMutex c) h refl i
-    act_other e after (acts.Spawn f v) h i = by_answer e.answer i
+    act_other e after (Act.Write c mode v) h i = no_thread _ (InCell c) h refl i
+    act_other e after (Act.Lock c) h i = no_thread _ (InMutex c) h refl i
+    act_other e after (Act.Spawn f v) h i = by_answer e.answer i
       where
         by_answer : (a : ℤ) → IsListed h (argument_at m.typed R n e after a) → is_thread h ≡ false
         by_answer (pos thread) j = no_thread _ (InArgument thread) h refl j
         by_answer (negsuc k) j = absurd j
-    act_other e after (acts.Read c mode) h i = absurd i
-    act_other e after (acts.New cells elements mode) h i = absurd i
-    act_other e after (acts.Take taken kind) h i = absurd i
-    act_other e after (acts.Give r mode) h i = absurd i
-    act_other e after (acts.Freed r) h i = absurd i
-    act_other e after (acts.Unlock c) h i = absurd i
-    act_other e after (acts.Started v) h i = absurd i
-    act_other e after (acts.Join v) h i = absurd i
-    act_other e after (acts.Print v) h i = absurd i
-    act_other e after acts.Return h i = absurd i
-    act_other e after acts.Gone h i = absurd i
-    act_other e after (acts.Enter c) h i = absurd i
-    act_other e after (acts.Woken c) h i = absurd i
-    act_other e after (acts.Signal c) h i = absurd i
-    act_other e after (acts.Broadcast c) h i = absurd i
+    act_other e after (Act.Read c mode) h i = absurd i
+    act_other e after (Act.New cells elements mode) h i = absurd i
+    act_other e after (Act.Take taken kind) h i = absurd i
+    act_other e after (Act.Give r mode) h i = absurd i
+    act_other e after (Act.Freed r) h i = absurd i
+    act_other e after (Act.Unlock c) h i = absurd i
+    act_other e after (Act.Started v) h i = absurd i
+    act_other e after (Act.Join v) h i = absurd i
+    act_other e after (Act.Print v) h i = absurd i
+    act_other e after Act.Return h i = absurd i
+    act_other e after Act.Gone h i = absurd i
+    act_other e after (Act.Enter c) h i = absurd i
+    act_other e after (Act.Woken c) h i = absurd i
+    act_other e after (Act.Signal c) h i = absurd i
+    act_other e after (Act.Broadcast c) h i = absurd i
 
     place_distinct : (e : SourceEvent) (after : List SourceEvent) → AreDistinct (holders_at fuel m R n e after)
     place_distinct e after = both_distinct (by_act m.typed R n e after e.act) (thread_at fuel m R n e.thread after) (act_distinct e after e.act) (thread_distinct e.thread after)

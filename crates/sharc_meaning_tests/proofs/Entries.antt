@@ -1,13 +1,5 @@
 -- The function and the argument of a thread that has begun, and what it answers to, after the events of a legal store.
-use Rattle.std.proofs.{Common.{◌≡◌, ◌⊎◌, inl, inr, ℕ, zero, suc, ◌+◌, Bool, true, false, cond, List, [], ◌∷◌, ◌++◌, length, length-append, Some, refl, ap, sym, subst, ◌∙◌, arith, append_assoc}, lemmas.Bool.{eq-eqb, ne_eqb}}
-use Rattle.std.specs.{Prelude.{ℤ, pos, ◌==◌, ◌||◌, ◌&&◌, slice_get, find, drop, slice_index_or, Any, Option, codes, IsTrue, if◌then◌else◌}, List.list_any, Str.bytes_eq}
-use Rattle.sharc_tree.specs.declared.event.Act.TheVariants as acts
-use Rattle.sharc_tree.specs.{declared.event.SourceEvent.SourceEvent, Tree.Function}
-use Rattle.sharc_ctype.specs.Resolved.{Resolution, function_at, functions_in}
-use Rattle.sharc_mode.specs.Moded.{Assignment}
-use Rattle.sharc_meaning.specs.{Events.{events_of, is_of}, Runs.{answers_of, is_named_main, IsFirst, IsSpawned, Follows}, Store.{spawns, is_natural, was_spawned, is_spawn, IsNewThread, MayCome, LegalStore}}
-use Rattle.sharc_meaning_tests.specs.Starting.{main_from, main_of, with_zero, spawned_with, spawned_by_event, entry, own_answers}
-use Rattle.sharc_lemmas.proofs.Lists.{find_none}
+use Rattle.sharc_meaning_tests.proofs.Imports.{◌≡◌, ◌⊎◌, inl, inr, ℕ, zero, suc, ◌+◌, Bool, true, false, cond, List, [], ◌∷◌, ◌++◌, length, length-append, Some, refl, ap, sym, subst, ◌∙◌, arith, append_assoc, eq-eqb, ne_eqb, ℤ, pos, ◌==◌, ◌||◌, ◌&&◌, slice_get, find, drop, slice_index_or, Any, Option, codes, IsTrue, if◌then◌else◌, list_any, bytes_eq, Act, SourceEvent, Function, Resolution, function_at, functions_in, Assignment, events_of, is_of, answers_of, is_named_main, IsFirst, IsSpawned, Follows, spawns, is_natural, was_spawned, is_spawn, IsNewThread, MayCome, LegalStore, main_from, main_of, with_zero, spawned_with, spawned_by_event, entry, own_answers, find_none}
 
 -- one function at most is called main
 abbrev pub OneMain : Resolution → Type 0
@@ -49,7 +41,7 @@ any_placed {A = A} P before x after is = (length before, x, (let l = length-appe
 -- ---- the threads that were spawned
 
 abbrev pub SpawnedBy : ℕ → ℕ → ℤ → SourceEvent → Type 0
-SpawnedBy thread f v e = (e.act ≡ acts.Spawn f v) × (e.answer ≡ pos thread)
+SpawnedBy thread f v e = (e.act ≡ Act.Spawn f v) × (e.answer ≡ pos thread)
 
 spawns_it : (thread f : ℕ) (v : ℤ) (e : SourceEvent) → SpawnedBy thread f v e → spawns thread e ≡ true
 spawns_it thread f v e (a, n) = ap (λ z. is_spawn z && is_natural thread e.answer) a ∙ ap (is_natural thread) n ∙ eq-eqb thread thread refl

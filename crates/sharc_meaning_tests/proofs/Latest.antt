@@ -1,8 +1,5 @@
 -- The last event of a list that meets a test, and where it is.
-use Rattle.std.proofs.{Common.{◌≡◌, ◌⊎◌, inl, inr, Bool, true, false, ◌||◌, List, [], ◌∷◌, ◌++◌, Option, Some, None, refl, ap, sym, ◌∙◌, append_assoc, append-nil}, lemmas.Bool.{or_parts, or_right, both_ways}, lemmas.List.reverse-append, lemmas.List.Folds.list_any-append}
-use Rattle.std.specs.{Prelude.{find, if◌then◌else◌}, List.list_any}
-use Rattle.sharc_tree.specs.declared.event.SourceEvent.{SourceEvent}
-use Rattle.sharc_meaning.specs.Events.{latest}
+use Rattle.sharc_meaning_tests.proofs.Imports.{◌≡◌, ◌⊎◌, inl, inr, Bool, true, false, ◌||◌, List, [], ◌∷◌, ◌++◌, Option, Some, None, refl, ap, sym, ◌∙◌, append_assoc, append-nil, or_parts, or_right, both_ways, reverse-append, list_any-append, find, if◌then◌else◌, list_any, SourceEvent, latest}
 
 module _ (p : SourceEvent → Bool) where
   pub latest_next : (l : List SourceEvent) (e : SourceEvent) → latest p (l ++ e ∷ []) ≡ (if p e then Some e else latest p l)

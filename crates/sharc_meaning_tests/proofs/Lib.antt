@@ -1,3 +1,4 @@
+mod Imports
 pub mod Answering
 pub mod Complete
 pub mod Distinct

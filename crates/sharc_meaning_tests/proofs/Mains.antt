@@ -1,8 +1,5 @@
 -- The first function called main, one function after the other.
-use Rattle.std.proofs.Common.{◌≡◌, ℕ, zero, suc, ◌+◌, true, false, List, [], ◌∷◌, drop, Some, None, refl, ap, sym, ◌∙◌, add-one}
-use Rattle.std.specs.{Prelude.{slice_get, codes, if◌then◌else◌}, Str.bytes_eq}
-use Rattle.sharc_tree.specs.Tree.{Function}
-use Rattle.sharc_meaning_tests.specs.Starting.{main_from}
+use Rattle.sharc_meaning_tests.proofs.Imports.{◌≡◌, ℕ, zero, suc, ◌+◌, true, false, List, [], ◌∷◌, drop, Some, None, refl, ap, sym, ◌∙◌, add-one, slice_get, codes, if◌then◌else◌, bytes_eq, Function, main_from}
 
 pub main_end : (k n : ℕ) (fs : List Function) → slice_get fs n ≡ None → main_from k (drop n fs) ≡ None
 main_end k zero [] h = refl

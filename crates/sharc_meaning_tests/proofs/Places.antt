@@ -1,8 +1,5 @@
 -- What is listed at places.
-use Rattle.std.proofs.{Common.{◌≡◌, ◌⊎◌, inl, inr, ℕ, zero, suc, ◌<◌, ◌≤◌, Bool, true, false, List, [], ◌∷◌, ◌++◌, refl, ap, sym, subst, arith}, lemmas.Bool.{eqb-true, eq-eqb, both_ways}}
-use Rattle.std.specs.Prelude.{◌==◌, if◌then◌else◌}
-use Rattle.sharc_tree.specs.declared.event.SourceEvent.{SourceEvent}
-use Rattle.sharc_meaning_tests.specs.{declared.holder.Holder.Holder, declared.holder.Holder.TheVariants.InThread, Answered.{IsListed, AreDistinct}, Listed.{at_places, in_thread_all}}
+use Rattle.sharc_meaning_tests.proofs.Imports.{◌≡◌, ◌⊎◌, inl, inr, ℕ, zero, suc, ◌<◌, ◌≤◌, Bool, true, false, List, [], ◌∷◌, ◌++◌, refl, ap, sym, subst, arith, eqb-true, eq-eqb, both_ways, ◌==◌, if◌then◌else◌, SourceEvent, Holder, InThread, IsListed, AreDistinct, at_places, in_thread_all}
 
 pub in_front : (h : Holder) (a b : List Holder) → IsListed h a → IsListed h (a ++ b)
 in_front h [] b i = absurd i

@@ -1,13 +1,5 @@
 -- What is listed holds a reference.
-use Rattle.std.proofs.{Common.{◌≡◌, ◌⊎◌, inl, inr, ℕ, ◌<◌, Bool, true, false, not, ◌&&◌, ◌||◌, List, [], ◌∷◌, ◌++◌, Some, refl, ap, sym, subst, ◌∙◌}, lemmas.Bool.{not-true, not_from_false, both_ways, and_parts, and_from, or_cases, or_left, or_right, eqb-true, eq-eqb}}
-use Rattle.std.specs.{Prelude.{ℤ, pos, negsuc, ◌==◌, Any, if◌then◌else◌}, List.list_any}
-use Rattle.sharc_tree.specs.{declared.event.Act.Act, declared.event.CellAt.CellAt, declared.event.Object.Object, declared.event.Object.TheVariants.{Global, Made}, declared.event.SourceEvent.SourceEvent}
-use Rattle.sharc_tree.specs.declared.event.Act.TheVariants as acts
-use Rattle.sharc_mode.specs.Moded.{Assignment}
-use Rattle.sharc_meaning.specs.{Events.{is_of, events_of, is_cell, same_object, same_cell, locks, unlocks, locked_by, latest}, Meaning.asks, References.{refers, Counts, is_taken_to_free, Begun, asked_with, held_count, passes, is_pointer_of, CellRefers, ArgumentRefers, ReferencesWith}, Runs.{Follows, SourceRun}, Store.{changes, value_after, meets, is_live, is_locked, spawns, is_spawn, is_natural}}
-use Rattle.sharc_judge.specs.Laws.{SameLaws}
-use Rattle.sharc_meaning_tests.specs.{declared.holder.Holder.Holder, declared.holder.Holder.TheVariants.{InCell, InArgument, InMutex, InThread}, Answered.{view_holder, IsListed}, Listed.{counts, cell_refers, cell_at, mutex_at, is_passed, argument_at, in_thread_all, thread_at, by_act, holders_at, holders}, Starting.{entry, own_answers, count_by_entry, thread_count}}
-use Rattle.sharc_meaning_tests.proofs.{Entries.{OneMain, any_placed, begun_events, events_begun, own_told, follows_entry}, Latest.{latest_is, stands_any}, Places.{only, in_either, in_threads, somewhere}}
+use Rattle.sharc_meaning_tests.proofs.{Imports.{◌≡◌, ◌⊎◌, inl, inr, ℕ, ◌<◌, Bool, true, false, not, ◌&&◌, ◌||◌, List, [], ◌∷◌, ◌++◌, Some, refl, ap, sym, subst, ◌∙◌, not-true, not_from_false, both_ways, and_parts, and_from, or_cases, or_left, or_right, eqb-true, eq-eqb, ℤ, pos, negsuc, ◌==◌, Any, if◌then◌else◌, list_any, Act, CellAt, Object, Global, Made, SourceEvent, Assignment, is_of, events_of, is_cell, same_object, same_cell, locks, unlocks, locked_by, latest, asks, refers, Counts, is_taken_to_free, Begun, asked_with, held_count, passes, is_pointer_of, CellRefers, ArgumentRefers, ReferencesWith, Follows, SourceRun, changes, value_after, meets, is_live, is_locked, spawns, is_spawn, is_natural, SameLaws, Holder, InCell, InArgument, InMutex, InThread, view_holder, IsListed, counts, cell_refers, cell_at, mutex_at, is_passed, argument_at, in_thread_all, thread_at, by_act, holders_at, holders, entry, own_answers, count_by_entry, thread_count}, Entries.{OneMain, any_placed, begun_events, events_begun, own_told, follows_entry}, Latest.{latest_is, stands_any}, Places.{only, in_either, in_threads, somewhere}}
 
 pub counts_true : (R : List SourceEvent) (n : ℕ) (o : Object) → counts R n o ≡ true → Counts R n o
 counts_true R n (Global g) h = tt
@@ -43,10 +35,10 @@ module _ (fuel : ℕ) (m : Assignment) (R : List SourceEvent) (n : ℕ) where
       subst Means found.1 (cell_true c (and_parts (not (list_any (changes c) after)) (cell_refers m.typed R n c) found.0).1)
 
   module _ (same : SameLaws) where
-    locks_itself : (e : SourceEvent) (c : CellAt) → e.act ≡ acts.Lock c → locks c e ≡ true
+    locks_itself : (e : SourceEvent) (c : CellAt) → e.act ≡ Act.Lock c → locks c e ≡ true
     locks_itself e c is = ap (λ z. is_cell c (locked_by z)) is ∙ (same.cells c c).1 refl
 
-    mutex_sound : (before : List SourceEvent) (e : SourceEvent) (after : List SourceEvent) (c : CellAt) → R ≡ before ++ e ∷ after → e.act ≡ acts.Lock c → (h : Holder) → IsListed h (mutex_at n c after) → Means h
+    mutex_sound : (before : List SourceEvent) (e : SourceEvent) (after : List SourceEvent) (c : CellAt) → R ≡ before ++ e ∷ after → e.act ≡ Act.Lock c → (h : Holder) → IsListed h (mutex_at n c after) → Means h
     mutex_sound before e after c stands is h i =
         let p : SourceEvent → Bool = λ x. locks c x || unlocks c x in
         let found = only (same_object c.object (Made n) && not (list_any p after)) (InMutex c) h i in
@@ -55,7 +47,7 @@ module _ (fuel : ℕ) (m : Assignment) (R : List SourceEvent) (n : ℕ) where
         let last : latest p R ≡ Some e = ap (latest p) stands ∙ latest_is p before e after (or_left (locks c e) (unlocks c e) own) (not-true _ parts.1) in
         subst Means found.1 ((same.objects c.object (Made n)).0 parts.0, ap (meets (locks c)) last ∙ own)
 
-  argument_sound : (before : List SourceEvent) (e : SourceEvent) (after : List SourceEvent) (f : ℕ) (v : ℤ) → R ≡ before ++ e ∷ after → e.act ≡ acts.Spawn f v → (a : ℤ) → e.answer ≡ a → (h : Holder) → IsListed h (argument_at m.typed R n e after a) → Means h
+  argument_sound : (before : List SourceEvent) (e : SourceEvent) (after : List SourceEvent) (f : ℕ) (v : ℤ) → R ≡ before ++ e ∷ after → e.act ≡ Act.Spawn f v → (a : ℤ) → e.answer ≡ a → (h : Holder) → IsListed h (argument_at m.typed R n e after a) → Means h
   argument_sound before e after f v stands is (negsuc k) answer h i = absurd i
   argument_sound before e after f v stands is (pos thread) answer h i =
       let found = only ((passes m.typed n e.act && not (list_any (is_of thread) R)) && not (list_any (is_passed m.typed n thread) after)) (InArgument thread) h i in
@@ -92,24 +84,24 @@ module _ (fuel : ℕ) (m : Assignment) (R : List SourceEvent) (n : ℕ) where
 
     module _ (same : SameLaws) where
       act_sound : (before : List SourceEvent) (e : SourceEvent) (after : List SourceEvent) → R ≡ before ++ e ∷ after → (a : Act) → e.act ≡ a → (h : Holder) → IsListed h (by_act m.typed R n e after a) → Means h
-      act_sound before e after stands (acts.Write c mode v) is h i = cell_sound c after h i
-      act_sound before e after stands (acts.Lock c) is h i = mutex_sound same before e after c stands is h i
-      act_sound before e after stands (acts.Spawn f v) is h i = argument_sound before e after f v stands is e.answer refl h i
-      act_sound before e after stands (acts.Read c mode) is h i = absurd i
-      act_sound before e after stands (acts.New cells elements mode) is h i = absurd i
-      act_sound before e after stands (acts.Take taken kind) is h i = absurd i
-      act_sound before e after stands (acts.Give r mode) is h i = absurd i
-      act_sound before e after stands (acts.Freed r) is h i = absurd i
-      act_sound before e after stands (acts.Unlock c) is h i = absurd i
-      act_sound before e after stands (acts.Started v) is h i = absurd i
-      act_sound before e after stands (acts.Join v) is h i = absurd i
-      act_sound before e after stands (acts.Print v) is h i = absurd i
-      act_sound before e after stands acts.Return is h i = absurd i
-      act_sound before e after stands acts.Gone is h i = absurd i
-      act_sound before e after stands (acts.Enter c) is h i = absurd i
-      act_sound before e after stands (acts.Woken c) is h i = absurd i
-      act_sound before e after stands (acts.Signal c) is h i = absurd i
-      act_sound before e after stands (acts.Broadcast c) is h i = absurd i
+      act_sound before e after stands (Act.Write c mode v) is h i = cell_sound c after h i
+      act_sound before e after stands (Act.Lock c) is h i = mutex_sound same before e after c stands is h i
+      act_sound before e after stands (Act.Spawn f v) is h i = argument_sound before e after f v stands is e.answer refl h i
+      act_sound before e after stands (Act.Read c mode) is h i = absurd i
+      act_sound before e after stands (Act.New cells elements mode) is h i = absurd i
+      act_sound before e after stands (Act.Take taken kind) is h i = absurd i
+      act_sound before e after stands (Act.Give r mode) is h i = absurd i
+      act_sound before e after stands (Act.Freed r) is h i = absurd i
+      act_sound before e after stands (Act.Unlock c) is h i = absurd i
+      act_sound before e after stands (Act.Started v) is h i = absurd i
+      act_sound before e after stands (Act.Join v) is h i = absurd i
+      act_sound before e after stands (Act.Print v) is h i = absurd i
+      act_sound before e after stands Act.Return is h i = absurd i
+      act_sound before e after stands Act.Gone is h i = absurd i
+      act_sound before e after stands (Act.Enter c) is h i = absurd i
+      act_sound before e after stands (Act.Woken c) is h i = absurd i
+      act_sound before e after stands (Act.Signal c) is h i = absurd i
+      act_sound before e after stands (Act.Broadcast c) is h i = absurd i
 
       pub all_sound : (h : Holder) → IsListed h (holders fuel m R n) → Means h
       all_sound h i =

@@ -1,8 +1,5 @@
 -- A call's parameters and arguments, side by side.
-use Rattle.std.proofs.{Common.{◌≡◌, ◌≢◌, ℕ, ◌+◌, ◌<◌, ◌≤◌, ◌==◌, false, subst, arith, List, [], ◌∷◌, length, drop, get_or, refl, ap, sym, ◌∙◌, None, if◌then◌else◌}, lemmas.List.drop_all, lemmas.Bool.Decides.nat_tests}
-use Rattle.sharc_tree.specs.{declared.tree.declaration.Declaration.Declaration, declared.tree.expression.Expr.Expr, Tree.{Expression, argument, no_arguments}, View.view_arguments}
-use Rattle.sharc_ctype.specs.Resolved.{Resolution}
-use Rattle.sharc_mode.specs.Rows.{constant_use, argument_use}
+use Rattle.sharc_mode.proofs.Imports.{◌≡◌, ◌≢◌, ℕ, ◌+◌, ◌<◌, ◌≤◌, ◌==◌, false, subst, arith, List, [], ◌∷◌, length, drop, get_or, refl, ap, sym, ◌∙◌, None, if◌then◌else◌, drop_all, nat_tests, Declaration, Expr, Expression, argument, no_arguments, view_arguments, Resolution, constant_use, argument_use}
 
 no_arguments_left : (r : Resolution) (ds : List Declaration) (x : ℕ) → argument_use r ds (view_arguments []) x ≡ None
 no_arguments_left r [] x = refl

@@ -1,8 +1,5 @@
 -- The first target of a row.
-use Rattle.std.proofs.Common.{◌≡◌, ℕ, zero, suc, ◌<◌, List, [], ◌∷◌, take, drop, map, refl, sym, arith}
-use Rattle.std.specs.Prelude.{slice_index_or}
-use Rattle.sharc_tree.specs.{declared.ctype.Mode.Mode, declared.ctype.Mode.TheVariants.Private}
-use Rattle.sharc_mode.specs.{Cells.first_of, Moded.{Assignment, mode_at}, Rows.{Targets, read, modes_of}, Sharings.{Sharing, private, sharing_of}}
+use Rattle.sharc_mode.proofs.Imports.{◌≡◌, ℕ, zero, suc, ◌<◌, List, [], ◌∷◌, take, drop, map, refl, sym, arith, get_or as slice_index_or, Mode, Private, first_of, Assignment, mode_at, Targets, read, modes_of, Sharing, private, sharing_of}
 
 first_at : (f : Mode → Sharing) (modes : List Mode) (first count : ℕ) → f Private ≡ private → first_of (map f (take (suc count) (drop first modes))) ≡ f (slice_index_or modes first Private)
 first_at f [] zero count e = sym e

@@ -1,11 +1,5 @@
 -- The proofs of the laws.
-use Rattle.std.proofs.Common.{◌≡◌, ◌⊎◌, ℕ, ◌+◌, ◌<◌, Bool, ◌&&◌, List, [], ◌∷◌, ◌++◌, Option, Some, None, refl, ap, sym, ◌∙◌, subst, inl, inr}
-use Rattle.std.specs.{Prelude.slice_index_or, List.flat_map}
-use Rattle.sharc_graph.specs.{declared.graph.NodeFinding.NodeFinding, declared.graph.NodeFinding.TheVariants.{Apart, Source, Behind}, Findings.finding_at}
-use Rattle.sharc_tree.specs.{declared.ctype.Mode.Mode, declared.ctype.Mode.TheVariants.{Private, Dynamic}, declared.tree.item.GlobalDefinition.GlobalDefinition}
-use Rattle.sharc_ctype.specs.{Entities.{entities_in, numbered}, Resolved.{globals_in, functions_in}}
-use Rattle.sharc_mode.specs.{declared.error.ErrorCode.TheVariants.PrivateReachesThread, declared.error.ModeError.ModeError, Cells.top_of, Expressions.items_notes, Flows.{IsLeastAssignment, IsReasonFor, mode_found, inferred_mode}, Moded.{Assignment, position_count, reason_at}, Notes.{error_where, type_notes, errors_of, is_private_level}, Settled.settled_at, WellModed.{AreModeErrors, mode_errors, touched_notes, spawned_notes}}
-use Rattle.sharc_lemmas.proofs.Bools.{same_test}
+use Rattle.sharc_mode.proofs.Imports.{◌≡◌, ◌⊎◌, ℕ, ◌+◌, ◌<◌, Bool, ◌&&◌, List, [], ◌∷◌, ◌++◌, Option, Some, None, refl, ap, sym, ◌∙◌, subst, inl, inr, get_or as slice_index_or, flat_map, NodeFinding, Apart, Source, Behind, finding_at, Mode, Private, Dynamic, GlobalDefinition, entities_in, numbered, globals_in, functions_in, PrivateReachesThread, ModeError, top_of, items_notes, IsLeastAssignment, IsReasonFor, mode_found, inferred_mode, Assignment, position_count, reason_at, error_where, type_notes, errors_of, is_private_level, settled_at, AreModeErrors, mode_errors, touched_notes, spawned_notes, same_test}
 
 -- the least assignment leaves what is settled
 pub settled_mode : (m : Assignment) → IsLeastAssignment m → (position : ℕ) → position < position_count m.typed → (mode : Mode) → settled_at m.typed position ≡ Some mode → slice_index_or m.modes position Private ≡ mode

@@ -1,20 +1,13 @@
 -- What the least assignment is among all that are enough.
-use Rattle.std.proofs.{Common.{◌≡◌, ◌⊎◌, ℕ, ◌+◌, ◌<◌, Bool, true, false, List, [], ◌∷◌, length, length-append, Option, Some, None, refl, ap, sym, ◌∙◌, subst, inl, inr, arith}, lemmas.Bool.{cases_lt, false≢true}, lemmas.List.get_or_past, lemmas.List.Elements.All-get_or}
-use Rattle.std.specs.Prelude.{slice_index_or, Contains}
-use Rattle.sharc_graph.specs.{declared.graph.NodeFinding.NodeFinding, declared.graph.NodeFinding.TheVariants.{Apart, Source, Behind}, Findings.finding_at, Paths.{IsWithin, edge_of}, declared.place.PositionKind.PositionKind, declared.place.Link.Link, Flow.{flow_of, link_of, place_at, is_unwritten, is_source, IsUnwritten, IsOrigin, IsFirstFor, HasLink}, FlowLaws.{FlowLaws, IsClosed, IsDynamic}}
-use Rattle.sharc_graph.specs.declared.place.PositionKind.TheVariants as place
-use Rattle.sharc_tree.specs.{declared.ctype.Base.Base, declared.ctype.Mode.Mode, declared.ctype.Mode.TheVariants.{Private, Readonly, Locked, Racy, Dynamic}}
-use Rattle.sharc_ctype.specs.{Entities.{entities_in, written_modes, positions_of, positions_in}, Resolved.Resolution, declared.entity.Entity.Entity}
-use Rattle.sharc_mode.specs.{Flows.{IsLeastAssignment, IsRoot, IsPlaceFor, ArePlaces, written_place, inferred_mode, mode_found, links_of}, Moded.{Assignment, position_count}, Pairs.{AreEquated, IsBelow, IsEnough, mode_given, mode_by}, Settled.{settled, otherwise_of, settled_modes, settled_in, settled_at}, Sharings.{sharing_of, is_dynamic}}
-use Rattle.sharc_mode.proofs.{LawLemmas.inferred, PairLemmas.{below_from, below_to, equal_from, equal_to}, WithinLemmas.links_within}
+use Rattle.sharc_mode.proofs.{Imports.{◌≡◌, ◌⊎◌, ℕ, ◌+◌, ◌<◌, Bool, true, false, List, [], ◌∷◌, length, length-append, Option, Some, None, refl, ap, sym, ◌∙◌, subst, inl, inr, arith, cases_lt, false≢true, get_or_past, All-get_or, get_or as slice_index_or, Contains, NodeFinding, Apart, Source, Behind, finding_at, IsWithin, edge_of, PositionKind, Link, flow_of, link_of, place_at, is_unwritten, is_source, IsUnwritten, IsOrigin, IsFirstFor, HasLink, FlowLaws, IsClosed, IsDynamic, Base, Mode, Private, Readonly, Locked, Racy, Dynamic, entities_in, written_modes, positions_of, positions_in, Resolution, Entity, IsLeastAssignment, IsRoot, IsPlaceFor, ArePlaces, written_place, inferred_mode, mode_found, links_of, Assignment, position_count, AreEquated, IsBelow, IsEnough, mode_given, mode_by, settled, otherwise_of, settled_modes, settled_in, settled_at, sharing_of, is_dynamic}, LawLemmas.inferred, PairLemmas.{below_from, below_to, equal_from, equal_to}, WithinLemmas.links_within}
 
 -- ---- places and modes
 open_place : (r : Resolution) (p : ℕ) (at : PositionKind) → IsPlaceFor r p None at → is_unwritten at ≡ true
-open_place r p place.Root is = refl
-open_place r p place.Unwritten is = refl
-open_place r p place.Dynamic is = absurd is
-open_place r p place.Private is = absurd is
-open_place r p place.Other is = absurd is
+open_place r p PositionKind.Root is = refl
+open_place r p PositionKind.Unwritten is = refl
+open_place r p PositionKind.Dynamic is = absurd is
+open_place r p PositionKind.Private is = absurd is
+open_place r p PositionKind.Other is = absurd is
 
 shut_place : (m : Mode) → is_unwritten (written_place m) ≡ false
 shut_place Private = refl
@@ -24,18 +17,18 @@ shut_place Racy = refl
 shut_place Dynamic = refl
 
 root_place : (r : Resolution) (p : ℕ) (at : PositionKind) → IsPlaceFor r p None at → IsRoot r p → is_source at ≡ true
-root_place r p place.Root is root = refl
-root_place r p place.Unwritten is root = absurd (is root)
-root_place r p place.Dynamic is root = refl
-root_place r p place.Private is root = absurd is
-root_place r p place.Other is root = absurd is
+root_place r p PositionKind.Root is root = refl
+root_place r p PositionKind.Unwritten is root = absurd (is root)
+root_place r p PositionKind.Dynamic is root = refl
+root_place r p PositionKind.Private is root = absurd is
+root_place r p PositionKind.Other is root = absurd is
 
 source_root : (r : Resolution) (p : ℕ) (at : PositionKind) → IsPlaceFor r p None at → is_source at ≡ true → IsRoot r p
-source_root r p place.Root is source = is
-source_root r p place.Unwritten is source = absurd (false≢true source)
-source_root r p place.Dynamic is source = absurd is
-source_root r p place.Private is source = absurd is
-source_root r p place.Other is source = absurd is
+source_root r p PositionKind.Root is source = is
+source_root r p PositionKind.Unwritten is source = absurd (false≢true source)
+source_root r p PositionKind.Dynamic is source = absurd is
+source_root r p PositionKind.Private is source = absurd is
+source_root r p PositionKind.Other is source = absurd is
 
 source_dynamic : (m : Mode) → is_source (written_place m) ≡ true → m ≡ Dynamic
 source_dynamic Private is = absurd (false≢true is)
@@ -47,11 +40,11 @@ source_dynamic Dynamic is = refl
 not_both : (m : Mode) → m ≡ Dynamic → m ≡ Private → ⊥
 not_both m is not = let same : Dynamic ≡ Private = sym is ∙ not in cc
 
-other_private : (m : Mode) → written_place m ≡ place.Other → m ≡ Private → ⊥
-other_private m is not = let same : place.Private ≡ place.Other = sym (ap written_place not) ∙ is in cc
+other_private : (m : Mode) → written_place m ≡ PositionKind.Other → m ≡ Private → ⊥
+other_private m is not = let same : PositionKind.Private ≡ PositionKind.Other = sym (ap written_place not) ∙ is in cc
 
 -- a mode is private, or its place a source or another mode's
-written_cases : (m : Mode) → (m ≡ Private) ⊎ (is_source (written_place m) ≡ true) ⊎ (written_place m ≡ place.Other)
+written_cases : (m : Mode) → (m ≡ Private) ⊎ (is_source (written_place m) ≡ true) ⊎ (written_place m ≡ PositionKind.Other)
 written_cases Private = inl refl
 written_cases Readonly = inr (inr refl)
 written_cases (Locked path) = inr (inr refl)

@@ -1,3 +1,4 @@
+mod Imports
 pub mod ArgumentLemmas
 pub mod CellLemmas
 pub mod LawLemmas

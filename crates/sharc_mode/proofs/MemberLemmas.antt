@@ -1,6 +1,5 @@
 -- Elements of lists that are joined.
-use Rattle.std.proofs.Common.{◌≡◌, ◌⊎◌, ℕ, zero, suc, ◌<◌, List, [], ◌∷◌, ◌++◌, length, get_or, refl, sym, subst, inl, inr, arith}
-use Rattle.std.specs.{Prelude.Contains, List.flat_map}
+use Rattle.sharc_mode.proofs.Imports.{◌≡◌, ◌⊎◌, ℕ, zero, suc, ◌<◌, List, [], ◌∷◌, ◌++◌, length, get_or, refl, sym, subst, inl, inr, arith, Contains, flat_map}
 
 -- some element has the property
 abbrev pub Has : {A : Type 0} → (A → Type 0) → List A → Type 0

@@ -1,11 +1,5 @@
 -- Which positions the links join.
-use Rattle.std.proofs.{Common.{◌≡◌, ◌⊎◌, ℕ, zero, suc, ◌+◌, ◌-◌, ◌<◌, min, Bool, true, false, List, [], ◌∷◌, Option, Some, None, refl, ap, sym, subst, inl, inr, arith}, lemmas.Bool.{cases_lt, false≢true}}
-use Rattle.std.specs.{Prelude.Contains, List.flat_map}
-use Rattle.sharc_graph.specs.{declared.place.Link.Link, Flow.link_of, Make.{equal_links, below_links}}
-use Rattle.sharc_tree.specs.{declared.token.Span.Span, declared.tree.declaration.WrittenType.WrittenType, Measures.in_function, Tree.{Expression, identifier, constant, parentheses, call, spawn, on_value, on_place, cast, index, field, unary, binary, Function, Item, structure, global, function}}
-use Rattle.sharc_ctype.specs.{Entities.{entities_in, numbered, positions_of}, Resolved.Resolution, Transfers.function_transfers}
-use Rattle.sharc_mode.specs.{Flows.{equal_rows, levels_down, receiver_row, source_row, transfer_links, cast_links, function_links, item_links, links_of}, Pairs.{AreGiven, AreCast, AreLevel, AreEquated, IsBelow}, Rows.{Targets, cast_row, row_at, behind}}
-use Rattle.sharc_mode.proofs.MemberLemmas.{Has, has_left, has_right, has_cases, has_contained, contained, has_source, has_made}
+use Rattle.sharc_mode.proofs.{Imports.{◌≡◌, ◌⊎◌, ℕ, zero, suc, ◌+◌, ◌-◌, ◌<◌, min, Bool, true, false, List, [], ◌∷◌, Option, Some, None, refl, ap, sym, subst, inl, inr, arith, cases_lt, false≢true, Contains, flat_map, Link, link_of, equal_links, below_links, Span, WrittenType, in_function, Expression, identifier, constant, parentheses, call, spawn, on_value, on_place, cast, index, field, unary, binary, Function, Item, structure, global, function, entities_in, numbered, positions_of, Resolution, function_transfers, equal_rows, levels_down, receiver_row, source_row, transfer_links, cast_links, function_links, item_links, links_of, AreGiven, AreCast, AreLevel, AreEquated, IsBelow, Targets, cast_row, row_at, behind}, MemberLemmas.{Has, has_left, has_right, has_cases, has_contained, contained, has_source, has_made}}
 
 -- among the links
 abbrev pub HasLink : ℕ → ℕ → Bool → List Link → Type 0

@@ -1,8 +1,5 @@
 -- The positions of an entity are positions of the program.
-use Rattle.std.proofs.Common.{◌≡◌, ℕ, ◌+◌, ◌≤◌, Bool, true, false, List, [], ◌∷◌, Option, Some, None, sym, subst, cond, arith}
-use Rattle.std.specs.List.{find}
-use Rattle.sharc_ctype.specs.{Resolved.Resolution, declared.entity.Entity.Entity, declared.entity.Numbered.Numbered, Entities.{entities_in, entity_at, numbered_from, positions_of, positions_in, is_told_by}}
-use Rattle.sharc_mode.specs.Moded.{position_count}
+use Rattle.sharc_mode.proofs.Imports.{◌≡◌, ℕ, ◌+◌, ◌≤◌, Bool, true, false, List, [], ◌∷◌, Option, Some, None, sym, subst, cond, arith, find, Resolution, Entity, Numbered, entities_in, entity_at, numbered_from, positions_of, positions_in, is_told_by, position_count}
 
 -- what was found ends by this position
 abbrev pub EndsBy : ℕ → Option Numbered → Type 0

@@ -1,8 +1,5 @@
 -- Types compared level by level.
-use Rattle.std.proofs.Common.{◌≡◌, ◌≢◌, ◌+◌, ◌<◌, ◌≤◌, Bool, true, false, ◌&&◌, List, [], ◌∷◌, length, Option, refl, ◌∙◌, arith}
-use Rattle.sharc_tree.specs.declared.ctype.Mode.{Mode}
-use Rattle.sharc_ctype.specs.Resolved.{Resolution}
-use Rattle.sharc_mode.specs.Sharings.{same_levels}
+use Rattle.sharc_mode.proofs.Imports.{◌≡◌, ◌≢◌, ◌+◌, ◌<◌, ◌≤◌, Bool, true, false, ◌&&◌, List, [], ◌∷◌, length, Option, refl, ◌∙◌, arith, Mode, Resolution, same_levels}
 
 same_length : (r : Resolution) (a b : List (Option Mode)) → same_levels r a b ≡ true → length a ≡ length b
 same_length r [] [] h = refl

@@ -1,8 +1,5 @@
 -- The modes of a row, one by one.
-use Rattle.std.proofs.{Common.{◌≡◌, ◌⊎◌, inl, inr, ℕ, zero, suc, ◌+◌, ◌-◌, ◌<◌, ◌≤◌, ◌==◌, cond, Bool, true, false, ◌&&◌, List, [], ◌∷◌, ◌++◌, length, take, drop, map, Option, Some, get_or, refl, ap, sym, ◌∙◌, subst, add-one, append_assoc, arith}, lemmas.List.{take_more, get_or-drop, length-drop, map-append}, lemmas.Bool.Decides.nat_tests}
-use Rattle.std.specs.Prelude.{slice_index_or}
-use Rattle.sharc_tree.specs.{declared.ctype.Mode.Mode, declared.ctype.Mode.TheVariants.Private}
-use Rattle.sharc_mode.specs.{Cells.{first_of, pointed}, Moded.Assignment, Rows.{Targets, deeper, read, modes_of}, Sharings.{Sharing, sharing_of, same, same_all, mode_of}}
+use Rattle.sharc_mode.proofs.Imports.{◌≡◌, ◌⊎◌, inl, inr, ℕ, zero, suc, ◌+◌, ◌-◌, ◌<◌, ◌≤◌, ◌==◌, cond, Bool, true, false, ◌&&◌, List, [], ◌∷◌, ◌++◌, length, take, drop, map, Option, Some, get_or, refl, ap, sym, ◌∙◌, subst, add-one, append_assoc, arith, take_more, get_or-drop, length-drop, map-append, nat_tests, get_or as slice_index_or, Mode, Private, first_of, pointed, Assignment, Targets, deeper, read, modes_of, Sharing, sharing_of, same, same_all, mode_of}
 
 from_first : (f : Mode → Sharing) (modes : List Mode) (first k : ℕ) → first < length modes
     → map f (take (suc k) (drop first modes)) ≡ first_of (map f (take (suc k) (drop first modes))) ∷ map f (take k (drop (suc first) modes))

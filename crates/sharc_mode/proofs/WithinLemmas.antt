@@ -1,14 +1,5 @@
 -- The links join positions of the program.
-use Rattle.std.proofs.{Common.{◌≡◌, ℕ, zero, suc, ◌+◌, ◌-◌, ◌<◌, ◌≤◌, min, Bool, true, false, cond, List, [], ◌∷◌, ◌++◌, Option, Some, None, subst, arith}, lemmas.Bool.ne_eqb, lemmas.List.Elements.{All-nil, All-cons, All-append}}
-use Rattle.std.specs.List.{flat_map, All}
-use Rattle.sharc_graph.specs.{Paths.IsWithin, declared.place.Link.Link, Flow.link_of, Make.{equal_links, below_links}}
-use Rattle.sharc_tree.specs.{declared.tree.expression.Constant.Constant, declared.tree.expression.Constant.TheVariants.{Number, Character, Null}, declared.tree.expression.UnaryOperator.UnaryOperator, declared.tree.expression.UnaryOperator.TheVariants.{Negate, Not, Complement, Dereference}, declared.tree.item.GlobalDefinition.GlobalDefinition, Measures.in_function, Tree.{Expression, identifier, constant, parentheses, call, spawn, on_value, on_place, cast, index, field, unary, binary, Right, value, malloc, Function, Item, structure, global, function}}
-use Rattle.sharc_names.specs.{declared.fault.Named.Named, declared.types.Role.Role, Kinds.is_array}
-use Rattle.sharc_names.specs.declared.fault.Named.TheVariants as named
-use Rattle.sharc_names.specs.declared.types.Role.TheVariants as role
-use Rattle.sharc_ctype.specs.{Entities.{entities_in, entity_at, numbered_from, positions_of, positions_in, is_told_by}, Resolved.{Resolution, named_at, global_at, function_at, kind_at}, Transfers.{Receiver, lvalue, variable, result, function_transfers}, declared.entity.Entity.Entity, declared.entity.Numbered.Numbered}
-use Rattle.sharc_mode.specs.{Flows.{equal_rows, levels_down, receiver_row, source_row, transfer_links, cast_links, item_links, links_of}, Moded.position_count, Rows.{PathReading, written, Targets, no_row, deeper, targets_from, entity_row, declared_row, cast_row, global_row, named_row, result_row, called_row, behind, constant_row, reading_through, base_use, unary_row, row_at}}
-use Rattle.sharc_mode.proofs.RowLemmas.{EndsBy, ends_by}
+use Rattle.sharc_mode.proofs.{Imports.{◌≡◌, ℕ, zero, suc, ◌+◌, ◌-◌, ◌<◌, ◌≤◌, min, Bool, true, false, cond, List, [], ◌∷◌, ◌++◌, Option, Some, None, subst, arith, ne_eqb, All-nil, All-cons, All-append, flat_map, All, IsWithin, Link, link_of, equal_links, below_links, Constant, Number, Character, Null, UnaryOperator, Negate, Not, Complement, Dereference, GlobalDefinition, in_function, Expression, identifier, constant, parentheses, call, spawn, on_value, on_place, cast, index, field, unary, binary, Right, value, malloc, Function, Item, structure, global, function, Named, Role, is_array, entities_in, entity_at, numbered_from, positions_of, positions_in, is_told_by, Resolution, named_at, global_at, function_at, kind_at, Receiver, lvalue, variable, result, function_transfers, Entity, Numbered, equal_rows, levels_down, receiver_row, source_row, transfer_links, cast_links, item_links, links_of, position_count, PathReading, written, Targets, no_row, deeper, targets_from, entity_row, declared_row, cast_row, global_row, named_row, result_row, called_row, behind, constant_row, reading_through, base_use, unary_row, row_at}, RowLemmas.{EndsBy, ends_by}}
 
 abbrev pub AllWithin : ℕ → List Link → Type 0
 AllWithin limit links = All (λ (link : Link). IsWithin limit link.edge) links
@@ -69,13 +60,13 @@ behind_ends limit None ends = tt
 behind_ends limit (Some row) ends = deeper_ends limit row ends
 
 targets_end : (limit : ℕ) (what : Role) (row : Targets) → Ends limit row → Ends limit (targets_from what row)
-targets_end limit role.Global row ends = deeper_ends limit row ends
-targets_end limit role.Field row ends = ends
-targets_end limit role.Result row ends = ends
-targets_end limit role.Parameter row ends = ends
-targets_end limit role.Local row ends = ends
-targets_end limit role.Cast row ends = ends
-targets_end limit role.Made row ends = ends
+targets_end limit Role.Global row ends = deeper_ends limit row ends
+targets_end limit Role.Field row ends = ends
+targets_end limit Role.Result row ends = ends
+targets_end limit Role.Parameter row ends = ends
+targets_end limit Role.Local row ends = ends
+targets_end limit Role.Cast row ends = ends
+targets_end limit Role.Made row ends = ends
 
 no_row_ends : (limit : ℕ) → Ends limit no_row
 no_row_ends limit = omega arith
@@ -98,24 +89,24 @@ module _ (r : Resolution) where
   global_ends how (Some g) = declared_ends how g.declaration.name.site.token
 
   named_ends : (how : PathReading) (what : Named) → Ends (position_count r) (named_row r how what)
-  named_ends how (named.Struct n) = no_row_ends (position_count r)
-  named_ends how (named.Global n) = global_ends how (global_at r n)
-  named_ends how (named.Function n) = no_row_ends (position_count r)
-  named_ends how (named.Variable token) = declared_ends how token
-  named_ends how (named.Field token) = declared_ends how token
-  named_ends how named.Known = no_row_ends (position_count r)
+  named_ends how (Named.Struct n) = no_row_ends (position_count r)
+  named_ends how (Named.Global n) = global_ends how (global_at r n)
+  named_ends how (Named.Function n) = no_row_ends (position_count r)
+  named_ends how (Named.Variable token) = declared_ends how token
+  named_ends how (Named.Field token) = declared_ends how token
+  named_ends how Named.Known = no_row_ends (position_count r)
 
   result_ends : (f : Option Function) → Ends (position_count r) (result_row r f)
   result_ends None = no_row_ends (position_count r)
   result_ends (Some f) = declared_ends written f.name.site.token
 
   called_ends : (what : Named) → Ends (position_count r) (called_row r what)
-  called_ends (named.Struct n) = no_row_ends (position_count r)
-  called_ends (named.Global n) = no_row_ends (position_count r)
-  called_ends (named.Function n) = result_ends (function_at r n)
-  called_ends (named.Variable token) = no_row_ends (position_count r)
-  called_ends (named.Field token) = no_row_ends (position_count r)
-  called_ends named.Known = no_row_ends (position_count r)
+  called_ends (Named.Struct n) = no_row_ends (position_count r)
+  called_ends (Named.Global n) = no_row_ends (position_count r)
+  called_ends (Named.Function n) = result_ends (function_at r n)
+  called_ends (Named.Variable token) = no_row_ends (position_count r)
+  called_ends (Named.Field token) = no_row_ends (position_count r)
+  called_ends Named.Known = no_row_ends (position_count r)
 
   constant_ends : (k : Constant) → EndsIn (position_count r) (constant_row k)
   constant_ends (Number n) = no_row_ends (position_count r)

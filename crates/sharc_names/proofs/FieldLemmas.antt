@@ -1,9 +1,5 @@
 -- The table of fields has the first of each name.
-use Rattle.std.proofs.Common.{◌≡◌, ℕ, Bool, true, false, cond, List, [], ◌∷◌, ◌++◌, refl, ap, sym, ◌∙◌, Option, Some, None, is_some}
-use Rattle.std.specs.{Borrow.Bor, Map.lookup, Str.bytes_eq}
-use Rattle.sharc_tree.specs.declared.tree.declaration.Declaration.{Declaration}
-use Rattle.sharc_names.specs.{Names.field_of, Seen.{fields_seen, found_field, FieldRows, field_at, HasAlso, HasFirstFields}}
-use Rattle.sharc_lemmas.proofs.Lists.{same_name}
+use Rattle.sharc_names.proofs.Imports.{◌≡◌, ℕ, Bool, true, false, cond, List, [], ◌∷◌, ◌++◌, refl, ap, sym, ◌∙◌, Option, Some, None, is_some, Bor, lookup, bytes_eq, Declaration, field_of, fields_seen, found_field, FieldRows, field_at, HasAlso, HasFirstFields, same_name}
 
 abbrev or_else : Option Declaration → Option Declaration → Option Declaration
 or_else None o = o

@@ -1,7 +1,5 @@
 -- The fault that is kept is the first of all.
-use Rattle.std.proofs.{Common.{◌≡◌, ◌⊎◌, inl, inr, ℕ, ◌==◌, nat_lt, Bool, true, false, cond, ◌||◌, ◌&&◌, List, [], ◌∷◌, fold, refl, ap, sym, subst, ◌∙◌, arith, Some, None}, lemmas.Bool.Decides.nat_tests}
-use Rattle.std.specs.List.{AllByRecursion}
-use Rattle.sharc_names.specs.{declared.fault.Fault.Fault, Notes.{Note, fault, refers, yields, Findings, digit, is_before, first_of, noted, faults, IsAmong, IsAnswer}}
+use Rattle.sharc_names.proofs.Imports.{◌≡◌, ◌⊎◌, inl, inr, ℕ, ◌==◌, nat_lt, Bool, true, false, cond, ◌||◌, ◌&&◌, List, [], ◌∷◌, fold, refl, ap, sym, subst, ◌∙◌, arith, Some, None, nat_tests, AllByRecursion, Fault, Note, fault, refers, yields, Findings, digit, is_before, first_of, noted, faults, IsAmong, IsAnswer}
 
 pub first_of_notes : (f : Findings) (list : List Note) → (fold noted f list).first ≡ fold first_of f.first (faults list)
 first_of_notes f [] = refl

@@ -1,3 +1,4 @@
+mod Imports
 pub mod FieldLemmas
 pub mod FirstLemmas
 pub mod StructLemmas

@@ -1,7 +1,5 @@
 -- The table of structs, read by bytes.
-use Rattle.std.proofs.Common.{◌≡◌, ℕ, Bool, true, false, cond, List, [], ◌∷◌, ◌++◌, refl, ap, ◌∙◌, Option, Some, None}
-use Rattle.std.specs.{Borrow.Bor, Map.lookup, Option.option_copied, Str.bytes_eq}
-use Rattle.sharc_names.specs.{declared.structs.StructMeaning.StructMeaning, View.{view_struct, structs_seen, found_struct}}
+use Rattle.sharc_names.proofs.Imports.{◌≡◌, ℕ, Bool, true, false, cond, List, [], ◌∷◌, ◌++◌, refl, ap, ◌∙◌, Option, Some, None, Bor, lookup, option_copied, bytes_eq, StructMeaning, view_struct, structs_seen, found_struct}
 use Rattle.sharc_names.specs.Names as names
 
 abbrev Rows : Type 0

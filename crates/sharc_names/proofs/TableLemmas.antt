@@ -1,8 +1,5 @@
 -- The table of names agrees with its log.
-use Rattle.std.proofs.{Common.{◌≡◌, ℕ, ◌-◌, ◌<◌, ◌≤◌, suc, length, drop, arith, Bool, true, false, cond, List, [], ◌∷◌, ◌++◌, reverse, refl, ap, sym, subst, ◌∙◌, Option, Some}, lemmas.List.reverse-append}
-use Rattle.std.specs.{Borrow.Bor, Map.lookup, Str.bytes_eq}
-use Rattle.sharc_names.specs.{declared.meaning.Binding.Binding, declared.names.Shadow.Shadow, Names.{Entry, look_up}, View.{view_bound, view_bounds}, Table.{entries, in_scope, newest_of, table_at, HidesOlder, IsKept}}
-use Rattle.sharc_lemmas.proofs.Lists.{same_name}
+use Rattle.sharc_names.proofs.Imports.{◌≡◌, ℕ, ◌-◌, ◌<◌, ◌≤◌, suc, length, drop, arith, Bool, true, false, cond, List, [], ◌∷◌, ◌++◌, reverse, refl, ap, sym, subst, ◌∙◌, Option, Some, reverse-append, Bor, lookup, bytes_eq, Binding, Shadow, Entry, look_up, view_bound, view_bounds, entries, in_scope, newest_of, table_at, HidesOlder, IsKept, same_name}
 
 abbrev Table : Type 0
 Table = List (Bor (List ℕ) × Option Binding)

@@ -1,14 +1,5 @@
 -- The machine reads each phrase that fits.
-use Rattle.std.proofs.{Common.{◌≡◌, ℕ, ◌≤◌, ◌<◌, List, [], ◌∷◌, Option, Some, None, refl, sym, ap, ◌∙◌, arith, Bool, true, false, cond}, lemmas.Bool.{true_from_ne_false as must}}
-use Rattle.sharc_tree.specs.declared.token.Keyword.TheVariants as key
-use Rattle.sharc_tree.specs.{declared.token.Punctuator.TheVariants.{OpenParenthesis, CloseParenthesis, Comma, Arrow, Minus, Star, Exclamation, Tilde}, declared.ctype.Base.Base, declared.tree.expression.BinaryOperator.BinaryOperator, declared.tree.expression.UnaryOperator.UnaryOperator, declared.tree.expression.UnaryOperator.TheVariants.{Negate, Not, Complement, Dereference}, declared.tree.expression.FieldOperator.FieldOperator, declared.tree.expression.Constant.Constant}
-use Rattle.sharc_tree.specs.declared.ctype.Base.TheVariants as base
-use Rattle.sharc_tree.specs.declared.tree.expression.FieldOperator.TheVariants as access
-use Rattle.sharc_tree.specs.declared.tree.expression.ValueCall.TheVariants as value_call
-use Rattle.sharc_tree.specs.declared.tree.expression.PlaceCall.TheVariants as place_call
-use Rattle.sharc_tree.specs.declared.tree.expression.Constant.TheVariants as constants
-use Rattle.sharc_parse.specs.{Grammar.{Word, name, keyword, mark, number, character, Sharing, private, readonly, racy, dynamic, locked, locked_through, Declaring, sharing_words, level_words, base_words, bottom_words, levels_words, list_words, declaring_words, FitsBottom, FitsLevels, FitsList, FitsType, NoModes, IsPlain, Front, parenthesis, of_spawn, of_value, of_place, of_cast, Phrase, identifier, constant, enclosed, call, index, field, unary, binary, Phrases, none, more, operator_mark, unary_mark, access_mark, constant_word, strength, front_words, words, words_of_rest, level, FitsFront, Fits, FitAll, malloc, Doing, assign, invoke, Line, doing_words, Part}, Machine.{Outer, LinePlace, as_statement, in_line, as_step, ValuePlace, returning, testing, subject, counting, Cont, part, beneath, right_of, fronted, indexing, arguments, NamePlace, field_of, local, TypePlace, naming, casting, sizing, ModePlace, before_base, at_level, Core, Want, Have, Called, Valued, TypeWant, ModeFirst, StructWant, Typed, Named, State, or_else, to, role, grip_of, grip, joined, with_last, floor, want, counted, shift, have, called, takes_modes, moded, mode_step, based, begin_type, typed, fields, may_declare, line_start, start, returned, for_test, for_step, malloced, core_step, Stuck, then_on, reads, reads_at}, Operators.{weak, operating, settle_stops, role_binary, role_unary}}
-use Rattle.sharc_lemmas.proofs.Numbers.{le_true2 as le_true}
+use Rattle.sharc_parse.proofs.Imports.{◌≡◌, ℕ, ◌≤◌, ◌<◌, List, [], ◌∷◌, Option, Some, None, refl, sym, ap, ◌∙◌, arith, Bool, true, false, cond, must, Keyword, OpenParenthesis, CloseParenthesis, Comma, Arrow, Minus, Star, Exclamation, Tilde, Base, BinaryOperator, UnaryOperator, Negate, Not, Complement, Dereference, FieldOperator, Constant, ValueCall, PlaceCall, Word, name, keyword, mark, number, character, Sharing, private, readonly, racy, dynamic, locked, locked_through, Declaring, sharing_words, level_words, base_words, bottom_words, levels_words, list_words, declaring_words, FitsBottom, FitsLevels, FitsList, FitsType, NoModes, IsPlain, Front, parenthesis, of_spawn, of_value, of_place, of_cast, Phrase, identifier, constant, enclosed, call, index, field, unary, binary, Phrases, none, more, operator_mark, unary_mark, access_mark, constant_word, strength, front_words, words, words_of_rest, level, FitsFront, Fits, FitAll, malloc, Doing, assign, invoke, Line, doing_words, Part, Outer, LinePlace, as_statement, in_line, as_step, ValuePlace, returning, testing, subject, counting, Cont, part, beneath, right_of, fronted, indexing, arguments, NamePlace, field_of, local, TypePlace, naming, casting, sizing, ModePlace, before_base, at_level, Core, Want, Have, Called, Valued, TypeWant, ModeFirst, StructWant, Typed, Named, State, or_else, to, role, grip_of, grip, joined, with_last, floor, want, counted, shift, have, called, takes_modes, moded, mode_step, based, begin_type, typed, fields, may_declare, line_start, start, returned, for_test, for_step, malloced, core_step, Stuck, then_on, reads, reads_at, weak, operating, settle_stops, role_binary, role_unary, le_true}
 
 pub whole_binary : (y : List Word) (a b : Phrase) (o : BinaryOperator) (k : Cont) → grip y ≤ strength o → reads_at y (Have b (right_of a o k)) ≡ reads_at y (Have (binary o a b) k)
 whole_binary [] a b o k h = refl
@@ -34,14 +25,14 @@ abbrev pub IsFirst : Word → Type 0
 IsFirst (name n) = Unit {0}
 IsFirst (number n) = Unit {0}
 IsFirst (character c) = Unit {0}
-IsFirst (keyword key.Null) = Unit {0}
-IsFirst (keyword key.Spawn) = Unit {0}
-IsFirst (keyword key.Join) = Unit {0}
-IsFirst (keyword key.Print) = Unit {0}
-IsFirst (keyword key.Lock) = Unit {0}
-IsFirst (keyword key.Unlock) = Unit {0}
-IsFirst (keyword key.Free) = Unit {0}
-IsFirst (keyword key.Scast) = Unit {0}
+IsFirst (keyword Keyword.Null) = Unit {0}
+IsFirst (keyword Keyword.Spawn) = Unit {0}
+IsFirst (keyword Keyword.Join) = Unit {0}
+IsFirst (keyword Keyword.Print) = Unit {0}
+IsFirst (keyword Keyword.Lock) = Unit {0}
+IsFirst (keyword Keyword.Unlock) = Unit {0}
+IsFirst (keyword Keyword.Free) = Unit {0}
+IsFirst (keyword Keyword.Scast) = Unit {0}
 IsFirst (mark Minus) = Unit {0}
 IsFirst (mark Exclamation) = Unit {0}
 IsFirst (mark Tilde) = Unit {0}
@@ -56,9 +47,9 @@ pub record First (fine : Word → Type 0) (all : List Word) : Type 0 where
   pub is : all ≡ first ∷ rest
 
 constant_first : (c : Constant) (y : List Word) → First IsFirst (constant_word c ∷ y)
-constant_first (constants.Number n) y = record { first = number n; is_first = tt; rest = y; is = refl }
-constant_first (constants.Character c) y = record { first = character c; is_first = tt; rest = y; is = refl }
-constant_first constants.Null y = record { first = keyword key.Null; is_first = tt; rest = y; is = refl }
+constant_first (Constant.Number n) y = record { first = number n; is_first = tt; rest = y; is = refl }
+constant_first (Constant.Character c) y = record { first = character c; is_first = tt; rest = y; is = refl }
+constant_first Constant.Null y = record { first = keyword Keyword.Null; is_first = tt; rest = y; is = refl }
 
 unary_first : (u : UnaryOperator) (y : List Word) → First IsFirst (mark (unary_mark u) ∷ y)
 unary_first Negate y = record { first = mark Minus; is_first = tt; rest = y; is = refl }
@@ -68,13 +59,13 @@ unary_first Dereference y = record { first = mark Star; is_first = tt; rest = y;
 
 front_first : (f : Front) (y : List Word) → First IsFirst (front_words f y)
 front_first parenthesis y = record { first = mark OpenParenthesis; is_first = tt; rest = _; is = refl }
-front_first (of_spawn f) y = record { first = keyword key.Spawn; is_first = tt; rest = _; is = refl }
-front_first (of_value value_call.Join) y = record { first = keyword key.Join; is_first = tt; rest = _; is = refl }
-front_first (of_value value_call.Print) y = record { first = keyword key.Print; is_first = tt; rest = _; is = refl }
-front_first (of_place place_call.Lock) y = record { first = keyword key.Lock; is_first = tt; rest = _; is = refl }
-front_first (of_place place_call.Unlock) y = record { first = keyword key.Unlock; is_first = tt; rest = _; is = refl }
-front_first (of_place place_call.Free) y = record { first = keyword key.Free; is_first = tt; rest = _; is = refl }
-front_first (of_cast t) y = record { first = keyword key.Scast; is_first = tt; rest = _; is = refl }
+front_first (of_spawn f) y = record { first = keyword Keyword.Spawn; is_first = tt; rest = _; is = refl }
+front_first (of_value ValueCall.Join) y = record { first = keyword Keyword.Join; is_first = tt; rest = _; is = refl }
+front_first (of_value ValueCall.Print) y = record { first = keyword Keyword.Print; is_first = tt; rest = _; is = refl }
+front_first (of_place PlaceCall.Lock) y = record { first = keyword Keyword.Lock; is_first = tt; rest = _; is = refl }
+front_first (of_place PlaceCall.Unlock) y = record { first = keyword Keyword.Unlock; is_first = tt; rest = _; is = refl }
+front_first (of_place PlaceCall.Free) y = record { first = keyword Keyword.Free; is_first = tt; rest = _; is = refl }
+front_first (of_cast t) y = record { first = keyword Keyword.Scast; is_first = tt; rest = _; is = refl }
 
 pub first : (x : Phrase) (y : List Word) → First IsFirst (words x y)
 first (identifier n) y = record { first = name n; is_first = tt; rest = y; is = refl }
@@ -105,14 +96,14 @@ pub called_at : (t : Word) → IsFirst t → (f : List ℕ) (k : Cont) → calle
 called_at (name n) h f k = refl
 called_at (number n) h f k = refl
 called_at (character c) h f k = refl
-called_at (keyword key.Null) h f k = refl
-called_at (keyword key.Spawn) h f k = refl
-called_at (keyword key.Join) h f k = refl
-called_at (keyword key.Print) h f k = refl
-called_at (keyword key.Lock) h f k = refl
-called_at (keyword key.Unlock) h f k = refl
-called_at (keyword key.Free) h f k = refl
-called_at (keyword key.Scast) h f k = refl
+called_at (keyword Keyword.Null) h f k = refl
+called_at (keyword Keyword.Spawn) h f k = refl
+called_at (keyword Keyword.Join) h f k = refl
+called_at (keyword Keyword.Print) h f k = refl
+called_at (keyword Keyword.Lock) h f k = refl
+called_at (keyword Keyword.Unlock) h f k = refl
+called_at (keyword Keyword.Free) h f k = refl
+called_at (keyword Keyword.Scast) h f k = refl
 called_at (mark Minus) h f k = refl
 called_at (mark Exclamation) h f k = refl
 called_at (mark Tilde) h f k = refl
@@ -124,14 +115,14 @@ pub returned_at : (t : Word) → IsFirst t → (o : Outer) → returned o t ≡ 
 returned_at (name n) h o = refl
 returned_at (number n) h o = refl
 returned_at (character c) h o = refl
-returned_at (keyword key.Null) h o = refl
-returned_at (keyword key.Spawn) h o = refl
-returned_at (keyword key.Join) h o = refl
-returned_at (keyword key.Print) h o = refl
-returned_at (keyword key.Lock) h o = refl
-returned_at (keyword key.Unlock) h o = refl
-returned_at (keyword key.Free) h o = refl
-returned_at (keyword key.Scast) h o = refl
+returned_at (keyword Keyword.Null) h o = refl
+returned_at (keyword Keyword.Spawn) h o = refl
+returned_at (keyword Keyword.Join) h o = refl
+returned_at (keyword Keyword.Print) h o = refl
+returned_at (keyword Keyword.Lock) h o = refl
+returned_at (keyword Keyword.Unlock) h o = refl
+returned_at (keyword Keyword.Free) h o = refl
+returned_at (keyword Keyword.Scast) h o = refl
 returned_at (mark Minus) h o = refl
 returned_at (mark Exclamation) h o = refl
 returned_at (mark Tilde) h o = refl
@@ -143,14 +134,14 @@ pub test_at : (t : Word) → IsFirst t → (l : Line) (o : Outer) → for_test l
 test_at (name n) h l o = refl
 test_at (number n) h l o = refl
 test_at (character c) h l o = refl
-test_at (keyword key.Null) h l o = refl
-test_at (keyword key.Spawn) h l o = refl
-test_at (keyword key.Join) h l o = refl
-test_at (keyword key.Print) h l o = refl
-test_at (keyword key.Lock) h l o = refl
-test_at (keyword key.Unlock) h l o = refl
-test_at (keyword key.Free) h l o = refl
-test_at (keyword key.Scast) h l o = refl
+test_at (keyword Keyword.Null) h l o = refl
+test_at (keyword Keyword.Spawn) h l o = refl
+test_at (keyword Keyword.Join) h l o = refl
+test_at (keyword Keyword.Print) h l o = refl
+test_at (keyword Keyword.Lock) h l o = refl
+test_at (keyword Keyword.Unlock) h l o = refl
+test_at (keyword Keyword.Free) h l o = refl
+test_at (keyword Keyword.Scast) h l o = refl
 test_at (mark Minus) h l o = refl
 test_at (mark Exclamation) h l o = refl
 test_at (mark Tilde) h l o = refl
@@ -162,14 +153,14 @@ pub step_at : (t : Word) → IsFirst t → (l : Line) (e : Option Phrase) (o : O
 step_at (name n) h l e o = refl
 step_at (number n) h l e o = refl
 step_at (character c) h l e o = refl
-step_at (keyword key.Null) h l e o = refl
-step_at (keyword key.Spawn) h l e o = refl
-step_at (keyword key.Join) h l e o = refl
-step_at (keyword key.Print) h l e o = refl
-step_at (keyword key.Lock) h l e o = refl
-step_at (keyword key.Unlock) h l e o = refl
-step_at (keyword key.Free) h l e o = refl
-step_at (keyword key.Scast) h l e o = refl
+step_at (keyword Keyword.Null) h l e o = refl
+step_at (keyword Keyword.Spawn) h l e o = refl
+step_at (keyword Keyword.Join) h l e o = refl
+step_at (keyword Keyword.Print) h l e o = refl
+step_at (keyword Keyword.Lock) h l e o = refl
+step_at (keyword Keyword.Unlock) h l e o = refl
+step_at (keyword Keyword.Free) h l e o = refl
+step_at (keyword Keyword.Scast) h l e o = refl
 step_at (mark Minus) h l e o = refl
 step_at (mark Exclamation) h l e o = refl
 step_at (mark Tilde) h l e o = refl
@@ -181,14 +172,14 @@ pub malloced_at : (t : Word) → IsFirst t → (v : ValuePlace) (o : Outer) → 
 malloced_at (name n) h v o = refl
 malloced_at (number n) h v o = refl
 malloced_at (character c) h v o = refl
-malloced_at (keyword key.Null) h v o = refl
-malloced_at (keyword key.Spawn) h v o = refl
-malloced_at (keyword key.Join) h v o = refl
-malloced_at (keyword key.Print) h v o = refl
-malloced_at (keyword key.Lock) h v o = refl
-malloced_at (keyword key.Unlock) h v o = refl
-malloced_at (keyword key.Free) h v o = refl
-malloced_at (keyword key.Scast) h v o = refl
+malloced_at (keyword Keyword.Null) h v o = refl
+malloced_at (keyword Keyword.Spawn) h v o = refl
+malloced_at (keyword Keyword.Join) h v o = refl
+malloced_at (keyword Keyword.Print) h v o = refl
+malloced_at (keyword Keyword.Lock) h v o = refl
+malloced_at (keyword Keyword.Unlock) h v o = refl
+malloced_at (keyword Keyword.Free) h v o = refl
+malloced_at (keyword Keyword.Scast) h v o = refl
 malloced_at (mark Minus) h v o = refl
 malloced_at (mark Exclamation) h v o = refl
 malloced_at (mark Tilde) h v o = refl
@@ -200,14 +191,14 @@ pub line_start_at : (t : Word) → IsFirst t → (p : LinePlace) (o : Outer) →
 line_start_at (name n) h p o = idle (may_declare p o) _
 line_start_at (number n) h p o = idle (may_declare p o) _
 line_start_at (character c) h p o = idle (may_declare p o) _
-line_start_at (keyword key.Null) h p o = idle (may_declare p o) _
-line_start_at (keyword key.Spawn) h p o = idle (may_declare p o) _
-line_start_at (keyword key.Join) h p o = idle (may_declare p o) _
-line_start_at (keyword key.Print) h p o = idle (may_declare p o) _
-line_start_at (keyword key.Lock) h p o = idle (may_declare p o) _
-line_start_at (keyword key.Unlock) h p o = idle (may_declare p o) _
-line_start_at (keyword key.Free) h p o = idle (may_declare p o) _
-line_start_at (keyword key.Scast) h p o = idle (may_declare p o) _
+line_start_at (keyword Keyword.Null) h p o = idle (may_declare p o) _
+line_start_at (keyword Keyword.Spawn) h p o = idle (may_declare p o) _
+line_start_at (keyword Keyword.Join) h p o = idle (may_declare p o) _
+line_start_at (keyword Keyword.Print) h p o = idle (may_declare p o) _
+line_start_at (keyword Keyword.Lock) h p o = idle (may_declare p o) _
+line_start_at (keyword Keyword.Unlock) h p o = idle (may_declare p o) _
+line_start_at (keyword Keyword.Free) h p o = idle (may_declare p o) _
+line_start_at (keyword Keyword.Scast) h p o = idle (may_declare p o) _
 line_start_at (mark Minus) h p o = idle (may_declare p o) _
 line_start_at (mark Exclamation) h p o = idle (may_declare p o) _
 line_start_at (mark Tilde) h p o = idle (may_declare p o) _
@@ -219,14 +210,14 @@ pub start_at : (t : Word) → IsFirst t → (o : Outer) → start o t ≡ line_s
 start_at (name n) h o = refl
 start_at (number n) h o = refl
 start_at (character c) h o = refl
-start_at (keyword key.Null) h o = refl
-start_at (keyword key.Spawn) h o = refl
-start_at (keyword key.Join) h o = refl
-start_at (keyword key.Print) h o = refl
-start_at (keyword key.Lock) h o = refl
-start_at (keyword key.Unlock) h o = refl
-start_at (keyword key.Free) h o = refl
-start_at (keyword key.Scast) h o = refl
+start_at (keyword Keyword.Null) h o = refl
+start_at (keyword Keyword.Spawn) h o = refl
+start_at (keyword Keyword.Join) h o = refl
+start_at (keyword Keyword.Print) h o = refl
+start_at (keyword Keyword.Lock) h o = refl
+start_at (keyword Keyword.Unlock) h o = refl
+start_at (keyword Keyword.Free) h o = refl
+start_at (keyword Keyword.Scast) h o = refl
 start_at (mark Minus) h o = refl
 start_at (mark Exclamation) h o = refl
 start_at (mark Tilde) h o = refl
@@ -236,33 +227,33 @@ start_at _ h o = absurd h
 
 -- what a type may begin with
 abbrev pub IsTypeFirst : Word → Type 0
-IsTypeFirst (keyword key.Private) = Unit {0}
-IsTypeFirst (keyword key.Readonly) = Unit {0}
-IsTypeFirst (keyword key.Racy) = Unit {0}
-IsTypeFirst (keyword key.Dynamic) = Unit {0}
-IsTypeFirst (keyword key.Locked) = Unit {0}
-IsTypeFirst (keyword key.Int) = Unit {0}
-IsTypeFirst (keyword key.Char) = Unit {0}
-IsTypeFirst (keyword key.Long) = Unit {0}
-IsTypeFirst (keyword key.Mutex) = Unit {0}
-IsTypeFirst (keyword key.Void) = Unit {0}
-IsTypeFirst (keyword key.Struct) = Unit {0}
+IsTypeFirst (keyword Keyword.Private) = Unit {0}
+IsTypeFirst (keyword Keyword.Readonly) = Unit {0}
+IsTypeFirst (keyword Keyword.Racy) = Unit {0}
+IsTypeFirst (keyword Keyword.Dynamic) = Unit {0}
+IsTypeFirst (keyword Keyword.Locked) = Unit {0}
+IsTypeFirst (keyword Keyword.Int) = Unit {0}
+IsTypeFirst (keyword Keyword.Char) = Unit {0}
+IsTypeFirst (keyword Keyword.Long) = Unit {0}
+IsTypeFirst (keyword Keyword.Mutex) = Unit {0}
+IsTypeFirst (keyword Keyword.Void) = Unit {0}
+IsTypeFirst (keyword Keyword.Struct) = Unit {0}
 IsTypeFirst _ = ⊥
 
 sharing_first : (s : Sharing) (y : List Word) → First IsTypeFirst (sharing_words s y)
-sharing_first private y = record { first = keyword key.Private; is_first = tt; rest = _; is = refl }
-sharing_first readonly y = record { first = keyword key.Readonly; is_first = tt; rest = _; is = refl }
-sharing_first racy y = record { first = keyword key.Racy; is_first = tt; rest = _; is = refl }
-sharing_first dynamic y = record { first = keyword key.Dynamic; is_first = tt; rest = _; is = refl }
-sharing_first _ y = record { first = keyword key.Locked; is_first = tt; rest = _; is = refl }
+sharing_first private y = record { first = keyword Keyword.Private; is_first = tt; rest = _; is = refl }
+sharing_first readonly y = record { first = keyword Keyword.Readonly; is_first = tt; rest = _; is = refl }
+sharing_first racy y = record { first = keyword Keyword.Racy; is_first = tt; rest = _; is = refl }
+sharing_first dynamic y = record { first = keyword Keyword.Dynamic; is_first = tt; rest = _; is = refl }
+sharing_first _ y = record { first = keyword Keyword.Locked; is_first = tt; rest = _; is = refl }
 
 base_first : (b : Base) (y : List Word) → First IsTypeFirst (base_words b y)
-base_first base.Int y = record { first = keyword key.Int; is_first = tt; rest = _; is = refl }
-base_first base.Char y = record { first = keyword key.Char; is_first = tt; rest = _; is = refl }
-base_first base.Long y = record { first = keyword key.Long; is_first = tt; rest = _; is = refl }
-base_first base.Mutex y = record { first = keyword key.Mutex; is_first = tt; rest = _; is = refl }
-base_first base.Void y = record { first = keyword key.Void; is_first = tt; rest = _; is = refl }
-base_first (base.Struct n) y = record { first = keyword key.Struct; is_first = tt; rest = _; is = refl }
+base_first Base.Int y = record { first = keyword Keyword.Int; is_first = tt; rest = _; is = refl }
+base_first Base.Char y = record { first = keyword Keyword.Char; is_first = tt; rest = _; is = refl }
+base_first Base.Long y = record { first = keyword Keyword.Long; is_first = tt; rest = _; is = refl }
+base_first Base.Mutex y = record { first = keyword Keyword.Mutex; is_first = tt; rest = _; is = refl }
+base_first Base.Void y = record { first = keyword Keyword.Void; is_first = tt; rest = _; is = refl }
+base_first (Base.Struct n) y = record { first = keyword Keyword.Struct; is_first = tt; rest = _; is = refl }
 
 pub levels_first : (first : Bool) (b : Base) (m : Option Sharing) (below : List (Option Sharing)) (y : List Word) → First IsTypeFirst (levels_words first b m below y)
 levels_first true b None [] y = base_first b _
@@ -275,89 +266,89 @@ list_first first b [] y w = absurd w
 list_first first b (m ∷ below) y w = levels_first first b m below y
 
 pub fields_at : (t : Word) → IsTypeFirst t → (all : List Part) (s : List ℕ) (before : List Declaring) → fields all s before t ≡ begin_type (naming (field_of all s before)) t
-fields_at (keyword key.Private) h all s before = refl
-fields_at (keyword key.Readonly) h all s before = refl
-fields_at (keyword key.Racy) h all s before = refl
-fields_at (keyword key.Dynamic) h all s before = refl
-fields_at (keyword key.Locked) h all s before = refl
-fields_at (keyword key.Int) h all s before = refl
-fields_at (keyword key.Char) h all s before = refl
-fields_at (keyword key.Long) h all s before = refl
-fields_at (keyword key.Mutex) h all s before = refl
-fields_at (keyword key.Void) h all s before = refl
-fields_at (keyword key.Struct) h all s before = refl
+fields_at (keyword Keyword.Private) h all s before = refl
+fields_at (keyword Keyword.Readonly) h all s before = refl
+fields_at (keyword Keyword.Racy) h all s before = refl
+fields_at (keyword Keyword.Dynamic) h all s before = refl
+fields_at (keyword Keyword.Locked) h all s before = refl
+fields_at (keyword Keyword.Int) h all s before = refl
+fields_at (keyword Keyword.Char) h all s before = refl
+fields_at (keyword Keyword.Long) h all s before = refl
+fields_at (keyword Keyword.Mutex) h all s before = refl
+fields_at (keyword Keyword.Void) h all s before = refl
+fields_at (keyword Keyword.Struct) h all s before = refl
 fields_at _ h all s before = absurd h
 
 pub declares_at : (t : Word) → IsTypeFirst t → (p : LinePlace) (o : Outer) → may_declare p o ≡ true → line_start p o t ≡ begin_type (naming (local p o)) t
-declares_at (keyword key.Private) h p o e = ap (λ b. or_else (cond b (begin_type (naming (local p o)) (keyword key.Private)) None) None) e
-declares_at (keyword key.Readonly) h p o e = ap (λ b. or_else (cond b (begin_type (naming (local p o)) (keyword key.Readonly)) None) None) e
-declares_at (keyword key.Racy) h p o e = ap (λ b. or_else (cond b (begin_type (naming (local p o)) (keyword key.Racy)) None) None) e
-declares_at (keyword key.Dynamic) h p o e = ap (λ b. or_else (cond b (begin_type (naming (local p o)) (keyword key.Dynamic)) None) None) e
-declares_at (keyword key.Locked) h p o e = ap (λ b. or_else (cond b (begin_type (naming (local p o)) (keyword key.Locked)) None) None) e
-declares_at (keyword key.Int) h p o e = ap (λ b. or_else (cond b (begin_type (naming (local p o)) (keyword key.Int)) None) None) e
-declares_at (keyword key.Char) h p o e = ap (λ b. or_else (cond b (begin_type (naming (local p o)) (keyword key.Char)) None) None) e
-declares_at (keyword key.Long) h p o e = ap (λ b. or_else (cond b (begin_type (naming (local p o)) (keyword key.Long)) None) None) e
-declares_at (keyword key.Mutex) h p o e = ap (λ b. or_else (cond b (begin_type (naming (local p o)) (keyword key.Mutex)) None) None) e
-declares_at (keyword key.Void) h p o e = ap (λ b. or_else (cond b (begin_type (naming (local p o)) (keyword key.Void)) None) None) e
-declares_at (keyword key.Struct) h p o e = ap (λ b. or_else (cond b (begin_type (naming (local p o)) (keyword key.Struct)) None) None) e
+declares_at (keyword Keyword.Private) h p o e = ap (λ b. or_else (cond b (begin_type (naming (local p o)) (keyword Keyword.Private)) None) None) e
+declares_at (keyword Keyword.Readonly) h p o e = ap (λ b. or_else (cond b (begin_type (naming (local p o)) (keyword Keyword.Readonly)) None) None) e
+declares_at (keyword Keyword.Racy) h p o e = ap (λ b. or_else (cond b (begin_type (naming (local p o)) (keyword Keyword.Racy)) None) None) e
+declares_at (keyword Keyword.Dynamic) h p o e = ap (λ b. or_else (cond b (begin_type (naming (local p o)) (keyword Keyword.Dynamic)) None) None) e
+declares_at (keyword Keyword.Locked) h p o e = ap (λ b. or_else (cond b (begin_type (naming (local p o)) (keyword Keyword.Locked)) None) None) e
+declares_at (keyword Keyword.Int) h p o e = ap (λ b. or_else (cond b (begin_type (naming (local p o)) (keyword Keyword.Int)) None) None) e
+declares_at (keyword Keyword.Char) h p o e = ap (λ b. or_else (cond b (begin_type (naming (local p o)) (keyword Keyword.Char)) None) None) e
+declares_at (keyword Keyword.Long) h p o e = ap (λ b. or_else (cond b (begin_type (naming (local p o)) (keyword Keyword.Long)) None) None) e
+declares_at (keyword Keyword.Mutex) h p o e = ap (λ b. or_else (cond b (begin_type (naming (local p o)) (keyword Keyword.Mutex)) None) None) e
+declares_at (keyword Keyword.Void) h p o e = ap (λ b. or_else (cond b (begin_type (naming (local p o)) (keyword Keyword.Void)) None) None) e
+declares_at (keyword Keyword.Struct) h p o e = ap (λ b. or_else (cond b (begin_type (naming (local p o)) (keyword Keyword.Struct)) None) None) e
 declares_at _ h p o e = absurd h
 
 pub start_declares_at : (t : Word) → IsTypeFirst t → (o : Outer) → start o t ≡ line_start as_statement o t
-start_declares_at (keyword key.Private) h o = refl
-start_declares_at (keyword key.Readonly) h o = refl
-start_declares_at (keyword key.Racy) h o = refl
-start_declares_at (keyword key.Dynamic) h o = refl
-start_declares_at (keyword key.Locked) h o = refl
-start_declares_at (keyword key.Int) h o = refl
-start_declares_at (keyword key.Char) h o = refl
-start_declares_at (keyword key.Long) h o = refl
-start_declares_at (keyword key.Mutex) h o = refl
-start_declares_at (keyword key.Void) h o = refl
-start_declares_at (keyword key.Struct) h o = refl
+start_declares_at (keyword Keyword.Private) h o = refl
+start_declares_at (keyword Keyword.Readonly) h o = refl
+start_declares_at (keyword Keyword.Racy) h o = refl
+start_declares_at (keyword Keyword.Dynamic) h o = refl
+start_declares_at (keyword Keyword.Locked) h o = refl
+start_declares_at (keyword Keyword.Int) h o = refl
+start_declares_at (keyword Keyword.Char) h o = refl
+start_declares_at (keyword Keyword.Long) h o = refl
+start_declares_at (keyword Keyword.Mutex) h o = refl
+start_declares_at (keyword Keyword.Void) h o = refl
+start_declares_at (keyword Keyword.Struct) h o = refl
 start_declares_at _ h o = absurd h
 
 -- Types.
 
 abbrev pub IsModeWord : Word → Type 0
-IsModeWord (keyword key.Private) = Unit {0}
-IsModeWord (keyword key.Readonly) = Unit {0}
-IsModeWord (keyword key.Racy) = Unit {0}
-IsModeWord (keyword key.Dynamic) = Unit {0}
-IsModeWord (keyword key.Locked) = Unit {0}
+IsModeWord (keyword Keyword.Private) = Unit {0}
+IsModeWord (keyword Keyword.Readonly) = Unit {0}
+IsModeWord (keyword Keyword.Racy) = Unit {0}
+IsModeWord (keyword Keyword.Dynamic) = Unit {0}
+IsModeWord (keyword Keyword.Locked) = Unit {0}
 IsModeWord _ = ⊥
 
 mode_reads : (p : ModePlace) (c : Core) → ((t : Word) → IsModeWord t → core_step c t ≡ mode_step p t) → (s : Sharing) (y : List Word) → reads_at (sharing_words s y) c ≡ reads_at y (moded p s)
-mode_reads p c h private y = ap (λ o. then_on o (λ n. reads y n) (Stuck (sharing_words private y))) (h (keyword key.Private) tt)
-mode_reads p c h readonly y = ap (λ o. then_on o (λ n. reads y n) (Stuck (sharing_words readonly y))) (h (keyword key.Readonly) tt)
-mode_reads p c h racy y = ap (λ o. then_on o (λ n. reads y n) (Stuck (sharing_words racy y))) (h (keyword key.Racy) tt)
-mode_reads p c h dynamic y = ap (λ o. then_on o (λ n. reads y n) (Stuck (sharing_words dynamic y))) (h (keyword key.Dynamic) tt)
+mode_reads p c h private y = ap (λ o. then_on o (λ n. reads y n) (Stuck (sharing_words private y))) (h (keyword Keyword.Private) tt)
+mode_reads p c h readonly y = ap (λ o. then_on o (λ n. reads y n) (Stuck (sharing_words readonly y))) (h (keyword Keyword.Readonly) tt)
+mode_reads p c h racy y = ap (λ o. then_on o (λ n. reads y n) (Stuck (sharing_words racy y))) (h (keyword Keyword.Racy) tt)
+mode_reads p c h dynamic y = ap (λ o. then_on o (λ n. reads y n) (Stuck (sharing_words dynamic y))) (h (keyword Keyword.Dynamic) tt)
 mode_reads p c h (locked m) y =
-    ap (λ o. then_on o (λ n. reads (mark OpenParenthesis ∷ (name m ∷ (mark CloseParenthesis ∷ y))) n) (Stuck (sharing_words (locked m) y))) (h (keyword key.Locked) tt)
+    ap (λ o. then_on o (λ n. reads (mark OpenParenthesis ∷ (name m ∷ (mark CloseParenthesis ∷ y))) n) (Stuck (sharing_words (locked m) y))) (h (keyword Keyword.Locked) tt)
 mode_reads p c h (locked_through x m) y =
-    ap (λ o. then_on o (λ n. reads (mark OpenParenthesis ∷ (name x ∷ (mark Arrow ∷ (name m ∷ (mark CloseParenthesis ∷ y))))) n) (Stuck (sharing_words (locked_through x m) y))) (h (keyword key.Locked) tt)
+    ap (λ o. then_on o (λ n. reads (mark OpenParenthesis ∷ (name x ∷ (mark Arrow ∷ (name m ∷ (mark CloseParenthesis ∷ y))))) n) (Stuck (sharing_words (locked_through x m) y))) (h (keyword Keyword.Locked) tt)
 
 mode_first_at : (p : TypePlace) → takes_modes p ≡ true → (t : Word) → IsModeWord t → begin_type p t ≡ mode_step (before_base p) t
-mode_first_at p e (keyword key.Private) h = ap (λ b. or_else (cond b (mode_step (before_base p) (keyword key.Private)) None) None) e
-mode_first_at p e (keyword key.Readonly) h = ap (λ b. or_else (cond b (mode_step (before_base p) (keyword key.Readonly)) None) None) e
-mode_first_at p e (keyword key.Racy) h = ap (λ b. or_else (cond b (mode_step (before_base p) (keyword key.Racy)) None) None) e
-mode_first_at p e (keyword key.Dynamic) h = ap (λ b. or_else (cond b (mode_step (before_base p) (keyword key.Dynamic)) None) None) e
-mode_first_at p e (keyword key.Locked) h = ap (λ b. or_else (cond b (mode_step (before_base p) (keyword key.Locked)) None) None) e
+mode_first_at p e (keyword Keyword.Private) h = ap (λ b. or_else (cond b (mode_step (before_base p) (keyword Keyword.Private)) None) None) e
+mode_first_at p e (keyword Keyword.Readonly) h = ap (λ b. or_else (cond b (mode_step (before_base p) (keyword Keyword.Readonly)) None) None) e
+mode_first_at p e (keyword Keyword.Racy) h = ap (λ b. or_else (cond b (mode_step (before_base p) (keyword Keyword.Racy)) None) None) e
+mode_first_at p e (keyword Keyword.Dynamic) h = ap (λ b. or_else (cond b (mode_step (before_base p) (keyword Keyword.Dynamic)) None) None) e
+mode_first_at p e (keyword Keyword.Locked) h = ap (λ b. or_else (cond b (mode_step (before_base p) (keyword Keyword.Locked)) None) None) e
 mode_first_at p e _ h = absurd h
 
 mode_at : (p : TypePlace) (first : Bool) (b : Base) (below : List (Option Sharing)) → takes_modes p ≡ true → (t : Word) → IsModeWord t → typed p first b None below t ≡ mode_step (at_level p first b below) t
-mode_at p first b below e (keyword key.Private) h = ap (λ c. cond c (mode_step (at_level p first b below) (keyword key.Private)) None) e
-mode_at p first b below e (keyword key.Readonly) h = ap (λ c. cond c (mode_step (at_level p first b below) (keyword key.Readonly)) None) e
-mode_at p first b below e (keyword key.Racy) h = ap (λ c. cond c (mode_step (at_level p first b below) (keyword key.Racy)) None) e
-mode_at p first b below e (keyword key.Dynamic) h = ap (λ c. cond c (mode_step (at_level p first b below) (keyword key.Dynamic)) None) e
-mode_at p first b below e (keyword key.Locked) h = ap (λ c. cond c (mode_step (at_level p first b below) (keyword key.Locked)) None) e
+mode_at p first b below e (keyword Keyword.Private) h = ap (λ c. cond c (mode_step (at_level p first b below) (keyword Keyword.Private)) None) e
+mode_at p first b below e (keyword Keyword.Readonly) h = ap (λ c. cond c (mode_step (at_level p first b below) (keyword Keyword.Readonly)) None) e
+mode_at p first b below e (keyword Keyword.Racy) h = ap (λ c. cond c (mode_step (at_level p first b below) (keyword Keyword.Racy)) None) e
+mode_at p first b below e (keyword Keyword.Dynamic) h = ap (λ c. cond c (mode_step (at_level p first b below) (keyword Keyword.Dynamic)) None) e
+mode_at p first b below e (keyword Keyword.Locked) h = ap (λ c. cond c (mode_step (at_level p first b below) (keyword Keyword.Locked)) None) e
 mode_at p first b below e _ h = absurd h
 
 base_reads : (p : TypePlace) (b : Base) (y : List Word) → reads_at (base_words b y) (TypeWant p) ≡ reads_at y (based p None b)
-base_reads p (base.Struct s) y = ap (λ o. then_on o (λ n. reads (name s ∷ y) n) (Stuck (base_words (base.Struct s) y))) (idle (takes_modes p) (to (StructWant p None)))
+base_reads p (Base.Struct s) y = ap (λ o. then_on o (λ n. reads (name s ∷ y) n) (Stuck (base_words (Base.Struct s) y))) (idle (takes_modes p) (to (StructWant p None)))
 base_reads p k y = ap (λ o. then_on o (λ n. reads y n) (Stuck (base_words k y))) (idle (takes_modes p) _)
 
 base_reads_after : (p : TypePlace) (m : Sharing) (b : Base) (y : List Word) → reads_at (base_words b y) (ModeFirst p m) ≡ reads_at y (based p (Some m) b)
-base_reads_after p m (base.Struct s) y = refl
+base_reads_after p m (Base.Struct s) y = refl
 base_reads_after p m _ y = refl
 
 -- where no modes are taken none is written
@@ -415,22 +406,22 @@ size_read v c o first b (m ∷ below) w h y = levels_read (sizing v c o) first b
 -- Expressions.
 
 constant_reads : (c : Constant) (k : Cont) (y : List Word) → reads_at (constant_word c ∷ y) (Want k) ≡ reads_at y (Have (constant c) k)
-constant_reads (constants.Number n) k y = refl
+constant_reads (Constant.Number n) k y = refl
 constant_reads _ k y = refl
 
 front_reads : (f : Front) → FitsFront f → (k : Cont) (y : List Word) → reads_at (front_words f y) (Want k) ≡ reads_at y (Want (fronted f k))
-front_reads (of_value value_call.Join) w k y = refl
-front_reads (of_place place_call.Lock) w k y = refl
+front_reads (of_value ValueCall.Join) w k y = refl
+front_reads (of_place PlaceCall.Lock) w k y = refl
 front_reads (of_cast t) w k y = cast_read k t.mode_first t.base t.levels w y
 front_reads _ w k y = refl
 
 access_reads : (a : FieldOperator) (x : Phrase) (n : List ℕ) (k : Cont) (y : List Word) → reads_at (mark (access_mark a) ∷ (name n ∷ y)) (Have x k) ≡ reads_at y (Have (field x a n) k)
-access_reads access.Dot x n k y = refl
-access_reads access.Arrow x n k y = refl
+access_reads FieldOperator.Dot x n k y = refl
+access_reads FieldOperator.Arrow x n k y = refl
 
 access_grip : (a : FieldOperator) → grip_of (role (mark (access_mark a))) ≡ 12
-access_grip access.Dot = refl
-access_grip access.Arrow = refl
+access_grip FieldOperator.Dot = refl
+access_grip FieldOperator.Arrow = refl
 
 -- the first word of an argument is no `)`
 pub opens : (x : Phrase) (f : List ℕ) (k : Cont) (y : List Word) → reads_at (words x y) (Called f k) ≡ reads_at (words x y) (Want (arguments f none k))

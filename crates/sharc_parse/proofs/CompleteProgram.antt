@@ -1,11 +1,5 @@
 -- The machine reads each statement and each program that fits.
-use Rattle.std.proofs.Common.{◌≡◌, ℕ, ◌≤◌, List, [], ◌∷◌, ◌++◌, Option, Some, None, refl, sym, ap, ◌∙◌, arith, subst, Bool, true, false, cond, append_assoc, append-nil}
-use Rattle.sharc_tree.specs.declared.token.Keyword.TheVariants as key
-use Rattle.sharc_tree.specs.{declared.token.Punctuator.TheVariants.{OpenParenthesis, CloseParenthesis, OpenBrace, CloseBrace, Semicolon, Star}, declared.tree.statement.Jump.Jump, declared.tree.expression.Constant.Constant}
-use Rattle.sharc_tree.specs.declared.tree.statement.Jump.TheVariants as jumps
-use Rattle.sharc_tree.specs.declared.tree.expression.Constant.TheVariants as constants
-use Rattle.sharc_parse.specs.{Grammar.{Word, name, keyword, mark, Typing, Declaring, declaring_words, FitsType, Phrase, enclosed, call, constant_word, words, level, Fits, Value, value, malloc, Doing, assign, invoke, Line, nothing, does, declares, Sentence, line, jump, return, block, under, Sentences, no_more, sentence, Opening, if_of, else_of, while_of, for_of, option_words, count_words, value_words, doing_words, initial_words, line_words, step_words, jump_word, written, written_all, opening_words, is_call, is_declaring, is_declaration, takes_else, FitsOption, FitsCount, FitsValue, FitsDoing, FitsInitial, FitsLine, FitsStep, FitsAs, FitAllAs, FitsOpening, Form, initially, Part, structure, global, function, form_words, fields_words, further_words, parameters_words, part_words, program_words, FitAllDeclaring, FitsForm, FitsFields, FitsPart, IsProgram}, Machine.{Outer, body, items, inside, LinePlace, as_statement, as_first, DoingPlace, in_line, as_step, ValuePlace, of_doing, of_local, by_if, by_while, condition, returning, testing, subject, valued, counting, part, on_top, field_of, parameter_of, local, naming, sizing, Core, Want, Have, Start, Done, Returning, ForOpen, ForTest, ForStep, Malloced, Valued, TypeWant, Named, Fields, InitialWant, Top, State, At, to, grip, want, lined, loop, doing_end, local_line, begin_type, declaring_of, with_part, with_declaring, fields, with_item, holds_items, may_declare, is_else, done, core_step, Read, Stuck, then_on, reads, reads_at}}
-use Rattle.sharc_parse.proofs.Complete.{IsFirst, IsTypeFirst, first, doing_first, list_first, same_step, returned_at, test_at, step_at, malloced_at, line_start_at, start_at, start_declares_at, declares_at, fields_at, never, reads_declaring, size_read, reads_phrase}
+use Rattle.sharc_parse.proofs.{Imports.{◌≡◌, ℕ, ◌≤◌, List, [], ◌∷◌, ◌++◌, Option, Some, None, refl, sym, ap, ◌∙◌, arith, subst, Bool, true, false, cond, append_assoc, append-nil, Keyword, OpenParenthesis, CloseParenthesis, OpenBrace, CloseBrace, Semicolon, Star, Jump, Constant, Word, name, keyword, mark, Typing, Declaring, declaring_words, FitsType, Phrase, enclosed, call, constant_word, words, level, Fits, Value, value, malloc, Doing, assign, invoke, Line, nothing, does, declares, Sentence, line, jump, return, block, under, Sentences, no_more, sentence, Opening, if_of, else_of, while_of, for_of, option_words, count_words, value_words, doing_words, initial_words, line_words, step_words, jump_word, written, written_all, opening_words, is_call, is_declaring, is_declaration, takes_else, FitsOption, FitsCount, FitsValue, FitsDoing, FitsInitial, FitsLine, FitsStep, FitsAs, FitAllAs, FitsOpening, Form, initially, Part, structure, global, function, form_words, fields_words, further_words, parameters_words, part_words, program_words, FitAllDeclaring, FitsForm, FitsFields, FitsPart, IsProgram, Outer, body, items, inside, LinePlace, as_statement, as_first, DoingPlace, in_line, as_step, ValuePlace, of_doing, of_local, by_if, by_while, condition, returning, testing, subject, valued, counting, part, on_top, field_of, parameter_of, local, naming, sizing, Core, Want, Have, Start, Done, Returning, ForOpen, ForTest, ForStep, Malloced, Valued, TypeWant, Named, Fields, InitialWant, Top, State, At, to, grip, want, lined, loop, doing_end, local_line, begin_type, declaring_of, with_part, with_declaring, fields, with_item, holds_items, may_declare, is_else, done, core_step, Read, Stuck, then_on, reads, reads_at}, Complete.{IsFirst, IsTypeFirst, first, doing_first, list_first, same_step, returned_at, test_at, step_at, malloced_at, line_start_at, start_at, start_declares_at, declares_at, fields_at, never, reads_declaring, size_read, reads_phrase}}
 
 pub data Ender : Type 0 where
   by_semicolon : Ender
@@ -24,10 +18,10 @@ abbrev pub doing_done : DoingPlace → Doing → Outer → State
 doing_done (in_line p) x o = lined p (does x) o
 doing_done (as_step l test) x o = At [] (Start (inside (loop l test (Some x)) o))
 
-count_reads : (n : Option Phrase) → FitsCount n → (v : ValuePlace) (o : Outer) (y : List Word) → reads_at (keyword key.Malloc ∷ (mark OpenParenthesis ∷ count_words n (keyword key.Sizeof ∷ (mark OpenParenthesis ∷ y)))) (Want (part (valued v) o)) ≡ reads_at y (TypeWant (sizing v n o))
+count_reads : (n : Option Phrase) → FitsCount n → (v : ValuePlace) (o : Outer) (y : List Word) → reads_at (keyword Keyword.Malloc ∷ (mark OpenParenthesis ∷ count_words n (keyword Keyword.Sizeof ∷ (mark OpenParenthesis ∷ y)))) (Want (part (valued v) o)) ≡ reads_at y (TypeWant (sizing v n o))
 count_reads None w v o y = refl
 count_reads (Some x) w v o y =
-    let z = mark Star ∷ (keyword key.Sizeof ∷ (mark OpenParenthesis ∷ y)) in
+    let z = mark Star ∷ (keyword Keyword.Sizeof ∷ (mark OpenParenthesis ∷ y)) in
     let h = first x z in
     same_step IsFirst (words x z) h (Malloced v o) (Want (part (counting v) o)) (malloced_at h.first h.is_first v o)
     ∙ reads_phrase x w.1 (part (counting v) o) w.0 z (omega arith)
@@ -123,8 +117,8 @@ return_reads (Some x) w o y =
     ∙ reads_phrase x w (part returning o) (omega arith) _ (omega arith)
 
 jump_reads : (j : Jump) (o : Outer) (y : List Word) → reads_at (jump_word j ∷ (mark Semicolon ∷ y)) (Start o) ≡ reads_at y (Done (jump j) o)
-jump_reads jumps.Break o y = refl
-jump_reads jumps.Continue o y = refl
+jump_reads Jump.Break o y = refl
+jump_reads Jump.Continue o y = refl
 
 -- no `else`
 abbrev pub NoElse : List Word → Type 0
@@ -132,11 +126,11 @@ NoElse [] = Unit {0}
 NoElse (t ∷ y) = is_else t ≡ false
 
 else_first : (t : Word) → IsFirst t → is_else t ≡ false
-else_first (keyword key.Else) h = absurd h
+else_first (keyword Keyword.Else) h = absurd h
 else_first _ h = refl
 
 else_type : (t : Word) → IsTypeFirst t → is_else t ≡ false
-else_type (keyword key.Else) h = absurd h
+else_type (keyword Keyword.Else) h = absurd h
 else_type _ h = refl
 
 no_else_doing : (x : Doing) (y : List Word) → NoElse (doing_words x y)
@@ -152,7 +146,7 @@ no_else_line (declares l) w y =
 
 no_else : (s : Sentence) → FitsAs s → (y : List Word) → NoElse (written s y)
 no_else (line l) w y = no_else_line l w y
-no_else (jump jumps.Break) w y = refl
+no_else (jump Jump.Break) w y = refl
 no_else (under (if_of e) s) w y = refl
 no_else _ w y = refl
 
@@ -253,11 +247,11 @@ struct_reads (d ∷ rest) w all n y =
     ∙ reads_fields rest w.1 all n (d ∷ []) y
 
 initial_constant : (c : Constant) (all : List Part) (d : Declaring) (y : List Word) → reads_at (constant_word c ∷ (mark Semicolon ∷ y)) (InitialWant all d) ≡ reads_at y (Top (with_part all (global d (initially false c))))
-initial_constant (constants.Number n) all d y = refl
+initial_constant (Constant.Number n) all d y = refl
 initial_constant _ all d y = refl
 
 form_reads : (form : Form) → FitsForm form → (all : List Part) (d : Declaring) (y : List Word) → reads_at (form_words form (mark Semicolon ∷ y)) (Named (on_top all) d.typing d.named) ≡ reads_at y (Top (with_part all (global d form)))
-form_reads (initially true constants.Null) w all d y = absurd w
+form_reads (initially true Constant.Null) w all d y = absurd w
 form_reads (initially false c) w all d y = initial_constant c all d y
 form_reads _ w all d y = refl
 

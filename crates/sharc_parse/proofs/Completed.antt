@@ -1,12 +1,5 @@
 -- Each state of the machine that fits has a completion, and one within the limits where the state is within them.
-use Rattle.std.proofs.Common.{◌≡◌, ℕ, ◌+◌, ◌≤◌, ◌<◌, List, [], ◌∷◌, length, Option, Some, None, refl, ap, ◌∙◌, arith, Bool, true, false}
-use Rattle.std.specs.Prelude.{max, pos}
-use Rattle.sharc_tree.specs.{declared.token.NumberType.TheVariants.Int, declared.token.Punctuator.TheVariants.{OpenParenthesis, CloseParenthesis, OpenBrace, CloseBrace, CloseBracket, Semicolon, Comma, Assign, Star}, declared.ctype.Base.Base}
-use Rattle.sharc_tree.specs.declared.token.Keyword.TheVariants as key
-use Rattle.sharc_tree.specs.declared.ctype.Base.TheVariants as base
-use Rattle.sharc_tree.specs.declared.tree.expression.Constant.TheVariants as constants
-use Rattle.sharc_parse.specs.{Grammar.{Word, name, keyword, mark, number, character, Sharing, locked, locked_through, Typing, Declaring, sharing_words, level_words, base_words, type_words, declaring_words, FitsType, IsPlain, of_spawn, of_cast, Phrase, constant, enclosed, call, index, field, unary, binary, Phrases, none, more, words, level, Fits, Value, value, malloc, Doing, assign, Line, nothing, does, Sentence, line, return, block, under, Sentences, no_more, sentence, if_of, while_of, value_words, doing_words, line_words, loop_words, written, written_all, opening_words, is_declaring, is_declaration, FitsOption, FitsValue, FitsDoing, FitsLine, FitsStep, FitsAs, Form, single, array, initially, Part, structure, global, parameters_words, part_words, program_words, FitsForm, FitsPart, IsProgram}, Machine.{Outer, body, items, inside, LinePlace, as_statement, as_first, DoingPlace, in_line, as_step, ValuePlace, of_doing, of_local, Asked, by_if, by_while, ExpressionPlace, condition, returning, testing, subject, valued, counting, Cont, part, beneath, right_of, fronted, indexing, arguments, NamePlace, on_top, field_of, parameter_of, local, TypePlace, naming, casting, sizing, ModePlace, before_base, at_level, Core, Want, Have, Called, Dotted, Spawning, Start, Done, Returning, ForOpen, ForTest, ForStep, Malloced, Valued, TypeWant, ModeFirst, StructWant, Typed, PathWant, PathNamed, PathThrough, Named, Fields, ArrayWant, InitialWant, InitialNegative, Top, with_last, floor, loop, local_line, typing_of, takes_modes, moded, based, declaring_of, with_part, with_declaring, fields, with_item, function_of, may_declare}, Limits.{height, highest, FewStars, FewFront, Few, FewAll, Low, LowOption, LowValue, LowDoing, LowInitial, LowLine, LowStep, LowSentence, LowAll, LowOpening, line_nesting, nesting, deepest, nesting_before, FewGiven, LowPart, LowProgram, depth, around_it}, Operators.floor_most}
-use Rattle.sharc_parse.proofs.{CompleteProgram.MayStand, Sound.{outside, line_place_words, doing_place_words, value_place_words, around, struct_words, name_place_words, type_place_words, mode_place_words, so_far, Outside, DoingAt, ValueAt, Around, NameAt, TypeAt, ModeAt, BaseAt, Sound, program_more, is_program_more, parameters_more, declaring_more, some_field, list_more, all_more, items_more, fit_more, may, moded_sound, moded_says, fields_more, based_sound, is_statement}}
+use Rattle.sharc_parse.proofs.{Imports.{◌≡◌, ℕ, ◌+◌, ◌≤◌, ◌<◌, List, [], ◌∷◌, length, Option, Some, None, refl, ap, ◌∙◌, arith, Bool, true, false, max, pos, Int, OpenParenthesis, CloseParenthesis, OpenBrace, CloseBrace, CloseBracket, Semicolon, Comma, Assign, Star, Base, Keyword, Constant, Word, name, keyword, mark, number, character, Sharing, locked, locked_through, Typing, Declaring, sharing_words, level_words, base_words, type_words, declaring_words, FitsType, IsPlain, of_spawn, of_cast, Phrase, constant, enclosed, call, index, field, unary, binary, Phrases, none, more, words, level, Fits, Value, value, malloc, Doing, assign, Line, nothing, does, Sentence, line, return, block, under, Sentences, no_more, sentence, if_of, while_of, value_words, doing_words, line_words, loop_words, written, written_all, opening_words, is_declaring, is_declaration, FitsOption, FitsValue, FitsDoing, FitsLine, FitsStep, FitsAs, Form, single, array, initially, Part, structure, global, parameters_words, part_words, program_words, FitsForm, FitsPart, IsProgram, Outer, body, items, inside, LinePlace, as_statement, as_first, DoingPlace, in_line, as_step, ValuePlace, of_doing, of_local, Asked, by_if, by_while, ExpressionPlace, condition, returning, testing, subject, valued, counting, Cont, part, beneath, right_of, fronted, indexing, arguments, NamePlace, on_top, field_of, parameter_of, local, TypePlace, naming, casting, sizing, ModePlace, before_base, at_level, Core, Want, Have, Called, Dotted, Spawning, Start, Done, Returning, ForOpen, ForTest, ForStep, Malloced, Valued, TypeWant, ModeFirst, StructWant, Typed, PathWant, PathNamed, PathThrough, Named, Fields, ArrayWant, InitialWant, InitialNegative, Top, with_last, floor, loop, local_line, typing_of, takes_modes, moded, based, declaring_of, with_part, with_declaring, fields, with_item, function_of, may_declare, height, highest, FewStars, FewFront, Few, FewAll, Low, LowOption, LowValue, LowDoing, LowInitial, LowLine, LowStep, LowSentence, LowAll, LowOpening, line_nesting, nesting, deepest, nesting_before, FewGiven, LowPart, LowProgram, depth, around_it, floor_most}, CompleteProgram.MayStand, Sound.{outside, line_place_words, doing_place_words, value_place_words, around, struct_words, name_place_words, type_place_words, mode_place_words, so_far, Outside, DoingAt, ValueAt, Around, NameAt, TypeAt, ModeAt, BaseAt, Sound, program_more, is_program_more, parameters_more, declaring_more, some_field, list_more, all_more, items_more, fit_more, may, moded_sound, moded_says, fields_more, based_sound, is_statement}}
 
 -- what is around it is within the limits
 
@@ -225,10 +218,10 @@ complete_value (of_local p d) r o w h a =
     (λ y. refl) (λ l. low_declares p d (Some r) o l.1.1 l.0 l.1.0 (around_most o l.2) l.2) (complete_line p (local_line d (Some r)) o (h.1, w) (λ _. h.0) a)
 
 abbrev nought : Phrase
-nought = constant constants.Null
+nought = constant Constant.Null
 
 abbrev plain_int : Typing
-plain_int = typing_of false base.Int None []
+plain_int = typing_of false Base.Int None []
 
 complete_condition : (q : Asked) (o : Outer) (x : Phrase) → Fits x → Outside o → Completed (λ y. around (part (condition q) o) (words x y)) (Low x × (around_it o < 63) × LowOuter o)
 complete_condition by_if o x w a =
@@ -247,11 +240,11 @@ complete_place (testing l) o x w f a =
     onward (λ y. around (part (testing l) o) (words x y)) (λ y. outside o (loop_words (record { first = l; test = Some x; step = None }) y)) (Low x × LowPlace (testing l) o × LowOuter o) (LowLine l × Low x × Unit {0} × (around_it o < 63) × LowOuter o) (λ y. mark Semicolon ∷ (mark CloseParenthesis ∷ y))
     (λ y. refl) (λ h. (h.1.0, h.0, tt, h.1.1, h.2)) (complete_loop l (Some x) None o a.0 w tt a.1)
 complete_place (subject d) o x w f a =
-    onward (λ y. around (part (subject d) o) (words x y)) (λ y. outside o (doing_place_words d (doing_words (assign x (value nought)) y))) (Low x × LowPlace (subject d) o × LowOuter o) (LowDoing (assign x (value nought)) × LowDoingPlace d o × LowOuter o) (λ y. mark Assign ∷ (keyword key.Null ∷ y))
+    onward (λ y. around (part (subject d) o) (words x y)) (λ y. outside o (doing_place_words d (doing_words (assign x (value nought)) y))) (Low x × LowPlace (subject d) o × LowOuter o) (LowDoing (assign x (value nought)) × LowDoingPlace d o × LowOuter o) (λ y. mark Assign ∷ (keyword Keyword.Null ∷ y))
     (λ y. refl) (λ l. ((l.0, (omega arith, tt)), l.1, l.2)) (complete_doing d (assign x (value nought)) o (f, w, tt) a.0 a.1)
 complete_place (valued v) o x w f a = complete_value v (value x) o w a.0 a.1
 complete_place (counting v) o x w f a =
-    onward (λ y. around (part (counting v) o) (words x y)) (λ y. outside o (value_place_words v (value_words (malloc (Some x) plain_int) y))) (Low x × LowPlace (counting v) o × LowOuter o) (LowValue (malloc (Some x) plain_int) × LowValuePlace v o × LowOuter o) (λ y. mark Star ∷ (keyword key.Sizeof ∷ (mark OpenParenthesis ∷ (keyword key.Int ∷ (mark CloseParenthesis ∷ (mark CloseParenthesis ∷ y))))))
+    onward (λ y. around (part (counting v) o) (words x y)) (λ y. outside o (value_place_words v (value_words (malloc (Some x) plain_int) y))) (Low x × LowPlace (counting v) o × LowOuter o) (LowValue (malloc (Some x) plain_int) × LowValuePlace v o × LowOuter o) (λ y. mark Star ∷ (keyword Keyword.Sizeof ∷ (mark OpenParenthesis ∷ (keyword Keyword.Int ∷ (mark CloseParenthesis ∷ (mark CloseParenthesis ∷ y))))))
     (λ y. refl) (λ l. ((l.0, omega arith), l.1, l.2)) (complete_value v (malloc (Some x) plain_int) o ((f, w), tt, (refl, tt)) a.0 a.1)
 
 complete : (k : Cont) (x : Phrase) → Fits x → floor k ≤ level x → Around k → Completed (λ y. around k (words x y)) ((depth k + height x ≤ 64) × Few x × LowAround k)
@@ -281,7 +274,7 @@ complete_name (on_top all) d a w =
     (λ y. refl) (λ l. (l.1, l.0)) (complete_part all (global d single) a (w, tt))
 complete_name (field_of all s before) d a w =
     onward (λ y. struct_words all s before (declaring_words d y)) (λ y. program_words all (part_words (structure s (with_declaring before d)) y)) (FewStars d.typing × (LowProgram all × FewGiven before)) (LowProgram all × FewGiven (with_declaring before d)) (λ y. mark Semicolon ∷ (mark CloseBrace ∷ (mark Semicolon ∷ y)))
-    (λ y. ap (λ z. program_words all (keyword key.Struct ∷ (name s ∷ (mark OpenBrace ∷ z)))) (fields_more before d (mark CloseBrace ∷ (mark Semicolon ∷ y))))
+    (λ y. ap (λ z. program_words all (keyword Keyword.Struct ∷ (name s ∷ (mark OpenBrace ∷ z)))) (fields_more before d (mark CloseBrace ∷ (mark Semicolon ∷ y))))
     (λ l. (l.1.0, few_given_more before d l.1.1 l.0)) (complete_part all (structure s (with_declaring before d)) a.0 (some_field before d a.1 w))
 complete_name (parameter_of all r f given) d a w =
     onward (λ y. name_place_words (parameter_of all r f given) (declaring_words d y)) (outside (body all r f (with_declaring given d) no_more)) (FewStars d.typing × (LowProgram all × FewStars r × FewGiven given)) (LowOuter (body all r f (with_declaring given d) no_more)) (λ y. mark CloseParenthesis ∷ (mark OpenBrace ∷ y))
@@ -300,7 +293,7 @@ complete_type (naming p) ty a w h =
     onward (λ y. name_place_words p (type_words ty y)) (λ y. name_place_words p (declaring_words (declaring_of ty x_name) y)) (FewStars ty × LowName p) (FewStars ty × LowName p) (λ y. name x_name ∷ y)
     (λ y. refl) (λ l. l) (complete_name p (declaring_of ty x_name) a w)
 complete_type (casting k) ty a w h =
-    onward (λ y. around k (keyword key.Scast ∷ (mark OpenParenthesis ∷ type_words ty y))) (λ y. around k (words (enclosed (of_cast ty) nought) y)) (FewStars ty × LowType (casting k)) ((depth k + (0 + 1) ≤ 64) × (FewStars ty × Unit {0}) × LowAround k) (λ y. mark Comma ∷ (keyword key.Null ∷ (mark CloseParenthesis ∷ y)))
+    onward (λ y. around k (keyword Keyword.Scast ∷ (mark OpenParenthesis ∷ type_words ty y))) (λ y. around k (words (enclosed (of_cast ty) nought) y)) (FewStars ty × LowType (casting k)) ((depth k + (0 + 1) ≤ 64) × (FewStars ty × Unit {0}) × LowAround k) (λ y. mark Comma ∷ (keyword Keyword.Null ∷ (mark CloseParenthesis ∷ y)))
     (λ y. refl) (λ l. (omega (arith, l.1.0), (l.0, tt), l.1.1)) (complete k (enclosed (of_cast ty) nought) (w, omega arith, tt) (omega (arith, floor_most k)) a)
 complete_type (sizing v n o) ty a w h =
     onward (λ y. type_place_words (sizing v n o) (type_words ty y)) (λ y. outside o (value_place_words v (value_words (malloc n ty) y))) (FewStars ty × LowType (sizing v n o)) ((LowOption n × FewStars ty) × LowValuePlace v o × LowOuter o) (λ y. mark CloseParenthesis ∷ (mark CloseParenthesis ∷ y))
@@ -309,21 +302,21 @@ complete_type (sizing v n o) ty a w h =
 complete_typed : (p : TypePlace) (first : Bool) (b : Base) (m : Option Sharing) (below : List (Option Sharing)) → Sound (Typed p first b m below) → Completed (so_far (Typed p first b m below)) (LowCore (Typed p first b m below))
 complete_typed p first b m below a = complete_type p (typing_of first b m below) a.0 a.1 a.2
 
-complete_based : (p : TypePlace) (m : Option Sharing) → TypeAt p → BaseAt p m → Completed (λ y. type_place_words p (level_words m (base_words base.Int y))) (LowType p)
+complete_based : (p : TypePlace) (m : Option Sharing) → TypeAt p → BaseAt p m → Completed (λ y. type_place_words p (level_words m (base_words Base.Int y))) (LowType p)
 complete_based p None a h =
-    onward (λ y. type_place_words p (base_words base.Int y)) (so_far (based p None base.Int)) (LowType p) (LowCore (based p None base.Int)) (λ y. y) (λ y. refl) (λ l. (omega arith, l)) (complete_typed p false base.Int None [] (based_sound p None base.Int a h))
+    onward (λ y. type_place_words p (base_words Base.Int y)) (so_far (based p None Base.Int)) (LowType p) (LowCore (based p None Base.Int)) (λ y. y) (λ y. refl) (λ l. (omega arith, l)) (complete_typed p false Base.Int None [] (based_sound p None Base.Int a h))
 complete_based p (Some s) a h =
-    onward (λ y. type_place_words p (level_words (Some s) (base_words base.Int y))) (so_far (based p (Some s) base.Int)) (LowType p) (LowCore (based p (Some s) base.Int)) (λ y. y) (λ y. refl) (λ l. (omega arith, l)) (complete_typed p true base.Int (Some s) [] (based_sound p (Some s) base.Int a h))
+    onward (λ y. type_place_words p (level_words (Some s) (base_words Base.Int y))) (so_far (based p (Some s) Base.Int)) (LowType p) (LowCore (based p (Some s) Base.Int)) (λ y. y) (λ y. refl) (λ l. (omega arith, l)) (complete_typed p true Base.Int (Some s) [] (based_sound p (Some s) Base.Int a h))
 
-complete_struct : (p : TypePlace) (m : Option Sharing) → TypeAt p → BaseAt p m → Completed (λ y. type_place_words p (level_words m (base_words (base.Struct x_name) y))) (LowType p)
+complete_struct : (p : TypePlace) (m : Option Sharing) → TypeAt p → BaseAt p m → Completed (λ y. type_place_words p (level_words m (base_words (Base.Struct x_name) y))) (LowType p)
 complete_struct p None a h =
-    onward (λ y. type_place_words p (base_words (base.Struct x_name) y)) (so_far (based p None (base.Struct x_name))) (LowType p) (LowCore (based p None (base.Struct x_name))) (λ y. y) (λ y. refl) (λ l. (omega arith, l)) (complete_typed p false (base.Struct x_name) None [] (based_sound p None (base.Struct x_name) a h))
+    onward (λ y. type_place_words p (base_words (Base.Struct x_name) y)) (so_far (based p None (Base.Struct x_name))) (LowType p) (LowCore (based p None (Base.Struct x_name))) (λ y. y) (λ y. refl) (λ l. (omega arith, l)) (complete_typed p false (Base.Struct x_name) None [] (based_sound p None (Base.Struct x_name) a h))
 complete_struct p (Some s) a h =
-    onward (λ y. type_place_words p (level_words (Some s) (base_words (base.Struct x_name) y))) (so_far (based p (Some s) (base.Struct x_name))) (LowType p) (LowCore (based p (Some s) (base.Struct x_name))) (λ y. y) (λ y. refl) (λ l. (omega arith, l)) (complete_typed p true (base.Struct x_name) (Some s) [] (based_sound p (Some s) (base.Struct x_name) a h))
+    onward (λ y. type_place_words p (level_words (Some s) (base_words (Base.Struct x_name) y))) (so_far (based p (Some s) (Base.Struct x_name))) (LowType p) (LowCore (based p (Some s) (Base.Struct x_name))) (λ y. y) (λ y. refl) (λ l. (omega arith, l)) (complete_typed p true (Base.Struct x_name) (Some s) [] (based_sound p (Some s) (Base.Struct x_name) a h))
 
 complete_first : (p : TypePlace) (s : Sharing) → TypeAt p → takes_modes p ≡ true → Completed (so_far (ModeFirst p s)) (LowType p)
 complete_first p s a h =
-    onward (so_far (ModeFirst p s)) (λ y. type_place_words p (level_words (Some s) (base_words base.Int y))) (LowType p) (LowType p) (λ y. keyword key.Int ∷ y) (λ y. refl) (λ l. l) (complete_based p (Some s) a h)
+    onward (so_far (ModeFirst p s)) (λ y. type_place_words p (level_words (Some s) (base_words Base.Int y))) (LowType p) (LowType p) (λ y. keyword Keyword.Int ∷ y) (λ y. refl) (λ l. l) (complete_based p (Some s) a h)
 
 complete_moded : (p : ModePlace) (s : Sharing) → ModeAt p → Completed (so_far (moded p s)) (LowMode p)
 complete_moded (before_base p) s a = complete_first p s a.0 a.1
@@ -356,7 +349,7 @@ depth_most _ l = omega (arith, l.0)
 
 pub completed : (c : Core) → Sound c → Completed (so_far c) (LowCore c)
 completed (Want k) a =
-    onward (so_far (Want k)) (λ y. around k (words nought y)) (LowAround k) ((depth k + 0 ≤ 64) × Unit {0} × LowAround k) (λ y. keyword key.Null ∷ y)
+    onward (so_far (Want k)) (λ y. around k (words nought y)) (LowAround k) ((depth k + 0 ≤ 64) × Unit {0} × LowAround k) (λ y. keyword Keyword.Null ∷ y)
     (λ y. refl) (λ l. (omega (arith, depth_most k l), tt, l)) (complete k nought tt (omega (arith, floor_most k)) a)
 completed (Have x k) a = complete k x a.1 (omega (arith, floor_most k, a.0)) a.2
 completed (Called f k) a =
@@ -366,7 +359,7 @@ completed (Dotted x w k) a =
     onward (so_far (Dotted x w k)) (λ y. around k (words (field x w x_name) y)) (LowCore (Dotted x w k)) ((depth k + (height x + 1) ≤ 64) × Few x × LowAround k) (λ y. name x_name ∷ y)
     (λ y. refl) (λ l. (omega (arith, l.0), l.1, l.2)) (complete k (field x w x_name) (a.0, a.1) (omega (arith, floor_most k)) a.2)
 completed (Spawning k) a =
-    onward (so_far (Spawning k)) (λ y. around k (words (enclosed (of_spawn x_name) nought) y)) (LowCore (Spawning k)) ((depth k + (0 + 1) ≤ 64) × (Unit {0} × Unit {0}) × LowAround k) (λ y. name x_name ∷ (mark Comma ∷ (keyword key.Null ∷ (mark CloseParenthesis ∷ y))))
+    onward (so_far (Spawning k)) (λ y. around k (words (enclosed (of_spawn x_name) nought) y)) (LowCore (Spawning k)) ((depth k + (0 + 1) ≤ 64) × (Unit {0} × Unit {0}) × LowAround k) (λ y. name x_name ∷ (mark Comma ∷ (keyword Keyword.Null ∷ (mark CloseParenthesis ∷ y))))
     (λ y. refl) (λ l. (omega (arith, l.0), (tt, tt), l.1)) (complete k (enclosed (of_spawn x_name) nought) (tt, omega arith, tt) (omega (arith, floor_most k)) a)
 completed (Start o) a = complete_start o a
 completed (Done s o) a = complete_outer o s a.2 a.0 a.3
@@ -381,15 +374,15 @@ completed (ForStep l e o) a =
     onward (so_far (ForStep l e o)) (λ y. outside o (loop_words (record { first = l; test = e; step = None }) y)) (LowCore (ForStep l e o)) (LowLine l × LowOption e × Unit {0} × (around_it o < 63) × LowOuter o) (λ y. mark CloseParenthesis ∷ y)
     (λ y. refl) (λ h. (h.0, h.1, tt, h.2, h.3)) (complete_loop l e None o a.0 a.1 tt a.2)
 completed (Malloced v o) a =
-    onward (so_far (Malloced v o)) (λ y. outside o (value_place_words v (value_words (malloc None plain_int) y))) (LowCore (Malloced v o)) ((Unit {0} × (0 ≤ 8)) × LowValuePlace v o × LowOuter o) (λ y. keyword key.Sizeof ∷ (mark OpenParenthesis ∷ (keyword key.Int ∷ (mark CloseParenthesis ∷ (mark CloseParenthesis ∷ y)))))
+    onward (so_far (Malloced v o)) (λ y. outside o (value_place_words v (value_words (malloc None plain_int) y))) (LowCore (Malloced v o)) ((Unit {0} × (0 ≤ 8)) × LowValuePlace v o × LowOuter o) (λ y. keyword Keyword.Sizeof ∷ (mark OpenParenthesis ∷ (keyword Keyword.Int ∷ (mark CloseParenthesis ∷ (mark CloseParenthesis ∷ y)))))
     (λ y. refl) (λ l. ((tt, omega arith), l.0, l.1)) (complete_value v (malloc None plain_int) o (tt, tt, (refl, tt)) a.0 a.1)
 completed (Valued v r o) a =
     onward (so_far (Valued v r o)) (so_far (Valued v r o)) (LowCore (Valued v r o)) (LowValue r × LowValuePlace v o × LowOuter o) (λ y. y) (λ y. refl) (λ l. (l.1, l.0, l.2)) (complete_value v r o a.1 a.0 a.2)
 completed (TypeWant p) a =
-    onward (so_far (TypeWant p)) (λ y. type_place_words p (base_words base.Int y)) (LowType p) (LowType p) (λ y. keyword key.Int ∷ y) (λ y. refl) (λ l. l) (complete_based p None a tt)
+    onward (so_far (TypeWant p)) (λ y. type_place_words p (base_words Base.Int y)) (LowType p) (LowType p) (λ y. keyword Keyword.Int ∷ y) (λ y. refl) (λ l. l) (complete_based p None a tt)
 completed (ModeFirst p s) a = complete_first p s a.0 a.1
 completed (StructWant p m) a =
-    onward (so_far (StructWant p m)) (λ y. type_place_words p (level_words m (base_words (base.Struct x_name) y))) (LowType p) (LowType p) (λ y. name x_name ∷ y) (λ y. refl) (λ l. l) (complete_struct p m a.0 a.1)
+    onward (so_far (StructWant p m)) (λ y. type_place_words p (level_words m (base_words (Base.Struct x_name) y))) (LowType p) (LowType p) (λ y. name x_name ∷ y) (λ y. refl) (λ l. l) (complete_struct p m a.0 a.1)
 completed (Typed p first b m below) a = complete_typed p first b m below a
 completed (PathWant p) a =
     onward (so_far (PathWant p)) (λ y. mode_place_words p (sharing_words (locked x_name) y)) (LowMode p) (LowMode p) (λ y. name x_name ∷ (mark CloseParenthesis ∷ y)) (λ y. refl) (λ l. l) (complete_mode p (locked x_name) a)
@@ -400,6 +393,6 @@ completed (PathThrough p n) a =
 completed (Named p ty n) a = complete_name p (declaring_of ty n) a.0 a.1
 completed (Fields all s before) a = complete_fields all s before a
 completed (ArrayWant all d) a = complete_global all d (array (record { value = pos 1; number_type = Int })) (so_far (ArrayWant all d)) (λ y. number (record { value = pos 1; number_type = Int }) ∷ (mark CloseBracket ∷ (mark Semicolon ∷ y))) a.0 a.1 tt (λ y. refl)
-completed (InitialWant all d) a = complete_global all d (initially false constants.Null) (so_far (InitialWant all d)) (λ y. keyword key.Null ∷ (mark Semicolon ∷ y)) a.0 a.1 tt (λ y. refl)
-completed (InitialNegative all d) a = complete_global all d (initially true (constants.Character 0)) (so_far (InitialNegative all d)) (λ y. character 0 ∷ (mark Semicolon ∷ y)) a.0 a.1 tt (λ y. refl)
+completed (InitialWant all d) a = complete_global all d (initially false Constant.Null) (so_far (InitialWant all d)) (λ y. keyword Keyword.Null ∷ (mark Semicolon ∷ y)) a.0 a.1 tt (λ y. refl)
+completed (InitialNegative all d) a = complete_global all d (initially true (Constant.Character 0)) (so_far (InitialNegative all d)) (λ y. character 0 ∷ (mark Semicolon ∷ y)) a.0 a.1 tt (λ y. refl)
 completed (Top all) a = complete_top all a

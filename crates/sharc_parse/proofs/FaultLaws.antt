@@ -1,8 +1,5 @@
 -- A program has no fault, and there is one fault at most.
-use Rattle.std.proofs.{Common.{◌≡◌, ℕ, zero, suc, ◌≤◌, ◌<◌, List, [], ◌∷◌, ◌++◌, length, take, drop, refl, sym, ap, ◌∙◌, arith, subst, inl, inr}, lemmas.List.{append_assoc, append-nil, take-append-drop}}
-use Rattle.std.specs.Prelude.{◌⊎◌}
-use Rattle.sharc_tree.specs.{Tree.Program, declared.token.FaultAt.FaultAt, declared.token.Tokens.Tokens}
-use Rattle.sharc_parse.specs.{Grammar.{Word, Part, IsProgram, program_words, EndsAt}, Limits.{LowProgram, BeginsWithin, Exceeds}, Places.{Reads, words_of}, Faults.{IsFault, wrong_code}, declared.fault.GrammarFault.GrammarFault, declared.fault.GrammarFault.TheVariants.Deep, Programs.{IsFaultOf, IsToldAt, told_of}}
+use Rattle.sharc_parse.proofs.Imports.{◌≡◌, ℕ, zero, suc, ◌≤◌, ◌<◌, List, [], ◌∷◌, ◌++◌, length, take, drop, refl, sym, ap, ◌∙◌, arith, subst, inl, inr, append_assoc, append-nil, take-append-drop, ◌⊎◌, Program, FaultAt, Tokens, Word, Part, IsProgram, program_words, EndsAt, LowProgram, BeginsWithin, Exceeds, Reads, words_of, IsFault, wrong_code, GrammarFault, Deep, IsFaultOf, IsToldAt, told_of}
 
 -- why the words up to a place are refused with the code
 abbrev Ends : GrammarFault → List Word → List Word → Type 0

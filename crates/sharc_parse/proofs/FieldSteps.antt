@@ -1,8 +1,5 @@
 -- The machine's steps over the fields of a struct.
-use Rattle.std.proofs.Common.{◌≡◌, ℕ, ◌+◌, List, [], ◌∷◌, ◌++◌, None, refl, sym, ap, ◌∙◌, arith}
-use Rattle.sharc_tree.specs.{declared.token.Token.Token, declared.token.Site.Site, declared.token.Punctuator.TheVariants.{Semicolon, CloseBrace}, declared.tree.declaration.Declaration.Declaration}
-use Rattle.sharc_parse.specs.{Grammar.{Word, mark, Declaring, Part, structure}, Machine.{field_of, naming, TypeWant, Named, Fields, Top, a_semicolon, At, with_part, with_declaring, named_field, fields, begin_type}, Limits.{StuckAt, next_within, reads_within}, Places.{fields_size, declaring_size, declaration_at, declarations_at, site_in}, View.bare_declaration, Locals.{ReadsDeclaration, IsDeclarationPlaced}, Goes.{NotAt, from, Past}, Fields.declared}
-use Rattle.std.specs.Prelude.{Ok}
+use Rattle.sharc_parse.proofs.Imports.{◌≡◌, ℕ, ◌+◌, List, [], ◌∷◌, ◌++◌, None, refl, sym, ap, ◌∙◌, arith, Token, Site, Semicolon, CloseBrace, Declaration, Word, mark, Declaring, Part, structure, field_of, naming, TypeWant, Named, Fields, Top, a_semicolon, At, with_part, with_declaring, named_field, fields, begin_type, StuckAt, next_within, reads_within, fields_size, declaring_size, declaration_at, declarations_at, site_in, bare_declaration, ReadsDeclaration, IsDeclarationPlaced, NotAt, from, Past, declared, Ok}
 
 pub field_ends : (all : List Part) (s : List ℕ) (before : List Declaring) (d : Declaring) (ts y : List Word) → ts ≡ mark Semicolon ∷ y → reads_within ts (At [] (Named (field_of all s before) d.typing d.named)) ≡ reads_within y (At [] (Fields all s (with_declaring before d)))
 field_ends all s before d ts y e = ap (λ ts. reads_within ts (At [] (Named (field_of all s before) d.typing d.named))) e

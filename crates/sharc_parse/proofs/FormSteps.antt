@@ -1,9 +1,5 @@
 -- The machine's steps over what follows the name of a global.
-use Rattle.std.proofs.Common.{◌≡◌, ℕ, List, [], ◌∷◌, None, refl, ap, true, false}
-use Rattle.sharc_tree.specs.{declared.token.Number.Number, declared.token.Punctuator.TheVariants.{OpenParenthesis, OpenBracket, CloseBracket, Semicolon, Assign, Minus}, declared.tree.expression.Constant.Constant}
-use Rattle.sharc_tree.specs.declared.token.Keyword.TheVariants as key
-use Rattle.sharc_tree.specs.declared.tree.expression.Constant.TheVariants as constants
-use Rattle.sharc_parse.specs.{Grammar.{Word, keyword, mark, number, character, constant_word, Typing, Declaring, single, array, initially, Part}, Machine.{on_top, Named, ArrayWant, InitialWant, InitialNegative, Top, a_semicolon, a_bracket, At, declaring_of, named_top, initial_want}, Limits.{StuckAt, next_within, reads_within}, Goes.{NotAt, NoConstant}, Forms.{NoNumber, IsSigned, NoSigned, with_form}}
+use Rattle.sharc_parse.proofs.Imports.{◌≡◌, ℕ, List, [], ◌∷◌, None, refl, ap, true, false, Number, OpenParenthesis, OpenBracket, CloseBracket, Semicolon, Assign, Minus, Constant, Keyword, Word, keyword, mark, number, character, constant_word, Typing, Declaring, single, array, initially, Part, on_top, Named, ArrayWant, InitialWant, InitialNegative, Top, a_semicolon, a_bracket, At, declaring_of, named_top, initial_want, StuckAt, next_within, reads_within, NotAt, NoConstant, NoNumber, IsSigned, NoSigned, with_form}
 
 pub array_number : (all : List Part) (d : Declaring) (n : Number) (y : List Word) → reads_within (number n ∷ y) (At [] (ArrayWant all d)) ≡ reads_within y (At (a_bracket ∷ (a_semicolon ∷ [])) (Top (with_form all d (array n))))
 array_number all d n y = refl
@@ -22,7 +18,7 @@ pub minus_goes : (all : List Part) (d : Declaring) (y : List Word) → reads_wit
 minus_goes all d y = refl
 
 pub signed_goes : (all : List Part) (d : Declaring) (c : Constant) (y : List Word) → IsSigned c → reads_within (constant_word c ∷ y) (At [] (InitialNegative all d)) ≡ reads_within y (At (a_semicolon ∷ []) (Top (with_form all d (initially true c))))
-signed_goes all d constants.Null y h = absurd h
+signed_goes all d Constant.Null y h = absurd h
 signed_goes all d _ y h = refl
 
 pub no_signed : (all : List Part) (d : Declaring) (ts : List Word) → NoSigned ts → reads_within ts (At [] (InitialNegative all d)) ≡ StuckAt ts
@@ -31,14 +27,14 @@ no_signed all d (character n ∷ y) h = absurd h
 no_signed all d _ h = refl
 
 pub constant_goes : (all : List Part) (d : Declaring) (c : Constant) (y : List Word) → reads_within (constant_word c ∷ y) (At [] (InitialWant all d)) ≡ reads_within y (At (a_semicolon ∷ []) (Top (with_form all d (initially false c))))
-constant_goes all d (constants.Number n) y = refl
+constant_goes all d (Constant.Number n) y = refl
 constant_goes all d _ y = refl
 
 no_constant_step : (all : List Part) (d : Declaring) (t : Word) → (t ≡ mark Minus → ⊥) → ((c : Constant) → t ≡ constant_word c → ⊥) → initial_want all d t ≡ None
 no_constant_step all d (mark Minus) m h = absurd (m refl)
-no_constant_step all d (number n) m h = absurd (h (constants.Number n) refl)
-no_constant_step all d (character n) m h = absurd (h (constants.Character n) refl)
-no_constant_step all d (keyword key.Null) m h = absurd (h constants.Null refl)
+no_constant_step all d (number n) m h = absurd (h (Constant.Number n) refl)
+no_constant_step all d (character n) m h = absurd (h (Constant.Character n) refl)
+no_constant_step all d (keyword Keyword.Null) m h = absurd (h Constant.Null refl)
 no_constant_step all d _ m h = refl
 
 pub no_constant : (all : List Part) (d : Declaring) (ts : List Word) → NotAt (mark Minus) ts → NoConstant ts → reads_within ts (At [] (InitialWant all d)) ≡ StuckAt ts

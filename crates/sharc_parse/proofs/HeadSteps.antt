@@ -1,10 +1,6 @@
 -- The machine's steps over the head of a `for`, and over what a `return` gives.
-use Rattle.std.proofs.{Common.{◌≡◌, ℕ, ◌+◌, ◌≤◌, ◌<◌, List, [], ◌∷◌, Option, Some, None, refl, ap, ◌∙◌, arith, true, false}, lemmas.Bool.lt-leb}
-use Rattle.sharc_tree.specs.{declared.token.Punctuator.TheVariants.{Semicolon, OpenParenthesis, CloseParenthesis}, declared.token.Token.Token, declared.tree.expression.Expr.Expr, declared.tree.statement.Simple.Simple, declared.tree.statement.ForFirst.ForFirst, View.{view_expr, view_option, view_simple, view_first}}
-use Rattle.sharc_parse.specs.{Grammar.{Word, mark, Phrase, Doing, Line}, Machine.{Outer, inside, as_first, as_step, Cont, part, subject, Want, Have, Start, ForOpen, ForTest, ForStep, an_open, At, leave, loop, doing_end, floor, grip}, Limits.{StuckAt, next_within, reads_within, around_it, depth, crowded}, Places.{site_in, line_size, option_size, first_at, option_at, step_at}, Goes.{NotAt, NoMalloc, from, Past}, Simples.{doing_state, EndsDoing, doing_within}, Lines.{line_within, line_of, ReadsLine, IsLinePlaced}, Heads.{Tail, by_return, by_test, tail_place, before_tail, behind_tail, ReadsTail, IsTailPlaced, step_of, ReadsStep, IsStepPlaced, ReadsHead, IsHeadPlaced}, declared.token.ReadingFault.ReadingFault, declared.token.ReadingFault.TheVariants.Memory, Rights.option_of}
-use Rattle.std.specs.Prelude.{Ok, Err}
+use Rattle.sharc_parse.proofs.{Imports.{◌≡◌, ℕ, ◌+◌, ◌≤◌, ◌<◌, List, [], ◌∷◌, Option, Some, None, refl, ap, ◌∙◌, arith, true, false, lt-leb, Semicolon, OpenParenthesis, CloseParenthesis, Token, Expr, Simple, ForFirst, view_expr, view_option, view_simple, view_first, Word, mark, Phrase, Doing, Line, Outer, inside, as_first, as_step, Cont, part, subject, Want, Have, Start, ForOpen, ForTest, ForStep, an_open, At, leave, loop, doing_end, floor, grip, StuckAt, next_within, reads_within, around_it, depth, crowded, site_in, line_size, option_size, first_at, option_at, step_at, NotAt, NoMalloc, from, Past, doing_state, EndsDoing, doing_within, line_within, line_of, ReadsLine, IsLinePlaced, Tail, by_return, by_test, tail_place, before_tail, behind_tail, ReadsTail, IsTailPlaced, step_of, ReadsStep, IsStepPlaced, ReadsHead, IsHeadPlaced, ReadingFault, Memory, option_of, Ok, Err}, Steps.{passes, fixed_goes}, RightSteps.ends_place, SimpleSteps.doing_ends}
 use Rattle.sharc_tree.specs.Tree as tree
-use Rattle.sharc_parse.proofs.{Steps.{passes, fixed_goes}, RightSteps.ends_place, SimpleSteps.doing_ends}
 
 -- an expression that may be left out
 

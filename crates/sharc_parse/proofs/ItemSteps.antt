@@ -1,9 +1,6 @@
 -- The machine's steps over the items of a program.
-use Rattle.std.proofs.Common.{◌≡◌, ℕ, ◌+◌, List, [], ◌∷◌, refl, sym, ap, ◌∙◌, arith, subst, true}
-use Rattle.std.specs.Prelude.{Result, Ok, Err, None}
+use Rattle.sharc_parse.proofs.Imports.{◌≡◌, ℕ, ◌+◌, List, [], ◌∷◌, refl, sym, ap, ◌∙◌, arith, subst, true, Result, Ok, Err, None, Token, Site, Span, OpenBrace, Identifier, WrittenType, Declaration, Stmt, Item, mark, Typing, Part, structure, no_more, on_top, body, parameter_of, naming, TypeWant, Start, Top, a_brace, At, with_part, function_of, reads_within, span_at, name_at, fields_size, part_size, declarations_at, item_at, ReadingFault, Memory, bare_type, from, Past, NotAt, Goes, ReadsType, EndsType, struct_type, declared, sentences_of, ReadsStatements, ReadsParameters, part_of, OpensStruct, ReadsFunction, ReadsNamed, ReadsItem}
 use Rattle.sharc_tree.specs.Tree as tree
-use Rattle.sharc_tree.specs.{declared.token.Token.Token, declared.token.Site.Site, declared.token.Span.Span, declared.token.Punctuator.TheVariants.OpenBrace, declared.tree.declaration.Identifier.Identifier, declared.tree.declaration.WrittenType.WrittenType, declared.tree.declaration.Declaration.Declaration, declared.tree.statement.Stmt.Stmt, declared.tree.item.Item.Item}
-use Rattle.sharc_parse.specs.{Grammar.{mark, Typing, Part, structure, no_more}, Machine.{on_top, body, parameter_of, naming, TypeWant, Start, Top, a_brace, At, with_part, function_of}, Limits.reads_within, Places.{span_at, name_at, fields_size, part_size, declarations_at, item_at}, declared.token.ReadingFault.ReadingFault, declared.token.ReadingFault.TheVariants.Memory, View.bare_type, Goes.{from, Past, NotAt, Goes}, Types.{ReadsType, EndsType}, Locals.struct_type, Fields.declared, Statements.sentences_of, Nested.ReadsStatements, Parameters.ReadsParameters, Items.{part_of, OpensStruct, ReadsFunction, ReadsNamed, ReadsItem}}
 
 abbrev made_struct : Span → Identifier → List Declaration → tree.Item
 made_struct sp name fields = tree.structure (record { span = sp; name = name; fields = fields })

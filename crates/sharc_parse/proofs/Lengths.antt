@@ -1,11 +1,5 @@
 -- A phrase has as many words as its size says.
-use Rattle.std.proofs.Common.{◌≡◌, ℕ, ◌+◌, List, [], ◌∷◌, length, Option, Some, None, refl, arith, Bool, true, false}
-use Rattle.sharc_tree.specs.{declared.ctype.Base.Base, declared.token.Punctuator.TheVariants.{OpenParenthesis, CloseParenthesis, OpenBrace, CloseBrace, OpenBracket, CloseBracket, Semicolon, Comma, Assign, Star}}
-use Rattle.sharc_tree.specs.declared.ctype.Base.TheVariants as base
-use Rattle.sharc_tree.specs.declared.tree.expression.ValueCall.TheVariants as value_call
-use Rattle.sharc_tree.specs.declared.tree.expression.PlaceCall.TheVariants as place_call
-use Rattle.sharc_tree.specs.declared.token.Keyword.TheVariants as key
-use Rattle.sharc_parse.specs.{Grammar.{Word, name, keyword, mark, Sharing, locked, Typing, Declaring, Front, of_value, of_place, of_cast, Phrase, enclosed, call, index, field, unary, binary, Phrases, none, more, Value, value, malloc, Doing, assign, invoke, Line, nothing, does, declares, Loop, Sentence, line, jump, return, block, under, Sentences, no_more, sentence, Opening, if_of, else_of, while_of, for_of, Form, array, initially, Part, structure, global, function, sharing_words, level_words, base_words, levels_words, list_words, type_words, declaring_words, front_words, words, words_of_all, words_of_rest, access_mark, operator_mark, option_words, count_words, value_words, doing_words, initial_words, line_words, step_words, loop_words, written, written_all, opening_words, form_words, fields_words, parameters_words, part_words, program_words}, Places.{sharing_size, level_size, base_size, levels_size, type_size, declaring_size, front_size, size, sizes, rest_size, option_size, count_size, value_size, doing_size, initial_size, line_size, step_size, sentence_size, all_size, opening_size, fields_size, parameters_size, form_size, part_size}}
+use Rattle.sharc_parse.proofs.Imports.{◌≡◌, ℕ, ◌+◌, List, [], ◌∷◌, length, Option, Some, None, refl, arith, Bool, true, false, Base, OpenParenthesis, CloseParenthesis, OpenBrace, CloseBrace, OpenBracket, CloseBracket, Semicolon, Comma, Assign, Star, ValueCall, PlaceCall, Keyword, Word, name, keyword, mark, Sharing, locked, Typing, Declaring, Front, of_value, of_place, of_cast, Phrase, enclosed, call, index, field, unary, binary, Phrases, none, more, Value, value, malloc, Doing, assign, invoke, Line, nothing, does, declares, Loop, Sentence, line, jump, return, block, under, Sentences, no_more, sentence, Opening, if_of, else_of, while_of, for_of, Form, array, initially, Part, structure, global, function, sharing_words, level_words, base_words, levels_words, list_words, type_words, declaring_words, front_words, words, words_of_all, words_of_rest, access_mark, operator_mark, option_words, count_words, value_words, doing_words, initial_words, line_words, step_words, loop_words, written, written_all, opening_words, form_words, fields_words, parameters_words, part_words, program_words, sharing_size, level_size, base_size, levels_size, type_size, declaring_size, front_size, size, sizes, rest_size, option_size, count_size, value_size, doing_size, initial_size, line_size, step_size, sentence_size, all_size, opening_size, fields_size, parameters_size, form_size, part_size}
 
 sharing_length : (x : Sharing) (y : List Word) → length (sharing_words x y) ≡ sharing_size x + length y
 sharing_length (locked m) y = omega arith
@@ -16,7 +10,7 @@ level_length None y = omega arith
 level_length (Some x) y = sharing_length x y
 
 base_length : (b : Base) (y : List Word) → length (base_words b y) ≡ base_size b + length y
-base_length (base.Struct x) y = omega arith
+base_length (Base.Struct x) y = omega arith
 base_length _ y = omega arith
 
 levels_length : (first : Bool) (b : Base) (m : Option Sharing) (below : List (Option Sharing)) (y : List Word) → length (levels_words first b m below y) ≡ levels_size b (m ∷ below) + length y
@@ -35,8 +29,8 @@ declaring_length : (d : Declaring) (y : List Word) → length (declaring_words d
 declaring_length d y = omega (arith, type_length d.typing (name d.named ∷ y))
 
 front_length : (f : Front) (y : List Word) → length (front_words f y) ≡ front_size f + length y
-front_length (of_value value_call.Join) y = omega arith
-front_length (of_place place_call.Lock) y = omega arith
+front_length (of_value ValueCall.Join) y = omega arith
+front_length (of_place PlaceCall.Lock) y = omega arith
 front_length (of_cast t) y = omega (arith, type_length t (mark Comma ∷ y))
 front_length _ y = omega arith
 
@@ -70,7 +64,7 @@ value_length : (r : Value) (y : List Word) → length (value_words r y) ≡ valu
 value_length (value e) y = words_length e y
 value_length (malloc n t) y =
     let closing = mark CloseParenthesis ∷ (mark CloseParenthesis ∷ y) in
-    omega (arith, count_length n (keyword key.Sizeof ∷ (mark OpenParenthesis ∷ type_words t closing)), type_length t closing)
+    omega (arith, count_length n (keyword Keyword.Sizeof ∷ (mark OpenParenthesis ∷ type_words t closing)), type_length t closing)
 
 doing_length : (x : Doing) (y : List Word) → length (doing_words x y) ≡ doing_size x + length y
 doing_length (assign u r) y = omega (arith, words_length u (mark Assign ∷ value_words r y), value_length r y)
@@ -108,7 +102,7 @@ mutual
 
   opening_length : (w : Opening) (y : List Word) → length (opening_words w y) ≡ opening_size w + length y
   opening_length (if_of e) y = omega (arith, words_length e (mark CloseParenthesis ∷ y))
-  opening_length (else_of e s) y = omega (arith, words_length e (mark CloseParenthesis ∷ written s (keyword key.Else ∷ y)), sentence_length s (keyword key.Else ∷ y))
+  opening_length (else_of e s) y = omega (arith, words_length e (mark CloseParenthesis ∷ written s (keyword Keyword.Else ∷ y)), sentence_length s (keyword Keyword.Else ∷ y))
   opening_length (while_of e) y = omega (arith, words_length e (mark CloseParenthesis ∷ y))
   opening_length (for_of h) y = loop_length h y
 

@@ -1,3 +1,4 @@
+mod Imports
 pub mod Complete
 pub mod CompleteProgram
 pub mod Sound

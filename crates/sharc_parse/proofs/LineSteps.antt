@@ -1,14 +1,5 @@
 -- The machine's steps over lines.
-use Rattle.std.proofs.Common.{◌≡◌, ℕ, List, [], ◌∷◌, Option, Some, None, refl, sym, ap, ◌∙◌, subst, inl, inr, Bool, true, false, cond}
-use Rattle.sharc_tree.specs.declared.token.Keyword.TheVariants as key
-use Rattle.sharc_tree.specs.{declared.token.Punctuator.TheVariants.{Assign, Semicolon, Minus, Exclamation, Tilde, Star, OpenParenthesis}, declared.tree.expression.UnaryOperator.TheVariants.{Negate, Not, Complement, Dereference}}
-use Rattle.sharc_tree.specs.declared.tree.expression.ValueCall.TheVariants as value_call
-use Rattle.sharc_tree.specs.declared.tree.expression.PlaceCall.TheVariants as place_call
-use Rattle.sharc_tree.specs.declared.tree.expression.Constant.TheVariants as constants
-use Rattle.sharc_parse.specs.{Grammar.{Word, name, keyword, mark, number, character, Typing, identifier, constant, Value, Doing, nothing, does, parenthesis, of_value, of_place}, Machine.{Outer, LinePlace, as_statement, as_first, in_line, local, naming, of_local, Cont, part, subject, beneath, fronted, Want, Have, Spawning, casting, TypeWant, Named, State, At, an_open, an_ampersand, or_else, begin_type, want, lined, local_line, line_start, may_declare, doing_end, value_end, declaring_of, named_local}, Limits.{StuckAt, Over, next_within, reads_within, over, crowded_line}, declared.types.ModeWord.ModeWord, declared.types.BaseWord.BaseWord, Goes.NotAt, Types.{mode_word, HasMode, base_word}, Rights.value_within, Simples.{doing_state, EndsDoing, doing_within}, Locals.{initial_state, EndsInitial}, Lines.{HasBase, MeetsType, MeetsLocal, starts_operand, starts_line, line_within}}
-use Rattle.sharc_parse.specs.declared.types.ModeWord.TheVariants as modes
-use Rattle.sharc_parse.specs.declared.types.BaseWord.TheVariants as bases
-use Rattle.sharc_parse.proofs.{Steps.{passes, fails}, TypeSteps.{begin_bare, no_base_step}, RightSteps.value_ends, SimpleSteps.doing_ends}
+use Rattle.sharc_parse.proofs.{Imports.{◌≡◌, ℕ, List, [], ◌∷◌, Option, Some, None, refl, sym, ap, ◌∙◌, subst, inl, inr, Bool, true, false, cond, Keyword, Assign, Semicolon, Minus, Exclamation, Tilde, Star, OpenParenthesis, Negate, Not, Complement, Dereference, ValueCall, PlaceCall, Constant, Word, name, keyword, mark, number, character, Typing, identifier, constant, Value, Doing, nothing, does, parenthesis, of_value, of_place, Outer, LinePlace, as_statement, as_first, in_line, local, naming, of_local, Cont, part, subject, beneath, fronted, Want, Have, Spawning, casting, TypeWant, Named, State, At, an_open, an_ampersand, or_else, begin_type, want, lined, local_line, line_start, may_declare, doing_end, value_end, declaring_of, named_local, StuckAt, Over, next_within, reads_within, over, crowded_line, ModeWord, BaseWord, NotAt, mode_word, HasMode, base_word, value_within, doing_state, EndsDoing, doing_within, initial_state, EndsInitial, HasBase, MeetsType, MeetsLocal, starts_operand, starts_line, line_within}, Steps.{passes, fails}, TypeSteps.{begin_bare, no_base_step}, RightSteps.value_ends, SimpleSteps.doing_ends}
 
 -- types
 
@@ -22,19 +13,19 @@ abbrev both : LinePlace → Outer → Word → Bool → Option State
 both p o t b = or_else (cond b (begin_type (naming (local p o)) t) None) (want (part (subject (in_line p)) o) t)
 
 mode_word_starts : (p : LinePlace) (o : Outer) (w : ModeWord) → may_declare p o ≡ true → line_start p o (mode_word w) ≡ begin_type (naming (local p o)) (mode_word w)
-mode_word_starts p o modes.Private e = ap (both p o (keyword key.Private)) e
-mode_word_starts p o modes.Readonly e = ap (both p o (keyword key.Readonly)) e
-mode_word_starts p o modes.Racy e = ap (both p o (keyword key.Racy)) e
-mode_word_starts p o modes.Dynamic e = ap (both p o (keyword key.Dynamic)) e
-mode_word_starts p o modes.Locked e = ap (both p o (keyword key.Locked)) e
+mode_word_starts p o ModeWord.Private e = ap (both p o (keyword Keyword.Private)) e
+mode_word_starts p o ModeWord.Readonly e = ap (both p o (keyword Keyword.Readonly)) e
+mode_word_starts p o ModeWord.Racy e = ap (both p o (keyword Keyword.Racy)) e
+mode_word_starts p o ModeWord.Dynamic e = ap (both p o (keyword Keyword.Dynamic)) e
+mode_word_starts p o ModeWord.Locked e = ap (both p o (keyword Keyword.Locked)) e
 
 base_word_starts : (p : LinePlace) (o : Outer) (w : BaseWord) → may_declare p o ≡ true → line_start p o (base_word w) ≡ begin_type (naming (local p o)) (base_word w)
-base_word_starts p o bases.Int e = ap (both p o (keyword key.Int)) e
-base_word_starts p o bases.Char e = ap (both p o (keyword key.Char)) e
-base_word_starts p o bases.Long e = ap (both p o (keyword key.Long)) e
-base_word_starts p o bases.Mutex e = ap (both p o (keyword key.Mutex)) e
-base_word_starts p o bases.Void e = ap (both p o (keyword key.Void)) e
-base_word_starts p o bases.Struct e = ap (both p o (keyword key.Struct)) e
+base_word_starts p o BaseWord.Int e = ap (both p o (keyword Keyword.Int)) e
+base_word_starts p o BaseWord.Char e = ap (both p o (keyword Keyword.Char)) e
+base_word_starts p o BaseWord.Long e = ap (both p o (keyword Keyword.Long)) e
+base_word_starts p o BaseWord.Mutex e = ap (both p o (keyword Keyword.Mutex)) e
+base_word_starts p o BaseWord.Void e = ap (both p o (keyword Keyword.Void)) e
+base_word_starts p o BaseWord.Struct e = ap (both p o (keyword Keyword.Struct)) e
 
 type_starts : (p : LinePlace) (o : Outer) (ts : List Word) → may_declare p o ≡ true → MeetsType true ts → line_within p o ts ≡ reads_within ts (At [] (TypeWant (naming (local p o))))
 type_starts p o [] e (inl h) = absurd h
@@ -88,21 +79,21 @@ crowd p o = part (subject (in_line p)) o
 
 crowded_operand : (p : LinePlace) (o : Outer) (ts : List Word) → crowded_line p o ≡ true → reads_within ts (At [] (Want (crowd p o))) ≡ cond (starts_operand ts) (Over ts) (StuckAt ts)
 crowded_operand p o (name n ∷ y) c = fails (At [] (Have (identifier n) (crowd p o))) y (name n ∷ y) c
-crowded_operand p o (number n ∷ y) c = fails (At [] (Have (constant (constants.Number n)) (crowd p o))) y (number n ∷ y) c
-crowded_operand p o (character n ∷ y) c = fails (At [] (Have (constant (constants.Character n)) (crowd p o))) y (character n ∷ y) c
-crowded_operand p o (keyword key.Null ∷ y) c = fails (At [] (Have (constant constants.Null) (crowd p o))) y (keyword key.Null ∷ y) c
+crowded_operand p o (number n ∷ y) c = fails (At [] (Have (constant (Constant.Number n)) (crowd p o))) y (number n ∷ y) c
+crowded_operand p o (character n ∷ y) c = fails (At [] (Have (constant (Constant.Character n)) (crowd p o))) y (character n ∷ y) c
+crowded_operand p o (keyword Keyword.Null ∷ y) c = fails (At [] (Have (constant Constant.Null) (crowd p o))) y (keyword Keyword.Null ∷ y) c
 crowded_operand p o (mark Minus ∷ y) c = fails (At [] (Want (beneath Negate (crowd p o)))) y (mark Minus ∷ y) (ap (λ b. cond b true false) c)
 crowded_operand p o (mark Exclamation ∷ y) c = fails (At [] (Want (beneath Not (crowd p o)))) y (mark Exclamation ∷ y) (ap (λ b. cond b true false) c)
 crowded_operand p o (mark Tilde ∷ y) c = fails (At [] (Want (beneath Complement (crowd p o)))) y (mark Tilde ∷ y) (ap (λ b. cond b true false) c)
 crowded_operand p o (mark Star ∷ y) c = fails (At [] (Want (beneath Dereference (crowd p o)))) y (mark Star ∷ y) (ap (λ b. cond b true false) c)
 crowded_operand p o (mark OpenParenthesis ∷ y) c = fails (At [] (Want (fronted parenthesis (crowd p o)))) y (mark OpenParenthesis ∷ y) (ap (λ b. cond b true false) c)
-crowded_operand p o (keyword key.Spawn ∷ y) c = fails (At (an_open ∷ []) (Spawning (crowd p o))) y (keyword key.Spawn ∷ y) (ap (λ b. cond b true false) c)
-crowded_operand p o (keyword key.Join ∷ y) c = fails (At (an_open ∷ []) (Want (fronted (of_value value_call.Join) (crowd p o)))) y (keyword key.Join ∷ y) (ap (λ b. cond b true false) c)
-crowded_operand p o (keyword key.Print ∷ y) c = fails (At (an_open ∷ []) (Want (fronted (of_value value_call.Print) (crowd p o)))) y (keyword key.Print ∷ y) (ap (λ b. cond b true false) c)
-crowded_operand p o (keyword key.Lock ∷ y) c = fails (At (an_open ∷ (an_ampersand ∷ [])) (Want (fronted (of_place place_call.Lock) (crowd p o)))) y (keyword key.Lock ∷ y) (ap (λ b. cond b true false) c)
-crowded_operand p o (keyword key.Unlock ∷ y) c = fails (At (an_open ∷ (an_ampersand ∷ [])) (Want (fronted (of_place place_call.Unlock) (crowd p o)))) y (keyword key.Unlock ∷ y) (ap (λ b. cond b true false) c)
-crowded_operand p o (keyword key.Free ∷ y) c = fails (At (an_open ∷ []) (Want (fronted (of_place place_call.Free) (crowd p o)))) y (keyword key.Free ∷ y) (ap (λ b. cond b true false) c)
-crowded_operand p o (keyword key.Scast ∷ y) c = fails (At (an_open ∷ []) (TypeWant (casting (crowd p o)))) y (keyword key.Scast ∷ y) (ap (λ b. cond b true false) c)
+crowded_operand p o (keyword Keyword.Spawn ∷ y) c = fails (At (an_open ∷ []) (Spawning (crowd p o))) y (keyword Keyword.Spawn ∷ y) (ap (λ b. cond b true false) c)
+crowded_operand p o (keyword Keyword.Join ∷ y) c = fails (At (an_open ∷ []) (Want (fronted (of_value ValueCall.Join) (crowd p o)))) y (keyword Keyword.Join ∷ y) (ap (λ b. cond b true false) c)
+crowded_operand p o (keyword Keyword.Print ∷ y) c = fails (At (an_open ∷ []) (Want (fronted (of_value ValueCall.Print) (crowd p o)))) y (keyword Keyword.Print ∷ y) (ap (λ b. cond b true false) c)
+crowded_operand p o (keyword Keyword.Lock ∷ y) c = fails (At (an_open ∷ (an_ampersand ∷ [])) (Want (fronted (of_place PlaceCall.Lock) (crowd p o)))) y (keyword Keyword.Lock ∷ y) (ap (λ b. cond b true false) c)
+crowded_operand p o (keyword Keyword.Unlock ∷ y) c = fails (At (an_open ∷ (an_ampersand ∷ [])) (Want (fronted (of_place PlaceCall.Unlock) (crowd p o)))) y (keyword Keyword.Unlock ∷ y) (ap (λ b. cond b true false) c)
+crowded_operand p o (keyword Keyword.Free ∷ y) c = fails (At (an_open ∷ []) (Want (fronted (of_place PlaceCall.Free) (crowd p o)))) y (keyword Keyword.Free ∷ y) (ap (λ b. cond b true false) c)
+crowded_operand p o (keyword Keyword.Scast ∷ y) c = fails (At (an_open ∷ []) (TypeWant (casting (crowd p o)))) y (keyword Keyword.Scast ∷ y) (ap (λ b. cond b true false) c)
 crowded_operand p o _ c = refl
 
 abbrev IsOther : Word → Type 0

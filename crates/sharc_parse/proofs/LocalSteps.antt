@@ -1,10 +1,5 @@
 -- The machine's steps over declarations.
-use Rattle.std.proofs.Common.{◌≡◌, ℕ, ◌+◌, List, [], ◌∷◌, Option, None, refl, ap, ◌∙◌, Bool, true, false}
-use Rattle.std.specs.Prelude.{map, Ok}
-use Rattle.sharc_tree.specs.{declared.token.Site.Site, declared.token.Span.Span, declared.token.Punctuator.TheVariants.{Assign, Star, Comma, CloseParenthesis, OpenBrace}, declared.ctype.Base.Base, declared.tree.declaration.WrittenType.WrittenType, declared.tree.declaration.Declaration.Declaration}
-use Rattle.sharc_tree.specs.declared.ctype.Base.TheVariants as base
-use Rattle.sharc_parse.specs.{Grammar.{Word, name, mark, Sharing, Typing, Part}, Machine.{Outer, LinePlace, NamePlace, on_top, parameter_of, local, naming, of_local, part, valued, Want, Named, At, typed, close_type, open_type, declaring_of}, Limits.{StuckAt, next_within, reads_within}, Places.{span_at, type_size, type_at, declaring_size, declaration_at}, View.{bare_level, bare_type, bare_declaration}, Goes.NoName, Types.{EndsLevel, EndsLevels, EndsType, typed_levels, typed_state}, Locals.{void_type, struct_type, IsPlainAt, IsPlainPlace}}
-use Rattle.sharc_parse.proofs.TypeSteps.{no_level}
+use Rattle.sharc_parse.proofs.{Imports.{◌≡◌, ℕ, ◌+◌, List, [], ◌∷◌, Option, None, refl, ap, ◌∙◌, Bool, true, false, map, Ok, Site, Span, Assign, Star, Comma, CloseParenthesis, OpenBrace, Base, WrittenType, Declaration, Word, name, mark, Sharing, Typing, Part, Outer, LinePlace, NamePlace, on_top, parameter_of, local, naming, of_local, part, valued, Want, Named, At, typed, close_type, open_type, declaring_of, StuckAt, next_within, reads_within, span_at, type_size, type_at, declaring_size, declaration_at, bare_level, bare_type, bare_declaration, NoName, EndsLevel, EndsLevels, EndsType, typed_levels, typed_state, void_type, struct_type, IsPlainAt, IsPlainPlace}, TypeSteps.no_level}
 
 abbrev typing_with : Bool → Base → List (Option Sharing) → Typing
 typing_with first b levels = record { mode_first = first; base = b; levels = levels }
@@ -18,11 +13,11 @@ pub named_goes : (p : NamePlace) (t : WrittenType) (n : List ℕ) (y all : List 
 named_goes p t n y all e = name_levels p t.mode_first t.ctype.base (map bare_level t.ctype.levels) n y all e
 
 no_close : (all : List Part) (r : Typing) (f : List ℕ) (first : Bool) (b : Base) (m : Option Sharing) (below : List (Option Sharing)) → (typing_with first b (m ∷ below) ≡ void_type → ⊥) → close_type (naming (parameter_of all r f [])) first b m below ≡ None
-no_close all r f false base.Void None [] n = absurd (n refl)
+no_close all r f false Base.Void None [] n = absurd (n refl)
 no_close all r f _ _ _ _ n = refl
 
 no_open : (all : List Part) (first : Bool) (b : Base) (m : Option Sharing) (below : List (Option Sharing)) → ((x : List ℕ) → typing_with first b (m ∷ below) ≡ struct_type x → ⊥) → open_type (naming (on_top all)) first b m below ≡ None
-no_open all false (base.Struct x) None [] n = absurd (n x refl)
+no_open all false (Base.Struct x) None [] n = absurd (n x refl)
 no_open all _ _ _ _ n = refl
 
 close_none : (p : NamePlace) (first : Bool) (b : Base) (m : Option Sharing) (below : List (Option Sharing)) (y : List Word) → IsPlainAt p (typing_with first b (m ∷ below)) (mark CloseParenthesis ∷ y) → close_type (naming p) first b m below ≡ None

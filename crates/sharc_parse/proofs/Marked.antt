@@ -1,15 +1,6 @@
 -- The names and casts of a tree are those among its words.
-use Rattle.std.proofs.Common.{◌≡◌, ℕ, ◌+◌, List, [], ◌∷◌, ◌++◌, Option, Some, None, refl, sym, ap, ◌∙◌, append_assoc, arith, Bool, true, false}
+use Rattle.sharc_parse.proofs.Imports.{◌≡◌, ℕ, ◌+◌, List, [], ◌∷◌, ◌++◌, Option, Some, None, refl, sym, ap, ◌∙◌, append_assoc, arith, Bool, true, false, Mark, a_name, a_cast, keyword_marks, kind_marks, marks_from, mode_marks, level_marks, base_marks, levels_marks, type_marks, declaration_marks, declarations_marks, marks, arguments_marks, option_marks, right_marks, simple_marks, local_marks, first_marks, head_marks, statement_marks, statements_marks, item_marks, items_marks, Site, Span, Token, TokenKind, Mode, Base, Constant, Jump, OpenParenthesis, CloseParenthesis, OpenBrace, CloseBrace, OpenBracket, CloseBracket, Semicolon, Comma, Assign, Star, ValueCall, PlaceCall, Keyword, Word, name, keyword, mark, Sharing, locked, locked_through, Typing, Declaring, Front, parenthesis, of_spawn, of_value, of_place, of_cast, Phrase, identifier, constant, enclosed, call, index, field, unary, binary, Phrases, none, more, Value, value, malloc, Doing, assign, invoke, Declared, Line, nothing, does, declares, Loop, Sentence, line, jump, return, block, under, Sentences, no_more, sentence, Opening, if_of, else_of, while_of, for_of, Form, single, array, initially, Callable, Part, structure, global, function, sharing_words, level_words, base_words, levels_words, list_words, type_words, declaring_words, access_mark, operator_mark, jump_word, constant_word, front_words, words, words_of_all, words_of_rest, option_words, count_words, value_words, doing_words, initial_words, line_words, step_words, loop_words, written, written_all, opening_words, form_words, fields_words, parameters_words, part_words, program_words, kind_word, words_of, sharing_size, level_size, base_size, levels_size, type_size, declaring_size, front_size, size, sizes, rest_size, option_size, count_size, value_size, doing_size, initial_size, local_size, line_size, step_size, sentence_size, all_size, opening_size, fields_size, parameters_size, form_size, part_size, mode_at, level_at, levels_at, base_name, base_place, type_at, declaration_at, front_at, expression_at, arguments_at, option_at, value_at, doing_at, initial_at, local_at, first_at, step_at, head_at, line_at, statement_at, statements_at, under_at, declarations_at, item_at, items_at}
 use Rattle.sharc_tree.specs.Tree as tree
-use Rattle.sharc_tree.specs.{Marks.{Mark, a_name, a_cast, keyword_marks, kind_marks, marks_from, mode_marks, level_marks, base_marks, levels_marks, type_marks, declaration_marks, declarations_marks, marks, arguments_marks, option_marks, right_marks, simple_marks, local_marks, first_marks, head_marks, statement_marks, statements_marks, item_marks, items_marks}, declared.token.Site.Site, declared.token.Span.Span, declared.token.Token.Token, declared.token.TokenKind.TokenKind, declared.ctype.Mode.Mode, declared.ctype.Base.Base, declared.tree.expression.Constant.Constant, declared.tree.statement.Jump.Jump, declared.token.Punctuator.TheVariants.{OpenParenthesis, CloseParenthesis, OpenBrace, CloseBrace, OpenBracket, CloseBracket, Semicolon, Comma, Assign, Star}}
-use Rattle.sharc_tree.specs.declared.token.TokenKind.TheVariants as kind
-use Rattle.sharc_tree.specs.declared.ctype.Base.TheVariants as base
-use Rattle.sharc_tree.specs.declared.tree.expression.Constant.TheVariants as constants
-use Rattle.sharc_tree.specs.declared.tree.expression.ValueCall.TheVariants as value_call
-use Rattle.sharc_tree.specs.declared.tree.expression.PlaceCall.TheVariants as place_call
-use Rattle.sharc_tree.specs.declared.tree.statement.Jump.TheVariants as jumps
-use Rattle.sharc_tree.specs.declared.token.Keyword.TheVariants as key
-use Rattle.sharc_parse.specs.{Grammar.{Word, name, keyword, mark, Sharing, locked, locked_through, Typing, Declaring, Front, parenthesis, of_spawn, of_value, of_place, of_cast, Phrase, identifier, constant, enclosed, call, index, field, unary, binary, Phrases, none, more, Value, value, malloc, Doing, assign, invoke, Declared, Line, nothing, does, declares, Loop, Sentence, line, jump, return, block, under, Sentences, no_more, sentence, Opening, if_of, else_of, while_of, for_of, Form, single, array, initially, Callable, Part, structure, global, function, sharing_words, level_words, base_words, levels_words, list_words, type_words, declaring_words, access_mark, operator_mark, jump_word, constant_word, front_words, words, words_of_all, words_of_rest, option_words, count_words, value_words, doing_words, initial_words, line_words, step_words, loop_words, written, written_all, opening_words, form_words, fields_words, parameters_words, part_words, program_words}, Places.{kind_word, words_of, sharing_size, level_size, base_size, levels_size, type_size, declaring_size, front_size, size, sizes, rest_size, option_size, count_size, value_size, doing_size, initial_size, local_size, line_size, step_size, sentence_size, all_size, opening_size, fields_size, parameters_size, form_size, part_size, mode_at, level_at, levels_at, base_name, base_place, type_at, declaration_at, front_at, expression_at, arguments_at, option_at, value_at, doing_at, initial_at, local_at, first_at, step_at, head_at, line_at, statement_at, statements_at, under_at, declarations_at, item_at, items_at}}
 
 abbrev pub word_marks : Word → ℕ → List Mark
 word_marks (name t) n = a_name n t ∷ []
@@ -22,7 +13,7 @@ marked n [] = []
 marked n (w ∷ ws) = word_marks w n ++ marked (n + 1) ws
 
 kind_same : (k : TokenKind) (text : List ℕ) (n : ℕ) → kind_marks k text n ≡ word_marks (kind_word k text) n
-kind_same (kind.Number v) text n = refl
+kind_same (TokenKind.Number v) text n = refl
 kind_same _ text n = refl
 
 joined : (a b c d : List Mark) → a ≡ b → c ≡ d → a ++ c ≡ b ++ d
@@ -68,7 +59,7 @@ level_marked s v n i m (Some x) y p q = sharing_marked s v n i m x y p q
 
 -- a base at n, whose name has the number k
 base_marked : (n i m k : ℕ) (b : Base) (y : List Word) → i ≡ n → m ≡ n + base_size b → k ≡ base_name b n → base_marks b k ++ marked m y ≡ marked i (base_words b y)
-base_marked n i m k (base.Struct x) y p q r = named k (i + 1) m (i + 1 + 1) x y (omega (arith, p, r)) (omega arith)
+base_marked n i m k (Base.Struct x) y p q r = named k (i + 1) m (i + 1 + 1) x y (omega (arith, p, r)) (omega arith)
 base_marked n i m k _ y p q r = renumbered m (i + 1) y (omega arith)
 
 -- the levels below come before the star of the level above them
@@ -111,7 +102,7 @@ declaration_marked s v n i m d y p q =
 -- expressions
 
 constant_marked : (i m : ℕ) (c : Constant) (y : List Word) → m ≡ i + 1 → marked m y ≡ marked i (constant_word c ∷ y)
-constant_marked i m (constants.Number k) y q = renumbered m (i + 1) y q
+constant_marked i m (Constant.Number k) y q = renumbered m (i + 1) y q
 constant_marked i m _ y q = renumbered m (i + 1) y q
 
 -- what is marked after the front of an expression
@@ -121,9 +112,9 @@ Behind r n z = (j : ℕ) → j ≡ n → r ≡ marked j z
 front_marked : (s : ℕ → Site) (v : Numbered s) (n i : ℕ) (span : Span) (f : Front) (e : tree.Expression) (r : List Mark) (z : List Word) → i ≡ n → span.first.token ≡ n → Behind (marks e ++ r) (n + front_size f) z → marks (front_at s n span f e) ++ r ≡ marked i (front_words f z)
 front_marked s v n i span parenthesis e r z p h b = b (i + 1) (omega (arith, p))
 front_marked s v n i span (of_spawn x) e r z p h b = also_named (s (n + 2)).token (i + 1 + 1) x _ _ (let t = v (n + 2) in omega (arith, t, p)) (b (i + 1 + 1 + 1 + 1) (omega (arith, p)))
-front_marked s v n i span (of_value value_call.Join) e r z p h b = b (i + 1 + 1) (omega (arith, p))
-front_marked s v n i span (of_place place_call.Lock) e r z p h b = b (i + 1 + 1 + 1) (omega (arith, p))
-front_marked s v n i span (of_place place_call.Unlock) e r z p h b = b (i + 1 + 1 + 1) (omega (arith, p))
+front_marked s v n i span (of_value ValueCall.Join) e r z p h b = b (i + 1 + 1) (omega (arith, p))
+front_marked s v n i span (of_place PlaceCall.Lock) e r z p h b = b (i + 1 + 1 + 1) (omega (arith, p))
+front_marked s v n i span (of_place PlaceCall.Unlock) e r z p h b = b (i + 1 + 1 + 1) (omega (arith, p))
 front_marked s v n i span (of_cast t) e r z p h b =
     let at = n + 2 + type_size t in
     let there : span.first.token ≡ i = omega (arith, p, h) in
@@ -193,7 +184,7 @@ value_marked s v n i m (malloc c t) y p q =
     let to = n + count_size c + 4 + type_size t in
     two (option_marks marks (option_at s (n + 2) c)) (type_marks (type_at s (n + count_size c + 4) t)) (marked m y) _ _
     (shifted _ _ m (to + 1 + 1) y (omega (arith, q)) (type_marked s v (n + count_size c + 4) (at + 1 + 1) to t (mark CloseParenthesis ∷ (mark CloseParenthesis ∷ y)) (omega arith) refl))
-    (count_marked s v (n + 2) (i + 1 + 1) at c (keyword key.Sizeof ∷ (mark OpenParenthesis ∷ type_words t (mark CloseParenthesis ∷ (mark CloseParenthesis ∷ y)))) (omega (arith, p)) refl)
+    (count_marked s v (n + 2) (i + 1 + 1) at c (keyword Keyword.Sizeof ∷ (mark OpenParenthesis ∷ type_words t (mark CloseParenthesis ∷ (mark CloseParenthesis ∷ y)))) (omega (arith, p)) refl)
 
 doing_marked : (s : ℕ → Site) (v : Numbered s) (n i m : ℕ) (x : Doing) (y : List Word) → i ≡ n → m ≡ n + doing_size x → simple_marks (doing_at s n x) ++ marked m y ≡ marked i (doing_words x y)
 doing_marked s v n i m (assign u r) y p q =
@@ -241,8 +232,8 @@ loop_marked s v n i m x y p q =
     (first_marked s v (n + 2) (i + 1 + 1) test x.first (option_words x.test (mark Semicolon ∷ step_words x.step closing)) (omega (arith, p)) (omega arith)))
 
 jump_marked : (i m : ℕ) (j : Jump) (y : List Word) → m ≡ i + 1 + 1 → marked m y ≡ marked i (jump_word j ∷ (mark Semicolon ∷ y))
-jump_marked i m jumps.Break y q = renumbered m (i + 1 + 1) y q
-jump_marked i m jumps.Continue y q = renumbered m (i + 1 + 1) y q
+jump_marked i m Jump.Break y q = renumbered m (i + 1 + 1) y q
+jump_marked i m Jump.Continue y q = renumbered m (i + 1 + 1) y q
 
 mutual
   sentence_marked : (s : ℕ → Site) (v : Numbered s) (n i m : ℕ) (a : Sentence) (y : List Word) → i ≡ n → m ≡ n + sentence_size a → statement_marks (statement_at s n a) ++ marked m y ≡ marked i (written a y)
@@ -274,8 +265,8 @@ mutual
       two (marks (expression_at s (n + 2) e) ++ statement_marks (statement_at s (n + size e + 3) c)) (statement_marks a) r _ _
       (b (done + 1) (omega arith))
       (two (marks (expression_at s (n + 2) e)) (statement_marks (statement_at s (n + size e + 3) c)) _ _ _
-      (sentence_marked s v (n + size e + 3) (at + 1) done c (keyword key.Else ∷ z) (omega arith) refl)
-      (expression_marked s v (n + 2) (i + 1 + 1) at e (mark CloseParenthesis ∷ written c (keyword key.Else ∷ z)) (omega (arith, p)) refl))
+      (sentence_marked s v (n + size e + 3) (at + 1) done c (keyword Keyword.Else ∷ z) (omega arith) refl)
+      (expression_marked s v (n + 2) (i + 1 + 1) at e (mark CloseParenthesis ∷ written c (keyword Keyword.Else ∷ z)) (omega (arith, p)) refl))
   under_marked s v n i (while_of e) span a r z p b =
       let at = n + 2 + size e in
       two (marks (expression_at s (n + 2) e)) (statement_marks a) r _ _

@@ -1,9 +1,7 @@
 -- The names and casts of a tree that lies at its tokens are there, in order, and its spans can be printed.
-use Rattle.std.proofs.{Common.{◌≡◌, ℕ, suc, zero, ◌+◌, ◌-◌, ◌≤◌, ◌<◌, List, [], ◌∷◌, ◌++◌, length, drop, get_or, HoldsAt, refl, sym, ap, ◌∙◌, arith, subst, length-drop, ⊎_elim, Contains}, lemmas.Bool.cases_lt, lemmas.List.drop_more, lemmas.List.Elements.Contains-append_right}
-use Rattle.std.specs.List.{AllPairs}
+use Rattle.sharc_parse.proofs.Imports.{◌≡◌, ℕ, suc, zero, ◌+◌, ◌-◌, ◌≤◌, ◌<◌, List, [], ◌∷◌, ◌++◌, length, drop, get_or, HoldsAt, refl, sym, ap, ◌∙◌, arith, subst, length-drop, ⊎_elim, Contains, cases_lt, drop_more, Contains-append_right, AllPairs, span_of, span_of_statement, Mark, a_name, number_of, keyword_marks, kind_marks, marks_from, AreMarks, Stand, items_marks, IsSpan, Placed, PlacedStatement, Keyword, Scast, Span, Token, TokenKind}
 use Rattle.sharc_tree.specs.Tree as tree
-use Rattle.sharc_tree.specs.{Spans.{span_of, span_of_statement}, Marks.{Mark, a_name, number_of, keyword_marks, kind_marks, marks_from, AreMarks, Stand, items_marks}, Placed.{IsSpan, Placed, PlacedStatement, IsPlaced}, declared.token.Keyword.Keyword, declared.token.Keyword.TheVariants.Scast, declared.token.Span.Span, declared.token.Token.Token, declared.token.TokenKind.TokenKind}
-use Rattle.sharc_tree.specs.declared.token.TokenKind.TheVariants as kind
+use Rattle.sharc_tree.specs.Placed.{IsPlaced}
 
 -- they may be sought from an earlier token on
 from_earlier : (all : List Token) (n m : ℕ) (l : List Mark) → n ≤ m → Stand all m l → Stand all n l
@@ -14,13 +12,13 @@ from_earlier all n m (x ∷ rest) h s = (omega (arith, h, s.0), s.1, s.2)
 abbrev pub HasKind : List Token → ℕ → TokenKind → List ℕ → Type 0
 HasKind all n k text = (n < length all) × HoldsAt (λ t. (t.kind ≡ k) × (t.text ≡ text)) all n
 
-keyword_stands : (all : List Token) (n : ℕ) (k : Keyword) (text : List ℕ) (rest : List Mark) → HasKind all n (kind.Keyword k) text → Stand all (n + 1) rest → Stand all n (keyword_marks k n ++ rest)
+keyword_stands : (all : List Token) (n : ℕ) (k : Keyword) (text : List ℕ) (rest : List Mark) → HasKind all n (TokenKind.Keyword k) text → Stand all (n + 1) rest → Stand all n (keyword_marks k n ++ rest)
 keyword_stands all n Scast text rest h s = (omega arith, (h.0, λ d. (h.1 d).0), s)
 keyword_stands all n _ text rest h s = from_earlier all n (n + 1) rest (omega arith) s
 
 kind_stands : (all : List Token) (n : ℕ) (k : TokenKind) (text : List ℕ) (rest : List Mark) → HasKind all n k text → Stand all (n + 1) rest → Stand all n (kind_marks k text n ++ rest)
-kind_stands all n (kind.Keyword k) text rest h s = keyword_stands all n k text rest h s
-kind_stands all n kind.Identifier text rest h s = (omega arith, h, s)
+kind_stands all n (TokenKind.Keyword k) text rest h s = keyword_stands all n k text rest h s
+kind_stands all n TokenKind.Identifier text rest h s = (omega arith, h, s)
 kind_stands all n _ text rest h s = from_earlier all n (n + 1) rest (omega arith) s
 
 marks_stand : (all : List Token) (n : ℕ) (l : List Token) → drop n all ≡ l → Stand all n (marks_from n l)
@@ -75,10 +73,10 @@ names_apart p h i j d less high = in_order p.tokens.list 0 (items_marks p.items)
 either : (m n : ℕ) (P : Type 0) → (m < n → P) → (n ≤ m → P) → P
 either m n P f g = ⊎_elim f g (cases_lt m n)
 
-a_name_first : (n : ℕ) (k : TokenKind) (text : List ℕ) (l : List Mark) → k ≡ kind.Identifier → Contains (kind_marks k text n ++ l) (a_name n text)
+a_name_first : (n : ℕ) (k : TokenKind) (text : List ℕ) (l : List Mark) → k ≡ TokenKind.Identifier → Contains (kind_marks k text n ++ l) (a_name n text)
 a_name_first n k text l is = subst (λ z. Contains (kind_marks z text n ++ l) (a_name n text)) (sym is) (0, omega arith, refl)
 
-name_among : (all : List Token) (n m : ℕ) (l : List Token) (d : Token) → drop m all ≡ l → m ≤ n → n < length all → (get_or all n d).kind ≡ kind.Identifier → Contains (marks_from m l) (a_name n (get_or all n d).text)
+name_among : (all : List Token) (n m : ℕ) (l : List Token) (d : Token) → drop m all ≡ l → m ≤ n → n < length all → (get_or all n d).kind ≡ TokenKind.Identifier → Contains (marks_from m l) (a_name n (get_or all n d).text)
 name_among all n m [] d is low high h =
     let size : length all - m ≡ 0 = sym (length-drop m all) ∙ ap length is in
     absurd (omega (arith, size, low, high))
@@ -91,11 +89,11 @@ name_among all n m (t ∷ rest) d is low high h =
     (λ most.
     let same : m ≡ n = omega (arith, low, most) in
     let it : get_or all n d ≡ t = ap (λ z. get_or all z d) (sym same) ∙ first in
-    let is_name : t.kind ≡ kind.Identifier = ap (λ (x : Token). x.kind) (sym it) ∙ h in
+    let is_name : t.kind ≡ TokenKind.Identifier = ap (λ (x : Token). x.kind) (sym it) ∙ h in
     let mark : a_name m t.text ≡ a_name n (get_or all n d).text = ap (λ z. a_name z t.text) same ∙ ap (λ (x : Token). a_name n x.text) (sym it) in
     subst (Contains (kind_marks t.kind t.text m ++ marks_from (m + 1) rest)) mark (a_name_first m t.kind t.text (marks_from (m + 1) rest) is_name))
 
-pub name_there : (p : tree.Program) → IsPlaced p → (n : ℕ) (t : Token) → n < length p.tokens.list → (get_or p.tokens.list n t).kind ≡ kind.Identifier → Contains (items_marks p.items) (a_name n (get_or p.tokens.list n t).text)
+pub name_there : (p : tree.Program) → IsPlaced p → (n : ℕ) (t : Token) → n < length p.tokens.list → (get_or p.tokens.list n t).kind ≡ TokenKind.Identifier → Contains (items_marks p.items) (a_name n (get_or p.tokens.list n t).text)
 name_there p placed n t high h = subst (λ l. Contains l (a_name n (get_or p.tokens.list n t).text)) (sym placed.marked) (name_among p.tokens.list n 0 p.tokens.list t refl (omega arith) high h)
 
 -- what `print_span` asks

@@ -1,11 +1,6 @@
 -- The machine's steps over statements with others inside, and where they are.
-use Rattle.std.proofs.{Common.{◌≡◌, ℕ, ◌+◌, ◌-◌, ◌≤◌, ◌<◌, List, [], ◌∷◌, ◌++◌, Some, refl, sym, ap, ◌∙◌, arith, Bool, true, false, cond}, lemmas.Bool.{lt-leb, le-leb, false≢true, true≢false}}
-use Rattle.std.specs.Prelude.{Result, Ok, Err}
+use Rattle.sharc_parse.proofs.{Imports.{◌≡◌, ℕ, ◌+◌, ◌-◌, ◌≤◌, ◌<◌, List, [], ◌∷◌, ◌++◌, Some, refl, sym, ap, ◌∙◌, arith, Bool, true, false, cond, lt-leb, le-leb, false≢true, true≢false, Result, Ok, Err, view_statements-push, view_stmt, view_statements, Token, Site, Span, OpenBrace, CloseBrace, Stmt, Keyword, Word, keyword, mark, Phrase, Loop, Sentence, under, Sentences, no_more, sentence, if_of, else_of, Opening, while_of, for_of, Outer, body, items, inside, as_statement, Start, Done, At, start, line_start, done, is_else, holds_items, with_item, Over, next_within, reads_within, around_it, site_in, size, sentence_size, all_size, opening_size, span_at, expression_at, head_at, statement_at, statements_at, ReadingFault, Memory, bare, from, Past, NotAt, IsAt, line_within, StatementWord, If, While, For, Return, Break, Continue, statement_word, NoStatement, bare_head, bare_statement, sentence_of, sentences_of, ReadsStatement, BuildsStatement, IsRestPlaced, IsOpen, holding, closed, ReadsStatements}, Steps.{passes, fails}, WordSteps.line_there, PlainSteps.over_statement}
 use Rattle.sharc_tree.specs.Tree as tree
-use Rattle.sharc_tree.specs.{Children.view_statements-push, View.{view_stmt, view_statements}, declared.token.Token.Token, declared.token.Site.Site, declared.token.Span.Span, declared.token.Punctuator.TheVariants.{OpenBrace, CloseBrace}, declared.tree.statement.Stmt.Stmt}
-use Rattle.sharc_tree.specs.declared.token.Keyword.TheVariants as key
-use Rattle.sharc_parse.specs.{Grammar.{Word, keyword, mark, Phrase, Loop, Sentence, under, Sentences, no_more, sentence, if_of, else_of, Opening, while_of, for_of}, Machine.{Outer, body, items, inside, as_statement, Start, Done, At, start, line_start, done, is_else, holds_items, with_item}, Limits.{Over, next_within, reads_within, around_it}, Places.{site_in, size, sentence_size, all_size, opening_size, span_at, expression_at, head_at, statement_at, statements_at}, declared.token.ReadingFault.ReadingFault, declared.token.ReadingFault.TheVariants.Memory, View.bare, Goes.{from, Past, NotAt, IsAt}, Lines.line_within, declared.word.StatementWord.StatementWord, declared.word.StatementWord.TheVariants.{If, While, For, Return, Break, Continue}, Words.{statement_word, NoStatement}, Heads.bare_head, Statements.{bare_statement, sentence_of, sentences_of, ReadsStatement, BuildsStatement, IsRestPlaced}, Nested.{IsOpen, holding, closed, ReadsStatements}}
-use Rattle.sharc_parse.proofs.{Steps.{passes, fails}, WordSteps.line_there, PlainSteps.over_statement}
 
 -- blocks
 
@@ -28,12 +23,12 @@ block_closes (inside w o) s ts y is h = absurd (false≢true h)
 
 -- inside another statement a `}` begins no line
 inside_step : (w : Opening) (o : Outer) (t : Word) → ((w : StatementWord) → t ≡ statement_word w → ⊥) → (t ≡ mark OpenBrace → ⊥) → start (inside w o) t ≡ line_start as_statement (inside w o) t
-inside_step w o (keyword key.If) h a = absurd (h If refl)
-inside_step w o (keyword key.While) h a = absurd (h While refl)
-inside_step w o (keyword key.For) h a = absurd (h For refl)
-inside_step w o (keyword key.Return) h a = absurd (h Return refl)
-inside_step w o (keyword key.Break) h a = absurd (h Break refl)
-inside_step w o (keyword key.Continue) h a = absurd (h Continue refl)
+inside_step w o (keyword Keyword.If) h a = absurd (h If refl)
+inside_step w o (keyword Keyword.While) h a = absurd (h While refl)
+inside_step w o (keyword Keyword.For) h a = absurd (h For refl)
+inside_step w o (keyword Keyword.Return) h a = absurd (h Return refl)
+inside_step w o (keyword Keyword.Break) h a = absurd (h Break refl)
+inside_step w o (keyword Keyword.Continue) h a = absurd (h Continue refl)
 inside_step w o (mark OpenBrace) h a = absurd (a refl)
 inside_step w o _ h a = refl
 
@@ -49,16 +44,16 @@ line_anywhere false o ts h i n a = line_inside o ts h n a
 
 -- the ends of statements with others inside
 
-pub else_goes : (e : Phrase) (s : Sentence) (o : Outer) (room : ℕ) (ts y : List Word) → ts ≡ keyword key.Else ∷ y → around_it o + room ≡ 64 → 2 ≤ room → reads_within ts (At [] (Done s (inside (if_of e) o))) ≡ reads_within y (At [] (Start (inside (else_of e s) o)))
+pub else_goes : (e : Phrase) (s : Sentence) (o : Outer) (room : ℕ) (ts y : List Word) → ts ≡ keyword Keyword.Else ∷ y → around_it o + room ≡ 64 → 2 ≤ room → reads_within ts (At [] (Done s (inside (if_of e) o))) ≡ reads_within y (At [] (Start (inside (else_of e s) o)))
 else_goes e s o room ts y is h r =
     ap (λ ts. reads_within ts (At [] (Done s (inside (if_of e) o)))) is
-    ∙ passes (At [] (Start (inside (else_of e s) o))) y (keyword key.Else ∷ y) (lt-leb 63 (around_it o) (omega (arith, h, r)))
+    ∙ passes (At [] (Start (inside (else_of e s) o))) y (keyword Keyword.Else ∷ y) (lt-leb 63 (around_it o) (omega (arith, h, r)))
 
-no_else : (t : Word) → (t ≡ keyword key.Else → ⊥) → is_else t ≡ false
-no_else (keyword key.Else) n = absurd (n refl)
+no_else : (t : Word) → (t ≡ keyword Keyword.Else → ⊥) → is_else t ≡ false
+no_else (keyword Keyword.Else) n = absurd (n refl)
 no_else _ n = refl
 
-pub if_ends : (e : Phrase) (s : Sentence) (o : Outer) (ts : List Word) → NotAt (keyword key.Else) ts → reads_within ts (At [] (Done s (inside (if_of e) o))) ≡ reads_within ts (At [] (Done (under (if_of e) s) o))
+pub if_ends : (e : Phrase) (s : Sentence) (o : Outer) (ts : List Word) → NotAt (keyword Keyword.Else) ts → reads_within ts (At [] (Done s (inside (if_of e) o))) ≡ reads_within ts (At [] (Done (under (if_of e) s) o))
 if_ends e s o [] n = refl
 if_ends e s o (t ∷ y) n = ap (λ b. next_within (cond b (Some (At [] (Start (inside (else_of e s) o)))) (done (under (if_of e) s) o t)) (λ z. reads_within y z) (t ∷ y)) (no_else t n)
 

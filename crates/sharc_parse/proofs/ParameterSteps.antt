@@ -1,9 +1,5 @@
 -- The machine's steps over the parameters of a function.
-use Rattle.std.proofs.Common.{◌≡◌, ℕ, ◌+◌, List, [], ◌∷◌, ◌++◌, Some, None, refl, sym, ap, ◌∙◌, arith}
-use Rattle.std.specs.Prelude.{Ok, Err}
-use Rattle.sharc_tree.specs.{declared.token.Token.Token, declared.token.Punctuator.TheVariants.{Comma, CloseParenthesis}, declared.tree.declaration.Declaration.Declaration}
-use Rattle.sharc_parse.specs.{Grammar.{Word, mark, Typing, Declaring, Part, no_more}, Machine.{body, parameter_of, naming, TypeWant, Named, Start, a_brace, At, with_declaring, named_parameter}, Limits.{StuckAt, next_within, reads_within}, Places.{site_in, fields_size, declaring_size, declarations_at, parameters_size}, declared.token.ReadingFault.ReadingFault, declared.token.ReadingFault.TheVariants.{Memory, Wrong}, View.bare_declaration, Goes.{NotAt, from, Past}, Locals.{IsPlainPlace, ReadsDeclaration, IsDeclarationPlaced}, Fields.declared, Parameters.{ReadsFirst, IsFirstPlaced, ReadsParameters, AreParametersPlaced}}
-use Rattle.sharc_parse.proofs.FieldSteps.{declared_more, fields_size_more, declarations_more}
+use Rattle.sharc_parse.proofs.{Imports.{◌≡◌, ℕ, ◌+◌, List, [], ◌∷◌, ◌++◌, Some, None, refl, sym, ap, ◌∙◌, arith, Ok, Err, Token, Comma, CloseParenthesis, Declaration, Word, mark, Typing, Declaring, Part, no_more, body, parameter_of, naming, TypeWant, Named, Start, a_brace, At, with_declaring, named_parameter, StuckAt, next_within, reads_within, site_in, fields_size, declaring_size, declarations_at, parameters_size, ReadingFault, Memory, Wrong, bare_declaration, NotAt, from, Past, IsPlainPlace, ReadsDeclaration, IsDeclarationPlaced, declared, ReadsFirst, IsFirstPlaced, ReadsParameters, AreParametersPlaced}, FieldSteps.{declared_more, fields_size_more, declarations_more}}
 
 parameter_goes : (all : List Part) (r : Typing) (f : List ℕ) (before : List Declaring) (d : Declaring) (ts y : List Word) → ts ≡ mark Comma ∷ y → reads_within ts (At [] (Named (parameter_of all r f before) d.typing d.named)) ≡ reads_within y (At [] (TypeWant (naming (parameter_of all r f (with_declaring before d)))))
 parameter_goes all r f before d ts y e = ap (λ ts. reads_within ts (At [] (Named (parameter_of all r f before) d.typing d.named))) e

@@ -1,16 +1,11 @@
 -- The tree of an expression lies at its tokens.
-use Rattle.std.proofs.Common.{◌≡◌, ℕ, ◌+◌, ◌≤◌, ◌<◌, List, [], ◌∷◌, length, Option, Some, None, IfSome, refl, arith, Bool, true, false}
+use Rattle.sharc_parse.proofs.{Imports.{◌≡◌, ℕ, ◌+◌, ◌≤◌, ◌<◌, List, [], ◌∷◌, length, Option, Some, None, IfSome, refl, arith, Bool, true, false, span_of, name_marks, type_marks, declaration_marks, declarations_marks, marks, arguments_marks, option_marks, AreMarks, point, option_spans, argument_spans, declaration_spans, PlacedType, PlacedDeclaration, PlacedDeclarations, Placed, AllPlaced, Site, Span, Token, Base, PlaceCall, Sharing, Typing, Declaring, Front, parenthesis, of_spawn, of_place, of_cast, Phrase, identifier, constant, enclosed, call, index, field, unary, binary, Phrases, none, more, FitsList, FitsType, FitsFront, Fits, FitAll, FitsOption, FitAllDeclaring, span_at, name_at, level_size, base_size, levels_size, type_size, declaring_size, front_size, size, sizes, rest_size, option_size, fields_size, base_name, base_place, type_at, declaration_at, front_at, expression_at, arguments_at, option_at, declarations_at}, Marks.{left, right}, Standing.{Standing, Lies, lies, lies_point, Row, part, last, whole}}
 use Rattle.sharc_tree.specs.Tree as tree
-use Rattle.sharc_tree.specs.{Spans.span_of, Marks.{name_marks, type_marks, declaration_marks, declarations_marks, marks, arguments_marks, option_marks, AreMarks}, Placed.{point, option_spans, argument_spans, declaration_spans, PlacedType, PlacedDeclaration, PlacedDeclarations, Placed, AllPlaced}, declared.token.Site.Site, declared.token.Span.Span, declared.token.Token.Token, declared.ctype.Base.Base}
-use Rattle.sharc_tree.specs.declared.ctype.Base.TheVariants as base
-use Rattle.sharc_tree.specs.declared.tree.expression.PlaceCall.TheVariants as place_call
-use Rattle.sharc_parse.specs.{Grammar.{Sharing, Typing, Declaring, Front, parenthesis, of_spawn, of_place, of_cast, Phrase, identifier, constant, enclosed, call, index, field, unary, binary, Phrases, none, more, FitsList, FitsType, FitsFront, Fits, FitAll, FitsOption, FitAllDeclaring}, Places.{span_at, name_at, level_size, base_size, levels_size, type_size, declaring_size, front_size, size, sizes, rest_size, option_size, fields_size, base_name, base_place, type_at, declaration_at, front_at, expression_at, arguments_at, option_at, declarations_at}}
-use Rattle.sharc_parse.proofs.{Marks.{left, right}, Standing.{Standing, Lies, lies, lies_point, Row, part, last, whole}}
 
 -- types
 
 base_some : (b : Base) (n : ℕ) → (n ≤ base_name b n) × (base_name b n + 1 ≤ n + base_size b)
-base_some (base.Struct x) n = (omega arith, omega arith)
+base_some (Base.Struct x) n = (omega arith, omega arith)
 base_some _ n = (omega arith, omega arith)
 
 -- the name of the base is in the type
@@ -98,10 +93,10 @@ placed_front all s h n (of_spawn x) a f q w p =
       w.0,
       p,
     )
-placed_front all s h n (of_place place_call.Lock) a f q w p =
+placed_front all s h n (of_place PlaceCall.Lock) a f q w p =
     let k = 3 + size a + 1 in
     (whole all s h n k _ (omega arith) q (last_part all s h n (n + 3) (n + k) a (omega arith) (omega arith) q), p)
-placed_front all s h n (of_place place_call.Unlock) a f q w p =
+placed_front all s h n (of_place PlaceCall.Unlock) a f q w p =
     let k = 3 + size a + 1 in
     (whole all s h n k _ (omega arith) q (last_part all s h n (n + 3) (n + k) a (omega arith) (omega arith) q), p)
 placed_front all s h n (of_cast t) a f q w p =

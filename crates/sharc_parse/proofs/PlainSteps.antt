@@ -1,10 +1,6 @@
 -- The machine's steps over statements that hold no other.
-use Rattle.std.proofs.{Common.{◌≡◌, ℕ, inl, inr, ◌+◌, ◌<◌, List, [], ◌∷◌, sym, ap, ◌∙◌, arith, Bool, true, false, Option, subst}, lemmas.Bool.Decides.eqb_tells, lemmas.Bool.{lt-leb, le-leb}}
-use Rattle.std.specs.Prelude.{◌==◌, ◌⊎◌, ◌≢◌, Result, Ok, Err}
-use Rattle.sharc_tree.specs.{declared.token.Punctuator.TheVariants.Semicolon, declared.tree.statement.Jump.Jump, View.{view_expr, view_option, view_stmt}, declared.token.Token.Token, declared.token.Site.Site, declared.token.Span.Span, declared.tree.expression.Expr.Expr, declared.tree.statement.Stmt.Stmt}
-use Rattle.sharc_parse.specs.{Grammar.{Word, mark, jump}, Machine.{Outer, as_statement, Done, a_semicolon, At, holds_items, may_declare}, Limits.{reads_within, around_it, crowded_line}, Places.{site_in, option_size, option_at, span_at, statement_at, sentence_size}, declared.token.ReadingFault.ReadingFault, declared.token.ReadingFault.TheVariants.Memory, Rights.option_of, Heads.{by_return, ReadsTail, IsTailPlaced}, Statements.{bare_statement, sentence_of, BuildsStatement, ReadsReturn, IsRestPlaced}}
+use Rattle.sharc_parse.proofs.{Imports.{◌≡◌, ℕ, inl, inr, ◌+◌, ◌<◌, List, [], ◌∷◌, sym, ap, ◌∙◌, arith, Bool, true, false, Option, subst, eqb_tells, lt-leb, le-leb, ◌==◌, ◌⊎◌, ◌≢◌, Result, Ok, Err, Semicolon, Jump, view_expr, view_option, view_stmt, Token, Site, Span, Expr, Stmt, Word, mark, jump, Outer, as_statement, Done, a_semicolon, At, holds_items, may_declare, reads_within, around_it, crowded_line, site_in, option_size, option_at, span_at, statement_at, sentence_size, ReadingFault, Memory, option_of, by_return, ReadsTail, IsTailPlaced, bare_statement, sentence_of, BuildsStatement, ReadsReturn, IsRestPlaced}, Steps.fixed_goes}
 use Rattle.sharc_tree.specs.Tree as tree
-use Rattle.sharc_parse.proofs.Steps.{fixed_goes}
 
 pub line_may : (o : Outer) (may : Bool) → holds_items o ≡ may → may_declare as_statement o ≡ may
 line_may o may e = e

@@ -1,11 +1,8 @@
 -- The machine's steps over the items of a program, and its first fault.
-use Rattle.std.proofs.{Common.{◌≡◌, ℕ, ◌+◌, ◌-◌, ◌<◌, ◌≤◌, List, [], ◌∷◌, ◌++◌, length, drop, refl, sym, ap, ◌∙◌, arith, subst, length-drop}, lemmas.List.{drop_all, length-map}}
-use Rattle.std.specs.Prelude.{Result, Ok, Err}
-use Rattle.sharc_tree.specs.{View.{view_item, view_items, view_program}, declared.token.Token.Token, declared.token.Tokens.Tokens, declared.token.Site.Site, declared.tree.item.Item.Item, declared.tree.item.Program.Program}
+use Rattle.sharc_parse.proofs.Imports.{◌≡◌, ℕ, ◌+◌, ◌-◌, ◌<◌, ◌≤◌, List, [], ◌∷◌, ◌++◌, length, drop, refl, sym, ap, ◌∙◌, arith, subst, length-drop, drop_all, length-map, Result, Ok, Err, view_item, view_items, view_program, Token, Tokens, Site, Item, Word, Part, IsProgram, program_words, on_top, naming, TypeWant, Top, At, with_part, first_state, LowProgram, ReadWithin, StuckAt, Over, reads_within, words_of, site_in, part_size, item_at, items_at, Reads, IsFault, wrong_code, ReadingFault, Memory as NoMemory, Wrong, ParseFault, FaultOf, from, part_of, ReadsItem, IsItemPlaced, TokenRefusal, parts_of, code_of, ReadsItems, Refuses, Completes, Parses, GrammarFault}
+use Rattle.sharc_tree.specs.declared.tree.item.Program.{Program}
 use Rattle.sharc_tree.specs.Tree as tree
-use Rattle.sharc_parse.specs.{Grammar.{Word, Part, IsProgram, program_words}, Machine.{on_top, naming, TypeWant, Top, At, with_part, first_state}, Limits.{LowProgram, ReadWithin, StuckAt, Over, reads_within}, Places.{words_of, site_in, part_size, item_at, items_at, Reads}, Faults.{IsFault, wrong_code}, declared.token.ReadingFault.ReadingFault, declared.token.ReadingFault.TheVariants.{Memory as NoMemory, Wrong, Deep}, declared.program.ParseFault.ParseFault, declared.program.ParseFault.TheVariants.{At as FaultOf, Memory}, Goes.from, Items.{part_of, ReadsItem, IsItemPlaced}, declared.program.TokenRefusal.TokenRefusal, Programs.{parts_of, code_of, ReadsItems, Refuses, Completes, Parses}}
-use Rattle.sharc_parse.specs.declared.fault.GrammarFault.TheVariants as grammar_faults
-use Rattle.sharc_parse.specs.declared.program.TokenRefusal.TheVariants as refusals
+use Rattle.sharc_parse.specs.{declared.token.ReadingFault.TheVariants.Deep, declared.program.ParseFault.TheVariants.Memory}
 
 -- at a word, a step from the top is one of a type there
 top_goes : (all : List Part) (ts : List Word) → 0 < length ts → reads_within ts (At [] (Top all)) ≡ reads_within ts (At [] (TypeWant (naming (on_top all))))
@@ -84,15 +81,15 @@ abbrev pub StuckAtFault : Type 0
 StuckAtFault = (all rest : List Word) (n : ℕ) → n ≡ length all - length rest → reads_within all first_state ≡ StuckAt rest → IsFault all (wrong_code rest) n
 
 abbrev pub OverAtFault : Type 0
-OverAtFault = (all rest : List Word) (n : ℕ) → n ≡ length all - length rest → reads_within all first_state ≡ Over rest → IsFault all grammar_faults.Deep n
+OverAtFault = (all rest : List Word) (n : ℕ) → n ≡ length all - length rest → reads_within all first_state ≡ Over rest → IsFault all GrammarFault.Deep n
 
 words_before : (tokens : List Token) (n : ℕ) → n ≤ length tokens → n ≡ length (words_of tokens) - length (from tokens n)
 words_before tokens n h = omega (arith, h, words_left tokens 0, words_left tokens n)
 
-pub stuck_there : (law : StuckAtFault) (tokens : List Token) (n : ℕ) → n ≤ length tokens → reads_within (words_of tokens) first_state ≡ StuckAt (from tokens n) → IsFault (words_of tokens) (code_of refusals.Wrong (from tokens n)) n
+pub stuck_there : (law : StuckAtFault) (tokens : List Token) (n : ℕ) → n ≤ length tokens → reads_within (words_of tokens) first_state ≡ StuckAt (from tokens n) → IsFault (words_of tokens) (code_of TokenRefusal.Wrong (from tokens n)) n
 stuck_there law tokens n h e = law (words_of tokens) (from tokens n) n (words_before tokens n h) e
 
-pub over_there : (law : OverAtFault) (tokens : List Token) (n : ℕ) → n ≤ length tokens → reads_within (words_of tokens) first_state ≡ Over (from tokens n) → IsFault (words_of tokens) (code_of refusals.Deep (from tokens n)) n
+pub over_there : (law : OverAtFault) (tokens : List Token) (n : ℕ) → n ≤ length tokens → reads_within (words_of tokens) first_state ≡ Over (from tokens n) → IsFault (words_of tokens) (code_of TokenRefusal.Deep (from tokens n)) n
 over_there law tokens n h e = law (words_of tokens) (from tokens n) n (words_before tokens n h) e
 
 pub parses_refused : (result : Result Program ParseFault) (tokens : Tokens) (n : ℕ) (refusal : TokenRefusal) → IsFault (words_of tokens.list) (code_of refusal (from tokens.list n)) n → Refuses result tokens n refusal → Parses result tokens

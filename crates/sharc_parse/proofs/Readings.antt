@@ -1,10 +1,7 @@
 -- There is one reading, and its measures are those of its tree.
-use Rattle.std.proofs.{Common.{◌≡◌, ℕ, ◌+◌, ◌-◌, ◌≤◌, List, [], ◌++◌, length, take, drop, refl, sym, ap, ◌∙◌, arith, subst, length-append, max, inl, inr}, Math.Seq.{take-append_seam, drop-append_seam}}
+use Rattle.sharc_parse.proofs.{Imports.{◌≡◌, ℕ, ◌+◌, ◌-◌, ◌≤◌, List, [], ◌++◌, length, take, drop, refl, sym, ap, ◌∙◌, arith, subst, length-append, max, inl, inr, take-append_seam, drop-append_seam, Site, Span, Tokens, Word, Front, of_cast, Phrase, enclosed, call, index, field, unary, binary, Phrases, none, more, Line, does, Sentence, line, block, under, Sentences, no_more, sentence, Opening, else_of, Callable, Part, program_words, IsProgram, height, highest, line_nesting, nesting, deepest, nesting_before, BeginsWithin, StuckAt, Over, reads_within, Read, reads, first_state, Reads, site_in, items_at, size, sentence_size, expression_at, arguments_at, front_at, statement_at, statements_at, under_at, line_at, function_at, IsFault, wrong_code, Deep}, Whole.only, WithinLaws.{first_wrong, first_excess}}
 use Rattle.sharc_tree.specs.Tree as tree
 use Rattle.sharc_tree.specs.Measures as measures
-use Rattle.sharc_tree.specs.{declared.token.Site.Site, declared.token.Span.Span, declared.token.Tokens.Tokens}
-use Rattle.sharc_parse.specs.{Grammar.{Word, Front, of_cast, Phrase, enclosed, call, index, field, unary, binary, Phrases, none, more, Line, does, Sentence, line, block, under, Sentences, no_more, sentence, Opening, else_of, Callable, Part, program_words, IsProgram}, Limits.{height, highest, line_nesting, nesting, deepest, nesting_before, BeginsWithin, StuckAt, Over, reads_within}, Machine.{Read, reads, first_state}, Places.{Reads, site_in, items_at, size, sentence_size, expression_at, arguments_at, front_at, statement_at, statements_at, under_at, line_at, function_at}, Faults.{IsFault, wrong_code}, declared.fault.GrammarFault.TheVariants.Deep}
-use Rattle.sharc_parse.proofs.{Whole.only, WithinLaws.{first_wrong, first_excess}}
 
 same_program : (p q : List Part) → IsProgram p → IsProgram q → program_words p [] ≡ program_words q [] → p ≡ q
 same_program p q a b e = let h : Read p ≡ Read q = sym (only p a) ∙ ap (λ z. reads z first_state) e ∙ only q b in cc

@@ -1,12 +1,7 @@
 -- The machine's steps over the right side of `=`.
-use Rattle.std.proofs.Common.{◌≡◌, ◌≤◌, ◌<◌, List, [], ◌∷◌, Option, Some, None, refl, ap, arith, Bool, false}
-use Rattle.std.specs.Prelude.{map, Ok}
-use Rattle.sharc_tree.specs.declared.token.Keyword.TheVariants as key
-use Rattle.sharc_tree.specs.{declared.token.Punctuator.TheVariants.{OpenParenthesis, CloseParenthesis, OpenBrace, OpenBracket, Dot, Arrow, Comma, Star}, declared.ctype.Base.Base, declared.tree.declaration.WrittenType.WrittenType}
-use Rattle.sharc_parse.specs.{Grammar.{Word, name, keyword, mark, Sharing, Typing, Phrase, Value, value, malloc}, Machine.{Outer, ValuePlace, ExpressionPlace, part, valued, counting, Want, Have, Malloced, Valued, TypeWant, sizing, an_open, a_close, a_sizeof, At, Role, Operating, Ending, role, grip_of, grip, have, leave, typed, level_step}, Limits.{StuckAt, next_within, reads_within}, View.{bare_level, bare_type}, Goes.NotAt, Types.{EndsLevels, EndsType, typed_levels, typed_state}, Rights.{EndsValue, valued_state, value_within}}
-use Rattle.sharc_parse.proofs.Steps.{some_strength}
+use Rattle.sharc_parse.proofs.{Imports.{◌≡◌, ◌≤◌, ◌<◌, List, [], ◌∷◌, Option, Some, None, refl, ap, arith, Bool, false, map, Ok, Keyword, OpenParenthesis, CloseParenthesis, OpenBrace, OpenBracket, Dot, Arrow, Comma, Star, Base, WrittenType, Word, name, keyword, mark, Sharing, Typing, Phrase, Value, value, malloc, Outer, ValuePlace, ExpressionPlace, part, valued, counting, Want, Have, Malloced, Valued, TypeWant, sizing, an_open, a_close, a_sizeof, At, Role, Operating, Ending, role, grip_of, grip, have, leave, typed, level_step, StuckAt, next_within, reads_within, bare_level, bare_type, NotAt, EndsLevels, EndsType, typed_levels, typed_state, EndsValue, valued_state, value_within}, Steps.some_strength}
 
-pub malloc_goes : (v : ValuePlace) (o : Outer) (y : List Word) → reads_within (keyword key.Malloc ∷ y) (At [] (Want (part (valued v) o))) ≡ reads_within y (At (an_open ∷ []) (Malloced v o))
+pub malloc_goes : (v : ValuePlace) (o : Outer) (y : List Word) → reads_within (keyword Keyword.Malloc ∷ y) (At [] (Want (part (valued v) o))) ≡ reads_within y (At (an_open ∷ []) (Malloced v o))
 malloc_goes v o y = refl
 
 pub malloc_opens : (v : ValuePlace) (o : Outer) (y : List Word) → reads_within (mark OpenParenthesis ∷ y) (At (an_open ∷ []) (Malloced v o)) ≡ reads_within y (At [] (Malloced v o))
@@ -14,17 +9,17 @@ malloc_opens v o y = refl
 
 -- counts
 
-pub count_begins : (v : ValuePlace) (o : Outer) (ts : List Word) → NotAt (keyword key.Sizeof) ts → reads_within ts (At [] (Malloced v o)) ≡ reads_within ts (At [] (Want (part (counting v) o)))
-count_begins v o (keyword key.Sizeof ∷ y) h = absurd (h refl)
+pub count_begins : (v : ValuePlace) (o : Outer) (ts : List Word) → NotAt (keyword Keyword.Sizeof) ts → reads_within ts (At [] (Malloced v o)) ≡ reads_within ts (At [] (Want (part (counting v) o)))
+count_begins v o (keyword Keyword.Sizeof ∷ y) h = absurd (h refl)
 count_begins v o _ h = refl
 
-pub sizeof_goes : (v : ValuePlace) (o : Outer) (y : List Word) → reads_within (keyword key.Sizeof ∷ y) (At [] (Malloced v o)) ≡ reads_within y (At (an_open ∷ []) (TypeWant (sizing v None o)))
+pub sizeof_goes : (v : ValuePlace) (o : Outer) (y : List Word) → reads_within (keyword Keyword.Sizeof ∷ y) (At [] (Malloced v o)) ≡ reads_within y (At (an_open ∷ []) (TypeWant (sizing v None o)))
 sizeof_goes v o y = refl
 
 pub count_goes : (v : ValuePlace) (o : Outer) (x : Phrase) (y : List Word) → reads_within (mark Star ∷ y) (At [] (Have x (part (counting v) o))) ≡ reads_within y (At (a_sizeof ∷ (an_open ∷ [])) (TypeWant (sizing v (Some x) o)))
 count_goes v o x y = refl
 
-pub count_sizes : (v : ValuePlace) (o : Outer) (n : Option Phrase) (y : List Word) → reads_within (keyword key.Sizeof ∷ y) (At (a_sizeof ∷ (an_open ∷ [])) (TypeWant (sizing v n o))) ≡ reads_within y (At (an_open ∷ []) (TypeWant (sizing v n o)))
+pub count_sizes : (v : ValuePlace) (o : Outer) (n : Option Phrase) (y : List Word) → reads_within (keyword Keyword.Sizeof ∷ y) (At (a_sizeof ∷ (an_open ∷ [])) (TypeWant (sizing v n o))) ≡ reads_within y (At (an_open ∷ []) (TypeWant (sizing v n o)))
 count_sizes v o n y = refl
 
 count_word : (v : ValuePlace) (o : Outer) (x : Phrase) (t : Word) → grip_of (role t) ≤ 11 → (t ≡ mark Star → ⊥) → have (role t) x (part (counting v) o) t ≡ None

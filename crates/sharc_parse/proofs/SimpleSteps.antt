@@ -1,8 +1,5 @@
 -- The machine's steps over assignments and calls.
-use Rattle.std.proofs.Common.{◌≡◌, ◌≤◌, List, [], ◌∷◌, None, refl, sym, ap, ◌∙◌, arith, true, false, cond}
-use Rattle.sharc_tree.specs.declared.token.Punctuator.TheVariants.{Assign, Semicolon, CloseParenthesis}
-use Rattle.sharc_parse.specs.{Grammar.{Word, mark, Phrase, Value, Doing, assign, invoke, is_call}, Machine.{Outer, DoingPlace, in_line, as_step, of_doing, part, subject, valued, Want, Have, At, Role, Operating, Ending, role, grip_of, grip, have, subject_end, doing_end}, Limits.{StuckAt, next_within, reads_within}, Operators.weak, Goes.NotAt, Rights.value_within, Simples.{doing_state, EndsDoing, doing_within}}
-use Rattle.sharc_parse.proofs.{Steps.{some_strength, closed_operator}, RightSteps.value_ends}
+use Rattle.sharc_parse.proofs.{Imports.{◌≡◌, ◌≤◌, List, [], ◌∷◌, None, refl, sym, ap, ◌∙◌, arith, true, false, cond, Assign, Semicolon, CloseParenthesis, Word, mark, Phrase, Value, Doing, assign, invoke, is_call, Outer, DoingPlace, in_line, as_step, of_doing, part, subject, valued, Want, Have, At, Role, Operating, Ending, role, grip_of, grip, have, subject_end, doing_end, StuckAt, next_within, reads_within, weak, NotAt, value_within, doing_state, EndsDoing, doing_within}, Steps.{some_strength, closed_operator}, RightSteps.value_ends}
 
 pub assign_goes : (d : DoingPlace) (o : Outer) (x : Phrase) (y : List Word) → reads_within (mark Assign ∷ y) (At [] (Have x (part (subject d) o))) ≡ reads_within y (At [] (Want (part (valued (of_doing d x)) o)))
 assign_goes d o x y = refl

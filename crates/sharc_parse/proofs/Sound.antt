@@ -1,13 +1,5 @@
 -- What the machine has read fits, and has the words that were read.
-use Rattle.std.proofs.{Common.{◌≡◌, ℕ, ◌≤◌, ◌<◌, List, [], ◌∷◌, Option, Some, None, refl, sym, subst, ap, ◌∙◌, arith, Bool, true, false, cond}, lemmas.Bool.leb-true}
-use Rattle.std.specs.Prelude.{nat_le}
-use Rattle.sharc_tree.specs.declared.token.Keyword.TheVariants as key
-use Rattle.sharc_tree.specs.{declared.token.Punctuator.TheVariants.{OpenParenthesis, CloseParenthesis, OpenBrace, CloseBrace, OpenBracket, CloseBracket, Semicolon, Comma, Arrow, Assign, Minus, Star, Exclamation, Tilde}, declared.ctype.Base.Base, declared.tree.expression.BinaryOperator.BinaryOperator, declared.tree.expression.FieldOperator.FieldOperator}
-use Rattle.sharc_tree.specs.declared.ctype.Base.TheVariants as base
-use Rattle.sharc_tree.specs.declared.tree.expression.BinaryOperator.TheVariants as op
-use Rattle.sharc_tree.specs.declared.tree.expression.Constant.TheVariants as constants
-use Rattle.sharc_parse.specs.{Grammar.{Word, name, keyword, mark, number, character, Sharing, private, readonly, racy, dynamic, locked, locked_through, Typing, Declaring, sharing_words, level_words, base_words, levels_words, type_words, declaring_words, FitsLevels, FitsType, Front, Phrase, identifier, unary, binary, Phrases, none, more, operator_mark, unary_mark, access_mark, strength, front_words, words, words_of_all, words_of_rest, level, front_level, FitsFront, Fits, FitAll, Value, value, Doing, assign, invoke, Line, nothing, does, Sentence, under, Sentences, no_more, sentence, if_of, else_of, while_of, for_of, option_words, count_words, value_words, doing_words, line_words, written, written_all, opening_words, is_call, is_declaring, is_declaration, takes_else, FitsOption, FitsCount, FitsValue, FitsDoing, FitsLine, FitsAs, FitAllAs, FitsOpening, single, array, initially, Part, structure, global, fields_words, further_words, parameters_words, part_words, program_words, FitAllDeclaring, FitsFields, FitsPart, IsProgram}, Machine.{Outer, body, items, inside, LinePlace, as_statement, as_first, DoingPlace, in_line, as_step, ValuePlace, of_doing, of_local, Asked, by_if, by_while, ExpressionPlace, condition, returning, testing, subject, valued, counting, Cont, part, beneath, right_of, fronted, indexing, arguments, NamePlace, on_top, field_of, parameter_of, local, TypePlace, naming, casting, sizing, ModePlace, before_base, at_level, Core, Want, Have, Called, Dotted, Spawning, Start, Done, Returning, ForOpen, ForTest, ForStep, Malloced, Valued, TypeWant, ModeFirst, StructWant, Typed, PathWant, PathNamed, PathThrough, Named, Fields, ArrayWant, InitialWant, InitialNegative, Top, Fixed, a_semicolon, a_bracket, State, At, fixed_words, or_else, to, Role, Calling, Indexing, Accessing, Operating, Ending, role, joined, with_last, floor, settle, mallocs, want, open_call, lined, doing_end, local_line, local_end, value_end, subject_end, condition_end, return_end, test_end, leave, front_end, index_end, argument_end, end_at, counted, shift, have, dotted, called, spawning, typing_of, takes_modes, moded, mode_step, based, base_step, begin_type, struct_want, level_step, name_step, comma_step, close_type, open_type, typed, path_want, path_named, path_through, declaring_of, with_part, with_declaring, named_top, named_field, named_parameter, named_local, named, fields, array_want, initial_negative, initial_want, with_item, function_of, close_block, may_declare, line_start, start, is_else, done, returned, for_test, for_step, malloced, core_step}, Operators.{weak, floor_most}}
-use Rattle.sharc_parse.proofs.{Complete.{ModesFit, never}, CompleteProgram.MayStand, Placing.fields_fit}
+use Rattle.sharc_parse.proofs.{Imports.{◌≡◌, ℕ, ◌≤◌, ◌<◌, List, [], ◌∷◌, Option, Some, None, refl, sym, subst, ap, ◌∙◌, arith, Bool, true, false, cond, leb-true, nat_le, Keyword, OpenParenthesis, CloseParenthesis, OpenBrace, CloseBrace, OpenBracket, CloseBracket, Semicolon, Comma, Arrow, Assign, Minus, Star, Exclamation, Tilde, Base, BinaryOperator, FieldOperator, Constant, Word, name, keyword, mark, number, character, Sharing, private, readonly, racy, dynamic, locked, locked_through, Typing, Declaring, sharing_words, level_words, base_words, levels_words, type_words, declaring_words, FitsLevels, FitsType, Front, Phrase, identifier, unary, binary, Phrases, none, more, operator_mark, unary_mark, access_mark, strength, front_words, words, words_of_all, words_of_rest, level, front_level, FitsFront, Fits, FitAll, Value, value, Doing, assign, invoke, Line, nothing, does, Sentence, under, Sentences, no_more, sentence, if_of, else_of, while_of, for_of, option_words, count_words, value_words, doing_words, line_words, written, written_all, opening_words, is_call, is_declaring, is_declaration, takes_else, FitsOption, FitsCount, FitsValue, FitsDoing, FitsLine, FitsAs, FitAllAs, FitsOpening, single, array, initially, Part, structure, global, fields_words, further_words, parameters_words, part_words, program_words, FitAllDeclaring, FitsFields, FitsPart, IsProgram, Outer, body, items, inside, LinePlace, as_statement, as_first, DoingPlace, in_line, as_step, ValuePlace, of_doing, of_local, Asked, by_if, by_while, ExpressionPlace, condition, returning, testing, subject, valued, counting, Cont, part, beneath, right_of, fronted, indexing, arguments, NamePlace, on_top, field_of, parameter_of, local, TypePlace, naming, casting, sizing, ModePlace, before_base, at_level, Core, Want, Have, Called, Dotted, Spawning, Start, Done, Returning, ForOpen, ForTest, ForStep, Malloced, Valued, TypeWant, ModeFirst, StructWant, Typed, PathWant, PathNamed, PathThrough, Named, Fields, ArrayWant, InitialWant, InitialNegative, Top, Fixed, a_semicolon, a_bracket, State, At, fixed_words, or_else, to, Role, Calling, Indexing, Accessing, Operating, Ending, role, joined, with_last, floor, settle, mallocs, want, open_call, lined, doing_end, local_line, local_end, value_end, subject_end, condition_end, return_end, test_end, leave, front_end, index_end, argument_end, end_at, counted, shift, have, dotted, called, spawning, typing_of, takes_modes, moded, mode_step, based, base_step, begin_type, struct_want, level_step, name_step, comma_step, close_type, open_type, typed, path_want, path_named, path_through, declaring_of, with_part, with_declaring, named_top, named_field, named_parameter, named_local, named, fields, array_want, initial_negative, initial_want, with_item, function_of, close_block, may_declare, line_start, start, is_else, done, returned, for_test, for_step, malloced, core_step, weak, floor_most}, Complete.{ModesFit, never}, CompleteProgram.MayStand, Placing.fields_fit}
 
 -- the arguments so far, with a comma after each
 abbrev pub list_so_far : Phrases → List Word → List Word
@@ -22,24 +14,24 @@ outside (inside w o) y = outside o (opening_words w y)
 
 abbrev pub line_place_words : LinePlace → List Word → List Word
 line_place_words as_statement y = y
-line_place_words as_first y = keyword key.For ∷ (mark OpenParenthesis ∷ y)
+line_place_words as_first y = keyword Keyword.For ∷ (mark OpenParenthesis ∷ y)
 
 abbrev pub doing_place_words : DoingPlace → List Word → List Word
 doing_place_words (in_line p) y = line_place_words p y
-doing_place_words (as_step l e) y = keyword key.For ∷ (mark OpenParenthesis ∷ line_words l (option_words e (mark Semicolon ∷ y)))
+doing_place_words (as_step l e) y = keyword Keyword.For ∷ (mark OpenParenthesis ∷ line_words l (option_words e (mark Semicolon ∷ y)))
 
 abbrev pub value_place_words : ValuePlace → List Word → List Word
 value_place_words (of_doing d u) y = doing_place_words d (words u (mark Assign ∷ y))
 value_place_words (of_local p d) y = line_place_words p (declaring_words d (mark Assign ∷ y))
 
 abbrev pub place_words : ExpressionPlace → List Word → List Word
-place_words (condition by_if) y = keyword key.If ∷ (mark OpenParenthesis ∷ y)
-place_words (condition by_while) y = keyword key.While ∷ (mark OpenParenthesis ∷ y)
-place_words returning y = keyword key.Return ∷ y
-place_words (testing l) y = keyword key.For ∷ (mark OpenParenthesis ∷ line_words l y)
+place_words (condition by_if) y = keyword Keyword.If ∷ (mark OpenParenthesis ∷ y)
+place_words (condition by_while) y = keyword Keyword.While ∷ (mark OpenParenthesis ∷ y)
+place_words returning y = keyword Keyword.Return ∷ y
+place_words (testing l) y = keyword Keyword.For ∷ (mark OpenParenthesis ∷ line_words l y)
 place_words (subject d) y = doing_place_words d y
 place_words (valued v) y = value_place_words v y
-place_words (counting v) y = value_place_words v (keyword key.Malloc ∷ (mark OpenParenthesis ∷ y))
+place_words (counting v) y = value_place_words v (keyword Keyword.Malloc ∷ (mark OpenParenthesis ∷ y))
 
 abbrev pub around : Cont → List Word → List Word
 around (part p o) y = outside o (place_words p y)
@@ -54,7 +46,7 @@ given_words [] y = y
 given_words (d ∷ rest) y = declaring_words d (further_words rest (mark Comma ∷ y))
 
 abbrev pub struct_words : List Part → List ℕ → List Declaring → List Word → List Word
-struct_words all s fields y = program_words all (keyword key.Struct ∷ (name s ∷ (mark OpenBrace ∷ fields_words fields y)))
+struct_words all s fields y = program_words all (keyword Keyword.Struct ∷ (name s ∷ (mark OpenBrace ∷ fields_words fields y)))
 
 abbrev pub name_place_words : NamePlace → List Word → List Word
 name_place_words (on_top all) y = program_words all y
@@ -64,8 +56,8 @@ name_place_words (local p o) y = outside o (line_place_words p y)
 
 abbrev pub type_place_words : TypePlace → List Word → List Word
 type_place_words (naming p) y = name_place_words p y
-type_place_words (casting k) y = around k (keyword key.Scast ∷ (mark OpenParenthesis ∷ y))
-type_place_words (sizing v n o) y = outside o (value_place_words v (keyword key.Malloc ∷ (mark OpenParenthesis ∷ count_words n (keyword key.Sizeof ∷ (mark OpenParenthesis ∷ y)))))
+type_place_words (casting k) y = around k (keyword Keyword.Scast ∷ (mark OpenParenthesis ∷ y))
+type_place_words (sizing v n o) y = outside o (value_place_words v (keyword Keyword.Malloc ∷ (mark OpenParenthesis ∷ count_words n (keyword Keyword.Sizeof ∷ (mark OpenParenthesis ∷ y)))))
 
 abbrev pub mode_place_words : ModePlace → List Word → List Word
 mode_place_words (before_base p) y = type_place_words p y
@@ -76,22 +68,22 @@ so_far (Want k) y = around k y
 so_far (Have x k) y = around k (words x y)
 so_far (Called f k) y = around k (name f ∷ (mark OpenParenthesis ∷ y))
 so_far (Dotted x a k) y = around k (words x (mark (access_mark a) ∷ y))
-so_far (Spawning k) y = around k (keyword key.Spawn ∷ (mark OpenParenthesis ∷ y))
+so_far (Spawning k) y = around k (keyword Keyword.Spawn ∷ (mark OpenParenthesis ∷ y))
 so_far (Start o) y = outside o y
 so_far (Done s o) y = outside o (written s y)
-so_far (Returning o) y = outside o (keyword key.Return ∷ y)
-so_far (ForOpen o) y = outside o (keyword key.For ∷ (mark OpenParenthesis ∷ y))
-so_far (ForTest l o) y = outside o (keyword key.For ∷ (mark OpenParenthesis ∷ line_words l y))
-so_far (ForStep l e o) y = outside o (keyword key.For ∷ (mark OpenParenthesis ∷ line_words l (option_words e (mark Semicolon ∷ y))))
-so_far (Malloced v o) y = outside o (value_place_words v (keyword key.Malloc ∷ (mark OpenParenthesis ∷ y)))
+so_far (Returning o) y = outside o (keyword Keyword.Return ∷ y)
+so_far (ForOpen o) y = outside o (keyword Keyword.For ∷ (mark OpenParenthesis ∷ y))
+so_far (ForTest l o) y = outside o (keyword Keyword.For ∷ (mark OpenParenthesis ∷ line_words l y))
+so_far (ForStep l e o) y = outside o (keyword Keyword.For ∷ (mark OpenParenthesis ∷ line_words l (option_words e (mark Semicolon ∷ y))))
+so_far (Malloced v o) y = outside o (value_place_words v (keyword Keyword.Malloc ∷ (mark OpenParenthesis ∷ y)))
 so_far (Valued v r o) y = outside o (value_place_words v (value_words r y))
 so_far (TypeWant p) y = type_place_words p y
 so_far (ModeFirst p s) y = type_place_words p (sharing_words s y)
-so_far (StructWant p m) y = type_place_words p (level_words m (keyword key.Struct ∷ y))
+so_far (StructWant p m) y = type_place_words p (level_words m (keyword Keyword.Struct ∷ y))
 so_far (Typed p first b m below) y = type_place_words p (levels_words first b m below y)
-so_far (PathWant p) y = mode_place_words p (keyword key.Locked ∷ (mark OpenParenthesis ∷ y))
-so_far (PathNamed p n) y = mode_place_words p (keyword key.Locked ∷ (mark OpenParenthesis ∷ (name n ∷ y)))
-so_far (PathThrough p n) y = mode_place_words p (keyword key.Locked ∷ (mark OpenParenthesis ∷ (name n ∷ (mark Arrow ∷ y))))
+so_far (PathWant p) y = mode_place_words p (keyword Keyword.Locked ∷ (mark OpenParenthesis ∷ y))
+so_far (PathNamed p n) y = mode_place_words p (keyword Keyword.Locked ∷ (mark OpenParenthesis ∷ (name n ∷ y)))
+so_far (PathThrough p n) y = mode_place_words p (keyword Keyword.Locked ∷ (mark OpenParenthesis ∷ (name n ∷ (mark Arrow ∷ y))))
 so_far (Named p ty n) y = name_place_words p (type_words ty (name n ∷ y))
 so_far (Fields all s fields) y = struct_words all s fields y
 so_far (ArrayWant all d) y = program_words all (declaring_words d (mark OpenBracket ∷ y))
@@ -271,11 +263,11 @@ moded_says (before_base p) s a y = refl
 moded_says (at_level p first b below) s a y = ap (type_place_words p) (levels_moded first b s below a.2 y)
 
 mode_goes : (p : ModePlace) → ModeAt p → (t : Word) → Goes (mode_place_words p) t (mode_step p t)
-mode_goes p a (keyword key.Private) = (moded_sound p private a, moded_says p private a)
-mode_goes p a (keyword key.Readonly) = (moded_sound p readonly a, moded_says p readonly a)
-mode_goes p a (keyword key.Racy) = (moded_sound p racy a, moded_says p racy a)
-mode_goes p a (keyword key.Dynamic) = (moded_sound p dynamic a, moded_says p dynamic a)
-mode_goes p a (keyword key.Locked) = (a, λ y. refl)
+mode_goes p a (keyword Keyword.Private) = (moded_sound p private a, moded_says p private a)
+mode_goes p a (keyword Keyword.Readonly) = (moded_sound p readonly a, moded_says p readonly a)
+mode_goes p a (keyword Keyword.Racy) = (moded_sound p racy a, moded_says p racy a)
+mode_goes p a (keyword Keyword.Dynamic) = (moded_sound p dynamic a, moded_says p dynamic a)
+mode_goes p a (keyword Keyword.Locked) = (a, λ y. refl)
 mode_goes p a _ = tt
 
 pub based_sound : (p : TypePlace) (m : Option Sharing) (b : Base) → TypeAt p → BaseAt p m → Sound (based p m b)
@@ -287,12 +279,12 @@ based_says p None b y = refl
 based_says p (Some s) b y = refl
 
 base_goes : (p : TypePlace) (m : Option Sharing) → TypeAt p → BaseAt p m → (t : Word) → Goes (λ y. type_place_words p (level_words m y)) t (base_step p m t)
-base_goes p m a h (keyword key.Int) = (based_sound p m base.Int a h, based_says p m base.Int)
-base_goes p m a h (keyword key.Char) = (based_sound p m base.Char a h, based_says p m base.Char)
-base_goes p m a h (keyword key.Long) = (based_sound p m base.Long a h, based_says p m base.Long)
-base_goes p m a h (keyword key.Mutex) = (based_sound p m base.Mutex a h, based_says p m base.Mutex)
-base_goes p m a h (keyword key.Void) = (based_sound p m base.Void a h, based_says p m base.Void)
-base_goes p m a h (keyword key.Struct) = ((a, h), λ y. refl)
+base_goes p m a h (keyword Keyword.Int) = (based_sound p m Base.Int a h, based_says p m Base.Int)
+base_goes p m a h (keyword Keyword.Char) = (based_sound p m Base.Char a h, based_says p m Base.Char)
+base_goes p m a h (keyword Keyword.Long) = (based_sound p m Base.Long a h, based_says p m Base.Long)
+base_goes p m a h (keyword Keyword.Mutex) = (based_sound p m Base.Mutex a h, based_says p m Base.Mutex)
+base_goes p m a h (keyword Keyword.Void) = (based_sound p m Base.Void a h, based_says p m Base.Void)
+base_goes p m a h (keyword Keyword.Struct) = ((a, h), λ y. refl)
 base_goes p m a h _ = tt
 
 begin_goes : (p : TypePlace) → TypeAt p → (t : Word) → Goes (type_place_words p) t (begin_type p t)
@@ -302,7 +294,7 @@ begin_goes p a t =
     (base_goes p None a tt t)
 
 struct_goes : (p : TypePlace) (m : Option Sharing) → TypeAt p → BaseAt p m → (t : Word) → Goes (so_far (StructWant p m)) t (struct_want p m t)
-struct_goes p m a h (name n) = (based_sound p m (base.Struct n) a h, based_says p m (base.Struct n))
+struct_goes p m a h (name n) = (based_sound p m (Base.Struct n) a h, based_says p m (Base.Struct n))
 struct_goes p m a h _ = tt
 
 level_goes : (p : TypePlace) (first : Bool) (b : Base) (m : Option Sharing) (below : List (Option Sharing)) → Sound (Typed p first b m below) → (t : Word) → Goes (so_far (Typed p first b m below)) t (level_step p first b m below t)
@@ -320,11 +312,11 @@ comma_goes _ first b m below a = tt
 
 close_goes : (p : TypePlace) (first : Bool) (b : Base) (m : Option Sharing) (below : List (Option Sharing)) → Sound (Typed p first b m below) → Goes (so_far (Typed p first b m below)) (mark CloseParenthesis) (close_type p first b m below)
 close_goes (sizing v n o) first b m below a = ((a.0.0, (a.0.1, a.1, a.2 refl), a.0.2), λ y. refl)
-close_goes (naming (parameter_of all r f [])) false base.Void None [] a = ((a.0.0, a.0.1, tt, tt), λ y. refl)
+close_goes (naming (parameter_of all r f [])) false Base.Void None [] a = ((a.0.0, a.0.1, tt, tt), λ y. refl)
 close_goes _ _ _ _ _ a = tt
 
 open_goes : (p : TypePlace) (first : Bool) (b : Base) (m : Option Sharing) (below : List (Option Sharing)) → Sound (Typed p first b m below) → Goes (so_far (Typed p first b m below)) (mark OpenBrace) (open_type p first b m below)
-open_goes (naming (on_top all)) false (base.Struct n) None [] a = ((a.0, tt), λ y. refl)
+open_goes (naming (on_top all)) false (Base.Struct n) None [] a = ((a.0, tt), λ y. refl)
 open_goes _ _ _ _ _ a = tt
 
 typed_goes : (p : TypePlace) (first : Bool) (b : Base) (m : Option Sharing) (below : List (Option Sharing)) → Sound (Typed p first b m below) → (t : Word) → Goes (so_far (Typed p first b m below)) t (typed p first b m below t)
@@ -350,7 +342,7 @@ path_through_goes p x a _ = tt
 
 -- Expressions.
 
-mallocs_goes : (k : Cont) → Around k → Goes (around k) (keyword key.Malloc) (mallocs k)
+mallocs_goes : (k : Cont) → Around k → Goes (around k) (keyword Keyword.Malloc) (mallocs k)
 mallocs_goes (part (valued v) o) a = (a, λ y. refl)
 mallocs_goes _ a = tt
 
@@ -358,20 +350,20 @@ want_goes : (k : Cont) → Around k → (t : Word) → Goes (around k) t (want k
 want_goes k a (name n) = ((omega arith, tt, a), λ y. refl)
 want_goes k a (number n) = ((omega arith, tt, a), λ y. refl)
 want_goes k a (character c) = ((omega arith, tt, a), λ y. refl)
-want_goes k a (keyword key.Null) = ((omega arith, tt, a), λ y. refl)
+want_goes k a (keyword Keyword.Null) = ((omega arith, tt, a), λ y. refl)
 want_goes k a (mark Minus) = ((floor_most k, a), λ y. refl)
 want_goes k a (mark Exclamation) = ((floor_most k, a), λ y. refl)
 want_goes k a (mark Tilde) = ((floor_most k, a), λ y. refl)
 want_goes k a (mark Star) = ((floor_most k, a), λ y. refl)
 want_goes k a (mark OpenParenthesis) = ((tt, a), λ y. refl)
-want_goes k a (keyword key.Spawn) = (a, λ y. refl)
-want_goes k a (keyword key.Join) = ((tt, a), λ y. refl)
-want_goes k a (keyword key.Print) = ((tt, a), λ y. refl)
-want_goes k a (keyword key.Lock) = ((tt, a), λ y. refl)
-want_goes k a (keyword key.Unlock) = ((tt, a), λ y. refl)
-want_goes k a (keyword key.Free) = ((tt, a), λ y. refl)
-want_goes k a (keyword key.Scast) = (a, λ y. refl)
-want_goes k a (keyword key.Malloc) = mallocs_goes k a
+want_goes k a (keyword Keyword.Spawn) = (a, λ y. refl)
+want_goes k a (keyword Keyword.Join) = ((tt, a), λ y. refl)
+want_goes k a (keyword Keyword.Print) = ((tt, a), λ y. refl)
+want_goes k a (keyword Keyword.Lock) = ((tt, a), λ y. refl)
+want_goes k a (keyword Keyword.Unlock) = ((tt, a), λ y. refl)
+want_goes k a (keyword Keyword.Free) = ((tt, a), λ y. refl)
+want_goes k a (keyword Keyword.Scast) = (a, λ y. refl)
+want_goes k a (keyword Keyword.Malloc) = mallocs_goes k a
 want_goes k a _ = tt
 
 spawning_goes : (k : Cont) → Around k → (t : Word) → Goes (so_far (Spawning k)) t (spawning k t)
@@ -489,7 +481,7 @@ ending x k a t =
     goes_same (λ y. around r.1 (words r.0 y)) (so_far (Have x k)) t (end_at r.0 r.1 t) s.says (end_goes r.0 r.1 s.fits s.over_it s.around_fits t)
 
 counted_goes : (o : BinaryOperator) (z : Phrase) (j : Cont) → Fits z → floor j ≤ level z → Around j → Goes (λ y. around j (words z y)) (mark (operator_mark o)) (counted o z j)
-counted_goes op.Multiply z (part (counting v) o) w f a = ((a.0, (f, w), a.1), λ y. refl)
+counted_goes BinaryOperator.Multiply z (part (counting v) o) w f a = ((a.0, (f, w), a.1), λ y. refl)
 counted_goes _ _ _ w f a = tt
 
 shifted : (b : Bool) (o : BinaryOperator) (z : Phrase) (j : Cont) → nat_le (floor j) (strength o) ≡ b → Fits z → floor j ≤ level z → Around j → strength o ≤ level z → Goes (λ y. around j (words z y)) (mark (operator_mark o)) (cond b (to (Want (right_of z o j))) (counted o z j))
@@ -545,16 +537,16 @@ line_start_goes p o a t =
 start_goes : (o : Outer) → Outside o → (t : Word) → Goes (outside o) t (start o t)
 start_goes o a (mark CloseBrace) = close_block_goes o a
 start_goes o a (mark OpenBrace) = ((tt, a), λ y. refl)
-start_goes o a (keyword key.If) = ((tt, a), λ y. refl)
-start_goes o a (keyword key.While) = ((tt, a), λ y. refl)
-start_goes o a (keyword key.For) = (a, λ y. refl)
-start_goes o a (keyword key.Break) = ((may o, refl, tt, a), λ y. refl)
-start_goes o a (keyword key.Continue) = ((may o, refl, tt, a), λ y. refl)
-start_goes o a (keyword key.Return) = (a, λ y. refl)
+start_goes o a (keyword Keyword.If) = ((tt, a), λ y. refl)
+start_goes o a (keyword Keyword.While) = ((tt, a), λ y. refl)
+start_goes o a (keyword Keyword.For) = (a, λ y. refl)
+start_goes o a (keyword Keyword.Break) = ((may o, refl, tt, a), λ y. refl)
+start_goes o a (keyword Keyword.Continue) = ((may o, refl, tt, a), λ y. refl)
+start_goes o a (keyword Keyword.Return) = (a, λ y. refl)
 start_goes o a t = line_start_goes as_statement o a t
 
-else_is : (t : Word) → is_else t ≡ true → t ≡ keyword key.Else
-else_is (keyword key.Else) h = refl
+else_is : (t : Word) → is_else t ≡ true → t ≡ keyword Keyword.Else
+else_is (keyword Keyword.Else) h = refl
 else_is _ h = cc
 
 unless : (b c : Bool) → (b ≡ true → c ≡ false) → c ≡ true → b ≡ false
@@ -567,7 +559,7 @@ is_statement false h = refl
 
 then_goes : (b : Bool) (e : Phrase) (s : Sentence) (o : Outer) (t : Word) (r : Option State) → is_else t ≡ b → (takes_else s ≡ true → is_else t ≡ false) → is_declaration s ≡ false → Fits e → FitsAs s → Outside o → (is_else t ≡ false → Goes (λ y. outside o (written (under (if_of e) s) y)) t r) → Goes (λ y. outside (inside (if_of e) o) (written s y)) t (cond b (to (Start (inside (else_of e s) o))) r)
 then_goes true e s o t r is h d w v a deeper =
-    (((d, unless (takes_else s) (is_else t) h is, w, v), a), λ y. ap (λ u. outside o (keyword key.If ∷ (mark OpenParenthesis ∷ words e (mark CloseParenthesis ∷ written s (u ∷ y))))) (sym (else_is t is)))
+    (((d, unless (takes_else s) (is_else t) h is, w, v), a), λ y. ap (λ u. outside o (keyword Keyword.If ∷ (mark OpenParenthesis ∷ words e (mark CloseParenthesis ∷ written s (u ∷ y))))) (sym (else_is t is)))
 then_goes false e s o t r is h d w v a deeper = deeper is
 
 done_goes : (s : Sentence) (o : Outer) → MayStand o (is_declaration s) → FitsAs s → Outside o → (t : Word) → (takes_else s ≡ true → is_else t ≡ false) → Goes (λ y. outside o (written s y)) t (done s o t)
@@ -598,7 +590,7 @@ for_step_goes l e o a (mark CloseParenthesis) = (((a.0, a.1, tt), a.2), λ y. re
 for_step_goes l e o a t = want_goes (part (subject (as_step l e)) o) ((a.0, a.1), a.2) t
 
 malloced_goes : (v : ValuePlace) (o : Outer) → Sound (Malloced v o) → (t : Word) → Goes (so_far (Malloced v o)) t (malloced v o t)
-malloced_goes v o a (keyword key.Sizeof) = ((a.0, tt, a.1), λ y. refl)
+malloced_goes v o a (keyword Keyword.Sizeof) = ((a.0, tt, a.1), λ y. refl)
 malloced_goes v o a t = want_goes (part (counting v) o) a t
 
 -- Programs.
@@ -614,7 +606,7 @@ named_top_goes all ty n a w (mark OpenParenthesis) = ((a, w, tt), λ y. refl)
 named_top_goes all ty n a w _ = tt
 
 named_field_goes : (all : List Part) (s : List ℕ) (before : List Declaring) (d : Declaring) → IsProgram all → FitAllDeclaring before → FitsType d.typing → (t : Word) → Goes (so_far (Named (field_of all s before) d.typing d.named)) t (named_field all s before d t)
-named_field_goes all s before d a w v (mark Semicolon) = ((a, some_field before d w v), λ y. ap (λ z. program_words all (keyword key.Struct ∷ (name s ∷ (mark OpenBrace ∷ z)))) (fields_more before d y))
+named_field_goes all s before d a w v (mark Semicolon) = ((a, some_field before d w v), λ y. ap (λ z. program_words all (keyword Keyword.Struct ∷ (name s ∷ (mark OpenBrace ∷ z)))) (fields_more before d y))
 named_field_goes all s before d a w v _ = tt
 
 named_parameter_goes : (all : List Part) (r : Typing) (f : List ℕ) (before : List Declaring) (d : Declaring) → IsProgram all → FitsType r → FitAllDeclaring before → FitsType d.typing → (t : Word) → Goes (so_far (Named (parameter_of all r f before) d.typing d.named)) t (named_parameter all r f before d t)
@@ -642,15 +634,15 @@ array_goes all d a (number n) = top_goes all (global d (array n)) a.0 (a.1, tt) 
 array_goes all d a _ = tt
 
 negative_goes : (all : List Part) (d : Declaring) → Sound (InitialNegative all d) → (t : Word) → Goes (so_far (InitialNegative all d)) t (initial_negative all d t)
-negative_goes all d a (number n) = top_goes all (global d (initially true (constants.Number n))) a.0 (a.1, tt) (a_semicolon ∷ []) (so_far (InitialNegative all d)) (number n) (λ y. refl)
-negative_goes all d a (character c) = top_goes all (global d (initially true (constants.Character c))) a.0 (a.1, tt) (a_semicolon ∷ []) (so_far (InitialNegative all d)) (character c) (λ y. refl)
+negative_goes all d a (number n) = top_goes all (global d (initially true (Constant.Number n))) a.0 (a.1, tt) (a_semicolon ∷ []) (so_far (InitialNegative all d)) (number n) (λ y. refl)
+negative_goes all d a (character c) = top_goes all (global d (initially true (Constant.Character c))) a.0 (a.1, tt) (a_semicolon ∷ []) (so_far (InitialNegative all d)) (character c) (λ y. refl)
 negative_goes all d a _ = tt
 
 initial_goes : (all : List Part) (d : Declaring) → Sound (InitialWant all d) → (t : Word) → Goes (so_far (InitialWant all d)) t (initial_want all d t)
 initial_goes all d a (mark Minus) = (a, λ y. refl)
-initial_goes all d a (number n) = top_goes all (global d (initially false (constants.Number n))) a.0 (a.1, tt) (a_semicolon ∷ []) (so_far (InitialWant all d)) (number n) (λ y. refl)
-initial_goes all d a (character c) = top_goes all (global d (initially false (constants.Character c))) a.0 (a.1, tt) (a_semicolon ∷ []) (so_far (InitialWant all d)) (character c) (λ y. refl)
-initial_goes all d a (keyword key.Null) = top_goes all (global d (initially false constants.Null)) a.0 (a.1, tt) (a_semicolon ∷ []) (so_far (InitialWant all d)) (keyword key.Null) (λ y. refl)
+initial_goes all d a (number n) = top_goes all (global d (initially false (Constant.Number n))) a.0 (a.1, tt) (a_semicolon ∷ []) (so_far (InitialWant all d)) (number n) (λ y. refl)
+initial_goes all d a (character c) = top_goes all (global d (initially false (Constant.Character c))) a.0 (a.1, tt) (a_semicolon ∷ []) (so_far (InitialWant all d)) (character c) (λ y. refl)
+initial_goes all d a (keyword Keyword.Null) = top_goes all (global d (initially false Constant.Null)) a.0 (a.1, tt) (a_semicolon ∷ []) (so_far (InitialWant all d)) (keyword Keyword.Null) (λ y. refl)
 initial_goes all d a _ = tt
 
 pub core_goes : (c : Core) → Sound c → (t : Word) → Goes (so_far c) t (core_step c t)

@@ -1,7 +1,5 @@
 -- Places of tokens, and parts that follow one another.
-use Rattle.std.proofs.{Common.{◌≡◌, ℕ, ◌+◌, ◌-◌, ◌≤◌, ◌<◌, List, [], ◌∷◌, ◌++◌, length, drop, get_or, refl, sym, ap, ◌∙◌, arith, subst, subst₂}, lemmas.List.at_drop_more}
-use Rattle.sharc_tree.specs.{declared.token.Site.Site, declared.token.Span.Span, declared.token.Token.Token, Placed.{site_of as site_of_token, IsSite, IsSpan, Follow, IsWhole, point}}
-use Rattle.sharc_parse.specs.Places.{site_of, site_in, span_at}
+use Rattle.sharc_parse.proofs.Imports.{◌≡◌, ℕ, ◌+◌, ◌-◌, ◌≤◌, ◌<◌, List, [], ◌∷◌, ◌++◌, length, drop, get_or, refl, sym, ap, ◌∙◌, arith, subst, subst₂, at_drop_more, Site, Span, Token, site_of_token, IsSite, IsSpan, Follow, IsWhole, point, site_of, site_in, span_at}
 
 -- the places of these tokens
 pub record Standing (all : List Token) (s : ℕ → Site) : Type 0 where

@@ -1,18 +1,7 @@
 -- The machine's steps within the limits, put together as the parser takes them.
-use Rattle.std.proofs.{Common.{◌≡◌, ℕ, ◌+◌, ◌≤◌, ◌<◌, List, [], ◌∷◌, ◌++◌, Some, None, refl, sym, ap, ◌∙◌, arith, subst, true, false, cond, max, Result, Ok, Err}, lemmas.Bool.{le-leb, lt-leb}}
-use Rattle.std.specs.Prelude.{nat_le}
-use Rattle.sharc_tree.specs.declared.token.Keyword.TheVariants as key
-use Rattle.sharc_tree.specs.{declared.token.Punctuator.TheVariants.{OpenParenthesis, CloseParenthesis, OpenBrace, OpenBracket, CloseBracket, Semicolon, Comma, Dot, Arrow, Minus, Star, Ampersand, Exclamation, Tilde}, declared.tree.expression.BinaryOperator.BinaryOperator, declared.tree.expression.UnaryOperator.UnaryOperator, declared.tree.expression.UnaryOperator.TheVariants.{Negate, Not, Complement, Dereference}, declared.tree.expression.FieldOperator.FieldOperator, declared.tree.expression.Constant.Constant, View.{view_expr, view_arguments}, Children.view_arguments-push, declared.token.Site.Site, declared.tree.expression.Expr.Expr, declared.token.Span.Span, declared.token.Token.Token, declared.tree.declaration.Identifier.Identifier}
-use Rattle.sharc_tree.specs.declared.tree.expression.BinaryOperator.TheVariants as op
-use Rattle.sharc_tree.specs.declared.tree.expression.FieldOperator.TheVariants as access
-use Rattle.sharc_tree.specs.declared.tree.expression.ValueCall.TheVariants as value_call
-use Rattle.sharc_tree.specs.declared.tree.expression.PlaceCall.TheVariants as place_call
-use Rattle.sharc_tree.specs.declared.tree.expression.Constant.TheVariants as constants
-use Rattle.sharc_parse.specs.{Grammar.{Word, name, keyword, mark, number, character, Front, of_place, Phrase, identifier, constant, call, field, unary, binary, Phrases, none, more, operator_mark, unary_mark, access_mark, constant_word, strength, front_level}, Machine.{valued, counting, Cont, part, beneath, right_of, fronted, indexing, arguments, Core, Want, Have, Called, Dotted, Fixed, an_open, a_close, a_semicolon, a_comma, a_brace, a_bracket, an_ampersand, a_sizeof, State, At, fixed_word, is_fixed, to, Role, Operating, Ending, role, grip_of, grip, with_last, floor, settle, mallocs, want, open_call, front_end, end_at, counted, shift, have}, Limits.{height, highest, depth, crowded, over_core, over, Limited, StuckAt, Over, next_within, reads_within}, Operators.{weak, operating, settle_stops, role_binary, role_unary, floor_most}, Places.{size, sizes, rest_size, expression_at, arguments_at, site_in, span_at, name_at, front_size, type_size, type_at}, declared.token.ParsedExpr.ParsedExpr, declared.token.ReadingFault.ReadingFault, declared.expr.Front.Front as ParsedFront, Goes.{Builds, IsPlaced, StandsFront, bare_front, front_tree, NotAt, IsAt, NoName, NoConstant, NoUnary, NoFront, NoCall, NoMalloc, NoAccess, front_word, after_front}, View.{bare, bare_type, phrase_of, phrases_of}, declared.token.FrontWord.FrontWord}
+use Rattle.sharc_parse.proofs.Imports.{◌≡◌, ℕ, ◌+◌, ◌≤◌, ◌<◌, List, [], ◌∷◌, ◌++◌, Some, None, refl, sym, ap, ◌∙◌, arith, subst, true, false, cond, max, Result, Ok, Err, le-leb, lt-leb, nat_le, Keyword, OpenParenthesis, CloseParenthesis, OpenBrace, OpenBracket, CloseBracket, Semicolon, Comma, Dot, Arrow, Minus, Star, Ampersand, Exclamation, Tilde, BinaryOperator, UnaryOperator, Negate, Not, Complement, Dereference, FieldOperator, Constant, view_expr, view_arguments, view_arguments-push, Site, Expr, Span, Token, Identifier, ValueCall, PlaceCall, Word, name, keyword, mark, number, character, Front, of_place, Phrase, identifier, constant, call, field, unary, binary, Phrases, none, more, operator_mark, unary_mark, access_mark, constant_word, strength, front_level, valued, counting, Cont, part, beneath, right_of, fronted, indexing, arguments, Core, Want, Have, Called, Dotted, Fixed, an_open, a_close, a_semicolon, a_comma, a_brace, a_bracket, an_ampersand, a_sizeof, State, At, fixed_word, is_fixed, to, Role, Operating, Ending, role, grip_of, grip, with_last, floor, settle, mallocs, want, open_call, front_end, end_at, counted, shift, have, height, highest, depth, crowded, over_core, over, Limited, StuckAt, Over, next_within, reads_within, weak, operating, settle_stops, role_binary, role_unary, floor_most, size, sizes, rest_size, expression_at, arguments_at, site_in, span_at, name_at, front_size, type_size, type_at, ParsedExpr, ReadingFault, ParsedFront, Builds, IsPlaced, StandsFront, bare_front, front_tree, NotAt, IsAt, NoName, NoConstant, NoUnary, NoFront, NoCall, NoMalloc, NoAccess, front_word, after_front, bare, bare_type, phrase_of, phrases_of, FrontWord, test_down}
 use Rattle.sharc_tree.specs.Tree as tree
 use Rattle.sharc_parse.specs.declared.expr.Front.TheVariants as fronts
-use Rattle.sharc_parse.specs.declared.token.FrontWord.TheVariants as begins
-use Rattle.sharc_lemmas.proofs.Numbers.{test_down}
 
 -- a step that passes the test, and one that doesn't
 pub passes : (n : State) (y all : List Word) → over n ≡ false → next_within (Some n) (λ s. reads_within y s) all ≡ reads_within y n
@@ -45,7 +34,7 @@ not_fixed a_comma (mark Comma) h = absurd (h refl)
 not_fixed a_brace (mark OpenBrace) h = absurd (h refl)
 not_fixed a_bracket (mark CloseBracket) h = absurd (h refl)
 not_fixed an_ampersand (mark Ampersand) h = absurd (h refl)
-not_fixed a_sizeof (keyword key.Sizeof) h = absurd (h refl)
+not_fixed a_sizeof (keyword Keyword.Sizeof) h = absurd (h refl)
 not_fixed _ _ h = refl
 
 pub fixed_stuck : (f : Fixed) (fs : List Fixed) (c : Core) (ts : List Word) → NotAt (fixed_word f) ts → reads_within ts (At (f ∷ fs) c) ≡ StuckAt ts
@@ -55,13 +44,13 @@ fixed_stuck f fs c (t ∷ y) h = ap (λ b. next_within (cond b (Some (At fs c)) 
 -- what an expression that a `)` ends begins with
 
 front_step : (w : FrontWord) (k : Cont) → want k (front_word w) ≡ Some (after_front w k)
-front_step (begins.Value value_call.Join) k = refl
-front_step (begins.Place place_call.Lock) k = refl
+front_step (FrontWord.Value ValueCall.Join) k = refl
+front_step (FrontWord.Place PlaceCall.Lock) k = refl
 front_step _ k = refl
 
 front_over : (w : FrontWord) (k : Cont) → over (after_front w k) ≡ cond (crowded k) true (nat_le 64 (depth k))
-front_over (begins.Value w) k = refl
-front_over (begins.Place place_call.Lock) k = refl
+front_over (FrontWord.Value w) k = refl
+front_over (FrontWord.Place PlaceCall.Lock) k = refl
 front_over _ k = refl
 
 pub front_goes : (w : FrontWord) (k : Cont) (y : List Word) → crowded k ≡ false → depth k < 64 → reads_within (front_word w ∷ y) (At [] (Want k)) ≡ reads_within y (after_front w k)
@@ -122,7 +111,7 @@ binary_read old y new a b c o k is e f w d r g = e ∙ operator_goes o a k y f w
 -- leaves
 
 constant_step : (c : Constant) (k : Cont) → want k (constant_word c) ≡ to (Have (constant c) k)
-constant_step (constants.Number n) k = refl
+constant_step (Constant.Number n) k = refl
 constant_step _ k = refl
 
 pub constant_goes : (c : Constant) (k : Cont) (y : List Word) → crowded k ≡ false → reads_within (constant_word c ∷ y) (At [] (Want k)) ≡ reads_within y (At [] (Have (constant c) k))
@@ -136,28 +125,28 @@ call_deep n k (t ∷ y) a h =
     ∙ ap (λ u. Over (u ∷ y)) (sym a)
 
 -- nothing that begins an operand; a `malloc` begins one nowhere but right of `=`
-no_malloc : (k : Cont) (y : List Word) → NoMalloc k (keyword key.Malloc ∷ y) → mallocs k ≡ None
+no_malloc : (k : Cont) (y : List Word) → NoMalloc k (keyword Keyword.Malloc ∷ y) → mallocs k ≡ None
 no_malloc (part (valued v) o) y h = absurd (h refl)
 no_malloc _ y h = refl
 
 no_want : (k : Cont) (t : Word) (y : List Word) → NoMalloc k (t ∷ y) → ((u : UnaryOperator) → t ≡ mark (unary_mark u) → ⊥) → ((w : FrontWord) → t ≡ front_word w → ⊥) → ((n : List ℕ) → t ≡ name n → ⊥) → ((c : Constant) → t ≡ constant_word c → ⊥) → want k t ≡ None
 no_want k (name n) y v u w m c = absurd (m n refl)
-no_want k (number n) y v u w m c = absurd (c (constants.Number n) refl)
-no_want k (character b) y v u w m c = absurd (c (constants.Character b) refl)
-no_want k (keyword key.Null) y v u w m c = absurd (c constants.Null refl)
+no_want k (number n) y v u w m c = absurd (c (Constant.Number n) refl)
+no_want k (character b) y v u w m c = absurd (c (Constant.Character b) refl)
+no_want k (keyword Keyword.Null) y v u w m c = absurd (c Constant.Null refl)
 no_want k (mark Minus) y v u w m c = absurd (u Negate refl)
 no_want k (mark Exclamation) y v u w m c = absurd (u Not refl)
 no_want k (mark Tilde) y v u w m c = absurd (u Complement refl)
 no_want k (mark Star) y v u w m c = absurd (u Dereference refl)
-no_want k (mark OpenParenthesis) y v u w m c = absurd (w begins.Parenthesis refl)
-no_want k (keyword key.Spawn) y v u w m c = absurd (w begins.Spawn refl)
-no_want k (keyword key.Join) y v u w m c = absurd (w (begins.Value value_call.Join) refl)
-no_want k (keyword key.Print) y v u w m c = absurd (w (begins.Value value_call.Print) refl)
-no_want k (keyword key.Lock) y v u w m c = absurd (w (begins.Place place_call.Lock) refl)
-no_want k (keyword key.Unlock) y v u w m c = absurd (w (begins.Place place_call.Unlock) refl)
-no_want k (keyword key.Free) y v u w m c = absurd (w (begins.Place place_call.Free) refl)
-no_want k (keyword key.Scast) y v u w m c = absurd (w begins.Cast refl)
-no_want k (keyword key.Malloc) y v u w m c = no_malloc k y v
+no_want k (mark OpenParenthesis) y v u w m c = absurd (w FrontWord.Parenthesis refl)
+no_want k (keyword Keyword.Spawn) y v u w m c = absurd (w FrontWord.Spawn refl)
+no_want k (keyword Keyword.Join) y v u w m c = absurd (w (FrontWord.Value ValueCall.Join) refl)
+no_want k (keyword Keyword.Print) y v u w m c = absurd (w (FrontWord.Value ValueCall.Print) refl)
+no_want k (keyword Keyword.Lock) y v u w m c = absurd (w (FrontWord.Place PlaceCall.Lock) refl)
+no_want k (keyword Keyword.Unlock) y v u w m c = absurd (w (FrontWord.Place PlaceCall.Unlock) refl)
+no_want k (keyword Keyword.Free) y v u w m c = absurd (w (FrontWord.Place PlaceCall.Free) refl)
+no_want k (keyword Keyword.Scast) y v u w m c = absurd (w FrontWord.Cast refl)
+no_want k (keyword Keyword.Malloc) y v u w m c = no_malloc k y v
 no_want k _ y v u w m c = refl
 
 name_not : (n : List ℕ) (t : Word) (y : List Word) → NoName (t ∷ y) → t ≡ name n → ⊥
@@ -169,7 +158,7 @@ no_operand k [] v u w m c = refl
 no_operand k (t ∷ y) v u w m c = ap (λ o. next_within o (λ s. reads_within y s) (t ∷ y)) (no_want k t y v u w (λ n e. name_not n t y m e) c)
 
 pub some_strength : (o : BinaryOperator) → 1 ≤ strength o
-some_strength op.Add = omega arith
+some_strength BinaryOperator.Add = omega arith
 some_strength _ = omega arith
 
 -- what ends an expression
@@ -186,7 +175,7 @@ closed_settles l x (right_of a o k) h = absurd h
 closed_settles l x _ h = refl
 
 closed_counts : (o : BinaryOperator) (x : Phrase) (k : Cont) → IsClosed k → counted o x k ≡ None
-closed_counts op.Multiply x (part (counting v) o) h = absurd h
+closed_counts BinaryOperator.Multiply x (part (counting v) o) h = absurd h
 closed_counts _ _ _ h = refl
 
 -- an operator that may not be there
@@ -206,8 +195,8 @@ index_deep x k (t ∷ y) a c h =
     ∙ ap (λ u. Over (u ∷ y)) (sym a)
 
 access_step : (a : FieldOperator) (x : Phrase) (k : Cont) → have (role (mark (access_mark a))) x k (mark (access_mark a)) ≡ to (Dotted x a k)
-access_step access.Dot x k = refl
-access_step access.Arrow x k = refl
+access_step FieldOperator.Dot x k = refl
+access_step FieldOperator.Arrow x k = refl
 
 pub access_goes : (a : FieldOperator) (x : Phrase) (k : Cont) (y : List Word) → depth k + height x < 64 → reads_within (mark (access_mark a) ∷ y) (At [] (Have x k)) ≡ reads_within y (At [] (Dotted x a k))
 access_goes a x k y h =
@@ -243,8 +232,8 @@ no_call x k (t ∷ y) h a =
 
 ends_word : (t : Word) → (t ≡ mark OpenBracket → ⊥) → ((a : FieldOperator) → t ≡ mark (access_mark a) → ⊥) → (t ≡ mark OpenParenthesis → ⊥) → grip_of (role t) ≤ 11
 ends_word (mark OpenBracket) b a o = absurd (b refl)
-ends_word (mark Dot) b a o = absurd (a access.Dot refl)
-ends_word (mark Arrow) b a o = absurd (a access.Arrow refl)
+ends_word (mark Dot) b a o = absurd (a FieldOperator.Dot refl)
+ends_word (mark Arrow) b a o = absurd (a FieldOperator.Arrow refl)
 ends_word (mark OpenParenthesis) b a o = absurd (o refl)
 ends_word _ b a o = omega arith
 

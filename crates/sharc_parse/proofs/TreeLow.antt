@@ -1,12 +1,7 @@
 -- The tree of a program within the limits is low.
-use Rattle.std.proofs.Common.{◌≡◌, ℕ, ◌+◌, ◌≤◌, ◌<◌, List, [], ◌∷◌, length, Option, Some, None, refl, sym, ap, arith, subst, max, Bool, true, false, cond}
-use Rattle.std.specs.Prelude.{IfSome}
+use Rattle.sharc_parse.proofs.{Imports.{◌≡◌, ℕ, ◌+◌, ◌≤◌, ◌<◌, List, [], ◌∷◌, length, Option, Some, None, refl, sym, ap, arith, subst, max, Bool, true, false, cond, IfSome, is_cast, is_call_of, is_unary, low_height, low_highest, stars, LowType, NoModesOf, LowTypes, AllLowTypes, LowExpression, LowRight, LowSimple, LowLocal, LowFirst, LowHead, is_statement, LowStatement, LowStatements, LowDeclarations, LowForm, LowItem, LowItems, IsLow, Site, Span, Tokens, Base, Mode, WrittenType, Constant, Sharing, Typing, Declaring, Front, of_spawn, of_value, of_place, of_cast, Phrase, enclosed, call, index, field, unary, binary, Phrases, none, more, Value, value, malloc, Doing, assign, invoke, Declared, Line, nothing, does, declares, Loop, Sentence, line, jump, return, block, under, Sentences, no_more, sentence, Opening, if_of, else_of, while_of, for_of, Form, initially, Part, structure, global, function, IsProgram, level, front_level, is_declaring, FitsList, FitsType, NoModes, FitsFront, Fits, FitAll, is_call, is_declaration, FitsOption, FitsCount, FitsValue, FitsDoing, FitsInitial, FitsLine, FitsStep, FitsAs, FitAllAs, FitsOpening, FitAllDeclaring, FitsForm, FitsFields, FitsPart, stars_in, FewStars, FewFront, Few, FewAll, Low, LowOption, LowValue, LowDoing, LowInitial, LowLine, LowStep, LowSentence, LowAll, LowOpening, FewGiven, LowPart, LowProgram, Reads, site_in, base_size, levels_size, type_size, size, declaring_size, levels_at, bottom_at, level_at, type_at, front_at, expression_at, arguments_at, option_at, value_at, doing_at, initial_at, step_at, front_size, local_at, first_at, head_at, line_at, statement_at, statements_at, under_at, declarations_at, form_at, item_at, items_at, count_size, line_size, option_size, sentence_size, part_size, weak}, Readings.{same_height, same_function}}
 use Rattle.sharc_tree.specs.Tree as tree
 use Rattle.sharc_tree.specs.Measures as measures
-use Rattle.sharc_tree.specs.{Low.{is_cast, is_call as is_call_of, is_unary, low_height, low_highest, stars, LowType, NoModes as NoModesOf, LowTypes, AllLowTypes, LowExpression, LowRight, LowSimple, LowLocal, LowFirst, LowHead, is_statement, LowStatement, LowStatements, LowDeclarations, LowForm, LowItem, LowItems, IsLow}, declared.token.Site.Site, declared.token.Span.Span, declared.token.Tokens.Tokens, declared.ctype.Base.Base, declared.ctype.Mode.Mode, declared.tree.declaration.WrittenType.WrittenType}
-use Rattle.sharc_tree.specs.declared.tree.expression.Constant.TheVariants as constants
-use Rattle.sharc_parse.specs.{Grammar.{Sharing, Typing, Declaring, Front, of_spawn, of_value, of_place, of_cast, Phrase, enclosed, call, index, field, unary, binary, Phrases, none, more, Value, value, malloc, Doing, assign, invoke, Declared, Line, nothing, does, declares, Loop, Sentence, line, jump, return, block, under, Sentences, no_more, sentence, Opening, if_of, else_of, while_of, for_of, Form, initially, Part, structure, global, function, IsProgram, level, front_level, is_declaring, FitsList, FitsType, NoModes, FitsFront, Fits, FitAll, is_call, is_declaration, FitsOption, FitsCount, FitsValue, FitsDoing, FitsInitial, FitsLine, FitsStep, FitsAs, FitAllAs, FitsOpening, FitAllDeclaring, FitsForm, FitsFields, FitsPart}, Limits.{stars_in, FewStars, FewFront, Few, FewAll, Low, LowOption, LowValue, LowDoing, LowInitial, LowLine, LowStep, LowSentence, LowAll, LowOpening, FewGiven, LowPart, LowProgram}, Places.{Reads, site_in, base_size, levels_size, type_size, size, declaring_size, levels_at, bottom_at, level_at, type_at, front_at, expression_at, arguments_at, option_at, value_at, doing_at, initial_at, step_at, front_size, local_at, first_at, head_at, line_at, statement_at, statements_at, under_at, declarations_at, form_at, item_at, items_at, count_size, line_size, option_size, sentence_size, part_size}, Operators.weak}
-use Rattle.sharc_parse.proofs.Readings.{same_height, same_function}
 
 -- the height that is limited is at most that of the tree
 
@@ -196,7 +191,7 @@ low_fields s n [] f l = absurd f
 low_fields s n (d ∷ rest) f l = (omega arith, low_declarations s n (d ∷ rest) f l)
 
 low_form : (s : ℕ → Site) (n : ℕ) (x : Form) → FitsForm x → LowForm (form_at s n x)
-low_form s n (initially true constants.Null) f = absurd f
+low_form s n (initially true Constant.Null) f = absurd f
 low_form s n _ f = tt
 
 low_item : (s : ℕ → Site) (n : ℕ) (p : Part) → FitsPart p → LowPart p → LowItem (item_at s n p)

@@ -1,13 +1,6 @@
 -- The machine's steps over types.
-use Rattle.std.proofs.{Common.{◌≡◌, ℕ, suc, ◌+◌, ◌≤◌, ◌<◌, List, [], ◌∷◌, length, Option, Some, None, refl, sym, ap, ◌∙◌, arith, subst, Bool, true, false, cond}, lemmas.Bool.{le-leb, lt-leb}}
-use Rattle.sharc_tree.specs.declared.token.Keyword.TheVariants as key
-use Rattle.sharc_tree.specs.{declared.token.Punctuator.TheVariants.{OpenParenthesis, CloseParenthesis, OpenBrace, Comma, Arrow, Star}, declared.ctype.Base.Base, declared.token.Token.Token, declared.token.Site.Site, declared.token.Span.Span, declared.ctype.Mode.Mode, declared.tree.declaration.WrittenType.WrittenType}
-use Rattle.sharc_tree.specs.declared.ctype.Base.TheVariants as base
-use Rattle.sharc_parse.specs.{Grammar.{Word, name, keyword, mark, Sharing, private, readonly, racy, dynamic, locked, locked_through, Typing, of_cast}, Machine.{Cont, Want, fronted, ModePlace, before_base, at_level, moded, TypePlace, casting, takes_modes, TypeWant, ModeFirst, StructWant, Typed, PathWant, PathNamed, PathThrough, an_open, a_close, At, or_else, mode_step, base_step, based, begin_type, typed, level_step, path_named}, Limits.{StuckAt, Over, next_within, reads_within, over_core, over, depth, crowded}, Places.{site_in, level_size, levels_size, levels_at, level_at, base_place, span_at, type_size}, declared.types.ModeWord.ModeWord, declared.types.BaseWord.BaseWord, Goes.{NotAt, IsAt, NoName, from, Past}, declared.token.ReadingFault.ReadingFault, declared.token.ReadingFault.TheVariants.{Memory, Wrong}, declared.types.Bottom.Bottom, View.{bare_level, bare_type}, Types.{typed_levels, typed_state, ReadsLevel, IsModeRestPlaced, IsModePlaced, ReadsBottom, EndsBottom, IsBottomPlaced, ReadsType, EndsType, IsTypePlaced, ReadsCast, mode_word, NoMode, HasMode, IsOpen, mode_within, after_mode, base_word, NoBase, base_within, EndsLevel, EndsLevels}}
-use Rattle.sharc_parse.specs.declared.types.ModeWord.TheVariants as modes
-use Rattle.sharc_parse.specs.declared.types.BaseWord.TheVariants as bases
-use Rattle.std.specs.Prelude.{map, insert, Ok, Err}
-use Rattle.sharc_parse.proofs.{Steps.{passes, fails, fixed_goes, fine}, Complete.idle as cond_none}
+use Rattle.sharc_parse.proofs.{Imports.{◌≡◌, ℕ, suc, ◌+◌, ◌≤◌, ◌<◌, List, [], ◌∷◌, length, Option, Some, None, refl, sym, ap, ◌∙◌, arith, subst, Bool, true, false, cond, le-leb, lt-leb, Keyword, OpenParenthesis, CloseParenthesis, OpenBrace, Comma, Arrow, Star, Base, Token, Site, Span, Mode, WrittenType, Word, name, keyword, mark, Sharing, private, readonly, racy, dynamic, locked, locked_through, Typing, of_cast, Cont, Want, fronted, ModePlace, before_base, at_level, moded, TypePlace, casting, takes_modes, TypeWant, ModeFirst, StructWant, Typed, PathWant, PathNamed, PathThrough, an_open, a_close, At, or_else, mode_step, base_step, based, begin_type, typed, level_step, path_named, StuckAt, Over, next_within, reads_within, over_core, over, depth, crowded, site_in, level_size, levels_size, levels_at, level_at, base_place, span_at, type_size, ModeWord, BaseWord, NotAt, IsAt, NoName, from, Past, ReadingFault, Memory, Wrong, Bottom, bare_level, bare_type, typed_levels, typed_state, ReadsLevel, IsModeRestPlaced, IsModePlaced, ReadsBottom, EndsBottom, IsBottomPlaced, ReadsType, EndsType, IsTypePlaced, ReadsCast, mode_word, NoMode, HasMode, mode_within, after_mode, base_word, NoBase, base_within, EndsLevel, EndsLevels, map, insert, Ok, Err}, Steps.{passes, fails, fixed_goes, fine}, Complete.{idle as cond_none}}
+use Rattle.sharc_parse.specs.Types.{IsOpen}
 
 -- there is a level, and so the mode passes no limit
 pub moded_fine : (p : ModePlace) (s : Sharing) → IsOpen p → over_core (moded p s) ≡ false
@@ -54,15 +47,15 @@ path_closes p s y h = fixed_goes a_close [] (moded p s) y (moded_fine p s h)
 -- modes
 
 mode_steps : (w : ModeWord) (p : ModePlace) → mode_step p (mode_word w) ≡ Some (after_mode w p)
-mode_steps modes.Racy p = refl
+mode_steps ModeWord.Racy p = refl
 mode_steps _ p = refl
 
 after_fine : (w : ModeWord) (p : ModePlace) → IsOpen p → over (after_mode w p) ≡ false
-after_fine modes.Private p h = moded_fine p private h
-after_fine modes.Readonly p h = moded_fine p readonly h
-after_fine modes.Racy p h = moded_fine p racy h
-after_fine modes.Dynamic p h = moded_fine p dynamic h
-after_fine modes.Locked p h = refl
+after_fine ModeWord.Private p h = moded_fine p private h
+after_fine ModeWord.Readonly p h = moded_fine p readonly h
+after_fine ModeWord.Racy p h = moded_fine p racy h
+after_fine ModeWord.Dynamic p h = moded_fine p dynamic h
+after_fine ModeWord.Locked p h = refl
 
 pub mode_goes : (w : ModeWord) (p : ModePlace) (y : List Word) → IsOpen p → mode_within p (mode_word w ∷ y) ≡ reads_within y (after_mode w p)
 mode_goes w p y h = ap (λ o. next_within o (λ s. reads_within y s) (mode_word w ∷ y)) (mode_steps w p) ∙ passes (after_mode w p) y (mode_word w ∷ y) (after_fine w p h)
@@ -74,11 +67,11 @@ pub mode_read : (w : ModeWord) (ts y : List Word) → ts ≡ mode_word w ∷ y �
 mode_read w ts y e p h = ap (mode_within p) e ∙ mode_goes w p y h
 
 no_mode_step : (p : ModePlace) (t : Word) → ((w : ModeWord) → t ≡ mode_word w → ⊥) → mode_step p t ≡ None
-no_mode_step p (keyword key.Private) h = absurd (h modes.Private refl)
-no_mode_step p (keyword key.Readonly) h = absurd (h modes.Readonly refl)
-no_mode_step p (keyword key.Racy) h = absurd (h modes.Racy refl)
-no_mode_step p (keyword key.Dynamic) h = absurd (h modes.Dynamic refl)
-no_mode_step p (keyword key.Locked) h = absurd (h modes.Locked refl)
+no_mode_step p (keyword Keyword.Private) h = absurd (h ModeWord.Private refl)
+no_mode_step p (keyword Keyword.Readonly) h = absurd (h ModeWord.Readonly refl)
+no_mode_step p (keyword Keyword.Racy) h = absurd (h ModeWord.Racy refl)
+no_mode_step p (keyword Keyword.Dynamic) h = absurd (h ModeWord.Dynamic refl)
+no_mode_step p (keyword Keyword.Locked) h = absurd (h ModeWord.Locked refl)
 no_mode_step p _ h = refl
 
 -- bases
@@ -87,38 +80,38 @@ based_fine : (p : TypePlace) (m : Option Sharing) (b : Base) → over_core (base
 based_fine p None b = refl
 based_fine p (Some s) b = refl
 
-pub base_int : (p : TypePlace) (m : Option Sharing) (y : List Word) → base_within p m (keyword key.Int ∷ y) ≡ reads_within y (At [] (based p m base.Int))
-base_int p m y = passes (At [] (based p m base.Int)) y (keyword key.Int ∷ y) (based_fine p m base.Int)
+pub base_int : (p : TypePlace) (m : Option Sharing) (y : List Word) → base_within p m (keyword Keyword.Int ∷ y) ≡ reads_within y (At [] (based p m Base.Int))
+base_int p m y = passes (At [] (based p m Base.Int)) y (keyword Keyword.Int ∷ y) (based_fine p m Base.Int)
 
-pub base_char : (p : TypePlace) (m : Option Sharing) (y : List Word) → base_within p m (keyword key.Char ∷ y) ≡ reads_within y (At [] (based p m base.Char))
-base_char p m y = passes (At [] (based p m base.Char)) y (keyword key.Char ∷ y) (based_fine p m base.Char)
+pub base_char : (p : TypePlace) (m : Option Sharing) (y : List Word) → base_within p m (keyword Keyword.Char ∷ y) ≡ reads_within y (At [] (based p m Base.Char))
+base_char p m y = passes (At [] (based p m Base.Char)) y (keyword Keyword.Char ∷ y) (based_fine p m Base.Char)
 
-pub base_long : (p : TypePlace) (m : Option Sharing) (y : List Word) → base_within p m (keyword key.Long ∷ y) ≡ reads_within y (At [] (based p m base.Long))
-base_long p m y = passes (At [] (based p m base.Long)) y (keyword key.Long ∷ y) (based_fine p m base.Long)
+pub base_long : (p : TypePlace) (m : Option Sharing) (y : List Word) → base_within p m (keyword Keyword.Long ∷ y) ≡ reads_within y (At [] (based p m Base.Long))
+base_long p m y = passes (At [] (based p m Base.Long)) y (keyword Keyword.Long ∷ y) (based_fine p m Base.Long)
 
-pub base_mutex : (p : TypePlace) (m : Option Sharing) (y : List Word) → base_within p m (keyword key.Mutex ∷ y) ≡ reads_within y (At [] (based p m base.Mutex))
-base_mutex p m y = passes (At [] (based p m base.Mutex)) y (keyword key.Mutex ∷ y) (based_fine p m base.Mutex)
+pub base_mutex : (p : TypePlace) (m : Option Sharing) (y : List Word) → base_within p m (keyword Keyword.Mutex ∷ y) ≡ reads_within y (At [] (based p m Base.Mutex))
+base_mutex p m y = passes (At [] (based p m Base.Mutex)) y (keyword Keyword.Mutex ∷ y) (based_fine p m Base.Mutex)
 
-pub base_void : (p : TypePlace) (m : Option Sharing) (y : List Word) → base_within p m (keyword key.Void ∷ y) ≡ reads_within y (At [] (based p m base.Void))
-base_void p m y = passes (At [] (based p m base.Void)) y (keyword key.Void ∷ y) (based_fine p m base.Void)
+pub base_void : (p : TypePlace) (m : Option Sharing) (y : List Word) → base_within p m (keyword Keyword.Void ∷ y) ≡ reads_within y (At [] (based p m Base.Void))
+base_void p m y = passes (At [] (based p m Base.Void)) y (keyword Keyword.Void ∷ y) (based_fine p m Base.Void)
 
-pub base_struct : (p : TypePlace) (m : Option Sharing) (y : List Word) → base_within p m (keyword key.Struct ∷ y) ≡ reads_within y (At [] (StructWant p m))
+pub base_struct : (p : TypePlace) (m : Option Sharing) (y : List Word) → base_within p m (keyword Keyword.Struct ∷ y) ≡ reads_within y (At [] (StructWant p m))
 base_struct p m y = refl
 
-pub struct_named : (p : TypePlace) (m : Option Sharing) (n : List ℕ) (y : List Word) → reads_within (name n ∷ y) (At [] (StructWant p m)) ≡ reads_within y (At [] (based p m (base.Struct n)))
-struct_named p m n y = passes (At [] (based p m (base.Struct n))) y (name n ∷ y) (based_fine p m (base.Struct n))
+pub struct_named : (p : TypePlace) (m : Option Sharing) (n : List ℕ) (y : List Word) → reads_within (name n ∷ y) (At [] (StructWant p m)) ≡ reads_within y (At [] (based p m (Base.Struct n)))
+struct_named p m n y = passes (At [] (based p m (Base.Struct n))) y (name n ∷ y) (based_fine p m (Base.Struct n))
 
 pub no_struct : (p : TypePlace) (m : Option Sharing) (ts : List Word) → NoName ts → reads_within ts (At [] (StructWant p m)) ≡ StuckAt ts
 no_struct p m (name n ∷ y) h = absurd h
 no_struct p m _ h = refl
 
 pub no_base_step : (p : TypePlace) (m : Option Sharing) (t : Word) → ((w : BaseWord) → t ≡ base_word w → ⊥) → base_step p m t ≡ None
-no_base_step p m (keyword key.Int) h = absurd (h bases.Int refl)
-no_base_step p m (keyword key.Char) h = absurd (h bases.Char refl)
-no_base_step p m (keyword key.Long) h = absurd (h bases.Long refl)
-no_base_step p m (keyword key.Mutex) h = absurd (h bases.Mutex refl)
-no_base_step p m (keyword key.Void) h = absurd (h bases.Void refl)
-no_base_step p m (keyword key.Struct) h = absurd (h bases.Struct refl)
+no_base_step p m (keyword Keyword.Int) h = absurd (h BaseWord.Int refl)
+no_base_step p m (keyword Keyword.Char) h = absurd (h BaseWord.Char refl)
+no_base_step p m (keyword Keyword.Long) h = absurd (h BaseWord.Long refl)
+no_base_step p m (keyword Keyword.Mutex) h = absurd (h BaseWord.Mutex refl)
+no_base_step p m (keyword Keyword.Void) h = absurd (h BaseWord.Void refl)
+no_base_step p m (keyword Keyword.Struct) h = absurd (h BaseWord.Struct refl)
 no_base_step p m _ h = refl
 
 pub no_base : (p : TypePlace) (m : Option Sharing) (ts : List Word) → NoBase ts → base_within p m ts ≡ StuckAt ts
@@ -128,7 +121,7 @@ no_base p m (t ∷ y) h = ap (λ o. next_within o (λ s. reads_within y s) (t �
 -- the bottom
 
 begin_some : (w : ModeWord) (p : TypePlace) → or_else (mode_step (before_base p) (mode_word w)) (base_step p None (mode_word w)) ≡ mode_step (before_base p) (mode_word w)
-begin_some modes.Racy p = refl
+begin_some ModeWord.Racy p = refl
 begin_some _ p = refl
 
 begin_mode : (p : TypePlace) (w : ModeWord) → takes_modes p ≡ true → begin_type p (mode_word w) ≡ mode_step (before_base p) (mode_word w)
@@ -158,11 +151,11 @@ mode_first p s [] = refl
 mode_first p s (t ∷ y) = refl
 
 level_mode : (p : TypePlace) (first : Bool) (b : Base) (below : List (Option Sharing)) (w : ModeWord) → takes_modes p ≡ true → typed p first b None below (mode_word w) ≡ mode_step (at_level p first b below) (mode_word w)
-level_mode p first b below modes.Private e = ap (λ c. cond c (mode_step (at_level p first b below) (keyword key.Private)) None) e
-level_mode p first b below modes.Readonly e = ap (λ c. cond c (mode_step (at_level p first b below) (keyword key.Readonly)) None) e
-level_mode p first b below modes.Racy e = ap (λ c. cond c (mode_step (at_level p first b below) (keyword key.Racy)) None) e
-level_mode p first b below modes.Dynamic e = ap (λ c. cond c (mode_step (at_level p first b below) (keyword key.Dynamic)) None) e
-level_mode p first b below modes.Locked e = ap (λ c. cond c (mode_step (at_level p first b below) (keyword key.Locked)) None) e
+level_mode p first b below ModeWord.Private e = ap (λ c. cond c (mode_step (at_level p first b below) (keyword Keyword.Private)) None) e
+level_mode p first b below ModeWord.Readonly e = ap (λ c. cond c (mode_step (at_level p first b below) (keyword Keyword.Readonly)) None) e
+level_mode p first b below ModeWord.Racy e = ap (λ c. cond c (mode_step (at_level p first b below) (keyword Keyword.Racy)) None) e
+level_mode p first b below ModeWord.Dynamic e = ap (λ c. cond c (mode_step (at_level p first b below) (keyword Keyword.Dynamic)) None) e
+level_mode p first b below ModeWord.Locked e = ap (λ c. cond c (mode_step (at_level p first b below) (keyword Keyword.Locked)) None) e
 
 -- a mode after the base or a star
 pub mode_behind : (p : TypePlace) (first : Bool) (b : Base) (below : List (Option Sharing)) (ts : List Word) → takes_modes p ≡ true → HasMode ts → reads_within ts (At [] (Typed p first b None below)) ≡ mode_within (at_level p first b below) ts

@@ -1,9 +1,5 @@
 -- The machine reads what the grammar has, and stops at the first fault.
-use Rattle.std.proofs.Common.{◌≡◌, List, [], ◌∷◌, ◌++◌, Option, Some, None, refl, sym, ap, ◌∙◌, append_assoc, append-nil, subst, Bool, true, false, cond}
-use Rattle.sharc_tree.specs.declared.token.Keyword.TheVariants as key
-use Rattle.sharc_tree.specs.declared.token.Punctuator.TheVariants.{OpenParenthesis, CloseParenthesis, OpenBrace, CloseBracket, Semicolon, Comma, Ampersand}
-use Rattle.sharc_parse.specs.{Grammar.{Word, keyword, mark, Part, program_words, IsProgram, EndsAt, FirstFault}, Machine.{Core, Top, Fixed, an_open, a_close, a_semicolon, a_comma, a_brace, a_bracket, an_ampersand, a_sizeof, State, At, fixed_word, fixed_words, is_fixed, core_step, step, Outcome, Read, Stuck, core_finish, finish, then_on, reads, first_state}}
-use Rattle.sharc_parse.proofs.{CompleteProgram.reads_program, Sound.{so_far, Sound, Goes, core_goes}, Completed.{LowCore, Completed, completed}}
+use Rattle.sharc_parse.proofs.{Imports.{◌≡◌, List, [], ◌∷◌, ◌++◌, Option, Some, None, refl, sym, ap, ◌∙◌, append_assoc, append-nil, subst, Bool, true, false, cond, Keyword, OpenParenthesis, CloseParenthesis, OpenBrace, CloseBracket, Semicolon, Comma, Ampersand, Word, keyword, mark, Part, program_words, IsProgram, EndsAt, FirstFault, Core, Top, Fixed, an_open, a_close, a_semicolon, a_comma, a_brace, a_bracket, an_ampersand, a_sizeof, State, At, fixed_word, fixed_words, is_fixed, core_step, step, Outcome, Read, Stuck, core_finish, finish, then_on, reads, first_state}, CompleteProgram.reads_program, Sound.{so_far, Sound, Goes, core_goes}, Completed.{LowCore, Completed, completed}}
 
 -- a program is what is read
 pub only : (p : List Part) → IsProgram p → reads (program_words p []) first_state ≡ Read p
@@ -25,7 +21,7 @@ fixed_is a_comma (mark Comma) h = refl
 fixed_is a_brace (mark OpenBrace) h = refl
 fixed_is a_bracket (mark CloseBracket) h = refl
 fixed_is an_ampersand (mark Ampersand) h = refl
-fixed_is a_sizeof (keyword key.Sizeof) h = refl
+fixed_is a_sizeof (keyword Keyword.Sizeof) h = refl
 fixed_is _ _ h = cc
 
 goes_reached : (f g : List Word → List Word) (t : Word) (o : Option State) → ((y : List Word) → g y ≡ f y) → Goes g t o → ReachedNext f t o

@@ -1,16 +1,5 @@
 -- What is within the limits stays so, backward and, past the test, forward.
-use Rattle.std.proofs.{Common.{◌≡◌, ℕ, ◌+◌, ◌≤◌, ◌<◌, List, [], ◌∷◌, length, Option, Some, None, refl, sym, ◌∙◌, arith, Bool, true, false, cond}, lemmas.Bool.{leb-false, lt-leb}}
-use Rattle.std.specs.Prelude.{nat_le}
-use Rattle.sharc_tree.specs.declared.token.Keyword.TheVariants as key
-use Rattle.sharc_tree.specs.{declared.token.Punctuator.TheVariants.{OpenParenthesis, CloseParenthesis, OpenBrace, CloseBrace, OpenBracket, CloseBracket, Semicolon, Comma, Arrow, Assign, Minus, Star, Exclamation, Tilde}, declared.ctype.Base.Base, declared.tree.expression.BinaryOperator.BinaryOperator, declared.tree.expression.UnaryOperator.UnaryOperator, declared.tree.expression.UnaryOperator.TheVariants.{Negate, Not, Complement, Dereference}, declared.tree.expression.FieldOperator.FieldOperator}
-use Rattle.sharc_tree.specs.declared.ctype.Base.TheVariants as base
-use Rattle.sharc_tree.specs.declared.tree.expression.BinaryOperator.TheVariants as op
-use Rattle.sharc_tree.specs.declared.tree.expression.ValueCall.TheVariants as value_call
-use Rattle.sharc_tree.specs.declared.tree.expression.PlaceCall.TheVariants as place_call
-use Rattle.sharc_tree.specs.declared.tree.expression.Constant.TheVariants as constants
-use Rattle.sharc_parse.specs.{Grammar.{Word, name, keyword, mark, number, character, Sharing, private, readonly, racy, dynamic, locked, locked_through, Typing, Declaring, Front, parenthesis, of_value, of_place, Phrase, identifier, constant, unary, binary, Phrases, none, strength, Value, value, Doing, assign, invoke, Line, nothing, does, Sentence, line, jump, under, Opening, if_of, else_of, while_of, for_of, is_call, Form, single, array, initially, Part, structure, global}, Machine.{Outer, body, items, inside, LinePlace, as_statement, as_first, DoingPlace, in_line, as_step, ValuePlace, of_doing, of_local, Asked, by_if, by_while, ExpressionPlace, condition, returning, testing, subject, valued, counting, Cont, part, beneath, right_of, fronted, indexing, arguments, NamePlace, on_top, field_of, parameter_of, local, TypePlace, naming, casting, sizing, ModePlace, before_base, at_level, Core, Want, Have, Called, Dotted, Spawning, Start, Done, Returning, ForOpen, ForTest, ForStep, Malloced, Valued, TypeWant, ModeFirst, StructWant, Typed, PathWant, PathNamed, PathThrough, Named, Fields, ArrayWant, InitialWant, InitialNegative, Top, Fixed, a_semicolon, a_bracket, State, At, or_else, to, Role, Calling, Indexing, Accessing, Operating, Ending, role, floor, settle, mallocs, want, open_call, lined, doing_end, local_line, local_end, value_end, subject_end, condition_end, return_end, test_end, leave, front_end, index_end, argument_end, end_at, counted, shift, have, dotted, called, spawning, typing_of, takes_modes, moded, mode_step, based, base_step, begin_type, struct_want, level_step, name_step, comma_step, close_type, open_type, typed, path_want, path_named, path_through, declaring_of, with_part, named_top, named_field, named_parameter, named_local, named, fields, array_want, initial_negative, initial_want, with_item, function_of, close_block, holds_items, line_start, start, is_else, done, returned, for_test, for_step, malloced, core_step}, Limits.{height, FewStars, FewFront, Few, LowValue, LowDoing, LowInitial, line_nesting, nesting, LowPart, LowProgram, depth, around_it, crowded_line, crowded_doing, crowded_place, crowded, over_place, over_at, over_start, over_done, over_cast, over_core}}
-use Rattle.sharc_parse.proofs.Completed.{LowOuter, Room, RoomToDeclare, LowDoingPlace, LowValuePlace, LowPlace, LowAround, LowName, LowType, LowMode, LowStart, LowCore, low_part_more, low_part_less, few_given_more, few_given_less, low_item_more, low_item_less, deepest_more, highest_more, few_more, few_less, around_most, depth_most}
-use Rattle.sharc_lemmas.proofs.Numbers.{test_down}
+use Rattle.sharc_parse.proofs.{Imports.{◌≡◌, ℕ, ◌+◌, ◌≤◌, ◌<◌, List, [], ◌∷◌, length, Option, Some, None, refl, sym, ◌∙◌, arith, Bool, true, false, cond, leb-false, lt-leb, nat_le, Keyword, OpenParenthesis, CloseParenthesis, OpenBrace, CloseBrace, OpenBracket, CloseBracket, Semicolon, Comma, Arrow, Assign, Minus, Star, Exclamation, Tilde, Base, BinaryOperator, UnaryOperator, Negate, Not, Complement, Dereference, FieldOperator, ValueCall, PlaceCall, Constant, Word, name, keyword, mark, number, character, Sharing, private, readonly, racy, dynamic, locked, locked_through, Typing, Declaring, Front, parenthesis, of_value, of_place, Phrase, identifier, constant, unary, binary, Phrases, none, strength, Value, value, Doing, assign, invoke, Line, nothing, does, Sentence, line, jump, under, Opening, if_of, else_of, while_of, for_of, is_call, Form, single, array, initially, Part, structure, global, Outer, body, items, inside, LinePlace, as_statement, as_first, DoingPlace, in_line, as_step, ValuePlace, of_doing, of_local, Asked, by_if, by_while, ExpressionPlace, condition, returning, testing, subject, valued, counting, Cont, part, beneath, right_of, fronted, indexing, arguments, NamePlace, on_top, field_of, parameter_of, local, TypePlace, naming, casting, sizing, ModePlace, before_base, at_level, Core, Want, Have, Called, Dotted, Spawning, Start, Done, Returning, ForOpen, ForTest, ForStep, Malloced, Valued, TypeWant, ModeFirst, StructWant, Typed, PathWant, PathNamed, PathThrough, Named, Fields, ArrayWant, InitialWant, InitialNegative, Top, Fixed, a_semicolon, a_bracket, State, At, or_else, to, Role, Calling, Indexing, Accessing, Operating, Ending, role, floor, settle, mallocs, want, open_call, lined, doing_end, local_line, local_end, value_end, subject_end, condition_end, return_end, test_end, leave, front_end, index_end, argument_end, end_at, counted, shift, have, dotted, called, spawning, typing_of, takes_modes, moded, mode_step, based, base_step, begin_type, struct_want, level_step, name_step, comma_step, close_type, open_type, typed, path_want, path_named, path_through, declaring_of, with_part, named_top, named_field, named_parameter, named_local, named, fields, array_want, initial_negative, initial_want, with_item, function_of, close_block, holds_items, line_start, start, is_else, done, returned, for_test, for_step, malloced, core_step, height, FewStars, FewFront, Few, LowValue, LowDoing, LowInitial, line_nesting, nesting, LowPart, LowProgram, depth, around_it, crowded_line, crowded_doing, crowded_place, crowded, over_place, over_at, over_start, over_done, over_cast, over_core, test_down}, Completed.{LowOuter, Room, RoomToDeclare, LowDoingPlace, LowValuePlace, LowPlace, LowAround, LowName, LowType, LowMode, LowStart, LowCore, low_part_more, low_part_less, few_given_more, few_given_less, low_item_more, low_item_less, deepest_more, highest_more, few_more, few_less, around_most, depth_most}}
 
 -- from one core to the next
 pub record Moves (P : Type 0) (n : Core) : Type 0 where
@@ -138,22 +127,22 @@ front_moves h k w = deeper k (fronted h k) refl refl (λ l. (l.0, w, l.1)) (λ l
 
 want_moves : (k : Cont) (t : Word) → MovesTo (LowAround k) (want k t)
 want_moves k (name n) = operand k (identifier n) refl tt
-want_moves k (number n) = operand k (constant (constants.Number n)) refl tt
-want_moves k (character c) = operand k (constant (constants.Character c)) refl tt
-want_moves k (keyword key.Null) = operand k (constant constants.Null) refl tt
+want_moves k (number n) = operand k (constant (Constant.Number n)) refl tt
+want_moves k (character c) = operand k (constant (Constant.Character c)) refl tt
+want_moves k (keyword Keyword.Null) = operand k (constant Constant.Null) refl tt
 want_moves k (mark Minus) = unary_moves Negate k
 want_moves k (mark Exclamation) = unary_moves Not k
 want_moves k (mark Tilde) = unary_moves Complement k
 want_moves k (mark Star) = unary_moves Dereference k
 want_moves k (mark OpenParenthesis) = front_moves parenthesis k tt
-want_moves k (keyword key.Spawn) = record { up = λ l v. (test_up (depth k) (second (crowded k) (nat_le 64 (depth k)) v), l); down = λ l. l.1 }
-want_moves k (keyword key.Join) = front_moves (of_value value_call.Join) k tt
-want_moves k (keyword key.Print) = front_moves (of_value value_call.Print) k tt
-want_moves k (keyword key.Lock) = front_moves (of_place place_call.Lock) k tt
-want_moves k (keyword key.Unlock) = front_moves (of_place place_call.Unlock) k tt
-want_moves k (keyword key.Free) = front_moves (of_place place_call.Free) k tt
-want_moves k (keyword key.Scast) = record { up = λ l v. (test_up (depth k) (second (crowded k) (nat_le 64 (depth k)) v), l); down = λ l. l.1 }
-want_moves k (keyword key.Malloc) = mallocs_moves k
+want_moves k (keyword Keyword.Spawn) = record { up = λ l v. (test_up (depth k) (second (crowded k) (nat_le 64 (depth k)) v), l); down = λ l. l.1 }
+want_moves k (keyword Keyword.Join) = front_moves (of_value ValueCall.Join) k tt
+want_moves k (keyword Keyword.Print) = front_moves (of_value ValueCall.Print) k tt
+want_moves k (keyword Keyword.Lock) = front_moves (of_place PlaceCall.Lock) k tt
+want_moves k (keyword Keyword.Unlock) = front_moves (of_place PlaceCall.Unlock) k tt
+want_moves k (keyword Keyword.Free) = front_moves (of_place PlaceCall.Free) k tt
+want_moves k (keyword Keyword.Scast) = record { up = λ l v. (test_up (depth k) (second (crowded k) (nat_le 64 (depth k)) v), l); down = λ l. l.1 }
+want_moves k (keyword Keyword.Malloc) = mallocs_moves k
 want_moves k _ = tt
 
 -- an expression that begins a statement is tested for the room of the statement
@@ -169,20 +158,20 @@ want_room : (k : Cont) (t : Word) → TestsRoom k (want k t)
 want_room k (name n) = λ h. h
 want_room k (number n) = λ h. h
 want_room k (character c) = λ h. h
-want_room k (keyword key.Null) = λ h. h
+want_room k (keyword Keyword.Null) = λ h. h
 want_room k (mark Minus) = λ h. first_off (crowded k) (nat_le 64 (depth k)) h
 want_room k (mark Exclamation) = λ h. first_off (crowded k) (nat_le 64 (depth k)) h
 want_room k (mark Tilde) = λ h. first_off (crowded k) (nat_le 64 (depth k)) h
 want_room k (mark Star) = λ h. first_off (crowded k) (nat_le 64 (depth k)) h
 want_room k (mark OpenParenthesis) = λ h. first_off (crowded k) (nat_le 64 (depth k)) h
-want_room k (keyword key.Spawn) = λ h. first_off (crowded k) (nat_le 64 (depth k)) h
-want_room k (keyword key.Join) = λ h. first_off (crowded k) (nat_le 64 (depth k)) h
-want_room k (keyword key.Print) = λ h. first_off (crowded k) (nat_le 64 (depth k)) h
-want_room k (keyword key.Lock) = λ h. first_off (crowded k) (nat_le 64 (depth k)) h
-want_room k (keyword key.Unlock) = λ h. first_off (crowded k) (nat_le 64 (depth k)) h
-want_room k (keyword key.Free) = λ h. first_off (crowded k) (nat_le 64 (depth k)) h
-want_room k (keyword key.Scast) = λ h. first_off (crowded k) (nat_le 64 (depth k)) h
-want_room k (keyword key.Malloc) = mallocs_room k
+want_room k (keyword Keyword.Spawn) = λ h. first_off (crowded k) (nat_le 64 (depth k)) h
+want_room k (keyword Keyword.Join) = λ h. first_off (crowded k) (nat_le 64 (depth k)) h
+want_room k (keyword Keyword.Print) = λ h. first_off (crowded k) (nat_le 64 (depth k)) h
+want_room k (keyword Keyword.Lock) = λ h. first_off (crowded k) (nat_le 64 (depth k)) h
+want_room k (keyword Keyword.Unlock) = λ h. first_off (crowded k) (nat_le 64 (depth k)) h
+want_room k (keyword Keyword.Free) = λ h. first_off (crowded k) (nat_le 64 (depth k)) h
+want_room k (keyword Keyword.Scast) = λ h. first_off (crowded k) (nat_le 64 (depth k)) h
+want_room k (keyword Keyword.Malloc) = mallocs_room k
 want_room k _ = tt
 
 -- operators that take their operands change nothing
@@ -315,7 +304,7 @@ end_moves x (part p o) t = leave_moves p x o t
 end_moves x _ t = tt
 
 counted_moves : (o : BinaryOperator) (x : Phrase) (k : Cont) → MovesTo (LowCore (Have x k)) (counted o x k)
-counted_moves op.Multiply x (part (counting v) o) = record {
+counted_moves BinaryOperator.Multiply x (part (counting v) o) = record {
   up = λ l w. (l.2.0, (omega (arith, l.0), l.1), l.2.1);
   down = λ l. (omega (arith, l.1.0), l.1.1, (l.0, l.2));
 }
@@ -367,11 +356,11 @@ moded_moves (before_base p) s = alike (LowMode (before_base p)) (ModeFirst p s) 
 moded_moves (at_level p first b below) s = alike (LowMode (at_level p first b below)) (Typed p first b (Some s) below) (λ l. l) (λ l. l)
 
 mode_moves : (p : ModePlace) (t : Word) → MovesTo (LowMode p) (mode_step p t)
-mode_moves p (keyword key.Private) = moded_moves p private
-mode_moves p (keyword key.Readonly) = moded_moves p readonly
-mode_moves p (keyword key.Racy) = moded_moves p racy
-mode_moves p (keyword key.Dynamic) = moded_moves p dynamic
-mode_moves p (keyword key.Locked) = alike (LowMode p) (PathWant p) (λ l. l) (λ l. l)
+mode_moves p (keyword Keyword.Private) = moded_moves p private
+mode_moves p (keyword Keyword.Readonly) = moded_moves p readonly
+mode_moves p (keyword Keyword.Racy) = moded_moves p racy
+mode_moves p (keyword Keyword.Dynamic) = moded_moves p dynamic
+mode_moves p (keyword Keyword.Locked) = alike (LowMode p) (PathWant p) (λ l. l) (λ l. l)
 mode_moves p _ = tt
 
 based_moves : (p : TypePlace) (m : Option Sharing) (b : Base) → Moves (LowType p) (based p m b)
@@ -379,12 +368,12 @@ based_moves p None b = record { up = λ l v. (omega arith, l); down = λ l. l.1 
 based_moves p (Some s) b = record { up = λ l v. (omega arith, l); down = λ l. l.1 }
 
 base_moves : (p : TypePlace) (m : Option Sharing) (t : Word) → MovesTo (LowType p) (base_step p m t)
-base_moves p m (keyword key.Int) = based_moves p m base.Int
-base_moves p m (keyword key.Char) = based_moves p m base.Char
-base_moves p m (keyword key.Long) = based_moves p m base.Long
-base_moves p m (keyword key.Mutex) = based_moves p m base.Mutex
-base_moves p m (keyword key.Void) = based_moves p m base.Void
-base_moves p m (keyword key.Struct) = alike (LowType p) (StructWant p m) (λ l. l) (λ l. l)
+base_moves p m (keyword Keyword.Int) = based_moves p m Base.Int
+base_moves p m (keyword Keyword.Char) = based_moves p m Base.Char
+base_moves p m (keyword Keyword.Long) = based_moves p m Base.Long
+base_moves p m (keyword Keyword.Mutex) = based_moves p m Base.Mutex
+base_moves p m (keyword Keyword.Void) = based_moves p m Base.Void
+base_moves p m (keyword Keyword.Struct) = alike (LowType p) (StructWant p m) (λ l. l) (λ l. l)
 base_moves p m _ = tt
 
 begin_moves : (p : TypePlace) (t : Word) → MovesTo (LowType p) (begin_type p t)
@@ -393,7 +382,7 @@ begin_moves p t =
     (cond_moves (LowType p) (takes_modes p) (mode_step (before_base p) t) (mode_moves (before_base p) t)) (base_moves p None t)
 
 struct_moves : (p : TypePlace) (m : Option Sharing) (t : Word) → MovesTo (LowType p) (struct_want p m t)
-struct_moves p m (name n) = based_moves p m (base.Struct n)
+struct_moves p m (name n) = based_moves p m (Base.Struct n)
 struct_moves p m _ = tt
 
 level_moves : (p : TypePlace) (first : Bool) (b : Base) (m : Option Sharing) (below : List (Option Sharing)) (t : Word) → MovesTo ((length below ≤ 8) × LowType p) (level_step p first b m below t)
@@ -410,11 +399,11 @@ comma_moves _ first b m below = tt
 
 close_moves : (p : TypePlace) (first : Bool) (b : Base) (m : Option Sharing) (below : List (Option Sharing)) → MovesTo ((length below ≤ 8) × LowType p) (close_type p first b m below)
 close_moves (sizing v n o) first b m below = record { up = λ l w. (l.1.0, (l.1.1, l.0), l.1.2); down = λ l. (l.1.1, (l.0, l.1.0, l.2)) }
-close_moves (naming (parameter_of all r f [])) false base.Void None [] = record { up = λ l v. (tt, (l.1.0, l.1.1, tt, tt, omega arith)); down = λ l. (omega arith, (l.1.0, l.1.1, tt)) }
+close_moves (naming (parameter_of all r f [])) false Base.Void None [] = record { up = λ l v. (tt, (l.1.0, l.1.1, tt, tt, omega arith)); down = λ l. (omega arith, (l.1.0, l.1.1, tt)) }
 close_moves _ _ _ _ _ = tt
 
 struct_open_moves : (p : TypePlace) (first : Bool) (b : Base) (m : Option Sharing) (below : List (Option Sharing)) → MovesTo ((length below ≤ 8) × LowType p) (open_type p first b m below)
-struct_open_moves (naming (on_top all)) false (base.Struct n) None [] = record { up = λ l v. (l.1, tt); down = λ l. (omega arith, l.0) }
+struct_open_moves (naming (on_top all)) false (Base.Struct n) None [] = record { up = λ l v. (l.1, tt); down = λ l. (omega arith, l.0) }
 struct_open_moves _ _ _ _ _ = tt
 
 typed_moves : (p : TypePlace) (first : Bool) (b : Base) (m : Option Sharing) (below : List (Option Sharing)) (t : Word) → MovesTo ((length below ≤ 8) × LowType p) (typed p first b m below t)
@@ -481,12 +470,12 @@ head_moves o t =
 start_moves : (o : Outer) (t : Word) → MovesTo (LowStart o × LowOuter o) (start o t)
 start_moves o (mark CloseBrace) = close_block_moves o
 start_moves o (mark OpenBrace) = record { up = λ l v. (tt, (tt, omega (arith, test_up (around_it o) v), l.1)); down = λ l. (start_room o (omega (arith, l.1.1)), l.1.2) }
-start_moves o (keyword key.If) = record { up = λ l v. (leb-false 63 (around_it o) v, l.1); down = λ l. (start_room o (omega (arith, l.0)), l.1) }
-start_moves o (keyword key.While) = record { up = λ l v. (leb-false 63 (around_it o) v, l.1); down = λ l. (start_room o (omega (arith, l.0)), l.1) }
-start_moves o (keyword key.For) = record { up = λ l v. (leb-false 63 (around_it o) v, l.1); down = λ l. (start_room o (omega (arith, l.0)), l.1) }
-start_moves o (keyword key.Break) = record { up = λ l v. (tt, omega (arith, test_up (around_it o) v), l.1); down = λ l. (start_room o (omega (arith, l.1)), l.2) }
-start_moves o (keyword key.Continue) = record { up = λ l v. (tt, omega (arith, test_up (around_it o) v), l.1); down = λ l. (start_room o (omega (arith, l.1)), l.2) }
-start_moves o (keyword key.Return) = record { up = λ l v. (test_up (around_it o) v, l.1); down = λ l. (start_room o (omega (arith, l.0)), l.1) }
+start_moves o (keyword Keyword.If) = record { up = λ l v. (leb-false 63 (around_it o) v, l.1); down = λ l. (start_room o (omega (arith, l.0)), l.1) }
+start_moves o (keyword Keyword.While) = record { up = λ l v. (leb-false 63 (around_it o) v, l.1); down = λ l. (start_room o (omega (arith, l.0)), l.1) }
+start_moves o (keyword Keyword.For) = record { up = λ l v. (leb-false 63 (around_it o) v, l.1); down = λ l. (start_room o (omega (arith, l.0)), l.1) }
+start_moves o (keyword Keyword.Break) = record { up = λ l v. (tt, omega (arith, test_up (around_it o) v), l.1); down = λ l. (start_room o (omega (arith, l.1)), l.2) }
+start_moves o (keyword Keyword.Continue) = record { up = λ l v. (tt, omega (arith, test_up (around_it o) v), l.1); down = λ l. (start_room o (omega (arith, l.1)), l.2) }
+start_moves o (keyword Keyword.Return) = record { up = λ l v. (test_up (around_it o) v, l.1); down = λ l. (start_room o (omega (arith, l.0)), l.1) }
 start_moves o t = statement_moves o t
 
 then_moves : (b : Bool) (e : Phrase) (s : Sentence) (o : Outer) (r : Option State) → MovesTo (LowCore (Done (under (if_of e) s) o)) r → MovesTo (LowCore (Done s (inside (if_of e) o))) (cond b (to (Start (inside (else_of e s) o))) r)
@@ -535,7 +524,7 @@ for_step_moves l e o (mark CloseParenthesis) = record {
 for_step_moves l e o t = moves_from (LowCore (ForStep l e o)) (LowAround (part (subject (as_step l e)) o)) (want (part (subject (as_step l e)) o) t) (λ h. ((h.0, h.1, h.2), h.3)) (λ h. (h.0.0, h.0.1, h.0.2, h.1)) (want_moves (part (subject (as_step l e)) o) t)
 
 malloced_moves : (v : ValuePlace) (o : Outer) (t : Word) → MovesTo (LowCore (Malloced v o)) (malloced v o t)
-malloced_moves v o (keyword key.Sizeof) = record { up = λ l w. (l.0, tt, l.1); down = λ l. (l.0, l.2) }
+malloced_moves v o (keyword Keyword.Sizeof) = record { up = λ l w. (l.0, tt, l.1); down = λ l. (l.0, l.2) }
 malloced_moves v o t = want_moves (part (counting v) o) t
 
 -- Programs.
@@ -591,15 +580,15 @@ array_moves all d (number n) = global_moves all d (array n) (a_bracket ∷ a_sem
 array_moves all d _ = tt
 
 negative_moves : (all : List Part) (d : Declaring) (t : Word) → MovesTo (LowProgram all × FewStars d.typing) (initial_negative all d t)
-negative_moves all d (number n) = global_moves all d (initially true (constants.Number n)) (a_semicolon ∷ [])
-negative_moves all d (character c) = global_moves all d (initially true (constants.Character c)) (a_semicolon ∷ [])
+negative_moves all d (number n) = global_moves all d (initially true (Constant.Number n)) (a_semicolon ∷ [])
+negative_moves all d (character c) = global_moves all d (initially true (Constant.Character c)) (a_semicolon ∷ [])
 negative_moves all d _ = tt
 
 initial_moves : (all : List Part) (d : Declaring) (t : Word) → MovesTo (LowProgram all × FewStars d.typing) (initial_want all d t)
 initial_moves all d (mark Minus) = alike (LowProgram all × FewStars d.typing) (InitialNegative all d) (λ l. l) (λ l. l)
-initial_moves all d (number n) = global_moves all d (initially false (constants.Number n)) (a_semicolon ∷ [])
-initial_moves all d (character c) = global_moves all d (initially false (constants.Character c)) (a_semicolon ∷ [])
-initial_moves all d (keyword key.Null) = global_moves all d (initially false constants.Null) (a_semicolon ∷ [])
+initial_moves all d (number n) = global_moves all d (initially false (Constant.Number n)) (a_semicolon ∷ [])
+initial_moves all d (character c) = global_moves all d (initially false (Constant.Character c)) (a_semicolon ∷ [])
+initial_moves all d (keyword Keyword.Null) = global_moves all d (initially false Constant.Null) (a_semicolon ∷ [])
 initial_moves all d _ = tt
 
 pub core_moves : (c : Core) (t : Word) → MovesTo (LowCore c) (core_step c t)

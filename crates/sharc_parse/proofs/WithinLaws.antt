@@ -1,7 +1,5 @@
 -- The machine within the limits: what it reads, and its first faults.
-use Rattle.std.proofs.Common.{◌≡◌, List, [], ◌∷◌, ◌++◌, Option, Some, None, refl, sym, ap, ◌∙◌, append_assoc, subst, Bool, true, false, cond}
-use Rattle.sharc_parse.specs.{Grammar.{Word, Part, program_words, IsProgram}, Machine.{Core, Top, Fixed, State, At, is_fixed, core_step, step, Read, Stuck, core_finish, finish, then_on, reads, first_state}, Limits.{LowProgram, BeginsWithin, FirstWrong, Exceeds, FirstExcess, over, Limited, ReadWithin, StuckAt, Over, lifted, next_within, reads_within}}
-use Rattle.sharc_parse.proofs.{Completed.LowCore, Within.{MovesTo, core_moves, not_over}, Whole.{only, found, Reached, ReachedNext, step_reached, first_reached, LowState, completed_at, Stops, ends}}
+use Rattle.sharc_parse.proofs.{Imports.{◌≡◌, List, [], ◌∷◌, ◌++◌, Option, Some, None, refl, sym, ap, ◌∙◌, append_assoc, subst, Bool, true, false, cond, Word, Part, program_words, IsProgram, Core, Top, Fixed, State, At, is_fixed, core_step, step, Read, Stuck, core_finish, finish, then_on, reads, first_state, LowProgram, BeginsWithin, FirstWrong, Exceeds, FirstExcess, over, Limited, ReadWithin, StuckAt, Over, lifted, next_within, reads_within}, Completed.LowCore, Within.{MovesTo, core_moves, not_over}, Whole.{only, found, Reached, ReachedNext, step_reached, first_reached, LowState, completed_at, Stops, ends}}
 
 -- from one state to the next
 abbrev pub Steps : Type 0 → Option State → Type 0

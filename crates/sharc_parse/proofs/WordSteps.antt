@@ -1,9 +1,5 @@
 -- The machine's steps over the first words of statements.
-use Rattle.std.proofs.{Common.{◌≡◌, ℕ, ◌+◌, ◌≤◌, ◌<◌, List, [], ◌∷◌, Some, None, refl, sym, ap, ◌∙◌, arith, true, false}, lemmas.Bool.{lt-leb, le-leb}}
-use Rattle.sharc_tree.specs.declared.token.Keyword.TheVariants as key
-use Rattle.sharc_tree.specs.declared.token.Punctuator.TheVariants.{OpenParenthesis, CloseParenthesis, OpenBrace, CloseBrace}
-use Rattle.sharc_parse.specs.{Grammar.{Word, keyword, mark, Phrase}, Machine.{Outer, inside, as_statement, Asked, condition, part, Want, Have, Start, an_open, At, leave, asked, start, line_start, grip}, Limits.{StuckAt, Over, next_within, reads_within, around_it, over}, declared.word.StatementWord.StatementWord, declared.word.StatementWord.TheVariants.{If, While, For, Return, Break, Continue}, Goes.{NotAt, IsAt}, Lines.line_within, Words.{statement_word, room_of, NoStatement, after_word}}
-use Rattle.sharc_parse.proofs.{Steps.{passes, fails, fixed_goes}, RightSteps.ends_place}
+use Rattle.sharc_parse.proofs.{Imports.{◌≡◌, ℕ, ◌+◌, ◌≤◌, ◌<◌, List, [], ◌∷◌, Some, None, refl, sym, ap, ◌∙◌, arith, true, false, lt-leb, le-leb, Keyword, OpenParenthesis, CloseParenthesis, OpenBrace, CloseBrace, Word, keyword, mark, Phrase, Outer, inside, as_statement, Asked, condition, part, Want, Have, Start, an_open, At, leave, asked, start, line_start, grip, StuckAt, Over, next_within, reads_within, around_it, over, StatementWord, If, While, For, Return, Break, Continue, NotAt, IsAt, line_within, statement_word, room_of, NoStatement, after_word}, Steps.{passes, fails, fixed_goes}, RightSteps.ends_place}
 
 start_step : (w : StatementWord) (o : Outer) → start o (statement_word w) ≡ Some (after_word w o)
 start_step If o = refl
@@ -33,12 +29,12 @@ word_over w o room (t ∷ y) a e h =
     ∙ ap (λ u. Over (u ∷ y)) (sym a)
 
 no_word_step : (o : Outer) (t : Word) → ((w : StatementWord) → t ≡ statement_word w → ⊥) → (t ≡ mark OpenBrace → ⊥) → (t ≡ mark CloseBrace → ⊥) → start o t ≡ line_start as_statement o t
-no_word_step o (keyword key.If) h a b = absurd (h If refl)
-no_word_step o (keyword key.While) h a b = absurd (h While refl)
-no_word_step o (keyword key.For) h a b = absurd (h For refl)
-no_word_step o (keyword key.Return) h a b = absurd (h Return refl)
-no_word_step o (keyword key.Break) h a b = absurd (h Break refl)
-no_word_step o (keyword key.Continue) h a b = absurd (h Continue refl)
+no_word_step o (keyword Keyword.If) h a b = absurd (h If refl)
+no_word_step o (keyword Keyword.While) h a b = absurd (h While refl)
+no_word_step o (keyword Keyword.For) h a b = absurd (h For refl)
+no_word_step o (keyword Keyword.Return) h a b = absurd (h Return refl)
+no_word_step o (keyword Keyword.Break) h a b = absurd (h Break refl)
+no_word_step o (keyword Keyword.Continue) h a b = absurd (h Continue refl)
 no_word_step o (mark OpenBrace) h a b = absurd (a refl)
 no_word_step o (mark CloseBrace) h a b = absurd (b refl)
 no_word_step o _ h a b = refl

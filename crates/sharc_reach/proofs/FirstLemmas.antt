@@ -1,10 +1,5 @@
 -- The least of the chosen functions that name a global, and what is answered in all.
-use Rattle.std.proofs.{Common.{◌≡◌, ◌≢◌, ℕ, ◌<◌, ◌≤◌, ◌⊎◌, min, Bool, true, false, List, [], ◌∷◌, Option, Some, None, length, get_or, fold, replicate, map, refl, ap, sym, ◌∙◌, subst, inl, inr, arith}, lemmas.Bool.{cases_eq, cases_lt, false≢true}, lemmas.List.{length-set, get_or-set_same, get_or-set_other, get_or-replicate, length-replicate}}
-use Rattle.sharc_graph.specs.{declared.graph.NodeFinding.NodeFinding, Paths.AreFindings}
-use Rattle.sharc_names.specs.declared.fault.Named.TheVariants as named
-use Rattle.sharc_ctype.specs.{Resolved.{Resolution, named_at, functions_in, globals_in}, Reaches.{Names, tokens_of, NamesGlobal}}
-use Rattle.sharc_reach.specs.{declared.mention.Mention.Mention, Mentions.mentions_below, Graphs.{is_found, is_source}, Firsts.{global_named, lower, lowered, named_by, lowered_by}, Reaching.{Reaching, is_chosen, first_of, IsFirstOf, AreReached}}
-use Rattle.sharc_reach.proofs.{MemberLemmas.{Has, has_same, of_function_below, below_of_function, names_of, of_names, some_within}, PathLemmas.{graph_in, chosen_size, chosen_reached, reached_chosen, spawned_size, source_is_spawned, spawned_is_source}}
+use Rattle.sharc_reach.proofs.{Imports.{◌≡◌, ◌≢◌, ℕ, ◌<◌, ◌≤◌, ◌⊎◌, min, Bool, true, false, List, [], ◌∷◌, Option, Some, None, length, get_or, fold, replicate, map, refl, ap, sym, ◌∙◌, subst, inl, inr, arith, cases_eq, cases_lt, false≢true, length-set, get_or-set_same, get_or-set_other, get_or-replicate, length-replicate, NodeFinding, AreFindings, Named, Resolution, named_at, functions_in, globals_in, Names, tokens_of, NamesGlobal, Mention, mentions_below, is_found, is_source, global_named, lower, lowered, named_by, lowered_by, Reaching, is_chosen, first_of, IsFirstOf, AreReached}, MemberLemmas.{Has, has_same, of_function_below, below_of_function, names_of, of_names, some_within}, PathLemmas.{graph_in, chosen_size, chosen_reached, reached_chosen, spawned_size, source_is_spawned, spawned_is_source}}
 
 -- ---- the least number with a property
 abbrev pub Least : (ℕ → Type 0) → Option ℕ → Type 0
@@ -81,7 +76,7 @@ all_size r chosen (m ∷ all) firsts = all_size r chosen all (lowered_by r chose
 -- ---- the answers for a program
 module _ (r : Resolution) (count : ℕ) (counted : count ≡ length (functions_in r.program.items)) (findings : List NodeFinding) (found : AreFindings (graph_in r count) findings) where
   namer_within : (f g : ℕ) → NamesGlobal r f g → f < count
-  namer_within f g names = let below = some_within (λ d. Names r (named.Global g) (tokens_of d)) (functions_in r.program.items) f names in omega arith
+  namer_within f g names = let below = some_within (λ d. Names r (Named.Global g) (tokens_of d)) (functions_in r.program.items) f names in omega arith
 
   adds_named : (chosen : List Bool) (f g : ℕ) → NamesGlobal r f g → is_chosen chosen f ≡ true → Has (AddsTo r chosen g f) (mentions_below r count)
   adds_named chosen f g names is =

@@ -1,3 +1,4 @@
+mod Imports
 pub mod FirstLemmas
 pub mod MemberLemmas
 pub mod NameLemmas

@@ -1,13 +1,5 @@
 -- Elements with a property, and what names among a function's mean.
-use Rattle.std.proofs.{Common.{◌≡◌, ℕ, zero, suc, ◌<◌, ◌⊎◌, List, [], ◌∷◌, ◌++◌, Option, Some, None, length, get_or, refl, ap, sym, ◌∙◌, subst, inl, inr, arith}, lemmas.Bool.cases_eq}
-use Rattle.std.specs.{Prelude.{IsSomeAnd, Contains}, List.{slice_get, filter_map, cons_option}}
-use Rattle.sharc_names.specs.declared.fault.Named.{Named}
-use Rattle.sharc_names.specs.declared.fault.Named.TheVariants as named
-use Rattle.sharc_tree.specs.{Measures.in_function, Tree.Function}
-use Rattle.sharc_ctype.specs.{Resolved.{Resolution, named_at, function_at}, Reaches.{runs, spawns, of_all, Names, Spawns, Runs, tokens_of, NamesGlobal}}
-use Rattle.sharc_reach.specs.{declared.mention.Mention.Mention, declared.mention.NameUse.NameUse, Mentions.{function_mentions, mentions_in, mentions_below}, Graphs.{function_named, ran_as, spawned_as, ran, spawned}, Firsts.global_named}
-use Rattle.sharc_reach.specs.declared.mention.NameUse.TheVariants as role
-use Rattle.sharc_reach.proofs.{TreeLemmas.{tokens, of_function}, OwnerLemmas.{Owned, own_function}, RunLemmas.{told, ran_token, spawned_token, function_runs, function_spawns}}
+use Rattle.sharc_reach.proofs.{Imports.{◌≡◌, ℕ, zero, suc, ◌<◌, ◌⊎◌, List, [], ◌∷◌, ◌++◌, Option, Some, None, length, get_or, refl, ap, sym, ◌∙◌, subst, inl, inr, arith, cases_eq, IsSomeAnd, Contains, slice_get, filter_map, cons_option, Named, in_function, Function, Resolution, named_at, function_at, runs, spawns, of_all, Names, Spawns, Runs, tokens_of, NamesGlobal, Mention, NameUse, function_mentions, mentions_in, mentions_below, function_named, ran_as, spawned_as, ran, spawned, global_named}, TreeLemmas.{tokens, of_function}, OwnerLemmas.{Owned, own_function}, RunLemmas.{told, ran_token, spawned_token, function_runs, function_spawns}}
 
 -- ---- some element has the property
 abbrev pub Has : {A : Type 0} → (A → Type 0) → List A → Type 0
@@ -74,21 +66,21 @@ has_source f [] y h = absurd h
 has_source f (x ∷ xs) y h = elim (split (f x) (filter_map f xs) y h) [ inl here ↦ inl here | inr there ↦ inr (has_source f xs y there) ]
 
 -- ---- what a name means
-function_is : (what : Named) (n : ℕ) → function_named what ≡ Some n → what ≡ named.Function n
-function_is (named.Function k) n is = let same : k ≡ n = cc in ap (λ i. named.Function i) same
-function_is (named.Struct k) n is = absurd (let no : None ≡ Some n = is in cc)
-function_is (named.Global k) n is = absurd (let no : None ≡ Some n = is in cc)
-function_is (named.Variable k) n is = absurd (let no : None ≡ Some n = is in cc)
-function_is (named.Field k) n is = absurd (let no : None ≡ Some n = is in cc)
-function_is named.Known n is = absurd (let no : None ≡ Some n = is in cc)
+function_is : (what : Named) (n : ℕ) → function_named what ≡ Some n → what ≡ Named.Function n
+function_is (Named.Function k) n is = let same : k ≡ n = cc in ap (λ i. Named.Function i) same
+function_is (Named.Struct k) n is = absurd (let no : None ≡ Some n = is in cc)
+function_is (Named.Global k) n is = absurd (let no : None ≡ Some n = is in cc)
+function_is (Named.Variable k) n is = absurd (let no : None ≡ Some n = is in cc)
+function_is (Named.Field k) n is = absurd (let no : None ≡ Some n = is in cc)
+function_is Named.Known n is = absurd (let no : None ≡ Some n = is in cc)
 
-pub global_is : (what : Named) (n : ℕ) → global_named what ≡ Some n → what ≡ named.Global n
-global_is (named.Global k) n is = let same : k ≡ n = cc in ap (λ i. named.Global i) same
-global_is (named.Struct k) n is = absurd (let no : None ≡ Some n = is in cc)
-global_is (named.Function k) n is = absurd (let no : None ≡ Some n = is in cc)
-global_is (named.Variable k) n is = absurd (let no : None ≡ Some n = is in cc)
-global_is (named.Field k) n is = absurd (let no : None ≡ Some n = is in cc)
-global_is named.Known n is = absurd (let no : None ≡ Some n = is in cc)
+pub global_is : (what : Named) (n : ℕ) → global_named what ≡ Some n → what ≡ Named.Global n
+global_is (Named.Global k) n is = let same : k ≡ n = cc in ap (λ i. Named.Global i) same
+global_is (Named.Struct k) n is = absurd (let no : None ≡ Some n = is in cc)
+global_is (Named.Function k) n is = absurd (let no : None ≡ Some n = is in cc)
+global_is (Named.Variable k) n is = absurd (let no : None ≡ Some n = is in cc)
+global_is (Named.Field k) n is = absurd (let no : None ≡ Some n = is in cc)
+global_is Named.Known n is = absurd (let no : None ≡ Some n = is in cc)
 
 -- the tokens of those whose roles count
 has_told : (f : NameUse → ℕ → List ℕ) (Q : Mention → Type 0) (P : ℕ → Type 0) → ((m : Mention) → Q m → Has P (f m.role m.token)) → (all : List Mention) → Has Q all → Has P (told f all)
@@ -113,59 +105,59 @@ module _ (r : Resolution) where
       told_has f Q (λ t. named_at r t ≡ what) each all (subst (Has (λ t. named_at r t ≡ what)) (sym is) (has_contained (λ t. named_at r t ≡ what) list h.0 h.1 h.2))
 
   -- called or spawned
-  down_ran : (kind : NameUse) (t n : ℕ) → ran_as kind (named_at r t) ≡ Some n → Has (λ t. named_at r t ≡ named.Function n) (ran_token kind t)
-  down_ran role.Named t n is = absurd (let no : None ≡ Some n = is in cc)
-  down_ran role.Called t n is = inl (function_is (named_at r t) n is)
-  down_ran role.Spawned t n is = inl (function_is (named_at r t) n is)
+  down_ran : (kind : NameUse) (t n : ℕ) → ran_as kind (named_at r t) ≡ Some n → Has (λ t. named_at r t ≡ Named.Function n) (ran_token kind t)
+  down_ran NameUse.Named t n is = absurd (let no : None ≡ Some n = is in cc)
+  down_ran NameUse.Called t n is = inl (function_is (named_at r t) n is)
+  down_ran NameUse.Spawned t n is = inl (function_is (named_at r t) n is)
 
-  up_ran : (kind : NameUse) (t n : ℕ) → Has (λ t. named_at r t ≡ named.Function n) (ran_token kind t) → ran_as kind (named_at r t) ≡ Some n
-  up_ran role.Named t n h = absurd h
-  up_ran role.Called t n (inl is) = ap function_named is
-  up_ran role.Called t n (inr h) = absurd h
-  up_ran role.Spawned t n (inl is) = ap function_named is
-  up_ran role.Spawned t n (inr h) = absurd h
+  up_ran : (kind : NameUse) (t n : ℕ) → Has (λ t. named_at r t ≡ Named.Function n) (ran_token kind t) → ran_as kind (named_at r t) ≡ Some n
+  up_ran NameUse.Named t n h = absurd h
+  up_ran NameUse.Called t n (inl is) = ap function_named is
+  up_ran NameUse.Called t n (inr h) = absurd h
+  up_ran NameUse.Spawned t n (inl is) = ap function_named is
+  up_ran NameUse.Spawned t n (inr h) = absurd h
 
-  down_spawned : (kind : NameUse) (t n : ℕ) → spawned_as kind (named_at r t) ≡ Some n → Has (λ t. named_at r t ≡ named.Function n) (spawned_token kind t)
-  down_spawned role.Named t n is = absurd (let no : None ≡ Some n = is in cc)
-  down_spawned role.Called t n is = absurd (let no : None ≡ Some n = is in cc)
-  down_spawned role.Spawned t n is = inl (function_is (named_at r t) n is)
+  down_spawned : (kind : NameUse) (t n : ℕ) → spawned_as kind (named_at r t) ≡ Some n → Has (λ t. named_at r t ≡ Named.Function n) (spawned_token kind t)
+  down_spawned NameUse.Named t n is = absurd (let no : None ≡ Some n = is in cc)
+  down_spawned NameUse.Called t n is = absurd (let no : None ≡ Some n = is in cc)
+  down_spawned NameUse.Spawned t n is = inl (function_is (named_at r t) n is)
 
-  up_spawned : (kind : NameUse) (t n : ℕ) → Has (λ t. named_at r t ≡ named.Function n) (spawned_token kind t) → spawned_as kind (named_at r t) ≡ Some n
-  up_spawned role.Named t n h = absurd h
-  up_spawned role.Called t n h = absurd h
-  up_spawned role.Spawned t n (inl is) = ap function_named is
-  up_spawned role.Spawned t n (inr h) = absurd h
+  up_spawned : (kind : NameUse) (t n : ℕ) → Has (λ t. named_at r t ≡ Named.Function n) (spawned_token kind t) → spawned_as kind (named_at r t) ≡ Some n
+  up_spawned NameUse.Named t n h = absurd h
+  up_spawned NameUse.Called t n h = absurd h
+  up_spawned NameUse.Spawned t n (inl is) = ap function_named is
+  up_spawned NameUse.Spawned t n (inr h) = absurd h
 
   -- in one function
-  runs_in : (n k : ℕ) (o : Option Function) → Has (λ m. ran r m ≡ Some k) (mentions_in n o) → IsSomeAnd o (λ f. Names r (named.Function k) (of_all runs (in_function f)))
+  runs_in : (n k : ℕ) (o : Option Function) → Has (λ m. ran r m ≡ Some k) (mentions_in n o) → IsSomeAnd o (λ f. Names r (Named.Function k) (of_all runs (in_function f)))
   runs_in n k None h = h
-  runs_in n k (Some f) h = names_has (named.Function k) ran_token (λ m. ran r m ≡ Some k) (λ m. down_ran m.role m.token k) (function_mentions n f) (of_all runs (in_function f)) (function_runs n f) h
+  runs_in n k (Some f) h = names_has (Named.Function k) ran_token (λ m. ran r m ≡ Some k) (λ m. down_ran m.role m.token k) (function_mentions n f) (of_all runs (in_function f)) (function_runs n f) h
 
-  in_runs : (n k : ℕ) (o : Option Function) → IsSomeAnd o (λ f. Names r (named.Function k) (of_all runs (in_function f))) → Has (λ m. ran r m ≡ Some k) (mentions_in n o)
+  in_runs : (n k : ℕ) (o : Option Function) → IsSomeAnd o (λ f. Names r (Named.Function k) (of_all runs (in_function f))) → Has (λ m. ran r m ≡ Some k) (mentions_in n o)
   in_runs n k None h = h
-  in_runs n k (Some f) h = has_names (named.Function k) ran_token (λ m. ran r m ≡ Some k) (λ m. up_ran m.role m.token k) (function_mentions n f) (of_all runs (in_function f)) (function_runs n f) h
+  in_runs n k (Some f) h = has_names (Named.Function k) ran_token (λ m. ran r m ≡ Some k) (λ m. up_ran m.role m.token k) (function_mentions n f) (of_all runs (in_function f)) (function_runs n f) h
 
-  spawns_in : (n k : ℕ) (o : Option Function) → Has (λ m. spawned r m ≡ Some k) (mentions_in n o) → IsSomeAnd o (λ f. Names r (named.Function k) (of_all spawns (in_function f)))
+  spawns_in : (n k : ℕ) (o : Option Function) → Has (λ m. spawned r m ≡ Some k) (mentions_in n o) → IsSomeAnd o (λ f. Names r (Named.Function k) (of_all spawns (in_function f)))
   spawns_in n k None h = h
-  spawns_in n k (Some f) h = names_has (named.Function k) spawned_token (λ m. spawned r m ≡ Some k) (λ m. down_spawned m.role m.token k) (function_mentions n f) (of_all spawns (in_function f)) (function_spawns n f) h
+  spawns_in n k (Some f) h = names_has (Named.Function k) spawned_token (λ m. spawned r m ≡ Some k) (λ m. down_spawned m.role m.token k) (function_mentions n f) (of_all spawns (in_function f)) (function_spawns n f) h
 
-  in_spawns : (n k : ℕ) (o : Option Function) → IsSomeAnd o (λ f. Names r (named.Function k) (of_all spawns (in_function f))) → Has (λ m. spawned r m ≡ Some k) (mentions_in n o)
+  in_spawns : (n k : ℕ) (o : Option Function) → IsSomeAnd o (λ f. Names r (Named.Function k) (of_all spawns (in_function f))) → Has (λ m. spawned r m ≡ Some k) (mentions_in n o)
   in_spawns n k None h = h
-  in_spawns n k (Some f) h = has_names (named.Function k) spawned_token (λ m. spawned r m ≡ Some k) (λ m. up_spawned m.role m.token k) (function_mentions n f) (of_all spawns (in_function f)) (function_spawns n f) h
+  in_spawns n k (Some f) h = has_names (Named.Function k) spawned_token (λ m. spawned r m ≡ Some k) (λ m. up_spawned m.role m.token k) (function_mentions n f) (of_all spawns (in_function f)) (function_spawns n f) h
 
-  names_in : (n g : ℕ) (o : Option Function) → Has (λ m. global_named (named_at r m.token) ≡ Some g) (mentions_in n o) → IsSomeAnd o (λ f. Names r (named.Global g) (tokens_of f))
+  names_in : (n g : ℕ) (o : Option Function) → Has (λ m. global_named (named_at r m.token) ≡ Some g) (mentions_in n o) → IsSomeAnd o (λ f. Names r (Named.Global g) (tokens_of f))
   names_in n g None h = h
   names_in n g (Some f) h =
-      names_has (named.Global g) (λ any t. t ∷ []) (λ m. global_named (named_at r m.token) ≡ Some g) (λ m is. inl (global_is (named_at r m.token) g is)) (function_mentions n f) (tokens_of f) (same_tokens (function_mentions n f) ∙ of_function n f) h
+      names_has (Named.Global g) (λ any t. t ∷ []) (λ m. global_named (named_at r m.token) ≡ Some g) (λ m is. inl (global_is (named_at r m.token) g is)) (function_mentions n f) (tokens_of f) (same_tokens (function_mentions n f) ∙ of_function n f) h
 
-  one_named : (g t : ℕ) → Has (λ t. named_at r t ≡ named.Global g) (t ∷ []) → global_named (named_at r t) ≡ Some g
+  one_named : (g t : ℕ) → Has (λ t. named_at r t ≡ Named.Global g) (t ∷ []) → global_named (named_at r t) ≡ Some g
   one_named g t (inl is) = ap global_named is
   one_named g t (inr h) = absurd h
 
-  in_names : (n g : ℕ) (o : Option Function) → IsSomeAnd o (λ f. Names r (named.Global g) (tokens_of f)) → Has (λ m. global_named (named_at r m.token) ≡ Some g) (mentions_in n o)
+  in_names : (n g : ℕ) (o : Option Function) → IsSomeAnd o (λ f. Names r (Named.Global g) (tokens_of f)) → Has (λ m. global_named (named_at r m.token) ≡ Some g) (mentions_in n o)
   in_names n g None h = h
   in_names n g (Some f) h =
-      has_names (named.Global g) (λ any t. t ∷ []) (λ m. global_named (named_at r m.token) ≡ Some g) (λ m. one_named g m.token) (function_mentions n f) (tokens_of f) (same_tokens (function_mentions n f) ∙ of_function n f) h
+      has_names (Named.Global g) (λ any t. t ∷ []) (λ m. global_named (named_at r m.token) ≡ Some g) (λ m. one_named g m.token) (function_mentions n f) (tokens_of f) (same_tokens (function_mentions n f) ∙ of_function n f) h
 
   -- in all functions
   pub below_has : (Q : Mention → Type 0) (k : ℕ) → Has Q (mentions_below r k) → (n : ℕ) × (n < k) × Has Q (mentions_in n (function_at r n))

@@ -1,7 +1,6 @@
 -- The names of lists of marks, one after the other, and of the levels of a type.
-use Rattle.std.proofs.{Common.{◌≡◌, ℕ, ◌+◌, ◌<◌, Bool, true, false, Option, length, drop, get_or, arith, List, [], ◌∷◌, ◌++◌, refl, ap, sym, ◌∙◌, append_assoc}, lemmas.List.{drop_more, length-drop}}
-use Rattle.sharc_tree.specs.{declared.ctype.Mode.Mode, declared.tree.declaration.Declaration.Declaration, Marks.{Mark, a_name, a_cast, level_marks, levels_marks, declaration_marks, declarations_marks}}
-use Rattle.sharc_reach.specs.{declared.mention.Mention.Mention, declared.mention.NameUse.TheVariants.Named, Mentions.{mention, names}}
+use Rattle.sharc_reach.proofs.Imports.{◌≡◌, ℕ, ◌+◌, ◌<◌, Bool, true, false, Option, length, drop, get_or, arith, List, [], ◌∷◌, ◌++◌, refl, ap, sym, ◌∙◌, append_assoc, drop_more, length-drop, Mode, Declaration, Mark, a_name, a_cast, level_marks, levels_marks, declaration_marks, declarations_marks, Mention, mention, names}
+use Rattle.sharc_reach.specs.declared.mention.NameUse.TheVariants.{Named}
 
 pub names_append : (n : ℕ) (a b : List Mark) → names n (a ++ b) ≡ names n a ++ names n b
 names_append n [] b = refl

@@ -1,12 +1,5 @@
 -- The paths of the graph of the functions are the lists of functions in which each calls or spawns the next.
-use Rattle.std.proofs.{Common.{◌≡◌, ℕ, ◌<◌, ◌≤◌, ◌⊎◌, true, false, ◌&&◌, List, [], ◌∷◌, Option, Some, None, length, get_or, set, fold, replicate, map, refl, ap, sym, ◌∙◌, subst, inl, inr, arith}, lemmas.Bool.{cases_eq, cases_lt, cases_Bool, and_parts, ltb-true, lt-ltb, false≢true}, lemmas.List.{length-set, get_or-set_same, get_or-set_other, get_or_past, get_or_default, get_or-replicate, length-replicate, length-map, get_or-map}}
-use Rattle.std.specs.{Prelude.{nat_lt, Contains}, List.{filter_map, All}}
-use Rattle.sharc_graph.specs.{declared.graph.Node.Node, declared.graph.Edge.Edge, declared.graph.NodeFinding.NodeFinding, declared.graph.NodeFinding.TheVariants.{Apart, Source, Behind}, Findings.finding_at, Paths.{Graph, graph_of, IsWithin, no_node, node_at, IsSource, IsFree, edge_of, HasEdge, Follow, last_of, LeadsTo, IsFinding, AreFindings}}
-use Rattle.sharc_names.specs.declared.fault.Named.TheVariants as named
-use Rattle.sharc_tree.specs.Measures.{in_function}
-use Rattle.sharc_ctype.specs.{Resolved.{Resolution, functions_in}, Reaches.{runs, spawns, of_all, Names, Spawns, Runs, Leads, IsReached}}
-use Rattle.sharc_reach.specs.{declared.mention.Mention.Mention, Mentions.mentions_below, Graphs.{ran, spawned, edge_within, edge_of_mention, quiet_node, source_node, marked, marked_by, is_found, is_source}, Reaching.{is_chosen, IsSpawned}}
-use Rattle.sharc_reach.proofs.MemberLemmas.{Has, has_same, has_contained, contained, has_made, has_source, below_has, has_below, of_function_below, below_of_function, runs_of, of_runs, spawns_of, of_spawns, some_within}
+use Rattle.sharc_reach.proofs.{Imports.{◌≡◌, ℕ, ◌<◌, ◌≤◌, ◌⊎◌, true, false, ◌&&◌, List, [], ◌∷◌, Option, Some, None, length, get_or, set, fold, replicate, map, refl, ap, sym, ◌∙◌, subst, inl, inr, arith, cases_eq, cases_lt, cases_Bool, and_parts, ltb-true, lt-ltb, false≢true, length-set, get_or-set_same, get_or-set_other, get_or_past, get_or_default, get_or-replicate, length-replicate, length-map, get_or-map, nat_lt, Contains, filter_map, All, Node, Edge, NodeFinding, Apart, Source, Behind, finding_at, Graph, graph_of, IsWithin, no_node, node_at, IsSource, IsFree, edge_of, HasEdge, Follow, last_of, LeadsTo, IsFinding, AreFindings, Named, in_function, Resolution, functions_in, runs, spawns, of_all, Names, Spawns, Runs, Leads, IsReached, Mention, mentions_below, ran, spawned, edge_within, edge_of_mention, quiet_node, source_node, marked, marked_by, is_found, is_source, is_chosen, IsSpawned}, MemberLemmas.{Has, has_same, has_contained, contained, has_made, has_source, below_has, has_below, of_function_below, below_of_function, runs_of, of_runs, spawns_of, of_spawns, some_within}}
 
 -- ---- edges
 within_edge : (count a b : ℕ) → a < count → b < count → edge_within count a (Some b) ≡ Some (edge_of a b)
@@ -169,10 +162,10 @@ source_spawned r count n is =
 
 module _ (r : Resolution) (count : ℕ) (counted : count ≡ length (functions_in r.program.items)) where
   spawner_within : (k n : ℕ) → Spawns r k n → k < count
-  spawner_within k n spawn = let below = some_within (λ f. Names r (named.Function n) (of_all spawns (in_function f))) (functions_in r.program.items) k spawn in omega arith
+  spawner_within k n spawn = let below = some_within (λ f. Names r (Named.Function n) (of_all spawns (in_function f))) (functions_in r.program.items) k spawn in omega arith
 
   caller_within : (a b : ℕ) → Runs r a b → a < count
-  caller_within a b run = let below = some_within (λ f. Names r (named.Function b) (of_all runs (in_function f))) (functions_in r.program.items) a run in omega arith
+  caller_within a b run = let below = some_within (λ f. Names r (Named.Function b) (of_all runs (in_function f))) (functions_in r.program.items) a run in omega arith
 
   spawned_source : (k n : ℕ) → n < count → Spawns r k n → IsSource (graph_in r count) n
   spawned_source k n below spawn =

@@ -1,8 +1,6 @@
 -- The names that the walk lists as called or spawned are those that the expressions of the function call or spawn.
-use Rattle.std.proofs.{Common.{◌≡◌, ℕ, List, [], ◌∷◌, ◌++◌, Option, Some, None, refl, ap, sym, ◌∙◌, append_assoc}, lemmas.List.append-nil}
-use Rattle.sharc_tree.specs.{Marks.{Mark, a_name, a_cast, type_marks, name_marks, declaration_marks, declarations_marks}, Measures.{expressions, in_arguments, in_option, in_right, in_simple, in_local, in_first, in_head, in_statement, in_statements, in_function}, Tree.{Expression, identifier, constant, parentheses, call, spawn, on_value, on_place, cast, index, field, unary, binary, Arguments, no_arguments, argument, Right, value, malloc, Simple, assign, does_call, Local, First, nothing, declares, does, Head, Statement, empty, block, declare, simple, jump, return, if_then, if_then_else, while, for, Statements, no_statements, statement, Function}}
-use Rattle.sharc_ctype.specs.Reaches.{runs, spawns, of_all}
-use Rattle.sharc_reach.specs.{declared.mention.Mention.Mention, declared.mention.NameUse.NameUse, declared.mention.NameUse.TheVariants.{Named, Called, Spawned}, Mentions.{names, mentions, mentions_of_all, option_mentions, right_mentions, simple_mentions, local_mentions, first_mentions, head_mentions, statement_mentions, statements_mentions, function_mentions}}
+use Rattle.sharc_reach.proofs.Imports.{◌≡◌, ℕ, List, [], ◌∷◌, ◌++◌, Option, Some, None, refl, ap, sym, ◌∙◌, append_assoc, append-nil, Mark, a_name, a_cast, type_marks, name_marks, declaration_marks, declarations_marks, expressions, in_arguments, in_option, in_right, in_simple, in_local, in_first, in_head, in_statement, in_statements, in_function, Expression, identifier, constant, parentheses, call, spawn, on_value, on_place, cast, index, field, unary, binary, Arguments, no_arguments, argument, Right, value, malloc, Simple, assign, does_call, Local, First, nothing, declares, does, Head, Statement, empty, block, declare, simple, jump, return, if_then, if_then_else, while, for, Statements, no_statements, statement, Function, runs, spawns, of_all, Mention, NameUse, Called, Spawned, names, mentions, mentions_of_all, option_mentions, right_mentions, simple_mentions, local_mentions, first_mentions, head_mentions, statement_mentions, statements_mentions, function_mentions}
+use Rattle.sharc_reach.specs.declared.mention.NameUse.TheVariants.{Named}
 
 -- the tokens of those whose roles count
 abbrev pub told : (NameUse → ℕ → List ℕ) → List Mention → List ℕ

@@ -1,8 +1,5 @@
 -- The tokens that the walk lists of a tree are those of its names, in their order.
-use Rattle.std.proofs.Common.{◌≡◌, ℕ, List, [], ◌∷◌, ◌++◌, Option, Some, None, refl, ap, sym, ◌∙◌}
-use Rattle.sharc_tree.specs.{Marks.{Mark, a_name, a_cast, type_marks, name_marks, declaration_marks, declarations_marks, marks, arguments_marks, option_marks, right_marks, simple_marks, local_marks, first_marks, head_marks, statement_marks, statements_marks}, Tree.{Expression, identifier, constant, parentheses, call, spawn, on_value, on_place, cast, index, field, unary, binary, Arguments, no_arguments, argument, Right, value, malloc, Simple, assign, does_call, Local, First, nothing, declares, does, Head, Statement, empty, block, declare, simple, jump, return, if_then, if_then_else, while, for, Statements, no_statements, statement, Function}}
-use Rattle.sharc_ctype.specs.Reaches.{name_tokens, tokens_of}
-use Rattle.sharc_reach.specs.{declared.mention.Mention.Mention, Mentions.{names, mentions, mentions_of_all, option_mentions, right_mentions, simple_mentions, local_mentions, first_mentions, head_mentions, statement_mentions, statements_mentions, function_mentions}}
+use Rattle.sharc_reach.proofs.Imports.{◌≡◌, ℕ, List, [], ◌∷◌, ◌++◌, Option, Some, None, refl, ap, sym, ◌∙◌, Mark, a_name, a_cast, type_marks, name_marks, declaration_marks, declarations_marks, marks, arguments_marks, option_marks, right_marks, simple_marks, local_marks, first_marks, head_marks, statement_marks, statements_marks, Expression, identifier, constant, parentheses, call, spawn, on_value, on_place, cast, index, field, unary, binary, Arguments, no_arguments, argument, Right, value, malloc, Simple, assign, does_call, Local, First, nothing, declares, does, Head, Statement, empty, block, declare, simple, jump, return, if_then, if_then_else, while, for, Statements, no_statements, statement, Function, name_tokens, tokens_of, Mention, names, mentions, mentions_of_all, option_mentions, right_mentions, simple_mentions, local_mentions, first_mentions, head_mentions, statement_mentions, statements_mentions, function_mentions}
 
 -- the tokens of what is listed
 abbrev pub tokens : List Mention → List ℕ

@@ -1,6 +1,6 @@
 -- The word events of a run that goes on.
-use Rattle.std.proofs.{Common.{◌≡◌, List, [], ◌∷◌, ◌++◌, sym, ap, ◌∙◌, append_assoc}, lemmas.List.append-nil}
-use Rattle.sharc_code.specs.Runs.{Turn, word_events, event_list}
+use Rattle.sharc_record.proofs.Imports.{◌≡◌, List, [], ◌∷◌, ◌++◌, sym, ap, ◌∙◌, append_assoc, append-nil, word_events, event_list}
+use Rattle.sharc_code.specs.Runs.{Turn}
 
 pub events-append : (later earlier : List Turn) → word_events (later ++ earlier) ≡ word_events earlier ++ word_events later
 events-append [] earlier = sym (append-nil (word_events earlier))

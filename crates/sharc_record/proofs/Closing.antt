@@ -1,14 +1,5 @@
 -- Once all parts are in one seat, the journal is in its slot, and the lists of the seats are the parts of its events.
-use Rattle.std.proofs.{Common.{◌≡◌, ℕ, zero, suc, ◌<◌, ◌≤◌, List, [], ◌∷◌, ◌++◌, length, refl, sym, ap, ◌∙◌, subst, arith, All, slice_index_or, length-append, ⊎_elim, inl}, lemmas.List.{get_or_append_left, get_or_push, get_or-map, get_or_past, length-map}}
-use Rattle.std.specs.Prelude.{Some}
-use mathlib.Core.Logic.{dite}
-use mathlib.Core.Option.{some, some-injective}
-use native.Mathlib.Decide.{dec_le}
-use lib.ListN.{get_elem?}
-use Rattle.atomic_table.specs.Table.{Seen}
-use Rattle.sharc_word.specs.History.{events_of}
-use Rattle.sharc_record.specs.{declared.journal.Journal.Journal, declared.rule.Part.Part, declared.rule.Turn.TheVariants.{Idle, Has}, declared.rule.View.View, Rule.{IsAmong, IsRight, TurnIs, JournalRule}, Shared.{SharedView, SeatView, AreSeatsOf, OneJournal, lists_of}, Table.{HasAll, part_of}}
-use Rattle.sharc_record.proofs.{Members.among_left, Kept.{St, Homes, idle_not_had}}
+use Rattle.sharc_record.proofs.{Imports.{◌≡◌, ℕ, zero, suc, ◌<◌, ◌≤◌, List, [], ◌∷◌, ◌++◌, length, refl, sym, ap, ◌∙◌, subst, arith, All, get_or as slice_index_or, length-append, ⊎_elim, inl, get_or_append_left, get_or_push, get_or-map, get_or_past, length-map, Some, dite, some, some-injective, dec_le, get_elem?, Seen, events_of, Journal, Part, Idle, Has, View, IsAmong, IsRight, TurnIs, JournalRule, SharedView, SeatView, AreSeatsOf, OneJournal, lists_of, HasAll, part_of}, Members.among_left, Kept.{St, Homes, idle_not_had}}
 
 module _ {X : Type 0} (P : X → Type 0) where
   pub all_left : (xs : List X) (x : X) → All P (xs ++ x ∷ []) → All P xs

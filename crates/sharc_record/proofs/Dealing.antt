@@ -1,8 +1,5 @@
 -- The hands of all workers, when one is put in its place or taken from there.
-use Rattle.std.proofs.{Common.{◌≡◌, ℕ, suc, ◌+◌, ◌<◌, ◌≤◌, List, [], ◌∷◌, ◌++◌, length, get_or, set, Option, Some, None, refl, sym, ap, ◌∙◌, subst, arith, ⊎_elim}, lemmas.Bool.cases_eq, lemmas.List.{get_or-set_same, get_or-set_other, length-set}}
-use Rattle.sharc_record.specs.{declared.hand.Hand.Hand, declared.worker.Worker.Worker, Round.{MayRun, HasRun, MayRunAt, HasRunAt, hand_at}, Shared.SharedView}
-use Rattle.sharc_code.specs.{declared.code.Code.Code, declared.shape.Shape.Shape}
-use Rattle.sharc_lemmas.proofs.Lists.{any_default}
+use Rattle.sharc_record.proofs.Imports.{◌≡◌, ℕ, suc, ◌+◌, ◌<◌, ◌≤◌, List, [], ◌∷◌, ◌++◌, length, get_or, set, Option, Some, None, refl, sym, ap, ◌∙◌, subst, arith, ⊎_elim, cases_eq, get_or-set_same, get_or-set_other, length-set, Hand, Worker, MayRun, HasRun, MayRunAt, HasRunAt, hand_at, SharedView, Code, Shape, any_default}
 
 module _ (workers : List Worker) (w : ℕ) (old new : Worker) (n : ℕ) (x : Option Hand)
     (low : w < length workers) (is : old ≡ get_or workers w old) (put : new.hands.items ≡ set old.hands.items n x) where

@@ -1,11 +1,5 @@
 -- A ticket may be drawn: its port goes to the end of the queue.
-use Rattle.std.proofs.{Common.{◌≡◌, ℕ, ◌+◌, ◌%◌, ◌^◌, inl, inr, ⊎_elim, List, [], ◌∷◌, ◌++◌, length, slice_index, slice_set, refl, sym, ap, ◌∙◌, subst, arith, length-append}, Math.Nat.mod-add-mod}
-use mathlib.Core.Option.{some}
-use lib.ListN.{get_elem?}
-use Rattle.atomic_table.specs.Table.{Me, Allows, keeps}
-use Rattle.atomic_table.proofs.Lists.{at_set, at_last}
-use Rattle.sharc_record.specs.{declared.journal.Journal.Journal, declared.rule.Part.Part, declared.rule.View.View, Rule.{Slot, IsAmong, PartIs, TurnIs, JournalStands, JournalRule, idle, waiting, drawn}}
-use Rattle.sharc_record.proofs.{Kept.{St, among_one, turn_longer, had_stays, idle_not_had}, Queue.{are_new_snoc, below_snoc}}
+use Rattle.sharc_record.proofs.{Imports.{◌≡◌, ℕ, ◌+◌, ◌%◌, ◌^◌, inl, inr, ⊎_elim, List, [], ◌∷◌, ◌++◌, length, slice_index, set as slice_set, refl, sym, ap, ◌∙◌, subst, arith, length-append, mod-add-mod, some, get_elem?, Me, Allows, keeps, at_set, at_last, Journal, Part, View, Slot, IsAmong, PartIs, TurnIs, JournalStands, JournalRule, idle, waiting, drawn}, Kept.{St, among_one, turn_longer, had_stays, idle_not_had}, Queue.{are_new_snoc, below_snoc}}
 
 module _ (opened : Journal) (ports : ℕ) (s : St) (kept : JournalRule opened ports s) (id : ℕ) (p : Part) (at : get_elem? s.views id ≡ some (idle p).0) where
   abbrev found : ℕ

@@ -1,7 +1,5 @@
 -- The seats that are given out, one for each port.
-use Rattle.std.proofs.Common.{◌≡◌, ℕ, zero, suc, ◌+◌, ◌-◌, ◌<◌, List, [], ◌∷◌, ◌++◌, length, refl, sym, ap, ◌∙◌, subst, arith, append_assoc, All, slice_index_or}
-use Rattle.atomic_table.specs.Seated.{TableId}
-use Rattle.sharc_record.specs.{Rule.unbegun, Shared.{SharedView, SeatView, AreSeatsOf}, Table.seats_with}
+use Rattle.sharc_record.proofs.Imports.{◌≡◌, ℕ, zero, suc, ◌+◌, ◌-◌, ◌<◌, List, [], ◌∷◌, ◌++◌, length, refl, sym, ap, ◌∙◌, subst, arith, append_assoc, All, get_or as slice_index_or, TableId, unbegun, SharedView, SeatView, AreSeatsOf, seats_with}
 
 -- the parts of the rest, one port later
 pub rest_is : (count n e : ℕ) → n < e → unbegun count (suc n) (e - n) ≡ unbegun count (n + 1) (suc (e - (n + 1)))

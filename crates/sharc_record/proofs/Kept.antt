@@ -1,14 +1,6 @@
 -- What the rule keeps of other seats where one seat's view changes.
-use Rattle.std.proofs.Common.{◌≡◌, ◌≢◌, ℕ, zero, suc, ◌+◌, ◌%◌, ◌^◌, inl, ⊎_elim, List, [], ◌∷◌, ◌++◌, slice_set, refl, sym, ap, ◌∙◌, subst, arith}
-use mathlib.Core.Logic.{dite}
-use mathlib.Core.Option.{Option, some, none, some-injective, some-ne-none}
-use native.Mathlib.Decide.{ℕ_discrete}
-use lib.ListN.{get_elem?}
-use Rattle.atomic_table.specs.Table.{State}
-use Rattle.atomic_table.proofs.Lists.{at_longer, set_else}
-use Rattle.sharc_word.specs.declared.step.WordEvent.{WordEvent}
-use Rattle.sharc_record.specs.{declared.journal.Journal.Journal, declared.rule.Part.Part, declared.rule.Turn.Turn, declared.rule.Turn.TheVariants.{Idle, Drawn, Has}, declared.rule.View.View, Rule.{Slot, IsAmong, TurnIs}}
-use Rattle.sharc_record.proofs.Queue.{new_snoc}
+use Rattle.sharc_record.proofs.{Imports.{◌≡◌, ◌≢◌, ℕ, zero, suc, ◌+◌, ◌%◌, ◌^◌, inl, ⊎_elim, List, [], ◌∷◌, ◌++◌, set as slice_set, refl, sym, ap, ◌∙◌, subst, arith, dite, some, none, some-injective, some-ne-none, ℕ_discrete, get_elem?, State, at_longer, set_else, WordEvent, Journal, Part, Turn, Idle, Drawn, Has, View, Slot, IsAmong, TurnIs}, Queue.new_snoc}
+use mathlib.Core.Option.{Option}
 
 abbrev pub St : Type 0
 St = State Slot View

@@ -1,3 +1,4 @@
+mod Imports
 pub mod Members
 pub mod Queue
 pub mod Kept

@@ -1,14 +1,7 @@
 -- A port may look whether its ticket is served. If so it is the first of the queue, nobody has the turn, and it takes the journal.
-use Rattle.std.proofs.Common.{◌≡◌, ℕ, zero, suc, ◌+◌, ◌%◌, ◌^◌, ◌<◌, inl, inr, ⊎_elim, List, [], ◌∷◌, length, slice_index, slice_set, refl, sym, ap, ◌∙◌, subst, arith}
-use Rattle.std.specs.Prelude.{Some}
-use mathlib.Core.Option.{Option, some, none, some-injective}
-use native.Mathlib.Decide.{ℕ_discrete}
-use lib.ListN.{get_elem?}
-use Rattle.atomic_table.specs.Table.{Me, Allows, keeps, takes, stepped, Act, Valid, carried_after}
-use Rattle.atomic_table.proofs.Lists.{at_set, set_again, one_turn, set_here}
-use Rattle.sharc_word.specs.Laws.{HistoryLaws}
-use Rattle.sharc_record.specs.{declared.journal.Journal.Journal, declared.rule.Part.Part, declared.rule.Turn.TheVariants.Has, declared.rule.View.View, Rule.{Slot, IsAmong, IsRight, PartIs, TurnIs, JournalRule, waiting, having, Looked}}
-use Rattle.sharc_record.proofs.{Kept.{St, Homes, among_one, one_part, turn_away, drawn_not_had}, Queue.{few_new, place_within}}
+use Rattle.sharc_record.proofs.{Imports.{◌≡◌, ℕ, zero, suc, ◌+◌, ◌%◌, ◌^◌, ◌<◌, inl, inr, ⊎_elim, List, [], ◌∷◌, length, slice_index, set as slice_set, refl, sym, ap, ◌∙◌, subst, arith, Some, some, none, some-injective, ℕ_discrete, get_elem?, Me, Allows, keeps, takes, Act, Valid, carried_after, at_set, set_again, one_turn, set_here, HistoryLaws, Journal, Part, Has, View, Slot, IsAmong, IsRight, PartIs, TurnIs, JournalRule, waiting, having, Looked}, Kept.{St, Homes, among_one, one_part, turn_away, drawn_not_had}, Queue.{few_new, place_within}}
+use mathlib.Core.Option.{Option}
+use Rattle.atomic_table.specs.Table.{stepped}
 
 module _ (opened : Journal) (ports : ℕ) (s : St) (kept : JournalRule opened ports s) (id : ℕ) (p : Part) (ticket : ℕ) (at : get_elem? s.views id ≡ some (waiting p ticket).0) where
   abbrev found : ℕ

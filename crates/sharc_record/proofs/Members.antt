@@ -1,6 +1,5 @@
 -- Parts among parts.
-use Rattle.std.proofs.Common.{◌≡◌, ◌⊎◌, inl, inr, ⊎_elim, List, [], ◌∷◌, ◌++◌}
-use Rattle.sharc_record.specs.{declared.rule.Part.Part, Rule.IsAmong}
+use Rattle.sharc_record.proofs.Imports.{◌≡◌, ◌⊎◌, inl, inr, ⊎_elim, List, [], ◌∷◌, ◌++◌, Part, IsAmong}
 
 pub among_one : (part p : Part) → IsAmong part (p ∷ []) → part ≡ p
 among_one part p h = ⊎_elim (λ e. e) (λ no. absurd no) h

@@ -1,13 +1,5 @@
 -- The turn may be passed on: the event of the step goes to the end of the history, and of its port's part.
-use Rattle.std.proofs.{Common.{◌≡◌, ◌≢◌, ℕ, suc, ◌+◌, ◌%◌, ◌^◌, ◌<◌, ◌≤◌, inl, ⊎_elim, List, [], ◌∷◌, ◌++◌, length, drop, slice_index, slice_set, refl, sym, ap, ◌∙◌, subst, arith, append_assoc, eq-eqb, ne_eqb}, lemmas.List.append-nil, lemmas.List.Elements.filter-append, Math.Nat.mod-add-mod}
-use Rattle.std.specs.Prelude.{Some}
-use mathlib.Core.Option.{some, none}
-use lib.ListN.{get_elem?}
-use Rattle.atomic_table.specs.Table.{Me, Allows, gives}
-use Rattle.atomic_table.proofs.Lists.{at_set}
-use Rattle.sharc_word.specs.{declared.step.WordStep.WordStep, declared.step.WordEvent.WordEvent, Words.{words_after_step, words_after}, History.{MayFollow, events_of}, Place.event_of, Laws.HistoryLaws}
-use Rattle.sharc_record.specs.{declared.journal.Journal.Journal, declared.rule.Part.Part, declared.rule.Turn.TheVariants.Idle, declared.rule.View.View, Rule.{Slot, IsAmong, IsNew, AreNew, AreBelow, IsRight, PartIs, TurnIs, JournalRule, idle, having, passed}, Table.{Made, MadeStep, stepped}}
-use Rattle.sharc_record.proofs.Kept.{St, Homes, among_one, one_part, turn_passed, head_is}
+use Rattle.sharc_record.proofs.{Imports.{◌≡◌, ◌≢◌, ℕ, suc, ◌+◌, ◌%◌, ◌^◌, ◌<◌, ◌≤◌, inl, ⊎_elim, List, [], ◌∷◌, ◌++◌, length, drop, slice_index, set as slice_set, refl, sym, ap, ◌∙◌, subst, arith, append_assoc, eq-eqb, ne_eqb, append-nil, filter-append, mod-add-mod, Some, some, none, get_elem?, Me, Allows, gives, at_set, WordStep, WordEvent, words_after_step, words_after, MayFollow, events_of, event_of, HistoryLaws, Journal, Part, Idle, View, Slot, IsAmong, IsNew, AreNew, AreBelow, IsRight, PartIs, TurnIs, JournalRule, idle, having, passed, Made, MadeStep, stepped}, Kept.{St, Homes, among_one, one_part, turn_passed, head_is}}
 
 pub events_push_same : (thread : ℕ) (history : List WordEvent) (e : WordEvent) → e.thread ≡ thread → events_of thread (history ++ e ∷ []) ≡ events_of thread history ++ e ∷ []
 events_push_same thread history e is = rw (filter-append, eq-eqb e.thread thread is)

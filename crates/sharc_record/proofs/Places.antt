@@ -1,5 +1,5 @@
 -- What is at a place of a list.
-use Rattle.std.proofs.Common.{◌≡◌, ℕ, zero, suc, ◌<◌, List, [], ◌∷◌, length, get_or, refl, arith}
+use Rattle.sharc_record.proofs.Imports.{◌≡◌, ℕ, zero, suc, ◌<◌, List, [], ◌∷◌, length, get_or, refl, arith}
 
 pub record At {X : Type 0} (xs : List X) (t : ℕ) : Type 0 where
   pub one : X

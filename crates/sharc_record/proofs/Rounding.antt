@@ -1,14 +1,6 @@
 -- The hands of a round: all may run where a round begins, and what they have made is a round.
-use Rattle.std.proofs.{Common.{◌≡◌, ℕ, ◌+◌, ◌%◌, ◌<◌, ◌≤◌, Some, None, List, [], ◌++◌, length, get_or, sym, ap, ◌∙◌, subst, arith}, lemmas.List.{length-map, get_or-map}, lemmas.Nat.mod_below}
+use Rattle.sharc_record.proofs.{Imports.{◌≡◌, ℕ, ◌+◌, ◌%◌, ◌<◌, ◌≤◌, Some, None, List, [], ◌++◌, length, get_or, sym, ap, ◌∙◌, subst, arith, length-map, get_or-map, mod_below, WordEvent, THREADS, Code, Shape, Machine, IsPath, machine_after, events_of_path, made_in, may_go, OneHistory, SharedView, SeatView, AreSeatsOf, lists_of, Hand, Worker, MayQuantumAt, MayRun, HasRun, HasRoom, HasRoomAt, HaveAllRun, hand_at, Seat, MadeQuantum, MadeQuantumAt, MayBegin, MayBeginAt, MadeRound, ThreadView, any_default}, Places.at_place, Dealing.{has_at, has_run}}
 use Rattle.std.specs.List.{All}
-use Rattle.sharc_word.specs.{declared.step.WordEvent.WordEvent, declared.step.TheConstants.THREADS}
-use Rattle.sharc_code.specs.{declared.code.Code.Code, declared.shape.Shape.Shape, Machine.Machine, Path.{IsPath, machine_after, events_of_path, made_in, may_go}}
-use Rattle.sharc_bus.specs.Bus.{OneHistory}
-use Rattle.sharc_record.specs.{Shared.{SharedView, SeatView, AreSeatsOf, lists_of}, declared.hand.Hand.Hand, declared.worker.Worker.Worker, Round.{MayQuantumAt, MayRun, HasRun, HasRoom, HasRoomAt, HaveAllRun, hand_at}}
-use Rattle.sharc_record.proofs.{Places.at_place, Dealing.{has_at, has_run}}
-use Rattle.sharc_rounds.specs.Round.{Seat, MadeQuantum, MadeQuantumAt, MayBegin, MayBeginAt, MadeRound}
-use Rattle.sharc_cpu.specs.Thread.{ThreadView}
-use Rattle.sharc_lemmas.proofs.Lists.{any_default}
 
 abbrev hand_of : Seat → SeatView → Hand
 hand_of seat port = record { seat = seat; port = port }

@@ -1,12 +1,6 @@
 -- What a quantum over a port of a journal makes of a thread and of its seat.
-use Rattle.std.proofs.{Common.{◌≡◌, ℕ, ◌+◌, ◌<◌, ◌≤◌, ◌==◌, Bool, true, false, List, [], ◌∷◌, ◌++◌, length, Some, None, refl, sym, ap, ◌∙◌, subst, arith}, lemmas.List.{append-nil, length-append}}
-use Rattle.std.specs.Prelude.{if◌then◌else◌}
-use Rattle.sharc_word.specs.{Place.{PortState, LeadsInEvents, place_of_events}, Laws.PlaceLaws}
-use Rattle.sharc_code.specs.{declared.code.Code.Code, declared.shape.Shape.Shape, declared.state.TurnState.TurnState, declared.state.TurnState.TheVariants.{Runs, Tries, Stopped, Ended}, Machine.{Machine, Turn, Local, Asks}, Path.{may_go, turn, machine_after, events_of_turn, events_of_path, made_in}}
-use Rattle.sharc_cpu.specs.{Thread.{ThreadView, IsThread}, Quantum.{IsQuantum, pause_of}, declared.quantum.Pause.Pause, declared.quantum.Pause.TheVariants.{Ran, Spent}}
-use Rattle.sharc_record.specs.{Shared.SeatView, declared.journal.TheConstants.QUANTUM, Round.HasRun}
-use Rattle.sharc_rounds.specs.Round.{Seat}
-use Rattle.sharc_lemmas.proofs.Numbers.{below}
+use Rattle.sharc_record.proofs.Imports.{◌≡◌, ℕ, ◌+◌, ◌<◌, ◌≤◌, ◌==◌, Bool, true, false, List, [], ◌∷◌, ◌++◌, length, Some, None, refl, sym, ap, ◌∙◌, subst, arith, append-nil, length-append, if◌then◌else◌, PortState, LeadsInEvents, place_of_events, PlaceLaws, Code, Shape, TurnState, Runs, Tries, Stopped, Ended, Machine, Local, Asks, may_go, turn, machine_after, events_of_turn, events_of_path, made_in, ThreadView, IsThread, IsQuantum, pause_of, Pause, Ran, Spent, SeatView, QUANTUM, HasRun, Seat, below}
+use Rattle.sharc_code.specs.Machine.{Turn}
 
 ran_or_spent : (b : Bool) → b ≡ false → (if b then Spent else Ran) ≡ Ran
 ran_or_spent true e = cc

@@ -1,14 +1,5 @@
 -- The rule holds where a journal is taken in, and is kept where a seat is cut in two and where two become one.
-use Rattle.std.proofs.{Common.{◌≡◌, ◌≢◌, ℕ, zero, suc, ◌+◌, ◌<◌, ◌≤◌, ◌^◌, ◌==◌, ◌⊎◌, ⊎_elim, inl, inr, List, [], ◌∷◌, ◌++◌, length, slice_set, refl, sym, ap, ◌∙◌, subst, arith, if◌then◌else◌, eq-eqb, ne_eqb, length-set}, lemmas.List.append-nil}
-use Rattle.std.specs.Prelude.{Some}
-use mathlib.Core.Option.{some, some-injective, some-ne-none}
-use lib.ListN.{get_elem?}
-use Rattle.atomic_table.specs.Table.{Splits, Joins, opening}
-use Rattle.atomic_table.proofs.Lists.{at_set, at_longer, set_else}
-use Rattle.sharc_word.specs.Laws.{HistoryLaws}
-use Rattle.sharc_record.specs.{declared.journal.Journal.Journal, declared.rule.Part.Part, declared.rule.Turn.Turn, declared.rule.Turn.TheVariants.Idle, declared.rule.View.View, Rule.{IsAmong, IsNew, PartIs, TurnIs, JournalStands, JournalRule, unbegun, unbegun_view, first_of, others_of, joined, spent_view}}
-use Rattle.sharc_record.proofs.{Kept.{St, idle_not_had, had_stays}, Members.{among_one, among_append}}
-use Rattle.sharc_lemmas.proofs.Bools.{if_false, if_true}
+use Rattle.sharc_record.proofs.{Imports.{◌≡◌, ◌≢◌, ℕ, zero, suc, ◌+◌, ◌<◌, ◌≤◌, ◌^◌, ◌==◌, ◌⊎◌, ⊎_elim, inl, inr, List, [], ◌∷◌, ◌++◌, length, set as slice_set, refl, sym, ap, ◌∙◌, subst, arith, if◌then◌else◌, eq-eqb, ne_eqb, length-set, append-nil, Some, some, some-injective, some-ne-none, get_elem?, Splits, Joins, opening, at_set, at_longer, set_else, HistoryLaws, Journal, Part, Turn, Idle, View, IsAmong, IsNew, PartIs, TurnIs, JournalStands, JournalRule, unbegun, unbegun_view, first_of, others_of, joined, spent_view, if_false, if_true}, Kept.{St, idle_not_had, had_stays}, Members.{among_one, among_append}}
 
 -- a part of a port that has not begun
 pub among_unbegun : (count first more : ℕ) (part : Part) → IsAmong part (unbegun count first more) → (part.events ≡ []) × (first ≤ part.number) × (part.number < first + more) × (part.count ≡ count)

@@ -1,7 +1,5 @@
 -- At most one port has the turn: each that has it is the first of the queue.
-use Rattle.std.proofs.Common.{◌≡◌, inl, refl, sym, ap, ◌∙◌, subst}
-use mathlib.Core.Option.{some-injective}
-use Rattle.sharc_record.specs.{declared.rule.Turn.TheVariants.Has, Rule.{IsAmong, TurnIs, OneHasTheTurn}}
+use Rattle.sharc_record.proofs.Imports.{◌≡◌, inl, refl, sym, ap, ◌∙◌, subst, some-injective, Has, IsAmong, TurnIs, OneHasTheTurn}
 
 pub one_has : OneHasTheTurn
 one_has opened ports state kept one other v w a b there had there' had' =

@@ -3,7 +3,6 @@ use Rattle.std.proofs.Common.{◌≡◌, ℕ, suc, Bool, not, ◌&&◌, ◌||◌
 use Rattle.std.specs.List.{range_with_len, All, list_any}
 use Rattle.sharc_word.specs.declared.step.TheConstants.{THREADS}
 use Rattle.sharc_code.specs.{declared.code.Code.Code, declared.instr.Instr.Instr, declared.instr.Instr.TheVariants.{Lock, Join, CondWait}, declared.shape.Shape.Shape, declared.state.TurnState.TurnState, Machine.{Machine, Own, instr_at}, Path.may_go, Runs.Turn, ThreadLaws.{settle, settled}, Waits.{asks_for, wait_of, held_up}, Whole.place_after}
-use Rattle.sharc_code.specs.declared.state.TurnState.TheVariants as state
 use Rattle.sharc_cpu.specs.Thread.{ThreadView, is_stop}
 use Rattle.sharc_threads.specs.Ends.{Standing, IsAt, AreStarted}
 use Rattle.sharc_schedule.specs.Laws.{SameEnds}
@@ -12,22 +11,22 @@ use Rattle.sharc_replay.specs.Laws.{SaysSame}
 
 -- ---- a thread of which it is forgotten whether its last turn was a failed try
 may_settle : (c : TurnState) → may_go (settle c) ≡ may_go c
-may_settle state.Runs = refl
-may_settle state.Tries = refl
-may_settle state.Stopped = refl
-may_settle state.Ended = refl
+may_settle TurnState.Runs = refl
+may_settle TurnState.Tries = refl
+may_settle TurnState.Stopped = refl
+may_settle TurnState.Ended = refl
 
 gone_settle : (c : TurnState) → is_gone (settle c) ≡ is_gone c
-gone_settle state.Runs = refl
-gone_settle state.Tries = refl
-gone_settle state.Stopped = refl
-gone_settle state.Ended = refl
+gone_settle TurnState.Runs = refl
+gone_settle TurnState.Tries = refl
+gone_settle TurnState.Stopped = refl
+gone_settle TurnState.Ended = refl
 
 stop_settle : (c : TurnState) → is_stop (settle c) ≡ is_stop c
-stop_settle state.Runs = refl
-stop_settle state.Tries = refl
-stop_settle state.Stopped = refl
-stop_settle state.Ended = refl
+stop_settle TurnState.Runs = refl
+stop_settle TurnState.Tries = refl
+stop_settle TurnState.Stopped = refl
+stop_settle TurnState.Ended = refl
 
 -- what does not look at that is the same
 same_test : (p : TurnState → Bool) → ((c : TurnState) → p (settle c) ≡ p c) → (m n : Machine) → settled m ≡ settled n → p m.at.state ≡ p n.at.state

@@ -1,2 +1,3 @@
+mod Imports
 pub mod OwnerLemmas
 pub mod TextLemmas

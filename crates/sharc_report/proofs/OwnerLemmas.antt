@@ -1,6 +1,5 @@
 -- Numbered entities, and the positions that each has.
-use Rattle.std.proofs.Common.{◌≡◌, ℕ, zero, suc, ◌+◌, ◌<◌, ◌≤◌, List, [], ◌∷◌, length, get_or, ap, arith}
-use Rattle.sharc_ctype.specs.{Entities.{numbered, numbered_from, positions_of, positions_in}, declared.entity.Entity.Entity, declared.entity.Numbered.Numbered}
+use Rattle.sharc_report.proofs.Imports.{◌≡◌, ℕ, zero, suc, ◌+◌, ◌<◌, ◌≤◌, List, [], ◌∷◌, length, get_or, ap, arith, numbered, numbered_from, positions_of, positions_in, Entity, Numbered}
 
 -- the positions of each are positions of the program
 numbered_within : (k : ℕ) (list : List Entity) (i : ℕ) (n : Numbered) → i < length (numbered_from k list) → n ≡ get_or (numbered_from k list) i n → n.first + positions_of n.entity ≤ k + positions_in list

@@ -1,9 +1,5 @@
 -- Texts that were added piece by piece.
-use Rattle.std.proofs.{Common.{◌≡◌, ℕ, ◌+◌, ◌<◌, List, ◌∷◌, ◌++◌, length, drop, get_or, ap, sym, subst, ◌∙◌, append_assoc, Option, Result, OnOk}, lemmas.List.drop_more}
-use Rattle.std.specs.List.{flat_map}
-use Rattle.sharc_ctype.specs.Resolved.{Resolution}
-use Rattle.sharc_mode.specs.{declared.error.Cast.Cast, declared.error.ModeError.ModeError}
-use Rattle.sharc_report.specs.Verdicts.{beside, check_text, refusal}
+use Rattle.sharc_report.proofs.Imports.{◌≡◌, ℕ, ◌+◌, ◌<◌, List, ◌∷◌, ◌++◌, length, drop, get_or, ap, sym, subst, ◌∙◌, append_assoc, Option, Result, OnOk, drop_more, flat_map, Resolution, Cast, ModeError, beside, check_text, refusal}
 
 pub three : {T E : Type 0} (answer : Result T E) (old m1 m2 new a b c : List ℕ) → m1 ≡ old ++ a → m2 ≡ m1 ++ b → OnOk answer (new ≡ m2 ++ c) → OnOk answer (new ≡ old ++ (a ++ (b ++ c)))
 three answer old m1 m2 new a b c p q last =

@@ -1,15 +1,5 @@
 -- How a run ended, from where its threads are.
-use Rattle.std.proofs.Common.{◌≡◌, ℕ, Bool, true, false, not, List, [], ◌∷◌, refl, sym, ap, ◌∙◌, subst, arith}
-use Rattle.std.specs.{Prelude.{Result, Ok, Err, IfOk, nat_lt, ◌&&◌, if◌then◌else◌}, List.{Any, list_any}}
-use Rattle.sharc_word.specs.declared.step.TheConstants.{THREADS}
-use Rattle.sharc_code.specs.{declared.code.Code.Code, declared.shape.Shape.Shape, Path.may_go, Runs.Turn, Waits.waits_now, Whole.{place_after, IsStuck}}
-use Rattle.sharc_cpu.specs.Thread.{ThreadView}
-use Rattle.sharc_threads.specs.{declared.end.End.End, Ends.{Standing, is_enabled, AllAreDone, EndIs, IsAt, AreStarted}}
-use Rattle.sharc_threads.specs.declared.end.End.TheVariants as ends
-use Rattle.sharc_run.specs.{declared.outcome.Outcome.TheVariants.{Reported, Stopped}, Outcome.{has_reported, was_stopped, IsSpent, NoneStopped, HasOutcome, by_end, outcome_of}, Outcome.HasOutcome.{reported, stopped, stuck, limited, done}, declared.run.Ran.Ran, Run.IsEnd, Others.AreAllowed, RunText.IsRunText}
-use Rattle.sharc_seq.specs.Run.{AreChosen}
-use Rattle.sharc_run.proofs.Listed.{number_of, on_from, goes_on, spent_when, IsOne, one_in, at, was_started, all_gone, not_stuck}
-use Rattle.sharc_lemmas.proofs.{Bools.{and_left as and_first}, Numbers.{not_below as le_false}}
+use Rattle.sharc_run.proofs.{Imports.{◌≡◌, ℕ, Bool, true, false, not, List, [], ◌∷◌, refl, sym, ap, ◌∙◌, subst, arith, Result, Ok, Err, IfOk, nat_lt, ◌&&◌, if◌then◌else◌, Any, list_any, THREADS, Code, Shape, may_go, Turn, waits_now, place_after, IsStuck, ThreadView, End, Standing, is_enabled, AllAreDone, EndIs, IsAt, AreStarted, Reported, Stopped, has_reported, was_stopped, IsSpent, NoneStopped, HasOutcome, by_end, outcome_of, reported, stopped, stuck, limited, done, Ran, IsEnd, AreAllowed, IsRunText, AreChosen, and_first, le_false}, Listed.{number_of, on_from, goes_on, spent_when, IsOne, one_in, at, was_started, all_gone, not_stuck}}
 
 -- ---- the end
 module _ (code : Code) (s : Shape) (limit : ℕ) (turns : List Turn) (threads : List ThreadView) (fits : s.threads ≡ THREADS) (are : AreStarted code s (place_after code s turns) threads)
@@ -36,9 +26,9 @@ module _ (code : Code) (s : Shape) (limit : ℕ) (turns : List Turn) (threads : 
       by false e = absurd (not_stuck code s turns threads fits are e undone unstuck)
 
   unstopped : (end : End) → EndIs code s g end → NoneStopped threads → HasOutcome code s limit g threads (by_end end)
-  unstopped ends.AllDone is none = done none (all_gone code s turns threads fits are is none.unstopped)
-  unstopped ends.Stuck is none = stuck none is
-  unstopped ends.Budget is none = limited none is.1 (one_spent is.0 is.1)
+  unstopped End.AllDone is none = done none (all_gone code s turns threads fits are is none.unstopped)
+  unstopped End.Stuck is none = stuck none is
+  unstopped End.Budget is none = limited none is.1 (one_spent is.0 is.1)
 
   pub has_outcome : (end : End) → EndIs code s g end → HasOutcome code s limit g threads (outcome_of threads end)
   has_outcome end is = by (list_any has_reported threads) (list_any was_stopped threads) refl refl

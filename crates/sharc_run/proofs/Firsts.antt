@@ -1,7 +1,5 @@
 -- The thread that a refused write names is the lowest other one whose bit was set.
-use Rattle.std.proofs.Common.{◌≡◌, refl, ℕ, Option, Some, None}
-use Rattle.std.specs.Prelude.{is_some, if◌then◌else◌}
-use Rattle.sharc_heap.specs.{declared.shadow_word.Kind.TheVariants.Write, Functions.{lowest_other, conflicts_in, first_in}}
+use Rattle.sharc_run.proofs.Imports.{◌≡◌, refl, ℕ, Option, Some, None, is_some, if◌then◌else◌, Write, lowest_other, conflicts_in, first_in}
 
 some_or_none : (o : Option ℕ) → (if is_some o then o else None) ≡ o
 some_or_none None = refl

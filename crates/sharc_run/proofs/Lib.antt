@@ -1,3 +1,4 @@
+mod Imports
 mod Firsts
 mod OneOrder
 mod OneText

@@ -1,13 +1,5 @@
 -- The threads that were started, in a list, and those of the place where a run is.
-use Rattle.std.proofs.Common.{◌≡◌, ℕ, zero, suc, ◌+◌, ◌<◌, ◌≤◌, Bool, true, false, not, List, [], ◌∷◌, length, map, filter, get_or, refl, sym, ap, ◌∙◌, subst, arith, ◌⊎◌, inl, inr}
-use Rattle.std.specs.{Prelude.{nat_lt, nat_eq, ◌&&◌, ◌||◌, slice_index, if◌then◌else◌}, List.{range_with_len, All, list_any}}
-use Rattle.sharc_word.specs.declared.step.TheConstants.{THREADS}
-use Rattle.sharc_code.specs.{declared.code.Code.Code, declared.shape.Shape.Shape, declared.state.TurnState.TurnState, Layout.state_word, Opening.opening_words, Path.may_go, Runs.{Turn, is_started, words_now}, Waits.waits_now, Whole.{bounds, place_after, IsStuck, IsOn}}
-use Rattle.sharc_code.specs.declared.state.TurnState.TheVariants as state
-use Rattle.sharc_cpu.specs.Thread.{ThreadView, is_stop}
-use Rattle.sharc_threads.specs.{Ends.{Standing, AllAreDone, IsAt, AreStarted}, Seats.is_end}
-use Rattle.sharc_run.specs.Outcome.{was_stopped, has_gone}
-use Rattle.sharc_lemmas.proofs.{Bools.{and_left as and_first, or_first, either, or_second}, Numbers.{lt_true, not_below as le_false}}
+use Rattle.sharc_run.proofs.Imports.{◌≡◌, ℕ, zero, suc, ◌+◌, ◌<◌, ◌≤◌, Bool, true, false, not, List, [], ◌∷◌, length, map, filter, get_or, refl, sym, ap, ◌∙◌, subst, arith, ◌⊎◌, inl, inr, nat_lt, nat_eq, ◌&&◌, ◌||◌, slice_index, if◌then◌else◌, range_with_len, All, list_any, THREADS, Code, Shape, TurnState, state_word, opening_words, may_go, Turn, is_started, words_now, waits_now, bounds, place_after, IsStuck, IsOn, ThreadView, is_stop, Standing, AllAreDone, IsAt, AreStarted, is_end, was_stopped, has_gone, and_first, or_first, either, or_second, lt_true, le_false}
 
 -- ---- truth values
 -- ---- who was started has a number that threads have
@@ -84,16 +76,16 @@ module _ (code : Code) (s : Shape) (g : Standing) where
 
 -- ---- states
 pub gone_from : (c : TurnState) → may_go c ≡ false → is_stop c ≡ false → is_end c ≡ true
-gone_from state.Runs e f = sym e
-gone_from state.Tries e f = sym e
-gone_from state.Stopped e f = sym f
-gone_from state.Ended e f = refl
+gone_from TurnState.Runs e f = sym e
+gone_from TurnState.Tries e f = sym e
+gone_from TurnState.Stopped e f = sym f
+gone_from TurnState.Ended e f = refl
 
 pub on_from : (c : TurnState) → may_go c ≡ true → is_end c ≡ false
-on_from state.Runs e = refl
-on_from state.Tries e = refl
-on_from state.Stopped e = cc
-on_from state.Ended e = cc
+on_from TurnState.Runs e = refl
+on_from TurnState.Tries e = refl
+on_from TurnState.Stopped e = cc
+on_from TurnState.Ended e = cc
 
 -- it goes on, and does not wait
 abbrev pub goes_on : Code → Shape → Standing → ThreadView → Bool

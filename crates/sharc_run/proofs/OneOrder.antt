@@ -1,7 +1,6 @@
 -- Lists that are sorted by a number, and in which what ties is in the same order, are one.
-use Rattle.std.proofs.{Common.{◌≡◌, ℕ, suc, ◌<◌, ◌≤◌, Bool, true, false, not, ◌&&◌, cond, List, [], ◌∷◌, length, get_or, filter, refl, sym, ap, ◌∙◌, subst, arith, le_antisymm, nat_lt, ◌==◌, nat_cmp, is_lt, Less, Equal, Greater}, lemmas.Bool.Decides.nat_tests, lemmas.List.Sorted.IsNonDecreasingBy-from_sort}
-use Rattle.std.specs.List.Sorted.{ties, IsSortedByKey, IsStableByKey}
-use Rattle.sharc_lemmas.proofs.Numbers.{not_below as le_of}
+use Rattle.sharc_run.proofs.Imports.{◌≡◌, ℕ, suc, ◌<◌, ◌≤◌, Bool, true, false, not, ◌&&◌, cond, List, [], ◌∷◌, length, get_or, filter, refl, sym, ap, ◌∙◌, subst, arith, le_antisymm, nat_lt, ◌==◌, is_lt, Less, Equal, Greater, nat_tests, IsNonDecreasingBy-from_sort, ties, IsSortedByKey, IsStableByKey, le_false as le_of}
+use Rattle.std.proofs.Common.{nat_cmp}
 
 -- ---- ties
 is_first : (a b : Bool) → is_lt (cond a Less (cond b Equal Greater)) ≡ a

@@ -1,11 +1,6 @@
 -- The text is the same where it says the same of each thread.
-use Rattle.std.proofs.Common.{◌≡◌, ℕ, ◌==◌, ◌&&◌, not, suc, Bool, true, false, List, [], ◌∷◌, ◌++◌, length, map, flat_map, find, codes, decimal, cond, is_some, Option, Some, None, refl, sym, ap, ◌∙◌, subst, arith, if◌then◌else◌}
-use Rattle.std.specs.{List.Sorted.IsStableByKey, Ordering.nat_cmp}
-use Rattle.sharc_heap.specs.{declared.shadow_word.Kind.Kind, declared.shadow_word.Kind.TheVariants.{Read, Write}, Accesses.{note_of, site_at}, Functions.lowest_other, ShadowWord.stands}
-use Rattle.sharc_code.specs.{declared.code.Code.Code, declared.state.ConflictAt.ConflictAt, declared.state.Print.Print, declared.state.Stop.Stop, declared.state.Stop.TheVariants.{Conflict, NoLock, NotSole, Trap}, declared.state.Wait.Wait, Waits.is_held_up}
-use Rattle.sharc_cpu.specs.Thread.{ThreadView}
-use Rattle.sharc_run.specs.{Others.{number_of, noted, refused_by, refused, is_first_write, or_refused, or_read, or_later, access_of, access_of_any, access_of_number, has_number, wrote_before, was_refused_first, refused_access, or_first_refused, against}, RunText.{place_of, prints_of, AreInOrder, print_line, code_of, access_text, other_text, stop_text, wait_text, made_text, unstopped_text, why_text, thread_line, is_gone, IsRunText}, TextLaws.{Shown, shown, TextIsOne}}
-use Rattle.sharc_run.proofs.OneOrder.{one_order}
+use Rattle.sharc_run.proofs.{Imports.{◌≡◌, ℕ, ◌==◌, ◌&&◌, not, suc, Bool, true, false, List, [], ◌∷◌, ◌++◌, length, map, find, codes, decimal, cond, is_some, Option, Some, None, refl, sym, ap, ◌∙◌, subst, arith, if◌then◌else◌, IsStableByKey, nat_cmp, Kind, Read, Write, note_of, site_at, lowest_other, stands, Code, ConflictAt, Print, Stop, Conflict, NoLock, NotSole, Trap, Wait, is_held_up, ThreadView, number_of, noted, refused_by, refused, is_first_write, or_refused, or_read, or_later, access_of, access_of_any, access_of_number, has_number, wrote_before, was_refused_first, refused_access, or_first_refused, against, place_of, prints_of, AreInOrder, print_line, code_of, access_text, other_text, stop_text, wait_text, made_text, unstopped_text, why_text, thread_line, is_gone, IsRunText, Shown, shown, TextIsOne}, OneOrder.one_order}
+use Rattle.std.proofs.Common.{flat_map}
 
 -- ---- lists of threads
 -- a text says the same of each thread of both

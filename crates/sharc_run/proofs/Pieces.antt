@@ -1,5 +1,5 @@
 -- Texts that were added piece by piece.
-use Rattle.std.proofs.Common.{◌≡◌, ℕ, List, ◌++◌, ap, subst, ◌∙◌, append_assoc, Result, OnOk}
+use Rattle.sharc_run.proofs.Imports.{◌≡◌, ℕ, List, ◌++◌, ap, subst, ◌∙◌, append_assoc, Result, OnOk}
 
 pub four : {T E : Type 0} (answer : Result T E) (old m1 m2 m3 new a b c d : List ℕ) → m1 ≡ old ++ a → m2 ≡ m1 ++ b → m3 ≡ m2 ++ c → OnOk answer (new ≡ m3 ++ d) → OnOk answer (new ≡ old ++ (((a ++ b) ++ c) ++ d))
 four answer old m1 m2 m3 new a b c d p q r last =

@@ -1,27 +1,19 @@
 -- The words and the threads of a run that ended determine its outcome.
-use Rattle.std.proofs.Common.{◌≡◌, ℕ, suc, Bool, true, false, not, List, [], ◌∷◌, refl, sym, ap, ◌∙◌, subst, arith}
-use Rattle.std.specs.{Prelude.{◌&&◌, ◌||◌, if◌then◌else◌}, List.{All, Any, list_any}}
-use Rattle.sharc_word.specs.declared.step.TheConstants.{THREADS}
-use Rattle.sharc_code.specs.{declared.code.Code.Code, declared.shape.Shape.Shape, declared.state.TurnState.TurnState, Path.may_go, Runs.Turn, Waits.{waits_now, held_up}, Whole.{place_after, IsStuck, IsOn}}
-use Rattle.sharc_code.specs.declared.state.TurnState.TheVariants as state
-use Rattle.sharc_cpu.specs.Thread.{ThreadView, is_stop}
-use Rattle.sharc_threads.specs.{Ends.{Standing, IsAt, AreStarted}, Seats.is_end}
-use Rattle.sharc_run.specs.{declared.outcome.Outcome.Outcome, declared.outcome.Outcome.TheVariants.{Done, Reported, Stopped, Stuck, Limit}, Outcome.{has_reported, was_stopped, has_gone, IsSpent, NoneStopped, HasOutcome}, Outcome.HasOutcome.{reported, stopped, stuck, limited, done}, Laws.{is_on, goes_on, OutcomeIsTold}}
-use Rattle.sharc_run.proofs.Listed.{number_of, head_at, rest_at, find_number, none_at, IsOne, one_in, at, was_started, is_listed, waits_all}
+use Rattle.sharc_run.proofs.{Imports.{◌≡◌, ℕ, suc, Bool, true, false, not, List, [], ◌∷◌, refl, sym, ap, ◌∙◌, subst, arith, ◌&&◌, ◌||◌, if◌then◌else◌, All, Any, list_any, THREADS, Code, Shape, TurnState, may_go, Turn, waits_now, held_up, place_after, IsStuck, IsOn, ThreadView, is_stop, Standing, IsAt, AreStarted, is_end, Outcome, Done, Reported, Stopped, Stuck, Limit, has_reported, was_stopped, has_gone, IsSpent, NoneStopped, HasOutcome, reported, stopped, stuck, limited, done, is_on, goes_on, OutcomeIsTold}, Listed.{number_of, head_at, rest_at, find_number, none_at, IsOne, one_in, at, was_started, is_listed, waits_all}}
 use Rattle.sharc_run.proofs.Listed as listed
 
 -- ---- states
 off_where_gone : (c : TurnState) → is_end c ≡ true → may_go c ≡ false
-off_where_gone state.Runs e = cc
-off_where_gone state.Tries e = cc
-off_where_gone state.Stopped e = refl
-off_where_gone state.Ended e = refl
+off_where_gone TurnState.Runs e = cc
+off_where_gone TurnState.Tries e = cc
+off_where_gone TurnState.Stopped e = refl
+off_where_gone TurnState.Ended e = refl
 
 on_unless : (c : TurnState) → is_end c ≡ false → is_stop c ≡ false → may_go c ≡ true
-on_unless state.Runs e f = refl
-on_unless state.Tries e f = refl
-on_unless state.Stopped e f = cc
-on_unless state.Ended e f = cc
+on_unless TurnState.Runs e f = refl
+on_unless TurnState.Tries e f = refl
+on_unless TurnState.Stopped e f = cc
+on_unless TurnState.Ended e f = cc
 
 both_true : (a b : Bool) → (a && not b) ≡ true → (a ≡ true) × (b ≡ false)
 both_true true true e = cc

@@ -1,11 +1,5 @@
 -- A run with its turns without a word operation moved: the word events and the turns of each thread are as they were.
-use Rattle.std.proofs.{Common.{◌≡◌, ◌≢◌, ℕ, zero, suc, ◌<◌, ◌≤◌, Bool, true, false, nat_eq, List, [], ◌∷◌, ◌++◌, Option, Some, None, length, refl, sym, ap, ◌∙◌, arith, append_assoc, eq-eqb, ne_eqb, if◌then◌else◌}, lemmas.List.append-nil}
-use native.Mathlib.Decide.{dec_le, ℕ_discrete}
-use mathlib.Core.Logic.{dite}
-use Rattle.sharc_word.specs.declared.step.WordEvent.{WordEvent}
-use Rattle.sharc_code.specs.Runs.{Turn, word_events, event_list, turns_of}
-use Rattle.sharc_schedule.specs.Schedule.{loose, loose_by, firm, firm_by, all_loose}
-use Rattle.sharc_lemmas.proofs.Bools.{if_false as if_no, if_true as if_yes}
+use Rattle.sharc_schedule.proofs.Imports.{◌≡◌, ◌≢◌, ℕ, zero, suc, ◌<◌, ◌≤◌, Bool, true, false, nat_eq, List, [], ◌∷◌, ◌++◌, Option, Some, None, length, refl, sym, ap, ◌∙◌, arith, append_assoc, eq-eqb, ne_eqb, if◌then◌else◌, append-nil, dec_le, ℕ_discrete, dite, WordEvent, Turn, word_events, event_list, turns_of, loose, loose_by, firm, firm_by, all_loose, if_no, if_yes}
 
 -- ---- word events
 pub events-append : (later earlier : List Turn) → word_events (later ++ earlier) ≡ word_events earlier ++ word_events later

@@ -1,10 +1,5 @@
 -- A checked run with its turns without a word operation moved is a checked run that ends in the same place.
-use Rattle.std.proofs.Common.{◌≡◌, ℕ, ◌+◌, ◌≤◌, List, sym, ap, ◌∙◌, subst}
-use Rattle.sharc_word.specs.{declared.step.TheConstants.THREADS, History.LegalHistory, Words.words_after}
-use Rattle.sharc_tree.specs.declared.event.SourceEvent.{SourceEvent}
-use Rattle.sharc_code.specs.{Machine.Machine, Opening.opening_words, Runs.{IsPath, Global, OneThread, word_events, turns_of, made_in, state_after, opening_of}, Laws.{RunLaws, StandsWhere}, ThreadLaws.settled, Whole.{one_thread, bounds}}
-use Rattle.sharc_schedule.specs.{Schedule.arranged, Laws.ArrangedRuns}
-use Rattle.sharc_schedule.proofs.{Arranged.{arranged_events, arranged_turns}, Started.{all_begun, begun, all_loose_begun, no_turn_past, same_started}}
+use Rattle.sharc_schedule.proofs.{Imports.{◌≡◌, ℕ, ◌+◌, ◌≤◌, List, sym, ap, ◌∙◌, subst, THREADS, LegalHistory, words_after, SourceEvent, Machine, opening_words, IsPath, Global, OneThread, word_events, turns_of, made_in, state_after, opening_of, RunLaws, StandsWhere, settled, one_thread, bounds, arranged, ArrangedRuns}, Arranged.{arranged_events, arranged_turns}, Started.{all_begun, begun, all_loose_begun, no_turn_past, same_started}}
 
 pub arrange : RunLaws → ArrangedRuns
 arrange laws code s turns run =

@@ -1,6 +1,5 @@
 -- A file has no more places than bytes.
-use Rattle.std.proofs.{Common.{◌≡◌, ℕ, suc, ◌≤◌, ◌==◌, Bool, true, false, List, [], ◌∷◌, ◌++◌, map, length, ap, arith, length-append, if◌then◌else◌}, lemmas.List.length-map}
-use Rattle.sharc_schedule.specs.{File.{begin_with, lines_in, place_line, schedule_line, text_line}, FileLaws.PlacesAreFew}
+use Rattle.sharc_schedule.proofs.Imports.{◌≡◌, ℕ, suc, ◌≤◌, ◌==◌, Bool, true, false, List, [], ◌∷◌, ◌++◌, map, length, ap, arith, length-append, if◌then◌else◌, length-map, begin_with, lines_in, place_line, schedule_line, text_line, PlacesAreFew}
 
 begun_few : (b n : ℕ) (lines : List (List ℕ)) → length lines ≤ n → length (begin_with b lines) ≤ suc n
 begun_few b n [] few = omega arith

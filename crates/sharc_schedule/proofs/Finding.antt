@@ -1,7 +1,5 @@
 -- The place of a turn.
-use Rattle.std.proofs.Common.{◌≡◌, ℕ, zero, suc, ◌+◌, ◌-◌, ◌<◌, ◌≤◌, List, [], ◌∷◌, ◌++◌, length, take, get_or, replicate, refl, ap, ◌∙◌, arith}
-use Rattle.std.specs.Prelude.{slice_index}
-use Rattle.sharc_schedule.specs.{Schedule.one_by_one, Places.total}
+use Rattle.sharc_schedule.proofs.Imports.{◌≡◌, ℕ, zero, suc, ◌+◌, ◌-◌, ◌<◌, ◌≤◌, List, [], ◌∷◌, ◌++◌, length, take, get_or, replicate, refl, ap, ◌∙◌, arith, slice_index, one_by_one, total}
 
 in_front : (n place i : ℕ) (rest : List ℕ) → i < n → slice_index (replicate n place ++ rest) i ≡ place
 in_front zero place i rest lt = absurd (omega arith)

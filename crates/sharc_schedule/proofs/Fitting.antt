@@ -1,14 +1,5 @@
 -- Places are below 31, and there are no more turns than all threads may make events.
-use Rattle.std.proofs.{Common.{◌≡◌, ℕ, zero, suc, ◌+◌, ◌*◌, ◌<◌, ◌≤◌, Bool, true, false, nat_eq, List, [], ◌∷◌, ◌++◌, length, refl, sym, ap, subst, arith, if◌then◌else◌}, lemmas.List.FromFn.length-range_with_len}
-use Rattle.std.specs.List.{range_with_len}
-use native.Mathlib.Decide.{dec_le, ℕ_discrete}
-use mathlib.Core.Logic.{dite}
-use Rattle.sharc_word.specs.declared.step.TheConstants.{THREADS}
-use Rattle.sharc_code.specs.{declared.code.Code.Code, declared.shape.Shape.Shape, Laws.RunLaws, ThreadLaws.ThreadLaws, Runs.{Turn, put, state_now, made_now}, Whole.{CheckedRun, one_thread, place_after}}
-use Rattle.sharc_threads.specs.Ends.{is_enabled}
-use Rattle.sharc_seq.specs.Run.{enabled}
-use Rattle.sharc_schedule.specs.{Schedule.{arranged, without_tries, scheduled_turns, place_in, places_of, counted_in, counted_together, schedule_of}, Laws.{ScheduledRuns, SchedulesFit}, File.ArePlaces}
-use Rattle.sharc_schedule.proofs.{Trying.{NoTries, put_own, put_other}, Arranging.arrange, Among.{Among, place_within, among_filter, among_range}, Replaying.{Run, Few, started_low, few_before, some_counted, enabled_turn, places_length}, Plain.filter_less}
+use Rattle.sharc_schedule.proofs.{Imports.{◌≡◌, ℕ, zero, suc, ◌+◌, ◌*◌, ◌<◌, ◌≤◌, Bool, true, false, nat_eq, List, [], ◌∷◌, ◌++◌, length, refl, sym, ap, subst, arith, if◌then◌else◌, length-range_with_len, range_with_len, dec_le, ℕ_discrete, dite, THREADS, Code, Shape, RunLaws, ThreadLaws, Turn, put, state_now, made_now, CheckedRun, one_thread, place_after, is_enabled, enabled, arranged, without_tries, scheduled_turns, place_in, places_of, counted_in, counted_together, schedule_of, ScheduledRuns, SchedulesFit, ArePlaces}, Trying.{NoTries, put_own, put_other}, Arranging.arrange, Among.{Among, place_within, among_filter, among_range}, Replaying.{Run, Few, started_low, few_before, some_counted, enabled_turn, places_length}, Plain.filter_less}
 
 -- ---- sums over the first numbers
 abbrev pub sum_to : ℕ → (ℕ → ℕ) → ℕ

@@ -1,12 +1,5 @@
 -- The turns for one event of the journal are those of the schedule.
-use Rattle.std.proofs.Common.{◌≡◌, ℕ, suc, ◌<◌, ◌≤◌, Bool, true, false, List, [], ◌∷◌, ◌++◌, length, refl, sym, ap, ◌∙◌, subst, arith, append_assoc, ⊎_elim, ◌⊎◌, inl, inr, if◌then◌else◌}
-use native.Mathlib.Decide.{dec_le}
-use Rattle.sharc_code.specs.{declared.code.Code.Code, declared.shape.Shape.Shape, declared.state.TurnState.TurnState, declared.state.TurnState.TheVariants.{Runs, Tries, Stopped, Ended}, Machine.Machine, Path.counted, Runs.{Turn, Owns, MayTurn, state_now}, Laws.RunLaws, ThreadLaws.ThreadLaws, Whole.{one_thread, bounds, place_after}}
-use Rattle.sharc_threads.specs.Ends.{is_enabled}
-use Rattle.sharc_seq.specs.Walk.{has_event}
-use Rattle.sharc_schedule.specs.{Schedule.{is_try, without_tries}, Laws.SameEnds, Going.{Quiet, Loud, AllCount, Stepped}}
-use Rattle.sharc_schedule.proofs.{Trying.{may_kept, state_same, NoTries, without}, Among.{Last, cut}, Replaying.{Few, few_before, enabled_turn}, Matching.{Run, quiet_kept, as_many}}
-use Rattle.sharc_lemmas.proofs.Bools.{not_ended as no_both}
+use Rattle.sharc_schedule.proofs.{Imports.{◌≡◌, ℕ, suc, ◌<◌, ◌≤◌, Bool, true, false, List, [], ◌∷◌, ◌++◌, length, refl, sym, ap, ◌∙◌, subst, arith, append_assoc, ⊎_elim, ◌⊎◌, inl, inr, if◌then◌else◌, dec_le, Code, Shape, TurnState, Runs, Tries, Stopped, Ended, Machine, counted, Turn, Owns, MayTurn, state_now, RunLaws, ThreadLaws, one_thread, bounds, place_after, is_enabled, has_event, is_try, without_tries, SameEnds, Quiet, Loud, AllCount, Stepped, no_both}, Trying.{may_kept, state_same, NoTries, without}, Among.{Last, cut}, Replaying.{Few, few_before, enabled_turn}, Matching.{Run, quiet_kept, as_many}}
 
 -- ---- lists
 pub record Split (xs : List Turn) (n : ℕ) : Type 0 where

@@ -1,10 +1,5 @@
 -- Several turns of the run that makes a schedule at once, none of which has a word operation.
-use Rattle.std.proofs.{Common.{◌≡◌, ℕ, Bool, true, List, [], ◌∷◌, ◌++◌, length, replicate, refl, sym, ap, ◌∙◌, subst, append_assoc, arith}, lemmas.List.append-nil}
-use Rattle.sharc_code.specs.{declared.code.Code.Code, declared.shape.Shape.Shape, Laws.RunLaws, Runs.{Turn, Owns}, ThreadLaws.ThreadLaws, Whole.place_after}
-use Rattle.sharc_threads.specs.{Ends.is_enabled, Laws.TableLaws}
-use Rattle.sharc_seq.specs.{Run.enabled, Walk.{StandsAt, IsQuietTurn, AreQuietTurns, WentQuietly}}
-use Rattle.sharc_schedule.specs.{declared.places.Going.Going, Schedule.{place_in, places_of, counted_together}, Going.{AllCount, GoesAt, Hurried, HurriedOn, Quiet, Walked}}
-use Rattle.sharc_schedule.proofs.{Lasts.one_after, Placing.{enabled_kept, enabled_there}, Replaying.Few, Turning.few_after}
+use Rattle.sharc_schedule.proofs.{Imports.{◌≡◌, ℕ, Bool, true, List, [], ◌∷◌, ◌++◌, length, replicate, refl, sym, ap, ◌∙◌, subst, append_assoc, arith, append-nil, Code, Shape, RunLaws, Turn, Owns, ThreadLaws, place_after, is_enabled, TableLaws, enabled, StandsAt, IsQuietTurn, AreQuietTurns, WentQuietly, Going, place_in, places_of, counted_together, AllCount, GoesAt, Hurried, HurriedOn, Quiet, Walked}, Lasts.one_after, Placing.{enabled_kept, enabled_there}, Replaying.Few, Turning.few_after}
 
 owns_both : (t : ℕ) (more before : List Turn) → Owns t more → Owns t before → Owns t (more ++ before)
 owns_both t [] before h low = low

@@ -1,8 +1,5 @@
 -- A place that comes after others, counted together with them.
-use Rattle.std.proofs.Common.{◌≡◌, ◌≢◌, ℕ, zero, suc, ◌+◌, ◌<◌, Bool, true, false, nat_eq, List, [], ◌∷◌, ◌++◌, length, get_or, set, replicate, refl, sym, ap, ◌∙◌, arith, append_assoc, eq-eqb, ne_eqb, if◌then◌else◌}
-use native.Mathlib.Decide.{ℕ_discrete}
-use Rattle.sharc_schedule.specs.Schedule.{counted_in, counted_together}
-use Rattle.sharc_lemmas.proofs.Bools.{if_false as if_no, if_true as if_yes}
+use Rattle.sharc_schedule.proofs.Imports.{◌≡◌, ◌≢◌, ℕ, zero, suc, ◌+◌, ◌<◌, Bool, true, false, nat_eq, List, [], ◌∷◌, ◌++◌, length, get_or, set, replicate, refl, sym, ap, ◌∙◌, arith, append_assoc, eq-eqb, ne_eqb, if◌then◌else◌, ℕ_discrete, counted_in, counted_together, if_no, if_yes}
 
 abbrev pub add_last : ℕ → List (ℕ × ℕ) → List (ℕ × ℕ)
 add_last p [] = (p, 1) ∷ []

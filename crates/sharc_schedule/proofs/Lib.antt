@@ -1,3 +1,4 @@
+mod Imports
 pub mod Numbers
 pub mod PlaceLines
 pub mod SourceLines

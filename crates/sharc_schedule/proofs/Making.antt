@@ -1,13 +1,5 @@
 -- The turns that are made for a journal are those of the schedule of each of its runs.
-use Rattle.std.proofs.{Common.{◌≡◌, ◌≢◌, ℕ, zero, suc, ◌+◌, ◌-◌, ◌<◌, ◌≤◌, Bool, true, false, not, nat_eq, ◌&&◌, ◌||◌, nat_lt, List, [], ◌∷◌, ◌++◌, Option, Some, None, length, get_or, eqb-true, refl, sym, ap, ◌∙◌, subst, arith, append_assoc, length-append, ◌⊎◌, inl, inr, if◌then◌else◌}, lemmas.List.append-nil}
-use native.Mathlib.Decide.{dec_le, ℕ_discrete}
-use Rattle.sharc_word.specs.{declared.step.WordEvent.WordEvent, declared.step.TheConstants.THREADS}
-use Rattle.sharc_code.specs.{declared.code.Code.Code, declared.shape.Shape.Shape, Laws.RunLaws, Machine.Machine, Path.may_go, Runs.{Turn, Owns, IsOf, is_started, state_now, made_now, words_now, word_events, event_list}, ThreadLaws.ThreadLaws, Waits.waits_now, Whole.{one_thread, bounds, place_after}}
-use Rattle.sharc_threads.specs.Ends.{Standing, is_enabled}
-use Rattle.sharc_seq.specs.Walk.{has_event}
-use Rattle.sharc_schedule.specs.{Schedule.{loose, loose_by, firm, firm_by, all_loose, arranged, without_tries, scheduled_turns}, Laws.SameEnds, Journal.IsJournalOf, Going.{Quiet, AllCount, Stepped, Followed, thread_at}}
-use Rattle.sharc_schedule.proofs.{Arranging.arrange, Following.{Runs_to, Split, split, owns_low, run_low, few_low, enough, follow_event}, Matching.{quiet_kept, as_many}, Among.{Last, cut}, Replaying.{Few, few_before, started_low, enabled_turn}, Showing.enabled_same, Trying.{NoTries, without, put_other, now_started}, Turning.no_tries}
-use Rattle.sharc_lemmas.proofs.Bools.{not_ended as no_both, or_known}
+use Rattle.sharc_schedule.proofs.{Imports.{◌≡◌, ◌≢◌, ℕ, zero, suc, ◌+◌, ◌-◌, ◌<◌, ◌≤◌, Bool, true, false, not, nat_eq, ◌&&◌, ◌||◌, nat_lt, List, [], ◌∷◌, ◌++◌, Option, Some, None, length, get_or, eqb-true, refl, sym, ap, ◌∙◌, subst, arith, append_assoc, length-append, ◌⊎◌, inl, inr, if◌then◌else◌, append-nil, dec_le, ℕ_discrete, WordEvent, THREADS, Code, Shape, RunLaws, Machine, may_go, Turn, Owns, IsOf, is_started, state_now, made_now, words_now, word_events, event_list, ThreadLaws, waits_now, one_thread, bounds, place_after, Standing, is_enabled, has_event, loose, loose_by, firm, firm_by, all_loose, arranged, without_tries, scheduled_turns, SameEnds, IsJournalOf, Quiet, AllCount, Stepped, Followed, thread_at, no_both, or_known}, Arranging.arrange, Following.{Runs_to, Split, split, owns_low, run_low, few_low, enough, follow_event}, Matching.{quiet_kept, as_many}, Among.{Last, cut}, Replaying.{Few, few_before, started_low, enabled_turn}, Showing.enabled_same, Trying.{NoTries, without, put_other, now_started}, Turning.no_tries}
 
 -- ---- loose turns
 pub loose_quiet : (t : ℕ) (turns : List Turn) → Quiet (loose t turns)

@@ -1,14 +1,6 @@
 -- Turns of one thread on top of one run are determined by how many they are.
-use Rattle.std.proofs.{Common.{◌≡◌, ℕ, ◌==◌, true, false, List, [], ◌∷◌, ◌++◌, Option, Some, None, length, refl, sym, ap, ◌∙◌, arith}, lemmas.Nat.Bits.bit_at-zero, lemmas.Bool.{false_from_ne_true as true_or_false}}
-use Rattle.sharc_word.specs.declared.step.WordEvent.{WordEvent}
-use Rattle.sharc_locks.specs.Waiters.{waits_in}
-use Rattle.sharc_code.specs.{declared.code.Code.Code, declared.shape.Shape.Shape, declared.state.TurnState.TheVariants.Tries, declared.state.Wait.Wait, Machine.{Machine, Local, Asks}, Opening.opening_words, Path.{turn, after, asked_by, may_go}, Runs.{Turn, IsRun, Owns, result_of, step_of as step_in, state_now, opening_of, threads_of, scheduled}, Laws.RunLaws, ThreadLaws.{ThreadLaws, found_now, behind}, Waits.{held_up, wait_of, waits_now}, Whole.{one_thread, bounds, place_after}}
-use Rattle.sharc_code.specs.declared.state.Wait.TheVariants as waits
+use Rattle.sharc_schedule.proofs.{Imports.{◌≡◌, ℕ, ◌==◌, true, false, List, [], ◌∷◌, ◌++◌, Option, Some, None, length, refl, sym, ap, ◌∙◌, arith, bit_at-zero, true_or_false, WordEvent, waits_in, Code, Shape, Tries, Wait, Machine, Local, Asks, opening_words, turn, after, asked_by, may_go, Turn, IsRun, Owns, result_of, step_of as step_in, state_now, opening_of, threads_of, scheduled, RunLaws, ThreadLaws, found_now, behind, held_up, wait_of, waits_now, one_thread, bounds, place_after, has_event, is_try, without_tries, Quiet, if_no}, Trying.tries_where}
 use Rattle.sharc_code.specs.Machine as Step
-use Rattle.sharc_seq.specs.Walk.{has_event}
-use Rattle.sharc_schedule.specs.{Schedule.{is_try, without_tries}, Going.Quiet}
-use Rattle.sharc_schedule.proofs.Trying.{tries_where}
-use Rattle.sharc_lemmas.proofs.Bools.{if_false as if_no}
 
 -- ---- a turn without a step is no failed try: it would be one whatever the words are, and where all words are 0 nobody waits
 nobody_in_zero : (number : ℕ) → waits_in 0 number ≡ false
@@ -17,9 +9,9 @@ nobody_in_zero number = ap (λ b. b == 1) (bit_at-zero number)
 
 nothing_held : (number : ℕ) (wait : Option Wait) → held_up [] number wait ≡ false
 nothing_held number None = refl
-nothing_held number (Some (waits.Mutex word site)) = refl
-nothing_held number (Some (waits.Join n site)) = refl
-nothing_held number (Some (waits.Cond word site)) = nobody_in_zero number
+nothing_held number (Some (Wait.Mutex word site)) = refl
+nothing_held number (Some (Wait.Join n site)) = refl
+nothing_held number (Some (Wait.Cond word site)) = nobody_in_zero number
 
 -- it leads where it leads whatever it finds
 leads_alike : (a : Step.Turn) (event : Option WordEvent) → step_in event ≡ asked_by a → has_event event ≡ false → after a (result_of event) ≡ after a (found_now [] a)

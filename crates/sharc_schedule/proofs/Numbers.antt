@@ -1,8 +1,5 @@
 -- Numbers and places in lines.
-use Rattle.std.proofs.{Common.{◌≡◌, ◌≢◌, ℕ, ◌<◌, ◌≤◌, ◌^◌, ◌==◌, ◌&&◌, Bool, true, false, nat_le, ◌⊎◌, inl, inr, ⊎_elim, List, [], ◌∷◌, ◌++◌, Option, Some, None, length, decimal, refl, sym, ap, ◌∙◌, subst, arith, eq-eqb, ne_eqb, eqb-true, if◌then◌else◌}, lemmas.Fmt.decimal_is_IsNumeral, lemmas.Bool.{le-leb, leb-true, false_from_ne_true as true_or_false}}
-use Rattle.std.specs.{Str.bytes_eq, Str.Parse.{digits_value, AllDigits}, Char.digit_value}
-use Rattle.sharc_schedule.specs.{File.{place_line, IsPlace, AreNumbers, Begins}, Reading.{number_in, pair_of, word_of, after_word, place_read, numbers_in, rest_after}}
-use Rattle.sharc_lemmas.proofs.{Bools.{and_left, and_right, if_false as if_no, if_true as if_yes}, Lists.{same_name as bytes_same, same_bytes as bytes_alike}}
+use Rattle.sharc_schedule.proofs.Imports.{◌≡◌, ◌≢◌, ℕ, ◌<◌, ◌≤◌, ◌^◌, ◌==◌, ◌&&◌, Bool, true, false, nat_le, ◌⊎◌, inl, inr, ⊎_elim, List, [], ◌∷◌, ◌++◌, Option, Some, None, length, decimal, refl, sym, ap, ◌∙◌, subst, arith, eq-eqb, ne_eqb, eqb-true, if◌then◌else◌, decimal_is_IsNumeral, le-leb, leb-true, true_or_false, bytes_eq, digits_value, AllDigits, digit_value, place_line, IsPlace, AreNumbers, Begins, number_in, pair_of, word_of, after_word, place_read, numbers_in, rest_after, and_left, and_right, if_no, if_yes, bytes_same, bytes_alike}
 
 abbrev or_else : {A : Type 0} → A → Option A → A
 or_else a None = a

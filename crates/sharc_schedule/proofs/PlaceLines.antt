@@ -1,9 +1,5 @@
 -- The plain reader answers what the lines say, and else the first line at fault.
-use Rattle.std.proofs.{Common.{◌≡◌, ◌≢◌, ℕ, suc, ◌+◌, ◌<◌, ◌≤◌, ◌^◌, Bool, true, false, List, [], ◌∷◌, ◌++◌, Option, Some, None, length, map, take, decimal, refl, sym, ap, ◌∙◌, subst, arith, if◌then◌else◌}, lemmas.Fmt.decimal_is_IsNumeral}
-use Rattle.std.specs.{Prelude.{Result, Ok, Err}, Str.bytes_eq}
-use Rattle.sharc_schedule.specs.{File.{place_line, text_line, IsPlace, ArePlaces}, Reading.{place_read, after_word, with_place, read_places}}
-use Rattle.sharc_schedule.proofs.Numbers.{bytes_differ, decimal_lacks_blank, word_after, place_sound, place_complete}
-use Rattle.sharc_lemmas.proofs.{Bools.{if_false as if_no}, Lists.{same_name as bytes_same}}
+use Rattle.sharc_schedule.proofs.{Imports.{◌≡◌, ◌≢◌, ℕ, suc, ◌+◌, ◌<◌, ◌≤◌, ◌^◌, Bool, true, false, List, [], ◌∷◌, ◌++◌, Option, Some, None, length, map, take, decimal, refl, sym, ap, ◌∙◌, subst, arith, if◌then◌else◌, decimal_is_IsNumeral, Result, Ok, Err, bytes_eq, place_line, text_line, IsPlace, ArePlaces, place_read, after_word, with_place, read_places, if_no, bytes_same}, Numbers.{bytes_differ, decimal_lacks_blank, word_after, place_sound, place_complete}}
 
 abbrev IsOk : {A : Type 0} → Result A ℕ → Type 0
 IsOk (Ok x) = Unit {0}

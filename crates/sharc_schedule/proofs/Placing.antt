@@ -1,14 +1,5 @@
 -- The place of a thread among those that are enabled, and that it stays the same where only its own turns come, without a word operation.
-use Rattle.std.proofs.Common.{◌≡◌, ◌≢◌, ℕ, zero, suc, ◌+◌, ◌<◌, ◌≤◌, Bool, true, false, nat_eq, List, ◌∷◌, ◌++◌, filter, sym, ap, ◌∙◌, subst, arith, eq-eqb, ne_eqb, if◌then◌else◌}
-use Rattle.std.specs.List.{range_with_len}
-use native.Mathlib.Decide.{dec_le, ℕ_discrete}
-use mathlib.Core.Logic.{dite}
-use Rattle.sharc_code.specs.{declared.code.Code.Code, declared.shape.Shape.Shape, Laws.RunLaws, Runs.{Turn, Owns}, ThreadLaws.ThreadLaws, Whole.place_after}
-use Rattle.sharc_threads.specs.{Ends.is_enabled, Laws.TableLaws}
-use Rattle.sharc_seq.specs.{declared.walk.Walk.Walk, Run.enabled, Walk.StandsAt}
-use Rattle.sharc_schedule.specs.{Going.Quiet, Schedule.place_in}
-use Rattle.sharc_schedule.proofs.Making.{others_same}
-use Rattle.sharc_lemmas.proofs.{Bools.{if_false as if_no, if_true as if_yes}, Lists.filter_agrees}
+use Rattle.sharc_schedule.proofs.{Imports.{◌≡◌, ◌≢◌, ℕ, zero, suc, ◌+◌, ◌<◌, ◌≤◌, Bool, true, false, nat_eq, List, ◌∷◌, ◌++◌, filter, sym, ap, ◌∙◌, subst, arith, eq-eqb, ne_eqb, if◌then◌else◌, range_with_len, dec_le, ℕ_discrete, dite, Code, Shape, RunLaws, Turn, Owns, ThreadLaws, place_after, is_enabled, TableLaws, Walk, enabled, StandsAt, Quiet, place_in, if_no, if_yes, filter_agrees}, Making.others_same}
 
 -- how many numbers below this one pass a test
 abbrev pub passed : (ℕ → Bool) → ℕ → ℕ

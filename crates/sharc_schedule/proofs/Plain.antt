@@ -1,5 +1,5 @@
 -- Truth values and lists, for any use.
-use Rattle.std.proofs.Common.{ℕ, suc, ◌≤◌, Bool, true, false, List, [], ◌∷◌, length, filter, arith, if◌then◌else◌}
+use Rattle.sharc_schedule.proofs.Imports.{ℕ, suc, ◌≤◌, Bool, true, false, List, [], ◌∷◌, length, filter, arith, if◌then◌else◌}
 
 pub filter_less : (f : ℕ → Bool) (xs : List ℕ) → length (filter f xs) ≤ length xs
 filter_less f [] = omega arith

@@ -1,16 +1,6 @@
 -- The chooser of a schedule leads to the run of its turns.
-use Rattle.std.proofs.{Common.{◌≡◌, ℕ, ◌+◌, ◌<◌, ◌≤◌, Bool, true, false, not, ◌&&◌, ◌||◌, nat_eq, nat_lt, ⊎_elim, List, [], ◌∷◌, ◌++◌, Option, Some, None, length, refl, sym, ap, ◌∙◌, subst, arith, append_assoc, length-append, if◌then◌else◌}, lemmas.List.append-nil, lemmas.Bool.{lt-ltb, le-ltb, false_from_ne_true as true_or_false}}
-use Rattle.std.specs.{Prelude.slice_index, List.range_with_len}
-use native.Mathlib.Decide.{dec_le, ℕ_discrete}
-use mathlib.Core.Logic.{dite}
-use Rattle.sharc_word.specs.{declared.step.WordEvent.WordEvent, declared.step.WordStep.WordStep, declared.step.TheConstants.THREADS}
-use Rattle.sharc_tree.specs.declared.event.SourceEvent.{SourceEvent}
-use Rattle.sharc_code.specs.{declared.code.Code.Code, declared.shape.Shape.Shape, declared.state.TurnState.TurnState, declared.state.TurnState.TheVariants.{Runs, Tries, Stopped, Ended}, Machine.Machine, Layout.state_word, Opening.opening_words, Path.{turn, after, asked_by, may_go, counted}, Runs.{Turn, Global, OneThread, MayTurn, IsRun, Answered, is_started, result_of, step_of, state_now, made_now, opening_of, scheduled, threads_of}, Laws.RunLaws, ThreadLaws.{ThreadLaws, found_now, behind}, Waits.waits_now, Whole.{one_thread, bounds, place_after}}
+use Rattle.sharc_schedule.proofs.{Imports.{◌≡◌, ℕ, ◌+◌, ◌<◌, ◌≤◌, Bool, true, false, not, ◌&&◌, ◌||◌, nat_eq, nat_lt, ⊎_elim, List, [], ◌∷◌, ◌++◌, Option, Some, None, length, refl, sym, ap, ◌∙◌, subst, arith, append_assoc, length-append, if◌then◌else◌, append-nil, lt-ltb, le-ltb, true_or_false, slice_index, range_with_len, dec_le, ℕ_discrete, dite, WordEvent, WordStep, THREADS, SourceEvent, Code, Shape, TurnState, Runs, Tries, Stopped, Ended, Machine, state_word, opening_words, turn, after, asked_by, may_go, counted, Turn, Global, OneThread, MayTurn, IsRun, Answered, is_started, result_of, step_of, state_now, made_now, opening_of, scheduled, threads_of, RunLaws, ThreadLaws, found_now, behind, waits_now, one_thread, bounds, place_after, is_enabled, enabled, AreChosen, is_try, place_in, places_of, or_first}, Trying.{NoTries, put_own, put_other}, Among.{Among, place_within, place_is, among_filter, among_range, none_left, Last, cut, index_seam}}
 use Rattle.sharc_code.specs.Machine as Step
-use Rattle.sharc_threads.specs.Ends.{is_enabled}
-use Rattle.sharc_seq.specs.Run.{enabled, AreChosen}
-use Rattle.sharc_schedule.specs.Schedule.{is_try, place_in, places_of, or_first}
-use Rattle.sharc_schedule.proofs.{Trying.{NoTries, put_own, put_other}, Among.{Among, place_within, place_is, among_filter, among_range, none_left, Last, cut, index_seam}}
 
 all_four : (a b c d : Bool) → a ≡ true → b ≡ true → c ≡ true → d ≡ false → (a && (b && (c && not d))) ≡ true
 all_four a b c d e f g h = ap (λ x. x && (b && (c && not d))) e ∙ (ap (λ x. x && (c && not d)) f ∙ (ap (λ x. x && not d) g ∙ ap not h))

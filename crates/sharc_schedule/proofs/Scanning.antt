@@ -1,9 +1,5 @@
 -- Lines of bytes from a place on.
-use Rattle.std.proofs.{Common.{◌≡◌, ◌≢◌, ℕ, zero, suc, ◌+◌, ◌-◌, ◌<◌, ◌≤◌, ◌==◌, ◌⊎◌, ⊎_elim, List, [], ◌∷◌, ◌++◌, length, get_or, take, drop, decimal, refl, sym, ap, ◌∙◌, subst, arith, ne_eqb, length-drop, take-append-drop}, Math.Seq.{take-suc, take-add, drop-nil, drop-cons}, lemmas.List.{get_or-drop, take_rest, drop_all}, lemmas.Fmt.{length-decimal-le, decimal_is_IsNumeral}, lemmas.Str.Parse.digit_from_value}
-use Rattle.std.specs.{Str.Parse.AllDigits, Char.digit_value, Prelude.{None, Result, Ok, Err}}
-use Rattle.sharc_schedule.specs.{File.{begin_with, lines_in, schedule_word}, Reading.{rest_after, at_schedule, read_source, read_lines}}
-use Rattle.sharc_schedule.proofs.{Numbers.{Lacks, lacks-append}, Written.one_line}
-use Rattle.sharc_lemmas.proofs.Bools.{if_false as if_no}
+use Rattle.sharc_schedule.proofs.{Imports.{◌≡◌, ◌≢◌, ℕ, zero, suc, ◌+◌, ◌-◌, ◌<◌, ◌≤◌, ◌==◌, ◌⊎◌, ⊎_elim, List, [], ◌∷◌, ◌++◌, length, get_or, take, drop, decimal, refl, sym, ap, ◌∙◌, subst, arith, ne_eqb, length-drop, take-append-drop, take-suc, take-add, drop-nil, drop-cons, get_or-drop, take_rest, drop_all, length-decimal-le, decimal_is_IsNumeral, digit_from_value, AllDigits, digit_value, None, Result, Ok, Err, begin_with, lines_in, schedule_word, rest_after, at_schedule, read_source, read_lines, if_no}, Numbers.{Lacks, lacks-append}, Written.one_line}
 
 -- ---- words that are no numbers
 pub too_long : (word : List ℕ) (n : ℕ) → 10 < length word → n ≤ 4294967295 → word ≢ decimal n

@@ -1,11 +1,5 @@
 -- What a replay shows: places with the same ends enable the same threads, end alike and show the same.
-use Rattle.std.proofs.{Common.{◌≡◌, ℕ, ◌≤◌, false, not, ◌&&◌, nat_lt, List, [], ◌++◌, None, filter, refl, sym, ap, ◌∙◌, subst, if◌then◌else◌}, lemmas.List.append-nil}
-use Rattle.std.specs.List.{range_with_len}
-use Rattle.sharc_code.specs.{declared.code.Code.Code, declared.instr.Instr.Instr, declared.instr.Instr.TheVariants.{Lock, Join, CondWait}, declared.shape.Shape.Shape, Machine.{Machine, Own, instr_at}, Path.may_go, Runs.Turn, Laws.RunLaws, ThreadLaws.{ThreadLaws, settled}, Waits.{asks_for, wait_of, waits_now, held_up}, Whole.{CheckedRun, place_after, IsOn, IsStuck}}
-use Rattle.sharc_cpu.specs.Thread.{ThreadView}
-use Rattle.sharc_threads.specs.{declared.end.End.End, declared.end.End.TheVariants.{AllDone, Stuck, Budget}, Ends.{Standing, is_enabled, AllAreDone, EndIs, IsAt}}
-use Rattle.sharc_schedule.specs.{Schedule.{arranged, without_tries, scheduled_turns, places_of, one_by_one, schedule_of, Stored}, Laws.{SameEnds, Shows, RunsWithoutTries, ScheduledRuns, SchedulesReplay, ReplaysShow, ScheduleLaws}}
-use Rattle.sharc_schedule.proofs.{Arranging.arrange, Trying.{may_settle, same_may, without, NoTries}, Together.counted, Fitting.fit, Replaying.{chosen_by, one_run}}
+use Rattle.sharc_schedule.proofs.{Imports.{◌≡◌, ℕ, ◌≤◌, false, not, ◌&&◌, nat_lt, List, [], ◌++◌, None, filter, refl, sym, ap, ◌∙◌, subst, if◌then◌else◌, append-nil, range_with_len, Code, Instr, Lock, Join, CondWait, Shape, Machine, Own, instr_at, may_go, Turn, RunLaws, ThreadLaws, settled, asks_for, wait_of, waits_now, held_up, CheckedRun, place_after, IsOn, IsStuck, ThreadView, End, AllDone, Stuck, Budget, Standing, is_enabled, AllAreDone, EndIs, IsAt, arranged, without_tries, scheduled_turns, places_of, one_by_one, schedule_of, Stored, SameEnds, Shows, RunsWithoutTries, ScheduledRuns, SchedulesReplay, ReplaysShow, ScheduleLaws}, Arranging.arrange, Trying.{may_settle, same_may, without, NoTries}, Together.counted, Fitting.fit, Replaying.{chosen_by, one_run}}
 
 same_asks : (s : Shape) (i : Instr) (m : Machine) → asks_for s i (settled m) ≡ asks_for s i m
 same_asks s (Lock cell site) m = refl

@@ -1,8 +1,5 @@
 -- The plain reader on whole files.
-use Rattle.std.proofs.Common.{◌≡◌, ℕ, suc, ◌+◌, ◌-◌, List, [], ◌∷◌, ◌++◌, Option, Some, None, map, take, decimal, refl, sym, ap, ◌∙◌, subst, arith, append_assoc}
-use Rattle.std.specs.Prelude.{Result, Ok, Err}
-use Rattle.sharc_schedule.specs.{File.{FileView, place_line, schedule_line, schedule_word, text_line, joined_by, NoneBegins, ArePlaces, AreNumbers, AreLinesOf}, Reading.{numbers_in, rest_after, read_places, with_places, at_schedule, read_source, read_lines}, FileLaws.{ReadsFiles, ReadsAll, ReadsFaults}}
-use Rattle.sharc_schedule.proofs.{Numbers.{numbers_sound, numbers_complete, rest_after_sound, rest_after_complete, rest_after_none, none_after}, PlaceLines.{err_not_ok, ok_not_err, ok_is, err_is, PlacesAre, places_sound, places_complete, Faults, places_fault}}
+use Rattle.sharc_schedule.proofs.{Imports.{◌≡◌, ℕ, suc, ◌+◌, ◌-◌, List, [], ◌∷◌, ◌++◌, Option, Some, None, map, take, decimal, refl, sym, ap, ◌∙◌, subst, arith, append_assoc, Result, Ok, Err, FileView, place_line, schedule_line, schedule_word, text_line, joined_by, NoneBegins, ArePlaces, AreNumbers, AreLinesOf, numbers_in, rest_after, read_places, with_places, at_schedule, read_source, read_lines, ReadsFiles, ReadsAll, ReadsFaults}, Numbers.{numbers_sound, numbers_complete, rest_after_sound, rest_after_complete, rest_after_none, none_after}, PlaceLines.{err_not_ok, ok_not_err, ok_is, err_is, PlacesAre, places_sound, places_complete, Faults, places_fault}}
 
 joined_more : (a b : List ℕ) (lines : List (List ℕ)) → joined_by (a ++ 10 ∷ b) lines ≡ a ++ 10 ∷ joined_by b lines
 joined_more a b [] = refl

@@ -1,7 +1,5 @@
 -- From run to run.
-use Rattle.std.proofs.Common.{◌≡◌, ℕ, suc, ◌+◌, List, ◌++◌, refl, subst, arith}
-use Rattle.sharc_code.specs.{declared.code.Code.Code, declared.shape.Shape.Shape, Runs.Turn}
-use Rattle.sharc_schedule.specs.{declared.places.Going.Going, Going.{Reached, Stepped, Followed}}
+use Rattle.sharc_schedule.proofs.Imports.{◌≡◌, ℕ, suc, ◌+◌, List, ◌++◌, refl, subst, arith, Code, Shape, Turn, Going, Reached, Stepped, Followed}
 
 pub stepped : (code : Code) (s : Shape) (limit t u : ℕ) (turns : List Turn) (going : Going) → t ≡ u → (r : Reached code s limit t turns going) → Stepped code s limit u turns (r.more ++ turns)
 stepped code s limit t u turns going e r = subst (λ v. Stepped code s limit v turns (r.more ++ turns)) e record { more = r.more; own = r.own; is = refl; ends = r.ends }

@@ -1,10 +1,5 @@
 -- A checked run without its failed tries is a checked run with the same ends.
-use Rattle.std.proofs.Common.{◌≡◌, ◌≢◌, ℕ, ◌+◌, ◌≤◌, Bool, true, false, ◌||◌, nat_eq, List, [], ◌∷◌, refl, sym, ap, ◌∙◌, subst, arith, eq-eqb, ne_eqb, if◌then◌else◌}
-use native.Mathlib.Decide.{ℕ_discrete}
-use Rattle.sharc_tree.specs.declared.event.SourceEvent.{SourceEvent}
-use Rattle.sharc_code.specs.{declared.code.Code.Code, declared.shape.Shape.Shape, declared.state.TurnState.TurnState, declared.state.TurnState.TheVariants.{Runs, Tries, Stopped, Ended}, Machine.{Machine, fails}, Opening.opening_words, Path.{turn, after, asked_by, may_go, counted}, Runs.{Turn, Global, OneThread, MayTurn, IsRun, Answered, is_started, result_of, put, state_now, made_now, words_now, after_turn, opening_of}, ThreadLaws.{ThreadLaws, settle, settled}, Whole.{one_thread, bounds, place_after}}
-use Rattle.sharc_schedule.specs.{Schedule.{is_try, without_tries}, Laws.SameEnds}
-use Rattle.sharc_lemmas.proofs.Bools.{if_false as if_no, if_true as if_yes, or_known}
+use Rattle.sharc_schedule.proofs.Imports.{◌≡◌, ◌≢◌, ℕ, ◌+◌, ◌≤◌, Bool, true, false, ◌||◌, nat_eq, List, [], ◌∷◌, refl, sym, ap, ◌∙◌, subst, arith, eq-eqb, ne_eqb, if◌then◌else◌, ℕ_discrete, SourceEvent, Code, Shape, TurnState, Runs, Tries, Stopped, Ended, Machine, fails, opening_words, turn, after, asked_by, may_go, counted, Turn, Global, OneThread, MayTurn, IsRun, Answered, is_started, result_of, put, state_now, made_now, words_now, after_turn, opening_of, ThreadLaws, settle, settled, one_thread, bounds, place_after, is_try, without_tries, SameEnds, if_no, if_yes, or_known}
 
 -- ---- one thread
 pub tries_where : (state : TurnState) → is_try state ≡ true → state ≡ Tries

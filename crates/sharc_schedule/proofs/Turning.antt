@@ -1,14 +1,5 @@
 -- One more turn of the run that makes a schedule.
-use Rattle.std.proofs.{Common.{◌≡◌, ℕ, zero, suc, ◌<◌, ◌≤◌, Bool, true, false, List, [], ◌∷◌, ◌++◌, length, replicate, get_or, sym, ap, ◌∙◌, subst, arith, inl}, lemmas.Bool.{false_from_ne_true as true_or_false}}
-use Rattle.std.specs.Prelude.{nat_lt}
-use native.Mathlib.Decide.{ℕ_discrete}
-use Rattle.sharc_word.specs.declared.step.TheConstants.{THREADS}
-use Rattle.sharc_code.specs.{declared.code.Code.Code, declared.shape.Shape.Shape, Laws.RunLaws, Path.{may_go, counted}, Runs.{Turn, state_now, made_now}, ThreadLaws.ThreadLaws, Whole.{one_thread, place_after}}
-use Rattle.sharc_threads.specs.{Ends.{Standing, is_enabled}, Laws.TableLaws}
-use Rattle.sharc_seq.specs.{declared.walk.Walk.Walk, Run.enabled, Walk.{StandsAt, WentOn}}
-use Rattle.sharc_schedule.specs.{declared.places.Going.Going, Schedule.{is_try, place_in, places_of, counted_together}, Going.{AllCount, GoesAt, OneMore, Walked, Reached}}
-use Rattle.sharc_schedule.proofs.{Fitting.{Counted, sum_bound, all_counted, places_small, made_all}, Following.no_count, Replaying.{Run, Few, places_length}, Trying.{NoTries, put_own, put_other}}
-use Rattle.sharc_lemmas.proofs.{Bools.both, Numbers.lt_true}
+use Rattle.sharc_schedule.proofs.{Imports.{◌≡◌, ℕ, zero, suc, ◌<◌, ◌≤◌, Bool, true, false, List, [], ◌∷◌, ◌++◌, length, replicate, get_or, sym, ap, ◌∙◌, subst, arith, inl, true_or_false, nat_lt, ℕ_discrete, THREADS, Code, Shape, RunLaws, may_go, counted, Turn, state_now, made_now, ThreadLaws, one_thread, place_after, Standing, is_enabled, TableLaws, Walk, enabled, StandsAt, WentOn, Going, is_try, place_in, places_of, counted_together, AllCount, GoesAt, OneMore, Walked, Reached, both, lt_true}, Fitting.{Counted, sum_bound, all_counted, places_small, made_all}, Following.no_count, Replaying.{Run, Few, places_length}, Trying.{NoTries, put_own, put_other}}
 
 -- ---- who is enabled
 -- it does not matter by which run it is determined who is enabled

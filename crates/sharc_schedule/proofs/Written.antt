@@ -1,8 +1,5 @@
 -- What was written has the lines of its parts.
-use Rattle.std.proofs.Common.{◌≡◌, ℕ, ◌<◌, ◌^◌, ◌==◌, Bool, true, false, List, [], ◌∷◌, ◌++◌, map, decimal, refl, sym, ap, ◌∙◌, subst, arith, append_assoc, ne_eqb, eqb-true}
-use Rattle.sharc_schedule.specs.{File.{begin_with, lines_in, place_line, places_text, schedule_line, schedule_word, text_line, joined_by, NoneBegins, HoldsNoSchedule, IsPlace, ArePlaces, AreNumbers}, FileLaws.WrittenIsRead}
-use Rattle.sharc_schedule.proofs.Numbers.{Lacks, lacks-append, decimal_lacks_newline}
-use Rattle.sharc_lemmas.proofs.Bools.{if_false as if_no, if_true as if_yes}
+use Rattle.sharc_schedule.proofs.{Imports.{◌≡◌, ℕ, ◌<◌, ◌^◌, ◌==◌, Bool, true, false, List, [], ◌∷◌, ◌++◌, map, decimal, refl, sym, ap, ◌∙◌, subst, arith, append_assoc, ne_eqb, eqb-true, begin_with, lines_in, place_line, places_text, schedule_line, schedule_word, text_line, joined_by, NoneBegins, HoldsNoSchedule, IsPlace, ArePlaces, AreNumbers, WrittenIsRead, if_no, if_yes}, Numbers.{Lacks, lacks-append, decimal_lacks_newline}}
 
 pub one_line : (line rest : List ℕ) → Lacks 10 line → lines_in (line ++ 10 ∷ rest) ≡ line ∷ lines_in rest
 one_line [] rest h = refl

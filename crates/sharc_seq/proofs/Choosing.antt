@@ -1,11 +1,5 @@
 -- Which threads are enabled, and the one that is chosen among them.
-use Rattle.std.proofs.{Common.{◌≡◌, ℕ, zero, suc, ◌+◌, ◌<◌, ◌≤◌, Bool, true, false, not, List, [], ◌∷◌, ◌++◌, length, get_or, filter, refl, sym, ap, ◌∙◌, subst, arith, ⊎_elim}, lemmas.Bool.{cases_lt, and_left as off}, lemmas.List.append-nil, lemmas.List.Elements.filter-append}
-use Rattle.std.specs.{Prelude.{nat_lt, ◌&&◌, if◌then◌else◌}, List.range_with_len}
-use Rattle.sharc_word.specs.declared.step.TheConstants.{THREADS}
-use Rattle.sharc_code.specs.{declared.code.Code.Code, declared.shape.Shape.Shape, Path.may_go, Waits.waits_now}
-use Rattle.sharc_threads.specs.Ends.{Standing, is_enabled}
-use Rattle.sharc_seq.specs.Run.{enabled}
-use Rattle.sharc_lemmas.proofs.Lists.{any_default, fails, passes, up_to}
+use Rattle.sharc_seq.proofs.Imports.{◌≡◌, ℕ, zero, suc, ◌+◌, ◌<◌, ◌≤◌, Bool, true, false, not, List, [], ◌∷◌, ◌++◌, length, get_or, filter, refl, sym, ap, ◌∙◌, subst, arith, ⊎_elim, cases_lt, off, append-nil, filter-append, nat_lt, ◌&&◌, if◌then◌else◌, range_with_len, THREADS, Code, Shape, may_go, waits_now, Standing, is_enabled, enabled, any_default, fails, passes, up_to}
 
 -- ---- the list of those that are
 

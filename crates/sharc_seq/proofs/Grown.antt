@@ -1,13 +1,6 @@
 -- A run grows by the turn that was made.
-use Rattle.std.proofs.{Common.{◌≡◌, ℕ, suc, ◌+◌, ◌-◌, ◌<◌, ◌≤◌, Bool, true, List, [], ◌∷◌, ◌++◌, length, get_or, set, filter, Option, Some, None, refl, sym, ap, ◌∙◌, subst, arith, ⊎_elim}, lemmas.Bool.cases_eq, lemmas.List.{get_or-set_same, get_or-set_other, length-set, length-reverse, reverse-append}, lemmas.List.Sums.sum_by-set}
-use Rattle.std.specs.{Prelude.{nat_lt, ◌||◌, is_some, reverse}, List.range_with_len}
-use Rattle.sharc_word.specs.{Place.{PortState, LeadsInWords, place_of_words}, declared.step.TheConstants.THREADS}
-use Rattle.sharc_code.specs.{declared.code.Code.Code, declared.shape.Shape.Shape, Machine.{Machine, Turn as Act, Local, Asks}, Path.{turn, after, asked_by, TurnLeads, may_go, counted}, Runs.{Turn, turn_with, result_of, step_of, IsOf, put, words_now, state_now, made_now, after_turn, Answered, MayTurn, is_started, threads_of}, Stages.begins_of, StandingLaws.StandingLaws, ThreadLaws.found_now, Whole.{one_thread, bounds, place_after, event_in}}
-use Rattle.sharc_cpu.specs.Thread.{ThreadView}
-use Rattle.sharc_threads.specs.{Ends.{Standing, is_enabled}, Laws.TableLaws, Seats.{Sits, IsSeat, AreSeats, AreOf, may_turn_at, left, left_to}}
-use Rattle.sharc_seq.specs.{declared.walk.Walk.Walk, Run.{enabled, IsChosen}, Walk.{IsThreadAt, MadeTurn, MadeTurnAt, ToldAt, FoundAt, Began, StandsAt, WentOn, numbers_of, has_step, has_event}}
-use Rattle.sharc_seq.proofs.Choosing.{picked, filter_less}
-use Rattle.sharc_lemmas.proofs.{Bools.{both, or_known}, Numbers.{ne_eq, lt_true, eq_refl}, Lists.{any_default, filter_agrees as filter_same}}
+use Rattle.sharc_seq.proofs.{Imports.{◌≡◌, ℕ, suc, ◌+◌, ◌-◌, ◌<◌, ◌≤◌, Bool, true, List, [], ◌∷◌, ◌++◌, length, get_or, set, filter, Option, Some, None, refl, sym, ap, ◌∙◌, subst, arith, ⊎_elim, cases_eq, get_or-set_same, get_or-set_other, length-set, length-reverse, reverse-append, sum_by-set, nat_lt, ◌||◌, is_some, reverse, range_with_len, PortState, LeadsInWords, place_of_words, THREADS, Code, Shape, Machine, Turn as Act, Local, Asks, turn, after, asked_by, TurnLeads, may_go, counted, turn_with, result_of, step_of, IsOf, put, words_now, state_now, made_now, after_turn, Answered, MayTurn, is_started, threads_of, begins_of, StandingLaws, found_now, one_thread, bounds, place_after, event_in, ThreadView, Standing, is_enabled, TableLaws, Sits, IsSeat, AreSeats, AreOf, may_turn_at, left, left_to, Walk, enabled, IsChosen, IsThreadAt, MadeTurn, MadeTurnAt, ToldAt, FoundAt, Began, StandsAt, WentOn, numbers_of, has_step, has_event, both, or_known, ne_eq, lt_true, eq_refl, any_default, filter_same}, Choosing.{picked, filter_less}}
+use Rattle.sharc_code.specs.Runs.{Turn}
 
 -- ---- functions changed at one place
 pub put_same : {A : Type 0} (f : ℕ → A) (i : ℕ) (v : A) → put f i v i ≡ v

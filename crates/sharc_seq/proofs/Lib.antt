@@ -1,3 +1,4 @@
+mod Imports
 pub mod Choosing
 pub mod Grown
 pub mod Made

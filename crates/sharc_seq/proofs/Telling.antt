@@ -1,9 +1,5 @@
 -- One turn over a port that reports whether it made a step, and what that found.
-use Rattle.std.proofs.Common.{◌≡◌, ℕ, suc, Bool, true, false, List, [], ◌∷◌, length, refl, sym, ap, ◌∙◌, subst, arith}
-use Rattle.sharc_word.specs.{declared.step.WordEvent.WordEvent, Place.{PortState, Leads, LeadsInWords, place_of_words}}
-use Rattle.sharc_code.specs.{declared.code.Code.Code, declared.shape.Shape.Shape, Machine.{Machine, Turn, Local, Asks}, Path.{turn, asked_by, counted, events_of_turn, events_of_path}, ThreadLaws.found_now}
-use Rattle.sharc_cpu.specs.Quantum.{GoesWhere}
-use Rattle.sharc_seq.specs.{Told.{as_number, place_told, told_in, found_in, words_in, LeadsTold}, Walk.has_step}
+use Rattle.sharc_seq.proofs.Imports.{◌≡◌, ℕ, suc, Bool, true, false, List, [], ◌∷◌, length, refl, sym, ap, ◌∙◌, subst, arith, WordEvent, PortState, Leads, LeadsInWords, place_of_words, Code, Shape, Machine, Turn, Local, Asks, turn, asked_by, counted, events_of_turn, events_of_path, found_now, GoesWhere, as_number, place_told, told_in, found_in, words_in, LeadsTold, has_step}
 
 leads_words : (events : List WordEvent) (from to : PortState) → Leads LeadsTold from events to → Leads LeadsInWords (place_of_words (words_in from.words)) events (place_of_words (words_in to.words))
 leads_words [] from to h = ap (λ (p : PortState). place_of_words (words_in p.words)) h

@@ -1,9 +1,5 @@
 -- What is suggested in a call, and in a program.
-use Rattle.std.proofs.{Common.{◌≡◌, ℕ, zero, Bool, cond, List, [], ◌++◌, map, Option, None, ap, sym, ◌∙◌}, Math.Path.fun_ext, lemmas.List.Concat.flat_map-append}
-use Rattle.sharc_tree.specs.{declared.token.Span.Span, declared.tree.declaration.Identifier.Identifier, declared.tree.expression.Expr.Expr, Tree.{Expression, call, Item}, View.view_arguments}
-use Rattle.sharc_names.specs.Names.{Entry}
-use Rattle.sharc_mode.specs.{declared.error.Cast.Cast, declared.error.ModeError.ModeError, Errors.is_mismatch, Moded.Assignment}
-use Rattle.sharc_suggest.specs.{Casts.{suggested_for, suggested_in, cast_for}, Firsts.{CastRows, HasFirst, row_for}, Givings.{Giving, givings, all_givings, items_givings}, Repairs.told}
+use Rattle.sharc_suggest.proofs.Imports.{◌≡◌, ℕ, zero, Bool, cond, List, [], ◌++◌, map, Option, None, ap, sym, ◌∙◌, fun_ext, flat_map-append, Span, Identifier, Expr, Expression, call, Item, view_arguments, Entry, Cast, ModeError, is_mismatch, Assignment, suggested_for, suggested_in, cast_for, CastRows, HasFirst, row_for, Giving, givings, all_givings, items_givings, told}
 
 pub suggested_both : (m : Assignment) (named : ℕ → Bool) (a b : List Giving) → suggested_in m named (a ++ b) ≡ suggested_in m named a ++ suggested_in m named b
 suggested_both m named a b = flat_map-append (suggested_for m named) a b

@@ -1,2 +1,2 @@
 -- The first cast at each token, written from the last to the first.
-use Rattle.std.proofs.Common.{◌≡◌, ◌==◌, ◌∷◌, ◌∙◌}
+use Rattle.sharc_suggest.proofs.Imports.{◌≡◌, ◌==◌, ◌∷◌, ◌∙◌}

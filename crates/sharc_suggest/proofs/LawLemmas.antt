@@ -1,7 +1,5 @@
 -- A program has one list of casts, and so an error one answer.
-use Rattle.std.proofs.{Common.{◌≡◌, List, Option, map, ap, sym, ◌∙◌}, Math.Path.fun_ext}
-use Rattle.sharc_mode.specs.{declared.error.Cast.Cast, declared.error.ModeError.ModeError, Moded.Assignment}
-use Rattle.sharc_suggest.specs.{Casts.{AreCasts, IsSuggested, AreSuggested, cast_for, suggested_in}, Givings.items_givings, Laws.SuggestLaws}
+use Rattle.sharc_suggest.proofs.Imports.{◌≡◌, List, Option, map, ap, sym, ◌∙◌, fun_ext, Cast, ModeError, Assignment, AreCasts, IsSuggested, AreSuggested, cast_for, suggested_in, items_givings, SuggestLaws}
 
 one_list : (m : Assignment) (a b : List Cast) → AreCasts m a → AreCasts m b → a ≡ b
 one_list m a b left right = left.are ∙ ap (λ n. suggested_in m n (items_givings m.typed.program.items)) (fun_ext (λ x. left.tells x ∙ sym (right.tells x))) ∙ sym right.are

@@ -1,3 +1,4 @@
+mod Imports
 pub mod CallLemmas
 pub mod FirstLemmas
 pub mod LawLemmas

@@ -1,9 +1,5 @@
 -- Going over a row from its first target down.
-use Rattle.std.proofs.Common.{◌≡◌, ℕ, ◌+◌, ◌<◌, ◌≤◌, Bool, true, false, ◌&&◌, List, ◌∷◌, length, drop, not, Some, ap, sym, ◌∙◌, subst}
-use Rattle.sharc_names.specs.Names.{Entry}
-use Rattle.sharc_ctype.specs.Resolved.{Resolution}
-use Rattle.sharc_mode.specs.{Cells.pointed, Moded.Assignment, RowLaws.RowLaws, Rows.{Targets, deeper, modes_of}, Sharings.{Sharing, same_all}}
-use Rattle.sharc_suggest.specs.Repairs.{keeps, keeps_all, differ_first}
+use Rattle.sharc_suggest.proofs.Imports.{◌≡◌, ℕ, ◌+◌, ◌<◌, ◌≤◌, Bool, true, false, ◌&&◌, List, ◌∷◌, length, drop, not, Some, ap, sym, ◌∙◌, subst, Entry, Resolution, pointed, Assignment, RowLaws, Targets, deeper, modes_of, Sharing, same_all, keeps, keeps_all, differ_first}
 
 pub step_row : (laws : RowLaws) (m : Assignment) (row next : Targets) (s : Sharing) → 0 < row.count → row.first + row.count ≤ length m.modes → s ≡ pointed m (Some row) → next ≡ deeper row → modes_of m row ≡ s ∷ modes_of m next
 step_row laws m row next s some ends s_is next_is =

@@ -1,8 +1,5 @@
 -- What a statement declares lies above the variables that were in scope before it.
-use Rattle.std.proofs.{Common.{◌≡◌, ℕ, ◌-◌, ◌≤◌, List, [], ◌∷◌, ◌++◌, length, drop, refl, ap, sym, ◌∙◌, arith, append_assoc, length-append}, lemmas.Grind.common_steps}
-use Rattle.sharc_tree.specs.{declared.tree.declaration.Declaration.Declaration, Tree.{First, nothing, declares, does, Statement, empty, block, declare, simple, jump, return, if_then, if_then_else, while, for, Statements, no_statements, statement}}
-use Rattle.sharc_names.specs.Names.{Entry}
-use Rattle.sharc_suggest.specs.{Givings.{behind_first, after, after_all}, Repairs.entry_of}
+use Rattle.sharc_suggest.proofs.Imports.{◌≡◌, ℕ, ◌-◌, ◌≤◌, List, [], ◌∷◌, ◌++◌, length, drop, refl, ap, sym, ◌∙◌, arith, append_assoc, length-append, common_steps, Declaration, First, nothing, declares, does, Statement, empty, block, declare, simple, jump, return, if_then, if_then_else, while, for, Statements, no_statements, statement, Entry, behind_first, after, after_all, entry_of}
 
 record Grows (new old : List Entry) : Type 0 where
   above : List Entry

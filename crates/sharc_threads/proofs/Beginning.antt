@@ -1,11 +1,5 @@
 -- Threads that begin.
-use Rattle.std.proofs.{Common.{◌≡◌, ℕ, suc, ◌+◌, ◌-◌, ◌<◌, ◌≤◌, Bool, true, false, List, [], ◌∷◌, length, get_or, set, Option, Some, None, refl, sym, ap, ◌∙◌, subst, arith, below_more}, lemmas.List.{get_or-set_same, get_or-set_other}, lemmas.Bool.{or_right, or_left, or_from as or_none}}
-use Rattle.std.specs.{Prelude.{nat_eq, nat_lt, ◌&&◌, ◌||◌, slice_index}, List.fold}
-use Rattle.sharc_word.specs.declared.step.TheConstants.{THREADS}
-use Rattle.sharc_code.specs.{declared.code.Code.Code, declared.shape.Shape.Shape, Layout.state_word, Machine.Machine, Path.begun, Runs.is_started, Whole.bounds}
-use Rattle.sharc_cpu.specs.Thread.{ThreadView}
-use Rattle.sharc_threads.specs.Seats.{IsSeat, AreSeats, HasBegun, left, left_to}
-use Rattle.sharc_lemmas.proofs.{Bools.{and_left, either as or_cases}, Numbers.lt_true}
+use Rattle.sharc_threads.proofs.Imports.{◌≡◌, ℕ, suc, ◌+◌, ◌-◌, ◌<◌, ◌≤◌, Bool, true, false, List, [], ◌∷◌, length, get_or, set, Option, Some, None, refl, sym, ap, ◌∙◌, subst, arith, below_more, get_or-set_same, get_or-set_other, or_right, or_left, or_none, nat_eq, nat_lt, ◌&&◌, ◌||◌, slice_index, fold, THREADS, Code, Shape, state_word, Machine, begun, is_started, bounds, ThreadView, IsSeat, AreSeats, HasBegun, left, left_to, and_left, or_cases, lt_true}
 
 started_low : (words : List ℕ) (t : ℕ) → is_started bounds words t ≡ true → t < THREADS
 started_low words t e = lt_true t THREADS (and_left (nat_lt t THREADS) (nat_eq (slice_index words (state_word t)) 1) e)

@@ -1,3 +1,4 @@
+mod Imports
 pub mod Beginning
 pub mod Listing
 pub mod Sitting

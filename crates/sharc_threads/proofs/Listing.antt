@@ -1,10 +1,5 @@
 -- The threads of a table, as a list.
-use Rattle.std.proofs.{Common.{◌≡◌, ℕ, suc, ◌+◌, ◌<◌, Bool, true, false, List, [], ◌∷◌, ◌++◌, length, map, filter, get_or, Option, Some, None, refl, sym, ap, ◌∙◌, subst, arith}, lemmas.List.Elements.{All-nil, All-cons}}
-use Rattle.std.specs.{Prelude.{if◌then◌else◌}, List.{range_with_len, All}}
-use Rattle.sharc_word.specs.declared.step.TheConstants.{THREADS}
-use Rattle.sharc_code.specs.{declared.code.Code.Code, declared.shape.Shape.Shape}
-use Rattle.sharc_cpu.specs.Thread.{ThreadView}
-use Rattle.sharc_threads.specs.{Ends.{Standing, IsAt, AreStarted}, Seats.{IsSeat, AreOf, present}}
+use Rattle.sharc_threads.proofs.Imports.{◌≡◌, ℕ, suc, ◌+◌, ◌<◌, Bool, true, false, List, [], ◌∷◌, ◌++◌, length, map, filter, get_or, Option, Some, None, refl, sym, ap, ◌∙◌, subst, arith, All-nil, All-cons, if◌then◌else◌, range_with_len, All, THREADS, Code, Shape, ThreadView, Standing, IsAt, AreStarted, IsSeat, AreOf, present}
 
 pub present_append : (seats more : List (Option ThreadView)) → present (seats ++ more) ≡ present seats ++ present more
 present_append [] more = refl

@@ -1,10 +1,5 @@
 -- What the places of a table say of where the run is.
-use Rattle.std.proofs.{Common.{◌≡◌, ℕ, ◌<◌, ◌≤◌, Bool, true, false, not, List, length, get_or, Option, Some, None, sym, ap, ◌∙◌, subst, arith, ⊎_elim}, lemmas.Bool.{cases_lt, false_from_ne_true as true_or_false}, lemmas.List.get_or_past}
-use Rattle.std.specs.Prelude.{nat_lt, ◌&&◌, is_some}
-use Rattle.sharc_word.specs.declared.step.TheConstants.{THREADS}
-use Rattle.sharc_code.specs.{declared.code.Code.Code, declared.shape.Shape.Shape, Machine.Machine, Path.may_go, Waits.{held_up, wait_of, waits_now}, Whole.{IsOn, IsStuck}}
-use Rattle.sharc_cpu.specs.Thread.{ThreadView}
-use Rattle.sharc_threads.specs.{Ends.{Standing, is_enabled, AllAreDone}, Seats.{Sits, IsSeat, AreSeats, AreOf, is_on_at, waits_at, may_turn_at, has_number, waits}}
+use Rattle.sharc_threads.proofs.Imports.{◌≡◌, ℕ, ◌<◌, ◌≤◌, Bool, true, false, not, List, length, get_or, Option, Some, None, sym, ap, ◌∙◌, subst, arith, ⊎_elim, cases_lt, true_or_false, get_or_past, nat_lt, ◌&&◌, is_some, THREADS, Code, Shape, Machine, may_go, held_up, wait_of, waits_now, IsOn, IsStuck, ThreadView, Standing, is_enabled, AllAreDone, Sits, IsSeat, AreSeats, AreOf, is_on_at, waits_at, may_turn_at, has_number, waits}
 
 -- a number that is none has no thread
 pub past : (seats : List (Option ThreadView)) (t : ℕ) → length seats ≤ t → get_or seats t None ≡ None

@@ -1,3 +1,4 @@
+mod Imports
 pub mod Building
 pub mod Judging
 pub mod Lines

@@ -1,8 +1,5 @@
 -- What a sink holds after some lines of a text.
-use lib.Seq.{take-add}
-use Rattle.std.proofs.{Common.{ℕ, ◌≡◌, ◌≤◌, ◌<◌, ◌+◌, ◌-◌, List, length, take, drop, Option, subst, arith, length-take}, lemmas.List.take-take}
-use Rattle.std.specs.Io.KnownBytes.{Appends}
-use Rattle.sharc_lemmas.proofs.Lists.{appends_front_more}
+use Rattle.sharc_top.proofs.Imports.{take-add, ℕ, ◌≡◌, ◌≤◌, ◌<◌, ◌+◌, ◌-◌, List, length, take, drop, Option, subst, arith, length-take, take-take, Appends, appends_front_more}
 
 -- one more line of a text, after those before it
 pub appends_line : (a b c : Option (List ℕ)) (text : List ℕ) (from end : ℕ) → from ≤ end

@@ -1,17 +1,6 @@
 -- What a reply is a reply to.
-use Rattle.std.proofs.{Common.{◌≡◌, ℕ, ◌+◌, ◌<◌, ◌≤◌, List, [], length, Option, Some, None, IfSome, unwrap_or, refl, arith, replicate, codes, inl, inr}, lemmas.List.length-replicate}
-use Rattle.sharc_mode.specs.Moded.{Assignment}
-use Rattle.sharc_cli.specs.Commands.{commands}
-use Rattle.sharc_top.specs.{declared.status.Status.Status, declared.task.SourceTask.SourceTask, Text.line, declared.ran.RunNumbers.RunNumbers, Answers.{Answers, faulty, program}, Loading.{LoadReplies, long, loaded}, Recording.{GivesRun, not_made, made, GivesSource, at_fault, by_program, RecordReplies, long_input, IsRecordReply, ReplayReplies, long_recording, no_recording, long_source_in, IsReplayReply}, Recording.RecordReplies.{recorded as of_record}, Recording.ReplayReplies.{replayed as of_replay}, Running.{Runs, not_run, ran, status_of as run_status_of}, Verdict.{Checks, accepted, refused, Explains, explained, Does}, EventFiles.{status_of, Judges, not_judged, judged, JudgesSource, faulty_source, of_program, FileReplies, long_file, no_file, many_events, long_source, source_judged, IsFileReply}, Reply.{task_in, ReadsSource, usage_text, Replies, IsReply, usage, too_long, answered, recorded, replayed, audited}, Reply.Replies.{loaded as of_load}, Status.{code_of, IsOfReply}}
-use Rattle.sharc_top.specs.declared.status.Status.TheVariants as status
-use Rattle.sharc_top.specs.declared.task.SourceTask.TheVariants as task
-use Rattle.sharc_run.specs.{declared.outcome.Outcome.Outcome, declared.run.Ran.Ran}
-use Rattle.sharc_run.specs.declared.outcome.Outcome.TheVariants as outcome
-use Rattle.sharc_code.specs.declared.code.Code.{Code}
-use Rattle.sharc_audit.specs.{declared.audit.Verdict.Verdict, declared.line.EventLine.EventLine}
-use Rattle.sharc_audit.specs.declared.audit.Verdict.TheVariants as verdict
-use Rattle.sharc_cli.specs.declared.command.Command.TheVariants as command
-use Rattle.sharc_lemmas.proofs.Lists.{told_left}
+use Rattle.sharc_top.proofs.Imports.{◌≡◌, ℕ, ◌+◌, ◌<◌, ◌≤◌, List, [], length, Option, Some, None, IfSome, unwrap_or, refl, arith, replicate, codes, inl, inr, length-replicate, Assignment, commands, Status, SourceTask, line, RunNumbers, Answers, faulty, program, LoadReplies, long, loaded, GivesRun, not_made, made, GivesSource, at_fault, by_program, RecordReplies, long_input, IsRecordReply, ReplayReplies, long_recording, no_recording, long_source_in, IsReplayReply, of_record, of_replay, Runs, not_run, ran, run_status_of, Checks, accepted, refused, Explains, explained, Does, status_of, Judges, not_judged, judged, JudgesSource, faulty_source, of_program, FileReplies, long_file, no_file, many_events, long_source, source_judged, IsFileReply, task_in, ReadsSource, usage_text, Replies, IsReply, usage, too_long, answered, audited, of_load, code_of, IsOfReply, Outcome, Ran, Code, Verdict, EventLine, Command, told_left}
+use Rattle.sharc_top.specs.Reply.{recorded, replayed}
 
 -- an input that is longer than a number, and what a source had left where it reports it
 pub record LongInput (left : Option (List ℕ)) (limit : ℕ) : Type 0 where
@@ -24,16 +13,16 @@ input_over None limit h = record { input = replicate (limit + 1) 0; told = tt; l
 input_over (Some bytes) limit h = record { input = bytes; told = refl; long = h }
 
 pub reply_usage : (words : List (List ℕ)) (left : Option (List ℕ)) (s : Status) (text : List ℕ) → commands words ≡ None
-    → s ≡ status.Usage → text ≡ line usage_text → IsReply words left s text
+    → s ≡ Status.Usage → text ≡ line usage_text → IsReply words left s text
 reply_usage words left s text none e t =
     record { input = unwrap_or left []; told = told_left left; reply = rw (e, t) (usage none) }
 
-pub reply_loaded : (words : List (List ℕ)) (left : Option (List ℕ)) (number workers : ℕ) (s : Status) (text : List ℕ) → commands words ≡ Some (command.Load number workers)
+pub reply_loaded : (words : List (List ℕ)) (left : Option (List ℕ)) (number workers : ℕ) (s : Status) (text : List ℕ) → commands words ≡ Some (Command.Load number workers)
     → LoadReplies number workers s text → IsReply words left s text
 reply_loaded words left number workers s text is reply = record { input = unwrap_or left []; told = told_left left; reply = of_load number workers s text is reply }
 
 pub reply_too_long : (words : List (List ℕ)) (left : Option (List ℕ)) (s : Status) (text : List ℕ) → ReadsSource words
-    → IfSome left (λ bytes. 1048576 < length bytes) → s ≡ status.SourceRefused → text ≡ line (codes "source over 1048576 bytes") → IsReply words left s text
+    → IfSome left (λ bytes. 1048576 < length bytes) → s ≡ Status.SourceRefused → text ≡ line (codes "source over 1048576 bytes") → IsReply words left s text
 reply_too_long words left s text h over e t =
     let l = input_over left 1048576 over in
     record { input = l.input; told = l.told; reply = rw (e, t) (too_long h l.long) }
@@ -42,14 +31,14 @@ pub reply_answered : (words : List (List ℕ)) (left : Option (List ℕ)) (t : S
     → IfSome left (λ bytes. source ≡ bytes) → length source ≤ 1048576 → Answers t source s text → IsReply words left s text
 reply_answered words left t source s text h told short a = record { input = source; told = told; reply = answered t s text h short a }
 
-pub reply_audited : (words : List (List ℕ)) (left : Option (List ℕ)) (s : Status) (text : List ℕ) → commands words ≡ Some command.Audit → IsFileReply left s text → IsReply words left s text
+pub reply_audited : (words : List (List ℕ)) (left : Option (List ℕ)) (s : Status) (text : List ℕ) → commands words ≡ Some Command.Audit → IsFileReply left s text → IsReply words left s text
 reply_audited words left s text is r = record { input = r.input; told = r.told; reply = audited s text is r.reply }
 
-pub reply_recorded : (words : List (List ℕ)) (left : Option (List ℕ)) (workers heap limit : ℕ) (s : Status) (text : List ℕ) → commands words ≡ Some (command.Record workers heap limit) → IsRecordReply heap limit left s text
+pub reply_recorded : (words : List (List ℕ)) (left : Option (List ℕ)) (workers heap limit : ℕ) (s : Status) (text : List ℕ) → commands words ≡ Some (Command.Record workers heap limit) → IsRecordReply heap limit left s text
     → IsReply words left s text
 reply_recorded words left workers heap limit s text is r = record { input = r.input; told = r.told; reply = recorded workers heap limit s text is r.reply }
 
-pub reply_replayed : (words : List (List ℕ)) (left : Option (List ℕ)) (s : Status) (text : List ℕ) → commands words ≡ Some command.Replay → IsReplayReply left s text → IsReply words left s text
+pub reply_replayed : (words : List (List ℕ)) (left : Option (List ℕ)) (s : Status) (text : List ℕ) → commands words ≡ Some Command.Replay → IsReplayReply left s text → IsReply words left s text
 reply_replayed words left s text is r = record { input = r.input; told = r.told; reply = replayed s text is r.reply }
 
 -- ---- a reply has none of the statuses of failures
@@ -66,20 +55,20 @@ explains_status : (m : Assignment) (s : Status) (text : List ℕ) → Explains m
 explains_status m s text (explained x verdict is) = checks_status m x verdict is
 
 outcome_status : (o : Outcome) → IsOfReply (code_of (run_status_of o))
-outcome_status outcome.Done = low 0 (omega arith)
-outcome_status outcome.Reported = low 3 (omega arith)
-outcome_status outcome.Stopped = low 4 (omega arith)
-outcome_status outcome.Stuck = low 5 (omega arith)
-outcome_status outcome.Limit = low 6 (omega arith)
+outcome_status Outcome.Done = low 0 (omega arith)
+outcome_status Outcome.Reported = low 3 (omega arith)
+outcome_status Outcome.Stopped = low 4 (omega arith)
+outcome_status Outcome.Stuck = low 5 (omega arith)
+outcome_status Outcome.Limit = low 6 (omega arith)
 
 runs_status : (n : RunNumbers) (m : Assignment) (s : Status) (text : List ℕ) → Runs n m s text → IsOfReply (code_of s)
 runs_status n m s text (not_run t is) = low 1 (omega arith)
 runs_status n m s text (ran code run meets compiled fit is) = outcome_status run.outcome
 
 does_status : (t : SourceTask) (m : Assignment) (s : Status) (text : List ℕ) → Does t m s text → IsOfReply (code_of s)
-does_status task.Check m s text d = checks_status m s text d
-does_status task.Explain m s text d = explains_status m s text d
-does_status (task.Run n) m s text d = runs_status n m s text d
+does_status SourceTask.Check m s text d = checks_status m s text d
+does_status SourceTask.Explain m s text d = explains_status m s text d
+does_status (SourceTask.Run n) m s text d = runs_status n m s text d
 
 answers_status : (t : SourceTask) (source : List ℕ) (s : Status) (text : List ℕ) → Answers t source s text → IsOfReply (code_of s)
 answers_status t source s text (faulty fault is) = low 2 (omega arith)
@@ -90,9 +79,9 @@ load_status number workers s text (long h) = low 2 (omega arith)
 load_status number workers s text (loaded x y short is) = answers_status _ _ x y is
 
 verdict_status : (v : Verdict) → IsOfReply (code_of (status_of v))
-verdict_status (verdict.Obeys n) = low 0 (omega arith)
-verdict_status (verdict.Fails n why) = inr (inl refl)
-verdict_status (verdict.Fuel n) = inr (inr refl)
+verdict_status (Verdict.Obeys n) = low 0 (omega arith)
+verdict_status (Verdict.Fails n why) = inr (inl refl)
+verdict_status (Verdict.Fuel n) = inr (inr refl)
 
 judges_status : (m : Assignment) (fuel : ℕ) (events : List EventLine) (s : Status) (text : List ℕ) → Judges m fuel events s text → IsOfReply (code_of s)
 judges_status m fuel events s text (not_judged t is) = low 1 (omega arith)

@@ -1,5 +1,4 @@
-use Rattle.std.proofs.Common.{◌-◌, ◌/◌, sym, subst, FitsSigned, w64, arith}
-use Rattle.sharc_ask.proofs.Doubling.{in_halves, past_half}
+use Rattle.sharc_ask.proofs.{Imports.{◌-◌, ◌/◌, sym, subst, FitsSigned, w64, arith}, Doubling.{in_halves, past_half}}
 use Rattle.sharc_ask.proofs.arithmetic.doubled.Goals as goal
 
 pub returns-in-Some : goal.returns-in-Some

@@ -1,4 +1,5 @@
-use Rattle.std.proofs.{Common.{◌≡◌, ℕ, pos, ◌*◌, ◌%◌, ◌^◌, ◌<◌, ap, ◌∙◌, to_z, w64, FitsSigned, arith}, Math.Nat.mod-eq_of_lt, Math.Pow.pow-lt, lemmas.Int.to_z-of_z}
+use Rattle.sharc_ask.proofs.Imports.{◌≡◌, ℕ, pos, ◌*◌, ◌%◌, ◌^◌, ◌<◌, ap, ◌∙◌, to_z, w64, FitsSigned, arith, mod-eq_of_lt, pow-lt}
+use Rattle.std.proofs.lemmas.Int.{to_z-of_z}
 use Rattle.sharc_ask.proofs.arithmetic.power.Goals as goal
 
 pub returns : goal.returns

@@ -1,10 +1,4 @@
-use Rattle.std.proofs.Common.{◌≡◌, length, arith, sym, ap, ◌∙◌, subst}
-use Rattle.std.specs.Prelude.{List, [], ℤ}
-use Rattle.sharc_tree.specs.{declared.tree.declaration.Declaration.Declaration, View.view_arguments}
-use Rattle.sharc_ctype.specs.Transfers.{parameters_named}
-use Rattle.sharc_names.specs.Kinds.{declared_kinds}
-use Rattle.sharc_meaning.specs.{Meaning.calls, State.then_on}
-use Rattle.sharc_ask.specs.{StepView.{Known, view_state}, Stack.{all_behind, stack_of, awaits, Moves, Reached}}
+use Rattle.sharc_ask.proofs.Imports.{◌≡◌, length, arith, sym, ap, ◌∙◌, subst, List, [], ℤ, Declaration, view_arguments, parameters_named, declared_kinds, calls, then_on, Known, view_state, all_behind, stack_of, awaits, Moves, Reached}
 use Rattle.sharc_ask.proofs.calls.begin_call.Goals as goal
 
 pub returns-clause-moves : goal.returns-clause-moves

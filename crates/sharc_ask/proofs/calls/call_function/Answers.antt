@@ -1,10 +1,4 @@
-use Rattle.std.proofs.Common.{◌≡◌, None, Some, sym, ap, ◌∙◌, subst}
-use Rattle.std.specs.{Option.option_map, Prelude.ℤ}
-use Rattle.sharc_tree.specs.View.{view_function}
-use Rattle.sharc_ctype.specs.Resolved.{function_at}
-use Rattle.sharc_meaning.specs.{Meaning.calls, State.Run}
-use Rattle.sharc_ask.specs.{StepView.view_state, Values.{number, gives}, Plans.ends_above, Stack.{stack_of, Moves}}
-use Rattle.sharc_ask.proofs.Calling.{call_moves, call_none_is, call_stops_moves}
+use Rattle.sharc_ask.proofs.{Imports.{◌≡◌, None, Some, sym, ap, ◌∙◌, subst, option_map, ℤ, view_function, function_at, calls, Run, view_state, number, gives, ends_above, stack_of, Moves}, Calling.{call_moves, call_none_is, call_stops_moves}}
 use Rattle.sharc_ask.proofs.calls.call_function.Goals as goal
 
 pub returns-then-frames-eq0-clause-moves : goal.returns-then-frames-eq0-clause-moves

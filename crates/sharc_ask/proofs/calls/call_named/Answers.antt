@@ -1,9 +1,4 @@
-use Rattle.std.proofs.Common.{◌≡◌, Ok, Err, sym, ap, ◌∙◌, subst, rules}
-use Rattle.std.specs.Prelude.{ℤ, pos}
-use Rattle.sharc_names.specs.declared.fault.Named.{Named}
-use Rattle.sharc_meaning.specs.{Expressions.called, Meaning.calls, State.Run, Waiting.condition_call}
-use Rattle.sharc_ask.specs.{StepView.view_state, Values.{number, gives}, Plans.{ends_above, zero_behind}, Stack.{stack_of, Moves}}
-use Rattle.sharc_ask.proofs.Stacking.{plan_moves, plan_ends}
+use Rattle.sharc_ask.proofs.{Imports.{◌≡◌, Ok, Err, sym, ap, ◌∙◌, subst, rules, ℤ, pos, Named, called, calls, Run, condition_call, view_state, number, gives, ends_above, zero_behind, stack_of, Moves}, Stacking.{plan_moves, plan_ends}}
 use Rattle.sharc_ask.proofs.calls.call_named.Goals as goal
 
 pub returns-in-Function-clause-moves : goal.returns-in-Function-clause-moves

@@ -1,13 +1,4 @@
-use Rattle.std.proofs.Common.{◌≡◌, Ok, Err, Some, sym, ap, ◌∙◌, subst, rules}
-use Rattle.std.specs.Prelude.{count_by}
-use Rattle.sharc_tree.specs.{declared.tree.declaration.Declaration.Declaration, View.{view_function, view_statements}}
-use Rattle.sharc_names.specs.Kinds.{declared_kind, is_pointer}
-use Rattle.sharc_meaning.specs.{Meaning.{calls, run_function, parameters_begin, pointers_passed}, State.{then_on, give}, Statements.exec_all}
-use Rattle.sharc_ask.specs.{StepView.{view_state, Does}, declared.stack.Caller.Caller, View.WasKept, Values.{flow, gives, as_left}, Stack.{stack_of, Moves}}
-use Rattle.sharc_ask.specs.declared.plan.Plan.TheVariants as plans
-use Rattle.sharc_ask.specs.declared.plan.Rest.TheVariants as rests
-use Rattle.sharc_ask.specs.declared.plan.Task.TheVariants as tasks
-use Rattle.sharc_ask.proofs.Calling.{enters_function, begin_ends, enter_ends}
+use Rattle.sharc_ask.proofs.{Imports.{◌≡◌, Ok, Err, Some, sym, ap, ◌∙◌, subst, rules, count_by, Declaration, view_function, view_statements, declared_kind, is_pointer, calls, run_function, parameters_begin, pointers_passed, then_on, give, exec_all, view_state, Does, Caller, WasKept, flow, gives, as_left, stack_of, Moves, Plan, Rest, Task}, Calling.{enters_function, begin_ends, enter_ends}}
 use Rattle.sharc_ask.proofs.calls.enter_function.Goals as goal
 
 pub returns-in_ok-enter-in-Some-clause-moves : goal.returns-in_ok-enter-in-Some-clause-moves
@@ -22,7 +13,7 @@ returns-in_ok-enter-in-Some-clause-moves c = λ m.
     let moved : c.pointers_passed.result ≡ pointers_passed f = c.pointers_passed.ensures.count ∙ ap (λ z. count_by (λ (d : Declaration). is_pointer (declared_kind d.written)) z) c.as_slice.ensures in
     let here : WasKept (pointers_passed f) k mid (Some (kept.frame.variables.items, kept.frame.temporaries.items, kept.below.items)) = subst (λ z. WasKept z k mid (Some (kept.frame.variables.items, kept.frame.temporaries.items, kept.below.items))) moved c.in-Some.ensures.kept in
     let began : Does {A = Unit {0}} mid (Ok c.in_ok-begin_parameters-in-Some.field-0) k1 (parameters_begin f.parameters c.args.values.now) = subst (λ z. Does {A = Unit {0}} mid (Ok c.in_ok-begin_parameters-in-Some.field-0) k1 (parameters_begin z c.args.values.now)) c.as_slice-in-Some.ensures c.in_ok-begin_parameters-in-Some.ensures.does in
-    enters_function m n caller c.args.values.now k mid k1 (view_state c.enter.new.st) (stack_of c.args.stack.now) (stack_of c.push.new.stack) (plans.Goes (tasks.All c.declared_kind-kind.result c.as_slice-in-Some-2.result) rests.Same) c.in_ok-begin_parameters-in-Some.field-0 c.in_ok-enter-in-Some.field-0 c.in_ok-push-in-Some.ensures.pushed here began c.in_ok-enter-in-Some.ensures.does
+    enters_function m n caller c.args.values.now k mid k1 (view_state c.enter.new.st) (stack_of c.args.stack.now) (stack_of c.push.new.stack) (Plan.Goes (Task.All c.declared_kind-kind.result c.as_slice-in-Some-2.result) Rest.Same) c.in_ok-begin_parameters-in-Some.field-0 c.in_ok-enter-in-Some.field-0 c.in_ok-push-in-Some.ensures.pushed here began c.in_ok-enter-in-Some.ensures.does
     (λ s. ap (λ z. then_on (gives flow (exec_all (calls m n) m z (view_statements c.as_slice-in-Some-2.result.now)) s) (λ x. give x)) c.declared_kind-kind.ensures ∙ ap (λ z. then_on (gives flow (exec_all (calls m n) m (declared_kind f.result) (view_statements z)) s) (λ x. give x)) c.as_slice-in-Some-2.ensures.value)
 
 pub returns-in_err-begin_parameters-in-Some-clause-moves : goal.returns-in_err-begin_parameters-in-Some-clause-moves

@@ -1,8 +1,4 @@
-use Rattle.std.proofs.Common.{◌≡◌, Ok, Err, refl, sym, subst, rules}
-use Rattle.std.specs.Prelude.{ℤ, pos}
-use Rattle.sharc_meaning.specs.{Meaning.calls, State.{Run, give}}
-use Rattle.sharc_ask.specs.{StepView.{view_state, Does}, Values.{number, gives}, Plans.ends_above, Stack.Moves}
-use Rattle.sharc_ask.proofs.Stacking.{plan_moves, plan_ends}
+use Rattle.sharc_ask.proofs.{Imports.{◌≡◌, Ok, Err, refl, sym, subst, rules, ℤ, pos, calls, Run, give, view_state, Does, number, gives, ends_above, Moves}, Stacking.{plan_moves, plan_ends}}
 use Rattle.sharc_ask.proofs.calls.no_call.Goals as goal
 
 pub returns-clause-moves : goal.returns-clause-moves

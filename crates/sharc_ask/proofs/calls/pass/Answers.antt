@@ -1,10 +1,4 @@
-use Rattle.std.proofs.Common.{◌≡◌, ◌<◌, ◌+◌, arith, ◌-◌, List, [], ◌∷◌, length, take, Ok, Err, refl, sym, ap, ◌∙◌, subst, rules}
-use Rattle.std.specs.Prelude.{ℤ, drop}
-use Rattle.sharc_tree.specs.{declared.tree.expression.Expr.Expr, View.{view_expr, view_arguments}}
-use Rattle.sharc_names.specs.Kinds.{declared_kinds}
-use Rattle.sharc_meaning.specs.{Expressions.called, Meaning.calls}
-use Rattle.sharc_ask.specs.{StepView.view_state, Values.{number, gives}, Plans.ends_above, Stack.{stack_of, awaits, Moves}}
-use Rattle.sharc_ask.proofs.{Calling.{empty_is, none_await, more_moves, more_ends}, Flowing.first_and_rest}
+use Rattle.sharc_ask.proofs.{Imports.{◌≡◌, ◌<◌, ◌+◌, arith, ◌-◌, List, [], ◌∷◌, length, take, Ok, Err, refl, sym, ap, ◌∙◌, subst, rules, ℤ, drop, Expr, view_expr, view_arguments, declared_kinds, called, calls, view_state, number, gives, ends_above, stack_of, awaits, Moves}, Calling.{empty_is, none_await, more_moves, more_ends}, Flowing.first_and_rest}
 use Rattle.sharc_ask.proofs.calls.pass.Goals as goal
 
 pub returns-clause-moves : goal.returns-clause-moves

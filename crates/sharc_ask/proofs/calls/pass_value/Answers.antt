@@ -1,9 +1,4 @@
-use Rattle.std.proofs.Common.{◌≡◌, ◌++◌, ◌∷◌, [], ap, ◌∙◌, subst, to_z, of_z, w64, rules}
-use Rattle.std.specs.Prelude.{ℤ, List}
-use Rattle.sharc_tree.specs.View.{view_arguments}
-use Rattle.sharc_names.specs.Kinds.{declared_kinds}
-use Rattle.sharc_meaning.specs.Meaning.{calls}
-use Rattle.sharc_ask.specs.{StepView.view_state, Stack.{stack_of, awaits, Moves}}
+use Rattle.sharc_ask.proofs.Imports.{◌≡◌, ◌++◌, ◌∷◌, [], ap, ◌∙◌, subst, to_z, of_z, w64, rules, ℤ, List, view_arguments, declared_kinds, calls, view_state, stack_of, awaits, Moves}
 use Rattle.sharc_ask.proofs.calls.pass_value.Goals as goal
 
 pub returns-clause-moves : goal.returns-clause-moves

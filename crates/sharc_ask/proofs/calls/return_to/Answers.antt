@@ -1,9 +1,4 @@
-use Rattle.std.proofs.Common.{◌≡◌, sym, ap, ◌∙◌, refl, to_z, of_z, w64, rules}
-use Rattle.std.specs.Prelude.{ℤ}
-use Rattle.sharc_tree.specs.View.{view_function}
-use Rattle.sharc_meaning.specs.{Statements.returned, State.go}
-use Rattle.sharc_ask.specs.{StepView.{Known, view_state}, View.view_flow, Values.flow}
-use Rattle.sharc_ask.proofs.Calling.{comes_back_moves}
+use Rattle.sharc_ask.proofs.{Imports.{◌≡◌, sym, ap, ◌∙◌, refl, to_z, of_z, w64, rules, ℤ, view_function, returned, go, Known, view_state, view_flow, flow}, Calling.comes_back_moves}
 use Rattle.sharc_ask.proofs.calls.return_to.Goals as goal
 
 pub returns-clause-moves : goal.returns-clause-moves

@@ -1,4 +1,4 @@
-use Rattle.std.proofs.Common.{length}
+use Rattle.sharc_ask.proofs.Imports.{length}
 use Rattle.sharc_ask.proofs.cells.+fields_before.Given as goal
 
 abbrev pub decreases-fields_before : goal.decreases-fields_before

@@ -1,4 +1,4 @@
-use Rattle.std.proofs.Common.{length}
+use Rattle.sharc_ask.proofs.Imports.{length}
 use Rattle.sharc_ask.proofs.cells.+fields_before_name.Given as goal
 
 abbrev pub decreases-fields_before_name : goal.decreases-fields_before_name

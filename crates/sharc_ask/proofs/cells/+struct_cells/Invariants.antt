@@ -1,4 +1,4 @@
-use Rattle.std.proofs.Common.{length}
+use Rattle.sharc_ask.proofs.Imports.{length}
 use Rattle.sharc_ask.proofs.cells.+struct_cells.Given as goal
 
 abbrev pub decreases-struct_cells : goal.decreases-struct_cells

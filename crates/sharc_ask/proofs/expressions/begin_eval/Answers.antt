@@ -1,7 +1,4 @@
-use Rattle.sharc_tree.specs.View.{view_expr}
-use Rattle.sharc_ask.specs.{StepView.view_state, Values.{gives, number}}
-use Rattle.sharc_meaning.specs.Expressions.{eval}
-use Rattle.sharc_ask.proofs.Outs.{entered_plans}
+use Rattle.sharc_ask.proofs.{Imports.{view_expr, view_state, gives, number, eval}, Outs.entered_plans}
 use Rattle.sharc_ask.proofs.expressions.begin_eval.Goals as goal
 
 pub returns-clause-means : goal.returns-clause-means

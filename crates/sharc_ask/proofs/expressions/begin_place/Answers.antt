@@ -1,8 +1,4 @@
-use Rattle.std.proofs.Common.{Ok}
-use Rattle.sharc_tree.specs.View.{view_expr}
-use Rattle.sharc_ask.specs.{StepView.view_state, Values.{gives, place}, Plans.inside}
-use Rattle.sharc_meaning.specs.Expressions.{place_of}
-use Rattle.sharc_ask.proofs.Outs.{entered_plans, lead_plans}
+use Rattle.sharc_ask.proofs.{Imports.{Ok, view_expr, view_state, gives, place, inside, place_of}, Outs.{entered_plans, lead_plans}}
 use Rattle.sharc_ask.proofs.expressions.begin_place.Goals as goal
 
 pub returns-clause-means : goal.returns-clause-means

@@ -1,10 +1,4 @@
-use Rattle.sharc_tree.specs.{View.view_expr, Tree.Expression}
-use Rattle.std.proofs.Common.{◌≡◌, length, arith, ap, sym, ◌∙◌}
-use Rattle.sharc_ask.specs.{StepView.Known, Width.value_bits, View.{logic_of, joined}, Values.{gives, number}}
-use Rattle.std.specs.Prelude.{ℕ, Bool, Option, Some, None, true, false}
-use Rattle.sharc_ctype.specs.Resolved.{kind_at}
-use Rattle.sharc_meaning.specs.{Arithmetic.bits_of, Expressions.eval}
-use Rattle.sharc_ask.proofs.Expressing.{binary_is_by, joined_begins, and_begins, or_begins}
+use Rattle.sharc_ask.proofs.{Imports.{view_expr, Expression, ◌≡◌, length, arith, ap, sym, ◌∙◌, Known, value_bits, logic_of, joined, gives, number, ℕ, Bool, Option, Some, None, true, false, kind_at, bits_of, eval}, Expressing.{binary_is_by, joined_begins, and_begins, or_begins}}
 use Rattle.sharc_ask.proofs.expressions.binary_plan.Goals as goal
 
 abbrev some : Bool → Option Bool

@@ -1,6 +1,4 @@
-use Rattle.sharc_tree.specs.View.{view_expr, view_arguments}
-use Rattle.std.proofs.Common.{refl}
-use Rattle.sharc_ask.proofs.Expressing.{call_is}
+use Rattle.sharc_ask.proofs.{Imports.{view_expr, view_arguments, refl}, Expressing.call_is}
 use Rattle.sharc_ask.proofs.expressions.call_plan.Goals as goal
 
 pub returns-clause-means : goal.returns-clause-means

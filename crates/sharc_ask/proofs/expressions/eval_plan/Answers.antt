@@ -1,11 +1,4 @@
-use Rattle.sharc_tree.specs.{View.{view_expr, view_arguments}, declared.tree.expression.Expr.Expr, Children.view_call, Tree.{call, index, field}}
-use Rattle.std.proofs.Common.{◌≡◌, length, arith, refl, ap, sym, ◌∙◌}
-use Rattle.sharc_ask.specs.{StepView.{Known, view_state}, Values.{gives, number}, Plans.inside}
-use Rattle.sharc_names.specs.declared.fault.Named.{Named}
-use Rattle.sharc_ctype.specs.Resolved.{named_at}
-use Rattle.sharc_mode.specs.Cells.{cell_at}
-use Rattle.sharc_meaning.specs.{Expressions.{eval, place_of, named_value, place_value}, Places.{index_place, field_place}}
-use Rattle.sharc_ask.proofs.{Expressing.{identifier_is, place_is}, Outs.same_plans}
+use Rattle.sharc_ask.proofs.{Imports.{view_expr, view_arguments, Expr, view_call, call, index, field, ◌≡◌, length, arith, refl, ap, sym, ◌∙◌, Known, view_state, gives, number, inside, Named, named_at, cell_at, eval, place_of, named_value, place_value, index_place, field_place}, Expressing.{identifier_is, place_is}, Outs.same_plans}
 use Rattle.sharc_ask.proofs.expressions.eval_plan.Goals as goal
 
 pub returns-in-Identifier-clause-means : goal.returns-in-Identifier-clause-means

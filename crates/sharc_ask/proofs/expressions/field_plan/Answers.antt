@@ -1,6 +1,4 @@
-use Rattle.sharc_tree.specs.View.{view_expr}
-use Rattle.sharc_meaning.specs.Expressions.{eval, place_of}
-use Rattle.sharc_ask.proofs.Expressing.{arrow_begins}
+use Rattle.sharc_ask.proofs.{Imports.{view_expr, eval, place_of}, Expressing.arrow_begins}
 use Rattle.sharc_ask.proofs.expressions.field_plan.Goals as goal
 
 pub returns-in-Arrow-clause-means : goal.returns-in-Arrow-clause-means

@@ -1,7 +1,4 @@
-use Rattle.sharc_tree.specs.View.{view_expr}
-use Rattle.std.proofs.Common.{◌≡◌, length, arith, ap, ◌∙◌}
-use Rattle.sharc_ask.specs.StepView.{Known}
-use Rattle.sharc_ask.proofs.Expressing.{spawn_is}
+use Rattle.sharc_ask.proofs.{Imports.{view_expr, ◌≡◌, length, arith, ap, ◌∙◌, Known}, Expressing.spawn_is}
 use Rattle.sharc_ask.proofs.expressions.spawn_plan.Goals as goal
 
 pub returns-clause-means : goal.returns-clause-means

@@ -1,8 +1,4 @@
-use Rattle.sharc_tree.specs.{View.view_expr, declared.tree.expression.UnaryOperator.TheVariants.{Negate, Dereference}, Tree.unary}
-use Rattle.std.proofs.Common.{◌≡◌, length, arith, refl, ap, ◌∙◌}
-use Rattle.sharc_ask.specs.StepView.{Known}
-use Rattle.sharc_meaning.specs.{Expressions.eval, Places.pointee_place}
-use Rattle.sharc_ask.proofs.Expressing.{unary_is, negate_begins, place_is}
+use Rattle.sharc_ask.proofs.{Imports.{view_expr, Negate, Dereference, unary, ◌≡◌, length, arith, refl, ap, ◌∙◌, Known, eval, pointee_place}, Expressing.{unary_is, negate_begins, place_is}}
 use Rattle.sharc_ask.proofs.expressions.unary_plan.Goals as goal
 
 pub returns-in-Negate-clause-means : goal.returns-in-Negate-clause-means

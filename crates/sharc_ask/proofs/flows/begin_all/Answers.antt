@@ -1,10 +1,4 @@
-use Rattle.std.proofs.{Common.{◌≡◌, ◌-◌, ◌+◌, ◌*◌, ◌≤◌, ◌∷◌, length, take, arith, sym, ap, ◌∙◌}, lemmas.Result.IfOk-weaker}
-use Rattle.std.specs.Prelude.{drop}
-use Rattle.sharc_tree.specs.View.{view_stmt, view_statements}
-use Rattle.sharc_names.specs.View.{view_kind}
-use Rattle.sharc_meaning.specs.{State.then_on, Statements.{exec, exec_all}}
-use Rattle.sharc_ask.specs.{StepView.view_state, Values.{flow, flow_in, gives}, Plans.{others_done, Begins, size}}
-use Rattle.sharc_ask.proofs.{Flowing.{first_and_rest, all_begins}, Outs.same_plans}
+use Rattle.sharc_ask.proofs.{Imports.{◌≡◌, ◌-◌, ◌+◌, ◌*◌, ◌≤◌, ◌∷◌, length, take, arith, sym, ap, ◌∙◌, IfOk-weaker, drop, view_stmt, view_statements, view_kind, then_on, exec, exec_all, view_state, flow, flow_in, gives, others_done, Begins, size}, Flowing.{first_and_rest, all_begins}, Outs.same_plans}
 use Rattle.sharc_ask.proofs.flows.begin_all.Goals as goal
 
 pub returns-in-len1-up-clause-means : goal.returns-in-len1-up-clause-means

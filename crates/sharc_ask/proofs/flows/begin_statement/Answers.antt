@@ -1,9 +1,4 @@
-use Rattle.std.proofs.Common.{◌≡◌, Ok, Err, refl, sym, ap, subst, rules}
-use Rattle.sharc_tree.specs.View.{view_stmt}
-use Rattle.sharc_names.specs.View.{view_kind}
-use Rattle.sharc_meaning.specs.{State.{State, Run, then_on, ◌>>=◌, give}, Statements.exec}
-use Rattle.sharc_ask.specs.{StepView.view_state, Values.{Value, flow, gives}, Plans.{rest_means, Plans}}
-use Rattle.sharc_ask.proofs.{Outs.{entered_plans, entered_over}, Steps.exec_over}
+use Rattle.sharc_ask.proofs.{Imports.{◌≡◌, Ok, Err, refl, sym, ap, subst, rules, view_stmt, view_kind, State, Run, then_on, ◌>>=◌, give, exec, view_state, Value, flow, gives, rest_means, Plans}, Outs.{entered_plans, entered_over}, Steps.exec_over}
 use Rattle.sharc_ask.proofs.flows.begin_statement.Goals as goal
 
 pub returns-clause-means : goal.returns-clause-means

@@ -1,7 +1,4 @@
-use Rattle.std.proofs.Common.{◌≡◌, sym, ap, ◌∙◌, to_z, of_z, w64, rules}
-use Rattle.std.specs.Prelude.{ℤ}
-use Rattle.sharc_meaning.specs.{State.go, Statements.returned}
-use Rattle.sharc_ask.specs.{View.view_flow, Values.{flow, gives}, Plans.left_body}
+use Rattle.sharc_ask.proofs.Imports.{◌≡◌, sym, ap, ◌∙◌, to_z, of_z, w64, rules, ℤ, go, returned, view_flow, flow, gives, left_body}
 use Rattle.sharc_ask.proofs.flows.behind_body.Goals as goal
 
 pub returns-in-Next-clause-means : goal.returns-in-Next-clause-means

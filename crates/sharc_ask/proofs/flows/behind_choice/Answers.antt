@@ -1,9 +1,4 @@
-use Rattle.std.proofs.{Common.{◌≡◌, ◌+◌, ◌*◌, ◌≤◌, arith, sym, ap, ◌∙◌}, lemmas.Result.IfOk-weaker}
-use Rattle.sharc_tree.specs.View.{view_stmt}
-use Rattle.sharc_names.specs.View.{view_kind}
-use Rattle.sharc_meaning.specs.Statements.{exec}
-use Rattle.sharc_ask.specs.{StepView.view_state, View.{view_otherwise, other_done}, Values.{flow, gives}, Plans.{chosen_done, Begins, size}}
-use Rattle.sharc_ask.proofs.{Outs.same_plans, Stating.out_given}
+use Rattle.sharc_ask.proofs.{Imports.{◌≡◌, ◌+◌, ◌*◌, ◌≤◌, arith, sym, ap, ◌∙◌, IfOk-weaker, view_stmt, view_kind, exec, view_state, view_otherwise, other_done, flow, gives, chosen_done, Begins, size}, Outs.same_plans, Stating.out_given}
 use Rattle.sharc_ask.proofs.flows.behind_choice.Goals as goal
 
 pub returns-then-is_true-clause-means : goal.returns-then-is_true-clause-means

@@ -1,8 +1,4 @@
-use Rattle.std.proofs.{Common.{◌≡◌, ◌+◌, ◌*◌, ◌≤◌, arith, sym, ap, ◌∙◌}, lemmas.Result.IfOk-weaker}
-use Rattle.sharc_names.specs.View.{view_kind}
-use Rattle.sharc_meaning.specs.{State.then_on, Statements.exec}
-use Rattle.sharc_ask.specs.{StepView.view_state, Values.{flow, flow_in, gives}, Plans.{tested_done, left_body, Begins, size}}
-use Rattle.sharc_ask.proofs.{Flowing.turn_begins, Outs.same_plans}
+use Rattle.sharc_ask.proofs.{Imports.{◌≡◌, ◌+◌, ◌*◌, ◌≤◌, arith, sym, ap, ◌∙◌, IfOk-weaker, view_kind, then_on, exec, view_state, flow, flow_in, gives, tested_done, left_body, Begins, size}, Flowing.turn_begins, Outs.same_plans}
 use Rattle.sharc_ask.proofs.flows.behind_test.Goals as goal
 
 pub returns-then-goes_on-clause-means : goal.returns-then-goes_on-clause-means

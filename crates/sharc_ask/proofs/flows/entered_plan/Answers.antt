@@ -1,9 +1,4 @@
-use Rattle.std.proofs.Common.{◌≡◌, ℕ, arith, length, None, Some, sym, ap, ◌∙◌, subst, refl}
-use Rattle.sharc_tree.specs.{Children.view_block, Tree.{Statement, empty, block, declare, simple, jump, return, if_then, if_then_else, while, for}, View.{view_expr, view_option, view_simple, view_local, view_first, view_head, view_stmt, view_statements}}
-use Rattle.sharc_names.specs.View.{view_kind}
-use Rattle.sharc_meaning.specs.{Expressions.{tested, eval}, State.{State, go, Run, then_on, give}, Statements.{Flow, next, declared, done_simple, done_first, done_test, done_step, return_with, turns, loop, exec, exec_all}}
-use Rattle.sharc_ask.specs.{StepView.Known, View.{test_of_loop, step_of_loop, body_of_loop}, Values.{Value, flow, gives, as_nothing}, Plans.{inside, ends_block, chosen_done}}
-use Rattle.sharc_ask.proofs.{Flowing.{test_then, step_then, block_begins, for_begins}, Stating.out_given}
+use Rattle.sharc_ask.proofs.{Imports.{◌≡◌, ℕ, arith, length, None, Some, sym, ap, ◌∙◌, subst, refl, view_block, Statement, empty, block, declare, simple, jump, return, if_then, if_then_else, while, for, view_expr, view_option, view_simple, view_local, view_first, view_head, view_stmt, view_statements, view_kind, tested, eval, State, go, Run, then_on, give, Flow, next, declared, done_simple, done_first, done_test, done_step, return_with, turns, loop, exec, exec_all, Known, test_of_loop, step_of_loop, body_of_loop, Value, flow, gives, as_nothing, inside, ends_block, chosen_done}, Flowing.{test_then, step_then, block_begins, for_begins}, Stating.out_given}
 use Rattle.sharc_ask.proofs.flows.entered_plan.Goals as goal
 
 pub returns-in-Empty-clause-means : goal.returns-in-Empty-clause-means

@@ -1,8 +1,4 @@
-use Rattle.std.proofs.Common.{◌≡◌, sym, ap, ◌∙◌}
-use Rattle.sharc_tree.specs.View.{view_simple}
-use Rattle.sharc_meaning.specs.{State.{◌>>◌}, Statements.{done_simple, done_step}}
-use Rattle.sharc_ask.specs.{View.view_step, Values.{flow, gives}, Plans.turns_of}
-use Rattle.sharc_ask.proofs.{Flowing.step_then, Stating.out_given}
+use Rattle.sharc_ask.proofs.{Imports.{◌≡◌, sym, ap, ◌∙◌, view_simple, ◌>>◌, done_simple, done_step, view_step, flow, gives, turns_of}, Flowing.step_then, Stating.out_given}
 use Rattle.sharc_ask.proofs.flows.next_turn.Goals as goal
 
 pub returns-in-None-clause-means : goal.returns-in-None-clause-means

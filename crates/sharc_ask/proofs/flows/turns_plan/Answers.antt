@@ -1,7 +1,4 @@
-use Rattle.std.proofs.Common.{◌≡◌, ◌-◌, sym, ap, ◌∙◌}
-use Rattle.sharc_meaning.specs.{State.then_on, Statements.done_test}
-use Rattle.sharc_ask.specs.{StepView.view_state, Values.{test, flow, test_in, gives}, Plans.tested_done}
-use Rattle.sharc_ask.proofs.Flowing.{turns_none, turns_begin}
+use Rattle.sharc_ask.proofs.{Imports.{◌≡◌, ◌-◌, sym, ap, ◌∙◌, then_on, done_test, view_state, test, flow, test_in, gives, tested_done}, Flowing.{turns_none, turns_begin}}
 use Rattle.sharc_ask.proofs.flows.turns_plan.Goals as goal
 
 pub returns-then-number-eq0-clause-means : goal.returns-then-number-eq0-clause-means

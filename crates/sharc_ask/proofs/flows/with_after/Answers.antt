@@ -1,10 +1,4 @@
-use Rattle.std.proofs.Common.{◌≡◌, Ok, sym, ap, ◌∙◌, subst, to_z, of_z, w64, rules}
-use Rattle.std.specs.Prelude.{ℤ}
-use Rattle.sharc_tree.specs.View.{view_stmt}
-use Rattle.sharc_names.specs.View.{view_kind}
-use Rattle.sharc_meaning.specs.{State.{go, Run, give}, Statements.Flow}
-use Rattle.sharc_ask.specs.{StepView.{Known, view_state, Does, DoesAs}, View.{view_flow, view_otherwise, number_left}, Values.{flow, number, flow_in, test_in, view_value, gives}, Plans.{Plans, after_means, ends_above, ends_block, others_done, chosen_done, tested_done, left_body, turns_of}}
-use Rattle.sharc_ask.proofs.{Flowing.ends_then, Stating.out_given}
+use Rattle.sharc_ask.proofs.{Imports.{◌≡◌, Ok, sym, ap, ◌∙◌, subst, to_z, of_z, w64, rules, ℤ, view_stmt, view_kind, go, Run, give, Flow, Known, view_state, Does, DoesAs, view_flow, view_otherwise, number_left, flow, number, flow_in, test_in, view_value, gives, Plans, after_means, ends_above, ends_block, others_done, chosen_done, tested_done, left_body, turns_of}, Flowing.ends_then, Stating.out_given}
 use Rattle.sharc_ask.proofs.flows.with_after.Goals as goal
 
 pub returns-in-Simple-clause-means : goal.returns-in-Simple-clause-means

@@ -1,4 +1,4 @@
-use Rattle.std.proofs.Common.{length}
+use Rattle.sharc_ask.proofs.Imports.{length}
 use Rattle.sharc_ask.proofs.frames.+begin_parameters.Given as goal
 
 abbrev pub decreases-begin_parameters : goal.decreases-begin_parameters

@@ -1,4 +1,4 @@
-use Rattle.std.proofs.Common.{length}
+use Rattle.sharc_ask.proofs.Imports.{length}
 use Rattle.sharc_ask.proofs.frames.+pointers_passed.Given as goal
 
 abbrev pub decreases-pointers_passed : goal.decreases-pointers_passed

@@ -1,4 +1,4 @@
-use Rattle.std.proofs.Common.{length}
+use Rattle.sharc_ask.proofs.Imports.{length}
 use Rattle.sharc_ask.proofs.frames.+push_pointers.Given as goal
 
 abbrev pub decreases-push_pointers : goal.decreases-push_pointers

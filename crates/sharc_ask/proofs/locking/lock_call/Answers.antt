@@ -1,6 +1,4 @@
-use Rattle.std.proofs.{Common.{◌≡◌, length, arith}, lemmas.Result.err_from_is_err_and}
-use Rattle.sharc_ask.specs.StepView.{view_state, view_place}
-use Rattle.sharc_ask.proofs.Locks.{lock_of_too_many, lock_not_done, lock_goes}
+use Rattle.sharc_ask.proofs.{Imports.{◌≡◌, length, arith, err_from_is_err_and, view_state, view_place}, Locks.{lock_of_too_many, lock_not_done, lock_goes}}
 use Rattle.sharc_ask.proofs.locking.lock_call.Goals as goal
 
 pub returns-in_err-unless-clause-does : goal.returns-in_err-unless-clause-does

@@ -1,6 +1,4 @@
-use Rattle.std.proofs.Common.{subst}
-use Rattle.sharc_ask.specs.StepView.{view_state, Does}
-use Rattle.sharc_ask.proofs.Outs.{above_goes}
+use Rattle.sharc_ask.proofs.{Imports.{subst, view_state, Does}, Outs.above_goes}
 use Rattle.sharc_ask.proofs.parts.end_step.Goals as goal
 
 pub returns-in-Ok-clause-does : goal.returns-in-Ok-clause-does

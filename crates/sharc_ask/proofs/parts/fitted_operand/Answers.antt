@@ -1,9 +1,4 @@
-use Rattle.std.proofs.Common.{◌≡◌, Err, ap, sym, ◌∙◌, subst, to_z-of_z, rules}
-use Rattle.sharc_tree.specs.View.{view_expr}
-use Rattle.sharc_names.specs.View.{view_kind}
-use Rattle.sharc_meaning.specs.{Arithmetic.fits, Expressions.{fitting, operand}, State.give}
-use Rattle.sharc_ask.specs.StepView.{view_state, Does}
-use Rattle.sharc_ask.proofs.Fitting.{fitted_goes, fitted_over}
+use Rattle.sharc_ask.proofs.{Imports.{◌≡◌, Err, ap, sym, ◌∙◌, subst, to_z-of_z, rules, view_expr, view_kind, fits, fitting, operand, give, view_state, Does}, Fitting.{fitted_goes, fitted_over}}
 use Rattle.sharc_ask.proofs.parts.fitted_operand.Goals as goal
 
 pub returns-clause-does : goal.returns-clause-does

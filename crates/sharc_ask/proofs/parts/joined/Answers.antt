@@ -1,4 +1,4 @@
-use Rattle.std.proofs.Common.{to_z-of_z}
+use Rattle.sharc_ask.proofs.Imports.{to_z-of_z}
 use Rattle.sharc_ask.proofs.parts.joined.Goals as goal
 
 pub returns-clause-does : goal.returns-clause-does

@@ -1,9 +1,4 @@
-use Rattle.std.proofs.Common.{◌≡◌, ap, ◌∙◌, subst, to_z, of_z, w64, to_z-of_z}
-use Rattle.sharc_tree.specs.View.{view_expr}
-use Rattle.sharc_names.specs.Kinds.{promoted}
-use Rattle.sharc_ctype.specs.Resolved.{kind_at}
-use Rattle.sharc_meaning.specs.{Arithmetic.{bits_of, negated}, Expressions.resulting}
-use Rattle.sharc_ask.specs.{StepView.{view_state, Does}, Width.value_bits}
+use Rattle.sharc_ask.proofs.Imports.{◌≡◌, ap, ◌∙◌, subst, to_z, of_z, w64, to_z-of_z, view_expr, promoted, kind_at, bits_of, negated, resulting, view_state, Does, value_bits}
 use Rattle.sharc_ask.proofs.parts.negative.Goals as goal
 
 pub returns : goal.returns

@@ -1,17 +1,11 @@
-use Rattle.std.proofs.Common.{◌≡◌, Err, ap, sym, ◌∙◌, subst, to_z-of_z, rules}
-use Rattle.sharc_tree.specs.View.{view_expr}
-use Rattle.sharc_names.specs.View.{view_kind}
-use Rattle.sharc_meaning.specs.{Arithmetic.fits, Statements.returned}
-use Rattle.sharc_ask.specs.{StepView.{view_state, DoesAs}, Plans.returned_with, View.view_flow}
-use Rattle.sharc_ask.specs.declared.values.Flow.TheVariants as flows
-use Rattle.sharc_ask.proofs.Fitting.{returned_goes, returned_over}
+use Rattle.sharc_ask.proofs.{Imports.{◌≡◌, Err, ap, sym, ◌∙◌, subst, to_z-of_z, rules, view_expr, view_kind, fits, returned, view_state, DoesAs, returned_with, view_flow, RustFlow as Flow}, Fitting.{returned_goes, returned_over}}
 use Rattle.sharc_ask.proofs.parts.returned.Goals as goal
 
 pub returns : goal.returns
 returns c =
     let kind = view_kind c.args.kind in
     let same = to_z-of_z c.ranges.value in
-    returned_goes (view_state c.args.st.now) kind c.args.site (view_expr c.args.expr.now) c.args.value c.fits.result c.span.result.first c.in_ok-unless.field-0 (flows.Returned c.args.site _)
+    returned_goes (view_state c.args.st.now) kind c.args.site (view_expr c.args.expr.now) c.args.value c.fits.result c.span.result.first c.in_ok-unless.field-0 (Flow.Returned c.args.site _)
     (c.fits.ensures ∙ ap (fits kind) same) (ap (λ s. s.first) c.span.ensures) (ap (returned c.args.site) same) c.in_ok-unless.ensures
 
 pub returns-in_err-unless : goal.returns-in_err-unless

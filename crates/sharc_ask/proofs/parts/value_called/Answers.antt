@@ -1,6 +1,4 @@
-use Rattle.std.proofs.Common.{◌≡◌, ap, ◌∙◌, subst, to_z-of_z}
-use Rattle.sharc_meaning.specs.{Expressions.value_act, State.performs}
-use Rattle.sharc_ask.specs.StepView.{view_state, Does}
+use Rattle.sharc_ask.proofs.Imports.{◌≡◌, ap, ◌∙◌, subst, to_z-of_z, value_act, performs, view_state, Does}
 use Rattle.sharc_ask.proofs.parts.value_called.Goals as goal
 
 pub returns-clause-does : goal.returns-clause-does

@@ -1,6 +1,4 @@
-use Rattle.std.proofs.Common.{◌≡◌, true, false, Bool, Result, Ok, Err, refl, sym, ap, ◌∙◌, subst, rules, if◌then◌else◌}
-use Rattle.sharc_ask.specs.{declared.state.RunEnd.RunEnd, StepView.Does, Plans.{test_then, plan_means, Plans}}
-use Rattle.sharc_ask.proofs.Outs.{truth_plans, step_over}
+use Rattle.sharc_ask.proofs.{Imports.{◌≡◌, true, false, Bool, Result, Ok, Err, refl, sym, ap, ◌∙◌, subst, rules, if◌then◌else◌, RunEnd, Does, test_then, plan_means, Plans}, Outs.{truth_plans, step_over}}
 use Rattle.sharc_ask.proofs.plans.by_truth.Goals as goal
 
 abbrev ok_of : Bool → Result Bool RunEnd

@@ -1,10 +1,4 @@
-use Rattle.std.proofs.Common.{to_z-of_z, arith}
-use Rattle.std.specs.Prelude.{ℤ}
-use Rattle.sharc_tree.specs.View.{view_expr}
-use Rattle.sharc_ctype.specs.Resolved.{kind_at}
-use Rattle.sharc_meaning.specs.{Expressions.eval, State.{◌>>=◌, give, holds}}
-use Rattle.sharc_ask.specs.{StepView.view_state, Width.value_bits, Values.{number, number_in, gives}, Plans.{ends_above, step_then, left_with, joined_with}}
-use Rattle.sharc_ask.proofs.{Outs.same_plans, Resuming.left_goes}
+use Rattle.sharc_ask.proofs.{Imports.{to_z-of_z, arith, ℤ, view_expr, kind_at, eval, ◌>>=◌, give, holds, view_state, value_bits, number, number_in, gives, ends_above, step_then, left_with, joined_with}, Outs.same_plans, Resuming.left_goes}
 use Rattle.sharc_ask.proofs.rests.by_left.Goals as goal
 
 pub returns-clause-means : goal.returns-clause-means

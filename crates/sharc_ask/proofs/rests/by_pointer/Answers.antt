@@ -1,9 +1,4 @@
-use Rattle.std.proofs.Common.{to_z-of_z, arith}
-use Rattle.sharc_tree.specs.View.{view_expr}
-use Rattle.sharc_ctype.specs.Resolved.{kind_at}
-use Rattle.sharc_meaning.specs.{Expressions.eval, Places.based, State.{◌>>=◌}}
-use Rattle.sharc_ask.specs.{StepView.view_state, Values.{number, place, number_in, gives}, Plans.{step_then, element_behind, behind_pointer}}
-use Rattle.sharc_ask.proofs.{Outs.same_plans, Resuming.pointer_goes}
+use Rattle.sharc_ask.proofs.{Imports.{to_z-of_z, arith, view_expr, kind_at, eval, based, ◌>>=◌, view_state, number, place, number_in, gives, step_then, element_behind, behind_pointer}, Outs.same_plans, Resuming.pointer_goes}
 use Rattle.sharc_ask.proofs.rests.by_pointer.Goals as goal
 
 pub returns-clause-means : goal.returns-clause-means

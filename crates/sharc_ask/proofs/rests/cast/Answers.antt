@@ -1,10 +1,4 @@
-use Rattle.std.proofs.Common.{◌≡◌, Err, sym, subst, to_z, of_z, w64, rules, if◌then◌else◌}
-use Rattle.std.specs.Prelude.{ℤ, Some}
-use Rattle.sharc_tree.specs.{View.view_expr, declared.event.TakeKind.TheVariants.Cast, Spans.span_of}
-use Rattle.sharc_mode.specs.{Cells.{cell_at, pointed}, Rows.cast_row}
-use Rattle.sharc_meaning.specs.{State.{Run, give, ◌>>=◌}, Places.{taken_from, cast_to}, Reference.is_null}
-use Rattle.sharc_ask.specs.{StepView.{view_state, view_place, Does}, Values.{gives, number}, Plans.{ends_above, Plans}}
-use Rattle.sharc_ask.proofs.Outs.{number_then, number_over}
+use Rattle.sharc_ask.proofs.{Imports.{◌≡◌, Err, sym, subst, to_z, of_z, w64, rules, if◌then◌else◌, ℤ, Some, view_expr, Cast, span_of, cell_at, pointed, cast_row, Run, give, ◌>>=◌, taken_from, cast_to, is_null, view_state, view_place, Does, gives, number, ends_above, Plans}, Outs.{number_then, number_over}}
 use Rattle.sharc_ask.proofs.rests.cast.Goals as goal
 
 pub returns-clause-means : goal.returns-clause-means

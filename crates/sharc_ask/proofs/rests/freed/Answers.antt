@@ -1,10 +1,4 @@
-use Rattle.std.proofs.Common.{◌≡◌, Err, sym, ap, subst, to_z, of_z, w64, rules}
-use Rattle.std.specs.Prelude.{ℤ}
-use Rattle.sharc_tree.specs.{View.view_expr, declared.event.TakeKind.TheVariants.{Free as ToFree}, Spans.span_of}
-use Rattle.sharc_mode.specs.Cells.{cell_at}
-use Rattle.sharc_meaning.specs.{State.{Run, ◌>>=◌}, Places.taken_from}
-use Rattle.sharc_ask.specs.{StepView.{view_state, view_place, Does}, Values.{gives, number}, Plans.{ends_above, Plans, free_unless_null}}
-use Rattle.sharc_ask.proofs.Outs.{number_then, number_over}
+use Rattle.sharc_ask.proofs.{Imports.{◌≡◌, Err, sym, ap, subst, to_z, of_z, w64, rules, ℤ, view_expr, ToFree, span_of, cell_at, Run, ◌>>=◌, taken_from, view_state, view_place, Does, gives, number, ends_above, Plans, free_unless_null}, Outs.{number_then, number_over}}
 use Rattle.sharc_ask.proofs.rests.freed.Goals as goal
 
 pub returns-clause-means : goal.returns-clause-means

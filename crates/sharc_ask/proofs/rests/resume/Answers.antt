@@ -1,6 +1,4 @@
-use Rattle.std.proofs.Common.{◌≡◌, sym, subst, to_z, of_z, w64, rules}
-use Rattle.sharc_tree.specs.View.{view_expr}
-use Rattle.sharc_ask.specs.{StepView.view_state, Values.{number_in, view_value}, Plans.{Plans, value_means, number_means, rest_means}}
+use Rattle.sharc_ask.proofs.Imports.{◌≡◌, sym, subst, to_z, of_z, w64, rules, view_expr, view_state, number_in, view_value, Plans, value_means, number_means, rest_means}
 use Rattle.sharc_ask.proofs.rests.resume.Goals as goal
 
 pub returns-in-Value-clause-means : goal.returns-in-Value-clause-means

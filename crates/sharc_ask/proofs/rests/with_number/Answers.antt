@@ -1,10 +1,4 @@
-use Rattle.std.proofs.Common.{◌≡◌, sym, subst, to_z, of_z, w64, rules, to_z-of_z}
-use Rattle.std.specs.Prelude.{ℤ}
-use Rattle.sharc_meaning.specs.{Places.{StorePlace, variable, stored}, State.{Run, give}}
-use Rattle.sharc_tree.specs.View.{view_expr}
-use Rattle.sharc_names.specs.Kinds.{declared_kind}
-use Rattle.sharc_mode.specs.Sharings.{private}
-use Rattle.sharc_ask.specs.{StepView.{view_state, view_place, DoesAs}, Plans.{Plans, number_means, ends_above, element_in, element_behind, assigned_to}}
+use Rattle.sharc_ask.proofs.Imports.{◌≡◌, sym, subst, to_z, of_z, w64, rules, to_z-of_z, ℤ, StorePlace, variable, stored, Run, give, view_expr, declared_kind, private, view_state, view_place, DoesAs, Plans, number_means, ends_above, element_in, element_behind, assigned_to}
 use Rattle.sharc_ask.proofs.rests.with_number.Goals as goal
 
 pub returns-in-ArrayElement-clause-means : goal.returns-in-ArrayElement-clause-means

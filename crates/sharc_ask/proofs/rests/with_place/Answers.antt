@@ -1,11 +1,4 @@
-use Rattle.std.proofs.Common.{◌≡◌, ap, sym, ◌∙◌, subst}
-use Rattle.sharc_tree.specs.View.{view_expr, view_right}
-use Rattle.sharc_names.specs.View.{view_kind}
-use Rattle.sharc_ctype.specs.Resolved.{kind_at}
-use Rattle.sharc_mode.specs.{Cells.pointed, Rows.row_at, View.view_sharing}
-use Rattle.sharc_meaning.specs.{Cells.field_place_named, Expressions.eval, Places.field_in, State.{Run, then_on, give}, Statements.right_value, Waiting.{lock_call, unlock_call}}
-use Rattle.sharc_ask.specs.{StepView.{view_state, view_place, DoesAs}, View.place_fetched, Values.{Value, number, number_in, gives, as_nothing}, Plans.{Plans, place_means, ends_above, zero_behind, assigned_to}}
-use Rattle.sharc_ask.proofs.Resuming.{array_goes, assigned_goes}
+use Rattle.sharc_ask.proofs.{Imports.{◌≡◌, ap, sym, ◌∙◌, subst, view_expr, view_right, view_kind, kind_at, pointed, row_at, view_sharing, field_place_named, eval, field_in, Run, then_on, give, right_value, lock_call, unlock_call, view_state, view_place, DoesAs, place_fetched, Value, number, number_in, gives, as_nothing, Plans, place_means, ends_above, zero_behind, assigned_to}, Resuming.{array_goes, assigned_goes}}
 use Rattle.sharc_ask.proofs.rests.with_place.Goals as goal
 
 pub returns-in-Locks-clause-means : goal.returns-in-Locks-clause-means

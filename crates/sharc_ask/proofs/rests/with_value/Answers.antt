@@ -1,12 +1,4 @@
-use Rattle.std.proofs.Common.{◌≡◌, sym, subst, to_z, of_z, w64, rules, to_z-of_z, IfOk, arith}
-use Rattle.std.specs.Prelude.{ℤ, pos}
-use Rattle.sharc_tree.specs.View.{view_expr}
-use Rattle.sharc_names.specs.{Kinds.{declared_kinds, promoted}, View.view_kind}
-use Rattle.sharc_ctype.specs.Resolved.{kind_at}
-use Rattle.sharc_mode.specs.View.{view_sharing}
-use Rattle.sharc_meaning.specs.{Arithmetic.{bits_of, negated}, Expressions.{tested, passed, value_called, resulting, fitting, eval}, Places.pointee_place, State.{Run, ◌>>=◌, give, drops}}
-use Rattle.sharc_ask.specs.{StepView.{view_state, Does}, Width.value_bits, View.made, Values.{number, number_in, gives}, Plans.{Starts, value_weight, Plans, value_means, ends_above, test_then, spawned_with, inverted_with, truth_with, returned_with, and_with, or_with, joined_with}}
-use Rattle.sharc_ask.proofs.{Outs.same_plans, Resuming.{and_goes, or_goes}, Weighing.fits_start}
+use Rattle.sharc_ask.proofs.{Imports.{◌≡◌, sym, subst, to_z, of_z, w64, rules, to_z-of_z, IfOk, arith, ℤ, pos, view_expr, declared_kinds, promoted, view_kind, kind_at, view_sharing, bits_of, negated, tested, passed, value_called, resulting, fitting, eval, pointee_place, Run, ◌>>=◌, give, drops, view_state, Does, value_bits, made, number, number_in, gives, Starts, value_weight, Plans, value_means, ends_above, test_then, spawned_with, inverted_with, truth_with, returned_with, and_with, or_with, joined_with}, Outs.same_plans, Resuming.{and_goes, or_goes}, Weighing.fits_start}
 use Rattle.sharc_ask.proofs.rests.with_value.Goals as goal
 
 pub returns-in-Tested-clause-means : goal.returns-in-Tested-clause-means

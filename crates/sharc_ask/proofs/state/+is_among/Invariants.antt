@@ -1,4 +1,4 @@
-use Rattle.std.proofs.Common.{length}
+use Rattle.sharc_ask.proofs.Imports.{length}
 use Rattle.sharc_ask.proofs.state.+is_among.Given as goal
 
 abbrev pub decreases-is_among : goal.decreases-is_among

@@ -1,4 +1,4 @@
-use Rattle.std.proofs.Common.{length}
+use Rattle.sharc_ask.proofs.Imports.{length}
 use Rattle.sharc_ask.proofs.state.+place_of.Given as goal
 
 abbrev pub decreases-place_of : goal.decreases-place_of

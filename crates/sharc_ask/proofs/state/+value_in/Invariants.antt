@@ -1,4 +1,4 @@
-use Rattle.std.proofs.Common.{length}
+use Rattle.sharc_ask.proofs.Imports.{length}
 use Rattle.sharc_ask.proofs.state.+value_in.Given as goal
 
 abbrev pub decreases-value_in : goal.decreases-value_in

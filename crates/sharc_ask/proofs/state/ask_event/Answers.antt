@@ -1,8 +1,4 @@
-use Rattle.std.proofs.Common.{rules, ◌≡◌, ◌<◌, ◌++◌, List, [], ◌∷◌, pos, ℤ, length, drop, take, ◌-◌, slice_index_or, to_z, of_z, w64, refl, sym, subst}
-use Rattle.sharc_tree.specs.{declared.event.CellAt.CellAt, declared.event.SourceEvent.SourceEvent}
-use Rattle.sharc_meaning.specs.{declared.given.GivenUp.GivenUp, State.{answered, value_in, answer_of, event_of}}
-use Rattle.sharc_ask.specs.StepView.{Known, Went, view_state, held_after}
-use Rattle.sharc_ask.proofs.NextAnswer.{event_does, all_left}
+use Rattle.sharc_ask.proofs.{Imports.{rules, ◌≡◌, ◌<◌, ◌++◌, List, [], ◌∷◌, pos, ℤ, length, drop, take, ◌-◌, slice_index_or, to_z, of_z, w64, refl, sym, subst, CellAt, SourceEvent, GivenUp, answered, value_in, answer_of, event_of, Known, Went, view_state, held_after}, NextAnswer.{event_does, all_left}}
 use Rattle.sharc_ask.proofs.state.ask_event.Goals as goal
 
 pub returns-clause-does : goal.returns-clause-does

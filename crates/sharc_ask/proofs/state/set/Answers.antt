@@ -1,7 +1,6 @@
-use Rattle.std.proofs.{Common.{List, ap, ◌∙◌, refl, w64, arith}, lemmas.Int.to_z-of_z}
-use Rattle.sharc_meaning.specs.{declared.variable.Variable.Variable, State.with_value}
-use Rattle.sharc_ask.specs.StepView.{Known, view_state, place_of}
-use Rattle.sharc_ask.proofs.Variables.{set_like, set_none}
+use Rattle.sharc_ask.proofs.{Imports.{List, ap, ◌∙◌, refl, w64, arith, Variable, with_value, Known, view_state}, Variables.{set_like, set_none}}
+use Rattle.std.proofs.lemmas.Int.{to_z-of_z}
+use Rattle.sharc_ask.specs.StepView.{place_of}
 use Rattle.sharc_ask.proofs.state.set.Goals as goal
 
 pub returns-then-place-len-clause-does : goal.returns-then-place-len-clause-does

@@ -1,8 +1,4 @@
-use Rattle.sharc_tree.specs.View.{view_simple, view_local, view_first}
-use Rattle.std.proofs.Common.{ap, ◌∙◌, Ok, suc}
-use Rattle.sharc_ask.specs.{StepView.view_state, Values.{gives, as_nothing}}
-use Rattle.sharc_meaning.specs.Statements.{done_first, done_simple, declared}
-use Rattle.sharc_ask.proofs.{Outs.entered_plans, Stating.out_given}
+use Rattle.sharc_ask.proofs.{Imports.{view_simple, view_local, view_first, ap, ◌∙◌, Ok, suc, view_state, gives, as_nothing, done_first, done_simple, declared}, Outs.entered_plans, Stating.out_given}
 use Rattle.sharc_ask.proofs.statements.begin_first.Goals as goal
 
 pub returns-in_ok-enter-in-Declares-clause-means : goal.returns-in_ok-enter-in-Declares-clause-means

@@ -1,9 +1,4 @@
-use Rattle.sharc_tree.specs.View.{view_option, view_right, view_local}
-use Rattle.std.proofs.{Common.{◌+◌, ◌*◌, ◌<◌, ◌≤◌, arith}, lemmas.Result.IfOk-weaker}
-use Rattle.sharc_ask.specs.{StepView.view_state, Values.{gives, as_nothing}, Plans.{Fits, Begins, size, step_then, plan_means}}
-use Rattle.std.specs.Prelude.{pos}
-use Rattle.sharc_meaning.specs.{State.begins_with, Statements.{declared, initialised}}
-use Rattle.sharc_ask.proofs.{Outs.same_plans, Stating.step_begins}
+use Rattle.sharc_ask.proofs.{Imports.{view_option, view_right, view_local, ◌+◌, ◌*◌, ◌<◌, ◌≤◌, arith, IfOk-weaker, view_state, gives, as_nothing, Fits, Begins, size, step_then, plan_means, pos, begins_with, declared, initialised}, Outs.same_plans, Stating.step_begins}
 use Rattle.sharc_ask.proofs.statements.begin_local.Goals as goal
 
 pub returns-clause-means : goal.returns-clause-means

@@ -1,8 +1,4 @@
-use Rattle.sharc_ask.specs.{StepView.view_state, Values.{gives, number}}
-use Rattle.sharc_tree.specs.{Tree.malloc, View.{view_expr, view_option}}
-use Rattle.sharc_mode.specs.View.{view_sharing}
-use Rattle.sharc_meaning.specs.Statements.{right_value}
-use Rattle.sharc_ask.proofs.Outs.{entered_plans}
+use Rattle.sharc_ask.proofs.{Imports.{view_state, gives, number, malloc, view_expr, view_option, view_sharing, right_value}, Outs.entered_plans}
 use Rattle.sharc_ask.proofs.statements.begin_malloc.Goals as goal
 
 pub returns-clause-means : goal.returns-clause-means

@@ -1,10 +1,4 @@
-use Rattle.std.proofs.Common.{ap, ◌∙◌}
-use Rattle.sharc_ask.specs.{StepView.view_state, Values.{gives, number}}
-use Rattle.sharc_tree.specs.{View.{view_expr, view_right, view_option}, Tree.malloc}
-use Rattle.sharc_names.specs.View.{view_kind}
-use Rattle.sharc_mode.specs.View.{view_sharing}
-use Rattle.sharc_meaning.specs.{Expressions.eval, Statements.right_value}
-use Rattle.sharc_ask.proofs.{Outs.same_plans, Stating.fit_begins}
+use Rattle.sharc_ask.proofs.{Imports.{ap, ◌∙◌, view_state, gives, number, view_expr, view_right, view_option, malloc, view_kind, view_sharing, eval, right_value}, Outs.same_plans, Stating.fit_begins}
 use Rattle.sharc_ask.proofs.statements.begin_right.Goals as goal
 
 pub returns-in-Value-clause-means : goal.returns-in-Value-clause-means

@@ -1,10 +1,4 @@
-use Rattle.std.proofs.Common.{ap, ◌∙◌}
-use Rattle.sharc_ask.specs.{StepView.view_state, View.made, Values.{gives, number}, Plans.inside}
-use Rattle.std.specs.Prelude.{pos}
-use Rattle.sharc_tree.specs.{Tree.malloc, View.{view_expr, view_option}}
-use Rattle.sharc_mode.specs.View.{view_sharing}
-use Rattle.sharc_meaning.specs.Statements.{right_value}
-use Rattle.sharc_ask.proofs.{Outs.same_plans, Stating.made_begins}
+use Rattle.sharc_ask.proofs.{Imports.{ap, ◌∙◌, view_state, made, gives, number, inside, pos, malloc, view_expr, view_option, view_sharing, right_value}, Outs.same_plans, Stating.made_begins}
 use Rattle.sharc_ask.proofs.statements.counted.Goals as goal
 
 pub returns-in-None-clause-means : goal.returns-in-None-clause-means

@@ -1,10 +1,4 @@
-use Rattle.sharc_tree.specs.View.{view_option, view_right}
-use Rattle.std.proofs.Common.{◌≡◌, ap, sym, ◌∙◌, Some}
-use Rattle.sharc_names.specs.{Kinds.declared_kind, View.view_kind}
-use Rattle.sharc_mode.specs.{Cells.pointed, Rows.{written, declared_row}, Sharings.private, View.view_sharing}
-use Rattle.sharc_meaning.specs.{Statements.{initialised, right_value}, Places.{variable, stored}, State.{Run, then_on}}
-use Rattle.sharc_ask.specs.Values.{Value, gives, number, number_in, as_nothing}
-use Rattle.sharc_ask.proofs.Stating.{initial_begins}
+use Rattle.sharc_ask.proofs.{Imports.{view_option, view_right, ◌≡◌, ap, sym, ◌∙◌, Some, declared_kind, view_kind, pointed, written, declared_row, private, view_sharing, initialised, right_value, variable, stored, Run, then_on, Value, gives, number, number_in, as_nothing}, Stating.initial_begins}
 use Rattle.sharc_ask.proofs.statements.initial_plan.Goals as goal
 
 pub returns-in-None-clause-means : goal.returns-in-None-clause-means

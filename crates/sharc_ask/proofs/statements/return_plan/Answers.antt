@@ -1,9 +1,4 @@
-use Rattle.sharc_tree.specs.{View.{view_expr, view_option}, declared.tree.expression.Expr.Expr}
-use Rattle.std.proofs.Common.{ap, sym, ◌∙◌, Some}
-use Rattle.sharc_names.specs.View.{view_kind}
-use Rattle.sharc_meaning.specs.Statements.{return_with}
-use Rattle.sharc_ask.specs.Values.{gives, flow}
-use Rattle.sharc_ask.proofs.Stating.{return_begins}
+use Rattle.sharc_ask.proofs.{Imports.{view_expr, view_option, Expr, ap, sym, ◌∙◌, Some, view_kind, return_with, gives, flow}, Stating.return_begins}
 use Rattle.sharc_ask.proofs.statements.return_plan.Goals as goal
 
 pub returns-in-None-clause-means : goal.returns-in-None-clause-means

@@ -1,10 +1,4 @@
-use Rattle.sharc_tree.specs.View.{view_expr, view_right, view_simple}
-use Rattle.std.proofs.Common.{◌≡◌, length, arith, ap, sym, ◌∙◌}
-use Rattle.sharc_ask.specs.{StepView.Known, Plans.{ends_above, assigned_to}, Values.{gives, as_nothing, place, place_in}}
-use Rattle.sharc_ctype.specs.Resolved.{kind_at}
-use Rattle.sharc_mode.specs.{Cells.pointed, Rows.row_at}
-use Rattle.sharc_meaning.specs.{Expressions.place_of, State.then_on, Statements.{done_simple, right_value}}
-use Rattle.sharc_ask.proofs.Stating.{assign_begins, call_begins}
+use Rattle.sharc_ask.proofs.{Imports.{view_expr, view_right, view_simple, ◌≡◌, length, arith, ap, sym, ◌∙◌, Known, ends_above, assigned_to, gives, as_nothing, place, place_in, kind_at, pointed, row_at, place_of, then_on, done_simple, right_value}, Stating.{assign_begins, call_begins}}
 use Rattle.sharc_ask.proofs.statements.simple_plan.Goals as goal
 
 pub returns-in-Assign-clause-means : goal.returns-in-Assign-clause-means

@@ -1,9 +1,5 @@
-use Rattle.std.proofs.{Common.{◌≡◌, ◌++◌, Err, w64, to_z, of_z, refl, ap, ◌∙◌, subst}, lemmas.Int.to_z-of_z}
-use Rattle.sharc_ctype.specs.Resolved.{function_at}
-use Rattle.sharc_meaning.specs.{Meaning.{run_thread, start}, State.pointers_among}
-use Rattle.sharc_ask.specs.declared.state.RunEnd.TheVariants as ends
-use Rattle.sharc_ask.specs.{StepView.{Known, known, view_state, Over, Does}, declared.asked.Outcome.TheVariants.{Wants, StoppedX}}
-use Rattle.sharc_ask.proofs.Telling.{held_of, tells_stopped, tells_wants}
+use Rattle.sharc_ask.proofs.{Imports.{◌≡◌, ◌++◌, Err, w64, to_z, of_z, refl, ap, ◌∙◌, subst, function_at, run_thread, start, pointers_among, RunEnd, Known, known, view_state, Over, Does, Wants, StoppedX}, Telling.{held_of, tells_stopped, tells_wants}}
+use Rattle.std.proofs.lemmas.Int.{to_z-of_z}
 use Rattle.sharc_ask.proofs.thread.ask.Goals as goal
 
 pub returns-in-Some : goal.returns-in-Some
@@ -16,9 +12,9 @@ returns-in-Some c =
     let s = start c.args.answers.now c.args.fuel in
     let k0 : Known = record { variables = c.new.result.items; temporaries = c.new-2.result.items; below = c.new-3.result.items; answers = c.args.answers.now; events = c.new-4.result.items; held = c.new-5.result.items; fuel = c.args.fuel; given_up = c.new-6.result.items } in
     let begins : known s ≡ k0 = rw (c.new.ensures.items, c.new-2.ensures.items, c.new-3.ensures.items, c.new-4.ensures.items, c.new-5.ensures.items, c.new-6.ensures.items) refl in
-    let told : Does k0 (Err (ends.Wants event)) k (run_thread m (function_at m.typed c.args.function) (to_z w64 (of_z w64 c.args.argument))) = subst (λ e. Does k0 (Err e) k (run_thread m (function_at m.typed c.args.function) (to_z w64 (of_z w64 c.args.argument)))) c.in-Err-Wants.field-0-is c.in-Err-Wants.ensures in
+    let told : Does k0 (Err (RunEnd.Wants event)) k (run_thread m (function_at m.typed c.args.function) (to_z w64 (of_z w64 c.args.argument))) = subst (λ e. Does k0 (Err e) k (run_thread m (function_at m.typed c.args.function) (to_z w64 (of_z w64 c.args.argument)))) c.in-Err-Wants.field-0-is c.in-Err-Wants.ensures in
     let run = run_thread m (function_at m.typed c.args.function) c.args.argument s in
-    let over : Over (ends.Wants event) k run = subst (λ z. Over (ends.Wants event) k (run_thread m (function_at m.typed c.args.function) z s)) whole (told s begins) in
+    let over : Over (RunEnd.Wants event) k run = subst (λ z. Over (RunEnd.Wants event) k (run_thread m (function_at m.typed c.args.function) z s)) whole (told s begins) in
     let held : c.in-Some.held.items ≡ held_of k = c.in-Some.ensures ∙ ap (λ z. z ++ (pointers_among st.frame.variables.items ++ st.frame.temporaries.items)) c.as_slice.ensures.value in
     tells_wants event k run c.told-in-Some.result over c.told-in-Some.ensures.events (c.told-in-Some.ensures.outcome ∙ ap (λ z. Wants event z) (c.of.ensures ∙ held)) c.told-in-Some.ensures.given_up
 
@@ -32,7 +28,7 @@ returns-in-Err-Stopped c =
     let s = start c.args.answers.now c.args.fuel in
     let k0 : Known = record { variables = c.new.result.items; temporaries = c.new-2.result.items; below = c.new-3.result.items; answers = c.args.answers.now; events = c.new-4.result.items; held = c.new-5.result.items; fuel = c.args.fuel; given_up = c.new-6.result.items } in
     let begins : known s ≡ k0 = rw (c.new.ensures.items, c.new-2.ensures.items, c.new-3.ensures.items, c.new-4.ensures.items, c.new-5.ensures.items, c.new-6.ensures.items) refl in
-    let told : Does k0 (Err (ends.Stopped trap site)) k (run_thread m (function_at m.typed c.args.function) (to_z w64 (of_z w64 c.args.argument))) = subst (λ e. Does k0 (Err e) k (run_thread m (function_at m.typed c.args.function) (to_z w64 (of_z w64 c.args.argument)))) c.in-Err-Stopped.field-0-is c.in-Err-Stopped.ensures in
+    let told : Does k0 (Err (RunEnd.Stopped trap site)) k (run_thread m (function_at m.typed c.args.function) (to_z w64 (of_z w64 c.args.argument))) = subst (λ e. Does k0 (Err e) k (run_thread m (function_at m.typed c.args.function) (to_z w64 (of_z w64 c.args.argument)))) c.in-Err-Stopped.field-0-is c.in-Err-Stopped.ensures in
     let run = run_thread m (function_at m.typed c.args.function) c.args.argument s in
-    let over : Over (ends.Stopped trap site) k run = subst (λ z. Over (ends.Stopped trap site) k (run_thread m (function_at m.typed c.args.function) z s)) whole (told s begins) in
+    let over : Over (RunEnd.Stopped trap site) k run = subst (λ z. Over (RunEnd.Stopped trap site) k (run_thread m (function_at m.typed c.args.function) z s)) whole (told s begins) in
     tells_stopped trap site k run c.told-in-Err-Stopped.result over c.told-in-Err-Stopped.ensures.events (c.told-in-Err-Stopped.ensures.outcome ∙ ap (λ n. StoppedX n site) c.number.ensures) c.told-in-Err-Stopped.ensures.given_up

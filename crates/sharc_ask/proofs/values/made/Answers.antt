@@ -1,10 +1,4 @@
-use Rattle.std.proofs.Common.{ap, ◌∙◌, to_z-of_z}
-use Rattle.std.specs.Prelude.{unsigned_abs}
-use Rattle.sharc_names.specs.View.{view_kind}
-use Rattle.sharc_mode.specs.View.{view_sharing}
-use Rattle.sharc_meaning.specs.{Cells.{element_cells, instance_mode}, State.value_in, Statements.is_positive}
-use Rattle.sharc_ask.specs.StepView.{view_state}
-use Rattle.sharc_ask.proofs.Fitting.{made_goes}
+use Rattle.sharc_ask.proofs.{Imports.{ap, ◌∙◌, to_z-of_z, unsigned_abs, view_kind, view_sharing, element_cells, instance_mode, value_in, is_positive, view_state}, Fitting.made_goes}
 use Rattle.sharc_ask.proofs.values.made.Goals as goal
 
 pub returns-clause-does : goal.returns-clause-does

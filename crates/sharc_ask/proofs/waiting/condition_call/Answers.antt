@@ -1,7 +1,4 @@
-use Rattle.std.proofs.Common.{rules, ◌≡◌, true, bytes_eq, codes, slice_index_or, to_z, of_z, w64}
-use Rattle.sharc_meaning.specs.Reference.{NULL}
-use Rattle.sharc_ask.specs.StepView.{view_state}
-use Rattle.sharc_ask.proofs.Waits.{wait_named}
+use Rattle.sharc_ask.proofs.{Imports.{rules, ◌≡◌, true, bytes_eq, codes, slice_index_or, to_z, of_z, w64, NULL, view_state}, Waits.wait_named}
 use Rattle.sharc_ask.proofs.waiting.condition_call.Goals as goal
 
 pub returns-then-eq-clause-does : goal.returns-then-eq-clause-does

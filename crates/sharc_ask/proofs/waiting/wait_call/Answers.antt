@@ -1,6 +1,4 @@
-use Rattle.std.proofs.{Common.{to_z, of_z, w64, to_z-of_z}, lemmas.Result.err_from_is_err_and}
-use Rattle.sharc_ask.specs.StepView.{view_state}
-use Rattle.sharc_ask.proofs.Waits.{wait_goes, wait_not_held, wait_of_null_mutex}
+use Rattle.sharc_ask.proofs.{Imports.{to_z, of_z, w64, to_z-of_z, err_from_is_err_and, view_state}, Waits.{wait_goes, wait_not_held, wait_of_null_mutex}}
 use Rattle.sharc_ask.proofs.waiting.wait_call.Goals as goal
 
 pub returns-in_err-unless-2-clause-does : goal.returns-in_err-unless-2-clause-does

@@ -1,7 +1,4 @@
-use Rattle.std.proofs.Common.{◌≡◌, Ok, sym, subst}
-use Rattle.sharc_ask.specs.{StepView.view_state, Plans.{task_means, Plans}}
-use Rattle.sharc_ask.specs.declared.plan.Task.TheVariants as tasks
-use Rattle.sharc_ask.proofs.Outs.{lead_plans}
+use Rattle.sharc_ask.proofs.{Imports.{◌≡◌, Ok, sym, subst, view_state, task_means, Plans, Task}, Outs.lead_plans}
 use Rattle.sharc_ask.proofs.walk.begin.Goals as goal
 
 pub returns-in-Entered-clause-means : goal.returns-in-Entered-clause-means
@@ -11,4 +8,4 @@ returns-in-Entered-clause-means c = λ on_call.
     let w = c.in-Entered in
     let p = c.entered_plan.result in
     subst (λ z. Plans on_call m k (Ok p) k (task_means on_call m z)) (sym w.is)
-    (lead_plans on_call m k p (task_means on_call m (tasks.Entered w.kind w.statement)) (c.entered_plan.ensures.means on_call m))
+    (lead_plans on_call m k p (task_means on_call m (Task.Entered w.kind w.statement)) (c.entered_plan.ensures.means on_call m))

@@ -1,6 +1,4 @@
-use Rattle.std.proofs.Common.{◌≡◌, Err, sym, subst, rules}
-use Rattle.sharc_ask.specs.Stack.{Moves, Steps}
-use Rattle.sharc_ask.proofs.Stacking.{step_ends}
+use Rattle.sharc_ask.proofs.{Imports.{◌≡◌, Err, sym, subst, rules, Moves, Steps}, Stacking.step_ends}
 use Rattle.sharc_ask.proofs.walk.further.Goals as goal
 
 pub returns-in_err-at-clause-steps : goal.returns-in_err-at-clause-steps

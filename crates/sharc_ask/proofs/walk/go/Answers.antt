@@ -1,8 +1,4 @@
-use Rattle.std.proofs.Common.{◌≡◌, Ok, Err, sym, subst, rules}
-use Rattle.sharc_meaning.specs.Meaning.{calls}
-use Rattle.sharc_ask.specs.{StepView.view_state, Plans.plan_means, Stack.{stack_of, Moves}}
-use Rattle.sharc_ask.specs.declared.plan.Plan.TheVariants as plans
-use Rattle.sharc_ask.proofs.Stacking.{task_moves, task_ends}
+use Rattle.sharc_ask.proofs.{Imports.{◌≡◌, Ok, Err, sym, subst, rules, calls, view_state, plan_means, stack_of, Moves, Plan}, Stacking.{task_moves, task_ends}}
 use Rattle.sharc_ask.proofs.walk.go.Goals as goal
 
 pub returns-clause-moves : goal.returns-clause-moves
@@ -11,7 +7,7 @@ returns-clause-moves c =
     let n = c.args.frames in
     let k = view_state c.args.st.now in
     let k1 = view_state c.begin.new.st in
-    let run = plan_means (calls m n) m (plans.Goes c.args.task c.args.rest) in
+    let run = plan_means (calls m n) m (Plan.Goes c.args.task c.args.rest) in
     subst (λ z. Moves m k (stack_of c.args.stack.now) (Ok (record { frames = n; plan = c.in_ok-plan.plan })) k1 z run) (sym c.in_ok-push_rest.ensures.pushed) (task_moves m n k k1 c.args.task c.args.rest c.in_ok-plan.plan (stack_of c.args.stack.now) (c.in_ok-plan.ensures.means (calls m n)))
 
 pub returns-in_err-plan-clause-moves : goal.returns-in_err-plan-clause-moves
@@ -23,5 +19,5 @@ returns-in_err-plan-clause-moves c =
     let end = c.in_err-plan.field-0.0 in
     let over : c.from_residual-in_err-plan.result ≡ Err end = search rules in
     let stack1 = stack_of c.push_rest.new.stack in
-    subst (λ r. Moves m k (stack_of c.args.stack.now) r k1 stack1 (plan_means (calls m n) m (plans.Goes c.args.task c.args.rest))) (sym over)
+    subst (λ r. Moves m k (stack_of c.args.stack.now) r k1 stack1 (plan_means (calls m n) m (Plan.Goes c.args.task c.args.rest))) (sym over)
     (task_ends m n k k1 c.args.task c.args.rest end (stack_of c.args.stack.now) stack1 (c.in_err-plan.ensures.means (calls m n)))

@@ -1,11 +1,4 @@
-use Rattle.std.proofs.Common.{◌≡◌, ◌++◌, ◌∷◌, [], Ok, Err, sym, ap, ◌∙◌, subst, to_z, of_z, w64, rules}
-use Rattle.std.specs.Prelude.{ℤ}
-use Rattle.sharc_tree.specs.View.{view_arguments}
-use Rattle.sharc_names.specs.Kinds.{declared_kinds}
-use Rattle.sharc_meaning.specs.Meaning.{calls}
-use Rattle.sharc_ask.specs.{StepView.view_state, Values.{Value, number_in, view_value}, Plans.rest_means, Stack.{Behind, stack_of, awaits, IsBehind, IsCaller, Moves}}
-use Rattle.sharc_ask.specs.declared.stack.Later.TheVariants as laters
-use Rattle.sharc_ask.proofs.Stacking.{resumed_moves, resumed_ends}
+use Rattle.sharc_ask.proofs.{Imports.{◌≡◌, ◌++◌, ◌∷◌, [], Ok, Err, sym, ap, ◌∙◌, subst, to_z, of_z, w64, rules, ℤ, view_arguments, declared_kinds, calls, view_state, Value, number_in, view_value, rest_means, Behind, stack_of, awaits, IsBehind, IsCaller, Moves}, Stacking.{resumed_moves, resumed_ends}}
 use Rattle.sharc_ask.proofs.walk.go_on.Goals as goal
 
 pub returns-in_ok-plan-in-Rest-clause-moves : goal.returns-in_ok-plan-in-Rest-clause-moves

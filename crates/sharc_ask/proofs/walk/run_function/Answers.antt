@@ -1,9 +1,4 @@
-use Rattle.std.proofs.Common.{◌≡◌, [], Ok, Err, sym, subst, rules}
-use Rattle.std.specs.Prelude.{reverse}
-use Rattle.sharc_tree.specs.View.{view_function}
-use Rattle.sharc_meaning.specs.Meaning.{calls, run_function}
-use Rattle.sharc_ask.specs.{StepView.{view_state, Does}, Values.{as_left, gives}, Stack.{stack_of, Moves}}
-use Rattle.sharc_ask.proofs.{Returning.left_over, Stacking.whole_does}
+use Rattle.sharc_ask.proofs.{Imports.{◌≡◌, [], Ok, Err, sym, subst, rules, reverse, view_function, calls, run_function, view_state, Does, as_left, gives, stack_of, Moves}, Returning.left_over, Stacking.whole_does}
 use Rattle.sharc_ask.proofs.walk.run_function.Goals as goal
 
 pub returns : goal.returns

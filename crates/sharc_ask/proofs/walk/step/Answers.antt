@@ -1,8 +1,4 @@
-use Rattle.std.proofs.Common.{◌≡◌, List, [], ◌∷◌, ◌++◌, sym, ap, ◌∙◌, subst}
-use Rattle.std.specs.Prelude.{reverse}
-use Rattle.sharc_meaning.specs.Meaning.{calls}
-use Rattle.sharc_ask.specs.{StepView.view_state, declared.stack.Left.Left, Plans.plan_means, Stack.{stack_of, Steps, at_means}}
-use Rattle.sharc_ask.proofs.Stacking.{on_top, popped_moves}
+use Rattle.sharc_ask.proofs.{Imports.{◌≡◌, List, [], ◌∷◌, ◌++◌, sym, ap, ◌∙◌, subst, reverse, calls, view_state, Left, plan_means, stack_of, Steps, at_means}, Stacking.{on_top, popped_moves}}
 use Rattle.sharc_ask.proofs.walk.step.Goals as goal
 
 pub returns-in-Goes-clause-steps : goal.returns-in-Goes-clause-steps

@@ -1,7 +1,4 @@
-use Rattle.std.proofs.Common.{◌≡◌, Ok, Err, sym, subst, rules}
-use Rattle.sharc_ask.specs.{StepView.view_state, Stack.{stack_of, at_means, Steps, Comes}}
-use Rattle.sharc_ask.specs.declared.walk.Stepped.TheVariants as stepped
-use Rattle.sharc_ask.proofs.Stacking.{step_on, comes_whole, comes_over}
+use Rattle.sharc_ask.proofs.{Imports.{◌≡◌, Ok, Err, sym, subst, rules, view_state, stack_of, at_means, Steps, Comes, Stepped}, Stacking.{step_on, comes_whole, comes_over}}
 use Rattle.sharc_ask.proofs.walk.walk.Goals as goal
 
 pub returns-in-Whole : goal.returns-in-Whole
@@ -12,7 +9,7 @@ returns-in-Whole c =
     let k1 = view_state c.step.new.st in
     let stack = stack_of now.stack in
     let stack1 = stack_of c.step.new.stack in
-    let went : Steps m k stack (Ok (stepped.Whole c.in-Whole.value)) k1 stack1 (at_means m now.at) = subst (λ z. Steps m k stack (Ok z) k1 stack1 (at_means m now.at)) c.in-Whole.is c.in_ok-value.ensures.steps in
+    let went : Steps m k stack (Ok (Stepped.Whole c.in-Whole.value)) k1 stack1 (at_means m now.at) = subst (λ z. Steps m k stack (Ok z) k1 stack1 (at_means m now.at)) c.in-Whole.is c.in_ok-value.ensures.steps in
     now.invariant.so_far (Ok c.in-Whole.value) k1 (comes_whole m now.at k k1 stack stack1 c.in-Whole.value went)
 
 pub returns-in_err-value : goal.returns-in_err-value
@@ -35,5 +32,5 @@ loop-stack-preserved c =
     let k1 = view_state c.step.new.st in
     let stack = stack_of now.stack in
     let stack1 = stack_of c.step.new.stack in
-    let went : Steps m k stack (Ok (stepped.Goes c.in-Goes.next)) k1 stack1 (at_means m now.at) = subst (λ z. Steps m k stack (Ok z) k1 stack1 (at_means m now.at)) c.in-Goes.is c.in_ok-value.ensures.steps in
+    let went : Steps m k stack (Ok (Stepped.Goes c.in-Goes.next)) k1 stack1 (at_means m now.at) = subst (λ z. Steps m k stack (Ok z) k1 stack1 (at_means m now.at)) c.in-Goes.is c.in_ok-value.ensures.steps in
     record { so_far = λ r after later. now.invariant.so_far r after (step_on m now.at c.in-Goes.next k k1 after stack stack1 r went later) }

@@ -1,5 +1,4 @@
-use Rattle.std.specs.Prelude.{◌+◌, ◌*◌, Result}
-use Rattle.sharc_ask.specs.{declared.state.RunEnd.RunEnd, StepView.{Known, view_state}, declared.plan.Value.Value, Plans.size, Stack.{stack_of, Comes, load}}
+use Rattle.sharc_ask.proofs.Imports.{◌+◌, ◌*◌, Result, RunEnd, Known, view_state, RustValue as Value, size, stack_of, Comes, load}
 use Rattle.sharc_ask.proofs.walk.walk.Given as goal
 
 abbrev pub invariant-loop-stack : goal.invariant-loop-stack

@@ -1,8 +1,4 @@
-use Rattle.std.proofs.{Common.{◌+◌, ◌-◌, suc, [], ◌∷◌, ◌++◌, length, drop, sym, subst, ◌∙◌, add-one, take}, lemmas.Bool.iff_false}
-use Rattle.sharc_audit.specs.{Audited.Audits, Lines.IsLine, Known.{AreKnown, ArePlaces}, Breaking.{IsFault, IsPassed}, Mains.OneMain, Reported.AreTold}
-use Rattle.sharc_audit.specs.declared.audit.EventFault.TheVariants as fault
-use Rattle.sharc_audit.specs.declared.audit.Verdict.TheVariants as verdict
-use Rattle.sharc_audit.proofs.{Auditing.{Standing, at_place, says_spent, says_nothing, says_other, says_fault, stands_on, nothing_stands, nothing_known, told_so, lines_behind}, Breaking.unbroken_so, Placing.{once_if_legal, parts_at, told_on}}
+use Rattle.sharc_audit.proofs.{Imports.{◌+◌, ◌-◌, suc, [], ◌∷◌, ◌++◌, length, drop, sym, subst, ◌∙◌, add-one, take, iff_false, Audits, IsLine, AreKnown, ArePlaces, IsFault, IsPassed, OneMain, AreTold, EventFault, Verdict}, Auditing.{Standing, at_place, says_spent, says_nothing, says_other, says_fault, stands_on, nothing_stands, nothing_known, told_so, lines_behind}, Breaking.unbroken_so, Placing.{once_if_legal, parts_at, told_on}}
 use Rattle.sharc_audit.proofs.audit.audit.Goals as goal
 
 pub fault_of-requires : goal.fault_of-requires
@@ -36,7 +32,7 @@ returns-in-Spent c =
     let found = c.in_ok-next.ensures.next in
     let at = at_place all c.loop-i.i l _ c.loop-i-test.true c.index-all-i.is in
     let one = subst OneMain c.typed.ensures c.in_ok-main.ensures.one in
-    subst (λ z. Audits z c.args.fuel c.args.lines.now (verdict.Fuel (c.loop-i.i + 1))) c.moded-m.ensures.moded (subst (λ z. Audits m c.args.fuel z (verdict.Fuel (c.loop-i.i + 1))) c.as_slice-all.ensures
+    subst (λ z. Audits z c.args.fuel c.args.lines.now (Verdict.Fuel (c.loop-i.i + 1))) c.moded-m.ensures.moded (subst (λ z. Audits m c.args.fuel z (Verdict.Fuel (c.loop-i.i + 1))) c.as_slice-all.ensures
     (says_spent c.ask_laws.ensures c.store_laws.ensures c.run_laws.ensures c.rule_laws.ensures m one c.args.fuel all c.loop-i.i l at c.loop-i.past c.loop-i.invariant.standing (c.loop-i.i + 1) (add-one c.loop-i.i) (sym found ∙ c.in-Spent.is)))
 
 pub returns-in-Nothing : goal.returns-in-Nothing
@@ -47,7 +43,7 @@ returns-in-Nothing c =
     let found = c.in_ok-next.ensures.next in
     let at = at_place all c.loop-i.i l _ c.loop-i-test.true c.index-all-i.is in
     let one = subst OneMain c.typed.ensures c.in_ok-main.ensures.one in
-    subst (λ z. Audits z c.args.fuel c.args.lines.now (verdict.Fails (c.loop-i.i + 1) fault.NotAsked)) c.moded-m.ensures.moded (subst (λ z. Audits m c.args.fuel z (verdict.Fails (c.loop-i.i + 1) fault.NotAsked)) c.as_slice-all.ensures
+    subst (λ z. Audits z c.args.fuel c.args.lines.now (Verdict.Fails (c.loop-i.i + 1) EventFault.NotAsked)) c.moded-m.ensures.moded (subst (λ z. Audits m c.args.fuel z (Verdict.Fails (c.loop-i.i + 1) EventFault.NotAsked)) c.as_slice-all.ensures
     (says_nothing c.ask_laws.ensures c.store_laws.ensures c.run_laws.ensures c.rule_laws.ensures m one c.args.fuel all c.loop-i.i l at c.loop-i.past c.loop-i.invariant.standing (c.loop-i.i + 1) (add-one c.loop-i.i) (sym found ∙ c.in-Nothing.is)))
 
 pub returns-then-not-is_line : goal.returns-then-not-is_line
@@ -59,7 +55,7 @@ returns-then-not-is_line c =
     let at = at_place all c.loop-i.i l _ c.loop-i-test.true c.index-all-i.is in
     let one = subst OneMain c.typed.ensures c.in_ok-main.ensures.one in
     let other = iff_false c.is_line.ensures c.if-not-is_line.true in
-    subst (λ z. Audits z c.args.fuel c.args.lines.now (verdict.Fails (c.loop-i.i + 1) fault.NotAsked)) c.moded-m.ensures.moded (subst (λ z. Audits m c.args.fuel z (verdict.Fails (c.loop-i.i + 1) fault.NotAsked)) c.as_slice-all.ensures
+    subst (λ z. Audits z c.args.fuel c.args.lines.now (Verdict.Fails (c.loop-i.i + 1) EventFault.NotAsked)) c.moded-m.ensures.moded (subst (λ z. Audits m c.args.fuel z (Verdict.Fails (c.loop-i.i + 1) EventFault.NotAsked)) c.as_slice-all.ensures
     (says_other c.ask_laws.ensures c.store_laws.ensures c.run_laws.ensures c.rule_laws.ensures m one c.args.fuel all c.loop-i.i l at c.loop-i.past c.loop-i.invariant.standing (c.loop-i.i + 1) c.in-Wants.e (add-one c.loop-i.i) (sym found ∙ c.in-Wants.is) (λ line. other (subst (λ z. IsLine z l c.in-Wants.e) (sym c.typed-in-Wants.ensures) line))))
 
 pub returns-in-Some : goal.returns-in-Some
@@ -74,7 +70,7 @@ returns-in-Some c =
     let next = sym found ∙ c.in-Wants.is in
     let line : IsLine m.typed l e = subst (λ z. IsLine z l e) c.typed-in-Wants.ensures (c.is_line.ensures.0 c.if-not-is_line.false) in
     let why : IsFault m c.loop-i.past e c.in-Some.fault = c.in-Some.ensures in
-    subst (λ z. Audits z c.args.fuel c.args.lines.now (verdict.Fails (c.loop-i.i + 1) c.in-Some.fault)) c.moded-m.ensures.moded (subst (λ z. Audits m c.args.fuel z (verdict.Fails (c.loop-i.i + 1) c.in-Some.fault)) c.as_slice-all.ensures
+    subst (λ z. Audits z c.args.fuel c.args.lines.now (Verdict.Fails (c.loop-i.i + 1) c.in-Some.fault)) c.moded-m.ensures.moded (subst (λ z. Audits m c.args.fuel z (Verdict.Fails (c.loop-i.i + 1) c.in-Some.fault)) c.as_slice-all.ensures
     (says_fault c.ask_laws.ensures c.store_laws.ensures c.run_laws.ensures c.rule_laws.ensures m one c.args.fuel all c.loop-i.i l at c.loop-i.past c.loop-i.invariant.standing (c.loop-i.i + 1) e c.in-Some.fault (add-one c.loop-i.i) next line why))
 
 pub loop-i-preserved : goal.loop-i-preserved

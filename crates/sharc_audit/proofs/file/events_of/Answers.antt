@@ -1,7 +1,4 @@
-use Rattle.std.proofs.Common.{◌≡◌, ◌≤◌, ◌+◌, [], ◌∷◌, ◌++◌, cond, not, true, length, length-append, arith, ap, ◌∙◌, subst, sym}
-use Rattle.std.specs.Prelude.{is_ok}
-use Rattle.sharc_audit.specs.Grammar.{text_lines, IsEventLine}
-use Rattle.sharc_audit.proofs.Filing.{Listing, listing_next, listing_bad, further_fault, some_line, no_line}
+use Rattle.sharc_audit.proofs.{Imports.{◌≡◌, ◌≤◌, ◌+◌, [], ◌∷◌, ◌++◌, cond, not, true, length, length-append, arith, ap, ◌∙◌, subst, sym, is_ok, text_lines, IsEventLine}, Filing.{Listing, listing_next, listing_bad, further_fault, some_line, no_line}}
 use Rattle.sharc_audit.proofs.file.events_of.Goals as goal
 
 pub returns-in-None-clause-bad : goal.returns-in-None-clause-bad

@@ -1,6 +1,4 @@
-use Rattle.std.proofs.Common.{◌+◌, ◌≤◌, length}
-use Rattle.sharc_audit.specs.Grammar.{text_lines}
-use Rattle.sharc_audit.proofs.Filing.{Listing}
+use Rattle.sharc_audit.proofs.{Imports.{◌+◌, ◌≤◌, length, text_lines}, Filing.Listing}
 use Rattle.sharc_audit.proofs.file.events_of.Given as goal
 
 abbrev pub invariant-loop-rest : goal.invariant-loop-rest

@@ -1,5 +1,4 @@
-use Rattle.std.proofs.{Common.{◌≡◌, ◌<◌, ◌-◌, ℕ, length, take, arith, refl, sym, ◌∙◌}, lemmas.Bool.{eqb-true, both_ways, eq-eqb}}
-use Rattle.sharc_audit.proofs.{Filing.{heading_next, heading_end, heading_bad, heading_found}, file.head.Goals.{then-n-gt1+in-None, else-n-gt1}}
+use Rattle.sharc_audit.proofs.{Imports.{◌≡◌, ◌<◌, ◌-◌, ℕ, length, take, arith, refl, sym, ◌∙◌, eqb-true, both_ways, eq-eqb}, Filing.{heading_next, heading_end, heading_bad, heading_found}, file.head.Goals.{then-n-gt1+in-None, else-n-gt1}}
 use Rattle.sharc_audit.proofs.file.head.Goals as goal
 
 some : (n : ℕ) → (n ≡ 0 → ⊥) → 0 < n

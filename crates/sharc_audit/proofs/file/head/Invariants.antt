@@ -1,5 +1,4 @@
-use Rattle.std.proofs.Common.{◌+◌, ◌≤◌, length}
-use Rattle.sharc_audit.proofs.Filing.{Heading}
+use Rattle.sharc_audit.proofs.{Imports.{◌+◌, ◌≤◌, length}, Filing.Heading}
 use Rattle.sharc_audit.proofs.file.head.Given as goal
 
 abbrev pub invariant-loop-rest : goal.invariant-loop-rest

@@ -1,5 +1,4 @@
-use Rattle.std.proofs.lemmas.Result.{err_from_is_err_and}
-use Rattle.sharc_audit.proofs.Filing.{fault_of}
+use Rattle.sharc_audit.proofs.{Imports.err_from_is_err_and, Filing.fault_of}
 use Rattle.sharc_audit.proofs.file.read_events.Goals as goal
 
 pub returns-in_err-events-in-Ok-clause-bad : goal.returns-in_err-events-in-Ok-clause-bad

@@ -1,6 +1,4 @@
-use Rattle.std.proofs.Common.{arith}
-use Rattle.sharc_audit.specs.Grammar.{text_lines}
-use Rattle.sharc_audit.proofs.Filing.{passed_bad, passed_next, some_line, no_line}
+use Rattle.sharc_audit.proofs.{Imports.{arith, text_lines}, Filing.{passed_bad, passed_next, some_line, no_line}}
 use Rattle.sharc_audit.proofs.file.too_many.Goals as goal
 
 pub returns-in-Ok-None : goal.returns-in-Ok-None

@@ -1,6 +1,4 @@
-use Rattle.std.proofs.Common.{◌+◌, ◌≤◌, length}
-use Rattle.sharc_audit.specs.Grammar.{text_lines}
-use Rattle.sharc_audit.proofs.Filing.{Passed}
+use Rattle.sharc_audit.proofs.{Imports.{◌+◌, ◌≤◌, length, text_lines}, Filing.Passed}
 use Rattle.sharc_audit.proofs.file.too_many.Given as goal
 
 abbrev pub invariant-loop-rest : goal.invariant-loop-rest

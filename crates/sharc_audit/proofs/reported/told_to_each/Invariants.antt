@@ -1,5 +1,4 @@
-use Rattle.std.proofs.Common.{◌≡◌, ℕ, take}
-use Rattle.sharc_audit.specs.{Lines.told_to, Reported.told_in}
+use Rattle.sharc_audit.proofs.Imports.{◌≡◌, ℕ, take, told_to, told_in}
 use Rattle.sharc_audit.proofs.reported.told_to_each.Given as goal
 
 abbrev pub invariant-loop-line : goal.invariant-loop-line

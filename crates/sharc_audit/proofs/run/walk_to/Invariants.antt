@@ -1,5 +1,4 @@
-use Rattle.std.proofs.Common.{◌≡◌, ◌≤◌, ◌-◌}
-use Rattle.sharc_audit.specs.Walks.{IsWalk}
+use Rattle.sharc_audit.proofs.Imports.{◌≡◌, ◌≤◌, ◌-◌, IsWalk}
 use Rattle.sharc_audit.proofs.run.walk_to.Given as goal
 
 abbrev pub invariant-walks : goal.invariant-walks

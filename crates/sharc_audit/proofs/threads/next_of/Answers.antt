@@ -1,7 +1,4 @@
-use Rattle.std.proofs.Common.{◌≡◌, ap, ◌∙◌}
-use Rattle.std.specs.Prelude.{slice_get}
-use Rattle.sharc_audit.specs.{declared.run.ThreadRun.ThreadRun, Judging.event_at}
-use Rattle.sharc_audit.proofs.Walking.{far_enough}
+use Rattle.sharc_audit.proofs.{Imports.{◌≡◌, ap, ◌∙◌, slice_get, ThreadRun, event_at}, Walking.far_enough}
 use Rattle.sharc_audit.proofs.threads.next_of.Goals as goal
 
 pub returns-clause-next : goal.returns-clause-next

@@ -1,8 +1,5 @@
 -- Each turn leaves the seat of one port, and the rest has the parts of the later ones.
-use Rattle.std.proofs.Common.{◌≡◌, ◌≢◌, ℕ, suc, ◌+◌, ◌-◌, ◌<◌, List, [], ◌∷◌, ◌++◌, take, drop, refl, sym, ap, ◌∙◌, arith}
-use Rattle.atomic_table.specs.Table.{Me}
-use Rattle.sharc_bus.specs.{declared.rule.Part.Part, Rule.{IsAmong, unbegun, words_known, own_bit, first_number}, Bus.SeatView, Table.{seat_view, seats_with}}
-use Rattle.sharc_bus.proofs.{Seats.{among_unbegun, split_allowed}, Giving.{rest_is, given_more, next_bit}}
+use Rattle.sharc_bus.proofs.{Imports.{◌≡◌, ◌≢◌, ℕ, suc, ◌+◌, ◌-◌, ◌<◌, List, [], ◌∷◌, ◌++◌, take, drop, refl, sym, ap, ◌∙◌, arith, Me, Part, IsAmong, unbegun, words_known, own_bit, first_number, SeatView, seat_view, seats_with}, Seats.{among_unbegun, split_allowed}, Giving.{rest_is, given_more, next_bit}}
 use Rattle.sharc_bus.proofs.parts.give_seats.Goals as goal
 
 abbrev M : Type 0

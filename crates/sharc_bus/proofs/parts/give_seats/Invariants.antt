@@ -1,5 +1,4 @@
-use Rattle.std.proofs.Common.{◌≡◌, suc, ◌-◌, [], ◌++◌}
-use Rattle.sharc_bus.specs.{Rule.{unbegun, words_known, own_bit}, Table.seats_with}
+use Rattle.sharc_bus.proofs.Imports.{◌≡◌, suc, ◌-◌, [], ◌++◌, unbegun, words_known, own_bit, seats_with}
 use Rattle.sharc_bus.proofs.parts.give_seats.Given as goal
 
 -- the rest has the parts of the ports from the counter on, and one more, and the others' seats are in the list

@@ -1,5 +1,4 @@
-use Rattle.std.proofs.{Common.{◌≡◌, length, arith}, lemmas.List.ext_get_or}
-use Rattle.std.specs.Mem.Slots.{slots_items, slots_counts}
+use Rattle.sharc_bus.proofs.Imports.{◌≡◌, length, arith, ext_get_or, slots_items, slots_counts}
 use Rattle.sharc_bus.proofs.parts.read_words.Goals as goal
 
 pub returns : goal.returns

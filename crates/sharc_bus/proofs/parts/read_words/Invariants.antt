@@ -1,4 +1,4 @@
-use Rattle.std.proofs.Common.{◌≡◌, ◌<◌, ℕ, get_or}
+use Rattle.sharc_bus.proofs.Imports.{◌≡◌, ◌<◌, ℕ, get_or}
 use Rattle.sharc_bus.proofs.parts.read_words.Given as goal
 
 abbrev pub invariant-loop-i : goal.invariant-loop-i

@@ -1,8 +1,5 @@
 -- The seat takes in the parts of those that are popped.
-use Rattle.std.proofs.{Common.{◌≡◌, suc, ◌+◌, List, [], ◌∷◌, ◌++◌, All, length, refl, sym, ap, ◌∙◌, subst, arith, append_assoc, length-append}, lemmas.List.append-nil}
-use Rattle.atomic_table.specs.Table.{Me}
-use Rattle.sharc_bus.specs.{declared.rule.Part.Part, Bus.SeatView, Table.HasAll}
-use Rattle.sharc_bus.proofs.{Seats.join_allowed, Closing.{all_left, all_last, part_right, has_more}}
+use Rattle.sharc_bus.proofs.{Imports.{◌≡◌, suc, ◌+◌, List, [], ◌∷◌, ◌++◌, All, length, refl, sym, ap, ◌∙◌, subst, arith, append_assoc, length-append, append-nil, Me, Part, SeatView, HasAll}, Seats.join_allowed, Closing.{all_left, all_last, part_right, has_more}}
 use Rattle.sharc_bus.proofs.parts.take_seats.Goals as goal
 
 abbrev M : Type 0

@@ -1,5 +1,4 @@
-use Rattle.std.proofs.Common.{◌≡◌, ◌+◌, List, ◌++◌, All, length, vec_len}
-use Rattle.sharc_bus.specs.{declared.rule.Part.Part, Bus.SeatView, Table.HasAll}
+use Rattle.sharc_bus.proofs.Imports.{◌≡◌, ◌+◌, List, ◌++◌, All, length, vec_len, Part, SeatView, HasAll}
 use Rattle.sharc_bus.proofs.parts.take_seats.Given as goal
 
 -- the parts of the seats that were taken are together, after those of the first

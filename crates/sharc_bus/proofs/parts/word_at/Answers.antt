@@ -1,6 +1,4 @@
-use Rattle.std.proofs.Common.{sym}
-use Rattle.std.specs.Mem.Slots.{slots_items}
-use Rattle.sharc_bus.proofs.Closing.{index_at}
+use Rattle.sharc_bus.proofs.{Imports.{sym, slots_items}, Closing.index_at}
 use Rattle.sharc_bus.proofs.parts.word_at.Goals as goal
 
 pub returns : goal.returns

@@ -1,8 +1,5 @@
 -- A load of bits that stand is an Or of them, and one that finds them not leaves the seat as it was.
-use Rattle.std.proofs.Common.{◌≡◌, ℕ, suc, ◌+◌, ◌%◌, ◌^◌, ◌<◌, length, arith, refl, ap, ◌∙◌}
-use Rattle.sharc_word.specs.{declared.step.WordOp.WordOp, declared.step.WordOp.TheVariants.Or, Words.word_after}
-use Rattle.sharc_bus.specs.Rule.{own_bit, own_bits, first_number}
-use Rattle.sharc_bus.proofs.{Steps.{step_allowed, standing_allowed, not_standing}, step.make_or.Goals.{then-bits-own+else-found-bits, else-bits-own+then-bits-own-2+else-found-bits-2, else-bits-own+else-bits-own-2}}
+use Rattle.sharc_bus.proofs.{Imports.{◌≡◌, ℕ, suc, ◌+◌, ◌%◌, ◌^◌, ◌<◌, length, arith, refl, ap, ◌∙◌, WordOp, Or, word_after, own_bit, own_bits, first_number}, Steps.{step_allowed, standing_allowed, not_standing}, step.make_or.Goals.{then-bits-own+else-found-bits, else-bits-own+then-bits-own-2+else-found-bits-2, else-bits-own+else-bits-own-2}}
 use Rattle.sharc_bus.proofs.step.make_or.Goals as goal
 
 pub load-found-requires : goal.load-found-requires

@@ -1,8 +1,5 @@
 -- Each operation of the table does what the operation of the step says.
-use Rattle.std.proofs.Common.{◌≡◌, ℕ, suc, ◌<◌, ◌==◌, Bool, true, false, length, arith, refl, if◌then◌else◌}
-use prog.Atomic.{either}
-use Rattle.sharc_word.specs.{declared.step.WordOp.WordOp, declared.step.WordOp.TheVariants.{Load, Swap, Add, Sub, And, Cas}, Words.word_after}
-use Rattle.sharc_bus.proofs.Steps.{step_allowed}
+use Rattle.sharc_bus.proofs.{Imports.{◌≡◌, ℕ, suc, ◌<◌, ◌==◌, Bool, true, false, length, arith, refl, if◌then◌else◌, either, WordOp, Load, Swap, Add, Sub, And, Cas, word_after}, Steps.step_allowed}
 use Rattle.sharc_bus.proofs.step.make_step.Goals as goal
 
 pub load-requires : goal.load-requires

@@ -1,4 +1,4 @@
-use Rattle.std.proofs.Common.{◌≡◌}
+use Rattle.sharc_bus.proofs.Imports.{◌≡◌}
 use Rattle.sharc_bus.proofs.tests.try_to_add.Given as goal
 
 abbrev pub invariant-loop : goal.invariant-loop

@@ -1,5 +1,4 @@
-use Rattle.std.proofs.Common.{refl, length}
-use Rattle.sharc_check.proofs.OrderLemmas.{met, refused, none_listed, some_listed}
+use Rattle.sharc_check.proofs.{Imports.{refl, length}, OrderLemmas.{met, refused, none_listed, some_listed}}
 use Rattle.sharc_check.proofs.answer.check.Goals as goal
 
 pub invariant_of-result : goal.invariant_of-result

@@ -1,7 +1,4 @@
-use Rattle.std.proofs.Common.{◌≡◌, ap, sym, ◌∙◌, subst, List}
-use Rattle.sharc_mode.specs.{declared.error.ModeError.ModeError, Notes.errors_of, WellModed.notes_about}
-use Rattle.sharc_check.specs.{Orders.IsInOrder, Threads.touched_by}
-use Rattle.sharc_check.proofs.{NamedLemmas.told_by, TouchedLemmas.all_arise}
+use Rattle.sharc_check.proofs.{Imports.{◌≡◌, ap, sym, ◌∙◌, subst, List, ModeError, errors_of, notes_about, IsInOrder, touched_by}, NamedLemmas.told_by, TouchedLemmas.all_arise}
 use Rattle.sharc_check.proofs.answer.errors.Goals as goal
 
 pub returns : goal.returns

@@ -1,6 +1,4 @@
-use Rattle.std.proofs.Common.{◌≡◌, subst, OnOk}
-use Rattle.sharc_tree.specs.{Children.view_call, View.view_expr}
-use Rattle.sharc_check.proofs.CallLemmas.{call_said}
+use Rattle.sharc_check.proofs.{Imports.{◌≡◌, subst, OnOk, view_call, view_expr}, CallLemmas.call_said}
 use Rattle.sharc_check.proofs.expr.+expr.Goals as goal
 
 pub expression-returns-in-Call : goal.expression-returns-in-Call

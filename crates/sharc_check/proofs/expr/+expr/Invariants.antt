@@ -1,7 +1,4 @@
-use Rattle.std.proofs.Common.{◌≡◌, ◌++◌, drop}
-use Rattle.sharc_tree.specs.View.{view_arguments}
-use Rattle.sharc_ctype.specs.{Resolved.named_at, Transfers.parameters_named}
-use Rattle.sharc_mode.specs.Expressions.{notes_of_all}
+use Rattle.sharc_check.proofs.Imports.{◌≡◌, ◌++◌, drop, view_arguments, named_at, parameters_named, notes_of_all}
 use Rattle.sharc_check.proofs.expr.+expr.Given as goal
 
 abbrev pub invariant-called-loop-expr : goal.invariant-called-loop-expr

@@ -1,7 +1,4 @@
-use Rattle.std.proofs.Common.{◌≡◌, List, subst}
-use Rattle.sharc_mode.specs.declared.error.ModeError.{ModeError}
-use Rattle.sharc_check.specs.Orders.{IsInOrder}
-use Rattle.sharc_check.proofs.OnlyLemmas.{only}
+use Rattle.sharc_check.proofs.{Imports.{◌≡◌, List, subst, ModeError, IsInOrder}, OnlyLemmas.only}
 use Rattle.sharc_check.proofs.laws.check_laws.Goals as goal
 
 pub returns : goal.returns

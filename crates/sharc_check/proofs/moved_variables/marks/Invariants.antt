@@ -1,5 +1,4 @@
-use Rattle.std.proofs.Common.{◌≡◌, drop, fold}
-use Rattle.sharc_check.specs.Settles.{marked, marks}
+use Rattle.sharc_check.proofs.Imports.{◌≡◌, drop, fold, marked, marks}
 use Rattle.sharc_check.proofs.moved_variables.marks.Given as goal
 
 abbrev pub invariant-loop-note : goal.invariant-loop-note

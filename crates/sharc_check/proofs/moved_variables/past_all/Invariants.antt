@@ -1,5 +1,4 @@
-use Rattle.std.proofs.Common.{◌≡◌, drop, fold}
-use Rattle.sharc_check.specs.Settles.{past, past_all}
+use Rattle.sharc_check.proofs.Imports.{◌≡◌, drop, fold, past, past_all}
 use Rattle.sharc_check.proofs.moved_variables.past_all.Given as goal
 
 abbrev pub invariant-loop-note : goal.invariant-loop-note

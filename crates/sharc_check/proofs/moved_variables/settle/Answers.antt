@@ -1,6 +1,4 @@
-use Rattle.std.proofs.Common.{ap, ◌∙◌, refl}
-use Rattle.sharc_check.specs.Settles.{marks}
-use Rattle.sharc_check.proofs.SettleLemmas.{all_settled}
+use Rattle.sharc_check.proofs.{Imports.{ap, ◌∙◌, refl, marks}, SettleLemmas.all_settled}
 use Rattle.sharc_check.proofs.moved_variables.settle.Goals as goal
 
 pub returns : goal.returns

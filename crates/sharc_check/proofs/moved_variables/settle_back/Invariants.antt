@@ -1,6 +1,4 @@
-use Rattle.std.proofs.Common.{◌≡◌, ◌++◌, length, reverse}
-use Rattle.std.specs.List.{flat_map}
-use Rattle.sharc_check.specs.Settles.{settled}
+use Rattle.sharc_check.proofs.Imports.{◌≡◌, ◌++◌, length, reverse, flat_map, settled}
 use Rattle.sharc_check.proofs.moved_variables.settle_back.Given as goal
 
 abbrev pub invariant-loop-note : goal.invariant-loop-note

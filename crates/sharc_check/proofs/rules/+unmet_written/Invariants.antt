@@ -1,4 +1,4 @@
-use Rattle.std.proofs.Common.{length}
+use Rattle.sharc_check.proofs.Imports.{length}
 use Rattle.sharc_check.proofs.rules.+unmet_written.Given as goal
 
 abbrev pub decreases-unmet_written : goal.decreases-unmet_written

@@ -1,8 +1,5 @@
-use Rattle.std.proofs.Common.{◌+◌, ◌≤◌, length, ap, sym, ◌∙◌, arith}
-use Rattle.sharc_mode.specs.{Moded.position_count, Rows.modes_of, View.{view_row, view_sharing}, Sharings.is_sibling}
-use Rattle.sharc_check.proofs.RowLemmas.{step_row, step_ends, none_of_one}
+use Rattle.sharc_check.proofs.{Imports.{◌+◌, ◌≤◌, length, ap, sym, ◌∙◌, arith, position_count, modes_of, view_row, view_sharing, is_sibling, list_any}, RowLemmas.{step_row, step_ends, none_of_one}}
 use Rattle.sharc_check.proofs.rules.any_sibling.Goals as goal
-use Rattle.std.specs.List.{list_any}
 
 pub loop-left-preserved : goal.loop-left-preserved
 loop-left-preserved c =

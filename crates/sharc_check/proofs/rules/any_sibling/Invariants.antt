@@ -1,6 +1,4 @@
-use Rattle.std.proofs.Common.{◌≡◌, ◌+◌, ◌≤◌}
-use Rattle.sharc_mode.specs.{Moded.position_count, Rows.modes_of, Sharings.is_sibling, View.view_row}
-use Rattle.std.specs.List.{list_any}
+use Rattle.sharc_check.proofs.Imports.{◌≡◌, ◌+◌, ◌≤◌, position_count, modes_of, is_sibling, view_row, list_any}
 use Rattle.sharc_check.proofs.rules.any_sibling.Given as goal
 
 abbrev pub invariant-loop-left : goal.invariant-loop-left

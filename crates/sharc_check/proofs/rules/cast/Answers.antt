@@ -1,9 +1,4 @@
-use Rattle.std.proofs.{Common.{◌≡◌, ◌+◌, ◌≤◌, ◌++◌, ◌∷◌, [], List, cond, length, ap, sym, ◌∙◌, subst, arith, OnOk, Some}, lemmas.List.append-nil}
-use Rattle.sharc_tree.specs.{View.view_expr, declared.ctype.Base.Base}
-use Rattle.sharc_names.specs.View.{view_root}
-use Rattle.sharc_ctype.specs.Resolved.{Resolution}
-use Rattle.sharc_mode.specs.{declared.error.ErrorCode.TheVariants.CastChangesInnerMode, declared.finding.Finding.Finding, Moded.position_count, Notes.{cast_notes, mismatch, shown}, Rows.{modes_of, modes_at, row_at, cast_row}, View.{view_row, view_rows}}
-use Rattle.sharc_check.proofs.RowLemmas.{cast_said}
+use Rattle.sharc_check.proofs.{Imports.{◌≡◌, ◌+◌, ◌≤◌, ◌++◌, ◌∷◌, [], List, cond, length, ap, sym, ◌∙◌, subst, arith, OnOk, Some, append-nil, view_expr, Base, view_root, Resolution, CastChangesInnerMode, Finding, position_count, cast_notes, mismatch, shown, modes_of, modes_at, row_at, cast_row, view_row, view_rows}, RowLemmas.cast_said}
 use Rattle.sharc_check.proofs.rules.cast.Goals as goal
 
 pub returns-then-same_rows : goal.returns-then-same_rows

@@ -1,6 +1,4 @@
-use Rattle.std.proofs.Common.{◌≡◌, drop}
-use Rattle.sharc_mode.specs.Notes.{first_unmet}
-use Rattle.sharc_check.specs.Passed.{view_passed}
+use Rattle.sharc_check.proofs.Imports.{◌≡◌, drop, first_unmet, view_passed}
 use Rattle.sharc_check.proofs.rules.first_unmet.Given as goal
 
 abbrev pub invariant-loop-parameter : goal.invariant-loop-parameter

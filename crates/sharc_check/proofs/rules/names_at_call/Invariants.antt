@@ -1,6 +1,4 @@
-use Rattle.std.proofs.Common.{◌≡◌, ◌++◌, drop}
-use Rattle.sharc_mode.specs.Notes.{names_at_call}
-use Rattle.sharc_check.specs.Passed.{view_passed}
+use Rattle.sharc_check.proofs.Imports.{◌≡◌, ◌++◌, drop, names_at_call, view_passed}
 use Rattle.sharc_check.proofs.rules.names_at_call.Given as goal
 
 abbrev pub invariant-loop-parameter : goal.invariant-loop-parameter

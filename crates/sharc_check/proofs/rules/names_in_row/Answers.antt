@@ -1,6 +1,4 @@
-use Rattle.std.proofs.Common.{◌+◌, ◌≤◌, ◌++◌, length, ap, ◌∙◌, arith}
-use Rattle.sharc_mode.specs.{Moded.position_count, Rows.modes_of, View.{view_row, view_sharing}, Notes.{names_in, names_in_all}}
-use Rattle.sharc_check.proofs.RowLemmas.{step_row, step_ends, said_one}
+use Rattle.sharc_check.proofs.{Imports.{◌+◌, ◌≤◌, ◌++◌, length, ap, ◌∙◌, arith, position_count, modes_of, view_row, view_sharing, names_in, names_in_all}, RowLemmas.{step_row, step_ends, said_one}}
 use Rattle.sharc_check.proofs.rules.names_in_row.Goals as goal
 
 pub loop-left-preserved : goal.loop-left-preserved

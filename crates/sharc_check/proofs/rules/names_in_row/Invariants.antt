@@ -1,5 +1,4 @@
-use Rattle.std.proofs.Common.{◌≡◌, ◌+◌, ◌≤◌, ◌++◌}
-use Rattle.sharc_mode.specs.{Moded.position_count, Notes.names_in_all, Rows.modes_of, View.view_row}
+use Rattle.sharc_check.proofs.Imports.{◌≡◌, ◌+◌, ◌≤◌, ◌++◌, position_count, names_in_all, modes_of, view_row}
 use Rattle.sharc_check.proofs.rules.names_in_row.Given as goal
 
 abbrev pub invariant-loop-left : goal.invariant-loop-left

@@ -1,6 +1,4 @@
-use Rattle.std.proofs.Common.{◌≡◌, ◌++◌, drop}
-use Rattle.std.specs.List.{flat_map}
-use Rattle.sharc_mode.specs.{Notes.names_read, View.view_reading}
+use Rattle.sharc_check.proofs.Imports.{◌≡◌, ◌++◌, drop, flat_map, names_read, view_reading}
 use Rattle.sharc_check.proofs.rules.names_read.Given as goal
 
 abbrev pub invariant-loop-level : goal.invariant-loop-level

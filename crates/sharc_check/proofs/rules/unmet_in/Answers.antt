@@ -1,9 +1,5 @@
-use Rattle.std.proofs.Common.{◌+◌, ◌≤◌, length, ap, ◌∙◌, arith}
-use Rattle.sharc_mode.specs.{Moded.position_count, Rows.modes_of, View.{view_row, view_sharing}, Notes.{unmet, unmet_in}}
-use Rattle.sharc_check.proofs.RowLemmas.{step_row, step_ends, unmet_one}
+use Rattle.sharc_check.proofs.{Imports.{◌+◌, ◌≤◌, length, ap, ◌∙◌, arith, position_count, modes_of, view_row, view_sharing, unmet, unmet_in, option_or, view_passed, view_locks}, RowLemmas.{step_row, step_ends, unmet_one}}
 use Rattle.sharc_check.proofs.rules.unmet_in.Goals as goal
-use Rattle.std.specs.Option.{option_or}
-use Rattle.sharc_check.specs.Passed.{view_passed, view_locks}
 
 pub loop-left-preserved : goal.loop-left-preserved
 loop-left-preserved c =

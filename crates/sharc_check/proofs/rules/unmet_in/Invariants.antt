@@ -1,7 +1,4 @@
-use Rattle.std.proofs.Common.{◌≡◌, ◌+◌, ◌≤◌}
-use Rattle.sharc_mode.specs.{Moded.position_count, Notes.unmet_in, Rows.modes_of, View.view_row}
-use Rattle.std.specs.Option.{option_or}
-use Rattle.sharc_check.specs.Passed.{view_passed, view_locks}
+use Rattle.sharc_check.proofs.Imports.{◌≡◌, ◌+◌, ◌≤◌, position_count, unmet_in, modes_of, view_row, option_or, view_passed, view_locks}
 use Rattle.sharc_check.proofs.rules.unmet_in.Given as goal
 
 abbrev pub invariant-loop-left : goal.invariant-loop-left

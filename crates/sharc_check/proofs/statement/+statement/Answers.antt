@@ -1,6 +1,4 @@
-use Rattle.std.proofs.Common.{◌≡◌, ◌++◌, ap, sym, ◌∙◌, OnOk, subst}
-use Rattle.sharc_tree.specs.{Children.view_block, View.{view_stmt, view_statements}}
-use Rattle.sharc_mode.specs.Expressions.{notes_in, notes_in_all}
+use Rattle.sharc_check.proofs.Imports.{◌≡◌, ◌++◌, ap, sym, ◌∙◌, OnOk, subst, view_block, view_stmt, view_statements, notes_in, notes_in_all}
 use Rattle.sharc_check.proofs.statement.+statement.Goals as goal
 
 pub statement-returns-in-Block : goal.statement-returns-in-Block

@@ -1,6 +1,4 @@
-use Rattle.std.proofs.Common.{◌≡◌, ◌++◌, drop}
-use Rattle.sharc_tree.specs.View.{view_statements}
-use Rattle.sharc_mode.specs.Expressions.{notes_in_all}
+use Rattle.sharc_check.proofs.Imports.{◌≡◌, ◌++◌, drop, view_statements, notes_in_all}
 use Rattle.sharc_check.proofs.statement.+statement.Given as goal
 
 abbrev pub invariant-statements-loop-stmt : goal.invariant-statements-loop-stmt

@@ -1,6 +1,4 @@
-use Rattle.std.proofs.Common.{◌≡◌, ◌++◌, drop}
-use Rattle.sharc_tree.specs.View.{view_items}
-use Rattle.sharc_mode.specs.Expressions.{items_notes}
+use Rattle.sharc_check.proofs.Imports.{◌≡◌, ◌++◌, drop, view_items, items_notes}
 use Rattle.sharc_check.proofs.statement.items.Given as goal
 
 abbrev pub invariant-loop-one : goal.invariant-loop-one

@@ -1,6 +1,4 @@
-use Rattle.std.proofs.Common.{◌≡◌, ◌++◌, drop}
-use Rattle.std.specs.List.{flat_map}
-use Rattle.sharc_mode.specs.WellModed.{parameter_notes}
+use Rattle.sharc_check.proofs.Imports.{◌≡◌, ◌++◌, drop, flat_map, parameter_notes}
 use Rattle.sharc_check.proofs.threads.parameters.Given as goal
 
 abbrev pub invariant-loop-of : goal.invariant-loop-of

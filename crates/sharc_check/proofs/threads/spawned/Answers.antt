@@ -1,8 +1,4 @@
-use Rattle.std.proofs.Common.{◌≡◌, ◌<◌, ◌++◌, length, ap, ◌∙◌, arith}
-use Rattle.sharc_ctype.specs.Resolved.{functions_in, function_at}
-use Rattle.sharc_mode.specs.WellModed.{spawned_notes}
-use Rattle.sharc_check.specs.Threads.{function_notes}
-use Rattle.sharc_check.proofs.{SpawnLemmas.is_told, ThreadLemmas.spawned_one}
+use Rattle.sharc_check.proofs.{Imports.{◌≡◌, ◌<◌, ◌++◌, length, ap, ◌∙◌, arith, functions_in, function_at, spawned_notes, function_notes}, SpawnLemmas.is_told, ThreadLemmas.spawned_one}
 use Rattle.sharc_check.proofs.threads.spawned.Goals as goal
 
 pub loop-n-preserved : goal.loop-n-preserved

@@ -1,6 +1,4 @@
-use Rattle.std.proofs.Common.{◌≡◌, ◌++◌, drop}
-use Rattle.sharc_ctype.specs.Resolved.{functions_in}
-use Rattle.sharc_mode.specs.WellModed.{spawned_notes}
+use Rattle.sharc_check.proofs.Imports.{◌≡◌, ◌++◌, drop, functions_in, spawned_notes}
 use Rattle.sharc_check.proofs.threads.spawned.Given as goal
 
 abbrev pub invariant-loop-n : goal.invariant-loop-n

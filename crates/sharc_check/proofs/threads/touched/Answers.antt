@@ -1,8 +1,4 @@
-use Rattle.std.proofs.Common.{◌≡◌, ◌<◌, ◌++◌, length, is_some, ap, ◌∙◌, arith}
-use Rattle.sharc_ctype.specs.Resolved.{globals_in, global_at}
-use Rattle.sharc_mode.specs.WellModed.{touched_notes}
-use Rattle.sharc_check.specs.Threads.{touched_by, global_notes}
-use Rattle.sharc_check.proofs.ThreadLemmas.{touched_one}
+use Rattle.sharc_check.proofs.{Imports.{◌≡◌, ◌<◌, ◌++◌, length, is_some, ap, ◌∙◌, arith, globals_in, global_at, touched_notes, touched_by, global_notes}, ThreadLemmas.touched_one}
 use Rattle.sharc_check.proofs.threads.touched.Goals as goal
 
 pub loop-n-preserved : goal.loop-n-preserved

@@ -1,7 +1,4 @@
-use Rattle.std.proofs.Common.{◌≡◌, ◌++◌, drop}
-use Rattle.sharc_ctype.specs.Resolved.{globals_in}
-use Rattle.sharc_mode.specs.WellModed.{touched_notes}
-use Rattle.sharc_check.specs.Threads.{touched_by}
+use Rattle.sharc_check.proofs.Imports.{◌≡◌, ◌++◌, drop, globals_in, touched_notes, touched_by}
 use Rattle.sharc_check.proofs.threads.touched.Given as goal
 
 abbrev pub invariant-loop-n : goal.invariant-loop-n

@@ -1,6 +1,4 @@
-use Rattle.std.proofs.Common.{◌≡◌, drop}
-use Rattle.std.specs.List.{list_any}
-use Rattle.sharc_mode.specs.Notes.{is_private_level}
+use Rattle.sharc_check.proofs.Imports.{◌≡◌, drop, list_any, is_private_level}
 use Rattle.sharc_check.proofs.types.any_private.Given as goal
 
 abbrev pub invariant-loop-level : goal.invariant-loop-level

@@ -1,7 +1,4 @@
-use Rattle.std.proofs.{Common.{◌≡◌, ◌+◌, ◌<◌, ◌≤◌, length, false, ◌&&◌, ap, sym, ◌∙◌, arith}, lemmas.Bool.{and_left as first_fails, and_right as second_fails}}
-use Rattle.sharc_ctype.specs.Entities.{positions_of}
-use Rattle.sharc_mode.specs.WellFormed.{is_private_mode}
-use Rattle.sharc_check.proofs.{LevelLemmas.{next_level, found_level}, types.holds_private.Goals.{else-above-via-then-above+else-private, else-above-via-else-above}}
+use Rattle.sharc_check.proofs.{Imports.{◌≡◌, ◌+◌, ◌<◌, ◌≤◌, length, false, ◌&&◌, ap, sym, ◌∙◌, arith, first_fails, second_fails, positions_of, is_private_mode}, LevelLemmas.{next_level, found_level}, types.holds_private.Goals.{else-above-via-then-above+else-private, else-above-via-else-above}}
 use Rattle.sharc_check.proofs.types.holds_private.Goals as goal
 
 pub returns-then-private : goal.returns-then-private

@@ -1,6 +1,4 @@
-use Rattle.std.proofs.Common.{◌≡◌, drop}
-use Rattle.sharc_mode.specs.{Notes.{levels_of, position_levels}, WellFormed.holds_private}
-use Rattle.sharc_check.specs.Levels.{holds_below}
+use Rattle.sharc_check.proofs.Imports.{◌≡◌, drop, levels_of, position_levels, holds_private, holds_below}
 use Rattle.sharc_check.proofs.types.holds_private.Given as goal
 
 abbrev pub invariant-loop-i : goal.invariant-loop-i

@@ -1,8 +1,4 @@
-use Rattle.std.proofs.Common.{◌≡◌, ◌++◌, List, ap, ◌∙◌, OnOk, subst}
-use Rattle.std.specs.List.{flat_map}
-use Rattle.sharc_ctype.specs.Resolved.{Resolution}
-use Rattle.sharc_mode.specs.{declared.finding.Finding.Finding, Notes.{private_notes, path_notes, mode_notes, private_field_notes, names_in_level}, WellFormed.{place_of, first_unfit_path, first_unfit_mode}}
-use Rattle.sharc_check.proofs.LevelLemmas.{five}
+use Rattle.sharc_check.proofs.{Imports.{◌≡◌, ◌++◌, List, ap, ◌∙◌, OnOk, subst, flat_map, Resolution, Finding, private_notes, path_notes, mode_notes, private_field_notes, names_in_level, place_of, first_unfit_path, first_unfit_mode}, LevelLemmas.five}
 use Rattle.sharc_check.proofs.types.type_said.Goals as goal
 
 pub returns : goal.returns

@@ -1,7 +1,4 @@
-use Rattle.std.proofs.Common.{◌+◌, ◌≤◌, subst}
-use Rattle.sharc_ctype.specs.{Entities.positions_of, Resolved.Resolution}
-use Rattle.sharc_mode.specs.Moded.{position_count}
-use Rattle.sharc_check.proofs.LevelLemmas.{entity_ends_in}
+use Rattle.sharc_check.proofs.{Imports.{◌+◌, ◌≤◌, subst, positions_of, Resolution, position_count}, LevelLemmas.entity_ends_in}
 use Rattle.sharc_check.proofs.types.types.Goals as goal
 
 pub type_said-requires : goal.type_said-requires

@@ -1,7 +1,4 @@
-use Rattle.std.proofs.Common.{◌≡◌, ◌++◌, drop}
-use Rattle.std.specs.List.{flat_map}
-use Rattle.sharc_ctype.specs.Entities.{entities_in, numbered}
-use Rattle.sharc_mode.specs.Notes.{type_notes}
+use Rattle.sharc_check.proofs.Imports.{◌≡◌, ◌++◌, drop, flat_map, entities_in, numbered, type_notes}
 use Rattle.sharc_check.proofs.types.types.Given as goal
 
 abbrev pub invariant-loop-numbered : goal.invariant-loop-numbered

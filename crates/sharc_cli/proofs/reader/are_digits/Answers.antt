@@ -1,5 +1,4 @@
-use Rattle.std.proofs.Common.{sym, arith}
-use Rattle.sharc_cli.proofs.Numbers.{digits_fail, digits_pass}
+use Rattle.sharc_cli.proofs.{Imports.{sym, arith}, Numbers.{digits_fail, digits_pass}}
 use Rattle.sharc_cli.proofs.reader.are_digits.Goals as goal
 
 pub returns-then-not-is_ascii_digit : goal.returns-then-not-is_ascii_digit

@@ -1,5 +1,4 @@
-use Rattle.std.proofs.Common.{◌≡◌, drop}
-use Rattle.std.specs.Str.{all_ascii_digits}
+use Rattle.sharc_cli.proofs.Imports.{◌≡◌, drop, all_ascii_digits}
 use Rattle.sharc_cli.proofs.reader.are_digits.Given as goal
 
 -- the bytes from here on decide

@@ -1,6 +1,4 @@
-use Rattle.std.proofs.Common.{◌∙◌, ap, sym, arith, string_bytes}
-use Rattle.sharc_cli.specs.Line.{is_plain}
-use Rattle.sharc_cli.proofs.Numbers.{fails_at, passes_at}
+use Rattle.sharc_cli.proofs.{Imports.{◌∙◌, ap, sym, arith, string_bytes, is_plain}, Numbers.{fails_at, passes_at}}
 use Rattle.sharc_cli.proofs.reader.are_plain.Goals as goal
 
 pub returns-then-not-is_plain : goal.returns-then-not-is_plain

@@ -1,6 +1,4 @@
-use Rattle.std.proofs.Common.{◌≡◌, map, string_bytes, drop}
-use Rattle.std.specs.List.{list_all}
-use Rattle.sharc_cli.specs.Line.{is_plain}
+use Rattle.sharc_cli.proofs.Imports.{◌≡◌, map, string_bytes, drop, list_all, is_plain}
 use Rattle.sharc_cli.proofs.reader.are_plain.Given as goal
 
 -- the words from here on decide

@@ -1,7 +1,4 @@
-use Rattle.std.proofs.Common.{◌∙◌, ap, sym}
-use Rattle.clap.specs.{Matches.found_of, Walk.rows_of}
-use Rattle.sharc_cli.specs.Line.{command_in}
-use Rattle.sharc_cli.proofs.Arms.{met}
+use Rattle.sharc_cli.proofs.{Imports.{◌∙◌, ap, sym, found_of, rows_of, command_in}, Arms.met}
 use Rattle.sharc_cli.proofs.reader.command_in.Goals as goal
 
 pub returns-in-Some : goal.returns-in-Some

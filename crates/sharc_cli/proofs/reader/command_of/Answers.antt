@@ -1,7 +1,5 @@
-use Rattle.clap.specs.Matches.{found_of}
-use Rattle.sharc_cli.proofs.Arms.{load_arm, record_arm, run_arm}
+use Rattle.sharc_cli.proofs.{Imports.{found_of, ◌∙◌}, Arms.{load_arm, record_arm, run_arm}}
 use Rattle.sharc_cli.proofs.reader.command_of.Goals as goal
-use Rattle.std.proofs.Common.{◌∙◌}
 
 pub returns-in-run : goal.returns-in-run
 returns-in-run c =

@@ -1,5 +1,4 @@
-use Rattle.std.proofs.Common.{arith}
-use Rattle.sharc_cli.proofs.Numbers.{no_number}
+use Rattle.sharc_cli.proofs.{Imports.arith, Numbers.no_number}
 use Rattle.sharc_cli.proofs.reader.number_in.Goals as goal
 
 pub returns-in-Err : goal.returns-in-Err

@@ -1,5 +1,4 @@
-use Rattle.std.proofs.lemmas.Result.{IfOk-weaker}
-use Rattle.sharc_cli.proofs.Makes.{one_number}
+use Rattle.sharc_cli.proofs.{Imports.IfOk-weaker, Makes.one_number}
 use Rattle.sharc_cli.proofs.reader.opened.Goals as goal
 
 pub returns-in-Some : goal.returns-in-Some

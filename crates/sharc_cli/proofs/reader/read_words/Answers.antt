@@ -1,5 +1,4 @@
-use Rattle.std.proofs.Common.{◌∙◌, sym, map, string_bytes}
-use Rattle.sharc_cli.proofs.{Arms.{read_fails, read_matches}, Lines.unplain}
+use Rattle.sharc_cli.proofs.{Imports.{◌∙◌, sym, map, string_bytes}, Arms.{read_fails, read_matches}, Lines.unplain}
 use Rattle.sharc_cli.proofs.reader.read_words.Goals as goal
 
 pub returns-then-not-are_plain : goal.returns-then-not-are_plain

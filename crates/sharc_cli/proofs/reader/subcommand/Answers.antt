@@ -1,5 +1,4 @@
-use Rattle.std.proofs.Common.{arith}
-use Rattle.sharc_cli.proofs.Makes.{all_options, long_global, long_rule, one_option}
+use Rattle.sharc_cli.proofs.{Imports.arith, Makes.{all_options, long_global, long_rule, one_option}}
 use Rattle.sharc_cli.proofs.reader.subcommand.Goals as goal
 
 pub loop-option-preserved : goal.loop-option-preserved

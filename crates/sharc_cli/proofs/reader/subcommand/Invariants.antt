@@ -1,5 +1,4 @@
-use Rattle.std.proofs.Common.{map, option_map, take}
-use Rattle.sharc_cli.specs.Line.{IsSubcommand}
+use Rattle.sharc_cli.proofs.Imports.{map, option_map, take, IsSubcommand}
 use Rattle.sharc_cli.proofs.reader.subcommand.Given as goal
 
 -- the subcommand has the options up to here

@@ -1,6 +1,4 @@
-use Rattle.std.proofs.Common.{arith}
-use Rattle.sharc_code.specs.{Opening.opening_words, Whole.{one_thread, bounds}, Runs.{opening_of, made_now, state_now}}
-use Rattle.sharc_code.proofs.{Places.{put_same, put_other}, ByTurns.{at_join, runs_join, runs_part, words_are, threads_are, started_are, made_are, checked_runs, runs_checked, room, erased, is_scheduled}, Merged.{merge, round_checked, round_words, round_threads}, Paths.path_of}
+use Rattle.sharc_code.proofs.{Imports.{arith, opening_words, one_thread, bounds, opening_of, made_now, state_now}, Places.{put_same, put_other}, ByTurns.{at_join, runs_join, runs_part, words_are, threads_are, started_are, made_are, checked_runs, runs_checked, room, erased, is_scheduled}, Merged.{merge, round_checked, round_words, round_threads}, Paths.path_of}
 use Rattle.sharc_code.proofs.laws.run_laws.Goals as goal
 
 pub returns : goal.returns

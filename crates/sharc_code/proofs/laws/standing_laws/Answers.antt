@@ -1,5 +1,4 @@
-use Rattle.sharc_code.specs.Whole.{place_after}
-use Rattle.sharc_code.proofs.{Idling.idles, Standing.{sound, started_stays, started_before, started_then}}
+use Rattle.sharc_code.proofs.{Imports.place_after, Idling.idles, Standing.{sound, started_stays, started_before, started_then}}
 use Rattle.sharc_code.proofs.laws.standing_laws.Goals as goal
 
 pub returns : goal.returns

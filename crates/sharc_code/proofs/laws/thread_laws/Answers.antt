@@ -1,5 +1,4 @@
-use Rattle.sharc_code.specs.Machine.{instr_at}
-use Rattle.sharc_code.proofs.{Failing.failed_stays, Keeps.keeps_turn, Outcomes.comes_out, Settled.same_turn, Trying.{trying, waits_where}}
+use Rattle.sharc_code.proofs.{Imports.instr_at, Failing.failed_stays, Keeps.keeps_turn, Outcomes.comes_out, Settled.same_turn, Trying.{trying, waits_where}}
 use Rattle.sharc_code.proofs.laws.thread_laws.Goals as goal
 
 pub returns : goal.returns

@@ -1,6 +1,4 @@
-use Rattle.std.proofs.Common.{◌≡◌, take}
-use Rattle.std.specs.List.{flat_map}
-use Rattle.sharc_code.specs.Listing.{line_of}
+use Rattle.sharc_code.proofs.Imports.{◌≡◌, take, flat_map, line_of}
 use Rattle.sharc_code.proofs.lines.listing.Given as goal
 
 abbrev pub invariant-loop-instr : goal.invariant-loop-instr

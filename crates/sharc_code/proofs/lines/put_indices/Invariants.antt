@@ -1,6 +1,4 @@
-use Rattle.std.proofs.Common.{◌≡◌, ◌++◌, take}
-use Rattle.std.specs.List.{flat_map}
-use Rattle.sharc_code.specs.{Listing.operand_text, declared.lines.Operand.TheVariants.Index}
+use Rattle.sharc_code.proofs.Imports.{◌≡◌, ◌++◌, take, flat_map, operand_text, Index}
 use Rattle.sharc_code.proofs.lines.put_indices.Given as goal
 
 abbrev pub invariant-loop-index : goal.invariant-loop-index

@@ -1,6 +1,4 @@
-use Rattle.std.proofs.Common.{◌≡◌, ◌++◌, take}
-use Rattle.std.specs.List.{flat_map}
-use Rattle.sharc_code.specs.Listing.{operand_text}
+use Rattle.sharc_code.proofs.Imports.{◌≡◌, ◌++◌, take, flat_map, operand_text}
 use Rattle.sharc_code.proofs.lines.put_line.Given as goal
 
 abbrev pub invariant-loop-operand : goal.invariant-loop-operand

@@ -1,6 +1,4 @@
-use Rattle.std.proofs.Common.{◌≡◌, ◌≤◌, map}
-use Rattle.std.specs.{Prelude.vec_capacity, List.range_with_len}
-use Rattle.sharc_code.specs.{Layout.{words_of, IsShape}, Opening.opens_with}
+use Rattle.sharc_code.proofs.Imports.{◌≡◌, ◌≤◌, map, vec_capacity, range_with_len, words_of, IsShape, opens_with}
 use Rattle.sharc_code.proofs.words.opening.Given as goal
 
 abbrev pub invariant-loop-word : goal.invariant-loop-word

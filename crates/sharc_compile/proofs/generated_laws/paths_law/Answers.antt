@@ -1,8 +1,4 @@
-use Rattle.std.proofs.Common.{◌≡◌, ◌⊎◌, List, length, ap, sym, ◌∙◌, subst}
-use Rattle.sharc_code.specs.{declared.code.Code.Code, declared.code.Function.Function, declared.code.GlobalCells.GlobalCells, declared.code.SourcePlace.SourcePlace, Path.{begun, machine_after}, Paced.paced_in}
-use Rattle.sharc_guard.specs.{declared.guarded.Guarded.Guarded, Machine.Program, Form.IsGuarded}
-use Rattle.sharc_compile.specs.{Generated.{IsGenerated, generated, program_of, program_over}, Consistent.said_in, Correct.{IsBeginning, HasCome}, Lowered.lowered_in}
-use Rattle.sharc_compile.proofs.Coming.{comes}
+use Rattle.sharc_compile.proofs.{Imports.{◌≡◌, ◌⊎◌, List, length, ap, sym, ◌∙◌, subst, Code, Function, GlobalCells, SourcePlace, begun, machine_after, paced_in, Guarded, Program, IsGuarded, IsGenerated, generated, program_of, program_over, said_in, IsBeginning, HasCome, lowered_in}, Coming.comes}
 use Rattle.sharc_compile.proofs.generated_laws.paths_law.Goals as goal
 
 same_program : (g : Guarded) (code : Code) → IsGenerated g code → program_over code g.statements.items ≡ program_of g

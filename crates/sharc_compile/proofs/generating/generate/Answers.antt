@@ -1,6 +1,4 @@
-use Rattle.std.proofs.Common.{refl, ◌∙◌, ap}
-use Rattle.sharc_compile.specs.Generated.{generated}
-use Rattle.sharc_compile.proofs.Numbers.{numbers_fit}
+use Rattle.sharc_compile.proofs.{Imports.{refl, ◌∙◌, ap, generated}, Numbers.numbers_fit}
 use Rattle.sharc_compile.proofs.generating.generate.Goals as goal
 
 pub returns-clause-numbers : goal.returns-clause-numbers

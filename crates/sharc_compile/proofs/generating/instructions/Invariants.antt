@@ -1,5 +1,4 @@
-use Rattle.std.proofs.Common.{◌≡◌, map, take}
-use Rattle.sharc_compile.specs.Generated.{instr_of}
+use Rattle.sharc_compile.proofs.Imports.{◌≡◌, map, take, instr_of}
 use Rattle.sharc_compile.proofs.generating.instructions.Given as goal
 
 abbrev pub invariant-loop-statement : goal.invariant-loop-statement

@@ -1,9 +1,5 @@
-use Rattle.std.proofs.Common.{◌≡◌, ◌∙◌, ap, subst, sym}
-use Rattle.std.specs.Prelude.{ℕ, Bool, slice_get, Some, None, true}
-use Rattle.sharc_code.specs.{declared.instr.Instr.Instr, declared.instr.Instr.TheVariants.Start}
-use Rattle.sharc_flat.specs.Made.{flat_of}
-use Rattle.sharc_guard.specs.{Machine.{Program, source_at}, Checked.{Access, access_of, IsCheckedAt, IsNoTarget}, Known.dropped}
-use Rattle.sharc_compile.proofs.{Accessing.checked, Same.same}
+use Rattle.sharc_compile.proofs.{Imports.{◌≡◌, ◌∙◌, ap, subst, sym, ℕ, Bool, slice_get, Some, None, true, Instr, Start, flat_of, Program, source_at, Access, access_of, dropped}, Accessing.checked, Same.same}
+use Rattle.sharc_guard.specs.Checked.{IsCheckedAt, IsNoTarget}
 use Rattle.sharc_compile.proofs.laws.checks_law.Goals as goal
 
 abbrev Each : (ℕ → Bool) → Program → Type 0

@@ -1,8 +1,4 @@
-use Rattle.std.proofs.Common.{inl, inr, ⊎_elim, sym, subst, length}
-use Rattle.sharc_guard.specs.Form.{IsGuarded}
-use Rattle.sharc_code.specs.{Path.{begun, machine_after}, Paced.paced_in}
-use Rattle.sharc_compile.specs.{Consistent.said_in, Lowered.lowered_in, Correct.{IsBeginning, HasCome}, Generated.program_of}
-use Rattle.sharc_compile.proofs.Joined.{joined}
+use Rattle.sharc_compile.proofs.{Imports.{inl, inr, ⊎_elim, sym, subst, length, IsGuarded, begun, machine_after, paced_in, said_in, lowered_in, IsBeginning, HasCome, program_of}, Joined.joined}
 use Rattle.sharc_compile.proofs.laws.coded_law.Goals as goal
 
 pub returns : goal.returns

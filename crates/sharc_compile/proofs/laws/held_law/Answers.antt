@@ -1,9 +1,4 @@
-use Rattle.std.proofs.Common.{length, inl, inr, ⊎_elim, subst, sym}
-use Rattle.sharc_code.specs.{Paced.paced_in, Path.{begun, machine_after}}
-use Rattle.sharc_flat.specs.Made.{flat_of}
-use Rattle.sharc_compile.specs.{Consistent.said_in, Correct.{IsBeginning, HasCome}, Generated.program_of, Lowered.lowered_in}
-use Rattle.sharc_guard.specs.{Known.dropped, Form.IsGuarded}
-use Rattle.sharc_compile.proofs.{Holding.holds, Same.same}
+use Rattle.sharc_compile.proofs.{Imports.{length, inl, inr, ⊎_elim, subst, sym, paced_in, begun, machine_after, flat_of, said_in, IsBeginning, HasCome, program_of, lowered_in, dropped, IsGuarded}, Holding.holds, Same.same}
 use Rattle.sharc_compile.proofs.laws.held_law.Goals as goal
 
 pub returns : goal.returns

@@ -1,6 +1,4 @@
-use Rattle.sharc_flat.specs.Made.{flat_of}
-use Rattle.sharc_guard.specs.Known.{dropped}
-use Rattle.sharc_compile.proofs.Same.{same}
+use Rattle.sharc_compile.proofs.{Imports.{flat_of, dropped}, Same.same}
 use Rattle.sharc_compile.proofs.laws.made_law.Goals as goal
 
 pub returns : goal.returns

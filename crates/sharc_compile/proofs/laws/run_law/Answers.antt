@@ -1,7 +1,4 @@
-use Rattle.std.proofs.{Common.{◌≡◌, ◌⊎◌, ◌∙◌, List, length, ap, reverse, subst, sym}, lemmas.List.reverse-reverse}
-use Rattle.sharc_tree.specs.declared.event.SourceEvent.{SourceEvent}
-use Rattle.sharc_code.specs.{Machine.Machine, Paced.paced_in, Path.{begun, machine_after}, Runs.{turns_of, said_by}, Whole.Erase}
-use Rattle.sharc_compile.specs.{Consistent.said_in, Correct.IsBeginning, Generated.program_of, Lowered.lowered_in, OfRuns.{elements_before, founds_of, told_in}, Source.FollowsSource}
+use Rattle.sharc_compile.proofs.Imports.{◌≡◌, ◌⊎◌, ◌∙◌, List, length, ap, reverse, subst, sym, reverse-reverse, SourceEvent, Machine, paced_in, begun, machine_after, turns_of, said_by, Erase, said_in, IsBeginning, program_of, lowered_in, elements_before, founds_of, told_in, FollowsSource}
 use Rattle.sharc_compile.proofs.laws.run_law.Goals as goal
 
 pub returns : goal.returns

@@ -1,8 +1,4 @@
-use Rattle.std.proofs.Common.{inl, inr, ⊎_elim}
-use Rattle.sharc_code.specs.{Path.{begun, machine_after}, Paced.paced_in}
-use Rattle.sharc_flat.specs.Made.{flat_of}
-use Rattle.sharc_compile.specs.{Consistent.said_in, Lowered.lowered_in, Correct.IsBeginning, Coded.FollowsFlat}
-use Rattle.sharc_compile.proofs.Sourced.{follows}
+use Rattle.sharc_compile.proofs.{Imports.{inl, inr, ⊎_elim, begun, machine_after, paced_in, flat_of, said_in, lowered_in, IsBeginning, FollowsFlat}, Sourced.follows}
 use Rattle.sharc_compile.proofs.laws.source_law.Goals as goal
 
 pub returns : goal.returns

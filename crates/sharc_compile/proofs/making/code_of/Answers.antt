@@ -1,9 +1,4 @@
-use Rattle.std.proofs.Common.{IfOk, Result, Ok, Err, subst, sym}
-use Rattle.sharc_code.specs.{declared.code.Code.Code, Ranges.NumbersFit}
-use Rattle.sharc_flat.specs.{Framed.IsFramed, Made.flat_of}
-use Rattle.sharc_compile.specs.{Generated.{IsGenerated, program_of}, Made.IsCodeOf}
-use Rattle.sharc_guard.specs.{Known.dropped, Tables.FlatTablesFit, Form.IsGuarded, GuardedTables.TablesFit}
-use Rattle.sharc_compile.proofs.Same.{same}
+use Rattle.sharc_compile.proofs.{Imports.{IfOk, Result, Ok, Err, subst, sym, Code, NumbersFit, IsFramed, flat_of, IsGenerated, program_of, IsCodeOf, dropped, FlatTablesFit, IsGuarded, TablesFit}, Same.same}
 use Rattle.sharc_compile.proofs.making.code_of.Goals as goal
 
 pub returns-clause-is : goal.returns-clause-is

@@ -1,4 +1,4 @@
-use Rattle.std.proofs.{Common.{◌≡◌, ℕ, pos, ◌*◌, ◌%◌, ◌^◌, ◌<◌, ap, ◌∙◌, to_z, w64, FitsSigned, arith}, Math.Nat.mod-eq_of_lt, Math.Pow.pow-lt, lemmas.Int.to_z-of_z}
+use Rattle.sharc_cpu.proofs.Imports.{◌≡◌, ℕ, pos, ◌*◌, ◌%◌, ◌^◌, ◌<◌, ap, ◌∙◌, to_z, w64, FitsSigned, arith, mod-eq_of_lt, pow-lt, to_z-of_z}
 use Rattle.sharc_cpu.proofs.arithmetic.power.Goals as goal
 
 pub returns : goal.returns

@@ -1,6 +1,4 @@
-use Rattle.std.proofs.Common.{ℕ, pos, ◌*◌, ap, ◌∙◌, [], replicate}
-use Rattle.sharc_heap.specs.{Accesses.Accesses, Notes.blank}
-use Rattle.sharc_cpu.proofs.Begun.{same_fresh}
+use Rattle.sharc_cpu.proofs.{Imports.{ℕ, pos, ◌*◌, ap, ◌∙◌, [], replicate, Accesses, blank}, Begun.same_fresh}
 use Rattle.sharc_cpu.proofs.begin.begun.Goals as goal
 
 abbrev rows : ℕ → Accesses

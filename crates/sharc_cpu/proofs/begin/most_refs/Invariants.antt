@@ -1,5 +1,4 @@
-use Rattle.std.proofs.Common.{◌≡◌, take}
-use Rattle.sharc_code.specs.Path.{most_refs}
+use Rattle.sharc_cpu.proofs.Imports.{◌≡◌, take, most_refs}
 use Rattle.sharc_cpu.proofs.begin.most_refs.Given as goal
 
 abbrev pub invariant-loop-function : goal.invariant-loop-function

@@ -1,5 +1,4 @@
-use Rattle.std.proofs.Common.{◌≡◌, refl, sym, ap, ◌∙◌}
-use Rattle.sharc_locks.specs.Waiters.{lowest_of, without_lowest}
+use Rattle.sharc_cpu.proofs.Imports.{◌≡◌, refl, sym, ap, ◌∙◌, lowest_of, without_lowest}
 use Rattle.sharc_cpu.proofs.locks.without_lowest.Goals as goal
 
 none : 0 ≡ without_lowest 0

@@ -1,7 +1,4 @@
-use Rattle.std.proofs.Common.{◌≡◌, ℕ, ◌+◌, ◌-◌, refl, sym, ap, ◌∙◌, subst, arith}
-use Rattle.sharc_code.specs.{declared.state.TurnState.TheVariants.Runs, Path.may_go}
-use Rattle.sharc_cpu.specs.{View.machine_of, Quantum.Advanced}
-use Rattle.sharc_cpu.proofs.Advancing.{advance_on}
+use Rattle.sharc_cpu.proofs.{Imports.{◌≡◌, ℕ, ◌+◌, ◌-◌, refl, sym, ap, ◌∙◌, subst, arith, Runs, may_go, machine_of, Advanced}, Advancing.advance_on}
 use Rattle.sharc_cpu.proofs.quantum.go.Goals as goal
 
 pub loop-turn-preserved : goal.loop-turn-preserved

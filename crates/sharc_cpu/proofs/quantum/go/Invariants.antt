@@ -1,6 +1,4 @@
-use Rattle.std.proofs.Common.{◌≡◌, ◌-◌, true, vec_capacity}
-use Rattle.sharc_code.specs.Path.{may_go}
-use Rattle.sharc_cpu.specs.{View.{machine_of, KeepsPort}, Quantum.Advanced}
+use Rattle.sharc_cpu.proofs.Imports.{◌≡◌, ◌-◌, true, vec_capacity, may_go, machine_of, KeepsPort, Advanced}
 use Rattle.sharc_cpu.proofs.quantum.go.Given as goal
 
 abbrev pub invariant-loop-turn : goal.invariant-loop-turn

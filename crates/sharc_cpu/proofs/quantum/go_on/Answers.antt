@@ -1,6 +1,4 @@
-use Rattle.std.proofs.Common.{◌≡◌, ◌<◌, refl, sym, ◌∙◌, subst, arith}
-use Rattle.sharc_cpu.specs.View.{machine_of}
-use Rattle.sharc_cpu.proofs.{Joined.where_join, Paths.goes_none, Turned.some_turn}
+use Rattle.sharc_cpu.proofs.{Imports.{◌≡◌, ◌<◌, refl, sym, ◌∙◌, subst, arith, machine_of}, Joined.where_join, Paths.goes_none, Turned.some_turn}
 use Rattle.sharc_cpu.proofs.quantum.go_on.Goals as goal
 
 pub tries-init : goal.tries-init

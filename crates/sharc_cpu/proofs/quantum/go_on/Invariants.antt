@@ -1,6 +1,4 @@
-use Rattle.std.proofs.Common.{◌≡◌, ◌≤◌, ◌+◌, ◌-◌, true, vec_len, vec_capacity}
-use Rattle.sharc_code.specs.Path.{may_go}
-use Rattle.sharc_cpu.specs.{View.{machine_of, rest_of, IsWithin, KeepsPort}, Quantum.GoesWhere}
+use Rattle.sharc_cpu.proofs.Imports.{◌≡◌, ◌≤◌, ◌+◌, ◌-◌, true, vec_len, vec_capacity, may_go, machine_of, rest_of, IsWithin, KeepsPort, GoesWhere}
 use Rattle.sharc_cpu.proofs.quantum.go_on.Given as goal
 
 abbrev pub invariant-tries : goal.invariant-tries

@@ -1,14 +1,10 @@
-use Rattle.std.proofs.Common.{◌≡◌, ◌+◌, ◌-◌, ◌≤◌, ℕ, vec_len, vec_capacity, sym, ap, ◌∙◌, subst, arith}
-use Rattle.sharc_code.specs.{declared.state.TurnState.TurnState, Machine.Machine, Waits.wait_of}
-use Rattle.sharc_code.specs.declared.state.TurnState.TheVariants as states
-use Rattle.sharc_cpu.specs.{Thread.ThreadView, declared.parts.ThreadParts.ThreadParts, View.{machine_of, rest_of, IsWithin}, Quantum.{GoesWhere, pause_of}}
-use Rattle.sharc_cpu.proofs.{Paths.goes_none, OnPath.{thread_within, goes_thread, stop_is_told}}
+use Rattle.sharc_cpu.proofs.{Imports.{◌≡◌, ◌+◌, ◌-◌, ◌≤◌, ℕ, vec_len, vec_capacity, sym, ap, ◌∙◌, subst, arith, TurnState, Machine, wait_of, ThreadView, ThreadParts, machine_of, rest_of, IsWithin, GoesWhere, pause_of}, Paths.goes_none, OnPath.{thread_within, goes_thread, stop_is_told}}
 use Rattle.sharc_cpu.proofs.quantum.run_trying.Goals as goal
 
 pub returns-in-Stopped-clause-quantum : goal.returns-in-Stopped-clause-quantum
 returns-in-Stopped-clause-quantum g c =
     let t : ThreadView = c.args.thread.now in
-    let is : t.machine.at.state ≡ states.Stopped = ap (λ (v : ThreadView). v.machine.at.state) (sym c.thread.view_is) ∙ c.in-Stopped.is in
+    let is : t.machine.at.state ≡ TurnState.Stopped = ap (λ (v : ThreadView). v.machine.at.state) (sym c.thread.view_is) ∙ c.in-Stopped.is in
     record {
       turns = 0;
       events = 0;
@@ -23,7 +19,7 @@ returns-in-Stopped-clause-quantum g c =
 pub returns-in-Ended-clause-quantum : goal.returns-in-Ended-clause-quantum
 returns-in-Ended-clause-quantum g c =
     let t : ThreadView = c.args.thread.now in
-    let is : t.machine.at.state ≡ states.Ended = ap (λ (v : ThreadView). v.machine.at.state) (sym c.thread.view_is) ∙ c.in-Ended.is in
+    let is : t.machine.at.state ≡ TurnState.Ended = ap (λ (v : ThreadView). v.machine.at.state) (sym c.thread.view_is) ∙ c.in-Ended.is in
     record {
       turns = 0;
       events = 0;
@@ -55,13 +51,13 @@ returns-clause-thread g c =
 pub returns-in-Stopped-clause-stopped : goal.returns-in-Stopped-clause-stopped
 returns-in-Stopped-clause-stopped g c =
     let t : ThreadView = c.args.thread.now in
-    let is : t.machine.at.state ≡ states.Stopped = ap (λ (v : ThreadView). v.machine.at.state) (sym c.thread.view_is) ∙ c.in-Stopped.is in
+    let is : t.machine.at.state ≡ TurnState.Stopped = ap (λ (v : ThreadView). v.machine.at.state) (sym c.thread.view_is) ∙ c.in-Stopped.is in
     stop_is_told c.thread_laws.ensures c.args.code.now c.args.shape.now t 0 c.args.limit _ c.requires.thread (ap (λ (x : TurnState). pause_of x 0 t.made c.args.limit) (sym is))
 
 pub returns-in-Ended-clause-stopped : goal.returns-in-Ended-clause-stopped
 returns-in-Ended-clause-stopped g c =
     let t : ThreadView = c.args.thread.now in
-    let is : t.machine.at.state ≡ states.Ended = ap (λ (v : ThreadView). v.machine.at.state) (sym c.thread.view_is) ∙ c.in-Ended.is in
+    let is : t.machine.at.state ≡ TurnState.Ended = ap (λ (v : ThreadView). v.machine.at.state) (sym c.thread.view_is) ∙ c.in-Ended.is in
     stop_is_told c.thread_laws.ensures c.args.code.now c.args.shape.now t 0 c.args.limit _ c.requires.thread (ap (λ (x : TurnState). pause_of x 0 t.made c.args.limit) (sym is))
 
 pub returns-clause-stopped : goal.returns-clause-stopped

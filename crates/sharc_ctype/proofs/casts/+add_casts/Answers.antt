@@ -1,9 +1,5 @@
-use Rattle.std.proofs.Common.{◌≡◌, ◌++◌, ap, sym, ◌∙◌, ◌+◌, drop, OnOk, subst}
-use Rattle.sharc_tree.specs.{Children.view_call, Measures.{expressions, in_arguments}, View.{view_expr, view_arguments}}
-use Rattle.sharc_ctype.specs.Entities.{casts}
-use Rattle.sharc_ctype.proofs.CastLemmas.{both_added, first_added}
+use Rattle.sharc_ctype.proofs.{Imports.{◌≡◌, ◌++◌, ap, sym, ◌∙◌, ◌+◌, drop, OnOk, subst, view_call, expressions, in_arguments, view_expr, view_arguments, casts, first_of_rest}, CastLemmas.{both_added, first_added}}
 use Rattle.sharc_ctype.proofs.casts.+add_casts.Goals as goal
-use Rattle.sharc_lemmas.proofs.Lists.{first_of_rest}
 
 pub add_casts-returns-in-Call : goal.add_casts-returns-in-Call
 add_casts-returns-in-Call t c =

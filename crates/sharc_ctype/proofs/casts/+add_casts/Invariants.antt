@@ -1,6 +1,4 @@
-use Rattle.std.proofs.Common.{◌≡◌, ◌++◌, drop}
-use Rattle.sharc_tree.specs.{Measures.in_arguments, View.view_arguments}
-use Rattle.sharc_ctype.specs.Entities.{casts}
+use Rattle.sharc_ctype.proofs.Imports.{◌≡◌, ◌++◌, drop, in_arguments, view_arguments, casts}
 use Rattle.sharc_ctype.proofs.casts.+add_casts.Given as goal
 
 abbrev pub invariant-add_arguments-loop-argument : goal.invariant-add_arguments-loop-argument

@@ -1,7 +1,4 @@
-use Rattle.std.proofs.Common.{◌≡◌, ◌++◌, sym, OnOk, subst}
-use Rattle.sharc_tree.specs.{Measures.{expressions, in_right, in_simple}, View.{view_expr, view_right, view_simple}}
-use Rattle.sharc_ctype.specs.Entities.{casts}
-use Rattle.sharc_ctype.proofs.CastLemmas.{both_added}
+use Rattle.sharc_ctype.proofs.{Imports.{◌≡◌, ◌++◌, sym, OnOk, subst, expressions, in_right, in_simple, view_expr, view_right, view_simple, casts}, CastLemmas.both_added}
 use Rattle.sharc_ctype.proofs.casts.add_simple.Goals as goal
 
 pub returns-in_ok-add_casts-in-Assign : goal.returns-in_ok-add_casts-in-Assign

@@ -1,6 +1,4 @@
-use Rattle.std.proofs.Common.{◌≡◌, ◌++◌, ap, sym, ◌∙◌, OnOk, subst}
-use Rattle.sharc_tree.specs.{Children.view_block, View.{view_stmt, view_statements}}
-use Rattle.sharc_ctype.specs.Entities.{statement_entities, statements_entities}
+use Rattle.sharc_ctype.proofs.Imports.{◌≡◌, ◌++◌, ap, sym, ◌∙◌, OnOk, subst, view_block, view_stmt, view_statements, statement_entities, statements_entities}
 use Rattle.sharc_ctype.proofs.collect.+add_statement.Goals as goal
 
 pub add_statement-returns-in-Block : goal.add_statement-returns-in-Block

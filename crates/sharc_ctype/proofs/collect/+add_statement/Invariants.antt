@@ -1,6 +1,4 @@
-use Rattle.std.proofs.Common.{◌≡◌, ◌++◌, drop}
-use Rattle.sharc_tree.specs.View.{view_statements}
-use Rattle.sharc_ctype.specs.Entities.{statements_entities}
+use Rattle.sharc_ctype.proofs.Imports.{◌≡◌, ◌++◌, drop, view_statements, statements_entities}
 use Rattle.sharc_ctype.proofs.collect.+add_statement.Given as goal
 
 abbrev pub invariant-add_statements-loop-stmt : goal.invariant-add_statements-loop-stmt

@@ -1,5 +1,4 @@
-use Rattle.std.proofs.Common.{◌≡◌, ◌++◌, drop, map}
-use Rattle.sharc_ctype.specs.Entities.{declared}
+use Rattle.sharc_ctype.proofs.Imports.{◌≡◌, ◌++◌, drop, map, declared}
 use Rattle.sharc_ctype.proofs.collect.add_declared.Given as goal
 
 abbrev pub invariant-loop-declaration : goal.invariant-loop-declaration

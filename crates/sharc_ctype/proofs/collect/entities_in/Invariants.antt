@@ -1,6 +1,4 @@
-use Rattle.std.proofs.Common.{◌≡◌, ◌++◌, drop}
-use Rattle.sharc_tree.specs.View.{view_items}
-use Rattle.sharc_ctype.specs.Entities.{entities_in}
+use Rattle.sharc_ctype.proofs.Imports.{◌≡◌, ◌++◌, drop, view_items, entities_in}
 use Rattle.sharc_ctype.proofs.collect.entities_in.Given as goal
 
 abbrev pub invariant-loop-item : goal.invariant-loop-item

@@ -1,5 +1,4 @@
-use Rattle.sharc_ctype.specs.Constants.{is_among}
-use Rattle.sharc_ctype.proofs.ConstantLemmas.{one_more}
+use Rattle.sharc_ctype.proofs.{Imports.is_among, ConstantLemmas.one_more}
 use Rattle.sharc_ctype.proofs.constants.set_of.Goals as goal
 
 pub loop-token-preserved : goal.loop-token-preserved

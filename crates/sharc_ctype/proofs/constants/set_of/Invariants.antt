@@ -1,5 +1,4 @@
-use Rattle.std.proofs.Common.{◌≡◌, ℕ, ◌||◌, drop}
-use Rattle.sharc_ctype.specs.Constants.{is_among}
+use Rattle.sharc_ctype.proofs.Imports.{◌≡◌, ℕ, ◌||◌, drop, is_among}
 use Rattle.sharc_ctype.proofs.constants.set_of.Given as goal
 
 abbrev pub invariant-loop-token : goal.invariant-loop-token

@@ -1,6 +1,4 @@
-use Rattle.std.proofs.Common.{◌≡◌, ◌∷◌, [], ◌++◌, ap, sym, subst, ◌∙◌, length, arith}
-use Rattle.sharc_ctype.specs.FirstPlaces.{HasFirstPlaces}
-use Rattle.sharc_ctype.proofs.DeclaredLemmas.{first_pushed}
+use Rattle.sharc_ctype.proofs.{Imports.{◌≡◌, ◌∷◌, [], ◌++◌, ap, sym, subst, ◌∙◌, length, arith, HasFirstPlaces}, DeclaredLemmas.first_pushed}
 use Rattle.sharc_ctype.proofs.declared.push_declaration.Goals as goal
 
 pub returns-clause-first : goal.returns-clause-first

@@ -1,6 +1,4 @@
-use Rattle.std.proofs.Common.{◌≡◌, ◌∙◌, sym, None}
-use Rattle.sharc_ctype.specs.FirstEntities.{row_at}
-use Rattle.sharc_ctype.proofs.EntityLemmas.{row_written, none_copied}
+use Rattle.sharc_ctype.proofs.{Imports.{◌≡◌, ◌∙◌, sym, None, row_at}, EntityLemmas.{row_written, none_copied}}
 use Rattle.sharc_ctype.proofs.entities.note_first.Goals as goal
 
 pub returns-clause-written : goal.returns-clause-written

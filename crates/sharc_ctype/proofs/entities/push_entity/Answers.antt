@@ -1,6 +1,4 @@
-use Rattle.std.proofs.Common.{◌≡◌, ◌∷◌, [], ◌++◌, ap, sym, subst, ◌∙◌, length, arith}
-use Rattle.sharc_ctype.specs.FirstEntities.{HasFirstEntities}
-use Rattle.sharc_ctype.proofs.EntityLemmas.{entity_pushed}
+use Rattle.sharc_ctype.proofs.{Imports.{◌≡◌, ◌∷◌, [], ◌++◌, ap, sym, subst, ◌∙◌, length, arith, HasFirstEntities}, EntityLemmas.entity_pushed}
 use Rattle.sharc_ctype.proofs.entities.push_entity.Goals as goal
 
 pub returns-clause-first : goal.returns-clause-first

@@ -1,8 +1,4 @@
-use Rattle.std.proofs.Common.{refl, ap, sym, ◌∙◌, ◌+◌, ◌&&◌, length, drop, fold, is_some}
-use Rattle.sharc_tree.specs.{Tree.call, View.{view_expr, view_arguments}, Children.view_call}
-use Rattle.sharc_names.specs.{declared.need.Need.TheVariants.Value, Names.look_up, Needs.{met, agreed, unagreed}, Notes.noted, View.{view_kinds, view_bounds, view_wanted}}
-use Rattle.sharc_ctype.specs.Expressions.{call_kind, type_of, are_fine, notes_at, notes_of_all}
-use Rattle.sharc_ctype.proofs.CallLemmas.{call_typed, call_noted, one_fine, one_noted}
+use Rattle.sharc_ctype.proofs.{Imports.{refl, ap, sym, ◌∙◌, ◌+◌, ◌&&◌, length, drop, fold, is_some, call, view_expr, view_arguments, view_call, Value, look_up, met, agreed, unagreed, noted, view_kinds, view_bounds, view_wanted, call_kind, type_of, are_fine, notes_at, notes_of_all}, CallLemmas.{call_typed, call_noted, one_fine, one_noted}}
 use Rattle.sharc_ctype.proofs.expr.+expr.Goals as goal
 
 pub expression-returns-in-Call-clause-kind : goal.expression-returns-in-Call-clause-kind

@@ -1,7 +1,4 @@
-use Rattle.std.proofs.Common.{◌≡◌, ◌&&◌, drop, fold}
-use Rattle.sharc_tree.specs.View.{view_arguments}
-use Rattle.sharc_names.specs.{View.view_wanted, Notes.noted}
-use Rattle.sharc_ctype.specs.Expressions.{are_fine, notes_of_all}
+use Rattle.sharc_ctype.proofs.Imports.{◌≡◌, ◌&&◌, drop, fold, view_arguments, view_wanted, noted, are_fine, notes_of_all}
 use Rattle.sharc_ctype.proofs.expr.+expr.Given as goal
 
 abbrev pub invariant-arguments-loop-expr : goal.invariant-arguments-loop-expr

@@ -1,6 +1,4 @@
-use Rattle.std.proofs.Common.{◌≡◌, ◌++◌, ap, sym, ◌∙◌, OnOk, subst}
-use Rattle.sharc_tree.specs.{Children.view_block, View.{view_stmt, view_statements}}
-use Rattle.sharc_ctype.specs.Statements.{locals_in, locals_in_all}
+use Rattle.sharc_ctype.proofs.Imports.{◌≡◌, ◌++◌, ap, sym, ◌∙◌, OnOk, subst, view_block, view_stmt, view_statements, locals_in, locals_in_all}
 use Rattle.sharc_ctype.proofs.gather.+add_locals.Goals as goal
 
 pub add_locals-returns-in-Block : goal.add_locals-returns-in-Block

@@ -1,6 +1,4 @@
-use Rattle.std.proofs.Common.{◌≡◌, ◌++◌, drop}
-use Rattle.sharc_tree.specs.View.{view_statements}
-use Rattle.sharc_ctype.specs.Statements.{locals_in_all}
+use Rattle.sharc_ctype.proofs.Imports.{◌≡◌, ◌++◌, drop, view_statements, locals_in_all}
 use Rattle.sharc_ctype.proofs.gather.+add_locals.Given as goal
 
 abbrev pub invariant-add_all_locals-loop-stmt : goal.invariant-add_all_locals-loop-stmt

@@ -1,4 +1,4 @@
-use Rattle.std.proofs.Common.{◌≡◌, ◌++◌, take}
+use Rattle.sharc_ctype.proofs.Imports.{◌≡◌, ◌++◌, take}
 use Rattle.sharc_ctype.proofs.gather.add_all.Given as goal
 
 abbrev pub invariant-loop-declaration : goal.invariant-loop-declaration

@@ -1,9 +1,5 @@
-use Rattle.std.proofs.{Common.{◌+◌, ap, sym, ◌∙◌, drop, fold, refl}, lemmas.List.Sums.fold-append}
-use Rattle.sharc_tree.specs.View.{view_item, view_items}
-use Rattle.sharc_names.specs.Notes.{noted}
-use Rattle.sharc_ctype.specs.Globals.{item_cells, item_size_notes, sizes_notes}
+use Rattle.sharc_ctype.proofs.Imports.{◌+◌, ap, sym, ◌∙◌, drop, fold, refl, fold-append, view_item, view_items, noted, item_cells, item_size_notes, sizes_notes, first_of_rest}
 use Rattle.sharc_ctype.proofs.global.sizes.Goals as goal
-use Rattle.sharc_lemmas.proofs.Lists.{first_of_rest}
 
 pub loop-item-init : goal.loop-item-init
 loop-item-init c = (0, refl, refl)

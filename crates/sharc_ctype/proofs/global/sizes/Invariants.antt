@@ -1,8 +1,5 @@
 -- The cells that the code keeps stand for some number of cells of the globals before: that number goes into the notes of the rest.
-use Rattle.std.proofs.Common.{◌≡◌, ℕ, drop, fold, min}
-use Rattle.sharc_tree.specs.View.{view_items}
-use Rattle.sharc_names.specs.Notes.{noted}
-use Rattle.sharc_ctype.specs.Globals.{sizes_notes}
+use Rattle.sharc_ctype.proofs.Imports.{◌≡◌, ℕ, drop, fold, min, view_items, noted, sizes_notes}
 use Rattle.sharc_ctype.proofs.global.sizes.Given as goal
 
 abbrev pub invariant-loop-item : goal.invariant-loop-item

@@ -1,6 +1,4 @@
-use Rattle.std.proofs.Common.{◌≡◌, ℕ, ◌+◌, ◌<◌, ◌≤◌, ◌==◌, false, slice_index_or}
-use Rattle.std.specs.Int.{bit_at}
-use Rattle.sharc_ctype.specs.Layouts.{pointer_cells}
+use Rattle.sharc_ctype.proofs.Imports.{◌≡◌, ℕ, ◌+◌, ◌<◌, ◌≤◌, ◌==◌, false, get_or as slice_index_or, bit_at, pointer_cells}
 use Rattle.sharc_ctype.proofs.layout.word_from.Given as goal
 
 abbrev pub invariant-loop-bit : goal.invariant-loop-bit

@@ -1,10 +1,5 @@
-use Rattle.std.proofs.Common.{◌-◌, ◌+◌, ap, sym, ◌∙◌, drop, length, fold}
-use Rattle.sharc_tree.specs.{Children.view_block, View.{view_stmt, view_statements}}
-use Rattle.sharc_names.specs.Notes.{noted}
-use Rattle.sharc_ctype.specs.{Items.beyond, Statements.{locals_in, locals_in_all}}
-use Rattle.sharc_ctype.proofs.LocalLemmas.{beyond_both, room_both}
+use Rattle.sharc_ctype.proofs.{Imports.{◌-◌, ◌+◌, ap, sym, ◌∙◌, drop, length, fold, view_block, view_stmt, view_statements, noted, beyond, locals_in, locals_in_all, first_of_rest}, LocalLemmas.{beyond_both, room_both}}
 use Rattle.sharc_ctype.proofs.locals.+locals.Goals as goal
-use Rattle.sharc_lemmas.proofs.Lists.{first_of_rest}
 
 pub locals-returns-in-Block-clause-room : goal.locals-returns-in-Block-clause-room
 locals-returns-in-Block-clause-room t c =

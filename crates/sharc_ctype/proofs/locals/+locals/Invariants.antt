@@ -1,7 +1,4 @@
-use Rattle.std.proofs.Common.{◌≡◌, ◌-◌, drop, fold, length}
-use Rattle.sharc_tree.specs.View.{view_statements}
-use Rattle.sharc_names.specs.Notes.{noted}
-use Rattle.sharc_ctype.specs.{Items.beyond, Statements.locals_in_all}
+use Rattle.sharc_ctype.proofs.Imports.{◌≡◌, ◌-◌, drop, fold, length, view_statements, noted, beyond, locals_in_all}
 use Rattle.sharc_ctype.proofs.locals.+locals.Given as goal
 
 abbrev pub invariant-all_locals-loop-stmt : goal.invariant-all_locals-loop-stmt

@@ -1,6 +1,4 @@
-use Rattle.std.proofs.Common.{◌≡◌, [], take, drop, fold}
-use Rattle.sharc_names.specs.Notes.{noted}
-use Rattle.sharc_ctype.specs.Items.{fields_notes}
+use Rattle.sharc_ctype.proofs.Imports.{◌≡◌, [], take, drop, fold, noted, fields_notes}
 use Rattle.sharc_ctype.proofs.program.fields.Given as goal
 
 abbrev pub invariant-loop-one : goal.invariant-loop-one

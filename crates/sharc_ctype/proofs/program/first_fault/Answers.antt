@@ -1,7 +1,4 @@
-use Rattle.std.proofs.Common.{subst, sym, ap, ◌∙◌, refl}
-use Rattle.sharc_tree.specs.View.{view_items}
-use Rattle.sharc_names.specs.Notes.{Findings, IsAnswer, faults}
-use Rattle.sharc_ctype.specs.Items.{nothing_found, program_notes}
+use Rattle.sharc_ctype.proofs.Imports.{subst, sym, ap, ◌∙◌, refl, view_items, Findings, IsAnswer, faults, nothing_found, program_notes}
 use Rattle.sharc_ctype.proofs.program.first_fault.Goals as goal
 
 pub returns : goal.returns

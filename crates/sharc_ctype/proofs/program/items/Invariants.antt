@@ -1,7 +1,4 @@
-use Rattle.std.proofs.Common.{◌≡◌, drop, fold}
-use Rattle.sharc_tree.specs.View.{view_items}
-use Rattle.sharc_names.specs.Notes.{noted}
-use Rattle.sharc_ctype.specs.Items.{items_notes}
+use Rattle.sharc_ctype.proofs.Imports.{◌≡◌, drop, fold, view_items, noted, items_notes}
 use Rattle.sharc_ctype.proofs.program.items.Given as goal
 
 abbrev pub invariant-loop-one : goal.invariant-loop-one

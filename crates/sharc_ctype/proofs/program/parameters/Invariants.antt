@@ -1,6 +1,4 @@
-use Rattle.std.proofs.Common.{◌≡◌, drop, fold}
-use Rattle.sharc_names.specs.Notes.{noted}
-use Rattle.sharc_ctype.specs.{Statements.with_names, Items.{parameters_notes, with_parameters}}
+use Rattle.sharc_ctype.proofs.Imports.{◌≡◌, drop, fold, noted, with_names, parameters_notes, with_parameters}
 use Rattle.sharc_ctype.proofs.program.parameters.Given as goal
 
 abbrev pub invariant-loop-i : goal.invariant-loop-i

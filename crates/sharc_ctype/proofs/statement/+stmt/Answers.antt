@@ -1,7 +1,4 @@
-use Rattle.std.proofs.Common.{ℕ, ap, sym, ◌∙◌}
-use Rattle.sharc_tree.specs.{Tree.block, View.{view_stmt, view_statements}, Children.view_block}
-use Rattle.sharc_ctype.specs.{Statements.Around, View.view_around}
-use Rattle.sharc_ctype.proofs.StatementLemmas.{block_noted}
+use Rattle.sharc_ctype.proofs.{Imports.{ℕ, ap, sym, ◌∙◌, block, view_stmt, view_statements, view_block, Around, view_around}, StatementLemmas.block_noted}
 use Rattle.sharc_ctype.proofs.statement.+stmt.Goals as goal
 
 pub statement-returns-in_ok-leave-in-Block-clause-found : goal.statement-returns-in_ok-leave-in-Block-clause-found

@@ -1,7 +1,4 @@
-use Rattle.std.proofs.Common.{◌≡◌, drop, fold}
-use Rattle.sharc_tree.specs.View.{view_statements}
-use Rattle.sharc_ctype.specs.{Statements.{with_names, after_all, notes_in_all}, View.view_around}
-use Rattle.sharc_names.specs.Notes.{noted}
+use Rattle.sharc_ctype.proofs.Imports.{◌≡◌, drop, fold, view_statements, with_names, after_all, notes_in_all, view_around, noted}
 use Rattle.sharc_ctype.proofs.statement.+stmt.Given as goal
 
 abbrev pub invariant-statements-loop-stmt : goal.invariant-statements-loop-stmt

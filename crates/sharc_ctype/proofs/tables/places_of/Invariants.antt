@@ -1,6 +1,4 @@
-use Rattle.std.proofs.Common.{◌≡◌, ◌++◌, drop}
-use Rattle.sharc_tree.specs.View.{view_items}
-use Rattle.sharc_ctype.specs.Tables.{places_of}
+use Rattle.sharc_ctype.proofs.Imports.{◌≡◌, ◌++◌, drop, view_items, places_of}
 use Rattle.sharc_ctype.proofs.tables.places_of.Given as goal
 
 abbrev pub invariant-loop-i : goal.invariant-loop-i

@@ -1,6 +1,4 @@
-use Rattle.std.proofs.Common.{◌≡◌, ◌++◌, ap, sym, ◌∙◌, OnOk, subst}
-use Rattle.sharc_tree.specs.{Children.view_block, View.{view_stmt, view_statements}}
-use Rattle.sharc_ctype.specs.Variables.{initialised_in, initialised_in_all, assigned_in, assigned_in_all}
+use Rattle.sharc_ctype.proofs.Imports.{◌≡◌, ◌++◌, ap, sym, ◌∙◌, OnOk, subst, view_block, view_stmt, view_statements, initialised_in, initialised_in_all, assigned_in, assigned_in_all}
 use Rattle.sharc_ctype.proofs.variables.+add_variables.Goals as goal
 
 pub add_variables-returns-in-Block-clause-initialised : goal.add_variables-returns-in-Block-clause-initialised

@@ -1,6 +1,4 @@
-use Rattle.std.proofs.Common.{◌≡◌, ◌++◌, drop}
-use Rattle.sharc_tree.specs.View.{view_statements}
-use Rattle.sharc_ctype.specs.Variables.{initialised_in_all, assigned_in_all}
+use Rattle.sharc_ctype.proofs.Imports.{◌≡◌, ◌++◌, drop, view_statements, initialised_in_all, assigned_in_all}
 use Rattle.sharc_ctype.proofs.variables.+add_variables.Given as goal
 
 abbrev pub invariant-add_all_variables-loop-stmt : goal.invariant-add_all_variables-loop-stmt

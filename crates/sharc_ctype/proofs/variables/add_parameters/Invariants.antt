@@ -1,4 +1,4 @@
-use Rattle.std.proofs.Common.{◌≡◌, ◌++◌, drop, map}
+use Rattle.sharc_ctype.proofs.Imports.{◌≡◌, ◌++◌, drop, map}
 use Rattle.sharc_ctype.proofs.variables.add_parameters.Given as goal
 
 abbrev pub invariant-loop-parameter : goal.invariant-loop-parameter

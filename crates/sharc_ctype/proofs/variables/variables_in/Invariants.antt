@@ -1,6 +1,4 @@
-use Rattle.std.proofs.Common.{◌≡◌, ◌++◌, drop}
-use Rattle.sharc_tree.specs.View.{view_items}
-use Rattle.sharc_ctype.specs.Variables.{all_with_value, all_assigned}
+use Rattle.sharc_ctype.proofs.Imports.{◌≡◌, ◌++◌, drop, view_items, all_with_value, all_assigned}
 use Rattle.sharc_ctype.proofs.variables.variables_in.Given as goal
 
 abbrev pub invariant-loop-item : goal.invariant-loop-item

@@ -1,5 +1,4 @@
-use Rattle.std.proofs.Common.{◌≡◌, ◌≤◌, length, drop}
-use Rattle.sharc_dataflow.specs.{Passes.{summed, sum_start}, Views.view_sums}
+use Rattle.sharc_dataflow.proofs.Imports.{◌≡◌, ◌≤◌, length, drop, summed, sum_start, view_sums}
 use Rattle.sharc_dataflow.proofs.back.heads_of.Given as goal
 
 abbrev pub invariant-loop-i : goal.invariant-loop-i

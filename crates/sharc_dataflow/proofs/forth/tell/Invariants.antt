@@ -1,5 +1,4 @@
-use Rattle.std.proofs.Common.{◌≡◌, drop}
-use Rattle.sharc_dataflow.specs.{Passes.{told, tell_start}, Views.view_tells}
+use Rattle.sharc_dataflow.proofs.Imports.{◌≡◌, drop, told, tell_start, view_tells}
 use Rattle.sharc_dataflow.proofs.forth.tell.Given as goal
 
 abbrev pub invariant-loop-step : goal.invariant-loop-step

@@ -1,6 +1,4 @@
-use Rattle.std.proofs.{Common.{subst, sym, ap, ◌∙◌}, lemmas.List.drop_all}
-use Rattle.sharc_dataflow.specs.{Narrow.{narrowed, IsSame}, Views.{view_piece, view_pieces, view_narrowing}}
-use Rattle.sharc_dataflow.proofs.Narrows.{whole_same}
+use Rattle.sharc_dataflow.proofs.{Imports.{subst, sym, ap, ◌∙◌, drop_all, narrowed, IsSame, view_piece, view_pieces, view_narrowing}, Narrows.whole_same}
 use Rattle.sharc_dataflow.proofs.narrow.narrowed.Goals as goal
 
 pub returns : goal.returns

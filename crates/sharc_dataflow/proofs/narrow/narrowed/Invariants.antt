@@ -1,5 +1,4 @@
-use Rattle.std.proofs.Common.{◌≡◌, drop}
-use Rattle.sharc_dataflow.specs.{Narrow.{narrowed, narrow_start}, Views.view_narrowing}
+use Rattle.sharc_dataflow.proofs.Imports.{◌≡◌, drop, narrowed, narrow_start, view_narrowing}
 use Rattle.sharc_dataflow.proofs.narrow.narrowed.Given as goal
 
 abbrev pub invariant-loop-step : goal.invariant-loop-step

@@ -1,6 +1,4 @@
-use Rattle.std.proofs.{Common.{[], ◌∷◌, sym, ap, ◌∙◌}, lemmas.List.map-append}
-use Rattle.sharc_dataflow.specs.{Passes.{last_or, front}, Narrow.nothing_kept, Views.{view_piece, view_pieces}}
-use Rattle.sharc_dataflow.proofs.Summed.{last_pushed, front_pushed}
+use Rattle.sharc_dataflow.proofs.{Imports.{[], ◌∷◌, sym, ap, ◌∙◌, map-append, last_or, front, nothing_kept, view_piece, view_pieces}, Summed.{last_pushed, front_pushed}}
 use Rattle.sharc_dataflow.proofs.narrow.pop_piece.Goals as goal
 
 pub returns-in-Some-clause-last : goal.returns-in-Some-clause-last

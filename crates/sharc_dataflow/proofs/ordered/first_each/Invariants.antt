@@ -1,5 +1,4 @@
-use Rattle.std.proofs.Common.{◌≡◌, ◌++◌, None, drop}
-use Rattle.sharc_dataflow.specs.Orders.{first_each}
+use Rattle.sharc_dataflow.proofs.Imports.{◌≡◌, ◌++◌, None, drop, first_each}
 use Rattle.sharc_dataflow.proofs.ordered.first_each.Given as goal
 
 abbrev pub invariant-loop-w : goal.invariant-loop-w

@@ -1,6 +1,4 @@
-use Rattle.std.proofs.Common.{◌∙◌, None, sym, ap, subst}
-use Rattle.sharc_dataflow.specs.{Orders.first_each, Uses.AreFirsts}
-use Rattle.sharc_dataflow.proofs.OrderLemmas.{are_firsts}
+use Rattle.sharc_dataflow.proofs.{Imports.{◌∙◌, None, sym, ap, subst, first_each, AreFirsts}, OrderLemmas.are_firsts}
 use Rattle.sharc_dataflow.proofs.ordered.firsts.Goals as goal
 
 pub returns : goal.returns

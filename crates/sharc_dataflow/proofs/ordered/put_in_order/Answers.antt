@@ -1,5 +1,4 @@
-use Rattle.std.proofs.{Common.rules, lemmas.List.Sorted.answers_always}
-use Rattle.sharc_dataflow.specs.Orders.{read_and_since}
+use Rattle.sharc_dataflow.proofs.Imports.{rules, answers_always, read_and_since}
 use Rattle.sharc_dataflow.proofs.ordered.put_in_order.Goals as goal
 
 pub returns : goal.returns

@@ -1,6 +1,4 @@
-use Rattle.std.proofs.Common.{sym, ap, ◌∙◌}
-use Rattle.sharc_dataflow.specs.Passes.{last_or, front}
-use Rattle.sharc_dataflow.proofs.Summed.{last_pushed, front_pushed}
+use Rattle.sharc_dataflow.proofs.{Imports.{sym, ap, ◌∙◌, last_or, front}, Summed.{last_pushed, front_pushed}}
 use Rattle.sharc_dataflow.proofs.stack.pop_ways.Goals as goal
 
 pub returns-in-Some-clause-last : goal.returns-in-Some-clause-last

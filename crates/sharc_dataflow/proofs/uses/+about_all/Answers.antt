@@ -1,5 +1,4 @@
-use Rattle.std.proofs.{Common.{◌++◌, ◌/◌, length, take, sym, ap, ◌∙◌}, lemmas.List.take-append-drop}
-use Rattle.sharc_dataflow.proofs.Halved.{about_these, about_both}
+use Rattle.sharc_dataflow.proofs.{Imports.{◌++◌, ◌/◌, length, take, sym, ap, ◌∙◌, take-append-drop}, Halved.{about_these, about_both}}
 use Rattle.sharc_dataflow.proofs.uses.+about_all.Goals as goal
 
 pub returns-in_ok-found-in-len2-up-2 : goal.returns-in_ok-found-in-len2-up-2

@@ -1,4 +1,4 @@
-use Rattle.std.proofs.Common.{length}
+use Rattle.sharc_dataflow.proofs.Imports.{length}
 use Rattle.sharc_dataflow.proofs.uses.+about_all.Given as goal
 
 abbrev pub decreases-about_all : goal.decreases-about_all

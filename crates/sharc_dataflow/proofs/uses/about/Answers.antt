@@ -1,5 +1,4 @@
-use Rattle.std.proofs.Common.{◌∙◌}
-use Rattle.sharc_dataflow.proofs.Found.{told_is}
+use Rattle.sharc_dataflow.proofs.{Imports.{◌∙◌}, Found.told_is}
 use Rattle.sharc_dataflow.proofs.uses.about.Goals as goal
 
 pub returns : goal.returns

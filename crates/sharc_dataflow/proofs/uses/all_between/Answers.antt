@@ -1,6 +1,4 @@
-use Rattle.std.proofs.{Common.{◌+◌, min, slice_index_or, take, subst, sym}, lemmas.Grind.get_or_default_zero, lemmas.List.take_all}
-use Rattle.sharc_dataflow.specs.Narrow.{AreBetween}
-use Rattle.sharc_dataflow.proofs.Halved.{between_next}
+use Rattle.sharc_dataflow.proofs.{Imports.{◌+◌, min, slice_index_or, take, subst, sym, get_or_default_zero, take_all, AreBetween}, Halved.between_next}
 use Rattle.sharc_dataflow.proofs.uses.all_between.Goals as goal
 
 pub loop-x-preserved : goal.loop-x-preserved

@@ -1,5 +1,4 @@
-use Rattle.std.proofs.Common.{take}
-use Rattle.sharc_dataflow.specs.Narrow.{AreBetween}
+use Rattle.sharc_dataflow.proofs.Imports.{take, AreBetween}
 use Rattle.sharc_dataflow.proofs.uses.all_between.Given as goal
 
 abbrev pub invariant-loop-x : goal.invariant-loop-x

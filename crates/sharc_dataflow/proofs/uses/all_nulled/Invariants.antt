@@ -1,5 +1,4 @@
-use Rattle.std.proofs.Common.{◌≡◌, ◌++◌, drop}
-use Rattle.sharc_dataflow.specs.Gathered.{all_nulled}
+use Rattle.sharc_dataflow.proofs.Imports.{◌≡◌, ◌++◌, drop, all_nulled}
 use Rattle.sharc_dataflow.proofs.uses.all_nulled.Given as goal
 
 abbrev pub invariant-loop-step : goal.invariant-loop-step

@@ -1,4 +1,4 @@
-use Rattle.std.proofs.{Common.{sym, subst, Contains}, lemmas.List.Filters.dedup_is, lemmas.List.Kept.Contains-dedup_nat, lemmas.List.Sorted.Contains-permutation}
+use Rattle.sharc_dataflow.proofs.Imports.{sym, subst, Contains, dedup_is, Contains-dedup_nat, Contains-permutation}
 use Rattle.sharc_dataflow.proofs.uses.nulled.Goals as goal
 
 pub returns : goal.returns

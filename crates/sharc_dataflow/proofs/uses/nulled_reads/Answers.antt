@@ -1,6 +1,4 @@
-use Rattle.std.proofs.Common.{◌++◌, ◌∙◌, sym, ap, subst, Contains}
-use Rattle.sharc_dataflow.specs.{Gathered.{all_nulled, all_warns}, Narrow.AreBetween}
-use Rattle.sharc_dataflow.proofs.{Found.adds_uses, Halved.about_these}
+use Rattle.sharc_dataflow.proofs.{Imports.{◌++◌, ◌∙◌, sym, ap, subst, Contains, all_nulled, all_warns, AreBetween}, Found.adds_uses, Halved.about_these}
 use Rattle.sharc_dataflow.proofs.uses.nulled_reads.Goals as goal
 
 pub returns : goal.returns

@@ -1,6 +1,4 @@
-use Rattle.std.proofs.Common.{refl}
-use Rattle.sharc_flat.specs.Flattened.{flattened}
-use Rattle.sharc_flat.proofs.Flattening.{is_flattened}
+use Rattle.sharc_flat.proofs.{Imports.{refl, flattened}, Flattening.is_flattened}
 use Rattle.sharc_flat.proofs.laws.is_there_code.Goals as goal
 
 pub returns : goal.returns

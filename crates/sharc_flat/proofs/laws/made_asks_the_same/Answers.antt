@@ -1,6 +1,4 @@
-use Rattle.sharc_ctype.specs.Resolved.{functions_in}
-use Rattle.sharc_flat.specs.{Made.flat_of, Flattened.flattened, Flattens.names_of, Tables.globals_of}
-use Rattle.sharc_flat.proofs.Flattening.{is_flattened}
+use Rattle.sharc_flat.proofs.{Imports.{functions_in, flat_of, flattened, names_of, globals_of}, Flattening.is_flattened}
 use Rattle.sharc_flat.proofs.Laying as laying
 use Rattle.sharc_flat.proofs.Threads as threads
 use Rattle.sharc_flat.proofs.laws.made_asks_the_same.Goals as goal

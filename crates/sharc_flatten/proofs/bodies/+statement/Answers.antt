@@ -1,10 +1,4 @@
-use Rattle.std.proofs.{Common.{◌≡◌, ℕ, ◌+◌, ◌-◌, ◌++◌, ◌∷◌, [], length, set, take, ap, ◌∙◌, arith}, lemmas.Result.on_ok_weaker}
-use Rattle.std.specs.Option.{option_map}
-use Rattle.sharc_tree.specs.{Children.view_block, Tree.if_then_else, View.{view_expr, view_simple, view_stmt, view_statements}}
-use Rattle.sharc_flat.specs.declared.op.Op.TheVariants as op
-use Rattle.sharc_flat.specs.Flattened.{behind_statements, looping, statement_code}
-use Rattle.sharc_flatten.specs.View.{context, around_of, block_code, finished}
-use Rattle.sharc_flatten.proofs.{BodyLemmas.{around_within, choice_lines, turns_lines, block_at, sides_at}, StatementLemmas.{grown_all, kept}}
+use Rattle.sharc_flatten.proofs.{Imports.{◌≡◌, ℕ, ◌+◌, ◌-◌, ◌++◌, ◌∷◌, [], length, set, take, ap, ◌∙◌, arith, on_ok_weaker, option_map, view_block, if_then_else, view_expr, view_simple, view_stmt, view_statements, Op, behind_statements, looping, statement_code, context, around_of, block_code, finished}, BodyLemmas.{around_within, choice_lines, turns_lines, block_at, sides_at}, StatementLemmas.{grown_all, kept}}
 use Rattle.sharc_flatten.proofs.bodies.+statement.Goals as goal
 
 pub block-returns-clause-slots : goal.block-returns-clause-slots
@@ -16,7 +10,7 @@ block-returns-clause-slots t c =
     let all = view_statements c.args.all.now in
     let size : c.len-began.result ≡ length xs = omega (arith, c.len-began.ensures, c.args.slots.now.ok.0) in
     on_ok_weaker c.emit.result
-    (λ (e : c.emit.new.lines.items ≡ c.end_block.new.lines.items ++ op.BlockEnd ∷ []).
+    (λ (e : c.emit.new.lines.items ≡ c.end_block.new.lines.items ++ Op.BlockEnd ∷ []).
     c.truncate-2.ensures.items ∙ ap (λ n. take n ys) size ∙ kept p xs ys (behind_statements con all) (grown_all con all) c.in_ok-statements.ensures.slots)
     c.emit.ensures
 
@@ -29,7 +23,7 @@ choice-returns-clause-code t c =
     let l3 = c.skip_if_zero.new.lines.items in
     let h = c.in_ok-hole.hole in
     on_ok_weaker c.skip_if_zero.result
-    (λ (e3 : l3 ≡ set l2 h.line (op.SkipIfZero h.register (length l2 - h.line - 1 + 0))).
+    (λ (e3 : l3 ≡ set l2 h.line (Op.SkipIfZero h.register (length l2 - h.line - 1 + 0))).
     choice_lines con (context p c.as_slice.result.now) (view_expr c.args.test.now) c.args.lines.now.items c.turn.new.lines.items l2 l3 h (λ at. statement_code con a at (view_stmt c.args.then.now))
     (ap (context p) c.as_slice.ensures.value) c.in_ok-hole.ensures.code c.in_ok-hole.ensures.hole c.in_ok-inner.ensures.code e3)
     c.skip_if_zero.ensures
@@ -48,7 +42,7 @@ statement-returns-in_ok-inner-in-IfElse-2-clause-code t c =
     let over = c.in_ok-over-in-IfElse.over in
     let form : view_stmt c.args.stmt.now ≡ if_then_else c.in-IfElse.span (view_expr c.in-IfElse.test.value) x y = ap view_stmt c.in-IfElse.is in
     on_ok_weaker c.skip.result
-    (λ (e6 : l6 ≡ set l5 over (op.Skip (length l5 - over - 1 + 0))).
+    (λ (e6 : l6 ≡ set l5 over (Op.Skip (length l5 - over - 1 + 0))).
     sides_at p xs c.inner.new.slots.items c.as_slice-in-IfElse.result.now c.args.around c.args.marks.now.items c.inner.new.marks.items c.in-IfElse.span (view_stmt c.args.stmt.now) (view_expr c.in-IfElse.test.value) (view_expr c.deref-in-IfElse.result.now)
     x (view_stmt c.deref-in-IfElse-2.result.now) y (view_stmt c.deref-in-IfElse-3.result.now) c.args.lines.now.items c.emit.new.lines.items c.turn.new.lines.items c.inner.new.lines.items l4 l5 l6 c.in_ok-hole-in-IfElse.hole over
     form (ap view_expr c.deref-in-IfElse.ensures) (ap view_stmt c.deref-in-IfElse-2.ensures) (ap view_stmt c.deref-in-IfElse-3.ensures)

@@ -1,7 +1,4 @@
-use Rattle.std.proofs.Common.{◌≡◌, ◌++◌, length, drop}
-use Rattle.sharc_tree.specs.View.{view_statements}
-use Rattle.sharc_flat.specs.Flattened.{statements_code, behind_statements}
-use Rattle.sharc_flatten.specs.View.{context, around_of}
+use Rattle.sharc_flatten.proofs.Imports.{◌≡◌, ◌++◌, length, drop, view_statements, statements_code, behind_statements, context, around_of}
 use Rattle.sharc_flatten.proofs.bodies.+statement.Given as goal
 
 abbrev pub invariant-statements-loop-stmt : goal.invariant-statements-loop-stmt

@@ -1,9 +1,4 @@
-use Rattle.std.proofs.{Common.{◌≡◌, ◌∙◌, ◌++◌, ◌∷◌, [], ap, sym}, lemmas.Result.on_ok_weaker}
-use Rattle.sharc_tree.specs.{Spans.span_of, View.{view_expr, view_option}}
-use Rattle.sharc_flat.specs.declared.op.Op.TheVariants as op
-use Rattle.sharc_flat.specs.{Places.width_code, Flattened.{expression_code, return_code}}
-use Rattle.sharc_flatten.specs.View.{context, around_of, holds_references, innermost}
-use Rattle.sharc_flatten.proofs.{BodyLemmas.{returned_nothing, returned_value}, ScopeLemmas.innermost_all}
+use Rattle.sharc_flatten.proofs.{Imports.{◌≡◌, ◌∙◌, ◌++◌, ◌∷◌, [], ap, sym, on_ok_weaker, span_of, view_expr, view_option, Op, width_code, expression_code, return_code, context, around_of, holds_references, innermost}, BodyLemmas.{returned_nothing, returned_value}, ScopeLemmas.innermost_all}
 use Rattle.sharc_flatten.proofs.bodies.returned.Goals as goal
 
 pub returns-in_ok-zero-in-None : goal.returns-in_ok-zero-in-None
@@ -14,7 +9,7 @@ returns-in_ok-zero-in-None c =
     let l2 = c.zero.new.lines.items in
     let l3 = c.emit.new.lines.items in
     on_ok_weaker c.emit.result
-    (λ (e3 : l3 ≡ l2 ++ op.Return c.at_site.result ∷ []).
+    (λ (e3 : l3 ≡ l2 ++ Op.Return c.at_site.result ∷ []).
     returned_nothing con a c.args.site c.at_site.result (innermost 0 c.args.marks.now) (holds_references c.bank_of-bank.result) old c.leave.new.lines.items l2 l3
     (innermost_all c.args.around.outer c.args.marks.now) c.bank_of-bank.ensures c.at_site.ensures c.in_ok-leave-in-None.ensures c.in_ok-zero-in-None.ensures e3
     ∙ ap (λ v. old ++ return_code con a c.args.site (view_option (λ b. view_expr b.value) v)) (sym c.in-None.is))
@@ -32,7 +27,7 @@ returns-in_ok-give-in-Some c =
     let l4 = c.give.new.lines.items in
     let l5 = c.emit-in-Some.new.lines.items in
     on_ok_weaker c.emit-in-Some.result
-    (λ (e5 : l5 ≡ l4 ++ op.Return c.at_site-in-Some.result ∷ []).
+    (λ (e5 : l5 ≡ l4 ++ Op.Return c.at_site-in-Some.result ∷ []).
     returned_value con a e c.args.site c.at_site-in-Some.result (innermost 0 c.args.marks.now) (holds_references c.bank_of-bank.result) i r old l1 c.narrow.new.lines.items c.leave-in-Some.new.lines.items l4 l5
     (innermost_all c.args.around.outer c.args.marks.now) c.bank_of-bank.ensures c.at_site-in-Some.ensures c.in_ok-at-in-Some.ensures.int c.in_ok-at-in-Some.ensures.reference
     (c.in_ok-expression-in-Some.ensures ∙ ap (λ x. old ++ expression_code con i r (view_expr x)) c.deref.ensures)

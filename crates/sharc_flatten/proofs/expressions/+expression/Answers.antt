@@ -1,10 +1,4 @@
-use Rattle.std.proofs.{Common.{◌≡◌, ◌+◌, ◌++◌, ◌∷◌, [], length, ap, ◌∙◌, arith}, lemmas.Result.on_ok_weaker}
-use Rattle.sharc_tree.specs.{Children.view_call, Tree.{index, binary}, View.{view_expr, view_arguments}}
-use Rattle.sharc_ctype.specs.{Resolved.named_at, Transfers.parameters_named}
-use Rattle.sharc_flat.specs.declared.op.Op.TheVariants as op
-use Rattle.sharc_flat.specs.Flattened.{expression_code, truth_code, called_code, lvalue_code, binary_code}
-use Rattle.sharc_flatten.specs.View.{context, holds_references}
-use Rattle.sharc_flatten.proofs.{ExpressionLemmas.{call_at, index_at, binary_at}, WalkLemmas.{decided as decided_lines}}
+use Rattle.sharc_flatten.proofs.{Imports.{◌≡◌, ◌+◌, ◌++◌, ◌∷◌, [], length, ap, ◌∙◌, arith, on_ok_weaker, view_call, index, binary, view_expr, view_arguments, named_at, parameters_named, Op, expression_code, truth_code, called_code, lvalue_code, binary_code, context, holds_references}, ExpressionLemmas.{call_at, index_at, binary_at}, WalkLemmas.{decided as decided_lines}}
 use Rattle.sharc_flatten.proofs.expressions.+expression.Goals as goal
 
 pub decided-returns : goal.decided-returns
@@ -17,11 +11,11 @@ decided-returns t c =
     let l6 = c.emit-3.new.lines.items in
     let at : c.len.result ≡ length old = omega (arith, c.len.ensures, c.args.lines.now.ok.0) in
     on_ok_weaker c.emit-3.result
-    (λ (e6 : l6 ≡ l5 ++ op.IsFalse i i ∷ []).
+    (λ (e6 : l6 ≡ l5 ++ Op.IsFalse i i ∷ []).
     decided_lines old (expression_code con i r (view_expr c.args.right.now)) (truth_code (holds_references c.bank.result) i r) c.skip_if_zero.new.lines.items c.emit.new.lines.items c.expression.new.lines.items c.truth.new.lines.items l5 l6 i c.args.more c.len.result
     at c.in_ok-emit.ensures c.in_ok-expression.ensures c.in_ok-truth.ensures c.in_ok-skip_if_zero.ensures c.in_ok-emit-2.ensures e6
-    ∙ ap (λ b. old ++ (op.SkipIfZero i (length (expression_code con i r (view_expr c.args.right.now) ++ truth_code b i r) + c.args.more)
-    ∷ ((expression_code con i r (view_expr c.args.right.now) ++ truth_code b i r) ++ (op.IsFalse i i ∷ op.IsFalse i i ∷ [])))) c.bank.ensures)
+    ∙ ap (λ b. old ++ (Op.SkipIfZero i (length (expression_code con i r (view_expr c.args.right.now) ++ truth_code b i r) + c.args.more)
+    ∷ ((expression_code con i r (view_expr c.args.right.now) ++ truth_code b i r) ++ (Op.IsFalse i i ∷ Op.IsFalse i i ∷ [])))) c.bank.ensures)
     c.emit-3.ensures
 
 pub expression-returns-in_ok-arguments-in-Call : goal.expression-returns-in_ok-arguments-in-Call

@@ -1,8 +1,4 @@
-use Rattle.std.proofs.Common.{◌≡◌, ◌++◌, drop}
-use Rattle.sharc_tree.specs.View.{view_arguments}
-use Rattle.sharc_names.specs.Kinds.{declared_kinds}
-use Rattle.sharc_flat.specs.Flattened.{arguments_code}
-use Rattle.sharc_flatten.specs.View.{context}
+use Rattle.sharc_flatten.proofs.Imports.{◌≡◌, ◌++◌, drop, view_arguments, declared_kinds, arguments_code, context}
 use Rattle.sharc_flatten.proofs.expressions.+expression.Given as goal
 
 abbrev pub invariant-arguments-loop-argument : goal.invariant-arguments-loop-argument

@@ -1,9 +1,4 @@
-use Rattle.std.proofs.Common.{◌≡◌, ◌∷◌, [], ◌++◌, length, Some, ap, sym, subst, ◌∙◌}
-use Rattle.sharc_tree.specs.View.{view_function}
-use Rattle.sharc_code.specs.declared.code.Function.{Function as Row}
-use Rattle.sharc_ctype.specs.Resolved.{Resolution, function_at, functions_in}
-use Rattle.sharc_flat.specs.Flattened.{row_of, rows_of, functions_code}
-use Rattle.sharc_flatten.proofs.RowLemmas.{code_more, rows_more}
+use Rattle.sharc_flatten.proofs.{Imports.{◌≡◌, ◌∷◌, [], ◌++◌, length, Some, ap, sym, subst, ◌∙◌, view_function, Row, Resolution, function_at, functions_in, row_of, rows_of, functions_code}, RowLemmas.{code_more, rows_more}}
 use Rattle.sharc_flatten.proofs.functions.functions.Goals as goal
 
 pub loop-number-preserved : goal.loop-number-preserved

@@ -1,6 +1,4 @@
-use Rattle.std.proofs.Common.{◌≡◌, ◌++◌, length, drop}
-use Rattle.sharc_ctype.specs.Resolved.{functions_in}
-use Rattle.sharc_flat.specs.Flattened.{rows_of, functions_code}
+use Rattle.sharc_flatten.proofs.Imports.{◌≡◌, ◌++◌, length, drop, functions_in, rows_of, functions_code}
 use Rattle.sharc_flatten.proofs.functions.functions.Given as goal
 
 abbrev pub invariant-loop-number : goal.invariant-loop-number

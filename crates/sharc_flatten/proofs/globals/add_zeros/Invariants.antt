@@ -1,4 +1,4 @@
-use Rattle.std.proofs.Common.{◌≡◌, ◌++◌, replicate}
+use Rattle.sharc_flatten.proofs.Imports.{◌≡◌, ◌++◌, replicate}
 use Rattle.sharc_flatten.proofs.globals.add_zeros.Given as goal
 
 abbrev pub invariant-loop-left : goal.invariant-loop-left

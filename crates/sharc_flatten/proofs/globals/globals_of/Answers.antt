@@ -1,7 +1,4 @@
-use Rattle.std.proofs.Common.{◌≡◌, Some, ap, sym, ◌∙◌}
-use Rattle.sharc_ctype.specs.Resolved.{Resolution, global_at, globals_in}
-use Rattle.sharc_flat.specs.Tables.{cells_in, globals_of, all_granules, all_first_words}
-use Rattle.sharc_flatten.proofs.GlobalLemmas.{list_more, granules_more, words_more}
+use Rattle.sharc_flatten.proofs.{Imports.{◌≡◌, Some, ap, sym, ◌∙◌, Resolution, global_at, globals_in, cells_in, globals_of, all_granules, all_first_words}, GlobalLemmas.{list_more, granules_more, words_more}}
 use Rattle.sharc_flatten.proofs.globals.globals_of.Goals as goal
 
 pub loop-number-preserved : goal.loop-number-preserved

@@ -1,6 +1,4 @@
-use Rattle.std.proofs.Common.{◌≡◌, ◌+◌, ◌++◌, drop}
-use Rattle.sharc_ctype.specs.Resolved.{globals_in}
-use Rattle.sharc_flat.specs.Tables.{globals_from, globals_of, all_granules, all_first_words}
+use Rattle.sharc_flatten.proofs.Imports.{◌≡◌, ◌+◌, ◌++◌, drop, globals_in, globals_from, globals_of, all_granules, all_first_words}
 use Rattle.sharc_flatten.proofs.globals.globals_of.Given as goal
 
 abbrev pub invariant-loop-number : goal.invariant-loop-number

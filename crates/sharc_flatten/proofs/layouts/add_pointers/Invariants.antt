@@ -1,5 +1,4 @@
-use Rattle.std.proofs.Common.{◌≡◌, ◌++◌, drop}
-use Rattle.sharc_flat.specs.Tables.{pointers_among}
+use Rattle.sharc_flatten.proofs.Imports.{◌≡◌, ◌++◌, drop, pointers_among}
 use Rattle.sharc_flatten.proofs.layouts.add_pointers.Given as goal
 
 abbrev pub invariant-loop-field : goal.invariant-loop-field

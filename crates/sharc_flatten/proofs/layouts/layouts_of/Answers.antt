@@ -1,9 +1,4 @@
-use Rattle.std.proofs.Common.{◌≡◌, ◌++◌, ◌∷◌, [], List, length, Some, ap, sym, ◌∙◌}
-use Rattle.std.specs.Prelude.{slice_get}
-use Rattle.sharc_tree.specs.declared.tree.declaration.Declaration.{Declaration}
-use Rattle.sharc_ctype.specs.Resolved.{structs_in}
-use Rattle.sharc_flat.specs.Tables.{pointers_among, layouts_of, pointers_of}
-use Rattle.sharc_flatten.proofs.LayoutLemmas.{layouts_more, pointers_more}
+use Rattle.sharc_flatten.proofs.{Imports.{◌≡◌, ◌++◌, ◌∷◌, [], List, length, Some, ap, sym, ◌∙◌, slice_get, Declaration, structs_in, pointers_among, layouts_of, pointers_of}, LayoutLemmas.{layouts_more, pointers_more}}
 use Rattle.sharc_flatten.proofs.layouts.layouts_of.Goals as goal
 
 pub loop-number-preserved : goal.loop-number-preserved

@@ -1,6 +1,4 @@
-use Rattle.std.proofs.Common.{◌≡◌, ◌++◌, length, drop}
-use Rattle.sharc_ctype.specs.Resolved.{structs_in}
-use Rattle.sharc_flat.specs.Tables.{layouts_from, layouts_of, all_pointers, pointers_of}
+use Rattle.sharc_flatten.proofs.Imports.{◌≡◌, ◌++◌, length, drop, structs_in, layouts_from, layouts_of, all_pointers, pointers_of}
 use Rattle.sharc_flatten.proofs.layouts.layouts_of.Given as goal
 
 abbrev pub invariant-loop-number : goal.invariant-loop-number

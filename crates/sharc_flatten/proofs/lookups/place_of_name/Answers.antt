@@ -1,5 +1,4 @@
-use Rattle.std.proofs.{Common.arith, lemmas.Grind.common_steps}
-use Rattle.sharc_flatten.proofs.FirstPlaces.{named_first}
+use Rattle.sharc_flatten.proofs.{Imports.{arith, common_steps}, FirstPlaces.named_first}
 use Rattle.sharc_flatten.proofs.lookups.place_of_name.Goals as goal
 
 pub returns-then-eq : goal.returns-then-eq

@@ -1,5 +1,4 @@
-use Rattle.std.proofs.Common.{◌≡◌, drop}
-use Rattle.sharc_flatten.proofs.FirstPlaces.{named_from}
+use Rattle.sharc_flatten.proofs.{Imports.{◌≡◌, drop}, FirstPlaces.named_from}
 use Rattle.sharc_flatten.proofs.lookups.place_of_name.Given as goal
 
 abbrev pub invariant-loop-field : goal.invariant-loop-field

@@ -1,5 +1,4 @@
-use Rattle.std.proofs.Common.{◌≡◌, max, drop}
-use Rattle.sharc_flat.specs.Frames.{ints_in}
+use Rattle.sharc_flatten.proofs.Imports.{◌≡◌, max, drop, ints_in}
 use Rattle.sharc_flatten.proofs.need.ints_in.Given as goal
 
 abbrev pub invariant-loop-op : goal.invariant-loop-op

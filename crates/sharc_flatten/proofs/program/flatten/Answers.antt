@@ -1,7 +1,4 @@
-use Rattle.std.proofs.Common.{length, ap, sym, ◌∙◌}
-use Rattle.sharc_ctype.specs.Resolved.{Resolution, functions_in}
-use Rattle.sharc_flat.specs.Tables.{globals_of}
-use Rattle.sharc_flatten.proofs.RowLemmas.{rows_length}
+use Rattle.sharc_flatten.proofs.{Imports.{length, ap, sym, ◌∙◌, Resolution, functions_in, globals_of}, RowLemmas.rows_length}
 use Rattle.sharc_flatten.proofs.program.flatten.Goals as goal
 
 pub lay_texts-requires : goal.lay_texts-requires

@@ -1,7 +1,4 @@
-use Rattle.std.proofs.{Common.{◌≡◌, true, Some, sym, subst, ◌∙◌}, lemmas.Slice.Eq.bytes_eq-Decides}
-use Rattle.std.specs.Str.{bytes_eq}
-use Rattle.sharc_tree.specs.View.{view_function}
-use Rattle.sharc_ctype.specs.Resolved.{Resolution, function_at}
+use Rattle.sharc_flatten.proofs.Imports.{◌≡◌, true, Some, sym, subst, ◌∙◌, bytes_eq-Decides, bytes_eq, view_function, Resolution, function_at}
 use Rattle.sharc_flatten.proofs.program.main_of.Goals as goal
 
 pub returns-then-eq : goal.returns-then-eq

@@ -1,5 +1,4 @@
-use Rattle.std.proofs.Common.{◌≡◌, ◌+◌, drop}
-use Rattle.sharc_flat.specs.Scope.{int_count, ref_count}
+use Rattle.sharc_flatten.proofs.Imports.{◌≡◌, ◌+◌, drop, int_count, ref_count}
 use Rattle.sharc_flatten.proofs.scope.free.Given as goal
 
 abbrev pub invariant-loop-slot : goal.invariant-loop-slot

@@ -1,6 +1,4 @@
-use Rattle.std.proofs.Common.{◌≡◌, ◌≤◌, ◌++◌, length, take}
-use Rattle.sharc_flat.specs.Scope.{leaves}
-use Rattle.sharc_flatten.specs.View.{innermost}
+use Rattle.sharc_flatten.proofs.Imports.{◌≡◌, ◌≤◌, ◌++◌, length, take, leaves, innermost}
 use Rattle.sharc_flatten.proofs.scope.leave.Given as goal
 
 abbrev pub decreases-loop-depth : goal.decreases-loop-depth

@@ -1,5 +1,4 @@
-use Rattle.std.proofs.Common.{◌≡◌, ◌++◌, drop}
-use Rattle.sharc_flat.specs.Scope.{pops}
+use Rattle.sharc_flatten.proofs.Imports.{◌≡◌, ◌++◌, drop, pops}
 use Rattle.sharc_flatten.proofs.scope.pops.Given as goal
 
 abbrev pub invariant-loop-slot : goal.invariant-loop-slot

@@ -1,5 +1,4 @@
-use Rattle.std.proofs.Common.{◌≡◌, drop}
-use Rattle.sharc_flat.specs.Scope.{register_from}
+use Rattle.sharc_flatten.proofs.Imports.{◌≡◌, drop, register_from}
 use Rattle.sharc_flatten.proofs.scope.register_of.Given as goal
 
 abbrev pub invariant-loop-slot : goal.invariant-loop-slot

@@ -1,7 +1,4 @@
-use Rattle.std.proofs.Common.{◌≡◌, ℕ, ◌<◌, Some}
-use Rattle.std.specs.Prelude.{slice_get}
-use Rattle.sharc_flat.specs.declared.op.Op.{Op}
-use Rattle.sharc_flatten.specs.Sizes.{IsFew}
+use Rattle.sharc_flatten.proofs.Imports.{◌≡◌, ℕ, ◌<◌, Some, slice_get, Op, IsFew}
 use Rattle.sharc_flatten.proofs.sizes.cells_fit.Given as goal
 
 abbrev pub invariant-loop-op : goal.invariant-loop-op

@@ -1,5 +1,4 @@
-use Rattle.std.proofs.Common.{◌≡◌, take}
-use Rattle.sharc_code.specs.Path.{most_refs}
+use Rattle.sharc_flatten.proofs.Imports.{◌≡◌, take, most_refs}
 use Rattle.sharc_flatten.proofs.sizes.most_refs.Given as goal
 
 abbrev pub invariant-loop-row : goal.invariant-loop-row

@@ -1,5 +1,4 @@
-use Rattle.std.proofs.Common.{arith}
-use Rattle.sharc_flatten.proofs.StructLemmas.{has_all}
+use Rattle.sharc_flatten.proofs.{Imports.arith, StructLemmas.has_all}
 use Rattle.sharc_flatten.proofs.source.enter_fields.Goals as goal
 
 pub returns : goal.returns

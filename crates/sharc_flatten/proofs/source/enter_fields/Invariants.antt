@@ -1,5 +1,4 @@
-use Rattle.std.proofs.Common.{◌≤◌, length}
-use Rattle.sharc_flatten.proofs.StructLemmas.{HasFrom}
+use Rattle.sharc_flatten.proofs.{Imports.{◌≤◌, length}, StructLemmas.HasFrom}
 use Rattle.sharc_flatten.proofs.source.enter_fields.Given as goal
 
 abbrev pub decreases-loop-left : goal.decreases-loop-left

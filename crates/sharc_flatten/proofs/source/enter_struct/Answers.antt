@@ -1,7 +1,4 @@
-use Rattle.std.proofs.{Common.{◌≡◌, ◌+◌, length, cond, Some, ap, ◌∙◌, arith}, lemmas.Map.Text.hash_map_updates_str}
-use Rattle.std.specs.Str.{bytes_eq}
-use Rattle.sharc_flatten.specs.Lookups.{row_at}
-use Rattle.sharc_flatten.proofs.StructLemmas.{row_of}
+use Rattle.sharc_flatten.proofs.{Imports.{◌≡◌, ◌+◌, length, cond, Some, ap, ◌∙◌, arith, hash_map_updates_str, bytes_eq, row_at}, StructLemmas.row_of}
 use Rattle.sharc_flatten.proofs.source.enter_struct.Goals as goal
 
 pub returns : goal.returns

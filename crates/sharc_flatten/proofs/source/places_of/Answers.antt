@@ -1,7 +1,4 @@
-use Rattle.std.proofs.Common.{◌<◌, sym, subst, arith}
-use Rattle.sharc_ctype.specs.Resolved.{structs_in}
-use Rattle.sharc_flatten.specs.Lookups.{HasPlaces}
-use Rattle.sharc_flatten.proofs.StructLemmas.{fields_more}
+use Rattle.sharc_flatten.proofs.{Imports.{◌<◌, sym, subst, arith, structs_in, HasPlaces}, StructLemmas.fields_more}
 use Rattle.sharc_flatten.proofs.source.places_of.Goals as goal
 
 pub loop-left-preserved : goal.loop-left-preserved

@@ -1,6 +1,4 @@
-use Rattle.std.proofs.Common.{◌<◌, ◌+◌, ◌-◌, length, sym, arith}
-use Rattle.sharc_ctype.specs.Resolved.{structs_in}
-use Rattle.sharc_flatten.proofs.StructLemmas.{cells_more, layouts_more}
+use Rattle.sharc_flatten.proofs.{Imports.{◌<◌, ◌+◌, ◌-◌, length, sym, arith, structs_in}, StructLemmas.{cells_more, layouts_more}}
 use Rattle.sharc_flatten.proofs.source.structs_of.Goals as goal
 
 pub loop-left-preserved : goal.loop-left-preserved

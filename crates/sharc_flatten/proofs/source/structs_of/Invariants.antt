@@ -1,6 +1,4 @@
-use Rattle.std.proofs.Common.{◌≤◌, ◌+◌, length, drop}
-use Rattle.sharc_ctype.specs.Resolved.{structs_in}
-use Rattle.sharc_flatten.specs.Lookups.{HasCells, HasLayouts}
+use Rattle.sharc_flatten.proofs.Imports.{◌≤◌, ◌+◌, length, drop, structs_in, HasCells, HasLayouts}
 use Rattle.sharc_flatten.proofs.source.structs_of.Given as goal
 
 abbrev pub decreases-loop-left : goal.decreases-loop-left

@@ -1,9 +1,4 @@
-use Rattle.std.proofs.{Common.{◌≡◌, ℕ, [], ◌+◌, ◌<◌, ◌≤◌, ◌++◌, length, Some, refl, ap, sym, subst, ◌∙◌, arith}, lemmas.List.{length-set, length-map}, lemmas.Option.slice_get-map}
-use Rattle.std.specs.{Option.option_map, Prelude.slice_get}
-use Rattle.sharc_tree.specs.{Tree.Function, View.view_function}
-use Rattle.sharc_ctype.specs.Resolved.{functions_in}
-use Rattle.sharc_flat.specs.Flattens.{names_of}
-use Rattle.sharc_flatten.proofs.{LineLemmas.{name_more, named_all}, ListLemmas.left_more, PlaceLemmas.{grows_by, grows_more, lies_at_end}}
+use Rattle.sharc_flatten.proofs.{Imports.{◌≡◌, ℕ, [], ◌+◌, ◌<◌, ◌≤◌, ◌++◌, length, Some, refl, ap, sym, subst, ◌∙◌, arith, length-set, length-map, slice_get-map, option_map, slice_get, Function, view_function, functions_in, names_of}, LineLemmas.{name_more, named_all}, ListLemmas.left_more, PlaceLemmas.{grows_by, grows_more, lies_at_end}}
 use Rattle.sharc_flatten.proofs.texts.lay_names.Goals as goal
 
 pub loop-number-preserved : goal.loop-number-preserved

@@ -1,7 +1,4 @@
-use Rattle.std.proofs.Common.{◌≡◌, ℕ, List, ◌++◌, length, take, drop}
-use Rattle.sharc_ctype.specs.Resolved.{functions_in}
-use Rattle.sharc_flat.specs.{Flattens.names_of, Laid.AreNamed}
-use Rattle.sharc_flatten.specs.Places.{Grows}
+use Rattle.sharc_flatten.proofs.Imports.{◌≡◌, ℕ, List, ◌++◌, length, take, drop, functions_in, names_of, AreNamed, Grows}
 use Rattle.sharc_flatten.proofs.texts.lay_names.Given as goal
 
 abbrev pub invariant-loop-number : goal.invariant-loop-number

@@ -1,6 +1,4 @@
-use Rattle.std.proofs.Common.{◌≡◌, ◌++◌, length}
-use Rattle.sharc_tree.specs.Texts.{tokens_text}
-use Rattle.sharc_flatten.specs.Places.{places_from}
+use Rattle.sharc_flatten.proofs.Imports.{◌≡◌, ◌++◌, length, tokens_text, places_from}
 use Rattle.sharc_flatten.proofs.tokens.lay_tokens.Given as goal
 
 abbrev pub invariant-loop-rest : goal.invariant-loop-rest

@@ -1,5 +1,4 @@
-use Rattle.std.proofs.Common.{◌≡◌, map, take}
-use Rattle.sharc_flat.specs.Scope.{slot_of}
+use Rattle.sharc_flatten.proofs.Imports.{◌≡◌, map, take, slot_of}
 use Rattle.sharc_flatten.proofs.walk.begin.Given as goal
 
 abbrev pub invariant-loop-declaration : goal.invariant-loop-declaration

@@ -1,6 +1,4 @@
-use Rattle.std.proofs.{Common.{◌≡◌, ◌<◌, false, length, sym, ap, ◌∙◌}, lemmas.List.get_or_default}
-use Rattle.sharc_graph.specs.{declared.place.PositionKind.TheVariants.{Root, Private}, Flow.{place_at, leads, link_of}}
-use Rattle.sharc_graph.proofs.{Edges.{link_at, link_kept, link_left}, assignment.edges.Goals.{then-leads+in_ok-push, else-leads}}
+use Rattle.sharc_graph.proofs.{Imports.{◌≡◌, ◌<◌, false, length, sym, ap, ◌∙◌, get_or_default, Root, Private, place_at, leads, link_of}, Edges.{link_at, link_kept, link_left}, assignment.edges.Goals.{then-leads+in_ok-push, else-leads}}
 use Rattle.sharc_graph.proofs.assignment.edges.Goals as goal
 
 pub loop-link-preserved : goal.loop-link-preserved

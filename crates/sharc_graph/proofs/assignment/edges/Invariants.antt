@@ -1,5 +1,4 @@
-use Rattle.std.proofs.Common.{◌≡◌, take}
-use Rattle.sharc_graph.specs.Flow.{kept_edges}
+use Rattle.sharc_graph.proofs.Imports.{◌≡◌, take, kept_edges}
 use Rattle.sharc_graph.proofs.assignment.edges.Given as goal
 
 abbrev pub invariant-loop-link : goal.invariant-loop-link

@@ -1,7 +1,4 @@
-use Rattle.std.proofs.{Common.{◌≡◌, length, sym, ap, ◌∙◌, subst, arith}, lemmas.List.length-map, lemmas.Result.IfOk-weaker}
-use Rattle.std.specs.List.{All}
-use Rattle.sharc_graph.specs.{Paths.{graph_of, IsWithin, AreFindings}, Flow.{flow_of, node_of, kept_edges, AreInferred}}
-use Rattle.sharc_graph.proofs.{Edges.{kept_short, kept_within}, SamePaths.all_inferred}
+use Rattle.sharc_graph.proofs.{Imports.{◌≡◌, length, sym, ap, ◌∙◌, subst, arith, length-map, IfOk-weaker, All, graph_of, IsWithin, AreFindings, flow_of, node_of, kept_edges, AreInferred}, Edges.{kept_short, kept_within}, SamePaths.all_inferred}
 use Rattle.sharc_graph.proofs.assignment.least_assignment.Goals as goal
 
 pub find-requires-clause-few_edges : goal.find-requires-clause-few_edges

@@ -1,5 +1,4 @@
-use Rattle.std.proofs.Common.{◌≡◌, true}
-use Rattle.sharc_graph.proofs.Closed.{enough, among, agree, told}
+use Rattle.sharc_graph.proofs.{Imports.{◌≡◌, true}, Closed.{enough, among, agree, told}}
 use Rattle.sharc_graph.proofs.laws.flow_laws.Goals as goal
 
 pub returns : goal.returns

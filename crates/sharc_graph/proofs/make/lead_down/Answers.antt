@@ -1,6 +1,4 @@
-use Rattle.std.proofs.Common.{◌+◌, true, [], ◌∷◌, ◌++◌, ap, ◌∙◌}
-use Rattle.sharc_graph.specs.Flow.{link_of}
-use Rattle.sharc_graph.proofs.MakeSteps.{below_more}
+use Rattle.sharc_graph.proofs.{Imports.{◌+◌, true, [], ◌∷◌, ◌++◌, ap, ◌∙◌, link_of}, MakeSteps.below_more}
 use Rattle.sharc_graph.proofs.make.lead_down.Goals as goal
 
 pub loop-depth-preserved : goal.loop-depth-preserved

@@ -1,5 +1,4 @@
-use Rattle.std.proofs.Common.{◌≡◌, ◌++◌}
-use Rattle.sharc_graph.specs.Make.{below_links}
+use Rattle.sharc_graph.proofs.Imports.{◌≡◌, ◌++◌, below_links}
 use Rattle.sharc_graph.proofs.make.lead_down.Given as goal
 
 abbrev pub invariant-loop-depth : goal.invariant-loop-depth

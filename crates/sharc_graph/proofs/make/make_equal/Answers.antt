@@ -1,6 +1,4 @@
-use Rattle.std.proofs.Common.{◌+◌, false, [], ◌∷◌, ◌++◌, ap, ◌∙◌}
-use Rattle.sharc_graph.specs.Flow.{link_of}
-use Rattle.sharc_graph.proofs.MakeSteps.{equal_more}
+use Rattle.sharc_graph.proofs.{Imports.{◌+◌, false, [], ◌∷◌, ◌++◌, ap, ◌∙◌, link_of}, MakeSteps.equal_more}
 use Rattle.sharc_graph.proofs.make.make_equal.Goals as goal
 
 pub loop-depth-preserved : goal.loop-depth-preserved

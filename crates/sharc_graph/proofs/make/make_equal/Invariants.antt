@@ -1,5 +1,4 @@
-use Rattle.std.proofs.Common.{◌≡◌, ◌++◌}
-use Rattle.sharc_graph.specs.Make.{equal_links}
+use Rattle.sharc_graph.proofs.Imports.{◌≡◌, ◌++◌, equal_links}
 use Rattle.sharc_graph.proofs.make.make_equal.Given as goal
 
 abbrev pub invariant-loop-depth : goal.invariant-loop-depth

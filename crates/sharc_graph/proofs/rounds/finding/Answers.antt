@@ -1,6 +1,4 @@
-use Rattle.std.proofs.Common.{◌≡◌, ℕ, suc, ◌-◌, ◌<◌, false, length, Some, sym, ap, ◌∙◌, subst, arith}
-use Rattle.sharc_graph.specs.{Flow.{flow_of, link_of, IsInferredReason}, Rounds.link_at}
-use Rattle.sharc_graph.proofs.RoundPaths.{none_leads, source_of, is_rank_of, reason_of}
+use Rattle.sharc_graph.proofs.{Imports.{◌≡◌, ℕ, suc, ◌-◌, ◌<◌, false, length, Some, sym, ap, ◌∙◌, subst, arith, flow_of, link_of, IsInferredReason, link_at}, RoundPaths.{none_leads, source_of, is_rank_of, reason_of}}
 use Rattle.sharc_graph.proofs.rounds.finding.Goals as goal
 
 pub returns-in-None : goal.returns-in-None

@@ -1,6 +1,4 @@
-use Rattle.std.proofs.{Common.{◌<◌, false, length, sym, ◌∙◌, subst}, lemmas.Bool.false≢true}
-use Rattle.sharc_graph.specs.{Flow.{flow_of, link_of}, Rounds.unranked}
-use Rattle.sharc_graph.proofs.{RoundSteps.{stepped, fewer_still}, rounds.go_round.Goals.{then-follow, else-follow}}
+use Rattle.sharc_graph.proofs.{Imports.{◌<◌, false, length, sym, ◌∙◌, subst, false≢true, flow_of, link_of, unranked}, RoundSteps.{stepped, fewer_still}, rounds.go_round.Goals.{then-follow, else-follow}}
 use Rattle.sharc_graph.proofs.rounds.go_round.Goals as goal
 
 pub loop-link-preserved : goal.loop-link-preserved

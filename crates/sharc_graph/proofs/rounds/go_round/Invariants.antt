@@ -1,5 +1,4 @@
-use Rattle.std.proofs.Common.{◌≡◌, ◌<◌, true, false}
-use Rattle.sharc_graph.specs.{Flow.flow_of, Rounds.{AreRanks, unranked}}
+use Rattle.sharc_graph.proofs.Imports.{◌≡◌, ◌<◌, true, false, flow_of, AreRanks, unranked}
 use Rattle.sharc_graph.proofs.rounds.go_round.Given as goal
 
 abbrev pub invariant-loop-link : goal.invariant-loop-link

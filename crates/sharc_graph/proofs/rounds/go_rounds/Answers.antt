@@ -1,5 +1,4 @@
-use Rattle.std.proofs.Common.{arith}
-use Rattle.sharc_graph.proofs.RoundSteps.{begun}
+use Rattle.sharc_graph.proofs.{Imports.arith, RoundSteps.begun}
 use Rattle.sharc_graph.proofs.rounds.go_rounds.Goals as goal
 
 pub loop-round-init : goal.loop-round-init

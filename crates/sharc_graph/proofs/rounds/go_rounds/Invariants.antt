@@ -1,5 +1,4 @@
-use Rattle.std.proofs.Common.{◌+◌, ◌≤◌, length}
-use Rattle.sharc_graph.specs.{Flow.flow_of, Rounds.{AreRanks, AreUpTo, unranked}}
+use Rattle.sharc_graph.proofs.Imports.{◌+◌, ◌≤◌, length, flow_of, AreRanks, AreUpTo, unranked}
 use Rattle.sharc_graph.proofs.rounds.go_rounds.Given as goal
 
 abbrev pub invariant-loop-round : goal.invariant-loop-round

@@ -1,5 +1,4 @@
-use Rattle.std.proofs.Common.{◌≡◌, ℕ, ◌<◌, true, length}
-use Rattle.sharc_graph.specs.{Findings.finding_at, Flow.{flow_of, place_at, is_unwritten, IsInferred}}
+use Rattle.sharc_graph.proofs.Imports.{◌≡◌, ℕ, ◌<◌, true, length, finding_at, flow_of, place_at, is_unwritten, IsInferred}
 use Rattle.sharc_graph.proofs.rounds.least_by_rounds.Given as goal
 
 abbrev pub invariant-loop-position : goal.invariant-loop-position

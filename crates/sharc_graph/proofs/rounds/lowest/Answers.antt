@@ -1,6 +1,4 @@
-use Rattle.std.proofs.Common.{◌∙◌, sym}
-use Rattle.sharc_graph.specs.Flow.{flow_of}
-use Rattle.sharc_graph.proofs.{RoundSteps.{lower, no_lower}, rounds.lowest.Goals.{then-leads_at, else-leads_at}}
+use Rattle.sharc_graph.proofs.{Imports.{◌∙◌, sym, flow_of}, RoundSteps.{lower, no_lower}, rounds.lowest.Goals.{then-leads_at, else-leads_at}}
 use Rattle.sharc_graph.proofs.rounds.lowest.Goals as goal
 
 pub loop-link-preserved : goal.loop-link-preserved

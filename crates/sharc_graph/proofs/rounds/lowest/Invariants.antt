@@ -1,4 +1,4 @@
-use Rattle.sharc_graph.specs.{Flow.flow_of, Rounds.{IsLowest, IsSome}}
+use Rattle.sharc_graph.proofs.Imports.{flow_of, IsLowest, IsSome}
 use Rattle.sharc_graph.proofs.rounds.lowest.Given as goal
 
 abbrev pub invariant-loop-link : goal.invariant-loop-link

@@ -1,7 +1,4 @@
-use mathlib.Core.Path.{fun_ext}
-use Rattle.std.proofs.Common.{◌≡◌, ℕ, Bool, IfOk, subst, ap, ◌∙◌}
-use Rattle.sharc_flat.specs.Made.{flat_of}
-use Rattle.sharc_guard.specs.{Known.dropped, Made.{IsMade, marked}}
+use Rattle.sharc_guard.proofs.Imports.{fun_ext, ◌≡◌, ℕ, Bool, IfOk, subst, ap, ◌∙◌, flat_of, dropped, IsMade, marked}
 use Rattle.sharc_guard.proofs.guarding.guard_few.Goals as goal
 
 pub returns : goal.returns

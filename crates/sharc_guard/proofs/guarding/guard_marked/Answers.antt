@@ -1,7 +1,4 @@
-use Rattle.std.proofs.Common.{◌≡◌, ◌+◌, length, ◌∷◌, map, ap, ◌∙◌, refl}
-use Rattle.sharc_code.specs.declared.instr.Instr.TheVariants.{Start, Exit}
-use Rattle.sharc_guard.specs.{Guard.{place, expanded, entered_at, source_of}, Made.{among, marked, places}}
-use Rattle.sharc_guard.proofs.Making.{among_is}
+use Rattle.sharc_guard.proofs.{Imports.{◌≡◌, ◌+◌, length, ◌∷◌, map, ap, ◌∙◌, refl, Start, Exit, place, expanded, entered_at, source_of, among, marked, places}, Making.among_is}
 use Rattle.sharc_guard.proofs.guarding.guard_marked.Goals as goal
 
 pub returns : goal.returns

@@ -1,8 +1,5 @@
-use Rattle.std.proofs.{Common.{◌≡◌, ◌+◌, ◌<◌, List, Bool, Some, length, get_or, slice_get, subst, sym, ap, ◌∙◌, arith, false}, lemmas.List.get_or_read}
-use Rattle.sharc_flat.specs.{declared.op.Op.Op, Made.flat_of}
+use Rattle.sharc_guard.proofs.{Imports.{◌≡◌, ◌+◌, ◌<◌, List, Bool, Some, length, get_or, slice_get, subst, sym, ap, ◌∙◌, arith, false, get_or_read, Op, flat_of, notes_of}, Making.got, Targets.{IsAt, at_first, at_next, all_marked}}
 use Rattle.sharc_flat.specs.declared.op.Op.TheVariants as op
-use Rattle.sharc_guard.specs.Marked.{notes_of}
-use Rattle.sharc_guard.proofs.{Making.got, Targets.{IsAt, at_first, at_next, all_marked}}
 use Rattle.sharc_guard.proofs.marks.mark_all.Goals as goal
 
 pub loop-n-init : goal.loop-n-init

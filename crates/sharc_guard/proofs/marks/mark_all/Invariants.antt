@@ -1,6 +1,4 @@
-use Rattle.sharc_flat.specs.Made.{flat_of}
-use Rattle.sharc_guard.specs.Marked.{notes_of}
-use Rattle.sharc_guard.proofs.Targets.{IsAt}
+use Rattle.sharc_guard.proofs.{Imports.{flat_of, notes_of}, Targets.IsAt}
 use Rattle.sharc_guard.proofs.marks.mark_all.Given as goal
 
 abbrev pub invariant-loop-n : goal.invariant-loop-n

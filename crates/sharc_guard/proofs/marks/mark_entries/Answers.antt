@@ -1,6 +1,4 @@
-use Rattle.std.proofs.{Common.{take, get_or, subst, sym}, lemmas.List.take_more}
-use Rattle.sharc_code.specs.Machine.{no_function}
-use Rattle.sharc_guard.proofs.Targets.{AreEntered, none_entered, more_entered}
+use Rattle.sharc_guard.proofs.{Imports.{take, get_or, subst, sym, take_more, no_function}, Targets.{AreEntered, none_entered, more_entered}}
 use Rattle.sharc_guard.proofs.marks.mark_entries.Goals as goal
 
 pub loop-function-init : goal.loop-function-init

@@ -1,5 +1,4 @@
-use Rattle.std.proofs.Common.{take}
-use Rattle.sharc_guard.proofs.Targets.{AreEntered}
+use Rattle.sharc_guard.proofs.{Imports.take, Targets.AreEntered}
 use Rattle.sharc_guard.proofs.marks.mark_entries.Given as goal
 
 abbrev pub invariant-loop-function : goal.invariant-loop-function

@@ -1,6 +1,4 @@
-use Rattle.std.proofs.{Common.{◌≡◌, ◌+◌, ◌++◌, ◌∙◌, Bool, List, false, length, drop, take, replicate, ap, subst, sym}, lemmas.List.length-replicate}
-use Rattle.sharc_guard.specs.Marked.{AreTargets}
-use Rattle.sharc_guard.proofs.Targets.{AreLed, AreEntered, all_targets, given_back}
+use Rattle.sharc_guard.proofs.{Imports.{◌≡◌, ◌+◌, ◌++◌, ◌∙◌, Bool, List, false, length, drop, take, replicate, ap, subst, sym, length-replicate, AreTargets}, Targets.{AreLed, AreEntered, all_targets, given_back}}
 use Rattle.sharc_guard.proofs.marks.targets_of.Goals as goal
 
 pub returns : goal.returns

@@ -1,6 +1,4 @@
-use Rattle.std.proofs.Common.{◌≡◌, ◌+◌, arith}
-use Rattle.sharc_heap.specs.Block.{IsBlock, granules_of}
-use Rattle.sharc_heap.proofs.Least.{is_block, block_is}
+use Rattle.sharc_heap.proofs.{Imports.{◌≡◌, ◌+◌, arith, IsBlock, granules_of}, Least.{is_block, block_is}}
 use Rattle.sharc_heap.proofs.blocks.block.Goals as goal
 
 pub returns : goal.returns

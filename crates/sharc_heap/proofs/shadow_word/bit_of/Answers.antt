@@ -1,4 +1,4 @@
-use Rattle.std.proofs.{Common.{◌≡◌, ◌+◌, ◌*◌, ◌^◌, ◌%◌, ap, ◌∙◌, sym, arith}, Math.Nat.mod-eq_of_lt, Math.Pow.pow-lt, lemmas.Nat.pow-add}
+use Rattle.sharc_heap.proofs.Imports.{◌≡◌, ◌+◌, ◌*◌, ◌^◌, ◌%◌, ap, ◌∙◌, sym, arith, mod-eq_of_lt, pow-lt, pow-add}
 use Rattle.sharc_heap.proofs.shadow_word.bit_of.Goals as goal
 
 pub returns : goal.returns

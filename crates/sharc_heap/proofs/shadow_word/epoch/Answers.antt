@@ -1,5 +1,4 @@
-use Rattle.std.proofs.Common.{sym}
-use Rattle.sharc_heap.proofs.Sets.{epoch_is}
+use Rattle.sharc_heap.proofs.{Imports.sym, Sets.epoch_is}
 use Rattle.sharc_heap.proofs.shadow_word.epoch.Goals as goal
 
 pub returns : goal.returns

@@ -1,5 +1,4 @@
-use Rattle.std.proofs.Common.{refl, sym}
-use Rattle.sharc_heap.proofs.{Conflict.lowest_of_conflict, Lowest.{first_found, first_none}}
+use Rattle.sharc_heap.proofs.{Imports.{refl, sym}, Conflict.lowest_of_conflict, Lowest.{first_found, first_none}}
 use Rattle.sharc_heap.proofs.shadow_word.first.Goals as goal
 
 pub overflow_sub-result : goal.overflow_sub-result

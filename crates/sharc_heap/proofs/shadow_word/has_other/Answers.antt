@@ -1,7 +1,4 @@
-use Rattle.std.proofs.Common.{◌-◌, w64, not, ◌==◌, IsTrue, ◌↔◌}
-use Rattle.std.specs.Int.{trailing_zeros}
-use Rattle.sharc_heap.proofs.{Conflict.{first_other, some_of_other, test_of_some, some_of_test}, Lowest.has_other_is}
-use Rattle.sharc_heap.specs.ShadowWord.{HasOther}
+use Rattle.sharc_heap.proofs.{Imports.{◌-◌, w64, not, ◌==◌, IsTrue, ◌↔◌, trailing_zeros, HasOther}, Conflict.{first_other, some_of_other, test_of_some, some_of_test}, Lowest.has_other_is}
 use Rattle.sharc_heap.proofs.shadow_word.has_other.Goals as goal
 
 pub returns : goal.returns

@@ -1,6 +1,4 @@
-use Rattle.std.proofs.{Common.{◌≡◌, ap, ◌∙◌, sym, ◌==◌, ◌*◌, arith}, lemmas.Nat.Bits.and_pow}
-use Rattle.std.specs.Int.{bit_at}
-use Rattle.sharc_heap.proofs.Sets.{written_is}
+use Rattle.sharc_heap.proofs.{Imports.{◌≡◌, ap, ◌∙◌, sym, ◌==◌, ◌*◌, arith, and_pow, bit_at}, Sets.written_is}
 use Rattle.sharc_heap.proofs.shadow_word.is_written.Goals as goal
 
 pub returns : goal.returns

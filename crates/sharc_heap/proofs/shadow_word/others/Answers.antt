@@ -1,5 +1,4 @@
-use Rattle.std.proofs.Common.{◌+◌, arith}
-use Rattle.sharc_heap.proofs.{OneBit.without_bit, Conflict.are_others}
+use Rattle.sharc_heap.proofs.{Imports.{◌+◌, arith}, OneBit.without_bit, Conflict.are_others}
 use Rattle.sharc_heap.proofs.shadow_word.others.Goals as goal
 
 pub returns : goal.returns

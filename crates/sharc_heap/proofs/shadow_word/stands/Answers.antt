@@ -1,5 +1,4 @@
-use Rattle.std.proofs.{Common.{◌+◌, ap, ◌∙◌, sym, ◌==◌, arith}, lemmas.Nat.Bits.shr_and_one}
-use Rattle.sharc_heap.proofs.Sets.{stands_below}
+use Rattle.sharc_heap.proofs.{Imports.{◌+◌, ap, ◌∙◌, sym, ◌==◌, arith, shr_and_one}, Sets.stands_below}
 use Rattle.sharc_heap.proofs.shadow_word.stands.Goals as goal
 
 pub returns : goal.returns

@@ -1,5 +1,4 @@
-use Rattle.std.proofs.Common.{ℕ, ◌-◌, ◌+◌, ◌∙◌, ap, bit_and, sym, refl, arith}
-use Rattle.sharc_heap.proofs.{OneBit.{without_bit, and_fits}, Sets.{withdraws_reader, withdraws_writer}, Computed.{withdrawn_writer, withdrawn_reader}}
+use Rattle.sharc_heap.proofs.{Imports.{ℕ, ◌-◌, ◌+◌, ◌∙◌, ap, bit_and, sym, refl, arith}, OneBit.{without_bit, and_fits}, Sets.{withdraws_reader, withdraws_writer}, Computed.{withdrawn_writer, withdrawn_reader}}
 use Rattle.sharc_heap.proofs.shadow_word.withdrawn.Goals as goal
 
 pub returns-then-is_of_epoch-clause-withdraws : goal.returns-then-is_of_epoch-clause-withdraws

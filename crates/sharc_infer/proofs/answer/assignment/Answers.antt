@@ -1,9 +1,4 @@
-use Rattle.std.proofs.Common.{◌≡◌, length, ap, sym, ◌∙◌, subst, arith}
-use Rattle.std.specs.List.{All}
-use Rattle.sharc_graph.specs.{Paths.IsWithin, declared.place.Link.Link, Flow.{flow_of, AreInferred}}
-use Rattle.sharc_mode.specs.{Flows.{IsLeastAssignment, links_of}, Moded.position_count}
-use Rattle.sharc_infer.specs.Positions.{ArePlacesOf, AreModesOf, AreReasonsOf}
-use Rattle.sharc_infer.proofs.AssignLemmas.{count, root_count, least}
+use Rattle.sharc_infer.proofs.{Imports.{◌≡◌, length, ap, sym, ◌∙◌, subst, arith, All, IsWithin, Link, flow_of, AreInferred, IsLeastAssignment, links_of, position_count, ArePlacesOf, AreModesOf, AreReasonsOf}, AssignLemmas.{count, root_count, least}}
 use Rattle.sharc_infer.proofs.answer.assignment.Goals as goal
 
 pub places-requires : goal.places-requires

@@ -1,9 +1,4 @@
-use Rattle.std.proofs.{Common.{None, ap, ◌∙◌}, lemmas.List.get_or_default}
-use Rattle.sharc_graph.specs.Findings.{finding_at}
-use Rattle.sharc_tree.specs.declared.ctype.Mode.TheVariants.{Private}
-use Rattle.sharc_mode.specs.Flows.{mode_found}
-use Rattle.sharc_infer.specs.Positions.{settled_of}
-use Rattle.sharc_infer.proofs.PositionLemmas.{size_more, each_more}
+use Rattle.sharc_infer.proofs.{Imports.{None, ap, ◌∙◌, get_or_default, finding_at, Private, mode_found, settled_of}, PositionLemmas.{size_more, each_more}}
 use Rattle.sharc_infer.proofs.assigned.modes.Goals as goal
 
 pub loop-position-preserved : goal.loop-position-preserved

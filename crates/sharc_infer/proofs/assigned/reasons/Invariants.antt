@@ -1,6 +1,4 @@
-use Rattle.std.proofs.Common.{◌≡◌, ℕ, ◌<◌, length}
-use Rattle.sharc_graph.specs.Findings.{finding_at}
-use Rattle.sharc_infer.specs.Positions.{reason_of, settled_of, root_of}
+use Rattle.sharc_infer.proofs.Imports.{◌≡◌, ℕ, ◌<◌, length, finding_at, reason_of, settled_of, root_of}
 use Rattle.sharc_infer.proofs.assigned.reasons.Given as goal
 
 abbrev pub invariant-loop-position : goal.invariant-loop-position

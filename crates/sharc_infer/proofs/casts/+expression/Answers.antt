@@ -1,6 +1,4 @@
-use Rattle.std.proofs.Common.{◌≡◌, ◌++◌, ap, sym, ◌∙◌, OnOk, subst}
-use Rattle.sharc_tree.specs.{Children.view_call, Measures.{expressions, in_arguments}, View.{view_expr, view_arguments}}
-use Rattle.sharc_infer.specs.Links.{casts_in}
+use Rattle.sharc_infer.proofs.Imports.{◌≡◌, ◌++◌, ap, sym, ◌∙◌, OnOk, subst, view_call, expressions, in_arguments, view_expr, view_arguments, casts_in}
 use Rattle.sharc_infer.proofs.casts.+expression.Goals as goal
 
 pub expression-returns-in-Call : goal.expression-returns-in-Call

@@ -1,6 +1,4 @@
-use Rattle.std.proofs.Common.{◌≡◌, ◌++◌, drop}
-use Rattle.sharc_tree.specs.{Measures.in_arguments, View.view_arguments}
-use Rattle.sharc_infer.specs.Links.{casts_in}
+use Rattle.sharc_infer.proofs.Imports.{◌≡◌, ◌++◌, drop, in_arguments, view_arguments, casts_in}
 use Rattle.sharc_infer.proofs.casts.+expression.Given as goal
 
 abbrev pub invariant-arguments-loop-expr : goal.invariant-arguments-loop-expr

@@ -1,6 +1,4 @@
-use Rattle.std.proofs.Common.{◌≡◌, ◌++◌, ap, sym, ◌∙◌, OnOk, subst}
-use Rattle.sharc_tree.specs.{Children.view_block, Measures.{in_statement, in_statements}, View.{view_stmt, view_statements}}
-use Rattle.sharc_infer.specs.Links.{casts_in}
+use Rattle.sharc_infer.proofs.Imports.{◌≡◌, ◌++◌, ap, sym, ◌∙◌, OnOk, subst, view_block, in_statement, in_statements, view_stmt, view_statements, casts_in}
 use Rattle.sharc_infer.proofs.casts.+statement.Goals as goal
 
 pub statement-returns-in-Block : goal.statement-returns-in-Block

@@ -1,6 +1,4 @@
-use Rattle.std.proofs.Common.{◌≡◌, ◌++◌, drop}
-use Rattle.sharc_tree.specs.{Measures.in_statements, View.view_statements}
-use Rattle.sharc_infer.specs.Links.{casts_in}
+use Rattle.sharc_infer.proofs.Imports.{◌≡◌, ◌++◌, drop, in_statements, view_statements, casts_in}
 use Rattle.sharc_infer.proofs.casts.+statement.Given as goal
 
 abbrev pub invariant-statements-loop-stmt : goal.invariant-statements-loop-stmt

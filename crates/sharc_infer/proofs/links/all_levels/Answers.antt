@@ -1,6 +1,4 @@
-use Rattle.std.proofs.Common.{◌<◌, length, get_or, ap, ◌∙◌, subst, arith}
-use Rattle.sharc_ctype.specs.Entities.{entities_in}
-use Rattle.sharc_infer.proofs.LinkLemmas.{numbered_within}
+use Rattle.sharc_infer.proofs.{Imports.{◌<◌, length, get_or, ap, ◌∙◌, subst, arith, entities_in}, LinkLemmas.numbered_within}
 use Rattle.sharc_infer.proofs.links.all_levels.Goals as goal
 
 pub add_levels-requires : goal.add_levels-requires

@@ -1,7 +1,4 @@
-use Rattle.std.proofs.Common.{◌≡◌, ◌++◌, drop}
-use Rattle.std.specs.List.{flat_map}
-use Rattle.sharc_ctype.specs.Entities.{entities_in, numbered}
-use Rattle.sharc_mode.specs.Flows.{levels_down}
+use Rattle.sharc_infer.proofs.Imports.{◌≡◌, ◌++◌, drop, flat_map, entities_in, numbered, levels_down}
 use Rattle.sharc_infer.proofs.links.all_levels.Given as goal
 
 abbrev pub invariant-loop-numbered : goal.invariant-loop-numbered

@@ -1,8 +1,4 @@
-use Rattle.std.proofs.Common.{◌≡◌, ◌+◌, ◌++◌, map, drop, ap, sym, ◌∙◌, append_assoc}
-use Rattle.std.specs.List.{flat_map}
-use Rattle.sharc_tree.specs.{Tree.Program, View.view_item}
-use Rattle.sharc_mode.specs.Flows.{item_links}
-use Rattle.sharc_infer.proofs.LinkLemmas.{from_mapped}
+use Rattle.sharc_infer.proofs.{Imports.{◌≡◌, ◌+◌, ◌++◌, map, drop, ap, sym, ◌∙◌, append_assoc, flat_map, Program, view_item, item_links}, LinkLemmas.from_mapped}
 use Rattle.sharc_infer.proofs.links.links.Goals as goal
 
 pub loop-item-preserved : goal.loop-item-preserved

@@ -1,6 +1,4 @@
-use Rattle.std.proofs.Common.{◌≡◌, ◌++◌, drop}
-use Rattle.std.specs.List.{flat_map}
-use Rattle.sharc_mode.specs.Flows.{item_links, links_of}
+use Rattle.sharc_infer.proofs.Imports.{◌≡◌, ◌++◌, drop, flat_map, item_links, links_of}
 use Rattle.sharc_infer.proofs.links.links.Given as goal
 
 abbrev pub invariant-loop-item : goal.invariant-loop-item

@@ -1,7 +1,5 @@
-use Rattle.std.proofs.{Common.{None, ap, ◌∙◌}, lemmas.List.get_or_default}
+use Rattle.sharc_infer.proofs.{Imports.{None, ap, ◌∙◌, get_or_default, place_of, settled_of, root_of}, PositionLemmas.{size_more, each_more}}
 use Rattle.sharc_graph.specs.declared.place.PositionKind.TheVariants.{Private}
-use Rattle.sharc_infer.specs.Positions.{place_of, settled_of, root_of}
-use Rattle.sharc_infer.proofs.PositionLemmas.{size_more, each_more}
 use Rattle.sharc_infer.proofs.places.places.Goals as goal
 
 pub loop-position-preserved : goal.loop-position-preserved

@@ -1,6 +1,4 @@
-use Rattle.std.proofs.Common.{◌≡◌, ℕ, ◌<◌, length}
-use Rattle.sharc_graph.specs.Flow.{place_at}
-use Rattle.sharc_infer.specs.Positions.{place_of, settled_of, root_of}
+use Rattle.sharc_infer.proofs.Imports.{◌≡◌, ℕ, ◌<◌, length, place_at, place_of, settled_of, root_of}
 use Rattle.sharc_infer.proofs.places.places.Given as goal
 
 abbrev pub invariant-loop-position : goal.invariant-loop-position

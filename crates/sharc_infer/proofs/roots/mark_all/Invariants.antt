@@ -1,5 +1,4 @@
-use Rattle.std.proofs.Common.{◌≡◌, drop}
-use Rattle.sharc_infer.specs.Roots.{mark_all}
+use Rattle.sharc_infer.proofs.Imports.{◌≡◌, drop, mark_all}
 use Rattle.sharc_infer.proofs.roots.mark_all.Given as goal
 
 abbrev pub invariant-loop-parameter : goal.invariant-loop-parameter

@@ -1,5 +1,4 @@
-use Rattle.std.proofs.Common.{◌≡◌}
-use Rattle.sharc_infer.specs.Roots.{passed_below}
+use Rattle.sharc_infer.proofs.Imports.{◌≡◌, passed_below}
 use Rattle.sharc_infer.proofs.roots.pass_all.Given as goal
 
 abbrev pub invariant-loop-function : goal.invariant-loop-function

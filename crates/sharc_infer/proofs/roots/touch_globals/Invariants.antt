@@ -1,5 +1,4 @@
-use Rattle.std.proofs.Common.{◌≡◌}
-use Rattle.sharc_infer.specs.Roots.{touched_below}
+use Rattle.sharc_infer.proofs.Imports.{◌≡◌, touched_below}
 use Rattle.sharc_infer.proofs.roots.touch_globals.Given as goal
 
 abbrev pub invariant-loop-global : goal.invariant-loop-global

@@ -1,5 +1,4 @@
-use Rattle.std.proofs.Common.{◌≡◌, ◌++◌, drop}
-use Rattle.sharc_mode.specs.Settled.{settled, settled_modes}
+use Rattle.sharc_infer.proofs.Imports.{◌≡◌, ◌++◌, drop, settled, settled_modes}
 use Rattle.sharc_infer.proofs.settled.add.Given as goal
 
 abbrev pub invariant-loop-depth : goal.invariant-loop-depth

@@ -1,7 +1,4 @@
-use Rattle.std.proofs.Common.{◌++◌, map, ap, ◌∙◌}
-use Rattle.sharc_ctype.specs.{Entities.{entities_in, numbered}, declared.entity.Numbered.Numbered}
-use Rattle.sharc_mode.specs.Settled.{settled_in}
-use Rattle.sharc_infer.proofs.LinkLemmas.{numbered_entities}
+use Rattle.sharc_infer.proofs.{Imports.{◌++◌, map, ap, ◌∙◌, entities_in, numbered, Numbered, settled_in}, LinkLemmas.numbered_entities}
 use Rattle.sharc_infer.proofs.settled.settled.Goals as goal
 
 pub loop-numbered-init : goal.loop-numbered-init

@@ -1,6 +1,4 @@
-use Rattle.std.proofs.Common.{◌≡◌, ◌++◌, drop, map}
-use Rattle.sharc_ctype.specs.{Entities.{entities_in, numbered}, declared.entity.Numbered.Numbered}
-use Rattle.sharc_mode.specs.Settled.{settled_in}
+use Rattle.sharc_infer.proofs.Imports.{◌≡◌, ◌++◌, drop, map, entities_in, numbered, Numbered, settled_in}
 use Rattle.sharc_infer.proofs.settled.settled.Given as goal
 
 abbrev pub invariant-loop-numbered : goal.invariant-loop-numbered

@@ -1,8 +1,4 @@
-use Rattle.std.proofs.Common.{◌≡◌, ◌++◌, ap, sym, ◌∙◌, OnOk, subst}
-use Rattle.sharc_tree.specs.{Children.view_call, View.view_arguments}
-use Rattle.sharc_ctype.specs.{Resolved.named_at, Transfers.{parameters_named, passed, transfers, argument_transfers}}
-use Rattle.sharc_infer.specs.Links.{given}
-use Rattle.sharc_infer.proofs.LinkLemmas.{given_added}
+use Rattle.sharc_infer.proofs.{Imports.{◌≡◌, ◌++◌, ap, sym, ◌∙◌, OnOk, subst, view_call, view_arguments, named_at, parameters_named, passed, transfers, argument_transfers, given}, LinkLemmas.given_added}
 use Rattle.sharc_infer.proofs.transfers.+expression.Goals as goal
 
 pub expression-returns-in_ok-pass_all-in-Call : goal.expression-returns-in_ok-pass_all-in-Call

@@ -1,7 +1,4 @@
-use Rattle.std.proofs.Common.{◌≡◌, ◌++◌, drop}
-use Rattle.sharc_tree.specs.View.{view_arguments}
-use Rattle.sharc_ctype.specs.Transfers.{argument_transfers}
-use Rattle.sharc_infer.specs.Links.{given}
+use Rattle.sharc_infer.proofs.Imports.{◌≡◌, ◌++◌, drop, view_arguments, argument_transfers, given}
 use Rattle.sharc_infer.proofs.transfers.+expression.Given as goal
 
 abbrev pub invariant-arguments-loop-expr : goal.invariant-arguments-loop-expr

@@ -1,7 +1,4 @@
-use Rattle.std.proofs.Common.{◌≡◌, ◌++◌, ap, sym, ◌∙◌, OnOk, subst}
-use Rattle.sharc_tree.specs.{Children.view_block, View.{view_stmt, view_statements}}
-use Rattle.sharc_ctype.specs.Transfers.{statement_transfers, statements_transfers}
-use Rattle.sharc_infer.specs.Links.{given}
+use Rattle.sharc_infer.proofs.Imports.{◌≡◌, ◌++◌, ap, sym, ◌∙◌, OnOk, subst, view_block, view_stmt, view_statements, statement_transfers, statements_transfers, given}
 use Rattle.sharc_infer.proofs.transfers.+statement.Goals as goal
 
 pub statement-returns-in-Block : goal.statement-returns-in-Block

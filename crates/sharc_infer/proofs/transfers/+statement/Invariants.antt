@@ -1,7 +1,4 @@
-use Rattle.std.proofs.Common.{◌≡◌, ◌++◌, drop}
-use Rattle.sharc_tree.specs.View.{view_statements}
-use Rattle.sharc_ctype.specs.Transfers.{statements_transfers}
-use Rattle.sharc_infer.specs.Links.{given}
+use Rattle.sharc_infer.proofs.Imports.{◌≡◌, ◌++◌, drop, view_statements, statements_transfers, given}
 use Rattle.sharc_infer.proofs.transfers.+statement.Given as goal
 
 abbrev pub invariant-statements-loop-stmt : goal.invariant-statements-loop-stmt

@@ -1,6 +1,4 @@
-use Rattle.std.proofs.{Common.{◌++◌, ap, sym, ◌∙◌, arith}, lemmas.List.append-nil}
-use Rattle.sharc_infer.specs.Links.{given}
-use Rattle.sharc_infer.proofs.LinkLemmas.{passed_end}
+use Rattle.sharc_infer.proofs.{Imports.{◌++◌, ap, sym, ◌∙◌, arith, append-nil, given}, LinkLemmas.passed_end}
 use Rattle.sharc_infer.proofs.transfers.pass_all.Goals as goal
 
 pub returns : goal.returns

@@ -1,7 +1,4 @@
-use Rattle.std.proofs.Common.{◌≡◌, ◌++◌, drop}
-use Rattle.sharc_tree.specs.View.{view_arguments}
-use Rattle.sharc_ctype.specs.Transfers.{passed}
-use Rattle.sharc_infer.specs.Links.{given}
+use Rattle.sharc_infer.proofs.Imports.{◌≡◌, ◌++◌, drop, view_arguments, passed, given}
 use Rattle.sharc_infer.proofs.transfers.pass_all.Given as goal
 
 abbrev pub invariant-loop-i : goal.invariant-loop-i

@@ -1,6 +1,4 @@
-use Rattle.std.proofs.Common.{◌≡◌, ◌++◌, OnOk, subst}
-use Rattle.sharc_tree.specs.View.{view_expr}
-use Rattle.sharc_infer.proofs.LinkLemmas.{one_passed}
+use Rattle.sharc_infer.proofs.{Imports.{◌≡◌, ◌++◌, OnOk, subst, view_expr}, LinkLemmas.one_passed}
 use Rattle.sharc_infer.proofs.transfers.pass_one.Goals as goal
 
 pub returns-in-len1-up : goal.returns-in-len1-up

@@ -1,6 +1,4 @@
-use Rattle.std.proofs.Common.{◌≡◌, ◌+◌, drop}
-use Rattle.std.specs.List.{prefix_len}
-use Rattle.sharc_lex.specs.Bytes.{is_word_byte}
+use Rattle.sharc_lex.proofs.Imports.{◌≡◌, ◌+◌, drop, prefix_len, is_word_byte}
 use Rattle.sharc_lex.proofs.bytes.word_len.Given as goal
 
 abbrev pub invariant-loop-i : goal.invariant-loop-i

@@ -1,5 +1,4 @@
-use Rattle.std.proofs.Common.{◌≡◌, ◌+◌, ◌-◌, ◌≤◌, length, drop}
-use Rattle.sharc_lex.specs.Grammar.{behind_tokens, tokens_of}
+use Rattle.sharc_lex.proofs.Imports.{◌≡◌, ◌+◌, ◌-◌, ◌≤◌, length, drop, behind_tokens, tokens_of}
 use Rattle.sharc_lex.proofs.lines.read_tokens.Given as goal
 
 abbrev pub invariant-loop-at : goal.invariant-loop-at

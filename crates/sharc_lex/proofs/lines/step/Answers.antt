@@ -1,6 +1,4 @@
-use Rattle.std.proofs.{Common.{◌≡◌, ◌++◌, ◌∷◌, [], ◌-◌, false, length, get_or, take, drop, sym, ap, ◌∙◌, subst, arith, rules}, lemmas.Grind.common_steps}
-use Rattle.sharc_lex.specs.{Bytes.is_white_space, Grammar.Steps, TokenAt.token_at}
-use Rattle.sharc_lex.proofs.LineLemmas.{step_token}
+use Rattle.sharc_lex.proofs.{Imports.{◌≡◌, ◌++◌, ◌∷◌, [], ◌-◌, false, length, get_or, take, drop, sym, ap, ◌∙◌, subst, arith, rules, common_steps, is_white_space, Steps, token_at}, LineLemmas.step_token}
 use Rattle.sharc_lex.proofs.lines.step.Goals as goal
 
 pub returns-in_ok-push-in-Ok-clause-read : goal.returns-in_ok-push-in-Ok-clause-read

@@ -1,6 +1,4 @@
-use Rattle.std.proofs.Common.{◌≡◌, ◌+◌, drop}
-use Rattle.std.specs.List.{prefix_len}
-use Rattle.sharc_lex.specs.Bytes.{is_digit}
+use Rattle.sharc_lex.proofs.Imports.{◌≡◌, ◌+◌, drop, prefix_len, is_digit}
 use Rattle.sharc_lex.proofs.markers.digits_len.Given as goal
 
 abbrev pub invariant-loop-i : goal.invariant-loop-i

@@ -1,6 +1,4 @@
-use Rattle.std.proofs.Common.{◌≡◌, ◌+◌, ◌<◌, sym, ◌∙◌, ap, length, get_or, drop, ◌∷◌, add-one, drop-cons}
-use Rattle.sharc_lex.specs.Numbers.{value_behind, small_value}
-use Rattle.sharc_lex.proofs.NumberLemmas.{no_digit_stays}
+use Rattle.sharc_lex.proofs.{Imports.{◌≡◌, ◌+◌, ◌<◌, sym, ◌∙◌, ap, length, get_or, drop, ◌∷◌, add-one, drop-cons, value_behind, small_value}, NumberLemmas.no_digit_stays}
 use Rattle.sharc_lex.proofs.numbers.digits.Goals as goal
 
 pub returns-in_err-high : goal.returns-in_err-high

@@ -1,5 +1,4 @@
-use Rattle.std.proofs.Common.{◌≡◌, ◌<◌, ◌^◌, drop}
-use Rattle.sharc_lex.specs.Numbers.{value_behind}
+use Rattle.sharc_lex.proofs.Imports.{◌≡◌, ◌<◌, ◌^◌, drop, value_behind}
 use Rattle.sharc_lex.proofs.numbers.digits.Given as goal
 
 abbrev pub invariant-loop-byte : goal.invariant-loop-byte

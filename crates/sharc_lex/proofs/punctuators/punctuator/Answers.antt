@@ -1,6 +1,4 @@
-use Rattle.std.proofs.Common.{sym, ◌∙◌, ◌++◌}
-use Rattle.sharc_lex.specs.Punctuators.{singles, pairs, triples, quadruples}
-use Rattle.sharc_lex.proofs.PunctuatorLemmas.{first_begun-none, first_begun-some}
+use Rattle.sharc_lex.proofs.{Imports.{sym, ◌∙◌, ◌++◌, singles, pairs, triples, quadruples}, PunctuatorLemmas.{first_begun-none, first_begun-some}}
 use Rattle.sharc_lex.proofs.punctuators.punctuator.Goals as goal
 
 pub returns-in-Some-of_two : goal.returns-in-Some-of_two

@@ -1,6 +1,4 @@
-use Rattle.std.proofs.{Common.{◌≡◌, ◌-◌, ◌<◌, length, take, drop, Ok, sym, ap, ◌∙◌, arith}, lemmas.Result.err_from_is_err_and}
-use Rattle.sharc_lex.specs.{Grammar.{lines_read, lines_of, opening, reading}, Seen.read_of}
-use Rattle.sharc_lex.proofs.{TokensLemmas.{tokens_are, refused_place}, ReadingLemmas.{lines_from-end, reading-read, tail_is, step_read, step_within, step_bound, step_refused}}
+use Rattle.sharc_lex.proofs.{Imports.{◌≡◌, ◌-◌, ◌<◌, length, take, drop, Ok, sym, ap, ◌∙◌, arith, err_from_is_err_and, lines_read, lines_of, opening, reading, read_of}, TokensLemmas.{tokens_are, refused_place}, ReadingLemmas.{lines_from-end, reading-read, tail_is, step_read, step_within, step_bound, step_refused}}
 use Rattle.sharc_lex.proofs.reading.lex.Goals as goal
 
 pub returns-in_err-line-clause-exact : goal.returns-in_err-line-clause-exact

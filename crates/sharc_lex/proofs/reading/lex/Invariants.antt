@@ -1,6 +1,4 @@
-use Rattle.std.proofs.Common.{◌≡◌, ◌+◌, ◌-◌, ◌≤◌, length}
-use Rattle.sharc_lex.specs.{Grammar.{IsWithin, lines_read, lines_of, opening}, Seen.read_of}
-use Rattle.sharc_lex.proofs.ReadingLemmas.{lines_from}
+use Rattle.sharc_lex.proofs.{Imports.{◌≡◌, ◌+◌, ◌-◌, ◌≤◌, length, IsWithin, lines_read, lines_of, opening, read_of}, ReadingLemmas.lines_from}
 use Rattle.sharc_lex.proofs.reading.lex.Given as goal
 
 abbrev pub invariant-loop-at : goal.invariant-loop-at

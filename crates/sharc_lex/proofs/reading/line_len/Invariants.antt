@@ -1,5 +1,4 @@
-use Rattle.std.proofs.Common.{◌≡◌, ◌+◌, ◌==◌, drop}
-use Rattle.std.specs.List.{position_or_len}
+use Rattle.sharc_lex.proofs.Imports.{◌≡◌, ◌+◌, ◌==◌, drop, position_or_len}
 use Rattle.sharc_lex.proofs.reading.line_len.Given as goal
 
 abbrev pub invariant-loop-i : goal.invariant-loop-i

@@ -1,6 +1,4 @@
-use Rattle.std.proofs.Common.{◌≡◌, rules}
-use Rattle.sharc_lex.specs.TokenAt.{token_at}
-use Rattle.sharc_lex.proofs.{LexemeLemmas.result_lies, LongestLemmas.result_longest}
+use Rattle.sharc_lex.proofs.{Imports.{◌≡◌, rules, token_at}, LexemeLemmas.result_lies, LongestLemmas.result_longest}
 use Rattle.sharc_lex.proofs.token_at.token_at.Goals as goal
 
 pub returns-then-is_digit-clause-lies : goal.returns-then-is_digit-clause-lies

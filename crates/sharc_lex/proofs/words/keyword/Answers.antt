@@ -1,6 +1,4 @@
-use Rattle.std.proofs.Common.{sym, ◌∙◌, refl, arith, length, ◌∷◌, []}
-use Rattle.sharc_lex.specs.Words.{keywords}
-use Rattle.sharc_lex.proofs.WordLemmas.{entry_at-of_length, entry_at-other_length, not_among}
+use Rattle.sharc_lex.proofs.{Imports.{sym, ◌∙◌, refl, arith, length, ◌∷◌, [], keywords}, WordLemmas.{entry_at-of_length, entry_at-other_length, not_among}}
 use Rattle.sharc_lex.proofs.words.keyword.Goals as goal
 
 pub returns-in-2 : goal.returns-in-2

@@ -1,5 +1,4 @@
-use Rattle.std.proofs.Common.{◌≡◌, drop, map}
-use Rattle.sharc_lex.specs.Words.{entry_at}
+use Rattle.sharc_lex.proofs.Imports.{◌≡◌, drop, map, entry_at}
 use Rattle.sharc_lex.proofs.words.look_up.Given as goal
 
 abbrev pub invariant-loop-entry : goal.invariant-loop-entry

@@ -1,7 +1,4 @@
-use Rattle.std.proofs.Common.{◌≡◌, ◌++◌, ap, sym, ◌∙◌, OnOk, subst}
-use Rattle.sharc_tree.specs.{Children.view_call, View.{view_expr, view_arguments}}
-use Rattle.sharc_dataflow.specs.Code.{listing}
-use Rattle.sharc_live.specs.Flows.{flow, flow_all}
+use Rattle.sharc_live.proofs.Imports.{◌≡◌, ◌++◌, ap, sym, ◌∙◌, OnOk, subst, view_call, view_expr, view_arguments, listing, flow, flow_all}
 use Rattle.sharc_live.proofs.expression.+expression.Goals as goal
 
 pub expression-returns-in-Call : goal.expression-returns-in-Call

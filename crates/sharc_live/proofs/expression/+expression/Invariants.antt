@@ -1,7 +1,4 @@
-use Rattle.std.proofs.Common.{◌≡◌, ◌++◌, drop}
-use Rattle.sharc_tree.specs.View.{view_arguments}
-use Rattle.sharc_dataflow.specs.Code.{listing}
-use Rattle.sharc_live.specs.Flows.{flow_all}
+use Rattle.sharc_live.proofs.Imports.{◌≡◌, ◌++◌, drop, view_arguments, listing, flow_all}
 use Rattle.sharc_live.proofs.expression.+expression.Given as goal
 
 abbrev pub invariant-arguments-loop-expr : goal.invariant-arguments-loop-expr

@@ -1,8 +1,4 @@
-use Rattle.std.proofs.Common.{◌≡◌, ◌++◌, ap, sym, ◌∙◌, OnOk, subst, rules, [], ◌∷◌}
-use Rattle.sharc_tree.specs.{Children.view_block, View.{view_head, view_stmt, view_statements}}
-use Rattle.sharc_dataflow.specs.{declared.step.Step.TheVariants.{Head, Caught}, Code.listing}
-use Rattle.sharc_live.specs.Flows.{statement_flow, statements_flow}
-use Rattle.sharc_live.proofs.TurnLemmas.{for_whole}
+use Rattle.sharc_live.proofs.{Imports.{◌≡◌, ◌++◌, ap, sym, ◌∙◌, OnOk, subst, rules, [], ◌∷◌, view_block, view_head, view_stmt, view_statements, Head, Caught, listing, statement_flow, statements_flow}, TurnLemmas.for_whole}
 use Rattle.sharc_live.proofs.statement.+statement.Goals as goal
 
 pub statement-returns-in-Block : goal.statement-returns-in-Block

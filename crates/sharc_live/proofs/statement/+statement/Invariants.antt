@@ -1,7 +1,4 @@
-use Rattle.std.proofs.Common.{◌≡◌, ◌++◌, drop}
-use Rattle.sharc_tree.specs.View.{view_statements}
-use Rattle.sharc_dataflow.specs.Code.{listing}
-use Rattle.sharc_live.specs.Flows.{statements_flow}
+use Rattle.sharc_live.proofs.Imports.{◌≡◌, ◌++◌, drop, view_statements, listing, statements_flow}
 use Rattle.sharc_live.proofs.statement.+statement.Given as goal
 
 abbrev pub invariant-statements-loop-stmt : goal.invariant-statements-loop-stmt

@@ -1,6 +1,4 @@
-use Rattle.std.proofs.Common.{◌≡◌, ◌++◌, drop}
-use Rattle.sharc_dataflow.specs.Code.{listing}
-use Rattle.sharc_live.specs.Flows.{parameters_flow}
+use Rattle.sharc_live.proofs.Imports.{◌≡◌, ◌++◌, drop, listing, parameters_flow}
 use Rattle.sharc_live.proofs.statement.parameters.Given as goal
 
 abbrev pub invariant-loop-of : goal.invariant-loop-of

@@ -1,8 +1,4 @@
-use Rattle.std.proofs.Common.{[], List, drop}
-use Rattle.sharc_tree.specs.View.{view_items}
-use Rattle.sharc_ctype.specs.Resolved.{functions_in}
-use Rattle.sharc_dataflow.specs.declared.way.FlowWarning.{FlowWarning}
-use Rattle.sharc_live.specs.Gathers.{AddsAll}
+use Rattle.sharc_live.proofs.Imports.{[], List, drop, view_items, functions_in, FlowWarning, AddsAll}
 use Rattle.sharc_live.proofs.warnings.gathered.Given as goal
 
 abbrev pub invariant-loop-item : goal.invariant-loop-item

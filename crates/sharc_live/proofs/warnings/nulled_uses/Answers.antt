@@ -1,9 +1,4 @@
-use Rattle.std.proofs.Common.{◌≡◌, ◌∙◌, sym, ap, subst, map, []}
-use Rattle.sharc_tree.specs.{View.view_items, Tree.Program}
-use Rattle.sharc_ctype.specs.Resolved.{functions_in}
-use Rattle.sharc_mode.specs.Moded.{Assignment}
-use Rattle.sharc_live.specs.{Gathers.AddsAll, Uses.{AreWarnings, warning_at}}
-use Rattle.sharc_live.proofs.Warned.{are_warnings}
+use Rattle.sharc_live.proofs.{Imports.{◌≡◌, ◌∙◌, sym, ap, subst, map, [], view_items, Program, functions_in, Assignment, AddsAll, AreWarnings, warning_at}, Warned.are_warnings}
 use Rattle.sharc_live.proofs.warnings.nulled_uses.Goals as goal
 
 pub returns : goal.returns

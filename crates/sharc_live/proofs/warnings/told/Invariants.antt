@@ -1,5 +1,4 @@
-use Rattle.std.proofs.Common.{◌≡◌, ◌++◌, drop, map}
-use Rattle.sharc_live.specs.Uses.{warning_at}
+use Rattle.sharc_live.proofs.Imports.{◌≡◌, ◌++◌, drop, map, warning_at}
 use Rattle.sharc_live.proofs.warnings.told.Given as goal
 
 abbrev pub invariant-loop-w : goal.invariant-loop-w

@@ -1,8 +1,4 @@
-use Rattle.std.proofs.Common.{[], ◌∷◌, sym, subst}
-use Rattle.sharc_tree.specs.View.{view_function, view_items}
-use Rattle.sharc_ctype.specs.Resolved.{functions_in}
-use Rattle.sharc_live.specs.Gathers.{AddsAll}
-use Rattle.sharc_live.proofs.Warned.{adds_one, adds_none}
+use Rattle.sharc_live.proofs.{Imports.{[], ◌∷◌, sym, subst, view_function, view_items, functions_in, AddsAll}, Warned.{adds_one, adds_none}}
 use Rattle.sharc_live.proofs.warnings.with_item.Goals as goal
 
 pub returns-in_ok-more-in-Function : goal.returns-in_ok-more-in-Function

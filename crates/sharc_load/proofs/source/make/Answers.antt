@@ -1,5 +1,4 @@
-use Rattle.std.proofs.Common.{ap, ◌∙◌, sym}
-use Rattle.sharc_load.proofs.Text.{source_of_pieces, written}
+use Rattle.sharc_load.proofs.{Imports.{ap, ◌∙◌, sym}, Text.{source_of_pieces, written}}
 use Rattle.sharc_load.proofs.source.make.Goals as goal
 
 pub returns : goal.returns

@@ -1,6 +1,4 @@
-use Rattle.std.proofs.Common.{◌≡◌, ◌+◌, ◌-◌, arith}
-use Rattle.sharc_load.specs.Source.{join_line}
-use Rattle.sharc_load.proofs.Text.{next_line, no_line, join_line_is}
+use Rattle.sharc_load.proofs.{Imports.{◌≡◌, ◌+◌, ◌-◌, arith, join_line}, Text.{next_line, no_line, join_line_is}}
 use Rattle.sharc_load.proofs.source.write_joins.Goals as goal
 
 pub loop-k-init : goal.loop-k-init

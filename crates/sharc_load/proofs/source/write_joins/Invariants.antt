@@ -1,6 +1,4 @@
-use Rattle.std.proofs.Common.{◌≡◌, ◌++◌, map, string_bytes, ◌-◌}
-use Rattle.std.specs.List.{range_with_len}
-use Rattle.sharc_load.specs.Source.{text_of, join_line}
+use Rattle.sharc_load.proofs.Imports.{◌≡◌, ◌++◌, map, string_bytes, ◌-◌, range_with_len, text_of, join_line}
 use Rattle.sharc_load.proofs.source.write_joins.Given as goal
 
 -- the lines so far come after what was there before

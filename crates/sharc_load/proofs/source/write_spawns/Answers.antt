@@ -1,6 +1,4 @@
-use Rattle.std.proofs.Common.{◌≡◌, ◌+◌, ◌-◌, arith}
-use Rattle.sharc_load.specs.Source.{spawn_line}
-use Rattle.sharc_load.proofs.Text.{next_line, no_line, spawn_line_is}
+use Rattle.sharc_load.proofs.{Imports.{◌≡◌, ◌+◌, ◌-◌, arith, spawn_line}, Text.{next_line, no_line, spawn_line_is}}
 use Rattle.sharc_load.proofs.source.write_spawns.Goals as goal
 
 pub loop-k-init : goal.loop-k-init

@@ -1,6 +1,4 @@
-use Rattle.std.proofs.Common.{◌+◌, refl, arith}
-use Rattle.sharc_load.specs.Source.{step_line}
-use Rattle.sharc_load.proofs.Text.{next_line, no_line, step_line_is}
+use Rattle.sharc_load.proofs.{Imports.{◌+◌, refl, arith, step_line}, Text.{next_line, no_line, step_line_is}}
 use Rattle.sharc_load.proofs.source.write_steps.Goals as goal
 
 pub loop-i-init : goal.loop-i-init

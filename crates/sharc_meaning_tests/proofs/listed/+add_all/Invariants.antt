@@ -1,4 +1,4 @@
-use Rattle.std.proofs.Common.{length}
+use Rattle.sharc_meaning_tests.proofs.Imports.{length}
 use Rattle.sharc_meaning_tests.proofs.listed.+add_all.Given as goal
 
 abbrev pub decreases-add_all : goal.decreases-add_all

@@ -1,6 +1,4 @@
-use Rattle.std.proofs.Common.{◌≡◌, drop}
-use Rattle.std.specs.List.{list_any}
-use Rattle.sharc_meaning.specs.Events.{is_of}
+use Rattle.sharc_meaning_tests.proofs.Imports.{◌≡◌, drop, list_any, is_of}
 use Rattle.sharc_meaning_tests.proofs.listed.has_events.Given as goal
 
 abbrev pub invariant-loop-e : goal.invariant-loop-e

@@ -1,5 +1,4 @@
-use Rattle.std.proofs.Common.{◌≡◌, take}
-use Rattle.sharc_meaning.specs.References.{is_taken_to_free}
+use Rattle.sharc_meaning_tests.proofs.Imports.{◌≡◌, take, is_taken_to_free}
 use Rattle.sharc_meaning_tests.proofs.listed.is_taken_to_free.Given as goal
 
 abbrev pub invariant-loop-e : goal.invariant-loop-e

@@ -1,5 +1,4 @@
-use Rattle.std.proofs.Common.{◌≡◌, ◌++◌}
-use Rattle.sharc_meaning_tests.specs.Listed.{in_thread_all}
+use Rattle.sharc_meaning_tests.proofs.Imports.{◌≡◌, ◌++◌, in_thread_all}
 use Rattle.sharc_meaning_tests.proofs.listed.push_thread.Given as goal
 
 abbrev pub invariant-loop-which : goal.invariant-loop-which

@@ -1,7 +1,4 @@
-use Rattle.std.proofs.Common.{◌≡◌, ◌++◌, ap, sym, ◌∙◌, subst}
-use Rattle.sharc_ctype.specs.Resolved.{IsResolved}
-use Rattle.sharc_meaning_tests.specs.{Answered.AreReferences, Listed.holders}
-use Rattle.sharc_meaning_tests.proofs.Answering.{answers}
+use Rattle.sharc_meaning_tests.proofs.{Imports.{◌≡◌, ◌++◌, ap, sym, ◌∙◌, subst, IsResolved, AreReferences, holders}, Answering.answers}
 use Rattle.sharc_meaning_tests.proofs.listed.references.Goals as goal
 
 pub returns : goal.returns

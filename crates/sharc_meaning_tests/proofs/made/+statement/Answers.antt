@@ -1,6 +1,4 @@
-use Rattle.std.proofs.Common.{◌≡◌, ap, sym, ◌∙◌}
-use Rattle.sharc_tree.specs.{Children.view_block, View.view_statements}
-use Rattle.sharc_meaning_tests.specs.Making.{statement_makes, statements_make}
+use Rattle.sharc_meaning_tests.proofs.Imports.{◌≡◌, ap, sym, ◌∙◌, view_block, view_statements, statement_makes, statements_make}
 use Rattle.sharc_meaning_tests.proofs.made.+statement.Goals as goal
 
 pub statement_makes-returns-in-Block : goal.statement_makes-returns-in-Block

@@ -1,6 +1,4 @@
-use Rattle.std.proofs.Common.{◌≡◌, drop}
-use Rattle.sharc_tree.specs.View.{view_statements}
-use Rattle.sharc_meaning_tests.specs.Making.{statements_make}
+use Rattle.sharc_meaning_tests.proofs.Imports.{◌≡◌, drop, view_statements, statements_make}
 use Rattle.sharc_meaning_tests.proofs.made.+statement.Given as goal
 
 abbrev pub invariant-statements_make-loop-stmt : goal.invariant-statements_make-loop-stmt

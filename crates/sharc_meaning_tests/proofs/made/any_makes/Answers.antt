@@ -1,7 +1,4 @@
-use Rattle.std.proofs.Common.{◌≡◌, ap, sym, ◌∙◌}
-use Rattle.sharc_tree.specs.{View.view_items, Tree.Program}
-use Rattle.sharc_meaning_tests.specs.Making.{items_make}
-use Rattle.sharc_meaning_tests.proofs.Making.{items_are}
+use Rattle.sharc_meaning_tests.proofs.{Imports.{◌≡◌, ap, sym, ◌∙◌, view_items, Program, items_make}, Making.items_are}
 use Rattle.sharc_meaning_tests.proofs.made.any_makes.Goals as goal
 
 pub returns : goal.returns

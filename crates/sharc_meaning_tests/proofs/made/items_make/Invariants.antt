@@ -1,7 +1,4 @@
-use Rattle.std.proofs.Common.{◌≡◌, drop}
-use Rattle.std.specs.List.{list_any}
-use Rattle.sharc_tree.specs.View.{view_items}
-use Rattle.sharc_meaning_tests.specs.Making.{items_make}
+use Rattle.sharc_meaning_tests.proofs.Imports.{◌≡◌, drop, list_any, view_items, items_make}
 use Rattle.sharc_meaning_tests.proofs.made.items_make.Given as goal
 
 abbrev pub invariant-loop-item : goal.invariant-loop-item

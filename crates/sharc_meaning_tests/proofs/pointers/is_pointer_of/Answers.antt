@@ -1,5 +1,4 @@
-use Rattle.std.proofs.Common.{◌≡◌, ◌∙◌, Some, None}
-use Rattle.sharc_meaning_tests.proofs.Making.{of_made}
+use Rattle.sharc_meaning_tests.proofs.{Imports.{◌≡◌, ◌∙◌, Some, None}, Making.of_made}
 use Rattle.sharc_meaning_tests.proofs.pointers.is_pointer_of.Goals as goal
 
 pub returns-in-None-latest : goal.returns-in-None-latest

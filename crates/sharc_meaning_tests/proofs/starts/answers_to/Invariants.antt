@@ -1,5 +1,4 @@
-use Rattle.std.proofs.Common.{◌≡◌, take}
-use Rattle.sharc_meaning.specs.{Events.events_of, Runs.answers_of}
+use Rattle.sharc_meaning_tests.proofs.Imports.{◌≡◌, take, events_of, answers_of}
 use Rattle.sharc_meaning_tests.proofs.starts.answers_to.Given as goal
 
 abbrev pub invariant-loop-e : goal.invariant-loop-e

@@ -1,6 +1,4 @@
-use Rattle.std.proofs.Common.{◌≡◌, ◌≤◌, take}
-use Rattle.std.specs.Prelude.{count_by}
-use Rattle.sharc_meaning.specs.References.{refers}
+use Rattle.sharc_meaning_tests.proofs.Imports.{◌≡◌, ◌≤◌, take, count_by, refers}
 use Rattle.sharc_meaning_tests.proofs.starts.count_of.Given as goal
 
 abbrev pub invariant-loop-value : goal.invariant-loop-value

@@ -1,8 +1,4 @@
-use Rattle.std.proofs.Common.{◌≡◌, sym, ◌∙◌, refl}
-use Rattle.std.specs.Prelude.{Some, None}
-use Rattle.sharc_tree.specs.View.{view_function}
-use Rattle.sharc_ctype.specs.Resolved.{functions_in, function_at}
-use Rattle.sharc_meaning_tests.proofs.Mains.{main_end, main_here, main_on}
+use Rattle.sharc_meaning_tests.proofs.{Imports.{◌≡◌, sym, ◌∙◌, refl, Some, None, view_function, functions_in, function_at}, Mains.{main_end, main_here, main_on}}
 use Rattle.sharc_meaning_tests.proofs.starts.main_of.Goals as goal
 
 pub loop-n-init : goal.loop-n-init

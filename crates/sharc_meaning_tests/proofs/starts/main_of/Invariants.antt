@@ -1,6 +1,4 @@
-use Rattle.std.proofs.Common.{◌≡◌, drop}
-use Rattle.sharc_ctype.specs.Resolved.{functions_in}
-use Rattle.sharc_meaning_tests.specs.Starting.{main_from, main_of}
+use Rattle.sharc_meaning_tests.proofs.Imports.{◌≡◌, drop, functions_in, main_from, main_of}
 use Rattle.sharc_meaning_tests.proofs.starts.main_of.Given as goal
 
 abbrev pub invariant-loop-n : goal.invariant-loop-n

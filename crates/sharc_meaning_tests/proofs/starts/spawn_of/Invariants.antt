@@ -1,6 +1,4 @@
-use Rattle.std.proofs.Common.{◌≡◌, drop}
-use Rattle.std.specs.Prelude.{find}
-use Rattle.sharc_meaning.specs.Store.{spawns}
+use Rattle.sharc_meaning_tests.proofs.Imports.{◌≡◌, drop, find, spawns}
 use Rattle.sharc_meaning_tests.proofs.starts.spawn_of.Given as goal
 
 abbrev pub invariant-loop-e : goal.invariant-loop-e

@@ -1,6 +1,4 @@
-use Rattle.std.proofs.Common.{◌<◌, ap, sym, ◌∙◌, arith}
-use Rattle.sharc_mode.specs.{Cells.pointed, Rows.read, View.{view_reading, view_row, view_rows, view_sharing}}
-use Rattle.sharc_mode.proofs.CellLemmas.{first_is}
+use Rattle.sharc_mode.proofs.{Imports.{◌<◌, ap, sym, ◌∙◌, arith, pointed, read, view_reading, view_row, view_rows, view_sharing}, CellLemmas.first_is}
 use Rattle.sharc_mode.proofs.cell.pointed.Goals as goal
 
 pub returns-else-row-eq0 : goal.returns-else-row-eq0

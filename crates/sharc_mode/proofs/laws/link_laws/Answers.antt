@@ -1,5 +1,4 @@
-use Rattle.sharc_ctype.specs.Entities.{entities_in}
-use Rattle.sharc_mode.proofs.{LeastLemmas.{settled_size, itself_enough, below_dynamic, equated_agree, least_of_all}, PairLemmas.{below_from, below_to, equal_from, equal_to}, WithinLemmas.links_within}
+use Rattle.sharc_mode.proofs.{Imports.entities_in, LeastLemmas.{settled_size, itself_enough, below_dynamic, equated_agree, least_of_all}, PairLemmas.{below_from, below_to, equal_from, equal_to}, WithinLemmas.links_within}
 use Rattle.sharc_mode.proofs.laws.link_laws.Goals as goal
 
 pub returns : goal.returns

@@ -1,4 +1,4 @@
-use Rattle.std.proofs.Common.{◌≡◌, take}
+use Rattle.sharc_mode.proofs.Imports.{◌≡◌, take}
 use Rattle.sharc_mode.proofs.moded.copied.Given as goal
 
 abbrev pub invariant-loop-mode : goal.invariant-loop-mode

@@ -1,5 +1,4 @@
-use Rattle.sharc_tree.specs.View.{view_expr}
-use Rattle.sharc_mode.proofs.ArgumentLemmas.{spawn_end}
+use Rattle.sharc_mode.proofs.{Imports.view_expr, ArgumentLemmas.spawn_end}
 use Rattle.sharc_mode.proofs.read.spawn_argument_use.Goals as goal
 
 pub returns-else-parameter-wanted : goal.returns-else-parameter-wanted

@@ -1,5 +1,4 @@
-use Rattle.std.proofs.Common.{sym, ◌∙◌, drop}
-use Rattle.sharc_mode.proofs.ArgumentLemmas.{arguments_end}
+use Rattle.sharc_mode.proofs.{Imports.{sym, ◌∙◌, drop}, ArgumentLemmas.arguments_end}
 use Rattle.sharc_mode.proofs.row.argument_use.Goals as goal
 
 pub returns-then-i-arguments : goal.returns-then-i-arguments

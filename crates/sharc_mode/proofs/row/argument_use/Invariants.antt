@@ -1,6 +1,4 @@
-use Rattle.std.proofs.Common.{◌≡◌, drop}
-use Rattle.sharc_tree.specs.View.{view_arguments}
-use Rattle.sharc_mode.specs.Rows.{argument_use}
+use Rattle.sharc_mode.proofs.Imports.{◌≡◌, drop, view_arguments, argument_use}
 use Rattle.sharc_mode.proofs.row.argument_use.Given as goal
 
 abbrev pub invariant-loop-i : goal.invariant-loop-i

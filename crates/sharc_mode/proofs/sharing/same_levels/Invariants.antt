@@ -1,5 +1,4 @@
-use Rattle.std.proofs.Common.{◌≡◌, drop}
-use Rattle.sharc_mode.specs.Sharings.{same_levels}
+use Rattle.sharc_mode.proofs.Imports.{◌≡◌, drop, same_levels}
 use Rattle.sharc_mode.proofs.sharing.same_levels.Given as goal
 
 abbrev pub invariant-loop-i : goal.invariant-loop-i

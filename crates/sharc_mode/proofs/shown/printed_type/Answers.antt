@@ -1,6 +1,4 @@
-use Rattle.std.proofs.Common.{◌+◌, ◌<◌, length, ◌∙◌, arith}
-use Rattle.sharc_mode.specs.Notes.{printed_top}
-use Rattle.sharc_mode.proofs.ShownLemmas.{one_position}
+use Rattle.sharc_mode.proofs.{Imports.{◌+◌, ◌<◌, length, ◌∙◌, arith, printed_top}, ShownLemmas.one_position}
 use Rattle.sharc_mode.proofs.shown.printed_type.Goals as goal
 
 pub loop-i-preserved : goal.loop-i-preserved

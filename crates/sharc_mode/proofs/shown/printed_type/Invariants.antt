@@ -1,5 +1,4 @@
-use Rattle.std.proofs.Common.{◌≡◌, ◌++◌, map, take, drop, Some}
-use Rattle.sharc_mode.specs.Notes.{printed_top}
+use Rattle.sharc_mode.proofs.Imports.{◌≡◌, ◌++◌, map, take, drop, Some, printed_top}
 use Rattle.sharc_mode.proofs.shown.printed_type.Given as goal
 
 abbrev pub invariant-loop-i : goal.invariant-loop-i

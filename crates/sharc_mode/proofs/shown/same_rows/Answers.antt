@@ -1,6 +1,4 @@
-use Rattle.std.proofs.Common.{◌≡◌, ◌+◌, ◌<◌, ◌≤◌, length, subst, ap, sym, ◌∙◌, arith, rules, Some, false, nat_eq}
-use Rattle.sharc_mode.specs.{Cells.pointed, Moded.position_count, Rows.{Targets, modes_of}, Sharings.{same, same_all}, View.{view_row, view_sharing}}
-use Rattle.sharc_mode.proofs.{ShownLemmas.{alike, second_ends, deeper_ends}, shown.same_rows.Goals.{then-loop-a-test+else-b-gt0, else-loop-a-test}}
+use Rattle.sharc_mode.proofs.{Imports.{◌≡◌, ◌+◌, ◌<◌, ◌≤◌, length, subst, ap, sym, ◌∙◌, arith, rules, Some, false, nat_eq, pointed, position_count, Targets, modes_of, same, same_all, view_row, view_sharing}, ShownLemmas.{alike, second_ends, deeper_ends}, shown.same_rows.Goals.{then-loop-a-test+else-b-gt0, else-loop-a-test}}
 use Rattle.sharc_mode.proofs.shown.same_rows.Goals as goal
 
 pub loop-a-preserved : goal.loop-a-preserved

@@ -1,5 +1,4 @@
-use Rattle.std.proofs.Common.{◌≡◌, ◌+◌, ◌≤◌}
-use Rattle.sharc_mode.specs.{Moded.position_count, Rows.modes_of, Sharings.same_all, View.view_row}
+use Rattle.sharc_mode.proofs.Imports.{◌≡◌, ◌+◌, ◌≤◌, position_count, modes_of, same_all, view_row}
 use Rattle.sharc_mode.proofs.shown.same_rows.Given as goal
 
 abbrev pub invariant-loop-a : goal.invariant-loop-a

@@ -1,7 +1,4 @@
-use Rattle.std.proofs.Common.{◌+◌, ◌≤◌, ◌∷◌, length, map, Option, Some, None, ap, sym, ◌∙◌, subst, arith}
-use Rattle.sharc_tree.specs.declared.ctype.Mode.{Mode}
-use Rattle.sharc_mode.specs.{Moded.position_count, Rows.{Targets, modes_of}, Sharings.{Sharing, mode_of}, View.{view_row, view_sharing}}
-use Rattle.sharc_mode.proofs.ShownLemmas.{one_shown, deeper_ends}
+use Rattle.sharc_mode.proofs.{Imports.{◌+◌, ◌≤◌, ◌∷◌, length, map, Option, Some, None, ap, sym, ◌∙◌, subst, arith, Mode, position_count, Targets, modes_of, Sharing, mode_of, view_row, view_sharing}, ShownLemmas.{one_shown, deeper_ends}}
 use Rattle.sharc_mode.proofs.shown.shown.Goals as goal
 
 pub loop-left-preserved : goal.loop-left-preserved

@@ -1,5 +1,4 @@
-use Rattle.std.proofs.Common.{◌≡◌, ◌+◌, ◌≤◌, ◌∷◌, ◌++◌, map, Some, None}
-use Rattle.sharc_mode.specs.{Moded.position_count, Rows.modes_of, Sharings.mode_of, View.view_row}
+use Rattle.sharc_mode.proofs.Imports.{◌≡◌, ◌+◌, ◌≤◌, ◌∷◌, ◌++◌, map, Some, None, position_count, modes_of, mode_of, view_row}
 use Rattle.sharc_mode.proofs.shown.shown.Given as goal
 
 abbrev pub invariant-loop-left : goal.invariant-loop-left

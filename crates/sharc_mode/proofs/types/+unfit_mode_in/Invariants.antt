@@ -1,4 +1,4 @@
-use Rattle.std.proofs.Common.{length}
+use Rattle.sharc_mode.proofs.Imports.{length}
 use Rattle.sharc_mode.proofs.types.+unfit_mode_in.Given as goal
 
 abbrev pub decreases-unfit_mode_in : goal.decreases-unfit_mode_in

@@ -1,4 +1,4 @@
-use Rattle.std.proofs.Common.{length}
+use Rattle.sharc_mode.proofs.Imports.{length}
 use Rattle.sharc_mode.proofs.types.+unfit_path_in.Given as goal
 
 abbrev pub decreases-unfit_path_in : goal.decreases-unfit_path_in

@@ -1,5 +1,4 @@
-use Rattle.std.proofs.lemmas.Map.Text.{hash_map_updates_str}
-use Rattle.sharc_names.proofs.FieldLemmas.{also_written}
+use Rattle.sharc_names.proofs.{Imports.hash_map_updates_str, FieldLemmas.also_written}
 use Rattle.sharc_names.proofs.fields.note_first.Goals as goal
 
 pub returns-clause-written : goal.returns-clause-written

@@ -1,6 +1,4 @@
-use Rattle.std.proofs.Common.{◌≡◌, ◌∷◌, [], ◌++◌, ap, sym, subst, ◌∙◌}
-use Rattle.sharc_names.specs.Seen.{HasFirstFields}
-use Rattle.sharc_names.proofs.FieldLemmas.{first_pushed}
+use Rattle.sharc_names.proofs.{Imports.{◌≡◌, ◌∷◌, [], ◌++◌, ap, sym, subst, ◌∙◌, HasFirstFields}, FieldLemmas.first_pushed}
 use Rattle.sharc_names.proofs.fields.push_field.Goals as goal
 
 pub returns-clause-first : goal.returns-clause-first

@@ -1,7 +1,4 @@
-use Rattle.std.proofs.{Common.{◌≡◌, ◌-◌, [], ◌∷◌, ◌++◌, ap, sym, subst, ◌∙◌, Some, get_or}, lemmas.Map.Text.hash_map_updates_str}
-use Rattle.std.specs.Option.{option_to_list}
-use Rattle.sharc_names.specs.Table.{IsKept}
-use Rattle.sharc_names.proofs.TableLemmas.{kept_pop}
+use Rattle.sharc_names.proofs.{Imports.{◌≡◌, ◌-◌, [], ◌∷◌, ◌++◌, ap, sym, subst, ◌∙◌, Some, get_or, hash_map_updates_str, option_to_list, IsKept}, TableLemmas.kept_pop}
 use Rattle.sharc_names.proofs.names.pop_name.Goals as goal
 
 pub returns-clause-kept : goal.returns-clause-kept

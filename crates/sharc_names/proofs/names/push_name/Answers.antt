@@ -1,6 +1,4 @@
-use Rattle.std.proofs.{Common.{◌≡◌, [], ◌∷◌, ◌++◌, ap, sym, subst, ◌∙◌}, lemmas.Map.Text.hash_map_updates_str}
-use Rattle.sharc_names.specs.{declared.names.Shadow.Shadow, Table.IsKept}
-use Rattle.sharc_names.proofs.TableLemmas.{kept_push}
+use Rattle.sharc_names.proofs.{Imports.{◌≡◌, [], ◌∷◌, ◌++◌, ap, sym, subst, ◌∙◌, hash_map_updates_str, Shadow, IsKept}, TableLemmas.kept_push}
 use Rattle.sharc_names.proofs.names.push_name.Goals as goal
 
 pub returns-clause-kept : goal.returns-clause-kept

@@ -1,5 +1,4 @@
-use Rattle.std.proofs.Common.{◌≡◌, drop, fold}
-use Rattle.sharc_names.specs.{Notes.noted, Seen.siblings_seen, Types.modes_notes}
+use Rattle.sharc_names.proofs.Imports.{◌≡◌, drop, fold, noted, siblings_seen, modes_notes}
 use Rattle.sharc_names.proofs.types.modes.Given as goal
 
 abbrev pub invariant-loop-level : goal.invariant-loop-level

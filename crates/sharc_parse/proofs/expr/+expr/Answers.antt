@@ -1,9 +1,6 @@
-use Rattle.std.proofs.Common.{◌≡◌, ◌+◌, sym, ap, ◌∙◌, subst, arith, ◌∷◌, [], rules, Result, Ok}
-use Rattle.sharc_parse.specs.{Grammar.{mark, name, access_mark}, Machine.{Want, Have, Called, At, right_of}, Limits.reads_within, Places.{site_in, size, front_size}, View.{bare, phrase_of, phrases_of}, declared.token.ReadingFault.ReadingFault, declared.token.ParsedExpr.ParsedExpr, declared.expr.Front.Front, Goes.{from, Builds, IsPlaced, bare_front, front_tree}}
+use Rattle.sharc_parse.proofs.{Imports.{◌≡◌, ◌+◌, sym, ap, ◌∙◌, subst, arith, ◌∷◌, [], rules, Result, Ok, mark, name, access_mark, Want, Have, Called, At, right_of, reads_within, site_in, size, front_size, bare, phrase_of, phrases_of, ReadingFault, ParsedExpr, ParsedFront as Front, from, Builds, IsPlaced, bare_front, front_tree, view_expr}, Steps.{longer, last_argument, next_argument, binary_read, binary_stands, field_stands, field_goes, access_goes, front_placed}}
 use Rattle.sharc_parse.specs.Machine as machine
 use Rattle.sharc_parse.specs.Limits as Limits
-use Rattle.sharc_tree.specs.View.{view_expr}
-use Rattle.sharc_parse.proofs.Steps.{longer, last_argument, next_argument, binary_read, binary_stands, field_stands, field_goes, access_goes, front_placed}
 use Rattle.sharc_parse.proofs.expr.+expr.Goals as goal
 
 pub arguments-returns-then-take-2-clause-reads : goal.arguments-returns-then-take-2-clause-reads

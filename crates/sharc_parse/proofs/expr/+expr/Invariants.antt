@@ -1,6 +1,4 @@
-use Rattle.std.proofs.Common.{◌≡◌, ℕ, List, [], false, ◌≤◌, ◌+◌, ◌-◌, length, ◌*◌}
-use Rattle.sharc_tree.specs.View.{view_arguments}
-use Rattle.sharc_parse.specs.{Machine.{Cont, Want, Have, Called, At, floor, grip}, Limits.{reads_within, depth, crowded, height, highest}, Places.{size, rest_size, site_in, arguments_at}, View.{phrase_of, phrases_of}, Goes.{from, NoCall, NoMalloc, LiesAtTokens}}
+use Rattle.sharc_parse.proofs.Imports.{◌≡◌, ℕ, List, [], false, ◌≤◌, ◌+◌, ◌-◌, length, ◌*◌, view_arguments, Cont, Want, Have, Called, At, floor, grip, reads_within, depth, crowded, height, highest, size, rest_size, site_in, arguments_at, phrase_of, phrases_of, from, NoCall, NoMalloc, LiesAtTokens}
 use Rattle.sharc_parse.specs.Machine as machine
 use Rattle.sharc_parse.proofs.expr.+expr.Given as goal
 

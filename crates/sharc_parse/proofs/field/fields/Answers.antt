@@ -1,7 +1,4 @@
-use Rattle.std.proofs.Common.{rules, ◌≡◌, ◌+◌, sym, subst, arith}
-use Rattle.sharc_parse.specs.{Grammar.mark, Goes.{from, Past, NotAt}}
-use Rattle.sharc_tree.specs.declared.token.Punctuator.TheVariants.{Semicolon, CloseBrace}
-use Rattle.sharc_parse.proofs.FieldSteps.{FieldsThere, one_field_more, fields_go_on}
+use Rattle.sharc_parse.proofs.{Imports.{rules, ◌≡◌, ◌+◌, sym, subst, arith, mark, from, Past, NotAt, Semicolon, CloseBrace}, FieldSteps.{FieldsThere, one_field_more, fields_go_on}}
 use Rattle.sharc_parse.proofs.field.fields.Goals as goal
 
 pub returns-then-take-clause-placed : goal.returns-then-take-clause-placed

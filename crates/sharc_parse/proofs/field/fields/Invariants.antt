@@ -1,5 +1,4 @@
-use Rattle.std.proofs.Common.{◌≤◌, length, ◌-◌}
-use Rattle.sharc_parse.proofs.FieldSteps.{FieldsSoFar}
+use Rattle.sharc_parse.proofs.{Imports.{◌≤◌, length, ◌-◌}, FieldSteps.FieldsSoFar}
 use Rattle.sharc_parse.proofs.field.fields.Given as goal
 
 abbrev pub invariant-loop-fields : goal.invariant-loop-fields

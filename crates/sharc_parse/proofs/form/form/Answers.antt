@@ -1,4 +1,4 @@
-use Rattle.std.proofs.Common.{rules, ◌≡◌, ◌+◌, sym, arith}
+use Rattle.sharc_parse.proofs.Imports.{rules, ◌≡◌, ◌+◌, sym, arith}
 use Rattle.sharc_parse.proofs.form.form.Goals as goal
 
 pub returns-then-take-2-clause-placed : goal.returns-then-take-2-clause-placed

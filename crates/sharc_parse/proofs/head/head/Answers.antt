@@ -1,7 +1,4 @@
-use Rattle.std.proofs.Common.{rules, ◌≡◌, sym, subst, Result, Ok, Err, Option, true, false}
-use Rattle.sharc_tree.specs.{declared.tree.expression.Expr.Expr, declared.tree.statement.ForFirst.ForFirst, declared.tree.statement.Simple.Simple, declared.token.Punctuator.TheVariants.OpenParenthesis}
-use Rattle.sharc_parse.specs.{Grammar.mark, declared.token.ReadingFault.ReadingFault, Goes.{from, Past}, Lines.{ReadsLine, IsLinePlaced}, Heads.{ReadsTail, IsTailPlaced, ReadsStep, IsStepPlaced, ReadsHead}}
-use Rattle.sharc_parse.proofs.HeadSteps.{head_test_wrong, head_step_wrong, head_done, head_placed}
+use Rattle.sharc_parse.proofs.{Imports.{rules, ◌≡◌, sym, subst, Result, Ok, Err, Option, true, false, Expr, ForFirst, Simple, OpenParenthesis, mark, ReadingFault, from, Past, ReadsLine, IsLinePlaced, ReadsTail, IsTailPlaced, ReadsStep, IsStepPlaced, ReadsHead}, HeadSteps.{head_test_wrong, head_step_wrong, head_done, head_placed}}
 use Rattle.sharc_parse.proofs.head.head.Goals as goal
 
 pub returns-in_err-first-2-clause-reads : goal.returns-in_err-first-2-clause-reads

@@ -1,6 +1,4 @@
-use Rattle.std.proofs.Common.{rules, Ok, None}
-use Rattle.sharc_parse.specs.Items.{OpensStruct}
-use Rattle.sharc_parse.proofs.ItemSteps.{item_named}
+use Rattle.sharc_parse.proofs.{Imports.{rules, Ok, None, OpensStruct}, ItemSteps.item_named}
 use Rattle.sharc_parse.proofs.item.item.Goals as goal
 
 pub returns-clause-reads : goal.returns-clause-reads

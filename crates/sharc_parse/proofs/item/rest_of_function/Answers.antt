@@ -1,7 +1,4 @@
-use Rattle.std.proofs.Common.{rules, ◌≡◌, sym, subst, Result, Ok, Err, Vec, Global}
-use Rattle.sharc_tree.specs.{declared.token.Punctuator.TheVariants.OpenBrace, declared.tree.declaration.Declaration.Declaration, declared.tree.statement.Stmt.Stmt}
-use Rattle.sharc_parse.specs.{Grammar.mark, declared.token.ReadingFault.ReadingFault, View.bare_type, Goes.{from, Past}, Nested.ReadsStatements, Parameters.ReadsParameters, Items.ReadsFunction}
-use Rattle.sharc_parse.proofs.ItemSteps.{function_wrong, function_read}
+use Rattle.sharc_parse.proofs.{Imports.{rules, ◌≡◌, sym, subst, Result, Ok, Err, Vec, Global, OpenBrace, Declaration, Stmt, mark, ReadingFault, bare_type, from, Past, ReadsStatements, ReadsParameters, ReadsFunction}, ItemSteps.{function_wrong, function_read}}
 use Rattle.sharc_parse.proofs.item.rest_of_function.Goals as goal
 
 pub returns-in_err-result-clause-reads : goal.returns-in_err-result-clause-reads

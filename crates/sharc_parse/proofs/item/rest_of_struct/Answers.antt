@@ -1,7 +1,4 @@
-use Rattle.std.proofs.Common.{rules, ◌≡◌, ◌+◌, arith, subst}
-use Rattle.sharc_tree.specs.declared.tree.declaration.Identifier.{Identifier}
-use Rattle.sharc_parse.specs.{Places.{site_in, fields_size, declarations_at, name_at}, Fields.declared}
-use Rattle.sharc_parse.proofs.ItemSteps.{struct_stands}
+use Rattle.sharc_parse.proofs.{Imports.{rules, ◌≡◌, ◌+◌, arith, subst, Identifier, site_in, fields_size, declarations_at, name_at, declared}, ItemSteps.struct_stands}
 use Rattle.sharc_parse.proofs.item.rest_of_struct.Goals as goal
 
 pub returns-clause-placed : goal.returns-clause-placed

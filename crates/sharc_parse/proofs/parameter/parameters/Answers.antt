@@ -1,7 +1,4 @@
-use Rattle.std.proofs.Common.{rules, ◌≡◌, sym, subst, Err, Vec, Global}
-use Rattle.sharc_parse.specs.{Grammar.mark, Goes.{from, Past}, Parameters.ReadsParameters}
-use Rattle.sharc_tree.specs.{declared.token.Punctuator.TheVariants.{Comma, CloseParenthesis}, declared.tree.declaration.Declaration.Declaration}
-use Rattle.sharc_parse.proofs.ParameterSteps.{given_wrong, given_stand}
+use Rattle.sharc_parse.proofs.{Imports.{rules, ◌≡◌, sym, subst, Err, Vec, Global, mark, from, Past, ReadsParameters, Comma, CloseParenthesis, Declaration}, ParameterSteps.{given_wrong, given_stand}}
 use Rattle.sharc_parse.proofs.parameter.parameters.Goals as goal
 
 pub returns-in_err-parameter-2-clause-reads : goal.returns-in_err-parameter-2-clause-reads

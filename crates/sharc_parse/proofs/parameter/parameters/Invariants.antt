@@ -1,5 +1,4 @@
-use Rattle.std.proofs.Common.{◌≤◌, length, ◌-◌}
-use Rattle.sharc_parse.proofs.ParameterSteps.{GivenSoFar}
+use Rattle.sharc_parse.proofs.{Imports.{◌≤◌, length, ◌-◌}, ParameterSteps.GivenSoFar}
 use Rattle.sharc_parse.proofs.parameter.parameters.Given as goal
 
 abbrev pub invariant-loop-alloc : goal.invariant-loop-alloc

@@ -1,5 +1,4 @@
-use Rattle.std.proofs.Common.{◌-◌, arith}
-use Rattle.sharc_parse.proofs.PlainSteps.{return_placed}
+use Rattle.sharc_parse.proofs.{Imports.{◌-◌, arith}, PlainSteps.return_placed}
 use Rattle.sharc_parse.proofs.plain.rest_of_return.Goals as goal
 
 pub returns-clause-placed : goal.returns-clause-placed

@@ -1,5 +1,4 @@
-use Rattle.std.proofs.Common.{rules}
-use Rattle.sharc_parse.proofs.ProgramSteps.{one_item_more, item_fails}
+use Rattle.sharc_parse.proofs.{Imports.rules, ProgramSteps.{one_item_more, item_fails}}
 use Rattle.sharc_parse.proofs.program.items.Goals as goal
 
 pub returns-in_err-item-clause-reads : goal.returns-in_err-item-clause-reads

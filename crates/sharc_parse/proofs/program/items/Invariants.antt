@@ -1,5 +1,4 @@
-use Rattle.std.proofs.Common.{◌≤◌, length, ◌-◌}
-use Rattle.sharc_parse.proofs.ProgramSteps.{ItemsSoFar}
+use Rattle.sharc_parse.proofs.{Imports.{◌≤◌, length, ◌-◌}, ProgramSteps.ItemsSoFar}
 use Rattle.sharc_parse.proofs.program.items.Given as goal
 
 abbrev pub invariant-loop-at : goal.invariant-loop-at

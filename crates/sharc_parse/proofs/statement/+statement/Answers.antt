@@ -1,8 +1,4 @@
-use Rattle.std.proofs.Common.{rules, ◌≡◌, ◌<◌, ◌+◌, ◌-◌, arith, sym, subst, Global}
-use Rattle.std.specs.Prelude.{Result, Ok, Err, true, Vec}
-use Rattle.sharc_tree.specs.{declared.tree.expression.Expr.Expr, declared.tree.statement.ForHead.ForHead, declared.tree.statement.Stmt.Stmt, Tree.{if_then, if_then_else, while, for}, View.{view_expr, view_stmt, view_head}, declared.token.Punctuator.TheVariants.OpenBrace}
-use Rattle.sharc_parse.specs.{declared.token.ReadingFault.ReadingFault, Words.IsConditionPlaced, View.phrase_of, Goes.{from, Past}, Lines.is_yes, Heads.{head_of, IsHeadPlaced}, Statements.{sentence_of, ReadsStatement, IsStatementPlaced}, Grammar.{mark, for_of}, Places.{site_in, size, sentence_size, opening_size, expression_at, statement_at}}
-use Rattle.sharc_parse.proofs.NestedSteps.{rest_placed, if_stands, else_stands, while_stands, for_stands, block_wrong, block_reads, one_statement_more}
+use Rattle.sharc_parse.proofs.{Imports.{rules, ◌≡◌, ◌<◌, ◌+◌, ◌-◌, arith, sym, subst, Global, Result, Ok, Err, true, Vec, Expr, ForHead, Stmt, if_then, if_then_else, while, for, view_expr, view_stmt, view_head, OpenBrace, ReadingFault, IsConditionPlaced, phrase_of, from, Past, is_yes, head_of, IsHeadPlaced, sentence_of, ReadsStatement, IsStatementPlaced, mark, for_of, site_in, size, sentence_size, opening_size, expression_at, statement_at}, NestedSteps.{rest_placed, if_stands, else_stands, while_stands, for_stands, block_wrong, block_reads, one_statement_more}}
 use Rattle.sharc_parse.proofs.statement.+statement.Goals as goal
 
 pub rest_of_if-returns-clause-placed : goal.rest_of_if-returns-clause-placed

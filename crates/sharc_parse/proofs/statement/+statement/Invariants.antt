@@ -1,5 +1,4 @@
-use Rattle.std.proofs.Common.{◌≤◌, ◌+◌, ◌-◌, length, ◌*◌}
-use Rattle.sharc_parse.proofs.NestedSteps.{StatementsSoFar}
+use Rattle.sharc_parse.proofs.{Imports.{◌≤◌, ◌+◌, ◌-◌, length, ◌*◌}, NestedSteps.StatementsSoFar}
 use Rattle.sharc_parse.proofs.statement.+statement.Given as goal
 
 abbrev pub decreases-statement : goal.decreases-statement

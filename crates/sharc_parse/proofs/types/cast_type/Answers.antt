@@ -1,7 +1,4 @@
-use Rattle.std.proofs.Common.{rules, ◌≡◌, sym, subst, Err}
-use Rattle.sharc_parse.specs.{Grammar.mark, declared.token.ReadingFault.TheVariants.Wrong, Goes.{from, Past, NotAt}, Types.ReadsCast}
-use Rattle.sharc_tree.specs.declared.token.Punctuator.TheVariants.{OpenParenthesis, Comma}
-use Rattle.sharc_parse.proofs.TypeSteps.{cast_missed}
+use Rattle.sharc_parse.proofs.{Imports.{rules, ◌≡◌, sym, subst, Err, mark, Wrong, from, Past, NotAt, ReadsCast, OpenParenthesis, Comma}, TypeSteps.cast_missed}
 use Rattle.sharc_parse.proofs.types.cast_type.Goals as goal
 
 pub returns-in_err-written-2-clause-reads : goal.returns-in_err-written-2-clause-reads

@@ -1,4 +1,4 @@
-use Rattle.std.proofs.Common.{rules, ◌≡◌, ◌+◌, ap, sym, Some}
+use Rattle.sharc_parse.proofs.Imports.{rules, ◌≡◌, ◌+◌, ap, sym, Some}
 use Rattle.sharc_parse.proofs.types.mode.Goals as goal
 
 pub returns-clause-placed : goal.returns-clause-placed

@@ -1,7 +1,4 @@
-use Rattle.std.proofs.Common.{rules, ◌≡◌, ◌<◌, length, sym, subst, Err}
-use Rattle.sharc_parse.specs.{Grammar.mark, Goes.{Past, from}, Types.{may_stand, ReadsType}}
-use Rattle.sharc_tree.specs.declared.token.Punctuator.TheVariants.{Star}
-use Rattle.sharc_parse.proofs.TypeSteps.{levels_more, level_wrong}
+use Rattle.sharc_parse.proofs.{Imports.{rules, ◌≡◌, ◌<◌, length, sym, subst, Err, mark, Past, from, may_stand, ReadsType, Star}, TypeSteps.{levels_more, level_wrong}}
 use Rattle.sharc_parse.proofs.types.written_type.Goals as goal
 
 pub returns-in_err-above-clause-reads : goal.returns-in_err-above-clause-reads

@@ -1,6 +1,4 @@
-use Rattle.std.proofs.Common.{◌≤◌, length, ◌-◌}
-use Rattle.sharc_parse.specs.Types.{may_stand}
-use Rattle.sharc_parse.proofs.TypeSteps.{SoFar}
+use Rattle.sharc_parse.proofs.{Imports.{◌≤◌, length, ◌-◌, may_stand}, TypeSteps.SoFar}
 use Rattle.sharc_parse.proofs.types.written_type.Given as goal
 
 abbrev pub invariant-loop-levels : goal.invariant-loop-levels

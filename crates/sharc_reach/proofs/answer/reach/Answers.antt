@@ -1,9 +1,4 @@
-use Rattle.std.proofs.Common.{◌≡◌, None, length, map, fold, replicate, ap, sym, ◌∙◌, subst, arith}
-use Rattle.std.specs.List.{filter_map, All}
-use Rattle.sharc_graph.specs.Paths.{graph_of, IsWithin, AreFindings}
-use Rattle.sharc_ctype.specs.Resolved.{globals_in}
-use Rattle.sharc_reach.specs.{Firsts.lowered_by, Graphs.{is_found, is_source, quiet_node, marked_by, edge_of_mention}, Mentions.mentions_below}
-use Rattle.sharc_reach.proofs.{FirstLemmas.all_reached, PathLemmas.{call_edges, function_nodes, nodes_size, edges_within}}
+use Rattle.sharc_reach.proofs.{Imports.{◌≡◌, None, length, map, fold, replicate, ap, sym, ◌∙◌, subst, arith, filter_map, All, graph_of, IsWithin, AreFindings, globals_in, lowered_by, is_found, is_source, quiet_node, marked_by, edge_of_mention, mentions_below}, FirstLemmas.all_reached, PathLemmas.{call_edges, function_nodes, nodes_size, edges_within}}
 use Rattle.sharc_reach.proofs.answer.reach.Goals as goal
 
 pub find-requires-clause-few_nodes : goal.find-requires-clause-few_nodes

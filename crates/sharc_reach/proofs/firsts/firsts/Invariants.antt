@@ -1,5 +1,4 @@
-use Rattle.std.proofs.Common.{◌≡◌, None, drop, fold, replicate}
-use Rattle.sharc_reach.specs.Firsts.{lowered_by}
+use Rattle.sharc_reach.proofs.Imports.{◌≡◌, None, drop, fold, replicate, lowered_by}
 use Rattle.sharc_reach.proofs.firsts.firsts.Given as goal
 
 abbrev pub invariant-loop-mention : goal.invariant-loop-mention

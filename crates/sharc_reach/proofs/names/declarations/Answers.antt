@@ -1,7 +1,4 @@
-use Rattle.std.proofs.Common.{◌++◌}
-use Rattle.sharc_tree.specs.Marks.{declarations_marks}
-use Rattle.sharc_reach.specs.Mentions.{names}
-use Rattle.sharc_reach.proofs.NameLemmas.{names_declared}
+use Rattle.sharc_reach.proofs.{Imports.{◌++◌, declarations_marks, names}, NameLemmas.names_declared}
 use Rattle.sharc_reach.proofs.names.declarations.Goals as goal
 
 pub loop-one-preserved : goal.loop-one-preserved

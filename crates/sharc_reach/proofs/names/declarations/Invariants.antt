@@ -1,6 +1,4 @@
-use Rattle.std.proofs.Common.{◌≡◌, ◌++◌, drop}
-use Rattle.sharc_tree.specs.Marks.{declarations_marks}
-use Rattle.sharc_reach.specs.Mentions.{names}
+use Rattle.sharc_reach.proofs.Imports.{◌≡◌, ◌++◌, drop, declarations_marks, names}
 use Rattle.sharc_reach.proofs.names.declarations.Given as goal
 
 abbrev pub invariant-loop-one : goal.invariant-loop-one

@@ -1,6 +1,4 @@
-use Rattle.std.proofs.Common.{◌-◌, arith}
-use Rattle.sharc_tree.specs.Marks.{base_marks}
-use Rattle.sharc_reach.proofs.NameLemmas.{names_higher}
+use Rattle.sharc_reach.proofs.{Imports.{◌-◌, arith, base_marks}, NameLemmas.names_higher}
 use Rattle.sharc_reach.proofs.names.type_names.Goals as goal
 
 pub loop-above-preserved : goal.loop-above-preserved

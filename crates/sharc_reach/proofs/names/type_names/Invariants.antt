@@ -1,6 +1,4 @@
-use Rattle.std.proofs.Common.{◌≡◌, ◌++◌, ◌≤◌, drop, length}
-use Rattle.sharc_tree.specs.Marks.{base_marks, levels_marks}
-use Rattle.sharc_reach.specs.Mentions.{names}
+use Rattle.sharc_reach.proofs.Imports.{◌≡◌, ◌++◌, ◌≤◌, drop, length, base_marks, levels_marks, names}
 use Rattle.sharc_reach.proofs.names.type_names.Given as goal
 
 abbrev pub invariant-loop-above : goal.invariant-loop-above

@@ -1,5 +1,4 @@
-use Rattle.std.proofs.Common.{◌≡◌, drop, fold, replicate}
-use Rattle.sharc_reach.specs.Graphs.{quiet_node, marked_by}
+use Rattle.sharc_reach.proofs.Imports.{◌≡◌, drop, fold, replicate, quiet_node, marked_by}
 use Rattle.sharc_reach.proofs.sources.nodes.Given as goal
 
 abbrev pub invariant-loop-mention : goal.invariant-loop-mention

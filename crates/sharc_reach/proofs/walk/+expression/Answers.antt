@@ -1,6 +1,4 @@
-use Rattle.std.proofs.Common.{◌≡◌, [], ◌∷◌, ◌++◌, ap, sym, ◌∙◌, OnOk, subst, append_assoc}
-use Rattle.sharc_tree.specs.{Children.view_call, View.{view_expr, view_arguments}}
-use Rattle.sharc_reach.specs.{declared.mention.NameUse.TheVariants.Called, Mentions.{mention, mentions, mentions_of_all}}
+use Rattle.sharc_reach.proofs.Imports.{◌≡◌, [], ◌∷◌, ◌++◌, ap, sym, ◌∙◌, OnOk, subst, append_assoc, view_call, view_expr, view_arguments, Called, mention, mentions, mentions_of_all}
 use Rattle.sharc_reach.proofs.walk.+expression.Goals as goal
 
 pub expression-returns-in_ok-add-in-Call : goal.expression-returns-in_ok-add-in-Call

@@ -1,6 +1,4 @@
-use Rattle.std.proofs.Common.{◌≡◌, ◌++◌, drop}
-use Rattle.sharc_tree.specs.View.{view_arguments}
-use Rattle.sharc_reach.specs.Mentions.{mentions_of_all}
+use Rattle.sharc_reach.proofs.Imports.{◌≡◌, ◌++◌, drop, view_arguments, mentions_of_all}
 use Rattle.sharc_reach.proofs.walk.+expression.Given as goal
 
 abbrev pub invariant-arguments-loop-expr : goal.invariant-arguments-loop-expr

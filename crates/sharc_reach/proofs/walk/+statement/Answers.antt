@@ -1,6 +1,4 @@
-use Rattle.std.proofs.Common.{◌≡◌, ◌++◌, ap, sym, ◌∙◌, OnOk, subst}
-use Rattle.sharc_tree.specs.{Children.view_block, View.{view_stmt, view_statements}}
-use Rattle.sharc_reach.specs.Mentions.{statement_mentions, statements_mentions}
+use Rattle.sharc_reach.proofs.Imports.{◌≡◌, ◌++◌, ap, sym, ◌∙◌, OnOk, subst, view_block, view_stmt, view_statements, statement_mentions, statements_mentions}
 use Rattle.sharc_reach.proofs.walk.+statement.Goals as goal
 
 pub statement-returns-in-Block : goal.statement-returns-in-Block

@@ -1,6 +1,4 @@
-use Rattle.std.proofs.Common.{◌≡◌, ◌++◌, drop}
-use Rattle.sharc_tree.specs.View.{view_statements}
-use Rattle.sharc_reach.specs.Mentions.{statements_mentions}
+use Rattle.sharc_reach.proofs.Imports.{◌≡◌, ◌++◌, drop, view_statements, statements_mentions}
 use Rattle.sharc_reach.proofs.walk.+statement.Given as goal
 
 abbrev pub invariant-statements-loop-stmt : goal.invariant-statements-loop-stmt

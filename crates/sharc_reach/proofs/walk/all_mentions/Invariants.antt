@@ -1,5 +1,4 @@
-use Rattle.std.proofs.Common.{◌≡◌}
-use Rattle.sharc_reach.specs.Mentions.{mentions_below}
+use Rattle.sharc_reach.proofs.Imports.{◌≡◌, mentions_below}
 use Rattle.sharc_reach.proofs.walk.all_mentions.Given as goal
 
 abbrev pub invariant-loop-function : goal.invariant-loop-function

@@ -1,6 +1,4 @@
-use Rattle.std.proofs.Common.{◌≡◌, ℕ, Some, sym, ap, ◌∙◌, subst, arith}
-use Rattle.sharc_record.specs.{Shared.{SeatView, PortView, NamesTell}, Round.HasRun}
-use Rattle.sharc_record.proofs.Running.{idle, ran, widened}
+use Rattle.sharc_record.proofs.{Imports.{◌≡◌, ℕ, Some, sym, ap, ◌∙◌, subst, arith, SeatView, PortView, NamesTell, HasRun}, Running.{idle, ran, widened}}
 use Rattle.sharc_record.proofs.hand.run_thread.Goals as goal
 
 pub returns-then-not-is_on : goal.returns-then-not-is_on

@@ -1,7 +1,4 @@
-use Rattle.std.proofs.Common.{ℕ, List, sym, subst}
-use Rattle.sharc_schedule.specs.{File.{ArePlaces, written}, Schedule.Stored}
-use Rattle.sharc_seq.specs.Run.{IsSeqRun}
-use Rattle.sharc_record.specs.Laws.{file_of}
+use Rattle.sharc_record.proofs.Imports.{ℕ, List, sym, subst, ArePlaces, written, Stored, IsSeqRun, file_of}
 use Rattle.sharc_record.proofs.laws.record_laws.Goals as goal
 
 pub returns : goal.returns

@@ -1,8 +1,5 @@
 -- Each turn leaves the seat of one port, and the rest has the parts of the later ones.
-use Rattle.std.proofs.Common.{◌≡◌, ◌≢◌, ℕ, suc, ◌+◌, ◌-◌, ◌<◌, List, [], ◌∷◌, ◌++◌, length, refl, sym, ap, ◌∙◌, arith}
-use Rattle.atomic_table.specs.Table.{Me}
-use Rattle.sharc_record.specs.{declared.rule.Part.Part, declared.rule.Turn.TheVariants.Idle, declared.rule.View.View, Rule.{Slot, IsAmong, unbegun, idle, first_of, others_of}, Shared.SeatView, Table.{seat_view, seats_with}}
-use Rattle.sharc_record.proofs.{Seats.{among_unbegun, split_allowed}, Giving.{rest_is, given_more}}
+use Rattle.sharc_record.proofs.{Imports.{◌≡◌, ◌≢◌, ℕ, suc, ◌+◌, ◌-◌, ◌<◌, List, [], ◌∷◌, ◌++◌, length, refl, sym, ap, ◌∙◌, arith, Me, Part, Idle, View, Slot, IsAmong, unbegun, idle, first_of, others_of, SeatView, seat_view, seats_with}, Seats.{among_unbegun, split_allowed}, Giving.{rest_is, given_more}}
 use Rattle.sharc_record.proofs.parts.give_seats.Goals as goal
 
 abbrev M : Type 0

@@ -1,5 +1,4 @@
-use Rattle.std.proofs.Common.{◌≡◌, suc, ◌-◌, [], ◌++◌, length}
-use Rattle.sharc_record.specs.{declared.rule.Turn.TheVariants.Idle, Rule.unbegun, Table.seats_with}
+use Rattle.sharc_record.proofs.Imports.{◌≡◌, suc, ◌-◌, [], ◌++◌, length, Idle, unbegun, seats_with}
 use Rattle.sharc_record.proofs.parts.give_seats.Given as goal
 
 -- the rest has the parts of the ports from the number on, and the others' seats are in the list

@@ -1,8 +1,5 @@
 -- The seat takes in the parts of those that are popped.
-use Rattle.std.proofs.Common.{◌≡◌, ◌<◌, List, [], ◌∷◌, ◌++◌, All, refl, sym, ap, ◌∙◌, subst, append_assoc, inl, arith}
-use Rattle.atomic_table.specs.Table.{Me}
-use Rattle.sharc_record.specs.{declared.rule.Part.Part, declared.rule.View.View, Rule.Slot, Shared.SeatView, Table.{HasAll, part_of}}
-use Rattle.sharc_record.proofs.{Members.among_right, Seats.join_allowed, Closing.{all_left, all_last, has_more}}
+use Rattle.sharc_record.proofs.{Imports.{◌≡◌, ◌<◌, List, [], ◌∷◌, ◌++◌, All, refl, sym, ap, ◌∙◌, subst, append_assoc, inl, arith, Me, Part, View, Slot, SeatView, HasAll, part_of}, Members.among_right, Seats.join_allowed, Closing.{all_left, all_last, has_more}}
 use Rattle.sharc_record.proofs.parts.take_seats.Goals as goal
 
 abbrev M : Type 0

@@ -1,5 +1,4 @@
-use Rattle.std.proofs.Common.{◌≡◌, List, ◌++◌, All, vec_len}
-use Rattle.sharc_record.specs.{declared.rule.Turn.TheVariants.Idle, Shared.SeatView, Table.HasAll}
+use Rattle.sharc_record.proofs.Imports.{◌≡◌, List, ◌++◌, All, vec_len, Idle, SeatView, HasAll}
 use Rattle.sharc_record.proofs.parts.take_seats.Given as goal
 
 -- the parts of the seats that were taken are together

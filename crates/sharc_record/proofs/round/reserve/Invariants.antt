@@ -1,5 +1,4 @@
-use Rattle.std.proofs.Common.{◌≡◌, ℕ, ◌<◌, ◌≤◌, None, length, get_or}
-use Rattle.sharc_record.specs.Round.{HasRoomAt}
+use Rattle.sharc_record.proofs.Imports.{◌≡◌, ℕ, ◌<◌, ◌≤◌, None, length, get_or, HasRoomAt}
 use Rattle.sharc_record.proofs.round.reserve.Given as goal
 
 abbrev pub invariant-loop-n : goal.invariant-loop-n

@@ -1,6 +1,4 @@
-use Rattle.std.proofs.Common.{◌≡◌, ℕ, List, None, true, false, get_or, subst}
-use Rattle.sharc_code.specs.Whole.{place_after}
-use Rattle.sharc_threads.specs.{Ends.Standing, Seats.may_turn_at}
+use Rattle.sharc_record.proofs.Imports.{◌≡◌, ℕ, List, None, true, false, get_or, subst, place_after, Standing, may_turn_at}
 use Rattle.sharc_record.proofs.run.record_run.Goals as goal
 
 pub any_may_turn-requires : goal.any_may_turn-requires

@@ -1,5 +1,4 @@
-use Rattle.sharc_threads.specs.Seats.{left}
-use Rattle.sharc_record.specs.Round.{AreRounds}
+use Rattle.sharc_record.proofs.Imports.{left, AreRounds}
 use Rattle.sharc_record.proofs.run.record_run.Given as goal
 
 abbrev pub invariant-rounds : goal.invariant-rounds

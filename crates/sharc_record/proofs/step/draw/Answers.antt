@@ -1,5 +1,4 @@
-use Rattle.sharc_record.proofs.Drawing.{draw_allowed}
-use Rattle.std.proofs.Common.{◌<◌, arith}
+use Rattle.sharc_record.proofs.{Imports.{◌<◌, arith}, Drawing.draw_allowed}
 use Rattle.sharc_record.proofs.step.draw.Goals as goal
 
 pub fetch_add-requires : goal.fetch_add-requires

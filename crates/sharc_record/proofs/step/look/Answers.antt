@@ -1,9 +1,5 @@
 -- Where the ticket is served, the step reported that the seat has the turn, and else that nothing changed.
-use Rattle.std.proofs.{Common.{◌≡◌, ◌≢◌, ℕ, ◌<◌, arith, length, ⊎_elim, inl, refl, subst, sym, ◌∙◌}, lemmas.Bool.{eqb-true, eqb-false}}
-use Rattle.std.specs.Prelude.{Some}
-use Rattle.atomic_table.specs.Table.{Me}
-use Rattle.sharc_record.specs.{declared.journal.Journal.Journal, declared.rule.Part.Part, declared.rule.View.View, Rule.{Slot, waiting, having, Looked}}
-use Rattle.sharc_record.proofs.Looking.{look_allowed}
+use Rattle.sharc_record.proofs.{Imports.{◌≡◌, ◌≢◌, ℕ, ◌<◌, arith, length, ⊎_elim, inl, refl, subst, sym, ◌∙◌, eqb-true, eqb-false, Some, Me, Journal, Part, View, Slot, waiting, having, Looked}, Looking.look_allowed}
 use Rattle.sharc_record.proofs.step.look.Goals as goal
 
 pub load-requires : goal.load-requires

@@ -1,8 +1,5 @@
 -- The part goes through the four steps.
-use Rattle.std.proofs.Common.{◌≡◌, ap, ◌∙◌, sym, subst}
-use Rattle.atomic_table.specs.Table.{Me}
-use Rattle.sharc_record.specs.{declared.rule.Part.Part, declared.rule.View.View, Rule.Slot, Table.Made}
-use Rattle.sharc_record.proofs.Kept.{one_part}
+use Rattle.sharc_record.proofs.{Imports.{◌≡◌, ap, ◌∙◌, sym, subst, Me, Part, View, Slot, Made}, Kept.one_part}
 use Rattle.sharc_record.proofs.step.make_step.Goals as goal
 
 pub wait-requires-clause-waits : goal.wait-requires-clause-waits

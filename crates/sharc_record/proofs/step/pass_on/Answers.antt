@@ -1,6 +1,4 @@
-use Rattle.std.proofs.Common.{◌<◌, arith, ◌∙◌, ap}
-use Rattle.sharc_record.specs.Rule.{passed}
-use Rattle.sharc_record.proofs.Passing.{pass_allowed, passed_is}
+use Rattle.sharc_record.proofs.{Imports.{◌<◌, arith, ◌∙◌, ap, passed}, Passing.{pass_allowed, passed_is}}
 use Rattle.sharc_record.proofs.step.pass_on.Goals as goal
 
 pub fetch_add-requires : goal.fetch_add-requires

@@ -1,4 +1,4 @@
-use Rattle.std.proofs.Common.{◌∙◌}
+use Rattle.sharc_record.proofs.Imports.{◌∙◌}
 use Rattle.sharc_record.proofs.step.wait.Goals as goal
 
 pub returns-then-look-clause-turn : goal.returns-then-look-clause-turn

@@ -1,4 +1,4 @@
-use Rattle.std.proofs.Common.{◌≡◌}
+use Rattle.sharc_record.proofs.Imports.{◌≡◌}
 use Rattle.sharc_record.proofs.step.wait.Given as goal
 
 -- the ticket is not served yet

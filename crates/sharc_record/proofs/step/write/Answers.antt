@@ -1,8 +1,5 @@
 -- The journal that is taken out of the slot is the one that the seat found.
-use Rattle.std.proofs.Common.{◌≡◌, ℕ, ◌<◌, List, [], ◌∷◌, length, ap, ◌∙◌, sym, subst}
-use Rattle.std.specs.Prelude.{Some, None}
-use Rattle.atomic_table.specs.Table.{Me, rest}
-use Rattle.sharc_record.specs.{declared.journal.Journal.Journal, declared.rule.Part.Part, declared.rule.View.View, Rule.{Slot, having}, Table.Made}
+use Rattle.sharc_record.proofs.Imports.{◌≡◌, ℕ, ◌<◌, List, [], ◌∷◌, length, ap, ◌∙◌, sym, subst, Some, None, Me, rest, Journal, Part, View, Slot, having, Made}
 use Rattle.sharc_record.proofs.step.write.Goals as goal
 
 abbrev first_of : List (ℕ × Slot) → Slot

@@ -1,11 +1,5 @@
-use Rattle.std.proofs.{Common.{◌≡◌, ◌<◌, ◌%◌, ◌+◌, List, length, Some, get_or, set, refl, sym, ap, ◌∙◌, subst, arith, below_more}, lemmas.Nat.mod_below, lemmas.List.length-set}
-use Rattle.std.specs.Vec.{with_item}
-use Rattle.sharc_word.specs.declared.step.TheConstants.{THREADS}
-use Rattle.sharc_record.specs.{Shared.SeatView, declared.hand.Hand.Hand, declared.worker.Worker.Worker, Round.hand_at}
-use Rattle.sharc_rounds.specs.Round.{Seat}
-use Rattle.sharc_record.proofs.Dealing.{put_same, put_other, lengths, drawn, drawn_rest, drawn_length}
+use Rattle.sharc_record.proofs.{Imports.{◌≡◌, ◌<◌, ◌%◌, ◌+◌, List, length, Some, get_or, set, refl, sym, ap, ◌∙◌, subst, arith, below_more, mod_below, length-set, with_item, THREADS, SeatView, Hand, Worker, hand_at, Seat, same_some, one_of_two}, Dealing.{put_same, put_other, lengths, drawn, drawn_rest, drawn_length}}
 use Rattle.sharc_record.proofs.worker.deal.Goals as goal
-use Rattle.sharc_lemmas.proofs.{Options.same_some, Numbers.one_of_two}
 
 pub loop-seat-preserved : goal.loop-seat-preserved
 loop-seat-preserved c =

@@ -1,7 +1,4 @@
-use Rattle.std.proofs.Common.{◌≡◌, ◌<◌, ◌≤◌, ◌%◌, ◌+◌, ℕ, length, Some, get_or}
-use Rattle.sharc_word.specs.declared.step.TheConstants.{THREADS}
-use Rattle.sharc_record.specs.{Shared.SeatView, declared.hand.Hand.Hand, declared.worker.Worker.Worker, Round.hand_at}
-use Rattle.sharc_rounds.specs.Round.{Seat}
+use Rattle.sharc_record.proofs.Imports.{◌≡◌, ◌<◌, ◌≤◌, ◌%◌, ◌+◌, ℕ, length, Some, get_or, THREADS, SeatView, Hand, Worker, hand_at, Seat}
 use Rattle.sharc_record.proofs.worker.deal.Given as goal
 
 abbrev pub invariant-loop-seat : goal.invariant-loop-seat

@@ -1,10 +1,5 @@
-use Rattle.std.proofs.{Common.{◌≡◌, ◌<◌, ◌%◌, length, Some, None, get_or, set, refl, sym, ap, ◌∙◌, arith}, lemmas.Nat.mod_below, lemmas.List.length-set}
-use Rattle.std.specs.{Prelude.is_some, Vec.with_item}
-use Rattle.sharc_record.specs.{Shared.SeatView, declared.worker.Worker.Worker, Round.hand_at}
-use Rattle.sharc_rounds.specs.Round.{Seat}
-use Rattle.sharc_record.proofs.Dealing.{put_other}
+use Rattle.sharc_record.proofs.{Imports.{◌≡◌, ◌<◌, ◌%◌, length, Some, None, get_or, set, refl, sym, ap, ◌∙◌, arith, mod_below, length-set, is_some, with_item, SeatView, Worker, hand_at, Seat, any_default, some_within, pushed}, Dealing.put_other}
 use Rattle.sharc_record.proofs.worker.gather.Goals as goal
-use Rattle.sharc_lemmas.proofs.Lists.{any_default, some_within, pushed}
 
 pub index_mut-requires-in-loop-n : goal.index_mut-requires-in-loop-n
 index_mut-requires-in-loop-n c =

@@ -1,7 +1,4 @@
-use Rattle.std.proofs.Common.{◌≡◌, ℕ, ◌<◌, ◌≤◌, ◌%◌, Some, length, get_or}
-use Rattle.sharc_word.specs.declared.step.TheConstants.{THREADS}
-use Rattle.sharc_record.specs.{Shared.SeatView, declared.worker.Worker.Worker, Round.hand_at}
-use Rattle.sharc_rounds.specs.Round.{Seat}
+use Rattle.sharc_record.proofs.Imports.{◌≡◌, ℕ, ◌<◌, ◌≤◌, ◌%◌, Some, length, get_or, THREADS, SeatView, Worker, hand_at, Seat}
 use Rattle.sharc_record.proofs.worker.gather.Given as goal
 
 abbrev pub invariant-loop-n : goal.invariant-loop-n

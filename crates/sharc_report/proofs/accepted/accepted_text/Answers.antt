@@ -1,7 +1,4 @@
-use Rattle.std.proofs.Common.{◌++◌, ap, ◌∙◌}
-use Rattle.std.specs.List.{flat_map}
-use Rattle.sharc_report.specs.Verdicts.{warning_line}
-use Rattle.sharc_report.proofs.TextLemmas.{one_more}
+use Rattle.sharc_report.proofs.{Imports.{◌++◌, ap, ◌∙◌, flat_map, warning_line}, TextLemmas.one_more}
 use Rattle.sharc_report.proofs.accepted.accepted_text.Goals as goal
 
 pub loop-warning-preserved : goal.loop-warning-preserved

@@ -1,6 +1,4 @@
-use Rattle.std.proofs.Common.{◌≡◌, ◌++◌, drop}
-use Rattle.std.specs.List.{flat_map}
-use Rattle.sharc_report.specs.Verdicts.{warning_line}
+use Rattle.sharc_report.proofs.Imports.{◌≡◌, ◌++◌, drop, flat_map, warning_line}
 use Rattle.sharc_report.proofs.accepted.accepted_text.Given as goal
 
 abbrev pub invariant-loop-warning : goal.invariant-loop-warning

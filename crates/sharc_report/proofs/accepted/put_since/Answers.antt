@@ -1,8 +1,5 @@
-use Rattle.std.proofs.Common.{◌++◌, codes}
-use Rattle.sharc_report.specs.Places.{site_text}
-use Rattle.sharc_report.proofs.TextLemmas.{three}
+use Rattle.sharc_report.proofs.{Imports.{◌++◌, codes, site_text, taken}, TextLemmas.three}
 use Rattle.sharc_report.proofs.accepted.put_since.Goals as goal
-use Rattle.sharc_lemmas.proofs.Lists.{taken}
 
 pub returns : goal.returns
 returns c =

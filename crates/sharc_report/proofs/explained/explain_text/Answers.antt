@@ -1,6 +1,4 @@
-use Rattle.std.proofs.Common.{◌≡◌, ◌<◌, length, get_or, ap, ◌∙◌, subst}
-use Rattle.sharc_ctype.specs.Entities.{entities_in, numbered}
-use Rattle.sharc_report.proofs.OwnerLemmas.{numbered_ends}
+use Rattle.sharc_report.proofs.{Imports.{◌≡◌, ◌<◌, length, get_or, ap, ◌∙◌, subst, entities_in, numbered}, OwnerLemmas.numbered_ends}
 use Rattle.sharc_report.proofs.explained.explain_text.Goals as goal
 
 pub put_explanation-requires-clause-within : goal.put_explanation-requires-clause-within

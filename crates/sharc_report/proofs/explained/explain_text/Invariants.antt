@@ -1,7 +1,4 @@
-use Rattle.std.proofs.Common.{◌≡◌, ◌++◌, drop}
-use Rattle.std.specs.List.{flat_map}
-use Rattle.sharc_ctype.specs.Entities.{entities_in, numbered}
-use Rattle.sharc_report.specs.Explanations.{explanation}
+use Rattle.sharc_report.proofs.Imports.{◌≡◌, ◌++◌, drop, flat_map, entities_in, numbered, explanation}
 use Rattle.sharc_report.proofs.explained.explain_text.Given as goal
 
 abbrev pub invariant-loop-n : goal.invariant-loop-n

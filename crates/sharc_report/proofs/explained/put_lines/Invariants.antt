@@ -1,5 +1,4 @@
-use Rattle.std.proofs.Common.{◌≡◌, ◌++◌}
-use Rattle.sharc_report.specs.Explanations.{reason_lines}
+use Rattle.sharc_report.proofs.Imports.{◌≡◌, ◌++◌, reason_lines}
 use Rattle.sharc_report.proofs.explained.put_lines.Given as goal
 
 abbrev pub invariant-loop-i : goal.invariant-loop-i

@@ -1,4 +1,4 @@
-use Rattle.std.proofs.Common.{◌≡◌, ◌++◌, map, replicate}
+use Rattle.sharc_report.proofs.Imports.{◌≡◌, ◌++◌, map, replicate}
 use Rattle.sharc_report.proofs.owners.add_owner.Given as goal
 
 abbrev pub invariant-loop-position : goal.invariant-loop-position

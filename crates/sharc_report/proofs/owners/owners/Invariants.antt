@@ -1,5 +1,4 @@
-use Rattle.std.proofs.Common.{◌≡◌, ◌++◌, map, drop}
-use Rattle.sharc_report.specs.Explanations.{owners}
+use Rattle.sharc_report.proofs.Imports.{◌≡◌, ◌++◌, map, drop, owners}
 use Rattle.sharc_report.proofs.owners.owners.Given as goal
 
 abbrev pub invariant-loop-n : goal.invariant-loop-n

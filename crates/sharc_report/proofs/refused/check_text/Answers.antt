@@ -1,6 +1,4 @@
-use Rattle.std.proofs.Common.{◌++◌, ap, ◌∙◌}
-use Rattle.sharc_report.specs.Verdicts.{beside, check_text, refusal}
-use Rattle.sharc_report.proofs.TextLemmas.{one_beside}
+use Rattle.sharc_report.proofs.{Imports.{◌++◌, ap, ◌∙◌, beside, check_text, refusal}, TextLemmas.one_beside}
 use Rattle.sharc_report.proofs.refused.check_text.Goals as goal
 
 pub loop-error-preserved : goal.loop-error-preserved

@@ -1,5 +1,4 @@
-use Rattle.std.proofs.Common.{◌≡◌, ◌++◌, drop}
-use Rattle.sharc_report.specs.Verdicts.{check_text}
+use Rattle.sharc_report.proofs.Imports.{◌≡◌, ◌++◌, drop, check_text}
 use Rattle.sharc_report.proofs.refused.check_text.Given as goal
 
 abbrev pub invariant-loop-error : goal.invariant-loop-error

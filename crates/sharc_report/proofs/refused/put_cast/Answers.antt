@@ -1,6 +1,4 @@
-use Rattle.std.proofs.Common.{codes}
-use Rattle.sharc_report.specs.{Places.{site_text, tokens_between}, Verdicts.target_text}
-use Rattle.sharc_report.proofs.TextLemmas.{six}
+use Rattle.sharc_report.proofs.{Imports.{codes, site_text, tokens_between, target_text}, TextLemmas.six}
 use Rattle.sharc_report.proofs.refused.put_cast.Goals as goal
 
 pub returns : goal.returns

@@ -1,6 +1,4 @@
-use Rattle.std.proofs.Common.{codes, decimal}
-use Rattle.sharc_run.specs.Places.{lvalue_at}
-use Rattle.sharc_run.proofs.Pieces.{four}
+use Rattle.sharc_run.proofs.{Imports.{codes, decimal, lvalue_at}, Pieces.four}
 use Rattle.sharc_run.proofs.line.put_held_mutex.Goals as goal
 
 pub returns : goal.returns

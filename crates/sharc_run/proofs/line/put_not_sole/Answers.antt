@@ -1,9 +1,5 @@
-use Rattle.std.proofs.Common.{codes, decimal, ◌++◌, ap, ◌∙◌}
-use Rattle.sharc_code.specs.Says.{place_at}
-use Rattle.sharc_run.specs.{Places.lvalue_at, RunText.of_taking}
-use Rattle.sharc_run.proofs.Pieces.{five}
+use Rattle.sharc_run.proofs.{Imports.{codes, decimal, ◌++◌, ap, ◌∙◌, place_at, lvalue_at, of_taking, taken}, Pieces.five}
 use Rattle.sharc_run.proofs.line.put_not_sole.Goals as goal
-use Rattle.sharc_lemmas.proofs.Lists.{taken}
 
 pub returns : goal.returns
 returns c =

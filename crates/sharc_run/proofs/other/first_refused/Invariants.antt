@@ -1,6 +1,4 @@
-use Rattle.std.proofs.Common.{◌≡◌, drop}
-use Rattle.std.specs.Prelude.{find}
-use Rattle.sharc_run.specs.Others.{was_refused_first}
+use Rattle.sharc_run.proofs.Imports.{◌≡◌, drop, find, was_refused_first}
 use Rattle.sharc_run.proofs.other.first_refused.Given as goal
 
 abbrev pub invariant-loop-t : goal.invariant-loop-t

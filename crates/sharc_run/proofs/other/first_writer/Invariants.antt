@@ -1,6 +1,4 @@
-use Rattle.std.proofs.Common.{◌≡◌, drop}
-use Rattle.std.specs.Prelude.{find}
-use Rattle.sharc_run.specs.Others.{wrote_before}
+use Rattle.sharc_run.proofs.Imports.{◌≡◌, drop, find, wrote_before}
 use Rattle.sharc_run.proofs.other.first_writer.Given as goal
 
 abbrev pub invariant-loop-t : goal.invariant-loop-t

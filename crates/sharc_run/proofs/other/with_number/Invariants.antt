@@ -1,6 +1,4 @@
-use Rattle.std.proofs.Common.{◌≡◌, drop}
-use Rattle.std.specs.Prelude.{find}
-use Rattle.sharc_run.specs.Others.{has_number}
+use Rattle.sharc_run.proofs.Imports.{◌≡◌, drop, find, has_number}
 use Rattle.sharc_run.proofs.other.with_number.Given as goal
 
 abbrev pub invariant-loop-t : goal.invariant-loop-t

@@ -1,6 +1,4 @@
-use Rattle.std.proofs.{Common.{rules, subst}, lemmas.List.Sorted.answers_always}
-use Rattle.std.specs.{List.Sorted.{IsPermutation, IsStableByKey}, Ordering.nat_cmp}
-use Rattle.sharc_run.specs.RunText.{place_of}
+use Rattle.sharc_run.proofs.Imports.{rules, subst, answers_always, IsPermutation, IsStableByKey, nat_cmp, place_of}
 use Rattle.sharc_run.proofs.printed.prints_in_order.Goals as goal
 
 pub returns : goal.returns

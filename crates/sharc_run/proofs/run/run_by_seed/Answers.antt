@@ -1,7 +1,4 @@
-use Rattle.std.proofs.Common.{◌∙◌, ap}
-use Rattle.sharc_seq.specs.Choice.{seeded}
-use Rattle.sharc_run.specs.Run.{draws, IsSeededRun}
-use Rattle.sharc_run.proofs.Ending.{ended, both_ok, chosen_as}
+use Rattle.sharc_run.proofs.{Imports.{◌∙◌, ap, seeded, draws, IsSeededRun}, Ending.{ended, both_ok, chosen_as}}
 use Rattle.sharc_run.proofs.run.run_by_seed.Goals as goal
 
 pub returns : goal.returns

@@ -1,6 +1,4 @@
-use Rattle.std.proofs.Common.{◌∙◌}
-use Rattle.sharc_run.specs.Run.{IsWorkersRun}
-use Rattle.sharc_run.proofs.Ending.{ended, both_ok}
+use Rattle.sharc_run.proofs.{Imports.{◌∙◌, IsWorkersRun}, Ending.{ended, both_ok}}
 use Rattle.sharc_run.proofs.run.run_by_workers.Goals as goal
 
 pub returns : goal.returns

@@ -1,5 +1,4 @@
-use Rattle.std.proofs.Common.{refl}
-use Rattle.sharc_run.proofs.Ending.{ended}
+use Rattle.sharc_run.proofs.{Imports.refl, Ending.ended}
 use Rattle.sharc_run.proofs.run.told.Goals as goal
 
 pub returns-clause-ends : goal.returns-clause-ends

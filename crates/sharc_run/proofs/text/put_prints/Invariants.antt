@@ -1,6 +1,4 @@
-use Rattle.std.proofs.Common.{◌≡◌, ◌++◌, take}
-use Rattle.std.specs.List.{flat_map}
-use Rattle.sharc_run.specs.RunText.{print_line}
+use Rattle.sharc_run.proofs.Imports.{◌≡◌, ◌++◌, take, flat_map, print_line}
 use Rattle.sharc_run.proofs.text.put_prints.Given as goal
 
 abbrev pub invariant-loop-p : goal.invariant-loop-p

@@ -1,6 +1,4 @@
-use Rattle.std.proofs.Common.{◌≡◌, ◌++◌, take}
-use Rattle.std.specs.List.{flat_map}
-use Rattle.sharc_run.specs.RunText.{thread_line}
+use Rattle.sharc_run.proofs.Imports.{◌≡◌, ◌++◌, take, flat_map, thread_line}
 use Rattle.sharc_run.proofs.text.put_threads.Given as goal
 
 abbrev pub invariant-loop-t : goal.invariant-loop-t

@@ -1,7 +1,5 @@
-use Rattle.std.proofs.Common.{◌-◌, ℕ, sym, ap, ◌∙◌, arith}
-use Rattle.sharc_schedule.proofs.{Lasts.{add_many, together_some, add_same, add_other, add_first}, counting.count.Goals.{else-n-gt0-via-then-n-gt0+else-index-place, else-n-gt0-via-else-n-gt0}}
+use Rattle.sharc_schedule.proofs.{Imports.{◌-◌, ℕ, sym, ap, ◌∙◌, arith, same_at}, Lasts.{add_many, together_some, add_same, add_other, add_first}, counting.count.Goals.{else-n-gt0-via-then-n-gt0+else-index-place, else-n-gt0-via-else-n-gt0}}
 use Rattle.sharc_schedule.proofs.counting.count.Goals as goal
-use Rattle.sharc_lemmas.proofs.Lists.{any_default as same_at}
 
 pub returns-then-index-place : goal.returns-then-index-place
 returns-then-index-place c = λ before is.

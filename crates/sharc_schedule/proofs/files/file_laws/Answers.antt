@@ -1,6 +1,4 @@
-use Rattle.std.proofs.Common.{sym, ◌∙◌}
-use Rattle.sharc_schedule.specs.{File.lines_in, FileLaws.FilesSayOneThing}
-use Rattle.sharc_schedule.proofs.{PlaceLines.ok_is, SourceLines.{reads, reads_all, faults}, Few.few, Written.again}
+use Rattle.sharc_schedule.proofs.{Imports.{sym, ◌∙◌, lines_in, FilesSayOneThing}, PlaceLines.ok_is, SourceLines.{reads, reads_all, faults}, Few.few, Written.again}
 use Rattle.sharc_schedule.proofs.files.file_laws.Goals as goal
 
 one_thing : FilesSayOneThing

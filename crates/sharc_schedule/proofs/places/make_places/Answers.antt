@@ -1,8 +1,4 @@
-use Rattle.std.proofs.Common.{◌≡◌, ◌<◌, [], ◌++◌, List, length, refl, ap, ◌∙◌, subst, arith}
-use Rattle.sharc_word.specs.{declared.step.TheConstants.THREADS, declared.step.WordEvent.WordEvent}
-use Rattle.sharc_code.specs.Runs.{Turn}
-use Rattle.sharc_schedule.specs.{Going.{Followed, thread_at}, Schedule.{scheduled_turns, places_of, counted_together}}
-use Rattle.sharc_schedule.proofs.{Making.{all_made, journal_low}, Stepping.{stepped, once_more}}
+use Rattle.sharc_schedule.proofs.{Imports.{◌≡◌, ◌<◌, [], ◌++◌, List, length, refl, ap, ◌∙◌, subst, arith, THREADS, WordEvent, Turn, Followed, thread_at, scheduled_turns, places_of, counted_together}, Making.{all_made, journal_low}, Stepping.{stepped, once_more}}
 use Rattle.sharc_schedule.proofs.places.make_places.Goals as goal
 
 pub loop-i-init : goal.loop-i-init

@@ -1,6 +1,4 @@
-use Rattle.std.proofs.Common.{List, [], length}
-use Rattle.sharc_code.specs.{Opening.opening_words, Runs.{Turn, IsRun, opening_of}, Whole.{one_thread, bounds}}
-use Rattle.sharc_schedule.specs.Going.{AllCount, GoesAt, Followed, thread_at}
+use Rattle.sharc_schedule.proofs.Imports.{List, [], length, opening_words, Turn, IsRun, opening_of, one_thread, bounds, AllCount, GoesAt, Followed, thread_at}
 use Rattle.sharc_schedule.proofs.places.make_places.Given as goal
 
 abbrev pub invariant-loop-i : goal.invariant-loop-i

@@ -1,7 +1,4 @@
-use Rattle.std.proofs.Common.{◌≡◌, ℕ, Bool, refl, sym, ap, ◌∙◌, arith}
-use Rattle.sharc_code.specs.Whole.{place_after}
-use Rattle.sharc_threads.specs.Ends.{is_enabled}
-use Rattle.sharc_schedule.proofs.Placing.{one_few, passed, passed_next, place_passed}
+use Rattle.sharc_schedule.proofs.{Imports.{◌≡◌, ℕ, Bool, refl, sym, ap, ◌∙◌, arith, place_after, is_enabled}, Placing.{one_few, passed, passed_next, place_passed}}
 use Rattle.sharc_schedule.proofs.places.place_of.Goals as goal
 
 pub loop-n-init : goal.loop-n-init

@@ -1,8 +1,4 @@
-use Rattle.std.proofs.Common.{◌≡◌, ◌≤◌, List}
-use Rattle.sharc_code.specs.{declared.code.Code.Code, declared.shape.Shape.Shape, Runs.Turn, Whole.place_after}
-use Rattle.sharc_threads.specs.Ends.{is_enabled}
-use Rattle.sharc_seq.specs.Walk.{StandsAt}
-use Rattle.sharc_schedule.proofs.Placing.{passed}
+use Rattle.sharc_schedule.proofs.{Imports.{◌≡◌, ◌≤◌, List, Code, Shape, Turn, place_after, is_enabled, StandsAt}, Placing.passed}
 use Rattle.sharc_schedule.proofs.places.place_of.Given as goal
 
 abbrev pub invariant-loop-n : goal.invariant-loop-n

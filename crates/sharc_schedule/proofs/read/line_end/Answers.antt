@@ -1,5 +1,4 @@
-use Rattle.std.proofs.Common.{◌≢◌, get_or, arith}
-use Rattle.sharc_schedule.proofs.Scanning.{lacks_next, line_at, line_to_end}
+use Rattle.sharc_schedule.proofs.{Imports.{◌≢◌, get_or, arith}, Scanning.{lacks_next, line_at, line_to_end}}
 use Rattle.sharc_schedule.proofs.read.line_end.Goals as goal
 
 pub loop-end-preserved : goal.loop-end-preserved

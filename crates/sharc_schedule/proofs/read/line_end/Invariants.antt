@@ -1,5 +1,4 @@
-use Rattle.std.proofs.Common.{◌≤◌, ◌-◌, length, take, drop}
-use Rattle.sharc_schedule.proofs.Numbers.{Lacks}
+use Rattle.sharc_schedule.proofs.{Imports.{◌≤◌, ◌-◌, length, take, drop}, Numbers.Lacks}
 use Rattle.sharc_schedule.proofs.read.line_end.Given as goal
 
 abbrev pub invariant-loop-end : goal.invariant-loop-end

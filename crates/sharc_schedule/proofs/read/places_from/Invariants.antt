@@ -1,6 +1,4 @@
-use Rattle.std.proofs.Common.{◌≡◌, ◌≤◌, ◌+◌, ◌-◌, length, drop}
-use Rattle.sharc_schedule.specs.{File.lines_in, Reading.read_places}
-use Rattle.sharc_schedule.proofs.Scanning.{with_front}
+use Rattle.sharc_schedule.proofs.{Imports.{◌≡◌, ◌≤◌, ◌+◌, ◌-◌, length, drop, lines_in, read_places}, Scanning.with_front}
 use Rattle.sharc_schedule.proofs.read.places_from.Given as goal
 
 abbrev pub invariant-loop-at : goal.invariant-loop-at

@@ -1,6 +1,4 @@
-use Rattle.std.proofs.Common.{◌≡◌, ◌<◌, length, sym, ◌∙◌, arith, eqb-true}
-use Rattle.sharc_schedule.specs.File.{lines_in}
-use Rattle.sharc_schedule.proofs.Scanning.{source_goes_on, source_ends, nothing_read}
+use Rattle.sharc_schedule.proofs.{Imports.{◌≡◌, ◌<◌, length, sym, ◌∙◌, arith, eqb-true, lines_in}, Scanning.{source_goes_on, source_ends, nothing_read}}
 use Rattle.sharc_schedule.proofs.read.read_file.Goals as goal
 
 pub returns-then-is_empty-clause-err : goal.returns-then-is_empty-clause-err

@@ -1,5 +1,4 @@
-use Rattle.std.proofs.Common.{◌≡◌, ◌≤◌, ◌<◌, ◌+◌, ◌-◌, length, take, drop, get_or}
-use Rattle.sharc_schedule.specs.{File.lines_in, Reading.{read_source, read_lines}}
+use Rattle.sharc_schedule.proofs.Imports.{◌≡◌, ◌≤◌, ◌<◌, ◌+◌, ◌-◌, length, take, drop, get_or, lines_in, read_source, read_lines}
 use Rattle.sharc_schedule.proofs.read.read_file.Given as goal
 
 abbrev pub invariant-loop-end : goal.invariant-loop-end

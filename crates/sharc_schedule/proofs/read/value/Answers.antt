@@ -1,5 +1,4 @@
-use Rattle.std.proofs.Common.{inl, inr, arith}
-use Rattle.sharc_schedule.proofs.{Scanning.{too_long, no_digit}, read.value.Goals.{then-b-lt48-via-then-b-lt48, then-b-lt48-via-else-b-lt48+then-b-gt57}}
+use Rattle.sharc_schedule.proofs.{Imports.{inl, inr, arith}, Scanning.{too_long, no_digit}, read.value.Goals.{then-b-lt48-via-then-b-lt48, then-b-lt48-via-else-b-lt48+then-b-gt57}}
 use Rattle.sharc_schedule.proofs.read.value.Goals as goal
 
 pub returns-then-word-gt10-clause-none : goal.returns-then-word-gt10-clause-none

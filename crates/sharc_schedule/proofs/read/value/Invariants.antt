@@ -1,5 +1,4 @@
-use Rattle.std.proofs.Common.{◌≡◌, ◌<◌, ◌^◌, drop}
-use Rattle.std.specs.Str.Parse.{digits_value, digits_value_after}
+use Rattle.sharc_schedule.proofs.Imports.{◌≡◌, ◌<◌, ◌^◌, drop, digits_value, digits_value_after}
 use Rattle.sharc_schedule.proofs.read.value.Given as goal
 
 abbrev pub invariant-loop-i : goal.invariant-loop-i

@@ -1,5 +1,4 @@
-use Rattle.std.proofs.Common.{◌≡◌, ◌≤◌, ◌-◌, ◌++◌, length, take, drop}
-use Rattle.sharc_schedule.specs.Reading.{word_of, after_word}
+use Rattle.sharc_schedule.proofs.Imports.{◌≡◌, ◌≤◌, ◌-◌, ◌++◌, length, take, drop, word_of, after_word}
 use Rattle.sharc_schedule.proofs.read.word_end.Given as goal
 
 abbrev pub invariant-loop-end : goal.invariant-loop-end

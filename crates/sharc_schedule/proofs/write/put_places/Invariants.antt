@@ -1,5 +1,4 @@
-use Rattle.std.proofs.Common.{◌≡◌, ◌++◌, drop}
-use Rattle.sharc_schedule.specs.File.{places_text}
+use Rattle.sharc_schedule.proofs.Imports.{◌≡◌, ◌++◌, drop, places_text}
 use Rattle.sharc_schedule.proofs.write.put_places.Given as goal
 
 abbrev pub invariant-loop-i : goal.invariant-loop-i

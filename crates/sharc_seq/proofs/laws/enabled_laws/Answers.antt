@@ -1,8 +1,5 @@
-use Rattle.std.proofs.Common.{ℕ, List, get_or, refl, arith}
-use Rattle.sharc_seq.specs.Run.{enabled}
-use Rattle.sharc_seq.proofs.Choosing.{none_enabled, picked}
+use Rattle.sharc_seq.proofs.{Imports.{ℕ, List, get_or, refl, arith, enabled, any_default}, Choosing.{none_enabled, picked}}
 use Rattle.sharc_seq.proofs.laws.enabled_laws.Goals as goal
-use Rattle.sharc_lemmas.proofs.Lists.{any_default}
 
 pub returns : goal.returns
 returns c = record {

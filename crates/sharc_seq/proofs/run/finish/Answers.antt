@@ -1,6 +1,4 @@
-use Rattle.std.proofs.Common.{List, refl, sym, ◌∙◌, subst}
-use Rattle.sharc_cpu.specs.Thread.{ThreadView}
-use Rattle.sharc_threads.specs.Ends.{AreStarted}
+use Rattle.sharc_seq.proofs.Imports.{List, refl, sym, ◌∙◌, subst, ThreadView, AreStarted}
 use Rattle.sharc_seq.proofs.run.finish.Goals as goal
 
 pub returns : goal.returns

@@ -1,7 +1,4 @@
-use Rattle.std.proofs.{Common.{[], ◌∙◌}, lemmas.Result.IfOk-weaker}
-use Rattle.sharc_code.specs.Whole.{place_after}
-use Rattle.sharc_threads.specs.Ends.{Standing}
-use Rattle.sharc_seq.specs.{Run.IsSeqRun, Table.{IsOver, Ends}}
+use Rattle.sharc_seq.proofs.Imports.{[], ◌∙◌, IfOk-weaker, place_after, Standing, IsSeqRun, IsOver, Ends}
 use Rattle.sharc_seq.proofs.run.run_seq.Goals as goal
 
 pub finish-requires : goal.finish-requires

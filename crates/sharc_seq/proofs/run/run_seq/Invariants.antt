@@ -1,4 +1,4 @@
-use Rattle.sharc_seq.specs.{Walk.events_left, Table.IsTable}
+use Rattle.sharc_seq.proofs.Imports.{events_left, IsTable}
 use Rattle.sharc_seq.proofs.run.run_seq.Given as goal
 
 abbrev pub invariant-turns : goal.invariant-turns

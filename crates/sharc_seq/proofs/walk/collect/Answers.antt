@@ -1,9 +1,5 @@
-use Rattle.std.proofs.Common.{◌≡◌, ℕ, ◌<◌, ◌++◌, ◌∷◌, [], List, Option, None, length, filter, get_or, sym, ap, ◌∙◌, subst, arith}
-use Rattle.sharc_cpu.specs.Thread.{ThreadView}
-use Rattle.sharc_threads.specs.Seats.{may_turn_at}
-use Rattle.sharc_seq.proofs.{Choosing.{firsts, firsts_all, filter_yes, filter_no}, walk.collect.Goals.{then-may_turn_at+in_ok-push, else-may_turn_at}}
+use Rattle.sharc_seq.proofs.{Imports.{◌≡◌, ℕ, ◌<◌, ◌++◌, ◌∷◌, [], List, Option, None, length, filter, get_or, sym, ap, ◌∙◌, subst, arith, ThreadView, may_turn_at, any_default}, Choosing.{firsts, firsts_all, filter_yes, filter_no}, walk.collect.Goals.{then-may_turn_at+in_ok-push, else-may_turn_at}}
 use Rattle.sharc_seq.proofs.walk.collect.Goals as goal
-use Rattle.sharc_lemmas.proofs.Lists.{any_default}
 
 pub loop-index-preserved : goal.loop-index-preserved
 loop-index-preserved c =

@@ -1,6 +1,4 @@
-use Rattle.std.proofs.Common.{◌≡◌, None, filter, get_or}
-use Rattle.sharc_threads.specs.Seats.{may_turn_at}
-use Rattle.sharc_seq.proofs.Choosing.{firsts}
+use Rattle.sharc_seq.proofs.{Imports.{◌≡◌, None, filter, get_or, may_turn_at}, Choosing.firsts}
 use Rattle.sharc_seq.proofs.walk.collect.Given as goal
 
 abbrev pub invariant-loop-index : goal.invariant-loop-index

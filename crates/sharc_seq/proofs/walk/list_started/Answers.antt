@@ -1,9 +1,5 @@
-use Rattle.std.proofs.Common.{◌≡◌, ℕ, ◌<◌, ◌++◌, ◌∷◌, [], List, Option, None, length, get_or, sym, ap, ◌∙◌, arith}
-use Rattle.std.specs.Prelude.{is_some}
-use Rattle.sharc_cpu.specs.Thread.{ThreadView}
-use Rattle.sharc_seq.proofs.{Choosing.{up_to_yes, up_to_no}, walk.list_started.Goals.{then-is_some+in_ok-push, else-is_some}}
+use Rattle.sharc_seq.proofs.{Imports.{◌≡◌, ℕ, ◌<◌, ◌++◌, ◌∷◌, [], List, Option, None, length, get_or, sym, ap, ◌∙◌, arith, is_some, ThreadView, any_default}, Choosing.{up_to_yes, up_to_no}, walk.list_started.Goals.{then-is_some+in_ok-push, else-is_some}}
 use Rattle.sharc_seq.proofs.walk.list_started.Goals as goal
-use Rattle.sharc_lemmas.proofs.Lists.{any_default}
 
 pub loop-number-preserved : goal.loop-number-preserved
 loop-number-preserved c =

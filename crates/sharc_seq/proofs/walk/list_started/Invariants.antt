@@ -1,5 +1,4 @@
-use Rattle.std.proofs.Common.{◌≡◌, None, filter, get_or}
-use Rattle.std.specs.{Prelude.is_some, List.range_with_len}
+use Rattle.sharc_seq.proofs.Imports.{◌≡◌, None, filter, get_or, is_some, range_with_len}
 use Rattle.sharc_seq.proofs.walk.list_started.Given as goal
 
 abbrev pub invariant-loop-number : goal.invariant-loop-number

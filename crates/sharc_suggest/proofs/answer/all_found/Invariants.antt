@@ -1,5 +1,4 @@
-use Rattle.std.proofs.Common.{◌≡◌, map, take}
-use Rattle.sharc_suggest.specs.Firsts.{row_for}
+use Rattle.sharc_suggest.proofs.Imports.{◌≡◌, map, take, row_for}
 use Rattle.sharc_suggest.proofs.answer.all_found.Given as goal
 
 abbrev pub invariant-loop-error : goal.invariant-loop-error

@@ -1,5 +1,4 @@
-use Rattle.std.proofs.Common.{◌≤◌, length, drop}
-use Rattle.sharc_suggest.specs.Firsts.{HasFirst}
+use Rattle.sharc_suggest.proofs.Imports.{◌≤◌, length, drop, HasFirst}
 use Rattle.sharc_suggest.proofs.answer.by_token.Given as goal
 
 abbrev pub invariant-loop-left : goal.invariant-loop-left

@@ -1,7 +1,4 @@
-use Rattle.std.proofs.Common.{ap, ◌∙◌}
-use Rattle.sharc_tree.specs.View.{view_items}
-use Rattle.sharc_suggest.specs.Repairs.{told}
-use Rattle.sharc_suggest.proofs.CallLemmas.{casts_are}
+use Rattle.sharc_suggest.proofs.{Imports.{ap, ◌∙◌, view_items, told}, CallLemmas.casts_are}
 use Rattle.sharc_suggest.proofs.answer.casts.Goals as goal
 
 pub returns : goal.returns

@@ -1,5 +1,4 @@
-use Rattle.std.proofs.lemmas.Result.{IfOk-weaker}
-use Rattle.sharc_suggest.proofs.CallLemmas.{all_suggested}
+use Rattle.sharc_suggest.proofs.{Imports.IfOk-weaker, CallLemmas.all_suggested}
 use Rattle.sharc_suggest.proofs.answer.suggest_all.Goals as goal
 
 pub returns : goal.returns

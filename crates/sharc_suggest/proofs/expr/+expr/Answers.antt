@@ -1,7 +1,4 @@
-use Rattle.std.proofs.Common.{◌≡◌, ◌++◌, subst, OnOk}
-use Rattle.sharc_tree.specs.{Children.view_call, View.view_expr}
-use Rattle.sharc_suggest.specs.Repairs.{told}
-use Rattle.sharc_suggest.proofs.CallLemmas.{call_suggested}
+use Rattle.sharc_suggest.proofs.{Imports.{◌≡◌, ◌++◌, subst, OnOk, view_call, view_expr, told}, CallLemmas.call_suggested}
 use Rattle.sharc_suggest.proofs.expr.+expr.Goals as goal
 
 pub expression-returns-in-Call : goal.expression-returns-in-Call

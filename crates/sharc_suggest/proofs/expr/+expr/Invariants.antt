@@ -1,6 +1,4 @@
-use Rattle.std.proofs.Common.{◌≡◌, zero, ◌++◌, drop}
-use Rattle.sharc_tree.specs.View.{view_arguments}
-use Rattle.sharc_suggest.specs.{Casts.suggested_in, Givings.{beyond, all_givings}, Repairs.told}
+use Rattle.sharc_suggest.proofs.Imports.{◌≡◌, zero, ◌++◌, drop, view_arguments, suggested_in, beyond, all_givings, told}
 use Rattle.sharc_suggest.proofs.expr.+expr.Given as goal
 
 abbrev pub invariant-arguments-loop-expr : goal.invariant-arguments-loop-expr

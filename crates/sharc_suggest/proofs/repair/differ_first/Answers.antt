@@ -1,6 +1,4 @@
-use Rattle.std.proofs.Common.{◌+◌, ◌≤◌, length, arith}
-use Rattle.sharc_mode.specs.View.{view_row}
-use Rattle.sharc_suggest.proofs.RowLemmas.{differ_is}
+use Rattle.sharc_suggest.proofs.{Imports.{◌+◌, ◌≤◌, length, arith, view_row}, RowLemmas.differ_is}
 use Rattle.sharc_suggest.proofs.repair.differ_first.Goals as goal
 
 pub returns-else-same_rows : goal.returns-else-same_rows

@@ -1,6 +1,4 @@
-use Rattle.std.proofs.{Common.{◌≡◌, ◌<◌, ◌-◌, false, List, length, Option, Some, None, slice_get, ap, ap₂, sym, refl, ◌∙◌, arith}, lemmas.Option.{slice_get_read, slice_get_past}}
-use Rattle.sharc_tree.specs.{declared.token.Token.Token, Tree.Program}
-use Rattle.sharc_suggest.specs.Repairs.{begins_call, is_call_at}
+use Rattle.sharc_suggest.proofs.Imports.{◌≡◌, ◌<◌, ◌-◌, false, List, length, Option, Some, None, slice_get, ap, ap₂, sym, refl, ◌∙◌, arith, slice_get_read, slice_get_past, Token, Program, begins_call, is_call_at}
 use Rattle.sharc_suggest.proofs.repair.is_call_at.Goals as goal
 
 none_begins : (before : Option Token) → false ≡ begins_call before None

@@ -1,7 +1,4 @@
-use Rattle.std.proofs.Common.{◌+◌, ◌≤◌, length, ap, sym, ◌∙◌, arith}
-use Rattle.sharc_mode.specs.{Moded.position_count, Rows.modes_of, View.{view_row, view_sharing}}
-use Rattle.sharc_suggest.specs.Repairs.{keeps, keeps_all}
-use Rattle.sharc_suggest.proofs.RowLemmas.{step_row, step_ends, kept_one}
+use Rattle.sharc_suggest.proofs.{Imports.{◌+◌, ◌≤◌, length, ap, sym, ◌∙◌, arith, position_count, modes_of, view_row, view_sharing, keeps, keeps_all}, RowLemmas.{step_row, step_ends, kept_one}}
 use Rattle.sharc_suggest.proofs.repair.keeps_all.Goals as goal
 
 pub loop-left-preserved : goal.loop-left-preserved

@@ -1,6 +1,4 @@
-use Rattle.std.proofs.Common.{◌≡◌, ◌+◌, ◌≤◌}
-use Rattle.sharc_mode.specs.{Moded.position_count, Rows.modes_of, View.view_row}
-use Rattle.sharc_suggest.specs.Repairs.{keeps_all}
+use Rattle.sharc_suggest.proofs.Imports.{◌≡◌, ◌+◌, ◌≤◌, position_count, modes_of, view_row, keeps_all}
 use Rattle.sharc_suggest.proofs.repair.keeps_all.Given as goal
 
 abbrev pub invariant-loop-left : goal.invariant-loop-left

@@ -1,6 +1,4 @@
-use Rattle.std.proofs.Common.{◌≡◌, ◌++◌, ap, sym, ◌∙◌}
-use Rattle.sharc_tree.specs.{Children.view_block, View.{view_stmt, view_statements}}
-use Rattle.sharc_suggest.specs.{Casts.suggested_in, Givings.{givings_in, givings_in_all}, Repairs.told}
+use Rattle.sharc_suggest.proofs.Imports.{◌≡◌, ◌++◌, ap, sym, ◌∙◌, view_block, view_stmt, view_statements, suggested_in, givings_in, givings_in_all, told}
 use Rattle.sharc_suggest.proofs.statement.+statement.Goals as goal
 
 pub statement-returns-in_ok-leave-in-Block-clause-casts : goal.statement-returns-in_ok-leave-in-Block-clause-casts

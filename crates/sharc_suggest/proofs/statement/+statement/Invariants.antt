@@ -1,6 +1,4 @@
-use Rattle.std.proofs.Common.{◌≡◌, ◌++◌, drop}
-use Rattle.sharc_tree.specs.View.{view_statements}
-use Rattle.sharc_suggest.specs.{Casts.suggested_in, Givings.{after_all, givings_in_all}, Repairs.told}
+use Rattle.sharc_suggest.proofs.Imports.{◌≡◌, ◌++◌, drop, view_statements, suggested_in, after_all, givings_in_all, told}
 use Rattle.sharc_suggest.proofs.statement.+statement.Given as goal
 
 abbrev pub invariant-statements-loop-stmt : goal.invariant-statements-loop-stmt

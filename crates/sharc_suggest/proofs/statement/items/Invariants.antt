@@ -1,6 +1,4 @@
-use Rattle.std.proofs.Common.{◌≡◌, ◌++◌, drop}
-use Rattle.sharc_tree.specs.View.{view_items}
-use Rattle.sharc_suggest.specs.{Casts.suggested_in, Givings.items_givings, Repairs.told}
+use Rattle.sharc_suggest.proofs.Imports.{◌≡◌, ◌++◌, drop, view_items, suggested_in, items_givings, told}
 use Rattle.sharc_suggest.proofs.statement.items.Given as goal
 
 abbrev pub invariant-loop-one : goal.invariant-loop-one

@@ -1,7 +1,4 @@
-use Rattle.std.proofs.Common.{◌≡◌, ◌++◌, Some, ap, sym, ◌∙◌, subst, OnOk}
-use Rattle.sharc_tree.specs.View.{view_local}
-use Rattle.sharc_mode.specs.Rows.{written, declared_row, modes_of}
-use Rattle.sharc_suggest.specs.{Casts.suggested_in, Givings.{of_declared, option_givings, right_givings}, Repairs.told}
+use Rattle.sharc_suggest.proofs.Imports.{◌≡◌, ◌++◌, Some, ap, sym, ◌∙◌, subst, OnOk, view_local, written, declared_row, modes_of, suggested_in, of_declared, option_givings, right_givings, told}
 use Rattle.sharc_suggest.proofs.statement.local.Goals as goal
 
 pub returns-clause-casts : goal.returns-clause-casts

@@ -1,5 +1,4 @@
-use Rattle.std.proofs.Common.{◌≡◌, drop}
-use Rattle.sharc_suggest.specs.Givings.{with_parameters}
+use Rattle.sharc_suggest.proofs.Imports.{◌≡◌, drop, with_parameters}
 use Rattle.sharc_suggest.proofs.statement.parameters.Given as goal
 
 abbrev pub invariant-loop-parameter : goal.invariant-loop-parameter

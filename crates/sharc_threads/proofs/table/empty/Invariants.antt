@@ -1,4 +1,4 @@
-use Rattle.std.proofs.Common.{◌≡◌, ℕ, None, length, get_or}
+use Rattle.sharc_threads.proofs.Imports.{◌≡◌, ℕ, None, length, get_or}
 use Rattle.sharc_threads.proofs.table.empty.Given as goal
 
 abbrev pub invariant-loop : goal.invariant-loop

@@ -1,5 +1,4 @@
-use Rattle.std.proofs.{Common.arith, lemmas.Result.IfOk-weaker}
-use Rattle.sharc_top.proofs.Judging.{replies_long_source, replies_judged}
+use Rattle.sharc_top.proofs.{Imports.{arith, IfOk-weaker}, Judging.{replies_long_source, replies_judged}}
 use Rattle.sharc_top.proofs.audited.file_judged.Goals as goal
 
 pub returns-then-len-gt-SOURCE_LIMIT : goal.returns-then-len-gt-SOURCE_LIMIT

@@ -1,5 +1,4 @@
-use Rattle.std.proofs.Common.{refl}
-use Rattle.sharc_top.proofs.Judging.{replies_fault}
+use Rattle.sharc_top.proofs.{Imports.refl, Judging.replies_fault}
 use Rattle.sharc_top.proofs.audited.file_refusal.Goals as goal
 
 pub returns : goal.returns

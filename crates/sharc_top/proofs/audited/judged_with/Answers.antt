@@ -1,7 +1,4 @@
-use Rattle.std.proofs.{Common.{sym, subst, IfOk}, lemmas.Result.IfOk-weaker}
-use Rattle.sharc_check.specs.{Checks.IsRefused, Named.TellNamed}
-use Rattle.sharc_top.specs.{EventFiles.Judges, Refused.IsModeRefusal}
-use Rattle.sharc_top.proofs.Judging.{judges_refused}
+use Rattle.sharc_top.proofs.{Imports.{sym, subst, IfOk, IfOk-weaker, IsRefused, TellNamed, Judges, IsModeRefusal}, Judging.judges_refused}
 use Rattle.sharc_top.proofs.audited.judged_with.Goals as goal
 
 pub returns-in-Ok : goal.returns-in-Ok

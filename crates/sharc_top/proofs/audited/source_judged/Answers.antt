@@ -1,6 +1,4 @@
-use Rattle.std.proofs.{Common.{◌∙◌, ap}, lemmas.Result.IfOk-weaker}
-use Rattle.sharc_report.specs.Refusals.{refusal_line}
-use Rattle.sharc_top.proofs.Judging.{source_faulty, source_program}
+use Rattle.sharc_top.proofs.{Imports.{◌∙◌, ap, IfOk-weaker, refusal_line}, Judging.{source_faulty, source_program}}
 use Rattle.sharc_top.proofs.audited.source_judged.Goals as goal
 
 pub returns-in-Ok : goal.returns-in-Ok

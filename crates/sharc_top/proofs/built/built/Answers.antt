@@ -1,6 +1,4 @@
-use Rattle.std.proofs.Common.{◌∙◌, ap}
-use Rattle.sharc_report.specs.Refusals.{refusal_line}
-use Rattle.sharc_top.proofs.Building.{refuses_source, refuses_modes}
+use Rattle.sharc_top.proofs.{Imports.{◌∙◌, ap, refusal_line}, Building.{refuses_source, refuses_modes}}
 use Rattle.sharc_top.proofs.built.built.Goals as goal
 
 pub returns-in_ok-refusal-in-Err-Source : goal.returns-in_ok-refusal-in-Err-Source

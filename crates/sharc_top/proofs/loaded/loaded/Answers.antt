@@ -1,7 +1,4 @@
-use Rattle.std.proofs.{Common.{◌≡◌, ◌<◌, ◌≤◌, ◌++◌, ◌+◌, ap, sym, subst, ◌∙◌, arith, length}, lemmas.Result.IfOk-weaker}
-use Rattle.sharc_load.specs.Source.{source_of}
-use Rattle.sharc_top.specs.declared.task.SourceTask.TheVariants as task
-use Rattle.sharc_top.specs.{Answers.Answers, Loading.{size_lines, load_numbers, LoadReplies, long, loaded}}
+use Rattle.sharc_top.proofs.Imports.{◌≡◌, ◌<◌, ◌≤◌, ◌++◌, ◌+◌, ap, sym, subst, ◌∙◌, arith, length, IfOk-weaker, source_of, SourceTask, Answers, size_lines, load_numbers, LoadReplies, long, loaded}
 use Rattle.sharc_top.proofs.loaded.loaded.Goals as goal
 
 pub returns-then-len-gt-SOURCE_LIMIT : goal.returns-then-len-gt-SOURCE_LIMIT
@@ -19,5 +16,5 @@ returns g c =
     let count = c.len-2.ensures ∙ sym c.deref.ensures.len ∙ ap length c.deref.ensures.value ∙ same in
     let size = c.in_ok-text.ensures ∙ ap (λ bytes. size_lines bytes (n + 2)) count in
     let all = c.in_ok-extend_from_slice.ensures.items ∙ ap (λ first. first ++ c.deref-2.result.now) size ∙ ap (λ rest. size_lines (length (source_of n)) (n + 2) ++ rest) c.deref-2.ensures.value in
-    let answers = subst (λ source. Answers (task.Run (load_numbers c.args.workers)) source s text) (c.deref.ensures.value ∙ c.in_ok-source.ensures) c.in_ok-reply.ensures in
+    let answers = subst (λ source. Answers (SourceTask.Run (load_numbers c.args.workers)) source s text) (c.deref.ensures.value ∙ c.in_ok-source.ensures) c.in_ok-reply.ensures in
     subst (λ t. LoadReplies n c.args.workers s t) (sym all) (loaded s text short answers)

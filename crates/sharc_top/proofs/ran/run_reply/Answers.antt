@@ -1,4 +1,4 @@
-use Rattle.sharc_top.specs.Running.{ran}
+use Rattle.sharc_top.proofs.Imports.{ran}
 use Rattle.sharc_top.proofs.ran.run_reply.Goals as goal
 
 pub returns : goal.returns

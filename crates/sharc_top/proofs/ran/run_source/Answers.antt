@@ -1,5 +1,4 @@
-use Rattle.std.proofs.lemmas.Result.{IfOk-weaker}
-use Rattle.sharc_top.proofs.{Building.answers_refused, Verdicts.answers_program}
+use Rattle.sharc_top.proofs.{Imports.IfOk-weaker, Building.answers_refused, Verdicts.answers_program}
 use Rattle.sharc_top.proofs.ran.run_source.Goals as goal
 
 pub returns-in-Ok : goal.returns-in-Ok

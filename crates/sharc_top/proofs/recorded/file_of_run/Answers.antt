@@ -1,4 +1,4 @@
-use Rattle.sharc_top.specs.Recording.{made}
+use Rattle.sharc_top.proofs.Imports.{made}
 use Rattle.sharc_top.proofs.recorded.file_of_run.Goals as goal
 
 pub returns : goal.returns

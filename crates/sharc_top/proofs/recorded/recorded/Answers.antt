@@ -1,5 +1,4 @@
-use Rattle.std.proofs.Common.{arith, ap, length}
-use Rattle.sharc_top.proofs.Recording.{reply_long_input, reply_record}
+use Rattle.sharc_top.proofs.{Imports.{arith, ap, length}, Recording.{reply_long_input, reply_record}}
 use Rattle.sharc_top.proofs.recorded.recorded.Goals as goal
 
 pub returns-in_ok-reply-in-Ok-clause-reply : goal.returns-in_ok-reply-in-Ok-clause-reply

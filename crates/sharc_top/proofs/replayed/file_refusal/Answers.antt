@@ -1,5 +1,4 @@
-use Rattle.std.proofs.Common.{refl}
-use Rattle.sharc_top.proofs.Recording.{replies_no_recording}
+use Rattle.sharc_top.proofs.{Imports.refl, Recording.replies_no_recording}
 use Rattle.sharc_top.proofs.replayed.file_refusal.Goals as goal
 
 pub returns-in_ok-text-in-Line : goal.returns-in_ok-text-in-Line

@@ -1,6 +1,4 @@
-use Rattle.std.proofs.{Common.arith, lemmas.Result.IfOk-weaker}
-use Rattle.sharc_schedule.specs.Shown.{view_of}
-use Rattle.sharc_top.proofs.Recording.{replies_long_source_in, replies_replayed}
+use Rattle.sharc_top.proofs.{Imports.{arith, IfOk-weaker, view_of}, Recording.{replies_long_source_in, replies_replayed}}
 use Rattle.sharc_top.proofs.replayed.file_replayed.Goals as goal
 
 pub returns-then-len-gt-SOURCE_LIMIT : goal.returns-then-len-gt-SOURCE_LIMIT

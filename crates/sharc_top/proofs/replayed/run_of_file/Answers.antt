@@ -1,6 +1,4 @@
-use Rattle.std.proofs.Common.{subst}
-use Rattle.sharc_replay.specs.Run.{IsScheduledRun}
-use Rattle.sharc_top.specs.Recording.{made}
+use Rattle.sharc_top.proofs.Imports.{subst, IsScheduledRun, made}
 use Rattle.sharc_top.proofs.replayed.run_of_file.Goals as goal
 
 pub returns : goal.returns

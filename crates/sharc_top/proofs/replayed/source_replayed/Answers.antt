@@ -1,5 +1,4 @@
-use Rattle.std.proofs.lemmas.Result.{IfOk-weaker}
-use Rattle.sharc_top.proofs.{Building.gives_unbuilt, Recording.gives_program}
+use Rattle.sharc_top.proofs.{Imports.IfOk-weaker, Building.gives_unbuilt, Recording.gives_program}
 use Rattle.sharc_top.proofs.replayed.source_replayed.Goals as goal
 
 pub returns-in-Ok : goal.returns-in-Ok

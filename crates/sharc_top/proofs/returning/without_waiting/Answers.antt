@@ -1,5 +1,4 @@
-use Rattle.std.proofs.lemmas.Result.{IfOk-weaker}
-use Rattle.sharc_top.proofs.Replies.{reply_of}
+use Rattle.sharc_top.proofs.{Imports.IfOk-weaker, Replies.reply_of}
 use Rattle.sharc_top.proofs.returning.without_waiting.Goals as goal
 
 pub ended-requires : goal.ended-requires

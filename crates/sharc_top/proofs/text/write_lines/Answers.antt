@@ -1,5 +1,4 @@
-use Rattle.std.proofs.Common.{arith}
-use Rattle.sharc_top.proofs.Lines.{appends_line, appends_part}
+use Rattle.sharc_top.proofs.{Imports.arith, Lines.{appends_line, appends_part}}
 use Rattle.sharc_top.proofs.text.write_lines.Goals as goal
 
 pub returns-in-Err-clause-part : goal.returns-in-Err-clause-part

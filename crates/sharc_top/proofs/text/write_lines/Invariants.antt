@@ -1,5 +1,4 @@
-use Rattle.std.proofs.Common.{◌≤◌, ◌-◌, length, take}
-use Rattle.std.specs.Io.KnownBytes.{Appends}
+use Rattle.sharc_top.proofs.Imports.{◌≤◌, ◌-◌, length, take, Appends}
 use Rattle.sharc_top.proofs.text.write_lines.Given as goal
 
 -- what was written is the text up to here, and the sink's counts have not fallen

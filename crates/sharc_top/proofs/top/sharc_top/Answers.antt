@@ -1,5 +1,4 @@
-use Rattle.std.proofs.{Common.{rules, map, string_bytes, sym, ◌∙◌, ap, Some}, lemmas.Result.IfOk-weaker}
-use Rattle.sharc_top.proofs.Replies.{reply_of, reply_recorded}
+use Rattle.sharc_top.proofs.{Imports.{rules, map, string_bytes, sym, ◌∙◌, ap, Some, IfOk-weaker}, Replies.{reply_of, reply_recorded}}
 use Rattle.sharc_top.proofs.top.sharc_top.Goals as goal
 
 pub recorded-reply-requires-clause-workers : goal.recorded-reply-requires-clause-workers

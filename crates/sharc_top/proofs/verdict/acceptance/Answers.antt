@@ -1,6 +1,4 @@
-use Rattle.std.proofs.Common.{refl, ◌∙◌, ap}
-use Rattle.sharc_report.specs.Verdicts.{accepted_text}
-use Rattle.sharc_top.proofs.Verdicts.{checks_accepted}
+use Rattle.sharc_top.proofs.{Imports.{refl, ◌∙◌, ap, accepted_text}, Verdicts.checks_accepted}
 use Rattle.sharc_top.proofs.verdict.acceptance.Goals as goal
 
 pub returns : goal.returns

@@ -1,7 +1,4 @@
-use Rattle.std.proofs.{Common.{sym, subst, IfOk}, lemmas.Result.IfOk-weaker}
-use Rattle.sharc_check.specs.{Checks.IsRefused, Named.TellNamed}
-use Rattle.sharc_top.specs.{Refused.IsModeRefusal, Verdict.Checks}
-use Rattle.sharc_top.proofs.Verdicts.{checks_refused}
+use Rattle.sharc_top.proofs.{Imports.{sym, subst, IfOk, IfOk-weaker, IsRefused, TellNamed, IsModeRefusal, Checks}, Verdicts.checks_refused}
 use Rattle.sharc_top.proofs.verdict.checked.Goals as goal
 
 pub returns-in-Ok : goal.returns-in-Ok

@@ -1,6 +1,4 @@
-use Rattle.std.proofs.Common.{ap, ◌∙◌, ◌++◌}
-use Rattle.sharc_report.specs.Explanations.{explain_text}
-use Rattle.sharc_top.proofs.Verdicts.{explains_both}
+use Rattle.sharc_top.proofs.{Imports.{ap, ◌∙◌, ◌++◌, explain_text}, Verdicts.explains_both}
 use Rattle.sharc_top.proofs.verdict.checked_behind.Goals as goal
 
 pub returns : goal.returns

@@ -1,5 +1,4 @@
-use Rattle.std.proofs.Common.{refl, ◌∙◌, ap}
-use Rattle.sharc_report.specs.Verdicts.{check_text}
+use Rattle.sharc_top.proofs.Imports.{refl, ◌∙◌, ap, check_text}
 use Rattle.sharc_top.proofs.verdict.mode_refusal.Goals as goal
 
 pub returns : goal.returns

@@ -1,5 +1,4 @@
-use Rattle.std.proofs.Common.{rules, refl}
-use Rattle.sharc_top.proofs.Replies.{reply_too_long, reply_answered}
+use Rattle.sharc_top.proofs.{Imports.{rules, refl}, Replies.{reply_too_long, reply_answered}}
 use Rattle.sharc_top.proofs.words.answered.Goals as goal
 
 pub returns-in_ok-reply-in-Ok-clause-reply : goal.returns-in_ok-reply-in-Ok-clause-reply

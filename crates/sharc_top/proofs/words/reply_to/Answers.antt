@@ -1,5 +1,4 @@
-use Rattle.std.proofs.{lemmas.Result.IfOk-weaker, Common.{◌≡◌, None, Some, ap, ◌∙◌, rules, arith}}
-use Rattle.sharc_top.proofs.Replies.{reply_usage, reply_loaded, reply_replayed, reply_audited}
+use Rattle.sharc_top.proofs.{Imports.{IfOk-weaker, ◌≡◌, None, Some, ap, ◌∙◌, rules, arith}, Replies.{reply_usage, reply_loaded, reply_replayed, reply_audited}}
 use Rattle.sharc_top.proofs.words.reply_to.Goals as goal
 
 pub overflow_cast-numbers : goal.overflow_cast-numbers

@@ -1,11 +1,8 @@
-use Rattle.std.proofs.{Common.{◌∙◌, ap}, lemmas.Result.IfOk-weaker}
-use Rattle.sharc_report.specs.Refusals.{refusal_line}
-use Rattle.sharc_top.specs.declared.task.SourceTask.TheVariants as task
-use Rattle.sharc_top.proofs.Verdicts.{answers_faulty, answers_program}
+use Rattle.sharc_top.proofs.{Imports.{◌∙◌, ap, IfOk-weaker, refusal_line, SourceTask}, Verdicts.{answers_faulty, answers_program}}
 use Rattle.sharc_top.proofs.words.source_checked.Goals as goal
 
 pub returns-in-Ok : goal.returns-in-Ok
-returns-in-Ok c = IfOk-weaker c.checked.result _ _ (λ reply is. answers_program task.Check _ _ _ _ c.in-Ok.ensures.0 is) c.checked.ensures
+returns-in-Ok c = IfOk-weaker c.checked.result _ _ (λ reply is. answers_program SourceTask.Check _ _ _ _ c.in-Ok.ensures.0 is) c.checked.ensures
 
 pub returns-in-Err-Source : goal.returns-in-Err-Source
 returns-in-Err-Source c =

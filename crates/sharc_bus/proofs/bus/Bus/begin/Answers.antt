@@ -1,7 +1,5 @@
 -- The seats that are given out are those of all ports.
-use Rattle.std.proofs.Common.{List, ap, ◌∙◌, subst}
-use Rattle.sharc_bus.specs.{Rule.{unbegun, words_known}, Bus.{BusView, SeatView, AreSeatsOf}, Table.seats_with}
-use Rattle.sharc_bus.proofs.Giving.{seats_are, seats_unbegun}
+use Rattle.sharc_bus.proofs.{Imports.{List, ap, ◌∙◌, subst, unbegun, words_known, BusView, SeatView, AreSeatsOf, seats_with}, Giving.{seats_are, seats_unbegun}}
 use Rattle.sharc_bus.proofs.bus.Bus.begin.Goals as goal
 
 pub returns-clause-seats : goal.returns-clause-seats

@@ -1,7 +1,5 @@
 -- No part has begun, so the words of the closed table are those that are there.
-use Rattle.std.proofs.Common.{◌≡◌, suc, List, sym, ap, ◌∙◌}
-use Rattle.sharc_bus.specs.{declared.rule.Part.Part, Rule.{unbegun, words_known}, Bus.{BusView, RestView}}
-use Rattle.sharc_bus.proofs.Settling.{words_stand}
+use Rattle.sharc_bus.proofs.{Imports.{◌≡◌, suc, List, sym, ap, ◌∙◌, Part, unbegun, words_known, BusView, RestView}, Settling.words_stand}
 use Rattle.sharc_bus.proofs.bus.Bus.close.Goals as goal
 
 pub returns : goal.returns

@@ -1,7 +1,5 @@
 -- All parts are together, and begin a round with the words that the one history of their lists leaves.
-use Rattle.std.proofs.Common.{suc, List, sym, ap, ◌∙◌, subst}
-use Rattle.sharc_bus.specs.{declared.rule.Part.Part, Rule.{words_known, Settled}, Bus.{BusView, SeatView, RestView, IsOf, AreSeatsOf, OneHistory, lists_of}}
-use Rattle.sharc_bus.proofs.{Settling.settle_allowed, Closing.{as_many, some_part, each, rest_then, one_history}}
+use Rattle.sharc_bus.proofs.{Imports.{suc, List, sym, ap, ◌∙◌, subst, Part, words_known, Settled, BusView, SeatView, RestView, IsOf, AreSeatsOf, OneHistory, lists_of}, Settling.settle_allowed, Closing.{as_many, some_part, each, rest_then, one_history}}
 use Rattle.sharc_bus.proofs.bus.Bus.end.Goals as goal
 
 pub load-requires : goal.load-requires

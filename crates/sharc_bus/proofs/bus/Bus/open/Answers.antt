@@ -1,8 +1,5 @@
 -- The table opens under the rule, with the parts of all ports.
-use Rattle.std.proofs.Common.{◌≡◌, suc, List, [], sym, ap, ◌∙◌, subst}
-use Rattle.atomic_table.specs.Table.{Me, opening}
-use Rattle.sharc_bus.specs.{declared.rule.Part.Part, Rule.{BusRule, unbegun}, Bus.RestView}
-use Rattle.sharc_bus.proofs.{Seats.opening_keeps, Closing.rest_of}
+use Rattle.sharc_bus.proofs.{Imports.{◌≡◌, suc, List, [], sym, ap, ◌∙◌, subst, Me, opening, Part, BusRule, unbegun, RestView}, Seats.opening_keeps, Closing.rest_of}
 use Rattle.sharc_bus.proofs.bus.Bus.open.Goals as goal
 
 abbrev M : Type 0

@@ -1,7 +1,5 @@
 -- No part has begun, so the word is the one of which the parts know.
-use Rattle.std.proofs.Common.{◌≡◌, suc, List, ap, ◌∙◌}
-use Rattle.sharc_bus.specs.{declared.rule.Part.Part, Rule.{unbegun, words_known}, Bus.RestView}
-use Rattle.sharc_bus.proofs.Settling.{look_allowed}
+use Rattle.sharc_bus.proofs.{Imports.{◌≡◌, suc, List, ap, ◌∙◌, Part, unbegun, words_known, RestView}, Settling.look_allowed}
 use Rattle.sharc_bus.proofs.rest.BusRest.look.Goals as goal
 
 pub load-requires : goal.load-requires

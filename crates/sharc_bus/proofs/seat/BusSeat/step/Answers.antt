@@ -1,7 +1,5 @@
 -- A seat keeps its one part.
-use Rattle.std.proofs.Common.{ℕ, sym, List, [], ◌∷◌, ◌++◌, ap, ◌∙◌}
-use Rattle.sharc_word.specs.Place.{event_of}
-use Rattle.sharc_bus.specs.{declared.rule.Part.Part, Rule.{with_step, own_bit, first_number}}
+use Rattle.sharc_bus.proofs.Imports.{ℕ, sym, List, [], ◌∷◌, ◌++◌, ap, ◌∙◌, event_of, Part, with_step, own_bit, first_number}
 use Rattle.sharc_bus.proofs.seat.BusSeat.step.Goals as goal
 
 pub invariant_of-self : goal.invariant_of-self

@@ -1,7 +1,4 @@
-use Rattle.std.proofs.{Common.{◌≡◌, ap, refl, sym, ◌∙◌, length, arith, Some, None}, lemmas.Option.slice_get_read}
-use Rattle.std.specs.Option.{option_copied}
-use Rattle.sharc_ctype.specs.{Resolved.declared_at, FirstPlaces.place_of}
-use Rattle.sharc_ctype.proofs.DeclaredLemmas.{place_within, found_at, none_at}
+use Rattle.sharc_ctype.proofs.{Imports.{◌≡◌, ap, refl, sym, ◌∙◌, length, arith, Some, None, slice_get_read, option_copied, declared_at, place_of}, DeclaredLemmas.{place_within, found_at, none_at}}
 use Rattle.sharc_ctype.proofs.declared.Declared.find.Goals as goal
 
 pub index-requires : goal.index-requires

@@ -1,6 +1,4 @@
-use Rattle.std.proofs.Common.{◌≡◌, ◌+◌, sym, subst, arith}
-use Rattle.sharc_ctype.specs.{Entities.positions_of, FirstEntities.AreNumbered}
-use Rattle.sharc_ctype.proofs.EntityLemmas.{numbered_pushed}
+use Rattle.sharc_ctype.proofs.{Imports.{◌≡◌, ◌+◌, sym, subst, arith, positions_of, AreNumbered}, EntityLemmas.numbered_pushed}
 use Rattle.sharc_ctype.proofs.entities.Entities.add.Goals as goal
 
 pub invariant_of-self-2 : goal.invariant_of-self-2

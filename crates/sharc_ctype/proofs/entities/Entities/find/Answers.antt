@@ -1,7 +1,4 @@
-use Rattle.std.proofs.{Common.{◌≡◌, ap, refl, sym, ◌∙◌, length, arith, Some, None}, lemmas.Option.slice_get_read}
-use Rattle.std.specs.Option.{option_copied}
-use Rattle.sharc_ctype.specs.{Entities.numbered_at, FirstEntities.entity_place}
-use Rattle.sharc_ctype.proofs.EntityLemmas.{entity_within, entity_found, no_entity}
+use Rattle.sharc_ctype.proofs.{Imports.{◌≡◌, ap, refl, sym, ◌∙◌, length, arith, Some, None, slice_get_read, option_copied, numbered_at, entity_place}, EntityLemmas.{entity_within, entity_found, no_entity}}
 use Rattle.sharc_ctype.proofs.entities.Entities.find.Goals as goal
 
 pub index-requires : goal.index-requires

@@ -1,7 +1,4 @@
-use Rattle.std.proofs.Common.{ap, sym, ◌∙◌, Some, None}
-use Rattle.std.specs.{List.slice_get, Option.{option_copied, option_and_then}}
-use Rattle.sharc_ctype.specs.Resolved.{Resolution, function_at}
-use Rattle.sharc_ctype.proofs.PlaceLemmas.{to_function}
+use Rattle.sharc_ctype.proofs.{Imports.{ap, sym, ◌∙◌, Some, None, slice_get, option_copied, option_and_then, Resolution, function_at}, PlaceLemmas.to_function}
 use Rattle.sharc_ctype.proofs.typed.Typed.function_at.Goals as goal
 
 pub returns-in-None : goal.returns-in-None

@@ -1,7 +1,4 @@
-use Rattle.std.proofs.Common.{◌≡◌, ap, ◌∙◌, length, arith}
-use Rattle.sharc_tree.specs.View.{view_items}
-use Rattle.sharc_ctype.specs.Resolved.{Resolution, functions_in}
-use Rattle.sharc_ctype.proofs.PlaceLemmas.{function_places_counted}
+use Rattle.sharc_ctype.proofs.{Imports.{◌≡◌, ap, ◌∙◌, length, arith, view_items, Resolution, functions_in}, PlaceLemmas.function_places_counted}
 use Rattle.sharc_ctype.proofs.typed.Typed.function_count.Goals as goal
 
 pub returns : goal.returns

@@ -1,7 +1,4 @@
-use Rattle.std.proofs.Common.{◌≡◌, ap, ◌∙◌, length, arith}
-use Rattle.sharc_tree.specs.View.{view_items}
-use Rattle.sharc_ctype.specs.Resolved.{Resolution, globals_in}
-use Rattle.sharc_ctype.proofs.PlaceLemmas.{global_places_counted}
+use Rattle.sharc_ctype.proofs.{Imports.{◌≡◌, ap, ◌∙◌, length, arith, view_items, Resolution, globals_in}, PlaceLemmas.global_places_counted}
 use Rattle.sharc_ctype.proofs.typed.Typed.global_count.Goals as goal
 
 pub returns : goal.returns

@@ -1,7 +1,4 @@
-use Rattle.std.proofs.Common.{ap, ◌∙◌}
-use Rattle.sharc_tree.specs.View.{view_program}
-use Rattle.sharc_ctype.specs.{Constants.is_constant, Resolved.Resolution}
-use Rattle.sharc_ctype.proofs.AssignedLemmas.{table_tells}
+use Rattle.sharc_ctype.proofs.{Imports.{ap, ◌∙◌, view_program, is_constant, Resolution}, AssignedLemmas.table_tells}
 use Rattle.sharc_ctype.proofs.typed.Typed.is_constant.Goals as goal
 
 pub returns : goal.returns

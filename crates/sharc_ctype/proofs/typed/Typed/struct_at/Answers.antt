@@ -1,8 +1,4 @@
-use Rattle.std.proofs.Common.{◌≡◌, ap, sym, ◌∙◌, Some, None}
-use Rattle.std.specs.{List.slice_get, Option.{option_copied, option_and_then}}
-use Rattle.sharc_tree.specs.View.{view_program, view_items}
-use Rattle.sharc_ctype.specs.Resolved.{Resolution, struct_at, structs_in}
-use Rattle.sharc_ctype.proofs.{LimitLemmas.found_is_few, PlaceLemmas.to_struct}
+use Rattle.sharc_ctype.proofs.{Imports.{◌≡◌, ap, sym, ◌∙◌, Some, None, slice_get, option_copied, option_and_then, view_program, view_items, Resolution, struct_at, structs_in}, LimitLemmas.found_is_few, PlaceLemmas.to_struct}
 use Rattle.sharc_ctype.proofs.typed.Typed.struct_at.Goals as goal
 
 pub returns-in-None-clause-definition : goal.returns-in-None-clause-definition

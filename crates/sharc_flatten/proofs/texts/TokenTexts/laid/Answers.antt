@@ -1,8 +1,4 @@
-use Rattle.std.proofs.Common.{◌++◌, sym}
-use Rattle.sharc_tree.specs.Texts.{tokens_text}
-use Rattle.sharc_code.specs.declared.code.Text.{Text}
-use Rattle.sharc_flat.specs.Laid.{words_of}
-use Rattle.sharc_flatten.proofs.{LineLemmas.{none_laid, some_laid}, PlaceLemmas.{lies_on, grows_more}}
+use Rattle.sharc_flatten.proofs.{Imports.{◌++◌, sym, tokens_text, Text, words_of}, LineLemmas.{none_laid, some_laid}, PlaceLemmas.{lies_on, grows_more}}
 use Rattle.sharc_flatten.proofs.texts.TokenTexts.laid.Goals as goal
 
 pub returns-in-None-clause-laid : goal.returns-in-None-clause-laid

@@ -1,6 +1,4 @@
-use Rattle.std.proofs.{Common.{◌<◌, length, ◌∙◌, arith}, lemmas.List.length-set}
-use Rattle.sharc_tree.specs.Texts.{tokens_text}
-use Rattle.sharc_flatten.proofs.{LineLemmas.lay_more, ListLemmas.left_more, PlaceLemmas.grows_more}
+use Rattle.sharc_flatten.proofs.{Imports.{◌<◌, length, ◌∙◌, arith, length-set, tokens_text}, LineLemmas.lay_more, ListLemmas.left_more, PlaceLemmas.grows_more}
 use Rattle.sharc_flatten.proofs.texts.TokenTexts.lay.Goals as goal
 
 pub loop-line-preserved : goal.loop-line-preserved

@@ -1,7 +1,4 @@
-use Rattle.std.proofs.Common.{◌≡◌, ℕ, List, ◌++◌, length, take, drop}
-use Rattle.sharc_tree.specs.Texts.{tokens_text}
-use Rattle.sharc_flat.specs.Laid.{AreLaid}
-use Rattle.sharc_flatten.specs.Places.{Grows}
+use Rattle.sharc_flatten.proofs.Imports.{◌≡◌, ℕ, List, ◌++◌, length, take, drop, tokens_text, AreLaid, Grows}
 use Rattle.sharc_flatten.proofs.texts.TokenTexts.lay.Given as goal
 
 abbrev pub invariant-loop-line : goal.invariant-loop-line

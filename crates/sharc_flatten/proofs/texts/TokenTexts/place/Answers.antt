@@ -1,5 +1,4 @@
-use Rattle.std.proofs.Common.{◌≡◌, min, length, ap, sym, ◌∙◌, arith}
-use Rattle.sharc_flatten.proofs.PlaceLemmas.{words_lie, no_words, places_length}
+use Rattle.sharc_flatten.proofs.{Imports.{◌≡◌, min, length, ap, sym, ◌∙◌, arith}, PlaceLemmas.{words_lie, no_words, places_length}}
 use Rattle.sharc_flatten.proofs.texts.TokenTexts.place.Goals as goal
 
 pub returns-then-from-until : goal.returns-then-from-until

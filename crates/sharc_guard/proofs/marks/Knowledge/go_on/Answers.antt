@@ -1,6 +1,4 @@
-use Rattle.std.proofs.Common.{◌≡◌, ◌+◌, ◌∙◌, ap}
-use Rattle.sharc_guard.specs.{Known.know_next, Marked.{notes_of, know_of, is_one, with_access, with_copy, with_number, AreBefore}}
-use Rattle.sharc_guard.proofs.Noting.{next_known, next_before, on_ok}
+use Rattle.sharc_guard.proofs.{Imports.{◌≡◌, ◌+◌, ◌∙◌, ap, know_next, notes_of, know_of, is_one, with_access, with_copy, with_number, AreBefore}, Noting.{next_known, next_before, on_ok}}
 use Rattle.sharc_guard.proofs.marks.Knowledge.go_on.Goals as goal
 
 pub returns-clause-known : goal.returns-clause-known

@@ -1,6 +1,4 @@
-use Rattle.std.proofs.Common.{◌≡◌, ◌∙◌, ap, sym, cond}
-use Rattle.sharc_guard.specs.{Known.place_of, Marked.{notes_of, know_of, with_access, with_noted, with_place}}
-use Rattle.sharc_guard.proofs.Noting.{noted_same, on_ok}
+use Rattle.sharc_guard.proofs.{Imports.{◌≡◌, ◌∙◌, ap, sym, cond, place_of, notes_of, know_of, with_access, with_noted, with_place}, Noting.{noted_same, on_ok}}
 use Rattle.sharc_guard.proofs.marks.Knowledge.note_access.Goals as goal
 
 pub returns-then-access : goal.returns-then-access

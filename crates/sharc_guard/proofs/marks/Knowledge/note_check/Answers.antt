@@ -1,6 +1,4 @@
-use Rattle.std.proofs.Common.{◌≡◌, ap, sym, ◌∙◌, Some}
-use Rattle.sharc_guard.specs.Marked.{notes_of, place_from, with_noted, with_place}
-use Rattle.sharc_guard.proofs.Noting.{on_ok}
+use Rattle.sharc_guard.proofs.{Imports.{◌≡◌, ap, sym, ◌∙◌, Some, notes_of, place_from, with_noted, with_place}, Noting.on_ok}
 use Rattle.sharc_guard.proofs.marks.Knowledge.note_check.Goals as goal
 
 pub returns-in-Some : goal.returns-in-Some

@@ -1,6 +1,4 @@
-use Rattle.std.proofs.Common.{ap, sym, ◌∙◌}
-use Rattle.sharc_guard.specs.Marked.{notes_of, of_register, with_copy}
-use Rattle.sharc_guard.proofs.Noting.{copy_noted}
+use Rattle.sharc_guard.proofs.{Imports.{ap, sym, ◌∙◌, notes_of, of_register, with_copy}, Noting.copy_noted}
 use Rattle.sharc_guard.proofs.marks.Knowledge.note_copy.Goals as goal
 
 pub returns-in_ok-insert-in-Some : goal.returns-in_ok-insert-in-Some

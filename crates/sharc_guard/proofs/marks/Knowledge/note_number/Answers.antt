@@ -1,6 +1,4 @@
-use Rattle.std.proofs.Common.{ap, sym, ◌∙◌}
-use Rattle.sharc_guard.specs.Marked.{is_one, notes_of, of_register, with_number}
-use Rattle.sharc_guard.proofs.Noting.{number_noted}
+use Rattle.sharc_guard.proofs.{Imports.{ap, sym, ◌∙◌, is_one, notes_of, of_register, with_number}, Noting.number_noted}
 use Rattle.sharc_guard.proofs.marks.Knowledge.note_number.Goals as goal
 
 pub returns-in_ok-insert-in-Some : goal.returns-in_ok-insert-in-Some

@@ -1,5 +1,4 @@
-use Rattle.sharc_guard.specs.Marked.{notes_of, of_register}
-use Rattle.sharc_guard.proofs.Noting.{written_noted}
+use Rattle.sharc_guard.proofs.{Imports.{notes_of, of_register}, Noting.written_noted}
 use Rattle.sharc_guard.proofs.marks.Knowledge.note_one.Goals as goal
 
 pub returns : goal.returns

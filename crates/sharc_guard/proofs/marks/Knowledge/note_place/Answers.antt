@@ -1,7 +1,4 @@
-use Rattle.std.proofs.Common.{ap, sym, ◌∙◌, Some}
-use Rattle.sharc_heap.specs.declared.shadow_word.Kind.TheVariants.{Write}
-use Rattle.sharc_guard.specs.Marked.{notes_of, of_cell, passed_at, place_from, stronger, with_place}
-use Rattle.sharc_guard.proofs.Noting.{variable_noted, global_noted}
+use Rattle.sharc_guard.proofs.{Imports.{ap, sym, ◌∙◌, Some, Write, notes_of, of_cell, passed_at, place_from, stronger, with_place}, Noting.{variable_noted, global_noted}}
 use Rattle.sharc_guard.proofs.marks.Knowledge.note_place.Goals as goal
 
 pub returns-in_ok-insert-in-InVariable : goal.returns-in_ok-insert-in-InVariable

@@ -1,7 +1,4 @@
-use Rattle.std.proofs.Common.{◌≡◌, ◌∙◌, ap, sym}
-use Rattle.std.specs.Prelude.{◌==◌}
-use Rattle.sharc_guard.specs.Marked.{notes_of, is_written, with_written}
-use Rattle.sharc_guard.proofs.Noting.{both_written, on_ok}
+use Rattle.sharc_guard.proofs.{Imports.{◌≡◌, ◌∙◌, ap, sym, ◌==◌, notes_of, is_written, with_written}, Noting.{both_written, on_ok}}
 use Rattle.sharc_guard.proofs.marks.Knowledge.note_written.Goals as goal
 
 pub returns-in_ok-note_one-in-Two : goal.returns-in_ok-note_one-in-Two

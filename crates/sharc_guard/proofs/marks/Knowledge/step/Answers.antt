@@ -1,6 +1,4 @@
-use Rattle.std.proofs.Common.{◌≡◌, ◌+◌, ◌∙◌, ap, sym, cond, subst, Some}
-use Rattle.sharc_guard.specs.{Known.{know_after, know_next, nothing}, Marked.{notes_of, know_of, AreBefore}}
-use Rattle.sharc_guard.proofs.{Marking.{ended, ended_before}, Noting.on_ok}
+use Rattle.sharc_guard.proofs.{Imports.{◌≡◌, ◌+◌, ◌∙◌, ap, sym, cond, subst, Some, know_after, know_next, nothing, notes_of, know_of, AreBefore}, Marking.{ended, ended_before}, Noting.on_ok}
 use Rattle.sharc_guard.proofs.marks.Knowledge.step.Goals as goal
 
 pub returns-then-enters-clause-known : goal.returns-then-enters-clause-known

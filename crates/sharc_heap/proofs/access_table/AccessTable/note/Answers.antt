@@ -1,5 +1,4 @@
-use Rattle.std.proofs.{Common.{◌∙◌, sym, ◌<◌, length, arith}, lemmas.Bool.OnFalse_from}
-use Rattle.sharc_heap.proofs.Table.{room_for_new, test_is, step_keeps, step_notes, step_is}
+use Rattle.sharc_heap.proofs.{Imports.{◌∙◌, sym, ◌<◌, length, arith, OnFalse_from}, Table.{room_for_new, test_is, step_keeps, step_notes, step_is}}
 use Rattle.sharc_heap.proofs.access_table.AccessTable.note.Goals as goal
 
 pub list_first-requires : goal.list_first-requires

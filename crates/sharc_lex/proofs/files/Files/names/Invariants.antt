@@ -1,4 +1,4 @@
-use Rattle.std.proofs.Common.{◌≡◌, take, map}
+use Rattle.sharc_lex.proofs.Imports.{◌≡◌, take, map}
 use Rattle.sharc_lex.proofs.files.Files.names.Given as goal
 
 abbrev pub invariant-loop-name : goal.invariant-loop-name

@@ -1,6 +1,4 @@
-use Rattle.std.proofs.Common.{ap, ◌∙◌}
-use Rattle.sharc_lex.specs.Files.{with_file, place_of}
-use Rattle.sharc_lex.proofs.FileLemmas.{texts, texts-insert_key, position-texts}
+use Rattle.sharc_lex.proofs.{Imports.{ap, ◌∙◌, with_file, place_of}, FileLemmas.{texts, texts-insert_key, position-texts}}
 use Rattle.sharc_lex.proofs.files.Files.place.Goals as goal
 
 pub returns-clause-files : goal.returns-clause-files

@@ -1,4 +1,4 @@
-use Rattle.std.proofs.Common.{◌≡◌, take}
+use Rattle.sharc_names.proofs.Imports.{◌≡◌, take}
 use Rattle.sharc_names.proofs.fields.Fields.all.Given as goal
 
 abbrev pub invariant-loop-field : goal.invariant-loop-field

@@ -1,5 +1,4 @@
-use Rattle.std.proofs.Common.{◌∙◌, arith}
-use Rattle.sharc_names.proofs.TableLemmas.{one_dropped}
+use Rattle.sharc_names.proofs.{Imports.{◌∙◌, arith}, TableLemmas.one_dropped}
 use Rattle.sharc_names.proofs.names.NamesInScope.leave.Goals as goal
 
 pub loop-self-preserved : goal.loop-self-preserved

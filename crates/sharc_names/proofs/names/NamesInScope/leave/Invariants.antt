@@ -1,4 +1,4 @@
-use Rattle.std.proofs.Common.{◌≡◌, ◌-◌, ◌≤◌, length, drop}
+use Rattle.sharc_names.proofs.Imports.{◌≡◌, ◌-◌, ◌≤◌, length, drop}
 use Rattle.sharc_names.proofs.names.NamesInScope.leave.Given as goal
 
 abbrev pub invariant-loop-self : goal.invariant-loop-self

@@ -1,8 +1,4 @@
-use Rattle.std.proofs.Common.{ap, ◌∙◌, [], ◌∷◌, ◌++◌}
-use Rattle.std.specs.{Str.bytes_eq, Map.lookup}
-use Rattle.indexmap.proofs.CallerLemmas.{insert_entry-new}
-use Rattle.sharc_names.specs.{Names.struct_of, View.{view_struct, structs_seen}}
-use Rattle.sharc_names.proofs.StructLemmas.{found_lookup, seen_push, none_found}
+use Rattle.sharc_names.proofs.{Imports.{ap, ◌∙◌, [], ◌∷◌, ◌++◌, bytes_eq, lookup, insert_entry-new, struct_of, view_struct, structs_seen}, StructLemmas.{found_lookup, seen_push, none_found}}
 use Rattle.sharc_names.proofs.structs.Structs.add.Goals as goal
 
 pub returns : goal.returns

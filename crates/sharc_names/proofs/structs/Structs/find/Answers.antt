@@ -1,6 +1,4 @@
-use Rattle.std.proofs.Common.{ap, ◌∙◌}
-use Rattle.sharc_names.specs.Names.{struct_of}
-use Rattle.sharc_names.proofs.StructLemmas.{found_is, seen_at, found_lookup}
+use Rattle.sharc_names.proofs.{Imports.{ap, ◌∙◌, struct_of}, StructLemmas.{found_is, seen_at, found_lookup}}
 use Rattle.sharc_names.proofs.structs.Structs.find.Goals as goal
 
 pub returns : goal.returns

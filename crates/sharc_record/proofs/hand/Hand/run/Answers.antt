@@ -1,7 +1,4 @@
-use Rattle.std.proofs.Common.{sym, subst}
-use Rattle.sharc_rounds.specs.Round.{Seat}
-use Rattle.sharc_record.specs.Round.{MayQuantumAt, HasRun}
-use Rattle.sharc_record.proofs.Running.{nobody}
+use Rattle.sharc_record.proofs.{Imports.{sym, subst, Seat, MayQuantumAt, HasRun}, Running.nobody}
 use Rattle.sharc_record.proofs.hand.Hand.run.Goals as goal
 
 pub run_thread-requires-clause-may : goal.run_thread-requires-clause-may

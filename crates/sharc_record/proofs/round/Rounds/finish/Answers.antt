@@ -1,7 +1,4 @@
-use Rattle.std.proofs.Common.{◌≡◌, ℕ, false, List, sym, ◌∙◌, subst}
-use Rattle.sharc_cpu.specs.Thread.{ThreadView}
-use Rattle.sharc_code.specs.Whole.{place_after}
-use Rattle.sharc_threads.specs.{Ends.{Standing, is_enabled, AreStarted}, Seats.AreOf}
+use Rattle.sharc_record.proofs.Imports.{◌≡◌, ℕ, false, List, sym, ◌∙◌, subst, ThreadView, place_after, Standing, is_enabled, AreStarted, AreOf}
 use Rattle.sharc_record.proofs.round.Rounds.finish.Goals as goal
 
 pub make_places-requires-clause-run : goal.make_places-requires-clause-run

@@ -1,9 +1,4 @@
-use Rattle.std.proofs.Common.{◌≡◌, ◌<◌, ℕ, List, ◌++◌, refl, sym, ap, ◌∙◌, subst, arith}
-use Rattle.sharc_bus.specs.Bus.{OneHistory}
-use Rattle.sharc_word.specs.declared.step.WordEvent.{WordEvent}
-use Rattle.sharc_record.specs.{Shared.{SeatView, lists_of}, declared.journal.Journal.Journal, Round.hand_at}
-use Rattle.sharc_record.proofs.{Places.at_place, Dealing.may_at, Rounding.{fit, are_back, round_made, has_hand, through}}
-use Rattle.sharc_rounds.specs.Round.{Seat}
+use Rattle.sharc_record.proofs.{Imports.{◌≡◌, ◌<◌, ℕ, List, ◌++◌, refl, sym, ap, ◌∙◌, subst, arith, OneHistory, WordEvent, SeatView, lists_of, Journal, hand_at, Seat}, Places.at_place, Dealing.may_at, Rounding.{fit, are_back, round_made, has_hand, through}}
 use Rattle.sharc_record.proofs.round.Rounds.make.Goals as goal
 
 pub run_all-requires-clause-may : goal.run_all-requires-clause-may

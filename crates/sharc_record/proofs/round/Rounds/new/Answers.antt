@@ -1,6 +1,4 @@
-use Rattle.std.proofs.{Common.{◌≡◌, ℕ, List, [], length, refl, sym, ap, ◌∙◌, subst, arith}, lemmas.List.FromFn.length-map-range_with_len}
-use Rattle.sharc_code.specs.{Layout.words_of, Opening.{opens_with, opening_words}, Path.begun, Runs.is_started, Whole.{bounds, place_after}}
-use Rattle.sharc_threads.specs.Seats.{AreSeats}
+use Rattle.sharc_record.proofs.Imports.{◌≡◌, ℕ, List, [], length, refl, sym, ap, ◌∙◌, subst, arith, length-map-range_with_len, words_of, opens_with, opening_words, begun, is_started, bounds, place_after, AreSeats}
 use Rattle.sharc_record.proofs.round.Rounds.new.Goals as goal
 
 pub returns : goal.returns

@@ -1,10 +1,4 @@
-use Rattle.std.proofs.Common.{◌++◌, ℕ, ◌<◌, List, None, get_or, sym, ap, ◌∙◌, subst}
-use Rattle.sharc_word.specs.{declared.step.TheConstants.THREADS, declared.step.WordEvent.WordEvent}
-use Rattle.sharc_code.specs.Runs.{word_events}
-use Rattle.sharc_threads.specs.Seats.{HasBegun}
-use Rattle.sharc_rounds.specs.Laws.{GoneOn}
-use Rattle.sharc_record.specs.declared.round.Rounds.{Rounds}
-use Rattle.sharc_record.proofs.Appending.{events-append}
+use Rattle.sharc_record.proofs.{Imports.{◌++◌, ℕ, ◌<◌, List, None, get_or, sym, ap, ◌∙◌, subst, THREADS, WordEvent, word_events, HasBegun, GoneOn, Rounds}, Appending.events-append}
 use Rattle.sharc_record.proofs.round.Rounds.next.Goals as goal
 
 pub begin-requires-clause-count : goal.begin-requires-clause-count

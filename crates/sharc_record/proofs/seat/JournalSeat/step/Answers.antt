@@ -1,5 +1,5 @@
 -- A seat keeps its one part.
-use Rattle.sharc_record.specs.Table.{stepped}
+use Rattle.sharc_record.proofs.Imports.{stepped}
 use Rattle.sharc_record.proofs.seat.JournalSeat.step.Goals as goal
 
 pub invariant_of-self : goal.invariant_of-self

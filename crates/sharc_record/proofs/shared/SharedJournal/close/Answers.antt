@@ -1,9 +1,5 @@
 -- No seat has the turn, so the journal is in its slot, and it has the one history of all seats' lists.
-use Rattle.std.proofs.Common.{◌≡◌, List, refl, sym, ap, ◌∙◌, subst}
-use Rattle.std.specs.{Prelude.{Some, None}, Option.IsSome}
-use mathlib.Core.Option.{some-injective}
-use Rattle.sharc_record.specs.{declared.journal.Journal.Journal, Rule.Slot, Shared.{SharedView, SeatView, AreSeatsOf, OneJournal, lists_of}}
-use Rattle.sharc_record.proofs.Closing.{home, at_home, one_journal}
+use Rattle.sharc_record.proofs.{Imports.{◌≡◌, List, refl, sym, ap, ◌∙◌, subst, Some, None, IsSome, some-injective, Journal, Slot, SharedView, SeatView, AreSeatsOf, OneJournal, lists_of}, Closing.{home, at_home, one_journal}}
 use Rattle.sharc_record.proofs.shared.SharedJournal.close.Goals as goal
 
 pub unwrap-journal-requires : goal.unwrap-journal-requires

@@ -1,9 +1,5 @@
 -- The table opens under the rule, and its seats are those of all ports.
-use Rattle.std.proofs.Common.{◌≡◌, ◌<◌, ◌^◌, ◌∷◌, ◌++◌, [], length, sym, ap, ◌∙◌, subst, arith}
-use Rattle.std.specs.Prelude.{Some}
-use Rattle.atomic_table.specs.Table.{opening}
-use Rattle.sharc_record.specs.{Rule.{JournalRule, unbegun, unbegun_view}, Shared.SharedView, Table.seats_with}
-use Rattle.sharc_record.proofs.{Seats.opening_keeps, Giving.{seats_are, seats_unbegun}}
+use Rattle.sharc_record.proofs.{Imports.{◌≡◌, ◌<◌, ◌^◌, ◌∷◌, ◌++◌, [], length, sym, ap, ◌∙◌, subst, arith, Some, opening, JournalRule, unbegun, unbegun_view, SharedView, seats_with}, Seats.opening_keeps, Giving.{seats_are, seats_unbegun}}
 use Rattle.sharc_record.proofs.shared.SharedJournal.open.Goals as goal
 
 pub new-requires : goal.new-requires

@@ -1,8 +1,5 @@
-use Rattle.std.proofs.Common.{◌≡◌, ◌<◌, List, length, Option, None, get_or, set, sym, ap, ◌∙◌, subst, arith}
-use Rattle.sharc_record.specs.{declared.hand.Hand.Hand, Round.{MayRunAt, HasRunAt}}
-use Rattle.sharc_record.proofs.Dealing.{done_more, left_less, same_length}
+use Rattle.sharc_record.proofs.{Imports.{◌≡◌, ◌<◌, List, length, Option, None, get_or, set, sym, ap, ◌∙◌, subst, arith, Hand, MayRunAt, HasRunAt, any_default}, Dealing.{done_more, left_less, same_length}}
 use Rattle.sharc_record.proofs.worker.Worker.run.Goals as goal
-use Rattle.sharc_lemmas.proofs.Lists.{any_default}
 
 pub run_at-requires-clause-may : goal.run_at-requires-clause-may
 run_at-requires-clause-may g c =

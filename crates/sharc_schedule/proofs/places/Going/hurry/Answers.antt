@@ -1,8 +1,4 @@
-use Rattle.std.proofs.{Common.{◌≡◌, ℕ, true, ◌≤◌, ◌<◌, List, ◌++◌, length, get_or, replicate, sym, ap, ◌∙◌, subst, arith}, lemmas.List.append-nil}
-use Rattle.sharc_code.specs.Whole.{place_after}
-use Rattle.sharc_threads.specs.Ends.{is_enabled}
-use Rattle.sharc_schedule.specs.{Schedule.counted_together, declared.places.Going.Going}
-use Rattle.sharc_schedule.proofs.{Hurrying.hurried, Turning.{enabled_too, room}}
+use Rattle.sharc_schedule.proofs.{Imports.{◌≡◌, ℕ, true, ◌≤◌, ◌<◌, List, ◌++◌, length, get_or, replicate, sym, ap, ◌∙◌, subst, arith, append-nil, place_after, is_enabled, counted_together, Going}, Hurrying.hurried, Turning.{enabled_too, room}}
 use Rattle.sharc_schedule.proofs.places.Going.hurry.Goals as goal
 
 pub count-requires : goal.count-requires

@@ -1,8 +1,4 @@
-use Rattle.std.proofs.Common.{◌≡◌, true, false, List, [], ◌++◌, sym, ◌∙◌, arith}
-use Rattle.sharc_code.specs.{Runs.Turn, Whole.place_after}
-use Rattle.sharc_threads.specs.Ends.{is_enabled}
-use Rattle.sharc_schedule.specs.Going.{GoesAt, HurriedOn}
-use Rattle.sharc_schedule.proofs.{Hurrying.{hurried_on, hurried_none, place_still}, Turning.enabled_too}
+use Rattle.sharc_schedule.proofs.{Imports.{◌≡◌, true, false, List, [], ◌++◌, sym, ◌∙◌, arith, Turn, place_after, is_enabled, GoesAt, HurriedOn}, Hurrying.{hurried_on, hurried_none, place_still}, Turning.enabled_too}
 use Rattle.sharc_schedule.proofs.places.Going.hurry_on.Goals as goal
 
 pub turns-init : goal.turns-init

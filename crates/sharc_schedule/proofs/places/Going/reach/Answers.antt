@@ -1,8 +1,4 @@
-use Rattle.std.proofs.Common.{◌≡◌, true, List, [], ◌++◌, ◌∷◌, inr, sym, ◌∙◌}
-use Rattle.sharc_code.specs.{Runs.Turn, Whole.place_after}
-use Rattle.sharc_threads.specs.Ends.{is_enabled}
-use Rattle.sharc_schedule.specs.Going.{GoesAt}
-use Rattle.sharc_schedule.proofs.{Hurrying.{place_kept, walked_hurried}, Turning.{walked_none, walked_more, reached_step}}
+use Rattle.sharc_schedule.proofs.{Imports.{◌≡◌, true, List, [], ◌++◌, ◌∷◌, inr, sym, ◌∙◌, Turn, place_after, is_enabled, GoesAt}, Hurrying.{place_kept, walked_hurried}, Turning.{walked_none, walked_more, reached_step}}
 use Rattle.sharc_schedule.proofs.places.Going.reach.Goals as goal
 
 pub may_turn-may-requires-clause-walk : goal.may_turn-may-requires-clause-walk

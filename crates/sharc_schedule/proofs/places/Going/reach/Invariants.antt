@@ -1,8 +1,4 @@
-use Rattle.std.proofs.Common.{◌≡◌, true, List}
-use Rattle.sharc_code.specs.{Runs.Turn, Whole.place_after}
-use Rattle.sharc_threads.specs.Ends.{is_enabled}
-use Rattle.sharc_seq.specs.{Run.enabled, Walk.{StandsAt, events_left}}
-use Rattle.sharc_schedule.specs.{Going.{GoesAt, IsGoing, Walked}, Schedule.place_in}
+use Rattle.sharc_schedule.proofs.Imports.{◌≡◌, true, List, Turn, place_after, is_enabled, enabled, StandsAt, events_left, GoesAt, IsGoing, Walked, place_in}
 use Rattle.sharc_schedule.proofs.places.Going.reach.Given as goal
 
 abbrev pub invariant-turns : goal.invariant-turns

@@ -1,8 +1,4 @@
-use Rattle.std.proofs.Common.{◌≡◌, ℕ, true, ◌<◌, ◌≤◌, List, length, get_or, sym, subst, arith}
-use Rattle.sharc_code.specs.Whole.{place_after}
-use Rattle.sharc_threads.specs.Ends.{is_enabled}
-use Rattle.sharc_schedule.specs.declared.places.Going.{Going}
-use Rattle.sharc_schedule.proofs.Turning.{enabled_too, room, one_more}
+use Rattle.sharc_schedule.proofs.{Imports.{◌≡◌, ℕ, true, ◌<◌, ◌≤◌, List, length, get_or, sym, subst, arith, place_after, is_enabled, Going}, Turning.{enabled_too, room, one_more}}
 use Rattle.sharc_schedule.proofs.places.Going.turn.Goals as goal
 
 pub count-requires : goal.count-requires

@@ -1,11 +1,5 @@
-use Rattle.std.proofs.Common.{◌≡◌, ℕ, ◌<◌, ◌++◌, ◌∷◌, [], List, length, sym, ap, ◌∙◌, subst, arith}
-use Rattle.sharc_word.specs.declared.step.TheConstants.{THREADS}
-use Rattle.sharc_code.specs.Whole.{place_after}
-use Rattle.sharc_threads.specs.Ends.{Standing}
-use Rattle.sharc_seq.specs.Run.{enabled, IsChosen}
-use Rattle.sharc_seq.proofs.{Choosing.none_enabled, Grown.{chose, as_many, one_later}}
+use Rattle.sharc_seq.proofs.{Imports.{◌≡◌, ℕ, ◌<◌, ◌++◌, ◌∷◌, [], List, length, sym, ap, ◌∙◌, subst, arith, THREADS, place_after, Standing, enabled, IsChosen, nothing}, Choosing.none_enabled, Grown.{chose, as_many, one_later}}
 use Rattle.sharc_seq.proofs.table.Table.turn.Goals as goal
-use Rattle.sharc_lemmas.proofs.Lists.{nothing}
 
 pub list_enabled-requires : goal.list_enabled-requires
 list_enabled-requires g c = (c.args.code.now, c.args.shape.now, (c.requires.table.turns, c.requires.table.stands))

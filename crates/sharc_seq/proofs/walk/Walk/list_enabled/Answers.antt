@@ -1,10 +1,4 @@
-use Rattle.std.proofs.Common.{ℕ, ◌<◌, List, Option, None, length, get_or, filter, ap, ◌∙◌, subst, arith}
-use Rattle.std.specs.Prelude.{is_some, slice_index}
-use Rattle.sharc_word.specs.declared.step.TheConstants.{THREADS}
-use Rattle.sharc_code.specs.Whole.{place_after}
-use Rattle.sharc_cpu.specs.Thread.{ThreadView}
-use Rattle.sharc_threads.specs.{Ends.Standing, Seats.{AreOf, may_turn_at}}
-use Rattle.sharc_seq.proofs.{Choosing.listed, Grown.enabled_are}
+use Rattle.sharc_seq.proofs.{Imports.{ℕ, ◌<◌, List, Option, None, length, get_or, filter, ap, ◌∙◌, subst, arith, is_some, slice_index, THREADS, place_after, ThreadView, Standing, AreOf, may_turn_at}, Choosing.listed, Grown.enabled_are}
 use Rattle.sharc_seq.proofs.walk.Walk.list_enabled.Goals as goal
 
 pub collect-requires-clause-numbers : goal.collect-requires-clause-numbers

@@ -1,9 +1,5 @@
-use Rattle.std.proofs.Common.{◌<◌, List, Option, None, length, sym, ap, ◌∙◌, subst, arith}
-use Rattle.sharc_code.specs.Whole.{place_after}
-use Rattle.sharc_cpu.specs.Thread.{ThreadView}
-use Rattle.sharc_threads.specs.{Ends.Standing, Seats.{has_number, may_turn_at}}
+use Rattle.sharc_seq.proofs.Imports.{◌<◌, List, Option, None, length, sym, ap, ◌∙◌, subst, arith, place_after, ThreadView, Standing, has_number, may_turn_at, any_default}
 use Rattle.sharc_seq.proofs.walk.Walk.may_turn.Goals as goal
-use Rattle.sharc_lemmas.proofs.Lists.{any_default}
 
 pub index-requires : goal.index-requires
 index-requires c = omega (arith, c.requires.number, c.requires.walk.2.1.seats.count)

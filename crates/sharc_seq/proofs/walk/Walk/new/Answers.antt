@@ -1,6 +1,4 @@
-use Rattle.std.proofs.{Common.{◌≡◌, ℕ, List, length, ap, ◌∙◌, subst}, lemmas.List.FromFn.length-map-range_with_len}
-use Rattle.sharc_code.specs.{Layout.words_of, Opening.{opens_with, opening_words}, Path.begun, Runs.is_started, Whole.bounds}
-use Rattle.sharc_threads.specs.Seats.{AreSeats}
+use Rattle.sharc_seq.proofs.Imports.{◌≡◌, ℕ, List, length, ap, ◌∙◌, subst, length-map-range_with_len, words_of, opens_with, opening_words, begun, is_started, bounds, AreSeats}
 use Rattle.sharc_seq.proofs.walk.Walk.new.Goals as goal
 
 pub list_started-requires : goal.list_started-requires

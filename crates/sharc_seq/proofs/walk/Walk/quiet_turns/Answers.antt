@@ -1,11 +1,5 @@
-use Rattle.std.proofs.Common.{◌≡◌, ℕ, List, Option, None, get_or, refl, sym, ◌∙◌}
-use Rattle.std.specs.Vec.{with_item}
-use Rattle.sharc_code.specs.Whole.{place_after}
-use Rattle.sharc_cpu.specs.Thread.{ThreadView}
-use Rattle.sharc_seq.specs.declared.walk.Walk.{Walk}
-use Rattle.sharc_seq.proofs.{Grown.{sits, enabled_too}, Quieting.hurried}
+use Rattle.sharc_seq.proofs.{Imports.{◌≡◌, ℕ, List, Option, None, get_or, refl, sym, ◌∙◌, with_item, place_after, ThreadView, Walk, any_default}, Grown.{sits, enabled_too}, Quieting.hurried}
 use Rattle.sharc_seq.proofs.walk.Walk.quiet_turns.Goals as goal
-use Rattle.sharc_lemmas.proofs.Lists.{any_default}
 
 pub quiet_turns_at-requires-clause-thread : goal.quiet_turns_at-requires-clause-thread
 quiet_turns_at-requires-clause-thread c =

@@ -1,8 +1,5 @@
-use Rattle.std.proofs.Common.{ℕ, ◌<◌, List, Option, None, length, sym, ◌∙◌, subst, arith}
-use Rattle.sharc_cpu.specs.Thread.{ThreadView}
-use Rattle.sharc_seq.specs.Walk.{IsThreadThere}
+use Rattle.sharc_seq.proofs.Imports.{ℕ, ◌<◌, List, Option, None, length, sym, ◌∙◌, subst, arith, ThreadView, IsThreadThere, any_default}
 use Rattle.sharc_seq.proofs.walk.Walk.thread.Goals as goal
-use Rattle.sharc_lemmas.proofs.Lists.{any_default}
 
 pub index-requires : goal.index-requires
 index-requires c = omega (arith, c.requires.number, c.requires.walk.2.1.seats.count)

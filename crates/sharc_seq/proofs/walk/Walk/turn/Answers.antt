@@ -1,10 +1,5 @@
-use Rattle.std.proofs.{Common.{◌≡◌, ℕ, ◌<◌, List, Option, None, length, get_or, set, refl, sym, ◌∙◌, subst, arith}, lemmas.List.length-set}
-use Rattle.sharc_code.specs.Whole.{place_after}
-use Rattle.sharc_cpu.specs.Thread.{ThreadView}
-use Rattle.sharc_seq.specs.{declared.walk.Walk.Walk, Walk.{MadeTurnAt, FoundAt, Began}}
-use Rattle.sharc_seq.proofs.Grown.{sits, grown, enabled_too}
+use Rattle.sharc_seq.proofs.{Imports.{◌≡◌, ℕ, ◌<◌, List, Option, None, length, get_or, set, refl, sym, ◌∙◌, subst, arith, length-set, place_after, ThreadView, Walk, MadeTurnAt, FoundAt, Began, any_default}, Grown.{sits, grown, enabled_too}}
 use Rattle.sharc_seq.proofs.walk.Walk.turn.Goals as goal
-use Rattle.sharc_lemmas.proofs.Lists.{any_default}
 
 pub index_mut-requires : goal.index_mut-requires
 index_mut-requires c =

@@ -1,5 +1,4 @@
-use Rattle.std.proofs.Common.{◌≡◌, ℕ, ◌<◌, true, None, get_or}
-use Rattle.sharc_threads.specs.Seats.{is_on_at, waits_at}
+use Rattle.sharc_threads.proofs.Imports.{◌≡◌, ℕ, ◌<◌, true, None, get_or, is_on_at, waits_at}
 use Rattle.sharc_threads.proofs.table.ThreadTable.all_wait.Given as goal
 
 abbrev pub invariant-loop-seat : goal.invariant-loop-seat

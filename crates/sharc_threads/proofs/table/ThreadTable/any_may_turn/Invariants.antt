@@ -1,5 +1,4 @@
-use Rattle.std.proofs.Common.{◌≡◌, ℕ, ◌<◌, false, None, get_or}
-use Rattle.sharc_threads.specs.Seats.{may_turn_at}
+use Rattle.sharc_threads.proofs.Imports.{◌≡◌, ℕ, ◌<◌, false, None, get_or, may_turn_at}
 use Rattle.sharc_threads.proofs.table.ThreadTable.any_may_turn.Given as goal
 
 abbrev pub invariant-loop-seat : goal.invariant-loop-seat

@@ -1,5 +1,4 @@
-use Rattle.std.proofs.Common.{◌≡◌, ℕ, ◌<◌, ◌≤◌, None, length, get_or}
-use Rattle.sharc_threads.specs.Seats.{HasBegun}
+use Rattle.sharc_threads.proofs.Imports.{◌≡◌, ℕ, ◌<◌, ◌≤◌, None, length, get_or, HasBegun}
 use Rattle.sharc_threads.proofs.table.ThreadTable.begin.Given as goal
 
 abbrev pub invariant-loop-number : goal.invariant-loop-number

@@ -1,7 +1,4 @@
-use Rattle.std.proofs.Common.{List, [], ◌∷◌, ◌++◌, sym, ap, ◌∙◌}
-use Rattle.sharc_cpu.specs.Thread.{ThreadView}
-use Rattle.sharc_threads.specs.Seats.{present}
-use Rattle.sharc_threads.proofs.Listing.{present_append}
+use Rattle.sharc_threads.proofs.{Imports.{List, [], ◌∷◌, ◌++◌, sym, ap, ◌∙◌, ThreadView, present}, Listing.present_append}
 use Rattle.sharc_threads.proofs.table.ThreadTable.into_started.Goals as goal
 
 pub loop-seat-preserved : goal.loop-seat-preserved

@@ -1,5 +1,4 @@
-use Rattle.std.proofs.Common.{◌≡◌}
-use Rattle.sharc_threads.specs.Seats.{present}
+use Rattle.sharc_threads.proofs.Imports.{◌≡◌, present}
 use Rattle.sharc_threads.proofs.table.ThreadTable.into_started.Given as goal
 
 abbrev pub invariant-loop-seat : goal.invariant-loop-seat
