@@ -33,7 +33,7 @@ impl Model for Thread {
 }
 
 impl Thread {
-    ghost use Rattle.std.specs.Prelude.{◌≡◌, ◌≤◌, ◌<◌, length, IfOk, OnOk};
+    ghost use Rattle.std.specs.Prelude.{◌≡◌, ◌≤◌, ◌<◌, ◌↔◌, [], length, IsTrue, IfOk, OnOk};
     ghost use Rattle.sharc_word.specs.declared.step.TheConstants.{THREADS as threads};
     ghost use Rattle.sharc_heap.specs.Accesses.{note_of, site_at};
     ghost use Rattle.sharc_code.specs.Layout.{Fits};
@@ -154,6 +154,13 @@ impl Thread {
         ensures { result ≡ self.now.machine.own.stop }
     {
         self.parts.stop
+    }
+
+    /// Whether it holds no mutex.
+    pub fn holds_none(&self) -> bool
+        ensures { IsTrue result ↔ (self.now.machine.own.held ≡ []) }
+    {
+        self.parts.held.is_empty()
     }
 
     /// What its next turn asks for that it may have to wait for: `None` where it asks for nothing such, or makes no

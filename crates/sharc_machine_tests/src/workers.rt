@@ -6,4 +6,5 @@ mod gates;
 mod pace;
 mod runs;
 mod starts;
+mod stints;
 mod tries;

@@ -1,10 +1,11 @@
 -- Two stints of a thread, one after the other, are one; and who may make the second.
-use Rattle.std.proofs.{Common.{◌≡◌, ℕ, ◌+◌, ◌≤◌, true, List, [], ◌∷◌, ◌++◌, Option, Some, None, get_or, refl, sym, ap, ◌∙◌, subst, append_assoc, arith}, lemmas.List.append-nil}
+use Rattle.std.proofs.{Common.{◌≡◌, ℕ, ◌+◌, ◌-◌, ◌*◌, ◌≤◌, Bool, true, false, List, [], ◌∷◌, ◌++◌, Option, Some, None, get_or, refl, sym, ap, ◌∙◌, subst, append_assoc, arith}, lemmas.List.append-nil}
+use Rattle.std.specs.Prelude.{if◌then◌else◌, nat_le}
 use Rattle.sharc_word.specs.declared.step.WordEvent.{WordEvent}
 use Rattle.sharc_code.specs.{declared.code.Code.Code, declared.shape.Shape.Shape, Machine.Machine, Path.{turn, after, events_of_turn, may_go, counted, machine_after, events_of_path, made_in, IsPath}}
 use Rattle.sharc_cpu.specs.Thread.{ThreadView}
 use Rattle.sharc_bus.specs.Bus.{BusView}
-use Rattle.sharc_rounds.specs.{declared.hand.Hand.Hand, declared.worker.Worker.Worker, Round.{Seat, MadeQuantum, MadeQuantumAt, MayTurnAt, KeepsRoom, MayRun, MayRunAt, MayAllRun, HasRun, HasRunAt, HaveAllRun, KeepsRoomAt, KeepAllRoom}}
+use Rattle.sharc_rounds.specs.{declared.hand.Hand.Hand, declared.stint.TheConstants.KEPT, declared.worker.Worker.Worker, Shares.first_turns, Round.{Seat, MadeQuantum, MadeQuantumAt, MayTurnAt, KeepsRoom, MayRun, MayRunAt, MayAllRun, HasRun, HasRunAt, HaveAllRun, KeepsRoomAt, KeepAllRoom}}
 
 -- ---- paths
 module _ (code : Code) (s : Shape) (m : Machine) (earlier : List ℕ) where
@@ -34,6 +35,21 @@ module _ (code : Code) (s : Shape) (m : Machine) (earlier : List ℕ) where
 none_behind : (later earlier : List ℕ) → later ++ earlier ≡ [] → earlier ≡ []
 none_behind [] earlier e = e
 none_behind (f ∷ later) earlier e = absurd (let g : f ∷ (later ++ earlier) ≡ [] = e in cc)
+
+-- ---- goes
+some_or_fewer : (b : Bool) (turns kept : ℕ) → (if b then turns else turns - kept) ≤ turns
+some_or_fewer true turns kept = omega arith
+some_or_fewer false turns kept = omega arith
+
+-- the first go of a stint has no more turns than the stint
+pub first_few : (turns : ℕ) → first_turns turns ≤ turns
+first_few turns = some_or_fewer (nat_le turns (2 * KEPT)) turns KEPT
+
+-- fewer turns leave the room that more leave
+pub room_of_more : (few turns : ℕ) (old new : Seat) → few ≤ turns → KeepsRoom few old new → KeepsRoom turns old new
+room_of_more few turns (Some old) (Some new) le h = λ more room. h more (λ on. let r = room on in omega (arith, r, le))
+room_of_more few turns (Some old) None le h = tt
+room_of_more few turns None new le h = tt
 
 module _ (code : Code) (s : Shape) (limit : ℕ) where
   -- ---- threads
@@ -67,7 +83,7 @@ module _ (code : Code) (s : Shape) (limit : ℕ) where
   made_both_at None None None first second q r = ap (λ (es : List WordEvent). es ++ second) q ∙ r
 
   -- ---- hands
-  has_both : (old mid new : Hand) → HasRun code s limit old mid → HasRun code s limit mid new → HasRun code s limit old new
+  pub has_both : (old mid new : Hand) → HasRun code s limit old mid → HasRun code s limit mid new → HasRun code s limit old new
   has_both old mid new h k = record {
     events = h.events ++ k.events;
     made = made_both_at old.seat mid.seat new.seat h.events k.events h.made k.made;
@@ -75,6 +91,16 @@ module _ (code : Code) (s : Shape) (limit : ℕ) where
     number = k.number ∙ h.number;
     events_are = k.events_are ∙ ap (λ (es : List WordEvent). es ++ k.events) h.events_are ∙ append_assoc old.port.events h.events k.events;
   }
+
+  -- two goes keep the room that both together leave
+  room_both_at : (turns more both : ℕ) (old mid new : Seat) (events : List WordEvent) → both ≡ turns + more → MadeQuantumAt code s limit old mid events → KeepsRoom turns old mid → KeepsRoom more mid new → KeepsRoom both old new
+  room_both_at turns more both (Some old) (Some mid) (Some new) events e q h k = λ rest room. k rest (h (more + rest) (λ on. let r = room on in omega (arith, r, e)))
+  room_both_at turns more both (Some old) None new events e q h k = absurd q
+  room_both_at turns more both (Some old) (Some mid) None events e q h k = tt
+  room_both_at turns more both None mid new events e q h k = tt
+
+  pub room_both : (turns more both : ℕ) (old mid new : Hand) → both ≡ turns + more → HasRun code s limit old mid → KeepsRoom turns old.seat mid.seat → KeepsRoom more mid.seat new.seat → KeepsRoom both old.seat new.seat
+  room_both turns more both old mid new e r h k = room_both_at turns more both old.seat mid.seat new.seat r.events e r.made h k
 
   has_both_at : (old mid new : Option Hand) → HasRunAt code s limit old mid → HasRunAt code s limit mid new → HasRunAt code s limit old new
   has_both_at (Some old) (Some mid) (Some new) h k = has_both old mid new h k
@@ -100,6 +126,12 @@ module _ (code : Code) (s : Shape) (limit : ℕ) where
       bus_is = h.bus_is ∙ may.bus_is;
       may = subst (MayTurnAt code s limit more new.seat) (sym h.number) (may_at_seat turns more old.port.number old.seat new.seat h.events may.may h.made keeps);
     }
+
+    -- behind a go a hand may make the turns that are left
+    pub may_rest : (turns both : ℕ) (old new : Hand) → turns ≤ both → MayRun code s limit bus both old → HasRun code s limit old new → KeepsRoom turns old.seat new.seat → MayRun code s limit bus (both - turns) new
+    may_rest turns both old new le may h keeps =
+        let e : both ≡ turns + (both - turns) = omega (arith, le) in
+        may_more turns (both - turns) old new (subst (λ k. MayRun code s limit bus k old) e may) h keeps
 
     may_more_at : (turns more : ℕ) (old new : Option Hand) → MayRunAt code s limit bus (turns + more) old → HasRunAt code s limit old new → KeepsRoomAt turns old new → MayRunAt code s limit bus more new
     may_more_at turns more (Some old) (Some new) may h keeps = may_more turns more old new may h keeps

@@ -79,6 +79,12 @@ abbrev pub is_on : Seat → Bool
 is_on None = false
 is_on (Some thread) = may_go thread.machine.at.state
 
+-- whether a thread is there that goes on, holds a mutex, and asks for nothing that it may have to wait for
+abbrev pub IsInside : Seat → Type 0
+IsInside None = ⊥
+IsInside (Some thread) =
+    (may_go thread.machine.at.state ≡ true) × (thread.machine.own.held ≢ []) × (thread.wait ≡ None)
+
 -- ---- workers
 -- so it is of the hand at a place, if there is one
 abbrev pub MayRunAt : Code → Shape → ℕ → BusView → ℕ → Option Hand → Type 0

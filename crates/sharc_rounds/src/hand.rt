@@ -1,11 +1,11 @@
 //! A thread in a round.
 
-ghost use Rattle.std.specs.Prelude.{◌≡◌, ◌<◌, ◌≤◌, true, Some, length};
+ghost use Rattle.std.specs.Prelude.{◌≡◌, ◌<◌, ◌≤◌, ◌↔◌, true, Some, IsTrue, length};
 ghost use Rattle.sharc_word.specs.declared.step.TheConstants.{THREADS as threads};
 ghost use Rattle.sharc_code.specs.Layout.{Fits, words_of};
 ghost use Rattle.sharc_code.specs.Path.{may_go};
 ghost use Rattle.sharc_cpu.specs.Rows.{IsPlan};
-ghost use Rattle.sharc_rounds.specs.Round.{MayTurn, HasRun, MayRun, KeepsRoom, is_on};
+ghost use Rattle.sharc_rounds.specs.Round.{MayTurn, HasRun, MayRun, KeepsRoom, IsInside, is_on};
 
 use crate::gate::{Gate, GatedPort};
 use crate::share::most_events;
@@ -13,6 +13,7 @@ use crate::stint::Stint;
 use sharc_bus::{Bus, BusPort, BusSeat, name_laws};
 use sharc_code::{Code, Shape};
 use sharc_cpu::{RowPlan, Thread, run_trying};
+use sharc_threads::is_on;
 use sharc_word::place_laws;
 
 /// A place of the table of threads, and its seat on the bus of the round.
@@ -22,7 +23,7 @@ pub(crate) struct Hand {
     pub(crate) port: BusSeat,
 }
 
-// One stint of a thread that is neither gone nor stopped.
+// One go of a thread that is neither gone nor stopped.
 fn run_thread<G: Gate>(
     mut thread: Thread,
     port: BusSeat,
@@ -71,9 +72,19 @@ fn run_thread<G: Gate>(
     }
 }
 
+// Whether a thread is there that goes on, holds a mutex, and asks for nothing that it may have to wait for.
+fn is_inside(seat: &Option<Thread>) -> bool
+    ensures { IsTrue result ↔ IsInside seat.now }
+{
+    match seat {
+        None => false,
+        Some(thread) => is_on(thread) && !thread.holds_none() && thread.wait().is_none(),
+    }
+}
+
 impl Hand {
-    /// One stint of the thread, which is neither gone nor stopped.
-    pub(crate) fn run<G: Gate>(
+    // One go of the thread, which is neither gone nor stopped.
+    fn go<G: Gate>(
         self,
         code: &Code,
         plan: &RowPlan,
@@ -100,5 +111,38 @@ impl Hand {
                 thread, port, code, plan, shape, bus, gate, worker, limit, stint,
             ),
         }
+    }
+
+    /// One stint of the thread, which is neither gone nor stopped. Where it can, it ends with no mutex held: behind the
+    /// first go the thread goes on while it is in a critical section, out of the turns that were kept back.
+    pub(crate) fn run<G: Gate>(
+        self,
+        code: &Code,
+        plan: &RowPlan,
+        shape: &Shape,
+        bus: &Bus,
+        gate: &G,
+        worker: u32,
+        limit: u64,
+        stint: Stint,
+    ) -> Hand
+        requires plan { IsPlan code.now plan.now }
+        requires fits { Fits code.now shape.now }
+        requires words { length bus.now.opening ≡ words_of shape.now }
+        requires some { 0 < stint.turns }
+        requires on { is_on self.seat ≡ true }
+        requires may { MayRun code.now shape.now limit bus.now stint.turns self }
+        ensures ran { HasRun code.now shape.now limit self result }
+        ensures room { KeepsRoom stint.turns self.seat result.seat }
+    {
+        let first = stint.first();
+        let mut left = stint.turns - first.turns;
+        let mut hand = self.go(code, plan, shape, bus, gate, worker, limit, first);
+        while left > 0 && is_inside(&hand.seat) {
+            let further = stint.further(left);
+            hand = hand.go(code, plan, shape, bus, gate, worker, limit, further);
+            left -= further.turns;
+        }
+        hand
     }
 }

@@ -1,9 +1,9 @@
 //! Runs that workers make in rounds.
 //!
 //! `run_rounds` runs a code: the words lie on one bus, and in each round every worker gives each of its threads one
-//! quantum of turns. Between two rounds some words are looked at, and none is copied. `IsRoundsRun` of `specs/Run.antt`
-//! says what is answered: there is a checked run of `sharc_code` that ends so. A `Gate` is asked before each step of a
-//! port. Memory is taken between rounds alone.
+//! quantum of at most `QUANTUM` turns, which ends with no mutex held where it can. Between two rounds some words are
+//! looked at, and none is copied. `IsRoundsRun` of `specs/Run.antt` says what is answered: there is a checked run of
+//! `sharc_code` that ends so. A `Gate` is asked before each step of a port. Memory is taken between rounds alone.
 #![tactic(auto)]
 
 mod busy;

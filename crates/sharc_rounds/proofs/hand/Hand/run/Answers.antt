@@ -1,22 +1,41 @@
-use Rattle.std.proofs.Common.{◌≡◌, true, sym, subst}
-use Rattle.sharc_rounds.specs.Round.{Seat, MayTurnAt, HasRun, KeepsRoom, is_on}
-use Rattle.sharc_rounds.proofs.Running.{nobody, no_room}
+use Rattle.std.proofs.Common.{◌≡◌, ◌-◌, ◌≤◌, subst, arith}
+use Rattle.sharc_rounds.specs.{Round.KeepsRoom, Shares.first_turns}
+use Rattle.sharc_rounds.proofs.Joining.{first_few, has_both, room_both, room_of_more, may_rest}
 use Rattle.sharc_rounds.proofs.hand.Hand.run.Goals as goal
 
-pub run_thread-requires-clause-on : goal.run_thread-requires-clause-on
-run_thread-requires-clause-on g c = subst (λ (x : Seat). is_on x ≡ true) c.in-Some.is c.requires.on
+pub loop-left-init : goal.loop-left-init
+loop-left-init g c =
+    let turns = c.args.stint.turns in
+    let first = c.first-first.result.turns in
+    let went = c.go-hand.ensures in
+    let is : first ≡ first_turns turns = c.first-first.ensures in
+    let few : first ≤ turns = omega (arith, is, first_few turns) in
+    let made : first ≡ turns - (turns - first) = omega (arith, few) in
+    record {
+      few = omega arith;
+      may = may_rest c.args.code.now c.args.shape.now c.args.limit c.args.bus.now first turns c.args.self c.go-hand.result few c.requires.may went.ran went.room;
+      ran = went.ran;
+      room = subst (λ k. KeepsRoom k c.args.self.seat c.go-hand.result.seat) made went.room;
+    }
 
-pub run_thread-requires-clause-may : goal.run_thread-requires-clause-may
-run_thread-requires-clause-may g c = subst (λ (x : Seat). MayTurnAt c.args.code.now c.args.shape.now c.args.limit c.args.stint.turns x c.args.self.port.number) c.in-Some.is c.requires.may.may
+pub loop-left-preserved : goal.loop-left-preserved
+loop-left-preserved g c =
+    let code = c.args.code.now in
+    let s = c.args.shape.now in
+    let turns = c.args.stint.turns in
+    let left = c.loop-left.left in
+    let hand = c.loop-left.hand in
+    let kept = c.loop-left.invariant in
+    let further = c.further-further.result.turns in
+    let went = c.go-hand-in-loop-left.ensures in
+    let new = c.go-hand-in-loop-left.result in
+    let few : further ≤ left = omega (arith, c.further-further.ensures) in
+    record {
+      few = omega (arith, kept.few);
+      may = may_rest code s c.args.limit c.args.bus.now further left hand new few kept.may went.ran went.room;
+      ran = has_both code s c.args.limit c.args.self hand new kept.ran went.ran;
+      room = room_both code s c.args.limit (turns - left) further (turns - (left - further)) c.args.self hand new (omega (arith, few, kept.few)) kept.ran kept.room went.room;
+    }
 
-pub returns-in-None-clause-ran : goal.returns-in-None-clause-ran
-returns-in-None-clause-ran g c = nobody c.args.code.now c.args.shape.now c.args.limit c.args.self.seat c.args.self.port c.in-None.is
-
-pub returns-in-Some-clause-ran : goal.returns-in-Some-clause-ran
-returns-in-Some-clause-ran g c = subst (λ (x : Seat). HasRun c.args.code.now c.args.shape.now c.args.limit record { seat = x; port = c.args.self.port } c.run_thread.result) (sym c.in-Some.is) c.run_thread.ensures.ran
-
-pub returns-in-None-clause-room : goal.returns-in-None-clause-room
-returns-in-None-clause-room g c = no_room c.args.stint.turns c.args.self.seat _ c.in-None.is
-
-pub returns-in-Some-clause-room : goal.returns-in-Some-clause-room
-returns-in-Some-clause-room g c = subst (λ (x : Seat). KeepsRoom c.args.stint.turns x c.run_thread.result.seat) (sym c.in-Some.is) c.run_thread.ensures.room
+pub returns-else-is_inside-clause-room : goal.returns-else-is_inside-clause-room
+returns-else-is_inside-clause-room g c = room_of_more (c.args.stint.turns - c.loop-left.left) c.args.stint.turns c.args.self.seat c.loop-left.hand.seat (omega arith) c.loop-left.invariant.room
