@@ -9,7 +9,6 @@ from .ctype import Refusal
 
 HEAP = ("heap", "boxes")
 
-
 def unify(one, other):
     """The pointers in two compatible types may point to the same."""
     if one.kind == other.kind == "ptr":
@@ -19,12 +18,10 @@ def unify(one, other):
         for pair in zip(one.params or (), other.params or ()):
             unify(*pair)
 
-
 class Node:
     """A class, or a part of one that was united with another: `find` gives the whole."""
-
     def __init__(self, every, to=None):
-        self.every, self.parent, self.mixed = every, self, False
+        self.every, self.parent, self.mixed = every, None, False
         self.globals, self.functions = {}, {}  # as sets in order: (symbol, path of members), symbols
         self.types, self.seen = {}, set()  # seen: heap, integer, order, taken, or indexed (another element is used)
         self.parts = {}  # the classes of pointers to other elements ("element",), and to members ("member", ..)
@@ -33,10 +30,7 @@ class Node:
             self.point_to(to)
 
     def find(self):
-        node = self
-        while node.parent is not node:
-            node = node.parent
-        return node
+        return self.parent.find() if self.parent else self
 
     def part(self, *key):
         root = self.find()
@@ -46,8 +40,7 @@ class Node:
 
     def element(self):
         """The class of pointers to other elements, or None where nothing has asked for it."""
-        found = self.find().parts.get(("element",))
-        return found and found.find()
+        return self.part("element") if ("element",) in self.find().parts else None
 
     def mark(self, what):
         self.find().seen.add(what)
@@ -100,21 +93,14 @@ class Node:
                            "void * whose type is not known"))
         return types[0]
 
-
 def named(key):
     """A global or a part of it as in C."""
     return ".".join((key[0].name,) + key[1])
 
-
 class Classes:
-    """All classes of a program."""
-
     def __init__(self):
         self.nodes, self.structs = [], {}
         self.firsts = []  # (class of &a[0], class of a): a pointer to the array, unless others of its elements have one
-
-    def node(self, to=None):
-        return Node(self.nodes, to)
 
     def everything(self):
         return list(dict.fromkeys(node.find() for node in self.nodes))
@@ -126,23 +112,16 @@ class Classes:
         before = None
         while before != (now := [(id(root), len(root.globals), len(root.seen)) for root in self.everything()]):
             before = now
-            for root in self.everything():
-                self.settle_element(root.find())
+            for root in map(Node.find, self.everything()):
+                element = root.element()
+                if element and (root.globals and not root.has("heap") or element.has("indexed") or element.element()):
+                    root.unite(element)
+                elif element and root.has("heap"):
+                    element.mark("heap")
                 self.settle_members(root.find())
 
-    @staticmethod
-    def settle_element(root):
-        """One step for the pointers to other elements."""
-        element = root.element()
-        if element is None or element is root:
-            return
-        if root.globals and not root.has("heap") or element.has("indexed") or element.element():
-            root.unite(element)
-        elif root.has("heap"):
-            element.mark("heap")
-
     def settle_members(self, root):
-        """The same for pointers to members: `made` is the class of those in objects of the heap."""
+        """One step for the pointers to members: `made` is the class of those in objects of the heap."""
         in_heap = root.has("heap") and not root.globals
         for (struct, name), node in [(key[1:], node) for key, node in root.parts.items() if key[0] == "member"]:
             node.find().globals.update({(symbol, path + (name,)): None for symbol, path in root.globals
@@ -152,9 +131,8 @@ class Classes:
                 self.structs[struct].fields[name].made.unite(node)
                 self.structs[struct].fields[name].alone |= node.has("taken")
         for kind in [kind for kind in root.types.values() if kind.kind == "struct" and in_heap]:
-            for _, leaf, _, field in self.leaves(kind):
-                if leaf.kind == "array":
-                    field.made.mark("heap")
+            for field in [field for _, leaf, _, field in self.leaves(kind) if leaf.kind == "array"]:
+                field.made.mark("heap")
 
     def leaves(self, kind, path=(), apart=False):
         """The members of a type that are no structs, those of structs in it too: (path, type, struct, field). `apart`:

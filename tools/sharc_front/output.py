@@ -5,7 +5,6 @@ import re
 from operator import itemgetter
 
 from pycparser import c_ast as A
-
 from .classes import named
 from .ctype import CHAR, Refusal, Type, array
 from .declare import Symbol
@@ -14,7 +13,6 @@ from .places import Places
 from .source import HEADERS, texts
 from .statements import addressed_in
 from .tree import NOTHING, Expr, number, variable
-
 
 class Front(Places):
     def __init__(self, source, words):
@@ -54,15 +52,11 @@ class Front(Places):
                 self.group(list(root.globals), bases[0].with_(const=all(base.const for base in bases)))
 
     def group(self, keys, base):
-        """Makes an array of globals, or of parts of them, some of which may be such arrays."""
-        old = [found for found, _ in self.groups.values()]
-        members = [key for key in keys if key[0] not in old] + \
-            [key for key, (found, _) in self.groups.items() if (found, ()) in keys]
-        lengths = [self.part(symbol.type, path).cells() for symbol, path in members]
-        name = "_".join(sorted({key[0].name for key in members}))[:40]
-        made = Symbol(name, "global", array(base, sum(lengths)), members[0][0].place, None, self.fresh(name), True)
-        self.groups = {key: found for key, found in self.groups.items() if (found[0], ()) not in keys}
-        self.groups.update({key: (made, sum(lengths[:at])) for at, key in enumerate(members)})
+        """Makes an array of globals, or of parts of them."""
+        lengths = [self.part(symbol.type, path).cells() for symbol, path in keys]
+        name = "_".join(sorted({key[0].name for key in keys}))[:40]
+        made = Symbol(name, "global", array(base, sum(lengths)), keys[0][0].place, None, self.fresh(name), True)
+        self.groups.update({key: (made, sum(lengths[:at])) for at, key in enumerate(keys)})
         for root in self.everything():
             outer = {(symbol, path): next((at for at in range(len(path) + 1) if (symbol, path[:at]) in keys), None)
                      for symbol, path in root.globals}
@@ -91,15 +85,13 @@ class Front(Places):
         plain, one = self.type_text(kind.bare()).replace(" racy", ""), length.number == 1 and not boxes
         arrays = [(self.part_name(kind.name, path), field) for path, _, field in self.objects(kind)] if not boxes else []
         own = self.own_name("own") if boxes and inner or arrays else target
-
-        def parts(at):
-            if boxes:
-                return self.new_object(f"{own}[{at}]", kind, number(1), False)
-            return " ".join(self.new_object(f"{own}->{name}" if one else f"{own}[{at}].{name}", field.type.base(),
-                                            number(field.type.cells()), self.boxes(field.made), " readonly")
-                            for name, field in arrays)
+        at = self.own_name("i") if not one and (boxes or arrays) else None
+        made = self.new_object(f"{own}[{at}]", kind, number(1), False) if boxes else " ".join(
+            self.new_object(f"{own}->{name}" if one else f"{own}[{at}].{name}", field.type.base(),
+                            number(field.type.cells()), self.boxes(field.made), " readonly") for name, field in arrays)
+        if at:
+            made = f"for (int {at} = 0; {at} < {self.text(length, 8)}; {at} = {at} + 1) {{ {made} }}"
         size = ("" if one else f"{self.text(length, 11)} * ") + f"sizeof({plain}{' *' * boxes})"
-        made = "" if not boxes and not arrays else parts(None) if one else self.each(length, parts)
         if own == target:
             return f"{target} = malloc({size}); {made}".rstrip()
         plain, mode = plain + " dynamic *" * boxes, inner * boxes
@@ -109,18 +101,6 @@ class Front(Places):
         """The members of a struct in an object that are objects of their own: (path, type, field)."""
         return [(path, leaf, field) for path, leaf, _, field in self.leaves(kind, (), True)
                 if leaf.kind == "array" or field.alone] if kind.kind == "struct" else []
-
-    def each(self, length, act):
-        """act(i) for each i below length."""
-        at = self.own_name("i")
-        return f"for (int {at} = 0; {at} < {self.text(length, 8)}; {at} = {at} + 1) {{ {act(at)} }}"
-
-    def global_declaration(self, symbol):
-        """A global: a variable for each member of a struct."""
-        if symbol.type.kind != "struct" or (symbol, ()) in self.groups:
-            return self.global_cell(symbol.type, None, symbol, ())
-        return " ".join(self.global_cell(leaf, (struct, symbol, path[:-1]), symbol, path)
-                        for path, leaf, struct, _ in self.leaves(symbol.type))
 
     def struct_text(self, name):
         """A struct, with pointers to objects of their own for the arrays in it."""
@@ -133,19 +113,22 @@ class Front(Places):
                 stars = " * readonly" * (1 + self.boxes(field.made))
             shown = self.type_text(base, (struct, name, path[:-1]), False)
             texts.append(f"{shown}{stars} {self.part_name(name, path)};")
-        return f"struct {self.out_names[name]} {{ {' '.join(texts) or 'char unused;'} }};"
+        return f"struct {self.part_name(name)} {{ {' '.join(texts) or 'char unused;'} }};"
 
     def grouped(self, symbol, path):
         """Whether a part of a global has become a part of an array of several."""
         return any((symbol, path[:at]) in self.groups for at in range(len(path) + 1))
 
-    def global_cell(self, kind, context, symbol, path):
-        """A global, or an array, after the arrays in its elements, which are one after the other."""
+    def global_text(self, symbol, kind, path=(), context=None):
+        """A global: a variable for each member of a struct; or an array, after the arrays in its elements, which are
+        one after the other."""
         if self.grouped(symbol, path):
             return ""
+        if kind.kind == "struct":
+            return " ".join(self.global_text(symbol, leaf, at, (struct, symbol, at[:-1]))
+                            for at, leaf, struct, _ in self.leaves(kind))
         base, length, constant = kind.base(), kind.cells(), symbol.constants.get(path)
-        inner = [self.global_cell(array(leaf, length), None, symbol, path + at)
-                 for at, leaf, field in self.objects(base)]
+        inner = [self.global_text(symbol, array(leaf, length), path + at) for at, leaf, field in self.objects(base)]
         shared = ("racy", None) if base.kind == "int" and base.const else None
         text = self.type_text(base.with_(mode=base.mode or kind.mode or shared), context, False)
         self.cells += length * (8 if base.kind == "struct" else 1)
@@ -154,12 +137,11 @@ class Front(Places):
         return " ".join([*inner, f"{text} {name}{f' = {self.text(constant)}' if constant else ''};"])
 
     def program(self):
-        """The whole program as text."""
         functions = [line for symbol in self.functions.values() if symbol.definition and not symbol.header
                      for line in self.function_lines(symbol)]
         globals_ = [symbol for symbol in self.globals if symbol.uses or not symbol.place[0].startswith(HEADERS)]
         globals_ += dict.fromkeys(group for group, _ in self.groups.values())
-        globals_ = [self.written(symbol.place, self.global_declaration, symbol) for symbol in globals_]
+        globals_ = [self.written(symbol.place, self.global_text, symbol, symbol.type) for symbol in globals_]
         globals_ += [self.written(self.here, self.record_lines, symbol) for symbol in self.thread_functions()]
         last = [self.written(place, self.dispatcher, *each) for *each, place in self.calls_by.values()]
         for symbol, place in self.ends:
@@ -168,9 +150,8 @@ class Front(Places):
         if self.reads_strings:
             globals_.append((self.here, f"char racy {self.strings.out}[{sum(map(len, self.text_pool))}];"))
         structs = []
-        for at in range(len(self.structs)):  # the writing of one may name others
-            structs += [self.written(self.structs[name].place, self.struct_text, name)
-                        for name in [key for key in self.out_names if isinstance(key, str)][at : at + 1]]
+        while named := [key[0] for key in self.out_names if key[0] in self.structs and not key[1]][len(structs):]:
+            structs.append(self.written(self.structs[named[0]].place, self.struct_text, named[0]))  # may name others
         text = self.marked(structs + globals_ + functions + last + self.helper_lines())
         self.refuse_if(len(text) > 1048576, "program whose lowered text is over 1048576 bytes")
         if self.refusals:

@@ -1,6 +1,6 @@
 """Reads a C file: gcc's preprocessor with the headers of this folder, then pycparser. What neither reads is refused."""
 
-import os
+import pathlib
 import re
 import subprocess
 import sys
@@ -12,10 +12,10 @@ except ImportError:
     sys.exit(2)
 from .ctype import Refusal
 
-HERE = os.path.dirname(os.path.abspath(__file__))
-HEADERS, INCLUDE = os.path.join(HERE, "headers"), os.path.join(HERE, "..", "..", "include")
-PREPROCESSOR = ["gcc", "-E", "-nostdinc", "-undef", "-DSHARC_FRONT", "-I", HEADERS, "-I", INCLUDE,
-                "-include", os.path.join(HEADERS, "sharc_front.h")]
+TOP = pathlib.Path(__file__).absolute().parents[2]
+HEADERS = str(TOP / "tools/sharc_front/headers")
+PREPROCESSOR = ["gcc", "-E", "-nostdinc", "-undef", "-DSHARC_FRONT", "-I", HEADERS, "-I", str(TOP / "include"),
+                "-include", HEADERS + "/sharc_front.h"]
 TOKEN = re.compile(
     r'# (?P<line>\d+) "(?P<file>(?:\\.|[^"\\])*)"[^\n]*|(?P<directive>#[^\n]*)|(?P<newline>\n)'
     r'|__sharc_refuse\("(?P<refused>[^"]*)"\)|"(?:\\.|[^"\\\n])*"' r"|'(?:\\.|[^'\\\n])*'" r"|\.?\d[\w.]*"
@@ -24,15 +24,12 @@ TOKEN = re.compile(
 HARMLESS = set("unused noreturn format const pure noinline always_inline cold hot malloc nonnull warn_unused_result "
                "used deprecated returns_nonnull flatten leaf nothrow fallthrough may_alias noclone alloc_size".split())
 
-
 def texts(name):
     """The texts of a file of headers/ in the language of SharC."""
-    with open(os.path.join(HEADERS, name), encoding="utf-8") as file:
-        return file.read().strip().split("\n\n")
-
+    return pathlib.Path(HEADERS, name).read_text(encoding="utf-8").strip().split("\n\n")
 
 def preprocessed(path, options):
-    if not os.path.isfile(path):
+    if not pathlib.Path(path).is_file():
         raise Refusal(((path, 1), "file that cannot be read"))
     done = subprocess.run([*PREPROCESSOR, *options, path], capture_output=True, check=False)
     if done.returncode == 0:
@@ -43,10 +40,8 @@ def preprocessed(path, options):
         raise Refusal(((path, 1), f"gcc -E: {errors.strip().splitlines()[-1:]}"))
     raise Refusal(((found[1], int(found[2])), found[4] or f"header {found[3]}"))
 
-
 class Source:
     """A file as pycparser's tree, with its marks and the words in it."""
-
     def __init__(self, path, options):
         self.modes, self.words, self.refused, self.file, self.line = [], set(), [], path, 1
         text = TOKEN.sub(self.token, preprocessed(path, options))
@@ -79,8 +74,3 @@ class Source:
             refused = [f"attribute {name}" for name in names if name.strip("_") not in HARMLESS]
         self.refused += [((self.file, self.line), what) for what in refused]
         return blank if refused or kind == "attributes" else token
-
-    def mode(self, qualifiers):
-        """The mark among qualifiers, if any."""
-        count = qualifiers.count("volatile")
-        return self.modes[count - 1] if count else None
