@@ -2,8 +2,7 @@
 
 A class says how its pointers are represented: as pointers to objects of the heap (of which locals whose address is
 taken are some), as numbers of elements of one global (1 is element 0, 0 is NULL), as numbers of functions, or as the
-integers that a `void *` carries.
-"""
+integers that a `void *` carries."""
 
 from .ctype import Refusal
 
@@ -130,18 +129,18 @@ class Classes:
                 node.mark("heap")
                 self.structs[struct].fields[name].made.unite(node)
                 self.structs[struct].fields[name].alone |= node.has("taken")
-        for kind in [kind for kind in root.types.values() if kind.kind == "struct" and in_heap]:
-            for field in [field for _, leaf, _, field in self.leaves(kind) if leaf.kind == "array"]:
+        for _, _, field in [each for kind in root.types.values() if in_heap for each in self.leaves(kind)]:
+            if field.type.kind == "array":
                 field.made.mark("heap")
 
     def leaves(self, kind, path=(), apart=False):
-        """The members of a type that are no structs, those of structs in it too: (path, type, struct, field). `apart`:
+        """The members of a type that are no structs, those of structs in it too: (path, struct, field). `apart`:
         of an object of the heap, where those that are objects of their own are not laid open."""
-        for name, field in self.structs[kind.name].fields.items():
+        for name, field in self.structs[kind.name].fields.items() if kind.kind == "struct" else ():
             if field.type.kind == "struct" and not (apart and field.alone):
                 yield from self.leaves(field.type, path + (name,), apart)
             elif field.type.kind != "bad":
-                yield path + (name,), field.type, kind.name, field
+                yield path + (name,), kind.name, field
 
     def part(self, kind, path):
         """The type of a part: members and indices."""

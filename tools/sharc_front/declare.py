@@ -40,7 +40,7 @@ class Struct:
 
 def place_of(node, otherwise=("", 0)):
     coord = getattr(node, "coord", None)
-    return (coord.file, coord.line) if coord is not None and coord.file else otherwise
+    return node if isinstance(node, tuple) else (coord.file, coord.line) if coord and coord.file else otherwise
 
 class Declarations(Classes):
     def __init__(self, source):
@@ -51,7 +51,7 @@ class Declarations(Classes):
         self.names, self.unions = set(source.words), set()
 
     def refuse(self, node, what):
-        raise Refusal((node if isinstance(node, tuple) else place_of(node, self.here), what))
+        raise Refusal((place_of(node, self.here), what))
 
     def refuse_if(self, condition, what, node=None):
         if condition:
@@ -64,8 +64,7 @@ class Declarations(Classes):
         """A name that nothing has, of at most 60 bytes."""
         made, count = name[:56], 1
         while made in self.names:
-            count += 1
-            made = f"{name[:56]}_{count}"
+            made, count = f"{name[:56]}_{count + 1}", count + 1
         self.names.add(made)
         return made
 
@@ -159,9 +158,8 @@ class Declarations(Classes):
         """Reads the declaration of a member; its type is bad where it is refused."""
         name, kind = getattr(decl, "name", None), BAD
         try:
-            if not isinstance(decl, A.Decl) or name is None or decl.bitsize is not None:
-                self.refuse(decl, "#pragma" if isinstance(decl, A.Pragma) else "bit field" if name else
-                            "member without a name")
+            what = "#pragma" if isinstance(decl, A.Pragma) else "bit field" if name else "member without a name"
+            self.refuse_if(not isinstance(decl, A.Decl) or name is None or decl.bitsize is not None, what, decl)
             read = self.type(decl.type)
             self.refuse_if(read.kind == "array" and read.length is None, "array without a length in a struct", decl)
             self.complete(read, decl)
@@ -171,11 +169,10 @@ class Declarations(Classes):
         self.structs[struct].fields[name or ""] = Field(kind, place_of(decl, self.here), Node(self.nodes, kind))
 
     def complete(self, kind, node):
-        base = kind.base()
-        self.refuse_if(base.kind == "struct" and not self.structs[base.name].complete,
-                       f"struct {base.name}, which is not defined", node)
-        self.refuse_if(base.kind in ("bad", "void", "func", "cond"),
-                       None if base.kind == "bad" else "variable of this type", node)
+        base, what = kind.base(), {"bad": None, "struct": f"struct {kind.base().name}, which is not defined"}
+        incomplete = base.kind == "struct" and not self.structs[base.name].complete
+        self.refuse_if(incomplete or base.kind in ("bad", "void", "func", "cond"),
+                       what.get(base.kind, "variable of this type"), node)
 
     def size(self, kind):
         """Size and alignment in bytes, as gcc has them on a 64-bit machine; no size where it is not known."""
@@ -197,13 +194,11 @@ class Declarations(Classes):
 
     def has_mutex(self, kind):
         base = kind.base()
-        inner = self.leaves(base) if base.kind == "struct" else ()
-        return base.kind == "mutex" or any(self.has_mutex(leaf) for _, leaf, _, _ in inner)
+        return base.kind == "mutex" or any(self.has_mutex(field.type) for *_, field in self.leaves(base))
 
     def declare(self, name, kind, type, node):
         self.complete(type, node)
-        place = node if isinstance(node, tuple) else place_of(node, self.here)
-        symbol = Symbol(name, kind, type, place, Node(self.nodes, type))
+        symbol = Symbol(name, kind, type, place_of(node, self.here), Node(self.nodes, type))
         symbol.shared = kind == "global" or type.atomic or name in self.addressed
         if kind == "global":
             symbol.address.globals[(symbol, ())] = None

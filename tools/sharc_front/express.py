@@ -1,8 +1,7 @@
 """Expressions of C, each lowered to a tree, after the lines that have to come before it (C11 6.5).
 
 Calls stay in the tree, which the language evaluates from left to right. A call before the lines of a later operand, and
-a value that is written more than once, is in a variable.
-"""
+a value that is written more than once, is in a variable."""
 
 import re
 from dataclasses import dataclass
@@ -455,8 +454,7 @@ class Expressions(Declarations):
 
     def put(self, place, value):
         if place.type.kind != "struct":
-            self.emit("%s = %s;", place, self.fitting(value, place.type))
-            return
+            return self.emit("%s = %s;", place, self.fitting(value, place.type))
         self.copy(self.stable_place(place), self.stable(value))
         if value.given:
             self.emit("free(%s);", value.args[0])
@@ -465,7 +463,7 @@ class Expressions(Declarations):
         """The parts of a struct or array, or one cell; without a source they become 0."""
         kind = target.type
         if kind.kind == "struct":
-            for path, _, _, _ in self.leaves(kind):
+            for path, _, _ in self.leaves(kind):
                 self.copy(self.inner_place(target, path), source and self.inner_place(source, path))
         elif kind.kind == "array":
             self.counting(number(kind.length), lambda at: self.copy(element(target, at),
@@ -478,8 +476,7 @@ class Expressions(Declarations):
     def counting(self, length, act):
         """act(i) for each i below length."""
         if length.number == 1:
-            act(number(0))
-            return
+            return act(number(0))
         at = self.temporary(ULONG if length.type.name == "ulong" else INT)
         test = compare("<", at, length, usual(at.type.name, length.type.name))
         self.emit("for (%s = 0; %s; %s = %s + 1)", at, test, at, at, blocks=(self.captured(act, at)[0], ()))

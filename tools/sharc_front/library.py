@@ -77,13 +77,13 @@ class Library(Statements):
         return self.inlined(self.functions["__sharc_end"], [s, room, at])
 
     def l_memcpy(self, args):
-        to, source = self.stable(self.value(args[0])), self.stable(self.value(args[1]))
+        to, source = (self.stable(self.value(arg)) for arg in args[:2])
         self.refuse_if(to.type.to.base().key() != source.type.to.base().key(), "memcpy between different types")
         self.counting(self.elements(to, args[2]), lambda at: self.copy(self.deref(to, at), self.deref(source, at)))
         return to
 
     def l_memset(self, args):
-        to, byte = self.stable(self.value(args[0])), self.stable(self.value(args[1]))
+        to, byte = (self.stable(self.value(arg)) for arg in args[:2])
         self.refuse_if(not byte.null() and self.size(to.type.to)[0] != 1, "memset with another value than 0")
         act = self.copy if byte.null() else lambda place: self.put(place, byte)
         self.counting(self.elements(to, args[2]), lambda at: act(self.deref(to, at)))
@@ -99,18 +99,16 @@ class Library(Statements):
     def factors(self, size):
         """A size in bytes as values that are multiplied."""
         size = size.bare()
-        if size.op in ("*", "__sharc_product64"):
-            return [factor for arg in size.args for factor in self.factors(arg)]
-        return [self.stable(size)]
+        multiplied = size.op in ("*", "__sharc_product64")
+        return [factor for arg in size.args for factor in self.factors(arg)] if multiplied else [self.stable(size)]
 
     def count(self, kind, factors):
         """How many objects of a type such a size is."""
         size, constant = self.size(kind)[0], math.prod(f.number for f in factors if f.number is not None)
         self.refuse_if(not size or constant % size, "size that is not a number of elements of one type")
         made = number(constant // size, "int" if constant < 1 << 31 else "long")
-        for factor in factors:
-            if factor.number is None:
-                made = factor if made.number == 1 else binary("*", made, factor, "long")
+        for factor in [factor for factor in factors if factor.number is None]:
+            made = factor if made.number == 1 else binary("*", made, factor, "long")
         return made
 
     def l_malloc(self, args):
@@ -150,7 +148,6 @@ class Library(Statements):
         zero, (file, line) = self.own_name("zero"), self.here
         self.lines.append(Line((f"{file}: {args[0].value[1:-1]}", line),
                                f"{{ int {zero} = 0; {zero} = 1 / {zero}; }}"))
-        return NOTHING
 
     def l_exit(self, args):
         code = self.value(args[0])
@@ -158,7 +155,6 @@ class Library(Statements):
             return self.l_sharc_stop([A.Constant("string", f'"exit({code.number})"')])
         self.refuse_if(self.function.name != "main", "exit outside main that may be no failure")
         self.emit("return %s;", self.fitting(code, INT))
-        return NOTHING
 
     def l_sharc_scast(self, args):
         kind, place = self.type(args[0].to_type), self.visit(args[1])

@@ -1,8 +1,7 @@
 """Which locks are held at the accesses of globals and members, to propose marks.
 
 Locks are compared by their text in C. A function begins with the locks that all its callers hold; what it locks and
-unlocks from then on is followed through its lines.
-"""
+unlocks from then on is followed through its lines."""
 
 from collections import Counter, namedtuple
 
@@ -60,7 +59,7 @@ class Locksets:
         for inner in tree.values():
             self.event(inner, line, tree.op == "text", held)
         if tree.op == "call" and hasattr(tree.args[0], "params"):
-            known = frozenset(map(self.everywhere, held)) - {None}
+            known = frozenset(map(self.named, held)) - {None}
             self.entry[tree.args[0]] = self.entry.get(tree.args[0], known) & known
             self.threads |= {tree.args[0]} if self.function in self.threads else set()
         place = tree
@@ -81,19 +80,15 @@ class Locksets:
             locks = {self.named(text, prefix) for text in held} - {None}
             accesses[key] = Access(self.function, line.place, written, self.function in self.threads, locks)
 
-    def everywhere(self, text):
-        """A lock by a name that means the same everywhere, of a global or a member of one; else None."""
+    def named(self, text, prefix=None):
+        """A lock as a mark at `prefix` names it: a member beside, or what means the same everywhere; else None."""
+        if prefix is not None and text.startswith(prefix) and not set(text[len(prefix):]) & set(".->"):
+            return text[len(prefix):]
         node, name = self.pointers.get(text, (None, None))
         known = list(node.find().globals) if node else []
         if len(known) == 1 and not known[0][1] and known[0][0].type.kind == "struct":
             return f"{known[0][0].name}.{name}"
         return text if not set("[*>(") & set(text) and text.split(".")[0] in self.front.global_names else None
-
-    def named(self, text, prefix):
-        """A lock as a mark at `prefix` names it: a member beside, or what means the same everywhere."""
-        if prefix is not None and text.startswith(prefix) and not set(text[len(prefix):]) & set(".->"):
-            return text[len(prefix):]
-        return self.everywhere(text)
 
     def proposals(self):
         for name, accesses in sorted(self.accesses.items()):

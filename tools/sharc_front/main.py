@@ -16,12 +16,11 @@ class Words:
     """The words of the command line, with a file that is None where they are not as the usage says."""
     def __init__(self, words):
         at = words.index("--") if "--" in words else len(words)
-        words, self.arguments = list(words[:at]), words[at + 1 :]
+        rest, self.arguments = iter(words[:at]), words[at + 1 :]
         self.command, self.options, self.file, self.rest = None, [], None, []
-        while words:
-            word = words.pop(0)
+        for word in rest:
             if word[:2] in ("-I", "-D", "-U"):
-                self.options += [word] + ([words.pop(0)] if len(word) == 2 and words else [])
+                self.options += [word] if word[2:] else [word, next(rest, "")]
             elif self.file is not None:
                 self.rest.append(word)
             elif word in COMMANDS and self.command is None:

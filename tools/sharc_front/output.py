@@ -2,6 +2,7 @@
 and line markers so that each line is where it was in C."""
 
 import re
+from itertools import accumulate
 from operator import itemgetter
 
 from pycparser import c_ast as A
@@ -39,35 +40,31 @@ class Front(Places):
         self.merge()
 
     def merge(self):
-        """Globals of one type that one pointer may point to become elements of one array."""
+        """Globals, or parts of them, of one type that one pointer may point to become elements of one array."""
         while several := [root for root in self.everything() if len(root.globals) > 1 and not root.mixed]:
             root = min(several, key=lambda root: (max(len(path) for _, path in root.globals),
                                                   sorted(map(named, root.globals))))
-            bases = [self.part(symbol.type, path).base() for symbol, path in root.globals]
-            inside = [self.part(symbol.type, path[:at]).kind for symbol, path in root.globals
-                      for at in range(len(path))]
+            keys, kinds = list(root.globals), [self.part(symbol.type, path) for symbol, path in root.globals]
+            bases, starts = [kind.base() for kind in kinds], [0, *accumulate(kind.cells() for kind in kinds)]
+            inside = [self.part(symbol.type, path[:at]).kind for symbol, path in keys for at in range(len(path))]
             alike = len({base.key() for base in bases}) == len({base.mode and base.mode[0] for base in bases}) == 1
-            root.mixed = not alike or "array" in inside or any(symbol is self.strings for symbol, _ in root.globals)
+            root.mixed = not alike or "array" in inside or any(symbol is self.strings for symbol, _ in keys)
             if not root.mixed:
-                self.group(list(root.globals), bases[0].with_(const=all(base.const for base in bases)))
-
-    def group(self, keys, base):
-        """Makes an array of globals, or of parts of them."""
-        lengths = [self.part(symbol.type, path).cells() for symbol, path in keys]
-        name = "_".join(sorted({key[0].name for key in keys}))[:40]
-        made = Symbol(name, "global", array(base, sum(lengths)), keys[0][0].place, None, self.fresh(name), True)
-        self.groups.update({key: (made, sum(lengths[:at])) for at, key in enumerate(keys)})
-        for root in self.everything():
-            outer = {(symbol, path): next((at for at in range(len(path) + 1) if (symbol, path[:at]) in keys), None)
-                     for symbol, path in root.globals}
-            root.globals = dict.fromkeys(key if at is None else (made, key[1][at:]) for key, at in outer.items())
+                name = "_".join(sorted({symbol.name for symbol, _ in keys}))[:40]
+                kind = array(bases[0].with_(const=all(base.const for base in bases)), starts.pop())
+                made = Symbol(name, "global", kind, keys[0][0].place, None, self.fresh(name), True)
+                self.groups.update({key: (made, start) for key, start in zip(keys, starts)})
+                for root, (symbol, path) in [(root, key) for root in self.everything() for key in root.globals]:
+                    for at in [at for at in range(len(path) + 1) if (symbol, path[:at]) in keys]:
+                        del root.globals[symbol, path]
+                        root.globals[made, path[at:]] = None
 
     def declaration(self, symbol):
         """A local: a variable; one for each member of a struct; or an object, for an array and what has an address."""
         kind, texts = symbol.type, []
         parts = [((), array(kind, 1) if symbol.boxed and kind.kind != "array" else kind)]
         if kind.kind == "struct" and not symbol.boxed:
-            parts = [(path, leaf.with_(mode=None)) for path, leaf, _, _ in self.leaves(kind)]
+            parts = [(path, field.type.with_(mode=None)) for path, _, field in self.leaves(kind)]
         for path, part in parts:
             name, made = self.part_name(symbol, path), ""
             if part.kind == "array":
@@ -83,7 +80,7 @@ class Front(Places):
         arrays in structs are objects of their own, made while the struct is private."""
         self.refuse_if((length.number or 0) > 65536, "object of over 65536 elements")
         plain, one = self.type_text(kind.bare()).replace(" racy", ""), length.number == 1 and not boxes
-        arrays = [(self.part_name(kind.name, path), field) for path, _, field in self.objects(kind)] if not boxes else []
+        arrays = [(self.part_name(kind.name, path), field) for path, field in self.objects(kind) if not boxes]
         own = self.own_name("own") if boxes and inner or arrays else target
         at = self.own_name("i") if not one and (boxes or arrays) else None
         made = self.new_object(f"{own}[{at}]", kind, number(1), False) if boxes else " ".join(
@@ -98,17 +95,17 @@ class Front(Places):
         return f"{{ {plain} private * {own} = malloc({size}); {made} {target} = SCAST({plain}{mode} *, {own}); }}"
 
     def objects(self, kind):
-        """The members of a struct in an object that are objects of their own: (path, type, field)."""
-        return [(path, leaf, field) for path, leaf, _, field in self.leaves(kind, (), True)
-                if leaf.kind == "array" or field.alone] if kind.kind == "struct" else []
+        """The members of a struct in an object that are objects of their own: (path, field)."""
+        leaves = self.leaves(kind, (), True)
+        return [(path, field) for path, _, field in leaves if field.alone or field.type.kind == "array"]
 
     def struct_text(self, name):
         """A struct, with pointers to objects of their own for the arrays in it."""
         texts = []
-        for path, leaf, struct, field in self.leaves(Type("struct", name), (), True):
-            self.here, base, stars = field.place, leaf.base(), ""
-            if leaf.kind == "array" or field.alone:
-                mode = leaf.mode or ("racy" if base.kind == "mutex" else "dynamic", None)
+        for path, struct, field in self.leaves(Type("struct", name), (), True):
+            self.here, base, stars = field.place, field.type.base(), ""
+            if field.alone or field.type.kind == "array":
+                mode = field.type.mode or ("racy" if base.kind == "mutex" else "dynamic", None)
                 base = base if base.mode or base.atomic else base.with_(mode=mode)
                 stars = " * readonly" * (1 + self.boxes(field.made))
             shown = self.type_text(base, (struct, name, path[:-1]), False)
@@ -125,10 +122,10 @@ class Front(Places):
         if self.grouped(symbol, path):
             return ""
         if kind.kind == "struct":
-            return " ".join(self.global_text(symbol, leaf, at, (struct, symbol, at[:-1]))
-                            for at, leaf, struct, _ in self.leaves(kind))
+            return " ".join(self.global_text(symbol, field.type, at, (struct, symbol, at[:-1]))
+                            for at, struct, field in self.leaves(kind))
         base, length, constant = kind.base(), kind.cells(), symbol.constants.get(path)
-        inner = [self.global_text(symbol, array(leaf, length), path + at) for at, leaf, field in self.objects(base)]
+        inner = [self.global_text(symbol, array(field.type, length), path + at) for at, field in self.objects(base)]
         shared = ("racy", None) if base.kind == "int" and base.const else None
         text = self.type_text(base.with_(mode=base.mode or kind.mode or shared), context, False)
         self.cells += length * (8 if base.kind == "struct" else 1)
@@ -150,9 +147,15 @@ class Front(Places):
         if self.reads_strings:
             globals_.append((self.here, f"char racy {self.strings.out}[{sum(map(len, self.text_pool))}];"))
         structs = []
-        while named := [key[0] for key in self.out_names if key[0] in self.structs and not key[1]][len(structs):]:
-            structs.append(self.written(self.structs[named[0]].place, self.struct_text, named[0]))  # may name others
-        text = self.marked(structs + globals_ + functions + last + self.helper_lines())
+        while rest := [key[0] for key in self.out_names if key[0] in self.structs and not key[1]][len(structs):]:
+            structs.append(self.written(self.structs[rest[0]].place, self.struct_text, rest[0]))  # may name others
+        arithmetic = {re.match(r"\w+ (\w+)", text)[1]: text for text in texts("arithmetic.sharc")}
+        helpers = sorted(self.helpers)
+        for name in helpers:  # which grows by those that these call
+            helpers += sorted(set(re.findall(r"__sharc_\w+", arithmetic[name])) - set(helpers))
+        lines = enumerate([line for name in helpers for line in arithmetic[name].split("\n")], 1)
+        last += [(("what C does that the language does not", at), line) for at, line in lines]
+        text = self.marked(structs + globals_ + functions + last)
         self.refuse_if(len(text) > 1048576, "program whose lowered text is over 1048576 bytes")
         if self.refusals:
             raise Refusal(*self.refusals)
@@ -250,12 +253,3 @@ class Front(Places):
             text = f"{{ {call} return; }}" if kind.to.kind == "void" else f"return {call}"
             lines.append(f"if (function == {self.numbers[symbol]}) {text}")
         return " ".join(lines) + " int zero = 0; zero = 1 / zero; }"
-
-    def helper_lines(self):
-        """The functions of headers/arithmetic.sharc that are called, and those that these call."""
-        functions = {re.match(r"\w+ (\w+)", text)[1]: text for text in texts("arithmetic.sharc")}
-        wanted, place = sorted(self.helpers), "what C does that the language does not"
-        for name in wanted:  # which grows
-            wanted += sorted(set(re.findall(r"__sharc_\w+", functions[name])) - set(wanted))
-        lines = [line for name in wanted for line in functions[name].split("\n")]
-        return [((place, at), line) for at, line in enumerate(lines, 1)]

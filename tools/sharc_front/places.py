@@ -55,25 +55,20 @@ class Places(Threads):
 
     def spot(self, place):
         base, *rest = place.args
-        if place.op == "variable":
-            return self.variable_spot(base)
         if place.op == "at":
             return self.pointed(base, rest[0], place.type)
+        if place.op == "variable":
+            is_array, is_global = base.type.kind == "array", base.kind == "global"
+            self.refuse_if(is_global and base not in self.globals and not base.own,
+                           f"variable {base.name}, which is not defined here")
+            if is_global or not is_array and not base.boxed:
+                return self.in_group(Spot(base, number(0) if is_array else None))
+            return Spot(base, number(0), self.part_name(base), is_array and self.boxes(base.address))
         spot = self.spot(base)
         if place.op == "member":
             return self.entered(spot, base.type.name, rest[0])
         spot.index = plus(spot.index, times(rest[0], place.type.cells()))
         return spot
-
-    def variable_spot(self, symbol):
-        is_array = symbol.type.kind == "array"
-        if symbol.kind == "global":
-            self.refuse_if(symbol not in self.globals and not symbol.own,
-                           f"variable {symbol.name}, which is not defined here")
-            return self.in_group(Spot(symbol, number(0) if is_array else None))
-        if is_array or symbol.boxed:
-            return Spot(symbol, number(0), self.part_name(symbol), is_array and self.boxes(symbol.address))
-        return Spot(symbol)
 
     def in_group(self, spot):
         """The same, where a global has become a part of an array of several."""
@@ -112,7 +107,7 @@ class Places(Threads):
         symbol, path = next(iter(node.find().globals))
         self.reads_strings |= symbol is self.strings
         kinds = [self.part(symbol.type, path[:at]) for at in range(len(path) + 1)]
-        spot, moves = self.variable_spot(symbol), node.has("order")
+        spot, moves = self.spot(variable(symbol)), node.has("order")
         for outer, step in zip(kinds, path):
             spot = self.entered(spot, outer.base().name, step)
         arrays = [at for at, part in enumerate(kinds) if part.kind == "array"]

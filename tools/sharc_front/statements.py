@@ -75,8 +75,7 @@ class Statements(Expressions):
             case A.While():
                 self.loop(node.cond, [], node.stmt)
             case A.DoWhile():
-                before, test = self.captured(self.value, node.cond)
-                self.loop(None, self.leave_unless(test, before), node.stmt)
+                self.loop(node.cond, [], node.stmt, ends=True)
             case A.For():
                 self.statements(items_of(node.init))
                 self.loop(node.cond, self.body(node.next), node.stmt)
@@ -102,31 +101,25 @@ class Statements(Expressions):
 
     def declare_local(self, symbol, values=()):
         """Declares a local, by a name that no other of the function has, and gives it the values of its initialiser."""
-        self.locals += 1
-        symbol.loop = len(self.loops)
-        taken = symbol.own or symbol.name in self.own_names or symbol.name in self.global_names
-        symbol.out = self.fresh(symbol.name) if taken else symbol.name
+        self.locals += not symbol.own  # which own_name counts
+        symbol.loop, taken = len(self.loops), symbol.name in self.own_names or symbol.name in self.global_names
+        symbol.out = self.own_name(symbol.name) if symbol.own else self.fresh(symbol.name) if taken else symbol.name
         self.own_names.add(symbol.name)
-        if symbol.own:
-            self.user.own.add(symbol.out)
-        elif self.pinned and self.bound:  # a variable of a function of the headers is told as what that is called for
+        if self.pinned and self.bound and not symbol.own:  # one of the headers is told as what it is called for
             symbol.name = self.bound
         if symbol.kind == "local":
             self.later(lambda: self.declaration(symbol), declares=True)
         for path, item in values:
             self.blocked(self.store, self.inner_place(variable(symbol), path), item)
 
-    def leave_unless(self, test, before):
-        """Lines that leave a loop unless a condition holds, after those of the condition."""
-        leave = [Line(self.here, "break;")]
-        return self.captured(lambda: self.blocked(self.branch, test, [], leave, after=before))[0]
-
-    def loop(self, cond, step, body, around=None):
+    def loop(self, cond, step, body, around=None, ends=False):
         """`step` is at the end of the body, and before each continue: self.loops has it for each loop around, and the
-        flag `around` for each switch."""
+        flag `around` for each switch. A condition that takes lines, or that `ends` the body, leaves the loop there."""
         before, test = self.captured(self.value, cond) if cond is not None else ([], number(1))
-        if before:
-            before, test = self.leave_unless(test, before), number(1)
+        if before or ends:
+            branches = [], [Line(self.here, "break;")]
+            leave = self.captured(lambda: self.blocked(self.branch, test, *branches, after=before))[0]
+            (before, step), test = ([], leave) if ends else (leave, step), number(1)
         self.loops.append(around or step)
         inner = self.body(body)
         self.loops.pop()

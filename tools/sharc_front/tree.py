@@ -1,8 +1,7 @@
 """Expressions of SharC as trees, and C's operators and conversions on them (C11 6.3.1, 6.5).
 
 SharC has no unsigned types: an unsigned value of less than 64 bits is masked after what can leave its range; one of 64
-bits is held by its bits, and functions of headers/arithmetic.sharc compare, multiply and divide it.
-"""
+bits is held by its bits, and functions of headers/arithmetic.sharc compare, multiply and divide it."""
 
 import operator
 from dataclasses import dataclass, replace
@@ -29,8 +28,7 @@ class Expr:
     Or a value: what is in a place; number; operators on integers, also those of headers/arithmetic.sharc; a cast,
     which changes nothing but the type; address(place), also of the first element of an array; ordered(pointer), its
     number; and text(what gives it, places ..), which is known when all of the program was read, as NULL is. Those with
-    effects are call(function, values ..) and scast(place); they are evaluated once, where they are in a line.
-    """
+    effects are call(function, values ..) and scast(place); they are evaluated once, where they are in a line."""
     op: str
     args: tuple
     type: Type
