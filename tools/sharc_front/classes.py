@@ -97,10 +97,6 @@ def named(key):
     return ".".join((key[0].name,) + key[1])
 
 class Classes:
-    def __init__(self):
-        self.nodes, self.structs = [], {}
-        self.firsts = []  # (class of &a[0], class of a): a pointer to the array, unless others of its elements have one
-
     def everything(self):
         return list(dict.fromkeys(node.find() for node in self.nodes))
 

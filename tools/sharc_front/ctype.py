@@ -50,7 +50,7 @@ class Type:
             return self.to.shown() + (" *" if self.kind == "ptr" else f" [{self.length}]")
         return "struct " + self.name if self.kind == "struct" else self.name or self.kind
 
-INT, UINT, LONG, ULONG, CHAR = (Type("int", name) for name in ("int", "uint", "long", "ulong", "char"))
+BOOL, CHAR, INT, UINT, LONG, ULONG = (Type("int", name) for name in ("bool", "char", "int", "uint", "long", "ulong"))
 VOID, MUTEX, COND, BAD = (Type(kind) for kind in ("void", "mutex", "cond", "bad"))
 
 def array(to, length):
@@ -61,13 +61,8 @@ def limits(name):
     signed = name not in UNSIGNED or name == "ulong"
     return (-(1 << BITS[name] - 1), (1 << BITS[name] - 1) - 1) if signed else (0, (1 << BITS[name]) - 1)
 
-def wrapped(value, name):
-    """A number converted to a C type, as its cell holds it (C11 6.3.1.3; gcc and clang wrap signed types)."""
-    low = limits(name)[0]
-    return int(value != 0) if name == "bool" else (value - low) % (1 << BITS[name]) + low
-
-def promoted(name):
-    return name if BITS[name] >= 32 else "int"
+def promoted(kind):
+    return kind.name if BITS[kind.name] >= 32 else "int"
 
 def usual(left, right):
     """The common type of two operands (C11 6.3.1.8)."""

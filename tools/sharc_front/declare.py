@@ -1,16 +1,15 @@
 """Declarations: types, structs, enums, names and their scopes, initialisers and strings (C11 6.2.1, 6.4.5, 6.7)."""
 
 import re
-from collections import ChainMap
 
 from pycparser import c_ast as A
 from .classes import Classes, Node, unify
-from .ctype import BAD, BITS, COND, INT, MUTEX, SIZES, UINT, VOID, Refusal, Type, array
+from .ctype import BAD, BITS, BOOL, COND, INT, MUTEX, SIZES, UINT, VOID, Refusal, Type, array
 from .tree import number
 
 # the types that a few words name, without `signed` and `int`, in the order of the alphabet
 WORDS = {"": INT, "void": VOID, "pthread_mutex_t": MUTEX, "pthread_spinlock_t": MUTEX, "__sharc_cond": COND,
-         "_Bool": Type("int", "bool"), "long long": Type("int", "long"), "long long unsigned": Type("int", "ulong"),
+         "_Bool": BOOL, "long long": Type("int", "long"), "long long unsigned": Type("int", "ulong"),
          "unsigned": UINT, **{word: Type("int", word) for word in ("char", "short", "long")},
          **{word + " unsigned": Type("int", "u" + word) for word in ("char", "short", "long")}}
 ESCAPES = dict(zip(b"abfnrtv\\'\"?e", b"\a\b\f\n\r\t\v\\'\"?\x1b"))
@@ -43,13 +42,6 @@ def place_of(node, otherwise=("", 0)):
     return node if isinstance(node, tuple) else (coord.file, coord.line) if coord and coord.file else otherwise
 
 class Declarations(Classes):
-    def __init__(self, source):
-        super().__init__()
-        self.source, self.function, self.here, self.scopes = source, None, ("", 0), ChainMap()
-        self.globals, self.functions, self.refusals = [], {}, []
-        self.tags, self.typedef_names = {}, {}  # by their nodes; in self.scopes they are with a blank before them
-        self.names, self.unions = set(source.words), set()
-
     def refuse(self, node, what):
         raise Refusal((place_of(node, self.here), what))
 
@@ -268,8 +260,8 @@ class Declarations(Classes):
     def bytes_of(self, node):
         """The bytes of a string or character constant."""
         def byte(found):
-            digits, octal, letter = found.groups()
+            octal, letter = found.groups()
             self.refuse_if(letter and ord(letter) not in ESCAPES, f"escape {found[0].decode('latin-1')}", node)
-            return bytes([int(digits, 16) & 255 if digits else int(octal, 8) & 255 if octal else ESCAPES[ord(letter)]])
+            return bytes([int(octal, 8) if octal else ESCAPES[ord(letter)]])
         self.refuse_if(node.type == "string" and node.value[0] != '"', "wide string", node)
-        return re.sub(rb"\\(?:x([0-9a-fA-F]+)|([0-7]{1,3})|(.))", byte, node.value[1:-1].encode(), flags=re.DOTALL)
+        return re.sub(rb"\\(?:([0-7]{3})|(.))", byte, node.value[1:-1].encode(), flags=re.DOTALL)

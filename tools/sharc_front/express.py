@@ -8,7 +8,7 @@ from dataclasses import dataclass
 
 from pycparser import c_ast as A
 from .classes import Node
-from .ctype import BITS, CHAR, INT, LONG, ULONG, VOID, Type, array, promoted, usual
+from .ctype import BITS, BOOL, CHAR, INT, LONG, ULONG, VOID, Type, array, promoted, usual
 from .declare import Declarations, Symbol, place_of
 from .tree import COMPARED, NOTHING, PLACES, TRUTHS, Expr, address, binary, compare, convert, element, joined, number, \
     plus, variable
@@ -200,7 +200,9 @@ class Expressions(Declarations):
         if kind.kind == "int":
             self.refuse_if(given.kind != "int" and (given.kind, kind.name) != ("ptr", "bool"),
                            f"{given.shown()} as a number")
-            return convert(self.truth(value) if kind.name == "bool" else value, kind.name)
+            truth = kind.name == "bool"  # 0 or 1
+            value = self.compared("!=", value, number(0)) if truth and given.kind == "ptr" else value
+            return value.typed(BOOL) if truth and value.op in TRUTHS else convert(value, kind.name)
         if kind.name == "value":
             return self.copied(kind, value)
         self.refuse_if(given.kind != "ptr" and not value.null(), "number as a pointer")
@@ -208,11 +210,6 @@ class Expressions(Declarations):
             return Expr("text", (lambda: self.null_text(kind.node),), kind, 0)
         kind.node.unite(self.class_of(value))
         return value.typed(kind)
-
-    def truth(self, value):
-        if value.type.kind == "ptr":
-            return self.compared("!=", value, number(0))
-        return value.typed(Type("int", "bool")) if value.op in TRUTHS else convert(value, "bool")
 
     def x_Constant(self, node, _):
         if node.type == "string":
@@ -286,7 +283,7 @@ class Expressions(Declarations):
             return value if value.type.kind == "ptr" and value.type.to.kind == "func" else self.deref(value)
         if op == "!":
             return self.compared("==", value, number(0))
-        name = promoted(value.type.name)
+        name = promoted(value.type)
         if op == "+":
             return convert(value, name)
         return binary("-", number(0), value, name) if op == "-" else binary("^", value, number(-1), name)
@@ -301,8 +298,8 @@ class Expressions(Declarations):
             return number(int(node.op == "||") if ends else int(not right.null()))
         if not lines and wanted:
             return joined(node.op, "int", left, right)
-        made = self.temporary(INT, self.truth(left)) if wanted else None
-        lines = self.captured(self.put, made, self.truth(right), after=lines)[0] if wanted else lines
+        made = self.temporary(INT, self.fitting(left, BOOL)) if wanted else None
+        lines = self.captured(self.put, made, self.fitting(right, BOOL), after=lines)[0] if wanted else lines
         self.branch(made or left, *((lines, []) if node.op == "&&" else ([], lines)))
         return made
 
@@ -311,8 +308,8 @@ class Expressions(Declarations):
         if op in COMPARED:
             return self.compared(op, left, right)
         if "ptr" not in kinds:
-            return binary(op, left, right, promoted(left.type.name) if op in ("<<", ">>") else
-                          usual(left.type.name, right.type.name))
+            name = promoted(left.type) if op in ("<<", ">>") else usual(left.type, right.type)
+            return binary(op, left, right, name)
         if kinds == ("ptr", "ptr") and op == "-":
             self.class_of(left).unite(self.class_of(right))
             cells, made = left.type.to.cells(), joined("-", "long", self.ordered(left), self.ordered(right))
@@ -328,7 +325,7 @@ class Expressions(Declarations):
 
     def compared(self, op, left, right):
         if "ptr" not in (left.type.kind, right.type.kind):
-            return compare(op, left, right, usual(left.type.name, right.type.name))
+            return compare(op, left, right, usual(left.type, right.type))
         pointers = [side for side in (left, right) if not side.null()]
         if not pointers:
             return number(int(op == "=="))
@@ -345,7 +342,7 @@ class Expressions(Declarations):
         if not wanted:
             return self.branch(test, first, second)
         if left.type.kind == right.type.kind == "int":
-            kind = Type("int", usual(left.type.name, right.type.name))
+            kind = Type("int", usual(left.type, right.type))
         else:
             other = left.null() or left.type.kind == "ptr" and left.type.to.kind == "void"
             pick = right.type if other else left.type
@@ -478,7 +475,7 @@ class Expressions(Declarations):
         if length.number == 1:
             return act(number(0))
         at = self.temporary(ULONG if length.type.name == "ulong" else INT)
-        test = compare("<", at, length, usual(at.type.name, length.type.name))
+        test = compare("<", at, length, usual(at.type, length.type))
         self.emit("for (%s = 0; %s; %s = %s + 1)", at, test, at, at, blocks=(self.captured(act, at)[0], ()))
 
     @staticmethod

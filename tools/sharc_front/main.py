@@ -44,8 +44,20 @@ def guarded(words):
         what = f"program that the front does not understand ({type(error).__name__}: {error})"
         raise Refusal(((words.file, 1), what)) from None
 
-def answered(words, text, names, notes):
-    """Runs the program on the text, and puts the names back."""
+def main(arguments):
+    words = Words(arguments)
+    if words.file is None:
+        sys.stderr.write(USAGE)
+        return 8
+    try:
+        text, names, notes = guarded(words)
+    except Refusal as refused:
+        for (file, line), what in sorted({refusal for refusal in refused.args if refusal[1]}):
+            sys.stderr.write(f"{file or '?'}:{line}: refused: {what}\n")
+        return 1
+    if words.command in (None, "--locks"):
+        sys.stdout.write(text)
+        return 0
     program, rest = os.environ.get("SHARC") or str(TOP / "sharc"), words.rest
     if words.command in ("run", "record") and not any(word.startswith("--granules") for word in rest):
         rest = [*rest, "--granules", "65536"]
@@ -61,19 +73,3 @@ def answered(words, text, names, notes):
         if "print(" in text:
             sys.stderr.write("note: of what printf writes only the numbers are printed, one on a line\n")
     return done.returncode
-
-def main(arguments):
-    words = Words(arguments)
-    if words.file is None:
-        sys.stderr.write(USAGE)
-        return 8
-    try:
-        made = guarded(words)
-    except Refusal as refused:
-        for (file, line), what in sorted({refusal for refusal in refused.args if refusal[1]}):
-            sys.stderr.write(f"{file or '?'}:{line}: refused: {what}\n")
-        return 1
-    if words.command not in (None, "--locks"):
-        return answered(words, *made)
-    sys.stdout.write(made[0])
-    return 0

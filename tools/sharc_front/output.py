@@ -2,6 +2,7 @@
 and line markers so that each line is where it was in C."""
 
 import re
+from collections import ChainMap
 from itertools import accumulate
 from operator import itemgetter
 
@@ -17,8 +18,12 @@ from .tree import NOTHING, Expr, number, variable
 
 class Front(Places):
     def __init__(self, source, words):
-        super().__init__(source)
-        self.user, self.here, self.arguments_given = Names(), (words.file, 1), [words.file, *words.arguments]
+        self.source, self.user, self.arguments_given = source, Names(), [words.file, *words.arguments]
+        self.function, self.here, self.scopes = None, (words.file, 1), ChainMap()
+        self.globals, self.functions, self.structs, self.refusals, self.nodes = [], {}, {}, [], []
+        self.firsts = []  # (class of &a[0], class of a): a pointer to the array, unless others of its elements have one
+        self.tags, self.typedef_names = {}, {}  # by their nodes; in self.scopes they are with a blank before them
+        self.names, self.unions = set(source.words), set()
         self.lines, self.loops, self.notes, self.cells, self.locals = [], [], [], 0, 0
         self.pinned, self.bound = False, None  # in a function of the headers: the place of the call, and its argument
         self.out_names, self.text_pool, self.calls_by, self.groups = {}, {}, {}, {}
@@ -218,7 +223,7 @@ class Front(Places):
             return "int main(void) {"
         texts = [f"{self.type_text(param.type)} {self.part_name(param, ())}" for param in symbol.params]
         self.refuse_if(len(texts) > 16, f"function {symbol.name} with over 16 parameters")
-        return f"{self.type_text(symbol.type.to)} {self.function_name(symbol)}({', '.join(texts) or 'void'}) {{"
+        return f"{self.type_text(symbol.type.to)} {self.part_name(symbol)}({', '.join(texts) or 'void'}) {{"
 
     def initialisers(self):
         """What main does before everything else."""
@@ -227,10 +232,8 @@ class Front(Places):
                 if path not in symbol.constants or self.grouped(symbol, path):
                     yield from self.flat(lines)
                     self.notes.append((symbol.place, f"the initialiser of {symbol.name} is executed by main"))
-        data = [(byte ^ 128) - 128 for text in self.text_pool for byte in text]
-        for at in range(0, len(data) if self.reads_strings else 0, 16):
-            texts = [f"{self.strings.out}[{at + k}] = {byte};" for k, byte in enumerate(data[at : at + 16]) if byte]
-            yield self.functions["main"].place, " ".join(texts)
+        for at, byte in enumerate(b"".join(self.text_pool) if self.reads_strings else b""):
+            yield self.functions["main"].place, f"{self.strings.out}[{at}] = {(byte ^ 128) - 128};" if byte else ""
 
     def set_initialiser(self, symbol, values):
         """The constants that parts of a global are declared with; main assigns the rest."""
@@ -249,7 +252,7 @@ class Front(Places):
         for symbol in root.functions:
             self.refuse_if(len(symbol.params) != len(kind.params),
                            f"call through a pointer of {symbol.name}, with other parameters")
-            call, symbol.called = f"{self.function_name(symbol)}({', '.join(names)});", True
+            call, symbol.called = f"{self.part_name(symbol)}({', '.join(names)});", True
             text = f"{{ {call} return; }}" if kind.to.kind == "void" else f"return {call}"
             lines.append(f"if (function == {self.numbers[symbol]}) {text}")
         return " ".join(lines) + " int zero = 0; zero = 1 / zero; }"

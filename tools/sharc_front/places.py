@@ -34,20 +34,18 @@ class Places(Threads):
             words, told = (owner.out, *path) if isinstance(owner, Symbol) else path or (owner,), path
             if isinstance(owner, Symbol):
                 told = () if owner.own else (owner.name, *path)
+                self.refuse_if(owner.kind == "function" and owner.definition is None,
+                               f"function {owner.name}, which is not defined here", owner.place)
             name, reserved = "_".join(words), "_".join(words) in RESERVED
             name = self.fresh(name + "_" * reserved) if len(words) > 1 or reserved else name
             self.out_names[owner, path] = name
             self.user.words.update({name: ".".join(told)} if told and name != ".".join(told) else {})
         return self.out_names[owner, path]
 
-    def function_name(self, symbol):
-        self.refuse_if(symbol.definition is None, f"function {symbol.name}, which is not defined here", symbol.place)
-        return self.part_name(symbol)
-
     def called_name(self, callee, value=None):
         """What is called: a function of the program, or the one that calls one of several."""
         if hasattr(callee, "params"):
-            return self.function_name(callee)
+            return self.part_name(callee)
         self.refuse_if(self.how(callee) != "function", "call through a pointer that is always NULL")
         if callee.find() not in self.calls_by:
             self.calls_by[callee.find()] = (self.fresh("call"), value.type.to, callee.find(), self.here)

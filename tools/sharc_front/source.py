@@ -21,6 +21,7 @@ TOKEN = re.compile(
     r'|__sharc_refuse\("(?P<refused>[^"]*)"\)|"(?:\\.|[^"\\\n])*"' r"|'(?:\\.|[^'\\\n])*'" r"|\.?\d[\w.]*"
     r"|__attribute__\s*\(\((?P<attributes>(?:[^()]|\((?:[^()]|\([^()]*\))*\))*)\)\)"
     r"|__mode_(?P<mode>locked\s*\([^()]*\)|[a-z]+)|(?P<word>[A-Za-z_$][\w$]*)")
+NUMBERED = re.compile(r"\\(?:x([0-9a-fA-F]+)|([0-7]{1,3})|.)")
 HARMLESS = set("unused noreturn format const pure noinline always_inline cold hot malloc nonnull warn_unused_result "
                "used deprecated returns_nonnull flatten leaf nothrow fallthrough may_alias noclone alloc_size".split())
 
@@ -68,6 +69,9 @@ class Source:
             return " volatile" * len(self.modes) + " " + blank
         if kind == "word":
             self.words.add(token)
+        if token[0] in "\"'":  # numbers get three digits, so that they end where they did when strings are joined
+            return NUMBERED.sub(lambda found: f"\\{int(found[1] or found[2], 16 if found[1] else 8) & 255:03o}"
+                                if found[1] or found[2] else found[0], token)
         refused = [found["refused"] or token.strip()] if kind in ("directive", "refused") else []
         if kind == "attributes":
             names = re.findall(r"[A-Za-z_]\w*", re.sub(r"\((?:[^()]|\([^()]*\))*\)", "", found["attributes"]))

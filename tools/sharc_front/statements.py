@@ -138,7 +138,7 @@ class Statements(Expressions):
     def s_Switch(self, node):
         """The cases in order, from the number of the one that is chosen on, in a loop that takes the breaks."""
         value, cases = self.value(node.cond), items_of(node.stmt)
-        kind, bodies = promoted(value.type.name), []
+        kind, bodies = promoted(value.type), []
         value = self.stable(convert(value, kind))
         default = next((at for at, case in enumerate(cases) if isinstance(case, A.Default)), len(cases))
         at, again = self.temporary(INT, number(default)), self.temporary(INT, number(0))

@@ -82,7 +82,7 @@ class Threads(Library):
         self.refuse_if(len(symbol.params) != 1 or symbol.params[0].type.kind != "ptr" or symbol.type.to.kind != "ptr",
                        f"thread function {symbol.name} whose parameter or result is no pointer", symbol.place)
         argument, result = symbol.params[0].type, self.type_text(symbol.type.to.bare())
-        return RECORD.substitute(self.record(symbol), function=self.function_name(symbol), result=result,
+        return RECORD.substitute(self.record(symbol), function=self.part_name(symbol), result=result,
                                  argument=self.type_text(argument.bare()), none=self.null_text(argument.node))
 
     def l_pthread_join(self, args):

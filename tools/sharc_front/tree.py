@@ -6,7 +6,7 @@ bits is held by its bits, and functions of headers/arithmetic.sharc compare, mul
 import operator
 from dataclasses import dataclass, replace
 
-from .ctype import BITS, CELL, UNSIGNED, VOID, Type, limits, wrapped
+from .ctype import BITS, CELL, UNSIGNED, VOID, Type, limits
 
 LEVELS = {"||": 1, "&&": 2, "|": 3, "^": 4, "&": 5, "==": 6, "!=": 6, "<": 7, ">": 7, "<=": 7, ">=": 7, "<<": 8,
           ">>": 8, "+": 9, "-": 9, "*": 10, "/": 10, "%": 10}
@@ -84,7 +84,9 @@ def address(place, to=None):
     return Expr("address", (place,), Type("ptr", to=to or place.type))
 
 def number(value, name="int"):
-    value = wrapped(value, name)
+    """A number converted to a C type, as its cell holds it (C11 6.3.1.3; gcc and clang wrap signed types)."""
+    low = limits(name)[0]
+    value = int(value != 0) if name == "bool" else (value - low) % (1 << BITS[name]) + low
     return Expr("number", (), Type("int", name), value, CELL[name] == "long" or not -(1 << 31) < value < 1 << 31)
 
 def joined(op, name, *values):
