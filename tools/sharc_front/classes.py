@@ -29,7 +29,8 @@ class Node:
             self.point_to(to)
 
     def find(self):
-        return self.parent.find() if self.parent else self
+        self.parent = self.parent and self.parent.find()
+        return self.parent or self
 
     def part(self, *key):
         root = self.find()
@@ -84,7 +85,6 @@ class Node:
         return "boxes" if root.element() else "heap"
 
     def pointee_type(self, place):
-        """The one type that pointers of this class point to."""
         types = list(self.find().types.values())
         if len(types) != 1:
             names = ", ".join(sorted(kind.shown() for kind in types))
