@@ -2,13 +2,11 @@
 
 A class says how its pointers are represented: as pointers to objects of the heap (of which locals whose address is
 taken are some), as numbers of elements of one global (1 is element 0, 0 is NULL), as numbers of functions, or as the
-integers that a `void *` carries.
-"""
+integers that a `void *` carries."""
 
 from .ctype import Refusal
 
 HEAP = ("heap", "boxes")
-
 
 def unify(one, other):
     """The pointers in two compatible types may point to the same."""
@@ -19,12 +17,10 @@ def unify(one, other):
         for pair in zip(one.params or (), other.params or ()):
             unify(*pair)
 
-
 class Node:
     """A class, or a part of one that was united with another: `find` gives the whole."""
-
     def __init__(self, every, to=None):
-        self.every, self.parent, self.mixed = every, self, False
+        self.every, self.parent, self.mixed = every, None, False
         self.globals, self.functions = {}, {}  # as sets in order: (symbol, path of members), symbols
         self.types, self.seen = {}, set()  # seen: heap, integer, order, taken, or indexed (another element is used)
         self.parts = {}  # the classes of pointers to other elements ("element",), and to members ("member", ..)
@@ -33,10 +29,8 @@ class Node:
             self.point_to(to)
 
     def find(self):
-        node = self
-        while node.parent is not node:
-            node = node.parent
-        return node
+        self.parent = self.parent and self.parent.find()
+        return self.parent or self
 
     def part(self, *key):
         root = self.find()
@@ -46,8 +40,7 @@ class Node:
 
     def element(self):
         """The class of pointers to other elements, or None where nothing has asked for it."""
-        found = self.find().parts.get(("element",))
-        return found and found.find()
+        return self.part("element") if ("element",) in self.find().parts else None
 
     def mark(self, what):
         self.find().seen.add(what)
@@ -92,7 +85,6 @@ class Node:
         return "boxes" if root.element() else "heap"
 
     def pointee_type(self, place):
-        """The one type that pointers of this class point to."""
         types = list(self.find().types.values())
         if len(types) != 1:
             names = ", ".join(sorted(kind.shown() for kind in types))
@@ -100,22 +92,11 @@ class Node:
                            "void * whose type is not known"))
         return types[0]
 
-
 def named(key):
     """A global or a part of it as in C."""
     return ".".join((key[0].name,) + key[1])
 
-
 class Classes:
-    """All classes of a program."""
-
-    def __init__(self):
-        self.nodes, self.structs = [], {}
-        self.firsts = []  # (class of &a[0], class of a): a pointer to the array, unless others of its elements have one
-
-    def node(self, to=None):
-        return Node(self.nodes, to)
-
     def everything(self):
         return list(dict.fromkeys(node.find() for node in self.nodes))
 
@@ -126,23 +107,16 @@ class Classes:
         before = None
         while before != (now := [(id(root), len(root.globals), len(root.seen)) for root in self.everything()]):
             before = now
-            for root in self.everything():
-                self.settle_element(root.find())
+            for root in map(Node.find, self.everything()):
+                element = root.element()
+                if element and (root.globals and not root.has("heap") or element.has("indexed") or element.element()):
+                    root.unite(element)
+                elif element and root.has("heap"):
+                    element.mark("heap")
                 self.settle_members(root.find())
 
-    @staticmethod
-    def settle_element(root):
-        """One step for the pointers to other elements."""
-        element = root.element()
-        if element is None or element is root:
-            return
-        if root.globals and not root.has("heap") or element.has("indexed") or element.element():
-            root.unite(element)
-        elif root.has("heap"):
-            element.mark("heap")
-
     def settle_members(self, root):
-        """The same for pointers to members: `made` is the class of those in objects of the heap."""
+        """One step for the pointers to members: `made` is the class of those in objects of the heap."""
         in_heap = root.has("heap") and not root.globals
         for (struct, name), node in [(key[1:], node) for key, node in root.parts.items() if key[0] == "member"]:
             node.find().globals.update({(symbol, path + (name,)): None for symbol, path in root.globals
@@ -151,19 +125,18 @@ class Classes:
                 node.mark("heap")
                 self.structs[struct].fields[name].made.unite(node)
                 self.structs[struct].fields[name].alone |= node.has("taken")
-        for kind in [kind for kind in root.types.values() if kind.kind == "struct" and in_heap]:
-            for _, leaf, _, field in self.leaves(kind):
-                if leaf.kind == "array":
-                    field.made.mark("heap")
+        for _, _, field in [each for kind in root.types.values() if in_heap for each in self.leaves(kind)]:
+            if field.type.kind == "array":
+                field.made.mark("heap")
 
     def leaves(self, kind, path=(), apart=False):
-        """The members of a type that are no structs, those of structs in it too: (path, type, struct, field). `apart`:
+        """The members of a type that are no structs, those of structs in it too: (path, struct, field). `apart`:
         of an object of the heap, where those that are objects of their own are not laid open."""
-        for name, field in self.structs[kind.name].fields.items():
+        for name, field in self.structs[kind.name].fields.items() if kind.kind == "struct" else ():
             if field.type.kind == "struct" and not (apart and field.alone):
                 yield from self.leaves(field.type, path + (name,), apart)
             elif field.type.kind != "bad":
-                yield path + (name,), field.type, kind.name, field
+                yield path + (name,), kind.name, field
 
     def part(self, kind, path):
         """The type of a part: members and indices."""

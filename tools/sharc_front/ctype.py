@@ -5,15 +5,12 @@ from dataclasses import dataclass, replace
 BITS = {"bool": 1, "char": 8, "uchar": 8, "short": 16, "ushort": 16, "int": 32, "uint": 32, "long": 64, "ulong": 64}
 UNSIGNED = {"bool", "uchar", "ushort", "uint", "ulong"}
 # the type of the cell that holds each: SharC has only signed types; an unsigned long is held by its 64 bits
-CELL = {"bool": "int", "char": "char", "uchar": "int", "short": "int", "ushort": "int", "int": "int", "uint": "long",
-        "long": "long", "ulong": "long"}
+CELL = {**dict.fromkeys(BITS, "int"), "char": "char", "uint": "long", "long": "long", "ulong": "long"}
 SIZES = {"mutex": 40, "cond": 8, "struct sem_t": 32, "struct pthread_cond_t": 48, "struct pthread_barrier_t": 32,
          "struct pthread_rwlock_t": 56, "ptr": 8, "void": 1}  # in glibc
 
-
 class Refusal(Exception):
     """Its arguments are places, as (file, line), each with what is refused there, or None where it was said already."""
-
 
 @dataclass(frozen=True)
 class Type:
@@ -46,7 +43,6 @@ class Type:
         return self.length * self.to.cells() if self.kind == "array" else 1
 
     def wide(self):
-        """Whether it is held by a cell of type long."""
         return self.kind == "int" and CELL[self.name] == "long"
 
     def shown(self):
@@ -54,34 +50,20 @@ class Type:
             return self.to.shown() + (" *" if self.kind == "ptr" else f" [{self.length}]")
         return "struct " + self.name if self.kind == "struct" else self.name or self.kind
 
-
-INT, UINT, LONG, ULONG, CHAR = (Type("int", name) for name in ("int", "uint", "long", "ulong", "char"))
+BOOL, CHAR, INT, UINT, LONG, ULONG = (Type("int", name) for name in ("bool", "char", "int", "uint", "long", "ulong"))
 VOID, MUTEX, COND, BAD = (Type(kind) for kind in ("void", "mutex", "cond", "bad"))
-
 
 def array(to, length):
     return Type("array", to=to, length=length)
-
 
 def limits(name):
     """The least and greatest number that a cell of this C type holds."""
     signed = name not in UNSIGNED or name == "ulong"
     return (-(1 << BITS[name] - 1), (1 << BITS[name] - 1) - 1) if signed else (0, (1 << BITS[name]) - 1)
 
-
-def wrapped(value, name):
-    """A number converted to a C type, as its cell holds it (C11 6.3.1.3; gcc and clang wrap signed types)."""
-    if name == "bool":
-        return int(value != 0)
-    low = limits(name)[0]
-    return (value - low) % (1 << BITS[name]) + low
-
-
-def promoted(name):
-    return name if name in ("int", "uint", "long", "ulong") else "int"
-
+def promoted(kind):
+    return kind.name if BITS[kind.name] >= 32 else "int"
 
 def usual(left, right):
     """The common type of two operands (C11 6.3.1.8)."""
-    names = (promoted(left), promoted(right))
-    return next(name for name in ("ulong", "long", "uint", "int") if name in names)
+    return max(promoted(left), promoted(right), key=("int", "uint", "long", "ulong").index)

@@ -1,25 +1,21 @@
 """Declarations: types, structs, enums, names and their scopes, initialisers and strings (C11 6.2.1, 6.4.5, 6.7)."""
 
 import re
-from collections import ChainMap
 
 from pycparser import c_ast as A
-
-from .classes import Classes, unify
-from .ctype import BAD, BITS, COND, INT, MUTEX, SIZES, UINT, VOID, Refusal, Type, array
+from .classes import Classes, Node, unify
+from .ctype import BAD, BITS, BOOL, COND, INT, MUTEX, SIZES, UINT, VOID, Refusal, Type, array
 from .tree import number
 
 # the types that a few words name, without `signed` and `int`, in the order of the alphabet
 WORDS = {"": INT, "void": VOID, "pthread_mutex_t": MUTEX, "pthread_spinlock_t": MUTEX, "__sharc_cond": COND,
-         "_Bool": Type("int", "bool"), "long long": Type("int", "long"), "long long unsigned": Type("int", "ulong"),
+         "_Bool": BOOL, "long long": Type("int", "long"), "long long unsigned": Type("int", "ulong"),
          "unsigned": UINT, **{word: Type("int", word) for word in ("char", "short", "long")},
          **{word + " unsigned": Type("int", "u" + word) for word in ("char", "short", "long")}}
-ESCAPES = dict(zip("abfnrtv\\'\"?e", (7, 8, 12, 10, 13, 9, 11, 92, 39, 34, 63, 27)))
-
+ESCAPES = dict(zip(b"abfnrtv\\'\"?e", b"\a\b\f\n\r\t\v\\'\"?\x1b"))
 
 class Symbol:
     """A variable, parameter or function."""
-
     def __init__(self, name, kind, type, place, address=None, out=None, own=False):
         self.name, self.kind, self.type, self.place = name, kind, type, place
         self.address = address  # class of the pointers to it, or to its elements if it is an array
@@ -31,36 +27,23 @@ class Symbol:
         self.params, self.definition, self.lines = [], None, []  # of a function, as the next three
         self.gives, self.called, self.header = False, False, False  # gives: a pointer that is not NULL
 
-
 class Field:
-    """A member of a struct."""
-
     def __init__(self, type, place, made):
         self.type, self.place = type, place
         self.made = made  # the class of pointers to it, or to its elements if it is an array, in objects of the heap
         self.alone = False  # its address is taken there, so it is an object of its own, as arrays are
 
-
 class Struct:
     def __init__(self, place):
         self.place, self.fields, self.complete = place, {}, False
 
-
 def place_of(node, otherwise=("", 0)):
     coord = getattr(node, "coord", None)
-    return (coord.file, coord.line) if coord is not None and coord.file else otherwise
-
+    return node if isinstance(node, tuple) else (coord.file, coord.line) if coord and coord.file else otherwise
 
 class Declarations(Classes):
-    def __init__(self, source):
-        super().__init__()
-        self.source, self.function, self.here, self.scopes = source, None, ("", 0), ChainMap()
-        self.globals, self.functions, self.refusals = [], {}, []
-        self.tags, self.typedef_names = {}, {}  # by their nodes; in self.scopes they are with a blank before them
-        self.names, self.unions = set(source.words), set()
-
     def refuse(self, node, what):
-        raise Refusal((node if isinstance(node, tuple) else place_of(node, self.here), what))
+        raise Refusal((place_of(node, self.here), what))
 
     def refuse_if(self, condition, what, node=None):
         if condition:
@@ -73,34 +56,23 @@ class Declarations(Classes):
         """A name that nothing has, of at most 60 bytes."""
         made, count = name[:56], 1
         while made in self.names:
-            count += 1
-            made = f"{name[:56]}_{count}"
+            made, count = f"{name[:56]}_{count + 1}", count + 1
         self.names.add(made)
         return made
 
     def pointer(self, to, **more):
-        """A pointer of a class of its own."""
-        return Type("ptr", to=to, node=self.node(to), **more)
-
-    def scoped(self, act, *arguments):
-        """What an act gives in a scope of its own."""
-        outer, self.scopes = self.scopes, self.scopes.new_child()
-        try:
-            return act(*arguments)
-        finally:
-            self.scopes = outer
+        return Type("ptr", to=to, node=Node(self.nodes, to), **more)
 
     def type(self, node):
-        """The type that a declarator or a type name gives."""
         if isinstance(node, A.Typename):
             return self.type(node.type)
         if isinstance(node, (A.TypeDecl, A.PtrDecl)):
             kind, words = self.type(node.type), node.quals or []
             kind = self.pointer(kind) if isinstance(node, A.PtrDecl) else kind
             self.refuse_if("_Atomic" in words and kind.kind != "int", f"_Atomic {kind.shown()}", node)
-            mode = self.source.mode(words)
-            return kind.with_(mode=(mode, self.scopes) if mode else kind.mode, const=kind.const or "const" in words,
-                              atomic=kind.atomic or "_Atomic" in words)
+            mark = words.count("volatile")  # its number
+            return kind.with_(mode=(self.source.modes[mark - 1], self.scopes) if mark else kind.mode,
+                              const=kind.const or "const" in words, atomic=kind.atomic or "_Atomic" in words)
         read = getattr(self, "t_" + type(node).__name__, None)
         return read(node) if read else self.refuse(node, f"type ({type(node).__name__})")
 
@@ -127,8 +99,8 @@ class Declarations(Classes):
         return array(kind, length)
 
     def constant(self, node, what):
-        value = self.peeked(node)
-        return value.number if value.number is not None else self.refuse(node, what)
+        value = self.captured(self.value, node)[1].number
+        return value if value is not None else self.refuse(node, what)
 
     def t_FuncDecl(self, node):
         params, result = node.args.params if node.args else None, self.adjusted(self.type(node.type))
@@ -178,23 +150,21 @@ class Declarations(Classes):
         """Reads the declaration of a member; its type is bad where it is refused."""
         name, kind = getattr(decl, "name", None), BAD
         try:
-            if not isinstance(decl, A.Decl) or name is None or decl.bitsize is not None:
-                self.refuse(decl, "#pragma" if isinstance(decl, A.Pragma) else "bit field" if name else
-                            "member without a name")
+            what = "#pragma" if isinstance(decl, A.Pragma) else "bit field" if name else "member without a name"
+            self.refuse_if(not isinstance(decl, A.Decl) or name is None or decl.bitsize is not None, what, decl)
             read = self.type(decl.type)
             self.refuse_if(read.kind == "array" and read.length is None, "array without a length in a struct", decl)
             self.complete(read, decl)
             kind = read
         except Refusal as refusal:
             self.report(refusal)
-        self.structs[struct].fields[name or ""] = Field(kind, place_of(decl, self.here), self.node(kind))
+        self.structs[struct].fields[name or ""] = Field(kind, place_of(decl, self.here), Node(self.nodes, kind))
 
     def complete(self, kind, node):
-        base = kind.base()
-        self.refuse_if(base.kind == "struct" and not self.structs[base.name].complete,
-                       f"struct {base.name}, which is not defined", node)
-        self.refuse_if(base.kind in ("bad", "void", "func", "cond"),
-                       None if base.kind == "bad" else "variable of this type", node)
+        base, what = kind.base(), {"bad": None, "struct": f"struct {kind.base().name}, which is not defined"}
+        incomplete = base.kind == "struct" and not self.structs[base.name].complete
+        self.refuse_if(incomplete or base.kind in ("bad", "void", "func", "cond"),
+                       what.get(base.kind, "variable of this type"), node)
 
     def size(self, kind):
         """Size and alignment in bytes, as gcc has them on a 64-bit machine; no size where it is not known."""
@@ -216,14 +186,11 @@ class Declarations(Classes):
 
     def has_mutex(self, kind):
         base = kind.base()
-        inner = self.leaves(base) if base.kind == "struct" else ()
-        return base.kind == "mutex" or any(self.has_mutex(leaf) for _, leaf, _, _ in inner)
+        return base.kind == "mutex" or any(self.has_mutex(field.type) for *_, field in self.leaves(base))
 
     def declare(self, name, kind, type, node):
-        """A new variable."""
         self.complete(type, node)
-        place = node if isinstance(node, tuple) else place_of(node, self.here)
-        symbol = Symbol(name, kind, type, place, self.node(type))
+        symbol = Symbol(name, kind, type, place_of(node, self.here), Node(self.nodes, type))
         symbol.shared = kind == "global" or type.atomic or name in self.addressed
         if kind == "global":
             symbol.address.globals[(symbol, ())] = None
@@ -233,7 +200,6 @@ class Declarations(Classes):
         return symbol
 
     def variable(self, decl, kind):
-        """The object that a declaration declares."""
         type, storage, bare = self.type(decl.type), decl.storage or [], decl.init is None
         known = self.scopes.maps[-1].get(decl.name) if kind == "global" or "extern" in storage else None
         if type.kind == "array" and type.length is None and not bare:
@@ -250,27 +216,27 @@ class Declarations(Classes):
         return symbol
 
     def text_of(self, item, kind):
-        """The bytes of a string that initialises an array of characters."""
-        while isinstance(item, A.InitList) and len(item.exprs) == 1:
-            item = item.exprs[0]
-        literal = isinstance(item, A.Constant) and item.type == "string" and kind.kind == "array"
-        return self.string_bytes(item) if literal and kind.to.name in ("char", "uchar") else None
+        """The item, with a list of its bytes for a string that initialises an array of characters."""
+        inner = item
+        while isinstance(inner, A.InitList) and len(inner.exprs) == 1:
+            inner = inner.exprs[0]
+        literal = isinstance(inner, A.Constant) and inner.type == "string" and kind.kind == "array"
+        if not literal or kind.to.name not in ("char", "uchar"):
+            return item
+        data = [*self.bytes_of(inner), 0]
+        return A.InitList([A.Constant("int", str(byte), inner.coord) for byte in data[: kind.length]])
 
     def scalars(self, kind, items, path=()):
         """Takes from `items` what initialises one object, a list in braces, a value, or those of its parts (C11 6.7.9):
         the scalars, each with its path of members and indices."""
-        item, text = items[0], self.text_of(items[0], kind)
+        item, whole = self.text_of(items[0], kind), kind.kind not in ("array", "struct")
         if isinstance(item, A.ID) and item.name == "__sharc_init":
             items.pop(0)
-        elif text is not None:
-            coord = items.pop(0).coord
-            for at, byte in enumerate(text[: kind.length]):
-                yield path + (at,), A.Constant("int", str(byte), coord)
-        elif isinstance(item, A.InitList) and kind.kind not in ("array", "struct"):
-            yield from self.scalars(kind, list(items.pop(0).exprs), path)
         elif isinstance(item, A.InitList):
-            yield from self.parts(kind, list(items.pop(0).exprs), path, True)
-        elif kind.kind != "array" and (kind.kind != "struct" or self.peeked(item).type.kind == "struct"):
+            items.pop(0)
+            inner = list(item.exprs)
+            yield from self.scalars(kind, inner, path) if whole else self.parts(kind, inner, path, True)
+        elif whole or kind.kind == "struct" and self.captured(self.value, item)[1].type.kind == "struct":
             yield path, items.pop(0)
         else:
             yield from self.parts(kind, items, path, False)
@@ -291,18 +257,11 @@ class Declarations(Classes):
             yield from self.parts(part, [items.pop(0)], inside, True) if more else self.scalars(part, items, inside)
             at += 1
 
-    def string_bytes(self, node):
-        self.refuse_if(not node.value.startswith('"'), "wide string", node)
-        return [*self.escapes(node, node.value[1:-1]), 0]
-
-    def escapes(self, node, text):
-        """The bytes of a string or character constant, as signed characters."""
-        found = []
-        for piece in re.findall(r"\\x[0-9a-fA-F]+|\\[0-7]{1,3}|\\.|[^\\]", text, re.DOTALL):
-            if piece[0] != "\\":
-                found += list(piece.encode("utf-8"))
-            elif piece[1] == "x" or piece[1].isdigit():
-                found.append(int(piece[2:], 16) if piece[1] == "x" else int(piece[1:], 8))
-            else:
-                found.append(ESCAPES[piece[1]] if piece[1] in ESCAPES else self.refuse(node, f"escape {piece}"))
-        return [byte - 256 if byte > 127 else byte for byte in found]
+    def bytes_of(self, node):
+        """The bytes of a string or character constant."""
+        def byte(found):
+            octal, letter = found.groups()
+            self.refuse_if(letter and ord(letter) not in ESCAPES, f"escape {found[0].decode('latin-1')}", node)
+            return bytes([int(octal, 8) if octal else ESCAPES[ord(letter)]])
+        self.refuse_if(node.type == "string" and node.value[0] != '"', "wide string", node)
+        return re.sub(rb"\\(?:([0-7]{3})|(.))", byte, node.value[1:-1].encode(), flags=re.DOTALL)

@@ -1,22 +1,20 @@
 """Expressions of C, each lowered to a tree, after the lines that have to come before it (C11 6.5).
 
 Calls stay in the tree, which the language evaluates from left to right. A call before the lines of a later operand, and
-a value that is written more than once, is in a variable.
-"""
+a value that is written more than once, is in a variable."""
 
 import re
 from dataclasses import dataclass
 
 from pycparser import c_ast as A
-
-from .ctype import BITS, CHAR, INT, LONG, ULONG, VOID, Type, array, promoted, usual
+from .classes import Node
+from .ctype import BITS, BOOL, CHAR, INT, LONG, ULONG, VOID, Type, array, promoted, usual
 from .declare import Declarations, Symbol, place_of
 from .tree import COMPARED, NOTHING, PLACES, TRUTHS, Expr, address, binary, compare, convert, element, joined, number, \
-    plus, unary, variable
+    plus, variable
 
 SPOKEN = {"Compound": "statement expression", "Goto": "goto", "Label": "label", "Pragma": "#pragma",
           "Case": "case inside another statement", "Default": "case inside another statement"}
-
 
 @dataclass
 class Line:
@@ -27,12 +25,10 @@ class Line:
     header: bool = False  # whether it comes from the body of a function of the headers
     blocks: tuple = ()  # the lines of a block, and of what may be executed in its place
 
-
 def uncast(node):
     while isinstance(node, A.Cast):
         node = node.expr
     return node
-
 
 class Expressions(Declarations):
     def emit(self, text, *parts, **more):
@@ -42,17 +38,17 @@ class Expressions(Declarations):
         """A line that is known when all of the program was read; `about`: the places in it."""
         self.emit("%s", Expr("text", (act, *about), VOID), **more)
 
-    def captured(self, act, *arguments, after=()):
-        """The lines that `act` makes, which go on `after` others, and what it gives."""
-        kept, self.lines, here = self.lines, list(after), self.here
+    def captured(self, act, *arguments, after=(), inner=False):
+        """The lines that `act` makes, which go on `after` others, and what it gives; `inner`: in a scope of its own."""
+        kept, self.lines = (self.lines, self.here, self.scopes), list(after)
+        self.scopes = self.scopes.new_child() if inner else self.scopes
         try:
             made = act(*arguments)
             return self.lines, made
         finally:
-            self.lines, self.here = kept, here
+            self.lines, self.here, self.scopes = kept
 
     def own_name(self, name):
-        """A variable of the front's own."""
         made = self.fresh(name)
         self.user.own.add(made)
         self.locals += 1
@@ -61,7 +57,7 @@ class Expressions(Declarations):
     def temporary(self, type, value=None):
         """A variable of the front's own, which may be given a value."""
         type = type.bare()
-        symbol = Symbol("t", "local", type, self.here, self.node(type), self.own_name("t"), True)
+        symbol = Symbol("t", "local", type, self.here, Node(self.nodes, type), self.own_name("t"), True)
         self.emit("%s %s = %s;" if value else "%s %s;", *filter(None, (type, symbol.out, value)), declares=True)
         return variable(symbol)
 
@@ -145,7 +141,7 @@ class Expressions(Declarations):
         whole, first = self.address_class(base) if place.op == "element" else self.class_of(base), inner[0].null()
         if place.type.kind == "array" or first and not taken:
             return whole
-        node = self.node(place.type) if first else whole.part("element")
+        node = Node(self.nodes, place.type) if first else whole.part("element")
         if taken:
             whole.mark("order")
             node.point_to(place.type)
@@ -176,9 +172,18 @@ class Expressions(Declarations):
             return made
         return made.with_(source=node)
 
-    def value(self, node):
-        made = self.loaded(self.visit(node))
-        return self.spilled(made) if made.height > 24 else made
+    def value(self, node, wanted=True):
+        """What an expression gives, if that is wanted, else nothing but its effects."""
+        made = self.visit(node, wanted)
+        if wanted:
+            made = self.loaded(made)
+            return self.spilled(made) if made.height > 24 else made
+        if made and made.given:
+            self.emit("free(%s);", made.args[0])
+        elif made and made.op == "call":
+            self.emit("%s;", made)
+        elif made and made.calls:
+            self.spilled(self.loaded(made))
 
     def values(self, nodes):
         """What expressions give, evaluated from left to right: calls before lines of a later one are in variables."""
@@ -189,27 +194,15 @@ class Expressions(Declarations):
             self.lines += lines
         return made
 
-    def peeked(self, node):
-        """An expression that is not evaluated."""
-        return self.captured(self.value, node)[1]
-
-    def effect(self, node):
-        """An expression whose value is not used."""
-        made = self.visit(node, False)
-        if made and made.given:
-            self.emit("free(%s);", made.args[0])
-        elif made and made.op == "call":
-            self.emit("%s;", made)
-        elif made and made.calls:
-            self.spilled(self.loaded(made))
-
     def fitting(self, value, kind):
         """A value as an object of this type holds it."""
         given = value.type
         if kind.kind == "int":
             self.refuse_if(given.kind != "int" and (given.kind, kind.name) != ("ptr", "bool"),
                            f"{given.shown()} as a number")
-            return convert(self.truth(value) if kind.name == "bool" else value, kind.name)
+            truth = kind.name == "bool"  # 0 or 1
+            value = self.compared("!=", value, number(0)) if truth and given.kind == "ptr" else value
+            return value.typed(BOOL) if truth and value.op in TRUTHS else convert(value, kind.name)
         if kind.name == "value":
             return self.copied(kind, value)
         self.refuse_if(given.kind != "ptr" and not value.null(), "number as a pointer")
@@ -218,27 +211,20 @@ class Expressions(Declarations):
         kind.node.unite(self.class_of(value))
         return value.typed(kind)
 
-    def truth(self, value):
-        """A condition as 0 or 1."""
-        if value.type.kind == "ptr":
-            return self.compared("!=", value, number(0))
-        return value.typed(Type("int", "bool")) if value.op in TRUTHS else convert(value, "bool")
-
     def x_Constant(self, node, _):
         if node.type == "string":
-            return self.string(bytes(byte & 255 for byte in self.string_bytes(node)[:-1]))
+            return self.string(self.bytes_of(node))
         if node.type == "char":
-            data = self.escapes(node, node.value[1:-1]) if node.value[0] == "'" else []
-            return number(data[0]) if len(data) == 1 else self.refuse(node, "character of this form")
+            data = self.bytes_of(node)
+            self.refuse_if(len(data) != 1, "character of this form", node)
+            return convert(number(data[0], "char"), "int")
         self.refuse_if("float" in node.type or "double" in node.type, "floating point", node)
         digits, suffix = re.fullmatch(r"(.*?)([ul]*)", node.value.lower()).groups()
         value, names = int(digits, 8 if re.fullmatch("0[0-7]+", digits) else 0), ("int", "uint", "long", "ulong")
-        if digits[0] != "0" or "u" in suffix:
-            names = names["u" in suffix :: 2]
-        for name in names:  # the first type that holds it (C11 6.4.4.1)
-            if not value >> BITS[name] - (name[0] != "u") and ("l" not in suffix or BITS[name] == 64):
-                return number(value, name)
-        return self.refuse(node, "constant over 64 bits")
+        names = names["u" in suffix :: 2] if digits[0] != "0" or "u" in suffix else names
+        fitting = [name for name in names if not value >> BITS[name] - (name[0] != "u")
+                   and ("l" not in suffix or BITS[name] == 64)]  # the first type that holds it (C11 6.4.4.1)
+        return number(value, fitting[0]) if fitting else self.refuse(node, "constant over 64 bits")
 
     def string(self, data):
         """A literal: the number of its first character in an array of all that are written."""
@@ -279,45 +265,41 @@ class Expressions(Declarations):
     def x_UnaryOp(self, node, wanted):
         op, inner = node.op, node.expr
         if op == "sizeof":
-            size = self.size(self.sized(inner))[0]
-            return number(size, "ulong") if size else self.refuse(node, "sizeof of this type")
+            literal = isinstance(inner, A.Constant) and inner.type == "string"
+            kind = array(CHAR, len(self.bytes_of(inner)) + 1) if literal else self.type(inner) \
+                if isinstance(inner, A.Typename) else self.captured(self.visit, inner)[1].type
+            return number(self.size(kind)[0] or self.refuse(node, "sizeof of this type"), "ulong")
+        if op == "&" and isinstance(inner, A.UnaryOp) and inner.op == "*":
+            return self.value(inner.expr)
         if op == "&":
-            return self.address_of(inner)
+            made = self.visit(inner)
+            self.refuse_if(made.op not in (*PLACES, "text"), "address of this form", inner)
+            return made if made.op == "text" else address(made)  # text: a function
         if op in ("++", "--", "p++", "p--"):
             place = self.stable_place(self.visit(inner))
             return self.changed(place, wanted, A.Constant("int", "1"), op[-1], after=op[0] == "p")
         value = self.value(inner)
         if op == "*":
             return value if value.type.kind == "ptr" and value.type.to.kind == "func" else self.deref(value)
-        return self.compared("==", value, number(0)) if op == "!" else unary(op, value, promoted(value.type.name))
-
-    def sized(self, node):
-        """The type whose size a sizeof gives."""
-        if isinstance(node, A.Constant) and node.type == "string":
-            return array(CHAR, len(self.string_bytes(node)))
-        return self.type(node) if isinstance(node, A.Typename) else self.captured(self.visit, node)[1].type
-
-    def address_of(self, inner):
-        if isinstance(inner, A.UnaryOp) and inner.op == "*":
-            return self.value(inner.expr)
-        made = self.visit(inner)
-        if made.op == "text":  # a function
-            return made
-        self.refuse_if(made.op not in PLACES, "address of this form", inner)
-        return address(made)
+        if op == "!":
+            return self.compared("==", value, number(0))
+        name = promoted(value.type)
+        if op == "+":
+            return convert(value, name)
+        return binary("-", number(0), value, name) if op == "-" else binary("^", value, number(-1), name)
 
     def x_BinaryOp(self, node, wanted):
         if node.op not in ("&&", "||"):
             return self.operated(node.op, *self.values([node.left, node.right]))
         left = self.value(node.left)
-        lines, right = self.captured(self.value if wanted else self.effect, node.right)
+        lines, right = self.captured(self.value, node.right, wanted)
         ends = left.null() == (node.op == "&&")  # where the left operand is constant, whether it is all that counts
         if left.number is not None and (ends or right and right.number is not None):
             return number(int(node.op == "||") if ends else int(not right.null()))
         if not lines and wanted:
             return joined(node.op, "int", left, right)
-        made = self.temporary(INT, self.truth(left)) if wanted else None
-        lines = self.captured(self.put, made, self.truth(right), after=lines)[0] if wanted else lines
+        made = self.temporary(INT, self.fitting(left, BOOL)) if wanted else None
+        lines = self.captured(self.put, made, self.fitting(right, BOOL), after=lines)[0] if wanted else lines
         self.branch(made or left, *((lines, []) if node.op == "&&" else ([], lines)))
         return made
 
@@ -326,8 +308,8 @@ class Expressions(Declarations):
         if op in COMPARED:
             return self.compared(op, left, right)
         if "ptr" not in kinds:
-            return binary(op, left, right, promoted(left.type.name) if op in ("<<", ">>") else
-                          usual(left.type.name, right.type.name))
+            name = promoted(left.type) if op in ("<<", ">>") else usual(left.type, right.type)
+            return binary(op, left, right, name)
         if kinds == ("ptr", "ptr") and op == "-":
             self.class_of(left).unite(self.class_of(right))
             cells, made = left.type.to.cells(), joined("-", "long", self.ordered(left), self.ordered(right))
@@ -338,13 +320,12 @@ class Expressions(Declarations):
         return base if index.null() else address(self.at(base, index), base.type.to)
 
     def ordered(self, value):
-        """A pointer whose number is used."""
         self.class_of(value).mark("order")
         return Expr("ordered", (value,), Type("int", "long"), wide=True)
 
     def compared(self, op, left, right):
         if "ptr" not in (left.type.kind, right.type.kind):
-            return compare(op, left, right, usual(left.type.name, right.type.name))
+            return compare(op, left, right, usual(left.type, right.type))
         pointers = [side for side in (left, right) if not side.null()]
         if not pointers:
             return number(int(op == "=="))
@@ -356,12 +337,12 @@ class Expressions(Declarations):
     def x_TernaryOp(self, node, wanted, target=None):
         """cond ? a : b, in a variable, or put into the place `target`."""
         test = self.value(node.cond)
-        (first, left), (second, right) = (self.captured(self.value if wanted else self.effect, part)
-                                          for part in (node.iftrue, node.iffalse))
+        first, left = self.captured(self.value, node.iftrue, wanted)
+        second, right = self.captured(self.value, node.iffalse, wanted)
         if not wanted:
             return self.branch(test, first, second)
         if left.type.kind == right.type.kind == "int":
-            kind = Type("int", usual(left.type.name, right.type.name))
+            kind = Type("int", usual(left.type, right.type))
         else:
             other = left.null() or left.type.kind == "ptr" and left.type.to.kind == "void"
             pick = right.type if other else left.type
@@ -377,13 +358,13 @@ class Expressions(Declarations):
 
     def x_ExprList(self, node, wanted):
         for part in node.exprs[:-1]:
-            self.effect(part)
-        return (self.value if wanted else self.effect)(node.exprs[-1])
+            self.value(part, False)
+        return self.value(node.exprs[-1], wanted)
 
     def x_Cast(self, node, wanted):
         kind = self.type(node.to_type)
         if kind.kind == "void" or not wanted:
-            self.effect(node.expr)
+            self.value(node.expr, False)
             return NOTHING
         value = self.value(node.expr)
         if {value.type.kind, kind.kind} == {"ptr", "int"} and kind.name != "bool" and not value.null():
@@ -470,8 +451,7 @@ class Expressions(Declarations):
 
     def put(self, place, value):
         if place.type.kind != "struct":
-            self.emit("%s = %s;", place, self.fitting(value, place.type))
-            return
+            return self.emit("%s = %s;", place, self.fitting(value, place.type))
         self.copy(self.stable_place(place), self.stable(value))
         if value.given:
             self.emit("free(%s);", value.args[0])
@@ -480,7 +460,7 @@ class Expressions(Declarations):
         """The parts of a struct or array, or one cell; without a source they become 0."""
         kind = target.type
         if kind.kind == "struct":
-            for path, _, _, _ in self.leaves(kind):
+            for path, _, _ in self.leaves(kind):
                 self.copy(self.inner_place(target, path), source and self.inner_place(source, path))
         elif kind.kind == "array":
             self.counting(number(kind.length), lambda at: self.copy(element(target, at),
@@ -493,10 +473,9 @@ class Expressions(Declarations):
     def counting(self, length, act):
         """act(i) for each i below length."""
         if length.number == 1:
-            act(number(0))
-            return
+            return act(number(0))
         at = self.temporary(ULONG if length.type.name == "ulong" else INT)
-        test = compare("<", at, length, usual(at.type.name, length.type.name))
+        test = compare("<", at, length, usual(at.type, length.type))
         self.emit("for (%s = 0; %s; %s = %s + 1)", at, test, at, at, blocks=(self.captured(act, at)[0], ()))
 
     @staticmethod

@@ -4,7 +4,6 @@ import math
 import re
 
 from pycparser import c_ast as A
-
 from .classes import HEAP
 from .ctype import INT, VOID
 from .express import Line
@@ -13,7 +12,6 @@ from .tree import NOTHING, PLACES, Expr, binary, convert, joined, number, times
 
 # of a format: a text, or a conversion by its flags, width, precision, length and letter
 PIECE = re.compile(r"((?:[^%]|%%)+)|%([-+ 0#]*)(\d*|\*)(?:\.(\d*|\*))?(hh|h|ll|l|z|j|t|q)?([a-zA-Z])")
-
 
 class Library(Statements):
     def library(self, node, name, args):
@@ -33,9 +31,8 @@ class Library(Statements):
             self.emit(f"{name}({', '.join(['%s'] * len(values))});", *values)
 
     def format(self, arg, rest):
-        """The pieces of a format."""
         self.refuse_if(not (isinstance(arg, A.Constant) and arg.type == "string"), "format that is no literal", arg)
-        pieces = PIECE.findall("".join(chr(byte & 255) for byte in self.string_bytes(arg)[:-1]))
+        pieces = PIECE.findall(self.bytes_of(arg).decode("latin-1"))
         found = [part for text, *part in pieces if not text]
         self.refuse_if(len(found) != len(rest) or any("*" in part[1] + part[2] for part in found),
                        "format that has other values, or a width of *", arg)
@@ -69,29 +66,24 @@ class Library(Statements):
         pieces, at = self.format(args[2], args[3:]), number(0)
         s, room, *values = (self.stable(self.value(arg)) for arg in [*args[:2], *args[3:]])
         for text, *part in pieces:
-            name, *more = self.conversion(part, values.pop(0)) if not text else \
-                ("put_text", self.string(text.replace("%%", "%").encode("latin-1")))
-            at = self.stable(self.inlined(self.functions["__sharc_" + name], [s, room, at, *more]))
+            flags, width, precision, _, letter = part
+            name = {"": "put_text", "s": "put_text", "c": "put"}.get(letter, "put_number")
+            more = precision + flags.strip("0") if name == "put_number" else precision + flags + width
+            self.refuse_if(letter not in "diucs" or more, f"conversion %{letter} with these flags in sprintf")
+            value = self.string(text.replace("%%", "%").encode("latin-1")) if text else values.pop(0)
+            value = value if name == "put_text" else self.shown_number(part, value)
+            given = [s, room, at, value, number(int(width or 0)), number("0" in flags)]
+            at = self.stable(self.inlined(self.functions["__sharc_" + name], given))
         return self.inlined(self.functions["__sharc_end"], [s, room, at])
 
-    def conversion(self, part, value):
-        """The function that writes a conversion, and its arguments."""
-        if part[4] == "s" and not part[0] + part[1] + part[2]:
-            return "put_text", value
-        self.refuse_if(part[4] not in "diuc" or part[2] or set(part[0]) - {"0"},
-                       f"conversion %{part[4]} with these flags in sprintf")
-        value = self.shown_number(part, value)
-        return ("put", value) if part[4] == "c" else \
-            ("put_number", value, number(int(part[1] or 0)), number("0" in part[0]))
-
     def l_memcpy(self, args):
-        to, source = self.stable(self.value(args[0])), self.stable(self.value(args[1]))
+        to, source = (self.stable(self.value(arg)) for arg in args[:2])
         self.refuse_if(to.type.to.base().key() != source.type.to.base().key(), "memcpy between different types")
         self.counting(self.elements(to, args[2]), lambda at: self.copy(self.deref(to, at), self.deref(source, at)))
         return to
 
     def l_memset(self, args):
-        to, byte = self.stable(self.value(args[0])), self.stable(self.value(args[1]))
+        to, byte = (self.stable(self.value(arg)) for arg in args[:2])
         self.refuse_if(not byte.null() and self.size(to.type.to)[0] != 1, "memset with another value than 0")
         act = self.copy if byte.null() else lambda place: self.put(place, byte)
         self.counting(self.elements(to, args[2]), lambda at: act(self.deref(to, at)))
@@ -107,18 +99,16 @@ class Library(Statements):
     def factors(self, size):
         """A size in bytes as values that are multiplied."""
         size = size.bare()
-        if size.op in ("*", "__sharc_product64"):
-            return [factor for arg in size.args for factor in self.factors(arg)]
-        return [self.stable(size)]
+        multiplied = size.op in ("*", "__sharc_product64")
+        return [factor for arg in size.args for factor in self.factors(arg)] if multiplied else [self.stable(size)]
 
     def count(self, kind, factors):
         """How many objects of a type such a size is."""
         size, constant = self.size(kind)[0], math.prod(f.number for f in factors if f.number is not None)
         self.refuse_if(not size or constant % size, "size that is not a number of elements of one type")
         made = number(constant // size, "int" if constant < 1 << 31 else "long")
-        for factor in factors:
-            if factor.number is None:
-                made = factor if made.number == 1 else binary("*", made, factor, "long")
+        for factor in [factor for factor in factors if factor.number is None]:
+            made = factor if made.number == 1 else binary("*", made, factor, "long")
         return made
 
     def l_malloc(self, args):
@@ -130,7 +120,6 @@ class Library(Statements):
     l_calloc = l_malloc
 
     def allocate(self, place, args):
-        """place = malloc(args), or calloc."""
         self.refuse_if(place.type.kind != "ptr", "pointer as a number")
         node, factors = place.type.node, [factor for arg in args for factor in self.factors(self.value(arg))]
         place = self.stable_place(place)
@@ -159,7 +148,6 @@ class Library(Statements):
         zero, (file, line) = self.own_name("zero"), self.here
         self.lines.append(Line((f"{file}: {args[0].value[1:-1]}", line),
                                f"{{ int {zero} = 0; {zero} = 1 / {zero}; }}"))
-        return NOTHING
 
     def l_exit(self, args):
         code = self.value(args[0])
@@ -167,7 +155,6 @@ class Library(Statements):
             return self.l_sharc_stop([A.Constant("string", f'"exit({code.number})"')])
         self.refuse_if(self.function.name != "main", "exit outside main that may be no failure")
         self.emit("return %s;", self.fitting(code, INT))
-        return NOTHING
 
     def l_sharc_scast(self, args):
         kind, place = self.type(args[0].to_type), self.visit(args[1])

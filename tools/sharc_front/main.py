@@ -1,36 +1,26 @@
-"""The command: lowers a file to standard output, or runs the program on what it lowered.
-
-    sharc-c [-I DIR] [-D NAME] FILE.c            the program in the language of SharC
-    sharc-c check|explain|record FILE.c          what SharC says of it, in the names of FILE.c
-    sharc-c run FILE.c [OPTIONS] [-- ARGUMENTS]  OPTIONS are those of `sharc run`, ARGUMENTS become argv
-    sharc-c --locks FILE.c                       proposes marks by the locks that are held
-"""
+"""The command: lowers a file to standard output, or runs the program on what it lowered."""
 
 import os
 import subprocess
 import sys
 
-from .source import HERE, Source  # first: it says where pycparser is missing
+from .source import TOP, Source  # first: it says where pycparser is missing
 from .locks import Locksets
 from .output import Front
 from .ctype import Refusal
 
 COMMANDS = ("check", "explain", "run", "record", "--locks")
-USAGE = "usage: sharc-c [check | explain | run | record | --locks] [-I DIR] [-D NAME] FILE.c [OPTIONS OF run] " \
-    "[-- ARGUMENTS]\n"
-
+USAGE = f"usage: sharc-c [{' | '.join(COMMANDS)}] [-I DIR] [-D NAME] FILE.c [OPTIONS OF run] [-- ARGUMENTS]\n"
 
 class Words:
     """The words of the command line, with a file that is None where they are not as the usage says."""
-
     def __init__(self, words):
         at = words.index("--") if "--" in words else len(words)
-        words, self.arguments = list(words[:at]), words[at + 1 :]
+        rest, self.arguments = iter(words[:at]), words[at + 1 :]
         self.command, self.options, self.file, self.rest = None, [], None, []
-        while words:
-            word = words.pop(0)
+        for word in rest:
             if word[:2] in ("-I", "-D", "-U"):
-                self.options += [word] + ([words.pop(0)] if len(word) == 2 and words else [])
+                self.options += [word] if word[2:] else [word, next(rest, "")]
             elif self.file is not None:
                 self.rest.append(word)
             elif word in COMMANDS and self.command is None:
@@ -40,30 +30,35 @@ class Words:
         if (self.file or "-").startswith("-") or self.rest and self.command not in ("run", "record"):
             self.file = None
 
-
-def lowered(words):
-    """(text, names, notes), or a refusal."""
-    front = Front(Source(words.file, words.options), words)
-    if words.command == "--locks":
-        return "\n".join([*Locksets(front).proposals(), ""]), front.user, []
-    return front.program(), front.user, front.notes
-
-
 def guarded(words):
-    """The same; whatever else goes wrong is a refusal too: no program of C may end in a traceback."""
+    """(text, names, notes), or a refusal, whatever goes wrong: no program of C may end in a traceback."""
     sys.setrecursionlimit(20000)
     try:
-        return lowered(words)
+        front = Front(Source(words.file, words.options), words)
+        if words.command == "--locks":
+            return "\n".join([*Locksets(front).proposals(), ""]), front.user, []
+        return front.program(), front.user, front.notes
     except Exception as error:
         if isinstance(error, Refusal) or os.environ.get("SHARC_FRONT_DEBUG"):
             raise
         what = f"program that the front does not understand ({type(error).__name__}: {error})"
         raise Refusal(((words.file, 1), what)) from None
 
-
-def answered(words, text, names, notes):
-    """Runs the program on the text, and puts the names back."""
-    program, rest = os.environ.get("SHARC") or os.path.join(HERE, "..", "..", "sharc"), words.rest
+def main(arguments):
+    words = Words(arguments)
+    if words.file is None:
+        sys.stderr.write(USAGE)
+        return 8
+    try:
+        text, names, notes = guarded(words)
+    except Refusal as refused:
+        for (file, line), what in sorted({refusal for refusal in refused.args if refusal[1]}):
+            sys.stderr.write(f"{file or '?'}:{line}: refused: {what}\n")
+        return 1
+    if words.command in (None, "--locks"):
+        sys.stdout.write(text)
+        return 0
+    program, rest = os.environ.get("SHARC") or str(TOP / "sharc"), words.rest
     if words.command in ("run", "record") and not any(word.startswith("--granules") for word in rest):
         rest = [*rest, "--granules", "65536"]
     try:
@@ -78,20 +73,3 @@ def answered(words, text, names, notes):
         if "print(" in text:
             sys.stderr.write("note: of what printf writes only the numbers are printed, one on a line\n")
     return done.returncode
-
-
-def main(arguments):
-    words = Words(arguments)
-    if words.file is None:
-        sys.stderr.write(USAGE)
-        return 8
-    try:
-        made = guarded(words)
-    except Refusal as refused:
-        for (file, line), what in sorted({refusal for refusal in refused.args if refusal[1]}):
-            sys.stderr.write(f"{file or '?'}:{line}: refused: {what}\n")
-        return 1
-    if words.command not in (None, "--locks"):
-        return answered(words, *made)
-    sys.stdout.write(made[0])
-    return 0

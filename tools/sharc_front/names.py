@@ -12,16 +12,13 @@ TOLD = re.compile(r"\b(?P<what>read of|write of|cast of|free of|waits for mutex)
                   r"(?P<line>\d+)(?: without lock (?P<lock>.*))?")
 CHECKED = re.compile(r"((\S+):(\d+): (?:M\d+ (?:write to|null of) readonly|warning)) (.*?)(| may be NULL since .*)$")
 
-
 def in_c(node):
     """A part of the program as the user would write it."""
     return " ".join(GENERATOR.visit(node).split())
 
-
 def packed(text):
     """An lvalue as it is compared: without blanks and parentheses."""
     return re.sub(r"[\s()]", "", text)
-
 
 class Names:
     def __init__(self):
@@ -29,7 +26,6 @@ class Names:
         self.own, self.hidden = set(), False  # variables of the front; whether the line before told of one
 
     def of_lvalue(self, text, file, line):
-        """An lvalue of the lowered text as in C."""
         node = self.lvalues.get(((file, int(line)), packed(text)))
         return in_c(node) if node is not None else self.of_words(text)
 
@@ -38,14 +34,14 @@ class Names:
                       text)
 
     def told(self, found):
-        lvalue, file, line, lock = found["lvalue"], found["file"], found["line"], found["lock"]
+        what, lvalue, file, line, lock = found.groups()
         known = self.of_lvalue(lvalue, file, line)
-        text = f"{found['what']} {known} at {file}:{line}"
         if lock is None:
-            return text
+            return f"{what} {known} at {file}:{line}"
         prefix, shown = (re.match(r"(.*(?:->|\.))?", name)[0] for name in (lvalue, known))
         beside = prefix and lock.startswith(prefix)  # the lock is in the same object
-        return f"{text} without lock {shown + self.of_words(lock[len(prefix):]) if beside else self.of_words(lock)}"
+        lock = shown + self.of_words(lock[len(prefix):]) if beside else self.of_words(lock)
+        return f"{what} {known} at {file}:{line} without lock {lock}"
 
     def line(self, line):
         """What is shown of one line of the program's output."""

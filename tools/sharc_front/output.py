@@ -2,10 +2,11 @@
 and line markers so that each line is where it was in C."""
 
 import re
+from collections import ChainMap
+from itertools import accumulate
 from operator import itemgetter
 
 from pycparser import c_ast as A
-
 from .classes import named
 from .ctype import CHAR, Refusal, Type, array
 from .declare import Symbol
@@ -15,11 +16,14 @@ from .source import HEADERS, texts
 from .statements import addressed_in
 from .tree import NOTHING, Expr, number, variable
 
-
 class Front(Places):
     def __init__(self, source, words):
-        super().__init__(source)
-        self.user, self.here, self.arguments_given = Names(), (words.file, 1), [words.file, *words.arguments]
+        self.source, self.user, self.arguments_given = source, Names(), [words.file, *words.arguments]
+        self.function, self.here, self.scopes = None, (words.file, 1), ChainMap()
+        self.globals, self.functions, self.structs, self.refusals, self.nodes = [], {}, {}, [], []
+        self.firsts = []  # (class of &a[0], class of a): a pointer to the array, unless others of its elements have one
+        self.tags, self.typedef_names = {}, {}  # by their nodes; in self.scopes they are with a blank before them
+        self.names, self.unions = set(source.words), set()
         self.lines, self.loops, self.notes, self.cells, self.locals = [], [], [], 0, 0
         self.pinned, self.bound = False, None  # in a function of the headers: the place of the call, and its argument
         self.out_names, self.text_pool, self.calls_by, self.groups = {}, {}, {}, {}
@@ -41,39 +45,31 @@ class Front(Places):
         self.merge()
 
     def merge(self):
-        """Globals of one type that one pointer may point to become elements of one array."""
+        """Globals, or parts of them, of one type that one pointer may point to become elements of one array."""
         while several := [root for root in self.everything() if len(root.globals) > 1 and not root.mixed]:
             root = min(several, key=lambda root: (max(len(path) for _, path in root.globals),
                                                   sorted(map(named, root.globals))))
-            bases = [self.part(symbol.type, path).base() for symbol, path in root.globals]
-            inside = [self.part(symbol.type, path[:at]).kind for symbol, path in root.globals
-                      for at in range(len(path))]
+            keys, kinds = list(root.globals), [self.part(symbol.type, path) for symbol, path in root.globals]
+            bases, starts = [kind.base() for kind in kinds], [0, *accumulate(kind.cells() for kind in kinds)]
+            inside = [self.part(symbol.type, path[:at]).kind for symbol, path in keys for at in range(len(path))]
             alike = len({base.key() for base in bases}) == len({base.mode and base.mode[0] for base in bases}) == 1
-            root.mixed = not alike or "array" in inside or any(symbol is self.strings for symbol, _ in root.globals)
+            root.mixed = not alike or "array" in inside or any(symbol is self.strings for symbol, _ in keys)
             if not root.mixed:
-                self.group(list(root.globals), bases[0].with_(const=all(base.const for base in bases)))
-
-    def group(self, keys, base):
-        """Makes an array of globals, or of parts of them, some of which may be such arrays."""
-        old = [found for found, _ in self.groups.values()]
-        members = [key for key in keys if key[0] not in old] + \
-            [key for key, (found, _) in self.groups.items() if (found, ()) in keys]
-        lengths = [self.part(symbol.type, path).cells() for symbol, path in members]
-        name = "_".join(sorted({key[0].name for key in members}))[:40]
-        made = Symbol(name, "global", array(base, sum(lengths)), members[0][0].place, None, self.fresh(name), True)
-        self.groups = {key: found for key, found in self.groups.items() if (found[0], ()) not in keys}
-        self.groups.update({key: (made, sum(lengths[:at])) for at, key in enumerate(members)})
-        for root in self.everything():
-            outer = {(symbol, path): next((at for at in range(len(path) + 1) if (symbol, path[:at]) in keys), None)
-                     for symbol, path in root.globals}
-            root.globals = dict.fromkeys(key if at is None else (made, key[1][at:]) for key, at in outer.items())
+                name = "_".join(sorted({symbol.name for symbol, _ in keys}))[:40]
+                kind = array(bases[0].with_(const=all(base.const for base in bases)), starts.pop())
+                made = Symbol(name, "global", kind, keys[0][0].place, None, self.fresh(name), True)
+                self.groups.update({key: (made, start) for key, start in zip(keys, starts)})
+                for root, (symbol, path) in [(root, key) for root in self.everything() for key in root.globals]:
+                    for at in [at for at in range(len(path) + 1) if (symbol, path[:at]) in keys]:
+                        del root.globals[symbol, path]
+                        root.globals[made, path[at:]] = None
 
     def declaration(self, symbol):
         """A local: a variable; one for each member of a struct; or an object, for an array and what has an address."""
         kind, texts = symbol.type, []
         parts = [((), array(kind, 1) if symbol.boxed and kind.kind != "array" else kind)]
         if kind.kind == "struct" and not symbol.boxed:
-            parts = [(path, leaf.with_(mode=None)) for path, leaf, _, _ in self.leaves(kind)]
+            parts = [(path, field.type.with_(mode=None)) for path, _, field in self.leaves(kind)]
         for path, part in parts:
             name, made = self.part_name(symbol, path), ""
             if part.kind == "array":
@@ -89,63 +85,52 @@ class Front(Places):
         arrays in structs are objects of their own, made while the struct is private."""
         self.refuse_if((length.number or 0) > 65536, "object of over 65536 elements")
         plain, one = self.type_text(kind.bare()).replace(" racy", ""), length.number == 1 and not boxes
-        arrays = [(self.part_name(kind.name, path), field) for path, _, field in self.objects(kind)] if not boxes else []
+        arrays = [(self.part_name(kind.name, path), field) for path, field in self.objects(kind) if not boxes]
         own = self.own_name("own") if boxes and inner or arrays else target
-
-        def parts(at):
-            if boxes:
-                return self.new_object(f"{own}[{at}]", kind, number(1), False)
-            return " ".join(self.new_object(f"{own}->{name}" if one else f"{own}[{at}].{name}", field.type.base(),
-                                            number(field.type.cells()), self.boxes(field.made), " readonly")
-                            for name, field in arrays)
+        at = self.own_name("i") if not one and (boxes or arrays) else None
+        made = self.new_object(f"{own}[{at}]", kind, number(1), False) if boxes else " ".join(
+            self.new_object(f"{own}->{name}" if one else f"{own}[{at}].{name}", field.type.base(),
+                            number(field.type.cells()), self.boxes(field.made), " readonly") for name, field in arrays)
+        if at:
+            made = f"for (int {at} = 0; {at} < {self.text(length, 8)}; {at} = {at} + 1) {{ {made} }}"
         size = ("" if one else f"{self.text(length, 11)} * ") + f"sizeof({plain}{' *' * boxes})"
-        made = "" if not boxes and not arrays else parts(None) if one else self.each(length, parts)
         if own == target:
             return f"{target} = malloc({size}); {made}".rstrip()
         plain, mode = plain + " dynamic *" * boxes, inner * boxes
         return f"{{ {plain} private * {own} = malloc({size}); {made} {target} = SCAST({plain}{mode} *, {own}); }}"
 
     def objects(self, kind):
-        """The members of a struct in an object that are objects of their own: (path, type, field)."""
-        return [(path, leaf, field) for path, leaf, _, field in self.leaves(kind, (), True)
-                if leaf.kind == "array" or field.alone] if kind.kind == "struct" else []
-
-    def each(self, length, act):
-        """act(i) for each i below length."""
-        at = self.own_name("i")
-        return f"for (int {at} = 0; {at} < {self.text(length, 8)}; {at} = {at} + 1) {{ {act(at)} }}"
-
-    def global_declaration(self, symbol):
-        """A global: a variable for each member of a struct."""
-        if symbol.type.kind != "struct" or (symbol, ()) in self.groups:
-            return self.global_cell(symbol.type, None, symbol, ())
-        return " ".join(self.global_cell(leaf, (struct, symbol, path[:-1]), symbol, path)
-                        for path, leaf, struct, _ in self.leaves(symbol.type))
+        """The members of a struct in an object that are objects of their own: (path, field)."""
+        leaves = self.leaves(kind, (), True)
+        return [(path, field) for path, _, field in leaves if field.alone or field.type.kind == "array"]
 
     def struct_text(self, name):
         """A struct, with pointers to objects of their own for the arrays in it."""
         texts = []
-        for path, leaf, struct, field in self.leaves(Type("struct", name), (), True):
-            self.here, base, stars = field.place, leaf.base(), ""
-            if leaf.kind == "array" or field.alone:
-                mode = leaf.mode or ("racy" if base.kind == "mutex" else "dynamic", None)
+        for path, struct, field in self.leaves(Type("struct", name), (), True):
+            self.here, base, stars = field.place, field.type.base(), ""
+            if field.alone or field.type.kind == "array":
+                mode = field.type.mode or ("racy" if base.kind == "mutex" else "dynamic", None)
                 base = base if base.mode or base.atomic else base.with_(mode=mode)
                 stars = " * readonly" * (1 + self.boxes(field.made))
             shown = self.type_text(base, (struct, name, path[:-1]), False)
             texts.append(f"{shown}{stars} {self.part_name(name, path)};")
-        return f"struct {self.out_names[name]} {{ {' '.join(texts) or 'char unused;'} }};"
+        return f"struct {self.part_name(name)} {{ {' '.join(texts) or 'char unused;'} }};"
 
     def grouped(self, symbol, path):
         """Whether a part of a global has become a part of an array of several."""
         return any((symbol, path[:at]) in self.groups for at in range(len(path) + 1))
 
-    def global_cell(self, kind, context, symbol, path):
-        """A global, or an array, after the arrays in its elements, which are one after the other."""
+    def global_text(self, symbol, kind, path=(), context=None):
+        """A global: a variable for each member of a struct; or an array, after the arrays in its elements, which are
+        one after the other."""
         if self.grouped(symbol, path):
             return ""
+        if kind.kind == "struct":
+            return " ".join(self.global_text(symbol, field.type, at, (struct, symbol, at[:-1]))
+                            for at, struct, field in self.leaves(kind))
         base, length, constant = kind.base(), kind.cells(), symbol.constants.get(path)
-        inner = [self.global_cell(array(leaf, length), None, symbol, path + at)
-                 for at, leaf, field in self.objects(base)]
+        inner = [self.global_text(symbol, array(field.type, length), path + at) for at, field in self.objects(base)]
         shared = ("racy", None) if base.kind == "int" and base.const else None
         text = self.type_text(base.with_(mode=base.mode or kind.mode or shared), context, False)
         self.cells += length * (8 if base.kind == "struct" else 1)
@@ -154,12 +139,11 @@ class Front(Places):
         return " ".join([*inner, f"{text} {name}{f' = {self.text(constant)}' if constant else ''};"])
 
     def program(self):
-        """The whole program as text."""
         functions = [line for symbol in self.functions.values() if symbol.definition and not symbol.header
                      for line in self.function_lines(symbol)]
         globals_ = [symbol for symbol in self.globals if symbol.uses or not symbol.place[0].startswith(HEADERS)]
         globals_ += dict.fromkeys(group for group, _ in self.groups.values())
-        globals_ = [self.written(symbol.place, self.global_declaration, symbol) for symbol in globals_]
+        globals_ = [self.written(symbol.place, self.global_text, symbol, symbol.type) for symbol in globals_]
         globals_ += [self.written(self.here, self.record_lines, symbol) for symbol in self.thread_functions()]
         last = [self.written(place, self.dispatcher, *each) for *each, place in self.calls_by.values()]
         for symbol, place in self.ends:
@@ -168,10 +152,15 @@ class Front(Places):
         if self.reads_strings:
             globals_.append((self.here, f"char racy {self.strings.out}[{sum(map(len, self.text_pool))}];"))
         structs = []
-        for at in range(len(self.structs)):  # the writing of one may name others
-            structs += [self.written(self.structs[name].place, self.struct_text, name)
-                        for name in [key for key in self.out_names if isinstance(key, str)][at : at + 1]]
-        text = self.marked(structs + globals_ + functions + last + self.helper_lines())
+        while rest := [key[0] for key in self.out_names if key[0] in self.structs and not key[1]][len(structs):]:
+            structs.append(self.written(self.structs[rest[0]].place, self.struct_text, rest[0]))  # may name others
+        arithmetic = {re.match(r"\w+ (\w+)", text)[1]: text for text in texts("arithmetic.sharc")}
+        helpers = sorted(self.helpers)
+        for name in helpers:  # which grows by those that these call
+            helpers += sorted(set(re.findall(r"__sharc_\w+", arithmetic[name])) - set(helpers))
+        lines = enumerate([line for name in helpers for line in arithmetic[name].split("\n")], 1)
+        last += [(("what C does that the language does not", at), line) for at, line in lines]
+        text = self.marked(structs + globals_ + functions + last)
         self.refuse_if(len(text) > 1048576, "program whose lowered text is over 1048576 bytes")
         if self.refusals:
             raise Refusal(*self.refusals)
@@ -234,7 +223,7 @@ class Front(Places):
             return "int main(void) {"
         texts = [f"{self.type_text(param.type)} {self.part_name(param, ())}" for param in symbol.params]
         self.refuse_if(len(texts) > 16, f"function {symbol.name} with over 16 parameters")
-        return f"{self.type_text(symbol.type.to)} {self.function_name(symbol)}({', '.join(texts) or 'void'}) {{"
+        return f"{self.type_text(symbol.type.to)} {self.part_name(symbol)}({', '.join(texts) or 'void'}) {{"
 
     def initialisers(self):
         """What main does before everything else."""
@@ -243,10 +232,8 @@ class Front(Places):
                 if path not in symbol.constants or self.grouped(symbol, path):
                     yield from self.flat(lines)
                     self.notes.append((symbol.place, f"the initialiser of {symbol.name} is executed by main"))
-        data = [(byte ^ 128) - 128 for text in self.text_pool for byte in text]
-        for at in range(0, len(data) if self.reads_strings else 0, 16):
-            texts = [f"{self.strings.out}[{at + k}] = {byte};" for k, byte in enumerate(data[at : at + 16]) if byte]
-            yield self.functions["main"].place, " ".join(texts)
+        for at, byte in enumerate(b"".join(self.text_pool) if self.reads_strings else b""):
+            yield self.functions["main"].place, f"{self.strings.out}[{at}] = {(byte ^ 128) - 128};" if byte else ""
 
     def set_initialiser(self, symbol, values):
         """The constants that parts of a global are declared with; main assigns the rest."""
@@ -265,16 +252,7 @@ class Front(Places):
         for symbol in root.functions:
             self.refuse_if(len(symbol.params) != len(kind.params),
                            f"call through a pointer of {symbol.name}, with other parameters")
-            call, symbol.called = f"{self.function_name(symbol)}({', '.join(names)});", True
+            call, symbol.called = f"{self.part_name(symbol)}({', '.join(names)});", True
             text = f"{{ {call} return; }}" if kind.to.kind == "void" else f"return {call}"
             lines.append(f"if (function == {self.numbers[symbol]}) {text}")
         return " ".join(lines) + " int zero = 0; zero = 1 / zero; }"
-
-    def helper_lines(self):
-        """The functions of headers/arithmetic.sharc that are called, and those that these call."""
-        functions = {re.match(r"\w+ (\w+)", text)[1]: text for text in texts("arithmetic.sharc")}
-        wanted, place = sorted(self.helpers), "what C does that the language does not"
-        for name in wanted:  # which grows
-            wanted += sorted(set(re.findall(r"__sharc_\w+", functions[name])) - set(wanted))
-        lines = [line for name in wanted for line in functions[name].split("\n")]
-        return [((place, at), line) for at, line in enumerate(lines, 1)]

@@ -4,6 +4,7 @@ import re
 
 from .classes import HEAP
 from .ctype import CELL
+from .declare import Symbol
 from .names import packed
 from .threads import Threads
 from .tree import LEVELS, Expr, number, plus, times, variable
@@ -12,49 +13,39 @@ from .tree import LEVELS, Expr, number, plus, times, variable
 RESERVED = set("private readonly locked racy dynamic SCAST mutex spawn join lock unlock print cond wait signal "
                "broadcast malloc free main NULL".split())
 
-
 class Spot:
     """Where a place is in the text: a variable, of which `path` are the members; or an element with an `index`, and of
     that the members `inner`: of the array in the variable, or of the object that a `pointer` points to; `boxes` if that
     holds pointers to its elements. `top` is the struct that `inner` begins in."""
-
     def __init__(self, symbol=None, index=None, pointer=None, boxes=False):
         self.symbol, self.index, self.pointer, self.boxes = symbol, index, pointer, boxes
         self.path, self.inner, self.top = (), (), None
-
 
 class Places(Threads):
     def how(self, node):
         return node.representation(self.here)
 
     def boxes(self, node):
-        """Whether pointers of this class point to pointers to the elements."""
         return self.how(node) == "boxes"
 
-    def name(self, key, base, renamed, told):
-        """The name in the text for a thing, which is none of SharC's words; `told`: how it is called in C."""
-        if key not in self.out_names:
-            reserved = base in RESERVED
-            self.out_names[key] = made = self.fresh(base + "_" * reserved) if renamed or reserved else base
-            if told and made != told:
-                self.user.words[made] = told
-        return self.out_names[key]
-
     def part_name(self, owner, path=()):
-        """The variable for a part of a variable, or the field for a part of a struct in an object."""
-        if isinstance(owner, str):
-            return self.name((owner, path), "_".join(path), len(path) > 1, ".".join(path))
-        told = None if owner.own else ".".join((owner.name,) + path)
-        return self.name((owner, path), "_".join((owner.out,) + path), bool(path), told)
-
-    def function_name(self, symbol):
-        self.refuse_if(symbol.definition is None, f"function {symbol.name}, which is not defined here", symbol.place)
-        return self.part_name(symbol)
+        """The name in the text, none of SharC's words: for a variable or struct, or for a part of it."""
+        if (owner, path) not in self.out_names:
+            words, told = (owner.out, *path) if isinstance(owner, Symbol) else path or (owner,), path
+            if isinstance(owner, Symbol):
+                told = () if owner.own else (owner.name, *path)
+                self.refuse_if(owner.kind == "function" and owner.definition is None,
+                               f"function {owner.name}, which is not defined here", owner.place)
+            name, reserved = "_".join(words), "_".join(words) in RESERVED
+            name = self.fresh(name + "_" * reserved) if len(words) > 1 or reserved else name
+            self.out_names[owner, path] = name
+            self.user.words.update({name: ".".join(told)} if told and name != ".".join(told) else {})
+        return self.out_names[owner, path]
 
     def called_name(self, callee, value=None):
         """What is called: a function of the program, or the one that calls one of several."""
         if hasattr(callee, "params"):
-            return self.function_name(callee)
+            return self.part_name(callee)
         self.refuse_if(self.how(callee) != "function", "call through a pointer that is always NULL")
         if callee.find() not in self.calls_by:
             self.calls_by[callee.find()] = (self.fresh("call"), value.type.to, callee.find(), self.here)
@@ -62,25 +53,20 @@ class Places(Threads):
 
     def spot(self, place):
         base, *rest = place.args
-        if place.op == "variable":
-            return self.variable_spot(base)
         if place.op == "at":
             return self.pointed(base, rest[0], place.type)
+        if place.op == "variable":
+            is_array, is_global = base.type.kind == "array", base.kind == "global"
+            self.refuse_if(is_global and base not in self.globals and not base.own,
+                           f"variable {base.name}, which is not defined here")
+            if is_global or not is_array and not base.boxed:
+                return self.in_group(Spot(base, number(0) if is_array else None))
+            return Spot(base, number(0), self.part_name(base), is_array and self.boxes(base.address))
         spot = self.spot(base)
         if place.op == "member":
             return self.entered(spot, base.type.name, rest[0])
         spot.index = plus(spot.index, times(rest[0], place.type.cells()))
         return spot
-
-    def variable_spot(self, symbol):
-        is_array = symbol.type.kind == "array"
-        if symbol.kind == "global":
-            self.refuse_if(symbol not in self.globals and not symbol.own,
-                           f"variable {symbol.name}, which is not defined here")
-            return self.in_group(Spot(symbol, number(0) if is_array else None))
-        if is_array or symbol.boxed:
-            return Spot(symbol, number(0), self.part_name(symbol), is_array and self.boxes(symbol.address))
-        return Spot(symbol)
 
     def in_group(self, spot):
         """The same, where a global has become a part of an array of several."""
@@ -119,7 +105,7 @@ class Places(Threads):
         symbol, path = next(iter(node.find().globals))
         self.reads_strings |= symbol is self.strings
         kinds = [self.part(symbol.type, path[:at]) for at in range(len(path) + 1)]
-        spot, moves = self.variable_spot(symbol), node.has("order")
+        spot, moves = self.spot(variable(symbol)), node.has("order")
         for outer, step in zip(kinds, path):
             spot = self.entered(spot, outer.base().name, step)
         arrays = [at for at, part in enumerate(kinds) if part.kind == "array"]
@@ -138,7 +124,6 @@ class Places(Threads):
         return plus(self.spot(place).index or number(0), number(1)) if place else pointer.bare()
 
     def spot_text(self, spot):
-        """The lvalue at a spot."""
         name = spot.pointer or self.part_name(spot.symbol, spot.path)
         if spot.index is None:
             return name
@@ -189,7 +174,6 @@ class Places(Threads):
         return "NULL" if self.how(node) in HEAP else "0"
 
     def pointer_text(self, value):
-        """The address of a place, or an array as a pointer."""
         place = value.args[0]
         is_array = place.type.kind == "array"
         if self.how(self.class_of(value)) == "global":
@@ -215,7 +199,6 @@ class Places(Threads):
         return self.spot_text(spot)
 
     def type_text(self, kind, context=None, local=True):
-        """The type of a cell or pointer with its modes."""
         mode, scopes = kind.mode or ("", None)
         if mode.startswith("locked("):
             mode = f"locked({self.lock_path(mode[7:-1], scopes, context)})"
@@ -228,7 +211,7 @@ class Places(Threads):
             return "struct cond" + mode
         if kind.kind == "struct":
             self.complete(kind, self.here)
-            return "struct " + self.name(kind.name, kind.name, False, None) + mode
+            return "struct " + self.part_name(kind.name) + mode
         self.refuse_if(kind.kind != "ptr", f"type {kind.shown()}")
         how = self.how(kind.node)
         if how not in HEAP:

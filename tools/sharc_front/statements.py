@@ -3,7 +3,6 @@
 from collections import ChainMap
 
 from pycparser import c_ast as A, c_parser
-
 from .classes import unify
 from .ctype import BAD, INT, VOID, Refusal, promoted
 from .declare import Symbol, place_of
@@ -14,7 +13,6 @@ from .tree import Expr, compare, convert, joined, number, variable
 
 # the parameters of main: how many words there are, and the words
 ARGUMENTS = "void main(void) {{ int {} = {}; char *{}[] = {{ {} 0 }}; }}"
-
 
 def addressed_in(tree):
     """The names of the variables whose address is taken."""
@@ -28,11 +26,9 @@ def addressed_in(tree):
             found.add(getattr(inner, "name", None))
     return found
 
-
 def items_of(node):
     """The statements of a block, or the one that stands for a block."""
-    return node.block_items or [] if isinstance(node, A.Compound) else [node] if node is not None else []
-
+    return [*node] if isinstance(node, (A.Compound, A.DeclList)) else [node] if node is not None else []
 
 class Statements(Expressions):
     def statements(self, nodes):
@@ -43,7 +39,7 @@ class Statements(Expressions):
                 if isinstance(node, (A.Decl, A.DeclList, A.Typedef, A.FuncDef)):
                     self.lowered(node)
                 else:
-                    self.scoped(self.blocked, self.lowered, node)
+                    self.blocked(self.lowered, node)
             except Refusal as refusal:
                 self.report(refusal)
                 if isinstance(node, (A.Decl, A.Typedef)) and node.name:
@@ -51,7 +47,7 @@ class Statements(Expressions):
 
     def blocked(self, act, *arguments, after=()):
         """Lines in a block of their own if they declare variables."""
-        lines, _ = self.captured(act, *arguments, after=after)
+        lines, _ = self.captured(act, *arguments, after=after, inner=True)
         if any(line.declares for line in lines):
             self.emit("", blocks=(lines,))
         else:
@@ -64,16 +60,13 @@ class Statements(Expressions):
         self.emit("if (%s)", test, blocks=(first, second))
 
     def body(self, node):
-        """The lines of a statement."""
-        return self.scoped(self.captured, self.statements, items_of(node))[0]
+        return self.captured(self.statements, items_of(node), inner=True)[0]
 
     def lowered(self, node):
         """A statement of few lines; of others there is a method each."""
         match node:
-            case A.Compound():
+            case A.Compound() | A.DeclList():
                 self.statements(items_of(node))
-            case A.DeclList():
-                self.statements(node.decls)
             case A.EmptyStatement() | A.StaticAssert():
                 pass
             case A.If():
@@ -82,61 +75,51 @@ class Statements(Expressions):
             case A.While():
                 self.loop(node.cond, [], node.stmt)
             case A.DoWhile():
-                before, test = self.captured(self.value, node.cond)
-                self.loop(None, self.leave_unless(test, before), node.stmt)
+                self.loop(node.cond, [], node.stmt, ends=True)
             case A.For():
                 self.statements(items_of(node.init))
                 self.loop(node.cond, self.body(node.next), node.stmt)
             case A.Break():
                 self.emit("break;")
             case _:
-                getattr(self, "s_" + type(node).__name__, self.effect)(node)
+                lower = getattr(self, "s_" + type(node).__name__, None)
+                lower(node) if lower else self.value(node, False)
 
     def s_Decl(self, node):
-        if isinstance(node.type, A.FuncDecl):
-            self.prototype(node)
-        elif node.name is None:
-            self.type(node.type)
-        else:
-            symbol, init = self.variable(node, "local" if self.function else "global"), uncast(node.init)
-            values = self.scalars(symbol.type, [node.init]) if init is not None else ()
-            if symbol.kind == "global":
-                self.set_initialiser(symbol, values)
-                return
-            self.declare_local(symbol, values)
-            param = self.scopes.get(init.name) if isinstance(init, A.ID) else None
-            if param in self.function.params and not self.loops and symbol.type.kind == param.type.kind == "ptr":
-                # one that is used for nothing else is no second reference to what the local points to
-                self.later(lambda: f"{self.text(variable(param))} = {self.null_text(param.type.node)};" if
-                           param.uses == 1 else "")
+        if node.name is None or isinstance(node.type, A.FuncDecl):
+            return self.prototype(node) if node.name else self.type(node.type)
+        symbol, init = self.variable(node, "local" if self.function else "global"), uncast(node.init)
+        values = self.scalars(symbol.type, [node.init]) if init is not None else ()
+        if symbol.kind == "global":
+            return self.set_initialiser(symbol, values)
+        self.declare_local(symbol, values)
+        param = self.scopes.get(init.name) if isinstance(init, A.ID) else None
+        if param in self.function.params and not self.loops and symbol.type.kind == param.type.kind == "ptr":
+            # one that is used for nothing else is no second reference to what the local points to
+            self.later(lambda: f"{self.text(variable(param))} = {self.null_text(param.type.node)};" if
+                       param.uses == 1 else "")
 
     def declare_local(self, symbol, values=()):
         """Declares a local, by a name that no other of the function has, and gives it the values of its initialiser."""
-        self.locals += 1
-        symbol.loop = len(self.loops)
-        taken = symbol.own or symbol.name in self.own_names or symbol.name in self.global_names
-        symbol.out = self.fresh(symbol.name) if taken else symbol.name
+        self.locals += not symbol.own  # which own_name counts
+        symbol.loop, taken = len(self.loops), symbol.name in self.own_names or symbol.name in self.global_names
+        symbol.out = self.own_name(symbol.name) if symbol.own else self.fresh(symbol.name) if taken else symbol.name
         self.own_names.add(symbol.name)
-        if symbol.own:
-            self.user.own.add(symbol.out)
-        elif self.pinned and self.bound:  # a variable of a function of the headers is told as what that is called for
+        if self.pinned and self.bound and not symbol.own:  # one of the headers is told as what it is called for
             symbol.name = self.bound
         if symbol.kind == "local":
             self.later(lambda: self.declaration(symbol), declares=True)
         for path, item in values:
             self.blocked(self.store, self.inner_place(variable(symbol), path), item)
 
-    def leave_unless(self, test, before):
-        """Lines that leave a loop unless a condition holds, after those of the condition."""
-        leave = [Line(self.here, "break;")]
-        return self.captured(lambda: self.blocked(self.branch, test, [], leave, after=before))[0]
-
-    def loop(self, cond, step, body, around=None):
+    def loop(self, cond, step, body, around=None, ends=False):
         """`step` is at the end of the body, and before each continue: self.loops has it for each loop around, and the
-        flag `around` for each switch."""
+        flag `around` for each switch. A condition that takes lines, or that `ends` the body, leaves the loop there."""
         before, test = self.captured(self.value, cond) if cond is not None else ([], number(1))
-        if before:
-            before, test = self.leave_unless(test, before), number(1)
+        if before or ends:
+            branches = [], [Line(self.here, "break;")]
+            leave = self.captured(lambda: self.blocked(self.branch, test, *branches, after=before))[0]
+            (before, step), test = ([], leave) if ends else (leave, step), number(1)
         self.loops.append(around or step)
         inner = self.body(body)
         self.loops.pop()
@@ -154,44 +137,30 @@ class Statements(Expressions):
 
     def s_Switch(self, node):
         """The cases in order, from the number of the one that is chosen on, in a loop that takes the breaks."""
-        value = self.value(node.cond)
-        kind, groups, cases = promoted(value.type.name), self.groups_of(node), []
+        value, cases = self.value(node.cond), items_of(node.stmt)
+        kind, bodies = promoted(value.type), []
         value = self.stable(convert(value, kind))
-        default = next((at for at, (labels, _) in enumerate(groups) if None in labels), len(groups))
+        default = next((at for at, case in enumerate(cases) if isinstance(case, A.Default)), len(cases))
         at, again = self.temporary(INT, number(default)), self.temporary(INT, number(0))
         self.scopes[at.args[0].out] = at
-        for chosen, (labels, parts) in enumerate(groups):
-            for label in labels:
-                if label is not None:
-                    self.emit(f"if (%s) %s = {chosen};", compare("==", value, number(label, kind), kind), at)
-            self.refuse_if(any(isinstance(part, (A.Decl, A.DeclList)) for part in parts) and
-                           chosen + 1 < len(groups), "declaration in a case that is not the last, outside a block")
+        for chosen, case in enumerate(cases):
+            self.refuse_if(not isinstance(case, (A.Case, A.Default)), "statement before the first case of a switch")
+            if isinstance(case, A.Case):
+                label = number(self.constant(case.expr, "case that is not constant"), kind)
+                self.emit(f"if (%s) %s = {chosen};", compare("==", value, label, kind), at)
+            self.refuse_if(any(isinstance(part, (A.Decl, A.DeclList)) for part in case.stmts) and
+                           chosen + 1 < len(cases), "declaration in a case that is not the last, outside a block")
             reached = A.BinaryOp("<=", A.ID(at.args[0].out), A.Constant("int", str(chosen)))
-            cases.append(A.If(reached, A.Compound(parts), None, parts[0].coord if parts else node.coord))
-        self.loop(None, [Line(self.here, "break;")], A.Compound(cases), again.args[0])
+            bodies += [A.If(reached, A.Compound(case.stmts), None, case.stmts[0].coord)] if case.stmts else []
+        self.loop(None, [Line(self.here, "break;")], A.Compound(bodies), again.args[0])
         if again.args[0].uses:
             self.branch(again, self.captured(self.s_Continue, node)[0])
-
-    def groups_of(self, node):
-        """The cases as (labels, statements); `case 1: case 2:` are inside one another in the tree."""
-        groups, labels = [], []
-        for item in items_of(node.stmt):
-            self.refuse_if(not isinstance(item, (A.Case, A.Default)), "statement before the first case of a switch")
-            inner = [item]
-            while len(inner) == 1 and isinstance(inner[0], (A.Case, A.Default)):
-                case, inner = inner[0], inner[0].stmts or []
-                labels.append(self.constant(case.expr, "case that is not constant") if isinstance(case, A.Case)
-                              else None)
-            groups, labels = (groups + [(labels, inner)], []) if inner else (groups, labels)
-        return groups + ([(labels, [])] if labels else [])
 
     def s_Return(self, node):
         kind = self.function.type.to
         if kind.kind == "void":
-            if node.expr is not None:
-                self.effect(node.expr)
-            self.emit("return;")
-            return
+            self.statements(items_of(node.expr))
+            return self.emit("return;")
         value = self.value(node.expr) if node.expr is not None else number(0)
         self.function.gives |= kind.kind == "ptr" and not value.null()
         self.emit("return %s;", self.fitting(value, kind))
@@ -200,7 +169,6 @@ class Statements(Expressions):
         inner = getattr(item.type, "type", None)
         if isinstance(inner, A.Struct) and inner.name is None:
             self.typedef_names.setdefault(id(inner), item.name)
-        self.scopes[item.name] = BAD
         self.type(item.type)
         self.scopes[item.name] = item
 
@@ -223,7 +191,7 @@ class Statements(Expressions):
         symbol.definition, symbol.header = item, place_of(item.decl)[0].startswith(HEADERS)
         if not symbol.header:
             self.function, self.loops, self.here, self.locals, self.own_names = symbol, [], symbol.place, 0, set()
-            symbol.lines = self.scoped(self.captured, self.function_body, symbol)[0]
+            symbol.lines = self.captured(self.function_body, symbol, inner=True)[0]
             self.refuse_if(self.locals > 200, f"function {symbol.name} with over 200 variables", symbol.place)
             self.function = None
 

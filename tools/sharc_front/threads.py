@@ -3,7 +3,6 @@
 from string import Template
 
 from pycparser import c_ast as A
-
 from .classes import HEAP
 from .ctype import VOID
 from .express import uncast
@@ -13,8 +12,7 @@ from .tree import Expr, number
 
 # a thread function is called by one that has the record; the argument is taken out of it, so that what it points to has
 # one reference
-RECORD, START = (Template(" ".join(text.split())) for text in texts("threads.sharc"))
-
+RECORD, START, RESULT = (Template(" ".join(text.split())) for text in texts("threads.sharc"))
 
 class Threads(Library):
     def thread_functions(self):
@@ -30,20 +28,18 @@ class Threads(Library):
         self.refuse_if(kind.kind != "func" or len(kind.params or ()) != 1, "thread function of this form")
         self.started.append(start.type.node)
         value = self.value(arg)
-        local = self.own_local(value.place())
+        local = value.place() and value.place().local()
         if local:
             local.started.append(len(self.loops))
         value = self.given(self.fitting(value, kind.params[0]), True)
 
         def lines():
             """Starts one of the functions that `start` may be."""
-            functions, texts = start.type.node.find().functions, []
-            for symbol in functions:
-                text = START.substitute(**self.record(symbol), own=self.own_name("own"), given=self.own_name("given"),
-                                    target=self.text(place), argument=self.text(value))
-                texts.append(text if len(functions) == 1 else
-                             f"if ({self.text(start)} == {self.numbers[symbol]}) {text}")
-            return " ".join(texts)
+            functions = start.type.node.find().functions
+            texts = [START.substitute(self.record(symbol), own=self.own_name("own"), given=self.own_name("given"),
+                                      target=self.text(place), argument=self.text(value)) for symbol in functions]
+            return texts[0] if len(texts) == 1 else " ".join(f"if ({self.text(start)} == {self.numbers[symbol]}) {text}"
+                                                             for symbol, text in zip(functions, texts))
         self.later(lines, place, value)
 
     def given(self, value, automatic=False):
@@ -65,61 +61,50 @@ class Threads(Library):
         self.later(lines, declares=True)
         return Expr("text", (lambda: self.text(value) if automatic and not self.handed(value) else name, value), kind)
 
-    @staticmethod
-    def own_local(place):
-        """The local variable that a place is, if it is one."""
-        return place.local() if place and place.op == "variable" else None
-
     def handed(self, value):
         """Whether the argument of a thread is the address of an object of this thread alone."""
         place = value.place()
-        if self.how(value.type.node) not in HEAP or place is None or place.type.kind == "array":
+        whole = place.args[0] if place is not None and place.op == "element" else place
+        if whole is None or whole.op != "variable" or not whole.local() or place.type.kind == "array":
             return False
-        if place.op == "element":
-            array = self.own_local(place.args[0])
-            return array is not None and self.boxes(array.address)
-        symbol = self.own_local(place)
-        return symbol is not None and symbol.started == [symbol.loop]
+        local = whole.local()
+        alone = self.boxes(local.address) if whole is not place else local.started == [local.loop]
+        return alone and self.how(value.type.node) in HEAP
 
     def record(self, symbol):
         """Names: of the struct, the function that is spawned, the one that takes the argument, the table of starts."""
         if symbol not in self.records:
-            self.records[symbol] = {name: self.fresh(f"{name}_{symbol.name}")
+            self.records[symbol] = {name: self.own_name(f"{name}_{symbol.name}")
                                     for name in ("record", "start", "take", "table")}
-            self.user.own.update(self.records[symbol].values())
         return self.records[symbol]
 
     def record_lines(self, symbol):
         self.refuse_if(len(symbol.params) != 1 or symbol.params[0].type.kind != "ptr" or symbol.type.to.kind != "ptr",
                        f"thread function {symbol.name} whose parameter or result is no pointer", symbol.place)
-        kind = symbol.params[0].type
-        return RECORD.substitute(**self.record(symbol), none=self.null_text(kind.node), function=self.function_name(symbol),
-                             argument=self.type_text(kind.bare()), result=self.type_text(symbol.type.to.bare()))
+        argument, result = symbol.params[0].type, self.type_text(symbol.type.to.bare())
+        return RECORD.substitute(self.record(symbol), function=self.part_name(symbol), result=result,
+                                 argument=self.type_text(argument.bare()), none=self.null_text(argument.node))
 
     def l_pthread_join(self, args):
         thread, result = self.stable(self.value(args[0])), uncast(args[1])
         self.emit("join(%s);", thread)
         if not isinstance(result, A.UnaryOp) or result.op != "&":
-            self.refuse_if(not self.peeked(result).null(), "result of a thread taken in this form")
-            return
+            given = self.captured(self.value, result)[1]
+            return self.refuse_if(not given.null(), "result of a thread taken in this form")
         place = self.stable_place(self.visit(result.expr))
         self.refuse_if(place.type.kind != "ptr", "result of a thread taken in this form")
         self.joins.append(place.type.node)
         self.put(place, number(0))
 
-        def lines():
-            given = [f"{self.record(symbol)['table']}[{self.text(thread)}]" for symbol in self.thread_functions()
-                     if symbol.gives]
-            target, none = self.text(place), self.null_text(place.type.node)
-            return " ".join(f"if ({at} != NULL) {{ {target} = {at}->result; {at}->result = {none}; }}"
-                            for at in given)
-        self.later(lines, place)
+        self.later(lambda: " ".join(
+            RESULT.substitute(self.record(symbol), thread=self.text(thread), target=self.text(place),
+                              none=self.null_text(place.type.node))
+            for symbol in self.thread_functions() if symbol.gives), place)
 
     def l_pthread_exit(self, args):
         """In main its end, else that of the thread function."""
         if self.function.name == "main":
-            self.emit("return 0;")
-            return
+            return self.emit("return 0;")
         self.refuse_if(self.function.type.to.kind != "ptr", "pthread_exit outside a thread function")
         self.ends.append((self.function, self.here))
         self.s_Return(A.Return(args[0]))

@@ -1,13 +1,12 @@
 """Expressions of SharC as trees, and C's operators and conversions on them (C11 6.3.1, 6.5).
 
 SharC has no unsigned types: an unsigned value of less than 64 bits is masked after what can leave its range; one of 64
-bits is held by its bits, and functions of headers/arithmetic.sharc compare, multiply and divide it.
-"""
+bits is held by its bits, and functions of headers/arithmetic.sharc compare, multiply and divide it."""
 
 import operator
 from dataclasses import dataclass, replace
 
-from .ctype import BITS, CELL, UNSIGNED, VOID, Type, limits, wrapped
+from .ctype import BITS, CELL, UNSIGNED, VOID, Type, limits
 
 LEVELS = {"||": 1, "&&": 2, "|": 3, "^": 4, "&": 5, "==": 6, "!=": 6, "<": 7, ">": 7, "<=": 7, ">=": 7, "<<": 8,
           ">>": 8, "+": 9, "-": 9, "*": 10, "/": 10, "%": 10}
@@ -22,7 +21,6 @@ TRUTHS = (*COMPARED, "&&", "||", "!")
 NAMES64 = {"+": "__sharc_sum64", "-": "__sharc_difference64", "*": "__sharc_product64", "/": "__sharc_quotient64",
            "%": "__sharc_remainder64", "<<": "__sharc_left64", ">>": "__sharc_right64"}
 
-
 @dataclass(eq=False)
 class Expr:
     """A place: variable(symbol), member(place, name), element(place, index) of an array, at(pointer, index).
@@ -30,9 +28,7 @@ class Expr:
     Or a value: what is in a place; number; operators on integers, also those of headers/arithmetic.sharc; a cast,
     which changes nothing but the type; address(place), also of the first element of an array; ordered(pointer), its
     number; and text(what gives it, places ..), which is known when all of the program was read, as NULL is. Those with
-    effects are call(function, values ..) and scast(place); they are evaluated once, where they are in a line.
-    """
-
+    effects are call(function, values ..) and scast(place); they are evaluated once, where they are in a line."""
     op: str
     args: tuple
     type: Type
@@ -50,7 +46,6 @@ class Expr:
         self.calls = self.op in ("call", "scast") or any(arg.calls for arg in self.args if isinstance(arg, Expr))
 
     def null(self):
-        """Whether it is a null pointer constant."""
         return self.number == 0
 
     def typed(self, type):
@@ -69,44 +64,36 @@ class Expr:
 
     def place(self):
         """What it is the address of, or the array that it is the first element of."""
-        inner = self.bare()
-        return inner.args[0] if inner.op == "address" else None
+        return self.bare().args[0] if self.bare().op == "address" else None
 
     def local(self):
         """The local variable that a place is the whole of or a member of."""
-        inner = self
-        while inner.op == "member":
-            inner = inner.args[0]
-        return inner.args[0] if inner.op == "variable" and inner.args[0].kind != "global" else None
-
+        if self.op == "member":
+            return self.args[0].local()
+        return self.args[0] if self.op == "variable" and self.args[0].kind != "global" else None
 
 NOTHING = Expr("number", (), VOID, 0)
-
 
 def variable(symbol):
     return Expr("variable", (symbol,), symbol.type)
 
-
 def element(base, index):
     return Expr("element", (base, index), base.type.to)
-
 
 def address(place, to=None):
     return Expr("address", (place,), Type("ptr", to=to or place.type))
 
-
 def number(value, name="int"):
-    """A constant of this C type."""
-    value = wrapped(value, name)
+    """A number converted to a C type, as its cell holds it (C11 6.3.1.3; gcc and clang wrap signed types)."""
+    low = limits(name)[0]
+    value = int(value != 0) if name == "bool" else (value - low) % (1 << BITS[name]) + low
     return Expr("number", (), Type("int", name), value, CELL[name] == "long" or not -(1 << 31) < value < 1 << 31)
-
 
 def joined(op, name, *values):
     """A value of the C type `name`: an operator of SharC, or a function of headers/arithmetic.sharc, on others."""
     operands = values[:1] if op in ("<<", ">>") else () if op in TRUTHS else values
     wide = Type("int", name).wide() if op.startswith("__sharc_") else any(value.wide for value in operands)
     return Expr(op, values, Type("int", name), wide=wide, height=1 + max(value.height for value in values))
-
 
 def convert(value, name):
     """A value as a cell of the C type `name` holds it (C11 6.3.1.2, 6.3.1.3; gcc wraps signed types)."""
@@ -115,16 +102,8 @@ def convert(value, name):
         return value.typed(Type("int", name))
     if name == "bool":
         return joined("!=", name, value, number(0))
-    if name in UNSIGNED:
-        return joined("&", name, value, number(high, name))
-    return joined("__sharc_as_" + name, name, value)
-
-
-def unary(op, value, name):
-    if op == "+":
-        return convert(value, name)
-    return binary("-", number(0, name), value, name) if op == "-" else binary("^", value, number(-1, name), name)
-
+    mask = (number(high, name),) if name in UNSIGNED else ()
+    return joined("&" if mask else "__sharc_as_" + name, name, value, *mask)
 
 def folded(op, left, right, name):
     """The value of an operator on constants, or None where C defines none."""
@@ -136,7 +115,6 @@ def folded(op, left, right, name):
     if op in COMPARED:
         return number(int(value))
     return number(value, name) if op == "<<" or name in UNSIGNED or low <= value <= high else None
-
 
 def binary(op, left, right, name):
     """left op right in the C type `name`, to which both operands are converted (the left one alone for shifts)."""
@@ -151,7 +129,6 @@ def binary(op, left, right, name):
         left = joined("+", name, left, number(0, "long"))  # of type long in the text
     return convert(joined(op, "long" if name == "uint" and op in ("+", "-", "<<") else name, left, right), name)
 
-
 def compare(op, left, right, name):
     small = all(side.number >= 0 if side.number is not None else side.type.name in UNSIGNED - {"ulong"}
                 for side in (left, right))  # whether both as an unsigned long are less than 2^63
@@ -163,7 +140,6 @@ def compare(op, left, right, name):
     less = joined("__sharc_below64", "int", *((right, left) if op in (">", "<=") else (left, right)))
     return less if op in ("<", ">") else joined("!", "int", less)
 
-
 def plus(left, right):
     """left + right, for indices."""
     if None not in (left.number, right.number):
@@ -172,9 +148,7 @@ def plus(left, right):
         return right if left.null() else joined("+", "long", left, right)
     if left.op in ("+", "-") and left.args[1].number is not None:
         return plus(left.args[0], number(right.number + left.args[1].number * (1 if left.op == "+" else -1)))
-    op = "-" if right.number < 0 else "+"
-    return left if right.null() else joined(op, "long", left, number(abs(right.number)))
-
+    return left if right.null() else joined("-" if right.number < 0 else "+", "long", left, number(abs(right.number)))
 
 def times(value, by):
     if by == 1 or value.number is not None:
