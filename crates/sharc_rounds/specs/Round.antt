@@ -80,9 +80,9 @@ is_on None = false
 is_on (Some thread) = may_go thread.machine.at.state
 
 -- whether a thread is there that goes on, holds a mutex, and asks for nothing that it may have to wait for
-abbrev pub IsInside : Seat → Type 0
-IsInside None = ⊥
-IsInside (Some thread) =
+abbrev pub IsInSection : Seat → Type 0
+IsInSection None = ⊥
+IsInSection (Some thread) =
     (may_go thread.machine.at.state ≡ true) × (thread.machine.own.held ≢ []) × (thread.wait ≡ None)
 
 -- ---- workers

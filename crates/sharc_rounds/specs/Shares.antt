@@ -1,5 +1,5 @@
--- How many workers a round needs, up to how many events a thread may come in it, and how the turns of a stint are shared
--- among its goes.
+-- How many workers a round needs, up to how many events a thread may come in it, and how the turns of a stint are
+-- shared among its goes.
 use Rattle.std.specs.Prelude.{ℕ, zero, suc, ◌+◌, ◌-◌, ◌*◌, ◌/◌, min, max, List, [], ◌∷◌, Option, Some, None}
 use Rattle.std.specs.Prelude.{if◌then◌else◌, nat_le}
 use Rattle.sharc_cpu.specs.Thread.{ThreadView}

@@ -5,7 +5,7 @@ ghost use Rattle.sharc_word.specs.declared.step.TheConstants.{THREADS as threads
 ghost use Rattle.sharc_code.specs.Layout.{Fits, words_of};
 ghost use Rattle.sharc_code.specs.Path.{may_go};
 ghost use Rattle.sharc_cpu.specs.Rows.{IsPlan};
-ghost use Rattle.sharc_rounds.specs.Round.{MayTurn, HasRun, MayRun, KeepsRoom, IsInside, is_on};
+ghost use Rattle.sharc_rounds.specs.Round.{MayTurn, HasRun, MayRun, KeepsRoom, IsInSection, is_on};
 
 use crate::gate::{Gate, GatedPort};
 use crate::share::most_events;
@@ -73,8 +73,8 @@ fn run_thread<G: Gate>(
 }
 
 // Whether a thread is there that goes on, holds a mutex, and asks for nothing that it may have to wait for.
-fn is_inside(seat: &Option<Thread>) -> bool
-    ensures { IsTrue result ↔ IsInside seat.now }
+fn is_in_section(seat: &Option<Thread>) -> bool
+    ensures { IsTrue result ↔ IsInSection seat.now }
 {
     match seat {
         None => false,
@@ -138,7 +138,7 @@ impl Hand {
         let first = stint.first();
         let mut left = stint.turns - first.turns;
         let mut hand = self.go(code, plan, shape, bus, gate, worker, limit, first);
-        while left > 0 && is_inside(&hand.seat) {
+        while left > 0 && is_in_section(&hand.seat) {
             let further = stint.further(left);
             hand = hand.go(code, plan, shape, bus, gate, worker, limit, further);
             left -= further.turns;

@@ -283,21 +283,18 @@ impl Pace {
             Makers::Workers => {
                 let workers = Speed::with(self.workers_lately(), round);
                 Pace {
-                    caller: self.caller,
                     workers: Some(workers),
                     last: makers,
                     since,
                     apart: self.apart_with(workers),
-                    calm: self.calm,
+                    ..self
                 }
             }
             Makers::Caller | Makers::CallerByParts => Pace {
                 caller: Some(Speed::with(self.caller, round)),
-                workers: self.workers,
                 last: makers,
                 since,
-                apart: self.apart,
-                calm: self.calm,
+                ..self
             },
         }
     }
@@ -307,16 +304,12 @@ impl Pace {
         ensures { result ≡ calm_with self waited }
     {
         Pace {
-            caller: self.caller,
-            workers: self.workers,
-            last: self.last,
-            since: self.since,
-            apart: self.apart,
             calm: if waited {
                 0
             } else {
                 self.calm.saturating_add(1)
             },
+            ..self
         }
     }
 

@@ -135,8 +135,8 @@ fn time_of<G: Gate>(gate: &G, workers: u32) -> Option<u64> {
 }
 
 /// Runs the code in rounds: in each, worker `w` gives every started thread whose number is `w` modulo `workers` one
-/// quantum of at most `QUANTUM` turns, and asks the gate before each step. A thread that is spawned in a round begins in
-/// the next. The run ends where no thread is enabled.
+/// quantum of at most `QUANTUM` turns, and asks the gate before each step. A thread that is spawned in a round begins
+/// in the next. The run ends where no thread is enabled.
 ///
 /// An `Err` says that memory was not found.
 pub fn run_rounds<R: Threads + Sync, G: Gate + Sync>(

@@ -218,7 +218,7 @@ impl<'a> Gate for Switches<'a> {
 
 // Some hundred rounds without a thread that waits for a mutex or a condition. The caller makes the first sixteen by
 // parts, in each of which it goes from one of three threads to the next some hundred and fifty times, and the others by
-// whole quanta: 2,460 times in all. By parts alone it would be twice as often, by whole quanta some 300 times.
+// whole quanta: 2,463 times in all. By parts alone it would be twice as often, by whole quanta some 300 times.
 #[test]
 fn the_caller_makes_whole_quanta_where_no_thread_waits(rt: HostRuntime) -> Result<(), Fail> {
     let others = [function(7, Parameter::None)];

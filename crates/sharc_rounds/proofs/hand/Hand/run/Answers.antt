@@ -37,5 +37,5 @@ loop-left-preserved g c =
       room = room_both code s c.args.limit (turns - left) further (turns - (left - further)) c.args.self hand new (omega (arith, few, kept.few)) kept.ran kept.room went.room;
     }
 
-pub returns-else-is_inside-clause-room : goal.returns-else-is_inside-clause-room
-returns-else-is_inside-clause-room g c = room_of_more (c.args.stint.turns - c.loop-left.left) c.args.stint.turns c.args.self.seat c.loop-left.hand.seat (omega arith) c.loop-left.invariant.room
+pub returns-else-is_in_section-clause-room : goal.returns-else-is_in_section-clause-room
+returns-else-is_in_section-clause-room g c = room_of_more (c.args.stint.turns - c.loop-left.left) c.args.stint.turns c.args.self.seat c.loop-left.hand.seat (omega arith) c.loop-left.invariant.room
