@@ -1,5 +1,5 @@
 -- The turns of a New before its last: the world stays, and a word of the thread's own block or the top may change.
-use Rattle.sharc_invariant.proofs.{Imports.{◌≡◌, ℕ, zero, suc, ◌+◌, ◌^◌, ◌<◌, ◌≤◌, ◌≢◌, Bool, true, false, cond, List, Option, None, Some, refl, sym, ap, ◌∙◌, subst, ⊎_elim, arith, cases_order, length-set, fun_ext, length, slice_index, slice_set, ◌==◌, THREADS, note_of, epoch_of, Kind, Read, Write, Code, Shape, StateOf, RunsOn, Tries, Stopped, Ended, Stop, Stage, Rests, Makes, Lowers, Links, Names, Hands, Begins, Withdraws, WithdrawsFrom, Leaves, Fits as FitsShape, granules, top_word, Machine, instr_at, may_go, counted, Turn, Global, put, MayTurn, one_thread, bounds, Instr, put_other, put_all, sum_to, Targets, Label, Labels, Fine, IsWellTyped, World, Shut, Heap, Kept, Built, InBlock, IsListed, conc_of, Shows, head_of, is_ended, has_withdrawn, note_number, noted_by, register_of, staged_of, made_turn, KeepsOthers, StopStands, State, Runs, View, view_of, StageStands, SpawnsNow, FramesStand, GateStands, HeapStands, TopStands, label_now, ne_eq}, Listed.{store_ok, within_block, in_use}, Others.{OnHold, loses}, Quiet.{heap_now, put_self, sum_up, label_held, freed_held, locks_same}, Changes.{KeepsPart, KeepsLower, conc_now, changed_state}, Stores.{index_put, arena}, Heaps.{apart_stored, built_size, block_word, low_block, built_dead}}
+use Rattle.sharc_invariant.proofs.{Imports.{◌≡◌, ℕ, zero, suc, ◌+◌, ◌^◌, ◌<◌, ◌≤◌, ◌≢◌, Bool, true, false, cond, List, Option, None, Some, refl, sym, ap, ◌∙◌, subst, ⊎_elim, arith, cases_order, length-set, fun_ext, length, slice_index, slice_set, ◌==◌, THREADS, note_of, epoch_of, Kind, Read, Write, Code, Shape, StateOf, RunsOn, Tries, Stopped, Ended, Stop, Stage, Rests, Makes, Lowers, Links, Names, Hands, Begins, Withdraws, WithdrawsFrom, Leaves, Fits as FitsShape, granules, top_word, Machine, instr_at, may_go, counted, Turn, Global, put, MayTurn, one_thread, bounds, Instr, put_other, put_all, sum_to, Targets, Label, Labels, Fine, IsWellTyped, World, Shut, Heap, Kept, Built, InBlock, IsListed, conc_of, Shows, head_of, is_ended, has_withdrawn, note_number, noted_by, register_of, staged_of, made_turn, KeepsOthers, StopStands, State, Runs, View, view_of, StageStands, SpawnsNow, FramesStand, GateStands, HeapStands, TopStands, label_now, ne_eq}, Listed.{store_ok, within_block, in_use}, Others.OnHold, Quiet.{heap_now, put_self, sum_up, label_held, freed_held, locks_same, heap_stays}, Changes.{KeepsPart, KeepsLower, conc_now, changed_state}, Stores.{index_put, arena}, Heaps.{apart_stored, built_size, block_word, low_block, built_dead}, Plain.others_stay}
 
 abbrev pub IsMaking : Stage → Type 0
 IsMaking Rests = Unit {0}
@@ -197,19 +197,8 @@ module _ (x : Targets) (code : Code) (s : Shape) (ls : Labels) (wt : IsWellTyped
         → StageStands code s st.elements world (heap_now st.heap stored) stored tr.thread (with_stage RunsOn y (g.threads tr.thread).own.stop) (Instr.New r count cells site) y → g.made tr.thread + 1 ≤ 100000000
         → State x code s ls (made_turn g tr.thread stored (with_stage RunsOn y (g.threads tr.thread).own.stop)) world
     own_state y my heads stage few =
-        let h = st.heap_stands in
         let m' = with_stage RunsOn y m.own.stop in
         builds_state RunsOn y m.own.stop my refl stored own_low (heap_now st.heap stored)
-        (record { regs = λ u _ q. refl; win = λ u _. refl; passed = λ u _ q p c _ z. z; sole = λ u _ q _ p. loses refl; cells = λ u _ q _ n. refl; built = λ u _ b e. (e, refl); within = λ u ne h e i n. own_others u h i ne e n })
-        (record {
-          kept = own_kept;
-          words = λ i. refl;
-          top = h.top ∙ sym (own_off top_word (λ e. let z = high in omega arith));
-          within = h.within;
-          heads = λ u n lu ln. h.heads u n lu ln ∙ put_all (λ u (y : Machine). head_of (g.threads u) n ≡ head_of y n) g.threads t m' (sym (heads n)) (λ u _. refl) u;
-          powers = h.powers;
-          live = h.live;
-          room = h.room;
-          sizes = h.sizes;
-        })
+        (others_stay s world st.heap g.words stored t (λ u ne h e i n. own_others u h i ne e n))
+        (heap_stays s st.cells g world.obj world.obj st.heap t stored m' st.heap_stands refl own_kept (own_off top_word (λ e. let z = high in omega arith)) heads)
         own_sim own_epochs (λ _. stage) few

@@ -1,5 +1,5 @@
 -- A signal keeps the invariant: in one turn it reads who waits, in others it takes the lowest waiter away.
-use Rattle.sharc_invariant.proofs.{Imports.{◌≡◌, ℕ, ◌+◌, ◌-◌, ◌^◌, ◌<◌, ◌⊎◌, Bool, true, false, cond, List, Some, None, refl, sym, ap, ◌∙◌, subst, inl, inr, ⊎_elim, arith, eqb-true, and_le_l, fun_ext, length, slice_index, slice_set, ◌==◌, Load, Cas, Kind, Read, Write, Accesses, without_lowest, Code, Cell, Shape, RunsOn, Tries, Stopped, Ended, Stage, Rests, Looks, Clears, Makes, Empties, Lowers, FreeLooks, FreeClears, Uncounts, Links, Names, Hands, Begins, Enters, Withdraws, WithdrawsFrom, Leaves, Wakes, Fits, Machine, instr_at, word, wakes, rests, at_stage, step_of, turn, may_go, Turn, Global, put, MayTurn, after_turn, one_thread, bounds, Instr, Targets, Field, field_in, is_pointer, is_mutex, Waiters, Label, Labels, LessGate, Closed, Fine, IsWellTyped, World, RegisterOf, in_ref, Heap, conc_of, Shows, FitsContent, cell_at, is_ended, staged_of, logged, noted_by, register_of, making_of, Silently, made_turn, made_conc, State, View, view_of, FramesStand, GateStands, TopStands, Runs, StageStands, OnSignal, SpawnsNow, label_now, object_of_cell, number_in, Turned, ne_eq}, Frames.less_stands, Others.{OnHold, loses}, Quiet.{KeepsSelf, loud_state, heap_now, label_held, freed_held, noted_of, put_self, locks_kept}, Turns.{asks_turn, room_of}, Own.{closed_less, runs_at}, Stores.{index_put, cell_store, stored_words, stored_within}, Seen.integer_stored, Cells.cell_there}
+use Rattle.sharc_invariant.proofs.{Imports.{◌≡◌, ℕ, ◌+◌, ◌-◌, ◌^◌, ◌<◌, ◌⊎◌, Bool, true, false, cond, List, Some, None, refl, sym, ap, ◌∙◌, subst, inl, inr, ⊎_elim, arith, eqb-true, and_le_l, fun_ext, length, slice_index, slice_set, ◌==◌, Load, Cas, Kind, Read, Write, Accesses, without_lowest, Code, Cell, Shape, RunsOn, Tries, Stopped, Ended, Stage, Rests, Wakes, Fits, Machine, instr_at, word, wakes, rests, at_stage, step_of, turn, may_go, Turn, Global, put, MayTurn, after_turn, one_thread, bounds, Instr, Targets, Field, field_in, is_pointer, is_mutex, Waiters, Label, Labels, LessGate, Closed, Fine, IsWellTyped, World, RegisterOf, in_ref, Heap, conc_of, Shows, FitsContent, cell_at, is_ended, staged_of, logged, noted_by, register_of, making_of, Silently, made_turn, made_conc, State, View, view_of, FramesStand, GateStands, TopStands, Runs, StageStands, OnSignal, SpawnsNow, label_now, object_of_cell, number_in, Turned, ne_eq}, Frames.less_stands, Others.OnHold, Quiet.{KeepsSelf, loud_state, heap_now, label_held, freed_held, noted_of, put_self, locks_kept}, Turns.{asks_turn, room_of}, Own.{closed_less, runs_at}, Stores.{index_put, cell_store, stored_words, stored_within}, Seen.integer_stored, Cells.cell_there, Plain.others_stay}
 
 -- the stages of a signal
 abbrev IsWaking : Stage → Type 0
@@ -148,15 +148,7 @@ module _ (x : Targets) (code : Code) (s : Shape) (ls : Labels) (wt : IsWellTyped
         world,
         subst (λ y. State x code s ls y world) (sym done) (loud_state x code s ls g world st t may.started words m' own
             (stored_words x code s ls g world st k v ms lt small (λ n l e. absurd (let h = st.apart.headers o th.live in omega arith))) world (record { obj = refl; args = λ u. refl })
-            (record {
-              regs = λ u _ r. refl;
-              win = λ u _. refl;
-              passed = λ u _ o p b _ q. q;
-              sole = λ u _ r _ p. loses refl;
-              cells = λ u _ r _ n. refl;
-              built = λ u _ b e. (e, refl);
-              within = λ u _ b e j n. stored_within x code s ls g world st k v ms lt u b j e n;
-            })
+            (others_stay s world st.heap g.words words t (λ u _ b e j n. stored_within x code s ls g world st k v ms lt u b j e n))
             wt st.inv (subst (λ c. Shows x s st.cells st.elements c world) (sym ce) sim) (locks_kept x code s ls g world st t words m' refl world (record { obj = refl; mutex = refl; args = λ u. refl }))
             (λ _. runs' (heap_now st.heap words) (made_turn g t words m')) (λ q. absurd (cc)) (room_of code s g tr may words m' done)),
         Silently (record { obj = refl; mutex = refl; passed = λ o p u b q. q; sole = λ u r e. (e, refl) }),

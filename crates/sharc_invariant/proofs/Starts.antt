@@ -1,5 +1,5 @@
 -- Start keeps the invariant: a thread loads its function, and then its argument, and enters it.
-use Rattle.sharc_invariant.proofs.{Imports.{◌≡◌, ℕ, ℤ, pos, suc, ◌+◌, ◌*◌, ◌^◌, ◌<◌, ◌≢◌, ◌⊎◌, ◌&&◌, Bool, true, false, cond, List, Some, None, refl, sym, ap, ◌∙◌, subst, inl, inr, ⊎_elim, arith, cases_eq, nat_tests, length-set, get_or-set_same, get_or-set_other, set-get_or, fun_ext, length, slice_index, slice_index_or, slice_set, nat_lt, ◌==◌, THREADS, Load, HeldMutex, object_of, Kind, Read, Write, Accesses, note_of, FRAMES, Code, Parameter, Shape, At, Frame, RunsOn, Stage, Rests, Looks, Clears, Makes, Empties, Lowers, FreeLooks, FreeClears, Uncounts, Links, Names, Hands, Begins, Enters, Withdraws, WithdrawsFrom, Leaves, Wakes, int_of, Fits, function_at, state_word, function_word, argument_word, Machine, Asks, reference_of, function_of, instr_at, no_frame, step_of, at_stage, called, trapped, with_parameter, entered, start, turn, counted, most_refs, Turn, Global, put, MayTurn, after_turn, one_thread, bounds, Instr, put_same, put_other, put_all, Targets, nothing, Empty, Refers, Unknown, Label, Labels, Less, HasBase, IsWellTyped, Fine, MayStart, entry_label, refs_in, TypedReference, Holder, RegisterOf, ArgumentOf, LogOf, Staged, In, Slot, CellOf, World, Shut, Sole, WorldInvariant, in_ref, none, place, shift, MachineView, conc_of, lang_of, Shows, is_first, is_unread, if_reference, note_number, register_of, argument_of, staged_of, noted_by, logged, is_ended, has_withdrawn, making_of, Silently, made_turn, KeepsOthers, State, View, view_of, Runs, Threads, Firsts, SpawnsNow, EntryStands, NumberStands, TopStands, StartStands, FramesStand, GateStands, StageStands, OnStart, label_now, frame_at, refs_at, types_at, size_of_run, Turned, ne_eq}, Effects.{place_same, place_other, shift_ok}, Frames.{less_stands, entry_kept, number_kept}, Quiet.{KeepsThread, heap_now, started_same, sum_up, kept_state, label_held, freed_held}, Others.{OnHold, loses}, Turns.{asks_turn, room_of}, Own.{closed_less, runs_at, refs_most, ints_most}, Plain.{same_words, same_others}, Filled.free_shut, Seen.reg_stored, BitTurns.going_on}
+use Rattle.sharc_invariant.proofs.{Imports.{◌≡◌, ℕ, ℤ, pos, suc, ◌+◌, ◌*◌, ◌^◌, ◌<◌, ◌≢◌, ◌⊎◌, ◌&&◌, Bool, true, false, cond, List, Some, None, refl, sym, ap, ◌∙◌, subst, inl, inr, ⊎_elim, arith, cases_eq, nat_tests, length-set, get_or-set_same, get_or-set_other, set-get_or, fun_ext, length, slice_index, slice_index_or, slice_set, nat_lt, ◌==◌, THREADS, Load, HeldMutex, object_of, Kind, Read, Write, Accesses, note_of, FRAMES, Code, Parameter, Shape, At, Frame, RunsOn, Stage, Rests, Makes, Enters, int_of, Fits, function_at, state_word, function_word, argument_word, Machine, Asks, reference_of, function_of, instr_at, no_frame, step_of, at_stage, called, trapped, with_parameter, entered, start, turn, counted, most_refs, Turn, Global, put, MayTurn, after_turn, one_thread, bounds, Instr, put_same, put_other, put_all, Targets, nothing, Empty, Refers, Unknown, Label, Labels, Less, HasBase, IsWellTyped, Fine, MayStart, entry_label, refs_in, TypedReference, Holder, RegisterOf, ArgumentOf, LogOf, Staged, In, Slot, CellOf, World, Shut, Sole, WorldInvariant, in_ref, none, place, shift, MachineView, conc_of, lang_of, Shows, is_first, is_unread, if_reference, note_number, register_of, argument_of, staged_of, noted_by, logged, is_ended, has_withdrawn, making_of, Silently, made_turn, KeepsOthers, State, View, view_of, Runs, Threads, Firsts, SpawnsNow, EntryStands, NumberStands, TopStands, StartStands, FramesStand, GateStands, StageStands, OnStart, label_now, frame_at, refs_at, types_at, size_of_run, Turned, ne_eq}, Effects.{place_same, place_other, shift_ok}, Frames.{less_stands, entry_kept, number_kept}, Quiet.{KeepsThread, heap_now, started_same, sum_up, kept_state, label_held, freed_held}, Others.{OnHold, loses}, Turns.{asks_turn, room_of}, Own.{closed_less, runs_at, refs_most, ints_most}, Plain.{same_words, same_others, sim_same}, Filled.free_shut, Seen.reg_stored, BitTurns.going_on}
 use Rattle.sharc_tree.specs.declared.trap.Trap.{Trap}
 
 -- ---- the machine that enters a function
@@ -82,23 +82,6 @@ arg_stored x s cells elements c w sim t args et eu =
       shadows = sim.shadows;
       stale = sim.stale;
     }
-
-sim_own : (x : Targets) (s : Shape) (cells elements : ℕ → ℕ) (c : MachineView) (w : World) (regs : ℕ → ℕ → ℕ) (args : ℕ → ℕ) → ((u i : ℕ) → c.regs u i ≡ regs u i) → ((u : ℕ) → c.args u ≡ args u)
-    → Shows x s cells elements c w → Shows x s cells elements (record c { regs = regs; args = args }) w
-sim_own x s cells elements c w regs args e a h = record {
-  regs = λ u i. h.regs u i ∙ e u i;
-  args = λ u. h.args u ∙ a u;
-  logs = h.logs;
-  staged = h.staged;
-  pointers = h.pointers;
-  others = h.others;
-  integers = h.integers;
-  counts = h.counts;
-  lengths = h.lengths;
-  mutexes = h.mutexes;
-  shadows = h.shadows;
-  stale = h.stale;
-}
 
 module _ (x : Targets) (code : Code) (s : Shape) (ls : Labels) (wt : IsWellTyped x code ls) (fits : Fits code s) (g : Global Machine) (world : World) (st : State x code s ls g world) (tr : Turn)
     (may : MayTurn bounds (one_thread code s) g tr) (site : ℕ) (is : instr_at code (g.threads tr.thread).at.pc ≡ Instr.Start site) where
@@ -256,7 +239,7 @@ module _ (x : Targets) (code : Code) (s : Shape) (ls : Labels) (wt : IsWellTyped
         ∙ sym (args_own m1 refl refl refl refl) ∙ ap (argument_of code now) (sym e))
         (λ (ne : u ≡ t → ⊥). sym (args_other m1 refl refl refl refl u ne))
         (cases_eq u t) in
-        let sim : Shows x s st.cells st.elements (conc_of code now) world = subst (λ c. Shows x s st.cells st.elements c world) (sym (conc_now m1 refl refl refl refl)) (sim_own x s st.cells st.elements c world (regs_now m1 refl refl refl refl) (argument_of code now) regs args st.sim) in (
+        let sim : Shows x s st.cells st.elements (conc_of code now) world = subst (λ c. Shows x s st.cells st.elements c world) (sym (conc_now m1 refl refl refl refl)) (sim_same x s st.cells st.elements c world (regs_now m1 refl refl refl refl) (argument_of code now) regs args st.sim) in (
           world,
           subst (λ y. State x code s ls y world) (sym done) (kept_state x code s ls g world st t may.started g.words m1 own1 (same_words x code s ls g world st) world refl refl (same_others s world st.heap g.words t) wt st.inv sim
               (threads_now m1 refl refl refl refl own1 world (λ u. inl refl)) (firsts_now m1 refl refl refl refl own1) (λ _. runs1) (λ q. absurd (cc)) (room_of code s g tr may g.words m1 done)),
@@ -381,7 +364,7 @@ module _ (x : Targets) (code : Code) (s : Shape) (ls : Labels) (wt : IsWellTyped
         let tops = entry_top (view_of st.elements world t m2) (subst (EntryStands (λ r. in_ref world (RegisterOf t r)) (λ r. (world.slots (In (RegisterOf t r))).ty) 0) (sym (may_start.reference nr)) (zero_at 0)) (λ r _. zero_at r) number in (
           world,
           enters ints m.refs li refl world refl refl refl (same_others s world st.heap g.words t) (λ u. inl refl) st.inv
-              (λ gone. sim_own x s st.cells st.elements c world (put c.regs t (register_of code m2)) (argument_of code now) (plain_refs ints)
+              (λ gone. sim_same x s st.cells st.elements c world (put c.regs t (register_of code m2)) (argument_of code now) (plain_refs ints)
               (λ u. ⊎_elim (λ (e : u ≡ t). ap (argument_of code g) e ∙ was ∙ sym gone ∙ ap (argument_of code now) (sym e)) (λ (ne : u ≡ t → ⊥). sym (args_other m2 refl refl refl refl u ne)) (cases_eq u t)) st.sim)
               tops done,
           Silently (record { obj = refl; mutex = refl; passed = λ o p u b q. q; sole = λ u r e. (e, refl) }),

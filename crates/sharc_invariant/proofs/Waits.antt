@@ -1,5 +1,5 @@
 -- Turns that try again, and those of conditions that no thread waits at.
-use Rattle.sharc_invariant.proofs.{Imports.{◌≡◌, ℕ, ℤ, pos, negsuc, ◌+◌, ◌^◌, ◌<◌, true, false, cond, ◌||◌, Some, None, refl, sym, ap, ◌∙◌, subst, ⊎_elim, arith, or_lt, pow_below, fun_ext, bit_or, length, slice_index, slice_set, nat_lt, ◌==◌, THREADS, Load, Swap, Or, Code, Cell, Instr, Shape, Stop, Trap, Fits, state_word, Machine, Local, Asks, instr_at, int, word, goes, fails, stopped, joined, join, woken, is_held, step_of, turn, Turn, Global, MayTurn, after_turn, one_thread, bounds, waits_in, put_same, Targets, Field, field_in, is_pointer, is_mutex, Waiters, Gate, Holds, LessGate, Closed, Label, Labels, Leads, gated, IsWellTyped, World, Shut, Sole, RegisterOf, in_ref, set_win, conc_of, Shows, FitsContent, cell_at, Silently, made_turn, State, View, view_of, FramesStand, GateStands, object_of_cell, number_in, Turned}, Quiet.heap_now, Turns.{asks_turn, local_turn, room_of}, Own.{is_single, runs, rests, top, gate, fine, begun_before, runs_at, closed_less}, Plain.{register_plain, is_shut, going, plain_state, jump_state, stop_state}, Stores.{index_put, cell_store, stored_words, stored_within}, Seen.integer_stored, Cells.cell_there, Held.held_gate, Accesses.{loaded_words, windowed_state, silent_window}}
+use Rattle.sharc_invariant.proofs.{Imports.{◌≡◌, ℕ, ℤ, pos, negsuc, ◌+◌, ◌^◌, ◌<◌, true, false, cond, ◌||◌, Some, None, refl, sym, ap, ◌∙◌, subst, ⊎_elim, arith, or_lt, pow_below, fun_ext, bit_or, length, slice_index, slice_set, nat_lt, ◌==◌, THREADS, Load, Swap, Or, Code, Cell, Instr, Shape, Stop, Trap, Fits, state_word, Machine, Local, Asks, instr_at, int, word, goes, fails, stopped, joined, join, woken, is_held, step_of, turn, Turn, Global, MayTurn, after_turn, one_thread, bounds, waits_in, put_same, Targets, Field, field_in, is_pointer, is_mutex, Waiters, Gate, Holds, LessGate, Closed, Label, Labels, Leads, IsWellTyped, World, Shut, Sole, RegisterOf, in_ref, set_win, conc_of, Shows, FitsContent, cell_at, Silently, made_turn, State, View, view_of, FramesStand, GateStands, object_of_cell, number_in, Turned}, Quiet.heap_now, Turns.{asks_turn, local_turn, room_of}, Own.{is_single, runs, rests, top, gate, fine, begun_before, runs_at, closed_less}, Plain.{register_plain, is_shut, plain_state, jump_state, stop_state, keeps_own}, Stores.{index_put, cell_store, stored_words, stored_within}, Seen.integer_stored, Cells.cell_there, Held.held_gate, Accesses.{loaded_words, windowed_state, silent_window}}
 use Rattle.sharc_tree.specs.declared.trap.Trap.TheVariants as traps
 
 module _ (x : Targets) (code : Code) (s : Shape) (ls : Labels) (wt : IsWellTyped x code ls) (fits : Fits code s) (g : Global Machine) (world : World) (st : State x code s ls g world) (tr : Turn)
@@ -42,22 +42,7 @@ module _ (x : Targets) (code : Code) (s : Shape) (ls : Labels) (wt : IsWellTyped
         let rest = rests x code s ls wt g world st t may.started may.next.runs i is single in
         let begun = begun_before x code s ls wt g world st t may.started may.next.runs i is single in
         let rn = runs x code s ls wt g world st t may.started may.next.runs i is single in
-        settled m' e (plain_state x code s ls wt g world st t may.started may.next.runs i is single m' (record {
-          number = refl;
-          held = refl;
-          heads = refl;
-          notes = refl;
-          table = (st.threads t).has.table;
-          stage = rest;
-          rests = rest;
-          refs = refl;
-          ints = refl;
-          frames = refl;
-          begun_before = begun;
-          begun = begun;
-          ended_before = going x code s ls wt g world st t may.started may.next.runs i is single;
-          ended = refl;
-        }) refl refl
+        settled m' e (plain_state x code s ls wt g world st t may.started may.next.runs i is single m' (keeps_own x code s ls wt g world st t may.started may.next.runs i is single m' refl refl refl refl begun refl) refl refl
         (λ _. runs_at x code s ls st.elements world (heap_now st.heap g.words) (made_turn g t g.words m') t m' rn.names rest (top x code s ls wt g world st t may.started may.next.runs i is single) (below_fails rn.below)
         (subst (GateStands s world t m') (sym gt) shut) rn.room)
         (λ q. absurd (cc)) (room_of code s g tr may g.words m' e))
