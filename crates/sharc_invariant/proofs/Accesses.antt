@@ -1,5 +1,5 @@
 -- Loads and stores of cells, from the real words up.
-use Rattle.sharc_invariant.proofs.{Imports.{◌≡◌, ℕ, ℤ, pos, negsuc, suc, ◌+◌, ◌-◌, ◌^◌, ◌<◌, Bool, true, false, List, Some, None, refl, sym, ap, ◌∙◌, subst, arith, ltb-true, nat_tests, length-set, set-get_or, fun_ext, length, slice_index, slice_set, nat_lt, Load, Swap, Code, Cell, Width, Char, Int, Long, Instr, Shape, At, Frame, word_of, int_of, holds, value_bits, Fits, first_cell, Own as Own', Machine, next, Asks, step_of, instr_at, int, word, goes, accessed, set_int, may_go, turn, Turn, Global, put, MayTurn, after_turn, one_thread, bounds, put_same, put_other, HeldMutex, Targets, Field, field_in, is_mutex, is_pointer, Integer, Within, Gate, Closed, Holds, Loaded, HoldsLoaded, SoleGate, Label, Labels, LessGate, Leads, gated, set_number, IsNotSole, IsWellTyped, HasCell, IsInt, IsAccess, RegisterOf, CellOf, World, Window, Shut, Sole, IsLoaded, WinOk, Right, base_of, in_ref, set_win, Built, InBlock, lang_of, conc_of, Shows, register_of, FitsContent, cell_at, is_ended, has_returned, made_turn, IsThere, Silent, Effect, State, View, view_of, TopStands, FramesStand, GateStands, size_of_run, base_of_cell, object_of_cell, number_in, changes_objects}, Effects.set_win_ok, Quiet.{KeepsOwn, KeepsWords, heap_now, quiet_state, noted_same, conc_plain, put_self}, Turns.{asks_turn, room_of}, Own.{is_single, int_inside, runs, rests, top, gate, not_begun, runs_at}, Frames.less_stands, Plain.{register_plain, same_words, number_top, vals_below, view_set, keeps_own, with_own}, Stores.{index_put, cell_store, stored_words, stored_within}, Seen.integer_stored, Cells.cell_there, CheckTurns.sim_win, Rights.right, Others.loses}
+use Rattle.sharc_invariant.proofs.{Imports.{◌≡◌, ℕ, ℤ, pos, negsuc, suc, ◌+◌, ◌-◌, ◌^◌, ◌<◌, Bool, true, false, List, refl, sym, ap, ◌∙◌, subst, arith, ltb-true, nat_tests, length-set, set-get_or, fun_ext, length, slice_index, slice_set, nat_lt, Load, Swap, Code, Cell, Width, Char, Int, Long, Instr, Shape, At, Frame, word_of, int_of, holds, value_bits, Fits, first_cell, Own as Own', Machine, next, Asks, step_of, instr_at, int, word, goes, accessed, set_int, may_go, turn, Turn, Global, put, MayTurn, after_turn, one_thread, bounds, put_same, put_other, HeldMutex, Targets, Field, field_in, is_mutex, is_pointer, Integer, Within, Gate, Closed, Holds, Loaded, HoldsLoaded, SoleGate, Label, Labels, LessGate, Leads, gated, set_number, IsNotSole, IsWellTyped, HasCell, IsInt, IsAccess, RegisterOf, CellOf, World, Window, Shut, Sole, IsLoaded, WinOk, Right, base_of, in_ref, set_win, Built, InBlock, lang_of, conc_of, Shows, register_of, FitsContent, cell_at, is_ended, has_returned, made_turn, IsThere, Silent, Effect, State, View, view_of, TopStands, FramesStand, GateStands, size_of_run, base_of_cell, object_of_cell, number_in, changes_objects}, Effects.set_win_ok, Quiet.{KeepsOwn, KeepsWords, heap_now, quiet_state, noted_same, conc_plain, put_self}, Turns.{asks_turn, room_of}, Own.{is_single, int_inside, runs, rests, top, gate, not_begun, runs_at}, Frames.{less_stands, frames_same}, Plain.{register_plain, same_words, number_top, vals_below, view_set, keeps_own, with_own}, Stores.{index_put, cell_store, stored_words, stored_within}, Seen.integer_stored, Cells.cell_there, CheckTurns.sim_win, Rights.right, Others.loses}
 use Rattle.sharc_invariant.specs.Effect.{Accesses}
 
 abbrev sign_of : Bool → ℤ → ℤ → ℤ
@@ -158,12 +158,9 @@ module _ (x : Targets) (code : Code) (s : Shape) (ls : Labels) (wt : IsWellTyped
         set_win world t Shut,
         windowed_state m' Shut words (gated here Closed) (record { at = refl; refs = refl; ints = refl; frames = refl; own = refl }) done
             (stored_words x code s ls g world st k v ms lt back.1 (λ n l e. absurd (let h = st.apart.headers o th.live in omega arith))) (stored_within x code s ls g world st k v ms lt)
-            tt sim (gate_top x t view m.at.refs m.at.ints names here Closed top_here) below_machine leads refl (shut_gate (ls.at (m.at.pc + 1)).gate leads.gate m') refl,
+            tt sim (gate_top x t view m.at.refs m.at.ints names here Closed top_here) (frames_same x code ls t view m m' refl refl refl refl here.function below_here) leads refl (shut_gate (ls.at (m.at.pc + 1)).gate leads.gate m') refl,
         Accesses true (base_of_cell m c) j (may_access true c site f access) alone (silent_window Shut alone),
       )
-    where
-      below_machine : FramesStand x code ls tr.thread view (goes (accessed (g.threads tr.thread))) here.function
-      below_machine = elim here.function as (λ f. FramesStand x code ls tr.thread view (g.threads tr.thread) f → FramesStand x code ls tr.thread view (goes (accessed (g.threads tr.thread))) f) [ None ↦ λ h. h | Some f ↦ λ h. h ] below_here
 
   -- the words stay where one is loaded
   pub loaded_words : (k : ℕ) (m' : Machine) → after ≡ made_turn g tr.thread (slice_set g.words k (slice_index g.words k)) m' → after ≡ made_turn g tr.thread g.words m'
@@ -220,13 +217,10 @@ module _ (x : Targets) (code : Code) (s : Shape) (ls : Labels) (wt : IsWellTyped
       let gt : GateStands s (set_win world t win) t m' new = subst (GateStands s (set_win world t win) t m') (sym leads.gate) (loaded_window found c) in (
         set_win world t win,
         windowed_state m' win g.words (gated here (Loaded c)) (record { at = refl; refs = refl; ints = refl; frames = refl; own = refl }) done (same_words x code s ls g world st) (λ u b j _ _. refl) (rt, slot) st.sim
-            (gate_top x t view m.at.refs m.at.ints names here (Loaded c) top_here) (below_pending found) leads refl gt refl,
+            (gate_top x t view m.at.refs m.at.ints names here (Loaded c) top_here) (frames_same x code ls t view m m' refl refl refl refl here.function below_here) leads refl gt refl,
         Accesses false (base_of_cell m c) j rt alone (silent_window win alone),
       )
     where
-      below_pending : (found : ℕ) → FramesStand x code ls tr.thread view (goes (record (g.threads tr.thread) { pending = found })) here.function
-      below_pending found = elim here.function as (λ f. FramesStand x code ls tr.thread view (g.threads tr.thread) f → FramesStand x code ls tr.thread view (goes (record (g.threads tr.thread) { pending = found })) f) [ None ↦ λ h. h | Some f ↦ λ h. h ] below_here
-
       loaded_window : (found : ℕ) (c : Cell) → GateStands s (set_win world tr.thread (IsLoaded (base_of_cell (g.threads tr.thread) c) (number_in (g.threads tr.thread) c) found)) tr.thread (goes (record (g.threads tr.thread) { pending = found })) (Loaded c)
       loaded_window found (Cell.Global a b) = put_same world.win t (IsLoaded (base_of_cell m (Cell.Global a b)) (number_in m (Cell.Global a b)) found)
       loaded_window found k = put_same world.win t (IsLoaded (base_of_cell m k) (number_in m k) found)

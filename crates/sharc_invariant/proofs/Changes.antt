@@ -1,17 +1,12 @@
 -- A turn that changes an object, a block or what the thread is in the middle of: what it leaves of the invariant is the same for all.
-use Rattle.sharc_invariant.proofs.{Imports.{◌≡◌, ℕ, ◌+◌, ◌*◌, ◌^◌, ◌<◌, ◌≤◌, ◌≢◌, true, false, List, refl, sym, ap, ◌∙◌, subst, inl, fun_ext, length, slice_index, ◌==◌, THREADS, HeldMutex, IsHeldLog, object_of, Read, Write, Kind, ListsNoted, epoch_of, Code, Shape, granules, Machine, reference_of, may_go, counted, Global, put, put_same, put_other, put_all, sum_to, Targets, cells_of, Labels, IsWellTyped, RegisterOf, ArgumentOf, In, World, in_ref, WorldInvariant, Heap, conc_of, Shows, Apart, register_of, argument_of, staged_of, noted_by, logged, lang_of, made_turn, made_conc, KeepsOthers, StopStands, State, HeapStands, Locks, IsThread, Runs, SpawnsNow, size_of_run, Kept, ObjectState, top_word, first_cell, head_of}, Quiet.{firsts_stay, reserves_kept, threads_stand, function_stays, argument_stays, begins_stay, started_stay, args_stay, heap_now, heap_stays, locks_same}}
+use Rattle.sharc_invariant.proofs.{Imports.{◌≡◌, ℕ, ◌+◌, ◌*◌, ◌^◌, ◌<◌, ◌≤◌, ◌≢◌, true, false, List, refl, sym, ap, ◌∙◌, subst, inl, fun_ext, length, slice_index, ◌==◌, THREADS, HeldMutex, IsHeldLog, object_of, Read, Write, Kind, epoch_of, Code, Shape, granules, Machine, reference_of, may_go, counted, Global, put, put_same, put_other, put_all, sum_to, Targets, cells_of, Labels, IsWellTyped, RegisterOf, ArgumentOf, In, World, in_ref, WorldInvariant, Heap, conc_of, Shows, Apart, register_of, argument_of, staged_of, noted_by, logged, lang_of, made_turn, made_conc, KeepsOthers, StopStands, State, HeapStands, Locks, Runs, SpawnsNow, size_of_run, Kept, ObjectState, top_word, first_cell, head_of}, Quiet.{firsts_stay, reserves_kept, threads_stand, function_stays, argument_stays, begins_stay, started_stay, args_stay, heap_now, heap_stays, locks_same, thread_kept, KeepsSizes}}
 
 -- what the thread of the turn keeps for itself
 pub record KeepsPart (m m' : Machine) : Type 0 where
-  pub number : m'.own.number ≡ m.own.number
+  pub sizes : KeepsSizes m m'
   pub held : m'.own.held ≡ m.own.held
   pub heads : length m'.own.heads ≡ length m.own.heads
-  pub notes : length m'.own.table.notes ≡ length m.own.table.notes
-  pub table : ListsNoted m'.own.table
   pub spawns : (n : ℕ) → SpawnsNow m'.own.stage n → SpawnsNow m.own.stage n
-  pub refs : length m'.refs ≡ length m.refs
-  pub ints : length m'.ints ≡ length m.ints
-  pub frames : length m'.frames ≡ length m.frames
   pub begun_before : (m.at.pc == 0) ≡ false
   pub begun : (m'.at.pc == 0) ≡ false
 
@@ -66,18 +61,6 @@ module _ (x : Targets) (code : Code) (s : Shape) (ls : Labels) (wt : IsWellTyped
 
   module _ (cells' elements' : ℕ → ℕ) (heap' : Heap) (w' : World) (k : KeepsOthers s world w' st.heap heap' g.words words t) (args : (u : ℕ) → w'.slots (In (ArgumentOf u)) ≡ world.slots (In (ArgumentOf u)))
       (same_elements : (u r : ℕ) → u ≢ t → elements' (in_ref world (RegisterOf u r)) ≡ st.elements (in_ref world (RegisterOf u r))) where
-    has_now : IsThread code s t m'
-    has_now = let h = (st.threads t).has in record {
-      number = own.number ∙ h.number;
-      log = subst IsHeldLog (sym own.held) h.log;
-      refs = own.refs ∙ h.refs;
-      ints = own.ints ∙ h.ints;
-      frames = own.frames ∙ h.frames;
-      heads = own.heads ∙ h.heads;
-      notes = own.notes ∙ h.notes;
-      table = own.table;
-    }
-
     pub changed_state : WorldInvariant (size_of_run code s) (lang_of x) w' → Shows x s cells' elements' (conc_of code now) w' → Apart s w'.obj cells' → HeapStands s cells' now w'.obj heap' → Locks x s cells' w' now
         → w'.obj 0 ≡ world.obj 0 → cells' 0 ≡ st.cells 0
         → ((o : ℕ) → o ≢ 0 → (w'.obj o).live ≡ true → ((w'.obj o).global ≡ false) × ((w'.obj o).ty.target < length x.rows))
@@ -97,7 +80,8 @@ module _ (x : Targets) (code : Code) (s : Shape) (ls : Labels) (wt : IsWellTyped
           locks = locks;
           threads = threads_stand x code s ls wt g world st t on words m' elements' heap' w' k same_elements (λ u n _ _ h. reserves_kept g.words words kw.low u n h)
               (λ u n _ _ h. (function_stays x code s ls g world st t words m' kw.low n h.few, argument_stays x code s ls g world st t words m' kw.low n h.few))
-              (λ u _ on'. function_stays x code s ls g world st t words m' kw.low u (st.begins.few u on')) has_now (λ u _. inl (started_same u)) runs over;
+              (λ u _ on'. function_stays x code s ls g world st t words m' kw.low u (st.begins.few u on'))
+              (thread_kept code s t m m' (st.threads t).has own.sizes (subst IsHeldLog (sym own.held) (st.threads t).has.log) own.heads) (λ u _. inl (started_same u)) runs over;
           begins = begins_stay x code s ls g world st t words m' kw.low w' args own.spawns;
           firsts = firsts_stay x ls g st.firsts t words m' kw.low started_same own.begun own.spawns;
           globals = globals ∙ st.globals;

@@ -1,5 +1,5 @@
 -- Turns that change no word: registers alone, tests and jumps.
-use Rattle.sharc_invariant.proofs.{Imports.{◌≡◌, ℕ, ℤ, pos, suc, ◌+◌, ◌<◌, ◌≤◌, true, false, cond, List, Option, Some, None, refl, sym, ap, ◌∙◌, subst, arith, get_or-set_same, get_or-set_other, length-set, fun_ext, length, slice_index, FRAMES, Code, Instr, Shape, Stop, Frame, RunsOn, Tries, Stopped, Ended, Rests, Machine, instr_at, goes, goes_to, set_int, stopped, may_go, counted, Global, put, put_same, put_other, put_all, Targets, Closed, Number, Label, Labels, Less, LessGate, Leads, set_number, IsWellTyped, IsInt, World, Shut, Heap, Kept, MachineView, conc_of, Shows, register_of, is_ended, made_turn, KeepsOthers, StopStands, BelowStands, State, View, view_of, vals_of, NumberStands, TopStands, FramesStand, GateStands, Runs, refs_at, types_at, Own as Own', ListsNoted, ◌==◌, argument_of, Built, InBlock, ◌≢◌}, Frames.{less_stands, Agrees, Low, callers_agree}, Quiet.{KeepsOwn, KeepsWords, KeepsWorld, heap_now, quiet_state, freed_held, noted_same, conc_plain}, Others.{stop_at, OnHold, loses}, Own.{is_single, closed_less, runs_at, int_inside, runs, rests, top, gate, not_begun, begun_before}}
+use Rattle.sharc_invariant.proofs.{Imports.{◌≡◌, ℕ, ℤ, pos, suc, ◌+◌, ◌<◌, ◌≤◌, true, false, cond, List, Option, refl, sym, ap, ◌∙◌, subst, arith, get_or-set_same, get_or-set_other, length-set, fun_ext, length, slice_index, Code, Instr, Shape, Stop, RunsOn, Tries, Stopped, Ended, Rests, Machine, instr_at, goes, goes_to, set_int, stopped, may_go, counted, Global, put, put_same, put_other, put_all, Targets, Closed, Number, Label, Labels, Less, LessGate, Leads, set_number, IsWellTyped, IsInt, World, Shut, Heap, Kept, MachineView, conc_of, Shows, register_of, is_ended, made_turn, KeepsOthers, StopStands, State, View, view_of, vals_of, NumberStands, TopStands, FramesStand, GateStands, Runs, refs_at, types_at, Own as Own', ◌==◌, argument_of, Built, InBlock, ◌≢◌}, Frames.{less_stands, frames_agree, frames_same}, Quiet.{KeepsOwn, KeepsWords, KeepsWorld, heap_now, quiet_state, freed_held, noted_same, conc_plain, sizes_kept}, Others.{stop_at, OnHold, loses}, Own.{is_single, closed_less, runs_at, int_inside, runs, rests, top, gate, not_begun, begun_before}}
 
 -- ---- registers as they are seen
 pub register_plain : (code : Code) (m : Machine) → m.own.stage ≡ Rests → (i : ℕ) → register_of code m i ≡ slice_index m.refs i
@@ -15,19 +15,24 @@ same_words x code s ls g world st = record {
   kept = subst (λ f. Kept (record { first = 1 + s.globals; words = Rattle.sharc_code.specs.Layout.first_cell s }) (record st.heap { words = f })) (fun_ext st.heap_stands.words) st.heap_stands.kept;
 }
 
--- the world stays, and so do the words of the blocks that other threads build
-pub others_stay : (s : Shape) (w : World) (heap : Heap) (words words' : List ℕ) (t : ℕ)
+-- the world stays, and so do the blocks that other threads build, with their words
+pub others_heap : (s : Shape) (w : World) (heap heap' : Heap) (words words' : List ℕ) (t : ℕ) → ((u : ℕ) → u ≢ t → (b : ℕ) → heap.state b ≡ Built u → (heap'.state b ≡ Built u) × (heap'.size b ≡ heap.size b))
     → ((u : ℕ) → u ≢ t → (b : ℕ) → heap.state b ≡ Built u → (j : ℕ) → InBlock (record { first = 1 + s.globals; words = Rattle.sharc_code.specs.Layout.first_cell s }) heap b j → slice_index words' j ≡ slice_index words j)
-    → KeepsOthers s w w heap (heap_now heap words') words words' t
-others_stay s w heap words words' t within = record {
+    → KeepsOthers s w w heap heap' words words' t
+others_heap s w heap heap' words words' t built within = record {
   regs = λ u _ r. refl;
   win = λ u _. refl;
   passed = λ u _ o p k _ h. h;
   sole = λ u _ r _ p. loses refl;
   cells = λ u _ r _ i. refl;
-  built = λ u _ h e. (e, refl);
+  built = built;
   within = within;
 }
+
+pub others_stay : (s : Shape) (w : World) (heap : Heap) (words words' : List ℕ) (t : ℕ)
+    → ((u : ℕ) → u ≢ t → (b : ℕ) → heap.state b ≡ Built u → (j : ℕ) → InBlock (record { first = 1 + s.globals; words = Rattle.sharc_code.specs.Layout.first_cell s }) heap b j → slice_index words' j ≡ slice_index words j)
+    → KeepsOthers s w w heap (heap_now heap words') words words' t
+others_stay s w heap words words' t within = others_heap s w heap (heap_now heap words') words words' t (λ u _ b e. (e, refl)) within
 
 pub same_others : (s : Shape) (w : World) (heap : Heap) (words : List ℕ) (t : ℕ) → KeepsOthers s w w heap (heap_now heap words) words words t
 same_others s w heap words t = others_stay s w heap words words t (λ u _ b _ j _. refl)
@@ -112,16 +117,11 @@ module _ (x : Targets) (code : Code) (s : Shape) (ls : Labels) (wt : IsWellTyped
   pub keeps_own : (m' : Machine) → m'.own ≡ with_own m'.own (g.threads t).own → length m'.refs ≡ length (g.threads t).refs → length m'.ints ≡ length (g.threads t).ints → length m'.frames ≡ length (g.threads t).frames
       → (m'.at.pc == 0) ≡ false → is_ended m'.at.state ≡ false → KeepsOwn (g.threads t) m'
   keeps_own m' own refs ints frames begun ended = record {
-    number = ap (λ (o : Own'). o.number) own;
+    sizes = sizes_kept (g.threads t) m' (st.threads t).has.table (ap (λ (o : Own'). record m'.own { number = o.number; table = o.table }) own) refs ints frames;
     held = ap (λ (o : Own'). o.held) own;
     heads = ap (λ (o : Own'). o.heads) own;
-    notes = ap (λ (o : Own'). length o.table.notes) own;
-    table = subst ListsNoted (sym (ap (λ (o : Own'). o.table) own)) (st.threads t).has.table;
     stage = rests x code s ls wt g world st t on go i is single;
     rests = ap (λ (o : Own'). o.stage) own ∙ rests x code s ls wt g world st t on go i is single;
-    refs = refs;
-    ints = ints;
-    frames = frames;
     begun_before = begun_before x code s ls wt g world st t on go i is single;
     begun = begun;
     ended_before = going;
@@ -133,12 +133,8 @@ module _ (x : Targets) (code : Code) (s : Shape) (ls : Labels) (wt : IsWellTyped
   jump_state pc k gt less fn kg room tp few =
       plain_state (moved pc) (keeps_own (moved pc) refl refl refl refl (not_begun x code s ls wt g world st t on go i is single pc (less.function ∙ fn)) refl) refl refl
       (λ _. next_runs world (heap_now st.heap g.words) (made_turn g t g.words (moved pc)) (moved pc) (runs x code s ls wt g world st t on go i is single).names k (rests x code s ls wt g world st t on go i is single) fn kg less
-      tp (frames_place (moved pc) here.function below_here) (is_shut gt) room)
+      tp (frames_same x code ls t view (g.threads t) (moved pc) refl refl refl refl here.function below_here) (is_shut gt) room)
       (λ e. absurd (cc)) few
-    where
-      frames_place : (m' : Machine) (f : Option ℕ) → FramesStand x code ls t view (g.threads t) f → FramesStand x code ls t view (moved pc) f
-      frames_place m' None h = h
-      frames_place m' (Some f) h = h
 
   -- a stop
   pub stop_state : (why : Stop) → world.win t ≡ Shut → g.made t + 1 ≤ 100000000 → State x code s ls (made_turn g t g.words (stopped (g.threads t) why)) world
@@ -176,24 +172,15 @@ module _ (x : Targets) (code : Code) (s : Shape) (ls : Labels) (wt : IsWellTyped
 
   pub vals_below : (r : ℕ) (z : ℤ) (v' : View) → v' ≡ record view { vals = put (vals_of (g.threads t)) ((g.threads t).at.ints + r) z } → (m' : Machine) → m'.frames ≡ (g.threads t).frames → m'.at.depth ≡ (g.threads t).at.depth
       → m'.at.refs ≡ (g.threads t).at.refs → m'.at.ints ≡ (g.threads t).at.ints → (f : Option ℕ) → FramesStand x code ls t view (g.threads t) f → FramesStand x code ls t v' m' f
-  vals_below r z v' e m' ef ed er ei None h = (ed ∙ h.0, er ∙ h.1, ei ∙ h.2)
-  vals_below r z v' e m' ef ed er ei (Some f) h =
-      let base = (g.threads t).at.ints in
-      let v1 : View = record view { vals = put (vals_of m) (base + r) z } in
-      let a : Agrees t view v1 (Low m.at.refs) (Low base) = record {
+  vals_below r z v' e m' ef ed er ei f h =
+      let v1 : View = record view { vals = put (vals_of m) (m.at.ints + r) z } in
+      subst (λ v. FramesStand x code ls t v m' f) (sym e) (frames_agree x code ls t view v1 m m' (record {
         refs = λ j _. refl;
         types = λ j _. refl;
-        vals = λ j lt. sym (put_other (vals_of m) (base + r) j z (λ q. omega arith));
+        vals = λ j lt. sym (put_other (vals_of m) (m.at.ints + r) j z (λ q. omega arith));
         elements = λ j _. refl;
         passed = λ o p b _ k. k;
-      } in
-      let k = callers_agree x code ls t view v1 m.frames m.at.depth m.at.refs base f a h.0 in
-      let P : View → List Frame → ℕ → ℕ → ℕ → Type 0 = λ v fs d b c. BelowStands x code ls t v fs d b c f in (
-        subst (λ v. P v m'.frames m'.at.depth m'.at.refs m'.at.ints) (sym e) (subst (λ fs. P v1 fs m'.at.depth m'.at.refs m'.at.ints) (sym ef) (subst (λ d. P v1 m.frames d m'.at.refs m'.at.ints) (sym ed)
-            (subst (λ b. P v1 m.frames m.at.depth b m'.at.ints) (sym er) (subst (λ c. P v1 m.frames m.at.depth m.at.refs c) (sym ei) k)))),
-        subst (λ d. d ≤ FRAMES) (sym ed) h.1,
-        h.2,
-      )
+      }) ef ed er ei f h)
 
   pub numbers_state : (r : ℕ) (z : ℤ) (n : Number) (l : Label) (names : ℕ → ℤ) → l.function ≡ here.function → l.room ≡ here.room → here.gate ≡ Closed → IsInt code here r
       → TopStands x t view (g.threads t).at.refs (g.threads t).at.ints names l

@@ -1,5 +1,5 @@
 -- A print keeps the invariant: the count of prints is nobody's word.
-use Rattle.sharc_invariant.proofs.{Imports.{◌≡◌, ℕ, ◌+◌, ◌%◌, ◌^◌, ◌<◌, Some, None, refl, sym, ap, ◌∙◌, subst, arith, length-set, fun_ext, length, slice_index, slice_set, Add, epoch_of, Code, Shape, Fits, first_cell, prints_word, Machine, instr_at, int, printed, step_of, Turn, Global, put, MayTurn, after_turn, one_thread, bounds, Instr, put_other, put_all, Targets, Label, Labels, IsWellTyped, World, Kept, conc_of, Shows, register_of, Silently, made_turn, State, View, view_of, FramesStand, Turned}, Listed.store_ok, Quiet.{KeepsOwn, KeepsWords, heap_now, quiet_state, noted_same, conc_plain, put_self}, Turns.{asks_turn, room_of}, Own.{runs, rests, top, fine, not_begun}, Plain.{register_plain, is_shut, next_runs, keeps_own, others_stay}, Stores.index_put, Heaps.low_stored}
+use Rattle.sharc_invariant.proofs.{Imports.{◌≡◌, ℕ, ◌+◌, ◌%◌, ◌^◌, ◌<◌, refl, sym, ap, ◌∙◌, subst, arith, length-set, fun_ext, length, slice_index, slice_set, Add, epoch_of, Code, Shape, Fits, first_cell, prints_word, Machine, instr_at, int, printed, step_of, Turn, Global, put, MayTurn, after_turn, one_thread, bounds, Instr, put_other, put_all, Targets, Label, Labels, IsWellTyped, World, Kept, conc_of, Shows, register_of, made_turn, State, View, view_of, Turned}, Listed.store_ok, Quiet.{KeepsOwn, KeepsWords, heap_now, quiet_state, noted_same, conc_plain, put_self}, Turns.{asks_turn, room_of, unseen}, Own.{runs, rests, top, fine, not_begun}, Plain.{register_plain, is_shut, next_runs, keeps_own, others_stay}, Stores.index_put, Heaps.low_stored, Frames.frames_same}
 
 module _ (x : Targets) (code : Code) (s : Shape) (ls : Labels) (wt : IsWellTyped x code ls) (fits : Fits code s) (g : Global Machine) (world : World) (st : State x code s ls g world) (tr : Turn)
     (may : MayTurn bounds (one_thread code s) g tr) where
@@ -49,15 +49,9 @@ module _ (x : Targets) (code : Code) (s : Shape) (ls : Labels) (wt : IsWellTyped
       let sim2 : Shows x s st.cells st.elements (record (conc_of code g) { words = λ j. slice_index words j; regs = put (λ u. register_of code (g.threads u)) t (register_of code m') }) world =
       subst (λ r. Shows x s st.cells st.elements (record (conc_of code g) { words = λ j. slice_index words j; regs = r }) world) (sym regs)
       (subst (λ h. Shows x s st.cells st.elements (record (conc_of code g) { words = h }) world) (sym (fun_ext at)) sim1) in
-      let sim3 = subst (λ c. Shows x s st.cells st.elements c world) (sym (conc_plain code g t words m' (noted_same m m' refl rest rest own.ended_before own.ended))) sim2 in (
-        world,
-        subst (λ y. State x code s ls y world) (sym done) (quiet_state x code s ls g world st t on words m' own kw world (record { obj = refl; mutex = refl; args = λ u. refl })
-            (others_stay s world st.heap g.words words t (λ u _ b e j n. at j ∙ put_other (λ i. slice_index g.words i) 3 j v (λ q. let lo = n.0 in absurd (omega arith))))
-            wt st.inv sim3
-            (λ _. next_runs x code s ls wt g world st t on go i is refl world (heap_now st.heap words) (made_turn g t words m') m' rn.names here rest refl f.0 f.1 tp (below_printed found rn.below) shut rn.room)
-            (λ q. absurd (cc)) (room_of code s g tr may words m' done)),
-        Silently (record { obj = refl; mutex = refl; passed = λ o p u b q. q; sole = λ u r e. (e, refl) }),
-      )
-    where
-      below_printed : (found : ℕ) → FramesStand x code ls tr.thread view (g.threads tr.thread) here.function → FramesStand x code ls tr.thread view (printed (g.threads tr.thread) (int (g.threads tr.thread) r) found) here.function
-      below_printed found = elim here.function as (λ f. FramesStand x code ls tr.thread view (g.threads tr.thread) f → FramesStand x code ls tr.thread view (printed (g.threads tr.thread) (int (g.threads tr.thread) r) found) f) [ None ↦ λ h. h | Some f ↦ λ h. h ]
+      let sim3 = subst (λ c. Shows x s st.cells st.elements c world) (sym (conc_plain code g t words m' (noted_same m m' refl rest rest own.ended_before own.ended))) sim2 in
+      unseen x code s ls g world tr _ done (quiet_state x code s ls g world st t on words m' own kw world (record { obj = refl; mutex = refl; args = λ u. refl })
+      (others_stay s world st.heap g.words words t (λ u _ b e j n. at j ∙ put_other (λ i. slice_index g.words i) 3 j v (λ q. let lo = n.0 in absurd (omega arith))))
+      wt st.inv sim3
+      (λ _. next_runs x code s ls wt g world st t on go i is refl world (heap_now st.heap words) (made_turn g t words m') m' rn.names here rest refl f.0 f.1 tp (frames_same x code ls t view m m' refl refl refl refl here.function rn.below) shut rn.room)
+      (λ q. absurd (cc)) (room_of code s g tr may words m' done))

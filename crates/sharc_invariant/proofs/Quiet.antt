@@ -1,55 +1,68 @@
 -- A turn that changes no thread's words, no object, no mutex and no block: what it leaves of the invariant is the same for all.
-use Rattle.sharc_invariant.proofs.{Imports.{◌≡◌, ℕ, pos, zero, suc, ◌+◌, ◌*◌, ◌^◌, ◌<◌, ◌≤◌, ◌≢◌, ◌⊎◌, ◌||◌, ◌&&◌, Bool, true, false, cond, List, Option, Some, None, refl, sym, ap, ◌∙◌, subst, inl, inr, ⊎_elim, arith, ltb-true, cases_eq, fun_ext, length, slice_index, nat_eq, nat_lt, ◌↔◌, ◌==◌, is_some, Contains, THREADS, HeldMutex, IsHeldLog, object_of, Read, Write, Kind, note_of, Accesses, ListsNoted, epoch_of, Code, Shape, Instr, Clear, Free, Stage, Rests, Links, int_of, top_word, next_thread_word, state_word, function_word, argument_word, granules, first_cell, Machine, reference_of, function_of, instr_at, ref, may_go, counted, Global, put, is_started, bounds, put_same, put_other, put_all, sum_to, Targets, nothing, field_in, is_mutex, cells_of, Gate, Holds, HoldsLoaded, SoleGate, Label, Labels, Fine, IsWellTyped, RegisterOf, ArgumentOf, In, TypedReference, ObjectState, Sole, World, in_ref, WorldInvariant, Heap, Kept, Live, is_freed, is_first, if_reference, note_number, conc_of, Shows, Apart, register_of, argument_of, is_unread, staged_of, noted_by, logged, is_ended, has_withdrawn, lang_of, cell_at, making_of, head_of, head_with, made_turn, made_conc, KeepsOthers, StopStands, block_for, State, View, view_of, HeapStands, Locks, Threads, Firsts, NumberStands, ThreadStands, IsThread, Runs, SpawnsNow, Reserves, EntryStands, FramesStand, GateStands, label_now, size_of_run, Looks, Clears, Empties, Lowers, FreeLooks, FreeClears, Uncounts, StageStands, data_granules}, Frames.{Agrees, Always, top_agrees, callers_agree}, Others.{stop_kept, stage_kept, operand, OnHold, map_clear, map_free}}
+use Rattle.sharc_invariant.proofs.{Imports.{◌≡◌, ℕ, pos, zero, suc, ◌+◌, ◌*◌, ◌^◌, ◌<◌, ◌≤◌, ◌≢◌, ◌⊎◌, ◌||◌, ◌&&◌, Bool, true, false, cond, List, Option, Some, None, refl, sym, ap, ◌∙◌, subst, inl, inr, ⊎_elim, arith, ltb-true, cases_eq, fun_ext, length, slice_index, nat_eq, nat_lt, ◌↔◌, ◌==◌, is_some, Contains, THREADS, HeldMutex, IsHeldLog, object_of, Read, Write, Kind, note_of, Accesses, ListsNoted, epoch_of, Code, Shape, Instr, Clear, Free, Stage, Rests, Links, int_of, top_word, next_thread_word, state_word, function_word, argument_word, granules, first_cell, Machine, reference_of, function_of, instr_at, ref, may_go, counted, Global, put, is_started, bounds, put_same, put_other, put_all, sum_to, Targets, nothing, field_in, is_mutex, cells_of, Gate, Holds, HoldsLoaded, SoleGate, Label, Labels, Fine, IsWellTyped, RegisterOf, ArgumentOf, In, TypedReference, ObjectState, Sole, World, in_ref, WorldInvariant, Heap, Kept, Live, is_freed, is_first, if_reference, note_number, conc_of, Shows, Apart, register_of, argument_of, is_unread, staged_of, noted_by, logged, is_ended, has_withdrawn, lang_of, cell_at, making_of, head_of, head_with, made_turn, made_conc, KeepsOthers, StopStands, block_for, State, View, view_of, HeapStands, Locks, Threads, Firsts, NumberStands, ThreadStands, IsThread, Runs, SpawnsNow, Reserves, EntryStands, FramesStand, GateStands, label_now, size_of_run, Looks, Clears, Empties, Lowers, FreeLooks, FreeClears, Uncounts, StageStands, data_granules, Own as Own'}, Frames.{Agrees, Always, top_agrees, callers_agree}, Others.{stop_kept, stage_kept, operand, OnHold, map_clear, map_free}}
+
+-- how long the lists of a thread's machine are, what its number is and what its table says of rows
+pub record KeepsSizes (m m' : Machine) : Type 0 where
+  pub number : m'.own.number ≡ m.own.number
+  pub notes : length m'.own.table.notes ≡ length m.own.table.notes
+  pub table : ListsNoted m'.own.table
+  pub refs : length m'.refs ≡ length m.refs
+  pub ints : length m'.ints ≡ length m.ints
+  pub frames : length m'.frames ≡ length m.frames
+
+-- a turn keeps them that leaves the number and the table
+pub sizes_kept : (m m' : Machine) → ListsNoted m.own.table → m'.own ≡ record m'.own { number = m.own.number; table = m.own.table } → length m'.refs ≡ length m.refs → length m'.ints ≡ length m.ints → length m'.frames ≡ length m.frames → KeepsSizes m m'
+sizes_kept m m' table own refs ints frames = record {
+  number = ap (λ (o : Own'). o.number) own;
+  notes = ap (λ (o : Own'). length o.table.notes) own;
+  table = subst ListsNoted (sym (ap (λ (o : Own'). o.table) own)) table;
+  refs = refs;
+  ints = ints;
+  frames = frames;
+}
+
+-- where it keeps them, they are as long as they must be
+pub thread_kept : (code : Code) (s : Shape) (t : ℕ) (m m' : Machine) → IsThread code s t m → KeepsSizes m m' → IsHeldLog m'.own.held → length m'.own.heads ≡ length m.own.heads → IsThread code s t m'
+thread_kept code s t m m' h sizes log heads = record {
+  number = sizes.number ∙ h.number;
+  log = log;
+  refs = sizes.refs ∙ h.refs;
+  ints = sizes.ints ∙ h.ints;
+  frames = sizes.frames ∙ h.frames;
+  heads = heads ∙ h.heads;
+  notes = sizes.notes ∙ h.notes;
+  table = sizes.table;
+}
 
 -- what every turn keeps of its thread here
 pub record KeepsThread (m m' : Machine) : Type 0 where
-  pub number : m'.own.number ≡ m.own.number
+  pub sizes : KeepsSizes m m'
   pub held : m'.own.held ≡ m.own.held
   pub heads : m'.own.heads ≡ m.own.heads
   pub making : making_of m'.own.stage ≡ making_of m.own.stage
-  pub notes : length m'.own.table.notes ≡ length m.own.table.notes
-  pub table : ListsNoted m'.own.table
-  pub refs : length m'.refs ≡ length m.refs
-  pub ints : length m'.ints ≡ length m.ints
-  pub frames : length m'.frames ≡ length m.frames
 
 -- what a turn keeps that may take a mutex or give one back
 pub record KeepsLengths (m m' : Machine) : Type 0 where
-  pub number : m'.own.number ≡ m.own.number
+  pub sizes : KeepsSizes m m'
   pub log : IsHeldLog m'.own.held
   pub heads : m'.own.heads ≡ m.own.heads
   pub making : making_of m'.own.stage ≡ making_of m.own.stage
-  pub notes : length m'.own.table.notes ≡ length m.own.table.notes
-  pub table : ListsNoted m'.own.table
-  pub refs : length m'.refs ≡ length m.refs
-  pub ints : length m'.ints ≡ length m.ints
-  pub frames : length m'.frames ≡ length m.frames
 
 lengths_kept : (m m' : Machine) → IsHeldLog m.own.held → KeepsThread m m' → KeepsLengths m m'
 lengths_kept m m' log own = record {
-  number = own.number;
+  sizes = own.sizes;
   log = subst IsHeldLog (sym own.held) log;
   heads = own.heads;
   making = own.making;
-  notes = own.notes;
-  table = own.table;
-  refs = own.refs;
-  ints = own.ints;
-  frames = own.frames;
 }
 
 -- what the thread of the turn keeps for itself
 pub record KeepsOwn (m m' : Machine) : Type 0 where
-  pub number : m'.own.number ≡ m.own.number
+  pub sizes : KeepsSizes m m'
   pub held : m'.own.held ≡ m.own.held
   pub heads : m'.own.heads ≡ m.own.heads
-  pub notes : length m'.own.table.notes ≡ length m.own.table.notes
-  pub table : ListsNoted m'.own.table
   pub stage : m.own.stage ≡ Rests
   pub rests : m'.own.stage ≡ Rests
-  pub refs : length m'.refs ≡ length m.refs
-  pub ints : length m'.ints ≡ length m.ints
-  pub frames : length m'.frames ≡ length m.frames
   pub begun_before : (m.at.pc == 0) ≡ false
   pub begun : (m'.at.pc == 0) ≡ false
   pub ended_before : is_ended m.at.state ≡ false
@@ -57,33 +70,23 @@ pub record KeepsOwn (m m' : Machine) : Type 0 where
 
 -- what it keeps where it takes a mutex or gives one back, or is in the middle of an instruction
 pub record KeepsSelf (m m' : Machine) : Type 0 where
-  pub number : m'.own.number ≡ m.own.number
+  pub sizes : KeepsSizes m m'
   pub log : IsHeldLog m'.own.held
   pub heads : m'.own.heads ≡ m.own.heads
   pub making : making_of m'.own.stage ≡ making_of m.own.stage
-  pub notes : length m'.own.table.notes ≡ length m.own.table.notes
-  pub table : ListsNoted m'.own.table
   pub staged : staged_of m'.own.stage ≡ staged_of m.own.stage
   pub spawns : (n : ℕ) → SpawnsNow m'.own.stage n → SpawnsNow m.own.stage n
-  pub refs : length m'.refs ≡ length m.refs
-  pub ints : length m'.ints ≡ length m.ints
-  pub frames : length m'.frames ≡ length m.frames
   pub begun_before : (m.at.pc == 0) ≡ false
   pub begun : (m'.at.pc == 0) ≡ false
 
 keeps_self : (m m' : Machine) → IsHeldLog m.own.held → KeepsOwn m m' → KeepsSelf m m'
 keeps_self m m' log own = record {
-  number = own.number;
+  sizes = own.sizes;
   log = subst IsHeldLog (sym own.held) log;
   heads = own.heads;
   making = ap making_of (own.rests ∙ sym own.stage);
-  notes = own.notes;
-  table = own.table;
   staged = ap staged_of (own.rests ∙ sym own.stage);
   spawns = λ n h. absurd (subst (λ y. SpawnsNow y n) own.rests h);
-  refs = own.refs;
-  ints = own.ints;
-  frames = own.frames;
   begun_before = own.begun_before;
   begun = own.begun;
 }
@@ -400,18 +403,6 @@ module _ (x : Targets) (code : Code) (s : Shape) (ls : Labels) (g : Global Machi
     heap_kept : HeapStands s st.cells now w'.obj (heap_now st.heap words)
     heap_kept = heap_stays s st.cells g world.obj w'.obj st.heap t words m' st.heap_stands obj kw.kept kw.top (λ b. head_same (g.threads t) m' b own.making own.heads)
 
-    has_now : IsThread code s t m'
-    has_now = let h = (st.threads t).has in record {
-      number = own.number ∙ h.number;
-      log = own.log;
-      refs = own.refs ∙ h.refs;
-      ints = own.ints ∙ h.ints;
-      frames = own.frames ∙ h.frames;
-      heads = ap (λ (hs : List ℕ). length hs) own.heads ∙ h.heads;
-      notes = own.notes ∙ h.notes;
-      table = own.table;
-    }
-
     abbrev heap' : Heap
     heap' = heap_now st.heap words
 
@@ -431,7 +422,8 @@ module _ (x : Targets) (code : Code) (s : Shape) (ls : Labels) (g : Global Machi
           apart = subst A (sym obj) st.apart;
           heap_stands = heap_kept;
           locks = locks;
-          threads = threads_stand x code s ls wt g world st t on words m' st.elements heap' w' k (λ u r _. refl) kw.reserved kw.handed kw.own has_now news runs over;
+          threads = threads_stand x code s ls wt g world st t on words m' st.elements heap' w' k (λ u r _. refl) kw.reserved kw.handed kw.own
+              (thread_kept code s t m m' (st.threads t).has own.sizes own.log (ap (λ (hs : List ℕ). length hs) own.heads)) news runs over;
           begins = begins;
           firsts = firsts;
           globals = ap (λ (f : ℕ → ObjectState). f 0) obj ∙ st.globals;
@@ -535,7 +527,7 @@ module _ (x : Targets) (code : Code) (s : Shape) (ls : Labels) (g : Global Machi
   later = made_turn g t words m'
 
   own' : KeepsLengths (g.threads t) m'
-  own' = record { number = own.number; log = own.log; heads = own.heads; making = own.making; notes = own.notes; table = own.table; refs = own.refs; ints = own.ints; frames = own.frames }
+  own' = record { sizes = own.sizes; log = own.log; heads = own.heads; making = own.making }
 
   started_now : (u : ℕ) → later.started u ≡ g.started u
   started_now = started_stay x code s ls g world st t words m' (λ j l a _. kw.low j l a)

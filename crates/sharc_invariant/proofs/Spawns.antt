@@ -1,5 +1,5 @@
 -- Spawn's first three turns keep the invariant: a number is given out, and the function and the argument are written.
-use Rattle.sharc_invariant.proofs.{Imports.{◌≡◌, ℕ, ℤ, pos, zero, suc, ◌+◌, ◌*◌, ◌^◌, ◌<◌, ◌≤◌, ◌≢◌, ◌&&◌, Bool, true, false, cond, List, Option, Some, None, refl, sym, ap, ◌∙◌, subst, inl, inr, ⊎_elim, arith, ltb-true, cases_eq, nat_tests, length-set, get_or-set_same, get_or-set_other, fun_ext, ◌%◌, length, slice_index, slice_set, nat_lt, nat_eq, ◌||◌, ◌==◌, THREADS, Swap, Add, HeldMutex, object_of, Kind, Read, Write, Accesses, note_of, epoch_of, FRAMES, Code, Shape, Frame, RunsOn, Stage, Rests, Makes, Lowers, Names, Hands, Begins, Withdraws, WithdrawsFrom, Leaves, holds, int_of, Char, Fits, next_thread_word, state_word, function_word, argument_word, first_cell, top_word, Machine, int, ref, set_int, handed, reference_of, function_of, instr_at, step_of, at_stage, stopped, numbered, argument, spawn, start, begun, turn, may_go, counted, Turn, Global, put, MayTurn, after_turn, one_thread, bounds, Register, Trap, Parameter, Instr, put_same, put_other, put_all, Targets, ObjectType, nothing, is_private, LessGate, Entry, Empty, Refers, Unknown, Number, Anything, Within, Indexes, OfElement, OfGlobal, Named, HasName, empty, set_number, Closed, Label, Labels, Leads, HasBase, IsShared, Passes, IsWellTyped, Fine, Window, TypedReference, Holder, RegisterOf, ArgumentOf, LogOf, Staged, In, Slot, CellOf, World, Shut, Sole, WorldInvariant, in_ref, none, place, shift, MachineView, conc_of, lang_of, Shows, is_first, is_unread, if_reference, note_number, register_of, argument_of, staged_of, noted_by, logged, is_ended, has_withdrawn, set_reg, making_of, store, Silently, made_turn, KeepsOthers, StopStands, State, IsSmall, View, view_of, vals_of, Runs, ThreadStands, Threads, Firsts, Reserves, SpawnsNow, EntryStands, NumberStands, TopStands, BelowStands, FramesStand, GateStands, StageStands, label_now, refs_at, types_at, size_of_run, Turned, Kept, sum_to, ne_eq}, Effects.{place_same, place_other, shift_ok}, Frames.{empty_stands, Agrees, Low, callers_agree, less_number, filled, less_stands, entry_kept}, Quiet.{KeepsThread, KeepsMost, heap_now, most_state, sum_up, label_held, started_still, args_still, no_argument}, Others.{OnHold, loses}, Turns.{asks_turn, room_of}, Own.{ref_inside, int_inside, closed_less, runs_at}, Filled.{view_filled, below_filled, free_shut}, Calls.passed_entry, Listed.store_ok, Accesses.back_again, Begun.{begun_stands, begun_regs}, Stores.index_put, Seen.reg_stored, Sums.sum_one, Starts.register_held, BitTurns.going_on, Plain.{sim_same, others_stay}, Heaps.low_stored}
+use Rattle.sharc_invariant.proofs.{Imports.{◌≡◌, ℕ, ℤ, pos, zero, suc, ◌+◌, ◌*◌, ◌^◌, ◌<◌, ◌≤◌, ◌≢◌, ◌&&◌, Bool, true, false, cond, List, Option, Some, None, refl, sym, ap, ◌∙◌, subst, inl, inr, ⊎_elim, arith, ltb-true, cases_eq, nat_tests, length-set, get_or-set_same, get_or-set_other, fun_ext, ◌%◌, length, slice_index, slice_set, nat_lt, nat_eq, ◌||◌, ◌==◌, THREADS, Swap, Add, HeldMutex, object_of, Kind, Read, Write, Accesses, note_of, epoch_of, Code, Shape, RunsOn, Stage, Rests, Makes, Lowers, Names, Hands, Begins, Withdraws, WithdrawsFrom, Leaves, holds, int_of, Char, Fits, next_thread_word, state_word, function_word, argument_word, first_cell, top_word, Machine, int, ref, set_int, handed, reference_of, function_of, instr_at, step_of, at_stage, stopped, numbered, argument, spawn, start, begun, turn, may_go, counted, Turn, Global, put, MayTurn, after_turn, one_thread, bounds, Register, Trap, Parameter, Instr, put_same, put_other, put_all, Targets, ObjectType, nothing, is_private, LessGate, Entry, Empty, Refers, Unknown, Number, Anything, Within, Indexes, OfElement, OfGlobal, Named, HasName, empty, set_number, Closed, Label, Labels, Leads, HasBase, IsShared, Passes, IsWellTyped, Fine, Window, TypedReference, RegisterOf, ArgumentOf, In, Slot, CellOf, World, Shut, Sole, WorldInvariant, in_ref, none, place, shift, conc_of, lang_of, Shows, is_first, is_unread, if_reference, note_number, register_of, argument_of, staged_of, noted_by, logged, is_ended, has_withdrawn, set_reg, making_of, store, Silently, made_turn, KeepsOthers, StopStands, State, IsSmall, View, view_of, vals_of, Runs, ThreadStands, Threads, Firsts, Reserves, SpawnsNow, EntryStands, NumberStands, TopStands, FramesStand, GateStands, StageStands, label_now, refs_at, types_at, size_of_run, Turned, Kept, sum_to, ne_eq}, Effects.{place_same, place_other, shift_ok}, Frames.{empty_stands, less_number, filled, less_stands, entry_kept, frames_agree}, Quiet.{KeepsThread, KeepsMost, heap_now, most_state, sum_up, label_held, started_still, args_still, no_argument, sizes_kept}, Others.{OnHold, loses}, Turns.{asks_turn, room_of, unseen}, Own.{ref_inside, int_inside, closed_less, runs_at}, Filled.{view_filled, below_filled, free_shut}, Calls.passed_entry, Listed.store_ok, Accesses.back_again, Begun.{begun_stands, begun_regs}, Stores.index_put, Seen.reg_stored, Sums.sum_one, Starts.{register_held, arg_stored}, BitTurns.going_on, Plain.{sim_same, others_stay}, Heaps.low_stored}
 use Rattle.sharc_tree.specs.declared.trap.Trap.TheVariants as traps
 
 abbrev pub is_spawning : Stage → Bool
@@ -263,7 +263,7 @@ module _ (x : Targets) (code : Code) (s : Shape) (ls : Labels) (wt : IsWellTyped
   on_t = st.begins.few tr.thread may.started
 
   settled : (w' : Global Machine) → done_at ≡ w' → State x code s ls w' world → Turned x code s ls g world tr
-  settled w' e k = (world, subst (λ y. State x code s ls y world) (sym e) k, Silently (record { obj = refl; mutex = refl; passed = λ o p u b q. q; sole = λ u r e. (e, refl) }))
+  settled w' e k = unseen x code s ls g world tr _ e k
 
   made_up : (c : ℕ) → sum_to THREADS (put g.made tr.thread (g.made tr.thread + c)) ≡ sum_to THREADS g.made + c
   made_up c =
@@ -272,7 +272,7 @@ module _ (x : Targets) (code : Code) (s : Shape) (ls : Labels) (wt : IsWellTyped
       omega arith
 
   own_at : (y : Stage) → is_spawning (g.threads tr.thread).own.stage ≡ true → is_spawning y ≡ true → KeepsThread (g.threads tr.thread) (at_stage (g.threads tr.thread) y)
-  own_at y sp sp' = record { number = refl; held = refl; heads = refl; making = spawning_making y sp' ∙ sym (spawning_making mm.own.stage sp); notes = refl; table = (st.threads tr.thread).has.table; refs = refl; ints = refl; frames = refl }
+  own_at y sp sp' = record { sizes = sizes_kept mm (at_stage mm y) (st.threads tr.thread).has.table refl refl refl refl; held = refl; heads = refl; making = spawning_making y sp' ∙ sym (spawning_making mm.own.stage sp) }
 
   -- a number is given out
   numbers : (rest : (g.threads tr.thread).own.stage ≡ Rests) → done_at ≡ made_turn g tr.thread (slice_set g.words next_thread_word ((next_number + 1) % 2 ^ 64)) (numbered (g.threads tr.thread) site next_number) → next_thread_word < length g.words → Turned x code s ls g world tr
@@ -307,7 +307,7 @@ module _ (x : Targets) (code : Code) (s : Shape) (ls : Labels) (wt : IsWellTyped
         | false ↦ λ b e.
             let m' = stopped mm (Trap traps.ThreadLimit site) in
             let L = low_state x code s ls wt fits g world st tr may r f from site is spawning next_thread_word v (omega arith) (omega arith) (omega arith) long states (λ u lt nz. (λ e. omega arith, λ e. omega arith)) (λ u k ne sp. (λ e. omega arith, λ e. omega arith)) more
-            m' refl refl refl refl refl spawning (record { number = refl; held = refl; heads = refl; making = refl; notes = refl; table = (st.threads t).has.table; refs = refl; ints = refl; frames = refl })
+            m' refl refl refl refl refl spawning (record { sizes = sizes_kept mm m' (st.threads t).has.table refl refl refl refl; held = refl; heads = refl; making = refl })
             (λ u k ne h sp. absurd (subst (λ y. SpawnsNow y k) rest h)) (λ k h. absurd (subst (λ y. SpawnsNow y k) rest h)) (omega arith) in
             settled (made_turn g t words m') e (L (room_of code s g tr may words m' e) (λ q. absurd (cc)))
       ] refl done
@@ -628,7 +628,7 @@ module _ (x : Targets) (code : Code) (s : Shape) (ls : Labels) (wt : IsWellTyped
       let new_thread = begun_stands x code s ls wt st.elements w' (heap_now st.heap begun_words) then_ n (put_other g.threads t n last not_t ∙ waits)
       (λ j. ap (λ (y : TypedReference). y.reference) (ks.regs n not_t j) ∙ begun_regs x code s ls wt g world st n waits j) (ks.win n not_t ∙ (st.threads n).off off_n) in
       most_state x code s ls g world st t may.started begun_words last
-      (record { number = refl; held = refl; heads = refl; making = sym (spawning_making m.own.stage sp); notes = refl; table = (st.threads t).has.table; refs = lr; ints = length-set m.ints (m.at.ints + r) (pos n); frames = refl })
+      (record { sizes = sizes_kept m last (st.threads t).has.table refl lr (length-set m.ints (m.at.ints + r) (pos n)) refl; held = refl; heads = refl; making = sym (spawning_making m.own.stage sp) })
       most_last w' eo em ks wt inv (subst (λ c. Shows x s st.cells st.elements c w') (sym conc_last) sim) (threads_last w' others entry) (firsts_last number)
       (λ u ne. ⊎_elim (λ (e : u ≡ n). inr (subst (λ u. ThreadStands x code s ls st.elements w' (heap_now st.heap begun_words) then_ u) (sym e) new_thread)) (λ (nn : u ≡ n → ⊥). inl (started_other u nn)) (cases_eq u n))
       (λ _. runs_at x code s ls st.elements w' (heap_now st.heap begun_words) then_ t last names refl
@@ -661,23 +661,13 @@ number_set x t v base ints names l r n vals same new top a b = record {
 
 below_set : (x : Targets) (code : Code) (ls : Labels) (t : ℕ) (v : View) (m m' : Machine) (r : ℕ) (vals : ℕ → ℤ) → ((j : ℕ) → j ≢ m.at.ints + r → vals j ≡ v.vals j) → m'.frames ≡ m.frames → m'.at.depth ≡ m.at.depth → m'.at.refs ≡ m.at.refs → m'.at.ints ≡ m.at.ints
     → (f : Option ℕ) → FramesStand x code ls t v m f → FramesStand x code ls t (record v { vals = vals }) m' f
-below_set x code ls t v m m' r vals same ef ed er ei None h = (ed ∙ h.0, er ∙ h.1, ei ∙ h.2)
-below_set x code ls t v m m' r vals same ef ed er ei (Some f) h =
-    let v1 : View = record v { vals = vals } in
-    let a : Agrees t v v1 (Low m.at.refs) (Low m.at.ints) = record {
-      refs = λ j _. refl;
-      types = λ j _. refl;
-      vals = λ j lt. sym (same j (λ q. omega arith));
-      elements = λ j _. refl;
-      passed = λ o p b _ k. k;
-    } in
-    let k = callers_agree x code ls t v v1 m.frames m.at.depth m.at.refs m.at.ints f a h.0 in
-    let P : List Frame → ℕ → ℕ → ℕ → Type 0 = λ fs d b c. BelowStands x code ls t v1 fs d b c f in (
-      subst (λ fs. P fs m'.at.depth m'.at.refs m'.at.ints) (sym ef) (subst (λ d. P m.frames d m'.at.refs m'.at.ints) (sym ed)
-          (subst (λ b. P m.frames m.at.depth b m'.at.ints) (sym er) (subst (λ c. P m.frames m.at.depth m.at.refs c) (sym ei) k))),
-      subst (λ d. d ≤ FRAMES) (sym ed) h.1,
-      h.2,
-    )
+below_set x code ls t v m m' r vals same = frames_agree x code ls t v (record v { vals = vals }) m m' (record {
+  refs = λ j _. refl;
+  types = λ j _. refl;
+  vals = λ j lt. sym (same j (λ q. omega arith));
+  elements = λ j _. refl;
+  passed = λ o p b _ k. k;
+})
 
 module _ (x : Targets) (code : Code) (s : Shape) (ls : Labels) (wt : IsWellTyped x code ls) (fits : Fits code s) (few : IsSmall code s) (g : Global Machine) (world : World) (st : State x code s ls g world) (tr : Turn)
     (may : MayTurn bounds (one_thread code s) g tr) (r f i : ℕ) (site : ℕ) (is : instr_at code (g.threads tr.thread).at.pc ≡ Instr.Spawn r f (Register.Int i) site) where
@@ -734,28 +724,6 @@ module _ (x : Targets) (code : Code) (s : Shape) (ls : Labels) (wt : IsWellTyped
   Spawn_number_keeps = Spawn_keeps_but_the_last x code s ls wt fits few g world st tr may r f (Register.Int i) site is int_last
 
 -- ---- a reference is handed over
-arg_put : (x : Targets) (s : Shape) (cells elements : ℕ → ℕ) (c : MachineView) (w : World) → Shows x s cells elements c w → (n : ℕ) (h : TypedReference) (args : ℕ → ℕ) → args n ≡ h.reference → ((u : ℕ) → u ≢ n → args u ≡ c.args u)
-    → Shows x s cells elements (record c { args = args }) (record w { slots = place w.slots (In (ArgumentOf n)) h })
-arg_put x s cells elements c w sim n h args et eu =
-    let own : (a : Holder) → (a ≡ ArgumentOf n → ⊥) → (place w.slots (In (ArgumentOf n)) h (In a)).reference ≡ in_ref w a = λ a ne. ap (λ (h : TypedReference). h.reference) (place_other w.slots (In (ArgumentOf n)) (In a) h (λ e. ne (cc))) in
-    record {
-      regs = λ u j. own (RegisterOf u j) (λ e. cc) ∙ sim.regs u j;
-      args = λ u. ⊎_elim
-          (λ (e : u ≡ n). ap (λ u. (place w.slots (In (ArgumentOf n)) h (In (ArgumentOf u))).reference) e ∙ ap (λ (h : TypedReference). h.reference) (place_same w.slots (In (ArgumentOf n)) h) ∙ sym (ap args e ∙ et))
-          (λ (ne : u ≡ n → ⊥). own (ArgumentOf u) (λ e. ne (cc)) ∙ sim.args u ∙ sym (eu u ne))
-          (cases_eq u n);
-      logs = λ u word. own (LogOf u word) (λ e. cc) ∙ sim.logs u word;
-      staged = λ u. own (Staged u) (λ e. cc) ∙ sim.staged u;
-      pointers = sim.pointers;
-      others = sim.others;
-      integers = sim.integers;
-      counts = sim.counts;
-      lengths = sim.lengths;
-      mutexes = sim.mutexes;
-      shadows = sim.shadows;
-      stale = sim.stale;
-    }
-
 shared_type : (x : Targets) (refs : ℕ → ℕ) (o : ℕ) (ty : ObjectType) (e : Entry) → IsShared x e → EntryStands (λ r. o) (λ r. ty) 0 e → o ≢ 0 → is_private x ty ≡ false
 shared_type x refs o ty Empty sh h nz = absurd (nz h)
 shared_type x refs o ty Unknown sh h nz = absurd sh
@@ -807,7 +775,7 @@ module _ (x : Targets) (code : Code) (s : Shape) (ls : Labels) (wt : IsWellTyped
       let no_int : (function_of code f).parameter ≢ Parameter.Int = λ e. let y : Parameter.Reference ≡ Parameter.Int = sym fi.5.0 ∙ e in cc in
       let number = subst (NumberStands x (λ o. 0) (λ r. 0) (λ r. nothing) (λ n. pos 0) (int_of (slice_index g.words (argument_word n)))) (sym (start.number no_int)) tt in
       let sim1 = reg_stored x s st.cells st.elements c world (low_stored x s st.cells st.elements (conc_of code g) world (state_word n) 1 (omega arith) st.apart st.sim) st.apart t kq none in
-      let sim2 = arg_put x s st.cells st.elements (set_reg c t kq 0) w1 sim1 n h (argument_of code now) arg (λ u ne. sym (other u ne)) in
+      let sim2 = arg_stored x s st.cells st.elements (set_reg c t kq 0) w1 sim1 n h (argument_of code now) arg (λ u ne. sym (other u ne)) in
       let regs2 : register_of code m' ≡ put (R t) kq 0 = fun_ext (λ j. register_held code m' tt j
       ∙ put_all (λ j y. slice_index refs j ≡ y) (R t) kq 0 (get_or-set_same m.refs kq 0 0 lt_q) (λ j ne. get_or-set_other m.refs kq j 0 0 ne ∙ sym (register_held code m (spawning_hold m.own.stage spn) j)) j) in
       let sim = subst (λ f. Shows x s st.cells st.elements (record c { regs = put R t f; args = argument_of code now }) w2) (sym regs2) sim2 in

@@ -1,5 +1,5 @@
 -- The granules of an object that a thread has alone are cleared one by one, by whichever instruction: each shadow word is loaded and then swapped.
-use Rattle.sharc_invariant.proofs.{Imports.{◌≡◌, ℕ, suc, ◌+◌, ◌*◌, ◌<◌, ◌≤◌, true, false, List, refl, sym, ap, ◌∙◌, subst, ⊎_elim, arith, cases_eq, nat_tests, set-get_or, fun_ext, length, slice_index, slice_set, nat_lt, ◌==◌, THREADS, ShadowLaws, epoch_of, cleared_of, Code, Shape, Stage, granules, granule_at, first_cell, length_word, shadow_word, Machine, instr_at, ref, clear, data_granules, data_granule, at_stage, rests, Turn, Global, put, MayTurn, after_turn, one_thread, bounds, put_same, put_all, Passed, cleared, sum_to, Targets, ObjectType, cells_of, Labels, IsWellTyped, RegisterOf, In, World, Sole, put2, set_gran, lang_of, conc_of, Shows, length_at, shadow_at, staged_of, made_turn, Silently, State, view_of, EntryStands, StageStands, AreCleared, refs_at, types_at, size_of_run, Turned, StaticType, Refers, GranuleState, Kept, Leads, gated, SoleGate, IsUnpassed, ◌^◌}, Effects.clear_ok, Plain.same_words, Quiet.heap_now, Changes.KeepsLow, Walks.IsWalk, Stores.{index_put, shadow_store, stored_within, MayStore}, Seen.{shadow_stored, put2_off}, Clears.{in_cells, sum_more, epochs_low, cleared_small, cleared_reads, part_words, object, walk_top, walk_reads, some, live, stays_on, goes_on}}
+use Rattle.sharc_invariant.proofs.{Imports.{◌≡◌, ℕ, suc, ◌+◌, ◌*◌, ◌<◌, ◌≤◌, true, false, List, refl, sym, ap, ◌∙◌, subst, ⊎_elim, arith, cases_eq, nat_tests, set-get_or, fun_ext, length, slice_index, slice_set, nat_lt, ◌==◌, THREADS, ShadowLaws, epoch_of, cleared_of, Code, Shape, Stage, granules, granule_at, first_cell, length_word, shadow_word, Machine, instr_at, ref, clear, data_granules, data_granule, at_stage, rests, Turn, Global, put, MayTurn, after_turn, one_thread, bounds, put_same, put_all, Passed, cleared, sum_to, Targets, ObjectType, cells_of, Labels, IsWellTyped, RegisterOf, In, World, Sole, put2, set_gran, lang_of, conc_of, Shows, length_at, shadow_at, staged_of, made_turn, State, view_of, EntryStands, StageStands, AreCleared, refs_at, types_at, size_of_run, Turned, StaticType, Refers, GranuleState, Kept, Leads, gated, SoleGate, IsUnpassed, ◌^◌}, Effects.clear_ok, Plain.same_words, Quiet.heap_now, Changes.KeepsLow, Walks.IsWalk, Stores.{index_put, shadow_store, stored_within, MayStore}, Seen.{shadow_stored, put2_off}, Clears.{in_cells, sum_more, epochs_low, cleared_small, cleared_reads, part_words, object, walk_top, walk_reads, some, live, stays_on, goes_on}, Turns.unseen}
 
 pub length_is : (s : Shape) (o : ℕ) → o < granules s → length_word s o ≡ length_at s o
 length_is s o lt = let e : nat_lt o (granules s) ≡ true = grind (arith, nat_tests) in let q : granule_at s o ≡ o = rw e refl in omega arith
@@ -80,11 +80,7 @@ module _ (x : Targets) (code : Code) (s : Shape) (ls : Labels) (wt : IsWellTyped
   loaded_goes = goes_on x code s ls wt g world st tr may walk begun r win unpassed world.gran (λ q h _. refl) g.words same_low (same_words x code s ls g world st).kept (λ u b j _ _. refl) st.inv st.sim later true
 
   pub quietly : (m' : Machine) (k : ℕ) → after_turn bounds (one_thread code s) g tr ≡ made_turn g tr.thread (slice_set g.words k (slice_index g.words k)) m' → State x code s ls (made_turn g tr.thread g.words m') world → Turned x code s ls g world tr
-  quietly m' k e h = (
-    world,
-    subst (λ y. State x code s ls y world) (sym (e ∙ ap (λ ws. made_turn g t ws m') (set-get_or g.words k 0))) h,
-    Silently (record { obj = refl; mutex = refl; passed = λ o p u b q. q; sole = λ u r e. (e, refl) }),
-  )
+  quietly m' k e h = unseen x code s ls g world tr _ (e ∙ ap (λ ws. made_turn g t ws m') (set-get_or g.words k 0)) h
 
   -- the shadow word of a granule is swapped for one with the next epoch
   module _ (done seen : ℕ) (lt : done < data_granules (st.elements o) n) (ep : epoch_of seen ≡ (world.gran o done).epoch) (before : AreCleared world o done) (on : shadow_at s (o + 1 + done) < length g.words) where

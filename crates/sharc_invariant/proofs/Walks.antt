@@ -1,5 +1,5 @@
 -- A turn in the middle of an instruction that walks over an object: the world keeps its objects and mutexes.
-use Rattle.sharc_invariant.proofs.{Imports.{◌≡◌, ℕ, ◌+◌, ◌<◌, ◌≤◌, Bool, true, false, cond, List, None, refl, sym, ap, ◌∙◌, arith, fun_ext, slice_index, ◌==◌, THREADS, Read, Write, Kind, note_of, epoch_of, Code, Shape, RunsOn, Tries, Stopped, Ended, Stage, Rests, Looks, Clears, Makes, Empties, Lowers, FreeLooks, FreeClears, Uncounts, Links, Names, Hands, Begins, Withdraws, WithdrawsFrom, Leaves, top_word, granules, first_cell, Machine, to, instr_at, may_go, Global, put, sum_to, Targets, Labels, IsWellTyped, ArgumentOf, In, World, WorldInvariant, Kept, note_number, making_of, conc_of, Shows, register_of, staged_of, noted_by, is_ended, has_withdrawn, lang_of, made_turn, KeepsOthers, State, Runs, SpawnsNow, size_of_run}, Others.OnHold, Quiet.{heap_now, head_same, freed_held, put_self}, Changes.{KeepsPart, KeepsLow, lower, conc_now, alike_state}}
+use Rattle.sharc_invariant.proofs.{Imports.{◌≡◌, ℕ, ◌+◌, ◌<◌, ◌≤◌, Bool, true, false, cond, List, None, refl, sym, ap, ◌∙◌, arith, fun_ext, slice_index, ◌==◌, THREADS, Read, Write, Kind, note_of, epoch_of, Code, Shape, RunsOn, Tries, Stopped, Ended, Stage, Rests, Looks, Clears, Makes, Empties, Lowers, FreeLooks, FreeClears, Uncounts, Links, Names, Hands, Begins, Withdraws, WithdrawsFrom, Leaves, top_word, granules, first_cell, Machine, to, instr_at, may_go, Global, put, sum_to, Targets, Labels, IsWellTyped, ArgumentOf, In, World, WorldInvariant, Kept, note_number, making_of, conc_of, Shows, register_of, staged_of, noted_by, is_ended, has_withdrawn, lang_of, made_turn, KeepsOthers, State, Runs, SpawnsNow, size_of_run}, Others.OnHold, Quiet.{heap_now, head_same, freed_held, put_self, sizes_kept}, Changes.{KeepsPart, KeepsLow, lower, conc_now, alike_state}}
 
 -- the stages of an instruction that walks over an object, but for that in which the object is dead
 abbrev pub IsWalk : Stage → Type 0
@@ -54,15 +54,10 @@ module _ (x : Targets) (code : Code) (s : Shape) (ls : Labels) (wt : IsWellTyped
 
     own : KeepsPart (g.threads t) (walked pc y)
     own = record {
-      number = refl;
+      sizes = sizes_kept (g.threads t) (walked pc y) (st.threads t).has.table refl refl refl refl;
       held = refl;
       heads = refl;
-      notes = refl;
-      table = (st.threads t).has.table;
       spawns = λ n h. absurd (walk_spawns y walk' n h);
-      refs = refl;
-      ints = refl;
-      frames = refl;
       begun_before = begun;
       begun = begun';
     }
