@@ -1,5 +1,5 @@
 -- The cells that instructions name are there.
-use Rattle.sharc_invariant.proofs.{Imports.{◌≡◌, ℕ, ℤ, pos, suc, ◌+◌, ◌-◌, ◌*◌, ◌%◌, ◌<◌, ◌≤◌, ◌≢◌, true, false, cond, refl, sym, ap, ◌∙◌, subst, ⊎_elim, arith, cases_eq, nat_tests, mul-le-mul_right, suc-mul, mod-mul-add, length, nat_lt, ◌==◌, Code, Cell, Shape, word_of, Fits, words_of, first_cell, cell_word, word_at, cell_of, Machine, word, ref, int, Global, Targets, ObjectType, StaticType, Field, field_in, field_at, field_of_cell, global_field, cells_of, Refers, OfElement, OfGlobal, Label, Labels, IsWellTyped, HasCell, IsInGlobal, ObjectState, RegisterOf, In, World, Based, base_of, in_ref, cell_at, State, View, view_of, EntryStands, NumberStands, TopStands, refs_at, types_at, base_of_cell, object_of_cell, number_in, IsThere, ne_eq, eq_refl}}
+use Rattle.sharc_invariant.proofs.Imports.{◌≡◌, ℕ, ℤ, pos, suc, ◌+◌, ◌-◌, ◌*◌, ◌%◌, ◌<◌, ◌≤◌, ◌≢◌, true, false, cond, refl, sym, ap, ◌∙◌, subst, ⊎_elim, arith, cases_eq, nat_tests, mul-le-mul_right, suc-mul, mod-mul-add, length, nat_lt, ◌==◌, Code, Cell, Shape, word_of, Fits, words_of, first_cell, cell_word, word_at, cell_of, Machine, word, ref, int, Global, Targets, ObjectType, StaticType, Field, field_in, field_at, field_of_cell, global_field, cells_of, Refers, OfElement, OfGlobal, Label, Labels, IsWellTyped, HasCell, IsInGlobal, ObjectState, RegisterOf, In, World, Based, base_of, in_ref, cell_at, State, View, view_of, EntryStands, NumberStands, TopStands, refs_at, types_at, base_of_cell, object_of_cell, number_in, IsThere, ne_eq, eq_refl}
 use Rattle.sharc_code.specs.Machine.{place}
 
 -- a cell of an object that is not the globals has the field of its row

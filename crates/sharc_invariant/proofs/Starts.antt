@@ -1,5 +1,5 @@
 -- Start keeps the invariant: a thread loads its function, and then its argument, and enters it.
-use Rattle.sharc_invariant.proofs.{Imports.{◌≡◌, ℕ, ℤ, pos, suc, ◌+◌, ◌*◌, ◌^◌, ◌<◌, ◌≢◌, ◌⊎◌, ◌&&◌, Bool, true, false, cond, List, Some, None, refl, sym, ap, ◌∙◌, subst, inl, inr, ⊎_elim, arith, cases_eq, nat_tests, length-set, get_or-set_same, get_or-set_other, set-get_or, fun_ext, length, slice_index, slice_index_or, slice_set, nat_lt, ◌==◌, THREADS, Load, HeldMutex, object_of, Kind, Read, Write, Accesses, note_of, FRAMES, Code, Parameter, Shape, At, Frame, RunsOn, Stage, Rests, Makes, Enters, int_of, Fits, function_at, state_word, function_word, argument_word, Machine, Asks, reference_of, function_of, instr_at, no_frame, step_of, at_stage, called, trapped, with_parameter, entered, start, turn, counted, most_refs, Turn, Global, put, MayTurn, after_turn, one_thread, bounds, Instr, put_same, put_other, put_all, Targets, nothing, Empty, Refers, Unknown, Label, Labels, Less, HasBase, IsWellTyped, Fine, MayStart, entry_label, refs_in, TypedReference, Holder, RegisterOf, ArgumentOf, LogOf, Staged, In, Slot, CellOf, World, Shut, Sole, WorldInvariant, in_ref, none, place, shift, MachineView, conc_of, lang_of, Shows, is_first, is_unread, if_reference, note_number, register_of, argument_of, staged_of, noted_by, logged, is_ended, has_withdrawn, making_of, Silently, made_turn, KeepsOthers, State, View, view_of, Runs, Threads, Firsts, SpawnsNow, EntryStands, NumberStands, TopStands, StartStands, FramesStand, GateStands, StageStands, OnStart, label_now, frame_at, refs_at, types_at, size_of_run, Turned, ne_eq}, Effects.{place_same, place_other, shift_ok}, Frames.{less_stands, entry_kept, number_kept}, Quiet.{KeepsThread, heap_now, started_same, sum_up, kept_state, label_held, freed_held, sizes_kept}, Others.{OnHold, loses}, Turns.{asks_turn, room_of, unseen}, Own.{closed_less, runs_at, refs_most, ints_most}, Plain.{same_words, same_others, sim_same}, Filled.free_shut, Seen.reg_stored, BitTurns.going_on}
+use Rattle.sharc_invariant.proofs.{Imports.{◌≡◌, ℕ, ℤ, pos, suc, ◌+◌, ◌*◌, ◌^◌, ◌<◌, ◌≢◌, ◌⊎◌, ◌&&◌, Bool, true, false, cond, List, Some, None, refl, sym, ap, ◌∙◌, subst, inl, inr, ⊎_elim, arith, cases_eq, nat_tests, length-set, get_or-set_same, get_or-set_other, set-get_or, fun_ext, length, slice_index, slice_index_or, slice_set, nat_lt, ◌==◌, THREADS, Load, HeldMutex, object_of, Kind, Read, Write, Accesses, note_of, FRAMES, Code, Parameter, Shape, At, Frame, RunsOn, Stage, Rests, Makes, Enters, int_of, Fits, function_at, state_word, function_word, argument_word, Machine, Asks, reference_of, function_of, instr_at, no_frame, step_of, at_stage, called, trapped, with_parameter, entered, start, turn, counted, most_refs, Turn, Global, put, MayTurn, after_turn, one_thread, bounds, Instr, put_same, put_other, put_all, Targets, nothing, Empty, Refers, Unknown, Label, Labels, Less, HasBase, IsWellTyped, Fine, MayStart, entry_label, refs_in, TypedReference, Holder, RegisterOf, ArgumentOf, LogOf, Staged, In, Slot, CellOf, World, Shut, Sole, WorldInvariant, in_ref, none, place, shift, MachineView, conc_of, lang_of, Shows, is_first, is_unread, if_reference, note_number, register_of, argument_of, staged_of, noted_by, logged, is_ended, has_withdrawn, making_of, Silently, made_turn, KeepsOthers, State, View, view_of, Runs, Threads, Firsts, SpawnsNow, EntryStands, NumberStands, TopStands, StartStands, FramesStand, GateStands, StageStands, OnStart, label_now, frame_at, refs_at, types_at, size_of_run, Turned, ne_eq}, Effects.{place_same, place_other, shift_ok}, Frames.{less_stands, entry_kept, number_kept}, Quiet.{KeepsThread, heap_now, started_same, sum_up, kept_state, label_held, freed_held, sizes_kept}, Others.{OnHold, loses}, Turns.{asks_turn, room_of, unseen}, Own.{closed_less, runs_at, refs_most, ints_most}, Plain.{same_words, same_others, sim_same}, Filled.free_shut, Seen.{reg_stored, holder_stored}, BitTurns.going_on}
 use Rattle.sharc_tree.specs.declared.trap.Trap.{Trap}
 
 -- ---- the machine that enters a function
@@ -65,23 +65,14 @@ pub arg_stored : (x : Targets) (s : Shape) (cells elements : ℕ → ℕ) (c : M
     → Shows x s cells elements (record c { args = args }) (record w { slots = place w.slots (In (ArgumentOf n)) h })
 arg_stored x s cells elements c w sim n h args et eu =
     let own : (a : Holder) → (a ≡ ArgumentOf n → ⊥) → (place w.slots (In (ArgumentOf n)) h (In a)).reference ≡ in_ref w a = λ a ne. ap (λ (h : TypedReference). h.reference) (place_other w.slots (In (ArgumentOf n)) (In a) h (λ e. ne (cc))) in
-    record {
-      regs = λ u j. own (RegisterOf u j) (λ e. cc) ∙ sim.regs u j;
-      args = λ u. ⊎_elim
-          (λ (e : u ≡ n). ap (λ u. (place w.slots (In (ArgumentOf n)) h (In (ArgumentOf u))).reference) e ∙ ap (λ (h : TypedReference). h.reference) (place_same w.slots (In (ArgumentOf n)) h) ∙ sym (ap args e ∙ et))
-          (λ (ne : u ≡ n → ⊥). own (ArgumentOf u) (λ e. ne (cc)) ∙ sim.args u ∙ sym (eu u ne))
-          (cases_eq u n);
-      logs = λ u word. own (LogOf u word) (λ e. cc) ∙ sim.logs u word;
-      staged = λ u. own (Staged u) (λ e. cc) ∙ sim.staged u;
-      pointers = sim.pointers;
-      others = sim.others;
-      integers = sim.integers;
-      counts = sim.counts;
-      lengths = sim.lengths;
-      mutexes = sim.mutexes;
-      shadows = sim.shadows;
-      stale = sim.stale;
-    }
+    holder_stored x s cells elements c w sim (ArgumentOf n) h c.regs args c.logs c.staged
+    (λ u j. own (RegisterOf u j) (λ e. cc) ∙ sim.regs u j)
+    (λ u. ⊎_elim
+    (λ (e : u ≡ n). ap (λ u. (place w.slots (In (ArgumentOf n)) h (In (ArgumentOf u))).reference) e ∙ ap (λ (h : TypedReference). h.reference) (place_same w.slots (In (ArgumentOf n)) h) ∙ sym (ap args e ∙ et))
+    (λ (ne : u ≡ n → ⊥). own (ArgumentOf u) (λ e. ne (cc)) ∙ sim.args u ∙ sym (eu u ne))
+    (cases_eq u n))
+    (λ u word. own (LogOf u word) (λ e. cc) ∙ sim.logs u word)
+    (λ u. own (Staged u) (λ e. cc) ∙ sim.staged u)
 
 module _ (x : Targets) (code : Code) (s : Shape) (ls : Labels) (wt : IsWellTyped x code ls) (fits : Fits code s) (g : Global Machine) (world : World) (st : State x code s ls g world) (tr : Turn)
     (may : MayTurn bounds (one_thread code s) g tr) (site : ℕ) (is : instr_at code (g.threads tr.thread).at.pc ≡ Instr.Start site) where
