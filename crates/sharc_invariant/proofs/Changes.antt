@@ -1,5 +1,5 @@
 -- A turn that changes an object, a block or what the thread is in the middle of: what it leaves of the invariant is the same for all.
-use Rattle.sharc_invariant.proofs.{Imports.{◌≡◌, ℕ, ◌+◌, ◌*◌, ◌^◌, ◌<◌, ◌≤◌, ◌≢◌, true, false, List, refl, sym, ap, ◌∙◌, subst, inl, fun_ext, length, slice_index, ◌==◌, THREADS, HeldMutex, IsHeldLog, object_of, Read, Write, Kind, epoch_of, Code, Shape, granules, Machine, reference_of, may_go, counted, Global, put, put_same, put_other, put_all, sum_to, Targets, cells_of, Labels, IsWellTyped, RegisterOf, ArgumentOf, In, World, in_ref, WorldInvariant, Heap, conc_of, Shows, Apart, register_of, argument_of, staged_of, noted_by, logged, lang_of, made_turn, made_conc, KeepsOthers, StopStands, State, HeapStands, Locks, Runs, SpawnsNow, size_of_run, Kept, ObjectState, top_word, first_cell, head_of}, Quiet.{firsts_stay, reserves_kept, threads_stand, function_stays, argument_stays, begins_stay, started_stay, args_stay, heap_now, heap_stays, locks_same, thread_kept, KeepsSizes}}
+use Rattle.sharc_invariant.proofs.{Imports.{◌≡◌, ℕ, ◌+◌, ◌*◌, ◌^◌, ◌<◌, ◌≤◌, ◌≢◌, true, false, List, refl, sym, ap, ◌∙◌, subst, inl, fun_ext, length, slice_index, ◌==◌, THREADS, HeldMutex, IsHeldLog, object_of, Read, Write, Kind, epoch_of, Code, Shape, granules, Machine, reference_of, may_go, counted, Global, put, put_all, sum_to, Targets, cells_of, Labels, IsWellTyped, RegisterOf, ArgumentOf, In, World, in_ref, WorldInvariant, Heap, conc_of, Shows, Apart, register_of, argument_of, staged_of, noted_by, logged, lang_of, made_turn, made_conc, KeepsOthers, StopStands, State, HeapStands, Locks, Runs, SpawnsNow, size_of_run, Kept, ObjectState, top_word, first_cell, head_of}, Quiet.{firsts_stay, reserves_kept, threads_stand, function_stays, argument_stays, begins_stay, started_stay, args_stay, heap_now, heap_stays, locks_same, thread_kept, KeepsSizes, part_put, part_same}}
 
 -- what the thread of the turn keeps for itself
 pub record KeepsPart (m m' : Machine) : Type 0 where
@@ -37,27 +37,20 @@ module _ (x : Targets) (code : Code) (s : Shape) (ls : Labels) (wt : IsWellTyped
   pub started_same : (u : ℕ) → now.started u ≡ g.started u
   started_same = started_stay x code s ls g world st t words m' kw.low
 
-  -- a part of the machine of each thread that the thread of the turn keeps
-  part_same : {A : Type 0} (f : Machine → A) → f m' ≡ f m → (u : ℕ) → f (now.threads u) ≡ f (g.threads u)
-  part_same f e = put_all (λ u y. f y ≡ f (g.threads u)) g.threads t m' e (λ u _. refl)
-
   pub conc_now : conc_of code now ≡ record (made_conc code (conc_of code g) t words m') { staged = put (λ u. staged_of (g.threads u).own.stage) t (staged_of m'.own.stage) }
   conc_now =
-      let rs : (λ u. register_of code (now.threads u)) ≡ put (λ u. register_of code (g.threads u)) t (register_of code m') =
-      fun_ext (λ u. put_all (λ u y. register_of code (put g.threads t m' u) ≡ y) (λ u. register_of code (g.threads u)) t (register_of code m') (ap (register_of code) (put_same g.threads t m')) (λ u ne. ap (register_of code) (put_other g.threads t u m' ne)) u) in
+      let rs : (λ u. register_of code (now.threads u)) ≡ put (λ u. register_of code (g.threads u)) t (register_of code m') = part_put (register_of code) g.threads t m' in
       let ar : argument_of code now ≡ argument_of code g = fun_ext (args_stay x code s ls g world st t words m' kw.low own.begun_before own.begun) in
-      let lo : (λ u. logged (now.threads u)) ≡ (λ u. logged (g.threads u)) = fun_ext (part_same logged (fun_ext (λ w. ap (λ (h : List HeldMutex). reference_of (object_of h w)) own.held))) in
-      let sg : (λ u. staged_of (now.threads u).own.stage) ≡ put (λ u. staged_of (g.threads u).own.stage) t (staged_of m'.own.stage) =
-      fun_ext (λ u. put_all (λ u y. staged_of (put g.threads t m' u).own.stage ≡ y) (λ u. staged_of (g.threads u).own.stage) t (staged_of m'.own.stage) (ap (λ m. staged_of m.own.stage) (put_same g.threads t m')) (λ u ne. ap (λ m. staged_of m.own.stage) (put_other g.threads t u m' ne)) u) in
-      let nt : (kind : Kind) → (λ u. noted_by (now.threads u) kind) ≡ put (λ u. noted_by (g.threads u) kind) t (noted_by m' kind) = λ kind.
-      fun_ext (λ u. put_all (λ u y. noted_by (put g.threads t m' u) kind ≡ y) (λ u. noted_by (g.threads u) kind) t (noted_by m' kind) (ap (λ m. noted_by m kind) (put_same g.threads t m')) (λ u ne. ap (λ m. noted_by m kind) (put_other g.threads t u m' ne)) u) in
+      let lo : (λ u. logged (now.threads u)) ≡ (λ u. logged (g.threads u)) = fun_ext (part_same logged g.threads t m' (fun_ext (λ w. ap (λ (h : List HeldMutex). reference_of (object_of h w)) own.held))) in
+      let sg : (λ u. staged_of (now.threads u).own.stage) ≡ put (λ u. staged_of (g.threads u).own.stage) t (staged_of m'.own.stage) = part_put (λ m. staged_of m.own.stage) g.threads t m' in
+      let nt : (kind : Kind) → (λ u. noted_by (now.threads u) kind) ≡ put (λ u. noted_by (g.threads u) kind) t (noted_by m' kind) = λ kind. part_put (λ m. noted_by m kind) g.threads t m' in
       let rn = nt Read in
       let wn = nt Write in
       λ i. record { words = λ j. slice_index words j; regs = rs i; args = ar i; logs = lo i; staged = sg i; read_notes = rn i; write_notes = wn i }
 
   -- the log of each thread is as it was
   pub held_same : (u : ℕ) → (now.threads u).own.held ≡ (g.threads u).own.held
-  held_same = part_same (λ m. m.own.held) own.held
+  held_same = part_same (λ m. m.own.held) g.threads t m' own.held
 
   module _ (cells' elements' : ℕ → ℕ) (heap' : Heap) (w' : World) (k : KeepsOthers s world w' st.heap heap' g.words words t) (args : (u : ℕ) → w'.slots (In (ArgumentOf u)) ≡ world.slots (In (ArgumentOf u)))
       (same_elements : (u r : ℕ) → u ≢ t → elements' (in_ref world (RegisterOf u r)) ≡ st.elements (in_ref world (RegisterOf u r))) where

@@ -1,5 +1,5 @@
 -- The turns of an Exit: it says that the thread returned, withdraws from each granule of its table, and says that it is gone.
-use Rattle.sharc_invariant.proofs.{Imports.{◌≡◌, ℕ, zero, suc, ◌+◌, ◌*◌, ◌^◌, ◌<◌, ◌≤◌, ◌≢◌, ◌⊎◌, ◌||◌, ◌&&◌, Bool, true, false, cond, List, [], None, refl, sym, ap, ◌∙◌, subst, inl, inr, ⊎_elim, arith, ltb-true, cases_eq, cases_lt, nat_tests, set-get_or, length-set, fun_ext, length, slice_index, slice_set, take, nat_lt, nat_eq, ◌==◌, THREADS, Load, Swap, Cas, ShadowLaws, note_of, withdrawn_of, epoch_of, Kind, Read, Write, Code, Shape, StateOf, RunsOn, Tries, Stopped, Ended, Stage, Rests, Makes, Lowers, Links, Names, Hands, Begins, Withdraws, WithdrawsFrom, Leaves, int_of, Fits as FitsShape, granules, granule_at, top_word, shadow_word, next_thread_word, state_word, function_word, argument_word, Machine, instr_at, step_of, at_stage, exit, withdraws, withdrew, row_of, without_own, turn, may_go, counted, Turn, Global, put, MayTurn, after_turn, one_thread, bounds, Instr, put_same, put_other, put_all, Passed, withdrawn, Targets, nothing, Label, Labels, IsIn, Fine, IsWellTyped, In, RegisterOf, ArgumentOf, TypedReference, World, Shut, WorldInvariant, in_ref, put2, set_gran, Heap, Kept, Built, InBlock, lang_of, conc_of, MachineView, Shows, Reads, store, has_returned, is_withdrawing, has_withdrawn, is_ended, is_unread, is_first, argument_of, making_of, note_number, noted_by, register_of, staged_of, logged, shadow_at, cell_at, count_at, length_at, made_turn, KeepsOthers, Effect, Silently, Returns, WithdrawsOf, events_of, StopStands, State, Runs, View, view_of, StageStands, SpawnsNow, NumberStands, EntryStands, FramesStand, GateStands, Threads, Firsts, TopStands, label_now, size_of_run, Followed, changes_objects, objects_now, ne_eq, eq_refl}, Effects.withdraw_ok, Listed.store_ok, Others.{OnHold, loses}, Quiet.{KeepsThread, KeepsMost, heap_now, put_self, sum_up, label_held, freed_held, most_state, started_still, args_still, sizes_kept}, Changes.{KeepsPart, KeepsLow, lower, conc_now, alike_state}, Turns.{asks_turn, room_of}, Stores.{index_put, arena, shadow_store, stored_within}, Seen.{shadow_stored, put2_off}, Heaps.apart_stored, Clears.part_words, Uncounted.granule_cases, Withdrawn.{is_row, one_more, row_low, first_row, noted_withdraws, wrote_now, withdrawn_reads, withdrawn_small}, Owned.{effect_objects, behind_same}, Frees.{same_le as two_le}, Plain.{others_stay, same_others}}
+use Rattle.sharc_invariant.proofs.{Imports.{◌≡◌, ℕ, zero, suc, ◌+◌, ◌*◌, ◌^◌, ◌<◌, ◌≤◌, ◌≢◌, ◌⊎◌, ◌||◌, ◌&&◌, Bool, true, false, cond, List, [], None, refl, sym, ap, ◌∙◌, subst, inl, inr, ⊎_elim, arith, ltb-true, cases_eq, cases_lt, nat_tests, set-get_or, length-set, fun_ext, length, slice_index, slice_set, take, nat_lt, nat_eq, ◌==◌, THREADS, Load, Swap, Cas, ShadowLaws, note_of, withdrawn_of, epoch_of, Kind, Read, Write, Code, Shape, StateOf, RunsOn, Tries, Stopped, Ended, Stage, Rests, Makes, Lowers, Links, Names, Hands, Begins, Withdraws, WithdrawsFrom, Leaves, int_of, Fits as FitsShape, granules, granule_at, top_word, shadow_word, next_thread_word, state_word, function_word, argument_word, Machine, instr_at, step_of, at_stage, exit, withdraws, withdrew, row_of, without_own, turn, may_go, counted, Turn, Global, put, MayTurn, after_turn, one_thread, bounds, Instr, put_same, put_other, put_all, Passed, withdrawn, Targets, nothing, Label, Labels, IsIn, Fine, IsWellTyped, In, RegisterOf, ArgumentOf, TypedReference, World, Shut, WorldInvariant, in_ref, put2, set_gran, Heap, Kept, Built, InBlock, lang_of, conc_of, MachineView, Shows, Reads, store, has_returned, is_withdrawing, has_withdrawn, is_ended, is_unread, is_first, argument_of, making_of, note_number, noted_by, register_of, staged_of, logged, shadow_at, cell_at, count_at, length_at, made_turn, KeepsOthers, Effect, Silently, Returns, WithdrawsOf, events_of, StopStands, State, Runs, View, view_of, StageStands, SpawnsNow, NumberStands, EntryStands, FramesStand, GateStands, Threads, Firsts, TopStands, label_now, size_of_run, Followed, changes_objects, objects_now, ne_eq, eq_refl}, Effects.withdraw_ok, Listed.store_ok, Others.{OnHold, loses}, Quiet.{KeepsThread, KeepsMost, heap_now, put_self, sum_up, label_held, freed_held, most_state, started_still, args_still, sizes_kept, part_same}, Changes.{KeepsPart, KeepsLow, lower, conc_now, alike_state}, Turns.{asks_turn, room_of}, Stores.{index_put, arena, shadow_store, stored_within}, Seen.{shadow_stored, put2_off}, Heaps.apart_stored, Clears.part_words, Uncounted.granule_cases, Withdrawn.{is_row, one_more, row_low, first_row, noted_withdraws, wrote_now, withdrawn_reads, withdrawn_small}, Owned.{effect_objects, behind_same}, Frees.{same_le as two_le}, Plain.{others_stay, same_others}}
 
 -- ---- the stages
 abbrev pub IsExiting : Stage → Type 0
@@ -189,17 +189,14 @@ module _ (x : Targets) (code : Code) (s : Shape) (ls : Labels) (wt : IsWellTyped
     args_same = args_still x code s ls g world st t words m' begun begun
         (λ u ne _. (off (state_word u) (λ z. ne (omega arith)), λ _. (off (function_word u) (λ z. omega arith), off (argument_word u) (λ z. omega arith))))
 
-    part : {A : Type 0} (f : Machine → A) → f m' ≡ f (g.threads tr.thread) → (u : ℕ) → f (now.threads u) ≡ f (g.threads u)
-    part f e = put_all (λ u y. f y ≡ f (g.threads u)) g.threads t m' e (λ u _. refl)
-
     conc_is : conc_of code now ≡ store (conc_of code g) k v
     conc_is =
         let wd : (λ j. slice_index words j) ≡ put (λ i. slice_index g.words i) k v = fun_ext at in
-        let rs : (λ u. register_of code (now.threads u)) ≡ (λ u. register_of code (g.threads u)) = fun_ext (part (register_of code) (fun_ext (same_regs q y ey))) in
+        let rs : (λ u. register_of code (now.threads u)) ≡ (λ u. register_of code (g.threads u)) = fun_ext (part_same (register_of code) g.threads t m' (fun_ext (same_regs q y ey))) in
         let ar = fun_ext args_same in
-        let lo : (λ u. logged (now.threads u)) ≡ (λ u. logged (g.threads u)) = fun_ext (part logged refl) in
-        let sg : (λ u. staged_of (now.threads u).own.stage) ≡ (λ u. staged_of (g.threads u).own.stage) = fun_ext (part (λ m. staged_of m.own.stage) (exiting_staged y ey ∙ sym (exiting_staged m.own.stage exiting))) in
-        let nt : (kind : Kind) → (λ u. noted_by (now.threads u) kind) ≡ (λ u. noted_by (g.threads u) kind) = λ kind. fun_ext (part (λ m. noted_by m kind) (fun_ext (same_notes kind))) in
+        let lo : (λ u. logged (now.threads u)) ≡ (λ u. logged (g.threads u)) = fun_ext (part_same logged g.threads t m' refl) in
+        let sg : (λ u. staged_of (now.threads u).own.stage) ≡ (λ u. staged_of (g.threads u).own.stage) = fun_ext (part_same (λ m. staged_of m.own.stage) g.threads t m' (exiting_staged y ey ∙ sym (exiting_staged m.own.stage exiting))) in
+        let nt : (kind : Kind) → (λ u. noted_by (now.threads u) kind) ≡ (λ u. noted_by (g.threads u) kind) = λ kind. fun_ext (part_same (λ m. noted_by m kind) g.threads t m' (fun_ext (same_notes kind))) in
         let rd = nt Read in
         let wr = nt Write in
         λ i. record { words = wd i; regs = rs i; args = ar i; logs = lo i; staged = sg i; read_notes = rd i; write_notes = wr i }

@@ -199,6 +199,14 @@ noted_same m m' et es er eb ee kind p =
 pub put_self : {A : Type 0} (f : ℕ → A) (t : ℕ) (v : A) → v ≡ f t → (u : ℕ) → put f t v u ≡ f u
 put_self f t v e = put_all (λ u y. y ≡ f u) f t v e (λ u _. refl)
 
+-- a part of each thread's machine, where that of one thread changes
+pub part_put : {A : Type 0} (f : Machine → A) (ms : ℕ → Machine) (t : ℕ) (m' : Machine) → (λ u. f (put ms t m' u)) ≡ put (λ u. f (ms u)) t (f m')
+part_put f ms t m' = fun_ext (λ u. put_all (λ u y. f (put ms t m' u) ≡ y) (λ u. f (ms u)) t (f m') (ap f (put_same ms t m')) (λ u ne. ap f (put_other ms t u m' ne)) u)
+
+-- and where it does not
+pub part_same : {A : Type 0} (f : Machine → A) (ms : ℕ → Machine) (t : ℕ) (m' : Machine) → f m' ≡ f (ms t) → (u : ℕ) → f (put ms t m' u) ≡ f (ms u)
+part_same f ms t m' e = put_all (λ u y. f y ≡ f (ms u)) ms t m' e (λ u _. refl)
+
 pub conc_plain : (code : Code) (g : Global Machine) (t : ℕ) (words : List ℕ) (m' : Machine) → ((kind : Kind) (p : ℕ) → noted_by m' kind p ≡ noted_by (g.threads t) kind p)
     → made_conc code (conc_of code g) t words m' ≡ record (conc_of code g) { words = λ i. slice_index words i; regs = put (λ u. register_of code (g.threads u)) t (register_of code m') }
 conc_plain code g t words m' e =
@@ -532,19 +540,13 @@ module _ (x : Targets) (code : Code) (s : Shape) (ls : Labels) (g : Global Machi
   started_now : (u : ℕ) → later.started u ≡ g.started u
   started_now = started_stay x code s ls g world st t words m' (λ j l a _. kw.low j l a)
 
-  same_part : {A : Type 0} (f : Machine → A) → f m' ≡ f (g.threads t) → (u : ℕ) → f (later.threads u) ≡ f (g.threads u)
-  same_part f e = put_all (λ u y. f y ≡ f (g.threads u)) g.threads t m' e (λ u _. refl)
-
   pub conc_same : conc_of code later ≡ record (made_conc code (conc_of code g) t words m') { logs = put (λ u. logged (g.threads u)) t (logged m') }
   conc_same =
-      let rs : (λ u. register_of code (later.threads u)) ≡ put (λ u. register_of code (g.threads u)) t (register_of code m') =
-      fun_ext (λ u. put_all (λ u y. register_of code (put g.threads t m' u) ≡ y) (λ u. register_of code (g.threads u)) t (register_of code m') (ap (register_of code) (put_same g.threads t m')) (λ u ne. ap (register_of code) (put_other g.threads t u m' ne)) u) in
+      let rs : (λ u. register_of code (later.threads u)) ≡ put (λ u. register_of code (g.threads u)) t (register_of code m') = part_put (register_of code) g.threads t m' in
       let ar : argument_of code later ≡ argument_of code g = fun_ext (args_stay x code s ls g world st t words m' (λ j l a _. kw.low j l a) own.begun_before own.begun) in
-      let lo : (λ u. logged (later.threads u)) ≡ put (λ u. logged (g.threads u)) t (logged m') =
-      fun_ext (λ u. put_all (λ u y. logged (put g.threads t m' u) ≡ y) (λ u. logged (g.threads u)) t (logged m') (ap logged (put_same g.threads t m')) (λ u ne. ap logged (put_other g.threads t u m' ne)) u) in
-      let sg : (λ u. staged_of (later.threads u).own.stage) ≡ (λ u. staged_of (g.threads u).own.stage) = fun_ext (same_part (λ m. staged_of m.own.stage) own.staged) in
-      let nt : (kind : Kind) → (λ u. noted_by (later.threads u) kind) ≡ put (λ u. noted_by (g.threads u) kind) t (noted_by m' kind) = λ kind.
-      fun_ext (λ u. put_all (λ u y. noted_by (put g.threads t m' u) kind ≡ y) (λ u. noted_by (g.threads u) kind) t (noted_by m' kind) (ap (λ m. noted_by m kind) (put_same g.threads t m')) (λ u ne. ap (λ m. noted_by m kind) (put_other g.threads t u m' ne)) u) in
+      let lo : (λ u. logged (later.threads u)) ≡ put (λ u. logged (g.threads u)) t (logged m') = part_put logged g.threads t m' in
+      let sg : (λ u. staged_of (later.threads u).own.stage) ≡ (λ u. staged_of (g.threads u).own.stage) = fun_ext (part_same (λ m. staged_of m.own.stage) g.threads t m' own.staged) in
+      let nt : (kind : Kind) → (λ u. noted_by (later.threads u) kind) ≡ put (λ u. noted_by (g.threads u) kind) t (noted_by m' kind) = λ kind. part_put (λ m. noted_by m kind) g.threads t m' in
       let rn = nt Read in
       let wn = nt Write in
       λ i. record { words = λ j. slice_index words j; regs = rs i; args = ar i; logs = lo i; staged = sg i; read_notes = rn i; write_notes = wn i }
