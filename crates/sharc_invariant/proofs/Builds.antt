@@ -58,12 +58,6 @@ module _ (x : Targets) (code : Code) (s : Shape) (ls : Labels) (wt : IsWellTyped
   pub new_shut : world.win tr.thread ≡ Shut
   new_shut = subst (GateStands s world t m) new_fine.0 (subst (λ (l : Label). GateStands s world t m l.gate) now_here rn.gate)
 
-  pub new_stage : StageStands code s st.elements world st.heap g.words tr.thread (g.threads tr.thread) (Instr.New r count cells site) (g.threads tr.thread).own.stage
-  new_stage = subst (λ i. StageStands code s st.elements world st.heap g.words t m i m.own.stage) is rn.stage
-
-  pub new_on : tr.thread < THREADS
-  new_on = st.begins.few tr.thread may.started
-
   pub new_going : is_ended (g.threads tr.thread).at.state ≡ false
   new_going = elim (g.threads tr.thread).at.state as (λ y. may_go y ≡ true → is_ended y ≡ false) [ RunsOn ↦ λ e. refl | Tries ↦ λ e. refl | Stopped ↦ λ e. refl | Ended ↦ λ e. absurd (cc) ] may.next.runs
 

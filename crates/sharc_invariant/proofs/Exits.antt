@@ -64,9 +64,6 @@ module _ (x : Targets) (code : Code) (s : Shape) (ls : Labels) (wt : IsWellTyped
   abbrev here : Label
   here = ls.at (g.threads tr.thread).at.pc
 
-  abbrev after : Global Machine
-  after = after_turn bounds (one_thread code s) g tr
-
   f : Fine x code ls (g.threads tr.thread).at.pc here Instr.Exit
   f = subst (Fine x code ls m.at.pc here) is (wt.fine m.at.pc)
 
@@ -90,9 +87,6 @@ module _ (x : Targets) (code : Code) (s : Shape) (ls : Labels) (wt : IsWellTyped
 
   on_t : tr.thread < THREADS
   on_t = st.begins.few tr.thread may.started
-
-  going : is_ended (g.threads tr.thread).at.state ≡ false
-  going = elim (g.threads tr.thread).at.state as (λ y. may_go y ≡ true → is_ended y ≡ false) [ RunsOn ↦ λ e. refl | Tries ↦ λ e. refl | Stopped ↦ λ e. refl | Ended ↦ λ e. absurd (cc) ] may.next.runs
 
   number : (g.threads tr.thread).own.number ≡ tr.thread
   number = (st.threads tr.thread).has.number
@@ -525,9 +519,6 @@ module _ (x : Targets) (code : Code) (s : Shape) (ls : Labels) (wt : IsWellTyped
 
   number_is : state_word (g.threads tr.thread).own.number ≡ state_word tr.thread
   number_is = ap state_word (st.threads tr.thread).has.number
-
-  low_on : tr.thread < THREADS
-  low_on = st.begins.few tr.thread may.started
 
   is_going : is_ended (g.threads tr.thread).at.state ≡ false
   is_going = elim (g.threads tr.thread).at.state as (λ y. may_go y ≡ true → is_ended y ≡ false) [ RunsOn ↦ λ e. refl | Tries ↦ λ e. refl | Stopped ↦ λ e. refl | Ended ↦ λ e. absurd (cc) ] may.next.runs

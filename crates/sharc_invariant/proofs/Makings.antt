@@ -181,9 +181,6 @@ module _ (x : Targets) (code : Code) (s : Shape) (ls : Labels) (wt : IsWellTyped
   unlocked : (j : ℕ) → world.mutex b j ≡ 0
   unlocked j = ⊎_elim (λ (e : world.mutex b j ≡ 0). e) (λ (ne : world.mutex b j ≡ 0 → ⊥). absurd (gone_by (st.locks.only b j ne).0)) (cases_eq (world.mutex b j) 0)
 
-  word_of : (i : ℕ) → put (λ i. slice_index g.words i) at E i ≡ slice_index words i
-  word_of i = sym (at_words i)
-
   zeros : (i : ℕ) → i < size → put (λ i. slice_index g.words i) at E (cell_at s b i) ≡ 0
   zeros i lt = put_other (λ i. slice_index g.words i) at (cell_at s b i) E (λ e. omega arith)
       ∙ ap (slice_index g.words) (let p = given.first_is in let e : cell_at s b i ≡ a.first + 2 * b + 2 + i = omega arith in e) ∙ h.3 i lt

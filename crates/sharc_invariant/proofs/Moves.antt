@@ -58,9 +58,6 @@ module _ (x : Targets) (code : Code) (s : Shape) (ls : Labels) (wt : IsWellTyped
   abbrev k' : Label
   k' = fill (empty (ls.at (g.threads tr.thread).at.pc) from) r ((ls.at (g.threads tr.thread).at.pc).env from) (moved_copy (ls.at (g.threads tr.thread).at.pc) r from) ((ls.at (g.threads tr.thread).at.pc).known from)
 
-  v1 : View
-  v1 = filled view kf 0 nothing
-
   empty_r : in_ref world (RegisterOf tr.thread kr) ≡ 0
   empty_r = subst (EntryStands (refs_at view base) (types_at view base) r) vacant.empty ((tops (suc r) 0).env r (omega arith))
 

@@ -47,14 +47,8 @@ module _ (x : Targets) (code : Code) (s : Shape) (ls : Labels) (wt : IsWellTyped
   abbrev here : Label
   here = ls.at (g.threads tr.thread).at.pc
 
-  abbrev after : Global Machine
-  after = after_turn bounds (one_thread code s) g tr
-
   abbrev view : View
   view = view_of st.elements world tr.thread (g.threads tr.thread)
-
-  low_t : tr.thread < THREADS
-  low_t = st.begins.few tr.thread may.started
 
   rn : Runs x code s ls st.elements world st.heap g tr.thread (g.threads tr.thread)
   rn = (st.threads tr.thread).runs may.started may.next.runs
