@@ -1,5 +1,5 @@
 -- The checks of mutexes.
-use Rattle.sharc_invariant.proofs.{Imports.{◌≡◌, ℕ, ℤ, ◌+◌, ◌⊎◌, ◌≢◌, true, false, cond, refl, sym, ap, ◌∙◌, subst, inl, inr, ⊎_elim, ◌==◌, Code, Cell, Instr, Shape, Stop, Trap, NoLock, Fits, cell_word, cell_of, Machine, Local, instr_at, ref, goes, stopped, lock_checked, is_held, is_of_null, word, turn, Turn, Global, MayTurn, one_thread, bounds, put_same, put_other, Targets, Gate, Closed, Holds, Loaded, HoldsLoaded, Label, Labels, Leads, LessGate, gated, IsWellTyped, knows_base, World, Window, Shut, IsLoaded, WinOk, RegisterOf, in_ref, set_win, lang_of, Silently, StopStands, State, view_of, TopStands, GateStands, base_of_cell, number_in, Turned}, Turns.{local_turn, room_of, unseen}, Own.{is_single, runs, rests, top, gate, fine, begun_before}, Quiet.KeepsOwn, Plain.{plain_state, is_shut, same_words, keeps_own}, Accesses.{gate_top, windowed_state}, Steps.{knows_top, stops, asserted, of_turn, reads}, Frames.frames_same}
+use Rattle.sharc_invariant.proofs.{Imports.{◌≡◌, ℕ, ℤ, ◌+◌, ◌⊎◌, ◌≢◌, true, false, cond, refl, sym, ap, ◌∙◌, subst, inl, inr, ⊎_elim, ◌==◌, Code, Cell, Instr, Shape, Stop, Trap, NoLock, Fits, cell_word, cell_of, Machine, Local, instr_at, ref, goes, stopped, lock_checked, is_held, is_of_null, word, turn, Turn, Global, MayTurn, one_thread, bounds, put_same, put_other, Targets, Gate, Closed, Holds, Loaded, HoldsLoaded, Label, Labels, Leads, LessGate, gated, IsWellTyped, knows_base, World, Window, Shut, IsLoaded, WinOk, RegisterOf, in_ref, set_win, lang_of, Silently, StopStands, State, view_of, TopStands, GateStands, base_of_cell, number_in, Turned}, Turns.{local_turn, room_of, unseen}, Own.{is_single, runs, top, gate, fine, begun_before}, Quiet.KeepsOwn, Plain.{plain_state, is_shut, same_words, keeps_own}, Accesses.{gate_top, windowed_state}, Steps.{knows_top, stops, asserted, of_turn, reads}, Frames.frames_same}
 use Rattle.sharc_tree.specs.declared.trap.Trap.TheVariants as traps
 
 pub held_gate : (c : Cell) (y : Gate) → LessGate (Holds c) y → (y ≡ Closed) ⊎ (y ≡ Holds c)
@@ -97,7 +97,6 @@ module _ (x : Targets) (code : Code) (s : Shape) (ls : Labels) (wt : IsWellTyped
         let done = local_turn code s g tr may m' e in
         let on = may.started in
         let go = may.next.runs in
-        let rest = rests x code s ls wt g world st t on go i is single in
         let own : KeepsOwn m m' = keeps_own x code s ls wt g world st t on go i is single m' refl refl refl refl (begun_before x code s ls wt g world st t on go i is single) refl in
         unseen x code s ls g world tr _ done (plain_state x code s ls wt g world st t on go i is single m' own refl refl (λ q. absurd (cc))
         (λ _. subst (StopStands world t m') (sym loaded) (still c win)) (room_of code s g tr may g.words m' done))
