@@ -1,5 +1,5 @@
 -- Loads and stores of cells, from the real words up.
-use Rattle.sharc_invariant.proofs.{Imports.{◌≡◌, ℕ, ℤ, pos, negsuc, suc, ◌+◌, ◌-◌, ◌^◌, ◌<◌, Bool, true, false, List, Some, None, refl, sym, ap, ◌∙◌, subst, arith, ltb-true, nat_tests, length-set, set-get_or, fun_ext, length, slice_index, slice_set, nat_lt, Load, Swap, Code, Cell, Width, Char, Int, Long, Instr, Shape, At, Frame, word_of, int_of, holds, value_bits, Fits, first_cell, Own as Own', Machine, next, Asks, step_of, instr_at, int, word, goes, accessed, set_int, may_go, turn, Turn, Global, put, MayTurn, after_turn, one_thread, bounds, put_same, put_other, ListsNoted, HeldMutex, Targets, Field, field_in, is_mutex, is_pointer, Integer, Within, Gate, Closed, Checked, Holds, Loaded, HoldsLoaded, SoleGate, Label, Labels, LessGate, Leads, gated, set_number, IsNotSole, IsWellTyped, HasCell, IsInt, IsAccess, RegisterOf, CellOf, World, Window, Shut, Sole, IsLoaded, WinOk, Right, base_of, in_ref, set_win, Built, InBlock, lang_of, conc_of, Shows, register_of, FitsContent, cell_at, is_ended, has_returned, made_turn, IsThere, Silent, Effect, State, View, view_of, TopStands, FramesStand, GateStands, size_of_run, base_of_cell, object_of_cell, number_in, changes_objects}, Effects.set_win_ok, Quiet.{KeepsOwn, KeepsWords, heap_now, quiet_state, noted_same, conc_plain, put_self}, Turns.{asks_turn, room_of}, Own.{is_single, int_inside, runs, rests, top, gate, fine, not_begun, begun_before, runs_at}, Frames.less_stands, Plain.{register_plain, going, same_words, number_top, vals_below, view_set}, Stores.{index_put, cell_store, stored_words, stored_within}, Seen.integer_stored, Cells.cell_there, CheckTurns.sim_win, Rights.right, Others.loses}
+use Rattle.sharc_invariant.proofs.{Imports.{◌≡◌, ℕ, ℤ, pos, negsuc, suc, ◌+◌, ◌-◌, ◌^◌, ◌<◌, Bool, true, false, List, refl, sym, ap, ◌∙◌, subst, arith, ltb-true, nat_tests, length-set, set-get_or, fun_ext, length, slice_index, slice_set, nat_lt, Load, Swap, Code, Cell, Width, Char, Int, Long, Instr, Shape, At, Frame, word_of, int_of, holds, value_bits, Fits, first_cell, Own as Own', Machine, next, Asks, step_of, instr_at, int, word, goes, accessed, set_int, may_go, turn, Turn, Global, put, MayTurn, after_turn, one_thread, bounds, put_same, put_other, HeldMutex, Targets, Field, field_in, is_mutex, is_pointer, Integer, Within, Gate, Closed, Holds, Loaded, HoldsLoaded, SoleGate, Label, Labels, LessGate, Leads, gated, set_number, IsNotSole, IsWellTyped, HasCell, IsInt, IsAccess, RegisterOf, CellOf, World, Window, Shut, Sole, IsLoaded, WinOk, Right, base_of, in_ref, set_win, Built, InBlock, lang_of, conc_of, Shows, register_of, FitsContent, cell_at, is_ended, has_returned, made_turn, IsThere, Silent, Effect, State, View, view_of, TopStands, FramesStand, GateStands, size_of_run, base_of_cell, object_of_cell, number_in, changes_objects}, Effects.set_win_ok, Quiet.{KeepsOwn, KeepsWords, heap_now, quiet_state, noted_same, conc_plain, put_self}, Turns.{asks_turn, room_of}, Own.{is_single, int_inside, runs, rests, top, gate, not_begun, runs_at}, Frames.{less_stands, frames_same}, Plain.{register_plain, same_words, number_top, vals_below, view_set, keeps_own, with_own}, Stores.{index_put, cell_store, stored_words, stored_within}, Seen.integer_stored, Cells.cell_there, CheckTurns.sim_win, Rights.right, Others.loses}
 use Rattle.sharc_invariant.specs.Effect.{Accesses}
 
 abbrev sign_of : Bool → ℤ → ℤ → ℤ
@@ -97,22 +97,8 @@ module _ (x : Targets) (code : Code) (s : Shape) (ls : Labels) (wt : IsWellTyped
       let fnc : (ls.at m'.at.pc).function ≡ here.function = ap (λ p. (ls.at p).function) pc ∙ leads.function ∙ fn in
       let er = ap (λ (a : At). a.refs) keeps.at in
       let ei = ap (λ (a : At). a.ints) keeps.at in
-      let own : KeepsOwn m m' = record {
-        number = ap (λ (o : Own'). o.number) keeps.own;
-        held = ap (λ (o : Own'). o.held) keeps.own;
-        heads = ap (λ (o : Own'). o.heads) keeps.own;
-        notes = ap (λ (o : Own'). length o.table.notes) keeps.own;
-        table = subst ListsNoted (sym (ap (λ (o : Own'). o.table) keeps.own)) (st.threads t).has.table;
-        stage = rest;
-        rests = rest';
-        refs = ap (λ (l : List ℕ). length l) keeps.refs;
-        ints = keeps.ints;
-        frames = ap (λ (l : List Frame). length l) keeps.frames;
-        begun_before = begun_before x code s ls wt g world st t on go i is single;
-        begun = not_begun x code s ls wt g world st t on go i is single m'.at.pc fnc;
-        ended_before = going x code s ls wt g world st t on go i is single;
-        ended = ap (λ (a : At). is_ended a.state) keeps.at;
-      } in
+      let own : KeepsOwn m m' = keeps_own x code s ls wt g world st t on go i is single m' (ap (with_own m'.own) keeps.own) (ap (λ (l : List ℕ). length l) keeps.refs) keeps.ints (ap (λ (l : List Frame). length l) keeps.frames)
+      (not_begun x code s ls wt g world st t on go i is single m'.at.pc fnc) (ap (λ (a : At). is_ended a.state) keeps.at) in
       let regs : put (λ u. register_of code (g.threads u)) t (register_of code m') ≡ (λ u. register_of code (g.threads u)) =
       fun_ext (put_self (λ u. register_of code (g.threads u)) t (register_of code m') (fun_ext (λ n. register_plain code m' rest' n ∙ ap (λ l. slice_index l n) keeps.refs ∙ sym (register_plain code m rest n)))) in
       let sim1 : Shows x s st.cells st.elements (record (conc_of code g) { words = λ j. slice_index words j; regs = put (λ u. register_of code (g.threads u)) t (register_of code m') }) w' =
@@ -172,12 +158,9 @@ module _ (x : Targets) (code : Code) (s : Shape) (ls : Labels) (wt : IsWellTyped
         set_win world t Shut,
         windowed_state m' Shut words (gated here Closed) (record { at = refl; refs = refl; ints = refl; frames = refl; own = refl }) done
             (stored_words x code s ls g world st k v ms lt back.1 (λ n l e. absurd (let h = st.apart.headers o th.live in omega arith))) (stored_within x code s ls g world st k v ms lt)
-            tt sim (gate_top x t view m.at.refs m.at.ints names here Closed top_here) below_machine leads refl (shut_gate (ls.at (m.at.pc + 1)).gate leads.gate m') refl,
+            tt sim (gate_top x t view m.at.refs m.at.ints names here Closed top_here) (frames_same x code ls t view m m' refl refl refl refl here.function below_here) leads refl (shut_gate (ls.at (m.at.pc + 1)).gate leads.gate m') refl,
         Accesses true (base_of_cell m c) j (may_access true c site f access) alone (silent_window Shut alone),
       )
-    where
-      below_machine : FramesStand x code ls tr.thread view (goes (accessed (g.threads tr.thread))) here.function
-      below_machine = elim here.function as (λ f. FramesStand x code ls tr.thread view (g.threads tr.thread) f → FramesStand x code ls tr.thread view (goes (accessed (g.threads tr.thread))) f) [ None ↦ λ h. h | Some f ↦ λ h. h ] below_here
 
   -- the words stay where one is loaded
   pub loaded_words : (k : ℕ) (m' : Machine) → after ≡ made_turn g tr.thread (slice_set g.words k (slice_index g.words k)) m' → after ≡ made_turn g tr.thread g.words m'
@@ -234,13 +217,10 @@ module _ (x : Targets) (code : Code) (s : Shape) (ls : Labels) (wt : IsWellTyped
       let gt : GateStands s (set_win world t win) t m' new = subst (GateStands s (set_win world t win) t m') (sym leads.gate) (loaded_window found c) in (
         set_win world t win,
         windowed_state m' win g.words (gated here (Loaded c)) (record { at = refl; refs = refl; ints = refl; frames = refl; own = refl }) done (same_words x code s ls g world st) (λ u b j _ _. refl) (rt, slot) st.sim
-            (gate_top x t view m.at.refs m.at.ints names here (Loaded c) top_here) (below_pending found) leads refl gt refl,
+            (gate_top x t view m.at.refs m.at.ints names here (Loaded c) top_here) (frames_same x code ls t view m m' refl refl refl refl here.function below_here) leads refl gt refl,
         Accesses false (base_of_cell m c) j rt alone (silent_window win alone),
       )
     where
-      below_pending : (found : ℕ) → FramesStand x code ls tr.thread view (goes (record (g.threads tr.thread) { pending = found })) here.function
-      below_pending found = elim here.function as (λ f. FramesStand x code ls tr.thread view (g.threads tr.thread) f → FramesStand x code ls tr.thread view (goes (record (g.threads tr.thread) { pending = found })) f) [ None ↦ λ h. h | Some f ↦ λ h. h ] below_here
-
       loaded_window : (found : ℕ) (c : Cell) → GateStands s (set_win world tr.thread (IsLoaded (base_of_cell (g.threads tr.thread) c) (number_in (g.threads tr.thread) c) found)) tr.thread (goes (record (g.threads tr.thread) { pending = found })) (Loaded c)
       loaded_window found (Cell.Global a b) = put_same world.win t (IsLoaded (base_of_cell m (Cell.Global a b)) (number_in m (Cell.Global a b)) found)
       loaded_window found k = put_same world.win t (IsLoaded (base_of_cell m k) (number_in m k) found)

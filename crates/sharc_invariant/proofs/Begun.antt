@@ -1,5 +1,19 @@
 -- A thread that is begun and has made no turn stands at the first place.
-use Rattle.sharc_invariant.proofs.{Imports.{◌≡◌, ℕ, pos, ◌+◌, ◌*◌, true, false, refl, sym, ap, ◌∙◌, subst, arith, length-replicate, slice_index, blank, FRAMES, Code, Shape, granules, Machine, no_frame, begun, may_go, most_refs, most_ints, Global, Targets, Empty, Anything, Labels, IsWellTyped, refs_in, ints_in, World, RegisterOf, Shut, in_ref, Heap, State, View, view_of, EntryStands, NumberStands, TopStands, FramesStand, GateStands, Runs, IsThread, ThreadStands, refs_at, types_at}, Own.runs_at, Plain.register_plain, Opened.{nth_replicate, no_passes, no_note}}
+use Rattle.sharc_invariant.proofs.{Imports.{◌≡◌, ℕ, pos, ◌+◌, ◌*◌, true, false, refl, sym, ap, ◌∙◌, subst, arith, length-replicate, slice_index, blank, FRAMES, Code, Shape, granules, Machine, no_frame, begun, may_go, most_refs, most_ints, Global, Targets, Empty, Anything, Labels, IsWellTyped, refs_in, ints_in, World, RegisterOf, Shut, in_ref, Heap, State, View, view_of, EntryStands, NumberStands, TopStands, FramesStand, GateStands, Runs, IsThread, ThreadStands, refs_at, types_at, ◌-◌, ◌<◌, ◌≤◌, List, [], ◌∷◌, ⊎_elim, cases_lt, get_or-replicate, get_or_past, length, slice_index_or, replicate, ListsNoted, is_noted, has_note, nothing, Pass, IsIn}, Own.runs_at, Plain.register_plain}
+
+pub nth_replicate : {A : Type 0} (n i : ℕ) (v : A) → slice_index_or (replicate n v) i v ≡ v
+nth_replicate {A} n i v = ⊎_elim (λ (lt : i < n). get_or-replicate n i v v lt) (λ (ge : n ≤ i). let e = length-replicate n v in get_or_past (replicate n v) i v (omega arith)) (cases_lt i n)
+
+pub no_passes : (ps : List Pass) (p : Pass) → ps ≡ [] → IsIn p ps → ⊥
+no_passes [] p e h = h
+no_passes (q ∷ ps) p e h = absurd (cc)
+
+pub no_note : (n : ℕ) → ListsNoted (record { notes = replicate n blank; order = [] })
+no_note n = record {
+  all = λ g e. let q : is_noted (replicate n blank) g ≡ false = ap has_note (nth_replicate n g blank) in absurd (cc);
+  only = λ g h. absurd (let l = h.1 in omega arith);
+  once = λ i j d lt l. absurd (omega arith);
+}
 
 module _ (x : Targets) (code : Code) (s : Shape) (ls : Labels) (wt : IsWellTyped x code ls) where
   begun_top : (t : ℕ) (v : View) → ((r : ℕ) → v.refs r ≡ 0) → TopStands x t v 0 0 (λ n. pos 0) (ls.at 0)

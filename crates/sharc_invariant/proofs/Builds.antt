@@ -1,5 +1,5 @@
 -- The turns of a New before its last: the world stays, and a word of the thread's own block or the top may change.
-use Rattle.sharc_invariant.proofs.{Imports.{◌≡◌, ℕ, zero, suc, ◌+◌, ◌^◌, ◌<◌, ◌≤◌, ◌≢◌, Bool, true, false, cond, List, Option, None, Some, refl, sym, ap, ◌∙◌, subst, ⊎_elim, arith, cases_order, length-set, fun_ext, length, slice_index, slice_set, ◌==◌, THREADS, note_of, epoch_of, Kind, Read, Write, Code, Shape, StateOf, RunsOn, Tries, Stopped, Ended, Stop, Stage, Rests, Makes, Lowers, Links, Names, Hands, Begins, Withdraws, WithdrawsFrom, Leaves, Fits as FitsShape, granules, top_word, Machine, instr_at, may_go, counted, Turn, Global, put, MayTurn, one_thread, bounds, Instr, put_other, put_all, sum_to, Targets, Label, Labels, Fine, IsWellTyped, World, Shut, Heap, Kept, Built, InBlock, IsListed, conc_of, Shows, head_of, is_ended, has_withdrawn, note_number, noted_by, register_of, staged_of, made_turn, KeepsOthers, StopStands, State, Runs, View, view_of, StageStands, SpawnsNow, FramesStand, GateStands, HeapStands, TopStands, label_now, ne_eq}, Listed.{store_ok, within_block, in_use}, Others.{OnHold, loses}, Quiet.{heap_now, put_self, sum_up, label_held, freed_held, locks_same}, Changes.{KeepsPart, KeepsLower, conc_now, changed_state}, Stores.{index_put, arena}, Heaps.{apart_stored, built_size, block_word, low_block, built_dead}}
+use Rattle.sharc_invariant.proofs.{Imports.{◌≡◌, ℕ, zero, suc, ◌+◌, ◌^◌, ◌<◌, ◌≤◌, ◌≢◌, Bool, true, false, cond, List, Option, None, Some, refl, sym, ap, ◌∙◌, subst, ⊎_elim, arith, cases_order, length-set, fun_ext, length, slice_index, slice_set, ◌==◌, THREADS, note_of, epoch_of, Kind, Read, Write, Code, Shape, StateOf, RunsOn, Tries, Stopped, Ended, Stop, Stage, Rests, Makes, Lowers, Links, Names, Hands, Begins, Withdraws, WithdrawsFrom, Leaves, Fits as FitsShape, granules, top_word, Machine, instr_at, may_go, counted, Turn, Global, put, MayTurn, one_thread, bounds, Instr, put_other, put_all, sum_to, Targets, Label, Labels, Fine, IsWellTyped, World, Shut, Heap, Kept, Built, InBlock, IsListed, conc_of, Shows, head_of, is_ended, has_withdrawn, note_number, noted_by, register_of, staged_of, made_turn, KeepsOthers, StopStands, State, Runs, View, view_of, StageStands, SpawnsNow, FramesStand, GateStands, HeapStands, TopStands, label_now}, Listed.{store_ok, within_block, in_use}, Others.OnHold, Quiet.{heap_now, put_self, sum_up, label_held, freed_held, locks_same, heap_stays, sizes_kept}, Changes.{KeepsPart, KeepsLower, conc_now, changed_state}, Stores.{index_put, arena}, Heaps.{apart_stored, built_size, block_word, low_block, built_dead}, Plain.others_stay, Own.begun_in}
 
 abbrev pub IsMaking : Stage → Type 0
 IsMaking Rests = Unit {0}
@@ -40,14 +40,8 @@ module _ (x : Targets) (code : Code) (s : Shape) (ls : Labels) (wt : IsWellTyped
   pub new_fine : Fine x code ls (g.threads tr.thread).at.pc here (Instr.New r count cells site)
   new_fine = subst (Fine x code ls m.at.pc here) is (wt.fine m.at.pc)
 
-  pub in_function : here.function ≢ None
-  in_function e = ⊎_elim
-      (λ (z : m.at.pc ≡ 0). let q : Instr.New r count cells site ≡ Instr.Start wt.begin.0 = sym is ∙ ap (instr_at code) z ∙ wt.begin.1 in cc)
-      (λ z. let q : Instr.New r count cells site ≡ Instr.Exit = sym is ∙ z in cc)
-      (wt.placed m.at.pc e)
-
   pub new_begun : (pc : ℕ) → (ls.at pc).function ≡ here.function → (pc == 0) ≡ false
-  new_begun pc e = ne_eq pc 0 (λ z. in_function (sym e ∙ ap (λ p. (ls.at p).function) z ∙ wt.first.0))
+  new_begun = begun_in x code ls wt m.at.pc (λ site' z. let q : Instr.New r count cells site ≡ Instr.Start site' = sym is ∙ z in cc) (λ z. let q : Instr.New r count cells site ≡ Instr.Exit = sym is ∙ z in cc)
 
   abbrev pub rn : Runs x code s ls st.elements world st.heap g tr.thread (g.threads tr.thread)
   rn = (st.threads tr.thread).runs may.started may.next.runs
@@ -63,12 +57,6 @@ module _ (x : Targets) (code : Code) (s : Shape) (ls : Labels) (wt : IsWellTyped
 
   pub new_shut : world.win tr.thread ≡ Shut
   new_shut = subst (GateStands s world t m) new_fine.0 (subst (λ (l : Label). GateStands s world t m l.gate) now_here rn.gate)
-
-  pub new_stage : StageStands code s st.elements world st.heap g.words tr.thread (g.threads tr.thread) (Instr.New r count cells site) (g.threads tr.thread).own.stage
-  new_stage = subst (λ i. StageStands code s st.elements world st.heap g.words t m i m.own.stage) is rn.stage
-
-  pub new_on : tr.thread < THREADS
-  new_on = st.begins.few tr.thread may.started
 
   pub new_going : is_ended (g.threads tr.thread).at.state ≡ false
   new_going = elim (g.threads tr.thread).at.state as (λ y. may_go y ≡ true → is_ended y ≡ false) [ RunsOn ↦ λ e. refl | Tries ↦ λ e. refl | Stopped ↦ λ e. refl | Ended ↦ λ e. absurd (cc) ] may.next.runs
@@ -95,15 +83,10 @@ module _ (x : Targets) (code : Code) (s : Shape) (ls : Labels) (wt : IsWellTyped
 
     own : KeepsPart (g.threads tr.thread) (with_stage q y z)
     own = record {
-      number = refl;
+      sizes = sizes_kept (g.threads tr.thread) (with_stage q y z) (st.threads t).has.table refl refl refl refl;
       held = refl;
       heads = refl;
-      notes = refl;
-      table = (st.threads t).has.table;
       spawns = λ n h. absurd (making_spawns y making' n h);
-      refs = refl;
-      ints = refl;
-      frames = refl;
       begun_before = new_begun m.at.pc refl;
       begun = new_begun m.at.pc refl;
     }
@@ -197,19 +180,8 @@ module _ (x : Targets) (code : Code) (s : Shape) (ls : Labels) (wt : IsWellTyped
         → StageStands code s st.elements world (heap_now st.heap stored) stored tr.thread (with_stage RunsOn y (g.threads tr.thread).own.stop) (Instr.New r count cells site) y → g.made tr.thread + 1 ≤ 100000000
         → State x code s ls (made_turn g tr.thread stored (with_stage RunsOn y (g.threads tr.thread).own.stop)) world
     own_state y my heads stage few =
-        let h = st.heap_stands in
         let m' = with_stage RunsOn y m.own.stop in
         builds_state RunsOn y m.own.stop my refl stored own_low (heap_now st.heap stored)
-        (record { regs = λ u _ q. refl; win = λ u _. refl; passed = λ u _ q p c _ z. z; sole = λ u _ q _ p. loses refl; cells = λ u _ q _ n. refl; built = λ u _ b e. (e, refl); within = λ u ne h e i n. own_others u h i ne e n })
-        (record {
-          kept = own_kept;
-          words = λ i. refl;
-          top = h.top ∙ sym (own_off top_word (λ e. let z = high in omega arith));
-          within = h.within;
-          heads = λ u n lu ln. h.heads u n lu ln ∙ put_all (λ u (y : Machine). head_of (g.threads u) n ≡ head_of y n) g.threads t m' (sym (heads n)) (λ u _. refl) u;
-          powers = h.powers;
-          live = h.live;
-          room = h.room;
-          sizes = h.sizes;
-        })
+        (others_stay s world st.heap g.words stored t (λ u ne h e i n. own_others u h i ne e n))
+        (heap_stays s st.cells g world.obj world.obj st.heap t stored m' st.heap_stands refl own_kept (own_off top_word (λ e. let z = high in omega arith)) heads)
         own_sim own_epochs (λ _. stage) few

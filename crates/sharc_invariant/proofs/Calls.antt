@@ -1,5 +1,5 @@
 -- A call keeps the invariant: the callee's frame stands above the caller's.
-use Rattle.sharc_invariant.proofs.{Imports.{◌≡◌, ℕ, ℤ, zero, suc, ◌+◌, ◌^◌, ◌<◌, ◌≤◌, Bool, true, false, cond, ◌&&◌, List, [], ◌∷◌, Some, None, refl, sym, ap, ◌∙◌, subst, inl, inr, ⊎_elim, arith, ltb-true, nat_tests, length-set, get_or-set_same, get_or-set_other, length, filter, map, nat_lt, slice_set, ◌==◌, FRAMES, Code, Shape, Frame, RunsOn, Trap, Fits, Machine, Local, instr_at, has_room, stopped, no_frame, turn, counted, Turn, Global, MayTurn, one_thread, bounds, Instr, Targets, ObjectType, Lock, mutex_of, Entry, Empty, Refers, Unknown, Number, Anything, Exactly, Within, Indexes, OfElement, OfGlobal, Closed, Pass, IsIn, Label, Labels, Leads, Less, HasBase, IsWellTyped, Calls, Passes, PassesLock, called_label, entry_label, below, below_number, below_pass, World, Silently, made_turn, State, View, view_of, frame_at, EntryStands, NumberStands, FrameStands, TopStands, StartStands, CallerStands, BelowStands, FramesStand, GateStands, refs_at, types_at, Turned, ne_eq}, Frames.{map_same, at_cell, with_locks, same_ref, less_number, number_kept, less_stands}, Quiet.heap_now, Turns.{local_turn, room_of}, Own.{runs, rests, top, fine, begun_before, closed_less, runs_at}, Plain.{is_shut, going, plain_state, stop_state}}
+use Rattle.sharc_invariant.proofs.{Imports.{◌≡◌, ℕ, ℤ, zero, suc, ◌+◌, ◌^◌, ◌<◌, ◌≤◌, Bool, true, false, cond, ◌&&◌, List, [], ◌∷◌, Some, None, refl, sym, ap, ◌∙◌, subst, inl, inr, ⊎_elim, arith, ltb-true, nat_tests, length-set, get_or-set_same, get_or-set_other, length, filter, map, nat_lt, slice_set, ◌==◌, FRAMES, Code, Shape, Frame, RunsOn, Trap, Fits, Machine, Local, instr_at, has_room, stopped, no_frame, turn, counted, Turn, Global, MayTurn, one_thread, bounds, Instr, Targets, ObjectType, Lock, mutex_of, Entry, Empty, Refers, Unknown, Number, Anything, OfElement, Closed, Pass, IsIn, Label, Labels, Leads, Less, HasBase, IsWellTyped, Calls, Passes, PassesLock, called_label, entry_label, below, below_number, below_pass, World, made_turn, State, View, view_of, frame_at, EntryStands, NumberStands, FrameStands, TopStands, StartStands, CallerStands, BelowStands, FramesStand, GateStands, refs_at, types_at, Turned, ne_eq}, Frames.{map_same, at_cell, with_locks, same_ref, less_number, number_kept, less_stands}, Quiet.heap_now, Turns.{local_turn, room_of, unseen}, Own.{runs, rests, top, fine, closed_less, runs_at}, Plain.{is_shut, plain_state, stop_state, keeps_own}}
 use Rattle.sharc_tree.specs.declared.trap.Trap.TheVariants as traps
 use Rattle.sharc_invariant.specs.Types.{Global as OfGlobals, Through, Self}
 
@@ -146,7 +146,7 @@ module _ (x : Targets) (code : Code) (s : Shape) (ls : Labels) (wt : IsWellTyped
       let fr : Frame = record { pc = m.at.pc + 1; ints = m.at.ints; refs = m.at.refs } in
       let m' : Machine = record m { at = record { pc = to; ints = m.at.ints + ints; refs = m.at.refs + refs; depth = m.at.depth + 1; state = RunsOn }; frames = slice_set m.frames m.at.depth fr } in
       let settled : (n : Machine) → turn code s m ≡ Local n → State x code s ls (made_turn g t g.words n) world → Turned x code s ls g world tr = λ n e k.
-      (world, subst (λ y. State x code s ls y world) (sym (local_turn code s g tr may n e)) k, Silently (record { obj = refl; mutex = refl; passed = λ o p u b q. q; sole = λ u r e. (e, refl) })) in
+      unseen x code s ls g world tr _ (local_turn code s g tr may n e) k in
       let room_at : (n : Machine) → turn code s m ≡ Local n → g.made t + counted n.at.state ≤ 100000000 = λ n e. room_of code s g tr may g.words n (local_turn code s g tr may n e) in
       elim (has_room m ints refs) as (λ b. has_room m ints refs ≡ b → turn code s m ≡ Local (cond b m' (stopped m (Trap traps.CallDepth site))) → Turned x code s ls g world tr) [
         | true ↦ λ b e.
@@ -160,22 +160,7 @@ module _ (x : Targets) (code : Code) (s : Shape) (ls : Labels) (wt : IsWellTyped
             let few : m.at.depth + 1 ≤ FRAMES = let q = (st.threads t).has.frames in omega arith in
             let gate' : (ls.at to).gate ≡ Closed = closed_less (ls.at to).gate entry.gate in
             let begun : (to == 0) ≡ false = ne_eq to 0 (λ z. let q : Some f ≡ None = sym entry.function ∙ ap (λ p. (ls.at p).function) z ∙ wt.first.0 in cc) in
-            settled m' e (plain_state x code s ls wt g world st t on go i is refl m' (record {
-              number = refl;
-              held = refl;
-              heads = refl;
-              notes = refl;
-              table = (st.threads t).has.table;
-              stage = rest;
-              rests = rest;
-              refs = refl;
-              ints = refl;
-              frames = length-set m.frames m.at.depth fr;
-              begun_before = begun_before x code s ls wt g world st t on go i is refl;
-              begun = begun;
-              ended_before = going x code s ls wt g world st t on go i is refl;
-              ended = refl;
-            }) refl refl
+            settled m' e (plain_state x code s ls wt g world st t on go i is refl m' (keeps_own x code s ls wt g world st t on go i is refl m' refl refl refl (length-set m.frames m.at.depth fr) begun refl) refl refl
             (λ _. runs_at x code s ls st.elements world (heap_now st.heap g.words) (made_turn g t g.words m') t m' rn.names rest
             (less_stands x t view (m.at.refs + refs) (m.at.ints + ints) rn.names (entry_label ls f) (ls.at to) entry (entry_top x t view m.at.refs m.at.ints rn.names here tp refs ints code ls to f calls (wt.plain f).bases))
             (subst (FramesStand x code ls t view m') (sym entry.function) (stack', few, λ q. below.2 (calls.caller.2 q)))

@@ -2,6 +2,10 @@
 use Rattle.sharc_invariant.proofs.Imports.{◌≡◌, ℕ, ℤ, pos, suc, ◌+◌, ◌-◌, ◌*◌, ◌%◌, ◌<◌, ◌≤◌, ◌≢◌, true, false, cond, refl, sym, ap, ◌∙◌, subst, ⊎_elim, arith, cases_eq, nat_tests, mul-le-mul_right, suc-mul, mod-mul-add, length, nat_lt, ◌==◌, Code, Cell, Shape, word_of, Fits, words_of, first_cell, cell_word, word_at, cell_of, Machine, word, ref, int, Global, Targets, ObjectType, StaticType, Field, field_in, field_at, field_of_cell, global_field, cells_of, Refers, OfElement, OfGlobal, Label, Labels, IsWellTyped, HasCell, IsInGlobal, ObjectState, RegisterOf, In, World, Based, base_of, in_ref, cell_at, State, View, view_of, EntryStands, NumberStands, TopStands, refs_at, types_at, base_of_cell, object_of_cell, number_in, IsThere, ne_eq, eq_refl}
 use Rattle.sharc_code.specs.Machine.{place}
 
+-- a cell of an object that is not the globals has the field of its row
+pub field_row : (x : Targets) (ty : ObjectType) (i : ℕ) → ty.target < length x.rows → field_in x ty i ≡ field_of_cell x ty.target i
+field_row x ty i lt = let e : (ty.target == length x.rows) ≡ false = ne_eq ty.target (length x.rows) (λ q. omega arith) in rw (e, field_in) refl
+
 module _ (x : Targets) (code : Code) (s : Shape) (ls : Labels) (wt : IsWellTyped x code ls) (fits : Fits code s) (g : Global Machine) (world : World) (st : State x code s ls g world) (t : ℕ) (m : Machine) (names : ℕ → ℤ) (l : Label)
     (top : TopStands x t (view_of st.elements world t m) m.at.refs m.at.ints names l) (reads : (r : ℕ) → ref m r ≡ in_ref world (RegisterOf t (m.at.refs + r))) where
   abbrev view : View
@@ -39,9 +43,6 @@ module _ (x : Targets) (code : Code) (s : Shape) (ls : Labels) (wt : IsWellTyped
       let a = wt.globals.low h k.is in let b = wt.globals.high h k.is in let c = k.from in let d = k.until in let e = st.globals_cells in let f = fits.globals in
       (omega arith, omega arith, omega arith)
 
-  pub field_row : (ty : ObjectType) (i : ℕ) → ty.target < length x.rows → field_in x ty i ≡ field_of_cell x ty.target i
-  field_row ty i lt = let e : (ty.target == length x.rows) ≡ false = ne_eq ty.target (length x.rows) (λ q. omega arith) in rw (e, field_in) refl
-
   -- the object in a register of the frame
   object_at : (r : ℕ) (ty : StaticType) → l.env r ≡ Refers ty → l.known r ≡ true
       → (ref m r ≢ 0) × ((world.obj (ref m r)).live ≡ true) × ((world.obj (ref m r)).ty.target ≡ ty.target) × ((types_at view m.at.refs r).target ≡ ty.target)
@@ -65,7 +66,7 @@ module _ (x : Targets) (code : Code) (s : Shape) (ls : Labels) (wt : IsWellTyped
       let c = suc-mul n (cells_of x ty.target) in (
         a.1,
         omega arith,
-        field_row (world.obj o).ty i row ∙ ap (λ y. field_of_cell x y i) a.2 ∙ ap (field_at x ty.target) (ap (λ j. j % cells_of x ty.target) ei ∙ mod-mul-add n (cells_of x ty.target) field lt),
+        field_row x (world.obj o).ty i row ∙ ap (λ y. field_of_cell x y i) a.2 ∙ ap (field_at x ty.target) (ap (λ j. j % cells_of x ty.target) ei ∙ mod-mul-add n (cells_of x ty.target) field lt),
       )
 
   pub cell_there : (c : Cell) (f : Field) → HasCell x code l c f → IsThere x s st.cells world t m c f

@@ -1,5 +1,5 @@
 -- The turn of a check, from the real words up: it passes, or it is refused.
-use Rattle.sharc_invariant.proofs.{Imports.{◌≡◌, ℕ, ℤ, suc, ◌+◌, ◌*◌, ◌/◌, ◌^◌, ◌<◌, ◌⊎◌, ◌≢◌, Bool, true, false, cond, List, refl, sym, ap, ◌∙◌, subst, inl, inr, ⊎_elim, arith, cases_eq, nat_tests, fun_ext, length, slice_index, slice_set, nat_lt, bit_or, is_some, if◌then◌else◌, THREADS, Or, Kind, Read, Write, Accesses, note_of, site_at, epoch_of, is_write, bits_of, conflicts_in, noted, ShadowLaws, Code, Cell, Instr, Shape, Rests, Conflict, Fits, granules, granule_at, granule_of, Own as Own', Machine, Asks, instr_at, check, checked, wrote, with_note, with_own, stopped, step_of, may_go, turn, Turn, Global, put, MayTurn, after_turn, one_thread, bounds, put_same, put_other, put_all, GranuleState, Passed, Clean, marked, passed, Targets, Field, FieldMode, CellMode, mode_at, mode_in, Closed, Label, Labels, IsWellTyped, HasCell, TypedReference, RegisterOf, In, Slot, CellOf, World, Window, Shut, May, Sole, base_of, in_ref, put2, set_gran, set_win, WorldInvariant, lang_of, MachineView, conc_of, Shows, register_of, noted_by, note_number, is_ended, has_withdrawn, Reads, made_turn, made_conc, KeepsOthers, IsThere, StopStands, Runs, State, size_of_run, base_of_cell, object_of_cell, number_in, ne_eq}, Effects.{put2_all, base_other, sole_at, refuse_ok, pass_ok, set_win_ok, keeps_passed}, Quiet.{KeepsOwn, KeepsWords, heap_now, quiet_state, noted_same, conc_plain, put_self}, Turns.{asks_turn, room_of}, Own.{is_single, runs, rests, top, begun_before}, Plain.{register_plain, is_shut, going}, Stores.{index_put, shadow_store, stored_words, stored_within}, Seen.{shadow_stored, put2_off}, Cells.cell_there, Checks.{marked_reads, passed_reads, clean_check, noted_numbers, noted_table, same_kind, other_put}, Others.loses}
+use Rattle.sharc_invariant.proofs.{Imports.{◌≡◌, ℕ, ℤ, suc, ◌+◌, ◌*◌, ◌/◌, ◌^◌, ◌<◌, ◌⊎◌, ◌≢◌, Bool, true, false, cond, List, refl, sym, ap, ◌∙◌, subst, inl, inr, ⊎_elim, arith, cases_eq, nat_tests, fun_ext, length, slice_index, slice_set, nat_lt, bit_or, is_some, if◌then◌else◌, THREADS, Or, Kind, Read, Write, Accesses, note_of, site_at, epoch_of, is_write, bits_of, conflicts_in, noted, ShadowLaws, Code, Cell, Instr, Shape, Rests, Conflict, Fits, granules, granule_at, granule_of, Own as Own', Machine, Asks, instr_at, check, checked, wrote, with_note, with_own, stopped, step_of, may_go, turn, Turn, Global, put, MayTurn, after_turn, one_thread, bounds, put_same, put_other, put_all, GranuleState, Passed, Clean, marked, passed, Targets, Field, FieldMode, CellMode, mode_at, mode_in, Closed, Label, Labels, IsWellTyped, HasCell, TypedReference, RegisterOf, In, Slot, CellOf, World, Window, Shut, May, Sole, base_of, in_ref, put2, set_gran, set_win, WorldInvariant, lang_of, MachineView, conc_of, Shows, register_of, noted_by, note_number, is_ended, has_withdrawn, Reads, made_turn, made_conc, KeepsOthers, IsThere, StopStands, Runs, State, size_of_run, base_of_cell, object_of_cell, number_in, ne_eq}, Effects.{put2_all, base_other, sole_at, refuse_ok, pass_ok, set_win_ok, keeps_passed}, Quiet.{KeepsOwn, KeepsWords, heap_now, quiet_state, noted_same, conc_plain, put_self}, Turns.{asks_turn, room_of}, Own.{is_single, runs, rests, top, begun_before}, Plain.{register_plain, is_shut, going, keeps_own}, Stores.{index_put, shadow_store, stored_words, stored_within}, Seen.{shadow_stored, put2_off}, Cells.cell_there, Checks.{marked_reads, passed_reads, clean_check, noted_numbers, noted_table, same_kind, other_put}, Others.loses}
 use Rattle.sharc_code.specs.Machine.{place}
 
 pub put_put : {A : Type 0} (f : ℕ → A) (t : ℕ) (a b : A) → put (put f t a) t b ≡ put f t b
@@ -148,7 +148,7 @@ module _ (x : Targets) (code : Code) (s : Shape) (ls : Labels) (wt : IsWellTyped
       let shut = is_shut x code s ls wt g world st t may.started may.next.runs i is single closed in
       let begun = begun_before x code s ls wt g world st t may.started may.next.runs i is single in
       let on' = going x code s ls wt g world st t may.started may.next.runs i is single in
-      let own : KeepsOwn m m' = record { number = refl; held = refl; heads = refl; notes = refl; table = (st.threads t).has.table; stage = rest; rests = rest; refs = refl; ints = refl; frames = refl; begun_before = begun; begun = begun; ended_before = on'; ended = refl } in
+      let own : KeepsOwn m m' = keeps_own x code s ls wt g world st t may.started may.next.runs i is single m' refl refl refl refl begun refl in
       let sim1 = shadow_stored x s st.cells st.elements (conc_of code g) world st.sim st.apart o gi v' (marked old t kb) (conc_of code g).read_notes (conc_of code g).write_notes there.live has_granule
       (marked_reads laws found (conc_of code g).read_notes (conc_of code g).write_notes p old t kind low_t reads_old) (λ u q _. refl) (λ u q _. refl) in
       let sim2 : Shows x s st.cells st.elements (record (conc_of code g) { words = λ n. slice_index words n; regs = put (λ u. register_of code (g.threads u)) t (register_of code m') }) w' =
@@ -199,16 +199,18 @@ module _ (x : Targets) (code : Code) (s : Shape) (ls : Labels) (wt : IsWellTyped
       let on' = going x code s ls wt g world st t may.started may.next.runs i is single in
       let rest' : o1.stage ≡ Rests = same (λ q. q.stage ≡ Rests) rest (λ n h. h) in
       let own : KeepsOwn m m' = record {
-        number = same (λ q. q.number ≡ m.own.number) refl (λ n h. h);
+        sizes = record {
+          number = same (λ q. q.number ≡ m.own.number) refl (λ n h. h);
+          notes = tb.1;
+          table = tb.0;
+          refs = refl;
+          ints = refl;
+          frames = refl;
+        };
         held = same (λ q. q.held ≡ m.own.held) refl (λ n h. h);
         heads = same (λ q. q.heads ≡ m.own.heads) refl (λ n h. h);
-        notes = tb.1;
-        table = tb.0;
         stage = rest;
         rests = rest';
-        refs = refl;
-        ints = refl;
-        frames = refl;
         begun_before = begun;
         begun = ne_eq (m.at.pc + 1) 0 (λ z. absurd (omega arith));
         ended_before = on';

@@ -1,5 +1,5 @@
 -- The granules of an object that a thread has alone are cleared.
-use Rattle.sharc_invariant.proofs.{Imports.{◌≡◌, ℕ, ℤ, zero, suc, ◌+◌, ◌*◌, ◌/◌, ◌^◌, ◌<◌, ◌≤◌, ◌≢◌, Bool, true, false, List, Some, None, refl, sym, ap, ◌∙◌, subst, ⊎_elim, arith, cases_eq, length-set, fun_ext, length, slice_index, slice_set, min, ◌==◌, THREADS, ShadowLaws, epoch_of, cleared_of, Code, Shape, Stage, Rests, Looks, Clears, granules, first_cell, Machine, instr_at, ref, largest, Turn, Global, put, MayTurn, one_thread, bounds, Instr, put_same, put_other, put_all, GranuleState, Passed, cleared, sum_to, Targets, Gate, Label, Labels, Leads, gated, SoleGate, IsWellTyped, IsUnpassed, RegisterOf, In, Slot, World, Sole, in_ref, WorldInvariant, Heap, Kept, Built, InBlock, lang_of, conc_of, Shows, Reads, staged_of, made_turn, KeepsOthers, State, View, view_of, TopStands, FramesStand, PassStands, GateStands, StageStands, refs_at, size_of_run, suc_times}, Effects.{sole_at, only_slot}, Frames.{Agrees, Low, callers_agree, less_stands}, Accesses.gate_top, Own.runs_at, Quiet.{heap_now, label_held}, Changes.KeepsLow, Walks.{IsWalk, walk_hold, walk_register, walk_state, walked, conc_walked}, Stores.{index_put, arena, MayStore}, Listed.store_ok, Sums.sum_one, Others.loses}
+use Rattle.sharc_invariant.proofs.{Imports.{◌≡◌, ℕ, ℤ, zero, suc, ◌+◌, ◌*◌, ◌/◌, ◌^◌, ◌<◌, ◌≤◌, ◌≢◌, Bool, true, false, List, Some, None, refl, sym, ap, ◌∙◌, subst, ⊎_elim, arith, cases_eq, length-set, fun_ext, length, slice_index, slice_set, min, ◌==◌, THREADS, ShadowLaws, epoch_of, cleared_of, Code, Shape, Stage, Rests, Looks, Clears, granules, first_cell, Machine, instr_at, ref, largest, Turn, Global, put, MayTurn, one_thread, bounds, Instr, put_same, put_other, put_all, GranuleState, Passed, cleared, sum_to, Targets, Gate, Label, Labels, Leads, gated, SoleGate, IsWellTyped, IsUnpassed, RegisterOf, In, Slot, World, Sole, in_ref, WorldInvariant, Heap, Kept, Built, InBlock, lang_of, conc_of, Shows, Reads, staged_of, made_turn, KeepsOthers, State, View, view_of, TopStands, FramesStand, PassStands, GateStands, StageStands, refs_at, size_of_run, suc_times}, Effects.{sole_at, only_slot}, Frames.{Agrees, Low, less_stands, frames_agree}, Accesses.gate_top, Own.runs_at, Quiet.{heap_now, label_held}, Changes.KeepsLow, Walks.{IsWalk, walk_hold, walk_register, walk_state, walked, conc_walked}, Stores.{index_put, arena, MayStore}, Listed.store_ok, Sums.sum_one, Others.loses}
 
 -- ---- numbers
 pub cleared_small : (v : ℕ) → cleared_of v < 2 ^ 64
@@ -156,10 +156,7 @@ module _ (x : Targets) (code : Code) (s : Shape) (ls : Labels) (wt : IsWellTyped
               (⊎_elim (λ (e : q ≡ 0) k. some (sym k ∙ e))
               (λ (c : (i : ℕ) × (Low base i × ((view.refs i ≡ q) × (q ≢ 0)))) k. alone (In (RegisterOf t c.0)) (λ y. let q : c.0 ≡ base + r = cc in let lt : c.0 < base = c.1.0 in omega arith) (c.1.1.0 ∙ k)) c) z;
         } in
-        elim here.function as (λ f. FramesStand x code ls t view m f → FramesStand x code ls t view' m' f) [
-          | None ↦ λ h. h
-          | Some f ↦ λ h. (callers_agree x code ls t view view' m.frames m.at.depth m.at.refs m.at.ints f a h.0, h.1, h.2)
-        ] ((st.threads t).runs may.started may.next.runs).below
+        frames_agree x code ls t view view' m m' a refl refl refl refl here.function ((st.threads t).runs may.started may.next.runs).below
 
     -- it stays, at a stage
     pub stays_on : (y : Stage) → IsWalk y → staged_of y ≡ staged_of (g.threads tr.thread).own.stage → StageStands code s st.elements world' (heap_now st.heap words) words tr.thread (g.threads tr.thread) (instr_at code (g.threads tr.thread).at.pc) y → g.made tr.thread + 1 ≤ 100000000

@@ -54,17 +54,8 @@ module _ (z : Size) (f : Slot → TypedReference) (v : TypedReference) (o : ℕ)
   abbrev n_of : TypedReference → ℕ
   n_of h = one h.reference o
 
-  abbrev s_regs : (Slot → TypedReference) → ℕ
-  s_regs g = sum_to z.threads (λ t. sum_to z.regs (λ r. n_of (g (In (RegisterOf t r)))))
-
   abbrev s_args : (Slot → TypedReference) → ℕ
   s_args g = sum_to z.threads (λ t. n_of (g (In (ArgumentOf t))))
-
-  abbrev s_logs : (Slot → TypedReference) → ℕ
-  s_logs g = sum_to z.threads (λ t. sum_to z.log (λ r. n_of (g (In (LogOf t r)))))
-
-  abbrev s_cells : (Slot → TypedReference) → ℕ
-  s_cells g = sum_to z.objects (λ p. sum_to z.cells (λ i. n_of (g (Cell p i))))
 
   n_other : (s q : Slot) → (q ≡ s → ⊥) → n_of (place f s v q) ≡ n_of (f q)
   n_other s q ne = ap n_of (place_other f s q v ne)

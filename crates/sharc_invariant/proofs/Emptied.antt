@@ -1,5 +1,5 @@
 -- An object whose pointers are all empty has no reference in it.
-use Rattle.sharc_invariant.proofs.Imports.{◌≡◌, ℕ, ◌+◌, ◌-◌, ◌*◌, ◌/◌, ◌%◌, ◌^◌, ◌<◌, ◌≤◌, ◌≢◌, true, false, refl, ap, ◌∙◌, subst, ⊎_elim, arith, sym, List, [], ◌∷◌, zero, suc, cases_eq, cases_order, cases_lt, mod-mul-add, div-mul-add, mul-le-mul_right, suc-mul, length, slice_index, min, ◌==◌, slice_index_or, Code, Shape, Fits, Machine, layout_at, pointer_cell, fields, largest, field_of, Global, Targets, ObjectType, cells_of, field_at, field_in, field_of_cell, is_pointer, Field, no_field, Labels, IsWellTyped, IsLayout, CellOf as Cell, World, State, AreEmpty, all_pointers, ne_eq}
+use Rattle.sharc_invariant.proofs.{Imports.{◌≡◌, ℕ, ◌+◌, ◌-◌, ◌*◌, ◌/◌, ◌%◌, ◌^◌, ◌<◌, ◌≤◌, ◌≢◌, true, false, refl, ap, ◌∙◌, subst, ⊎_elim, arith, sym, List, [], ◌∷◌, zero, suc, cases_eq, cases_order, cases_lt, mod-mul-add, div-mul-add, mul-le-mul_right, suc-mul, length, slice_index, min, slice_index_or, Code, Shape, Fits, Machine, layout_at, pointer_cell, fields, largest, field_of, Global, Targets, cells_of, field_at, field_in, field_of_cell, is_pointer, Field, no_field, Labels, IsWellTyped, IsLayout, CellOf as Cell, World, State, AreEmpty, all_pointers}, Cells.field_row}
 use Rattle.sharc_invariant.specs.Types.{row_of}
 
 split : (i c : ℕ) → c ≢ 0 → i ≡ i / c * c + i % c
@@ -28,9 +28,6 @@ some_cells x code layout target lay nf =
     (cases_lt 0 (cells_of x target))
 
 module _ (x : Targets) (code : Code) (s : Shape) (ls : Labels) (wt : IsWellTyped x code ls) (fits : Fits code s) (g : Global Machine) (world : World) (st : State x code s ls g world) where
-  field_row : (ty : ObjectType) (i : ℕ) → ty.target < length x.rows → field_in x ty i ≡ field_of_cell x ty.target i
-  field_row ty i lt = let e : (ty.target == length x.rows) ≡ false = ne_eq ty.target (length x.rows) (λ q. omega arith) in rw (e, field_in) refl
-
   -- the number of a pointer of an element is that of its cell
   cell_number : (layout e q c fld i : ℕ) → (layout_at code layout).cells ≡ c → (layout_at code layout).from ≤ q → q < (layout_at code layout).until → slice_index code.pointers.items q ≡ fld → i ≡ e * c + fld → i < 2 ^ 63
       → pointer_cell code (layout_at code layout) (e * fields (layout_at code layout) + (q - (layout_at code layout).from)) ≡ i
@@ -63,7 +60,7 @@ module _ (x : Targets) (code : Code) (s : Shape) (ls : Labels) (wt : IsWellTyped
       let e = i / c in
       let fld = i % c in
       let er : e < E = low_row e E c i (omega arith) lt in
-      let field_is : field_in x (world.obj o).ty i ≡ field_at x target fld = field_row (world.obj o).ty i row ∙ ap (λ t. field_of_cell x t i) et in
+      let field_is : field_in x (world.obj o).ty i ≡ field_at x target fld = field_row x (world.obj o).ty i row ∙ ap (λ t. field_of_cell x t i) et in
       let ptr : is_pointer (field_at x target fld).holds ≡ true = subst (λ f. is_pointer f.holds ≡ true) field_is k.1 in
       let a = lay.all fld ptr in
       let q = a.0 in
@@ -100,7 +97,7 @@ module _ (x : Targets) (code : Code) (s : Shape) (ls : Labels) (wt : IsWellTyped
       let low : e * c + fld < 2 ^ 63 = let g1 = fits.globals in let g2 = wt.globals.few in let g3 = fits.most in omega arith in
       let num : pointer_cell code l i ≡ e * c + fld = ap (λ n. field_of e n fld) lay.cells ∙ (let z : min (e * c + fld) largest ≡ e * c + fld = omega arith in z) in
       let field_is : field_in x (world.obj o).ty (e * c + fld) ≡ field_at x target fld =
-      field_row (world.obj o).ty (e * c + fld) row ∙ ap (λ t. field_of_cell x t (e * c + fld)) et ∙ ap (field_at x target) (mod-mul-add e c fld lf) in (
+      field_row x (world.obj o).ty (e * c + fld) row ∙ ap (λ t. field_of_cell x t (e * c + fld)) et ∙ ap (field_at x target) (mod-mul-add e c fld lf) in (
         subst (λ n. n < st.cells o) (sym num) (subst (λ m. e * c + fld < m) (sym size) n),
         ap (λ n. is_pointer (field_in x (world.obj o).ty n).holds) num ∙ ap (λ (f : Field). is_pointer f.holds) field_is ∙ ptr,
       )

@@ -1,5 +1,5 @@
 -- The turns of an Exit: it says that the thread returned, withdraws from each granule of its table, and says that it is gone.
-use Rattle.sharc_invariant.proofs.{Imports.{◌≡◌, ℕ, zero, suc, ◌+◌, ◌*◌, ◌^◌, ◌<◌, ◌≤◌, ◌≢◌, ◌⊎◌, ◌||◌, ◌&&◌, Bool, true, false, cond, List, [], None, refl, sym, ap, ◌∙◌, subst, inl, inr, ⊎_elim, arith, ltb-true, cases_eq, cases_lt, nat_tests, set-get_or, length-set, fun_ext, length, slice_index, slice_set, take, nat_lt, nat_eq, ◌==◌, THREADS, Load, Swap, Cas, ShadowLaws, note_of, withdrawn_of, epoch_of, Kind, Read, Write, Code, Shape, StateOf, RunsOn, Tries, Stopped, Ended, Stage, Rests, Makes, Lowers, Links, Names, Hands, Begins, Withdraws, WithdrawsFrom, Leaves, int_of, Fits as FitsShape, granules, granule_at, top_word, shadow_word, next_thread_word, state_word, function_word, argument_word, Machine, instr_at, function_of, step_of, at_stage, exit, withdraws, withdrew, row_of, without_own, turn, may_go, counted, Turn, Global, put, MayTurn, after_turn, is_started, one_thread, bounds, Instr, put_same, put_other, put_all, GranuleState, Passed, withdrawn, Targets, nothing, Label, Labels, IsIn, Fine, IsWellTyped, In, RegisterOf, ArgumentOf, TypedReference, World, Shut, WorldInvariant, in_ref, put2, set_gran, Heap, Kept, Built, InBlock, lang_of, conc_of, MachineView, Shows, Reads, store, has_returned, is_withdrawing, has_withdrawn, is_ended, is_unread, is_first, if_reference, argument_of, making_of, note_number, noted_by, register_of, staged_of, logged, shadow_at, cell_at, count_at, length_at, made_turn, KeepsOthers, Effect, Silently, Returns, WithdrawsOf, events_of, StopStands, State, Runs, View, view_of, StageStands, SpawnsNow, NumberStands, EntryStands, FramesStand, GateStands, Threads, Firsts, TopStands, label_now, size_of_run, Followed, changes_objects, objects_now, ne_eq, eq_refl}, Effects.withdraw_ok, Listed.store_ok, Others.{OnHold, loses}, Quiet.{KeepsThread, KeepsMost, heap_now, put_self, sum_up, label_held, freed_held, locks_same, most_state}, Changes.{KeepsPart, KeepsLow, lower, conc_now, changed_state}, Turns.{asks_turn, room_of}, Stores.{index_put, arena, shadow_store, stored_within}, Seen.{shadow_stored, put2_off}, Heaps.apart_stored, Clears.part_words, Uncounted.granule_cases, Withdrawn.{is_row, one_more, row_low, first_row, noted_withdraws, wrote_now, withdrawn_reads, withdrawn_small}, Owned.{effect_objects, behind_same}, Spawns.no_argument, Frees.{same_le as two_le}}
+use Rattle.sharc_invariant.proofs.{Imports.{◌≡◌, ℕ, zero, suc, ◌+◌, ◌*◌, ◌^◌, ◌<◌, ◌≤◌, ◌≢◌, ◌⊎◌, ◌||◌, ◌&&◌, Bool, true, false, cond, List, [], None, refl, sym, ap, ◌∙◌, subst, inl, inr, ⊎_elim, arith, ltb-true, cases_eq, cases_lt, nat_tests, set-get_or, length-set, fun_ext, length, slice_index, slice_set, take, nat_lt, nat_eq, ◌==◌, THREADS, Load, Swap, Cas, ShadowLaws, note_of, withdrawn_of, epoch_of, Kind, Read, Write, Code, Shape, StateOf, RunsOn, Tries, Stopped, Ended, Stage, Rests, Makes, Lowers, Links, Names, Hands, Begins, Withdraws, WithdrawsFrom, Leaves, int_of, Fits as FitsShape, granules, granule_at, top_word, shadow_word, next_thread_word, state_word, function_word, argument_word, Machine, instr_at, step_of, at_stage, exit, withdraws, withdrew, row_of, without_own, turn, may_go, counted, Turn, Global, put, MayTurn, after_turn, one_thread, bounds, Instr, put_same, put_other, put_all, Passed, withdrawn, Targets, nothing, Label, Labels, IsIn, Fine, IsWellTyped, In, RegisterOf, ArgumentOf, TypedReference, World, Shut, WorldInvariant, in_ref, put2, set_gran, Heap, Kept, Built, InBlock, lang_of, conc_of, MachineView, Shows, Reads, store, has_returned, is_withdrawing, has_withdrawn, is_ended, is_unread, is_first, argument_of, making_of, note_number, noted_by, register_of, staged_of, logged, shadow_at, cell_at, count_at, length_at, made_turn, KeepsOthers, Effect, Silently, Returns, WithdrawsOf, events_of, StopStands, State, Runs, View, view_of, StageStands, SpawnsNow, NumberStands, EntryStands, FramesStand, GateStands, Threads, Firsts, TopStands, label_now, size_of_run, Followed, changes_objects, objects_now, ne_eq, eq_refl}, Effects.withdraw_ok, Listed.store_ok, Others.{OnHold, loses}, Quiet.{KeepsThread, KeepsMost, heap_now, put_self, sum_up, label_held, freed_held, most_state, started_still, args_still, sizes_kept, part_same}, Changes.{KeepsPart, KeepsLow, lower, conc_now, alike_state}, Turns.{asks_turn, room_of}, Stores.{index_put, arena, shadow_store, stored_within}, Seen.{shadow_stored, put2_off}, Heaps.apart_stored, Clears.part_words, Uncounted.granule_cases, Withdrawn.{is_row, one_more, row_low, first_row, noted_withdraws, wrote_now, withdrawn_reads, withdrawn_small}, Owned.{effect_objects, behind_same}, Frees.{same_le as two_le}, Plain.{others_stay, same_others}}
 
 -- ---- the stages
 abbrev pub IsExiting : Stage → Type 0
@@ -64,9 +64,6 @@ module _ (x : Targets) (code : Code) (s : Shape) (ls : Labels) (wt : IsWellTyped
   abbrev here : Label
   here = ls.at (g.threads tr.thread).at.pc
 
-  abbrev after : Global Machine
-  after = after_turn bounds (one_thread code s) g tr
-
   f : Fine x code ls (g.threads tr.thread).at.pc here Instr.Exit
   f = subst (Fine x code ls m.at.pc here) is (wt.fine m.at.pc)
 
@@ -90,9 +87,6 @@ module _ (x : Targets) (code : Code) (s : Shape) (ls : Labels) (wt : IsWellTyped
 
   on_t : tr.thread < THREADS
   on_t = st.begins.few tr.thread may.started
-
-  going : is_ended (g.threads tr.thread).at.state ≡ false
-  going = elim (g.threads tr.thread).at.state as (λ y. may_go y ≡ true → is_ended y ≡ false) [ RunsOn ↦ λ e. refl | Tries ↦ λ e. refl | Stopped ↦ λ e. refl | Ended ↦ λ e. absurd (cc) ] may.next.runs
 
   number : (g.threads tr.thread).own.number ≡ tr.thread
   number = (st.threads tr.thread).has.number
@@ -176,50 +170,27 @@ module _ (x : Targets) (code : Code) (s : Shape) (ls : Labels) (wt : IsWellTyped
         }
 
     own : KeepsThread (g.threads tr.thread) m'
-    own = record { number = refl; held = refl; heads = refl; making = exiting_making y ey ∙ sym (exiting_making m.own.stage exiting); notes = refl; table = (st.threads t).has.table; refs = refl; ints = refl; frames = refl }
+    own = record { sizes = sizes_kept (g.threads tr.thread) m' (st.threads t).has.table refl refl refl refl; held = refl; heads = refl; making = exiting_making y ey ∙ sym (exiting_making m.own.stage exiting) }
 
     started_now : (u : ℕ) → now.started u ≡ g.started u
-    started_now u = elim (g.started u) as (λ y. g.started u ≡ y → (is_started bounds words u || y) ≡ y) [
-      | true ↦ λ _. elim (is_started bounds words u) as (λ b. (b || true) ≡ true) [ true ↦ refl | false ↦ refl ]
-      | false ↦ λ e.
-          let nt : u ≡ t → ⊥ = λ z. let b : g.started u ≡ true = ap g.started z ∙ may.started in cc in
-          let q : is_started bounds words u ≡ false = elim (nat_lt u THREADS) as (λ b. nat_lt u THREADS ≡ b → (b && nat_eq (slice_index words (state_word u)) 1) ≡ false) [
-            | true ↦ λ lt. let l : u < THREADS = ltb-true u THREADS lt in ap (λ n. nat_eq n 1) (off (state_word u) (λ z. nt (omega arith)) ∙ (st.begins.started u l).1 e)
-            | false ↦ λ _. refl
-          ] refl in
-          ap (λ b. b || false) q
-    ] refl
+    started_now u = started_still x code s ls g world st t words m' u (λ off' _. off (state_word u) (λ e.
+        let same : u ≡ t = omega arith in let b : g.started u ≡ true = ap g.started same ∙ may.started in absurd (cc)))
 
     unread_own : is_unread m' ≡ false
     unread_own = ap (λ b. b && is_first y) begun
 
     args_same : (u : ℕ) → argument_of code now u ≡ argument_of code g u
-    args_same u = ⊎_elim
-        (λ (e : u ≡ t).
-        let a : is_unread (now.threads u) ≡ false = ap (λ u. is_unread (now.threads u)) e ∙ ap is_unread (put_same g.threads t m') ∙ unread_own in
-        let b : is_unread (g.threads u) ≡ false = ap (λ u. is_unread (g.threads u)) e ∙ ap (λ b. b && is_first m.own.stage) begun in
-        no_argument (nat_lt u THREADS && (slice_index words (state_word u) == 1)) (is_unread (now.threads u)) (if_reference (function_of code (slice_index words (function_word u))).parameter (slice_index words (argument_word u))) a
-        ∙ sym (no_argument (nat_lt u THREADS && (slice_index g.words (state_word u) == 1)) (is_unread (g.threads u)) (if_reference (function_of code (slice_index g.words (function_word u))).parameter (slice_index g.words (argument_word u))) b))
-        (λ (ne : u ≡ t → ⊥).
-        let a : is_unread (now.threads u) ≡ is_unread (g.threads u) = ap is_unread (put_other g.threads t u m' ne) in
-        let C : Bool → ℕ → ℕ → ℕ → ℕ = λ b st fn ar. cond ((nat_lt u THREADS && (st == 1)) && b) (if_reference (function_of code fn).parameter ar) 0 in
-        ap (λ b. C b (slice_index words (state_word u)) (slice_index words (function_word u)) (slice_index words (argument_word u))) a
-        ∙ ap (λ n. C (is_unread (g.threads u)) n (slice_index words (function_word u)) (slice_index words (argument_word u))) (off (state_word u) (λ z. ne (omega arith)))
-        ∙ ap (λ n. C (is_unread (g.threads u)) (slice_index g.words (state_word u)) n (slice_index words (argument_word u))) (off (function_word u) (λ z. omega arith))
-        ∙ ap (λ n. C (is_unread (g.threads u)) (slice_index g.words (state_word u)) (slice_index g.words (function_word u)) n) (off (argument_word u) (λ z. omega arith)))
-        (cases_eq u t)
-
-    part : {A : Type 0} (f : Machine → A) → f m' ≡ f (g.threads tr.thread) → (u : ℕ) → f (now.threads u) ≡ f (g.threads u)
-    part f e = put_all (λ u y. f y ≡ f (g.threads u)) g.threads t m' e (λ u _. refl)
+    args_same = args_still x code s ls g world st t words m' begun begun
+        (λ u ne _. (off (state_word u) (λ z. ne (omega arith)), λ _. (off (function_word u) (λ z. omega arith), off (argument_word u) (λ z. omega arith))))
 
     conc_is : conc_of code now ≡ store (conc_of code g) k v
     conc_is =
         let wd : (λ j. slice_index words j) ≡ put (λ i. slice_index g.words i) k v = fun_ext at in
-        let rs : (λ u. register_of code (now.threads u)) ≡ (λ u. register_of code (g.threads u)) = fun_ext (part (register_of code) (fun_ext (same_regs q y ey))) in
+        let rs : (λ u. register_of code (now.threads u)) ≡ (λ u. register_of code (g.threads u)) = fun_ext (part_same (register_of code) g.threads t m' (fun_ext (same_regs q y ey))) in
         let ar = fun_ext args_same in
-        let lo : (λ u. logged (now.threads u)) ≡ (λ u. logged (g.threads u)) = fun_ext (part logged refl) in
-        let sg : (λ u. staged_of (now.threads u).own.stage) ≡ (λ u. staged_of (g.threads u).own.stage) = fun_ext (part (λ m. staged_of m.own.stage) (exiting_staged y ey ∙ sym (exiting_staged m.own.stage exiting))) in
-        let nt : (kind : Kind) → (λ u. noted_by (now.threads u) kind) ≡ (λ u. noted_by (g.threads u) kind) = λ kind. fun_ext (part (λ m. noted_by m kind) (fun_ext (same_notes kind))) in
+        let lo : (λ u. logged (now.threads u)) ≡ (λ u. logged (g.threads u)) = fun_ext (part_same logged g.threads t m' refl) in
+        let sg : (λ u. staged_of (now.threads u).own.stage) ≡ (λ u. staged_of (g.threads u).own.stage) = fun_ext (part_same (λ m. staged_of m.own.stage) g.threads t m' (exiting_staged y ey ∙ sym (exiting_staged m.own.stage exiting))) in
+        let nt : (kind : Kind) → (λ u. noted_by (now.threads u) kind) ≡ (λ u. noted_by (g.threads u) kind) = λ kind. fun_ext (part_same (λ m. noted_by m kind) g.threads t m' (fun_ext (same_notes kind))) in
         let rd = nt Read in
         let wr = nt Write in
         λ i. record { words = wd i; regs = rs i; args = ar i; logs = lo i; staged = sg i; read_notes = rd i; write_notes = wr i }
@@ -283,15 +254,7 @@ module _ (x : Targets) (code : Code) (s : Shape) (ls : Labels) (wt : IsWellTyped
     says_state : g.made tr.thread + counted q ≤ 100000000 → (may_go q ≡ true → StageStands code s st.elements world (heap_now st.heap words) words tr.thread m' Instr.Exit y) → State x code s ls now world
     says_state room stage =
         most_state x code s ls g world st t may.started words m' own most world refl refl
-        (record {
-          regs = λ u _ r. refl;
-          win = λ u _. refl;
-          passed = λ u _ o p b _ z. z;
-          sole = λ u _ r _ p. loses refl;
-          cells = λ u _ r _ n. refl;
-          built = λ u _ b e. (e, refl);
-          within = λ u _ b e j n. off j (λ z. let lo = n.0 in let w = on_t in absurd (omega arith));
-        })
+        (others_stay s world st.heap g.words words t (λ u _ b e j n. off j (λ z. let lo = n.0 in let w = on_t in absurd (omega arith))))
         wt st.inv sim_now threads_now firsts_now (λ u _. inl (started_now u)) (λ go. runs_on q y ey world refl refl (heap_now st.heap words) now (stage go)) (λ _. subst (StopStands world t m') (sym f.0) shut) room
 
   -- ---- a row of the table
@@ -301,15 +264,10 @@ module _ (x : Targets) (code : Code) (s : Shape) (ls : Labels) (wt : IsWellTyped
 
     own1 : KeepsPart (g.threads tr.thread) m1
     own1 = record {
-      number = refl;
+      sizes = sizes_kept (g.threads tr.thread) m1 (st.threads t).has.table refl refl refl refl;
       held = refl;
       heads = refl;
-      notes = refl;
-      table = (st.threads t).has.table;
       spawns = λ n h. absurd (exiting_spawns y ey n h);
-      refs = refl;
-      ints = refl;
-      frames = refl;
       begun_before = begun;
       begun = begun;
     }
@@ -326,29 +284,10 @@ module _ (x : Targets) (code : Code) (s : Shape) (ls : Labels) (wt : IsWellTyped
         → WorldInvariant (size_of_run code s) (lang_of x) w' → Shows x s st.cells st.elements (conc_of code (made_turn g tr.thread words m1)) w' → ((i : ℕ) → i < granules s → epoch_of (slice_index words (97 + i)) ≡ epoch_of (slice_index g.words (97 + i)))
         → StageStands code s st.elements w' (heap_now st.heap words) words tr.thread m1 Instr.Exit y → g.made tr.thread + 1 ≤ 100000000 → State x code s ls (made_turn g tr.thread words m1) w'
     row_state w' es ew eo em others inv sim epochs stage few =
-        let h = st.heap_stands in
         let now = made_turn g t words m1 in
-        let A : (ℕ → Rattle.sharc_invariant.specs.World.ObjectState) → Type 0 = λ f. Rattle.sharc_invariant.specs.Words.Apart s f st.cells in
-        let R : (ℕ → Rattle.sharc_invariant.specs.World.ObjectState) → Type 0 = λ f. (o : ℕ) → o ≢ 0 → (f o).live ≡ true → ((f o).global ≡ false) × ((f o).ty.target < length x.rows) in
-        let W : (ℕ → Rattle.sharc_invariant.specs.World.ObjectState) → Type 0 = λ f. (o : ℕ) → o ≢ 0 → (f o).live ≡ true → (1 ≤ st.elements o) × (st.cells o ≡ st.elements o * Rattle.sharc_invariant.specs.Types.cells_of x (f o).ty.target) in
-        let V : (ℕ → Rattle.sharc_invariant.specs.World.ObjectState) → Type 0 = λ f. (o : ℕ) → o ≢ 0 → Rattle.std.specs.Prelude.◌↔◌ ((f o).live ≡ true) (st.heap.state o ≡ Rattle.sharc_invariant.specs.Blocks.Live) in
-        let Q : (ℕ → Rattle.sharc_invariant.specs.World.ObjectState) → Type 0 = λ f. (o : ℕ) → o ≢ 0 → (f o).live ≡ true → 2 + st.cells o ≤ 2 * st.heap.size o in
-        let Z : (ℕ → Rattle.sharc_invariant.specs.World.ObjectState) → Type 0 = λ f. (o : ℕ) → o ≢ 0 → (f o).live ≡ true → st.heap.size o ≡ Rattle.sharc_invariant.specs.State.block_for (st.cells o) in
-        changed_state x code s ls wt g world st t may.started words m1 own1 (lower kw) st.cells st.elements (heap_now st.heap words) w' others (λ u. ap (λ (f : Rattle.sharc_invariant.specs.World.Slot → TypedReference). f (In (ArgumentOf u))) es) (λ u r _. refl)
-        inv sim (subst A (sym eo) st.apart)
-        (record {
-          kept = kept;
-          words = λ i. refl;
-          top = h.top ∙ sym (kw.low top_word (omega arith) (λ e. absurd (omega arith)));
-          within = h.within;
-          heads = λ u b lu lb. h.heads u b lu lb ∙ put_all (λ u (n : Machine). Rattle.sharc_invariant.specs.Words.head_of (g.threads u) b ≡ Rattle.sharc_invariant.specs.Words.head_of n b) g.threads t m1
-              (ap (λ z. Rattle.sharc_invariant.specs.Words.head_with z m.own.heads b) (exiting_making m.own.stage exiting ∙ sym (exiting_making y ey))) (λ u _. refl) u;
-          powers = h.powers;
-          live = subst V (sym eo) h.live;
-          room = subst Q (sym eo) h.room;
-          sizes = subst Z (sym eo) h.sizes;
-        })
-        (locks_same x code s ls g world st t words m1 refl w' eo em) (ap (λ (f : ℕ → Rattle.sharc_invariant.specs.World.ObjectState). f 0) eo) refl (subst R (sym eo) st.rows) (subst W (sym eo) st.whole)
+        alike_state x code s ls wt g world st t may.started words m1 own1 (lower kw) w' eo em kept (kw.low top_word (omega arith) (λ e. absurd (omega arith)))
+        (λ b. ap (λ z. Rattle.sharc_invariant.specs.Words.head_with z m.own.heads b) (exiting_making y ey ∙ sym (exiting_making m.own.stage exiting)))
+        others (λ u. ap (λ (f : Rattle.sharc_invariant.specs.World.Slot → TypedReference). f (In (ArgumentOf u))) es) inv sim
         (λ i lt. let a = st.epochs i lt in let b = epochs i lt in let c = sum_up THREADS g.made t 1 in omega arith)
         (λ _. runs_on RunsOn y ey w' es ew (heap_now st.heap words) now stage) (λ q. absurd (cc)) few
 
@@ -367,7 +306,7 @@ module _ (x : Targets) (code : Code) (s : Shape) (ls : Labels) (wt : IsWellTyped
       let a = n Read in
       let b = n Write in
       row_state y ey g.words same_low same_kept world refl refl refl refl
-      (record { regs = λ u _ r. refl; win = λ u _. refl; passed = λ u _ o p b _ z. z; sole = λ u _ r _ p. loses refl; cells = λ u _ r _ n. refl; built = λ u _ b e. (e, refl); within = λ u _ b e j n. refl })
+      (same_others s world st.heap g.words t)
       st.inv (subst (λ c. Shows x s st.cells st.elements c world) (sym (conc_row y ey g.words same_low same_kept ∙ (λ i. record (conc_of code g) { read_notes = a i; write_notes = b i }))) st.sim) (λ i _. refl) stage few
 
   -- ---- it withdraws from a granule
@@ -559,7 +498,7 @@ module _ (x : Targets) (code : Code) (s : Shape) (ls : Labels) (wt : IsWellTyped
             world,
             (
               row_state y ey new_words parts.0 parts.1 world refl refl refl refl
-                  (record { regs = λ u _ r. refl; win = λ u _. refl; passed = λ u _ o p b _ z. z; sole = λ u _ r _ p. loses refl; cells = λ u _ r _ n. refl; built = λ u _ b e. (e, refl); within = λ u _ b e j n. within u b j e n })
+                  (others_stay s world st.heap g.words new_words t (λ u _ b e j n. within u b j e n))
                   st.inv (subst (λ c. Shows x s st.cells st.elements c world) (sym ce) (none_of none')) epochs (stage world) few,
               (Silently (record { obj = refl; mutex = refl; passed = λ o p u b q. q; sole = λ u r e. (e, refl) }), refl),
             ),
@@ -580,9 +519,6 @@ module _ (x : Targets) (code : Code) (s : Shape) (ls : Labels) (wt : IsWellTyped
 
   number_is : state_word (g.threads tr.thread).own.number ≡ state_word tr.thread
   number_is = ap state_word (st.threads tr.thread).has.number
-
-  low_on : tr.thread < THREADS
-  low_on = st.begins.few tr.thread may.started
 
   is_going : is_ended (g.threads tr.thread).at.state ≡ false
   is_going = elim (g.threads tr.thread).at.state as (λ y. may_go y ≡ true → is_ended y ≡ false) [ RunsOn ↦ λ e. refl | Tries ↦ λ e. refl | Stopped ↦ λ e. refl | Ended ↦ λ e. absurd (cc) ] may.next.runs

@@ -1,5 +1,5 @@
 -- Turns that put a reference into a register of the frame on top, or take it away, perhaps with a store of one word.
-use Rattle.sharc_invariant.proofs.{Imports.{◌≡◌, ℕ, ℤ, pos, ◌+◌, ◌<◌, ◌≤◌, ◌≢◌, true, List, Option, Some, None, refl, sym, ap, ◌∙◌, subst, arith, get_or-set_same, get_or-set_other, length-set, fun_ext, length, slice_index, slice_index_or, slice_set, FRAMES, Code, Instr, Shape, Frame, Rests, first_cell, At, Own as Own', next, Machine, instr_at, may_go, counted, Global, put, ListsNoted, HeldMutex, put_other, put_all, GranuleState, Passed, Targets, ObjectType, Closed, Label, Labels, Less, Leads, IsWellTyped, IsRef, TypedReference, Holder, RegisterOf, ArgumentOf, World, Window, Shut, Sole, In, Slot, CellOf as Cell, in_ref, place, Uses, WorldInvariant, By, put2, Heap, Built, InBlock, lang_of, conc_of, Shows, register_of, is_ended, set_reg, made_turn, made_conc, KeepsOthers, State, View, view_of, vals_of, BelowStands, TopStands, FramesStand, size_of_run}, Effects.{place_same, place_other}, Frames.{Agrees, Low, callers_agree, filled}, Quiet.{KeepsOwn, KeepsWords, heap_now, quiet_state, noted_same, conc_plain}, Own.{is_single, ref_inside, runs, rests, not_begun, begun_before}, Plain.{register_plain, next_runs, going}, Others.loses}
+use Rattle.sharc_invariant.proofs.{Imports.{◌≡◌, ℕ, ℤ, pos, ◌+◌, ◌<◌, ◌≤◌, ◌≢◌, true, List, Option, refl, sym, ap, ◌∙◌, subst, arith, get_or-set_same, get_or-set_other, length-set, fun_ext, length, slice_index, slice_index_or, slice_set, Code, Instr, Shape, Frame, Rests, first_cell, At, Own as Own', next, Machine, instr_at, may_go, counted, Global, put, HeldMutex, put_other, put_all, GranuleState, Passed, Targets, ObjectType, Closed, Label, Labels, Less, Leads, IsWellTyped, IsRef, TypedReference, Holder, RegisterOf, ArgumentOf, World, Window, Shut, Sole, In, Slot, CellOf as Cell, in_ref, place, Uses, WorldInvariant, By, put2, Heap, Built, InBlock, lang_of, conc_of, Shows, register_of, is_ended, set_reg, made_turn, made_conc, KeepsOthers, State, View, view_of, vals_of, TopStands, FramesStand, size_of_run}, Effects.{place_same, place_other}, Frames.{filled, frames_agree}, Quiet.{KeepsOwn, KeepsWords, heap_now, quiet_state, noted_same, conc_plain}, Own.{is_single, ref_inside, runs, rests, not_begun}, Plain.{register_plain, next_runs, keeps_own, with_own}, Others.loses}
 use Rattle.sharc_invariant.specs.World.{Free}
 
 -- ---- the registers of a machine in which one is set
@@ -24,23 +24,13 @@ view_filled elements w w' t k h m m' es eg ei =
 
 pub below_filled : (x : Targets) (code : Code) (ls : Labels) (t : ℕ) (v : View) (m m' : Machine) (d o : ℕ) (ty : ObjectType) → m'.frames ≡ m.frames → m'.at.depth ≡ m.at.depth → m'.at.refs ≡ m.at.refs → m'.at.ints ≡ m.at.ints
     → (f : Option ℕ) → FramesStand x code ls t v m f → FramesStand x code ls t (filled v (m.at.refs + d) o ty) m' f
-below_filled x code ls t v m m' d o ty ef ed er ei None h = (ed ∙ h.0, er ∙ h.1, ei ∙ h.2)
-below_filled x code ls t v m m' d o ty ef ed er ei (Some f) h =
-    let v1 = filled v (m.at.refs + d) o ty in
-    let a : Agrees t v v1 (Low m.at.refs) (Low m.at.ints) = record {
-      refs = λ j lt. sym (put_other v.refs (m.at.refs + d) j o (λ q. omega arith));
-      types = λ j lt. sym (put_other v.types (m.at.refs + d) j ty (λ q. omega arith));
-      vals = λ j _. refl;
-      elements = λ j _. refl;
-      passed = λ o p b _ k. k;
-    } in
-    let k = callers_agree x code ls t v v1 m.frames m.at.depth m.at.refs m.at.ints f a h.0 in
-    let P : List Frame → ℕ → ℕ → ℕ → Type 0 = λ fs d b c. BelowStands x code ls t v1 fs d b c f in (
-      subst (λ fs. P fs m'.at.depth m'.at.refs m'.at.ints) (sym ef) (subst (λ d. P m.frames d m'.at.refs m'.at.ints) (sym ed)
-          (subst (λ b. P m.frames m.at.depth b m'.at.ints) (sym er) (subst (λ c. P m.frames m.at.depth m.at.refs c) (sym ei) k))),
-      subst (λ d. d ≤ FRAMES) (sym ed) h.1,
-      h.2,
-    )
+below_filled x code ls t v m m' d o ty = frames_agree x code ls t v (filled v (m.at.refs + d) o ty) m m' (record {
+  refs = λ j lt. sym (put_other v.refs (m.at.refs + d) j o (λ q. omega arith));
+  types = λ j lt. sym (put_other v.types (m.at.refs + d) j ty (λ q. omega arith));
+  vals = λ j _. refl;
+  elements = λ j _. refl;
+  passed = λ o p b _ k. k;
+})
 
 -- where no window is open a register may change
 pub free_shut : (w : World) (t k : ℕ) → w.win t ≡ Shut → Free w (RegisterOf t k)
@@ -107,22 +97,8 @@ module _ (x : Targets) (code : Code) (s : Shape) (ls : Labels) (wt : IsWellTyped
       let rest' = ap (λ (o : Own'). o.stage) sets.own ∙ rest in
       let pc : m'.at.pc ≡ m.at.pc + 1 = ap (λ (a : At). a.pc) sets.at in
       let fnc : (ls.at m'.at.pc).function ≡ here.function = ap (λ p. (ls.at p).function) pc ∙ leads.function ∙ fn in
-      let own : KeepsOwn m m' = record {
-        number = ap (λ (o : Own'). o.number) sets.own;
-        held = ap (λ (o : Own'). o.held) sets.own;
-        heads = ap (λ (o : Own'). o.heads) sets.own;
-        notes = ap (λ (o : Own'). length o.table.notes) sets.own;
-        table = subst ListsNoted (sym (ap (λ (o : Own'). o.table) sets.own)) (st.threads t).has.table;
-        stage = rest;
-        rests = rest';
-        refs = ap (λ (l : List ℕ). length l) sets.refs ∙ length-set m.refs (base + d) h.reference;
-        ints = ap (λ (l : List ℤ). length l) sets.ints;
-        frames = ap (λ (l : List Frame). length l) sets.frames;
-        begun_before = begun_before x code s ls wt g world st t on go i is single;
-        begun = not_begun x code s ls wt g world st t on go i is single m'.at.pc fnc;
-        ended_before = going x code s ls wt g world st t on go i is single;
-        ended = ap (λ (a : At). is_ended a.state) sets.at;
-      } in
+      let own : KeepsOwn m m' = keeps_own x code s ls wt g world st t on go i is single m' (ap (with_own m'.own) sets.own) (ap (λ (l : List ℕ). length l) sets.refs ∙ length-set m.refs (base + d) h.reference) (ap (λ (l : List ℤ). length l) sets.ints) (ap (λ (l : List Frame). length l) sets.frames)
+      (not_begun x code s ls wt g world st t on go i is single m'.at.pc fnc) (ap (λ (a : At). is_ended a.state) sets.at) in
       let regs : put (λ u. register_of code (g.threads u)) t (register_of code m') ≡ put2 (λ u. register_of code (g.threads u)) t (base + d) h.reference =
       ap (put (λ u. register_of code (g.threads u)) t) (fun_ext (refs_set code m m' (base + d) h.reference rest rest' sets.refs lt)) in
       let sim0 : Shows x s st.cells st.elements (record (conc_of code g) { words = λ j. slice_index words j; regs = put (λ u. register_of code (g.threads u)) t (register_of code m') }) w' = subst (λ r. Shows x s st.cells st.elements (record (conc_of code g) { words = λ j. slice_index words j; regs = r }) w') (sym regs) sim in

@@ -1,5 +1,5 @@
 -- Frames: what a label says of registers, when it says less, and when registers change.
-use Rattle.sharc_invariant.proofs.Imports.{◌≡◌, ℕ, ℤ, pos, negsuc, zero, suc, ◌+◌, ◌<◌, ◌≤◌, ◌⊎◌, ◌≢◌, Bool, true, false, cond, List, [], ◌∷◌, Some, None, refl, sym, ap, ◌∙◌, subst, inl, inr, ⊎_elim, arith, eqb-false, ltb-true, nat_tests, map, nat_eq, nat_lt, ◌*◌, ◌/◌, ◌&&◌, not, filter, Width, Char, Int, Long, holds, Code, Frame, put, put_same, put_other, put_all, Passed, Targets, ObjectType, Mutex, Lock, StaticType, mutex_of, type_of, SomeNames, Mentions, cells_of, Through, Self, Entry, Empty, Refers, Unknown, Element, Number, Anything, Exactly, Within, Indexes, OfElement, OfGlobal, Pass, IsIn, Label, Labels, SameReference, Itself, IsCopy, HasCopy, Copies, Chained, SameLock, AllSame, SameType, LessEntry, Narrower, LessNumber, Less, EntryMentions, HasBase, IsScoped, fill, empty, without_copies, without_index, without_base, is_base, below, below_copy, below_number, below_pass, called_label, Calls, frame_at, BelowStands, View, EntryStands, NumberStands, PassStands, FrameStands, TopStands, refs_at, types_at, eq_refl}
+use Rattle.sharc_invariant.proofs.Imports.{◌≡◌, ℕ, ℤ, pos, negsuc, zero, suc, ◌+◌, ◌<◌, ◌≤◌, ◌⊎◌, ◌≢◌, Bool, true, false, cond, List, [], ◌∷◌, Some, None, refl, sym, ap, ◌∙◌, subst, inl, inr, ⊎_elim, arith, eqb-false, ltb-true, nat_tests, map, nat_eq, nat_lt, ◌*◌, ◌/◌, ◌&&◌, not, filter, Width, Char, Int, Long, holds, Code, Frame, put, put_same, put_other, put_all, Passed, Targets, ObjectType, Mutex, Lock, StaticType, mutex_of, type_of, SomeNames, Mentions, cells_of, Through, Self, Entry, Empty, Refers, Unknown, Element, Number, Anything, Exactly, Within, Indexes, OfElement, OfGlobal, Pass, IsIn, Label, Labels, SameReference, Itself, IsCopy, HasCopy, Copies, Chained, SameLock, AllSame, SameType, LessEntry, Narrower, LessNumber, Less, EntryMentions, HasBase, IsScoped, fill, empty, without_copies, without_index, without_base, is_base, below, below_copy, below_number, below_pass, called_label, Calls, frame_at, BelowStands, View, EntryStands, NumberStands, PassStands, FrameStands, TopStands, refs_at, types_at, eq_refl, Machine, FRAMES, FramesStand, Option}
 use Rattle.sharc_invariant.specs.Types.Lock.{Global}
 
 -- ---- the same reference, lock, type
@@ -321,3 +321,21 @@ callers_agree x code ls t v v' frames (suc (suc d)) base ints f a h =
       callers_agree x code ls t v v' frames (suc d) fr.refs fr.ints h.0 (agrees_below t v v' base ints fr.refs fr.ints (omega arith) (omega arith) a) h.2,
     )
 callers_agree x code ls t v v' frames _ base ints f a h = h
+
+-- the frames of a machine whose places on them are as before
+pub frames_same : (x : Targets) (code : Code) (ls : Labels) (t : ℕ) (v : View) (m m' : Machine) → m'.frames ≡ m.frames → m'.at.depth ≡ m.at.depth → m'.at.refs ≡ m.at.refs → m'.at.ints ≡ m.at.ints
+    → (f : Option ℕ) → FramesStand x code ls t v m f → FramesStand x code ls t v m' f
+frames_same x code ls t v m m' ef ed er ei None h = (ed ∙ h.0, er ∙ h.1, ei ∙ h.2)
+frames_same x code ls t v m m' ef ed er ei (Some f) h =
+    let P : List Frame → ℕ → ℕ → ℕ → Type 0 = λ fs d b c. BelowStands x code ls t v fs d b c f in (
+      subst (λ fs. P fs m'.at.depth m'.at.refs m'.at.ints) (sym ef) (subst (λ d. P m.frames d m'.at.refs m'.at.ints) (sym ed)
+          (subst (λ b. P m.frames m.at.depth b m'.at.ints) (sym er) (subst (λ c. P m.frames m.at.depth m.at.refs c) (sym ei) h.0))),
+      subst (λ d. d ≤ FRAMES) (sym ed) h.1,
+      h.2,
+    )
+
+-- and where the views agree below the frame on top
+pub frames_agree : (x : Targets) (code : Code) (ls : Labels) (t : ℕ) (v v' : View) (m m' : Machine) → Agrees t v v' (Low m.at.refs) (Low m.at.ints) → m'.frames ≡ m.frames → m'.at.depth ≡ m.at.depth → m'.at.refs ≡ m.at.refs → m'.at.ints ≡ m.at.ints
+    → (f : Option ℕ) → FramesStand x code ls t v m f → FramesStand x code ls t v' m' f
+frames_agree x code ls t v v' m m' a ef ed er ei None h = frames_same x code ls t v' m m' ef ed er ei None h
+frames_agree x code ls t v v' m m' a ef ed er ei (Some f) h = frames_same x code ls t v' m m' ef ed er ei (Some f) (callers_agree x code ls t v v' m.frames m.at.depth m.at.refs m.at.ints f a h.0, h.1, h.2)

@@ -41,6 +41,15 @@ apart_stored x s cells elements c w sim lie k v a =
       stale = stale_off s w.obj cells c.words (put c.words k v) c.read_notes c.write_notes (λ p lt. off (shadow_at s p) (a.shadow p lt)) sim.stale;
     }
 
+-- a word below the shadow words shows nothing of the world
+pub low_stored : (x : Targets) (s : Shape) (cells elements : ℕ → ℕ) (c : MachineView) (w : World) (k v : ℕ) → k < 97 → Apart s w.obj cells → Shows x s cells elements c w → Shows x s cells elements (store c k v) w
+low_stored x s cells elements c w k v low lie sim = apart_stored x s cells elements c w sim lie k v (record {
+  cell = λ o i _ _ e. absurd (omega arith);
+  count = λ o _ _ e. absurd (omega arith);
+  length = λ o _ _ e. absurd (omega arith);
+  shadow = λ p _ e. absurd (omega arith);
+})
+
 -- the words of a block that no object has
 module _ (s : Shape) (cells : ℕ → ℕ) (g : Global Machine) (obj : ℕ → ObjectState) (heap : Heap) (h : HeapStands s cells g obj heap) (zero_cells : cells 0 ≡ 2 * s.globals) where
   pub built_size : (b u : ℕ) → heap.state b ≡ Built u → heap.size b ≢ 0

@@ -1,10 +1,15 @@
 -- The checks of mutexes.
-use Rattle.sharc_invariant.proofs.{Imports.{◌≡◌, ℕ, ℤ, ◌+◌, ◌⊎◌, ◌≢◌, true, false, cond, Some, None, refl, sym, ap, ◌∙◌, subst, inl, inr, ⊎_elim, ◌==◌, Code, Cell, Instr, Shape, Stop, Trap, NoLock, Fits, cell_word, cell_of, Machine, Local, instr_at, ref, goes, stopped, lock_checked, is_held, is_of_null, word, turn, Turn, Global, MayTurn, one_thread, bounds, put_same, put_other, Targets, Gate, Closed, Checked, Holds, Loaded, HoldsLoaded, SoleGate, Label, Labels, Leads, LessGate, gated, IsWellTyped, knows_base, World, Window, Shut, IsLoaded, WinOk, RegisterOf, in_ref, set_win, lang_of, Silently, StopStands, State, view_of, TopStands, FramesStand, GateStands, base_of_cell, number_in, Turned}, Turns.{local_turn, room_of}, Own.{is_single, runs, rests, top, gate, fine, begun_before}, Quiet.KeepsOwn, Plain.{plain_state, is_shut, same_words, going}, Accesses.{gate_top, windowed_state}, Steps.{knows_top, stops, asserted, of_turn, reads}}
+use Rattle.sharc_invariant.proofs.{Imports.{◌≡◌, ℕ, ℤ, ◌+◌, ◌⊎◌, ◌≢◌, true, false, cond, refl, sym, ap, ◌∙◌, subst, inl, inr, ⊎_elim, ◌==◌, Code, Cell, Instr, Shape, Stop, Trap, NoLock, Fits, cell_word, cell_of, Machine, Local, instr_at, ref, goes, stopped, lock_checked, is_held, is_of_null, word, turn, Turn, Global, MayTurn, one_thread, bounds, put_same, put_other, Targets, Gate, Closed, Holds, Loaded, HoldsLoaded, Label, Labels, Leads, LessGate, gated, IsWellTyped, knows_base, World, Window, Shut, IsLoaded, WinOk, RegisterOf, in_ref, set_win, lang_of, Silently, StopStands, State, view_of, TopStands, GateStands, base_of_cell, number_in, Turned}, Turns.{local_turn, room_of, unseen}, Own.{is_single, runs, top, gate, fine, begun_before}, Quiet.KeepsOwn, Plain.{plain_state, is_shut, same_words, keeps_own}, Accesses.{gate_top, windowed_state}, Steps.{knows_top, stops, asserted, of_turn, reads}, Frames.frames_same}
 use Rattle.sharc_tree.specs.declared.trap.Trap.TheVariants as traps
 
 pub held_gate : (c : Cell) (y : Gate) → LessGate (Holds c) y → (y ≡ Closed) ⊎ (y ≡ Holds c)
 held_gate c Closed h = inl refl
 held_gate c _ h = inr h
+
+-- a mutex that is held before a step to the next place is held behind it
+pub held_goes : (s : Shape) (m : Machine) (c : Cell) → is_held m (word s m c) ≡ true → is_held (goes m) (word s (goes m) c) ≡ true
+held_goes s m (Cell.Global a p) h = h
+held_goes s m _ h = h
 
 module _ (x : Targets) (code : Code) (s : Shape) (ls : Labels) (wt : IsWellTyped x code ls) (fits : Fits code s) (g : Global Machine) (world : World) (st : State x code s ls g world) (tr : Turn) (may : MayTurn bounds (one_thread code s) g tr) where
   abbrev m : Machine
@@ -33,24 +38,16 @@ module _ (x : Targets) (code : Code) (s : Shape) (ls : Labels) (wt : IsWellTyped
         let new = (ls.at (m.at.pc + 1)).gate in
         let gate' : GateStands s (set_win world t Shut) t m' new = ⊎_elim
         (λ (e : new ≡ Closed). subst (GateStands s (set_win world t Shut) t m') (sym e) (put_same world.win t Shut))
-        (λ (e : new ≡ Holds c). subst (GateStands s (set_win world t Shut) t m') (sym e) (put_same world.win t Shut, same_held c held))
+        (λ (e : new ≡ Holds c). subst (GateStands s (set_win world t Shut) t m') (sym e) (put_same world.win t Shut, held_goes s m c held))
         (held_gate c new leads.gate) in (
           set_win world t Shut,
           windowed_state x code s ls wt fits g world st tr may i is single m' Shut g.words (gated k (Holds c)) (record { at = refl; refs = refl; ints = refl; frames = refl; own = refl }) done
-              (same_words x code s ls g world st) (λ u b j _ _. refl) tt st.sim (gate_top x t view m.at.refs m.at.ints names k (Holds c) tp) below_goes leads fn gate' rm,
+              (same_words x code s ls g world st) (λ u b j _ _. refl) tt st.sim (gate_top x t view m.at.refs m.at.ints names k (Holds c) tp) (frames_same x code ls t view m m' refl refl refl refl here.function (runs x code s ls wt g world st t may.started may.next.runs i is single).below) leads fn gate' rm,
           Silently (record { obj = refl; mutex = refl; passed = λ o p u b q. q; sole = λ u r e. let ne : u ≡ t → ⊥ = λ q. never shut r (ap world.win (sym q) ∙ e) in (put_other world.win t u Shut ne ∙ e, refl) }),
         )
       where
         never : world.win tr.thread ≡ Shut → (r : ℕ) → world.win tr.thread ≡ Window.Sole r → ⊥
         never e r q = let z : Shut ≡ Window.Sole r = sym e ∙ q in cc
-
-        same_held : (c : Cell) → is_held (g.threads tr.thread) (word s (g.threads tr.thread) c) ≡ true → is_held (goes (g.threads tr.thread)) (word s (goes (g.threads tr.thread)) c) ≡ true
-        same_held (Cell.Global a p) h = h
-        same_held _ h = h
-
-        below_goes : FramesStand x code ls tr.thread (view_of st.elements world tr.thread (g.threads tr.thread)) (goes (g.threads tr.thread)) here.function
-        below_goes = elim here.function as (λ f. FramesStand x code ls tr.thread (view_of st.elements world tr.thread (g.threads tr.thread)) (g.threads tr.thread) f → FramesStand x code ls tr.thread (view_of st.elements world tr.thread (g.threads tr.thread)) (goes (g.threads tr.thread)) f) [ None ↦ λ h. h | Some f ↦ λ h. h ]
-            (runs x code s ls wt g world st t may.started may.next.runs i is single).below
 
   pub Held_keeps : (c : Cell) (site : ℕ) → instr_at code (g.threads tr.thread).at.pc ≡ Instr.ChkHeld c site → Done
   Held_keeps c site is = let i = Instr.ChkHeld c site in let f = fine x code s ls wt g world st tr.thread may.started may.next.runs i is refl in
@@ -100,28 +97,9 @@ module _ (x : Targets) (code : Code) (s : Shape) (ls : Labels) (wt : IsWellTyped
         let done = local_turn code s g tr may m' e in
         let on = may.started in
         let go = may.next.runs in
-        let rest = rests x code s ls wt g world st t on go i is single in
-        let own : KeepsOwn m m' = record {
-          number = refl;
-          held = refl;
-          heads = refl;
-          notes = refl;
-          table = (st.threads t).has.table;
-          stage = rest;
-          rests = rest;
-          refs = refl;
-          ints = refl;
-          frames = refl;
-          begun_before = begun_before x code s ls wt g world st t on go i is single;
-          begun = begun_before x code s ls wt g world st t on go i is single;
-          ended_before = going x code s ls wt g world st t on go i is single;
-          ended = refl;
-        } in (
-          world,
-          subst (λ y. State x code s ls y world) (sym done) (plain_state x code s ls wt g world st t on go i is single m' own refl refl (λ q. absurd (cc))
-              (λ _. subst (StopStands world t m') (sym loaded) (still c win)) (room_of code s g tr may g.words m' done)),
-          Silently (record { obj = refl; mutex = refl; passed = λ o p u b q. q; sole = λ u r e. (e, refl) }),
-        )
+        let own : KeepsOwn m m' = keeps_own x code s ls wt g world st t on go i is single m' refl refl refl refl (begun_before x code s ls wt g world st t on go i is single) refl in
+        unseen x code s ls g world tr _ done (plain_state x code s ls wt g world st t on go i is single m' own refl refl (λ q. absurd (cc))
+        (λ _. subst (StopStands world t m') (sym loaded) (still c win)) (room_of code s g tr may g.words m' done))
       where
         still : (c : Cell) → world.win tr.thread ≡ IsLoaded (base_of_cell (g.threads tr.thread) c) (number_in (g.threads tr.thread) c) (g.threads tr.thread).pending
             → world.win tr.thread ≡ IsLoaded (base_of_cell (stopped (g.threads tr.thread) why) c) (number_in (stopped (g.threads tr.thread) why) c) (g.threads tr.thread).pending
@@ -144,7 +122,7 @@ module _ (x : Targets) (code : Code) (s : Shape) (ls : Labels) (wt : IsWellTyped
       let done_with : turn code s m ≡ Local m' → (win : Window) → WinOk (lang_of x) world t win → GateStands s (set_win world t win) t m' new → Done = λ e win ok gt. (
         set_win world t win,
         windowed_state x code s ls wt fits g world st tr may i is refl m' win g.words (gated here (HoldsLoaded c)) (record { at = refl; refs = refl; ints = refl; frames = refl; own = refl }) (local_turn code s g tr may m' e)
-            (same_words x code s ls g world st) (λ u b j _ _. refl) ok st.sim (gate_top x t view m.at.refs m.at.ints names here (HoldsLoaded c) tp) below_plain f.5 refl gt refl,
+            (same_words x code s ls g world st) (λ u b j _ _. refl) ok st.sim (gate_top x t view m.at.refs m.at.ints names here (HoldsLoaded c) tp) (frames_same x code ls t view m (goes m) refl refl refl refl here.function (runs x code s ls wt g world st t may.started may.next.runs i is refl).below) f.5 refl gt refl,
         Silently (record { obj = refl; mutex = refl; passed = λ o p u b q. q; sole = λ u r e. let ne : u ≡ t → ⊥ = λ q. alone r (ap world.win (sym q) ∙ e) in (put_other world.win t u win ne ∙ e, refl) }),
       ) in
       elim (m.pending == 0) as (λ n. (m.pending == 0) ≡ n → turn code s m ≡ Local (lock_checked m n mutex site) → Done) [
@@ -157,10 +135,6 @@ module _ (x : Targets) (code : Code) (s : Shape) (ls : Labels) (wt : IsWellTyped
         ] refl e
       ] refl (of_turn x code s ls wt g world st tr may i is refl _ refl)
     where
-      below_plain : FramesStand x code ls tr.thread (view_of st.elements world tr.thread (g.threads tr.thread)) (goes (g.threads tr.thread)) here.function
-      below_plain = elim here.function as (λ f. FramesStand x code ls tr.thread (view_of st.elements world tr.thread (g.threads tr.thread)) (g.threads tr.thread) f → FramesStand x code ls tr.thread (view_of st.elements world tr.thread (g.threads tr.thread)) (goes (g.threads tr.thread)) f) [ None ↦ λ h. h | Some f ↦ λ h. h ]
-          (runs x code s ls wt g world st t may.started may.next.runs (Instr.ChkLockLoaded site) is refl).below
-
       same_window : (c : Cell) → (set_win world tr.thread (IsLoaded (base_of_cell (g.threads tr.thread) c) (number_in (g.threads tr.thread) c) (g.threads tr.thread).pending)).win tr.thread
           ≡ IsLoaded (base_of_cell (goes (g.threads tr.thread)) c) (number_in (goes (g.threads tr.thread)) c) (g.threads tr.thread).pending
       same_window (Cell.Global a b) = put_same world.win t (IsLoaded (base_of_cell m (Cell.Global a b)) (number_in m (Cell.Global a b)) m.pending)

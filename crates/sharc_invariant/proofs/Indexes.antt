@@ -1,5 +1,5 @@
 -- Indexes are within their objects.
-use Rattle.sharc_invariant.proofs.{Imports.{◌≡◌, ℕ, ℤ, pos, negsuc, suc, ◌+◌, ◌-◌, ◌*◌, ◌/◌, ◌^◌, ◌<◌, ◌≤◌, ◌≢◌, true, false, cond, refl, sym, ap, ◌∙◌, subst, ⊎_elim, arith, ltb-true, cases_eq, nat_tests, mul-le-mul_left, mul_comm, slice_index, nat_lt, Load, Code, Instr, Long, Shape, Trap, int_of, Fits, granules, granule_at, length_word, Machine, Local, Asks, instr_at, int, ref, goes, set_int, indexed, field_of, largest, stopped, step_of, Turn, Global, put, MayTurn, after_turn, one_thread, bounds, put_same, Targets, ObjectType, cells_of, Element, Named, Nth, Fresh, Number, Anything, Within, Exactly, Indexes, OfElement, OfGlobal, Closed, Label, Labels, Leads, set_number, IsWellTyped, IsInt, IsElement, World, RegisterOf, In, in_ref, length_at, Silently, made_turn, State, View, view_of, NumberStands, ElementStands, EntryStands, TopStands, refs_at, types_at, Turned}, Turns.{asks_turn, local_turn, room_of}, Own.{is_single, runs, rests, top, fine}, Plain.{register_plain, is_shut, stop_state, numbers_state}, Accesses.{back_again, loaded_words}, Steps.number_named}
+use Rattle.sharc_invariant.proofs.{Imports.{◌≡◌, ℕ, ℤ, pos, negsuc, suc, ◌+◌, ◌-◌, ◌*◌, ◌/◌, ◌^◌, ◌<◌, ◌≤◌, ◌≢◌, true, false, cond, refl, sym, ap, ◌∙◌, subst, ⊎_elim, arith, ltb-true, cases_eq, nat_tests, mul-le-mul_left, mul_comm, slice_index, nat_lt, Load, Code, Instr, Long, Shape, Trap, int_of, Fits, granules, granule_at, length_word, Machine, instr_at, int, ref, goes, set_int, indexed, field_of, stopped, step_of, Turn, Global, put, MayTurn, after_turn, one_thread, bounds, put_same, Targets, ObjectType, cells_of, Element, Named, Nth, Fresh, Number, Anything, Within, Exactly, Indexes, OfElement, OfGlobal, Closed, Label, Labels, Leads, set_number, IsWellTyped, IsInt, IsElement, World, RegisterOf, In, in_ref, length_at, made_turn, State, View, view_of, NumberStands, ElementStands, EntryStands, TopStands, refs_at, types_at, Turned}, Turns.{asks_turn, local_turn, room_of, unseen}, Own.{is_single, runs, rests, top, fine}, Plain.{register_plain, is_shut, stop_state, numbers_state}, Accesses.{back_again, loaded_words}, Steps.number_named}
 use Rattle.sharc_tree.specs.declared.trap.Trap.TheVariants as traps
 
 -- a new name for a value
@@ -71,7 +71,7 @@ module _ (x : Targets) (code : Code) (s : Shape) (ls : Labels) (wt : IsWellTyped
     tops = top x code s ls wt g world st t may.started may.next.runs i is single
 
     same_world : (m' : Machine) → after ≡ made_turn g tr.thread g.words m' → State x code s ls (made_turn g tr.thread g.words m') world → Turned x code s ls g world tr
-    same_world m' e k = (world, subst (λ y. State x code s ls y world) (sym e) k, Silently (record { obj = refl; mutex = refl; passed = λ o p u b q. q; sole = λ u r e. (e, refl) }))
+    same_world m' e k = unseen x code s ls g world tr _ e k
 
     stops_at : (site : ℕ) → here.gate ≡ Closed → after ≡ made_turn g tr.thread g.words (stopped (g.threads tr.thread) (Trap traps.IndexOutOfBounds site)) → Turned x code s ls g world tr
     stops_at site gt e = same_world (stopped m (Trap traps.IndexOutOfBounds site)) e (stop_state x code s ls wt g world st t may.started may.next.runs i is single (Trap traps.IndexOutOfBounds site)

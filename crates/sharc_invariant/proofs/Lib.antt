@@ -14,6 +14,7 @@ pub mod Walks
 pub mod Clears
 pub mod Recasts
 pub mod Gives
+pub mod Sweeps
 pub mod ClearTurns
 pub mod Frees
 pub mod Emptied

@@ -1,5 +1,5 @@
 -- The last turn of a Free: the block of the dead object goes to the thread's list.
-use Rattle.sharc_invariant.proofs.{Imports.{◌≡◌, ℕ, suc, ◌+◌, ◌*◌, ◌^◌, ◌<◌, ◌≤◌, ◌≢◌, true, false, cond, List, None, Some, refl, sym, ap, ◌∙◌, subst, ⊎_elim, arith, cases_eq, cases_order, get_or-set_same, get_or-set_other, length-set, fun_ext, length, slice_index, slice_set, ◌==◌, THREADS, Swap, ShadowLaws, note_of, epoch_of, Kind, Read, Write, Code, Layout, Instr, Shape, Stage, Rests, Empties, Lowers, FreeLooks, FreeClears, Uncounts, Links, RunsOn, Tries, Stopped, Ended, Fits as FitsShape, granules, top_word, length_word, Machine, step_of, instr_at, ref, layout_at, size_of, free_size, free_head, freed_machine, may_go, Turn, Global, put, MayTurn, after_turn, one_thread, bounds, put_same, put_other, put_all, sum_to, Targets, Label, Labels, empty, Fine, IsWellTyped, World, Shut, put2, Heap, Kept, Built, Live, Listed, pushed, lang_of, conc_of, Shows, head_of, head_with, making_of, is_freed, is_ended, has_withdrawn, note_number, noted_by, register_of, staged_of, length_at, has_returned, made_turn, KeepsOthers, Silently, State, Runs, View, view_of, StageStands, FramesStand, GateStands, HeapStands, TopStands, label_now, block_for, IsSmall, Turned, changes_objects, objects_now, frees_object, ne_eq, eq_refl, set_null}, Listed.{push_ok, put2_same, put2_other}, Quiet.{put_self, locks_same}, Changes.{KeepsPart, KeepsLower, conc_now, changed_state}, Turns.{asks_turn, room_of}, Stores.{index_put, arena}, Clears.sum_more, Frames.less_stands, Own.{runs_at, closed_less}, Heaps.{size_power, same_power, apart_stored, built_size, block_word, low_block, listed_size, built_dead}, Frees.{free_fine, free_begun, free_act, length_is, free_first, free_looks_turn, free_swaps}, Empties.{free_empties, free_lowers}, Uncounted.free_uncounts, Walks.IsWalk, Others.loses, Owned.{effect_objects, behind_same}}
+use Rattle.sharc_invariant.proofs.{Imports.{◌≡◌, ℕ, suc, ◌+◌, ◌*◌, ◌^◌, ◌<◌, ◌≤◌, ◌≢◌, true, false, cond, List, None, Some, refl, sym, ap, ◌∙◌, subst, ⊎_elim, arith, cases_eq, cases_order, get_or-set_same, get_or-set_other, length-set, fun_ext, length, slice_index, slice_set, ◌==◌, THREADS, Swap, ShadowLaws, note_of, epoch_of, Kind, Read, Write, Code, Layout, Instr, Shape, Stage, Rests, Empties, Lowers, FreeLooks, FreeClears, Uncounts, Links, RunsOn, Tries, Stopped, Ended, Fits as FitsShape, granules, top_word, length_word, Machine, step_of, instr_at, ref, layout_at, size_of, free_size, free_head, freed_machine, may_go, Turn, Global, put, MayTurn, after_turn, one_thread, bounds, put_same, put_other, put_all, sum_to, Targets, Label, Labels, empty, Fine, IsWellTyped, World, Shut, put2, Heap, Kept, Built, Live, Listed, pushed, lang_of, conc_of, Shows, head_of, head_with, making_of, is_freed, is_ended, has_withdrawn, note_number, noted_by, register_of, staged_of, length_at, has_returned, made_turn, KeepsOthers, State, Runs, View, view_of, StageStands, FramesStand, GateStands, HeapStands, TopStands, label_now, block_for, IsSmall, Turned, changes_objects, objects_now, frees_object, ne_eq, eq_refl, set_null}, Listed.{push_ok, put2_same, put2_other}, Quiet.{put_self, locks_same, sizes_kept}, Changes.{KeepsPart, KeepsLower, conc_now, changed_state}, Turns.{asks_turn, room_of, unseen}, Stores.{index_put, arena}, Clears.sum_more, Frames.less_stands, Own.{runs_at, closed_less}, Heaps.{size_power, same_power, apart_stored, built_size, block_word, low_block, listed_size, built_dead}, Frees.{free_fine, free_begun, free_act, free_first, free_looks_turn, free_swaps}, Empties.{free_empties, free_lowers}, Uncounted.free_uncounts, Walks.IsWalk, Owned.{effect_objects, behind_same}, Sweeps.length_is, Plain.others_heap}
 
 -- the size of the list is that of the block for the cells
 size_for : (all c : ℕ) → size_of (Rattle.sharc_heap.specs.Block.block_of (Rattle.sharc_code.specs.Machine.all_cells all c)) ≡ size_of (block_for (all * c))
@@ -129,15 +129,10 @@ module _ (x : Targets) (code : Code) (s : Shape) (ls : Labels) (wt : IsWellTyped
 
   own : KeepsPart (g.threads tr.thread) m'
   own = record {
-    number = refl;
+    sizes = sizes_kept (g.threads tr.thread) m' (st.threads t).has.table refl (length-set m.refs k 0) refl refl;
     held = refl;
     heads = length-set m.own.heads (free_size lay all) b;
-    notes = refl;
-    table = (st.threads t).has.table;
     spawns = λ n h. absurd h;
-    refs = length-set m.refs k 0;
-    ints = refl;
-    frames = refl;
     begun_before = begun;
     begun = begun';
   }
@@ -199,20 +194,14 @@ module _ (x : Targets) (code : Code) (s : Shape) (ls : Labels) (wt : IsWellTyped
   other_built u h ne e z = let q : Built t ≡ Built u = sym stage_now.0 ∙ ap st.heap.state (sym z) ∙ e in ne (cc)
 
   others : KeepsOthers s world world st.heap heap' g.words words tr.thread
-  others = record {
-    regs = λ u _ q. refl;
-    win = λ u _. refl;
-    passed = λ u _ q p c _ z. z;
-    sole = λ u _ q _ p. loses refl;
-    cells = λ u _ q _ n. refl;
-    built = λ u ne h e. (put_other st.heap.state b h (Listed t (suc (st.heap.deep t size))) (other_built u h ne e) ∙ e, refl);
-    within = λ u ne h e i n. off i (λ z.
-        let nh = built_size s st.cells g world.obj st.heap st.heap_stands st.globals_cells h u e in
-        let n0 = n.0 in let n1 = n.1 in let so = some in
-        ⊎_elim (λ (q : h ≡ b). other_built u h ne e q)
-        (⊎_elim (λ (q : h < b). let a = st.heap_stands.kept.blocks.apart h b nh some q in omega arith) (λ (q : b < h). let a = st.heap_stands.kept.blocks.apart b h some nh q in omega arith))
-        (cases_order h b));
-  }
+  others = others_heap s world st.heap heap' g.words words t
+      (λ u ne h e. (put_other st.heap.state b h (Listed t (suc (st.heap.deep t size))) (other_built u h ne e) ∙ e, refl))
+      (λ u ne h e i n. off i (λ z.
+      let nh = built_size s st.cells g world.obj st.heap st.heap_stands st.globals_cells h u e in
+      let n0 = n.0 in let n1 = n.1 in let so = some in
+      ⊎_elim (λ (q : h ≡ b). other_built u h ne e q)
+      (⊎_elim (λ (q : h < b). let a = st.heap_stands.kept.blocks.apart h b nh some q in omega arith) (λ (q : b < h). let a = st.heap_stands.kept.blocks.apart b h some nh q in omega arith))
+      (cases_order h b)))
 
   -- what is seen of the thread
   same_regs : (i : ℕ) → register_of code m' i ≡ register_of code (g.threads tr.thread) i
@@ -266,14 +255,10 @@ module _ (x : Targets) (code : Code) (s : Shape) (ls : Labels) (wt : IsWellTyped
   free_links =
       let later : (i : ℕ) → i < granules s → epoch_of (slice_index words (97 + i)) ≤ sum_to THREADS (put g.made t (g.made t + 1)) =
       λ i lt. let a = st.epochs i lt in let c = sum_more g.made t 1 on_t in
-      subst (λ v. epoch_of v ≤ sum_to THREADS (put g.made t (g.made t + 1))) (sym (off (97 + i) (λ e. omega arith))) (omega arith) in (
-        world,
-        subst (λ y. State x code s ls y world) (sym done.0)
-            (changed_state x code s ls wt g world st t may.started words m' own low st.cells st.elements heap' world others (λ u. refl) (λ u q _. refl)
-            st.inv sim st.apart stands (locks_same x code s ls g world st t words m' refl world refl refl) refl refl st.rows st.whole later (λ _. runs_now) (λ q. absurd (cc))
-            (room_of code s g tr may words m' done.0)),
-        Silently (record { obj = refl; mutex = refl; passed = λ o p u b q. q; sole = λ u r e. (e, refl) }),
-      )
+      subst (λ v. epoch_of v ≤ sum_to THREADS (put g.made t (g.made t + 1))) (sym (off (97 + i) (λ e. omega arith))) (omega arith) in
+      unseen x code s ls g world tr _ done.0 (changed_state x code s ls wt g world st t may.started words m' own low st.cells st.elements heap' world others (λ u. refl) (λ u q _. refl)
+      st.inv sim st.apart stands (locks_same x code s ls g world st t words m' refl world refl refl) refl refl st.rows st.whole later (λ _. runs_now) (λ q. absurd (cc))
+      (room_of code s g tr may words m' done.0))
 
 -- ---- all turns of a Free
 module _ (x : Targets) (code : Code) (s : Shape) (ls : Labels) (wt : IsWellTyped x code ls) (fits : FitsShape code s) (few : IsSmall code s) (laws : ShadowLaws) (g : Global Machine) (world : World) (st : State x code s ls g world) (tr : Turn)

@@ -1,6 +1,6 @@
 -- New and Free keep blocks apart and the lists of freed blocks threaded.
 use Rattle.sharc_invariant.proofs.Imports.{◌≡◌, ℕ, suc, ◌+◌, ◌*◌, ◌<◌, ◌≤◌, ◌⊎◌, ◌≢◌, refl, sym, ap, ◌∙◌, subst, inl, inr, ⊎_elim, arith, cases_eq, cases_order, put, put2, BlockState as State, Unused, Built, Listed, Arena, Heap, link_at as length_at, Kept, popped, carved, stored, restated, pushed, IsListed, InBlock, put_same, put_other, put_all}
-use Rattle.sharc_invariant.specs.Blocks.{Begins}
+use Rattle.sharc_invariant.specs.Blocks.{Begins, Blocks}
 
 -- a function of two numbers, changed at one place
 pub put2_all : (P : ℕ → ℕ → ℕ → Type 0) (f : ℕ → ℕ → ℕ) (t i v : ℕ) → P t i v → ((u j : ℕ) → (u ≡ t → j ≡ i → ⊥) → P u j (f u j)) → (u j : ℕ) → P u j (put2 f t i v u j)
@@ -36,6 +36,16 @@ module _ (a : Arena) (h : Heap) (k : Kept a h) where
   has_size : (p u d : ℕ) → h.state p ≡ Listed u d → h.size p ≢ 0
   has_size p u d e z = let f = k.blocks.known p z in cc
 
+  -- the blocks are as before where one of them changes its state
+  blocks_kept : (b : ℕ) (x : State) → h.size b ≢ 0 → Blocks a h.top h.size (put h.state b x)
+  blocks_kept b x nz = record {
+    some = k.blocks.some;
+    apart = k.blocks.apart;
+    within = k.blocks.within;
+    known = put_all (λ p y. h.size p ≡ 0 → y ≡ Unused) h.state b x (λ z. absurd (nz z)) (λ p _. k.blocks.known p);
+    low = k.blocks.low;
+  }
+
   -- ---- a block that is not listed changes its state, and is not listed afterwards
   pub restate_ok : (b : ℕ) (x : State) → h.size b ≢ 0 → (IsListed (h.state b) → ⊥) → (IsListed x → ⊥) → Kept a (restated h b x)
   restate_ok b x nz old new =
@@ -45,13 +55,7 @@ module _ (a : Arena) (h : Heap) (k : Kept a h) where
       let keeps : (u r d q : ℕ) → Begins h.size h.state u r d q → Begins h.size state' u r d q = λ u r d q.
       begins_move h.size h.size h.state state' u r d q (λ e z. (put_other h.state b q x (not_b q u d e) ∙ e, z)) in
       record {
-        blocks = record {
-          some = k.blocks.some;
-          apart = k.blocks.apart;
-          within = k.blocks.within;
-          known = put_all (λ p y. h.size p ≡ 0 → y ≡ Unused) h.state b x (λ z. absurd (nz z)) (λ p _. k.blocks.known p);
-          low = k.blocks.low;
-        };
+        blocks = blocks_kept b x nz;
         lists = record {
           head = λ u r. keeps u r (h.deep u r) (h.heads u r) (k.lists.head u r);
           link = λ p u d e. let l = k.lists.link p u d (was p u d e) in (l.0, (l.1.0, keeps u (h.size p) l.0 (h.words (length_at a p)) l.1.1));
@@ -156,13 +160,7 @@ module _ (a : Arena) (h : Heap) (k : Kept a h) where
               (
                 sz,
                 record {
-                  blocks = record {
-                    some = k.blocks.some;
-                    apart = k.blocks.apart;
-                    within = k.blocks.within;
-                    known = put_all (λ p y. h.size p ≡ 0 → y ≡ Unused) h.state b x (λ z. absurd (has_size b t n st z)) (λ p _. k.blocks.known p);
-                    low = k.blocks.low;
-                  };
+                  blocks = blocks_kept b x (has_size b t n st);
                   lists = record {
                     head = put2_both (λ u r q d. Begins h.size state' u r d q) h.heads h.deep t s link e first (λ u r ne. keeps u r (h.deep u r) (h.heads u r) (λ i j _. ne i j) (k.lists.head u r));
                     link = λ p u d i.
@@ -212,13 +210,7 @@ module _ (a : Arena) (h : Heap) (k : Kept a h) where
       -- the others of this list lie below
       let deeper : (q : ℕ) → h.state q ≡ Listed t (suc n) → h.size q ≡ s → ⊥ = λ q e z. let lo = k.lists.low q t (suc n) e in let m : h.deep t (h.size q) ≡ n = ap (h.deep t) z in omega arith in
       record {
-        blocks = record {
-          some = k.blocks.some;
-          apart = k.blocks.apart;
-          within = k.blocks.within;
-          known = put_all (λ p y. h.size p ≡ 0 → y ≡ Unused) h.state b x (λ z. absurd (nz z)) (λ p _. k.blocks.known p);
-          low = k.blocks.low;
-        };
+        blocks = blocks_kept b x nz;
         lists = record {
           head = put2_both (λ u r q d. Begins h.size state' u r d q) h.heads h.deep t s b (suc n) (inr (put_same h.state b x, refl)) (λ u r _. keeps u r (h.deep u r) (h.heads u r) (k.lists.head u r));
           link = λ p u d e. ⊎_elim

@@ -1,5 +1,5 @@
 -- A reference goes from one register to another.
-use Rattle.sharc_invariant.proofs.{Imports.{◌≡◌, ℕ, ℤ, zero, suc, ◌+◌, ◌<◌, ◌⊎◌, ◌≢◌, true, false, cond, refl, sym, ap, ◌∙◌, subst, inl, inr, ⊎_elim, arith, nat_tests, length-set, set-set, set-get_or, fun_ext, length, slice_index, slice_set, ◌==◌, test_of, Code, Instr, Shape, Fits, count_word, Machine, Local, Asks, instr_at, goes, set_ref, move_ref, test, ref, turn, Turn, Global, put, MayTurn, after_turn, one_thread, bounds, put_same, put_other, Targets, nothing, Mentions, Empty, Refers, Unknown, Closed, Label, Labels, Leads, EntryMentions, fill, empty, IsFree, IsWellTyped, IsRef, IsVacant, refs_in, ints_in, moved_copy, TypedReference, RegisterOf, ArgumentOf, In, Slot, CellOf, World, Shut, Sole, in_ref, none, place, put2, shift, lang_of, conc_of, Shows, register_of, set_reg, Silently, made_turn, State, View, view_of, EntryStands, TopStands, FramesStand, refs_at, types_at, size_of_run, Turned}, Effects.{place_other, shift_ok}, Frames.{filled, FilledStands, fill_stands, empty_stands, type_kept, put_base}, Quiet.{KeepsOwn, heap_now, quiet_state, noted_same, conc_plain}, Turns.{local_turn, asks_turn, room_of}, Own.{is_single, runs, rests, top, fine, not_begun, begun_before}, Plain.{register_plain, is_shut, going, next_runs, same_words}, Seen.reg_stored, Filled.{refs_set, view_filled, below_filled, free_shut, inside, inside_world}, CheckTurns.put_put, Accesses.loaded_words, Scoped.scoped_empty, Steps.{leads as stays}, Others.loses}
+use Rattle.sharc_invariant.proofs.{Imports.{◌≡◌, ℕ, ℤ, zero, suc, ◌+◌, ◌<◌, ◌⊎◌, ◌≢◌, true, false, cond, refl, sym, ap, ◌∙◌, subst, inl, inr, ⊎_elim, arith, nat_tests, length-set, set-set, set-get_or, fun_ext, length, slice_index, slice_set, ◌==◌, test_of, Code, Instr, Shape, Fits, count_word, Machine, Local, instr_at, goes, set_ref, move_ref, test, ref, turn, Turn, Global, put, MayTurn, after_turn, one_thread, bounds, put_same, put_other, Targets, nothing, Mentions, Empty, Refers, Unknown, Closed, Label, Labels, Leads, EntryMentions, fill, empty, IsFree, IsWellTyped, IsRef, IsVacant, refs_in, ints_in, moved_copy, TypedReference, RegisterOf, ArgumentOf, In, Slot, CellOf, World, Shut, Sole, in_ref, none, place, put2, shift, lang_of, conc_of, Shows, register_of, set_reg, Silently, made_turn, State, View, view_of, EntryStands, TopStands, FramesStand, refs_at, types_at, size_of_run, Turned}, Effects.{place_other, shift_ok}, Frames.{filled, FilledStands, fill_stands, empty_stands, type_kept, put_base}, Quiet.{KeepsOwn, heap_now, quiet_state, noted_same, conc_plain}, Turns.{local_turn, asks_turn, room_of}, Own.{is_single, runs, rests, top, fine, not_begun}, Plain.{register_plain, is_shut, next_runs, same_words, keeps_own}, Seen.reg_stored, Filled.{refs_set, view_filled, below_filled, free_shut, inside, inside_world}, CheckTurns.put_put, Accesses.loaded_words, Scoped.scoped_empty, Steps.{leads as stays}, Others.loses}
 
 module _ (x : Targets) (code : Code) (s : Shape) (ls : Labels) (wt : IsWellTyped x code ls) (fits : Fits code s) (g : Global Machine) (world : World) (st : State x code s ls g world) (tr : Turn)
     (may : MayTurn bounds (one_thread code s) g tr) (i : Instr) (is : instr_at code (g.threads tr.thread).at.pc ≡ i) (single : is_single i ≡ true) (r from : ℕ) (gt : (ls.at (g.threads tr.thread).at.pc).gate ≡ Closed)
@@ -58,9 +58,6 @@ module _ (x : Targets) (code : Code) (s : Shape) (ls : Labels) (wt : IsWellTyped
   abbrev k' : Label
   k' = fill (empty (ls.at (g.threads tr.thread).at.pc) from) r ((ls.at (g.threads tr.thread).at.pc).env from) (moved_copy (ls.at (g.threads tr.thread).at.pc) r from) ((ls.at (g.threads tr.thread).at.pc).known from)
 
-  v1 : View
-  v1 = filled view kf 0 nothing
-
   empty_r : in_ref world (RegisterOf tr.thread kr) ≡ 0
   empty_r = subst (EntryStands (refs_at view base) (types_at view base) r) vacant.empty ((tops (suc r) 0).env r (omega arith))
 
@@ -102,22 +99,7 @@ module _ (x : Targets) (code : Code) (s : Shape) (ls : Labels) (wt : IsWellTyped
       let lt_f = inside x code s ls wt g world st t on go i is single from isf in
       let lt_r = inside x code s ls wt g world st t on go i is single r vacant.is in
       let lt_r1 : kr < length m1.refs = subst (λ n. kr < n) (sym (length-set m.refs kf 0)) lt_r in
-      let own : KeepsOwn m m2 = record {
-        number = refl;
-        held = refl;
-        heads = refl;
-        notes = refl;
-        table = (st.threads t).has.table;
-        stage = rest;
-        rests = rest;
-        refs = length-set m1.refs kr (ref m from) ∙ length-set m.refs kf 0;
-        ints = refl;
-        frames = refl;
-        begun_before = begun_before x code s ls wt g world st t on go i is single;
-        begun = not_begun x code s ls wt g world st t on go i is single (m.at.pc + 1) leads.function;
-        ended_before = going x code s ls wt g world st t on go i is single;
-        ended = refl;
-      } in
+      let own : KeepsOwn m m2 = keeps_own x code s ls wt g world st t on go i is single m2 refl (length-set m1.refs kr (ref m from) ∙ length-set m.refs kf 0) refl refl (not_begun x code s ls wt g world st t on go i is single (m.at.pc + 1) leads.function) refl in
       let R : ℕ → ℕ → ℕ = λ u. register_of code (g.threads u) in
       let a1 : register_of code m1 ≡ put (R t) kf 0 = fun_ext (refs_set code m m1 kf 0 rest rest refl lt_f) in
       let a2 : register_of code m2 ≡ put (put (R t) kf 0) kr h.reference = fun_ext (refs_set code m1 m2 kr (ref m from) rest rest refl lt_r1) ∙ ap (λ f. put f kr (ref m from)) a1 ∙ ap (put (put (R t) kf 0) kr) reads in

@@ -1,5 +1,5 @@
 -- A mutex is taken or given back: what the words and the logs then show of the world, and who holds which.
-use Rattle.sharc_invariant.proofs.{Imports.{◌≡◌, ℕ, suc, ◌+◌, ◌<◌, ◌≢◌, true, List, sym, ap, ◌∙◌, subst, ⊎_elim, arith, ◌↔◌, is_some, Contains, THREADS, HeldMutex, object_of, Shape, Machine, Global, put, put_same, put_other, put_all, Targets, Content, field_in, is_mutex, Integer, MutexWord, Waiters, Pointer, TypedReference, Slot, LogOf, In, World, place, put2, MachineView, Shows, Apart, FitsContent, Reads, shadow_at, count_at, length_at, cell_at, store, made_turn, Locks}, Effects.{place_same, place_other}, Seen.{pointer_no_mutex, put2_at, put2_off, cell_cell, cell_count, cell_length, stale_off}, Listed.pair_cases}
+use Rattle.sharc_invariant.proofs.{Imports.{◌≡◌, ℕ, suc, ◌+◌, ◌<◌, ◌≢◌, true, List, sym, ap, ◌∙◌, subst, ⊎_elim, arith, ◌↔◌, is_some, Contains, THREADS, HeldMutex, object_of, Shape, Machine, Global, put, put_same, put_other, put_all, Targets, Content, field_in, is_mutex, Integer, TypedReference, Slot, LogOf, In, World, place, put2, MachineView, Shows, Apart, FitsContent, Reads, shadow_at, count_at, length_at, cell_at, store, made_turn, Locks}, Effects.{place_same, place_other}, Seen.{pointer_no_mutex, put2_at, put2_off, cell_cell, cell_count, cell_length, stale_off, holder_stored}, Listed.pair_cases}
 
 mutex_fits : (h : Content) (v : ℕ) → is_mutex h ≡ true → FitsContent h v
 mutex_fits (Integer w) v e = absurd (cc)
@@ -41,24 +41,13 @@ module _ (x : Targets) (s : Shape) (cells elements : ℕ → ℕ) (c : MachineVi
 
   -- the entry of a log
   pub log_stored : (t k : ℕ) (y : TypedReference) → Shows x s cells elements (record c { logs = put2 c.logs t k y.reference }) (record w { slots = place w.slots (In (LogOf t k)) y })
-  log_stored t k y = record {
-    regs = sim.regs;
-    args = sim.args;
-    staged = sim.staged;
-    logs = λ u j. ⊎_elim
-        (λ (e : (u ≡ t) × (j ≡ k)). let P : ℕ → ℕ → Type 0 = λ u j. (place w.slots (In (LogOf t k)) y (In (LogOf u j))).reference ≡ put2 c.logs t k y.reference u j in
-        subst (λ u. P u j) (sym e.0) (subst (P t) (sym e.1) (ap (λ (h : TypedReference). h.reference) (place_same w.slots (In (LogOf t k)) y) ∙ sym (put2_at c.logs t k y.reference))))
-        (λ (ne : u ≡ t → j ≡ k → ⊥). ap (λ (h : TypedReference). h.reference) (place_other w.slots (In (LogOf t k)) (In (LogOf u j)) y (λ e. ne (cc) (cc))) ∙ sim.logs u j ∙ put2_off c.logs t k u j y.reference ne)
-        (pair_cases u t j k);
-    pointers = sim.pointers;
-    others = sim.others;
-    integers = sim.integers;
-    counts = sim.counts;
-    lengths = sim.lengths;
-    mutexes = sim.mutexes;
-    shadows = sim.shadows;
-    stale = sim.stale;
-  }
+  log_stored t k y = holder_stored x s cells elements c w sim (LogOf t k) y c.regs c.args (put2 c.logs t k y.reference) c.staged sim.regs sim.args
+      (λ u j. ⊎_elim
+      (λ (e : (u ≡ t) × (j ≡ k)). let P : ℕ → ℕ → Type 0 = λ u j. (place w.slots (In (LogOf t k)) y (In (LogOf u j))).reference ≡ put2 c.logs t k y.reference u j in
+      subst (λ u. P u j) (sym e.0) (subst (P t) (sym e.1) (ap (λ (h : TypedReference). h.reference) (place_same w.slots (In (LogOf t k)) y) ∙ sym (put2_at c.logs t k y.reference))))
+      (λ (ne : u ≡ t → j ≡ k → ⊥). ap (λ (h : TypedReference). h.reference) (place_other w.slots (In (LogOf t k)) (In (LogOf u j)) y (λ e. ne (cc) (cc))) ∙ sim.logs u j ∙ put2_off c.logs t k u j y.reference ne)
+      (pair_cases u t j k))
+      sim.staged
 
 -- ---- who holds which
 -- an entry of a log is of a mutex of a live object

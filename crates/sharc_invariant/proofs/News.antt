@@ -1,5 +1,5 @@
 -- The turns of a New before its last: from the thread's own list, or from the top.
-use Rattle.sharc_invariant.proofs.{Imports.{◌≡◌, ℕ, zero, suc, ◌+◌, ◌*◌, ◌^◌, ◌<◌, ◌≤◌, ◌≢◌, Bool, true, false, cond, List, None, Some, refl, sym, ap, ◌∙◌, subst, ⊎_elim, arith, ltb-true, cases_eq, cases_lt, eqb-true, eqb-false, nat_tests, set-get_or, get_or_past, length-set, pow_mono, fun_ext, length, slice_index, slice_set, nat_lt, nat_le, nat_eq, ◌==◌, THREADS, Load, Swap, Cas, NewLaws, block_of, NewView, told, turn_of, turn_of_stage, next_stage, next_head, try_from, after_cell, word_number, granule_number, top_number, NewArguments, Do, NewStage, Code, Shape, RunsOn, Stopped, Trap, Stage, Rests, Makes, Fits as FitsShape, granules, granule_at, top_word, first_cell, Machine, instr_at, int, elements_of, all_cells, size_of, new_state, new, asks_new, after_new, goes_on_new, at_stage, trapped, turn, Turn, Global, put, MayTurn, after_turn, one_thread, bounds, Instr, put_same, put_other, put_all, Targets, Labels, IsWellTyped, World, put2, Heap, Kept, Built, Live, Listed, InBlock, popped, carved, conc_of, Shows, head_of, head_with, making_of, length_at, made_turn, KeepsOthers, Silently, State, BuildsAt, HeapStands, Turned, ne_eq, eq_refl, not_less as not_lt, le_true}, Listed.{pop_ok, carve_ok, store_ok, below_blocks, put2_same, put2_other}, Quiet.heap_now, Changes.KeepsLower, Turns.{asks_turn, room_of}, Stores.{index_put, arena}, Heaps.{size_power, same_power, apart_stored, built_size, listed_size, low_block}, Builds.{IsMaking, builds_state, own_state, own_off, own_at}, Others.loses, BitTurns.{in_low as granule_here}, Empties.{none_below as nothing}}
+use Rattle.sharc_invariant.proofs.{Imports.{◌≡◌, ℕ, zero, suc, ◌+◌, ◌*◌, ◌^◌, ◌<◌, ◌≤◌, ◌≢◌, Bool, true, false, cond, List, None, Some, refl, sym, ap, ◌∙◌, subst, ⊎_elim, arith, ltb-true, cases_eq, cases_lt, eqb-true, eqb-false, nat_tests, set-get_or, get_or_past, length-set, pow_mono, fun_ext, length, slice_index, slice_set, nat_lt, nat_le, nat_eq, ◌==◌, THREADS, Load, Swap, Cas, NewLaws, block_of, NewView, told, turn_of, turn_of_stage, next_stage, next_head, try_from, after_cell, word_number, granule_number, top_number, NewArguments, Do, NewStage, Code, Shape, RunsOn, Stopped, Trap, Stage, Rests, Makes, Fits as FitsShape, granules, granule_at, top_word, first_cell, Machine, instr_at, int, elements_of, all_cells, size_of, new_state, new, asks_new, after_new, goes_on_new, at_stage, trapped, turn, Turn, Global, put, MayTurn, after_turn, one_thread, bounds, Instr, put_same, put_other, put_all, Targets, Labels, IsWellTyped, World, put2, Heap, Kept, Built, Live, Listed, InBlock, popped, carved, conc_of, Shows, head_of, head_with, making_of, length_at, made_turn, KeepsOthers, State, BuildsAt, HeapStands, Turned, ne_eq, eq_refl, not_less as not_lt, le_true}, Listed.{pop_ok, carve_ok, store_ok, below_blocks, put2_same, put2_other}, Quiet.heap_now, Changes.KeepsLower, Turns.{asks_turn, room_of, unseen}, Stores.{index_put, arena}, Heaps.{size_power, same_power, apart_stored, built_size, listed_size, low_block}, Builds.{IsMaking, builds_state, own_state, own_off, own_at}, Others.loses, BitTurns.{in_low as granule_here}, Empties.{none_below as nothing}, Plain.others_heap}
 use Rattle.sharc_tree.specs.declared.trap.Trap.TheVariants as traps
 use Rattle.sharc_heap.specs.Asks.{step_of, cell_word, count_word, length_word}
 
@@ -87,7 +87,7 @@ module _ (x : Targets) (code : Code) (s : Shape) (ls : Labels) (wt : IsWellTyped
   turn_is y e = ap (λ i. Rattle.sharc_code.specs.Machine.act code s i m) is ∙ ap (new s m r E cells site) e
 
   silent : (w : Global Machine) → after ≡ w → State x code s ls w world → Turned x code s ls g world tr
-  silent w e k = (world, subst (λ y. State x code s ls y world) (sym e) k, Silently (record { obj = refl; mutex = refl; passed = λ o p u b q. q; sole = λ u r e. (e, refl) }))
+  silent w e k = unseen x code s ls g world tr _ e k
 
   same_low : KeepsLower g.words g.words
   same_low = record { count = refl; low = λ j _ _ _. refl; are_words = st.are_words }
@@ -253,15 +253,8 @@ module _ (x : Targets) (code : Code) (s : Shape) (ls : Labels) (wt : IsWellTyped
         room = h.room;
         sizes = h.sizes;
       } in
-      let others : KeepsOthers s world world st.heap heap' g.words g.words t = record {
-        regs = λ u _ q. refl;
-        win = λ u _. refl;
-        passed = λ u _ q p c _ z. z;
-        sole = λ u _ q _ p. loses refl;
-        cells = λ u _ q _ n. refl;
-        built = λ u _ b q. (put_other st.heap.state hb b (Built t) (λ i. let z : Listed t (suc p.0) ≡ Built u = sym listed ∙ ap st.heap.state (sym i) ∙ q in cc) ∙ q, refl);
-        within = λ u _ b q i n. refl;
-      } in
+      let others : KeepsOthers s world world st.heap heap' g.words g.words t = others_heap s world st.heap heap' g.words g.words t (λ u _ b q. (put_other st.heap.state hb b (Built t) (λ i. let z : Listed t (suc p.0) ≡ Built u = sym listed ∙ ap st.heap.state (sym i) ∙ q in cc) ∙ q, refl))
+      (λ u _ b q i n. refl) in
       let built : heap'.state a0.head ≡ Built t = ap (put st.heap.state hb (Built t)) (sym oh.3) ∙ put_same st.heap.state hb (Built t) in
       let size : heap'.size a0.head ≡ a0.block = ap st.heap.size (sym oh.3) ∙ size_b in
       silent (made_turn g t g.words m') d
@@ -440,15 +433,8 @@ module _ (x : Targets) (code : Code) (s : Shape) (ls : Labels) (wt : IsWellTyped
               are_words = λ i. subst (λ k. k < 2 ^ 64) (sym (at i)) (put_all (λ i y. y < 2 ^ 64) (λ i. slice_index g.words i) top_word moved (omega arith) (λ i _. st.are_words i) i);
             })
             heap'
-            (record {
-              regs = λ u _ q. refl;
-              win = λ u _. refl;
-              passed = λ u _ q p c _ z. z;
-              sole = λ u _ q _ p. loses refl;
-              cells = λ u _ q _ k. refl;
-              built = λ u _ p e. let np = built_size s st.cells g world.obj st.heap hs st.globals_cells p u e in (put_other st.heap.state b p (Built t) (not_top p np) ∙ e, put_other st.heap.size b p size (not_top p np));
-              within = λ u _ p e i k. off i (λ z. let q = k.0 in omega arith);
-            })
+            (others_heap s world st.heap heap' g.words words t (λ u _ p e. let np = built_size s st.cells g world.obj st.heap hs st.globals_cells p u e in (put_other st.heap.state b p (Built t) (not_top p np) ∙ e, put_other st.heap.size b p size (not_top p np)))
+            (λ u _ p e i k. off i (λ z. let q = k.0 in omega arith)))
             (record {
               kept = kept';
               words = λ i. refl;

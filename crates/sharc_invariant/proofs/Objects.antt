@@ -1,5 +1,5 @@
 -- An object comes: what its words and its granules are.
-use Rattle.sharc_invariant.proofs.Imports.{◌≡◌, ℕ, ◌+◌, ◌*◌, ◌^◌, ◌<◌, ◌≤◌, true, false, cond, refl, sym, ap, ◌∙◌, subst, ⊎_elim, arith, cases_eq, nat_tests, nat_lt, min, max, block_of, Char, Int, Long, Shape, put, put_same, put_other, GranuleState, Bits, Targets, ObjectType, Content, field_in, is_pointer, is_mutex, type_at, Integer, MutexWord, Waiters, Pointer, In, RegisterOf, CellOf, TypedReference, ObjectState, World, make, null, place, MachineView, Reads, FitsContent, lang_of, Shows, shown, cell_at, count_at, length_at, shadow_at, fresh_granule, block_for}
+use Rattle.sharc_invariant.proofs.{Imports.{◌≡◌, ℕ, ◌+◌, ◌*◌, ◌^◌, ◌<◌, ◌≤◌, true, false, cond, refl, sym, ap, ◌∙◌, subst, ⊎_elim, arith, cases_eq, nat_tests, nat_lt, min, max, block_of, Char, Int, Long, Shape, put, put_same, put_other, GranuleState, Bits, Targets, ObjectType, Content, field_in, is_pointer, is_mutex, type_at, Integer, In, RegisterOf, CellOf, TypedReference, ObjectState, World, make, null, place, MachineView, Reads, FitsContent, lang_of, Shows, shown, cell_at, count_at, length_at, shadow_at, fresh_granule, block_for}}
 
 -- ---- what zeros are
 pub zero_fits : (h : Content) → FitsContent h 0
@@ -39,9 +39,6 @@ factor_low e c p = grind arith
 module _ (x : Targets) (s : Shape) (cells elements : ℕ → ℕ) (c : MachineView) (w : World) (t k b : ℕ) (ty : ObjectType) (size many : ℕ)
     (sim : Shows x s cells elements c (record w { slots = place w.slots (In (RegisterOf t k)) (record { ty = ty; reference = b }) })) (gone : (w.obj b).live ≡ false) (dead : (i : ℕ) → (w.slots (CellOf b i)).reference ≡ 0)
     (unlocked : (j : ℕ) → w.mutex b j ≡ 0) (zeros : (i : ℕ) → i < size → c.words (cell_at s b i) ≡ 0) (one' : c.words (count_at s b) ≡ 1) (len : c.words (length_at s b) ≡ many) where
-  abbrev l : Rattle.sharc_invariant.specs.World.TypeRules
-  l = lang_of x
-
   abbrev G : ℕ → GranuleState
   G = found_granules s c b size
 

@@ -1,5 +1,5 @@
 -- The invariant holds where no turn was made.
-use Rattle.sharc_invariant.proofs.{Imports.{◌≡◌, ℕ, pos, ◌+◌, ◌-◌, ◌*◌, ◌^◌, ◌<◌, ◌≤◌, ◌≢◌, ◌&&◌, true, false, cond, List, [], ◌∷◌, refl, sym, ap, ◌∙◌, subst, inl, ⊎_elim, arith, eqb-true, ltb-true, cases_eq, cases_lt, and_parts, nat_tests, get_or-replicate, get_or_past, length-replicate, get_or-map-range_with_len, length-map-range_with_len, length, slice_index, slice_index_or, nat_eq, nat_lt, nat_le, ◌==◌, replicate, if◌then◌else◌, THREADS, ListsNoted, is_noted, note_of, blank, has_note, IsBlank, epoch_of, Kind, Read, Write, GranuleNotes, Code, Shape, Parameter, FRAMES, int_of, Fits, words_of, granules, state_word, function_word, argument_word, next_thread_word, top_word, opening_words, opens_with, opening_cell, first_global, first_heap_word, Machine, function_of, no_frame, most_refs, most_ints, Global, is_started, bounds, Targets, ObjectType, Content, Field, field_in, global_field, type_at, is_mutex, is_pointer, nothing, Integer, MutexWord, Waiters, Pointer, Entry, Empty, Refers, Unknown, Labels, Pass, IsIn, Anything, refs_in, ints_in, IsWellTyped, Initial, In, CellOf as Cell, Slot, ObjectState, World, WorldInvariant, if_reference, note_number, conc_of, Shows, FitsContent, Reads, argument_of, cell_at, lang_of, FramesStand, GateStands, NumberStands, vals_of, State, Runs, ThreadStands, Locks, Threads, Firsts, HeapStands, EntryStands, TopStands, view_of, size_of_run, first_slots, no_object, fresh_granule, first_world, first_heap, first_place, ne_eq, eq_refl}, Own.runs_at, Plain.register_plain}
+use Rattle.sharc_invariant.proofs.{Imports.{◌≡◌, ℕ, pos, ◌+◌, ◌-◌, ◌*◌, ◌^◌, ◌<◌, ◌≤◌, ◌≢◌, ◌&&◌, true, false, cond, List, [], refl, sym, ap, ◌∙◌, subst, inl, ⊎_elim, arith, eqb-true, ltb-true, cases_eq, cases_lt, and_parts, nat_tests, get_or_past, get_or-map-range_with_len, length-map-range_with_len, length, slice_index, nat_eq, nat_lt, nat_le, ◌==◌, replicate, if◌then◌else◌, THREADS, note_of, blank, IsBlank, epoch_of, Kind, Read, Write, GranuleNotes, Code, Shape, Parameter, FRAMES, int_of, Fits, words_of, granules, state_word, function_word, argument_word, next_thread_word, top_word, opening_words, opens_with, opening_cell, first_global, first_heap_word, Machine, function_of, most_refs, Global, is_started, bounds, Targets, ObjectType, Content, Field, field_in, global_field, type_at, is_mutex, is_pointer, nothing, Integer, Entry, Empty, Refers, Unknown, Labels, Anything, IsWellTyped, Initial, In, CellOf as Cell, Slot, ObjectState, World, WorldInvariant, if_reference, note_number, conc_of, Shows, FitsContent, Reads, argument_of, cell_at, lang_of, NumberStands, State, ThreadStands, Locks, Threads, Firsts, HeapStands, EntryStands, size_of_run, first_slots, no_object, fresh_granule, first_world, first_heap, first_place, ne_eq, eq_refl}, Plain.register_plain, Begun.{begun_stands, nth_replicate}}
 
 -- ---- the opening words
 module _ (code : Code) (s : Shape) where
@@ -31,12 +31,6 @@ module _ (code : Code) (s : Shape) where
       let q : nat_lt i (first_heap_word s) ≡ false = grind (arith, nat_tests) in
       elim (nat_le (first_global s) i) as (λ b. cond (b && nat_lt i (first_heap_word s)) (slice_index code.initial.items (i - first_global s)) 0 ≡ 0) [ true ↦ rw q refl | false ↦ refl ]
 
-pub nth_replicate : (n i v : ℕ) → slice_index_or (replicate n v) i v ≡ v
-nth_replicate n i v = ⊎_elim (λ (lt : i < n). get_or-replicate n i v v lt) (λ (ge : n ≤ i). let e = length-replicate n v in get_or_past (replicate n v) i v (omega arith)) (cases_lt i n)
-
-nth_blank : {A : Type 0} (n i : ℕ) (v : A) → slice_index_or (replicate n v) i v ≡ v
-nth_blank {A} n i v = ⊎_elim (λ (lt : i < n). get_or-replicate n i v v lt) (λ (ge : n ≤ i). let e = length-replicate n v in get_or_past (replicate n v) i v (omega arith)) (cases_lt i n)
-
 initial_fits : (h : Content) (v : ℕ) → Initial h v → FitsContent h v
 initial_fits (Integer w) v e = e
 initial_fits _ v e = tt
@@ -49,24 +43,13 @@ initial_free : (h : Content) (v : ℕ) → is_mutex h ≡ true → Initial h v �
 initial_free (Integer w) v p e = absurd (cc)
 initial_free _ v p e = e
 
-pub no_passes : (ps : List Pass) (p : Pass) → ps ≡ [] → IsIn p ps → ⊥
-no_passes [] p e h = h
-no_passes (q ∷ ps) p e h = absurd (cc)
-
 reference_zero : (p : Parameter) → if_reference p 0 ≡ 0
 reference_zero Parameter.Int = refl
 reference_zero _ = refl
 
 note_zero : (n g : ℕ) (kind : Kind) → note_number (note_of (record { notes = replicate n blank; order = [] }) g kind) ≡ 0
-note_zero n g Read = ap (λ (r : GranuleNotes). note_number r.read) (nth_blank n g blank)
-note_zero n g Write = ap (λ (r : GranuleNotes). note_number r.write) (nth_blank n g blank)
-
-pub no_note : (n : ℕ) → ListsNoted (record { notes = replicate n blank; order = [] })
-no_note n = record {
-  all = λ g e. let q : is_noted (replicate n blank) g ≡ false = ap has_note (nth_blank n g blank) in absurd (cc);
-  only = λ g h. absurd (let l = h.1 in omega arith);
-  once = λ i j d lt l. absurd (omega arith);
-}
+note_zero n g Read = ap (λ (r : GranuleNotes). note_number r.read) (nth_replicate n g blank)
+note_zero n g Write = ap (λ (r : GranuleNotes). note_number r.write) (nth_replicate n g blank)
 
 null_slot : (x : Targets) (a : Slot) → (first_slots x a).reference ≡ 0
 null_slot x (In a) = refl
@@ -200,42 +183,8 @@ module _ (x : Targets) (code : Code) (s : Shape) (ls : Labels) (wt : IsWellTyped
   opened_locks : Locks x s cells0 w0 g0
   opened_locks = record { held = λ t o j lt l c m. ((λ e. absurd (omega arith)), λ e. absurd (cc)); logged = λ t h c. absurd (let l = c.1 in omega arith); few = λ o j t e. absurd (omega arith); only = λ o j ne. absurd (ne refl) }
 
-  opened_top : (t : ℕ) → TopStands x t (view_of elements0 w0 t (g0.threads t)) 0 0 (λ n. pos 0) (ls.at 0)
-  opened_top t n k =
-      let sc = wt.scoped 0 in
-      let fn = wt.first.0 in
-      let gone : (r : ℕ) → (ls.at 0).env r ≡ Empty = λ r. sc.few r (let z = ap (refs_in code) fn in omega arith) in
-      let none' : (i : ℕ) → (ls.at 0).ints i ≡ Anything = λ i. sc.numbers i (let z = ap (ints_in code) fn in omega arith) in
-      record {
-        env = λ r _. subst (EntryStands (λ i. 0) (λ i. nothing) r) (sym (gone r)) refl;
-        same = λ r _. refl;
-        known = λ r _ e. absurd (sc.known r e (gone r));
-        numbers = λ i _. subst (NumberStands x elements0 (λ i. 0) (λ i. nothing) (λ n. pos 0) (vals_of (g0.threads t) (0 + i))) (sym (none' i)) tt;
-        passed = λ p h. absurd (no_passes (ls.at 0).passed p wt.first.2 h);
-      }
-
-  opened_runs : (t : ℕ) → Runs x code s ls elements0 w0 (first_heap code s) g0 t (g0.threads t)
-  opened_runs t = runs_at x code s ls elements0 w0 (first_heap code s) g0 t (g0.threads t) (λ n. pos 0) refl (opened_top t)
-      (subst (FramesStand x code ls t (view_of elements0 w0 t (g0.threads t)) (g0.threads t)) (sym wt.first.0) (refl, refl, refl))
-      (subst (GateStands s w0 t (g0.threads t)) (sym wt.first.1) refl) (λ _. omega arith)
-
   opened_thread : (t : ℕ) → ThreadStands x code s ls elements0 w0 (first_heap code s) g0 t
-  opened_thread t = record {
-    has = record {
-      number = refl;
-      log = record { few = omega arith; each_once = λ i j d lt l. absurd (omega arith) };
-      refs = length-replicate {A = ℕ} (FRAMES * most_refs code.functions.items) 0;
-      ints = length-replicate (FRAMES * most_ints code.functions.items) (pos 0);
-      frames = length-replicate FRAMES no_frame;
-      heads = length-replicate {A = ℕ} 16 0;
-      notes = length-replicate (granules s) blank;
-      table = no_note (granules s);
-    };
-    runs = λ on go. opened_runs t;
-    off = λ _. refl;
-    stopped = λ stop. let e : true ≡ false = stop in absurd (cc);
-    waits = λ off. refl;
-  }
+  opened_thread t = begun_stands x code s ls wt elements0 w0 (first_heap code s) g0 t refl (λ r. refl) refl
 
   opened_threads : Threads code ls w0 g0
   opened_threads = record {

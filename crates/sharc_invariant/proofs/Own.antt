@@ -1,5 +1,5 @@
 -- The thread that makes the turn: where it stands, and where it comes to stand.
-use Rattle.sharc_invariant.proofs.{Imports.{◌≡◌, ℕ, ℤ, zero, suc, ◌+◌, ◌*◌, ◌<◌, ◌≤◌, ◌≢◌, max, Bool, true, false, List, [], ◌∷◌, Option, Some, None, refl, sym, ap, ◌∙◌, subst, ⊎_elim, arith, mul-le-mul_left, mul_comm, length, slice_index_or, fold, ◌==◌, FRAMES, Code, Function, Instr, Register, Shape, Frame, Stage, Rests, Looks, Clears, Makes, Empties, Lowers, FreeLooks, FreeClears, Uncounts, Links, Names, Hands, Begins, Enters, Withdraws, WithdrawsFrom, Leaves, Wakes, Machine, instr_at, function_of, no_function, most_ints, most_refs, may_go, Global, Targets, Gate, Closed, Label, Labels, LessGate, Fine, IsWellTyped, refs_in, ints_in, World, Heap, State, View, BelowStands, FramesStand, frame_at, StageStands, OnClear, OnNew, OnFree, OnSpawn, OnStart, OnExit, OnSignal, Runs, GateStands, TopStands, label_now, view_of, ne_eq, suc_times}, Quiet.label_held, Others.OnHold}
+use Rattle.sharc_invariant.proofs.{Imports.{◌≡◌, ℕ, ℤ, zero, suc, ◌+◌, ◌*◌, ◌<◌, ◌≤◌, max, Bool, true, false, List, [], ◌∷◌, Option, Some, None, refl, sym, ap, ◌∙◌, subst, ⊎_elim, arith, mul-le-mul_left, mul_comm, length, slice_index_or, fold, ◌==◌, FRAMES, Code, Function, Instr, Register, Shape, Frame, Stage, Rests, Looks, Clears, Makes, Names, Hands, Begins, Enters, Withdraws, WithdrawsFrom, Leaves, Wakes, Machine, instr_at, function_of, no_function, most_ints, most_refs, may_go, Global, Targets, Gate, Closed, Label, Labels, LessGate, Fine, IsWellTyped, refs_in, ints_in, World, Heap, State, View, BelowStands, FramesStand, frame_at, StageStands, OnClear, OnNew, OnFree, OnSpawn, OnStart, OnExit, OnSignal, Runs, GateStands, TopStands, label_now, view_of, ne_eq, suc_times}, Quiet.label_held, Others.OnHold}
 
 -- ---- instructions of one turn
 abbrev pub is_single : Instr → Bool
@@ -128,6 +128,14 @@ runs_at x code s ls elements w heap g t m names rest top below gate room =
     }
 
 -- where a thread runs an instruction of one turn: its label stands as it is
+-- where an instruction is that neither starts a thread nor ends it, a function is: so its place is not 0
+pub begun_in : (x : Targets) (code : Code) (ls : Labels) → IsWellTyped x code ls → (pc : ℕ) → ((site : ℕ) → instr_at code pc ≡ Instr.Start site → ⊥) → (instr_at code pc ≡ Instr.Exit → ⊥)
+    → (n : ℕ) → (ls.at n).function ≡ (ls.at pc).function → (n == 0) ≡ false
+begun_in x code ls wt pc no_start no_exit n e = ne_eq n 0 (λ z. ⊎_elim
+    (λ (z : pc ≡ 0). no_start wt.begin.0 (ap (instr_at code) z ∙ wt.begin.1))
+    no_exit
+    (wt.placed pc (sym e ∙ ap (λ p. (ls.at p).function) z ∙ wt.first.0)))
+
 module _ (x : Targets) (code : Code) (s : Shape) (ls : Labels) (wt : IsWellTyped x code ls) (g : Global Machine) (world : World) (st : State x code s ls g world) (t : ℕ) (on : g.started t ≡ true) (go : may_go (g.threads t).at.state ≡ true)
     (i : Instr) (is : instr_at code (g.threads t).at.pc ≡ i) (single : is_single i ≡ true) where
   abbrev pub m : Machine
@@ -160,15 +168,8 @@ module _ (x : Targets) (code : Code) (s : Shape) (ls : Labels) (wt : IsWellTyped
   exit_not_single : i ≡ Instr.Exit → ⊥
   exit_not_single e = let q : is_single i ≡ false = ap is_single e in cc
 
-  -- it is in a function
-  pub in_function : here.function ≢ None
-  in_function e = ⊎_elim
-      (λ (z : m.at.pc ≡ 0). start_not_single wt.begin.0 (sym is ∙ ap (instr_at code) z ∙ wt.begin.1))
-      (λ z. exit_not_single (sym is ∙ z))
-      (wt.placed m.at.pc e)
-
   pub not_begun : (pc : ℕ) → (ls.at pc).function ≡ here.function → (pc == 0) ≡ false
-  not_begun pc e = ne_eq pc 0 (λ z. in_function (sym e ∙ ap (λ p. (ls.at p).function) z ∙ wt.first.0))
+  not_begun = begun_in x code ls wt m.at.pc (λ site z. start_not_single site (sym is ∙ z)) (λ z. exit_not_single (sym is ∙ z))
 
   pub begun_before : (m.at.pc == 0) ≡ false
   begun_before = not_begun m.at.pc refl

@@ -1,5 +1,5 @@
 -- Turns that change no word: registers alone, tests and jumps.
-use Rattle.sharc_invariant.proofs.{Imports.{◌≡◌, ℕ, ℤ, pos, suc, ◌+◌, ◌<◌, ◌≤◌, true, false, cond, List, Option, Some, None, refl, sym, ap, ◌∙◌, subst, arith, get_or-set_same, get_or-set_other, length-set, fun_ext, length, slice_index, FRAMES, Code, Instr, Shape, Stop, Frame, RunsOn, Tries, Stopped, Ended, Rests, Machine, instr_at, goes, goes_to, set_int, stopped, may_go, counted, Global, put, put_same, put_other, put_all, Targets, Closed, Number, Label, Labels, Less, LessGate, Leads, set_number, IsWellTyped, IsInt, World, Shut, Heap, Kept, MachineView, conc_of, Shows, register_of, is_ended, made_turn, KeepsOthers, StopStands, BelowStands, State, View, view_of, vals_of, NumberStands, TopStands, FramesStand, GateStands, Runs, refs_at, types_at}, Frames.{less_stands, Agrees, Low, callers_agree}, Quiet.{KeepsOwn, KeepsWords, KeepsWorld, heap_now, quiet_state, freed_held, noted_same, conc_plain}, Others.{stop_at, OnHold, loses}, Own.{is_single, closed_less, runs_at, int_inside, runs, rests, top, gate, not_begun, begun_before}}
+use Rattle.sharc_invariant.proofs.{Imports.{◌≡◌, ℕ, ℤ, pos, suc, ◌+◌, ◌<◌, ◌≤◌, true, false, cond, List, Option, refl, sym, ap, ◌∙◌, subst, arith, get_or-set_same, get_or-set_other, length-set, fun_ext, length, slice_index, Code, Instr, Shape, Stop, RunsOn, Tries, Stopped, Ended, Rests, Machine, instr_at, goes, goes_to, set_int, stopped, may_go, counted, Global, put, put_same, put_other, put_all, Targets, Closed, Number, Label, Labels, Less, LessGate, Leads, set_number, IsWellTyped, IsInt, World, Shut, Heap, Kept, MachineView, conc_of, Shows, register_of, is_ended, made_turn, KeepsOthers, StopStands, State, View, view_of, vals_of, NumberStands, TopStands, FramesStand, GateStands, Runs, refs_at, types_at, Own as Own', ◌==◌, argument_of, Built, InBlock, ◌≢◌}, Frames.{less_stands, frames_agree, frames_same}, Quiet.{KeepsOwn, KeepsWords, KeepsWorld, heap_now, quiet_state, freed_held, noted_same, conc_plain, sizes_kept}, Others.{stop_at, OnHold, loses}, Own.{is_single, closed_less, runs_at, int_inside, runs, rests, gate, not_begun, begun_before}}
 
 -- ---- registers as they are seen
 pub register_plain : (code : Code) (m : Machine) → m.own.stage ≡ Rests → (i : ℕ) → register_of code m i ≡ slice_index m.refs i
@@ -15,25 +15,37 @@ same_words x code s ls g world st = record {
   kept = subst (λ f. Kept (record { first = 1 + s.globals; words = Rattle.sharc_code.specs.Layout.first_cell s }) (record st.heap { words = f })) (fun_ext st.heap_stands.words) st.heap_stands.kept;
 }
 
-pub same_others : (s : Shape) (w : World) (heap : Heap) (words : List ℕ) (t : ℕ) → KeepsOthers s w w heap (heap_now heap words) words words t
-same_others s w heap words t = record {
+-- the world stays, and so do the blocks that other threads build, with their words
+pub others_heap : (s : Shape) (w : World) (heap heap' : Heap) (words words' : List ℕ) (t : ℕ) → ((u : ℕ) → u ≢ t → (b : ℕ) → heap.state b ≡ Built u → (heap'.state b ≡ Built u) × (heap'.size b ≡ heap.size b))
+    → ((u : ℕ) → u ≢ t → (b : ℕ) → heap.state b ≡ Built u → (j : ℕ) → InBlock (record { first = 1 + s.globals; words = Rattle.sharc_code.specs.Layout.first_cell s }) heap b j → slice_index words' j ≡ slice_index words j)
+    → KeepsOthers s w w heap heap' words words' t
+others_heap s w heap heap' words words' t built within = record {
   regs = λ u _ r. refl;
   win = λ u _. refl;
   passed = λ u _ o p k _ h. h;
   sole = λ u _ r _ p. loses refl;
   cells = λ u _ r _ i. refl;
-  built = λ u _ h e. (e, refl);
-  within = λ u _ h _ j _. refl;
+  built = built;
+  within = within;
 }
+
+pub others_stay : (s : Shape) (w : World) (heap : Heap) (words words' : List ℕ) (t : ℕ)
+    → ((u : ℕ) → u ≢ t → (b : ℕ) → heap.state b ≡ Built u → (j : ℕ) → InBlock (record { first = 1 + s.globals; words = Rattle.sharc_code.specs.Layout.first_cell s }) heap b j → slice_index words' j ≡ slice_index words j)
+    → KeepsOthers s w w heap (heap_now heap words') words words' t
+others_stay s w heap words words' t within = others_heap s w heap (heap_now heap words') words words' t (λ u _ b e. (e, refl)) within
+
+pub same_others : (s : Shape) (w : World) (heap : Heap) (words : List ℕ) (t : ℕ) → KeepsOthers s w w heap (heap_now heap words) words words t
+same_others s w heap words t = others_stay s w heap words words t (λ u _ b _ j _. refl)
 
 pub same_world : (w : World) → KeepsWorld w w
 same_world w = record { obj = refl; mutex = refl; args = λ u. refl }
 
--- registers that read as before
-pub sim_regs : (x : Targets) (s : Shape) (cells elements : ℕ → ℕ) (c : MachineView) (w : World) (regs : ℕ → ℕ → ℕ) → ((u i : ℕ) → c.regs u i ≡ regs u i) → Shows x s cells elements c w → Shows x s cells elements (record c { regs = regs }) w
-sim_regs x s cells elements c w regs e h = record {
+-- registers and arguments that read as before
+pub sim_same : (x : Targets) (s : Shape) (cells elements : ℕ → ℕ) (c : MachineView) (w : World) (regs : ℕ → ℕ → ℕ) (args : ℕ → ℕ) → ((u i : ℕ) → c.regs u i ≡ regs u i) → ((u : ℕ) → c.args u ≡ args u)
+    → Shows x s cells elements c w → Shows x s cells elements (record c { regs = regs; args = args }) w
+sim_same x s cells elements c w regs args e a h = record {
   regs = λ u i. h.regs u i ∙ e u i;
-  args = h.args;
+  args = λ u. h.args u ∙ a u;
   logs = h.logs;
   staged = h.staged;
   pointers = h.pointers;
@@ -45,6 +57,10 @@ sim_regs x s cells elements c w regs e h = record {
   shadows = h.shadows;
   stale = h.stale;
 }
+
+-- what a turn may keep of what a thread has for itself
+abbrev pub with_own : Own' → Own' → Own'
+with_own o p = record o { number = p.number; held = p.held; heads = p.heads; table = p.table; stage = p.stage }
 
 module _ (x : Targets) (code : Code) (s : Shape) (ls : Labels) (wt : IsWellTyped x code ls) (g : Global Machine) (world : World) (st : State x code s ls g world) (t : ℕ) (on : g.started t ≡ true) (go : may_go (g.threads t).at.state ≡ true)
     (i : Instr) (is : instr_at code (g.threads t).at.pc ≡ i) (single : is_single i ≡ true) where
@@ -63,7 +79,7 @@ module _ (x : Targets) (code : Code) (s : Shape) (ls : Labels) (wt : IsWellTyped
       put_all (λ u (f : ℕ → ℕ). register_of code (g.threads u) j ≡ f j) (λ u. register_of code (g.threads u)) t (register_of code m')
       (register_plain code m own.stage j ∙ ap (λ l. slice_index l j) (sym refs) ∙ sym (register_plain code m' own.rests j)) (λ u _. refl) u in
       quiet_state x code s ls g world st t on g.words m' own (same_words x code s ls g world st) world (same_world world) (same_others s world st.heap g.words t) wt st.inv
-      (subst (λ c. Shows x s st.cells st.elements c world) (sym (conc_plain code g t g.words m' (noted_same m m' tb own.stage own.rests own.ended_before own.ended))) (sim_regs x s st.cells st.elements (conc_of code g) world (put (λ u. register_of code (g.threads u)) t (register_of code m')) regs st.sim)) runs' over few
+      (subst (λ c. Shows x s st.cells st.elements c world) (sym (conc_plain code g t g.words m' (noted_same m m' tb own.stage own.rests own.ended_before own.ended))) (sim_same x s st.cells st.elements (conc_of code g) world (put (λ u. register_of code (g.threads u)) t (register_of code m')) (argument_of code g) regs (λ u. refl) st.sim)) runs' over few
 
   pub going : is_ended (g.threads t).at.state ≡ false
   going = elim (g.threads t).at.state as (λ y. may_go y ≡ true → is_ended y ≡ false) [ RunsOn ↦ λ e. refl | Tries ↦ λ e. refl | Stopped ↦ λ e. refl | Ended ↦ λ e. absurd (cc) ] go
@@ -83,9 +99,6 @@ module _ (x : Targets) (code : Code) (s : Shape) (ls : Labels) (wt : IsWellTyped
   abbrev pub view : View
   view = view_of st.elements world t (g.threads t)
 
-  top_here : TopStands x t view (g.threads t).at.refs (g.threads t).at.ints (runs x code s ls wt g world st t on go i is single).names here
-  top_here = top x code s ls wt g world st t on go i is single
-
   below_here : FramesStand x code ls t view (g.threads t) here.function
   below_here = (runs x code s ls wt g world st t on go i is single).below
 
@@ -97,55 +110,33 @@ module _ (x : Targets) (code : Code) (s : Shape) (ls : Labels) (wt : IsWellTyped
   abbrev moved : ℕ → Machine
   moved pc = goes_to (g.threads t) pc
 
-  keeps_place : (pc : ℕ) → (ls.at pc).function ≡ here.function → KeepsOwn (g.threads t) (moved pc)
-  keeps_place pc e = record {
-    number = refl;
-    held = refl;
-    heads = refl;
-    notes = refl;
-    table = (st.threads t).has.table;
+  -- the turn leaves what the thread keeps for itself
+  pub keeps_own : (m' : Machine) → m'.own ≡ with_own m'.own (g.threads t).own → length m'.refs ≡ length (g.threads t).refs → length m'.ints ≡ length (g.threads t).ints → length m'.frames ≡ length (g.threads t).frames
+      → (m'.at.pc == 0) ≡ false → is_ended m'.at.state ≡ false → KeepsOwn (g.threads t) m'
+  keeps_own m' own refs ints frames begun ended = record {
+    sizes = sizes_kept (g.threads t) m' (st.threads t).has.table (ap (λ (o : Own'). record m'.own { number = o.number; table = o.table }) own) refs ints frames;
+    held = ap (λ (o : Own'). o.held) own;
+    heads = ap (λ (o : Own'). o.heads) own;
     stage = rests x code s ls wt g world st t on go i is single;
-    rests = rests x code s ls wt g world st t on go i is single;
-    refs = refl;
-    ints = refl;
-    frames = refl;
+    rests = ap (λ (o : Own'). o.stage) own ∙ rests x code s ls wt g world st t on go i is single;
     begun_before = begun_before x code s ls wt g world st t on go i is single;
-    begun = not_begun x code s ls wt g world st t on go i is single pc e;
+    begun = begun;
     ended_before = going;
-    ended = refl;
+    ended = ended;
   }
 
   pub jump_state : (pc : ℕ) (k : Label) → here.gate ≡ Closed → Less k (ls.at pc) → k.function ≡ here.function → k.gate ≡ Closed → (k.room ≡ true → length (g.threads t).own.held < 16)
       → TopStands x t view (g.threads t).at.refs (g.threads t).at.ints (runs x code s ls wt g world st t on go i is single).names k → g.made t + 1 ≤ 100000000 → State x code s ls (made_turn g t g.words (moved pc)) world
   jump_state pc k gt less fn kg room tp few =
-      plain_state (moved pc) (keeps_place pc (less.function ∙ fn)) refl refl
+      plain_state (moved pc) (keeps_own (moved pc) refl refl refl refl (not_begun x code s ls wt g world st t on go i is single pc (less.function ∙ fn)) refl) refl refl
       (λ _. next_runs world (heap_now st.heap g.words) (made_turn g t g.words (moved pc)) (moved pc) (runs x code s ls wt g world st t on go i is single).names k (rests x code s ls wt g world st t on go i is single) fn kg less
-      tp (frames_place (moved pc) here.function below_here) (is_shut gt) room)
+      tp (frames_same x code ls t view (g.threads t) (moved pc) refl refl refl refl here.function below_here) (is_shut gt) room)
       (λ e. absurd (cc)) few
-    where
-      frames_place : (m' : Machine) (f : Option ℕ) → FramesStand x code ls t view (g.threads t) f → FramesStand x code ls t view (moved pc) f
-      frames_place m' None h = h
-      frames_place m' (Some f) h = h
 
   -- a stop
   pub stop_state : (why : Stop) → world.win t ≡ Shut → g.made t + 1 ≤ 100000000 → State x code s ls (made_turn g t g.words (stopped (g.threads t) why)) world
   stop_state why shut few =
-      plain_state (stopped (g.threads t) why) (record {
-        number = refl;
-        held = refl;
-        heads = refl;
-        notes = refl;
-        table = (st.threads t).has.table;
-        stage = rests x code s ls wt g world st t on go i is single;
-        rests = rests x code s ls wt g world st t on go i is single;
-        refs = refl;
-        ints = refl;
-        frames = refl;
-        begun_before = begun_before x code s ls wt g world st t on go i is single;
-        begun = begun_before x code s ls wt g world st t on go i is single;
-        ended_before = going;
-        ended = refl;
-      }) refl refl
+      plain_state (stopped (g.threads t) why) (keeps_own (stopped (g.threads t) why) refl refl refl refl (begun_before x code s ls wt g world st t on go i is single) refl) refl refl
       (λ e. absurd (cc)) (λ _. stop_at s world t m (stopped (g.threads t) why) here.gate (gate x code s ls wt g world st t on go i is single) shut) few
 
   -- ---- an integer register holds something else
@@ -178,24 +169,15 @@ module _ (x : Targets) (code : Code) (s : Shape) (ls : Labels) (wt : IsWellTyped
 
   pub vals_below : (r : ℕ) (z : ℤ) (v' : View) → v' ≡ record view { vals = put (vals_of (g.threads t)) ((g.threads t).at.ints + r) z } → (m' : Machine) → m'.frames ≡ (g.threads t).frames → m'.at.depth ≡ (g.threads t).at.depth
       → m'.at.refs ≡ (g.threads t).at.refs → m'.at.ints ≡ (g.threads t).at.ints → (f : Option ℕ) → FramesStand x code ls t view (g.threads t) f → FramesStand x code ls t v' m' f
-  vals_below r z v' e m' ef ed er ei None h = (ed ∙ h.0, er ∙ h.1, ei ∙ h.2)
-  vals_below r z v' e m' ef ed er ei (Some f) h =
-      let base = (g.threads t).at.ints in
-      let v1 : View = record view { vals = put (vals_of m) (base + r) z } in
-      let a : Agrees t view v1 (Low m.at.refs) (Low base) = record {
+  vals_below r z v' e m' ef ed er ei f h =
+      let v1 : View = record view { vals = put (vals_of m) (m.at.ints + r) z } in
+      subst (λ v. FramesStand x code ls t v m' f) (sym e) (frames_agree x code ls t view v1 m m' (record {
         refs = λ j _. refl;
         types = λ j _. refl;
-        vals = λ j lt. sym (put_other (vals_of m) (base + r) j z (λ q. omega arith));
+        vals = λ j lt. sym (put_other (vals_of m) (m.at.ints + r) j z (λ q. omega arith));
         elements = λ j _. refl;
         passed = λ o p b _ k. k;
-      } in
-      let k = callers_agree x code ls t view v1 m.frames m.at.depth m.at.refs base f a h.0 in
-      let P : View → List Frame → ℕ → ℕ → ℕ → Type 0 = λ v fs d b c. BelowStands x code ls t v fs d b c f in (
-        subst (λ v. P v m'.frames m'.at.depth m'.at.refs m'.at.ints) (sym e) (subst (λ fs. P v1 fs m'.at.depth m'.at.refs m'.at.ints) (sym ef) (subst (λ d. P v1 m.frames d m'.at.refs m'.at.ints) (sym ed)
-            (subst (λ b. P v1 m.frames m.at.depth b m'.at.ints) (sym er) (subst (λ c. P v1 m.frames m.at.depth m.at.refs c) (sym ei) k)))),
-        subst (λ d. d ≤ FRAMES) (sym ed) h.1,
-        h.2,
-      )
+      }) ef ed er ei f h)
 
   pub numbers_state : (r : ℕ) (z : ℤ) (n : Number) (l : Label) (names : ℕ → ℤ) → l.function ≡ here.function → l.room ≡ here.room → here.gate ≡ Closed → IsInt code here r
       → TopStands x t view (g.threads t).at.refs (g.threads t).at.ints names l
@@ -205,22 +187,7 @@ module _ (x : Targets) (code : Code) (s : Shape) (ls : Labels) (wt : IsWellTyped
       let m' = numbered r z in
       let lt : m.at.ints + r < length m.ints = subst (λ b. m.at.ints + r < b) (sym (st.threads t).has.ints) (int_inside x code ls t view m here.function r below_here isin) in
       let e = view_set r z lt in
-      plain_state m' (record {
-        number = refl;
-        held = refl;
-        heads = refl;
-        notes = refl;
-        table = (st.threads t).has.table;
-        stage = rests x code s ls wt g world st t on go i is single;
-        rests = rests x code s ls wt g world st t on go i is single;
-        refs = refl;
-        ints = length-set m.ints (m.at.ints + r) z;
-        frames = refl;
-        begun_before = begun_before x code s ls wt g world st t on go i is single;
-        begun = not_begun x code s ls wt g world st t on go i is single (m.at.pc + 1) (leads.function ∙ fn);
-        ended_before = going;
-        ended = refl;
-      }) refl refl
+      plain_state m' (keeps_own m' refl refl (length-set m.ints (m.at.ints + r) z) refl (not_begun x code s ls wt g world st t on go i is single (m.at.pc + 1) (leads.function ∙ fn)) refl) refl refl
       (λ _. next_runs world (heap_now st.heap g.words) (made_turn g t g.words m') m' names (set_number l r n) (rests x code s ls wt g world st t on go i is single) fn refl leads
       (subst (λ v. TopStands x t v m.at.refs m.at.ints names (set_number l r n)) (sym e) (number_top names r z n l k tp))
       (vals_below r z (view_of st.elements world t m') e m' refl refl refl refl here.function below_here)

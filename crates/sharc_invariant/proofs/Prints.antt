@@ -1,24 +1,5 @@
 -- A print keeps the invariant: the count of prints is nobody's word.
-use Rattle.sharc_invariant.proofs.{Imports.{◌≡◌, ℕ, ◌+◌, ◌%◌, ◌^◌, ◌<◌, Some, None, refl, sym, ap, ◌∙◌, subst, arith, length-set, fun_ext, length, slice_index, slice_set, Add, epoch_of, Code, Shape, Fits, first_cell, prints_word, Machine, Asks, instr_at, int, printed, step_of, Turn, Global, put, MayTurn, after_turn, one_thread, bounds, Instr, put_other, put_all, Targets, field_in, Label, Labels, IsWellTyped, World, Kept, MachineView, conc_of, Shows, FitsContent, Reads, register_of, store, cell_at, count_at, length_at, shadow_at, Silently, made_turn, State, View, view_of, FramesStand, Turned}, Listed.store_ok, Quiet.{KeepsOwn, KeepsWords, heap_now, quiet_state, noted_same, conc_plain, put_self}, Turns.{asks_turn, room_of}, Own.{runs, rests, top, fine, begun_before, not_begun}, Plain.{register_plain, is_shut, going, next_runs}, Stores.index_put, Seen.stale_off, Others.loses}
-
--- word 3 shows nothing of the world
-low_stored : (x : Targets) (s : Shape) (cells elements : ℕ → ℕ) (c : MachineView) (w : World) (v : ℕ) → Shows x s cells elements c w → Shows x s cells elements (store c 3 v) w
-low_stored x s cells elements c w v sim =
-    let off : (j : ℕ) → (j ≡ 3 → ⊥) → c.words j ≡ put c.words 3 v j = λ j ne. sym (put_other c.words 3 j v ne) in
-    record {
-      regs = sim.regs;
-      args = sim.args;
-      logs = sim.logs;
-      staged = sim.staged;
-      others = sim.others;
-      pointers = λ o i lo lt p. sim.pointers o i lo lt p ∙ off (cell_at s o i) (λ e. absurd (omega arith));
-      integers = λ o i lo lt. subst (FitsContent (field_in x (w.obj o).ty i).holds) (off (cell_at s o i) (λ e. absurd (omega arith))) (sim.integers o i lo lt);
-      counts = λ o nz lo. sim.counts o nz lo ∙ off (count_at s o) (λ e. absurd (omega arith));
-      lengths = λ o nz lo. sim.lengths o nz lo ∙ off (length_at s o) (λ e. absurd (omega arith));
-      mutexes = λ o j lo lt m. sim.mutexes o j lo lt m ∙ off (cell_at s o j) (λ e. absurd (omega arith));
-      shadows = λ o p lo lt. subst (λ n. Reads n c.read_notes c.write_notes (o + 1 + p) (w.gran o p)) (off (shadow_at s (o + 1 + p)) (λ e. absurd (omega arith))) (sim.shadows o p lo lt);
-      stale = stale_off s w.obj cells c.words (put c.words 3 v) c.read_notes c.write_notes (λ p lt. off (shadow_at s p) (λ e. absurd (omega arith))) sim.stale;
-    }
+use Rattle.sharc_invariant.proofs.{Imports.{◌≡◌, ℕ, ◌+◌, ◌%◌, ◌^◌, ◌<◌, refl, sym, ap, ◌∙◌, subst, arith, length-set, fun_ext, length, slice_index, slice_set, Add, epoch_of, Code, Shape, Fits, first_cell, prints_word, Machine, instr_at, int, printed, step_of, Turn, Global, put, MayTurn, after_turn, one_thread, bounds, Instr, put_other, put_all, Targets, Label, Labels, IsWellTyped, World, Kept, conc_of, Shows, register_of, made_turn, State, View, view_of, Turned}, Listed.store_ok, Quiet.{KeepsOwn, KeepsWords, heap_now, quiet_state, noted_same, conc_plain, put_self}, Turns.{asks_turn, room_of, unseen}, Own.{runs, rests, top, fine, not_begun}, Plain.{register_plain, is_shut, next_runs, keeps_own, others_stay}, Stores.index_put, Heaps.low_stored, Frames.frames_same}
 
 module _ (x : Targets) (code : Code) (s : Shape) (ls : Labels) (wt : IsWellTyped x code ls) (fits : Fits code s) (g : Global Machine) (world : World) (st : State x code s ls g world) (tr : Turn)
     (may : MayTurn bounds (one_thread code s) g tr) where
@@ -61,45 +42,16 @@ module _ (x : Targets) (code : Code) (s : Shape) (ls : Labels) (wt : IsWellTyped
         epochs = λ i l. ap epoch_of (at (97 + i) ∙ put_other (λ i. slice_index g.words i) 3 (97 + i) v (λ e. absurd (omega arith)));
         kept = subst (λ h. Kept (record { first = 1 + s.globals; words = first_cell s }) (record st.heap { words = h })) fe kept0;
       } in
-      let own : KeepsOwn m m' = record {
-        number = refl;
-        held = refl;
-        heads = refl;
-        notes = refl;
-        table = (st.threads t).has.table;
-        stage = rest;
-        rests = rest;
-        refs = refl;
-        ints = refl;
-        frames = refl;
-        begun_before = begun_before x code s ls wt g world st t on go i is refl;
-        begun = not_begun x code s ls wt g world st t on go i is refl (m.at.pc + 1) f.1.function;
-        ended_before = going x code s ls wt g world st t on go i is refl;
-        ended = refl;
-      } in
+      let own : KeepsOwn m m' = keeps_own x code s ls wt g world st t on go i is refl m' refl refl refl refl (not_begun x code s ls wt g world st t on go i is refl (m.at.pc + 1) f.1.function) refl in
       let regs : put (λ u. register_of code (g.threads u)) t (register_of code m') ≡ (λ u. register_of code (g.threads u)) =
       fun_ext (put_self (λ u. register_of code (g.threads u)) t (register_of code m') (fun_ext (λ n. register_plain code m' rest n ∙ sym (register_plain code m rest n)))) in
-      let sim1 = low_stored x s st.cells st.elements (conc_of code g) world v st.sim in
+      let sim1 = low_stored x s st.cells st.elements (conc_of code g) world 3 v (omega arith) st.apart st.sim in
       let sim2 : Shows x s st.cells st.elements (record (conc_of code g) { words = λ j. slice_index words j; regs = put (λ u. register_of code (g.threads u)) t (register_of code m') }) world =
       subst (λ r. Shows x s st.cells st.elements (record (conc_of code g) { words = λ j. slice_index words j; regs = r }) world) (sym regs)
       (subst (λ h. Shows x s st.cells st.elements (record (conc_of code g) { words = h }) world) (sym (fun_ext at)) sim1) in
-      let sim3 = subst (λ c. Shows x s st.cells st.elements c world) (sym (conc_plain code g t words m' (noted_same m m' refl rest rest own.ended_before own.ended))) sim2 in (
-        world,
-        subst (λ y. State x code s ls y world) (sym done) (quiet_state x code s ls g world st t on words m' own kw world (record { obj = refl; mutex = refl; args = λ u. refl })
-            (record {
-              regs = λ u _ r. refl;
-              win = λ u _. refl;
-              passed = λ u _ o p b _ q. q;
-              sole = λ u _ r _ p. loses refl;
-              cells = λ u _ r _ n. refl;
-              built = λ u _ b e. (e, refl);
-              within = λ u _ b e j n. at j ∙ put_other (λ i. slice_index g.words i) 3 j v (λ q. let lo = n.0 in absurd (omega arith));
-            })
-            wt st.inv sim3
-            (λ _. next_runs x code s ls wt g world st t on go i is refl world (heap_now st.heap words) (made_turn g t words m') m' rn.names here rest refl f.0 f.1 tp (below_printed found rn.below) shut rn.room)
-            (λ q. absurd (cc)) (room_of code s g tr may words m' done)),
-        Silently (record { obj = refl; mutex = refl; passed = λ o p u b q. q; sole = λ u r e. (e, refl) }),
-      )
-    where
-      below_printed : (found : ℕ) → FramesStand x code ls tr.thread view (g.threads tr.thread) here.function → FramesStand x code ls tr.thread view (printed (g.threads tr.thread) (int (g.threads tr.thread) r) found) here.function
-      below_printed found = elim here.function as (λ f. FramesStand x code ls tr.thread view (g.threads tr.thread) f → FramesStand x code ls tr.thread view (printed (g.threads tr.thread) (int (g.threads tr.thread) r) found) f) [ None ↦ λ h. h | Some f ↦ λ h. h ]
+      let sim3 = subst (λ c. Shows x s st.cells st.elements c world) (sym (conc_plain code g t words m' (noted_same m m' refl rest rest own.ended_before own.ended))) sim2 in
+      unseen x code s ls g world tr _ done (quiet_state x code s ls g world st t on words m' own kw world (record { obj = refl; mutex = refl; args = λ u. refl })
+      (others_stay s world st.heap g.words words t (λ u _ b e j n. at j ∙ put_other (λ i. slice_index g.words i) 3 j v (λ q. let lo = n.0 in absurd (omega arith))))
+      wt st.inv sim3
+      (λ _. next_runs x code s ls wt g world st t on go i is refl world (heap_now st.heap words) (made_turn g t words m') m' rn.names here rest refl f.0 f.1 tp (frames_same x code ls t view m m' refl refl refl refl here.function rn.below) shut rn.room)
+      (λ q. absurd (cc)) (room_of code s g tr may words m' done))

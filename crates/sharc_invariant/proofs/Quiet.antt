@@ -1,55 +1,68 @@
 -- A turn that changes no thread's words, no object, no mutex and no block: what it leaves of the invariant is the same for all.
-use Rattle.sharc_invariant.proofs.{Imports.{◌≡◌, ℕ, pos, zero, suc, ◌+◌, ◌*◌, ◌^◌, ◌<◌, ◌≤◌, ◌≢◌, ◌⊎◌, ◌||◌, ◌&&◌, Bool, true, false, cond, List, Option, Some, None, refl, sym, ap, ◌∙◌, subst, inl, inr, ⊎_elim, arith, ltb-true, cases_eq, fun_ext, length, slice_index, nat_eq, nat_lt, ◌↔◌, ◌==◌, is_some, Contains, THREADS, HeldMutex, IsHeldLog, object_of, Read, Write, Kind, note_of, Accesses, ListsNoted, epoch_of, Code, Shape, Instr, Clear, Free, Stage, Rests, Links, int_of, top_word, next_thread_word, state_word, function_word, argument_word, granules, first_cell, Machine, reference_of, function_of, instr_at, ref, may_go, counted, Global, put, is_started, bounds, put_same, put_other, put_all, sum_to, Targets, nothing, field_in, is_mutex, cells_of, Gate, Closed, Checked, Holds, Loaded, HoldsLoaded, SoleGate, Label, Labels, Fine, IsWellTyped, RegisterOf, ArgumentOf, In, TypedReference, ObjectState, Sole, World, in_ref, WorldInvariant, Heap, Kept, Live, is_freed, is_first, if_reference, note_number, conc_of, Shows, Apart, register_of, argument_of, is_unread, staged_of, noted_by, logged, is_ended, has_withdrawn, lang_of, cell_at, making_of, head_of, head_with, made_turn, made_conc, KeepsOthers, StopStands, block_for, State, View, view_of, HeapStands, Locks, Threads, Firsts, NumberStands, ThreadStands, IsThread, Runs, SpawnsNow, Reserves, EntryStands, FramesStand, GateStands, label_now, size_of_run}, Frames.{Agrees, Always, top_agrees, callers_agree}, Others.{stop_kept, stage_kept, operand, OnHold}}
+use Rattle.sharc_invariant.proofs.{Imports.{◌≡◌, ℕ, pos, zero, suc, ◌+◌, ◌*◌, ◌^◌, ◌<◌, ◌≤◌, ◌≢◌, ◌⊎◌, ◌||◌, ◌&&◌, Bool, true, false, cond, List, Option, Some, None, refl, sym, ap, ◌∙◌, subst, inl, inr, ⊎_elim, arith, ltb-true, cases_eq, fun_ext, length, slice_index, nat_eq, nat_lt, ◌↔◌, ◌==◌, is_some, Contains, THREADS, HeldMutex, IsHeldLog, object_of, Read, Write, Kind, note_of, Accesses, ListsNoted, epoch_of, Code, Shape, Instr, Clear, Free, Stage, Rests, Links, int_of, top_word, next_thread_word, state_word, function_word, argument_word, granules, first_cell, Machine, reference_of, function_of, instr_at, ref, may_go, counted, Global, put, is_started, bounds, put_same, put_other, put_all, sum_to, Targets, nothing, field_in, is_mutex, cells_of, Gate, Holds, HoldsLoaded, SoleGate, Label, Labels, Fine, IsWellTyped, RegisterOf, ArgumentOf, In, TypedReference, ObjectState, Sole, World, in_ref, WorldInvariant, Heap, Kept, Live, is_freed, is_first, if_reference, note_number, conc_of, Shows, Apart, register_of, argument_of, is_unread, staged_of, noted_by, logged, is_ended, has_withdrawn, lang_of, cell_at, making_of, head_of, head_with, made_turn, made_conc, KeepsOthers, StopStands, block_for, State, View, view_of, HeapStands, Locks, Threads, Firsts, NumberStands, ThreadStands, IsThread, Runs, SpawnsNow, Reserves, EntryStands, FramesStand, GateStands, label_now, size_of_run, Looks, Clears, Empties, Lowers, FreeLooks, FreeClears, Uncounts, StageStands, data_granules, Own as Own'}, Frames.{Agrees, Always, top_agrees, callers_agree}, Others.{stop_kept, stage_kept, operand, OnHold, map_clear, map_free}}
+
+-- how long the lists of a thread's machine are, what its number is and what its table says of rows
+pub record KeepsSizes (m m' : Machine) : Type 0 where
+  pub number : m'.own.number ≡ m.own.number
+  pub notes : length m'.own.table.notes ≡ length m.own.table.notes
+  pub table : ListsNoted m'.own.table
+  pub refs : length m'.refs ≡ length m.refs
+  pub ints : length m'.ints ≡ length m.ints
+  pub frames : length m'.frames ≡ length m.frames
+
+-- a turn keeps them that leaves the number and the table
+pub sizes_kept : (m m' : Machine) → ListsNoted m.own.table → m'.own ≡ record m'.own { number = m.own.number; table = m.own.table } → length m'.refs ≡ length m.refs → length m'.ints ≡ length m.ints → length m'.frames ≡ length m.frames → KeepsSizes m m'
+sizes_kept m m' table own refs ints frames = record {
+  number = ap (λ (o : Own'). o.number) own;
+  notes = ap (λ (o : Own'). length o.table.notes) own;
+  table = subst ListsNoted (sym (ap (λ (o : Own'). o.table) own)) table;
+  refs = refs;
+  ints = ints;
+  frames = frames;
+}
+
+-- where it keeps them, they are as long as they must be
+pub thread_kept : (code : Code) (s : Shape) (t : ℕ) (m m' : Machine) → IsThread code s t m → KeepsSizes m m' → IsHeldLog m'.own.held → length m'.own.heads ≡ length m.own.heads → IsThread code s t m'
+thread_kept code s t m m' h sizes log heads = record {
+  number = sizes.number ∙ h.number;
+  log = log;
+  refs = sizes.refs ∙ h.refs;
+  ints = sizes.ints ∙ h.ints;
+  frames = sizes.frames ∙ h.frames;
+  heads = heads ∙ h.heads;
+  notes = sizes.notes ∙ h.notes;
+  table = sizes.table;
+}
 
 -- what every turn keeps of its thread here
 pub record KeepsThread (m m' : Machine) : Type 0 where
-  pub number : m'.own.number ≡ m.own.number
+  pub sizes : KeepsSizes m m'
   pub held : m'.own.held ≡ m.own.held
   pub heads : m'.own.heads ≡ m.own.heads
   pub making : making_of m'.own.stage ≡ making_of m.own.stage
-  pub notes : length m'.own.table.notes ≡ length m.own.table.notes
-  pub table : ListsNoted m'.own.table
-  pub refs : length m'.refs ≡ length m.refs
-  pub ints : length m'.ints ≡ length m.ints
-  pub frames : length m'.frames ≡ length m.frames
 
 -- what a turn keeps that may take a mutex or give one back
 pub record KeepsLengths (m m' : Machine) : Type 0 where
-  pub number : m'.own.number ≡ m.own.number
+  pub sizes : KeepsSizes m m'
   pub log : IsHeldLog m'.own.held
   pub heads : m'.own.heads ≡ m.own.heads
   pub making : making_of m'.own.stage ≡ making_of m.own.stage
-  pub notes : length m'.own.table.notes ≡ length m.own.table.notes
-  pub table : ListsNoted m'.own.table
-  pub refs : length m'.refs ≡ length m.refs
-  pub ints : length m'.ints ≡ length m.ints
-  pub frames : length m'.frames ≡ length m.frames
 
 lengths_kept : (m m' : Machine) → IsHeldLog m.own.held → KeepsThread m m' → KeepsLengths m m'
 lengths_kept m m' log own = record {
-  number = own.number;
+  sizes = own.sizes;
   log = subst IsHeldLog (sym own.held) log;
   heads = own.heads;
   making = own.making;
-  notes = own.notes;
-  table = own.table;
-  refs = own.refs;
-  ints = own.ints;
-  frames = own.frames;
 }
 
 -- what the thread of the turn keeps for itself
 pub record KeepsOwn (m m' : Machine) : Type 0 where
-  pub number : m'.own.number ≡ m.own.number
+  pub sizes : KeepsSizes m m'
   pub held : m'.own.held ≡ m.own.held
   pub heads : m'.own.heads ≡ m.own.heads
-  pub notes : length m'.own.table.notes ≡ length m.own.table.notes
-  pub table : ListsNoted m'.own.table
   pub stage : m.own.stage ≡ Rests
   pub rests : m'.own.stage ≡ Rests
-  pub refs : length m'.refs ≡ length m.refs
-  pub ints : length m'.ints ≡ length m.ints
-  pub frames : length m'.frames ≡ length m.frames
   pub begun_before : (m.at.pc == 0) ≡ false
   pub begun : (m'.at.pc == 0) ≡ false
   pub ended_before : is_ended m.at.state ≡ false
@@ -57,33 +70,23 @@ pub record KeepsOwn (m m' : Machine) : Type 0 where
 
 -- what it keeps where it takes a mutex or gives one back, or is in the middle of an instruction
 pub record KeepsSelf (m m' : Machine) : Type 0 where
-  pub number : m'.own.number ≡ m.own.number
+  pub sizes : KeepsSizes m m'
   pub log : IsHeldLog m'.own.held
   pub heads : m'.own.heads ≡ m.own.heads
   pub making : making_of m'.own.stage ≡ making_of m.own.stage
-  pub notes : length m'.own.table.notes ≡ length m.own.table.notes
-  pub table : ListsNoted m'.own.table
   pub staged : staged_of m'.own.stage ≡ staged_of m.own.stage
   pub spawns : (n : ℕ) → SpawnsNow m'.own.stage n → SpawnsNow m.own.stage n
-  pub refs : length m'.refs ≡ length m.refs
-  pub ints : length m'.ints ≡ length m.ints
-  pub frames : length m'.frames ≡ length m.frames
   pub begun_before : (m.at.pc == 0) ≡ false
   pub begun : (m'.at.pc == 0) ≡ false
 
 keeps_self : (m m' : Machine) → IsHeldLog m.own.held → KeepsOwn m m' → KeepsSelf m m'
 keeps_self m m' log own = record {
-  number = own.number;
+  sizes = own.sizes;
   log = subst IsHeldLog (sym own.held) log;
   heads = own.heads;
   making = ap making_of (own.rests ∙ sym own.stage);
-  notes = own.notes;
-  table = own.table;
   staged = ap staged_of (own.rests ∙ sym own.stage);
   spawns = λ n h. absurd (subst (λ y. SpawnsNow y n) own.rests h);
-  refs = own.refs;
-  ints = own.ints;
-  frames = own.frames;
   begun_before = own.begun_before;
   begun = own.begun;
 }
@@ -150,6 +153,26 @@ head_same m m' k e h = ap (λ y. head_with y m'.own.heads k) e ∙ ap (λ l. hea
 abbrev pub heap_now : Heap → List ℕ → Heap
 heap_now heap words = record heap { words = λ i. slice_index words i }
 
+-- the heap stands as before where no object changes and no head of a list
+pub heap_stays : (s : Shape) (cells : ℕ → ℕ) (g : Global Machine) (obj obj' : ℕ → ObjectState) (heap : Heap) (t : ℕ) (words : List ℕ) (m' : Machine) → HeapStands s cells g obj heap → obj' ≡ obj
+    → Kept (record { first = 1 + s.globals; words = first_cell s }) (heap_now heap words) → slice_index words top_word ≡ slice_index g.words top_word → ((b : ℕ) → head_of m' b ≡ head_of (g.threads t) b)
+    → HeapStands s cells (made_turn g t words m') obj' (heap_now heap words)
+heap_stays s cells g obj obj' heap t words m' h same kept top heads =
+    let P : (ℕ → ObjectState) → Type 0 = λ f. (o : ℕ) → o ≢ 0 → ((f o).live ≡ true) ↔ (heap.state o ≡ Live) in
+    let Q : (ℕ → ObjectState) → Type 0 = λ f. (o : ℕ) → o ≢ 0 → (f o).live ≡ true → 2 + cells o ≤ 2 * heap.size o in
+    let Z : (ℕ → ObjectState) → Type 0 = λ f. (o : ℕ) → o ≢ 0 → (f o).live ≡ true → heap.size o ≡ block_for (cells o) in
+    record {
+      kept = kept;
+      words = λ i. refl;
+      top = h.top ∙ sym top;
+      within = h.within;
+      heads = λ u b lu lb. h.heads u b lu lb ∙ put_all (λ u (n : Machine). head_of (g.threads u) b ≡ head_of n b) g.threads t m' (sym (heads b)) (λ u _. refl) u;
+      powers = h.powers;
+      live = subst P (sym same) h.live;
+      room = subst Q (sym same) h.room;
+      sizes = subst Z (sym same) h.sizes;
+    }
+
 pub sole_gate : (x : Targets) (code : Code) (ls : Labels) (pc : ℕ) (l : Label) (i : Instr) (r : ℕ) → Fine x code ls pc l i → operand i ≡ Some r → (c : Bool) × (l.gate ≡ SoleGate r c)
 sole_gate x code ls pc l (Clear q count) r f e = let k : q ≡ r = cc in (false, f.0 ∙ ap (λ q. SoleGate q false) k)
 sole_gate x code ls pc l (Free q layout site) r f e = let k : q ≡ r = cc in (f.0.0, f.0.1 ∙ ap (λ q. SoleGate q f.0.0) k)
@@ -176,6 +199,14 @@ noted_same m m' et es er eb ee kind p =
 pub put_self : {A : Type 0} (f : ℕ → A) (t : ℕ) (v : A) → v ≡ f t → (u : ℕ) → put f t v u ≡ f u
 put_self f t v e = put_all (λ u y. y ≡ f u) f t v e (λ u _. refl)
 
+-- a part of each thread's machine, where that of one thread changes
+pub part_put : {A : Type 0} (f : Machine → A) (ms : ℕ → Machine) (t : ℕ) (m' : Machine) → (λ u. f (put ms t m' u)) ≡ put (λ u. f (ms u)) t (f m')
+part_put f ms t m' = fun_ext (λ u. put_all (λ u y. f (put ms t m' u) ≡ y) (λ u. f (ms u)) t (f m') (ap f (put_same ms t m')) (λ u ne. ap f (put_other ms t u m' ne)) u)
+
+-- and where it does not
+pub part_same : {A : Type 0} (f : Machine → A) (ms : ℕ → Machine) (t : ℕ) (m' : Machine) → f m' ≡ f (ms t) → (u : ℕ) → f (put ms t m' u) ≡ f (ms u)
+part_same f ms t m' e = put_all (λ u y. f y ≡ f (ms u)) ms t m' e (λ u _. refl)
+
 pub conc_plain : (code : Code) (g : Global Machine) (t : ℕ) (words : List ℕ) (m' : Machine) → ((kind : Kind) (p : ℕ) → noted_by m' kind p ≡ noted_by (g.threads t) kind p)
     → made_conc code (conc_of code g) t words m' ≡ record (conc_of code g) { words = λ i. slice_index words i; regs = put (λ u. register_of code (g.threads u)) t (register_of code m') }
 conc_plain code g t words m' e =
@@ -183,6 +214,190 @@ conc_plain code g t words m' e =
     let a = n Read in
     let b = n Write in
     λ i. record (conc_of code g) { words = λ i. slice_index words i; regs = put (λ u. register_of code (g.threads u)) t (register_of code m'); read_notes = a i; write_notes = b i }
+
+pub no_argument : (b c : Bool) (v : ℕ) → c ≡ false → cond (b && c) v 0 ≡ 0
+no_argument true c v e = ap (λ c. cond c v 0) e
+no_argument false c v e = refl
+
+-- ---- what the words of the threads say after a turn
+module _ (x : Targets) (code : Code) (s : Shape) (ls : Labels) (g : Global Machine) (world : World) (st : State x code s ls g world) (t : ℕ) (words : List ℕ) (m' : Machine) where
+  abbrev turned : Global Machine
+  turned = made_turn g t words m'
+
+  -- a thread is started as before where its word stays, if it was not started
+  pub started_still : (u : ℕ) → (g.started u ≡ false → u < THREADS → slice_index words (state_word u) ≡ slice_index g.words (state_word u)) → turned.started u ≡ g.started u
+  started_still u same = elim (g.started u) as (λ y. g.started u ≡ y → (is_started bounds words u || y) ≡ y) [
+    | true ↦ λ _. elim (is_started bounds words u) as (λ b. (b || true) ≡ true) [ true ↦ refl | false ↦ refl ]
+    | false ↦ λ e.
+        let q : is_started bounds words u ≡ false = elim (nat_lt u THREADS) as (λ b. nat_lt u THREADS ≡ b → (b && nat_eq (slice_index words (state_word u)) 1) ≡ false) [
+          | true ↦ λ lt. let l : u < THREADS = ltb-true u THREADS lt in ap (λ n. nat_eq n 1) (same e l ∙ (st.begins.started u l).1 e)
+          | false ↦ λ _. refl
+        ] refl in
+        ap (λ b. b || false) q
+  ] refl
+
+  -- the arguments are unread as before where the thread of the turn is not at its beginning
+  pub args_still : ((g.threads t).at.pc == 0) ≡ false → (m'.at.pc == 0) ≡ false
+      → ((u : ℕ) → u ≢ t → u < THREADS → (slice_index words (state_word u) ≡ slice_index g.words (state_word u))
+      × (slice_index g.words (state_word u) ≢ 0 → (slice_index words (function_word u) ≡ slice_index g.words (function_word u)) × (slice_index words (argument_word u) ≡ slice_index g.words (argument_word u))))
+      → (u : ℕ) → argument_of code turned u ≡ argument_of code g u
+  args_still begun_before begun same u = ⊎_elim
+      (λ (e : u ≡ t).
+      let a : is_unread (turned.threads u) ≡ false = ap (λ u. is_unread (turned.threads u)) e ∙ ap is_unread (put_same g.threads t m') ∙ ap (λ b. b && is_first m'.own.stage) begun in
+      let b : is_unread (g.threads u) ≡ false = ap (λ u. is_unread (g.threads u)) e ∙ ap (λ b. b && is_first (g.threads t).own.stage) begun_before in
+      no_argument (nat_lt u THREADS && (slice_index words (state_word u) == 1)) (is_unread (turned.threads u)) _ a ∙ sym (no_argument (nat_lt u THREADS && (slice_index g.words (state_word u) == 1)) (is_unread (g.threads u)) _ b))
+      (λ (ne : u ≡ t → ⊥).
+      let a : is_unread (turned.threads u) ≡ is_unread (g.threads u) = ap is_unread (put_other g.threads t u m' ne) in
+      let A : List ℕ → ℕ = λ ws. if_reference (function_of code (slice_index ws (function_word u))).parameter (slice_index ws (argument_word u)) in
+      elim (nat_lt u THREADS) as (λ b. nat_lt u THREADS ≡ b → cond ((b && (slice_index words (state_word u) == 1)) && is_unread (turned.threads u)) (A words) 0 ≡ cond ((b && (slice_index g.words (state_word u) == 1)) && is_unread (g.threads u)) (A g.words) 0) [
+        | true ↦ λ e.
+            let stays = same u ne (ltb-true u THREADS e) in
+            ap (λ d. cond ((slice_index words (state_word u) == 1) && d) (A words) 0) a
+            ∙ ap (λ n. cond ((n == 1) && is_unread (g.threads u)) (A words) 0) stays.0
+            ∙ ⊎_elim
+            (λ (z : slice_index g.words (state_word u) ≡ 0). ap (λ n. cond ((n == 1) && is_unread (g.threads u)) (A words) 0) z ∙ sym (ap (λ n. cond ((n == 1) && is_unread (g.threads u)) (A g.words) 0) z))
+            (λ (nz : slice_index g.words (state_word u) ≡ 0 → ⊥).
+            ap (λ v. cond ((slice_index g.words (state_word u) == 1) && is_unread (g.threads u)) v 0)
+            (ap (λ n. if_reference (function_of code n).parameter (slice_index words (argument_word u))) (stays.1 nz).0 ∙ ap (if_reference (function_of code (slice_index g.words (function_word u))).parameter) (stays.1 nz).1))
+            (cases_eq (slice_index g.words (state_word u)) 0)
+        | false ↦ λ e. refl
+      ] refl)
+      (cases_eq u t)
+
+  -- where they all stay
+  module _ (low : (j : ℕ) → j < 97 → j ≢ 3 → j ≢ 1 → slice_index words j ≡ slice_index g.words j) where
+    state_stays : (u : ℕ) → u < THREADS → slice_index words (state_word u) ≡ slice_index g.words (state_word u)
+    state_stays u lt = low (state_word u) (omega arith) (λ e. absurd (omega arith)) (λ e. absurd (omega arith))
+
+    pub function_stays : (u : ℕ) → u < THREADS → slice_index words (function_word u) ≡ slice_index g.words (function_word u)
+    function_stays u lt = low (function_word u) (omega arith) (λ e. absurd (omega arith)) (λ e. absurd (omega arith))
+
+    pub argument_stays : (u : ℕ) → u < THREADS → slice_index words (argument_word u) ≡ slice_index g.words (argument_word u)
+    argument_stays u lt = low (argument_word u) (omega arith) (λ e. absurd (omega arith)) (λ e. absurd (omega arith))
+
+    pub started_stay : (u : ℕ) → turned.started u ≡ g.started u
+    started_stay u = started_still u (λ _ lt. state_stays u lt)
+
+    pub args_stay : ((g.threads t).at.pc == 0) ≡ false → (m'.at.pc == 0) ≡ false → (u : ℕ) → argument_of code turned u ≡ argument_of code g u
+    args_stay begun_before begun = args_still begun_before begun (λ u _ lt. (state_stays u lt, λ _. (function_stays u lt, argument_stays u lt)))
+
+    pub begins_stay : (w' : World) → ((u : ℕ) → w'.slots (In (ArgumentOf u)) ≡ world.slots (In (ArgumentOf u))) → ((n : ℕ) → SpawnsNow m'.own.stage n → SpawnsNow (g.threads t).own.stage n) → Threads code ls w' turned
+    begins_stay w' args spawns = record {
+      few = λ u e. st.begins.few u (sym (started_stay u) ∙ e);
+      started = λ u lt. (λ e. started_stay u ∙ (st.begins.started u lt).0 (sym (state_stays u lt) ∙ e), λ e. state_stays u lt ∙ (st.begins.started u lt).1 (sym (started_stay u) ∙ e));
+      given = λ u lt ne. let b = low next_thread_word (omega arith) (λ e. absurd (omega arith)) (λ e. absurd (omega arith)) in let z = st.begins.given u lt (λ e. ne (state_stays u lt ∙ e)) in omega arith;
+      function = λ u lt e. ap ls.starts (function_stays u lt) ∙ st.begins.function u lt (sym (state_stays u lt) ∙ e);
+      argument = λ u lt.
+          let P : TypedReference → ℕ → Type 0 = λ h f. EntryStands (λ r. h.reference) (λ r. h.ty) 0 ((ls.signature f).takes 0) in
+          subst (λ h. P h (slice_index words (function_word u))) (sym (args u)) (subst (P (world.slots (In (ArgumentOf u)))) (sym (function_stays u lt)) (st.begins.argument u lt));
+      one = λ a b n ha hb.
+          let f : (u : ℕ) → SpawnsNow (turned.threads u).own.stage n → SpawnsNow (g.threads u).own.stage n =
+          put_all (λ u (y : Machine). SpawnsNow y.own.stage n → SpawnsNow (g.threads u).own.stage n) g.threads t m' (spawns n) (λ u _ h. h) in
+          st.begins.one a b n (f a ha) (f b hb);
+    }
+
+-- a stage stands by the elements of the object that it is of
+stage_elements : (code : Code) (s : Shape) (elements elements' : ℕ → ℕ) (w : World) (heap : Heap) (words : List ℕ) (t : ℕ) (m : Machine) (i : Instr) → ((r : ℕ) → operand i ≡ Some r → OnHold m.own.stage → elements' (ref m r) ≡ elements (ref m r))
+    → (y : Stage) → m.own.stage ≡ y → StageStands code s elements w heap words t m i y → StageStands code s elements' w heap words t m i y
+stage_elements code s el el' w heap words t m i e (Looks done all) q = map_clear _ _ i (λ r c o h. let f = e r o (subst OnHold (sym q) tt) in (h.0 ∙ ap (λ n. data_granules n c) (sym f), h.1))
+stage_elements code s el el' w heap words t m i e (Clears done all seen) q = map_clear _ _ i (λ r c o h. let f = e r o (subst OnHold (sym q) tt) in (h.0 ∙ ap (λ n. data_granules n c) (sym f), h.1))
+stage_elements code s el el' w heap words t m i e (Empties j all) q = map_free _ _ i (λ r l o h. let f = e r o (subst OnHold (sym q) tt) in ((h.0.0 ∙ sym f, h.0.1, h.0.2), h.1))
+stage_elements code s el el' w heap words t m i e (Lowers j all found) q = map_free _ _ i (λ r l o h. let f = e r o (subst OnHold (sym q) tt) in ((h.0.0 ∙ sym f, h.0.1, h.0.2), h.1))
+stage_elements code s el el' w heap words t m i e (FreeLooks done all) q = map_free _ _ i (λ r l o h. let f = e r o (subst OnHold (sym q) tt) in ((h.0.0 ∙ sym f, h.0.1, h.0.2), h.1))
+stage_elements code s el el' w heap words t m i e (FreeClears done all seen) q = map_free _ _ i (λ r l o h. let f = e r o (subst OnHold (sym q) tt) in ((h.0.0 ∙ sym f, h.0.1, h.0.2), h.1))
+stage_elements code s el el' w heap words t m i e (Uncounts all) q = map_free _ _ i (λ r l o h. let f = e r o (subst OnHold (sym q) tt) in ((h.0.0 ∙ sym f, h.0.1, h.0.2), h.1))
+stage_elements code s el el' w heap words t m i e _ q = λ h. h
+
+-- ---- what stands of each thread after a turn
+module _ (x : Targets) (code : Code) (s : Shape) (ls : Labels) (wt : IsWellTyped x code ls) (g : Global Machine) (world : World) (st : State x code s ls g world) (t : ℕ) (on : g.started t ≡ true) (words : List ℕ) (m' : Machine)
+    (elements' : ℕ → ℕ) (heap' : Heap) (w' : World) (k : KeepsOthers s world w' st.heap heap' g.words words t)
+    (same_elements : (u r : ℕ) → u ≢ t → elements' (in_ref world (RegisterOf u r)) ≡ st.elements (in_ref world (RegisterOf u r)))
+    (reserved : (u n : ℕ) → u ≢ t → SpawnsNow (g.threads u).own.stage n → Reserves g.words u n → Reserves words u n)
+    (handed : (u n : ℕ) → u ≢ t → SpawnsNow (g.threads u).own.stage n → Reserves g.words u n
+    → (slice_index words (function_word n) ≡ slice_index g.words (function_word n)) × (slice_index words (argument_word n) ≡ slice_index g.words (argument_word n)))
+    (function : (u : ℕ) → u ≢ t → g.started u ≡ true → slice_index words (function_word u) ≡ slice_index g.words (function_word u)) where
+  abbrev to : Global Machine
+  to = made_turn g t words m'
+
+  others_view : (u : ℕ) → u ≢ t → Agrees u (view_of st.elements world u (g.threads u)) (view_of elements' w' u (g.threads u)) Always Always
+  others_view u ne = record {
+    refs = λ i _. ap (λ (h : TypedReference). h.reference) (sym (k.regs u ne i));
+    types = λ i _. ap (λ (h : TypedReference). h.ty) (sym (k.regs u ne i));
+    vals = λ i _. refl;
+    elements = λ i _. sym (same_elements u i ne);
+    passed = λ o p b w. k.passed u ne o p b (⊎_elim (λ z. inl z) (λ z. inr (z.0, (z.1.1.0, z.1.1.1))) w);
+  }
+
+  frames_kept : (u : ℕ) (n : Machine) (v v' : View) (f : Option ℕ) → Agrees u v v' Always Always → FramesStand x code ls u v n f → FramesStand x code ls u v' n f
+  frames_kept u n v v' None a h = h
+  frames_kept u n v v' (Some f) a h =
+      (callers_agree x code ls u v v' n.frames n.at.depth n.at.refs n.at.ints f (record { refs = λ i _. a.refs i tt; types = λ i _. a.types i tt; vals = λ i _. a.vals i tt; elements = λ i _. a.elements i tt; passed = λ o p b w. a.passed o p b (⊎_elim (λ z. inl z) (λ z. inr (z.0, (tt, z.1.1))) w) }) h.0, h.1, h.2)
+
+  gate_kept : (u : ℕ) (n : Machine) (y : Gate) → w'.win u ≡ world.win u → GateStands s world u n y → GateStands s w' u n y
+  gate_kept u n (Holds c) e h = (e ∙ h.0, h.1)
+  gate_kept u n (HoldsLoaded c) e h = (e ∙ h.0, h.1, h.2)
+  gate_kept u n _ e h = e ∙ h
+
+  -- an object that a thread walks over it has alone
+  walks : (u : ℕ) → Runs x code s ls st.elements world st.heap g u (g.threads u) → (r : ℕ) → operand (instr_at code (g.threads u).at.pc) ≡ Some r → OnHold (g.threads u).own.stage
+      → (q : ℕ) × ((world.win u ≡ Sole q) × (in_ref world (RegisterOf u q) ≡ ref (g.threads u) r))
+  walks u h r e hold =
+      let n = g.threads u in
+      let i = instr_at code n.at.pc in
+      let f = sole_gate x code ls n.at.pc (ls.at n.at.pc) i r (wt.fine n.at.pc) e in
+      let lb = label_held (ls.at n.at.pc) i n.own.stage hold in
+      let gt : GateStands s world u n (SoleGate r f.0) = subst (GateStands s world u n) (ap (λ (l : Label). l.gate) lb ∙ f.1) h.gate in
+      let nf = freed_held i n.own.stage n.at.refs (n.at.refs + r) hold in
+      (n.at.refs + r, (gt, st.sim.regs u (n.at.refs + r) ∙ ap (λ b. cond b 0 (slice_index n.refs (n.at.refs + r))) nf))
+
+  others_run : (u : ℕ) → u ≢ t → g.started u ≡ true → Runs x code s ls st.elements world st.heap g u (g.threads u) → Runs x code s ls elements' w' heap' to u (g.threads u)
+  others_run u ne on' h =
+      let n = g.threads u in
+      let l = ls.at n.at.pc in
+      let i = instr_at code n.at.pc in
+      let v = view_of st.elements world u n in
+      let v' = view_of elements' w' u n in
+      let stage1 = stage_kept code s st.elements world w' st.heap heap' g.words words t k u ne n i (walks u h) (λ q. reserved u q ne) (λ q. handed u q ne) (function u ne on') n.own.stage refl h.stage in
+      let el : (r : ℕ) → operand i ≡ Some r → OnHold n.own.stage → elements' (ref n r) ≡ st.elements (ref n r) = λ r o hold. let q = walks u h r o hold in subst (λ p. elements' p ≡ st.elements p) q.1.1 (same_elements u q.0 ne) in
+      record {
+        names = h.names;
+        top = top_agrees x u v v' n.at.refs n.at.ints h.names (label_now l i n.own.stage) (others_view u ne) h.top;
+        below = frames_kept u n v v' l.function (others_view u ne) h.below;
+        gate = gate_kept u n (label_now l i n.own.stage).gate (k.win u ne) h.gate;
+        stage = stage_elements code s st.elements elements' w' heap' words u n i el n.own.stage refl stage1;
+        room = h.room;
+      }
+
+  -- what stands of the thread of the turn is given, and so is what stands of one that the turn starts
+  pub threads_stand : IsThread code s t m' → ((u : ℕ) → u ≢ t → (to.started u ≡ g.started u) ⊎ ThreadStands x code s ls elements' w' heap' to u)
+      → (may_go m'.at.state ≡ true → Runs x code s ls elements' w' heap' to t m') → (may_go m'.at.state ≡ false → StopStands w' t m' (ls.at m'.at.pc).gate)
+      → (u : ℕ) → ThreadStands x code s ls elements' w' heap' to u
+  threads_stand has news runs over u = ⊎_elim
+      (λ (e : u ≡ t).
+      let now_on : to.started t ≡ true = ap (λ b. is_started bounds words t || b) on ∙ (elim (is_started bounds words t) as (λ b. (b || true) ≡ true) [ true ↦ refl | false ↦ refl ]) in
+      subst (λ u. ThreadStands x code s ls elements' w' heap' to u) (sym e) (record {
+        has = subst (IsThread code s t) (sym (put_same g.threads t m')) has;
+        runs = λ _ go. subst (Runs x code s ls elements' w' heap' to t) (sym (put_same g.threads t m')) (runs (sym (ap (λ (m : Machine). may_go m.at.state) (put_same g.threads t m')) ∙ go));
+        off = λ off. absurd (cc);
+        stopped = λ stop. subst (λ (m : Machine). StopStands w' t m (ls.at m.at.pc).gate) (sym (put_same g.threads t m')) (over (sym (ap (λ (m : Machine). may_go m.at.state) (put_same g.threads t m')) ∙ stop));
+        waits = λ off. absurd (cc);
+      }))
+      (λ (ne : u ≡ t → ⊥). ⊎_elim (λ (as_before : to.started u ≡ g.started u).
+      let th = st.threads u in
+      let same : to.threads u ≡ g.threads u = put_other g.threads t u m' ne in
+      record {
+        has = subst (IsThread code s u) (sym same) th.has;
+        runs = λ on' go.
+            let on1 : g.started u ≡ true = sym as_before ∙ on' in
+            let go1 : may_go (g.threads u).at.state ≡ true = sym (ap (λ (m : Machine). may_go m.at.state) same) ∙ go in
+            subst (Runs x code s ls elements' w' heap' to u) (sym same) (others_run u ne on1 (th.runs on1 go1));
+        off = λ off. k.win u ne ∙ th.off (sym as_before ∙ off);
+        stopped = λ stop. subst (λ (m : Machine). StopStands w' u m (ls.at m.at.pc).gate) (sym same)
+            (stop_kept world w' u (g.threads u) (ls.at (g.threads u).at.pc).gate (k.win u ne) (th.stopped (sym (ap (λ (m : Machine). may_go m.at.state) same) ∙ stop)));
+        waits = λ off. same ∙ th.waits (sym as_before ∙ off);
+      })
+      (λ (new : ThreadStands x code s ls elements' w' heap' to u). new) (news u ne))
+      (cases_eq u t)
 
 module _ (x : Targets) (code : Code) (s : Shape) (ls : Labels) (g : Global Machine) (world : World) (st : State x code s ls g world) (t : ℕ) (on : g.started t ≡ true) (words : List ℕ) (m' : Machine) (own : KeepsLengths (g.threads t) m')
     (kw : KeepsMost s st.heap g t words) where
@@ -192,127 +407,12 @@ module _ (x : Targets) (code : Code) (s : Shape) (ls : Labels) (g : Global Machi
   abbrev now : Global Machine
   now = made_turn g t words m'
 
-  started_on : now.started t ≡ true
-  started_on = ap (λ b. is_started bounds words t || b) on ∙ (elim (is_started bounds words t) as (λ b. (b || true) ≡ true) [ true ↦ refl | false ↦ refl ])
-
-  low_t : t < THREADS
-  low_t = st.begins.few t on
-
-  -- a part of the machine of each thread that the thread of the turn keeps
-  part_same : {A : Type 0} (f : Machine → A) → f m' ≡ f m → (u : ℕ) → f (now.threads u) ≡ f (g.threads u)
-  part_same f e = put_all (λ u y. f y ≡ f (g.threads u)) g.threads t m' e (λ u _. refl)
-
   module _ (w' : World) (obj : w'.obj ≡ world.obj) (k : KeepsOthers s world w' st.heap (heap_now st.heap words) g.words words t) where
-    others_view : (u : ℕ) → u ≢ t → Agrees u (view_of st.elements world u (g.threads u)) (view_of st.elements w' u (g.threads u)) Always Always
-    others_view u ne = record {
-      refs = λ i _. ap (λ (h : TypedReference). h.reference) (sym (k.regs u ne i));
-      types = λ i _. ap (λ (h : TypedReference). h.ty) (sym (k.regs u ne i));
-      vals = λ i _. refl;
-      elements = λ i _. refl;
-      passed = λ o p b w. k.passed u ne o p b (⊎_elim (λ z. inl z) (λ z. inr (z.0, (z.1.1.0, z.1.1.1))) w);
-    }
-
-    frames_kept : (u : ℕ) (n : Machine) (v v' : View) (f : Option ℕ) → Agrees u v v' Always Always → FramesStand x code ls u v n f → FramesStand x code ls u v' n f
-    frames_kept u n v v' None a h = h
-    frames_kept u n v v' (Some f) a h =
-        (callers_agree x code ls u v v' n.frames n.at.depth n.at.refs n.at.ints f (record { refs = λ i _. a.refs i tt; types = λ i _. a.types i tt; vals = λ i _. a.vals i tt; elements = λ i _. a.elements i tt; passed = λ o p b w. a.passed o p b (⊎_elim (λ z. inl z) (λ z. inr (z.0, (tt, z.1.1))) w) }) h.0, h.1, h.2)
-
-    gate_kept : (u : ℕ) (n : Machine) (y : Gate) → w'.win u ≡ world.win u → GateStands s world u n y → GateStands s w' u n y
-    gate_kept u n (Holds c) e h = (e ∙ h.0, h.1)
-    gate_kept u n (HoldsLoaded c) e h = (e ∙ h.0, h.1, h.2)
-    gate_kept u n _ e h = e ∙ h
-
-    -- an object that a thread walks over it has alone
-    walks : IsWellTyped x code ls → (u : ℕ) → Runs x code s ls st.elements world st.heap g u (g.threads u) → (r : ℕ) → operand (instr_at code (g.threads u).at.pc) ≡ Some r → OnHold (g.threads u).own.stage
-        → (q : ℕ) × ((world.win u ≡ Sole q) × (in_ref world (RegisterOf u q) ≡ ref (g.threads u) r))
-    walks wt u h r e hold =
-        let n = g.threads u in
-        let i = instr_at code n.at.pc in
-        let f = sole_gate x code ls n.at.pc (ls.at n.at.pc) i r (wt.fine n.at.pc) e in
-        let lb = label_held (ls.at n.at.pc) i n.own.stage hold in
-        let gt : GateStands s world u n (SoleGate r f.0) = subst (GateStands s world u n) (ap (λ (l : Label). l.gate) lb ∙ f.1) h.gate in
-        let nf = freed_held i n.own.stage n.at.refs (n.at.refs + r) hold in
-        (n.at.refs + r, (gt, st.sim.regs u (n.at.refs + r) ∙ ap (λ b. cond b 0 (slice_index n.refs (n.at.refs + r))) nf))
-
-    others_run : IsWellTyped x code ls → (u : ℕ) → u ≢ t → g.started u ≡ true → may_go (g.threads u).at.state ≡ true
-        → Runs x code s ls st.elements world st.heap g u (g.threads u) → Runs x code s ls st.elements w' (heap_now st.heap words) now u (g.threads u)
-    others_run wt u ne on' go h =
-        let n = g.threads u in
-        let l = ls.at n.at.pc in
-        let i = instr_at code n.at.pc in
-        let v = view_of st.elements world u n in
-        let v' = view_of st.elements w' u n in
-        record {
-          names = h.names;
-          top = top_agrees x u v v' n.at.refs n.at.ints h.names (label_now l i n.own.stage) (others_view u ne) h.top;
-          below = frames_kept u n v v' l.function (others_view u ne) h.below;
-          gate = gate_kept u n (label_now l i n.own.stage).gate (k.win u ne) h.gate;
-          stage = stage_kept code s st.elements world w' st.heap (heap_now st.heap words) g.words words t k u ne n i (walks wt u h) (λ q. kw.reserved u q ne) (λ q. kw.handed u q ne) (kw.own u ne on') n.own.stage refl h.stage;
-          room = h.room;
-        }
-
     heap_kept : HeapStands s st.cells now w'.obj (heap_now st.heap words)
-    heap_kept =
-        let h = st.heap_stands in
-        let P : (ℕ → ObjectState) → Type 0 = λ f. (o : ℕ) → o ≢ 0 → ((f o).live ≡ true) ↔ (st.heap.state o ≡ Live) in
-        let Q : (ℕ → ObjectState) → Type 0 = λ f. (o : ℕ) → o ≢ 0 → (f o).live ≡ true → 2 + st.cells o ≤ 2 * st.heap.size o in
-        let Z : (ℕ → ObjectState) → Type 0 = λ f. (o : ℕ) → o ≢ 0 → (f o).live ≡ true → st.heap.size o ≡ block_for (st.cells o) in
-        record {
-          kept = kw.kept;
-          words = λ i. refl;
-          top = h.top ∙ sym kw.top;
-          within = h.within;
-          heads = λ u b lu lb. h.heads u b lu lb ∙ sym (part_same (λ m. head_of m b) (head_same (g.threads t) m' b own.making own.heads) u);
-          powers = h.powers;
-          live = subst P (sym obj) h.live;
-          room = subst Q (sym obj) h.room;
-          sizes = subst Z (sym obj) h.sizes;
-        }
-
-    has_kept : (u : ℕ) → IsThread code s u (now.threads u)
-    has_kept u = put_all (λ u m. IsThread code s u m) g.threads t m'
-        (let h = (st.threads t).has in record {
-          number = own.number ∙ h.number;
-          log = own.log;
-          refs = own.refs ∙ h.refs;
-          ints = own.ints ∙ h.ints;
-          frames = own.frames ∙ h.frames;
-          heads = ap (λ (hs : List ℕ). length hs) own.heads ∙ h.heads;
-          notes = own.notes ∙ h.notes;
-          table = own.table;
-        })
-        (λ u _. (st.threads u).has) u
+    heap_kept = heap_stays s st.cells g world.obj w'.obj st.heap t words m' st.heap_stands obj kw.kept kw.top (λ b. head_same (g.threads t) m' b own.making own.heads)
 
     abbrev heap' : Heap
     heap' = heap_now st.heap words
-
-    threads_kept : IsWellTyped x code ls → ((u : ℕ) → u ≢ t → (now.started u ≡ g.started u) ⊎ ThreadStands x code s ls st.elements w' heap' now u)
-        → (may_go m'.at.state ≡ true → Runs x code s ls st.elements w' heap' now t m') → (may_go m'.at.state ≡ false → StopStands w' t m' (ls.at m'.at.pc).gate)
-        → (u : ℕ) → ThreadStands x code s ls st.elements w' heap' now u
-    threads_kept wt news runs over u = ⊎_elim
-        (λ (e : u ≡ t). subst (λ u. ThreadStands x code s ls st.elements w' heap' now u) (sym e) (record {
-          has = has_kept t;
-          runs = λ _ go. subst (Runs x code s ls st.elements w' heap' now t) (sym (put_same g.threads t m')) (runs (sym (ap (λ (m : Machine). may_go m.at.state) (put_same g.threads t m')) ∙ go));
-          off = λ off. let on' : now.started t ≡ true = started_on in absurd (cc);
-          stopped = λ stop. subst (λ (m : Machine). StopStands w' t m (ls.at m.at.pc).gate) (sym (put_same g.threads t m')) (over (sym (ap (λ (m : Machine). may_go m.at.state) (put_same g.threads t m')) ∙ stop));
-          waits = λ off. let on' : now.started t ≡ true = started_on in absurd (cc);
-        }))
-        (λ (ne : u ≡ t → ⊥). ⊎_elim (λ (as_before : now.started u ≡ g.started u).
-        let th = st.threads u in
-        let same : now.threads u ≡ g.threads u = put_other g.threads t u m' ne in
-        record {
-          has = has_kept u;
-          runs = λ on' go.
-              let on1 : g.started u ≡ true = sym as_before ∙ on' in
-              let go1 : may_go (g.threads u).at.state ≡ true = sym (ap (λ (m : Machine). may_go m.at.state) same) ∙ go in
-              subst (Runs x code s ls st.elements w' heap' now u) (sym same) (others_run wt u ne on1 go1 (th.runs on1 go1));
-          off = λ off. k.win u ne ∙ th.off (sym as_before ∙ off);
-          stopped = λ stop. subst (λ (m : Machine). StopStands w' u m (ls.at m.at.pc).gate) (sym same)
-              (stop_kept world w' u (g.threads u) (ls.at (g.threads u).at.pc).gate (k.win u ne) (th.stopped (sym (ap (λ (m : Machine). may_go m.at.state) same) ∙ stop)));
-          waits = λ off. same ∙ th.waits (sym as_before ∙ off);
-        })
-        (λ (new : ThreadStands x code s ls st.elements w' heap' now u). new) (news u ne))
-        (cases_eq u t)
 
     pub any_state : IsWellTyped x code ls → WorldInvariant (size_of_run code s) (lang_of x) w' → Shows x s st.cells st.elements (conc_of code now) w' → Locks x s st.cells w' now → Threads code ls w' now → Firsts x ls now → ((u : ℕ) → u ≢ t → (now.started u ≡ g.started u) ⊎ ThreadStands x code s ls st.elements w' heap' now u)
         → (may_go m'.at.state ≡ true → Runs x code s ls st.elements w' heap' now t m') → (may_go m'.at.state ≡ false → StopStands w' t m' (ls.at m'.at.pc).gate)
@@ -330,7 +430,8 @@ module _ (x : Targets) (code : Code) (s : Shape) (ls : Labels) (g : Global Machi
           apart = subst A (sym obj) st.apart;
           heap_stands = heap_kept;
           locks = locks;
-          threads = threads_kept wt news runs over;
+          threads = threads_stand x code s ls wt g world st t on words m' st.elements heap' w' k (λ u r _. refl) kw.reserved kw.handed kw.own
+              (thread_kept code s t m m' (st.threads t).has own.sizes own.log (ap (λ (hs : List ℕ). length hs) own.heads)) news runs over;
           begins = begins;
           firsts = firsts;
           globals = ap (λ (f : ℕ → ObjectState). f 0) obj ∙ st.globals;
@@ -382,26 +483,6 @@ module _ (x : Targets) (code : Code) (s : Shape) (ls : Labels) (g : Global Machi
       any_state x code s ls g world st t on words m' (lengths_kept (g.threads t) m' (st.threads t).has.log own) kw w' obj k wt inv sim
       (locks_same x code s ls g world st t words m' own.held w' obj mutex) begins firsts news runs over few
 
--- threads are started as before where their words stay
-module _ (x : Targets) (code : Code) (s : Shape) (ls : Labels) (g : Global Machine) (world : World) (st : State x code s ls g world) (t : ℕ) (words : List ℕ) (m' : Machine)
-    (kw : KeepsWords s st.heap g.words words) where
-  abbrev after : Global Machine
-  after = made_turn g t words m'
-
-  pub started_still : (u : ℕ) → after.started u ≡ g.started u
-  started_still u = elim (g.started u) as (λ y. g.started u ≡ y → (is_started bounds words u || y) ≡ y) [
-    | true ↦ λ _. elim (is_started bounds words u) as (λ b. (b || true) ≡ true) [ true ↦ refl | false ↦ refl ]
-    | false ↦ λ e.
-        let q : is_started bounds words u ≡ false = elim (nat_lt u THREADS) as (λ b. nat_lt u THREADS ≡ b → (b && nat_eq (slice_index words (state_word u)) 1) ≡ false) [
-          | true ↦ λ lt.
-              let l : u < THREADS = ltb-true u THREADS lt in
-              let z : slice_index words (state_word u) ≡ 0 = kw.low (state_word u) (omega arith) (λ e. absurd (omega arith)) ∙ (st.begins.started u l).1 e in
-              ap (λ n. nat_eq n 1) z
-          | false ↦ λ _. refl
-        ] refl in
-        ap (λ b. b || false) q
-  ] refl
-
 -- where the threads' words stay
 module _ (x : Targets) (code : Code) (s : Shape) (ls : Labels) (g : Global Machine) (world : World) (st : State x code s ls g world) (t : ℕ) (on : g.started t ≡ true) (words : List ℕ) (m' : Machine) (own : KeepsThread (g.threads t) m')
     (kw : KeepsWords s st.heap g.words words) where
@@ -409,7 +490,7 @@ module _ (x : Targets) (code : Code) (s : Shape) (ls : Labels) (g : Global Machi
   next = made_turn g t words m'
 
   pub started_same : (u : ℕ) → next.started u ≡ g.started u
-  started_same = started_still x code s ls g world st t words m' kw
+  started_same = started_stay x code s ls g world st t words m' (λ j l a _. kw.low j l a)
 
   module _ (w' : World) (obj : w'.obj ≡ world.obj) (mutex : w'.mutex ≡ world.mutex) (k : KeepsOthers s world w' st.heap (heap_now st.heap words) g.words words t) where
     pub kept_state : IsWellTyped x code ls → WorldInvariant (size_of_run code s) (lang_of x) w' → Shows x s st.cells st.elements (conc_of code next) w' → Threads code ls w' next → Firsts x ls next
@@ -454,77 +535,29 @@ module _ (x : Targets) (code : Code) (s : Shape) (ls : Labels) (g : Global Machi
   later = made_turn g t words m'
 
   own' : KeepsLengths (g.threads t) m'
-  own' = record { number = own.number; log = own.log; heads = own.heads; making = own.making; notes = own.notes; table = own.table; refs = own.refs; ints = own.ints; frames = own.frames }
+  own' = record { sizes = own.sizes; log = own.log; heads = own.heads; making = own.making }
 
   started_now : (u : ℕ) → later.started u ≡ g.started u
-  started_now = started_still x code s ls g world st t words m' kw
-
-  same_part : {A : Type 0} (f : Machine → A) → f m' ≡ f (g.threads t) → (u : ℕ) → f (later.threads u) ≡ f (g.threads u)
-  same_part f e = put_all (λ u y. f y ≡ f (g.threads u)) g.threads t m' e (λ u _. refl)
-
-  arguments_of : (c : Bool) (d : Bool) (v : ℕ) → d ≡ false → cond (c && d) v 0 ≡ 0
-  arguments_of true d v e = ap (λ d. cond d v 0) e
-  arguments_of false d v e = refl
-
-  args_same : (u : ℕ) → argument_of code later u ≡ argument_of code g u
-  args_same u = ⊎_elim
-      (λ (e : u ≡ t).
-      let a : is_unread (later.threads u) ≡ false = ap (λ u. is_unread (later.threads u)) e ∙ ap is_unread (put_same g.threads t m') ∙ ap (λ b. b && is_first m'.own.stage) own.begun in
-      let b : is_unread (g.threads u) ≡ false = ap (λ u. is_unread (g.threads u)) e ∙ ap (λ b. b && is_first (g.threads t).own.stage) own.begun_before in
-      arguments_of (nat_lt u THREADS && (slice_index words (state_word u) == 1)) (is_unread (later.threads u)) (if_reference (function_of code (slice_index words (function_word u))).parameter (slice_index words (argument_word u))) a
-      ∙ sym (arguments_of (nat_lt u THREADS && (slice_index g.words (state_word u) == 1)) (is_unread (g.threads u)) (if_reference (function_of code (slice_index g.words (function_word u))).parameter (slice_index g.words (argument_word u))) b))
-      (λ (ne : u ≡ t → ⊥).
-      let a : is_unread (later.threads u) ≡ is_unread (g.threads u) = ap is_unread (put_other g.threads t u m' ne) in
-      elim (nat_lt u THREADS) as (λ b. nat_lt u THREADS ≡ b → cond ((b && (slice_index words (state_word u) == 1)) && is_unread (later.threads u)) (if_reference (function_of code (slice_index words (function_word u))).parameter (slice_index words (argument_word u))) 0
-      ≡ cond ((b && (slice_index g.words (state_word u) == 1)) && is_unread (g.threads u)) (if_reference (function_of code (slice_index g.words (function_word u))).parameter (slice_index g.words (argument_word u))) 0) [
-        | true ↦ λ e.
-            let lt : u < THREADS = ltb-true u THREADS e in
-            let p = kw.low (state_word u) (omega arith) (λ e. absurd (omega arith)) in
-            let q = kw.low (function_word u) (omega arith) (λ e. absurd (omega arith)) in
-            let r = kw.low (argument_word u) (omega arith) (λ e. absurd (omega arith)) in
-            ap (λ d. cond ((slice_index words (state_word u) == 1) && d) (if_reference (function_of code (slice_index words (function_word u))).parameter (slice_index words (argument_word u))) 0) a
-            ∙ ap (λ n. cond ((n == 1) && is_unread (g.threads u)) (if_reference (function_of code (slice_index words (function_word u))).parameter (slice_index words (argument_word u))) 0) p
-            ∙ ap (λ n. cond ((slice_index g.words (state_word u) == 1) && is_unread (g.threads u)) (if_reference (function_of code n).parameter (slice_index words (argument_word u))) 0) q
-            ∙ ap (λ n. cond ((slice_index g.words (state_word u) == 1) && is_unread (g.threads u)) (if_reference (function_of code (slice_index g.words (function_word u))).parameter n) 0) r
-        | false ↦ λ e. refl
-      ] refl)
-      (cases_eq u t)
+  started_now = started_stay x code s ls g world st t words m' (λ j l a _. kw.low j l a)
 
   pub conc_same : conc_of code later ≡ record (made_conc code (conc_of code g) t words m') { logs = put (λ u. logged (g.threads u)) t (logged m') }
   conc_same =
-      let rs : (λ u. register_of code (later.threads u)) ≡ put (λ u. register_of code (g.threads u)) t (register_of code m') =
-      fun_ext (λ u. put_all (λ u y. register_of code (put g.threads t m' u) ≡ y) (λ u. register_of code (g.threads u)) t (register_of code m') (ap (register_of code) (put_same g.threads t m')) (λ u ne. ap (register_of code) (put_other g.threads t u m' ne)) u) in
-      let ar : argument_of code later ≡ argument_of code g = fun_ext args_same in
-      let lo : (λ u. logged (later.threads u)) ≡ put (λ u. logged (g.threads u)) t (logged m') =
-      fun_ext (λ u. put_all (λ u y. logged (put g.threads t m' u) ≡ y) (λ u. logged (g.threads u)) t (logged m') (ap logged (put_same g.threads t m')) (λ u ne. ap logged (put_other g.threads t u m' ne)) u) in
-      let sg : (λ u. staged_of (later.threads u).own.stage) ≡ (λ u. staged_of (g.threads u).own.stage) = fun_ext (same_part (λ m. staged_of m.own.stage) own.staged) in
-      let nt : (kind : Kind) → (λ u. noted_by (later.threads u) kind) ≡ put (λ u. noted_by (g.threads u) kind) t (noted_by m' kind) = λ kind.
-      fun_ext (λ u. put_all (λ u y. noted_by (put g.threads t m' u) kind ≡ y) (λ u. noted_by (g.threads u) kind) t (noted_by m' kind) (ap (λ m. noted_by m kind) (put_same g.threads t m')) (λ u ne. ap (λ m. noted_by m kind) (put_other g.threads t u m' ne)) u) in
+      let rs : (λ u. register_of code (later.threads u)) ≡ put (λ u. register_of code (g.threads u)) t (register_of code m') = part_put (register_of code) g.threads t m' in
+      let ar : argument_of code later ≡ argument_of code g = fun_ext (args_stay x code s ls g world st t words m' (λ j l a _. kw.low j l a) own.begun_before own.begun) in
+      let lo : (λ u. logged (later.threads u)) ≡ put (λ u. logged (g.threads u)) t (logged m') = part_put logged g.threads t m' in
+      let sg : (λ u. staged_of (later.threads u).own.stage) ≡ (λ u. staged_of (g.threads u).own.stage) = fun_ext (part_same (λ m. staged_of m.own.stage) g.threads t m' own.staged) in
+      let nt : (kind : Kind) → (λ u. noted_by (later.threads u) kind) ≡ put (λ u. noted_by (g.threads u) kind) t (noted_by m' kind) = λ kind. part_put (λ m. noted_by m kind) g.threads t m' in
       let rn = nt Read in
       let wn = nt Write in
       λ i. record { words = λ j. slice_index words j; regs = rs i; args = ar i; logs = lo i; staged = sg i; read_notes = rn i; write_notes = wn i }
 
   module _ (w' : World) (kd : KeepsObjects world w') (k : KeepsOthers s world w' st.heap (heap_now st.heap words) g.words words t) where
-    begins_kept : Threads code ls w' later
-    begins_kept = record {
-      few = λ u e. st.begins.few u (sym (started_now u) ∙ e);
-      started = λ u lt. (λ e. started_now u ∙ (st.begins.started u lt).0 (sym (kw.low (state_word u) (omega arith) (λ e. absurd (omega arith))) ∙ e), λ e. kw.low (state_word u) (omega arith) (λ e. absurd (omega arith)) ∙ (st.begins.started u lt).1 (sym (started_now u) ∙ e));
-      given = λ u lt ne. let a = kw.low (state_word u) (omega arith) (λ e. absurd (omega arith)) in let b = kw.low next_thread_word (omega arith) (λ e. absurd (omega arith)) in let z = st.begins.given u lt (λ e. ne (a ∙ e)) in omega arith;
-      function = λ u lt e. ap ls.starts (kw.low (function_word u) (omega arith) (λ e. absurd (omega arith))) ∙ st.begins.function u lt (sym (kw.low (state_word u) (omega arith) (λ e. absurd (omega arith))) ∙ e);
-      argument = λ u lt.
-          let P : TypedReference → ℕ → Type 0 = λ h f. EntryStands (λ r. h.reference) (λ r. h.ty) 0 ((ls.signature f).takes 0) in
-          subst (λ h. P h (slice_index words (function_word u))) (sym (kd.args u)) (subst (P (world.slots (In (ArgumentOf u)))) (sym (kw.low (function_word u) (omega arith) (λ e. absurd (omega arith)))) (st.begins.argument u lt));
-      one = λ a b n ha hb.
-          let f : (u : ℕ) → SpawnsNow (later.threads u).own.stage n → SpawnsNow (g.threads u).own.stage n =
-          put_all (λ u (y : Machine). SpawnsNow y.own.stage n → SpawnsNow (g.threads u).own.stage n) g.threads t m' (own.spawns n) (λ u _ h. h) in
-          st.begins.one a b n (f a ha) (f b hb);
-    }
-
     pub loud_state : IsWellTyped x code ls → WorldInvariant (size_of_run code s) (lang_of x) w' → Shows x s st.cells st.elements (record (made_conc code (conc_of code g) t words m') { logs = put (λ u. logged (g.threads u)) t (logged m') }) w' → Locks x s st.cells w' later
         → (may_go m'.at.state ≡ true → Runs x code s ls st.elements w' (heap_now st.heap words) later t m') → (may_go m'.at.state ≡ false → StopStands w' t m' (ls.at m'.at.pc).gate)
         → g.made t + counted m'.at.state ≤ 100000000 → State x code s ls later w'
     loud_state wt inv sim locks runs over few =
-        any_state x code s ls g world st t on words m' own' (most_words s st.heap g t words st.begins.few kw) w' kd.obj k wt inv (subst (λ c. Shows x s st.cells st.elements c w') (sym conc_same) sim) locks begins_kept
+        any_state x code s ls g world st t on words m' own' (most_words s st.heap g t words st.begins.few kw) w' kd.obj k wt inv (subst (λ c. Shows x s st.cells st.elements c w') (sym conc_same) sim) locks
+        (begins_stay x code s ls g world st t words m' (λ j l a _. kw.low j l a) w' kd.args own.spawns)
         (firsts_stay x ls g st.firsts t words m' (λ j l a _. kw.low j l a) started_now own.begun own.spawns) (λ u _. inl (started_now u)) runs over few
 
 -- and it is not in the middle of an instruction

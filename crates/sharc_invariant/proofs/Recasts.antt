@@ -1,5 +1,5 @@
 -- What a cast leaves of the cells: what they are, and what they refer to.
-use Rattle.sharc_invariant.proofs.{Imports.{◌≡◌, ℕ, zero, suc, ◌+◌, ◌-◌, ◌%◌, ◌<◌, false, List, [], ◌∷◌, refl, sym, ap, ◌∙◌, subst, ⊎_elim, arith, cases_eq, length, map, slice_index_or, ◌==◌, Targets, Field, ObjectType, StaticType, Mutex, FieldLock, Content, cells_of, field_at, field_in, field_of_cell, no_field, no_mutex, lock_number, mutex_of, field_mutex, type_in, type_at, type_of, is_mutex, is_pointer, OfType, OfGlobals, OfSameElement, Integer, MutexWord, Waiters, Pointer, Label, Recasts, IsSameContent, IsSameFieldLock, no_lock, FitsContent, ne_eq}, Frames.{same_lock, map_same}, Emptied.mod_low}
+use Rattle.sharc_invariant.proofs.{Imports.{◌≡◌, ℕ, zero, suc, ◌+◌, ◌-◌, ◌%◌, ◌<◌, List, [], ◌∷◌, refl, sym, ap, ◌∙◌, subst, ⊎_elim, arith, cases_eq, length, map, slice_index_or, Targets, Field, ObjectType, StaticType, Mutex, FieldLock, Content, cells_of, field_at, field_in, field_of_cell, no_field, no_mutex, lock_number, mutex_of, field_mutex, type_in, type_at, type_of, is_mutex, is_pointer, OfType, OfGlobals, OfSameElement, Integer, MutexWord, Waiters, Pointer, Label, Recasts, IsSameContent, IsSameFieldLock, no_lock, FitsContent}, Frames.{same_lock, map_same}, Emptied.mod_low, Cells.field_row}
 use Rattle.sharc_invariant.specs.Types.{row_of}
 
 map_at : {A B : Type 0} (f : A → B) (xs : List A) (j : ℕ) (d : B) (e : A) → j < length xs → slice_index_or (map f xs) j d ≡ f (slice_index_or xs j e)
@@ -53,9 +53,6 @@ module _ (x : Targets) (l : Label) (refs : ℕ → ℕ) (same : (r : ℕ) → re
   alike Waiters b h = subst (IsAlike Waiters) h (record { pointer = refl; mutex = refl; fits = λ v h. h })
   alike (Pointer f) _ h = absurd (cc)
 
-  field_row : (ty : ObjectType) (i : ℕ) → ty.target < length x.rows → field_in x ty i ≡ field_of_cell x ty.target i
-  field_row ty i lt = let e : (ty.target == length x.rows) ≡ false = ne_eq ty.target (length x.rows) (λ q. omega arith) in rw (e, field_in) refl
-
   abbrev Same : Field → Field → Type 0
   Same a b = IsSameContent l r s t a.holds b.holds
 
@@ -71,7 +68,7 @@ module _ (x : Targets) (l : Label) (refs : ℕ → ℕ) (same : (r : ℕ) → re
       let lt : i % c < c = mod_low i c nz in
       subst (λ d. Same (field_at x s.target (i % c)) (field_at x t.target (i % d))) rc.cells (rc.same (i % c) lt))
       (cases_eq c 0) in
-      subst (λ f. Same f (field_in x T i)) (sym (field_row S i row)) (subst (Same (field_of_cell x s.target i)) (sym (field_row T i rc.is_row)) at)
+      subst (λ f. Same f (field_in x T i)) (sym (field_row x S i row)) (subst (Same (field_of_cell x s.target i)) (sym (field_row x T i rc.is_row)) at)
 
   pub recast_types : (o i : ℕ) → type_at x T o i ≡ type_at x S o i
   recast_types o i = same_type_in o i (field_in x S i).holds (field_in x T i).holds (same_field i)

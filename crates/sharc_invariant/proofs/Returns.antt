@@ -1,5 +1,5 @@
 -- A return keeps the invariant: what the callee gives back comes to stand in the caller's frame.
-use Rattle.sharc_invariant.proofs.{Imports.{◌≡◌, ℕ, ℤ, zero, suc, ◌+◌, ◌-◌, ◌<◌, ◌≤◌, ◌≢◌, true, false, cond, ◌&&◌, not, List, [], ◌∷◌, Some, None, refl, sym, ap, ◌∙◌, subst, ⊎_elim, arith, cases_eq, cases_order, nat_tests, length, nat_lt, slice_index_or, ◌==◌, FRAMES, Code, Instr, Shape, Frame, Trap, Fits, Machine, Local, instr_at, back_to, goes_to, holds_none, stopped, no_frame, turn, counted, Turn, Global, MayTurn, one_thread, bounds, Targets, ObjectType, type_of, Entry, Empty, Refers, Unknown, Named, Nth, HasName, HasBase, Number, Anything, Exactly, Within, Indexes, OfElement, OfGlobal, Closed, IsIn, Label, Labels, Leads, EntryMentions, IsWellTyped, Fine, IsPlain, called_label, below, below_copy, below_number, World, Shut, Silently, made_turn, State, View, view_of, frame_at, EntryStands, NumberStands, FrameStands, TopStands, BelowStands, FramesStand, GateStands, refs_at, types_at, Turned, ne_eq}, Frames.{type_kept, less_entry, less_number, number_kept, less_stands}, Quiet.heap_now, Turns.{local_turn, room_of}, Own.{runs, rests, top, fine, begun_before, closed_less, runs_at}, Plain.{is_shut, going, plain_state, stop_state}, Calls.number_below}
+use Rattle.sharc_invariant.proofs.{Imports.{◌≡◌, ℕ, ℤ, zero, suc, ◌+◌, ◌-◌, ◌<◌, ◌≤◌, ◌≢◌, true, false, cond, ◌&&◌, not, List, [], ◌∷◌, Some, None, refl, sym, ap, ◌∙◌, subst, ⊎_elim, arith, cases_eq, cases_order, nat_tests, length, nat_lt, slice_index_or, ◌==◌, FRAMES, Code, Instr, Shape, Frame, Trap, Fits, Machine, Local, instr_at, back_to, goes_to, holds_none, stopped, no_frame, turn, counted, Turn, Global, MayTurn, one_thread, bounds, Targets, ObjectType, type_of, Entry, Empty, Refers, Unknown, Named, HasName, HasBase, Number, Anything, Indexes, OfElement, OfGlobal, Closed, IsIn, Label, Labels, Leads, EntryMentions, IsWellTyped, Fine, IsPlain, called_label, below, below_copy, below_number, World, Shut, made_turn, State, View, view_of, frame_at, EntryStands, NumberStands, FrameStands, TopStands, BelowStands, FramesStand, GateStands, refs_at, types_at, Turned, ne_eq}, Frames.{type_kept, less_entry, less_number, number_kept, less_stands}, Quiet.heap_now, Turns.{local_turn, room_of, unseen}, Own.{runs, rests, top, fine, closed_less, runs_at}, Plain.{is_shut, plain_state, stop_state, keeps_own}, Calls.number_below}
 use Rattle.sharc_tree.specs.declared.trap.Trap.TheVariants as traps
 use Rattle.sharc_invariant.specs.Typed.{Returns}
 
@@ -111,7 +111,7 @@ module _ (x : Targets) (code : Code) (s : Shape) (ls : Labels) (wt : IsWellTyped
   tops = top x code s ls wt g world st t may.started may.next.runs i is refl
 
   settled : (n : Machine) → turn code s (g.threads tr.thread) ≡ Local n → State x code s ls (made_turn g tr.thread g.words n) world → Done
-  settled n e k = (world, subst (λ y. State x code s ls y world) (sym (local_turn code s g tr may n e)) k, Silently (record { obj = refl; mutex = refl; passed = λ o p u b q. q; sole = λ u r e. (e, refl) }))
+  settled n e k = unseen x code s ls g world tr _ (local_turn code s g tr may n e) k
 
   room_at : (n : Machine) → turn code s (g.threads tr.thread) ≡ Local n → g.made tr.thread + counted n.at.state ≤ 100000000
   room_at n e = room_of code s g tr may g.words n (local_turn code s g tr may n e)
@@ -126,22 +126,7 @@ module _ (x : Targets) (code : Code) (s : Shape) (ls : Labels) (wt : IsWellTyped
       let m' = back_to m d fr in
       let rest = rests x code s ls wt g world st t may.started may.next.runs i is refl in
       let gate' : (ls.at fr.pc).gate ≡ Closed = closed_less (ls.at fr.pc).gate (subst (λ y. Rattle.sharc_invariant.specs.Labels.LessGate y (ls.at fr.pc).gate) gt leads.gate) in
-      settled m' e (plain_state x code s ls wt g world st t may.started may.next.runs i is refl m' (record {
-        number = refl;
-        held = refl;
-        heads = refl;
-        notes = refl;
-        table = (st.threads t).has.table;
-        stage = rest;
-        rests = rest;
-        refs = refl;
-        ints = refl;
-        frames = refl;
-        begun_before = begun_before x code s ls wt g world st t may.started may.next.runs i is refl;
-        begun = ne_eq fr.pc 0 nz;
-        ended_before = going x code s ls wt g world st t may.started may.next.runs i is refl;
-        ended = refl;
-      }) refl refl
+      settled m' e (plain_state x code s ls wt g world st t may.started may.next.runs i is refl m' (keeps_own x code s ls wt g world st t may.started may.next.runs i is refl m' refl refl refl refl (ne_eq fr.pc 0 nz) refl) refl refl
       (λ _. runs_at x code s ls st.elements world (heap_now st.heap g.words) (made_turn g t g.words m') t m' names rest
       (less_stands x t view fr.refs fr.ints names l (ls.at fr.pc) leads tp)
       (subst (FramesStand x code ls t view m') (sym leads.function) below)

@@ -1,5 +1,5 @@
 -- A thread at a place may make the access that its label lets it make.
-use Rattle.sharc_invariant.proofs.{Imports.{◌≡◌, ℕ, ℤ, pos, zero, suc, ◌+◌, ◌-◌, ◌*◌, ◌/◌, ◌<◌, ◌≤◌, ◌⊎◌, ◌≢◌, Bool, true, false, List, [], ◌∷◌, Option, Some, None, refl, sym, ap, ◌∙◌, subst, inl, inr, ⊎_elim, arith, mod-eq_of_lt, mul-le-mul_right, suc-mul, length, slice_index_or, map, THREADS, Code, Cell, Shape, word_of, Fits, cell_word, cell_of, Machine, ref, int, word, is_held, Global as Place, GranuleState, Passed, Targets, ObjectType, StaticType, Mutex, Lock, FieldLock, FieldMode, CellMode, Field, mode_at, mode_in, lock_mode, lock_number, no_mutex, field_mutex, type_at, cells_of, field_at, field_of_cell, type_in, field_in, is_mutex, is_private, mutex_of, type_of, Through, Self, OfType, OfGlobals, OfSameElement as OfElement, Under, MutexWord, Refers, Element, Named, Nth, Number, OfElement as OfElementCell, OfGlobal as OfGlobalCells, HoldsLoaded, Label, Labels, SameReference, PointsTo, AreFieldLocks, IsGlobalLock, IsAnyGlobalLock, IsFieldLock, IsAnyLock, IsPlace, PointsToMutex, IsWellTyped, HasCell, MayAccess, IsChecked, Directly, Earlier, Covers, IsOwn, IsMutexOf, IsLockCell, IsSibling, no_lock, TypeRules, ObjectState, TypedReference, Holder, RegisterOf, In, Slot, World, Window, May, Based, base_of, CanBy, Can, Right, in_ref, Base, lang_of, IsThere, PassStands, NumberStands, ElementStands, State, View, view_of, TopStands, FramesStand, GateStands, EntryStands, refs_at, types_at, base_of_cell, object_of_cell, number_in}, Frames.{same_ref, same_lock, map_same, with_locks}, Cells.{cell_there, cell_word_is, field_row}}
+use Rattle.sharc_invariant.proofs.{Imports.{◌≡◌, ℕ, ℤ, pos, zero, suc, ◌+◌, ◌-◌, ◌*◌, ◌/◌, ◌<◌, ◌≤◌, ◌⊎◌, ◌≢◌, Bool, true, false, List, [], ◌∷◌, Option, Some, None, refl, sym, ap, ◌∙◌, subst, inl, inr, ⊎_elim, arith, mod-eq_of_lt, mul-le-mul_right, suc-mul, length, slice_index_or, map, THREADS, Code, Cell, Shape, word_of, Fits, cell_word, cell_of, Machine, ref, int, word, is_held, Global as Place, GranuleState, Passed, Targets, ObjectType, StaticType, Mutex, Lock, FieldLock, FieldMode, CellMode, Field, mode_at, mode_in, lock_mode, lock_number, no_mutex, field_mutex, type_at, cells_of, field_at, field_of_cell, type_in, field_in, is_mutex, is_private, mutex_of, type_of, Through, Self, OfType, OfGlobals, OfSameElement as OfElement, Under, MutexWord, Refers, Element, Named, Nth, Number, OfElement as OfElementCell, OfGlobal as OfGlobalCells, HoldsLoaded, Label, Labels, SameReference, PointsTo, AreFieldLocks, IsGlobalLock, IsAnyGlobalLock, IsFieldLock, IsAnyLock, IsPlace, PointsToMutex, IsWellTyped, HasCell, MayAccess, IsChecked, Directly, Earlier, Covers, IsOwn, IsMutexOf, IsLockCell, IsSibling, no_lock, ObjectState, RegisterOf, In, World, May, base_of, CanBy, Can, Right, in_ref, lang_of, IsThere, PassStands, NumberStands, ElementStands, State, View, view_of, TopStands, FramesStand, GateStands, EntryStands, refs_at, types_at, base_of_cell, object_of_cell, number_in}, Frames.{same_ref, same_lock, map_same, with_locks}, Cells.{cell_there, cell_word_is, field_row}}
 use Rattle.sharc_code.specs.Machine.{place}
 use Rattle.sharc_invariant.specs.{Types.Lock.Global, Types.FieldMode.{Private, Readonly, Racy, Dynamic, Behind}, World.Base.{By, Global as OfGlobal}}
 
@@ -122,22 +122,17 @@ module _ (x : Targets) (code : Code) (s : Shape) (ls : Labels) (wt : IsWellTyped
       subst P (sym q) (ap (λ o. world.mutex o (mutex_of refs (refs r) (slice_index_or k.0.locks n no_lock)).cell) e.0 ∙ ap (world.mutex (object_of_cell m d)) e.1 ∙ held)
   lock_held write _ d f h (OfType n) hc hd k held = absurd k
 
+  -- a private object that a register is known to hold is the thread's
+  owner_in : (r : ℕ) → l.known r ≡ true → is_private x (world.obj (ref (g.threads t) r)).ty ≡ true → (world.obj (ref (g.threads t) r)).owner ≡ t
+  owner_in r k priv =
+      let nz : in_ref world (RegisterOf t (m.at.refs + r)) ≢ 0 = (top (suc r) 0).known r (omega arith) k in
+      let fit = st.inv.words.fits (In (RegisterOf t (m.at.refs + r))) nz in
+      ap (λ o. (world.obj o).owner) (reads r) ∙ fit.own (sym (ap (is_private x) (ap (λ o. (world.obj o).ty) (reads r) ∙ fit.typed)) ∙ priv)
+
   -- a private cell's object is the thread's
   owner_is : (c : Cell) (f : Field) → HasCell x code l c f → IsOwn ls l c → is_private x (world.obj (object_of_cell (g.threads t) c)).ty ≡ true → (world.obj (object_of_cell (g.threads t) c)).owner ≡ t
   owner_is (Cell.Object r i) f hc own priv = owner_in r hc.base priv
-    where
-      owner_in : (r : ℕ) → l.known r ≡ true → is_private x (world.obj (ref m r)).ty ≡ true → (world.obj (ref m r)).owner ≡ t
-      owner_in r k priv =
-          let nz : in_ref world (RegisterOf t (m.at.refs + r)) ≢ 0 = (top (suc r) 0).known r (omega arith) k in
-          let fit = st.inv.words.fits (In (RegisterOf t (m.at.refs + r))) nz in
-          ap (λ o. (world.obj o).owner) (reads r) ∙ fit.own (sym (ap (is_private x) (ap (λ o. (world.obj o).ty) (reads r) ∙ fit.typed)) ∙ priv)
   owner_is (Cell.ObjectAt r i) f hc own priv = owner_in r hc.base priv
-    where
-      owner_in : (r : ℕ) → l.known r ≡ true → is_private x (world.obj (ref m r)).ty ≡ true → (world.obj (ref m r)).owner ≡ t
-      owner_in r k priv =
-          let nz : in_ref world (RegisterOf t (m.at.refs + r)) ≢ 0 = (top (suc r) 0).known r (omega arith) k in
-          let fit = st.inv.words.fits (In (RegisterOf t (m.at.refs + r))) nz in
-          ap (λ o. (world.obj o).owner) (reads r) ∙ fit.own (sym (ap (is_private x) (ap (λ o. (world.obj o).ty) (reads r) ∙ fit.typed)) ∙ priv)
   owner_is _ f hc own priv = ap (λ (y : ObjectState). y.owner) st.globals ∙ sym ((subst (FramesStand x code ls t view m) own.1.0 below).2 own.1.1)
 
   -- the cell of a check that is remembered
@@ -209,7 +204,7 @@ module _ (x : Targets) (code : Code) (s : Shape) (ls : Labels) (wt : IsWellTyped
       ∙ ap (λ (f : Field). (type_in (world.obj o).ty o j f.holds).target) field_d ∙ ap (λ h. (type_in (world.obj o).ty o j h).target) pm.holds in
       let rows = (st.rows pend gt.1 live).1 in
       let first : field_in x (world.obj pend).ty 0 ≡ field_at x pm.to.target 0 =
-      field_row x code s ls wt fits g world st t m names l top reads (world.obj pend).ty 0 rows ∙ ap (λ y. field_of_cell x y 0) typed ∙ ap (field_at x pm.to.target) (mod-eq_of_lt pm.some) in
+      field_row x (world.obj pend).ty 0 rows ∙ ap (λ y. field_of_cell x y 0) typed ∙ ap (field_at x pm.to.target) (mod-eq_of_lt pm.some) in
       let whole = st.whole pend gt.1 live in
       let cells_of_pend : st.cells pend ≡ st.elements pend * cells_of x pm.to.target = whole.1 ∙ ap (λ y. st.elements pend * cells_of x y) typed in
       let some : 1 * cells_of x pm.to.target ≤ st.elements pend * cells_of x pm.to.target = mul-le-mul_right (cells_of x pm.to.target) whole.0 in

@@ -1,5 +1,5 @@
 -- What the machine does to its words and registers is what the proof's world does.
-use Rattle.sharc_invariant.proofs.{Imports.{◌≡◌, ℕ, ◌+◌, ◌*◌, ◌<◌, ◌≢◌, true, false, refl, sym, ap, ◌∙◌, subst, ⊎_elim, arith, ◌≤◌, cases_eq, cases_order, Shape, put, granules, put_same, put_other, put_all, GranuleState, Targets, Content, field_in, is_mutex, is_pointer, Integer, MutexWord, Waiters, Pointer, TypedReference, Holder, RegisterOf, ArgumentOf, LogOf, Staged, In, CellOf as Cell, World, in_ref, place, put2, ObjectState, MachineView, Shows, Apart, FitsContent, Reads, shadow_at, count_at, length_at, cell_at, store, set_reg, AreStale, epoch_of}, Effects.{place_same, place_other, place_all, slot_cases}, Listed.{pair_cases, put2_other as put2_away}}
+use Rattle.sharc_invariant.proofs.{Imports.{◌≡◌, ℕ, ◌+◌, ◌*◌, ◌<◌, ◌≢◌, true, false, refl, sym, ap, ◌∙◌, subst, ⊎_elim, arith, ◌≤◌, cases_eq, cases_order, Shape, put, granules, put_same, put_other, put_all, GranuleState, Targets, Content, field_in, is_mutex, is_pointer, Integer, TypedReference, Holder, RegisterOf, ArgumentOf, LogOf, Staged, In, CellOf as Cell, World, in_ref, place, put2, ObjectState, MachineView, Shows, Apart, FitsContent, Reads, shadow_at, count_at, length_at, cell_at, store, set_reg, AreStale, epoch_of}, Effects.{place_same, place_other, place_all, slot_cases}, Listed.{pair_cases, put2_other as put2_away}}
 
 pub put2_at : {A : Type 0} (f : ℕ → ℕ → A) (t i : ℕ) (v : A) → put2 f t i v t i ≡ v
 put2_at {A} f t i v = ap (λ (k : ℕ → A). k i) (put_same f t (put (f t) i v)) ∙ put_same (f t) i v
@@ -23,6 +23,26 @@ pub stale_off : (s : Shape) (obj : ℕ → ObjectState) (cells words words' : �
 stale_off s obj cells words words' rn wn e h p lt none' t =
     let P : ℕ → Type 0 = λ v. (rn t p ≤ epoch_of v) × (wn t p ≤ epoch_of v) in
     subst P (e p lt) (h p lt none' t)
+
+-- a holder outside of objects holds something else, and what is seen of the holders is this
+pub holder_stored : (x : Targets) (s : Shape) (cells elements : ℕ → ℕ) (c : MachineView) (w : World) → Shows x s cells elements c w → (a : Holder) (y : TypedReference) (regs : ℕ → ℕ → ℕ) (args : ℕ → ℕ) (logs : ℕ → ℕ → ℕ) (staged : ℕ → ℕ)
+    → ((u i : ℕ) → (place w.slots (In a) y (In (RegisterOf u i))).reference ≡ regs u i) → ((u : ℕ) → (place w.slots (In a) y (In (ArgumentOf u))).reference ≡ args u)
+    → ((u word : ℕ) → (place w.slots (In a) y (In (LogOf u word))).reference ≡ logs u word) → ((u : ℕ) → (place w.slots (In a) y (In (Staged u))).reference ≡ staged u)
+    → Shows x s cells elements (record c { regs = regs; args = args; logs = logs; staged = staged }) (record w { slots = place w.slots (In a) y })
+holder_stored x s cells elements c w sim a y regs args logs staged er ea el es = record {
+  regs = er;
+  args = ea;
+  logs = el;
+  staged = es;
+  pointers = sim.pointers;
+  others = sim.others;
+  integers = sim.integers;
+  counts = sim.counts;
+  lengths = sim.lengths;
+  mutexes = sim.mutexes;
+  shadows = sim.shadows;
+  stale = sim.stale;
+}
 
 module _ (x : Targets) (s : Shape) (cells elements : ℕ → ℕ) (c : MachineView) (w : World) (sim : Shows x s cells elements c w) (lie : Apart s w.obj cells) where
   -- words of live objects are apart
@@ -183,37 +203,16 @@ module _ (x : Targets) (s : Shape) (cells elements : ℕ → ℕ) (c : MachineVi
   pub reg_stored : (t i : ℕ) (y : TypedReference) → Shows x s cells elements (set_reg c t i y.reference) (record w { slots = place w.slots (In (RegisterOf t i)) y })
   reg_stored t i y =
       let own : (a : Holder) → ((u j : ℕ) → a ≡ RegisterOf u j → ⊥) → (place w.slots (In (RegisterOf t i)) y (In a)).reference ≡ in_ref w a = λ a ne. ap (λ (h : TypedReference). h.reference) (place_other w.slots (In (RegisterOf t i)) (In a) y (λ e. ne t i (cc))) in
-      record {
-        regs = λ u j. place_all (λ s (h : TypedReference). (u j : ℕ) → s ≡ In (RegisterOf u j) → h.reference ≡ put2 c.regs t i y.reference u j) w.slots (In (RegisterOf t i)) y
-            (λ u j e. let eu : u ≡ t = sym (cc) in let ej : j ≡ i = sym (cc) in sym (put_same (c.regs t) i y.reference) ∙ ap (λ (f : ℕ → ℕ). f i) (sym (put_same c.regs t (put (c.regs t) i y.reference))) ∙ ap (λ u. put2 c.regs t i y.reference u i) (sym eu) ∙ ap (put2 c.regs t i y.reference u) (sym ej))
-            (λ s ne u j e. ap (λ s. (w.slots s).reference) e ∙ sim.regs u j ∙ put2_away c.regs t i y.reference u j (λ q k. ne (e ∙ ap In (ap (λ u. RegisterOf u j) q ∙ ap (λ j. RegisterOf t j) k)))) (In (RegisterOf u j)) u j refl;
-        args = λ u. own (ArgumentOf u) (λ u j e. cc) ∙ sim.args u;
-        logs = λ u word. own (LogOf u word) (λ u j e. cc) ∙ sim.logs u word;
-        staged = λ u. own (Staged u) (λ u j e. cc) ∙ sim.staged u;
-        pointers = sim.pointers;
-        others = sim.others;
-        integers = sim.integers;
-        counts = sim.counts;
-        lengths = sim.lengths;
-        mutexes = sim.mutexes;
-        shadows = sim.shadows;
-        stale = sim.stale;
-      }
+      holder_stored x s cells elements c w sim (RegisterOf t i) y (put2 c.regs t i y.reference) c.args c.logs c.staged
+      (λ u j. place_all (λ s (h : TypedReference). (u j : ℕ) → s ≡ In (RegisterOf u j) → h.reference ≡ put2 c.regs t i y.reference u j) w.slots (In (RegisterOf t i)) y
+      (λ u j e. let eu : u ≡ t = sym (cc) in let ej : j ≡ i = sym (cc) in sym (put_same (c.regs t) i y.reference) ∙ ap (λ (f : ℕ → ℕ). f i) (sym (put_same c.regs t (put (c.regs t) i y.reference))) ∙ ap (λ u. put2 c.regs t i y.reference u i) (sym eu) ∙ ap (put2 c.regs t i y.reference u) (sym ej))
+      (λ s ne u j e. ap (λ s. (w.slots s).reference) e ∙ sim.regs u j ∙ put2_away c.regs t i y.reference u j (λ q k. ne (e ∙ ap In (ap (λ u. RegisterOf u j) q ∙ ap (λ j. RegisterOf t j) k)))) (In (RegisterOf u j)) u j refl)
+      (λ u. own (ArgumentOf u) (λ u j e. cc) ∙ sim.args u)
+      (λ u word. own (LogOf u word) (λ u j e. cc) ∙ sim.logs u word)
+      (λ u. own (Staged u) (λ u j e. cc) ∙ sim.staged u)
 
   -- what a Free has found and not lowered
   pub staged_stored : (t : ℕ) (y : TypedReference) → Shows x s cells elements (record c { staged = put c.staged t y.reference }) (record w { slots = place w.slots (In (Staged t)) y })
-  staged_stored t y = record {
-    regs = sim.regs;
-    args = sim.args;
-    logs = sim.logs;
-    staged = λ u. put_all (λ u n. (place w.slots (In (Staged t)) y (In (Staged u))).reference ≡ n) c.staged t y.reference
-        (ap (λ (h : TypedReference). h.reference) (place_same w.slots (In (Staged t)) y)) (λ u ne. ap (λ (h : TypedReference). h.reference) (place_other w.slots (In (Staged t)) (In (Staged u)) y (λ e. ne (cc))) ∙ sim.staged u) u;
-    pointers = sim.pointers;
-    others = sim.others;
-    integers = sim.integers;
-    counts = sim.counts;
-    lengths = sim.lengths;
-    mutexes = sim.mutexes;
-    shadows = sim.shadows;
-    stale = sim.stale;
-  }
+  staged_stored t y = holder_stored x s cells elements c w sim (Staged t) y c.regs c.args c.logs (put c.staged t y.reference) sim.regs sim.args sim.logs
+      (λ u. put_all (λ u n. (place w.slots (In (Staged t)) y (In (Staged u))).reference ≡ n) c.staged t y.reference
+      (ap (λ (h : TypedReference). h.reference) (place_same w.slots (In (Staged t)) y)) (λ u ne. ap (λ (h : TypedReference). h.reference) (place_other w.slots (In (Staged t)) (In (Staged u)) y (λ e. ne (cc))) ∙ sim.staged u) u)

@@ -1,5 +1,5 @@
 -- A signal keeps the invariant: in one turn it reads who waits, in others it takes the lowest waiter away.
-use Rattle.sharc_invariant.proofs.{Imports.{◌≡◌, ℕ, ◌+◌, ◌-◌, ◌^◌, ◌<◌, ◌⊎◌, Bool, true, false, cond, List, Some, None, refl, sym, ap, ◌∙◌, subst, inl, inr, ⊎_elim, arith, eqb-true, and_le_l, fun_ext, length, slice_index, slice_set, ◌==◌, Load, Cas, Kind, Read, Write, Accesses, without_lowest, Code, Cell, Shape, RunsOn, Tries, Stopped, Ended, Stage, Rests, Looks, Clears, Makes, Empties, Lowers, FreeLooks, FreeClears, Uncounts, Links, Names, Hands, Begins, Enters, Withdraws, WithdrawsFrom, Leaves, Wakes, Fits, Machine, instr_at, word, wakes, rests, at_stage, step_of, turn, may_go, Turn, Global, put, MayTurn, after_turn, one_thread, bounds, Instr, Targets, Field, field_in, is_pointer, is_mutex, Waiters, Label, Labels, LessGate, Closed, Fine, IsWellTyped, World, RegisterOf, in_ref, Heap, conc_of, Shows, FitsContent, cell_at, is_ended, staged_of, logged, noted_by, register_of, making_of, Silently, made_turn, made_conc, State, View, view_of, FramesStand, GateStands, TopStands, Runs, StageStands, OnSignal, SpawnsNow, label_now, object_of_cell, number_in, Turned, ne_eq}, Frames.less_stands, Others.{OnHold, loses}, Quiet.{KeepsSelf, loud_state, heap_now, label_held, freed_held, noted_of, put_self, locks_kept}, Turns.{asks_turn, room_of}, Own.{closed_less, runs_at}, Stores.{index_put, cell_store, stored_words, stored_within}, Seen.integer_stored, Cells.cell_there}
+use Rattle.sharc_invariant.proofs.{Imports.{◌≡◌, ℕ, ◌+◌, ◌-◌, ◌^◌, ◌<◌, ◌⊎◌, Bool, true, false, cond, List, Some, None, refl, sym, ap, ◌∙◌, subst, inl, inr, ⊎_elim, arith, eqb-true, and_le_l, fun_ext, length, slice_index, slice_set, ◌==◌, Load, Cas, Kind, Read, Write, Accesses, without_lowest, Code, Cell, Shape, RunsOn, Tries, Stopped, Ended, Stage, Rests, Wakes, Fits, Machine, instr_at, word, wakes, rests, at_stage, step_of, turn, may_go, Turn, Global, put, MayTurn, after_turn, one_thread, bounds, Instr, Targets, Field, field_in, is_pointer, is_mutex, Waiters, Label, Labels, LessGate, Closed, Fine, IsWellTyped, World, RegisterOf, in_ref, Heap, conc_of, Shows, FitsContent, cell_at, is_ended, staged_of, logged, noted_by, register_of, making_of, made_turn, made_conc, State, View, view_of, FramesStand, GateStands, TopStands, Runs, StageStands, OnSignal, SpawnsNow, label_now, object_of_cell, number_in, Turned}, Frames.less_stands, Others.OnHold, Quiet.{KeepsSelf, loud_state, heap_now, label_held, freed_held, noted_of, put_self, locks_kept, sizes_kept}, Turns.{asks_turn, room_of, unseen}, Own.{closed_less, runs_at, begun_in}, Stores.{index_put, cell_store, stored_words, stored_within}, Seen.integer_stored, Cells.cell_there, Plain.others_stay}
 
 -- the stages of a signal
 abbrev IsWaking : Stage → Type 0
@@ -60,13 +60,7 @@ module _ (x : Targets) (code : Code) (s : Shape) (ls : Labels) (wt : IsWellTyped
   gates = subst (GateStands s world t m) fine.0 (subst (λ (l : Label). GateStands s world t m l.gate) now_here rn.gate)
 
   not_begun : (pc : ℕ) → (ls.at pc).function ≡ here.function → (pc == 0) ≡ false
-  not_begun pc e = ne_eq pc 0 (λ z. in_function (sym e ∙ ap (λ p. (ls.at p).function) z ∙ wt.first.0))
-    where
-      in_function : here.function ≡ None → ⊥
-      in_function e = ⊎_elim
-          (λ (z : m.at.pc ≡ 0). let q : Instr.CondSignal c site ≡ Instr.Start wt.begin.0 = sym is ∙ ap (instr_at code) z ∙ wt.begin.1 in cc)
-          (λ z. let q : Instr.CondSignal c site ≡ Instr.Exit = sym is ∙ z in cc)
-          (wt.placed m.at.pc e)
+  not_begun = begun_in x code ls wt m.at.pc (λ site' z. let q : Instr.CondSignal c site ≡ Instr.Start site' = sym is ∙ z in cc) (λ z. let q : Instr.CondSignal c site ≡ Instr.Exit = sym is ∙ z in cc)
 
   going : is_ended m.at.state ≡ false
   going = elim m.at.state as (λ y. may_go y ≡ true → is_ended y ≡ false) [ RunsOn ↦ λ e. refl | Tries ↦ λ e. refl | Stopped ↦ λ e. refl | Ended ↦ λ e. absurd (cc) ] may.next.runs
@@ -121,17 +115,12 @@ module _ (x : Targets) (code : Code) (s : Shape) (ls : Labels) (wt : IsWellTyped
       subst (λ h. Shows x s st.cells st.elements (record (conc_of code g) { words = h }) world) (sym (fun_ext (index_put g.words k v lt)))
       (integer_stored x s st.cells st.elements (conc_of code g) world st.sim st.apart o j v th.live th.number (ap is_pointer content) (ap is_mutex content) (subst (λ h. FitsContent h v) (sym content) tt)) in
       let own : KeepsSelf m m' = record {
-        number = refl;
+        sizes = sizes_kept m m' (st.threads t).has.table refl refl refl refl;
         log = (st.threads t).has.log;
         heads = refl;
         making = by_waking (λ z. making_of z ≡ making_of m.own.stage) (by_waking (λ z. None ≡ making_of z) refl (λ _. refl) m.own.stage stage) (λ _. by_waking (λ z. None ≡ making_of z) refl (λ _. refl) m.own.stage stage) y wk;
-        notes = refl;
-        table = (st.threads t).has.table;
         staged = by_waking (λ z. staged_of z ≡ staged_of m.own.stage) (by_waking (λ z. 0 ≡ staged_of z) refl (λ _. refl) m.own.stage stage) (λ _. by_waking (λ z. 0 ≡ staged_of z) refl (λ _. refl) m.own.stage stage) y wk;
         spawns = λ n h. absurd (by_waking (λ z. SpawnsNow z n → ⊥) (λ h. h) (λ _ h. h) y wk h);
-        refs = refl;
-        ints = refl;
-        frames = refl;
         begun_before = not_begun m.at.pc refl;
         begun = not_begun pc fnc;
       } in
@@ -144,23 +133,12 @@ module _ (x : Targets) (code : Code) (s : Shape) (ls : Labels) (wt : IsWellTyped
       let nr = nt Read in
       let nw = nt Write in
       let ce : record (made_conc code (conc_of code g) t words m') { logs = put (λ u. logged (g.threads u)) t (logged m') } ≡ record (conc_of code g) { words = λ n. slice_index words n } =
-      λ i. record (conc_of code g) { words = λ n. slice_index words n; regs = rs i; logs = lo i; read_notes = nr i; write_notes = nw i } in (
-        world,
-        subst (λ y. State x code s ls y world) (sym done) (loud_state x code s ls g world st t may.started words m' own
-            (stored_words x code s ls g world st k v ms lt small (λ n l e. absurd (let h = st.apart.headers o th.live in omega arith))) world (record { obj = refl; args = λ u. refl })
-            (record {
-              regs = λ u _ r. refl;
-              win = λ u _. refl;
-              passed = λ u _ o p b _ q. q;
-              sole = λ u _ r _ p. loses refl;
-              cells = λ u _ r _ n. refl;
-              built = λ u _ b e. (e, refl);
-              within = λ u _ b e j n. stored_within x code s ls g world st k v ms lt u b j e n;
-            })
-            wt st.inv (subst (λ c. Shows x s st.cells st.elements c world) (sym ce) sim) (locks_kept x code s ls g world st t words m' refl world (record { obj = refl; mutex = refl; args = λ u. refl }))
-            (λ _. runs' (heap_now st.heap words) (made_turn g t words m')) (λ q. absurd (cc)) (room_of code s g tr may words m' done)),
-        Silently (record { obj = refl; mutex = refl; passed = λ o p u b q. q; sole = λ u r e. (e, refl) }),
-      )
+      λ i. record (conc_of code g) { words = λ n. slice_index words n; regs = rs i; logs = lo i; read_notes = nr i; write_notes = nw i } in
+      unseen x code s ls g world tr _ done (loud_state x code s ls g world st t may.started words m' own
+      (stored_words x code s ls g world st k v ms lt small (λ n l e. absurd (let h = st.apart.headers o th.live in omega arith))) world (record { obj = refl; args = λ u. refl })
+      (others_stay s world st.heap g.words words t (λ u _ b e j n. stored_within x code s ls g world st k v ms lt u b j e n))
+      wt st.inv (subst (λ c. Shows x s st.cells st.elements c world) (sym ce) sim) (locks_kept x code s ls g world st t words m' refl world (record { obj = refl; mutex = refl; args = λ u. refl }))
+      (λ _. runs' (heap_now st.heap words) (made_turn g t words m')) (λ q. absurd (cc)) (room_of code s g tr may words m' done))
 
   -- what it has found it wakes, or goes on
   wakes_on : (found v : ℕ) → v < 2 ^ 64 → after ≡ made_turn g tr.thread (slice_set g.words (word s m c) v) (wakes m found) → word s m c < length g.words → Turned x code s ls g world tr

@@ -1,5 +1,5 @@
 -- A thread finds that it has the only reference to an object; and a register comes to hold NULL.
-use Rattle.sharc_invariant.proofs.{Imports.{◌≡◌, ℕ, suc, ◌+◌, ◌⊎◌, ◌≢◌, true, false, cond, Some, None, refl, sym, ap, ◌∙◌, subst, inl, inr, ⊎_elim, arith, eqb-true, fun_ext, slice_index, ◌==◌, test_of, Code, Shape, NotSole, Fits, count_word, Machine, Asks, Local, instr_at, goes, set_ref, stopped, tested, ref, Turn, Global, MayTurn, after_turn, one_thread, bounds, Instr, put_same, Targets, Gate, Closed, Checked, Holds, Loaded, HoldsLoaded, SoleGate, Label, Labels, LessGate, without_base, IsWellTyped, World, Window, Shut, Sole, WinOk, RegisterOf, In, in_ref, set_win, set_slot, null, lang_of, conc_of, Silently, made_turn, State, View, view_of, TopStands, EntryStands, FramesStand, GateStands, IsSmall, refs_at, types_at, size_of_run, Turned}, Effects.set_slot_ok, Frames.{filled, kept_pass}, Quiet.put_self, Turns.{asks_turn, local_turn, room_of}, Own.{runs, rests, top, fine}, Plain.{register_plain, is_shut, stop_state, same_words}, Seen.reg_stored, Filled.{filled_state, inside_world, free_shut}, Counts.{count_is, filled_silent}, Accesses.{windowed_state, loaded_words, silent_window}}
+use Rattle.sharc_invariant.proofs.{Imports.{◌≡◌, ℕ, suc, ◌+◌, ◌⊎◌, ◌≢◌, true, false, cond, refl, sym, ap, ◌∙◌, subst, inl, inr, ⊎_elim, arith, eqb-true, fun_ext, slice_index, ◌==◌, test_of, Code, Shape, NotSole, Fits, count_word, Machine, instr_at, goes, set_ref, stopped, tested, ref, Turn, Global, MayTurn, after_turn, one_thread, bounds, Instr, put_same, Targets, Gate, Closed, SoleGate, Label, Labels, LessGate, without_base, IsWellTyped, World, Window, Shut, Sole, WinOk, RegisterOf, In, in_ref, set_win, set_slot, null, lang_of, conc_of, Silently, made_turn, State, View, view_of, TopStands, EntryStands, GateStands, IsSmall, refs_at, types_at, size_of_run, Turned}, Effects.set_slot_ok, Frames.{filled, kept_pass, frames_same}, Quiet.put_self, Turns.{asks_turn, local_turn, room_of, unseen}, Own.{runs, rests, top, fine}, Plain.{register_plain, is_shut, stop_state, same_words}, Seen.reg_stored, Filled.{filled_state, inside_world, free_shut}, Counts.{count_is, filled_silent}, Accesses.{windowed_state, loaded_words, silent_window}}
 
 sole_gate : (r : ℕ) (y : Gate) → LessGate (SoleGate r false) y → (y ≡ Closed) ⊎ (y ≡ SoleGate r false)
 sole_gate r Closed h = inl refl
@@ -54,7 +54,7 @@ module _ (x : Targets) (code : Code) (s : Shape) (ls : Labels) (wt : IsWellTyped
             let with_win : (win : Window) → WinOk (lang_of x) world t win → GateStands s (set_win world t win) t (goes m) new → Turned x code s ls g world tr = λ win ok gt. (
               set_win world t win,
               windowed_state x code s ls wt fits g world st tr may i is refl (goes m) win g.words k' (record { at = refl; refs = refl; ints = refl; frames = refl; own = refl }) e
-                  (same_words x code s ls g world st) (λ u b j _ _. refl) ok st.sim tp' (below_goes rn.below) f.3 refl gt refl,
+                  (same_words x code s ls g world st) (λ u b j _ _. refl) ok st.sim tp' (frames_same x code ls t view m (goes m) refl refl refl refl here.function rn.below) f.3 refl gt refl,
               Silently (silent_window x code s ls wt fits g world st tr may i is refl win never),
             ) in
             ⊎_elim
@@ -62,15 +62,9 @@ module _ (x : Targets) (code : Code) (s : Shape) (ls : Labels) (wt : IsWellTyped
             (λ (q : new ≡ SoleGate r false). with_win (Sole (base + r)) sole_ok (subst (GateStands s (set_win world t (Sole (base + r))) t (goes m)) (sym q) (put_same world.win t (Sole (base + r)))))
             (sole_gate r new f.3.gate)
         | false ↦ λ b e.
-            let why = NotSole site found in (
-              world,
-              subst (λ y. State x code s ls y world) (sym e) (stop_state x code s ls wt g world st t on go i is refl why shut (room_of code s g tr may g.words (stopped m why) e)),
-              Silently (record { obj = refl; mutex = refl; passed = λ o p u b q. q; sole = λ u r e. (e, refl) }),
-            )
+            let why = NotSole site found in
+            unseen x code s ls g world tr _ e (stop_state x code s ls wt g world st t on go i is refl why shut (room_of code s g tr may g.words (stopped m why) e))
       ] refl (loaded_words x code s ls wt fits g world st tr may i is refl k (tested m site found) done0.0)
-    where
-      below_goes : FramesStand x code ls tr.thread view (g.threads tr.thread) here.function → FramesStand x code ls tr.thread view (goes (g.threads tr.thread)) here.function
-      below_goes = elim here.function as (λ f. FramesStand x code ls tr.thread view (g.threads tr.thread) f → FramesStand x code ls tr.thread view (goes (g.threads tr.thread)) f) [ None ↦ λ h. h | Some f ↦ λ h. h ]
 
   -- a register that held NULL holds it on
   pub Null_keeps : (r : ℕ) → instr_at code (g.threads tr.thread).at.pc ≡ Instr.Null r → Turned x code s ls g world tr

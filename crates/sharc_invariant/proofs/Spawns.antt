@@ -1,42 +1,6 @@
 -- Spawn's first three turns keep the invariant: a number is given out, and the function and the argument are written.
-use Rattle.sharc_invariant.proofs.{Imports.{◌≡◌, ℕ, ℤ, pos, zero, suc, ◌+◌, ◌*◌, ◌^◌, ◌<◌, ◌≤◌, ◌≢◌, ◌&&◌, Bool, true, false, cond, List, Option, Some, None, refl, sym, ap, ◌∙◌, subst, inl, inr, ⊎_elim, arith, ltb-true, cases_eq, nat_tests, length-set, get_or-set_same, get_or-set_other, fun_ext, ◌%◌, length, slice_index, slice_set, nat_lt, nat_eq, ◌||◌, ◌==◌, THREADS, Swap, Add, HeldMutex, object_of, Kind, Read, Write, Accesses, note_of, epoch_of, FRAMES, Code, Shape, Frame, RunsOn, Stage, Rests, Looks, Clears, Makes, Empties, Lowers, FreeLooks, FreeClears, Uncounts, Links, Names, Hands, Begins, Enters, Withdraws, WithdrawsFrom, Leaves, Wakes, holds, int_of, Char, Fits, next_thread_word, state_word, function_word, argument_word, first_cell, top_word, Machine, int, ref, set_int, handed, reference_of, function_of, instr_at, step_of, at_stage, stopped, numbered, argument, spawn, start, begun, turn, may_go, counted, Turn, Global, put, is_started, MayTurn, after_turn, one_thread, bounds, Register, Trap, Parameter, Instr, put_same, put_other, put_all, Targets, ObjectType, nothing, is_private, field_in, LessGate, Entry, Empty, Refers, Unknown, Number, Anything, Exactly, Within, Indexes, OfElement, OfGlobal, Named, Nth, HasName, empty, set_number, Closed, Label, Labels, Leads, HasBase, IsShared, Passes, IsWellTyped, Fine, Window, TypedReference, Holder, RegisterOf, ArgumentOf, LogOf, Staged, In, Slot, CellOf, World, Shut, Sole, WorldInvariant, in_ref, none, place, shift, MachineView, conc_of, lang_of, Shows, is_first, is_unread, if_reference, note_number, register_of, argument_of, staged_of, noted_by, logged, is_ended, has_withdrawn, set_reg, making_of, FitsContent, Reads, store, cell_at, count_at, length_at, shadow_at, Silently, made_turn, KeepsOthers, StopStands, State, IsSmall, View, view_of, vals_of, Runs, ThreadStands, Threads, Firsts, Reserves, SpawnsNow, EntryStands, NumberStands, TopStands, BelowStands, FramesStand, GateStands, StageStands, label_now, refs_at, types_at, size_of_run, Turned, Kept, sum_to, ne_eq}, Effects.{place_same, place_other, shift_ok}, Frames.{empty_stands, Agrees, Low, callers_agree, less_number, filled, less_stands, entry_kept}, Quiet.{KeepsThread, KeepsMost, heap_now, most_state, sum_up, label_held}, Others.{OnHold, loses}, Turns.{asks_turn, room_of}, Own.{ref_inside, int_inside, closed_less, runs_at}, Filled.{view_filled, below_filled, free_shut}, Calls.passed_entry, Listed.store_ok, Accesses.back_again, Begun.{begun_stands, begun_regs}, Stores.index_put, Seen.{reg_stored, stale_off}, Sums.sum_one, Starts.register_held, BitTurns.going_on}
+use Rattle.sharc_invariant.proofs.{Imports.{◌≡◌, ℕ, ℤ, pos, zero, suc, ◌+◌, ◌*◌, ◌^◌, ◌<◌, ◌≤◌, ◌≢◌, ◌&&◌, Bool, true, false, cond, List, Option, Some, None, refl, sym, ap, ◌∙◌, subst, inl, inr, ⊎_elim, arith, ltb-true, cases_eq, nat_tests, length-set, get_or-set_same, get_or-set_other, fun_ext, ◌%◌, length, slice_index, slice_set, nat_lt, nat_eq, ◌||◌, ◌==◌, THREADS, Swap, Add, HeldMutex, object_of, Kind, Read, Write, Accesses, note_of, epoch_of, Code, Shape, RunsOn, Stage, Rests, Makes, Lowers, Names, Hands, Begins, Withdraws, WithdrawsFrom, Leaves, holds, int_of, Char, Fits, next_thread_word, state_word, function_word, argument_word, first_cell, top_word, Machine, int, ref, set_int, handed, reference_of, function_of, instr_at, step_of, at_stage, stopped, numbered, argument, spawn, start, begun, turn, may_go, counted, Turn, Global, put, MayTurn, after_turn, one_thread, bounds, Register, Trap, Parameter, Instr, put_same, put_other, put_all, Targets, ObjectType, nothing, is_private, LessGate, Entry, Empty, Refers, Unknown, Number, Anything, Within, Indexes, OfElement, OfGlobal, Named, HasName, empty, set_number, Closed, Label, Labels, Leads, HasBase, IsShared, Passes, IsWellTyped, Fine, Window, TypedReference, RegisterOf, ArgumentOf, In, Slot, CellOf, World, Shut, Sole, WorldInvariant, in_ref, none, place, shift, conc_of, lang_of, Shows, is_first, is_unread, if_reference, note_number, register_of, argument_of, staged_of, noted_by, logged, is_ended, has_withdrawn, set_reg, making_of, store, Silently, made_turn, KeepsOthers, StopStands, State, IsSmall, View, view_of, vals_of, Runs, ThreadStands, Threads, Firsts, Reserves, SpawnsNow, EntryStands, NumberStands, TopStands, FramesStand, GateStands, StageStands, label_now, refs_at, types_at, size_of_run, Turned, Kept, sum_to, ne_eq}, Effects.{place_same, place_other, shift_ok}, Frames.{empty_stands, less_number, filled, less_stands, entry_kept, frames_agree}, Quiet.{KeepsThread, KeepsMost, heap_now, most_state, sum_up, label_held, started_still, args_still, no_argument, sizes_kept, part_put, part_same}, Others.{OnHold, loses}, Turns.{asks_turn, room_of, unseen}, Own.{ref_inside, int_inside, closed_less, runs_at}, Filled.{view_filled, below_filled, free_shut}, Calls.passed_entry, Listed.store_ok, Accesses.back_again, Begun.{begun_stands, begun_regs}, Stores.index_put, Seen.reg_stored, Sums.sum_one, Starts.{register_held, arg_stored}, BitTurns.going_on, Plain.{sim_same, others_stay}, Heaps.low_stored}
 use Rattle.sharc_tree.specs.declared.trap.Trap.TheVariants as traps
-
--- a word below the shadow words shows nothing of the world
-low_stored : (x : Targets) (s : Shape) (cells elements : ℕ → ℕ) (c : MachineView) (w : World) (k v : ℕ) → k < 97 → Shows x s cells elements c w → Shows x s cells elements (store c k v) w
-low_stored x s cells elements c w k v low sim =
-    let off : (j : ℕ) → (j ≡ k → ⊥) → c.words j ≡ put c.words k v j = λ j ne. sym (put_other c.words k j v ne) in
-    record {
-      regs = sim.regs;
-      args = sim.args;
-      logs = sim.logs;
-      staged = sim.staged;
-      others = sim.others;
-      pointers = λ o i lo lt p. sim.pointers o i lo lt p ∙ off (cell_at s o i) (λ e. absurd (omega arith));
-      integers = λ o i lo lt. subst (FitsContent (field_in x (w.obj o).ty i).holds) (off (cell_at s o i) (λ e. absurd (omega arith))) (sim.integers o i lo lt);
-      counts = λ o nz lo. sim.counts o nz lo ∙ off (count_at s o) (λ e. absurd (omega arith));
-      lengths = λ o nz lo. sim.lengths o nz lo ∙ off (length_at s o) (λ e. absurd (omega arith));
-      mutexes = λ o j lo lt m. sim.mutexes o j lo lt m ∙ off (cell_at s o j) (λ e. absurd (omega arith));
-      shadows = λ o p lo lt. subst (λ n. Reads n c.read_notes c.write_notes (o + 1 + p) (w.gran o p)) (off (shadow_at s (o + 1 + p)) (λ e. absurd (omega arith))) (sim.shadows o p lo lt);
-      stale = stale_off s w.obj cells c.words (put c.words k v) c.read_notes c.write_notes (λ p lt. off (shadow_at s p) (λ e. absurd (omega arith))) sim.stale;
-    }
-
-sim_same : (x : Targets) (s : Shape) (cells elements : ℕ → ℕ) (c : MachineView) (w : World) (regs : ℕ → ℕ → ℕ) (args : ℕ → ℕ) → ((u i : ℕ) → c.regs u i ≡ regs u i) → ((u : ℕ) → c.args u ≡ args u)
-    → Shows x s cells elements c w → Shows x s cells elements (record c { regs = regs; args = args }) w
-sim_same x s cells elements c w regs args e a h = record {
-  regs = λ u i. h.regs u i ∙ e u i;
-  args = λ u. h.args u ∙ a u;
-  logs = h.logs;
-  staged = h.staged;
-  pointers = h.pointers;
-  others = h.others;
-  integers = h.integers;
-  counts = h.counts;
-  lengths = h.lengths;
-  mutexes = h.mutexes;
-  shadows = h.shadows;
-  stale = h.stale;
-}
 
 abbrev pub is_spawning : Stage → Bool
 is_spawning Rests = true
@@ -72,10 +36,6 @@ spawning_notes m m' et es er eb ee kind p =
     let b = spawning_withdrawn m'.own.stage m'.own.table.order (is_ended m'.at.state) p er ∙ ee in
     ap (λ b. cond b 0 (note_number (note_of m'.own.table p kind))) b ∙ ap (λ (tb : Accesses). note_number (note_of tb p kind)) et ∙ ap (λ b. cond b 0 (note_number (note_of m.own.table p kind))) (sym a)
 
-pub no_argument : (b c : Bool) (v : ℕ) → c ≡ false → cond (b && c) v 0 ≡ 0
-no_argument true c v e = ap (λ c. cond c v 0) e
-no_argument false c v e = refl
-
 module _ (x : Targets) (code : Code) (s : Shape) (ls : Labels) (wt : IsWellTyped x code ls) (fits : Fits code s) (g : Global Machine) (world : World) (st : State x code s ls g world) (tr : Turn)
     (may : MayTurn bounds (one_thread code s) g tr) (r f : ℕ) (from : Register) (site : ℕ) (is : instr_at code (g.threads tr.thread).at.pc ≡ Instr.Spawn r f from site) (spawning : is_spawning (g.threads tr.thread).own.stage ≡ true) where
   abbrev t : ℕ
@@ -87,14 +47,8 @@ module _ (x : Targets) (code : Code) (s : Shape) (ls : Labels) (wt : IsWellTyped
   abbrev here : Label
   here = ls.at (g.threads tr.thread).at.pc
 
-  abbrev after : Global Machine
-  after = after_turn bounds (one_thread code s) g tr
-
   abbrev view : View
   view = view_of st.elements world tr.thread (g.threads tr.thread)
-
-  low_t : tr.thread < THREADS
-  low_t = st.begins.few tr.thread may.started
 
   rn : Runs x code s ls st.elements world st.heap g tr.thread (g.threads tr.thread)
   rn = (st.threads tr.thread).runs may.started may.next.runs
@@ -155,46 +109,14 @@ module _ (x : Targets) (code : Code) (s : Shape) (ls : Labels) (wt : IsWellTyped
     state_same u lt = off (state_word u) (states u lt)
 
     started_now : (u : ℕ) → now.started u ≡ g.started u
-    started_now u = elim (g.started u) as (λ y. g.started u ≡ y → (is_started bounds words u || y) ≡ y) [
-      | true ↦ λ _. elim (is_started bounds words u) as (λ b. (b || true) ≡ true) [ true ↦ refl | false ↦ refl ]
-      | false ↦ λ e.
-          let q : is_started bounds words u ≡ false = elim (nat_lt u THREADS) as (λ b. nat_lt u THREADS ≡ b → (b && nat_eq (slice_index words (state_word u)) 1) ≡ false) [
-            | true ↦ λ lt. let l : u < THREADS = ltb-true u THREADS lt in ap (λ n. nat_eq n 1) (state_same u l ∙ (st.begins.started u l).1 e)
-            | false ↦ λ _. refl
-          ] refl in
-          ap (λ b. b || false) q
-    ] refl
+    started_now u = started_still x code s ls g world st tr.thread words m' u (λ _ lt. state_same u lt)
 
     unread_own : is_unread m' ≡ false
     unread_own = ap (λ n. (n == 0) && is_first m'.own.stage) pc ∙ ap (λ b. b && is_first m'.own.stage) not_zero
 
     args_same : (u : ℕ) → argument_of code g u ≡ argument_of code now u
-    args_same u = ⊎_elim
-        (λ (e : u ≡ t).
-        let a : is_unread (now.threads u) ≡ false = ap (λ u. is_unread (now.threads u)) e ∙ ap is_unread (put_same g.threads t m') ∙ unread_own in
-        let b : is_unread (g.threads u) ≡ false = ap (λ u. is_unread (g.threads u)) e ∙ ap (λ b. b && is_first m.own.stage) not_zero in
-        no_argument (nat_lt u THREADS && (slice_index g.words (state_word u) == 1)) (is_unread (g.threads u)) _ b ∙ sym (no_argument (nat_lt u THREADS && (slice_index words (state_word u) == 1)) (is_unread (now.threads u)) _ a))
-        (λ (ne : u ≡ t → ⊥).
-        let a : is_unread (now.threads u) ≡ is_unread (g.threads u) = ap is_unread (put_other g.threads t u m' ne) in
-        let A : List ℕ → ℕ = λ ws. if_reference (function_of code (slice_index ws (function_word u))).parameter (slice_index ws (argument_word u)) in
-        sym (elim (nat_lt u THREADS) as (λ b. nat_lt u THREADS ≡ b → cond ((b && (slice_index words (state_word u) == 1)) && is_unread (now.threads u)) (A words) 0 ≡ cond ((b && (slice_index g.words (state_word u) == 1)) && is_unread (g.threads u)) (A g.words) 0) [
-          | true ↦ λ e.
-              let lt : u < THREADS = ltb-true u THREADS e in
-              ap (λ d. cond ((slice_index words (state_word u) == 1) && d) (A words) 0) a
-              ∙ ap (λ n. cond ((n == 1) && is_unread (g.threads u)) (A words) 0) (state_same u lt)
-              ∙ ⊎_elim
-              (λ (z : slice_index g.words (state_word u) ≡ 0). ap (λ n. cond ((n == 1) && is_unread (g.threads u)) (A words) 0) z ∙ sym (ap (λ n. cond ((n == 1) && is_unread (g.threads u)) (A g.words) 0) z))
-              (λ (nz : slice_index g.words (state_word u) ≡ 0 → ⊥).
-              let l = lasts u lt nz in
-              ap (λ v. cond ((slice_index g.words (state_word u) == 1) && is_unread (g.threads u)) v 0)
-              (ap (λ n. if_reference (function_of code n).parameter (slice_index words (argument_word u))) (off (function_word u) l.0) ∙ ap (if_reference (function_of code (slice_index g.words (function_word u))).parameter) (off (argument_word u) l.1)))
-              (cases_eq (slice_index g.words (state_word u)) 0)
-          | false ↦ λ e. refl
-        ] refl))
-        (cases_eq u t)
-
-    part : {A : Type 0} (f : Machine → A) → f m' ≡ f (g.threads tr.thread) → (u : ℕ) → f (now.threads u) ≡ f (g.threads u)
-    part f e = put_all (λ u y. f y ≡ f (g.threads u)) g.threads t m' e (λ u _. refl)
+    args_same u = sym (args_still x code s ls g world st tr.thread words m' not_zero (ap (λ n. n == 0) pc ∙ not_zero)
+        (λ u _ lt. (state_same u lt, λ nz. let l = lasts u lt nz in (off (function_word u) l.0, off (argument_word u) l.1))) u)
 
     abbrev regs_now : ℕ → ℕ → ℕ
     regs_now = put (λ u. register_of code (g.threads u)) tr.thread (register_of code m')
@@ -202,12 +124,11 @@ module _ (x : Targets) (code : Code) (s : Shape) (ls : Labels) (wt : IsWellTyped
     conc_now : conc_of code now ≡ record (store (conc_of code g) k v) { regs = regs_now; args = argument_of code now }
     conc_now =
         let wd : (λ j. slice_index words j) ≡ put (λ i. slice_index g.words i) k v = fun_ext at in
-        let rs : (λ u. register_of code (now.threads u)) ≡ regs_now =
-        fun_ext (λ u. put_all (λ u y. register_of code (put g.threads t m' u) ≡ y) (λ u. register_of code (g.threads u)) t (register_of code m') (ap (register_of code) (put_same g.threads t m')) (λ u ne. ap (register_of code) (put_other g.threads t u m' ne)) u) in
-        let lo : (λ u. logged (now.threads u)) ≡ (λ u. logged (g.threads u)) = fun_ext (part logged (fun_ext (λ w. ap (λ (h : List HeldMutex). reference_of (object_of h w)) held))) in
-        let sg : (λ u. staged_of (now.threads u).own.stage) ≡ (λ u. staged_of (g.threads u).own.stage) = fun_ext (part (λ m. staged_of m.own.stage) (spawning_staged m'.own.stage spawning' ∙ sym (spawning_staged m.own.stage spawning))) in
+        let rs : (λ u. register_of code (now.threads u)) ≡ regs_now = part_put (register_of code) g.threads t m' in
+        let lo : (λ u. logged (now.threads u)) ≡ (λ u. logged (g.threads u)) = fun_ext (part_same logged g.threads t m' (fun_ext (λ w. ap (λ (h : List HeldMutex). reference_of (object_of h w)) held))) in
+        let sg : (λ u. staged_of (now.threads u).own.stage) ≡ (λ u. staged_of (g.threads u).own.stage) = fun_ext (part_same (λ m. staged_of m.own.stage) g.threads t m' (spawning_staged m'.own.stage spawning' ∙ sym (spawning_staged m.own.stage spawning))) in
         let nt : (kind : Kind) → (λ u. noted_by (now.threads u) kind) ≡ (λ u. noted_by (g.threads u) kind) = λ kind.
-        fun_ext (part (λ m. noted_by m kind) (fun_ext (spawning_notes m m' table spawning spawning' ended_before goes_on kind))) in
+        fun_ext (part_same (λ m. noted_by m kind) g.threads t m' (fun_ext (spawning_notes m m' table spawning spawning' ended_before goes_on kind))) in
         let rd = nt Read in
         let wr = nt Write in
         λ i. record { words = wd i; regs = rs i; args = argument_of code now; logs = lo i; staged = sg i; read_notes = rd i; write_notes = wr i }
@@ -219,7 +140,7 @@ module _ (x : Targets) (code : Code) (s : Shape) (ls : Labels) (wt : IsWellTyped
         put_all (λ u (f : ℕ → ℕ). register_of code (g.threads u) i ≡ f i) (λ u. register_of code (g.threads u)) t (register_of code m')
         (register_held code m (spawning_hold m.own.stage spawning) i ∙ ap (λ (l : List ℕ). slice_index l i) (sym same_own) ∙ sym (register_held code m' (spawning_hold m'.own.stage spawning') i)) (λ u _. refl) u in
         subst (λ c. Shows x s st.cells st.elements c world) (sym conc_now)
-        (sim_same x s st.cells st.elements (store c k v) world regs_now (argument_of code now) regs args_same (low_stored x s st.cells st.elements c world k v low st.sim))
+        (sim_same x s st.cells st.elements (store c k v) world regs_now (argument_of code now) regs args_same (low_stored x s st.cells st.elements c world k v low st.apart st.sim))
 
     -- what is no argument yet fits each type
     unset : (u : ℕ) → slice_index g.words (state_word u) ≡ 0 → in_ref world (ArgumentOf u) ≡ 0
@@ -288,15 +209,7 @@ module _ (x : Targets) (code : Code) (s : Shape) (ls : Labels) (wt : IsWellTyped
     low_state : g.made tr.thread + counted m'.at.state ≤ 100000000 → (may_go m'.at.state ≡ true → Runs x code s ls st.elements world (heap_now st.heap words) now tr.thread m') → State x code s ls now world
     low_state room runs =
         most_state x code s ls g world st t may.started words m' own most world refl refl
-        (record {
-          regs = λ u _ r. refl;
-          win = λ u _. refl;
-          passed = λ u _ o p b _ q. q;
-          sole = λ u _ r _ p. loses refl;
-          cells = λ u _ r _ n. refl;
-          built = λ u _ b e. (e, refl);
-          within = λ u _ b e j n. off j (λ q. let lo = n.0 in absurd (omega arith));
-        })
+        (others_stay s world st.heap g.words words t (λ u _ b e j n. off j (λ q. let lo = n.0 in absurd (omega arith))))
         wt st.inv sim_now threads_now firsts_now (λ u _. inl (started_now u)) runs (λ _. subst (λ p. StopStands world t m' (ls.at p).gate) (sym pc) (subst (StopStands world t m') (sym fine.0) shut)) room
 
     -- at a stage of its own
@@ -340,7 +253,7 @@ module _ (x : Targets) (code : Code) (s : Shape) (ls : Labels) (wt : IsWellTyped
   on_t = st.begins.few tr.thread may.started
 
   settled : (w' : Global Machine) → done_at ≡ w' → State x code s ls w' world → Turned x code s ls g world tr
-  settled w' e k = (world, subst (λ y. State x code s ls y world) (sym e) k, Silently (record { obj = refl; mutex = refl; passed = λ o p u b q. q; sole = λ u r e. (e, refl) }))
+  settled w' e k = unseen x code s ls g world tr _ e k
 
   made_up : (c : ℕ) → sum_to THREADS (put g.made tr.thread (g.made tr.thread + c)) ≡ sum_to THREADS g.made + c
   made_up c =
@@ -349,7 +262,7 @@ module _ (x : Targets) (code : Code) (s : Shape) (ls : Labels) (wt : IsWellTyped
       omega arith
 
   own_at : (y : Stage) → is_spawning (g.threads tr.thread).own.stage ≡ true → is_spawning y ≡ true → KeepsThread (g.threads tr.thread) (at_stage (g.threads tr.thread) y)
-  own_at y sp sp' = record { number = refl; held = refl; heads = refl; making = spawning_making y sp' ∙ sym (spawning_making mm.own.stage sp); notes = refl; table = (st.threads tr.thread).has.table; refs = refl; ints = refl; frames = refl }
+  own_at y sp sp' = record { sizes = sizes_kept mm (at_stage mm y) (st.threads tr.thread).has.table refl refl refl refl; held = refl; heads = refl; making = spawning_making y sp' ∙ sym (spawning_making mm.own.stage sp) }
 
   -- a number is given out
   numbers : (rest : (g.threads tr.thread).own.stage ≡ Rests) → done_at ≡ made_turn g tr.thread (slice_set g.words next_thread_word ((next_number + 1) % 2 ^ 64)) (numbered (g.threads tr.thread) site next_number) → next_thread_word < length g.words → Turned x code s ls g world tr
@@ -384,7 +297,7 @@ module _ (x : Targets) (code : Code) (s : Shape) (ls : Labels) (wt : IsWellTyped
         | false ↦ λ b e.
             let m' = stopped mm (Trap traps.ThreadLimit site) in
             let L = low_state x code s ls wt fits g world st tr may r f from site is spawning next_thread_word v (omega arith) (omega arith) (omega arith) long states (λ u lt nz. (λ e. omega arith, λ e. omega arith)) (λ u k ne sp. (λ e. omega arith, λ e. omega arith)) more
-            m' refl refl refl refl refl spawning (record { number = refl; held = refl; heads = refl; making = refl; notes = refl; table = (st.threads t).has.table; refs = refl; ints = refl; frames = refl })
+            m' refl refl refl refl refl spawning (record { sizes = sizes_kept mm m' (st.threads t).has.table refl refl refl refl; held = refl; heads = refl; making = refl })
             (λ u k ne h sp. absurd (subst (λ y. SpawnsNow y k) rest h)) (λ k h. absurd (subst (λ y. SpawnsNow y k) rest h)) (omega arith) in
             settled (made_turn g t words m') e (L (room_of code s g tr may words m' e) (λ q. absurd (cc)))
       ] refl done
@@ -576,15 +489,7 @@ module _ (x : Targets) (code : Code) (s : Shape) (ls : Labels) (wt : IsWellTyped
       ap (λ b. (b && nat_eq (slice_index begun_words (state_word n)) 1) || g.started n) a ∙ ap (λ v. nat_eq v 1 || g.started n) is_one
 
   started_other : (u : ℕ) → u ≢ n → then_.started u ≡ g.started u
-  started_other u ne = elim (g.started u) as (λ y. g.started u ≡ y → (is_started bounds begun_words u || y) ≡ y) [
-    | true ↦ λ _. elim (is_started bounds begun_words u) as (λ b. (b || true) ≡ true) [ true ↦ refl | false ↦ refl ]
-    | false ↦ λ e.
-        let q : is_started bounds begun_words u ≡ false = elim (nat_lt u THREADS) as (λ b. nat_lt u THREADS ≡ b → (b && nat_eq (slice_index begun_words (state_word u)) 1) ≡ false) [
-          | true ↦ λ lt. let l : u < THREADS = ltb-true u THREADS lt in ap (λ n. nat_eq n 1) (state_of u ne ∙ (st.begins.started u l).1 e)
-          | false ↦ λ _. refl
-        ] refl in
-        ap (λ b. b || false) q
-  ] refl
+  started_other u ne = started_still x code s ls g world st tr.thread begun_words last u (λ _ _. state_of u ne)
 
   threads_last : (w' : World) → ((u : ℕ) → u ≢ n → w'.slots (In (ArgumentOf u)) ≡ world.slots (In (ArgumentOf u))) → EntryStands (λ r. in_ref w' (ArgumentOf n)) (λ r. (w'.slots (In (ArgumentOf n))).ty) 0 ((ls.signature f).takes 0) → Threads code ls w' then_
   threads_last w' others new = record {
@@ -686,8 +591,7 @@ module _ (x : Targets) (code : Code) (s : Shape) (ls : Labels) (wt : IsWellTyped
       let t = tr.thread in
       let m = g.threads tr.thread in
       let wd : (λ j. slice_index begun_words j) ≡ put (λ i. slice_index g.words i) (state_word n) 1 = fun_ext word_at in
-      let rs : (λ u. register_of code (then_.threads u)) ≡ regs_last =
-      fun_ext (λ u. put_all (λ u y. register_of code (put g.threads t last u) ≡ y) (λ u. register_of code (g.threads u)) t (register_of code last) (ap (register_of code) (put_same g.threads t last)) (λ u ne. ap (register_of code) (put_other g.threads t u last ne)) u) in
+      let rs : (λ u. register_of code (then_.threads u)) ≡ regs_last = part_put (register_of code) g.threads t last in
       let lo : (λ u. logged (then_.threads u)) ≡ (λ u. logged (g.threads u)) = fun_ext (λ u. put_all (λ u y. logged y ≡ logged (g.threads u)) g.threads t last refl (λ u _. refl) u) in
       let sg : (λ u. staged_of (then_.threads u).own.stage) ≡ (λ u. staged_of (g.threads u).own.stage) =
       fun_ext (λ u. put_all (λ u (y : Machine). staged_of y.own.stage ≡ staged_of (g.threads u).own.stage) g.threads t last (sym (spawning_staged m.own.stage sp)) (λ u _. refl) u) in
@@ -713,7 +617,7 @@ module _ (x : Targets) (code : Code) (s : Shape) (ls : Labels) (wt : IsWellTyped
       let new_thread = begun_stands x code s ls wt st.elements w' (heap_now st.heap begun_words) then_ n (put_other g.threads t n last not_t ∙ waits)
       (λ j. ap (λ (y : TypedReference). y.reference) (ks.regs n not_t j) ∙ begun_regs x code s ls wt g world st n waits j) (ks.win n not_t ∙ (st.threads n).off off_n) in
       most_state x code s ls g world st t may.started begun_words last
-      (record { number = refl; held = refl; heads = refl; making = sym (spawning_making m.own.stage sp); notes = refl; table = (st.threads t).has.table; refs = lr; ints = length-set m.ints (m.at.ints + r) (pos n); frames = refl })
+      (record { sizes = sizes_kept m last (st.threads t).has.table refl lr (length-set m.ints (m.at.ints + r) (pos n)) refl; held = refl; heads = refl; making = sym (spawning_making m.own.stage sp) })
       most_last w' eo em ks wt inv (subst (λ c. Shows x s st.cells st.elements c w') (sym conc_last) sim) (threads_last w' others entry) (firsts_last number)
       (λ u ne. ⊎_elim (λ (e : u ≡ n). inr (subst (λ u. ThreadStands x code s ls st.elements w' (heap_now st.heap begun_words) then_ u) (sym e) new_thread)) (λ (nn : u ≡ n → ⊥). inl (started_other u nn)) (cases_eq u n))
       (λ _. runs_at x code s ls st.elements w' (heap_now st.heap begun_words) then_ t last names refl
@@ -746,23 +650,13 @@ number_set x t v base ints names l r n vals same new top a b = record {
 
 below_set : (x : Targets) (code : Code) (ls : Labels) (t : ℕ) (v : View) (m m' : Machine) (r : ℕ) (vals : ℕ → ℤ) → ((j : ℕ) → j ≢ m.at.ints + r → vals j ≡ v.vals j) → m'.frames ≡ m.frames → m'.at.depth ≡ m.at.depth → m'.at.refs ≡ m.at.refs → m'.at.ints ≡ m.at.ints
     → (f : Option ℕ) → FramesStand x code ls t v m f → FramesStand x code ls t (record v { vals = vals }) m' f
-below_set x code ls t v m m' r vals same ef ed er ei None h = (ed ∙ h.0, er ∙ h.1, ei ∙ h.2)
-below_set x code ls t v m m' r vals same ef ed er ei (Some f) h =
-    let v1 : View = record v { vals = vals } in
-    let a : Agrees t v v1 (Low m.at.refs) (Low m.at.ints) = record {
-      refs = λ j _. refl;
-      types = λ j _. refl;
-      vals = λ j lt. sym (same j (λ q. omega arith));
-      elements = λ j _. refl;
-      passed = λ o p b _ k. k;
-    } in
-    let k = callers_agree x code ls t v v1 m.frames m.at.depth m.at.refs m.at.ints f a h.0 in
-    let P : List Frame → ℕ → ℕ → ℕ → Type 0 = λ fs d b c. BelowStands x code ls t v1 fs d b c f in (
-      subst (λ fs. P fs m'.at.depth m'.at.refs m'.at.ints) (sym ef) (subst (λ d. P m.frames d m'.at.refs m'.at.ints) (sym ed)
-          (subst (λ b. P m.frames m.at.depth b m'.at.ints) (sym er) (subst (λ c. P m.frames m.at.depth m.at.refs c) (sym ei) k))),
-      subst (λ d. d ≤ FRAMES) (sym ed) h.1,
-      h.2,
-    )
+below_set x code ls t v m m' r vals same = frames_agree x code ls t v (record v { vals = vals }) m m' (record {
+  refs = λ j _. refl;
+  types = λ j _. refl;
+  vals = λ j lt. sym (same j (λ q. omega arith));
+  elements = λ j _. refl;
+  passed = λ o p b _ k. k;
+})
 
 module _ (x : Targets) (code : Code) (s : Shape) (ls : Labels) (wt : IsWellTyped x code ls) (fits : Fits code s) (few : IsSmall code s) (g : Global Machine) (world : World) (st : State x code s ls g world) (tr : Turn)
     (may : MayTurn bounds (one_thread code s) g tr) (r f i : ℕ) (site : ℕ) (is : instr_at code (g.threads tr.thread).at.pc ≡ Instr.Spawn r f (Register.Int i) site) where
@@ -799,22 +693,14 @@ module _ (x : Targets) (code : Code) (s : Shape) (ls : Labels) (wt : IsWellTyped
       (register_held code m (spawning_hold m.own.stage spn) j ∙ sym (register_held code m' tt j)) (λ u _. refl) u in
       let args : (u : ℕ) → c.args u ≡ argument_of code now u = λ u. ⊎_elim
       (λ (e : u ≡ n). ap (argument_of code g) e ∙ unset ∙ sym (ap (argument_of code now) e ∙ new ∙ ap (λ p. if_reference p (slice_index g.words (argument_word n))) fi.5.0)) (λ (ne : u ≡ n → ⊥). other u ne) (cases_eq u n) in
-      let sim = sim_same x s st.cells st.elements (store c (state_word n) 1) world (put (λ u. register_of code (g.threads u)) t (register_of code m')) (argument_of code now) regs args (low_stored x s st.cells st.elements c world (state_word n) 1 (omega arith) st.sim) in
+      let sim = sim_same x s st.cells st.elements (store c (state_word n) 1) world (put (λ u. register_of code (g.threads u)) t (register_of code m')) (argument_of code now) regs args (low_stored x s st.cells st.elements c world (state_word n) 1 (omega arith) st.apart st.sim) in
       let lt : m.at.ints + r < length m.ints = subst (λ b. m.at.ints + r < b) (sym (st.threads t).has.ints) (int_inside x code ls t v m here.function r rn'.below fi.1) in
       let same : (j : ℕ) → j ≢ m.at.ints + r → vals_of m' j ≡ v.vals j = λ j ne. get_or-set_other m.ints (m.at.ints + r) j (pos n) (pos 0) ne in
       let fit : holds Char (pos n) ≡ true = grind (arith, nat_tests) in
       let put_in : holds Char (vals_of m' (m.at.ints + r)) ≡ true = subst (λ y. holds Char y ≡ true) (sym (get_or-set_same m.ints (m.at.ints + r) (pos n) (pos 0) lt)) fit in
       settled x code s ls wt fits few g world st tr may r f (Register.Int i) site is now done
       (last_state x code s ls wt fits few g world st tr may r f (Register.Int i) site is n stage reserves named long m.refs refl world refl refl refl
-      (record {
-        regs = λ u _ r. refl;
-        win = λ u _. refl;
-        passed = λ u _ o p b _ q. q;
-        sole = λ u _ r _ p. loses refl;
-        cells = λ u _ r _ n. refl;
-        built = λ u _ b e. (e, refl);
-        within = λ u _ b e j k. most_off n j (λ q. let lo = k.0 in absurd (omega arith)) long;
-      })
+      (others_stay s world st.heap g.words words t (λ u _ b e j k. most_off n j (λ q. let lo = k.0 in absurd (omega arith)) long))
       (λ u _. refl) entry number st.inv sim rn'.names (set_number here r (Within Char)) refl refl fi.6
       (number_set x t v m.at.refs m.at.ints rn'.names here r (Within Char) (vals_of m') same put_in tp)
       (below_set x code ls t v m m' r (vals_of m') same refl refl refl refl here.function rn'.below)
@@ -827,28 +713,6 @@ module _ (x : Targets) (code : Code) (s : Shape) (ls : Labels) (wt : IsWellTyped
   Spawn_number_keeps = Spawn_keeps_but_the_last x code s ls wt fits few g world st tr may r f (Register.Int i) site is int_last
 
 -- ---- a reference is handed over
-arg_put : (x : Targets) (s : Shape) (cells elements : ℕ → ℕ) (c : MachineView) (w : World) → Shows x s cells elements c w → (n : ℕ) (h : TypedReference) (args : ℕ → ℕ) → args n ≡ h.reference → ((u : ℕ) → u ≢ n → args u ≡ c.args u)
-    → Shows x s cells elements (record c { args = args }) (record w { slots = place w.slots (In (ArgumentOf n)) h })
-arg_put x s cells elements c w sim n h args et eu =
-    let own : (a : Holder) → (a ≡ ArgumentOf n → ⊥) → (place w.slots (In (ArgumentOf n)) h (In a)).reference ≡ in_ref w a = λ a ne. ap (λ (h : TypedReference). h.reference) (place_other w.slots (In (ArgumentOf n)) (In a) h (λ e. ne (cc))) in
-    record {
-      regs = λ u j. own (RegisterOf u j) (λ e. cc) ∙ sim.regs u j;
-      args = λ u. ⊎_elim
-          (λ (e : u ≡ n). ap (λ u. (place w.slots (In (ArgumentOf n)) h (In (ArgumentOf u))).reference) e ∙ ap (λ (h : TypedReference). h.reference) (place_same w.slots (In (ArgumentOf n)) h) ∙ sym (ap args e ∙ et))
-          (λ (ne : u ≡ n → ⊥). own (ArgumentOf u) (λ e. ne (cc)) ∙ sim.args u ∙ sym (eu u ne))
-          (cases_eq u n);
-      logs = λ u word. own (LogOf u word) (λ e. cc) ∙ sim.logs u word;
-      staged = λ u. own (Staged u) (λ e. cc) ∙ sim.staged u;
-      pointers = sim.pointers;
-      others = sim.others;
-      integers = sim.integers;
-      counts = sim.counts;
-      lengths = sim.lengths;
-      mutexes = sim.mutexes;
-      shadows = sim.shadows;
-      stale = sim.stale;
-    }
-
 shared_type : (x : Targets) (refs : ℕ → ℕ) (o : ℕ) (ty : ObjectType) (e : Entry) → IsShared x e → EntryStands (λ r. o) (λ r. ty) 0 e → o ≢ 0 → is_private x ty ≡ false
 shared_type x refs o ty Empty sh h nz = absurd (nz h)
 shared_type x refs o ty Unknown sh h nz = absurd sh
@@ -899,8 +763,8 @@ module _ (x : Targets) (code : Code) (s : Shape) (ls : Labels) (wt : IsWellTyped
       let entry : EntryStands (λ r. in_ref w2 (ArgumentOf n)) (λ r. (w2.slots (In (ArgumentOf n))).ty) 0 takes = subst (λ (y : TypedReference). EntryStands (λ r. y.reference) (λ r. y.ty) 0 takes) (sym arg2) held in
       let no_int : (function_of code f).parameter ≢ Parameter.Int = λ e. let y : Parameter.Reference ≡ Parameter.Int = sym fi.5.0 ∙ e in cc in
       let number = subst (NumberStands x (λ o. 0) (λ r. 0) (λ r. nothing) (λ n. pos 0) (int_of (slice_index g.words (argument_word n)))) (sym (start.number no_int)) tt in
-      let sim1 = reg_stored x s st.cells st.elements c world (low_stored x s st.cells st.elements (conc_of code g) world (state_word n) 1 (omega arith) st.sim) st.apart t kq none in
-      let sim2 = arg_put x s st.cells st.elements (set_reg c t kq 0) w1 sim1 n h (argument_of code now) arg (λ u ne. sym (other u ne)) in
+      let sim1 = reg_stored x s st.cells st.elements c world (low_stored x s st.cells st.elements (conc_of code g) world (state_word n) 1 (omega arith) st.apart st.sim) st.apart t kq none in
+      let sim2 = arg_stored x s st.cells st.elements (set_reg c t kq 0) w1 sim1 n h (argument_of code now) arg (λ u ne. sym (other u ne)) in
       let regs2 : register_of code m' ≡ put (R t) kq 0 = fun_ext (λ j. register_held code m' tt j
       ∙ put_all (λ j y. slice_index refs j ≡ y) (R t) kq 0 (get_or-set_same m.refs kq 0 0 lt_q) (λ j ne. get_or-set_other m.refs kq j 0 0 ne ∙ sym (register_held code m (spawning_hold m.own.stage spn) j)) j) in
       let sim = subst (λ f. Shows x s st.cells st.elements (record c { regs = put R t f; args = argument_of code now }) w2) (sym regs2) sim2 in

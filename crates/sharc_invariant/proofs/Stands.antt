@@ -1,5 +1,5 @@
 -- Of counts, references and windows the invariant says what the machine invariant does.
-use Rattle.sharc_invariant.proofs.{Imports.{◌≡◌, ℕ, zero, suc, ◌+◌, ◌*◌, ◌/◌, ◌<◌, ◌≢◌, ◌⊎◌, true, false, cond, refl, sym, ap, ◌∙◌, subst, inl, inr, ⊎_elim, arith, cases_eq, cases_Bool, and_parts, and_from, ltb-true, lt-ltb, true_from_ne_false, fun_ext, slice_index, nat_lt, ◌&&◌, THREADS, FRAMES, Code, Cell, Instr, Shape, Stage, Links, granules, words_of, cell_word, cell_of, count_word, length_word, Machine, instr_at, ref, most_refs, Global, one, sum_to, Targets, cells_of, field_in, is_pointer, is_private, type_at, type_of, Gate, Closed, Checked, Holds, Loaded, HoldsLoaded, SoleGate as Sole, Empty, Refers, Unknown, Label, Labels, IsWellTyped, Holder, RegisterOf, ArgumentOf, LogOf, Staged, Slot, In, CellOf, ObjectState, IsLoaded, Sole as IsSoleOf, World, WinOk, Based, base_of, total, in_ref, lang_of, register_of, argument_of, is_freed, count_at, cell_at, State, EntryStands, GateStands, label_now, view_of, refs_at, types_at, base_of_cell, object_of_cell, number_in, size_of_run, cells_now, is_pointer_now, cell_refers, register_refers, log_refers, hand_refers, references_to, Has, IsTyped, IsKept, HoldsStill, IsAlone, WindowStands, WasLoaded, IsSole, IsOn, label_of, HasType, MachineInvariant, StateStands, ne_eq}, Sums.sum_ext, Counts.count_is, Frees.length_is, Empties.cell_word_is, Effects.{sole_at, only_slot}, Loads.lang_laws}
+use Rattle.sharc_invariant.proofs.{Imports.{◌≡◌, ℕ, zero, suc, ◌+◌, ◌*◌, ◌/◌, ◌<◌, ◌≢◌, ◌⊎◌, true, false, cond, refl, sym, ap, ◌∙◌, subst, inl, inr, ⊎_elim, arith, cases_eq, cases_Bool, and_parts, and_from, ltb-true, lt-ltb, true_from_ne_false, fun_ext, slice_index, nat_lt, ◌&&◌, THREADS, FRAMES, Code, Cell, Instr, Shape, Stage, Links, granules, words_of, cell_word, cell_of, count_word, length_word, Machine, instr_at, ref, most_refs, Global, one, sum_to, Targets, cells_of, field_in, is_pointer, is_private, type_at, type_of, Gate, Closed, Checked, Holds, Loaded, HoldsLoaded, SoleGate as Sole, Empty, Refers, Unknown, Label, Labels, IsWellTyped, Holder, RegisterOf, ArgumentOf, LogOf, Staged, Slot, In, CellOf, ObjectState, IsLoaded, Sole as IsSoleOf, World, WinOk, Based, base_of, total, in_ref, lang_of, register_of, argument_of, is_freed, count_at, cell_at, State, EntryStands, GateStands, label_now, view_of, refs_at, types_at, base_of_cell, object_of_cell, number_in, size_of_run, cells_now, is_pointer_now, cell_refers, register_refers, log_refers, hand_refers, references_to, Has, IsTyped, IsKept, HoldsStill, IsAlone, WindowStands, WasLoaded, IsSole, IsOn, label_of, HasType, MachineInvariant, StateStands, ne_eq}, Sums.sum_ext, Counts.count_is, Empties.cell_word_is, Effects.{sole_at, only_slot}, Loads.lang_laws, Sweeps.length_is}
 
 -- where something stands directly before, the registers of a thread refer to what they hold
 registers_shown : (l : Label) (i : Instr) (stage : Stage) (base : ℕ) → ((label_now l i stage).gate ≡ Closed) ⊎ ((j : ℕ) → is_freed i stage base j ≡ false)

@@ -1,5 +1,5 @@
 -- Start keeps the invariant: a thread loads its function, and then its argument, and enters it.
-use Rattle.sharc_invariant.proofs.{Imports.{◌≡◌, ℕ, ℤ, pos, suc, ◌+◌, ◌*◌, ◌^◌, ◌<◌, ◌≢◌, ◌⊎◌, ◌&&◌, Bool, true, false, cond, List, Some, None, refl, sym, ap, ◌∙◌, subst, inl, inr, ⊎_elim, arith, cases_eq, nat_tests, length-set, get_or-set_same, get_or-set_other, set-get_or, fun_ext, length, slice_index, slice_index_or, slice_set, nat_lt, ◌==◌, THREADS, Load, HeldMutex, object_of, Kind, Read, Write, Accesses, note_of, FRAMES, Code, Parameter, Shape, At, Frame, RunsOn, Stage, Rests, Looks, Clears, Makes, Empties, Lowers, FreeLooks, FreeClears, Uncounts, Links, Names, Hands, Begins, Enters, Withdraws, WithdrawsFrom, Leaves, Wakes, int_of, Fits, function_at, state_word, function_word, argument_word, Machine, Asks, reference_of, function_of, instr_at, no_frame, step_of, at_stage, called, trapped, with_parameter, entered, start, turn, counted, most_refs, Turn, Global, put, MayTurn, after_turn, one_thread, bounds, Instr, put_same, put_other, put_all, Targets, nothing, Empty, Refers, Unknown, Label, Labels, Less, HasBase, IsWellTyped, Fine, MayStart, entry_label, refs_in, TypedReference, Holder, RegisterOf, ArgumentOf, LogOf, Staged, In, Slot, CellOf, World, Shut, Sole, WorldInvariant, in_ref, none, place, shift, MachineView, conc_of, lang_of, Shows, is_first, is_unread, if_reference, note_number, register_of, argument_of, staged_of, noted_by, logged, is_ended, has_withdrawn, making_of, Silently, made_turn, KeepsOthers, State, View, view_of, Runs, Threads, Firsts, SpawnsNow, EntryStands, NumberStands, TopStands, StartStands, FramesStand, GateStands, StageStands, OnStart, label_now, frame_at, refs_at, types_at, size_of_run, Turned, ne_eq}, Effects.{place_same, place_other, shift_ok}, Frames.{less_stands, entry_kept, number_kept}, Quiet.{KeepsThread, heap_now, started_same, sum_up, kept_state, label_held, freed_held}, Others.{OnHold, loses}, Turns.{asks_turn, room_of}, Own.{closed_less, runs_at, refs_most, ints_most}, Plain.{same_words, same_others}, Filled.free_shut, Seen.reg_stored, BitTurns.going_on}
+use Rattle.sharc_invariant.proofs.{Imports.{◌≡◌, ℕ, ℤ, pos, suc, ◌+◌, ◌*◌, ◌^◌, ◌<◌, ◌≢◌, ◌⊎◌, ◌&&◌, Bool, true, false, cond, List, Some, None, refl, sym, ap, ◌∙◌, subst, inl, inr, ⊎_elim, arith, cases_eq, nat_tests, length-set, get_or-set_same, get_or-set_other, set-get_or, fun_ext, length, slice_index, slice_index_or, slice_set, nat_lt, ◌==◌, THREADS, Load, HeldMutex, object_of, Kind, Read, Write, Accesses, note_of, FRAMES, Code, Parameter, Shape, At, Frame, RunsOn, Stage, Rests, Makes, Enters, int_of, Fits, function_at, state_word, function_word, argument_word, Machine, Asks, reference_of, function_of, instr_at, no_frame, step_of, at_stage, called, trapped, with_parameter, entered, start, turn, counted, most_refs, Turn, Global, put, MayTurn, after_turn, one_thread, bounds, Instr, put_same, put_other, put_all, Targets, nothing, Empty, Refers, Unknown, Label, Labels, Less, HasBase, IsWellTyped, Fine, MayStart, entry_label, refs_in, TypedReference, Holder, RegisterOf, ArgumentOf, LogOf, Staged, In, Slot, CellOf, World, Shut, Sole, WorldInvariant, in_ref, none, place, shift, MachineView, conc_of, lang_of, Shows, is_first, is_unread, if_reference, note_number, register_of, argument_of, staged_of, noted_by, logged, is_ended, has_withdrawn, making_of, Silently, made_turn, KeepsOthers, State, View, view_of, Runs, Threads, Firsts, SpawnsNow, EntryStands, NumberStands, TopStands, StartStands, FramesStand, GateStands, StageStands, OnStart, label_now, frame_at, refs_at, types_at, size_of_run, Turned, ne_eq}, Effects.{place_same, place_other, shift_ok}, Frames.{less_stands, entry_kept, number_kept}, Quiet.{KeepsThread, heap_now, started_same, sum_up, kept_state, label_held, freed_held, sizes_kept, part_put, part_same}, Others.{OnHold, loses}, Turns.{asks_turn, room_of, unseen}, Own.{closed_less, runs_at, refs_most, ints_most}, Plain.{same_words, same_others, sim_same}, Filled.free_shut, Seen.{reg_stored, holder_stored}, BitTurns.going_on}
 use Rattle.sharc_tree.specs.declared.trap.Trap.{Trap}
 
 -- ---- the machine that enters a function
@@ -60,45 +60,19 @@ early_notes m m' et es er eb ee kind p =
 from_zero : {A : Type 0} (f : ℕ → A) → f ≡ (λ r. f (0 + r))
 from_zero f = fun_ext (λ r. let z : r ≡ 0 + r = omega arith in ap f z)
 
--- the argument slot of a thread holds nothing more
-arg_stored : (x : Targets) (s : Shape) (cells elements : ℕ → ℕ) (c : MachineView) (w : World) → Shows x s cells elements c w → (t : ℕ) (args : ℕ → ℕ) → args t ≡ 0 → ((u : ℕ) → u ≢ t → args u ≡ c.args u)
-    → Shows x s cells elements (record c { args = args }) (record w { slots = place w.slots (In (ArgumentOf t)) none })
-arg_stored x s cells elements c w sim t args et eu =
-    let own : (a : Holder) → (a ≡ ArgumentOf t → ⊥) → (place w.slots (In (ArgumentOf t)) none (In a)).reference ≡ in_ref w a = λ a ne. ap (λ (h : TypedReference). h.reference) (place_other w.slots (In (ArgumentOf t)) (In a) none (λ e. ne (cc))) in
-    record {
-      regs = λ u j. own (RegisterOf u j) (λ e. cc) ∙ sim.regs u j;
-      args = λ u. ⊎_elim
-          (λ (e : u ≡ t). ap (λ u. (place w.slots (In (ArgumentOf t)) none (In (ArgumentOf u))).reference) e ∙ ap (λ (h : TypedReference). h.reference) (place_same w.slots (In (ArgumentOf t)) none) ∙ sym (ap args e ∙ et))
-          (λ (ne : u ≡ t → ⊥). own (ArgumentOf u) (λ e. ne (cc)) ∙ sim.args u ∙ sym (eu u ne))
-          (cases_eq u t);
-      logs = λ u word. own (LogOf u word) (λ e. cc) ∙ sim.logs u word;
-      staged = λ u. own (Staged u) (λ e. cc) ∙ sim.staged u;
-      pointers = sim.pointers;
-      others = sim.others;
-      integers = sim.integers;
-      counts = sim.counts;
-      lengths = sim.lengths;
-      mutexes = sim.mutexes;
-      shadows = sim.shadows;
-      stale = sim.stale;
-    }
-
-sim_own : (x : Targets) (s : Shape) (cells elements : ℕ → ℕ) (c : MachineView) (w : World) (regs : ℕ → ℕ → ℕ) (args : ℕ → ℕ) → ((u i : ℕ) → c.regs u i ≡ regs u i) → ((u : ℕ) → c.args u ≡ args u)
-    → Shows x s cells elements c w → Shows x s cells elements (record c { regs = regs; args = args }) w
-sim_own x s cells elements c w regs args e a h = record {
-  regs = λ u i. h.regs u i ∙ e u i;
-  args = λ u. h.args u ∙ a u;
-  logs = h.logs;
-  staged = h.staged;
-  pointers = h.pointers;
-  others = h.others;
-  integers = h.integers;
-  counts = h.counts;
-  lengths = h.lengths;
-  mutexes = h.mutexes;
-  shadows = h.shadows;
-  stale = h.stale;
-}
+-- the argument slot of a thread holds something else
+pub arg_stored : (x : Targets) (s : Shape) (cells elements : ℕ → ℕ) (c : MachineView) (w : World) → Shows x s cells elements c w → (n : ℕ) (h : TypedReference) (args : ℕ → ℕ) → args n ≡ h.reference → ((u : ℕ) → u ≢ n → args u ≡ c.args u)
+    → Shows x s cells elements (record c { args = args }) (record w { slots = place w.slots (In (ArgumentOf n)) h })
+arg_stored x s cells elements c w sim n h args et eu =
+    let own : (a : Holder) → (a ≡ ArgumentOf n → ⊥) → (place w.slots (In (ArgumentOf n)) h (In a)).reference ≡ in_ref w a = λ a ne. ap (λ (h : TypedReference). h.reference) (place_other w.slots (In (ArgumentOf n)) (In a) h (λ e. ne (cc))) in
+    holder_stored x s cells elements c w sim (ArgumentOf n) h c.regs args c.logs c.staged
+    (λ u j. own (RegisterOf u j) (λ e. cc) ∙ sim.regs u j)
+    (λ u. ⊎_elim
+    (λ (e : u ≡ n). ap (λ u. (place w.slots (In (ArgumentOf n)) h (In (ArgumentOf u))).reference) e ∙ ap (λ (h : TypedReference). h.reference) (place_same w.slots (In (ArgumentOf n)) h) ∙ sym (ap args e ∙ et))
+    (λ (ne : u ≡ n → ⊥). own (ArgumentOf u) (λ e. ne (cc)) ∙ sim.args u ∙ sym (eu u ne))
+    (cases_eq u n))
+    (λ u word. own (LogOf u word) (λ e. cc) ∙ sim.logs u word)
+    (λ u. own (Staged u) (λ e. cc) ∙ sim.staged u)
 
 module _ (x : Targets) (code : Code) (s : Shape) (ls : Labels) (wt : IsWellTyped x code ls) (fits : Fits code s) (g : Global Machine) (world : World) (st : State x code s ls g world) (tr : Turn)
     (may : MayTurn bounds (one_thread code s) g tr) (site : ℕ) (is : instr_at code (g.threads tr.thread).at.pc ≡ Instr.Start site) where
@@ -168,17 +142,13 @@ module _ (x : Targets) (code : Code) (s : Shape) (ls : Labels) (wt : IsWellTyped
       abbrev regs_now : ℕ → ℕ → ℕ
       regs_now = put (λ u. register_of code (g.threads u)) tr.thread (register_of code m')
 
-      part : {A : Type 0} (f : Machine → A) → f m' ≡ f (g.threads tr.thread) → (u : ℕ) → f (now.threads u) ≡ f (g.threads u)
-      part f e = put_all (λ u y. f y ≡ f (g.threads u)) g.threads t m' e (λ u _. refl)
-
       conc_now : conc_of code now ≡ record (conc_of code g) { regs = regs_now; args = argument_of code now }
       conc_now =
-          let rs : (λ u. register_of code (now.threads u)) ≡ regs_now =
-          fun_ext (λ u. put_all (λ u y. register_of code (put g.threads t m' u) ≡ y) (λ u. register_of code (g.threads u)) t (register_of code m') (ap (register_of code) (put_same g.threads t m')) (λ u ne. ap (register_of code) (put_other g.threads t u m' ne)) u) in
-          let lo : (λ u. logged (now.threads u)) ≡ (λ u. logged (g.threads u)) = fun_ext (part logged (fun_ext (λ w. ap (λ (h : List HeldMutex). reference_of (object_of h w)) held))) in
-          let sg : (λ u. staged_of (now.threads u).own.stage) ≡ (λ u. staged_of (g.threads u).own.stage) = fun_ext (part (λ m. staged_of m.own.stage) (early_staged m'.own.stage early' ∙ sym (early_staged m.own.stage early))) in
+          let rs : (λ u. register_of code (now.threads u)) ≡ regs_now = part_put (register_of code) g.threads t m' in
+          let lo : (λ u. logged (now.threads u)) ≡ (λ u. logged (g.threads u)) = fun_ext (part_same logged g.threads t m' (fun_ext (λ w. ap (λ (h : List HeldMutex). reference_of (object_of h w)) held))) in
+          let sg : (λ u. staged_of (now.threads u).own.stage) ≡ (λ u. staged_of (g.threads u).own.stage) = fun_ext (part_same (λ m. staged_of m.own.stage) g.threads t m' (early_staged m'.own.stage early' ∙ sym (early_staged m.own.stage early))) in
           let nt : (kind : Kind) → (λ u. noted_by (now.threads u) kind) ≡ (λ u. noted_by (g.threads u) kind) = λ kind.
-          fun_ext (part (λ m. noted_by m kind) (fun_ext (early_notes m m' table early early' ended_before (ap is_ended goes_on) kind))) in
+          fun_ext (part_same (λ m. noted_by m kind) g.threads t m' (fun_ext (early_notes m m' table early early' ended_before (ap is_ended goes_on) kind))) in
           let rd = nt Read in
           let wr = nt Write in
           λ i. record { words = λ j. slice_index g.words j; regs = rs i; args = argument_of code now; logs = lo i; staged = sg i; read_notes = rd i; write_notes = wr i }
@@ -229,7 +199,7 @@ module _ (x : Targets) (code : Code) (s : Shape) (ls : Labels) (wt : IsWellTyped
     m1 = at_stage (g.threads tr.thread) (Enters (function_at code function))
 
     own1 : KeepsThread (g.threads tr.thread) m1
-    own1 = record { number = refl; held = refl; heads = refl; making = sym (early_making m.own.stage early); notes = refl; table = (st.threads t).has.table; refs = refl; ints = refl; frames = refl }
+    own1 = record { sizes = sizes_kept m m1 (st.threads t).has.table refl refl refl refl; held = refl; heads = refl; making = sym (early_making m.own.stage early) }
 
     runs1 : Runs x code s ls st.elements world (heap_now st.heap g.words) (made_turn g tr.thread g.words m1) tr.thread m1
     runs1 =
@@ -256,12 +226,9 @@ module _ (x : Targets) (code : Code) (s : Shape) (ls : Labels) (wt : IsWellTyped
         ∙ sym (args_own m1 refl refl refl refl) ∙ ap (argument_of code now) (sym e))
         (λ (ne : u ≡ t → ⊥). sym (args_other m1 refl refl refl refl u ne))
         (cases_eq u t) in
-        let sim : Shows x s st.cells st.elements (conc_of code now) world = subst (λ c. Shows x s st.cells st.elements c world) (sym (conc_now m1 refl refl refl refl)) (sim_own x s st.cells st.elements c world (regs_now m1 refl refl refl refl) (argument_of code now) regs args st.sim) in (
-          world,
-          subst (λ y. State x code s ls y world) (sym done) (kept_state x code s ls g world st t may.started g.words m1 own1 (same_words x code s ls g world st) world refl refl (same_others s world st.heap g.words t) wt st.inv sim
-              (threads_now m1 refl refl refl refl own1 world (λ u. inl refl)) (firsts_now m1 refl refl refl refl own1) (λ _. runs1) (λ q. absurd (cc)) (room_of code s g tr may g.words m1 done)),
-          Silently (record { obj = refl; mutex = refl; passed = λ o p u b q. q; sole = λ u r e. (e, refl) }),
-        )
+        let sim : Shows x s st.cells st.elements (conc_of code now) world = subst (λ c. Shows x s st.cells st.elements c world) (sym (conc_now m1 refl refl refl refl)) (sim_same x s st.cells st.elements c world (regs_now m1 refl refl refl refl) (argument_of code now) regs args st.sim) in
+        unseen x code s ls g world tr _ done (kept_state x code s ls g world st t may.started g.words m1 own1 (same_words x code s ls g world st) world refl refl (same_others s world st.heap g.words t) wt st.inv sim
+        (threads_now m1 refl refl refl refl own1 world (λ u. inl refl)) (firsts_now m1 refl refl refl refl own1) (λ _. runs1) (λ q. absurd (cc)) (room_of code s g tr may g.words m1 done))
 
     -- ---- the function is entered
     abbrev argument : ℕ
@@ -308,7 +275,7 @@ module _ (x : Targets) (code : Code) (s : Shape) (ls : Labels) (wt : IsWellTyped
       m2 = entered_with ints refs
 
       own2 : KeepsThread (g.threads tr.thread) m2
-      own2 = record { number = refl; held = refl; heads = refl; making = sym (early_making m.own.stage early); notes = refl; table = (st.threads t).has.table; refs = lr; ints = li; frames = length-set m.frames 0 (record { pc = 1; ints = 0; refs = 0 }) }
+      own2 = record { sizes = sizes_kept m m2 (st.threads t).has.table refl lr li (length-set m.frames 0 (record { pc = 1; ints = 0; refs = 0 })); held = refl; heads = refl; making = sym (early_making m.own.stage early) }
 
       args_gone : argument_of code (made_turn g tr.thread g.words m2) tr.thread ≡ 0
       args_gone =
@@ -381,7 +348,7 @@ module _ (x : Targets) (code : Code) (s : Shape) (ls : Labels) (wt : IsWellTyped
         let tops = entry_top (view_of st.elements world t m2) (subst (EntryStands (λ r. in_ref world (RegisterOf t r)) (λ r. (world.slots (In (RegisterOf t r))).ty) 0) (sym (may_start.reference nr)) (zero_at 0)) (λ r _. zero_at r) number in (
           world,
           enters ints m.refs li refl world refl refl refl (same_others s world st.heap g.words t) (λ u. inl refl) st.inv
-              (λ gone. sim_own x s st.cells st.elements c world (put c.regs t (register_of code m2)) (argument_of code now) (plain_refs ints)
+              (λ gone. sim_same x s st.cells st.elements c world (put c.regs t (register_of code m2)) (argument_of code now) (plain_refs ints)
               (λ u. ⊎_elim (λ (e : u ≡ t). ap (argument_of code g) e ∙ was ∙ sym gone ∙ ap (argument_of code now) (sym e)) (λ (ne : u ≡ t → ⊥). sym (args_other m2 refl refl refl refl u ne)) (cases_eq u t)) st.sim)
               tops done,
           Silently (record { obj = refl; mutex = refl; passed = λ o p u b q. q; sole = λ u r e. (e, refl) }),
@@ -436,7 +403,7 @@ module _ (x : Targets) (code : Code) (s : Shape) (ls : Labels) (wt : IsWellTyped
               args
               (shift_ok (size_of_run code s) (lang_of x) world st.inv (ArgumentOf t) (RegisterOf t 0) (λ e. cc) low_t (low_t, room) (zero_at 0) (λ _ _. refl) (λ u r _ e. cc) (free_shut world t 0 shut))
               (λ gone.
-              let sim1 = arg_stored x s st.cells st.elements c world st.sim t (argument_of code now) gone (args_other m2 refl refl refl refl) in
+              let sim1 = arg_stored x s st.cells st.elements c world st.sim t none (argument_of code now) gone (args_other m2 refl refl refl refl) in
               let sim2 = reg_stored x s st.cells st.elements (record c { args = argument_of code now }) w1 sim1 st.apart t 0 h in
               subst (λ f. Shows x s st.cells st.elements (record c { regs = put R t f; args = argument_of code now }) w2) (sym regs2) sim2)
               tops done,

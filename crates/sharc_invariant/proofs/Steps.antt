@@ -1,5 +1,5 @@
 -- Turns that ask the words nothing: the thread's place and one of its integers change, and what is known there.
-use Rattle.sharc_invariant.proofs.{Imports.{◌≡◌, ℕ, ℤ, suc, ◌+◌, ◌<◌, ◌≤◌, ◌≢◌, Bool, true, false, cond, not, Result, Ok, Err, refl, sym, ap, ◌∙◌, subst, ⊎_elim, arith, eqb-true, nat_tests, neg_ℤ, length, nat_lt, ◌==◌, Code, Cell, Width, Char, Int, Long, Instr, Shape, Stop, Trap as Trapped, holds, in_range, negated, truth, is_zero, Machine, Local, Asks, instr_at, int, ref, goes, goes_to, set_int, with_result, asserts, stopped, trapped, lock_checked, is_held, is_of_null, word, turn, counted, Turn, Global, put, MayTurn, one_thread, bounds, put_same, put_other, put_all, Targets, ObjectType, Element, Named, Nth, IsNamed, HasName, Fresh, Number, Anything, Within, Exactly, Indexes, OfElement, OfGlobal, empty, Closed, Label, Labels, Less, Leads, set_number, knows, IsWellTyped, Numbers, World, RegisterOf, in_ref, Silently, made_turn, State, View, view_of, NumberStands, ElementStands, TopStands, refs_at, types_at, Turned, fun_ext}, Frames.{empty_stands, filled}, Quiet.put_self, Turns.{local_turn, room_of}, Own.{is_single, runs, rests, top, fine}, Plain.{register_plain, is_shut, jump_state, stop_state, numbers_state}}
+use Rattle.sharc_invariant.proofs.{Imports.{◌≡◌, ℕ, ℤ, suc, ◌+◌, ◌<◌, ◌≤◌, ◌≢◌, Bool, true, false, cond, not, Result, Ok, Err, refl, sym, ap, ◌∙◌, subst, ⊎_elim, arith, eqb-true, nat_tests, neg_ℤ, length, nat_lt, ◌==◌, Code, Cell, Width, Char, Int, Long, Instr, Shape, Stop, Trap as Trapped, holds, in_range, negated, truth, is_zero, Machine, Local, instr_at, int, ref, goes, goes_to, set_int, with_result, asserts, stopped, is_held, word, turn, counted, Turn, Global, put, MayTurn, one_thread, bounds, put_same, put_other, put_all, Targets, ObjectType, Element, Named, Nth, IsNamed, HasName, Fresh, Number, Anything, Within, Exactly, Indexes, OfElement, OfGlobal, empty, Closed, Label, Labels, Less, Leads, set_number, knows, IsWellTyped, Numbers, World, RegisterOf, in_ref, made_turn, State, View, view_of, NumberStands, ElementStands, TopStands, refs_at, types_at, Turned, fun_ext}, Frames.{empty_stands, filled}, Quiet.put_self, Turns.{local_turn, room_of, unseen}, Own.{is_single, runs, rests, top, fine}, Plain.{register_plain, is_shut, jump_state, stop_state, numbers_state}}
 use Rattle.sharc_tree.specs.declared.trap.Trap.{Trap}
 
 -- the gate of a label that a check leaves open
@@ -94,7 +94,7 @@ module _ (x : Targets) (code : Code) (s : Shape) (ls : Labels) (wt : IsWellTyped
   reads r = sym (st.sim.regs t (m.at.refs + r) ∙ register_plain code m (rests x code s ls wt g world st t may.started may.next.runs i is single) (m.at.refs + r))
 
   local : (m' : Machine) → turn code s m ≡ Local m' → State x code s ls (made_turn g tr.thread g.words m') world → After
-  local m' e k = (world, subst (λ y. State x code s ls y world) (sym (local_turn code s g tr may m' e)) k, Silently (record { obj = refl; mutex = refl; passed = λ o p u b q. q; sole = λ u r e. (e, refl) }))
+  local m' e k = unseen x code s ls g world tr _ (local_turn code s g tr may m' e) k
 
   room_at : (m' : Machine) → turn code s m ≡ Local m' → g.made tr.thread + counted m'.at.state ≤ 100000000
   room_at m' e = room_of code s g tr may g.words m' (local_turn code s g tr may m' e)

@@ -1,5 +1,5 @@
 -- A turn that stores one word: a count, a cell or a shadow word.
-use Rattle.sharc_invariant.proofs.{Imports.{◌≡◌, ℕ, ◌+◌, ◌*◌, ◌^◌, ◌<◌, ◌≤◌, ◌≢◌, true, List, refl, sym, ap, ◌∙◌, subst, ⊎_elim, arith, cases_eq, cases_order, get_or-set_same, get_or-set_other, length-set, fun_ext, length, slice_index, slice_set, epoch_of, Code, Shape, granules, first_cell, Machine, Global, put, put_other, put_all, Targets, Labels, World, Live, Built, Listed, Arena, Heap, Kept, InBlock, IsListed, link_at, shadow_at, count_at, cell_at, State, HeapStands}, Listed.{store_ok, within_block, in_use, below_blocks}, Quiet.KeepsWords}
+use Rattle.sharc_invariant.proofs.{Imports.{◌≡◌, ℕ, ◌+◌, ◌*◌, ◌^◌, ◌<◌, ◌≤◌, ◌≢◌, true, List, refl, sym, ap, ◌∙◌, subst, ⊎_elim, arith, cases_eq, cases_order, get_or-set_same, get_or-set_other, length-set, fun_ext, length, slice_index, slice_set, epoch_of, Code, Shape, granules, first_cell, Machine, Global, put, put_other, put_all, Targets, Labels, World, Live, Built, Listed, Arena, Heap, Kept, InBlock, IsListed, link_at, shadow_at, count_at, cell_at, State}, Listed.{store_ok, within_block, in_use, below_blocks}, Quiet.KeepsWords}
 
 pub index_put : (ws : List ℕ) (k v : ℕ) → k < length ws → (j : ℕ) → slice_index (slice_set ws k v) j ≡ put (λ i. slice_index ws i) k v j
 index_put ws k v lt = put_all (λ j y. slice_index (slice_set ws k v) j ≡ y) (λ i. slice_index ws i) k v (get_or-set_same ws k v 0 lt) (λ j ne. get_or-set_other ws k j v 0 ne)
@@ -15,9 +15,6 @@ pub record MayStore (s : Shape) (heap : Heap) (k : ℕ) : Type 0 where
   pub built : (u h : ℕ) → heap.state h ≡ Built u → InBlock (arena s) heap h k → ⊥
 
 module _ (x : Targets) (code : Code) (s : Shape) (ls : Labels) (g : Global Machine) (world : World) (st : State x code s ls g world) where
-  abbrev hs : HeapStands s st.cells g world.obj st.heap
-  hs = st.heap_stands
-
   live_state : (o : ℕ) → o ≢ 0 → (world.obj o).live ≡ true → (st.heap.state o ≡ Live) × (st.heap.size o ≢ 0)
   live_state o nz live =
       let e = (st.heap_stands.live o nz).0 live in

@@ -1,5 +1,5 @@
 -- A turn of a checked run, as what it makes of the whole machine.
-use Rattle.sharc_invariant.proofs.Imports.{◌≡◌, ℕ, ◌+◌, ◌<◌, ◌||◌, List, Option, Some, None, refl, ap, ◌∙◌, subst, ◌≤◌, arith, length, slice_index, slice_set, WordStep, WordEvent, word_after, words_after_step, MayFollow, Code, Shape, Machine, StepTurn, Local, Asks, turn, after, counted, Turn, Global, put, MayTurn, after_turn, made_now, is_started, words_now, result_of, Answered, one_thread, bounds, put_same, made_turn}
+use Rattle.sharc_invariant.proofs.Imports.{◌≡◌, ℕ, ◌+◌, ◌<◌, ◌||◌, List, Option, Some, None, refl, ap, ◌∙◌, subst, ◌≤◌, arith, length, slice_index, slice_set, WordStep, WordEvent, word_after, words_after_step, MayFollow, Code, Shape, Machine, StepTurn, Local, Asks, turn, after, counted, Turn, Global, put, MayTurn, after_turn, made_now, is_started, words_now, result_of, Answered, one_thread, bounds, put_same, made_turn, Targets, Labels, World, State, Turned, Silently, sym}
 use Rattle.sharc_code.specs.Runs.{step_of}
 
 no_step : (o : Option WordEvent) → step_of o ≡ None → o ≡ None
@@ -50,3 +50,7 @@ module _ (code : Code) (s : Shape) (g : Global Machine) (x : Turn) (may : MayTur
       let c : (after_turn bounds (one_thread code s) g x).made x.thread ≡ (made_turn g x.thread words m').made x.thread = ap (λ (y : Global Machine). y.made x.thread) e in
       let d = may.room in
       omega arith
+
+-- a turn of which the source sees nothing
+pub unseen : (x : Targets) (code : Code) (s : Shape) (ls : Labels) (g : Global Machine) (world : World) (tr : Turn) (g' : Global Machine) → after_turn bounds (one_thread code s) g tr ≡ g' → State x code s ls g' world → Turned x code s ls g world tr
+unseen x code s ls g world tr g' e st = (world, subst (λ y. State x code s ls y world) (sym e) st, Silently (record { obj = refl; mutex = refl; passed = λ o p u b q. q; sole = λ u r e. (e, refl) }))

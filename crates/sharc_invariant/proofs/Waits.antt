@@ -1,5 +1,5 @@
 -- Turns that try again, and those of conditions that no thread waits at.
-use Rattle.sharc_invariant.proofs.{Imports.{◌≡◌, ℕ, ℤ, pos, negsuc, ◌+◌, ◌^◌, ◌<◌, true, false, cond, ◌||◌, Some, None, refl, sym, ap, ◌∙◌, subst, ⊎_elim, arith, or_lt, pow_below, fun_ext, bit_or, length, slice_index, slice_set, nat_lt, ◌==◌, THREADS, Load, Swap, Or, Code, Cell, Instr, Shape, Stop, Trap, Fits, state_word, Machine, Local, Asks, instr_at, int, word, goes, fails, stopped, joined, join, woken, is_held, step_of, turn, Turn, Global, MayTurn, after_turn, one_thread, bounds, waits_in, put_same, Targets, Field, field_in, is_pointer, is_mutex, Waiters, Gate, Holds, LessGate, Closed, Label, Labels, Leads, gated, IsWellTyped, World, Shut, Sole, RegisterOf, in_ref, set_win, conc_of, Shows, FitsContent, cell_at, Silently, made_turn, State, View, view_of, FramesStand, GateStands, object_of_cell, number_in, Turned}, Quiet.heap_now, Turns.{asks_turn, local_turn, room_of}, Own.{is_single, runs, rests, top, gate, fine, begun_before, runs_at, closed_less}, Plain.{register_plain, is_shut, going, plain_state, jump_state, stop_state}, Stores.{index_put, cell_store, stored_words, stored_within}, Seen.integer_stored, Cells.cell_there, Held.held_gate, Accesses.{loaded_words, windowed_state, silent_window}}
+use Rattle.sharc_invariant.proofs.{Imports.{◌≡◌, ℕ, ℤ, pos, negsuc, ◌+◌, ◌^◌, ◌<◌, true, false, cond, ◌||◌, refl, sym, ap, ◌∙◌, subst, ⊎_elim, arith, or_lt, pow_below, fun_ext, bit_or, length, slice_index, slice_set, nat_lt, ◌==◌, THREADS, Load, Swap, Or, Code, Cell, Instr, Shape, Stop, Trap, Fits, state_word, Machine, Local, Asks, instr_at, int, word, goes, fails, stopped, joined, join, woken, step_of, turn, Turn, Global, MayTurn, after_turn, one_thread, bounds, waits_in, put_same, Targets, Field, field_in, is_pointer, is_mutex, Waiters, Gate, Holds, LessGate, Closed, Label, Labels, Leads, IsWellTyped, World, Shut, Sole, RegisterOf, in_ref, set_win, conc_of, Shows, FitsContent, cell_at, Silently, made_turn, State, View, view_of, GateStands, object_of_cell, number_in, Turned}, Quiet.heap_now, Turns.{asks_turn, local_turn, room_of, unseen}, Own.{is_single, runs, rests, top, gate, fine, begun_before, runs_at, closed_less}, Plain.{register_plain, is_shut, plain_state, jump_state, stop_state, keeps_own}, Stores.{index_put, cell_store, stored_words, stored_within}, Seen.integer_stored, Cells.cell_there, Held.{held_gate, held_goes}, Accesses.{loaded_words, windowed_state, silent_window}, Frames.frames_same}
 use Rattle.sharc_tree.specs.declared.trap.Trap.TheVariants as traps
 
 module _ (x : Targets) (code : Code) (s : Shape) (ls : Labels) (wt : IsWellTyped x code ls) (fits : Fits code s) (g : Global Machine) (world : World) (st : State x code s ls g world) (tr : Turn)
@@ -24,7 +24,7 @@ module _ (x : Targets) (code : Code) (s : Shape) (ls : Labels) (wt : IsWellTyped
     shut = is_shut x code s ls wt g world st t may.started may.next.runs i is single gt
 
     settled : (m' : Machine) → after ≡ made_turn g tr.thread g.words m' → State x code s ls (made_turn g tr.thread g.words m') world → Turned x code s ls g world tr
-    settled m' e k = (world, subst (λ y. State x code s ls y world) (sym e) k, Silently (record { obj = refl; mutex = refl; passed = λ o p u b q. q; sole = λ u r e. (e, refl) }))
+    settled m' e k = unseen x code s ls g world tr _ e k
 
     stop_at : (why : Stop) → after ≡ made_turn g tr.thread g.words (stopped (g.threads tr.thread) why) → Turned x code s ls g world tr
     stop_at why e = settled (stopped m why) e (stop_state x code s ls wt g world st t may.started may.next.runs i is single why shut (room_of code s g tr may g.words (stopped m why) e))
@@ -33,32 +33,14 @@ module _ (x : Targets) (code : Code) (s : Shape) (ls : Labels) (wt : IsWellTyped
     go_on leads e = settled (goes m) e (jump_state x code s ls wt g world st t may.started may.next.runs i is single (m.at.pc + 1) here gt leads refl gt
         (runs x code s ls wt g world st t may.started may.next.runs i is single).room (top x code s ls wt g world st t may.started may.next.runs i is single) (room_of code s g tr may g.words (goes m) e))
 
-    below_fails : FramesStand x code ls tr.thread view (g.threads tr.thread) here.function → FramesStand x code ls tr.thread view (fails (g.threads tr.thread)) here.function
-    below_fails = elim here.function as (λ f. FramesStand x code ls tr.thread view (g.threads tr.thread) f → FramesStand x code ls tr.thread view (fails (g.threads tr.thread)) f) [ None ↦ λ h. h | Some f ↦ λ h. h ]
-
     pub tries_again : after ≡ made_turn g tr.thread g.words (fails (g.threads tr.thread)) → Turned x code s ls g world tr
     tries_again e =
         let m' = fails m in
         let rest = rests x code s ls wt g world st t may.started may.next.runs i is single in
         let begun = begun_before x code s ls wt g world st t may.started may.next.runs i is single in
         let rn = runs x code s ls wt g world st t may.started may.next.runs i is single in
-        settled m' e (plain_state x code s ls wt g world st t may.started may.next.runs i is single m' (record {
-          number = refl;
-          held = refl;
-          heads = refl;
-          notes = refl;
-          table = (st.threads t).has.table;
-          stage = rest;
-          rests = rest;
-          refs = refl;
-          ints = refl;
-          frames = refl;
-          begun_before = begun;
-          begun = begun;
-          ended_before = going x code s ls wt g world st t may.started may.next.runs i is single;
-          ended = refl;
-        }) refl refl
-        (λ _. runs_at x code s ls st.elements world (heap_now st.heap g.words) (made_turn g t g.words m') t m' rn.names rest (top x code s ls wt g world st t may.started may.next.runs i is single) (below_fails rn.below)
+        settled m' e (plain_state x code s ls wt g world st t may.started may.next.runs i is single m' (keeps_own x code s ls wt g world st t may.started may.next.runs i is single m' refl refl refl refl begun refl) refl refl
+        (λ _. runs_at x code s ls st.elements world (heap_now st.heap g.words) (made_turn g t g.words m') t m' rn.names rest (top x code s ls wt g world st t may.started may.next.runs i is single) (frames_same x code ls t view m m' refl refl refl refl here.function rn.below)
         (subst (GateStands s world t m') (sym gt) shut) rn.room)
         (λ q. absurd (cc)) (room_of code s g tr may g.words m' e))
 
@@ -128,12 +110,9 @@ module _ (x : Targets) (code : Code) (s : Shape) (ls : Labels) (wt : IsWellTyped
         set_win world t Shut,
         windowed_state x code s ls wt fits g world st tr may i is refl m' Shut words here (record { at = refl; refs = refl; ints = refl; frames = refl; own = refl }) done
             (stored_words x code s ls g world st k 0 ms lt (omega arith) (λ n l e. absurd (let h = st.apart.headers o th.live in omega arith))) (stored_within x code s ls g world st k 0 ms lt)
-            tt sim tp (below_goes rn.below) f.2 refl (subst (GateStands s (set_win world t Shut) t m') (sym closed) (put_same world.win t Shut)) refl,
+            tt sim tp (frames_same x code ls t view m m' refl refl refl refl here.function rn.below) f.2 refl (subst (GateStands s (set_win world t Shut) t m') (sym closed) (put_same world.win t Shut)) refl,
         Silently (silent_window x code s ls wt fits g world st tr may i is refl Shut never),
       )
-    where
-      below_goes : FramesStand x code ls tr.thread view (g.threads tr.thread) here.function → FramesStand x code ls tr.thread view (goes (g.threads tr.thread)) here.function
-      below_goes = elim here.function as (λ f. FramesStand x code ls tr.thread view (g.threads tr.thread) f → FramesStand x code ls tr.thread view (goes (g.threads tr.thread)) f) [ None ↦ λ h. h | Some f ↦ λ h. h ]
 
   pub Cond_enter_keeps : (c : Cell) (site : ℕ) → instr_at code (g.threads tr.thread).at.pc ≡ Instr.CondEnter c site → Turned x code s ls g world tr
   Cond_enter_keeps c site is =
@@ -169,19 +148,12 @@ module _ (x : Targets) (code : Code) (s : Shape) (ls : Labels) (wt : IsWellTyped
       (λ e. subst Now (sym (closed_less new (subst (λ y. LessGate y new) e f.2.gate))) (put_same world.win t Shut))
       (λ e.
       let q : GateStands s world t m (Holds e.0) = subst (GateStands s world t m) e.1 gt in
-      ⊎_elim (λ (z : new ≡ Closed). subst Now (sym z) (put_same world.win t Shut)) (λ (z : new ≡ Holds e.0). subst Now (sym z) (put_same world.win t Shut, still_held e.0 q.1))
+      ⊎_elim (λ (z : new ≡ Closed). subst Now (sym z) (put_same world.win t Shut)) (λ (z : new ≡ Holds e.0). subst Now (sym z) (put_same world.win t Shut, held_goes s m e.0 q.1))
       (held_gate e.0 new (subst (λ y. LessGate y new) e.1 f.2.gate)))
       f.0 in (
         set_win world t Shut,
         windowed_state x code s ls wt fits g world st tr may i is refl m' Shut words here (record { at = refl; refs = refl; ints = refl; frames = refl; own = refl }) done
             (stored_words x code s ls g world st k v ms lt small (λ n l e. absurd (let h = st.apart.headers o th.live in omega arith))) (stored_within x code s ls g world st k v ms lt)
-            tt sim tp (below_goes rn.below) f.2 refl gate' refl,
+            tt sim tp (frames_same x code ls t view m m' refl refl refl refl here.function rn.below) f.2 refl gate' refl,
         Silently (silent_window x code s ls wt fits g world st tr may i is refl Shut never),
       )
-    where
-      below_goes : FramesStand x code ls tr.thread view (g.threads tr.thread) here.function → FramesStand x code ls tr.thread view (goes (g.threads tr.thread)) here.function
-      below_goes = elim here.function as (λ f. FramesStand x code ls tr.thread view (g.threads tr.thread) f → FramesStand x code ls tr.thread view (goes (g.threads tr.thread)) f) [ None ↦ λ h. h | Some f ↦ λ h. h ]
-
-      still_held : (c : Cell) → is_held (g.threads tr.thread) (word s (g.threads tr.thread) c) ≡ true → is_held (goes (g.threads tr.thread)) (word s (goes (g.threads tr.thread)) c) ≡ true
-      still_held (Cell.Global a p) h = h
-      still_held _ h = h

@@ -1,5 +1,5 @@
 -- A turn in the middle of an instruction that walks over an object: the world keeps its objects and mutexes.
-use Rattle.sharc_invariant.proofs.{Imports.{◌≡◌, ℕ, suc, ◌+◌, ◌*◌, ◌<◌, ◌≤◌, ◌≢◌, Bool, true, false, cond, List, None, refl, sym, ap, ◌∙◌, subst, arith, fun_ext, length, slice_index, ◌↔◌, ◌==◌, is_some, Contains, THREADS, HeldMutex, object_of, Read, Write, Kind, note_of, epoch_of, Code, Shape, RunsOn, Tries, Stopped, Ended, Stage, Rests, Looks, Clears, Makes, Empties, Lowers, FreeLooks, FreeClears, Uncounts, Links, Names, Hands, Begins, Withdraws, WithdrawsFrom, Leaves, top_word, granules, first_cell, Machine, to, instr_at, may_go, Global, put, put_all, sum_to, Targets, field_in, is_mutex, cells_of, Labels, IsWellTyped, ArgumentOf, In, ObjectState, World, WorldInvariant, Kept, Live, note_number, making_of, head_of, conc_of, Shows, Apart, register_of, staged_of, noted_by, is_ended, has_withdrawn, lang_of, cell_at, made_turn, KeepsOthers, block_for, State, HeapStands, Locks, Runs, SpawnsNow, size_of_run}, Others.OnHold, Quiet.{heap_now, head_same, freed_held, put_self}, Changes.{KeepsPart, KeepsLow, lower, conc_now, held_same, changed_state}}
+use Rattle.sharc_invariant.proofs.{Imports.{◌≡◌, ℕ, ◌+◌, ◌<◌, ◌≤◌, Bool, true, false, cond, List, None, refl, sym, ap, ◌∙◌, arith, fun_ext, slice_index, ◌==◌, THREADS, Read, Write, Kind, note_of, epoch_of, Code, Shape, RunsOn, Tries, Stopped, Ended, Stage, Rests, Looks, Clears, Makes, Empties, Lowers, FreeLooks, FreeClears, Uncounts, Links, Names, Hands, Begins, Withdraws, WithdrawsFrom, Leaves, top_word, granules, first_cell, Machine, to, instr_at, may_go, Global, put, sum_to, Targets, Labels, IsWellTyped, ArgumentOf, In, World, WorldInvariant, Kept, note_number, making_of, conc_of, Shows, register_of, staged_of, noted_by, is_ended, has_withdrawn, lang_of, made_turn, KeepsOthers, State, Runs, SpawnsNow, size_of_run}, Others.OnHold, Quiet.{heap_now, head_same, freed_held, put_self, sizes_kept}, Changes.{KeepsPart, KeepsLow, lower, conc_now, alike_state}}
 
 -- the stages of an instruction that walks over an object, but for that in which the object is dead
 abbrev pub IsWalk : Stage → Type 0
@@ -54,15 +54,10 @@ module _ (x : Targets) (code : Code) (s : Shape) (ls : Labels) (wt : IsWellTyped
 
     own : KeepsPart (g.threads t) (walked pc y)
     own = record {
-      number = refl;
+      sizes = sizes_kept (g.threads t) (walked pc y) (st.threads t).has.table refl refl refl refl;
       held = refl;
       heads = refl;
-      notes = refl;
-      table = (st.threads t).has.table;
       spawns = λ n h. absurd (walk_spawns y walk' n h);
-      refs = refl;
-      ints = refl;
-      frames = refl;
       begun_before = begun;
       begun = begun';
     }
@@ -95,39 +90,5 @@ module _ (x : Targets) (code : Code) (s : Shape) (ls : Labels) (wt : IsWellTyped
         → Runs x code s ls st.elements w' (heap_now st.heap words) (made_turn g t words (walked pc y)) t (walked pc y) → g.made t + 1 ≤ 100000000
         → State x code s ls (made_turn g t words (walked pc y)) w'
     walk_state w' kept eo em others args inv sim epochs runs few =
-        let now = made_turn g t words m' in
-        let A : (ℕ → ObjectState) → Type 0 = λ f. Apart s f st.cells in
-        let R : (ℕ → ObjectState) → Type 0 = λ f. (o : ℕ) → o ≢ 0 → (f o).live ≡ true → ((f o).global ≡ false) × ((f o).ty.target < length x.rows) in
-        let W : (ℕ → ObjectState) → Type 0 = λ f. (o : ℕ) → o ≢ 0 → (f o).live ≡ true → (1 ≤ st.elements o) × (st.cells o ≡ st.elements o * cells_of x (f o).ty.target) in
-        let h = st.heap_stands in
-        let V : (ℕ → ObjectState) → Type 0 = λ f. (o : ℕ) → o ≢ 0 → ((f o).live ≡ true) ↔ (st.heap.state o ≡ Live) in
-        let Q : (ℕ → ObjectState) → Type 0 = λ f. (o : ℕ) → o ≢ 0 → (f o).live ≡ true → 2 + st.cells o ≤ 2 * st.heap.size o in
-        let Z : (ℕ → ObjectState) → Type 0 = λ f. (o : ℕ) → o ≢ 0 → (f o).live ≡ true → st.heap.size o ≡ block_for (st.cells o) in
-        let hs : HeapStands s st.cells now w'.obj (heap_now st.heap words) = record {
-          kept = kept;
-          words = λ i. refl;
-          top = h.top ∙ sym (kw.low top_word (omega arith) (λ e. absurd (omega arith)));
-          within = h.within;
-          heads = λ u b lu lb. h.heads u b lu lb ∙ put_all (λ u (n : Machine). head_of (g.threads u) b ≡ head_of n b) g.threads t m' (sym (head_same m m' b (walk_making y walk' ∙ sym (walk_making m.own.stage walk)) refl)) (λ u _. refl) u;
-          powers = h.powers;
-          live = subst V (sym eo) h.live;
-          room = subst Q (sym eo) h.room;
-          sizes = subst Z (sym eo) h.sizes;
-        } in
-        let held_now : (u : ℕ) → (now.threads u).own.held ≡ (g.threads u).own.held = held_same x code s ls wt g world st t on words m' own (lower kw) in
-        let P : (ℕ → ObjectState) → (ℕ → ℕ → ℕ) → List HeldMutex → ℕ → ℕ → ℕ → Type 0 = λ f mu hd u o j. (f o).live ≡ true → j < st.cells o → is_mutex (field_in x (f o).ty j).holds ≡ true → (mu o j ≡ suc u) ↔ (is_some (object_of hd (cell_at s o j)) ≡ true) in
-        let L : (ℕ → ObjectState) → List HeldMutex → Type 0 = λ f hd. (h : HeldMutex) → Contains hd h
-        → (j : ℕ) × ((h.word ≡ cell_at s h.object j) × ((f h.object).live ≡ true) × (j < st.cells h.object) × (is_mutex (field_in x (f h.object).ty j).holds ≡ true)) in
-        let locks : Locks x s st.cells w' now = record {
-          held = λ u o j lt.
-              let a : P w'.obj w'.mutex (g.threads u).own.held u o j = subst (λ f. P f w'.mutex (g.threads u).own.held u o j) (sym eo) (subst (λ mu. P world.obj mu (g.threads u).own.held u o j) (sym em) (st.locks.held u o j lt)) in
-              subst (λ hd. P w'.obj w'.mutex hd u o j) (sym (held_now u)) a;
-          logged = λ u. subst (L w'.obj) (sym (held_now u)) (subst (λ f. L f (g.threads u).own.held) (sym eo) (st.locks.logged u));
-          few = λ o j u e. st.locks.few o j u (sym (ap (λ (f : ℕ → ℕ → ℕ). f o j) em) ∙ e);
-          only = λ o j ne.
-              let O : (ℕ → ObjectState) → Type 0 = λ f. ((f o).live ≡ true) × (j < st.cells o) × (is_mutex (field_in x (f o).ty j).holds ≡ true) in
-              subst O (sym eo) (st.locks.only o j (λ e. ne (ap (λ (f : ℕ → ℕ → ℕ). f o j) em ∙ e)));
-        } in
-        changed_state x code s ls wt g world st t on words m' own (lower kw) st.cells st.elements (heap_now st.heap words) w' others args (λ u r _. refl) inv
-        sim
-        (subst A (sym eo) st.apart) hs locks (ap (λ (f : ℕ → ObjectState). f 0) eo) refl (subst R (sym eo) st.rows) (subst W (sym eo) st.whole) epochs (λ _. runs) (λ q. absurd (cc)) few
+        alike_state x code s ls wt g world st t on words m' own (lower kw) w' eo em kept (kw.low top_word (omega arith) (λ e. absurd (omega arith)))
+        (λ b. head_same m m' b (walk_making y walk' ∙ sym (walk_making m.own.stage walk)) refl) others args inv sim epochs (λ _. runs) (λ q. absurd (cc)) few
