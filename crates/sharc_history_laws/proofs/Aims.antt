@@ -72,15 +72,13 @@ module _ (s : Shape) (words : List ℕ) (i : Instr) where
   ]
 
   to_stage : (m : Machine) (r site : ℕ) (v : NewView) (stage : NewStage) → v.arguments.first ≡ first_cell s → A (asks_new m r site v (turn_of_stage v.arguments stage))
-  to_stage m r site v NewStage.Begins e = tt
   to_stage m r site v NewStage.Link e = Same (λ v. refl)
   to_stage m r site v (NewStage.Cell cell) e = number_of_block (v.arguments.first + 2 * v.arguments.head + 2 + cell) _ v.arguments (omega arith)
   to_stage m r site v NewStage.Top e = Same (λ v. refl)
   to_stage m r site v (NewStage.Move top moved) e = First (omega arith)
   to_stage m r site v (NewStage.Count header) e = number_of_block (v.arguments.first + 2 * header) _ v.arguments (omega arith)
   to_stage m r site v (NewStage.Length header) e = number_of_block (v.arguments.first + 2 * header + 1) _ v.arguments (omega arith)
-  to_stage m r site v (NewStage.Made header) e = tt
-  to_stage m r site v NewStage.Full e = tt
+  to_stage m r site v _ e = tt
 
   -- those that touch shadow words
   module _ (touches : is_touching i ≡ false → ⊥) where

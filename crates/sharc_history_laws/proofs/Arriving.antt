@@ -13,12 +13,7 @@ not_sole (Sole q false) r u h = let f : Sole r true ≡ Sole q false = h in cc
 
 pub less_uncleared : (k y : Gate) → IsUncleared k → LessGate k y → IsUncleared y
 less_uncleared k (Sole r true) u h = not_sole k r u h
-less_uncleared k (Sole r false) u h = tt
-less_uncleared k Closed u h = tt
-less_uncleared k (Checked w c) u h = tt
-less_uncleared k (Holds c) u h = tt
-less_uncleared k (Loaded c) u h = tt
-less_uncleared k (HoldsLoaded c) u h = tt
+less_uncleared k _ u h = tt
 
 abbrev pub is_clearing : Instr → Bool
 is_clearing (Clear r cells) = true

@@ -1,5 +1,5 @@
 -- Cells behind the last one of an object, and places beside the cells of a global, have the value that they begin with: no turn of typed code writes one.
-use Rattle.sharc_history_laws.proofs.{Imports.{◌≡◌, ◌≢◌, ℕ, ◌+◌, ◌*◌, ◌<◌, ◌≤◌, Bool, true, false, ◌||◌, List, ◌∷◌, Option, Some, None, refl, sym, ap, ◌∙◌, subst, ⊎_elim, arith, or_right, slice_index_or, CellAt, Object, SourceEvent, Resolution, Code, Cell, Instr, Shape, RunLaws, Fits, Machine, instr_at, IsInGlobal, Turn, Global, MayTurn, result_of, said, cell_at, speaks_of, no_global, one_thread, bounds, place_after, table_of, makes, is_cell, is_number, made_by, same_cell, cell_changed, initial_value, Targets, Field, Labels, IsWellTyped, Fine, HasCell, World, IsSmall, OnHold, IsOn, Keeps, CellsAreThere, PointersAreThere, AccessesAreAllowed}, Acts.{given_at, freed_at, About, no_access}, Told.is_access, Consists.{Consists, consists_then}, Contents.{newest_value, value_changed, value_kept}, Holding.cell_eq, Lists.Newest, Locked.NamesIn, OneMode.{place_of, numbers_now}, Rules.{pushed, about_now, decide, number_yes, number_not}, Shared.number_of, Stands.there, Tables.header_of, Telling.{changed_said, unchanged_said}, Valued.{made_zero, cell_named, hold}, Values.{was, cells_stay}}
+use Rattle.sharc_history_laws.proofs.{Imports.{◌≡◌, ◌≢◌, ℕ, ◌+◌, ◌*◌, ◌<◌, ◌≤◌, Bool, true, false, ◌||◌, List, ◌∷◌, Option, Some, None, refl, sym, ap, ◌∙◌, subst, ⊎_elim, arith, or_right, slice_index_or, CellAt, Object, SourceEvent, Resolution, Code, Cell, Instr, Shape, RunLaws, Fits, IsInGlobal, Turn, Global, MayTurn, result_of, said, cell_at, no_global, one_thread, bounds, place_after, makes, is_cell, is_number, made_by, same_cell, cell_changed, initial_value, Targets, Field, Labels, IsWellTyped, HasCell, World, IsSmall, OnHold, Keeps, CellsAreThere, PointersAreThere, AccessesAreAllowed}, TurnAt.{turn_at, told_at, turn_stands}, Acts.{given_at, freed_at, About, no_access}, Told.is_access, Consists.{Consists, consists_then}, Contents.{newest_value, value_changed, value_kept}, Holding.cell_eq, Lists.Newest, Locked.NamesIn, OneMode.{place_of, numbers_now}, Rules.{pushed, about_now, decide, number_yes, number_not}, Shared.number_of, Stands.there, Tables.header_of, Telling.{changed_said, unchanged_said}, Valued.{made_zero, cell_named, hold}, Values.{was, cells_stay}}
 
 abbrev pub IsBehind : Code → World → (ℕ → ℕ) → Object → ℕ → Type 0
 IsBehind code w cells (Object.Made n) cell = (n ≢ 0) × ((w.obj n).live ≡ true) × (cells n ≤ cell)
@@ -10,35 +10,19 @@ AreFirst r code L w cells = (c : CellAt) → IsBehind code w cells c.object c.ce
 
 module _ (cell_laws : CellsAreThere) (pointers : PointersAreThere) (rights : AccessesAreAllowed) (laws : RunLaws) (keeps : Keeps) (x : Targets) (code : Code) (s : Shape) (ls : Labels) (wt : IsWellTyped x code ls) (fits : Fits code s) (few : IsSmall code s)
     (one : Turn) (earlier : List Turn) (h : Consists x code s ls earlier) (may : MayTurn bounds (one_thread code s) (place_after code s earlier) one) where
-  abbrev g : Global Machine
-  g = place_after code s earlier
-
-  abbrev m : Machine
-  m = (place_after code s earlier).threads one.thread
-
-  abbrev i : Instr
-  i = instr_at code ((place_after code s earlier).threads one.thread).at.pc
-
-  abbrev elements : ℕ
-  elements = table_of code s earlier (speaks_of (instr_at code ((place_after code s earlier).threads one.thread).at.pc) ((place_after code s earlier).threads one.thread) (result_of one.event))
-
-  abbrev event : Option SourceEvent
-  event = said code i ((place_after code s earlier).threads one.thread) (result_of one.event) elements
+  open turn_at code s (place_after code s earlier) one use {g, m, i}
+  open told_at code s earlier one use {elements, event}
 
   abbrev then_ : Consists x code s ls (one ∷ earlier)
   then_ = consists_then laws keeps cell_laws pointers x code s ls wt fits few one earlier h may
 
-  on : IsOn (place_after code s earlier) one.thread
-  on = (may.started, may.next.runs)
+  open turn_stands wt h.state one may use {on, fine}
 
   abbrev Tells : Option SourceEvent → Type 0
   Tells = About ((place_after code s earlier).threads one.thread).own.number (header_of i ((place_after code s earlier).threads one.thread).own.stage) (given_at i ((place_after code s earlier).threads one.thread)) (freed_at i ((place_after code s earlier).threads one.thread))
 
   tells : Tells event
   tells = about_now cell_laws pointers rights laws keeps x code s ls wt fits few one earlier h may
-
-  fine : (j : Instr) → i ≡ j → Fine x code ls ((place_after code s earlier).threads one.thread).at.pc (ls.at ((place_after code s earlier).threads one.thread).at.pc) j
-  fine j e = subst (Fine x code ls m.at.pc (ls.at m.at.pc)) e (wt.fine m.at.pc)
 
   -- ---- a cell that the instruction names
   module _ (k : Cell) (f : Field) (rests : OnHold ((place_after code s earlier).threads one.thread).own.stage) (has : HasCell x code (ls.at ((place_after code s earlier).threads one.thread).at.pc) k f) where

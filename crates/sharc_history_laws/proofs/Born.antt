@@ -1,5 +1,5 @@
 -- The cells of an object that a turn makes are 0, and its type is the one that its New's place says.
-use Rattle.sharc_history_laws.proofs.{Imports.{◌≡◌, ℕ, ◌+◌, ◌*◌, ◌/◌, ◌^◌, ◌<◌, ◌≢◌, min, max, Bool, true, false, nat_lt, List, ◌∷◌, Option, Some, None, if◌then◌else◌, refl, sym, ap, ◌∙◌, subst, arith, get_or-set_other, slice_index, WordOp, WordStep, WordEvent, word_after, NewView, word_number, turn_of_stage, NewArguments, NewStage, Code, Instr, Shape, Stage, Makes, RunLaws, Fits, first_cell, Machine, instr_at, act, asks_new, elements_of, int, ref, new, all_cells, turn, after, asked_by, Turn, Global, MayTurn, after_turn, state_now, result_of, words_now, one_thread, bounds, place_after, Targets, StaticType, cells_of, Entry, Empty, Refers, Unknown, Label, Labels, LessEntry, Leads, fill, IsWellTyped, Fine, ObjectState, objects_behind, made_behind, new_behind, owned, type_held, entry_type, IsSmall, StageStands, BuildsAt, Keeps, CellsAreThere, PointersAreThere}, Consists.{Consists, consists_then, objects_then, made_word}, Stands.granules_low, Tables.{header_at, header_in, header_of, elements_in_stage}, Carried.put_same}
+use Rattle.sharc_history_laws.proofs.{Imports.{◌≡◌, ℕ, ◌+◌, ◌*◌, ◌/◌, ◌^◌, ◌<◌, ◌≢◌, min, max, Bool, true, false, nat_lt, List, ◌∷◌, Option, Some, None, if◌then◌else◌, refl, sym, ap, ◌∙◌, subst, arith, get_or-set_other, slice_index, WordOp, WordStep, WordEvent, word_after, NewView, word_number, turn_of_stage, NewArguments, NewStage, Code, Instr, Shape, Stage, Makes, RunLaws, Fits, first_cell, Machine, act, asks_new, elements_of, int, ref, new, all_cells, turn, after, asked_by, Turn, MayTurn, state_now, words_now, one_thread, bounds, place_after, Targets, StaticType, cells_of, Entry, Empty, Refers, Unknown, Label, Labels, LessEntry, Leads, fill, IsWellTyped, Fine, ObjectState, objects_behind, made_behind, new_behind, owned, type_held, entry_type, IsSmall, StageStands, BuildsAt, Keeps, CellsAreThere, PointersAreThere}, TurnAt.turn_at, Consists.{Consists, consists_then, objects_then, made_word}, Stands.granules_low, Tables.{header_at, header_in, header_of, elements_in_stage}, Carried.put_same}
 use Rattle.sharc_code.specs.Runs.{step_of}
 use Rattle.sharc_invariant.specs.Words.{cell_at}
 
@@ -26,26 +26,10 @@ filled_target ls l pc r ty same known m' leads e =
 -- ---- one turn
 module _ (laws : RunLaws) (keeps : Keeps) (cells : CellsAreThere) (pointers : PointersAreThere) (x : Targets) (code : Code) (s : Shape) (ls : Labels) (wt : IsWellTyped x code ls) (fits : Fits code s) (few : IsSmall code s)
     (one : Turn) (earlier : List Turn) (h : Consists x code s ls earlier) (may : MayTurn bounds (one_thread code s) (place_after code s earlier) one) where
-  abbrev g : Global Machine
-  g = place_after code s earlier
-
-  abbrev t : ℕ
-  t = one.thread
-
-  abbrev m : Machine
-  m = (place_after code s earlier).threads one.thread
-
-  abbrev i : Instr
-  i = instr_at code ((place_after code s earlier).threads one.thread).at.pc
-
-  abbrev found : ℕ
-  found = result_of one.event
+  open turn_at code s (place_after code s earlier) one use {g, t, m, i, found, m'}
 
   abbrev then_ : Consists x code s ls (one ∷ earlier)
   then_ = consists_then laws keeps cells pointers x code s ls wt fits few one earlier h may
-
-  abbrev m' : Machine
-  m' = (after_turn bounds (one_thread code s) (place_after code s earlier) one).threads one.thread
 
   m_is : m' ≡ after (turn code s ((place_after code s earlier).threads one.thread)) found
   m_is = put_same g.threads t (state_now (one_thread code s) g one)

@@ -1,5 +1,5 @@
 -- The check that a report may name is its cause, and there is one.
-use Rattle.sharc_history_laws.proofs.{Imports.{◌≡◌, ℕ, zero, suc, ◌+◌, ◌*◌, ◌/◌, ◌<◌, ◌≤◌, ◌≢◌, ◌⊎◌, inl, inr, Bool, true, false, ◌&&◌, List, [], ◌∷◌, ◌++◌, Option, Some, None, if◌then◌else◌, refl, sym, ap, ◌∙◌, subst, ⊎_elim, arith, cases_eq, cases_lt, or_right, nat_tests, slice_index, nat_lt, ◌==◌, CellAt, THREADS, Kind, Read, Write, Note, note_of, site_at, conflicts_in, epoch_of, stands, HasOther, Conflicts, Code, Cell, Shape, ConflictAt, Conflict, granules, first_shadow, shadow_word, Machine, instr_at, wrote, stopped, check_of, Turn, Global, cell_at, place_after, granule_in, CheckOf, Labels, touch_at, object_of_cell, number_in, Targets, noted_site, Stood, StoppedThere, IsNamed, OfWrite, OfRead, OfStop, OfFirst, NothingBetween, IsCause, HasNamed, site_of_check, IsCheck, ChecksAreFollowed, same_is, yes, some_or}, Checks.{CheckCell, check_cell, cell_of_access, checked_here, adds, live_then, inside_then}, Conflicting.accesses_show, Doing.IsCheckAt, Followed.of_check, Noting.notes_told, Remaining.{word_at, site_now, Reason, Writes, Written, stop_is}, Shadows.at_low, Spots.{Spot, SameSpot, same_spot, object_is}, Walking.along, Wholes.{TheLaws, Typed, RunOf, Whole, whole, halting, fresh_of}}
+use Rattle.sharc_history_laws.proofs.{Imports.{◌≡◌, ℕ, zero, suc, ◌+◌, ◌*◌, ◌/◌, ◌<◌, ◌≢◌, ◌⊎◌, inl, inr, Bool, true, false, ◌&&◌, List, [], ◌∷◌, ◌++◌, Option, Some, None, if◌then◌else◌, refl, sym, ap, ◌∙◌, subst, ⊎_elim, arith, cases_eq, or_right, nat_tests, slice_index, nat_lt, ◌==◌, CellAt, THREADS, Kind, Read, Write, Note, note_of, site_at, conflicts_in, epoch_of, stands, HasOther, Conflicts, Code, Cell, Shape, ConflictAt, Conflict, granules, first_shadow, shadow_word, Machine, instr_at, wrote, stopped, check_of, Turn, Global, cell_at, place_after, granule_in, CheckOf, Labels, touch_at, object_of_cell, number_in, Targets, noted_site, Stood, StoppedThere, IsNamed, OfWrite, OfRead, OfStop, OfFirst, NothingBetween, IsCause, HasNamed, site_of_check, IsCheck, ChecksAreFollowed, same_is, yes, some_or}, TurnAt.turn_at, Checks.{CheckCell, check_cell, cell_of_access, checked_here, adds, live_then, inside_then}, Conflicting.accesses_show, Doing.IsCheckAt, Followed.of_check, Noting.notes_told, Remaining.{word_at, site_now, Reason, Writes, Written, stop_is}, Shadows.at_low, Spots.{Spot, SameSpot, same_spot, object_is}, Walking.along, Wholes.{TheLaws, Typed, RunOf, Whole, whole, halting, fresh_of}, Finds.same_object}
 use Rattle.sharc_heap.specs.ShadowWord.{is_of}
 use Rattle.sharc_history_laws.proofs.Remaining as remaining
 
@@ -29,25 +29,12 @@ module _ (laws : TheLaws) (x : Targets) (code : Code) (s : Shape) (ls : Labels) 
   object_one : (run : List Turn) (is : RunOf code s run) (p q j k : ℕ) → ((whole laws x code s ls typed run is).consists.world.obj p).live ≡ true → ((whole laws x code s ls typed run is).consists.world.obj q).live ≡ true
       → 2 * j < (whole laws x code s ls typed run is).consists.state.cells p → 2 * k < (whole laws x code s ls typed run is).consists.state.cells q → p + 1 + j ≡ q + 1 + k → p ≡ q
   object_one run is p q j k lp lq a b e =
-      let st = (whole laws x code s ls typed run is).consists.state in
-      ⊎_elim
-      (λ (same : p ≡ q). same)
-      (λ (ne : p ≡ q → ⊥). ⊎_elim
-      (λ (lt : p < q). let z = st.apart.apart p q lp lq lt in absurd (omega arith))
-      (λ (ge : q ≤ p). let z = st.apart.apart q p lq lp (less q p ge (λ e. ne (sym e))) in absurd (omega arith))
-      (cases_lt p q))
-      (cases_eq p q)
-    where
-      less : (a b : ℕ) → a ≤ b → (a ≡ b → ⊥) → a < b
-      less a b le ne = grind (arith, nat_tests)
+      let h = (whole laws x code s ls typed run is).consists in
+      same_object laws.cells x code s ls typed.wt typed.fits (place_after code s run) h.world h.state p q (2 * j) (2 * k) lp lq a b (omega (arith, e))
 
   -- ---- a check that was refused
   module _ (report : Turn) (before : List Turn) (run : RunOf code s (report ∷ before)) (c : ConflictAt) (stop : ((place_after code s (report ∷ before)).threads report.thread).own.stop ≡ Some (Conflict c)) where
-    abbrev g : Global Machine
-    g = place_after code s before
-
-    abbrev m : Machine
-    m = (place_after code s before).threads report.thread
+    open turn_at code s (place_after code s before) report use {g, m}
 
     abbrev w : Whole x code s ls before
     w = whole laws x code s ls typed before run.0

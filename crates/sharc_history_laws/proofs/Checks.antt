@@ -1,5 +1,5 @@
 -- A turn that is a check: its cell, the bit that it sets, and the access that it is of.
-use Rattle.sharc_history_laws.proofs.{Imports.{◌≡◌, ℕ, ◌+◌, ◌*◌, ◌<◌, Bool, true, false, List, ◌∷◌, Some, None, refl, sym, ap, ◌∙◌, subst, Kind, Read, Write, AddsAccess, is_write, Code, Cell, Instr, Shape, granules, granule_at, granule_of, Machine, instr_at, place, check_of, Turn, Global, result_of, after_turn, cell_at, one_thread, bounds, place_after, Access, CheckOf, Label, Labels, IsOn, touch_at, State, StageStands, OnHold, Fine, HasCell, Targets, Field, World, IsFollowed, ChecksAreFollowed, access_to, access_checked}, Consists.Consists, Doing.granule_low, Followed.{IsCheckBy, OfRead, OfWrite, check_by, accessed_is}, Remaining.{word_at, check_bit}, Single.{single, rests_hold}, Spots.{IsChecked, is_checked}, Staying.{StillThere, kept_calm}, Tables.header_of, Acts.{given_at, freed_at}, Wholes.{TheLaws, Typed, RunOf, Whole, whole, whole_next, fresh_of}}
+use Rattle.sharc_history_laws.proofs.{Imports.{◌≡◌, ℕ, ◌+◌, ◌*◌, ◌<◌, Bool, true, false, List, ◌∷◌, Some, None, refl, sym, ap, ◌∙◌, subst, Kind, Read, Write, AddsAccess, is_write, Code, Cell, Instr, Shape, granules, granule_at, granule_of, Machine, instr_at, place, check_of, Turn, Global, result_of, after_turn, cell_at, one_thread, bounds, place_after, Access, CheckOf, Label, Labels, IsOn, touch_at, State, StageStands, OnHold, Fine, HasCell, Targets, Field, World, IsFollowed, ChecksAreFollowed, access_to, access_checked}, TurnAt.turn_at, Consists.Consists, Doing.granule_low, Followed.{IsCheckBy, OfRead, OfWrite, check_by, accessed_is}, Remaining.{word_at, check_bit}, Single.{single, rests_hold}, Spots.{IsChecked, is_checked}, Staying.{StillThere, kept_calm}, Tables.header_of, Acts.{given_at, freed_at}, Wholes.{TheLaws, Typed, RunOf, Whole, whole, whole_next, fresh_of}}
 use Rattle.sharc_history_laws.specs.Followed.{Accesses}
 
 -- the cell of a check
@@ -46,17 +46,7 @@ is_single Read c site = refl
 is_single Write c site = refl
 
 module _ (laws : TheLaws) (x : Targets) (code : Code) (s : Shape) (ls : Labels) (typed : Typed x code s ls) (one : Turn) (earlier : List Turn) (kind : Kind) (p : ℕ) (k : CheckCell code s (place_after code s earlier) one kind p) where
-  abbrev g : Global Machine
-  g = place_after code s earlier
-
-  abbrev t : ℕ
-  t = one.thread
-
-  abbrev m : Machine
-  m = (place_after code s earlier).threads one.thread
-
-  abbrev i : Instr
-  i = instr_at code ((place_after code s earlier).threads one.thread).at.pc
+  open turn_at code s (place_after code s earlier) one use {g, t, m, i}
 
   abbrev here : Label
   here = ls.at ((place_after code s earlier).threads one.thread).at.pc

@@ -1,5 +1,5 @@
 -- No bit stands in the granules of an object that is given or freed.
-use Rattle.sharc_history_laws.proofs.{Imports.{◌≡◌, ℕ, zero, suc, ◌+◌, ◌*◌, ◌/◌, ◌^◌, ◌<◌, ◌≤◌, ◌≢◌, Bool, true, false, ◌&&◌, not, min, None, if◌then◌else◌, refl, sym, ap, ◌∙◌, subst, ⊎_elim, arith, cases_eq, cases_lt, nat_tests, slice_index, nat_lt, ◌==◌, Kind, Read, Write, ShadowLaws, stands, Code, Cell, Instr, Shape, Stage, Rests, Looks, Clears, Empties, Lowers, FreeLooks, FreeClears, Uncounts, Links, Fits, granules, first_shadow, granule_at, granule_of, length_word, Machine, instr_at, act, ref, place, at_stage, looks, clear, rests, free, free_looks, freed, empties, emptied, fields, layout_at, data_granules, data_granule, largest, step_of, wrote, TurnsComeOut, check_of, begun, turn, after, may_go, asked_by, Turn, Global, MayTurn, after_turn, state_now, result_of, one_thread, bounds, WordOp, Touch, Untouched, CheckOf, ClearOf, WithdrawOf, cleared_by, freed_by, touch_of, Closing, Gate, Sole, Entry, Refers, Label, Labels, Leads, LessGate, LessEntry, gated, empty, CellsAreThere, PointersAreThere, StateStands, IsOn, touch_at, State, Runs, StageStands, GateStands, OnClear, OnFree, OnHold, granules_freed, object_of_cell, number_in, view_of, IsWellTyped, Fine, HasCell, Targets, StaticType, Field, cells_of, length_at, World, IsSole, not_below, yes}, Onward.{IsUncleared, walks}, Arriving.{less_uncleared, is_clearing, Arrives, arriving}, Consists.found_is, Doing.{IsCheckAt, Does, Plain, Passes, Refuses, IsNoCheck, does}, Remaining.{word_at, Remains}, Shadows.{IsNext, WordBy, word_by, at_low, in_cells}, Shared.closing_own, Single.{single, rests_hold}, Stands.{there, gate, granules_low, reads_ref, sole_ref, live_ref, target_ref}, Tables.length_kept, Writes.writes, Carried.{put_same, put_other}}
+use Rattle.sharc_history_laws.proofs.{Imports.{◌≡◌, ℕ, zero, suc, ◌+◌, ◌*◌, ◌/◌, ◌^◌, ◌<◌, ◌≤◌, ◌≢◌, Bool, true, false, ◌&&◌, not, min, None, if◌then◌else◌, refl, sym, ap, ◌∙◌, subst, ⊎_elim, arith, cases_eq, nat_tests, slice_index, nat_lt, ◌==◌, Kind, Read, Write, ShadowLaws, stands, Code, Cell, Instr, Shape, Stage, Rests, Looks, Clears, Empties, Lowers, FreeLooks, FreeClears, Uncounts, Links, Fits, granules, first_shadow, granule_at, granule_of, length_word, Machine, instr_at, act, ref, place, at_stage, looks, clear, rests, free, free_looks, freed, empties, emptied, fields, layout_at, data_granules, data_granule, largest, step_of, wrote, TurnsComeOut, check_of, begun, turn, after, may_go, asked_by, Turn, Global, MayTurn, after_turn, state_now, result_of, one_thread, bounds, WordOp, Touch, Untouched, CheckOf, ClearOf, WithdrawOf, cleared_by, freed_by, touch_of, Closing, Gate, Sole, Entry, Refers, Label, Labels, Leads, LessGate, LessEntry, gated, empty, CellsAreThere, PointersAreThere, StateStands, IsOn, touch_at, State, Runs, StageStands, GateStands, OnClear, OnFree, OnHold, granules_freed, object_of_cell, number_in, view_of, IsWellTyped, Fine, HasCell, Targets, StaticType, Field, cells_of, length_at, World, IsSole, not_below, yes}, TurnAt.turn_at, Onward.{IsUncleared, walks}, Arriving.{less_uncleared, is_clearing, Arrives, arriving}, Consists.found_is, Doing.{IsCheckAt, Does, Plain, Passes, Refuses, IsNoCheck, does}, Remaining.{word_at, Remains}, Shadows.{IsNext, WordBy, word_by, at_low, in_cells}, Shared.closing_own, Single.{single, rests_hold}, Stands.{there, gate, granules_low, reads_ref, sole_ref, live_ref, target_ref}, Tables.length_kept, Writes.writes, Carried.{put_same, put_other}, Finds.same_object}
 
 -- ---- what is said of a thread that clears an object or gives it
 -- no bit stands in the first granules of an object
@@ -61,23 +61,7 @@ same_target l r old new a b e h f = sym ((subst (LessEntry l r (Refers a)) f (su
 -- ---- one turn
 module _ (outs : TurnsComeOut) (laws : ShadowLaws) (state_law : StateStands) (cell_laws : CellsAreThere) (pointer_laws : PointersAreThere) (x : Targets) (code : Code) (s : Shape) (ls : Labels) (wt : IsWellTyped x code ls) (fits : Fits code s) (g : Global Machine) (world : World)
     (st : State x code s ls g world) (tr : Turn) (may : MayTurn bounds (one_thread code s) g tr) (fresh : (g.threads tr.thread).own.stop ≡ None) (remains : Remains s g) where
-  abbrev t : ℕ
-  t = tr.thread
-
-  abbrev m : Machine
-  m = g.threads tr.thread
-
-  abbrev i : Instr
-  i = instr_at code (g.threads tr.thread).at.pc
-
-  abbrev found : ℕ
-  found = result_of tr.event
-
-  abbrev g' : Global Machine
-  g' = after_turn bounds (one_thread code s) g tr
-
-  abbrev m' : Machine
-  m' = (after_turn bounds (one_thread code s) g tr).threads tr.thread
+  open turn_at code s g tr use {t, m, i, found, g', m'}
 
   abbrev touch : Touch
   touch = touch_at code s g tr
@@ -130,16 +114,7 @@ module _ (outs : TurnsComeOut) (laws : ShadowLaws) (state_law : StateStands) (ce
 
     -- a check of one of its granules is its thread's
     pub object_one : (p q j k : ℕ) → (world.obj p).live ≡ true → (world.obj q).live ≡ true → 2 * j < st.cells p → 2 * k < st.cells q → p + 1 + j ≡ q + 1 + k → p ≡ q
-    object_one p q j k lp lq a b e = ⊎_elim
-        (λ (same : p ≡ q). same)
-        (λ (ne : p ≡ q → ⊥). ⊎_elim
-        (λ (lt : p < q). let z = st.apart.apart p q lp lq lt in absurd (omega arith))
-        (λ (ge : q ≤ p). let z = st.apart.apart q p lq lp (less q p ge (λ e. ne (sym e))) in absurd (omega arith))
-        (cases_lt p q))
-        (cases_eq p q)
-      where
-        less : (a b : ℕ) → a ≤ b → (a ≡ b → ⊥) → a < b
-        less a b le ne = grind (arith, nat_tests)
+    object_one p q j k lp lq a b e = same_object cell_laws x code s ls wt fits g world st p q (2 * j) (2 * k) lp lq a b (omega (arith, e))
 
     by_cell : (c : Cell) → OnHold (g.threads tr.thread).own.stage → object_of_cell (g.threads tr.thread) c ≡ o → tr.thread ≡ u
     by_cell (Cell.Global h p) hold e = absurd (some (sym e))

@@ -1,5 +1,5 @@
 -- A refused check of an access comes from checks that others made, in a run of typed code.
-use Rattle.sharc_history_laws.proofs.{Imports.{◌≡◌, ℕ, ◌+◌, ◌<◌, inl, inr, Bool, true, false, List, [], ◌∷◌, Option, Some, None, is_some, nat_lt, if◌then◌else◌, refl, sym, ap, ◌∙◌, subst, ⊎_elim, arith, cases_eq, nat_tests, slice_index, ◌==◌, Kind, Read, Write, epoch_of, stands, bits_of, WordOp, Code, Cell, Instr, Shape, ConflictAt, Stage, Clears, FreeClears, WithdrawsFrom, Stop, Conflict, Fits, granules, granule_at, granule_of, shadow_word, Machine, instr_at, act, place, word, ref, stopped, step_of, opening_words, TurnsComeOut, MayStop, check_of, turn, after, may_go, asked_by, Turn, Global, IsRun, MayTurn, after_turn, put, state_now, result_of, opening_of, one_thread, bounds, place_after, Targets, Labels, IsWellTyped, IsSmall, first_place, Touch, Untouched, CheckOf, ClearOf, WithdrawOf, Marks, cleared_by, freed_by, withdrawn_by, touch_of, with_check, without_thread, marks_by, marks_after, RunsConflict, CheckStands, touch_at, RunsBits, site_of_check, Past, MadeSince, Opposes, ShowsConflict, yes}, Consists.found_is, Outcomes.reports, Sole.{Halting, stop_none}, Doing.granule_low, Carried.{put_same, put_other}}
+use Rattle.sharc_history_laws.proofs.{Imports.{◌≡◌, ℕ, ◌+◌, ◌<◌, inl, inr, Bool, true, false, List, [], ◌∷◌, Option, Some, None, is_some, nat_lt, if◌then◌else◌, refl, sym, ap, ◌∙◌, subst, ⊎_elim, arith, cases_eq, nat_tests, slice_index, ◌==◌, Kind, Read, Write, epoch_of, stands, bits_of, WordOp, Code, Cell, Instr, Shape, ConflictAt, Stage, Clears, FreeClears, WithdrawsFrom, Stop, Conflict, Fits, granules, granule_at, granule_of, shadow_word, Machine, instr_at, act, place, word, ref, step_of, opening_words, TurnsComeOut, MayStop, check_of, turn, after, may_go, asked_by, Turn, IsRun, MayTurn, after_turn, put, state_now, result_of, opening_of, one_thread, bounds, place_after, Targets, Labels, IsWellTyped, IsSmall, first_place, Touch, Untouched, CheckOf, ClearOf, WithdrawOf, Marks, cleared_by, freed_by, withdrawn_by, touch_of, with_check, without_thread, marks_by, marks_after, RunsConflict, CheckStands, touch_at, RunsBits, site_of_check, Past, MadeSince, Opposes, ShowsConflict, yes}, TurnAt.turn_at, Consists.found_is, Outcomes.reports, Sole.{Halting, stop_none}, Doing.granule_low, Carried.{put_same, put_other}}
 
 -- ---- a turn that is a check has a site
 module _ (s : Shape) (kind : Kind) (p : ℕ) (ok : Bool) where
@@ -144,14 +144,7 @@ module _ (outs : TurnsComeOut) (conflicts : RunsConflict) (bits : RunsBits) (x :
   RunOf run = IsRun bounds (one_thread code s) (opening_of bounds (one_thread code s) (opening_words code s)) run
 
   module _ (one : Turn) (earlier : List Turn) (run : RunOf (one ∷ earlier)) (c : ConflictAt) (is : (after (turn code s ((place_after code s earlier).threads one.thread)) (result_of one.event)).own.stop ≡ Some (Conflict c)) where
-    abbrev g : Global Machine
-    g = place_after code s earlier
-
-    abbrev m : Machine
-    m = (place_after code s earlier).threads one.thread
-
-    abbrev i : Instr
-    i = instr_at code ((place_after code s earlier).threads one.thread).at.pc
+    open turn_at code s (place_after code s earlier) one use {g, m, i, m'}
 
     may : MayTurn bounds (one_thread code s) (place_after code s earlier) one
     may = run.1
@@ -161,9 +154,6 @@ module _ (outs : TurnsComeOut) (conflicts : RunsConflict) (bits : RunsBits) (x :
 
     stopped_now : may_go ((after_turn bounds (one_thread code s) (place_after code s earlier) one).threads one.thread).at.state ≡ false
     stopped_now = (all (one ∷ earlier) run).halts one.thread (ap (λ (y : Machine). is_some y.own.stop) (put_same g.threads one.thread (state_now (one_thread code s) g one)) ∙ ap (λ (o : Option Stop). is_some o) is)
-
-    abbrev m' : Machine
-    m' = (after_turn bounds (one_thread code s) (place_after code s earlier) one).threads one.thread
 
     -- the check, whose kind is this
     shows_of : (kind : Kind) (cell : Cell) → touch_of s i m (result_of one.event) m' ≡ CheckOf kind (granule_at s (granule_of (place m cell))) (may_go m'.at.state) → site_of_check i ≡ Some c.site

@@ -1,5 +1,5 @@
 -- The path of each thread of each run of typed code is consistent.
-use Rattle.sharc_history_laws.proofs.{Imports.{◌≡◌, ℕ, zero, suc, ◌+◌, ◌*◌, ◌^◌, ◌<◌, ◌≤◌, ◌≢◌, inl, Bool, true, false, cond, length, List, [], ◌∷◌, Option, Some, None, if◌then◌else◌, refl, sym, ap, ◌∙◌, subst, ⊎_elim, arith, eqb-true, cases_eq, le-leb, lt-leb, not_false, length-map, slice_index, nat_lt, ◌==◌, WordOp, WordStep, WordEvent, word_after, words_after_step, SourceEvent, NewView, word_number, turn_of_stage, NewArguments, NewStage, Code, Instr, Shape, Stage, Rests, Makes, Links, RunLaws, Fits, granules, first_cell, Machine, instr_at, ref, act, asks_new, elements_of, int, new_state, opening_words, begun, machine_after, turn, asked_by, may_go, Said, Turn, Global, IsRun, MayTurn, at, after_turn, put, words_now, state_now, result_of, turns_of, with_told, opening_of, Answered, one_thread, bounds, place_after, Erase, speaks_of, elements_in, Elements, elements_told, said_now, Has, IsConsistent, IsConsistentTurn, founds_of, told_in, table_of, elements_before, Targets, Gate, Closed, Checked, Holds, Loaded, HoldsLoaded, Sole, Labels, IsWellTyped, Fine, RegisterOf, In, CellOf, Base, IsLoaded, World, ObjectState, WinOk, in_ref, base_of, has_returned, length_at, lang_of, is_freed, Built, Live, first_world, Effect, changes_objects, objects_now, State, IsSmall, StageStands, GateStands, StopStands, BuildsAt, OnHold, base_of_cell, number_in, IsOn, WasLoaded, Keeps, CodeBegins, CellsAreThere, PointersAreThere, ne_eq, eq_refl, is_below, set_here}, Gates.{LoadedStands, loaded_still, links_still, takes_loaded, unloaded}, Single.{single, rests_hold}, Stands.{live_slot, granules_low, gate, sole_ref, live_ref}, Tables.{header_at, header_in, header_of, elements_in_stage, told_other, told_made, was_live, length_kept}, Writes.writes, Finds.finds, Carried.{put_other, put_same}}
+use Rattle.sharc_history_laws.proofs.{Imports.{◌≡◌, ℕ, zero, suc, ◌+◌, ◌*◌, ◌^◌, ◌<◌, ◌≤◌, ◌≢◌, inl, Bool, true, false, cond, length, List, [], ◌∷◌, Option, Some, None, if◌then◌else◌, refl, sym, ap, ◌∙◌, subst, ⊎_elim, arith, eqb-true, cases_eq, le-leb, lt-leb, not_false, length-map, slice_index, nat_lt, ◌==◌, WordOp, WordStep, WordEvent, word_after, words_after_step, SourceEvent, NewView, word_number, turn_of_stage, NewArguments, NewStage, Code, Instr, Shape, Stage, Rests, Makes, Links, RunLaws, Fits, granules, first_cell, Machine, instr_at, ref, act, asks_new, elements_of, int, new_state, opening_words, begun, machine_after, turn, asked_by, may_go, Said, Turn, Global, IsRun, MayTurn, at, after_turn, put, words_now, state_now, result_of, turns_of, with_told, opening_of, Answered, one_thread, bounds, place_after, Erase, speaks_of, elements_in, Elements, elements_told, said_now, Has, IsConsistent, IsConsistentTurn, founds_of, told_in, table_of, elements_before, Targets, Gate, Loaded, HoldsLoaded, Labels, IsWellTyped, Fine, RegisterOf, In, CellOf, Base, IsLoaded, World, ObjectState, WinOk, in_ref, base_of, has_returned, length_at, lang_of, is_freed, Built, Live, first_world, Effect, changes_objects, objects_now, State, IsSmall, StageStands, GateStands, StopStands, BuildsAt, OnHold, base_of_cell, number_in, IsOn, WasLoaded, Keeps, CodeBegins, CellsAreThere, PointersAreThere, ne_eq, eq_refl, is_below, set_here}, TurnAt.{turn_at, told_at}, Gates.{LoadedStands, loaded_still, links_still, takes_loaded, unloaded}, Single.{single, rests_hold}, Stands.{live_slot, granules_low, gate, sole_ref, live_ref}, Tables.{header_at, header_in, header_of, elements_in_stage, told_other, told_made, was_live, length_kept}, Writes.writes, Finds.finds, Carried.{put_other, put_same}}
 use Rattle.sharc_code.specs.Runs.{step_of, state_after}
 
 -- ---- changed functions
@@ -128,18 +128,12 @@ module _ (x : Targets) (code : Code) (s : Shape) (ls : Labels) (wt : IsWellTyped
     window_of : (gate : Gate) → GateStands s world u (g.threads u) gate → WasLoaded gate → (b : Base) × (j : ℕ) × (world.win u ≡ IsLoaded b j (g.threads u).pending)
     window_of (Loaded c) h was = (base_of_cell (g.threads u) c, number_in (g.threads u) c, h)
     window_of (HoldsLoaded c) h was = (base_of_cell (g.threads u) c, number_in (g.threads u) c, h.0)
-    window_of Closed h was = absurd was
-    window_of (Checked write c) h was = absurd was
-    window_of (Holds c) h was = absurd was
-    window_of (Sole r cleared) h was = absurd was
+    window_of _ h was = absurd was
 
     stop_window : (gate : Gate) → StopStands world u (g.threads u) gate → WasLoaded gate → (b : Base) × (j : ℕ) × (world.win u ≡ IsLoaded b j (g.threads u).pending)
     stop_window (Loaded c) h was = (base_of_cell (g.threads u) c, number_in (g.threads u) c, h)
     stop_window (HoldsLoaded c) h was = (base_of_cell (g.threads u) c, number_in (g.threads u) c, h)
-    stop_window Closed h was = absurd was
-    stop_window (Checked write c) h was = absurd was
-    stop_window (Holds c) h was = absurd was
-    stop_window (Sole r cleared) h was = absurd was
+    stop_window _ h was = absurd was
 
     going_window : (on : IsOn g u) → WasLoaded (ls.at (g.threads u).at.pc).gate → (b : Base) × (j : ℕ) × (world.win u ≡ IsLoaded b j (g.threads u).pending)
     going_window on was =
@@ -207,26 +201,8 @@ module _ (x : Targets) (code : Code) (s : Shape) (ls : Labels) (wt : IsWellTyped
 -- ---- one turn
 module _ (laws : RunLaws) (keeps : Keeps) (cells : CellsAreThere) (pointers : PointersAreThere) (x : Targets) (code : Code) (s : Shape) (ls : Labels) (wt : IsWellTyped x code ls) (fits : Fits code s) (few : IsSmall code s)
     (one : Turn) (earlier : List Turn) (h : Consists x code s ls earlier) (may : MayTurn bounds (one_thread code s) (place_after code s earlier) one) where
-  abbrev g : Global Machine
-  g = place_after code s earlier
-
-  abbrev t : ℕ
-  t = one.thread
-
-  abbrev m : Machine
-  m = (place_after code s earlier).threads one.thread
-
-  abbrev found : ℕ
-  found = result_of one.event
-
-  abbrev T : Elements
-  T = table_of code s earlier
-
-  abbrev T' : Elements
-  T' = table_of code s (one ∷ earlier)
-
-  abbrev i : Instr
-  i = instr_at code ((place_after code s earlier).threads one.thread).at.pc
+  open turn_at code s (place_after code s earlier) one use {g, t, m, i, found}
+  open told_at code s earlier one use {T, T'}
 
   on : IsOn (place_after code s earlier) one.thread
   on = (may.started, may.next.runs)

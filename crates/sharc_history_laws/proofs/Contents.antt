@@ -1,5 +1,5 @@
 -- What cells hold by the events of a run, and as words.
-use Rattle.sharc_history_laws.proofs.{Imports.{◌≡◌, ℕ, ℤ, pos, negsuc, suc, ◌+◌, ◌-◌, ◌*◌, ◌^◌, ◌<◌, ◌⊎◌, Bool, true, false, cond, ◌∷◌, reverse, Some, sym, ap, ◌∙◌, subst, arith, ltb-true, nat_tests, slice_index, find, nat_lt, CellAt, SourceEvent, Resolution, Code, Width, Char, Int, Long, Shape, word_of, int_of, holds, value_bits, Machine, Global, reference, Elements, changes, value_left, value_by, value_after, initial_value, Targets, ObjectType, Content, Pointer, field_in, Labels, Number, Anything, Exactly, Within, Indexes, OfElementCell as OfElement, OfGlobal, Narrower, LessNumber, IsWellTyped, World, NumberStands}, Emptying.IsEmptied, Lists.{Newest, latest_is}, Locked.{Names, names_one}, OneMode.place_of, Shared.number_of, Sparing.is_value}
+use Rattle.sharc_history_laws.proofs.{Imports.{◌≡◌, ℕ, ℤ, pos, negsuc, suc, ◌+◌, ◌-◌, ◌*◌, ◌^◌, ◌<◌, ◌⊎◌, Bool, true, false, cond, ◌∷◌, reverse, Some, sym, ap, ◌∙◌, subst, arith, ltb-true, nat_tests, slice_index, find, nat_lt, CellAt, SourceEvent, Resolution, Code, Width, Char, Int, Long, Shape, word_of, int_of, holds, value_bits, Machine, Global, reference, Elements, changes, value_left, value_by, value_after, initial_value, Targets, ObjectType, Content, Pointer, field_in, Labels, Number, Exactly, Within, Narrower, LessNumber, IsWellTyped, World, NumberStands}, Emptying.IsEmptied, Lists.{Newest, latest_is}, Locked.{Names, names_one}, OneMode.place_of, Shared.number_of, Sparing.is_value}
 use Rattle.sharc_invariant.specs.Words.{cell_at}
 
 -- ---- values by the events, the newest event first
@@ -84,7 +84,4 @@ wider Long Long z n h = h
 pub fits_in : (x : Targets) (elements refs : ℕ → ℕ) (types : ℕ → ObjectType) (names : ℕ → ℤ) (z : ℤ) (a : Number) (w : Width) → LessNumber a (Within w) → NumberStands x elements refs types names z a → holds w z ≡ true
 fits_in x elements refs types names z (Within v) w h k = wider v w z h k
 fits_in x elements refs types names z (Exactly y) w h k = subst (λ (y : ℤ). holds w y ≡ true) (sym k) h
-fits_in x elements refs types names z Anything w h k = absurd (cc)
-fits_in x elements refs types names z (Indexes n) w h k = absurd (cc)
-fits_in x elements refs types names z (OfElement b f e) w h k = absurd (cc)
-fits_in x elements refs types names z (OfGlobal f c n e) w h k = absurd (cc)
+fits_in x elements refs types names z _ w h k = absurd (cc)

@@ -1,5 +1,5 @@
 -- What a turn does to the access table of its thread and whether it stops the thread at the check of an access.
-use Rattle.sharc_history_laws.proofs.{Imports.{◌≡◌, ℕ, zero, suc, ◌+◌, ◌<◌, ◌⊎◌, inl, inr, Bool, true, false, length, List, [], ◌∷◌, Option, Some, None, is_some, if◌then◌else◌, refl, sym, ap, ◌∙◌, ⊎_elim, arith, cases_eq, nat_tests, get_or-set_other, slice_index, slice_index_or, slice_set, nat_lt, ◌==◌, Kind, Read, Write, Note, GranuleNotes, blank, of_kind, note_of, site_at, epoch_of, bits_of, conflicts_in, noted, WordOp, Code, Cell, Instr, Shape, ConflictAt, Stage, Clears, FreeClears, WithdrawsFrom, Conflict, granules, first_shadow, granule_at, granule_of, shadow_word, TurnsComeOut, check_of, Machine, Own, instr_at, act, place, ref, row_of, checked, stopped, with_own, wrote, step_of, turn, after, may_go, asked_by, Turn, Global, MayTurn, after_turn, state_now, result_of, one_thread, bounds, Touch, Untouched, CheckOf, WithdrawOf, cleared_by, freed_by, withdrawn_by, touch_of, touch_at, yes}, Consists.found_is, Outcomes.{is_access_check, is_check, tabled, reports}, Carried.put_same}
+use Rattle.sharc_history_laws.proofs.{Imports.{◌≡◌, ℕ, zero, suc, ◌+◌, ◌<◌, ◌⊎◌, inl, inr, Bool, true, false, length, List, [], ◌∷◌, Option, Some, None, is_some, if◌then◌else◌, refl, sym, ap, ◌∙◌, ⊎_elim, arith, cases_eq, nat_tests, get_or-set_other, slice_index, slice_index_or, slice_set, nat_lt, ◌==◌, Kind, Read, Write, Note, GranuleNotes, blank, of_kind, note_of, site_at, epoch_of, bits_of, conflicts_in, noted, WordOp, Code, Cell, Instr, Shape, ConflictAt, Stage, Clears, FreeClears, WithdrawsFrom, Conflict, granules, first_shadow, granule_at, granule_of, shadow_word, TurnsComeOut, check_of, Machine, Own, instr_at, act, place, ref, row_of, checked, stopped, with_own, wrote, step_of, turn, after, may_go, asked_by, Turn, Global, MayTurn, after_turn, state_now, result_of, one_thread, bounds, Touch, Untouched, CheckOf, WithdrawOf, cleared_by, freed_by, withdrawn_by, touch_of, touch_at, yes}, TurnAt.turn_at, Consists.found_is, Outcomes.{is_access_check, is_check, tabled, reports}, Carried.put_same}
 use Rattle.sharc_heap.specs.{Notes.with_note, Accesses.Accesses}
 use Rattle.sharc_code.specs.Machine as machines
 
@@ -163,17 +163,7 @@ pub data Does (s : Shape) (words : ℕ → ℕ) (m : Machine) (i : Instr) (touch
       → m' ≡ stopped m (Conflict record { kind = kind; site = site; granule = q; epoch = epoch_of (words q); old = words q }) → Does s words m i touch m'
 
 module _ (outs : TurnsComeOut) (code : Code) (s : Shape) (g : Global Machine) (tr : Turn) (may : MayTurn bounds (one_thread code s) g tr) (fresh : (g.threads tr.thread).own.stop ≡ None) where
-  abbrev m : Machine
-  m = g.threads tr.thread
-
-  abbrev i : Instr
-  i = instr_at code (g.threads tr.thread).at.pc
-
-  abbrev m' : Machine
-  m' = (after_turn bounds (one_thread code s) g tr).threads tr.thread
-
-  abbrev found : ℕ
-  found = result_of tr.event
+  open turn_at code s g tr use {m, i, found, m'}
 
   abbrev words : ℕ → ℕ
   words q = slice_index g.words (first_shadow + q)

@@ -1,13 +1,5 @@
 -- An object whose pointer cells a Free empties: the thread goes on with it until the object is gone.
-use Rattle.sharc_history_laws.proofs.{Imports.{◌≡◌, ℕ, zero, suc, ◌+◌, ◌*◌, ◌⊎◌, inl, inr, min, Bool, true, false, ◌||◌, nat_lt, Some, if◌then◌else◌, refl, sym, ap, ◌∙◌, subst, ⊎_elim, cases_eq, Code, Layout, Shape, Stage, Empties, Lowers, FreeLooks, FreeClears, Uncounts, Machine, instr_at, ref, act, free, layout_at, empties, emptied, free_looks, at_stage, data_granules, fields, largest, turn, after, may_go, Turn, Global, after_turn, state_now, result_of, words_now, is_started, one_thread, bounds, Instr}, Acts.{freed_at, freed_in}, Carried.{put_same, put_other}}
-
-abbrev pub is_emptying : Stage → Bool
-is_emptying (Empties i all) = true
-is_emptying (Lowers i all found) = true
-is_emptying (FreeLooks done all) = true
-is_emptying (FreeClears done all seen) = true
-is_emptying (Uncounts all) = true
-is_emptying _ = false
+use Rattle.sharc_history_laws.proofs.{Imports.{◌≡◌, ℕ, zero, suc, ◌+◌, ◌*◌, ◌⊎◌, inl, inr, min, Bool, true, false, ◌||◌, nat_lt, Some, if◌then◌else◌, refl, sym, ap, ◌∙◌, subst, ⊎_elim, cases_eq, Code, Layout, Shape, Stage, Empties, Lowers, FreeLooks, FreeClears, Uncounts, Machine, instr_at, ref, act, free, layout_at, empties, emptied, free_looks, at_stage, data_granules, fields, largest, turn, after, may_go, Turn, Global, after_turn, state_now, result_of, words_now, is_started, one_thread, bounds, Instr, is_clearing}, Acts.{freed_at, freed_in}, Carried.{put_same, put_other}}
 
 -- the thread is in the middle of a Free of this object
 pub record IsFreeing (code : Code) (m : Machine) (o : ℕ) : Type 0 where
@@ -15,7 +7,7 @@ pub record IsFreeing (code : Code) (m : Machine) (o : ℕ) : Type 0 where
   pub layout : ℕ
   pub site : ℕ
   pub is_free : instr_at code m.at.pc ≡ Instr.Free register layout site
-  pub emptying : is_emptying m.own.stage ≡ true
+  pub emptying : is_clearing m.own.stage ≡ true
   pub object : ref m register ≡ o
   pub on : may_go m.at.state ≡ true
 
@@ -28,10 +20,10 @@ module _ (code : Code) (s : Shape) (m : Machine) (r : ℕ) where
   pub record GoesOn (y : Machine) : Type 0 where
     pub pc : y.at.pc ≡ m.at.pc
     pub refs : ref y r ≡ ref m r
-    pub emptying : is_emptying y.own.stage ≡ true
+    pub emptying : is_clearing y.own.stage ≡ true
     pub on : may_go y.at.state ≡ true
 
-  at : (stage : Stage) → is_emptying stage ≡ true → GoesOn (at_stage m stage)
+  at : (stage : Stage) → is_clearing stage ≡ true → GoesOn (at_stage m stage)
   at stage e = record { pc = refl; refs = refl; emptying = e; on = refl }
 
   at_looks : (l : Layout) (done elements : ℕ) → GoesOn (free_looks m l done elements)
@@ -50,7 +42,7 @@ module _ (code : Code) (s : Shape) (m : Machine) (r : ℕ) where
   at_emptied l i elements zero = at_empties l (i + 1) elements
   at_emptied l i elements (suc k) = at (Lowers i elements (suc k)) refl
 
-  goes_on : (l : Layout) (stage : Stage) (found : ℕ) → is_emptying stage ≡ true → (freed_in stage (ref m r) ≡ Some (ref m r)) ⊎ GoesOn (after (free code s m r l stage) found)
+  goes_on : (l : Layout) (stage : Stage) (found : ℕ) → is_clearing stage ≡ true → (freed_in stage (ref m r) ≡ Some (ref m r)) ⊎ GoesOn (after (free code s m r l stage) found)
   goes_on l (Empties i elements) found e = inr (at_emptied l i elements found)
   goes_on l (Lowers i elements was) found e = inr (at_empties l (i + 1) elements)
   goes_on l (FreeLooks done elements) found e = inr (at (FreeClears done elements found) refl)

@@ -1,5 +1,5 @@
 -- A thread that is gone by the events has ended.
-use Rattle.sharc_history_laws.proofs.{Imports.{◌≡◌, ℕ, pos, ◌⊎◌, ◌↔◌, Bool, true, false, ◌&&◌, List, [], ◌∷◌, Option, Some, None, refl, sym, ap, ◌∙◌, subst, ⊎_elim, arith, eqb-true, cases_eq, not_true as unset, not_false as some_true, slice_index, SourceEvent, Code, Instr, Shape, Ended, RunLaws, Fits, state_word, Machine, instr_at, act, exit, opening_words, is_exit, turn, after, may_go, Turn, Global, IsRun, opening_of, result_of, state_now, said, one_thread, bounds, place_after, said_now, table_of, is_gone, is_natural, went, Labels, Keeps, CodeBegins, CellsAreThere, PointersAreThere, AccessesAreAllowed, IsSmall, IsWellTyped, Targets, history_of, yes}, Acts.thread_said, Broken.{AllOf, all_reverse, none_any}, Consists.consists, Leaving.{gone_said, not_gone, leaves_at}, Lists.Newest, Rules.{pushed, newest, newest_now, about_now, number_is}, Carried.{put_same, put_other}}
+use Rattle.sharc_history_laws.proofs.{Imports.{◌≡◌, ℕ, pos, ◌⊎◌, ◌↔◌, Bool, true, false, ◌&&◌, List, [], ◌∷◌, Option, Some, None, refl, sym, ap, ◌∙◌, subst, ⊎_elim, arith, eqb-true, cases_eq, not_true as unset, not_false as some_true, slice_index, SourceEvent, Code, Instr, Shape, Ended, RunLaws, Fits, state_word, Machine, act, exit, opening_words, is_exit, turn, after, may_go, Turn, IsRun, opening_of, result_of, state_now, said, one_thread, bounds, place_after, said_now, table_of, is_gone, is_natural, went, Labels, Keeps, CodeBegins, CellsAreThere, PointersAreThere, AccessesAreAllowed, IsSmall, IsWellTyped, Targets, history_of, yes}, TurnAt.turn_at, Acts.thread_said, Broken.{AllOf, all_reverse, none_any}, Consists.consists, Leaving.{gone_said, not_gone, leaves_at}, Lists.Newest, Rules.{pushed, newest, newest_now, about_now, number_is}, Carried.{put_same, put_other}}
 
 -- the event says that thread n is gone
 abbrev GoneBy : ℕ → SourceEvent → Bool
@@ -17,17 +17,7 @@ module _ (cell_laws : CellsAreThere) (pointers : PointersAreThere) (rights : Acc
   Alive run n = ((place_after code s run).threads n).at.state ≡ Ended → ⊥
 
   module _ (one : Turn) (earlier : List Turn) (run : RunOf (one ∷ earlier)) (n : ℕ) (alive : Alive (one ∷ earlier) n) where
-    abbrev g : Global Machine
-    g = place_after code s earlier
-
-    abbrev m : Machine
-    m = (place_after code s earlier).threads one.thread
-
-    abbrev i : Instr
-    i = instr_at code ((place_after code s earlier).threads one.thread).at.pc
-
-    abbrev found : ℕ
-    found = result_of one.event
+    open turn_at code s (place_after code s earlier) one use {g, m, i, found}
 
     abbrev event : Option SourceEvent
     event = said_now code (table_of code s earlier) ((place_after code s earlier).threads one.thread) (result_of one.event)

@@ -1,5 +1,5 @@
 -- What a turn of typed code finds is consistent.
-use Rattle.sharc_history_laws.proofs.{Imports.{◌≡◌, ℕ, zero, suc, ◌+◌, ◌*◌, ◌/◌, ◌<◌, ◌≤◌, ◌≢◌, Bool, true, false, Some, refl, sym, ap, ◌∙◌, subst, ⊎_elim, arith, mul-le-mul_right, cases_eq, cases_lt, nat_tests, All-contains_itself, slice_index, slice_index_or, nat_lt, ◌==◌, THREADS, WordStep, NewStage, NewView, Code, Parameter, Cell, Instr, Shape, Stage, Rests, Looks, Clears, Makes, Empties, Lowers, FreeLooks, FreeClears, Uncounts, Links, Names, Hands, Begins, Enters, Withdraws, WithdrawsFrom, Leaves, Wakes, word_of, Fits, granules, first_cell, cell_of, length_word, function_word, argument_word, state_word, Machine, act, instr_at, ref, int, place, object, word, is_held, is_of_null, function_of, turn, asked_by, IsInGlobal, Global, Elements, IsNumber, IsApart, IsThere, IsMutex, IsLock, IsFree, IsHeld, IsLength, IsNewIn, IsNewAt, IsArgument, IsArgumentAt, MayFind, Targets, ObjectType, Field, FieldType, Content, cells_of, field_in, is_pointer, is_mutex, type_at, Loaded, OfGlobal, Label, Labels, IsWellTyped, Fine, HasField, HasCell, PointsToMutex, RegisterOf, ArgumentOf, In, Slot, CellOf, IsLoaded, World, WinOk, in_ref, length_at, lang_of, if_reference, is_unread, argument_of, Built, Live, State, Runs, StageStands, GateStands, NumberStands, BuildsAt, OnHold, object_of_cell, number_in, base_of_cell, refs_at, types_at, IsOn, CellsAreThere}, Gates.{LoadedStands, no_pending}, Single.{single, rests_hold}, Stands.{register_is, live_slot, live_low, top, gate, known_ref, some_base, there, live_ref, target_ref}}
+use Rattle.sharc_history_laws.proofs.{Imports.{◌≡◌, ℕ, zero, suc, ◌+◌, ◌*◌, ◌/◌, ◌<◌, ◌≤◌, ◌≢◌, Bool, true, false, Some, refl, sym, ap, ◌∙◌, subst, ⊎_elim, arith, mul-le-mul_right, cases_eq, cases_lt, nat_tests, All-contains_itself, slice_index, slice_index_or, nat_lt, ◌==◌, THREADS, WordStep, NewStage, NewView, Code, Parameter, Cell, Instr, Shape, Stage, Rests, Makes, Enters, word_of, Fits, granules, first_cell, cell_of, length_word, function_word, argument_word, state_word, Machine, act, instr_at, ref, int, place, object, word, is_held, is_of_null, function_of, turn, asked_by, IsInGlobal, Global, Elements, IsNumber, IsApart, IsThere, IsMutex, IsLock, IsFree, IsHeld, IsLength, IsNewIn, IsNewAt, IsArgument, IsArgumentAt, MayFind, Targets, ObjectType, Field, FieldType, Content, cells_of, field_in, is_pointer, is_mutex, type_at, Loaded, OfGlobal, Labels, IsWellTyped, Fine, HasField, HasCell, PointsToMutex, RegisterOf, ArgumentOf, In, Slot, CellOf, IsLoaded, World, WinOk, in_ref, length_at, lang_of, if_reference, is_unread, argument_of, Built, Live, State, Runs, StageStands, GateStands, NumberStands, BuildsAt, OnHold, object_of_cell, number_in, base_of_cell, refs_at, types_at, IsOn, CellsAreThere}, TurnAt.thread_at, Gates.{LoadedStands, no_pending}, Single.{single, rests_hold}, Stands.{register_is, live_slot, live_low, top, gate, known_ref, some_base, there, live_ref, target_ref}}
 use Rattle.sharc_invariant.specs.{Types.Content.Pointer, Words.cell_at}
 
 module _ (there_laws : CellsAreThere) (x : Targets) (code : Code) (s : Shape) (ls : Labels) (wt : IsWellTyped x code ls) (fits : Fits code s) (g : Global Machine) (world : World) (st : State x code s ls g world) where
@@ -36,11 +36,7 @@ module _ (there_laws : CellsAreThere) (x : Targets) (code : Code) (s : Shape) (l
       }
 
   module _ (t : ℕ) (on : IsOn g t) where
-    abbrev m : Machine
-    m = g.threads t
-
-    abbrev here : Label
-    here = ls.at (g.threads t).at.pc
+    open thread_at st t use {m, here}
 
     abbrev rn : Runs x code s ls st.elements world st.heap g t (g.threads t)
     rn = (st.threads t).runs on.0 on.1
@@ -81,9 +77,7 @@ module _ (there_laws : CellsAreThere) (x : Targets) (code : Code) (s : Shape) (l
 
     pub object_is : (c : Cell) → object (g.threads t) c ≡ object_of_cell (g.threads t) c
     object_is (Cell.Global h p) = refl
-    object_is (Cell.GlobalAt h i) = refl
-    object_is (Cell.Object r i) = refl
-    object_is (Cell.ObjectAt r i) = refl
+    object_is _ = refl
 
     pub mutex_at : (hold : OnHold (g.threads t).own.stage) (c : Cell) (f : Field) → HasField x code here c f → is_of_null (g.threads t) c ≡ false → IsMutex code s (g.threads t) c
     mutex_at hold c f k some =
@@ -148,14 +142,7 @@ module _ (there_laws : CellsAreThere) (x : Targets) (code : Code) (s : Shape) (l
               (λ (z : m.pending ≡ header). let e : header ≡ 0 = sym z ∙ none in omega arith)
               has;
         }
-    fresh_at hold none v NewStage.Begins h = tt
-    fresh_at hold none v NewStage.Link h = tt
-    fresh_at hold none v (NewStage.Cell cell) h = tt
-    fresh_at hold none v NewStage.Top h = tt
-    fresh_at hold none v (NewStage.Move from to) h = tt
-    fresh_at hold none v (NewStage.Count header) h = tt
-    fresh_at hold none v (NewStage.Made header) h = tt
-    fresh_at hold none v NewStage.Full h = tt
+    fresh_at hold none v _ h = tt
 
     new_at : (r count cells site : ℕ) → (g.threads t).pending ≡ 0 → (stage : Stage) → (g.threads t).own.stage ≡ stage → StageStands code s st.elements world st.heap g.words t (g.threads t) (Instr.New r count cells site) stage → IsNewAt (g.threads t) stage
     new_at r count cells site none (Makes v) e h = fresh_at (subst OnHold (sym e) tt) none v v.stage h.1
@@ -234,22 +221,7 @@ module _ (there_laws : CellsAreThere) (x : Targets) (code : Code) (s : Shape) (l
           let one = unread_is Rests e refl (start_pc site is) in
           let may = wt.starts (slice_index g.words (function_word t)) (st.begins.function t low_t one) in
           let lt = may.is in omega arith
-      start_found site is (Looks a b) e h = absurd h
-      start_found site is (Clears a b c) e h = absurd h
-      start_found site is (Makes v) e h = absurd h
-      start_found site is (Empties a b) e h = absurd h
-      start_found site is (Lowers a b c) e h = absurd h
-      start_found site is (FreeLooks a b) e h = absurd h
-      start_found site is (FreeClears a b c) e h = absurd h
-      start_found site is (Uncounts a) e h = absurd h
-      start_found site is (Links a) e h = absurd h
-      start_found site is (Names n) e h = absurd h
-      start_found site is (Hands n) e h = absurd h
-      start_found site is (Begins n) e h = absurd h
-      start_found site is (Withdraws a) e h = absurd h
-      start_found site is (WithdrawsFrom a b) e h = absurd h
-      start_found site is Leaves e h = absurd h
-      start_found site is (Wakes a) e h = absurd h
+      start_found site is _ e h = absurd h
 
       not_true : (b : Bool) → (b ≡ true → ⊥) → b ≡ false
       not_true true h = absurd (h refl)

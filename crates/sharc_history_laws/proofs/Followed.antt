@@ -1,5 +1,5 @@
 -- A check of an access is directly before it, so where it passed its thread makes the access next.
-use Rattle.sharc_history_laws.proofs.{Imports.{◌≡◌, ℕ, ◌+◌, Bool, true, false, List, [], ◌∷◌, ◌++◌, Some, is_some, if◌then◌else◌, refl, sym, ap, ◌∙◌, subst, ⊎_elim, arith, cases_eq, nat_tests, ◌==◌, nat_eq, SourceEvent, CellAt, Act, Taken, Kind, Read, Write, note_of, site_at, epoch_of, conflicts_in, noted, Code, PlaceMode, Cell, Instr, Shape, Stage, Clears, FreeClears, WithdrawsFrom, Stop, Conflict, int_of, granule_at, granule_of, Machine, Own, instr_at, act, place, ref, int, row_of, stopped, with_own, with_note, wrote, checked, turn, after, may_go, Turn, Global, after_turn, paired, state_now, result_of, turns_of, cell_at, mode_of, place_at, said, reference, kind_of, one_thread, bounds, place_after, Erase, Access, access_by, Touch, Untouched, CheckOf, WithdrawOf, cleared_by, freed_by, withdrawn_by, touch_of, site_of_check, IsCheck, IsFollowed, ChecksAreFollowed, access_to, access_of, TellsAccess, Follows, IsNext, IsMade, IsOfAccess, yes}, Carried.{put_same, put_other}}
+use Rattle.sharc_history_laws.proofs.{Imports.{◌≡◌, ℕ, ◌+◌, Bool, true, false, List, [], ◌∷◌, ◌++◌, Some, is_some, if◌then◌else◌, refl, sym, ap, ◌∙◌, subst, ⊎_elim, arith, cases_eq, nat_tests, ◌==◌, nat_eq, SourceEvent, CellAt, Act, Taken, Kind, Read, Write, note_of, site_at, epoch_of, conflicts_in, noted, Code, PlaceMode, Cell, Instr, Shape, Stage, Clears, FreeClears, WithdrawsFrom, Stop, Conflict, int_of, granule_at, granule_of, Machine, Own, instr_at, act, place, ref, int, row_of, stopped, with_own, with_note, wrote, checked, turn, after, may_go, Turn, Global, paired, state_now, result_of, turns_of, cell_at, mode_of, place_at, said, reference, kind_of, one_thread, place_after, Erase, Access, access_by, Touch, Untouched, CheckOf, WithdrawOf, cleared_by, freed_by, withdrawn_by, touch_of, site_of_check, IsCheck, IsFollowed, ChecksAreFollowed, access_to, access_of, TellsAccess, Follows, IsNext, IsMade, IsOfAccess, yes, TurnState}, TurnAt.turn_at, Carried.{put_same, put_other}}
 use Rattle.sharc_history_laws.specs.Followed.{Accesses}
 
 -- ---- turns that are checks
@@ -54,28 +54,24 @@ pub checked_is : (m : Machine) (kind : Kind) (granule site found : ℕ) → may_
 checked_is m kind granule site found go =
     passed_is m (conflicts_in found m.own.number kind (wrote m granule found)) (Conflict record { kind = kind; site = site; granule = granule; epoch = epoch_of found; old = found }) (with_note m.own granule kind (epoch_of found) site) go
 
-module _ (code : Code) (m : Machine) (own : Own) where
-  same_cell : (c : Cell) → cell_at code (with_own m own) c ≡ cell_at code m c
+-- a machine at another place and in another state, with another own state, names the same cells by the same registers
+module _ (code : Code) (m : Machine) (pc : ℕ) (state : TurnState) (own : Own) where
+  abbrev elsewhere : Machine
+  elsewhere = record m { at = record m.at { pc = pc; state = state }; own = own }
+
+  pub same_cell : (c : Cell) → cell_at code elsewhere c ≡ cell_at code m c
   same_cell (Cell.Global g p) = refl
-  same_cell (Cell.GlobalAt g r) = refl
-  same_cell (Cell.Object r p) = refl
-  same_cell (Cell.ObjectAt r i) = refl
+  same_cell _ = refl
 
-  same_mode : (at : CellAt) (mode : PlaceMode) → mode_of code (with_own m own) at mode ≡ mode_of code m at mode
+  same_mode : (at : CellAt) (mode : PlaceMode) → mode_of code elsewhere at mode ≡ mode_of code m at mode
   same_mode at PlaceMode.Private = refl
-  same_mode at PlaceMode.Readonly = refl
-  same_mode at PlaceMode.Racy = refl
-  same_mode at PlaceMode.Dynamic = refl
-  same_mode at (PlaceMode.LockedGlobal g p) = refl
-  same_mode at (PlaceMode.LockedSibling f mutex) = refl
-  same_mode at (PlaceMode.LockedThrough r p) = refl
-  same_mode at PlaceMode.LockedLoaded = refl
+  same_mode at _ = refl
 
-  same_access : (c : Cell) (site : ℕ) (write : Bool) → access_to code (with_own m own) c site write ≡ access_to code m c site write
+  pub same_access : (c : Cell) (site : ℕ) (write : Bool) → access_to code elsewhere c site write ≡ access_to code m c site write
   same_access c site write =
       let a = same_cell c in
-      let b : mode_of code (with_own m own) (cell_at code (with_own m own) c) (place_at code site).mode ≡ mode_of code m (cell_at code m c) (place_at code site).mode =
-      same_mode (cell_at code (with_own m own) c) (place_at code site).mode ∙ ap (λ at. mode_of code m at (place_at code site).mode) a in
+      let b : mode_of code elsewhere (cell_at code elsewhere c) (place_at code site).mode ≡ mode_of code m (cell_at code m c) (place_at code site).mode =
+      same_mode (cell_at code elsewhere c) (place_at code site).mode ∙ ap (λ at. mode_of code m at (place_at code site).mode) a in
       λ i. record { cell = a i; mode = b i; is_write = write }
 
 -- ---- the access that an instruction makes
@@ -181,7 +177,7 @@ module _ (code : Code) (s : Shape) (check : Turn) (earlier : List Turn) (c : Cel
         let at : g.threads one.thread ≡ m1 = ap g.threads mine ∙ is in
         let k : (found elements : ℕ) → Tells code m1 (instr_at code (m.at.pc + 1)) found elements site (access_to code m1 c site write) = λ found elements. access_told code m1 found elements c site write (instr_at code (m.at.pc + 1)) next in
         let y : (found elements : ℕ) → Tells code (g.threads one.thread) (instr_at code (g.threads one.thread).at.pc) found elements site a = λ found elements.
-        subst (λ (y : Machine). Tells code y (instr_at code y.at.pc) found elements site a) (sym at) (subst (Tells code m1 (instr_at code (m.at.pc + 1)) found elements site) (same_access code m own c site write) (k found elements)) in
+        subst (λ (y : Machine). Tells code y (instr_at code y.at.pc) found elements site a) (sym at) (subst (Tells code m1 (instr_at code (m.at.pc + 1)) found elements site) (same_access code m (m.at.pc + 1) TurnState.Runs own c site write) (k found elements)) in
         let z = y (result_of one.event) (paired (one_thread code s) (Erase code s (later ++ check ∷ earlier)) g one) in
         record {
           after_it = [];
@@ -220,22 +216,12 @@ module _ (code : Code) (s : Shape) (check : Turn) (earlier : List Turn) (c : Cel
         by : Since later → Follows code s later check earlier check.thread site a
         by (HasMade k) = IsMade k.after_it k.turn k.between k.parts k.thread k.none k.tells
         by (NoneYet none is) =
-            let here : access_of code m1 (instr_at code (m.at.pc + 1)) ≡ Some a = accessed_is code m1 c site write (instr_at code (m.at.pc + 1)) next ∙ ap (λ a. Some a) (same_access code m own c site write) in
+            let here : access_of code m1 (instr_at code (m.at.pc + 1)) ≡ Some a = accessed_is code m1 c site write (instr_at code (m.at.pc + 1)) next ∙ ap (λ a. Some a) (same_access code m (m.at.pc + 1) TurnState.Runs own c site write) in
             IsNext none (subst (λ (y : Machine). may_go y.at.state ≡ true) (sym is) refl) (subst (λ (y : Machine). access_of code y (instr_at code y.at.pc) ≡ Some a) (sym is) here)
 
 -- ---- a check of a run
 module _ (code : Code) (s : Shape) (followed : ChecksAreFollowed code) (check : Turn) (earlier : List Turn) (number : ((place_after code s earlier).threads check.thread).own.number ≡ check.thread) where
-  abbrev g : Global Machine
-  g = place_after code s earlier
-
-  abbrev checker : Machine
-  checker = (place_after code s earlier).threads check.thread
-
-  abbrev i : Instr
-  i = instr_at code ((place_after code s earlier).threads check.thread).at.pc
-
-  abbrev checker' : Machine
-  checker' = (after_turn bounds (one_thread code s) (place_after code s earlier) check).threads check.thread
+  open turn_at code s (place_after code s earlier) check use {g, m as checker, i, m' as checker'}
 
   module _ (kind : Kind) (p : ℕ) (c : Cell) (site : ℕ) (write : Bool) (dynamic : (place_at code site).mode ≡ PlaceMode.Dynamic) (next : Accesses write c site (instr_at code (((place_after code s earlier).threads check.thread).at.pc + 1)))
       (is : after (turn code s ((place_after code s earlier).threads check.thread)) (result_of check.event) ≡ checked ((place_after code s earlier).threads check.thread) kind p site (result_of check.event)) where

@@ -1,5 +1,5 @@
 -- The event of each turn of typed code may come after those before it, if it does not tell who waits.
-use Rattle.sharc_history_laws.proofs.{Imports.{◌≡◌, ℕ, ℤ, pos, negsuc, zero, suc, ◌+◌, ◌<◌, ◌≤◌, ◌≢◌, ◌⊎◌, inl, inr, Bool, true, false, ◌||◌, nat_lt, List, [], ◌∷◌, reverse, Option, Some, None, is_some, if◌then◌else◌, refl, sym, ap, ◌∙◌, subst, ⊎_elim, arith, eqb-true, ltb-true, nat_tests, not_true, slice_index, ◌==◌, Contains, THREADS, WordStep, WordOp, Act, SourceEvent, Trap, NewStage, waits_in, HeldMutex, object_of, Resolution, Code, Cell, Instr, Register, Shape, Stage, Makes, Uncounts, Begins, Enters, Withdraws, WithdrawsFrom, Leaves, Wakes, RunLaws, int_of, Fits, first_cell, state_word, Machine, step_of, instr_at, int, ref, word, act, place, object, is_held, join, joined, trapped, Local, Asks, is_locking, turn, asked_by, Turn, Global, MayTurn, result_of, said, cell_at, speaks_of, take_local, nobody, in_signal, in_exit, in_spawn, in_start, in_free, in_new, new_event, event_at, reference, one_thread, bounds, place_after, state_of, TellsState, is_about_waiters, Elements, MayFind, table_of, is_cell, locked_by, unlocked_by, History, MayCome, IsFresh, was_spawned, went, was_locked_by, value_after, Targets, Field, Labels, IsWellTyped, Fine, Accesses, is_ended, IsSmall, StageStands, OnHold, IsOn, Keeps, CellsAreThere, PointersAreThere, AccessesAreAllowed, StateStands, yes}, Consists.{Consists, found_is, quiet_is, own_turn, header_built, built_low, live_not_built}, Contents.{value_is, newest_value, value_held, content_of, word_of_cell, Contents}, Emptying.IsEmptied, Holding.{cell_eq, holds_in}, Lists.{Newest, live_in, is_live_in}, Living.LivesTold, Locked.{IsIn, LogTold, names_cell, one_place, held_told}, Locking.word_is, Logged.{LogHas, is_logged}, Mutual.{Mutual, MayMutex, no_lock, locked_in, locked_by_in, locked_is, locked_by_is}, Mutexless.{mutex_said, no_mutex, not_locked}, Rules.number_is, Shared.number_of, Single.{single, rests_hold}, Sparing.is_value, Tables.header_of, Threaded.ThreadsTold, Unemptied.not_emptied}
+use Rattle.sharc_history_laws.proofs.{Imports.{◌≡◌, ℕ, ℤ, pos, negsuc, zero, suc, ◌+◌, ◌<◌, ◌≤◌, ◌≢◌, ◌⊎◌, inl, inr, Bool, true, false, ◌||◌, nat_lt, List, [], ◌∷◌, reverse, Option, Some, None, is_some, if◌then◌else◌, refl, sym, ap, ◌∙◌, subst, ⊎_elim, arith, eqb-true, ltb-true, nat_tests, not_true, slice_index, ◌==◌, Contains, THREADS, WordStep, WordOp, Act, SourceEvent, Trap, NewStage, waits_in, HeldMutex, object_of, Resolution, Code, Cell, Instr, Register, Shape, Stage, Makes, Uncounts, Begins, Enters, Withdraws, WithdrawsFrom, Leaves, Wakes, RunLaws, int_of, Fits, first_cell, state_word, Machine, step_of, int, ref, word, act, place, object, is_held, join, joined, trapped, Local, Asks, is_locking, turn, asked_by, Turn, MayTurn, said, cell_at, speaks_of, take_local, nobody, in_signal, in_exit, in_spawn, in_start, in_free, in_new, new_event, event_at, reference, one_thread, bounds, place_after, state_of, TellsState, is_about_waiters, MayFind, table_of, is_cell, locked_by, unlocked_by, History, MayCome, IsFresh, was_spawned, went, was_locked_by, value_after, Targets, Field, Labels, IsWellTyped, Accesses, is_ended, IsSmall, StageStands, OnHold, Keeps, CellsAreThere, PointersAreThere, AccessesAreAllowed, StateStands, yes}, TurnAt.{turn_at, told_at, turn_stands}, Consists.{Consists, found_is, quiet_is, own_turn, header_built, built_low, live_not_built}, Contents.{value_is, newest_value, value_held, content_of, word_of_cell, Contents}, Emptying.IsEmptied, Holding.{cell_eq, holds_in}, Lists.{Newest, live_in, is_live_in}, Living.LivesTold, Locked.{IsIn, LogTold, names_cell, one_place, held_told}, Locking.word_is, Logged.{LogHas, is_logged}, Mutual.{Mutual, MayMutex, no_lock, locked_in, locked_by_in, locked_is, locked_by_is}, Mutexless.{mutex_said, no_mutex, not_locked}, Shared.number_of, Single.{single, rests_hold}, Sparing.is_value, Tables.header_of, Threaded.ThreadsTold, Unemptied.not_emptied}
 use Rattle.sharc_invariant.specs.Words as Words
 use Rattle.sharc_history_laws.proofs.Placed as Placed
 
@@ -20,35 +20,9 @@ pub record Told (r : Resolution) (x : Targets) (code : Code) (s : Shape) (ls : L
 -- ---- one turn
 module _ (state_law : StateStands) (cell_laws : CellsAreThere) (pointers : PointersAreThere) (rights : AccessesAreAllowed) (laws : RunLaws) (keeps : Keeps) (x : Targets) (code : Code) (s : Shape) (ls : Labels) (wt : IsWellTyped x code ls) (fits : Fits code s) (few : IsSmall code s)
     (one : Turn) (earlier : List Turn) (h : Consists x code s ls earlier) (may : MayTurn bounds (one_thread code s) (place_after code s earlier) one) where
-  abbrev g : Global Machine
-  g = place_after code s earlier
-
-  abbrev t : ℕ
-  t = one.thread
-
-  abbrev m : Machine
-  m = (place_after code s earlier).threads one.thread
-
-  abbrev i : Instr
-  i = instr_at code ((place_after code s earlier).threads one.thread).at.pc
-
-  abbrev found : ℕ
-  found = result_of one.event
-
-  abbrev T : Elements
-  T = table_of code s earlier
-
-  abbrev elements : ℕ
-  elements = table_of code s earlier (speaks_of (instr_at code ((place_after code s earlier).threads one.thread).at.pc) ((place_after code s earlier).threads one.thread) (result_of one.event))
-
-  abbrev event : Option SourceEvent
-  event = said code i ((place_after code s earlier).threads one.thread) found elements
-
-  on : IsOn (place_after code s earlier) one.thread
-  on = (may.started, may.next.runs)
-
-  stage_here : (j : Instr) → i ≡ j → StageStands code s h.state.elements h.world h.state.heap (place_after code s earlier).words one.thread ((place_after code s earlier).threads one.thread) j ((place_after code s earlier).threads one.thread).own.stage
-  stage_here j e = subst (λ j. StageStands code s h.state.elements h.world h.state.heap g.words t m j m.own.stage) e ((h.state.threads t).runs on.0 on.1).stage
+  open turn_at code s (place_after code s earlier) one use {g, t, m, i, found}
+  open told_at code s earlier one use {T, elements, event}
+  open turn_stands wt h.state one may use {on, stage_here, fine, number}
 
   may_find : (j : Instr) → i ≡ j → MayFind code s (table_of code s earlier) ((place_after code s earlier).threads one.thread) found j
   may_find j e = subst (MayFind code s (table_of code s earlier) m found) e (own_turn laws keeps cell_laws pointers x code s ls wt fits few one earlier h may).finds
@@ -85,9 +59,6 @@ module _ (state_law : StateStands) (cell_laws : CellsAreThere) (pointers : Point
 
     held_by : (j : Instr) → i ≡ j → single j ≡ true → OnHold ((place_after code s earlier).threads one.thread).own.stage
     held_by j is one = rests_hold code s h.state.elements h.world h.state.heap g.words t m j m.own.stage one (stage_here j is)
-
-    fine : (j : Instr) → i ≡ j → Fine x code ls ((place_after code s earlier).threads one.thread).at.pc (ls.at ((place_after code s earlier).threads one.thread).at.pc) j
-    fine j e = subst (Fine x code ls m.at.pc (ls.at m.at.pc)) e (wt.fine m.at.pc)
 
     at_load : (q site : ℕ) (k : Cell) → i ≡ Instr.Load q k site → int_of found ≡ value_after r (reverse L) (cell_at code ((place_after code s earlier).threads one.thread) k)
     at_load q site k is =
@@ -149,9 +120,6 @@ module _ (state_law : StateStands) (cell_laws : CellsAreThere) (pointers : Point
     holds_own q site k is =
         let held = may_find (Instr.Unlock q k site) is in
         held_told code s L t m.own.held (object m k) (place m k) (cell_at code m k) (told.logs t) held.mutex.apart held.own (names_cell code m k held.mutex.there)
-
-    number : ((place_after code s earlier).threads one.thread).own.number ≡ one.thread
-    number = number_is cell_laws pointers rights laws keeps x code s ls wt fits few one earlier h may
 
     -- an event of a mutex
     pub may_mutex : (e : SourceEvent) → event ≡ Some e → MayMutex L e

@@ -1,4 +1,5 @@
 mod Imports
+pub mod TurnAt
 pub mod Places
 pub mod Sorts
 pub mod Standing

@@ -1,5 +1,5 @@
 -- An object that is live by the events of a run is live.
-use Rattle.sharc_history_laws.proofs.{Imports.{◌≡◌, ℕ, Bool, true, false, ◌||◌, cond, List, ◌∷◌, Option, Some, None, refl, sym, ap, ◌∙◌, ⊎_elim, find, SourceEvent, Object, NewStage, Code, Instr, Shape, Stage, Makes, RunLaws, Fits, Machine, instr_at, ref, Turn, Global, MayTurn, after_turn, one_thread, bounds, place_after, makes, frees, is_number, made_by, meets, Targets, Labels, IsWellTyped, ObjectState, objects_behind, made_behind, new_behind, objects_now, owned, type_held, IsSmall, Keeps, CellsAreThere, PointersAreThere, AccessesAreAllowed, yes}, Acts.{given_at, freed_at, About}, Consists.Consists, Lists.{Newest, live_in, live_other}, Rules.{pushed, same_behind, decide, number_yes, number_not}, Tables.{header_at, header_in, header_of}, Carried.put_same}
+use Rattle.sharc_history_laws.proofs.{Imports.{◌≡◌, ℕ, Bool, true, false, ◌||◌, cond, List, ◌∷◌, Option, Some, None, refl, sym, ap, ◌∙◌, ⊎_elim, find, SourceEvent, Object, Code, Instr, Shape, RunLaws, Fits, Machine, Turn, MayTurn, after_turn, one_thread, bounds, place_after, makes, frees, is_number, made_by, meets, Targets, Labels, IsWellTyped, ObjectState, objects_behind, objects_now, IsSmall, Keeps, CellsAreThere, PointersAreThere, AccessesAreAllowed, yes}, TurnAt.turn_at, Acts.{given_at, freed_at, About}, Consists.Consists, Lists.{Newest, live_in, live_other}, Rules.{pushed, same_behind, decide, number_yes, number_not, made_owned, given_owned}, Tables.{header_of}}
 
 -- an event that frees the object, and does not make it
 live_freed : (e : SourceEvent) (L : Newest) (n : ℕ) → makes (Object.Made n) e ≡ false → frees (Object.Made n) e ≡ true → live_in (e ∷ L) n ≡ false
@@ -10,28 +10,15 @@ live_freed e L n a b =
 
 -- ---- objects after a turn
 module _ (ls : Labels) (t : ℕ) (m m' : Machine) (f : ℕ → ObjectState) (n : ℕ) where
-  new_live : (r : ℕ) (y : NewStage) → header_at y ≡ Some n → (new_behind ls t r m' y f n).live ≡ true
-  new_live r (NewStage.Length header) e = let same : n ≡ header = cc in ap (λ k. (Rattle.sharc_code.specs.Runs.put f header (owned t (type_held ls m' r)) k).live) same ∙ ap (λ (o : ObjectState). o.live) (put_same f header (owned t (type_held ls m' r)))
-  new_live r _ e = absurd (cc)
-
-  makes_live : (r : ℕ) (y : Stage) → header_in y ≡ Some n → (made_behind ls t r m' y f n).live ≡ true
-  makes_live r (Makes v) e = new_live r v.stage e
-  makes_live r _ e = absurd (cc)
-
   pub made_live : (i : Instr) → header_of i m.own.stage ≡ Some n → (objects_behind ls t i m m' f n).live ≡ true
-  made_live (Instr.New r count cells site) e = makes_live r m.own.stage e
-  made_live _ e = absurd (cc)
-
-  given_live : (i : Instr) → given_at i m ≡ Some n → (objects_behind ls t i m m' f n).live ≡ true
-  given_live (Instr.Give r site) e = let same : n ≡ ref m r = cc in ap (λ k. (Rattle.sharc_code.specs.Runs.put f (ref m r) (owned t (type_held ls m' r)) k).live) same ∙ ap (λ (o : ObjectState). o.live) (put_same f (ref m r) (owned t (type_held ls m' r)))
-  given_live _ e = absurd (cc)
+  made_live i e = ap (λ (o : ObjectState). o.live) (made_owned ls t m m' f n i e).1
 
   -- one that was there, and is not freed
   pub still_live : (i : Instr) → (f n).live ≡ true → (freed_at i m ≡ Some n → ⊥) → (objects_behind ls t i m m' f n).live ≡ true
   still_live i live kept = ⊎_elim
       (λ (made : header_of i m.own.stage ≡ Some n). made_live i made)
       (λ (never : header_of i m.own.stage ≡ Some n → ⊥). ⊎_elim
-      (λ (gave : given_at i m ≡ Some n). given_live i gave)
+      (λ (gave : given_at i m ≡ Some n). ap (λ (o : ObjectState). o.live) (given_owned ls t m m' f n i gave).1)
       (λ (not : given_at i m ≡ Some n → ⊥). ap (λ (o : ObjectState). o.live) (same_behind ls t m m' f n i never not kept) ∙ live)
       (decide (given_at i m) n))
       (decide (header_of i m.own.stage) n)
@@ -42,17 +29,7 @@ LivesTold L obj = (n : ℕ) → live_in L n ≡ true → (obj n).live ≡ true
 
 module _ (cell_laws : CellsAreThere) (pointers : PointersAreThere) (rights : AccessesAreAllowed) (laws : RunLaws) (keeps : Keeps) (x : Targets) (code : Code) (s : Shape) (ls : Labels) (wt : IsWellTyped x code ls) (fits : Fits code s) (few : IsSmall code s)
     (one : Turn) (earlier : List Turn) (h : Consists x code s ls earlier) (may : MayTurn bounds (one_thread code s) (place_after code s earlier) one) where
-  abbrev g : Global Machine
-  g = place_after code s earlier
-
-  abbrev t : ℕ
-  t = one.thread
-
-  abbrev m : Machine
-  m = (place_after code s earlier).threads one.thread
-
-  abbrev i : Instr
-  i = instr_at code ((place_after code s earlier).threads one.thread).at.pc
+  open turn_at code s (place_after code s earlier) one use {g, t, m, i}
 
   abbrev Tells : Option SourceEvent → Type 0
   Tells = About ((place_after code s earlier).threads one.thread).own.number (header_of i ((place_after code s earlier).threads one.thread).own.stage) (given_at i ((place_after code s earlier).threads one.thread)) (freed_at i ((place_after code s earlier).threads one.thread))

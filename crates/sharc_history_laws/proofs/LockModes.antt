@@ -1,5 +1,5 @@
 -- The mode of an access that a lock check is before names the mutex that the check looks for.
-use Rattle.sharc_history_laws.proofs.{Imports.{◌≡◌, ℕ, pos, zero, suc, ◌+◌, ◌-◌, ◌*◌, ◌<◌, ◌≤◌, ◌≢◌, Some, refl, sym, ap, ◌∙◌, subst, arith, slice_index_or, CellAt, CellMode, Code, PlaceMode, Cell, Shape, word_of, Fits, Machine, ref, int, IsInGlobal, Global, cell_at, global_cell, made_cell, mode_of, no_global, lock_through, IsThere, Targets, Lock, FieldLock, StaticType, ObjectType, cells_of, GlobalLock, Through, Self, OfType, OfGlobals, OfElement, Under, Refers, Element, OfElementCell, OfGlobal, Number, Anything, Exactly, Within, Indexes, Label, Labels, LessNumber, SameReference, Itself, IsCopy, HasCopy, Copies, Chained, IsWellTyped, IsMutexOf, IsMode, IsTypeMode, IsLockMode, IsLockCell, IsTypeLock, IsSibling, HasBefore, no_lock, State, ElementStands, OnHold, View, view_of, types_at, IsOn}, Stands.rn, Locked.{Names, names_one, names_cell, element_one, same_refs, number_of_global, number_of_element, same_type}}
+use Rattle.sharc_history_laws.proofs.{Imports.{◌≡◌, ℕ, pos, zero, suc, ◌+◌, ◌-◌, ◌*◌, ◌<◌, ◌≤◌, ◌≢◌, Some, refl, sym, ap, ◌∙◌, subst, arith, slice_index_or, CellAt, CellMode, Code, PlaceMode, Cell, Shape, word_of, Fits, Machine, ref, int, IsInGlobal, Global, cell_at, global_cell, made_cell, mode_of, no_global, lock_through, IsThere, Targets, Lock, FieldLock, StaticType, ObjectType, cells_of, GlobalLock, Through, Self, OfType, OfGlobals, OfElement, Under, Refers, Element, OfElementCell, OfGlobal, Number, Anything, Label, Labels, LessNumber, SameReference, Itself, IsCopy, HasCopy, Copies, Chained, IsWellTyped, IsMutexOf, IsMode, IsTypeMode, IsLockMode, IsLockCell, IsTypeLock, IsSibling, HasBefore, no_lock, State, ElementStands, OnHold, types_at, IsOn}, TurnAt.thread_at, Stands.rn, Locked.{Names, names_one, names_cell, element_one, same_refs, number_of_global, number_of_element, same_type}}
 
 pub refers_eq : (a b : StaticType) → Refers a ≡ Refers b → a ≡ b
 refers_eq a b e = cc
@@ -29,22 +29,14 @@ module _ (l k : Label) (copies : (r : ℕ) → SameReference l r (k.same r)) (nu
     where
       by : (n : Number) → LessNumber n (OfGlobal first count elements e) → n ≡ OfGlobal first count elements e
       by Anything h = h
-      by (Exactly z) h = h
-      by (Within w) h = h
-      by (Indexes name) h = h
-      by (OfElementCell b f d) h = h
-      by (OfGlobal f c n d) h = h
+      by _ h = h
 
   element_before : (i b field : ℕ) (e : Element) → k.ints i ≡ OfElementCell b field e → l.ints i ≡ OfElementCell b field e
   element_before i b field e is = by (l.ints i) (subst (LessNumber (l.ints i)) is (numbers i))
     where
       by : (n : Number) → LessNumber n (OfElementCell b field e) → n ≡ OfElementCell b field e
       by Anything h = h
-      by (Exactly z) h = h
-      by (Within w) h = h
-      by (Indexes name) h = h
-      by (OfElementCell c f d) h = h
-      by (OfGlobal f c n d) h = h
+      by _ h = h
 
 -- a label with the same copies
 pub same_copies : (l k : Label) → ((r : ℕ) → l.same r ≡ k.same r) → (a b : ℕ) → SameReference l a b → SameReference k a b
@@ -64,14 +56,7 @@ some_ref n lt e = omega arith
 -- ---- the mode, by the label of the next place
 module _ (x : Targets) (code : Code) (s : Shape) (ls : Labels) (wt : IsWellTyped x code ls) (fits : Fits code s) (g : Global Machine) (world : Rattle.sharc_invariant.specs.World.World) (st : State x code s ls g world) (t : ℕ) (on : IsOn g t) (hold : OnHold (g.threads t).own.stage)
     (k : Label) (copies : (r : ℕ) → SameReference (ls.at (g.threads t).at.pc) r (k.same r)) (values : (i : ℕ) → LessNumber ((ls.at (g.threads t).at.pc).ints i) (k.ints i)) where
-  abbrev m : Machine
-  m = g.threads t
-
-  abbrev here : Label
-  here = ls.at (g.threads t).at.pc
-
-  abbrev view : View
-  view = view_of st.elements world t (g.threads t)
+  open thread_at st t use {m, here, view}
 
   abbrev IsLockedAs : CellAt → PlaceMode → Cell → Type 0
   IsLockedAs at mode d = mode_of code (g.threads t) at mode ≡ CellMode.Locked (Some (cell_at code (g.threads t) d))
@@ -101,17 +86,9 @@ module _ (x : Targets) (code : Code) (s : Shape) (ls : Labels) (wt : IsWellTyped
       let a : Names code (global_cell code is.0 p) 0 p = (refl, inside', (let z = low in omega arith)) in
       let b : Names code (global_cell code g' p) 0 p = names_cell code m (Cell.Global g' p) there in
       ap (mode_of code m at) is.1 ∙ ap (λ q. CellMode.Locked (Some (global_cell code is.0 q))) (sym cell.0) ∙ ap (λ c. CellMode.Locked (Some c)) (names_one x code ls wt (global_cell code is.0 p) (global_cell code g' p) 0 p a b)
-  lock_now at r (GlobalLock j) (Cell.GlobalAt g' i) mode cell is there = absurd cell
-  lock_now at r (GlobalLock j) (Cell.Object a i) mode cell is there = absurd cell
-  lock_now at r (GlobalLock j) (Cell.ObjectAt a i) mode cell is there = absurd cell
   lock_now at r (Through q j) (Cell.Object a i) mode cell is there = through_now at a j is.0 i mode is.1 (same_now is.0 q is.2 ∙ sym (same_now a q cell.1)) cell.0 there
-  lock_now at r (Through q j) (Cell.Global g' p) mode cell is there = absurd cell
-  lock_now at r (Through q j) (Cell.GlobalAt g' i) mode cell is there = absurd cell
-  lock_now at r (Through q j) (Cell.ObjectAt a i) mode cell is there = absurd cell
   lock_now at r (Self j) (Cell.Object a i) mode cell is there = through_now at a j is.0 i mode is.1 (same_now is.0 r is.2 ∙ sym (same_now a r cell.1)) cell.0 there
-  lock_now at r (Self j) (Cell.Global g' p) mode cell is there = absurd cell
-  lock_now at r (Self j) (Cell.GlobalAt g' i) mode cell is there = absurd cell
-  lock_now at r (Self j) (Cell.ObjectAt a i) mode cell is there = absurd cell
+  lock_now at r _ _ mode cell is there = absurd cell
 
   type_now : (at : CellAt) (n : ℕ) (c d : Cell) (mode : PlaceMode) → IsTypeLock code k n c d → IsTypeMode code k n c mode → IsThere code (g.threads t) d → IsLockedAs at mode d
   type_now at n (Cell.Global g' p) d mode cell is there = absurd cell
@@ -173,18 +150,7 @@ module _ (x : Targets) (code : Code) (s : Shape) (ls : Labels) (wt : IsWellTyped
     where
       numbers : (p q a b field mutex : ℕ) → p ≡ a + field → q ≡ b + mutex → a ≡ b → p - field + mutex ≡ q
       numbers p q a b field mutex u v e = omega arith
-  sibling_now (Cell.Global g' p) (Cell.GlobalAt h j) field mutex is before there = absurd is
-  sibling_now (Cell.Global g' p) (Cell.Object q j) field mutex is before there = absurd is
-  sibling_now (Cell.Global g' p) (Cell.ObjectAt q j) field mutex is before there = absurd is
-  sibling_now (Cell.GlobalAt g' i) (Cell.Global h q) field mutex is before there = absurd is
-  sibling_now (Cell.GlobalAt g' i) (Cell.Object q j) field mutex is before there = absurd is
-  sibling_now (Cell.GlobalAt g' i) (Cell.ObjectAt q j) field mutex is before there = absurd is
-  sibling_now (Cell.Object r i) (Cell.Global h q) field mutex is before there = absurd is
-  sibling_now (Cell.Object r i) (Cell.GlobalAt h j) field mutex is before there = absurd is
-  sibling_now (Cell.Object r i) (Cell.ObjectAt q j) field mutex is before there = absurd is
-  sibling_now (Cell.ObjectAt r i) (Cell.Global h q) field mutex is before there = absurd is
-  sibling_now (Cell.ObjectAt r i) (Cell.GlobalAt h j) field mutex is before there = absurd is
-  sibling_now (Cell.ObjectAt r i) (Cell.Object q j) field mutex is before there = absurd is
+  sibling_now _ _ field mutex is before there = absurd is
 
   -- of an access of cell c, whose mutex is in cell d
   pub lock_mode_now : (c d : Cell) (lock : FieldLock) (mode : PlaceMode) → IsMutexOf code k lock c d → IsMode code k c (Under lock) mode → IsThere code (g.threads t) d

@@ -1,5 +1,5 @@
 -- A lock check that is refused is of an access whose mode names the mutex that the check looks for.
-use Rattle.sharc_history_laws.proofs.{Imports.{◌≡◌, ℕ, inl, inr, zero, suc, ◌+◌, Bool, true, false, List, [], ◌∷◌, ◌++◌, Some, None, refl, sym, ap, ◌∙◌, subst, ⊎_elim, cases_eq, ◌==◌, CellAt, SourceEvent, CellMode, Code, PlaceMode, Cell, Instr, Shape, Stop, NoLock, Fits, Machine, instr_at, word, is_of_null, stopped, opening_words, TurnsComeOut, MayStop, turn, after, Turn, Global, IsRun, MayTurn, put, state_now, result_of, opening_of, cell_at, made_cell, mode_of, place_at, lock_through, one_thread, bounds, place_after, IsThere, Access, access_by, events_of, holds_mutex, History, Obeys, Until, Targets, Field, FieldMode, Content, Gate, Closed, Checked, Holds, Loaded, HoldsLoaded, Sole, Label, Labels, LessGate, LessNumber, SameReference, gated, IsWellTyped, Fine, Accesses as TypedAccess, MayAccess, IsMode, knows_base, State, OnHold, IsOn, CellsAreThere, IsLockCheck, LacksLock, IsLocked, IsFollowed, ChecksAreFollowed, access_to, access_of, access_checked, ShowsLock, yes}, Consists.Consists, Finds.is_there, Followed.accessed_is, LockModes.{same_copies, lock_mode_now}, Outcomes.reports, Single.rests_hold, Sole.{Halting, stop_none}, Carried.{put_same, put_other}}
+use Rattle.sharc_history_laws.proofs.{Imports.{◌≡◌, ℕ, inl, inr, zero, suc, ◌+◌, Bool, true, false, List, [], ◌∷◌, ◌++◌, Some, None, refl, sym, ap, ◌∙◌, subst, ⊎_elim, cases_eq, ◌==◌, CellAt, SourceEvent, CellMode, Code, PlaceMode, Cell, Instr, Shape, Stop, NoLock, Fits, Machine, instr_at, word, is_of_null, stopped, opening_words, TurnsComeOut, MayStop, turn, after, Turn, Global, IsRun, MayTurn, put, state_now, result_of, opening_of, cell_at, made_cell, mode_of, place_at, lock_through, one_thread, bounds, place_after, IsThere, Access, access_by, events_of, holds_mutex, History, Obeys, Until, Targets, Field, FieldMode, Content, Gate, Closed, Checked, Holds, Loaded, HoldsLoaded, Sole, Label, Labels, LessGate, LessNumber, SameReference, gated, IsWellTyped, Fine, Accesses as TypedAccess, MayAccess, IsMode, knows_base, State, OnHold, IsOn, CellsAreThere, IsLockCheck, LacksLock, IsLocked, IsFollowed, ChecksAreFollowed, access_to, access_of, access_checked, ShowsLock, yes, TurnState}, TurnAt.{turn_at, thread_at}, Consists.Consists, Finds.is_there, Followed.{accessed_is, same_cell, same_access as moved_access}, LockModes.{same_copies, lock_mode_now}, Outcomes.reports, Single.rests_hold, Sole.{Halting, stop_none}, Carried.{put_same, put_other}}
 use Rattle.sharc_history_laws.specs.Followed.{Accesses}
 
 -- ---- the access that the check is of
@@ -40,21 +40,15 @@ holds_is c d (Sole r b) h e = let f : Sole r b ≡ Holds d = e in cc
 
 base_copies : (l : Label) (c : Cell) (g : Gate) (r : ℕ) → (gated (knows_base l c) g).same r ≡ l.same r
 base_copies l (Cell.Global h p) g r = refl
-base_copies l (Cell.GlobalAt h i) g r = refl
-base_copies l (Cell.Object q i) g r = refl
-base_copies l (Cell.ObjectAt q i) g r = refl
+base_copies l _ g r = refl
 
 base_numbers : (l : Label) (c : Cell) (g : Gate) (i : ℕ) → (gated (knows_base l c) g).ints i ≡ l.ints i
 base_numbers l (Cell.Global h p) g i = refl
-base_numbers l (Cell.GlobalAt h q) g i = refl
-base_numbers l (Cell.Object q p) g i = refl
-base_numbers l (Cell.ObjectAt q p) g i = refl
+base_numbers l _ g i = refl
 
 base_gate : (l : Label) (c : Cell) (g : Gate) → (gated (knows_base l c) g).gate ≡ g
 base_gate l (Cell.Global h p) g = refl
-base_gate l (Cell.GlobalAt h q) g = refl
-base_gate l (Cell.Object q p) g = refl
-base_gate l (Cell.ObjectAt q p) g = refl
+base_gate l _ g = refl
 
 -- a lock that a ChkLock looks for is that of a field that is under a lock
 module _ (x : Targets) (code : Code) (ls : Labels) (l : Label) (c : Cell) (write : Bool) (holds : Content) where
@@ -64,19 +58,11 @@ module _ (x : Targets) (code : Code) (ls : Labels) (l : Label) (c : Cell) (write
     pub may : MayAccess x code ls l write c holds (FieldMode.Under lock)
 
   under : (f : FieldMode) (mode : PlaceMode) → IsLocked mode → IsMode code l c f mode → MayAccess x code ls l write c holds f → IsUnder mode
-  under FieldMode.Private mode locked is may = absurd (subst IsLocked is locked)
-  under FieldMode.Readonly mode locked is may = absurd (subst IsLocked is locked)
-  under FieldMode.Racy mode locked is may = absurd (subst IsLocked is locked)
-  under FieldMode.Dynamic mode locked is may = absurd (subst IsLocked is locked)
   under (FieldMode.Under lock) mode locked is may = record { lock = lock; is = is; may = may }
-  under (FieldMode.Behind field pointer) mode locked is may = absurd (subst IsLocked is locked)
+  under _ mode locked is may = absurd (subst IsLocked is locked)
 
 module _ (cell_laws : CellsAreThere) (x : Targets) (code : Code) (s : Shape) (ls : Labels) (wt : IsWellTyped x code ls) (fits : Fits code s) (followed : ChecksAreFollowed code) (g : Global Machine) (world : Rattle.sharc_invariant.specs.World.World) (st : State x code s ls g world) (t : ℕ) (on : IsOn g t) where
-  abbrev m : Machine
-  m = g.threads t
-
-  abbrev here : Label
-  here = ls.at (g.threads t).at.pc
+  open thread_at st t use {m, here}
 
   abbrev next : Label
   next = ls.at ((g.threads t).at.pc + 1)
@@ -132,28 +118,8 @@ module _ (cell_laws : CellsAreThere) (x : Targets) (code : Code) (s : Shape) (ls
 
 -- ---- the machine that stopped has the same registers
 module _ (code : Code) (m : Machine) (stop : Stop) where
-  same_cell : (c : Cell) → cell_at code (stopped m stop) c ≡ cell_at code m c
-  same_cell (Cell.Global g p) = refl
-  same_cell (Cell.GlobalAt g r) = refl
-  same_cell (Cell.Object r p) = refl
-  same_cell (Cell.ObjectAt r i) = refl
-
-  same_mode : (at : CellAt) (mode : PlaceMode) → mode_of code (stopped m stop) at mode ≡ mode_of code m at mode
-  same_mode at PlaceMode.Private = refl
-  same_mode at PlaceMode.Readonly = refl
-  same_mode at PlaceMode.Racy = refl
-  same_mode at PlaceMode.Dynamic = refl
-  same_mode at (PlaceMode.LockedGlobal g p) = refl
-  same_mode at (PlaceMode.LockedSibling f mutex) = refl
-  same_mode at (PlaceMode.LockedThrough r p) = refl
-  same_mode at PlaceMode.LockedLoaded = refl
-
   same_to : (c : Cell) (site : ℕ) (write : Bool) → access_to code (stopped m stop) c site write ≡ access_to code m c site write
-  same_to c site write =
-      let a = same_cell c in
-      let b : mode_of code (stopped m stop) (cell_at code (stopped m stop) c) (place_at code site).mode ≡ mode_of code m (cell_at code m c) (place_at code site).mode =
-      same_mode (cell_at code (stopped m stop) c) (place_at code site).mode ∙ ap (λ at. mode_of code m at (place_at code site).mode) a in
-      λ i. record { cell = a i; mode = b i; is_write = write }
+  same_to = moved_access code m m.at.pc TurnState.Stopped (record m.own { stop = Some stop })
 
   pub same_access : (i : Instr) → access_of code (stopped m stop) i ≡ access_of code m i
   same_access (Instr.Load r c site) = ap (λ a. Some a) (same_to c site false)
@@ -179,14 +145,7 @@ module _ (outs : TurnsComeOut) (cell_laws : CellsAreThere) (x : Targets) (code :
     pub mode : access.mode ≡ CellMode.Locked (Some mutex)
 
   module _ (one : Turn) (earlier : List Turn) (run : RunOf (one ∷ earlier)) (site word : ℕ) where
-    abbrev g : Global Machine
-    g = place_after code s earlier
-
-    abbrev checker : Machine
-    checker = (place_after code s earlier).threads one.thread
-
-    abbrev i : Instr
-    i = instr_at code ((place_after code s earlier).threads one.thread).at.pc
+    open turn_at code s (place_after code s earlier) one use {g, m as checker, i}
 
     abbrev now : Machine
     now = after (turn code s ((place_after code s earlier).threads one.thread)) (result_of one.event)
@@ -212,7 +171,7 @@ module _ (outs : TurnsComeOut) (cell_laws : CellsAreThere) (x : Targets) (code :
         let stop = NoLock site word in
         subst (λ y. Names y site) (sym y) (record {
           mutex = cell_at code checker c;
-          check = subst (λ j. IsLockCheck code (stopped checker stop) j site (cell_at code checker c)) (sym is) (refl, sym (same_cell code checker stop c));
+          check = subst (λ j. IsLockCheck code (stopped checker stop) j site (cell_at code checker c)) (sym is) (refl, sym (same_cell code checker checker.at.pc TurnState.Stopped (record checker.own { stop = Some stop }) c));
           access = k.access;
           is = same_access code checker stop (instr_at code (checker.at.pc + 1)) ∙ k.is;
           mode = k.mode;

@@ -1,5 +1,5 @@
 -- At an access under a lock the thread holds that mutex by its events.
-use Rattle.sharc_history_laws.proofs.{Imports.{◌≡◌, ℕ, ℤ, pos, zero, suc, ◌+◌, ◌-◌, ◌*◌, ◌<◌, ◌≤◌, ◌≢◌, ◌⊎◌, inl, inr, true, false, not, cond, List, [], ◌∷◌, ◌++◌, Option, Some, None, is_some, if◌then◌else◌, refl, sym, ap, ◌∙◌, subst, ⊎_elim, arith, eqb-true, cases_eq, cases_lt, nat_tests, nat_lt, ◌==◌, slice_index_or, All, CellAt, Object, CellMode, HeldMutex, without, object_of, Code, PlaceMode, Cell, Shape, word_of, Fits, first_cell, words_of, cell_of, cell_word, Machine, ref, int, place, object, word, IsInGlobal, Global, said, cell_at, global_cell, made_cell, mode_of, place_at, no_global, speaks_of, IsThere, IsApart, Targets, FieldMode, FieldLock, Lock, StaticType, ObjectType, cells_of, GlobalLock, Through, Self, OfType, OfGlobals, OfElement, Refers, Element, Named, Nth, OfElementCell, OfGlobal, Label, Labels, SameReference, Itself, IsCopy, HasCopy, Copies, Chained, IsWellTyped, Fine, HasField, HasCell, MayAccess, IsMode, IsTypeMode, IsLockMode, IsLockCell, IsTypeLock, IsMutexOf, IsSibling, no_lock, RegisterOf, World, ObjectState, in_ref, State, NumberStands, ElementStands, OnHold, View, view_of, refs_at, types_at, IsOn}, Stands.{top, reads_ref, rn}, Lists.Newest, Holding.holds_in}
+use Rattle.sharc_history_laws.proofs.{Imports.{◌≡◌, ℕ, ℤ, pos, zero, suc, ◌+◌, ◌-◌, ◌*◌, ◌<◌, ◌≤◌, ◌≢◌, ◌⊎◌, inl, inr, true, false, not, cond, List, [], ◌∷◌, ◌++◌, Option, Some, None, is_some, if◌then◌else◌, refl, sym, ap, ◌∙◌, subst, ⊎_elim, arith, eqb-true, cases_eq, cases_lt, nat_tests, nat_lt, ◌==◌, slice_index_or, All, CellAt, Object, CellMode, HeldMutex, without, object_of, Code, PlaceMode, Cell, Shape, word_of, Fits, first_cell, words_of, cell_of, cell_word, Machine, ref, int, place, object, word, IsInGlobal, Global, cell_at, global_cell, made_cell, mode_of, no_global, IsThere, IsApart, Targets, FieldMode, FieldLock, Lock, StaticType, ObjectType, cells_of, GlobalLock, Through, Self, OfType, OfGlobals, OfElement, Refers, Element, Named, Nth, OfElementCell, OfGlobal, Labels, SameReference, Itself, IsCopy, HasCopy, Copies, Chained, IsWellTyped, IsMode, IsTypeMode, IsLockMode, IsLockCell, IsTypeLock, IsMutexOf, IsSibling, no_lock, RegisterOf, World, State, NumberStands, ElementStands, OnHold, types_at, IsOn}, TurnAt.thread_at, Stands.{top, reads_ref, rn}, Lists.Newest, Holding.holds_in}
 
 -- ---- entries of a log
 abbrev pub IsIn : HeldMutex → List HeldMutex → Type 0
@@ -119,17 +119,7 @@ pub lock_eq : (a : Option CellAt) (b : CellAt) → CellMode.Locked a ≡ CellMod
 lock_eq a b e = cc
 
 module _ (x : Targets) (code : Code) (s : Shape) (ls : Labels) (wt : IsWellTyped x code ls) (fits : Fits code s) (g : Global Machine) (world : World) (st : State x code s ls g world) (t : ℕ) (on : IsOn g t) (hold : OnHold (g.threads t).own.stage) where
-  abbrev m : Machine
-  m = g.threads t
-
-  abbrev here : Label
-  here = ls.at (g.threads t).at.pc
-
-  abbrev view : View
-  view = view_of st.elements world t (g.threads t)
-
-  abbrev refs : ℕ → ℕ
-  refs = refs_at view (g.threads t).at.refs
+  open thread_at st t use {m, here, view, refs}
 
   copy_of : (r : ℕ) → refs (here.same r) ≡ refs r
   copy_of r = (top x code s ls wt fits g world st t on hold (suc r) 0).same r (omega arith)
@@ -178,23 +168,15 @@ module _ (x : Targets) (code : Code) (s : Shape) (ls : Labels) (wt : IsWellTyped
       let inside : IsInGlobal code.globals.items is.0 (j + 2) = record { known = is.2.is; low = is.2.from; high = is.2.until } in
       let low = is.2.from in
       subst (λ c. Names code c 0 p) same (refl, subst (IsInGlobal code.globals.items is.0) (sym cell.0) inside, (let z = cell.0 in omega arith))
-  lock_names at r (GlobalLock j) (Cell.GlobalAt g' i) mode mutex cell is e there = absurd cell
-  lock_names at r (GlobalLock j) (Cell.Object a i) mode mutex cell is e there = absurd cell
-  lock_names at r (GlobalLock j) (Cell.ObjectAt a i) mode mutex cell is e there = absurd cell
   lock_names at r (Through q j) (Cell.Object a i) mode mutex cell is e there =
       let k = through_is (ref m is.0) j mutex (lock_eq (Rattle.sharc_code.specs.Says.lock_through (ref m is.0) j) mutex (sym (ap (mode_of code m at) is.1) ∙ e)) in
       let same : ref m is.0 ≡ ref m a = same_refs is.0 q is.2 ∙ sym (same_refs a q cell.1) in
       subst (λ c. Names code c (ref m a) (cell_of (ref m a) i)) (sym k.0) (same, some_ref a there, ap (λ n. cell_of n i) (sym same) ∙ ap (cell_of (ref m is.0)) cell.0)
-  lock_names at r (Through q j) (Cell.Global g' p) mode mutex cell is e there = absurd cell
-  lock_names at r (Through q j) (Cell.GlobalAt g' i) mode mutex cell is e there = absurd cell
-  lock_names at r (Through q j) (Cell.ObjectAt a i) mode mutex cell is e there = absurd cell
   lock_names at r (Self j) (Cell.Object a i) mode mutex cell is e there =
       let k = through_is (ref m is.0) j mutex (lock_eq (Rattle.sharc_code.specs.Says.lock_through (ref m is.0) j) mutex (sym (ap (mode_of code m at) is.1) ∙ e)) in
       let same : ref m is.0 ≡ ref m a = same_refs is.0 r is.2 ∙ sym (same_refs a r cell.1) in
       subst (λ c. Names code c (ref m a) (cell_of (ref m a) i)) (sym k.0) (same, some_ref a there, ap (λ n. cell_of n i) (sym same) ∙ ap (cell_of (ref m is.0)) cell.0)
-  lock_names at r (Self j) (Cell.Global g' p) mode mutex cell is e there = absurd cell
-  lock_names at r (Self j) (Cell.GlobalAt g' i) mode mutex cell is e there = absurd cell
-  lock_names at r (Self j) (Cell.ObjectAt a i) mode mutex cell is e there = absurd cell
+  lock_names at r _ _ mode mutex cell is e there = absurd cell
 
   refers_eq : (a b : StaticType) → Refers a ≡ Refers b → a ≡ b
   refers_eq a b e = cc
@@ -246,18 +228,7 @@ module _ (x : Targets) (code : Code) (s : Shape) (ls : Labels) (wt : IsWellTyped
       let wj : word_of (int m j) ≡ b.0 * cells_of x (types_at view m.at.refs q).target + mutex = ap word_of b.1 in
       let cell : word_of (int m j) ≡ word_of (int m i) - field + mutex = omega arith in
       (same, some_ref q there, ap (λ n. cell_of n (word_of (int m j))) (sym same) ∙ ap (cell_of (ref m r)) cell)
-  sibling_names (Cell.Global g' p) (Cell.GlobalAt h j) field mutex is before there = absurd is
-  sibling_names (Cell.Global g' p) (Cell.Object q j) field mutex is before there = absurd is
-  sibling_names (Cell.Global g' p) (Cell.ObjectAt q j) field mutex is before there = absurd is
-  sibling_names (Cell.GlobalAt g' i) (Cell.Global h q) field mutex is before there = absurd is
-  sibling_names (Cell.GlobalAt g' i) (Cell.Object q j) field mutex is before there = absurd is
-  sibling_names (Cell.GlobalAt g' i) (Cell.ObjectAt q j) field mutex is before there = absurd is
-  sibling_names (Cell.Object r i) (Cell.Global h q) field mutex is before there = absurd is
-  sibling_names (Cell.Object r i) (Cell.GlobalAt h j) field mutex is before there = absurd is
-  sibling_names (Cell.Object r i) (Cell.ObjectAt q j) field mutex is before there = absurd is
-  sibling_names (Cell.ObjectAt r i) (Cell.Global h q) field mutex is before there = absurd is
-  sibling_names (Cell.ObjectAt r i) (Cell.GlobalAt h j) field mutex is before there = absurd is
-  sibling_names (Cell.ObjectAt r i) (Cell.Object q j) field mutex is before there = absurd is
+  sibling_names _ _ field mutex is before there = absurd is
 
   pub mutex_names : (c d : Cell) (lock : FieldLock) (mode : PlaceMode) (mutex : CellAt) → IsMutexOf code here lock c d → IsMode code here c (FieldMode.Under lock) mode → mode_of code (g.threads t) (cell_at code (g.threads t) c) mode ≡ CellMode.Locked (Some mutex) → IsThere code (g.threads t) d
       → Names code mutex (object (g.threads t) d) (place (g.threads t) d)

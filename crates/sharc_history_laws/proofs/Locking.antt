@@ -1,5 +1,5 @@
 -- The held logs of threads are those that their events tell, so an access under a lock comes while the thread holds the mutex.
-use Rattle.sharc_history_laws.proofs.{Imports.{◌≡◌, ℕ, zero, suc, ◌+◌, ◌<◌, ◌≢◌, ◌⊎◌, inl, Bool, true, false, not, ◌||◌, ◌&&◌, length, List, [], ◌∷◌, ◌++◌, reverse, Option, Some, None, if◌then◌else◌, refl, sym, ap, ◌∙◌, subst, ⊎_elim, arith, cases_eq, nat_tests, nat_lt, ◌==◌, Act, SourceEvent, CellAt, Object, CellMode, HeldMutex, with_mutex, without, Code, PlaceMode, Cell, Instr, Shape, RunLaws, Fits, first_cell, words_of, cell_of, Machine, instr_at, place, object, word, is_held, taken, act, locked, goes, fails, opening_words, is_locking, turn, after, Turn, Global, IsRun, MayTurn, after_turn, put, state_now, result_of, opening_of, one_thread, bounds, place_after, said, cell_at, mode_of, place_at, speaks_of, event_at, lock_through, said_now, IsMutex, table_of, Access, same_object, same_cell, is_cell, locks, unlocks, is_of, History, IsAccess, Targets, FieldMode, Labels, IsWellTyped, Fine, MayAccess, IsMode, World, IsSmall, StageStands, GateStands, OnHold, IsOn, Keeps, CodeBegins, CellsAreThere, PointersAreThere, AccessesAreAllowed, history_of, is_below}, Single.rests_hold, Stands.gate, Finds.{mutex_cell, pending_apart}, Consists.{Consists, consists_then, at_first}, Acts.{access_said, thread_said, no_access, access_at, IsAccess as TellsAccess, access_of}, Told.is_access, Lists.{Newest, EachAccess, no_event, each_push}, Rules.{pushed, newest, newest_now, number_is, about_now, hold_access}, Holding.{cell_eq, holds_in, holds_other, holds_own}, Outcomes.logs, Mutexless.{mutex_said, no_mutex, not_locked}, Locked.{IsIn, in_append, in_without, Names, names_one, names_cell, one_place, LogTold, held_told, mutex_names, lock_eq, through_is}, Carried.{put_same, put_other}}
+use Rattle.sharc_history_laws.proofs.{Imports.{◌≡◌, ℕ, zero, suc, ◌+◌, ◌<◌, ◌≢◌, ◌⊎◌, inl, Bool, true, false, not, ◌||◌, ◌&&◌, length, List, [], ◌∷◌, ◌++◌, reverse, Option, Some, None, if◌then◌else◌, refl, sym, ap, ◌∙◌, subst, ⊎_elim, arith, cases_eq, nat_tests, nat_lt, ◌==◌, Act, SourceEvent, CellAt, Object, CellMode, HeldMutex, with_mutex, without, Code, PlaceMode, Cell, Instr, Shape, RunLaws, Fits, first_cell, words_of, cell_of, Machine, place, object, word, is_held, taken, act, locked, goes, fails, opening_words, is_locking, turn, after, Turn, Global, IsRun, MayTurn, after_turn, put, state_now, result_of, opening_of, one_thread, bounds, place_after, said, cell_at, mode_of, place_at, event_at, lock_through, said_now, IsMutex, table_of, Access, same_object, same_cell, is_cell, locks, unlocks, is_of, History, IsAccess, Targets, FieldMode, Labels, IsWellTyped, MayAccess, IsMode, World, IsSmall, GateStands, OnHold, Keeps, CodeBegins, CellsAreThere, PointersAreThere, AccessesAreAllowed, history_of, is_below, eqb-true}, TurnAt.{turn_at, told_at, turn_stands}, Single.rests_hold, Stands.gate, Finds.{mutex_cell, pending_apart}, Consists.{Consists, consists_then, at_first}, Acts.{access_said, thread_said, no_access, access_at, IsAccess as TellsAccess, access_of}, Told.is_access, Lists.{Newest, EachAccess, no_event}, Rules.{pushed, newest, newest_now, number_is, about_now, hold_access, each_pushed}, Holding.{cell_eq, holds_in, holds_other, holds_own}, Outcomes.logs, Mutexless.{mutex_said, no_mutex, not_locked}, Locked.{IsIn, in_append, in_without, Names, names_one, names_cell, one_place, LogTold, held_told, mutex_names, lock_eq, through_is}, Carried.{put_same, put_other}}
 
 object_refl : (a : Object) → same_object a a ≡ true
 object_refl (Object.Global g) = let e : (g == g) ≡ true = grind (arith, nat_tests) in e
@@ -11,38 +11,13 @@ cell_refl c = ap (λ b. b && (c.cell == c.cell)) (object_refl c.object) ∙ (let
 -- ---- one turn
 module _ (cell_laws : CellsAreThere) (pointers : PointersAreThere) (rights : AccessesAreAllowed) (laws : RunLaws) (keeps : Keeps) (x : Targets) (code : Code) (s : Shape) (ls : Labels) (wt : IsWellTyped x code ls) (fits : Fits code s) (few : IsSmall code s)
     (one : Turn) (earlier : List Turn) (h : Consists x code s ls earlier) (may : MayTurn bounds (one_thread code s) (place_after code s earlier) one) where
-  abbrev g : Global Machine
-  g = place_after code s earlier
-
-  abbrev t : ℕ
-  t = one.thread
-
-  abbrev m : Machine
-  m = (place_after code s earlier).threads one.thread
-
-  abbrev i : Instr
-  i = instr_at code ((place_after code s earlier).threads one.thread).at.pc
+  open turn_at code s (place_after code s earlier) one use {g, t, m, i, found}
+  open told_at code s earlier one use {elements, event}
 
   abbrev world : World
   world = h.world
 
-  abbrev found : ℕ
-  found = result_of one.event
-
-  abbrev elements : ℕ
-  elements = table_of code s earlier (speaks_of (instr_at code ((place_after code s earlier).threads one.thread).at.pc) ((place_after code s earlier).threads one.thread) (result_of one.event))
-
-  abbrev event : Option SourceEvent
-  event = said code i ((place_after code s earlier).threads one.thread) found elements
-
-  on : IsOn (place_after code s earlier) one.thread
-  on = (may.started, may.next.runs)
-
-  stage_here : (j : Instr) → i ≡ j → StageStands code s h.state.elements h.world h.state.heap (place_after code s earlier).words one.thread ((place_after code s earlier).threads one.thread) j ((place_after code s earlier).threads one.thread).own.stage
-  stage_here j e = subst (λ j. StageStands code s h.state.elements h.world h.state.heap g.words t m j m.own.stage) e ((h.state.threads t).runs on.0 on.1).stage
-
-  fine : (j : Instr) → i ≡ j → Fine x code ls ((place_after code s earlier).threads one.thread).at.pc (ls.at ((place_after code s earlier).threads one.thread).at.pc) j
-  fine j e = subst (Fine x code ls m.at.pc (ls.at m.at.pc)) e (wt.fine m.at.pc)
+  open turn_stands wt h.state one may use {on, stage_here, fine}
 
   thread_is : (e : SourceEvent) → event ≡ Some e → e.thread ≡ one.thread
   thread_is e is = ap (thread_said m.own.number) (sym is) ∙ (about_now cell_laws pointers rights laws keeps x code s ls wt fits few one earlier h may).thread ∙ number_is cell_laws pointers rights laws keeps x code s ls wt fits few one earlier h may
@@ -71,6 +46,11 @@ module _ (cell_laws : CellsAreThere) (pointers : PointersAreThere) (rights : Acc
   lock_mutex c site is =
       let f = fine (Instr.Lock c site) is in
       mutex_cell cell_laws x code s ls wt fits g world h.state t on (rests_hold code s h.state.elements world h.state.heap g.words t m (Instr.Lock c site) m.own.stage refl (stage_here (Instr.Lock c site) is)) c f.2.0 f.2.1
+
+  unlock_mutex : (r : ℕ) (c : Cell) (site : ℕ) → i ≡ Instr.Unlock r c site → IsMutex code s ((place_after code s earlier).threads one.thread) c
+  unlock_mutex r c site is =
+      let f = fine (Instr.Unlock r c site) is in
+      mutex_cell cell_laws x code s ls wt fits g world h.state t on (rests_hold code s h.state.elements world h.state.heap g.words t m (Instr.Unlock r c site) m.own.stage refl (stage_here (Instr.Unlock r c site) is)) c f.2.0 f.2.1
 
   pub word_is : (c : Cell) → IsMutex code s ((place_after code s earlier).threads one.thread) c → word s ((place_after code s earlier).threads one.thread) c ≡ first_cell s + place ((place_after code s earlier).threads one.thread) c
   word_is c k = ap (λ b. if b then first_cell s + place m c else 0) (is_below (first_cell s + place m c) (words_of s) k.apart.inside)
@@ -129,46 +109,53 @@ module _ (cell_laws : CellsAreThere) (pointers : PointersAreThere) (rights : Acc
   abbrev pub unlock_event : Cell → ℕ → SourceEvent
   unlock_event c site = record { thread = m.own.number; site = (place_at code site).site; answer = Rattle.std.specs.Prelude.pos 0; act = Act.Unlock (cell_at code m c) }
 
-  -- the turn
+  -- what stands of the events and of the log stands after the turn, where an event of neither kind, a Lock and an Unlock keep it
+  module _ (P : Newest → List HeldMutex → Type 0) (L : Newest) (old : P L mine) (quiet : (ev : Option SourceEvent) → event ≡ ev → mutex_said ev ≡ false → P (pushed ev L) mine)
+      (with_lock : (c : Cell) (site : ℕ) → i ≡ Instr.Lock c site → found ≡ 0 → event ≡ Some (lock_event c site)
+      → P (lock_event c site ∷ L) (taken ((place_after code s earlier).threads one.thread) (word s ((place_after code s earlier).threads one.thread) c) (object ((place_after code s earlier).threads one.thread) c)))
+      (with_unlock : (r : ℕ) (c : Cell) (site : ℕ) → i ≡ Instr.Unlock r c site → event ≡ Some (unlock_event c site) → P (unlock_event c site ∷ L) (without mine (word s ((place_after code s earlier).threads one.thread) c))) where
+    pub log_then : (ev : Option SourceEvent) → event ≡ ev → P (pushed ev L) (after (turn code s ((place_after code s earlier).threads one.thread)) found).own.held
+    log_then ev e = by i refl
+      where
+        at_lock : (c : Cell) (site : ℕ) → i ≡ Instr.Lock c site → P (pushed ev L) (after (turn code s ((place_after code s earlier).threads one.thread)) found).own.held
+        at_lock c site is =
+            let held_is : (after (turn code s m) found).own.held ≡ (locked m c (word s m c) found).own.held = ap (λ j. (after (act code s j m) found).own.held) is in
+            let said_is : event ≡ (if found == 0 then event_at code m site (Rattle.std.specs.Prelude.pos 0) (Act.Lock (cell_at code m c)) else None) = ap (λ j. said code j m found elements) is in
+            subst (P (pushed ev L)) (sym held_is) (choose (found == 0) refl (sym e ∙ said_is))
+          where
+            choose : (b : Bool) → (found == 0) ≡ b → ev ≡ (if (found == 0) then event_at code ((place_after code s earlier).threads one.thread) site (Rattle.std.specs.Prelude.pos 0) (Act.Lock (cell_at code ((place_after code s earlier).threads one.thread) c)) else None)
+                → P (pushed ev L) (locked ((place_after code s earlier).threads one.thread) c (word s ((place_after code s earlier).threads one.thread) c) found).own.held
+            choose true z q =
+                let now : ev ≡ event_at code m site (Rattle.std.specs.Prelude.pos 0) (Act.Lock (cell_at code m c)) = q ∙ ap (λ b. if b then event_at code m site (Rattle.std.specs.Prelude.pos 0) (Act.Lock (cell_at code m c)) else None) z in
+                let held : (locked m c (word s m c) found).own.held ≡ taken m (word s m c) (object m c) = ap (λ b. (if b then goes (record (Rattle.sharc_code.specs.Machine.without_base m c) { own = record m.own { held = taken m (word s m c) (object m c) } }) else fails m).own.held) z in
+                subst (λ ev. P (pushed ev L) (locked m c (word s m c) found).own.held) (sym now) (subst (P (lock_event c site ∷ L)) (sym held) (with_lock c site is (eqb-true found 0 z) (e ∙ now)))
+            choose false z q =
+                let now : ev ≡ None = q ∙ ap (λ b. if b then event_at code m site (Rattle.std.specs.Prelude.pos 0) (Act.Lock (cell_at code m c)) else None) z in
+                let held : (locked m c (word s m c) found).own.held ≡ m.own.held = ap (λ b. (if b then goes (record (Rattle.sharc_code.specs.Machine.without_base m c) { own = record m.own { held = taken m (word s m c) (object m c) } }) else fails m).own.held) z in
+                subst (λ ev. P (pushed ev L) (locked m c (word s m c) found).own.held) (sym now) (subst (P L) (sym held) old)
+
+        at_unlock : (r : ℕ) (c : Cell) (site : ℕ) → i ≡ Instr.Unlock r c site → P (pushed ev L) (after (turn code s ((place_after code s earlier).threads one.thread)) found).own.held
+        at_unlock r c site is =
+            let held_is : (after (turn code s m) found).own.held ≡ without m.own.held (word s m c) = ap (λ j. (after (act code s j m) found).own.held) is in
+            let said_is : event ≡ event_at code m site (Rattle.std.specs.Prelude.pos 0) (Act.Unlock (cell_at code m c)) = ap (λ j. said code j m found elements) is in
+            subst (λ ev. P (pushed ev L) (after (turn code s m) found).own.held) (sym said_is ∙ e) (subst (P (unlock_event c site ∷ L)) (sym held_is) (with_unlock r c site is said_is))
+
+        others : is_locking i ≡ false → P (pushed ev L) (after (turn code s ((place_after code s earlier).threads one.thread)) found).own.held
+        others never =
+            let held = logs s i found m _ (laws.turns.outcomes code s i m found) never in
+            let silent : mutex_said ev ≡ false = ap mutex_said (sym e) ∙ no_mutex code m i found elements never in
+            subst (P (pushed ev L)) (sym held) (quiet ev e silent)
+
+        by : (j : Instr) → i ≡ j → P (pushed ev L) (after (turn code s ((place_after code s earlier).threads one.thread)) found).own.held
+        by (Instr.Lock c site) is = at_lock c site is
+        by (Instr.Unlock r c site) is = at_unlock r c site is
+        by _ is = others (ap is_locking is)
+
+  -- the log of the thread
   own_log : (L : Newest) → LogTold code s L one.thread mine → (ev : Option SourceEvent) → event ≡ ev → LogTold code s (pushed ev L) one.thread (after (turn code s ((place_after code s earlier).threads one.thread)) found).own.held
-  own_log L old ev e = by i refl
-    where
-      at_lock : (c : Cell) (site : ℕ) → i ≡ Instr.Lock c site → LogTold code s (pushed ev L) one.thread (after (turn code s ((place_after code s earlier).threads one.thread)) found).own.held
-      at_lock c site is =
-          let mutex = lock_mutex c site is in
-          let held_is : (after (turn code s m) found).own.held ≡ (locked m c (word s m c) found).own.held = ap (λ j. (after (act code s j m) found).own.held) is in
-          let said_is : event ≡ (if found == 0 then event_at code m site (Rattle.std.specs.Prelude.pos 0) (Act.Lock (cell_at code m c)) else None) = ap (λ j. said code j m found elements) is in
-          subst (LogTold code s (pushed ev L) t) (sym held_is) (choose (found == 0) refl (sym e ∙ said_is))
-        where
-          choose : (b : Bool) → (found == 0) ≡ b → ev ≡ (if (found == 0) then event_at code ((place_after code s earlier).threads one.thread) site (Rattle.std.specs.Prelude.pos 0) (Act.Lock (cell_at code ((place_after code s earlier).threads one.thread) c)) else None)
-              → LogTold code s (pushed ev L) one.thread (locked ((place_after code s earlier).threads one.thread) c (word s ((place_after code s earlier).threads one.thread) c) found).own.held
-          choose true z q =
-              let now : ev ≡ event_at code m site (Rattle.std.specs.Prelude.pos 0) (Act.Lock (cell_at code m c)) = q ∙ ap (λ b. if b then event_at code m site (Rattle.std.specs.Prelude.pos 0) (Act.Lock (cell_at code m c)) else None) z in
-              let held : (locked m c (word s m c) found).own.held ≡ taken m (word s m c) (object m c) = ap (λ b. (if b then goes (record (Rattle.sharc_code.specs.Machine.without_base m c) { own = record m.own { held = taken m (word s m c) (object m c) } }) else fails m).own.held) z in
-              subst (λ ev. LogTold code s (pushed ev L) t (locked m c (word s m c) found).own.held) (sym now) (subst (LogTold code s (lock_event c site ∷ L) t) (sym held) (told_lock L old c (lock_mutex c site is) (lock_event c site) (e ∙ now) refl))
-          choose false z q =
-              let now : ev ≡ None = q ∙ ap (λ b. if b then event_at code m site (Rattle.std.specs.Prelude.pos 0) (Act.Lock (cell_at code m c)) else None) z in
-              let held : (locked m c (word s m c) found).own.held ≡ m.own.held = ap (λ b. (if b then goes (record (Rattle.sharc_code.specs.Machine.without_base m c) { own = record m.own { held = taken m (word s m c) (object m c) } }) else fails m).own.held) z in
-              subst (λ ev. LogTold code s (pushed ev L) t (locked m c (word s m c) found).own.held) (sym now) (subst (LogTold code s L t) (sym held) old)
-
-      at_unlock : (r : ℕ) (c : Cell) (site : ℕ) → i ≡ Instr.Unlock r c site → LogTold code s (pushed ev L) one.thread (after (turn code s ((place_after code s earlier).threads one.thread)) found).own.held
-      at_unlock r c site is =
-          let f = fine (Instr.Unlock r c site) is in
-          let mutex = mutex_cell cell_laws x code s ls wt fits g world h.state t on (rests_hold code s h.state.elements world h.state.heap g.words t m (Instr.Unlock r c site) m.own.stage refl (stage_here (Instr.Unlock r c site) is)) c f.2.0 f.2.1 in
-          let held_is : (after (turn code s m) found).own.held ≡ without m.own.held (word s m c) = ap (λ j. (after (act code s j m) found).own.held) is in
-          let said_is : event ≡ event_at code m site (Rattle.std.specs.Prelude.pos 0) (Act.Unlock (cell_at code m c)) = ap (λ j. said code j m found elements) is in
-          subst (λ ev. LogTold code s (pushed ev L) t (after (turn code s m) found).own.held) (sym said_is ∙ e) (subst (LogTold code s (unlock_event c site ∷ L) t) (sym held_is) (told_unlock L old c mutex (unlock_event c site) said_is refl))
-
-      others : is_locking i ≡ false → LogTold code s (pushed ev L) one.thread (after (turn code s ((place_after code s earlier).threads one.thread)) found).own.held
-      others never =
-          let held = logs s i found m _ (laws.turns.outcomes code s i m found) never in
-          let quiet : mutex_said ev ≡ false = ap mutex_said (sym e) ∙ no_mutex code m i found elements never in
-          subst (LogTold code s (pushed ev L) t) (sym held) (told_quiet L old ev e quiet)
-
-      by : (j : Instr) → i ≡ j → LogTold code s (pushed ev L) one.thread (after (turn code s ((place_after code s earlier).threads one.thread)) found).own.held
-      by (Instr.Lock c site) is = at_lock c site is
-      by (Instr.Unlock r c site) is = at_unlock r c site is
-      by _ is = others (ap is_locking is)
+  own_log L old = log_then (λ L. LogTold code s L t) L old (told_quiet L old)
+      (λ c site is zero said_is. told_lock L old c (lock_mutex c site is) (lock_event c site) said_is refl)
+      (λ r c site is said_is. told_unlock L old c (unlock_mutex r c site is) (unlock_event c site) said_is refl)
 
   -- the logs of all threads
   other_log : (L : Newest) (u : ℕ) → (u ≡ one.thread → ⊥) → (log : List HeldMutex) → LogTold code s L u log → (ev : Option SourceEvent) → event ≡ ev → LogTold code s (pushed ev L) u log
@@ -244,10 +231,6 @@ pub record Locks (x : Targets) (code : Code) (s : Shape) (ls : Labels) (run : Li
   pub under : EachAccess UnderItsLock (history_of code s run)
 
 module _ (cell_laws : CellsAreThere) (pointers : PointersAreThere) (rights : AccessesAreAllowed) (laws : RunLaws) (begins_law : CodeBegins) (keeps : Keeps) (x : Targets) (code : Code) (s : Shape) (ls : Labels) (wt : IsWellTyped x code ls) (fits : Fits code s) (few : IsSmall code s) where
-  pushed_under : (ev : Option SourceEvent) (L : Newest) → EachAccess UnderItsLock (reverse L) → ((e : SourceEvent) → ev ≡ Some e → (a : Access) → IsAccess e a → UnderItsLock (reverse L) e a) → EachAccess UnderItsLock (reverse (pushed ev L))
-  pushed_under None L old new = old
-  pushed_under (Some e) L old new = each_push UnderItsLock e L old (new e refl)
-
   pub lock_runs : (run : List Turn) → IsRun bounds (one_thread code s) (opening_of bounds (one_thread code s) (opening_words code s)) run → Locks x code s ls run
   lock_runs [] run = record {
     consists = at_first begins_law x code s ls wt fits;
@@ -267,5 +250,5 @@ module _ (cell_laws : CellsAreThere) (pointers : PointersAreThere) (rights : Acc
         logs = subst (λ (L : Newest). (u : ℕ) → LogTold code s L u ((place_after code s (one ∷ earlier)).threads u).own.held) (sym now)
             (logs_then cell_laws pointers rights laws keeps x code s ls wt fits few one earlier h may L old.logs ev refl);
         under = subst (λ (L : Newest). EachAccess UnderItsLock (reverse L)) (sym now)
-            (pushed_under ev L old.under (λ e is a access mutex mode. under_now cell_laws pointers rights laws keeps x code s ls wt fits few one earlier h may L (old.logs one.thread) e is a access mutex mode));
+            (each_pushed UnderItsLock ev L old.under (λ e is a access mutex mode. under_now cell_laws pointers rights laws keeps x code s ls wt fits few one earlier h may L (old.logs one.thread) e is a access mutex mode));
       }

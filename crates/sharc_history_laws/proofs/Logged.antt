@@ -1,5 +1,5 @@
 -- What a thread holds by its events is in its held log, so where a lock check is refused it does not hold the mutex.
-use Rattle.sharc_history_laws.proofs.{Imports.{◌≡◌, ℕ, pos, zero, suc, ◌+◌, ◌<◌, ◌⊎◌, inl, inr, Bool, true, false, not, cond, ◌||◌, ◌&&◌, length, List, [], ◌∷◌, ◌++◌, reverse, Option, Some, None, is_some, if◌then◌else◌, refl, sym, ap, ◌∙◌, subst, ⊎_elim, arith, eqb-true, cases_eq, nat_tests, nat_lt, ◌==◌, Act, SourceEvent, CellAt, HeldMutex, with_mutex, without, object_of, Code, Cell, Instr, Shape, NoLock, RunLaws, Fits, first_cell, words_of, cell_of, cell_word, Machine, instr_at, ref, place, object, word, is_held, is_of_null, taken, act, locked, goes, fails, stopped, opening_words, MayStop, is_locking, turn, after, may_go, Turn, Global, IsRun, MayTurn, after_turn, put, state_now, result_of, opening_of, one_thread, bounds, place_after, said, cell_at, made_cell, speaks_of, event_at, said_now, MayFind, IsLock, IsMutex, IsApart, IsFree, table_of, same_cell, is_cell, locks, unlocks, is_of, Targets, Labels, IsWellTyped, IsSmall, Keeps, CodeBegins, CellsAreThere, PointersAreThere, AccessesAreAllowed, history_of, IsLockCheck, LacksLock, is_below, yes}, Consists.{Consists, consists_then, own_turn, at_first}, Lists.Newest, Rules.{pushed, newest, newest_now}, Holding.{cell_eq, holds_in, holds_other, holds_own}, Mutexless.{mutex_said, no_mutex, not_locked}, Locked.{IsIn, all_in, Names, names_one, names_cell, one_place}, Locking.{cell_refl, is_own, is_others, word_is, lock_event, unlock_event}, Outcomes.{logs, reports, halts}, Sole.stop_none, Carried.{put_same, put_other}}
+use Rattle.sharc_history_laws.proofs.{Imports.{◌≡◌, ℕ, zero, suc, ◌+◌, ◌<◌, ◌⊎◌, inl, inr, Bool, true, false, not, cond, ◌||◌, ◌&&◌, length, List, [], ◌∷◌, ◌++◌, reverse, Option, Some, None, is_some, if◌then◌else◌, refl, sym, ap, ◌∙◌, subst, ⊎_elim, arith, eqb-true, cases_eq, nat_tests, nat_lt, ◌==◌, Act, SourceEvent, CellAt, HeldMutex, with_mutex, without, object_of, Code, Cell, Instr, Shape, NoLock, RunLaws, Fits, first_cell, words_of, cell_of, cell_word, Machine, ref, place, object, word, is_held, is_of_null, taken, act, stopped, opening_words, MayStop, turn, after, may_go, Turn, Global, IsRun, MayTurn, after_turn, put, state_now, result_of, opening_of, one_thread, bounds, place_after, said, cell_at, made_cell, said_now, MayFind, IsLock, IsMutex, IsApart, IsFree, table_of, same_cell, is_cell, locks, unlocks, is_of, Targets, Labels, IsWellTyped, IsSmall, Keeps, CodeBegins, CellsAreThere, PointersAreThere, AccessesAreAllowed, history_of, IsLockCheck, LacksLock, is_below, yes}, TurnAt.{turn_at, told_at}, Consists.{Consists, consists_then, own_turn, at_first}, Lists.Newest, Rules.{pushed, newest, newest_now}, Holding.{cell_eq, holds_in, holds_other, holds_own}, Mutexless.{mutex_said, not_locked}, Locked.{IsIn, all_in, Names, names_one, names_cell, one_place}, Locking.{cell_refl, is_own, is_others, word_is, lock_event, unlock_event, log_then}, Outcomes.{reports, halts}, Sole.stop_none, Carried.{put_same, put_other}}
 
 pub above : (n : ℕ) → (n == 0) ≡ false → 0 < n
 above zero e = absurd (yes e)
@@ -45,26 +45,8 @@ LogHas code s L t log = (c : CellAt) → holds_in L t c ≡ true → (h : HeldMu
 -- ---- one turn
 module _ (cell_laws : CellsAreThere) (pointers : PointersAreThere) (rights : AccessesAreAllowed) (laws : RunLaws) (keeps : Keeps) (x : Targets) (code : Code) (s : Shape) (ls : Labels) (wt : IsWellTyped x code ls) (fits : Fits code s) (few : IsSmall code s)
     (one : Turn) (earlier : List Turn) (h : Consists x code s ls earlier) (may : MayTurn bounds (one_thread code s) (place_after code s earlier) one) where
-  abbrev g : Global Machine
-  g = place_after code s earlier
-
-  abbrev t : ℕ
-  t = one.thread
-
-  abbrev m : Machine
-  m = (place_after code s earlier).threads one.thread
-
-  abbrev i : Instr
-  i = instr_at code ((place_after code s earlier).threads one.thread).at.pc
-
-  abbrev found : ℕ
-  found = result_of one.event
-
-  abbrev elements : ℕ
-  elements = table_of code s earlier (speaks_of (instr_at code ((place_after code s earlier).threads one.thread).at.pc) ((place_after code s earlier).threads one.thread) (result_of one.event))
-
-  abbrev event : Option SourceEvent
-  event = said code i ((place_after code s earlier).threads one.thread) found elements
+  open turn_at code s (place_after code s earlier) one use {g, t, m, i, found}
+  open told_at code s earlier one use {elements, event}
 
   abbrev mine : List HeldMutex
   mine = ((place_after code s earlier).threads one.thread).own.held
@@ -131,45 +113,9 @@ module _ (cell_laws : CellsAreThere) (pointers : PointersAreThere) (rights : Acc
       (held_parts d e L named is)
 
   own_has : (L : Newest) → LogHas code s L one.thread mine → (ev : Option SourceEvent) → event ≡ ev → LogHas code s (pushed ev L) one.thread (after (turn code s ((place_after code s earlier).threads one.thread)) found).own.held
-  own_has L old ev e = by i refl
-    where
-      at_lock : (c : Cell) (site : ℕ) → i ≡ Instr.Lock c site → LogHas code s (pushed ev L) one.thread (after (turn code s ((place_after code s earlier).threads one.thread)) found).own.held
-      at_lock c site is =
-          let held_is : (after (turn code s m) found).own.held ≡ (locked m c (word s m c) found).own.held = ap (λ j. (after (act code s j m) found).own.held) is in
-          let said_is : event ≡ (if found == 0 then event_at code m site (pos 0) (Act.Lock (cell_at code m c)) else None) = ap (λ j. said code j m found elements) is in
-          subst (LogHas code s (pushed ev L) t) (sym held_is) (choose (found == 0) refl (sym e ∙ said_is))
-        where
-          choose : (b : Bool) → (found == 0) ≡ b → ev ≡ (if (found == 0) then event_at code ((place_after code s earlier).threads one.thread) site (pos 0) (Act.Lock (cell_at code ((place_after code s earlier).threads one.thread) c)) else None)
-              → LogHas code s (pushed ev L) one.thread (locked ((place_after code s earlier).threads one.thread) c (word s ((place_after code s earlier).threads one.thread) c) found).own.held
-          choose true z q =
-              let d = lock_event cell_laws pointers rights laws keeps x code s ls wt fits few one earlier h may c site in
-              let now : ev ≡ event_at code m site (pos 0) (Act.Lock (cell_at code m c)) = q ∙ ap (λ b. if b then event_at code m site (pos 0) (Act.Lock (cell_at code m c)) else None) z in
-              let held : (locked m c (word s m c) found).own.held ≡ taken m (word s m c) (object m c) = ap (λ b. (if b then goes (record (Rattle.sharc_code.specs.Machine.without_base m c) { own = record m.own { held = taken m (word s m c) (object m c) } }) else fails m).own.held) z in
-              let free = may_find (Instr.Lock c site) is (eqb-true found 0 z) in
-              subst (λ ev. LogHas code s (pushed ev L) t (locked m c (word s m c) found).own.held) (sym now) (subst (LogHas code s (d ∷ L) t) (sym held) (has_lock L old c free d (e ∙ now) refl))
-          choose false z q =
-              let now : ev ≡ None = q ∙ ap (λ b. if b then event_at code m site (pos 0) (Act.Lock (cell_at code m c)) else None) z in
-              let held : (locked m c (word s m c) found).own.held ≡ m.own.held = ap (λ b. (if b then goes (record (Rattle.sharc_code.specs.Machine.without_base m c) { own = record m.own { held = taken m (word s m c) (object m c) } }) else fails m).own.held) z in
-              subst (λ ev. LogHas code s (pushed ev L) t (locked m c (word s m c) found).own.held) (sym now) (subst (LogHas code s L t) (sym held) old)
-
-      at_unlock : (r : ℕ) (c : Cell) (site : ℕ) → i ≡ Instr.Unlock r c site → LogHas code s (pushed ev L) one.thread (after (turn code s ((place_after code s earlier).threads one.thread)) found).own.held
-      at_unlock r c site is =
-          let held = may_find (Instr.Unlock r c site) is in
-          let d = unlock_event cell_laws pointers rights laws keeps x code s ls wt fits few one earlier h may c site in
-          let held_is : (after (turn code s m) found).own.held ≡ without m.own.held (word s m c) = ap (λ j. (after (act code s j m) found).own.held) is in
-          let said_is : event ≡ event_at code m site (pos 0) (Act.Unlock (cell_at code m c)) = ap (λ j. said code j m found elements) is in
-          subst (λ ev. LogHas code s (pushed ev L) t (after (turn code s m) found).own.held) (sym said_is ∙ e) (subst (LogHas code s (d ∷ L) t) (sym held_is) (has_unlock L old c held.mutex d said_is refl))
-
-      others : is_locking i ≡ false → LogHas code s (pushed ev L) one.thread (after (turn code s ((place_after code s earlier).threads one.thread)) found).own.held
-      others never =
-          let held = logs s i found m _ (laws.turns.outcomes code s i m found) never in
-          let quiet : mutex_said ev ≡ false = ap mutex_said (sym e) ∙ no_mutex code m i found elements never in
-          subst (LogHas code s (pushed ev L) t) (sym held) (has_quiet L old ev e quiet)
-
-      by : (j : Instr) → i ≡ j → LogHas code s (pushed ev L) one.thread (after (turn code s ((place_after code s earlier).threads one.thread)) found).own.held
-      by (Instr.Lock c site) is = at_lock c site is
-      by (Instr.Unlock r c site) is = at_unlock r c site is
-      by _ is = others (ap is_locking is)
+  own_has L old = log_then cell_laws pointers rights laws keeps x code s ls wt fits few one earlier h may (λ L. LogHas code s L t) L old (has_quiet L old)
+      (λ c site is zero said_is. has_lock L old c (may_find (Instr.Lock c site) is zero) (lock_event cell_laws pointers rights laws keeps x code s ls wt fits few one earlier h may c site) said_is refl)
+      (λ r c site is said_is. has_unlock L old c (may_find (Instr.Unlock r c site) is).mutex (unlock_event cell_laws pointers rights laws keeps x code s ls wt fits few one earlier h may c site) said_is refl)
 
   others_same : (ev : Option SourceEvent) → event ≡ ev → (L : Newest) (u : ℕ) → (u ≡ one.thread → ⊥) → (c : CellAt) → holds_in (pushed ev L) u c ≡ holds_in L u c
   others_same None e L u ne c = refl
@@ -240,9 +186,7 @@ module _ (cell_laws : CellsAreThere) (pointers : PointersAreThere) (rights : Acc
       where
         same_cell_at : (c : Cell) → cell_at code ((place_after code s earlier).threads one.thread) c ≡ cell_at code (stopped ((place_after code s earlier).threads one.thread) (NoLock at mutex)) c
         same_cell_at (Cell.Global q p) = refl
-        same_cell_at (Cell.GlobalAt q r) = refl
-        same_cell_at (Cell.Object r p) = refl
-        same_cell_at (Cell.ObjectAt r q) = refl
+        same_cell_at _ = refl
 
     lacks_loaded : (at mutex : ℕ) → i ≡ Instr.ChkLockLoaded at → IsApart s mine ((place_after code s earlier).threads one.thread).pending (cell_of ((place_after code s earlier).threads one.thread).pending 0)
         → is_held ((place_after code s earlier).threads one.thread) (cell_word s (cell_of ((place_after code s earlier).threads one.thread).pending 0)) ≡ false

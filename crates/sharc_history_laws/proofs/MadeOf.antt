@@ -1,5 +1,5 @@
 -- The pointer cells of a made object are those that its last New made pointers.
-use Rattle.sharc_history_laws.proofs.{Imports.{◌≡◌, ℕ, ◌%◌, ◌<◌, ◌≢◌, true, false, cond, length, List, [], ◌∷◌, Option, Some, None, refl, sym, ap, ◌∙◌, subst, ⊎_elim, arith, cases_eq, find, slice_index_or, SourceEvent, Object, NewView, NewStage, Code, Instr, Shape, Stage, Makes, RunLaws, Fits, Machine, instr_at, ref, opening_words, Turn, Global, IsRun, MayTurn, after_turn, result_of, opening_of, said, in_new, new_event, place_at, speaks_of, one_thread, bounds, place_after, said_now, table_of, latest, makes, is_number, is_live, Targets, StaticType, Field, Content, Integer, MutexWord, Waiters, Pointer, cells_of, field_at, field_of_cell, field_in, is_pointer, no_field, Label, Labels, IsWellTyped, IsSameContent, Recasts, ObjectState, first_world, first_place, objects_after, objects_behind, objects_now, IsSmall, Keeps, CodeBegins, CellsAreThere, PointersAreThere, AccessesAreAllowed, history_of, yes}, Acts.{About, made_said, given_at, freed_at}, Born.{fine as new_fine, target_is as new_target}, Consists.{Consists, consists_then, objects_then, at_first, none_live, given}, Lists.{Newest, latest_is, is_live_in}, Living.{LivesTold, lives_told}, Rules.{pushed, newest, newest_now, about_now, number_yes, number_not, same_behind, freed_gone, decide}, Tables.{header_at, header_in, header_of, was_live}, Valued.header_some, Values.{field_is, fine as give_fine, old_target, new_target as cast_target}}
+use Rattle.sharc_history_laws.proofs.{Imports.{◌≡◌, ℕ, ◌%◌, ◌<◌, ◌≢◌, true, false, cond, length, List, [], ◌∷◌, Option, Some, None, refl, sym, ap, ◌∙◌, subst, ⊎_elim, arith, cases_eq, find, slice_index_or, SourceEvent, Object, NewView, NewStage, Code, Instr, Shape, Stage, Makes, RunLaws, Fits, ref, opening_words, Turn, IsRun, MayTurn, result_of, opening_of, said, in_new, new_event, place_at, one_thread, bounds, place_after, said_now, table_of, latest, makes, is_number, is_live, Targets, StaticType, Field, Content, Integer, MutexWord, Waiters, Pointer, cells_of, field_at, field_of_cell, field_in, is_pointer, no_field, Label, Labels, IsWellTyped, IsSameContent, Recasts, ObjectState, first_world, first_place, objects_after, objects_behind, objects_now, IsSmall, Keeps, CodeBegins, CellsAreThere, PointersAreThere, AccessesAreAllowed, history_of, yes}, TurnAt.{turn_at, told_at}, Acts.{About, made_said, given_at, freed_at}, Born.{fine as new_fine, target_is as new_target}, Consists.{Consists, consists_then, objects_then, at_first, none_live, given}, Lists.{Newest, latest_is, is_live_in}, Living.{LivesTold, lives_told}, Rules.{pushed, newest, newest_now, about_now, number_yes, number_not, same_behind, freed_gone, decide}, Tables.{header_at, header_in, header_of, was_live}, Valued.header_some, Values.{field_is, fine as give_fine, old_target, new_target as cast_target}}
 use Rattle.sharc_invariant.specs.Types.{row_of}
 
 -- ---- the last New of an object
@@ -73,23 +73,11 @@ module _ (x : Targets) (l : Label) (r : ℕ) (s t : StaticType) (k : Recasts x l
 -- ---- one turn
 module _ (cell_laws : CellsAreThere) (pointers : PointersAreThere) (rights : AccessesAreAllowed) (laws : RunLaws) (keeps : Keeps) (x : Targets) (code : Code) (s : Shape) (ls : Labels) (wt : IsWellTyped x code ls) (fits : Fits code s) (few : IsSmall code s)
     (one : Turn) (earlier : List Turn) (h : Consists x code s ls earlier) (may : MayTurn bounds (one_thread code s) (place_after code s earlier) one) where
-  abbrev g : Global Machine
-  g = place_after code s earlier
-
-  abbrev m : Machine
-  m = (place_after code s earlier).threads one.thread
-
-  abbrev i : Instr
-  i = instr_at code ((place_after code s earlier).threads one.thread).at.pc
-
-  abbrev m' : Machine
-  m' = (after_turn bounds (one_thread code s) (place_after code s earlier) one).threads one.thread
+  open turn_at code s (place_after code s earlier) one use {g, m, i, m'}
+  open told_at code s earlier one use {elements}
 
   abbrev ev : Option SourceEvent
   ev = said_now code (table_of code s earlier) ((place_after code s earlier).threads one.thread) (result_of one.event)
-
-  abbrev elements : ℕ
-  elements = table_of code s earlier (speaks_of (instr_at code ((place_after code s earlier).threads one.thread).at.pc) ((place_after code s earlier).threads one.thread) (result_of one.event))
 
   abbrev then_ : Consists x code s ls (one ∷ earlier)
   then_ = consists_then laws keeps cell_laws pointers x code s ls wt fits few one earlier h may

@@ -1,5 +1,5 @@
 -- In each run of typed code the cells of an object keep their modes until it is given or freed.
-use Rattle.sharc_history_laws.proofs.{Imports.{◌≡◌, ℕ, ◌+◌, ◌-◌, ◌*◌, ◌<◌, ◌≢◌, ◌⊎◌, inl, inr, Bool, true, false, ◌||◌, List, [], ◌∷◌, reverse, Option, Some, None, refl, sym, ap, ◌∙◌, subst, ⊎_elim, cases_eq, get_or-set_other, slice_index, WordStep, WordEvent, word_after, words_after_step, Act as SourceAct, SourceEvent, CellAt, CellMode as EventMode, Object, Code, Cell, Instr, Shape, RunLaws, Fits, Machine, StepTurn as Act, Local, Asks, instr_at, opening_words, turn, asked_by, Turn, Global, IsRun, MayTurn, after_turn, result_of, words_now, opening_of, one_thread, bounds, place_after, said, cell_at, made_cell, place_at, speaks_of, said_now, table_of, Access, makes, gives, begins, frees, is_number, IsAccess, Targets, Field, FieldMode, cells_of, field_in, mode_in, mode_at, is_pointer, lock_number, OfType, OfGlobals, OfElement, Labels, IsWellTyped, CellOf, World, ObjectState, lang_of, has_returned, Closing, Without, changes_objects, IsSmall, OnHold, object_of_cell, number_in, size_of_run, IsOn, Keeps, CodeBegins, CellsAreThere, PointersAreThere, AccessesAreAllowed, StateStands, history_of, or_first, yes}, Stands.gate, Tables.{header_of, length_kept, step_leaves}, Writes.writes, Sparing.{Spares, SparesTurn, Leaves, Elsewhere, Had}, Unwritten.spares, Consists.{Consists, consists_then, objects_then, effect_then, at_first}, Acts.{access_said, given_at, freed_at, About, no_access, access_at, IsAccess as TellsAccess, access_of}, Told.is_access, Lists.{Newest, EachAccess, no_event, each_push}, Rules.{pushed, newest, newest_now, about_now, hold_access, cell_is, same_behind, number_yes}, Shared.{number_of, closing_own, some_closing, not_sole, unless_given, unless_made}, Carried.without_carried, Locked.Names, OneMode.{ModeBy, ModeOf, place_of, one_by, mode_now, numbers_now}, Since.{IsTo, Since, AsBefore, as_before}}
+use Rattle.sharc_history_laws.proofs.{Imports.{◌≡◌, ℕ, ◌+◌, ◌-◌, ◌*◌, ◌<◌, ◌≢◌, ◌⊎◌, inl, inr, Bool, true, false, ◌||◌, List, [], ◌∷◌, reverse, Option, Some, None, refl, sym, ap, ◌∙◌, subst, ⊎_elim, cases_eq, get_or-set_other, slice_index, WordStep, WordEvent, word_after, words_after_step, Act as SourceAct, SourceEvent, CellAt, CellMode as EventMode, Object, Code, Cell, Shape, RunLaws, Fits, StepTurn as Act, Local, Asks, opening_words, turn, asked_by, Turn, Global, IsRun, MayTurn, after_turn, result_of, words_now, opening_of, one_thread, bounds, place_after, said, cell_at, made_cell, place_at, said_now, table_of, Access, makes, gives, begins, frees, is_number, IsAccess, Targets, Field, FieldMode, cells_of, field_in, mode_in, mode_at, is_pointer, lock_number, OfType, Labels, IsWellTyped, CellOf, World, ObjectState, lang_of, has_returned, Closing, Without, changes_objects, IsSmall, OnHold, object_of_cell, number_in, size_of_run, IsOn, Keeps, CodeBegins, CellsAreThere, PointersAreThere, AccessesAreAllowed, StateStands, history_of, or_first, yes}, TurnAt.{turn_at, told_at}, Stands.gate, Tables.{header_of, length_kept, step_leaves}, Writes.writes, Sparing.{Spares, SparesTurn, Leaves, Elsewhere, Had}, Unwritten.spares, Consists.{Consists, consists_then, objects_then, effect_then, at_first}, Acts.{access_said, given_at, freed_at, About, no_access, access_at, IsAccess as TellsAccess, access_of}, Told.is_access, Lists.{Newest, EachAccess, no_event}, Rules.{pushed, newest, newest_now, about_now, hold_access, cell_is, same_behind, number_yes, each_pushed}, Shared.{number_of, closing_own, some_closing, not_sole, unless_given, unless_made}, Carried.without_carried, Locked.Names, OneMode.{ModeBy, ModeOf, place_of, one_by, mode_now, numbers_now}, Since.{IsTo, Since, AsBefore, as_before}}
 use Rattle.sharc_code.specs.Runs.{step_of}
 use Rattle.sharc_invariant.specs.Types.{CellMode}
 use Rattle.sharc_tree.specs.declared.event.Act.TheVariants as acts
@@ -36,29 +36,11 @@ access_leaves (Object.Made n) e a is = by e.act is
 -- ---- one turn
 module _ (state_law : StateStands) (cell_laws : CellsAreThere) (pointers : PointersAreThere) (rights : AccessesAreAllowed) (laws : RunLaws) (keeps : Keeps) (x : Targets) (code : Code) (s : Shape) (ls : Labels) (wt : IsWellTyped x code ls) (fits : Fits code s) (few : IsSmall code s)
     (one : Turn) (earlier : List Turn) (h : Consists x code s ls earlier) (may : MayTurn bounds (one_thread code s) (place_after code s earlier) one) where
-  abbrev g : Global Machine
-  g = place_after code s earlier
-
-  abbrev t : ℕ
-  t = one.thread
-
-  abbrev m : Machine
-  m = (place_after code s earlier).threads one.thread
-
-  abbrev i : Instr
-  i = instr_at code ((place_after code s earlier).threads one.thread).at.pc
+  open turn_at code s (place_after code s earlier) one use {g, t, m, i, found}
+  open told_at code s earlier one use {elements, event}
 
   abbrev world : World
   world = h.world
-
-  abbrev found : ℕ
-  found = result_of one.event
-
-  abbrev elements : ℕ
-  elements = table_of code s earlier (speaks_of (instr_at code ((place_after code s earlier).threads one.thread).at.pc) ((place_after code s earlier).threads one.thread) (result_of one.event))
-
-  abbrev event : Option SourceEvent
-  event = said code i ((place_after code s earlier).threads one.thread) found elements
 
   abbrev then_ : Consists x code s ls (one ∷ earlier)
   then_ = consists_then laws keeps cell_laws pointers x code s ls wt fits few one earlier h may
@@ -155,13 +137,7 @@ module _ (state_law : StateStands) (cell_laws : CellsAreThere) (pointers : Point
 
     by_mode : (f : FieldMode) → (field_in x (h.world.obj (number_of c.object)).ty (place_of code c.object c.cell)).mode ≡ f → ModeBy code h.world c (number_of c.object) (place_of code c.object c.cell) f mode
         → ModeBy code then_.world c (number_of c.object) (place_of code c.object c.cell) f mode ⊎ Closing h.world (number_of c.object)
-    by_mode FieldMode.Private e k = inl k
-    by_mode FieldMode.Readonly e k = inl k
-    by_mode FieldMode.Racy e k = inl k
-    by_mode FieldMode.Dynamic e k = inl k
     by_mode (FieldMode.Under (OfType q)) e k = inl (subst (λ (y : ObjectState). (d : CellAt) × (mode ≡ modes.Locked (Some d)) × Names code d (lock_number y.ty q).object (2 * ((lock_number y.ty q).object + 1) + (lock_number y.ty q).cell)) (sym same) k)
-    by_mode (FieldMode.Under (OfGlobals q)) e k = inl k
-    by_mode (FieldMode.Under (OfElement field mutex)) e k = inl k
     by_mode (FieldMode.Behind field pointer) e k =
         let p = j - field + pointer in
         let readonly : mode_at x (h.world.obj o).ty p ≡ CellMode.Readonly = wt.targets.behind (h.world.obj o).ty j p (ap (mode_in (h.world.obj o).ty j) e) in
@@ -169,6 +145,7 @@ module _ (state_law : StateStands) (cell_laws : CellsAreThere) (pointers : Point
         (λ (z : (then_.world.slots (CellOf o p)).reference ≡ (h.world.slots (CellOf o p)).reference). inl (k.0 ∙ ap (λ v. modes.Locked (Some (made_cell v 0))) (sym z), λ y. k.1 (sym z ∙ y)))
         (λ (w : Closing h.world o). inr w)
         (slot_kept o p same k.1 readonly)
+    by_mode _ e k = inl k
 
     mode_kept : ModeOf x code h.world c mode → ModeOf x code then_.world c mode ⊎ Without then_.world (number_of c.object)
     mode_kept k = ⊎_elim
@@ -269,10 +246,6 @@ pub record KeepsModes (x : Targets) (code : Code) (s : Shape) (ls : Labels) (run
   pub same : EachAccess AsBefore (history_of code s run)
 
 module _ (state_law : StateStands) (cell_laws : CellsAreThere) (pointers : PointersAreThere) (rights : AccessesAreAllowed) (laws : RunLaws) (begins_law : CodeBegins) (keeps : Keeps) (x : Targets) (code : Code) (s : Shape) (ls : Labels) (wt : IsWellTyped x code ls) (fits : Fits code s) (few : IsSmall code s) where
-  same_pushed : (ev : Option SourceEvent) (L : Newest) → EachAccess AsBefore (reverse L) → ((e : SourceEvent) → ev ≡ Some e → (a : Access) → IsAccess e a → AsBefore (reverse L) e a) → EachAccess AsBefore (reverse (pushed ev L))
-  same_pushed None L old new = old
-  same_pushed (Some e) L old new = each_push AsBefore e L old (new e refl)
-
   pub keeps_modes : (run : List Turn) → IsRun bounds (one_thread code s) (opening_of bounds (one_thread code s) (opening_words code s)) run → KeepsModes x code s ls run
   keeps_modes [] run = record {
     consists = at_first begins_law x code s ls wt fits;
@@ -293,5 +266,5 @@ module _ (state_law : StateStands) (cell_laws : CellsAreThere) (pointers : Point
         have = subst (λ (L : Newest). (c : CellAt) (mode : EventMode) → Since L c mode → ModeOf x code then'.world c mode ⊎ Without then'.world (number_of c.object)) (sym now)
             (have_then state_law cell_laws pointers rights laws keeps x code s ls wt fits few one earlier h may L old.have ev refl);
         same = subst (λ (L : Newest). EachAccess AsBefore (reverse L)) (sym now)
-            (same_pushed ev L old.same (λ d e b is. as_now state_law cell_laws pointers rights laws keeps x code s ls wt fits few one earlier h may L old.have d e b is));
+            (each_pushed AsBefore ev L old.same (λ d e b is. as_now state_law cell_laws pointers rights laws keeps x code s ls wt fits few one earlier h may L old.have d e b is));
       }

@@ -1,5 +1,5 @@
 -- Each note in the access table of a thread is of a check that the thread made in the run, and that passed.
-use Rattle.sharc_history_laws.proofs.{Imports.{◌≡◌, ℕ, zero, suc, ◌+◌, ◌⊎◌, inl, inr, Bool, true, false, List, [], ◌∷◌, Some, None, is_some, if◌then◌else◌, refl, sym, ap, ◌∙◌, subst, ⊎_elim, cases_eq, get_or-set_other, slice_index, slice_index_or, slice_set, replicate, Kind, Read, Write, Note, GranuleNotes, blank, of_kind, note_of, site_at, epoch_of, bits_of, conflicts_in, noted, WordOp, Code, Cell, Instr, Shape, Conflict, granules, granule_at, granule_of, shadow_word, Machine, instr_at, act, place, checked, stopped, with_own, wrote, step_of, opening_words, TurnsComeOut, turn, after, may_go, asked_by, Turn, Global, IsRun, MayTurn, after_turn, put, state_now, result_of, opening_of, one_thread, bounds, place_after, CheckOf, touch_of, site_of_check, IsNoted}, Conflicting.granule_same, Consists.found_is, Outcomes.{is_access_check, tabled}, Doing.{set_most as set_at_most}, Carried.{put_same, put_other}}
+use Rattle.sharc_history_laws.proofs.{Imports.{◌≡◌, ℕ, zero, suc, ◌+◌, ◌⊎◌, inl, inr, Bool, true, false, List, [], ◌∷◌, Some, None, is_some, if◌then◌else◌, refl, sym, ap, ◌∙◌, subst, ⊎_elim, cases_eq, get_or-set_other, slice_index, slice_index_or, slice_set, replicate, Kind, Read, Write, Note, GranuleNotes, blank, of_kind, note_of, site_at, epoch_of, bits_of, conflicts_in, noted, WordOp, Code, Cell, Instr, Shape, Conflict, granules, granule_at, granule_of, shadow_word, Machine, act, place, checked, stopped, with_own, wrote, step_of, opening_words, TurnsComeOut, turn, after, may_go, asked_by, Turn, IsRun, MayTurn, after_turn, put, state_now, result_of, opening_of, one_thread, bounds, place_after, CheckOf, touch_of, site_of_check, IsNoted}, TurnAt.turn_at, Conflicting.granule_same, Consists.found_is, Outcomes.{is_access_check, tabled}, Doing.{set_most as set_at_most}, Carried.{put_same, put_other}}
 use Rattle.sharc_heap.specs.{Notes.with_note, Accesses.Accesses}
 use Rattle.sharc_code.specs.Machine as machines
 
@@ -42,17 +42,7 @@ module _ (outs : TurnsComeOut) (code : Code) (s : Shape) where
   RunOf run = IsRun bounds (one_thread code s) (opening_of bounds (one_thread code s) (opening_words code s)) run
 
   module _ (one : Turn) (earlier : List Turn) (run : RunOf (one ∷ earlier)) (p : ℕ) (kind : Kind) (note : Note) where
-    abbrev g : Global Machine
-    g = place_after code s earlier
-
-    abbrev m : Machine
-    m = (place_after code s earlier).threads one.thread
-
-    abbrev i : Instr
-    i = instr_at code ((place_after code s earlier).threads one.thread).at.pc
-
-    abbrev found : ℕ
-    found = result_of one.event
+    open turn_at code s (place_after code s earlier) one use {g, m, i, found}
 
     may : MayTurn bounds (one_thread code s) (place_after code s earlier) one
     may = run.1

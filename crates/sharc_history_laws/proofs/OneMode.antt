@@ -1,5 +1,5 @@
 -- From its New or Give to its next Give or Freed each cell of an object is accessed under one mode, and a cell of a global always.
-use Rattle.sharc_history_laws.proofs.{Imports.{◌≡◌, ℕ, zero, suc, ◌+◌, ◌-◌, ◌*◌, ◌≤◌, ◌≢◌, Bool, List, [], ◌∷◌, Some, refl, sym, ap, ◌∙◌, subst, arith, map, slice_index_or, CellAt, CellMode as EventMode, Object, CellMode, Code, PlaceMode, Cell, Shape, word_of, Fits, Machine, ref, int, place, IsInGlobal, Global, cell_at, global_cell, made_cell, mode_of, no_global, lock_through, Targets, Field, FieldMode, Lock, Mutex, ObjectType, StaticType, field_in, lock_number, mutex_of, type_of, GlobalLock, Through, Self, OfType, OfGlobals, OfElement, HoldsLoaded, Refers, Label, Labels, IsWellTyped, HasCell, HasBase, MayAccess, IsMode, IsTypeMode, IsLockMode, IsLockCell, IsTypeLock, IsSibling, no_lock, RegisterOf, In, CellOf, IsLoaded, World, WinOk, in_ref, base_of, lang_of, State, GateStands, EntryStands, OnHold, View, view_of, refs_at, types_at, base_of_cell, object_of_cell, number_in, IsOn, CellsAreThere}, Stands.{top, gate, reads_ref, known_ref, there, rn}, Finds.is_there, Shared.number_of, Locked.{Names, names_one, same_refs, number_of_global, number_of_element, same_type, element_one}, LockModes.{through_some, refers_eq}}
+use Rattle.sharc_history_laws.proofs.{Imports.{◌≡◌, ℕ, zero, suc, ◌+◌, ◌-◌, ◌*◌, ◌≤◌, ◌≢◌, Bool, List, [], ◌∷◌, Some, refl, sym, ap, ◌∙◌, subst, arith, map, slice_index_or, CellAt, CellMode as EventMode, Object, CellMode, Code, PlaceMode, Cell, Shape, word_of, Fits, Machine, ref, int, place, IsInGlobal, Global, cell_at, global_cell, made_cell, mode_of, no_global, lock_through, Targets, Field, FieldMode, Lock, Mutex, ObjectType, StaticType, field_in, lock_number, mutex_of, type_of, GlobalLock, Through, Self, OfType, OfGlobals, OfElement, HoldsLoaded, Refers, Labels, IsWellTyped, HasCell, HasBase, MayAccess, IsMode, IsTypeMode, IsLockMode, IsLockCell, IsTypeLock, IsSibling, no_lock, RegisterOf, In, CellOf, IsLoaded, World, WinOk, in_ref, base_of, lang_of, State, GateStands, EntryStands, OnHold, types_at, base_of_cell, object_of_cell, number_in, IsOn, CellsAreThere}, TurnAt.thread_at, Stands.{top, gate, reads_ref, known_ref, there, rn}, Finds.is_there, Shared.number_of, Locked.{Names, names_one, same_refs, number_of_global, number_of_element, same_type, element_one}, LockModes.{through_some, refers_eq}}
 
 -- the number of a cell in its object, as the world has it
 abbrev pub place_of : Code → Object → ℕ → ℕ
@@ -22,14 +22,10 @@ ModeOf x code w c mode = ModeBy code w c (number_of c.object) (place_of code c.o
 
 -- it has one
 pub one_by : (x : Targets) (code : Code) (ls : Labels) (wt : IsWellTyped x code ls) (w : World) (c : CellAt) (o j : ℕ) (f : FieldMode) (a b : EventMode) → ModeBy code w c o j f a → ModeBy code w c o j f b → a ≡ b
-one_by x code ls wt w c o j FieldMode.Private a b h k = h ∙ sym k
-one_by x code ls wt w c o j FieldMode.Readonly a b h k = h ∙ sym k
-one_by x code ls wt w c o j FieldMode.Racy a b h k = h ∙ sym k
-one_by x code ls wt w c o j FieldMode.Dynamic a b h k = h ∙ sym k
 one_by x code ls wt w c o j (FieldMode.Under (OfType q)) a b h k = h.1 ∙ ap (λ d. CellMode.Locked (Some d)) (names_one x code ls wt h.0 k.0 _ _ h.2 k.2) ∙ sym k.1
 one_by x code ls wt w c o j (FieldMode.Under (OfGlobals q)) a b h k = h.1 ∙ ap (λ d. CellMode.Locked (Some d)) (names_one x code ls wt h.0 k.0 _ _ h.2 k.2) ∙ sym k.1
-one_by x code ls wt w c o j (FieldMode.Under (OfElement field mutex)) a b h k = h ∙ sym k
 one_by x code ls wt w c o j (FieldMode.Behind field pointer) a b h k = h.0 ∙ sym k.0
+one_by x code ls wt w c o j _ a b h k = h ∙ sym k
 
 map_at : {A B : Type 0} (f : A → B) (xs : List A) (k : ℕ) (d : A) → slice_index_or (map f xs) k (f d) ≡ f (slice_index_or xs k d)
 map_at f [] k d = refl
@@ -38,17 +34,7 @@ map_at f (x ∷ xs) (suc k) d = map_at f xs k d
 
 -- ---- the mode of an access
 module _ (cell_laws : CellsAreThere) (x : Targets) (code : Code) (s : Shape) (ls : Labels) (wt : IsWellTyped x code ls) (fits : Fits code s) (g : Global Machine) (world : World) (st : State x code s ls g world) (t : ℕ) (on : IsOn g t) (hold : OnHold (g.threads t).own.stage) where
-  abbrev m : Machine
-  m = g.threads t
-
-  abbrev here : Label
-  here = ls.at (g.threads t).at.pc
-
-  abbrev view : View
-  view = view_of st.elements world t (g.threads t)
-
-  abbrev refs : ℕ → ℕ
-  refs = refs_at view (g.threads t).at.refs
+  open thread_at st t use {m, here, view, refs}
 
   reads : (r : ℕ) → ref (g.threads t) r ≡ refs r
   reads r = reads_ref x code s ls wt fits g world st t on hold r
@@ -152,18 +138,7 @@ module _ (cell_laws : CellsAreThere) (x : Targets) (code : Code) (s : Shape) (ls
     where
       numbers : (n k i j more field pointer : ℕ) → i ≡ more + field → j ≡ more + pointer → 2 * (n + 1) + j - 2 * (n + 1) ≡ 2 * (k + 1) + i - 2 * (k + 1) - field + pointer
       numbers n k i j more field pointer a b = omega arith
-  sibling_is (Cell.Global g' p) (Cell.GlobalAt h j) field pointer is b = absurd is
-  sibling_is (Cell.Global g' p) (Cell.Object q j) field pointer is b = absurd is
-  sibling_is (Cell.Global g' p) (Cell.ObjectAt q j) field pointer is b = absurd is
-  sibling_is (Cell.GlobalAt g' i) (Cell.Global h q) field pointer is b = absurd is
-  sibling_is (Cell.GlobalAt g' i) (Cell.Object q j) field pointer is b = absurd is
-  sibling_is (Cell.GlobalAt g' i) (Cell.ObjectAt q j) field pointer is b = absurd is
-  sibling_is (Cell.Object r i) (Cell.Global h q) field pointer is b = absurd is
-  sibling_is (Cell.Object r i) (Cell.GlobalAt h j) field pointer is b = absurd is
-  sibling_is (Cell.Object r i) (Cell.ObjectAt q j) field pointer is b = absurd is
-  sibling_is (Cell.ObjectAt r i) (Cell.Global h q) field pointer is b = absurd is
-  sibling_is (Cell.ObjectAt r i) (Cell.GlobalAt h j) field pointer is b = absurd is
-  sibling_is (Cell.ObjectAt r i) (Cell.Object q j) field pointer is b = absurd is
+  sibling_is _ _ field pointer is b = absurd is
 
   -- a lock behind a pointer
   behind_mode_is : (at : CellAt) (c d : Cell) (f f' : Field) (field pointer : ℕ) (mode : PlaceMode) → here.gate ≡ HoldsLoaded d → HasCell x code here c f → HasCell x code here d f' → IsSibling here field pointer c d → mode ≡ PlaceMode.LockedLoaded
@@ -181,14 +156,11 @@ module _ (cell_laws : CellsAreThere) (x : Targets) (code : Code) (s : Shape) (ls
   -- all of them
   pub mode_now : (c : Cell) (f : Field) (write : Bool) (at : CellAt) (mode : PlaceMode) → at ≡ cell_at code (g.threads t) c → HasCell x code here c f → (fm : FieldMode) → MayAccess x code ls here write c f.holds fm → IsMode code here c fm mode
       → ModeBy code world at (object_of_cell (g.threads t) c) (number_in (g.threads t) c) fm (mode_of code (g.threads t) at mode)
-  mode_now c f write at mode e hc FieldMode.Private may_do is = ap (mode_of code m at) is
-  mode_now c f write at mode e hc FieldMode.Readonly may_do is = ap (mode_of code m at) is
-  mode_now c f write at mode e hc FieldMode.Racy may_do is = ap (mode_of code m at) is
-  mode_now c f write at mode e hc FieldMode.Dynamic may_do is = ap (mode_of code m at) is
   mode_now c f write at mode e hc (FieldMode.Under (OfType k)) may_do is = type_mode_is at k c may_do.0 mode may_do.5 hc.base may_do.3.base is
   mode_now c f write at mode e hc (FieldMode.Under (OfGlobals q)) may_do is = global_mode at q mode is
   mode_now c f write at mode e hc (FieldMode.Under (OfElement field mutex)) may_do is = ap (mode_of code m at) is.0
   mode_now c f write at mode e hc (FieldMode.Behind field pointer) may_do is = behind_mode_is at c may_do.0 f may_do.1 field pointer mode may_do.2 hc may_do.3 may_do.5 is
+  mode_now c f write at mode e hc _ may_do is = ap (mode_of code m at) is
 
   -- where the cell is in the world
   pub numbers_now : (c : Cell) (f : Field) → HasCell x code here c f → (number_of (cell_at code (g.threads t) c).object ≡ object_of_cell (g.threads t) c) × (place_of code (cell_at code (g.threads t) c).object (cell_at code (g.threads t) c).cell ≡ number_in (g.threads t) c)

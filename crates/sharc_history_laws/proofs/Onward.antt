@@ -167,21 +167,15 @@ module _ (x : Targets) (code : Code) (s : Shape) (ls : Labels) (wt : IsWellTyped
     where
       base : (cell : Cell) → R (goes (record (Rattle.sharc_code.specs.Machine.without_base m cell) { own = record m.own { held = Rattle.sharc_code.specs.Machine.taken m mutex (Rattle.sharc_code.specs.Machine.object m cell) } }))
       base (Cell.Global g p) = w.arrives _ (λ h. h) u
-      base (Cell.GlobalAt g i) = w.arrives _ (λ h. h) u
-      base (Cell.Object r p) = w.arrives _ (λ h. h) u
-      base (Cell.ObjectAt r i) = w.arrives _ (λ h. h) u
+      base _ = w.arrives _ (λ h. h) u
 
   locks : (c : Cell) → Leads ls (pc + 1) (record (without_base_of l c) { room = false }) → U (pc + 1)
   locks (Cell.Global g p) h = w.leads (pc + 1) _ tt refl h
-  locks (Cell.GlobalAt g i) h = w.leads (pc + 1) _ tt refl h
-  locks (Cell.Object r p) h = w.leads (pc + 1) _ tt refl h
-  locks (Cell.ObjectAt r i) h = w.leads (pc + 1) _ tt refl h
+  locks _ h = w.leads (pc + 1) _ tt refl h
 
   unlocks : (r : ℕ) (c : Cell) → Leads ls (pc + 1) (unlocked_label l r c) → U (pc + 1)
   unlocks r (Cell.Global g p) h = w.leads (pc + 1) _ tt refl h
-  unlocks r (Cell.GlobalAt g i) h = w.leads (pc + 1) _ tt refl h
-  unlocks r (Cell.Object b p) h = w.leads (pc + 1) _ tt refl h
-  unlocks r (Cell.ObjectAt b i) h = w.leads (pc + 1) _ tt refl h
+  unlocks r _ h = w.leads (pc + 1) _ tt refl h
 
   at_woken : (found : ℕ) → U (pc + 1) → R (woken m found)
   at_woken found u = either (waits_in found m.own.number) _ _ (w.remains _ (λ h. h) refl) (w.arrives _ (λ h. h) u)

@@ -1,5 +1,5 @@
 -- What the cells of the globals hold at first is what their definitions say.
-use Rattle.sharc_history_laws.proofs.{Imports.{◌≡◌, ℕ, ◌+◌, ◌-◌, ◌*◌, ◌<◌, ◌≤◌, ◌≢◌, ◌⊎◌, inl, Bool, true, false, [], refl, sym, ap, ◌∙◌, subst, arith, nat_tests, get_or-map-range_with_len, slice_index, nat_lt, nat_le, ◌==◌, CellAt, Object, Resolution, Code, Shape, int_of, Fits, words_of, first_cell, opening_words, opens_with, opening_cell, first_global, first_heap_word, IsInGlobal, place_after, table_of, initial_value, Targets, Field, Content, Integer, MutexWord, Waiters, Pointer, field_in, global_field, globals_target, Labels, IsWellTyped, Initial, first_world, the_globals, CodeBegins, BeginsWith}, Consists.{Consists, at_first, none_live}, Contents.{newest_value, value_held, IsCellOf, content_of, word_of_cell, Contents}, Emptying.IsEmptied, Locked.Names, OneMode.place_of, Shared.number_of, Sparing.{is_value, holds_waiters}}
+use Rattle.sharc_history_laws.proofs.{Imports.{◌≡◌, ℕ, ◌+◌, ◌-◌, ◌*◌, ◌<◌, ◌≤◌, ◌≢◌, ◌⊎◌, inl, Bool, true, false, [], refl, sym, ap, ◌∙◌, subst, arith, nat_tests, get_or-map-range_with_len, slice_index, nat_lt, nat_le, ◌==◌, CellAt, Object, Resolution, Code, Shape, int_of, Fits, words_of, opening_words, opens_with, opening_cell, first_global, first_heap_word, IsInGlobal, place_after, table_of, initial_value, Targets, Field, Content, Integer, MutexWord, Waiters, Pointer, field_in, global_field, globals_target, Labels, IsWellTyped, Initial, first_world, the_globals, CodeBegins, BeginsWith}, Consists.{Consists, at_first, none_live}, Contents.{newest_value, value_held, IsCellOf, content_of, word_of_cell, Contents}, Emptying.IsEmptied, Locked.Names, OneMode.place_of, Shared.number_of, Sparing.{is_value, holds_waiters}}
 use Rattle.sharc_invariant.specs.Words.{cell_at}
 
 module _ (code : Code) (s : Shape) where
@@ -95,9 +95,7 @@ module _ (begins : CodeBegins) (x : Targets) (code : Code) (s : Shape) (ls : Lab
     where
       zero_word : (k : Content) (v : ℕ) → holds_waiters k ≡ true → Initial k v → v ≡ 0
       zero_word Waiters v e h = h
-      zero_word (Integer w) v e h = absurd (let z : false ≡ true = e in cc)
-      zero_word (Pointer f) v e h = absurd (let z : false ≡ true = e in cc)
-      zero_word MutexWord v e h = absurd (let z : false ≡ true = e in cc)
+      zero_word _ v e h = absurd (let z : false ≡ true = e in cc)
 
   -- no other object is there
   pub only_globals : (n : ℕ) (c : CellAt) → c.object ≡ Object.Made n → IsCellOf code (first_world x) start.state.cells c → ⊥

@@ -24,9 +24,7 @@ module _ (cell_laws : CellsAreThere) (x : Targets) (code : Code) (s : Shape) (ls
     where
       object_is : (c : Cell) → object (g.threads t) c ≡ object_of_cell (g.threads t) c
       object_is (Cell.Global h p) = refl
-      object_is (Cell.GlobalAt h i) = refl
-      object_is (Cell.Object r i) = refl
-      object_is (Cell.ObjectAt r i) = refl
+      object_is _ = refl
 
   pub content : content_of x code world (cell_at code (g.threads t) k) ≡ f.holds
   content =

@@ -1,5 +1,5 @@
 -- What remains of checks in shadow words, access tables and stops: why a bit and the written bit stand.
-use Rattle.sharc_history_laws.proofs.{Imports.{◌≡◌, ℕ, suc, ◌+◌, ◌*◌, ◌/◌, ◌<◌, ◌≤◌, ◌⊎◌, inl, inr, Bool, true, false, not, ◌&&◌, Option, Some, None, is_some, if◌then◌else◌, refl, sym, ap, ◌∙◌, subst, ⊎_elim, arith, cases_eq, or_right, not_true as unset, slice_index, ◌==◌, Kind, Read, Write, Note, note_of, site_at, conflicts_in, ShadowLaws, epoch_of, is_write, is_written, stands, AddsAccess, Conflicts, WithdrawsWord, Code, Cell, Instr, Shape, ConflictAt, Conflict, Fits, granules, first_shadow, granule_at, granule_of, Machine, instr_at, place, wrote, stopped, with_own, TurnsComeOut, check_of, Turn, Global, MayTurn, after_turn, state_now, one_thread, bounds, Touch, Untouched, CheckOf, ClearOf, WithdrawOf, Passed, Labels, CellsAreThere, IsOn, touch_at, State, StageStands, OnHold, object_of_cell, number_in, IsWellTyped, Fine, HasCell, Targets, Field, note_number, noted_by, World, same_is, ne_of, eq_of, and_left, or_split as or_cases, yes}, Doing.{Does, Plain, Passes, Refuses, IsCheckAt, IsNoCheck, site_still, site_new, note_from, does}, Shadows.{IsNext, WordBy, word_by, at_low}, Single.rests_hold, Stands.there, Withdrawing.{has_left, Noted, leaving}, Threaded.or_left, Carried.put_other}
+use Rattle.sharc_history_laws.proofs.{Imports.{◌≡◌, ℕ, suc, ◌+◌, ◌*◌, ◌/◌, ◌<◌, ◌≤◌, ◌⊎◌, inl, inr, Bool, true, false, not, ◌&&◌, Option, Some, None, is_some, if◌then◌else◌, refl, sym, ap, ◌∙◌, subst, ⊎_elim, arith, cases_eq, or_right, not_true as unset, slice_index, ◌==◌, Kind, Read, Write, Note, note_of, site_at, conflicts_in, ShadowLaws, epoch_of, is_write, is_written, stands, AddsAccess, Conflicts, WithdrawsWord, Code, Cell, Instr, Shape, ConflictAt, Conflict, Fits, granules, first_shadow, granule_at, granule_of, Machine, instr_at, place, wrote, stopped, with_own, TurnsComeOut, check_of, Turn, Global, MayTurn, after_turn, state_now, one_thread, bounds, Touch, Untouched, CheckOf, ClearOf, WithdrawOf, Passed, Labels, CellsAreThere, touch_at, State, StageStands, OnHold, object_of_cell, number_in, IsWellTyped, Fine, HasCell, Targets, Field, note_number, noted_by, World, same_is, ne_of, eq_of, and_left, or_split as or_cases, yes}, TurnAt.{turn_at, turn_stands}, Doing.{Does, Plain, Passes, Refuses, IsCheckAt, IsNoCheck, site_still, site_new, note_from, does}, Shadows.{IsNext, WordBy, word_by, at_low}, Single.rests_hold, Stands.there, Withdrawing.{has_left, Noted, leaving}, Threaded.or_left, Carried.put_other}
 use Rattle.sharc_heap.specs.ShadowWord.{is_of}
 use Rattle.sharc_code.specs.Machine as machines
 
@@ -102,20 +102,7 @@ became (WithdrawOf q) t p old new w h = ⊎_elim (λ (e : p ≡ q). Withdrew (ap
 
 module _ (outs : TurnsComeOut) (laws : ShadowLaws) (cell_laws : CellsAreThere) (x : Targets) (code : Code) (s : Shape) (ls : Labels) (wt : IsWellTyped x code ls) (fits : Fits code s) (g : Global Machine) (world : World) (st : State x code s ls g world) (tr : Turn)
     (may : MayTurn bounds (one_thread code s) g tr) (fresh : (g.threads tr.thread).own.stop ≡ None) (h : Remains s g) where
-  abbrev t : ℕ
-  t = tr.thread
-
-  abbrev m : Machine
-  m = g.threads tr.thread
-
-  abbrev i : Instr
-  i = instr_at code (g.threads tr.thread).at.pc
-
-  abbrev g' : Global Machine
-  g' = after_turn bounds (one_thread code s) g tr
-
-  abbrev m' : Machine
-  m' = (after_turn bounds (one_thread code s) g tr).threads tr.thread
+  open turn_at code s g tr use {t, m, i, g', m'}
 
   abbrev old_at : ℕ → ℕ
   old_at p = word_at g p
@@ -132,11 +119,7 @@ module _ (outs : TurnsComeOut) (laws : ShadowLaws) (cell_laws : CellsAreThere) (
   did : DoesIt
   did = does outs code s g tr may fresh
 
-  on : IsOn g tr.thread
-  on = (may.started, may.next.runs)
-
-  number : (g.threads tr.thread).own.number ≡ tr.thread
-  number = (st.threads t).has.number
+  open turn_stands wt st tr may use {on, number}
 
   word : (p : ℕ) → p < granules s → Became touch tr.thread p (old_at p) (new_at p) (wrote (g.threads tr.thread) p (old_at p))
   word p lt = became touch t p (old_at p) (new_at p) (wrote m p (old_at p)) (word_by laws x code s ls wt fits g world st tr may p lt)

@@ -1,5 +1,5 @@
 -- Each access of a run of typed code is to a live object, by its owner where the cell is private, and no write under mode readonly.
-use Rattle.sharc_history_laws.proofs.{Imports.{◌≡◌, ℕ, ◌^◌, ◌<◌, ◌≢◌, ◌⊎◌, inl, inr, Bool, true, false, ◌||◌, List, [], ◌∷◌, reverse, Option, Some, None, refl, sym, ap, ◌∙◌, subst, ⊎_elim, arith, cases_eq, nat_tests, ◌==◌, SourceEvent, CellMode, Object, NewStage, Code, Cell, Instr, Shape, Stage, Makes, Uncounts, RunLaws, Fits, Machine, instr_at, ref, opening_words, Said, Turn, Global, IsRun, MayTurn, after_turn, put, result_of, with_told, opening_of, one_thread, bounds, place_after, Erase, said, cell_at, place_at, speaks_of, said_now, told_in, table_of, Access, makes, gives, frees, begins, is_number, made_by, given_by, History, IsAccess, is_owner, Targets, Field, FieldMode, field_in, mode_in, Labels, IsWellTyped, Fine, ObjectState, World, CanBy, lang_of, CellIsThere, objects_behind, made_behind, new_behind, freed_behind, objects_now, owned, gone, type_held, IsSmall, StageStands, OnHold, object_of_cell, number_in, IsOn, Keeps, CodeBegins, CellsAreThere, PointersAreThere, AccessesAreAllowed, history_of, same_is as eq_refl}, Single.{single, rests_hold}, Stands.{live_low, known_ref, there, live_ref, sole_ref}, Tables.{header_at, header_in, header_of, was_live}, Consists.{Consists, consists_then, objects_then, given, header_built, built_low}, Acts.{access_said, thread_said, given_at, freed_in, freed_at, About, about, AreLow, no_access, access_at, IsAccess as TellsAccess, access_of}, Told.is_access, Lists.{Newest, EachAccess, no_event, each_push, live_in, owned_in, is_live_in, owned_is, live_made, live_other, owned_begun, owned_other}, Modes.{private_field, readonly_field}, Carried.{put_same, put_other}}
+use Rattle.sharc_history_laws.proofs.{Imports.{◌≡◌, ℕ, ◌^◌, ◌<◌, ◌≢◌, ◌⊎◌, inl, inr, Bool, true, false, ◌||◌, List, [], ◌∷◌, reverse, Option, Some, None, refl, sym, ap, ◌∙◌, subst, ⊎_elim, arith, cases_eq, nat_tests, ◌==◌, SourceEvent, CellMode, Object, NewStage, Code, Cell, Instr, Shape, Stage, Makes, Uncounts, RunLaws, Fits, Machine, ref, opening_words, Said, Turn, Global, IsRun, MayTurn, after_turn, put, result_of, with_told, opening_of, one_thread, bounds, place_after, Erase, said, cell_at, place_at, said_now, told_in, table_of, Access, makes, gives, frees, begins, is_number, made_by, given_by, History, IsAccess, is_owner, Targets, Field, FieldMode, field_in, mode_in, Labels, IsWellTyped, ObjectState, World, CanBy, lang_of, CellIsThere, objects_behind, made_behind, new_behind, freed_behind, objects_now, owned, gone, type_held, IsSmall, OnHold, object_of_cell, number_in, IsOn, Keeps, CodeBegins, CellsAreThere, PointersAreThere, AccessesAreAllowed, history_of, same_is as eq_refl}, TurnAt.{turn_at, told_at, turn_stands}, Single.{single, rests_hold}, Stands.{live_low, known_ref, there, live_ref, sole_ref}, Tables.{header_at, header_in, header_of, was_live}, Consists.{Consists, consists_then, objects_then, given, header_built, built_low}, Acts.{access_said, thread_said, given_at, freed_in, freed_at, About, about, AreLow, no_access, access_at, IsAccess as TellsAccess, access_of}, Told.is_access, Lists.{Newest, EachAccess, no_event, each_push, live_in, owned_in, is_live_in, owned_is, live_made, live_other, owned_begun, owned_other}, Modes.{private_field, readonly_field}, Carried.{put_same, put_other}}
 use Rattle.sharc_meaning.specs.{Events.freed_by, Obeys.IsThere}
 
 -- ---- numbers of objects
@@ -12,21 +12,25 @@ number_not n (Some k) h = let ne : n ≡ k → ⊥ = λ e. h (ap (λ j. Some j) 
 
 -- ---- objects after a turn
 module _ (ls : Labels) (t : ℕ) (m m' : Machine) (f : ℕ → ObjectState) (n : ℕ) where
-  new_owner : (r : ℕ) (y : NewStage) → header_at y ≡ Some n → (new_behind ls t r m' y f n).owner ≡ t
-  new_owner r (NewStage.Length header) e = let same : header ≡ n = cc in ap (λ h. (put f h (owned t (type_held ls m' r)) n).owner) same ∙ ap (λ (o : ObjectState). o.owner) (put_same f n (owned t (type_held ls m' r)))
-  new_owner r _ e = absurd (cc)
+  -- the thread owns it, and a register has its type
+  abbrev IsOwned : ObjectState → Type 0
+  IsOwned o = (r : ℕ) × (o ≡ owned t (type_held ls m' r))
 
-  makes_owner : (r : ℕ) (y : Stage) → header_in y ≡ Some n → (made_behind ls t r m' y f n).owner ≡ t
-  makes_owner r (Makes v) e = new_owner r v.stage e
-  makes_owner r _ e = absurd (cc)
+  new_owned : (r : ℕ) (y : NewStage) → header_at y ≡ Some n → IsOwned (new_behind ls t r m' y f n)
+  new_owned r (NewStage.Length header) e = let same : header ≡ n = cc in (r, ap (λ h. put f h (owned t (type_held ls m' r)) n) same ∙ put_same f n (owned t (type_held ls m' r)))
+  new_owned r _ e = absurd (cc)
 
-  pub made_owner : (i : Instr) → header_of i m.own.stage ≡ Some n → (objects_behind ls t i m m' f n).owner ≡ t
-  made_owner (Instr.New r count cells site) e = makes_owner r m.own.stage e
-  made_owner _ e = absurd (cc)
+  makes_owned : (r : ℕ) (y : Stage) → header_in y ≡ Some n → IsOwned (made_behind ls t r m' y f n)
+  makes_owned r (Makes v) e = new_owned r v.stage e
+  makes_owned r _ e = absurd (cc)
 
-  pub given_owner : (i : Instr) → given_at i m ≡ Some n → (objects_behind ls t i m m' f n).owner ≡ t
-  given_owner (Instr.Give r site) e = let same : ref m r ≡ n = cc in ap (λ h. (put f h (owned t (type_held ls m' r)) n).owner) same ∙ ap (λ (o : ObjectState). o.owner) (put_same f n (owned t (type_held ls m' r)))
-  given_owner _ e = absurd (cc)
+  pub made_owned : (i : Instr) → header_of i m.own.stage ≡ Some n → IsOwned (objects_behind ls t i m m' f n)
+  made_owned (Instr.New r count cells site) e = makes_owned r m.own.stage e
+  made_owned _ e = absurd (cc)
+
+  pub given_owned : (i : Instr) → given_at i m ≡ Some n → IsOwned (objects_behind ls t i m m' f n)
+  given_owned (Instr.Give r site) e = let same : ref m r ≡ n = cc in (r, ap (λ h. put f h (owned t (type_held ls m' r)) n) same ∙ put_same f n (owned t (type_held ls m' r)))
+  given_owned _ e = absurd (cc)
 
   freed_dead : (o : ℕ) (y : Stage) → freed_in y o ≡ Some n → (freed_behind o y f n).live ≡ false
   freed_dead o (Uncounts all) e = let same : o ≡ n = cc in ap (λ h. (put f h gone n).live) same ∙ ap (λ (y : ObjectState). y.live) (put_same f n gone)
@@ -68,6 +72,11 @@ abbrev pub pushed : Option SourceEvent → Newest → Newest
 pushed None L = L
 pushed (Some e) L = e ∷ L
 
+-- what holds of each access holds with one event more, if it holds of what that accesses
+pub each_pushed : (P : History → SourceEvent → Access → Type 0) (ev : Option SourceEvent) (L : Newest) → EachAccess P (reverse L) → ((e : SourceEvent) → ev ≡ Some e → (a : Access) → IsAccess e a → P (reverse L) e a) → EachAccess P (reverse (pushed ev L))
+each_pushed P None L old new = old
+each_pushed P (Some e) L old new = each_push P e L old (new e refl)
+
 told_push : (t : ℕ) (e : Option SourceEvent) (says : List (Said SourceEvent)) → told_in (with_told t e says) ≡ pushed e (told_in says)
 told_push t None says = refl
 told_push t (Some e) says = refl
@@ -85,20 +94,20 @@ pub decide : (o : Option ℕ) (n : ℕ) → (o ≡ Some n) ⊎ (o ≡ Some n →
 decide None n = inr (λ e. let f : None ≡ Some n = e in cc)
 decide (Some k) n = ⊎_elim (λ (e : k ≡ n). inl (ap (λ j. Some j) e)) (λ (ne : k ≡ n → ⊥). inr (λ e. ne (let f : k ≡ n = cc in f))) (cases_eq k n)
 
+-- an access is one turn
+pub access_single : (j : Instr) → is_access j ≡ true → single j ≡ true
+access_single (Instr.Load r c site) e = refl
+access_single (Instr.Store r c site) e = refl
+access_single (Instr.LoadRef c site) e = refl
+access_single (Instr.Exchange r c site) e = refl
+access_single (Instr.TakeCell r c site) e = refl
+access_single _ e = absurd (cc)
+
 -- ---- one turn
 module _ (cell_laws : CellsAreThere) (pointers : PointersAreThere) (rights : AccessesAreAllowed) (laws : RunLaws) (keeps : Keeps) (x : Targets) (code : Code) (s : Shape) (ls : Labels) (wt : IsWellTyped x code ls) (fits : Fits code s) (few : IsSmall code s)
     (one : Turn) (earlier : List Turn) (h : Consists x code s ls earlier) (may : MayTurn bounds (one_thread code s) (place_after code s earlier) one) where
-  abbrev g : Global Machine
-  g = place_after code s earlier
-
-  abbrev t : ℕ
-  t = one.thread
-
-  abbrev m : Machine
-  m = (place_after code s earlier).threads one.thread
-
-  abbrev i : Instr
-  i = instr_at code ((place_after code s earlier).threads one.thread).at.pc
+  open turn_at code s (place_after code s earlier) one use {g, t, m, i, found}
+  open told_at code s earlier one use {elements}
 
   abbrev world : World
   world = h.world
@@ -106,23 +115,13 @@ module _ (cell_laws : CellsAreThere) (pointers : PointersAreThere) (rights : Acc
   abbrev then_ : Consists x code s ls (one ∷ earlier)
   then_ = consists_then laws keeps cell_laws pointers x code s ls wt fits few one earlier h may
 
-  abbrev found : ℕ
-  found = result_of one.event
-
-  abbrev elements : ℕ
-  elements = table_of code s earlier (speaks_of (instr_at code ((place_after code s earlier).threads one.thread).at.pc) ((place_after code s earlier).threads one.thread) (result_of one.event))
-
   pub is_on : IsOn (place_after code s earlier) one.thread
   is_on = (may.started, may.next.runs)
 
   pub number_is : ((place_after code s earlier).threads one.thread).own.number ≡ one.thread
   number_is = (h.state.threads t).has.number
 
-  stage_here : (j : Instr) → i ≡ j → StageStands code s h.state.elements h.world h.state.heap (place_after code s earlier).words one.thread ((place_after code s earlier).threads one.thread) j ((place_after code s earlier).threads one.thread).own.stage
-  stage_here j e = subst (λ j. StageStands code s h.state.elements h.world h.state.heap g.words t m j m.own.stage) e ((h.state.threads t).runs is_on.0 is_on.1).stage
-
-  fine_here : (j : Instr) → i ≡ j → Fine x code ls ((place_after code s earlier).threads one.thread).at.pc (ls.at ((place_after code s earlier).threads one.thread).at.pc) j
-  fine_here j e = subst (Fine x code ls m.at.pc (ls.at m.at.pc)) e (wt.fine m.at.pc)
+  open turn_stands wt h.state one may use {stage_here, fine as fine_here}
 
   -- the numbers of objects that the turn tells of are of 32 bits
   low_live : (n : ℕ) → (h.world.obj n).live ≡ true → n < 2 ^ 32
@@ -207,9 +206,9 @@ module _ (cell_laws : CellsAreThere) (pointers : PointersAreThere) (rights : Acc
 
       owner_still : owned_in (e ∷ L) n (obj n).owner ≡ true
       owner_still = ⊎_elim
-          (λ (made : header_of i m.own.stage ≡ Some n). mine (or_left (makes (Object.Made n) e) (gives (Object.Made n) e) (make_yes made)) (made_owner ls t m m' world.obj n i made))
+          (λ (made : header_of i m.own.stage ≡ Some n). mine (or_left (makes (Object.Made n) e) (gives (Object.Made n) e) (make_yes made)) (ap (λ (o : ObjectState). o.owner) (made_owned ls t m m' world.obj n i made).1))
           (λ (never : header_of i m.own.stage ≡ Some n → ⊥). ⊎_elim
-          (λ (gave : given_at i m ≡ Some n). mine (or_right (makes (Object.Made n) e) (gives (Object.Made n) e) (give_yes gave)) (given_owner ls t m m' world.obj n i gave))
+          (λ (gave : given_at i m ≡ Some n). mine (or_right (makes (Object.Made n) e) (gives (Object.Made n) e) (give_yes gave)) (ap (λ (o : ObjectState). o.owner) (given_owned ls t m m' world.obj n i gave).1))
           (λ (not : given_at i m ≡ Some n → ⊥).
           let same : obj n ≡ world.obj n = at_n ∙ same_behind ls t m m' world.obj n i never not unfreed in
           ap (λ (y : ObjectState). owned_in (e ∷ L) n y.owner) same
@@ -237,14 +236,6 @@ module _ (cell_laws : CellsAreThere) (pointers : PointersAreThere) (rights : Acc
   -- ---- accesses
   pub hold_access : is_access i ≡ true → OnHold ((place_after code s earlier).threads one.thread).own.stage
   hold_access e = rests_hold code s h.state.elements world h.state.heap g.words t m i m.own.stage (access_single i e) ((h.state.threads t).runs is_on.0 is_on.1).stage
-    where
-      access_single : (j : Instr) → is_access j ≡ true → single j ≡ true
-      access_single (Instr.Load r c site) e = refl
-      access_single (Instr.Store r c site) e = refl
-      access_single (Instr.LoadRef c site) e = refl
-      access_single (Instr.Exchange r c site) e = refl
-      access_single (Instr.TakeCell r c site) e = refl
-      access_single _ e = absurd (cc)
 
   module _ (hold : OnHold ((place_after code s earlier).threads one.thread).own.stage) (k : TellsAccess x code ls ((place_after code s earlier).threads one.thread) i found elements) where
     pub cell_is : CellIsThere x s h.state.cells h.world one.thread ((place_after code s earlier).threads one.thread) k.cell k.field
@@ -310,10 +301,6 @@ pub record Obeyed (x : Targets) (code : Code) (s : Shape) (ls : Labels) (run : L
   pub allowed : EachAccess AllowedAccess (history_of code s run)
 
 module _ (cell_laws : CellsAreThere) (pointers : PointersAreThere) (rights : AccessesAreAllowed) (laws : RunLaws) (begins_law : CodeBegins) (keeps : Keeps) (x : Targets) (code : Code) (s : Shape) (ls : Labels) (wt : IsWellTyped x code ls) (fits : Fits code s) (few : IsSmall code s) where
-  pushed_rules : (ev : Option SourceEvent) (L : Newest) → EachAccess AllowedAccess (reverse L) → ((e : SourceEvent) → ev ≡ Some e → (a : Access) → IsAccess e a → AllowedAccess (reverse L) e a) → EachAccess AllowedAccess (reverse (pushed ev L))
-  pushed_rules None L old new = old
-  pushed_rules (Some e) L old new = each_push AllowedAccess e L old (new e refl)
-
   nothing_live : (o : ℕ) → o ≢ 0 → ((Rattle.sharc_invariant.specs.Opened.first_world x).obj o).live ≡ true → ⊥
   nothing_live o nz live =
       let e : (o == 0) ≡ false = grind (arith, nat_tests) in
@@ -340,5 +327,5 @@ module _ (cell_laws : CellsAreThere) (pointers : PointersAreThere) (rights : Acc
         objects = subst (λ (L : Newest). ObjectsTold L then'.world.obj) (sym now)
             (objects_told cell_laws pointers rights laws keeps x code s ls wt fits few one earlier h may then'.world.obj (objects_then laws keeps cell_laws pointers x code s ls wt fits few one earlier h may) L old.objects ev tells);
         allowed = subst (λ (L : Newest). EachAccess AllowedAccess (reverse L)) (sym now)
-            (pushed_rules ev L old.allowed (λ e is a access. allowed_now cell_laws pointers rights laws keeps x code s ls wt fits few one earlier h may L old.objects e is a access));
+            (each_pushed AllowedAccess ev L old.allowed (λ e is a access. allowed_now cell_laws pointers rights laws keeps x code s ls wt fits few one earlier h may L old.objects e is a access));
       }

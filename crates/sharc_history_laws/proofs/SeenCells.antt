@@ -1,5 +1,5 @@
 -- A pointer cell that refers to an object by the words does so by the events, but where a Free empties its object.
-use Rattle.sharc_history_laws.proofs.{Imports.{◌≡◌, ℕ, pos, zero, suc, ◌+◌, ◌*◌, ◌/◌, ◌^◌, ◌<◌, ◌≢◌, inl, inr, Bool, true, false, cond, not, ◌&&◌, List, [], ◌∷◌, refl, sym, ap, ◌∙◌, subst, ⊎_elim, arith, ltb-true, cases_Bool, and_parts, nat_tests, slice_index, nat_lt, ◌==◌, ◌%◌, CellAt, Object, Resolution, Code, Shape, Stage, Empties, Lowers, FreeLooks, FreeClears, Uncounts, RunLaws, Fits, granules, granule_at, words_of, first_cell, cell_word, cell_of, length_word, Machine, opening_words, IsInGlobal, Turn, Global, IsRun, result_of, opening_of, reference, one_thread, bounds, place_after, Elements, said_now, table_of, is_null, refers, value_after, Targets, Field, Content, Pointer, field_in, field_of_cell, global_field, globals_target, is_pointer, cells_of, Labels, IsWellTyped, CellOf, World, ObjectState, State, IsSmall, first_world, first_place, objects_after, objects_now, cells_now, is_pointer_now, cell_refers, Keeps, CodeBegins, CellsAreThere, PointersAreThere, AccessesAreAllowed, StateStands, history_of, BeginsWith, is_clearing, IsCellIn, IsLiveBy, IsBeingFreed, RefersBy, CellIsSeen, same_is as eq_refl, ne_zero}, Behind.{AreFirst, first_then}, Consists.{Consists, consists_then, objects_then, at_first, none_live}, Contents.{newest_value, value_is, value_held, IsCellOf, content_of, word_of_cell, Contents}, Emptying.{IsEmptied, is_emptying}, Lists.{Newest, is_live_in}, Locked.{Names, NamesIn}, OneMode.place_of, Opening.contents_first, Rules.{ObjectsTold, newest, newest_now, about_now, objects_told}, Shared.{number_of, some_closing}, Stands.live_low, Unemptied.on_hold, Unwritten.{emptying, pointer_value}, Valued.contents_then}
+use Rattle.sharc_history_laws.proofs.{Imports.{◌≡◌, ℕ, pos, zero, suc, ◌+◌, ◌*◌, ◌/◌, ◌^◌, ◌<◌, ◌≢◌, inl, inr, Bool, true, false, cond, not, ◌&&◌, List, [], ◌∷◌, refl, sym, ap, ◌∙◌, subst, ⊎_elim, arith, ltb-true, cases_Bool, and_parts, nat_tests, slice_index, nat_lt, ◌==◌, ◌%◌, CellAt, Object, Resolution, Code, Shape, RunLaws, Fits, granules, granule_at, words_of, first_cell, cell_word, cell_of, length_word, Machine, opening_words, IsInGlobal, Turn, Global, IsRun, result_of, opening_of, reference, one_thread, bounds, place_after, Elements, said_now, table_of, is_null, refers, value_after, Targets, Field, Content, Pointer, field_in, field_of_cell, global_field, globals_target, is_pointer, cells_of, Labels, IsWellTyped, CellOf, World, ObjectState, State, IsSmall, first_world, first_place, objects_after, objects_now, cells_now, is_pointer_now, cell_refers, Keeps, CodeBegins, CellsAreThere, PointersAreThere, AccessesAreAllowed, StateStands, history_of, BeginsWith, IsCellIn, IsLiveBy, IsBeingFreed, RefersBy, CellIsSeen, same_is as eq_refl, ne_zero}, Behind.{AreFirst, first_then}, Consists.{Consists, consists_then, objects_then, at_first, none_live}, Contents.{newest_value, value_is, value_held, IsCellOf, content_of, word_of_cell, Contents}, Emptying.IsEmptied, Lists.{Newest, is_live_in}, Locked.{Names, NamesIn}, OneMode.place_of, Opening.contents_first, Rules.{ObjectsTold, newest, newest_now, about_now, objects_told}, Shared.{number_of, some_closing}, Stands.live_low, Unemptied.on_hold, Unwritten.{emptying, pointer_value}, Valued.contents_then}
 use Rattle.sharc_invariant.specs.Words as Words
 
 -- ---- references
@@ -19,14 +19,6 @@ back (suc k) elements nz lt =
 pub holds_reference : (a : Content) (T : Elements) (v : ℕ) → is_pointer a ≡ true → value_held a T v ≡ reference v (T v)
 holds_reference (Pointer f) T v e = refl
 holds_reference _ T v e = absurd (cc)
-
-pub clears : (stage : Stage) → is_emptying stage ≡ true → is_clearing stage ≡ true
-clears (Empties i all) e = refl
-clears (Lowers i all found) e = refl
-clears (FreeLooks done all) e = refl
-clears (FreeClears done all seen) e = refl
-clears (Uncounts all) e = refl
-clears _ e = absurd (cc)
 
 -- ---- words and numbers of cells
 pub length_is : (s : Shape) (o : ℕ) → o < granules s → length_word s o ≡ Words.length_at s o
@@ -97,7 +89,7 @@ freed state_law x code s ls wt fits g world st o p number z =
       site = y.site;
       is_free = y.is_free;
       object = y.object ∙ number;
-      clearing = clears (g.threads u).own.stage y.emptying;
+      clearing = y.emptying;
     }
 
 module _ (state_law : StateStands) (cell_laws : CellsAreThere) (pointers : PointersAreThere) (rights : AccessesAreAllowed) (laws : RunLaws) (begins_law : CodeBegins) (keeps : Keeps) (x : Targets) (code : Code) (s : Shape) (ls : Labels) (wt : IsWellTyped x code ls) (fits : Fits code s) (few : IsSmall code s)

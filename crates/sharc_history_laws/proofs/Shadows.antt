@@ -1,5 +1,5 @@
 -- What a turn does to the shadow word of each granule.
-use Rattle.sharc_history_laws.proofs.{Imports.{◌≡◌, ℕ, zero, suc, ◌+◌, ◌*◌, ◌/◌, ◌%◌, ◌^◌, ◌<◌, ◌≤◌, ◌≢◌, Bool, true, false, length, List, [], ◌∷◌, Option, Some, None, if◌then◌else◌, min, refl, sym, ap, ◌∙◌, subst, ⊎_elim, arith, eqb-true, cases_eq, cases_lt, nat_tests, get_or-set_other, slice_index, nat_lt, bit_or, ◌==◌, Contains, THREADS, WordEvent, WordOp, WordStep, word_after, words_after_step, Kind, Read, Write, GranuleNotes, ListsNoted, is_noted, bits_of, cleared_of, withdrawn_of, ShadowLaws, epoch_of, is_written, stands, AddsAccess, WithdrawsWord, Code, Instr, Shape, Stage, Looks, Clears, Empties, Lowers, FreeLooks, FreeClears, Uncounts, Links, Withdraws, WithdrawsFrom, Leaves as Leaving, Fits, granules, first_cell, first_shadow, words_of, granule_at, granule_of, shadow_word, count_word, length_word, cell_word, Machine, StepTurn, Local, Asks, act, instr_at, step_of, ref, place, word, new, clear, free, layout_at, data_granules, data_granule, exit, row_of, without_own, withdrew, largest, wrote, turn, asked_by, may_go, Turn, Global, MayTurn, Answered, after_turn, words_now, result_of, one_thread, bounds, Touch, Untouched, CheckOf, ClearOf, WithdrawOf, cleared_by, freed_by, withdrawn_by, touch_of, sum_to, Labels, IsOn, touch_at, State, StageStands, OnHold, IsWellTyped, Fine, Targets, cells_of, World, set_here as set_at, same_or}, Consists.found_is, Stands.{sole_ref, live_ref, target_ref}, Tables.step_leaves, Aims.{Aims, TurnAims, aims, is_touching}}
+use Rattle.sharc_history_laws.proofs.{Imports.{◌≡◌, ℕ, zero, suc, ◌+◌, ◌*◌, ◌/◌, ◌%◌, ◌^◌, ◌<◌, ◌≤◌, ◌≢◌, Bool, true, false, length, List, [], ◌∷◌, Option, Some, None, if◌then◌else◌, min, refl, sym, ap, ◌∙◌, subst, ⊎_elim, arith, eqb-true, cases_eq, cases_lt, nat_tests, get_or-set_other, slice_index, nat_lt, bit_or, ◌==◌, Contains, THREADS, WordEvent, WordOp, WordStep, word_after, words_after_step, Kind, Read, Write, GranuleNotes, ListsNoted, is_noted, bits_of, cleared_of, withdrawn_of, ShadowLaws, epoch_of, is_written, stands, AddsAccess, WithdrawsWord, Code, Instr, Shape, Stage, Looks, Clears, Empties, Lowers, FreeLooks, FreeClears, Uncounts, Links, Withdraws, WithdrawsFrom, Leaves as Leaving, Fits, granules, first_cell, first_shadow, words_of, granule_at, granule_of, shadow_word, count_word, length_word, cell_word, Machine, StepTurn, Local, Asks, act, instr_at, step_of, ref, place, word, new, clear, free, layout_at, data_granules, data_granule, exit, row_of, without_own, withdrew, largest, wrote, turn, asked_by, may_go, Turn, Global, MayTurn, Answered, words_now, result_of, one_thread, bounds, Touch, Untouched, CheckOf, ClearOf, WithdrawOf, cleared_by, freed_by, withdrawn_by, touch_of, sum_to, Labels, touch_at, State, StageStands, OnHold, IsWellTyped, Targets, cells_of, World, set_here as set_at, same_or}, TurnAt.{turn_at, turn_stands}, Consists.found_is, Stands.{sole_ref, live_ref, target_ref}, Tables.step_leaves, Aims.{Aims, TurnAims, aims, is_touching}}
 use Rattle.sharc_heap.specs.Accesses.{Accesses}
 use Rattle.sharc_code.specs.Runs as runs
 
@@ -67,20 +67,7 @@ in_cells n done lt = omega arith
 -- ---- one turn
 module _ (laws : ShadowLaws) (x : Targets) (code : Code) (s : Shape) (ls : Labels) (wt : IsWellTyped x code ls) (fits : Fits code s) (g : Global Machine) (world : World) (st : State x code s ls g world) (tr : Turn)
     (may : MayTurn bounds (one_thread code s) g tr) where
-  abbrev t : ℕ
-  t = tr.thread
-
-  abbrev m : Machine
-  m = g.threads tr.thread
-
-  abbrev i : Instr
-  i = instr_at code (g.threads tr.thread).at.pc
-
-  abbrev found : ℕ
-  found = result_of tr.event
-
-  abbrev m' : Machine
-  m' = (after_turn bounds (one_thread code s) g tr).threads tr.thread
+  open turn_at code s g tr use {t, m, i, found, m'}
 
   abbrev old_word : ℕ → ℕ
   old_word p = slice_index g.words (first_shadow + p)
@@ -88,20 +75,10 @@ module _ (laws : ShadowLaws) (x : Targets) (code : Code) (s : Shape) (ls : Label
   abbrev new_word : ℕ → ℕ
   new_word p = slice_index (words_now g.words tr.event) (first_shadow + p)
 
-  on : IsOn g tr.thread
-  on = (may.started, may.next.runs)
-
-  number : (g.threads tr.thread).own.number ≡ tr.thread
-  number = (st.threads t).has.number
+  open turn_stands wt st tr may use {on, number, stage_here, fine as fine_here}
 
   few_threads : tr.thread < THREADS
   few_threads = st.begins.few t may.started
-
-  stage_here : (j : Instr) → i ≡ j → StageStands code s st.elements world st.heap g.words tr.thread (g.threads tr.thread) j (g.threads tr.thread).own.stage
-  stage_here j e = subst (λ j. StageStands code s st.elements world st.heap g.words t m j m.own.stage) e ((st.threads t).runs on.0 on.1).stage
-
-  fine_here : (j : Instr) → i ≡ j → Fine x code ls (g.threads tr.thread).at.pc (ls.at (g.threads tr.thread).at.pc) j
-  fine_here j e = subst (Fine x code ls m.at.pc (ls.at m.at.pc)) e (wt.fine m.at.pc)
 
   -- ---- the words after the turn
   asked : (y : StepTurn) → turn code s (g.threads tr.thread) ≡ y → runs.step_of tr.event ≡ asked_by y

@@ -1,5 +1,5 @@
 -- No access set of a run of typed code holds accesses of two threads of which one writes.
-use Rattle.sharc_history_laws.proofs.{Imports.{◌≡◌, ℕ, ◌+◌, ◌-◌, ◌*◌, ◌/◌, ◌≤◌, ◌≢◌, ◌⊎◌, inl, inr, Bool, true, false, ◌||◌, ◌&&◌, List, [], ◌∷◌, Option, Some, None, refl, sym, ap, ◌∙◌, subst, ⊎_elim, arith, cases_eq, nat_tests, ◌==◌, slice_index, slice_index_or, Act, SourceEvent, Object, CellMode, Code, Cell, Instr, Shape, Stage, Rests, Makes, Uncounts, Links, Withdraws, WithdrawsFrom, Leaves, RunLaws, Fits, Machine, instr_at, ref, place, act, opening_words, is_exit, turn, after, may_go, Turn, Global, IsRun, MayTurn, after_turn, put, state_now, result_of, opening_of, one_thread, bounds, place_after, said, cell_at, place_at, speaks_of, in_exit, no_global, TurnState, said_now, table_of, Access, granule_in as granule_of, makes, gives, begins, is_of, access_by, until_return, ends, Passed, Targets, Field, FieldMode, Gate, Closed, Checked, Holds, Loaded, HoldsLoaded, Sole, Labels, IsWellTyped, Fine, IsNotSole, RegisterOf, ObjectState, Shut, IsSole, World, WinOk, in_ref, lang_of, has_returned, is_withdrawing, is_ended, Closing, Without, changes_objects, makes_object, frees_object, objects_behind, State, Runs, IsSmall, StageStands, GateStands, StopStands, OnHold, OnExit, object_of_cell, number_in, label_now, size_of_run, IsOn, MachineInvariant, IsAlone, WindowStands, label_of, Keeps, CodeBegins, CellsAreThere, PointersAreThere, AccessesAreAllowed, StateStands, yes}, Single.{single, rests_hold}, Stands.{register_is, gate, reads_ref}, Finds.is_there, Tables.{header_of, was_live}, Consists.{Consists, consists_then, objects_then, effect_then, given, at_first}, Acts.{access_said, thread_said, given_at, freed_in, freed_at, About, no_access, access_at, IsAccess as TellsAccess, access_of}, Told.is_access, Lists.Newest, Modes.dynamic_field, Rules.{pushed, newest, newest_now, number_is, about_now, hold_access, cell_is, can_mode, freed_gone, number_yes}, Sets.{IsHere, Goes, InSet, NoConflict, Clean}, Carried.{Stands, carried, put_same, put_other}, Outcomes.{unended, withdraws_still}, Threaded.or_left}
+use Rattle.sharc_history_laws.proofs.{Imports.{◌≡◌, ℕ, ◌+◌, ◌-◌, ◌*◌, ◌/◌, ◌≤◌, ◌≢◌, ◌⊎◌, inl, inr, Bool, true, false, ◌||◌, ◌&&◌, List, [], ◌∷◌, Option, Some, None, refl, sym, ap, ◌∙◌, subst, ⊎_elim, arith, cases_eq, nat_tests, ◌==◌, slice_index, slice_index_or, Act, SourceEvent, Object, CellMode, Code, Cell, Instr, Shape, Stage, Rests, Makes, Uncounts, Links, Withdraws, WithdrawsFrom, Leaves, RunLaws, Fits, Machine, instr_at, ref, place, act, opening_words, is_exit, turn, after, may_go, Turn, Global, IsRun, MayTurn, after_turn, put, state_now, result_of, opening_of, one_thread, bounds, place_after, said, cell_at, place_at, in_exit, no_global, TurnState, said_now, table_of, Access, granule_in as granule_of, makes, gives, begins, is_of, access_by, until_return, ends, Passed, Targets, Field, FieldMode, Gate, Holds, Loaded, HoldsLoaded, Sole, Labels, IsWellTyped, IsNotSole, RegisterOf, ObjectState, Shut, IsSole, World, WinOk, in_ref, lang_of, has_returned, is_withdrawing, is_ended, Closing, Without, changes_objects, makes_object, frees_object, objects_behind, State, Runs, IsSmall, StageStands, GateStands, StopStands, OnHold, OnExit, object_of_cell, number_in, label_now, size_of_run, IsOn, MachineInvariant, IsAlone, WindowStands, label_of, Keeps, CodeBegins, CellsAreThere, PointersAreThere, AccessesAreAllowed, StateStands, yes}, TurnAt.{turn_at, told_at, turn_stands}, Single.{rests_hold}, Stands.{register_is, gate, reads_ref}, Finds.is_there, Tables.{header_of, was_live}, Consists.{Consists, consists_then, objects_then, effect_then, given, at_first}, Acts.{access_said, thread_said, given_at, freed_in, freed_at, About, no_access, access_at, IsAccess as TellsAccess, access_of}, Told.is_access, Lists.Newest, Modes.dynamic_field, Rules.{pushed, newest, newest_now, number_is, about_now, hold_access, cell_is, can_mode, freed_gone, number_yes, access_single}, Sets.{IsHere, Goes, InSet, NoConflict, Clean}, Carried.{Stands, carried, put_same, put_other}, Outcomes.{unended, withdraws_still}, Threaded.or_left}
 
 -- ---- objects and granules as the world has them
 abbrev pub number_of : Object → ℕ
@@ -12,28 +12,20 @@ index_of code (Object.Made n) granule = granule
 
 -- ---- gates
 pub not_sole : (s : Shape) (w : World) (t : ℕ) (m : Machine) (y : Gate) → IsNotSole y → GateStands s w t m y → (q : ℕ) → w.win t ≡ IsSole q → ⊥
-not_sole s w t m Closed h k q e = cc
-not_sole s w t m (Checked a c) h k q e = cc
 not_sole s w t m (Holds c) h k q e = let z = k.0 in cc
-not_sole s w t m (Loaded c) h k q e = cc
 not_sole s w t m (HoldsLoaded c) h k q e = let z = k.0 in cc
 not_sole s w t m (Sole r c) h k q e = absurd h
+not_sole s w t m _ h k q e = cc
 
 sole_gate : (s : Shape) (w : World) (t : ℕ) (m : Machine) (y : Gate) → GateStands s w t m y → (q : ℕ) → w.win t ≡ IsSole q → (r : ℕ) × (cleared : Bool) × (y ≡ Sole r cleared) × (q ≡ m.at.refs + r)
-sole_gate s w t m Closed k q e = absurd (cc)
-sole_gate s w t m (Checked a c) k q e = absurd (cc)
 sole_gate s w t m (Holds c) k q e = let z = k.0 in absurd (cc)
-sole_gate s w t m (Loaded c) k q e = absurd (cc)
 sole_gate s w t m (HoldsLoaded c) k q e = let z = k.0 in absurd (cc)
 sole_gate s w t m (Sole r c) k q e = (r, c, refl, (let f : IsSole (m.at.refs + r) ≡ IsSole q = sym k ∙ e in sym (let g : m.at.refs + r ≡ q = cc in g)))
+sole_gate s w t m _ k q e = absurd (cc)
 
 stop_not_sole : (w : World) (t : ℕ) (m : Machine) (y : Gate) → StopStands w t m y → (q : ℕ) → w.win t ≡ IsSole q → ⊥
 stop_not_sole w t m (Loaded c) k q e = cc
-stop_not_sole w t m (HoldsLoaded c) k q e = cc
-stop_not_sole w t m Closed k q e = cc
-stop_not_sole w t m (Checked a c) k q e = cc
-stop_not_sole w t m (Holds c) k q e = cc
-stop_not_sole w t m (Sole r c) k q e = cc
+stop_not_sole w t m _ k q e = cc
 
 -- ---- an object that a thread has alone
 module _ (state_law : StateStands) (x : Targets) (code : Code) (s : Shape) (ls : Labels) (wt : IsWellTyped x code ls) (fits : Fits code s) (g : Global Machine) (world : World) (st : State x code s ls g world) where
@@ -80,35 +72,16 @@ module _ (state_law : StateStands) (x : Targets) (code : Code) (s : Shape) (ls :
 -- ---- one turn
 module _ (state_law : StateStands) (cell_laws : CellsAreThere) (pointers : PointersAreThere) (rights : AccessesAreAllowed) (laws : RunLaws) (keeps : Keeps) (x : Targets) (code : Code) (s : Shape) (ls : Labels) (wt : IsWellTyped x code ls) (fits : Fits code s) (few : IsSmall code s)
     (one : Turn) (earlier : List Turn) (h : Consists x code s ls earlier) (may : MayTurn bounds (one_thread code s) (place_after code s earlier) one) where
-  abbrev g : Global Machine
-  g = place_after code s earlier
-
-  abbrev t : ℕ
-  t = one.thread
-
-  abbrev m : Machine
-  m = (place_after code s earlier).threads one.thread
-
-  abbrev i : Instr
-  i = instr_at code ((place_after code s earlier).threads one.thread).at.pc
+  open turn_at code s (place_after code s earlier) one use {g, t, m, i, found}
+  open told_at code s earlier one use {elements, event}
 
   abbrev world : World
   world = h.world
 
-  abbrev found : ℕ
-  found = result_of one.event
-
-  abbrev elements : ℕ
-  elements = table_of code s earlier (speaks_of (instr_at code ((place_after code s earlier).threads one.thread).at.pc) ((place_after code s earlier).threads one.thread) (result_of one.event))
-
-  abbrev event : Option SourceEvent
-  event = said code i ((place_after code s earlier).threads one.thread) found elements
-
   abbrev then_ : Consists x code s ls (one ∷ earlier)
   then_ = consists_then laws keeps cell_laws pointers x code s ls wt fits few one earlier h may
 
-  on : IsOn (place_after code s earlier) one.thread
-  on = (may.started, may.next.runs)
+  open turn_stands wt h.state one may use {on, fine}
 
   abbrev Tells : Option SourceEvent → Type 0
   Tells = About ((place_after code s earlier).threads one.thread).own.number (header_of i ((place_after code s earlier).threads one.thread).own.stage) (given_at i ((place_after code s earlier).threads one.thread)) (freed_at i ((place_after code s earlier).threads one.thread))
@@ -118,9 +91,6 @@ module _ (state_law : StateStands) (cell_laws : CellsAreThere) (pointers : Point
 
   rn : Runs x code s ls h.state.elements h.world h.state.heap (place_after code s earlier) one.thread ((place_after code s earlier).threads one.thread)
   rn = (h.state.threads t).runs on.0 on.1
-
-  fine : (j : Instr) → i ≡ j → Fine x code ls ((place_after code s earlier).threads one.thread).at.pc (ls.at ((place_after code s earlier).threads one.thread).at.pc) j
-  fine j e = subst (Fine x code ls m.at.pc (ls.at m.at.pc)) e (wt.fine m.at.pc)
 
   gate_at : OnHold ((place_after code s earlier).threads one.thread).own.stage → GateStands s h.world one.thread ((place_after code s earlier).threads one.thread) (ls.at ((place_after code s earlier).threads one.thread).at.pc).gate
   gate_at hold = gate x code s ls wt fits g world h.state t on hold
@@ -227,19 +197,9 @@ module _ (state_law : StateStands) (cell_laws : CellsAreThere) (pointers : Point
         let rest : m.own.stage ≡ Rests = Rattle.sharc_history_laws.proofs.Single.single_rests code s h.state.elements world h.state.heap g.words t m i m.own.stage (access_single i access) rn.stage in
         ap (λ y. is_withdrawing y || is_ended m.at.state) rest ∙ going_on m.at.state may.next.runs
       where
-        access_single : (j : Instr) → is_access j ≡ true → single j ≡ true
-        access_single (Instr.Load r c site) e = refl
-        access_single (Instr.Store r c site) e = refl
-        access_single (Instr.LoadRef c site) e = refl
-        access_single (Instr.Exchange r c site) e = refl
-        access_single (Instr.TakeCell r c site) e = refl
-        access_single _ e = absurd (cc)
-
         going_on : (y : _) → may_go y ≡ true → is_ended y ≡ false
-        going_on TurnState.Runs e = refl
-        going_on TurnState.Tries e = refl
-        going_on TurnState.Stopped e = refl
         going_on TurnState.Ended e = absurd (cc)
+        going_on _ e = refl
 
     not_changing : changes_objects i ((place_after code s earlier).threads one.thread) ≡ true → ⊥
     not_changing e = by i access e

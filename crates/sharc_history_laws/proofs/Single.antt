@@ -1,5 +1,5 @@
 -- Instructions of one turn: a thread that stands at one is in the middle of nothing.
-use Rattle.sharc_history_laws.proofs.Imports.{◌≡◌, ℕ, Bool, true, false, List, refl, sym, subst, Code, Instr, Register, Shape, Stage, Rests, Looks, Clears, Makes, Empties, Lowers, FreeLooks, FreeClears, Uncounts, Links, Names, Hands, Begins, Enters, Withdraws, WithdrawsFrom, Leaves, Wakes, Machine, World, Heap, StageStands, OnClear, OnNew, OnFree, OnSpawn, OnStart, OnExit, OnSignal, OnHold}
+use Rattle.sharc_history_laws.proofs.Imports.{◌≡◌, ℕ, Bool, true, false, List, refl, sym, subst, Code, Instr, Register, Shape, Stage, Rests, Looks, Clears, Makes, Names, Hands, Begins, Enters, Withdraws, WithdrawsFrom, Leaves, Wakes, Machine, World, Heap, StageStands, OnClear, OnNew, OnFree, OnSpawn, OnStart, OnExit, OnSignal, OnHold}
 
 -- ---- instructions of one turn
 abbrev pub single : Instr → Bool
@@ -45,12 +45,6 @@ single_rests code s elements w heap words t m i Rests e h = refl
 single_rests code s elements w heap words t m i (Looks a b) e h = absurd (no_clear _ i e h)
 single_rests code s elements w heap words t m i (Clears a b c) e h = absurd (no_clear _ i e h)
 single_rests code s elements w heap words t m i (Makes v) e h = absurd (no_new _ i e h)
-single_rests code s elements w heap words t m i (Empties a b) e h = absurd (no_free _ i e h)
-single_rests code s elements w heap words t m i (Lowers a b c) e h = absurd (no_free _ i e h)
-single_rests code s elements w heap words t m i (FreeLooks a b) e h = absurd (no_free _ i e h)
-single_rests code s elements w heap words t m i (FreeClears a b c) e h = absurd (no_free _ i e h)
-single_rests code s elements w heap words t m i (Uncounts a) e h = absurd (no_free _ i e h)
-single_rests code s elements w heap words t m i (Links a) e h = absurd (no_free _ i e h)
 single_rests code s elements w heap words t m i (Names n) e h = absurd (no_spawn _ i e h)
 single_rests code s elements w heap words t m i (Hands n) e h = absurd (no_spawn _ i e h)
 single_rests code s elements w heap words t m i (Begins n) e h = absurd (no_spawn _ i e h)
@@ -59,6 +53,7 @@ single_rests code s elements w heap words t m i (Withdraws a) e h = absurd (no_e
 single_rests code s elements w heap words t m i (WithdrawsFrom a b) e h = absurd (no_exit _ i e h)
 single_rests code s elements w heap words t m i Leaves e h = absurd (no_exit _ i e h)
 single_rests code s elements w heap words t m i (Wakes a) e h = absurd (no_signal i e h)
+single_rests code s elements w heap words t m i _ e h = absurd (no_free _ i e h)
 
 -- so its block is not to be linked
 pub rests_hold : (code : Code) (s : Shape) (elements : ℕ → ℕ) (w : World) (heap : Heap) (words : List ℕ) (t : ℕ) (m : Machine) (i : Instr) (stage : Stage) → single i ≡ true → StageStands code s elements w heap words t m i stage → OnHold stage

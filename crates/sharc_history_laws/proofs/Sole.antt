@@ -1,5 +1,5 @@
 -- A thread that stopped at a test of a sole reference found the number of references to its object, of which there is another one.
-use Rattle.sharc_history_laws.proofs.{Imports.{◌≡◌, ℕ, zero, suc, ◌+◌, ◌*◌, ◌<◌, ◌≤◌, ◌⊎◌, inl, inr, true, false, List, [], ◌∷◌, Option, Some, None, is_some, if◌then◌else◌, refl, sym, ap, ◌∙◌, subst, ⊎_elim, arith, eqb-true, cases_eq, nat_eq, slice_index, THREADS, test_of, FRAMES, Code, Shape, Stop, NotSole, Fits, granules, words_of, count_word, Machine, instr_at, act, ref, opening_words, TurnsComeOut, MayStop, turn, after, may_go, most_refs, asked_by, Turn, Global, IsRun, MayTurn, after_turn, put, state_now, result_of, opening_of, one_thread, bounds, place_after, Instr, one, sum_to, Targets, Labels, IsWellTyped, Fine, ObjectState, argument_of, IsSmall, StageStands, first_world, first_place, objects_after, register_refers, log_refers, hand_refers, cell_refers, references_to, RunsTest, TestStands, OtherReference, InRegister, InArgument, InLog, InHand, InCell, FindsOthers, yes}, Consists.{Consists, found_is}, Outcomes.reports, Single.rests_hold, Stands.known_ref, Carried.{put_same, put_other}}
+use Rattle.sharc_history_laws.proofs.{Imports.{◌≡◌, ℕ, zero, suc, ◌+◌, ◌*◌, ◌<◌, ◌≤◌, ◌⊎◌, inl, inr, true, false, List, [], ◌∷◌, Option, Some, None, is_some, if◌then◌else◌, refl, sym, ap, ◌∙◌, subst, ⊎_elim, arith, eqb-true, cases_eq, nat_eq, slice_index, THREADS, test_of, FRAMES, Code, Shape, Stop, NotSole, Fits, granules, words_of, count_word, Machine, instr_at, act, ref, opening_words, TurnsComeOut, MayStop, turn, after, may_go, most_refs, asked_by, Turn, Global, IsRun, MayTurn, after_turn, put, state_now, result_of, opening_of, one_thread, bounds, place_after, Instr, one, sum_to, Targets, Labels, IsWellTyped, Fine, ObjectState, argument_of, IsSmall, StageStands, first_world, first_place, objects_after, register_refers, log_refers, hand_refers, cell_refers, references_to, RunsTest, TestStands, OtherReference, InRegister, InArgument, InLog, InHand, InCell, FindsOthers, yes}, TurnAt.turn_at, Consists.{Consists, found_is}, Outcomes.reports, Single.rests_hold, Stands.known_ref, Carried.{put_same, put_other}}
 
 -- ---- sums
 some_of : (n : ℕ) (f : ℕ → ℕ) → ((i : ℕ) × (i < n) × (1 ≤ f i)) ⊎ (sum_to n f ≡ 0)
@@ -127,11 +127,7 @@ module _ (outs : TurnsComeOut) (tests : RunsTest) (x : Targets) (code : Code) (s
 
   -- the turn that stopped the thread
   module _ (one : Turn) (earlier : List Turn) (run : RunOf (one ∷ earlier)) (site count : ℕ) (is : (after (turn code s ((place_after code s earlier).threads one.thread)) (result_of one.event)).own.stop ≡ Some (NotSole site count)) where
-    abbrev g : Global Machine
-    g = place_after code s earlier
-
-    abbrev m : Machine
-    m = (place_after code s earlier).threads one.thread
+    open turn_at code s (place_after code s earlier) one use {g, m}
 
     may : MayTurn bounds (one_thread code s) (place_after code s earlier) one
     may = run.1

@@ -1,12 +1,10 @@
 -- What each turn is to the state words and to the number of the next thread, and what it makes of the number that a Spawn has drawn.
-use Rattle.sharc_history_laws.proofs.Imports.{◌≡◌, ℕ, ℤ, pos, negsuc, zero, suc, ◌+◌, ◌*◌, ◌<◌, ◌≤◌, min, Bool, true, false, not, ◌&&◌, ◌||◌, ◌==◌, nat_lt, length, is_some, Option, Some, None, if◌then◌else◌, refl, sym, ap, ◌∙◌, arith, Decides-ltb, Result, Ok, Err, Trap, THREADS, WordOp, WordStep, word_after, waits_in, Kind, Read, Write, note_of, site_at, epoch_of, conflicts_in, noted, NewView, told, turn_of, word_number, turn_of_stage, NewArguments, NewStage, NewTurn, Do, Made, HeapFull, Code, Layout, Parameter, Cell, Register, Int, Long, Instr, ComputeInt, ComputeLong, NegateInt, NegateLong, ChkWidth, JumpIfZero, JumpIfNull, Call, Return, ChkNull, ChkHeld, ChkNotHeld, ChkPositive, ChkRoom, ChkLock, ChkLockLoaded, Bounds, GlobalBounds, ChkRead, ChkWrite, Load, Store, LoadRef, Exchange, Raise, RaiseLoaded, Lower, New, TakeCell, TakeLocal, TestSole, Clear, Give, Free, Unlock, Spawn, Join, Print, Start, Exit, CondEnter, CondWait, CondSignal, CondBroadcast, Shape, TurnState, Tries, Stopped, Ended, Stage, Rests, Looks, Clears, Makes, Empties, Lowers, FreeLooks, FreeClears, Uncounts, Links, Names, Hands, Begins, Enters, Withdraws, WithdrawsFrom, Leaves, Wakes, computed, negated, is_zero, holds, granule_at, granule_of, words_of, cell_of, cell_word, shadow_word, count_word, first_cell, first_shadow, state_word, next_thread_word, Machine, Own, StepTurn as Turn, act, int, ref, goes, goes_to, asserts, with_result, has_room, called, returned, holds_none, is_of_null, is_held, indexed, wrote, with_note, checked, lock_checked, raise, lower, test, tested, after_new, asks_new, new, new_state, elements_of, looks, clear, data_granules, free_looks, empties, emptied, free, layout_at, spawn, with_parameter, entered, start, function_of, withdraws, exit, wakes, signal, is_positive, fields, largest, at_stage, place, set_ref, accessed, move_ref, numbered, trapped, locked, joined, join, woken, word, Local, Asks, step_of, instr_at, after, turn, asked_by, counted, IsStageOf, drawn_of}
-use Rattle.sharc_code.specs.{declared.instr.Instr.TheVariants.Lock, declared.state.TurnState.TheVariants.Runs}
+use Rattle.sharc_history_laws.proofs.Imports.{◌≡◌, ℕ, ℤ, pos, negsuc, zero, suc, ◌+◌, ◌*◌, ◌<◌, ◌≤◌, min, Bool, true, false, not, ◌&&◌, ◌||◌, ◌==◌, nat_lt, length, is_some, Option, Some, None, if◌then◌else◌, refl, sym, ap, ◌∙◌, arith, Decides-ltb, Result, Ok, Err, Trap, THREADS, WordOp, WordStep, word_after, waits_in, Kind, Read, Write, note_of, site_at, epoch_of, conflicts_in, noted, NewView, told, turn_of, word_number, turn_of_stage, NewArguments, NewStage, NewTurn, Do, Made, HeapFull, Code, Layout, Parameter, Cell, Register, Int, Long, Instr, ComputeInt, ComputeLong, NegateInt, NegateLong, ChkWidth, JumpIfZero, JumpIfNull, Call, Return, ChkNull, ChkHeld, ChkNotHeld, ChkPositive, ChkRoom, ChkLock, ChkLockLoaded, Bounds, GlobalBounds, ChkRead, ChkWrite, Load, Store, LoadRef, Exchange, Raise, RaiseLoaded, Lower, New, TakeCell, TakeLocal, TestSole, Clear, Give, Free, Unlock, Spawn, Join, Print, Start, Exit, CondEnter, CondWait, CondSignal, CondBroadcast, Shape, TurnState, Ended, Stage, Rests, Looks, Clears, Makes, Empties, Lowers, FreeLooks, FreeClears, Uncounts, Links, Names, Hands, Begins, Enters, Withdraws, WithdrawsFrom, Leaves, Wakes, computed, negated, is_zero, holds, granule_at, granule_of, words_of, cell_of, cell_word, shadow_word, count_word, first_cell, first_shadow, state_word, next_thread_word, Machine, Own, StepTurn as Turn, act, int, ref, goes, goes_to, asserts, with_result, has_room, called, returned, holds_none, is_of_null, is_held, indexed, wrote, with_note, checked, lock_checked, raise, lower, test, tested, after_new, asks_new, new, new_state, elements_of, looks, clear, data_granules, free_looks, empties, emptied, free, layout_at, spawn, with_parameter, entered, start, function_of, withdraws, exit, wakes, signal, is_positive, fields, largest, at_stage, place, set_ref, accessed, move_ref, numbered, trapped, locked, joined, join, woken, word, Local, Asks, step_of, instr_at, after, turn, asked_by, counted, IsStageOf, drawn_of}
+use Rattle.sharc_code.specs.declared.instr.Instr.TheVariants.{Lock}
 
 abbrev pub is_ended : TurnState → Bool
-is_ended Runs = false
-is_ended Tries = false
-is_ended Stopped = false
 is_ended Ended = true
+is_ended _ = false
 
 -- ---- words that say nothing of a thread
 pub record IsOther (word : ℕ) : Type 0 where
@@ -168,15 +166,13 @@ module _ (code : Code) (s : Shape) (m : Machine) where
   top_other = record { next = λ e. omega (arith, e); states = λ t low e. omega (arith, e) }
 
   to_stage : (r site : ℕ) (state : NewView) (a : NewArguments) (stage : NewStage) → a.first ≡ first_cell s → Elsewhere (asked_by (asks_new m r site state (turn_of_stage a stage)))
-  to_stage r site state a NewStage.Begins e = tt
   to_stage r site state a NewStage.Link e = apart _ _ (of_new s a (a.first + 2 * a.head + 1) e (omega arith))
   to_stage r site state a (NewStage.Cell cell) e = apart _ _ (of_new s a (a.first + 2 * a.head + 2 + cell) e (omega arith))
   to_stage r site state a NewStage.Top e = apart _ _ top_other
   to_stage r site state a (NewStage.Move top moved) e = apart _ _ top_other
   to_stage r site state a (NewStage.Count header) e = apart _ _ (of_new s a (a.first + 2 * header) e (omega arith))
   to_stage r site state a (NewStage.Length header) e = apart _ _ (of_new s a (a.first + 2 * header + 1) e (omega arith))
-  to_stage r site state a (NewStage.Made header) e = tt
-  to_stage r site state a NewStage.Full e = tt
+  to_stage r site state a _ e = tt
 
   at_new : (r elements cells site : ℕ) (stage : Stage) → IsStageOf s stage → Sort m (new s m r elements cells site stage)
   at_new r elements cells site (Makes state) is = Ordinary (to_stage r site state state.arguments state.stage is.0) (λ found. at_ask_new r site state (turn_of state) found)

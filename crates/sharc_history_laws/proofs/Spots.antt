@@ -1,5 +1,5 @@
 -- Where the cell of a check lies: two checked cells of the same granule of memory are of the same object and granule to the source.
-use Rattle.sharc_history_laws.proofs.{Imports.{◌≡◌, ℕ, suc, ◌+◌, ◌-◌, ◌*◌, ◌/◌, ◌<◌, ◌≤◌, ◌≢◌, true, refl, sym, ap, ◌∙◌, subst, ⊎_elim, arith, cases_eq, cases_lt, nat_tests, slice_index_or, CellAt, Object, Code, Cell, Shape, word_of, Fits, granule_at, granule_of, Machine, int, ref, place, Global, cell_at, global_cell, made_cell, no_global, granule_in, Label, Labels, OfGlobal, CellsAreThere, IsOn, State, OnHold, NumberStands, object_of_cell, number_in, view_of, refs_at, types_at, IsWellTyped, AreGlobals, HasCell, Targets, Field, World}, Shadows.at_low, Stands.{rn, top, known_ref, there}, Staying.IsObject}
+use Rattle.sharc_history_laws.proofs.{Imports.{◌≡◌, ℕ, suc, ◌+◌, ◌-◌, ◌*◌, ◌/◌, ◌<◌, ◌≤◌, ◌≢◌, true, refl, sym, ap, ◌∙◌, subst, ⊎_elim, arith, cases_eq, cases_lt, nat_tests, slice_index_or, CellAt, Object, Code, Cell, Shape, word_of, Fits, granule_at, granule_of, Machine, int, ref, place, Global, cell_at, global_cell, made_cell, no_global, granule_in, Labels, OfGlobal, CellsAreThere, IsOn, State, OnHold, NumberStands, object_of_cell, number_in, view_of, refs_at, types_at, IsWellTyped, AreGlobals, HasCell, Targets, Field, World}, TurnAt.thread_at, Shadows.at_low, Stands.{rn, top, known_ref, there}, Staying.IsObject}
 use Rattle.sharc_invariant.specs.Typed.{IsInGlobal}
 
 -- the cell is of granule k of object o, which is granule p of memory
@@ -56,11 +56,7 @@ module _ (x : Targets) (code : Code) (globals : AreGlobals x code) where
 
 -- ---- of a thread that goes on
 module _ (x : Targets) (code : Code) (s : Shape) (ls : Labels) (wt : IsWellTyped x code ls) (fits : Fits code s) (g : Global Machine) (world : World) (st : State x code s ls g world) (t : ℕ) (on : IsOn g t) (hold : OnHold (g.threads t).own.stage) (cell_laws : CellsAreThere) where
-  abbrev m : Machine
-  m = g.threads t
-
-  abbrev here : Label
-  here = ls.at (g.threads t).at.pc
+  open thread_at st t use {m, here}
 
   pub record IsChecked (c : Cell) (p : ℕ) : Type 0 where
     pub live : (world.obj (object_of_cell (g.threads t) c)).live ≡ true

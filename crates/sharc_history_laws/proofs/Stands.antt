@@ -1,5 +1,5 @@
 -- What the invariant says of a thread that goes on: its registers, the gate of its place, and the cells that its instruction names.
-use Rattle.sharc_history_laws.proofs.Imports.{◌≡◌, ℕ, suc, ◌+◌, ◌^◌, ◌<◌, ◌≢◌, Bool, true, false, cond, refl, sym, ap, ◌∙◌, subst, arith, nat_tests, slice_index, ◌==◌, Code, Cell, Instr, Shape, Stage, Links, Fits, granules, Machine, instr_at, ref, is_of_null, Global, Targets, ObjectType, StaticType, Field, Sole, Refers, Label, Labels, IsWellTyped, HasCell, HasBase, RegisterOf, In, Slot, IsSole, World, ObjectState, in_ref, lang_of, is_freed, CellIsThere as IsThere, State, Runs, View, TopStands, EntryStands, GateStands, OnHold, view_of, label_now, refs_at, types_at, IsOn, CellsAreThere}
+use Rattle.sharc_history_laws.proofs.{Imports.{◌≡◌, ℕ, suc, ◌+◌, ◌^◌, ◌<◌, ◌≢◌, Bool, true, false, cond, refl, sym, ap, ◌∙◌, subst, arith, nat_tests, slice_index, ◌==◌, Code, Cell, Instr, Shape, Stage, Links, Fits, granules, Machine, instr_at, ref, is_of_null, Global, Targets, ObjectType, StaticType, Field, Sole, Refers, Label, Labels, IsWellTyped, HasCell, HasBase, RegisterOf, In, Slot, IsSole, World, in_ref, lang_of, is_freed, CellIsThere as IsThere, State, Runs, TopStands, EntryStands, GateStands, OnHold, label_now, refs_at, types_at, IsOn, CellsAreThere}, TurnAt.thread_at}
 
 -- ---- stages at which no block is to be linked
 label_held : (l : Label) (i : Instr) (stage : Stage) → OnHold stage → label_now l i stage ≡ l
@@ -29,14 +29,7 @@ module _ (x : Targets) (code : Code) (s : Shape) (ls : Labels) (wt : IsWellTyped
 
   -- ---- a thread that goes on
   module _ (t : ℕ) (on : IsOn g t) (hold : OnHold (g.threads t).own.stage) where
-    abbrev m : Machine
-    m = g.threads t
-
-    abbrev here : Label
-    here = ls.at (g.threads t).at.pc
-
-    abbrev view : View
-    view = view_of st.elements world t (g.threads t)
+    open thread_at st t use {m, here, view}
 
     abbrev pub rn : Runs x code s ls st.elements world st.heap g t (g.threads t)
     rn = (st.threads t).runs on.0 on.1

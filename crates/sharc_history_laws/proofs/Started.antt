@@ -1,5 +1,5 @@
 -- The first event of a thread is the Started of the function and the argument with which an earlier Spawn started it, or of main.
-use Rattle.sharc_history_laws.proofs.{Imports.{◌≡◌, ℕ, ℤ, pos, suc, ◌<◌, ◌≢◌, ◌⊎◌, inl, inr, Bool, true, false, ◌&&◌, length, List, [], ◌∷◌, ◌++◌, reverse, Option, Some, None, if◌then◌else◌, refl, sym, ap, ◌∙◌, subst, ⊎_elim, arith, eqb-true, cases_eq, nat_tests, get_or_append_left, get_or_push, length_push, get_or-map-range_with_len, slice_index, nat_lt, nat_eq, nat_le, ◌==◌, Any, THREADS, WordOp, Act, SourceEvent, Code, Parameter, Instr, Register, Shape, Stage, Rests, Begins, Enters, word_of, RunLaws, Fits, words_of, state_word, function_word, argument_word, Machine, instr_at, act, start, spawn, int, ref, argument, function_of, opening_words, opens_with, opening_cell, first_global, turn, after, asked_by, Turn, Global, IsRun, MayTurn, put, state_now, result_of, is_started, opening_of, said, speaks_of, reference, started_with, in_start, of_argument, SpawnsStart, begins_of, one_thread, bounds, place_after, Elements, said_now, table_of, Stands, is_of, events_of, History, Targets, Labels, IsWellTyped, Fine, ArgumentOf, In, in_ref, is_unread, if_reference, IsSmall, StageStands, OnSpawn, OnHold, view_of, refs_at, types_at, IsOn, Keeps, CodeBegins, CellsAreThere, PointersAreThere, AccessesAreAllowed, history_of, IsSpawnedByCode, IsStartedBy, yes}, Consists.{Consists, consists_then, at_first, found_is, same_table}, Contents.{back_again, fits_in}, Given.{spares_given, given_stays}, Holding.own_push, Lists.{Newest, Split, Last, Earlier, split, reverse_push}, Locking.is_own, Rules.{pushed, newest, newest_now, number_is}, Stands.{live_slot, top, rn}, Tables.header_of, Valued.{same_elements, reference_as}, Standing.{is_one as started_word}, Threaded.{and_parts as parts}, Remaining.{and_right as second}, Carried.{put_same, put_other}}
+use Rattle.sharc_history_laws.proofs.{Imports.{◌≡◌, ℕ, ℤ, pos, suc, ◌<◌, ◌≢◌, ◌⊎◌, inl, inr, Bool, true, false, ◌&&◌, length, List, [], ◌∷◌, ◌++◌, reverse, Option, Some, None, if◌then◌else◌, refl, sym, ap, ◌∙◌, subst, ⊎_elim, arith, eqb-true, cases_eq, nat_tests, get_or_append_left, get_or_push, length_push, get_or-map-range_with_len, slice_index, nat_lt, nat_eq, nat_le, ◌==◌, Any, THREADS, WordOp, Act, SourceEvent, Code, Parameter, Instr, Register, Shape, Stage, Rests, Begins, Enters, word_of, RunLaws, Fits, words_of, state_word, function_word, argument_word, Machine, instr_at, act, start, spawn, int, ref, argument, function_of, opening_words, opens_with, opening_cell, first_global, turn, after, asked_by, Turn, Global, IsRun, MayTurn, put, state_now, result_of, is_started, opening_of, said, speaks_of, reference, started_with, in_start, of_argument, SpawnsStart, begins_of, one_thread, bounds, place_after, Elements, said_now, table_of, Stands, is_of, events_of, History, Targets, Labels, IsWellTyped, Fine, ArgumentOf, In, in_ref, is_unread, if_reference, IsSmall, StageStands, OnSpawn, OnHold, view_of, refs_at, types_at, Keeps, CodeBegins, CellsAreThere, PointersAreThere, AccessesAreAllowed, history_of, IsSpawnedByCode, IsStartedBy, yes}, TurnAt.{turn_at, told_at, turn_stands}, Consists.{Consists, consists_then, at_first, found_is, same_table}, Contents.{back_again, fits_in}, Given.{spares_given, given_stays}, Holding.own_push, Lists.{Newest, Split, Last, Earlier, split, reverse_push}, Locking.is_own, Rules.{pushed, newest, newest_now}, Stands.{live_slot, top, rn}, Tables.header_of, Valued.{same_elements, reference_as}, Standing.{is_one as started_word}, Threaded.{and_parts as parts}, Remaining.{and_right as second}, Carried.{put_same, put_other}}
 use Rattle.sharc_code.specs.Says.{argument_of}
 use Rattle.sharc_invariant.specs.Words as Words
 
@@ -62,47 +62,13 @@ on_spawn P _ h = absurd h
 -- ---- one turn
 module _ (cell_laws : CellsAreThere) (pointers : PointersAreThere) (rights : AccessesAreAllowed) (laws : RunLaws) (starts : SpawnsStart) (keeps : Keeps) (x : Targets) (code : Code) (s : Shape) (ls : Labels) (wt : IsWellTyped x code ls) (fits : Fits code s) (few : IsSmall code s)
     (one : Turn) (earlier : List Turn) (h : Consists x code s ls earlier) (may : MayTurn bounds (one_thread code s) (place_after code s earlier) one) where
-  abbrev g : Global Machine
-  g = place_after code s earlier
+  open turn_at code s (place_after code s earlier) one use {g, t as u, m, i, found}
+  open told_at code s earlier one use {T, T', elements, event}
 
   abbrev g' : Global Machine
   g' = place_after code s (one ∷ earlier)
 
-  abbrev u : ℕ
-  u = one.thread
-
-  abbrev m : Machine
-  m = (place_after code s earlier).threads one.thread
-
-  abbrev i : Instr
-  i = instr_at code ((place_after code s earlier).threads one.thread).at.pc
-
-  abbrev found : ℕ
-  found = result_of one.event
-
-  abbrev T : Elements
-  T = table_of code s earlier
-
-  abbrev T' : Elements
-  T' = table_of code s (one ∷ earlier)
-
-  abbrev elements : ℕ
-  elements = table_of code s earlier (speaks_of (instr_at code ((place_after code s earlier).threads one.thread).at.pc) ((place_after code s earlier).threads one.thread) (result_of one.event))
-
-  abbrev event : Option SourceEvent
-  event = said code i ((place_after code s earlier).threads one.thread) found elements
-
-  on : IsOn (place_after code s earlier) one.thread
-  on = (may.started, may.next.runs)
-
-  stage_here : (j : Instr) → i ≡ j → StageStands code s h.state.elements h.world h.state.heap (place_after code s earlier).words one.thread ((place_after code s earlier).threads one.thread) j ((place_after code s earlier).threads one.thread).own.stage
-  stage_here j e = subst (λ j. StageStands code s h.state.elements h.world h.state.heap g.words u m j m.own.stage) e ((h.state.threads u).runs on.0 on.1).stage
-
-  fine : (j : Instr) → i ≡ j → Fine x code ls ((place_after code s earlier).threads one.thread).at.pc (ls.at ((place_after code s earlier).threads one.thread).at.pc) j
-  fine j e = subst (Fine x code ls m.at.pc (ls.at m.at.pc)) e (wt.fine m.at.pc)
-
-  number : ((place_after code s earlier).threads one.thread).own.number ≡ one.thread
-  number = number_is cell_laws pointers rights laws keeps x code s ls wt fits few one earlier h may
+  open turn_stands wt h.state one may use {on, stage_here, fine, number}
 
   -- ---- who has told nothing
   unheard_before : (L : Newest) (ev : Option SourceEvent) (t : ℕ) → Unheard (pushed ev L) t → Unheard L t

@@ -1,5 +1,5 @@
 -- An object in whose granules bits stand stays, and no event of a turn is about its beginning or its end.
-use Rattle.sharc_history_laws.proofs.{Imports.{◌≡◌, ℕ, ◌+◌, ◌*◌, ◌<◌, ◌≢◌, Bool, true, false, List, ◌∷◌, Option, Some, None, refl, sym, ap, ◌∙◌, subst, ⊎_elim, cases_eq, or_no, Object, SourceEvent, stands, Code, Instr, Shape, Stage, Uncounts, Leaves as Leaving, granules, Machine, instr_at, ref, is_exit, turn, Turn, Global, result_of, paired, told_by, after_turn, said, Erase, one_thread, bounds, place_after, begins, frees, is_number, made_by, given_by, is_gone, Built, Live, Labels, IsOn, State, Targets, cells_of, has_withdrawn, is_ended, World, ObjectState, yes}, Acts.{given_at, freed_in, freed_at, About, about}, Cleared.{given_cleared, freed_cleared}, Consists.{Consists, objects_then, header_built}, Leaving.{gone_said, not_gone, leaves_at}, Remaining.word_at, Rules.{same_behind, low_numbers, number_not as number_no}, Tables.{header_of, length_kept}, Wholes.{TheLaws, Typed, RunOf, Whole, fresh_of, next_consists}, Withdrawing.has_left, Writes.writes}
+use Rattle.sharc_history_laws.proofs.{Imports.{◌≡◌, ℕ, ◌+◌, ◌*◌, ◌<◌, ◌≢◌, Bool, true, false, List, ◌∷◌, Option, Some, None, refl, sym, ap, ◌∙◌, subst, ⊎_elim, cases_eq, or_no, Object, SourceEvent, stands, Code, Instr, Shape, Stage, Uncounts, Leaves as Leaving, granules, ref, is_exit, turn, Turn, Global, result_of, paired, told_by, said, Erase, one_thread, place_after, begins, frees, is_number, made_by, given_by, is_gone, Built, Live, Labels, IsOn, State, Targets, cells_of, has_withdrawn, is_ended, World, ObjectState, yes}, TurnAt.turn_at, Acts.{given_at, freed_in, freed_at, About, about}, Cleared.{given_cleared, freed_cleared}, Consists.{Consists, objects_then, header_built}, Leaving.{gone_said, not_gone, leaves_at}, Remaining.word_at, Rules.{same_behind, low_numbers, number_not as number_no}, Tables.{header_of, length_kept}, Wholes.{TheLaws, Typed, RunOf, Whole, fresh_of, next_consists}, Withdrawing.has_left, Writes.writes}
 use Rattle.sharc_meaning.specs.Events.{freed_by}
 
 -- the object of this number, where it is one that was made
@@ -9,20 +9,7 @@ IsObject (Object.Made n) o = (n ≡ o) × (o ≢ 0)
 
 module _ (laws : TheLaws) (x : Targets) (code : Code) (s : Shape) (ls : Labels) (typed : Typed x code s ls) (one : Turn) (earlier : List Turn) (run : RunOf code s (one ∷ earlier)) (w : Whole x code s ls earlier)
     (o k : ℕ) (live : (w.consists.world.obj o).live ≡ true) (inside : 2 * k < w.consists.state.cells o) where
-  abbrev g : Global Machine
-  g = place_after code s earlier
-
-  abbrev t : ℕ
-  t = one.thread
-
-  abbrev m : Machine
-  m = (place_after code s earlier).threads one.thread
-
-  abbrev i : Instr
-  i = instr_at code ((place_after code s earlier).threads one.thread).at.pc
-
-  abbrev m' : Machine
-  m' = (after_turn bounds (one_thread code s) (place_after code s earlier) one).threads one.thread
+  open turn_at code s (place_after code s earlier) one use {g, t, m, i, m'}
 
   abbrev world : World
   world = w.consists.world

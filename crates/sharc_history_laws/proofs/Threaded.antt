@@ -1,5 +1,5 @@
 -- Who was started, and who has ended, by the events of a run.
-use Rattle.sharc_history_laws.proofs.{Imports.{◌≡◌, ℕ, ℤ, pos, ◌+◌, ◌<◌, Bool, true, false, ◌||◌, ◌&&◌, length, List, [], ◌∷◌, reverse, Option, Some, None, if◌then◌else◌, refl, sym, ap, ◌∙◌, subst, ⊎_elim, arith, eqb-true, cases_eq, or_right, nat_tests, slice_index, nat_lt, nat_eq, ◌==◌, list_any, THREADS, WordOp, Act, SourceEvent, Code, Instr, Register, Shape, Stage, Begins, Withdraws, WithdrawsFrom, Leaves, RunLaws, Fits, state_word, Machine, instr_at, act, exit, spawn, withdraws, withdrew, at_stage, is_exit, turn, after, asked_by, Turn, Global, MayTurn, after_turn, put, state_now, result_of, words_now, is_started, said, speaks_of, in_exit, in_spawn, one_thread, bounds, place_after, table_of, History, spawns, is_spawn, is_natural, is_gone, was_spawned, went, Targets, Labels, IsWellTyped, is_ended, IsSmall, StageStands, Keeps, CellsAreThere, PointersAreThere, AccessesAreAllowed, same_is, or_split as or_cases, yes}, Consists.{Consists, after_set}, Outcomes.unended, Holding.any_push, Lists.{Newest, reverse_push}, Rules.{pushed, number_is}, Telling.{threads_said, neither, no_thread}, Told.is_threading, Carried.{put_same, put_other}}
+use Rattle.sharc_history_laws.proofs.{Imports.{◌≡◌, ℕ, ℤ, pos, ◌+◌, ◌<◌, Bool, true, false, ◌||◌, ◌&&◌, length, List, [], ◌∷◌, reverse, Option, Some, None, if◌then◌else◌, refl, sym, ap, ◌∙◌, subst, ⊎_elim, arith, eqb-true, cases_eq, or_right, nat_tests, slice_index, nat_lt, nat_eq, ◌==◌, list_any, THREADS, WordOp, Act, SourceEvent, Code, Instr, Register, Shape, Stage, Begins, Withdraws, WithdrawsFrom, Leaves, RunLaws, Fits, state_word, Machine, act, exit, spawn, withdraws, withdrew, at_stage, is_exit, turn, after, asked_by, Turn, Global, MayTurn, after_turn, put, state_now, words_now, is_started, said, in_exit, in_spawn, one_thread, bounds, place_after, History, spawns, is_spawn, is_natural, is_gone, was_spawned, went, Targets, Labels, IsWellTyped, is_ended, IsSmall, StageStands, Keeps, CellsAreThere, PointersAreThere, AccessesAreAllowed, same_is, or_split as or_cases, yes}, TurnAt.{turn_at, told_at}, Consists.{Consists, after_set}, Outcomes.unended, Holding.any_push, Lists.{Newest, reverse_push}, Rules.{pushed, number_is}, Telling.{threads_said, neither, no_thread}, Told.is_threading, Carried.{put_same, put_other}}
 
 pub or_left : (a b : Bool) → a ≡ true → (a || b) ≡ true
 or_left true b e = refl
@@ -49,26 +49,8 @@ pub record ThreadsTold (L : Newest) (g : Global Machine) : Type 0 where
 -- ---- one turn
 module _ (cell_laws : CellsAreThere) (pointers : PointersAreThere) (rights : AccessesAreAllowed) (laws : RunLaws) (keeps : Keeps) (x : Targets) (code : Code) (s : Shape) (ls : Labels) (wt : IsWellTyped x code ls) (fits : Fits code s) (few : IsSmall code s)
     (one : Turn) (earlier : List Turn) (h : Consists x code s ls earlier) (may : MayTurn bounds (one_thread code s) (place_after code s earlier) one) where
-  abbrev g : Global Machine
-  g = place_after code s earlier
-
-  abbrev t : ℕ
-  t = one.thread
-
-  abbrev m : Machine
-  m = (place_after code s earlier).threads one.thread
-
-  abbrev i : Instr
-  i = instr_at code ((place_after code s earlier).threads one.thread).at.pc
-
-  abbrev found : ℕ
-  found = result_of one.event
-
-  abbrev elements : ℕ
-  elements = table_of code s earlier (speaks_of (instr_at code ((place_after code s earlier).threads one.thread).at.pc) ((place_after code s earlier).threads one.thread) (result_of one.event))
-
-  abbrev event : Option SourceEvent
-  event = said code i ((place_after code s earlier).threads one.thread) found elements
+  open turn_at code s (place_after code s earlier) one use {g, t, m, i, found}
+  open told_at code s earlier one use {elements, event}
 
   stage_here : (j : Instr) → i ≡ j → StageStands code s h.state.elements h.world h.state.heap (place_after code s earlier).words one.thread ((place_after code s earlier).threads one.thread) j ((place_after code s earlier).threads one.thread).own.stage
   stage_here j e = subst (λ j. StageStands code s h.state.elements h.world h.state.heap g.words t m j m.own.stage) e ((h.state.threads t).runs may.started may.next.runs).stage

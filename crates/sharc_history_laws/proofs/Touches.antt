@@ -1,5 +1,5 @@
 -- Which word a turn of typed code is on: one below the blocks, a count of a live object, a cell, or a word of a block that the thread builds.
-use Rattle.sharc_history_laws.proofs.{Imports.{◌≡◌, ℕ, ℤ, pos, negsuc, zero, suc, ◌+◌, ◌*◌, ◌/◌, ◌<◌, ◌≤◌, ◌≢◌, Bool, true, false, nat_lt, List, Option, Some, None, if◌then◌else◌, refl, sym, ap, ◌∙◌, subst, arith, nat_tests, slice_index, ◌==◌, Trap, THREADS, WordOp, WordStep, word_after, NewView, told, word_number, turn_of_stage, NewArguments, NewStage, Code, Cell, Register, Instr, Shape, Stage, Looks, Clears, Makes, Empties, Lowers, FreeLooks, FreeClears, Uncounts, Links, Names, Hands, Begins, Enters, Withdraws, WithdrawsFrom, Leaves as Leaving, Wakes, Fits, granules, words_of, cell_word, cell_of, shadow_word, count_word, length_word, first_cell, first_shadow, state_word, Machine, StepTurn as Turn, Local, Asks, step_of, act, int, ref, word, raise, lower, test, new, asks_new, new_state, elements_of, clear, free, layout_at, spawn, join, start, exit, signal, goes, set_ref, accessed, move_ref, joined, trapped, instr_at, pointer_cell, turn, Global, Targets, Field, Content, MutexWord, Waiters, Label, Labels, IsWellTyped, Fine, HasCell, Accesses, World, In, RegisterOf, in_ref, Staged, CellOf, IsLoaded, WinOk, base_of, staged_of, lang_of, Heap, Built, State, Runs, StageStands, BuildsAt, all_pointers, OnHold, number_in, GateStands, base_of_cell, IsOn, PointersAreThere}, Single.{single, rests_hold}, Stands.{sole_ref, live_ref, target_ref, register_is, live_slot, known_ref, gate}}
+use Rattle.sharc_history_laws.proofs.{Imports.{◌≡◌, ℕ, ℤ, pos, negsuc, zero, suc, ◌+◌, ◌*◌, ◌/◌, ◌<◌, ◌≤◌, ◌≢◌, Bool, true, false, nat_lt, List, Option, Some, None, if◌then◌else◌, refl, sym, ap, ◌∙◌, subst, arith, nat_tests, slice_index, ◌==◌, Trap, THREADS, WordOp, WordStep, word_after, NewView, told, word_number, turn_of_stage, NewArguments, NewStage, Code, Cell, Register, Instr, Shape, Stage, Looks, Clears, Makes, Empties, Lowers, FreeLooks, FreeClears, Uncounts, Links, Names, Hands, Begins, Enters, Withdraws, WithdrawsFrom, Leaves as Leaving, Wakes, Fits, granules, words_of, cell_word, cell_of, shadow_word, count_word, length_word, first_cell, first_shadow, state_word, Machine, StepTurn as Turn, Local, Asks, step_of, act, int, ref, word, raise, lower, test, new, asks_new, new_state, elements_of, clear, free, layout_at, spawn, join, start, exit, signal, goes, set_ref, accessed, move_ref, joined, trapped, instr_at, pointer_cell, turn, Global, Targets, Field, Content, MutexWord, Waiters, Labels, IsWellTyped, Fine, HasCell, Accesses, World, In, RegisterOf, in_ref, Staged, CellOf, IsLoaded, WinOk, base_of, staged_of, lang_of, Heap, Built, State, Runs, StageStands, BuildsAt, all_pointers, OnHold, number_in, GateStands, base_of_cell, IsOn, PointersAreThere}, TurnAt.thread_at, Single.{single, rests_hold}, Stands.{sole_ref, live_ref, target_ref, register_is, live_slot, known_ref, gate}}
 use Rattle.sharc_invariant.specs.Words.{cell_at}
 
 abbrev pub is_mutex : Content → Bool
@@ -40,11 +40,7 @@ Touches x code s ls g world cells heap t (Local y) = Unit {0}
 Touches x code s ls g world cells heap t (Asks step go) = Touched x code s ls g world cells heap t step
 
 module _ (pointer_laws : PointersAreThere) (x : Targets) (code : Code) (s : Shape) (ls : Labels) (wt : IsWellTyped x code ls) (fits : Fits code s) (g : Global Machine) (world : World) (st : State x code s ls g world) (t : ℕ) (on : IsOn g t) where
-  abbrev m : Machine
-  m = g.threads t
-
-  abbrev here : Label
-  here = ls.at (g.threads t).at.pc
+  open thread_at st t use {m, here}
 
   abbrev Touching : WordStep → Type 0
   Touching = Touched x code s ls g world st.cells st.heap t
@@ -137,13 +133,10 @@ module _ (pointer_laws : PointersAreThere) (x : Targets) (code : Code) (s : Shap
 
   to_stage : (y : Machine) (r site : ℕ) (state : NewView) (words : List ℕ) (stage : NewStage) → state.arguments.first ≡ first_cell s → BuildsAt words st.heap t state stage
       → Turns (asks_new y r site state (turn_of_stage state.arguments stage))
-  to_stage y r site state words NewStage.Begins e h = absurd h
-  to_stage y r site state words NewStage.Link e h = absurd h
   to_stage y r site state words (NewStage.Cell cell) e h =
       let a = state.arguments in
       let size = h.2 in let room = h.0 in let lt = h.3 in
       number_of_block (a.first + 2 * a.head + 2 + cell) _ a a.head e h.1 (omega arith) (omega arith)
-  to_stage y r site state words NewStage.Top e h = absurd h
   to_stage y r site state words (NewStage.Move top moved) e h = Low (omega arith)
   to_stage y r site state words (NewStage.Count header) e h =
       let a = state.arguments in
@@ -153,8 +146,7 @@ module _ (pointer_laws : PointersAreThere) (x : Targets) (code : Code) (s : Shap
       let a = state.arguments in
       let nz = some_size header h.1 in
       number_of_block (a.first + 2 * header + 1) _ a header e h.1 (omega arith) (in_block header (first_cell s) (a.first + 2 * header + 1) 1 (omega arith) nz (omega arith))
-  to_stage y r site state words (NewStage.Made header) e h = absurd h
-  to_stage y r site state words NewStage.Full e h = absurd h
+  to_stage y r site state words _ e h = absurd h
 
   -- what the thread has is live
   live_in_register : (i : ℕ) → OnHold (g.threads t).own.stage → slice_index (g.threads t).refs i ≢ 0 → (world.obj (slice_index (g.threads t).refs i)).live ≡ true

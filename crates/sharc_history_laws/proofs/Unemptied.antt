@@ -1,7 +1,7 @@
 -- No Free empties the object of a cell at which a thread is whose gate is no sole reference.
-use Rattle.sharc_history_laws.proofs.{Imports.{◌≡◌, ℕ, ◌+◌, ◌≢◌, true, false, refl, ap, ◌∙◌, slice_index, Code, Cell, Shape, Stage, Links, Fits, Machine, Global, Targets, Labels, IsWellTyped, IsNotSole, World, Closing, State, OnHold, object_of_cell, IsOn, StateStands}, Emptying.{IsEmptied, is_emptying}, Shared.{closing_own, some_closing, not_sole}, Stands.gate, Unwritten.emptying}
+use Rattle.sharc_history_laws.proofs.{Imports.{◌≡◌, ℕ, ◌+◌, ◌≢◌, true, false, refl, ap, ◌∙◌, slice_index, Code, Cell, Shape, Stage, Links, Fits, Machine, Global, Targets, Labels, IsWellTyped, IsNotSole, World, Closing, State, OnHold, object_of_cell, IsOn, StateStands, is_clearing}, Emptying.IsEmptied, Shared.{closing_own, some_closing, not_sole}, Stands.gate, Unwritten.emptying}
 
-pub on_hold : (stage : Stage) → is_emptying stage ≡ true → OnHold stage
+pub on_hold : (stage : Stage) → is_clearing stage ≡ true → OnHold stage
 on_hold (Links all) e = absurd (let z : false ≡ true = e in cc)
 on_hold _ e = tt
 

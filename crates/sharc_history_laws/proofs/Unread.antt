@@ -1,5 +1,5 @@
 -- A thread that has its argument to read has had no event, and a Spawn has answered its number that gave it what it is to read.
-use Rattle.sharc_history_laws.proofs.{Imports.{◌≡◌, ◌≢◌, ℕ, ◌+◌, ◌<◌, inl, inr, Bool, true, false, ◌&&◌, length, List, [], ◌∷◌, ◌++◌, reverse, Option, Some, None, if◌then◌else◌, refl, sym, ap, ◌∙◌, subst, ⊎_elim, arith, eqb-true, cases_eq, nat_tests, slice_index, nat_lt, ◌==◌, ◌^◌, THREADS, SourceEvent, Code, Parameter, Instr, Shape, Stage, Rests, Enters, Withdraws, WithdrawsFrom, Leaves, FRAMES, RunLaws, Fits, state_word, function_word, Machine, instr_at, act, start, exit, withdraws, has_room, called, entered, with_parameter, function_of, opening_words, turn, after, Turn, Global, IsRun, MayTurn, put, state_now, result_of, opening_of, said, speaks_of, reference, started_with, in_start, SpawnsStart, one_thread, bounds, place_after, table_of, events_of, Targets, Labels, IsWellTyped, ArgumentOf, In, is_unread, is_first, if_reference, argument_of, IsSmall, StageStands, FramesStand, view_of, IsOn, Keeps, CodeBegins, CellsAreThere, PointersAreThere, AccessesAreAllowed, history_of, IsGivenTo, is_below as less, yes}, Consists.Consists, Finds.low_slot, Holding.own_push, Lists.Newest, Locking.is_others, Past.arriving, Rules.{pushed, newest, newest_now}, Started.{Unheard, SpawnedIn, WasGiven, function_given, argument_given, spawned_any, begun_runs}, Threaded.{and_parts as parts}, Carried.{put_same, put_other}}
+use Rattle.sharc_history_laws.proofs.{Imports.{◌≡◌, ◌≢◌, ℕ, ◌+◌, ◌<◌, inl, inr, Bool, true, false, ◌&&◌, length, List, [], ◌∷◌, ◌++◌, reverse, Option, Some, None, if◌then◌else◌, refl, sym, ap, ◌∙◌, subst, ⊎_elim, arith, eqb-true, cases_eq, nat_tests, slice_index, nat_lt, ◌==◌, ◌^◌, THREADS, SourceEvent, Code, Parameter, Instr, Shape, Stage, Rests, Enters, Withdraws, WithdrawsFrom, Leaves, FRAMES, RunLaws, Fits, state_word, function_word, Machine, instr_at, act, start, exit, withdraws, has_room, called, entered, with_parameter, function_of, opening_words, turn, after, Turn, Global, IsRun, MayTurn, put, state_now, result_of, opening_of, said, reference, started_with, in_start, SpawnsStart, one_thread, bounds, place_after, table_of, events_of, Targets, Labels, IsWellTyped, ArgumentOf, In, is_unread, is_first, if_reference, argument_of, IsSmall, StageStands, FramesStand, view_of, IsOn, Keeps, CodeBegins, CellsAreThere, PointersAreThere, AccessesAreAllowed, history_of, IsGivenTo, is_below as less, yes}, TurnAt.{turn_at, told_at}, Consists.Consists, Finds.low_slot, Holding.own_push, Lists.Newest, Locking.is_others, Past.arriving, Rules.{pushed, newest, newest_now}, Started.{Unheard, SpawnedIn, WasGiven, function_given, argument_given, spawned_any, begun_runs}, Threaded.{and_parts as parts}, Carried.{put_same, put_other}}
 
 some_none : (f : ℕ) → Some f ≡ None → ⊥
 some_none f e = cc
@@ -54,26 +54,8 @@ exit_stays s m _ found = withdraws_stays m 0
 -- ---- one turn
 module _ (cell_laws : CellsAreThere) (pointers : PointersAreThere) (rights : AccessesAreAllowed) (laws : RunLaws) (keeps : Keeps) (x : Targets) (code : Code) (s : Shape) (ls : Labels) (wt : IsWellTyped x code ls) (fits : Fits code s) (few : IsSmall code s)
     (one : Turn) (earlier : List Turn) (h : Consists x code s ls earlier) (may : MayTurn bounds (one_thread code s) (place_after code s earlier) one) where
-  abbrev g : Global Machine
-  g = place_after code s earlier
-
-  abbrev u : ℕ
-  u = one.thread
-
-  abbrev m : Machine
-  m = (place_after code s earlier).threads one.thread
-
-  abbrev i : Instr
-  i = instr_at code ((place_after code s earlier).threads one.thread).at.pc
-
-  abbrev found : ℕ
-  found = result_of one.event
-
-  abbrev elements : ℕ
-  elements = table_of code s earlier (speaks_of (instr_at code ((place_after code s earlier).threads one.thread).at.pc) ((place_after code s earlier).threads one.thread) (result_of one.event))
-
-  abbrev event : Option SourceEvent
-  event = said code (instr_at code ((place_after code s earlier).threads one.thread).at.pc) ((place_after code s earlier).threads one.thread) (result_of one.event) elements
+  open turn_at code s (place_after code s earlier) one use {g, t as u, m, i, found}
+  open told_at code s earlier one use {elements, event}
 
   abbrev y : Machine
   y = after (turn code s ((place_after code s earlier).threads one.thread)) (result_of one.event)

@@ -1,5 +1,5 @@
 -- Each turn of typed code leaves the cells with what the events say that they hold.
-use Rattle.sharc_history_laws.proofs.{Imports.{◌≡◌, ℕ, pos, zero, suc, ◌+◌, ◌*◌, ◌≢◌, ◌⊎◌, inl, inr, Bool, true, false, ◌||◌, List, ◌∷◌, Option, Some, None, refl, sym, ap, ◌∙◌, subst, ⊎_elim, arith, slice_index, WordOp, Act, CellAt, Object, SourceEvent, Resolution, Code, Cell, Instr, Shape, Empties, word_of, RunLaws, Fits, Machine, instr_at, int, ref, word, act, object, turn, asked_by, Turn, Global, MayTurn, after_turn, result_of, words_now, said, cell_at, speaks_of, reference, one_thread, bounds, place_after, Elements, table_of, makes, is_cell, is_number, made_by, same_cell, changes, cell_changed, value_left, Targets, Field, Content, Integer, MutexWord, Waiters, Pointer, field_in, is_pointer, Labels, IsWellTyped, Fine, Accesses, HasCell, CellOf, ObjectState, IsSmall, StageStands, OnHold, object_of_cell, number_in, view_of, refs_at, types_at, IsOn, Keeps, CellsAreThere, PointersAreThere, AccessesAreAllowed, yes}, Acts.{given_at, freed_at, About, no_access}, Born.born, Consists.{Consists, consists_then, objects_then, after_set, same_table, headed, live_not_built, header_built}, Contents.{newest_value, value_changed, value_kept, value_held, IsCellOf, content_of, word_of_cell, Contents, one_cell, back_again, fits_in}, Emptying.{IsFreeing, IsEmptied, emptied_then}, Holding.cell_eq, Lists.Newest, Locked.Names, Locking.cell_refl, ModesKept.word_spared, OneMode.{place_of, numbers_now}, Rules.{pushed, about_now, decide, number_yes, number_not, freed_gone}, Shared.number_of, Single.{single, rests_hold}, Sparing.{is_value, spares}, Touches.written_cell, Stands.{live_slot, there, top, rn}, Tables.header_of, Telling.{changed_said, unchanged_said}, Unwritten.writes_single, Values.{Kept, kept}}
+use Rattle.sharc_history_laws.proofs.{Imports.{◌≡◌, ℕ, pos, zero, suc, ◌+◌, ◌*◌, ◌≢◌, ◌⊎◌, inl, inr, Bool, true, false, ◌||◌, List, ◌∷◌, Option, Some, None, refl, sym, ap, ◌∙◌, subst, ⊎_elim, arith, slice_index, WordOp, Act, CellAt, Object, SourceEvent, Resolution, Code, Cell, Instr, Shape, Empties, word_of, RunLaws, Fits, Machine, instr_at, int, ref, word, act, object, turn, asked_by, Turn, Global, MayTurn, after_turn, words_now, said, cell_at, speaks_of, reference, one_thread, bounds, place_after, Elements, table_of, makes, is_cell, is_number, made_by, same_cell, changes, cell_changed, value_left, Targets, Field, Content, Integer, Pointer, field_in, is_pointer, Labels, IsWellTyped, Accesses, HasCell, CellOf, ObjectState, IsSmall, StageStands, OnHold, object_of_cell, number_in, view_of, refs_at, types_at, Keeps, CellsAreThere, PointersAreThere, AccessesAreAllowed, yes, is_clearing}, TurnAt.{turn_at, told_at, turn_stands}, Acts.{given_at, freed_at, About, no_access}, Born.born, Consists.{Consists, consists_then, objects_then, after_set, same_table, headed, live_not_built, header_built}, Contents.{newest_value, value_changed, value_kept, value_held, IsCellOf, content_of, word_of_cell, Contents, one_cell, back_again, fits_in}, Emptying.{IsFreeing, IsEmptied, emptied_then}, Holding.cell_eq, Lists.Newest, Locked.Names, Locking.cell_refl, ModesKept.word_spared, OneMode.{place_of, numbers_now}, Rules.{pushed, about_now, decide, number_yes, number_not, freed_gone}, Shared.number_of, Single.{single, rests_hold}, Sparing.{is_value, spares}, Touches.written_cell, Stands.{live_slot, there, top, rn}, Tables.header_of, Telling.{changed_said, unchanged_said}, Unwritten.writes_single, Values.{Kept, kept}}
 use Rattle.sharc_invariant.specs.Words as Words
 use Rattle.sharc_history_laws.proofs.Told as Told
 use Rattle.sharc_history_laws.proofs.Placed as Placed
@@ -11,9 +11,7 @@ made_zero e _ n q = absurd (cc)
 
 held_zero : (c : Content) (T : Elements) → value_held c T 0 ≡ pos 0
 held_zero (Integer w) T = refl
-held_zero (Pointer f) T = refl
-held_zero MutexWord T = refl
-held_zero Waiters T = refl
+held_zero _ _ = refl
 
 -- a reference to nothing has no elements
 pub reference_as : (n : ℕ) (T T' : Elements) → (n ≢ 0 → T' n ≡ T n) → reference n (T n) ≡ reference n (T' n)
@@ -23,47 +21,19 @@ reference_as (suc n) T T' h = ap (reference (suc n)) (sym (h (λ e. omega arith)
 -- ---- one turn
 module _ (cell_laws : CellsAreThere) (pointers : PointersAreThere) (rights : AccessesAreAllowed) (laws : RunLaws) (keeps : Keeps) (x : Targets) (code : Code) (s : Shape) (ls : Labels) (wt : IsWellTyped x code ls) (fits : Fits code s) (few : IsSmall code s)
     (one : Turn) (earlier : List Turn) (h : Consists x code s ls earlier) (may : MayTurn bounds (one_thread code s) (place_after code s earlier) one) where
-  abbrev g : Global Machine
-  g = place_after code s earlier
-
-  abbrev t : ℕ
-  t = one.thread
-
-  abbrev m : Machine
-  m = (place_after code s earlier).threads one.thread
-
-  abbrev i : Instr
-  i = instr_at code ((place_after code s earlier).threads one.thread).at.pc
-
-  abbrev found : ℕ
-  found = result_of one.event
-
-  abbrev T : Elements
-  T = table_of code s earlier
-
-  abbrev T' : Elements
-  T' = table_of code s (one ∷ earlier)
-
-  abbrev elements : ℕ
-  elements = table_of code s earlier (speaks_of (instr_at code ((place_after code s earlier).threads one.thread).at.pc) ((place_after code s earlier).threads one.thread) (result_of one.event))
-
-  abbrev event : Option SourceEvent
-  event = said code i ((place_after code s earlier).threads one.thread) found elements
+  open turn_at code s (place_after code s earlier) one use {g, t, m, i, found}
+  open told_at code s earlier one use {T, T', elements, event}
 
   abbrev then_ : Consists x code s ls (one ∷ earlier)
   then_ = consists_then laws keeps cell_laws pointers x code s ls wt fits few one earlier h may
 
-  on : IsOn (place_after code s earlier) one.thread
-  on = (may.started, may.next.runs)
+  open turn_stands wt h.state one may use {on, fine}
 
   abbrev Tells : Option SourceEvent → Type 0
   Tells = About ((place_after code s earlier).threads one.thread).own.number (header_of i ((place_after code s earlier).threads one.thread).own.stage) (given_at i ((place_after code s earlier).threads one.thread)) (freed_at i ((place_after code s earlier).threads one.thread))
 
   tells : Tells event
   tells = about_now cell_laws pointers rights laws keeps x code s ls wt fits few one earlier h may
-
-  fine : (j : Instr) → i ≡ j → Fine x code ls ((place_after code s earlier).threads one.thread).at.pc (ls.at ((place_after code s earlier).threads one.thread).at.pc) j
-  fine j e = subst (Fine x code ls m.at.pc (ls.at m.at.pc)) e (wt.fine m.at.pc)
 
   pub hold : (j : Instr) → i ≡ j → single j ≡ true → OnHold ((place_after code s earlier).threads one.thread).own.stage
   hold j e is = rests_hold code s h.state.elements h.world h.state.heap g.words t m j m.own.stage is (subst (λ j. StageStands code s h.state.elements h.world h.state.heap g.words t m j m.own.stage) e ((h.state.threads t).runs on.0 on.1).stage)
@@ -179,7 +149,7 @@ module _ (cell_laws : CellsAreThere) (pointers : PointersAreThere) (rights : Acc
           layout = layout;
           site = site;
           is_free = is;
-          emptying = ap Rattle.sharc_history_laws.proofs.Emptying.is_emptying at;
+          emptying = ap is_clearing at;
           object = e;
           on = may.next.runs;
         }
@@ -200,12 +170,10 @@ module _ (cell_laws : CellsAreThere) (pointers : PointersAreThere) (rights : Acc
         held_still w e = by (content_of x code h.world c) refl
           where
             by : (k : Content) → content_of x code h.world c ≡ k → value_held k T w ≡ value_held k T' w
-            by (Integer width) is = refl
-            by MutexWord is = refl
-            by Waiters is = refl
             by (Pointer f) is = reference_as w T T' (λ nz.
                 let slot : (h.world.slots (CellOf o j)).reference ≡ w = h.state.sim.pointers o j was.live was.inside (ap is_pointer is) ∙ e in
                 same_elements w nz (subst (λ n. (h.world.obj n).live ≡ true) slot (live_slot x code s ls wt fits g h.world h.state (CellOf o j) (λ z. nz (sym slot ∙ z)))))
+            by _ is = refl
 
         holds_kept : (ev : Option SourceEvent) → event ≡ ev → Tells ev → Holds (pushed ev L)
         holds_kept ev e about = ⊎_elim

@@ -1,5 +1,5 @@
 -- An object that was there before a turn and is there after it has cells with the same contents.
-use Rattle.sharc_history_laws.proofs.{Imports.{◌≡◌, ℕ, ◌+◌, ◌*◌, ◌%◌, ◌<◌, ◌≢◌, Bool, true, false, length, List, ◌∷◌, Some, refl, sym, ap, ◌∙◌, subst, ⊎_elim, arith, cases_eq, nat_tests, ◌==◌, Code, Instr, Shape, RunLaws, Fits, Machine, instr_at, act, ref, turn, after, Turn, Global, MayTurn, after_turn, state_now, result_of, one_thread, bounds, place_after, Elements, Targets, StaticType, Field, Content, Integer, MutexWord, Waiters, Pointer, cells_of, field_at, field_of_cell, field_in, globals_target, Label, Labels, empty, IsWellTyped, Fine, IsSameContent, ObjectState, World, objects_behind, owned, type_held, State, IsSmall, StageStands, Keeps, CellsAreThere, PointersAreThere, yes}, Acts.{given_at, freed_at}, Born.filled_target, Consists.{Consists, consists_then, objects_then, given}, Contents.value_held, Rules.{same_behind, freed_gone, decide}, Single.rests_hold, Sparing.{is_value, holds_waiters}, Stands.{target_ref, sole_ref}, Tables.{header_of, was_live, length_kept}, Writes.writes, Carried.put_same}
+use Rattle.sharc_history_laws.proofs.{Imports.{◌≡◌, ℕ, ◌+◌, ◌*◌, ◌%◌, ◌<◌, ◌≢◌, Bool, true, false, length, List, ◌∷◌, Some, refl, sym, ap, ◌∙◌, subst, ⊎_elim, arith, cases_eq, nat_tests, ◌==◌, Code, Instr, Shape, RunLaws, Fits, Machine, act, ref, turn, after, Turn, Global, MayTurn, state_now, result_of, one_thread, bounds, place_after, Elements, Targets, StaticType, Field, Content, Integer, MutexWord, Waiters, Pointer, cells_of, field_at, field_of_cell, field_in, globals_target, Label, Labels, empty, IsWellTyped, Fine, IsSameContent, ObjectState, World, objects_behind, owned, type_held, State, IsSmall, StageStands, Keeps, CellsAreThere, PointersAreThere, yes}, TurnAt.turn_at, Acts.{given_at, freed_at}, Born.filled_target, Consists.{Consists, consists_then, objects_then, given}, Contents.value_held, Rules.{same_behind, freed_gone, decide}, Single.rests_hold, Sparing.{is_value, holds_waiters}, Stands.{target_ref, sole_ref}, Tables.{header_of, was_live, length_kept}, Writes.writes, Carried.put_same}
 
 -- ---- contents of one kind
 pub record SameContent (a b : Content) : Type 0 where
@@ -37,23 +37,10 @@ module _ (x : Targets) (code : Code) (s : Shape) (ls : Labels) (g : Global Machi
 -- ---- one turn
 module _ (laws : RunLaws) (keeps : Keeps) (cells : CellsAreThere) (pointers : PointersAreThere) (x : Targets) (code : Code) (s : Shape) (ls : Labels) (wt : IsWellTyped x code ls) (fits : Fits code s) (few : IsSmall code s)
     (one : Turn) (earlier : List Turn) (h : Consists x code s ls earlier) (may : MayTurn bounds (one_thread code s) (place_after code s earlier) one) where
-  abbrev g : Global Machine
-  g = place_after code s earlier
-
-  abbrev t : ℕ
-  t = one.thread
-
-  abbrev m : Machine
-  m = (place_after code s earlier).threads one.thread
-
-  abbrev i : Instr
-  i = instr_at code ((place_after code s earlier).threads one.thread).at.pc
+  open turn_at code s (place_after code s earlier) one use {g, t, m, i, m'}
 
   abbrev then_ : Consists x code s ls (one ∷ earlier)
   then_ = consists_then laws keeps cells pointers x code s ls wt fits few one earlier h may
-
-  abbrev m' : Machine
-  m' = (after_turn bounds (one_thread code s) (place_after code s earlier) one).threads one.thread
 
   abbrev behind : ℕ → ObjectState
   behind = objects_behind ls one.thread i ((place_after code s earlier).threads one.thread) m' h.world.obj

@@ -1,5 +1,5 @@
 -- Whoever waits by the events stands where it waits, and the words of conditions have the bits of those who wait.
-use Rattle.sharc_history_laws.proofs.{Imports.{◌≡◌, ℕ, pos, zero, suc, ◌+◌, ◌^◌, ◌<◌, ◌≢◌, ◌⊎◌, inl, inr, Bool, true, false, not, ◌||◌, ◌&&◌, cond, List, ◌∷◌, Option, Some, None, if◌then◌else◌, refl, sym, ap, ◌∙◌, subst, ⊎_elim, arith, eqb-true, cases_eq, not_true, get_or-set_other, slice_index, ◌==◌, THREADS, WordOp, word_after, Act, CellAt, Object, SourceEvent, WaitersLaws, waits_in, lowest_of, without_lowest, Code, Cell, Instr, Shape, Stage, Empties, Links, Wakes, word_of, RunLaws, Fits, Machine, instr_at, int, ref, word, act, signal, is_of_null, step_of, goes, fails, turn, after, asked_by, Turn, Global, MayTurn, after_turn, put, state_now, result_of, words_now, said, cell_at, speaks_of, nobody, in_signal, event_at, one_thread, bounds, place_after, table_of, is_cell, same_cell, takes_away, Targets, Field, Content, Integer, MutexWord, Waiters, Pointer, field_in, Gate, Closed, Labels, IsWellTyped, Fine, Accesses, HasCell, IsNotSole, In, RegisterOf, ObjectState, World, IsSmall, StageStands, EntryStands, OnHold, object_of_cell, number_in, view_of, refs_at, types_at, IsOn, Keeps, CellsAreThere, PointersAreThere, AccessesAreAllowed, StateStands, WaitsFollow, same_is, ne_of as other_is, yes}, Acts.{freed_at, thread_said}, Born.born, Consists.{Consists, consists_then, objects_then, after_set, found_is, headed, live_not_built, header_built}, Contents.{IsCellOf, content_of, word_of_cell, one_cell}, Emptying.{IsFreeing, IsEmptied, is_emptying, emptied_then}, Holding.cell_eq, Lists.Newest, Locking.cell_refl, ModesKept.word_spared, OneMode.{place_of, numbers_now}, Queued.{waits_by, waits_behind, waiter_behind, other_event, no_condition, condition_elsewhere, no_enter, woken_leaves, enterless}, Told.{is_condition, is_enter}, Outcomes.wakes_nobody, Rules.{pushed, about_now, number_is, decide, freed_gone}, Shared.number_of, Single.{single, rests_hold}, Sparing.{holds_waiters, spares_cell}, Touches.{is_mutex, waited_cell, written_cell}, Stands.{register_is, live_slot, some_base, there, top, reads_ref}, Tables.header_of, Unemptied.not_emptied, Valued.cell_named, Values.{Kept, kept}, Logged.{above as positive}, Carried.{put_same, put_other}}
+use Rattle.sharc_history_laws.proofs.{Imports.{◌≡◌, ℕ, pos, zero, suc, ◌+◌, ◌^◌, ◌<◌, ◌≢◌, ◌⊎◌, inl, inr, Bool, true, false, not, ◌||◌, ◌&&◌, cond, List, ◌∷◌, Option, Some, None, if◌then◌else◌, refl, sym, ap, ◌∙◌, subst, ⊎_elim, arith, eqb-true, cases_eq, not_true, get_or-set_other, slice_index, ◌==◌, THREADS, WordOp, word_after, Act, CellAt, Object, SourceEvent, WaitersLaws, waits_in, lowest_of, without_lowest, Code, Cell, Instr, Shape, Stage, Empties, Links, Wakes, word_of, RunLaws, Fits, Machine, instr_at, int, ref, word, act, signal, is_of_null, step_of, goes, fails, turn, after, asked_by, Turn, Global, MayTurn, after_turn, put, state_now, words_now, said, cell_at, nobody, in_signal, event_at, one_thread, bounds, place_after, is_cell, same_cell, takes_away, Targets, Field, Content, Waiters, field_in, Gate, Closed, Labels, IsWellTyped, Accesses, HasCell, IsNotSole, In, RegisterOf, ObjectState, World, IsSmall, StageStands, EntryStands, OnHold, object_of_cell, number_in, view_of, refs_at, types_at, Keeps, CellsAreThere, PointersAreThere, AccessesAreAllowed, StateStands, WaitsFollow, same_is, ne_of as other_is, yes, is_clearing}, TurnAt.{turn_at, told_at, turn_stands}, Acts.{freed_at, thread_said}, Born.born, Consists.{Consists, consists_then, objects_then, after_set, found_is, headed, live_not_built, header_built}, Contents.{IsCellOf, content_of, word_of_cell, one_cell}, Emptying.{IsFreeing, IsEmptied, emptied_then}, Holding.cell_eq, Lists.Newest, Locking.cell_refl, ModesKept.word_spared, OneMode.{place_of, numbers_now}, Queued.{waits_by, waits_behind, waiter_behind, other_event, no_condition, condition_elsewhere, no_enter, woken_leaves, enterless}, Told.{is_condition, is_enter}, Outcomes.wakes_nobody, Rules.{pushed, about_now, decide, freed_gone}, Shared.number_of, Single.{single, rests_hold}, Sparing.{holds_waiters, spares_cell}, Touches.{is_mutex, waited_cell, written_cell}, Stands.{register_is, live_slot, some_base, there, top, reads_ref}, Tables.header_of, Unemptied.not_emptied, Valued.cell_named, Values.{Kept, kept}, Logged.{above as positive}, Carried.{put_same, put_other}}
 use Rattle.sharc_meaning.specs.Store.{entered}
 use Rattle.sharc_history_laws.proofs.Placed as Placed
 
@@ -75,29 +75,8 @@ at_waiting code pc k (Unlocks q mutex a b w v) = ap is_waiting w
 -- ---- one turn
 module _ (bits : WaitersLaws) (cell_laws : CellsAreThere) (pointers : PointersAreThere) (rights : AccessesAreAllowed) (laws : RunLaws) (keeps : Keeps) (x : Targets) (code : Code) (s : Shape) (ls : Labels) (wt : IsWellTyped x code ls) (fits : Fits code s) (few : IsSmall code s)
     (one : Turn) (earlier : List Turn) (h : Consists x code s ls earlier) (may : MayTurn bounds (one_thread code s) (place_after code s earlier) one) where
-  abbrev g : Global Machine
-  g = place_after code s earlier
-
-  abbrev t : ℕ
-  t = one.thread
-
-  abbrev m : Machine
-  m = (place_after code s earlier).threads one.thread
-
-  abbrev i : Instr
-  i = instr_at code ((place_after code s earlier).threads one.thread).at.pc
-
-  abbrev found : ℕ
-  found = result_of one.event
-
-  abbrev elements : ℕ
-  elements = table_of code s earlier (speaks_of (instr_at code ((place_after code s earlier).threads one.thread).at.pc) ((place_after code s earlier).threads one.thread) (result_of one.event))
-
-  abbrev event : Option SourceEvent
-  event = said code i ((place_after code s earlier).threads one.thread) found elements
-
-  abbrev g' : Global Machine
-  g' = after_turn bounds (one_thread code s) (place_after code s earlier) one
+  open turn_at code s (place_after code s earlier) one use {g, t, m, i, found, g'}
+  open told_at code s earlier one use {elements, event}
 
   abbrev words : List ℕ
   words = words_now (place_after code s earlier).words one.event
@@ -105,20 +84,10 @@ module _ (bits : WaitersLaws) (cell_laws : CellsAreThere) (pointers : PointersAr
   abbrev then_ : Consists x code s ls (one ∷ earlier)
   then_ = consists_then laws keeps cell_laws pointers x code s ls wt fits few one earlier h may
 
-  on : IsOn (place_after code s earlier) one.thread
-  on = (may.started, may.next.runs)
-
-  number : ((place_after code s earlier).threads one.thread).own.number ≡ one.thread
-  number = number_is cell_laws pointers rights laws keeps x code s ls wt fits few one earlier h may
+  open turn_stands wt h.state one may use {on, number, fine, stage_here}
 
   few_threads : one.thread < THREADS
   few_threads = h.state.begins.few t on.0
-
-  fine : (j : Instr) → i ≡ j → Fine x code ls ((place_after code s earlier).threads one.thread).at.pc (ls.at ((place_after code s earlier).threads one.thread).at.pc) j
-  fine j e = subst (Fine x code ls m.at.pc (ls.at m.at.pc)) e (wt.fine m.at.pc)
-
-  stage_here : (j : Instr) → i ≡ j → StageStands code s h.state.elements h.world h.state.heap (place_after code s earlier).words one.thread ((place_after code s earlier).threads one.thread) j ((place_after code s earlier).threads one.thread).own.stage
-  stage_here j e = subst (λ j. StageStands code s h.state.elements h.world h.state.heap g.words t m j m.own.stage) e ((h.state.threads t).runs on.0 on.1).stage
 
   held_by : (j : Instr) → i ≡ j → single j ≡ true → OnHold ((place_after code s earlier).threads one.thread).own.stage
   held_by j is one = rests_hold code s h.state.elements h.world h.state.heap g.words t m j m.own.stage one (stage_here j is)
@@ -258,10 +227,8 @@ module _ (bits : WaitersLaws) (cell_laws : CellsAreThere) (pointers : PointersAr
         emptied_still k = ⊎_elim (λ (e : freed_at i m ≡ Some o). absurd (unfreed e)) (λ (z : IsEmptied code (after_turn bounds (one_thread code s) g one) o). z) (emptied_then code s g one o k)
 
         no_mutex : (k : Content) → holds_waiters k ≡ true → is_mutex k ≡ false
-        no_mutex (Integer w) e = absurd (yes (sym e))
-        no_mutex (Pointer f) e = absurd (yes (sym e))
-        no_mutex MutexWord e = absurd (yes (sym e))
         no_mutex Waiters e = refl
+        no_mutex _ e = absurd (yes (sym e))
 
         -- the turn changes its waiters, or empties its object
         abbrev Own : Type 0
@@ -303,7 +270,7 @@ module _ (bits : WaitersLaws) (cell_laws : CellsAreThere) (pointers : PointersAr
           layout = layout;
           site = site;
           is_free = is;
-          emptying = ap is_emptying at;
+          emptying = ap is_clearing at;
           object = e;
           on = may.next.runs;
         })

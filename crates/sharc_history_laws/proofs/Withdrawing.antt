@@ -1,7 +1,6 @@
 -- From which granules a thread has withdrawn, after each turn.
-use Rattle.sharc_history_laws.proofs.{Imports.{◌≡◌, ℕ, zero, suc, ◌+◌, ◌<◌, ◌≤◌, Bool, true, false, ◌||◌, length, List, [], ◌∷◌, Option, Some, None, is_some, if◌then◌else◌, refl, sym, ap, ◌∙◌, subst, ⊎_elim, arith, eqb-true, cases_eq, not_true as unset, nat_tests, slice_index, slice_index_or, take, nat_lt, ◌==◌, list_any, Kind, Read, Write, Note, GranuleNotes, blank, has_note, of_kind, ListsNoted, note_of, site_at, Code, Instr, Shape, Stage, Clears, FreeClears, Withdraws, WithdrawsFrom, Leaves, TurnState as PlaceState, Tries, Stopped, Ended, granules, granule_at, Machine, instr_at, act, exit, withdraws, withdrew, at_stage, row_of, ref, TurnsComeOut, is_exit, turn, after, may_go, Turn, Global, MayTurn, after_turn, state_now, result_of, one_thread, bounds, Touch, Untouched, CheckOf, WithdrawOf, cleared_by, freed_by, withdrawn_by, touch_of, Heap, Labels, touch_at, State, StageStands, OnExit, Targets, has_withdrawn, is_withdrawing, is_ended, World, same_is, yes, same_or}, Outcomes.{unended, withdraws_still}, Shadows.{row_low, at_low}, Carried.put_same}
+use Rattle.sharc_history_laws.proofs.{Imports.{◌≡◌, ℕ, zero, suc, ◌+◌, ◌<◌, ◌≤◌, Bool, true, false, ◌||◌, length, List, [], ◌∷◌, Option, Some, None, is_some, if◌then◌else◌, refl, sym, ap, ◌∙◌, subst, ⊎_elim, arith, eqb-true, cases_eq, not_true as unset, nat_tests, slice_index, slice_index_or, take, nat_lt, ◌==◌, list_any, Kind, Read, Write, Note, GranuleNotes, blank, has_note, of_kind, ListsNoted, note_of, site_at, Code, Instr, Shape, Stage, Clears, FreeClears, Withdraws, WithdrawsFrom, Leaves, TurnState as PlaceState, Ended, granules, granule_at, Machine, act, exit, withdraws, withdrew, at_stage, row_of, ref, TurnsComeOut, is_exit, turn, after, may_go, Turn, Global, MayTurn, state_now, result_of, one_thread, bounds, Touch, Untouched, CheckOf, WithdrawOf, cleared_by, freed_by, withdrawn_by, touch_of, Heap, Labels, touch_at, State, StageStands, OnExit, Targets, has_withdrawn, is_withdrawing, is_ended, World, same_is, yes, same_or}, TurnAt.turn_at, Outcomes.{unended, withdraws_still}, Shadows.{row_low, at_low}, Carried.put_same}
 use Rattle.sharc_heap.specs.Accesses.{Accesses}
-use Rattle.sharc_code.specs.declared.state.TurnState.TheVariants.{Runs}
 
 -- the thread has withdrawn from the granule
 abbrev pub has_left : Machine → ℕ → Bool
@@ -81,27 +80,12 @@ calm_left Leaves order ended p e = absurd (yes e)
 calm_left _ order ended p e = refl
 
 going_on : (y : PlaceState) → may_go y ≡ true → is_ended y ≡ false
-going_on Runs e = refl
-going_on Tries e = refl
-going_on Stopped e = refl
 going_on Ended e = absurd (yes (sym e))
+going_on _ e = refl
 
 -- ---- one turn
 module _ (outs : TurnsComeOut) (x : Targets) (code : Code) (s : Shape) (ls : Labels) (g : Global Machine) (world : World) (st : State x code s ls g world) (tr : Turn) (may : MayTurn bounds (one_thread code s) g tr) where
-  abbrev t : ℕ
-  t = tr.thread
-
-  abbrev m : Machine
-  m = g.threads tr.thread
-
-  abbrev i : Instr
-  i = instr_at code (g.threads tr.thread).at.pc
-
-  abbrev found : ℕ
-  found = result_of tr.event
-
-  abbrev m' : Machine
-  m' = (after_turn bounds (one_thread code s) g tr).threads tr.thread
+  open turn_at code s g tr use {t, m, i, found, m'}
 
   abbrev order : List ℕ
   order = (g.threads tr.thread).own.table.order

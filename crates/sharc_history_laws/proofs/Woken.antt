@@ -1,30 +1,12 @@
 -- The source events of each run of typed code that tell who waits may come after those before them.
-use Rattle.sharc_history_laws.proofs.{Imports.{◌≡◌, ℕ, pos, zero, suc, ◌+◌, ◌<◌, ◌^◌, ◌⊎◌, inl, inr, Bool, true, false, List, [], ◌∷◌, reverse, Option, Some, None, if◌then◌else◌, refl, sym, ap, ◌∙◌, subst, ⊎_elim, eqb-true, cases_eq, not_true, slice_index, ◌==◌, WordOp, Act, Object, CellAt, SourceEvent, Resolution, WaitersLaws, waits_in, lowest_of, without_lowest, Code, Cell, Instr, Shape, Stage, Wakes, RunLaws, Fits, Machine, instr_at, word, act, signal, step_of, opening_words, turn, after, asked_by, Turn, Global, IsRun, MayTurn, after_turn, put, state_now, result_of, opening_of, said, cell_at, speaks_of, nobody, in_signal, event_at, one_thread, bounds, place_after, said_now, table_of, Stands, History, MayCome, is_waiter, Targets, Labels, IsWellTyped, IsSmall, Keeps, CodeBegins, CellsAreThere, PointersAreThere, AccessesAreAllowed, StateStands, history_of, BeginsWith, is_about_waiters, WaitsFollow, yes}, Consists.{Consists, consists_then, at_first, found_is}, Contents.{IsCellOf, content_of, word_of_cell}, Emptying.IsEmptied, Outcomes.{wakes_still, wakes_nobody}, Lists.{Newest, Split, Last, Earlier, split}, Opening.{waiters_first, only_globals}, Queued.{waits_by, waiter_is, condition_of, condition_said, no_condition}, Told.is_condition, Rules.{pushed, newest, newest_now}, Shared.number_of, Sparing.holds_waiters, Touches.waited_cell, Waiting.{WaitersStand, WordsTell, Here, here, here_at_wait, bit_here, words_then, stands_then}, Logged.{above as positive}, Carried.{put_same, put_other}}
+use Rattle.sharc_history_laws.proofs.{Imports.{◌≡◌, ℕ, pos, zero, suc, ◌+◌, ◌<◌, ◌^◌, ◌⊎◌, inl, inr, Bool, true, false, List, [], ◌∷◌, reverse, Option, Some, None, if◌then◌else◌, refl, sym, ap, ◌∙◌, subst, ⊎_elim, eqb-true, cases_eq, not_true, slice_index, ◌==◌, WordOp, Act, Object, CellAt, SourceEvent, Resolution, WaitersLaws, waits_in, lowest_of, without_lowest, Code, Cell, Instr, Shape, Stage, Wakes, RunLaws, Fits, Machine, word, act, signal, step_of, opening_words, turn, after, asked_by, Turn, Global, IsRun, MayTurn, after_turn, put, state_now, result_of, opening_of, said, cell_at, nobody, in_signal, event_at, one_thread, bounds, place_after, said_now, table_of, Stands, History, MayCome, is_waiter, Targets, Labels, IsWellTyped, IsSmall, Keeps, CodeBegins, CellsAreThere, PointersAreThere, AccessesAreAllowed, StateStands, history_of, BeginsWith, is_about_waiters, WaitsFollow, yes}, TurnAt.{turn_at, told_at}, Consists.{Consists, consists_then, at_first, found_is}, Contents.{IsCellOf, content_of, word_of_cell}, Emptying.IsEmptied, Outcomes.{wakes_still, wakes_nobody}, Lists.{Newest, Split, Last, Earlier, split}, Opening.{waiters_first, only_globals}, Queued.{waits_by, waiter_is, condition_of, condition_said, no_condition}, Told.is_condition, Rules.{pushed, newest, newest_now}, Shared.number_of, Sparing.holds_waiters, Touches.waited_cell, Waiting.{WaitersStand, WordsTell, Here, here, here_at_wait, bit_here, words_then, stands_then}, Logged.{above as positive}, Carried.{put_same, put_other}}
 
 -- ---- one turn
 module _ (bits : WaitersLaws) (state_law : StateStands) (cell_laws : CellsAreThere) (pointers : PointersAreThere) (rights : AccessesAreAllowed) (laws : RunLaws) (keeps : Keeps) (x : Targets) (code : Code) (s : Shape) (ls : Labels) (wt : IsWellTyped x code ls) (fits : Fits code s) (few : IsSmall code s)
     (one : Turn) (earlier : List Turn) (h : Consists x code s ls earlier) (may : MayTurn bounds (one_thread code s) (place_after code s earlier) one)
     (r : Resolution) (L : Newest) (stand : WaitersStand code L (place_after code s earlier)) (old : WordsTell x code s L (place_after code s earlier) h.world h.state.cells) (wake : (u : ℕ) → wakes_nobody ((place_after code s earlier).threads u).own.stage ≡ false) where
-  abbrev g : Global Machine
-  g = place_after code s earlier
-
-  abbrev t : ℕ
-  t = one.thread
-
-  abbrev m : Machine
-  m = (place_after code s earlier).threads one.thread
-
-  abbrev i : Instr
-  i = instr_at code ((place_after code s earlier).threads one.thread).at.pc
-
-  abbrev found : ℕ
-  found = result_of one.event
-
-  abbrev elements : ℕ
-  elements = table_of code s earlier (speaks_of (instr_at code ((place_after code s earlier).threads one.thread).at.pc) ((place_after code s earlier).threads one.thread) (result_of one.event))
-
-  abbrev event : Option SourceEvent
-  event = said code i ((place_after code s earlier).threads one.thread) found elements
+  open turn_at code s (place_after code s earlier) one use {g, t, m, i, found}
+  open told_at code s earlier one use {elements, event}
 
   -- ---- stages
   own_wakes : wakes_nobody (after (turn code s ((place_after code s earlier).threads one.thread)) found).own.stage ≡ false
