@@ -1,16 +1,7 @@
 //! Event files at the edges of the grammar and of the fuel, with the status and the line of each.
 
 /// Cases as in `RUNS`.
-pub(crate) const EDGES: &str = r##"%%events 5
-----
-2 V2 not an event file at line 2
-====
-%%events 5
-
-----
-2 V2 not an event file at line 2
-====
-int main(void) { print(6 * 7); return 0; }
+pub(crate) const EDGES: &str = r##"int main(void) { print(6 * 7); return 0; }
 %%events 100
 0 started 0
 0 print 42
@@ -20,6 +11,7 @@ int main(void) { print(6 * 7); return 0; }
 ----
 0 obeys 4 events
 ====
+int main(void) { print(6 * 7); return 0; }
 %%events 100
 0 started 0
 0 print 41
@@ -29,6 +21,7 @@ int main(void) { print(6 * 7); return 0; }
 ----
 12 event 2: E1 not asked for
 ====
+int main(void) { print(6 * 7); return 0; }
 %%events 1
 0 started 0
 0 print 42
@@ -59,6 +52,17 @@ int main(void) {
 ----
 12 event 5: E3 rule 6
 ====
+int g;
+void w(int k) {
+  g = k;
+}
+int main(void) {
+  g = 1;
+  int t = spawn(w, 2);
+  join(t);
+  return 0;
+}
+
 %%events 100
 0 started 0
 0 write g0.0 1
@@ -79,6 +83,7 @@ int main(void) { print(6 * 7); return 0; }
 ----
 13 event 2: U1 fuel 1 spent
 ====
+int main(void) { print(6 * 7); return 0; }
 %%events 2
 0 started 0
 0 print 42
@@ -88,6 +93,7 @@ int main(void) { print(6 * 7); return 0; }
 ----
 13 event 2: U1 fuel 2 spent
 ====
+int main(void) { print(6 * 7); return 0; }
 %%events 3
 0 started 0
 0 print 42
@@ -97,6 +103,7 @@ int main(void) { print(6 * 7); return 0; }
 ----
 13 event 2: U1 fuel 3 spent
 ====
+int main(void) { print(6 * 7); return 0; }
 %%events 4
 0 started 0
 0 print 42
@@ -106,6 +113,7 @@ int main(void) { print(6 * 7); return 0; }
 ----
 13 event 2: U1 fuel 4 spent
 ====
+int main(void) { print(6 * 7); return 0; }
 %%events 5
 0 started 0
 0 print 42
@@ -115,6 +123,7 @@ int main(void) { print(6 * 7); return 0; }
 ----
 13 event 2: U1 fuel 5 spent
 ====
+int main(void) { print(6 * 7); return 0; }
 %%events 6
 0 started 0
 0 print 42
@@ -124,6 +133,7 @@ int main(void) { print(6 * 7); return 0; }
 ----
 13 event 3: U1 fuel 6 spent
 ====
+int main(void) { print(6 * 7); return 0; }
 %%events 7
 0 started 0
 0 print 42
@@ -133,6 +143,7 @@ int main(void) { print(6 * 7); return 0; }
 ----
 13 event 3: U1 fuel 7 spent
 ====
+int main(void) { print(6 * 7); return 0; }
 %%events 8
 0 started 0
 0 print 42
@@ -142,6 +153,7 @@ int main(void) { print(6 * 7); return 0; }
 ----
 0 obeys 4 events
 ====
+int main(void) { print(6 * 7); return 0; }
 %%events 9
 0 started 0
 0 print 42
@@ -151,6 +163,7 @@ int main(void) { print(6 * 7); return 0; }
 ----
 0 obeys 4 events
 ====
+int main(void) { print(6 * 7); return 0; }
 %%events 10
 0 started 0
 0 print 42
@@ -160,6 +173,7 @@ int main(void) { print(6 * 7); return 0; }
 ----
 0 obeys 4 events
 ====
+int main(void) { print(6 * 7); return 0; }
 %%events 11
 0 started 0
 0 print 42
@@ -190,6 +204,17 @@ int main(void) {
 ----
 13 event 2: U1 fuel 1 spent
 ====
+int g;
+void w(int k) {
+  g = k;
+}
+int main(void) {
+  g = 1;
+  int t = spawn(w, 2);
+  join(t);
+  return 0;
+}
+
 %%events 2
 0 started 0
 0 write g0.0 1
@@ -200,6 +225,17 @@ int main(void) {
 ----
 13 event 2: U1 fuel 2 spent
 ====
+int g;
+void w(int k) {
+  g = k;
+}
+int main(void) {
+  g = 1;
+  int t = spawn(w, 2);
+  join(t);
+  return 0;
+}
+
 %%events 3
 0 started 0
 0 write g0.0 1
@@ -210,6 +246,17 @@ int main(void) {
 ----
 13 event 2: U1 fuel 3 spent
 ====
+int g;
+void w(int k) {
+  g = k;
+}
+int main(void) {
+  g = 1;
+  int t = spawn(w, 2);
+  join(t);
+  return 0;
+}
+
 %%events 4
 0 started 0
 0 write g0.0 1
@@ -220,6 +267,17 @@ int main(void) {
 ----
 13 event 3: U1 fuel 4 spent
 ====
+int g;
+void w(int k) {
+  g = k;
+}
+int main(void) {
+  g = 1;
+  int t = spawn(w, 2);
+  join(t);
+  return 0;
+}
+
 %%events 5
 0 started 0
 0 write g0.0 1
@@ -230,6 +288,17 @@ int main(void) {
 ----
 13 event 3: U1 fuel 5 spent
 ====
+int g;
+void w(int k) {
+  g = k;
+}
+int main(void) {
+  g = 1;
+  int t = spawn(w, 2);
+  join(t);
+  return 0;
+}
+
 %%events 6
 0 started 0
 0 write g0.0 1
@@ -240,6 +309,17 @@ int main(void) {
 ----
 13 event 3: U1 fuel 6 spent
 ====
+int g;
+void w(int k) {
+  g = k;
+}
+int main(void) {
+  g = 1;
+  int t = spawn(w, 2);
+  join(t);
+  return 0;
+}
+
 %%events 7
 0 started 0
 0 write g0.0 1
@@ -250,6 +330,17 @@ int main(void) {
 ----
 12 event 5: E3 rule 6
 ====
+int g;
+void w(int k) {
+  g = k;
+}
+int main(void) {
+  g = 1;
+  int t = spawn(w, 2);
+  join(t);
+  return 0;
+}
+
 %%events 8
 0 started 0
 0 write g0.0 1
@@ -260,6 +351,17 @@ int main(void) {
 ----
 12 event 5: E3 rule 6
 ====
+int g;
+void w(int k) {
+  g = k;
+}
+int main(void) {
+  g = 1;
+  int t = spawn(w, 2);
+  join(t);
+  return 0;
+}
+
 %%events 9
 0 started 0
 0 write g0.0 1
@@ -270,6 +372,17 @@ int main(void) {
 ----
 12 event 5: E3 rule 6
 ====
+int g;
+void w(int k) {
+  g = k;
+}
+int main(void) {
+  g = 1;
+  int t = spawn(w, 2);
+  join(t);
+  return 0;
+}
+
 %%events 10
 0 started 0
 0 write g0.0 1
@@ -280,6 +393,17 @@ int main(void) {
 ----
 12 event 5: E3 rule 6
 ====
+int g;
+void w(int k) {
+  g = k;
+}
+int main(void) {
+  g = 1;
+  int t = spawn(w, 2);
+  join(t);
+  return 0;
+}
+
 %%events 11
 0 started 0
 0 write g0.0 1
@@ -296,6 +420,7 @@ int main(void) { print(6 * 7); return 0; }
 ----
 0 obeys 1 events
 ====
+int main(void) { print(6 * 7); return 0; }
 %%events 100
 0 started 0
 0 started 0
@@ -303,6 +428,7 @@ int main(void) { print(6 * 7); return 0; }
 ----
 12 event 2: E1 not asked for
 ====
+int main(void) { print(6 * 7); return 0; }
 %%events 100
 0 started 0
 00 started 0
@@ -310,6 +436,7 @@ int main(void) { print(6 * 7); return 0; }
 ----
 2 V2 not an event file at line 4
 ====
+int main(void) { print(6 * 7); return 0; }
 %%events 100
 0 started 0
 0 started 00
@@ -317,6 +444,7 @@ int main(void) { print(6 * 7); return 0; }
 ----
 2 V2 not an event file at line 4
 ====
+int main(void) { print(6 * 7); return 0; }
 %%events 100
 0 started 0
 0 started -0
@@ -324,6 +452,7 @@ int main(void) { print(6 * 7); return 0; }
 ----
 2 V2 not an event file at line 4
 ====
+int main(void) { print(6 * 7); return 0; }
 %%events 100
 0 started 0
 0 started +0
@@ -331,6 +460,7 @@ int main(void) { print(6 * 7); return 0; }
 ----
 2 V2 not an event file at line 4
 ====
+int main(void) { print(6 * 7); return 0; }
 %%events 100
 0 started 0
 0  started 0
@@ -338,6 +468,7 @@ int main(void) { print(6 * 7); return 0; }
 ----
 2 V2 not an event file at line 4
 ====
+int main(void) { print(6 * 7); return 0; }
 %%events 100
 0 started 0
 0 started 0 
@@ -345,6 +476,7 @@ int main(void) { print(6 * 7); return 0; }
 ----
 2 V2 not an event file at line 4
 ====
+int main(void) { print(6 * 7); return 0; }
 %%events 100
 0 started 0
  0 started 0
@@ -352,11 +484,13 @@ int main(void) { print(6 * 7); return 0; }
 ----
 2 V2 not an event file at line 4
 ====
+int main(void) { print(6 * 7); return 0; }
 %%events 100
 0 started 1:1
 ----
 12 event 1: E1 not asked for
 ====
+int main(void) { print(6 * 7); return 0; }
 %%events 100
 0 started 0
 0 started 1:1
@@ -364,6 +498,7 @@ int main(void) { print(6 * 7); return 0; }
 ----
 12 event 2: E1 not asked for
 ====
+int main(void) { print(6 * 7); return 0; }
 %%events 100
 0 started 0
 0 started 0:1
@@ -371,6 +506,7 @@ int main(void) { print(6 * 7); return 0; }
 ----
 2 V2 not an event file at line 4
 ====
+int main(void) { print(6 * 7); return 0; }
 %%events 100
 0 started 0
 0 started 1:0
@@ -378,6 +514,7 @@ int main(void) { print(6 * 7); return 0; }
 ----
 2 V2 not an event file at line 4
 ====
+int main(void) { print(6 * 7); return 0; }
 %%events 100
 0 started 0
 0 started 4294967296:1
@@ -385,6 +522,7 @@ int main(void) { print(6 * 7); return 0; }
 ----
 2 V2 not an event file at line 4
 ====
+int main(void) { print(6 * 7); return 0; }
 %%events 100
 0 started 0
 0 started 4294967295:2147483647
@@ -392,6 +530,7 @@ int main(void) { print(6 * 7); return 0; }
 ----
 12 event 2: E1 not asked for
 ====
+int main(void) { print(6 * 7); return 0; }
 %%events 100
 0 started 0
 0 started 4294967295:2147483648
@@ -399,6 +538,7 @@ int main(void) { print(6 * 7); return 0; }
 ----
 2 V2 not an event file at line 4
 ====
+int main(void) { print(6 * 7); return 0; }
 %%events 100
 0 started 0
 0 started 9223372036854775807
@@ -406,6 +546,7 @@ int main(void) { print(6 * 7); return 0; }
 ----
 12 event 2: E1 not asked for
 ====
+int main(void) { print(6 * 7); return 0; }
 %%events 100
 0 started 0
 0 started 9223372036854775808
@@ -413,6 +554,7 @@ int main(void) { print(6 * 7); return 0; }
 ----
 2 V2 not an event file at line 4
 ====
+int main(void) { print(6 * 7); return 0; }
 %%events 100
 0 started 0
 0 started -9223372036854775808
@@ -420,6 +562,7 @@ int main(void) { print(6 * 7); return 0; }
 ----
 12 event 2: E1 not asked for
 ====
+int main(void) { print(6 * 7); return 0; }
 %%events 100
 0 started 0
 0 started -9223372036854775809
@@ -427,6 +570,7 @@ int main(void) { print(6 * 7); return 0; }
 ----
 2 V2 not an event file at line 4
 ====
+int main(void) { print(6 * 7); return 0; }
 %%events 100
 0 started 0
 4294967295 gone
@@ -434,6 +578,7 @@ int main(void) { print(6 * 7); return 0; }
 ----
 12 event 2: E1 not asked for
 ====
+int main(void) { print(6 * 7); return 0; }
 %%events 100
 0 started 0
 4294967296 gone
@@ -441,6 +586,7 @@ int main(void) { print(6 * 7); return 0; }
 ----
 2 V2 not an event file at line 4
 ====
+int main(void) { print(6 * 7); return 0; }
 %%events 100
 0 started 0
 0 join 4294967295
@@ -448,6 +594,7 @@ int main(void) { print(6 * 7); return 0; }
 ----
 12 event 2: E1 not asked for
 ====
+int main(void) { print(6 * 7); return 0; }
 %%events 100
 0 started 0
 0 join 4294967296
@@ -455,6 +602,7 @@ int main(void) { print(6 * 7); return 0; }
 ----
 2 V2 not an event file at line 4
 ====
+int main(void) { print(6 * 7); return 0; }
 %%events 100
 0 started 0
 0 join -1
@@ -462,6 +610,7 @@ int main(void) { print(6 * 7); return 0; }
 ----
 2 V2 not an event file at line 4
 ====
+int main(void) { print(6 * 7); return 0; }
 %%events 100
 0 started 0
 0 read g0.0 0
@@ -469,6 +618,7 @@ int main(void) { print(6 * 7); return 0; }
 ----
 12 event 2: E1 not asked for
 ====
+int main(void) { print(6 * 7); return 0; }
 %%events 100
 0 started 0
 0 read g4294967295.9223372036854775807 0
@@ -476,6 +626,7 @@ int main(void) { print(6 * 7); return 0; }
 ----
 12 event 2: E1 not asked for
 ====
+int main(void) { print(6 * 7); return 0; }
 %%events 100
 0 started 0
 0 read g4294967296.0 0
@@ -483,6 +634,7 @@ int main(void) { print(6 * 7); return 0; }
 ----
 2 V2 not an event file at line 4
 ====
+int main(void) { print(6 * 7); return 0; }
 %%events 100
 0 started 0
 0 read g0.9223372036854775808 0
@@ -490,6 +642,7 @@ int main(void) { print(6 * 7); return 0; }
 ----
 2 V2 not an event file at line 4
 ====
+int main(void) { print(6 * 7); return 0; }
 %%events 100
 0 started 0
 0 read o0.0 0
@@ -497,6 +650,7 @@ int main(void) { print(6 * 7); return 0; }
 ----
 2 V2 not an event file at line 4
 ====
+int main(void) { print(6 * 7); return 0; }
 %%events 100
 0 started 0
 0 read o1.0 0
@@ -504,6 +658,7 @@ int main(void) { print(6 * 7); return 0; }
 ----
 12 event 2: E1 not asked for
 ====
+int main(void) { print(6 * 7); return 0; }
 %%events 100
 0 started 0
 0 read g00.0 0
@@ -511,6 +666,7 @@ int main(void) { print(6 * 7); return 0; }
 ----
 2 V2 not an event file at line 4
 ====
+int main(void) { print(6 * 7); return 0; }
 %%events 100
 0 started 0
 0 read g0.00 0
@@ -518,6 +674,7 @@ int main(void) { print(6 * 7); return 0; }
 ----
 2 V2 not an event file at line 4
 ====
+int main(void) { print(6 * 7); return 0; }
 %%events 100
 0 started 0
 0 read g0 0
@@ -525,6 +682,7 @@ int main(void) { print(6 * 7); return 0; }
 ----
 2 V2 not an event file at line 4
 ====
+int main(void) { print(6 * 7); return 0; }
 %%events 100
 0 started 0
 0 read x0.0 0
@@ -532,6 +690,7 @@ int main(void) { print(6 * 7); return 0; }
 ----
 2 V2 not an event file at line 4
 ====
+int main(void) { print(6 * 7); return 0; }
 %%events 100
 0 started 0
 0 new 0
@@ -539,6 +698,7 @@ int main(void) { print(6 * 7); return 0; }
 ----
 12 event 2: E1 not asked for
 ====
+int main(void) { print(6 * 7); return 0; }
 %%events 100
 0 started 0
 0 new 1:1
@@ -546,6 +706,7 @@ int main(void) { print(6 * 7); return 0; }
 ----
 12 event 2: E1 not asked for
 ====
+int main(void) { print(6 * 7); return 0; }
 %%events 100
 0 started 0
 0 new -1
@@ -553,6 +714,7 @@ int main(void) { print(6 * 7); return 0; }
 ----
 2 V2 not an event file at line 4
 ====
+int main(void) { print(6 * 7); return 0; }
 %%events 100
 0 started 0
 0 new 5
@@ -560,6 +722,7 @@ int main(void) { print(6 * 7); return 0; }
 ----
 2 V2 not an event file at line 4
 ====
+int main(void) { print(6 * 7); return 0; }
 %%events 100
 0 started 0
 0 take 0
@@ -567,6 +730,7 @@ int main(void) { print(6 * 7); return 0; }
 ----
 12 event 2: E1 not asked for
 ====
+int main(void) { print(6 * 7); return 0; }
 %%events 100
 0 started 0
 0 give 1:01
@@ -574,6 +738,7 @@ int main(void) { print(6 * 7); return 0; }
 ----
 2 V2 not an event file at line 4
 ====
+int main(void) { print(6 * 7); return 0; }
 %%events 100
 0 started 0
 0 freed 01:1
@@ -581,6 +746,7 @@ int main(void) { print(6 * 7); return 0; }
 ----
 2 V2 not an event file at line 4
 ====
+int main(void) { print(6 * 7); return 0; }
 %%events 100
 0 started 0
 0 lock g0.0
@@ -588,6 +754,7 @@ int main(void) { print(6 * 7); return 0; }
 ----
 12 event 2: E1 not asked for
 ====
+int main(void) { print(6 * 7); return 0; }
 %%events 100
 0 started 0
 0 unlock o1.2
@@ -595,6 +762,7 @@ int main(void) { print(6 * 7); return 0; }
 ----
 12 event 2: E1 not asked for
 ====
+int main(void) { print(6 * 7); return 0; }
 %%events 100
 0 started 0
 0 lock g0.0 1
@@ -602,6 +770,7 @@ int main(void) { print(6 * 7); return 0; }
 ----
 2 V2 not an event file at line 4
 ====
+int main(void) { print(6 * 7); return 0; }
 %%events 100
 0 started 0
 0 spawn f 0 0
@@ -609,6 +778,7 @@ int main(void) { print(6 * 7); return 0; }
 ----
 12 event 2: E1 not asked for
 ====
+int main(void) { print(6 * 7); return 0; }
 %%events 100
 0 started 0
 0 spawn int 0 0
@@ -616,6 +786,7 @@ int main(void) { print(6 * 7); return 0; }
 ----
 2 V2 not an event file at line 4
 ====
+int main(void) { print(6 * 7); return 0; }
 %%events 100
 0 started 0
 0 spawn _Bool 0 0
@@ -623,6 +794,7 @@ int main(void) { print(6 * 7); return 0; }
 ----
 2 V2 not an event file at line 4
 ====
+int main(void) { print(6 * 7); return 0; }
 %%events 100
 0 started 0
 0 spawn 1f 0 0
@@ -630,6 +802,7 @@ int main(void) { print(6 * 7); return 0; }
 ----
 2 V2 not an event file at line 4
 ====
+int main(void) { print(6 * 7); return 0; }
 %%events 100
 0 started 0
 0 spawn f_1 0 4294967295
@@ -637,6 +810,7 @@ int main(void) { print(6 * 7); return 0; }
 ----
 12 event 2: E1 not asked for
 ====
+int main(void) { print(6 * 7); return 0; }
 %%events 100
 0 started 0
 0 spawn f 0 4294967296
@@ -644,6 +818,7 @@ int main(void) { print(6 * 7); return 0; }
 ----
 2 V2 not an event file at line 4
 ====
+int main(void) { print(6 * 7); return 0; }
 %%events 100
 0 started 0
 0 spawn aaaaaaaaaaaaaaaaaaaaaaaaaaaaaaaaaaaaaaaaaaaaaaaaaaaaaaaaaaaaaaaa 0 1
@@ -651,6 +826,7 @@ int main(void) { print(6 * 7); return 0; }
 ----
 12 event 2: E1 not asked for
 ====
+int main(void) { print(6 * 7); return 0; }
 %%events 100
 0 started 0
 0 spawn aaaaaaaaaaaaaaaaaaaaaaaaaaaaaaaaaaaaaaaaaaaaaaaaaaaaaaaaaaaaaaaaa 0 1
@@ -658,6 +834,7 @@ int main(void) { print(6 * 7); return 0; }
 ----
 2 V2 not an event file at line 4
 ====
+int main(void) { print(6 * 7); return 0; }
 %%events 100
 0 started 0
 0 spawn f 0
@@ -665,6 +842,7 @@ int main(void) { print(6 * 7); return 0; }
 ----
 2 V2 not an event file at line 4
 ====
+int main(void) { print(6 * 7); return 0; }
 %%events 100
 0 started 0
 0 return 
@@ -672,6 +850,7 @@ int main(void) { print(6 * 7); return 0; }
 ----
 2 V2 not an event file at line 4
 ====
+int main(void) { print(6 * 7); return 0; }
 %%events 100
 0 started 0
 0 return
@@ -679,6 +858,7 @@ int main(void) { print(6 * 7); return 0; }
 ----
 12 event 2: E1 not asked for
 ====
+int main(void) { print(6 * 7); return 0; }
 %%events 100
 0 started 0
 0 gone
@@ -686,6 +866,7 @@ int main(void) { print(6 * 7); return 0; }
 ----
 12 event 2: E1 not asked for
 ====
+int main(void) { print(6 * 7); return 0; }
 %%events 100
 0 started 0
 0 gone 1
@@ -693,6 +874,7 @@ int main(void) { print(6 * 7); return 0; }
 ----
 2 V2 not an event file at line 4
 ====
+int main(void) { print(6 * 7); return 0; }
 %%events 100
 0 started 0
 0 Print 1
@@ -700,6 +882,7 @@ int main(void) { print(6 * 7); return 0; }
 ----
 2 V2 not an event file at line 4
 ====
+int main(void) { print(6 * 7); return 0; }
 %%events 100
 0 started 0
 0
@@ -707,11 +890,13 @@ int main(void) { print(6 * 7); return 0; }
 ----
 2 V2 not an event file at line 4
 ====
+int main(void) { print(6 * 7); return 0; }
 %%events 100
 
 ----
 0 obeys 0 events
 ====
+int main(void) { print(6 * 7); return 0; }
 %%events 100
 0 started 0
 
@@ -719,6 +904,7 @@ int main(void) { print(6 * 7); return 0; }
 ----
 2 V2 not an event file at line 4
 ====
+int main(void) { print(6 * 7); return 0; }
 %%events 100
 0 started 0
 0 
@@ -726,6 +912,7 @@ int main(void) { print(6 * 7); return 0; }
 ----
 2 V2 not an event file at line 4
 ====
+int main(void) { print(6 * 7); return 0; }
 %%events 100
 0 started 0
 print 1
@@ -733,6 +920,7 @@ print 1
 ----
 2 V2 not an event file at line 4
 ====
+int main(void) { print(6 * 7); return 0; }
 %%events 100
 0 started 0
 0 signal g0.0
@@ -740,6 +928,7 @@ print 1
 ----
 2 V2 not an event file at line 4
 ====
+int main(void) { print(6 * 7); return 0; }
 %%events 100
 0 started 0
 0 started
@@ -747,6 +936,7 @@ print 1
 ----
 2 V2 not an event file at line 4
 ====
+int main(void) { print(6 * 7); return 0; }
 %%events 100
 0 started 0
 0 print
@@ -754,6 +944,7 @@ print 1
 ----
 2 V2 not an event file at line 4
 ====
+int main(void) { print(6 * 7); return 0; }
 %%events 100
 0 started 0
 1 started 0
@@ -761,6 +952,7 @@ print 1
 ----
 12 event 2: E1 not asked for
 ====
+int main(void) { print(6 * 7); return 0; }
 %%events 100
 0 started 0
 5 started 0
@@ -768,40 +960,49 @@ print 1
 ----
 12 event 2: E1 not asked for
 ====
+int main(void) { print(6 * 7); return 0; }
 %%events 0
 ----
 2 V2 not an event file at line 2
 ====
+int main(void) { print(6 * 7); return 0; }
 %%events 65536
 ----
 0 obeys 0 events
 ====
+int main(void) { print(6 * 7); return 0; }
 %%events 65537
 ----
 2 V2 not an event file at line 2
 ====
+int main(void) { print(6 * 7); return 0; }
 %%events 01
 ----
 2 V2 not an event file at line 2
 ====
+int main(void) { print(6 * 7); return 0; }
 %%events 
 ----
 2 V2 not an event file at line 2
 ====
+int main(void) { print(6 * 7); return 0; }
 %%events
 ----
 2 V2 not an event file at line 3
 ====
+int main(void) { print(6 * 7); return 0; }
 %%events 5 
 ----
 2 V2 not an event file at line 2
 ====
+int main(void) { print(6 * 7); return 0; }
 %%events 5
 
 
 ----
 2 V2 not an event file at line 3
 ====
+int main(void) { print(6 * 7); return 0; }
 %%events 5
 0 started 0
 
@@ -823,6 +1024,15 @@ int main(void) { print(6 * 7); return 0; }
 ----
 2 V2 not an event file at line 2
 ====
+%%events 5
+----
+2 V2 not an event file at line 2
+====
+%%events 5
+
+----
+2 V2 not an event file at line 2
+====
 
 ----
 2 V2 not an event file at line 1
@@ -838,17 +1048,20 @@ z
 ----
 2 V2 not an event file at line 4
 ====
+int main(void) { print(6 * 7); return 0; }
 %%events 5
 %%events 5
 ----
 2 V2 not an event file at line 3
 ====
+int main(void) { print(6 * 7); return 0; }
 %%events 5
 0 started 0
 0 print 42
 ----
 13 event 2: U1 fuel 5 spent
 ====
+int main(void) { print(6 * 7); return 0; }
 %%events 5
 0 started 0
 0 print 4

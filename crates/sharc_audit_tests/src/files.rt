@@ -9,34 +9,15 @@ use std::sync::Wait;
 use std::test::Fail;
 use std::thread::Threads;
 
-/// What is answered to a file. One that begins with its events has the source of the case before, where there is one.
-fn audited_behind(
-    rt: &(impl Abort + AllocGlobal + Threads + Wait + Sync),
-    source: &str,
-    input: &str,
-) -> Result<String, Fail> {
-    if input.starts_with("%%events") && !source.is_empty() {
-        let text = format!(in rt.alloc(); "{source}\n{input}")?;
-        audited(rt, text.as_str())
-    } else {
-        audited(rt, input)
-    }
-}
-
 fn assert_all(
     rt: &(impl Abort + AllocGlobal + Threads + Wait + Sync),
     table: &str,
 ) -> Result<(), Fail> {
-    let mut source = "";
     for case in table.split("\n====\n") {
         match case.split_once("\n----\n") {
             None => panic!(rt; "no case: {case}"),
             Some((input, wanted)) => {
-                match input.split_once("\n%%events") {
-                    Some((before, _)) => source = before,
-                    None => {}
-                }
-                let found = audited_behind(rt, source, input)?;
+                let found = audited(rt, input)?;
                 assert_eq!(rt; found.as_str(), wanted, "{input}");
             }
         }

@@ -1,8 +1,7 @@
 //! Event files that obey, and such whose fuel is spent, with the status and the line of each, from a reference program
 //! of its own.
 
-/// Cases, separated by lines of equal signs, each of a file, a line of hyphens, and the status and the line. A file that
-/// begins with its events has the source of the case before, where there is one.
+/// Cases, separated by lines of equal signs, each of a file, a line of hyphens, and the status and the line.
 pub(crate) const RUNS: &str = r##"int dynamic g2;
 struct S2 { struct S1 dynamic * locked(pm) pp; mutex racy * readonly pm; struct cond  * readonly pc; int locked(pm) pf; };
 struct S0 { int locked(gm) gf; int dynamic d; int a; char c; struct S0 dynamic * nx; struct S1 locked(m) * locked(m) lp; int racy y; int locked(m) lf; mutex m; int readonly r; long b; struct S1 dynamic * dynamic dp; };
@@ -96,6 +95,43 @@ int main(void) {
 ----
 0 obeys 10 events
 ====
+int g2[12];
+struct S2 { struct cond  * readonly pc; mutex racy * readonly pm; int locked(pm) pf; struct S1 dynamic * locked(pm) pp; };
+struct S0 { int a; struct S1 dynamic * dynamic dp; struct S1 locked(m) *  lp; int racy y; int locked(gm) gf; mutex m; int dynamic d; struct S0 dynamic * nx; int locked(m) lf; char c; long b; int  r; };
+struct S1 { int w; int dynamic * readonly q; struct S1 dynamic * n; int v; };
+struct S1 dynamic gs;
+int gi;
+mutex gm;
+int locked(gm) gl;
+int racy gr;
+mutex gn;
+struct S1 * gv;
+struct S1  * dynamic gp;
+mutex gmx[20];
+struct S1 dynamic gt[3];
+char dynamic gc = -5;
+long  ga[6];
+int dynamic gb[4];
+int gu[3];
+int dynamic gd;
+struct S1 locked(gm) * locked(gm) gq;
+int readonly gk = 7;
+int rec(int k) { return rec(k + 1) + 1; }
+void nop(int k) { }
+struct S1 * mk(int k) { struct S1 * p = malloc(sizeof(struct S1)); p->v = k; return p; }
+int get(struct S0 dynamic * x, struct S1 locked(x->m) * y) { return y->v; }
+void w1(int k) {
+  for (int i = 0; i < 3; i = i + 1) g2[k * 2] = g2[k * 2] + i;
+}
+int main(void) {
+  int t3 = spawn(w1, 1);
+  int t4 = spawn(w1, 2);
+  g2[0] = 7;
+  join(t3);
+  join(t4);
+  print(g2[0] + g2[2]);
+}
+
 %%events 65536
 0 started 0
 0 spawn w1 1 1
@@ -543,6 +579,36 @@ int main(void) {
 ----
 13 event 2: U1 fuel 1 spent
 ====
+int gu[3];
+int gi;
+int dynamic gb[4];
+mutex gmx[20];
+mutex gm;
+int readonly gk = 7;
+int racy gr;
+struct S1  gs;
+struct S1 dynamic * dynamic gp;
+char dynamic gc = -5;
+int  gd;
+int locked(gm) gl;
+long  ga[6];
+struct S1 locked(gm) * locked(gm) gq;
+struct S1 dynamic gt[3];
+struct S1 { int dynamic *  q; struct S1  * n; int w; int v; };
+struct S2 { mutex racy * readonly pm; struct cond dynamic * readonly pc; int locked(pm) pf; struct S1 dynamic * locked(pm) pp; };
+struct S1 * gv;
+mutex gn;
+struct S0 { int locked(gm) gf; struct S0 dynamic * nx; struct S1 dynamic * dynamic dp; mutex m; int a; int dynamic d; long b; int readonly r; int racy y; int locked(m) lf; struct S1 locked(m) * locked(m) lp; char c; };
+int rec(int k) { return rec(k + 1) + 1; }
+void nop(int k) { }
+struct S1 * mk(int k) { struct S1 * p = malloc(sizeof(struct S1)); p->v = k; return p; }
+int get(struct S0 dynamic * x, struct S1 locked(x->m) * y) { return y->v; }
+int main(void) {
+  long x1;
+  struct S1 * p2 = malloc(sizeof(struct S1));
+  char private x3 = (-((gt[2].w & 31) << (x1 & 3))) & 63;
+}
+
 %%events 9
 0 started 0
 0 new 1:1
