@@ -11,6 +11,10 @@ pub record IsFreeing (code : Code) (m : Machine) (o : ℕ) : Type 0 where
   pub object : ref m register ≡ o
   pub on : may_go m.at.state ≡ true
 
+-- where a Free empties a cell of it
+pub begins_freeing : (code : Code) (m : Machine) (o : ℕ) → may_go m.at.state ≡ true → (q layout site n all : ℕ) → instr_at code m.at.pc ≡ Instr.Free q layout site → m.own.stage ≡ Empties n all → ref m q ≡ o → IsFreeing code m o
+begins_freeing code m o on q layout site n all is at e = record { register = q; layout = layout; site = site; is_free = is; emptying = ap is_clearing at; object = e; on = on }
+
 abbrev pub IsEmptied : Code → Global Machine → ℕ → Type 0
 IsEmptied code g o = (u : ℕ) × ((g.started u ≡ true) × IsFreeing code (g.threads u) o)
 
