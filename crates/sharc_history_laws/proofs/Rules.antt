@@ -10,6 +10,11 @@ pub number_not : (n : ℕ) (o : Option ℕ) → (o ≡ Some n → ⊥) → is_nu
 number_not n None h = refl
 number_not n (Some k) h = let ne : n ≡ k → ⊥ = λ e. h (ap (λ j. Some j) (sym e)) in let e : (n == k) ≡ false = grind (arith, nat_tests) in e
 
+-- an event makes no object but the one that its turn makes
+pub makes_none : (c : Object) (header : Option ℕ) (e : SourceEvent) → made_by e e.act ≡ header → ((n : ℕ) → c ≡ Object.Made n → header ≡ Some n → ⊥) → makes c e ≡ false
+makes_none (Object.Global q) header e made unmade = refl
+makes_none (Object.Made n) header e made unmade = number_not n (made_by e e.act) (λ q. unmade n refl (sym made ∙ q))
+
 -- ---- objects after a turn
 module _ (ls : Labels) (t : ℕ) (m m' : Machine) (f : ℕ → ObjectState) (n : ℕ) where
   -- the thread owns it, and a register has its type

@@ -1,5 +1,9 @@
 -- One turn, as the lemmas name its parts: machine, instruction, answer, event, and what stands of them in typed code.
-use Rattle.sharc_history_laws.proofs.Imports.{◌∷◌, ℕ, List, Option, SourceEvent, Code, Instr, Shape, Machine, instr_at, Turn, Global, after_turn, result_of, said, speaks_of, one_thread, bounds, place_after, Elements, table_of, ◌≡◌, subst, MayTurn, Targets, Label, Labels, Fine, IsWellTyped, View, view_of, refs_at, World, State, StageStands, IsOn}
+use Rattle.sharc_history_laws.proofs.Imports.{◌∷◌, ℕ, List, Option, SourceEvent, Code, Instr, Shape, Machine, instr_at, Turn, Global, after_turn, result_of, said, speaks_of, one_thread, bounds, place_after, Elements, table_of, ◌≡◌, subst, MayTurn, Targets, Label, Labels, Fine, IsWellTyped, View, view_of, refs_at, World, State, StageStands, IsOn, IsRun, opening_of, opening_words}
+
+-- a run of the code from its opening
+abbrev pub RunOf : Code → Shape → List Turn → Type 0
+RunOf code s run = IsRun bounds (one_thread code s) (opening_of bounds (one_thread code s) (opening_words code s)) run
 
 -- the turn of one thread of all: the thread and its machine, the instruction that it is at, and all after it
 pub record TurnAt : Type 0 where
