@@ -1,5 +1,5 @@
 -- Which cell a place is, what a held log says of the mutexes that are held, and which registers hold the same.
-use Rattle.sharc_history_laws.proofs.{Imports.{◌≡◌, ℕ, ℤ, pos, zero, suc, ◌+◌, ◌-◌, ◌*◌, ◌<◌, ◌≤◌, ◌≢◌, ◌⊎◌, inl, inr, true, false, not, cond, List, [], ◌∷◌, ◌++◌, Option, Some, None, is_some, if◌then◌else◌, refl, sym, ap, ◌∙◌, subst, ⊎_elim, arith, eqb-true, cases_eq, cases_lt, nat_tests, nat_lt, ◌==◌, slice_index_or, All, CellAt, Object, CellMode, HeldMutex, without, object_of, Code, Cell, Shape, Fits, first_cell, words_of, cell_of, cell_word, Machine, ref, int, place, object, word, IsInGlobal, Global, cell_at, made_cell, no_global, IsThere, IsApart, Targets, cells_of, Element, Named, Nth, OfElementCell, OfGlobal, Labels, SameReference, Itself, IsCopy, HasCopy, Copies, Chained, IsWellTyped, RegisterOf, World, State, NumberStands, ElementStands, OnHold, types_at, IsOn}, TurnAt.thread_at, Stands.{top, reads_ref, rn}, Lists.Newest, Holding.holds_in}
+use Rattle.sharc_history_laws.proofs.{Imports.{◌≡◌, ℕ, ℤ, pos, zero, suc, ◌+◌, ◌-◌, ◌*◌, ◌<◌, ◌≤◌, ◌≢◌, ◌⊎◌, inl, inr, true, false, not, cond, List, [], ◌∷◌, ◌++◌, Option, Some, None, is_some, if◌then◌else◌, refl, sym, ap, ◌∙◌, subst, ⊎_elim, arith, eqb-true, cases_eq, cases_lt, nat_tests, nat_lt, ◌==◌, slice_index_or, All, CellAt, Object, CellMode, HeldMutex, without, object_of, Code, Cell, Shape, Fits, first_cell, words_of, cell_of, cell_word, Machine, ref, int, place, object, word, IsInGlobal, Global, cell_at, made_cell, no_global, IsThere, IsApart, Targets, cells_of, Element, Named, Nth, OfElementCell, OfGlobal, Labels, SameReference, Itself, IsCopy, HasCopy, Copies, Chained, IsWellTyped, RegisterOf, World, State, NumberStands, ElementStands, OnHold, types_at, IsOn, is_below}, TurnAt.thread_at, Stands.{top, reads_ref, rn}, Lists.Newest, Holding.holds_in}
 
 -- ---- entries of a log
 abbrev pub IsIn : HeldMutex → List HeldMutex → Type 0
@@ -92,13 +92,10 @@ LogTold code s L t log = (h : HeldMutex) → IsIn h log → (c : CellAt) (at : �
 pub held_told : (code : Code) (s : Shape) (L : Newest) (t : ℕ) (log : List HeldMutex) (o at : ℕ) (c : CellAt) → LogTold code s L t log → IsApart s log o at → is_some (object_of log (cell_word s at)) ≡ true → Names code c o at → holds_in L t c ≡ true
 held_told code s L t log o at c told apart held names =
     let h = held_in log (cell_word s at) held in
-    let e : nat_lt (first_cell s + at) (words_of s) ≡ true = below (first_cell s + at) (words_of s) apart.inside in
+    let e : nat_lt (first_cell s + at) (words_of s) ≡ true = is_below (first_cell s + at) (words_of s) apart.inside in
     let w : h.0.word ≡ first_cell s + at = h.2 ∙ ap (λ b. if b then first_cell s + at else 0) e in
     let same : h.0.object ≡ o = all_in (λ h. h.word ≡ first_cell s + at → h.object ≡ o) log h.0 apart.apart h.1 w in
     told h.0 h.1 c at w (subst (λ o. Names code c o at) (sym same) names)
-  where
-    below : (a b : ℕ) → a < b → nat_lt a b ≡ true
-    below a b lt = grind (arith, nat_tests)
 
 -- ---- the mutex that a mode names
 pub element_one : (names : ℕ → ℤ) (n k : ℕ) (e : Element) → ElementStands names n e → ElementStands names k e → n ≡ k
