@@ -1,5 +1,5 @@
 -- A refused check of an access comes from checks that others made, in a run of typed code.
-use Rattle.sharc_history_laws.proofs.{Imports.{◌≡◌, ℕ, ◌+◌, ◌<◌, inl, inr, Bool, true, false, List, [], ◌∷◌, Option, Some, None, is_some, nat_lt, if◌then◌else◌, refl, sym, ap, ◌∙◌, subst, ⊎_elim, arith, cases_eq, nat_tests, slice_index, ◌==◌, Kind, Read, Write, epoch_of, stands, bits_of, WordOp, Code, Cell, Instr, Shape, ConflictAt, Stage, Clears, FreeClears, WithdrawsFrom, Stop, Conflict, Fits, granules, granule_at, granule_of, shadow_word, Machine, instr_at, act, place, word, ref, step_of, opening_words, TurnsComeOut, MayStop, check_of, turn, after, may_go, asked_by, Turn, IsRun, MayTurn, after_turn, put, state_now, result_of, opening_of, one_thread, bounds, place_after, Targets, Labels, IsWellTyped, IsSmall, first_place, Touch, Untouched, CheckOf, ClearOf, WithdrawOf, Marks, cleared_by, freed_by, withdrawn_by, touch_of, with_check, without_thread, marks_by, marks_after, RunsConflict, CheckStands, touch_at, RunsBits, site_of_check, Past, MadeSince, Opposes, ShowsConflict, yes}, TurnAt.turn_at, Consists.found_is, Outcomes.reports, Sole.{Halting, stop_none}, Doing.granule_low, Carried.{put_same, put_other}}
+use Rattle.sharc_history_laws.proofs.{Imports.{◌≡◌, ℕ, ◌+◌, ◌<◌, inl, inr, Bool, true, false, List, [], ◌∷◌, Option, Some, None, is_some, nat_lt, if◌then◌else◌, refl, sym, ap, ◌∙◌, subst, ⊎_elim, arith, cases_eq, nat_tests, slice_index, ◌==◌, Kind, Read, Write, epoch_of, stands, bits_of, WordOp, Code, Cell, Instr, Shape, ConflictAt, Stage, Clears, FreeClears, WithdrawsFrom, Stop, Conflict, Fits, granules, granule_at, granule_of, shadow_word, Machine, instr_at, act, place, word, ref, step_of, opening_words, TurnsComeOut, MayStop, check_of, turn, after, may_go, asked_by, Turn, IsRun, MayTurn, after_turn, put, state_now, result_of, opening_of, one_thread, bounds, place_after, Targets, Labels, IsWellTyped, IsSmall, first_place, Touch, Untouched, CheckOf, ClearOf, WithdrawOf, Marks, cleared_by, freed_by, withdrawn_by, touch_of, with_check, without_thread, marks_by, marks_after, RunsConflict, CheckStands, touch_at, RunsBits, site_of_check, Past, MadeSince, Opposes, ShowsConflict, yes, is_below}, TurnAt.{turn_at, RunOf}, Consists.found_is, Outcomes.reports, Sole.{Halting, stop_none}, Doing.granule_low, Carried.{put_same, put_other}}
 
 -- ---- a turn that is a check has a site
 module _ (s : Shape) (kind : Kind) (p : ℕ) (ok : Bool) where
@@ -132,18 +132,12 @@ module _ (code : Code) (s : Shape) (j p : ℕ) where
 
 -- ---- the turn that stopped there
 pub granule_same : (s : Shape) (g : ℕ) → granule_at s (granule_at s g) ≡ granule_at s g
-granule_same s g = let lt = granule_low s g in let e : nat_lt (granule_at s g) (granules s) ≡ true = below (granule_at s g) (granules s) lt in ap (λ b. if b then granule_at s g else 0) e
-  where
-    below : (a b : ℕ) → a < b → nat_lt a b ≡ true
-    below a b lt = grind (arith, nat_tests)
+granule_same s g = let lt = granule_low s g in let e : nat_lt (granule_at s g) (granules s) ≡ true = is_below (granule_at s g) (granules s) lt in ap (λ b. if b then granule_at s g else 0) e
 
 -- ---- runs
 module _ (outs : TurnsComeOut) (conflicts : RunsConflict) (bits : RunsBits) (x : Targets) (code : Code) (s : Shape) (ls : Labels) (wt : IsWellTyped x code ls) (fits : Fits code s) (few : IsSmall code s)
     (all : (run : List Turn) → IsRun bounds (one_thread code s) (opening_of bounds (one_thread code s) (opening_words code s)) run → Halting code s run) where
-  abbrev RunOf : List Turn → Type 0
-  RunOf run = IsRun bounds (one_thread code s) (opening_of bounds (one_thread code s) (opening_words code s)) run
-
-  module _ (one : Turn) (earlier : List Turn) (run : RunOf (one ∷ earlier)) (c : ConflictAt) (is : (after (turn code s ((place_after code s earlier).threads one.thread)) (result_of one.event)).own.stop ≡ Some (Conflict c)) where
+  module _ (one : Turn) (earlier : List Turn) (run : RunOf code s (one ∷ earlier)) (c : ConflictAt) (is : (after (turn code s ((place_after code s earlier).threads one.thread)) (result_of one.event)).own.stop ≡ Some (Conflict c)) where
     open turn_at code s (place_after code s earlier) one use {g, m, i, m'}
 
     may : MayTurn bounds (one_thread code s) (place_after code s earlier) one
@@ -211,7 +205,7 @@ module _ (outs : TurnsComeOut) (conflicts : RunsConflict) (bits : RunsBits) (x :
     cause = k.cause;
   }
 
-  pub accesses_show : (run : List Turn) → RunOf run → (t : ℕ) (c : ConflictAt) → ((place_after code s run).threads t).own.stop ≡ Some (Conflict c) → ShowsConflict code s run t c
+  pub accesses_show : (run : List Turn) → RunOf code s run → (t : ℕ) (c : ConflictAt) → ((place_after code s run).threads t).own.stop ≡ Some (Conflict c) → ShowsConflict code s run t c
   accesses_show [] run t c is = absurd (let f : None ≡ Some (Conflict c) = is in cc)
   accesses_show (one ∷ earlier) run t c is =
       let g = place_after code s earlier in

@@ -1,5 +1,5 @@
 -- What a turn does to the access table of its thread and whether it stops the thread at the check of an access.
-use Rattle.sharc_history_laws.proofs.{Imports.{◌≡◌, ℕ, zero, suc, ◌+◌, ◌<◌, ◌⊎◌, inl, inr, Bool, true, false, length, List, [], ◌∷◌, Option, Some, None, is_some, if◌then◌else◌, refl, sym, ap, ◌∙◌, ⊎_elim, arith, cases_eq, nat_tests, get_or-set_other, slice_index, slice_index_or, slice_set, nat_lt, ◌==◌, Kind, Read, Write, Note, GranuleNotes, blank, of_kind, note_of, site_at, epoch_of, bits_of, conflicts_in, noted, WordOp, Code, Cell, Instr, Shape, ConflictAt, Stage, Clears, FreeClears, WithdrawsFrom, Conflict, granules, first_shadow, granule_at, granule_of, shadow_word, TurnsComeOut, check_of, Machine, Own, instr_at, act, place, ref, row_of, checked, stopped, with_own, wrote, step_of, turn, after, may_go, asked_by, Turn, Global, MayTurn, after_turn, state_now, result_of, one_thread, bounds, Touch, Untouched, CheckOf, WithdrawOf, cleared_by, freed_by, withdrawn_by, touch_of, touch_at, yes}, TurnAt.turn_at, Consists.found_is, Outcomes.{is_access_check, is_check, tabled, reports}, Carried.put_same}
+use Rattle.sharc_history_laws.proofs.{Imports.{◌≡◌, ℕ, zero, suc, ◌+◌, ◌<◌, ◌⊎◌, inl, inr, Bool, true, false, length, List, [], ◌∷◌, Option, Some, None, is_some, if◌then◌else◌, refl, sym, ap, ◌∙◌, ⊎_elim, arith, cases_eq, nat_tests, get_or-set_other, slice_index, slice_index_or, slice_set, nat_lt, ◌==◌, Kind, Read, Write, Note, GranuleNotes, blank, of_kind, note_of, site_at, epoch_of, bits_of, conflicts_in, noted, WordOp, Code, Cell, Instr, Shape, ConflictAt, Stage, Clears, FreeClears, WithdrawsFrom, Conflict, granules, first_shadow, granule_at, granule_of, shadow_word, TurnsComeOut, check_of, Machine, Own, instr_at, act, place, ref, row_of, checked, stopped, with_own, wrote, step_of, turn, after, may_go, asked_by, Turn, Global, MayTurn, after_turn, state_now, result_of, one_thread, bounds, Touch, Untouched, CheckOf, WithdrawOf, cleared_by, freed_by, withdrawn_by, touch_of, touch_at, yes, same_is}, TurnAt.turn_at, Consists.found_is, Outcomes.{is_access_check, is_check, tabled, reports}, Carried.put_same}
 use Rattle.sharc_heap.specs.{Notes.with_note, Accesses.Accesses}
 use Rattle.sharc_code.specs.Machine as machines
 
@@ -85,9 +85,6 @@ module _ (own : Own) (q : ℕ) (k : Kind) (e site : ℕ) where
   some_of : (o : Option ℕ) → is_some o ≡ true → (z : ℕ) × (o ≡ Some z)
   some_of None b = absurd (yes (sym b))
   some_of (Some z) b = (z, refl)
-
-  same_is : (n : ℕ) → (n == n) ≡ true
-  same_is n = grind (arith, nat_tests)
 
   -- and there is one of the check
   pub site_new : q < length own.table.notes → (z : ℕ) × (site_at (note_of (machines.with_note own q k e site).table q k) e ≡ Some z)

@@ -1,5 +1,5 @@
 -- An object whose pointer cells a Free empties: the thread goes on with it until the object is gone.
-use Rattle.sharc_history_laws.proofs.{Imports.{◌≡◌, ℕ, zero, suc, ◌+◌, ◌*◌, ◌⊎◌, inl, inr, min, Bool, true, false, ◌||◌, nat_lt, Some, if◌then◌else◌, refl, sym, ap, ◌∙◌, subst, ⊎_elim, cases_eq, Code, Layout, Shape, Stage, Empties, Lowers, FreeLooks, FreeClears, Uncounts, Machine, instr_at, ref, act, free, layout_at, empties, emptied, free_looks, at_stage, data_granules, fields, largest, turn, after, may_go, Turn, Global, after_turn, state_now, result_of, words_now, is_started, one_thread, bounds, Instr, is_clearing}, Acts.{freed_at, freed_in}, Carried.{put_same, put_other}}
+use Rattle.sharc_history_laws.proofs.{Imports.{◌≡◌, ℕ, zero, suc, ◌+◌, ◌*◌, ◌⊎◌, inl, inr, min, Bool, true, false, ◌||◌, nat_lt, Some, if◌then◌else◌, refl, sym, ap, ◌∙◌, subst, ⊎_elim, cases_eq, Code, Layout, Shape, Stage, Empties, Lowers, FreeLooks, FreeClears, Uncounts, Machine, instr_at, ref, act, free, layout_at, empties, emptied, free_looks, at_stage, data_granules, fields, largest, turn, after, may_go, Turn, Global, after_turn, state_now, result_of, words_now, is_started, one_thread, bounds, Instr, is_clearing, or_right}, Acts.{freed_at, freed_in}, Carried.{put_same, put_other}}
 
 -- the thread is in the middle of a Free of this object
 pub record IsFreeing (code : Code) (m : Machine) (o : ℕ) : Type 0 where
@@ -10,6 +10,10 @@ pub record IsFreeing (code : Code) (m : Machine) (o : ℕ) : Type 0 where
   pub emptying : is_clearing m.own.stage ≡ true
   pub object : ref m register ≡ o
   pub on : may_go m.at.state ≡ true
+
+-- where a Free empties a cell of it
+pub begins_freeing : (code : Code) (m : Machine) (o : ℕ) → may_go m.at.state ≡ true → (q layout site n all : ℕ) → instr_at code m.at.pc ≡ Instr.Free q layout site → m.own.stage ≡ Empties n all → ref m q ≡ o → IsFreeing code m o
+begins_freeing code m o on q layout site n all is at e = record { register = q; layout = layout; site = site; is_free = is; emptying = ap is_clearing at; object = e; on = on }
 
 abbrev pub IsEmptied : Code → Global Machine → ℕ → Type 0
 IsEmptied code g o = (u : ℕ) × ((g.started u ≡ true) × IsFreeing code (g.threads u) o)
@@ -76,10 +80,6 @@ module _ (code : Code) (s : Shape) (g : Global Machine) (one : Turn) where
 
   started_still : (u : ℕ) → g.started u ≡ true → (after_turn bounds (one_thread code s) g one).started u ≡ true
   started_still u e = or_right (is_started bounds (words_now g.words one.event) u) (g.started u) e
-    where
-      or_right : (a b : Bool) → b ≡ true → (a || b) ≡ true
-      or_right true b e = refl
-      or_right false b e = e
 
   -- the thread that makes the turn
   pub own_emptied : (o : ℕ) → g.started one.thread ≡ true → IsFreeing code (after (turn code s (g.threads one.thread)) (result_of one.event)) o → IsEmptied code (after_turn bounds (one_thread code s) g one) o

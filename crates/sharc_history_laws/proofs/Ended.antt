@@ -1,5 +1,5 @@
 -- A thread that is gone by the events has ended.
-use Rattle.sharc_history_laws.proofs.{Imports.{◌≡◌, ℕ, pos, ◌⊎◌, ◌↔◌, Bool, true, false, ◌&&◌, List, [], ◌∷◌, Option, Some, None, refl, sym, ap, ◌∙◌, subst, ⊎_elim, arith, eqb-true, cases_eq, not_true as unset, not_false as some_true, slice_index, SourceEvent, Code, Instr, Shape, Ended, RunLaws, Fits, state_word, Machine, act, exit, opening_words, is_exit, turn, after, may_go, Turn, IsRun, opening_of, result_of, state_now, said, one_thread, bounds, place_after, said_now, table_of, is_gone, is_natural, went, Labels, Keeps, CodeBegins, CellsAreThere, PointersAreThere, AccessesAreAllowed, IsSmall, IsWellTyped, Targets, history_of, yes}, TurnAt.turn_at, Acts.thread_said, Broken.{AllOf, all_reverse, none_any}, Consists.consists, Leaving.{gone_said, not_gone, leaves_at}, Lists.Newest, Rules.{pushed, newest, newest_now, about_now, number_is}, Carried.{put_same, put_other}}
+use Rattle.sharc_history_laws.proofs.{Imports.{◌≡◌, ℕ, pos, ◌⊎◌, ◌↔◌, Bool, true, false, ◌&&◌, List, [], ◌∷◌, Option, Some, None, refl, sym, ap, ◌∙◌, subst, ⊎_elim, arith, eqb-true, cases_eq, not_true as unset, not_false as some_true, slice_index, SourceEvent, Code, Instr, Shape, Ended, RunLaws, Fits, state_word, Machine, act, exit, is_exit, turn, after, may_go, Turn, result_of, state_now, said, one_thread, place_after, said_now, table_of, is_gone, is_natural, went, Labels, Keeps, CodeBegins, CellsAreThere, PointersAreThere, AccessesAreAllowed, IsSmall, IsWellTyped, Targets, history_of, yes}, TurnAt.{turn_at, RunOf}, Acts.thread_said, Broken.{AllOf, all_reverse, none_any}, Consists.consists, Leaving.{gone_said, not_gone, leaves_at}, Lists.Newest, Rules.{pushed, newest, newest_now, about_now, number_is}, Carried.{put_same, put_other}}
 
 -- the event says that thread n is gone
 abbrev GoneBy : ℕ → SourceEvent → Bool
@@ -10,13 +10,10 @@ both_of true t n e = (refl, eqb-true t n e)
 both_of false t n e = absurd (yes (sym e))
 
 module _ (cell_laws : CellsAreThere) (pointers : PointersAreThere) (rights : AccessesAreAllowed) (laws : RunLaws) (begins_law : CodeBegins) (keeps : Keeps) (x : Targets) (code : Code) (s : Shape) (ls : Labels) (wt : IsWellTyped x code ls) (fits : Fits code s) (few : IsSmall code s) where
-  abbrev RunOf : List Turn → Type 0
-  RunOf run = IsRun bounds (one_thread code s) (opening_of bounds (one_thread code s) (opening_words code s)) run
-
   abbrev Alive : List Turn → ℕ → Type 0
   Alive run n = ((place_after code s run).threads n).at.state ≡ Ended → ⊥
 
-  module _ (one : Turn) (earlier : List Turn) (run : RunOf (one ∷ earlier)) (n : ℕ) (alive : Alive (one ∷ earlier) n) where
+  module _ (one : Turn) (earlier : List Turn) (run : RunOf code s (one ∷ earlier)) (n : ℕ) (alive : Alive (one ∷ earlier) n) where
     open turn_at code s (place_after code s earlier) one use {g, m, i, found}
 
     abbrev event : Option SourceEvent
@@ -47,13 +44,13 @@ module _ (cell_laws : CellsAreThere) (pointers : PointersAreThere) (rights : Acc
     pushed_all None is L h = h
     pushed_all (Some e) is L h = (calm e is, h)
 
-  none_gone : (run : List Turn) → RunOf run → (n : ℕ) → Alive run n → AllOf (λ e. GoneBy n e ≡ false) (newest code s run)
+  none_gone : (run : List Turn) → RunOf code s run → (n : ℕ) → Alive run n → AllOf (λ e. GoneBy n e ≡ false) (newest code s run)
   none_gone [] run n alive = tt
   none_gone (one ∷ earlier) run n alive =
       subst (AllOf (λ e. GoneBy n e ≡ false)) (sym (newest_now code s one earlier))
       (pushed_all one earlier run n alive (event one earlier run n alive) refl (newest code s earlier) (none_gone earlier run.0 n (before one earlier run n alive)))
 
-  pub not_went : (run : List Turn) → RunOf run → (n : ℕ) → (slice_index (place_after code s run).words (state_word n) ≡ 3) ↔ (((place_after code s run).threads n).at.state ≡ Ended)
+  pub not_went : (run : List Turn) → RunOf code s run → (n : ℕ) → (slice_index (place_after code s run).words (state_word n) ≡ 3) ↔ (((place_after code s run).threads n).at.state ≡ Ended)
       → (slice_index (place_after code s run).words (state_word n) ≡ 1) ⊎ (slice_index (place_after code s run).words (state_word n) ≡ 2) → went (history_of code s run) (pos n) ≡ false
   not_went run is n tells state =
       let alive : Alive run n = λ ended. let three = tells.1 ended in ⊎_elim (λ one. let e : 1 ≡ 3 = sym one ∙ three in omega (arith, e)) (λ two. let e : 2 ≡ 3 = sym two ∙ three in omega (arith, e)) state in

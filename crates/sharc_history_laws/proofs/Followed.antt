@@ -1,5 +1,5 @@
 -- A check of an access is directly before it, so where it passed its thread makes the access next.
-use Rattle.sharc_history_laws.proofs.{Imports.{◌≡◌, ℕ, ◌+◌, Bool, true, false, List, [], ◌∷◌, ◌++◌, Some, is_some, if◌then◌else◌, refl, sym, ap, ◌∙◌, subst, ⊎_elim, arith, cases_eq, nat_tests, ◌==◌, nat_eq, SourceEvent, CellAt, Act, Taken, Kind, Read, Write, note_of, site_at, epoch_of, conflicts_in, noted, Code, PlaceMode, Cell, Instr, Shape, Stage, Clears, FreeClears, WithdrawsFrom, Stop, Conflict, int_of, granule_at, granule_of, Machine, Own, instr_at, act, place, ref, int, row_of, stopped, with_own, with_note, wrote, checked, turn, after, may_go, Turn, Global, paired, state_now, result_of, turns_of, cell_at, mode_of, place_at, said, reference, kind_of, one_thread, place_after, Erase, Access, access_by, Touch, Untouched, CheckOf, WithdrawOf, cleared_by, freed_by, withdrawn_by, touch_of, site_of_check, IsCheck, IsFollowed, ChecksAreFollowed, access_to, access_of, TellsAccess, Follows, IsNext, IsMade, IsOfAccess, yes, TurnState}, TurnAt.turn_at, Carried.{put_same, put_other}}
+use Rattle.sharc_history_laws.proofs.{Imports.{◌≡◌, ℕ, ◌+◌, Bool, true, false, List, [], ◌∷◌, ◌++◌, Some, is_some, if◌then◌else◌, refl, sym, ap, ◌∙◌, subst, ⊎_elim, arith, cases_eq, nat_tests, ◌==◌, nat_eq, SourceEvent, CellAt, Act, Taken, Kind, Read, Write, note_of, site_at, epoch_of, conflicts_in, noted, Code, PlaceMode, Cell, Instr, Shape, Stage, Clears, FreeClears, WithdrawsFrom, Stop, Conflict, int_of, granule_at, granule_of, Machine, Own, instr_at, act, place, ref, int, row_of, stopped, with_own, with_note, wrote, checked, turn, after, may_go, Turn, Global, paired, state_now, result_of, turns_of, cell_at, mode_of, place_at, said, reference, kind_of, one_thread, place_after, Erase, Access, access_by, Touch, Untouched, CheckOf, WithdrawOf, cleared_by, freed_by, withdrawn_by, touch_of, site_of_check, IsCheck, IsFollowed, ChecksAreFollowed, access_to, access_of, TellsAccess, Follows, IsNext, IsMade, IsOfAccess, yes, TurnState, ne_eq}, TurnAt.turn_at, Carried.{put_same, put_other}}
 use Rattle.sharc_history_laws.specs.Followed.{Accesses}
 
 -- ---- turns that are checks
@@ -140,10 +140,7 @@ module _ (code : Code) (m : Machine) (found elements : ℕ) (c : Cell) (site : �
 
 -- ---- the turns after a check
 no_turn : (j : ℕ) (one : Turn) (later : List Turn) → (one.thread ≡ j → ⊥) → turns_of j later ≡ [] → turns_of j (one ∷ later) ≡ []
-no_turn j one later ne h = let e : nat_eq j one.thread ≡ false = differ j one.thread (λ z. ne (sym z)) in rw e h
-  where
-    differ : (a b : ℕ) → (a ≡ b → ⊥) → nat_eq a b ≡ false
-    differ a b ne = grind (arith, nat_tests)
+no_turn j one later ne h = let e : nat_eq j one.thread ≡ false = ne_eq j one.thread (λ z. ne (sym z)) in rw e h
 
 module _ (code : Code) (s : Shape) (check : Turn) (earlier : List Turn) (c : Cell) (site : ℕ) (write : Bool) where
   abbrev m : Machine

@@ -1,5 +1,5 @@
 -- The mutexes that a thread holds by a history that grows by one event.
-use Rattle.sharc_history_laws.proofs.{Imports.{◌≡◌, ℕ, Bool, true, false, not, ◌||◌, ◌&&◌, List, [], ◌∷◌, ◌++◌, reverse, Option, Some, None, refl, sym, ap, ◌∙◌, if◌then◌else◌, eqb-true, ◌==◌, list_any, SourceEvent, CellAt, Object, same_object, same_cell, is_cell, locked_by, locks, unlocks, is_of, events_of, unless_unlocked, held_mutexes, holds_mutex, History, both_true}, Lists.{Newest, reverse_push}, Sets.own_append}
+use Rattle.sharc_history_laws.proofs.{Imports.{◌≡◌, ℕ, Bool, true, false, not, ◌||◌, ◌&&◌, List, [], ◌∷◌, ◌++◌, reverse, Option, Some, None, refl, sym, ap, ◌∙◌, if◌then◌else◌, eqb-true, ◌==◌, list_any, SourceEvent, CellAt, Object, same_object, same_cell, is_cell, locked_by, locks, unlocks, is_of, events_of, unless_unlocked, held_mutexes, holds_mutex, History, both_true, or_false, or_assoc}, Lists.{Newest, reverse_push}, Sets.own_append}
 
 -- ---- cells
 object_eq : (a b : Object) → same_object a b ≡ true → a ≡ b
@@ -33,16 +33,8 @@ table false false true held locked unlocked rest h e = let u = h refl in sym (ap
 table false false false held locked unlocked rest h e = e
 
 pub any_push : (test : SourceEvent → Bool) (xs : History) (e : SourceEvent) → list_any test (xs ++ e ∷ []) ≡ (list_any test xs || test e)
-any_push test [] e = by (test e)
-  where
-    by : (b : Bool) → (b || false) ≡ b
-    by true = refl
-    by false = refl
-any_push test (y ∷ ys) e = ap (λ b. test y || b) (any_push test ys e) ∙ by (test y) (list_any test ys) (test e)
-  where
-    by : (a b c : Bool) → (a || (b || c)) ≡ ((a || b) || c)
-    by true b c = refl
-    by false b c = refl
+any_push test [] e = or_false (test e)
+any_push test (y ∷ ys) e = ap (λ b. test y || b) (any_push test ys e) ∙ sym (or_assoc (test y) (list_any test ys) (test e))
 
 module _ (c : CellAt) (e : SourceEvent) where
   last : (d : Option CellAt) → list_any (same_cell c) (unless_unlocked [] d []) ≡ (is_cell c d || (false && not (unlocks c e)))

@@ -1,5 +1,5 @@
 -- A lock check that is refused is of an access whose mode names the mutex that the check looks for.
-use Rattle.sharc_history_laws.proofs.{Imports.{◌≡◌, ℕ, inl, inr, zero, suc, ◌+◌, Bool, true, false, List, [], ◌∷◌, ◌++◌, Some, None, refl, sym, ap, ◌∙◌, subst, ⊎_elim, cases_eq, ◌==◌, CellAt, SourceEvent, CellMode, Code, PlaceMode, Cell, Instr, Shape, Stop, NoLock, Fits, Machine, instr_at, word, is_of_null, stopped, opening_words, TurnsComeOut, MayStop, turn, after, Turn, Global, IsRun, MayTurn, put, state_now, result_of, opening_of, cell_at, made_cell, mode_of, place_at, lock_through, one_thread, bounds, place_after, IsThere, Access, access_by, events_of, holds_mutex, History, Obeys, Until, Targets, Field, FieldMode, Content, Gate, Closed, Checked, Holds, Loaded, HoldsLoaded, Sole, Label, Labels, LessGate, LessNumber, SameReference, gated, IsWellTyped, Fine, Accesses as TypedAccess, MayAccess, IsMode, knows_base, State, OnHold, IsOn, CellsAreThere, IsLockCheck, LacksLock, IsLocked, IsFollowed, ChecksAreFollowed, access_to, access_of, access_checked, ShowsLock, yes, TurnState}, TurnAt.{turn_at, thread_at}, Consists.Consists, Finds.is_there, Followed.{accessed_is, same_cell, same_access as moved_access}, LockModes.{same_copies, lock_mode_now}, Outcomes.reports, Single.rests_hold, Sole.{Halting, stop_none}, Carried.{put_same, put_other}}
+use Rattle.sharc_history_laws.proofs.{Imports.{◌≡◌, ℕ, inl, inr, zero, suc, ◌+◌, Bool, true, false, List, [], ◌∷◌, ◌++◌, Some, None, refl, sym, ap, ◌∙◌, subst, ⊎_elim, cases_eq, ◌==◌, CellAt, SourceEvent, CellMode, Code, PlaceMode, Cell, Instr, Shape, Stop, NoLock, Fits, Machine, instr_at, word, is_of_null, stopped, opening_words, TurnsComeOut, MayStop, turn, after, Turn, Global, IsRun, MayTurn, put, state_now, result_of, opening_of, cell_at, made_cell, mode_of, place_at, lock_through, one_thread, bounds, place_after, IsThere, Access, access_by, events_of, holds_mutex, History, Obeys, Until, Targets, Field, FieldMode, Content, Gate, Closed, Checked, Holds, Loaded, HoldsLoaded, Sole, Label, Labels, LessGate, LessNumber, SameReference, gated, IsWellTyped, Fine, Accesses as TypedAccess, MayAccess, IsMode, knows_base, State, OnHold, IsOn, CellsAreThere, IsLockCheck, LacksLock, IsLocked, IsFollowed, ChecksAreFollowed, access_to, access_of, access_checked, ShowsLock, yes, TurnState}, TurnAt.{turn_at, thread_at, RunOf}, Consists.Consists, Finds.is_there, Followed.{accessed_is, same_cell, same_access as moved_access}, LockModes.{same_copies, lock_mode_now}, Outcomes.reports, Single.rests_hold, Sole.{Halting, stop_none}, Carried.{put_same, put_other}}
 use Rattle.sharc_history_laws.specs.Followed.{Accesses}
 
 -- ---- the access that the check is of
@@ -133,9 +133,6 @@ module _ (code : Code) (m : Machine) (stop : Stop) where
 module _ (outs : TurnsComeOut) (cell_laws : CellsAreThere) (x : Targets) (code : Code) (s : Shape) (ls : Labels) (wt : IsWellTyped x code ls) (fits : Fits code s) (followed : ChecksAreFollowed code)
     (all : (run : List Turn) → IsRun bounds (one_thread code s) (opening_of bounds (one_thread code s) (opening_words code s)) run → Halting code s run)
     (stands : (run : List Turn) → IsRun bounds (one_thread code s) (opening_of bounds (one_thread code s) (opening_words code s)) run → Consists x code s ls run) where
-  abbrev RunOf : List Turn → Type 0
-  RunOf run = IsRun bounds (one_thread code s) (opening_of bounds (one_thread code s) (opening_words code s)) run
-
   -- the mutex that the check looks for, and the access
   pub record Names (m : Machine) (site : ℕ) : Type 0 where
     pub mutex : CellAt
@@ -144,7 +141,7 @@ module _ (outs : TurnsComeOut) (cell_laws : CellsAreThere) (x : Targets) (code :
     pub is : access_checked code m ≡ Some access
     pub mode : access.mode ≡ CellMode.Locked (Some mutex)
 
-  module _ (one : Turn) (earlier : List Turn) (run : RunOf (one ∷ earlier)) (site word : ℕ) where
+  module _ (one : Turn) (earlier : List Turn) (run : RunOf code s (one ∷ earlier)) (site word : ℕ) where
     open turn_at code s (place_after code s earlier) one use {g, m as checker, i}
 
     abbrev now : Machine
@@ -192,7 +189,7 @@ module _ (outs : TurnsComeOut) (cell_laws : CellsAreThere) (x : Targets) (code :
     pub names_then : now.own.stop ≡ Some (NoLock site word) → Names now site
     names_then is = let k = reports s i (result_of one.event) checker now (outs code s i checker (result_of one.event)) (NoLock site word) refl fresh is in names_now k.0 k.1
 
-  pub locks_named : (run : List Turn) → RunOf run → (t site word : ℕ) → ((place_after code s run).threads t).own.stop ≡ Some (NoLock site word) → Names ((place_after code s run).threads t) site
+  pub locks_named : (run : List Turn) → RunOf code s run → (t site word : ℕ) → ((place_after code s run).threads t).own.stop ≡ Some (NoLock site word) → Names ((place_after code s run).threads t) site
   locks_named [] run t site word is = absurd (let f : None ≡ Some (NoLock site word) = is in cc)
   locks_named (one ∷ earlier) run t site word is =
       let g = place_after code s earlier in

@@ -1,5 +1,5 @@
--- At an access under a lock the thread holds that mutex by its events.
-use Rattle.sharc_history_laws.proofs.{Imports.{◌≡◌, ℕ, ℤ, pos, zero, suc, ◌+◌, ◌-◌, ◌*◌, ◌<◌, ◌≤◌, ◌≢◌, ◌⊎◌, inl, inr, true, false, not, cond, List, [], ◌∷◌, ◌++◌, Option, Some, None, is_some, if◌then◌else◌, refl, sym, ap, ◌∙◌, subst, ⊎_elim, arith, eqb-true, cases_eq, cases_lt, nat_tests, nat_lt, ◌==◌, slice_index_or, All, CellAt, Object, CellMode, HeldMutex, without, object_of, Code, PlaceMode, Cell, Shape, word_of, Fits, first_cell, words_of, cell_of, cell_word, Machine, ref, int, place, object, word, IsInGlobal, Global, cell_at, global_cell, made_cell, mode_of, no_global, IsThere, IsApart, Targets, FieldMode, FieldLock, Lock, StaticType, ObjectType, cells_of, GlobalLock, Through, Self, OfType, OfGlobals, OfElement, Refers, Element, Named, Nth, OfElementCell, OfGlobal, Labels, SameReference, Itself, IsCopy, HasCopy, Copies, Chained, IsWellTyped, IsMode, IsTypeMode, IsLockMode, IsLockCell, IsTypeLock, IsMutexOf, IsSibling, no_lock, RegisterOf, World, State, NumberStands, ElementStands, OnHold, types_at, IsOn}, TurnAt.thread_at, Stands.{top, reads_ref, rn}, Lists.Newest, Holding.holds_in}
+-- Which cell a place is, what a held log says of the mutexes that are held, and which registers hold the same.
+use Rattle.sharc_history_laws.proofs.{Imports.{◌≡◌, ℕ, ℤ, pos, zero, suc, ◌+◌, ◌-◌, ◌*◌, ◌<◌, ◌≤◌, ◌≢◌, ◌⊎◌, inl, inr, true, false, not, cond, List, [], ◌∷◌, ◌++◌, Option, Some, None, is_some, if◌then◌else◌, refl, sym, ap, ◌∙◌, subst, ⊎_elim, arith, eqb-true, cases_eq, cases_lt, nat_tests, nat_lt, ◌==◌, slice_index_or, All, CellAt, Object, CellMode, HeldMutex, without, object_of, Code, Cell, Shape, Fits, first_cell, words_of, cell_of, cell_word, Machine, ref, int, place, object, word, IsInGlobal, Global, cell_at, made_cell, no_global, IsThere, IsApart, Targets, cells_of, Element, Named, Nth, OfElementCell, OfGlobal, Labels, SameReference, Itself, IsCopy, HasCopy, Copies, Chained, IsWellTyped, RegisterOf, World, State, NumberStands, ElementStands, OnHold, types_at, IsOn, is_below}, TurnAt.thread_at, Stands.{top, reads_ref, rn}, Lists.Newest, Holding.holds_in}
 
 -- ---- entries of a log
 abbrev pub IsIn : HeldMutex → List HeldMutex → Type 0
@@ -74,18 +74,15 @@ pub one_place : (code : Code) (a : Object) (i o p at from : ℕ) → NamesIn cod
 one_place code (Object.Made n) i o p at from h k = h.2 ∙ sym k.2
 one_place code (Object.Global g) i o p at from h k = h.2 ∙ sym k.2
 
+pub some_ref : (n : ℕ) → 0 < n → n ≢ 0
+some_ref n lt e = omega arith
+
 -- the cell that an instruction names
 pub names_cell : (code : Code) (m : Machine) (c : Cell) → IsThere code m c → Names code (cell_at code m c) (object m c) (place m c)
 names_cell code m (Cell.Global g p) there = (refl, there, (let low = there.low in omega arith))
 names_cell code m (Cell.GlobalAt g r) there = (refl, there, (let low = there.low in omega arith))
-names_cell code m (Cell.Object r p) there = (refl, above (ref m r) there, refl)
-  where
-    above : (n : ℕ) → 0 < n → n ≢ 0
-    above n lt e = omega arith
-names_cell code m (Cell.ObjectAt r i) there = (refl, above (ref m r) there, refl)
-  where
-    above : (n : ℕ) → 0 < n → n ≢ 0
-    above n lt e = omega arith
+names_cell code m (Cell.Object r p) there = (refl, some_ref (ref m r) there, refl)
+names_cell code m (Cell.ObjectAt r i) there = (refl, some_ref (ref m r) there, refl)
 
 -- ---- what the log says of the events
 abbrev pub LogTold : Code → Shape → Newest → ℕ → List HeldMutex → Type 0
@@ -95,13 +92,10 @@ LogTold code s L t log = (h : HeldMutex) → IsIn h log → (c : CellAt) (at : �
 pub held_told : (code : Code) (s : Shape) (L : Newest) (t : ℕ) (log : List HeldMutex) (o at : ℕ) (c : CellAt) → LogTold code s L t log → IsApart s log o at → is_some (object_of log (cell_word s at)) ≡ true → Names code c o at → holds_in L t c ≡ true
 held_told code s L t log o at c told apart held names =
     let h = held_in log (cell_word s at) held in
-    let e : nat_lt (first_cell s + at) (words_of s) ≡ true = below (first_cell s + at) (words_of s) apart.inside in
+    let e : nat_lt (first_cell s + at) (words_of s) ≡ true = is_below (first_cell s + at) (words_of s) apart.inside in
     let w : h.0.word ≡ first_cell s + at = h.2 ∙ ap (λ b. if b then first_cell s + at else 0) e in
     let same : h.0.object ≡ o = all_in (λ h. h.word ≡ first_cell s + at → h.object ≡ o) log h.0 apart.apart h.1 w in
     told h.0 h.1 c at w (subst (λ o. Names code c o at) (sym same) names)
-  where
-    below : (a b : ℕ) → a < b → nat_lt a b ≡ true
-    below a b lt = grind (arith, nat_tests)
 
 -- ---- the mutex that a mode names
 pub element_one : (names : ℕ → ℤ) (n k : ℕ) (e : Element) → ElementStands names n e → ElementStands names k e → n ≡ k
@@ -155,86 +149,3 @@ module _ (x : Targets) (code : Code) (s : Shape) (ls : Labels) (wt : IsWellTyped
       let fa = st.inv.words.fits (Rattle.sharc_invariant.specs.World.In (RegisterOf t (m.at.refs + a))) (λ z. nz (ra ∙ z)) in
       let fb = st.inv.words.fits (Rattle.sharc_invariant.specs.World.In (RegisterOf t (m.at.refs + b))) (λ z. nz (e ∙ rb ∙ z)) in
       sym fa.typed ∙ ap (λ o. (world.obj o).ty) (sym ra ∙ e ∙ rb) ∙ fb.typed
-
-  some_ref : (r : ℕ) → 0 < ref (g.threads t) r → ref (g.threads t) r ≢ 0
-  some_ref r lt e = omega arith
-
-  -- the lock of a type, and the cell that it names
-  lock_names : (at : CellAt) (r : ℕ) (lock : Lock) (d : Cell) (mode : PlaceMode) (mutex : CellAt) → IsLockCell code here r lock d → IsLockMode code here r lock mode → mode_of code (g.threads t) at mode ≡ CellMode.Locked (Some mutex) → IsThere code (g.threads t) d
-      → Names code mutex (object (g.threads t) d) (place (g.threads t) d)
-  lock_names at r (GlobalLock j) (Cell.Global g' p) mode mutex cell is e there =
-      let q : CellMode.Locked (Some (global_cell code is.0 (j + 2))) ≡ CellMode.Locked (Some mutex) = sym (ap (mode_of code m at) is.1) ∙ e in
-      let same = some_eq (global_cell code is.0 (j + 2)) mutex q in
-      let inside : IsInGlobal code.globals.items is.0 (j + 2) = record { known = is.2.is; low = is.2.from; high = is.2.until } in
-      let low = is.2.from in
-      subst (λ c. Names code c 0 p) same (refl, subst (IsInGlobal code.globals.items is.0) (sym cell.0) inside, (let z = cell.0 in omega arith))
-  lock_names at r (Through q j) (Cell.Object a i) mode mutex cell is e there =
-      let k = through_is (ref m is.0) j mutex (lock_eq (Rattle.sharc_code.specs.Says.lock_through (ref m is.0) j) mutex (sym (ap (mode_of code m at) is.1) ∙ e)) in
-      let same : ref m is.0 ≡ ref m a = same_refs is.0 q is.2 ∙ sym (same_refs a q cell.1) in
-      subst (λ c. Names code c (ref m a) (cell_of (ref m a) i)) (sym k.0) (same, some_ref a there, ap (λ n. cell_of n i) (sym same) ∙ ap (cell_of (ref m is.0)) cell.0)
-  lock_names at r (Self j) (Cell.Object a i) mode mutex cell is e there =
-      let k = through_is (ref m is.0) j mutex (lock_eq (Rattle.sharc_code.specs.Says.lock_through (ref m is.0) j) mutex (sym (ap (mode_of code m at) is.1) ∙ e)) in
-      let same : ref m is.0 ≡ ref m a = same_refs is.0 r is.2 ∙ sym (same_refs a r cell.1) in
-      subst (λ c. Names code c (ref m a) (cell_of (ref m a) i)) (sym k.0) (same, some_ref a there, ap (λ n. cell_of n i) (sym same) ∙ ap (cell_of (ref m is.0)) cell.0)
-  lock_names at r _ _ mode mutex cell is e there = absurd cell
-
-  refers_eq : (a b : StaticType) → Refers a ≡ Refers b → a ≡ b
-  refers_eq a b e = cc
-
-  type_names : (at : CellAt) (k : ℕ) (c d : Cell) (mode : PlaceMode) (mutex : CellAt) → IsTypeLock code here k c d → IsTypeMode code here k c mode → mode_of code (g.threads t) at mode ≡ CellMode.Locked (Some mutex) → IsThere code (g.threads t) d
-      → Names code mutex (object (g.threads t) d) (place (g.threads t) d)
-  type_names at k (Cell.Global g' p) d mode mutex cell is e there = absurd cell
-  type_names at k (Cell.GlobalAt g' i) d mode mutex cell is e there = absurd cell
-  type_names at k (Cell.Object r i) d mode mutex cell is e there =
-      let same : is.0 ≡ cell.0 = refers_eq is.0 cell.0 (sym is.1 ∙ cell.1) in
-      lock_names at r (slice_index_or cell.0.locks k no_lock) d mode mutex cell.3 (subst (λ (ty : StaticType). IsLockMode code here r (slice_index_or ty.locks k no_lock) mode) same is.2) e there
-  type_names at k (Cell.ObjectAt r i) d mode mutex cell is e there =
-      let same : is.0 ≡ cell.0 = refers_eq is.0 cell.0 (sym is.1 ∙ cell.1) in
-      lock_names at r (slice_index_or cell.0.locks k no_lock) d mode mutex cell.3 (subst (λ (ty : StaticType). IsLockMode code here r (slice_index_or ty.locks k no_lock) mode) same is.2) e there
-
-  -- the mutex of the same element
-  sibling_names : (c d : Cell) (field mutex : ℕ) → IsSibling here field mutex c d → Rattle.sharc_invariant.specs.Typed.HasBefore code here field c → IsThere code (g.threads t) d
-      → Names code (record { object = (cell_at code (g.threads t) c).object; cell = (cell_at code (g.threads t) c).cell - field + mutex }) (object (g.threads t) d) (place (g.threads t) d)
-  sibling_names (Cell.Global g' p) (Cell.Global h q) field mutex is before there =
-      let inside : IsInGlobal code.globals.items g' q = subst (λ g. IsInGlobal code.globals.items g q) (sym is.0) there in
-      let a = is.2 in
-      (refl, inside, omega arith)
-  sibling_names (Cell.GlobalAt g' i) (Cell.GlobalAt h j) field mutex is before there =
-      let k = is.1 in
-      let first = k.0 in
-      let a = number_of_global i first k.1 k.2 k.3 k.4 in
-      let b = number_of_global j (first - field + mutex) k.1 k.2 k.3 k.6 in
-      let n : a.0 ≡ b.0 = element_one (rn x code s ls wt fits g world st t on hold).names a.0 b.0 k.3 a.2 b.2 in
-      let same : before.0 ≡ first = let f : OfGlobal before.0 before.1 before.2 before.3 ≡ OfGlobal first k.1 k.2 k.3 = sym before.4 ∙ k.4 in cc in
-      let low = before.5 in
-      let inside : IsInGlobal code.globals.items g' (word_of (int m j)) = subst (λ g. IsInGlobal code.globals.items g (word_of (int m j))) (sym is.0) there in
-      let wi : word_of (int m i) ≡ first + a.0 * k.1 = ap word_of a.1 in
-      let wj : word_of (int m j) ≡ first - field + mutex + b.0 * k.1 = ap word_of b.1 in
-      let times : a.0 * k.1 ≡ b.0 * k.1 = ap (λ n. n * k.1) n in
-      (refl, inside, omega arith)
-  sibling_names (Cell.Object r i) (Cell.Object q j) field mutex is before there =
-      let same = same_refs r q is.0 in
-      (same, some_ref q there, ap (λ n. cell_of n j) (sym same) ∙ ap (cell_of (ref m r)) is.2)
-  sibling_names (Cell.ObjectAt r i) (Cell.ObjectAt q j) field mutex is before there =
-      let same = same_refs r q is.0 in
-      let k = is.1 in
-      let a = number_of_element i r field k.0 k.1 in
-      let b = number_of_element j q mutex k.0 k.2 in
-      let n : a.0 ≡ b.0 = element_one (rn x code s ls wt fits g world st t on hold).names a.0 b.0 k.0 a.2 b.2 in
-      let nz : ref m r ≢ 0 = λ z. some_ref q there (sym same ∙ z) in
-      let count : cells_of x (types_at view m.at.refs r).target ≡ cells_of x (types_at view m.at.refs q).target = ap (λ (ty : ObjectType). cells_of x ty.target) (same_type r q nz same) in
-      let times : a.0 * cells_of x (types_at view m.at.refs r).target ≡ b.0 * cells_of x (types_at view m.at.refs q).target = ap (λ n. n * cells_of x (types_at view m.at.refs r).target) n ∙ ap (λ c. b.0 * c) count in
-      let wi : word_of (int m i) ≡ a.0 * cells_of x (types_at view m.at.refs r).target + field = ap word_of a.1 in
-      let wj : word_of (int m j) ≡ b.0 * cells_of x (types_at view m.at.refs q).target + mutex = ap word_of b.1 in
-      let cell : word_of (int m j) ≡ word_of (int m i) - field + mutex = omega arith in
-      (same, some_ref q there, ap (λ n. cell_of n (word_of (int m j))) (sym same) ∙ ap (cell_of (ref m r)) cell)
-  sibling_names _ _ field mutex is before there = absurd is
-
-  pub mutex_names : (c d : Cell) (lock : FieldLock) (mode : PlaceMode) (mutex : CellAt) → IsMutexOf code here lock c d → IsMode code here c (FieldMode.Under lock) mode → mode_of code (g.threads t) (cell_at code (g.threads t) c) mode ≡ CellMode.Locked (Some mutex) → IsThere code (g.threads t) d
-      → Names code mutex (object (g.threads t) d) (place (g.threads t) d)
-  mutex_names c d (OfType k) mode mutex cell is e there = type_names (cell_at code m c) k c d mode mutex cell is e there
-  mutex_names c d (OfGlobals j) mode mutex cell is e there = lock_names (cell_at code m c) 0 (GlobalLock j) d mode mutex cell is e there
-  mutex_names c d (OfElement field other) mode mutex cell is e there =
-      let named : CellAt = record { object = (cell_at code m c).object; cell = (cell_at code m c).cell - field + other } in
-      let q : CellMode.Locked (Some named) ≡ CellMode.Locked (Some mutex) = sym (ap (mode_of code m (cell_at code m c)) is.0) ∙ e in
-      subst (λ c. Names code c (object m d) (place m d)) (some_eq named mutex q) (sibling_names c d field other cell is.1 there)

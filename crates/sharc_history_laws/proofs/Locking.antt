@@ -1,5 +1,5 @@
 -- The held logs of threads are those that their events tell, so an access under a lock comes while the thread holds the mutex.
-use Rattle.sharc_history_laws.proofs.{Imports.{◌≡◌, ℕ, zero, suc, ◌+◌, ◌<◌, ◌≢◌, ◌⊎◌, inl, Bool, true, false, not, ◌||◌, ◌&&◌, length, List, [], ◌∷◌, ◌++◌, reverse, Option, Some, None, if◌then◌else◌, refl, sym, ap, ◌∙◌, subst, ⊎_elim, arith, cases_eq, nat_tests, nat_lt, ◌==◌, Act, SourceEvent, CellAt, Object, CellMode, HeldMutex, with_mutex, without, Code, PlaceMode, Cell, Instr, Shape, RunLaws, Fits, first_cell, words_of, cell_of, Machine, place, object, word, is_held, taken, act, locked, goes, fails, opening_words, is_locking, turn, after, Turn, Global, IsRun, MayTurn, after_turn, put, state_now, result_of, opening_of, one_thread, bounds, place_after, said, cell_at, mode_of, place_at, event_at, lock_through, said_now, IsMutex, table_of, Access, same_object, same_cell, is_cell, locks, unlocks, is_of, History, IsAccess, Targets, FieldMode, Labels, IsWellTyped, MayAccess, IsMode, World, IsSmall, GateStands, OnHold, Keeps, CodeBegins, CellsAreThere, PointersAreThere, AccessesAreAllowed, history_of, is_below, eqb-true}, TurnAt.{turn_at, told_at, turn_stands}, Single.rests_hold, Stands.gate, Finds.{mutex_cell, pending_apart}, Consists.{Consists, consists_then, at_first}, Acts.{access_said, thread_said, no_access, access_at, IsAccess as TellsAccess, access_of}, Told.is_access, Lists.{Newest, EachAccess, no_event}, Rules.{pushed, newest, newest_now, number_is, about_now, hold_access, each_pushed}, Holding.{cell_eq, holds_in, holds_other, holds_own}, Outcomes.logs, Mutexless.{mutex_said, no_mutex, not_locked}, Locked.{IsIn, in_append, in_without, Names, names_one, names_cell, one_place, LogTold, held_told, mutex_names, lock_eq, through_is}, Carried.{put_same, put_other}}
+use Rattle.sharc_history_laws.proofs.{Imports.{◌≡◌, ℕ, zero, suc, ◌+◌, ◌<◌, ◌≢◌, ◌⊎◌, inl, Bool, true, false, not, ◌||◌, ◌&&◌, length, List, [], ◌∷◌, ◌++◌, reverse, Option, Some, None, if◌then◌else◌, refl, sym, ap, ◌∙◌, subst, ⊎_elim, arith, cases_eq, nat_tests, nat_lt, ◌==◌, Act, SourceEvent, CellAt, Object, CellMode, HeldMutex, with_mutex, without, Code, PlaceMode, Cell, Instr, Shape, RunLaws, Fits, first_cell, words_of, cell_of, Machine, place, object, word, is_held, taken, act, locked, goes, fails, opening_words, is_locking, turn, after, Turn, Global, IsRun, MayTurn, after_turn, put, state_now, result_of, opening_of, one_thread, bounds, place_after, said, cell_at, mode_of, place_at, event_at, lock_through, said_now, IsMutex, table_of, Access, same_object, same_cell, is_cell, locks, unlocks, is_of, History, IsAccess, Targets, FieldMode, Labels, IsWellTyped, MayAccess, IsMode, World, IsSmall, GateStands, OnHold, Keeps, CodeBegins, CellsAreThere, PointersAreThere, AccessesAreAllowed, history_of, is_below, eqb-true, not_true}, TurnAt.{turn_at, told_at, turn_stands}, Single.rests_hold, Stands.gate, Finds.{mutex_cell, pending_apart}, Consists.{Consists, consists_then, at_first}, Acts.{access_said, thread_said, no_access, access_at, IsAccess as TellsAccess, access_of}, Told.is_access, Lists.{Newest, EachAccess, no_event}, Rules.{pushed, newest, newest_now, number_is, about_now, hold_access, each_pushed}, Holding.{cell_eq, holds_in, holds_other, holds_own}, Outcomes.logs, Mutexless.{mutex_said, no_mutex, not_locked}, Locked.{IsIn, in_append, in_without, Names, names_one, names_cell, one_place, LogTold, held_told, lock_eq, through_is}, Carried.{put_same, put_other}, LockModes.mutex_names}
 
 object_refl : (a : Object) → same_object a a ≡ true
 object_refl (Object.Global g) = let e : (g == g) ≡ true = grind (arith, nat_tests) in e
@@ -98,10 +98,6 @@ module _ (cell_laws : CellsAreThere) (pointers : PointersAreThere) (rights : Acc
       ∙ ap (λ b. b || (holds_in L t named && not (unlocks named d))) l
       ∙ ap (λ b. holds_in L t named && not b) (u ∙ other)
       ∙ ap (λ b. b && true) (old k r.0 named at w names)
-    where
-      not_true : (b : Bool) → (b ≡ true → ⊥) → b ≡ false
-      not_true true h = absurd (h refl)
-      not_true false h = refl
 
   abbrev pub lock_event : Cell → ℕ → SourceEvent
   lock_event c site = record { thread = m.own.number; site = (place_at code site).site; answer = Rattle.std.specs.Prelude.pos 0; act = Act.Lock (cell_at code m c) }
@@ -109,7 +105,7 @@ module _ (cell_laws : CellsAreThere) (pointers : PointersAreThere) (rights : Acc
   abbrev pub unlock_event : Cell → ℕ → SourceEvent
   unlock_event c site = record { thread = m.own.number; site = (place_at code site).site; answer = Rattle.std.specs.Prelude.pos 0; act = Act.Unlock (cell_at code m c) }
 
-  -- what stands of the events and of the log stands after the turn, where an event of neither kind, a Lock and an Unlock keep it
+  -- what stands of the events and of the log stands after the turn, where a quiet event, a Lock and an Unlock keep it
   module _ (P : Newest → List HeldMutex → Type 0) (L : Newest) (old : P L mine) (quiet : (ev : Option SourceEvent) → event ≡ ev → mutex_said ev ≡ false → P (pushed ev L) mine)
       (with_lock : (c : Cell) (site : ℕ) → i ≡ Instr.Lock c site → found ≡ 0 → event ≡ Some (lock_event c site)
       → P (lock_event c site ∷ L) (taken ((place_after code s earlier).threads one.thread) (word s ((place_after code s earlier).threads one.thread) c) (object ((place_after code s earlier).threads one.thread) c)))

@@ -1,5 +1,5 @@
 -- What a thread holds by its events is in its held log, so where a lock check is refused it does not hold the mutex.
-use Rattle.sharc_history_laws.proofs.{Imports.{◌≡◌, ℕ, zero, suc, ◌+◌, ◌<◌, ◌⊎◌, inl, inr, Bool, true, false, not, cond, ◌||◌, ◌&&◌, length, List, [], ◌∷◌, ◌++◌, reverse, Option, Some, None, is_some, if◌then◌else◌, refl, sym, ap, ◌∙◌, subst, ⊎_elim, arith, eqb-true, cases_eq, nat_tests, nat_lt, ◌==◌, Act, SourceEvent, CellAt, HeldMutex, with_mutex, without, object_of, Code, Cell, Instr, Shape, NoLock, RunLaws, Fits, first_cell, words_of, cell_of, cell_word, Machine, ref, place, object, word, is_held, is_of_null, taken, act, stopped, opening_words, MayStop, turn, after, may_go, Turn, Global, IsRun, MayTurn, after_turn, put, state_now, result_of, opening_of, one_thread, bounds, place_after, said, cell_at, made_cell, said_now, MayFind, IsLock, IsMutex, IsApart, IsFree, table_of, same_cell, is_cell, locks, unlocks, is_of, Targets, Labels, IsWellTyped, IsSmall, Keeps, CodeBegins, CellsAreThere, PointersAreThere, AccessesAreAllowed, history_of, IsLockCheck, LacksLock, is_below, yes}, TurnAt.{turn_at, told_at}, Consists.{Consists, consists_then, own_turn, at_first}, Lists.Newest, Rules.{pushed, newest, newest_now}, Holding.{cell_eq, holds_in, holds_other, holds_own}, Mutexless.{mutex_said, not_locked}, Locked.{IsIn, all_in, Names, names_one, names_cell, one_place}, Locking.{cell_refl, is_own, is_others, word_is, lock_event, unlock_event, log_then}, Outcomes.{reports, halts}, Sole.stop_none, Carried.{put_same, put_other}}
+use Rattle.sharc_history_laws.proofs.{Imports.{◌≡◌, ℕ, zero, suc, ◌+◌, ◌<◌, ◌⊎◌, inl, inr, Bool, true, false, not, cond, ◌||◌, ◌&&◌, length, List, [], ◌∷◌, ◌++◌, reverse, Option, Some, None, is_some, if◌then◌else◌, refl, sym, ap, ◌∙◌, subst, ⊎_elim, arith, eqb-true, cases_eq, nat_tests, nat_lt, ◌==◌, Act, SourceEvent, CellAt, HeldMutex, with_mutex, without, object_of, Code, Cell, Instr, Shape, NoLock, RunLaws, Fits, first_cell, words_of, cell_of, cell_word, Machine, ref, place, object, word, is_held, is_of_null, taken, act, stopped, opening_words, MayStop, turn, after, may_go, Turn, Global, IsRun, MayTurn, after_turn, put, state_now, result_of, opening_of, one_thread, bounds, place_after, said, cell_at, made_cell, said_now, MayFind, IsLock, IsMutex, IsApart, IsFree, table_of, same_cell, is_cell, locks, unlocks, is_of, Targets, Labels, IsWellTyped, IsSmall, Keeps, CodeBegins, CellsAreThere, PointersAreThere, AccessesAreAllowed, history_of, IsLockCheck, LacksLock, is_below, yes, not_true}, TurnAt.{turn_at, told_at}, Consists.{Consists, consists_then, own_turn, at_first}, Lists.Newest, Rules.{pushed, newest, newest_now}, Holding.{cell_eq, holds_in, holds_other, holds_own}, Mutexless.{mutex_said, not_locked}, Locked.{IsIn, all_in, Names, names_one, names_cell, one_place}, Locking.{cell_refl, is_own, is_others, word_is, lock_event, unlock_event, log_then}, Outcomes.{reports, halts}, Sole.stop_none, Carried.{put_same, put_other}}
 
 pub above : (n : ℕ) → (n == 0) ≡ false → 0 < n
 above zero e = absurd (yes e)
@@ -141,13 +141,9 @@ module _ (cell_laws : CellsAreThere) (pointers : PointersAreThere) (rights : Acc
   has_then L old ev e = all_then (λ u (y : Machine). LogHas code s (pushed ev L) u y.own.held) (own_has L (old t) ev e) (λ u ne c is. old u c (sym (others_same ev e L u ne c) ∙ is))
 
   -- ---- a refused check
-  not_held : (b : Bool) → (b ≡ true → ⊥) → b ≡ false
-  not_held true h = absurd (h refl)
-  not_held false h = refl
-
   unheld : (L : Newest) → LogHas code s L one.thread mine → (c : Cell) → IsMutex code s ((place_after code s earlier).threads one.thread) c → is_held ((place_after code s earlier).threads one.thread) (word s ((place_after code s earlier).threads one.thread) c) ≡ false
       → holds_in L one.thread (cell_at code ((place_after code s earlier).threads one.thread) c) ≡ false
-  unheld L old c mutex refused = not_held (holds_in L t (cell_at code m c)) (λ is.
+  unheld L old c mutex refused = not_true (holds_in L t (cell_at code m c)) (λ is.
       let k = old (cell_at code m c) is in
       let at = k.2.0 in
       let q : at ≡ place m c = one_place code (cell_at code m c).object (cell_at code m c).cell k.0.object (object m c) at (place m c) k.2.2 (names_cell code m c mutex.there) in
@@ -156,7 +152,7 @@ module _ (cell_laws : CellsAreThere) (pointers : PointersAreThere) (rights : Acc
 
   unheld_pending : (L : Newest) → LogHas code s L one.thread mine → (n : ℕ) → IsApart s mine n (cell_of n 0) → is_held ((place_after code s earlier).threads one.thread) (cell_word s (cell_of n 0)) ≡ false
       → holds_in L one.thread (made_cell n 0) ≡ false
-  unheld_pending L old n apart refused = not_held (holds_in L t (made_cell n 0)) (λ is.
+  unheld_pending L old n apart refused = not_true (holds_in L t (made_cell n 0)) (λ is.
       let k = old (made_cell n 0) is in
       let q = k.2.2.2 in
       let inside : nat_lt (first_cell s + cell_of n 0) (words_of s) ≡ true = is_below (first_cell s + cell_of n 0) (words_of s) apart.inside in

@@ -1,5 +1,5 @@
 -- Each note in the access table of a thread is of a check that the thread made in the run, and that passed.
-use Rattle.sharc_history_laws.proofs.{Imports.{◌≡◌, ℕ, zero, suc, ◌+◌, ◌⊎◌, inl, inr, Bool, true, false, List, [], ◌∷◌, Some, None, is_some, if◌then◌else◌, refl, sym, ap, ◌∙◌, subst, ⊎_elim, cases_eq, get_or-set_other, slice_index, slice_index_or, slice_set, replicate, Kind, Read, Write, Note, GranuleNotes, blank, of_kind, note_of, site_at, epoch_of, bits_of, conflicts_in, noted, WordOp, Code, Cell, Instr, Shape, Conflict, granules, granule_at, granule_of, shadow_word, Machine, act, place, checked, stopped, with_own, wrote, step_of, opening_words, TurnsComeOut, turn, after, may_go, asked_by, Turn, IsRun, MayTurn, after_turn, put, state_now, result_of, opening_of, one_thread, bounds, place_after, CheckOf, touch_of, site_of_check, IsNoted}, TurnAt.turn_at, Conflicting.granule_same, Consists.found_is, Outcomes.{is_access_check, tabled}, Doing.{set_most as set_at_most}, Carried.{put_same, put_other}}
+use Rattle.sharc_history_laws.proofs.{Imports.{◌≡◌, ℕ, zero, suc, ◌+◌, ◌⊎◌, inl, inr, Bool, true, false, List, [], ◌∷◌, Some, None, is_some, if◌then◌else◌, refl, sym, ap, ◌∙◌, subst, ⊎_elim, cases_eq, get_or-set_other, slice_index, slice_index_or, slice_set, replicate, Kind, Read, Write, Note, GranuleNotes, blank, of_kind, note_of, site_at, epoch_of, bits_of, conflicts_in, noted, WordOp, Code, Cell, Instr, Shape, Conflict, granules, granule_at, granule_of, shadow_word, Machine, act, place, checked, stopped, with_own, wrote, step_of, TurnsComeOut, turn, after, may_go, asked_by, Turn, MayTurn, after_turn, put, state_now, result_of, one_thread, bounds, place_after, CheckOf, touch_of, site_of_check, IsNoted}, TurnAt.{turn_at, RunOf}, Conflicting.granule_same, Consists.found_is, Outcomes.{is_access_check, tabled}, Doing.{set_most as set_at_most}, Carried.{put_same, put_other}}
 use Rattle.sharc_heap.specs.{Notes.with_note, Accesses.Accesses}
 use Rattle.sharc_code.specs.Machine as machines
 
@@ -38,10 +38,7 @@ blank_none Write note e = let f : None ≡ Some note = e in cc
 
 -- ---- runs
 module _ (outs : TurnsComeOut) (code : Code) (s : Shape) where
-  abbrev RunOf : List Turn → Type 0
-  RunOf run = IsRun bounds (one_thread code s) (opening_of bounds (one_thread code s) (opening_words code s)) run
-
-  module _ (one : Turn) (earlier : List Turn) (run : RunOf (one ∷ earlier)) (p : ℕ) (kind : Kind) (note : Note) where
+  module _ (one : Turn) (earlier : List Turn) (run : RunOf code s (one ∷ earlier)) (p : ℕ) (kind : Kind) (note : Note) where
     open turn_at code s (place_after code s earlier) one use {g, m, i, found}
 
     may : MayTurn bounds (one_thread code s) (place_after code s earlier) one
@@ -119,7 +116,7 @@ module _ (outs : TurnsComeOut) (code : Code) (s : Shape) where
     epoch = k.epoch;
   }
 
-  pub notes_told : (run : List Turn) → RunOf run → (j p : ℕ) (kind : Kind) (note : Note) → note_of ((place_after code s run).threads j).own.table p kind ≡ Some note → IsNoted code s run j p kind note
+  pub notes_told : (run : List Turn) → RunOf code s run → (j p : ℕ) (kind : Kind) (note : Note) → note_of ((place_after code s run).threads j).own.table p kind ≡ Some note → IsNoted code s run j p kind note
   notes_told [] run j p kind note is = absurd (blank_none kind note (ap (of_kind kind) (sym (blank_at (granules s) p)) ∙ is))
   notes_told (one ∷ earlier) run j p kind note is =
       let g = place_after code s earlier in

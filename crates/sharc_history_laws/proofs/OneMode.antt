@@ -64,16 +64,11 @@ module _ (cell_laws : CellsAreThere) (x : Targets) (code : Code) (s : Shape) (ls
       let same : ref m is.0 ≡ refs q = same_refs x code s ls wt fits g world st t on hold is.0 q is.2 ∙ reads q in
       let nz : refs q ≢ 0 = λ z. known_ref x code s ls wt fits g world st t on hold a base (same_refs x code s ls wt fits g world st t on hold a q cell.1 ∙ reads q ∙ z) in
       through_mode at is.0 j (refs q) mode is.1 same nz
-  lock_mode_is at r (Through q j) (Cell.Global g' p) mode cell base is = absurd cell
-  lock_mode_is at r (Through q j) (Cell.GlobalAt g' i) mode cell base is = absurd cell
-  lock_mode_is at r (Through q j) (Cell.ObjectAt a i) mode cell base is = absurd cell
   lock_mode_is at r (Self j) (Cell.Object a i) mode cell base is =
       let same : ref m is.0 ≡ refs r = same_refs x code s ls wt fits g world st t on hold is.0 r is.2 ∙ reads r in
       let nz : refs r ≢ 0 = λ z. known_ref x code s ls wt fits g world st t on hold a base (same_refs x code s ls wt fits g world st t on hold a r cell.1 ∙ reads r ∙ z) in
       through_mode at is.0 j (refs r) mode is.1 same nz
-  lock_mode_is at r (Self j) (Cell.Global g' p) mode cell base is = absurd cell
-  lock_mode_is at r (Self j) (Cell.GlobalAt g' i) mode cell base is = absurd cell
-  lock_mode_is at r (Self j) (Cell.ObjectAt a i) mode cell base is = absurd cell
+  lock_mode_is at r _ _ mode cell base is = absurd cell
 
   -- of the object in a register
   type_is : (r : ℕ) (ty : StaticType) → here.env r ≡ Refers ty → ref (g.threads t) r ≢ 0 → (world.obj (ref (g.threads t) r)).ty ≡ type_of refs (refs r) ty

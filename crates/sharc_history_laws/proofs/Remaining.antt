@@ -1,5 +1,5 @@
 -- What remains of checks in shadow words, access tables and stops: why a bit and the written bit stand.
-use Rattle.sharc_history_laws.proofs.{Imports.{◌≡◌, ℕ, suc, ◌+◌, ◌*◌, ◌/◌, ◌<◌, ◌≤◌, ◌⊎◌, inl, inr, Bool, true, false, not, ◌&&◌, Option, Some, None, is_some, if◌then◌else◌, refl, sym, ap, ◌∙◌, subst, ⊎_elim, arith, cases_eq, or_right, not_true as unset, slice_index, ◌==◌, Kind, Read, Write, Note, note_of, site_at, conflicts_in, ShadowLaws, epoch_of, is_write, is_written, stands, AddsAccess, Conflicts, WithdrawsWord, Code, Cell, Instr, Shape, ConflictAt, Conflict, Fits, granules, first_shadow, granule_at, granule_of, Machine, instr_at, place, wrote, stopped, with_own, TurnsComeOut, check_of, Turn, Global, MayTurn, after_turn, state_now, one_thread, bounds, Touch, Untouched, CheckOf, ClearOf, WithdrawOf, Passed, Labels, CellsAreThere, touch_at, State, StageStands, OnHold, object_of_cell, number_in, IsWellTyped, Fine, HasCell, Targets, Field, note_number, noted_by, World, same_is, ne_of, eq_of, and_left, or_split as or_cases, yes}, TurnAt.{turn_at, turn_stands}, Doing.{Does, Plain, Passes, Refuses, IsCheckAt, IsNoCheck, site_still, site_new, note_from, does}, Shadows.{IsNext, WordBy, word_by, at_low}, Single.rests_hold, Stands.there, Withdrawing.{has_left, Noted, leaving}, Threaded.or_left, Carried.put_other}
+use Rattle.sharc_history_laws.proofs.{Imports.{◌≡◌, ℕ, suc, ◌+◌, ◌*◌, ◌/◌, ◌<◌, ◌≤◌, ◌⊎◌, inl, inr, Bool, true, false, not, ◌&&◌, Option, Some, None, is_some, if◌then◌else◌, refl, sym, ap, ◌∙◌, subst, ⊎_elim, arith, cases_eq, or_right, not_true as unset, slice_index, ◌==◌, Kind, Read, Write, Note, note_of, site_at, conflicts_in, ShadowLaws, epoch_of, is_write, is_written, stands, AddsAccess, Conflicts, WithdrawsWord, Code, Cell, Instr, Shape, ConflictAt, Conflict, Fits, granules, first_shadow, granule_at, granule_of, Machine, instr_at, place, wrote, stopped, with_own, TurnsComeOut, check_of, Turn, Global, MayTurn, after_turn, state_now, one_thread, bounds, Touch, Untouched, CheckOf, ClearOf, WithdrawOf, Passed, Labels, CellsAreThere, touch_at, State, StageStands, OnHold, object_of_cell, number_in, IsWellTyped, Fine, HasCell, Targets, Field, note_number, noted_by, World, same_is, ne_of, eq_of, and_left, or_split as or_cases, yes, and_right, and_from as and_both, not_from_false as not_no, not_yes}, TurnAt.{turn_at, turn_stands}, Doing.{Does, Plain, Passes, Refuses, IsCheckAt, IsNoCheck, site_still, site_new, note_from, does}, Shadows.{IsNext, WordBy, word_by, at_low}, Single.rests_hold, Stands.there, Withdrawing.{has_left, Noted, leaving}, Threaded.or_left, Carried.put_other}
 use Rattle.sharc_heap.specs.ShadowWord.{is_of}
 use Rattle.sharc_code.specs.Machine as machines
 
@@ -46,23 +46,6 @@ pub record Remains (s : Shape) (g : Global Machine) : Type 0 where
   -- after a first refused write the written bit stands on, and no thread that has passed a check of a write is there
   pub first : (k p : ℕ) (d : ConflictAt) → StoppedAt g k p d → IsFirst d → (is_written (word_at g p) ≡ true) × ((u : ℕ) → noted_by (g.threads u) Write p ≡ suc (epoch_of (word_at g p)) → ⊥)
   pub left : (k p : ℕ) → p < granules s → stands (word_at g p) k ≡ true → has_left (g.threads k) p ≡ false
-
--- ---- booleans
-pub and_right : (a b : Bool) → (a && b) ≡ true → b ≡ true
-and_right true b e = e
-and_right false b e = absurd (yes (sym e))
-
-and_both : (a b : Bool) → a ≡ true → b ≡ true → (a && b) ≡ true
-and_both true b p q = q
-and_both false b p q = absurd (yes (sym p))
-
-not_no : (b : Bool) → b ≡ false → not b ≡ true
-not_no false e = refl
-not_no true e = absurd (yes e)
-
-not_yes : (b : Bool) → not b ≡ true → b ≡ false
-not_yes false e = refl
-not_yes true e = absurd (yes (sym e))
 
 -- ---- notes
 pub some_site : (o : Option Note) (e z : ℕ) → site_at o e ≡ Some z → (n : Note) × (o ≡ Some n) × (n.epoch ≡ e)

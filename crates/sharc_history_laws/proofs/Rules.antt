@@ -1,5 +1,5 @@
 -- Each access of a run of typed code is to a live object, by its owner where the cell is private, and no write under mode readonly.
-use Rattle.sharc_history_laws.proofs.{Imports.{◌≡◌, ℕ, ◌^◌, ◌<◌, ◌≢◌, ◌⊎◌, inl, inr, Bool, true, false, ◌||◌, List, [], ◌∷◌, reverse, Option, Some, None, refl, sym, ap, ◌∙◌, subst, ⊎_elim, arith, cases_eq, nat_tests, ◌==◌, SourceEvent, CellMode, Object, NewStage, Code, Cell, Instr, Shape, Stage, Makes, Uncounts, RunLaws, Fits, Machine, ref, opening_words, Said, Turn, Global, IsRun, MayTurn, after_turn, put, result_of, with_told, opening_of, one_thread, bounds, place_after, Erase, said, cell_at, place_at, said_now, told_in, table_of, Access, makes, gives, frees, begins, is_number, made_by, given_by, History, IsAccess, is_owner, Targets, Field, FieldMode, field_in, mode_in, Labels, IsWellTyped, ObjectState, World, CanBy, lang_of, CellIsThere, objects_behind, made_behind, new_behind, freed_behind, objects_now, owned, gone, type_held, IsSmall, OnHold, object_of_cell, number_in, IsOn, Keeps, CodeBegins, CellsAreThere, PointersAreThere, AccessesAreAllowed, history_of, same_is as eq_refl}, TurnAt.{turn_at, told_at, turn_stands}, Single.{single, rests_hold}, Stands.{live_low, known_ref, there, live_ref, sole_ref}, Tables.{header_at, header_in, header_of, was_live}, Consists.{Consists, consists_then, objects_then, given, header_built, built_low}, Acts.{access_said, thread_said, given_at, freed_in, freed_at, About, about, AreLow, no_access, access_at, IsAccess as TellsAccess, access_of}, Told.is_access, Lists.{Newest, EachAccess, no_event, each_push, live_in, owned_in, is_live_in, owned_is, live_made, live_other, owned_begun, owned_other}, Modes.{private_field, readonly_field}, Carried.{put_same, put_other}}
+use Rattle.sharc_history_laws.proofs.{Imports.{◌≡◌, ℕ, ◌^◌, ◌<◌, ◌≢◌, ◌⊎◌, inl, inr, Bool, true, false, ◌||◌, List, [], ◌∷◌, reverse, Option, Some, None, refl, sym, ap, ◌∙◌, subst, ⊎_elim, arith, cases_eq, nat_tests, ◌==◌, SourceEvent, CellMode, Object, NewStage, Code, Cell, Instr, Shape, Stage, Makes, Uncounts, RunLaws, Fits, Machine, ref, opening_words, Said, Turn, Global, IsRun, MayTurn, after_turn, put, result_of, with_told, opening_of, one_thread, bounds, place_after, Erase, said, cell_at, place_at, said_now, told_in, table_of, Access, makes, gives, frees, begins, is_number, made_by, given_by, History, IsAccess, is_owner, Targets, Field, FieldMode, field_in, mode_in, Labels, IsWellTyped, ObjectState, World, CanBy, lang_of, CellIsThere, objects_behind, made_behind, new_behind, freed_behind, objects_now, owned, gone, type_held, IsSmall, OnHold, object_of_cell, number_in, IsOn, Keeps, CodeBegins, CellsAreThere, PointersAreThere, AccessesAreAllowed, history_of, same_is as eq_refl, or_left, or_right, or_no}, TurnAt.{turn_at, told_at, turn_stands}, Single.{single, rests_hold}, Stands.{live_low, known_ref, there, live_ref, sole_ref}, Tables.{header_at, header_in, header_of, was_live}, Consists.{Consists, consists_then, objects_then, given, header_built, built_low}, Acts.{access_said, thread_said, given_at, freed_in, freed_at, About, about, AreLow, no_access, access_at, IsAccess as TellsAccess, access_of}, Told.is_access, Lists.{Newest, EachAccess, no_event, each_push, live_in, owned_in, is_live_in, owned_is, live_made, live_other, owned_begun, owned_other}, Modes.{private_field, readonly_field}, Carried.{put_same, put_other}}
 use Rattle.sharc_meaning.specs.{Events.freed_by, Obeys.IsThere}
 
 -- ---- numbers of objects
@@ -9,6 +9,11 @@ number_yes n = let e : (n == n) ≡ true = grind (arith, nat_tests) in e
 pub number_not : (n : ℕ) (o : Option ℕ) → (o ≡ Some n → ⊥) → is_number n o ≡ false
 number_not n None h = refl
 number_not n (Some k) h = let ne : n ≡ k → ⊥ = λ e. h (ap (λ j. Some j) (sym e)) in let e : (n == k) ≡ false = grind (arith, nat_tests) in e
+
+-- an event makes no object but the one that its turn makes
+pub makes_none : (c : Object) (header : Option ℕ) (e : SourceEvent) → made_by e e.act ≡ header → ((n : ℕ) → c ≡ Object.Made n → header ≡ Some n → ⊥) → makes c e ≡ false
+makes_none (Object.Global q) header e made unmade = refl
+makes_none (Object.Made n) header e made unmade = number_not n (made_by e e.act) (λ q. unmade n refl (sym made ∙ q))
 
 -- ---- objects after a turn
 module _ (ls : Labels) (t : ℕ) (m m' : Machine) (f : ℕ → ObjectState) (n : ℕ) where
@@ -192,18 +197,6 @@ module _ (cell_laws : CellsAreThere) (pointers : PointersAreThere) (rights : Acc
           let o : (obj n).owner ≡ e.thread = ap (λ (y : ObjectState). y.owner) at_n ∙ owner ∙ sym thread_is in
           ap (owned_in (e ∷ L) n) o ∙ owned_begun e L n begun ∙ eq_refl e.thread
 
-      or_left : (a b : Bool) → a ≡ true → (a || b) ≡ true
-      or_left true b e = refl
-      or_left false b e = cc
-
-      or_right : (a b : Bool) → b ≡ true → (a || b) ≡ true
-      or_right true b e = refl
-      or_right false b e = e
-
-      or_false : (a b : Bool) → a ≡ false → b ≡ false → (a || b) ≡ false
-      or_false true b e f = e
-      or_false false b e f = f
-
       owner_still : owned_in (e ∷ L) n (obj n).owner ≡ true
       owner_still = ⊎_elim
           (λ (made : header_of i m.own.stage ≡ Some n). mine (or_left (makes (Object.Made n) e) (gives (Object.Made n) e) (make_yes made)) (ap (λ (o : ObjectState). o.owner) (made_owned ls t m m' world.obj n i made).1))
@@ -212,7 +205,7 @@ module _ (cell_laws : CellsAreThere) (pointers : PointersAreThere) (rights : Acc
           (λ (not : given_at i m ≡ Some n → ⊥).
           let same : obj n ≡ world.obj n = at_n ∙ same_behind ls t m m' world.obj n i never not unfreed in
           ap (λ (y : ObjectState). owned_in (e ∷ L) n y.owner) same
-          ∙ owned_other e L n (world.obj n).owner (or_false (makes (Object.Made n) e) (gives (Object.Made n) e) (make_no never) (give_no not))
+          ∙ owned_other e L n (world.obj n).owner (or_no (makes (Object.Made n) e) (gives (Object.Made n) e) (make_no never) (give_no not))
           ∙ old.owner n nz (before never))
           (decide (given_at i m) n))
           (decide (header_of i m.own.stage) n)

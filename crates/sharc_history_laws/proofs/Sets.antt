@@ -1,5 +1,5 @@
 -- Access sets by a history with its newest event first.
-use Rattle.sharc_history_laws.proofs.{Imports.{◌≡◌, ℕ, ◌≢◌, Bool, true, false, ◌||◌, ◌&&◌, cond, [], ◌∷◌, ◌++◌, reverse, refl, sym, ap, ◌∙◌, subst, ⊎_elim, ◌⊎◌, inl, inr, if◌then◌else◌, list_any, SourceEvent, Dynamic, Object, Access, granule_in as granule_of, begins, is_of, events_of, History, IsAccess, AccessSet, until_return, ends, ReadSharedOrOwn}, Lists.{Newest, Split, Last, Earlier, split, reverse_push}}
+use Rattle.sharc_history_laws.proofs.{Imports.{◌≡◌, ℕ, ◌≢◌, Bool, true, false, ◌||◌, ◌&&◌, cond, [], ◌∷◌, ◌++◌, reverse, refl, sym, ap, ◌∙◌, subst, ⊎_elim, ◌⊎◌, inl, inr, if◌then◌else◌, list_any, SourceEvent, Dynamic, Object, Access, granule_in as granule_of, begins, is_of, events_of, History, IsAccess, AccessSet, until_return, ends, ReadSharedOrOwn, or_first, or_parts}, Lists.{Newest, Split, Last, Earlier, split, reverse_push}}
 
 -- the event is an access of mode dynamic to that granule, by this thread, and a write or not
 pub record IsHere (e : SourceEvent) (o : Object) (granule t : ℕ) (write : Bool) : Type 0 where
@@ -20,19 +20,11 @@ InSet [] o granule t write = ⊥
 InSet (e ∷ L) o granule t write = IsHere e o granule t write ⊎ ((begins o e ≡ false) × Goes e t × InSet L o granule t write)
 
 pub any_append : (test : SourceEvent → Bool) (xs : History) (e : SourceEvent) → list_any test (xs ++ e ∷ []) ≡ false → (list_any test xs ≡ false) × (test e ≡ false)
-any_append test [] e h = (refl, or_first (test e) h)
-  where
-    or_first : (a : Bool) → (a || false) ≡ false → a ≡ false
-    or_first true h = h
-    or_first false h = h
+any_append test [] e h = (refl, or_first (test e) false h)
 any_append test (y ∷ ys) e h =
-    let k = both (test y) (list_any test (ys ++ e ∷ [])) h in
+    let k = or_parts (test y) (list_any test (ys ++ e ∷ [])) h in
     let r = any_append test ys e k.1 in
     (ap (λ b. b || list_any test ys) k.0 ∙ r.0, r.1)
-  where
-    both : (a b : Bool) → (a || b) ≡ false → (a ≡ false) × (b ≡ false)
-    both true b h = absurd (let f : true ≡ false = h in cc)
-    both false b h = (refl, h)
 
 pub own_append : (t : ℕ) (xs : History) (e : SourceEvent) → events_of t (xs ++ e ∷ []) ≡ (if is_of t e then events_of t xs ++ e ∷ [] else events_of t xs)
 own_append t [] e = elim (is_of t e) as (λ b. is_of t e ≡ b → cond b (e ∷ []) [] ≡ (if b then e ∷ [] else [])) [ true ↦ λ q. refl | false ↦ λ q. refl ] refl

@@ -1,5 +1,5 @@
 -- A thread that stopped at a test of a sole reference found the number of references to its object, of which there is another one.
-use Rattle.sharc_history_laws.proofs.{Imports.{◌≡◌, ℕ, zero, suc, ◌+◌, ◌*◌, ◌<◌, ◌≤◌, ◌⊎◌, inl, inr, true, false, List, [], ◌∷◌, Option, Some, None, is_some, if◌then◌else◌, refl, sym, ap, ◌∙◌, subst, ⊎_elim, arith, eqb-true, cases_eq, nat_eq, slice_index, THREADS, test_of, FRAMES, Code, Shape, Stop, NotSole, Fits, granules, words_of, count_word, Machine, instr_at, act, ref, opening_words, TurnsComeOut, MayStop, turn, after, may_go, most_refs, asked_by, Turn, Global, IsRun, MayTurn, after_turn, put, state_now, result_of, opening_of, one_thread, bounds, place_after, Instr, one, sum_to, Targets, Labels, IsWellTyped, Fine, ObjectState, argument_of, IsSmall, StageStands, first_world, first_place, objects_after, register_refers, log_refers, hand_refers, cell_refers, references_to, RunsTest, TestStands, OtherReference, InRegister, InArgument, InLog, InHand, InCell, FindsOthers, yes}, TurnAt.turn_at, Consists.{Consists, found_is}, Outcomes.reports, Single.rests_hold, Stands.known_ref, Carried.{put_same, put_other}}
+use Rattle.sharc_history_laws.proofs.{Imports.{◌≡◌, ℕ, zero, suc, ◌+◌, ◌*◌, ◌<◌, ◌≤◌, ◌⊎◌, inl, inr, true, false, List, [], ◌∷◌, Option, Some, None, is_some, if◌then◌else◌, refl, sym, ap, ◌∙◌, subst, ⊎_elim, arith, eqb-true, cases_eq, nat_eq, slice_index, THREADS, test_of, FRAMES, Code, Shape, Stop, NotSole, Fits, granules, words_of, count_word, Machine, instr_at, act, ref, opening_words, TurnsComeOut, MayStop, turn, after, may_go, most_refs, asked_by, Turn, Global, IsRun, MayTurn, after_turn, put, state_now, result_of, opening_of, one_thread, bounds, place_after, Instr, one, sum_to, Targets, Labels, IsWellTyped, Fine, ObjectState, argument_of, IsSmall, StageStands, first_world, first_place, objects_after, register_refers, log_refers, hand_refers, cell_refers, references_to, RunsTest, TestStands, OtherReference, InRegister, InArgument, InLog, InHand, InCell, FindsOthers, yes}, TurnAt.{turn_at, RunOf}, Consists.{Consists, found_is}, Outcomes.reports, Single.rests_hold, Stands.known_ref, Carried.{put_same, put_other}}
 
 -- ---- sums
 some_of : (n : ℕ) (f : ℕ → ℕ) → ((i : ℕ) × (i < n) × (1 ≤ f i)) ⊎ (sum_to n f ≡ 0)
@@ -122,11 +122,8 @@ stop_none (Some w) h = absurd (h refl)
 module _ (outs : TurnsComeOut) (tests : RunsTest) (x : Targets) (code : Code) (s : Shape) (ls : Labels) (wt : IsWellTyped x code ls) (fits : Fits code s) (few : IsSmall code s)
     (all : (run : List Turn) → IsRun bounds (one_thread code s) (opening_of bounds (one_thread code s) (opening_words code s)) run → Halting code s run)
     (each : (run : List Turn) → IsRun bounds (one_thread code s) (opening_of bounds (one_thread code s) (opening_words code s)) run → Consists x code s ls run) where
-  abbrev RunOf : List Turn → Type 0
-  RunOf run = IsRun bounds (one_thread code s) (opening_of bounds (one_thread code s) (opening_words code s)) run
-
   -- the turn that stopped the thread
-  module _ (one : Turn) (earlier : List Turn) (run : RunOf (one ∷ earlier)) (site count : ℕ) (is : (after (turn code s ((place_after code s earlier).threads one.thread)) (result_of one.event)).own.stop ≡ Some (NotSole site count)) where
+  module _ (one : Turn) (earlier : List Turn) (run : RunOf code s (one ∷ earlier)) (site count : ℕ) (is : (after (turn code s ((place_after code s earlier).threads one.thread)) (result_of one.event)).own.stop ≡ Some (NotSole site count)) where
     open turn_at code s (place_after code s earlier) one use {g, m}
 
     may : MayTurn bounds (one_thread code s) (place_after code s earlier) one
@@ -201,7 +198,7 @@ module _ (outs : TurnsComeOut) (tests : RunsTest) (x : Targets) (code : Code) (s
     counts = k.counts;
   }
 
-  pub casts_show : (run : List Turn) → RunOf run → (t site count : ℕ) → ((place_after code s run).threads t).own.stop ≡ Some (NotSole site count) → FindsOthers x code s ls run t site count
+  pub casts_show : (run : List Turn) → RunOf code s run → (t site count : ℕ) → ((place_after code s run).threads t).own.stop ≡ Some (NotSole site count) → FindsOthers x code s ls run t site count
   casts_show [] run t site count is = absurd (let f : None ≡ Some (NotSole site count) = is in cc)
   casts_show (one ∷ earlier) run t site count is =
       let g = place_after code s earlier in

@@ -1,5 +1,5 @@
 -- What the state words say wherever a run is.
-use Rattle.sharc_history_laws.proofs.{Imports.{◌≡◌, ℕ, ◌+◌, ◌%◌, ◌^◌, ◌<◌, ◌≤◌, ◌⊎◌, Bool, true, false, ◌||◌, ◌&&◌, List, [], ◌∷◌, Option, Some, None, refl, sym, ap, ◌∙◌, subst, ⊎_elim, inl, inr, arith, cases_eq, or_right, or_left, nat_tests, get_or-set_other, get_or-map-range_with_len, nat_eq, nat_lt, nat_le, ◌==◌, slice_index, THREADS, WordStep, WordEvent, word_after, words_after_step, WordOp, Code, Shape, TurnState, Tries, Stopped, Ended, state_word, next_thread_word, words_of, Machine, StepTurn as Act, step_of as step_at, opening_words, opens_with, opening_cell, first_global, turn, after, asked_by, may_go, counted, Turn, Global, IsRun, put, words_now, result_of, is_started, opening_of, Answered, RunLaws, StandingLaws, drawn_of, one_thread, bounds, place_after, state_of, or_split, not_ended, set_here, set_same}, Places.{sum_to, sum_few, sum_grows, sum_more}, Sorts.{is_ended, LeavesThem, Elsewhere, Plain, Drew, Spawned, Sort, Ordinary, Draws, Starts, Returns, Ends, sorted}, Tells.{Tells, StateChange, Same, Begins, Own, Changes, tells_still}, Carried.{put_same, put_other}}
+use Rattle.sharc_history_laws.proofs.{Imports.{◌≡◌, ℕ, ◌+◌, ◌%◌, ◌^◌, ◌<◌, ◌≤◌, ◌⊎◌, Bool, true, false, ◌||◌, ◌&&◌, List, [], ◌∷◌, Option, Some, None, refl, sym, ap, ◌∙◌, subst, ⊎_elim, inl, inr, arith, cases_eq, or_right, or_left, nat_tests, get_or-set_other, get_or-map-range_with_len, nat_eq, nat_lt, nat_le, ◌==◌, slice_index, THREADS, WordStep, WordEvent, word_after, words_after_step, WordOp, Code, Shape, TurnState, Tries, Stopped, Ended, state_word, next_thread_word, words_of, Machine, StepTurn as Act, step_of as step_at, opening_words, opens_with, opening_cell, first_global, turn, after, asked_by, may_go, counted, Turn, Global, IsRun, put, words_now, result_of, is_started, opening_of, Answered, RunLaws, StandingLaws, drawn_of, one_thread, bounds, place_after, state_of, or_split, not_ended, set_here, set_same, not_true}, Places.{sum_to, sum_few, sum_grows, sum_more}, Sorts.{is_ended, LeavesThem, Elsewhere, Plain, Drew, Spawned, Sort, Ordinary, Draws, Starts, Returns, Ends, sorted}, Tells.{Tells, StateChange, Same, Begins, Own, Changes, tells_still}, Carried.{put_same, put_other}}
 use Rattle.sharc_code.specs.{declared.state.TurnState.TheVariants.Runs, Runs.step_of}
 
 -- ---- words
@@ -266,10 +266,6 @@ module _ (code : Code) (s : Shape) where
 
   at_first : (t : ℕ) → t < THREADS → ((t ≡ 0) × (slice_index opened (state_word t) ≡ 1)) ⊎ ((t ≡ 0 → ⊥) × (slice_index opened (state_word t) ≡ 0))
   at_first t low = ⊎_elim (λ (e : t ≡ 0). inl (e, ap (λ u. slice_index opened (state_word u)) e ∙ first)) (λ (ne : t ≡ 0 → ⊥). inr (ne, others t low ne)) (cases_eq t 0)
-
-  not_true : (b : Bool) → (b ≡ true → ⊥) → b ≡ false
-  not_true true h = absurd (h refl)
-  not_true false h = refl
 
   abbrev from : Global Machine
   from = opening_of bounds (one_thread code s) opened

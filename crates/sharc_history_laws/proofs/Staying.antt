@@ -1,5 +1,5 @@
 -- An object in whose granules bits stand stays, and no event of a turn is about its beginning or its end.
-use Rattle.sharc_history_laws.proofs.{Imports.{◌≡◌, ℕ, ◌+◌, ◌*◌, ◌<◌, ◌≢◌, Bool, true, false, List, ◌∷◌, Option, Some, None, refl, sym, ap, ◌∙◌, subst, ⊎_elim, cases_eq, or_no, Object, SourceEvent, stands, Code, Instr, Shape, Stage, Uncounts, Leaves as Leaving, granules, ref, is_exit, turn, Turn, Global, result_of, paired, told_by, said, Erase, one_thread, place_after, begins, frees, is_number, made_by, given_by, is_gone, Built, Live, Labels, IsOn, State, Targets, cells_of, has_withdrawn, is_ended, World, ObjectState, yes}, TurnAt.turn_at, Acts.{given_at, freed_in, freed_at, About, about}, Cleared.{given_cleared, freed_cleared}, Consists.{Consists, objects_then, header_built}, Leaving.{gone_said, not_gone, leaves_at}, Remaining.word_at, Rules.{same_behind, low_numbers, number_not as number_no}, Tables.{header_of, length_kept}, Wholes.{TheLaws, Typed, RunOf, Whole, fresh_of, next_consists}, Withdrawing.has_left, Writes.writes}
+use Rattle.sharc_history_laws.proofs.{Imports.{◌≡◌, ℕ, ◌+◌, ◌*◌, ◌<◌, ◌≢◌, Bool, true, false, List, ◌∷◌, Option, Some, None, refl, sym, ap, ◌∙◌, subst, ⊎_elim, cases_eq, or_no, Object, SourceEvent, stands, Code, Instr, Shape, Stage, Uncounts, Leaves as Leaving, granules, ref, is_exit, turn, Turn, Global, result_of, paired, told_by, said, Erase, one_thread, place_after, begins, frees, is_number, made_by, given_by, is_gone, Built, Live, Labels, IsOn, State, Targets, cells_of, has_withdrawn, is_ended, World, ObjectState, yes, not_false}, TurnAt.{turn_at, RunOf}, Acts.{given_at, freed_in, freed_at, About, about}, Cleared.{given_cleared, freed_cleared}, Consists.{Consists, objects_then, header_built}, Leaving.{gone_said, not_gone, leaves_at}, Remaining.word_at, Rules.{same_behind, low_numbers, number_not as number_no}, Tables.{header_of, length_kept}, Wholes.{TheLaws, Typed, Whole, fresh_of, next_consists}, Withdrawing.has_left, Writes.writes}
 use Rattle.sharc_meaning.specs.Events.{freed_by}
 
 -- the object of this number, where it is one that was made
@@ -113,12 +113,8 @@ module _ (laws : TheLaws) (x : Targets) (code : Code) (s : Shape) (ls : Labels) 
       pub stays_on : o + 1 + k < granules s → is_gone e.act ≡ true → e.thread ≢ u
       stays_on lt gone mine =
           let q : gone_said (said code i m (result_of one.event) elements) ≡ true = ap gone_said told ∙ gone in
-          let exit : is_exit i ≡ true = some_exit (is_exit i) (λ no. yes (sym q ∙ not_gone code m i (result_of one.event) elements no)) in
+          let exit : is_exit i ≡ true = not_false (is_exit i) (λ no. yes (sym q ∙ not_gone code m i (result_of one.event) elements no)) in
           let at : m.own.stage ≡ Leaving = leaving i refl exit q in
           let left : has_left m (o + 1 + k) ≡ true = ap (λ y. has_withdrawn y m.own.table.order (is_ended m.at.state) (o + 1 + k)) at in
           let thread : u ≡ t = sym mine ∙ of.thread ∙ (st.threads t).has.number in
           yes (sym left ∙ ap (λ u. has_left (g.threads u) (o + 1 + k)) (sym thread) ∙ w.remains.left u (o + 1 + k) lt bit)
-        where
-          some_exit : (b : Bool) → (b ≡ false → ⊥) → b ≡ true
-          some_exit true h = refl
-          some_exit false h = absurd (h refl)

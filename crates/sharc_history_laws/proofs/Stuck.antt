@@ -1,5 +1,5 @@
 -- The event for which a thread waits may not come.
-use Rattle.sharc_history_laws.proofs.{Imports.{◌≡◌, ℕ, ℤ, pos, negsuc, zero, suc, ◌≢◌, ◌⊎◌, inl, inr, Bool, true, false, not, ◌||◌, List, nat_lt, ltb-true, Some, None, if◌then◌else◌, refl, sym, ap, ◌∙◌, subst, ⊎_elim, arith, eqb-true, slice_index, ◌==◌, THREADS, Act, SourceEvent, Resolution, waits_in, Code, Cell, Instr, Shape, Fits, state_word, Machine, instr_at, int, word, Turn, Global, cell_at, asks_for, joins, held_up, CheckedRun, place_after, Waits, Wait, MayCome, is_locked, is_waiter, went, Targets, Labels, IsWellTyped, Fine, IsNotSole, IsSmall, StageStands, IsOn, CellsAreThere, StateStands, AwaitedIsHeld, AwaitedIsNotGone, history_of, act_awaited, yes}, Contents.word_of_cell, Emptying.IsEmptied, Mutual.locked_is, Queued.{waits_by, waiter_is}, Rules.newest, Shared.number_of, Single.rests_hold, Sparing.holds_waiters, Stored.Stored, Unemptied.not_emptied, Woken.Awaited}
+use Rattle.sharc_history_laws.proofs.{Imports.{◌≡◌, ℕ, ℤ, pos, negsuc, zero, suc, ◌≢◌, ◌⊎◌, inl, inr, Bool, true, false, not, ◌||◌, List, nat_lt, ltb-true, Some, None, if◌then◌else◌, refl, sym, ap, ◌∙◌, subst, ⊎_elim, arith, eqb-true, slice_index, ◌==◌, THREADS, Act, SourceEvent, Resolution, waits_in, Code, Cell, Instr, Shape, Fits, state_word, Machine, instr_at, int, word, Turn, Global, cell_at, asks_for, joins, held_up, CheckedRun, place_after, Waits, Wait, MayCome, is_locked, is_waiter, went, Targets, Labels, IsWellTyped, Fine, IsNotSole, IsSmall, StageStands, IsOn, CellsAreThere, StateStands, AwaitedIsHeld, AwaitedIsNotGone, history_of, act_awaited, yes, or_split}, Contents.word_of_cell, Emptying.IsEmptied, Mutual.locked_is, Queued.{waits_by, waiter_is}, Rules.newest, Shared.number_of, Single.rests_hold, Sparing.holds_waiters, Stored.Stored, Unemptied.not_emptied, Woken.Awaited}
 use Rattle.sharc_history_laws.proofs.Placed as Placed
 
 not_zero : (n : ℕ) → not (n == 0) ≡ true → n ≢ 0
@@ -44,17 +44,13 @@ module _ (held_law : AwaitedIsHeld) (gone_law : AwaitedIsNotGone) (state_law : S
   join_may_not : (z : ℤ) (site : ℕ) → held_up (place_after code s run).words ((place_after code s run).threads t).own.number (joins z site) ≡ true → went (history_of code s run) z ≡ false
   join_may_not (pos n) site up = by (nat_lt n THREADS) refl up
     where
-      either : (a b : Bool) → (a || b) ≡ true → (a ≡ true) ⊎ (b ≡ true)
-      either true b e = inl refl
-      either false b e = inr e
-
       by : (b : Bool) → nat_lt n THREADS ≡ b → held_up (place_after code s run).words ((place_after code s run).threads t).own.number (if b then Some (Wait.Join n site) else None) ≡ true → went (history_of code s run) (pos n) ≡ false
       by true lt e =
           let v = slice_index g.words (state_word n) in
           gone_law x code s ls wt fits few run checked n (ltb-true n THREADS lt) (⊎_elim
           (λ (a : (v == 1) ≡ true). inl (eqb-true v 1 a))
           (λ (b : (v == 2) ≡ true). inr (eqb-true v 2 b))
-          (either (v == 1) (v == 2) e))
+          (or_split (v == 1) (v == 2) e))
       by false lt e = absurd (yes (sym e))
   join_may_not (negsuc n) site up = absurd (yes (sym up))
 

@@ -1,5 +1,9 @@
--- One turn, as the lemmas name its parts: machine, instruction, answer and event, and what stands of them in typed code.
-use Rattle.sharc_history_laws.proofs.Imports.{◌∷◌, ℕ, List, Option, SourceEvent, Code, Instr, Shape, Machine, instr_at, Turn, Global, after_turn, result_of, said, speaks_of, one_thread, bounds, place_after, Elements, table_of, ◌≡◌, subst, MayTurn, Targets, Label, Labels, Fine, IsWellTyped, View, view_of, refs_at, World, State, StageStands, IsOn}
+-- One turn, as the lemmas name its parts: machine, instruction, answer, event, and what stands of them in typed code.
+use Rattle.sharc_history_laws.proofs.Imports.{◌∷◌, ℕ, List, Option, SourceEvent, Code, Instr, Shape, Machine, instr_at, Turn, Global, after_turn, result_of, said, speaks_of, one_thread, bounds, place_after, Elements, table_of, ◌≡◌, subst, MayTurn, Targets, Label, Labels, Fine, IsWellTyped, View, view_of, refs_at, World, State, StageStands, IsOn, IsRun, opening_of, opening_words}
+
+-- a run of the code from its opening
+abbrev pub RunOf : Code → Shape → List Turn → Type 0
+RunOf code s run = IsRun bounds (one_thread code s) (opening_of bounds (one_thread code s) (opening_words code s)) run
 
 -- the turn of one thread of all: the thread and its machine, the instruction that it is at, and all after it
 pub record TurnAt : Type 0 where
@@ -48,7 +52,8 @@ thread_at {ls = ls} {g = g} {world = world} st t =
     let view = view_of st.elements world t m in
     record { m = m; here = ls.at m.at.pc; view = view; refs = refs_at view m.at.refs }
 
--- what stands where a thread makes a turn of typed code: it goes on, by its own number, and the invariant's facts of its stage and its place are of the instruction
+-- what stands where a thread makes a turn of typed code: it goes on, by its own number, and what the invariant says of
+-- its stage and of its place is of the instruction
 pub record TurnStands (x : Targets) (code : Code) (s : Shape) (ls : Labels) (g : Global Machine) (world : World) (st : State x code s ls g world) (one : Turn) : Type 0 where
   pub on : IsOn g one.thread
   pub number : (g.threads one.thread).own.number ≡ one.thread

@@ -1,5 +1,5 @@
 -- Each turn of typed code leaves the cells with what the events say that they hold.
-use Rattle.sharc_history_laws.proofs.{Imports.{◌≡◌, ℕ, pos, zero, suc, ◌+◌, ◌*◌, ◌≢◌, ◌⊎◌, inl, inr, Bool, true, false, ◌||◌, List, ◌∷◌, Option, Some, None, refl, sym, ap, ◌∙◌, subst, ⊎_elim, arith, slice_index, WordOp, Act, CellAt, Object, SourceEvent, Resolution, Code, Cell, Instr, Shape, Empties, word_of, RunLaws, Fits, Machine, instr_at, int, ref, word, act, object, turn, asked_by, Turn, Global, MayTurn, after_turn, words_now, said, cell_at, speaks_of, reference, one_thread, bounds, place_after, Elements, table_of, makes, is_cell, is_number, made_by, same_cell, changes, cell_changed, value_left, Targets, Field, Content, Integer, Pointer, field_in, is_pointer, Labels, IsWellTyped, Accesses, HasCell, CellOf, ObjectState, IsSmall, StageStands, OnHold, object_of_cell, number_in, view_of, refs_at, types_at, Keeps, CellsAreThere, PointersAreThere, AccessesAreAllowed, yes, is_clearing}, TurnAt.{turn_at, told_at, turn_stands}, Acts.{given_at, freed_at, About, no_access}, Born.born, Consists.{Consists, consists_then, objects_then, after_set, same_table, headed, live_not_built, header_built}, Contents.{newest_value, value_changed, value_kept, value_held, IsCellOf, content_of, word_of_cell, Contents, one_cell, back_again, fits_in}, Emptying.{IsFreeing, IsEmptied, emptied_then}, Holding.cell_eq, Lists.Newest, Locked.Names, Locking.cell_refl, ModesKept.word_spared, OneMode.{place_of, numbers_now}, Rules.{pushed, about_now, decide, number_yes, number_not, freed_gone}, Shared.number_of, Single.{single, rests_hold}, Sparing.{is_value, spares}, Touches.written_cell, Stands.{live_slot, there, top, rn}, Tables.header_of, Telling.{changed_said, unchanged_said}, Unwritten.writes_single, Values.{Kept, kept}}
+use Rattle.sharc_history_laws.proofs.{Imports.{◌≡◌, ℕ, pos, zero, suc, ◌+◌, ◌*◌, ◌≢◌, ◌⊎◌, inl, inr, Bool, true, false, ◌||◌, List, ◌∷◌, Option, Some, None, refl, sym, ap, ◌∙◌, subst, ⊎_elim, arith, slice_index, WordOp, Act, CellAt, Object, SourceEvent, Resolution, Code, Cell, Instr, Shape, word_of, RunLaws, Fits, Machine, instr_at, int, ref, word, act, object, turn, asked_by, Turn, Global, MayTurn, after_turn, words_now, said, cell_at, speaks_of, reference, one_thread, bounds, place_after, Elements, table_of, makes, is_cell, is_number, made_by, same_cell, changes, cell_changed, value_left, Targets, Field, Content, Integer, Pointer, field_in, is_pointer, Labels, IsWellTyped, Accesses, HasCell, CellOf, ObjectState, IsSmall, StageStands, OnHold, object_of_cell, number_in, view_of, refs_at, types_at, Keeps, CellsAreThere, PointersAreThere, AccessesAreAllowed, yes, or_right}, TurnAt.{turn_at, told_at, turn_stands}, Acts.{given_at, freed_at, About, no_access}, Born.born, Consists.{Consists, consists_then, objects_then, after_set, same_table, headed, live_not_built, header_built}, Contents.{newest_value, value_changed, value_kept, value_held, IsCellOf, content_of, word_of_cell, Contents, one_cell, back_again, fits_in}, Emptying.{IsFreeing, IsEmptied, emptied_then, begins_freeing}, Holding.cell_eq, Lists.Newest, Locked.Names, Locking.cell_refl, ModesKept.word_spared, OneMode.{place_of, numbers_now}, Rules.{pushed, about_now, decide, number_yes, freed_gone, makes_none}, Shared.number_of, Single.{single, rests_hold}, Sparing.{is_value, spares}, Touches.written_cell, Stands.{live_slot, there, top, rn}, Tables.header_of, Telling.{changed_said, unchanged_said}, Unwritten.writes_single, Values.{Kept, kept}}
 use Rattle.sharc_invariant.specs.Words as Words
 use Rattle.sharc_history_laws.proofs.Told as Told
 use Rattle.sharc_history_laws.proofs.Placed as Placed
@@ -105,10 +105,6 @@ module _ (cell_laws : CellsAreThere) (pointers : PointersAreThere) (rights : Acc
         let same : o ≡ n = ap number_of is in
         let zero_word = born laws keeps cell_laws pointers x code s ls wt fits few one earlier h may o (λ z. header_some n made (sym same ∙ z)) (made ∙ ap (λ k. Some k) (sym same)) j cell.inside in
         inl (value_changed r e L c changed ∙ made_zero e e.act n by ∙ sym (held_zero (content_of x code then_.world c) T') ∙ ap (value_held (content_of x code then_.world c) T') (sym zero_word))
-      where
-        or_right : (a b : Bool) → b ≡ true → (a || b) ≡ true
-        or_right true b e = refl
-        or_right false b e = e
 
     -- ---- one that was there
     module _ (was : Kept laws keeps cell_laws pointers x code s ls wt fits few one earlier h may o j) (unmade : (n : ℕ) → c.object ≡ Object.Made n → header_of i ((place_after code s earlier).threads one.thread).own.stage ≡ Some n → ⊥) where
@@ -119,11 +115,7 @@ module _ (cell_laws : CellsAreThere) (pointers : PointersAreThere) (rights : Acc
       old_cell = record { live = was.live; inside = was.inside; named = cell.named }
 
       no_make : (e : SourceEvent) → Tells (Some e) → makes c.object e ≡ false
-      no_make e about = by c.object refl
-        where
-          by : (b : Object) → c.object ≡ b → makes b e ≡ false
-          by (Object.Global q) is = refl
-          by (Object.Made n) is = number_not n (made_by e e.act) (λ q. unmade n is (sym about.makes ∙ q))
+      no_make e about = makes_none c.object (header_of i m.own.stage) e about.makes unmade
 
       -- ---- the turn does not write the cell
       module _ (other : is_cell c changed ≡ false) where
@@ -142,21 +134,9 @@ module _ (cell_laws : CellsAreThere) (pointers : PointersAreThere) (rights : Acc
             let hit : is_cell c changed ≡ true = ap (λ k. is_cell c (source_cell k)) is ∙ ap (λ d. same_cell d (cell_at code m k)) same ∙ cell_refl (cell_at code m k) in
             absurd (yes (sym hit ∙ other))
 
-        is_emptied : (q layout site n all : ℕ) → instr_at code ((place_after code s earlier).threads one.thread).at.pc ≡ Instr.Free q layout site → ((place_after code s earlier).threads one.thread).own.stage ≡ Empties n all → ref ((place_after code s earlier).threads one.thread) q ≡ o
-            → IsFreeing code ((place_after code s earlier).threads one.thread) o
-        is_emptied q layout site n all is at e = record {
-          register = q;
-          layout = layout;
-          site = site;
-          is_free = is;
-          emptying = ap is_clearing at;
-          object = e;
-          on = may.next.runs;
-        }
-
         spared : (slice_index words (word_of_cell code s c) ≡ slice_index (place_after code s earlier).words (word_of_cell code s c)) ⊎ IsFreeing code ((place_after code s earlier).threads one.thread) o
         spared = word_spared (word_of_cell code s c) (IsFreeing code m o) g.words one.event (turn code s m) may.next.asks
-            (spares cell_laws pointers x code s ls wt fits g h.world h.state t on o j was.live was.inside old_value (IsFreeing code m o) not_written is_emptied)
+            (spares cell_laws pointers x code s ls wt fits g h.world h.state t on o j was.live was.inside old_value (IsFreeing code m o) not_written (begins_freeing code m o may.next.runs))
 
         unfreed : freed_at i ((place_after code s earlier).threads one.thread) ≡ Some o → ⊥
         unfreed e = yes (sym cell.live ∙ ap (λ (f : ℕ → ObjectState). (f o).live) (objects_then laws keeps cell_laws pointers x code s ls wt fits few one earlier h may)

@@ -1,5 +1,5 @@
 -- Whoever waits by the events stands where it waits, and the words of conditions have the bits of those who wait.
-use Rattle.sharc_history_laws.proofs.{Imports.{◌≡◌, ℕ, pos, zero, suc, ◌+◌, ◌^◌, ◌<◌, ◌≢◌, ◌⊎◌, inl, inr, Bool, true, false, not, ◌||◌, ◌&&◌, cond, List, ◌∷◌, Option, Some, None, if◌then◌else◌, refl, sym, ap, ◌∙◌, subst, ⊎_elim, arith, eqb-true, cases_eq, not_true, get_or-set_other, slice_index, ◌==◌, THREADS, WordOp, word_after, Act, CellAt, Object, SourceEvent, WaitersLaws, waits_in, lowest_of, without_lowest, Code, Cell, Instr, Shape, Stage, Empties, Links, Wakes, word_of, RunLaws, Fits, Machine, instr_at, int, ref, word, act, signal, is_of_null, step_of, goes, fails, turn, after, asked_by, Turn, Global, MayTurn, after_turn, put, state_now, words_now, said, cell_at, nobody, in_signal, event_at, one_thread, bounds, place_after, is_cell, same_cell, takes_away, Targets, Field, Content, Waiters, field_in, Gate, Closed, Labels, IsWellTyped, Accesses, HasCell, IsNotSole, In, RegisterOf, ObjectState, World, IsSmall, StageStands, EntryStands, OnHold, object_of_cell, number_in, view_of, refs_at, types_at, Keeps, CellsAreThere, PointersAreThere, AccessesAreAllowed, StateStands, WaitsFollow, same_is, ne_of as other_is, yes, is_clearing}, TurnAt.{turn_at, told_at, turn_stands}, Acts.{freed_at, thread_said}, Born.born, Consists.{Consists, consists_then, objects_then, after_set, found_is, headed, live_not_built, header_built}, Contents.{IsCellOf, content_of, word_of_cell, one_cell}, Emptying.{IsFreeing, IsEmptied, emptied_then}, Holding.cell_eq, Lists.Newest, Locking.cell_refl, ModesKept.word_spared, OneMode.{place_of, numbers_now}, Queued.{waits_by, waits_behind, waiter_behind, other_event, no_condition, condition_elsewhere, no_enter, woken_leaves, enterless}, Told.{is_condition, is_enter}, Outcomes.wakes_nobody, Rules.{pushed, about_now, decide, freed_gone}, Shared.number_of, Single.{single, rests_hold}, Sparing.{holds_waiters, spares_cell}, Touches.{is_mutex, waited_cell, written_cell}, Stands.{register_is, live_slot, some_base, there, top, reads_ref}, Tables.header_of, Unemptied.not_emptied, Valued.cell_named, Values.{Kept, kept}, Logged.{above as positive}, Carried.{put_same, put_other}}
+use Rattle.sharc_history_laws.proofs.{Imports.{◌≡◌, ℕ, pos, zero, suc, ◌+◌, ◌^◌, ◌<◌, ◌≢◌, ◌⊎◌, inl, inr, Bool, true, false, not, ◌||◌, ◌&&◌, cond, List, ◌∷◌, Option, Some, None, if◌then◌else◌, refl, sym, ap, ◌∙◌, subst, ⊎_elim, arith, eqb-true, cases_eq, not_true, get_or-set_other, slice_index, ◌==◌, THREADS, WordOp, word_after, Act, CellAt, Object, SourceEvent, WaitersLaws, waits_in, lowest_of, without_lowest, Code, Cell, Instr, Shape, Stage, Links, Wakes, word_of, RunLaws, Fits, Machine, instr_at, int, ref, word, act, signal, is_of_null, step_of, goes, fails, turn, after, asked_by, Turn, Global, MayTurn, after_turn, put, state_now, words_now, said, cell_at, nobody, in_signal, event_at, one_thread, bounds, place_after, is_cell, same_cell, takes_away, Targets, Field, Content, Waiters, field_in, Gate, Closed, Labels, IsWellTyped, Accesses, HasCell, IsNotSole, In, RegisterOf, ObjectState, World, IsSmall, StageStands, EntryStands, OnHold, object_of_cell, number_in, view_of, refs_at, types_at, Keeps, CellsAreThere, PointersAreThere, AccessesAreAllowed, StateStands, WaitsFollow, same_is, ne_of as other_is, yes}, TurnAt.{turn_at, told_at, turn_stands}, Acts.{freed_at, thread_said}, Born.born, Consists.{Consists, consists_then, objects_then, after_set, found_is, headed, live_not_built, header_built}, Contents.{IsCellOf, content_of, word_of_cell, one_cell}, Emptying.{IsFreeing, IsEmptied, emptied_then, begins_freeing}, Holding.cell_eq, Lists.Newest, Locking.cell_refl, ModesKept.word_spared, OneMode.{place_of, numbers_now}, Queued.{waits_by, waits_behind, waiter_behind, other_event, no_condition, condition_elsewhere, no_enter, woken_leaves, enterless}, Told.{is_condition, is_enter}, Outcomes.wakes_nobody, Rules.{pushed, about_now, decide, freed_gone}, Shared.number_of, Single.{single, rests_hold}, Sparing.{holds_waiters, spares_cell}, Touches.{is_mutex, waited_cell, written_cell}, Stands.{register_is, live_slot, some_base, there, top, reads_ref}, Tables.header_of, Unemptied.not_emptied, Valued.cell_named, Values.{Kept, kept}, Logged.{above as positive}, Carried.{put_same, put_other}}
 use Rattle.sharc_meaning.specs.Store.{entered}
 use Rattle.sharc_history_laws.proofs.Placed as Placed
 
@@ -263,21 +263,9 @@ module _ (bits : WaitersLaws) (cell_laws : CellsAreThere) (pointers : PointersAr
             by (Instr.TakeCell q d site) is e = let f = fine (Instr.TakeCell q d site) is in of_field d f.1.0 (held_by (Instr.TakeCell q d site) is refl) f.1.2.cell (cell_is d e) (ap holds_waiters f.1.3.holds)
             by _ is e = cc
 
-        is_emptied : (q layout site n all : ℕ) → i ≡ Instr.Free q layout site → ((place_after code s earlier).threads one.thread).own.stage ≡ Empties n all → ref ((place_after code s earlier).threads one.thread) q ≡ o
-            → Own ⊎ IsFreeing code ((place_after code s earlier).threads one.thread) o
-        is_emptied q layout site n all is at e = inr (record {
-          register = q;
-          layout = layout;
-          site = site;
-          is_free = is;
-          emptying = ap is_clearing at;
-          object = e;
-          on = may.next.runs;
-        })
-
         spared : (slice_index words (word_of_cell code s c) ≡ slice_index (place_after code s earlier).words (word_of_cell code s c)) ⊎ (Own ⊎ IsFreeing code ((place_after code s earlier).threads one.thread) o)
         spared = word_spared (word_of_cell code s c) (Own ⊎ IsFreeing code m o) g.words one.event (turn code s m) may.next.asks
-            (spares_cell cell_laws pointers x code s ls wt fits g h.world h.state t on o j was.live was.inside (no_mutex (content_of x code h.world c) old_holds) (Own ⊎ IsFreeing code m o) not_written is_own is_emptied)
+            (spares_cell cell_laws pointers x code s ls wt fits g h.world h.state t on o j was.live was.inside (no_mutex (content_of x code h.world c) old_holds) (Own ⊎ IsFreeing code m o) not_written is_own (λ q layout site n all is at e. inr (begins_freeing code m o may.next.runs q layout site n all is at e)))
 
         -- ---- the turn changes the waiters of another cell, or of none
         module _ (other : (u : ℕ) (was : Bool) → waits_behind event c u was ≡ was) (never : Own → ⊥) where

@@ -1,6 +1,6 @@
 -- Between two places of a run with the same epoch of a granule, at both of which the bit of a thread stands: the bit stands all along, the object stays,
 -- and no event is about its beginning or its end, or that of the thread.
-use Rattle.sharc_history_laws.proofs.{Imports.{◌≡◌, ℕ, ◌+◌, ◌*◌, ◌<◌, ◌≤◌, ◌≢◌, ◌⊎◌, inl, inr, true, false, List, [], ◌∷◌, ◌++◌, Some, None, sym, ◌∙◌, subst, ⊎_elim, arith, Object, SourceEvent, epoch_of, stands, Code, Shape, granules, Machine, Turn, Global, told_by, Erase, one_thread, place_after, begins, frees, is_gone, Labels, Targets, NothingBetween, yes}, Consists.Consists, Remaining.{word_at, epoch_grows, bit_or_left, left_still}, Staying.{IsObject, stays, nothing, stays_on}, Wholes.{TheLaws, Typed, RunOf, Whole, whole, whole_next, fresh_of}, Withdrawing.has_left}
+use Rattle.sharc_history_laws.proofs.{Imports.{◌≡◌, ℕ, ◌+◌, ◌*◌, ◌<◌, ◌≤◌, ◌≢◌, ◌⊎◌, inl, inr, true, false, List, [], ◌∷◌, ◌++◌, Some, None, sym, ◌∙◌, subst, ⊎_elim, arith, Object, SourceEvent, epoch_of, stands, Code, Shape, granules, Machine, Turn, Global, told_by, Erase, one_thread, place_after, begins, frees, is_gone, Labels, Targets, NothingBetween, yes}, TurnAt.RunOf, Consists.Consists, Remaining.{word_at, epoch_grows, bit_or_left, left_still}, Staying.{IsObject, stays, nothing, stays_on}, Wholes.{TheLaws, Typed, Whole, whole, whole_next, fresh_of}, Withdrawing.has_left}
 
 none_there : (after : List Turn) (turn : Turn) (before : List Turn) → [] ≡ after ++ turn ∷ before → ⊥
 none_there [] turn before e = cc
