@@ -408,7 +408,8 @@ class Expressions(Declarations):
             if found.header:
                 return self.inlined(found, values)
             self.refuse_if(found.name == "main" or found.type.name == "...", f"call of {found.name}")
-            found.called, kind, first = True, found.type, (found,)
+            found.called = True
+            kind, first = found.type, (found,)
         else:
             pointer = self.value(name)
             kind = pointer.type.to if pointer.type.kind == "ptr" else VOID

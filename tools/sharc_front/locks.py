@@ -27,7 +27,9 @@ def in_lines(accesses):
 
 class Locksets:
     def __init__(self, front):
-        self.front, self.threads, self.entry, before = front, set(front.thread_functions()), {}, None
+        self.front = front
+        self.threads = set(front.thread_functions())
+        self.entry, before = {}, None
         self.pointers = {}  # {text of a lock: (class of the pointer to its struct, its name)}
         while before != (self.entry, len(self.threads)):  # until nothing more is known of what callers hold
             before, self.accesses = (self.entry, len(self.threads)), {}
@@ -67,7 +69,9 @@ class Locksets:
             place = place.args[0]
         if tree.op not in PLACES or line.header and not tree.source or place.type.base().kind not in ("int", "ptr"):
             return
-        key, name, prefix, known = (self.function, id(place.source or place)), spelled(place), None, place.args[0]
+        key = self.function, id(place.source or place)
+        name, prefix = spelled(place), None
+        known = place.args[0]
         if place.op == "member":
             struct, member = known.type.name, place.args[1]
             prefix, name = name[: -len(member)], f"struct {struct}.{member}"

@@ -18,12 +18,15 @@ from .tree import NOTHING, Expr, number, variable
 
 class Front(Places):
     def __init__(self, source, words):
-        self.source, self.user, self.arguments_given = source, Names(), [words.file, *words.arguments]
-        self.function, self.here, self.scopes = None, (words.file, 1), ChainMap()
+        self.source, self.user = source, Names()
+        self.arguments_given = [words.file, *words.arguments]
+        self.function, self.here = None, (words.file, 1)
+        self.scopes = ChainMap()
         self.globals, self.functions, self.structs, self.refusals, self.nodes = [], {}, {}, [], []
         self.firsts = []  # (class of &a[0], class of a): a pointer to the array, unless others of its elements have one
         self.tags, self.typedef_names = {}, {}  # by their nodes; in self.scopes they are with a blank before them
-        self.names, self.unions = set(source.words), set()
+        self.names = set(source.words)
+        self.unions = set()
         self.lines, self.loops, self.notes, self.cells, self.locals = [], [], [], 0, 0
         self.pinned, self.bound = False, None  # in a function of the headers: the place of the call, and its argument
         self.out_names, self.text_pool, self.calls_by, self.groups = {}, {}, {}, {}
@@ -32,7 +35,8 @@ class Front(Places):
         self.addressed = addressed_in(source.tree)
         self.global_names = {item.name for item in source.tree.ext if isinstance(item, A.Decl)}
         self.strings = self.declare("strings", "global", array(CHAR, 1), self.here)
-        self.strings.own, self.strings.out = True, self.fresh("strings")
+        self.strings.own = True
+        self.strings.out = self.fresh("strings")
         self.statements(source.tree.ext)
         if not getattr(self.functions.get("main"), "definition", None):
             self.report(Refusal(((words.file, 1), "program without main")))
