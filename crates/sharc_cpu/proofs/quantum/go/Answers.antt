@@ -30,15 +30,3 @@ returns-then-not-runs-clause-within g c = c.stretch-more.ensures.advanced.within
 
 pub returns-then-not-runs-clause-prints : goal.returns-then-not-runs-clause-prints
 returns-then-not-runs-clause-prints g c = omega (arith, c.loop-turn.invariant.advanced.prints, c.stretch-more.ensures.advanced.prints)
-
-pub overflow_sub-turns : goal.overflow_sub-turns
-overflow_sub-turns g c = omega (arith, c.loop-turn.invariant.advanced.few)
-
-pub overflow_add-result : goal.overflow_add-result
-overflow_add-result g c = omega (arith, c.loop-turn.invariant.advanced.few, c.stretch-more.ensures.advanced.few, c.ranges.turns)
-
-pub overflow_add-result-then-not-runs : goal.overflow_add-result-then-not-runs
-overflow_add-result-then-not-runs g c = omega (arith, c.stretch-more.ensures.advanced.events, c.loop-turn.invariant.advanced.few, c.stretch-more.ensures.advanced.few, c.ranges.turns)
-
-pub overflow_add-turn : goal.overflow_add-turn
-overflow_add-turn g c = omega (arith, c.loop-turn.invariant.advanced.few, c.stretch-more.ensures.advanced.few, c.ranges.turns)
