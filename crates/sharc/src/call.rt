@@ -1,10 +1,8 @@
 //! The exit code of the top call.
 
-ghost use Rattle.std.specs.Prelude.{◌≡◌, ◌⊎◌, map, string_bytes, IfOk, OnErr};
-ghost use Rattle.std.specs.Process.{exit_status};
+ghost use Rattle.std.specs.{Prelude.{◌≡◌, ◌⊎◌, map, string_bytes, IfOk, OnErr}, Process.exit_status};
 ghost use Rattle.sharc_io.specs.Causes.{Rose, EitherRose};
-ghost use Rattle.sharc_top.specs.Reply.{ReadsInput, Replied, RepliedInPart};
-ghost use Rattle.sharc_top.specs.Status.{IsOfReply, IsOfSilence};
+ghost use Rattle.sharc_top.specs.{Reply.{ReadsInput, Replied, RepliedInPart}, Status.{IsOfReply, IsOfSilence}};
 
 use sharc_io::{Sink, Source};
 use sharc_rounds::Gate;

@@ -1,9 +1,8 @@
 // The laws, each the contract of a function with calls of other laws alone.
 
-ghost use Rattle.sharc_accepted_laws.specs.Accepted.{AcceptedIsTyped, GlobalsAreNamed};
-ghost use Rattle.sharc_accepted_laws.specs.Cells.{CellsAreTyped};
-ghost use Rattle.sharc_accepted_laws.specs.Expressions.{ExpressionsAreTypable};
-ghost use Rattle.sharc_accepted_laws.specs.Programs.{CodeIsSet, ProgramsAreTypable};
+ghost use Rattle.sharc_accepted_laws.specs.{Accepted.{AcceptedIsTyped, GlobalsAreNamed}, Cells.CellsAreTyped};
+ghost use Rattle.sharc_accepted_laws.specs.{Expressions.ExpressionsAreTypable, Programs.CodeIsSet};
+ghost use Rattle.sharc_accepted_laws.specs.Programs.{ProgramsAreTypable};
 
 use crate::accesses::{bases_stand, firsts_fit, lvalues_are_typed, paths_lead};
 use crate::references::{

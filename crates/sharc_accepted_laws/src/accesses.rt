@@ -1,10 +1,8 @@
 // The laws, each the contract of a function that does nothing.
 
-ghost use Rattle.sharc_accepted_laws.specs.Accesses.{CellsStand, AccessesFit, GuardsFit};
-ghost use Rattle.sharc_accepted_laws.specs.AccessFirsts.{FirstsFit};
+ghost use Rattle.sharc_accepted_laws.specs.{Accesses.{CellsStand, AccessesFit, GuardsFit}, AccessFirsts.FirstsFit};
 ghost use Rattle.sharc_accepted_laws.specs.Joined.{IntegersFit, ReferencesFit, MutexesFit, GroundsFit};
-ghost use Rattle.sharc_accepted_laws.specs.Paths.{MutexesBehind, PathsLead};
-ghost use Rattle.sharc_accepted_laws.specs.Typed.{BasesStand, LvaluesAreTyped};
+ghost use Rattle.sharc_accepted_laws.specs.{Paths.{MutexesBehind, PathsLead}, Typed.{BasesStand, LvaluesAreTyped}};
 ghost use Rattle.sharc_accepted_laws.specs.Uses.{UsesAreFair};
 
 use crate::references::{expressions_lead, places_point, scope_laws};

@@ -1,18 +1,10 @@
 // The laws, each the contract of a function that does nothing.
 
-ghost use Rattle.sharc_accepted_laws.specs.Alone.{SomeAreAlone};
-ghost use Rattle.sharc_accepted_laws.specs.Calls.{ArgumentsFit, ArgumentsPass};
-ghost use Rattle.sharc_accepted_laws.specs.Casting.{CastsRecast};
-ghost use Rattle.sharc_accepted_laws.specs.Conditions.{KnownCalls};
-ghost use Rattle.sharc_accepted_laws.specs.Held.{HeldLaws};
-ghost use Rattle.sharc_accepted_laws.specs.StaticLaws.{GivenLaws};
-ghost use Rattle.sharc_accepted_laws.specs.Leading.{ExpressionsLead};
-ghost use Rattle.sharc_accepted_laws.specs.Pointing.{PlacesPoint};
-ghost use Rattle.sharc_accepted_laws.specs.Results.{ResultLaws};
-ghost use Rattle.sharc_accepted_laws.specs.Scopes.{ScopeLaws};
-ghost use Rattle.sharc_accepted_laws.specs.Standing.{FunctionsStand};
-ghost use Rattle.sharc_accepted_laws.specs.Starting.{SpawnedBegin};
-ghost use Rattle.sharc_accepted_laws.specs.Taken.{TakenLaws};
+ghost use Rattle.sharc_accepted_laws.specs.{Alone.SomeAreAlone, Calls.{ArgumentsFit, ArgumentsPass}};
+ghost use Rattle.sharc_accepted_laws.specs.{Casting.CastsRecast, Conditions.KnownCalls, Held.HeldLaws};
+ghost use Rattle.sharc_accepted_laws.specs.{StaticLaws.GivenLaws, Leading.ExpressionsLead, Pointing.PlacesPoint};
+ghost use Rattle.sharc_accepted_laws.specs.{Results.ResultLaws, Scopes.ScopeLaws, Standing.FunctionsStand};
+ghost use Rattle.sharc_accepted_laws.specs.{Starting.SpawnedBegin, Taken.TakenLaws};
 
 use crate::targets::{expressions_found, fields_placed, numbers_found, own_found, variables_found};
 use sharc_check::rule_laws::{reached_are_told, rules_are_met};

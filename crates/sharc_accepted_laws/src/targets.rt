@@ -1,14 +1,10 @@
 // The laws of the table of targets, each the contract of a function that does nothing.
 
-ghost use Rattle.sharc_accepted_laws.specs.Beside.{LocksStandBeside};
-ghost use Rattle.sharc_accepted_laws.specs.Fields.{FieldsPlaced};
-ghost use Rattle.sharc_accepted_laws.specs.TargetFirsts.{FirstLaws};
-ghost use Rattle.sharc_accepted_laws.specs.Granules.{GranulesAreFew};
-ghost use Rattle.sharc_accepted_laws.specs.TargetLaws.{NumbersFound, ShapesClosed, CellsAre, TargetsAre};
-ghost use Rattle.sharc_accepted_laws.specs.TargetLaws.{ExpressionsFound, VariablesFound, ResultsFound, MembersAre};
-ghost use Rattle.sharc_accepted_laws.specs.TargetLaws.{GlobalsAre, GlobalsEnd, GlobalsBegin, GlobalsHold, LayoutsAre};
-ghost use Rattle.sharc_accepted_laws.specs.Lvalues.{LvaluesFit, ArraysFit};
-ghost use Rattle.sharc_accepted_laws.specs.Own.{OwnAreFound};
+ghost use Rattle.sharc_accepted_laws.specs.{Beside.LocksStandBeside, Fields.FieldsPlaced, TargetFirsts.FirstLaws};
+ghost use Rattle.sharc_accepted_laws.specs.{Granules.GranulesAreFew, TargetLaws.{NumbersFound, ShapesClosed, CellsAre}};
+ghost use Rattle.sharc_accepted_laws.specs.TargetLaws.{TargetsAre, ExpressionsFound, VariablesFound, ResultsFound};
+ghost use Rattle.sharc_accepted_laws.specs.TargetLaws.{MembersAre, GlobalsAre, GlobalsEnd, GlobalsBegin, GlobalsHold};
+ghost use Rattle.sharc_accepted_laws.specs.{TargetLaws.LayoutsAre, Lvalues.{LvaluesFit, ArraysFit}, Own.OwnAreFound};
 ghost use Rattle.sharc_accepted_laws.specs.Pointers.{GlobalsPoint, PointeesPoint, PointersAreOfGlobals};
 ghost use Rattle.sharc_accepted_laws.specs.Pointees.{PointeesFit, RecastsFit, SameForms};
 

@@ -1,8 +1,6 @@
 // The laws, each the contract of a function with calls of other laws alone.
 
-ghost use Rattle.sharc_accepted_laws.specs.Calling.{CallingLaws};
-ghost use Rattle.sharc_accepted_laws.specs.TypableLaws.{ValueLaws};
-ghost use Rattle.sharc_accepted_laws.specs.Taking.{TakingLaws};
+ghost use Rattle.sharc_accepted_laws.specs.{Calling.CallingLaws, TypableLaws.ValueLaws, Taking.TakingLaws};
 ghost use Rattle.sharc_accepted_laws.specs.Threads.{ThreadsPass};
 
 use crate::references::{arguments_fit, casts_recast, held_laws, scope_laws, spawned_begin};

@@ -4,8 +4,7 @@ ghost use Rattle.std.specs.Prelude.{◌≡◌, ◌<◌, ◌+◌, ◌^◌, ◌*�
 ghost use Rattle.sharc_names.specs.View.{view_kind, view_root};
 ghost use Rattle.sharc_tree.specs.declared.tree.expression.BinaryOperator.TheVariants as operators;
 ghost use Rattle.sharc_meaning.specs.Arithmetic.{bits_of, bits_of_base, fits, is_held_by, is_zero, truth, in_range};
-ghost use Rattle.sharc_meaning.specs.Arithmetic.{operated, negated, complement};
-ghost use Rattle.sharc_meaning.specs.Statements.{is_positive};
+ghost use Rattle.sharc_meaning.specs.{Arithmetic.{operated, negated, complement}, Statements.is_positive};
 ghost use Rattle.sharc_ask.specs.Width.{value_bits, is_count};
 
 use sharc_names::kind::{ExpressionKind, Root, is_integer};

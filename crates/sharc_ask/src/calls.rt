@@ -4,15 +4,10 @@ ghost use Rattle.std.specs.Prelude.{◌≡◌, ◌<◌, ◌≤◌, ◌+◌, ◌*
 ghost use Rattle.sharc_tree.specs.View.{view_arguments, view_function};
 ghost use Rattle.sharc_names.specs.Kinds.{declared_kinds};
 ghost use Rattle.sharc_mode.specs.Moded.{Assignment};
-ghost use Rattle.sharc_meaning.specs.Expressions.{called};
-ghost use Rattle.sharc_meaning.specs.Meaning.{calls, run_function};
-ghost use Rattle.sharc_meaning.specs.State.{give};
-ghost use Rattle.sharc_ask.specs.StepView.{view_state};
-ghost use Rattle.sharc_ask.specs.View.{calling, view_flow};
-ghost use Rattle.sharc_ask.specs.Values.{Value as Meant, number, flow_in, gives, as_left};
-ghost use Rattle.sharc_ask.specs.Plans.{ends_above, size};
-ghost use Rattle.sharc_ask.specs.Stack.{stack_of, Behind, IsCaller, awaits, Moves, load};
-ghost use Rattle.sharc_ask.specs.declared.stack.Left.{Left as Kept};
+ghost use Rattle.sharc_meaning.specs.{Expressions.called, Meaning.{calls, run_function}, State.give};
+ghost use Rattle.sharc_ask.specs.{StepView.view_state, View.{calling, view_flow}, Values.{Value as Meant, number}};
+ghost use Rattle.sharc_ask.specs.{Values.{flow_in, gives, as_left}, Plans.{ends_above, size}, Stack.{stack_of, Behind}};
+ghost use Rattle.sharc_ask.specs.{Stack.{IsCaller, awaits, Moves, load}, declared.stack.Left.Left as Kept};
 
 use crate::endings::end_variables;
 use crate::expressions::begin_eval;

@@ -1,19 +1,15 @@
 // Objects and their cells, and the mutex that a lock path names.
 
-ghost use Rattle.std.specs.Prelude.{◌≡◌, ◌==◌, ◌+◌, ◌≤◌, length, IfSome, if◌then◌else◌};
-ghost use Rattle.std.specs.List.{position_or_len};
+ghost use Rattle.std.specs.{Prelude.{◌≡◌, ◌==◌, ◌+◌, ◌≤◌, length, IfSome, if◌then◌else◌}, List.position_or_len};
 ghost use Rattle.std.specs.Str.{bytes_eq};
 ghost use Rattle.sharc_tree.specs.View.{view_items};
 ghost use Rattle.sharc_names.specs.View.{view_kind, view_root};
-ghost use Rattle.sharc_ctype.specs.Globals.{elements_of as elements_of_form};
-ghost use Rattle.sharc_ctype.specs.Resolved.{global_at, structs_in};
-ghost use Rattle.sharc_mode.specs.Cells.{is_behind_pointer};
-ghost use Rattle.sharc_mode.specs.View.{view_lock, view_name, view_sharing};
+ghost use Rattle.sharc_ctype.specs.{Globals.elements_of as elements_of_form, Resolved.{global_at, structs_in}};
+ghost use Rattle.sharc_mode.specs.{Cells.is_behind_pointer, View.{view_lock, view_name, view_sharing}};
 ghost use Rattle.sharc_meaning.specs.Cells.{struct_cells, base_cells, element_cells, global_elements, field_place_in};
 ghost use Rattle.sharc_meaning.specs.Cells.{field_place, field_place_named, field_place_behind, through, mutex_named};
 ghost use Rattle.sharc_meaning.specs.Cells.{guard_beside, guard_by, guard_named, guard_of, instance_mode};
-ghost use Rattle.sharc_meaning.specs.Reference.{number_of, elements_of};
-ghost use Rattle.sharc_meaning.specs.State.{value_in};
+ghost use Rattle.sharc_meaning.specs.{Reference.{number_of, elements_of}, State.value_in};
 ghost use Rattle.sharc_ask.specs.StepView.{view_guard};
 
 use crate::state::value_in;

@@ -2,8 +2,7 @@
 
 ghost use Rattle.std.specs.Prelude.{◌≡◌, ◌≤◌, ◌++◌, drop, OnOk};
 ghost use Rattle.sharc_meaning.specs.State.{all_released, pointers_among};
-ghost use Rattle.sharc_ask.specs.StepView.{view_state};
-ghost use Rattle.sharc_ask.specs.View.{temporaries_ended, variables_ended};
+ghost use Rattle.sharc_ask.specs.{StepView.view_state, View.{temporaries_ended, variables_ended}};
 
 use crate::cells::number_of;
 use crate::state::State;

@@ -1,16 +1,13 @@
 // Expressions are begun: what comes first, and what goes on with its value.
 
 ghost use Rattle.std.specs.Prelude.{◌≡◌, ◌≤◌, ◌+◌, ◌*◌, IfOk};
-ghost use Rattle.sharc_tree.specs.declared.token.Span.{Span};
-ghost use Rattle.sharc_tree.specs.declared.tree.declaration.WrittenType.{WrittenType};
-ghost use Rattle.sharc_tree.specs.Tree.{call, spawn, on_place, cast, unary, binary};
-ghost use Rattle.sharc_tree.specs.View.{view_expr, view_arguments};
+ghost use Rattle.sharc_tree.specs.{declared.token.Span.Span, declared.tree.declaration.WrittenType.WrittenType};
+ghost use Rattle.sharc_tree.specs.{Tree.{call, spawn, on_place, cast, unary, binary}, View.{view_expr, view_arguments}};
 ghost use Rattle.sharc_mode.specs.Moded.{Assignment};
-ghost use Rattle.sharc_meaning.specs.Expressions.{Calls, eval, place_of};
-ghost use Rattle.sharc_meaning.specs.Places.{index_place, pointee_place, field_place, unary_place};
-ghost use Rattle.sharc_ask.specs.StepView.{view_state};
-ghost use Rattle.sharc_ask.specs.Values.{number, place, gives};
-ghost use Rattle.sharc_ask.specs.Plans.{inside, Leads, LeadsFrom, Plans, Fits, Starts, Begins, size};
+ghost use Rattle.sharc_meaning.specs.{Expressions.{Calls, eval, place_of}, Places.{index_place, pointee_place}};
+ghost use Rattle.sharc_meaning.specs.Places.{field_place, unary_place};
+ghost use Rattle.sharc_ask.specs.{StepView.view_state, Values.{number, place, gives}, Plans.{inside, Leads, LeadsFrom}};
+ghost use Rattle.sharc_ask.specs.Plans.{Plans, Fits, Starts, Begins, size};
 
 use crate::arithmetic::width_of;
 use crate::places::{LvaluePlace, place_named};

@@ -4,14 +4,11 @@ ghost use Rattle.std.specs.Prelude.{◌≡◌, ◌≤◌, ◌+◌, ◌*◌, IfOk
 ghost use Rattle.sharc_tree.specs.View.{view_stmt, view_statements};
 ghost use Rattle.sharc_names.specs.View.{view_kind};
 ghost use Rattle.sharc_mode.specs.Moded.{Assignment};
-ghost use Rattle.sharc_meaning.specs.Expressions.{Calls};
-ghost use Rattle.sharc_meaning.specs.Statements.{exec, exec_all};
-ghost use Rattle.sharc_ask.specs.StepView.{Known, view_state};
-ghost use Rattle.sharc_ask.specs.View.{view_flow, view_otherwise};
-ghost use Rattle.sharc_ask.specs.Values.{flow, view_value, gives};
-ghost use Rattle.sharc_ask.specs.Plans.{inside, goes_on, after_means, others_done, chosen_done, tested_done, left_body};
-ghost use Rattle.sharc_ask.specs.Plans.{next_turn, turns_of, Leads, LeadsFrom, Plans, Fits, Starts, Begins, weight};
-ghost use Rattle.sharc_ask.specs.Plans.{after_weight, size};
+ghost use Rattle.sharc_meaning.specs.{Expressions.Calls, Statements.{exec, exec_all}};
+ghost use Rattle.sharc_ask.specs.{StepView.{Known, view_state}, View.{view_flow, view_otherwise}, Values.flow};
+ghost use Rattle.sharc_ask.specs.{Values.{view_value, gives}, Plans.{inside, goes_on, after_means, others_done}};
+ghost use Rattle.sharc_ask.specs.Plans.{chosen_done, tested_done, left_body, next_turn, turns_of, Leads, LeadsFrom};
+ghost use Rattle.sharc_ask.specs.Plans.{Plans, Fits, Starts, Begins, weight, after_weight, size};
 
 use crate::parts::{end_above, end_block};
 use crate::plan::{After, Loop, Plan, Rest, Task, Value, flow_in, test_in};

@@ -1,13 +1,10 @@
 // The frame of a call: its parameters, where its body is left, and what its caller keeps.
 
-ghost use Rattle.std.specs.Prelude.{◌≡◌, ◌≤◌, ◌<◌, ◌-◌, ◌++◌, [], length, count_by, IfSome, true};
-ghost use Rattle.std.specs.Option.{option_map};
+ghost use Rattle.std.specs.{Prelude.{◌≡◌, ◌≤◌, ◌<◌, ◌-◌, ◌++◌, [], length, count_by, IfSome, true}, Option.option_map};
 ghost use Rattle.sharc_tree.specs.View.{view_function};
 ghost use Rattle.sharc_names.specs.Kinds.{declared_kind, is_pointer};
-ghost use Rattle.sharc_meaning.specs.State.{pointers_among};
-ghost use Rattle.sharc_meaning.specs.Meaning.{parameters_begin, left_at};
-ghost use Rattle.sharc_ask.specs.StepView.{view_state, Does};
-ghost use Rattle.sharc_ask.specs.View.{view_flow, WasKept};
+ghost use Rattle.sharc_meaning.specs.{State.pointers_among, Meaning.{parameters_begin, left_at}};
+ghost use Rattle.sharc_ask.specs.{StepView.{view_state, Does}, View.{view_flow, WasKept}};
 
 use crate::state::{Frame, RunEnd, State, begin};
 use crate::values::Flow;

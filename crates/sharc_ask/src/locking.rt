@@ -2,8 +2,7 @@
 
 ghost use Rattle.std.specs.Prelude.{◌≡◌, ◌≤◌};
 ghost use Rattle.sharc_meaning.specs.Waiting.{cell_at_place, moves_base, gives_up_base, lock_call, unlock_call};
-ghost use Rattle.sharc_ask.specs.StepView.{view_state, view_place, Does};
-ghost use Rattle.sharc_ask.specs.Waking.{stops_where_held};
+ghost use Rattle.sharc_ask.specs.{StepView.{view_state, view_place, Does}, Waking.stops_where_held};
 
 use crate::places::LvaluePlace;
 use crate::state::{RunEnd, State, give_up, is_among, move_on, perform, unless};

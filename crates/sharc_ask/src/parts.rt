@@ -1,22 +1,16 @@
 // What is done with a value, or at a place, once it is known: no other expression is looked at.
 
 ghost use Rattle.std.specs.Prelude.{◌≡◌, ◌≤◌, ℕ, ℤ, Bool, IfOk};
-ghost use Rattle.sharc_tree.specs.View.{view_expr};
-ghost use Rattle.sharc_names.specs.Kinds.{declared_kinds, declared_kind, promoted};
-ghost use Rattle.sharc_names.specs.View.{view_kind};
+ghost use Rattle.sharc_tree.specs.{View.view_expr, declared.token.Site.Site as Where};
+ghost use Rattle.sharc_names.specs.{Kinds.{declared_kinds, declared_kind, promoted}, View.view_kind};
 ghost use Rattle.sharc_ctype.specs.Resolved.{kind_at};
 ghost use Rattle.sharc_mode.specs.Sharings.{private};
-ghost use Rattle.sharc_meaning.specs.Arithmetic.{bits_of, negated};
-ghost use Rattle.sharc_meaning.specs.Expressions.{tested, operand, fitting, passed, resulting, value_called};
-ghost use Rattle.sharc_meaning.specs.Places.{variable, pointee_place, stored};
-ghost use Rattle.sharc_meaning.specs.State.{Run, Step, give};
-ghost use Rattle.sharc_meaning.specs.Statements.{Flow as LeftBy};
-ghost use Rattle.sharc_ask.specs.StepView.{Known, view_state, view_place, Does, DoesAs};
-ghost use Rattle.sharc_ask.specs.Width.{value_bits};
-ghost use Rattle.sharc_ask.specs.View.{view_flow};
-ghost use Rattle.sharc_tree.specs.declared.token.Site.{Site as Where};
-ghost use Rattle.sharc_ask.specs.Values.{view_value, as_left, left_of, gives};
-ghost use Rattle.sharc_ask.specs.Plans.{ends_above, ends_block, zero_behind, truth_with, inverted_with, returned_with};
+ghost use Rattle.sharc_meaning.specs.{Arithmetic.{bits_of, negated}, Expressions.{tested, operand, fitting, passed}};
+ghost use Rattle.sharc_meaning.specs.{Expressions.{resulting, value_called}, Places.{variable, pointee_place, stored}};
+ghost use Rattle.sharc_meaning.specs.{State.{Run, Step, give}, Statements.Flow as LeftBy};
+ghost use Rattle.sharc_ask.specs.{StepView.{Known, view_state, view_place, Does, DoesAs}, Width.value_bits};
+ghost use Rattle.sharc_ask.specs.{View.view_flow, Values.{view_value, as_left, left_of, gives}, Plans.ends_above};
+ghost use Rattle.sharc_ask.specs.Plans.{ends_block, zero_behind, truth_with, inverted_with, returned_with};
 ghost use Rattle.sharc_ask.specs.Plans.{spawned_with, free_unless_null, joined_with, element_behind, element_in};
 ghost use Rattle.sharc_ask.specs.Plans.{assigned_to};
 

@@ -3,17 +3,14 @@
 ghost use Rattle.std.specs.Prelude.{◌≡◌, ◌≤◌, pos, [], ◌∷◌, if◌then◌else◌};
 ghost use Rattle.sharc_tree.specs.declared.event.Act.TheVariants as acts;
 ghost use Rattle.sharc_tree.specs.declared.event.Taken.TheVariants as taken;
-ghost use Rattle.sharc_names.specs.View.{view_kind};
-ghost use Rattle.sharc_names.specs.Kinds.{is_pointer};
+ghost use Rattle.sharc_names.specs.{View.view_kind, Kinds.is_pointer};
 ghost use Rattle.sharc_ctype.specs.Resolved.{global_at};
-ghost use Rattle.sharc_mode.specs.Sharings.{locked};
-ghost use Rattle.sharc_mode.specs.View.{view_lock, view_sharing};
-ghost use Rattle.sharc_meaning.specs.Cells.{guard_of, instance_mode, global_elements};
-ghost use Rattle.sharc_meaning.specs.Places.{based, element, element_of_array, field_in, place_named, pointee};
-ghost use Rattle.sharc_meaning.specs.Places.{guarding, access_mode, fetched, stored, taken_from, cast_to, freed};
-ghost use Rattle.sharc_meaning.specs.Reference.{is_null};
-ghost use Rattle.sharc_meaning.specs.declared.given.GivenUp.TheVariants.{Replaced};
-ghost use Rattle.sharc_meaning.specs.State.{give, answered, gives_up, done};
+ghost use Rattle.sharc_mode.specs.{Sharings.locked, View.{view_lock, view_sharing}};
+ghost use Rattle.sharc_meaning.specs.{Cells.{guard_of, instance_mode, global_elements}, Places.{based, element}};
+ghost use Rattle.sharc_meaning.specs.Places.{element_of_array, field_in, place_named, pointee, guarding, access_mode};
+ghost use Rattle.sharc_meaning.specs.{Places.{fetched, stored, taken_from, cast_to, freed}, Reference.is_null};
+ghost use Rattle.sharc_meaning.specs.{declared.given.GivenUp.TheVariants.Replaced, State.{give, answered, gives_up}};
+ghost use Rattle.sharc_meaning.specs.State.{done};
 ghost use Rattle.sharc_ask.specs.StepView.{view_state, view_guard, view_place, Does, DoesAs, stored_in_cell};
 
 use crate::arithmetic::is_zero;

@@ -1,9 +1,8 @@
 // What is to be done next, and what with its value.
 
 ghost use Rattle.std.specs.Prelude.{◌≡◌};
-ghost use Rattle.sharc_ask.specs.StepView.{view_place};
-ghost use Rattle.sharc_ask.specs.View.{view_flow};
-ghost use Rattle.sharc_ask.specs.Values.{view_value, number_in, test_in, place_in, flow_in};
+ghost use Rattle.sharc_ask.specs.{StepView.view_place, View.view_flow, Values.{view_value, number_in, test_in}};
+ghost use Rattle.sharc_ask.specs.Values.{place_in, flow_in};
 
 use crate::arithmetic::Width;
 use crate::places::LvaluePlace;

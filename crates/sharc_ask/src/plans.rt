@@ -2,14 +2,11 @@
 
 ghost use Rattle.std.specs.Prelude.{ℕ, ℤ, Bool, IfOk};
 ghost use Rattle.sharc_mode.specs.Moded.{Assignment};
-ghost use Rattle.sharc_meaning.specs.Expressions.{Calls};
-ghost use Rattle.sharc_meaning.specs.Places.{StorePlace as NamedPlace};
-ghost use Rattle.sharc_meaning.specs.State.{Run, Step};
+ghost use Rattle.sharc_meaning.specs.{Expressions.Calls, Places.StorePlace as NamedPlace, State.{Run, Step}};
 ghost use Rattle.sharc_meaning.specs.Statements.{Flow as LeftBy};
-ghost use Rattle.sharc_ask.specs.StepView.{Known, Does, DoesAs, view_place};
-ghost use Rattle.sharc_ask.specs.View.{view_flow};
-ghost use Rattle.sharc_ask.specs.Values.{number, test, place, flow, gives, as_nothing};
-ghost use Rattle.sharc_ask.specs.Plans.{step_then, test_then, plan_means, Plans, Fits};
+ghost use Rattle.sharc_ask.specs.{StepView.{Known, Does, DoesAs, view_place}, View.view_flow, Values.{number, test}};
+ghost use Rattle.sharc_ask.specs.{Values.{place, flow, gives, as_nothing}, Plans.{step_then, test_then, plan_means}};
+ghost use Rattle.sharc_ask.specs.Plans.{Plans, Fits};
 
 use crate::places::LvaluePlace;
 use crate::plan::{Plan, Value};

@@ -1,18 +1,14 @@
 // What goes on with the value of a task.
 
 ghost use Rattle.std.specs.Prelude.{◌≡◌, ◌≤◌, IfOk};
-ghost use Rattle.sharc_tree.specs.Spans.{span_of};
-ghost use Rattle.sharc_tree.specs.View.{view_expr};
+ghost use Rattle.sharc_tree.specs.{Spans.span_of, View.view_expr};
 ghost use Rattle.sharc_mode.specs.Cells.{cell_at};
-ghost use Rattle.sharc_meaning.specs.Expressions.{Calls, eval};
-ghost use Rattle.sharc_meaning.specs.Places.{taken_from};
-ghost use Rattle.sharc_ask.specs.StepView.{view_state, view_place, Does};
-ghost use Rattle.sharc_ask.specs.Width.{value_bits};
-ghost use Rattle.sharc_ask.specs.View.{view_flow};
-ghost use Rattle.sharc_ask.specs.declared.plan.WithPlace.TheVariants.{Frees, Casts};
-ghost use Rattle.sharc_ask.specs.Values.{number, place, view_value, gives};
-ghost use Rattle.sharc_ask.specs.Plans.{ends_above, left_with, behind_pointer, value_means, number_means, place_means};
-ghost use Rattle.sharc_ask.specs.Plans.{rest_means, Plans, Fits, Starts, Begins, value_weight, place_weight, weight};
+ghost use Rattle.sharc_meaning.specs.{Expressions.{Calls, eval}, Places.taken_from};
+ghost use Rattle.sharc_ask.specs.{StepView.{view_state, view_place, Does}, Width.value_bits, View.view_flow};
+ghost use Rattle.sharc_ask.specs.{declared.plan.WithPlace.TheVariants.{Frees, Casts}, Values.{number, place}};
+ghost use Rattle.sharc_ask.specs.{Values.{view_value, gives}, Plans.{ends_above, left_with, behind_pointer}};
+ghost use Rattle.sharc_ask.specs.Plans.{value_means, number_means, place_means, rest_means, Plans, Fits, Starts};
+ghost use Rattle.sharc_ask.specs.Plans.{Begins, value_weight, place_weight, weight};
 
 use crate::arithmetic::complement;
 use crate::cells::field_place_named;

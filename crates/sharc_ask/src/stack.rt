@@ -1,8 +1,7 @@
 // What is left to do behind a plan: the stack of the walk.
 
 ghost use Rattle.std.specs.Prelude.{◌≡◌, ◌∷◌, OnOk, IfErr};
-ghost use Rattle.sharc_ask.specs.declared.state.RunEnd.TheVariants.{Memory};
-ghost use Rattle.sharc_ask.specs.Stack.{stack_of, with_rest};
+ghost use Rattle.sharc_ask.specs.{declared.state.RunEnd.TheVariants.Memory, Stack.{stack_of, with_rest}};
 
 use crate::frames::SuspendedCaller;
 use crate::plan::{Call, Plan, Rest};

@@ -3,10 +3,9 @@
 ghost use Rattle.std.specs.Prelude.{◌≡◌, ◌≤◌, ◌<◌, ◌++◌, [], ◌∷◌, pos, length, slice_index_or, not, filter, IfOk, OnOk};
 ghost use Rattle.std.specs.List.{list_any};
 ghost use Rattle.sharc_names.specs.View.{view_kind};
-ghost use Rattle.sharc_meaning.specs.Events.{same_cell, holds_mutex};
-ghost use Rattle.sharc_meaning.specs.State.{enters, answered, performs, unless_stop, holds, holds_reference, moves};
-ghost use Rattle.sharc_meaning.specs.State.{moves_on, is_reference, begins_with, sets, value_in, answer_of, event_of};
-ghost use Rattle.sharc_meaning.specs.State.{with_value, gives_up, all_released, drops};
+ghost use Rattle.sharc_meaning.specs.{Events.{same_cell, holds_mutex}, State.{enters, answered, performs, unless_stop}};
+ghost use Rattle.sharc_meaning.specs.State.{holds, holds_reference, moves, moves_on, is_reference, begins_with, sets};
+ghost use Rattle.sharc_meaning.specs.State.{value_in, answer_of, event_of, with_value, gives_up, all_released, drops};
 ghost use Rattle.sharc_ask.specs.StepView.{view_state, Does, place_of, held_after};
 
 use crate::cells::number_of;

@@ -1,18 +1,13 @@
 // What statements are made of is begun: what comes first, and what goes on with its value.
 
 ghost use Rattle.std.specs.Prelude.{◌≡◌, ◌≤◌, IfOk};
-ghost use Rattle.sharc_tree.specs.Tree.{malloc};
-ghost use Rattle.sharc_tree.specs.View.{view_expr, view_option, view_right, view_simple, view_local, view_first};
-ghost use Rattle.sharc_names.specs.Kinds.{Kind as KindMeant};
-ghost use Rattle.sharc_names.specs.View.{view_kind};
-ghost use Rattle.sharc_mode.specs.Moded.{Assignment};
-ghost use Rattle.sharc_mode.specs.View.{view_sharing};
-ghost use Rattle.sharc_meaning.specs.Expressions.{Calls};
-ghost use Rattle.sharc_meaning.specs.Statements.{right_value, done_simple, initialised, declared, done_first};
-ghost use Rattle.sharc_meaning.specs.Statements.{done_test, return_with};
-ghost use Rattle.sharc_ask.specs.StepView.{view_state};
-ghost use Rattle.sharc_ask.specs.View.{view_test};
-ghost use Rattle.sharc_ask.specs.Values.{number, test, flow, gives, as_nothing};
+ghost use Rattle.sharc_tree.specs.{Tree.malloc, View.{view_expr, view_option, view_right, view_simple, view_local}};
+ghost use Rattle.sharc_tree.specs.View.{view_first};
+ghost use Rattle.sharc_names.specs.{Kinds.Kind as KindMeant, View.view_kind};
+ghost use Rattle.sharc_mode.specs.{Moded.Assignment, View.view_sharing};
+ghost use Rattle.sharc_meaning.specs.{Expressions.Calls, Statements.{right_value, done_simple, initialised, declared}};
+ghost use Rattle.sharc_meaning.specs.Statements.{done_first, done_test, return_with};
+ghost use Rattle.sharc_ask.specs.{StepView.view_state, View.view_test, Values.{number, test, flow, gives, as_nothing}};
 ghost use Rattle.sharc_ask.specs.Plans.{inside, Leads, LeadsFrom, Plans, Fits, Starts, Begins};
 
 use crate::plan::{Plan, Rest, Task, Value, WithNumber, WithPlace, WithValue};

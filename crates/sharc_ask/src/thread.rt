@@ -3,9 +3,7 @@
 ghost use Rattle.std.specs.Prelude.{◌≡◌, ◌≤◌, IfOk};
 ghost use Rattle.sharc_ctype.specs.Resolved.{function_at};
 ghost use Rattle.sharc_meaning.specs.Meaning.{asks, goes_away, run_thread, start};
-ghost use Rattle.sharc_ask.specs.StepView.{known, view_state, Does};
-ghost use Rattle.sharc_ask.specs.Held.{all_held};
-ghost use Rattle.sharc_ask.specs.View.{leaves, Tells};
+ghost use Rattle.sharc_ask.specs.{StepView.{known, view_state, Does}, Held.all_held, View.{leaves, Tells}};
 
 use crate::asked::{Asked, Holds, Outcome};
 use crate::frames::held_by;

@@ -1,24 +1,16 @@
 // What is done with values beside the walk: nothing here looks at an expression or a statement within another.
 
 ghost use Rattle.std.specs.Prelude.{◌≡◌, ◌≤◌, ◌<◌, ◌-◌, drop, Some, if◌then◌else◌};
-ghost use Rattle.sharc_tree.specs.Spans.{span_of};
-ghost use Rattle.sharc_tree.specs.View.{view_expr, view_option, view_simple, view_stmt};
-ghost use Rattle.sharc_names.specs.Kinds.{declared_kinds, element_kind};
-ghost use Rattle.sharc_names.specs.View.{view_kind};
-ghost use Rattle.sharc_ctype.specs.Resolved.{named_at, kind_at};
-ghost use Rattle.sharc_ctype.specs.Transfers.{parameters_named};
-ghost use Rattle.sharc_mode.specs.Cells.{cell_at, pointed};
-ghost use Rattle.sharc_mode.specs.Rows.{cast_row};
-ghost use Rattle.sharc_mode.specs.View.{view_sharing};
-ghost use Rattle.sharc_meaning.specs.Cells.{element_cells};
-ghost use Rattle.sharc_meaning.specs.Places.{based, freed, cast_to};
-ghost use Rattle.sharc_meaning.specs.Expressions.{resulting, named_value, number_named, value_act};
-ghost use Rattle.sharc_meaning.specs.Reference.{is_null, constant_value};
-ghost use Rattle.sharc_meaning.specs.State.{give, done, drops, holds};
-ghost use Rattle.sharc_meaning.specs.Statements.{left_by};
-ghost use Rattle.sharc_ask.specs.StepView.{view_state, view_place, Does};
-ghost use Rattle.sharc_ask.specs.View.{view_flow, view_test, view_step, test_of_loop, step_of_loop, body_of_loop};
-ghost use Rattle.sharc_ask.specs.View.{number_left, logic_of, made, place_fetched};
+ghost use Rattle.sharc_tree.specs.{Spans.span_of, View.{view_expr, view_option, view_simple, view_stmt}};
+ghost use Rattle.sharc_names.specs.{Kinds.{declared_kinds, element_kind}, View.view_kind};
+ghost use Rattle.sharc_ctype.specs.{Resolved.{named_at, kind_at}, Transfers.parameters_named};
+ghost use Rattle.sharc_mode.specs.{Cells.{cell_at, pointed}, Rows.cast_row, View.view_sharing};
+ghost use Rattle.sharc_meaning.specs.{Cells.element_cells, Places.{based, freed, cast_to}, Expressions.resulting};
+ghost use Rattle.sharc_meaning.specs.{Expressions.{named_value, number_named, value_act}, Reference.is_null};
+ghost use Rattle.sharc_meaning.specs.{Reference.constant_value, State.{give, done, drops, holds}, Statements.left_by};
+ghost use Rattle.sharc_ask.specs.{StepView.{view_state, view_place, Does}, View.{view_flow, view_test, view_step}};
+ghost use Rattle.sharc_ask.specs.View.{test_of_loop, step_of_loop, body_of_loop, number_left, logic_of, made};
+ghost use Rattle.sharc_ask.specs.View.{place_fetched};
 
 use crate::arithmetic::{is_positive, is_zero};
 use crate::cells::{element_cells, instance_mode};

@@ -1,11 +1,9 @@
 // Condition variables: what is asked for, and where it stops.
 
 ghost use Rattle.std.specs.Prelude.{◌≡◌, ◌≤◌, slice_index_or};
-ghost use Rattle.sharc_meaning.specs.Reference.{NULL};
-ghost use Rattle.sharc_meaning.specs.Places.{pointee};
-ghost use Rattle.sharc_meaning.specs.Waiting.{cell_at_place, wait_call, signal_call, broadcast_call, condition_call};
-ghost use Rattle.sharc_ask.specs.StepView.{view_state, Does};
-ghost use Rattle.sharc_ask.specs.Waking.{stops_unless_held, waits, awakes};
+ghost use Rattle.sharc_meaning.specs.{Reference.NULL, Places.pointee, Waiting.{cell_at_place, wait_call, signal_call}};
+ghost use Rattle.sharc_meaning.specs.Waiting.{broadcast_call, condition_call};
+ghost use Rattle.sharc_ask.specs.{StepView.{view_state, Does}, Waking.{stops_unless_held, waits, awakes}};
 
 use crate::arithmetic::is_zero;
 use crate::cells::number_of;

@@ -2,16 +2,12 @@
 
 ghost use Rattle.std.specs.Prelude.{◌≡◌, ◌<◌, ◌+◌, ◌*◌, ℕ, List, IfOk};
 ghost use Rattle.sharc_mode.specs.Moded.{Assignment};
-ghost use Rattle.sharc_meaning.specs.State.{Run};
-ghost use Rattle.sharc_ask.specs.Values.{Value as Meant};
-ghost use Rattle.sharc_ask.specs.declared.stack.Left.{Left as Kept};
+ghost use Rattle.sharc_meaning.specs.{State.Run, Expressions.Calls, Meaning.{calls, run_function}};
+ghost use Rattle.sharc_ask.specs.{Values.Value as Meant, declared.stack.Left.Left as Kept, StepView.Known};
+ghost use Rattle.sharc_ask.specs.{StepView.{view_state, Does}, Plans.{task_means, goes_on, Plans, Begins, rank}};
+ghost use Rattle.sharc_ask.specs.{Plans.{weight, size}, Stack.{stack_of, at_means, Moves, GoesOnWith, Steps, Comes}};
+ghost use Rattle.sharc_ask.specs.Stack.{later_weight, GoesDown, load};
 ghost use Rattle.sharc_tree.specs.View.{view_function};
-ghost use Rattle.sharc_meaning.specs.Expressions.{Calls};
-ghost use Rattle.sharc_meaning.specs.Meaning.{calls, run_function};
-ghost use Rattle.sharc_ask.specs.StepView.{Known, view_state, Does};
-ghost use Rattle.sharc_ask.specs.Plans.{task_means, goes_on, Plans, Begins, rank, weight, size};
-ghost use Rattle.sharc_ask.specs.Stack.{stack_of, at_means, Moves, GoesOnWith, Steps, Comes, later_weight, GoesDown};
-ghost use Rattle.sharc_ask.specs.Stack.{load};
 
 use crate::calls::{begin_call, enter_function, pass_value, return_to};
 use crate::expressions::{begin_eval, begin_place, field_plan, index_plan, pointee_plan};

@@ -1,8 +1,7 @@
 // The auditor.
 
 ghost use Rattle.std.specs.Prelude.{◌≡◌, ◌<◌, ◌^◌, IfOk, length, MatchOption};
-ghost use Rattle.sharc_audit.specs.Audited.{Audits};
-ghost use Rattle.sharc_audit.specs.Breaking.{IsPassed, IsFault};
+ghost use Rattle.sharc_audit.specs.{Audited.Audits, Breaking.{IsPassed, IsFault}};
 ghost use Rattle.sharc_judge.specs.Kept.{AreUnbroken};
 
 use crate::line::EventLines;

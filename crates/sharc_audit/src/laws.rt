@@ -1,8 +1,6 @@
 // Laws of the definitions.
 
-ghost use Rattle.sharc_audit.specs.Audited.{OneVerdict};
-ghost use Rattle.sharc_audit.specs.FileLaws.{FileLaws};
-ghost use Rattle.sharc_audit.specs.Running.{RunsNeverFail};
+ghost use Rattle.sharc_audit.specs.{Audited.OneVerdict, FileLaws.FileLaws, Running.RunsNeverFail};
 
 use sharc_ctype_laws::laws::one_function_of_name;
 use sharc_judge::laws::rule_laws;

@@ -1,8 +1,7 @@
 // What the lines report to each thread.
 
 ghost use Rattle.std.specs.Prelude.{◌≡◌, ℕ, ◌==◌, [], ◌∷◌, ◌++◌, IfOk, OnOk, drop, if◌then◌else◌};
-ghost use Rattle.sharc_audit.specs.Lines.{told_to};
-ghost use Rattle.sharc_audit.specs.Reported.{told_in};
+ghost use Rattle.sharc_audit.specs.{Lines.told_to, Reported.told_in};
 
 use crate::line::EventLine;
 use crate::matching::told;

@@ -1,7 +1,6 @@
 // The threads that have begun.
 
-ghost use Rattle.std.specs.Prelude.{◌≡◌, ◌==◌, [], ◌∷◌, ◌++◌, OnOk, MatchOption, false};
-ghost use Rattle.std.specs.List.{list_any};
+ghost use Rattle.std.specs.{Prelude.{◌≡◌, ◌==◌, [], ◌∷◌, ◌++◌, OnOk, MatchOption, false}, List.list_any};
 ghost use Rattle.sharc_audit.specs.Known.{ArePlaces, IsPlaceOf};
 
 use crate::run::ThreadRun;

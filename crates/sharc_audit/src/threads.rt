@@ -1,21 +1,14 @@
 // What threads ask for: each is asked with all that the lines report to it, and walked no further than its lines need.
 
 ghost use Rattle.std.specs.Prelude.{◌≡◌, ◌+◌, ◌-◌, ◌<◌, ◌≤◌, ◌==◌, ◌∷◌, ◌++◌, [], IfOk, OnOk, length, drop, find};
-ghost use Rattle.std.specs.Prelude.{MatchOption, IsTrue, true, false, slice_get, Some};
-ghost use Rattle.std.specs.List.{list_any};
-ghost use Rattle.sharc_meaning.specs.Events.{is_of, events_of};
-ghost use Rattle.sharc_meaning.specs.Meaning.{asks};
-ghost use Rattle.sharc_meaning.specs.Store.{spawns};
+ghost use Rattle.std.specs.{Prelude.{MatchOption, IsTrue, true, false, slice_get, Some}, List.list_any};
+ghost use Rattle.sharc_meaning.specs.{Events.{is_of, events_of}, Meaning.asks, Store.spawns};
 ghost use Rattle.sharc_ctype.specs.Resolved.{Resolution, function_at};
 ghost use Rattle.sharc_audit.specs.Judging.{main_of, entry, has_begun, start_of, start_at, next_asked, next_in};
-ghost use Rattle.sharc_audit.specs.Judging.{own_answers, event_at};
-ghost use Rattle.sharc_audit.specs.Known.{AreKnown, ArePlaces};
-ghost use Rattle.sharc_audit.specs.Reported.{AreTold, told_in};
-ghost use Rattle.sharc_judge.specs.Kept.{IsSpawnedOnce};
-ghost use Rattle.sharc_audit.specs.Walks.{IsWalk};
-ghost use Rattle.sharc_audit.specs.Mains.{OneMain};
-ghost use Rattle.sharc_audit.specs.Lines.{told, told_to, IsLine};
+ghost use Rattle.sharc_audit.specs.{Judging.{own_answers, event_at}, Known.{AreKnown, ArePlaces}, Reported.AreTold};
+ghost use Rattle.sharc_audit.specs.{Reported.told_in, Walks.IsWalk, Mains.OneMain, Lines.{told, told_to, IsLine}};
 ghost use Rattle.sharc_audit.specs.declared.threads.NextEvent.TheVariants.{Wants};
+ghost use Rattle.sharc_judge.specs.Kept.{IsSpawnedOnce};
 ghost use Rattle.sharc_tree.specs.declared.event.SourceEvent.{SourceEvent};
 
 use crate::line::EventLine;

@@ -4,8 +4,7 @@ ghost use Rattle.std.specs.Prelude.{◌≤◌, List, ℕ, length, IfOk};
 ghost use Rattle.sharc_reach.specs.Reaching.{AreReached};
 ghost use Rattle.sharc_code.specs.Ranges.{NumbersFit};
 ghost use Rattle.sharc_flat_laws.specs.Typed.{IsTypedProgram};
-ghost use Rattle.sharc_front_end.specs.Compiled.{IsCompiled};
-ghost use Rattle.sharc_front_end.specs.Front.{IsFront};
+ghost use Rattle.sharc_front_end.specs.{Compiled.IsCompiled, Front.IsFront};
 ghost use Rattle.sharc_build.specs.Built.{Builds};
 
 use crate::laws::fronts_are_typed;

@@ -23,8 +23,7 @@ pub struct Bus<A: Allocator = Global> {
 
 impl<A: Allocator> Model for Bus<A> {
     ghost use Rattle.std.specs.Prelude.{◌≡◌};
-    ghost use Rattle.sharc_bus.specs.Bus.{BusView};
-    ghost use Rattle.sharc_bus.specs.Table.{IsBusTable};
+    ghost use Rattle.sharc_bus.specs.{Bus.BusView, Table.IsBusTable};
 
     ghost Value = { BusView };
 

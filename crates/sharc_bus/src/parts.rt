@@ -2,9 +2,7 @@
 
 ghost use Rattle.std.specs.Prelude.{slice_index, suc, ◌≡◌, ◌<◌, ◌+◌, ◌++◌, List, [], length, All, IfOk};
 ghost use Rattle.std.specs.Mem.Slots.{slots_items, slots_len, IsFull};
-ghost use Rattle.sharc_bus.specs.declared.rule.Part.{Part};
-ghost use Rattle.sharc_bus.specs.Rule.{unbegun, words_known};
-ghost use Rattle.sharc_bus.specs.Table.{HasAll, seats_with};
+ghost use Rattle.sharc_bus.specs.{declared.rule.Part.Part, Rule.{unbegun, words_known}, Table.{HasAll, seats_with}};
 
 use crate::bus::Words;
 use crate::rule::{FirstPart, Parts, Together};

@@ -16,8 +16,7 @@ pub struct BusRest {
 }
 
 impl Model for BusRest {
-    ghost use Rattle.sharc_bus.specs.Bus.{RestView};
-    ghost use Rattle.sharc_bus.specs.Table.{IsRest, rest_view};
+    ghost use Rattle.sharc_bus.specs.{Bus.RestView, Table.{IsRest, rest_view}};
 
     ghost Value = { RestView };
 
@@ -67,8 +66,7 @@ pub struct BusRound {
 }
 
 impl Model for BusRound {
-    ghost use Rattle.sharc_bus.specs.Bus.{RestView};
-    ghost use Rattle.sharc_bus.specs.Table.{IsRound, round_view};
+    ghost use Rattle.sharc_bus.specs.{Bus.RestView, Table.{IsRound, round_view}};
 
     ghost Value = { RestView };
 

@@ -22,9 +22,7 @@ pub struct BusSeat {
 
 impl Model for BusSeat {
     ghost use Rattle.std.specs.Prelude.{◌≡◌, [], ◌∷◌};
-    ghost use Rattle.sharc_bus.specs.declared.rule.Part.{Part};
-    ghost use Rattle.sharc_bus.specs.Bus.{SeatView};
-    ghost use Rattle.sharc_bus.specs.Rule.{own_bit, first_number};
+    ghost use Rattle.sharc_bus.specs.{declared.rule.Part.Part, Bus.SeatView, Rule.{own_bit, first_number}};
     ghost use Rattle.sharc_bus.specs.Table.{seat_view};
 
     ghost Value = { SeatView };
@@ -37,9 +35,8 @@ impl Model for BusSeat {
 
 impl BusSeat {
     ghost use Rattle.sharc_word.specs.Place.{event_of};
-    ghost use Rattle.sharc_bus.specs.declared.rule.Part.{Part};
-    ghost use Rattle.sharc_bus.specs.Rule.{own_bit, first_number};
-    ghost use Rattle.sharc_bus.specs.Table.{HasPart, seat_view};
+    ghost use Rattle.sharc_bus.specs.{declared.rule.Part.Part, Rule.{own_bit, first_number}, Table.HasPart};
+    ghost use Rattle.sharc_bus.specs.Table.{seat_view};
 
     // The seat of one port, with the bit that its checks set.
     pub(crate) fn new(seat: Seat<(), Parts>, bit: u64) -> BusSeat

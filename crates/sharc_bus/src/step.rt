@@ -1,9 +1,8 @@
 //! One step on the table of a bus.
 
 ghost use Rattle.std.specs.Prelude.{◌≡◌, ◌<◌, ◌∷◌, [], length};
-ghost use Rattle.sharc_bus.specs.declared.rule.Part.{Part};
+ghost use Rattle.sharc_bus.specs.{declared.rule.Part.Part, Rule.{with_step, own_bit, first_number}};
 ghost use Rattle.sharc_word.specs.declared.step.WordOp.TheVariants.{Or};
-ghost use Rattle.sharc_bus.specs.Rule.{with_step, own_bit, first_number};
 
 use crate::rule::{
     Adds, Ands, BusLaw, Exchanges, Loads, Opening, Ors, OrsOwnBit, OrsOwnBits, Parts, Subs, Swaps,

@@ -3,10 +3,7 @@
 ghost use Rattle.std.specs.Prelude.{◌≡◌, IfOk};
 ghost use Rattle.sharc_reach.specs.Reaching.{AreReached};
 ghost use Rattle.sharc_mode.specs.WellModed.{notes_about};
-ghost use Rattle.sharc_check.specs.Rules.{MeetsRules};
-ghost use Rattle.sharc_check.specs.Checks.{AreAll, Checks};
-ghost use Rattle.sharc_check.specs.Named.{TellNamed};
-ghost use Rattle.sharc_check.specs.Threads.{touched_by};
+ghost use Rattle.sharc_check.specs.{Rules.MeetsRules, Checks.{AreAll, Checks}, Named.TellNamed, Threads.touched_by};
 
 use crate::moved_variables::settle;
 use crate::named::NamedVariables;

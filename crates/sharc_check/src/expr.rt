@@ -1,12 +1,9 @@
 // What is said of expressions.
 
 ghost use Rattle.std.specs.Prelude.{◌≡◌, ◌++◌, OnOk};
-ghost use Rattle.sharc_tree.specs.Tree.{argument, no_arguments};
-ghost use Rattle.sharc_tree.specs.View.{view_expr, view_arguments};
-ghost use Rattle.sharc_ctype.specs.Resolved.{named_at};
-ghost use Rattle.sharc_ctype.specs.Transfers.{parameters_named};
-ghost use Rattle.sharc_mode.specs.Expressions.{expected, notes_of, notes_of_all};
-ghost use Rattle.sharc_mode.specs.Notes.{agree_notes, call_notes};
+ghost use Rattle.sharc_tree.specs.{Tree.{argument, no_arguments}, View.{view_expr, view_arguments}};
+ghost use Rattle.sharc_ctype.specs.{Resolved.named_at, Transfers.parameters_named};
+ghost use Rattle.sharc_mode.specs.{Expressions.{expected, notes_of, notes_of_all}, Notes.{agree_notes, call_notes}};
 
 use crate::passing::{Passed, Passing, without_first};
 use crate::rules::{agree, call, cast, expected, field, place, source};

@@ -1,7 +1,6 @@
 // From what is said of all constructs to the cases that arise: M10 is decided when all is known.
 
-ghost use Rattle.std.specs.Prelude.{◌≡◌, ◌++◌, false, fold, replicate, reverse, IfOk, OnOk};
-ghost use Rattle.std.specs.List.{flat_map};
+ghost use Rattle.std.specs.{Prelude.{◌≡◌, ◌++◌, false, fold, replicate, reverse, IfOk, OnOk}, List.flat_map};
 ghost use Rattle.sharc_mode.specs.Notes.{errors_of};
 ghost use Rattle.sharc_check.specs.Settles.{taken_errors, settled, marked, marks, past, past_all};
 

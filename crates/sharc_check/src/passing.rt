@@ -1,8 +1,7 @@
 // What is passed at a call or a spawn, and to which parameters.
 
 ghost use Rattle.std.specs.Prelude.{◌≡◌, drop};
-ghost use Rattle.sharc_mode.specs.Rows.{at_call, argument_use};
-ghost use Rattle.sharc_mode.specs.View.{view_reading};
+ghost use Rattle.sharc_mode.specs.{Rows.{at_call, argument_use}, View.view_reading};
 ghost use Rattle.sharc_check.specs.Passed.{view_passed};
 
 use sharc_ctype::typed::Typed;

@@ -1,21 +1,16 @@
 // What is said of one construct: the rules M1, M2, M4 of calls, and M8 to M11.
 
-ghost use Rattle.std.specs.Prelude.{◌≡◌, ◌+◌, ◌≤◌, ◌++◌, ◌∷◌, [], drop, IfOk, OnOk};
-ghost use Rattle.std.specs.List.{flat_map, list_any};
+ghost use Rattle.std.specs.{Prelude.{◌≡◌, ◌+◌, ◌≤◌, ◌++◌, ◌∷◌, [], drop, IfOk, OnOk}, List.{flat_map, list_any}};
 ghost use Rattle.std.specs.Option.{option_map, option_or};
-ghost use Rattle.sharc_tree.specs.Spans.{span_of};
-ghost use Rattle.sharc_tree.specs.View.{view_expr};
+ghost use Rattle.sharc_tree.specs.{Spans.span_of, View.view_expr};
 ghost use Rattle.sharc_names.specs.View.{view_root};
-ghost use Rattle.sharc_mode.specs.Cells.{cell_at};
-ghost use Rattle.sharc_mode.specs.Expressions.{expected, place_notes};
-ghost use Rattle.sharc_mode.specs.Moded.{position_count};
+ghost use Rattle.sharc_mode.specs.{Cells.cell_at, Expressions.{expected, place_notes}, Moded.position_count};
 ghost use Rattle.sharc_mode.specs.Notes.{error, error_where, mismatch, shown, no_type, span_text, agree_notes};
 ghost use Rattle.sharc_mode.specs.Notes.{write_notes, cast_notes, taken_variable, takes, source_notes, names_of};
 ghost use Rattle.sharc_mode.specs.Notes.{names_in, names_in_all, sibling_notes, field_notes, unmet, unmet_in};
 ghost use Rattle.sharc_mode.specs.Notes.{unmet_level, unmet_written, unmet_parameter, first_unmet, unmet_notes};
-ghost use Rattle.sharc_mode.specs.Notes.{names_read, parameter_names, names_at_call, call_notes};
-ghost use Rattle.sharc_mode.specs.Rows.{at_call, modes_of, modes_at, cast_row};
-ghost use Rattle.sharc_mode.specs.Sharings.{is_readonly, is_sibling};
+ghost use Rattle.sharc_mode.specs.{Notes.{names_read, parameter_names, names_at_call, call_notes}, Rows.at_call};
+ghost use Rattle.sharc_mode.specs.{Rows.{modes_of, modes_at, cast_row}, Sharings.{is_readonly, is_sibling}};
 ghost use Rattle.sharc_mode.specs.View.{view_reading, view_row, view_rows, view_sharing, EndsWithin};
 ghost use Rattle.sharc_check.specs.Passed.{view_passed, view_locks};
 

@@ -1,14 +1,11 @@
 // What is said of statements and of functions.
 
-ghost use Rattle.std.specs.Prelude.{◌≡◌, ◌++◌, OnOk};
-ghost use Rattle.std.specs.Option.{option_map};
+ghost use Rattle.std.specs.{Prelude.{◌≡◌, ◌++◌, OnOk}, Option.option_map};
 ghost use Rattle.sharc_tree.specs.View.{view_expr, view_option, view_right, view_simple, view_local, view_first};
 ghost use Rattle.sharc_tree.specs.View.{view_head, view_stmt, view_statements, view_item, view_items};
 ghost use Rattle.sharc_mode.specs.Expressions.{notes_of, option_notes, right_notes, simple_notes, local_notes};
 ghost use Rattle.sharc_mode.specs.Expressions.{return_notes, first_notes, head_notes, notes_in, notes_in_all};
-ghost use Rattle.sharc_mode.specs.Expressions.{item_notes, items_notes};
-ghost use Rattle.sharc_mode.specs.Rows.{modes_of};
-ghost use Rattle.sharc_mode.specs.View.{view_rows, EndsWithin};
+ghost use Rattle.sharc_mode.specs.{Expressions.{item_notes, items_notes}, Rows.modes_of, View.{view_rows, EndsWithin}};
 
 use crate::expr::expression;
 use crate::rules::{agree, write};

@@ -1,13 +1,9 @@
 // What is said of what threads get (M7): the parameters of spawned functions, and touched globals.
 
-ghost use Rattle.std.specs.Prelude.{◌≡◌, ◌++◌, length, OnOk};
-ghost use Rattle.std.specs.List.{flat_map};
-ghost use Rattle.std.specs.Option.{option_copied, option_map};
+ghost use Rattle.std.specs.{Prelude.{◌≡◌, ◌++◌, length, OnOk}, List.flat_map, Option.{option_copied, option_map}};
 ghost use Rattle.sharc_tree.specs.View.{view_function};
 ghost use Rattle.sharc_ctype.specs.Resolved.{functions_in, globals_in};
-ghost use Rattle.sharc_mode.specs.Cells.{top_of};
-ghost use Rattle.sharc_mode.specs.Notes.{is_private_level};
-ghost use Rattle.sharc_mode.specs.Rows.{written, declared_row, modes_of};
+ghost use Rattle.sharc_mode.specs.{Cells.top_of, Notes.is_private_level, Rows.{written, declared_row, modes_of}};
 ghost use Rattle.sharc_mode.specs.WellModed.{has_private_target, parameter_notes, spawned_notes, touched_notes};
 ghost use Rattle.sharc_reach.specs.Reaching.{AreReached};
 ghost use Rattle.sharc_check.specs.Threads.{function_notes, global_notes, touched_by};

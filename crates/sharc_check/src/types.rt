@@ -1,12 +1,11 @@
 // What is said of types: M3 to M6, and which variables their paths name.
 
-ghost use Rattle.std.specs.Prelude.{◌≡◌, ◌+◌, ◌≤◌, ◌++◌, OnOk};
-ghost use Rattle.std.specs.List.{flat_map, list_any};
+ghost use Rattle.std.specs.{Prelude.{◌≡◌, ◌+◌, ◌≤◌, ◌++◌, OnOk}, List.{flat_map, list_any}};
 ghost use Rattle.sharc_ctype.specs.Entities.{entities_in, numbered, positions_of};
-ghost use Rattle.sharc_mode.specs.Moded.{position_count};
-ghost use Rattle.sharc_mode.specs.Notes.{levels_of, private_notes, path_notes, mode_notes, is_private_level};
-ghost use Rattle.sharc_mode.specs.Notes.{is_field_role, private_field_notes, names_in_level, type_notes};
-ghost use Rattle.sharc_mode.specs.WellFormed.{place_of, holds_private, first_unfit_path, first_unfit_mode};
+ghost use Rattle.sharc_mode.specs.{Moded.position_count, Notes.{levels_of, private_notes, path_notes, mode_notes}};
+ghost use Rattle.sharc_mode.specs.Notes.{is_private_level, is_field_role, private_field_notes, names_in_level};
+ghost use Rattle.sharc_mode.specs.{Notes.type_notes, WellFormed.{place_of, holds_private, first_unfit_path}};
+ghost use Rattle.sharc_mode.specs.WellFormed.{first_unfit_mode};
 ghost use Rattle.sharc_check.specs.Levels.{is_shared_top, holds_below};
 
 use crate::rules::{error, mismatch, name_in};

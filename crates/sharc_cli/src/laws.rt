@@ -1,9 +1,7 @@
 //! The laws of the definition, each the contract of a function that does nothing.
 
 ghost use Rattle.std.specs.Prelude.{◌≡◌, List, Some, ◌↔◌};
-ghost use Rattle.sharc_cli.specs.Bounds.{AreWithin};
-ghost use Rattle.sharc_cli.specs.Commands.{Word, commands};
-ghost use Rattle.sharc_cli.specs.Written.{IsCommand};
+ghost use Rattle.sharc_cli.specs.{Bounds.AreWithin, Commands.{Word, commands}, Written.IsCommand};
 ghost use Rattle.sharc_cli.specs.declared.command.Command.{Command};
 
 /// Words are a command exactly where they are its name and, after it, the words of its arguments in some order, each

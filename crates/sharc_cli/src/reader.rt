@@ -1,11 +1,8 @@
 //! Reading the words.
 
 ghost use Rattle.std.specs.Prelude.{false, ◌<◌, ◌≡◌, ◌∷◌, [], codes, map, option_map, string_bytes, IfOk, Some, None};
-ghost use Rattle.std.specs.List.{list_all};
-ghost use Rattle.std.specs.Str.{all_ascii_digits};
-ghost use Rattle.clap.specs.Simple.{app_of, subcommand_rows_of};
-ghost use Rattle.clap.specs.Walk.{rows_of};
-ghost use Rattle.clap.specs.Matches.{found_of};
+ghost use Rattle.std.specs.{List.list_all, Str.all_ascii_digits};
+ghost use Rattle.clap.specs.{Simple.{app_of, subcommand_rows_of}, Walk.rows_of, Matches.found_of};
 ghost use Rattle.sharc_cli.specs.Commands.{command_of, commands, load_of, number_in, number_or, record_of, run_of};
 ghost use Rattle.sharc_cli.specs.Line.{command_in, bare_line, is_plain, IsSubcommand, line, seen, values_in, with_form};
 

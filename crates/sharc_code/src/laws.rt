@@ -1,9 +1,6 @@
 //! Laws of shapes, of threads and of checked runs. A proof above has them where its function calls these.
 
-ghost use Rattle.sharc_code.specs.Layout.{Fits, IsShape};
-ghost use Rattle.sharc_code.specs.Laws.{RunLaws};
-ghost use Rattle.sharc_code.specs.Ranges.{RangeLaws};
-ghost use Rattle.sharc_code.specs.StandingLaws.{StandingLaws};
+ghost use Rattle.sharc_code.specs.{Layout.{Fits, IsShape}, Laws.RunLaws, Ranges.RangeLaws, StandingLaws.StandingLaws};
 ghost use Rattle.sharc_code.specs.ThreadLaws.{ThreadLaws};
 
 use crate::code::Code;

@@ -1,8 +1,6 @@
 //! The text of code.
 
-ghost use Rattle.std.specs.Prelude.{◌≡◌, ◌++◌, IfOk, OnOk, decimal, codes};
-ghost use Rattle.std.specs.List.{flat_map};
-ghost use Rattle.std.specs.Fmt.{signed_decimal};
+ghost use Rattle.std.specs.{Prelude.{◌≡◌, ◌++◌, IfOk, OnOk, decimal, codes}, List.flat_map, Fmt.signed_decimal};
 ghost use Rattle.sharc_code.specs.Listing.{operator_text, width_text, pair_text, cell_text, register_text};
 ghost use Rattle.sharc_code.specs.Listing.{operand_text, line, line_of, shared_line_of, listing_of};
 ghost use Rattle.sharc_code.specs.declared.lines.Operand.TheVariants.{Index};

@@ -1,8 +1,7 @@
 //! What the words hold at first.
 
 ghost use Rattle.std.specs.Prelude.{◌≡◌, IfOk};
-ghost use Rattle.sharc_code.specs.Layout.{Fits, IsShape};
-ghost use Rattle.sharc_code.specs.Opening.{opens_with, opening_cell, opening_words};
+ghost use Rattle.sharc_code.specs.{Layout.{Fits, IsShape}, Opening.{opens_with, opening_cell, opening_words}};
 
 use crate::code::Code;
 use crate::laws::fits_law;

@@ -1,7 +1,6 @@
 //! The law of generated code.
 
-ghost use Rattle.sharc_compile.specs.Correct.{GeneratedKeepsPaths};
-ghost use Rattle.sharc_compile.specs.OfRuns.{RunsHavePaths};
+ghost use Rattle.sharc_compile.specs.{Correct.GeneratedKeepsPaths, OfRuns.RunsHavePaths};
 
 use sharc_code::{run_laws, thread_laws};
 

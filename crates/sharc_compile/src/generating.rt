@@ -1,11 +1,9 @@
 //! The code of guarded code.
 
 ghost use Rattle.std.specs.Prelude.{◌≡◌, IfOk, slice_index_or};
-ghost use Rattle.sharc_code.specs.Machine.{no_function};
-ghost use Rattle.sharc_code.specs.Ranges.{NumbersFit};
+ghost use Rattle.sharc_code.specs.{Machine.no_function, Ranges.NumbersFit};
 ghost use Rattle.sharc_compile.specs.Generated.{IsGenerated, generated, instr_of, program_of};
-ghost use Rattle.sharc_guard.specs.Form.{IsGuarded};
-ghost use Rattle.sharc_guard.specs.GuardedTables.{TablesFit};
+ghost use Rattle.sharc_guard.specs.{Form.IsGuarded, GuardedTables.TablesFit};
 
 use sharc_code::{Code, Function, Instr};
 use sharc_guard::Guarded;

@@ -1,11 +1,7 @@
 //! The laws of code that is made of flat code.
 
-ghost use Rattle.sharc_compile.specs.Checked.{CodeIsChecked};
-ghost use Rattle.sharc_compile.specs.Coded.{CodeFollowsFlat};
-ghost use Rattle.sharc_compile.specs.Held.{CodeCounts};
-ghost use Rattle.sharc_compile.specs.Made.{MadeCodeFollows};
-ghost use Rattle.sharc_compile.specs.Program.{ProgramCodeFollows};
-ghost use Rattle.sharc_compile.specs.Runs.{RunsFollowSource};
+ghost use Rattle.sharc_compile.specs.{Checked.CodeIsChecked, Coded.CodeFollowsFlat, Held.CodeCounts};
+ghost use Rattle.sharc_compile.specs.{Made.MadeCodeFollows, Program.ProgramCodeFollows, Runs.RunsFollowSource};
 ghost use Rattle.sharc_compile.specs.Source.{CodeFollowsSource};
 
 use crate::generated_laws::{paths_law, run_paths_law};

@@ -2,8 +2,7 @@
 
 ghost use Rattle.std.specs.Prelude.{IfOk};
 ghost use Rattle.sharc_code.specs.Ranges.{NumbersFit};
-ghost use Rattle.sharc_flat.specs.Framed.{IsFramed};
-ghost use Rattle.sharc_flat.specs.Made.{flat_of};
+ghost use Rattle.sharc_flat.specs.{Framed.IsFramed, Made.flat_of};
 ghost use Rattle.sharc_guard.specs.Tables.{FlatTablesFit};
 ghost use Rattle.sharc_compile.specs.Made.{IsCodeOf};
 

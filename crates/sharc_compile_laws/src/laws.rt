@@ -1,10 +1,8 @@
 //! The laws, each the contract of a function that calls at most the laws that it joins.
 
-ghost use Rattle.sharc_compile_laws.specs.Names.{CodeHasMain, FunctionsAreNamed};
-ghost use Rattle.sharc_compile_laws.specs.Paths.{OfTyped, PathsTell, ThreadsTellInRuns};
-ghost use Rattle.sharc_compile_laws.specs.Started.{SpawnedAreThreads, ThreadsMayStart};
-ghost use Rattle.sharc_compile_laws.specs.Threads.{ThreadsTell};
-ghost use Rattle.sharc_compile_laws.specs.Typed.{TypedCodeCounts, TypedThreadsTell};
+ghost use Rattle.sharc_compile_laws.specs.{Names.{CodeHasMain, FunctionsAreNamed}, Paths.{OfTyped, PathsTell}};
+ghost use Rattle.sharc_compile_laws.specs.{Paths.ThreadsTellInRuns, Started.{SpawnedAreThreads, ThreadsMayStart}};
+ghost use Rattle.sharc_compile_laws.specs.{Threads.ThreadsTell, Typed.{TypedCodeCounts, TypedThreadsTell}};
 
 use crate::flattened::{made_locks_stand, typed_is_level};
 use sharc_compile::{held_law, program_law, run_law};

@@ -2,8 +2,7 @@
 
 ghost use Rattle.std.specs.Prelude.{◌≡◌, IfOk, ◌<◌, ◌*◌, min, ◌^◌, ◌-◌};
 ghost use Rattle.sharc_word.specs.declared.step.TheConstants.{THREADS as threads};
-ghost use Rattle.sharc_code.specs.Layout.{IsShape};
-ghost use Rattle.sharc_code.specs.Path.{begun, most_ints, most_refs};
+ghost use Rattle.sharc_code.specs.{Layout.IsShape, Path.{begun, most_ints, most_refs}};
 ghost use Rattle.sharc_cpu.specs.View.{rest_of, machine_of};
 
 use crate::parts::ThreadParts;

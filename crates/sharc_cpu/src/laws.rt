@@ -3,10 +3,8 @@
 ghost use Rattle.std.specs.Prelude.{◌≡◌, ◌↔◌, ◌<◌, IsSome, length};
 ghost use Rattle.sharc_word.specs.declared.step.TheConstants.{THREADS as threads};
 ghost use Rattle.sharc_code.specs.declared.state.TurnState.TheVariants as states;
-ghost use Rattle.sharc_code.specs.Layout.{granules};
-ghost use Rattle.sharc_code.specs.Stages.{IsStageOf};
-ghost use Rattle.sharc_cpu.specs.Thread.{IsThread};
-ghost use Rattle.sharc_cpu.specs.Quantum.{PathsJoin};
+ghost use Rattle.sharc_code.specs.{Layout.granules, Stages.IsStageOf};
+ghost use Rattle.sharc_cpu.specs.{Thread.IsThread, Quantum.PathsJoin};
 
 use crate::thread::Thread;
 use sharc_code::{Code, Shape, thread_laws};

@@ -3,10 +3,9 @@
 ghost use Rattle.std.specs.Prelude.{◌≡◌, ◌<◌, ◌+◌, ◌^◌, ◌==◌, if◌then◌else◌, nat_lt, length, vec_capacity};
 ghost use Rattle.sharc_word.specs.declared.step.WordOp.TheVariants as ops;
 ghost use Rattle.sharc_word.specs.declared.step.TheConstants.{THREADS as threads};
-ghost use Rattle.sharc_code.specs.Layout.{IsShape, words_of};
+ghost use Rattle.sharc_code.specs.{Layout.{IsShape, words_of}, Machine.{Asks, step_of, word, goes, taken, locked}};
+ghost use Rattle.sharc_code.specs.Machine.{unlocked, rests, woken, wakes, signal};
 ghost use Rattle.sharc_locks.specs.Waiters.{without_lowest};
-ghost use Rattle.sharc_code.specs.Machine.{Asks, step_of, word, goes, taken, locked, unlocked, rests, woken, wakes};
-ghost use Rattle.sharc_code.specs.Machine.{signal};
 ghost use Rattle.sharc_cpu.specs.View.{rest_of, machine_of, IsWithin, Makes, KeepsPort};
 
 use crate::cells::{ask, give_up_base, object, word};

@@ -2,13 +2,12 @@
 
 ghost use Rattle.std.specs.Prelude.{◌≡◌, ◌<◌, ◌≤◌, ◌+◌, ◌*◌, ◌^◌, max, slice_index, vec_capacity};
 ghost use Rattle.sharc_word.specs.declared.step.WordOp.TheVariants as ops;
-ghost use Rattle.sharc_heap.specs.State.{begun, told, turn_of};
-ghost use Rattle.sharc_heap.specs.Block.{block_of};
+ghost use Rattle.sharc_heap.specs.{State.{begun, told, turn_of}, Block.block_of};
 ghost use Rattle.sharc_code.specs.Layout.{IsShape, granules, first_cell, granule_at, words_of, shadow_word, cell_word};
-ghost use Rattle.sharc_code.specs.Layout.{cell_of};
-ghost use Rattle.sharc_code.specs.Machine.{size_of, elements_of, all_cells, made, goes_on_new, asks_new, new};
-ghost use Rattle.sharc_code.specs.Machine.{data_granules, data_granule, looks, clear, layout_at, pointer_cell, fields};
-ghost use Rattle.sharc_code.specs.Machine.{free_looks, empties, emptied, free_size, free_head, freed, free, ref, int};
+ghost use Rattle.sharc_code.specs.{Layout.cell_of, Machine.{size_of, elements_of, all_cells, made, goes_on_new}};
+ghost use Rattle.sharc_code.specs.Machine.{asks_new, new, data_granules, data_granule, looks, clear, layout_at};
+ghost use Rattle.sharc_code.specs.Machine.{pointer_cell, fields, free_looks, empties, emptied, free_size, free_head};
+ghost use Rattle.sharc_code.specs.Machine.{freed, free, ref, int};
 ghost use Rattle.sharc_cpu.specs.View.{rest_of, machine_of, IsWithin, Makes, KeepsPort};
 
 use crate::cells::{ask, step_of};

@@ -24,8 +24,7 @@ pub struct ThreadParts {
 impl ThreadParts {
     ghost use Rattle.std.specs.Prelude.{◌≡◌, ◌<◌, ◌+◌, ◌++◌, [], ◌∷◌, Some, pos, slice_index, slice_index_or};
     ghost use Rattle.std.specs.Prelude.{slice_set, vec_len, vec_capacity};
-    ghost use Rattle.sharc_code.specs.declared.state.Print.{Print};
-    ghost use Rattle.sharc_code.specs.Machine.{no_frame};
+    ghost use Rattle.sharc_code.specs.{declared.state.Print.Print, Machine.no_frame};
     ghost use Rattle.sharc_cpu.specs.View.{rest_of};
 
     /// The integer in a register of the frame.

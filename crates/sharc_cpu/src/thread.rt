@@ -19,8 +19,7 @@ pub struct Thread {
 
 impl Model for Thread {
     ghost use Rattle.std.specs.Prelude.{◌-◌, vec_len, vec_capacity};
-    ghost use Rattle.sharc_cpu.specs.Thread.{ThreadView};
-    ghost use Rattle.sharc_cpu.specs.View.{machine_of};
+    ghost use Rattle.sharc_cpu.specs.{Thread.ThreadView, View.machine_of};
 
     ghost Value = { ThreadView };
 
@@ -36,10 +35,7 @@ impl Thread {
     ghost use Rattle.std.specs.Prelude.{◌≡◌, ◌≤◌, ◌<◌, ◌↔◌, [], length, IsTrue, IfOk, OnOk};
     ghost use Rattle.sharc_word.specs.declared.step.TheConstants.{THREADS as threads};
     ghost use Rattle.sharc_heap.specs.Accesses.{note_of, site_at};
-    ghost use Rattle.sharc_code.specs.Layout.{Fits};
-    ghost use Rattle.sharc_code.specs.Machine.{int, ref};
-    ghost use Rattle.sharc_code.specs.Path.{begun};
-    ghost use Rattle.sharc_code.specs.Stages.{begins_of};
+    ghost use Rattle.sharc_code.specs.{Layout.Fits, Machine.{int, ref}, Path.begun, Stages.begins_of};
     ghost use Rattle.sharc_cpu.specs.Thread.{IsThread};
 
     /// The thread of this number, which made no turn.

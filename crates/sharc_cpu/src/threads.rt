@@ -4,10 +4,9 @@ ghost use Rattle.std.specs.Prelude.{◌≡◌, ◌<◌, ◌+◌, ◌^◌, length
 ghost use Rattle.sharc_word.specs.declared.step.WordOp.TheVariants as ops;
 ghost use Rattle.sharc_word.specs.declared.step.TheConstants.{THREADS as threads};
 ghost use Rattle.sharc_code.specs.Layout.{IsShape, granules, words_of, function_at, prints_word};
-ghost use Rattle.sharc_code.specs.declared.state.Stage.TheVariants.{Rests};
-ghost use Rattle.sharc_code.specs.Machine.{Asks, step_of, int, argument, handed, numbered, spawn, joined, join};
-ghost use Rattle.sharc_code.specs.Machine.{printed, function_of, with_parameter, entered, start, row_of, without_own};
-ghost use Rattle.sharc_code.specs.Machine.{withdraws, withdrew, ends, exit};
+ghost use Rattle.sharc_code.specs.{declared.state.Stage.TheVariants.Rests, Machine.{Asks, step_of, int, argument}};
+ghost use Rattle.sharc_code.specs.Machine.{handed, numbered, spawn, joined, join, printed, function_of, with_parameter};
+ghost use Rattle.sharc_code.specs.Machine.{entered, start, row_of, without_own, withdraws, withdrew, ends, exit};
 ghost use Rattle.sharc_cpu.specs.View.{rest_of, machine_of, IsWithin, Makes, KeepsPort};
 
 use crate::arithmetic::{int_of, word_of};

@@ -1,9 +1,7 @@
 //! What a thread waits for.
 
 ghost use Rattle.std.specs.Prelude.{◌≡◌};
-ghost use Rattle.sharc_code.specs.Layout.{IsShape};
-ghost use Rattle.sharc_code.specs.Path.{may_go};
-ghost use Rattle.sharc_code.specs.Waits.{joins, wait_of};
+ghost use Rattle.sharc_code.specs.{Layout.IsShape, Path.may_go, Waits.{joins, wait_of}};
 ghost use Rattle.sharc_cpu.specs.View.{machine_of};
 
 use crate::cells::word;

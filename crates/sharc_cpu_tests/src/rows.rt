@@ -2,8 +2,7 @@
 
 ghost use Rattle.std.specs.Prelude.{◌≡◌, length, IfOk};
 ghost use Rattle.sharc_code.specs.Layout.{Fits, words_of};
-ghost use Rattle.sharc_cpu.specs.Rows.{IsPlan};
-ghost use Rattle.sharc_cpu.specs.Thread.{IsThread};
+ghost use Rattle.sharc_cpu.specs.{Rows.IsPlan, Thread.IsThread};
 
 use crate::code::{code, shape};
 use sharc_code::Instr::{

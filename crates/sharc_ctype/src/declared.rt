@@ -1,9 +1,7 @@
 // Declarations in source order, found by the tokens of their names.
 
-ghost use Rattle.std.specs.Prelude.{◌≡◌, [], ◌∷◌, ◌++◌, OnOk};
-ghost use Rattle.std.specs.Option.{option_copied};
-ghost use Rattle.sharc_ctype.specs.Resolved.{declared_at};
-ghost use Rattle.sharc_ctype.specs.FirstPlaces.{HasFirstPlaces};
+ghost use Rattle.std.specs.{Prelude.{◌≡◌, [], ◌∷◌, ◌++◌, OnOk}, Option.option_copied};
+ghost use Rattle.sharc_ctype.specs.{Resolved.declared_at, FirstPlaces.HasFirstPlaces};
 
 use crate::first_place::note_first;
 use indexmap::IndexMap;

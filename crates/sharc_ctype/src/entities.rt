@@ -1,7 +1,6 @@
 // Entities in source order, numbered by their positions, found by their tokens.
 
-ghost use Rattle.std.specs.Prelude.{◌≡◌, ◌+◌, ◌≤◌, ◌^◌, [], ◌∷◌, ◌++◌, IfOk, OnOk, OnErr};
-ghost use Rattle.std.specs.Option.{option_copied};
+ghost use Rattle.std.specs.{Prelude.{◌≡◌, ◌+◌, ◌≤◌, ◌^◌, [], ◌∷◌, ◌++◌, IfOk, OnOk, OnErr}, Option.option_copied};
 ghost use Rattle.sharc_ctype.specs.Entities.{numbered, numbered_at, positions_in, positions_of};
 ghost use Rattle.sharc_ctype.specs.FirstEntities.{HasEntityPlace, HasFirstEntities};
 

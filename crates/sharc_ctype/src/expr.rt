@@ -1,21 +1,17 @@
 // The types of expressions, and the faults in them.
 
 ghost use Rattle.std.specs.Prelude.{◌≡◌, ◌&&◌, ◌++◌, fold, is_some};
-ghost use Rattle.sharc_tree.specs.Tree.{call, spawn, cast, field};
-ghost use Rattle.sharc_tree.specs.View.{view_expr, view_arguments};
-ghost use Rattle.sharc_names.specs.Names.{look_up};
-ghost use Rattle.sharc_names.specs.Needs.{met, unmet};
-ghost use Rattle.sharc_names.specs.Notes.{noted};
-ghost use Rattle.sharc_names.specs.Types.{is_fine, name_kind, name_notes};
-ghost use Rattle.sharc_names.specs.View.{view_kind, view_kinds, view_bound, view_bounds, view_meaning, view_wanted};
-ghost use Rattle.sharc_names.specs.View.{view_wanteds};
-ghost use Rattle.sharc_ctype.specs.declared.expr.Standing.TheVariants.{AsLvalue};
-ghost use Rattle.sharc_ctype.specs.Expressions.{constant_kind, number_kind, access_need, element_of, operand_need};
-ghost use Rattle.sharc_ctype.specs.Expressions.{unary_result, unary_kind, class_of, operands_need, binary_result};
-ghost use Rattle.sharc_ctype.specs.Expressions.{may_join, binary_kind, binary_notes, is_function_name, names_function};
-ghost use Rattle.sharc_ctype.specs.Expressions.{is_place, place_kind, place_notes, suits, place_call_kind};
-ghost use Rattle.sharc_ctype.specs.Expressions.{place_call_notes, value_call_kind, keeps_kind, cast_kind, cast_notes};
-ghost use Rattle.sharc_ctype.specs.Expressions.{can_spawn, spawn_notes, may_spawn, spawn_kind, spawn_wanted, takes};
+ghost use Rattle.sharc_tree.specs.{Tree.{call, spawn, cast, field}, View.{view_expr, view_arguments}};
+ghost use Rattle.sharc_names.specs.{Names.look_up, Needs.{met, unmet}, Notes.noted, Types.{is_fine, name_kind}};
+ghost use Rattle.sharc_names.specs.{Types.name_notes, View.{view_kind, view_kinds, view_bound, view_bounds}};
+ghost use Rattle.sharc_names.specs.View.{view_meaning, view_wanted, view_wanteds};
+ghost use Rattle.sharc_ctype.specs.{declared.expr.Standing.TheVariants.AsLvalue, Expressions.constant_kind};
+ghost use Rattle.sharc_ctype.specs.Expressions.{number_kind, access_need, element_of, operand_need, unary_result};
+ghost use Rattle.sharc_ctype.specs.Expressions.{unary_kind, class_of, operands_need, binary_result, may_join};
+ghost use Rattle.sharc_ctype.specs.Expressions.{binary_kind, binary_notes, is_function_name, names_function, is_place};
+ghost use Rattle.sharc_ctype.specs.Expressions.{place_kind, place_notes, suits, place_call_kind, place_call_notes};
+ghost use Rattle.sharc_ctype.specs.Expressions.{value_call_kind, keeps_kind, cast_kind, cast_notes, can_spawn};
+ghost use Rattle.sharc_ctype.specs.Expressions.{spawn_notes, may_spawn, spawn_kind, spawn_wanted, takes};
 ghost use Rattle.sharc_ctype.specs.Expressions.{uncalled_notes, count_notes, callee_notes, wanted_if, wanted};
 ghost use Rattle.sharc_ctype.specs.Expressions.{call_result, call_kind, type_of, are_fine, notes_at, notes_of};
 ghost use Rattle.sharc_ctype.specs.Expressions.{notes_of_all};

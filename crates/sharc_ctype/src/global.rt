@@ -2,8 +2,7 @@
 
 ghost use Rattle.std.specs.Prelude.{◌≡◌, ℕ, ◌≤◌, ◌+◌, min, fold};
 ghost use Rattle.sharc_tree.specs.View.{view_item, view_items};
-ghost use Rattle.sharc_names.specs.Notes.{noted};
-ghost use Rattle.sharc_names.specs.View.{found_struct};
+ghost use Rattle.sharc_names.specs.{Notes.noted, View.found_struct};
 ghost use Rattle.sharc_ctype.specs.Globals.{elements_of, struct_cells, base_cells, type_cells, global_cells};
 ghost use Rattle.sharc_ctype.specs.Globals.{length_notes, holds, holds_constant, is_null_constant, base_initial_notes};
 ghost use Rattle.sharc_ctype.specs.Globals.{initial_notes, global_notes, size_notes, item_cells, item_size_notes};

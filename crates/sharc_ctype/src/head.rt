@@ -1,14 +1,10 @@
 // The names of the file: structs, globals and functions, which are known everywhere in it.
 
 ghost use Rattle.std.specs.Prelude.{◌≡◌, ◌<◌, ◌+◌, ◌^◌, length, fold, is_some, OnOk};
-ghost use Rattle.sharc_tree.specs.View.{view_item, view_items, view_function};
-ghost use Rattle.sharc_tree.specs.Tree.{structure, global, function};
-ghost use Rattle.sharc_names.specs.Names.{look_up, struct_of};
-ghost use Rattle.sharc_names.specs.Notes.{noted};
-ghost use Rattle.sharc_names.specs.View.{view_bound, view_signature};
+ghost use Rattle.sharc_tree.specs.{View.{view_item, view_items, view_function}, Tree.{structure, global, function}};
+ghost use Rattle.sharc_names.specs.{Names.{look_up, struct_of}, Notes.noted, View.{view_bound, view_signature}};
 ghost use Rattle.sharc_ctype.specs.Heads.{with_struct, with_entry, signature_of, behind, behind_all, twice, within};
-ghost use Rattle.sharc_ctype.specs.Heads.{head_notes, heads_notes};
-ghost use Rattle.sharc_ctype.specs.Statements.{with_names};
+ghost use Rattle.sharc_ctype.specs.{Heads.{head_notes, heads_notes}, Statements.with_names};
 
 use sharc_names::fault::{FaultCode, Found, Named};
 use sharc_names::fields::Fields;

@@ -1,7 +1,6 @@
 // The types of the expressions of a typed program, from what its names name alone.
 
-ghost use Rattle.std.specs.Prelude.{◌≡◌};
-ghost use Rattle.std.specs.Option.{option_copied};
+ghost use Rattle.std.specs.{Prelude.◌≡◌, Option.option_copied};
 ghost use Rattle.sharc_tree.specs.View.{view_expr};
 ghost use Rattle.sharc_names.specs.View.{view_kind};
 ghost use Rattle.sharc_ctype.specs.Resolved.{variable_kind, named_kind, called_kind, kind_at};

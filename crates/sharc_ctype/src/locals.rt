@@ -1,11 +1,9 @@
 // The limit on the locals of a function: a pass of its own.
 
 ghost use Rattle.std.specs.Prelude.{◌≡◌, ◌-◌, ◌==◌, length, fold};
-ghost use Rattle.sharc_names.specs.declared.fault.FaultCode.TheVariants.{LimitPassed};
-ghost use Rattle.sharc_names.specs.Notes.{noted, fault_where};
+ghost use Rattle.sharc_names.specs.{declared.fault.FaultCode.TheVariants.LimitPassed, Notes.{noted, fault_where}};
 ghost use Rattle.sharc_tree.specs.View.{view_first, view_stmt, view_statements};
-ghost use Rattle.sharc_ctype.specs.Items.{beyond};
-ghost use Rattle.sharc_ctype.specs.Statements.{first_locals, locals_in, locals_in_all};
+ghost use Rattle.sharc_ctype.specs.{Items.beyond, Statements.{first_locals, locals_in, locals_in_all}};
 
 use sharc_names::fault::{FaultCode, Found};
 use sharc_tree::tree::{ForFirst, Stmt};

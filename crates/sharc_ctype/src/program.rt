@@ -2,16 +2,11 @@
 
 ghost use Rattle.std.specs.Prelude.{◌≡◌, ◌<◌, ◌+◌, ◌^◌, ◌++◌, ◌∷◌, [], length, fold, IfOk, OnOk};
 ghost use Rattle.sharc_tree.specs.View.{view_item, view_items, view_function};
-ghost use Rattle.sharc_names.specs.Names.{look_up};
-ghost use Rattle.sharc_names.specs.Notes.{noted, faults, IsAnswer};
-ghost use Rattle.sharc_names.specs.View.{view_bounds};
-ghost use Rattle.sharc_ctype.specs.Condition.{known_in};
-ghost use Rattle.sharc_ctype.specs.Globals.{global_notes, sizes_notes};
-ghost use Rattle.sharc_ctype.specs.Heads.{behind_all, heads_notes, no_heads};
-ghost use Rattle.sharc_ctype.specs.Items.{field_notes, fields_notes, parameters_notes, with_parameters, beyond};
-ghost use Rattle.sharc_ctype.specs.Items.{function_notes, item_notes, items_notes, has_main, main_missing};
-ghost use Rattle.sharc_ctype.specs.Items.{program_notes, nothing_found};
-ghost use Rattle.sharc_ctype.specs.Statements.{with_names};
+ghost use Rattle.sharc_names.specs.{Names.look_up, Notes.{noted, faults, IsAnswer}, View.view_bounds};
+ghost use Rattle.sharc_ctype.specs.{Condition.known_in, Globals.{global_notes, sizes_notes}, Heads.behind_all};
+ghost use Rattle.sharc_ctype.specs.{Heads.{heads_notes, no_heads}, Items.{field_notes, fields_notes, parameters_notes}};
+ghost use Rattle.sharc_ctype.specs.Items.{with_parameters, beyond, function_notes, item_notes, items_notes, has_main};
+ghost use Rattle.sharc_ctype.specs.{Items.{main_missing, program_notes, nothing_found}, Statements.with_names};
 
 use crate::condition::known_in;
 use crate::global::{global, sizes};

@@ -3,10 +3,8 @@
 ghost use Rattle.std.specs.Prelude.{◌≡◌, ◌+◌, true, fold, length, OnOk};
 ghost use Rattle.sharc_tree.specs.View.{view_expr, view_option, view_right, view_simple, view_local, view_first};
 ghost use Rattle.sharc_tree.specs.View.{view_head, view_stmt, view_statements};
-ghost use Rattle.sharc_names.specs.Kinds.{stars_of};
-ghost use Rattle.sharc_names.specs.Notes.{noted};
-ghost use Rattle.sharc_names.specs.Types.{is_fine};
-ghost use Rattle.sharc_names.specs.View.{view_kind, view_kinds, view_bounds};
+ghost use Rattle.sharc_names.specs.{Kinds.stars_of, Notes.noted, Types.is_fine, View.{view_kind, view_kinds}};
+ghost use Rattle.sharc_names.specs.View.{view_bounds};
 ghost use Rattle.sharc_ctype.specs.Statements.{is_here, in_block, declared, declared_notes, with_names, test_notes};
 ghost use Rattle.sharc_ctype.specs.Statements.{count_notes, is_made, right_notes, simple_notes, is_aggregate};
 ghost use Rattle.sharc_ctype.specs.Statements.{wanted_by, initial_notes, local_notes, returned_as, return_notes};

@@ -1,7 +1,6 @@
 // The tables of a typed program, by which each look-up takes one step.
 
-ghost use Rattle.std.specs.Prelude.{◌≡◌, IfOk, slice_get};
-ghost use Rattle.std.specs.Option.{option_copied, option_map, option_and_then};
+ghost use Rattle.std.specs.{Prelude.{◌≡◌, IfOk, slice_get}, Option.{option_copied, option_map, option_and_then}};
 ghost use Rattle.sharc_tree.specs.View.{view_item, view_items, view_function};
 ghost use Rattle.sharc_ctype.specs.Tables.{has_form, places_of, as_structure, as_global, as_function, AreTables};
 

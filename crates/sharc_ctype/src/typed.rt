@@ -4,13 +4,10 @@ ghost use Rattle.std.specs.Prelude.{◌≡◌, ◌<◌, ◌≤◌, ◌+◌, ◌^
 ghost use Rattle.std.specs.Option.{option_copied, option_map};
 ghost use Rattle.sharc_tree.specs.View.{view_program, view_function};
 ghost use Rattle.sharc_names.specs.Notes.{noted, faults};
-ghost use Rattle.sharc_ctype.specs.Constants.{is_constant};
-ghost use Rattle.sharc_ctype.specs.Entities.{entities_in, entity_at, numbered, positions_in};
-ghost use Rattle.sharc_ctype.specs.Items.{nothing_found, notes_about};
-ghost use Rattle.sharc_ctype.specs.Layouts.{IsLayout};
-ghost use Rattle.sharc_ctype.specs.Resolved.{IsResolved, named_at, struct_at, global_at, function_at, declaration_at};
-ghost use Rattle.sharc_ctype.specs.Resolved.{structs_in, globals_in, functions_in, declarations_in};
-ghost use Rattle.sharc_ctype.specs.Transfers.{parameters_named};
+ghost use Rattle.sharc_ctype.specs.{Constants.is_constant, Entities.{entities_in, entity_at, numbered, positions_in}};
+ghost use Rattle.sharc_ctype.specs.{Items.{nothing_found, notes_about}, Layouts.IsLayout, Resolved.IsResolved};
+ghost use Rattle.sharc_ctype.specs.Resolved.{named_at, struct_at, global_at, function_at, declaration_at, structs_in};
+ghost use Rattle.sharc_ctype.specs.{Resolved.{globals_in, functions_in, declarations_in}, Transfers.parameters_named};
 ghost use Rattle.sharc_ctype.specs.Typings.{Types};
 
 use crate::entity::Numbered;
@@ -52,8 +49,7 @@ impl Drop for Typed {
 impl Model for Typed {
     ghost use Rattle.std.specs.Coded.{codes};
     ghost use Rattle.sharc_tree.specs.View.{view_program, view_items};
-    ghost use Rattle.sharc_ctype.specs.Codes.{coded_expression, coded_statements};
-    ghost use Rattle.sharc_ctype.specs.Resolved.{Resolution, IsResolved};
+    ghost use Rattle.sharc_ctype.specs.{Codes.{coded_expression, coded_statements}, Resolved.{Resolution, IsResolved}};
     ghost use Rattle.sharc_ctype.specs.Tables.{AreTables};
 
     ghost Value = { Resolution };

@@ -1,12 +1,10 @@
 // The laws of typed programs: each is the contract of a function that does nothing.
 
-ghost use Rattle.sharc_ctype_laws.specs.Found.{EachTypeFound};
-ghost use Rattle.sharc_ctype_laws.specs.Sizes.{CellsAreFew};
-ghost use Rattle.sharc_ctype_laws.specs.Laws.{EachNameOnce, OnlyNames, EachNamesItself, EachNamesOwn, EachNamesFound};
-ghost use Rattle.sharc_ctype_laws.specs.Laws.{EachPathFound, ArePlain, NamesInTypes, SameKinds, MeetsConstraints};
-ghost use Rattle.sharc_ctype_laws.specs.Laws.{OneType, MeetsStatements, AllFair, MeetsGlobals, WithinLimits, HasMain};
-ghost use Rattle.sharc_ctype_laws.specs.Laws.{OneFunctionOfName, SpawnsNameFunctions, SpawnsThreads, ReachesFunctions};
-ghost use Rattle.sharc_ctype_laws.specs.Laws.{SomeTyped};
+ghost use Rattle.sharc_ctype_laws.specs.{Found.EachTypeFound, Sizes.CellsAreFew, Laws.{EachNameOnce, OnlyNames}};
+ghost use Rattle.sharc_ctype_laws.specs.Laws.{EachNamesItself, EachNamesOwn, EachNamesFound, EachPathFound, ArePlain};
+ghost use Rattle.sharc_ctype_laws.specs.Laws.{NamesInTypes, SameKinds, MeetsConstraints, OneType, MeetsStatements};
+ghost use Rattle.sharc_ctype_laws.specs.Laws.{AllFair, MeetsGlobals, WithinLimits, HasMain, OneFunctionOfName};
+ghost use Rattle.sharc_ctype_laws.specs.Laws.{SpawnsNameFunctions, SpawnsThreads, ReachesFunctions, SomeTyped};
 
 /// In a typed program at its tokens each name is referred to once.
 pub fn each_name_once()

@@ -1,10 +1,8 @@
 // The backward pass over the steps: what holds at the end of a turn of each loop, for one variable.
 
 ghost use Rattle.std.specs.Prelude.{◌≡◌, OnOk, IfOk, true};
-ghost use Rattle.sharc_dataflow.specs.Sums.{only, nulled};
-ghost use Rattle.sharc_dataflow.specs.Passes.{nothing, does_before, ends_piece, begins_either, begins_caught};
-ghost use Rattle.sharc_dataflow.specs.Passes.{begins_loop, back, summed, sum_start};
-ghost use Rattle.sharc_dataflow.specs.Views.{view_sums};
+ghost use Rattle.sharc_dataflow.specs.{Sums.{only, nulled}, Passes.{nothing, does_before, ends_piece, begins_either}};
+ghost use Rattle.sharc_dataflow.specs.{Passes.{begins_caught, begins_loop, back, summed, sum_start}, Views.view_sums};
 
 use crate::stack::pop_ways;
 use crate::step::Step;

@@ -1,10 +1,9 @@
 // Where code leads in which nothing is done with the variables at hand.
 
 ghost use Rattle.std.specs.Prelude.{◌≡◌, ◌++◌, OnOk};
-ghost use Rattle.sharc_dataflow.specs.Flow.{Next, Broken, Continued, Ends};
-ghost use Rattle.sharc_dataflow.specs.Code.{listing};
-ghost use Rattle.sharc_dataflow.specs.Narrow.{exits_to, then_exits, either_exits, caught_exits, loop_exits, may_go};
-ghost use Rattle.sharc_dataflow.specs.Narrow.{on_or_ends, leading};
+ghost use Rattle.sharc_dataflow.specs.{Flow.{Next, Broken, Continued, Ends}, Code.listing, Narrow.exits_to};
+ghost use Rattle.sharc_dataflow.specs.Narrow.{then_exits, either_exits, caught_exits, loop_exits, may_go, on_or_ends};
+ghost use Rattle.sharc_dataflow.specs.Narrow.{leading};
 
 use crate::step::Step;
 use std::alloc::AllocError;

@@ -2,10 +2,8 @@
 
 ghost use Rattle.std.specs.Prelude.{◌≡◌, ◌++◌, OnOk, IfOk, true};
 ghost use Rattle.sharc_dataflow.specs.declared.step.Step.TheVariants.{Fork, Other, Join, Catch, Caught, Head, Again};
-ghost use Rattle.sharc_dataflow.specs.Sums.{warn_read};
-ghost use Rattle.sharc_dataflow.specs.Passes.{is_caught, breaks, continues, turning, leaves_loop, forth, told};
-ghost use Rattle.sharc_dataflow.specs.Passes.{tell_start};
-ghost use Rattle.sharc_dataflow.specs.Views.{view_tells};
+ghost use Rattle.sharc_dataflow.specs.{Sums.warn_read, Passes.{is_caught, breaks, continues, turning, leaves_loop}};
+ghost use Rattle.sharc_dataflow.specs.{Passes.{forth, told, tell_start}, Views.view_tells};
 
 use crate::stack::pop_token;
 use crate::step::Step;

@@ -2,13 +2,10 @@
 // their place.
 
 ghost use Rattle.std.specs.Prelude.{◌≡◌, ◌∷◌, ◌++◌, [], map, IfOk, OnOk};
-ghost use Rattle.sharc_dataflow.specs.declared.step.Step.TheVariants.{Caught, Again};
-ghost use Rattle.sharc_dataflow.specs.Flow.{Next};
-ghost use Rattle.sharc_dataflow.specs.Code.{Code, listing};
-ghost use Rattle.sharc_dataflow.specs.Passes.{last_or, front};
-ghost use Rattle.sharc_dataflow.specs.Narrow.{IsSame, exits_to, kept as kept_of, whole, nothing_kept, then_kept};
-ghost use Rattle.sharc_dataflow.specs.Narrow.{either_kept, caught_kept, loop_kept, goes_behind, is_between, acts_if};
-ghost use Rattle.sharc_dataflow.specs.Narrow.{opens, joins, closes, narrows};
+ghost use Rattle.sharc_dataflow.specs.{declared.step.Step.TheVariants.{Caught, Again}, Flow.Next, Code.{Code, listing}};
+ghost use Rattle.sharc_dataflow.specs.{Passes.{last_or, front}, Narrow.{IsSame, exits_to, kept as kept_of, whole}};
+ghost use Rattle.sharc_dataflow.specs.Narrow.{nothing_kept, then_kept, either_kept, caught_kept, loop_kept};
+ghost use Rattle.sharc_dataflow.specs.Narrow.{goes_behind, is_between, acts_if, opens, joins, closes, narrows};
 ghost use Rattle.sharc_dataflow.specs.Views.{view_piece, view_pieces, view_narrowing};
 
 use crate::exits::Exits;

@@ -1,8 +1,7 @@
 // One warning for each read, in the order of the reads.
 
 ghost use Rattle.std.specs.Prelude.{◌≡◌, None, OnOk, IfOk};
-ghost use Rattle.sharc_dataflow.specs.Orders.{IsInOrder, is_read, first_each};
-ghost use Rattle.sharc_dataflow.specs.Uses.{AreFirsts};
+ghost use Rattle.sharc_dataflow.specs.{Orders.{IsInOrder, is_read, first_each}, Uses.AreFirsts};
 
 use crate::way::FlowWarning;
 use std::alloc::{AllocError, Global};

@@ -1,11 +1,8 @@
 // The reads of nulled variables.
 
 ghost use Rattle.std.specs.Prelude.{◌≡◌, ℕ, max, ◌++◌, Contains, None, IfOk, OnOk};
-ghost use Rattle.sharc_dataflow.specs.Code.{Code, listing};
-ghost use Rattle.sharc_dataflow.specs.Sums.{warns};
-ghost use Rattle.sharc_dataflow.specs.Gathered.{nulled_at, all_nulled, all_warns};
-ghost use Rattle.sharc_dataflow.specs.Uses.{AddsUses};
-ghost use Rattle.sharc_dataflow.specs.Narrow.{AreBetween};
+ghost use Rattle.sharc_dataflow.specs.{Code.{Code, listing}, Sums.warns, Gathered.{nulled_at, all_nulled, all_warns}};
+ghost use Rattle.sharc_dataflow.specs.{Uses.AddsUses, Narrow.AreBetween};
 
 use crate::back::heads_of;
 use crate::forth::tell;

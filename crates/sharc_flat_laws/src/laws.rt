@@ -1,8 +1,7 @@
 // The laws, each the contract of a function that does nothing.
 
 ghost use Rattle.sharc_flat_laws.specs.Stands.{FitAreUnguarded, LocksAreFound, TypedAsksTheSame, TypedIsFramed};
-ghost use Rattle.sharc_flat_laws.specs.Stands.{TypedSuits};
-ghost use Rattle.sharc_flat_laws.specs.Tables.{MadeSpawns, MadeTablesFit};
+ghost use Rattle.sharc_flat_laws.specs.{Stands.TypedSuits, Tables.{MadeSpawns, MadeTablesFit}};
 
 use sharc_ctype_laws::laws::{
     all_fair, are_plain, each_names_found, each_names_itself, each_path_found, each_type_found,

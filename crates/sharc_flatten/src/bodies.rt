@@ -1,19 +1,15 @@
 // The operations of statements.
 
 ghost use Rattle.std.specs.Prelude.{◌≡◌, ◌+◌, ◌++◌, ◌≤◌, [], ◌∷◌, length, None, Some, IfOk, OnOk, vec_len, option_map};
+ghost use Rattle.std.specs.{Prelude.{◌<◌, ◌-◌, slice_set}, Option.ForSome};
 ghost use Rattle.sharc_tree.specs.View.{view_expr, view_option, view_right, view_simple, view_local, view_first};
-ghost use Rattle.sharc_tree.specs.View.{view_stmt, view_statements};
+ghost use Rattle.sharc_tree.specs.View.{view_stmt, view_statements, view_head};
 ghost use Rattle.sharc_names.specs.View.{view_kind};
 ghost use Rattle.sharc_mode.specs.View.{view_sharing};
-ghost use Rattle.sharc_flat.specs.Scope.{slot_of};
-ghost use Rattle.sharc_flat.specs.Flattened.{elements_code, right_code, simple_code, initial_code, local_code};
-ghost use Rattle.sharc_flat.specs.Flattened.{first_code, behind_first, step_code, test_code, turn_code, jump_code};
-ghost use Rattle.sharc_flat.specs.Flattened.{result_code, return_code, loop_code, statement_code, statements_code};
-ghost use Rattle.sharc_flat.specs.Flattened.{behind_statement, behind_statements};
-ghost use Rattle.sharc_tree.specs.View.{view_head};
-ghost use Rattle.std.specs.Option.{ForSome};
-ghost use Rattle.std.specs.Prelude.{◌<◌, ◌-◌, slice_set};
-ghost use Rattle.sharc_flat.specs.Flattened.{ints_of};
+ghost use Rattle.sharc_flat.specs.{Scope.slot_of, Flattened.{elements_code, right_code, simple_code, initial_code}};
+ghost use Rattle.sharc_flat.specs.Flattened.{local_code, first_code, behind_first, step_code, test_code, turn_code};
+ghost use Rattle.sharc_flat.specs.Flattened.{jump_code, result_code, return_code, loop_code, statement_code};
+ghost use Rattle.sharc_flat.specs.Flattened.{statements_code, behind_statement, behind_statements, ints_of};
 ghost use Rattle.sharc_flatten.specs.View.{context, around_of, own_access, assign_code, simple_at, block_code, if_in};
 ghost use Rattle.sharc_flatten.specs.View.{loop_in, for_in, hole_at, hole_of, finished, holds_references};
 

@@ -1,28 +1,19 @@
 // The operations of expressions: the value goes to the first free register of the bank of its type.
 
 ghost use Rattle.std.specs.Prelude.{◌≡◌, ◌+◌, ◌++◌, [], ◌∷◌, length, drop, None, Some, IfOk, OnOk, if◌then◌else◌};
-ghost use Rattle.sharc_tree.specs.Spans.{span_of};
-ghost use Rattle.sharc_tree.specs.View.{view_expr, view_arguments};
+ghost use Rattle.sharc_tree.specs.{Spans.span_of, View.{view_expr, view_arguments}, Tree.unary as of_unary};
 ghost use Rattle.sharc_names.specs.Kinds.{declared_kinds};
-ghost use Rattle.sharc_ctype.specs.Resolved.{kind_at, named_at};
-ghost use Rattle.sharc_ctype.specs.Transfers.{parameters_named};
-ghost use Rattle.sharc_meaning.specs.Expressions.{number_named};
-ghost use Rattle.sharc_mode.specs.Cells.{cell_at};
-ghost use Rattle.sharc_mode.specs.View.{view_sharing};
-ghost use Rattle.sharc_flat.specs.Places.{lvalue_of, target};
-ghost use Rattle.sharc_flat.specs.Flattened.{is_ref, expression_code, arguments_code, place_code, named_code};
-ghost use Rattle.sharc_flat.specs.Flattened.{lvalue_code, guard_of, taken_guard, place_call_code, cast_code};
-ghost use Rattle.sharc_flat.specs.Flattened.{field_code, unary_code, binary_code, compare_code, operator_of};
-ghost use Rattle.sharc_flat.specs.Flattened.{truth_code, passed_code, spawn_code};
-ghost use Rattle.sharc_flat.specs.Scope.{at_site};
+ghost use Rattle.sharc_ctype.specs.{Resolved.{kind_at, named_at, global_at}, Transfers.parameters_named};
+ghost use Rattle.sharc_ctype.specs.Expressions.{class_of, binary_result};
+ghost use Rattle.sharc_meaning.specs.{Expressions.number_named, Cells.global_elements};
+ghost use Rattle.sharc_mode.specs.{Cells.cell_at, View.view_sharing};
+ghost use Rattle.sharc_flat.specs.{Places.{lvalue_of, target, width_of}, Flattened.{is_ref, expression_code}};
+ghost use Rattle.sharc_flat.specs.Flattened.{arguments_code, place_code, named_code, lvalue_code, guard_of};
+ghost use Rattle.sharc_flat.specs.Flattened.{taken_guard, place_call_code, cast_code, field_code, unary_code};
+ghost use Rattle.sharc_flat.specs.Flattened.{binary_code, compare_code, operator_of, truth_code, passed_code};
+ghost use Rattle.sharc_flat.specs.{Flattened.spawn_code, Scope.at_site, Machine.first_cell};
 ghost use Rattle.sharc_flatten.specs.View.{context, view_target, decided_code, indexed_code, index_register};
 ghost use Rattle.sharc_flatten.specs.View.{element_code, holds_references, operation_code};
-ghost use Rattle.sharc_ctype.specs.Resolved.{global_at};
-ghost use Rattle.sharc_meaning.specs.Cells.{global_elements};
-ghost use Rattle.sharc_flat.specs.Machine.{first_cell};
-ghost use Rattle.sharc_tree.specs.Tree.{unary as of_unary};
-ghost use Rattle.sharc_ctype.specs.Expressions.{class_of, binary_result};
-ghost use Rattle.sharc_flat.specs.Places.{width_of};
 
 use crate::lookups::{element_cells, field_named, first_cell, global_elements, layout_of};
 use crate::operations::{

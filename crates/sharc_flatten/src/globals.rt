@@ -3,8 +3,7 @@
 ghost use Rattle.std.specs.Prelude.{◌≡◌, ◌+◌, ◌*◌, ◌/◌, ◌∷◌, ◌++◌, neg_ℤ, replicate, take, IfOk, OnOk};
 ghost use Rattle.sharc_code.specs.Arithmetic.{word_of};
 ghost use Rattle.sharc_ctype.specs.Resolved.{globals_in};
-ghost use Rattle.sharc_meaning.specs.Reference.{constant_value};
-ghost use Rattle.sharc_meaning.specs.Store.{form_value};
+ghost use Rattle.sharc_meaning.specs.{Reference.constant_value, Store.form_value};
 ghost use Rattle.sharc_flat.specs.Tables.{cells_in, globals_of, all_granules, all_first_words};
 
 use crate::lookups::{element_cells, elements_of_form, small};

@@ -1,16 +1,13 @@
 // Cells of elements and places of fields.
 
-ghost use Rattle.std.specs.Prelude.{◌≡◌, ◌+◌, length, IfOk, position, unwrap_or, if◌then◌else◌, ◌==◌};
-ghost use Rattle.std.specs.Str.{bytes_eq};
+ghost use Rattle.std.specs.{Prelude.{◌≡◌, ◌+◌, length, IfOk, position, unwrap_or, if◌then◌else◌, ◌==◌}, Str.bytes_eq};
 ghost use Rattle.sharc_names.specs.View.{view_kind, view_root};
 ghost use Rattle.sharc_ctype.specs.Resolved.{global_at, declaration_at, structs_in};
-ghost use Rattle.sharc_mode.specs.View.{view_lock};
-ghost use Rattle.sharc_mode.specs.Cells.{is_behind_pointer};
+ghost use Rattle.sharc_ctype.specs.Globals.{elements_of as elements_of_form};
+ghost use Rattle.sharc_mode.specs.{View.view_lock, Cells.is_behind_pointer};
 ghost use Rattle.sharc_meaning.specs.Cells.{struct_cells, base_cells, element_cells, global_elements, field_place};
 ghost use Rattle.sharc_meaning.specs.Cells.{field_place_named, field_place_behind};
-ghost use Rattle.sharc_ctype.specs.Globals.{elements_of as elements_of_form};
-ghost use Rattle.sharc_flat.specs.Flattened.{struct_layout, base_layout, layout_of};
-ghost use Rattle.sharc_flat.specs.Machine.{first_cell};
+ghost use Rattle.sharc_flat.specs.{Flattened.{struct_layout, base_layout, layout_of}, Machine.first_cell};
 
 use crate::scope::next;
 use crate::source::PlacedProgram;

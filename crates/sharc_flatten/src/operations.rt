@@ -3,14 +3,11 @@
 ghost use Rattle.std.specs.Prelude.{◌≡◌, ◌+◌, ◌++◌, [], ◌∷◌, ◌<◌, ◌^◌, IfOk, OnOk};
 ghost use Rattle.sharc_tree.specs.View.{view_arguments, view_expr};
 ghost use Rattle.sharc_names.specs.View.{view_kind, view_root};
-ghost use Rattle.sharc_meaning.specs.Reference.{constant_value};
-ghost use Rattle.sharc_meaning.specs.State.{is_reference};
-ghost use Rattle.sharc_meaning.specs.Expressions.{number_named};
-ghost use Rattle.sharc_flat.specs.Places.{width_of, base_as_width, width_code};
-ghost use Rattle.sharc_flat.specs.Flattened.{constant_code, truth_code, drop_code, zero_code, operator_of, differ_code};
-ghost use Rattle.sharc_flat.specs.Flattened.{compare_code, first_cell_of, wait_code, with_words, argument_words};
-ghost use Rattle.sharc_flat.specs.Flattened.{condition_code, called_code, spawn_code, value_call_code};
-ghost use Rattle.sharc_flat.specs.Scope.{at_site, no_text};
+ghost use Rattle.sharc_meaning.specs.{Reference.constant_value, State.is_reference, Expressions.number_named};
+ghost use Rattle.sharc_flat.specs.{Places.{width_of, base_as_width, width_code}, Flattened.{constant_code, truth_code}};
+ghost use Rattle.sharc_flat.specs.Flattened.{drop_code, zero_code, operator_of, differ_code, compare_code};
+ghost use Rattle.sharc_flat.specs.Flattened.{first_cell_of, wait_code, with_words, argument_words, condition_code};
+ghost use Rattle.sharc_flat.specs.{Flattened.{called_code, spawn_code, value_call_code}, Scope.{at_site, no_text}};
 ghost use Rattle.sharc_flatten.specs.View.{wait_begin, evaluation_of, holds_references};
 
 use crate::places::emit;

@@ -1,7 +1,6 @@
 // Operations that lead over others, whose number is found later.
 
-ghost use Rattle.std.specs.Prelude.{◌≡◌, ◌+◌, ◌-◌, ◌<◌, length, slice_set, vec_len, IfOk, OnOk};
-ghost use Rattle.std.specs.Option.{ForSome};
+ghost use Rattle.std.specs.{Prelude.{◌≡◌, ◌+◌, ◌-◌, ◌<◌, length, slice_set, vec_len, IfOk, OnOk}, Option.ForSome};
 ghost use Rattle.sharc_flatten.specs.View.{with_hole};
 
 use crate::lookups::small;

@@ -5,11 +5,9 @@ ghost use Rattle.sharc_mode.specs.View.{view_sharing};
 ghost use Rattle.sharc_flat.specs.Places.{base_width, guard_width, index_width, bounds_code, pointee_code, guard_code};
 ghost use Rattle.sharc_flat.specs.Places.{drop_base, settle_base, copy_code, cell_value_code, value_code, settle_code};
 ghost use Rattle.sharc_flat.specs.Places.{cell_store_code, store_code, take_use, cell_take_code, take_code};
-ghost use Rattle.sharc_flat.specs.Flattened.{behind_int, behind_ref};
-ghost use Rattle.sharc_flat.specs.Scope.{register_of, number_in, at_site};
+ghost use Rattle.sharc_flat.specs.{Places.guard_field, Flattened.{behind_int, behind_ref}, Scope.register_of};
+ghost use Rattle.sharc_flat.specs.Scope.{number_in, at_site, at_words};
 ghost use Rattle.sharc_code.specs.declared.code.Use.TheVariants as uses;
-ghost use Rattle.sharc_flat.specs.Scope.{at_words};
-ghost use Rattle.sharc_flat.specs.Places.{guard_field};
 ghost use Rattle.sharc_flatten.specs.View.{context, view_target, use_of, bounds_by, holds_references};
 
 use crate::registers::{Bank, Registers};

@@ -2,12 +2,9 @@
 
 ghost use Rattle.std.specs.Prelude.{◌≡◌, ◌≤◌, length, IfOk};
 ghost use Rattle.sharc_ctype.specs.Resolved.{functions_in, globals_in};
-ghost use Rattle.sharc_flat.specs.Made.{flat_of};
-ghost use Rattle.sharc_flat.specs.Flattened.{rows_of, functions_code};
-ghost use Rattle.sharc_flat.specs.Flattens.{names_of, Flattens, IsMainOf};
-ghost use Rattle.sharc_flat.specs.Laid.{AreLaid, AreNamed};
-ghost use Rattle.sharc_flat.specs.Laws.{FitsMade};
-ghost use Rattle.sharc_flat.specs.Tables.{globals_of, all_granules, all_first_words};
+ghost use Rattle.sharc_flat.specs.{Made.flat_of, Flattened.{rows_of, functions_code}, Flattens.{names_of, Flattens}};
+ghost use Rattle.sharc_flat.specs.{Flattens.IsMainOf, Laid.{AreLaid, AreNamed}, Laws.FitsMade, Tables.globals_of};
+ghost use Rattle.sharc_flat.specs.Tables.{all_granules, all_first_words};
 
 use crate::functions::functions;
 use crate::globals::{Globals, globals_of};

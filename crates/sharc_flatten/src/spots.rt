@@ -1,7 +1,6 @@
 // The places of the source that operations have: how they are written, and under which modes.
 
-ghost use Rattle.std.specs.Prelude.{◌≡◌, ◌+◌, ◌<◌, ◌^◌, IfOk};
-ghost use Rattle.std.specs.Option.{option_map};
+ghost use Rattle.std.specs.{Prelude.{◌≡◌, ◌+◌, ◌<◌, ◌^◌, IfOk}, Option.option_map};
 ghost use Rattle.sharc_code.specs.declared.code.Use.TheVariants as uses;
 ghost use Rattle.sharc_ctype.specs.Resolved.{named_at};
 ghost use Rattle.sharc_mode.specs.View.{view_lock, view_name, view_sharing};

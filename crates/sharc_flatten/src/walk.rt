@@ -2,8 +2,7 @@
 
 ghost use Rattle.std.specs.Prelude.{◌≡◌, ◌++◌, [], ◌∷◌, length, map, IfOk, OnOk};
 ghost use Rattle.sharc_tree.specs.View.{view_function};
-ghost use Rattle.sharc_flat.specs.Flattened.{function_code, parameters_scope};
-ghost use Rattle.sharc_flat.specs.Scope.{int_count, ref_count};
+ghost use Rattle.sharc_flat.specs.{Flattened.{function_code, parameters_scope}, Scope.{int_count, ref_count}};
 
 use crate::bodies::{Around, statements};
 use crate::operations::{bank_of, zero};

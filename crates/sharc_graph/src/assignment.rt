@@ -1,9 +1,7 @@
 //! The least assignment by the paths of a graph.
 
-ghost use Rattle.std.specs.Prelude.{◌≡◌, ◌^◌, ◌<◌, ◌≤◌, length, map, IfOk};
-ghost use Rattle.std.specs.List.{All};
-ghost use Rattle.sharc_graph.specs.Paths.{IsWithin};
-ghost use Rattle.sharc_graph.specs.Flow.{flow_of, node_of, kept_edges, AreInferred};
+ghost use Rattle.std.specs.{Prelude.{◌≡◌, ◌^◌, ◌<◌, ◌≤◌, length, map, IfOk}, List.All};
+ghost use Rattle.sharc_graph.specs.{Paths.IsWithin, Flow.{flow_of, node_of, kept_edges, AreInferred}};
 
 use crate::graph::{Edge, Node, NodeFinding};
 use crate::least::find;

@@ -1,8 +1,7 @@
 //! The links of types that are made equal, and of the levels of one type.
 
 ghost use Rattle.std.specs.Prelude.{◌≡◌, ◌+◌, ◌^◌, ◌<◌, ◌++◌, ◌∷◌, [], OnOk};
-ghost use Rattle.sharc_graph.specs.Flow.{link_of};
-ghost use Rattle.sharc_graph.specs.Make.{equal_links, below_links};
+ghost use Rattle.sharc_graph.specs.{Flow.link_of, Make.{equal_links, below_links}};
 
 use crate::graph::Edge;
 use crate::place::Link;

@@ -1,11 +1,9 @@
 //! The same answer by rounds over all links: a plain program for tests to compare with.
 
-ghost use Rattle.std.specs.Prelude.{◌≡◌, ◌+◌, ◌^◌, ◌<◌, ◌&&◌, true, false, nat_eq, length, map, IfOk};
-ghost use Rattle.std.specs.List.{All};
-ghost use Rattle.sharc_graph.specs.Paths.{IsWithin};
-ghost use Rattle.sharc_graph.specs.Flow.{flow_of, place_at, is_unwritten, AreInferred, IsInferred};
-ghost use Rattle.sharc_graph.specs.Rounds.{first_rank, rank_by, rank_for, is_rank, is_next, ranks_behind};
-ghost use Rattle.sharc_graph.specs.Rounds.{unranked, AreRanks, AreUpTo, AreFinal, IsLowest, IsSome};
+ghost use Rattle.std.specs.{Prelude.{◌≡◌, ◌+◌, ◌^◌, ◌<◌, ◌&&◌, true, false, nat_eq, length, map, IfOk}, List.All};
+ghost use Rattle.sharc_graph.specs.{Paths.IsWithin, Flow.{flow_of, place_at, is_unwritten, AreInferred, IsInferred}};
+ghost use Rattle.sharc_graph.specs.Rounds.{first_rank, rank_by, rank_for, is_rank, is_next, ranks_behind, unranked};
+ghost use Rattle.sharc_graph.specs.Rounds.{AreRanks, AreUpTo, AreFinal, IsLowest, IsSome};
 
 use crate::graph::NodeFinding;
 use crate::place::{Link, PositionKind};

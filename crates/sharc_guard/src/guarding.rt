@@ -1,12 +1,10 @@
 //! Guarded code from flat code: a pass for the places, one for the statements.
 
 ghost use Rattle.std.specs.Prelude.{true, ◌≡◌, ◌≤◌, ◌<◌, ◌+◌, ◌*◌, ◌^◌, ℕ, ◌++◌, ◌∷◌, [], IfOk, OnOk, length, map};
-ghost use Rattle.sharc_code.specs.declared.instr.Instr.TheVariants.{Start, Exit};
-ghost use Rattle.sharc_code.specs.Says.{no_place};
+ghost use Rattle.sharc_code.specs.{declared.instr.Instr.TheVariants.{Start, Exit}, Says.no_place};
 ghost use Rattle.sharc_flat.specs.Made.{flat_of};
 ghost use Rattle.sharc_guard.specs.Guard.{source_at_spot, source_of, check_under, head, compute, negate, body, tail};
-ghost use Rattle.sharc_guard.specs.Guard.{own, expand, expanded, width, entered_at};
-ghost use Rattle.sharc_guard.specs.Known.{dropped, is_straight};
+ghost use Rattle.sharc_guard.specs.{Guard.{own, expand, expanded, width, entered_at}, Known.{dropped, is_straight}};
 ghost use Rattle.sharc_guard.specs.Made.{IsMade, among, places, marked};
 
 use crate::guarded::Guarded;

@@ -1,15 +1,9 @@
 //! The laws of guarded code.
 
-ghost use Rattle.sharc_guard.specs.Checked.{AccessesAreChecked};
-ghost use Rattle.sharc_guard.specs.Correct.{GuardedKeepsPaths};
-ghost use Rattle.sharc_guard.specs.Counted.{GuardedCounts};
-ghost use Rattle.sharc_guard.specs.Covered.{DroppedIsCovered};
-ghost use Rattle.sharc_guard.specs.Example.{HasExample};
-ghost use Rattle.sharc_guard.specs.Framed.{FramedIsGuarded};
-ghost use Rattle.sharc_guard.specs.Logged.{LogsAreHeld};
-ghost use Rattle.sharc_guard.specs.Repeated.{DropsRepeated, RepeatedCheckStands};
-ghost use Rattle.sharc_guard.specs.Tables.{TablesStay};
-ghost use Rattle.sharc_guard.specs.Untargeted.{DroppedIsNoTarget};
+ghost use Rattle.sharc_guard.specs.{Checked.AccessesAreChecked, Correct.GuardedKeepsPaths, Counted.GuardedCounts};
+ghost use Rattle.sharc_guard.specs.{Covered.DroppedIsCovered, Example.HasExample, Framed.FramedIsGuarded};
+ghost use Rattle.sharc_guard.specs.{Logged.LogsAreHeld, Repeated.{DropsRepeated, RepeatedCheckStands}};
+ghost use Rattle.sharc_guard.specs.{Tables.TablesStay, Untargeted.DroppedIsNoTarget};
 
 /// Guarded code asks for what flat code asks for, whichever checks are dropped: each of its paths is one of flat code
 /// with the same events, the same registers and log but for what the next statement settles, and what it is about to

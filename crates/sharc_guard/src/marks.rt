@@ -1,8 +1,7 @@
 //! Which checks of flat code repeat one of their straight piece: found in one pass over the lines.
 
 ghost use Rattle.std.specs.Prelude.{◌≡◌, ℕ, ◌+◌, ◌<◌, ◌^◌, ◌==◌, ◌||◌, false, [], Some, IfOk, OnOk, length, get_or};
-ghost use Rattle.std.specs.Prelude.{if◌then◌else◌};
-ghost use Rattle.std.specs.Option.{option_copied};
+ghost use Rattle.std.specs.{Prelude.if◌then◌else◌, Option.option_copied};
 ghost use Rattle.sharc_heap.specs.declared.shadow_word.Kind.TheVariants.{Write};
 ghost use Rattle.sharc_flat.specs.Made.{flat_of};
 ghost use Rattle.sharc_guard.specs.Known.{counts, drops, global_place, is_entry, is_led_to, know_after, know_next};

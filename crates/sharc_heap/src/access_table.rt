@@ -2,8 +2,7 @@
 //! the order in which they were noted first.
 
 ghost use Rattle.std.specs.Prelude.{◌≡◌, ◌<◌, ◌++◌, [], ◌∷◌, replicate, length, slice_index, vec_len, vec_capacity};
-ghost use Rattle.std.specs.Prelude.{IfOk, if◌then◌else◌};
-ghost use Rattle.std.specs.Bool.{OnFalse};
+ghost use Rattle.std.specs.{Prelude.{IfOk, if◌then◌else◌}, Bool.OnFalse};
 
 use crate::shadow_word::Kind;
 use std::alloc::{AllocError, Allocator, Global};
@@ -89,8 +88,7 @@ impl<A: Allocator> Model for AccessTable<A> {
 }
 
 impl<A: Allocator> AccessTable<A> {
-    ghost use Rattle.sharc_heap.specs.Notes.{blank};
-    ghost use Rattle.sharc_heap.specs.Accesses.{note_of, site_at, NotesAccess, ListsNoted};
+    ghost use Rattle.sharc_heap.specs.{Notes.blank, Accesses.{note_of, site_at, NotesAccess, ListsNoted}};
     ghost use Rattle.sharc_heap.specs.Functions.{noted};
 
     /// A table of this many granules, of which none is noted.

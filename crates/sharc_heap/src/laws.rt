@@ -5,9 +5,7 @@
 //!
 //! Laws of counts. A proof above has them where its function calls this.
 
-ghost use Rattle.sharc_heap.specs.NewLaws.{NewLaws};
-ghost use Rattle.sharc_heap.specs.ShadowLaws.{ShadowLaws};
-ghost use Rattle.sharc_heap.specs.CountLaws.{CountLaws};
+ghost use Rattle.sharc_heap.specs.{NewLaws.NewLaws, ShadowLaws.ShadowLaws, CountLaws.CountLaws};
 
 /// What holds of every New: after the same results it asks for one turn, and turn by turn it asks for just that; the
 /// heap is full exactly where the own list is empty and there is no room after the top that was seen last; the top

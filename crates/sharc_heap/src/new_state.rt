@@ -17,8 +17,7 @@ pub struct NewState {
 }
 
 impl Model for NewState {
-    ghost use Rattle.sharc_heap.specs.State.{NewView};
-    ghost use Rattle.sharc_heap.specs.Asks.{HasFewWords};
+    ghost use Rattle.sharc_heap.specs.{State.NewView, Asks.HasFewWords};
 
     ghost Value = { NewView };
 
@@ -30,8 +29,7 @@ impl Model for NewState {
 }
 
 impl NewState {
-    ghost use Rattle.sharc_heap.specs.Block.{block_of};
-    ghost use Rattle.sharc_heap.specs.State.{begun, told, turn_of, sized};
+    ghost use Rattle.sharc_heap.specs.{Block.block_of, State.{begun, told, turn_of, sized}};
 
     /// A New of this many elements with this many cells in all, in the arena that ends before granule `end`, where
     /// `first` is the number of the word of the first cell of granule 0, and `head` the first freed block of this size

@@ -1,8 +1,7 @@
 //! What a New asks for, and how far it has come.
 
 ghost use Rattle.std.specs.Prelude.{◌≡◌};
-ghost use Rattle.sharc_heap.specs.Asks.{HasFewWords};
-ghost use Rattle.sharc_heap.specs.Stages.{turn_of_stage, next_stage, after_cell, try_from};
+ghost use Rattle.sharc_heap.specs.{Asks.HasFewWords, Stages.{turn_of_stage, next_stage, after_cell, try_from}};
 
 use crate::arguments::NewArguments;
 use sharc_word::{WordOp, WordStep};

@@ -1,8 +1,7 @@
 //! How many elements the objects have, by their numbers.
 
 ghost use Rattle.std.specs.Prelude.{◌≡◌, ℕ, OnOk};
-ghost use Rattle.sharc_history.specs.Told.{shown};
-ghost use Rattle.sharc_history.specs.History.{elements_of, elements_behind};
+ghost use Rattle.sharc_history.specs.{Told.shown, History.{elements_of, elements_behind}};
 
 use crate::event::{Deed, Event};
 use std::alloc::AllocError;

@@ -1,13 +1,10 @@
 //! The event of a turn, by what its step found.
 
-ghost use Rattle.std.specs.Prelude.{◌≡◌, ◌<◌, Some, None, IfSome};
-ghost use Rattle.std.specs.Option.{option_map};
-ghost use Rattle.sharc_code.specs.declared.code.Code.{Code};
-ghost use Rattle.sharc_code.specs.Says.{started_with};
+ghost use Rattle.std.specs.{Prelude.{◌≡◌, ◌<◌, Some, None, IfSome}, Option.option_map};
+ghost use Rattle.sharc_code.specs.{declared.code.Code.Code, Says.started_with};
 ghost use Rattle.sharc_history.specs.Told.{shown, valued, value_of, new_told, nobody_told, seen_told, taken, tried};
-ghost use Rattle.sharc_history.specs.Told.{told_of, told, comes, spoken};
-ghost use Rattle.sharc_history.specs.References.{value_refers, deed_refers, argument_refers, parameter_refers};
-ghost use Rattle.sharc_history.specs.References.{next_refers};
+ghost use Rattle.sharc_history.specs.{Told.{told_of, told, comes, spoken}, References.{value_refers, deed_refers}};
+ghost use Rattle.sharc_history.specs.References.{argument_refers, parameter_refers, next_refers};
 
 use crate::cells::{Origin, Where};
 use crate::next::{Argument, Coming, Next};

@@ -2,8 +2,7 @@
 
 ghost use Rattle.std.specs.Prelude.{◌≡◌, ◌<◌, ◌≤◌, ◌+◌, ℕ, List, [], true, false, length, get_or, take, IfOk, OnOk};
 ghost use Rattle.sharc_word.specs.declared.step.TheConstants.{THREADS as threads};
-ghost use Rattle.sharc_code.specs.Layout.{Fits};
-ghost use Rattle.sharc_code.specs.Runs.{Turn};
+ghost use Rattle.sharc_code.specs.{Layout.Fits, Runs.Turn};
 ghost use Rattle.sharc_schedule.specs.Places.{total};
 ghost use Rattle.sharc_seq.specs.Walk.{MayGoOn, events_left};
 ghost use Rattle.sharc_history.specs.Going.{GoesAt, IsGoing, OneMore, AwaitsAt, Tells, IsTraced, IsOver};

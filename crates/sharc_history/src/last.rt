@@ -2,10 +2,7 @@
 
 ghost use Rattle.std.specs.Prelude.{◌≡◌, ◌<◌, ◌+◌, List, Some, false, IfOk, OnOk, MatchOption};
 ghost use Rattle.sharc_word.specs.declared.step.TheConstants.{THREADS as threads};
-ghost use Rattle.sharc_code.specs.declared.code.Code.{Code};
-ghost use Rattle.sharc_code.specs.declared.shape.Shape.{Shape};
-ghost use Rattle.sharc_code.specs.Runs.{Turn};
-ghost use Rattle.sharc_code.specs.Whole.{place_after};
+ghost use Rattle.sharc_code.specs.{declared.code.Code.Code, declared.shape.Shape.Shape, Runs.Turn, Whole.place_after};
 ghost use Rattle.sharc_seq.specs.Walk.{IsThreadThere, IsWalk, StandsAt};
 ghost use Rattle.sharc_history.specs.Lasts.{is_held, is_last, IsHaltAt, AreLasts, AreLastsUpTo};
 

@@ -1,13 +1,12 @@
 //! What is known of a turn's event before its step is made.
 
 ghost use Rattle.std.specs.Prelude.{◌≡◌, ℕ, None};
-ghost use Rattle.sharc_code.specs.declared.code.Code.{Code};
-ghost use Rattle.sharc_code.specs.Machine.{instr_at, function_of};
-ghost use Rattle.sharc_code.specs.Says.{argument_of, of_argument, place_at};
-ghost use Rattle.sharc_history.specs.Told.{value_of, number_of, site_of, IsComing};
-ghost use Rattle.sharc_history.specs.Origins.{loads_at, enters_at, starts_at, origin_by, origin_at};
-ghost use Rattle.sharc_history.specs.References.{argument_refers, next_refers, register_refers, free_refers};
-ghost use Rattle.sharc_history.specs.References.{spawn_refers, refers_by, refers_at};
+ghost use Rattle.sharc_code.specs.{declared.code.Code.Code, Machine.{instr_at, function_of}, Says.argument_of};
+ghost use Rattle.sharc_code.specs.Says.{of_argument, place_at};
+ghost use Rattle.sharc_history.specs.{Told.{value_of, number_of, site_of, IsComing}, Origins.{loads_at, enters_at}};
+ghost use Rattle.sharc_history.specs.{Origins.{starts_at, origin_by, origin_at}, References.argument_refers};
+ghost use Rattle.sharc_history.specs.References.{next_refers, register_refers, free_refers, spawn_refers, refers_by};
+ghost use Rattle.sharc_history.specs.References.{refers_at};
 
 use crate::cells::{Origin, Where, cell_at};
 use sharc_code::{Cell, Code, Function, Instr, Parameter, Register, Stage, Text};

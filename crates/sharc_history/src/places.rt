@@ -1,7 +1,6 @@
 //! The lines of a run in the words of its source.
 
-ghost use Rattle.std.specs.Prelude.{◌≡◌, [], IfOk};
-ghost use Rattle.std.specs.List.{flat_map};
+ghost use Rattle.std.specs.{Prelude.{◌≡◌, [], IfOk}, List.flat_map};
 ghost use Rattle.sharc_tree.specs.Texts.{Appends};
 ghost use Rattle.sharc_history.specs.Places.{event_lines, last_line, places_text};
 

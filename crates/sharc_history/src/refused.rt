@@ -1,9 +1,7 @@
 //! Where a check refused an access or a cast.
 
-ghost use Rattle.std.specs.Prelude.{◌≡◌};
-ghost use Rattle.std.specs.Option.{option_map};
-ghost use Rattle.sharc_history.specs.Told.{at};
-ghost use Rattle.sharc_history.specs.Refused.{accessed, refused_at};
+ghost use Rattle.std.specs.{Prelude.◌≡◌, Option.option_map};
+ghost use Rattle.sharc_history.specs.{Told.at, Refused.{accessed, refused_at}};
 
 use crate::cells::{Where, cell_at};
 use crate::next::instr_at;

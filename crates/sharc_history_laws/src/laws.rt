@@ -1,23 +1,16 @@
 //! The laws, each the contract of a function that does nothing.
 
-ghost use Rattle.sharc_history_laws.specs.Awaits.{AwaitedIsHeld, AwaitedIsNotGone};
-ghost use Rattle.sharc_history_laws.specs.Causes.{AccessReportsBreakRules, NamesAreCauses, ReportsHaveNamed};
-ghost use Rattle.sharc_history_laws.specs.Causes.{UnstartedAreBegun};
+ghost use Rattle.sharc_history_laws.specs.{Awaits.{AwaitedIsHeld, AwaitedIsNotGone}, Causes.AccessReportsBreakRules};
+ghost use Rattle.sharc_history_laws.specs.Causes.{NamesAreCauses, ReportsHaveNamed, UnstartedAreBegun};
 ghost use Rattle.sharc_history_laws.specs.Conflicts.{AccessReportsShow, NamedAreChecked, NotesAreOfChecks};
 ghost use Rattle.sharc_history_laws.specs.Followed.{AccessesFollow, LockReportsBreakRules, LockReportsShowAccess};
-ghost use Rattle.sharc_history_laws.specs.History.{HistoriesObey};
-ghost use Rattle.sharc_history_laws.specs.Kept.{CellsAreKept, GlobalPointersAreKept, HistoriesGrow, LockedAreLogged};
-ghost use Rattle.sharc_history_laws.specs.Kept.{MadePointersAreKept, OthersAreInitial, SpawnedAreGiven};
-ghost use Rattle.sharc_history_laws.specs.Made.{PointersAreMade};
-ghost use Rattle.sharc_history_laws.specs.Paths.{PathsAreConsistent};
-ghost use Rattle.sharc_history_laws.specs.Reports.{CastReportsShow, LockReportsShow};
-ghost use Rattle.sharc_history_laws.specs.Seen.{ArgumentsAreGiven, LogsAreLocked, RunsBegin};
-ghost use Rattle.sharc_history_laws.specs.SeenCells.{CellsAreSeen};
-ghost use Rattle.sharc_history_laws.specs.Starts.{StartsAreSpawned};
-ghost use Rattle.sharc_history_laws.specs.Stores.{StoresAreLegal};
-ghost use Rattle.sharc_history_laws.specs.Stuck.{AwaitedMayNotCome};
-ghost use Rattle.sharc_history_laws.specs.Threads.{RunsTellThreads};
-ghost use Rattle.sharc_history_laws.specs.Waiters.{EventsMayCome};
+ghost use Rattle.sharc_history_laws.specs.{History.HistoriesObey, Kept.{CellsAreKept, GlobalPointersAreKept}};
+ghost use Rattle.sharc_history_laws.specs.Kept.{HistoriesGrow, LockedAreLogged, MadePointersAreKept, OthersAreInitial};
+ghost use Rattle.sharc_history_laws.specs.{Kept.SpawnedAreGiven, Made.PointersAreMade, Paths.PathsAreConsistent};
+ghost use Rattle.sharc_history_laws.specs.{Reports.{CastReportsShow, LockReportsShow}, Seen.ArgumentsAreGiven};
+ghost use Rattle.sharc_history_laws.specs.{Seen.{LogsAreLocked, RunsBegin}, SeenCells.CellsAreSeen};
+ghost use Rattle.sharc_history_laws.specs.{Starts.StartsAreSpawned, Stores.StoresAreLegal, Stuck.AwaitedMayNotCome};
+ghost use Rattle.sharc_history_laws.specs.{Threads.RunsTellThreads, Waiters.EventsMayCome};
 
 use crate::words::states_law;
 use sharc_code::{run_laws, standing_laws};

@@ -1,12 +1,10 @@
 // Links: of types that are made equal, and of the levels of each.
 
-ghost use Rattle.std.specs.Prelude.{◌≡◌, ◌++◌, ◌+◌, ◌<◌, ◌^◌, Some, IfOk, OnOk};
-ghost use Rattle.std.specs.List.{flat_map};
+ghost use Rattle.std.specs.{Prelude.{◌≡◌, ◌++◌, ◌+◌, ◌<◌, ◌^◌, Some, IfOk, OnOk}, List.flat_map};
 ghost use Rattle.sharc_tree.specs.View.{view_expr, view_function, view_item, view_right};
 ghost use Rattle.sharc_ctype.specs.Entities.{entities_in, numbered, positions_of};
 ghost use Rattle.sharc_mode.specs.Flows.{equal_rows, levels_down, source_row, function_links, item_links, links_of};
-ghost use Rattle.sharc_mode.specs.Rows.{behind, cast_row, row_at};
-ghost use Rattle.sharc_mode.specs.View.{view_rows, EndsWithin};
+ghost use Rattle.sharc_mode.specs.{Rows.{behind, cast_row, row_at}, View.{view_rows, EndsWithin}};
 
 use crate::{casts, transfers};
 use sharc_ctype::entity::Numbered;

@@ -1,12 +1,9 @@
 // The roots: the tops of touched globals, and the targets of parameters of spawned functions.
 
-ghost use Rattle.std.specs.Prelude.{◌≡◌, ◌<◌, ◌≤◌, length, IfOk};
-ghost use Rattle.std.specs.Option.{option_copied};
+ghost use Rattle.std.specs.{Prelude.{◌≡◌, ◌<◌, ◌≤◌, length, IfOk}, Option.option_copied};
 ghost use Rattle.sharc_tree.specs.View.{view_function};
-ghost use Rattle.sharc_ctype.specs.Entities.{entity_at};
-ghost use Rattle.sharc_ctype.specs.Resolved.{global_at, function_at, globals_in, functions_in};
-ghost use Rattle.sharc_mode.specs.declared.position.Reason.TheVariants.{Touched, Spawned};
-ghost use Rattle.sharc_mode.specs.Moded.{position_count};
+ghost use Rattle.sharc_ctype.specs.{Entities.entity_at, Resolved.{global_at, function_at, globals_in, functions_in}};
+ghost use Rattle.sharc_mode.specs.{declared.position.Reason.TheVariants.{Touched, Spawned}, Moded.position_count};
 ghost use Rattle.sharc_reach.specs.Reaching.{first_of, is_chosen, AreReached};
 ghost use Rattle.sharc_infer.specs.Roots.{rooted, marked, touch, touched_below, mark_all, pass, passed_below, roots_of};
 

@@ -1,7 +1,6 @@
 // What is settled of each position before the inference.
 
-ghost use Rattle.std.specs.Prelude.{◌≡◌, ◌++◌, Some, if◌then◌else◌, IfOk, OnOk};
-ghost use Rattle.std.specs.Option.{option_or};
+ghost use Rattle.std.specs.{Prelude.{◌≡◌, ◌++◌, Some, if◌then◌else◌, IfOk, OnOk}, Option.option_or};
 ghost use Rattle.sharc_tree.specs.declared.ctype.Mode.TheVariants.{Racy as RacyMode};
 ghost use Rattle.sharc_ctype.specs.Entities.{entities_in};
 ghost use Rattle.sharc_mode.specs.Settled.{is_mutex, field_target, otherwise_of, settled_modes, settled_in};

@@ -1,15 +1,14 @@
 // The links of what functions assign, initialise, pass and return: one walk over a program.
 
 ghost use Rattle.std.specs.Prelude.{◌≡◌, ◌++◌, Some, OnOk};
-ghost use Rattle.sharc_tree.specs.Tree.{value, argument, no_arguments};
-ghost use Rattle.sharc_tree.specs.View.{view_expr, view_arguments, view_option, view_right, view_simple, view_local};
-ghost use Rattle.sharc_tree.specs.View.{view_first, view_head, view_stmt, view_statements};
+ghost use Rattle.sharc_tree.specs.{Tree.{value, argument, no_arguments}, View.{view_expr, view_arguments, view_option}};
+ghost use Rattle.sharc_tree.specs.View.{view_right, view_simple, view_local, view_first, view_head, view_stmt};
+ghost use Rattle.sharc_tree.specs.View.{view_statements};
 ghost use Rattle.sharc_ctype.specs.Transfers.{parameters_named, passed, transfers, argument_transfers, in_option};
 ghost use Rattle.sharc_ctype.specs.Transfers.{right_transfers, simple_transfers, local_transfers, first_transfers};
 ghost use Rattle.sharc_ctype.specs.Transfers.{statement_transfers, statements_transfers, gives};
 ghost use Rattle.sharc_ctype.specs.Transfers.{result as result_receiver};
-ghost use Rattle.sharc_mode.specs.Flows.{equal_rows, source_row};
-ghost use Rattle.sharc_mode.specs.Rows.{written, declared_row, row_at};
+ghost use Rattle.sharc_mode.specs.{Flows.{equal_rows, source_row}, Rows.{written, declared_row, row_at}};
 ghost use Rattle.sharc_mode.specs.View.{view_rows, EndsWithin};
 ghost use Rattle.sharc_infer.specs.Links.{given};
 

@@ -1,7 +1,6 @@
 // The laws, each the contract of a function that does nothing.
 
-ghost use Rattle.sharc_infer_laws.specs.Laws.{FindingsAreOne, RootsAreOne, LeastIsOne};
-ghost use Rattle.sharc_infer_laws.specs.Locks.{LeastHasWrittenLocks};
+ghost use Rattle.sharc_infer_laws.specs.{Laws.{FindingsAreOne, RootsAreOne, LeastIsOne}, Locks.LeastHasWrittenLocks};
 ghost use Rattle.sharc_infer_laws.specs.Types.{TypesAreTold};
 
 use sharc_ctype_laws::laws::each_names_itself;

@@ -1,10 +1,8 @@
 //! A source and a sink in memory that fail at the calls that they are given.
 
-ghost use Rattle.std.specs.Prelude.{◌≡◌, ◌-◌, ◌≤◌, [], length, min, is_err, OnOk, OnErr, IfOk};
-ghost use Rattle.std.specs.Io.{ReadsAtMost, WritesAtMost};
-ghost use Rattle.std.specs.Io.KnownBytes.{ReadConsumes, WriteAppends};
-ghost use Rattle.sharc_io.specs.Causes.{HasCause, HasStallCause};
-ghost use Rattle.sharc_io.specs.Memory.{MakesCall, stalls_after};
+ghost use Rattle.std.specs.{Prelude.{◌≡◌, ◌-◌, ◌≤◌, [], length, min, is_err, OnOk, OnErr, IfOk}, Io.ReadsAtMost};
+ghost use Rattle.std.specs.{Io.WritesAtMost, Io.KnownBytes.{ReadConsumes, WriteAppends}};
+ghost use Rattle.sharc_io.specs.{Causes.{HasCause, HasStallCause}, Memory.{MakesCall, stalls_after}};
 
 use crate::plan::FaultPlan;
 use crate::store::Store;

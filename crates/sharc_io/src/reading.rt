@@ -1,10 +1,8 @@
 //! Reading all that a source has left.
 
 ghost use Rattle.std.specs.Prelude.{◌≡◌, ◌<◌, ◌≤◌, ◌+◌, ◌++◌, length, vec_len, take, OnOk, OnErr, IfOk, IfSome};
-ghost use Rattle.std.specs.Prelude.{IsErrOf};
-ghost use Rattle.std.specs.Io.KnownBytes.{Consumes, IsAtEnd};
-ghost use Rattle.sharc_io.specs.Causes.{Rose};
-ghost use Rattle.sharc_io.specs.Reading.{TakesFront, TakesAtMost};
+ghost use Rattle.std.specs.{Prelude.IsErrOf, Io.KnownBytes.{Consumes, IsAtEnd}};
+ghost use Rattle.sharc_io.specs.{Causes.Rose, Reading.{TakesFront, TakesAtMost}};
 
 use crate::{Failed, Source};
 use std::alloc::Global;

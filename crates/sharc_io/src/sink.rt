@@ -1,8 +1,6 @@
 //! Where bytes go.
 
-ghost use Rattle.std.specs.Prelude.{ℕ, List};
-ghost use Rattle.std.specs.Io.{WritesAtMost};
-ghost use Rattle.std.specs.Io.KnownBytes.{WriteAppends};
+ghost use Rattle.std.specs.{Prelude.{ℕ, List}, Io.WritesAtMost, Io.KnownBytes.WriteAppends};
 ghost use Rattle.std.specs.declared.option.Option.{Option};
 ghost use Rattle.sharc_io.specs.Causes.{HasCause, HasStallCause};
 

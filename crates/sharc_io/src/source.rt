@@ -1,8 +1,6 @@
 //! Where bytes come from.
 
-ghost use Rattle.std.specs.Prelude.{ℕ, List};
-ghost use Rattle.std.specs.Io.{ReadsAtMost};
-ghost use Rattle.std.specs.Io.KnownBytes.{ReadConsumes};
+ghost use Rattle.std.specs.{Prelude.{ℕ, List}, Io.ReadsAtMost, Io.KnownBytes.ReadConsumes};
 ghost use Rattle.std.specs.declared.option.Option.{Option};
 ghost use Rattle.sharc_io.specs.Causes.{HasCause};
 

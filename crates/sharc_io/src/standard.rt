@@ -1,10 +1,8 @@
 //! Standard input and standard output: the trusted edge.
 
-ghost use Rattle.std.specs.Prelude.{◌≡◌, is_err, if◌then◌else◌, IfOk, OnErr, MatchResult};
-ghost use Rattle.std.specs.Io.{ReadsAtMost, WritesAtMost};
-ghost use Rattle.std.specs.Io.KnownBytes.{ReadConsumes, WriteAppends};
-ghost use Rattle.sharc_io.specs.Causes.{HasCause, HasStallCause, one_more};
-ghost use Rattle.sharc_io.specs.Memory.{stalls_after};
+ghost use Rattle.std.specs.{Prelude.{◌≡◌, is_err, if◌then◌else◌, IfOk, OnErr, MatchResult}, Io.ReadsAtMost};
+ghost use Rattle.std.specs.{Io.WritesAtMost, Io.KnownBytes.{ReadConsumes, WriteAppends}};
+ghost use Rattle.sharc_io.specs.{Causes.{HasCause, HasStallCause, one_more}, Memory.stalls_after};
 
 use crate::{Failed, Sink, Source};
 use std::io::{Read, Stdin, Stdout, Write};

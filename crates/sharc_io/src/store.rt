@@ -1,8 +1,7 @@
 //! Bytes in memory that are written at the end, up to a room that was reserved.
 
 ghost use Rattle.std.specs.Prelude.{◌≡◌, ◌+◌, ◌-◌, ◌<◌, ◌≤◌, ◌++◌, [], length, min, take, IfOk, if◌then◌else◌};
-ghost use Rattle.sharc_io.specs.Causes.{Rose};
-ghost use Rattle.sharc_io.specs.Memory.{stalls_after};
+ghost use Rattle.sharc_io.specs.{Causes.Rose, Memory.stalls_after};
 
 use std::alloc::{AllocError, Global};
 use std::marker::Model;

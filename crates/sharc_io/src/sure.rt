@@ -1,10 +1,8 @@
 //! A source and a sink in memory that never fail.
 
-ghost use Rattle.std.specs.Prelude.{◌≡◌, ◌-◌, ◌≤◌, [], length, min, OnOk, IfOk, IsOk, IsOkAnd};
-ghost use Rattle.std.specs.Io.{ReadsAtMost, WritesAtMost};
-ghost use Rattle.std.specs.Io.KnownBytes.{ReadConsumes, WriteAppends};
-ghost use Rattle.sharc_io.specs.Causes.{HasCause, HasStallCause};
-ghost use Rattle.sharc_io.specs.Memory.{stalls_after};
+ghost use Rattle.std.specs.{Prelude.{◌≡◌, ◌-◌, ◌≤◌, [], length, min, OnOk, IfOk, IsOk, IsOkAnd}, Io.ReadsAtMost};
+ghost use Rattle.std.specs.{Io.WritesAtMost, Io.KnownBytes.{ReadConsumes, WriteAppends}};
+ghost use Rattle.sharc_io.specs.{Causes.{HasCause, HasStallCause}, Memory.stalls_after};
 
 use crate::store::Store;
 use crate::unread::Unread;

@@ -1,7 +1,6 @@
 //! Writing all of some bytes.
 
-ghost use Rattle.std.specs.Prelude.{◌<◌, ◌≤◌, length, take, OnOk, OnErr, IfErr};
-ghost use Rattle.std.specs.Io.KnownBytes.{Appends};
+ghost use Rattle.std.specs.{Prelude.{◌<◌, ◌≤◌, length, take, OnOk, OnErr, IfErr}, Io.KnownBytes.Appends};
 ghost use Rattle.sharc_io.specs.Causes.{EitherRose};
 
 use crate::{Failed, Sink};

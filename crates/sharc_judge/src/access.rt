@@ -2,10 +2,8 @@
 
 ghost use Rattle.std.specs.Prelude.{◌≡◌, ◌+◌, option_map};
 ghost use Rattle.sharc_meaning.specs.Events.{granule_of, access_by, makes, gives, frees, begins, locks, unlocks};
-ghost use Rattle.sharc_meaning.specs.Events.{is_cell};
-ghost use Rattle.sharc_meaning.specs.Reference.{number_of};
-ghost use Rattle.sharc_meaning.specs.Store.{cell_changed, changes, value_left, is_natural, is_spawn, spawns, is_gone};
-ghost use Rattle.sharc_meaning.specs.Store.{enters, takes_away};
+ghost use Rattle.sharc_meaning.specs.{Events.is_cell, Reference.number_of, Store.{cell_changed, changes, value_left}};
+ghost use Rattle.sharc_meaning.specs.Store.{is_natural, is_spawn, spawns, is_gone, enters, takes_away};
 ghost use Rattle.sharc_judge.specs.Deciding.{view_access};
 
 use crate::same::{is_cell, same_object};

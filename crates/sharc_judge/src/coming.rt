@@ -3,8 +3,7 @@
 ghost use Rattle.std.specs.Prelude.{◌≡◌, IsTrue, ◌↔◌, false, true, find};
 ghost use Rattle.sharc_meaning.specs.Store.{value_after, is_live, is_locked, was_locked_by, spawns, went, MayCome};
 ghost use Rattle.sharc_meaning.specs.Store.{IsFresh, IsNewThread};
-ghost use Rattle.sharc_judge.specs.Kept.{IsSpawnedOnce};
-ghost use Rattle.sharc_judge.specs.Latest.{last_make};
+ghost use Rattle.sharc_judge.specs.{Kept.IsSpawnedOnce, Latest.last_make};
 
 use crate::access::{locks, makes, number_of, value_left};
 use crate::keys::cell_key;

@@ -1,7 +1,6 @@
 // Whether an event meets a test; the last event of a list that does, and whether any does.
 
-ghost use Rattle.std.specs.Prelude.{◌≡◌};
-ghost use Rattle.std.specs.List.{list_any};
+ghost use Rattle.std.specs.{Prelude.◌≡◌, List.list_any};
 ghost use Rattle.sharc_meaning.specs.Events.{latest};
 ghost use Rattle.sharc_judge.specs.Deciding.{test_of, ends_of, meets_latest};
 

@@ -2,8 +2,7 @@
 
 ghost use Rattle.std.specs.Prelude.{◌≡◌, [], ◌∷◌, ◌++◌, IfOk, length};
 ghost use Rattle.sharc_meaning.specs.Events.{events_of};
-ghost use Rattle.sharc_judge.specs.Latest.{latest_about};
-ghost use Rattle.sharc_judge.specs.Reads.{reads_of};
+ghost use Rattle.sharc_judge.specs.{Latest.latest_about, Reads.reads_of};
 
 use crate::counts::{Counts, add_one};
 use crate::keys::GranuleKey;

@@ -1,8 +1,7 @@
 // The reads of each granule under mode dynamic since it was last written or taken under it.
 
 ghost use Rattle.std.specs.Prelude.{◌≡◌, [], ◌∷◌, ◌++◌, OnOk, if◌then◌else◌};
-ghost use Rattle.sharc_judge.specs.Reads.{reads_in, same_granule, with_read};
-ghost use Rattle.sharc_judge.specs.declared.keys.GranuleKey.{GranuleKey};
+ghost use Rattle.sharc_judge.specs.{Reads.{reads_in, same_granule, with_read}, declared.keys.GranuleKey.GranuleKey};
 
 use crate::access::access_by;
 use crate::keys::{GranuleKey, granule_key};

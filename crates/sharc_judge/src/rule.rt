@@ -1,8 +1,7 @@
 // The rules of the modes, each at each access.
 
 ghost use Rattle.std.specs.Prelude.{◌≡◌, [], IsTrue, ◌↔◌, false, true, MatchOption, option_map};
-ghost use Rattle.sharc_meaning.specs.Events.{access_by};
-ghost use Rattle.sharc_meaning.specs.Obeys.{Obeys, is_owner};
+ghost use Rattle.sharc_meaning.specs.{Events.access_by, Obeys.{Obeys, is_owner}};
 ghost use Rattle.sharc_judge.specs.Deciding.{view_access, view_until, is_there, breaks, breaks_by, any_place};
 ghost use Rattle.sharc_judge.specs.Judged.{Holds, IsLowestBroken};
 

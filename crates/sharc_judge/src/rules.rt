@@ -3,11 +3,9 @@
 ghost use Rattle.std.specs.Prelude.{◌≡◌, [], ◌∷◌, false};
 ghost use Rattle.sharc_meaning.specs.Obeys.{is_owner};
 ghost use Rattle.sharc_judge.specs.Deciding.{breaks, breaks_by, any_pair, pair_of, is_there};
+ghost use Rattle.sharc_judge.specs.{declared.pair.Until.TheVariants.Return, Kept.{AreUnbroken, IsLowestAt}};
+ghost use Rattle.sharc_judge.specs.{Latest.{last_begin, last_period}, Reads.{is_against, against_write, against_reads}};
 ghost use Rattle.sharc_judge.specs.declared.pair.Pair.TheVariants as pair;
-ghost use Rattle.sharc_judge.specs.declared.pair.Until.TheVariants.{Return};
-ghost use Rattle.sharc_judge.specs.Kept.{AreUnbroken, IsLowestAt};
-ghost use Rattle.sharc_judge.specs.Latest.{last_begin, last_period};
-ghost use Rattle.sharc_judge.specs.Reads.{is_against, against_write, against_reads};
 
 use crate::access::{CellAccess, access_by, locks};
 use crate::keys::{cell_key, granule_key};

@@ -1,11 +1,10 @@
 // What the events before leave: the value of a cell, which objects are live, which mutexes are locked, which threads
 // there are, and who waits.
 
-ghost use Rattle.std.specs.Prelude.{◌≡◌, IsTrue, ◌↔◌, false, true};
-ghost use Rattle.std.specs.Option.{option_copied};
-ghost use Rattle.sharc_meaning.specs.Reference.{constant_value};
-ghost use Rattle.sharc_meaning.specs.Store.{form_value, global_value, initial_value, value_after, is_live, is_locked};
-ghost use Rattle.sharc_meaning.specs.Store.{was_locked_by, was_spawned, went, is_waiter, IsFresh, IsNewThread, Signals};
+ghost use Rattle.std.specs.{Prelude.{◌≡◌, IsTrue, ◌↔◌, false, true}, Option.option_copied};
+ghost use Rattle.sharc_meaning.specs.{Reference.constant_value, Store.{form_value, global_value, initial_value}};
+ghost use Rattle.sharc_meaning.specs.Store.{value_after, is_live, is_locked, was_locked_by, was_spawned, went};
+ghost use Rattle.sharc_meaning.specs.Store.{is_waiter, IsFresh, IsNewThread, Signals};
 ghost use Rattle.sharc_judge.specs.Deciding.{lower_waiter, lowest_waiter, waiter_answer};
 
 use crate::access::{number_of, value_left};

@@ -1,10 +1,7 @@
 // The last event about each topic, with its place.
 
-ghost use Rattle.std.specs.Prelude.{◌≡◌, OnOk, Some, if◌then◌else◌};
-ghost use Rattle.std.specs.List.{list_any};
-ghost use Rattle.sharc_judge.specs.Latest.{is_behind};
-ghost use Rattle.sharc_judge.specs.Topics.{same_topic, found};
-ghost use Rattle.sharc_judge.specs.declared.topics.Topic.{Topic};
+ghost use Rattle.std.specs.{Prelude.{◌≡◌, OnOk, Some, if◌then◌else◌}, List.list_any};
+ghost use Rattle.sharc_judge.specs.{Latest.is_behind, Topics.{same_topic, found}, declared.topics.Topic.Topic};
 
 use crate::topics::Topic;
 use sharc_tree::event::SourceEvent;

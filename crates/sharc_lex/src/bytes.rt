@@ -1,7 +1,6 @@
 //! The classes of bytes that tokens, white space and line markers are made of.
 
-ghost use Rattle.std.specs.Prelude.{◌≡◌};
-ghost use Rattle.std.specs.List.{prefix_len};
+ghost use Rattle.std.specs.{Prelude.◌≡◌, List.prefix_len};
 ghost use Rattle.sharc_lex.specs.Bytes.{is_blank, is_white_space, is_digit, is_letter, is_word_byte, is_printable};
 
 /// Whether the byte is a space or a tab.

@@ -1,8 +1,7 @@
 //! Why a source is no list of tokens.
 
 ghost use Rattle.std.specs.Prelude.{◌≡◌, IfOk};
-ghost use Rattle.sharc_lex.specs.Faults.{digit_of, text_of};
-ghost use Rattle.sharc_lex.specs.declared.fault.LineFailure.TheVariants.{Memory};
+ghost use Rattle.sharc_lex.specs.{Faults.{digit_of, text_of}, declared.fault.LineFailure.TheVariants.Memory};
 
 use sharc_tree::name::Name;
 use sharc_tree::token::FaultAt;

@@ -1,11 +1,8 @@
 //! The laws of readings, each the contract of a function that does nothing.
 
 ghost use Rattle.std.specs.Prelude.{◌≡◌, ℕ, List, Ok, Err};
-ghost use Rattle.sharc_lex.specs.declared.fault.TokenFault.{TokenFault};
-ghost use Rattle.sharc_lex.specs.Grammar.{reading};
-ghost use Rattle.sharc_lex.specs.Laws.{AreTokensOf, IsFaultIn};
-ghost use Rattle.sharc_tree.specs.declared.token.FaultAt.{FaultAt};
-ghost use Rattle.sharc_tree.specs.declared.token.Tokens.{Tokens};
+ghost use Rattle.sharc_lex.specs.{declared.fault.TokenFault.TokenFault, Grammar.reading, Laws.{AreTokensOf, IsFaultIn}};
+ghost use Rattle.sharc_tree.specs.{declared.token.FaultAt.FaultAt, declared.token.Tokens.Tokens};
 
 /// The tokens that the grammar reads lie in the source in their order, each the longest there, in its file and line.
 pub fn tokens_stand()

@@ -1,8 +1,7 @@
 //! The tokens of a line of text.
 
 ghost use Rattle.std.specs.Prelude.{◌≡◌, ◌+◌, ◌<◌, ◌≤◌, ◌^◌, length, drop, IfOk, IfErr, OnOk};
-ghost use Rattle.sharc_lex.specs.Faults.{Fails};
-ghost use Rattle.sharc_lex.specs.Grammar.{token, tokens_of, behind_tokens, Steps};
+ghost use Rattle.sharc_lex.specs.{Faults.Fails, Grammar.{token, tokens_of, behind_tokens, Steps}};
 
 use crate::bytes::is_white_space;
 use crate::fault::{LineFailure, LineFault, SourceLine};

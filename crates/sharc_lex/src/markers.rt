@@ -1,10 +1,8 @@
 //! Line markers, as GCC writes them: `# LINE "FILE" FLAGS`.
 
-ghost use Rattle.std.specs.Prelude.{◌≡◌, ◌≤◌, length, option_map, if◌then◌else◌};
-ghost use Rattle.std.specs.List.{prefix_len, list_all};
-ghost use Rattle.sharc_lex.specs.Bytes.{is_blank, is_digit, behind};
-ghost use Rattle.sharc_lex.specs.Markers.{is_name_byte, is_flag, line_number, closed_name, file_name, is_marker_line};
-ghost use Rattle.sharc_lex.specs.Markers.{marker};
+ghost use Rattle.std.specs.{Prelude.{◌≡◌, ◌≤◌, length, option_map, if◌then◌else◌}, List.{prefix_len, list_all}};
+ghost use Rattle.sharc_lex.specs.{Bytes.{is_blank, is_digit, behind}, Markers.{is_name_byte, is_flag, line_number}};
+ghost use Rattle.sharc_lex.specs.Markers.{closed_name, file_name, is_marker_line, marker};
 
 use crate::bytes::{is_blank, is_digit, is_printable};
 use crate::numbers::digits;

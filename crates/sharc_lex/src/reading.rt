@@ -2,11 +2,9 @@
 
 ghost use Rattle.std.specs.Prelude.{◌≡◌, ◌+◌, ◌==◌, ◌-◌, ◌<◌, ◌≤◌, ◌^◌, length, IfOk, IfErr, OnOk, OnErr};
 ghost use Rattle.std.specs.List.{prefix_len, position_or_len};
-ghost use Rattle.sharc_lex.specs.Bytes.{is_blank};
-ghost use Rattle.sharc_lex.specs.Faults.{Fails, Tells, Refuses, Gives};
-ghost use Rattle.sharc_lex.specs.Laws.{AreTokensOf, TellsPlace};
-ghost use Rattle.sharc_lex.specs.Grammar.{IsWithin, opening, text_line, marker_line, line_read, with_place, fault_at};
-ghost use Rattle.sharc_lex.specs.Grammar.{tokens_read, reading};
+ghost use Rattle.sharc_lex.specs.{Bytes.is_blank, Faults.{Fails, Tells, Refuses, Gives}, Laws.AreTokensOf};
+ghost use Rattle.sharc_lex.specs.{Laws.TellsPlace, Grammar.{IsWithin, opening, text_line, marker_line, line_read}};
+ghost use Rattle.sharc_lex.specs.Grammar.{with_place, fault_at, tokens_read, reading};
 
 use crate::fault::{LexFault, LineFailure, LineFault, SourceLine, TokenFault};
 use crate::files::Files;

@@ -1,8 +1,7 @@
 //! What token is where a byte begins it.
 
 ghost use Rattle.std.specs.Prelude.{◌≡◌, ◌∷◌, IfOk};
-ghost use Rattle.sharc_lex.specs.Laws.{IsLongest};
-ghost use Rattle.sharc_lex.specs.TokenAt.{LiesIn, word_at, number_at, token_at};
+ghost use Rattle.sharc_lex.specs.{Laws.IsLongest, TokenAt.{LiesIn, word_at, number_at, token_at}};
 
 use crate::bytes::{is_digit, is_letter, word_len};
 use crate::characters::character;

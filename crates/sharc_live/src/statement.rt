@@ -3,8 +3,7 @@
 ghost use Rattle.std.specs.Prelude.{◌≡◌, ◌++◌, OnOk, IfOk};
 ghost use Rattle.sharc_tree.specs.View.{view_expr, view_option, view_right, view_simple, view_local, view_first};
 ghost use Rattle.sharc_tree.specs.View.{view_head, view_stmt, view_statements, view_function};
-ghost use Rattle.sharc_dataflow.specs.Code.{goes_to, first_then, listing};
-ghost use Rattle.sharc_dataflow.specs.Flow.{Ends};
+ghost use Rattle.sharc_dataflow.specs.{Code.{goes_to, first_then, listing}, Flow.Ends};
 ghost use Rattle.sharc_live.specs.Turns.{if_ends, body_begins, tested_loop_ends, turn_begins, turn_ends};
 ghost use Rattle.sharc_live.specs.Flows.{of_option, flow, right_flow, simple_flow, declares_flow, local_flow};
 ghost use Rattle.sharc_live.specs.Flows.{first_flow, turn_flow, test_flow, jump_flow, for_flow, statement_flow};

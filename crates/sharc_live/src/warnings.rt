@@ -4,9 +4,7 @@ ghost use Rattle.std.specs.Prelude.{◌≡◌, [], ◌∷◌, map, IfOk};
 ghost use Rattle.sharc_tree.specs.View.{view_function, view_items};
 ghost use Rattle.sharc_ctype.specs.Resolved.{functions_in};
 ghost use Rattle.sharc_dataflow.specs.Uses.{AddsUses};
-ghost use Rattle.sharc_live.specs.Flows.{function_flow};
-ghost use Rattle.sharc_live.specs.Gathers.{AddsAll};
-ghost use Rattle.sharc_live.specs.Uses.{site_at, warning_at, AreWarnings};
+ghost use Rattle.sharc_live.specs.{Flows.function_flow, Gathers.AddsAll, Uses.{site_at, warning_at, AreWarnings}};
 
 use crate::statement::function;
 use sharc_check::Checked;

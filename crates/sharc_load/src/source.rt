@@ -1,7 +1,6 @@
 //! A program of eight threads that run through `n` functions.
 
-ghost use Rattle.std.specs.Prelude.{◌≡◌, ◌≤◌, ◌++◌, IfOk, OnOk, map, string_bytes};
-ghost use Rattle.std.specs.List.{range_with_len};
+ghost use Rattle.std.specs.{Prelude.{◌≡◌, ◌≤◌, ◌++◌, IfOk, OnOk, map, string_bytes}, List.range_with_len};
 ghost use Rattle.sharc_load.specs.Source.{source_of, text_of, step_line, call_line, spawn_line, join_line};
 
 use std::alloc::{AllocError, Allocator};

@@ -24,8 +24,7 @@ pub struct HeldLog {
 
 impl Model for HeldLog {
     ghost use Rattle.std.specs.Prelude.{List};
-    ghost use Rattle.sharc_locks.specs.declared.held_log.HeldMutex.{HeldMutex};
-    ghost use Rattle.sharc_locks.specs.HeldLog.{IsHeldLog};
+    ghost use Rattle.sharc_locks.specs.{declared.held_log.HeldMutex.HeldMutex, HeldLog.IsHeldLog};
 
     ghost Value = { List HeldMutex };
 

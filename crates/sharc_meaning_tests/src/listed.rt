@@ -1,15 +1,12 @@
 // The references to an object, each listed at one place of the events.
 
-ghost use Rattle.std.specs.Prelude.{◌≡◌, ◌++◌, ◌||◌, IfOk, OnOk, map};
-ghost use Rattle.std.specs.List.{list_any};
+ghost use Rattle.std.specs.{Prelude.{◌≡◌, ◌++◌, ◌||◌, IfOk, OnOk, map}, List.list_any};
 ghost use Rattle.sharc_ctype.specs.Resolved.{function_at};
-ghost use Rattle.sharc_meaning.specs.Events.{is_of};
-ghost use Rattle.sharc_meaning.specs.References.{takes_to_free, is_taken_to_free, takes_reference, has_pointer, passes};
-ghost use Rattle.sharc_meaning.specs.Runs.{SourceRun};
-ghost use Rattle.sharc_meaning_tests.specs.Answered.{AreReferences};
-ghost use Rattle.sharc_meaning_tests.specs.Listed.{at_places, counts, cell_refers, cell_at, mutex_at, is_passed};
-ghost use Rattle.sharc_meaning_tests.specs.Listed.{argument_at, in_thread_all, thread_at, by_act, holders_at, holders};
-ghost use Rattle.sharc_meaning_tests.specs.Starting.{main_of};
+ghost use Rattle.sharc_meaning.specs.{Events.is_of, References.{takes_to_free, is_taken_to_free, takes_reference}};
+ghost use Rattle.sharc_meaning.specs.{References.{has_pointer, passes}, Runs.SourceRun};
+ghost use Rattle.sharc_meaning_tests.specs.{Answered.AreReferences, Listed.{at_places, counts, cell_refers, cell_at}};
+ghost use Rattle.sharc_meaning_tests.specs.Listed.{mutex_at, is_passed, argument_at, in_thread_all, thread_at, by_act};
+ghost use Rattle.sharc_meaning_tests.specs.{Listed.{holders_at, holders}, Starting.main_of};
 ghost use Rattle.sharc_tree.specs.declared.event.Object.TheVariants.{Made};
 
 use crate::holder::Holder;

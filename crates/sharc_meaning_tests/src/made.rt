@@ -1,7 +1,6 @@
 // Whether the `malloc` at a token makes objects with a pointer in a cell.
 
-ghost use Rattle.std.specs.Prelude.{◌≡◌};
-ghost use Rattle.std.specs.List.{list_any};
+ghost use Rattle.std.specs.{Prelude.◌≡◌, List.list_any};
 ghost use Rattle.sharc_tree.specs.View.{view_right, view_simple, view_first, view_head, view_stmt, view_statements};
 ghost use Rattle.sharc_tree.specs.View.{view_option, view_item, view_items};
 ghost use Rattle.sharc_meaning.specs.References.{is_pointer_in, types_made};

@@ -1,8 +1,7 @@
 // Which cells of objects are pointers.
 
 ghost use Rattle.std.specs.Prelude.{◌≡◌, ◌%◌, false, length, slice_index_or};
-ghost use Rattle.sharc_ctype.specs.Layouts.{pointer_cells};
-ghost use Rattle.sharc_ctype.specs.Resolved.{structs_in};
+ghost use Rattle.sharc_ctype.specs.{Layouts.pointer_cells, Resolved.structs_in};
 ghost use Rattle.sharc_meaning.specs.References.{fields_called, base_fields, is_pointer_in, is_pointer_of};
 ghost use Rattle.sharc_names.specs.View.{view_root};
 ghost use Rattle.sharc_tree.specs.View.{view_items};

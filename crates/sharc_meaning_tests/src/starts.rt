@@ -2,10 +2,7 @@
 
 ghost use Rattle.std.specs.Prelude.{◌≡◌, IfOk, count_by, drop, find};
 ghost use Rattle.sharc_ctype.specs.Resolved.{Resolution};
-ghost use Rattle.sharc_meaning.specs.Events.{events_of};
-ghost use Rattle.sharc_meaning.specs.Meaning.{asks};
-ghost use Rattle.sharc_meaning.specs.References.{refers, held_count};
-ghost use Rattle.sharc_meaning.specs.Runs.{answers_of};
+ghost use Rattle.sharc_meaning.specs.{Events.events_of, Meaning.asks, References.{refers, held_count}, Runs.answers_of};
 ghost use Rattle.sharc_meaning.specs.Store.{spawns};
 ghost use Rattle.sharc_meaning_tests.specs.Starting.{main_of, entry, thread_count};
 

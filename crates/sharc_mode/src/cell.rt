@@ -1,14 +1,12 @@
 // The mode of the cell that an expression names.
 
-ghost use Rattle.std.specs.Prelude.{◌≡◌};
-ghost use Rattle.std.specs.Option.{option_copied};
+ghost use Rattle.std.specs.{Prelude.◌≡◌, Option.option_copied};
 ghost use Rattle.sharc_tree.specs.View.{view_expr};
 ghost use Rattle.sharc_names.specs.View.{view_kind};
-ghost use Rattle.sharc_ctype.specs.Entities.{entity_at};
-ghost use Rattle.sharc_ctype.specs.Resolved.{named_kind};
+ghost use Rattle.sharc_ctype.specs.{Entities.entity_at, Resolved.named_kind};
 ghost use Rattle.sharc_mode.specs.Cells.{is_mutex_kind, is_behind_pointer, written_cell, top_of, field_cell};
-ghost use Rattle.sharc_mode.specs.Cells.{field_named, first_mode, named_cell, pointed, cell_at};
-ghost use Rattle.sharc_mode.specs.View.{view_lock, view_sharing, view_rows};
+ghost use Rattle.sharc_mode.specs.{Cells.{field_named, first_mode, named_cell, pointed, cell_at}, View.view_lock};
+ghost use Rattle.sharc_mode.specs.View.{view_sharing, view_rows};
 
 use crate::moded::Moded;
 use crate::read::read;

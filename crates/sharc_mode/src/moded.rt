@@ -2,8 +2,7 @@
 
 ghost use Rattle.std.specs.Prelude.{◌≡◌, ◌<◌, length, slice_index_or, IfOk};
 ghost use Rattle.sharc_tree.specs.declared.ctype.Mode.TheVariants.{Private as PrivateMode};
-ghost use Rattle.sharc_mode.specs.Moded.{position_count, IsWhole, mode_at, reason_at};
-ghost use Rattle.sharc_mode.specs.View.{view_sharing};
+ghost use Rattle.sharc_mode.specs.{Moded.{position_count, IsWhole, mode_at, reason_at}, View.view_sharing};
 
 use crate::position::{Modes, Reason, Reasons};
 use crate::sharing::{Sharing, sharing_of};

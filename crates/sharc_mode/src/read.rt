@@ -1,8 +1,7 @@
 // Modes with their lock paths as they are read where a declared type is used.
 
 ghost use Rattle.std.specs.Prelude.{◌≡◌};
-ghost use Rattle.sharc_tree.specs.Tree.{argument, no_arguments};
-ghost use Rattle.sharc_tree.specs.View.{view_expr};
+ghost use Rattle.sharc_tree.specs.{Tree.{argument, no_arguments}, View.view_expr};
 ghost use Rattle.sharc_mode.specs.Rows.{argument_use, lock_through, with_base, path_variable, read_lock, read};
 ghost use Rattle.sharc_mode.specs.View.{view_lock, view_reading, view_sharing};
 

@@ -1,15 +1,13 @@
 // What an expression points to: positions of some declared type, and how their lock paths are read where it is used.
 
-ghost use Rattle.std.specs.Prelude.{◌≡◌, ◌+◌, ◌<◌, ◌≤◌, ◌^◌, IfSome};
-ghost use Rattle.std.specs.Option.{option_copied, option_map};
+ghost use Rattle.std.specs.{Prelude.{◌≡◌, ◌+◌, ◌<◌, ◌≤◌, ◌^◌, IfSome}, Option.{option_copied, option_map}};
 ghost use Rattle.sharc_tree.specs.View.{view_expr, view_arguments, view_function};
-ghost use Rattle.sharc_ctype.specs.Constants.{is_constant};
-ghost use Rattle.sharc_ctype.specs.Entities.{entity_at, positions_of};
-ghost use Rattle.sharc_mode.specs.Moded.{position_count};
-ghost use Rattle.sharc_mode.specs.Rows.{is_constant_named, constant_use, base_use, argument_use, targets_from, deeper};
-ghost use Rattle.sharc_mode.specs.Rows.{entity_row, declared_row, cast_row, global_row, named_row, result_row};
-ghost use Rattle.sharc_mode.specs.Rows.{called_row, behind, no_row, constant_row, reading_through, unary_row, row_at};
-ghost use Rattle.sharc_mode.specs.View.{view_reading, view_row, view_rows, EndsWithin};
+ghost use Rattle.sharc_ctype.specs.{Constants.is_constant, Entities.{entity_at, positions_of}};
+ghost use Rattle.sharc_mode.specs.{Moded.position_count, Rows.{is_constant_named, constant_use, base_use}};
+ghost use Rattle.sharc_mode.specs.Rows.{argument_use, targets_from, deeper, entity_row, declared_row, cast_row};
+ghost use Rattle.sharc_mode.specs.Rows.{global_row, named_row, result_row, called_row, behind, no_row, constant_row};
+ghost use Rattle.sharc_mode.specs.{Rows.{reading_through, unary_row, row_at}, View.{view_reading, view_row, view_rows}};
+ghost use Rattle.sharc_mode.specs.View.{EndsWithin};
 
 use sharc_ctype::entity::Numbered;
 use sharc_ctype::typed::Typed;

@@ -1,12 +1,11 @@
 // Sharing modes with what their lock paths name, and when two are the same.
 
-ghost use Rattle.std.specs.Prelude.{◌≡◌};
-ghost use Rattle.std.specs.Option.{option_copied};
+ghost use Rattle.std.specs.{Prelude.◌≡◌, Option.option_copied};
 ghost use Rattle.sharc_mode.specs.Sharings.{lock_of, sharing_of, same_named, same_text, same_first, same_second};
 ghost use Rattle.sharc_mode.specs.Sharings.{same_lock, same, same_level, same_levels, is_private, is_readonly};
 ghost use Rattle.sharc_mode.specs.Sharings.{is_field, is_sibling_lock, is_sibling, variable_named, variable_of};
-ghost use Rattle.sharc_mode.specs.Sharings.{global_token, object_named, object_of};
-ghost use Rattle.sharc_mode.specs.View.{view_name, view_lock, view_sharing};
+ghost use Rattle.sharc_mode.specs.{Sharings.{global_token, object_named, object_of}, View.{view_name, view_lock}};
+ghost use Rattle.sharc_mode.specs.View.{view_sharing};
 
 use crate::text::text_at;
 use sharc_ctype::typed::Typed;

@@ -1,17 +1,12 @@
 // Types as they are shown: what the modes of a row are, and the type of an entity as it is printed.
 
-ghost use Rattle.std.specs.Prelude.{◌≡◌, ◌+◌, ◌≤◌, Some, IfOk};
-ghost use Rattle.std.specs.Option.{option_or};
+ghost use Rattle.std.specs.{Prelude.{◌≡◌, ◌+◌, ◌≤◌, Some, IfOk}, Option.option_or};
 ghost use Rattle.sharc_tree.specs.declared.ctype.Mode.TheVariants.{Private as PrivateMode};
 ghost use Rattle.sharc_names.specs.View.{view_root, view_kind};
 ghost use Rattle.sharc_ctype.specs.Entities.{positions_of};
-ghost use Rattle.sharc_mode.specs.Cells.{top_of};
-ghost use Rattle.sharc_mode.specs.Moded.{position_count};
-ghost use Rattle.sharc_mode.specs.Notes.{shown, base_of, printed_top, printed_type};
-ghost use Rattle.sharc_mode.specs.RowLaws.{RowLaws};
-ghost use Rattle.sharc_mode.specs.Rows.{modes_of};
-ghost use Rattle.sharc_mode.specs.Sharings.{path_of, mode_of, same_all};
-ghost use Rattle.sharc_mode.specs.View.{view_lock, view_sharing, view_row};
+ghost use Rattle.sharc_mode.specs.{Cells.top_of, Moded.position_count, Notes.{shown, base_of, printed_top}};
+ghost use Rattle.sharc_mode.specs.{Notes.printed_type, RowLaws.RowLaws, Rows.modes_of, Sharings.{path_of, mode_of}};
+ghost use Rattle.sharc_mode.specs.{Sharings.same_all, View.{view_lock, view_sharing, view_row}};
 
 use crate::cell::{pointed, top_of};
 use crate::moded::Moded;

@@ -1,10 +1,8 @@
 // The texts of lock paths, of modes and of tokens.
 
 ghost use Rattle.std.specs.Prelude.{◌≡◌, IfOk};
-ghost use Rattle.sharc_tree.specs.Texts.{path_text, mode_text};
-ghost use Rattle.sharc_tree.specs.declared.ctype.Mode.TheVariants.{Locked as LockedMode};
-ghost use Rattle.sharc_mode.specs.Notes.{span_text};
-ghost use Rattle.sharc_mode.specs.Sharings.{text_at};
+ghost use Rattle.sharc_tree.specs.{Texts.{path_text, mode_text}, declared.ctype.Mode.TheVariants.Locked as LockedMode};
+ghost use Rattle.sharc_mode.specs.{Notes.span_text, Sharings.text_at};
 
 use sharc_ctype::typed::Typed;
 use sharc_tree::ctype::{Mode, Path};

@@ -1,20 +1,18 @@
 // Types in which modes are not placed as they may be: M3, M4 and M5.
 
-ghost use Rattle.std.specs.Prelude.{◌≡◌, Some, None, is_some, if◌then◌else◌};
-ghost use Rattle.std.specs.Option.{option_copied, option_or};
+ghost use Rattle.std.specs.{Prelude.{◌≡◌, Some, None, is_some, if◌then◌else◌}, Option.{option_copied, option_or}};
 ghost use Rattle.sharc_tree.specs.declared.ctype.Mode.TheVariants.{Racy as RacyMode, Dynamic as DynamicMode};
-ghost use Rattle.sharc_mode.specs.Settled.{is_mutex, settled, field_target};
-ghost use Rattle.sharc_mode.specs.WellFormed.{is_private_mode, begins_private, holds_private, target_otherwise};
-ghost use Rattle.sharc_mode.specs.WellFormed.{with_top, below_top, meant, names_global_mutex, names_sibling_mutex};
-ghost use Rattle.sharc_mode.specs.WellFormed.{is_mutex_pointer, is_readonly_top, is_readonly_lock};
-ghost use Rattle.sharc_mode.specs.WellFormed.{names_sibling_pointer, fields_named, fields_behind, is_mutex_field};
-ghost use Rattle.sharc_mode.specs.WellFormed.{is_through_constant, allows_path, leaves_open, allows_pointer, path_fits};
-ghost use Rattle.sharc_mode.specs.WellFormed.{top_path_fits, unfit_path, unfit_top_path, unfit_path_in};
-ghost use Rattle.sharc_mode.specs.WellFormed.{first_unfit_path, is_racy_mode, base_allows, level_allows, top_allows};
-ghost use Rattle.sharc_mode.specs.WellFormed.{unfit_mode, unfit_top, unfit_mode_in, first_unfit_mode, type_code};
-ghost use Rattle.sharc_names.specs.Names.{field_of};
-ghost use Rattle.sharc_names.specs.View.{view_kind};
-ghost use Rattle.sharc_mode.specs.View.{view_lock, view_name};
+ghost use Rattle.sharc_mode.specs.{Settled.{is_mutex, settled, field_target}, WellFormed.is_private_mode};
+ghost use Rattle.sharc_mode.specs.WellFormed.{begins_private, holds_private, target_otherwise, with_top, below_top};
+ghost use Rattle.sharc_mode.specs.WellFormed.{meant, names_global_mutex, names_sibling_mutex, is_mutex_pointer};
+ghost use Rattle.sharc_mode.specs.WellFormed.{is_readonly_top, is_readonly_lock, names_sibling_pointer, fields_named};
+ghost use Rattle.sharc_mode.specs.WellFormed.{fields_behind, is_mutex_field, is_through_constant, allows_path};
+ghost use Rattle.sharc_mode.specs.WellFormed.{leaves_open, allows_pointer, path_fits, top_path_fits, unfit_path};
+ghost use Rattle.sharc_mode.specs.WellFormed.{unfit_top_path, unfit_path_in, first_unfit_path, is_racy_mode};
+ghost use Rattle.sharc_mode.specs.WellFormed.{base_allows, level_allows, top_allows, unfit_mode, unfit_top};
+ghost use Rattle.sharc_mode.specs.{WellFormed.{unfit_mode_in, first_unfit_mode, type_code}, View.view_lock};
+ghost use Rattle.sharc_mode.specs.View.{view_name};
+ghost use Rattle.sharc_names.specs.{Names.field_of, View.view_kind};
 
 use crate::cell::{is_mutex_kind, named_kind, top_of};
 use crate::error::ErrorCode;

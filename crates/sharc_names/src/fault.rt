@@ -1,9 +1,8 @@
 // Faults of C typing, and what a pass over a program has found so far.
 
 ghost use Rattle.std.specs.Prelude.{◌≡◌, replicate, fold, IfOk};
-ghost use Rattle.sharc_names.specs.declared.fault.Named.TheVariants.{Known};
-ghost use Rattle.sharc_names.specs.Notes.{fault, refers, yields, noted, first_of, is_before, is_free, digit};
-ghost use Rattle.sharc_names.specs.Notes.{fault_unless, fault_where};
+ghost use Rattle.sharc_names.specs.{declared.fault.Named.TheVariants.Known, Notes.{fault, refers, yields, noted}};
+ghost use Rattle.sharc_names.specs.Notes.{first_of, is_before, is_free, digit, fault_unless, fault_where};
 
 use std::alloc::{AllocError, Global};
 use std::marker::Model;

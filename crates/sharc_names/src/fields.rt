@@ -1,8 +1,7 @@
 // The fields of a struct, found by their names.
 
 ghost use Rattle.std.specs.Prelude.{◌≡◌, [], ◌∷◌, ◌++◌, length, is_some, IfOk, OnOk, OnErr};
-ghost use Rattle.sharc_names.specs.Names.{field_of};
-ghost use Rattle.sharc_names.specs.Seen.{found_field, fields_seen, HasAlso, HasFirstFields};
+ghost use Rattle.sharc_names.specs.{Names.field_of, Seen.{found_field, fields_seen, HasAlso, HasFirstFields}};
 
 use indexmap::IndexMap;
 use sharc_tree::tree::Declaration;

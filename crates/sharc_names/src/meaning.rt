@@ -2,8 +2,7 @@
 
 ghost use Rattle.std.specs.Prelude.{◌≡◌};
 ghost use Rattle.sharc_names.specs.Names.{kind_of, named_of, is_function, is_main, global_kind, parameters_of};
-ghost use Rattle.sharc_names.specs.Names.{result_of};
-ghost use Rattle.sharc_names.specs.View.{view_kind, view_meaning, view_wanteds};
+ghost use Rattle.sharc_names.specs.{Names.result_of, View.{view_kind, view_meaning, view_wanteds}};
 
 use crate::fault::Named;
 use crate::kind::{ExpressionKind, declared_kind};

@@ -1,9 +1,7 @@
 // The names in scope.
 
 ghost use Rattle.std.specs.Prelude.{◌≡◌, ℕ, ◌-◌, ◌<◌, ◌≤◌, List, [], ◌∷◌, length, vec_len, drop, OnOk};
-ghost use Rattle.sharc_names.specs.Table.{in_scope, IsKept};
-ghost use Rattle.sharc_names.specs.Names.{look_up};
-ghost use Rattle.sharc_names.specs.View.{view_bound, view_bounds};
+ghost use Rattle.sharc_names.specs.{Table.{in_scope, IsKept}, Names.look_up, View.{view_bound, view_bounds}};
 
 use crate::meaning::Binding;
 use indexmap::IndexMap;
@@ -61,8 +59,7 @@ fn pop_name<'a>(
 
 impl<'a> Model for NamesInScope<'a> {
     ghost use Rattle.std.specs.Prelude.{List};
-    ghost use Rattle.sharc_names.specs.Names.{Entry};
-    ghost use Rattle.sharc_names.specs.Table.{in_scope, IsKept};
+    ghost use Rattle.sharc_names.specs.{Names.Entry, Table.{in_scope, IsKept}};
 
     ghost Value = { List Entry };
 

@@ -3,8 +3,7 @@
 ghost use Rattle.std.specs.Prelude.{◌≡◌, fold};
 ghost use Rattle.sharc_tree.specs.View.{view_expr};
 ghost use Rattle.sharc_names.specs.Needs.{place, called, fits, met, unmet, misfit, misfit_of, agreed, unagreed};
-ghost use Rattle.sharc_names.specs.Notes.{noted};
-ghost use Rattle.sharc_names.specs.View.{view_kind, view_kinds, view_root};
+ghost use Rattle.sharc_names.specs.{Notes.noted, View.{view_kind, view_kinds, view_root}};
 
 use crate::fault::{FaultCode, Found};
 use crate::kind::{

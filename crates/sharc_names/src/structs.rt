@@ -1,8 +1,7 @@
 // The structs of the file, found by their names.
 
 ghost use Rattle.std.specs.Prelude.{◌≡◌, [], ◌∷◌, ◌++◌, length, OnOk, None};
-ghost use Rattle.sharc_names.specs.Names.{struct_of, field_of, fields_of, cells_of, named_struct};
-ghost use Rattle.sharc_names.specs.Seen.{found_field};
+ghost use Rattle.sharc_names.specs.{Names.{struct_of, field_of, fields_of, cells_of, named_struct}, Seen.found_field};
 ghost use Rattle.sharc_names.specs.View.{found_struct, view_struct};
 
 use crate::fault::Named;
@@ -59,8 +58,7 @@ pub struct Structs<'a> {
 }
 
 impl<'a> Model for Structs<'a> {
-    ghost use Rattle.sharc_names.specs.Names.{StructTable};
-    ghost use Rattle.sharc_names.specs.View.{structs_seen};
+    ghost use Rattle.sharc_names.specs.{Names.StructTable, View.structs_seen};
 
     ghost Value = { StructTable };
 

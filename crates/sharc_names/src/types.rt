@@ -1,13 +1,11 @@
 // Written types: which structs and locks they name, and which may be written where.
 
 ghost use Rattle.std.specs.Prelude.{◌≡◌, ◌+◌, fold};
-ghost use Rattle.sharc_names.specs.Names.{look_up, field_of};
-ghost use Rattle.sharc_names.specs.Notes.{noted};
-ghost use Rattle.sharc_names.specs.Seen.{found_field, found_field_in, siblings_seen};
-ghost use Rattle.sharc_names.specs.Types.{name_kind, name_notes, main_notes, field_in, field_kind, field_notes};
-ghost use Rattle.sharc_names.specs.Types.{first_kind, first_notes, second_in, second_notes, path_notes, mode_notes};
-ghost use Rattle.sharc_names.specs.Types.{modes_notes, is_known, base_notes, holds_struct, holds_mutex, holds_void};
-ghost use Rattle.sharc_names.specs.Types.{is_allowed, allowed_there, type_notes, is_fine};
+ghost use Rattle.sharc_names.specs.{Names.{look_up, field_of}, Notes.noted, Seen.{found_field, found_field_in}};
+ghost use Rattle.sharc_names.specs.{Seen.siblings_seen, Types.{name_kind, name_notes, main_notes, field_in}};
+ghost use Rattle.sharc_names.specs.Types.{field_kind, field_notes, first_kind, first_notes, second_in, second_notes};
+ghost use Rattle.sharc_names.specs.Types.{path_notes, mode_notes, modes_notes, is_known, base_notes, holds_struct};
+ghost use Rattle.sharc_names.specs.Types.{holds_mutex, holds_void, is_allowed, allowed_there, type_notes, is_fine};
 ghost use Rattle.sharc_names.specs.View.{view_kinds, view_bounds, view_meaning};
 
 use crate::fault::{FaultCode, Found, Named};

@@ -1,8 +1,7 @@
 // What the arguments of a call are wanted to be, in their order.
 
 ghost use Rattle.std.specs.Prelude.{◌≡◌, length, drop};
-ghost use Rattle.sharc_names.specs.View.{view_kinds, view_wanted};
-ghost use Rattle.sharc_names.specs.Wants.{first_wanted};
+ghost use Rattle.sharc_names.specs.{View.{view_kinds, view_wanted}, Wants.first_wanted};
 
 use crate::kind::{ExpressionKind, declared_kind};
 use crate::meaning::ConditionCall;

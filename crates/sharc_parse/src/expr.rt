@@ -2,16 +2,13 @@
 
 ghost use Rattle.std.specs.Prelude.{◌≡◌, ℕ, max, List, [], false, ◌<◌, ◌≤◌, ◌+◌, ◌-◌, ◌^◌, IfOk, length};
 ghost use Rattle.sharc_tree.specs.Tree as tree;
-ghost use Rattle.sharc_tree.specs.Tree.{binary, field, unary};
-ghost use Rattle.sharc_tree.specs.View.{view_expr, view_arguments};
-ghost use Rattle.sharc_parse.specs.Grammar.{call, front_level};
-ghost use Rattle.sharc_parse.specs.Machine.{Cont, Have, Called, At, grip};
-ghost use Rattle.sharc_parse.specs.Limits.{reads_within, depth, crowded, highest};
-ghost use Rattle.sharc_parse.specs.Places.{sizes, site_in, span_at, arguments_at};
-ghost use Rattle.sharc_parse.specs.View.{phrase_of, phrases_of};
-ghost use Rattle.sharc_parse.specs.declared.token.FrontWord.TheVariants.{Spawn, Place};
-ghost use Rattle.sharc_parse.specs.Goes.{from, Goes, ReadsFrom, ReadsBehindName, IsHigh, IsPlaced, ReadsFront};
-ghost use Rattle.sharc_parse.specs.Goes.{IsFrontPlaced, NoUnary, NoCall, Builds, front_tree, bare_front};
+ghost use Rattle.sharc_tree.specs.{Tree.{binary, field, unary}, View.{view_expr, view_arguments}};
+ghost use Rattle.sharc_parse.specs.{Grammar.{call, front_level}, Machine.{Cont, Have, Called, At, grip}};
+ghost use Rattle.sharc_parse.specs.{Limits.{reads_within, depth, crowded, highest}, Places.{sizes, site_in, span_at}};
+ghost use Rattle.sharc_parse.specs.{Places.arguments_at, View.{phrase_of, phrases_of}};
+ghost use Rattle.sharc_parse.specs.{declared.token.FrontWord.TheVariants.{Spawn, Place}, Goes.{from, Goes, ReadsFrom}};
+ghost use Rattle.sharc_parse.specs.Goes.{ReadsBehindName, IsHigh, IsPlaced, ReadsFront, IsFrontPlaced, NoUnary, NoCall};
+ghost use Rattle.sharc_parse.specs.Goes.{Builds, front_tree, bare_front};
 
 use crate::held::{box_beside, boxes, expect_behind};
 use crate::token::{

@@ -1,8 +1,7 @@
 // Reading the fields of a struct.
 
 ghost use Rattle.std.specs.Prelude.{◌≤◌, ◌^◌, length};
-ghost use Rattle.sharc_parse.specs.Goes.{from};
-ghost use Rattle.sharc_parse.specs.Fields.{ReadsFields, AreFieldsPlaced};
+ghost use Rattle.sharc_parse.specs.{Goes.from, Fields.{ReadsFields, AreFieldsPlaced}};
 
 use crate::local::declaration;
 use crate::token::{ReadingFault, expect, take};

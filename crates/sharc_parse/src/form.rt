@@ -1,9 +1,8 @@
 // Reading what follows the name of a global.
 
 ghost use Rattle.std.specs.Prelude.{◌≤◌, ◌^◌, length};
-ghost use Rattle.sharc_parse.specs.Goes.{from};
-ghost use Rattle.sharc_parse.specs.Forms.{TakesNumber, TakesSigned, ReadsArray, ReadsConstant, IsBehindPlaced};
-ghost use Rattle.sharc_parse.specs.Forms.{ReadsForm, IsFormPlaced};
+ghost use Rattle.sharc_parse.specs.{Goes.from, Forms.{TakesNumber, TakesSigned, ReadsArray, ReadsConstant}};
+ghost use Rattle.sharc_parse.specs.Forms.{IsBehindPlaced, ReadsForm, IsFormPlaced};
 
 use crate::token::{ReadingFault, constant, expect, site, span, take};
 use sharc_tree::token::{Number, Punctuator, Token, TokenKind};

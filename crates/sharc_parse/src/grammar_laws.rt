@@ -2,24 +2,17 @@
 
 ghost use Rattle.std.specs.Prelude.{◌≡◌, ℕ, ◌+◌, ◌-◌, ◌<◌, ◌≤◌, Bool, false, List, [], length, slice_index_or};
 ghost use Rattle.std.specs.Prelude.{AllPairs, Contains};
-ghost use Rattle.sharc_tree.specs.Tree.{Expression, cast, Statement, Program};
-ghost use Rattle.sharc_tree.specs.Measures.{height as height_of, nesting_of};
-ghost use Rattle.sharc_tree.specs.Low.{is_cast, low_height, IsLow};
-ghost use Rattle.sharc_tree.specs.Marks.{a_name, number_of, Stand, items_marks};
-ghost use Rattle.sharc_tree.specs.Placed.{IsSpan, Placed, PlacedStatement, IsPlaced};
-ghost use Rattle.sharc_tree.specs.Spans.{span_of, span_of_statement};
-ghost use Rattle.sharc_tree.specs.declared.token.Site.{Site};
-ghost use Rattle.sharc_tree.specs.declared.token.Span.{Span};
-ghost use Rattle.sharc_tree.specs.declared.token.Token.{Token};
+ghost use Rattle.sharc_tree.specs.{Tree.{Expression, cast, Statement, Program}, Measures.height as height_of};
+ghost use Rattle.sharc_tree.specs.{Measures.nesting_of, Low.{is_cast, low_height, IsLow}, Marks.{a_name, number_of}};
+ghost use Rattle.sharc_tree.specs.{Marks.{Stand, items_marks}, Placed.{IsSpan, Placed, PlacedStatement, IsPlaced}};
+ghost use Rattle.sharc_tree.specs.{Spans.{span_of, span_of_statement}, declared.token.Site.Site};
+ghost use Rattle.sharc_tree.specs.{declared.token.Span.Span, declared.token.Token.Token};
 ghost use Rattle.sharc_tree.specs.declared.token.TokenKind.TheVariants.{Identifier as IdentifierKind};
-ghost use Rattle.sharc_tree.specs.declared.token.Tokens.{Tokens};
-ghost use Rattle.sharc_tree.specs.declared.tree.declaration.WrittenType.{WrittenType};
+ghost use Rattle.sharc_tree.specs.{declared.token.Tokens.Tokens, declared.tree.declaration.WrittenType.WrittenType};
 ghost use Rattle.sharc_parse.specs.Grammar.{Word, Phrase, Callable, Part, IsProgram, program_words, FirstFault};
 ghost use Rattle.sharc_parse.specs.Limits.{height, deepest, LowProgram, ReadWithin, StuckAt, Over, reads_within};
-ghost use Rattle.sharc_parse.specs.Limits.{FirstWrong, FirstExcess};
-ghost use Rattle.sharc_parse.specs.Machine.{Read, Stuck, reads, first_state};
-ghost use Rattle.sharc_parse.specs.Places.{Reads, expression_at, function_at};
-ghost use Rattle.sharc_parse.specs.Faults.{IsFault, wrong_code};
+ghost use Rattle.sharc_parse.specs.{Limits.{FirstWrong, FirstExcess}, Machine.{Read, Stuck, reads, first_state}};
+ghost use Rattle.sharc_parse.specs.{Places.{Reads, expression_at, function_at}, Faults.{IsFault, wrong_code}};
 ghost use Rattle.sharc_parse.specs.declared.fault.GrammarFault.TheVariants.{Deep};
 
 /// The machine reads each program of the grammar: so no two programs have the same words.

@@ -4,9 +4,7 @@
 // proved once, for any value.
 
 ghost use Rattle.std.specs.Prelude.{◌≡◌, Ok, IfOk, IfErr};
-ghost use Rattle.sharc_parse.specs.Grammar.{mark};
-ghost use Rattle.sharc_parse.specs.declared.token.ReadingFault.TheVariants.{Memory};
-ghost use Rattle.sharc_parse.specs.Goes.{Expects};
+ghost use Rattle.sharc_parse.specs.{Grammar.mark, declared.token.ReadingFault.TheVariants.Memory, Goes.Expects};
 
 use crate::token::{ReadingFault, expect};
 use sharc_tree::token::{Punctuator, Token};

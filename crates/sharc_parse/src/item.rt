@@ -1,11 +1,9 @@
 // Reading the items of a program.
 
 ghost use Rattle.std.specs.Prelude.{◌≡◌, ◌+◌, ◌<◌, ◌≤◌, ◌^◌, length, IfOk};
-ghost use Rattle.sharc_parse.specs.Places.{site_in};
-ghost use Rattle.sharc_parse.specs.Goes.{from};
-ghost use Rattle.sharc_parse.specs.View.{bare_type};
-ghost use Rattle.sharc_parse.specs.Items.{OpensStruct, ReadsStruct, IsStructPlaced, ReadsFunction, IsFunctionPlaced};
-ghost use Rattle.sharc_parse.specs.Items.{ReadsNamed, IsNamedPlaced, ReadsItem, IsItemPlaced};
+ghost use Rattle.sharc_parse.specs.{Places.site_in, Goes.from, View.bare_type, Items.{OpensStruct, ReadsStruct}};
+ghost use Rattle.sharc_parse.specs.Items.{IsStructPlaced, ReadsFunction, IsFunctionPlaced, ReadsNamed, IsNamedPlaced};
+ghost use Rattle.sharc_parse.specs.Items.{ReadsItem, IsItemPlaced};
 
 use crate::field::fields;
 use crate::form::form;

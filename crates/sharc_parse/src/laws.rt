@@ -1,12 +1,8 @@
 //! The laws of what the parser answers, each the contract of a function that does nothing.
 
 ghost use Rattle.std.specs.Prelude.{◌≡◌};
-ghost use Rattle.sharc_tree.specs.Tree.{Program};
-ghost use Rattle.sharc_tree.specs.declared.token.FaultAt.{FaultAt};
-ghost use Rattle.sharc_tree.specs.declared.token.Tokens.{Tokens};
-ghost use Rattle.sharc_parse.specs.declared.fault.GrammarFault.{GrammarFault};
-ghost use Rattle.sharc_parse.specs.Places.{Reads};
-ghost use Rattle.sharc_parse.specs.Programs.{IsFaultOf};
+ghost use Rattle.sharc_tree.specs.{Tree.Program, declared.token.FaultAt.FaultAt, declared.token.Tokens.Tokens};
+ghost use Rattle.sharc_parse.specs.{declared.fault.GrammarFault.GrammarFault, Places.Reads, Programs.IsFaultOf};
 
 /// Tokens that are a program have no fault.
 pub fn programs_have_no_fault()

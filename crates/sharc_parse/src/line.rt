@@ -1,8 +1,7 @@
 // Reading what a `;` ends in a block, and in the head of a `for`.
 
 ghost use Rattle.std.specs.Prelude.{◌≡◌, ◌==◌, ◌≤◌, ◌^◌, length};
-ghost use Rattle.sharc_parse.specs.Goes.{from};
-ghost use Rattle.sharc_parse.specs.Lines.{is_yes, MeetsType, MeetsLocal, starts_line, ReadsDeclaredLine};
+ghost use Rattle.sharc_parse.specs.{Goes.from, Lines.{is_yes, MeetsType, MeetsLocal, starts_line, ReadsDeclaredLine}};
 ghost use Rattle.sharc_parse.specs.Lines.{ReadsSimpleLine, ReadsLine, IsLinePlaced};
 
 use crate::held::expect_behind;

@@ -1,8 +1,7 @@
 // Reading a declaration, and a local.
 
 ghost use Rattle.std.specs.Prelude.{◌≤◌, ◌^◌, length};
-ghost use Rattle.sharc_parse.specs.Goes.{from};
-ghost use Rattle.sharc_parse.specs.Locals.{ReadsName, IsNamePlaced, ReadsDeclaration, IsDeclarationPlaced};
+ghost use Rattle.sharc_parse.specs.{Goes.from, Locals.{ReadsName, IsNamePlaced, ReadsDeclaration, IsDeclarationPlaced}};
 ghost use Rattle.sharc_parse.specs.Locals.{ReadsInitial, EndsInitially, IsInitialPlaced, ReadsLocal, EndsLocal};
 ghost use Rattle.sharc_parse.specs.Locals.{IsLocalPlaced};
 

@@ -1,10 +1,8 @@
 // Reading the parameters of a function.
 
 ghost use Rattle.std.specs.Prelude.{◌≤◌, ◌^◌, length};
-ghost use Rattle.sharc_parse.specs.Goes.{from};
-ghost use Rattle.sharc_parse.specs.View.{bare_type};
-ghost use Rattle.sharc_parse.specs.Parameters.{ClosesVoid, ReadsFirst, IsFirstPlaced, ReadsParameters};
-ghost use Rattle.sharc_parse.specs.Parameters.{AreParametersPlaced};
+ghost use Rattle.sharc_parse.specs.{Goes.from, View.bare_type, Parameters.{ClosesVoid, ReadsFirst, IsFirstPlaced}};
+ghost use Rattle.sharc_parse.specs.Parameters.{ReadsParameters, AreParametersPlaced};
 
 use crate::local::{declaration, name_there};
 use crate::token::{ReadingFault, expect, span, take};

@@ -1,12 +1,10 @@
 // Reading the statements that hold no other.
 
 ghost use Rattle.std.specs.Prelude.{◌≡◌, ◌+◌, ◌≤◌, ◌^◌, length};
-ghost use Rattle.sharc_parse.specs.Goes.{from};
-ghost use Rattle.sharc_tree.specs.Tree.{return};
-ghost use Rattle.sharc_tree.specs.View.{view_expr, view_option, view_first};
-ghost use Rattle.sharc_parse.specs.Lines.{is_yes};
-ghost use Rattle.sharc_parse.specs.Statements.{ReadsLineStatement, BuildsStatement, line_statement, ReadsReturn};
-ghost use Rattle.sharc_parse.specs.Statements.{ReadsJump, EndsStatement, IsStatementPlaced, IsRestPlaced};
+ghost use Rattle.sharc_parse.specs.{Goes.from, Lines.is_yes, Statements.{ReadsLineStatement, BuildsStatement}};
+ghost use Rattle.sharc_parse.specs.Statements.{line_statement, ReadsReturn, ReadsJump, EndsStatement};
+ghost use Rattle.sharc_parse.specs.Statements.{IsStatementPlaced, IsRestPlaced};
+ghost use Rattle.sharc_tree.specs.{Tree.return, View.{view_expr, view_option, view_first}};
 
 use crate::head::tail;
 use crate::line::{MayDeclare, line};

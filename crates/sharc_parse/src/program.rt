@@ -1,9 +1,8 @@
 // Reading a program.
 
 ghost use Rattle.std.specs.Prelude.{◌≡◌, ◌<◌, ◌≤◌, ◌^◌, All, length, drop, IfOk};
-ghost use Rattle.sharc_parse.specs.Goes.{from};
-ghost use Rattle.sharc_parse.specs.Programs.{Parses, ReadsItems, AreItemsPlaced, told_of, code_of, IsToldAt, Refuses};
-ghost use Rattle.sharc_parse.specs.Programs.{Completes};
+ghost use Rattle.sharc_parse.specs.{Goes.from, Programs.{Parses, ReadsItems, AreItemsPlaced, told_of, code_of}};
+ghost use Rattle.sharc_parse.specs.Programs.{IsToldAt, Refuses, Completes};
 
 use crate::fault::GrammarFault;
 use crate::grammar_laws;

@@ -1,9 +1,8 @@
 // Reading the right side of `=`.
 
 ghost use Rattle.std.specs.Prelude.{◌≤◌, ◌^◌, length};
-ghost use Rattle.sharc_parse.specs.Goes.{from};
-ghost use Rattle.sharc_parse.specs.Rights.{ReadsCount, IsCountPlaced, ReadsSized, IsSizedPlaced, ReadsRight, EndsRight};
-ghost use Rattle.sharc_parse.specs.Rights.{IsRightPlaced};
+ghost use Rattle.sharc_parse.specs.{Goes.from, Rights.{ReadsCount, IsCountPlaced, ReadsSized, IsSizedPlaced}};
+ghost use Rattle.sharc_parse.specs.Rights.{ReadsRight, EndsRight, IsRightPlaced};
 
 use crate::expr::{binary, unary};
 use crate::held::expect_behind;

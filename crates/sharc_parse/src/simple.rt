@@ -3,9 +3,8 @@
 ghost use Rattle.std.specs.Prelude.{◌≡◌, ◌≤◌, ◌^◌, length};
 ghost use Rattle.sharc_parse.specs.Grammar as grammar;
 ghost use Rattle.sharc_tree.specs.View.{view_expr};
-ghost use Rattle.sharc_parse.specs.View.{phrase_of};
-ghost use Rattle.sharc_parse.specs.Goes.{from};
-ghost use Rattle.sharc_parse.specs.Simples.{IsCallOf, ReadsSimple, EndsSimple, IsSimplePlaced};
+ghost use Rattle.sharc_parse.specs.{View.phrase_of, Goes.from, Simples.{IsCallOf, ReadsSimple, EndsSimple}};
+ghost use Rattle.sharc_parse.specs.Simples.{IsSimplePlaced};
 
 use crate::expr::unary;
 use crate::right::right;

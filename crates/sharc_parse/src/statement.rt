@@ -1,15 +1,11 @@
 // Reading a statement, and the statements between braces.
 
 ghost use Rattle.std.specs.Prelude.{◌≡◌, true, ◌≤◌, ◌<◌, ◌^◌, length, IfOk};
-ghost use Rattle.sharc_tree.specs.Tree.{if_then, if_then_else, while, for};
-ghost use Rattle.sharc_tree.specs.View.{view_expr, view_stmt, view_head};
-ghost use Rattle.sharc_parse.specs.declared.word.StatementWord.TheVariants.{If, While, For};
-ghost use Rattle.sharc_parse.specs.Goes.{from};
-ghost use Rattle.sharc_parse.specs.Words.{room_of};
-ghost use Rattle.sharc_parse.specs.Lines.{is_yes};
-ghost use Rattle.sharc_parse.specs.Statements.{BuildsStatement, ReadsStatement, EndsStatement, IsStatementPlaced};
-ghost use Rattle.sharc_parse.specs.Statements.{IsRestPlaced};
-ghost use Rattle.sharc_parse.specs.Nested.{IsOpen, ReadsRest, ReadsStatements, AreStatementsPlaced};
+ghost use Rattle.sharc_tree.specs.{Tree.{if_then, if_then_else, while, for}, View.{view_expr, view_stmt, view_head}};
+ghost use Rattle.sharc_parse.specs.{declared.word.StatementWord.TheVariants.{If, While, For}, Goes.from, Words.room_of};
+ghost use Rattle.sharc_parse.specs.{Lines.is_yes, Statements.{BuildsStatement, ReadsStatement, EndsStatement}};
+ghost use Rattle.sharc_parse.specs.{Statements.{IsStatementPlaced, IsRestPlaced}, Nested.{IsOpen, ReadsRest}};
+ghost use Rattle.sharc_parse.specs.Nested.{ReadsStatements, AreStatementsPlaced};
 
 use crate::head::head;
 use crate::held::{box_beside, boxes};

@@ -1,11 +1,10 @@
 // Going past single tokens.
 
 ghost use Rattle.std.specs.Prelude.{◌≡◌, ℕ, ◌+◌, ◌<◌, ◌≤◌, ◌^◌};
-ghost use Rattle.sharc_parse.specs.Grammar.{mark, keyword, strength};
-ghost use Rattle.sharc_parse.specs.Places.{site_in, span_at};
-ghost use Rattle.sharc_parse.specs.declared.token.ReadingFault.TheVariants.{Memory};
-ghost use Rattle.sharc_parse.specs.Goes.{Takes, Expects, TakesName, TakesConstant, from, Meets, EntersAccess, Enters};
-ghost use Rattle.sharc_parse.specs.Goes.{EntersUnary, EntersFront, IsOperator, EntersOperator};
+ghost use Rattle.sharc_parse.specs.{Grammar.{mark, keyword, strength}, Places.{site_in, span_at}};
+ghost use Rattle.sharc_parse.specs.{declared.token.ReadingFault.TheVariants.Memory, Goes.{Takes, Expects, TakesName}};
+ghost use Rattle.sharc_parse.specs.Goes.{TakesConstant, from, Meets, EntersAccess, Enters, EntersUnary, EntersFront};
+ghost use Rattle.sharc_parse.specs.Goes.{IsOperator, EntersOperator};
 
 use sharc_tree::token::{Keyword, Punctuator, Site, Span, Token, TokenKind};
 use sharc_tree::tree::{

@@ -1,12 +1,10 @@
 // Reading a type.
 
 ghost use Rattle.std.specs.Prelude.{◌≤◌, ◌<◌, ◌^◌, length, IfOk};
-ghost use Rattle.sharc_parse.specs.Goes.{from};
-ghost use Rattle.sharc_parse.specs.View.{bare_type};
-ghost use Rattle.sharc_parse.specs.Types.{may_stand, TakesMode, ReadsPath, IsPathPlaced, ReadsModeRest};
-ghost use Rattle.sharc_parse.specs.Types.{IsModeRestPlaced, ReadsMode, IsModePlaced, ReadsLevel, TakesBase, ReadsBase};
-ghost use Rattle.sharc_parse.specs.Types.{IsBasePlaced, ReadsBottom, IsBottomPlaced, EndsBottom, ReadsType};
-ghost use Rattle.sharc_parse.specs.Types.{IsTypePlaced, EndsType, IsBare, ReadsCast, IsCastPlaced};
+ghost use Rattle.sharc_parse.specs.{Goes.from, View.bare_type, Types.{may_stand, TakesMode, ReadsPath, IsPathPlaced}};
+ghost use Rattle.sharc_parse.specs.Types.{ReadsModeRest, IsModeRestPlaced, ReadsMode, IsModePlaced, ReadsLevel};
+ghost use Rattle.sharc_parse.specs.Types.{TakesBase, ReadsBase, IsBasePlaced, ReadsBottom, IsBottomPlaced, EndsBottom};
+ghost use Rattle.sharc_parse.specs.Types.{ReadsType, IsTypePlaced, EndsType, IsBare, ReadsCast, IsCastPlaced};
 
 use crate::held::expect_behind;
 use crate::token::{ReadingFault, enter, expect, name, site, span, take};

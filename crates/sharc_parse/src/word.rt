@@ -1,8 +1,7 @@
 // Reading the words that statements begin with, and conditions.
 
 ghost use Rattle.std.specs.Prelude.{◌≤◌, ◌^◌, length};
-ghost use Rattle.sharc_parse.specs.Goes.{from};
-ghost use Rattle.sharc_parse.specs.Words.{EntersStatement, ReadsCondition, IsConditionPlaced};
+ghost use Rattle.sharc_parse.specs.{Goes.from, Words.{EntersStatement, ReadsCondition, IsConditionPlaced}};
 
 use crate::expr::binary;
 use crate::held::expect_behind;

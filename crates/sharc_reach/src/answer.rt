@@ -1,8 +1,7 @@
 // What is reached and touched.
 
 ghost use Rattle.std.specs.Prelude.{◌≡◌, ◌<◌, length, map, IfOk};
-ghost use Rattle.sharc_reach.specs.Graphs.{is_found, is_source};
-ghost use Rattle.sharc_reach.specs.Reaching.{is_chosen, first_of, AreReached};
+ghost use Rattle.sharc_reach.specs.{Graphs.{is_found, is_source}, Reaching.{is_chosen, first_of, AreReached}};
 
 use crate::edges::edges;
 use crate::firsts::firsts;

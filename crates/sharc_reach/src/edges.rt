@@ -1,7 +1,6 @@
 // The calls and spawns of a program, as the edges of a graph.
 
-ghost use Rattle.std.specs.Prelude.{◌≡◌, IfOk};
-ghost use Rattle.std.specs.List.{filter_map};
+ghost use Rattle.std.specs.{Prelude.{◌≡◌, IfOk}, List.filter_map};
 ghost use Rattle.sharc_reach.specs.Graphs.{function_named, ran, edge_within, edge_of_mention};
 
 use crate::mention::{Mention, NameUse};

@@ -1,8 +1,7 @@
 // The first reached function that names each global.
 
 ghost use Rattle.std.specs.Prelude.{◌≡◌, None as Nothing, fold, replicate, IfOk};
-ghost use Rattle.sharc_reach.specs.Firsts.{global_named, lower, lowered, lowered_by};
-ghost use Rattle.sharc_reach.specs.Reaching.{is_chosen};
+ghost use Rattle.sharc_reach.specs.{Firsts.{global_named, lower, lowered, lowered_by}, Reaching.is_chosen};
 
 use crate::mention::Mention;
 use sharc_ctype::typed::Typed;

@@ -1,8 +1,7 @@
 //! The words of a run with its events.
 
 ghost use Rattle.std.specs.Prelude.{◌≡◌, ◌<◌, ◌++◌, ◌∷◌, [], true, length, slice_index, vec_len, vec_capacity, OnOk};
-ghost use Rattle.sharc_word.specs.Words.{words_after_step};
-ghost use Rattle.sharc_word.specs.Place.{event_of};
+ghost use Rattle.sharc_word.specs.{Words.words_after_step, Place.event_of};
 ghost use Rattle.sharc_word.specs.declared.step.TheConstants.{THREADS as threads};
 ghost use Rattle.sharc_record.specs.Room.{HasRoomFor};
 

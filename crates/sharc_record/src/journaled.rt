@@ -1,7 +1,6 @@
 //! Laws of shared journals. A proof above has that of names where its function calls this.
 
-ghost use Rattle.sharc_record.specs.Rule.{OneHasTheTurn};
-ghost use Rattle.sharc_record.specs.Shared.{NamesTell};
+ghost use Rattle.sharc_record.specs.{Rule.OneHasTheTurn, Shared.NamesTell};
 
 /// A port that keeps its name keeps its shared journal and its number.
 #[inline(always)]

@@ -1,9 +1,8 @@
 //! The seats at a shared journal, cut off the first seat of its table and put together again.
 
 ghost use Rattle.std.specs.Prelude.{◌≡◌, ◌<◌, [], length, vec_len, All, IfOk};
-ghost use Rattle.sharc_record.specs.declared.rule.Turn.TheVariants.{Idle};
-ghost use Rattle.sharc_record.specs.Rule.{unbegun};
-ghost use Rattle.sharc_record.specs.Table.{HasAll, seats_with, IsJournalTable};
+ghost use Rattle.sharc_record.specs.{declared.rule.Turn.TheVariants.Idle, Rule.unbegun, Table.{HasAll, seats_with}};
+ghost use Rattle.sharc_record.specs.Table.{IsJournalTable};
 
 use crate::journal::Journal;
 use crate::rule::{FirstPart, Together, View};

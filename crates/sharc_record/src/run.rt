@@ -4,8 +4,7 @@ ghost use Rattle.std.specs.Prelude.{◌≡◌, ◌≤◌, ◌<◌, ℕ, None, tr
 ghost use Rattle.sharc_code.specs.Layout.{Fits};
 ghost use Rattle.sharc_threads.specs.Seats.{left, may_turn_at};
 ghost use Rattle.sharc_cpu.specs.Rows.{IsPlan};
-ghost use Rattle.sharc_record.specs.Round.{AreRounds};
-ghost use Rattle.sharc_record.specs.Run.{IsRecorded};
+ghost use Rattle.sharc_record.specs.{Round.AreRounds, Run.IsRecorded};
 
 use crate::round::Rounds;
 use sharc_code::{Code, Shape, fits_law, opening, run_laws};

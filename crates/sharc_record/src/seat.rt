@@ -21,10 +21,7 @@ pub struct JournalSeat {
 
 impl Model for JournalSeat {
     ghost use Rattle.std.specs.Prelude.{◌≡◌};
-    ghost use Rattle.sharc_record.specs.declared.rule.Part.{Part};
-    ghost use Rattle.sharc_record.specs.Rule.{idle};
-    ghost use Rattle.sharc_record.specs.Shared.{SeatView};
-    ghost use Rattle.sharc_record.specs.Table.{seat_view};
+    ghost use Rattle.sharc_record.specs.{declared.rule.Part.Part, Rule.idle, Shared.SeatView, Table.seat_view};
 
     ghost Value = { SeatView };
 
@@ -35,9 +32,7 @@ impl Model for JournalSeat {
 
 impl JournalSeat {
     ghost use Rattle.sharc_word.specs.Place.{event_of};
-    ghost use Rattle.sharc_record.specs.declared.rule.Part.{Part};
-    ghost use Rattle.sharc_record.specs.Rule.{idle};
-    ghost use Rattle.sharc_record.specs.Table.{part_of, seat_view};
+    ghost use Rattle.sharc_record.specs.{declared.rule.Part.Part, Rule.idle, Table.{part_of, seat_view}};
 
     // The seat of one port.
     pub(crate) fn new(seat: Seat<Option<Journal>, View>, thread: u32) -> JournalSeat

@@ -1,8 +1,7 @@
 //! A journal that several ports share, and how it is taken in and given back.
 
 ghost use Rattle.std.specs.Prelude.{◌≡◌, ◌<◌, [], All, IfOk};
-ghost use Rattle.sharc_record.specs.Room.{HasRoomFor};
-ghost use Rattle.sharc_record.specs.Shared.{AreSeatsOf, OneJournal, lists_of};
+ghost use Rattle.sharc_record.specs.{Room.HasRoomFor, Shared.{AreSeatsOf, OneJournal, lists_of}};
 
 use crate::journal::Journal;
 use crate::parts::{give_seats, take_seats};
@@ -23,8 +22,7 @@ pub struct SharedJournal {
 }
 
 impl Model for SharedJournal {
-    ghost use Rattle.sharc_record.specs.Shared.{SharedView};
-    ghost use Rattle.sharc_record.specs.Table.{IsJournalTable};
+    ghost use Rattle.sharc_record.specs.{Shared.SharedView, Table.IsJournalTable};
     ghost use Rattle.std.specs.Prelude.{◌<◌};
 
     ghost Value = { SharedView };

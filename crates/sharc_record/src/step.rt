@@ -1,10 +1,8 @@
 //! One step at a shared journal: a ticket is drawn, the journal is taken out in its turn, and the turn is passed on.
 
 ghost use Rattle.std.specs.Prelude.{◌≡◌, ◌<◌, ◌∷◌, [], ℕ, true, false, length, Some};
-ghost use Rattle.sharc_record.specs.declared.journal.Journal.{Journal};
-ghost use Rattle.sharc_record.specs.declared.rule.Part.{Part};
-ghost use Rattle.sharc_record.specs.Rule.{idle, waiting, having};
-ghost use Rattle.sharc_record.specs.Table.{stepped, IsJournalTable, Made, MadeStep};
+ghost use Rattle.sharc_record.specs.{declared.journal.Journal.Journal, declared.rule.Part.Part, Rule.{idle, waiting}};
+ghost use Rattle.sharc_record.specs.{Rule.having, Table.{stepped, IsJournalTable, Made, MadeStep}};
 
 use crate::journal::Journal;
 use crate::rule::{Draws, JournalLaw, Looks, Opening, PassesOn, View};

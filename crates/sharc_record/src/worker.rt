@@ -4,11 +4,9 @@ ghost use Rattle.std.specs.Prelude.{◌≡◌, ◌<◌, ◌≤◌, ◌%◌, ◌^
 ghost use Rattle.sharc_word.specs.declared.step.TheConstants.{THREADS as threads};
 ghost use Rattle.sharc_code.specs.Layout.{Fits, words_of};
 ghost use Rattle.sharc_cpu.specs.Rows.{IsPlan};
-ghost use Rattle.sharc_record.specs.Shared.{SeatView};
-ghost use Rattle.sharc_record.specs.declared.hand.Hand.{Hand};
-ghost use Rattle.sharc_record.specs.declared.worker.Worker.{Worker};
-ghost use Rattle.sharc_rounds.specs.Round.{Seat};
+ghost use Rattle.sharc_record.specs.{Shared.SeatView, declared.hand.Hand.Hand, declared.worker.Worker.Worker};
 ghost use Rattle.sharc_record.specs.Round.{MayRunAt, HasRunAt, MayAllRun, HaveAllRun, hand_at};
+ghost use Rattle.sharc_rounds.specs.Round.{Seat};
 
 use crate::hand::Hand;
 use crate::seat::JournalSeat;

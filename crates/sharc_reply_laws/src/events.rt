@@ -1,9 +1,7 @@
 //! The laws, each the contract of a function that calls at most the laws that it joins.
 
-ghost use Rattle.sharc_reply_laws.specs.Own.{TurnsTellOwn};
-ghost use Rattle.sharc_reply_laws.specs.Prints.{PrintsAreTold, TextsBeginWithPrints};
-ghost use Rattle.sharc_reply_laws.specs.Stopped.{StopsAreStopped};
-ghost use Rattle.sharc_reply_laws.specs.Tested.{ChecksStay, TestsStay};
+ghost use Rattle.sharc_reply_laws.specs.{Own.TurnsTellOwn, Prints.{PrintsAreTold, TextsBeginWithPrints}};
+ghost use Rattle.sharc_reply_laws.specs.{Stopped.StopsAreStopped, Tested.{ChecksStay, TestsStay}};
 
 use sharc_code::{run_laws, standing_laws};
 

@@ -1,11 +1,8 @@
 //! The laws, each the contract of a function that calls at most the laws that it joins.
 
-ghost use Rattle.sharc_reply_laws.specs.Few.{ChosenAreFew};
-ghost use Rattle.sharc_reply_laws.specs.Replies.{CutRepliesTell, RepliesTell, WholeRepliesTell};
+ghost use Rattle.sharc_reply_laws.specs.{Few.ChosenAreFew, Replies.{CutRepliesTell, RepliesTell, WholeRepliesTell}};
 ghost use Rattle.sharc_reply_laws.specs.Reports.{TypedAccessesAreWanted, TypedGivenAreTested, TypedLocksAreWanted};
-ghost use Rattle.sharc_reply_laws.specs.Reports.{TypedRefusedAreWanted};
-ghost use Rattle.sharc_reply_laws.specs.Runs.{BuiltRunsTell};
-ghost use Rattle.sharc_reply_laws.specs.Threads.{TypedThreadsTell};
+ghost use Rattle.sharc_reply_laws.specs.{Reports.TypedRefusedAreWanted, Runs.BuiltRunsTell, Threads.TypedThreadsTell};
 
 use crate::events::{prints_law, refused_stay, stops_law, texts_begin_with_prints, turns_tell_own};
 use crate::replies::{records_are_told, sources_are_one, verdicts_are_told};

@@ -1,9 +1,7 @@
 // The laws, each the contract of a function that does nothing.
 
-ghost use Rattle.sharc_reply_laws.specs.AuditLaws.{AuditLaws};
-ghost use Rattle.sharc_reply_laws.specs.Laws.{WarningsAreOne, SourceLaws, ReplyLaws, VerdictLaws};
-ghost use Rattle.sharc_reply_laws.specs.RecordLaws.{RecordLaws};
-ghost use Rattle.sharc_reply_laws.specs.Suggestions.{SuggestionLaws};
+ghost use Rattle.sharc_reply_laws.specs.{AuditLaws.AuditLaws, Laws.{WarningsAreOne, SourceLaws, ReplyLaws}};
+ghost use Rattle.sharc_reply_laws.specs.{Laws.VerdictLaws, RecordLaws.RecordLaws, Suggestions.SuggestionLaws};
 
 use sharc_audit::laws::{audit_laws, file_laws};
 use sharc_check::laws::check_laws;

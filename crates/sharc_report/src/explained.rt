@@ -1,7 +1,6 @@
 // The text that explains the modes of a program.
 
-ghost use Rattle.std.specs.Prelude.{◌≡◌, ◌++◌, ◌+◌, ◌-◌, ◌≤◌, map, slice_get, Some, IfOk, OnOk};
-ghost use Rattle.std.specs.Option.{option_copied};
+ghost use Rattle.std.specs.{Prelude.{◌≡◌, ◌++◌, ◌+◌, ◌-◌, ◌≤◌, map, slice_get, Some, IfOk, OnOk}, Option.option_copied};
 ghost use Rattle.sharc_tree.specs.Texts.{Appends};
 ghost use Rattle.sharc_ctype.specs.Entities.{entities_in, first_depth, numbered, positions_of};
 ghost use Rattle.sharc_mode.specs.Moded.{position_count, reason_at};

@@ -2,9 +2,8 @@
 
 ghost use Rattle.std.specs.Prelude.{◌≡◌, ◌++◌, codes, drop, Some, IfOk};
 ghost use Rattle.sharc_tree.specs.Texts.{type_text, Appends};
-ghost use Rattle.sharc_report.specs.Places.{tokens_between};
-ghost use Rattle.sharc_report.specs.Verdicts.{without_top, target_text, expected_found, error_message, error_line};
-ghost use Rattle.sharc_report.specs.Verdicts.{suggestion, beside, refusal, check_text};
+ghost use Rattle.sharc_report.specs.{Places.tokens_between, Verdicts.{without_top, target_text, expected_found}};
+ghost use Rattle.sharc_report.specs.Verdicts.{error_message, error_line, suggestion, beside, refusal, check_text};
 
 use crate::put::{put_number, put_place, put_three, put_tokens, put_two};
 use sharc_ctype::typed::Typed;

@@ -2,8 +2,7 @@
 
 ghost use Rattle.std.specs.Prelude.{◌≡◌, ◌<◌, ◌≤◌, ◌↔◌, true, Some, IsTrue, length};
 ghost use Rattle.sharc_word.specs.declared.step.TheConstants.{THREADS as threads};
-ghost use Rattle.sharc_code.specs.Layout.{Fits, words_of};
-ghost use Rattle.sharc_code.specs.Path.{may_go};
+ghost use Rattle.sharc_code.specs.{Layout.{Fits, words_of}, Path.may_go};
 ghost use Rattle.sharc_cpu.specs.Rows.{IsPlan};
 ghost use Rattle.sharc_rounds.specs.Round.{MayTurn, HasRun, MayRun, KeepsRoom, IsInSection, is_on};
 

@@ -3,9 +3,8 @@
 ghost use Rattle.std.specs.Prelude.{◌≡◌, ◌<◌, length};
 ghost use Rattle.sharc_code.specs.Layout.{Fits, words_of};
 ghost use Rattle.sharc_cpu.specs.Rows.{IsPlan};
-ghost use Rattle.sharc_rounds.specs.declared.stint.TheConstants.{QUANTUM as quantum};
-ghost use Rattle.sharc_rounds.specs.Pace.{next_part, made_at, events_at_hands};
-ghost use Rattle.sharc_rounds.specs.Round.{MayAllRun, HaveAllRun};
+ghost use Rattle.sharc_rounds.specs.{declared.stint.TheConstants.QUANTUM as quantum, Pace.{next_part, made_at}};
+ghost use Rattle.sharc_rounds.specs.{Pace.events_at_hands, Round.{MayAllRun, HaveAllRun}};
 
 use crate::gate::Gate;
 use crate::hand::Hand;

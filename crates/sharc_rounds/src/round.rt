@@ -4,8 +4,7 @@ ghost use Rattle.std.specs.Prelude.{◌≡◌, ◌<◌, ℕ, length, IfOk, slice
 ghost use Rattle.sharc_word.specs.declared.step.TheConstants.{THREADS as threads};
 ghost use Rattle.sharc_code.specs.Layout.{Fits, words_of};
 ghost use Rattle.sharc_cpu.specs.Rows.{IsPlan};
-ghost use Rattle.sharc_rounds.specs.declared.stint.TheConstants.{QUANTUM as quantum};
-ghost use Rattle.sharc_rounds.specs.declared.worker.Worker.{Worker};
+ghost use Rattle.sharc_rounds.specs.{declared.stint.TheConstants.QUANTUM as quantum, declared.worker.Worker.Worker};
 ghost use Rattle.sharc_rounds.specs.Round.{MayBegin, MayAllRun, HaveAllRun, MadeRound, AreWords, KeptBus};
 
 use crate::gate::Gate;

@@ -4,9 +4,7 @@ ghost use Rattle.std.specs.Prelude.{◌≡◌, ◌≤◌, ◌<◌, ℕ, None, tr
 ghost use Rattle.sharc_code.specs.Layout.{Fits};
 ghost use Rattle.sharc_threads.specs.Seats.{left, may_turn_at};
 ghost use Rattle.sharc_cpu.specs.Rows.{IsPlan};
-ghost use Rattle.sharc_rounds.specs.Round.{AreRounds};
-ghost use Rattle.sharc_rounds.specs.Pace.{events_of, waits_on};
-ghost use Rattle.sharc_rounds.specs.Run.{IsRoundsRun};
+ghost use Rattle.sharc_rounds.specs.{Round.AreRounds, Pace.{events_of, waits_on}, Run.IsRoundsRun};
 
 use crate::gate::Gate;
 use crate::laws::round_laws;

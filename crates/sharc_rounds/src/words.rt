@@ -3,8 +3,7 @@
 ghost use Rattle.std.specs.Prelude.{◌≡◌, ◌≢◌, ◌<◌, ℕ, None, true, false, length, slice_index, slice_index_or, vec_len};
 ghost use Rattle.std.specs.Prelude.{IfOk};
 ghost use Rattle.sharc_word.specs.declared.step.TheConstants.{THREADS as threads};
-ghost use Rattle.sharc_code.specs.Layout.{state_word};
-ghost use Rattle.sharc_code.specs.Waits.{held_up};
+ghost use Rattle.sharc_code.specs.{Layout.state_word, Waits.held_up};
 ghost use Rattle.sharc_threads.specs.Seats.{has_number, may_turn_at};
 ghost use Rattle.sharc_rounds.specs.Round.{AreWords, SameWords, wait_word};
 

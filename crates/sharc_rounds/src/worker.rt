@@ -6,11 +6,9 @@ ghost use Rattle.sharc_word.specs.declared.step.TheConstants.{THREADS as threads
 ghost use Rattle.sharc_code.specs.Layout.{Fits, words_of};
 ghost use Rattle.sharc_bus.specs.Bus.{SeatView};
 ghost use Rattle.sharc_cpu.specs.Rows.{IsPlan};
-ghost use Rattle.sharc_rounds.specs.declared.hand.Hand.{Hand};
-ghost use Rattle.sharc_rounds.specs.declared.worker.Worker.{Worker};
-ghost use Rattle.sharc_rounds.specs.Round.{MayRunAt, HasRunAt, KeepsRoomAt, MayAllRun, HaveAllRun, KeepAllRoom};
-ghost use Rattle.sharc_rounds.specs.Round.{Seat, goes_on, hand_at};
-ghost use Rattle.sharc_rounds.specs.Shares.{needed};
+ghost use Rattle.sharc_rounds.specs.{declared.hand.Hand.Hand, declared.worker.Worker.Worker, Round.MayRunAt};
+ghost use Rattle.sharc_rounds.specs.Round.{HasRunAt, KeepsRoomAt, MayAllRun, HaveAllRun, KeepAllRoom, Seat, goes_on};
+ghost use Rattle.sharc_rounds.specs.{Round.hand_at, Shares.needed};
 
 use crate::gate::Gate;
 use crate::hand::Hand;

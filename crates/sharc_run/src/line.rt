@@ -2,12 +2,10 @@
 
 ghost use Rattle.std.specs.Prelude.{◌≡◌, ◌++◌, ◌<◌, codes, decimal, slice_index};
 ghost use Rattle.sharc_tree.specs.Texts.{Appends};
-ghost use Rattle.sharc_run.specs.Places.{at_site, lvalue_at};
-ghost use Rattle.sharc_run.specs.Others.{IsAllowed, AreAllowed};
-ghost use Rattle.sharc_run.specs.RunText.{of_kind, access_text, code_of, other_text, conflict_text, of_use};
-ghost use Rattle.sharc_run.specs.RunText.{no_lock_text, of_taking, not_sole_text, trap_words, trap_text};
-ghost use Rattle.sharc_run.specs.RunText.{stop_text, wait_text, made_text, unstopped_text, why_text, is_gone};
-ghost use Rattle.sharc_run.specs.RunText.{thread_line};
+ghost use Rattle.sharc_run.specs.{Places.{at_site, lvalue_at}, Others.{IsAllowed, AreAllowed}, RunText.of_kind};
+ghost use Rattle.sharc_run.specs.RunText.{access_text, code_of, other_text, conflict_text, of_use, no_lock_text};
+ghost use Rattle.sharc_run.specs.RunText.{of_taking, not_sole_text, trap_words, trap_text, stop_text, wait_text};
+ghost use Rattle.sharc_run.specs.RunText.{made_text, unstopped_text, why_text, is_gone, thread_line};
 ghost use Rattle.sharc_code.specs.Waits.{is_held_up};
 
 use crate::other::{NotedCheck, other_access};

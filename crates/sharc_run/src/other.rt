@@ -1,10 +1,9 @@
 // The other access of a conflict.
 
-ghost use Rattle.std.specs.Prelude.{◌≡◌, ◌<◌, find};
-ghost use Rattle.std.specs.Option.{option_copied};
-ghost use Rattle.sharc_run.specs.Others.{noted, has_written, is_same_place, refused, check_by, access_of};
-ghost use Rattle.sharc_run.specs.Others.{has_number, is_write, wrote_before, was_refused_first, or_refused};
-ghost use Rattle.sharc_run.specs.Others.{against_write, against_read, other_access, IsAllowed, AreAllowed};
+ghost use Rattle.std.specs.{Prelude.{◌≡◌, ◌<◌, find}, Option.option_copied};
+ghost use Rattle.sharc_run.specs.Others.{noted, has_written, is_same_place, refused, check_by, access_of, has_number};
+ghost use Rattle.sharc_run.specs.Others.{is_write, wrote_before, was_refused_first, or_refused, against_write};
+ghost use Rattle.sharc_run.specs.Others.{against_read, other_access, IsAllowed, AreAllowed};
 
 use sharc_code::{ConflictAt, Stop};
 use sharc_cpu::Thread;

@@ -1,7 +1,6 @@
 //! How a run ended, by its causes.
 
-ghost use Rattle.std.specs.Prelude.{◌≡◌};
-ghost use Rattle.std.specs.List.{list_any};
+ghost use Rattle.std.specs.{Prelude.◌≡◌, List.list_any};
 ghost use Rattle.sharc_cpu.specs.Thread.{is_stop};
 ghost use Rattle.sharc_run.specs.Outcome.{has_reported, was_stopped, outcome_of};
 

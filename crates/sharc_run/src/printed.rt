@@ -1,7 +1,6 @@
 // The prints of all threads.
 
-ghost use Rattle.std.specs.Prelude.{◌≡◌, IfOk, OnOk};
-ghost use Rattle.std.specs.List.{flat_map};
+ghost use Rattle.std.specs.{Prelude.{◌≡◌, IfOk, OnOk}, List.flat_map};
 ghost use Rattle.sharc_tree.specs.Texts.{Appends};
 ghost use Rattle.sharc_run.specs.RunText.{prints_of, print_line, AreInOrder};
 

@@ -1,15 +1,10 @@
 //! Runs, and what they write.
 
 ghost use Rattle.std.specs.Prelude.{◌≡◌, ◌≤◌, ◌<◌, ℕ, List, IfOk};
-ghost use Rattle.sharc_code.specs.declared.shape.Shape.{Shape};
-ghost use Rattle.sharc_code.specs.Layout.{Fits};
-ghost use Rattle.sharc_code.specs.Runs.{Turn};
-ghost use Rattle.sharc_code.specs.Whole.{place_after};
+ghost use Rattle.sharc_code.specs.{declared.shape.Shape.Shape, Layout.Fits, Runs.Turn, Whole.place_after};
 ghost use Rattle.sharc_seq.specs.Choice.{seeded};
-ghost use Rattle.sharc_run.specs.Others.{AreAllowed};
-ghost use Rattle.sharc_run.specs.RunText.{IsRunText};
-ghost use Rattle.sharc_run.specs.Outcome.{outcome_of};
-ghost use Rattle.sharc_run.specs.Run.{HasEnded, IsEnd, IsSeededRun, IsWorkersRun};
+ghost use Rattle.sharc_run.specs.{Others.AreAllowed, RunText.IsRunText, Outcome.outcome_of, Run.{HasEnded, IsEnd}};
+ghost use Rattle.sharc_run.specs.Run.{IsSeededRun, IsWorkersRun};
 
 use crate::outcome::{Outcome, outcome_of};
 use crate::text::run_text;

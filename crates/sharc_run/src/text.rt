@@ -1,10 +1,8 @@
 // The whole text.
 
-ghost use Rattle.std.specs.Prelude.{◌≡◌, ◌++◌, IfOk, OnOk};
-ghost use Rattle.std.specs.List.{flat_map};
+ghost use Rattle.std.specs.{Prelude.{◌≡◌, ◌++◌, IfOk, OnOk}, List.flat_map};
 ghost use Rattle.sharc_tree.specs.Texts.{Appends};
-ghost use Rattle.sharc_run.specs.Others.{AreAllowed};
-ghost use Rattle.sharc_run.specs.RunText.{print_line, thread_line, IsRunText};
+ghost use Rattle.sharc_run.specs.{Others.AreAllowed, RunText.{print_line, thread_line, IsRunText}};
 
 use crate::line::put_thread;
 use crate::printed::{prints_in_order, put_print};

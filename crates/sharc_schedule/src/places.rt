@@ -2,19 +2,13 @@
 
 ghost use Rattle.std.specs.Prelude.{◌≡◌, ◌<◌, ◌≤◌, ◌+◌, ℕ, true, List, IfOk, OnOk, if◌then◌else◌};
 ghost use Rattle.sharc_word.specs.declared.step.TheConstants.{THREADS as threads};
-ghost use Rattle.sharc_code.specs.Layout.{Fits};
-ghost use Rattle.sharc_code.specs.Runs.{Turn};
-ghost use Rattle.sharc_code.specs.declared.code.Code.{Code};
-ghost use Rattle.sharc_code.specs.declared.shape.Shape.{Shape};
+ghost use Rattle.sharc_code.specs.{Layout.Fits, Runs.Turn, declared.code.Code.Code, declared.shape.Shape.Shape};
 ghost use Rattle.sharc_code.specs.Whole.{place_after};
 ghost use Rattle.sharc_cpu.specs.Rows.{IsPlan};
 ghost use Rattle.sharc_threads.specs.Ends.{is_enabled};
-ghost use Rattle.sharc_seq.specs.Quiet.{IsQuiet};
-ghost use Rattle.sharc_seq.specs.Run.{enabled};
-ghost use Rattle.sharc_seq.specs.Walk.{IsWalk, MayGoOn, StandsAt, events_left};
+ghost use Rattle.sharc_seq.specs.{Quiet.IsQuiet, Run.enabled, Walk.{IsWalk, MayGoOn, StandsAt, events_left}};
 ghost use Rattle.sharc_schedule.specs.Going.{GoesAt, Hurried, HurriedOn, IsGoing, OneMore, Reached};
-ghost use Rattle.sharc_schedule.specs.Journal.{IsJournalOf};
-ghost use Rattle.sharc_schedule.specs.Schedule.{place_in, schedule_of};
+ghost use Rattle.sharc_schedule.specs.{Journal.IsJournalOf, Schedule.{place_in, schedule_of}};
 
 use crate::counting::count;
 use crate::file::Places;

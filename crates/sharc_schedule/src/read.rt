@@ -2,12 +2,10 @@
 
 ghost use Rattle.std.specs.Prelude.{◌≡◌, ◌≢◌, ◌<◌, ◌≤◌, ◌+◌, ◌-◌, ◌++◌, ◌∷◌, ℕ, List, [], decimal, take, drop, length};
 ghost use Rattle.std.specs.Prelude.{IfOk, IfErr, IfSome, IfNone, true, false, get_or, Option, Some, None, Result, Ok};
-ghost use Rattle.std.specs.Prelude.{Err};
-ghost use Rattle.std.specs.Str.Parse.{digits_value};
-ghost use Rattle.sharc_schedule.specs.File.{FileView, IsFile, lines_in, schedule_word, text_line};
-ghost use Rattle.sharc_schedule.specs.Reading.{number_in, pair_of, word_of, after_word, rest_after, numbers_in};
-ghost use Rattle.sharc_schedule.specs.Reading.{read_places, with_places};
-ghost use Rattle.sharc_schedule.specs.Shown.{PlacesShow, FileShows, FaultIs, view_of};
+ghost use Rattle.std.specs.{Prelude.Err, Str.Parse.digits_value};
+ghost use Rattle.sharc_schedule.specs.{File.{FileView, IsFile, lines_in, schedule_word, text_line}, Reading.number_in};
+ghost use Rattle.sharc_schedule.specs.Reading.{pair_of, word_of, after_word, rest_after, numbers_in, read_places};
+ghost use Rattle.sharc_schedule.specs.{Reading.with_places, Shown.{PlacesShow, FileShows, FaultIs, view_of}};
 
 use crate::file::{FileFault, Places, RecordFile};
 use crate::files::file_laws;

@@ -3,8 +3,7 @@
 ghost use Rattle.std.specs.Prelude.{◌≡◌, ◌<◌, ◌≤◌, ◌+◌, ◌^◌, ℕ, length, take, IfOk, slice_index, get_or};
 ghost use Rattle.sharc_code.specs.Layout.{Fits};
 ghost use Rattle.sharc_seq.specs.Run.{IsSeqRun};
-ghost use Rattle.sharc_schedule.specs.Schedule.{one_by_one, stored, Stored};
-ghost use Rattle.sharc_schedule.specs.Places.{total};
+ghost use Rattle.sharc_schedule.specs.{Schedule.{one_by_one, stored, Stored}, Places.total};
 
 use sharc_code::{Code, Shape};
 use sharc_seq::{Chooser, SeqRun, run_seq};

@@ -2,14 +2,9 @@
 
 ghost use Rattle.std.specs.Prelude.{◌≡◌, ◌≤◌, ℕ, None, length, IfOk, slice_index_or};
 ghost use Rattle.sharc_word.specs.declared.step.TheConstants.{THREADS as threads};
-ghost use Rattle.sharc_code.specs.declared.code.Code.{Code};
-ghost use Rattle.sharc_code.specs.declared.shape.Shape.{Shape};
-ghost use Rattle.sharc_code.specs.Layout.{Fits};
-ghost use Rattle.sharc_threads.specs.Ends.{Standing};
-ghost use Rattle.sharc_threads.specs.Seats.{AreOf, has_number};
-ghost use Rattle.sharc_seq.specs.Choice.{Chooses};
-ghost use Rattle.sharc_seq.specs.Run.{IsSeqRun};
-ghost use Rattle.sharc_seq.specs.Table.{Ends};
+ghost use Rattle.sharc_code.specs.{declared.code.Code.Code, declared.shape.Shape.Shape, Layout.Fits};
+ghost use Rattle.sharc_threads.specs.{Ends.Standing, Seats.{AreOf, has_number}};
+ghost use Rattle.sharc_seq.specs.{Choice.Chooses, Run.IsSeqRun, Table.Ends};
 
 use crate::chooser::Chooser;
 use crate::table::Table;

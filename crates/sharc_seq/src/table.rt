@@ -2,9 +2,7 @@
 
 ghost use Rattle.std.specs.Prelude.{◌≡◌, ◌<◌, ◌≤◌, [], true, false, IfOk};
 ghost use Rattle.sharc_code.specs.Layout.{Fits};
-ghost use Rattle.sharc_seq.specs.Choice.{Chooses};
-ghost use Rattle.sharc_seq.specs.Table.{IsTable, IsOver};
-ghost use Rattle.sharc_seq.specs.Walk.{StandsAt, events_left};
+ghost use Rattle.sharc_seq.specs.{Choice.Chooses, Table.{IsTable, IsOver}, Walk.{StandsAt, events_left}};
 
 use crate::chooser::Chooser;
 use crate::walk::Walk;

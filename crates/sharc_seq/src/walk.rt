@@ -1,22 +1,14 @@
 //! A run whose turns the caller picks.
 
 ghost use Rattle.std.specs.Prelude.{◌≡◌, ◌<◌, ◌≤◌, ◌+◌, ℕ, [], None, true, List, length, filter, is_some, IfOk, OnOk};
-ghost use Rattle.std.specs.Prelude.{slice_index, slice_index_or};
-ghost use Rattle.std.specs.Option.{option_copied};
-ghost use Rattle.std.specs.List.{range_with_len};
+ghost use Rattle.std.specs.{Prelude.{slice_index, slice_index_or}, Option.option_copied, List.range_with_len};
 ghost use Rattle.sharc_word.specs.declared.step.TheConstants.{THREADS as threads};
-ghost use Rattle.sharc_code.specs.declared.code.Code.{Code};
-ghost use Rattle.sharc_code.specs.declared.shape.Shape.{Shape};
-ghost use Rattle.sharc_code.specs.Layout.{Fits};
-ghost use Rattle.sharc_code.specs.Runs.{Turn};
+ghost use Rattle.sharc_code.specs.{declared.code.Code.Code, declared.shape.Shape.Shape, Layout.Fits, Runs.Turn};
 ghost use Rattle.sharc_code.specs.Whole.{place_after};
 ghost use Rattle.sharc_cpu.specs.Rows.{IsPlan};
-ghost use Rattle.sharc_threads.specs.Ends.{is_enabled};
-ghost use Rattle.sharc_threads.specs.Seats.{has_number, may_turn_at};
-ghost use Rattle.sharc_seq.specs.Run.{enabled};
-ghost use Rattle.sharc_seq.specs.Quiet.{IsQuiet};
-ghost use Rattle.sharc_seq.specs.Walk.{Began, HaveBegun, StandsAt, IsWalk, IsThreadThere, MayGoOn, WentOn, WentQuietly};
-ghost use Rattle.sharc_seq.specs.Walk.{events_left};
+ghost use Rattle.sharc_threads.specs.{Ends.is_enabled, Seats.{has_number, may_turn_at}};
+ghost use Rattle.sharc_seq.specs.{Run.enabled, Quiet.IsQuiet, Walk.{Began, HaveBegun, StandsAt, IsWalk, IsThreadThere}};
+ghost use Rattle.sharc_seq.specs.Walk.{MayGoOn, WentOn, WentQuietly, events_left};
 
 use crate::quiet::Quiet;
 use crate::told::ToldPort;

@@ -1,10 +1,8 @@
 // The laws, each the contract of a function with calls of other laws alone.
 
-ghost use Rattle.sharc_sound_laws.specs.BuiltDeadlock.{BuiltStuckIsDeadlock};
-ghost use Rattle.sharc_sound_laws.specs.BuiltReports.{BuiltCastsShow, BuiltObeyingIsUnreported, BuiltReportsShow};
-ghost use Rattle.sharc_sound_laws.specs.BuiltSound.{BuiltIsSound};
-ghost use Rattle.sharc_sound_laws.specs.BuiltStands.{BuiltRunsStand};
-ghost use Rattle.sharc_sound_laws.specs.Typed.{BuiltIsTyped};
+ghost use Rattle.sharc_sound_laws.specs.{BuiltDeadlock.BuiltStuckIsDeadlock, BuiltReports.BuiltCastsShow};
+ghost use Rattle.sharc_sound_laws.specs.BuiltReports.{BuiltObeyingIsUnreported, BuiltReportsShow};
+ghost use Rattle.sharc_sound_laws.specs.{BuiltSound.BuiltIsSound, BuiltStands.BuiltRunsStand, Typed.BuiltIsTyped};
 
 use crate::stand::typed_runs_stand;
 use crate::{

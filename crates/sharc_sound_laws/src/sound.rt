@@ -1,13 +1,10 @@
 //! The laws, each the contract of a function that calls at most the laws that it joins.
 
-ghost use Rattle.sharc_sound_laws.specs.Begins.{MadeCodeBegins};
-ghost use Rattle.sharc_sound_laws.specs.Built.{BuiltIsSoundIfTyped};
+ghost use Rattle.sharc_sound_laws.specs.{Begins.MadeCodeBegins, Built.BuiltIsSoundIfTyped};
 ghost use Rattle.sharc_sound_laws.specs.Deadlock.{BuiltStuckIsDeadlockIfTyped, StuckIsDeadlockIfTyped};
-ghost use Rattle.sharc_sound_laws.specs.Faithful.{BuiltIsFaithful, CompiledIsFaithful};
-ghost use Rattle.sharc_sound_laws.specs.Next.{OneIsNext};
+ghost use Rattle.sharc_sound_laws.specs.{Faithful.{BuiltIsFaithful, CompiledIsFaithful}, Next.OneIsNext};
 ghost use Rattle.sharc_sound_laws.specs.Obeying.{BuiltObeyingIsUnreportedIfTyped, ObeyingIsUnreportedIfTyped};
-ghost use Rattle.sharc_sound_laws.specs.Reports.{BuiltReportsShowIfTyped, ReportsShowIfTyped};
-ghost use Rattle.sharc_sound_laws.specs.Sound.{SoundIfTyped};
+ghost use Rattle.sharc_sound_laws.specs.{Reports.{BuiltReportsShowIfTyped, ReportsShowIfTyped}, Sound.SoundIfTyped};
 ghost use Rattle.sharc_sound_laws.specs.Standing.{ThreadsStandIfTyped};
 
 use sharc_build::fronts_are_typed;

@@ -1,10 +1,8 @@
 // What is suggested for errors.
 
-ghost use Rattle.std.specs.Prelude.{◌≡◌, map, IfOk};
-ghost use Rattle.std.specs.Option.{option_copied};
+ghost use Rattle.std.specs.{Prelude.{◌≡◌, map, IfOk}, Option.option_copied};
 ghost use Rattle.sharc_check.specs.Named.{TellNamed};
-ghost use Rattle.sharc_suggest.specs.Casts.{AreCasts, cast_at, cast_for, AreSuggested};
-ghost use Rattle.sharc_suggest.specs.Firsts.{HasFirst, row_for};
+ghost use Rattle.sharc_suggest.specs.{Casts.{AreCasts, cast_at, cast_for, AreSuggested}, Firsts.{HasFirst, row_for}};
 
 use crate::repair::Known;
 use crate::statement::items;

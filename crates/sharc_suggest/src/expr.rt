@@ -1,13 +1,10 @@
 // The casts that are suggested in expressions.
 
-ghost use Rattle.std.specs.Prelude.{◌≡◌, ◌++◌, zero, OnOk};
-ghost use Rattle.std.specs.Option.{option_map};
+ghost use Rattle.std.specs.{Prelude.{◌≡◌, ◌++◌, zero, OnOk}, Option.option_map};
 ghost use Rattle.sharc_tree.specs.View.{view_expr, view_arguments};
-ghost use Rattle.sharc_mode.specs.Rows.{modes_of};
-ghost use Rattle.sharc_mode.specs.View.{view_rows, EndsWithin};
-ghost use Rattle.sharc_suggest.specs.Casts.{suggested_in};
-ghost use Rattle.sharc_suggest.specs.Givings.{Receiver, wanted, givings, all_givings, value_givings};
-ghost use Rattle.sharc_suggest.specs.Repairs.{told};
+ghost use Rattle.sharc_mode.specs.{Rows.modes_of, View.{view_rows, EndsWithin}};
+ghost use Rattle.sharc_suggest.specs.{Casts.suggested_in, Givings.{Receiver, wanted, givings, all_givings}};
+ghost use Rattle.sharc_suggest.specs.{Givings.value_givings, Repairs.told};
 
 use crate::repair::{Known, repair};
 use sharc_check::passing::{Passed, Passing, without_first};

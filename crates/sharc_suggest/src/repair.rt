@@ -1,11 +1,9 @@
 // Which mismatch of modes a sharing cast repairs.
 
-ghost use Rattle.std.specs.Prelude.{◌≡◌, ◌+◌, ◌≤◌, ◌++◌, drop, Some, IfOk, OnOk};
-ghost use Rattle.std.specs.Option.{option_map};
+ghost use Rattle.std.specs.{Prelude.{◌≡◌, ◌+◌, ◌≤◌, ◌++◌, drop, Some, IfOk, OnOk}, Option.option_map};
 ghost use Rattle.sharc_tree.specs.View.{view_expr};
-ghost use Rattle.sharc_mode.specs.Moded.{position_count};
-ghost use Rattle.sharc_mode.specs.Rows.{modes_of};
-ghost use Rattle.sharc_mode.specs.View.{view_row, view_rows, view_sharing, EndsWithin};
+ghost use Rattle.sharc_mode.specs.{Moded.position_count, Rows.modes_of, View.{view_row, view_rows, view_sharing}};
+ghost use Rattle.sharc_mode.specs.View.{EndsWithin};
 ghost use Rattle.sharc_suggest.specs.Repairs.{differ_first, is_free, may_be_cast, told, is_call_name, begins_call};
 ghost use Rattle.sharc_suggest.specs.Repairs.{is_call_at, keeps_first, keeps, keeps_all, cast_to, is_repairable};
 ghost use Rattle.sharc_suggest.specs.Repairs.{repair};

@@ -1,16 +1,13 @@
 // The casts that are suggested in statements and functions.
 
-ghost use Rattle.std.specs.Prelude.{◌≡◌, ◌∷◌, ◌++◌, [], length, OnOk};
-ghost use Rattle.std.specs.Option.{option_map};
+ghost use Rattle.std.specs.{Prelude.{◌≡◌, ◌∷◌, ◌++◌, [], length, OnOk}, Option.option_map};
 ghost use Rattle.sharc_tree.specs.View.{view_expr, view_option, view_right, view_simple, view_local, view_first};
 ghost use Rattle.sharc_tree.specs.View.{view_head, view_stmt, view_statements, view_item, view_items};
-ghost use Rattle.sharc_mode.specs.Rows.{modes_of};
-ghost use Rattle.sharc_mode.specs.View.{view_rows, EndsWithin};
-ghost use Rattle.sharc_suggest.specs.Casts.{suggested_in};
-ghost use Rattle.sharc_suggest.specs.Givings.{Receiver, of_declared, wanted, behind_first, after, after_all};
-ghost use Rattle.sharc_suggest.specs.Givings.{with_parameters, givings, option_givings, value_givings, right_givings};
-ghost use Rattle.sharc_suggest.specs.Givings.{simple_givings, local_givings, first_givings, head_givings, givings_in};
-ghost use Rattle.sharc_suggest.specs.Givings.{givings_in_all, item_givings, items_givings};
+ghost use Rattle.sharc_mode.specs.{Rows.modes_of, View.{view_rows, EndsWithin}};
+ghost use Rattle.sharc_suggest.specs.{Casts.suggested_in, Givings.{Receiver, of_declared, wanted, behind_first, after}};
+ghost use Rattle.sharc_suggest.specs.Givings.{after_all, with_parameters, givings, option_givings, value_givings};
+ghost use Rattle.sharc_suggest.specs.Givings.{right_givings, simple_givings, local_givings, first_givings};
+ghost use Rattle.sharc_suggest.specs.Givings.{head_givings, givings_in, givings_in_all, item_givings, items_givings};
 ghost use Rattle.sharc_suggest.specs.Repairs.{entry_of, told};
 
 use crate::expr::{expression, value};

@@ -1,11 +1,9 @@
 // What `apply` of sharc_suggest_laws answers of a cast that is suggested.
 
 ghost use Rattle.std.specs.Prelude.{◌≡◌, Some};
-ghost use Rattle.sharc_tree.specs.Low.{IsLow};
-ghost use Rattle.sharc_tree.specs.Placed.{IsPlaced};
-ghost use Rattle.sharc_suggest_laws.specs.Applied.{assignment_with};
+ghost use Rattle.sharc_tree.specs.{Low.IsLow, Placed.IsPlaced};
+ghost use Rattle.sharc_suggest_laws.specs.{Applied.assignment_with, Gone.IsGone};
 ghost use Rattle.sharc_suggest.specs.Casts.{IsSuggested};
-ghost use Rattle.sharc_suggest_laws.specs.Gone.{IsGone};
 
 use crate::laws::repairs_where_typed;
 use sharc_mode::error::{Cast, ModeError};

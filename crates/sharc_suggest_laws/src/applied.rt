@@ -2,8 +2,7 @@
 
 ghost use Rattle.std.specs.Prelude.{◌≡◌, ◌+◌, ◌<◌, ◌≤◌, ◌^◌, All, None, length, map, replicate, IfOk, IsTrue};
 ghost use Rattle.sharc_tree.specs.View.{view_program};
-ghost use Rattle.sharc_ctype.specs.Entities.{entity_at};
-ghost use Rattle.sharc_ctype.specs.Items.{named_in};
+ghost use Rattle.sharc_ctype.specs.{Entities.entity_at, Items.named_in};
 ghost use Rattle.sharc_suggest_laws.specs.Applied.{names_struct, base_site, recast_of, targets, inserted, moved};
 ghost use Rattle.sharc_suggest_laws.specs.Applied.{resolution_with, first_of, assignment_with};
 

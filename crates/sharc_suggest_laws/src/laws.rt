@@ -1,11 +1,7 @@
-ghost use Rattle.sharc_suggest_laws.specs.Expected.{CastHasExpected};
-ghost use Rattle.sharc_suggest_laws.specs.Gone.{GoneWhereExpected};
-ghost use Rattle.sharc_suggest_laws.specs.Kept.{DeclarationsStay, PositionsStay, TypesStay};
-ghost use Rattle.sharc_suggest_laws.specs.Mismatches.{OneMismatch};
-ghost use Rattle.sharc_suggest_laws.specs.Names.{NamesStayWhereTyped, NamesStay};
-ghost use Rattle.sharc_suggest_laws.specs.Once.{SuggestedIsAddedOnce};
-ghost use Rattle.sharc_suggest_laws.specs.Repaired.{RepairsWhereTyped, Repairs, LeastIsRepaired};
-ghost use Rattle.sharc_suggest_laws.specs.Typed.{StaysTyped};
+ghost use Rattle.sharc_suggest_laws.specs.{Expected.CastHasExpected, Gone.GoneWhereExpected, Kept.DeclarationsStay};
+ghost use Rattle.sharc_suggest_laws.specs.{Kept.{PositionsStay, TypesStay}, Mismatches.OneMismatch};
+ghost use Rattle.sharc_suggest_laws.specs.{Names.{NamesStayWhereTyped, NamesStay}, Once.SuggestedIsAddedOnce};
+ghost use Rattle.sharc_suggest_laws.specs.{Repaired.{RepairsWhereTyped, Repairs, LeastIsRepaired}, Typed.StaysTyped};
 ghost use Rattle.sharc_suggest_laws.specs.Values.{ValuesBeginApart};
 
 use sharc_ctype_laws::laws::{

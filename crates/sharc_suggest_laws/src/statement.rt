@@ -1,13 +1,12 @@
 // Statements with a cast written in them.
 
 ghost use Rattle.std.specs.Prelude.{◌≡◌, IfOk, option_map};
-ghost use Rattle.sharc_tree.specs.Tree.{declare, simple, return, if_then, if_then_else, while, for};
-ghost use Rattle.sharc_tree.specs.View.{view_expr, view_option, view_right, view_simple, view_local, view_first};
-ghost use Rattle.sharc_tree.specs.View.{view_head, view_stmt, view_statements};
+ghost use Rattle.sharc_tree.specs.{Tree.{declare, simple, return, if_then, if_then_else, while, for}, View.view_expr};
+ghost use Rattle.sharc_tree.specs.View.{view_option, view_right, view_simple, view_local, view_first, view_head};
+ghost use Rattle.sharc_tree.specs.View.{view_stmt, view_statements};
 ghost use Rattle.sharc_suggest_laws.specs.Recast.{around, with_cast, right_with_cast, simple_with_cast};
-ghost use Rattle.sharc_suggest_laws.specs.Recast.{local_with_cast};
-ghost use Rattle.sharc_suggest_laws.specs.Recast.{first_with_cast, head_with_cast, statement_with_cast};
-ghost use Rattle.sharc_suggest_laws.specs.Recast.{statements_with_cast};
+ghost use Rattle.sharc_suggest_laws.specs.Recast.{local_with_cast, first_with_cast, head_with_cast};
+ghost use Rattle.sharc_suggest_laws.specs.Recast.{statement_with_cast, statements_with_cast};
 
 use crate::expression::{boxed, boxed_value, expression, value};
 use crate::written::Recast;

@@ -2,8 +2,7 @@
 
 ghost use Rattle.std.specs.Prelude.{◌≡◌, ◌<◌, slice_index};
 ghost use Rattle.sharc_word.specs.declared.step.TheConstants.{THREADS as threads};
-ghost use Rattle.sharc_code.specs.Path.{may_go};
-ghost use Rattle.sharc_code.specs.Waits.{is_held_up, held_up};
+ghost use Rattle.sharc_code.specs.{Path.may_go, Waits.{is_held_up, held_up}};
 ghost use Rattle.sharc_threads.specs.Seats.{is_end, may_turn};
 
 use sharc_code::TurnState;

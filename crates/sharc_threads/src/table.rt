@@ -3,16 +3,10 @@
 ghost use Rattle.std.specs.Prelude.{◌≡◌, ◌<◌, ◌++◌, [], ◌∷◌, ℕ, Option, Some, None, true, false, length, IfOk, OnOk};
 ghost use Rattle.std.specs.Prelude.{slice_index_or};
 ghost use Rattle.sharc_word.specs.declared.step.TheConstants.{THREADS as threads};
-ghost use Rattle.sharc_code.specs.declared.code.Code.{Code};
-ghost use Rattle.sharc_code.specs.declared.shape.Shape.{Shape};
-ghost use Rattle.sharc_code.specs.Layout.{Fits};
-ghost use Rattle.sharc_code.specs.Machine.{Machine};
-ghost use Rattle.sharc_code.specs.Path.{begun};
-ghost use Rattle.sharc_code.specs.Runs.{is_started};
-ghost use Rattle.sharc_code.specs.Whole.{bounds};
-ghost use Rattle.sharc_threads.specs.Ends.{Standing, is_enabled, AreStarted, EndIs};
-ghost use Rattle.sharc_threads.specs.Seats.{AreSeats, AreOf, HasBegun, has_number, is_on_at, waits_at, may_turn_at};
-ghost use Rattle.sharc_threads.specs.Seats.{present};
+ghost use Rattle.sharc_code.specs.{declared.code.Code.Code, declared.shape.Shape.Shape, Layout.Fits, Machine.Machine};
+ghost use Rattle.sharc_code.specs.{Path.begun, Runs.is_started, Whole.bounds};
+ghost use Rattle.sharc_threads.specs.{Ends.{Standing, is_enabled, AreStarted, EndIs}, Seats.{AreSeats, AreOf}};
+ghost use Rattle.sharc_threads.specs.Seats.{HasBegun, has_number, is_on_at, waits_at, may_turn_at, present};
 
 use crate::end::End;
 use crate::state::{is_on, may_turn, waits, word};

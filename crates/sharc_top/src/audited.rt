@@ -4,8 +4,7 @@ ghost use Rattle.std.specs.Prelude.{◌≡◌, ◌≤◌, length, IfOk, IsErrOf}
 ghost use Rattle.sharc_io.specs.Causes.{Rose};
 ghost use Rattle.sharc_reach.specs.Reaching.{AreReached};
 ghost use Rattle.sharc_check.specs.Rules.{MeetsRules};
-ghost use Rattle.sharc_audit.specs.Grammar.{text_lines};
-ghost use Rattle.sharc_audit.specs.Files.{IsFault};
+ghost use Rattle.sharc_audit.specs.{Grammar.text_lines, Files.IsFault};
 ghost use Rattle.sharc_top.specs.EventFiles.{status_of, Judges, JudgesSource, IsFewIn, FileReplies, IsFileReply};
 
 use crate::input::input_within;

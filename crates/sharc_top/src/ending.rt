@@ -2,8 +2,7 @@
 
 ghost use Rattle.std.specs.Prelude.{◌≡◌, ◌≤◌, ◌⊎◌, Err, IfOk};
 ghost use Rattle.sharc_io.specs.Causes.{EitherRose};
-ghost use Rattle.sharc_top.specs.Ending.{WritesAll, WritesPart};
-ghost use Rattle.sharc_top.specs.Status.{code_of, IsOfReply, IsOfSilence};
+ghost use Rattle.sharc_top.specs.{Ending.{WritesAll, WritesPart}, Status.{code_of, IsOfReply, IsOfSilence}};
 
 use crate::refused::Failure;
 use crate::reply::Reply;

@@ -2,8 +2,7 @@
 
 ghost use Rattle.std.specs.Prelude.{◌≡◌, ◌≤◌, ◌+◌, ◌++◌, length, IfOk};
 ghost use Rattle.sharc_load.specs.Source.{source_of};
-ghost use Rattle.sharc_top.specs.Loading.{size_lines, LoadReplies};
-ghost use Rattle.sharc_top.specs.Answers.{Answers};
+ghost use Rattle.sharc_top.specs.{Loading.{size_lines, LoadReplies}, Answers.Answers};
 
 use crate::ran::RunNumbers;
 use crate::refused::SOURCE_LIMIT;

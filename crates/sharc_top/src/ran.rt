@@ -6,8 +6,7 @@ ghost use Rattle.sharc_check.specs.Rules.{MeetsRules};
 ghost use Rattle.sharc_code.specs.Ranges.{NumbersFit};
 ghost use Rattle.sharc_front_end.specs.Compiled.{IsCompiled};
 ghost use Rattle.sharc_top.specs.declared.task.SourceTask.TheVariants as task;
-ghost use Rattle.sharc_top.specs.Answers.{Answers};
-ghost use Rattle.sharc_top.specs.Running.{AreNumbers, status_of, IsRun, Runs};
+ghost use Rattle.sharc_top.specs.{Answers.Answers, Running.{AreNumbers, status_of, IsRun, Runs}};
 
 use crate::built::built;
 use crate::refused::SOURCE_LIMIT;

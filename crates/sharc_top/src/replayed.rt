@@ -6,8 +6,7 @@ ghost use Rattle.sharc_mode.specs.Moded.{Assignment};
 ghost use Rattle.sharc_check.specs.Rules.{MeetsRules};
 ghost use Rattle.sharc_code.specs.Ranges.{NumbersFit};
 ghost use Rattle.sharc_front_end.specs.Compiled.{IsCompiled};
-ghost use Rattle.sharc_schedule.specs.File.{IsFile, AreNumbers};
-ghost use Rattle.sharc_schedule.specs.Shown.{FaultIs, view_of};
+ghost use Rattle.sharc_schedule.specs.{File.{IsFile, AreNumbers}, Shown.{FaultIs, view_of}};
 ghost use Rattle.sharc_top.specs.Recording.{Replays, GivesRun, GivesSource, ReplayReplies, IsReplayReply};
 ghost use Rattle.sharc_top.specs.Recording.{bad_file_line, IsWithinFile};
 

@@ -3,8 +3,7 @@
 ghost use Rattle.std.specs.Prelude.{◌≡◌, ◌≤◌, ◌⊎◌, List, ℕ, false};
 ghost use Rattle.sharc_io.specs.Causes.{Rose, EitherRose};
 ghost use Rattle.sharc_cli.specs.Commands.{commands};
-ghost use Rattle.sharc_top.specs.Asked.{IsAsked, may_wait};
-ghost use Rattle.sharc_top.specs.Reply.{ReadsInput, Replied, RepliedInPart};
+ghost use Rattle.sharc_top.specs.{Asked.{IsAsked, may_wait}, Reply.{ReadsInput, Replied, RepliedInPart}};
 ghost use Rattle.sharc_top.specs.Status.{IsOfReply, IsOfSilence};
 
 use crate::ending::ended;

@@ -1,8 +1,7 @@
 //! Text that is written: its lines, and writing it line by line.
 
 ghost use Rattle.std.specs.Prelude.{◌≡◌, ◌+◌, ◌∷◌, ◌++◌, ◌<◌, ◌≤◌, [], ℕ, List, length, take, drop, decimal, flat_map};
-ghost use Rattle.std.specs.Prelude.{IfOk, IfErr, OnOk, OnErr};
-ghost use Rattle.std.specs.Io.KnownBytes.{Appends};
+ghost use Rattle.std.specs.{Prelude.{IfOk, IfErr, OnOk, OnErr}, Io.KnownBytes.Appends};
 ghost use Rattle.sharc_io.specs.Causes.{EitherRose};
 ghost use Rattle.sharc_top.specs.Text.{line};
 

@@ -2,8 +2,7 @@
 
 ghost use Rattle.std.specs.Prelude.{◌≡◌, ◌≤◌, ◌⊎◌, map, string_bytes};
 ghost use Rattle.sharc_io.specs.Causes.{Rose, EitherRose};
-ghost use Rattle.sharc_top.specs.Reply.{ReadsInput, Replied, RepliedInPart};
-ghost use Rattle.sharc_top.specs.Status.{IsOfReply, IsOfSilence};
+ghost use Rattle.sharc_top.specs.{Reply.{ReadsInput, Replied, RepliedInPart}, Status.{IsOfReply, IsOfSilence}};
 
 use crate::ending::ended;
 use crate::recorded::recorded;

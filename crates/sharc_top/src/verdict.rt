@@ -5,11 +5,9 @@
 
 ghost use Rattle.std.specs.Prelude.{◌≡◌, ◌++◌, IfOk};
 ghost use Rattle.sharc_reach.specs.Reaching.{AreReached};
-ghost use Rattle.sharc_check.specs.Checks.{IsRefused};
-ghost use Rattle.sharc_check.specs.Named.{TellNamed};
+ghost use Rattle.sharc_check.specs.{Checks.IsRefused, Named.TellNamed};
 ghost use Rattle.sharc_report.specs.Explanations.{explain_text};
-ghost use Rattle.sharc_top.specs.declared.status.Status.TheVariants.{ModesRefused};
-ghost use Rattle.sharc_top.specs.Refused.{IsModeRefusal};
+ghost use Rattle.sharc_top.specs.{declared.status.Status.TheVariants.ModesRefused, Refused.IsModeRefusal};
 ghost use Rattle.sharc_top.specs.Verdict.{Checks, Explains};
 
 use crate::reply::Reply;

@@ -4,9 +4,7 @@ ghost use Rattle.std.specs.Prelude.{◌≡◌, ◌≤◌, List, ℕ, Some, false
 ghost use Rattle.sharc_io.specs.Causes.{Rose};
 ghost use Rattle.sharc_cli.specs.Commands.{commands};
 ghost use Rattle.sharc_top.specs.declared.task.SourceTask.TheVariants as task;
-ghost use Rattle.sharc_top.specs.Answers.{Answers};
-ghost use Rattle.sharc_top.specs.Asked.{IsAsked, may_wait};
-ghost use Rattle.sharc_top.specs.Reply.{task_in, ReadsInput, IsReply};
+ghost use Rattle.sharc_top.specs.{Answers.Answers, Asked.{IsAsked, may_wait}, Reply.{task_in, ReadsInput, IsReply}};
 ghost use Rattle.sharc_top.specs.Verdict.{IsTask};
 
 use crate::audited::audited;

@@ -1,7 +1,6 @@
 //! The call over words that may not have been found, and the exit code.
 
-ghost use Rattle.std.specs.Prelude.{◌≡◌, ◌⊎◌, None, map, string_bytes, IfOk, IsSome, OnErr};
-ghost use Rattle.std.specs.Process.{exit_status};
+ghost use Rattle.std.specs.{Prelude.{◌≡◌, ◌⊎◌, None, map, string_bytes, IfOk, IsSome, OnErr}, Process.exit_status};
 ghost use Rattle.sharc_io.specs.Causes.{Rose, EitherRose};
 ghost use Rattle.sharc_traced.specs.Replies.{code_of, form_of, Replied, RepliedInPart, IsOfReply, IsOfSilence};
 

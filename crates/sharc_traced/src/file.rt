@@ -1,11 +1,9 @@
 //! The text of an event file.
 
-ghost use Rattle.std.specs.Prelude.{◌≡◌, ◌++◌, ◌∷◌, IfOk};
-ghost use Rattle.std.specs.Fmt.{signed_decimal};
+ghost use Rattle.std.specs.{Prelude.{◌≡◌, ◌++◌, ◌∷◌, IfOk}, Fmt.signed_decimal};
 ghost use Rattle.sharc_tree.specs.Texts.{Appends};
 ghost use Rattle.sharc_history.specs.Cells.{cell_text, reference_text};
-ghost use Rattle.sharc_traced.specs.Writing.{value_text, deed_text, event_text};
-ghost use Rattle.sharc_traced.specs.Writing.{events_text, file_text};
+ghost use Rattle.sharc_traced.specs.Writing.{value_text, deed_text, event_text, events_text, file_text};
 
 use crate::pieces::{put_name, put_value};
 use sharc_ctype::typed::Typed;

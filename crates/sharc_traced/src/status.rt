@@ -1,8 +1,7 @@
 //! The exit statuses.
 
 ghost use Rattle.std.specs.Prelude.{◌≡◌};
-ghost use Rattle.sharc_top.specs.declared.status.Status.{Status as Answer};
-ghost use Rattle.sharc_top.specs.Status.{code_of as code_of_answer};
+ghost use Rattle.sharc_top.specs.{declared.status.Status.Status as Answer, Status.code_of as code_of_answer};
 ghost use Rattle.sharc_traced.specs.Replies.{code_of};
 
 use sharc_top::status::Status as Answer;

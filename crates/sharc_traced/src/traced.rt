@@ -1,11 +1,9 @@
 //! What is written of a recorded file.
 
 ghost use Rattle.std.specs.Prelude.{◌≡◌, ◌≤◌, List, length, IfOk};
-ghost use Rattle.sharc_code.specs.declared.shape.Shape.{Shape};
-ghost use Rattle.sharc_code.specs.Runs.{Turn};
+ghost use Rattle.sharc_code.specs.{declared.shape.Shape.Shape, Runs.Turn};
 ghost use Rattle.sharc_history.specs.History.{IsAccountOf};
-ghost use Rattle.sharc_schedule.specs.File.{IsFile};
-ghost use Rattle.sharc_schedule.specs.Shown.{FaultIs, view_of};
+ghost use Rattle.sharc_schedule.specs.{File.IsFile, Shown.{FaultIs, view_of}};
 ghost use Rattle.sharc_top.specs.Recording.{IsWithinFile, bad_file_line};
 ghost use Rattle.sharc_traced.specs.Replies.{IsFileOfRun, IsPlacesOf, IsTraced, FileReplies, InputReplies};
 

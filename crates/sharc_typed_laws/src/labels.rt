@@ -1,12 +1,8 @@
 //! Laws of flattened code.
 
-ghost use Rattle.sharc_typed_laws.specs.Begun.{LabelsStand};
-ghost use Rattle.sharc_typed_laws.specs.Blocks.{BlocksAreTyped};
-ghost use Rattle.sharc_typed_laws.specs.Decided.{DecisionsAreTyped};
-ghost use Rattle.sharc_typed_laws.specs.Declared.{LocalsAreTyped};
-ghost use Rattle.sharc_typed_laws.specs.Ended.{EndsAreTyped};
-ghost use Rattle.sharc_typed_laws.specs.Left.{JumpsAreTyped, LeavesAreTyped};
-ghost use Rattle.sharc_typed_laws.specs.Returned.{NothingReturns, ValuesReturn};
+ghost use Rattle.sharc_typed_laws.specs.{Begun.LabelsStand, Blocks.BlocksAreTyped, Decided.DecisionsAreTyped};
+ghost use Rattle.sharc_typed_laws.specs.{Declared.LocalsAreTyped, Ended.EndsAreTyped, Left.JumpsAreTyped};
+ghost use Rattle.sharc_typed_laws.specs.{Left.LeavesAreTyped, Returned.{NothingReturns, ValuesReturn}};
 ghost use Rattle.sharc_typed_laws.specs.LabelsLaws.{ExpressionsAreTyped, LinesAreTyped, LinesKnow, LinesTell};
 ghost use Rattle.sharc_typed_laws.specs.LabelsLaws.{PartsAreTyped, SimplesAreTyped, StretchesJoin, TestsAreTyped};
 

@@ -1,7 +1,6 @@
 // The laws, each the contract of a function with calls of other laws alone.
 
-ghost use Rattle.sharc_typed_laws.specs.Functions.{FunctionsAreTyped};
-ghost use Rattle.sharc_typed_laws.specs.Programs.{CodeIsWellTyped, ProgramsAreTyped};
+ghost use Rattle.sharc_typed_laws.specs.{Functions.FunctionsAreTyped, Programs.{CodeIsWellTyped, ProgramsAreTyped}};
 
 use crate::{
     blocks_law, code_law, decisions_law, ends_law, jumps_law, knows_law, labels_law, leaves_law,

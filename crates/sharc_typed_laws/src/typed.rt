@@ -1,8 +1,7 @@
 //! Laws of code that is made of typed flat code.
 
 ghost use Rattle.sharc_typed_laws.specs.TypedLaws.{PiecesAreTyped, PiecesAreScoped, TypedFlatIsTyped, AnyhowIsTyped};
-ghost use Rattle.sharc_typed_laws.specs.TypedLaws.{CodeIsTyped};
-ghost use Rattle.sharc_typed_laws.specs.Sample.{SampleIsTyped};
+ghost use Rattle.sharc_typed_laws.specs.{TypedLaws.CodeIsTyped, Sample.SampleIsTyped};
 
 /// The statements that an operation becomes are typed one after the other, from what is known before its line to what
 /// may be known after it.

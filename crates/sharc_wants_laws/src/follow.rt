@@ -1,7 +1,6 @@
 //! The laws, each the contract of a function that does nothing.
 
-ghost use Rattle.sharc_wants_laws.specs.Laws.{CodeIsFollowed};
-ghost use Rattle.sharc_wants_laws.specs.Waits.{CodeWaits};
+ghost use Rattle.sharc_wants_laws.specs.{Laws.CodeIsFollowed, Waits.CodeWaits};
 
 /// In the code of flat code each check is directly before the access that it is of, at the same site, whose mode is one
 /// that asks for that check.

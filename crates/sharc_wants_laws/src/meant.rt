@@ -1,8 +1,7 @@
 // The laws, each the contract of a function that does nothing.
 
 ghost use Rattle.sharc_wants_laws.specs.Freeing.{EmptiedWereTaken, EmptiersTookLast, FreesFollow, LastTakersFree};
-ghost use Rattle.sharc_wants_laws.specs.Freeing.{TakenAreBeingTaken};
-ghost use Rattle.sharc_wants_laws.specs.Held.{HeldAreHeldOn};
+ghost use Rattle.sharc_wants_laws.specs.{Freeing.TakenAreBeingTaken, Held.HeldAreHeldOn};
 
 use sharc_ctype_laws::laws::{
     are_plain, each_names_itself, meets_constraints, meets_statements, one_type,

@@ -1,13 +1,9 @@
 //! The laws, each the contract of a function that calls at most the laws that it joins.
 
 ghost use Rattle.sharc_compile_laws.specs.Paths.{OfTyped};
-ghost use Rattle.sharc_wants_laws.specs.Alone.{PassedAreAlone};
-ghost use Rattle.sharc_wants_laws.specs.Cause.{CastReportsShowCause};
-ghost use Rattle.sharc_wants_laws.specs.Beginning.{ThreadsHaveBegun};
-ghost use Rattle.sharc_wants_laws.specs.Elsewhere.{ArgumentsSee, LogsSee};
-ghost use Rattle.sharc_wants_laws.specs.Hands.{FreesEmpty, HandsFly};
-ghost use Rattle.sharc_wants_laws.specs.Cells.{CellsSee};
-ghost use Rattle.sharc_wants_laws.specs.Holding.{PathsHold, ThreadsHold};
+ghost use Rattle.sharc_wants_laws.specs.{Alone.PassedAreAlone, Cause.CastReportsShowCause, Beginning.ThreadsHaveBegun};
+ghost use Rattle.sharc_wants_laws.specs.{Elsewhere.{ArgumentsSee, LogsSee}, Hands.{FreesEmpty, HandsFly}};
+ghost use Rattle.sharc_wants_laws.specs.{Cells.CellsSee, Holding.{PathsHold, ThreadsHold}};
 ghost use Rattle.sharc_wants_laws.specs.Only.{
   ArgumentsHoldNone,
   CellsHoldNone,
@@ -17,10 +13,8 @@ ghost use Rattle.sharc_wants_laws.specs.Only.{
   TestedAreOnly,
   ThreadsHoldNone,
 };
-ghost use Rattle.sharc_wants_laws.specs.Registered.{HeldAreRegistered};
-ghost use Rattle.sharc_wants_laws.specs.Seeing.{CastersHold, TestersGive, ThreadsSee};
-ghost use Rattle.sharc_wants_laws.specs.Silent.{SilentHaveNothing};
-ghost use Rattle.sharc_wants_laws.specs.Sole.{RegistersAreSeen};
+ghost use Rattle.sharc_wants_laws.specs.{Registered.HeldAreRegistered, Seeing.{CastersHold, TestersGive, ThreadsSee}};
+ghost use Rattle.sharc_wants_laws.specs.{Silent.SilentHaveNothing, Sole.RegistersAreSeen};
 
 use crate::meant::{held_are_held_on, last_takers, taken_are_being_taken};
 use sharc_accepted_laws::targets::{global_pointers_are, globals_point};

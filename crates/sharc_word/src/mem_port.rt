@@ -47,8 +47,7 @@ impl<A: Allocator> MemPort<A> {
 
 impl<A: Allocator> Port for MemPort<A> {
     ghost use Rattle.std.specs.Prelude.{◌<◌, [], length, slice_index};
-    ghost use Rattle.sharc_word.specs.Words.{words_after_step};
-    ghost use Rattle.sharc_word.specs.Place.{place_of_words, LeadsInWords};
+    ghost use Rattle.sharc_word.specs.{Words.words_after_step, Place.{place_of_words, LeadsInWords}};
 
     ghost count = { λ port. length port };
 

@@ -6,8 +6,7 @@ use crate::step::WordStep;
 /// others, each port says.
 pub trait Port {
     ghost use Rattle.std.specs.Prelude.{ℕ, ◌≡◌, ◌<◌, List};
-    ghost use Rattle.sharc_word.specs.declared.step.WordEvent.{WordEvent};
-    ghost use Rattle.sharc_word.specs.Place.{PortState, event_of};
+    ghost use Rattle.sharc_word.specs.{declared.step.WordEvent.WordEvent, Place.{PortState, event_of}};
 
     // The number of its words, which no step changes.
     ghost count: { Self → ℕ };

@@ -1,12 +1,9 @@
 //! The line of an event.
 
-ghost use Rattle.std.specs.Prelude.{◌≡◌, ◌++◌, List, codes, decimal};
-ghost use Rattle.std.specs.Fmt.{signed_decimal};
+ghost use Rattle.std.specs.{Prelude.{◌≡◌, ◌++◌, List, codes, decimal}, Fmt.signed_decimal};
 ghost use Rattle.sharc_tree.specs.Texts.{Appends};
-ghost use Rattle.sharc_history.specs.declared.event.Event.{Event};
-ghost use Rattle.sharc_history.specs.Names.{AreNames};
-ghost use Rattle.sharc_history.specs.Places.{seen_text, object_text, worded, taking, woken_text, deed_words, object_of};
-ghost use Rattle.sharc_history.specs.Places.{mode_of, event_line};
+ghost use Rattle.sharc_history.specs.{declared.event.Event.Event, Names.AreNames, Places.{seen_text, object_text}};
+ghost use Rattle.sharc_history.specs.Places.{worded, taking, woken_text, deed_words, object_of, mode_of, event_line};
 
 use crate::cells::{Origin, place_at};
 use crate::event::{Deed, Event, GivenValue, Reference};

@@ -1,8 +1,7 @@
 //! Where an event is in the source, and how what it is of is written there.
 
 ghost use Rattle.std.specs.Prelude.{◌≡◌};
-ghost use Rattle.sharc_history.specs.Told.{site_of};
-ghost use Rattle.sharc_history.specs.Places.{behind_star, lvalue_of};
+ghost use Rattle.sharc_history.specs.{Told.site_of, Places.{behind_star, lvalue_of}};
 
 use crate::cells::{Origin, place_at};
 use crate::next::function_of;

@@ -1,9 +1,8 @@
 //! What mutexes and conditions are called, by the last lock or wait of each.
 
 ghost use Rattle.std.specs.Prelude.{◌≡◌, [], ◌∷◌, List, OnOk};
-ghost use Rattle.sharc_history.specs.declared.event.Event.{Event};
-ghost use Rattle.sharc_history.specs.Names.{AreNames, IsNoted};
-ghost use Rattle.sharc_history.specs.Places.{called, last_named, named_by, name_of};
+ghost use Rattle.sharc_history.specs.{declared.event.Event.Event, Names.{AreNames, IsNoted}, Places.called};
+ghost use Rattle.sharc_history.specs.Places.{last_named, named_by, name_of};
 
 use crate::cells::{Origin, Where};
 use crate::event::{Deed, Event};

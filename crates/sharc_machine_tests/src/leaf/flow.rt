@@ -1,7 +1,6 @@
 //! Two kinds of sources, and random positions and links beside a plain program.
 
-ghost use Rattle.std.specs.Prelude.{IsTrue};
-ghost use Rattle.std.specs.List.{All};
+ghost use Rattle.std.specs.{Prelude.IsTrue, List.All};
 ghost use Rattle.sharc_graph.specs.Paths.{IsWithin};
 
 use sharc_graph::{

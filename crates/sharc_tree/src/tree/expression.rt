@@ -139,9 +139,7 @@ pub enum Expr {
 
 impl Expr {
     ghost use Rattle.std.specs.Prelude.{◌≡◌, option_map};
-    ghost use Rattle.sharc_tree.specs.Forms.{without_parentheses, is_lvalue, parts_of_call};
-    ghost use Rattle.sharc_tree.specs.Spans.{span_of};
-    ghost use Rattle.sharc_tree.specs.Tree.{call};
+    ghost use Rattle.sharc_tree.specs.{Forms.{without_parentheses, is_lvalue, parts_of_call}, Spans.span_of, Tree.call};
     ghost use Rattle.sharc_tree.specs.View.{view_expr, view_arguments};
 
     /// A call of a function by its name.

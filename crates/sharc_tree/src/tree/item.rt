@@ -126,8 +126,7 @@ pub enum Item {
 
 impl Item {
     ghost use Rattle.std.specs.Prelude.{◌≡◌};
-    ghost use Rattle.sharc_tree.specs.Spans.{span_of_item};
-    ghost use Rattle.sharc_tree.specs.View.{view_item};
+    ghost use Rattle.sharc_tree.specs.{Spans.span_of_item, View.view_item};
 
     /// The tokens of the item.
     pub fn span(&self) -> Span

@@ -26,8 +26,7 @@ impl Drop for Right {
 
 impl Right {
     ghost use Rattle.std.specs.Prelude.{◌≡◌};
-    ghost use Rattle.sharc_tree.specs.Spans.{span_of_right};
-    ghost use Rattle.sharc_tree.specs.View.{view_right};
+    ghost use Rattle.sharc_tree.specs.{Spans.span_of_right, View.view_right};
 
     /// The tokens of what is there.
     pub fn span(&self) -> Span
@@ -62,8 +61,7 @@ impl Drop for Simple {
 
 impl Simple {
     ghost use Rattle.std.specs.Prelude.{◌≡◌};
-    ghost use Rattle.sharc_tree.specs.Spans.{span_of_simple};
-    ghost use Rattle.sharc_tree.specs.View.{view_simple};
+    ghost use Rattle.sharc_tree.specs.{Spans.span_of_simple, View.view_simple};
 
     /// The tokens of the assignment or the call, without a `;`.
     pub fn span(&self) -> Span
@@ -158,10 +156,8 @@ pub enum Stmt {
 
 impl Stmt {
     ghost use Rattle.std.specs.Prelude.{◌≡◌, option_map};
-    ghost use Rattle.sharc_tree.specs.Forms.{parts_of_block};
-    ghost use Rattle.sharc_tree.specs.Spans.{span_of_statement};
-    ghost use Rattle.sharc_tree.specs.Tree.{block};
-    ghost use Rattle.sharc_tree.specs.View.{view_stmt, view_statements};
+    ghost use Rattle.sharc_tree.specs.{Forms.parts_of_block, Spans.span_of_statement, Tree.block, View.view_stmt};
+    ghost use Rattle.sharc_tree.specs.View.{view_statements};
 
     /// A block of statements.
     pub fn block(span: Span, statements: Vec<Stmt>) -> Stmt
