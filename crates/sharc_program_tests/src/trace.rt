@@ -1,5 +1,5 @@
-//! Whole replies of the call of sharc-trace: tests alone, over sources and sinks in memory.
+//! What sharc-trace writes where its streams fail or have little room: tests alone, over sources and sinks in memory.
 
 mod cases;
 mod outcome;
-mod replies;
+mod streams;

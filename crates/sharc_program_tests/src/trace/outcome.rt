@@ -6,7 +6,7 @@ use sharc_tree::held::both;
 use std::alloc::{AllocError, Global};
 
 /// Room for a reply.
-pub(crate) const ROOM: usize = 100_000;
+const ROOM: usize = 100_000;
 
 /// How a call ended, and what its sink then held.
 #[derive(Drop)]
@@ -45,7 +45,7 @@ fn outcome_of(
 }
 
 /// The outcome of the call over an input that never fails, and a sink with this much room.
-pub(crate) fn traced(
+pub(crate) fn full(
     alloc: Global,
     words: &[&str],
     input: &[u8],
