@@ -1,17 +1,19 @@
-//! What the program writes: tests alone, a folder for each crate that they are of.
+//! The words and the streams of the program, and what it writes over them: tests alone.
 //!
 //! No crate depends on this one, and it has no code of its own.
 #![tactic(auto)]
 
 #[cfg(test)]
-mod cli;
+mod bytes;
 #[cfg(test)]
-mod hostile;
+mod failures;
 #[cfg(test)]
-mod sources;
+mod gates;
+#[cfg(test)]
+mod outcome;
 #[cfg(test)]
 mod streams;
 #[cfg(test)]
-mod top;
-#[cfg(test)]
 mod trace;
+#[cfg(test)]
+mod words;

