@@ -1,5 +1,5 @@
-//! Tables of sources, and what the front end makes of them: tests alone, over the lexer, the parser and C typing as
-//! they work together.
+//! Tables of sources, and what the front end makes of them that no text of the program shows: tests alone, over the
+//! lexer, the parser and C typing as they work together.
 //!
 //! No crate depends on this one, and it has no code of its own. A table that needs the lexer to write what a later
 //! stage of the front end is given is here too, so that a change of the top call proves none of them again.
@@ -11,8 +11,6 @@ mod expressions;
 mod faults;
 #[cfg(test)]
 mod items;
-#[cfg(test)]
-mod limits;
 #[cfg(test)]
 mod nodes;
 #[cfg(test)]
@@ -30,20 +28,4 @@ mod tree_tests;
 #[cfg(test)]
 mod typing;
 #[cfg(test)]
-mod typing_conditions;
-#[cfg(test)]
-mod typing_items;
-#[cfg(test)]
-mod typing_limits;
-#[cfg(test)]
 mod typing_names;
-#[cfg(test)]
-mod typing_orders;
-#[cfg(test)]
-mod typing_paths;
-#[cfg(test)]
-mod typing_scopes;
-#[cfg(test)]
-mod typing_sizes;
-#[cfg(test)]
-mod typing_values;

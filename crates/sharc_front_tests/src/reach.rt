@@ -6,7 +6,7 @@ use crate::tables::two_parts;
 use crate::typing::typed;
 use sharc_ctype::typed::Typed;
 use sharc_reach::{Reached, reach};
-use std::alloc::{AllocError, Global};
+use std::alloc::AllocError;
 use std::process::Abort;
 use std::test::Fail;
 
@@ -92,34 +92,6 @@ void f(int n) {{ {body} }} int main(void) {{ join(spawn(f, 1)); return 0; }}"
         let text = answers(rt, source.as_str())?;
         assert_eq!(rt; text.as_slice(), want.as_bytes(), "{body}");
     }
-    Ok(())
-}
-
-/// A source of this many functions, each of which names one global and calls the next; `main` spawns the first.
-fn chain(alloc: Global, functions: u32) -> Result<String, AllocError> {
-    let mut source = String::new(alloc);
-    source.push_str("int g; ")?;
-    for number in 1..functions {
-        let function = format!(in alloc; "void f{number}(int n) {{ g = n; f")?;
-        source.push_str(function.as_str())?;
-        let next = format!(in alloc; "{}(n); }} ", number + 1)?;
-        source.push_str(next.as_str())?;
-    }
-    let last = format!(in alloc;
-        "void f{functions}(int n) {{ g = n; }} int main(void) {{ join(spawn(f1, 1)); return 0; }}"
-    )?;
-    source.push_str(last.as_str())?;
-    Ok(source)
-}
-
-/// Asserts that all functions of a chain are reached but `main`, and that the first is the first that names the global.
-fn assert_chain(rt: &(impl Abort + AllocGlobal), functions: u32) -> Result<(), Fail> {
-    assert!(rt; functions <= 16_000);
-    let source = chain(rt.alloc(), functions)?;
-    let mut want = vec![in rt.alloc(); b'1'; functions as usize]?;
-    want.extend_from_slice(b"0 0")?;
-    let text = answers(rt, source.as_str())?;
-    assert!(rt; text == want);
     Ok(())
 }
 
@@ -247,14 +219,4 @@ id(n + h()); => 1110 - - -
 #[test]
 fn calls_in_each_construct(rt: HostRuntime) -> Result<(), Fail> {
     assert_bodies(&rt, CALLS)
-}
-
-#[test]
-fn chain_of_a_thousand(rt: HostRuntime) -> Result<(), Fail> {
-    assert_chain(&rt, 1_000)
-}
-
-#[test]
-fn chain_as_long_as_may_be(rt: HostRuntime) -> Result<(), Fail> {
-    assert_chain(&rt, 16_000)
 }

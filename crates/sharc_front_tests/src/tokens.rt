@@ -1,6 +1,6 @@
 //! What the lexer answers on tables of sources.
 
-use sharc_lex::{LexFault, lex};
+use sharc_lex::lex;
 use sharc_tree::token::{Keyword, Number, NumberType, Punctuator, TokenKind, Tokens};
 use std::process::Abort;
 use std::test::Fail;
@@ -24,29 +24,6 @@ fn assert_kind(
     assert_eq!(rt; token.kind, kind, "{source:?}");
     assert_eq!(rt; token.text.as_slice(), source);
     drop(tokens);
-    Ok(())
-}
-
-/// Asserts the fault of a source: its code and offset, its file and line.
-fn assert_fault(
-    rt: &(impl Abort + AllocGlobal),
-    source: &[u8],
-    code: u8,
-    offset: u64,
-    file: &[u8],
-    line: u32,
-) -> Result<(), Fail> {
-    assert!(rt; source.len() <= 1_048_576);
-    match lex(rt.alloc(), source) {
-        Ok(_) => panic!(rt; "read: {source:?}"),
-        Err(LexFault::Memory) => panic!(rt; "no memory"),
-        Err(LexFault::At(fault)) => {
-            assert_eq!(rt; fault.code.digit(), code, "{source:?}");
-            assert_eq!(rt; fault.offset, offset, "{source:?}");
-            assert_eq!(rt; fault.file.as_slice(), file);
-            assert_eq!(rt; fault.line, line);
-        }
-    }
     Ok(())
 }
 
@@ -115,69 +92,6 @@ static PUNCTUATORS: [(&[u8], Punctuator); 31] = [
     (b"~", Punctuator::Tilde),
 ];
 
-/// The keywords and punctuators of C11 that the subset leaves out.
-static LEFT_OUT: [&[u8]; 59] = [
-    b"auto",
-    b"case",
-    b"const",
-    b"default",
-    b"do",
-    b"double",
-    b"enum",
-    b"extern",
-    b"float",
-    b"goto",
-    b"inline",
-    b"register",
-    b"restrict",
-    b"short",
-    b"signed",
-    b"static",
-    b"switch",
-    b"typedef",
-    b"union",
-    b"unsigned",
-    b"volatile",
-    b"_Alignas",
-    b"_Alignof",
-    b"_Atomic",
-    b"_Bool",
-    b"_Complex",
-    b"_Generic",
-    b"_Imaginary",
-    b"_Noreturn",
-    b"_Static_assert",
-    b"_Thread_local",
-    b"++",
-    b"--",
-    b"+=",
-    b"-=",
-    b"*=",
-    b"/=",
-    b"%=",
-    b"&=",
-    b"|=",
-    b"^=",
-    b"<<=",
-    b">>=",
-    b"?",
-    b":",
-    b"//",
-    b"/*",
-    b"...",
-    b"<:",
-    b":>",
-    b"<%",
-    b"%>",
-    b"%:",
-    b"%:%:",
-    b"+=",
-    b"<<=",
-    b">>=",
-    b"...",
-    b"%:%:",
-];
-
 #[test]
 fn reads_every_keyword_and_punctuator(rt: HostRuntime) -> Result<(), Fail> {
     for (text, keyword) in &KEYWORDS {
@@ -185,9 +99,6 @@ fn reads_every_keyword_and_punctuator(rt: HostRuntime) -> Result<(), Fail> {
     }
     for (text, punctuator) in &PUNCTUATORS {
         assert_kind(&rt, text, TokenKind::Punctuator(*punctuator))?;
-    }
-    for text in &LEFT_OUT {
-        assert_kind(&rt, text, TokenKind::LeftOut)?;
     }
     assert_kind(&rt, b"integer", TokenKind::Identifier)
 }
@@ -252,68 +163,6 @@ fn reads_escapes(rt: HostRuntime) -> Result<(), Fail> {
         assert_kind(&rt, text, TokenKind::Character(*byte))?;
     }
     Ok(())
-}
-
-/// Sources, with the code and the offset of their fault, and its line in `input`.
-static FAULTS: [(&[u8], u8, u64, u32); 27] = [
-    (b"int main(void) { print(1 @ 2); }", 1, 25, 1),
-    (b"a # b", 1, 2, 1),
-    (b"\x0c# 1 \"a\"", 1, 1, 1),
-    (b"\n\n \"text\"", 1, 3, 3),
-    (b"int main(void) { print(9223372036854775808); }", 2, 23, 1),
-    (b"08", 2, 0, 1),
-    (b"0x", 2, 0, 1),
-    (b"0xg", 2, 0, 1),
-    (b"1_", 2, 0, 1),
-    (b"1ll", 2, 0, 1),
-    (b"0x8000000000000000", 2, 0, 1),
-    (b"x\n = 12a;", 2, 5, 2),
-    (b"# if", 3, 0, 1),
-    (b"a\n\t # 1 \"a.c\"\r\n", 3, 4, 2),
-    (b"# 2147483648 \"a.c\"\n", 3, 0, 1),
-    (b"# 1 \"\"\n", 3, 0, 1),
-    (b"# 1 \"a.c\" 5\n", 3, 0, 1),
-    (b"# 1 \"a\\b\"\n", 3, 0, 1),
-    (b"#line 1 \"a.c\"\n", 3, 0, 1),
-    (b"# \"a.c\"\n", 3, 0, 1),
-    (b"int main(void) { print(''); }", 5, 23, 1),
-    (b"'ab'", 5, 0, 1),
-    (b"'\\x'", 5, 0, 1),
-    (b"'''", 5, 0, 1),
-    (b"'a", 5, 0, 1),
-    (b"'\n'", 5, 0, 1),
-    (b"1.5 @", 1, 4, 1),
-];
-
-#[test]
-fn says_the_first_fault_with_its_place(rt: HostRuntime) -> Result<(), Fail> {
-    for (source, code, offset, line) in &FAULTS {
-        assert_fault(&rt, source, *code, *offset, b"input", *line)?;
-    }
-    assert_fault(&rt, b"# 7 \"b.c\"\n\n@", 1, 11, b"b.c", 8)
-}
-
-/// A source of one name of this many bytes.
-fn name(rt: &(impl Abort + AllocGlobal), len: usize) -> Result<Vec<u8>, Fail> {
-    let mut source = b"int ".to_vec(rt.alloc())?;
-    for _ in 0..len {
-        source.push(b'a')?;
-    }
-    Ok(source)
-}
-
-#[test]
-fn reads_names_of_64_bytes(rt: HostRuntime) -> Result<(), Fail> {
-    let source = name(&rt, 64)?;
-    let tokens = tokens(&rt, &source)?;
-    assert_eq!(rt; tokens.list.len(), 2);
-    Ok(())
-}
-
-#[test]
-fn refuses_names_of_65_bytes(rt: HostRuntime) -> Result<(), Fail> {
-    let source = name(&rt, 65)?;
-    assert_fault(&rt, &source, 4, 4, b"input", 1)
 }
 
 /// As `gcc -E` writes a file that includes another and uses a macro.
@@ -382,18 +231,4 @@ fn says_where_the_input_ends(rt: HostRuntime) -> Result<(), Fail> {
         assert_end(&rt, source, *file, *line, *token)?;
     }
     Ok(())
-}
-
-/// Asserts that this many semicolons are as many tokens.
-fn assert_semicolons(rt: &(impl Abort + AllocGlobal), len: usize) -> Result<(), Fail> {
-    let source = vec![in rt.alloc(); b';'; len]?;
-    let tokens = tokens(rt, &source)?;
-    assert_eq!(rt; tokens.list.len(), len);
-    assert_eq!(rt; u64::from(tokens.end.token), len as u64);
-    Ok(())
-}
-
-#[test]
-fn reads_the_longest_source(rt: HostRuntime) -> Result<(), Fail> {
-    assert_semicolons(&rt, 1_048_576)
 }

@@ -9,12 +9,6 @@ use std::alloc::{AllocError, Global};
 use std::process::Abort;
 use std::test::Fail;
 
-/// What comes before the tables of statements and of items, on one line. `f`, `one` and `take` give nothing.
-const FILE: &str =
-    "struct s { int n; struct s * next; mutex m; int * q; }; struct t { int n; }; int x; char c; long l; int * p; char * cp; int * * pp; struct s g; \
-struct s h; struct s * sp; struct t * tp; struct s * * spp; int a[3]; int * pa[3]; struct s sa[4]; mutex m; mutex ma[2]; mutex * mp; void f(void) { } \
-void one(int k) { } int same(int k) { return k; } int number(int k, int * v) { return k; } int * give(void) { return p; } void take(struct s * k) { } ";
-
 /// What C typing answers for a source that the lexer and the parser read.
 fn answer(
     rt: &(impl Abort + AllocGlobal),
@@ -57,12 +51,6 @@ pub(crate) fn typed(rt: &(impl Abort + AllocGlobal), source: &str) -> Result<Typ
     }
 }
 
-/// Asserts that a source is typed.
-pub(crate) fn assert_typed(rt: &(impl Abort + AllocGlobal), source: &str) -> Result<(), Fail> {
-    drop(typed(rt, source)?);
-    Ok(())
-}
-
 /// The first fault of a source.
 pub(crate) fn refused(
     rt: &(impl Abort + AllocGlobal),
@@ -73,74 +61,4 @@ pub(crate) fn refused(
         Err(TypeFault::Memory) => panic!(rt; "no memory"),
         Err(TypeFault::At(fault)) => Ok(fault),
     }
-}
-
-/// Asserts that a source is refused, with this fault in the file of the input.
-pub(crate) fn assert_refused(
-    rt: &(impl Abort + AllocGlobal),
-    source: &str,
-    fault: &str,
-) -> Result<(), Fail> {
-    let found = refused(rt, source)?;
-    let text = fault_text(rt.alloc(), &found)?;
-    assert_eq!(rt; text.as_slice(), fault.as_bytes(), "{source}");
-    assert_eq!(rt; found.file.as_slice(), b"input".as_slice());
-    assert_eq!(rt; found.offset, 0);
-    Ok(())
-}
-
-/// A program of the file, with items after it.
-fn with_items(alloc: Global, items: &str) -> Result<String, AllocError> {
-    let file = FILE;
-    format!(in alloc; "{file}{items} int main(void) {{ return 0; }}")
-}
-
-/// A program of the file, in which `main` has these statements.
-fn with_statements(alloc: Global, statements: &str) -> Result<String, AllocError> {
-    let file = FILE;
-    format!(in alloc; "{file}int main(void) {{ {statements} return 0; }}")
-}
-
-/// Asserts that the file is typed with each of these items after it.
-pub(crate) fn assert_items_typed(
-    rt: &(impl Abort + AllocGlobal),
-    table: &[&str],
-) -> Result<(), Fail> {
-    for items in table {
-        assert_typed(rt, with_items(rt.alloc(), items)?.as_str())?;
-    }
-    Ok(())
-}
-
-/// Asserts that the file is refused with each of these items after it.
-pub(crate) fn assert_items_refused(
-    rt: &(impl Abort + AllocGlobal),
-    table: &[(&str, &str)],
-) -> Result<(), Fail> {
-    for (items, fault) in table {
-        assert_refused(rt, with_items(rt.alloc(), items)?.as_str(), fault)?;
-    }
-    Ok(())
-}
-
-/// Asserts that the file is typed with each of these statements in `main`.
-pub(crate) fn assert_statements_typed(
-    rt: &(impl Abort + AllocGlobal),
-    table: &[&str],
-) -> Result<(), Fail> {
-    for statements in table {
-        assert_typed(rt, with_statements(rt.alloc(), statements)?.as_str())?;
-    }
-    Ok(())
-}
-
-/// Asserts that the file is refused with each of these statements in `main`.
-pub(crate) fn assert_statements_refused(
-    rt: &(impl Abort + AllocGlobal),
-    table: &[(&str, &str)],
-) -> Result<(), Fail> {
-    for (statements, fault) in table {
-        assert_refused(rt, with_statements(rt.alloc(), statements)?.as_str(), fault)?;
-    }
-    Ok(())
 }

@@ -1,7 +1,6 @@
 //! What each name of a typed program names, and the cells of its structs.
 
 use crate::typing::typed;
-use crate::typing_limits::add_numbered;
 use sharc_ctype::layout::StructCells;
 use sharc_ctype::typed::{Typed, layout};
 use sharc_names::fault::Named;
@@ -180,6 +179,24 @@ fn structs_have_a_cell_for_each_field(rt: HostRuntime) -> Result<(), Fail> {
         let found = cells_of(&rt, fields)?;
         assert_eq!(rt; found.cells, *cells, "{fields}");
         assert_eq!(rt; found.pointers, [*pointers, 0, 0, 0], "{fields}");
+    }
+    Ok(())
+}
+
+/// Adds a text for each of these numbers: what comes before the number and after it.
+fn add_numbered(
+    alloc: Global,
+    text: &mut String,
+    before: &str,
+    from: usize,
+    until: usize,
+    after: &str,
+) -> Result<(), AllocError> {
+    for number in from..until {
+        let digits = format!(in alloc; "{number}")?;
+        text.push_str(before)?;
+        text.push_str(digits.as_str())?;
+        text.push_str(after)?;
     }
     Ok(())
 }
