@@ -1,13 +1,15 @@
-//! What the checker does: tests alone, a folder for each crate that they are of.
+//! What no text of the program shows of the checker: casts that are written into trees, copies, and long sources.
 //!
-//! No crate depends on this one, and it has no code of its own.
+//! Tests alone: no crate depends on this one, and it has no code of its own.
 #![tactic(auto)]
 
 #[cfg(test)]
-mod check;
+mod copied;
 #[cfg(test)]
-mod infer;
+mod long;
 #[cfg(test)]
-mod live;
+mod repaired;
 #[cfg(test)]
 mod sources;
+#[cfg(test)]
+mod told;

@@ -1,12 +1,13 @@
-//! A source as the inference finds it, and as the checker accepts it.
+//! The program of a source, with the modes that it is inferred to have.
 
-use sharc_check::{Checked, check};
 use sharc_ctype::typed::{Typed, type_program};
 use sharc_infer::infer;
 use sharc_lex::lex;
 use sharc_mode::moded::Moded;
 use sharc_parse::parse;
 use sharc_reach::reach;
+use sharc_report::explain_text;
+use std::alloc::{AllocError, Global};
 use std::process::Abort;
 use std::test::Fail;
 
@@ -38,17 +39,9 @@ pub(crate) fn inferred(rt: &(impl Abort + AllocGlobal), source: &str) -> Result<
     }
 }
 
-/// The accepted program of a source.
-pub(crate) fn checked(rt: &(impl Abort + AllocGlobal), source: &str) -> Result<Checked, Fail> {
-    let typed = typed(rt, source)?;
-    match reach(rt.alloc(), &typed) {
-        Err(_) => panic!(rt; "no memory"),
-        Ok(reached) => match infer(rt.alloc(), typed, &reached) {
-            Err(_) => panic!(rt; "no memory"),
-            Ok(moded) => match check(rt.alloc(), moded, &reached) {
-                Ok(checked) => Ok(checked),
-                Err(_) => panic!(rt; "not accepted: {source}"),
-            },
-        },
-    }
+/// What `explain` writes of a program before its verdict; the program ends here.
+pub(crate) fn explained(alloc: Global, m: Moded) -> Result<Vec<u8>, AllocError> {
+    let text = explain_text(alloc, &m);
+    drop(m);
+    text
 }

@@ -1,12 +1,16 @@
 //! Sources with suggested casts written into their trees: the mismatch is gone, and all else is reported as before.
 
-use crate::check::tables::{FILE, text_or_end};
-use crate::check::told::{Answer, Refusal, Telling, Untold, judged, moded, said, types};
+use crate::sources::{explained, inferred};
+use crate::told::{Answer, Refusal, judged, said};
 use sharc_mode::moded::Moded;
 use sharc_suggest_laws::apply;
 use std::alloc::{AllocError, Global};
 use std::process::Abort;
 use std::test::Fail;
+
+/// What comes before each source, on one line.
+const FILE: &str =
+    "struct s { int n; struct s * next; mutex m; int locked(m) * q; }; mutex m; int main(void) { return 0; }\n";
 
 /// A program with the first cast that is suggested for its errors.
 fn first_applied(alloc: Global, refused: &Refusal) -> Result<Moded, AllocError> {
@@ -33,49 +37,26 @@ fn with_a_cast(alloc: Global, m: Moded) -> Result<Moded, AllocError> {
     }
 }
 
-/// The program of a source, with this many casts applied one by one.
-fn repaired(alloc: Global, source: &[u8], casts: u32) -> Result<Moded, Untold> {
-    let mut m = moded(alloc, source)?;
+/// The program of a source after the file, with this many casts applied one by one.
+fn repaired(rt: &(impl Abort + AllocGlobal), items: &str, casts: u32) -> Result<Moded, Fail> {
+    let source = format!(in rt.alloc(); "{FILE}{items}")?;
+    let mut m = inferred(rt, source.as_str())?;
     for _cast in 0..casts {
-        m = with_a_cast(alloc, m)?;
+        m = with_a_cast(rt.alloc(), m)?;
     }
     Ok(m)
 }
 
-/// What is reported of it then.
-fn told(alloc: Global, telling: Telling, source: &[u8], casts: u32) -> Result<Vec<u8>, Untold> {
-    match telling {
-        Telling::Verdict => Ok(judged(alloc, repaired(alloc, source, casts)?)?),
-        Telling::Explanation => Ok(types(alloc, repaired(alloc, source, casts)?)?),
-    }
-}
-
-/// Asserts what is reported of a source after the file with this many casts applied.
-fn assert_case(
-    rt: &(impl Abort + AllocGlobal),
-    telling: Telling,
-    casts: u32,
-    items: &str,
-    wanted: &str,
-) -> Result<(), Fail> {
-    let source = format!(in rt.alloc(); "{FILE}{items}")?;
-    let text = told(rt.alloc(), telling, source.as_bytes(), casts);
-    let text = text_or_end(rt, source.as_str(), text);
-    assert_eq!(rt; String::from_utf8(text)?.as_str(), wanted, "{items}");
-    Ok(())
-}
-
-/// Asserts what is reported of each source of a table with this many casts applied.
-fn assert_repaired(
-    rt: &(impl Abort + AllocGlobal),
-    telling: Telling,
-    casts: u32,
-    table: &str,
-) -> Result<(), Fail> {
+/// Asserts the verdict on each source of a table with this many casts applied. Behind a source are a line `--` and its
+/// verdict; a line `==` separates two sources.
+fn assert_repaired(rt: &(impl Abort + AllocGlobal), casts: u32, table: &str) -> Result<(), Fail> {
     for case in table.split("==\n") {
         match case.split_once("--\n") {
             None => panic!(rt; "no case: {case}"),
-            Some((items, wanted)) => assert_case(rt, telling, casts, items, wanted)?,
+            Some((items, wanted)) => {
+                let text = judged(rt.alloc(), repaired(rt, items, casts)?)?;
+                assert_eq!(rt; String::from_utf8(text)?.as_str(), wanted, "{items}");
+            }
         }
     }
     Ok(())
@@ -159,7 +140,7 @@ input:6: M2 write to readonly limit
 
 #[test]
 fn a_mismatch_with_its_cast_is_gone(rt: HostRuntime) -> Result<(), Fail> {
-    assert_repaired(&rt, Telling::Verdict, 1, ONE)
+    assert_repaired(&rt, 1, ONE)
 }
 
 /// Casts that are written one after the other.
@@ -180,7 +161,7 @@ accepted
 
 #[test]
 fn casts_are_written_one_by_one(rt: HostRuntime) -> Result<(), Fail> {
-    assert_repaired(&rt, Telling::Verdict, 3, THREE)
+    assert_repaired(&rt, 3, THREE)
 }
 
 /// A cast in each form that can hold one, 31 in all.
@@ -217,11 +198,11 @@ accepted
 
 #[test]
 fn each_form_holds_a_cast(rt: HostRuntime) -> Result<(), Fail> {
-    assert_repaired(&rt, Telling::Verdict, 31, FORMS)
+    assert_repaired(&rt, 31, FORMS)
 }
 
-/// The modes of what was there, with reasons before and after the cast.
-const MODES: &str = "int g;
+/// A source in which positions of a mismatch have reasons.
+const REASONS: &str = "int g;
 void t(int * p) { g = *p; }
 void r(void) {
 int private * y = malloc(sizeof(int));
@@ -232,8 +213,10 @@ join(spawn(t, NULL)); }
 void w(int * p) {
 int * q = p;
 print(*q); }
---
-input:1: global m: mutex racy
+";
+
+/// What `explain` writes of it with the cast.
+const KEPT: &str = "input:1: global m: mutex racy
 input:2: global g: int dynamic
   depth 0: touched in t
 input:3: parameter p: int dynamic * private
@@ -250,5 +233,7 @@ input:11: local q: int dynamic * private
 
 #[test]
 fn modes_of_what_was_there_are_kept(rt: HostRuntime) -> Result<(), Fail> {
-    assert_repaired(&rt, Telling::Explanation, 1, MODES)
+    let text = explained(rt.alloc(), repaired(&rt, REASONS, 1)?)?;
+    assert_eq!(rt; String::from_utf8(text)?.as_str(), KEPT);
+    Ok(())
 }

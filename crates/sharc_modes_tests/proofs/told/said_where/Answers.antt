@@ -1,6 +1,6 @@
 use Rattle.std.proofs.Common.{sym, subst}
 use Rattle.sharc_check.specs.Named.{TellNamed}
-use Rattle.sharc_modes_tests.proofs.check.told.said_where.Goals as goal
+use Rattle.sharc_modes_tests.proofs.told.said_where.Goals as goal
 
 pub refused-requires : goal.refused-requires
 refused-requires c =
