@@ -6,19 +6,15 @@
 #![tactic(auto)]
 
 #[cfg(test)]
-mod expressions;
-#[cfg(test)]
 mod faults;
 #[cfg(test)]
-mod items;
-#[cfg(test)]
 mod nodes;
+#[cfg(test)]
+mod parts;
 #[cfg(test)]
 mod reach;
 #[cfg(test)]
 mod sources;
-#[cfg(test)]
-mod statements;
 #[cfg(test)]
 mod tables;
 #[cfg(test)]

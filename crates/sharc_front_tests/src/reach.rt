@@ -71,26 +71,18 @@ fn answers(rt: &(impl Abort + AllocGlobal), source: &str) -> Result<Vec<u8>, Fai
     text
 }
 
-/// Asserts what is answered for each source of a table.
-fn assert_answers(rt: &(impl Abort + AllocGlobal), table: &str) -> Result<(), Fail> {
+/// Asserts what is answered for each source of a table, with these texts before and after it.
+fn assert_answers(
+    rt: &(impl Abort + AllocGlobal),
+    table: &str,
+    before: &str,
+    after: &str,
+) -> Result<(), Fail> {
     for case in table.lines() {
-        let (source, want) = two_parts(rt, case);
-        let text = answers(rt, source)?;
-        assert_eq!(rt; text.as_slice(), want.as_bytes(), "{source}");
-    }
-    Ok(())
-}
-
-/// Asserts what is answered for each body of a spawned function that follows three globals and two functions.
-fn assert_bodies(rt: &(impl Abort + AllocGlobal), table: &str) -> Result<(), Fail> {
-    for case in table.lines() {
-        let (body, want) = two_parts(rt, case);
-        let source = format!(in rt.alloc();
-            "int g; int * p; int a[3]; int h(void) {{ return 0; }} int id(int n) {{ return n; }} \
-void f(int n) {{ {body} }} int main(void) {{ join(spawn(f, 1)); return 0; }}"
-        )?;
+        let (source, wanted) = two_parts(rt, case);
+        let source = format!(in rt.alloc(); "{before}{source}{after}")?;
         let text = answers(rt, source.as_str())?;
-        assert_eq!(rt; text.as_slice(), want.as_bytes(), "{body}");
+        assert_eq!(rt; text.as_slice(), wanted.as_bytes(), "{source}");
     }
     Ok(())
 }
@@ -110,7 +102,7 @@ int k(int n) { return n; } void f(int n) { spawn(f, k(n)); } int main(void) { re
 
 #[test]
 fn reached_functions(rt: HostRuntime) -> Result<(), Fail> {
-    assert_answers(&rt, REACHED)
+    assert_answers(&rt, REACHED, "", "")
 }
 
 /// Sources, which of their functions are reached, and the first of these that touches each global. In order: two
@@ -131,7 +123,7 @@ int g; struct s { int g; }; void f(struct s * x) { x->g = 1; } int main(void) { 
 
 #[test]
 fn touched_globals(rt: HostRuntime) -> Result<(), Fail> {
-    assert_answers(&rt, TOUCHED)
+    assert_answers(&rt, TOUCHED, "", "")
 }
 
 /// The same, with globals in the paths of locks. In order: in the type of a cast, a parameter, a local, the local of a
@@ -152,8 +144,15 @@ mutex m; struct s { int locked(m) n; }; void f(struct s * x) { x->n = 1; } int m
 
 #[test]
 fn globals_in_lock_paths(rt: HostRuntime) -> Result<(), Fail> {
-    assert_answers(&rt, IN_PATHS)
+    assert_answers(&rt, IN_PATHS, "", "")
 }
+
+/// What comes before the body of a spawned function: three globals and two functions.
+const BEFORE_BODY: &str =
+    "int g; int * p; int a[3]; int h(void) { return 0; } int id(int n) { return n; } void f(int n) { ";
+
+/// What comes after it.
+const AFTER_BODY: &str = " } int main(void) { join(spawn(f, 1)); return 0; }";
 
 /// Bodies that name globals in each construct, with what is answered.
 const NAMES: &str = "g = 1; => 0010 2 - -
@@ -190,7 +189,7 @@ n = a[1 + g]; => 0010 2 - 2
 
 #[test]
 fn globals_in_each_construct(rt: HostRuntime) -> Result<(), Fail> {
-    assert_bodies(&rt, NAMES)
+    assert_answers(&rt, NAMES, BEFORE_BODY, AFTER_BODY)
 }
 
 /// The same with calls.
@@ -218,5 +217,5 @@ id(n + h()); => 1110 - - -
 
 #[test]
 fn calls_in_each_construct(rt: HostRuntime) -> Result<(), Fail> {
-    assert_bodies(&rt, CALLS)
+    assert_answers(&rt, CALLS, BEFORE_BODY, AFTER_BODY)
 }

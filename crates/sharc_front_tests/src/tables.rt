@@ -9,10 +9,3 @@ pub(crate) fn two_parts<'a>(rt: &impl Abort, case: &'a str) -> (&'a str, &'a str
         None => panic!(rt; "no case of two parts: {case}"),
     }
 }
-
-/// The three parts of a case.
-pub(crate) fn three_parts<'a>(rt: &impl Abort, case: &'a str) -> (&'a str, &'a str, &'a str) {
-    let (first, rest) = two_parts(rt, case);
-    let (second, third) = two_parts(rt, rest);
-    (first, second, third)
-}

@@ -1,94 +1,71 @@
-//! Trees that the parser made: their copies, their printed texts, and the calls that look into them.
+//! Trees that the parser made: their copies, and the calls that look into them and print them.
 
 use crate::nodes::{Node, at, expressions_of, nodes_of};
-use crate::sources::{last_function, program};
-use crate::tables::three_parts;
+use crate::parts::returned;
+use crate::sources::{last_function, program, text_of};
 use sharc_lex::lex;
 use sharc_tree::ctype::{Base, CType, Levels, Mode, Path};
 use sharc_tree::event::{Act, SourceEvent, SourceEvents};
 use sharc_tree::name::{Name, Names};
 use sharc_tree::print::{print_span, print_type};
 use sharc_tree::token::{Site, Span};
-use sharc_tree::tree::{Expr, Item, Items, Program, Stmt, WrittenType};
-use std::alloc::{AllocError, Global};
+use sharc_tree::tree::{Items, Program, Stmt};
+use std::alloc::AllocError;
 use std::process::Abort;
 use std::test::Fail;
 
-/// The tokens of each node of a program, and the texts of its names and types.
-#[derive(Drop)]
-struct Met {
-    spans: Vec<Span>,
-    texts: Vec<u8>,
-}
-
-fn add_span(span: Span, met: &mut Met) -> Result<(), AllocError> {
-    met.spans.push(span)?;
-    Ok(())
-}
-
-fn add_text(text: &[u8], met: &mut Met) -> Result<(), AllocError> {
-    met.texts.extend_from_slice(text)?;
-    met.texts.push(b'\n')?;
-    Ok(())
-}
-
-fn add_type(alloc: Global, written: &WrittenType, met: &mut Met) -> Result<(), AllocError> {
-    add_span(written.span, met)?;
-    add_span(at(written.base), met)?;
-    let text = print_type(alloc, &written.ctype)?;
-    add_text(text.as_slice(), met)
-}
-
-fn add_node(alloc: Global, node: Node<'_>, met: &mut Met) -> Result<(), AllocError> {
-    match node {
-        Node::Tokens(span) => add_span(span, met),
-        Node::Expr(expr) => add_span(expr.span(), met),
-        Node::Type(written) => add_type(alloc, written, met),
-        Node::Name(name) => {
-            add_span(at(name.site), met)?;
-            add_text(name.text.as_slice(), met)
-        }
-    }
-}
-
-/// What the nodes of a program have.
-fn all_met(alloc: Global, program: &Program) -> Result<Met, AllocError> {
-    let mut met = Met {
-        spans: Vec::new(alloc),
-        texts: Vec::new(alloc),
-    };
-    for node in nodes_of(alloc, program)? {
-        add_node(alloc, node, &mut met)?;
-    }
-    Ok(met)
-}
-
-/// The text of a span.
-fn text_of(
+/// Adds a line for a span: the file of its first token, the lines of its first and its last, and its text.
+fn add_span(
     rt: &(impl Abort + AllocGlobal),
     program: &Program,
     span: Span,
-) -> Result<Vec<u8>, Fail> {
-    let from = span.first.token;
-    let to = span.last.token;
-    assert!(rt; from <= to);
-    assert!(rt; (to as usize) < program.tokens.list.len());
-    Ok(print_span(rt.alloc(), program, from, to)?)
+    texts: &mut Vec<u8>,
+) -> Result<(), Fail> {
+    let place = format!(in rt.alloc();
+        "{}:{}-{}: ",
+        span.first.file, span.first.line, span.last.line
+    )?;
+    texts.extend_from_slice(place.as_bytes())?;
+    texts.extend_from_slice(&text_of(rt, program, span)?)?;
+    texts.push(b'\n')?;
+    Ok(())
 }
 
-/// The texts of a program's names and types, and after them that of each node, with the file and the line of its first
-/// token.
+/// Adds a line for a text in a tree.
+fn add_text(text: &[u8], texts: &mut Vec<u8>) -> Result<(), AllocError> {
+    texts.extend_from_slice(text)?;
+    texts.push(b'\n')?;
+    Ok(())
+}
+
+/// Adds the lines of a node: those of its tokens, and of the name or type that it has.
+fn add_node(
+    rt: &(impl Abort + AllocGlobal),
+    program: &Program,
+    node: Node<'_>,
+    texts: &mut Vec<u8>,
+) -> Result<(), Fail> {
+    match node {
+        Node::Tokens(span) => add_span(rt, program, span, texts)?,
+        Node::Expr(expr) => add_span(rt, program, expr.span(), texts)?,
+        Node::Type(written) => {
+            add_text(&print_type(rt.alloc(), &written.ctype)?, texts)?;
+            add_span(rt, program, written.span, texts)?;
+            add_span(rt, program, at(written.base), texts)?;
+        }
+        Node::Name(name) => {
+            add_text(name.text.as_slice(), texts)?;
+            add_span(rt, program, at(name.site), texts)?;
+        }
+    }
+    Ok(())
+}
+
+/// The lines of all nodes of a program.
 fn texts(rt: &(impl Abort + AllocGlobal), program: &Program) -> Result<Vec<u8>, Fail> {
-    let Met { spans, mut texts } = all_met(rt.alloc(), program)?;
-    for span in spans.as_slice() {
-        let text = text_of(rt, program, *span)?;
-        let line = format!(in rt.alloc();
-            "{}:{}-{}: ",
-            span.first.file, span.first.line, span.last.line
-        )?;
-        texts.extend_from_slice(line.as_bytes())?;
-        texts.extend_from_slice(text.as_slice())?;
-        texts.push(b'\n')?;
+    let mut texts = Vec::new(rt.alloc());
+    for node in nodes_of(rt.alloc(), program)? {
+        add_node(rt, program, node, &mut texts)?;
     }
     Ok(texts)
 }
@@ -154,16 +131,60 @@ fn texts_of_copy(rt: &(impl Abort + AllocGlobal), source: &Program) -> Result<Ve
     found
 }
 
+/// The lines of its first item.
+const FIRST_LINES: &[u8] =
+    b"1:7-13: struct s{mutex racy m;int locked(m)n;locked(m)char c;long d;struct s dynamic*private*next;};
+s
+1:7-7: s
+1:8-8: mutex racy m
+mutex racy
+1:8-8: mutex racy
+1:8-8: mutex
+m
+1:8-8: m
+1:9-9: int locked(m)n
+int locked(m)
+1:9-9: int locked(m)
+1:9-9: int
+n
+1:9-9: n
+1:10-10: locked(m)char c
+char locked(m)
+1:10-10: locked(m)char
+1:10-10: char
+c
+1:10-10: c
+1:11-11: long d
+long
+1:11-11: long
+1:11-11: long
+d
+1:11-11: d
+1:12-12: struct s dynamic*private*next
+struct s dynamic * private *
+1:12-12: struct s dynamic*private*
+1:12-12: s
+next
+1:12-12: next
+";
+
+/// Those of its last.
+const LAST_LINES: &[u8] = b"2:27-27: int main(void){return;}
+2:27-27: {return;}
+int
+2:27-27: int
+2:27-27: int
+main
+2:27-27: main
+2:27-27: return;
+";
+
 /// Asserts that the texts of a program and of its copy are the same, and with which they begin and end.
 fn assert_texts(rt: &(impl Abort + AllocGlobal), source: &Program) -> Result<(), Fail> {
     let found = texts_of_copy(rt, source)?;
     assert_eq!(rt; found.as_slice(), texts(rt, source)?.as_slice());
-    let names =
-        b"s\nmutex racy\nm\nint locked(m)\nn\nchar locked(m)\nc\nlong\nd\nstruct s dynamic * private *\nnext\n";
-    assert!(rt; found.starts_with(names.as_slice()));
-    let last =
-        b"2:27-27: int main(void){return;}\n2:27-27: {return;}\n2:27-27: int\n2:27-27: int\n2:27-27: main\n2:27-27: return;\n";
-    assert!(rt; found.ends_with(last.as_slice()));
+    assert!(rt; found.starts_with(FIRST_LINES));
+    assert!(rt; found.ends_with(LAST_LINES));
     Ok(())
 }
 
@@ -173,116 +194,6 @@ fn copies_have_the_nodes_of_their_sources(rt: HostRuntime) -> Result<(), Fail> {
     let asserted = assert_texts(&rt, &source);
     drop(source);
     asserted
-}
-
-/// Whether the types of two globals are the same; each is the same as its copy.
-fn sameness(
-    rt: &(impl Abort + AllocGlobal),
-    program: &Program,
-) -> Result<&'static str, AllocError> {
-    let [Item::Global(first), Item::Global(second)] = program.items.as_slice() else {
-        panic!(rt; "no two globals")
-    };
-    let left = &first.declaration.written.ctype;
-    let right = &second.declaration.written.ctype;
-    assert!(rt; left.equals(&left.copy(rt.alloc())?));
-    Ok(if left.equals(right) { "same" } else { "other" })
-}
-
-/// Asserts whether two types are the same.
-fn assert_types(
-    rt: &(impl Abort + AllocGlobal),
-    one: &str,
-    other: &str,
-    wanted: &str,
-) -> Result<(), Fail> {
-    let source = format!(in rt.alloc(); "{one} a; {other} b;")?;
-    let program = program(rt, source.as_bytes())?;
-    let found = sameness(rt, &program);
-    drop(program);
-    assert_eq!(rt; found?, wanted, "{source}");
-    Ok(())
-}
-
-/// Two types, and whether they are the same.
-const TYPES: &str = "int => int => same
-int => char => other
-struct s => struct s => same
-struct s => struct t => other
-int * => int => other
-int private * => private int * => same
-int private * => int racy * => other
-int private * => int * => other
-long dynamic * readonly => long dynamic * readonly => same
-int locked(m) => int locked(m) => other
-int locked(x->m) => int locked(x->n) => other
-";
-
-#[test]
-fn types_are_told_apart(rt: HostRuntime) -> Result<(), Fail> {
-    for case in TYPES.lines() {
-        let (one, other, wanted) = three_parts(&rt, case);
-        assert_types(&rt, one, other, wanted)?;
-    }
-    Ok(())
-}
-
-/// What the last function of a program returns.
-fn returned<'a>(rt: &(impl Abort + AllocGlobal), program: &'a Program) -> &'a Expr {
-    let Some(Stmt::Return(_, Some(value))) = last_function(rt, program).statements.last() else {
-        panic!(rt; "no value")
-    };
-    value
-}
-
-/// What the returned expression is, and its text without parentheses.
-fn form(
-    rt: &(impl Abort + AllocGlobal),
-    program: &Program,
-) -> Result<(&'static str, Vec<u8>), Fail> {
-    let value = returned(rt, program);
-    let text = text_of(rt, program, value.without_parentheses().span())?;
-    Ok((if value.is_lvalue() { "lvalue" } else { "value" }, text))
-}
-
-/// Asserts both of an expression.
-fn assert_form(
-    rt: &(impl Abort + AllocGlobal),
-    expression: &str,
-    inner: &str,
-    wanted: &str,
-) -> Result<(), Fail> {
-    let source = format!(in rt.alloc(); "int f(void) {{ return {expression}; }}")?;
-    let program = program(rt, source.as_bytes())?;
-    let found = form(rt, &program);
-    drop(program);
-    let (is, text) = found?;
-    assert_eq!(rt; is, wanted, "{expression}");
-    assert_eq!(rt; text.as_slice(), inner.as_bytes(), "{expression}");
-    Ok(())
-}
-
-/// Expressions, with their texts without parentheses, and what they are.
-const FORMS: &str = "x => x => lvalue
-((x)) => x => lvalue
-(*p).f => (*p).f => lvalue
-(a[1]) => a[1] => lvalue
-p->f => p->f => lvalue
-*p => *p => lvalue
-f(1) => f(1) => value
--x => -x => value
-(x + 1) => x+1 => value
-(NULL) => NULL => value
-SCAST(int *, p) => SCAST(int*,p) => value
-";
-
-#[test]
-fn lvalues_are_told_by_their_form(rt: HostRuntime) -> Result<(), Fail> {
-    for case in FORMS.lines() {
-        let (expression, inner, wanted) = three_parts(&rt, case);
-        assert_form(&rt, expression, inner, wanted)?;
-    }
-    Ok(())
 }
 
 /// Asserts the parts of a function with a block of two statements, which returns a call of `g` with three arguments.

@@ -120,18 +120,13 @@ fn assert_names(rt: &(impl Abort + AllocGlobal), typed: &Typed, names: &str) -> 
     Ok(())
 }
 
-/// Asserts it of a copy.
-fn assert_copied(rt: &(impl Abort + AllocGlobal), typed: &Typed, names: &str) -> Result<(), Fail> {
+/// Asserts it of a program and of a copy.
+fn assert_both(rt: &(impl Abort + AllocGlobal), typed: &Typed, names: &str) -> Result<(), Fail> {
+    assert_names(rt, typed, names)?;
     let copy = typed.copy(rt.alloc())?;
     let asserted = assert_names(rt, &copy, names);
     drop(copy);
     asserted
-}
-
-/// Asserts it of a program and of a copy.
-fn assert_both(rt: &(impl Abort + AllocGlobal), typed: &Typed, names: &str) -> Result<(), Fail> {
-    assert_names(rt, typed, names)?;
-    assert_copied(rt, typed, names)
 }
 
 /// Asserts it of a source.
@@ -183,24 +178,6 @@ fn structs_have_a_cell_for_each_field(rt: HostRuntime) -> Result<(), Fail> {
     Ok(())
 }
 
-/// Adds a text for each of these numbers: what comes before the number and after it.
-fn add_numbered(
-    alloc: Global,
-    text: &mut String,
-    before: &str,
-    from: usize,
-    until: usize,
-    after: &str,
-) -> Result<(), AllocError> {
-    for number in from..until {
-        let digits = format!(in alloc; "{number}")?;
-        text.push_str(before)?;
-        text.push_str(digits.as_str())?;
-        text.push_str(after)?;
-    }
-    Ok(())
-}
-
 /// Fields up to a number, of which those from one number to another are pointers.
 fn many_fields(
     alloc: Global,
@@ -209,9 +186,16 @@ fn many_fields(
     until: usize,
 ) -> Result<String, AllocError> {
     let mut text = String::new(alloc);
-    add_numbered(alloc, &mut text, "int n", 0, before, ";")?;
-    add_numbered(alloc, &mut text, "int * p", before, between, ";")?;
-    add_numbered(alloc, &mut text, "mutex n", between, until, ";")?;
+    for number in 0..until {
+        let opening = if number < before {
+            "int n"
+        } else if number < between {
+            "int * n"
+        } else {
+            "mutex n"
+        };
+        text.push_str(format!(in alloc; "{opening}{number};")?.as_str())?;
+    }
     Ok(text)
 }
 
