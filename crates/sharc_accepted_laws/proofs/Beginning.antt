@@ -67,9 +67,7 @@ signed_value c minus n is = ap (λ z. cond minus (neg_ℤ z) z) is
 -- of an element that is an integer
 integer_fields : (m : Assignment) (q : FieldMode) (b : Base) → is_integral b ≡ true → (slice_index_or (base_fields m q b) 0 no_field).holds ≡ Integer (base_as_width b)
 integer_fields m q Base.Mutex is = absurd (false≢true is)
-integer_fields m q Base.Void is = absurd (false≢true is)
-integer_fields m q (Base.Struct name) is = absurd (false≢true is)
-integer_fields m q _ is = refl
+integer_fields m q _ is = cc
 
 pub is_some_base : (b c : Base) (n k : ℕ) → object b n ≡ object c k → b ≡ c
 is_some_base b c n k h = cc

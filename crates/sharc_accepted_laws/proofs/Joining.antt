@@ -9,9 +9,7 @@ use Rattle.sharc_accepted_laws.specs.Accesses.{of_global}
 -- ---- contents
 integer_by : (b : Base) → kinds.is_integral b ≡ true → base_content b ≡ Integer (width_of (object b 0))
 integer_by Base.Mutex h = absurd (false≢true h)
-integer_by Base.Void h = absurd (false≢true h)
-integer_by (Base.Struct name) h = absurd (false≢true h)
-integer_by _ h = refl
+integer_by _ h = cc
 
 no_stars : (b : Base) (stars : ℕ) → is_integer (object b (suc stars)) ≡ true → ⊥
 no_stars b stars is = by (suc stars == 0) refl is
@@ -27,10 +25,8 @@ integer_content m e n modes _ holds is fits = absurd (false≢true is)
 
 integer_plain : (k : Kind) → is_integer k ≡ true → is_mutex_kind k ≡ false
 integer_plain (object Base.Char zero) is = refl
-integer_plain (object Base.Int zero) is = refl
-integer_plain (object Base.Long zero) is = refl
 integer_plain (object b (suc stars)) is = absurd (no_stars b stars is)
-integer_plain _ is = absurd (false≢true is)
+integer_plain _ is = cc
 
 -- ---- registers
 module _ (c : Context) (code : Code) (y : Typing) (f : ℕ) (e : Expression) (ground : Ground) (suits : IsGroundOf c e ground) (element : Element) (i r : ℕ) (q : Label) where

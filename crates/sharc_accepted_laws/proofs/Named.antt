@@ -5,11 +5,8 @@ no_callee : (r : Resolution) (i : Identifier) (ps : List Kind) (result : Kind) �
 no_callee r i _ _ (of_program {n = n} f is at spelled other) g names = let h : Named.Function n ≡ Named.Global g = sym is ∙ names in cc
 no_callee r i _ _ (of_conditions w is spelled) g names = let h : Named.Known ≡ Named.Global g = sym is ∙ names in cc
 
-no_variable : (token g : ℕ) → Named.Variable token ≡ Named.Global g → ⊥
-no_variable token g h = cc
-
 global_low : (r : Resolution) (s : Span) (i : Identifier) (k : Kind) → HasType r (identifier s i) k → (g : ℕ) → named_at r i.site.token ≡ Named.Global g → g < length (globals_in r.program.items)
-global_low r s i _ (a_variable {token = token} is at spelled) g names = absurd (no_variable token g (sym is ∙ names))
+global_low r s i _ (a_variable {token = token} is at spelled) g names = absurd (cc (sym is ∙ names))
 global_low r s i _ (a_global {n = n} {g = d} is at spelled) g names = subst (λ k. k < length (globals_in r.program.items)) (same_global n g (sym is ∙ names)) (got_low (globals_in r.program.items) n d at)
 global_low r s i _ (a_function q) g names = absurd (no_callee r i _ _ q g names)
 
