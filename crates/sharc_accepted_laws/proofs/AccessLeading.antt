@@ -1,5 +1,5 @@
 -- The lock path of the type of an element leads to a mutex: it is that of the type of the pointer through which the lvalue leads.
-use Rattle.sharc_accepted_laws.proofs.{Imports.{◌≡◌, Bool, true, false, cond, List, [], ◌∷◌, refl, subst, Option, Some, None, AllByRecursion, Dot, Arrow, Dereference, expressions, Expression, parentheses, index, field, unary, is_array, Resolution, named_at, kind_at, modes_at, Lock, Sharing, locked, IsExpression, Context, PathNamed, IfThere, IsAccepted, LeadsToMutex, by_global, by_variable, AllLead, ExpressionsLead, AllStand, ExpressionStands, pointer_of, list_or, modes_of_pointer, LockLeads, to_global, to_variable, MutexesBehind, PathsLead, same_some, none_some, front}, Members.{first_of as self}}
+use Rattle.sharc_accepted_laws.proofs.{Imports.{◌≡◌, Bool, true, false, cond, List, ◌∷◌, refl, subst, Option, Some, None, AllByRecursion, Dot, Arrow, Dereference, expressions, Expression, parentheses, index, field, unary, is_array, Resolution, named_at, kind_at, modes_at, Lock, Sharing, locked, IsExpression, Context, PathNamed, IfThere, IsAccepted, LeadsToMutex, by_global, by_variable, AllLead, ExpressionsLead, AllStand, ExpressionStands, pointer_of, list_or, modes_of_pointer, LockLeads, to_global, to_variable, MutexesBehind, PathsLead, same_some, none_some, front}, Members.{first_of as self}}
 
 -- the pointer is a part of the lvalue
 module _ (r : Resolution) (P : Expression → Type 0) where

@@ -1,5 +1,5 @@
 -- What no thread reaches, and that private globals are named there alone.
-use Rattle.sharc_accepted_laws.proofs.{Imports.{◌≡◌, ◌⊎◌, inl, inr, ⊎_elim, ℕ, zero, suc, ◌+◌, ◌<◌, ◌≤◌, Bool, true, false, cond, ◌&&◌, List, [], ◌∷◌, ◌++◌, length, slice_get, refl, ap, sym, ◌∙◌, subst, arith, Option, Some, None, IsSomeAnd, Contains, false≢true, and_parts, get_or as slice_index_or, AllByRecursion, option_or, Base, Mode, Private, Readonly, Locked, Racy, Span, Declaration, Identifier, WrittenType, Dot, Dereference, GlobalDefinition, expressions, in_function, Expression, Function, global, Named, Kind, is_array, declared_kind, Role, Entity, Numbered, declared, entities_in, numbered, is_told_by, positions_of, Names, Spawns, Runs, Leads, IsReached, tokens_of, Resolution, named_at, global_at, function_at, declaration_at, globals_in, functions_in, structs_in, kind_at, HasType, Callee, of_program, of_conditions, a_variable, a_global, a_function, a_field, IsItself, IsFound, EachTypeFound, EachNamesItself, EachPathFound, MeetsConstraints, NodeFinding, finding_at, is_mutex_kind, is_behind_pointer, written_cell, top_of, field_cell, declared_cell, field_named, first_mode, global_cell, named_cell, pointed, cell_at, IsFirst, Touches, IsRoot, mode_found, LinkLaws, Assignment, position_count, row_at, is_mutex, settled, settled_modes, settled_in, settled_at, Sharing, private, readonly, locked, racy, lock_of, sharing_of, RulesAreMet, ReachedAreTold, MeetsRules, in_global, in_global_at, in_object_at, global_of, own_field, named_target, target, IsInside, AreAlone, SomeAreAlone, IsAccepted, none_some, front, each, of_each}, Arrays.{IsNameOf, array_name}, Places.{InFile, FileKnown, FieldInFile, file_known, struct_fields, field_found, at_number, IfSome}, Tokens.{Named as IsAmong, names_among}, Settling.{IsPositioned, positioned}, Written.found_there, TargetLists.place_there, Found.global_low}
+use Rattle.sharc_accepted_laws.proofs.{Imports.{◌≡◌, ◌⊎◌, inl, inr, ⊎_elim, ℕ, zero, suc, ◌+◌, ◌<◌, ◌≤◌, Bool, true, false, cond, ◌&&◌, List, [], ◌∷◌, ◌++◌, length, slice_get, refl, ap, sym, ◌∙◌, subst, arith, Option, Some, None, IsSomeAnd, Contains, false≢true, and_parts, get_or as slice_index_or, AllByRecursion, option_or, Base, Mode, Private, Readonly, Locked, Racy, Span, Declaration, Identifier, WrittenType, Dot, Dereference, GlobalDefinition, expressions, in_function, Expression, Function, Named, Kind, is_array, declared_kind, Role, Entity, Numbered, declared, entities_in, numbered, is_told_by, positions_of, Names, Spawns, Runs, Leads, IsReached, tokens_of, Resolution, named_at, global_at, function_at, declaration_at, globals_in, functions_in, structs_in, kind_at, HasType, Callee, of_program, of_conditions, a_variable, a_global, a_function, a_field, IsItself, IsFound, EachTypeFound, EachNamesItself, EachPathFound, MeetsConstraints, NodeFinding, finding_at, is_mutex_kind, is_behind_pointer, written_cell, top_of, field_cell, declared_cell, field_named, first_mode, global_cell, named_cell, pointed, cell_at, IsFirst, Touches, IsRoot, mode_found, LinkLaws, Assignment, position_count, row_at, is_mutex, settled, settled_modes, settled_in, settled_at, Sharing, private, readonly, locked, racy, lock_of, sharing_of, RulesAreMet, ReachedAreTold, MeetsRules, in_global, in_global_at, in_object_at, global_of, own_field, named_target, target, IsInside, AreAlone, SomeAreAlone, IsAccepted, none_some, front, each, of_each}, Arrays.{IsNameOf, array_name}, Places.{InFile, FileKnown, FieldInFile, file_known, struct_fields, field_found, at_number, IfSome}, Tokens.{Named as IsAmong, names_among}, Settling.{IsPositioned, positioned}, Written.found_there, TargetLists.place_there, Found.global_low}
 use Rattle.sharc_tree.specs.Tree as tree
 use Rattle.sharc_mode.specs.Sharings.{is_private, is_dynamic}
 

@@ -11,13 +11,14 @@ call_is _ h = cc
 
 -- ---- in parentheses
 module _ (c : Context) where
-  record Bare (e : Expression) : Type 0 where
-    entry : entry_of c e ≡ entry_of c (without_parentheses e)
-    kind : kind_of c e ≡ kind_of c (without_parentheses e)
+  pub record Bare (e : Expression) : Type 0 where
+    pub entry : entry_of c e ≡ entry_of c (without_parentheses e)
+    pub kind : kind_of c e ≡ kind_of c (without_parentheses e)
+    pub target : target_of c e ≡ target_of c (without_parentheses e)
 
-  bare_of : (e : Expression) → Bare e
-  bare_of (tree.parentheses s a) = let b = bare_of a in record { entry = b.entry; kind = b.kind }
-  bare_of _ = record { entry = refl; kind = refl }
+  pub bare_of : (e : Expression) → Bare e
+  bare_of (tree.parentheses s a) = let b = bare_of a in record { entry = b.entry; kind = b.kind; target = b.target }
+  bare_of _ = record { entry = refl; kind = refl; target = refl }
 
 -- and what stands there
 bare_there : (g : Function) (c : Context) (e : Expression) → IsThere g c e → IsThere g c (without_parentheses e)

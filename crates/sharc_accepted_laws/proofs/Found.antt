@@ -1,5 +1,5 @@
 -- The fields and the globals of a program are entities of it, found by their tokens.
-use Rattle.sharc_accepted_laws.proofs.{Imports.{◌≡◌, ⊎_elim, ◌<◌, List, [], ◌∷◌, ◌++◌, length, map, ap, subst, Some, Contains, AllByRecursion, Declaration, GlobalDefinition, StructDefinition, LowItems, Item, structure, global, function, Role, Entity, Numbered, declared, function_entities, entities_in, numbered, entity_at, is_told_by, Resolution, structs_in, globals_in, IsFound, Assignment, IsEntity, front, back, head_or_tail, of_each, none_there}, TargetLists.each_mapped, Written.found_there}
+use Rattle.sharc_accepted_laws.proofs.{Imports.{◌≡◌, ⊎_elim, ◌<◌, List, [], ◌∷◌, length, map, ap, subst, Some, Contains, AllByRecursion, Declaration, GlobalDefinition, StructDefinition, LowItems, Item, structure, global, function, Role, Entity, Numbered, declared, function_entities, entities_in, numbered, entity_at, is_told_by, Resolution, structs_in, globals_in, IsFound, Assignment, IsEntity, front, back, head_or_tail, of_each, none_there}, TargetLists.each_mapped, Written.found_there}
 
 -- ---- what is found at the tokens of an entity
 pub record IsThere (m : Assignment) (e : Entity) : Type 0 where

@@ -1,5 +1,5 @@
 -- Good fields of the table: of one cell, and of a pointer to a shape of the program.
-use Rattle.sharc_accepted_laws.proofs.{Imports.{◌≡◌, ℕ, zero, suc, ◌+◌, ◌-◌, ◌<◌, Bool, true, false, List, [], ◌∷◌, ◌++◌, length, replicate, get_or as slice_index_or, refl, ap, sym, ◌∙◌, subst, arith, ⊎_elim, Contains, false≢true, cases_lt, AllByRecursion, Base, Assignment, Sharing, private, readonly, racy, Resolution, FieldLock, FieldMode, FieldType, Content, MutexWord, Waiters, Pointer, Field, TableTarget as Target, row_of, no_field, FieldMode as field, Form, private_form, racy_form, Shape, shapes, number, own_mode, global_mode, is_private_mode, is_private_form, starts_private, base_content, single, targets_of, both}, Numbers.numbers_found, Table.{IsGood, IsBeside, AreBeside, none_good}}
+use Rattle.sharc_accepted_laws.proofs.{Imports.{◌≡◌, ℕ, zero, suc, ◌+◌, ◌-◌, ◌<◌, Bool, true, false, List, [], ◌∷◌, ◌++◌, length, replicate, get_or as slice_index_or, refl, ap, sym, ◌∙◌, subst, arith, ⊎_elim, Contains, false≢true, cases_lt, AllByRecursion, Base, Assignment, Sharing, private, racy, Resolution, FieldLock, FieldMode, FieldType, Content, MutexWord, Waiters, Pointer, Field, TableTarget as Target, row_of, no_field, FieldMode as field, Form, private_form, racy_form, Shape, shapes, number, own_mode, global_mode, is_private_mode, is_private_form, starts_private, base_content, single, targets_of, both}, Numbers.numbers_found, Table.{IsGood, IsBeside, AreBeside, none_good}}
 use Rattle.sharc_invariant.specs.Types.{Targets, is_mutex, is_pointer}
 
 -- ---- modes of elements

@@ -147,6 +147,19 @@ pub field_found : (P : Declaration → Type 0) (list : List Declaration) (name :
 field_found P [] name d all is = absurd (none_some d is)
 field_found P (x ∷ rest) name d all is = found_or_later P x d (field_of rest name) (bytes_eq x.name.text name) is all.0 (λ h. field_found P rest name d all.1 h)
 
+-- a field that a member expression names
+pub record Member (r : Resolution) (n : Identifier) : Type 0 where
+  pub of : Declaration
+  pub field : FieldInFile r of
+  pub names : named_at r n.site.token ≡ Named.Field of.name.site.token
+
+pub a_member : (r : Resolution) → FileKnown r r.program.items → (x name : List ℕ) (d : Declaration) → IsMemberOf r x name d → FieldInFile r d
+a_member r file x name d h = field_found (FieldInFile r) h.0.fields name d (struct_fields (FieldInFile r) (structs_in r.program.items) x h.0 file.fields h.1) h.2
+
+pub member : (r : Resolution) → FileKnown r r.program.items → (s : Span) (a : Expression) (v : FieldOperator) (n : Identifier) (k : Kind) → HasType r (tree.field s a v n) k → Member r n
+member r file s a _ n _ (a_field {x = x} {d = d} t h is) = record { of = d; field = a_member r file x n.text d h; names = is }
+member r file s a _ n _ (a_field_behind {x = x} {d = d} t h is) = record { of = d; field = a_member r file x n.text d h; names = is }
+
 pub entry_there : (names : List Entry) (name : List ℕ) (e : Entry) → look_up names name ≡ Some e → (x : ℕ) → meaning_token e.meaning ≡ Some x → IsVariableIn names x
 entry_there [] name e is x h = absurd (none_some e is)
 entry_there (y ∷ rest) name e is x h = by (bytes_eq y.name name) is (entry_there rest name e)
@@ -203,19 +216,6 @@ module _ (c : Context) (least : IsLeastAssignment c.program) (file : FileKnown c
       subst (λ n. AllStand m2 c.scope (modes_of m2 (named_row r2 written n))) (sym h.name.2)
       (meaning_rows h.name.0.meaning (entry_there scope.names i.text h.name.0 h.name.1))
 
-  -- fields
-  record Member (n : Identifier) : Type 0 where
-    of : Declaration
-    field : FieldInFile r2 of
-    names : named_at r2 n.site.token ≡ Named.Field of.name.site.token
-
-  a_member : (x name : List ℕ) (d : Declaration) → IsMemberOf r2 x name d → FieldInFile r2 d
-  a_member x name d h = field_found (FieldInFile r2) h.0.fields name d (struct_fields (FieldInFile r2) (structs_in r2.program.items) x h.0 file.fields h.1) h.2
-
-  member : (s : Span) (a : Expression) (v : FieldOperator) (n : Identifier) (k : Kind) → HasType r2 (tree.field s a v n) k → Member n
-  member s a _ n _ (a_field {x = x} {d = d} t h is) = record { of = d; field = a_member x n.text d h; names = is }
-  member s a _ n _ (a_field_behind {x = x} {d = d} t h is) = record { of = d; field = a_member x n.text d h; names = is }
-
   pointer_name : (s : Span) (i : Identifier) (k : Kind) → HasType r2 (tree.identifier s i) k → is_pointer k ≡ true → (t : ℕ) → named_at r2 i.site.token ≡ Named.Variable t → right_kind r2 t ≡ true
   pointer_name s i _ (a_variable is at spelled) p t n = ap (right_kind r2) (same_token _ _ (sym n ∙ is)) ∙ ap (λ o. is_pointer (variable_kind o)) at ∙ p
   pointer_name s i _ (a_global is at spelled) p t n = absurd (cc (sym is ∙ n))
@@ -248,7 +248,7 @@ module _ (c : Context) (least : IsLeastAssignment c.program) (file : FileKnown c
 
   field_row : (s : Span) (a : Expression) (v : FieldOperator) (n : Identifier) → AllByRecursion (Seen r2 scope) (expressions a) → Seen r2 scope (tree.field s a v n) → RowStands (row_at r2 (tree.field s a v n))
   field_row s a v n all h =
-      let x = member s a v n _ h.has in
+      let x = member r2 file s a v n _ h.has in
       let how = reading_through (base_use r2 v a) in
       subst (λ z. AllStand m2 c.scope (modes_of m2 (named_row r2 how z))) (sym x.names) (file_stands c least how (reads_base s a v n _ h.has (own a all)) (declared Role.Field x.of) x.field.0 x.field.1)
 

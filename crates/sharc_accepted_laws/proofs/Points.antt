@@ -1,5 +1,5 @@
 -- The locks of what cells refer to: in the table, and by the source.
-use Rattle.sharc_accepted_laws.proofs.{Imports.{◌≡◌, ◌⊎◌, inl, inr, ℕ, zero, suc, ◌+◌, ◌-◌, ◌<◌, ◌≤◌, ◌==◌, Bool, true, false, cond, ◌&&◌, List, [], ◌∷◌, ◌++◌, length, map, refl, ap, sym, ◌∙◌, subst, arith, append_assoc, length-append, option_map, Option, Some, None, is_none, Contains, get_or as slice_index_or, AllByRecursion, Base, Mode, Locked, Path, One, Through as PathThrough, Span, Declaration, Identifier, FieldOperator, Dot, Arrow, Dereference, GlobalDefinition, expressions, in_function, Expression, Named, Kind, object, is_array, Role, Entity, Numbered, declared, entities_in, numbered, is_told_by, Resolution, named_at, declaration_at, variable_kind, global_at, globals_in, functions_in, structs_in, kind_at, HasType, IsMemberOf, a_field, a_field_behind, IsFound, EachTypeFound, EachNameOnce, OnlyNames, EachPathFound, MeetsConstraints, OneType, first_cell, Target, in_global, in_global_at, in_object_at, global_of, own_field, named_target, target, cell_of, Context, Either, is_cell, globals_of, field_place, field_place_named, field_place_behind, Place, pointed, Assignment, RowLaws, PathReading, written, through, Targets, is_constant_named, constant_use, base_use, lock_through, path_variable, read, deeper, entity_row, declared_row, global_row, named_row, behind, reading_through, row_at, modes_of, modes_at, Lock, Sharing, locked, lock_of, sharing_of, text_at, variable_named, is_field, is_sibling_lock, place_of, IsExpression, IsEntity, RulesAreMet, IsAllowed, global_mutex, sibling_mutex, sibling_pointer, through_constant, IsThroughConstant, is_through, MeetsRules, Cell, TypeLock, FieldLock, OfType, OfGlobals, OfElement, StaticType, Global, InRegister as Through, Self, Refers, Label, SameReference, Itself, SameLock, AllSame, no_lock, IsFieldLock, IsGlobalLock, IsAnyLock, IsAnyGlobalLock, AreFieldLocks, IsAccepted, is_held, IsHeldPath, AllHeld, element_locks, pointee_locks, declared_locks, content_locks, BaseIs, IsBased, PlacesPoint, register, lock_named, lock_at, locks_at, static_of, FieldsPlaced, ExpressionsFound, Form, locked_form, form_of, table_lock, field_lock, field_locks, type_locks, lock_count, same_some, none_some, front, each, place_of_element, of_each, to_each}, Arrays.{IsNameOf, array_name}, Holds.expressions_held, Origins.{reading_kept, same_raw, same_lock}, Passed.use_named, Places.{InFile, FileKnown, FieldInFile, file_known, struct_fields, field_found, at_number, IfSome}, Noted.all_say, StaticSiblings.{SiblingsAre, siblings_are}, Written.{raw, row_good, found_there}}
+use Rattle.sharc_accepted_laws.proofs.{Imports.{◌≡◌, ◌⊎◌, inl, inr, ℕ, zero, suc, ◌+◌, ◌-◌, ◌<◌, ◌≤◌, ◌==◌, Bool, true, false, cond, ◌&&◌, List, [], ◌∷◌, ◌++◌, length, map, refl, ap, sym, ◌∙◌, subst, arith, append_assoc, length-append, option_map, Option, Some, None, is_none, Contains, get_or as slice_index_or, AllByRecursion, Base, Mode, Locked, Path, One, Through as PathThrough, Span, Declaration, Identifier, FieldOperator, Dot, Arrow, Dereference, GlobalDefinition, expressions, in_function, Expression, Named, Kind, object, is_array, Role, Entity, Numbered, declared, entities_in, numbered, is_told_by, Resolution, named_at, declaration_at, variable_kind, global_at, globals_in, functions_in, kind_at, HasType, IsMemberOf, a_field_behind, IsFound, EachTypeFound, EachNameOnce, OnlyNames, EachPathFound, MeetsConstraints, OneType, first_cell, Target, in_global, in_global_at, in_object_at, global_of, own_field, named_target, target, cell_of, Context, Either, is_cell, globals_of, field_place, field_place_named, field_place_behind, Place, pointed, Assignment, RowLaws, PathReading, written, through, Targets, is_constant_named, constant_use, base_use, lock_through, path_variable, read, deeper, entity_row, declared_row, global_row, named_row, behind, reading_through, row_at, modes_of, modes_at, Lock, Sharing, locked, lock_of, sharing_of, text_at, variable_named, is_field, is_sibling_lock, place_of, IsExpression, IsEntity, RulesAreMet, IsAllowed, global_mutex, sibling_mutex, sibling_pointer, through_constant, IsThroughConstant, is_through, MeetsRules, Cell, TypeLock, FieldLock, OfType, OfGlobals, OfElement, StaticType, Global, InRegister as Through, Self, Refers, Label, SameReference, Itself, SameLock, AllSame, no_lock, IsFieldLock, IsGlobalLock, IsAnyLock, IsAnyGlobalLock, AreFieldLocks, IsAccepted, is_held, IsHeldPath, AllHeld, element_locks, pointee_locks, declared_locks, content_locks, BaseIs, IsBased, PlacesPoint, register, lock_named, lock_at, locks_at, static_of, FieldsPlaced, ExpressionsFound, Form, locked_form, form_of, table_lock, field_lock, field_locks, type_locks, lock_count, same_some, none_some, front, each, place_of_element, of_each, to_each}, Arrays.{IsNameOf, array_name}, Holds.expressions_held, Origins.{reading_kept, same_raw, same_lock}, Passed.use_named, Places.{InFile, FileKnown, FieldInFile, file_known, a_member, member, at_number, IfSome}, Noted.all_say, StaticSiblings.{SiblingsAre, siblings_are}, Written.{raw, row_good, found_there}}
 use Rattle.sharc_tree.specs.Tree as tree
 use Rattle.sharc_lemmas.proofs.Bools.{no_cell}
 
@@ -343,19 +343,6 @@ module _ (rows : RowLaws) (expressions_found : ExpressionsFound) (one_type : One
     row : row_at r4 e ≡ Some (global_row r4 written (global_at r4 number))
     content : content_locks m4 e ≡ declared_locks m4 0 (Named.Global number)
 
-  -- a member of a struct
-  record Member (n : Identifier) : Type 0 where
-    of : Declaration
-    field : FieldInFile r4 of
-    names : named_at r4 n.site.token ≡ Named.Field of.name.site.token
-
-  a_member : (x name : List ℕ) (d : Declaration) → IsMemberOf r4 x name d → FieldInFile r4 d
-  a_member x name d h = field_found (FieldInFile r4) h.0.fields name d (struct_fields (FieldInFile r4) (structs_in r4.program.items) x h.0 file.fields h.1) h.2
-
-  member : (s : Span) (e : Expression) (v : FieldOperator) (n : Identifier) (k : Kind) → HasType r4 (tree.field s e v n) k → Member n
-  member s e _ n _ (a_field {x = x} {d = d} t h is) = record { of = d; field = a_member x n.text d h; names = is }
-  member s e _ n _ (a_field_behind {x = x} {d = d} t h is) = record { of = d; field = a_member x n.text d h; names = is }
-
   array_named : (e : Expression) (g : ℕ) → IsNameOf r4 e g → ArrayIs e
   array_named (tree.identifier s x) g is = record { number = g; row = ap (λ n. Some (named_row r4 written n)) is; content = ap (declared_locks m4 0) is }
   array_named (tree.parentheses s e) g is = let x = array_named e g is in record { number = x.number; row = x.row; content = x.content }
@@ -411,7 +398,7 @@ module _ (rows : RowLaws) (expressions_found : ExpressionsFound) (one_type : One
   plain_points : (s : Span) (e : Expression) (w : FieldOperator) (name : Identifier) → IsExpression m4 (tree.field s e w name) → base_use r4 w e ≡ None → (cell : Cell) → CellBased c globals l cell → (n : ℕ) (modes : List Sharing)
       → Some (modes_of m4 (named_row r4 (reading_through (base_use r4 w e)) (named_at r4 name.site.token))) ≡ Some modes → AreFieldLocks l cell (locks_at c modes) (declared_locks m4 n (named_at r4 name.site.token))
   plain_points s e w name there none cell base n modes is =
-      let x = member s e w name _ (typed_at (tree.field s e w name) there) in
+      let x = member r4 file s e w name _ (typed_at (tree.field s e w name) there) in
       let of_row : modes_of m4 (declared_row r4 written x.of.name.site.token) ≡ modes =
       same_some (modes_of m4 (declared_row r4 written x.of.name.site.token)) modes
       (sym (ap (λ o. Some (modes_of m4 (named_row r4 (reading_through o) (named_at r4 name.site.token)))) none ∙ ap (λ z. Some (modes_of m4 (named_row r4 written z))) x.names) ∙ is) in
@@ -434,7 +421,7 @@ module _ (rows : RowLaws) (expressions_found : ExpressionsFound) (one_type : One
           (sym (ap (λ o. Some (modes_of m4 (named_row r4 (reading_through o) (named_at r4 name.site.token)))) used ∙ ap (λ z. Some (modes_of m4 (named_row r4 (through token) z))) names) ∙ is) in
           subst (λ z. AllSame (IsFieldLock l reg n (static_of c (kind_at r4 e) b.modes)) (locks_at c modes) (declared_locks m4 n z)) (sym names)
           (subst (λ z. AllSame (IsFieldLock l reg n (static_of c (kind_at r4 e) b.modes)) (locks_at c z) (declared_locks m4 n (Named.Field d.name.site.token))) of_row
-          (field_through rules c a globals siblings l reg (static_of c (kind_at r4 e) b.modes) token u.variable u.names (b.copy token u.variable used u.names) n struct name.text d kind h (a_member struct name.text d h) (subst (AllHeld m4) (sym of_row) held)))
+          (field_through rules c a globals siblings l reg (static_of c (kind_at r4 e) b.modes) token u.variable u.names (b.copy token u.variable used u.names) n struct name.text d kind h (a_member r4 file struct name.text d h) (subst (AllHeld m4) (sym of_row) held)))
 
   arrow_points : (s : Span) (e : Expression) (name : Identifier) → IsExpression m4 (tree.field s e Arrow name) → BaseIs c l reg e → (n : ℕ) (modes : List Sharing)
       → Some (modes_of m4 (named_row r4 (reading_through (constant_use r4 e)) (named_at r4 name.site.token))) ≡ Some modes → AllHeld m4 modes → AreFieldLocks l (Cell.Object reg n) (locks_at c modes) (declared_locks m4 n (named_at r4 name.site.token))

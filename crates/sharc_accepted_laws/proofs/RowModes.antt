@@ -1,5 +1,5 @@
 -- What holds of the modes of names, calls, casts and fields holds of those of each expression.
-use Rattle.sharc_accepted_laws.proofs.{Imports.{◌≡◌, ◌+◌, ◌-◌, ◌==◌, Bool, true, false, cond, List, [], ◌∷◌, ◌++◌, map, refl, sym, subst, Option, Some, None, option_map, AllByRecursion, Mode, Span, WrittenType, Identifier, FieldOperator, Dereference, Arguments, Constant, Expression, expressions, is_array, kind_at, PathReading, Targets, deeper, behind, row_at, Sharing, sharing_of, read, Assignment, modes_of, front, none_some, same_some}, Written.{raw, deeper_raw}}
+use Rattle.sharc_accepted_laws.proofs.{Imports.{◌≡◌, ◌+◌, ◌-◌, ◌==◌, Bool, true, false, cond, List, [], ◌∷◌, map, refl, sym, subst, Option, Some, None, option_map, AllByRecursion, Mode, Span, WrittenType, Identifier, FieldOperator, Dereference, Arguments, Constant, Expression, expressions, is_array, kind_at, PathReading, Targets, deeper, behind, row_at, Sharing, sharing_of, read, Assignment, modes_of, front, none_some, same_some}, Written.{raw, deeper_raw}}
 use Rattle.sharc_tree.specs.Tree as tree
 
 -- ---- what a row points to in turn

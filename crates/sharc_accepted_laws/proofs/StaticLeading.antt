@@ -1,5 +1,5 @@
 -- The lock paths of the types of expressions lead to mutexes: those that are written by M4, and those that the uses of fields make by M11 and the fields' types.
-use Rattle.sharc_accepted_laws.proofs.{Imports.{◌≡◌, ◌⊎◌, inl, inr, ⊎_elim, ℕ, suc, ◌+◌, ◌<◌, true, cond, ◌&&◌, List, [], ◌∷◌, ◌++◌, length, map, drop, slice_get, refl, ap, sym, ◌∙◌, subst, arith, Option, Some, None, is_none, Contains, false≢true, AllByRecursion, Base, Mode, Locked, Path, One, Through as PathThrough, Span, Declaration, Identifier, WrittenType, FieldOperator, Dot, Arrow, GlobalDefinition, StructDefinition, expressions, in_function, Expression, Function, Named, Kind, object, mutex, declared_kind, field_of, Role, Entity, Numbered, declared, cast_entity, result_of, entity_at, notes_about, Resolution, named_at, declaration_at, variable_kind, named_kind, global_at, function_at, globals_in, functions_in, structs_in, kind_at, locals_in_all, HasType, Callee, IsMemberOf, struct_named, of_program, of_conditions, a_variable, a_global, a_function, a_field, a_field_behind, IsItself, NamesOwn, NamesOwnVariables, IsFound, EachTypeFound, EachNameOnce, OnlyNames, EachNamesItself, EachNamesOwn, EachPathFound, MeetsConstraints, OneType, IsNamedPath, IsNamedLevel, IsNamedType, Place, Assignment, PathReading, written, through, constant_use, base_use, lock_through, read, entity_row, declared_row, global_row, named_row, result_row, called_row, behind, reading_through, row_at, modes_of, modes_at, field_target, settled_modes, Lock, Sharing, locked, lock_of, sharing_of, text_at, is_field, is_sibling_lock, leaves_open, place_of, IsExpression, IsEntity, RulesAreMet, IsMutexBehind, IsAllowed, global_mutex, sibling_mutex, sibling_pointer, through_constant, MeetsRules, IsAccepted, LeadsToMutex, by_global, by_variable, LeadsIfLocked, AllLead, ExpressionsLead, FieldsPlaced, IsOwn, IsCastFound, HasOwn, OwnAreFound, same_some, none_some, each, head_there, head_or_tail, of_each, to_each, tail_there, none_there}, Noted.{AllSay, all_say}, Origins.{reading_kept, same_lock}, RowModes.{RowHolds, modes_hold, rows_hold}, Passed.{use_named, first_kind}, Places.{InFile, FileKnown, FieldInFile, file_known, struct_fields, field_found, at_number, IfSome}, Points.{NamesField, ModeOf, LevelOf, allowed_row, shown_modes, entity_is, through_used}, StaticSiblings.{found_there, points_to, is_beside}, Written.{raw, row_settled, open_good}, TargetLists.place_there, Laying.{named_there as struct_there}}
+use Rattle.sharc_accepted_laws.proofs.{Imports.{◌≡◌, ◌⊎◌, inl, inr, ⊎_elim, ℕ, suc, ◌+◌, ◌<◌, true, cond, ◌&&◌, List, [], ◌∷◌, ◌++◌, length, map, drop, slice_get, refl, ap, sym, ◌∙◌, subst, arith, Option, Some, None, is_none, Contains, false≢true, AllByRecursion, Base, Mode, Locked, Path, One, Through as PathThrough, Span, Declaration, Identifier, WrittenType, FieldOperator, Dot, Arrow, GlobalDefinition, StructDefinition, expressions, in_function, Expression, Function, Named, Kind, object, mutex, declared_kind, field_of, Role, Entity, Numbered, declared, cast_entity, result_of, entity_at, notes_about, Resolution, named_at, declaration_at, variable_kind, named_kind, global_at, function_at, globals_in, functions_in, structs_in, kind_at, locals_in_all, HasType, Callee, IsMemberOf, struct_named, of_program, of_conditions, a_variable, a_global, a_function, a_field, a_field_behind, IsItself, NamesOwn, NamesOwnVariables, IsFound, EachTypeFound, EachNameOnce, OnlyNames, EachNamesItself, EachNamesOwn, EachPathFound, MeetsConstraints, OneType, IsNamedPath, IsNamedLevel, IsNamedType, Place, Assignment, PathReading, written, through, constant_use, base_use, lock_through, read, entity_row, declared_row, global_row, named_row, result_row, called_row, behind, reading_through, row_at, modes_of, modes_at, field_target, settled_modes, Lock, Sharing, locked, lock_of, sharing_of, text_at, is_field, is_sibling_lock, leaves_open, place_of, IsExpression, IsEntity, RulesAreMet, IsMutexBehind, IsAllowed, global_mutex, sibling_mutex, sibling_pointer, through_constant, MeetsRules, IsAccepted, LeadsToMutex, by_global, by_variable, LeadsIfLocked, AllLead, ExpressionsLead, FieldsPlaced, IsOwn, IsCastFound, HasOwn, OwnAreFound, same_some, none_some, each, head_there, head_or_tail, of_each, to_each, tail_there, none_there}, Noted.{AllSay, all_say}, Origins.{reading_kept, same_lock}, RowModes.{RowHolds, modes_hold, rows_hold}, Passed.{use_named, first_kind}, Places.{InFile, FileKnown, file_known, at_number, IfSome, a_member}, Points.{NamesField, ModeOf, LevelOf, allowed_row, shown_modes, entity_is, through_used}, StaticSiblings.{found_there, points_to, is_beside}, Written.{raw, row_settled, open_good}, TargetLists.place_there, Laying.{named_there as struct_there}}
 use Rattle.sharc_tree.specs.Tree as tree
 
 -- ---- levels
@@ -256,21 +256,18 @@ module _ (rules : RulesAreMet) (fields_placed : FieldsPlaced) (own_found : OwnAr
       of_each (λ e. HasType r e (kind_at r e)) (in_function x.owner) e
       (of_each (λ f. AllByRecursion (λ e. HasType r e (kind_at r e)) (in_function f)) (functions_in r.program.items) x.owner (constraints r a.resolved a.placed a.low) x.stands) x.inside
 
-  a_member : (x name : List ℕ) (d : Declaration) → IsMemberOf r x name d → FieldInFile r d
-  a_member x name d h = field_found (FieldInFile r) h.0.fields name d (struct_fields (FieldInFile r) (structs_in r.program.items) x h.0 file.fields h.1) h.2
-
   field_leads : (s : Span) (e : Expression) (w : FieldOperator) (n : Identifier) (k : Kind) → HasType r (tree.field s e w n) k → IsExpression m (tree.field s e w n) → AllLead m (modes_of m (named_row r (reading_through (base_use r w e)) (named_at r n.site.token)))
   field_leads s e _ n _ (a_field {x = struct} {d = d} t h is) there =
-      subst (λ z. AllLead m (modes_of m (named_row r written z))) (sym is) (field_written d (a_member struct n.text d h).0 s e Dot n there refl is)
+      subst (λ z. AllLead m (modes_of m (named_row r written z))) (sym is) (field_written d (a_member r file struct n.text d h).0 s e Dot n there refl is)
   field_leads s e _ n _ (a_field_behind {x = struct} {d = d} t h is) there = by (constant_use r e) refl
     where
       by : (o : Option ℕ) → constant_use r e ≡ o → AllLead m (modes_of m (named_row r (reading_through o) (named_at r n.site.token)))
-      by None none = subst (λ z. AllLead m (modes_of m (named_row r written z))) (sym is) (field_written d (a_member struct n.text d h).0 s e Arrow n there none is)
+      by None none = subst (λ z. AllLead m (modes_of m (named_row r written z))) (sym is) (field_written d (a_member r file struct n.text d h).0 s e Arrow n there none is)
       by (Some at) some =
           let u = use_named r e at some in
           let kind : variable_kind (declaration_at r u.variable) ≡ object (Base.Struct struct) 1 = sym u.kind ∙ one_type r a.resolved a.placed a.low e (object (Base.Struct struct) 1) t in
           subst (λ z. AllLead m (modes_of m (named_row r (through at) z))) (sym is)
-          (field_through d (a_member struct n.text d h).0 at u.variable u.names struct h.0 kind h.1 (found_there h.0.fields n.text d h.2))
+          (field_through d (a_member r file struct n.text d h).0 at u.variable u.names struct h.0 kind h.1 (found_there h.0.fields n.text d h.2))
 
   -- ---- expressions
   name_leads : (s : Span) (i : Identifier) → IsExpression m (tree.identifier s i) → (n : Named) → named_at r i.site.token ≡ n → AllLead m (modes_of m (named_row r written n))

@@ -1,5 +1,5 @@
 -- The registers of variables: each pointer has its own, and keeps it where more variables stand.
-use Rattle.sharc_accepted_laws.proofs.Imports.{front_got, ◌≡◌, ◌⊎◌, inl, inr, ℕ, zero, suc, ◌+◌, ◌<◌, ◌≤◌, ◌==◌, Bool, true, false, cond, List, [], ◌∷◌, ◌++◌, length, slice_get, refl, ap, sym, ◌∙◌, subst, arith, eqb-true, append_assoc, Option, Some, None, false≢true, got_none, Register, Int, Reference, Named, Kind, named_at, declaration_at, variable_kind, field_place_behind, Assignment, base_of, written, declared_row, modes_of, Lock, Sharing, locked, Slot, Context, slot_kind, ref_count, register_from, register_of, number_in, PathNamed, PathStands, shape_of, number, register, lock_named, lock_at, locks_at, static_of, variable_type, pointers, entry_named, AllStand, DeclaredStands, IsClosedScope, with_more, HasRegister, HasOneVariable, OthersAreEmpty, NamesVariables, NamesLower, EntriesStay, NoneIsClosed, OneMoreIsClosed, FewerAreClosed, ScopeLaws, SomeNames, Mentions, InRegister as Through, Refers, EntryMentions, same_some, none_some}
+use Rattle.sharc_accepted_laws.proofs.Imports.{front_got, ◌≡◌, ◌⊎◌, inl, inr, ℕ, zero, suc, ◌+◌, ◌<◌, ◌==◌, Bool, true, false, cond, List, [], ◌∷◌, ◌++◌, length, slice_get, refl, ap, sym, ◌∙◌, subst, arith, eqb-true, append_assoc, Option, Some, None, false≢true, got_none, Register, Int, Reference, Named, Kind, named_at, declaration_at, variable_kind, field_place_behind, Assignment, base_of, written, declared_row, modes_of, Lock, Sharing, locked, Slot, Context, slot_kind, ref_count, register_from, register_of, number_in, PathNamed, PathStands, shape_of, number, register, lock_named, lock_at, locks_at, static_of, variable_type, pointers, entry_named, AllStand, DeclaredStands, IsClosedScope, with_more, HasRegister, HasOneVariable, OthersAreEmpty, NamesVariables, NamesLower, EntriesStay, NoneIsClosed, OneMoreIsClosed, FewerAreClosed, ScopeLaws, SomeNames, Mentions, InRegister as Through, Refers, EntryMentions, same_some, none_some}
 use Rattle.sharc_invariant.specs.Types.{Names}
 
 -- ---- where a pointer is
@@ -149,13 +149,13 @@ module _ (more : List Slot) where
 
 -- ---- what stands before a variable
 -- the slot of a pointer, with those before it and those behind it
-record Split (scope : List Slot) (r x : ℕ) : Type 0 where
-  before : List Slot
-  after : List Slot
-  slot : Slot
-  whole : scope ≡ before ++ slot ∷ after
-  token : slot.token ≡ x
-  count : ref_count before ≡ r
+pub record Split (scope : List Slot) (r x : ℕ) : Type 0 where
+  pub before : List Slot
+  pub after : List Slot
+  pub slot : Slot
+  pub whole : scope ≡ before ++ slot ∷ after
+  pub token : slot.token ≡ x
+  pub count : ref_count before ≡ r
 
 later_split : (z : Slot) (rest : List Slot) (n p x : ℕ) → cond z.is_pointer (n + 1) n ≡ p → Split rest n x → Split (z ∷ rest) p x
 later_split z rest n p x e s = record {
@@ -173,7 +173,7 @@ split_by z rest x more true pointer zero k = record { before = []; after = rest;
 split_by z rest x more true pointer (suc p) k = let e : p + 1 ≡ suc p = omega arith in later_split z rest p (suc p) x (ap (λ b. cond b (p + 1) p) pointer ∙ e) (more p k)
 split_by z rest x more false pointer p k = later_split z rest p p x (ap (λ b. cond b (p + 1) p) pointer) (more p k)
 
-split : (scope : List Slot) (r x : ℕ) → slice_get (pointers scope) r ≡ Some x → Split scope r x
+pub split : (scope : List Slot) (r x : ℕ) → slice_get (pointers scope) r ≡ Some x → Split scope r x
 split [] r x h = absurd (none_some x h)
 split (z ∷ rest) r x h = split_by z rest x (λ n k. split rest n x k) z.is_pointer refl r h
 

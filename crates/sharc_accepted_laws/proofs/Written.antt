@@ -1,5 +1,5 @@
 -- What holds of the modes that are written in a type, and of those that are never written, holds of the modes of all its positions.
-use Rattle.sharc_accepted_laws.proofs.{Imports.{◌≡◌, ⊎_elim, ℕ, zero, suc, ◌+◌, ◌-◌, ◌<◌, ◌≤◌, ◌==◌, Bool, true, false, cond, not, ◌||◌, List, [], ◌∷◌, ◌++◌, length, take, drop, refl, ap, sym, ◌∙◌, subst, arith, Option, Some, None, Contains, eqb-false, or_right, get_or as slice_index_or, AllByRecursion, find, option_or, Base, Mode, Private, Racy, Dynamic, Role, Entity, Numbered, entities_in, positions_of, written_modes, first_depth, NodeFinding, Apart, finding_at, IsLeastAssignment, mode_found, Assignment, PathReading, Targets, deeper, targets_from, entity_row, is_mutex, settled, field_target, otherwise_of, settled_modes, settled_in, settled_at, leaves_open, IsEntity, none_some}, Settling.{IsPositioned, positioned}}
+use Rattle.sharc_accepted_laws.proofs.{Imports.{◌≡◌, ℕ, zero, suc, ◌+◌, ◌-◌, ◌<◌, ◌==◌, Bool, true, false, cond, not, ◌||◌, List, [], ◌∷◌, length, take, drop, refl, ap, sym, ◌∙◌, subst, arith, Option, Some, None, Contains, eqb-false, or_right, get_or as slice_index_or, AllByRecursion, find, option_or, Base, Mode, Private, Racy, Dynamic, Role, Entity, Numbered, entities_in, positions_of, written_modes, first_depth, NodeFinding, Apart, finding_at, IsLeastAssignment, mode_found, Assignment, PathReading, Targets, deeper, targets_from, entity_row, is_mutex, settled, field_target, otherwise_of, settled_modes, settled_in, settled_at, leaves_open, IsEntity, none_some}, Settling.{IsPositioned, positioned}}
 
 -- ---- rows of modes
 abbrev pub raw : Assignment → Targets → List Mode
