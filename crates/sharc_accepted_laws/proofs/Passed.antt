@@ -127,9 +127,7 @@ form_read r how _ = refl
 
 forms_read : (r : Resolution) (one other : PathReading) (list : List Mode) → map form_of (map (λ mode. read r one (sharing_of mode)) list) ≡ map form_of (map (λ mode. read r other (sharing_of mode)) list)
 forms_read r one other [] = refl
-forms_read r one other (x ∷ rest) =
-    ap (λ f. f ∷ map form_of (map (λ mode. read r one (sharing_of mode)) rest)) (form_read r one (sharing_of x) ∙ sym (form_read r other (sharing_of x)))
-    ∙ ap (λ fs. form_of (read r other (sharing_of x)) ∷ fs) (forms_read r one other rest)
+forms_read r one other (x ∷ rest) = cc (form_read r one (sharing_of x), form_read r other (sharing_of x), forms_read r one other rest)
 
 -- ---- calls
 module _ (found : EachTypeFound) (rules : RulesAreMet) (all_fair : AllFair) (themselves : EachNamesItself) (c : Context) (accepted : IsAccepted c.program) (ds : List Declaration) (all : Arguments) (call : IsCall c.program ds all) where

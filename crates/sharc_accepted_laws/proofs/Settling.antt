@@ -55,7 +55,7 @@ pub private_found : (level : Option Mode) (finding : NodeFinding) → mode_found
 private_found (Some mode) finding h = inl (ap Some h)
 private_found None finding h = inr refl
 
-get_index : (list : List Mode) (k : ℕ) (x d : Mode) → slice_get list k ≡ Some x → (k < length list) × (slice_index_or list k d ≡ x)
+pub get_index : (list : List Mode) (k : ℕ) (x d : Mode) → slice_get list k ≡ Some x → (k < length list) × (slice_index_or list k d ≡ x)
 get_index [] k x d is = absurd (none_some x is)
 get_index (y ∷ rest) zero x d is = (omega arith, same_some y x is)
 get_index (y ∷ rest) (suc k) x d is = let w = get_index rest k x d is in let low = w.0 in (omega (arith, low), w.1)

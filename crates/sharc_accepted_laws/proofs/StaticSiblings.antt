@@ -76,7 +76,7 @@ module _ (r : Resolution) where
   levels_say scope siblings [] h = tt
   levels_say scope siblings (x ∷ rest) h = (front P (mode_notes scope siblings x) (modes_notes scope siblings rest) h, levels_say scope siblings rest (back P (mode_notes scope siblings x) (modes_notes scope siblings rest) h))
 
-  not_field : (m : Meaning) (t : ℕ) → named_of m ≡ Named.Field t → ⊥
+  pub not_field : (m : Meaning) (t : ℕ) → named_of m ≡ Named.Field t → ⊥
   not_field (meaning.variable d) t h = cc
   not_field _ t h = cc
 

@@ -1,5 +1,5 @@
 -- A lock path in the type of a field that names a field names one of the same struct.
-use Rattle.sharc_accepted_laws.proofs.{Imports.{◌≡◌, ⊎_elim, ℕ, Bool, true, false, List, [], ◌∷◌, ◌++◌, length, refl, sym, ◌∙◌, subst, Option, Some, None, Contains, Mode, Locked, Path, One, Through, Declaration, WrittenType, StructDefinition, IsLow, IsPlaced, Item, structure, global, function, UnknownName, TypeNotAllowed, Named, Scope, Entry, Meaning, look_up, field_of, named_of, Note, fault, refers, fault_unless, first_notes, main_notes, name_notes, path_notes, mode_notes, modes_notes, base_notes, allowed_there, type_notes, Role, sizes_notes, heads_notes, no_heads, field_notes, fields_notes, item_notes, items_notes, main_missing, file_scope, notes_about, Resolution, IsResolved, named_at, structs_in, lock_of, EachNameOnce, OnlyNames, head_there, head_or_tail, none_there}, TargetLists.{left_there, right_there}, StaticSiblings.found_there, Noted.{no_faults, told}}
+use Rattle.sharc_accepted_laws.proofs.{Imports.{◌≡◌, ⊎_elim, ℕ, Bool, true, false, List, [], ◌∷◌, ◌++◌, length, refl, sym, ◌∙◌, subst, Option, Some, None, Contains, Mode, Locked, Path, One, Through, Declaration, WrittenType, StructDefinition, IsLow, IsPlaced, Item, structure, global, function, UnknownName, TypeNotAllowed, Named, Scope, Entry, look_up, field_of, named_of, Note, fault, refers, fault_unless, first_notes, main_notes, name_notes, path_notes, mode_notes, modes_notes, base_notes, allowed_there, type_notes, Role, sizes_notes, heads_notes, no_heads, field_notes, fields_notes, item_notes, items_notes, main_missing, file_scope, notes_about, Resolution, IsResolved, named_at, structs_in, lock_of, EachNameOnce, OnlyNames, head_there, head_or_tail, none_there}, TargetLists.{left_there, right_there}, StaticSiblings.{found_there, not_field}, Noted.{no_faults, told}}
 use Rattle.sharc_names.specs.Names as meaning
 
 -- ---- what a note of the program says is so
@@ -45,13 +45,9 @@ module _ (once : EachNameOnce) (only : OnlyNames) (r : Resolution) (resolved : I
       (left_there _ (sizes_notes file.structs 0 r.program.items) note (right_there (heads_notes no_heads r.program.items) (items_notes file r.program.items) note at))
 
   -- ---- the first name of a path
-  not_field : (m : Meaning) (f : ℕ) → named_of m ≡ Named.Field f → ⊥
-  not_field (meaning.variable d) f h = cc
-  not_field _ f h = cc
-
   by_name : (token : ℕ) (o : Option Entry) (f : ℕ) → ((note : Note) → Contains (name_notes token o) note → Contains (notes_about r.program) note) → named_at r token ≡ Named.Field f → ⊥
   by_name token None f inside is = no_faults (notes_about r.program) token UnknownName (inside _ (head_there _ [])) resolved.typed
-  by_name token (Some e) f inside is = not_field e.meaning f (sym (told once only r resolved placed low (refers token (named_of e.meaning)) token (named_of e.meaning) (inside _ (head_there _ (main_notes token e.meaning))) (refl, refl)) ∙ is)
+  by_name token (Some e) f inside is = not_field r e.meaning f (sym (told once only r resolved placed low (refers token (named_of e.meaning)) token (named_of e.meaning) (inside _ (head_there _ (main_notes token e.meaning))) (refl, refl)) ∙ is)
 
   by_first : (fields : List Declaration) (token : ℕ) (name : List ℕ) (o : Option Declaration) (e : Option Entry) → field_of fields name ≡ o → (f : ℕ)
       → ((note : Note) → Contains (first_notes token o e) note → Contains (notes_about r.program) note) → named_at r token ≡ Named.Field f → IsSibling fields f
