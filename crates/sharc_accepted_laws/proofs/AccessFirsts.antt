@@ -1,12 +1,6 @@
 -- What pointers to mutexes and to condition variables refer to, by the rows of their types.
-use Rattle.sharc_accepted_laws.proofs.{Imports.{◌≡◌, ◌<◌, [], ◌∷◌, refl, ap, sym, ◌∙◌, subst, arith, option_map, Option, Some, None, Contains, codes, Base, Expression, object, kind_at, base_of, Targets, row_at, modes_of, IsExpression, Context, StaticType, Content, cells_of, field_at, Empty, Refers, Setting, FirstCell, IsAccepted, static_of, entry_by, entry_of, FirstFits, FirstLaws, ExpressionsFound, Form, dynamic_form, Shape, form_of, shape_of, row_shape, stars_in, known_condition, known_mutex, shapes, number, targets_of, type_of_mutex, type_of_condition, FirstsFit}, Paths.one_sharing}
+use Rattle.sharc_accepted_laws.proofs.{Imports.{◌≡◌, ◌<◌, [], ◌∷◌, refl, ap, sym, ◌∙◌, subst, arith, option_map, Option, Some, None, Contains, codes, Base, Expression, object, kind_at, base_of, Targets, row_at, modes_of, IsExpression, Context, StaticType, Content, cells_of, field_at, Refers, Setting, FirstCell, IsAccepted, static_of, entry_by, entry_of, FirstFits, FirstLaws, ExpressionsFound, Form, dynamic_form, Shape, form_of, shape_of, row_shape, stars_in, known_condition, known_mutex, shapes, number, targets_of, type_of_mutex, type_of_condition, FirstsFit}, Paths.one_sharing}
 use Rattle.sharc_invariant.specs.Types.Content.{MutexWord, Waiters}
-
-pub no_entry : (s : StaticType) → Empty ≡ Refers s → ⊥
-no_entry s h = cc
-
-same_entry : (s t : StaticType) → Refers s ≡ Refers t → s ≡ t
-same_entry s t h = cc
 
 module _ (expressions_found : ExpressionsFound) (firsts : FirstLaws) (z : Setting) (c : Context) (targets : z.targets ≡ targets_of c.program) (a : IsAccepted c.program) where
   first_cell : (s : StaticType) (shape : Shape) (content : Content) → s.target ≡ number c.program shape → FirstFits c.program shape content → FirstCell z s content
@@ -25,13 +19,13 @@ module _ (expressions_found : ExpressionsFound) (firsts : FirstLaws) (z : Settin
   one_target b e there kind s = by (row_at c.program.typed e) refl
     where
       by : (o : Option Targets) → row_at c.program.typed e ≡ o → entry_by c (kind_at c.program.typed e) (option_map (modes_of c.program) o) ≡ Refers s → IsOneTarget b s
-      by None none h = absurd (no_entry s h)
+      by None none h = absurd (cc)
       by (Some row) is h =
           let found = expressions_found c.program a.resolved a.placed a.low a.least.modes e there row is in
           let count : row.count ≡ 1 = found.count ∙ ap stars_in kind in
           let one = one_sharing c.program row count found.ends in
           let shape : row_shape c.program (base_of (kind_at c.program.typed e)) row ≡ record { base = b; forms = form_of one.0 ∷ [] } = ap (λ k. row_shape c.program (base_of k) row) kind ∙ ap (shape_of b) one.1 in
-          let same : static_of c (kind_at c.program.typed e) (modes_of c.program row) ≡ s = same_entry (static_of c (kind_at c.program.typed e) (modes_of c.program row)) s h in
+          let same : static_of c (kind_at c.program.typed e) (modes_of c.program row) ≡ s = cc in
           record {
             form = form_of one.0;
             has = subst (Contains (shapes c.program)) shape (found.there (omega (arith, count)));

@@ -1,8 +1,5 @@
 -- The lock path of the type of an element leads to a mutex: it is that of the type of the pointer through which the lvalue leads.
-use Rattle.sharc_accepted_laws.proofs.{Imports.{◌≡◌, Bool, true, false, cond, List, [], ◌∷◌, refl, subst, Option, Some, None, AllByRecursion, Dot, Arrow, Dereference, expressions, Expression, parentheses, index, field, unary, is_array, Resolution, named_at, kind_at, modes_at, Lock, Sharing, locked, IsExpression, Context, PathNamed, IfThere, IsAccepted, LeadsToMutex, by_global, by_variable, AllLead, ExpressionsLead, AllStand, ExpressionStands, pointer_of, list_or, modes_of_pointer, LockLeads, to_global, to_variable, MutexesBehind, PathsLead, same_some, none_some, front}, Members.{first_of as self}}
-
-pub no_modes : (l : Lock) (below : List Sharing) → [] ≡ locked l ∷ below → ⊥
-no_modes l below h = cc
+use Rattle.sharc_accepted_laws.proofs.{Imports.{◌≡◌, Bool, true, false, cond, List, ◌∷◌, refl, subst, Option, Some, None, AllByRecursion, Dot, Arrow, Dereference, expressions, Expression, parentheses, index, field, unary, is_array, Resolution, named_at, kind_at, modes_at, Lock, Sharing, locked, IsExpression, Context, PathNamed, IfThere, IsAccepted, LeadsToMutex, by_global, by_variable, AllLead, ExpressionsLead, AllStand, ExpressionStands, pointer_of, list_or, modes_of_pointer, LockLeads, to_global, to_variable, MutexesBehind, PathsLead, same_some, none_some, front}, Members.{first_of as self}}
 
 -- the pointer is a part of the lvalue
 module _ (r : Resolution) (P : Expression → Type 0) where
@@ -29,11 +26,11 @@ pub paths_lead : ExpressionsLead → MutexesBehind → PathsLead
 paths_lead lead behind c a e all stand l below modes mode = by (pointer_of c.program.typed e) refl modes
   where
     by_modes : (p : Expression) → AllByRecursion (IsExpression c.program) (expressions p) → (o : Option (List Sharing)) → modes_at c.program p ≡ o → IfThere (AllStand c.program c.scope) o → list_or o ≡ locked l ∷ below → LockLeads c l
-    by_modes p inside None none stands h = absurd (no_modes l below h)
+    by_modes p inside None none stands h = absurd (cc)
     by_modes p inside (Some found) some stands h = one_leads behind c a l ((subst (AllLead c.program) h (lead c.program a p found inside some)).0 l refl) (subst (AllStand c.program c.scope) h stands).0
 
     by : (o : Option Expression) → pointer_of c.program.typed e ≡ o → modes_of_pointer c.program o ≡ locked l ∷ below → LockLeads c l
-    by None is h = absurd (no_modes l below h)
+    by None is h = absurd (cc)
     by (Some p) is h =
         by_modes p (pointer_inside c.program.typed (IsExpression c.program) e p is all) (modes_at c.program p) refl
         (self (ExpressionStands c) p (pointer_inside c.program.typed (ExpressionStands c) e p is stand)) h

@@ -1,5 +1,5 @@
 -- The reference in the cell of an lvalue has the type that the source gives it.
-use Rattle.sharc_accepted_laws.proofs.{Imports.{◌≡◌, inl, inr, ⊎_elim, ℕ, zero, suc, ◌==◌, Bool, true, false, cond, List, [], ◌∷◌, map, refl, ap, sym, ◌∙◌, subst, arith, eqb-true, option_map, Option, Some, None, false≢true, ltb-true, Base, Dot, Arrow, Dereference, Expression, identifier, parentheses, index, field, unary, Named, Kind, object, is_array, is_pointer, Code, named_at, kind_at, is_mutex_kind, cell_at, Assignment, base_of, Targets, row_at, modes_of, modes_at, constant_use, is_constant_named, Sharing, Context, Either, is_cell, Target, in_global, in_global_at, in_object, in_object_at, has_base, target, cell_of, guard_field, spot_of, Content, Field, Refers, Gate, Label, SameReference, Itself, IsCopy, HasCopy, Copies, Chained, gated, AreFieldLocks, PointsTo, Typing, IsCopyNamed, IsCopyOf, IsPointerCopy, Ground, HasBaseAt, ReachesReference, element_locks, pointee_locks, content_locks, BaseIs, IsBased, PlacesPoint, held_named, ScopeLaws, register, locks_at, static_of, IsOfObject, IsOfGlobal, NamesCell, no_cell, of_object, of_global, LvaluesFit, pointer_of, below_locks, locks_below, cell_locks, PointerFits, ContentFits, Form, form_of, shape_of, expression_shape, number, modes_of_pointer, kind_of_pointer, list_or, modes_behind, base_type, IsCellLvalue, CellsStand, AccessesFit, GuardsFit, BaseStands, setting, IsTypingOf, IsGroundOf, ReferencesFit, same_some, none_some}, Joining.{IsLike, through}, Standing.{no_pointer, lvalue_cells}}
+use Rattle.sharc_accepted_laws.proofs.{Imports.{◌≡◌, ⊎_elim, ℕ, zero, suc, ◌==◌, Bool, true, false, cond, List, [], ◌∷◌, map, refl, ap, sym, ◌∙◌, subst, arith, eqb-true, option_map, Option, Some, None, false≢true, ltb-true, Base, Dot, Arrow, Dereference, Expression, identifier, parentheses, index, field, unary, Named, Kind, object, is_array, is_pointer, Code, named_at, kind_at, is_mutex_kind, cell_at, Assignment, base_of, Targets, row_at, modes_of, modes_at, constant_use, is_constant_named, Sharing, Context, Either, is_cell, Target, in_object, in_object_at, has_base, target, cell_of, guard_field, spot_of, Content, Field, Refers, Gate, Label, SameReference, Itself, IsCopy, HasCopy, Copies, Chained, gated, AreFieldLocks, PointsTo, Typing, IsCopyNamed, IsCopyOf, IsPointerCopy, Ground, HasBaseAt, ReachesReference, element_locks, pointee_locks, content_locks, BaseIs, IsBased, PlacesPoint, held_named, ScopeLaws, register, locks_at, static_of, IsOfObject, IsOfGlobal, NamesCell, no_cell, of_object, of_global, LvaluesFit, pointer_of, below_locks, locks_below, cell_locks, PointerFits, ContentFits, Form, form_of, shape_of, expression_shape, number, modes_of_pointer, kind_of_pointer, list_or, modes_behind, base_type, IsCellLvalue, CellsStand, AccessesFit, GuardsFit, BaseStands, setting, IsTypingOf, IsGroundOf, ReferencesFit, same_some, none_some}, Joining.{IsLike, through}, Standing.{no_pointer, nothing_else, lvalue_cells}}
 use Rattle.sharc_flat.specs.Places.{variable, field_of}
 
 -- ---- locks in the table
@@ -38,13 +38,6 @@ based c l r _ h = tt
 no_variable_cell : (t : Target) → ((x : ℕ) → t ≡ variable x → ⊥) → is_cell t ≡ true
 no_variable_cell (variable x) none = absurd (none x refl)
 no_variable_cell _ none = refl
-
-nothing_else : (t : Target) → ((x : ℕ) → t ≡ variable x → ⊥) → ((n : ℕ) → IsOfObject t n → ⊥) → ((g n : ℕ) → IsOfGlobal t g n → ⊥) → ⊥
-nothing_else (variable x) none no_object no_global = none x refl
-nothing_else (in_global g n) none no_object no_global = no_global g n (inl refl)
-nothing_else (in_global_at g n) none no_object no_global = no_global g n (inr refl)
-nothing_else (in_object n) none no_object no_global = no_object n (inl refl)
-nothing_else (in_object_at n) none no_object no_global = no_object n (inr refl)
 
 object_base : (t : Target) (n : ℕ) → IsOfObject t n → has_base t ≡ true
 object_base t n at = ⊎_elim (λ is. ap has_base is) (λ is. ap has_base is) at

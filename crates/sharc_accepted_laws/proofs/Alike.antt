@@ -1,18 +1,14 @@
 -- Shapes that are the same are equal.
-use Rattle.sharc_accepted_laws.proofs.Imports.{◌≡◌, true, List, [], ◌∷◌, refl, ap, ◌∙◌, false≢true, and_parts, and_from, bytes_eq-Decides, Base, same_base, Form, private_form, readonly_form, locked_form, racy_form, dynamic_form, Shape, same_form, same_forms, same_shape}
+use Rattle.sharc_accepted_laws.proofs.Imports.{◌≡◌, true, List, [], ◌∷◌, refl, ap, ◌∙◌, false≢true, and_parts, and_from, bytes_eq-Decides, Base, same_base, Form, private_form, racy_form, Shape, same_form, same_forms, same_shape}
 
 base_itself : (b : Base) → same_base b b ≡ true
 base_itself (Base.Struct name) = (bytes_eq-Decides name name).1 refl
 base_itself _ = refl
 
 pub base_is : (a b : Base) → same_base a b ≡ true → a ≡ b
-base_is Base.Int Base.Int h = refl
-base_is Base.Char Base.Char h = refl
-base_is Base.Long Base.Long h = refl
-base_is Base.Mutex Base.Mutex h = refl
-base_is Base.Void Base.Void h = refl
 base_is (Base.Struct x) (Base.Struct y) h = ap (λ z. Base.Struct z) ((bytes_eq-Decides x y).0 h)
-base_is _ _ h = absurd (false≢true h)
+base_is _ Base.Int h = cc
+base_is _ _ h = cc
 
 form_itself : (f : Form) → same_form f f ≡ true
 form_itself racy_form = refl
@@ -20,24 +16,18 @@ form_itself _ = refl
 
 form_is : (a b : Form) → same_form a b ≡ true → a ≡ b
 form_is private_form private_form h = refl
-form_is readonly_form readonly_form h = refl
-form_is locked_form locked_form h = refl
-form_is racy_form racy_form h = refl
-form_is dynamic_form dynamic_form h = refl
-form_is _ _ h = absurd (false≢true h)
+form_is _ private_form h = cc
+form_is _ _ h = cc
 
 forms_themselves : (fs : List Form) → same_forms fs fs ≡ true
 forms_themselves [] = refl
 forms_themselves (f ∷ rest) = and_from (same_form f f) (same_forms rest rest) (form_itself f) (forms_themselves rest)
 
-pub two : (a b : Form) (xs bs : List Form) → a ≡ b → xs ≡ bs → a ∷ xs ≡ b ∷ bs
-two a b xs bs e f = cc
-
 forms_are : (xs bs : List Form) → same_forms xs bs ≡ true → xs ≡ bs
 forms_are [] [] h = refl
 forms_are [] (b ∷ bs) h = absurd (false≢true h)
 forms_are (a ∷ xs) [] h = absurd (false≢true h)
-forms_are (a ∷ xs) (b ∷ bs) h = let p = and_parts (same_form a b) (same_forms xs bs) h in two a b xs bs (form_is a b p.0) (forms_are xs bs p.1)
+forms_are (a ∷ xs) (b ∷ bs) h = let p = and_parts (same_form a b) (same_forms xs bs) h in cc (form_is a b p.0, forms_are xs bs p.1)
 
 pub shape_itself : (s : Shape) → same_shape s s ≡ true
 shape_itself s = and_from (same_base s.base s.base) (same_forms s.forms s.forms) (base_itself s.base) (forms_themselves s.forms)

@@ -1,5 +1,5 @@
 -- What no thread reaches, and that private globals are named there alone.
-use Rattle.sharc_accepted_laws.proofs.{Imports.{◌≡◌, ◌⊎◌, inl, inr, ⊎_elim, ℕ, zero, suc, ◌+◌, ◌<◌, ◌≤◌, Bool, true, false, cond, ◌&&◌, List, [], ◌∷◌, ◌++◌, length, slice_get, refl, ap, sym, ◌∙◌, subst, arith, Option, Some, None, IsSomeAnd, Contains, false≢true, and_parts, get_or as slice_index_or, AllByRecursion, option_or, Base, Mode, Private, Readonly, Locked, Racy, Span, Declaration, Identifier, WrittenType, Dot, Dereference, GlobalDefinition, expressions, in_function, Expression, Function, global, Named, Kind, is_array, declared_kind, Role, Entity, Numbered, declared, entities_in, numbered, is_told_by, positions_of, Names, Spawns, Runs, Leads, IsReached, tokens_of, Resolution, named_at, global_at, function_at, declaration_at, globals_in, functions_in, structs_in, kind_at, HasType, Callee, of_program, of_conditions, a_variable, a_global, a_function, a_field, IsItself, IsFound, EachTypeFound, EachNamesItself, EachPathFound, MeetsConstraints, NodeFinding, finding_at, is_mutex_kind, is_behind_pointer, written_cell, top_of, field_cell, declared_cell, field_named, first_mode, global_cell, named_cell, pointed, cell_at, IsFirst, Touches, IsRoot, mode_found, LinkLaws, Assignment, position_count, row_at, is_mutex, settled, settled_modes, settled_in, settled_at, Sharing, private, readonly, locked, racy, lock_of, sharing_of, RulesAreMet, ReachedAreTold, MeetsRules, in_global, in_global_at, in_object_at, global_of, own_field, named_target, target, IsInside, AreAlone, SomeAreAlone, IsAccepted, none_some, front, each, of_each}, Arrays.{IsNameOf, array_name}, Places.{InFile, FileKnown, FieldInFile, file_known, struct_fields, field_found, at_number, IfSome}, Tokens.{Named as IsAmong, names_among}, Written.{Position, position_there, found_there}, TargetLists.place_there, Found.global_low}
+use Rattle.sharc_accepted_laws.proofs.{Imports.{◌≡◌, ◌⊎◌, inl, inr, ⊎_elim, ℕ, zero, suc, ◌+◌, ◌<◌, ◌≤◌, Bool, true, false, cond, ◌&&◌, List, [], ◌∷◌, ◌++◌, length, slice_get, refl, ap, sym, ◌∙◌, subst, arith, Option, Some, None, IsSomeAnd, Contains, false≢true, and_parts, get_or as slice_index_or, AllByRecursion, option_or, Base, Mode, Private, Readonly, Locked, Racy, Span, Declaration, Identifier, WrittenType, Dot, Dereference, GlobalDefinition, expressions, in_function, Expression, Function, Named, Kind, is_array, declared_kind, Role, Entity, Numbered, declared, entities_in, numbered, is_told_by, positions_of, Names, Spawns, Runs, Leads, IsReached, tokens_of, Resolution, named_at, global_at, function_at, declaration_at, globals_in, functions_in, structs_in, kind_at, HasType, Callee, of_program, of_conditions, a_variable, a_global, a_function, a_field, IsItself, IsFound, EachTypeFound, EachNamesItself, EachPathFound, MeetsConstraints, NodeFinding, finding_at, is_mutex_kind, is_behind_pointer, written_cell, top_of, field_cell, declared_cell, field_named, first_mode, global_cell, named_cell, pointed, cell_at, IsFirst, Touches, IsRoot, mode_found, LinkLaws, Assignment, position_count, row_at, is_mutex, settled, settled_modes, settled_in, settled_at, Sharing, private, readonly, locked, racy, lock_of, sharing_of, RulesAreMet, ReachedAreTold, MeetsRules, in_global, in_global_at, in_object_at, global_of, own_field, named_target, target, IsInside, AreAlone, SomeAreAlone, IsAccepted, front, each, of_each}, Arrays.{IsNameOf, array_name}, Places.{InFile, FileKnown, FieldInFile, file_known, struct_fields, field_found, at_number, IfSome}, Tokens.{Named as IsAmong, names_among}, Settling.{IsPositioned, positioned}, Written.found_there, TargetLists.place_there, Found.global_low, TargetMembers.top_written}
 use Rattle.sharc_tree.specs.Tree as tree
 use Rattle.sharc_mode.specs.Sharings.{is_private, is_dynamic}
 
@@ -41,11 +41,6 @@ top_settled b (level ∷ below) low finding h = by (is_mutex b below) level h
     by false None h = inr refl
     by false (Some mode) h = inl (ap Some h)
 
-top_written : (levels : List (Option Mode)) → top_of levels ≡ Some Private → slice_get levels 0 ≡ Some (Some Private)
-top_written [] h = absurd (none_some Private h)
-top_written (level ∷ below) h = ap Some h
-
--- a field is private in what is private alone
 written_private : (r : Resolution) (q : Sharing) (w : WrittenType) → (top_of w.ctype.levels ≡ Some Private → ⊥) → field_cell r q w ≡ private → q ≡ private
 written_private r q w none h = by (is_mutex_kind (declared_kind w)) (top_of w.ctype.levels) none h
   where
@@ -66,7 +61,7 @@ written_private r q w none h = by (is_mutex_kind (declared_kind w)) (top_of w.ct
     by false _ none h = absurd (false≢true (ap is_private h))
 
 -- ---- names
-no_callee : (r : Resolution) (i : Identifier) (parameters : List Kind) (result : Kind) (g : ℕ) → Callee r i parameters result → named_at r i.site.token ≡ Named.Global g → ⊥
+pub no_callee : (r : Resolution) (i : Identifier) (parameters : List Kind) (result : Kind) (g : ℕ) → Callee r i parameters result → named_at r i.site.token ≡ Named.Global g → ⊥
 no_callee r i _ _ g (of_program f names at text main) is = let e = sym names ∙ is in cc
 no_callee r i _ _ g (of_conditions k names text) is = let e = sym names ∙ is in cc
 
@@ -105,8 +100,8 @@ module _ (told : ReachedAreTold) (links : LinkLaws) (rules : RulesAreMet) (found
     positions_low : 0 < positions_of n2.entity
     positions_low = subst (λ e. 0 < positions_of e) (sym there.itself) levels_low
 
-    stands : Position (entities_in r2.program.items) 0 n2
-    stands = position_there (entities_in r2.program.items) 0 n2 (found_there (is_told_by token token) (numbered (entities_in r2.program.items)) n2 there.found)
+    stands : IsPositioned (entities_in r2.program.items) 0 n2
+    stands = positioned (entities_in r2.program.items) 0 n2 (found_there (is_told_by token token) (numbered (entities_in r2.program.items)) n2 there.found)
 
     settled_is : settled_at r2 n2.first ≡ slice_index_or (settled d.declaration.written.ctype.base None d.declaration.written.ctype.levels) 0 (Some Private)
     settled_is =
@@ -127,7 +122,7 @@ module _ (told : ReachedAreTold) (links : LinkLaws) (rules : RulesAreMet) (found
       found_private : mode_found (slice_index_or (settled d.declaration.written.ctype.base None d.declaration.written.ctype.levels) 0 (Some Private)) (finding_at a.least.findings n2.first) ≡ Private
       found_private =
           let first = stands.first in
-          let inside = stands.inside in
+          let inside = stands.ends in
           let low = positions_low in
           let within : n2.first < position_count r2 = omega (arith, first, inside, low) in
           ap (λ o. mode_found o (finding_at a.least.findings n2.first)) (sym settled_is) ∙ sym (a.least.mode n2.first within) ∙ is
@@ -166,7 +161,7 @@ module _ (told : ReachedAreTold) (links : LinkLaws) (rules : RulesAreMet) (found
   never_written : (d : Declaration) → IsFound r2 (declared Role.Field d) → top_of d.written.ctype.levels ≡ Some Private → ⊥
   never_written d f top =
       modes_met.m6 f.numbered 0 (found_there (is_told_by d.name.site.token d.name.site.token) (numbered (entities_in r2.program.items)) f.numbered f.found) (ap (λ (e : Entity). e.role) f.itself)
-      (subst (λ (e : Entity). slice_get e.written.ctype.levels 0 ≡ Some (Some Private)) (sym f.itself) (top_written d.written.ctype.levels top))
+      (subst (λ (e : Entity). slice_get e.written.ctype.levels 0 ≡ Some (Some Private)) (sym f.itself) (top_written d.written.ctype.levels Private top))
 
   -- ---- a function that is reached
   module _ (n : ℕ) (f : Function) (at : function_at r2 n ≡ Some f) (reached : IsReached r2 n) where

@@ -1,5 +1,5 @@
 -- Arrays are globals that are named.
-use Rattle.sharc_accepted_laws.proofs.Imports.{◌≡◌, ℕ, Bool, true, false, cond, refl, ap, sym, ◌∙◌, Option, Some, None, false≢true, AllByRecursion, NumberType, Span, Declaration, Identifier, FieldOperator, Negate, Complement, Dereference, expressions, Expression, Function, Constant, Named, Kind, array, is_array, is_long, long, int, element_kind, OperatorClass, Shift, Arithmetic, number_kind, class_of, binary_result, Resolution, named_at, declaration_at, variable_kind, result_kind_of, named_kind, called_kind, function_at, kind_at, HasType, a_field, a_field_behind}
+use Rattle.sharc_accepted_laws.proofs.Imports.{binary_plain, called_plain, constant_plain, element_plain, unary_plain, variable_plain, ◌≡◌, ℕ, true, refl, ap, sym, ◌∙◌, false≢true, AllByRecursion, Span, Identifier, FieldOperator, expressions, Expression, Named, Kind, is_array, class_of, Resolution, named_at, declaration_at, named_kind, kind_at, HasType, a_field, a_field_behind}
 use Rattle.sharc_tree.specs.Tree as tree
 
 -- the name of a global, in parentheses or not
@@ -9,39 +9,10 @@ IsNameOf r (tree.parentheses s a) g = IsNameOf r a g
 IsNameOf r _ g = ⊥
 
 module _ (r : Resolution) where
-  no_variable : (o : Option Declaration) → is_array (variable_kind o) ≡ true → ⊥
-  no_variable None h = false≢true h
-  no_variable (Some d) h = false≢true h
-
-  no_element : (k : Kind) → is_array (element_kind k) ≡ true → ⊥
-  no_element (array b n) h = false≢true h
-  no_element _ h = false≢true h
-
-  no_long : (b : Bool) → is_array (cond b long int) ≡ true → ⊥
-  no_long true h = false≢true h
-  no_long false h = false≢true h
-
-  no_result : (o : Option Function) → is_array (result_kind_of o) ≡ true → ⊥
-  no_result None h = false≢true h
-  no_result (Some f) h = false≢true h
-
-  no_called : (n : Named) → is_array (called_kind r n) ≡ true → ⊥
-  no_called (Named.Function n) h = no_result (function_at r n) h
-  no_called _ h = false≢true h
-
-  no_binary : (o : OperatorClass) (j k : Kind) → is_array (binary_result o j k) ≡ true → ⊥
-  no_binary Shift j k h = no_long (is_long j) h
-  no_binary Arithmetic j k h = no_long _ h
-  no_binary _ j k h = false≢true h
-
-  no_number : (t : NumberType) → is_array (number_kind t) ≡ true → ⊥
-  no_number NumberType.Int h = false≢true h
-  no_number NumberType.Long h = false≢true h
-
   name_array : (n : Named) → is_array (named_kind r n) ≡ true → (g : ℕ) × (n ≡ Named.Global g)
   name_array (Named.Global g) h = (g, refl)
-  name_array (Named.Variable t) h = absurd (no_variable (declaration_at r t) h)
-  name_array (Named.Field t) h = absurd (no_variable (declaration_at r t) h)
+  name_array (Named.Variable t) h = absurd (variable_plain (declaration_at r t) h)
+  name_array (Named.Field t) h = absurd (variable_plain (declaration_at r t) h)
   name_array _ h = absurd (false≢true h)
 
   field_name : (s : Span) (e : Expression) (v : FieldOperator) (n : Identifier) (k : Kind) → HasType r (tree.field s e v n) k → (t : ℕ) × (named_at r n.site.token ≡ Named.Field t)
@@ -53,12 +24,10 @@ module _ (r : Resolution) where
   array_name (tree.parentheses s e) h is = array_name e h.1 is
   array_name (tree.field s e v n) h is =
       let x = field_name s e v n _ h.0 in
-      absurd (no_variable (declaration_at r x.0) (ap (λ z. is_array (named_kind r z)) (sym x.1) ∙ is))
-  array_name (tree.constant s (Constant.Number n)) h is = absurd (no_number n.number_type is)
-  array_name (tree.call s f all) h is = absurd (no_called (named_at r f.site.token) is)
-  array_name (tree.index s e n) h is = absurd (no_element (kind_at r e) is)
-  array_name (tree.unary s Negate e) h is = absurd (no_long (is_long (kind_at r e)) is)
-  array_name (tree.unary s Complement e) h is = absurd (no_long (is_long (kind_at r e)) is)
-  array_name (tree.unary s Dereference e) h is = absurd (no_element (kind_at r e) is)
-  array_name (tree.binary s o at e z) h is = absurd (no_binary (class_of o) (kind_at r e) (kind_at r z) is)
+      absurd (variable_plain (declaration_at r x.0) (ap (λ z. is_array (named_kind r z)) (sym x.1) ∙ is))
+  array_name (tree.constant s k) h is = absurd (constant_plain k is)
+  array_name (tree.call s f all) h is = absurd (called_plain r (named_at r f.site.token) is)
+  array_name (tree.index s e n) h is = absurd (element_plain (kind_at r e) is)
+  array_name (tree.unary s o e) h is = absurd (unary_plain o (kind_at r e) is)
+  array_name (tree.binary s o at e z) h is = absurd (binary_plain (class_of o) (kind_at r e) (kind_at r z) is)
   array_name _ h is = absurd (false≢true is)

@@ -1,5 +1,5 @@
 -- Assignments, and calls whose value is dropped.
-use Rattle.sharc_accepted_laws.proofs.{Imports.{◌≡◌, ℕ, ◌<◌, Bool, true, false, cond, List, length, refl, ap, sym, ◌∙◌, subst, option_map, Option, Some, None, Contains, false≢true, AllByRecursion, flat_map, Span, WrittenType, is_lvalue, without_parentheses, is_call, LowSimple, expressions, in_option, in_right, in_simple, in_function, Expression, Right, value, malloc, Simple, assign, does_call, Function, Kind, is_integer, is_pointer, same_kind, declared_kind, Register, Int, Reference, Resolution, functions_in, made, Receiver, lvalue as to_lvalue, Transfer, Agrees, function_transfers, IsHeld, MeetsSimple, element_cells, is_pointer_in, made_at, types_made, is_reference, cell_at, pointed, Assignment, base_of, Targets as ModeTargets, row_at, modes_of, modes_at, Sharing, IsExpression, IsAssigned, kind_of, is_ref, target_of, Target, width_of, Context, slot_kind, register_of, number_in, PlaceSuits, LeftSuits, RightSuits, SimpleSuits, CountSuits, IfThere, is_cell, StaticType, cells_of, Refers, PointersMadeAt, Setting, GoesTo, type_by, IsTypeIn, IsTypable, VariableTyped, IsMade, CountTypable, ValueGoes, RightTypable, VariableAssigned, CellAssigned, Assigned, Dropped, SimpleTypable, HeldLaws, held_at, GivenLaws, ScopeLaws, AllStand, ExpressionStands, ExpressionsStand, static_of, entry_by, entry_of, IsRowOf, NumbersFound, ExpressionsFound, pointee, PointeesFit, PointeesPoint, row_shape, targets_of, IsAt, ValueLaws, typing, IsPlaceIn, IsThere, AreExpressionsTypable, front, back, each, eq_refl}, Mallocs.one_made, Members.{filter_there, first_of, flat_there}, Sorts.{reference_no_integer, integer_want, held_pointer, held_integer, no_function_held, made_pointer, made_element, element_some}, Wholes.{Facts, IsName, variable_named}, TargetLists.place_there, AccessFirsts.no_entry, Forms.{integer_no_reference as integer_is}}
+use Rattle.sharc_accepted_laws.proofs.{Imports.{no_integer, ◌≡◌, ℕ, ◌<◌, Bool, true, false, cond, List, length, refl, ap, sym, ◌∙◌, subst, option_map, Option, Some, None, Contains, false≢true, AllByRecursion, flat_map, Span, WrittenType, is_lvalue, without_parentheses, is_call, LowSimple, expressions, in_option, in_right, in_simple, in_function, Expression, Right, value, malloc, Simple, assign, does_call, Function, Kind, is_integer, is_pointer, same_kind, declared_kind, Register, Int, Reference, Resolution, functions_in, made, Receiver, lvalue as to_lvalue, Transfer, Agrees, function_transfers, IsHeld, MeetsSimple, element_cells, is_pointer_in, made_at, types_made, is_reference, cell_at, pointed, Assignment, base_of, Targets as ModeTargets, row_at, modes_of, modes_at, Sharing, IsExpression, IsAssigned, kind_of, is_ref, target_of, Target, width_of, Context, slot_kind, register_of, number_in, PlaceSuits, LeftSuits, RightSuits, SimpleSuits, CountSuits, IfThere, is_cell, StaticType, cells_of, Refers, PointersMadeAt, Setting, GoesTo, type_by, IsTypeIn, IsTypable, VariableTyped, IsMade, CountTypable, ValueGoes, RightTypable, VariableAssigned, CellAssigned, Assigned, Dropped, SimpleTypable, HeldLaws, held_at, GivenLaws, ScopeLaws, AllStand, ExpressionStands, ExpressionsStand, static_of, entry_by, entry_of, IsRowOf, NumbersFound, ExpressionsFound, pointee, PointeesFit, PointeesPoint, row_shape, targets_of, IsAt, ValueLaws, typing, IsPlaceIn, IsThere, AreExpressionsTypable, front, back, each, eq_refl}, Mallocs.one_made, Members.{filter_there, first_of, flat_there}, Sorts.{integer_want, held_pointer, held_integer, no_function_held, made_pointer, made_element, element_some}, Wholes.{Facts, IsName, variable_named}, TargetLists.place_there, Forms.{integer_no_reference as integer_is}}
 use Rattle.sharc_tree.specs.Tree as tree
 use Rattle.sharc_flat.specs.Places.{variable}
 use Rattle.sharc_invariant.specs.Types.{Targets}
@@ -7,20 +7,18 @@ use Rattle.sharc_invariant.specs.Types.{Targets}
 -- a call is no lvalue
 call_is : (e : Expression) → is_call e ≡ true → is_lvalue e ≡ false
 call_is (tree.call s f all) h = refl
-call_is (tree.spawn s f a) h = refl
-call_is (tree.on_value s w a) h = refl
-call_is (tree.on_place s w a) h = refl
-call_is _ h = absurd (false≢true h)
+call_is _ h = cc
 
 -- ---- in parentheses
 module _ (c : Context) where
-  record Bare (e : Expression) : Type 0 where
-    entry : entry_of c e ≡ entry_of c (without_parentheses e)
-    kind : kind_of c e ≡ kind_of c (without_parentheses e)
+  pub record Bare (e : Expression) : Type 0 where
+    pub entry : entry_of c e ≡ entry_of c (without_parentheses e)
+    pub kind : kind_of c e ≡ kind_of c (without_parentheses e)
+    pub target : target_of c e ≡ target_of c (without_parentheses e)
 
-  bare_of : (e : Expression) → Bare e
-  bare_of (tree.parentheses s a) = let b = bare_of a in record { entry = b.entry; kind = b.kind }
-  bare_of _ = record { entry = refl; kind = refl }
+  pub bare_of : (e : Expression) → Bare e
+  bare_of (tree.parentheses s a) = let b = bare_of a in record { entry = b.entry; kind = b.kind; target = b.target }
+  bare_of _ = record { entry = refl; kind = refl; target = refl }
 
 -- and what stands there
 bare_there : (g : Function) (c : Context) (e : Expression) → IsThere g c e → IsThere g c (without_parentheses e)
@@ -102,7 +100,7 @@ module _ (laws : Laws) (z : Setting) (alone : ℕ → Bool) (n : ℕ) (g : Funct
       is_pointer_value = let p = laws.values.pointers z n c here.set.accepted e (at_of e t) pointer in (p.1, p.2)
 
       by : (o : Option ModeTargets) → row_at c.program.typed e ≡ o → Pointed e
-      by None is = absurd (no_entry (type_by (entry_of c e)) (sym (ap (λ o. entry_by c (kind_of c e) (option_map (modes_of c.program) o)) is) ∙ is_pointer_value.0))
+      by None is = absurd (cc (sym (ap (λ o. entry_by c (kind_of c e) (option_map (modes_of c.program) o)) is) ∙ is_pointer_value.0))
       by (Some row) is = record {
         row = row;
         is = is;
@@ -141,7 +139,7 @@ module _ (laws : Laws) (z : Setting) (alone : ℕ → Bool) (n : ℕ) (g : Funct
       typed = typable.value c here e (record { inside = given.inside; stands = given.stands }) suits.0 (λ l no. suits.1.1 (sym suits.1.0 ∙ no))
 
       by : (b : Bool) → is_reference kind ≡ b → ValueGoes z n typing c kind s e b
-      by true is = (typed, suits.1.0 ∙ is, reference_no_integer kind is, given.goes e refl is, given.type)
+      by true is = (typed, suits.1.0 ∙ is, no_integer kind is, given.goes e refl is, given.type)
       by false is = let number : is_integer (kind_of c e) ≡ true = suits.1.1 is in (typed, (integer_is (kind_of c e) number, number), integer_want kind (kind_of c e) given.agrees number)
   right_is kind s mode (malloc span count w) given suits = (suits.0, given.type, given.makes span count w refl, count_is count given.inside given.stands suits.2)
 

@@ -1,6 +1,5 @@
 -- What the cells of globals hold at first is a value of their content.
 use Rattle.sharc_accepted_laws.proofs.{Imports.{◌≡◌, inl, inr, ℕ, zero, suc, ℤ, pos, negsuc, ◌-◌, ◌*◌, ◌^◌, ◌<◌, ◌≤◌, Bool, true, false, cond, List, [], ◌∷◌, ◌++◌, length, take, replicate, get_or as slice_index_or, refl, ap, sym, ◌∙◌, subst, arith, Some, to_z-of_z, lt-ltb, false≢true, w64, AllByRecursion, FitsSigned, neg_ℤ, slice_index, Base, Constant, Number, Character, Null, GlobalDefinition, GlobalForm, object, is_pointer, is_integral, declared_kind, Char, Long, word_of, holds, elements_of, Resolution, globals_in, IsInteger, IsHeldBy, MeetsInitial, MeetsGlobal, number_of, MeetsGlobals, constant_value, form_value, Assignment, base_as_width, cells_in, granules_in, first_words, all_first_words, FieldMode, Content, Integer, Pointer, Field, no_field, Initial, IsCounted, CountedForm, GlobalsBegin, declared_content, base_fields, top_mode, global_element, repeated, global_fields, all_global_fields, same_some, none_some}, Laying.global_count}
-use Rattle.sharc_code.specs.declared.instr.Width.TheVariants.{Int}
 
 abbrev Starts : List Field → List ℕ → Type 0
 Starts fields words = (j : ℕ) → Initial (slice_index_or fields j no_field).holds (slice_index words j)
@@ -67,9 +66,7 @@ signed_value c minus n is = ap (λ z. cond minus (neg_ℤ z) z) is
 -- of an element that is an integer
 integer_fields : (m : Assignment) (q : FieldMode) (b : Base) → is_integral b ≡ true → (slice_index_or (base_fields m q b) 0 no_field).holds ≡ Integer (base_as_width b)
 integer_fields m q Base.Mutex is = absurd (false≢true is)
-integer_fields m q Base.Void is = absurd (false≢true is)
-integer_fields m q (Base.Struct name) is = absurd (false≢true is)
-integer_fields m q _ is = refl
+integer_fields m q _ is = cc
 
 pub is_some_base : (b c : Base) (n k : ℕ) → object b n ≡ object c k → b ≡ c
 is_some_base b c n k h = cc

@@ -1,5 +1,5 @@
 -- Variables of blocks.
-use Rattle.sharc_accepted_laws.proofs.{Imports.{◌≡◌, ℕ, Bool, true, false, [], ◌∷◌, refl, ap, sym, ◌∙◌, subst, Option, Some, None, IfSome, Contains, AllByRecursion, Declaration, in_option, in_right, in_local, in_function, Right, Local, Function, Named, Kind, is_pointer, declared_kind, declaration_at, variable_kind, variable, Agrees, function_transfers, IsItself, element_cells, is_reference, pointed, Assignment, written, declared_row, modes_of, with_variable, width_of, Context, slot_of, InitialSuits, StaticType, Setting, type_by, IsTypeIn, IsMade, Keeps, Begins, InitialTypable, DeclaredTypable, held_named, ExpressionStands, LocalStands, static_of, variable_type, entry_named, VariablesFound, typing, width_named, IsPlaceIn, AreExpressionsTypable}, Assigned.{Laws, function_there, made_there, made_is, right_is, Gives}, Fresh.LocalFresh, Slots.{pointer_kept, pointer_last, ref_more, integer_kept, integer_last, int_more}, Sorts.declared_pointer}
+use Rattle.sharc_accepted_laws.proofs.{Imports.{declared_reference, ◌≡◌, ℕ, Bool, true, false, [], ◌∷◌, refl, ap, sym, ◌∙◌, subst, Option, Some, None, IfSome, Contains, AllByRecursion, Declaration, in_option, in_right, in_local, in_function, Right, Local, Function, Named, Kind, is_pointer, declared_kind, declaration_at, variable_kind, variable, Agrees, function_transfers, IsItself, element_cells, is_reference, pointed, Assignment, written, declared_row, modes_of, with_variable, width_of, Context, slot_of, InitialSuits, StaticType, Setting, type_by, IsTypeIn, IsMade, Keeps, Begins, InitialTypable, DeclaredTypable, held_named, ExpressionStands, LocalStands, static_of, variable_type, entry_named, VariablesFound, typing, width_named, IsPlaceIn, AreExpressionsTypable}, Assigned.{Laws, function_there, made_there, made_is, right_is, Gives}, Fresh.LocalFresh, StaticRegisters.got_more, Slots.{pointer_last, ref_more, integer_kept, integer_last, int_more}}
 use Rattle.sharc_check.specs.Constructs.{locals_in_all}
 
 -- what a variable begins with agrees with it, and is among what the function gives
@@ -47,7 +47,7 @@ module _ (laws : Laws) (variables : VariablesFound) (z : Setting) (alone : ℕ �
   keeps_is = record {
     pointers = λ q low. ap type_by (laws.scopes.entries c (slot_of l.declaration ∷ []) q here.closed low);
     widths = λ j low. ap (width_named c) (integer_kept c.scope (slot_of l.declaration ∷ []) j low);
-    names = λ q low. ap (held_named c.program.typed) (pointer_kept c.scope (slot_of l.declaration ∷ []) q low);
+    names = λ q low. ap (held_named c.program.typed) (got_more (slot_of l.declaration ∷ []) c.scope q low);
   }
 
   -- and it has the next register
@@ -57,14 +57,14 @@ module _ (laws : Laws) (variables : VariablesFound) (z : Setting) (alone : ℕ �
   begins_is : (b : Bool) → is_reference (declared_kind l.declaration.written) ≡ b
       → Begins typing c (with_variable c l.declaration) (variable_type (with_variable c l.declaration) l.declaration.name.site.token) (width_of (declared_kind l.declaration.written)) b
   begins_is true is =
-      let pointer : is_pointer (declared_kind l.declaration.written) ≡ true = sym (declared_pointer l.declaration.written) ∙ is in
+      let pointer : is_pointer (declared_kind l.declaration.written) ≡ true = sym (declared_reference l.declaration.written) ∙ is in
       record {
         refs = ref_more c.scope (slot_of l.declaration) true pointer;
         ints = int_more c.scope (slot_of l.declaration) true pointer;
         pointer = ap (λ o. type_by (entry_named (with_variable c l.declaration) o)) (pointer_last c.scope (slot_of l.declaration) pointer);
       }
   begins_is false is =
-      let integer : is_pointer (declared_kind l.declaration.written) ≡ false = sym (declared_pointer l.declaration.written) ∙ is in
+      let integer : is_pointer (declared_kind l.declaration.written) ≡ false = sym (declared_reference l.declaration.written) ∙ is in
       record {
         refs = ref_more c.scope (slot_of l.declaration) false integer;
         ints = int_more c.scope (slot_of l.declaration) false integer;
@@ -88,7 +88,7 @@ module _ (laws : Laws) (variables : VariablesFound) (z : Setting) (alone : ℕ �
     stands = subst (λ o. AllByRecursion (ExpressionStands (with_variable c l.declaration)) (in_option in_right o)) given.is stands.1;
     agrees = given.given.0;
     type = type_with;
-    goes = λ e is ref. laws.given.begun (with_variable c l.declaration) here.set.accepted g l e (function_there z alone n g c here) given.there (given.is ∙ ap Some is) (sym (declared_pointer l.declaration.written) ∙ ref);
+    goes = λ e is ref. laws.given.begun (with_variable c l.declaration) here.set.accepted g l e (function_there z alone n g c here) given.there (given.is ∙ ap Some is) (sym (declared_reference l.declaration.written) ∙ ref);
     makes = λ span count w is. subst (λ t. IsMade z n typing t span.first.token (element_cells c.program.typed (declared_kind w))) (sym type_is)
         (made_is laws z alone n g typable (with_variable c l.declaration) (here_with laws z alone n g c here l stands) (declared_kind l.declaration.written) (declared_row c.program.typed written l.declaration.name.site.token)
         (variables c.program here.set.accepted.resolved here.set.accepted.placed here.set.accepted.low here.set.accepted.least.modes l.declaration.name.site.token l.declaration itself.1 written) w

@@ -18,15 +18,12 @@ found_defined (x ∷ rest) name e all is = by (bytes_eq x.name name) is (found_d
     by true k later = subst (λ (z : Entry). IsDefined z.meaning) (same_some x e k) all.0
     by false k later = later k
 
-no_variable : (t : ℕ) → Named.Variable t ≡ Named.Known → ⊥
-no_variable t h = cc
-
 with_variable : (block : ℕ) (d : Declaration) (names : List Entry) → AreDefined names → AreDefined (declared block d names)
 with_variable block d names all = by (is_here block names d)
   where
     by : (b : Bool) → AreDefined (cond b names (record { name = d.name.text; block = block; meaning = Meaning.variable d } ∷ names))
     by true = all
-    by false = ((λ h. no_variable d.name.site.token h), all)
+    by false = ((λ h. cc), all)
 
 with_all : (block : ℕ) (names : List Entry) (ds : List Declaration) → AreDefined names → AreDefined (with_parameters block names ds)
 with_all block names [] all = all

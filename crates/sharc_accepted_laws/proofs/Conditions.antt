@@ -6,16 +6,16 @@ pub object_no_null : (b : Base) (n : ℕ) → object b n ≡ null → ⊥
 object_no_null b n h = cc
 
 function_no_null : (r : Resolution) (i : Identifier) (ps : List Kind) (res : Kind) → Callee r i ps res → res ≡ null → ⊥
-function_no_null r i _ _ (of_program f is at spelled other) h = object_no_null _ _ h
-function_no_null r i _ _ (of_conditions c is spelled) h = object_no_null _ _ h
+function_no_null r i _ _ (of_program f is at spelled other) h = cc
+function_no_null r i _ _ (of_conditions c is spelled) h = cc
 
 common_no_null : (j k t : Kind) → Common j k t → t ≡ null → ⊥
-common_no_null _ _ _ (both_shorter a b) h = object_no_null _ _ h
-common_no_null _ _ _ _ h = object_no_null _ _ h
+common_no_null _ _ _ (both_shorter a b) h = cc
+common_no_null _ _ _ _ h = cc
 
 pub number_no_null : (t : NumberType) → number_kind t ≡ null → ⊥
-number_no_null NumberType.Int h = object_no_null _ _ h
-number_no_null NumberType.Long h = object_no_null _ _ h
+number_no_null NumberType.Int h = cc
+number_no_null NumberType.Long h = cc
 
 some_kind : (k : Kind) → is_null k ≡ false → k ≡ null → ⊥
 some_kind k some h = false≢true (sym some ∙ ap is_null h)
@@ -32,7 +32,7 @@ null_row r _ _ (negated a i x) h = absurd (common_no_null _ _ _ x h)
 null_row r _ _ (complemented a i x) h = absurd (common_no_null _ _ _ x h)
 null_row r _ _ (arithmetic is a b l m x) h = absurd (common_no_null _ _ _ x h)
 null_row r _ _ (shifted is a b l m x) h = absurd (common_no_null _ _ _ x h)
-null_row r _ _ _ h = absurd (object_no_null _ _ h)
+null_row r _ _ _ h = absurd (cc)
 
 -- ---- types of arguments, the first and the second
 abbrev pub two_types : StaticType → StaticType → ℕ → StaticType
@@ -124,12 +124,9 @@ module _ (laws : Laws) (c : Context) (code : Code) (alone : ℕ → Bool) (lines
         typed = subst (λ b. Either b (AreTwo z n typing c (argument a no_arguments) × FirstCell z x.type Waiters × FirstCell z x.type MutexWord) (IsOne z n typing c (argument a no_arguments) × FirstCell z x.type Waiters)) (sym other) (x.ref, x.first);
       }
 
-  function_is_no_known : (k : ℕ) → Named.Function k ≡ Named.Known → ⊥
-  function_is_no_known k h = cc
-
   by_callee : (i : Identifier) (all : Arguments) (ps : List Kind) (res : Kind) → Callee r i ps res → named_at r i.site.token ≡ Named.Known → HaveTypes r all ps → Parts c n g (in_arguments all) → function_at r n ≡ Some g
       → ReferencesSuit c (if bytes_eq i.text (codes "wait") then 2 else 1) all → KnownCall i.text all
-  by_callee i all _ _ (of_program {n = k} f is at spelled other) known typed parts here suits = absurd (function_is_no_known k (sym is ∙ known))
+  by_callee i all _ _ (of_program {n = k} f is at spelled other) known typed parts here suits = absurd (cc (sym is ∙ known))
   by_callee i all _ _ (of_conditions Wait is spelled) known typed parts here suits = two i.text spelled all parts here typed (subst (λ t. ReferencesSuit c (if bytes_eq t (codes "wait") then 2 else 1) all) spelled suits)
   by_callee i all _ _ (of_conditions Signal is spelled) known typed parts here suits =
       single i.text (ap (λ t. bytes_eq t (codes "wait")) spelled) all parts here typed (subst (λ t. ReferencesSuit c (if bytes_eq t (codes "wait") then 2 else 1) all) spelled suits)

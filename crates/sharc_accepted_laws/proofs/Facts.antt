@@ -1,5 +1,5 @@
 -- What is known of each expression of a function of an accepted program.
-use Rattle.sharc_accepted_laws.proofs.{Imports.{◌≡◌, ℕ, Bool, true, false, List, refl, ap, sym, ◌∙◌, subst, option_map, Option, Some, None, Contains, false≢true, Site, is_lvalue, expressions, in_function, span_of, Expression, Function, is_pointer, element_kind, Code, Use, Resolution, functions_in, HasType as IsOfType, MeetsConstraints, MeetsGlobals, OneType, EachNamesItself, EachNamesOwn, ArePlain, SpawnsNameFunctions, SpawnsThreads, element_cells, Assignment, Targets, modes_of, row_at, modes_at, Sharing, IsFunction, IsExpression, IsTaken, kind_of, is_ref, target_of, mode_of, lvalue_in, guard_of, Target, Context, IsScalar, is_cell, TakeSuits, StaticType, cells_of, Refers, Setting, ReferenceTyped, type_by, ground_of, IsPointer, ValueTyped, Takes, BaseStands, IsOf, BasesStand, ArgumentsFit, IsAccepted, ResultLaws, ScopeLaws, ExpressionStands, FunctionsStand, SpawnedBegin, static_of, entry_by, entry_of, LocksStandBeside, ExpressionsFound, GlobalsAre, LvaluesFit, ArraysFit, pointee, PointeesFit, targets_of, CallingLaws, IsAt, ValueLaws, TakingLaws, ThreadsPass, typing, CellsTyped, setting_of, IsSet, each}, Forms.{lvalue_some, reference_pointer}, Members.first_of, Wholes.{facts_of, variable_named}, TargetLists.place_there, AccessFirsts.{no_entry as none_refers}}
+use Rattle.sharc_accepted_laws.proofs.{Imports.{◌≡◌, ℕ, Bool, true, false, List, refl, ap, sym, ◌∙◌, subst, option_map, Option, Some, None, Contains, false≢true, Site, is_lvalue, expressions, in_function, span_of, Expression, Function, is_pointer, element_kind, Code, Use, Resolution, functions_in, HasType as IsOfType, MeetsConstraints, MeetsGlobals, OneType, EachNamesItself, EachNamesOwn, ArePlain, SpawnsNameFunctions, SpawnsThreads, element_cells, Assignment, Targets, modes_of, row_at, modes_at, Sharing, IsFunction, IsExpression, IsTaken, kind_of, is_ref, target_of, mode_of, lvalue_in, guard_of, Target, Context, IsScalar, is_cell, TakeSuits, StaticType, cells_of, Refers, Setting, ReferenceTyped, type_by, ground_of, IsPointer, ValueTyped, Takes, BaseStands, IsOf, BasesStand, ArgumentsFit, IsAccepted, ResultLaws, ScopeLaws, ExpressionStands, FunctionsStand, SpawnedBegin, static_of, entry_by, entry_of, LocksStandBeside, ExpressionsFound, GlobalsAre, LvaluesFit, ArraysFit, pointee, PointeesFit, targets_of, CallingLaws, IsAt, ValueLaws, TakingLaws, ThreadsPass, typing, CellsTyped, setting_of, IsSet, each}, Forms.{lvalue_some, reference_pointer}, Members.first_of, Wholes.{facts_of, variable_named}, TargetLists.place_there}
 use Rattle.sharc_flat.specs.Places.{variable}
 use Rattle.sharc_typed_laws.specs.Typable.{CellTyped}
 use Rattle.sharc_accepted_laws.proofs.Wholes as wholes
@@ -76,14 +76,14 @@ module _ (laws : Laws) (c : Context) (code : Code) (alone : ℕ → Bool) (lines
     pointer_of pointer = laws.values.pointers z n c a e is_at pointer
 
     row_by : (o : Option Targets) → row_at r e ≡ o → (s : StaticType) → entry_by c (kind_of c e) (option_map (modes_of m) o) ≡ Refers s → (row : Targets) × (row_at r e ≡ Some row)
-    row_by None is s h = absurd (none_refers s h)
+    row_by None is s h = absurd (cc)
     row_by (Some row) is s h = (row, is)
 
     pub row_of : is_pointer (kind_of c e) ≡ true → (row : Targets) × (row_at r e ≡ Some row)
     row_of pointer = row_by (row_at r e) refl (type_by (entry_of c e)) (pointer_of pointer).1
 
     modes_by : (o : Option (List Sharing)) → modes_at m e ≡ o → (s : StaticType) → entry_by c (kind_of c e) o ≡ Refers s → (modes : List Sharing) × (modes_at m e ≡ Some modes)
-    modes_by None is s h = absurd (none_refers s h)
+    modes_by None is s h = absurd (cc)
     modes_by (Some modes) is s h = (modes, is)
 
     pub pointer_modes : is_pointer (kind_of c e) ≡ true → (modes : List Sharing) × (modes_at m e ≡ Some modes)

@@ -1,5 +1,5 @@
 -- The fields of elements that are accessed are fields of them, and so is that with the mutex, or the pointer to it, of the same element.
-use Rattle.sharc_accepted_laws.proofs.{Imports.{◌≡◌, inl, inr, ℕ, ◌<◌, false, List, [], ◌∷◌, length, get_or as slice_index_or, refl, ap, sym, ◌∙◌, subst, arith, option_map, Option, Some, None, Contains, Expression, is_array, is_struct_behind, elements_of, Resolution, named_at, globals_in, global_at, kind_at, MeetsGlobal, MeetsGlobals, field_place, is_mutex_kind, cell_at, Assignment, modes_of, modes_at, Lock, Sharing, locked, IsExpression, kind_of, guard_of, Target, in_global, in_global_at, in_object, in_object_at, target, beside_named, beside_field, Context, Field, FieldMode, no_field, row_of, cells_of, field_at, Setting, type_by, AreFields, list_or, modes_of_pointer, cells_in_each, LockLeads, to_global, to_variable, PathLeads, IsAccepted, entry_by, entry_of, BesideFits, AreLockedBeside, LocksStandBeside, ExpressionsFound, GlobalsAre, pointer_of, IsOfObject, IsOfGlobal, ModeFits, locked_by_type, locked_by_global, locked_by_sibling, locked_behind, FieldFits, IsBehindPointer, IsInFile, NamesCell, no_cell, of_object, of_global, LvaluesFit, expression_shape, shapes, number, global_element, targets_of, typing, same_some, none_some, of_each}, TargetLists.place_there, AccessLeading.no_modes}
+use Rattle.sharc_accepted_laws.proofs.{Imports.{◌≡◌, inl, inr, ℕ, ◌<◌, false, List, [], ◌∷◌, length, get_or as slice_index_or, refl, ap, sym, ◌∙◌, subst, arith, option_map, Option, Some, None, Contains, Expression, is_array, is_struct_behind, elements_of, Resolution, named_at, globals_in, global_at, kind_at, MeetsGlobal, MeetsGlobals, field_place, is_mutex_kind, cell_at, Assignment, modes_of, modes_at, Lock, Sharing, locked, IsExpression, kind_of, guard_of, Target, in_global_at, in_object_at, target, beside_named, beside_field, Context, Field, FieldMode, no_field, row_of, cells_of, field_at, Setting, type_by, AreFields, list_or, modes_of_pointer, cells_in_each, LockLeads, to_global, to_variable, PathLeads, IsAccepted, entry_by, entry_of, BesideFits, AreLockedBeside, LocksStandBeside, ExpressionsFound, GlobalsAre, pointer_of, IsOfObject, IsOfGlobal, ModeFits, locked_by_type, locked_by_global, locked_by_sibling, locked_behind, FieldFits, IsBehindPointer, IsInFile, NamesCell, no_cell, of_object, of_global, LvaluesFit, expression_shape, shapes, number, global_element, targets_of, typing, same_some, none_some, of_each}, TargetLists.place_there}
 
 -- ---- of what an lvalue names
 module _ (z : Setting) (n : ℕ) (c : Context) where
@@ -18,48 +18,24 @@ module _ (z : Setting) (n : ℕ) (c : Context) where
     own_guard : is_mutex_kind (kind_of c e) ≡ false → IsGuard e (guard_of c e)
 
 -- ---- targets
-same_number : (n k : ℕ) → in_object_at n ≡ in_object_at k → n ≡ k
-same_number n k h = cc
-
-other_object : (n k : ℕ) → in_object_at n ≡ in_object k → ⊥
-other_object n k h = cc
-
 object_number : (n k : ℕ) → IsOfObject (in_object_at n) k → n ≡ k
-object_number n k (inl s) = absurd (other_object n k s)
-object_number n k (inr s) = same_number n k s
-
-object_global : (n g k : ℕ) → in_object_at n ≡ in_global g k → ⊥
-object_global n g k h = cc
-
-pub object_global_at : (n g k : ℕ) → in_object_at n ≡ in_global_at g k → ⊥
-object_global_at n g k h = cc
+object_number n k (inl s) = absurd (cc)
+object_number n k (inr s) = cc
 
 object_no_global : (n g k : ℕ) → IsOfGlobal (in_object_at n) g k → ⊥
-object_no_global n g k (inl s) = object_global n g k s
-object_no_global n g k (inr s) = object_global_at n g k s
+object_no_global n g k (inl s) = cc
+object_no_global n g k (inr s) = cc
 
 pub same_global : (g n h k : ℕ) → in_global_at g n ≡ in_global_at h k → g ≡ h
 same_global g n h k s = cc
 
-same_field : (g n h k : ℕ) → in_global_at g n ≡ in_global_at h k → n ≡ k
-same_field g n h k s = cc
-
-other_global : (g n h k : ℕ) → in_global_at g n ≡ in_global h k → ⊥
-other_global g n h k s = cc
-
 global_numbers : (g n h k : ℕ) → IsOfGlobal (in_global_at g n) h k → (g ≡ h) × (n ≡ k)
-global_numbers g n h k (inl s) = absurd (other_global g n h k s)
-global_numbers g n h k (inr s) = (same_global g n h k s, same_field g n h k s)
-
-global_object : (g n k : ℕ) → in_global_at g n ≡ in_object k → ⊥
-global_object g n k h = cc
-
-global_object_at : (g n k : ℕ) → in_global_at g n ≡ in_object_at k → ⊥
-global_object_at g n k h = cc
+global_numbers g n h k (inl s) = absurd (cc)
+global_numbers g n h k (inr s) = (cc, cc)
 
 global_no_object : (g n k : ℕ) → IsOfObject (in_global_at g n) k → ⊥
-global_no_object g n k (inl s) = global_object g n k s
-global_no_object g n k (inr s) = global_object_at g n k s
+global_no_object g n k (inl s) = cc
+global_no_object g n k (inr s) = cc
 
 -- ---- fields
 module _ (fit : LvaluesFit) (found : ExpressionsFound) (beside : LocksStandBeside) (globals_are : GlobalsAre) (meets : MeetsGlobals) (z : Setting) (n : ℕ) (c : Context) (a : IsAccepted c.program) where
@@ -128,7 +104,7 @@ module _ (fit : LvaluesFit) (found : ExpressionsFound) (beside : LocksStandBesid
     element_fits g k w =
         subst (λ o. Inside z n c (cells_in_each r o) k guard) (sym w.defined)
         (subst (λ count. Inside z n c count k guard) same
-        (with_guard (length element) k guard w.inside (guarded [] element k (slice_index_or element k no_field) (λ l below is _. absurd (no_modes l below is)) w.fits (locks.globals w.global (place_there (globals_in r.program.items) g w.global w.defined) k))))
+        (with_guard (length element) k guard w.inside (guarded [] element k (slice_index_or element k no_field) (λ l below is _. absurd (cc)) w.fits (locks.globals w.global (place_there (globals_in r.program.items) g w.global w.defined) k))))
       where
         element : List Field
         element = global_element m w.global

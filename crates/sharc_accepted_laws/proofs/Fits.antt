@@ -1,5 +1,5 @@
 -- In a well-moded program no shape has a racy pointer or struct, nor a private target below one that is not.
-use Rattle.sharc_accepted_laws.proofs.{Imports.{◌≡◌, ◌⊎◌, inl, inr, ⊎_elim, ℕ, zero, suc, ◌+◌, ◌-◌, ◌<◌, true, List, [], ◌∷◌, length, map, get_or as slice_index_or, refl, ap, sym, ◌∙◌, subst, arith, Option, Some, None, Contains, false≢true, cases_lt, AllByRecursion, slice_get, Base, Mode, Private, Racy, Dynamic, Role, is_struct_base, Numbered, entities_in, numbered, positions_of, written_modes, first_depth, IsLeastAssignment, Assignment, IsBelow, written, entity_row, modes_of, settled, field_target, otherwise_of, settled_modes, IsEntity, IsWritten, MeetsRules, Form, private_form, racy_form, dynamic_form, Shape, form_of, shapes_down, entity_shapes, shapes_of, shapes, is_private_form, both, head_there, head_or_tail, tail_there, none_there}, TargetForms.{mode_form, IsLevel, skipped, level_of}, TargetLists.{left_there, right_there}, Settling.{positioned, racy_found, private_found, SettledAt, settled_by, IsLast, SettledBy, a_mutex, is_written, is_meant, settled_from, never_open, get_dropped, dropped_length, otherwise_top}}
+use Rattle.sharc_accepted_laws.proofs.{Imports.{◌≡◌, ◌⊎◌, inl, inr, ⊎_elim, ℕ, zero, suc, ◌+◌, ◌-◌, ◌<◌, true, List, [], ◌∷◌, length, map, get_or as slice_index_or, refl, ap, sym, ◌∙◌, subst, arith, Option, Some, None, Contains, false≢true, cases_lt, AllByRecursion, slice_get, Base, Mode, Private, Racy, Role, is_struct_base, Numbered, entities_in, numbered, positions_of, written_modes, first_depth, IsLeastAssignment, Assignment, IsBelow, written, entity_row, modes_of, settled, field_target, otherwise_of, settled_modes, IsEntity, IsWritten, MeetsRules, Form, private_form, racy_form, Shape, form_of, shapes_down, entity_shapes, shapes_of, shapes, is_private_form, both, head_there, head_or_tail, tail_there, none_there}, TargetForms.{mode_form, IsLevel, skipped, level_of}, TargetLists.{left_there, right_there}, Settling.{positioned, racy_found, private_found, SettledAt, settled_by, IsLast, SettledBy, a_mutex, is_written, is_meant, settled_from, never_open, get_dropped, dropped_length, otherwise_top}}
 
 -- ---- forms of modes
 pub form_racy : (mode : Mode) → mode_form mode ≡ racy_form → mode ≡ Racy
@@ -37,21 +37,9 @@ down_fit : (b : Base) (fs : List Form) → AreFit b fs → AllByRecursion IsFitS
 down_fit b [] h = tt
 down_fit b (f ∷ below) h = (h, down_fit b below (fit_below b f below h))
 
-no_struct : (name : List ℕ) → Base.Mutex ≡ Base.Struct name → ⊥
-no_struct name h = cc
-
 pub struct_base : (b : Base) → is_struct_base b ≡ true → (name : List ℕ) × (b ≡ Base.Struct name)
 struct_base (Base.Struct name) h = (name, refl)
 struct_base _ h = absurd (false≢true h)
-
-racy_dynamic : Racy ≡ Dynamic → ⊥
-racy_dynamic h = cc
-
-private_dynamic : Private ≡ Dynamic → ⊥
-private_dynamic h = cc
-
-pub private_racy : Private ≡ Racy → ⊥
-private_racy h = cc
 
 module _ (m : Assignment) (least : IsLeastAssignment m) (rules : MeetsRules m) where
   module _ (n : Numbered) (is_entity : IsEntity m n) where
@@ -79,7 +67,7 @@ module _ (m : Assignment) (least : IsLeastAssignment m) (rules : MeetsRules m) w
 
     by_mutex : (k : ℕ) → (depth + k + 1 < length levels) ⊎ ((name : List ℕ) × (n.entity.written.ctype.base ≡ Base.Struct name)) → IsLast n.entity.written.ctype.base (written_modes n.entity) k → ⊥
     by_mutex k (inl pointer) w = let last = w.last in let many = counted in omega (arith, pointer, last, many)
-    by_mutex k (inr struct) w = no_struct struct.0 (sym w.mutex ∙ struct.1)
+    by_mutex k (inr struct) w = cc (sym w.mutex ∙ struct.1)
 
     by_top : (k : ℕ) → k < positions_of n.entity → (n.entity.role ≡ Role.Field) × (slice_get levels 0 ≡ Some (Some Racy)) → ⊥
     by_top k low (is, top) =
@@ -91,7 +79,7 @@ module _ (m : Assignment) (least : IsLeastAssignment m) (rules : MeetsRules m) w
         → SettledBy n.entity.written.ctype.base (otherwise_of n.entity.role levels) (written_modes n.entity) k Racy → ⊥
     by_settled k low guarded (a_mutex is last) = by_mutex k guarded last
     by_settled k low guarded (is_written is) = by_written k low guarded (get_dropped depth levels k (Some Racy) is)
-    by_settled k low guarded (is_meant is) = by_top k low (otherwise_top n.entity.role levels Racy is racy_dynamic)
+    by_settled k low guarded (is_meant is) = by_top k low (otherwise_top n.entity.role levels Racy is (λ e. cc))
 
     pub never_racy : (k : ℕ) → k < positions_of n.entity → (depth + k + 1 < length levels) ⊎ ((name : List ℕ) × (n.entity.written.ctype.base ≡ Base.Struct name)) → slice_get m.modes (n.first + k) ≡ Some Racy → ⊥
     never_racy k low guarded at =
@@ -123,9 +111,9 @@ module _ (m : Assignment) (least : IsLeastAssignment m) (rules : MeetsRules m) w
 
     -- the target of a field is never private
     private_written : (k : ℕ) → n.entity.role ≡ Role.Field → SettledBy n.entity.written.ctype.base (otherwise_of n.entity.role levels) (written_modes n.entity) k Private → ⊥
-    private_written k is (a_mutex same last) = private_racy same
+    private_written k is (a_mutex same last) = cc
     private_written k is (is_written w) = rules.m6 n (depth + k) is_entity is (get_dropped depth levels k (Some Private) w)
-    private_written k is (is_meant w) = rules.m6 n 0 is_entity is (otherwise_top n.entity.role levels Private w private_dynamic).1
+    private_written k is (is_meant w) = rules.m6 n 0 is_entity is (otherwise_top n.entity.role levels Private w (λ e. cc)).1
 
     private_open : (k : ℕ) → n.entity.role ≡ Role.Field → slice_index_or (settled_modes n.entity) k (Some Private) ≡ None → ⊥
     private_open k is h =
@@ -140,12 +128,9 @@ module _ (m : Assignment) (least : IsLeastAssignment m) (rules : MeetsRules m) w
         ⊎_elim (λ h. private_written (skipped n.entity.role + k) is (settled_from n.entity.written.ctype.base (otherwise_of n.entity.role levels) (written_modes n.entity) (skipped n.entity.role + k) Private low h))
         (λ h. private_open (skipped n.entity.role + k) is h) (private_found _ s.finding s.found)
 
-  dynamic_racy : dynamic_form ≡ racy_form → ⊥
-  dynamic_racy h = cc
-
   -- ---- all shapes
   list_fit : (list : List Numbered) → ((n : Numbered) → Contains list n → IsEntity m n) → AllByRecursion IsFitShape (shapes_of m list)
-  list_fit [] all = ((λ struct is. dynamic_racy is), ((λ struct is. dynamic_racy is), tt))
+  list_fit [] all = ((λ struct is. cc), ((λ struct is. cc), tt))
   list_fit (n ∷ rest) all =
       both IsFitShape (entity_shapes m n) (shapes_of m rest) (down_fit n.entity.written.ctype.base (map form_of (modes_of m (entity_row written (Some n)))) (entity_fit n (all n (head_there n rest))))
       (list_fit rest (λ k has. all k (tail_there n k rest has)))

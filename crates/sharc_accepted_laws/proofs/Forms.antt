@@ -1,5 +1,5 @@
 -- What the types of C11 say of the parts of an expression.
-use Rattle.sharc_accepted_laws.proofs.Imports.{◌≡◌, ℕ, zero, suc, ◌+◌, ◌==◌, ◌||◌, ◌&&◌, Bool, true, false, List, [], ◌∷◌, refl, ap, sym, ◌∙◌, arith, lt-ltb, eqb-true, Some, false≢true, and_parts, or_left, Base, Span, Identifier, WrittenType, Arrow, Unlock, Free, Dereference, GlobalForm, is_lvalue, Expression, call, spawn, on_place, cast, index, field, unary, Arguments, no_arguments, argument, Function, Named, Kind, object, array, void, mutex, is_integral, is_integer, is_pointer, is_null, is_array, declared_kind, declared_kinds, global_kind, Resolution, named_at, function_at, kind_at, HasType, HaveTypes, Callee, of_program, of_conditions, IsInteger, Assignable, integer, pointer, null_pointer, a_variable, a_global, a_function, in_parentheses, element_of_pointer, element_of_array, a_call, a_field, a_field_behind, pointed_to, unlocked, a_cast, is_reference, IsScalar, same_some}
+use Rattle.sharc_accepted_laws.proofs.Imports.{◌≡◌, ℕ, zero, suc, ◌+◌, ◌==◌, ◌||◌, ◌&&◌, Bool, true, false, List, [], ◌∷◌, refl, ap, sym, ◌∙◌, arith, lt-ltb, eqb-true, Some, false≢true, and_parts, or_left, Base, Span, Identifier, WrittenType, Arrow, Unlock, Free, Dereference, GlobalForm, is_lvalue, Expression, call, spawn, on_place, cast, index, field, unary, Arguments, no_arguments, argument, Function, Named, Kind, object, array, void, mutex, is_integral, is_integer, is_pointer, is_null, is_array, declared_kind, declared_kinds, global_kind, Resolution, named_at, function_at, kind_at, HasType, HaveTypes, Callee, of_program, of_conditions, IsInteger, Assignable, integer, pointer, null_pointer, a_global, in_parentheses, element_of_pointer, element_of_array, a_call, a_field_behind, pointed_to, unlocked, a_cast, is_reference, IsScalar, same_some}
 use Rattle.sharc_tree.specs.declared.tree.expression.PlaceCall.TheVariants.{Lock}
 use Rattle.sharc_ctype_laws.specs.Constraints.{IsPointer, spawned, locked, freed}
 use Rattle.sharc_flat.specs.Suits.{Passes}
@@ -72,16 +72,9 @@ global_null _ b n = refl
 module _ (r : Resolution) where
   -- no lvalue is NULL
   pub lvalue_some : (e : Expression) (k : Kind) → HasType r e k → is_lvalue e ≡ true → is_null k ≡ false
-  lvalue_some _ _ (a_variable is at spelled) h = refl
   lvalue_some _ _ (a_global {g = g} is at spelled) h = global_null g.form _ _
-  lvalue_some _ _ (a_function q) h = refl
   lvalue_some _ _ (in_parentheses {a = a} {k = k} t) h = lvalue_some a k t h
-  lvalue_some _ _ (element_of_pointer x i t) h = refl
-  lvalue_some _ _ (element_of_array x i t) h = refl
-  lvalue_some _ _ (a_field a m is) h = refl
-  lvalue_some _ _ (a_field_behind a m is) h = refl
-  lvalue_some _ _ (pointed_to a) h = refl
-  lvalue_some _ _ _ h = absurd (false≢true h)
+  lvalue_some _ _ _ h = cc
 
   module _ (one : (e : Expression) (k : Kind) → HasType r e k → kind_at r e ≡ k) where
     -- what is indexed and is no array, and what is led through by `->` and `*`, is a pointer
@@ -118,10 +111,7 @@ module _ (r : Resolution) where
   same_function : (n k : ℕ) → Named.Function n ≡ Named.Function k → n ≡ k
   same_function n k h = cc
 
-  no_known : (k : ℕ) → Named.Known ≡ Named.Function k → ⊥
-  no_known k h = cc
-
   pub function_parameters : (i : Identifier) (ps : List Kind) (res : Kind) (k : ℕ) (g : Function) → Callee r i ps res → named_at r i.site.token ≡ Named.Function k → function_at r k ≡ Some g → ps ≡ declared_kinds g.parameters
   function_parameters i _ _ k g (of_program {n = n} f names at spelled other) is there =
       ap (λ (h : Function). declared_kinds h.parameters) (same_some f g (sym at ∙ ap (function_at r) (same_function n k (sym names ∙ is)) ∙ there))
-  function_parameters i _ _ k g (of_conditions c names spelled) is there = absurd (no_known k (sym names ∙ is))
+  function_parameters i _ _ k g (of_conditions c names spelled) is there = absurd (cc (sym names ∙ is))

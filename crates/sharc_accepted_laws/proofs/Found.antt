@@ -1,14 +1,5 @@
 -- The fields and the globals of a program are entities of it, found by their tokens.
-use Rattle.sharc_accepted_laws.proofs.{Imports.{◌≡◌, ⊎_elim, ◌<◌, Bool, true, false, cond, List, [], ◌∷◌, ◌++◌, length, map, ap, subst, Some, Contains, AllByRecursion, find, Declaration, GlobalDefinition, StructDefinition, LowItems, Item, structure, global, function, Role, Entity, Numbered, declared, function_entities, entities_in, numbered, entity_at, is_told_by, Resolution, structs_in, globals_in, IsFound, Assignment, IsEntity, same_some, none_some, front, back, head_there, head_or_tail, of_each, tail_there, none_there}, TargetLists.each_mapped}
-
--- ---- in lists
-find_there : (test : Numbered → Bool) (list : List Numbered) (n : Numbered) → find test list ≡ Some n → Contains list n
-find_there test [] n is = absurd (none_some n is)
-find_there test (x ∷ rest) n is = by (test x) is (find_there test rest n)
-  where
-    by : (b : Bool) → cond b (Some x) (find test rest) ≡ Some n → (find test rest ≡ Some n → Contains rest n) → Contains (x ∷ rest) n
-    by true is more = subst (λ z. Contains (x ∷ rest) z) (same_some x n is) (head_there x rest)
-    by false is more = tail_there x n rest (more is)
+use Rattle.sharc_accepted_laws.proofs.{Imports.{◌≡◌, ⊎_elim, ◌<◌, List, [], ◌∷◌, length, map, ap, subst, Some, Contains, AllByRecursion, Declaration, GlobalDefinition, StructDefinition, LowItems, Item, structure, global, function, Role, Entity, Numbered, declared, function_entities, entities_in, numbered, entity_at, is_told_by, Resolution, structs_in, globals_in, IsFound, Assignment, IsEntity, front, back, head_or_tail, of_each, none_there}, TargetLists.each_mapped, Written.found_there}
 
 -- ---- what is found at the tokens of an entity
 pub record IsThere (m : Assignment) (e : Entity) : Type 0 where
@@ -21,7 +12,7 @@ pub record IsThere (m : Assignment) (e : Entity) : Type 0 where
 pub is_there : (m : Assignment) (e : Entity) → IsFound m.typed e → IsThere m e
 is_there m e f = record {
   numbered = f.numbered;
-  is_entity = find_there (is_told_by e.token e.last) (numbered (entities_in m.typed.program.items)) f.numbered f.found;
+  is_entity = found_there (is_told_by e.token e.last) (numbered (entities_in m.typed.program.items)) f.numbered f.found;
   found = f.found;
   role = ap (λ (x : Entity). x.role) f.itself;
   written = ap (λ (x : Entity). x.written) f.itself;

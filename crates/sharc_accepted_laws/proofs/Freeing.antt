@@ -1,5 +1,5 @@
 -- The layouts of elements are those of the rows: what Free clears.
-use Rattle.sharc_accepted_laws.proofs.{Imports.{◌≡◌, ⊎_elim, ℕ, zero, suc, ◌+◌, ◌-◌, ◌*◌, ◌^◌, ◌<◌, ◌≤◌, Bool, true, false, cond, List, [], ◌∷◌, ◌++◌, length, get_or as slice_index_or, refl, ap, sym, ◌∙◌, subst, arith, Some, bytes_eq, false≢true, cases_lt, AllByRecursion, slice_get, slice_index, Base, Declaration, StructDefinition, object, is_pointer as is_pointer_kind, declared_kind, Code, Layout, no_layout, layout_at, structs_in, WithinLimits, Assignment, written, declared_row, modes_of, struct_layout, base_layout, layout_of, pointers_among, layouts_from, layouts_of, all_pointers, pointers_of, FieldMode, Field, TableTarget as Target, no_field, row_of, IsLayout, LayoutsAre, Form, number, own_mode, base_content, pointer_content, declared_content, single, members, struct_fields, base_fields, shape_fields, targets_of, same_some, none_some, some_there}, TargetCells.{member_count, has_forms}, Good.not_pointer, TargetMembers.members_at, Numbers.numbers_found}
+use Rattle.sharc_accepted_laws.proofs.{Imports.{◌≡◌, ⊎_elim, ℕ, zero, suc, ◌+◌, ◌-◌, ◌*◌, ◌^◌, ◌<◌, ◌≤◌, Bool, true, false, cond, List, [], ◌∷◌, ◌++◌, length, get_or as slice_index_or, refl, ap, sym, ◌∙◌, subst, arith, Some, bytes_eq, false≢true, cases_lt, AllByRecursion, slice_get, slice_index, Base, Declaration, StructDefinition, object, is_pointer as is_pointer_kind, declared_kind, Code, Layout, no_layout, layout_at, structs_in, WithinLimits, Assignment, written, declared_row, modes_of, struct_layout, base_layout, layout_of, pointers_among, layouts_from, layouts_of, all_pointers, pointers_of, FieldMode, Field, TableTarget as Target, no_field, row_of, IsLayout, LayoutsAre, Form, number, own_mode, base_content, pointer_content, declared_content, single, members, struct_fields, base_fields, shape_fields, targets_of, same_some, none_some, some_there}, TargetCells.{member_count, has_forms}, Good.not_pointer, TargetMembers.members_at, Numbers.numbers_found, Table.past_end}
 use Rattle.sharc_invariant.specs.Types.{is_pointer}
 use Rattle.sharc_accepted_laws.specs.Shapes.{kind_of}
 
@@ -79,11 +79,6 @@ among_few n (x ∷ rest) = by (is_pointer_kind (declared_kind x.written)) (among
     by : (b : Bool) → length (pointers_among (n + 1) rest) ≤ length rest → length (cond b (n ∷ pointers_among (n + 1) rest) (pointers_among (n + 1) rest)) ≤ length (x ∷ rest)
     by true low = omega (arith, low)
     by false low = omega (arith, low)
-
-pub past_end : (fields : List Field) (k : ℕ) → length fields ≤ k → slice_index_or fields k no_field ≡ no_field
-past_end [] k low = refl
-past_end (f ∷ rest) zero low = absurd (omega (arith, low))
-past_end (f ∷ rest) (suc k) low = past_end rest k (omega (arith, low))
 
 members_laid : (m : Assignment) (q : FieldMode) (pointers : List ℕ) (at : ℕ) (fields : List Declaration) → at + length (pointers_among 0 fields) < 2 ^ 32
     → ((k : ℕ) → k < length (pointers_among 0 fields) → slice_index pointers (at + k) ≡ slice_index (pointers_among 0 fields) k)

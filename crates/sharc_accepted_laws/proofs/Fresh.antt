@@ -1,5 +1,5 @@
 -- No two variables of a function are declared at one token: where a local is declared, no variable with its token stands.
-use Rattle.sharc_accepted_laws.proofs.Imports.{◌≡◌, ℕ, ◌+◌, ◌<◌, ◌≤◌, ◌==◌, Bool, true, false, cond, List, [], ◌∷◌, ◌++◌, refl, sym, subst, arith, eqb-true, Some, None, AllByRecursion, Span, Token, Declaration, Follow, declaration_spans, first_spans, option_spans, statement_spans, PlacedDeclaration, PlacedDeclarations, PlacedLocal, PlacedFirst, PlacedStatement, PlacedStatements, PlacedItem, PlacedItems, span_of, span_of_simple, span_of_statement, Local, First, nothing, declares, does, Statement, Statements, no_statements, statement, Function, Item, structure, global, function, functions_in, Slot, with_variable, flat_behind_first as behind_first, behind_statement, parameters_scope, Context, slot_of, slot_kind, both, each}
+use Rattle.sharc_accepted_laws.proofs.{Imports.{◌≡◌, ℕ, ◌+◌, ◌<◌, ◌≤◌, ◌==◌, Bool, true, false, cond, List, [], ◌∷◌, ◌++◌, refl, sym, subst, arith, eqb-true, Some, None, AllByRecursion, Span, Token, Declaration, Follow, declaration_spans, first_spans, option_spans, statement_spans, PlacedDeclaration, PlacedDeclarations, PlacedLocal, PlacedFirst, PlacedStatement, PlacedStatements, PlacedItem, PlacedItems, span_of, span_of_simple, span_of_statement, Local, First, nothing, declares, does, Statement, Statements, no_statements, statement, Function, Item, structure, global, function, functions_in, Slot, with_variable, flat_behind_first as behind_first, behind_statement, parameters_scope, Context, slot_of, slot_kind, both, each}, Owners.named_within}
 use Rattle.sharc_tree.specs.Tree as tree
 
 -- ---- in each statement
@@ -55,14 +55,7 @@ module _ (all : List Token) where
     high : l.declaration.name.site.token < until
 
   declared_between : (d : Declaration) → PlacedDeclaration all d → (d.span.first.token ≤ d.name.site.token) × (d.name.site.token < d.span.last.token + 1)
-  declared_between d p =
-      let type = p.0.1 in
-      let order = type.0.order in
-      let first = type.1 in
-      let name = type.3 in
-      let after = name.1 in
-      let before = name.2 in
-      (omega (arith, order, first, after), before)
+  declared_between d p = let w = named_within all d p in let high = w.1 in (w.0, omega (arith, high))
 
   local_between : (l : Local) → PlacedLocal all l → Between l.span.first.token (l.span.last.token + 1) l
   local_between l p =

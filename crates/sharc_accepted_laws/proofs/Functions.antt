@@ -1,32 +1,12 @@
 -- Functions: what their first registers hold, what they give, and their statements.
-use Rattle.sharc_accepted_laws.proofs.{Imports.{◌≡◌, ℕ, zero, suc, ◌<◌, Bool, true, false, cond, List, [], ◌∷◌, ◌++◌, length, nat_lt, slice_get, refl, ap, sym, ◌∙◌, subst, arith, ltb-true, ltb-false, Option, Some, None, AllByRecursion, LowItems, LowStatements, in_function, Function, Item, structure, global, function, Named, declared_kind, GlobalCells, Resolution, functions_in, function_at, declaration_at, variable_kind, IsFair, function_transfers, IsItself, AllFair, ArePlain, EachNamesItself, EachNamesOwn, MeetsConstraints, MeetsStatements, is_reference, Assignment, written, declared_row, modes_of, IsFunction, Slot, parameters_scope, width_of, Context, ref_count, TypedSuits, Empty, Refers, Anything, Within, Signature, Setting, type_by, label_of, GivesBackBy, FunctionTypable, held_at, ResultLaws, AllStand, DeclaredStands, FunctionStands, FunctionsStand, pointers, variable_entry, entry_named, result_type, VariablesFound, typing, function_signature, setting_of, IsSet, IsPlaceIn, AreExpressionsTypable, same_some, none_some, back, of_each, to_each}, Assigned.Laws, Fresh.{StatementsFresh, fresh_functions}, Locals.in_each, Members.own_elements, Stated.{Does, Own, AllGiven, statements_are, signature_is, result_is}, Wholes.{Facts, facts_of}, StaticRegisters.pointer_count, TargetLists.place_there}
+use Rattle.sharc_accepted_laws.proofs.{Imports.{◌≡◌, ℕ, zero, suc, ◌<◌, Bool, true, false, cond, List, [], ◌∷◌, ◌++◌, length, nat_lt, slice_get, refl, ap, sym, ◌∙◌, subst, arith, ltb-true, ltb-false, Option, Some, None, AllByRecursion, LowItems, LowStatements, in_function, Function, Item, structure, global, function, Named, declared_kind, GlobalCells, Resolution, functions_in, function_at, declaration_at, variable_kind, IsFair, function_transfers, IsItself, AllFair, ArePlain, EachNamesItself, EachNamesOwn, MeetsConstraints, MeetsStatements, is_reference, Assignment, written, declared_row, modes_of, IsFunction, parameters_scope, width_of, Context, ref_count, TypedSuits, Empty, Refers, Anything, Within, Signature, Setting, type_by, label_of, GivesBackBy, FunctionTypable, held_at, ResultLaws, AllStand, DeclaredStands, FunctionStands, FunctionsStand, pointers, variable_entry, entry_named, result_type, VariablesFound, typing, function_signature, setting_of, IsSet, IsPlaceIn, AreExpressionsTypable, none_some, back, of_each, to_each}, Assigned.Laws, Fresh.{StatementsFresh, fresh_functions}, Locals.in_each, Members.own_elements, Stated.{Does, Own, AllGiven, statements_are, signature_is, result_is}, Wholes.{Facts, facts_of}, StaticRegisters.{pointer_count, split}, TargetLists.place_there}
 use Rattle.sharc_ctype.specs.Statements as ctype
 use Rattle.sharc_ctype_laws.specs.Rules.{MeetsRules}
 use Rattle.sharc_check.specs.Constructs.{locals_in_all}
 use Rattle.sharc_flat.specs.Flattened as flat
 use Rattle.sharc_typed_laws.specs.Places.{IsNamed}
 
--- ---- the variables of a scope
--- the slot of a pointer, with those before it and those behind it
-record Split (scope : List Slot) (x : ℕ) : Type 0 where
-  before : List Slot
-  after : List Slot
-  slot : Slot
-  whole : scope ≡ before ++ slot ∷ after
-  token : slot.token ≡ x
-
-later_split : (z : Slot) (rest : List Slot) (x : ℕ) → Split rest x → Split (z ∷ rest) x
-later_split z rest x s = record { before = z ∷ s.before; after = s.after; slot = s.slot; whole = ap (λ l. z ∷ l) s.whole; token = s.token }
-
-split_by : (z : Slot) (rest : List Slot) (x : ℕ) → ((q : ℕ) → slice_get (pointers rest) q ≡ Some x → Split rest x) → (b : Bool) (q : ℕ) → slice_get (cond b (z.token ∷ pointers rest) (pointers rest)) q ≡ Some x → Split (z ∷ rest) x
-split_by z rest x more true zero k = record { before = []; after = rest; slot = z; whole = refl; token = same_some z.token x k }
-split_by z rest x more true (suc q) k = later_split z rest x (more q k)
-split_by z rest x more false q k = later_split z rest x (more q k)
-
-split : (scope : List Slot) (q x : ℕ) → slice_get (pointers scope) q ≡ Some x → Split scope x
-split [] q x h = absurd (none_some x h)
-split (z ∷ rest) q x h = split_by z rest x (λ k is. split rest k x is) z.is_pointer q h
-
+-- ---- lists
 no_more : {A : Type 0} (list : List A) (k : ℕ) → k < length list → slice_get list k ≡ None → ⊥
 no_more [] k low is = omega (arith, low)
 no_more (x ∷ rest) zero low is = none_some x (sym is)

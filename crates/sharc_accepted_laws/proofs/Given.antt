@@ -1,5 +1,5 @@
 -- What is assigned, begun with and returned has the type of what it is given to.
-use Rattle.sharc_accepted_laws.proofs.{Imports.{◌≡◌, inl, inr, ℕ, ◌==◌, Bool, true, false, cond, List, ◌++◌, refl, ap, sym, ◌∙◌, subst, option_map, arith, eqb-true, Option, Some, None, Contains, false≢true, and_parts, ltb-true, AllByRecursion, Base, Declaration, Number, Null, Negate, Complement, Dereference, GlobalForm, Array, GlobalDefinition, Expression, value, Local, Function, Named, Kind, object, array, null, same_base, same_kind, is_integer, is_integral, is_pointer, is_null, is_long, is_array, long, int, agrees, element_kind, declared_kind, global_kind, OperatorClass, Shift, Arithmetic, class_of, binary_result, Resolution, named_at, global_at, function_at, declaration_at, functions_in, variable_kind, global_kind_of, result_kind_of, named_kind, called_kind, kind_at, Transfer, lvalue, variable, result, function_transfers, IsFair, locals_in_all as declared_in_all, Assignment, base_of, written, declared_row, behind, row_at, modes_of, modes_at, Sharing, same_all, IsFunction, IsGiven, assigned, initial, returned, RulesAreMet, MeetsRules, IsItself, EachNamesItself, AllFair, Context, static_of, entry_by, entry_of, IsAccepted, AssignedGoes, BegunGoes, ReturnedGoes, GivenLaws, Refers, none_some, front, back, of_each}, Same.type_of_same, Transferred.{Begins, locals_begin}, Locals.{OfLocal, in_each}, Alike.{base_is as same_bases}, Conditions.{object_no_null as no_object, number_no_null as no_number}}
+use Rattle.sharc_accepted_laws.proofs.{Imports.{◌≡◌, inl, inr, ℕ, ◌==◌, Bool, true, false, cond, List, ◌++◌, refl, ap, sym, ◌∙◌, subst, option_map, arith, eqb-true, Option, Some, None, Contains, false≢true, and_parts, ltb-true, AllByRecursion, Base, Declaration, Number, Null, Negate, Complement, Dereference, GlobalForm, Array, GlobalDefinition, Expression, value, Local, Function, Named, Kind, object, array, null, same_base, same_kind, is_integer, is_integral, is_pointer, is_null, is_long, is_array, long, int, agrees, element_kind, declared_kind, global_kind, OperatorClass, Shift, Arithmetic, class_of, binary_result, Resolution, named_at, global_at, function_at, declaration_at, functions_in, variable_kind, global_kind_of, result_kind_of, named_kind, called_kind, kind_at, Transfer, lvalue, variable, result, function_transfers, IsFair, locals_in_all as declared_in_all, Assignment, base_of, written, declared_row, behind, row_at, modes_of, modes_at, Sharing, same_all, IsFunction, IsGiven, assigned, initial, returned, RulesAreMet, MeetsRules, IsItself, EachNamesItself, AllFair, Context, static_of, entry_by, entry_of, IsAccepted, AssignedGoes, BegunGoes, ReturnedGoes, GivenLaws, Refers, none_some, front, back, of_each}, Same.type_of_same, Transferred.{Begins, locals_begin}, Locals.{OfLocal, in_each}, Alike.{base_is as same_bases}, Conditions.{number_no_null as no_number}}
 use Rattle.sharc_tree.specs.Tree as tree
 use Rattle.sharc_names.specs.Kinds.{function}
 use Rattle.sharc_check.specs.Constructs.{locals_in_all}
@@ -36,48 +36,45 @@ fair want kind p h = by (is_null kind) refl (is_integer kind) refl h
 pub no_array : (b : Base) (n : ℕ) → array b n ≡ null → ⊥
 no_array b n h = cc
 
-no_function : function ≡ null → ⊥
-no_function h = cc
-
 pub no_variable : (d : Option Declaration) → variable_kind d ≡ null → ⊥
-no_variable None h = no_function h
-no_variable (Some d) h = no_object _ _ h
+no_variable None h = cc
+no_variable (Some d) h = cc
 
 no_form : (f : GlobalForm) (b : Base) (n : ℕ) → global_kind f (object b n) ≡ null → ⊥
-no_form (Array at count) b n h = no_array _ _ h
-no_form _ b n h = no_object _ _ h
+no_form (Array at count) b n h = cc
+no_form _ b n h = cc
 
 no_global : (g : Option GlobalDefinition) → global_kind_of g ≡ null → ⊥
-no_global None h = no_function h
+no_global None h = cc
 no_global (Some g) h = no_form g.form _ _ h
 
 no_name : (r : Resolution) (n : Named) → named_kind r n ≡ null → ⊥
 no_name r (Named.Global n) h = no_global (global_at r n) h
 no_name r (Named.Variable t) h = no_variable (declaration_at r t) h
 no_name r (Named.Field t) h = no_variable (declaration_at r t) h
-no_name r _ h = no_function h
+no_name r _ h = cc
 
 no_result : (f : Option Function) → result_kind_of f ≡ null → ⊥
-no_result None h = no_object _ _ h
-no_result (Some f) h = no_object _ _ h
+no_result None h = cc
+no_result (Some f) h = cc
 
 no_called : (r : Resolution) (n : Named) → called_kind r n ≡ null → ⊥
 no_called r (Named.Function n) h = no_result (function_at r n) h
-no_called r _ h = no_object _ _ h
+no_called r _ h = cc
 
 no_common : (b : Bool) → cond b long int ≡ null → ⊥
-no_common true h = no_object _ _ h
-no_common false h = no_object _ _ h
+no_common true h = cc
+no_common false h = cc
 
 no_binary : (o : OperatorClass) (a b : Kind) → binary_result o a b ≡ null → ⊥
 no_binary Shift a b h = no_common (is_long a) h
 no_binary Arithmetic a b h = no_common _ h
-no_binary _ a b h = no_object _ _ h
+no_binary _ a b h = cc
 
 element_of_null : (k : Kind) → element_kind k ≡ null → k ≡ null
 element_of_null null h = refl
-element_of_null function h = absurd (no_function h)
-element_of_null _ h = absurd (no_object _ _ h)
+element_of_null function h = absurd (cc)
+element_of_null _ h = absurd (cc)
 
 null_row : (r : Resolution) (e : Expression) → kind_at r e ≡ null → row_at r e ≡ None
 null_row r (tree.identifier s i) h = absurd (no_name r (named_at r i.site.token) h)
@@ -93,7 +90,7 @@ null_row r (tree.unary s Negate a) h = absurd (no_common (is_long (kind_at r a))
 null_row r (tree.unary s Complement a) h = absurd (no_common (is_long (kind_at r a)) h)
 null_row r (tree.unary s Dereference a) h = ap behind (null_row r a (element_of_null (kind_at r a) h))
 null_row r (tree.binary s o at a b) h = absurd (no_binary (class_of o) (kind_at r a) (kind_at r b) h)
-null_row r _ h = absurd (no_object _ _ h)
+null_row r _ h = absurd (cc)
 
 pub null_modes : (m : Assignment) (e : Expression) → kind_at m.typed e ≡ null → modes_at m e ≡ None
 null_modes m e h = ap (option_map (modes_of m)) (null_row m.typed e h)

@@ -1,5 +1,5 @@
 -- The cells of the globals of a well-moded program are good.
-use Rattle.sharc_accepted_laws.proofs.{Imports.{◌≡◌, inl, inr, ℕ, zero, suc, ◌+◌, ◌-◌, ◌*◌, ◌<◌, Bool, true, false, cond, List, [], ◌∷◌, length, map, replicate, get_or as slice_index_or, refl, ap, sym, ◌∙◌, subst, arith, Some, Contains, slice_get, Mode, WrittenType, GlobalDefinition, IsLow, Role, is_pointer, is_struct_base, declared_kind, declared, positions_of, first_depth, entity_at, elements_of, globals_in, first_mode, Assignment, IsBelow, written, entity_row, declared_row, modes_of, racy, sharing_of, Field, no_field, AreTargets, FieldMode as field, cells_in, granules_in, private_form, form_of, shape_of, shapes, starts_private, global_mode, field_locks, base_content, pointer_content, declared_content, base_fields, top_mode, global_element, repeated, global_fields, all_global_fields, targets_of, head_there, some_there, tail_there}, Fits.{struct_base, entity_there, never_racy, form_private, private_racy}, TargetForms.{level_of, skipped}, Found.{IsThere, global_found, global_low}, Good.{IsOwn, AreGood, global_own, global_racy, none_are, both_good, padding_good, one_good, pointer_good}, TargetMembers.levels_many, Rows.{IsKnown, starts_at, targets_many, ends_within, base_good, rows_good}, Settling.dropped_length, Table.{IsGood, IsGoodTable, are_targets}}
+use Rattle.sharc_accepted_laws.proofs.{Imports.{◌≡◌, inl, inr, ℕ, zero, suc, ◌+◌, ◌-◌, ◌*◌, ◌<◌, Bool, true, false, cond, List, [], ◌∷◌, length, map, replicate, get_or as slice_index_or, refl, ap, sym, ◌∙◌, subst, arith, Some, Contains, slice_get, Mode, WrittenType, GlobalDefinition, IsLow, Role, is_pointer, is_struct_base, declared_kind, declared, positions_of, first_depth, entity_at, elements_of, globals_in, first_mode, Assignment, IsBelow, written, entity_row, declared_row, modes_of, racy, sharing_of, Field, no_field, AreTargets, FieldMode as field, cells_in, granules_in, private_form, form_of, shape_of, shapes, starts_private, global_mode, field_locks, base_content, pointer_content, declared_content, base_fields, top_mode, global_element, repeated, global_fields, all_global_fields, targets_of, head_there, some_there, tail_there}, Fits.{struct_base, entity_there, never_racy, form_private}, TargetForms.{level_of, skipped}, Found.{IsThere, global_found, global_low}, Good.{IsOwn, AreGood, global_own, global_racy, none_are, both_good, padding_good, one_good, pointer_good}, TargetMembers.levels_many, Rows.{IsKnown, starts_at, targets_many, ends_within, base_good, rows_good}, Settling.{dropped_length, get_index}, Table.{IsGood, IsGoodTable, are_targets}}
 use Rattle.sharc_mode.specs.Moded.{mode_at}
 
 sharing_racy : (x : Mode) → sharing_of x ≡ racy → x ≡ Mode.Racy
@@ -11,11 +11,6 @@ pub index_get : (list : List Mode) (k : ℕ) (x : Mode) → slice_index_or list 
 index_get [] k x is other = absurd (other is)
 index_get (y ∷ rest) zero x is other = ap Some is
 index_get (y ∷ rest) (suc k) x is other = index_get rest k x is other
-
-get_index : (list : List Mode) (k : ℕ) (x : Mode) → slice_get list k ≡ Some x → slice_index_or list k Mode.Private ≡ x
-get_index [] k x is = cc
-get_index (y ∷ rest) zero x is = cc
-get_index (y ∷ rest) (suc k) x is = get_index rest k x is
 
 repeated_good : (m : Assignment) (n : ℕ) (fields : List Field) → AreGood (targets_of m) true fields → AreGood (targets_of m) true (repeated n fields)
 repeated_good m zero fields good = none_are (targets_of m) true
@@ -57,7 +52,7 @@ module _ (m : Assignment) (known : IsKnown m) where
     racy_top : top_mode m g ≡ field.Racy → slice_get m.modes (there.numbered.first + 0) ≡ Some Mode.Racy
     racy_top h =
         let e : there.numbered.first + 0 ≡ there.numbered.first = omega arith in
-        ap (slice_get m.modes) e ∙ index_get m.modes there.numbered.first Mode.Racy (sharing_racy _ (global_racy m.typed (mode_at m there.numbered.first) (sym mode_is ∙ h))) private_racy
+        ap (slice_get m.modes) e ∙ index_get m.modes there.numbered.first Mode.Racy (sharing_racy _ (global_racy m.typed (mode_at m there.numbered.first) (sym mode_is ∙ h))) (λ e. cc)
 
     pointer_racy : is_pointer (declared_kind g.declaration.written) ≡ true → top_mode m g ≡ field.Racy → ⊥
     pointer_racy is h =
@@ -82,7 +77,7 @@ module _ (m : Assignment) (known : IsKnown m) where
         let below : IsBelow m.typed there.numbered.first (there.numbered.first + (skipped there.numbered.entity.role + 0)) =
         record { of = there.numbered; stands = there.is_entity; depth = 0; inside = omega (arith, inside, skip); first = omega arith; second = omega (arith, skip) } in
         let shared : first.0 ≡ Mode.Private = known.rules.m3.positions _ _ first.0 below first.1 (l.at.at ∙ ap Some (form_private l.at.mode l.at.form)) in
-        mode_is ∙ ap (λ x. global_mode m.typed (sharing_of x)) (get_index m.modes there.numbered.first first.0 first.1 ∙ shared)
+        mode_is ∙ ap (λ x. global_mode m.typed (sharing_of x)) ((get_index m.modes there.numbered.first first.0 Mode.Private first.1).1 ∙ shared)
 
     target_there : is_pointer (declared_kind g.declaration.written) ≡ true → Contains (shapes m) (shape_of g.declaration.written.ctype.base (modes_of m (declared_row m.typed written g.declaration.name.site.token)))
     target_there is =

@@ -1,5 +1,5 @@
 -- Good fields of the table: of one cell, and of a pointer to a shape of the program.
-use Rattle.sharc_accepted_laws.proofs.{Imports.{◌≡◌, ℕ, zero, suc, ◌+◌, ◌-◌, ◌<◌, Bool, true, false, List, [], ◌∷◌, ◌++◌, length, replicate, get_or as slice_index_or, refl, ap, sym, ◌∙◌, subst, arith, ⊎_elim, Contains, false≢true, cases_lt, AllByRecursion, Base, Assignment, Sharing, private, readonly, locked, racy, dynamic, Resolution, FieldLock, FieldMode, Under, FieldType, Content, MutexWord, Waiters, Pointer, Field, TableTarget as Target, row_of, no_field, FieldMode as field, Form, private_form, readonly_form, locked_form, racy_form, dynamic_form, Shape, shapes, number, own_mode, global_mode, is_private_mode, is_private_form, starts_private, base_content, single, targets_of, both}, Numbers.numbers_found, Table.{IsGood, IsBeside, AreBeside, none_good, racy_behind, mode_racy as racy_private}}
+use Rattle.sharc_accepted_laws.proofs.{Imports.{◌≡◌, ℕ, zero, suc, ◌+◌, ◌-◌, ◌<◌, Bool, true, false, List, [], ◌∷◌, ◌++◌, length, replicate, get_or as slice_index_or, refl, ap, sym, ◌∙◌, subst, arith, ⊎_elim, Contains, false≢true, cases_lt, AllByRecursion, Base, Assignment, Sharing, private, racy, Resolution, FieldLock, FieldMode, FieldType, Content, MutexWord, Waiters, Pointer, Field, TableTarget as Target, row_of, no_field, FieldMode as field, Form, private_form, racy_form, Shape, shapes, number, own_mode, global_mode, is_private_mode, is_private_form, starts_private, base_content, single, targets_of, both}, Numbers.numbers_found, Table.{IsGood, IsBeside, AreBeside, none_good}}
 use Rattle.sharc_invariant.specs.Types.{Targets, is_mutex, is_pointer}
 
 -- ---- modes of elements
@@ -8,66 +8,21 @@ pub record IsOwn (q : FieldMode) (shared : Bool) : Type 0 where
   pub whole : q ≡ field.Private → shared ≡ true
   pub not_behind : (a p : ℕ) → q ≡ field.Behind a p → ⊥
 
-pub readonly_private : field.Readonly ≡ field.Private → ⊥
-readonly_private h = cc
-
-pub under_private : (l : FieldLock) → Under l ≡ field.Private → ⊥
-under_private l h = cc
-
-pub dynamic_private : field.Dynamic ≡ field.Private → ⊥
-dynamic_private h = cc
-
-pub readonly_racy : field.Readonly ≡ field.Racy → ⊥
-readonly_racy h = cc
-
-pub under_racy : (l : FieldLock) → Under l ≡ field.Racy → ⊥
-under_racy l h = cc
-
-pub private_racy : field.Private ≡ field.Racy → ⊥
-private_racy h = cc
-
-pub dynamic_racy : field.Dynamic ≡ field.Racy → ⊥
-dynamic_racy h = cc
-
-pub private_behind : (a p : ℕ) → field.Private ≡ field.Behind a p → ⊥
-private_behind a p h = cc
-
-pub readonly_behind : (a p : ℕ) → field.Readonly ≡ field.Behind a p → ⊥
-readonly_behind a p h = cc
-
-pub under_behind : (l : FieldLock) (a p : ℕ) → Under l ≡ field.Behind a p → ⊥
-under_behind l a p h = cc
-
-pub dynamic_behind : (a p : ℕ) → field.Dynamic ≡ field.Behind a p → ⊥
-dynamic_behind a p h = cc
-
 pub own_of : (f : Form) → IsOwn (own_mode f) (is_private_form f)
-own_of private_form = record { whole = λ h. refl; not_behind = λ a p h. private_behind a p h }
-own_of readonly_form = record { whole = λ h. absurd (readonly_private h); not_behind = λ a p h. readonly_behind a p h }
-own_of locked_form = record { whole = λ h. absurd (under_private _ h); not_behind = λ a p h. under_behind _ a p h }
-own_of racy_form = record { whole = λ h. absurd (racy_private h); not_behind = λ a p h. racy_behind a p h }
-own_of dynamic_form = record { whole = λ h. absurd (dynamic_private h); not_behind = λ a p h. dynamic_behind a p h }
+own_of private_form = record { whole = λ h. refl; not_behind = λ a p h. cc }
+own_of _ = record { whole = λ h. absurd (cc); not_behind = λ a p h. cc }
 
 pub own_racy : (f : Form) → own_mode f ≡ field.Racy → f ≡ racy_form
-own_racy private_form h = absurd (private_racy h)
-own_racy readonly_form h = absurd (readonly_racy h)
-own_racy locked_form h = absurd (under_racy _ h)
 own_racy racy_form h = refl
-own_racy dynamic_form h = absurd (dynamic_racy h)
+own_racy _ h = absurd (cc)
 
 pub global_own : (r : Resolution) (s : Sharing) → IsOwn (global_mode r s) true
-global_own r private = record { whole = λ h. refl; not_behind = λ a p h. private_behind a p h }
-global_own r readonly = record { whole = λ h. refl; not_behind = λ a p h. readonly_behind a p h }
-global_own r (locked l) = record { whole = λ h. refl; not_behind = λ a p h. under_behind _ a p h }
-global_own r racy = record { whole = λ h. refl; not_behind = λ a p h. racy_behind a p h }
-global_own r dynamic = record { whole = λ h. refl; not_behind = λ a p h. dynamic_behind a p h }
+global_own r private = record { whole = λ h. refl; not_behind = λ a p h. cc }
+global_own r _ = record { whole = λ h. refl; not_behind = λ a p h. cc }
 
 pub global_racy : (r : Resolution) (s : Sharing) → global_mode r s ≡ field.Racy → s ≡ racy
-global_racy r private h = absurd (private_racy h)
-global_racy r readonly h = absurd (readonly_racy h)
-global_racy r (locked l) h = absurd (under_racy _ h)
 global_racy r racy h = refl
-global_racy r dynamic h = absurd (dynamic_racy h)
+global_racy r _ h = absurd (cc)
 
 pub private_mode_is : (q : FieldMode) → is_private_mode q ≡ true → q ≡ field.Private
 private_mode_is field.Private h = refl
@@ -100,13 +55,13 @@ plain_good x shared q c whole never mutex = record {
 }
 
 pub single_good : (x : Targets) (shared : Bool) (q : FieldMode) (b : Base) → (q ≡ field.Private → shared ≡ true) → IsGood x shared (single q b)
-single_good x shared q Base.Mutex whole = plain_good x shared field.Racy MutexWord (λ h. absurd (racy_private h)) refl (λ h. refl)
-single_good x shared q (Base.Struct name) whole = plain_good x shared field.Racy Waiters (λ h. absurd (racy_private h)) refl (λ h. absurd (false≢true h))
+single_good x shared q Base.Mutex whole = plain_good x shared field.Racy MutexWord (λ h. absurd (cc)) refl (λ h. refl)
+single_good x shared q (Base.Struct name) whole = plain_good x shared field.Racy Waiters (λ h. absurd (cc)) refl (λ h. absurd (false≢true h))
 single_good x shared q k whole = plain_good x shared q (base_content k) whole refl (λ h. absurd (false≢true h))
 
 single_behind : (q : FieldMode) (b : Base) → ((a p : ℕ) → q ≡ field.Behind a p → ⊥) → (a p : ℕ) → (single q b).mode ≡ field.Behind a p → ⊥
-single_behind q Base.Mutex never a p h = racy_behind a p h
-single_behind q (Base.Struct name) never a p h = racy_behind a p h
+single_behind q Base.Mutex never a p h = cc
+single_behind q (Base.Struct name) never a p h = cc
 single_behind q _ never a p h = never a p h
 
 -- ---- lists of good fields
@@ -166,7 +121,7 @@ both_good x shared a b left right = record { each = both (IsGood x shared) a b l
 
 pub padding_good : (x : Targets) (shared : Bool) (n : ℕ) → AreGood x shared (replicate n no_field)
 padding_good x shared zero = none_are x shared
-padding_good x shared (suc n) = both_good x shared (no_field ∷ []) (replicate n no_field) (one_good x shared no_field (none_good x shared) (λ a p h. racy_behind a p h)) (padding_good x shared n)
+padding_good x shared (suc n) = both_good x shared (no_field ∷ []) (replicate n no_field) (one_good x shared no_field (none_good x shared) (λ a p h. cc)) (padding_good x shared n)
 
 -- ---- pointers
 same_pointer : (a b : FieldType) → Pointer a ≡ Pointer b → a ≡ b

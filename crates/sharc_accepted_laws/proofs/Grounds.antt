@@ -1,6 +1,5 @@
 -- What lvalues name, as sharc_typed_laws reads it off them.
-use Rattle.sharc_accepted_laws.proofs.{Imports.{◌≡◌, ℕ, Bool, true, false, cond, List, refl, ap, sym, ◌∙◌, Option, Some, None, false≢true, AllByRecursion, Dot, Arrow, Negate, Dereference, expressions, Expression, identifier, parentheses, index, field, unary, Named, is_array, Resolution, named_at, global_at, kind_at, element_cells, global_elements, field_place_named, modes_at, Sharing, IsExpression, Context, in_global_at, in_object, in_object_at, global_of, has_base, named_target, own_field, target, StaticType, Setting, no_type, Typing, Ground, type_by, ground_of, static_of, entry_by, entry_of, LvaluesFit, pointer_of, IsArrayOf, ArraysFit, list_or, modes_of_pointer, kind_of_pointer, cells_in_each, GroundsFit, front}, AccessPointing.has_pointer_modes, Standing.lvalue_cells, Fields.{object_global_at as no_object_at, same_global}, Members.{first_of as self}}
-use Rattle.sharc_flat.specs.Places.{variable}
+use Rattle.sharc_accepted_laws.proofs.{Imports.{◌≡◌, ℕ, Bool, true, false, cond, List, refl, ap, sym, ◌∙◌, Option, Some, None, false≢true, AllByRecursion, Dot, Arrow, Negate, Dereference, expressions, Expression, identifier, parentheses, index, field, unary, Named, is_array, Resolution, named_at, global_at, kind_at, element_cells, global_elements, field_place_named, modes_at, Sharing, IsExpression, Context, in_global_at, in_object_at, global_of, has_base, named_target, own_field, target, StaticType, Setting, no_type, Typing, Ground, type_by, ground_of, static_of, entry_by, entry_of, LvaluesFit, pointer_of, IsArrayOf, ArraysFit, list_or, modes_of_pointer, kind_of_pointer, cells_in_each, GroundsFit, front}, AccessPointing.has_pointer_modes, Standing.lvalue_cells, Fields.same_global, Members.{first_of as self}}
 
 name_base : (n : Named) (k : ℕ) → has_base (named_target n k) ≡ false
 name_base (Named.Field n) k = refl
@@ -9,12 +8,6 @@ name_base _ k = refl
 name_array : (n : Named) (k g j : ℕ) → named_target n k ≡ in_global_at g j → ⊥
 name_array (Named.Field n) k g j h = cc
 name_array _ k g j h = cc
-
-no_target : (g j : ℕ) → variable 0 ≡ in_global_at g j → ⊥
-no_target g j h = cc
-
-no_object : (n g j : ℕ) → in_object n ≡ in_global_at g j → ⊥
-no_object n g j h = cc
 
 module _ (z : Setting) (f : ℕ) (y : Typing) (c : Context) (entries : (p : Expression) → y.entry c p ≡ entry_of c p) where
   abbrev r : Resolution
@@ -69,11 +62,11 @@ module _ (z : Setting) (f : ℕ) (y : Typing) (c : Context) (entries : (p : Expr
               count = ap (element_cells r) w.element ∙ sym (ap (cells_in_each r) w.defined) ∙ ap (λ k. cells_in_each r (global_at r k)) number;
               elements = ap (λ k. global_elements (global_at r k)) (same_global (global_of (target r None a)) (own_field own 0) g j same);
             }
-        by false array same = absurd (no_object_at (own_field own 0) g j same)
+        by false array same = absurd (cc)
     element_of own (field s a Dot n) all g j is = let w = element_of (Some (own_field own (field_place_named r (named_at r n.site.token)))) a all.1 g j is in record { count = w.count; elements = w.elements }
-    element_of own (field s a Arrow n) all g j is = absurd (no_object (own_field own (field_place_named r (named_at r n.site.token))) g j is)
-    element_of own (unary s Dereference a) all g j is = absurd (no_object (own_field own 0) g j is)
-    element_of own _ all g j is = absurd (no_target g j is)
+    element_of own (field s a Arrow n) all g j is = absurd (cc)
+    element_of own (unary s Dereference a) all g j is = absurd (cc)
+    element_of own _ all g j is = absurd (cc)
 
 pub grounds_fit : LvaluesFit → ArraysFit → GroundsFit
 grounds_fit fit arrays c code is z f y entries e lvalue all =

@@ -15,5 +15,6 @@ pub use Rattle.sharc_flat.specs.{Flattened.{base_layout, behind_first as flat_be
 pub use Rattle.sharc_guard.specs.{Guard.{entered_at, place}, Known.dropped}
 pub use Rattle.sharc_flat_laws.specs.{Stands.TypedSuits, Tables.MadeTablesFit}
 pub use Rattle.sharc_invariant.specs.{Labels.{AllSame, Anything, Chained, Closed, Copies, Element, Empty, EntryMentions, Gate, HasCopy, IsCopy, Itself, Label, Labels, LessNumber, Loaded, Narrower, OfGlobal, Refers, SameLock, SameReference, Signature, Within, gated}, Typed.{AreFieldLocks, AreGlobals, HasBefore, HasCell, HasField, Initial, IsAlone, IsAnyGlobalLock, IsAnyLock, IsFieldLock, IsGlobalLock, IsInGlobal, IsLayout, IsLockCell, IsLockMode, IsMode, IsRef, IsSameContent, IsSameFieldLock, IsShared, IsSibling, IsTypeLock, IsTypeMode, Passes, PassesLock, PointsTo, PointsToMutex, Recasts, is_comparison, is_shift, no_lock, refs_in}, Types.{AreTargets, CellMode as cell, Content, Field, FieldLock, FieldMode, FieldType, Integer, Lock as TypeLock, Mentions, MutexWord, ObjectType, OfElement, OfGlobals, OfType, Pointer, SomeNames, StaticType, Target as TableTarget, Under, Waiters, cells_of, field_at, field_in, field_mutex, field_of_cell, global_field, globals_target, mode_at, mode_in, no_field, no_target, row_of, type_at, type_in}, Types.Lock.{Global, Self, Through as InRegister}}
+pub use Rattle.sharc_typed_laws.proofs.{Arrays.{binary_plain, called_plain, constant_plain, element_plain, unary_plain, variable_plain}, Returning.no_integer, Starting.declared_reference}
 pub use Rattle.sharc_typed_laws.specs.{Begun.label_of, Declared.{Begins, InitialTypable, Keeps}, Functions.{FunctionTypable, IsLowTyping}, Lines.{IsLockedBy, MayPass, PointersMadeAt}, Places.{mark, no_type}, Premises.{Ground, HasBaseAt, HasIndex, HasMutex, HasNumbers, HoldsVariables, IsCopyIn, IsCopyNamed, IsCopyOf, IsPointerCopy, ReachesInteger, ReachesReference, ReferenceTyped, ThroughGuard, Typing, number_in_global}, Programs.{CodeIsWellTyped, MainTypable, StartTypable}, Returned.{GivesBackBy, ReturnTypable, ReturnedBy}, Stated.{Assigned, CellAssigned, CountTypable, Dropped, IsMade, RightTypable, SimpleTypable, ValueGoes, VariableAssigned}, Statements.{DeclaredTypable, FirstTypable, StatementTypable, StatementsTypable, StepTypable, TestTypable}, Stretches.{Setting, labels_by}, Typable.{AreFields, AreFree, AreTwo, AreTypable, ArgumentAt, ArgumentsAt, BinaryTyped, CallTypable, CallTyped, CastTyped, ComparedTyped, ConditionTyped, ConstantTyped, ElementTyped, FirstCell, FreeTyped, Goes, GoesTo, Handed, IndexTypable, IntegersTyped, IsNumber, IsOne, IsPlaceTypable, IsPointer, IsTypable, IsTypeIn, IsVoid, NameTyped, ResultTyped, SpawnTyped, Takes, UnaryTyped, ValueTyped, VariableTakes, VariableTyped, ground_of, refs_behind, type_by}}
 pub use Rattle.sharc_accepted_laws.specs.{Accepted.{AcceptedIsTyped, GlobalsAreNamed}, AccessFirsts.{FirstsFit, HasFirstCells, KnowsCondition, type_of_condition, type_of_mutex}, Accesses.{AccessFits, AccessesFit, CellsStand, Guards, GuardsFit, HasBaseIn, HasIndexOf, HaveTarget, IsCellLvalue, IsCellNumber, IsCodeOf, IsFairAccess, IsGated, IsPlaceNumber, LockStands, Reaches, base_type, cells_in_each, kind_of_pointer, list_or, modes_behind, modes_of_pointer, of_variable}, Alone.{AreAlone, IsInside, SomeAreAlone}, Beside.{AreLockedBeside, BesideFits, LocksStandBeside}, Calling.{ArgumentsStand, CallingLaws, CallsPass, type_for, wants_of}, Calls.{AreCopies, AreStanding, ArgumentFits, ArgumentsFit, ArgumentsPass, argument_type, at_entry}, Casting.CastsRecast, Cells.CellsAreTyped, Conditions.KnownCalls, Expressions.{CellsTyped, ConditionsTyped, ExpressionsAreTypable, ExpressionsTypable, HasFirst}, Fields.FieldsPlaced, Granules.GranulesAreFew, Held.{AllHeld, AssignedIsNotHeld, HeldLaws, IsHeldPath, TakenIsNotHeld, held_at, held_named, is_held, is_taken, taken_by}, Joined.{BaseStands, GroundsFit, IntegersFit, IsFairUse, IsGroundOf, IsTypingOf, LockLeads, MutexesFit, PathLeads, ReferencesFit, setting, to_global, to_variable}, Leading.{AllLead, ExpressionsLead, LeadsIfLocked, LeadsToMutex, by_global, by_variable}, Lvalues.{ArraysFit, ContentFits, FieldFits, IsArrayOf, IsBehindPointer, IsInFile, IsOfGlobal, IsOfObject, LocksFit, LvaluesFit, ModeFits, NamesCell, PointerFits, are_written, below_locks, cell_locks, is_dynamic, is_private, is_racy, is_readonly, locked_behind, locked_by_global, locked_by_sibling, locked_by_type, locks_below, named_locks, no_cell, of_global, of_object, of_type, pointer_of}, Own.{HasOwn, IsCastFound, IsOwn, OwnAreFound}, Paths.{IsMutexThere, MutexesBehind, PathsLead}, Pointees.{HasPlainLocks, IsPlainLock, IsRecast, PointeeFits, PointeesFit, RecastFits, RecastsFit, SameForms, is_same, of_types, pointee}, Pointers.{GlobalsPoint, IsPointerInTable, PointeesPoint, PointersAreOfGlobals}, Pointing.{BaseIs, IsBased, PlacesPoint, content_locks, declared_locks, element_locks, pointee_locks}, Programs.{AllCellsTyped, AreUnsigned, CodeIsSet, ProgramsAreTypable}, Results.{CallsGive, ResultLaws, ResultsStay, where_stand}, Scopes.{AllStand, DeclaredStands, EntriesStay, FewerAreClosed, HasOneVariable, HasRegister, IsClosedScope, NamesLower, NamesVariables, NoneIsClosed, OneMoreIsClosed, OthersAreEmpty, ScopeLaws, with_more}, Setting.{HasRow, IsSet, function_signature, is_main, is_numbered, is_spawned, is_start, setting_of, signature_by}, Shapes.{Form, Shape, dynamic_form, entity_shapes, expression_shape, form_of, known_condition, known_mutex, locked_form, number, number_from, private_form, racy_form, readonly_form, row_shape, same_form, same_forms, same_shape, shape_of, shapes, shapes_down, shapes_of, stars_in}, Standing.{ExpressionStands, ExpressionsStand, FirstStands, FunctionStands, FunctionsStand, LocalStands, StatementStands, StatementsStand}, Starting.{BeginsAlone, SpawnedBegin}, Statements.{AreExpressionsTypable, IsPlaceIn, IsThere}, Static.{entry_by, entry_named, entry_of, lock_at, lock_named, locks_at, pointers, register, result_type, static_of, variable_entry, variable_type}, StaticLaws.{AssignedGoes, BegunGoes, GivenLaws, IsAccepted, ReturnedGoes}, Taken.{AllNamed, DeclaredAreNamed, ExpressionsAreNamed, IsNamed, TakenLaws}, Taking.{TakingLaws, VariablesAreTaken}, TargetFirsts.{FirstFits, FirstLaws, MutexesFirst, WaitersFirst}, TargetLaws.{CellsAre, CountedForm, ExpressionsFound, GlobalsAre, GlobalsBegin, GlobalsEnd, GlobalsHold, HasTables, IsCounted, IsMemberAt, IsRowOf, LayoutsAre, MembersAre, NumbersFound, ResultsFound, ShapesClosed, TargetsAre, VariablesFound}, Targets.{all_global_fields, base_content, base_fields, declared_content, field_lock, field_locks, field_mode, global_element, global_fields, global_mode, is_private_form, is_private_mode, lock_count, lock_named as table_lock, locked_mode, member, members, own_mode, pointer_content, repeated, shape_fields, shape_row, single, starts_private, struct_fields, targets_of, top_mode, type_locks, written_mode}, Threads.ThreadsPass, TypableLaws.{IsAt, OperandSuits, ValueLaws}, Typed.{BasesStand, CellTyped, IsOf, LvalueTyped, LvaluesAreTyped}, Typing.{integers, typing, width_named}, Uses.{AreFair, UsesAreFair}}

@@ -1,5 +1,5 @@
 -- The accesses of an accepted program, by the laws of lvalues' cells.
-use Rattle.sharc_accepted_laws.proofs.Imports.{◌≡◌, ◌⊎◌, inl, inr, ℕ, zero, suc, ◌+◌, ◌<◌, ◌≤◌, ◌==◌, ◌&&◌, Bool, true, false, List, refl, ap, sym, ◌∙◌, subst, arith, eqb-true, Option, Some, None, false≢true, Base, Site, Expression, Kind, object, mutex, is_integer, is_pointer, Code, Use, Cell, global_at, kind_at, global_elements, is_mutex_kind, cell_at, Assignment, Lock, Sharing, first_cell, Lvalue, Context, ref_count, Target, in_global, in_global_at, in_object, in_object_at, has_base, target, cell_of, guard_cell, beside_field, guard_field, spot_of, width_of, StaticType, Content, Integer, Refers, Element, OfGlobal, Loaded, Gate, Label, Labels, Signature, gated, IsRef, IsAlone, refs_in, labels_by, mark, Typing, HoldsVariables, Ground, HasNumbers, number_in_global, HasIndex, HasBaseAt, ReachesInteger, HasMutex, ThroughGuard, IsInside, ScopeLaws, register, variable_type, ContentFits, base_content, HasBaseIn, HasIndexOf, IsCellNumber, IsPlaceNumber, HaveTarget, modes_behind, base_type, cells_in_each, LockStands, of_variable, IsFairAccess, IsGated, IsCellLvalue, IsCodeOf, AccessFits, CellsStand, AccessesFit, GuardsFit, LockLeads, to_global, to_variable, IsFairUse, setting, IsTypingOf, IsGroundOf, IntegersFit, MutexesFit}
+use Rattle.sharc_accepted_laws.proofs.Imports.{◌≡◌, ◌⊎◌, inl, inr, ℕ, zero, suc, ◌+◌, ◌<◌, ◌≤◌, ◌==◌, ◌&&◌, Bool, true, false, List, refl, ap, sym, ◌∙◌, subst, arith, eqb-true, Option, Some, None, false≢true, Base, Site, Expression, Kind, object, mutex, is_integer, Code, Use, Cell, global_at, kind_at, global_elements, is_mutex_kind, cell_at, Assignment, Lock, Sharing, first_cell, Lvalue, Context, ref_count, Target, in_global, in_global_at, in_object, in_object_at, has_base, target, cell_of, guard_cell, beside_field, guard_field, spot_of, width_of, StaticType, Content, Integer, Refers, Element, OfGlobal, Loaded, Gate, Label, Labels, Signature, gated, IsRef, IsAlone, refs_in, labels_by, mark, Typing, HoldsVariables, Ground, HasNumbers, number_in_global, HasIndex, HasBaseAt, ReachesInteger, HasMutex, ThroughGuard, IsInside, ScopeLaws, register, variable_type, ContentFits, base_content, HasBaseIn, HasIndexOf, IsCellNumber, IsPlaceNumber, HaveTarget, modes_behind, base_type, cells_in_each, LockStands, of_variable, IsFairAccess, IsGated, IsCellLvalue, IsCodeOf, AccessFits, CellsStand, AccessesFit, GuardsFit, LockLeads, to_global, to_variable, IsFairUse, setting, IsTypingOf, IsGroundOf, IntegersFit, MutexesFit}
 use Rattle.sharc_names.specs.Kinds as kinds
 use Rattle.sharc_flat.specs.Places.{variable, field_of}
 use Rattle.sharc_invariant.specs.{Labels.OfElement, Typed.IsOwn}
@@ -9,9 +9,7 @@ use Rattle.sharc_accepted_laws.specs.Accesses.{of_global}
 -- ---- contents
 integer_by : (b : Base) → kinds.is_integral b ≡ true → base_content b ≡ Integer (width_of (object b 0))
 integer_by Base.Mutex h = absurd (false≢true h)
-integer_by Base.Void h = absurd (false≢true h)
-integer_by (Base.Struct name) h = absurd (false≢true h)
-integer_by _ h = refl
+integer_by _ h = cc
 
 no_stars : (b : Base) (stars : ℕ) → is_integer (object b (suc stars)) ≡ true → ⊥
 no_stars b stars is = by (suc stars == 0) refl is
@@ -27,10 +25,8 @@ integer_content m e n modes _ holds is fits = absurd (false≢true is)
 
 integer_plain : (k : Kind) → is_integer k ≡ true → is_mutex_kind k ≡ false
 integer_plain (object Base.Char zero) is = refl
-integer_plain (object Base.Int zero) is = refl
-integer_plain (object Base.Long zero) is = refl
 integer_plain (object b (suc stars)) is = absurd (no_stars b stars is)
-integer_plain _ is = absurd (false≢true is)
+integer_plain _ is = cc
 
 -- ---- registers
 module _ (c : Context) (code : Code) (y : Typing) (f : ℕ) (e : Expression) (ground : Ground) (suits : IsGroundOf c e ground) (element : Element) (i r : ℕ) (q : Label) where

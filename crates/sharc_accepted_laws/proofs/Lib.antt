@@ -57,6 +57,7 @@ pub mod Points
 pub mod Ready
 pub mod Recasting
 pub mod Results
+pub mod RowModes
 pub mod Rows
 pub mod Same
 pub mod Scoping

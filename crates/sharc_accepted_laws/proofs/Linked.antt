@@ -1,12 +1,10 @@
 -- What statements ask of expressions, from what holds of cells.
-use Rattle.sharc_accepted_laws.proofs.{Imports.{◌≡◌, inl, inr, ℕ, ◌+◌, Bool, true, false, List, refl, ap, sym, ◌∙◌, subst, ◌&&◌, Option, Some, None, false≢true, Base, Mutex, Void, Struct, span_of, Expression, Right, Function, Kind, object, is_integral, is_pointer, is_array, is_struct_base, is_struct_behind, Use, IsHeld, is_mutex_kind, modes_at, Sharing, IsAssigned, kind_of, is_ref, target_of, guard_of, Context, PlaceSuits, is_cell, Setting, CellAssigned, type_by, IsTypable, IsPlaceTypable, IsOf, BasesStand, CellTyped, entry_by, entry_of, typing, CellsTyped, ExpressionsTypable, ExpressionsAreTypable, IsPlaceIn, IsThere, AreExpressionsTypable, some_star}, Assigned.{Laws, at_there}, Sorts.{held_pointer, held_integer}, AccessFirsts.no_entry}
+use Rattle.sharc_accepted_laws.proofs.{Imports.{◌≡◌, inl, inr, ℕ, ◌+◌, Bool, true, false, List, refl, ap, sym, ◌∙◌, subst, ◌&&◌, Option, Some, None, false≢true, Base, Mutex, span_of, Expression, Right, Function, Kind, object, is_integral, is_pointer, is_array, is_struct_base, is_struct_behind, Use, IsHeld, is_mutex_kind, modes_at, Sharing, IsAssigned, kind_of, is_ref, target_of, guard_of, Context, PlaceSuits, is_cell, Setting, CellAssigned, type_by, IsTypable, IsPlaceTypable, IsOf, BasesStand, CellTyped, entry_by, entry_of, typing, CellsTyped, ExpressionsTypable, ExpressionsAreTypable, IsPlaceIn, IsThere, AreExpressionsTypable, some_star}, Assigned.{Laws, at_there}, Sorts.{held_pointer, held_integer}}
 
 -- ---- what is held by a variable or a cell
 base_plain : (b : Base) → is_integral b ≡ true → (is_struct_behind 0 (object b 0) ≡ false) × (is_mutex_kind (object b 0) ≡ false)
 base_plain Mutex h = absurd (false≢true h)
-base_plain Void h = absurd (false≢true h)
-base_plain (Struct name) h = absurd (false≢true h)
-base_plain _ h = (refl, refl)
+base_plain _ h = (cc, cc)
 
 pointer_plain : (b : Base) (n : ℕ) → (is_struct_behind 0 (object b (n + 1)) ≡ false) × (is_mutex_kind (object b (n + 1)) ≡ false)
 pointer_plain b n = (ap (λ t. t && is_struct_base b) (some_star n), no_mutex b)
@@ -34,7 +32,7 @@ module _ (expressions : ExpressionsAreTypable) (bases : BasesStand) (z : Setting
   has_modes : (laws : Laws) (c : Context) (h : IsPlaceIn z alone n g c) (u : Expression) → IsThere g c u → is_pointer (kind_of c u) ≡ true → modes_at c.program u ≡ None → ⊥
   has_modes laws c h u t pointer is =
       let p = laws.values.pointers z n c h.set.accepted u (at_there z alone n g c h u t) pointer in
-      no_entry (type_by (entry_of c u)) (sym (ap (entry_by c (kind_of c u)) is) ∙ p.1)
+      (cc (sym (ap (entry_by c (kind_of c u)) is) ∙ p.1))
 
   -- a cell that is assigned
   written_is : (laws : Laws) (c : Context) (h : IsPlaceIn z alone n g c) (u : Expression) (x : Right) → IsThere g c u → PlaceSuits c u → IsAssigned c.program u x → IsHeld (kind_of c u) → is_cell (target_of c u) ≡ true

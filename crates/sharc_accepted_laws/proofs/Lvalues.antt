@@ -1,5 +1,5 @@
 -- Each lvalue that is no struct names a variable, or a cell that the table has with its content and its mode.
-use Rattle.sharc_accepted_laws.proofs.{Imports.{◌≡◌, inl, inr, ℕ, zero, suc, ◌+◌, ◌-◌, ◌<◌, ◌≤◌, true, false, cond, ◌&&◌, eq-eqb, List, [], ◌∷◌, ◌++◌, length, map, take, drop, get_or as slice_index_or, refl, ap, sym, ◌∙◌, subst, arith, Option, Some, None, Contains, true≢false, lt-ltb, ne_eqb, option_map, Base, Mode, Path, Declaration, Identifier, Dot, Arrow, Number, Null, Dereference, GlobalDefinition, GlobalForm, StructDefinition, expressions, in_arguments, Expression, NumberType, Named, Kind, object, array, is_array, is_null, is_pointer, is_struct_base, is_struct_behind, declared_kind, global_kind, field_of, constant_kind, number_kind, Resolution, named_at, named_kind, declaration_at, global_at, kind_at, structs_in, HasType, Common, both_shorter, struct_named, IsMemberOf, Callee, of_program, of_conditions, is_mutex_kind, top_of, field_cell, first_of, pointed, named_cell, global_cell, declared_cell, field_named, cell_at, Assignment, base_of, PathReading, written, Targets, constant_row, deeper, declared_row, global_row, named_row, reading_through, base_use, behind, row_at, read, modes_of, modes_at, Lock, Sharing, locked, lock_of, sharing_of, IsExpression, field_place, field_place_named, Target, in_object, in_object_at, in_global, in_global_at, named_target, own_field, target, global_of, FieldMode, FieldLock, Field, Content, Pointer, TableTarget, no_field, row_of, IsRowOf, IsMemberAt, pointer_of, below_locks, locks_below, named_locks, cell_locks, IsOfObject, IsOfGlobal, LocksFit, are_written, of_type, ContentFits, ModeFits, FieldFits, IsBehindPointer, IsInFile, NamesCell, no_cell, of_object, of_global, Shape, form_of, shape_of, row_shape, expression_shape, shapes, number, own_mode, lock_count, type_locks, field_locks, is_private_mode, base_content, pointer_content, declared_content, single, member, base_fields, shape_fields, top_mode, global_element, targets_of, map_length, head_there, tail_there}, TargetForms.row_length, TargetLists.left_there, Moding.{PathNames, own_fits, global_fits, private_both, global_both, field_fits}, Numbers.numbers_found, TargetWalk.function_closed, Beginning.{is_some_base as same_base}}
+use Rattle.sharc_accepted_laws.proofs.{Imports.{◌≡◌, inl, inr, ℕ, zero, suc, ◌+◌, ◌-◌, ◌<◌, ◌≤◌, true, false, cond, ◌&&◌, eq-eqb, List, [], ◌∷◌, ◌++◌, length, map, take, drop, get_or as slice_index_or, refl, ap, sym, ◌∙◌, subst, arith, Option, Some, None, Contains, true≢false, lt-ltb, ne_eqb, option_map, Base, Mode, Path, Declaration, Identifier, Dot, Arrow, Number, Null, Dereference, GlobalDefinition, GlobalForm, StructDefinition, expressions, Expression, NumberType, Named, Kind, object, array, is_array, is_null, is_pointer, is_struct_base, is_struct_behind, declared_kind, global_kind, field_of, constant_kind, number_kind, Resolution, named_at, named_kind, declaration_at, global_at, kind_at, structs_in, HasType, Common, both_shorter, struct_named, IsMemberOf, Callee, of_program, of_conditions, is_mutex_kind, top_of, field_cell, first_of, pointed, named_cell, global_cell, declared_cell, field_named, cell_at, Assignment, base_of, PathReading, written, Targets, constant_row, deeper, declared_row, global_row, named_row, reading_through, base_use, behind, row_at, read, modes_of, modes_at, Lock, Sharing, locked, lock_of, sharing_of, IsExpression, field_place, field_place_named, Target, in_object, in_object_at, in_global, in_global_at, named_target, own_field, target, global_of, FieldMode, FieldLock, Field, Content, Pointer, TableTarget, no_field, row_of, IsRowOf, IsMemberAt, pointer_of, below_locks, locks_below, named_locks, cell_locks, IsOfObject, IsOfGlobal, LocksFit, are_written, of_type, ContentFits, ModeFits, FieldFits, IsBehindPointer, IsInFile, NamesCell, no_cell, of_object, of_global, Shape, form_of, shape_of, row_shape, expression_shape, shapes, number, own_mode, lock_count, type_locks, field_locks, is_private_mode, base_content, pointer_content, declared_content, single, member, base_fields, shape_fields, top_mode, global_element, targets_of, map_length, head_there, tail_there}, TargetForms.row_length, TargetLists.left_there, Moding.{PathNames, own_fits, global_fits, private_both, global_both, field_fits}, Numbers.numbers_found, TargetWalk.function_closed, Beginning.{is_some_base as same_base}}
 use Rattle.sharc_tree.specs.Tree as tree
 use Rattle.sharc_names.specs.Kinds as kinds
 use Rattle.sharc_ctype_laws.specs.Constraints as typing
@@ -9,16 +9,7 @@ use Rattle.sharc_flat.specs.Places.{variable}
 -- ---- parts of expressions
 self_there : (a : Expression) → Contains (expressions a) a
 self_there (tree.parentheses s a) = head_there (tree.parentheses s a) (expressions a)
-self_there (tree.call s f all) = head_there (tree.call s f all) (in_arguments all)
-self_there (tree.spawn s f a) = head_there (tree.spawn s f a) (expressions a)
-self_there (tree.on_value s w a) = head_there (tree.on_value s w a) (expressions a)
-self_there (tree.on_place s w a) = head_there (tree.on_place s w a) (expressions a)
-self_there (tree.cast s t a) = head_there (tree.cast s t a) (expressions a)
-self_there (tree.index s a i) = head_there (tree.index s a i) (expressions a ++ expressions i)
-self_there (tree.field s a w n) = head_there (tree.field s a w n) (expressions a)
-self_there (tree.unary s o a) = head_there (tree.unary s o a) (expressions a)
-self_there (tree.binary s o at a b) = head_there (tree.binary s o at a b) (expressions a ++ expressions b)
-self_there k = head_there k []
+self_there k = head_there k (drop 1 (expressions k))
 
 part : (m : Assignment) (e a : Expression) → Contains (expressions e) a → IsExpression m e → IsExpression m a
 part m e a has x = record { owner = x.owner; stands = x.stands; inside = function_closed x.owner e a x.inside has }
@@ -107,8 +98,6 @@ module _ (m : Assignment) (ready : AreReady m) where
   some_row _ _ (typing.element_of_array {s} {a} {i} {b} {n} ha hi integer) other =
       let w = some_row a (array b n) ha refl in
       (w.0, ap (λ z. cond z (row_at r a) (behind (row_at r a))) (ap is_array (ready.one a (array b n) ha)) ∙ w.1)
-  some_row _ _ (typing.a_field h member names) other = (_, refl)
-  some_row _ _ (typing.a_field_behind h member names) other = (_, refl)
   some_row _ _ (typing.pointed_to {s} {a} {b} {n} h) other = let w = some_row a (object b (n + 1)) h refl in (deeper w.0, ap behind w.1)
   some_row _ _ _ other = (_, refl)
 
@@ -376,12 +365,6 @@ module _ (m : Assignment) (ready : AreReady m) where
     pub declared_is : declared_kind global.declaration.written ≡ object b n
     pub told : cell_locks m a ≡ field_locks r 0 (modes_of m (declared_row r written global.declaration.name.site.token))
 
-  no_array : (c b : Base) (k n : ℕ) → object c k ≡ array b n → ⊥
-  no_array c b k n h = cc
-
-  array_parts : (c b : Base) (k n : ℕ) → array c k ≡ array b n → object c k ≡ object b n
-  array_parts c b k n h = cc
-
   no_array_of : (k : Kind) (b : Base) (n : ℕ) → is_array k ≡ false → k ≡ array b n → ⊥
   no_array_of k b n other is = true≢false (sym (ap is_array is) ∙ other)
 
@@ -410,22 +393,20 @@ module _ (m : Assignment) (ready : AreReady m) where
   told_global i n g names at = ap (named_locks m 0) names ∙ ap (λ o. field_locks r 0 (modes_of m (global_row r written o))) at
 
   pub array_base : (a : Expression) (k : Kind) → HasType r a k → (b : Base) (n : ℕ) → k ≡ array b n → IsArrayBase a b n
-  array_base _ _ (typing.a_variable names at text) b n is = absurd (no_array _ b _ n is)
+  array_base _ _ (typing.a_variable names at text) b n is = absurd (cc)
   array_base _ _ (typing.a_global {s} {i} {n} {g} names at text) b k is =
       record { number = n; global = g; at = at; place = global_names i.site.token n None names; cell = cell_of_global i.site.token n g names at; row = row_of_global i.site.token n g names at; declared_is = by g.form is; told = told_global i.site.token n g names at }
     where
       by : (f : GlobalForm) → global_kind f (declared_kind g.declaration.written) ≡ array b k → declared_kind g.declaration.written ≡ object b k
-      by (GlobalForm.Array at count) h = array_parts _ b _ k h
-      by _ h = absurd (no_array _ b _ k h)
+      by (GlobalForm.Array at count) h = cc
+      by _ h = absurd (cc)
   array_base _ _ (typing.a_constant {s} {c}) b n is = absurd (no_array_of (constant_kind c) b n (constant_plain c) is)
   array_base _ _ (typing.in_parentheses {s} {a} {k} h) b n is = let w = array_base a k h b n is in record { number = w.number; global = w.global; at = w.at; place = w.place; cell = w.cell; row = w.row; declared_is = w.declared_is; told = w.told }
   array_base _ _ (typing.a_call callee types) b n is = absurd (callee_plain callee b n is)
     where
       callee_plain : {i : Identifier} {ps : List Kind} {k : Kind} → Callee r i ps k → (b : Base) (n : ℕ) → k ≡ array b n → ⊥
-      callee_plain (of_program f names at text other) b n is = no_array _ b _ n is
-      callee_plain (of_conditions c names text) b n is = no_array _ b _ n is
-  array_base _ _ (typing.a_field h member names) b n is = cc
-  array_base _ _ (typing.a_field_behind h member names) b n is = cc
+      callee_plain (of_program f names at text other) b n is = cc
+      callee_plain (of_conditions c names text) b n is = cc
   array_base _ _ (typing.negated {t} h integer common) b n is = absurd (no_array_of t b n (common_plain _ _ t common) is)
   array_base _ _ (typing.complemented {t} h integer common) b n is = absurd (no_array_of t b n (common_plain _ _ t common) is)
   array_base _ _ (typing.arithmetic {t} class ha hb ia ib common) b n is = absurd (no_array_of t b n (common_plain _ _ t common) is)

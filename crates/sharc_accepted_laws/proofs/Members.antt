@@ -1,5 +1,5 @@
 -- What holds of each element of a list, and what is an element.
-use Rattle.sharc_accepted_laws.proofs.Imports.{◌≡◌, ◌⊎◌, ⊎_elim, ◌<◌, List, [], ◌∷◌, ◌++◌, refl, ap, sym, ◌∙◌, subst, Option, Some, None, Contains, Contains-append_left, Contains-append_right, AllByRecursion, flat_map, filter_map, expressions, Expression, each, head_there, head_or_tail, to_each, tail_there, none_there}
+use Rattle.sharc_accepted_laws.proofs.Imports.{◌≡◌, ⊎_elim, List, [], ◌∷◌, refl, ap, sym, ◌∙◌, subst, Option, Some, None, Contains, Contains-append_left, Contains-append_right, AllByRecursion, flat_map, filter_map, expressions, Expression, head_there, head_or_tail, to_each, tail_there, none_there}
 use Rattle.sharc_tree.specs.Tree as tree
 
 -- of what each element gives

@@ -1,15 +1,8 @@
 -- A cell that is there may be accessed in the mode that the source gives it.
-use Rattle.sharc_accepted_laws.proofs.{Imports.{◌≡◌, ℕ, ◌+◌, ◌-◌, ◌<◌, Bool, true, false, cond, List, [], ◌∷◌, length, get_or as slice_index_or, refl, ap, sym, ◌∙◌, subst, arith, Option, Some, None, Base, GlobalDefinition, GlobalForm, Named, object, array, mutex, is_pointer, declared_kind, global_kind, Code, PlaceMode, Cell, elements_of, Resolution, named_at, named_kind, global_kind_of, global_at, field_place, field_place_behind, is_behind_pointer, Assignment, Lock, Sharing, locked, Spot, first_cell, Context, mode_beside, mode_named, place_mode, beside_named, beside_field, guard_named, guard_field, globals_of, StaticType, TypeLock, OfType, OfGlobals, OfElement, FieldMode, Under, Content, MutexWord, Field, no_field, FieldMode as own, Refers, Closed, Loaded, Label, Labels, Itself, IsInGlobal, HasField, IsMode, IsLockMode, IsLockCell, IsTypeMode, IsTypeLock, PointsToMutex, no_lock, IsLockedBy, MayPass, register, lock_named, lock_at, locks_at, BesideFits, HasTables, GlobalsAre, ModeFits, is_private, is_readonly, locked_by_type, locked_by_global, locked_by_sibling, locked_behind, single, base_fields, declared_content, top_mode, global_element, targets_of, Reaches, Guards, IsGated, LockStands, of_variable, IsFairAccess, no_guard, some_is}, AccessCells.{IsCellOf, ArePairOf, first_low, global_cell_at}, Beginning.{is_some_base as base_is}}
-use Rattle.sharc_names.specs.Kinds as kinds
+use Rattle.sharc_accepted_laws.proofs.{Imports.{◌≡◌, ℕ, ◌+◌, ◌-◌, ◌<◌, Bool, true, false, cond, List, [], ◌∷◌, length, get_or as slice_index_or, refl, ap, sym, ◌∙◌, subst, arith, Option, Some, None, Base, GlobalDefinition, GlobalForm, Named, mutex, is_pointer, declared_kind, global_kind, Code, PlaceMode, Cell, elements_of, Resolution, named_at, named_kind, global_kind_of, global_at, field_place, field_place_behind, is_behind_pointer, Assignment, Lock, Sharing, locked, Spot, first_cell, Context, mode_beside, mode_named, place_mode, beside_named, beside_field, guard_named, guard_field, globals_of, StaticType, TypeLock, OfType, OfGlobals, OfElement, FieldMode, Under, Content, MutexWord, Field, no_field, FieldMode as own, Refers, Closed, Loaded, Label, Labels, Itself, IsInGlobal, HasField, IsMode, IsLockMode, IsLockCell, IsTypeMode, IsTypeLock, PointsToMutex, no_lock, IsLockedBy, MayPass, register, lock_named, lock_at, locks_at, BesideFits, HasTables, GlobalsAre, ModeFits, is_private, is_readonly, locked_by_type, locked_by_global, locked_by_sibling, locked_behind, single, base_fields, declared_content, top_mode, global_element, targets_of, Reaches, Guards, IsGated, LockStands, of_variable, IsFairAccess, no_guard, some_is}, AccessCells.{IsCellOf, ArePairOf, first_low, global_cell_at}, Beginning.{is_some_base as base_is}}
 use Rattle.sharc_invariant.specs.Types as types
 use Rattle.sharc_typed_laws.specs.Inside.{lock_of}
 use Rattle.sharc_accepted_laws.specs.Accesses.{of_global}
-
-no_array : (b c : Base) (n k : ℕ) → array b n ≡ object c k → ⊥
-no_array b c n k h = cc
-
-no_function : (b : Base) (n : ℕ) → kinds.function ≡ object b n → ⊥
-no_function b n h = cc
 
 -- ---- global mutexes
 record IsMutexGlobal (m : Assignment) (g : ℕ) : Type 0 where
@@ -37,11 +30,11 @@ mutex_global m g kind = by (global_at m.typed g) refl kind
     }
 
     by_form : (d : GlobalDefinition) → global_at m.typed g ≡ Some d → (f : GlobalForm) → d.form ≡ f → global_kind f (declared_kind d.declaration.written) ≡ mutex → IsMutexGlobal m g
-    by_form d is (GlobalForm.Array at count) e h = absurd (no_array _ _ _ _ h)
+    by_form d is (GlobalForm.Array at count) e h = absurd (cc)
     by_form d is _ e h = found d is (let one : elements_of d.form ≡ 1 = ap elements_of e in omega (arith, one)) h
 
     by : (o : Option GlobalDefinition) → global_at m.typed g ≡ o → global_kind_of o ≡ mutex → IsMutexGlobal m g
-    by None is h = absurd (no_function _ _ h)
+    by None is h = absurd (cc)
     by (Some d) is h = by_form d is d.form refl h
 
 -- ---- the field beside it that a mode names

@@ -1,17 +1,10 @@
 -- What the functions of a program name as a global is one of it.
-use Rattle.sharc_accepted_laws.proofs.{Imports.{◌≡◌, ℕ, ◌<◌, List, length, sym, ◌∙◌, subst, AllByRecursion, Span, Identifier, in_function, identifier, Named, Kind, Resolution, globals_in, functions_in, kind_at, named_at, HasType, Callee, of_program, of_conditions, a_variable, a_global, a_function, MeetsConstraints, GlobalsAreNamed, of_each}, StaticRegisters.got_low, Alone.{number_of as same_global}}
-
-no_callee : (r : Resolution) (i : Identifier) (ps : List Kind) (result : Kind) → Callee r i ps result → (g : ℕ) → named_at r i.site.token ≡ Named.Global g → ⊥
-no_callee r i _ _ (of_program {n = n} f is at spelled other) g names = let h : Named.Function n ≡ Named.Global g = sym is ∙ names in cc
-no_callee r i _ _ (of_conditions w is spelled) g names = let h : Named.Known ≡ Named.Global g = sym is ∙ names in cc
-
-no_variable : (token g : ℕ) → Named.Variable token ≡ Named.Global g → ⊥
-no_variable token g h = cc
+use Rattle.sharc_accepted_laws.proofs.{Imports.{◌≡◌, ℕ, ◌<◌, length, sym, ◌∙◌, subst, AllByRecursion, Span, Identifier, in_function, identifier, Named, Kind, Resolution, globals_in, functions_in, kind_at, named_at, HasType, a_variable, a_global, a_function, MeetsConstraints, GlobalsAreNamed, of_each}, StaticRegisters.got_low, Alone.{no_callee, number_of as same_global}}
 
 global_low : (r : Resolution) (s : Span) (i : Identifier) (k : Kind) → HasType r (identifier s i) k → (g : ℕ) → named_at r i.site.token ≡ Named.Global g → g < length (globals_in r.program.items)
-global_low r s i _ (a_variable {token = token} is at spelled) g names = absurd (no_variable token g (sym is ∙ names))
+global_low r s i _ (a_variable {token = token} is at spelled) g names = absurd (cc (sym is ∙ names))
 global_low r s i _ (a_global {n = n} {g = d} is at spelled) g names = subst (λ k. k < length (globals_in r.program.items)) (same_global n g (sym is ∙ names)) (got_low (globals_in r.program.items) n d at)
-global_low r s i _ (a_function q) g names = absurd (no_callee r i _ _ q g names)
+global_low r s i _ (a_function q) g names = absurd (no_callee r i _ _ g q names)
 
 pub globals_named : MeetsConstraints → GlobalsAreNamed
 globals_named constraints m a s i x g names =

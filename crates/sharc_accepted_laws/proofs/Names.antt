@@ -1,5 +1,5 @@
 -- The lock paths of the types of expressions and declarations are ones that the program names.
-use Rattle.sharc_accepted_laws.proofs.{Imports.{◌≡◌, inl, inr, ℕ, true, List, [], ◌∷◌, refl, ap, subst, Option, Some, Contains, AllByRecursion, Locked, Path, Span, Identifier, FieldOperator, without_parentheses, Expression, Named, Numbered, named_at, Assignment, written, base_use, modes_of, declared_row, Lock, Sharing, private, readonly, locked, racy, dynamic, lock_of, object_named, object_of, text_at, IsEntity, IsTaken, RulesAreMet, IsNamedByPath, is_written, is_made, IsSiblingUse, Context, slot_kind, PathNamed, SomeNames, register, lock_named, locks_at, AllStand, IsAccepted, IsNamed, AllNamed, ExpressionsAreNamed, DeclaredAreNamed, TakenLaws, each}, StaticRegisters.one_variable, Origins.{is_use, Of, found_named, expression_of}}
+use Rattle.sharc_accepted_laws.proofs.{Imports.{◌≡◌, inl, inr, ℕ, true, List, [], ◌∷◌, refl, ap, subst, Option, Some, Contains, AllByRecursion, Locked, Path, Span, Identifier, FieldOperator, without_parentheses, Expression, Named, Numbered, named_at, Assignment, written, base_use, modes_of, declared_row, Lock, Sharing, locked, lock_of, object_named, object_of, text_at, IsEntity, IsTaken, RulesAreMet, IsNamedByPath, is_written, is_made, IsSiblingUse, Context, slot_kind, PathNamed, SomeNames, register, lock_named, locks_at, AllStand, IsAccepted, IsNamed, AllNamed, ExpressionsAreNamed, DeclaredAreNamed, TakenLaws, each}, StaticRegisters.one_variable, Origins.{is_use, Of, found_named, expression_of}}
 use Rattle.sharc_tree.specs.Tree as tree
 use Rattle.sharc_invariant.specs.Types.{Names}
 
@@ -36,12 +36,9 @@ module _ (rules : RulesAreMet) (c : Context) (a : IsAccepted c.program) (taken :
 
   all_free : (modes : List Sharing) → AllNamed c.program modes → AllStand c.program c.scope modes → SomeNames (register c x) (locks_at c modes) → ⊥
   all_free [] h t k = k
-  all_free (private ∷ rest) h t k = all_free rest h.1 t.1 k
-  all_free (readonly ∷ rest) h t k = all_free rest h.1 t.1 k
   all_free (locked l ∷ rest) h t (inl k) = one_free (named_at c.program.typed l.first) l.second (λ y o. h.0 l y refl o) t.0 k
   all_free (locked l ∷ rest) h t (inr k) = all_free rest h.1 t.1 k
-  all_free (racy ∷ rest) h t k = all_free rest h.1 t.1 k
-  all_free (dynamic ∷ rest) h t k = all_free rest h.1 t.1 k
+  all_free (_ ∷ rest) h t k = all_free rest h.1 t.1 k
 
 pub taken_laws : RulesAreMet → TakenLaws
 taken_laws rules = record {

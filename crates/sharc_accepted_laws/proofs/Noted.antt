@@ -1,5 +1,5 @@
 -- What is said of a typed program is so: no fault stands in it, and each name names what its note says.
-use Rattle.sharc_accepted_laws.proofs.{Imports.{◌≡◌, ◌⊎◌, inl, inr, ⊎_elim, ℕ, ◌+◌, ◌==◌, Bool, true, false, cond, List, [], ◌∷◌, ◌++◌, length, refl, ap, sym, ◌∙◌, subst, Option, Some, None, Contains, AllByRecursion, Base, Mode, Locked, Path, One, Through, Declaration, WrittenType, IsLow, IsPlaced, Local, First, declares, Statement, Statements, no_statements, statement, Function, Item, structure, global, function, FaultCode, Named, Scope, Role, object, declared_kind, Entry, Meaning, StructTable, StructMeaning, look_up, named_of, struct_of, named_struct, Note, fault, refers, yields, faults, referred, name_notes, path_notes, mode_notes, modes_notes, struct_note, base_notes, type_notes, sizes_notes, heads_notes, no_heads, field_notes, fields_notes, parameters_notes, function_notes, item_notes, items_notes, main_missing, file_scope, in_body, notes_about, Resolution, IsResolved, named_at, declaration_at, declared_at, declarations_in, variable_kind, functions_in, Around, opened, looping, with_names, behind_first, after, test_notes, local_notes, first_statement_notes, head_notes, notes_in, notes_in_all, first_locals, locals_in_all, Tells, IsToldOnce, EachNameOnce, OnlyNames, meaning_token, IsVariableIn, IsAmong, LevelStands, TypeStands, fields_named, fields_behind, same_some, none_some, front, back, both, head_there, head_or_tail, of_each, to_each, tail_there, none_there}, Scoping.{HasOneStruct, ParametersStand, AreParametersClosed}, Places.entry_there}
+use Rattle.sharc_accepted_laws.proofs.{Imports.{◌≡◌, ⊎_elim, ℕ, ◌+◌, ◌==◌, Bool, true, false, cond, List, [], ◌∷◌, ◌++◌, length, refl, ap, sym, ◌∙◌, subst, Option, Some, None, Contains, AllByRecursion, Base, Mode, Locked, Path, One, Through, Declaration, WrittenType, IsLow, IsPlaced, Local, First, declares, Statement, Statements, no_statements, statement, Function, Item, structure, global, function, FaultCode, Named, Scope, Role, object, declared_kind, Entry, Meaning, StructTable, StructMeaning, look_up, named_of, struct_of, named_struct, Note, fault, refers, yields, faults, referred, name_notes, path_notes, mode_notes, modes_notes, struct_note, base_notes, type_notes, sizes_notes, heads_notes, no_heads, field_notes, fields_notes, parameters_notes, function_notes, item_notes, items_notes, main_missing, file_scope, in_body, notes_about, Resolution, IsResolved, named_at, declaration_at, declared_at, declarations_in, variable_kind, functions_in, Around, opened, looping, with_names, behind_first, after, test_notes, local_notes, first_statement_notes, head_notes, notes_in, notes_in_all, first_locals, locals_in_all, Tells, IsToldOnce, EachNameOnce, OnlyNames, meaning_token, IsVariableIn, IsAmong, LevelStands, TypeStands, fields_named, fields_behind, same_some, none_some, front, back, both, head_there, head_or_tail, of_each, to_each, tail_there, none_there}, Scoping.{HasOneStruct, ParametersStand, AreParametersClosed}, Places.entry_there, TargetLists.either_there}
 use Rattle.sharc_tree.specs.Tree as tree
 use Rattle.sharc_names.specs.Names as meaning
 use Rattle.sharc_ctype.specs.Statements.{declared, in_head, locals_in}
@@ -13,18 +13,6 @@ Says r (yields token what) = named_at r token ≡ what
 
 abbrev pub AllSay : Resolution → List Note → Type 0
 AllSay r list = AllByRecursion (Says r) list
-
-in_left : {A : Type 0} (x : A) (a b : List A) → Contains a x → Contains (a ++ b) x
-in_left x [] b has = absurd (none_there x has)
-in_left x (y ∷ a) b has = ⊎_elim (λ is. subst (Contains (y ∷ (a ++ b))) is (head_there y (a ++ b))) (λ more. tail_there y x (a ++ b) (in_left x a b more)) (head_or_tail y x a has)
-
-in_either : {A : Type 0} (x : A) (a b : List A) → Contains (a ++ b) x → Contains a x ⊎ Contains b x
-in_either x [] b has = inr has
-in_either x (y ∷ a) b has = ⊎_elim (λ is. inl (subst (Contains (y ∷ a)) is (head_there y a))) (λ more. later (in_either x a b more)) (head_or_tail y x (a ++ b) has)
-  where
-    later : Contains a x ⊎ Contains b x → Contains (y ∷ a) x ⊎ Contains b x
-    later (inl h) = inl (tail_there y x a h)
-    later (inr h) = inr h
 
 pub referred_there : (notes : List Note) (note : Note) (token : ℕ) (what : Named) → Contains notes note → Tells note token what → Contains (referred notes) token
 referred_there [] note token what has tells = absurd (none_there note has)
@@ -57,11 +45,11 @@ no_faults (x ∷ rest) place code has none = ⊎_elim (λ is. here x is none) (�
     there _ h more = more h
 
 module _ (once : EachNameOnce) (only : OnlyNames) (r : Resolution) (resolved : IsResolved r) (placed : IsPlaced r.program) (low : IsLow r.program) where
-  told : (note : Note) (token : ℕ) (what : Named) → Contains (notes_about r.program) note → Tells note token what → named_at r token ≡ what
+  pub told : (note : Note) (token : ℕ) (what : Named) → Contains (notes_about r.program) note → Tells note token what → named_at r token ≡ what
   told note token what has tells =
       w.named ∙ ⊎_elim (λ l. absurd (w.not_before (referred_there w.before note token what l tells)))
       (λ later. ⊎_elim (λ is. one_thing note token w.what what (subst (λ z. Tells z token w.what) is w.tells) tells) (λ l. absurd (w.not_after (referred_there w.after note token what l tells))) (head_or_tail w.note note w.after later))
-      (in_either note w.before (w.note ∷ w.after) (subst (λ list. Contains list note) w.notes has))
+      (either_there w.before (w.note ∷ w.after) note (subst (λ list. Contains list note) w.notes has))
     where
       w : IsToldOnce r token
       w = once r resolved placed low token (only r resolved placed low token (referred_there (notes_about r.program) note token what has tells))
@@ -85,9 +73,7 @@ module _ (r : Resolution) where
 
   token_of : (m : Meaning) (t : ℕ) → named_of m ≡ Named.Variable t → meaning_token m ≡ Some t
   token_of (meaning.variable d) t is = let e : d.name.site.token ≡ t = cc in ap Some e
-  token_of (meaning.global n g) t is = absurd (let e : Named.Global n ≡ Named.Variable t = is in cc)
-  token_of (meaning.function n s) t is = absurd (let e : Named.Function n ≡ Named.Variable t = is in cc)
-  token_of (meaning.condition c) t is = absurd (let e : Named.Known ≡ Named.Variable t = is in cc)
+  token_of _ t is = absurd (cc)
 
   name_stands : (names : List Entry) (token : ℕ) (name : List ℕ) (o : Option Entry) → look_up names name ≡ o → AllSay r (name_notes token o) → IsAmong names (named_at r token)
   name_stands names token name None is h = absurd h.0
@@ -232,9 +218,6 @@ module _ (r : Resolution) where
   pub base_of_kind : (d : Declaration) (name : List ℕ) (n : ℕ) → declared_kind d.written ≡ object (Base.Struct name) n → d.written.ctype.base ≡ Base.Struct name
   base_of_kind d name n h = cc
 
-  no_kind : (name : List ℕ) (n : ℕ) → variable_kind None ≡ object (Base.Struct name) n → ⊥
-  no_kind name n h = cc
-
   pub one_struct : AllSay r (notes_about r.program) → HasOneStruct r
   one_struct h x y name kx ky = by (declaration_at r x) refl kx (declaration_at r y) refl ky
     where
@@ -242,8 +225,8 @@ module _ (r : Resolution) where
       all = declarations_base (file_scope r.program.items) r.program.items (items_say h)
 
       by : (o : Option Declaration) → declaration_at r x ≡ o → variable_kind o ≡ object (Base.Struct name) 1 → (p : Option Declaration) → declaration_at r y ≡ p → variable_kind p ≡ object (Base.Struct name) 1 → fields_behind r o ≡ fields_behind r p
-      by None dx k p dy j = absurd (no_kind name 1 k)
-      by (Some a) dx k None dy j = absurd (no_kind name 1 j)
+      by None dx k p dy j = absurd (cc)
+      by (Some a) dx k None dy j = absurd (cc)
       by (Some a) dx k (Some b) dy j =
           let structs = (file_scope r.program.items).structs in
           let one = named_by structs a name (base_of_kind a name 1 k) (declared_has (BaseSays structs) (declarations_in r.program.items) x a all dx) in

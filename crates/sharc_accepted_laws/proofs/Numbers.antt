@@ -1,5 +1,5 @@
 -- The numbers of shapes, and the rows that have them.
-use Rattle.sharc_accepted_laws.proofs.{Imports.{◌≡◌, ⊎_elim, ℕ, zero, suc, ◌+◌, ◌<◌, Bool, true, false, cond, List, [], ◌∷◌, length, map, get_or as slice_index_or, refl, ap, sym, ◌∙◌, subst, arith, Contains, true≢false, Base, Numbered, entities_in, numbered, Assignment, no_target, row_of, Form, dynamic_form, Shape, known_condition, known_mutex, shapes_down, entity_shapes, shapes_of, shapes, same_shape, number_from, number, shape_row, targets_of, NumbersFound, ShapesClosed, map_length, head_there, head_or_tail, tail_there, none_there}, Alike.{shape_itself, shape_is}, TargetLists.{left_there, right_there, either_there, map_at}}
+use Rattle.sharc_accepted_laws.proofs.{Imports.{◌≡◌, ⊎_elim, ℕ, zero, suc, ◌+◌, ◌<◌, Bool, true, false, cond, List, [], ◌∷◌, length, map, get_or as slice_index_or, refl, ap, sym, ◌∙◌, subst, arith, Contains, true≢false, Base, Numbered, entities_in, numbered, Assignment, no_target, row_of, Form, Shape, known_condition, known_mutex, shapes_down, entity_shapes, shapes_of, shapes, same_shape, number_from, number, shape_row, targets_of, NumbersFound, ShapesClosed, map_length, head_there, head_or_tail, tail_there, none_there}, Alike.{shape_itself, shape_is}, TargetLists.{left_there, right_there, either_there, map_at}}
 
 -- ---- the first that is the same
 record IsAt (n : ℕ) (list : List Shape) (s : Shape) : Type 0 where
@@ -64,26 +64,20 @@ part_base b c fs gs e = ap (λ (s : Shape). s.base) e
 part_forms : (b c : Base) (fs gs : List Form) → made b fs ≡ made c gs → fs ≡ gs
 part_forms b c fs gs e = ap (λ (s : Shape). s.forms) e
 
-rest_is : (f g : Form) (fs gs : List Form) → f ∷ fs ≡ g ∷ gs → fs ≡ gs
-rest_is f g fs gs e = cc
-
 below_down : (b : Base) (fs : List Form) (c : Base) (f g : Form) (below : List Form) → Contains (shapes_down b fs) (made c (f ∷ g ∷ below)) → Contains (shapes_down b fs) (made c (g ∷ below))
 below_down b [] c f g below has = absurd (none_there _ has)
 below_down b (x ∷ rest) c f g below has =
-    ⊎_elim (λ same. tail_there _ _ (shapes_down b rest) (here (part_base b c (x ∷ rest) (f ∷ g ∷ below) same) rest (rest_is x f rest (g ∷ below) (part_forms b c (x ∷ rest) (f ∷ g ∷ below) same))))
+    ⊎_elim (λ same. tail_there _ _ (shapes_down b rest) (here (part_base b c (x ∷ rest) (f ∷ g ∷ below) same) rest (cc (part_forms b c (x ∷ rest) (f ∷ g ∷ below) same))))
     (λ later. tail_there _ _ (shapes_down b rest) (below_down b rest c f g below later)) (head_or_tail _ _ (shapes_down b rest) has)
   where
     here : b ≡ c → (fs : List Form) → fs ≡ g ∷ below → Contains (shapes_down b fs) (made c (g ∷ below))
     here e fs is = subst (λ l. Contains (shapes_down b l) (made c (g ∷ below))) (sym is)
         (subst (λ z. Contains (shapes_down b (g ∷ below)) (made z (g ∷ below))) e (head_there (made b (g ∷ below)) (shapes_down b below)))
 
-one_form : (x f g : Form) (below : List Form) → x ∷ [] ≡ f ∷ g ∷ below → ⊥
-one_form x f g below h = cc
-
 below_of : (m : Assignment) (list : List Numbered) (c : Base) (f g : Form) (below : List Form) → Contains (shapes_of m list) (made c (f ∷ g ∷ below)) → Contains (shapes_of m list) (made c (g ∷ below))
 below_of m [] c f g below has =
-    ⊎_elim (λ is. absurd (one_form dynamic_form f g below (ap (λ (s : Shape). s.forms) is)))
-    (λ later. ⊎_elim (λ is. absurd (one_form dynamic_form f g below (ap (λ (s : Shape). s.forms) is))) (λ more. absurd (none_there _ more)) (head_or_tail known_mutex (made c (f ∷ g ∷ below)) [] later))
+    ⊎_elim (λ is. absurd (cc (ap (λ (s : Shape). s.forms) is)))
+    (λ later. ⊎_elim (λ is. absurd (cc (ap (λ (s : Shape). s.forms) is))) (λ more. absurd (none_there _ more)) (head_or_tail known_mutex (made c (f ∷ g ∷ below)) [] later))
     (head_or_tail known_condition (made c (f ∷ g ∷ below)) (known_mutex ∷ []) has)
 below_of m (n ∷ rest) c f g below has =
     ⊎_elim (λ l. left_there (entity_shapes m n) (shapes_of m rest) _ (below_down n.entity.written.ctype.base _ c f g below l)) (λ r. right_there (entity_shapes m n) (shapes_of m rest) _ (below_of m rest c f g below r))

@@ -1,5 +1,5 @@
 -- Where the lock paths of the types of expressions and declarations come from: what is written, and uses of fields through constant variables.
-use Rattle.sharc_accepted_laws.proofs.{Imports.{◌≡◌, ⊎_elim, ℕ, ◌+◌, ◌-◌, ◌==◌, Bool, true, false, cond, List, [], ◌∷◌, map, refl, ap, sym, ◌∙◌, subst, option_map, Option, Some, None, Contains, false≢true, AllByRecursion, Mode, Private, Readonly, Locked, Racy, Dynamic, Path, Span, Identifier, FieldOperator, Arrow, Dereference, GlobalDefinition, expressions, Expression, Function, Constant, Named, Role, is_array, Numbered, entities_in, numbered, is_told_by, entity_at, is_constant, Resolution, named_at, global_at, function_at, kind_at, IsLeastAssignment, Assignment, PathReading, written, through, Targets, is_constant_named, base_use, read, deeper, targets_from, entity_row, global_row, named_row, result_row, called_row, behind, reading_through, row_at, modes_of, modes_at, Lock, Sharing, private, readonly, locked, racy, dynamic, lock_of, sharing_of, text_at, is_sibling_lock, object_named, IsExpression, IsEntity, IsThroughConstant, is_through as through_constant, IsSiblingUse, same_some, none_some, front, head_there, head_or_tail, to_each, tail_there, none_there}, Written.{raw, deeper_raw, row_good, found_there}}
+use Rattle.sharc_accepted_laws.proofs.{Imports.{◌≡◌, ⊎_elim, ℕ, ◌+◌, ◌-◌, ◌==◌, Bool, true, false, cond, List, [], ◌∷◌, map, refl, ap, sym, ◌∙◌, subst, Option, Some, None, Contains, false≢true, AllByRecursion, Mode, Private, Locked, Racy, Dynamic, Path, Span, Identifier, FieldOperator, Arrow, GlobalDefinition, expressions, Expression, Function, Named, Role, Numbered, entities_in, numbered, is_told_by, entity_at, is_constant, Resolution, named_at, global_at, function_at, IsLeastAssignment, Assignment, PathReading, written, through, Targets, is_constant_named, base_use, read, targets_from, entity_row, global_row, named_row, result_row, called_row, reading_through, row_at, modes_of, modes_at, Lock, Sharing, locked, lock_of, sharing_of, text_at, is_sibling_lock, object_named, IsExpression, IsEntity, IsThroughConstant, is_through as through_constant, IsSiblingUse, same_some, none_some, head_there, head_or_tail, to_each, tail_there, none_there}, RowModes.{deeper_reading, RowHolds, modes_hold, rows_hold}, Written.{raw, row_good, found_there}}
 use Rattle.sharc_tree.specs.Tree as tree
 
 -- ---- modes that are written
@@ -9,15 +9,6 @@ WrittenIn n mode = (path : Path) → mode ≡ Locked path → Contains n.entity.
 
 no_path : (n : Numbered) (mode : Mode) → ((path : Path) → mode ≡ Locked path → ⊥) → WrittenIn n mode
 no_path n mode none path is = absurd (none path is)
-
-pub private_path : (path : Path) → Private ≡ Locked path → ⊥
-private_path path h = cc
-
-pub racy_path : (path : Path) → Racy ≡ Locked path → ⊥
-racy_path path h = cc
-
-pub dynamic_path : (path : Path) → Dynamic ≡ Locked path → ⊥
-dynamic_path path h = cc
 
 abbrev LevelWritten : Numbered → Option Mode → Type 0
 LevelWritten n None = Unit {0}
@@ -29,17 +20,10 @@ level_written n (Some mode) has = λ path is. subst (λ z. Contains n.entity.wri
 
 row_written : (m : Assignment) → IsLeastAssignment m → (how : PathReading) (n : Numbered) → IsEntity m n → AllByRecursion (WrittenIn n) (raw m (entity_row how (Some n)))
 row_written m least how n is =
-    row_good (WrittenIn n) (no_path n Private private_path) (no_path n Racy racy_path) (no_path n Dynamic dynamic_path) m least how n is
+    row_good (WrittenIn n) (no_path n Private (λ u e. cc)) (no_path n Racy (λ u e. cc)) (no_path n Dynamic (λ u e. cc)) m least how n is
     (to_each (LevelWritten n) n.entity.written.ctype.levels (level_written n))
 
 -- ---- rows and lists
-deeper_reading : (row : Targets) → (deeper row).reading ≡ row.reading
-deeper_reading row = by (row.count == 0)
-  where
-    by : (b : Bool) → (cond b row (record { first = row.first + 1; count = row.count - 1; reading = row.reading })).reading ≡ row.reading
-    by true = refl
-    by false = refl
-
 pub reading_kept : (where_ : Role) (row : Targets) → (targets_from where_ row).reading ≡ row.reading
 reading_kept Role.Global row = deeper_reading row
 reading_kept _ row = refl
@@ -63,36 +47,7 @@ pub both_hold : {A : Type 0} (P Q : A → Type 0) (list : List A) → AllByRecur
 both_hold P Q [] h k = tt
 both_hold P Q (x ∷ rest) h k = ((h.0, k.0), both_hold P Q rest h.1 k.1)
 
-deeper_modes : (m : Assignment) (P : Sharing → Type 0) (how : PathReading) (list other : List Mode) → ((Q : Mode → Type 0) → AllByRecursion Q list → AllByRecursion Q other) → AllByRecursion P (map (λ mode. read m.typed how (sharing_of mode)) list) → AllByRecursion P (map (λ mode. read m.typed how (sharing_of mode)) other)
-deeper_modes m P how list other less h = to other (less (λ mode. P (read m.typed how (sharing_of mode))) (from list h))
-  where
-    from : (xs : List Mode) → AllByRecursion P (map (λ mode. read m.typed how (sharing_of mode)) xs) → AllByRecursion (λ mode. P (read m.typed how (sharing_of mode))) xs
-    from [] k = tt
-    from (x ∷ xs) k = (k.0, from xs k.1)
-
-    to : (xs : List Mode) → AllByRecursion (λ mode. P (read m.typed how (sharing_of mode))) xs → AllByRecursion P (map (λ mode. read m.typed how (sharing_of mode)) xs)
-    to [] k = tt
-    to (x ∷ xs) k = (k.0, to xs k.1)
-
--- what holds of the modes of a row holds of those of what it points to in turn
-pub deeper_hold : (m : Assignment) (P : Sharing → Type 0) (row : Targets) → AllByRecursion P (modes_of m row) → AllByRecursion P (modes_of m (deeper row))
-deeper_hold m P row h =
-    subst (λ z. AllByRecursion P (map (λ mode. read m.typed z (sharing_of mode)) (raw m (deeper row)))) (sym (deeper_reading row))
-    (deeper_modes m P row.reading (raw m row) (raw m (deeper row)) (λ Q k. deeper_raw m Q row k) h)
-
 -- ---- readings
-pub no_private : (l : Lock) → private ≡ locked l → ⊥
-no_private l h = cc
-
-pub no_readonly : (l : Lock) → readonly ≡ locked l → ⊥
-no_readonly l h = cc
-
-pub no_racy : (l : Lock) → racy ≡ locked l → ⊥
-no_racy l h = cc
-
-pub no_dynamic : (l : Lock) → dynamic ≡ locked l → ⊥
-no_dynamic l h = cc
-
 pub same_lock : (l k : Lock) → locked l ≡ locked k → l ≡ k
 same_lock l k h = cc
 
@@ -123,11 +78,8 @@ module _ (m : Assignment) (Q : Lock → Type 0) (writes : (n : Numbered) → IsE
   r = m.typed
 
   one_written : (n : Numbered) → IsEntity m n → (mode : Mode) → WrittenIn n mode → Of (read r written (sharing_of mode))
-  one_written n is Private w l e = absurd (no_private l e)
-  one_written n is Readonly w l e = absurd (no_readonly l e)
-  one_written n is Racy w l e = absurd (no_racy l e)
-  one_written n is Dynamic w l e = absurd (no_dynamic l e)
   one_written n is (Locked path) w l e = subst Q (same_lock (lock_of path) l e) (writes n is path (w path refl))
+  one_written n is _ w l e = absurd (cc)
 
   mapped : (f : Mode → Sharing) (P : Mode → Type 0) → ((mode : Mode) → P mode → Of (f mode)) → (list : List Mode) → AllByRecursion P list → AllOf (map f list)
   mapped f P each [] h = tt
@@ -156,10 +108,6 @@ module _ (m : Assignment) (Q : Lock → Type 0) (writes : (n : Numbered) → IsE
   Uses at row = (k : Lock) → Contains (modes_of m row) (locked k) → is_sibling_lock r k ≡ true → Q record { first = at; second = Some (text_at r k.first) }
 
   one_through : (at : ℕ) (n : Numbered) → IsEntity m n → Uses at (entity_row written (Some n)) → (mode : Mode) → WrittenIn n mode × Contains (raw m (entity_row written (Some n))) mode → Of (shown (through at) mode)
-  one_through at n is used Private w l e = absurd (no_private l e)
-  one_through at n is used Readonly w l e = absurd (no_readonly l e)
-  one_through at n is used Racy w l e = absurd (no_racy l e)
-  one_through at n is used Dynamic w l e = absurd (no_dynamic l e)
   one_through at n is used (Locked path) w l e = by (is_sibling_lock r (lock_of path)) refl e
     where
       there : Contains (modes_of m (entity_row written (Some n))) (locked (lock_of path))
@@ -170,6 +118,7 @@ module _ (m : Assignment) (Q : Lock → Type 0) (writes : (n : Numbered) → IsE
       by : (b : Bool) → is_sibling_lock r (lock_of path) ≡ b → locked (cond b (record { first = at; second = Some (text_at r (lock_of path).first) }) (lock_of path)) ≡ locked l → Q l
       by true sibling same = subst Q (same_lock _ l same) (used (lock_of path) there sibling)
       by false sibling same = subst Q (same_lock (lock_of path) l same) (writes n is path (w.0 path refl))
+  one_through at n is used _ w l e = absurd (cc)
 
   entity_through : IsLeastAssignment m → (at : ℕ) (o : Option Numbered) → ((n : Numbered) → o ≡ Some n → IsEntity m n) → Uses at (entity_row written o) → AllOf (modes_of m (entity_row (through at) o))
   entity_through least at None is used = tt
@@ -185,10 +134,6 @@ module _ (m : Assignment) (Q : Lock → Type 0) (writes : (n : Numbered) → IsE
   found_through least at first last = entity_through least at (entity_at r first last) (entity_is first last)
 
   -- ---- expressions
-  abbrev RowNamed : Option Targets → Type 0
-  RowNamed None = Unit {0}
-  RowNamed (Some row) = AllOf (modes_of m row)
-
   module _ (least : IsLeastAssignment m) where
     global_named : (o : Option GlobalDefinition) → AllOf (modes_of m (global_row r written o))
     global_named None = tt
@@ -225,30 +170,9 @@ module _ (m : Assignment) (Q : Lock → Type 0) (writes : (n : Numbered) → IsE
         name_through at (named_at r name.site.token)
         (λ k has sibling. makes a w at (record { span = s; name = name; stands = stands; lock = k; target = has; sibling = sibling }) is)
 
-    deep : (o : Option Targets) → RowNamed o → RowNamed (behind o)
-    deep None h = tt
-    deep (Some row) h = deeper_hold m Of row h
-
-    choose : (b : Bool) (s t : Option Targets) → RowNamed s → RowNamed t → RowNamed (cond b s t)
-    choose true s t h k = h
-    choose false s t h k = k
-
-    pub row_named : (e : Expression) → AllByRecursion (IsExpression m) (expressions e) → RowNamed (row_at r e)
-    row_named (tree.identifier s i) h = name_named (named_at r i.site.token)
-    row_named (tree.constant s (Constant.Number n)) h = tt
-    row_named (tree.parentheses s a) h = row_named a h.1
-    row_named (tree.call s f all) h = called_named (named_at r f.site.token)
-    row_named (tree.cast s t a) h = found_named least s.first.token s.last.token
-    row_named (tree.index s a i) h =
-        let a_named = row_named a (front (IsExpression m) (expressions a) (expressions i) h.1) in
-        choose (is_array (kind_at r a)) (row_at r a) (behind (row_at r a)) a_named (deep (row_at r a) a_named)
-    row_named (tree.field s a w name) h = field_named s a w name h.0 (base_use r w a) refl
-    row_named (tree.unary s Dereference a) h = deep (row_at r a) (row_named a h.1)
-    row_named _ h = tt
+    pub row_named : (e : Expression) → AllByRecursion (IsExpression m) (expressions e) → RowHolds m Of (row_at r e)
+    row_named = rows_hold m Of (IsExpression m) (λ s i h. name_named (named_at r i.site.token)) (λ s f all. called_named (named_at r f.site.token)) (λ s t a h. found_named least s.first.token s.last.token)
+        (λ s a w name all h. field_named s a w name h (base_use r w a) refl)
 
     pub expression_of : (e : Expression) (modes : List Sharing) → AllByRecursion (IsExpression m) (expressions e) → modes_at m e ≡ Some modes → AllOf modes
-    expression_of e modes all is = by (row_at r e) (row_named e all) is
-      where
-        by : (o : Option Targets) → RowNamed o → option_map (modes_of m) o ≡ Some modes → AllOf modes
-        by None h k = absurd (none_some modes k)
-        by (Some row) h k = subst AllOf (same_some (modes_of m row) modes k) h
+    expression_of e modes all is = modes_hold m Of (row_at r e) modes (row_named e all) is

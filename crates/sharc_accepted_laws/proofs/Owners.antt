@@ -2,7 +2,7 @@
 use Rattle.sharc_accepted_laws.proofs.Imports.{◌≡◌, ⊎_elim, ℕ, zero, suc, ◌+◌, ◌<◌, ◌≤◌, ◌==◌, not, cond, List, [], ◌∷◌, length, refl, ap, sym, ◌∙◌, subst, arith, eq-eqb, Some, None, Contains, lt-ltb, le-ltb, ne_eqb, nat_lt, slice_get, unwrap_or, position_or_len, Token, Declaration, StructDefinition, Follow, declaration_spans, item_spans, PlacedDeclaration, PlacedDeclarations, PlacedItem, PlacedItems, Item, structure, global, function, structs_in, place_in, field_place_in, FieldsPlaced, same_some, none_some, head_or_tail, none_there}
 
 -- the name of a declaration stands in its span
-named_within : (all : List Token) (d : Declaration) → PlacedDeclaration all d → (d.span.first.token ≤ d.name.site.token) × (d.name.site.token ≤ d.span.last.token)
+pub named_within : (all : List Token) (d : Declaration) → PlacedDeclaration all d → (d.span.first.token ≤ d.name.site.token) × (d.name.site.token ≤ d.span.last.token)
 named_within all d placed =
     let parts = placed.0.1 in
     let order = parts.0.order in

@@ -1,5 +1,5 @@
 -- What is passed at a call has the type that the parameter has there: each path `x->m` of the parameter's type leads, by the argument for `x`, to the same mutex.
-use Rattle.sharc_accepted_laws.proofs.{Imports.{◌≡◌, ⊎_elim, ℕ, ◌+◌, ◌==◌, Bool, true, false, cond, List, [], ◌∷◌, map, refl, ap, sym, ◌∙◌, subst, bytes_eq, Option, Some, None, is_some, eqb-true, lt-ltb, arith, Contains, false≢true, unwrap_or, AllByRecursion, Base, Mode, Private, Readonly, Locked, Racy, Dynamic, Path, One, Through, Declaration, Expression, Arguments, no_arguments, argument, value, Function, in_function, IsLow, IsPlaced, Named, Kind, object, is_pointer, declared_kind, Entity, Numbered, entities_in, numbered, numbered_from, positions_of, is_told_by, entity_at, Resolution, IsResolved, named_at, function_at, functions_in, declaration_at, variable_kind, named_kind, kind_at, Transfer, variable, passed, parameters_of, parameters_named, function_transfers, IsFair, is_constant, IsFound, EachTypeFound, EachNamesItself, AllFair, FirstNames, a_known_call, IsNamedLevel, field_place_behind, Assignment, base_of, PathReading, written, at_call, Targets, is_constant_named, constant_use, argument_use, with_base, path_variable, lock_for, read, entity_row, declared_row, modes_of, modes_at, Lock, Sharing, private, readonly, locked, racy, dynamic, lock_of, sharing_of, variable_named, same_all, IsEntity, IsExpression, IsCall, called, spawned, an_argument, RulesAreMet, at_target, is_substituted, Context, slot_kind, PathNamed, PathStands, TypeLock, Global, InRegister, Refers, Label, AllSame, PassesLock, Passes, form_of, shape_of, number, register, lock_named, lock_at, locks_at, static_of, variable_type, entry_by, entry_of, IsAccepted, at_entry, AreCopies, ArgumentsPass, argument_type, AreStanding, ArgumentFits, ArgumentsFit, is_held, IsHeldPath, AllHeld, AllStand, same_some, none_some, each, head_there, head_or_tail, of_each, to_each, tail_there, none_there}, Holds.{path_named, held_by, object as object_there, all_named, variable_is}, Scoping.HasOneStruct, Same.{forms_of_same, locks_of_same}, Transferred.{own_passed, Passes as FairlyPasses, calls_pass}, Given.{Fair, is_nothing, is_like, fair, null_modes, meets, no_variable, parameter_declared, goes}, Written.{raw, row_good, found_there}, Origins.{reading_kept, same_raw, mapped_there, both_hold, dynamic_path, private_path, racy_path, same_lock}, TargetLists.place_there, Sorts.{one_kind as same_kinds}}
+use Rattle.sharc_accepted_laws.proofs.{Imports.{◌≡◌, ⊎_elim, ℕ, ◌+◌, ◌==◌, Bool, true, false, cond, List, [], ◌∷◌, map, refl, ap, sym, ◌∙◌, subst, bytes_eq, Option, Some, None, is_some, eqb-true, lt-ltb, arith, Contains, false≢true, unwrap_or, AllByRecursion, Base, Mode, Locked, Path, One, Through, Declaration, Expression, Arguments, no_arguments, argument, value, Function, in_function, IsLow, IsPlaced, Named, Kind, object, is_pointer, declared_kind, Entity, Numbered, entities_in, numbered, numbered_from, positions_of, is_told_by, entity_at, Resolution, IsResolved, named_at, function_at, functions_in, declaration_at, variable_kind, named_kind, kind_at, Transfer, variable, passed, parameters_of, parameters_named, function_transfers, IsFair, is_constant, IsFound, EachTypeFound, EachNamesItself, AllFair, FirstNames, a_known_call, IsNamedLevel, field_place_behind, Assignment, base_of, PathReading, written, at_call, Targets, is_constant_named, constant_use, argument_use, with_base, path_variable, lock_for, read, entity_row, declared_row, modes_of, modes_at, Lock, Sharing, locked, lock_of, sharing_of, variable_named, same_all, IsEntity, IsExpression, IsCall, called, spawned, an_argument, RulesAreMet, at_target, is_substituted, Context, slot_kind, PathNamed, PathStands, TypeLock, Global, InRegister, Refers, Label, AllSame, PassesLock, Passes, form_of, shape_of, number, register, lock_named, lock_at, locks_at, static_of, variable_type, entry_by, entry_of, IsAccepted, at_entry, AreCopies, ArgumentsPass, argument_type, AreStanding, ArgumentFits, ArgumentsFit, is_held, IsHeldPath, AllHeld, AllStand, same_some, none_some, each, head_there, head_or_tail, of_each, to_each, tail_there, none_there}, Holds.{path_named, held_by, object as object_there, all_named, variable_is}, Scoping.HasOneStruct, Same.{forms_of_same, locks_of_same}, Transferred.{own_passed, Passes as FairlyPasses, calls_pass}, Given.{Fair, is_nothing, is_like, fair, null_modes, meets, no_variable, parameter_declared, goes}, Written.{raw, row_good, found_there}, Origins.{reading_kept, same_raw, mapped_there, both_hold, same_lock}, TargetLists.place_there, Sorts.{one_kind as same_kinds}}
 use Rattle.std.proofs.Common.{position}
 use Rattle.sharc_tree.specs.Tree as tree
 use Rattle.sharc_ctype_laws.specs.WrittenTypes.{a_field, a_variable, a_global, a_function}
@@ -78,24 +78,12 @@ use_named r _ at h = absurd (none_some at h)
 pub same_token : (t u : ℕ) → Named.Variable t ≡ Named.Variable u → t ≡ u
 same_token t u e = cc
 
-no_field : (t u : ℕ) → Named.Field t ≡ Named.Variable u → ⊥
-no_field t u e = cc
-
-pub no_global : (t u : ℕ) → Named.Global t ≡ Named.Variable u → ⊥
-no_global t u e = cc
-
-pub no_function : (t u : ℕ) → Named.Function t ≡ Named.Variable u → ⊥
-no_function t u e = cc
-
-pub no_known : (u : ℕ) → Named.Known ≡ Named.Variable u → ⊥
-no_known u e = cc
-
 pub first_kind : (r : Resolution) (token : ℕ) (text : List ℕ) (k : Kind) → FirstNames r token text k → (t : ℕ) → named_at r token ≡ Named.Variable t → variable_kind (declaration_at r t) ≡ k
-first_kind r token text _ (a_field is at same) t n = absurd (no_field _ _ (sym is ∙ n))
+first_kind r token text _ (a_field is at same) t n = absurd (cc (sym is ∙ n))
 first_kind r token text _ (a_variable is at same) t n = ap (λ x. variable_kind (declaration_at r x)) (same_token _ _ (sym n ∙ is)) ∙ ap variable_kind at
-first_kind r token text _ (a_global is at same) t n = absurd (no_global _ _ (sym is ∙ n))
-first_kind r token text _ (a_function is at same other) t n = absurd (no_function _ _ (sym is ∙ n))
-first_kind r token text _ (a_known_call c is same) t n = absurd (no_known _ (sym is ∙ n))
+first_kind r token text _ (a_global is at same) t n = absurd (cc (sym is ∙ n))
+first_kind r token text _ (a_function is at same other) t n = absurd (cc (sym is ∙ n))
+first_kind r token text _ (a_known_call c is same) t n = absurd (cc (sym is ∙ n))
 
 -- the variable of a path is a pointer to a struct
 abbrev pub PathPoints : Resolution → Lock → Type 0
@@ -115,16 +103,10 @@ abbrev LevelPoints : Resolution → Option Mode → Type 0
 LevelPoints r None = Unit {0}
 LevelPoints r (Some mode) = ModePoints r mode
 
-pub readonly_path : (path : Path) → Readonly ≡ Locked path → ⊥
-readonly_path path h = cc
-
 points : (r : Resolution) (level : Option Mode) → IsNamedLevel r level → LevelPoints r level
 points r None h = tt
-points r (Some Private) h = λ path is. absurd (private_path path is)
-points r (Some Readonly) h = λ path is. absurd (readonly_path path is)
 points r (Some (Locked q)) h = λ path is. subst (λ z. PathPoints r (lock_of z)) (same_path q path is) (level_points r q h)
-points r (Some Racy) h = λ path is. absurd (racy_path path is)
-points r (Some Dynamic) h = λ path is. absurd (dynamic_path path is)
+points r (Some _) h = λ path is. absurd (cc)
 
 entity_there : (s : ℕ) (list : List Entity) (n : Numbered) → Contains (numbered_from s list) n → Contains list n.entity
 entity_there s [] n has = absurd (none_there n has)
@@ -135,7 +117,7 @@ entity_there s (e ∷ rest) n has =
 row_points : (found : EachTypeFound) (m : Assignment) → IsAccepted m → (how : PathReading) (n : Numbered) → IsEntity m n → AllByRecursion (ModePoints m.typed) (raw m (entity_row how (Some n)))
 row_points found m a how n is =
     let f : IsFound m.typed n.entity = of_each (IsFound m.typed) (entities_in m.typed.program.items) n.entity (found m.typed a.resolved a.placed a.low) (entity_there 0 (entities_in m.typed.program.items) n is) in
-    row_good (ModePoints m.typed) (λ path e. absurd (private_path path e)) (λ path e. absurd (racy_path path e)) (λ path e. absurd (dynamic_path path e)) m a.least how n is
+    row_good (ModePoints m.typed) (λ path e. absurd (cc)) (λ path e. absurd (cc)) (λ path e. absurd (cc)) m a.least how n is
     (each (IsNamedLevel m.typed) (LevelPoints m.typed) (points m.typed) n.entity.written.ctype.levels f.named.levels)
 
 -- ---- forms
@@ -145,9 +127,7 @@ form_read r how _ = refl
 
 forms_read : (r : Resolution) (one other : PathReading) (list : List Mode) → map form_of (map (λ mode. read r one (sharing_of mode)) list) ≡ map form_of (map (λ mode. read r other (sharing_of mode)) list)
 forms_read r one other [] = refl
-forms_read r one other (x ∷ rest) =
-    ap (λ f. f ∷ map form_of (map (λ mode. read r one (sharing_of mode)) rest)) (form_read r one (sharing_of x) ∙ sym (form_read r other (sharing_of x)))
-    ∙ ap (λ fs. form_of (read r other (sharing_of x)) ∷ fs) (forms_read r one other rest)
+forms_read r one other (x ∷ rest) = cc (form_read r one (sharing_of x), form_read r other (sharing_of x), forms_read r one other rest)
 
 -- ---- calls
 module _ (found : EachTypeFound) (rules : RulesAreMet) (all_fair : AllFair) (themselves : EachNamesItself) (c : Context) (accepted : IsAccepted c.program) (ds : List Declaration) (all : Arguments) (call : IsCall c.program ds all) where
@@ -241,19 +221,13 @@ module _ (found : EachTypeFound) (rules : RulesAreMet) (all_fair : AllFair) (the
 
   list_held : (list : List Mode) → AllByRecursion ModeFits list → AllHeld m (map (λ mode. read r (at_call ds all) (sharing_of mode)) list)
   list_held [] h = tt
-  list_held (Private ∷ rest) h = (λ l x e k. absurd (let z : private ≡ locked l = e in cc), list_held rest h.1)
-  list_held (Readonly ∷ rest) h = (λ l x e k. absurd (let z : readonly ≡ locked l = e in cc), list_held rest h.1)
   list_held (Locked path ∷ rest) h = ((h.0 path refl).0, list_held rest h.1)
-  list_held (Racy ∷ rest) h = (λ l x e k. absurd (let z : racy ≡ locked l = e in cc), list_held rest h.1)
-  list_held (Dynamic ∷ rest) h = (λ l x e k. absurd (let z : dynamic ≡ locked l = e in cc), list_held rest h.1)
+  list_held (_ ∷ rest) h = (λ l x e k. absurd (cc), list_held rest h.1)
 
   list_stands : AreStanding c ds all → (list : List Mode) → AllByRecursion ModeFits list → AllStand m c.scope (map (λ mode. read r (at_call ds all) (sharing_of mode)) list)
   list_stands s [] h = tt
-  list_stands s (Private ∷ rest) h = (tt, list_stands s rest h.1)
-  list_stands s (Readonly ∷ rest) h = (tt, list_stands s rest h.1)
   list_stands s (Locked path ∷ rest) h = ((h.0 path refl).1 s, list_stands s rest h.1)
-  list_stands s (Racy ∷ rest) h = (tt, list_stands s rest h.1)
-  list_stands s (Dynamic ∷ rest) h = (tt, list_stands s rest h.1)
+  list_stands s (_ ∷ rest) h = (tt, list_stands s rest h.1)
 
   -- those of a parameter
   row_fits : (d : Declaration) → Contains ds d → (o : Option Numbered) → entity_at r d.name.site.token d.name.site.token ≡ o
@@ -354,11 +328,8 @@ module _ (found : EachTypeFound) (rules : RulesAreMet) (all_fair : AllFair) (the
 
     list_passes : (list : List Mode) → AllByRecursion LockPasses list → AllHeld m (map called_as list) → AllSame (PassesLock l k a) (locks_at c (map called_as list)) (locks_at inner (map declared_as list))
     list_passes [] h held = tt
-    list_passes (Private ∷ rest) h held = list_passes rest h.1 held.1
-    list_passes (Readonly ∷ rest) h held = list_passes rest h.1 held.1
     list_passes (Locked path ∷ rest) h held = (h.0 path refl held.0, list_passes rest h.1 held.1)
-    list_passes (Racy ∷ rest) h held = list_passes rest h.1 held.1
-    list_passes (Dynamic ∷ rest) h held = list_passes rest h.1 held.1
+    list_passes (_ ∷ rest) h held = list_passes rest h.1 held.1
 
     -- a path of a parameter's type is met
     mode_passes : (d : Declaration) → Contains ds d → (row : Targets) → row ≡ declared_row r written d.name.site.token → row.reading ≡ written → (mode : Mode) → ModePoints r mode × Contains (raw m row) mode → LockPasses mode

@@ -1,5 +1,5 @@
 -- What the lock paths of types lead through stands where the types are used: rows and expressions.
-use Rattle.sharc_accepted_laws.proofs.{Imports.{◌≡◌, ◌⊎◌, inl, inr, ℕ, zero, suc, Bool, true, false, cond, List, [], ◌∷◌, map, refl, ap, sym, ◌∙◌, subst, arith, lt-ltb, slice_get, option_map, bytes_eq, Option, Some, None, false≢true, AllByRecursion, Base, Mode, Private, Readonly, Locked, Racy, Dynamic, Path, One, Through, Span, Declaration, Identifier, FieldOperator, Dereference, GlobalDefinition, StructDefinition, expressions, in_arguments, Expression, Arguments, no_arguments, argument, Function, Item, structure, global, function, Constant, Named, Scope, Kind, object, is_array, is_pointer, Entry, Meaning, field_of, look_up, named_of, Role, Entity, Numbered, declared, cast_entity, casts, result_of, function_entities, entities_in, numbered, is_told_by, entity_at, Resolution, named_at, declaration_at, global_at, function_at, globals_in, functions_in, structs_in, kind_at, variable_kind, HasType, IsMemberOf, struct_named, a_variable, a_global, a_function, a_field, a_field_behind, IsFound, NamesFound, meaning_token, IsVariableIn, IsAmong, LevelStands, TypeStands, CastStands, file_types, Placing, at, IsNamedLevel, IsNamedType, IsLeastAssignment, Assignment, PathReading, written, through, Targets, is_constant_named, constant_use, base_use, read, entity_row, global_row, named_row, result_row, called_row, behind, reading_through, row_at, modes_of, locked, lock_of, sharing_of, text_at, is_sibling_lock, IsEntity, Context, slot_kind, PathNamed, PathStands, IfThere, AllStand, DeclaredStands, ExpressionStands, ExpressionsStand, same_some, none_some, front, back, both}, Origins.{reading_kept, deeper_hold, private_path, racy_path, dynamic_path}, Passed.{first_kind, same_token, no_global, no_function, no_known, same_path, readonly_path}, Written.{raw, row_good, found_there}}
+use Rattle.sharc_accepted_laws.proofs.{Imports.{◌≡◌, ◌⊎◌, inl, inr, ℕ, zero, suc, Bool, true, false, cond, List, [], ◌∷◌, map, refl, ap, sym, ◌∙◌, subst, arith, lt-ltb, slice_get, option_map, bytes_eq, Option, Some, None, false≢true, AllByRecursion, Base, Mode, Locked, Path, One, Through, Span, Declaration, Identifier, FieldOperator, GlobalDefinition, StructDefinition, expressions, in_arguments, Expression, Arguments, no_arguments, argument, Function, Item, structure, global, function, Named, Scope, Kind, object, is_pointer, Entry, Meaning, field_of, look_up, named_of, Role, Entity, Numbered, declared, cast_entity, casts, result_of, function_entities, entities_in, numbered, is_told_by, entity_at, Resolution, named_at, declaration_at, global_at, function_at, globals_in, functions_in, structs_in, kind_at, variable_kind, HasType, IsMemberOf, struct_named, a_variable, a_global, a_function, a_field, a_field_behind, IsFound, NamesFound, meaning_token, IsVariableIn, IsAmong, LevelStands, TypeStands, CastStands, file_types, Placing, at, IsNamedLevel, IsNamedType, IsLeastAssignment, Assignment, PathReading, written, through, Targets, is_constant_named, constant_use, base_use, read, entity_row, global_row, named_row, result_row, called_row, reading_through, row_at, modes_of, locked, lock_of, sharing_of, text_at, is_sibling_lock, IsEntity, Context, slot_kind, PathNamed, PathStands, IfThere, AllStand, DeclaredStands, ExpressionStands, ExpressionsStand, same_some, none_some, front, back, both}, Origins.reading_kept, RowModes.{RowHolds, rows_hold}, Passed.{first_kind, same_token, same_path}, Written.{raw, row_good, found_there}}
 use Rattle.sharc_tree.specs.Tree as tree
 use Rattle.sharc_names.specs.Names as meaning
 
@@ -43,11 +43,8 @@ module _ (c : Context) where
 
   level_here : (names : List Entry) → Slots names → (level : Option Mode) → LevelStands r names level → IsNamedLevel r level → LevelHere level
   level_here names slots None stands is = tt
-  level_here names slots (Some Private) stands is = λ path e. absurd (private_path path e)
-  level_here names slots (Some Readonly) stands is = λ path e. absurd (readonly_path path e)
   level_here names slots (Some (Locked q)) stands is = λ path e. subst PathHere (same_path q path e) (path_here names slots q stands is)
-  level_here names slots (Some Racy) stands is = λ path e. absurd (racy_path path e)
-  level_here names slots (Some Dynamic) stands is = λ path e. absurd (dynamic_path path e)
+  level_here names slots (Some _) stands is = λ path e. absurd (cc)
 
   levels_here : (names : List Entry) → Slots names → (levels : List (Option Mode)) → AllByRecursion (LevelStands r names) levels → AllByRecursion (IsNamedLevel r) levels → AllByRecursion LevelHere levels
   levels_here names slots [] stands is = tt
@@ -81,7 +78,7 @@ module _ (c : Context) where
     entity_stands names slots how reads n is stands named_type =
         subst (λ z. AllStand m c.scope (map (λ mode. read r z (sharing_of mode)) (raw m (entity_row how (Some n))))) (sym (reading_kept n.entity.role _))
         (list_stands how reads (raw m (entity_row how (Some n)))
-        (row_good ModeHere (λ path e. absurd (private_path path e)) (λ path e. absurd (racy_path path e)) (λ path e. absurd (dynamic_path path e)) m least how n is
+        (row_good ModeHere (λ path e. absurd (cc)) (λ path e. absurd (cc)) (λ path e. absurd (cc)) m least how n is
         (levels_here names slots n.entity.written.ctype.levels stands named_type.levels)))
 
     pub found_stands : (names : List Entry) → Slots names → (how : PathReading) → Reads how → (e : Entity) → IsFound r e → TypeStands r names e.written → AllStand m c.scope (modes_of m (entity_row how (entity_at r e.token e.last)))
@@ -150,6 +147,19 @@ pub field_found : (P : Declaration → Type 0) (list : List Declaration) (name :
 field_found P [] name d all is = absurd (none_some d is)
 field_found P (x ∷ rest) name d all is = found_or_later P x d (field_of rest name) (bytes_eq x.name.text name) is all.0 (λ h. field_found P rest name d all.1 h)
 
+-- a field that a member expression names
+pub record Member (r : Resolution) (n : Identifier) : Type 0 where
+  pub of : Declaration
+  pub field : FieldInFile r of
+  pub names : named_at r n.site.token ≡ Named.Field of.name.site.token
+
+pub a_member : (r : Resolution) → FileKnown r r.program.items → (x name : List ℕ) (d : Declaration) → IsMemberOf r x name d → FieldInFile r d
+a_member r file x name d h = field_found (FieldInFile r) h.0.fields name d (struct_fields (FieldInFile r) (structs_in r.program.items) x h.0 file.fields h.1) h.2
+
+pub member : (r : Resolution) → FileKnown r r.program.items → (s : Span) (a : Expression) (v : FieldOperator) (n : Identifier) (k : Kind) → HasType r (tree.field s a v n) k → Member r n
+member r file s a _ n _ (a_field {x = x} {d = d} t h is) = record { of = d; field = a_member r file x n.text d h; names = is }
+member r file s a _ n _ (a_field_behind {x = x} {d = d} t h is) = record { of = d; field = a_member r file x n.text d h; names = is }
+
 pub entry_there : (names : List Entry) (name : List ℕ) (e : Entry) → look_up names name ≡ Some e → (x : ℕ) → meaning_token e.meaning ≡ Some x → IsVariableIn names x
 entry_there [] name e is x h = absurd (none_some e is)
 entry_there (y ∷ rest) name e is x h = by (bytes_eq y.name name) is (entry_there rest name e)
@@ -182,8 +192,7 @@ module _ (c : Context) (least : IsLeastAssignment c.program) (file : FileKnown c
   r2 = c.program.typed
 
   abbrev RowStands : Option Targets → Type 0
-  RowStands None = Unit {0}
-  RowStands (Some row) = AllStand m2 c.scope (modes_of m2 row)
+  RowStands = RowHolds m2 (PathStands r2 c.scope)
 
   global_rows : (o : Option GlobalDefinition) → IfSome (λ g. InFile r2 (declared Role.Global g.declaration)) o → AllStand m2 c.scope (modes_of m2 (global_row r2 written o))
   global_rows None h = tt
@@ -207,29 +216,14 @@ module _ (c : Context) (least : IsLeastAssignment c.program) (file : FileKnown c
       subst (λ n. AllStand m2 c.scope (modes_of m2 (named_row r2 written n))) (sym h.name.2)
       (meaning_rows h.name.0.meaning (entry_there scope.names i.text h.name.0 h.name.1))
 
-  -- fields
-  record Member (n : Identifier) : Type 0 where
-    of : Declaration
-    field : FieldInFile r2 of
-    names : named_at r2 n.site.token ≡ Named.Field of.name.site.token
-
-  a_member : (x name : List ℕ) (d : Declaration) → IsMemberOf r2 x name d → FieldInFile r2 d
-  a_member x name d h = field_found (FieldInFile r2) h.0.fields name d (struct_fields (FieldInFile r2) (structs_in r2.program.items) x h.0 file.fields h.1) h.2
-
-  member : (s : Span) (a : Expression) (v : FieldOperator) (n : Identifier) (k : Kind) → HasType r2 (tree.field s a v n) k → Member n
-  member s a _ n _ (a_field {x = x} {d = d} t h is) = record { of = d; field = a_member x n.text d h; names = is }
-  member s a _ n _ (a_field_behind {x = x} {d = d} t h is) = record { of = d; field = a_member x n.text d h; names = is }
-
   pointer_name : (s : Span) (i : Identifier) (k : Kind) → HasType r2 (tree.identifier s i) k → is_pointer k ≡ true → (t : ℕ) → named_at r2 i.site.token ≡ Named.Variable t → right_kind r2 t ≡ true
   pointer_name s i _ (a_variable is at spelled) p t n = ap (right_kind r2) (same_token _ _ (sym n ∙ is)) ∙ ap (λ o. is_pointer (variable_kind o)) at ∙ p
-  pointer_name s i _ (a_global is at spelled) p t n = absurd (no_global _ _ (sym is ∙ n))
+  pointer_name s i _ (a_global is at spelled) p t n = absurd (cc (sym is ∙ n))
   pointer_name s i _ (a_function q) p t n = absurd (false≢true p)
 
   meant : (z : Meaning) → ((x : ℕ) → meaning_token z ≡ Some x → IsVariableIn scope.names x) → (t : ℕ) → named_of z ≡ Named.Variable t → IsVariableIn scope.names t
   meant (meaning.variable d) h t is = h t (ap Some (same_token d.name.site.token t is))
-  meant (meaning.global n g) h t is = absurd (no_global n t is)
-  meant (meaning.function n s) h t is = absurd (no_function n t is)
-  meant (meaning.condition k) h t is = absurd (no_known t is)
+  meant _ h t is = absurd (cc)
 
   variable_stands : (s : Span) (i : Identifier) → Seen r2 scope (tree.identifier s i) → (k : Kind) → HasType r2 (tree.identifier s i) k → is_pointer k ≡ true → (n : Named) → named_at r2 i.site.token ≡ n → (name : List ℕ) → PathNamed c.scope n (Some name)
   variable_stands s i h k t p (Named.Variable x) is name =
@@ -252,29 +246,15 @@ module _ (c : Context) (least : IsLeastAssignment c.program) (file : FileKnown c
   own (tree.cast s t a) h = h.0
   own _ h = h.0
 
-  deep : (o : Option Targets) → RowStands o → RowStands (behind o)
-  deep None h = tt
-  deep (Some row) h = deeper_hold m2 (PathStands r2 c.scope) row h
-
-  choose : (b : Bool) (s t : Option Targets) → RowStands s → RowStands t → RowStands (cond b s t)
-  choose true s t h k = h
-  choose false s t h k = k
+  field_row : (s : Span) (a : Expression) (v : FieldOperator) (n : Identifier) → AllByRecursion (Seen r2 scope) (expressions a) → Seen r2 scope (tree.field s a v n) → RowStands (row_at r2 (tree.field s a v n))
+  field_row s a v n all h =
+      let x = member r2 file s a v n _ h.has in
+      let how = reading_through (base_use r2 v a) in
+      subst (λ z. AllStand m2 c.scope (modes_of m2 (named_row r2 how z))) (sym x.names) (file_stands c least how (reads_base s a v n _ h.has (own a all)) (declared Role.Field x.of) x.field.0 x.field.1)
 
   row_stands : (e : Expression) → AllByRecursion (Seen r2 scope) (expressions e) → RowStands (row_at r2 e)
-  row_stands (tree.identifier s i) h = identifier_row s i h.0
-  row_stands (tree.constant s (Constant.Number n)) h = tt
-  row_stands (tree.parentheses s a) h = row_stands a h.1
-  row_stands (tree.call s f all) h = called_rows (named_at r2 f.site.token)
-  row_stands (tree.cast s t a) h = found_stands c least scope.names here.slots written (reads_written c) (cast_entity s t) h.0.cast.0 h.0.cast.1
-  row_stands (tree.index s a i) h =
-      let g = row_stands a (front (Seen r2 scope) (expressions a) (expressions i) h.1) in
-      choose (is_array (kind_at r2 a)) (row_at r2 a) (behind (row_at r2 a)) g (deep (row_at r2 a) g)
-  row_stands (tree.field s a v n) h =
-      let x = member s a v n _ h.0.has in
-      let how = reading_through (base_use r2 v a) in
-      subst (λ z. AllStand m2 c.scope (modes_of m2 (named_row r2 how z))) (sym x.names) (file_stands c least how (reads_base s a v n _ h.0.has (own a h.1)) (declared Role.Field x.of) x.field.0 x.field.1)
-  row_stands (tree.unary s Dereference a) h = deep (row_at r2 a) (row_stands a h.1)
-  row_stands _ h = tt
+  row_stands = rows_hold m2 (PathStands r2 c.scope) (Seen r2 scope) identifier_row (λ s f all. called_rows (named_at r2 f.site.token))
+      (λ s t a h. found_stands c least scope.names here.slots written (reads_written c) (cast_entity s t) h.cast.0 h.cast.1) field_row
 
   expression_stands : (e : Expression) → AllByRecursion (Seen r2 scope) (expressions e) → ExpressionStands c e
   expression_stands e h = by (row_at r2 e) (row_stands e h)

@@ -1,5 +1,5 @@
 -- What pointers refer to has the cells, the layout and the fields of the source, and a cast leaves its contents.
-use Rattle.sharc_accepted_laws.proofs.{Imports.{◌≡◌, ℕ, zero, suc, ◌+◌, ◌-◌, ◌<◌, Bool, true, false, cond, List, [], ◌∷◌, length, map, drop, get_or as slice_index_or, refl, ap, sym, ◌∙◌, subst, arith, bytes_eq, false≢true, and_parts, AllByRecursion, Base, Declaration, StructDefinition, Named, Kind, object, is_pointer, element_kind, declared_kind, Resolution, named_at, structs_in, first_of, Assignment, base_of, Targets, written, declared_row, modes_of, Sharing, private, readonly, locked, racy, dynamic, same, same_all, element_cells, layout_of, FieldMode, Content, Pointer, Field, TableTarget as Target, no_field, field_at, IsRowOf, pointee, PointeeFits, PointeesFit, IsPlainLock, HasPlainLocks, IsRecast, is_same, of_types, RecastFits, RecastsFit, SameForms, form_of, shape_of, row_shape, number, stars_in, table_lock as lock_named, field_locks, lock_count, type_locks, own_mode, is_private_form, starts_private, base_content, pointer_content, declared_content, single, members, struct_fields, base_fields, shape_fields, targets_of, map_length, no_cons}, TargetCells.cells_are, TargetForms.row_length, Numbers.numbers_found, Alike.two}
+use Rattle.sharc_accepted_laws.proofs.{Imports.{◌≡◌, ℕ, zero, suc, ◌+◌, ◌-◌, ◌<◌, Bool, true, false, cond, List, [], ◌∷◌, length, map, drop, get_or as slice_index_or, refl, ap, sym, ◌∙◌, subst, arith, bytes_eq, false≢true, and_parts, AllByRecursion, Base, Declaration, StructDefinition, Named, Kind, object, is_pointer, element_kind, declared_kind, Resolution, named_at, structs_in, first_of, Assignment, base_of, Targets, written, declared_row, modes_of, Sharing, private, locked, same, same_all, element_cells, layout_of, FieldMode, Content, Pointer, Field, TableTarget as Target, no_field, field_at, IsRowOf, pointee, PointeeFits, PointeesFit, IsPlainLock, HasPlainLocks, IsRecast, is_same, of_types, RecastFits, RecastsFit, SameForms, form_of, shape_of, row_shape, number, stars_in, table_lock as lock_named, field_locks, lock_count, type_locks, own_mode, is_private_form, starts_private, base_content, pointer_content, declared_content, single, members, struct_fields, base_fields, shape_fields, targets_of, map_length, no_cons}, TargetCells.cells_are, TargetForms.row_length, Numbers.numbers_found}
 use Rattle.sharc_mode.specs.Sharings as sharings
 use Rattle.sharc_accepted_laws.specs.Shapes.{kind_of}
 
@@ -55,11 +55,8 @@ plain_lock r n _ = tt
 
 plain_locks : (r : Resolution) (n : ℕ) (modes : List Sharing) → AllByRecursion IsPlainLock (field_locks r n modes)
 plain_locks r n [] = tt
-plain_locks r n (private ∷ below) = plain_locks r n below
-plain_locks r n (readonly ∷ below) = plain_locks r n below
 plain_locks r n (locked l ∷ below) = (plain_lock r n (named_at r l.first), plain_locks r n below)
-plain_locks r n (racy ∷ below) = plain_locks r n below
-plain_locks r n (dynamic ∷ below) = plain_locks r n below
+plain_locks r n (_ ∷ below) = plain_locks r n below
 
 base_plain : (b : Base) → HasPlainLocks (base_content b)
 base_plain (Base.Struct name) = tt
@@ -161,15 +158,12 @@ recasts_fit m k from to a b pointer forms = by (pointees_fit m k from a pointer)
 
 -- ---- modes that are the same
 same_form : (r : Resolution) (a b : Sharing) → same r a b ≡ true → form_of a ≡ form_of b
-same_form r private private h = refl
-same_form r readonly readonly h = refl
 same_form r (locked l) (locked k) h = refl
-same_form r racy racy h = refl
-same_form r dynamic dynamic h = refl
-same_form r _ _ h = absurd (false≢true h)
+same_form r _ private h = cc
+same_form r _ _ h = cc
 
 pub same_modes : SameForms
 same_modes r [] [] h = refl
 same_modes r [] (b ∷ bs) h = absurd (false≢true h)
 same_modes r (a ∷ more) [] h = absurd (false≢true h)
-same_modes r (a ∷ more) (b ∷ bs) h = let p = and_parts (same r a b) (same_all r more bs) h in two _ _ _ _ (same_form r a b p.0) (same_modes r more bs p.1)
+same_modes r (a ∷ more) (b ∷ bs) h = let p = and_parts (same r a b) (same_all r more bs) h in cc (same_form r a b p.0, same_modes r more bs p.1)

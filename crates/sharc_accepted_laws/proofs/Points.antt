@@ -1,5 +1,5 @@
 -- The locks of what cells refer to: in the table, and by the source.
-use Rattle.sharc_accepted_laws.proofs.{Imports.{◌≡◌, ◌⊎◌, inl, inr, ℕ, zero, suc, ◌+◌, ◌-◌, ◌<◌, ◌≤◌, ◌==◌, Bool, true, false, cond, ◌&&◌, List, [], ◌∷◌, ◌++◌, length, map, refl, ap, sym, ◌∙◌, subst, arith, append_assoc, length-append, option_map, Option, Some, None, is_none, Contains, get_or as slice_index_or, AllByRecursion, Base, Mode, Private, Readonly, Locked, Racy, Dynamic, Path, One, Through as PathThrough, Span, Declaration, Identifier, FieldOperator, Dot, Arrow, Dereference, GlobalDefinition, expressions, in_function, Expression, Named, Kind, object, is_array, Role, Entity, Numbered, declared, entities_in, numbered, is_told_by, Resolution, named_at, declaration_at, variable_kind, global_at, globals_in, functions_in, structs_in, kind_at, HasType, IsMemberOf, a_field, a_field_behind, IsFound, EachTypeFound, EachNameOnce, OnlyNames, EachPathFound, MeetsConstraints, OneType, first_cell, Target, in_global, in_global_at, in_object_at, global_of, own_field, named_target, target, cell_of, Context, Either, is_cell, globals_of, field_place, field_place_named, field_place_behind, Place, pointed, Assignment, RowLaws, PathReading, written, through, Targets, is_constant_named, constant_use, base_use, lock_through, path_variable, read, deeper, entity_row, declared_row, global_row, named_row, behind, reading_through, row_at, modes_of, modes_at, Lock, Sharing, private, readonly, locked, racy, dynamic, lock_of, sharing_of, text_at, variable_named, is_field, is_sibling_lock, place_of, IsExpression, IsEntity, RulesAreMet, IsAllowed, global_mutex, sibling_mutex, sibling_pointer, through_constant, IsThroughConstant, is_through, MeetsRules, Cell, TypeLock, FieldLock, OfType, OfGlobals, OfElement, StaticType, Global, InRegister as Through, Self, Refers, Label, SameReference, Itself, SameLock, AllSame, no_lock, IsFieldLock, IsGlobalLock, IsAnyLock, IsAnyGlobalLock, AreFieldLocks, IsAccepted, is_held, IsHeldPath, AllHeld, element_locks, pointee_locks, declared_locks, content_locks, BaseIs, IsBased, PlacesPoint, register, lock_named, lock_at, locks_at, static_of, FieldsPlaced, ExpressionsFound, Form, private_form, readonly_form, locked_form, racy_form, dynamic_form, form_of, table_lock, field_lock, field_locks, type_locks, lock_count, same_some, none_some, front, each, place_of_element, of_each, to_each}, Arrays.{IsNameOf, array_name}, Holds.expressions_held, Origins.{private_path, racy_path, dynamic_path, reading_kept, same_raw, no_private, no_readonly, no_racy, no_dynamic, same_lock}, Passed.use_named, Places.{InFile, FileKnown, FieldInFile, file_known, struct_fields, field_found, at_number, IfSome}, Noted.all_say, StaticSiblings.{SiblingsAre, siblings_are}, Written.{raw, row_good, found_there}}
+use Rattle.sharc_accepted_laws.proofs.{Imports.{◌≡◌, ◌⊎◌, inl, inr, ℕ, zero, suc, ◌+◌, ◌-◌, ◌<◌, ◌≤◌, ◌==◌, Bool, true, false, cond, ◌&&◌, List, [], ◌∷◌, ◌++◌, length, map, refl, ap, sym, ◌∙◌, subst, arith, append_assoc, length-append, option_map, Option, Some, None, is_none, Contains, get_or as slice_index_or, AllByRecursion, Base, Mode, Locked, Path, One, Through as PathThrough, Span, Declaration, Identifier, FieldOperator, Dot, Arrow, Dereference, GlobalDefinition, expressions, in_function, Expression, Named, Kind, object, is_array, Role, Entity, Numbered, declared, entities_in, numbered, is_told_by, Resolution, named_at, declaration_at, variable_kind, global_at, globals_in, functions_in, kind_at, HasType, IsMemberOf, a_field_behind, IsFound, EachTypeFound, EachNameOnce, OnlyNames, EachPathFound, MeetsConstraints, OneType, first_cell, Target, in_global, in_global_at, in_object_at, global_of, own_field, named_target, target, cell_of, Context, Either, is_cell, globals_of, field_place, field_place_named, field_place_behind, Place, pointed, Assignment, RowLaws, PathReading, written, through, Targets, is_constant_named, constant_use, base_use, lock_through, path_variable, read, deeper, entity_row, declared_row, global_row, named_row, behind, reading_through, row_at, modes_of, modes_at, Lock, Sharing, locked, lock_of, sharing_of, text_at, variable_named, is_field, is_sibling_lock, place_of, IsExpression, IsEntity, RulesAreMet, IsAllowed, global_mutex, sibling_mutex, sibling_pointer, through_constant, IsThroughConstant, is_through, MeetsRules, Cell, TypeLock, FieldLock, OfType, OfGlobals, OfElement, StaticType, Global, InRegister as Through, Self, Refers, Label, SameReference, Itself, SameLock, AllSame, no_lock, IsFieldLock, IsGlobalLock, IsAnyLock, IsAnyGlobalLock, AreFieldLocks, IsAccepted, is_held, IsHeldPath, AllHeld, element_locks, pointee_locks, declared_locks, content_locks, BaseIs, IsBased, PlacesPoint, register, lock_named, lock_at, locks_at, static_of, FieldsPlaced, ExpressionsFound, Form, locked_form, form_of, table_lock, field_lock, field_locks, type_locks, lock_count, same_some, none_some, front, each, place_of_element, of_each, to_each}, Arrays.{IsNameOf, array_name}, Holds.expressions_held, Origins.{reading_kept, same_raw, same_lock}, Passed.use_named, Places.{InFile, FileKnown, FieldInFile, file_known, a_member, member, at_number, IfSome}, Noted.all_say, StaticSiblings.{SiblingsAre, siblings_are}, Written.{raw, row_good, found_there}}
 use Rattle.sharc_tree.specs.Tree as tree
 use Rattle.sharc_lemmas.proofs.Bools.{no_cell}
 
@@ -30,10 +30,6 @@ module _ (c : Context) (l : Label) (r i : ℕ) (s : StaticType) where
 
   types_from : (modes : List Sharing) (pre : List TypeLock) (k : ℕ) → s.locks ≡ pre ++ locks_at c modes → k ≡ length pre → AllSame Is (locks_at c modes) (type_locks k (map form_of modes))
   types_from [] pre k is count = tt
-  types_from (private ∷ rest) pre k is count = types_from rest pre k is count
-  types_from (readonly ∷ rest) pre k is count = types_from rest pre k is count
-  types_from (racy ∷ rest) pre k is count = types_from rest pre k is count
-  types_from (dynamic ∷ rest) pre k is count = types_from rest pre k is count
   types_from (locked lock ∷ rest) pre k is count =
       let x = lock_at c lock in
       let all : s.locks ≡ (pre ++ x ∷ []) ++ locks_at c rest = is ∙ sym (append_assoc pre (x ∷ []) (locks_at c rest)) in
@@ -44,6 +40,7 @@ module _ (c : Context) (l : Label) (r i : ℕ) (s : StaticType) where
         type_lock l r i s x k (not_self c (named_at c.program.typed lock.first) lock.second) low here,
         types_from rest (pre ++ x ∷ []) (k + 1) all more,
       )
+  types_from (_ ∷ rest) pre k is count = types_from rest pre k is count
 
   -- of what an element refers to
   types_below : (first : Sharing) (rest : List Sharing) → s.locks ≡ locks_at c (first ∷ rest) → AllSame Is (locks_at c rest) (element_locks (map form_of (first ∷ rest)))
@@ -54,12 +51,9 @@ module _ (c : Context) (l : Label) (r i : ℕ) (s : StaticType) where
 any_from : (l : Label) (r : ℕ) (s : StaticType) (list : List TypeLock) (fs : List Form) (k : ℕ) → AllSame (IsFieldLock l r 0 s) list (type_locks k fs) → AllSame (IsAnyLock l r s) list (type_locks k fs)
 any_from l r s [] [] k h = tt
 any_from l r s (x ∷ list) [] k h = absurd h
-any_from l r s list (private_form ∷ fs) k h = any_from l r s list fs k h
-any_from l r s list (readonly_form ∷ fs) k h = any_from l r s list fs k h
-any_from l r s list (racy_form ∷ fs) k h = any_from l r s list fs k h
-any_from l r s list (dynamic_form ∷ fs) k h = any_from l r s list fs k h
 any_from l r s [] (locked_form ∷ fs) k h = absurd h
 any_from l r s (x ∷ list) (locked_form ∷ fs) k h = (h.0, any_from l r s list fs (k + 1) h.1)
+any_from l r s list (_ ∷ fs) k h = any_from l r s list fs k h
 
 any_pointee : (l : Label) (r : ℕ) (s : StaticType) (list : List TypeLock) (o : Option (List Sharing)) → AllSame (IsFieldLock l r 0 s) list (pointee_locks o) → AllSame (IsAnyLock l r s) list (pointee_locks o)
 any_pointee l r s [] None h = tt
@@ -91,10 +85,6 @@ module _ (c : Context) (globals : c.globals ≡ globals_of c.program.typed) wher
   -- they name globals, in the table too
   global_locks : (R : TypeLock → FieldLock → Type 0) → ((j : ℕ) → R (Global j) (OfGlobals j)) → (n : ℕ) (modes : List Sharing) → AllGlobal c.program.typed modes → AllSame R (locks_at c modes) (field_locks c.program.typed n modes)
   global_locks R same n [] h = tt
-  global_locks R same n (private ∷ rest) h = global_locks R same n rest h.1
-  global_locks R same n (readonly ∷ rest) h = global_locks R same n rest h.1
-  global_locks R same n (racy ∷ rest) h = global_locks R same n rest h.1
-  global_locks R same n (dynamic ∷ rest) h = global_locks R same n rest h.1
   global_locks R same n (locked lock ∷ rest) h =
       let g = h.0 lock refl in
       let one : lock_at c lock ≡ Global (first_cell (globals_of c.program.typed) g.0 - 2) = ap (λ w. lock_named c w lock.second) g.1 ∙ ap (λ z. Global (first_cell z g.0 - 2)) globals in
@@ -102,6 +92,7 @@ module _ (c : Context) (globals : c.globals ≡ globals_of c.program.typed) wher
         subst (λ z. R z (field_lock c.program.typed n lock)) (sym one) (subst (R (Global (first_cell (globals_of c.program.typed) g.0 - 2))) (sym other) (same (first_cell (globals_of c.program.typed) g.0 - 2))),
         global_locks R same n rest h.1,
       )
+  global_locks R same n (_ ∷ rest) h = global_locks R same n rest h.1
 
   -- a cell whose base has a type
   abbrev CellBased : Label → Cell → Type 0
@@ -115,26 +106,17 @@ module _ (c : Context) (globals : c.globals ≡ globals_of c.program.typed) wher
   any_cell l (Cell.Object r k) based n modes h = (based.0, based.1, global_locks (IsFieldLock l r k based.0) (λ j. refl) n modes h)
   any_cell l (Cell.ObjectAt r k) based n modes h = (based.0, based.1, global_locks (IsAnyLock l r based.0) (λ j. refl) n modes h)
 
-pub not_field : Place.Global ≡ Place.Field → ⊥
-not_field h = cc
-
-not_local : Place.Global ≡ Place.Local → ⊥
-not_local h = cc
-
-pub field_not_local : Place.Field ≡ Place.Local → ⊥
-field_not_local h = cc
-
 in_global_type : (r : Resolution) (e : Entity) (depth : ℕ) (path : Path) → place_of e.role ≡ Place.Global → IsAllowed r e depth path → NamesGlobal r (lock_of path)
 in_global_type r e depth _ at (global_mutex {g = g} is kind) = (g, is)
-in_global_type r e depth _ at (sibling_mutex other is kind) = absurd (not_field (sym at ∙ other))
-in_global_type r e depth _ at (sibling_pointer other top is pointer alone) = absurd (not_field (sym at ∙ other))
-in_global_type r e depth _ at (through_constant other is constant behind) = absurd (not_local (sym at ∙ other))
+in_global_type r e depth _ at (sibling_mutex other is kind) = absurd (cc (sym at ∙ other))
+in_global_type r e depth _ at (sibling_pointer other top is pointer alone) = absurd (cc (sym at ∙ other))
+in_global_type r e depth _ at (through_constant other is constant behind) = absurd (cc (sym at ∙ other))
 
 in_field_type : (r : Resolution) (e : Entity) (depth : ℕ) (path : Path) → place_of e.role ≡ Place.Field → IsAllowed r e depth path → NamesGlobal r (lock_of path) ⊎ NamesField r (lock_of path)
 in_field_type r e depth _ at (global_mutex {g = g} is kind) = inl (g, is)
 in_field_type r e depth _ at (sibling_mutex {f = t} other is kind) = inr (refl, (t, is))
 in_field_type r e depth _ at (sibling_pointer {f = t} other top is pointer alone) = inr (refl, (t, is))
-in_field_type r e depth _ at (through_constant other is constant behind) = absurd (field_not_local (sym at ∙ other))
+in_field_type r e depth _ at (through_constant other is constant behind) = absurd (cc (sym at ∙ other))
 
 abbrev pub ModeOf : (Path → Type 0) → Mode → Type 0
 ModeOf Good mode = (path : Path) → mode ≡ Locked path → Good path
@@ -154,7 +136,7 @@ module _ (rules : RulesAreMet) (m : Assignment) (a : IsAccepted m) where
   pub allowed_row : (Good : Path → Type 0) (how : PathReading) (n : Numbered) → IsEntity m n → ((depth : ℕ) (path : Path) → IsAllowed r2 n.entity depth path → Contains n.entity.written.ctype.levels (Some (Locked path)) → Good path)
       → AllByRecursion (ModeOf Good) (raw m (entity_row how (Some n)))
   allowed_row Good how n is good =
-      row_good (ModeOf Good) (λ path e. absurd (private_path path e)) (λ path e. absurd (racy_path path e)) (λ path e. absurd (dynamic_path path e)) m a.least how n is
+      row_good (ModeOf Good) (λ path e. absurd (cc)) (λ path e. absurd (cc)) (λ path e. absurd (cc)) m a.least how n is
       (to_each (LevelOf Good) n.entity.written.ctype.levels level)
     where
       level : (x : Option Mode) → Contains n.entity.written.ctype.levels x → LevelOf Good x
@@ -169,11 +151,8 @@ module _ (rules : RulesAreMet) (m : Assignment) (a : IsAccepted m) where
   shown_modes Good (x ∷ rest) h = (one x h.0, shown_modes Good rest h.1)
     where
       one : (mode : Mode) → ModeOf (λ path. Good (lock_of path)) mode → (l : Lock) → read r2 written (sharing_of mode) ≡ locked l → Good l
-      one Private k l e = absurd (no_private l e)
-      one Readonly k l e = absurd (no_readonly l e)
-      one Racy k l e = absurd (no_racy l e)
-      one Dynamic k l e = absurd (no_dynamic l e)
       one (Locked path) k l e = subst Good (same_lock (lock_of path) l e) (k path refl)
+      one _ k l e = absurd (cc)
 
   pub entity_is : (e : Entity) (f : IsFound r2 e) → IsEntity m f.numbered
   entity_is e f = found_there (is_told_by e.token e.last) (numbered (entities_in r2.program.items)) f.numbered f.found
@@ -283,11 +262,8 @@ module _ (rules : RulesAreMet) (c : Context) (a : IsAccepted c.program) (globals
     through_locks : (list : List Mode) → AllByRecursion (ModeOf (FieldPath rules m3 a d)) list → Held list
         → AllSame R (locks_at c (map (λ mode. read r3 (through token) (sharing_of mode)) list)) (field_locks r3 n (map (λ mode. read r3 written (sharing_of mode)) list))
     through_locks [] h held = tt
-    through_locks (Private ∷ rest) h held = through_locks rest h.1 held.1
-    through_locks (Readonly ∷ rest) h held = through_locks rest h.1 held.1
-    through_locks (Racy ∷ rest) h held = through_locks rest h.1 held.1
-    through_locks (Dynamic ∷ rest) h held = through_locks rest h.1 held.1
     through_locks (Locked path ∷ rest) h held = (one_path path (h.0 path refl) held.0, through_locks rest h.1 held.1)
+    through_locks (_ ∷ rest) h held = through_locks rest h.1 held.1
 
     field_through : FieldInFile r3 d → AllHeld m3 (modes_of m3 (declared_row r3 (through token) d.name.site.token)) → AllSame R (locks_at c (modes_of m3 (declared_row r3 (through token) d.name.site.token))) (field_locks r3 n (modes_of m3 (declared_row r3 written d.name.site.token)))
     field_through f held =
@@ -367,19 +343,6 @@ module _ (rows : RowLaws) (expressions_found : ExpressionsFound) (one_type : One
     row : row_at r4 e ≡ Some (global_row r4 written (global_at r4 number))
     content : content_locks m4 e ≡ declared_locks m4 0 (Named.Global number)
 
-  -- a member of a struct
-  record Member (n : Identifier) : Type 0 where
-    of : Declaration
-    field : FieldInFile r4 of
-    names : named_at r4 n.site.token ≡ Named.Field of.name.site.token
-
-  a_member : (x name : List ℕ) (d : Declaration) → IsMemberOf r4 x name d → FieldInFile r4 d
-  a_member x name d h = field_found (FieldInFile r4) h.0.fields name d (struct_fields (FieldInFile r4) (structs_in r4.program.items) x h.0 file.fields h.1) h.2
-
-  member : (s : Span) (e : Expression) (v : FieldOperator) (n : Identifier) (k : Kind) → HasType r4 (tree.field s e v n) k → Member n
-  member s e _ n _ (a_field {x = x} {d = d} t h is) = record { of = d; field = a_member x n.text d h; names = is }
-  member s e _ n _ (a_field_behind {x = x} {d = d} t h is) = record { of = d; field = a_member x n.text d h; names = is }
-
   array_named : (e : Expression) (g : ℕ) → IsNameOf r4 e g → ArrayIs e
   array_named (tree.identifier s x) g is = record { number = g; row = ap (λ n. Some (named_row r4 written n)) is; content = ap (declared_locks m4 0) is }
   array_named (tree.parentheses s e) g is = let x = array_named e g is in record { number = x.number; row = x.row; content = x.content }
@@ -435,7 +398,7 @@ module _ (rows : RowLaws) (expressions_found : ExpressionsFound) (one_type : One
   plain_points : (s : Span) (e : Expression) (w : FieldOperator) (name : Identifier) → IsExpression m4 (tree.field s e w name) → base_use r4 w e ≡ None → (cell : Cell) → CellBased c globals l cell → (n : ℕ) (modes : List Sharing)
       → Some (modes_of m4 (named_row r4 (reading_through (base_use r4 w e)) (named_at r4 name.site.token))) ≡ Some modes → AreFieldLocks l cell (locks_at c modes) (declared_locks m4 n (named_at r4 name.site.token))
   plain_points s e w name there none cell base n modes is =
-      let x = member s e w name _ (typed_at (tree.field s e w name) there) in
+      let x = member r4 file s e w name _ (typed_at (tree.field s e w name) there) in
       let of_row : modes_of m4 (declared_row r4 written x.of.name.site.token) ≡ modes =
       same_some (modes_of m4 (declared_row r4 written x.of.name.site.token)) modes
       (sym (ap (λ o. Some (modes_of m4 (named_row r4 (reading_through o) (named_at r4 name.site.token)))) none ∙ ap (λ z. Some (modes_of m4 (named_row r4 written z))) x.names) ∙ is) in
@@ -458,7 +421,7 @@ module _ (rows : RowLaws) (expressions_found : ExpressionsFound) (one_type : One
           (sym (ap (λ o. Some (modes_of m4 (named_row r4 (reading_through o) (named_at r4 name.site.token)))) used ∙ ap (λ z. Some (modes_of m4 (named_row r4 (through token) z))) names) ∙ is) in
           subst (λ z. AllSame (IsFieldLock l reg n (static_of c (kind_at r4 e) b.modes)) (locks_at c modes) (declared_locks m4 n z)) (sym names)
           (subst (λ z. AllSame (IsFieldLock l reg n (static_of c (kind_at r4 e) b.modes)) (locks_at c z) (declared_locks m4 n (Named.Field d.name.site.token))) of_row
-          (field_through rules c a globals siblings l reg (static_of c (kind_at r4 e) b.modes) token u.variable u.names (b.copy token u.variable used u.names) n struct name.text d kind h (a_member struct name.text d h) (subst (AllHeld m4) (sym of_row) held)))
+          (field_through rules c a globals siblings l reg (static_of c (kind_at r4 e) b.modes) token u.variable u.names (b.copy token u.variable used u.names) n struct name.text d kind h (a_member r4 file struct name.text d h) (subst (AllHeld m4) (sym of_row) held)))
 
   arrow_points : (s : Span) (e : Expression) (name : Identifier) → IsExpression m4 (tree.field s e Arrow name) → BaseIs c l reg e → (n : ℕ) (modes : List Sharing)
       → Some (modes_of m4 (named_row r4 (reading_through (constant_use r4 e)) (named_at r4 name.site.token))) ≡ Some modes → AllHeld m4 modes → AreFieldLocks l (Cell.Object reg n) (locks_at c modes) (declared_locks m4 n (named_at r4 name.site.token))

@@ -1,5 +1,5 @@
 -- What the cells of lvalues stand on, by the laws of typed programs and of modes.
-use Rattle.sharc_accepted_laws.proofs.{Imports.{◌≡◌, ℕ, ◌+◌, ◌-◌, ◌<◌, ◌==◌, ◌&&◌, ◌||◌, Bool, true, false, cond, [], length, map, get_or as slice_index_or, refl, ap, sym, ◌∙◌, subst, arith, Option, Some, None, Contains, false≢true, ne_eqb, ltb-true, AllByRecursion, slice_get, nat_lt, Base, Mode, Path, Declaration, WrittenType, GlobalDefinition, StructDefinition, IsLow, IsPlaced, in_function, Named, Role, Kind, object, array, is_array, element_kind, is_struct_base, is_struct_behind, mutex, is_allowed, allowed_there, Entity, Numbered, declared, entities_in, entity_at, positions_of, written_modes, first_depth, Resolution, IsResolved, named_at, kind_at, global_at, structs_in, globals_in, functions_in, named_kind, HasType, IsItself, EachTypeFound, EachNameOnce, OnlyNames, EachNamesItself, MeetsConstraints, OneType, Apart, top_of, first_mode, global_cell, IsLeastAssignment, mode_found, WellModed, Assignment, PathReading, written, targets_from, entity_row, modes_of, otherwise_of, Lock, locked, lock_of, sharing_of, place_of, Place, IsExpression, IsWritten, RulesAreMet, IsAllowed, global_mutex, sibling_mutex, sibling_pointer, through_constant, LvaluesFit, IsArrayOf, ArraysFit, form_of, or_false, and_false, none_some, of_each}, Expressing.expressions_found, TargetForms.same_forms, Found.{IsThere, field_found, global_found, global_low}, Laying.{named_there, members_are}, TargetLists.place_there, Lvalues.{AreReady, names_cell, array_base}, TargetMembers.top_written, Moding.{PathNames, field_or_global}, Rows.IsKnown, Settling.{positioned, settled_by, SettledBy, a_mutex, is_written, is_meant, settled_from, get_dropped, dropped_length}, TargetSiblings.field_allowed, Whole.known, Globals.index_get, Origins.{same_lock, private_path as private_locked}, StaticSiblings.{found_there as member_there}}
+use Rattle.sharc_accepted_laws.proofs.{Imports.{◌≡◌, ℕ, ◌+◌, ◌-◌, ◌<◌, ◌==◌, ◌&&◌, Bool, true, false, cond, length, map, get_or as slice_index_or, refl, ap, sym, ◌∙◌, subst, arith, Option, Some, None, Contains, false≢true, ne_eqb, ltb-true, AllByRecursion, slice_get, nat_lt, Base, Mode, Path, Declaration, WrittenType, GlobalDefinition, StructDefinition, IsLow, IsPlaced, in_function, Named, Role, Kind, object, array, is_array, element_kind, is_struct_base, is_struct_behind, mutex, is_allowed, allowed_there, Entity, Numbered, declared, entities_in, entity_at, positions_of, written_modes, first_depth, Resolution, IsResolved, named_at, kind_at, global_at, structs_in, globals_in, functions_in, named_kind, HasType, IsItself, EachTypeFound, EachNameOnce, OnlyNames, EachNamesItself, MeetsConstraints, OneType, Apart, top_of, first_mode, global_cell, IsLeastAssignment, mode_found, WellModed, Assignment, PathReading, written, targets_from, entity_row, modes_of, otherwise_of, Lock, locked, lock_of, sharing_of, place_of, Place, IsExpression, IsWritten, RulesAreMet, IsAllowed, global_mutex, sibling_mutex, sibling_pointer, through_constant, LvaluesFit, IsArrayOf, ArraysFit, form_of, or_false, and_false, none_some, of_each}, Expressing.expressions_found, TargetForms.same_forms, Found.{IsThere, field_found, global_found, global_low}, Laying.{named_there, members_are}, TargetLists.place_there, Lvalues.{AreReady, names_cell, array_base}, TargetMembers.top_written, Moding.{PathNames, field_or_global}, Rows.IsKnown, Settling.{positioned, settled_by, SettledBy, a_mutex, is_written, is_meant, settled_from, get_dropped, dropped_length}, TargetSiblings.field_allowed, Whole.known, Globals.index_get, Origins.{same_lock}, StaticSiblings.{found_there as member_there}}
 
 plain_by : (b : Base) (n : ℕ) → (is_struct_base b ≡ true → nat_lt 0 n ≡ true) → is_struct_behind 0 (object b n) ≡ false
 plain_by (Base.Struct name) n some = let low = ltb-true 0 n (some refl) in ap (λ z. z && true) (ne_eqb n 0 (λ none. omega (arith, low, none)))
@@ -34,35 +34,20 @@ locked_mode_is : (x : Mode) (l : Lock) → sharing_of x ≡ locked l → IsLocke
 locked_mode_is (Mode.Locked path) l h = record { path = path; is = refl; lock = same_lock _ _ h }
 locked_mode_is _ l h = cc
 
-racy_locked : (path : Path) → Mode.Locked path ≡ Mode.Racy → ⊥
-racy_locked path h = cc
-
 found_locked : (level : Option Mode) (finding : _) (path : Path) → mode_found level finding ≡ Mode.Locked path → level ≡ Some (Mode.Locked path)
 found_locked (Some x) finding path h = ap Some h
 found_locked None Apart path h = cc
 found_locked None _ path h = cc
 
 field_no_local : (what : Role) → what ≡ Role.Field → place_of what ≡ Place.Local → ⊥
-field_no_local what is local = by (sym (ap place_of is) ∙ local)
-  where
-    by : Place.Field ≡ Place.Local → ⊥
-    by h = cc
+field_no_local what is local = cc (sym (ap place_of is) ∙ local)
 
 -- in a global a path names a global mutex
 global_names : (r : Resolution) (e : Entity) (depth : ℕ) (path : Path) → place_of e.role ≡ Place.Global → IsAllowed r e depth path → (k : ℕ) × (named_at r (lock_of path).first ≡ Named.Global k) × (named_kind r (Named.Global k) ≡ mutex)
 global_names r e depth _ is (global_mutex {text} {token} {g} names kind) = (g, names, kind)
-global_names r e depth _ is (sibling_mutex {text} {token} {f} stands names kind) = absurd (apart (sym is ∙ stands))
-  where
-    apart : Place.Global ≡ Place.Field → ⊥
-    apart h = cc
-global_names r e depth _ is (sibling_pointer {text} {token} {f} stands top names lock targets) = absurd (apart (sym is ∙ stands))
-  where
-    apart : Place.Global ≡ Place.Field → ⊥
-    apart h = cc
-global_names r e depth _ is (through_constant {text} {m} {token} {x} stands names constant behind) = absurd (apart (sym is ∙ stands))
-  where
-    apart : Place.Global ≡ Place.Local → ⊥
-    apart h = cc
+global_names r e depth _ is (sibling_mutex {text} {token} {f} stands names kind) = absurd (cc (sym is ∙ stands))
+global_names r e depth _ is (sibling_pointer {text} {token} {f} stands top names lock targets) = absurd (cc (sym is ∙ stands))
+global_names r e depth _ is (through_constant {text} {m} {token} {x} stands names constant behind) = absurd (cc (sym is ∙ stands))
 
 module _ (m : Assignment) (k : IsKnown m) (low : IsLow m.typed.program) where
   pub global_lock : (g : ℕ) (d : GlobalDefinition) → global_at m.typed g ≡ Some d → (l : Lock) → global_cell m (Some d) ≡ locked l → (j : ℕ) × (named_at m.typed l.first ≡ Named.Global j) × (named_kind m.typed (Named.Global j) ≡ mutex)
@@ -91,11 +76,11 @@ module _ (m : Assignment) (k : IsKnown m) (low : IsLow m.typed.program) where
           omega (arith, size, depth, many)
 
       mode_there : slice_get m.modes (there.numbered.first + 0) ≡ Some (Mode.Locked w.path)
-      mode_there = let e : there.numbered.first + 0 ≡ there.numbered.first = omega arith in ap (slice_get m.modes) e ∙ index_get m.modes there.numbered.first (Mode.Locked w.path) w.is (private_locked w.path)
+      mode_there = let e : there.numbered.first + 0 ≡ there.numbered.first = omega arith in ap (slice_get m.modes) e ∙ index_get m.modes there.numbered.first (Mode.Locked w.path) w.is (λ e. cc)
 
       by : SettledBy there.numbered.entity.written.ctype.base (otherwise_of there.numbered.entity.role there.numbered.entity.written.ctype.levels) (written_modes there.numbered.entity) 0 (Mode.Locked w.path)
           → IsWritten there.numbered.entity (first_depth there.numbered.entity.role + 0) (Mode.Locked w.path)
-      by (a_mutex same last) = absurd (racy_locked w.path same)
+      by (a_mutex same last) = absurd (cc)
       by (is_written h) = get_dropped (first_depth there.numbered.entity.role) there.numbered.entity.written.ctype.levels 0 (Some (Mode.Locked w.path)) h
       by (is_meant h) = absurd (none_some (Mode.Locked w.path) (sym (ap (λ z. otherwise_of z there.numbered.entity.written.ctype.levels) there.role) ∙ h))
 

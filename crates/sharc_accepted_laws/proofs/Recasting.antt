@@ -1,5 +1,5 @@
 -- What the cells of an object are and refer to does not change by a cast.
-use Rattle.sharc_accepted_laws.proofs.{Imports.{◌≡◌, ℕ, zero, suc, ◌+◌, Bool, true, false, cond, List, [], ◌∷◌, ◌++◌, length, map, drop, refl, ap, sym, ◌∙◌, subst, arith, append_assoc, length-append, option_map, bytes_eq, Option, Some, None, Contains, get_or as slice_index_or, AllByRecursion, Base, Span, Declaration, WrittenType, StructDefinition, in_function, Expression, Named, Kind, object, is_pointer, declared_kind, Resolution, structs_in, functions_in, named_at, kind_at, HasType, a_cast, MeetsConstraints, OneType, pointed, Assignment, base_of, RowLaws, Targets, written, deeper, cast_row, declared_row, row_at, modes_of, modes_at, Sharing, private, readonly, locked, racy, dynamic, same_all, IsExpression, RulesAreMet, Context, TypeLock, FieldLock, OfType, OfGlobals, OfElement, FieldMode, Content, StaticType, no_field, field_at, InRegister as Through, Label, Itself, SameLock, AllSame, no_lock, IsSameFieldLock, IsSameContent, Recasts, CastsRecast, IsAccepted, lock_at, locks_at, static_of, NumbersFound, ExpressionsFound, Shape, stars_in, form_of, shape_of, row_shape, shapes, number, field_lock, field_locks, table_lock, type_locks, lock_count, own_mode, base_content, pointer_content, declared_content, single, members, struct_fields, base_fields, shape_fields, shape_row, targets_of, same_some, none_some, of_each}, Points.nth, Same.{forms_of_same, locks_of_same}}
+use Rattle.sharc_accepted_laws.proofs.{Imports.{◌≡◌, ℕ, zero, suc, ◌+◌, Bool, true, false, cond, List, [], ◌∷◌, ◌++◌, length, map, drop, refl, ap, sym, ◌∙◌, subst, arith, append_assoc, length-append, option_map, bytes_eq, Option, Some, None, Contains, get_or as slice_index_or, AllByRecursion, Base, Span, Declaration, WrittenType, StructDefinition, in_function, Expression, Named, Kind, object, is_pointer, declared_kind, Resolution, structs_in, functions_in, named_at, kind_at, HasType, a_cast, MeetsConstraints, OneType, pointed, Assignment, base_of, RowLaws, Targets, written, deeper, cast_row, declared_row, row_at, modes_of, modes_at, Sharing, locked, same_all, IsExpression, RulesAreMet, Context, TypeLock, FieldLock, OfType, OfGlobals, OfElement, FieldMode, Content, StaticType, no_field, field_at, InRegister as Through, Label, Itself, SameLock, AllSame, no_lock, IsSameFieldLock, IsSameContent, Recasts, CastsRecast, IsAccepted, lock_at, locks_at, static_of, NumbersFound, ExpressionsFound, Shape, stars_in, form_of, shape_of, row_shape, shapes, number, field_lock, field_locks, table_lock, type_locks, lock_count, own_mode, base_content, pointer_content, declared_content, single, members, struct_fields, base_fields, shape_fields, shape_row, targets_of, same_some, none_some, of_each}, Points.nth, Same.{forms_of_same, locks_of_same}}
 use Rattle.sharc_tree.specs.Tree as tree
 
 -- ---- locks
@@ -28,10 +28,6 @@ module _ (c : Context) (l : Label) (r : ℕ) (s t : StaticType) where
   types_same : (modes : List Sharing) (pre other : List TypeLock) (j k : ℕ) → s.locks ≡ pre ++ locks_at c modes → t.locks ≡ other ++ locks_at c modes → j ≡ length pre → k ≡ length other
       → AllSame Same (type_locks j (map form_of modes)) (type_locks k (map form_of modes))
   types_same [] pre other j k p q m n = tt
-  types_same (private ∷ rest) pre other j k p q m n = types_same rest pre other j k p q m n
-  types_same (readonly ∷ rest) pre other j k p q m n = types_same rest pre other j k p q m n
-  types_same (racy ∷ rest) pre other j k p q m n = types_same rest pre other j k p q m n
-  types_same (dynamic ∷ rest) pre other j k p q m n = types_same rest pre other j k p q m n
   types_same (locked lock ∷ rest) pre other j k p q m n =
       let x = lock_at c lock in
       let more = locks_at c rest in
@@ -44,6 +40,7 @@ module _ (c : Context) (l : Label) (r : ℕ) (s t : StaticType) where
         (omega (arith, size_s, m), omega (arith, size_t, n), subst (λ z. SameLock l r z (slice_index_or t.locks k no_lock)) (sym here) (subst (SameLock l r x) (sym there) (same_itself l r x))),
         types_same rest (pre ++ x ∷ []) (other ++ x ∷ []) (j + 1) (k + 1) (p ∙ sym (append_assoc pre (x ∷ []) more)) (q ∙ sym (append_assoc other (x ∷ []) more)) next_m next_n,
       )
+  types_same (_ ∷ rest) pre other j k p q m n = types_same rest pre other j k p q m n
 
   -- ---- what is declared in a struct
   one_declared : (f : FieldLock) → ((k : ℕ) → f ≡ OfType k → ⊥) → Same f f
@@ -53,15 +50,12 @@ module _ (c : Context) (l : Label) (r : ℕ) (s t : StaticType) where
 
   locks_declared : (res : Resolution) (n : ℕ) (modes : List Sharing) → AllSame Same (field_locks res n modes) (field_locks res n modes)
   locks_declared res n [] = tt
-  locks_declared res n (private ∷ rest) = locks_declared res n rest
-  locks_declared res n (readonly ∷ rest) = locks_declared res n rest
-  locks_declared res n (racy ∷ rest) = locks_declared res n rest
-  locks_declared res n (dynamic ∷ rest) = locks_declared res n rest
   locks_declared res n (locked lock ∷ rest) = (one_declared (field_lock res n lock) (no_type (named_at res lock.first)), locks_declared res n rest)
     where
       no_type : (w : Named) (k : ℕ) → table_lock res n w ≡ OfType k → ⊥
       no_type (Named.Field f) k h = cc
       no_type _ k h = cc
+  locks_declared res n (_ ∷ rest) = locks_declared res n rest
 
   abbrev SameHolds : Content → Content → Type 0
   SameHolds a b = IsSameContent l r s t a b
@@ -85,12 +79,8 @@ module _ (c : Context) (l : Label) (r : ℕ) (s t : StaticType) where
 
   single_same : (q p : FieldMode) (b : Base) (i : ℕ) → SameHolds (slice_index_or (single q b ∷ []) i no_field).holds (slice_index_or (single p b ∷ []) i no_field).holds
   single_same q p Base.Int zero = refl
-  single_same q p Base.Char zero = refl
-  single_same q p Base.Long zero = refl
-  single_same q p Base.Mutex zero = refl
-  single_same q p Base.Void zero = refl
-  single_same q p (Base.Struct name) zero = refl
-  single_same q p b (suc i) = refl
+  single_same q p _ zero = refl
+  single_same q p _ (suc i) = refl
 
   structs_same : (m : Assignment) (q p : FieldMode) (i : ℕ) (list : List StructDefinition) (name : List ℕ) → SameHolds (slice_index_or (struct_fields m q list name) i no_field).holds (slice_index_or (struct_fields m p list name) i no_field).holds
   structs_same m q p i [] name = single_same q p (Base.Struct name) i

@@ -2,7 +2,7 @@
 use Rattle.sharc_accepted_laws.proofs.Imports.{◌≡◌, ◌⊎◌, inl, inr, ⊎_elim, ℕ, zero, suc, ◌+◌, ◌-◌, ◌<◌, ◌≤◌, Bool, true, false, cond, List, [], ◌∷◌, ◌++◌, length, drop, get_or as slice_index_or, refl, ap, sym, ◌∙◌, subst, arith, Option, Some, None, Contains, false≢true, slice_get, option_or, Base, Mode, Private, Racy, Dynamic, Role, Entity, Numbered, entities_in, numbered_from, positions_of, positions_in, written_modes, NodeFinding, Apart, finding_at, IsLeastAssignment, mode_found, Assignment, is_mutex, settled, field_target, otherwise_of, settled_modes, settled_in, settled_at, same_some, none_some, head_or_tail, none_there}
 
 -- ---- an entity is at its positions
-pub settled_length : (b : Base) (otherwise : Option Mode) (levels : List (Option Mode)) → length (settled b otherwise levels) ≡ length levels
+settled_length : (b : Base) (otherwise : Option Mode) (levels : List (Option Mode)) → length (settled b otherwise levels) ≡ length levels
 settled_length b otherwise [] = refl
 settled_length b otherwise (x ∷ below) = ap suc (settled_length b otherwise below)
 
@@ -55,7 +55,7 @@ pub private_found : (level : Option Mode) (finding : NodeFinding) → mode_found
 private_found (Some mode) finding h = inl (ap Some h)
 private_found None finding h = inr refl
 
-get_index : (list : List Mode) (k : ℕ) (x d : Mode) → slice_get list k ≡ Some x → (k < length list) × (slice_index_or list k d ≡ x)
+pub get_index : (list : List Mode) (k : ℕ) (x d : Mode) → slice_get list k ≡ Some x → (k < length list) × (slice_index_or list k d ≡ x)
 get_index [] k x d is = absurd (none_some x is)
 get_index (y ∷ rest) zero x d is = (omega arith, same_some y x is)
 get_index (y ∷ rest) (suc k) x d is = let w = get_index rest k x d is in let low = w.0 in (omega (arith, low), w.1)

@@ -1,25 +1,13 @@
 -- The registers of the variables that stand, where one more stands.
-use Rattle.sharc_accepted_laws.proofs.{Imports.{◌≡◌, ℕ, ◌+◌, ◌<◌, Bool, true, false, cond, List, [], ◌∷◌, ◌++◌, length, slice_get, refl, ap, sym, ◌∙◌, arith, Some, Slot, int_count, ref_count, pointers, integers, front_got}, StaticRegisters.pointer_count}
+use Rattle.sharc_accepted_laws.proofs.{Imports.{◌≡◌, ℕ, ◌+◌, ◌<◌, Bool, true, false, cond, List, [], ◌∷◌, ◌++◌, length, slice_get, refl, ap, sym, ◌∙◌, arith, Some, Slot, int_count, ref_count, pointers, integers, front_got}, StaticRegisters.{pointer_count, pointers_more}}
 
 last_got : {A : Type 0} (a : List A) (x : A) → slice_get (a ++ x ∷ []) (length a) ≡ Some x
 last_got [] x = refl
 last_got (y ∷ a) x = last_got a x
 
-pointers_more : (scope more : List Slot) → pointers (scope ++ more) ≡ pointers scope ++ pointers more
-pointers_more [] more = refl
-pointers_more (z ∷ rest) more = by z.is_pointer (pointers_more rest more)
-  where
-    by : (b : Bool) → pointers (rest ++ more) ≡ pointers rest ++ pointers more
-        → cond b (z.token ∷ pointers (rest ++ more)) (pointers (rest ++ more)) ≡ cond b (z.token ∷ pointers rest) (pointers rest) ++ pointers more
-    by true e = ap (λ l. z.token ∷ l) e
-    by false e = e
-
-pub pointer_kept : (scope more : List Slot) (q : ℕ) → q < ref_count scope → slice_get (pointers (scope ++ more)) q ≡ slice_get (pointers scope) q
-pointer_kept scope more q low = ap (λ l. slice_get l q) (pointers_more scope more) ∙ front_got (pointers scope) (pointers more) q (let n = pointer_count scope in omega (arith, low, n))
-
 pub pointer_last : (scope : List Slot) (s : Slot) → s.is_pointer ≡ true → slice_get (pointers (scope ++ s ∷ [])) (ref_count scope) ≡ Some s.token
 pointer_last scope s is =
-    ap (λ l. slice_get l (ref_count scope)) (pointers_more scope (s ∷ []) ∙ ap (λ b. pointers scope ++ cond b (s.token ∷ []) []) is)
+    ap (λ l. slice_get l (ref_count scope)) (pointers_more (s ∷ []) scope ∙ ap (λ b. pointers scope ++ cond b (s.token ∷ []) []) is)
     ∙ ap (slice_get (pointers scope ++ s.token ∷ [])) (sym (pointer_count scope)) ∙ last_got (pointers scope) s.token
 
 pub ref_more : (scope : List Slot) (s : Slot) (p : Bool) → s.is_pointer ≡ p → ref_count (scope ++ s ∷ []) ≡ cond p (ref_count scope + 1) (ref_count scope)

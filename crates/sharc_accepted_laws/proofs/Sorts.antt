@@ -1,26 +1,16 @@
 -- Which kinds are integers, pointers and references, and how many cells an element has.
-use Rattle.sharc_accepted_laws.proofs.{Imports.{◌≡◌, inl, inr, ℕ, ◌+◌, ◌-◌, ◌≤◌, ◌==◌, Bool, true, false, ◌||◌, cond, List, [], ◌∷◌, length, refl, ap, ap₂, sym, ◌∙◌, subst, arith, lt-ltb, eqb-true, bytes_eq, false≢true, and_parts, Base, Struct, WrittenType, LowItems, Item, structure, global, Kind, object, array, is_integer, is_pointer, is_null, same_kind, agrees, stars_of, declared_kind, element_kind, Resolution, structs_in, made, IsInteger, IsHeld, element_cells, base_cells, struct_cells, is_reference, or_false}, Alike.{base_is as one_base}, Forms.{integer_no_reference as integer_is, starred as pointer_pointer}}
+use Rattle.sharc_accepted_laws.proofs.{Imports.{◌≡◌, inl, inr, ℕ, ◌+◌, ◌-◌, ◌≤◌, ◌==◌, Bool, true, false, ◌||◌, cond, List, [], ◌∷◌, length, ap, ap₂, sym, ◌∙◌, subst, arith, lt-ltb, eqb-true, bytes_eq, false≢true, and_parts, Base, Struct, WrittenType, LowItems, Item, structure, global, Kind, object, array, is_integer, is_pointer, is_null, same_kind, agrees, stars_of, declared_kind, element_kind, Resolution, structs_in, made, IsInteger, IsHeld, element_cells, base_cells, struct_cells, is_reference}, Alike.{base_is as one_base}, Forms.{starred as pointer_pointer}}
 use Rattle.sharc_tree.specs.Tree as tree
 use Rattle.sharc_names.specs.Kinds.{function}
 use Rattle.sharc_ctype_laws.specs.Constraints.{IsPointer}
 
 -- ---- integers
-pub reference_no_integer : (k : Kind) → is_reference k ≡ true → is_integer k ≡ false
-reference_no_integer k h = by (is_integer k) refl
-  where
-    by : (b : Bool) → is_integer k ≡ b → b ≡ false
-    by true is = absurd (false≢true (sym (integer_is k is) ∙ h))
-    by false is = refl
-
 -- what an integer goes to is one
 pub integer_want : (want k : Kind) → agrees want k ≡ true → is_integer k ≡ true → is_integer want ≡ true
 integer_want want (object b n) fair h = subst (λ t. cond t (is_integer want) (same_kind want (object b n)) ≡ true) h fair
 integer_want want _ fair h = absurd (false≢true h)
 
 -- ---- pointers
-pub declared_pointer : (w : WrittenType) → is_reference (declared_kind w) ≡ is_pointer (declared_kind w)
-declared_pointer w = or_false (is_pointer (declared_kind w))
-
 integer_no_reference : (k : Kind) → IsInteger k → is_reference k ≡ false
 integer_no_reference k (b, t, is) = ap is_reference is
 
@@ -65,16 +55,12 @@ base_some : (r : Resolution) → LowItems r.program.items → (b : Base) → 1 �
 base_some r low (Struct name) = struct_some r.program.items low name
 base_some r low _ = omega arith
 
+cells_some : (r : Resolution) → LowItems r.program.items → (b : Base) (z : Bool) → 1 ≤ cond z (base_cells r b) 1
+cells_some r low b true = base_some r low b
+cells_some r low b false = omega arith
+
 -- an element has a cell at least
 pub element_some : (r : Resolution) → LowItems r.program.items → (k : Kind) → 1 ≤ element_cells r k
-element_some r low (object b stars) = by (stars == 0)
-  where
-    by : (z : Bool) → 1 ≤ cond z (base_cells r b) 1
-    by true = base_some r low b
-    by false = omega arith
-element_some r low (array b stars) = by (stars == 0)
-  where
-    by : (z : Bool) → 1 ≤ cond z (base_cells r b) 1
-    by true = base_some r low b
-    by false = omega arith
+element_some r low (object b stars) = cells_some r low b (stars == 0)
+element_some r low (array b stars) = cells_some r low b (stars == 0)
 element_some r low _ = omega arith

@@ -7,17 +7,8 @@ index_here i None Is n has = has
 index_here i (Some k) Is n has = has.0
 
 index_next : (i : ℕ) (beside : Option ℕ) (Is : ℕ → ℕ → Type 0) (n k : ℕ) → beside ≡ Some k → HasIndexOf i beside Is n → Is (i + 1) k
-index_next i None Is n k is has = absurd (nothing is)
-  where
-    nothing : None ≡ Some k → ⊥
-    nothing h = cc
-index_next i (Some j) Is n k is has = subst (Is (i + 1)) (same is) has.1
-  where
-    same : Some j ≡ Some k → j ≡ k
-    same h = cc
-
-nil_cons : (a : List Sharing) (x : Sharing) (below : List Sharing) → a ≡ [] → a ≡ x ∷ below → ⊥
-nil_cons a x below h g = cc
+index_next i None Is n k is has = absurd (cc)
+index_next i (Some j) Is n k is has = let same : j ≡ k = cc in subst (Is (i + 1)) same has.1
 
 -- field n of an element with these fields, and each one beside it
 record Stands (m : Assignment) (code : Code) (q : Label) (e : Expression) (beside : Option ℕ) (n : ℕ) (a : Cell) (guard : ℕ → Cell) (s : StaticType) : Type 0 where
@@ -30,22 +21,17 @@ record Stands (m : Assignment) (code : Code) (q : Label) (e : Expression) (besid
 
 -- ---- what leads to a global leads through no pointer
 no_global_of_object : (n : ℕ) (g k : ℕ) → IsOfGlobal (in_object n) g k → ⊥
-no_global_of_object n g k h = ⊎_elim (λ a. one a) (λ b. other b) h
-  where
-    one : in_object n ≡ in_global g k → ⊥
-    one h = cc
-
-    other : in_object n ≡ in_global_at g k → ⊥
-    other h = cc
+no_global_of_object n g k h = ⊎_elim (λ (a : in_object n ≡ in_global g k). cc) (λ (b : in_object n ≡ in_global_at g k). cc) h
 
 no_global_of_place : (n : ℕ) (g k : ℕ) → IsOfGlobal (in_object_at n) g k → ⊥
-no_global_of_place n g k h = ⊎_elim (λ a. one a) (λ b. other b) h
-  where
-    one : in_object_at n ≡ in_global g k → ⊥
-    one h = cc
+no_global_of_place n g k h = ⊎_elim (λ (a : in_object_at n ≡ in_global g k). cc) (λ (b : in_object_at n ≡ in_global_at g k). cc) h
 
-    other : in_object_at n ≡ in_global_at g k → ⊥
-    other h = cc
+pub nothing_else : (t : Target) → ((x : ℕ) → t ≡ variable x → ⊥) → ((n : ℕ) → IsOfObject t n → ⊥) → ((g n : ℕ) → IsOfGlobal t g n → ⊥) → ⊥
+nothing_else (variable x) no_variable no_object no_global = no_variable x refl
+nothing_else (in_global g n) no_variable no_object no_global = no_global g n (inl refl)
+nothing_else (in_global_at g n) no_variable no_object no_global = no_global g n (inr refl)
+nothing_else (in_object n) no_variable no_object no_global = no_object n (inl refl)
+nothing_else (in_object_at n) no_variable no_object no_global = no_object n (inr refl)
 
 indexed : (r : Resolution) (s : Span) (a i : Expression) (z : Bool) (t n g k : ℕ) → is_array (kind_at r a) ≡ z → IsOfGlobal (cond z (in_global_at t n) (in_object_at n)) g k → cond (is_array (kind_at r a)) None (Some a) ≡ None
 indexed r s a i true t n g k is h = ap (λ z. cond z None (Some a)) is
@@ -137,7 +123,7 @@ module _ (globals_are : GlobalsAre) (meets : MeetsGlobals) (found : ExpressionsF
       pair = λ k named inside. global_pair globals_are m code is.tables q g w.global w.defined n k some_elements w.inside inside;
       fits = global_fits;
       others = global_others;
-      typed = λ x below starts. absurd (nil_cons (modes_behind m e) x below no_modes starts);
+      typed = λ x below starts. absurd (cc);
     })
 
     abbrev count : ℕ
@@ -166,7 +152,7 @@ module _ (globals_are : GlobalsAre) (meets : MeetsGlobals) (found : ExpressionsF
               (number_at (i + 1) k element (index_next i beside (IsPlaceNumber c q g element) n k named indexes)) w.inside inside;
           fits = global_fits;
           others = global_others;
-          typed = λ x below starts. absurd (nil_cons (modes_behind m e) x below no_modes starts);
+          typed = λ x below starts. absurd (cc);
         }
 
   -- ---- each of them
@@ -179,13 +165,6 @@ module _ (globals_are : GlobalsAre) (meets : MeetsGlobals) (found : ExpressionsF
 
     registers_as : (t u : Target) → t ≡ u → HaveTarget c code q t beside (base_type c e) element i b → HaveTarget c code q u beside (base_type c e) element i b
     registers_as t u same have = subst (λ z. HaveTarget c code q z beside (base_type c e) element i b) same have
-
-    nothing_else : (t : Target) → ((x : ℕ) → t ≡ variable x → ⊥) → ((n : ℕ) → IsOfObject t n → ⊥) → ((g n : ℕ) → IsOfGlobal t g n → ⊥) → ⊥
-    nothing_else (variable x) no_variable no_object no_global = no_variable x refl
-    nothing_else (in_global g n) no_variable no_object no_global = no_global g n (inl refl)
-    nothing_else (in_global_at g n) no_variable no_object no_global = no_global g n (inr refl)
-    nothing_else (in_object n) no_variable no_object no_global = no_object n (inl refl)
-    nothing_else (in_object_at n) no_variable no_object no_global = no_object n (inr refl)
 
     stands : (t : Target) → target r None e ≡ t → ((x : ℕ) → t ≡ variable x → ⊥) → HaveTarget c code q t beside (base_type c e) element i b → NamesCell m e t → StandsAs t
     stands t here no_variable have (no_cell _ no_object no_global) = absurd (nothing_else t no_variable no_object no_global)

@@ -1,5 +1,5 @@
 -- Statements.
-use Rattle.sharc_accepted_laws.proofs.{Imports.{◌≡◌, ℕ, Bool, true, false, cond, List, ◌++◌, refl, ap, sym, ◌∙◌, subst, Option, Some, None, IfSome, Contains, AllByRecursion, Span, LowSimple, LowFirst, LowStatement, LowStatements, expressions, in_option, in_simple, in_local, in_first, in_head, in_statement, in_statements, in_function, Expression, Right, value, Simple, assign, does_call, Local, First, nothing, declares, does, Statement, Statements, no_statements, statement, Function, Named, Kind, is_integer, declared_kind, Transfer, variable, result, Agrees, IsFair, gives, transfers, option_transfers, right_transfers, simple_transfers, local_transfers, first_transfers, statement_transfers, statements_transfers, function_transfers, IsItself, MeetsSimple, MeetsFirst, Meets, AllMeet, is_reference, Assignment, IsAssigned, locals_in_first, locals_in, kind_of, parameters_scope, context_in as at_entry, flat_behind_first as behind_first, behind_statement, Context, Suits, SimpleSuits, InitialSuits, FirstSuits, TestSuits, IfThere, StatementSuits, StatementsSuit, suits_first, suits_statement, Empty, Refers, Signature, Setting, SimpleTypable, ReturnedBy, ReturnTypable, TestTypable, StepTypable, DeclaredTypable, FirstTypable, StatementTypable, StatementsTypable, ResultLaws, ExpressionsStand, LocalStands, FirstStands, StatementStands, StatementsStand, result_type, VariablesFound, typing, function_signature, signature_by, IsPlaceIn, IsThere, AreExpressionsTypable, front, back}, Assigned.{Laws, function_there, at_there, SimpleGiven, simple_is}, Begun.{IsBegun, here_with, local_is}, Fresh.{LocalFresh, FirstFresh, StatementFresh, StatementsFresh}, Sorts.{integer_want, declared_pointer}, Wholes.Facts, Forms.{integer_no_reference as integer_is}}
+use Rattle.sharc_accepted_laws.proofs.{Imports.{declared_reference, ◌≡◌, ℕ, Bool, true, false, cond, List, ◌++◌, refl, ap, sym, ◌∙◌, subst, Option, Some, None, IfSome, Contains, AllByRecursion, Span, LowSimple, LowFirst, LowStatement, LowStatements, expressions, in_option, in_simple, in_local, in_first, in_head, in_statement, in_statements, in_function, Expression, Right, value, Simple, assign, does_call, Local, First, nothing, declares, does, Statement, Statements, no_statements, statement, Function, Named, Kind, is_integer, declared_kind, Transfer, variable, result, Agrees, IsFair, gives, transfers, option_transfers, right_transfers, simple_transfers, local_transfers, first_transfers, statement_transfers, statements_transfers, function_transfers, IsItself, MeetsSimple, MeetsFirst, Meets, AllMeet, is_reference, Assignment, IsAssigned, locals_in_first, locals_in, kind_of, parameters_scope, context_in as at_entry, flat_behind_first as behind_first, behind_statement, Context, Suits, SimpleSuits, InitialSuits, FirstSuits, TestSuits, IfThere, StatementSuits, StatementsSuit, suits_first, suits_statement, Empty, Refers, Signature, Setting, SimpleTypable, ReturnedBy, ReturnTypable, TestTypable, StepTypable, DeclaredTypable, FirstTypable, StatementTypable, StatementsTypable, ResultLaws, ExpressionsStand, LocalStands, FirstStands, StatementStands, StatementsStand, result_type, VariablesFound, typing, function_signature, signature_by, IsPlaceIn, IsThere, AreExpressionsTypable, front, back}, Assigned.{Laws, function_there, at_there, SimpleGiven, simple_is}, Begun.{IsBegun, here_with, local_is}, Fresh.{LocalFresh, FirstFresh, StatementFresh, StatementsFresh}, Sorts.integer_want, Wholes.Facts, Forms.{integer_no_reference as integer_is}}
 use Rattle.sharc_tree.specs.Tree as tree
 use Rattle.sharc_check.specs.Constructs.{locals_in_all}
 use Rattle.sharc_flat.specs.Suits.{Goes}
@@ -108,7 +108,7 @@ module _ (laws : Laws) (results : ResultLaws) (variables : VariablesFound) (z : 
       (typable.value c h e (record { inside = inside; stands = stands }) suits.0 (λ l no. suits.1.1 (sym suits.1.0 ∙ no)), by (is_reference kind) refl)
     where
       by : (b : Bool) → is_reference kind ≡ b → ReturnedBy z n typing c kind e b
-      by true is = (suits.1.0 ∙ is, (result_type c g, laws.given.returned c h.set.accepted g e (function_there z alone n g c h) acts.0.among (sym (declared_pointer g.result) ∙ is), result_is c h is))
+      by true is = (suits.1.0 ∙ is, (result_type c g, laws.given.returned c h.set.accepted g e (function_there z alone n g c h) acts.0.among (sym (declared_reference g.result) ∙ is), result_is c h is))
       by false is = let number : is_integer (kind_of c e) ≡ true = suits.1.1 is in ((integer_is (kind_of c e) number, number), integer_want kind (kind_of c e) acts.0.fair number)
 
   -- ---- locals
@@ -135,6 +135,17 @@ module _ (laws : Laws) (results : ResultLaws) (variables : VariablesFound) (z : 
   here_behind c h _ stands = h
 
   -- ---- statements
+  -- of what stands behind a test
+  behind_test : (c : Context) (looped : Bool) (e : Expression) (a : Statement) → AllByRecursion (Contains (in_function g)) (expressions e ++ in_statement a) → Meets c.program.typed g.result looped a → LowStatement a
+      → AllByRecursion (Does g c.program) (transfers c.program.typed e ++ statement_transfers c.program.typed g.result a) → AllByRecursion (Own g c.program) (locals_in a) → Given g c.program looped a
+  behind_test c looped e a inside meets low moves locals = record {
+    inside = back (Contains (in_function g)) (expressions e) (in_statement a) inside;
+    meets = meets;
+    low = low;
+    transfers = back (Does g c.program) (transfers c.program.typed e) (statement_transfers c.program.typed g.result a) moves;
+    locals = locals;
+  }
+
   mutual
     pub statement_is : (c : Context) → Here c → (looped : Bool) (a : Statement) → StatementStands c a → StatementFresh c a → StatementSuits c kind looped a → Given g c.program looped a → StatementTypable z n typing c kind looped a
     statement_is c h looped (tree.empty s) stands fresh suits given = tt
@@ -145,14 +156,7 @@ module _ (laws : Laws) (results : ResultLaws) (variables : VariablesFound) (z : 
     statement_is c h looped (tree.return s e) stands fresh suits given = return_typable c h e given.inside stands given.transfers suits
     statement_is c h looped (tree.if_then s e a) stands fresh suits given = (
       test_typable c h e (front (Contains (in_function g)) (expressions e) (in_statement a) given.inside) stands.0 suits.0,
-      statement_is c h looped a stands.1 fresh suits.1
-          (record {
-            inside = back (Contains (in_function g)) (expressions e) (in_statement a) given.inside;
-            meets = given.meets.1;
-            low = given.low.2;
-            transfers = back (Does g c.program) (transfers c.program.typed e) (statement_transfers c.program.typed g.result a) given.transfers;
-            locals = given.locals;
-          }),
+      statement_is c h looped a stands.1 fresh suits.1 (behind_test c looped e a given.inside given.meets.1 given.low.2 given.transfers given.locals),
       suits.2,
     )
     statement_is c h looped (tree.if_then_else s e a b) stands fresh suits given =
@@ -160,14 +164,7 @@ module _ (laws : Laws) (results : ResultLaws) (variables : VariablesFound) (z : 
         let inside_front = front (Contains (in_function g)) (expressions e ++ in_statement a) (in_statement b) given.inside in
         let transfers_front = front (Does g c.program) (transfers r e ++ statement_transfers r g.result a) (statement_transfers r g.result b) given.transfers in (
           test_typable c h e (front (Contains (in_function g)) (expressions e) (in_statement a) inside_front) stands.0 suits.0,
-          statement_is c h looped a stands.1 fresh.0 suits.1
-              (record {
-                inside = back (Contains (in_function g)) (expressions e) (in_statement a) inside_front;
-                meets = given.meets.1;
-                low = given.low.2;
-                transfers = back (Does g c.program) (transfers r e) (statement_transfers r g.result a) transfers_front;
-                locals = front (Own g c.program) (locals_in a) (locals_in b) given.locals;
-              }),
+          statement_is c h looped a stands.1 fresh.0 suits.1 (behind_test c looped e a inside_front given.meets.1 given.low.2 transfers_front (front (Own g c.program) (locals_in a) (locals_in b) given.locals)),
           suits.3,
           statement_is c h looped b stands.2 fresh.1 suits.2
               (record {
@@ -181,14 +178,7 @@ module _ (laws : Laws) (results : ResultLaws) (variables : VariablesFound) (z : 
         )
     statement_is c h looped (tree.while s e a) stands fresh suits given = (
       test_typable c h e (front (Contains (in_function g)) (expressions e) (in_statement a) given.inside) stands.0 suits.0,
-      statement_is c h true a stands.1 fresh suits.1
-          (record {
-            inside = back (Contains (in_function g)) (expressions e) (in_statement a) given.inside;
-            meets = given.meets.1;
-            low = given.low.2;
-            transfers = back (Does g c.program) (transfers c.program.typed e) (statement_transfers c.program.typed g.result a) given.transfers;
-            locals = given.locals;
-          }),
+      statement_is c h true a stands.1 fresh suits.1 (behind_test c true e a given.inside given.meets.1 given.low.2 given.transfers given.locals),
       suits.2,
     )
     statement_is c h looped (tree.for s x a) stands fresh suits given =

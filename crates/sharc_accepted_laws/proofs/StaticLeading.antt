@@ -1,5 +1,5 @@
 -- The lock paths of the types of expressions lead to mutexes: those that are written by M4, and those that the uses of fields make by M11 and the fields' types.
-use Rattle.sharc_accepted_laws.proofs.{Imports.{◌≡◌, ◌⊎◌, inl, inr, ⊎_elim, ℕ, suc, ◌+◌, ◌<◌, Bool, true, false, cond, ◌&&◌, List, [], ◌∷◌, ◌++◌, length, map, drop, slice_get, refl, ap, sym, ◌∙◌, subst, arith, option_map, Option, Some, None, is_none, Contains, false≢true, AllByRecursion, Base, Mode, Private, Readonly, Locked, Racy, Dynamic, Path, One, Through as PathThrough, Span, Declaration, Identifier, WrittenType, FieldOperator, Dot, Arrow, Dereference, GlobalDefinition, StructDefinition, expressions, in_function, Expression, Function, Constant, Named, Kind, object, mutex, is_array, declared_kind, field_of, Role, Entity, Numbered, declared, cast_entity, result_of, entity_at, notes_about, Resolution, named_at, declaration_at, variable_kind, named_kind, global_at, function_at, globals_in, functions_in, structs_in, kind_at, locals_in_all, HasType, Callee, IsMemberOf, struct_named, of_program, of_conditions, a_variable, a_global, a_function, a_field, a_field_behind, IsItself, NamesOwn, NamesOwnVariables, IsFound, EachTypeFound, EachNameOnce, OnlyNames, EachNamesItself, EachNamesOwn, EachPathFound, MeetsConstraints, OneType, IsNamedPath, IsNamedLevel, IsNamedType, Place, Assignment, PathReading, written, through, Targets, constant_use, base_use, lock_through, read, entity_row, declared_row, global_row, named_row, result_row, called_row, behind, reading_through, row_at, modes_of, modes_at, field_target, settled_modes, Lock, Sharing, locked, lock_of, sharing_of, text_at, is_field, is_sibling_lock, leaves_open, place_of, IsExpression, IsEntity, RulesAreMet, IsMutexBehind, IsAllowed, global_mutex, sibling_mutex, sibling_pointer, through_constant, MeetsRules, IsAccepted, LeadsToMutex, by_global, by_variable, LeadsIfLocked, AllLead, ExpressionsLead, FieldsPlaced, IsOwn, IsCastFound, HasOwn, OwnAreFound, same_some, none_some, front, each, head_there, head_or_tail, of_each, to_each, tail_there, none_there}, Noted.{AllSay, all_say}, Origins.{private_path, racy_path, dynamic_path, reading_kept, deeper_hold, no_private, no_readonly, no_racy, no_dynamic, same_lock}, Passed.{use_named, first_kind}, Places.{InFile, FileKnown, FieldInFile, file_known, struct_fields, field_found, at_number, IfSome}, Points.{NamesField, field_not_local, ModeOf, LevelOf, allowed_row, shown_modes, entity_is, through_used, not_field as global_no_field}, StaticSiblings.{found_there, points_to, is_beside}, Written.{raw, row_settled, open_good}, TargetLists.place_there, Laying.{named_there as struct_there}}
+use Rattle.sharc_accepted_laws.proofs.{Imports.{◌≡◌, ◌⊎◌, inl, inr, ⊎_elim, ℕ, suc, ◌+◌, ◌<◌, true, cond, ◌&&◌, List, [], ◌∷◌, ◌++◌, length, map, drop, slice_get, refl, ap, sym, ◌∙◌, subst, arith, Option, Some, None, is_none, Contains, false≢true, AllByRecursion, Base, Mode, Locked, Path, One, Through as PathThrough, Span, Declaration, Identifier, WrittenType, FieldOperator, Dot, Arrow, GlobalDefinition, StructDefinition, expressions, in_function, Expression, Function, Named, Kind, object, mutex, declared_kind, field_of, Role, Entity, Numbered, declared, cast_entity, result_of, entity_at, notes_about, Resolution, named_at, declaration_at, variable_kind, named_kind, global_at, function_at, globals_in, functions_in, structs_in, kind_at, locals_in_all, HasType, Callee, IsMemberOf, struct_named, of_program, of_conditions, a_variable, a_global, a_function, a_field, a_field_behind, IsItself, NamesOwn, NamesOwnVariables, IsFound, EachTypeFound, EachNameOnce, OnlyNames, EachNamesItself, EachNamesOwn, EachPathFound, MeetsConstraints, OneType, IsNamedPath, IsNamedLevel, IsNamedType, Place, Assignment, PathReading, written, through, constant_use, base_use, lock_through, read, entity_row, declared_row, global_row, named_row, result_row, called_row, behind, reading_through, row_at, modes_of, modes_at, field_target, settled_modes, Lock, Sharing, locked, lock_of, sharing_of, text_at, is_field, is_sibling_lock, leaves_open, place_of, IsExpression, IsEntity, RulesAreMet, IsMutexBehind, IsAllowed, global_mutex, sibling_mutex, sibling_pointer, through_constant, MeetsRules, IsAccepted, LeadsToMutex, by_global, by_variable, LeadsIfLocked, AllLead, ExpressionsLead, FieldsPlaced, IsOwn, IsCastFound, HasOwn, OwnAreFound, same_some, none_some, each, head_there, head_or_tail, of_each, to_each, tail_there, none_there}, Noted.{AllSay, all_say}, Origins.{reading_kept, same_lock}, RowModes.{RowHolds, modes_hold, rows_hold}, Passed.{use_named, first_kind}, Places.{InFile, FileKnown, file_known, at_number, IfSome, a_member}, Points.{NamesField, ModeOf, LevelOf, allowed_row, shown_modes, entity_is, through_used}, StaticSiblings.{found_there, points_to, is_beside}, Written.{raw, row_settled, open_good}, TargetLists.place_there, Laying.{named_there as struct_there}}
 use Rattle.sharc_tree.specs.Tree as tree
 
 -- ---- levels
@@ -13,7 +13,7 @@ after_top (top ∷ rest) k x is = is
 
 target_written : (levels : List (Option Mode)) (path : Path) → field_target levels ≡ Locked path → slice_get levels 0 ≡ Some (Some (Locked path))
 target_written (Some mode ∷ below) path is = ap (λ z. Some (Some z)) is
-target_written _ path is = absurd (dynamic_path path is)
+target_written _ path is = absurd (cc)
 
 -- no target without a mode of its own but a mutex leaves nothing to be meant
 all_written : (b : Base) (levels : List (Option Mode)) → ((k : ℕ) → slice_get levels k ≡ Some None → (b ≡ Base.Mutex) × (k + 1 ≡ length levels)) → leaves_open b levels ≡ true → ⊥
@@ -39,36 +39,21 @@ one_field : (r : Resolution) (d : Declaration) (depth : ℕ) (path : Path) → I
 one_field r d depth _ (global_mutex names kind) has free = names_global names kind
 one_field r d depth _ (sibling_mutex at names kind) has free = names_sibling names kind has
 one_field r d depth _ (sibling_pointer at top names pointer alone) has free = absurd (all_written d.written.ctype.base (drop 1 d.written.ctype.levels) (below_top d.written.ctype.base d.written.ctype.levels alone) (free top))
-one_field r d depth _ (through_constant at names constant behind) has free = absurd (field_not_local at)
+one_field r d depth _ (through_constant at names constant behind) has free = absurd (cc)
 
 in_either : (r : Resolution) (d : Declaration) (path : Path) → FieldLeads r d path → LeadsToMutex r (lock_of path) ⊎ NamesField r (lock_of path)
 in_either r d _ (names_global {g = g} names kind) = inl (by_global g names kind)
 in_either r d _ (names_sibling {t = t} names kind has) = inr (refl, (t, names))
 
 -- ---- names
-same_struct : (n k : ℕ) → Named.Struct n ≡ Named.Struct k → n ≡ k
-same_struct n k h = cc
-
-no_field_variable : (t u : ℕ) → Named.Variable t ≡ Named.Field u → ⊥
-no_field_variable t u h = cc
-
-no_field_global : (t u : ℕ) → Named.Global t ≡ Named.Field u → ⊥
-no_field_global t u h = cc
-
-no_field_function : (t u : ℕ) → Named.Function t ≡ Named.Field u → ⊥
-no_field_function t u h = cc
-
-no_field_known : (u : ℕ) → Named.Known ≡ Named.Field u → ⊥
-no_field_known u h = cc
-
 no_callee : (r : Resolution) (i : Identifier) (parameters : List Kind) (result : Kind) (t : ℕ) → Callee r i parameters result → named_at r i.site.token ≡ Named.Field t → ⊥
-no_callee r i _ _ t (of_program f names at text main) is = no_field_function _ t (sym names ∙ is)
-no_callee r i _ _ t (of_conditions c names text) is = no_field_known t (sym names ∙ is)
+no_callee r i _ _ t (of_program f names at text main) is = cc (sym names ∙ is)
+no_callee r i _ _ t (of_conditions c names text) is = cc (sym names ∙ is)
 
 -- an expression is no field's name
 no_field_name : (r : Resolution) (s : Span) (i : Identifier) (k : Kind) (t : ℕ) → HasType r (tree.identifier s i) k → named_at r i.site.token ≡ Named.Field t → ⊥
-no_field_name r s i _ t (a_variable names at text) is = no_field_variable _ t (sym names ∙ is)
-no_field_name r s i _ t (a_global names at text) is = no_field_global _ t (sym names ∙ is)
+no_field_name r s i _ t (a_variable names at text) is = cc (sym names ∙ is)
+no_field_name r s i _ t (a_global names at text) is = cc (sym names ∙ is)
 no_field_name r s i _ t (a_function {parameters = ps} {result = k} callee) is = no_callee r i ps k t callee is
 
 token_there : (list : List Declaration) (t : ℕ) → Contains (map (λ d. d.name.site.token) list) t → (d : Declaration) × Contains list d × (d.name.site.token ≡ t)
@@ -97,7 +82,7 @@ module _ (rules : RulesAreMet) (fields_placed : FieldsPlaced) (own_found : OwnAr
       let own_kind : declared_kind w.variable.written ≡ object (Base.Struct is.0) 1 = sym (ap variable_kind w.declared) ∙ kind in
       let member : IsMemberOf r is.0 name is.1 = is.3 in
       let to = points_to r fields_placed a.placed say x w.variable is.0 member.0 w.declared own_kind member.1 in
-      let number : to.number ≡ w.number = same_struct to.number w.number (sym to.names ∙ w.names) in
+      let number : to.number ≡ w.number = cc (sym to.names ∙ w.names) in
       let struct : member.0 ≡ w.struct = same_some member.0 w.struct (sym to.is ∙ ap (slice_get (structs_in r.program.items)) number ∙ w.defined) in
       by_variable x name is.0 names refl w own_kind (member.1 ∙ ap Some struct)
 
@@ -119,18 +104,12 @@ module _ (rules : RulesAreMet) (fields_placed : FieldsPlaced) (own_found : OwnAr
       subst (λ o. AllLead m (modes_of m (entity_row written o))) (sym f.found)
       (entity_leads f.numbered (entity_is rules m a e f) (λ at. other (sym (ap (λ (x : Entity). place_of x.role) f.itself) ∙ at)) (subst (λ (x : Entity). IsNamedType r x.written) (sym f.itself) f.named))
 
-  local_no_field : Place.Local ≡ Place.Field → ⊥
-  local_no_field h = cc
-
-  result_no_field : Place.Result ≡ Place.Field → ⊥
-  result_no_field h = cc
-
   -- ---- parameters, locals and casts of a function
   has_own : (f : Function) → Contains (functions_in r.program.items) f → HasOwn r f
   has_own f has = of_each (HasOwn r) (functions_in r.program.items) f (own_found r a.resolved a.placed a.low) has
 
   variable_leads : (s : Span) (i : Identifier) (t : ℕ) → IsExpression m (tree.identifier s i) → named_at r i.site.token ≡ Named.Variable t → AllLead m (modes_of m (declared_row r written t))
-  variable_leads s i t there names = subst (λ z. AllLead m (modes_of m (declared_row r written z))) at.2 (found_leads (declared w.what at.0) w.found (λ h. local_no_field (sym w.is_local ∙ h)))
+  variable_leads s i t there names = subst (λ z. AllLead m (modes_of m (declared_row r written z))) at.2 (found_leads (declared w.what at.0) w.found (λ h. cc (sym w.is_local ∙ h)))
     where
       f : Function
       f = there.owner
@@ -148,16 +127,16 @@ module _ (rules : RulesAreMet) (fields_placed : FieldsPlaced) (own_found : OwnAr
 
   cast_leads : (s : Span) (t : WrittenType) (e : Expression) → IsExpression m (tree.cast s t e) → AllLead m (modes_of m (entity_row written (entity_at r s.first.token s.last.token)))
   cast_leads s t e there =
-      found_leads (cast_entity s t) (of_each (IsCastFound r) (in_function there.owner) (tree.cast s t e) (has_own there.owner there.stands).cast_types there.inside) local_no_field
+      found_leads (cast_entity s t) (of_each (IsCastFound r) (in_function there.owner) (tree.cast s t e) (has_own there.owner there.stands).cast_types there.inside) (λ e. cc)
 
   -- ---- globals and results
   global_leads : (o : Option GlobalDefinition) → IfSome (λ g. InFile r (declared Role.Global g.declaration)) o → AllLead m (modes_of m (global_row r written o))
   global_leads None h = tt
-  global_leads (Some g) h = found_leads (declared Role.Global g.declaration) h.0 global_no_field
+  global_leads (Some g) h = found_leads (declared Role.Global g.declaration) h.0 (λ e. cc)
 
   result_leads : (o : Option Function) → IfSome (λ f. InFile r (result_of f)) o → AllLead m (modes_of m (result_row r o))
   result_leads None h = tt
-  result_leads (Some f) h = found_leads (result_of f) h.0 result_no_field
+  result_leads (Some f) h = found_leads (result_of f) h.0 (λ e. cc)
 
   called_leads : (n : Named) → AllLead m (modes_of m (called_row r n))
   called_leads (Named.Function n) = result_leads (function_at r n) (at_number (λ f. InFile r (result_of f)) (functions_in r.program.items) n file.results)
@@ -184,12 +163,12 @@ module _ (rules : RulesAreMet) (fields_placed : FieldsPlaced) (own_found : OwnAr
     levels_good : AllByRecursion (LevelOf (FieldLeads r d)) (settled_modes f.numbered.entity)
     levels_good =
         subst (λ (x : Entity). AllByRecursion (LevelOf (FieldLeads r d)) (settled_modes x)) (sym f.itself)
-        (open_good (ModeOf (FieldLeads r d)) (λ path e. absurd (private_path path e)) (λ path e. absurd (racy_path path e)) (λ path e. absurd (dynamic_path path e)) d.written.ctype.base (Some (field_target d.written.ctype.levels)) (drop 1 d.written.ctype.levels)
+        (open_good (ModeOf (FieldLeads r d)) (λ path e. absurd (cc)) (λ path e. absurd (cc)) (λ path e. absurd (cc)) d.written.ctype.base (Some (field_target d.written.ctype.levels)) (drop 1 d.written.ctype.levels)
         (placed_each (LevelOf (FieldLeads r d)) (drop 1 d.written.ctype.levels) each_below) top_good)
 
     field_raw : (how : PathReading) → AllByRecursion (ModeOf (FieldLeads r d)) (raw m (entity_row how (Some f.numbered)))
     field_raw how =
-        row_settled (ModeOf (FieldLeads r d)) (λ path e. absurd (private_path path e)) (λ path e. absurd (racy_path path e)) (λ path e. absurd (dynamic_path path e)) m a.least how f.numbered (entity_is rules m a (declared Role.Field d) f) levels_good
+        row_settled (ModeOf (FieldLeads r d)) (λ path e. absurd (cc)) (λ path e. absurd (cc)) (λ path e. absurd (cc)) m a.least how f.numbered (entity_is rules m a (declared Role.Field d) f) levels_good
 
     -- used without a constant variable, by M11
     field_written : (s : Span) (e : Expression) (w : FieldOperator) (name : Identifier) → IsExpression m (tree.field s e w name) → base_use r w e ≡ None → named_at r name.site.token ≡ Named.Field d.name.site.token → AllLead m (modes_of m (declared_row r written d.name.site.token))
@@ -223,9 +202,6 @@ module _ (rules : RulesAreMet) (fields_placed : FieldsPlaced) (own_found : OwnAr
     -- through the constant variable x, which points to the field's struct
     module _ (at x : ℕ) (names : named_at r at ≡ Named.Variable x) (struct : List ℕ) (s : StructDefinition) (kind : variable_kind (declaration_at r x) ≡ object (Base.Struct struct) 1) (is : struct_named (structs_in r.program.items) struct ≡ Some s)
         (member : Contains s.fields d) where
-      no_kind : variable_kind None ≡ object (Base.Struct struct) 1 → ⊥
-      no_kind h = cc
-
       is_itself : (e : Declaration) → Contains s.fields e → IsItself r Named.Field e
       is_itself e has =
           of_each (IsItself r Named.Field) s.fields e
@@ -235,7 +211,7 @@ module _ (rules : RulesAreMet) (fields_placed : FieldsPlaced) (own_found : OwnAr
       sibling_leads text token t level names_t kind_t = by (declaration_at r x) refl kind
         where
           by : (o : Option Declaration) → declaration_at r x ≡ o → variable_kind o ≡ object (Base.Struct struct) 1 → LeadsToMutex r (record { first = at; second = Some (text_at r token) })
-          by None declared_x k = absurd (no_kind k)
+          by None declared_x k = absurd (cc)
           by (Some v) declared_x k =
               let b = is_beside r fields_placed a.placed say s d text token t (struct_there (structs_in r.program.items) struct s is) member level names_t in
               let to = points_to r fields_placed a.placed say x v struct s declared_x k is in
@@ -265,11 +241,8 @@ module _ (rules : RulesAreMet) (fields_placed : FieldsPlaced) (own_found : OwnAr
       shown_through (z ∷ rest) h = (one z h.0, shown_through rest h.1)
         where
           one : (mode : Mode) → ModeOf (FieldLeads r d) mode → (l : Lock) → read r (through at) (sharing_of mode) ≡ locked l → LeadsToMutex r l
-          one Private k l e = absurd (no_private l e)
-          one Readonly k l e = absurd (no_readonly l e)
-          one Racy k l e = absurd (no_racy l e)
-          one Dynamic k l e = absurd (no_dynamic l e)
           one (Locked path) k l e = subst (LeadsToMutex r) (same_lock (lock_through r at (lock_of path)) l e) (through_one path (k path refl))
+          one _ k l e = absurd (cc)
 
       field_through : AllLead m (modes_of m (declared_row r (through at) d.name.site.token))
       field_through =
@@ -283,60 +256,32 @@ module _ (rules : RulesAreMet) (fields_placed : FieldsPlaced) (own_found : OwnAr
       of_each (λ e. HasType r e (kind_at r e)) (in_function x.owner) e
       (of_each (λ f. AllByRecursion (λ e. HasType r e (kind_at r e)) (in_function f)) (functions_in r.program.items) x.owner (constraints r a.resolved a.placed a.low) x.stands) x.inside
 
-  a_member : (x name : List ℕ) (d : Declaration) → IsMemberOf r x name d → FieldInFile r d
-  a_member x name d h = field_found (FieldInFile r) h.0.fields name d (struct_fields (FieldInFile r) (structs_in r.program.items) x h.0 file.fields h.1) h.2
-
   field_leads : (s : Span) (e : Expression) (w : FieldOperator) (n : Identifier) (k : Kind) → HasType r (tree.field s e w n) k → IsExpression m (tree.field s e w n) → AllLead m (modes_of m (named_row r (reading_through (base_use r w e)) (named_at r n.site.token)))
   field_leads s e _ n _ (a_field {x = struct} {d = d} t h is) there =
-      subst (λ z. AllLead m (modes_of m (named_row r written z))) (sym is) (field_written d (a_member struct n.text d h).0 s e Dot n there refl is)
+      subst (λ z. AllLead m (modes_of m (named_row r written z))) (sym is) (field_written d (a_member r file struct n.text d h).0 s e Dot n there refl is)
   field_leads s e _ n _ (a_field_behind {x = struct} {d = d} t h is) there = by (constant_use r e) refl
     where
       by : (o : Option ℕ) → constant_use r e ≡ o → AllLead m (modes_of m (named_row r (reading_through o) (named_at r n.site.token)))
-      by None none = subst (λ z. AllLead m (modes_of m (named_row r written z))) (sym is) (field_written d (a_member struct n.text d h).0 s e Arrow n there none is)
+      by None none = subst (λ z. AllLead m (modes_of m (named_row r written z))) (sym is) (field_written d (a_member r file struct n.text d h).0 s e Arrow n there none is)
       by (Some at) some =
           let u = use_named r e at some in
           let kind : variable_kind (declaration_at r u.variable) ≡ object (Base.Struct struct) 1 = sym u.kind ∙ one_type r a.resolved a.placed a.low e (object (Base.Struct struct) 1) t in
           subst (λ z. AllLead m (modes_of m (named_row r (through at) z))) (sym is)
-          (field_through d (a_member struct n.text d h).0 at u.variable u.names struct h.0 kind h.1 (found_there h.0.fields n.text d h.2))
+          (field_through d (a_member r file struct n.text d h).0 at u.variable u.names struct h.0 kind h.1 (found_there h.0.fields n.text d h.2))
 
   -- ---- expressions
-  abbrev RowLeads : Option Targets → Type 0
-  RowLeads None = Unit {0}
-  RowLeads (Some row) = AllLead m (modes_of m row)
-
   name_leads : (s : Span) (i : Identifier) → IsExpression m (tree.identifier s i) → (n : Named) → named_at r i.site.token ≡ n → AllLead m (modes_of m (named_row r written n))
   name_leads s i there (Named.Global n) is = global_leads (global_at r n) (at_number (λ g. InFile r (declared Role.Global g.declaration)) (globals_in r.program.items) n file.globals)
   name_leads s i there (Named.Variable t) is = variable_leads s i t there is
   name_leads s i there (Named.Field t) is = absurd (no_field_name r s i _ t (typed_at (tree.identifier s i) there) is)
   name_leads s i there _ is = tt
 
-  deep : (o : Option Targets) → RowLeads o → RowLeads (behind o)
-  deep None h = tt
-  deep (Some row) h = deeper_hold m (LeadsIfLocked r) row h
-
-  choose : (b : Bool) (s t : Option Targets) → RowLeads s → RowLeads t → RowLeads (cond b s t)
-  choose true s t h k = h
-  choose false s t h k = k
-
-  row_leads : (e : Expression) → AllByRecursion (IsExpression m) (expressions e) → RowLeads (row_at r e)
-  row_leads (tree.identifier s i) h = name_leads s i h.0 (named_at r i.site.token) refl
-  row_leads (tree.constant s (Constant.Number n)) h = tt
-  row_leads (tree.parentheses s e) h = row_leads e h.1
-  row_leads (tree.call s f all) h = called_leads (named_at r f.site.token)
-  row_leads (tree.cast s t e) h = cast_leads s t e h.0
-  row_leads (tree.index s e i) h =
-      let of_base = row_leads e (front (IsExpression m) (expressions e) (expressions i) h.1) in
-      choose (is_array (kind_at r e)) (row_at r e) (behind (row_at r e)) of_base (deep (row_at r e) of_base)
-  row_leads (tree.field s e w n) h = field_leads s e w n _ (typed_at (tree.field s e w n) h.0) h.0
-  row_leads (tree.unary s Dereference e) h = deep (row_at r e) (row_leads e h.1)
-  row_leads _ h = tt
+  row_leads : (e : Expression) → AllByRecursion (IsExpression m) (expressions e) → RowHolds m (LeadsIfLocked r) (row_at r e)
+  row_leads = rows_hold m (LeadsIfLocked r) (IsExpression m) (λ s i h. name_leads s i h (named_at r i.site.token) refl) (λ s f all. called_leads (named_at r f.site.token)) cast_leads
+      (λ s e w n all h. field_leads s e w n _ (typed_at (tree.field s e w n) h) h)
 
   pub expression_leads : (e : Expression) (modes : List Sharing) → AllByRecursion (IsExpression m) (expressions e) → modes_at m e ≡ Some modes → AllLead m modes
-  expression_leads e modes all is = by (row_at r e) (row_leads e all) is
-    where
-      by : (o : Option Targets) → RowLeads o → option_map (modes_of m) o ≡ Some modes → AllLead m modes
-      by None h k = absurd (none_some modes k)
-      by (Some row) h k = subst (AllLead m) (same_some (modes_of m row) modes k) h
+  expression_leads e modes all is = modes_hold m (LeadsIfLocked r) (row_at r e) modes (row_leads e all) is
 
 pub expressions_lead : RulesAreMet → FieldsPlaced → OwnAreFound → EachTypeFound → EachPathFound → MeetsConstraints → OneType → EachNameOnce → OnlyNames → EachNamesItself → EachNamesOwn → ExpressionsLead
 expressions_lead rules fields_placed own_found found paths constraints one_type once only itself names_own m a e modes all is =

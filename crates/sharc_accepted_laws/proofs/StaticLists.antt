@@ -1,5 +1,5 @@
 -- What holds of each element of a list, and what is an element.
-use Rattle.sharc_accepted_laws.proofs.Imports.{◌≡◌, ◌⊎◌, ⊎_elim, ◌<◌, Bool, true, false, ◌||◌, List, [], ◌∷◌, ◌++◌, ap, ◌∙◌, Contains, false≢true, or_cases, or_right, or_left, list_any, head_there, head_or_tail, tail_there, none_there}
+use Rattle.sharc_accepted_laws.proofs.Imports.{◌≡◌, ⊎_elim, Bool, true, List, [], ◌∷◌, ap, ◌∙◌, Contains, false≢true, or_cases, or_right, or_left, list_any, head_there, head_or_tail, tail_there, none_there}
 
 -- elements
 

@@ -1,5 +1,5 @@
 -- The registers of variables: each pointer has its own, and keeps it where more variables stand.
-use Rattle.sharc_accepted_laws.proofs.Imports.{◌≡◌, ◌⊎◌, inl, inr, ℕ, zero, suc, ◌+◌, ◌<◌, ◌≤◌, ◌==◌, Bool, true, false, cond, List, [], ◌∷◌, ◌++◌, length, slice_get, refl, ap, sym, ◌∙◌, subst, arith, eqb-true, append_assoc, Option, Some, None, false≢true, got_none, Register, Int, Reference, Named, Kind, named_at, declaration_at, variable_kind, field_place_behind, Assignment, base_of, written, declared_row, modes_of, Lock, Sharing, private, readonly, locked, racy, dynamic, Slot, Context, slot_kind, ref_count, register_from, register_of, number_in, PathNamed, PathStands, shape_of, number, register, lock_named, lock_at, locks_at, static_of, variable_type, pointers, entry_named, AllStand, DeclaredStands, IsClosedScope, with_more, HasRegister, HasOneVariable, OthersAreEmpty, NamesVariables, NamesLower, EntriesStay, NoneIsClosed, OneMoreIsClosed, FewerAreClosed, ScopeLaws, SomeNames, Mentions, InRegister as Through, Refers, EntryMentions, same_some, none_some}
+use Rattle.sharc_accepted_laws.proofs.Imports.{front_got, ◌≡◌, ◌⊎◌, inl, inr, ℕ, zero, suc, ◌+◌, ◌<◌, ◌==◌, Bool, true, false, cond, List, [], ◌∷◌, ◌++◌, length, slice_get, refl, ap, sym, ◌∙◌, subst, arith, eqb-true, append_assoc, Option, Some, None, false≢true, got_none, Register, Int, Reference, Named, Kind, named_at, declaration_at, variable_kind, field_place_behind, Assignment, base_of, written, declared_row, modes_of, Lock, Sharing, locked, Slot, Context, slot_kind, ref_count, register_from, register_of, number_in, PathNamed, PathStands, shape_of, number, register, lock_named, lock_at, locks_at, static_of, variable_type, pointers, entry_named, AllStand, DeclaredStands, IsClosedScope, with_more, HasRegister, HasOneVariable, OthersAreEmpty, NamesVariables, NamesLower, EntriesStay, NoneIsClosed, OneMoreIsClosed, FewerAreClosed, ScopeLaws, SomeNames, Mentions, InRegister as Through, Refers, EntryMentions, same_some, none_some}
 use Rattle.sharc_invariant.specs.Types.{Names}
 
 -- ---- where a pointer is
@@ -111,7 +111,7 @@ module _ (more : List Slot) where
       by false true k later aside = later k
       by false false k later aside = aside k
 
-  pointers_more : (scope : List Slot) → pointers (scope ++ more) ≡ pointers scope ++ pointers more
+  pub pointers_more : (scope : List Slot) → pointers (scope ++ more) ≡ pointers scope ++ pointers more
   pointers_more [] = refl
   pointers_more (z ∷ rest) = by z.is_pointer (pointers_more rest)
     where
@@ -138,32 +138,24 @@ module _ (more : List Slot) where
 
   pub locks_stay : (c : Context) (modes : List Sharing) → AllStand c.program c.scope modes → locks_at (with_more c more) modes ≡ locks_at c modes
   locks_stay c [] h = refl
-  locks_stay c (private ∷ rest) h = locks_stay c rest h.1
-  locks_stay c (readonly ∷ rest) h = locks_stay c rest h.1
   locks_stay c (locked l ∷ rest) h = ap (λ x. x ∷ locks_at (with_more c more) rest) (lock_stays c (named_at c.program.typed l.first) l.second h.0) ∙ ap (λ ls. lock_at c l ∷ ls) (locks_stay c rest h.1)
-  locks_stay c (racy ∷ rest) h = locks_stay c rest h.1
-  locks_stay c (dynamic ∷ rest) h = locks_stay c rest h.1
+  locks_stay c (_ ∷ rest) h = locks_stay c rest h.1
 
   pub type_stays : (c : Context) (kind : Kind) (modes : List Sharing) → AllStand c.program c.scope modes → static_of (with_more c more) kind modes ≡ static_of c kind modes
   type_stays c kind modes h = ap (λ ls. record { target = number c.program (shape_of (base_of kind) modes); locks = ls }) (locks_stay c modes h)
 
-  front_got : {A : Type 0} (a b : List A) (k : ℕ) → k < length a → slice_get (a ++ b) k ≡ slice_get a k
-  front_got [] b k h = absurd (omega (arith, h))
-  front_got (x ∷ a) b zero h = refl
-  front_got (x ∷ a) b (suc k) h = front_got a b k (omega (arith, h))
-
-  got_more : (scope : List Slot) (r : ℕ) → r < ref_count scope → slice_get (pointers (scope ++ more)) r ≡ slice_get (pointers scope) r
+  pub got_more : (scope : List Slot) (r : ℕ) → r < ref_count scope → slice_get (pointers (scope ++ more)) r ≡ slice_get (pointers scope) r
   got_more scope r low = ap (λ l. slice_get l r) (pointers_more scope) ∙ front_got (pointers scope) (pointers more) r (let n = pointer_count scope in omega (arith, low, n))
 
 -- ---- what stands before a variable
 -- the slot of a pointer, with those before it and those behind it
-record Split (scope : List Slot) (r x : ℕ) : Type 0 where
-  before : List Slot
-  after : List Slot
-  slot : Slot
-  whole : scope ≡ before ++ slot ∷ after
-  token : slot.token ≡ x
-  count : ref_count before ≡ r
+pub record Split (scope : List Slot) (r x : ℕ) : Type 0 where
+  pub before : List Slot
+  pub after : List Slot
+  pub slot : Slot
+  pub whole : scope ≡ before ++ slot ∷ after
+  pub token : slot.token ≡ x
+  pub count : ref_count before ≡ r
 
 later_split : (z : Slot) (rest : List Slot) (n p x : ℕ) → cond z.is_pointer (n + 1) n ≡ p → Split rest n x → Split (z ∷ rest) p x
 later_split z rest n p x e s = record {
@@ -181,7 +173,7 @@ split_by z rest x more true pointer zero k = record { before = []; after = rest;
 split_by z rest x more true pointer (suc p) k = let e : p + 1 ≡ suc p = omega arith in later_split z rest p (suc p) x (ap (λ b. cond b (p + 1) p) pointer ∙ e) (more p k)
 split_by z rest x more false pointer p k = later_split z rest p p x (ap (λ b. cond b (p + 1) p) pointer) (more p k)
 
-split : (scope : List Slot) (r x : ℕ) → slice_get (pointers scope) r ≡ Some x → Split scope r x
+pub split : (scope : List Slot) (r x : ℕ) → slice_get (pointers scope) r ≡ Some x → Split scope r x
 split [] r x h = absurd (none_some x h)
 split (z ∷ rest) r x h = split_by z rest x (λ n k. split rest n x k) z.is_pointer refl r h
 
@@ -199,12 +191,9 @@ by_name c scope modes r l _ _ s h = absurd h
 
 named_by : (c : Context) (scope : List Slot) (all modes : List Sharing) (r : ℕ) → AllStand c.program scope modes → SomeNames r (locks_at c modes) → NamedBy c scope all r
 named_by c scope all [] r s h = absurd h
-named_by c scope all (private ∷ rest) r s h = named_by c scope all rest r s.1 h
-named_by c scope all (readonly ∷ rest) r s h = named_by c scope all rest r s.1 h
 named_by c scope all (locked l ∷ rest) r s (inl h) = by_name c scope all r l (named_at c.program.typed l.first) l.second s.0 h
 named_by c scope all (locked l ∷ rest) r s (inr h) = named_by c scope all rest r s.1 h
-named_by c scope all (racy ∷ rest) r s h = named_by c scope all rest r s.1 h
-named_by c scope all (dynamic ∷ rest) r s h = named_by c scope all rest r s.1 h
+named_by c scope all (_ ∷ rest) r s h = named_by c scope all rest r s.1 h
 
 names_variables : NamesVariables
 names_variables c kind modes r s h =
@@ -250,21 +239,17 @@ entries_stay c more r closed low = ap (entry_named (with_more c more)) (got_more
         ap Refers (type_stays more c (variable_kind (declaration_at m.typed x)) modes here)
 
 -- ---- closed scopes
+nothing_whole : (s : Slot) (before after : List Slot) → [] ≡ before ++ s ∷ after → ⊥
+nothing_whole s [] after h = cc
+nothing_whole s (x ∷ before) after h = cc
+
 pub none_closed : NoneIsClosed
-none_closed m before after s e = absurd (by before e)
-  where
-    by : (l : List Slot) → [] ≡ l ++ s ∷ after → ⊥
-    by [] h = cc
-    by (x ∷ l) h = cc
+none_closed m before after s e = absurd (nothing_whole s before after e)
 
 last_or_before : (scope : List Slot) (t : Slot) (before after : List Slot) (s : Slot) → scope ++ t ∷ [] ≡ before ++ s ∷ after
     → ((scope ≡ before) × (t ≡ s)) ⊎ ((rest : List Slot) × (scope ≡ before ++ s ∷ rest))
 last_or_before [] t [] after s e = inl (refl, let h : t ∷ [] ≡ s ∷ after = e in cc)
-last_or_before [] t (x ∷ before) after s e = absurd (by before (let h : t ∷ [] ≡ x ∷ (before ++ s ∷ after) = e in cc))
-  where
-    by : (l : List Slot) → [] ≡ l ++ s ∷ after → ⊥
-    by [] h = cc
-    by (y ∷ l) h = cc
+last_or_before [] t (x ∷ before) after s e = absurd (nothing_whole s before after (let h : t ∷ [] ≡ x ∷ (before ++ s ∷ after) = e in cc))
 last_or_before (y ∷ scope) t [] after s e = inr (scope, let h : y ∷ (scope ++ t ∷ []) ≡ s ∷ after = e in let same : y ≡ s = cc in ap (λ z. z ∷ scope) same)
 last_or_before (y ∷ scope) t (x ∷ before) after s e = by (last_or_before scope t before after s (let h : y ∷ (scope ++ t ∷ []) ≡ x ∷ (before ++ s ∷ after) = e in cc))
   where

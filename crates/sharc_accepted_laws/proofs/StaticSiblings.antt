@@ -76,7 +76,7 @@ module _ (r : Resolution) where
   levels_say scope siblings [] h = tt
   levels_say scope siblings (x ∷ rest) h = (front P (mode_notes scope siblings x) (modes_notes scope siblings rest) h, levels_say scope siblings rest (back P (mode_notes scope siblings x) (modes_notes scope siblings rest) h))
 
-  not_field : (m : Meaning) (t : ℕ) → named_of m ≡ Named.Field t → ⊥
+  pub not_field : (m : Meaning) (t : ℕ) → named_of m ≡ Named.Field t → ⊥
   not_field (meaning.variable d) t h = cc
   not_field _ t h = cc
 
@@ -84,13 +84,10 @@ module _ (r : Resolution) where
   no_entry token t None h is = absurd h.0
   no_entry token t (Some e) h is = not_field e.meaning t (sym h.0 ∙ is)
 
-  same_field : (t u : ℕ) → Named.Field t ≡ Named.Field u → t ≡ u
-  same_field t u h = cc
-
   sibling : (fields : List Declaration) (text : List ℕ) (token t : ℕ) (o : Option Declaration) (e : Option Entry) → field_of fields text ≡ o → AllSay r (first_notes token o e) → named_at r token ≡ Named.Field t
       → (d : Declaration) × (field_of fields text ≡ Some d) × (t ≡ d.name.site.token)
   sibling fields text token t None e found h is = absurd (no_entry token t e h is)
-  sibling fields text token t (Some d) e found h is = (d, found, same_field t d.name.site.token (sym is ∙ h.0))
+  sibling fields text token t (Some d) e found h is = (d, found, cc (sym is ∙ h.0))
 
   module _ (fields_placed : FieldsPlaced) (placed : IsPlaced r.program) (say : AllSay r (notes_about r.program)) where
     abbrev file : Scope

@@ -156,8 +156,21 @@ module _ (m2 : Assignment) (least : IsLeastAssignment m2) (file : FileKnown m2.t
     own : Own (locals_in_all a)
 
   -- the expression of a test, and what is given of the statement after it
-  test_stands : (slots : List Slot) (scope : Scope) → Both (in_scope slots) scope.names → (e : Expression) → Known (at scope (expressions e)) → Typed (expressions e) → AllByRecursion (IsFound r2) (casts (expressions e)) → ExpressionsStand (in_scope slots) (expressions e)
-  test_stands slots scope b e k t f = one slots scope b e (seen slots scope b (expressions e) k t f)
+  behind_test : (slots : List Slot) (inside : Around) (scope : Scope) → Both (in_scope slots) scope.names → (e : Expression) (a : Statement) → AllByRecursion (IsFound r2) (casts (expressions e) ++ statement_entities a)
+      → Known (at scope (expressions e) ++ places_in inside scope a) → Typed (expressions e ++ in_statement a) → LocalsStand r2 inside scope.names a → Own (locals_in a) → ExpressionsStand (in_scope slots) (expressions e) × Given inside scope a
+  behind_test slots inside scope b e a f k t read own =
+      let P = at scope (expressions e) in
+      let PA = places_in inside scope a in
+      let E = casts (expressions e) in (
+        one slots scope b e (seen slots scope b (expressions e) (front (PlaceKnown r2) P PA k) (front (IsTyped r2) (expressions e) (in_statement a) t) (front (IsFound r2) E (statement_entities a) f)),
+        record {
+          found = back (IsFound r2) E (statement_entities a) f;
+          places = back (PlaceKnown r2) P PA k;
+          typed = back (IsTyped r2) (expressions e) (in_statement a) t;
+          read = read;
+          own = own;
+        },
+      )
 
   after_grown : (slots : List Slot) (around : Around) (scope : Scope) (a : Statement) → Both (in_scope slots) scope.names → Given around scope a → Both (behind_statement (in_scope slots) a) (after around scope.names a)
   after_grown slots around scope (tree.declare s l) b g = local_grown slots around scope.names b l g.found g.read g.own.0
@@ -172,35 +185,18 @@ module _ (m2 : Assignment) (least : IsLeastAssignment m2) (file : FileKnown m2.t
     statement_stands slots around scope (tree.return s e) b g = options slots scope b e (seen slots scope b (in_option expressions e) g.places g.typed g.found)
     statement_stands slots around scope (tree.if_then s e a) b g =
         let inside = opened around scope.names in
-        let P = at scope (expressions e) in
-        let PA = places_in inside scope a in
-        let E = casts (expressions e) in (
-          test_stands slots scope b e (front (PlaceKnown r2) P PA g.places) (front (IsTyped r2) (expressions e) (in_statement a) g.typed) (front (IsFound r2) E (statement_entities a) g.found),
-          statement_stands slots inside scope a b (record {
-            found = back (IsFound r2) E (statement_entities a) g.found;
-            places = back (PlaceKnown r2) P PA g.places;
-            typed = back (IsTyped r2) (expressions e) (in_statement a) g.typed;
-            read = g.read;
-            own = g.own;
-          }),
-        )
+        let w = behind_test slots inside scope b e a g.found g.places g.typed g.read g.own in
+        (w.0, statement_stands slots inside scope a b w.1)
     statement_stands slots around scope (tree.if_then_else s e a z) b g =
         let inside = opened around scope.names in
         let P = at scope (expressions e) in
         let PA = places_in inside scope a in
         let PZ = places_in inside scope z in
         let E = casts (expressions e) in
-        let f = front (IsFound r2) (E ++ statement_entities a) (statement_entities z) g.found in
-        let k = front (PlaceKnown r2) (P ++ PA) PZ g.places in
-        let t = front (IsTyped r2) (expressions e ++ in_statement a) (in_statement z) g.typed in (
-          test_stands slots scope b e (front (PlaceKnown r2) P PA k) (front (IsTyped r2) (expressions e) (in_statement a) t) (front (IsFound r2) E (statement_entities a) f),
-          statement_stands slots inside scope a b (record {
-            found = back (IsFound r2) E (statement_entities a) f;
-            places = back (PlaceKnown r2) P PA k;
-            typed = back (IsTyped r2) (expressions e) (in_statement a) t;
-            read = g.read.0;
-            own = front (IsItself r2 Named.Variable) (locals_in a) (locals_in z) g.own;
-          }),
+        let w = behind_test slots inside scope b e a (front (IsFound r2) (E ++ statement_entities a) (statement_entities z) g.found) (front (PlaceKnown r2) (P ++ PA) PZ g.places)
+        (front (IsTyped r2) (expressions e ++ in_statement a) (in_statement z) g.typed) g.read.0 (front (IsItself r2 Named.Variable) (locals_in a) (locals_in z) g.own) in (
+          w.0,
+          statement_stands slots inside scope a b w.1,
           statement_stands slots inside scope z b (record {
             found = back (IsFound r2) (E ++ statement_entities a) (statement_entities z) g.found;
             places = back (PlaceKnown r2) (P ++ PA) PZ g.places;
@@ -211,18 +207,8 @@ module _ (m2 : Assignment) (least : IsLeastAssignment m2) (file : FileKnown m2.t
         )
     statement_stands slots around scope (tree.while s e a) b g =
         let inside = looping (opened around scope.names) in
-        let P = at scope (expressions e) in
-        let PA = places_in inside scope a in
-        let E = casts (expressions e) in (
-          test_stands slots scope b e (front (PlaceKnown r2) P PA g.places) (front (IsTyped r2) (expressions e) (in_statement a) g.typed) (front (IsFound r2) E (statement_entities a) g.found),
-          statement_stands slots inside scope a b (record {
-            found = back (IsFound r2) E (statement_entities a) g.found;
-            places = back (PlaceKnown r2) P PA g.places;
-            typed = back (IsTyped r2) (expressions e) (in_statement a) g.typed;
-            read = g.read;
-            own = g.own;
-          }),
-        )
+        let w = behind_test slots inside scope b e a g.found g.places g.typed g.read g.own in
+        (w.0, statement_stands slots inside scope a b w.1)
     statement_stands slots around scope (tree.for s h a) b g =
         let outer = opened around scope.names in
         let inner = in_head outer scope h in

@@ -1,5 +1,5 @@
 -- A struct of the program is known by its name in the file, the first of that name.
-use Rattle.sharc_accepted_laws.proofs.{Imports.{◌≡◌, ℕ, suc, ◌+◌, Bool, true, false, cond, List, [], ◌∷◌, ◌++◌, slice_get, refl, ap, sym, ◌∙◌, arith, Some, None, is_some, bytes_eq, true≢false, false_from_ne_true, bytes_eq-Decides, StructDefinition, Item, structure, global, function, Scope, StructTable, StructMeaning, defined, struct_of, defines_condition, with_conditions, Heads, with_struct, behind_all, no_heads, file_scope, structs_in, struct_named, same_some, none_some, bytes_same}, TargetFirsts.some_none}
+use Rattle.sharc_accepted_laws.proofs.{Imports.{◌≡◌, ℕ, suc, ◌+◌, Bool, true, false, cond, List, [], ◌∷◌, ◌++◌, slice_get, refl, ap, sym, ◌∙◌, arith, Some, None, is_some, bytes_eq, true≢false, false_from_ne_true, bytes_eq-Decides, StructDefinition, Item, structure, global, function, Scope, StructTable, StructMeaning, defined, struct_of, defines_condition, with_conditions, Heads, with_struct, behind_all, no_heads, file_scope, structs_in, struct_named, same_some, none_some, bytes_same}}
 use Rattle.sharc_ctype.specs.Heads.{behind}
 
 module _ (name : List ℕ) where
@@ -16,7 +16,7 @@ module _ (name : List ℕ) where
   added (y ∷ rest) x h = by (bytes_eq name y.0) h (added rest x)
     where
       by : (b : Bool) → cond b (Some y.1) (struct_of rest name) ≡ None → (struct_of rest name ≡ None → struct_of (rest ++ (name, x) ∷ []) name ≡ Some x) → cond b (Some y.1) (struct_of (rest ++ (name, x) ∷ []) name) ≡ Some x
-      by true h later = absurd (some_none y.1 h)
+      by true h later = absurd (cc)
       by false h later = later h
 
   passed : (table : StructTable) (e : List ℕ × StructMeaning) → struct_of table name ≡ None → bytes_eq name e.0 ≡ false → struct_of (table ++ e ∷ []) name ≡ None
@@ -24,7 +24,7 @@ module _ (name : List ℕ) where
   passed (y ∷ rest) e h is = by (bytes_eq name y.0) h (λ k. passed rest e k is)
     where
       by : (b : Bool) → cond b (Some y.1) (struct_of rest name) ≡ None → (struct_of rest name ≡ None → struct_of (rest ++ e ∷ []) name ≡ None) → cond b (Some y.1) (struct_of (rest ++ e ∷ []) name) ≡ None
-      by true h later = absurd (some_none y.1 h)
+      by true h later = absurd (cc)
       by false h later = later h
 
   -- a struct more

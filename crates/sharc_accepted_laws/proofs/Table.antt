@@ -1,5 +1,5 @@
 -- A table is one of targets where each of its fields is good, by itself and beside the others of its element.
-use Rattle.sharc_accepted_laws.proofs.{Imports.{◌≡◌, ℕ, zero, suc, ◌+◌, ◌-◌, ◌*◌, ◌/◌, ◌%◌, ◌<◌, ◌≤◌, ◌==◌, Bool, true, false, List, [], ◌∷◌, length, map, get_or as slice_index_or, refl, ap, sym, ◌∙◌, subst, arith, ne_eqb, ⊎_elim, true≢false, false≢true, cases_lt, div-add-mod', mod-eq_of_lt, mul-add-mod_self_right, AllByRecursion, ObjectType, field_mutex, OfElement, FieldMode, Under, FieldType, Content, Integer, Pointer, Field, TableTarget as Target, no_field, no_target, row_of, cells_of, field_at, field_of_cell, global_field, mode_in, type_in, globals_target, field_in, mode_at, type_at, AreTargets, FieldMode as field, cell, Long}, TargetLists.at_place}
+use Rattle.sharc_accepted_laws.proofs.{Imports.{zero, suc, ◌≡◌, ℕ, ◌+◌, ◌-◌, ◌*◌, ◌/◌, ◌%◌, ◌<◌, ◌≤◌, ◌==◌, Bool, true, false, List, [], ◌∷◌, length, map, get_or as slice_index_or, refl, ap, sym, ◌∙◌, subst, arith, ne_eqb, ⊎_elim, true≢false, false≢true, cases_lt, div-add-mod', mod-eq_of_lt, mul-add-mod_self_right, AllByRecursion, ObjectType, field_mutex, OfElement, FieldMode, Under, FieldType, Content, Pointer, Field, TableTarget as Target, no_field, no_target, row_of, cells_of, field_at, field_of_cell, global_field, mode_in, type_in, globals_target, field_in, mode_at, type_at, AreTargets, FieldMode as field, cell}, TargetLists.at_place}
 use Rattle.sharc_invariant.specs.Types.{Mutex, nothing, Targets, is_private, is_mutex, is_pointer}
 
 -- ---- fields
@@ -33,21 +33,12 @@ pub record IsGoodTable (x : Targets) : Type 0 where
   pub beside : AreBeside x.globals
 
 -- ---- what is past the end
-pub mode_racy : field.Racy ≡ field.Private → ⊥
-mode_racy h = cc
-
-pub racy_behind : (a p : ℕ) → field.Racy ≡ field.Behind a p → ⊥
-racy_behind a p h = cc
-
-no_pointer : (to : FieldType) → Integer Long ≡ Pointer to → ⊥
-no_pointer to h = cc
-
 pub none_good : (x : Targets) (shared : Bool) → IsGood x shared no_field
 none_good x shared = record {
-  whole = λ h. absurd (mode_racy h);
-  some = λ to h. absurd (no_pointer to h);
-  row = λ to h. absurd (no_pointer to h);
-  private_target = λ to h. absurd (no_pointer to h);
+  whole = λ h. absurd (cc);
+  some = λ to h. absurd (cc);
+  row = λ to h. absurd (cc);
+  private_target = λ to h. absurd (cc);
   not_racy = λ h. absurd (false≢true h);
   mutex = λ h. absurd (false≢true h);
 }
@@ -59,80 +50,15 @@ pub no_row_good : (x : Targets) → IsGoodRow x no_target
 no_row_good x = record { fields = tt; beside = none_beside }
 
 -- ---- modes of cells
-locked_private : (o j : ℕ) → cell.Locked o j ≡ cell.Private → ⊥
-locked_private o j h = cc
-
-sibling_private : (j : ℕ) → cell.Sibling j ≡ cell.Private → ⊥
-sibling_private j h = cc
-
-readonly_private : cell.Readonly ≡ cell.Private → ⊥
-readonly_private h = cc
-
-racy_private : cell.Racy ≡ cell.Private → ⊥
-racy_private h = cc
-
-dynamic_private : cell.Dynamic ≡ cell.Private → ⊥
-dynamic_private h = cc
-
-behind_private : (j : ℕ) → cell.Behind j ≡ cell.Private → ⊥
-behind_private j h = cc
-
 private_in : (ty : ObjectType) (i : ℕ) (mode : FieldMode) → mode_in ty i mode ≡ cell.Private → mode ≡ field.Private
 private_in ty i field.Private h = refl
-private_in ty i field.Readonly h = absurd (readonly_private h)
-private_in ty i field.Racy h = absurd (racy_private h)
-private_in ty i field.Dynamic h = absurd (dynamic_private h)
-private_in ty i (Under (OfElement f j)) h = absurd (sibling_private _ h)
-private_in ty i (field.Behind f p) h = absurd (behind_private _ h)
-private_in ty i _ h = absurd (locked_private _ _ h)
-
-locked_racy : (o j : ℕ) → cell.Locked o j ≡ cell.Racy → ⊥
-locked_racy o j h = cc
-
-sibling_racy : (j : ℕ) → cell.Sibling j ≡ cell.Racy → ⊥
-sibling_racy j h = cc
-
-readonly_racy : cell.Readonly ≡ cell.Racy → ⊥
-readonly_racy h = cc
-
-private_racy : cell.Private ≡ cell.Racy → ⊥
-private_racy h = cc
-
-dynamic_racy : cell.Dynamic ≡ cell.Racy → ⊥
-dynamic_racy h = cc
-
-behind_racy : (j : ℕ) → cell.Behind j ≡ cell.Racy → ⊥
-behind_racy j h = cc
+private_in ty i (Under (OfElement f j)) h = absurd (cc)
+private_in ty i _ h = absurd (cc)
 
 racy_in : (ty : ObjectType) (i : ℕ) (mode : FieldMode) → mode_in ty i mode ≡ cell.Racy → mode ≡ field.Racy
-racy_in ty i field.Private h = absurd (private_racy h)
-racy_in ty i field.Readonly h = absurd (readonly_racy h)
 racy_in ty i field.Racy h = refl
-racy_in ty i field.Dynamic h = absurd (dynamic_racy h)
-racy_in ty i (Under (OfElement f j)) h = absurd (sibling_racy _ h)
-racy_in ty i (field.Behind f p) h = absurd (behind_racy _ h)
-racy_in ty i _ h = absurd (locked_racy _ _ h)
-
-locked_behind : (o j k : ℕ) → cell.Locked o j ≡ cell.Behind k → ⊥
-locked_behind o j k h = cc
-
-sibling_behind : (j k : ℕ) → cell.Sibling j ≡ cell.Behind k → ⊥
-sibling_behind j k h = cc
-
-readonly_behind : (k : ℕ) → cell.Readonly ≡ cell.Behind k → ⊥
-readonly_behind k h = cc
-
-racy_not_behind : (k : ℕ) → cell.Racy ≡ cell.Behind k → ⊥
-racy_not_behind k h = cc
-
-private_behind : (k : ℕ) → cell.Private ≡ cell.Behind k → ⊥
-private_behind k h = cc
-
-dynamic_behind : (k : ℕ) → cell.Dynamic ≡ cell.Behind k → ⊥
-dynamic_behind k h = cc
-
-same_place : (j k : ℕ) → cell.Behind j ≡ cell.Behind k → j ≡ k
-same_place j k h = cc
+racy_in ty i (Under (OfElement f j)) h = absurd (cc)
+racy_in ty i _ h = absurd (cc)
 
 -- a cell is behind a pointer where its field is
 record BehindOf (mode : FieldMode) (i j : ℕ) : Type 0 where
@@ -142,13 +68,9 @@ record BehindOf (mode : FieldMode) (i j : ℕ) : Type 0 where
   place : i - at + pointer ≡ j
 
 behind_in : (ty : ObjectType) (i j : ℕ) (mode : FieldMode) → mode_in ty i mode ≡ cell.Behind j → BehindOf mode i j
-behind_in ty i j field.Private h = absurd (private_behind j h)
-behind_in ty i j field.Readonly h = absurd (readonly_behind j h)
-behind_in ty i j field.Racy h = absurd (racy_not_behind j h)
-behind_in ty i j field.Dynamic h = absurd (dynamic_behind j h)
-behind_in ty i j (Under (OfElement f k)) h = absurd (sibling_behind _ j h)
-behind_in ty i j (field.Behind f p) h = record { at = f; pointer = p; is = refl; place = same_place _ j h }
-behind_in ty i j _ h = absurd (locked_behind _ _ j h)
+behind_in ty i j (Under (OfElement f k)) h = absurd (cc)
+behind_in ty i j (field.Behind f p) h = record { at = f; pointer = p; is = refl; place = cc }
+behind_in ty i j _ h = absurd (cc)
 
 -- ---- elements
 -- a number below that of an element's cells is what is left of each number that is so much more than a multiple
@@ -161,6 +83,11 @@ moved i w r a p whole from = omega arith
 -- the cell that is so far from cell i in its element
 in_element : (n i a p : ℕ) → a ≤ i % n → i % n - a + p < n → (i - a + p) % n ≡ i % n - a + p
 in_element n i a p from inside = ap (λ z. z % n) (moved i (i / n * n) (i % n) a p (div-add-mod' i n) from) ∙ rest_is n (i / n) (i % n - a + p) inside
+
+pub past_end : (fields : List Field) (k : ℕ) → length fields ≤ k → slice_index_or fields k no_field ≡ no_field
+past_end [] k low = refl
+past_end (f ∷ rest) zero low = absurd (omega (arith, low))
+past_end (f ∷ rest) (suc k) low = past_end rest k (omega (arith, low))
 
 -- ---- the table
 module _ (x : Targets) (good : IsGoodTable x) where
@@ -204,14 +131,9 @@ module _ (x : Targets) (good : IsGoodTable x) where
   mutexes ty i is = ap (mode_in ty i) ((cell_good ty i).mutex is)
 
   -- ---- behind a pointer
-  past_end : (fields : List Field) (k : ℕ) → length fields ≤ k → slice_index_or fields k no_field ≡ no_field
-  past_end [] k low = refl
-  past_end (f ∷ rest) zero low = absurd (omega (arith, low))
-  past_end (f ∷ rest) (suc k) low = past_end rest k (omega (arith, low))
-
   -- what is locked behind a pointer is there
   is_there : (fields : List Field) (k a p : ℕ) → (slice_index_or fields k no_field).mode ≡ field.Behind a p → k < length fields
-  is_there fields k a p h = ⊎_elim (λ low. low) (λ high. absurd (racy_behind a p (sym (ap (λ (f : Field). f.mode) (past_end fields k high)) ∙ h))) (cases_lt k (length fields))
+  is_there fields k a p h = ⊎_elim (λ low. low) (λ high. absurd (cc (sym (ap (λ (f : Field). f.mode) (past_end fields k high)) ∙ h))) (cases_lt k (length fields))
 
   in_globals : (ty : ObjectType) (i j : ℕ) → mode_in ty i (global_field x i).mode ≡ cell.Behind j → mode_in ty j (global_field x j).mode ≡ cell.Readonly
   in_globals ty i j h =

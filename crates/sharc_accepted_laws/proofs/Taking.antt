@@ -1,19 +1,10 @@
 -- Casts, and what is freed.
-use Rattle.sharc_accepted_laws.proofs.{Imports.{◌≡◌, ℕ, ◌+◌, ◌<◌, true, false, refl, ap, sym, ◌∙◌, subst, arith, option_map, lt-ltb, Some, None, or_left, Span, Identifier, WrittenType, without_parentheses, Expression, Named, Kind, is_pointer, is_null, declared_kind, element_kind, Use, named_at, named_kind, structs_in, a_cast, HasType as IsOfType, MeetsConstraints, OneType, element_cells, base_of, Targets, written, cast_row, named_row, modes_of, modes_at, IsExpression, kind_of, target_of, layout_of, named_target, Context, ref_count, number_in, StaticType, cells_of, Refers, Recasts, IsLayout, Setting, type_by, VariableTakes, Takes, CastTyped, FreeTyped, CastsRecast, HeldLaws, held_at, IsAccepted, ScopeLaws, ExpressionStands, register, static_of, variable_type, variable_entry, entry_by, entry_of, ExpressionsFound, LayoutsAre, HasTables, pointee, PointeeFits, PointeesFit, row_shape, targets_of, IsAt, VariablesAreTaken, TakingLaws, typing}, TypableRegisters.reference_found, Values.{has_row, pointer_no_null, typed_at, type_in, pointer_is}, Members.first_of}
+use Rattle.sharc_accepted_laws.proofs.{Imports.{◌≡◌, ℕ, ◌+◌, ◌<◌, true, false, refl, ap, sym, ◌∙◌, subst, arith, option_map, lt-ltb, Some, None, or_left, Span, Identifier, WrittenType, Expression, Named, Kind, is_pointer, is_null, declared_kind, element_kind, Use, named_at, named_kind, structs_in, a_cast, HasType as IsOfType, MeetsConstraints, OneType, element_cells, base_of, Targets, written, cast_row, named_row, modes_of, modes_at, IsExpression, kind_of, target_of, layout_of, named_target, Context, ref_count, number_in, StaticType, cells_of, Refers, Recasts, IsLayout, Setting, type_by, VariableTakes, Takes, CastTyped, FreeTyped, CastsRecast, HeldLaws, held_at, IsAccepted, ScopeLaws, ExpressionStands, register, static_of, variable_type, variable_entry, entry_by, entry_of, ExpressionsFound, LayoutsAre, HasTables, pointee, PointeeFits, PointeesFit, row_shape, targets_of, IsAt, VariablesAreTaken, TakingLaws, typing}, TypableRegisters.reference_found, Values.{has_row, pointer_no_null, typed_at, type_in, pointer_is}, Members.first_of, Assigned.bare_of}
 use Rattle.sharc_tree.specs.Tree as tree
 use Rattle.sharc_flat.specs.Places.{variable}
 
 -- ---- variables
 module _ (c : Context) where
-  -- what stands in parentheses
-  record Bare (e : Expression) : Type 0 where
-    entry : entry_of c e ≡ entry_of c (without_parentheses e)
-    target : target_of c e ≡ target_of c (without_parentheses e)
-
-  bare_of : (e : Expression) → Bare e
-  bare_of (tree.parentheses s a) = let b = bare_of a in record { entry = b.entry; target = b.target }
-  bare_of _ = record { entry = refl; target = refl }
-
   variable_entry_is : (s : Span) (i : Identifier) (x : ℕ) → named_at c.program.typed i.site.token ≡ Named.Variable x → entry_of c (tree.identifier s i) ≡ Refers (variable_type c x)
   variable_entry_is s i x names =
       ap (λ n. Refers (static_of c (named_kind c.program.typed n) (modes_of c.program (named_row c.program.typed written n)))) names

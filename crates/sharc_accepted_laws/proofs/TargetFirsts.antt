@@ -1,9 +1,6 @@
 -- The first cells of mutexes and of condition variables.
 use Rattle.sharc_accepted_laws.proofs.{Imports.{◌≡◌, ℕ, ◌<◌, Bool, true, false, cond, List, [], ◌∷◌, length, get_or as slice_index_or, refl, ap, sym, ◌∙◌, subst, arith, bytes_eq, Some, None, Contains, codes, Base, StructDefinition, Numbered, entities_in, numbered, structs_in, struct_named, Assignment, FieldMode, TableTarget as Target, Field, no_field, FirstLaws, MutexesFirst, WaitersFirst, known_condition, known_mutex, entity_shapes, shapes_of, own_mode, single, members, struct_fields, head_there, tail_there}, TargetLists.right_there, Numbers.numbers_found}
 
-pub some_none : {A : Type 0} (x : A) → Some x ≡ None → ⊥
-some_none x h = cc
-
 -- a struct that the program does not define is a condition variable
 single_fields : (m : Assignment) (q : FieldMode) (list : List StructDefinition) (name : List ℕ) → struct_named list name ≡ None → struct_fields m q list name ≡ single q (Base.Struct name) ∷ []
 single_fields m q [] name none = refl
@@ -11,7 +8,7 @@ single_fields m q (s ∷ rest) name none = by (bytes_eq s.name.text name) none (
   where
     by : (b : Bool) → cond b (Some s) (struct_named rest name) ≡ None → (struct_named rest name ≡ None → struct_fields m q rest name ≡ single q (Base.Struct name) ∷ [])
         → cond b (members m q 0 s.fields) (struct_fields m q rest name) ≡ single q (Base.Struct name) ∷ []
-    by true h later = absurd (some_none s h)
+    by true h later = absurd (cc)
     by false h later = later h
 
 mutexes_first : MutexesFirst

@@ -1,15 +1,12 @@
 -- The forms of the modes of rows: those of the positions, whatever the reading.
-use Rattle.sharc_accepted_laws.proofs.{Imports.{◌≡◌, ℕ, zero, suc, ◌+◌, ◌-◌, ◌<◌, ◌≤◌, ◌==◌, eqb-true, Bool, true, false, cond, List, [], ◌∷◌, length, map, take, drop, refl, ap, sym, ◌∙◌, arith, Some, None, eqb-false, slice_get, Mode, Role, Numbered, positions_of, Resolution, Assignment, PathReading, written, Targets, targets_from, entity_row, read, modes_of, sharing_of, Form, form_of, same_some}, Passed.{form_read as read_form}}
+use Rattle.sharc_accepted_laws.proofs.{Imports.{◌≡◌, ℕ, zero, suc, ◌+◌, ◌-◌, ◌<◌, ◌≤◌, ◌==◌, eqb-true, Bool, true, false, cond, List, [], ◌∷◌, length, map, take, drop, refl, ap, sym, ◌∙◌, arith, Some, eqb-false, slice_get, Mode, Role, Numbered, positions_of, Resolution, Assignment, PathReading, written, Targets, targets_from, entity_row, read, modes_of, sharing_of, Form, form_of, same_some}, Passed.{form_read as read_form}}
 
 abbrev pub mode_form : Mode → Form
 mode_form mode = form_of (sharing_of mode)
 
-two : {A : Type 0} (a b : A) (xs ys : List A) → a ≡ b → xs ≡ ys → a ∷ xs ≡ b ∷ ys
-two a b xs ys e f = cc
-
 forms_read : (r : Resolution) (how : PathReading) (list : List Mode) → map form_of (map (λ mode. read r how (sharing_of mode)) list) ≡ map mode_form list
 forms_read r how [] = refl
-forms_read r how (x ∷ rest) = two _ _ _ _ (read_form r how (sharing_of x)) (forms_read r how rest)
+forms_read r how (x ∷ rest) = cc (read_form r how (sharing_of x), forms_read r how rest)
 
 -- so the forms of a row are those of its positions
 pub row_forms : (m : Assignment) (row : Targets) → map form_of (modes_of m row) ≡ map mode_form (take row.count (drop row.first m.modes))
@@ -30,11 +27,8 @@ record FormAt (count first : ℕ) (modes : List Mode) (k : ℕ) (f : Form) : Typ
   at : slice_get modes (first + k) ≡ Some mode
   form : mode_form mode ≡ f
 
-no_none : (f : Form) → None ≡ Some f → ⊥
-no_none f h = cc
-
 form_there : (count first : ℕ) (modes : List Mode) (k : ℕ) (f : Form) → slice_get (map mode_form (take count (drop first modes))) k ≡ Some f → FormAt count first modes k f
-form_there zero zero [] k f is = absurd (no_none f is)
+form_there zero zero [] k f is = absurd (cc)
 form_there (suc c) zero (x ∷ rest) zero f is = record { inside = omega arith; mode = x; at = refl; form = same_some _ _ is }
 form_there (suc c) zero (x ∷ rest) (suc k) f is =
     let w = form_there c zero rest k f is in
@@ -43,7 +37,7 @@ form_there (suc c) zero (x ∷ rest) (suc k) f is =
 form_there count (suc n) (x ∷ rest) k f is =
     let w = form_there count n rest k f is in
     record { inside = w.inside; mode = w.mode; at = let e : suc n + k ≡ suc (n + k) = omega arith in ap (slice_get (x ∷ rest)) e ∙ w.at; form = w.form }
-form_there _ _ _ k f is = absurd (no_none f is)
+form_there _ _ _ k f is = absurd (cc)
 
 -- how many levels of a type come before its targets among its positions
 abbrev pub skipped : Role → ℕ

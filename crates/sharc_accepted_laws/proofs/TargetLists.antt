@@ -1,5 +1,5 @@
 -- What is an element of a list, and what holds of each.
-use Rattle.sharc_accepted_laws.proofs.Imports.{◌≡◌, ◌⊎◌, inl, inr, ⊎_elim, ℕ, zero, suc, ◌<◌, List, [], ◌∷◌, ◌++◌, map, get_or as slice_index_or, slice_get, refl, subst, Some, Contains, AllByRecursion, same_some, none_some, head_there, head_or_tail, tail_there, none_there}
+use Rattle.sharc_accepted_laws.proofs.Imports.{◌≡◌, ◌⊎◌, inl, inr, ⊎_elim, ℕ, zero, suc, List, [], ◌∷◌, ◌++◌, map, get_or as slice_index_or, slice_get, refl, subst, Some, Contains, AllByRecursion, same_some, none_some, head_there, head_or_tail, tail_there, none_there}
 
 pub left_there : {A : Type 0} (a b : List A) (x : A) → Contains a x → Contains (a ++ b) x
 left_there [] b x has = absurd (none_there x has)

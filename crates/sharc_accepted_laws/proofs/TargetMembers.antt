@@ -1,5 +1,5 @@
 -- The fields of structs are good in each element.
-use Rattle.sharc_accepted_laws.proofs.{Imports.{◌≡◌, ℕ, zero, suc, ◌+◌, ◌-◌, ◌<◌, eqb-true, Bool, true, false, cond, List, [], ◌∷◌, length, map, get_or as slice_index_or, refl, ap, sym, ◌∙◌, subst, arith, Option, Some, None, Contains, false≢true, le-ltb, ltb-true, ltb-false, eq-eqb, AllByRecursion, slice_get, Base, Mode, Path, Declaration, WrittenType, Kind, object, is_pointer, declared_kind, Resolution, named_at, field_place_named, is_mutex_kind, is_behind_pointer, top_of, Assignment, written, declared_row, modes_of, Lock, lock_of, FieldMode, Under, Field, no_field, FieldMode as field, form_of, shape_of, shapes, is_private_mode, starts_private, locked_mode, written_mode, field_mode, base_content, pointer_content, member, members, targets_of, field_lock, same_some, none_some, head_there, some_there, tail_there, below_there}, TargetCells.member_count, Good.{IsOwn, AreGood, private_mode_is, private_racy, not_pointer, mutex_base, plain_good, pointer_good, readonly_behind, dynamic_behind, private_behind, readonly_private, dynamic_private, readonly_racy, dynamic_racy, under_private, under_racy, under_behind}, TargetLists.place_there, Table.{IsGood, IsBeside, AreBeside, racy_behind, mode_racy as racy_private}}
+use Rattle.sharc_accepted_laws.proofs.{Imports.{◌≡◌, ℕ, zero, suc, ◌+◌, ◌-◌, ◌<◌, eqb-true, Bool, true, false, cond, List, [], ◌∷◌, length, map, get_or as slice_index_or, refl, ap, sym, ◌∙◌, subst, arith, Option, Some, None, Contains, false≢true, le-ltb, ltb-true, ltb-false, eq-eqb, AllByRecursion, slice_get, Base, Mode, Path, Declaration, WrittenType, Kind, object, is_pointer, declared_kind, Resolution, named_at, field_place_named, is_mutex_kind, is_behind_pointer, top_of, Assignment, written, declared_row, modes_of, Lock, lock_of, FieldMode, Under, Field, no_field, FieldMode as field, form_of, shape_of, shapes, is_private_mode, starts_private, locked_mode, written_mode, field_mode, base_content, pointer_content, member, members, targets_of, field_lock, same_some, none_some, head_there, some_there, tail_there, below_there}, TargetCells.member_count, Good.{IsOwn, AreGood, private_mode_is, not_pointer, mutex_base, plain_good, pointer_good}, TargetLists.place_there, Table.{IsGood, IsBeside, AreBeside}}
 
 -- ---- kinds
 pub mutex_pointer : (k : Kind) → is_mutex_kind k ≡ true → is_pointer k ≡ false
@@ -24,44 +24,36 @@ private_by true q other is never h = is refl
 private_by false q other is never h = absurd (never h)
 
 racy_by : (c : Bool) (other : FieldMode) → (other ≡ field.Racy → ⊥) → cond c field.Private other ≡ field.Racy → ⊥
-racy_by true other never h = private_racy h
+racy_by true other never h = cc
 racy_by false other never h = never h
-
-behind_private : (a p : ℕ) → field.Behind a p ≡ field.Private → ⊥
-behind_private a p h = cc
-
-behind_racy : (a p : ℕ) → field.Behind a p ≡ field.Racy → ⊥
-behind_racy a p h = cc
 
 locked_private : (r : Resolution) (n : ℕ) (q : FieldMode) (l : Lock) → locked_mode r n q l ≡ field.Private → q ≡ field.Private
 locked_private r n q l h = by (is_behind_pointer r l) h
   where
     by : (b : Bool) → cond b (cond (is_private_mode q) field.Private (field.Behind n (field_place_named r (named_at r l.first)))) (Under (field_lock r n l)) ≡ field.Private → q ≡ field.Private
-    by true h = private_by (is_private_mode q) q (field.Behind n (field_place_named r (named_at r l.first))) (private_mode_is q) (λ e. behind_private _ _ e) h
-    by false h = absurd (under_private _ h)
+    by true h = private_by (is_private_mode q) q (field.Behind n (field_place_named r (named_at r l.first))) (private_mode_is q) (λ e. cc) h
+    by false h = absurd (cc)
 
 locked_racy : (r : Resolution) (n : ℕ) (q : FieldMode) (l : Lock) → locked_mode r n q l ≡ field.Racy → ⊥
 locked_racy r n q l h = by (is_behind_pointer r l) h
   where
     by : (b : Bool) → cond b (cond (is_private_mode q) field.Private (field.Behind n (field_place_named r (named_at r l.first)))) (Under (field_lock r n l)) ≡ field.Racy → ⊥
-    by true h = racy_by (is_private_mode q) (field.Behind n (field_place_named r (named_at r l.first))) (λ e. behind_racy _ _ e) h
-    by false h = under_racy _ h
+    by true h = racy_by (is_private_mode q) (field.Behind n (field_place_named r (named_at r l.first))) (λ e. cc) h
+    by false h = cc
 
 written_private : (r : Resolution) (n : ℕ) (q : FieldMode) (top : Option Mode) → (top ≡ Some Mode.Private → ⊥) → written_mode r n q top ≡ field.Private → q ≡ field.Private
 written_private r n q None never h = h
 written_private r n q (Some Mode.Private) never h = absurd (never refl)
-written_private r n q (Some Mode.Readonly) never h = private_by (is_private_mode q) q field.Readonly (private_mode_is q) readonly_private h
+written_private r n q (Some Mode.Readonly) never h = private_by (is_private_mode q) q field.Readonly (private_mode_is q) (λ e. cc) h
 written_private r n q (Some (Mode.Locked path)) never h = locked_private r n q (lock_of path) h
-written_private r n q (Some Mode.Racy) never h = absurd (racy_private h)
-written_private r n q (Some Mode.Dynamic) never h = absurd (dynamic_private h)
+written_private r n q _ never h = absurd (cc)
 
 written_racy : (r : Resolution) (n : ℕ) (q : FieldMode) (top : Option Mode) → (q ≡ field.Racy → ⊥) → (top ≡ Some Mode.Racy → ⊥) → written_mode r n q top ≡ field.Racy → ⊥
 written_racy r n q None other never h = other h
-written_racy r n q (Some Mode.Private) other never h = private_racy h
-written_racy r n q (Some Mode.Readonly) other never h = racy_by (is_private_mode q) field.Readonly readonly_racy h
+written_racy r n q (Some Mode.Readonly) other never h = racy_by (is_private_mode q) field.Readonly (λ e. cc) h
 written_racy r n q (Some (Mode.Locked path)) other never h = locked_racy r n q (lock_of path) h
 written_racy r n q (Some Mode.Racy) other never h = never refl
-written_racy r n q (Some Mode.Dynamic) other never h = dynamic_racy h
+written_racy r n q _ other never h = cc
 
 -- what is locked behind a pointer
 record IsBehindOf (r : Resolution) (n : ℕ) (q : FieldMode) (top : Option Mode) (a p : ℕ) : Type 0 where
@@ -72,38 +64,30 @@ record IsBehindOf (r : Resolution) (n : ℕ) (q : FieldMode) (top : Option Mode)
   own : n ≡ a
   pointer : field_place_named r (named_at r (lock_of path).first) ≡ p
 
-same_own : (a b p s : ℕ) → field.Behind a p ≡ field.Behind b s → a ≡ b
-same_own a b p s h = cc
-
-same_other : (a b p s : ℕ) → field.Behind a p ≡ field.Behind b s → p ≡ s
-same_other a b p s h = cc
-
 not_readonly_behind : (c : Bool) (a p : ℕ) → cond c field.Private field.Readonly ≡ field.Behind a p → ⊥
-not_readonly_behind true a p h = private_behind a p h
-not_readonly_behind false a p h = readonly_behind a p h
+not_readonly_behind true a p h = cc
+not_readonly_behind false a p h = cc
 
 locked_behind : (r : Resolution) (n : ℕ) (q : FieldMode) (path : Path) (a p : ℕ) → locked_mode r n q (lock_of path) ≡ field.Behind a p → IsBehindOf r n q (Some (Mode.Locked path)) a p
 locked_behind r n q path a p h = by (is_behind_pointer r (lock_of path)) (is_private_mode q) refl refl h
   where
     by : (b c : Bool) → is_behind_pointer r (lock_of path) ≡ b → is_private_mode q ≡ c
         → cond b (cond c field.Private (field.Behind n (field_place_named r (named_at r (lock_of path).first)))) (Under (field_lock r n (lock_of path))) ≡ field.Behind a p → IsBehindOf r n q (Some (Mode.Locked path)) a p
-    by true true is e h = absurd (private_behind a p h)
-    by true false is e h = record { path = path; is = refl; behind = is; shared = e; own = same_own n a _ p h; pointer = same_other n a _ p h }
-    by false c is e h = absurd (under_behind _ a p h)
+    by true true is e h = absurd (cc)
+    by true false is e h = record { path = path; is = refl; behind = is; shared = e; own = cc; pointer = cc }
+    by false c is e h = absurd (cc)
 
 written_behind : (r : Resolution) (n : ℕ) (q : FieldMode) (top : Option Mode) (a p : ℕ) → ((b s : ℕ) → q ≡ field.Behind b s → ⊥) → written_mode r n q top ≡ field.Behind a p → IsBehindOf r n q top a p
 written_behind r n q None a p never h = absurd (never a p h)
-written_behind r n q (Some Mode.Private) a p never h = absurd (private_behind a p h)
 written_behind r n q (Some Mode.Readonly) a p never h = absurd (not_readonly_behind (is_private_mode q) a p h)
 written_behind r n q (Some (Mode.Locked path)) a p never h = locked_behind r n q path a p h
-written_behind r n q (Some Mode.Racy) a p never h = absurd (racy_behind a p h)
-written_behind r n q (Some Mode.Dynamic) a p never h = absurd (dynamic_behind a p h)
+written_behind r n q _ a p never h = absurd (cc)
 
 field_behind : (r : Resolution) (n : ℕ) (q : FieldMode) (w : WrittenType) (a p : ℕ) → ((b s : ℕ) → q ≡ field.Behind b s → ⊥) → field_mode r n q w ≡ field.Behind a p → IsBehindOf r n q (top_of w.ctype.levels) a p
 field_behind r n q w a p never h = by (is_mutex_kind (declared_kind w)) h
   where
     by : (b : Bool) → cond b field.Racy (written_mode r n q (top_of w.ctype.levels)) ≡ field.Behind a p → IsBehindOf r n q (top_of w.ctype.levels) a p
-    by true h = absurd (racy_behind a p h)
+    by true h = absurd (cc)
     by false h = written_behind r n q (top_of w.ctype.levels) a p never h
 
 -- a pointer that is written readonly, in data that is not private
@@ -139,7 +123,7 @@ member_good m fields d w shared q n own other = by (is_mutex_kind (declared_kind
     by : (b c : Bool) → is_mutex_kind (declared_kind d.written) ≡ b → is_pointer (declared_kind d.written) ≡ c
         → IsGood (targets_of m) shared (record { mode = cond b field.Racy top; holds = cond c (pointer_content m n d.written.ctype.base (modes_of m (declared_row m.typed written d.name.site.token))) (base_content d.written.ctype.base) })
     by true true is e = absurd (false≢true (sym (mutex_pointer (declared_kind d.written) is) ∙ e))
-    by true false is e = plain_good (targets_of m) shared field.Racy (base_content d.written.ctype.base) (λ h. absurd (racy_private h)) (not_pointer d.written.ctype.base) (λ h. refl)
+    by true false is e = plain_good (targets_of m) shared field.Racy (base_content d.written.ctype.base) (λ h. absurd (cc)) (not_pointer d.written.ctype.base) (λ h. refl)
     by false true is e =
         pointer_good m shared top (shape_of d.written.ctype.base (modes_of m (declared_row m.typed written d.name.site.token))) _ (w.shape e) whole (λ h. absurd (w.shared h))
         (λ h. written_racy m.typed n q (top_of d.written.ctype.levels) other (w.not_racy e) h)

@@ -1,5 +1,5 @@
 -- A lock path in the type of a field that names a field names one of the same struct.
-use Rattle.sharc_accepted_laws.proofs.{Imports.{◌≡◌, ⊎_elim, ℕ, Bool, true, false, List, [], ◌∷◌, ◌++◌, length, refl, sym, ◌∙◌, subst, Option, Some, None, Contains, Mode, Locked, Path, One, Through, Declaration, WrittenType, StructDefinition, IsLow, IsPlaced, Item, structure, global, function, UnknownName, TypeNotAllowed, Named, Scope, Entry, Meaning, look_up, field_of, named_of, Note, fault, refers, fault_unless, first_notes, main_notes, name_notes, path_notes, mode_notes, modes_notes, base_notes, allowed_there, type_notes, Role, sizes_notes, heads_notes, no_heads, field_notes, fields_notes, item_notes, items_notes, main_missing, file_scope, notes_about, Resolution, IsResolved, named_at, structs_in, lock_of, Tells, IsToldOnce, EachNameOnce, OnlyNames, none_some, head_there, head_or_tail, none_there}, TargetLists.{left_there, right_there, either_there}, StaticSiblings.found_there, Noted.{referred_there, no_faults, one_thing}}
+use Rattle.sharc_accepted_laws.proofs.{Imports.{◌≡◌, ⊎_elim, ℕ, Bool, true, false, List, [], ◌∷◌, ◌++◌, length, refl, sym, ◌∙◌, subst, Option, Some, None, Contains, Mode, Locked, Path, One, Through, Declaration, WrittenType, StructDefinition, IsLow, IsPlaced, Item, structure, global, function, UnknownName, TypeNotAllowed, Named, Scope, Entry, look_up, field_of, named_of, Note, fault, refers, fault_unless, first_notes, main_notes, name_notes, path_notes, mode_notes, modes_notes, base_notes, allowed_there, type_notes, Role, sizes_notes, heads_notes, no_heads, field_notes, fields_notes, item_notes, items_notes, main_missing, file_scope, notes_about, Resolution, IsResolved, named_at, structs_in, lock_of, EachNameOnce, OnlyNames, head_there, head_or_tail, none_there}, TargetLists.{left_there, right_there}, StaticSiblings.{found_there, not_field}, Noted.{no_faults, told}}
 use Rattle.sharc_names.specs.Names as meaning
 
 -- ---- what a note of the program says is so
@@ -10,12 +10,6 @@ pub record IsSibling (fields : List Declaration) (f : ℕ) : Type 0 where
   pub is : sibling.name.site.token ≡ f
 
 module _ (once : EachNameOnce) (only : OnlyNames) (r : Resolution) (resolved : IsResolved r) (placed : IsPlaced r.program) (low : IsLow r.program) where
-  told : (note : Note) (token : ℕ) (what : Named) → Contains (notes_about r.program) note → Tells note token what → named_at r token ≡ what
-  told note token what has tells = w.named ∙ ⊎_elim (λ l. absurd (w.not_before (referred_there w.before note token what l tells))) (λ later. ⊎_elim (λ is. one_thing note token w.what what (subst (λ z. Tells z token w.what) is w.tells) tells) (λ l. absurd (w.not_after (referred_there w.after note token what l tells))) (head_or_tail w.note note w.after later)) (either_there w.before (w.note ∷ w.after) note (subst (λ l. Contains l note) w.notes has))
-    where
-      w : IsToldOnce r token
-      w = once r resolved placed low token (only r resolved placed low token (referred_there (notes_about r.program) note token what has tells))
-
   -- ---- the notes of a field's type are notes of the program
   abbrev file : Scope
   file = file_scope r.program.items
@@ -51,23 +45,16 @@ module _ (once : EachNameOnce) (only : OnlyNames) (r : Resolution) (resolved : I
       (left_there _ (sizes_notes file.structs 0 r.program.items) note (right_there (heads_notes no_heads r.program.items) (items_notes file r.program.items) note at))
 
   -- ---- the first name of a path
-  same_field : (t u : ℕ) → Named.Field t ≡ Named.Field u → t ≡ u
-  same_field t u h = cc
-
-  not_field : (m : Meaning) (f : ℕ) → named_of m ≡ Named.Field f → ⊥
-  not_field (meaning.variable d) f h = cc
-  not_field _ f h = cc
-
   by_name : (token : ℕ) (o : Option Entry) (f : ℕ) → ((note : Note) → Contains (name_notes token o) note → Contains (notes_about r.program) note) → named_at r token ≡ Named.Field f → ⊥
   by_name token None f inside is = no_faults (notes_about r.program) token UnknownName (inside _ (head_there _ [])) resolved.typed
-  by_name token (Some e) f inside is = not_field e.meaning f (sym (told (refers token (named_of e.meaning)) token (named_of e.meaning) (inside _ (head_there _ (main_notes token e.meaning))) (refl, refl)) ∙ is)
+  by_name token (Some e) f inside is = not_field r e.meaning f (sym (told once only r resolved placed low (refers token (named_of e.meaning)) token (named_of e.meaning) (inside _ (head_there _ (main_notes token e.meaning))) (refl, refl)) ∙ is)
 
   by_first : (fields : List Declaration) (token : ℕ) (name : List ℕ) (o : Option Declaration) (e : Option Entry) → field_of fields name ≡ o → (f : ℕ)
       → ((note : Note) → Contains (first_notes token o e) note → Contains (notes_about r.program) note) → named_at r token ≡ Named.Field f → IsSibling fields f
   by_first fields token name None e found f inside is = absurd (by_name token e f inside is)
   by_first fields token name (Some d) e found f inside is =
-      let n = told (refers token (Named.Field d.name.site.token)) token (Named.Field d.name.site.token) (inside _ (head_there _ [])) (refl, refl) in
-      record { sibling = d; has = found_there fields name d found; is = same_field _ _ (sym n ∙ is) }
+      let n = told once only r resolved placed low (refers token (Named.Field d.name.site.token)) token (Named.Field d.name.site.token) (inside _ (head_there _ [])) (refl, refl) in
+      record { sibling = d; has = found_there fields name d found; is = cc (sym n ∙ is) }
 
   by_path : (fields : List Declaration) (path : Path) (f : ℕ) → ((note : Note) → Contains (path_notes file fields path) note → Contains (notes_about r.program) note) → named_at r (lock_of path).first ≡ Named.Field f → IsSibling fields f
   by_path fields (One m token) f inside is = by_first fields token m (field_of fields m) (look_up file.names m) refl f inside is

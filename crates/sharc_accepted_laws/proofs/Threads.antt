@@ -1,5 +1,5 @@
 -- What a new thread is handed.
-use Rattle.sharc_accepted_laws.proofs.Imports.{◌≡◌, inl, inr, ℕ, zero, ◌==◌, Bool, true, false, cond, List, [], ◌∷◌, slice_get, refl, ap, sym, ◌∙◌, subst, arith, Option, Some, None, Contains, Declaration, Expression, argument, no_arguments, value, Named, Resolution, named_at, variable, passed, constant_use, argument_use, written, declared_row, modes_of, Sharing, private, readonly, locked, racy, dynamic, parameters_scope, context_in as in_function, Context, TypeLock, SomeNames, Global, Refers, Label, EntryMentions, HasCopy, AllSame, PassesLock, Passes, argument_type, AreCopies, ArgumentsFit, SpawnedBegin, register, lock_named, locks_at, variable_type, pointers, entry_named, ThreadsPass, none_some}
+use Rattle.sharc_accepted_laws.proofs.Imports.{◌≡◌, inl, inr, ℕ, zero, ◌==◌, Bool, true, false, cond, List, [], ◌∷◌, slice_get, refl, ap, sym, ◌∙◌, subst, arith, Option, Some, None, Contains, Declaration, Expression, argument, no_arguments, value, Named, Resolution, named_at, variable, passed, constant_use, argument_use, written, declared_row, modes_of, Sharing, locked, parameters_scope, context_in as in_function, Context, TypeLock, SomeNames, Global, Refers, Label, EntryMentions, HasCopy, AllSame, PassesLock, Passes, argument_type, AreCopies, ArgumentsFit, SpawnedBegin, register, lock_named, locks_at, variable_type, pointers, entry_named, ThreadsPass, none_some}
 use Rattle.sharc_invariant.specs.Types.{Names}
 
 -- ---- locks that name nothing of a frame
@@ -20,12 +20,9 @@ module _ (one other : Label) (k a r q : ℕ) where
   all_stay : (c : Context) (modes : List Sharing) → ((p : ℕ) → SomeNames p (locks_at c modes) → ⊥) → (xs : List TypeLock) → AllSame (PassesLock one k a) xs (locks_at c modes) → AllSame (PassesLock other r q) xs (locks_at c modes)
   all_stay c [] none [] h = tt
   all_stay c [] none (x ∷ xs) h = absurd h
-  all_stay c (private ∷ rest) none xs h = all_stay c rest none xs h
-  all_stay c (readonly ∷ rest) none xs h = all_stay c rest none xs h
   all_stay c (locked l ∷ rest) none [] h = absurd h
   all_stay c (locked l ∷ rest) none (x ∷ xs) h = (lock_stays c (named_at c.program.typed l.first) l.second (λ p is. none p (inl is)) x h.0, all_stay c rest (λ p is. none p (inr is)) xs h.1)
-  all_stay c (racy ∷ rest) none xs h = all_stay c rest none xs h
-  all_stay c (dynamic ∷ rest) none xs h = all_stay c rest none xs h
+  all_stay c (_ ∷ rest) none xs h = all_stay c rest none xs h
 
 -- ---- the variable of the argument
 abbrev variable_number : Named → ℕ

@@ -1,7 +1,6 @@
 -- Each expression and each lvalue of a function of an accepted program is typable, by their forms.
-use Rattle.sharc_accepted_laws.proofs.{Imports.{◌≡◌, ℕ, zero, suc, ◌+◌, ◌==◌, ◌&&◌, eqb-true, arith, drop, Bool, true, false, cond, List, ◌++◌, refl, ap, sym, ◌∙◌, subst, Option, Some, None, bytes_eq, codes, if◌then◌else◌, false≢true, Base, Site, Span, Identifier, Dot, Arrow, BinaryOperator, LogicalOr, LogicalAnd, Equal, NotEqual, Unlock, Free, UnaryOperator, Negate, Not, Complement, Dereference, is_lvalue, expressions, in_arguments, Expression, identifier, constant, parentheses, call, spawn, on_value, on_place, cast, index, field, unary, binary, Arguments, no_arguments, argument, Function, Named, Kind, object, null, mutex, is_integer, is_pointer, is_array, is_struct_behind, declared_kinds, element_kind, Code, Use, Resolution, named_at, function_at, global_at, kind_at, parameters_of, HasType as IsOfType, element_cells, field_place_named, is_reference, is_mutex_kind, cell_at, Assignment, IsTaken, cast_away, freed, kind_of, is_ref, target_of, mode_of, guard_of, what_names, in_global, in_global_at, in_object_at, global_of, named_target, target, own_field, Context, IsScalar, Either, is_cell, NameSuits, CallSuits, IndexSuits, TakeSuits, OperandsSuit, Suits, ArgumentsSuit, ReferencesSuit, PlaceSuits, StaticType, cells_of, Setting, type_by, IsPointer, ValueTyped, NameTyped, UnaryTyped, ElementTyped, IndexTypable, Takes, CallTyped, CallTypable, IsTypable, IsPlaceTypable, AreTypable, cells_in_each, IsOf, ExpressionStands, entry_of, pointer_of, wants_of, OperandSuits, typing, CellsTyped, ExpressionsAreTypable, setting_of, IsSet}, Arguments.{IsValued, AllSuit, AllGo, Parts, part_of, first_part, second_part, suit_all}, Calls.{call_goes, call_is_typed}, Conditions.known_call, Facts.Laws, Fields.{Inside, TopFits, IsGuard, no_guard, own_guard, top_fits}, Forms.{integer_no_reference, integer_scalar, pointer_reference, reference_scalar, index_pointer, arrow_pointer, star_pointer, cast_operand, free_operand, lock_operand, unlock_operand}, Members.first_of, Spawns.{handed_scalar, spawn_is_typed}}
+use Rattle.sharc_accepted_laws.proofs.{Imports.{is_struct_base, ◌≡◌, ℕ, zero, suc, ◌+◌, ◌==◌, ◌&&◌, eqb-true, arith, drop, Bool, true, false, cond, List, ◌++◌, refl, ap, sym, ◌∙◌, subst, Option, Some, None, bytes_eq, codes, if◌then◌else◌, false≢true, Base, Site, Span, Identifier, Dot, Arrow, BinaryOperator, LogicalOr, LogicalAnd, Equal, NotEqual, Unlock, Free, UnaryOperator, Negate, Not, Complement, Dereference, is_lvalue, expressions, in_arguments, Expression, identifier, constant, parentheses, call, spawn, on_value, on_place, cast, index, field, unary, binary, Arguments, no_arguments, argument, Function, Named, Kind, object, null, mutex, is_integer, is_pointer, is_array, is_struct_behind, declared_kinds, element_kind, Code, Use, Resolution, named_at, function_at, global_at, kind_at, parameters_of, HasType as IsOfType, element_cells, field_place_named, is_reference, is_mutex_kind, cell_at, Assignment, IsTaken, cast_away, freed, kind_of, is_ref, target_of, mode_of, guard_of, what_names, in_global, in_global_at, in_object_at, global_of, named_target, target, own_field, Context, IsScalar, Either, is_cell, NameSuits, CallSuits, IndexSuits, TakeSuits, OperandsSuit, Suits, ArgumentsSuit, ReferencesSuit, PlaceSuits, StaticType, cells_of, Setting, type_by, IsPointer, ValueTyped, NameTyped, UnaryTyped, ElementTyped, IndexTypable, Takes, CallTyped, CallTypable, IsTypable, IsPlaceTypable, AreTypable, cells_in_each, IsOf, ExpressionStands, entry_of, pointer_of, wants_of, OperandSuits, typing, CellsTyped, ExpressionsAreTypable, setting_of, IsSet}, Arguments.{IsValued, AllSuit, AllGo, Parts, part_of, first_part, second_part, suit_all}, Calls.{call_goes, call_is_typed}, Conditions.known_call, Facts.Laws, Fields.{Inside, TopFits, IsGuard, no_guard, own_guard, top_fits}, Forms.{integer_no_reference, integer_scalar, pointer_reference, reference_scalar, index_pointer, arrow_pointer, star_pointer, cast_operand, free_operand, lock_operand, unlock_operand}, Members.first_of, Spawns.{handed_scalar, spawn_is_typed}, Wholes.either_cell}
 use Rattle.sharc_tree.specs.declared.tree.expression.PlaceCall.TheVariants.{Lock}
-use Rattle.sharc_names.specs.Kinds.{function}
 use Rattle.sharc_flat.specs.Suits as suits
 use Rattle.sharc_typed_laws.specs.Typable.{CellTyped, HasType}
 use Rattle.sharc_accepted_laws.proofs.Facts as facts
@@ -36,18 +35,10 @@ scalar_plain : (k : Kind) → IsScalar k → (is_struct_behind 0 k ≡ false) ×
 scalar_plain (object Base.Int zero) h = (refl, refl, refl)
 scalar_plain (object Base.Char zero) h = (refl, refl, refl)
 scalar_plain (object Base.Long zero) h = (refl, refl, refl)
-scalar_plain (object Base.Int (suc n)) h = (ap (λ z. z && false) (more_stars n), refl, refl)
-scalar_plain (object Base.Char (suc n)) h = (ap (λ z. z && false) (more_stars n), refl, refl)
-scalar_plain (object Base.Long (suc n)) h = (ap (λ z. z && false) (more_stars n), refl, refl)
 scalar_plain (object Base.Mutex (suc n)) h = (ap (λ z. z && false) (more_stars n), refl, more_stars n)
-scalar_plain (object Base.Void (suc n)) h = (ap (λ z. z && false) (more_stars n), refl, refl)
-scalar_plain (object (Base.Struct name) (suc n)) h = (ap (λ z. z && true) (more_stars n), refl, refl)
+scalar_plain (object b (suc n)) h = (ap (λ z. z && is_struct_base b) (more_stars n), refl, refl)
 scalar_plain null h = (refl, refl, refl)
 scalar_plain _ h = absurd (false≢true (h refl))
-
-either_cell : (b : Bool) (g n k : ℕ) → is_cell (cond b (in_global_at g n) (in_object_at k)) ≡ true
-either_cell true g n k = refl
-either_cell false g n k = refl
 
 module _ (laws : Laws) (c : Context) (code : Code) (alone : ℕ → Bool) (lines : ℕ) (set : IsSet c.program c.globals code alone) (n : ℕ) (g : Function)
     (cells : CellsTyped (setting_of c.program c.globals code alone lines) c n g) where

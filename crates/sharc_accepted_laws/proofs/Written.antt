@@ -1,44 +1,5 @@
 -- What holds of the modes that are written in a type, and of those that are never written, holds of the modes of all its positions.
-use Rattle.sharc_accepted_laws.proofs.{Imports.{◌≡◌, ⊎_elim, ℕ, zero, suc, ◌+◌, ◌-◌, ◌<◌, ◌≤◌, ◌==◌, Bool, true, false, cond, not, ◌||◌, List, [], ◌∷◌, ◌++◌, length, take, drop, refl, ap, sym, ◌∙◌, subst, arith, Option, Some, None, Contains, eqb-false, or_right, get_or as slice_index_or, AllByRecursion, find, option_or, Base, Mode, Private, Racy, Dynamic, Role, Entity, Numbered, entities_in, numbered_from, positions_of, positions_in, written_modes, first_depth, NodeFinding, Apart, finding_at, IsLeastAssignment, mode_found, Assignment, PathReading, Targets, deeper, targets_from, entity_row, is_mutex, settled, field_target, otherwise_of, settled_modes, settled_in, settled_at, leaves_open, IsEntity, none_some, head_or_tail, none_there}, Settling.settled_length}
-
-in_left : (a b : List (Option Mode)) (k : ℕ) → k < length a → slice_index_or (a ++ b) k (Some Private) ≡ slice_index_or a k (Some Private)
-in_left [] b k low = absurd (omega (arith, low))
-in_left (x ∷ a) b zero low = refl
-in_left (x ∷ a) b (suc k) low = in_left a b k (omega (arith, low))
-
-in_right : (a b : List (Option Mode)) (j k : ℕ) → j ≡ length a + k → slice_index_or (a ++ b) j (Some Private) ≡ slice_index_or b k (Some Private)
-in_right [] b j k e = let z : j ≡ k = omega (arith, e) in ap (λ i. slice_index_or b i (Some Private)) z
-in_right (x ∷ a) b zero k e = absurd (omega (arith, e))
-in_right (x ∷ a) b (suc j) k e = in_right a b j k (omega (arith, e))
-
-pub record Position (list : List Entity) (s : ℕ) (n : Numbered) : Type 0 where
-  pub skip : ℕ
-  pub first : n.first ≡ s + skip
-  pub inside : skip + positions_of n.entity ≤ positions_in list
-  pub levels : (k : ℕ) → k < positions_of n.entity → slice_index_or (settled_in list) (skip + k) (Some Private) ≡ slice_index_or (settled_modes n.entity) k (Some Private)
-
-pub position_there : (list : List Entity) (s : ℕ) (n : Numbered) → Contains (numbered_from s list) n → Position list s n
-position_there [] s n has = absurd (none_there n has)
-position_there (e ∷ rest) s n has = ⊎_elim (λ is. subst (Position (e ∷ rest) s) is here) (λ more. later (position_there rest (s + positions_of e) n more)) (head_or_tail _ n _ has)
-  where
-    size : length (settled_modes e) ≡ positions_of e
-    size = settled_length e.written.ctype.base (otherwise_of e.role e.written.ctype.levels) (written_modes e)
-
-    here : Position (e ∷ rest) s (record { entity = e; first = s })
-    here = record {
-      skip = 0;
-      first = omega arith;
-      inside = omega arith;
-      levels = λ k low. let z : 0 + k ≡ k = omega arith in ap (λ i. slice_index_or (settled_modes e ++ settled_in rest) i (Some Private)) z ∙ in_left (settled_modes e) (settled_in rest) k (omega (arith, low, size));
-    }
-
-    later : Position rest (s + positions_of e) n → Position (e ∷ rest) s n
-    later w = let first = w.first in let inside = w.inside in record {
-      skip = positions_of e + w.skip;
-      first = omega (arith, first);
-      inside = omega (arith, inside);
-      levels = λ k low. in_right (settled_modes e) (settled_in rest) (positions_of e + w.skip + k) (w.skip + k) (omega (arith, size)) ∙ w.levels k low;
-    }
+use Rattle.sharc_accepted_laws.proofs.{Imports.{◌≡◌, ℕ, zero, suc, ◌+◌, ◌-◌, ◌<◌, ◌==◌, Bool, true, false, cond, not, ◌||◌, List, [], ◌∷◌, length, take, drop, refl, ap, sym, ◌∙◌, subst, arith, Option, Some, None, Contains, eqb-false, or_right, get_or as slice_index_or, AllByRecursion, find, option_or, Base, Mode, Private, Racy, Dynamic, Role, Entity, Numbered, entities_in, positions_of, written_modes, first_depth, NodeFinding, Apart, finding_at, IsLeastAssignment, mode_found, Assignment, PathReading, Targets, deeper, targets_from, entity_row, is_mutex, settled, field_target, otherwise_of, settled_modes, settled_in, settled_at, leaves_open, IsEntity, none_some}, Settling.{IsPositioned, positioned}}
 
 -- ---- rows of modes
 abbrev pub raw : Assignment → Targets → List Mode
@@ -116,7 +77,7 @@ module _ (Good : Mode → Type 0) (private_good : Good Private) (racy_good : Goo
   found_good None Apart h = private_good
   found_good None _ h = dynamic_good
 
-  positions_good : (m : Assignment) → IsLeastAssignment m → (n : Numbered) → Position (entities_in m.typed.program.items) 0 n → AllByRecursion LevelGood (settled_modes n.entity)
+  positions_good : (m : Assignment) → IsLeastAssignment m → (n : Numbered) → IsPositioned (entities_in m.typed.program.items) 0 n → AllByRecursion LevelGood (settled_modes n.entity)
       → (k : ℕ) → k < positions_of n.entity → n.first + k < length m.modes → Good (slice_index_or m.modes (n.first + k) Private)
   positions_good m least n w good k low inside =
       let first = w.first in
@@ -135,7 +96,7 @@ module _ (Good : Mode → Type 0) (private_good : Good Private) (racy_good : Goo
       whole = record { first = n.first; count = positions_of n.entity; reading = how }
 
       all : AllByRecursion Good (raw m whole)
-      all = taken Good (positions_of n.entity) n.first m.modes Private (positions_good m least n (position_there (entities_in m.typed.program.items) 0 n is) good)
+      all = taken Good (positions_of n.entity) n.first m.modes Private (positions_good m least n (positioned (entities_in m.typed.program.items) 0 n is) good)
 
       by : (where_ : Role) → AllByRecursion Good (raw m (targets_from where_ whole))
       by Role.Global = deeper_raw m Good whole all

@@ -1,5 +1,5 @@
 -- What a typed operation of a straight piece leaves: registers that it does not write hold what they held, and indexes of globals are past granule 0.
-use Rattle.sharc_typed_laws.proofs.Imports.{◌≡◌, ◌≢◌, ℕ, ◌≤◌, Bool, true, false, cond, ◌||◌, Option, Some, refl, sym, ◌∙◌, subst, ⊎_elim, false≢true, none-some, nat_eq, Code, Char, Int, Long, put, Op, is_straight, writes_ref, writes_int, number_given, Targets, StaticType, Entry, Empty, Refers, Unknown, Number, Anything, Exactly, Within, Indexes, OfElement, OfGlobal, Closed, Label, Labels, LessEntry, LessNumber, Less, set_number, fill, empty, forgets, forgotten, without_index, some_names, gated, behind, TypedLine, not_left, not_right}
+use Rattle.sharc_typed_laws.proofs.Imports.{◌≡◌, ◌≢◌, ℕ, ◌≤◌, Bool, true, false, cond, Option, Some, refl, sym, ◌∙◌, subst, ⊎_elim, false≢true, none-some, nat_eq, Code, Char, Int, Long, put, Op, is_straight, writes_ref, writes_int, number_given, Targets, StaticType, Entry, Empty, Refers, Unknown, Number, Anything, Exactly, Within, Indexes, OfElement, OfGlobal, Closed, Label, Labels, LessEntry, LessNumber, Less, set_number, fill, empty, forgets, forgotten, without_index, some_names, gated, behind, TypedLine, not_left, not_right}
 
 -- the number of a cell of a global is none of granule 0
 abbrev pub IsPast : Number → Type 0

@@ -1,5 +1,5 @@
 -- Flat code that is typed whatever checks are remembered is typed with those that are.
-use Rattle.sharc_typed_laws.proofs.{Imports.{◌⊎◌, ◌≡◌, ℕ, zero, suc, ◌+◌, ◌<◌, ◌≤◌, Bool, true, false, ◌&&◌, ◌||◌, List, [], ◌∷◌, length, Option, Some, None, refl, sym, ap, ◌∙◌, subst, inl, inr, ⊎_elim, arith, cases_lt, or_right, nat_tests, same_Some, none-some, slice_get, slice_index_or, nat_lt, ◌==◌, if◌then◌else◌, Read, Write, Code, Row as Function, Cell, no_function, Op, Flat, flat_function, leads_to, is_target, is_led_to, line_leads, is_entry, SimplePlace, in_variable, Access, access, tells, Know, place_of, known, has_passed, drops, drops_at, dropped, Targets, StaticType, Field, Pass, IsIn, Label, Labels, Less, IsScoped, HasField, Covers, ints_in, refs_in, entry_label, FlatLabels, TypedLine, IsTypedFlat, To, is_write, pass_at, passes_next, passes_after, passes_before, passes_in, with_passes, with_all, with_checks, remembered, IsPassed, RepeatsCheck, Knows, IsTypedAnyhow, eq_refl, and_right}, Checking.pass_is, Passing.{was_passed, covers, pass_eq, goes_on}, Lines.{within as line_within}}
+use Rattle.sharc_typed_laws.proofs.{Imports.{◌⊎◌, ◌≡◌, ℕ, zero, suc, ◌+◌, ◌<◌, ◌≤◌, Bool, true, false, ◌||◌, List, [], ◌∷◌, length, Option, Some, None, refl, sym, ap, ◌∙◌, subst, inl, inr, ⊎_elim, arith, cases_lt, or_right, nat_tests, same_Some, none-some, slice_get, slice_index_or, nat_lt, ◌==◌, if◌then◌else◌, Read, Write, Code, Row as Function, Cell, no_function, Op, Flat, flat_function, leads_to, is_target, is_led_to, line_leads, is_entry, SimplePlace, in_variable, Access, access, tells, Know, place_of, known, has_passed, drops, drops_at, dropped, Targets, StaticType, Field, Pass, IsIn, Label, Labels, Less, IsScoped, HasField, Covers, ints_in, refs_in, entry_label, FlatLabels, TypedLine, IsTypedFlat, To, is_write, pass_at, passes_next, passes_after, passes_before, passes_in, with_passes, with_all, with_checks, remembered, IsPassed, RepeatsCheck, Knows, IsTypedAnyhow, eq_refl, and_right}, Checking.pass_is, Passing.{was_passed, covers, pass_eq, goes_on}, Lines.{within as line_within}}
 use Rattle.sharc_heap.specs.declared.shadow_word.Kind.{Kind}
 use Rattle.sharc_guard.specs.Known.{in_global}
 
@@ -32,7 +32,7 @@ field_over : (x : Targets) (code : Code) (l : Label) (ps qs : List Pass) (c : Ce
 field_over x code l ps qs (Cell.Global g p) f h = h
 field_over x code l ps qs _ f h = h
 
-fields_of : (x : Targets) (code : Code) (ls : Labels) (lines : ℕ) (type : StaticType) (n : ℕ) (l k : Label) (o : Op) → TypedLine x code ls lines false type n l k o → (a : Access) → access o ≡ Some a → (f : Field) × HasField x code l a.cell f
+pub fields_of : (x : Targets) (code : Code) (ls : Labels) (lines : ℕ) (type : StaticType) (n : ℕ) (l k : Label) (o : Op) → TypedLine x code ls lines false type n l k o → (a : Access) → access o ≡ Some a → (f : Field) × HasField x code l a.cell f
 fields_of x code ls lines type n l k (Op.Load i c spot) h a e = let same = same_Some _ a e in subst (λ (a : Access). (f : Field) × HasField x code l a.cell f) same (h.field, h.access.cell.field)
 fields_of x code ls lines type n l k (Op.Store i c spot) h a e = let same = same_Some _ a e in subst (λ (a : Access). (f : Field) × HasField x code l a.cell f) same (h.field, h.access.cell.field)
 fields_of x code ls lines type n l k (Op.LoadRef r c spot) h a e = let same = same_Some _ a e in subst (λ (a : Access). (f : Field) × HasField x code l a.cell f) same (h.field, h.access.cell.field)

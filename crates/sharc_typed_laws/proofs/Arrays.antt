@@ -18,7 +18,7 @@ global_within [] n e = none_of e
 global_within (x ∷ gs) zero e = omega arith
 global_within (x ∷ gs) (suc n) e = let h = global_within gs n e in omega (arith, h)
 
-variable_plain : (d : Option Declaration) → is_array (variable_kind d) ≡ true → ⊥
+pub variable_plain : (d : Option Declaration) → is_array (variable_kind d) ≡ true → ⊥
 variable_plain None e = none_of e
 variable_plain (Some d) e = none_of e
 
@@ -30,11 +30,11 @@ number_plain : (t : NumberType) → is_array (number_kind t) ≡ true → ⊥
 number_plain NumberType.Int e = none_of e
 number_plain NumberType.Long e = none_of e
 
-constant_plain : (k : Constant) → is_array (constant_kind k) ≡ true → ⊥
+pub constant_plain : (k : Constant) → is_array (constant_kind k) ≡ true → ⊥
 constant_plain (Constant.Number n) e = number_plain n.number_type e
 constant_plain _ e = none_of e
 
-element_plain : (k : Kind) → is_array (element_kind k) ≡ true → ⊥
+pub element_plain : (k : Kind) → is_array (element_kind k) ≡ true → ⊥
 element_plain (array b stars) e = none_of e
 element_plain _ e = none_of e
 
@@ -42,12 +42,12 @@ wide_plain : (b : Bool) → is_array (cond b long int) ≡ true → ⊥
 wide_plain true e = none_of e
 wide_plain false e = none_of e
 
-unary_plain : (o : UnaryOperator) (k : Kind) → is_array (unary_result o k) ≡ true → ⊥
+pub unary_plain : (o : UnaryOperator) (k : Kind) → is_array (unary_result o k) ≡ true → ⊥
 unary_plain Not k e = none_of e
 unary_plain Dereference k e = element_plain k e
 unary_plain _ k e = wide_plain (is_long k) e
 
-binary_plain : (o : OperatorClass) (a b : Kind) → is_array (binary_result o a b) ≡ true → ⊥
+pub binary_plain : (o : OperatorClass) (a b : Kind) → is_array (binary_result o a b) ≡ true → ⊥
 binary_plain OperatorClass.Shift a b e = wide_plain (is_long a) e
 binary_plain OperatorClass.Arithmetic a b e = wide_plain (is_long a || is_long b) e
 binary_plain _ a b e = none_of e
@@ -56,7 +56,7 @@ module _ (r : Resolution) where
   abbrev count : ℕ
   count = length (globals_in r.program.items)
 
-  called_plain : (n : Name) → is_array (called_kind r n) ≡ true → ⊥
+  pub called_plain : (n : Name) → is_array (called_kind r n) ≡ true → ⊥
   called_plain (named.Function n) e = result_plain (function_at r n) e
   called_plain _ e = none_of e
 

@@ -1,5 +1,5 @@
 -- An access may be made behind its check, and the check is typed.
-use Rattle.sharc_typed_laws.proofs.{Imports.{◌≡◌, ℕ, ◌+◌, ◌-◌, ◌*◌, ◌≤◌, Bool, true, false, List, ◌∷◌, ◌++◌, Option, Some, None, refl, sym, ap, ◌∙◌, subst, inl, inr, arith, nat_tests, same_Some, none-some, nat_lt, slice_index_or, map, if◌then◌else◌, Code, Row as Function, PlaceMode, Cell, Instr, ChkRead, ChkWrite, ChkLock, ChkLockLoaded, place_at, put_same, put_all, Spot, instr_of, check_under, Targets, Lock, Field, FieldLock, FieldMode, Content, cells_of, Global, Self, OfType, OfGlobals, OfSameElement, Private, Readonly, Racy, Dynamic, Under, Behind, Entry, Refers, Element, Nth, Number, OfElement, OfGlobal, Gate, Closed, Checked, Holds, HoldsLoaded, Pass, Label, Labels, Less, IsCopy, gated, HasField, HasCell, IsPlace, IsOwn, Directly, Earlier, Covers, MayAccess, Accesses, IsNotSole, IsMode, IsLockMode, IsTypeMode, LeadsChecked, knows_base, no_lock, less_refl, all_at, Steps, Chain, lock_of, global_pass, global_element_pass, element_pass, pass_of, with_pass, held_gate, known_behind, gate_behind, passed_behind, behind, before_check, IsLockedBy, IsGuardedBy, MayPass, PassesCheck}, TypedAlike.{has_field, has_cell, sibling, mutex_of, mode_is, place_is}}
+use Rattle.sharc_typed_laws.proofs.{Imports.{◌≡◌, ℕ, ◌+◌, ◌-◌, ◌*◌, ◌≤◌, Bool, true, false, List, ◌∷◌, ◌++◌, Option, Some, None, refl, sym, ap, ◌∙◌, subst, inl, inr, arith, nat_tests, same_Some, none-some, nat_lt, slice_index_or, map, if◌then◌else◌, Code, Row as Function, PlaceMode, Cell, Instr, ChkRead, ChkWrite, ChkLock, ChkLockLoaded, place_at, put_same, put_all, Spot, instr_of, check_under, Targets, Lock, Field, FieldLock, FieldMode, cells_of, Global, Self, OfType, OfGlobals, OfSameElement, Private, Readonly, Racy, Dynamic, Under, Behind, Entry, Refers, Element, Nth, Number, OfElement, OfGlobal, Gate, Closed, Checked, Holds, HoldsLoaded, Pass, Label, Labels, Less, IsCopy, gated, HasField, HasCell, IsPlace, IsOwn, Directly, Earlier, Covers, MayAccess, Accesses, IsNotSole, IsMode, IsLockMode, IsTypeMode, LeadsChecked, knows_base, no_lock, less_refl, all_at, Steps, Chain, lock_of, global_pass, global_element_pass, element_pass, pass_of, with_pass, held_gate, known_behind, gate_behind, passed_behind, behind, before_check, IsLockedBy, IsGuardedBy, MayPass, PassesCheck}, TypedAlike.{has_field, has_cell, sibling, mutex_of, mode_is, place_is}, Weaker.may_among}
 use Rattle.sharc_invariant.specs.Typed.{HasBase}
 
 -- ---- the check as one that is remembered
@@ -138,22 +138,13 @@ module _ (x : Targets) (code : Code) (ls : Labels) (l : Label) (write : Bool) (c
 
   -- the check of a locked cell
   under : (dropped : Bool) (f : Field) (lock : FieldLock) (mode : PlaceMode) → IsLocked mode → l.gate ≡ Closed → IsLockedBy x code l lock c (lock_of spot mode) → Passed dropped f mode (Under lock)
-  under true f lock (PlaceMode.LockedGlobal g p) is closed h = let m = Cell.Global g p in record {
+  under true f lock PlaceMode.Private is closed h = absurd is
+  under _ f lock (PlaceMode.LockedGlobal g p) is closed h = let m = Cell.Global g p in record {
     check = (closed, (h.field, h.has, h.mutex), leads_held x code l (Holds m) m);
     may = (m, h.field, refl, cell_held x code l (Holds m) m h.field h.has, h.mutex, mutex_of l (knows_base l m).known (Holds m) l.passed code lock c m h.is);
     apart = tt;
   }
-  under false f lock (PlaceMode.LockedGlobal g p) is closed h = let m = Cell.Global g p in record {
-    check = (closed, (h.field, h.has, h.mutex), leads_held x code l (Holds m) m);
-    may = (m, h.field, refl, cell_held x code l (Holds m) m h.field h.has, h.mutex, mutex_of l (knows_base l m).known (Holds m) l.passed code lock c m h.is);
-    apart = tt;
-  }
-  under true f lock (PlaceMode.LockedThrough r p) is closed h = let m = Cell.Object r p in record {
-    check = (closed, (h.field, h.has, h.mutex), leads_held x code l (Holds m) m);
-    may = (m, h.field, refl, cell_held x code l (Holds m) m h.field h.has, h.mutex, mutex_of l (knows_base l m).known (Holds m) l.passed code lock c m h.is);
-    apart = tt;
-  }
-  under false f lock (PlaceMode.LockedThrough r p) is closed h = let m = Cell.Object r p in record {
+  under _ f lock (PlaceMode.LockedThrough r p) is closed h = let m = Cell.Object r p in record {
     check = (closed, (h.field, h.has, h.mutex), leads_held x code l (Holds m) m);
     may = (m, h.field, refl, cell_held x code l (Holds m) m h.field h.has, h.mutex, mutex_of l (knows_base l m).known (Holds m) l.passed code lock c m h.is);
     apart = tt;
@@ -225,18 +216,7 @@ module _ (x : Targets) (code : Code) (ls : Labels) (l : Label) (write : Bool) (c
       plain false = refl
   chain_check fs _ _ labels is k step h = (step, h)
 
--- ---- the access itself, among labels that agree on functions
-may_all : (x : Targets) (code : Code) (ls : Labels) (k l : Label) (write : Bool) (c : Cell) (holds : Content) (fm : FieldMode) → MayAccess x code ls l write c holds fm → MayAccess x code (all_at ls k) l write c holds fm
-may_all x code ls k l write (Cell.Global g p) holds Private h = h
-may_all x code ls k l write (Cell.GlobalAt g i) holds Private h = h
-may_all x code ls k l write (Cell.Object r i) holds Private h = h
-may_all x code ls k l write (Cell.ObjectAt r i) holds Private h = h
-may_all x code ls k l write c holds Readonly h = h
-may_all x code ls k l write c holds Racy h = h
-may_all x code ls k l write c holds Dynamic h = h
-may_all x code ls k l write c holds (Under lock) h = h
-may_all x code ls k l write c holds (Behind field pointer) h = h
-
+-- ---- the access itself
 more_behind : (x : Targets) (code : Code) (l : Label) (spot : Spot) (mode : PlaceMode) (r : ℕ) → l.known r ≡ true → known_behind l spot mode r ≡ true
 more_behind x code l spot (PlaceMode.LockedSibling f m) r e = knows_more x code l Closed spot.lock r e
 more_behind x code l spot (PlaceMode.LockedThrough q p) r e = knows_more x code l Closed (Cell.Object q p) r e
@@ -251,7 +231,7 @@ accesses x code ls dropped k l write c spot f n site h =
     let remembered = passed_behind x dropped l write c spot.mode in
     record {
       cell = has_cell l known gate remembered (more_behind x code l spot spot.mode) x code c f h.cell;
-      may = may_all x code ls k (behind x dropped l write c spot) write c f.holds f.mode p.may;
+      may = may_among x code ls ls.at (λ pc. k) (behind x dropped l write c spot) write c f.holds f.mode p.may;
       apart = p.apart;
       mode = subst (IsMode code (behind x dropped l write c spot) c f.mode) (sym site) (mode_is l known gate remembered code c f.mode spot.mode h.mode);
     }

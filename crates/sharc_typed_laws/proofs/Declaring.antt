@@ -1,5 +1,5 @@
 -- A variable that is declared in a block.
-use Rattle.sharc_typed_laws.proofs.{Imports.{◌≡◌, ℕ, ◌+◌, ◌<◌, ◌≤◌, Bool, true, false, cond, ◌||◌, List, [], ◌∷◌, ◌++◌, Option, Some, None, refl, sym, ap, ◌∙◌, subst, ⊎_elim, arith, pos, false≢true, cases_eq, nat_eq, Declaration, Right, Kind, declared_kind, holds, Register, Width, Int, put, put_same, put_other, put_all, Sharing, is_reference, Op, Slot, Context, slot_of, slot_kind, int_count, ref_count, register_from, register_of, width_of, settle_code, with_variable, right_code, zero_code, initial_code, local_code, StaticType, Refers, Number, Anything, Exactly, Within, Label, LessNumber, EntryMentions, fill, set_number, ints_in, refs_in, less_entry_refl, less_number_refl, Mark, Setting, Way, AreOpen, LeadsAmong, RegistersStand, AreLow, mark, Typing, IsTypeIn, Keeps, BeginsReference, BeginsInteger, Begins, declared_label, InitialTypable, StandsBefore, before, LocalsAreTyped, or_false, eq_refl}, Fitting.{fits_same, fits_by}, Standing.{less_by, scoped_frame, stands_number, stands_fill}, Parts.{At, then_do, post, none, constant_at}, Accessed.Frame, Variables.assign_free_at, Expressing.{bare_frame, in_frame, null_at, bare_number}, Simple.{reference_kept, Comes, rights, settled}}
+use Rattle.sharc_typed_laws.proofs.{Imports.{◌≡◌, ℕ, ◌+◌, ◌<◌, ◌≤◌, Bool, true, false, cond, List, [], ◌∷◌, ◌++◌, Option, Some, None, refl, sym, ap, ◌∙◌, subst, ⊎_elim, arith, pos, false≢true, cases_eq, nat_eq, Declaration, Right, Kind, declared_kind, holds, Register, Width, Int, put, put_same, put_other, put_all, Sharing, is_reference, Op, Slot, Context, slot_of, slot_kind, int_count, ref_count, register_from, register_of, width_of, settle_code, with_variable, right_code, zero_code, initial_code, local_code, StaticType, Refers, Number, Anything, Exactly, Within, Label, LessNumber, EntryMentions, fill, set_number, ints_in, refs_in, less_entry_refl, less_number_refl, Mark, Setting, Way, AreOpen, LeadsAmong, RegistersStand, AreLow, mark, Typing, IsTypeIn, Keeps, BeginsReference, BeginsInteger, Begins, declared_label, InitialTypable, StandsBefore, before, LocalsAreTyped, or_false, eq_refl}, Fitting.{fits_same, fits_by}, Standing.{less_by, scoped_frame, stands_number, stands_fill}, Parts.{At, then_do, post, none, constant_at}, Accessed.Frame, Variables.assign_free_at, Expressing.{bare_frame, in_frame, null_at, bare_number}, Simple.{reference_kept, Comes, rights, settled}}
 use Rattle.sharc_names.specs.Kinds.{is_pointer}
 
 pub zero_fits : (w : Width) → holds w (pos 0) ≡ true
@@ -120,11 +120,8 @@ abbrev IsNext : Context → Bool → Register → Type 0
 IsNext c is_ref (Register.Int j) = (is_ref ≡ false) × (j ≡ int_count c.scope)
 IsNext c is_ref (Register.Reference q) = (is_ref ≡ true) × (q ≡ ref_count c.scope)
 
-some_none : (p : Bool) → Some p ≡ None → ⊥
-some_none p h = cc
-
 choose : (b p : Bool) (o : Option Bool) (u v w : Register) → cond b (Some p) o ≡ None → (o ≡ None → v ≡ w) → cond b u v ≡ w
-choose true p o u v w h k = absurd (some_none p h)
+choose true p o u v w h k = absurd (cc)
 choose false p o u v w h k = k h
 
 abbrev next_of : Bool → ℕ → ℕ → Register

@@ -1,5 +1,5 @@
 -- The code of an expression is typed, by what the types of the source say of it.
-use Rattle.sharc_typed_laws.proofs.{Imports.{◌≡◌, ℕ, ◌+◌, ◌<◌, ◌≤◌, ◌⊎◌, Bool, true, false, cond, List, [], ◌∷◌, ◌++◌, Option, Some, None, refl, sym, ap, ◌∙◌, subst, inl, inr, ⊎_elim, arith, append_assoc, drop, codes, bytes_eq, false≢true, cases_eq, cases_lt, Site, Span, Identifier, WrittenType, Dot, Arrow, BinaryOperator, LogicalOr, LogicalAnd, Constant, Unlock, Free, Negate, Not, Dereference, Join, Print, span_of, Expression, identifier, constant, parentheses, call, spawn, on_value, on_place, cast, index, field, unary, binary, Arguments, no_arguments, argument, Name as Named, Kind, is_array, is_integer, element_kind, promoted, declared_kinds, Use, Register, Width, Char, Int, put, put_same, put_other, put_all, global_at, structs_in, parameters_named, Sharing, element_cells, field_place_named, global_elements, number_named, constant_value, is_reference, Op, Spot, first_cell, Lvalue, Context, ref_count, register_of, number_in, at_site, Target, variable, in_global, in_global_at, in_object, in_object_at, target, named_target, own_field, global_of, guard_width, copy_code, cell_value_code, cell_take_code, take_code, value_code, index_code, pointee_code, bounds_code, width_of, kind_of, is_ref, target_of, mode_of, what_names, lvalue_in, guard_of, constant_code, named_code, truth_code, compare_code, logical_code, either_code, behind_int, behind_ref, operator_of, first_cell_of, wait_code, with_words, argument_words, condition_code, called_code, passed_code, spawn_code, cast_code, layout_of, expression_code, arguments_code, place_code, Either, is_cell, StaticType, cells_of, MutexWord, Waiters, Entry, Empty, Refers, Element, Number, Anything, Nth, Exactly, Within, Indexes, OfElement, OfGlobal, Closed, Label, Less as LessLabel, LessNumber, LessEntry, LessGate, HasBase, fill, set_number, without_copies, Passes, ints_in, refs_in, wider, less_refl, less_entry_refl, less_number_refl, scoped_fill, Mark, Setting, Way, AreOpen, IsNamed, IsPlain, AreLow, no_type, mark, Typing, IsCopyIn, IsCopyNamed, IsCopyOf, IsPointerCopy, Ground, ReferenceTyped, IsBare, StandsIn, type_by, GoesTo, Widens, ints_behind, refs_behind, AreFree, IsTypeIn, IsVoid, IsNumber, IsPointer, ground_of, CellTyped, VariableTyped, NameTyped, ConstantTyped, UnaryTyped, result_of, ComparedTyped, HasType, AreFields, IndexTypable, ArgumentAt, ArgumentsAt, ResultTyped, CallTyped, HasNoWidth, Goes, Handed, SpawnTyped, FirstCell, IsOne, AreTwo, ConditionTyped, VariableTakes, Takes, TakeTyped, CastTyped, FreeTyped, CallTypable, IsTypable, AreTypable, IsPlaceTypable, none_some}, Fitting.fits_same, Losing.{with_copies, Loses, loses_none, loses_both, loses_taken, stands_lost, less_lost, holds_lost, below, loses_below, loses_there, small_there, lost_fill, copy_kept}, Standing.less_by, Telling.{told, other_than}, Rules.on_nothing, Parts.{P, at_number, at_fill, number_above, does, then_do, none, enter, constant_at, width_at, from_free, false_at, compute_at, negate_at, complement_at, number_dropped, truth_at, compare_at, logical_at, either_at, check_at, pointee_at, print_at, join_at, with_number}, Variables.{local_at, move_at}, Indexes.{element_of, fresh_name}, Accessed.{Frame, placed, indexed, int_value, reference_value, taken_value, holds_over, wider_names}, Casting.{take_variable_at, freed_at, given_at}, Calling.{call_reference, call_number, call_nothing}, Spawning.{spawn_number, spawn_reference}, Waiting.{signalled, broadcasted, waited}, Locking.{locked_at, unlocked_at}, LabelsPlacing.{AreFew, which, bounds_at, finds_object, finds_global}, Preorder.{narrower_before as narrower_through}}
+use Rattle.sharc_typed_laws.proofs.{Imports.{◌≡◌, ℕ, ◌+◌, ◌<◌, ◌≤◌, ◌⊎◌, Bool, true, false, cond, List, [], ◌∷◌, ◌++◌, Option, Some, None, refl, sym, ap, ◌∙◌, subst, inl, inr, ⊎_elim, arith, append_assoc, drop, codes, bytes_eq, false≢true, cases_eq, cases_lt, Site, Span, Identifier, WrittenType, Dot, Arrow, BinaryOperator, LogicalOr, LogicalAnd, Constant, Unlock, Free, Negate, Not, Dereference, Join, Print, span_of, Expression, identifier, constant, parentheses, call, spawn, on_value, on_place, cast, index, field, unary, binary, Arguments, no_arguments, argument, Name as Named, Kind, is_array, is_integer, element_kind, promoted, declared_kinds, Use, Register, Width, Char, put, put_same, put_other, put_all, global_at, structs_in, parameters_named, Sharing, element_cells, field_place_named, global_elements, number_named, constant_value, is_reference, Op, Spot, first_cell, Lvalue, Context, ref_count, register_of, number_in, at_site, Target, variable, in_global, in_global_at, in_object, in_object_at, target, named_target, own_field, global_of, guard_width, copy_code, cell_value_code, cell_take_code, take_code, value_code, index_code, pointee_code, bounds_code, width_of, kind_of, is_ref, target_of, mode_of, what_names, lvalue_in, guard_of, constant_code, named_code, truth_code, compare_code, logical_code, either_code, behind_int, behind_ref, operator_of, first_cell_of, wait_code, with_words, argument_words, condition_code, called_code, passed_code, spawn_code, cast_code, layout_of, expression_code, arguments_code, place_code, Either, is_cell, StaticType, cells_of, MutexWord, Waiters, Entry, Empty, Refers, Element, Number, Anything, Nth, Exactly, Within, Indexes, OfElement, OfGlobal, Closed, Label, Less as LessLabel, LessNumber, LessEntry, LessGate, HasBase, fill, set_number, without_copies, Passes, ints_in, refs_in, wider, less_refl, less_entry_refl, less_number_refl, scoped_fill, Mark, Setting, Way, AreOpen, IsNamed, IsPlain, AreLow, no_type, mark, Typing, IsCopyIn, IsCopyNamed, IsCopyOf, IsPointerCopy, Ground, ReferenceTyped, IsBare, StandsIn, type_by, GoesTo, Widens, ints_behind, refs_behind, AreFree, IsTypeIn, IsVoid, IsNumber, IsPointer, ground_of, CellTyped, VariableTyped, NameTyped, ConstantTyped, UnaryTyped, result_of, ComparedTyped, HasType, AreFields, IndexTypable, ArgumentAt, ArgumentsAt, ResultTyped, CallTyped, HasNoWidth, Goes, Handed, SpawnTyped, FirstCell, IsOne, AreTwo, ConditionTyped, VariableTakes, Takes, TakeTyped, CastTyped, FreeTyped, CallTypable, IsTypable, AreTypable, IsPlaceTypable, none_some}, Fitting.fits_same, Losing.{with_copies, Loses, loses_none, loses_both, loses_taken, stands_lost, less_lost, holds_lost, below, loses_below, loses_there, small_there, lost_fill, copy_kept}, Standing.less_by, Telling.{told, other_than}, Rules.on_nothing, Parts.{P, at_number, at_fill, number_above, does, then_do, none, enter, constant_at, width_at, from_free, false_at, compute_at, negate_at, complement_at, number_dropped, truth_at, compare_at, logical_at, either_at, check_at, pointee_at, print_at, join_at, with_number}, Variables.{local_at, move_at}, Indexes.{element_of, fresh_name}, Accessed.{Frame, placed, indexed, int_value, reference_value, taken_value, holds_over, wider_names}, Casting.{take_variable_at, freed_at, given_at}, Calling.{call_reference, call_number, call_nothing}, Spawning.{spawn_number, spawn_reference}, Waiting.{signalled, broadcasted, waited}, Locking.{locked_at, unlocked_at}, LabelsPlacing.{AreFew, which, bounds_at, finds_object, finds_global}, Preorder.{narrower_before as narrower_through}}
 use Rattle.sharc_tree.specs.{declared.tree.expression.PlaceCall.TheVariants.Lock, declared.tree.expression.UnaryOperator.TheVariants.Complement}
 
 pub no_element : (n : Number) (q : ℕ) → IsPlain n → HasBase n q → ⊥
@@ -410,9 +410,14 @@ module _ (around : Setting) (f : ℕ) (ways : List Way) (y : Typing) (c : Contex
             piece = joins from (mark l from i) (mark k from i) (mark k from i) os [] (number_dropped around f D N top low from i r k fk.at n.number os (mark l from i) n.piece) (none around f D N top low from (mark k from i) (mark k from i) (fits_same around.targets (mark k from i)) (λ z. z));
           }
 
+  -- a number of this width
+  number_value : (from i r : ℕ) (l : Label) (os : List Op) (e : Expression) → IsNumber around f y c e → (w : Width) → LessNumber (Within w) (Within (width_of (kind_of c e))) → (lost : ℕ → ℕ) → Loses N l.same lost
+      → Q from (mark l from i) os (with_number around f D N top low from (with_copies l lost) i (Within w)) → ValueOf from i r l os e
+  number_value from i r l os e is w fits lost loses p = int_by from i r l os e is (record { lost = lost; loses = loses; number = Within w; plain = tt; fits = fits; piece = p })
+
   -- 0 or 1
   truth_value : (from i r : ℕ) (l : Label) (os : List Op) (e : Expression) → IsNumber around f y c e → (lost : ℕ → ℕ) → Loses N l.same lost → Q from (mark l from i) os (with_number around f D N top low from (with_copies l lost) i (Within Char)) → ValueOf from i r l os e
-  truth_value from i r l os e is lost loses p = int_by from i r l os e is (record { lost = lost; loses = loses; number = Within Char; plain = tt; fits = tt; piece = p })
+  truth_value from i r l os e is = number_value from i r l os e is Char tt
 
   not_value : (from i r : ℕ) (l : Label) → F from i r l → (e a : Expression) (os : List Op) → IsNumber around f y c e → HasType around f y c a → ValueOf from i r l os a → ValueOf from i r l (os ++ (truth_code (is_ref c a) i r ++ Op.IsFalse i i ∷ [])) e
   not_value from i r l fr e a os is h v =
@@ -430,14 +435,8 @@ module _ (around : Setting) (f : ℕ) (ways : List Way) (y : Typing) (c : Contex
       let w = width_of (promoted (kind_of c a)) in
       let k = with_copies l n.lost in
       let fk = lost_frame from i r l fr n.lost n.loses in
-      int_by from i r l (os ++ Op.Negate w i i (at_site site) ∷ []) e h.1 (record {
-        lost = n.lost;
-        loses = n.loses;
-        number = Within w;
-        plain = tt;
-        fits = h.3;
-        piece = joins from (mark l from i) (with_number around f D N top low from k i n.number) (with_number around f D N top low from k i (Within w)) os (Op.Negate w i i (at_site site) ∷ []) n.piece (negate_at around f D N top low from i r k fk.at w n.number (at_site site) h.2);
-      })
+      number_value from i r l (os ++ Op.Negate w i i (at_site site) ∷ []) e h.1 w h.3 n.lost n.loses
+      (joins from (mark l from i) (with_number around f D N top low from k i n.number) (with_number around f D N top low from k i (Within w)) os (Op.Negate w i i (at_site site) ∷ []) n.piece (negate_at around f D N top low from i r k fk.at w n.number (at_site site) h.2))
 
   complemented : (from i r : ℕ) (l : Label) → F from i r l → (e a : Expression) (os : List Op) → UnaryTyped around f y c e Complement a → ValueOf from i r l os a → ValueOf from i r l (os ++ Op.Complement i i ∷ []) e
   complemented from i r l fr e a os h v =
@@ -445,14 +444,8 @@ module _ (around : Setting) (f : ℕ) (ways : List Way) (y : Typing) (c : Contex
       let w = width_of (kind_of c a) in
       let k = with_copies l n.lost in
       let fk = lost_frame from i r l fr n.lost n.loses in
-      int_by from i r l (os ++ Op.Complement i i ∷ []) e h.1 (record {
-        lost = n.lost;
-        loses = n.loses;
-        number = Within w;
-        plain = tt;
-        fits = h.2;
-        piece = joins from (mark l from i) (with_number around f D N top low from k i n.number) (with_number around f D N top low from k i (Within w)) os (Op.Complement i i ∷ []) n.piece (complement_at around f D N top low from i r k fk.at w n.number n.fits);
-      })
+      number_value from i r l (os ++ Op.Complement i i ∷ []) e h.1 w h.2 n.lost n.loses
+      (joins from (mark l from i) (with_number around f D N top low from k i n.number) (with_number around f D N top low from k i (Within w)) os (Op.Complement i i ∷ []) n.piece (complement_at around f D N top low from i r k fk.at w n.number n.fits))
 
   -- && and ||, of which the second operand may be left out
   module _ (from i r : ℕ) (l : Label) (fr : F from i r l) (e : Expression) (xs ys : List Op) (is : IsNumber around f y c e) (p : Done from i l xs) (next : (l : Label) → F from i r l → Done from i l ys) where
@@ -516,16 +509,10 @@ module _ (around : Setting) (f : ℕ) (ways : List Way) (y : Typing) (c : Contex
           let k = with_copies l nb.lost in
           let fk = lost_frame from i r l fr nb.lost loses in
           let end = with_number around f D N top low from k i (Within w) in
-          int_by from i r l (xs ++ (ys (i + 1) r ++ Op.Compute w (operator_of o) i i (i + 1) (at_site site) ∷ [])) e is (record {
-            lost = nb.lost;
-            loses = loses;
-            number = Within w;
-            plain = tt;
-            fits = h.result;
-            piece = joins from (mark l from i) (mark X from (i + 1)) end xs (ys (i + 1) r ++ Op.Compute w (operator_of o) i i (i + 1) (at_site site) ∷ []) na.piece
-                (joins from (mark X from (i + 1)) (with_number around f D N top low from (with_copies X nb.lost) (i + 1) nb.number) end (ys (i + 1) r) (Op.Compute w (operator_of o) i i (i + 1) (at_site site) ∷ []) nb.piece
-                (compute_at around f D N top low from i r k fk.at w (operator_of o) na.number nb.number (at_site site) h.wide (λ k. widened na.number (width_of (kind_of c a)) w na.fits (h.first k)) (λ z k. widened nb.number (width_of (kind_of c b)) w nb.fits (h.second z k))));
-          })
+          number_value from i r l (xs ++ (ys (i + 1) r ++ Op.Compute w (operator_of o) i i (i + 1) (at_site site) ∷ [])) e is w h.result nb.lost loses
+          (joins from (mark l from i) (mark X from (i + 1)) end xs (ys (i + 1) r ++ Op.Compute w (operator_of o) i i (i + 1) (at_site site) ∷ []) na.piece
+          (joins from (mark X from (i + 1)) (with_number around f D N top low from (with_copies X nb.lost) (i + 1) nb.number) end (ys (i + 1) r) (Op.Compute w (operator_of o) i i (i + 1) (at_site site) ∷ []) nb.piece
+          (compute_at around f D N top low from i r k fk.at w (operator_of o) na.number nb.number (at_site site) h.wide (λ k. widened na.number (width_of (kind_of c a)) w na.fits (h.first k)) (λ z k. widened nb.number (width_of (kind_of c b)) w nb.fits (h.second z k)))))
 
   -- ---- one statement or expression more is entered
   entered_piece : (from i r : ℕ) (l : Label) → F from i r l → (os : List Op) (e : Mark) → Q from (mark l from i) os e → Q from (mark l from i) (Op.Enter ∷ os) e

@@ -75,14 +75,8 @@ is_element_named : (l : Label) (n : Number) (name : ℕ) → IsElement l (named_
 is_element_named l (Exactly (pos n)) name = refl
 is_element_named l _ name = refl
 
-apart_signs : (n m : ℕ) → negsuc n ≡ pos m → ⊥
-apart_signs n m e = cc
-
 same_nth : (n e : ℕ) → Exactly (pos n) ≡ Exactly (pos e) → Nth n ≡ Nth e
 same_nth n e z = let y : n ≡ e = cc in ap Nth y
-
-apart_name : (name e : ℕ) → Indexes name ≡ Exactly (pos e) → ⊥
-apart_name name e z = cc
 
 value_base : (n : Number) (r q : ℕ) → IsValue n → HasBase n q → q < r
 value_base (OfElement base field e) r q value h = absurd value
@@ -214,7 +208,7 @@ module _ (around : Setting) (f : ℕ) (D : (ℕ → Mark) → Type 0) (named : �
 
     moves : (m : Number) (name : ℕ) → IsPlain m → Fresh (set_number l i m) name → Q (V l i m) (Op.Move (i + 1) i ∷ []) (two (named_number m name) (named_number m name))
     moves (Exactly (pos n)) name plain fresh = moved_same (Exactly (pos n)) tt
-    moves (Exactly (negsuc n)) name plain fresh = moved_named (Exactly (negsuc n)) name plain fresh (λ x k q z. apart_signs n q z)
+    moves (Exactly (negsuc n)) name plain fresh = moved_named (Exactly (negsuc n)) name plain fresh (λ x k q z. cc)
     moves Anything name plain fresh = moved_named Anything name plain fresh (λ x k q z. z)
     moves (Within w) name plain fresh = moved_named (Within w) name plain fresh (λ x k q z. z)
     moves _ name plain fresh = absurd plain
@@ -280,4 +274,4 @@ module _ (around : Setting) (f : ℕ) (D : (ℕ → Mark) → Type 0) (named : �
       where
         named_nth : (m : Number) (name e : ℕ) → named_number m name ≡ Exactly (pos e) → element_of m name ≡ Nth e
         named_nth (Exactly (pos n)) name e z = same_nth n e z
-        named_nth _ name e z = absurd (apart_name name e z)
+        named_nth _ name e z = absurd (cc)

@@ -1,5 +1,5 @@
 -- A label that says no more than one that says no more than a third says no more than that.
-use Rattle.sharc_typed_laws.proofs.Imports.{◌≡◌, ℕ, true, List, [], ◌∷◌, sym, ◌∙◌, subst, Width, Char, Int, Long, Lock, Global, Through, Self, Entry, Empty, Refers, Unknown, Number, Anything, Exactly, Within, Indexes, OfElement, OfGlobal, Gate, Closed, Loaded, HoldsLoaded, Sole, Label, Less, SameReference, Itself, IsCopy, HasCopy, Copies, Chained, SameLock, AllSame, LessEntry, Narrower, LessNumber, LessGate, wider}
+use Rattle.sharc_typed_laws.proofs.Imports.{◌≡◌, ℕ, true, List, [], ◌∷◌, sym, ◌∙◌, subst, Width, Char, Int, Long, Lock, Global, Through, Self, Entry, Empty, Refers, Unknown, Number, Anything, Exactly, Within, Gate, Closed, Loaded, HoldsLoaded, Sole, Label, Less, SameReference, Itself, IsCopy, HasCopy, Copies, Chained, SameLock, AllSame, LessEntry, Narrower, LessNumber, LessGate, wider}
 
 pub turned : (l : Label) (p q : ℕ) → SameReference l p q → SameReference l q p
 turned l p q (Itself e) = Itself (sym e)
@@ -44,9 +44,8 @@ module _ (l k : Label) (same : (r : ℕ) → SameReference l r (k.same r)) where
   entry_before : (r : ℕ) (a b c : Entry) → LessEntry l r a b → LessEntry k r b c → LessEntry l r a c
   entry_before r Empty b (Refers z) g h = tt
   entry_before r Unknown Unknown (Refers z) g h = h
-  entry_before r Unknown Empty (Refers z) g h = let e : Unknown ≡ Empty = g in absurd (cc)
+  entry_before r a Empty (Refers z) g h = let e : a ≡ Empty = g in absurd (cc)
   entry_before r Unknown (Refers y) (Refers z) g h = g
-  entry_before r (Refers x) Empty (Refers z) g h = let e : Refers x ≡ Empty = g in absurd (cc)
   entry_before r (Refers x) Unknown (Refers z) g h = absurd h
   entry_before r (Refers x) (Refers y) (Refers z) g h = record { target = g.target ∙ h.target; locks = locks_before r x.locks y.locks z.locks g.locks h.locks }
   entry_before r a b _ g h = subst (LessEntry l r a) h g
@@ -65,10 +64,7 @@ number_before a b Anything g h = tt
 number_before a (Exactly z) (Within w) g h = subst (λ n. LessNumber n (Within w)) (sym g) h
 number_before (Within u) (Within v) (Within w) g h = narrower_before u v w g h
 number_before (Exactly z) (Within v) (Within w) g h = wider v w z h g
-number_before Anything (Within v) (Within w) g h = let e : Anything ≡ Within v = g in absurd (cc)
-number_before (Indexes m) (Within v) (Within w) g h = let e : Indexes m ≡ Within v = g in absurd (cc)
-number_before (OfElement r f d) (Within v) (Within w) g h = let e : OfElement r f d ≡ Within v = g in absurd (cc)
-number_before (OfGlobal x n m d) (Within v) (Within w) g h = let e : OfGlobal x n m d ≡ Within v = g in absurd (cc)
+number_before a (Within v) (Within w) g h = let e : a ≡ Within v = g in absurd (cc)
 number_before a _ _ g h = subst (LessNumber a) h g
 
 gate_before : (a b c : Gate) → LessGate a b → LessGate b c → LessGate a c

@@ -1,5 +1,5 @@
 -- A check that is remembered is one of a variable that stands, or of a cell of a global, which is none of granule 0.
-use Rattle.sharc_typed_laws.proofs.{Imports.{◌≡◌, ◌≢◌, ◌⊎◌, ℕ, zero, suc, ◌+◌, ◌<◌, ◌≤◌, Bool, true, false, cond, List, [], ◌++◌, length, Option, Some, None, refl, sym, ap, ◌∙◌, subst, ⊎_elim, arith, false≢true, nat_tests, same_Some, none-some, slice_get, filter, nat_lt, Cell, Op, Flat, is_straight, is_target, writes_ref, writes_int, number_given, SimplePlace, in_variable, Access, access, tells, nothing, know_next, know_after, variable_place, global_place, place_of, known, drops, Targets, StaticType, Field, Empty, Refers, Element, Named, Nth, OfGlobal, Pass, IsIn, Label, Labels, HasField, AreGlobals, TypedLine, pass_at, pass_of_place, pass_by, stays, passes_after, passes_before, passes_in, with_passes, with_all, IsNumberOf, Knows, Mark, Setting, labels_by, Tells, AreAllLines, unless}, After.{IsPast, OpPast, After, after}, Passing.{of_filter, of_both}, Lines.{found, within}}
+use Rattle.sharc_typed_laws.proofs.{Imports.{◌≡◌, ◌≢◌, ℕ, zero, suc, ◌+◌, ◌<◌, ◌≤◌, Bool, true, false, cond, List, [], ◌++◌, length, Option, Some, None, refl, sym, ap, ◌∙◌, subst, ⊎_elim, arith, false≢true, nat_tests, same_Some, none-some, slice_get, filter, nat_lt, Cell, Op, Flat, is_straight, is_target, writes_ref, writes_int, number_given, SimplePlace, in_variable, Access, access, tells, nothing, know_next, know_after, variable_place, global_place, place_of, known, drops, Targets, StaticType, Field, Empty, Refers, Element, Named, Nth, OfGlobal, Pass, IsIn, Label, HasField, AreGlobals, TypedLine, pass_at, pass_of_place, pass_by, stays, passes_after, passes_before, passes_in, with_passes, with_all, IsNumberOf, Knows, Mark, Setting, labels_by, Tells, AreAllLines, unless}, After.{IsPast, OpPast, After, after}, Passing.{of_filter, of_both}, Lines.{found, within}, Anyhow.fields_of}
 use Rattle.sharc_guard.specs.Known.{in_global}
 
 -- ---- lists
@@ -31,13 +31,6 @@ past_number x l n first count elements (Nth e) is past = omega (arith, is, past)
 past_number x l n first count elements (Named m) is past = absurd is
 
 -- ---- lines
-fields_of : (z : Setting) (ls : Labels) (lines : ℕ) (type : StaticType) (n : ℕ) (l k : Label) (o : Op) → TypedLine z.targets z.code ls lines false type n l k o → (a : Access) → access o ≡ Some a → (f : Field) × HasField z.targets z.code l a.cell f
-fields_of z ls lines type n l k (Op.Load i c spot) h a e = let same = same_Some _ a e in subst (λ (a : Access). (f : Field) × HasField z.targets z.code l a.cell f) same (h.field, h.access.cell.field)
-fields_of z ls lines type n l k (Op.Store i c spot) h a e = let same = same_Some _ a e in subst (λ (a : Access). (f : Field) × HasField z.targets z.code l a.cell f) same (h.field, h.access.cell.field)
-fields_of z ls lines type n l k (Op.LoadRef r c spot) h a e = let same = same_Some _ a e in subst (λ (a : Access). (f : Field) × HasField z.targets z.code l a.cell f) same (h.field, h.access.cell.field)
-fields_of z ls lines type n l k (Op.StoreRef r c spot) h a e = let same = same_Some _ a e in subst (λ (a : Access). (f : Field) × HasField z.targets z.code l a.cell f) same (h.field, h.access.cell.field)
-fields_of z ls lines type n l k o h a e = absurd (none-some a e)
-
 module _ (z : Setting) (owner : ℕ → ℕ) (table : ℕ → Mark) (flat : Flat) (all : AreAllLines z owner table flat) (past : (n : ℕ) (o : Op) → slice_get flat.lines n ≡ Some o → OpPast o)
     (told : (n : ℕ) → n < length flat.lines → Tells z.targets (known flat n) (table n)) (knows : (n : ℕ) (o : Op) (a : Access) → slice_get flat.lines n ≡ Some o → access o ≡ Some a → Knows z.targets (known flat n) (table n).label a.cell) where
   abbrev label : ℕ → Label
@@ -97,7 +90,7 @@ module _ (z : Setting) (owner : ℕ → ℕ) (table : ℕ → Mark) (flat : Flat
         where
           variable : y ≡ v → (label n).env v ≢ Empty
           variable same =
-              let has = fields_of z (with_all (labels_by z table) (λ n. [])) z.lines (table n).replaced n (with_passes (label n) []) (with_passes (label (n + 1)) []) o (bare n o at) a e in
+              let has = fields_of z.targets z.code (with_all (labels_by z table) (λ n. [])) z.lines (table n).replaced n (with_passes (label n) []) (with_passes (label (n + 1)) []) o (bare n o at) a e in
               subst (λ v. (label n).env v ≢ Empty) same (base_full n lt o at a.cell has.0 has.1 y m q)
 
       by : (b : Bool) → IsIn p (cond b (pass_of_place a.kind (place_of (known flat n) a.cell)) []) → (label n).env v ≢ Empty
@@ -161,5 +154,5 @@ module _ (z : Setting) (owner : ℕ → ℕ) (table : ℕ → Mark) (flat : Flat
 
     pub low : (n : ℕ) (o : Op) (a : Access) (g place : ℕ) → slice_get flat.lines n ≡ Some o → access o ≡ Some a → place_of (known flat n) a.cell ≡ Some (in_global g place) → 2 ≤ place
     low n o a g place at e q =
-        let has = fields_of z (with_all (labels_by z table) (λ n. [])) z.lines (table n).replaced n (with_passes (label n) []) (with_passes (label (n + 1)) []) o (bare n o at) a e in
+        let has = fields_of z.targets z.code (with_all (labels_by z table) (λ n. [])) z.lines (table n).replaced n (with_passes (label n) []) (with_passes (label (n + 1)) []) o (bare n o at) a e in
         low_cell n o at a.cell has.0 has.1 (knows n o a at e) g place q

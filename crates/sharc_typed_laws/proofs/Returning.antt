@@ -2,7 +2,7 @@
 use Rattle.sharc_typed_laws.proofs.{Imports.{◌≡◌, ◌≢◌, ℕ, ◌+◌, ◌<◌, ◌≤◌, ◌==◌, ◌⊎◌, Bool, true, false, cond, ◌&&◌, ◌||◌, List, [], ◌∷◌, ◌++◌, drop, Some, refl, sym, ap, ◌∙◌, subst, inl, inr, ⊎_elim, arith, append_assoc, eqb-true, pos, false≢true, ltb-true, cases_eq, cases_lt, either_false, nat_eq, nat_lt, span_of, Expression, value, Kind, object, is_integer, is_integral, Width, put, put_same, put_other, put_all, private, is_reference, Op, Spot, Slot, Context, int_count, ref_count, pops, ends_from, leaves, width_of, width_code, expression_code, zero_code, result_code, Know, know_next, StaticType, Mentions, Entry, Empty, Refers, Number, Anything, Exactly, Within, Closed, IsIn, Label, Less, Itself, LessEntry, LessNumber, LessGate, EntryMentions, HasBase, IsScoped, IsFree, set_number, fill, empty, forgets, forgotten, without_copies, without_index, without_base, ints_in, refs_in, moved_copy, less_refl, less_entry_refl, less_number_refl, scoped_number, Mark, Setting, Way, Tells, Fits, IsLine, AreOpen, LeadsAmong, AreLow, mark, Typing, ValueGoes, RightTypable, StandsBefore, before, back, AreNested, GivesBackBy, GivesBack, ReturnedBy, ReturnTypable, Returns, NothingReturns, ValuesReturn, none_some}, Fitting.fits_same, Standing.{without_same, uncopied}, Telling.{told, other_than}, Rules.on_move, Moves.{on_pop_named, on_move_reference, on_stay}, Handing.on_return, Parts.{At, does, then_do, none, constant_at}, Accessed.Frame, Expressing.{bare_frame, null_at}, Simple.{Comes, reference_kept, number_kept, rights}, Ending.{forgotten_same, forgotten_mentions, forgotten_none}, Declaring.zero_fits, Leaving.leaves_typed, After.forgotten_full}
 
 -- what is a reference is no integer
-no_integer : (k : Kind) → is_reference k ≡ true → is_integer k ≡ false
+pub no_integer : (k : Kind) → is_reference k ≡ true → is_integer k ≡ false
 no_integer (object b n) h = by (nat_lt 0 n) refl h
   where
     apart : (z : Bool) → (n == 0) ≡ z → 0 < n → (z && is_integral b) ≡ false

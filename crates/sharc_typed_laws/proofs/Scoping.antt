@@ -1,5 +1,5 @@
 -- What is known within a piece names registers of its frame that hold something.
-use Rattle.sharc_typed_laws.proofs.{Imports.{◌≡◌, ◌≢◌, ◌<◌, ◌+◌, ◌*◌, ℕ, Bool, true, false, List, ◌++◌, Option, Some, None, refl, sym, ap, ◌∙◌, subst, inl, ⊎_elim, same_Some, none-some, AllByRecursion, Code, PlaceMode, Cell, put_all, put_other, Op, Spot, Targets, StaticType, Field, FieldMode, Mentions, cells_of, Private, Readonly, Racy, Dynamic, Under, Entry, Empty, Refers, Nth, Number, OfElement, OfGlobal, Gate, Loaded, Sole, Pass, IsIn, Label, Labels, IsScoped, EntryMentions, empty, without_base, HasField, IsMode, knows_base, ints_in, refs_in, kept_pass, scoped_gate, scoped_fill, scoped_empty, global_pass, global_element_pass, element_pass, pass_of, with_pass, known_behind, passed_behind, behind, before_check, lock_of, exchanged, inside, PassesCheck, MayPass, TypedLine}, Checking.global_is}
+use Rattle.sharc_typed_laws.proofs.{Imports.{◌≡◌, ◌≢◌, ◌<◌, ◌+◌, ◌*◌, ℕ, Bool, true, false, List, ◌++◌, Option, Some, None, refl, sym, ap, ◌∙◌, subst, inl, ⊎_elim, same_Some, none-some, AllByRecursion, Code, PlaceMode, Cell, put_all, put_other, Op, Spot, Targets, StaticType, Field, FieldMode, Mentions, cells_of, Under, Entry, Empty, Refers, Nth, Number, OfElement, OfGlobal, Gate, Loaded, Sole, Pass, IsIn, Label, Labels, IsScoped, EntryMentions, empty, without_base, HasField, IsMode, knows_base, ints_in, refs_in, kept_pass, scoped_gate, scoped_fill, scoped_empty, global_pass, global_element_pass, element_pass, pass_of, with_pass, known_behind, passed_behind, behind, before_check, lock_of, exchanged, inside, PassesCheck, MayPass, TypedLine}, Checking.global_is}
 
 -- other things are known of NULL and of checks
 pub over : (ints refs : ℕ) (l : Label) (known : ℕ → Bool) (gate : Gate) (passed : List Pass) → IsScoped ints refs l → ((r : ℕ) → known r ≡ true → l.env r ≢ Empty)

@@ -1,10 +1,10 @@
 -- What the signature of a function says: it names no register of a frame, and a thread may begin with it where its parameters are few.
-use Rattle.sharc_typed_laws.proofs.Imports.{◌≡◌, ◌≢◌, ℕ, ◌+◌, ◌<◌, ◌≤◌, Bool, true, false, cond, ◌||◌, List, [], ◌∷◌, length, map, refl, sym, ap, ◌∙◌, subst, arith, nat_tests, nat_lt, Declaration, WrittenType, Kind, declared_kind, Parameter, Width, function_of, is_reference, slot_of, int_count, ref_count, parameter_of, StaticType, Empty, Refers, Number, Anything, Within, Signature, Labels, EntryMentions, HasBase, HasName, MayStart, Setting, Typing, GivesBackBy, GivesBack, or_false}
+use Rattle.sharc_typed_laws.proofs.Imports.{◌≡◌, ◌≢◌, ℕ, ◌+◌, ◌<◌, ◌≤◌, Bool, true, false, cond, List, [], ◌∷◌, length, map, refl, sym, ap, ◌∙◌, subst, arith, nat_tests, nat_lt, Declaration, WrittenType, Kind, declared_kind, Parameter, Width, function_of, is_reference, slot_of, int_count, ref_count, parameter_of, StaticType, Empty, Refers, Number, Anything, Within, Signature, Labels, EntryMentions, HasBase, HasName, MayStart, Setting, Typing, GivesBackBy, GivesBack, or_false}
 use Rattle.sharc_names.specs.Kinds.{is_pointer}
 use Rattle.sharc_invariant.specs.Typed.{IsPlain}
 
 -- ---- parameters
-declared_reference : (w : WrittenType) → is_reference (declared_kind w) ≡ is_pointer (declared_kind w)
+pub declared_reference : (w : WrittenType) → is_reference (declared_kind w) ≡ is_pointer (declared_kind w)
 declared_reference w = or_false (is_pointer (declared_kind w))
 
 -- a function's only parameter, if it has one, takes the first register of its bank

@@ -1,36 +1,18 @@
 -- Labels of lines are those of the places where their pieces begin, and each piece is typed where it stands.
-use Rattle.sharc_typed_laws.proofs.{Imports.{◌≡◌, ℕ, zero, suc, ◌+◌, ◌≤◌, Bool, true, false, List, [], ◌∷◌, ◌++◌, length, map, Some, refl, sym, ap, ◌∙◌, subst, inl, inr, ⊎_elim, arith, map-append, get_or-append-add, AllByRecursion, slice_get, slice_index_or, Code, PlaceMode, Cell, Instr, Jump, JumpIfZero, JumpIfNull, Call, Return, Load, Store, LoadRef, Exchange, TakeCell, Exit, place_at, Op, Spot, instr_of, check_under, expand, expanded, width, offset, place, source_of, Targets, StaticType, Field, FieldMode, Content, Private, Readonly, Racy, Dynamic, Under, Behind, Label, Labels, Less, IsScoped, IsFree, empty, knows, Fine, Calls, Accesses, MayAccess, ints_in, refs_in, all_at, Steps, Chain, first_or, FlatLabels, outside, inside, before_check, known_behind, gate_behind, passed_behind, labels_from, TypedLine, To, less_refl}, Pieces.pieces, Preorder.less_through, Weaker.steps, Scoping.scoped}
+use Rattle.sharc_typed_laws.proofs.{Imports.{◌≡◌, ℕ, zero, suc, ◌+◌, ◌≤◌, Bool, true, false, List, [], ◌∷◌, ◌++◌, length, map, Some, refl, sym, ap, ◌∙◌, subst, inl, inr, ⊎_elim, arith, map-append, get_or-append-add, AllByRecursion, slice_get, slice_index_or, Code, PlaceMode, Cell, Instr, Jump, JumpIfZero, JumpIfNull, Call, Return, Load, Store, LoadRef, Exchange, TakeCell, Exit, place_at, Op, Spot, instr_of, check_under, expand, expanded, width, offset, place, source_of, Targets, StaticType, Label, Labels, Less, IsScoped, IsFree, empty, knows, Fine, ints_in, refs_in, Steps, Chain, first_or, FlatLabels, outside, inside, before_check, known_behind, gate_behind, passed_behind, labels_from, TypedLine, To, less_refl}, Pieces.pieces, Preorder.less_through, Weaker.{accesses_among, calls_among, steps}, Scoping.scoped}
 
 -- ---- one statement at its place
-module _ (x : Targets) (code : Code) (ls : Labels) (at : ℕ → Label) (k : Label) where
-  may_there : (l : Label) (write : Bool) (c : Cell) (holds : Content) (fm : FieldMode) → MayAccess x code (all_at ls k) l write c holds fm → MayAccess x code (record ls { at = at }) l write c holds fm
-  may_there l write (Cell.Global g p) holds Private h = h
-  may_there l write (Cell.GlobalAt g i) holds Private h = h
-  may_there l write (Cell.Object r i) holds Private h = h
-  may_there l write (Cell.ObjectAt r i) holds Private h = h
-  may_there l write c holds Readonly h = h
-  may_there l write c holds Racy h = h
-  may_there l write c holds Dynamic h = h
-  may_there l write c holds (Under lock) h = h
-  may_there l write c holds (Behind field pointer) h = h
-
-  access_there : (l : Label) (write : Bool) (c : Cell) (site : ℕ) (f : Field) → Accesses x code (all_at ls k) l write c site f → Accesses x code (record ls { at = at }) l write c site f
-  access_there l write c site f h = record { cell = h.cell; may = may_there l write c f.holds f.mode h.may; apart = h.apart; mode = h.mode }
-
-  calls_there : (l : Label) (to ints refs f : ℕ) → Calls code (all_at ls k) l to ints refs f → Calls code (record ls { at = at }) l to ints refs f
-  calls_there l to ints refs f h = record { is = h.is; entry = h.entry; caller = h.caller; from = h.from; from_int = h.from_int; passes = h.passes; numbers = h.numbers; stays = h.stays }
-
 at_place : (x : Targets) (code : Code) (ls : Labels) (at : ℕ → Label) (pc : ℕ) (l : Label) (i : Instr) → Steps x code ls l (at (pc + 1)) i → Fine x code (record ls { at = at }) pc l i
 at_place x code ls at pc l (Jump to) h = absurd h
 at_place x code ls at pc l (JumpIfZero r to) h = absurd h
 at_place x code ls at pc l (JumpIfNull r to) h = absurd h
-at_place x code ls at pc l (Call to ints refs site) h = (h.0, (h.1.0, calls_there x code ls at (at (pc + 1)) l to ints refs h.1.0 h.1.1, h.1.2))
+at_place x code ls at pc l (Call to ints refs site) h = (h.0, (h.1.0, calls_among code ls (λ n. at (pc + 1)) at l to ints refs h.1.0 h.1.1, h.1.2))
 at_place x code ls at pc l (Return site) h = (h.0, (h.1.0, h.1.1, record { result = h.1.2.result; result_int = h.1.2.result_int; empty = h.1.2.empty }))
-at_place x code ls at pc l (Load r c site) h = (h.0, (h.1.0, h.1.1, access_there x code ls at (at (pc + 1)) l false c site h.1.0 h.1.2, h.1.3, h.1.4))
-at_place x code ls at pc l (Store r c site) h = (h.0, h.1, access_there x code ls at (at (pc + 1)) l true c site h.0 h.2, h.3, h.4, h.5)
-at_place x code ls at pc l (LoadRef c site) h = (h.0, h.1, access_there x code ls at (at (pc + 1)) l false c site h.0 h.2, h.3, h.4)
-at_place x code ls at pc l (Exchange r c site) h = (h.0, (h.1.0, h.1.1, access_there x code ls at (at (pc + 1)) l true c site h.1.0 h.1.2, h.1.3, h.1.4, h.1.5, h.1.6, h.1.7))
-at_place x code ls at pc l (TakeCell r c site) h = (h.0, (h.1.0, h.1.1, access_there x code ls at (at (pc + 1)) l true c site h.1.0 h.1.2, h.1.3, h.1.4, h.1.5))
+at_place x code ls at pc l (Load r c site) h = (h.0, (h.1.0, h.1.1, accesses_among x code ls (λ n. at (pc + 1)) at l false c site h.1.0 h.1.2, h.1.3, h.1.4))
+at_place x code ls at pc l (Store r c site) h = (h.0, h.1, accesses_among x code ls (λ n. at (pc + 1)) at l true c site h.0 h.2, h.3, h.4, h.5)
+at_place x code ls at pc l (LoadRef c site) h = (h.0, h.1, accesses_among x code ls (λ n. at (pc + 1)) at l false c site h.0 h.2, h.3, h.4)
+at_place x code ls at pc l (Exchange r c site) h = (h.0, (h.1.0, h.1.1, accesses_among x code ls (λ n. at (pc + 1)) at l true c site h.1.0 h.1.2, h.1.3, h.1.4, h.1.5, h.1.6, h.1.7))
+at_place x code ls at pc l (TakeCell r c site) h = (h.0, (h.1.0, h.1.1, accesses_among x code ls (λ n. at (pc + 1)) at l true c site h.1.0 h.1.2, h.1.3, h.1.4, h.1.5))
 at_place x code ls at pc l i h = h
 
 -- ---- how many labels a piece has
