@@ -1,5 +1,5 @@
 -- The turns of a New before its last: the world stays, and a word of the thread's own block or the top may change.
-use Rattle.sharc_invariant.proofs.{Imports.{◌≡◌, ℕ, zero, suc, ◌+◌, ◌^◌, ◌<◌, ◌≤◌, ◌≢◌, Bool, true, false, cond, List, Option, None, Some, refl, sym, ap, ◌∙◌, subst, ⊎_elim, arith, cases_order, length-set, fun_ext, length, slice_index, slice_set, ◌==◌, THREADS, note_of, epoch_of, Kind, Read, Write, Code, Shape, StateOf, RunsOn, Tries, Stopped, Ended, Stop, Stage, Rests, Makes, Lowers, Links, Names, Hands, Begins, Withdraws, WithdrawsFrom, Leaves, Fits as FitsShape, granules, top_word, Machine, instr_at, may_go, counted, Turn, Global, put, MayTurn, one_thread, bounds, Instr, put_other, put_all, sum_to, Targets, Label, Labels, Fine, IsWellTyped, World, Shut, Heap, Kept, Built, InBlock, IsListed, conc_of, Shows, head_of, is_ended, has_withdrawn, note_number, noted_by, register_of, staged_of, made_turn, KeepsOthers, StopStands, State, Runs, View, view_of, StageStands, SpawnsNow, FramesStand, GateStands, HeapStands, TopStands, label_now}, Listed.{store_ok, within_block, in_use}, Others.OnHold, Quiet.{heap_now, put_self, sum_up, label_held, freed_held, locks_same, heap_stays, sizes_kept}, Changes.{KeepsPart, KeepsLower, conc_now, changed_state}, Stores.{index_put, arena}, Heaps.{apart_stored, built_size, block_word, low_block, built_dead}, Plain.others_stay, Own.begun_in}
+use Rattle.sharc_invariant.proofs.{Imports.{◌≡◌, ℕ, zero, suc, ◌+◌, ◌^◌, ◌<◌, ◌≤◌, ◌≢◌, Bool, true, false, cond, List, Option, None, Some, refl, sym, ap, ◌∙◌, subst, ⊎_elim, arith, cases_order, length-set, fun_ext, length, slice_index, slice_set, ◌==◌, THREADS, note_of, epoch_of, Kind, Read, Write, Code, Shape, StateOf, RunsOn, Tries, Stopped, Ended, Stop, Stage, Rests, Makes, Lowers, Links, Names, Hands, Begins, Withdraws, WithdrawsFrom, Leaves, Fits as FitsShape, granules, top_word, Machine, instr_at, may_go, counted, Turn, Global, put, MayTurn, one_thread, bounds, Instr, put_other, put_all, sum_to, Targets, Label, Labels, Fine, IsWellTyped, World, Shut, Heap, Kept, Built, InBlock, IsListed, conc_of, Shows, head_of, is_ended, has_withdrawn, note_number, noted_by, register_of, staged_of, made_turn, KeepsOthers, StopStands, State, Runs, View, view_of, StageStands, SpawnsNow, FramesStand, GateStands, HeapStands, TopStands, label_now}, TurnAt.{turn_at, turn_stands}, Listed.{store_ok, within_block, in_use}, Others.OnHold, Quiet.{heap_now, put_self, sum_up, label_held, freed_held, locks_same, heap_stays, sizes_kept}, Changes.{KeepsPart, KeepsLower, conc_now, changed_state}, Stores.{index_put, arena}, Heaps.{apart_stored, built_size, block_word, low_block, built_dead}, Plain.others_stay, Own.begun_in}
 
 abbrev pub IsMaking : Stage → Type 0
 IsMaking Rests = Unit {0}
@@ -28,14 +28,8 @@ making_withdrawn _ h order b p = refl
 
 module _ (x : Targets) (code : Code) (s : Shape) (ls : Labels) (wt : IsWellTyped x code ls) (fits : FitsShape code s) (g : Global Machine) (world : World) (st : State x code s ls g world) (tr : Turn)
     (may : MayTurn bounds (one_thread code s) g tr) (r count cells site : ℕ) (is : instr_at code (g.threads tr.thread).at.pc ≡ Instr.New r count cells site) (making : IsMaking (g.threads tr.thread).own.stage) where
-  abbrev t : ℕ
-  t = tr.thread
-
-  abbrev m : Machine
-  m = g.threads tr.thread
-
-  abbrev pub here : Label
-  here = ls.at (g.threads tr.thread).at.pc
+  open turn_at st tr use {t, m, here, view}
+  open turn_stands st tr may use {rn}
 
   pub new_fine : Fine x code ls (g.threads tr.thread).at.pc here (Instr.New r count cells site)
   new_fine = subst (Fine x code ls m.at.pc here) is (wt.fine m.at.pc)
@@ -43,14 +37,8 @@ module _ (x : Targets) (code : Code) (s : Shape) (ls : Labels) (wt : IsWellTyped
   pub new_begun : (pc : ℕ) → (ls.at pc).function ≡ here.function → (pc == 0) ≡ false
   new_begun = begun_in x code ls wt m.at.pc (λ site' z. let q : Instr.New r count cells site ≡ Instr.Start site' = sym is ∙ z in cc) (λ z. let q : Instr.New r count cells site ≡ Instr.Exit = sym is ∙ z in cc)
 
-  abbrev pub rn : Runs x code s ls st.elements world st.heap g tr.thread (g.threads tr.thread)
-  rn = (st.threads tr.thread).runs may.started may.next.runs
-
   now_here : label_now here (instr_at code (g.threads tr.thread).at.pc) (g.threads tr.thread).own.stage ≡ here
   now_here = label_held here (instr_at code m.at.pc) m.own.stage (making_hold m.own.stage making)
-
-  abbrev view : View
-  view = view_of st.elements world tr.thread (g.threads tr.thread)
 
   pub new_top : TopStands x tr.thread view (g.threads tr.thread).at.refs (g.threads tr.thread).at.ints rn.names here
   new_top = subst (TopStands x t view m.at.refs m.at.ints rn.names) now_here rn.top

@@ -1,5 +1,5 @@
 -- The granules of an object that a thread has alone are cleared.
-use Rattle.sharc_invariant.proofs.{Imports.{◌≡◌, ℕ, ℤ, zero, suc, ◌+◌, ◌*◌, ◌/◌, ◌^◌, ◌<◌, ◌≤◌, ◌≢◌, Bool, true, false, List, Some, None, refl, sym, ap, ◌∙◌, subst, ⊎_elim, arith, cases_eq, length-set, fun_ext, length, slice_index, slice_set, min, ◌==◌, THREADS, ShadowLaws, epoch_of, cleared_of, Code, Shape, Stage, Rests, Looks, Clears, granules, first_cell, Machine, instr_at, ref, largest, Turn, Global, put, MayTurn, one_thread, bounds, Instr, put_same, put_other, put_all, GranuleState, Passed, cleared, sum_to, Targets, Gate, Label, Labels, Leads, gated, SoleGate, IsWellTyped, IsUnpassed, RegisterOf, In, Slot, World, Sole, in_ref, WorldInvariant, Heap, Kept, Built, InBlock, lang_of, conc_of, Shows, Reads, staged_of, made_turn, KeepsOthers, State, View, view_of, TopStands, FramesStand, PassStands, GateStands, StageStands, refs_at, size_of_run, suc_times}, Effects.{sole_at, only_slot}, Frames.{Agrees, Low, less_stands, frames_agree}, Accesses.gate_top, Own.runs_at, Quiet.{heap_now, label_held}, Changes.KeepsLow, Walks.{IsWalk, walk_hold, walk_register, walk_state, walked, conc_walked}, Stores.{index_put, arena, MayStore}, Listed.store_ok, Sums.sum_one, Others.loses}
+use Rattle.sharc_invariant.proofs.{Imports.{◌≡◌, ℕ, ℤ, zero, suc, ◌+◌, ◌*◌, ◌/◌, ◌^◌, ◌<◌, ◌≤◌, ◌≢◌, Bool, true, false, List, Some, None, refl, sym, ap, ◌∙◌, subst, ⊎_elim, arith, cases_eq, length-set, fun_ext, length, slice_index, slice_set, min, ◌==◌, THREADS, ShadowLaws, epoch_of, cleared_of, Code, Shape, Stage, Rests, Looks, Clears, granules, first_cell, Machine, instr_at, ref, largest, Turn, Global, put, MayTurn, one_thread, bounds, Instr, put_same, put_other, put_all, GranuleState, Passed, cleared, sum_to, Targets, Gate, Label, Labels, Leads, gated, SoleGate, IsWellTyped, IsUnpassed, RegisterOf, In, Slot, World, Sole, in_ref, WorldInvariant, Heap, Kept, Built, InBlock, lang_of, conc_of, Shows, Reads, staged_of, made_turn, KeepsOthers, State, View, view_of, TopStands, FramesStand, PassStands, GateStands, StageStands, refs_at, size_of_run, suc_times}, TurnAt.turn_at, Effects.{sole_at, only_slot}, Frames.{Agrees, Low, less_stands, frames_agree}, Accesses.gate_top, Own.runs_at, Quiet.{heap_now, label_held}, Changes.KeepsLow, Walks.{IsWalk, walk_hold, walk_register, walk_state, walked, conc_walked}, Stores.{index_put, arena, MayStore}, Listed.store_ok, Sums.sum_one, Others.loses}
 
 -- ---- numbers
 pub cleared_small : (v : ℕ) → cleared_of v < 2 ^ 64
@@ -64,23 +64,10 @@ clear_cases code s elements w heap words t m r n C a b c _ h = absurd h
 module _ (x : Targets) (code : Code) (s : Shape) (ls : Labels) (wt : IsWellTyped x code ls) (g : Global Machine) (world : World) (st : State x code s ls g world) (tr : Turn)
     (may : MayTurn bounds (one_thread code s) g tr) (walk : IsWalk (g.threads tr.thread).own.stage) (begun : ((g.threads tr.thread).at.pc == 0) ≡ false)
     (r : ℕ) (win : world.win tr.thread ≡ Sole ((g.threads tr.thread).at.refs + r)) (unpassed : IsUnpassed (ls.at (g.threads tr.thread).at.pc) r) where
-  abbrev t : ℕ
-  t = tr.thread
-
-  abbrev m : Machine
-  m = g.threads tr.thread
-
-  abbrev here : Label
-  here = ls.at (g.threads tr.thread).at.pc
-
-  abbrev base : ℕ
-  base = (g.threads tr.thread).at.refs
+  open turn_at st tr use {t, m, here, base, view}
 
   abbrev pub object : ℕ
   object = in_ref world (RegisterOf tr.thread ((g.threads tr.thread).at.refs + r))
-
-  abbrev view : View
-  view = view_of st.elements world tr.thread (g.threads tr.thread)
 
   abbrev names : ℕ → ℤ
   names = ((st.threads tr.thread).runs may.started may.next.runs).names

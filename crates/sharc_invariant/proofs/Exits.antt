@@ -1,5 +1,5 @@
 -- The turns of an Exit: it says that the thread returned, withdraws from each granule of its table, and says that it is gone.
-use Rattle.sharc_invariant.proofs.{Imports.{◌≡◌, ℕ, zero, suc, ◌+◌, ◌*◌, ◌^◌, ◌<◌, ◌≤◌, ◌≢◌, ◌⊎◌, ◌||◌, ◌&&◌, Bool, true, false, cond, List, [], None, refl, sym, ap, ◌∙◌, subst, inl, inr, ⊎_elim, arith, ltb-true, cases_eq, cases_lt, nat_tests, set-get_or, length-set, fun_ext, length, slice_index, slice_set, take, nat_lt, nat_eq, ◌==◌, THREADS, Load, Swap, Cas, ShadowLaws, note_of, withdrawn_of, epoch_of, Kind, Read, Write, Code, Shape, StateOf, RunsOn, Tries, Stopped, Ended, Stage, Rests, Makes, Lowers, Links, Names, Hands, Begins, Withdraws, WithdrawsFrom, Leaves, int_of, Fits as FitsShape, granules, granule_at, top_word, shadow_word, next_thread_word, state_word, function_word, argument_word, Machine, instr_at, step_of, at_stage, exit, withdraws, withdrew, row_of, without_own, turn, may_go, counted, Turn, Global, put, MayTurn, after_turn, one_thread, bounds, Instr, put_same, put_other, put_all, Passed, withdrawn, Targets, nothing, Label, Labels, IsIn, Fine, IsWellTyped, In, RegisterOf, ArgumentOf, TypedReference, World, Shut, WorldInvariant, in_ref, put2, set_gran, Heap, Kept, Built, InBlock, lang_of, conc_of, MachineView, Shows, Reads, store, has_returned, is_withdrawing, has_withdrawn, is_ended, is_unread, is_first, argument_of, making_of, note_number, noted_by, register_of, staged_of, logged, shadow_at, cell_at, count_at, length_at, made_turn, KeepsOthers, Effect, Silently, Returns, WithdrawsOf, events_of, StopStands, State, Runs, View, view_of, StageStands, SpawnsNow, NumberStands, EntryStands, FramesStand, GateStands, Threads, Firsts, TopStands, label_now, size_of_run, Followed, changes_objects, objects_now, ne_eq, eq_refl}, Effects.withdraw_ok, Listed.store_ok, Others.{OnHold, loses}, Quiet.{KeepsThread, KeepsMost, heap_now, put_self, sum_up, label_held, freed_held, most_state, started_still, args_still, sizes_kept, part_same}, Changes.{KeepsPart, KeepsLow, lower, conc_now, alike_state}, Turns.{asks_turn, room_of}, Stores.{index_put, arena, shadow_store, stored_within}, Seen.{shadow_stored, put2_off}, Heaps.apart_stored, Clears.part_words, Uncounted.granule_cases, Withdrawn.{is_row, one_more, row_low, first_row, noted_withdraws, wrote_now, withdrawn_reads, withdrawn_small}, Owned.{effect_objects, behind_same}, Frees.{same_le as two_le}, Plain.{others_stay, same_others}}
+use Rattle.sharc_invariant.proofs.{Imports.{◌≡◌, ℕ, zero, suc, ◌+◌, ◌*◌, ◌^◌, ◌<◌, ◌≤◌, ◌≢◌, ◌⊎◌, ◌||◌, ◌&&◌, Bool, true, false, cond, List, [], None, refl, sym, ap, ◌∙◌, subst, inl, inr, ⊎_elim, arith, ltb-true, cases_eq, cases_lt, nat_tests, set-get_or, length-set, fun_ext, length, slice_index, slice_set, take, nat_lt, nat_eq, ◌==◌, THREADS, Load, Swap, Cas, ShadowLaws, note_of, withdrawn_of, epoch_of, Kind, Read, Write, Code, Shape, StateOf, RunsOn, Tries, Stopped, Ended, Stage, Rests, Makes, Lowers, Links, Names, Hands, Begins, Withdraws, WithdrawsFrom, Leaves, int_of, Fits as FitsShape, granules, granule_at, top_word, shadow_word, next_thread_word, state_word, function_word, argument_word, Machine, instr_at, step_of, at_stage, exit, withdraws, withdrew, row_of, without_own, turn, may_go, counted, Turn, Global, put, MayTurn, after_turn, one_thread, bounds, Instr, put_same, put_other, put_all, Passed, withdrawn, Targets, nothing, Label, Labels, IsIn, Fine, IsWellTyped, In, RegisterOf, ArgumentOf, TypedReference, World, Shut, WorldInvariant, in_ref, put2, set_gran, Heap, Kept, Built, InBlock, lang_of, conc_of, MachineView, Shows, Reads, store, has_returned, is_withdrawing, has_withdrawn, is_ended, is_unread, is_first, argument_of, making_of, note_number, noted_by, register_of, staged_of, logged, shadow_at, cell_at, count_at, length_at, made_turn, KeepsOthers, Effect, Silently, Returns, WithdrawsOf, events_of, StopStands, State, Runs, View, view_of, StageStands, SpawnsNow, NumberStands, EntryStands, FramesStand, GateStands, Threads, Firsts, TopStands, label_now, size_of_run, Followed, changes_objects, objects_now, ne_eq, eq_refl}, TurnAt.{turn_at, turn_stands}, Effects.withdraw_ok, Listed.store_ok, Others.{OnHold, loses}, Quiet.{KeepsThread, KeepsMost, heap_now, put_self, sum_up, label_held, freed_held, most_state, started_still, args_still, sizes_kept, part_same}, Changes.{KeepsPart, KeepsLow, lower, conc_now, alike_state}, Turns.{asks_turn, room_of}, Stores.{index_put, arena, shadow_store, stored_within}, Seen.{shadow_stored, put2_off}, Heaps.apart_stored, Clears.part_words, Uncounted.granule_cases, Withdrawn.{is_row, one_more, row_low, first_row, noted_withdraws, wrote_now, withdrawn_reads, withdrawn_small}, Owned.{effect_objects, behind_same}, Frees.{same_le as two_le}, Plain.{others_stay, same_others}}
 
 -- ---- the stages
 abbrev pub IsExiting : Stage → Type 0
@@ -55,14 +55,8 @@ find_granule w cells p (suc n) = ⊎_elim
 
 module _ (x : Targets) (code : Code) (s : Shape) (ls : Labels) (wt : IsWellTyped x code ls) (fits : FitsShape code s) (laws : ShadowLaws) (g : Global Machine) (world : World) (st : State x code s ls g world) (tr : Turn)
     (may : MayTurn bounds (one_thread code s) g tr) (is : instr_at code (g.threads tr.thread).at.pc ≡ Instr.Exit) (exiting : IsExiting (g.threads tr.thread).own.stage) where
-  abbrev t : ℕ
-  t = tr.thread
-
-  abbrev m : Machine
-  m = g.threads tr.thread
-
-  abbrev here : Label
-  here = ls.at (g.threads tr.thread).at.pc
+  open turn_at st tr use {t, m, here, view}
+  open turn_stands st tr may use {rn, low_t as on_t, number}
 
   f : Fine x code ls (g.threads tr.thread).at.pc here Instr.Exit
   f = subst (Fine x code ls m.at.pc here) is (wt.fine m.at.pc)
@@ -70,26 +64,14 @@ module _ (x : Targets) (code : Code) (s : Shape) (ls : Labels) (wt : IsWellTyped
   begun : ((g.threads tr.thread).at.pc == 0) ≡ false
   begun = ne_eq m.at.pc 0 (λ z. let q : Instr.Exit ≡ Instr.Start wt.begin.0 = sym is ∙ ap (instr_at code) z ∙ wt.begin.1 in cc)
 
-  abbrev rn : Runs x code s ls st.elements world st.heap g tr.thread (g.threads tr.thread)
-  rn = (st.threads tr.thread).runs may.started may.next.runs
-
   now_here : (y : Stage) → IsExiting y → label_now here (instr_at code (g.threads tr.thread).at.pc) y ≡ here
   now_here y ey = label_held here (instr_at code m.at.pc) y (exiting_hold y ey)
 
   shut : world.win tr.thread ≡ Shut
   shut = subst (GateStands s world t m) f.0 (subst (λ (l : Label). GateStands s world t m l.gate) (now_here m.own.stage exiting) rn.gate)
 
-  abbrev view : View
-  view = view_of st.elements world tr.thread (g.threads tr.thread)
-
   tp : TopStands x tr.thread view (g.threads tr.thread).at.refs (g.threads tr.thread).at.ints rn.names here
   tp = subst (TopStands x t view m.at.refs m.at.ints rn.names) (now_here m.own.stage exiting) rn.top
-
-  on_t : tr.thread < THREADS
-  on_t = st.begins.few tr.thread may.started
-
-  number : (g.threads tr.thread).own.number ≡ tr.thread
-  number = (st.threads tr.thread).has.number
 
   -- the machine behind such a turn
   abbrev with_stage : StateOf → Stage → Machine
@@ -508,8 +490,7 @@ module _ (x : Targets) (code : Code) (s : Shape) (ls : Labels) (wt : IsWellTyped
 -- ---- all turns of an Exit
 module _ (x : Targets) (code : Code) (s : Shape) (ls : Labels) (wt : IsWellTyped x code ls) (fits : FitsShape code s) (laws : ShadowLaws) (g : Global Machine) (world : World) (st : State x code s ls g world) (tr : Turn)
     (may : MayTurn bounds (one_thread code s) g tr) (is : instr_at code (g.threads tr.thread).at.pc ≡ Instr.Exit) where
-  abbrev n : Machine
-  n = g.threads tr.thread
+  open turn_at st tr use {m as n}
 
   abbrev behind : Global Machine
   behind = after_turn bounds (one_thread code s) g tr

@@ -1,5 +1,5 @@
 -- The thread that makes the turn: where it stands, and where it comes to stand.
-use Rattle.sharc_invariant.proofs.{Imports.{◌≡◌, ℕ, ℤ, zero, suc, ◌+◌, ◌*◌, ◌<◌, ◌≤◌, max, Bool, true, false, List, [], ◌∷◌, Option, Some, None, refl, sym, ap, ◌∙◌, subst, ⊎_elim, arith, mul-le-mul_left, mul_comm, length, slice_index_or, fold, ◌==◌, FRAMES, Code, Function, Instr, Register, Shape, Frame, Stage, Rests, Looks, Clears, Makes, Names, Hands, Begins, Enters, Withdraws, WithdrawsFrom, Leaves, Wakes, Machine, instr_at, function_of, no_function, most_ints, most_refs, may_go, Global, Targets, Gate, Closed, Label, Labels, LessGate, Fine, IsWellTyped, refs_in, ints_in, World, Heap, State, View, BelowStands, FramesStand, frame_at, StageStands, OnClear, OnNew, OnFree, OnSpawn, OnStart, OnExit, OnSignal, Runs, GateStands, TopStands, label_now, view_of, ne_eq, suc_times}, Quiet.label_held, Others.OnHold}
+use Rattle.sharc_invariant.proofs.{Imports.{◌≡◌, ℕ, ℤ, zero, suc, ◌+◌, ◌*◌, ◌<◌, ◌≤◌, max, Bool, true, false, List, [], ◌∷◌, Option, Some, None, refl, sym, ap, ◌∙◌, subst, ⊎_elim, arith, mul-le-mul_left, mul_comm, length, slice_index_or, fold, ◌==◌, FRAMES, Code, Function, Instr, Register, Shape, Frame, Stage, Rests, Looks, Clears, Makes, Names, Hands, Begins, Enters, Withdraws, WithdrawsFrom, Leaves, Wakes, Machine, instr_at, function_of, no_function, most_ints, most_refs, may_go, Global, Targets, Gate, Closed, Label, Labels, LessGate, Fine, IsWellTyped, refs_in, ints_in, World, Heap, State, View, BelowStands, FramesStand, frame_at, StageStands, OnClear, OnNew, OnFree, OnSpawn, OnStart, OnExit, OnSignal, Runs, GateStands, TopStands, label_now, view_of, ne_eq, suc_times}, TurnAt.thread_at, Quiet.label_held, Others.OnHold}
 
 -- ---- instructions of one turn
 abbrev pub is_single : Instr → Bool
@@ -138,11 +138,7 @@ begun_in x code ls wt pc no_start no_exit n e = ne_eq n 0 (λ z. ⊎_elim
 
 module _ (x : Targets) (code : Code) (s : Shape) (ls : Labels) (wt : IsWellTyped x code ls) (g : Global Machine) (world : World) (st : State x code s ls g world) (t : ℕ) (on : g.started t ≡ true) (go : may_go (g.threads t).at.state ≡ true)
     (i : Instr) (is : instr_at code (g.threads t).at.pc ≡ i) (single : is_single i ≡ true) where
-  abbrev pub m : Machine
-  m = g.threads t
-
-  abbrev pub here : Label
-  here = ls.at (g.threads t).at.pc
+  open thread_at st t use {m, here}
 
   pub runs : Runs x code s ls st.elements world st.heap g t (g.threads t)
   runs = (st.threads t).runs on go

@@ -1,5 +1,5 @@
 -- Turns that change no word: registers alone, tests and jumps.
-use Rattle.sharc_invariant.proofs.{Imports.{◌≡◌, ℕ, ℤ, pos, suc, ◌+◌, ◌<◌, ◌≤◌, true, false, cond, List, Option, refl, sym, ap, ◌∙◌, subst, arith, get_or-set_same, get_or-set_other, length-set, fun_ext, length, slice_index, Code, Instr, Shape, Stop, RunsOn, Tries, Stopped, Ended, Rests, Machine, instr_at, goes, goes_to, set_int, stopped, may_go, counted, Global, put, put_same, put_other, put_all, Targets, Closed, Number, Label, Labels, Less, LessGate, Leads, set_number, IsWellTyped, IsInt, World, Shut, Heap, Kept, MachineView, conc_of, Shows, register_of, is_ended, made_turn, KeepsOthers, StopStands, State, View, view_of, vals_of, NumberStands, TopStands, FramesStand, GateStands, Runs, refs_at, types_at, Own as Own', ◌==◌, argument_of, Built, InBlock, ◌≢◌}, Frames.{less_stands, frames_agree, frames_same}, Quiet.{KeepsOwn, KeepsWords, KeepsWorld, heap_now, quiet_state, freed_held, noted_same, conc_plain, sizes_kept}, Others.{stop_at, OnHold, loses}, Own.{is_single, closed_less, runs_at, int_inside, runs, rests, gate, not_begun, begun_before}}
+use Rattle.sharc_invariant.proofs.{Imports.{◌≡◌, ℕ, ℤ, pos, suc, ◌+◌, ◌<◌, ◌≤◌, true, false, cond, List, Option, refl, sym, ap, ◌∙◌, subst, arith, get_or-set_same, get_or-set_other, length-set, fun_ext, length, slice_index, Code, Instr, Shape, Stop, RunsOn, Tries, Stopped, Ended, Rests, Machine, instr_at, goes, goes_to, set_int, stopped, may_go, counted, Global, put, put_same, put_other, put_all, Targets, Closed, Number, Label, Labels, Less, LessGate, Leads, set_number, IsWellTyped, IsInt, World, Shut, Heap, Kept, MachineView, conc_of, Shows, register_of, is_ended, made_turn, KeepsOthers, StopStands, State, View, view_of, vals_of, NumberStands, TopStands, FramesStand, GateStands, Runs, refs_at, types_at, Own as Own', ◌==◌, argument_of, Built, InBlock, ◌≢◌}, TurnAt.thread_at, Frames.{less_stands, frames_agree, frames_same}, Quiet.{KeepsOwn, KeepsWords, KeepsWorld, heap_now, quiet_state, freed_held, noted_same, conc_plain, sizes_kept}, Others.{stop_at, OnHold, loses}, Own.{is_single, closed_less, runs_at, int_inside, runs, rests, gate, not_begun, begun_before}}
 
 -- ---- registers as they are seen
 pub register_plain : (code : Code) (m : Machine) → m.own.stage ≡ Rests → (i : ℕ) → register_of code m i ≡ slice_index m.refs i
@@ -64,11 +64,7 @@ with_own o p = record o { number = p.number; held = p.held; heads = p.heads; tab
 
 module _ (x : Targets) (code : Code) (s : Shape) (ls : Labels) (wt : IsWellTyped x code ls) (g : Global Machine) (world : World) (st : State x code s ls g world) (t : ℕ) (on : g.started t ≡ true) (go : may_go (g.threads t).at.state ≡ true)
     (i : Instr) (is : instr_at code (g.threads t).at.pc ≡ i) (single : is_single i ≡ true) where
-  abbrev m : Machine
-  m = g.threads t
-
-  abbrev here : Label
-  here = ls.at (g.threads t).at.pc
+  open thread_at st t use {m, here, view}
 
   -- the thread's references, world and words stay
   pub plain_state : (m' : Machine) → KeepsOwn (g.threads t) m' → m'.own.table ≡ (g.threads t).own.table → m'.refs ≡ (g.threads t).refs
@@ -95,9 +91,6 @@ module _ (x : Targets) (code : Code) (s : Shape) (ls : Labels) (wt : IsWellTyped
       (subst (FramesStand x code ls t (view_of st.elements w' t m') m') (sym (less.function ∙ fn)) below')
       (subst (GateStands s w' t m') (sym (closed_less new (subst (λ y. LessGate y new) gt less.gate))) shut)
       (λ q. room' (less.room q))
-
-  abbrev pub view : View
-  view = view_of st.elements world t (g.threads t)
 
   below_here : FramesStand x code ls t view (g.threads t) here.function
   below_here = (runs x code s ls wt g world st t on go i is single).below

@@ -1,5 +1,5 @@
 -- Spawn's first three turns keep the invariant: a number is given out, and the function and the argument are written.
-use Rattle.sharc_invariant.proofs.{Imports.{◌≡◌, ℕ, ℤ, pos, zero, suc, ◌+◌, ◌*◌, ◌^◌, ◌<◌, ◌≤◌, ◌≢◌, ◌&&◌, Bool, true, false, cond, List, Option, Some, None, refl, sym, ap, ◌∙◌, subst, inl, inr, ⊎_elim, arith, ltb-true, cases_eq, nat_tests, length-set, get_or-set_same, get_or-set_other, fun_ext, ◌%◌, length, slice_index, slice_set, nat_lt, nat_eq, ◌||◌, ◌==◌, THREADS, Swap, Add, HeldMutex, object_of, Kind, Read, Write, Accesses, note_of, epoch_of, Code, Shape, RunsOn, Stage, Rests, Makes, Lowers, Names, Hands, Begins, Withdraws, WithdrawsFrom, Leaves, holds, int_of, Char, Fits, next_thread_word, state_word, function_word, argument_word, first_cell, top_word, Machine, int, ref, set_int, handed, reference_of, function_of, instr_at, step_of, at_stage, stopped, numbered, argument, spawn, start, begun, turn, may_go, counted, Turn, Global, put, MayTurn, after_turn, one_thread, bounds, Register, Trap, Parameter, Instr, put_same, put_other, put_all, Targets, ObjectType, nothing, is_private, LessGate, Entry, Empty, Refers, Unknown, Number, Anything, Within, Indexes, OfElement, OfGlobal, Named, HasName, empty, set_number, Closed, Label, Labels, Leads, HasBase, IsShared, Passes, IsWellTyped, Fine, Window, TypedReference, RegisterOf, ArgumentOf, In, Slot, CellOf, World, Shut, Sole, WorldInvariant, in_ref, none, place, shift, conc_of, lang_of, Shows, is_first, is_unread, if_reference, note_number, register_of, argument_of, staged_of, noted_by, logged, is_ended, has_withdrawn, set_reg, making_of, store, Silently, made_turn, KeepsOthers, StopStands, State, IsSmall, View, view_of, vals_of, Runs, ThreadStands, Threads, Firsts, Reserves, SpawnsNow, EntryStands, NumberStands, TopStands, FramesStand, GateStands, StageStands, label_now, refs_at, types_at, size_of_run, Turned, Kept, sum_to, ne_eq}, Effects.{place_same, place_other, shift_ok}, Frames.{empty_stands, less_number, filled, less_stands, entry_kept, frames_agree}, Quiet.{KeepsThread, KeepsMost, heap_now, most_state, sum_up, label_held, started_still, args_still, no_argument, sizes_kept, part_put, part_same}, Others.{OnHold, loses}, Turns.{asks_turn, room_of, unseen}, Own.{ref_inside, int_inside, closed_less, runs_at}, Filled.{view_filled, below_filled, free_shut}, Calls.passed_entry, Listed.store_ok, Accesses.back_again, Begun.{begun_stands, begun_regs}, Stores.index_put, Seen.reg_stored, Sums.sum_one, Starts.{register_held, arg_stored}, BitTurns.going_on, Plain.{sim_same, others_stay}, Heaps.low_stored}
+use Rattle.sharc_invariant.proofs.{Imports.{◌≡◌, ℕ, ℤ, pos, zero, suc, ◌+◌, ◌*◌, ◌^◌, ◌<◌, ◌≤◌, ◌≢◌, ◌&&◌, Bool, true, false, cond, List, Option, Some, None, refl, sym, ap, ◌∙◌, subst, inl, inr, ⊎_elim, arith, ltb-true, cases_eq, nat_tests, length-set, get_or-set_same, get_or-set_other, fun_ext, ◌%◌, length, slice_index, slice_set, nat_lt, nat_eq, ◌||◌, ◌==◌, THREADS, Swap, Add, HeldMutex, object_of, Kind, Read, Write, Accesses, note_of, epoch_of, Code, Shape, RunsOn, Stage, Rests, Makes, Lowers, Names, Hands, Begins, Withdraws, WithdrawsFrom, Leaves, holds, int_of, Char, Fits, next_thread_word, state_word, function_word, argument_word, first_cell, top_word, Machine, int, ref, set_int, handed, reference_of, function_of, instr_at, step_of, at_stage, stopped, numbered, argument, spawn, start, begun, turn, may_go, counted, Turn, Global, put, MayTurn, after_turn, one_thread, bounds, Register, Trap, Parameter, Instr, put_same, put_other, put_all, Targets, ObjectType, nothing, is_private, LessGate, Entry, Empty, Refers, Unknown, Number, Anything, Within, Indexes, OfElement, OfGlobal, Named, HasName, empty, set_number, Closed, Label, Labels, Leads, HasBase, IsShared, Passes, IsWellTyped, Fine, Window, TypedReference, RegisterOf, ArgumentOf, In, Slot, CellOf, World, Shut, Sole, WorldInvariant, in_ref, none, place, shift, conc_of, lang_of, Shows, is_first, is_unread, if_reference, note_number, register_of, argument_of, staged_of, noted_by, logged, is_ended, has_withdrawn, set_reg, making_of, store, Silently, made_turn, KeepsOthers, StopStands, State, IsSmall, View, view_of, vals_of, Runs, ThreadStands, Threads, Firsts, Reserves, SpawnsNow, EntryStands, NumberStands, TopStands, FramesStand, GateStands, StageStands, label_now, refs_at, types_at, size_of_run, Turned, Kept, sum_to, ne_eq}, TurnAt.{turn_at, turn_stands}, Effects.{place_same, place_other, shift_ok}, Frames.{empty_stands, less_number, filled, less_stands, entry_kept, frames_agree}, Quiet.{KeepsThread, KeepsMost, heap_now, most_state, sum_up, label_held, started_still, args_still, no_argument, sizes_kept, part_put, part_same}, Others.{OnHold, loses}, Turns.{asks_turn, room_of, unseen}, Own.{ref_inside, int_inside, closed_less, runs_at}, Filled.{view_filled, below_filled, free_shut}, Calls.passed_entry, Listed.store_ok, Accesses.back_again, Begun.{begun_stands, begun_regs}, Stores.index_put, Seen.reg_stored, Sums.sum_one, Starts.{register_held, arg_stored}, BitTurns.going_on, Plain.{sim_same, others_stay}, Heaps.low_stored}
 use Rattle.sharc_tree.specs.declared.trap.Trap.TheVariants as traps
 
 abbrev pub is_spawning : Stage → Bool
@@ -38,20 +38,8 @@ spawning_notes m m' et es er eb ee kind p =
 
 module _ (x : Targets) (code : Code) (s : Shape) (ls : Labels) (wt : IsWellTyped x code ls) (fits : Fits code s) (g : Global Machine) (world : World) (st : State x code s ls g world) (tr : Turn)
     (may : MayTurn bounds (one_thread code s) g tr) (r f : ℕ) (from : Register) (site : ℕ) (is : instr_at code (g.threads tr.thread).at.pc ≡ Instr.Spawn r f from site) (spawning : is_spawning (g.threads tr.thread).own.stage ≡ true) where
-  abbrev t : ℕ
-  t = tr.thread
-
-  abbrev m : Machine
-  m = g.threads tr.thread
-
-  abbrev here : Label
-  here = ls.at (g.threads tr.thread).at.pc
-
-  abbrev view : View
-  view = view_of st.elements world tr.thread (g.threads tr.thread)
-
-  rn : Runs x code s ls st.elements world st.heap g tr.thread (g.threads tr.thread)
-  rn = (st.threads tr.thread).runs may.started may.next.runs
+  open turn_at st tr use {t, m, here, view}
+  open turn_stands st tr may use {rn}
 
   fine : Fine x code ls (g.threads tr.thread).at.pc here (Instr.Spawn r f from site)
   fine = subst (Fine x code ls m.at.pc here) is (wt.fine m.at.pc)
@@ -240,17 +228,14 @@ sum_most (suc n) f c h = let a = sum_most n f c h in let b = h n in let e : suc 
 
 module _ (x : Targets) (code : Code) (s : Shape) (ls : Labels) (wt : IsWellTyped x code ls) (fits : Fits code s) (few : IsSmall code s) (g : Global Machine) (world : World) (st : State x code s ls g world) (tr : Turn)
     (may : MayTurn bounds (one_thread code s) g tr) (r f : ℕ) (from : Register) (site : ℕ) (is : instr_at code (g.threads tr.thread).at.pc ≡ Instr.Spawn r f from site) where
-  abbrev mm : Machine
-  mm = g.threads tr.thread
+  open turn_at st tr use {m as mm}
+  open turn_stands st tr may use {low_t as on_t}
 
   abbrev done_at : Global Machine
   done_at = after_turn bounds (one_thread code s) g tr
 
   abbrev next_number : ℕ
   next_number = slice_index g.words next_thread_word
-
-  on_t : tr.thread < THREADS
-  on_t = st.begins.few tr.thread may.started
 
   settled : (w' : Global Machine) → done_at ≡ w' → State x code s ls w' world → Turned x code s ls g world tr
   settled w' e k = unseen x code s ls g world tr _ e k
@@ -367,7 +352,7 @@ module _ (x : Targets) (code : Code) (s : Shape) (ls : Labels) (wt : IsWellTyped
   small_argument : (from' : Register) → instr_at code (g.threads tr.thread).at.pc ≡ Instr.Spawn r f from' site → is_spawning (g.threads tr.thread).own.stage ≡ true → argument (g.threads tr.thread) from' < 2 ^ 64
   small_argument (Register.Int i) is' sp =
       let v = view_of st.elements world tr.thread mm in
-      let rn' = rn x code s ls wt fits g world st tr may r f (Register.Int i) site is' sp in
+      let rn' = (st.threads tr.thread).runs may.started may.next.runs in
       let fi = (fine x code s ls wt fits g world st tr may r f (Register.Int i) site is' sp).5.2 in
       let tp = subst (TopStands x tr.thread v mm.at.refs mm.at.ints rn'.names) (now_here x code s ls wt fits g world st tr may r f (Register.Int i) site is' sp) rn'.top in
       (back_again fi.0 (int mm i) (less_number x st.elements (refs_at v mm.at.refs) (types_at v mm.at.refs) rn'.names (int mm i) ((ls.at mm.at.pc).ints i) (Within fi.0) fi.1 ((tp 0 (suc i)).numbers i (omega arith)))).1
@@ -612,7 +597,7 @@ module _ (x : Targets) (code : Code) (s : Shape) (ls : Labels) (wt : IsWellTyped
       let m = g.threads tr.thread in
       let new = (ls.at (m.at.pc + 1)).gate in
       let still : w'.win t ≡ Shut = ap (λ (f : ℕ → Window). f t) ew ∙ shut x code s ls wt fits g world st tr may r f from site is sp in
-      let rn' = rn x code s ls wt fits g world st tr may r f from site is sp in
+      let rn' = (st.threads tr.thread).runs may.started may.next.runs in
       let off_n : g.started n ≡ false = (st.begins.started n reserves.few).0 reserves.state in
       let new_thread = begun_stands x code s ls wt st.elements w' (heap_now st.heap begun_words) then_ n (put_other g.threads t n last not_t ∙ waits)
       (λ j. ap (λ (y : TypedReference). y.reference) (ks.regs n not_t j) ∙ begun_regs x code s ls wt g world st n waits j) (ks.win n not_t ∙ (st.threads n).off off_n) in
@@ -667,7 +652,7 @@ module _ (x : Targets) (code : Code) (s : Shape) (ls : Labels) (wt : IsWellTyped
       let here = ls.at m.at.pc in
       let spn : is_spawning m.own.stage ≡ true = ap is_spawning stage in
       let v = view_of st.elements world t m in
-      let rn' = rn x code s ls wt fits g world st tr may r f (Register.Int i) site is spn in
+      let rn' = (st.threads tr.thread).runs may.started may.next.runs in
       let fi = fine x code s ls wt fits g world st tr may r f (Register.Int i) site is spn in
       let tp = subst (TopStands x t v m.at.refs m.at.ints rn'.names) (now_here x code s ls wt fits g world st tr may r f (Register.Int i) site is spn) rn'.top in
       let start = wt.starts f fi.3 in
@@ -727,7 +712,7 @@ module _ (x : Targets) (code : Code) (s : Shape) (ls : Labels) (wt : IsWellTyped
       let here = ls.at m.at.pc in
       let spn : is_spawning m.own.stage ≡ true = ap is_spawning stage in
       let v = view_of st.elements world t m in
-      let rn' = rn x code s ls wt fits g world st tr may r f (Register.Reference q) site is spn in
+      let rn' = (st.threads tr.thread).runs may.started may.next.runs in
       let fi = fine x code s ls wt fits g world st tr may r f (Register.Reference q) site is spn in
       let still = shut x code s ls wt fits g world st tr may r f (Register.Reference q) site is spn in
       let tp = subst (TopStands x t v m.at.refs m.at.ints rn'.names) (now_here x code s ls wt fits g world st tr may r f (Register.Reference q) site is spn) rn'.top in

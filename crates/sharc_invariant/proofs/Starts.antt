@@ -1,5 +1,5 @@
 -- Start keeps the invariant: a thread loads its function, and then its argument, and enters it.
-use Rattle.sharc_invariant.proofs.{Imports.{◌≡◌, ℕ, ℤ, pos, suc, ◌+◌, ◌*◌, ◌^◌, ◌<◌, ◌≢◌, ◌⊎◌, ◌&&◌, Bool, true, false, cond, List, Some, None, refl, sym, ap, ◌∙◌, subst, inl, inr, ⊎_elim, arith, cases_eq, nat_tests, length-set, get_or-set_same, get_or-set_other, set-get_or, fun_ext, length, slice_index, slice_index_or, slice_set, nat_lt, ◌==◌, THREADS, Load, HeldMutex, object_of, Kind, Read, Write, Accesses, note_of, FRAMES, Code, Parameter, Shape, At, Frame, RunsOn, Stage, Rests, Makes, Enters, int_of, Fits, function_at, state_word, function_word, argument_word, Machine, Asks, reference_of, function_of, instr_at, no_frame, step_of, at_stage, called, trapped, with_parameter, entered, start, turn, counted, most_refs, Turn, Global, put, MayTurn, after_turn, one_thread, bounds, Instr, put_same, put_other, put_all, Targets, nothing, Empty, Refers, Unknown, Label, Labels, Less, HasBase, IsWellTyped, Fine, MayStart, entry_label, refs_in, TypedReference, Holder, RegisterOf, ArgumentOf, LogOf, Staged, In, Slot, CellOf, World, Shut, Sole, WorldInvariant, in_ref, none, place, shift, MachineView, conc_of, lang_of, Shows, is_first, is_unread, if_reference, note_number, register_of, argument_of, staged_of, noted_by, logged, is_ended, has_withdrawn, making_of, Silently, made_turn, KeepsOthers, State, View, view_of, Runs, Threads, Firsts, SpawnsNow, EntryStands, NumberStands, TopStands, StartStands, FramesStand, GateStands, StageStands, OnStart, label_now, frame_at, refs_at, types_at, size_of_run, Turned, ne_eq}, Effects.{place_same, place_other, shift_ok}, Frames.{less_stands, entry_kept, number_kept}, Quiet.{KeepsThread, heap_now, started_same, sum_up, kept_state, label_held, freed_held, sizes_kept, part_put, part_same}, Others.{OnHold, loses}, Turns.{asks_turn, room_of, unseen}, Own.{closed_less, runs_at, refs_most, ints_most}, Plain.{same_words, same_others, sim_same}, Filled.free_shut, Seen.{reg_stored, holder_stored}, BitTurns.going_on}
+use Rattle.sharc_invariant.proofs.{Imports.{◌≡◌, ℕ, ℤ, pos, suc, ◌+◌, ◌*◌, ◌^◌, ◌<◌, ◌≢◌, ◌⊎◌, ◌&&◌, Bool, true, false, cond, List, Some, None, refl, sym, ap, ◌∙◌, subst, inl, inr, ⊎_elim, arith, cases_eq, nat_tests, length-set, get_or-set_same, get_or-set_other, set-get_or, fun_ext, length, slice_index, slice_index_or, slice_set, nat_lt, ◌==◌, THREADS, Load, HeldMutex, object_of, Kind, Read, Write, Accesses, note_of, FRAMES, Code, Parameter, Shape, At, Frame, RunsOn, Stage, Rests, Makes, Enters, int_of, Fits, function_at, state_word, function_word, argument_word, Machine, Asks, reference_of, function_of, instr_at, no_frame, step_of, at_stage, called, trapped, with_parameter, entered, start, turn, counted, most_refs, Turn, Global, put, MayTurn, after_turn, one_thread, bounds, Instr, put_same, put_other, put_all, Targets, nothing, Empty, Refers, Unknown, Label, Labels, Less, HasBase, IsWellTyped, Fine, MayStart, entry_label, refs_in, TypedReference, Holder, RegisterOf, ArgumentOf, LogOf, Staged, In, Slot, CellOf, World, Shut, Sole, WorldInvariant, in_ref, none, place, shift, MachineView, conc_of, lang_of, Shows, is_first, is_unread, if_reference, note_number, register_of, argument_of, staged_of, noted_by, logged, is_ended, has_withdrawn, making_of, Silently, made_turn, KeepsOthers, State, View, view_of, Runs, Threads, Firsts, SpawnsNow, EntryStands, NumberStands, TopStands, StartStands, FramesStand, GateStands, StageStands, OnStart, label_now, frame_at, refs_at, types_at, size_of_run, Turned, ne_eq}, TurnAt.{turn_at, turn_stands}, Effects.{place_same, place_other, shift_ok}, Frames.{less_stands, entry_kept, number_kept}, Quiet.{KeepsThread, heap_now, started_same, sum_up, kept_state, label_held, freed_held, sizes_kept, part_put, part_same}, Others.{OnHold, loses}, Turns.{asks_turn, room_of, unseen}, Own.{closed_less, runs_at, refs_most, ints_most}, Plain.{same_words, same_others, sim_same}, Filled.free_shut, Seen.{reg_stored, holder_stored}, BitTurns.going_on}
 use Rattle.sharc_tree.specs.declared.trap.Trap.{Trap}
 
 -- ---- the machine that enters a function
@@ -76,26 +76,8 @@ arg_stored x s cells elements c w sim n h args et eu =
 
 module _ (x : Targets) (code : Code) (s : Shape) (ls : Labels) (wt : IsWellTyped x code ls) (fits : Fits code s) (g : Global Machine) (world : World) (st : State x code s ls g world) (tr : Turn)
     (may : MayTurn bounds (one_thread code s) g tr) (site : ℕ) (is : instr_at code (g.threads tr.thread).at.pc ≡ Instr.Start site) where
-  abbrev t : ℕ
-  t = tr.thread
-
-  abbrev m : Machine
-  m = g.threads tr.thread
-
-  abbrev here : Label
-  here = ls.at (g.threads tr.thread).at.pc
-
-  abbrev after : Global Machine
-  after = after_turn bounds (one_thread code s) g tr
-
-  abbrev view : View
-  view = view_of st.elements world tr.thread (g.threads tr.thread)
-
-  low_t : tr.thread < THREADS
-  low_t = st.begins.few tr.thread may.started
-
-  rn : Runs x code s ls st.elements world st.heap g tr.thread (g.threads tr.thread)
-  rn = (st.threads tr.thread).runs may.started may.next.runs
+  open turn_at st tr use {t, m, here, after, view}
+  open turn_stands st tr may use {low_t, rn, number as number_is}
 
   fine : Fine x code ls (g.threads tr.thread).at.pc here (Instr.Start site)
   fine = subst (Fine x code ls m.at.pc here) is (wt.fine m.at.pc)
@@ -108,9 +90,6 @@ module _ (x : Targets) (code : Code) (s : Shape) (ls : Labels) (wt : IsWellTyped
 
   ended_before : is_ended (g.threads tr.thread).at.state ≡ false
   ended_before = going_on m.at.state may.next.runs
-
-  number_is : (g.threads tr.thread).own.number ≡ tr.thread
-  number_is = (st.threads t).has.number
 
   module _ (early : is_early (g.threads tr.thread).own.stage ≡ true) where
     now_here : label_now here (instr_at code (g.threads tr.thread).at.pc) (g.threads tr.thread).own.stage ≡ here
