@@ -1,5 +1,5 @@
 -- Loads and stores of cells, from the real words up.
-use Rattle.sharc_invariant.proofs.{Imports.{◌≡◌, ℕ, ℤ, pos, negsuc, suc, ◌+◌, ◌-◌, ◌^◌, ◌<◌, Bool, true, false, List, refl, sym, ap, ◌∙◌, subst, arith, ltb-true, nat_tests, length-set, set-get_or, fun_ext, length, slice_index, slice_set, nat_lt, Load, Swap, Code, Cell, Width, Char, Int, Long, Instr, Shape, At, Frame, word_of, int_of, holds, value_bits, Fits, first_cell, Own as Own', Machine, next, Asks, step_of, instr_at, int, word, goes, accessed, set_int, may_go, turn, Turn, Global, put, MayTurn, after_turn, one_thread, bounds, put_same, put_other, HeldMutex, Targets, Field, field_in, is_mutex, is_pointer, Integer, Within, Gate, Closed, Holds, Loaded, HoldsLoaded, SoleGate, Label, Labels, LessGate, Leads, gated, set_number, IsNotSole, IsWellTyped, HasCell, IsInt, IsAccess, RegisterOf, CellOf, World, Window, Shut, Sole, IsLoaded, WinOk, Right, base_of, in_ref, set_win, Built, InBlock, lang_of, conc_of, Shows, register_of, FitsContent, cell_at, is_ended, has_returned, made_turn, IsThere, Silent, Effect, State, View, view_of, TopStands, FramesStand, GateStands, size_of_run, base_of_cell, object_of_cell, number_in, changes_objects}, TurnAt.turn_at, Effects.set_win_ok, Quiet.{KeepsOwn, KeepsWords, heap_now, quiet_state, noted_same, conc_plain, put_self}, Turns.{asks_turn, room_of}, Own.{is_single, int_inside, runs, rests, top, gate, not_begun, runs_at}, Frames.{less_stands, frames_same}, Plain.{register_plain, same_words, number_top, vals_below, view_set, keeps_own, with_own}, Stores.{index_put, cell_store, stored_words, stored_within}, Seen.integer_stored, Cells.cell_there, CheckTurns.sim_win, Rights.right, Others.loses}
+use Rattle.sharc_invariant.proofs.{Imports.{◌≡◌, ℕ, ℤ, pos, negsuc, suc, ◌+◌, ◌-◌, ◌^◌, ◌<◌, Bool, true, false, List, refl, sym, ap, ◌∙◌, subst, arith, ltb-true, nat_tests, length-set, set-get_or, fun_ext, length, slice_index, slice_set, nat_lt, Load, Swap, Code, Cell, Width, Char, Int, Long, Instr, Shape, At, Frame, word_of, int_of, holds, value_bits, Fits, first_cell, Own as Own', Machine, next, Asks, step_of, instr_at, int, word, goes, accessed, set_int, may_go, turn, Turn, Global, put, MayTurn, one_thread, bounds, put_same, put_other, HeldMutex, Targets, Field, field_in, is_mutex, is_pointer, Integer, Within, Gate, Closed, Holds, Loaded, HoldsLoaded, SoleGate, Label, Labels, LessGate, Leads, gated, set_number, IsNotSole, IsWellTyped, HasCell, IsInt, IsAccess, RegisterOf, CellOf, World, Window, Shut, Sole, IsLoaded, WinOk, Right, base_of, in_ref, set_win, Built, InBlock, lang_of, conc_of, Shows, register_of, FitsContent, cell_at, is_ended, has_returned, made_turn, IsThere, Silent, Effect, State, View, view_of, TopStands, FramesStand, GateStands, size_of_run, base_of_cell, object_of_cell, number_in, changes_objects}, TurnAt.turn_at, Effects.set_win_ok, Quiet.{KeepsOwn, KeepsWords, heap_now, quiet_state, noted_same, conc_plain, put_self}, Turns.{asks_turn, room_of}, Own.{is_single, int_inside, runs, rests, top, gate, not_begun, runs_at}, Frames.{less_stands, frames_same}, Plain.{register_plain, same_words, number_top, vals_below, view_set, keeps_own, with_own}, Stores.{index_put, cell_store, stored_words, stored_within}, Seen.integer_stored, Cells.cell_there, CheckTurns.sim_win, Rights.right, Others.loses}
 use Rattle.sharc_invariant.specs.Effect.{Accesses}
 
 abbrev sign_of : Bool → ℤ → ℤ → ℤ

@@ -1,5 +1,5 @@
 -- The checks of accesses keep the invariant.
-use Rattle.sharc_invariant.proofs.{Imports.{◌≡◌, ℕ, ℤ, ◌+◌, ◌/◌, ◌<◌, ◌⊎◌, Bool, true, false, cond, List, ◌∷◌, Some, None, refl, sym, ap, ◌∙◌, subst, inl, inr, ⊎_elim, length, slice_index, is_some, Kind, Accesses, note_of, site_at, epoch_of, is_write, conflicts_in, noted, ShadowLaws, Code, Cell, Instr, Shape, Rests, Fits, granule_of, Own as Own', Machine, instr_at, check, wrote, with_note, with_own, ref, turn, Turn, Global, MayTurn, one_thread, bounds, put_same, put_other, GranuleState, Passed, marked, passed, Targets, Field, FieldMode, Gate, Closed, Checked, Holds, Loaded, HoldsLoaded, SoleGate, Pass, Label, Labels, Leads, LessGate, gated, IsWellTyped, HasCell, IsPlace, LeadsChecked, World, Window, Shut, May, RegisterOf, in_ref, put2, set_gran, set_win, Silent, Silently, made_turn, Runs, State, View, view_of, TopStands, FramesStand, PassStands, GateStands, base_of_cell, object_of_cell, number_in, refs_at, Turned}, TurnAt.turn_at, Effects.{put2_all, has_passed as passed_now}, Frames.{Agrees, Always, Low, top_agrees, callers_agree, less_stands}, Quiet.heap_now, Own.{is_single, runs, rests, top, gate, runs_at}, Plain.{is_shut, register_plain}, CheckTurns.{refused, passes_state, all_kept}, Rights.pass_at, Seen.{put2_at as put2_same}}
+use Rattle.sharc_invariant.proofs.{Imports.{◌≡◌, ℕ, ℤ, ◌+◌, ◌/◌, ◌<◌, ◌⊎◌, Bool, true, false, cond, List, ◌∷◌, Some, None, refl, sym, ap, ◌∙◌, subst, inl, inr, ⊎_elim, length, slice_index, is_some, Kind, Accesses, note_of, site_at, epoch_of, is_write, conflicts_in, noted, ShadowLaws, Code, Cell, Instr, Shape, Rests, Fits, granule_of, Own as Own', Machine, instr_at, check, wrote, with_note, with_own, ref, turn, Turn, Global, MayTurn, one_thread, bounds, put_same, put_other, GranuleState, Passed, marked, passed, Targets, Field, FieldMode, Gate, Closed, Checked, Pass, Label, Labels, Leads, LessGate, gated, IsWellTyped, HasCell, IsPlace, LeadsChecked, World, Window, Shut, May, RegisterOf, in_ref, put2, set_gran, set_win, Silent, Silently, made_turn, Runs, State, View, view_of, TopStands, FramesStand, PassStands, GateStands, base_of_cell, object_of_cell, number_in, refs_at, Turned}, TurnAt.turn_at, Effects.{put2_all, has_passed as passed_now}, Frames.{Agrees, Always, Low, top_agrees, callers_agree, less_stands}, Quiet.heap_now, Own.{is_single, runs, rests, top, gate, runs_at}, Plain.{is_shut, register_plain}, CheckTurns.{refused, passes_state, all_kept}, Rights.pass_at, Seen.{put2_at as put2_same}}
 use Rattle.sharc_code.specs.Machine.{place}
 
 pub checked_gate : (b : Bool) (c : Cell) (y : Gate) → LessGate (Checked b c) y → (y ≡ Closed) ⊎ (y ≡ Checked b c)

@@ -1,5 +1,5 @@
 -- The turns of a Free that empty the pointers of its object, and lower what they held.
-use Rattle.sharc_invariant.proofs.{Imports.{◌≡◌, ℕ, zero, suc, ◌+◌, ◌-◌, ◌*◌, ◌%◌, ◌^◌, ◌<◌, ◌≤◌, ◌≢◌, true, false, cond, List, None, Some, refl, sym, ap, ◌∙◌, subst, ⊎_elim, arith, ltb-true, ◌/◌, cases_eq, nat_tests, fun_ext, length, slice_index, slice_set, nat_lt, min, ◌==◌, THREADS, Swap, Sub, word_after, ShadowLaws, epoch_of, lower_of, Code, Layout, Shape, Stage, Empties, Lowers, FreeLooks, Uncounts, Fits as FitsShape, granules, words_of, first_cell, cell_word, cell_of, count_word, Machine, step_of, instr_at, ref, at_stage, largest, empties, emptied, free, layout_at, fields, pointer_cell, counted, Turn, Global, put, MayTurn, after_turn, one_thread, bounds, Instr, put_other, sum_to, Targets, ObjectType, type_at, Label, Labels, Fine, IsWellTyped, RegisterOf, ArgumentOf, Staged, Slot, In, TypedReference, CellOf, World, Sole, WorldInvariant, in_ref, place, null, none, set_slot, swap, drop, Built, InBlock, Kept, lang_of, conc_of, Shows, cell_at, count_at, staged_of, store, made_turn, KeepsOthers, Silently, State, Runs, View, view_of, StageStands, EntryStands, FramesStand, TopStands, GateStands, AreEmpty, Emptying, all_pointers, label_now, refs_at, types_at, IsSmall, size_of_run, Turned, not_less}, TurnAt.{turn_at, turn_stands}, Effects.{set_slot_ok, empty_ok, drop_ok, count_pos, place_same, place_other, slot_cases}, Small.total_low, Quiet.{heap_now, label_held}, Changes.KeepsLow, Walks.{IsWalk, walk_hold, walk_state, walked, conc_held}, Turns.asks_turn, Stores.{index_put, arena, cell_store, count_store, stored_within}, Seen.{cell_stored, count_stored, staged_stored}, Counts.count_is, Clears.{part_words, sum_more, alone, walk_top}, Emptied.{pointer_there, some_cells}, Loads.lang_laws, Frees.{few_of, empties_counted, at_free, granules_split, free_fine, free_win, free_reads, free_some, free_live, free_cells, free_begun, free_act}, Others.loses}
+use Rattle.sharc_invariant.proofs.{Imports.{◌≡◌, ℕ, zero, suc, ◌+◌, ◌-◌, ◌*◌, ◌%◌, ◌^◌, ◌<◌, ◌≤◌, ◌≢◌, true, false, cond, List, None, Some, refl, sym, ap, ◌∙◌, subst, ⊎_elim, arith, ltb-true, ◌/◌, cases_eq, nat_tests, fun_ext, length, slice_index, slice_set, nat_lt, min, ◌==◌, THREADS, Swap, Sub, word_after, ShadowLaws, epoch_of, lower_of, Code, Layout, Shape, Stage, Empties, Lowers, FreeLooks, Uncounts, Fits as FitsShape, granules, words_of, first_cell, cell_word, cell_of, count_word, Machine, step_of, instr_at, ref, at_stage, largest, empties, emptied, layout_at, fields, pointer_cell, counted, Turn, Global, put, MayTurn, after_turn, one_thread, bounds, Instr, put_other, sum_to, Targets, ObjectType, type_at, Label, Labels, Fine, IsWellTyped, RegisterOf, ArgumentOf, Staged, Slot, In, TypedReference, CellOf, World, Sole, WorldInvariant, in_ref, place, null, none, set_slot, swap, drop, Built, InBlock, Kept, lang_of, conc_of, Shows, cell_at, count_at, staged_of, store, made_turn, KeepsOthers, Silently, State, view_of, StageStands, EntryStands, FramesStand, TopStands, GateStands, AreEmpty, Emptying, all_pointers, label_now, refs_at, types_at, IsSmall, size_of_run, Turned, not_less}, TurnAt.{turn_at, turn_stands}, Effects.{set_slot_ok, empty_ok, drop_ok, count_pos, place_same, place_other, slot_cases}, Small.total_low, Quiet.{heap_now, label_held}, Changes.KeepsLow, Walks.{IsWalk, walk_hold, walk_state, walked, conc_held}, Turns.asks_turn, Stores.{index_put, arena, cell_store, count_store, stored_within}, Seen.{cell_stored, count_stored, staged_stored}, Counts.count_is, Clears.{part_words, sum_more, alone, walk_top}, Emptied.{pointer_there, some_cells}, Loads.lang_laws, Frees.{few_of, empties_counted, at_free, granules_split, free_fine, free_win, free_reads, free_some, free_live, free_cells, free_begun, free_act}, Others.loses}
 use Rattle.sharc_invariant.specs.World.{Free}
 
 emptied_next : (i p : ℕ) → i ≤ p → p < 2 ^ 63 → nat_lt i (min p largest) ≡ false → i ≡ p

@@ -1,5 +1,5 @@
 -- A cell that an instruction names, whose base is not NULL, is there.
-use Rattle.sharc_invariant.proofs.{Imports.{◌≡◌, ℕ, ◌+◌, Bool, true, false, cond, sym, ap, ◌∙◌, subst, slice_index, ◌==◌, Code, Cell, Shape, Fits, Machine, instr_at, ref, is_of_null, Global, put_same, Targets, Field, Label, Labels, knows, IsWellTyped, HasField, IsAccess as Accesses, RegisterOf, World, Right, in_ref, lang_of, State, Runs, View, TopStands, GateStands, OnHold, base_of_cell, number_in, view_of, IsThere, IsOn}, TurnAt.thread_at, Quiet.{label_held, freed_held}, Steps.knows_top, Cells.cell_there, Rights.right}
+use Rattle.sharc_invariant.proofs.{Imports.{◌≡◌, ℕ, ◌+◌, Bool, true, false, cond, sym, ap, ◌∙◌, subst, slice_index, ◌==◌, Code, Cell, Shape, Fits, Machine, instr_at, ref, is_of_null, Global, put_same, Targets, Field, Label, Labels, knows, IsWellTyped, HasField, IsAccess as Accesses, RegisterOf, World, Right, in_ref, lang_of, State, Runs, TopStands, GateStands, OnHold, base_of_cell, number_in, IsThere, IsOn}, TurnAt.thread_at, Quiet.{label_held, freed_held}, Steps.knows_top, Cells.cell_there, Rights.right}
 
 module _ (x : Targets) (code : Code) (s : Shape) (ls : Labels) (wt : IsWellTyped x code ls) (fits : Fits code s) (g : Global Machine) (world : World) (st : State x code s ls g world) (t : ℕ) (on : IsOn g t) (hold : OnHold (g.threads t).own.stage) where
   open thread_at st t use {m, here, view}

@@ -1,5 +1,5 @@
 -- Taking a mutex and giving it back keep the invariant: the reference of the base goes to the log, and comes back from it.
-use Rattle.sharc_invariant.proofs.{Imports.{◌≡◌, ◌≢◌, ℕ, ℤ, suc, ◌+◌, ◌^◌, ◌<◌, Bool, true, false, cond, List, [], ◌∷◌, ◌++◌, Option, Some, None, refl, sym, ap, ◌∙◌, subst, inl, inr, ⊎_elim, arith, eqb-true, length-set, cases_eq, nat_tests, fun_ext, length, slice_index, slice_set, nat_lt, is_some, Contains, ◌==◌, THREADS, Cas, Swap, Kind, Read, Write, HeldMutex, IsHeldLog, object_of, with_mutex, without, Code, Cell, Instr, Shape, Fits, words_of, Machine, instr_at, ref, word, object, next, goes, fails, is_held, taken, locked, unlocked, reference_of, step_of, Turn, Global, put, MayTurn, after_turn, one_thread, bounds, put_all, Targets, Field, nothing, field_in, is_mutex, type_of, Closed, Holds, Empty, Refers, Unknown, Label, Labels, Leads, IsFree, empty, fill, IsWellTyped, IsRef, IsVacant, IsBaseFree, HasCell, refs_in, ints_in, without_base_of, unlocked_label, TypedReference, Slot, RegisterOf, ArgumentOf, LogOf, In, CellOf, Shut, Sole, World, WorldInvariant, in_ref, none, place, put2, shift, conc_of, lang_of, Shows, cell_at, logged, noted_by, register_of, set_reg, has_returned, Effect, Silent, Unlocks, made_turn, made_conc, State, View, view_of, FramesStand, GateStands, TopStands, EntryStands, object_of_cell, number_in, refs_at, types_at, size_of_run, Turned, changes_objects, some_of}, TurnAt.{turn_at, turn_stands}, Effects.{place_other, shift_ok, lock_ok, unlock_ok}, Frames.{filled, FilledStands, fill_stands, empty_stands}, Quiet.{KeepsSelf, loud_state, heap_now, noted_same, put_self, sizes_kept}, Turns.{asks_turn, room_of}, Own.{is_single, runs, rests, top, gate, fine, begun_before, not_begun}, Plain.{register_plain, is_shut, going, next_runs}, Stores.{index_put, cell_store, stored_words, stored_within}, Seen.{reg_stored, cell_cell}, Cells.cell_there, Filled.{refs_set, view_filled, below_filled, free_shut, inside, inside_world}, Accesses.loaded_words, Waits.tries_again, Logs.{found_in, append_other, append_same, contains_append, append_log, without_other, without_same, contains_without, without_lower, without_log}, Mutexes.{mutex_stored, log_stored, locks_changed, Changes, IsLogged}, Others.loses}
+use Rattle.sharc_invariant.proofs.{Imports.{◌≡◌, ◌≢◌, ℕ, ℤ, suc, ◌+◌, ◌^◌, ◌<◌, Bool, true, false, cond, List, [], ◌∷◌, ◌++◌, Option, Some, None, refl, sym, ap, ◌∙◌, subst, inl, inr, ⊎_elim, arith, eqb-true, length-set, cases_eq, nat_tests, fun_ext, length, slice_index, slice_set, nat_lt, is_some, Contains, ◌==◌, Cas, Swap, Kind, Read, Write, HeldMutex, IsHeldLog, object_of, with_mutex, without, Code, Cell, Instr, Shape, Fits, words_of, Machine, instr_at, ref, word, object, next, goes, fails, is_held, taken, locked, unlocked, reference_of, step_of, Turn, Global, put, MayTurn, after_turn, one_thread, bounds, put_all, Targets, Field, nothing, field_in, is_mutex, type_of, Closed, Holds, Empty, Refers, Unknown, Label, Labels, Leads, IsFree, empty, fill, IsWellTyped, IsRef, IsVacant, IsBaseFree, HasCell, refs_in, ints_in, without_base_of, unlocked_label, TypedReference, Slot, RegisterOf, ArgumentOf, LogOf, In, CellOf, Shut, Sole, World, WorldInvariant, in_ref, none, place, put2, shift, conc_of, lang_of, Shows, cell_at, logged, noted_by, register_of, set_reg, has_returned, Effect, Silent, Unlocks, made_turn, made_conc, State, View, view_of, FramesStand, GateStands, TopStands, EntryStands, object_of_cell, number_in, refs_at, types_at, size_of_run, Turned, changes_objects, some_of}, TurnAt.{turn_at, turn_stands}, Effects.{place_other, shift_ok, lock_ok, unlock_ok}, Frames.{filled, FilledStands, fill_stands, empty_stands}, Quiet.{KeepsSelf, loud_state, heap_now, noted_same, put_self, sizes_kept}, Turns.{asks_turn, room_of}, Own.{is_single, runs, rests, top, gate, fine, begun_before, not_begun}, Plain.{register_plain, is_shut, going, next_runs}, Stores.{index_put, cell_store, stored_words, stored_within}, Seen.{reg_stored, cell_cell}, Cells.cell_there, Filled.{refs_set, view_filled, below_filled, free_shut, inside, inside_world}, Accesses.loaded_words, Waits.tries_again, Logs.{found_in, append_other, append_same, contains_append, append_log, without_other, without_same, contains_without, without_lower, without_log}, Mutexes.{mutex_stored, log_stored, locks_changed, Changes, IsLogged}, Others.loses}
 use Rattle.sharc_code.specs.Machine.{without_base}
 use Rattle.sharc_invariant.specs.Effect.{Locks}
 

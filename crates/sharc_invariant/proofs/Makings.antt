@@ -1,5 +1,5 @@
 -- The last turn of a New: the length is written, and the object is there.
-use Rattle.sharc_invariant.proofs.{Imports.{◌≡◌, ℕ, suc, ◌+◌, ◌*◌, ◌^◌, ◌<◌, ◌≤◌, ◌≢◌, ◌⊎◌, true, false, cond, List, None, Some, refl, sym, ap, ◌∙◌, subst, inl, ⊎_elim, arith, cases_eq, eqb-true, eqb-false, get_or-set_same, get_or-set_other, length-set, fun_ext, length, slice_index, slice_set, nat_lt, min, max, ◌==◌, ◌↔◌, is_some, Contains, THREADS, Swap, NewLaws, NewView, told, NewArguments, epoch_of, Kind, Read, Write, NewStage, object_of, Code, Shape, RunsOn, Rests, Makes, Fits as FitsShape, granules, top_word, first_cell, Machine, instr_at, int, elements_of, size_of, new_state, asks_new, goes_on_new, made_machine, turn, Turn, Global, put, MayTurn, after_turn, one_thread, bounds, Instr, put_same, put_other, put_all, GranuleState, Bits, Passed, sum_to, Targets, ObjectType, field_in, is_mutex, type_at, type_of, cells_of, Label, Labels, Refers, fill, Unknown, LessEntry, Fine, IsWellTyped, refs_in, ints_in, In, RegisterOf, CellOf, TypedReference, ObjectState, World, Shut, WorldInvariant, in_ref, make, null, place, put2, Heap, Kept, Built, Live, InBlock, IsListed, restated, Apart, MachineView, IsNobodys, lang_of, conc_of, Shows, shown, set_reg, store, cell_at, count_at, length_at, head_of, head_with, making_of, register_of, staged_of, noted_by, has_returned, fresh_granule, made_turn, KeepsOthers, MakesOf, State, View, Runs, view_of, BuildsAt, HeapStands, Locks, TopStands, FramesStand, EntryStands, refs_at, types_at, block_for, size_of_run, Turned, changes_objects, objects_now, objects_behind, owned, makes_object, is_length, new_behind, made_behind}, TurnAt.{turn_at, turn_stands}, Effects.{make_ok, place_same, place_other}, Frames.{Agrees, Always, Low, filled, fill_stands, top_agrees, callers_agree, less_stands}, Filled.below_filled, Listed.restate_ok, Quiet.{heap_now, put_self, sum_up, sizes_kept}, Changes.{KeepsPart, conc_now, changed_state, held_same}, Turns.{asks_turn, room_of}, Own.{runs_at, closed_less, ref_inside}, Seen.reg_stored, Stores.arena, Unlogged.logged_entry, Heaps.{IsApart, apart_stored, block_word, built_size, low_block, built_dead}, Builds.{IsMaking, new_fine, new_begun, new_top, new_shut, new_register, new_noted, own_at, own_off, own_low, own_kept, own_others, own_epochs}, News.{IsGiven, is_given, word_in, new_first, clears_cell, counts_one, moves_top}, Objects.{block_is, stale_sound, found_granules, made_sim, positive, factor_low}, Others.loses, Owned.{owned_is, effect_objects, behind_same}}
+use Rattle.sharc_invariant.proofs.{Imports.{◌≡◌, ℕ, suc, ◌+◌, ◌*◌, ◌^◌, ◌<◌, ◌≤◌, ◌≢◌, true, false, cond, List, None, Some, refl, sym, ap, ◌∙◌, subst, inl, ⊎_elim, arith, cases_eq, eqb-true, eqb-false, get_or-set_same, get_or-set_other, length-set, fun_ext, length, slice_index, slice_set, nat_lt, min, max, ◌==◌, ◌↔◌, is_some, Contains, THREADS, Swap, NewLaws, NewView, told, NewArguments, epoch_of, Kind, Read, Write, NewStage, object_of, Code, Shape, RunsOn, Rests, Makes, Fits as FitsShape, granules, top_word, first_cell, Machine, instr_at, int, elements_of, size_of, new_state, asks_new, goes_on_new, made_machine, turn, Turn, Global, put, MayTurn, after_turn, one_thread, bounds, Instr, put_same, put_other, put_all, GranuleState, Bits, Passed, sum_to, Targets, ObjectType, field_in, is_mutex, type_at, type_of, cells_of, Labels, Refers, fill, Unknown, LessEntry, Fine, IsWellTyped, refs_in, ints_in, In, RegisterOf, CellOf, TypedReference, ObjectState, World, Shut, WorldInvariant, in_ref, make, null, place, put2, Heap, Kept, Built, Live, InBlock, IsListed, restated, Apart, MachineView, IsNobodys, lang_of, conc_of, Shows, shown, set_reg, store, cell_at, count_at, length_at, head_of, head_with, making_of, register_of, staged_of, noted_by, has_returned, fresh_granule, made_turn, KeepsOthers, MakesOf, State, View, Runs, view_of, BuildsAt, HeapStands, Locks, TopStands, FramesStand, EntryStands, types_at, block_for, size_of_run, Turned, changes_objects, objects_now, objects_behind, owned, makes_object, is_length, new_behind, made_behind}, TurnAt.{turn_at, turn_stands}, Effects.{make_ok, place_same, place_other}, Frames.{Agrees, Always, Low, filled, fill_stands, top_agrees, callers_agree, less_stands}, Filled.below_filled, Listed.restate_ok, Quiet.{heap_now, put_self, sum_up, sizes_kept}, Changes.{KeepsPart, conc_now, changed_state, held_same}, Turns.{asks_turn, room_of}, Own.{runs_at, closed_less, ref_inside}, Seen.reg_stored, Stores.arena, Unlogged.logged_entry, Heaps.{IsApart, apart_stored, block_word, built_size, low_block, built_dead}, Builds.{IsMaking, new_fine, new_begun, new_top, new_shut, new_register, new_noted, own_at, own_off, own_low, own_kept, own_others, own_epochs}, News.{IsGiven, is_given, word_in, new_first, clears_cell, counts_one, moves_top}, Objects.{block_is, stale_sound, found_granules, made_sim, positive, factor_low}, Others.loses, Owned.{owned_is, effect_objects, behind_same}}
 use Rattle.sharc_heap.specs.Asks.{step_of, length_word}
 
 module _ (x : Targets) (code : Code) (s : Shape) (ls : Labels) (wt : IsWellTyped x code ls) (fits : FitsShape code s) (laws : NewLaws) (g : Global Machine) (world : World) (st : State x code s ls g world) (tr : Turn)

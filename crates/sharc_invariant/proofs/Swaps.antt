@@ -1,5 +1,5 @@
 -- A cell and a register exchange what they refer to.
-use Rattle.sharc_invariant.proofs.{Imports.{◌≡◌, ℕ, ℤ, suc, ◌+◌, ◌/◌, ◌^◌, ◌<◌, ◌≢◌, Bool, true, false, refl, sym, ap, ◌∙◌, subst, inl, ⊎_elim, arith, cases_eq, fun_ext, length, slice_index, slice_set, Swap, Code, Cell, Instr, Shape, Fits, Machine, Asks, step_of, instr_at, goes, accessed, set_ref, ref, word, turn, Turn, Global, put, MayTurn, after_turn, one_thread, bounds, put_same, put_other, Targets, ObjectType, Field, StaticType, type_at, type_of, mode_at, field_in, is_pointer, Mentions, CellMode, Private, Dynamic, Locked, Sibling, Behind, Entry, Empty, Refers, Unknown, Closed, Label, Labels, Leads, LessEntry, fill, empty, IsWellTyped, IsRef, PointsTo, IsAccess, refs_in, ints_in, TypeRules, TypedReference, Holder, RegisterOf, In, Slot, CellOf, World, Shut, Sole, Base, By, Based, Right, CanBy, Inside, WorldInvariant, base_of, in_ref, place, set_win, set_slot, swap, lang_of, conc_of, Shows, cell_at, store, set_reg, made_turn, IsThere, State, View, view_of, TopStands, EntryStands, GateStands, refs_at, types_at, size_of_run, base_of_cell, object_of_cell, number_in, Turned}, TurnAt.turn_at, Effects.{place_same, place_other, place_all, set_slot_ok, set_win_ok, exchange_ok, sole_at, base_other}, Frames.{filled, fill_stands, empty_stands, type_kept, same_type, put_base}, Turns.{asks_turn, room_of}, Own.{is_single, runs, rests, top, gate, fine}, Plain.register_plain, Stores.{index_put, cell_store, stored_words, stored_within}, Seen.{cell_stored, reg_stored}, Filled.{filled_slots, inside_world, free_shut}, Cells.cell_there, CheckTurns.{sim_win, put_put}, Rights.{right, points_to}, Accesses.gate_alone, Scoped.scoped_empty, Loads.lang_laws}
+use Rattle.sharc_invariant.proofs.{Imports.{◌≡◌, ℕ, ℤ, suc, ◌+◌, ◌/◌, ◌^◌, ◌<◌, ◌≢◌, Bool, true, false, refl, sym, ap, ◌∙◌, subst, inl, ⊎_elim, arith, cases_eq, fun_ext, length, slice_index, slice_set, Swap, Code, Cell, Instr, Shape, Fits, Machine, Asks, step_of, instr_at, goes, accessed, set_ref, ref, word, turn, Turn, Global, put, MayTurn, one_thread, bounds, put_same, put_other, Targets, ObjectType, Field, StaticType, type_at, type_of, mode_at, field_in, is_pointer, Mentions, CellMode, Private, Dynamic, Locked, Sibling, Behind, Entry, Empty, Refers, Unknown, Closed, Label, Labels, Leads, LessEntry, fill, empty, IsWellTyped, IsRef, PointsTo, IsAccess, refs_in, ints_in, TypeRules, TypedReference, Holder, RegisterOf, In, Slot, CellOf, World, Shut, Sole, Base, By, Based, Right, CanBy, Inside, WorldInvariant, base_of, in_ref, place, set_win, set_slot, swap, lang_of, conc_of, Shows, cell_at, store, set_reg, made_turn, IsThere, State, view_of, TopStands, EntryStands, GateStands, refs_at, types_at, size_of_run, base_of_cell, object_of_cell, number_in, Turned}, TurnAt.turn_at, Effects.{place_same, place_other, place_all, set_slot_ok, set_win_ok, exchange_ok, sole_at, base_other}, Frames.{filled, fill_stands, empty_stands, type_kept, same_type, put_base}, Turns.{asks_turn, room_of}, Own.{is_single, runs, rests, top, gate, fine}, Plain.register_plain, Stores.{index_put, cell_store, stored_words, stored_within}, Seen.{cell_stored, reg_stored}, Filled.{filled_slots, inside_world, free_shut}, Cells.cell_there, CheckTurns.{sim_win, put_put}, Rights.{right, points_to}, Accesses.gate_alone, Scoped.scoped_empty, Loads.lang_laws}
 use Rattle.sharc_invariant.specs.{World.{Global as OfGlobals}, Effect.Accesses}
 
 -- a right counts references, and not their types

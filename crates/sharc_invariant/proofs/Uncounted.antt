@@ -1,5 +1,5 @@
 -- The turn of a Free that sets the count to 0: the object is dead, and its block the thread's.
-use Rattle.sharc_invariant.proofs.{Imports.{Fits as FitsShape, top_word, granules, count_word, RunsOn, Tries, Stopped, Ended, Stage, Uncounts, Links, layout_at, Machine, Asks, step_of, instr_at, ref, at_stage, data_granules, largest, may_go, turn, Code, Shape, Turn, Global, put, MayTurn, after_turn, one_thread, bounds, Instr, Frees as FreesOf, freed, none, ObjectState, TypedReference, RegisterOf, ArgumentOf, In, Shut, Sole, World, in_ref, put2, place, WorldInvariant, CellOf, nothing, field_in, is_pointer, is_mutex, Targets, ObjectType, cells_of, Heap, Kept, Built, Live, restated, IsListed, Unused, BlockState, is_freed, set_reg, store, FitsContent, Apart, staged_of, is_ended, has_withdrawn, noted_by, note_number, register_of, conc_of, Shows, count_at, cell_at, lang_of, head_of, head_with, making_of, block_for, AreEmpty, all_pointers, label_now, Runs, StageStands, HeapStands, Locks, State, view_of, EntryStands, GateStands, refs_at, types_at, size_of_run, View, FramesStand, TopStands, empty, Label, Labels, sum_to, GranuleState, Bits, Passed, Fine, IsWellTyped, made_turn, KeepsOthers, Turned, changes_objects, objects_now, objects_behind, frees_object, freed_behind, put_same, put_other, put_all, Read, Write, Kind, note_of, ShadowLaws, epoch_of, object_of, ◌≡◌, ℕ, suc, ◌+◌, ◌*◌, ◌<◌, ◌≤◌, ◌≢◌, true, false, cond, List, refl, sym, ap, ◌∙◌, subst, ⊎_elim, arith, Bool, ◌⊎◌, ◌-◌, ◌/◌, ◌^◌, inl, inr, cases_eq, cases_lt, fun_ext, length, slice_index, slice_set, ◌==◌, ◌↔◌, is_some, Contains, min, THREADS, Swap, ne_eq, eq_refl}, TurnAt.{turn_at, turn_stands}, Effects.{freed_ok, place_other}, Seen.{count_stored, reg_stored, cell_cell}, Frames.{filled, empty_stands}, Filled.{view_filled, below_filled}, Counts.count_is, Stores.{count_store, stored_within, index_put, arena}, Listed.restate_ok, Changes.{KeepsPart, KeepsLow, lower, conc_now, held_same, changed_state}, Walks.{IsWalk, walk_hold, walk_register}, Clears.{part_words, sum_more}, Emptied.all_empty, Unlogged.{unlogged, logged_entry}, Frees.{free_cells, free_fine, free_win, free_reads, free_some, free_live, free_begun, free_act}, Quiet.{heap_now, label_held, put_self, sizes_kept}, Turns.{asks_turn, room_of}, Others.loses}
+use Rattle.sharc_invariant.proofs.{Imports.{Fits as FitsShape, top_word, granules, count_word, RunsOn, Tries, Stopped, Ended, Stage, Uncounts, Links, layout_at, Machine, Asks, step_of, instr_at, ref, at_stage, data_granules, largest, may_go, turn, Code, Shape, Turn, Global, put, MayTurn, after_turn, one_thread, bounds, Instr, Frees as FreesOf, freed, none, ObjectState, TypedReference, RegisterOf, ArgumentOf, In, Shut, Sole, World, in_ref, put2, place, WorldInvariant, CellOf, nothing, field_in, is_pointer, is_mutex, Targets, ObjectType, cells_of, Heap, Kept, Built, Live, restated, IsListed, Unused, BlockState, is_freed, set_reg, store, FitsContent, Apart, staged_of, is_ended, has_withdrawn, noted_by, note_number, register_of, conc_of, Shows, count_at, cell_at, lang_of, head_of, head_with, making_of, block_for, AreEmpty, all_pointers, label_now, Runs, StageStands, HeapStands, Locks, State, view_of, EntryStands, GateStands, refs_at, types_at, size_of_run, FramesStand, TopStands, empty, Label, Labels, sum_to, GranuleState, Bits, Passed, Fine, IsWellTyped, made_turn, KeepsOthers, Turned, changes_objects, objects_now, objects_behind, frees_object, freed_behind, put_same, put_other, put_all, Read, Write, Kind, note_of, ShadowLaws, epoch_of, object_of, ◌≡◌, ℕ, suc, ◌+◌, ◌*◌, ◌<◌, ◌≤◌, ◌≢◌, true, false, cond, List, refl, sym, ap, ◌∙◌, subst, ⊎_elim, arith, Bool, ◌⊎◌, ◌-◌, ◌/◌, ◌^◌, inl, inr, cases_eq, cases_lt, fun_ext, length, slice_index, slice_set, ◌==◌, ◌↔◌, is_some, Contains, min, THREADS, Swap, ne_eq, eq_refl}, TurnAt.{turn_at, turn_stands}, Effects.{freed_ok, place_other}, Seen.{count_stored, reg_stored, cell_cell}, Frames.{filled, empty_stands}, Filled.{view_filled, below_filled}, Counts.count_is, Stores.{count_store, stored_within, index_put, arena}, Listed.restate_ok, Changes.{KeepsPart, KeepsLow, lower, conc_now, held_same, changed_state}, Walks.{IsWalk, walk_hold, walk_register}, Clears.{part_words, sum_more}, Emptied.all_empty, Unlogged.{unlogged, logged_entry}, Frees.{free_cells, free_fine, free_win, free_reads, free_some, free_live, free_begun, free_act}, Quiet.{heap_now, label_held, put_self, sizes_kept}, Turns.{asks_turn, room_of}, Others.loses}
 
 not_unused : (f : ℕ → BlockState) (o : ℕ) → f o ≡ Live → f o ≡ Unused → ⊥
 not_unused f o a b = let z : Live ≡ Unused = sym a ∙ b in cc
