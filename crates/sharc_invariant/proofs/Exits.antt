@@ -1,5 +1,5 @@
 -- The turns of an Exit: it says that the thread returned, withdraws from each granule of its table, and says that it is gone.
-use Rattle.sharc_invariant.proofs.{Imports.{◌≡◌, ℕ, zero, suc, ◌+◌, ◌*◌, ◌^◌, ◌<◌, ◌≤◌, ◌≢◌, ◌⊎◌, ◌||◌, ◌&&◌, Bool, true, false, cond, List, [], None, refl, sym, ap, ◌∙◌, subst, inl, inr, ⊎_elim, arith, ltb-true, cases_eq, cases_lt, nat_tests, set-get_or, length-set, fun_ext, length, slice_index, slice_set, take, nat_lt, nat_eq, ◌==◌, THREADS, Load, Swap, Cas, ShadowLaws, note_of, withdrawn_of, epoch_of, Kind, Read, Write, Code, Shape, StateOf, RunsOn, Tries, Stopped, Ended, Stage, Rests, Makes, Lowers, Links, Names, Hands, Begins, Withdraws, WithdrawsFrom, Leaves, int_of, Fits as FitsShape, granules, granule_at, top_word, shadow_word, next_thread_word, state_word, function_word, argument_word, Machine, instr_at, step_of, at_stage, exit, withdraws, withdrew, row_of, without_own, turn, may_go, counted, Turn, Global, put, MayTurn, after_turn, one_thread, bounds, Instr, put_same, put_other, put_all, Passed, withdrawn, Targets, nothing, Label, Labels, IsIn, Fine, IsWellTyped, In, RegisterOf, ArgumentOf, TypedReference, World, Shut, WorldInvariant, in_ref, put2, set_gran, Heap, Kept, Built, InBlock, lang_of, conc_of, MachineView, Shows, Reads, store, has_returned, is_withdrawing, has_withdrawn, is_ended, is_unread, is_first, argument_of, making_of, note_number, noted_by, register_of, staged_of, logged, shadow_at, cell_at, count_at, length_at, made_turn, KeepsOthers, Effect, Silently, Returns, WithdrawsOf, events_of, StopStands, State, Runs, View, view_of, StageStands, SpawnsNow, NumberStands, EntryStands, FramesStand, GateStands, Threads, Firsts, TopStands, label_now, size_of_run, Followed, changes_objects, objects_now, ne_eq, eq_refl}, TurnAt.{turn_at, turn_stands}, Effects.withdraw_ok, Listed.store_ok, Others.{OnHold, loses}, Quiet.{KeepsThread, KeepsMost, heap_now, put_self, sum_up, label_held, freed_held, most_state, started_still, args_still, sizes_kept, part_same}, Changes.{KeepsPart, KeepsLow, lower, conc_now, alike_state}, Turns.{asks_turn, room_of}, Stores.{index_put, arena, shadow_store, stored_within}, Seen.{shadow_stored, put2_off}, Heaps.apart_stored, Clears.part_words, Uncounted.granule_cases, Withdrawn.{is_row, one_more, row_low, first_row, noted_withdraws, wrote_now, withdrawn_reads, withdrawn_small}, Owned.{effect_objects, behind_same}, Frees.{same_le as two_le}, Plain.{others_stay, same_others}}
+use Rattle.sharc_invariant.proofs.{Imports.{◌≡◌, ℕ, zero, suc, ◌+◌, ◌*◌, ◌^◌, ◌<◌, ◌≤◌, ◌≢◌, ◌⊎◌, ◌||◌, ◌&&◌, Bool, true, false, cond, List, [], None, refl, sym, ap, ◌∙◌, subst, inl, inr, ⊎_elim, arith, ltb-true, cases_eq, cases_lt, nat_tests, set-get_or, length-set, fun_ext, length, slice_index, slice_set, take, nat_lt, nat_eq, ◌==◌, THREADS, Load, Swap, Cas, ShadowLaws, note_of, withdrawn_of, epoch_of, Kind, Read, Write, Code, Shape, StateOf, RunsOn, Tries, Stopped, Ended, Stage, Rests, Makes, Lowers, Links, Names, Hands, Begins, Withdraws, WithdrawsFrom, Leaves, int_of, Fits as FitsShape, granules, granule_at, top_word, shadow_word, next_thread_word, state_word, function_word, argument_word, Machine, instr_at, step_of, at_stage, exit, withdraws, withdrew, row_of, without_own, turn, may_go, counted, Turn, Global, put, MayTurn, one_thread, bounds, Instr, put_same, put_other, put_all, Passed, withdrawn, Targets, nothing, Label, Labels, IsIn, Fine, IsWellTyped, In, RegisterOf, ArgumentOf, TypedReference, World, Shut, WorldInvariant, in_ref, put2, set_gran, Heap, Kept, Built, InBlock, lang_of, conc_of, MachineView, Shows, Reads, store, has_returned, is_withdrawing, has_withdrawn, is_ended, is_unread, is_first, argument_of, making_of, note_number, noted_by, register_of, staged_of, logged, shadow_at, cell_at, count_at, length_at, made_turn, KeepsOthers, Effect, Silently, Returns, WithdrawsOf, events_of, StopStands, State, Runs, View, view_of, StageStands, SpawnsNow, NumberStands, EntryStands, FramesStand, GateStands, Threads, Firsts, TopStands, label_now, size_of_run, Followed, changes_objects, objects_now, ne_eq, eq_refl}, TurnAt.{turn_at, turn_stands}, Effects.withdraw_ok, Listed.store_ok, Others.{OnHold, loses}, Quiet.{KeepsThread, KeepsMost, heap_now, put_self, sum_up, label_held, freed_held, most_state, started_still, args_still, sizes_kept, part_same}, Changes.{KeepsPart, KeepsLow, lower, conc_now, alike_state}, Turns.{asks_turn, room_of}, Stores.{index_put, arena, shadow_store, stored_within}, Seen.{shadow_stored, put2_off}, Heaps.apart_stored, Clears.part_words, Uncounted.granule_cases, Withdrawn.{is_row, one_more, row_low, first_row, noted_withdraws, wrote_now, withdrawn_reads, withdrawn_small}, Owned.{effect_objects, behind_same}, Frees.{same_le as two_le}, Plain.{others_stay, same_others}}
 
 -- ---- the stages
 abbrev pub IsExiting : Stage → Type 0
@@ -490,10 +490,7 @@ module _ (x : Targets) (code : Code) (s : Shape) (ls : Labels) (wt : IsWellTyped
 -- ---- all turns of an Exit
 module _ (x : Targets) (code : Code) (s : Shape) (ls : Labels) (wt : IsWellTyped x code ls) (fits : FitsShape code s) (laws : ShadowLaws) (g : Global Machine) (world : World) (st : State x code s ls g world) (tr : Turn)
     (may : MayTurn bounds (one_thread code s) g tr) (is : instr_at code (g.threads tr.thread).at.pc ≡ Instr.Exit) where
-  open turn_at st tr use {m as n}
-
-  abbrev behind : Global Machine
-  behind = after_turn bounds (one_thread code s) g tr
+  open turn_at st tr use {m as n, after as behind}
 
   act_is : (y : Stage) → (g.threads tr.thread).own.stage ≡ y → turn code s (g.threads tr.thread) ≡ exit s (g.threads tr.thread) y
   act_is y e = ap (λ i. Rattle.sharc_code.specs.Machine.act code s i n) is ∙ ap (exit s n) e

@@ -1,5 +1,5 @@
 -- The thread that makes the turn: where it stands, and where it comes to stand.
-use Rattle.sharc_invariant.proofs.{Imports.{◌≡◌, ℕ, ℤ, zero, suc, ◌+◌, ◌*◌, ◌<◌, ◌≤◌, max, Bool, true, false, List, [], ◌∷◌, Option, Some, None, refl, sym, ap, ◌∙◌, subst, ⊎_elim, arith, mul-le-mul_left, mul_comm, length, slice_index_or, fold, ◌==◌, FRAMES, Code, Function, Instr, Register, Shape, Frame, Stage, Rests, Looks, Clears, Makes, Names, Hands, Begins, Enters, Withdraws, WithdrawsFrom, Leaves, Wakes, Machine, instr_at, function_of, no_function, most_ints, most_refs, may_go, Global, Targets, Gate, Closed, Label, Labels, LessGate, Fine, IsWellTyped, refs_in, ints_in, World, Heap, State, View, BelowStands, FramesStand, frame_at, StageStands, OnClear, OnNew, OnFree, OnSpawn, OnStart, OnExit, OnSignal, Runs, GateStands, TopStands, label_now, view_of, ne_eq, suc_times}, TurnAt.thread_at, Quiet.label_held, Others.OnHold}
+use Rattle.sharc_invariant.proofs.{Imports.{◌≡◌, ℕ, ℤ, zero, suc, ◌+◌, ◌*◌, ◌<◌, ◌≤◌, max, Bool, true, false, List, [], ◌∷◌, Option, Some, None, refl, sym, ap, ◌∙◌, subst, ⊎_elim, arith, mul-le-mul_left, mul_comm, length, slice_index_or, fold, ◌==◌, FRAMES, Code, Function, Instr, Shape, Frame, Stage, Rests, Machine, instr_at, function_of, no_function, most_ints, most_refs, may_go, Global, Targets, Gate, Closed, Label, Labels, LessGate, Fine, IsWellTyped, refs_in, ints_in, World, Heap, State, View, BelowStands, FramesStand, frame_at, StageStands, Runs, GateStands, TopStands, label_now, view_of, ne_eq, suc_times}, TurnAt.thread_at, Quiet.label_held, Others.OnHold}
 
 -- ---- instructions of one turn
 abbrev pub is_single : Instr → Bool

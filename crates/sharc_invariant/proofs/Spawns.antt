@@ -1,5 +1,5 @@
 -- Spawn's first three turns keep the invariant: a number is given out, and the function and the argument are written.
-use Rattle.sharc_invariant.proofs.{Imports.{◌≡◌, ℕ, ℤ, pos, zero, suc, ◌+◌, ◌*◌, ◌^◌, ◌<◌, ◌≤◌, ◌≢◌, ◌&&◌, Bool, true, false, cond, List, Option, Some, None, refl, sym, ap, ◌∙◌, subst, inl, inr, ⊎_elim, arith, ltb-true, cases_eq, nat_tests, length-set, get_or-set_same, get_or-set_other, fun_ext, ◌%◌, length, slice_index, slice_set, nat_lt, nat_eq, ◌||◌, ◌==◌, THREADS, Swap, Add, HeldMutex, object_of, Kind, Read, Write, Accesses, note_of, epoch_of, Code, Shape, RunsOn, Stage, Rests, Makes, Lowers, Names, Hands, Begins, Withdraws, WithdrawsFrom, Leaves, holds, int_of, Char, Fits, next_thread_word, state_word, function_word, argument_word, first_cell, top_word, Machine, int, ref, set_int, handed, reference_of, function_of, instr_at, step_of, at_stage, stopped, numbered, argument, spawn, begun, turn, may_go, counted, Turn, Global, put, MayTurn, after_turn, one_thread, bounds, Register, Trap, Parameter, Instr, put_same, put_other, put_all, Targets, ObjectType, nothing, is_private, LessGate, Entry, Empty, Refers, Unknown, Number, Anything, Within, Indexes, OfElement, OfGlobal, Named, HasName, empty, set_number, Closed, Label, Labels, Leads, HasBase, IsShared, Passes, IsWellTyped, Fine, Window, TypedReference, RegisterOf, ArgumentOf, In, Slot, CellOf, World, Shut, Sole, WorldInvariant, in_ref, none, place, shift, conc_of, lang_of, Shows, is_first, is_unread, if_reference, note_number, register_of, argument_of, staged_of, noted_by, logged, is_ended, has_withdrawn, set_reg, making_of, store, Silently, made_turn, KeepsOthers, StopStands, State, IsSmall, View, view_of, vals_of, Runs, ThreadStands, Threads, Firsts, Reserves, SpawnsNow, EntryStands, NumberStands, TopStands, FramesStand, GateStands, StageStands, label_now, refs_at, types_at, size_of_run, Turned, Kept, sum_to, ne_eq}, TurnAt.{turn_at, turn_stands}, Effects.{place_same, place_other, shift_ok}, Frames.{empty_stands, less_number, filled, less_stands, entry_kept, frames_agree}, Quiet.{KeepsThread, KeepsMost, heap_now, most_state, sum_up, label_held, started_still, args_still, no_argument, sizes_kept, part_put, part_same}, Others.{OnHold, loses}, Turns.{asks_turn, room_of, unseen}, Own.{ref_inside, int_inside, closed_less, runs_at}, Filled.{view_filled, below_filled, free_shut}, Calls.passed_entry, Listed.store_ok, Accesses.back_again, Begun.{begun_stands, begun_regs}, Stores.index_put, Seen.reg_stored, Sums.sum_one, Starts.{register_held, arg_stored}, BitTurns.going_on, Plain.{sim_same, others_stay}, Heaps.low_stored}
+use Rattle.sharc_invariant.proofs.{Imports.{◌≡◌, ℕ, ℤ, pos, zero, suc, ◌+◌, ◌*◌, ◌^◌, ◌<◌, ◌≤◌, ◌≢◌, ◌&&◌, Bool, true, false, cond, List, Option, Some, None, refl, sym, ap, ◌∙◌, subst, inl, inr, ⊎_elim, arith, ltb-true, cases_eq, nat_tests, length-set, get_or-set_same, get_or-set_other, fun_ext, ◌%◌, length, slice_index, slice_set, nat_lt, nat_eq, ◌||◌, ◌==◌, THREADS, Swap, Add, HeldMutex, object_of, Kind, Read, Write, Accesses, note_of, epoch_of, Code, Shape, RunsOn, Stage, Rests, Makes, Lowers, Names, Hands, Begins, Withdraws, WithdrawsFrom, Leaves, holds, int_of, Char, Fits, next_thread_word, state_word, function_word, argument_word, first_cell, top_word, Machine, int, ref, set_int, handed, reference_of, function_of, instr_at, step_of, at_stage, stopped, numbered, argument, spawn, begun, turn, may_go, counted, Turn, Global, put, MayTurn, one_thread, bounds, Register, Trap, Parameter, Instr, put_same, put_other, put_all, Targets, ObjectType, nothing, is_private, LessGate, Entry, Empty, Refers, Unknown, Number, Anything, Within, Indexes, OfElement, OfGlobal, Named, HasName, empty, set_number, Closed, Label, Labels, Leads, HasBase, IsShared, Passes, IsWellTyped, Fine, Window, TypedReference, RegisterOf, ArgumentOf, In, Slot, CellOf, World, Shut, Sole, WorldInvariant, in_ref, none, place, shift, conc_of, lang_of, Shows, is_first, is_unread, if_reference, note_number, register_of, argument_of, staged_of, noted_by, logged, is_ended, has_withdrawn, set_reg, making_of, store, Silently, made_turn, KeepsOthers, StopStands, State, IsSmall, View, view_of, vals_of, Runs, ThreadStands, Threads, Firsts, Reserves, SpawnsNow, EntryStands, NumberStands, TopStands, FramesStand, GateStands, StageStands, label_now, refs_at, types_at, size_of_run, Turned, Kept, sum_to, ne_eq}, TurnAt.{turn_at, turn_stands}, Effects.{place_same, place_other, shift_ok}, Frames.{empty_stands, less_number, filled, less_stands, entry_kept, frames_agree}, Quiet.{KeepsThread, KeepsMost, heap_now, most_state, sum_up, label_held, started_still, args_still, no_argument, sizes_kept, part_put, part_same}, Others.{OnHold, loses}, Turns.{asks_turn, room_of, unseen}, Own.{ref_inside, int_inside, closed_less, runs_at}, Filled.{view_filled, below_filled, free_shut}, Calls.passed_entry, Listed.store_ok, Accesses.back_again, Begun.{begun_stands, begun_regs}, Stores.index_put, Seen.reg_stored, Sums.sum_one, Starts.{register_held, arg_stored}, BitTurns.going_on, Plain.{sim_same, others_stay}, Heaps.low_stored}
 use Rattle.sharc_tree.specs.declared.trap.Trap.TheVariants as traps
 
 abbrev pub is_spawning : Stage → Bool
@@ -228,11 +228,8 @@ sum_most (suc n) f c h = let a = sum_most n f c h in let b = h n in let e : suc 
 
 module _ (x : Targets) (code : Code) (s : Shape) (ls : Labels) (wt : IsWellTyped x code ls) (fits : Fits code s) (few : IsSmall code s) (g : Global Machine) (world : World) (st : State x code s ls g world) (tr : Turn)
     (may : MayTurn bounds (one_thread code s) g tr) (r f : ℕ) (from : Register) (site : ℕ) (is : instr_at code (g.threads tr.thread).at.pc ≡ Instr.Spawn r f from site) where
-  open turn_at st tr use {m as mm}
+  open turn_at st tr use {m as mm, after as done_at}
   open turn_stands st tr may use {low_t as on_t}
-
-  abbrev done_at : Global Machine
-  done_at = after_turn bounds (one_thread code s) g tr
 
   abbrev next_number : ℕ
   next_number = slice_index g.words next_thread_word
