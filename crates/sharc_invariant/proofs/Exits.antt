@@ -9,23 +9,13 @@ IsExiting (WithdrawsFrom row seen) = Unit {0}
 IsExiting Leaves = Unit {0}
 IsExiting _ = ⊥
 
-exiting_hold : (y : Stage) → IsExiting y → OnHold y
-exiting_hold (Links all) h = absurd h
-exiting_hold _ h = tt
-
-exiting_staged : (y : Stage) → IsExiting y → staged_of y ≡ 0
-exiting_staged (Lowers a b c) h = absurd h
-exiting_staged _ h = refl
-
-exiting_making : (y : Stage) → IsExiting y → making_of y ≡ None
-exiting_making (Makes v) h = absurd h
-exiting_making _ h = refl
-
-exiting_spawns : (y : Stage) → IsExiting y → (n : ℕ) → SpawnsNow y n → ⊥
-exiting_spawns (Names k) h n z = h
-exiting_spawns (Hands k) h n z = h
-exiting_spawns (Begins k) h n z = h
-exiting_spawns _ h n z = z
+-- at such a stage no block is to be linked or built, nothing is staged and no thread is named
+exiting_calm : (y : Stage) → IsExiting y → record { hold : OnHold y; staged : staged_of y ≡ 0; making : making_of y ≡ None; spawns : (n : ℕ) → SpawnsNow y n → ⊥ }
+exiting_calm Rests h = record { hold = tt; staged = refl; making = refl; spawns = λ n z. z }
+exiting_calm (Withdraws row) h = record { hold = tt; staged = refl; making = refl; spawns = λ n z. z }
+exiting_calm (WithdrawsFrom row seen) h = record { hold = tt; staged = refl; making = refl; spawns = λ n z. z }
+exiting_calm Leaves h = record { hold = tt; staged = refl; making = refl; spawns = λ n z. z }
+exiting_calm _ h = absurd h
 
 -- a granule of a live object, or of none
 abbrev IsOf : World → (ℕ → ℕ) → ℕ → ℕ → Type 0
@@ -65,7 +55,7 @@ module _ (x : Targets) (code : Code) (s : Shape) (ls : Labels) (wt : IsWellTyped
   begun = ne_eq m.at.pc 0 (λ z. let q : Instr.Exit ≡ Instr.Start wt.begin.0 = sym is ∙ ap (instr_at code) z ∙ wt.begin.1 in cc)
 
   now_here : (y : Stage) → IsExiting y → label_now here (instr_at code (g.threads tr.thread).at.pc) y ≡ here
-  now_here y ey = label_held here (instr_at code m.at.pc) y (exiting_hold y ey)
+  now_here y ey = label_held here (instr_at code m.at.pc) y (exiting_calm y ey).hold
 
   shut : world.win tr.thread ≡ Shut
   shut = subst (GateStands s world t m) f.0 (subst (λ (l : Label). GateStands s world t m l.gate) (now_here m.own.stage exiting) rn.gate)
@@ -79,8 +69,8 @@ module _ (x : Targets) (code : Code) (s : Shape) (ls : Labels) (wt : IsWellTyped
 
   same_regs : (q : StateOf) (y : Stage) → IsExiting y → (i : ℕ) → register_of code (with_stage q y) i ≡ register_of code (g.threads tr.thread) i
   same_regs q y ey i =
-      ap (λ b. cond b 0 (slice_index m.refs i)) (freed_held (instr_at code m.at.pc) y m.at.refs i (exiting_hold y ey))
-      ∙ sym (ap (λ b. cond b 0 (slice_index m.refs i)) (freed_held (instr_at code m.at.pc) m.own.stage m.at.refs i (exiting_hold m.own.stage exiting)))
+      ap (λ b. cond b 0 (slice_index m.refs i)) (freed_held (instr_at code m.at.pc) y m.at.refs i (exiting_calm y ey).hold)
+      ∙ sym (ap (λ b. cond b 0 (slice_index m.refs i)) (freed_held (instr_at code m.at.pc) m.own.stage m.at.refs i (exiting_calm m.own.stage exiting).hold))
 
   -- it goes on as it stood, but for passed checks, of which none is remembered
   runs_on : (q : StateOf) (y : Stage) → IsExiting y → (w' : World) → w'.slots ≡ world.slots → w'.win ≡ world.win → (heap' : Heap) (g' : Global Machine) → StageStands code s st.elements w' heap' g'.words tr.thread (with_stage q y) Instr.Exit y
@@ -152,7 +142,7 @@ module _ (x : Targets) (code : Code) (s : Shape) (ls : Labels) (wt : IsWellTyped
         }
 
     own : KeepsThread (g.threads tr.thread) m'
-    own = record { sizes = sizes_kept (g.threads tr.thread) m' (st.threads t).has.table refl refl refl refl; held = refl; heads = refl; making = exiting_making y ey ∙ sym (exiting_making m.own.stage exiting) }
+    own = record { sizes = sizes_kept (g.threads tr.thread) m' (st.threads t).has.table refl refl refl refl; held = refl; heads = refl; making = (exiting_calm y ey).making ∙ sym (exiting_calm m.own.stage exiting).making }
 
     started_now : (u : ℕ) → now.started u ≡ g.started u
     started_now u = started_still x code s ls g world st t words m' u (λ off' _. off (state_word u) (λ e.
@@ -171,7 +161,7 @@ module _ (x : Targets) (code : Code) (s : Shape) (ls : Labels) (wt : IsWellTyped
         let rs : (λ u. register_of code (now.threads u)) ≡ (λ u. register_of code (g.threads u)) = fun_ext (part_same (register_of code) g.threads t m' (fun_ext (same_regs q y ey))) in
         let ar = fun_ext args_same in
         let lo : (λ u. logged (now.threads u)) ≡ (λ u. logged (g.threads u)) = fun_ext (part_same logged g.threads t m' refl) in
-        let sg : (λ u. staged_of (now.threads u).own.stage) ≡ (λ u. staged_of (g.threads u).own.stage) = fun_ext (part_same (λ m. staged_of m.own.stage) g.threads t m' (exiting_staged y ey ∙ sym (exiting_staged m.own.stage exiting))) in
+        let sg : (λ u. staged_of (now.threads u).own.stage) ≡ (λ u. staged_of (g.threads u).own.stage) = fun_ext (part_same (λ m. staged_of m.own.stage) g.threads t m' ((exiting_calm y ey).staged ∙ sym (exiting_calm m.own.stage exiting).staged)) in
         let nt : (kind : Kind) → (λ u. noted_by (now.threads u) kind) ≡ (λ u. noted_by (g.threads u) kind) = λ kind. fun_ext (part_same (λ m. noted_by m kind) g.threads t m' (fun_ext (same_notes kind))) in
         let rd = nt Read in
         let wr = nt Write in
@@ -199,7 +189,7 @@ module _ (x : Targets) (code : Code) (s : Shape) (ls : Labels) (wt : IsWellTyped
     next_same = off next_thread_word (λ e. omega arith)
 
     spawn_before : (u n : ℕ) → SpawnsNow (now.threads u).own.stage n → SpawnsNow (g.threads u).own.stage n
-    spawn_before u n = put_all (λ u (z : Machine). SpawnsNow z.own.stage n → SpawnsNow (g.threads u).own.stage n) g.threads t m' (λ h. absurd (exiting_spawns y ey n h)) (λ u _ h. h) u
+    spawn_before u n = put_all (λ u (z : Machine). SpawnsNow z.own.stage n → SpawnsNow (g.threads u).own.stage n) g.threads t m' (λ h. absurd ((exiting_calm y ey).spawns n h)) (λ u _ h. h) u
 
     threads_now : Threads code ls world now
     threads_now = record {
@@ -249,7 +239,7 @@ module _ (x : Targets) (code : Code) (s : Shape) (ls : Labels) (wt : IsWellTyped
       sizes = sizes_kept (g.threads tr.thread) m1 (st.threads t).has.table refl refl refl refl;
       held = refl;
       heads = refl;
-      spawns = λ n h. absurd (exiting_spawns y ey n h);
+      spawns = λ n h. absurd ((exiting_calm y ey).spawns n h);
       begun_before = begun;
       begun = begun;
     }
@@ -257,7 +247,7 @@ module _ (x : Targets) (code : Code) (s : Shape) (ls : Labels) (wt : IsWellTyped
     conc_row : conc_of code (made_turn g tr.thread words m1) ≡ record (conc_of code g) { words = λ j. slice_index words j; read_notes = put (λ u. noted_by (g.threads u) Read) tr.thread (noted_by m1 Read); write_notes = put (λ u. noted_by (g.threads u) Write) tr.thread (noted_by m1 Write) }
     conc_row =
         let rs = fun_ext (put_self (λ u. register_of code (g.threads u)) t (register_of code m1) (fun_ext (same_regs RunsOn y ey))) in
-        let sg = fun_ext (put_self (λ u. staged_of (g.threads u).own.stage) t (staged_of y) (exiting_staged y ey ∙ sym (exiting_staged m.own.stage exiting))) in
+        let sg = fun_ext (put_self (λ u. staged_of (g.threads u).own.stage) t (staged_of y) ((exiting_calm y ey).staged ∙ sym (exiting_calm m.own.stage exiting).staged)) in
         let R : ℕ → ℕ → ℕ = put (λ u. noted_by (g.threads u) Read) t (noted_by m1 Read) in
         let W : ℕ → ℕ → ℕ = put (λ u. noted_by (g.threads u) Write) t (noted_by m1 Write) in
         conc_now x code s ls wt g world st t may.started words m1 own1 (lower kw) ∙ (λ i. record (conc_of code g) { words = λ j. slice_index words j; regs = rs i; staged = sg i; read_notes = R; write_notes = W })
@@ -268,7 +258,7 @@ module _ (x : Targets) (code : Code) (s : Shape) (ls : Labels) (wt : IsWellTyped
     row_state w' es ew eo em others inv sim epochs stage few =
         let now = made_turn g t words m1 in
         alike_state x code s ls wt g world st t may.started words m1 own1 (lower kw) w' eo em kept (kw.low top_word (omega arith) (λ e. absurd (omega arith)))
-        (λ b. ap (λ z. Rattle.sharc_invariant.specs.Words.head_with z m.own.heads b) (exiting_making y ey ∙ sym (exiting_making m.own.stage exiting)))
+        (λ b. ap (λ z. Rattle.sharc_invariant.specs.Words.head_with z m.own.heads b) ((exiting_calm y ey).making ∙ sym (exiting_calm m.own.stage exiting).making))
         others (λ u. ap (λ (f : Rattle.sharc_invariant.specs.World.Slot → TypedReference). f (In (ArgumentOf u))) es) inv sim
         (λ i lt. let a = st.epochs i lt in let b = epochs i lt in let c = sum_up THREADS g.made t 1 in omega arith)
         (λ _. runs_on RunsOn y ey w' es ew (heap_now st.heap words) now stage) (λ q. absurd (cc)) few
