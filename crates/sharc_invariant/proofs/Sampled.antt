@@ -13,9 +13,6 @@ put_lockless f d e h k = put_all (λ q y. (r : ℕ) → EntryMentions y r → �
 nobody : Lockless (λ r. Empty)
 nobody q r h = h
 
-empty_names : (r : ℕ) → EntryMentions Empty r → ⊥
-empty_names r h = h
-
 abbrev E0 : ℕ → Entry
 E0 = λ r. Empty
 
@@ -24,22 +21,22 @@ free_by l r k = record { paths = λ q _ m. k q r m }
 
 -- ---- the labels are scoped, and no type has a lock
 record Sound (ints refs : ℕ) (l : Label) : Type 0 where
-  pub lockless : Lockless l.env
+  pub free : Lockless l.env
   pub scoped : IsScoped ints refs l
 
 filled : (ints refs : ℕ) (l : Label) (d : ℕ) (s : StaticType) (c : ℕ) (b : Bool) → d < refs → ((r : ℕ) → EntryMentions (Refers s) r → ⊥) → (c ≡ d) ⊎ (l.env c ≢ Empty) → Sound ints refs l → Sound ints refs (fill l d (Refers s) c b)
-filled ints refs l d s c b lt none copy h = record { lockless = put_lockless l.env d (Refers s) none h.lockless; scoped = scoped_fill ints refs l d s c b lt (λ q m. absurd (none q m)) copy h.scoped }
+filled ints refs l d s c b lt none copy h = record { free = put_lockless l.env d (Refers s) none h.free; scoped = scoped_fill ints refs l d s c b lt (λ q m. absurd (none q m)) copy h.scoped }
 
 emptied : (ints refs : ℕ) (l : Label) (d : ℕ) → Sound ints refs l → Sound ints refs (empty l d)
-emptied ints refs l d h = record { lockless = put_lockless l.env d Empty (λ r m. m) h.lockless; scoped = scoped_empty ints refs l d (λ r _ m. h.lockless r d m) h.scoped }
+emptied ints refs l d h = record { free = put_lockless l.env d Empty (λ r m. m) h.free; scoped = scoped_empty ints refs l d (λ r _ m. h.free r d m) h.scoped }
 
 -- where the types are the same
 also : {ints refs : ℕ} {l l' : Label} → (IsScoped ints refs l → IsScoped ints refs l') → l'.env ≡ l.env → Sound ints refs l → Sound ints refs l'
-also f same h = record { lockless = subst Lockless (sym same) h.lockless; scoped = f h.scoped }
+also f same h = record { free = subst Lockless (sym same) h.free; scoped = f h.scoped }
 
 first_sound : (ints refs : ℕ) (l : Label) → ((r : ℕ) → refs ≤ r → l.env r ≡ Empty) → Lockless l.env → l.same ≡ (λ r. r) → l.known ≡ (λ r. false) → l.ints ≡ (λ i. Anything) → l.passed ≡ [] → Sound ints refs l
 first_sound ints refs l few k es ek ei ep = record {
-  lockless = k;
+  free = k;
   scoped = record {
     few = few;
     paths = λ r q m. absurd (k r q m);
@@ -307,7 +304,7 @@ module _ (code : Code) (is : IsSample code) where
   p6 = w 6 (gated w5 (Checked true (Cell.Object 1 2))) (Store 0 (Cell.Object 1 2) 1) refl (f_dynamic, Int, record { cell = (has_cell (gated w5 (Checked true (Cell.Object 1 2))) 2 f_dynamic refl refl refl (omega arith) refl); may = Directly true refl tt; apart = tt; mode = is.sites.0 }, refl, refl, less_refl (gated (gated w5 (Checked true (Cell.Object 1 2))) Closed)) s6
 
   p7 : Right 7 (gated (gated w5 (Checked true (Cell.Object 1 2))) Closed) (Lower 1)
-  p7 = w 7 (gated (gated w5 (Checked true (Cell.Object 1 2))) Closed) (Lower 1) refl (refl, (let b = refs_w in omega arith), inl (free_by (gated (gated w5 (Checked true (Cell.Object 1 2))) Closed) 1 s7.lockless, less_refl w8)) s7
+  p7 = w 7 (gated (gated w5 (Checked true (Cell.Object 1 2))) Closed) (Lower 1) refl (refl, (let b = refs_w in omega arith), inl (free_by (gated (gated w5 (Checked true (Cell.Object 1 2))) Closed) 1 s7.free, less_refl w8)) s7
 
   p8 : Right 8 w8 (Raise 1 0)
   p8 = w 8 w8 (Raise 1 0) refl (refl, vacant w8 1 (sym refs_w) (omega arith) refl, (let b = refs_w in omega arith), less_refl (raised w8 1 0)) s8
@@ -322,7 +319,7 @@ module _ (code : Code) (is : IsSample code) where
   p11 = w 11 w10 (ChkRoom 0) refl (refl, less_refl (record w10 { room = true })) s10
 
   p12 : Right 12 (record w10 { room = true }) (Lock (Cell.Object 1 0) 0)
-  p12 = w 12 (record w10 { room = true }) (Lock (Cell.Object 1 0) 0) refl (refl, refl, (f_mutex, (has_cell (record w10 { room = true }) 0 f_mutex refl refl refl (omega arith) refl), refl), free_by (record w10 { room = true }) 1 s12.lockless, less_refl w13) s12
+  p12 = w 12 (record w10 { room = true }) (Lock (Cell.Object 1 0) 0) refl (refl, refl, (f_mutex, (has_cell (record w10 { room = true }) 0 f_mutex refl refl refl (omega arith) refl), refl), free_by (record w10 { room = true }) 1 s12.free, less_refl w13) s12
 
   p13 : Right 13 w13 (Raise 1 0)
   p13 = w 13 w13 (Raise 1 0) refl (refl, vacant w13 1 (sym refs_w) (omega arith) refl, (let b = refs_w in omega arith), less_refl (raised w13 1 0)) s13
@@ -340,7 +337,7 @@ module _ (code : Code) (is : IsSample code) where
   p17 = w 17 w17 (Store 0 (Cell.Object 1 1) 2) refl (f_locked, Int, record { cell = (has_cell w17 1 f_locked refl refl refl (omega arith) refl); may = (Cell.Object 1 0, f_mutex, refl, (has_cell w17 0 f_mutex refl refl refl (omega arith) refl), refl, (Itself refl, omega arith, omega arith)); apart = tt; mode = (is.sites.1, tt) }, refl, refl, less_refl (gated w17 Closed)) s17
 
   p18 : Right 18 (gated w17 Closed) (Lower 1)
-  p18 = w 18 (gated w17 Closed) (Lower 1) refl (refl, (let b = refs_w in omega arith), inl (free_by (gated w17 Closed) 1 s18.lockless, less_refl w19)) s18
+  p18 = w 18 (gated w17 Closed) (Lower 1) refl (refl, (let b = refs_w in omega arith), inl (free_by (gated w17 Closed) 1 s18.free, less_refl w19)) s18
 
   p19 : Right 19 w19 (Raise 1 0)
   p19 = w 19 w19 (Raise 1 0) refl (refl, vacant w19 1 (sym refs_w) (omega arith) refl, (let b = refs_w in omega arith), less_refl (raised w19 1 0)) s19
@@ -355,13 +352,13 @@ module _ (code : Code) (is : IsSample code) where
   p22 = w 22 w22 (Unlock 2 (Cell.Object 1 0) 0) refl (refl, vacant w22 2 (sym refs_w) (omega arith) refl, (f_mutex, (has_cell w22 0 f_mutex refl refl refl (omega arith) refl), refl), less_refl w23) s22
 
   p23 : Right 23 w23 (Lower 2)
-  p23 = w 23 w23 (Lower 2) refl (refl, (let b = refs_w in omega arith), inl (free_by w23 2 s23.lockless, less_refl w24)) s23
+  p23 = w 23 w23 (Lower 2) refl (refl, (let b = refs_w in omega arith), inl (free_by w23 2 s23.free, less_refl w24)) s23
 
   p24 : Right 24 w24 (Lower 1)
-  p24 = w 24 w24 (Lower 1) refl (refl, (let b = refs_w in omega arith), inl (free_by w24 1 s24.lockless, less_refl w25)) s24
+  p24 = w 24 w24 (Lower 1) refl (refl, (let b = refs_w in omega arith), inl (free_by w24 1 s24.free, less_refl w25)) s24
 
   p25 : Right 25 w25 (Lower 0)
-  p25 = w 25 w25 (Lower 0) refl (refl, (let b = refs_w in omega arith), inl (free_by w25 0 s25.lockless, less_refl w26)) s25
+  p25 = w 25 w25 (Lower 0) refl (refl, (let b = refs_w in omega arith), inl (free_by w25 0 s25.free, less_refl w26)) s25
 
   p26 : Right 26 w26 (Return 0)
   p26 = w 26 w26 (Return 0) refl (refl, (1, refl, record { result = refl; result_int = tt; empty = gone26 })) s26
@@ -373,13 +370,13 @@ module _ (code : Code) (is : IsSample code) where
   p28 = m 28 m28 (New 2 0 3 0) refl (refl, vacant m28 2 (sym refs_m) (omega arith) refl, (the_private, (λ e. omega arith), omega arith, refl, omega arith, (λ i. no_pointer (i % cells_of the_targets 1)), (λ h. h), less_refl m29)) s28
 
   p29 : Right 29 m29 (MoveReference 0 2)
-  p29 = m 29 m29 (MoveReference 0 2) refl (refl, inr (vacant m29 0 (sym refs_m) (omega arith) refl, (let b = refs_m in omega arith), (λ e. omega arith), free_by m29 2 s29.lockless, (λ h. h), less_refl m30)) s29
+  p29 = m 29 m29 (MoveReference 0 2) refl (refl, inr (vacant m29 0 (sym refs_m) (omega arith) refl, (let b = refs_m in omega arith), (λ e. omega arith), free_by m29 2 s29.free, (λ h. h), less_refl m30)) s29
 
   p30 : Right 30 m30 (TakeLocal 2 0 0)
-  p30 = m 30 m30 (TakeLocal 2 0 0) refl (refl, vacant m30 2 (sym refs_m) (omega arith) refl, (let b = refs_m in omega arith), (λ e. omega arith), free_by m30 0 s30.lockless, (λ h. h), less_refl m31) s30
+  p30 = m 30 m30 (TakeLocal 2 0 0) refl (refl, vacant m30 2 (sym refs_m) (omega arith) refl, (let b = refs_m in omega arith), (λ e. omega arith), free_by m30 0 s30.free, (λ h. h), less_refl m31) s30
 
   p31 : Right 31 m31 (JumpIfNull 2 35)
-  p31 = m 31 m31 (JumpIfNull 2 35) refl (refl, inr (free_by m31 2 s31.lockless, null_less), less_refl m32) s31
+  p31 = m 31 m31 (JumpIfNull 2 35) refl (refl, inr (free_by m31 2 s31.free, null_less), less_refl m32) s31
 
   p32 : Right 32 m32 (TestSole 2 0)
   p32 = m 32 m32 (TestSole 2 0) refl (refl, (let b = refs_m in omega arith), refl, less_refl m33) s32
@@ -388,22 +385,22 @@ module _ (code : Code) (is : IsSample code) where
   p33 = m 33 m33 (Clear 2 3) refl (refl, (λ p h e. absurd h), (the_private, refl, refl, less_refl m34)) s33
 
   p34 : Right 34 m34 (Give 2 0)
-  p34 = m 34 m34 (Give 2 0) refl (refl, free_by m34 2 s34.lockless, (the_private, the_dynamic, refl, record { some = λ e. omega arith; is_row = omega arith; cells = refl; same = recast_same }, (λ h. h), given_less)) s34
+  p34 = m 34 m34 (Give 2 0) refl (refl, free_by m34 2 s34.free, (the_private, the_dynamic, refl, record { some = λ e. omega arith; is_row = omega arith; cells = refl; same = recast_same }, (λ h. h), given_less)) s34
 
   p35 : Right 35 m35 (MoveReference 1 2)
-  p35 = m 35 m35 (MoveReference 1 2) refl (refl, inr (vacant m35 1 (sym refs_m) (omega arith) refl, (let b = refs_m in omega arith), (λ e. omega arith), free_by m35 2 s35.lockless, (λ h. h), less_refl m36)) s35
+  p35 = m 35 m35 (MoveReference 1 2) refl (refl, inr (vacant m35 1 (sym refs_m) (omega arith) refl, (let b = refs_m in omega arith), (λ e. omega arith), free_by m35 2 s35.free, (λ h. h), less_refl m36)) s35
 
   p36 : Right 36 m36 (Raise 2 1)
   p36 = m 36 m36 (Raise 2 1) refl (refl, vacant m36 2 (sym refs_m) (omega arith) refl, (let b = refs_m in omega arith), less_refl m37) s36
 
   p37 : Right 37 m37 (Spawn 1 1 (Register.Reference 2) 0)
-  p37 = m 37 m37 (Spawn 1 1 (Register.Reference 2) 0) refl (refl, (let b = ints_m in omega arith), (let b = is.number in omega arith), refl, refl, (is.parameters.1, (let b = refs_m in omega arith), free_by m37 2 s37.lockless, (λ q h. h), (refl, tt), refl), less_refl m38) s37
+  p37 = m 37 m37 (Spawn 1 1 (Register.Reference 2) 0) refl (refl, (let b = ints_m in omega arith), (let b = is.number in omega arith), refl, refl, (is.parameters.1, (let b = refs_m in omega arith), free_by m37 2 s37.free, (λ q h. h), (refl, tt), refl), less_refl m38) s37
 
   p38 : Right 38 m38 (Lower 1)
-  p38 = m 38 m38 (Lower 1) refl (refl, (let b = refs_m in omega arith), inl (free_by m38 1 s38.lockless, less_refl m39)) s38
+  p38 = m 38 m38 (Lower 1) refl (refl, (let b = refs_m in omega arith), inl (free_by m38 1 s38.free, less_refl m39)) s38
 
   p39 : Right 39 m39 (Lower 0)
-  p39 = m 39 m39 (Lower 0) refl (refl, (let b = refs_m in omega arith), inl (free_by m39 0 s39.lockless, less_refl m40)) s39
+  p39 = m 39 m39 (Lower 0) refl (refl, (let b = refs_m in omega arith), inl (free_by m39 0 s39.free, less_refl m40)) s39
 
   p40 : Right 40 m40 (Constant 0 (pos 0))
   p40 = m 40 m40 (Constant 0 (pos 0)) refl (refl, (let b = ints_m in omega arith), less_refl m41) s40
