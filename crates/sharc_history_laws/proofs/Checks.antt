@@ -1,5 +1,5 @@
 -- A turn that is a check: its cell, the bit that it sets, and the access that it is of.
-use Rattle.sharc_history_laws.proofs.{Imports.{◌≡◌, ℕ, ◌+◌, ◌*◌, ◌<◌, Bool, true, false, List, ◌∷◌, Some, None, refl, sym, ap, ◌∙◌, subst, Kind, Read, Write, AddsAccess, is_write, Code, Cell, Instr, Shape, granules, granule_at, granule_of, Machine, instr_at, place, check_of, Turn, Global, result_of, after_turn, cell_at, one_thread, bounds, place_after, Access, CheckOf, Label, Labels, IsOn, touch_at, State, StageStands, OnHold, Fine, HasCell, Targets, Field, World, IsFollowed, ChecksAreFollowed, access_to, access_checked}, TurnAt.{turn_at, RunOf}, Consists.Consists, Doing.granule_low, Followed.{IsCheckBy, OfRead, OfWrite, check_by, accessed_is}, Remaining.{word_at, check_bit}, Single.{single, rests_hold}, Spots.{IsChecked, is_checked}, Staying.{StillThere, kept_calm}, Tables.header_of, Acts.{given_at, freed_at}, Wholes.{TheLaws, Typed, Whole, whole, whole_next, fresh_of}}
+use Rattle.sharc_history_laws.proofs.{Imports.{◌≡◌, ℕ, ◌+◌, ◌*◌, ◌<◌, Bool, true, false, List, ◌∷◌, Some, None, refl, sym, ap, ◌∙◌, subst, Kind, Read, Write, AddsAccess, is_write, Code, Cell, Instr, Shape, granules, granule_at, granule_of, Machine, instr_at, place, check_of, Turn, Global, result_of, after_turn, cell_at, one_thread, bounds, place_after, Access, CheckOf, Label, Labels, IsOn, touch_at, State, StageStands, OnHold, Fine, HasCell, Targets, Field, World, IsFollowed, ChecksAreFollowed, access_to, access_checked}, TurnAt.{turn_at, RunOf}, Consists.Consists, Doing.granule_low, Followed.{IsCheckBy, OfRead, OfWrite, check_by, accessed_is}, Remaining.{word_at, check_bit}, Single.{single, rests_hold, single_check}, Spots.{IsChecked, is_checked}, Staying.{StillThere, kept_calm}, Tables.header_of, Acts.{given_at, freed_at}, Wholes.{TheLaws, Typed, Whole, whole, whole_next, fresh_of}}
 use Rattle.sharc_history_laws.specs.Followed.{Accesses}
 
 -- the cell of a check
@@ -40,10 +40,6 @@ calm_given Write c site m = refl
 calm_freed : (kind : Kind) (c : Cell) (site : ℕ) (m : Machine) → freed_at (check_of kind c site) m ≡ None
 calm_freed Read c site m = refl
 calm_freed Write c site m = refl
-
-is_single : (kind : Kind) (c : Cell) (site : ℕ) → single (check_of kind c site) ≡ true
-is_single Read c site = refl
-is_single Write c site = refl
 
 module _ (laws : TheLaws) (x : Targets) (code : Code) (s : Shape) (ls : Labels) (typed : Typed x code s ls) (one : Turn) (earlier : List Turn) (kind : Kind) (p : ℕ) (k : CheckCell code s (place_after code s earlier) one kind p) where
   open turn_at code s (place_after code s earlier) one use {g, t, m, i}
@@ -103,7 +99,7 @@ module _ (laws : TheLaws) (x : Targets) (code : Code) (s : Shape) (ls : Labels) 
         by Write f = (f.1.0, f.1.1)
 
     pub hold : OnHold ((place_after code s earlier).threads one.thread).own.stage
-    hold = rests_hold code s st.elements world st.heap g.words t m (check_of kind k.cell k.site) m.own.stage (is_single kind k.cell k.site)
+    hold = rests_hold code s st.elements world st.heap g.words t m (check_of kind k.cell k.site) m.own.stage (single_check kind k.cell k.site)
         (subst (λ i. StageStands code s st.elements world st.heap g.words t m i m.own.stage) k.at ((st.threads t).runs on.0 on.1).stage)
 
     pub checked_here : IsChecked x code s ls typed.wt typed.fits (place_after code s earlier) (whole laws x code s ls typed earlier run.0).consists.world (whole laws x code s ls typed earlier run.0).consists.state one.thread on hold laws.cells k.cell p

@@ -1,5 +1,5 @@
 -- What a thread was given to begin with, its function and its argument, no turn writes once the thread is started.
-use Rattle.sharc_history_laws.proofs.{Imports.{◌≡◌, ℕ, ◌<◌, ◌≢◌, List, Option, Some, None, refl, sym, ap, ◌∙◌, subst, arith, get_or-set_other, slice_index, THREADS, WordStep, WordEvent, word_after, words_after_step, Code, Instr, Shape, state_word, function_word, argument_word, Machine, StepTurn as Act, Local, Asks, step_of, word, new, instr_at, turn, asked_by, words_now, World, Heap, StageStands}, Tables.step_leaves, Aims.{Aims, TurnAims, aims}}
+use Rattle.sharc_history_laws.proofs.{Imports.{◌≡◌, ℕ, ◌<◌, ◌≢◌, List, Option, Some, None, refl, sym, ap, ◌∙◌, subst, arith, get_or-set_other, slice_index, THREADS, WordStep, WordEvent, word_after, words_after_step, Code, Instr, Shape, state_word, function_word, argument_word, Machine, StepTurn as Act, Local, Asks, step_of, word, new, instr_at, turn, asked_by, words_now, World, Heap, StageStands}, Tables.step_leaves, Aims.{Aims, TurnAims, Reserved, typed_aims}}
 use Rattle.sharc_code.specs.Runs as Runs
 
 -- a step that leaves its word, or is on another than these two of thread n
@@ -16,21 +16,21 @@ module _ (s : Shape) (n : ℕ) (few : n < THREADS) (code : Code) (elements : ℕ
   apart : (k : ℕ) → slice_index words (state_word k) ≡ 0 → k ≡ n → ⊥
   apart k new same = started (ap (λ k. slice_index words (state_word k)) (sym same) ∙ new)
 
-  spared : (i : Instr) (step : WordStep) → Aims s words i step → SparesGiven n step
+  spared : (i : Instr) (step : WordStep) → Aims s (Reserved words) i step → SparesGiven n step
   spared i step (Aims.Same keeps) = Leaves keeps
-  spared i step (Aims.First lt) = Elsewhere (λ e. omega arith) (λ e. omega arith)
-  spared i step (Aims.OfState k low at) = Elsewhere (λ e. omega (arith, at, e)) (λ e. omega (arith, at, e))
-  spared i step (Aims.OfFunction k low new at) = Elsewhere (λ e. apart k new (omega (arith, at, e))) (λ e. omega (arith, at, e))
-  spared i step (Aims.OfArgument k low new at) = Elsewhere (λ e. omega (arith, at, e)) (λ e. apart k new (omega (arith, at, e)))
+  spared i step (Aims.First lt unnumbered) = Elsewhere (λ e. omega arith) (λ e. omega arith)
+  spared i step (Aims.OfState k low owns at) = Elsewhere (λ e. omega (arith, at, e)) (λ e. omega (arith, at, e))
+  spared i step (Aims.OfFunction k d at) = Elsewhere (λ e. apart k d.1 (omega (arith, at, e))) (λ e. omega (arith, at, e))
+  spared i step (Aims.OfArgument k d at) = Elsewhere (λ e. omega (arith, at, e)) (λ e. apart k d.1 (omega (arith, at, e)))
   spared i step (Aims.OfShadow touches le) = Elsewhere (λ e. omega arith) (λ e. omega arith)
   spared i step (Aims.Above le) = Elsewhere (λ e. omega arith) (λ e. omega arith)
 
-  by_turn : (i : Instr) (y : Act) → TurnAims s words i y → TurnSpares n y
+  by_turn : (i : Instr) (y : Act) → TurnAims s (Reserved words) i y → TurnSpares n y
   by_turn i (Local y) h = tt
   by_turn i (Asks step go) h = spared i step h
 
   pub spares_given : StageStands code s elements w heap words t m (instr_at code m.at.pc) m.own.stage → TurnSpares n (turn code s m)
-  spares_given h = by_turn (instr_at code m.at.pc) (turn code s m) (aims code s elements w heap words t m (instr_at code m.at.pc) h)
+  spares_given h = by_turn (instr_at code m.at.pc) (turn code s m) (typed_aims code s elements w heap words t m (instr_at code m.at.pc) h)
 
 -- so both words stay
 module _ (n : ℕ) (words : List ℕ) where

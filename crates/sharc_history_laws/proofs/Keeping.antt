@@ -5,12 +5,7 @@ module _ (laws : TheLaws) (x : Targets) (code : Code) (s : Shape) (ls : Labels) 
     (o k : ℕ) (live : (w.consists.world.obj o).live ≡ true) (inside : 2 * k < w.consists.state.cells o) (v : ℕ) (ne : v ≢ one.thread) (hold : OnHold ((place_after code s earlier).threads v).own.stage)
     (refers : o ≢ 0 → (q : ℕ) × (ref ((place_after code s earlier).threads v) q ≡ o)) where
   open turn_at code s (place_after code s earlier) one use {g, t, m, i, m'}
-
-  abbrev world : World
-  world = w.consists.world
-
-  abbrev st : State x code s ls (place_after code s earlier) w.consists.world
-  st = w.consists.state
+  open w.consists use {world, state as st}
 
   on : IsOn (place_after code s earlier) one.thread
   on = (run.1.started, run.1.next.runs)

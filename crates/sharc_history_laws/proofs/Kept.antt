@@ -1,6 +1,6 @@
 -- A mutex that is locked by the events is in a held log; and what a Spawn has given a thread that has had no event is
 -- the argument that it is to read.
-use Rattle.sharc_history_laws.proofs.{Imports.{◌≡◌, ◌≢◌, ℕ, ℤ, pos, zero, suc, ◌^◌, ◌<◌, ◌≤◌, ◌⊎◌, inl, inr, ⊎_elim, Bool, true, false, not, ◌&&◌, length, List, [], ◌∷◌, ◌++◌, reverse, Some, if◌then◌else◌, refl, sym, ap, ◌∙◌, subst, arith, eqb-true, append_assoc, and_parts, cases_lt, or_right, nat_tests, get_or_append_left, get_or_push, length_push, Any, Contains, slice_index, nat_lt, ◌==◌, list_any, THREADS, Act, CellAt, Object, SourceEvent, HeldMutex, object_of, Resolution, Code, Shape, Fits, state_word, function_of, reference_of, Turn, reference, started_with, place_after, Parameter, table_of, events_of, is_null, refers, IsNewThread, MayCome, is_locked, is_natural, is_spawn, spawns, was_spawned, Targets, Labels, IsWellTyped, ArgumentOf, In, argument_of, if_reference, is_unread, log_refers, CellsAreThere, history_of, is_about_waiters, same_is, is_below as below, yes}, Finds.{low_slot, same_object}, Holding.any_push, Lists.{Newest, reverse_push}, Locked.{IsIn, NamesIn}, Mutual.locked_is, Rules.newest, Started.{Begun, IsStart, SpawnedIn, Unheard, WasGiven, argument_given, function_given, unheard}, Stored.{EachMayCome, Stored}, Threaded.or_left}
+use Rattle.sharc_history_laws.proofs.{Imports.{◌≡◌, ◌≢◌, ℕ, ℤ, pos, zero, suc, ◌^◌, ◌<◌, ◌≤◌, ◌⊎◌, inl, inr, ⊎_elim, Bool, true, false, not, ◌&&◌, length, List, [], ◌∷◌, ◌++◌, reverse, Some, if◌then◌else◌, refl, sym, ap, ◌∙◌, subst, arith, eqb-true, append_assoc, and_parts, cases_lt, or_right, nat_tests, get_or_append_left, get_or_push, length_push, Any, Contains, slice_index, nat_lt, ◌==◌, list_any, THREADS, Act, CellAt, Object, SourceEvent, HeldMutex, object_of, Resolution, Code, Shape, Fits, state_word, function_of, reference_of, Turn, reference, started_with, place_after, Parameter, table_of, events_of, is_null, refers, IsNewThread, MayCome, is_locked, is_natural, is_spawn, spawns, was_spawned, Targets, Labels, IsWellTyped, ArgumentOf, In, argument_of, if_reference, is_unread, log_refers, CellsAreThere, history_of, is_about_waiters, same_is, is_below as below, yes}, Finds.{low_slot, same_object}, Holding.any_push, Lists.{Newest, reverse_push}, Locked.{IsIn, NamesIn, contains}, Mutual.locked_is, Rules.newest, Started.{Begun, IsStart, SpawnedIn, Unheard, WasGiven, argument_given, function_given, unheard, chosen}, Stored.{EachMayCome, Stored}, Threaded.or_left}
 use Rattle.sharc_meaning.specs.Reference as Reference
 
 -- ---- held logs
@@ -23,10 +23,6 @@ entry_at (k ∷ log) h is same = by (k.word == h.word) refl (entry_at log h)
 named_object : (code : Code) (a : Object) (cell o p at : ℕ) → a ≡ Object.Made o → NamesIn code a cell p at → p ≡ o
 named_object code (Object.Made n) cell o p at is h = let e : n ≡ o = cc in sym h.0 ∙ e
 named_object code (Object.Global g) cell o p at is h = absurd (cc)
-
-pub contains : (log : List HeldMutex) (b : HeldMutex) → IsIn b log → Contains log b
-contains [] b is = absurd is
-contains (y ∷ log) b is = ⊎_elim (λ (e : y ≡ b). (0, omega arith, e)) (λ rest. let k = contains log b rest in let lt = k.1 in (suc k.0, omega arith, k.2)) is
 
 pub locked_logged : (cell_laws : CellsAreThere) (x : Targets) (code : Code) (s : Shape) (ls : Labels) (wt : IsWellTyped x code ls) (fits : Fits code s) (r : Resolution)
     (run : List Turn) → Stored r x code s ls run → (c : CellAt) (o : ℕ) → c.object ≡ Object.Made o → is_locked (history_of code s run) c ≡ true
@@ -118,12 +114,6 @@ referred o (suc k) elements low is =
     let parts = and_parts (not (is_null (reference (suc k) elements))) (Reference.number_of (reference (suc k) elements) == o) is in
     let number : Reference.number_of (reference (suc k) elements) ≡ suc k = omega arith in
     sym number ∙ eqb-true (Reference.number_of (reference (suc k) elements)) o parts.1
-
-chosen : (a b c : Bool) (v : ℕ) → a ≡ true → b ≡ true → c ≡ true → (if (a && b) && c then v else 0) ≡ v
-chosen true true true v e f q = refl
-chosen true true false v e f q = absurd (yes (sym q))
-chosen true false c v e f q = absurd (yes (sym f))
-chosen false b c v e f q = absurd (yes (sym e))
 
 pub spawned_given : (cell_laws : CellsAreThere) (x : Targets) (code : Code) (s : Shape) (ls : Labels) (wt : IsWellTyped x code ls) (fits : Fits code s) (r : Resolution)
     (run : List Turn) → Stored r x code s ls run → Begun x code s ls run → (u f o : ℕ) (v : ℤ) → events_of u (history_of code s run) ≡ [] → Any (IsStart u f v) (history_of code s run)

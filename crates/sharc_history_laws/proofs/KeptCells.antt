@@ -7,11 +7,7 @@ module _ (state_law : StateStands) (cell_laws : CellsAreThere) (x : Targets) (co
   abbrev g : Global Machine
   g = place_after code s run
 
-  abbrev world : World
-  world = k.consists.world
-
-  abbrev st : State x code s ls (place_after code s run) k.consists.world
-  st = k.consists.state
+  open k.consists use {world, state as st}
 
   parts : ((k.consists.world.obj p).live ≡ true) × ((nat_lt i (cells_now x s (place_after code s run) k.consists.world.obj p) && is_pointer (field_in x (k.consists.world.obj p).ty i).holds) ≡ true)
   parts = and_parts (k.consists.world.obj p).live (nat_lt i (cells_now x s (place_after code s run) k.consists.world.obj p) && is_pointer (field_in x (k.consists.world.obj p).ty i).holds) is

@@ -9,14 +9,10 @@ one_event a b o p q = let e : Some a ≡ Some b = sym p ∙ q in cc
 
 -- ---- at a place of a run
 module _ (x : Targets) (code : Code) (s : Shape) (ls : Labels) (wt : IsWellTyped x code ls) (fits : Fits code s) (run : List Turn) (h : Consists x code s ls run) where
-  abbrev world : World
-  world = h.world
+  open h use {world, state as st}
 
   abbrev g : Global Machine
   g = place_after code s run
-
-  abbrev st : State x code s ls (place_after code s run) h.world
-  st = h.state
 
   -- a live object with a cell of this number
   is_now : (p i : ℕ) → (h.world.obj p).live ≡ true → i < h.state.cells p → is_pointer (field_in x (h.world.obj p).ty i).holds ≡ true → is_pointer_now x s (place_after code s run) h.world.obj p i ≡ true

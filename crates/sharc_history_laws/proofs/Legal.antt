@@ -1,5 +1,5 @@
 -- The event of each turn of typed code may come after those before it, if it does not tell who waits.
-use Rattle.sharc_history_laws.proofs.{Imports.{◌≡◌, ℕ, ℤ, pos, negsuc, zero, suc, ◌+◌, ◌<◌, ◌≤◌, ◌≢◌, ◌⊎◌, inl, inr, Bool, true, false, ◌||◌, nat_lt, List, [], ◌∷◌, reverse, Option, Some, None, is_some, if◌then◌else◌, refl, sym, ap, ◌∙◌, subst, ⊎_elim, arith, eqb-true, ltb-true, nat_tests, not_true, slice_index, ◌==◌, Contains, THREADS, WordStep, WordOp, Act, SourceEvent, Trap, NewStage, waits_in, HeldMutex, object_of, Resolution, Code, Cell, Instr, Register, Shape, Stage, Makes, Uncounts, Begins, Enters, Withdraws, WithdrawsFrom, Leaves, Wakes, RunLaws, int_of, Fits, first_cell, state_word, Machine, step_of, int, ref, word, act, place, object, is_held, join, joined, trapped, Local, Asks, is_locking, turn, asked_by, Turn, MayTurn, said, cell_at, speaks_of, take_local, nobody, in_signal, in_exit, in_spawn, in_start, in_free, in_new, new_event, event_at, reference, one_thread, bounds, place_after, state_of, TellsState, is_about_waiters, MayFind, table_of, is_cell, locked_by, unlocked_by, History, MayCome, IsFresh, was_spawned, went, was_locked_by, value_after, Targets, Field, Labels, IsWellTyped, Accesses, is_ended, IsSmall, StageStands, OnHold, Keeps, CellsAreThere, PointersAreThere, AccessesAreAllowed, StateStands, yes}, TurnAt.{turn_at, told_at, turn_stands}, Consists.{Consists, found_is, quiet_is, own_turn, header_built, built_low, live_not_built}, Contents.{value_is, newest_value, value_held, content_of, word_of_cell, Contents}, Emptying.IsEmptied, Holding.{cell_eq, holds_in}, Lists.{Newest, live_in, is_live_in}, Living.LivesTold, Locked.{IsIn, LogTold, names_cell, one_place, held_told}, Locking.word_is, Logged.{LogHas, is_logged}, Mutual.{Mutual, MayMutex, no_lock, locked_in, locked_by_in, locked_is, locked_by_is}, Mutexless.{mutex_said, no_mutex, not_locked}, Shared.number_of, Single.{single, rests_hold}, Sparing.is_value, Tables.header_of, Threaded.ThreadsTold, Unemptied.not_emptied}
+use Rattle.sharc_history_laws.proofs.{Imports.{◌≡◌, ℕ, ℤ, pos, negsuc, zero, suc, ◌+◌, ◌<◌, ◌≤◌, ◌≢◌, ◌⊎◌, inl, inr, Bool, true, false, ◌||◌, nat_lt, List, [], ◌∷◌, reverse, Option, Some, None, is_some, if◌then◌else◌, refl, sym, ap, ◌∙◌, subst, ⊎_elim, arith, eqb-true, ltb-true, nat_tests, not_true, slice_index, ◌==◌, Contains, THREADS, WordStep, WordOp, Act, SourceEvent, Trap, NewStage, waits_in, HeldMutex, object_of, Resolution, Code, Cell, Instr, Register, Shape, Stage, Makes, Uncounts, Begins, Enters, Withdraws, WithdrawsFrom, Leaves, Wakes, RunLaws, int_of, Fits, first_cell, state_word, Machine, step_of, int, ref, word, act, place, object, is_held, join, joined, trapped, Local, Asks, is_locking, turn, asked_by, Turn, MayTurn, said, cell_at, speaks_of, take_local, nobody, in_signal, in_exit, in_spawn, in_start, in_free, in_new, new_event, event_at, reference, one_thread, bounds, place_after, state_of, TellsState, is_about_waiters, MayFind, table_of, is_cell, locked_by, unlocked_by, History, MayCome, IsFresh, was_spawned, went, was_locked_by, value_after, Targets, Field, Labels, IsWellTyped, Accesses, is_ended, IsSmall, StageStands, OnHold, Keeps, CellsAreThere, PointersAreThere, AccessesAreAllowed, StateStands, yes}, TurnAt.{turn_at, told_at, turn_stands}, Consists.{Consists, found_is, quiet_is, own_turn, header_built, built_low, live_not_built}, Contents.{value_is, newest_value, value_held, content_of, word_of_cell, Contents}, Emptying.IsEmptied, Holding.{cell_eq, holds_in}, Lists.{Newest, live_in, is_live_in}, Living.LivesTold, Locked.{IsIn, LogTold, names_cell, one_place, held_told, contains}, Locking.word_is, Logged.{LogHas, is_logged}, Mutual.{Mutual, MayMutex, no_lock, locked_in, locked_by_in, locked_is, locked_by_is}, Mutexless.{mutex_said, no_mutex, not_locked}, Shared.number_of, Single.{single, rests_hold}, Sparing.is_value, Tables.header_of, Threaded.ThreadsTold, Unemptied.not_emptied}
 use Rattle.sharc_invariant.specs.Words as Words
 use Rattle.sharc_history_laws.proofs.Placed as Placed
 
@@ -105,10 +105,6 @@ module _ (state_law : StateStands) (cell_laws : CellsAreThere) (pointers : Point
       where
         above : (u : ℕ) → suc u ≡ 0 → ⊥
         above u e = omega arith
-
-        contains : (log : List HeldMutex) (b : HeldMutex) → IsIn b log → Contains log b
-        contains [] b is = absurd is
-        contains (y ∷ log) b is = ⊎_elim (λ (e : y ≡ b). (0, omega arith, e)) (λ rest. let k = contains log b rest in let lt = k.1 in (suc k.0, omega arith, k.2)) is
 
         holder_few : (u : ℕ) (b : HeldMutex) → IsIn b ((place_after code s earlier).threads u).own.held → u < THREADS
         holder_few u b is = elim (g.started u) as (λ c. g.started u ≡ c → u < THREADS) [
@@ -249,16 +245,12 @@ module _ (state_law : StateStands) (cell_laws : CellsAreThere) (pointers : Point
     join_legal q site is false e = λ w. ⊎_elim (λ (z : went (reverse L) (int m q) ≡ true). z) (λ z. absurd (yes (sym z))) (at_join q site is false e)
 
     -- ---- waiters
-    about_waiters : (b : Bool) (y z : Option SourceEvent) → Legal y → Legal z → Legal (if b then y else z)
-    about_waiters true y z a b = a
-    about_waiters false y z a b = b
-
     nobody_legal : (k : Cell) (site found' : ℕ) → Legal (nobody code ((place_after code s earlier).threads one.thread) k site found')
     nobody_legal k site zero = λ w. absurd (yes w)
     nobody_legal k site (suc n) = tt
 
     signal_legal : (k : Cell) (site : ℕ) (stage : Stage) → Legal (in_signal code ((place_after code s earlier).threads one.thread) k site found stage)
-    signal_legal k site (Wakes seen) = about_waiters (found == seen) _ _ (λ w. absurd (yes w)) (nobody_legal k site found)
+    signal_legal k site (Wakes seen) = either (found == seen) _ _ (λ w. absurd (yes w)) (nobody_legal k site found)
     signal_legal k site _ = nobody_legal k site found
 
     -- ---- what needs nothing
@@ -311,7 +303,7 @@ module _ (state_law : StateStands) (cell_laws : CellsAreThere) (pointers : Point
         by (Instr.Start site) is = at (Instr.Start site) is (start_legal m.own.stage)
         by Instr.Exit is = at Instr.Exit is (exit_legal m.own.stage)
         by (Instr.CondEnter k site) is = at (Instr.CondEnter k site) is (λ w. tt)
-        by (Instr.CondWait k site) is = at (Instr.CondWait k site) is (about_waiters (waits_in found m.own.number) _ _ tt (λ w. absurd (yes w)))
+        by (Instr.CondWait k site) is = at (Instr.CondWait k site) is (either (waits_in found m.own.number) _ _ tt (λ w. absurd (yes w)))
         by (Instr.CondSignal k site) is = at (Instr.CondSignal k site) is (signal_legal k site m.own.stage)
         by (Instr.CondBroadcast k site) is = at (Instr.CondBroadcast k site) is (λ w. tt)
         by _ is = subst Legal (sym (ap (λ j. said code j m found elements) is)) tt

@@ -1,5 +1,5 @@
 -- Which cell a place is, what a held log says of the mutexes that are held, and which registers hold the same.
-use Rattle.sharc_history_laws.proofs.{Imports.{◌≡◌, ℕ, ℤ, pos, zero, suc, ◌+◌, ◌-◌, ◌*◌, ◌<◌, ◌≤◌, ◌≢◌, ◌⊎◌, inl, inr, true, false, not, cond, List, [], ◌∷◌, ◌++◌, Option, Some, None, is_some, if◌then◌else◌, refl, sym, ap, ◌∙◌, subst, ⊎_elim, arith, eqb-true, cases_eq, cases_lt, nat_tests, nat_lt, ◌==◌, slice_index_or, All, CellAt, Object, CellMode, HeldMutex, without, object_of, Code, Cell, Shape, Fits, first_cell, words_of, cell_of, cell_word, Machine, ref, int, place, object, word, IsInGlobal, Global, cell_at, made_cell, no_global, IsThere, IsApart, Targets, cells_of, Element, Named, Nth, OfElementCell, OfGlobal, Labels, SameReference, Itself, IsCopy, HasCopy, Copies, Chained, IsWellTyped, RegisterOf, World, State, NumberStands, ElementStands, OnHold, types_at, IsOn, is_below}, TurnAt.thread_at, Stands.{top, reads_ref, rn}, Lists.Newest, Holding.holds_in}
+use Rattle.sharc_history_laws.proofs.{Imports.{◌≡◌, ℕ, ℤ, pos, zero, suc, ◌+◌, ◌-◌, ◌*◌, ◌<◌, ◌≤◌, ◌≢◌, ◌⊎◌, inl, inr, true, false, not, cond, List, [], ◌∷◌, ◌++◌, Option, Some, None, is_some, if◌then◌else◌, refl, sym, ap, ◌∙◌, subst, ⊎_elim, arith, eqb-true, cases_eq, cases_lt, nat_tests, nat_lt, ◌==◌, slice_index_or, All, CellAt, Object, CellMode, HeldMutex, without, object_of, Code, Cell, Shape, Fits, first_cell, words_of, cell_of, cell_word, Machine, ref, int, place, object, word, IsInGlobal, Global, cell_at, made_cell, no_global, IsThere, IsApart, Targets, cells_of, Element, Named, Nth, OfElementCell, OfGlobal, Labels, SameReference, Itself, IsCopy, HasCopy, Copies, Chained, IsWellTyped, RegisterOf, World, State, NumberStands, ElementStands, OnHold, types_at, IsOn, is_below, Contains}, TurnAt.thread_at, Stands.{top, reads_ref, rn}, Lists.Newest, Holding.holds_in}
 
 -- ---- entries of a log
 abbrev pub IsIn : HeldMutex → List HeldMutex → Type 0
@@ -83,6 +83,10 @@ names_cell code m (Cell.Global g p) there = (refl, there, (let low = there.low i
 names_cell code m (Cell.GlobalAt g r) there = (refl, there, (let low = there.low in omega arith))
 names_cell code m (Cell.Object r p) there = (refl, some_ref (ref m r) there, refl)
 names_cell code m (Cell.ObjectAt r i) there = (refl, some_ref (ref m r) there, refl)
+
+pub contains : (log : List HeldMutex) (b : HeldMutex) → IsIn b log → Contains log b
+contains [] b is = absurd is
+contains (y ∷ log) b is = ⊎_elim (λ (e : y ≡ b). (0, omega arith, e)) (λ rest. let k = contains log b rest in let lt = k.1 in (suc k.0, omega arith, k.2)) is
 
 -- ---- what the log says of the events
 abbrev pub LogTold : Code → Shape → Newest → ℕ → List HeldMutex → Type 0

@@ -1,5 +1,5 @@
 -- The pointer cells of a made object are those that its last New made pointers.
-use Rattle.sharc_history_laws.proofs.{Imports.{◌≡◌, ℕ, ◌%◌, ◌<◌, ◌≢◌, true, false, cond, length, List, [], ◌∷◌, Option, Some, None, refl, sym, ap, ◌∙◌, subst, ⊎_elim, arith, cases_eq, find, slice_index_or, SourceEvent, Object, NewView, NewStage, Code, Instr, Shape, Stage, Makes, RunLaws, Fits, ref, opening_words, Turn, IsRun, MayTurn, result_of, opening_of, said, in_new, new_event, place_at, one_thread, bounds, place_after, said_now, table_of, latest, makes, is_number, is_live, Targets, StaticType, Field, Content, Integer, MutexWord, Waiters, Pointer, cells_of, field_at, field_of_cell, field_in, is_pointer, no_field, Label, Labels, IsWellTyped, IsSameContent, Recasts, ObjectState, first_world, first_place, objects_after, objects_behind, objects_now, IsSmall, Keeps, CodeBegins, CellsAreThere, PointersAreThere, AccessesAreAllowed, history_of, yes}, TurnAt.{turn_at, told_at}, Acts.{About, made_said, given_at, freed_at}, Born.{fine as new_fine, target_is as new_target}, Consists.{Consists, consists_then, objects_then, at_first, none_live, given}, Lists.{Newest, latest_is, is_live_in}, Living.{LivesTold, lives_told}, Rules.{pushed, newest, newest_now, about_now, number_yes, number_not, same_behind, freed_gone, decide}, Tables.{header_at, header_in, header_of, was_live}, Valued.header_some, Values.{field_is, fine as give_fine, old_target, new_target as cast_target}}
+use Rattle.sharc_history_laws.proofs.{Imports.{◌≡◌, ℕ, ◌%◌, ◌<◌, ◌≢◌, true, false, cond, length, List, [], ◌∷◌, Option, Some, None, refl, sym, ap, ◌∙◌, subst, ⊎_elim, arith, cases_eq, find, slice_index_or, SourceEvent, Object, NewView, NewStage, Code, Instr, Shape, Stage, Makes, RunLaws, Fits, ref, opening_words, Turn, IsRun, MayTurn, result_of, opening_of, said, in_new, new_event, place_at, one_thread, bounds, place_after, said_now, table_of, latest, makes, is_number, is_live, Targets, StaticType, Field, Content, Integer, MutexWord, Waiters, Pointer, cells_of, field_at, field_of_cell, field_in, is_pointer, no_field, Label, Labels, IsWellTyped, IsSameContent, Recasts, ObjectState, first_world, first_place, objects_after, objects_behind, objects_now, IsSmall, Keeps, CodeBegins, CellsAreThere, PointersAreThere, AccessesAreAllowed, history_of, yes}, TurnAt.{turn_at, told_at}, Acts.{About, made_said, given_at, freed_at}, Born.{fine as new_fine, target_is as new_target}, Consists.{Consists, consists_then, objects_then, at_first, none_live, given}, Lists.{Newest, latest_is, is_live_in}, Living.{LivesTold, lives_told}, Rules.{over_runs, pushed, newest, newest_now, about_now, number_yes, number_not, same_behind, freed_gone, decide}, Tables.{header_at, header_in, header_of, was_live}, Valued.header_some, Values.{field_is, fine as give_fine, old_target, new_target as cast_target}}
 use Rattle.sharc_invariant.specs.Types.{row_of}
 
 -- ---- the last New of an object
@@ -173,32 +173,22 @@ pub record MadeInRun (x : Targets) (code : Code) (s : Shape) (ls : Labels) (run 
 
 module _ (cell_laws : CellsAreThere) (pointers : PointersAreThere) (rights : AccessesAreAllowed) (laws : RunLaws) (begins_law : CodeBegins) (keeps : Keeps) (x : Targets) (code : Code) (s : Shape) (ls : Labels) (wt : IsWellTyped x code ls) (fits : Fits code s) (few : IsSmall code s) where
   pub made_in : (run : List Turn) → IsRun bounds (one_thread code s) (opening_of bounds (one_thread code s) (opening_words code s)) run → MadeInRun x code s ls run
-  made_in [] run = record {
-    consists = at_first begins_law x code s ls wt fits;
-    lives = λ n live. absurd (yes (sym live));
-    made = λ p nz live. absurd (none_live begins_law x code s ls wt fits p nz live);
-    none = refl;
-    same = refl;
-  }
-  made_in (one ∷ earlier) run =
-      let old = made_in earlier run.0 in
-      let h = old.consists in
-      let may = run.1 in
+  made_in run is =
+      let k = over_runs cell_laws pointers laws begins_law keeps x code s ls wt fits few
+      (λ run h L. record { lives : LivesTold L h.world.obj; made : AreMade x L h.world.obj; none : NoneIsGlobals L; same : h.world.obj ≡ objects_after code s ls (first_place code s) (first_world x).obj run })
+      (record { lives = λ n live. absurd (yes (sym live)); made = λ p nz live. absurd (none_live begins_law x code s ls wt fits p nz live); none = refl; same = refl })
+      (λ one earlier h may _ old.
       let ev = said_now code (table_of code s earlier) ((place_after code s earlier).threads one.thread) (result_of one.event) in
       let L = newest code s earlier in
-      let now = newest_now code s one earlier in
       let then' = consists_then laws keeps cell_laws pointers x code s ls wt fits few one earlier h may in
       let then_objects = objects_then laws keeps cell_laws pointers x code s ls wt fits few one earlier h may in
       record {
-        consists = then';
-        lives = subst (λ (L : Newest). LivesTold L then'.world.obj) (sym now)
-            (lives_told cell_laws pointers rights laws keeps x code s ls wt fits few one earlier h may then'.world.obj then_objects L old.lives ev
-            (about_now cell_laws pointers rights laws keeps x code s ls wt fits few one earlier h may));
-        made = subst (λ (L : Newest). AreMade x L then'.world.obj) (sym now)
-            (made_then cell_laws pointers rights laws keeps x code s ls wt fits few one earlier h may L old.made);
-        none = subst NoneIsGlobals (sym now) (none_then cell_laws pointers rights laws keeps x code s ls wt fits few one earlier h may L old.none);
+        lives = lives_told cell_laws pointers rights laws keeps x code s ls wt fits few one earlier h may then'.world.obj then_objects L old.lives ev (about_now cell_laws pointers rights laws keeps x code s ls wt fits few one earlier h may);
+        made = made_then cell_laws pointers rights laws keeps x code s ls wt fits few one earlier h may L old.made;
+        none = none_then cell_laws pointers rights laws keeps x code s ls wt fits few one earlier h may L old.none;
         same = then_objects ∙ ap (objects_now code s ls (place_after code s earlier) one) old.same;
-      }
+      }) run is in
+      record { consists = k.0; lives = k.1.lives; made = k.1.made; none = k.1.none; same = k.1.same }
 
   -- no object that is made is that of the globals
   pub some_made : (run : List Turn) → IsRun bounds (one_thread code s) (opening_of bounds (one_thread code s) (opening_words code s)) run → (p : ℕ) (e : SourceEvent) → latest (makes (Object.Made p)) (history_of code s run) ≡ Some e → p ≢ 0

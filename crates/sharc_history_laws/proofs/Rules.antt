@@ -1,5 +1,5 @@
 -- Each access of a run of typed code is to a live object, by its owner where the cell is private, and no write under mode readonly.
-use Rattle.sharc_history_laws.proofs.{Imports.{◌≡◌, ℕ, ◌^◌, ◌<◌, ◌≢◌, ◌⊎◌, inl, inr, Bool, true, false, ◌||◌, List, [], ◌∷◌, reverse, Option, Some, None, refl, sym, ap, ◌∙◌, subst, ⊎_elim, arith, cases_eq, nat_tests, ◌==◌, SourceEvent, CellMode, Object, NewStage, Code, Cell, Instr, Shape, Stage, Makes, Uncounts, RunLaws, Fits, Machine, ref, opening_words, Said, Turn, Global, IsRun, MayTurn, after_turn, put, result_of, with_told, opening_of, one_thread, bounds, place_after, Erase, said, cell_at, place_at, said_now, told_in, table_of, Access, makes, gives, frees, begins, is_number, made_by, given_by, History, IsAccess, is_owner, Targets, Field, FieldMode, field_in, mode_in, Labels, IsWellTyped, ObjectState, World, CanBy, lang_of, CellIsThere, objects_behind, made_behind, new_behind, freed_behind, objects_now, owned, gone, type_held, IsSmall, OnHold, object_of_cell, number_in, IsOn, Keeps, CodeBegins, CellsAreThere, PointersAreThere, AccessesAreAllowed, history_of, same_is as eq_refl, or_left, or_right, or_no}, TurnAt.{turn_at, told_at, turn_stands}, Single.{single, rests_hold}, Stands.{live_low, known_ref, there, live_ref, sole_ref}, Tables.{header_at, header_in, header_of, was_live}, Consists.{Consists, consists_then, objects_then, given, header_built, built_low}, Acts.{access_said, thread_said, given_at, freed_in, freed_at, About, about, AreLow, no_access, access_at, IsAccess as TellsAccess, access_of}, Told.is_access, Lists.{Newest, EachAccess, no_event, each_push, live_in, owned_in, is_live_in, owned_is, live_made, live_other, owned_begun, owned_other}, Modes.{private_field, readonly_field}, Carried.{put_same, put_other}}
+use Rattle.sharc_history_laws.proofs.{Imports.{◌≡◌, ℕ, ◌^◌, ◌<◌, ◌≢◌, ◌⊎◌, inl, inr, Bool, true, false, ◌||◌, List, [], ◌∷◌, reverse, Option, Some, None, refl, sym, ap, ◌∙◌, subst, ⊎_elim, arith, cases_eq, nat_tests, ◌==◌, SourceEvent, CellMode, Object, NewStage, Code, Cell, Instr, Shape, Stage, Makes, Uncounts, RunLaws, Fits, Machine, ref, opening_words, Said, Turn, Global, IsRun, MayTurn, after_turn, put, result_of, with_told, opening_of, one_thread, bounds, place_after, Erase, said, cell_at, place_at, said_now, told_in, table_of, Access, makes, gives, frees, begins, is_number, made_by, given_by, History, IsAccess, is_owner, Targets, Field, FieldMode, field_in, mode_in, Labels, IsWellTyped, ObjectState, World, CanBy, lang_of, CellIsThere, objects_behind, made_behind, new_behind, freed_behind, objects_now, owned, gone, type_held, IsSmall, OnHold, object_of_cell, number_in, IsOn, Keeps, CodeBegins, CellsAreThere, PointersAreThere, AccessesAreAllowed, history_of, same_is as eq_refl, or_left, or_right, or_no}, TurnAt.{turn_at, told_at, turn_stands, RunOf}, Single.{single, rests_hold}, Stands.{live_low, known_ref, there, live_ref, sole_ref}, Tables.{header_at, header_in, header_of, was_live}, Consists.{Consists, consists_then, objects_then, given, header_built, built_low}, Acts.{access_said, thread_said, given_at, freed_in, freed_at, About, about, AreLow, no_access, access_at, IsAccess as TellsAccess, access_of}, Told.is_access, Lists.{Newest, EachAccess, no_event, each_push, live_in, owned_in, is_live_in, owned_is, live_made, live_other, owned_begun, owned_other}, Modes.{private_field, readonly_field}, Carried.{put_same, put_other}}
 use Rattle.sharc_meaning.specs.{Events.freed_by, Obeys.IsThere}
 
 -- ---- numbers of objects
@@ -113,9 +113,7 @@ module _ (cell_laws : CellsAreThere) (pointers : PointersAreThere) (rights : Acc
     (one : Turn) (earlier : List Turn) (h : Consists x code s ls earlier) (may : MayTurn bounds (one_thread code s) (place_after code s earlier) one) where
   open turn_at code s (place_after code s earlier) one use {g, t, m, i, found}
   open told_at code s earlier one use {elements}
-
-  abbrev world : World
-  world = h.world
+  open h use {world}
 
   abbrev then_ : Consists x code s ls (one ∷ earlier)
   then_ = consists_then laws keeps cell_laws pointers x code s ls wt fits few one earlier h may
@@ -288,6 +286,18 @@ module _ (cell_laws : CellsAreThere) (pointers : PointersAreThere) (rights : Acc
       ] refl
 
 -- ---- runs
+-- what holds of no turns, and behind each turn where it held before, by the events so far, holds of each run
+module _ (cell_laws : CellsAreThere) (pointers : PointersAreThere) (laws : RunLaws) (begins_law : CodeBegins) (keeps : Keeps) (x : Targets) (code : Code) (s : Shape) (ls : Labels) (wt : IsWellTyped x code ls) (fits : Fits code s) (few : IsSmall code s)
+    (P : (run : List Turn) → Consists x code s ls run → Newest → Type 0) (none : P [] (Rattle.sharc_history_laws.proofs.Consists.at_first begins_law x code s ls wt fits) [])
+    (next : (one : Turn) (earlier : List Turn) (h : Consists x code s ls earlier) (may : MayTurn bounds (one_thread code s) (place_after code s earlier) one) → RunOf code s earlier → P earlier h (newest code s earlier)
+    → P (one ∷ earlier) (consists_then laws keeps cell_laws pointers x code s ls wt fits few one earlier h may) (pushed (said_now code (table_of code s earlier) ((place_after code s earlier).threads one.thread) (result_of one.event)) (newest code s earlier))) where
+  pub over_runs : (run : List Turn) → RunOf code s run → (h : Consists x code s ls run) × P run h (newest code s run)
+  over_runs [] run = (Rattle.sharc_history_laws.proofs.Consists.at_first begins_law x code s ls wt fits, none)
+  over_runs (one ∷ earlier) run =
+      let old = over_runs earlier run.0 in
+      let h = consists_then laws keeps cell_laws pointers x code s ls wt fits few one earlier old.0 run.1 in
+      (h, subst (P (one ∷ earlier) h) (sym (newest_now code s one earlier)) (next one earlier old.0 run.1 run.0 old.1))
+
 pub record Obeyed (x : Targets) (code : Code) (s : Shape) (ls : Labels) (run : List Turn) : Type 0 where
   pub consists : Consists x code s ls run
   pub objects : ObjectsTold (newest code s run) consists.world.obj
@@ -300,25 +310,17 @@ module _ (cell_laws : CellsAreThere) (pointers : PointersAreThere) (rights : Acc
       let f : ((Rattle.sharc_invariant.specs.Opened.first_world x).obj o).live ≡ false = rw e refl in let g : true ≡ false = sym live ∙ f in cc
 
   pub obeyed : (run : List Turn) → IsRun bounds (one_thread code s) (opening_of bounds (one_thread code s) (opening_words code s)) run → Obeyed x code s ls run
-  obeyed [] run = record {
-    consists = Rattle.sharc_history_laws.proofs.Consists.at_first begins_law x code s ls wt fits;
-    objects = record { live = λ n nz live. absurd (nothing_live n nz live); owner = λ n nz live. absurd (nothing_live n nz live) };
-    allowed = no_event AllowedAccess;
-  }
-  obeyed (one ∷ earlier) run =
-      let old = obeyed earlier run.0 in
-      let h = old.consists in
-      let may = run.1 in
-      let g = place_after code s earlier in
-      let ev = said_now code (table_of code s earlier) (g.threads one.thread) (result_of one.event) in
+  obeyed run is =
+      let k = over_runs cell_laws pointers laws begins_law keeps x code s ls wt fits few
+      (λ run h L. record { objects : ObjectsTold L h.world.obj; allowed : EachAccess AllowedAccess (reverse L) })
+      (record { objects = record { live = λ n nz live. absurd (nothing_live n nz live); owner = λ n nz live. absurd (nothing_live n nz live) }; allowed = no_event AllowedAccess })
+      (λ one earlier h may _ old.
+      let ev = said_now code (table_of code s earlier) ((place_after code s earlier).threads one.thread) (result_of one.event) in
       let L = newest code s earlier in
-      let now = newest_now code s one earlier in
       let then' = consists_then laws keeps cell_laws pointers x code s ls wt fits few one earlier h may in
-      let tells = about_now cell_laws pointers rights laws keeps x code s ls wt fits few one earlier h may in
       record {
-        consists = then';
-        objects = subst (λ (L : Newest). ObjectsTold L then'.world.obj) (sym now)
-            (objects_told cell_laws pointers rights laws keeps x code s ls wt fits few one earlier h may then'.world.obj (objects_then laws keeps cell_laws pointers x code s ls wt fits few one earlier h may) L old.objects ev tells);
-        allowed = subst (λ (L : Newest). EachAccess AllowedAccess (reverse L)) (sym now)
-            (each_pushed AllowedAccess ev L old.allowed (λ e is a access. allowed_now cell_laws pointers rights laws keeps x code s ls wt fits few one earlier h may L old.objects e is a access));
-      }
+        objects = objects_told cell_laws pointers rights laws keeps x code s ls wt fits few one earlier h may then'.world.obj (objects_then laws keeps cell_laws pointers x code s ls wt fits few one earlier h may) L old.objects ev
+            (about_now cell_laws pointers rights laws keeps x code s ls wt fits few one earlier h may);
+        allowed = each_pushed AllowedAccess ev L old.allowed (λ e is a access. allowed_now cell_laws pointers rights laws keeps x code s ls wt fits few one earlier h may L old.objects e is a access);
+      }) run is in
+      record { consists = k.0; objects = k.1.objects; allowed = k.1.allowed }

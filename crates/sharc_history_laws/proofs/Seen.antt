@@ -1,5 +1,5 @@
 -- Where the held log of a thread refers to an object, a mutex of that object is locked by the events; and the beginning of a checked run is a checked run.
-use Rattle.sharc_history_laws.proofs.{Imports.{◌≡◌, ◌≢◌, ℕ, ◌+◌, ◌*◌, Bool, true, false, List, [], ◌∷◌, ◌++◌, Some, inl, inr, if◌then◌else◌, refl, sym, ap, ◌∙◌, arith, ◌==◌, CellAt, Object, HeldMutex, object_of, Resolution, Code, Shape, RunLaws, Fits, first_cell, reference_of, opening_words, Turn, IsRun, opening_of, CheckedRun, one_thread, bounds, place_after, is_locked, Targets, Labels, IsWellTyped, log_refers, CellsAreThere, history_of}, Finds.is_apart, Locked.IsIn, Mutual.locked_is, Rules.newest, Stored.Stored, Kept.contains}
+use Rattle.sharc_history_laws.proofs.{Imports.{◌≡◌, ◌≢◌, ℕ, ◌+◌, ◌*◌, Bool, true, false, List, [], ◌∷◌, ◌++◌, Some, inl, inr, if◌then◌else◌, refl, sym, ap, ◌∙◌, arith, ◌==◌, CellAt, Object, HeldMutex, object_of, Resolution, Code, Shape, RunLaws, Fits, first_cell, reference_of, opening_words, Turn, IsRun, opening_of, CheckedRun, one_thread, bounds, place_after, is_locked, Targets, Labels, IsWellTyped, log_refers, CellsAreThere, history_of}, Finds.is_apart, Locked.IsIn, Mutual.locked_is, Rules.newest, Stored.Stored, Locked.contains}
 use Rattle.sharc_invariant.specs.Words.{cell_at}
 
 -- ---- beginnings of runs

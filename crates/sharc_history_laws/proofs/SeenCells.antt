@@ -1,5 +1,5 @@
 -- A pointer cell that refers to an object by the words does so by the events, but where a Free empties its object.
-use Rattle.sharc_history_laws.proofs.{Imports.{◌≡◌, ℕ, pos, zero, suc, ◌+◌, ◌*◌, ◌/◌, ◌^◌, ◌<◌, ◌≢◌, inl, inr, Bool, true, false, cond, not, ◌&&◌, List, [], ◌∷◌, refl, sym, ap, ◌∙◌, subst, ⊎_elim, arith, ltb-true, cases_Bool, and_parts, nat_tests, slice_index, nat_lt, ◌==◌, ◌%◌, CellAt, Object, Resolution, Code, Shape, RunLaws, Fits, granules, granule_at, words_of, first_cell, cell_word, cell_of, length_word, Machine, opening_words, IsInGlobal, Turn, Global, IsRun, result_of, opening_of, reference, one_thread, bounds, place_after, Elements, said_now, table_of, is_null, refers, value_after, Targets, Field, Content, Pointer, field_in, field_of_cell, global_field, globals_target, is_pointer, cells_of, Labels, IsWellTyped, CellOf, World, ObjectState, State, IsSmall, first_world, first_place, objects_after, objects_now, cells_now, is_pointer_now, cell_refers, Keeps, CodeBegins, CellsAreThere, PointersAreThere, AccessesAreAllowed, StateStands, history_of, BeginsWith, IsCellIn, IsLiveBy, IsBeingFreed, RefersBy, CellIsSeen, same_is as eq_refl, ne_zero}, Behind.{AreFirst, first_then}, Consists.{Consists, consists_then, objects_then, at_first, none_live}, Contents.{newest_value, value_is, value_held, IsCellOf, content_of, word_of_cell, Contents}, Emptying.IsEmptied, Lists.{Newest, is_live_in}, Locked.{Names, NamesIn}, OneMode.place_of, Opening.contents_first, Rules.{ObjectsTold, newest, newest_now, about_now, objects_told}, Shared.{number_of, some_closing}, Stands.live_low, Unemptied.on_hold, Unwritten.{emptying, pointer_value}, Valued.contents_then}
+use Rattle.sharc_history_laws.proofs.{Imports.{◌≡◌, ℕ, pos, zero, suc, ◌+◌, ◌*◌, ◌/◌, ◌^◌, ◌<◌, ◌≢◌, inl, inr, Bool, true, false, cond, not, ◌&&◌, List, [], ◌∷◌, refl, sym, ap, ◌∙◌, subst, ⊎_elim, arith, ltb-true, cases_Bool, and_parts, nat_tests, slice_index, nat_lt, ◌==◌, ◌%◌, CellAt, Object, Resolution, Code, Shape, RunLaws, Fits, granules, granule_at, words_of, first_cell, cell_word, cell_of, length_word, Machine, opening_words, IsInGlobal, Turn, Global, IsRun, result_of, opening_of, reference, one_thread, bounds, place_after, Elements, said_now, table_of, is_null, refers, value_after, Targets, Field, Content, Pointer, field_in, field_of_cell, global_field, globals_target, is_pointer, cells_of, Labels, IsWellTyped, CellOf, World, ObjectState, State, IsSmall, first_world, first_place, objects_after, objects_now, cells_now, is_pointer_now, cell_refers, Keeps, CodeBegins, CellsAreThere, PointersAreThere, AccessesAreAllowed, StateStands, history_of, BeginsWith, IsCellIn, IsLiveBy, IsBeingFreed, RefersBy, CellIsSeen, same_is as eq_refl, ne_zero}, Behind.{AreFirst, first_then}, Consists.{Consists, consists_then, objects_then, at_first, none_live}, Contents.{newest_value, value_is, value_held, IsCellOf, content_of, word_of_cell, Contents}, Emptying.IsEmptied, Lists.{Newest, is_live_in}, Locked.{Names, NamesIn}, OneMode.place_of, Opening.contents_first, Rules.{over_runs, ObjectsTold, newest, newest_now, about_now, objects_told}, Shared.{number_of, some_closing}, Stands.live_low, Unemptied.on_hold, Unwritten.{emptying, pointer_value}, Valued.contents_then}
 use Rattle.sharc_invariant.specs.Words as Words
 
 -- ---- references
@@ -95,46 +95,35 @@ freed state_law x code s ls wt fits g world st o p number z =
 module _ (state_law : StateStands) (cell_laws : CellsAreThere) (pointers : PointersAreThere) (rights : AccessesAreAllowed) (laws : RunLaws) (begins_law : CodeBegins) (keeps : Keeps) (x : Targets) (code : Code) (s : Shape) (ls : Labels) (wt : IsWellTyped x code ls) (fits : Fits code s) (few : IsSmall code s)
     (r : Resolution) (first : BeginsWith r code) where
   pub seen : (run : List Turn) → IsRun bounds (one_thread code s) (opening_of bounds (one_thread code s) (opening_words code s)) run → Seen r x code s ls run
-  seen [] run =
+  seen run is =
       let never = none_live begins_law x code s ls wt fits in
-      record {
-        consists = at_first begins_law x code s ls wt fits;
-        objects = record { live = λ n nz live. absurd (never n nz live); owner = λ n nz live. absurd (never n nz live) };
-        contents = contents_first begins_law x code s ls wt fits r first;
-        behind = λ c _. refl;
-        same = refl;
-      }
-  seen (one ∷ earlier) run =
-      let old = seen earlier run.0 in
-      let h = old.consists in
-      let may = run.1 in
-      let g = place_after code s earlier in
-      let ev = said_now code (table_of code s earlier) (g.threads one.thread) (result_of one.event) in
+      let k = over_runs cell_laws pointers laws begins_law keeps x code s ls wt fits few
+      (λ run h L. record {
+        objects : ObjectsTold L h.world.obj;
+        contents : Contents r x code s L (table_of code s run) (place_after code s run) h.world h.state.cells;
+        behind : AreFirst r code L h.world h.state.cells;
+        same : h.world.obj ≡ objects_after code s ls (first_place code s) (first_world x).obj run;
+      })
+      (record { objects = record { live = λ n nz live. absurd (never n nz live); owner = λ n nz live. absurd (never n nz live) }; contents = contents_first begins_law x code s ls wt fits r first; behind = λ c _. refl; same = refl })
+      (λ one earlier h may _ old.
       let L = newest code s earlier in
-      let now = newest_now code s one earlier in
       let then' = consists_then laws keeps cell_laws pointers x code s ls wt fits few one earlier h may in
       let then_objects = objects_then laws keeps cell_laws pointers x code s ls wt fits few one earlier h may in
       record {
-        consists = then';
-        objects = subst (λ (L : Newest). ObjectsTold L then'.world.obj) (sym now)
-            (objects_told cell_laws pointers rights laws keeps x code s ls wt fits few one earlier h may then'.world.obj then_objects L old.objects ev
-            (about_now cell_laws pointers rights laws keeps x code s ls wt fits few one earlier h may));
-        contents = subst (λ (L : Newest). Contents r x code s L (table_of code s (one ∷ earlier)) (place_after code s (one ∷ earlier)) then'.world then'.state.cells) (sym now)
-            (contents_then cell_laws pointers rights laws keeps x code s ls wt fits few one earlier h may r L old.contents);
-        behind = subst (λ (L : Newest). AreFirst r code L then'.world then'.state.cells) (sym now) (first_then cell_laws pointers rights laws keeps x code s ls wt fits few one earlier h may r L old.behind);
+        objects = objects_told cell_laws pointers rights laws keeps x code s ls wt fits few one earlier h may then'.world.obj then_objects L old.objects (said_now code (table_of code s earlier) ((place_after code s earlier).threads one.thread) (result_of one.event))
+            (about_now cell_laws pointers rights laws keeps x code s ls wt fits few one earlier h may);
+        contents = contents_then cell_laws pointers rights laws keeps x code s ls wt fits few one earlier h may r L old.contents;
+        behind = first_then cell_laws pointers rights laws keeps x code s ls wt fits few one earlier h may r L old.behind;
         same = then_objects ∙ ap (objects_now code s ls (place_after code s earlier) one) old.same;
-      }
+      }) run is in
+      record { consists = k.0; objects = k.1.objects; contents = k.1.contents; behind = k.1.behind; same = k.1.same }
 
   -- ---- a cell that refers to an object
   module _ (run : List Turn) (k : Seen r x code s ls run) (p i o : ℕ) (nz : o ≢ 0) (is : cell_refers x s (place_after code s run) k.consists.world.obj p i ≡ o) where
     abbrev g : Global Machine
     g = place_after code s run
 
-    abbrev world : World
-    world = k.consists.world
-
-    abbrev st : State x code s ls (place_after code s run) k.consists.world
-    st = k.consists.state
+    open k.consists use {world, state as st}
 
     abbrev b : Bool
     b = is_pointer_now x s (place_after code s run) k.consists.world.obj p i

@@ -1,5 +1,5 @@
 -- What a turn does to the shadow word of each granule.
-use Rattle.sharc_history_laws.proofs.{Imports.{◌≡◌, ℕ, zero, suc, ◌+◌, ◌*◌, ◌/◌, ◌%◌, ◌^◌, ◌<◌, ◌≤◌, ◌≢◌, Bool, true, false, length, List, [], ◌∷◌, Option, Some, None, if◌then◌else◌, min, refl, sym, ap, ◌∙◌, subst, ⊎_elim, arith, eqb-true, cases_eq, cases_lt, nat_tests, get_or-set_other, slice_index, nat_lt, bit_or, ◌==◌, Contains, THREADS, WordEvent, WordOp, WordStep, word_after, words_after_step, Kind, Read, Write, GranuleNotes, ListsNoted, is_noted, bits_of, cleared_of, withdrawn_of, ShadowLaws, epoch_of, is_written, stands, AddsAccess, WithdrawsWord, Code, Instr, Shape, Stage, Looks, Clears, Empties, Lowers, FreeLooks, FreeClears, Uncounts, Links, Withdraws, WithdrawsFrom, Leaves as Leaving, Fits, granules, first_cell, first_shadow, words_of, granule_at, granule_of, shadow_word, count_word, length_word, cell_word, Machine, StepTurn, Local, Asks, act, instr_at, step_of, ref, place, word, new, clear, free, layout_at, data_granules, data_granule, exit, row_of, without_own, withdrew, largest, wrote, turn, asked_by, may_go, Turn, Global, MayTurn, Answered, words_now, result_of, one_thread, bounds, Touch, Untouched, CheckOf, ClearOf, WithdrawOf, cleared_by, freed_by, withdrawn_by, touch_of, sum_to, Labels, touch_at, State, StageStands, OnHold, IsWellTyped, Targets, cells_of, World, set_here as set_at, same_or}, TurnAt.{turn_at, turn_stands}, Consists.found_is, Stands.{sole_ref, live_ref, target_ref}, Tables.step_leaves, Aims.{Aims, TurnAims, aims, is_touching}}
+use Rattle.sharc_history_laws.proofs.{Imports.{◌≡◌, ℕ, zero, suc, ◌+◌, ◌*◌, ◌/◌, ◌%◌, ◌^◌, ◌<◌, ◌≤◌, ◌≢◌, Bool, true, false, length, List, [], ◌∷◌, Option, Some, None, if◌then◌else◌, min, refl, sym, ap, ◌∙◌, subst, ⊎_elim, arith, eqb-true, cases_eq, cases_lt, nat_tests, get_or-set_other, slice_index, nat_lt, bit_or, ◌==◌, Contains, THREADS, WordEvent, WordOp, WordStep, word_after, words_after_step, Kind, Read, Write, GranuleNotes, ListsNoted, is_noted, bits_of, cleared_of, withdrawn_of, ShadowLaws, epoch_of, is_written, stands, AddsAccess, WithdrawsWord, Code, Instr, Shape, Stage, Looks, Clears, Empties, Lowers, FreeLooks, FreeClears, Uncounts, Links, Withdraws, WithdrawsFrom, Leaves as Leaving, Fits, granules, first_cell, first_shadow, words_of, granule_at, granule_of, shadow_word, count_word, length_word, cell_word, Machine, StepTurn, Local, Asks, act, instr_at, step_of, ref, place, word, new, clear, free, layout_at, data_granules, data_granule, exit, row_of, without_own, withdrew, largest, wrote, turn, asked_by, may_go, Turn, Global, MayTurn, Answered, words_now, result_of, one_thread, bounds, Touch, Untouched, CheckOf, ClearOf, WithdrawOf, cleared_by, freed_by, withdrawn_by, touch_of, sum_to, Labels, touch_at, State, StageStands, OnHold, IsWellTyped, Targets, cells_of, World, set_here as set_at, same_or}, TurnAt.{turn_at, turn_stands}, Consists.found_is, Stands.{sole_ref, live_ref, target_ref}, Tables.step_leaves, Aims.{Aims, TurnAims, Reserved, typed_aims, is_touching}}
 use Rattle.sharc_heap.specs.Accesses.{Accesses}
 use Rattle.sharc_code.specs.Runs as runs
 
@@ -254,21 +254,21 @@ module _ (laws : ShadowLaws) (x : Targets) (code : Code) (s : Shape) (ls : Label
   to_exit is stage at p lt = spared p lt _ (ap (λ j. act code s j m) is ∙ ap (exit s m) at) (Below (omega (arith, low_number)))
 
   -- ---- the others
-  step_spares : (j : Instr) (step : WordStep) → is_touching j ≡ false → Aims s g.words j step → Spares s step
+  step_spares : (j : Instr) (step : WordStep) → is_touching j ≡ false → Aims s (Reserved g.words) j step → Spares s step
   step_spares j step other (Aims.Same keeps) = Leaves keeps
-  step_spares j step other (Aims.First lt) = Below (omega arith)
-  step_spares j step other (Aims.OfState k low at) = let lt = low other in Below (omega (arith, at, lt))
-  step_spares j step other (Aims.OfFunction k lt new at) = Below (omega (arith, at, lt))
-  step_spares j step other (Aims.OfArgument k lt new at) = Below (omega (arith, at, lt))
+  step_spares j step other (Aims.First lt unnumbered) = Below (omega arith)
+  step_spares j step other (Aims.OfState k low owns at) = let lt = (low other).0 in Below (omega (arith, at, lt))
+  step_spares j step other (Aims.OfFunction k d at) = let lt = d.0 in Below (omega (arith, at, lt))
+  step_spares j step other (Aims.OfArgument k d at) = let lt = d.0 in Below (omega (arith, at, lt))
   step_spares j step other (Aims.OfShadow touches le) = absurd (touches other)
   step_spares j step other (Aims.Above high) = Above high
 
-  by_turn : (j : Instr) (y : StepTurn) → is_touching j ≡ false → TurnAims s g.words j y → SparesAll s y
+  by_turn : (j : Instr) (y : StepTurn) → is_touching j ≡ false → TurnAims s (Reserved g.words) j y → SparesAll s y
   by_turn j (Local y) other h = tt
   by_turn j (Asks step go) other h = step_spares j step other h
 
   rest_spares : (j : Instr) → i ≡ j → is_touching j ≡ false → SparesAll s (act code s j (g.threads tr.thread))
-  rest_spares j is other = by_turn j (act code s j m) other (aims code s st.elements world st.heap g.words t m j (stage_here j is))
+  rest_spares j is other = by_turn j (act code s j m) other (typed_aims code s st.elements world st.heap g.words t m j (stage_here j is))
 
   by_instr : (j : Instr) → i ≡ j → (p : ℕ) → p < granules s → By (touch_of s j (g.threads tr.thread) (result_of tr.event) m') p
   by_instr (Instr.ChkRead c site) is p lt = by_check Read (granule_of (place m c)) site (may_go m'.at.state) (ap (λ j. act code s j m) is) p

@@ -1,6 +1,10 @@
 -- A thread that stopped at a test of a sole reference found the number of references to its object, of which there is another one.
 use Rattle.sharc_history_laws.proofs.{Imports.{◌≡◌, ℕ, zero, suc, ◌+◌, ◌*◌, ◌<◌, ◌≤◌, ◌⊎◌, inl, inr, true, false, List, [], ◌∷◌, Option, Some, None, is_some, if◌then◌else◌, refl, sym, ap, ◌∙◌, subst, ⊎_elim, arith, eqb-true, cases_eq, nat_eq, slice_index, THREADS, test_of, FRAMES, Code, Shape, Stop, NotSole, Fits, granules, words_of, count_word, Machine, instr_at, act, ref, opening_words, TurnsComeOut, MayStop, turn, after, may_go, most_refs, asked_by, Turn, Global, IsRun, MayTurn, after_turn, put, state_now, result_of, opening_of, one_thread, bounds, place_after, Instr, one, sum_to, Targets, Labels, IsWellTyped, Fine, ObjectState, argument_of, IsSmall, StageStands, first_world, first_place, objects_after, register_refers, log_refers, hand_refers, cell_refers, references_to, RunsTest, TestStands, OtherReference, InRegister, InArgument, InLog, InHand, InCell, FindsOthers, yes}, TurnAt.{turn_at, RunOf}, Consists.{Consists, found_is}, Outcomes.reports, Single.rests_hold, Stands.known_ref, Carried.{put_same, put_other}}
 
+above : (k : ℕ) → (k ≡ 0 → ⊥) → 1 ≤ k
+above zero nz = absurd (nz refl)
+above (suc k) nz = omega arith
+
 -- ---- sums
 some_of : (n : ℕ) (f : ℕ → ℕ) → ((i : ℕ) × (i < n) × (1 ≤ f i)) ⊎ (sum_to n f ≡ 0)
 some_of zero f = inr refl
@@ -11,10 +15,6 @@ some_of (suc n) f = ⊎_elim
     (some_of n f))
     (λ (nz : f n ≡ 0 → ⊥). inl (n, omega arith, above (f n) nz))
     (cases_eq (f n) 0)
-  where
-    above : (k : ℕ) → (k ≡ 0 → ⊥) → 1 ≤ k
-    above zero nz = absurd (nz refl)
-    above (suc k) nz = omega arith
 
 other_of : (n : ℕ) (f : ℕ → ℕ) (k : ℕ) → ((i : ℕ) × ((i ≡ k → ⊥) × (1 ≤ f i))) ⊎ (sum_to n f ≤ f k)
 other_of zero f k = inr (omega arith)
@@ -28,10 +28,6 @@ other_of (suc n) f k = ⊎_elim
     (λ (nz : f n ≡ 0 → ⊥). inl (n, (ne, above (f n) nz)))
     (cases_eq (f n) 0))
     (cases_eq n k)
-  where
-    above : (k : ℕ) → (k ≡ 0 → ⊥) → 1 ≤ k
-    above zero nz = absurd (nz refl)
-    above (suc k) nz = omega arith
 
 one_is : (a o : ℕ) → 1 ≤ one a o → a ≡ o
 one_is a o le = elim (nat_eq a o) as (λ b. nat_eq a o ≡ b → 1 ≤ (if b then 1 else 0) → a ≡ o) [
@@ -103,10 +99,6 @@ module _ (x : Targets) (code : Code) (s : Shape) (g : Global Machine) (obj : ℕ
       (cases_eq l 0))
       (some_of THREADS (λ u. one (hand_refers g u) o)))
       (some_of THREADS (λ u. one (argument_of code g u) o))
-    where
-      above : (k : ℕ) → (k ≡ 0 → ⊥) → 1 ≤ k
-      above zero nz = absurd (nz refl)
-      above (suc k) nz = omega arith
 
   pub other_reference : 2 ≤ references_to x code s g obj o → Other
   other_reference le = another _ _ _ _ _ refl refl refl refl refl le

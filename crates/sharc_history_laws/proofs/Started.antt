@@ -1,7 +1,13 @@
 -- The first event of a thread is the Started of the function and the argument with which an earlier Spawn started it, or of main.
-use Rattle.sharc_history_laws.proofs.{Imports.{◌≡◌, ℕ, ℤ, pos, suc, ◌<◌, ◌≢◌, ◌⊎◌, inl, inr, Bool, true, false, ◌&&◌, length, List, [], ◌∷◌, ◌++◌, reverse, Option, Some, None, if◌then◌else◌, refl, sym, ap, ◌∙◌, subst, ⊎_elim, arith, eqb-true, cases_eq, nat_tests, get_or_append_left, get_or_push, length_push, get_or-map-range_with_len, slice_index, nat_lt, nat_eq, nat_le, ◌==◌, Any, THREADS, WordOp, Act, SourceEvent, Code, Parameter, Instr, Register, Shape, Stage, Rests, Begins, Enters, word_of, RunLaws, Fits, words_of, state_word, function_word, argument_word, Machine, instr_at, act, start, spawn, int, ref, argument, function_of, opening_words, opens_with, opening_cell, first_global, turn, after, asked_by, Turn, Global, IsRun, MayTurn, put, state_now, result_of, is_started, opening_of, said, speaks_of, reference, started_with, in_start, of_argument, SpawnsStart, begins_of, one_thread, bounds, place_after, Elements, said_now, table_of, Stands, is_of, events_of, History, Targets, Labels, IsWellTyped, Fine, ArgumentOf, In, in_ref, is_unread, if_reference, IsSmall, StageStands, OnSpawn, OnHold, view_of, refs_at, types_at, Keeps, CodeBegins, CellsAreThere, PointersAreThere, AccessesAreAllowed, history_of, IsSpawnedByCode, IsStartedBy, yes, and_right as second}, TurnAt.{turn_at, told_at, turn_stands}, Consists.{Consists, consists_then, at_first, found_is, same_table}, Contents.{back_again, fits_in}, Given.{spares_given, given_stays}, Holding.own_push, Lists.{Newest, Split, Last, Earlier, split, reverse_push}, Locking.is_own, Rules.{pushed, newest, newest_now}, Stands.{live_slot, top, rn}, Tables.header_of, Valued.{same_elements, reference_as}, Standing.{is_one as started_word}, Threaded.{and_parts as parts}, Carried.{put_same, put_other}}
+use Rattle.sharc_history_laws.proofs.{Imports.{◌≡◌, ℕ, ℤ, pos, suc, ◌<◌, ◌≢◌, ◌⊎◌, inl, inr, Bool, true, false, ◌&&◌, length, List, [], ◌∷◌, ◌++◌, reverse, Option, Some, None, if◌then◌else◌, refl, sym, ap, ◌∙◌, subst, ⊎_elim, arith, eqb-true, cases_eq, nat_tests, get_or_append_left, get_or_push, length_push, get_or-map-range_with_len, slice_index, nat_lt, nat_eq, nat_le, ◌==◌, Any, THREADS, WordOp, Act, SourceEvent, Code, Parameter, Instr, Register, Shape, Stage, Rests, Begins, Enters, word_of, RunLaws, Fits, words_of, state_word, function_word, argument_word, Machine, instr_at, act, start, spawn, int, ref, argument, function_of, opening_words, opens_with, opening_cell, first_global, turn, after, asked_by, Turn, Global, IsRun, MayTurn, put, state_now, result_of, is_started, opening_of, said, speaks_of, reference, started_with, in_start, of_argument, SpawnsStart, begins_of, one_thread, bounds, place_after, Elements, said_now, table_of, Stands, is_of, events_of, History, Targets, Labels, IsWellTyped, Fine, ArgumentOf, In, in_ref, is_unread, if_reference, IsSmall, StageStands, OnSpawn, OnHold, view_of, refs_at, types_at, Keeps, CodeBegins, CellsAreThere, PointersAreThere, AccessesAreAllowed, history_of, IsSpawnedByCode, IsStartedBy, yes, and_right as second}, TurnAt.{turn_at, told_at, turn_stands}, Consists.{Consists, consists_then, at_first, found_is, same_table}, Contents.{back_again, fits_in}, Given.{spares_given, given_stays}, Holding.own_push, Lists.{Newest, Split, Last, Earlier, split, reverse_push}, Locking.is_own, Rules.{over_runs, pushed, newest, newest_now}, Stands.{live_slot, top, rn}, Tables.header_of, Valued.{same_elements, reference_as}, Standing.{is_one as started_word}, Threaded.{and_parts as parts}, Carried.{put_same, put_other}}
 use Rattle.sharc_code.specs.Says.{argument_of}
 use Rattle.sharc_invariant.specs.Words as Words
+
+pub chosen : (a b c : Bool) (v : ℕ) → a ≡ true → b ≡ true → c ≡ true → (if (a && b) && c then v else 0) ≡ v
+chosen true true true v e f q = refl
+chosen true true false v e f q = absurd (yes (sym q))
+chosen true false c v e f q = absurd (yes (sym f))
+chosen false b c v e f q = absurd (yes (sym e))
 
 -- ---- what a thread was given, by the events
 abbrev pub IsStart : ℕ → ℕ → ℤ → SourceEvent → Type 0
@@ -141,19 +147,13 @@ module _ (cell_laws : CellsAreThere) (pointers : PointersAreThere) (rights : Acc
           let lt' : nat_lt t THREADS ≡ true = below t lt in
           let state : (slice_index g.words (state_word t) == 1) ≡ true = ap (λ n. n == 1) was in
           let slot : in_ref h.world (ArgumentOf t) ≡ argument_given g t = h.state.sim.args t
-          ∙ choose (nat_lt t THREADS) (slice_index g.words (state_word t) == 1) (is_unread (g.threads t)) (if_reference (function_of code (function_given g t)).parameter (argument_given g t)) lt' state (old.unread t k)
+          ∙ chosen (nat_lt t THREADS) (slice_index g.words (state_word t) == 1) (is_unread (g.threads t)) (if_reference (function_of code (function_given g t)).parameter (argument_given g t)) lt' state (old.unread t k)
           ∙ ap (λ p. if_reference p (argument_given g t)) e in
           same_elements cell_laws pointers rights laws keeps x code s ls wt fits few one earlier h may (argument_given g t) nz
           (subst (λ n. (h.world.obj n).live ≡ true) slot (live_slot x code s ls wt fits g h.world h.state (In (ArgumentOf t)) (λ z. nz (sym slot ∙ z)))))
         where
           below : (a : ℕ) → a < THREADS → nat_lt a THREADS ≡ true
           below a lt = grind (arith, nat_tests)
-
-          choose : (a b c : Bool) (v : ℕ) → a ≡ true → b ≡ true → c ≡ true → (if (a && b) && c then v else 0) ≡ v
-          choose true true true v e f q = refl
-          choose true true false v e f q = absurd (yes (sym q))
-          choose true false c v e f q = absurd (yes (sym f))
-          choose false b c v e f q = absurd (yes (sym e))
 
       given_still : WasGiven code (pushed event L) T' g' t
       given_still = ⊎_elim
@@ -376,23 +376,15 @@ pub record Begun (x : Targets) (code : Code) (s : Shape) (ls : Labels) (run : Li
 
 module _ (cell_laws : CellsAreThere) (pointers : PointersAreThere) (rights : AccessesAreAllowed) (laws : RunLaws) (starts : SpawnsStart) (begins_law : CodeBegins) (keeps : Keeps) (x : Targets) (code : Code) (s : Shape) (ls : Labels) (wt : IsWellTyped x code ls) (fits : Fits code s) (few : IsSmall code s) where
   pub begun_runs : (run : List Turn) → IsRun bounds (one_thread code s) (opening_of bounds (one_thread code s) (opening_words code s)) run → Begun x code s ls run
-  begun_runs [] run = record {
-    consists = at_first begins_law x code s ls wt fits;
-    told = nobody_started code s;
-    starts = none_yet code;
-  }
-  begun_runs (one ∷ earlier) run =
-      let old = begun_runs earlier run.0 in
-      let h = old.consists in
-      let may = run.1 in
-      let g = place_after code s earlier in
-      let ev = said_now code (table_of code s earlier) (g.threads one.thread) (result_of one.event) in
+  begun_runs run is =
+      let k = over_runs cell_laws pointers laws begins_law keeps x code s ls wt fits few
+      (λ run h L. record { told : StartsTold code L (table_of code s run) (place_after code s run); starts : StartsAre code (reverse L) })
+      (record { told = nobody_started code s; starts = none_yet code })
+      (λ one earlier h may _ old.
+      let ev = said_now code (table_of code s earlier) ((place_after code s earlier).threads one.thread) (result_of one.event) in
       let L = newest code s earlier in
-      let now = newest_now code s one earlier in
       record {
-        consists = consists_then laws keeps cell_laws pointers x code s ls wt fits few one earlier h may;
-        told = subst (λ (L : Newest). StartsTold code L (table_of code s (one ∷ earlier)) (place_after code s (one ∷ earlier))) (sym now)
-            (starts_then cell_laws pointers rights laws starts keeps x code s ls wt fits few one earlier h may L old.told);
-        starts = subst (λ (L : Newest). StartsAre code (reverse L)) (sym now)
-            (with_event code ev L old.starts (λ e is none v q. started_now cell_laws pointers rights laws starts keeps x code s ls wt fits few one earlier h may L old.told e is none v q));
-      }
+        told = starts_then cell_laws pointers rights laws starts keeps x code s ls wt fits few one earlier h may L old.told;
+        starts = with_event code ev L old.starts (λ e is none v q. started_now cell_laws pointers rights laws starts keeps x code s ls wt fits few one earlier h may L old.told e is none v q);
+      }) run is in
+      record { consists = k.0; told = k.1.told; starts = k.1.starts }

@@ -10,12 +10,7 @@ IsObject (Object.Made n) o = (n ≡ o) × (o ≢ 0)
 module _ (laws : TheLaws) (x : Targets) (code : Code) (s : Shape) (ls : Labels) (typed : Typed x code s ls) (one : Turn) (earlier : List Turn) (run : RunOf code s (one ∷ earlier)) (w : Whole x code s ls earlier)
     (o k : ℕ) (live : (w.consists.world.obj o).live ≡ true) (inside : 2 * k < w.consists.state.cells o) where
   open turn_at code s (place_after code s earlier) one use {g, t, m, i, m'}
-
-  abbrev world : World
-  world = w.consists.world
-
-  abbrev st : State x code s ls (place_after code s earlier) w.consists.world
-  st = w.consists.state
+  open w.consists use {world, state as st}
 
   on : IsOn (place_after code s earlier) one.thread
   on = (run.1.started, run.1.next.runs)

@@ -1,5 +1,6 @@
 //! The laws, each the contract of a function that does nothing.
 
+ghost use Rattle.sharc_code.specs.Laws.{RunLaws};
 ghost use Rattle.sharc_history_laws.specs.{Awaits.{AwaitedIsHeld, AwaitedIsNotGone}, Causes.AccessReportsBreakRules};
 ghost use Rattle.sharc_history_laws.specs.Causes.{NamesAreCauses, ReportsHaveNamed, UnstartedAreBegun};
 ghost use Rattle.sharc_history_laws.specs.Conflicts.{AccessReportsShow, NamedAreChecked, NotesAreOfChecks};
@@ -11,6 +12,8 @@ ghost use Rattle.sharc_history_laws.specs.{Reports.{CastReportsShow, LockReports
 ghost use Rattle.sharc_history_laws.specs.{Seen.{LogsAreLocked, RunsBegin}, SeenCells.CellsAreSeen};
 ghost use Rattle.sharc_history_laws.specs.{Starts.StartsAreSpawned, Stores.StoresAreLegal, Stuck.AwaitedMayNotCome};
 ghost use Rattle.sharc_history_laws.specs.{Threads.RunsTellThreads, Waiters.EventsMayCome};
+ghost use Rattle.sharc_invariant.specs.Laws.{AccessesAreAllowed, Begins, CellsAreThere, Keeps, PointersAreThere};
+ghost use Rattle.sharc_invariant.specs.Laws.{StateStands};
 
 use crate::words::states_law;
 use sharc_code::{run_laws, standing_laws};
@@ -18,27 +21,37 @@ use sharc_heap::shadow_laws;
 use sharc_invariant::laws::{begins, cells_are_there, keeps, runs_bits, runs_report, state_stands};
 use sharc_locks::waiters_laws;
 
-/// The path of each thread of each checked run of typed code has consistent results: its references are numbers, Bounds
-/// answers the elements of its object, a New makes no object to which the thread has a reference, and no other thread
-/// makes one anew.
-pub fn paths_law()
-    ensures { PathsAreConsistent }
-{
-    run_laws();
-    begins();
-    keeps();
-    cells_are_there();
-}
-
-/// The source events of each checked run of typed code keep the rules of the modes.
-pub fn history_law()
-    ensures { HistoriesObey }
+/// What the laws stand on: each run, and the invariant of typed code at each of its places.
+fn invariant_laws()
+    ensures runs { RunLaws }
+    ensures opens { Begins }
+    ensures keeps { Keeps }
+    ensures states { StateStands }
+    ensures cells { CellsAreThere }
+    ensures pointers { PointersAreThere }
+    ensures rights { AccessesAreAllowed }
 {
     run_laws();
     begins();
     keeps();
     state_stands();
     cells_are_there();
+}
+
+/// The path of each thread of each checked run of typed code has consistent results: its references are numbers, Bounds
+/// answers the elements of its object, a New makes no object to which the thread has a reference, and no other thread
+/// makes one anew.
+pub fn paths_law()
+    ensures { PathsAreConsistent }
+{
+    invariant_laws();
+}
+
+/// The source events of each checked run of typed code keep the rules of the modes.
+pub fn history_law()
+    ensures { HistoriesObey }
+{
+    invariant_laws();
 }
 
 /// What reports of checked runs of typed code show. A thread that has stopped at a lock check does not hold the mutex
@@ -53,10 +66,7 @@ pub fn reports_law()
     ensures notes { NotesAreOfChecks }
     ensures named { NamedAreChecked }
 {
-    run_laws();
-    begins();
-    keeps();
-    cells_are_there();
+    invariant_laws();
     runs_bits();
     runs_report();
 }
@@ -68,12 +78,8 @@ pub fn reports_law()
 pub fn stores_law()
     ensures { StoresAreLegal }
 {
-    run_laws();
+    invariant_laws();
     states_law();
-    begins();
-    keeps();
-    state_stands();
-    cells_are_there();
 }
 
 /// Where the cells of the globals hold at first what the program says: each pointer cell that refers to an object in a
@@ -82,11 +88,7 @@ pub fn stores_law()
 pub fn cells_seen_law()
     ensures { CellsAreSeen }
 {
-    run_laws();
-    begins();
-    keeps();
-    state_stands();
-    cells_are_there();
+    invariant_laws();
 }
 
 /// A pointer cell of an object that is made and live in a checked run of typed code is one of what is made at the token
@@ -94,10 +96,7 @@ pub fn cells_seen_law()
 pub fn pointers_made_law()
     ensures { PointersAreMade }
 {
-    run_laws();
-    begins();
-    keeps();
-    cells_are_there();
+    invariant_laws();
 }
 
 /// So may Woken and Signal, where behind each CondEnter of the code the thread unlocks a mutex and waits: a Woken comes
@@ -106,12 +105,8 @@ pub fn pointers_made_law()
 pub fn waiters_law()
     ensures { EventsMayCome }
 {
-    run_laws();
+    invariant_laws();
     waiters_laws();
-    begins();
-    keeps();
-    state_stands();
-    cells_are_there();
     stores_law();
 }
 
@@ -120,11 +115,8 @@ pub fn waiters_law()
 pub fn starts_law()
     ensures { StartsAreSpawned }
 {
-    run_laws();
+    invariant_laws();
     standing_laws();
-    begins();
-    keeps();
-    cells_are_there();
 }
 
 /// Where each check of the code is directly before its access: each check of an access that a thread made in a checked
@@ -136,10 +128,7 @@ pub fn followed_law()
     ensures locks { LockReportsShowAccess }
     ensures rules { LockReportsBreakRules }
 {
-    run_laws();
-    begins();
-    keeps();
-    cells_are_there();
+    invariant_laws();
 }
 
 /// Of each thread that has stopped at the check of an access in a checked run of typed code. Where each check of the
@@ -154,11 +143,7 @@ pub fn causes_law()
     ensures named { ReportsHaveNamed }
     ensures unstarted { UnstartedAreBegun }
 {
-    run_laws();
-    begins();
-    keeps();
-    state_stands();
-    cells_are_there();
+    invariant_laws();
     runs_bits();
     runs_report();
     shadow_laws();
@@ -170,11 +155,8 @@ pub fn awaits_law()
     ensures held { AwaitedIsHeld }
     ensures gone { AwaitedIsNotGone }
 {
-    run_laws();
+    invariant_laws();
     states_law();
-    begins();
-    keeps();
-    cells_are_there();
 }
 
 /// A thread that waits at the end of such a run, at a Lock, a Join or a CondWait, waits for an event that may not come
@@ -182,13 +164,9 @@ pub fn awaits_law()
 pub fn stuck_law()
     ensures { AwaitedMayNotCome }
 {
-    run_laws();
+    invariant_laws();
     states_law();
     waiters_laws();
-    begins();
-    keeps();
-    state_stands();
-    cells_are_there();
     awaits_law();
 }
 
@@ -197,10 +175,7 @@ pub fn stuck_law()
 pub fn threads_law()
     ensures { RunsTellThreads }
 {
-    run_laws();
-    begins();
-    keeps();
-    cells_are_there();
+    invariant_laws();
 }
 
 /// The turns of a checked run up to some turn are a checked run. Where the held log of a thread of a checked run of
@@ -211,13 +186,9 @@ pub fn seen_law()
     ensures logs { LogsAreLocked }
     ensures arguments { ArgumentsAreGiven }
 {
-    run_laws();
+    invariant_laws();
     standing_laws();
     states_law();
-    begins();
-    keeps();
-    state_stands();
-    cells_are_there();
 }
 
 /// The other way round: where a mutex of an object is locked by the events of such a run, the held log of a thread
@@ -229,13 +200,9 @@ pub fn kept_law()
     ensures arguments { SpawnedAreGiven }
     ensures cells { CellsAreKept }
 {
-    run_laws();
+    invariant_laws();
     standing_laws();
     states_law();
-    begins();
-    keeps();
-    state_stands();
-    cells_are_there();
 }
 
 /// Where by the events a cell of a live object refers to an object, and it is one of the pointers of what is made at
@@ -247,19 +214,12 @@ pub fn pointers_kept_law()
     ensures globals { GlobalPointersAreKept }
     ensures others { OthersAreInitial }
 {
-    run_laws();
-    begins();
-    keeps();
-    state_stands();
-    cells_are_there();
+    invariant_laws();
 }
 
 /// A turn of a checked run has no event or one, and an object that it makes was not there before.
 pub fn grows_law()
     ensures { HistoriesGrow }
 {
-    run_laws();
-    begins();
-    keeps();
-    cells_are_there();
+    invariant_laws();
 }

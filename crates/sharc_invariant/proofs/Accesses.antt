@@ -1,5 +1,5 @@
 -- Loads and stores of cells, from the real words up.
-use Rattle.sharc_invariant.proofs.{Imports.{◌≡◌, ℕ, ℤ, pos, negsuc, suc, ◌+◌, ◌-◌, ◌^◌, ◌<◌, Bool, true, false, List, refl, sym, ap, ◌∙◌, subst, arith, ltb-true, nat_tests, length-set, set-get_or, fun_ext, length, slice_index, slice_set, nat_lt, Load, Swap, Code, Cell, Width, Char, Int, Long, Instr, Shape, At, Frame, word_of, int_of, holds, value_bits, Fits, first_cell, Own as Own', Machine, next, Asks, step_of, instr_at, int, word, goes, accessed, set_int, may_go, turn, Turn, Global, put, MayTurn, after_turn, one_thread, bounds, put_same, put_other, HeldMutex, Targets, Field, field_in, is_mutex, is_pointer, Integer, Within, Gate, Closed, Holds, Loaded, HoldsLoaded, SoleGate, Label, Labels, LessGate, Leads, gated, set_number, IsNotSole, IsWellTyped, HasCell, IsInt, IsAccess, RegisterOf, CellOf, World, Window, Shut, Sole, IsLoaded, WinOk, Right, base_of, in_ref, set_win, Built, InBlock, lang_of, conc_of, Shows, register_of, FitsContent, cell_at, is_ended, has_returned, made_turn, IsThere, Silent, Effect, State, View, view_of, TopStands, FramesStand, GateStands, size_of_run, base_of_cell, object_of_cell, number_in, changes_objects}, Effects.set_win_ok, Quiet.{KeepsOwn, KeepsWords, heap_now, quiet_state, noted_same, conc_plain, put_self}, Turns.{asks_turn, room_of}, Own.{is_single, int_inside, runs, rests, top, gate, not_begun, runs_at}, Frames.{less_stands, frames_same}, Plain.{register_plain, same_words, number_top, vals_below, view_set, keeps_own, with_own}, Stores.{index_put, cell_store, stored_words, stored_within}, Seen.integer_stored, Cells.cell_there, CheckTurns.sim_win, Rights.right, Others.loses}
+use Rattle.sharc_invariant.proofs.{Imports.{◌≡◌, ℕ, ℤ, pos, negsuc, suc, ◌+◌, ◌-◌, ◌^◌, ◌<◌, Bool, true, false, List, refl, sym, ap, ◌∙◌, subst, arith, ltb-true, nat_tests, length-set, set-get_or, fun_ext, length, slice_index, slice_set, nat_lt, Load, Swap, Code, Cell, Width, Char, Int, Long, Instr, Shape, At, Frame, word_of, int_of, holds, value_bits, Fits, first_cell, Own as Own', Machine, next, Asks, step_of, instr_at, int, word, goes, accessed, set_int, may_go, turn, Turn, Global, put, MayTurn, one_thread, bounds, put_same, put_other, HeldMutex, Targets, Field, field_in, is_mutex, is_pointer, Integer, Within, Gate, Closed, Holds, Loaded, HoldsLoaded, SoleGate, Label, Labels, LessGate, Leads, gated, set_number, IsNotSole, IsWellTyped, HasCell, IsInt, IsAccess, CellOf, World, Window, Shut, Sole, IsLoaded, WinOk, Right, base_of, set_win, Built, InBlock, lang_of, conc_of, Shows, register_of, FitsContent, cell_at, is_ended, has_returned, made_turn, IsThere, Silent, Effect, State, View, view_of, TopStands, FramesStand, GateStands, size_of_run, base_of_cell, object_of_cell, number_in, changes_objects}, TurnAt.turn_at, Effects.set_win_ok, Quiet.{KeepsOwn, KeepsWords, heap_now, quiet_state, noted_same, conc_plain, put_self}, Turns.{asks_turn, room_of}, Own.{is_single, int_inside, runs, rests, top, gate, not_begun, runs_at}, Frames.{less_stands, frames_same}, Plain.{resting, register_plain, same_words, number_top, vals_below, view_set, keeps_own, with_own}, Stores.{index_put, cell_store, stored_words, stored_within}, Seen.integer_stored, Cells.cell_there, CheckTurns.sim_win, Rights.right, Others.loses}
 use Rattle.sharc_invariant.specs.Effect.{Accesses}
 
 abbrev sign_of : Bool → ℤ → ℤ → ℤ
@@ -41,38 +41,17 @@ pub record KeepsRefs (m m' : Machine) : Type 0 where
 
 module _ (x : Targets) (code : Code) (s : Shape) (ls : Labels) (wt : IsWellTyped x code ls) (fits : Fits code s) (g : Global Machine) (world : World) (st : State x code s ls g world) (tr : Turn)
     (may : MayTurn bounds (one_thread code s) g tr) (i : Instr) (is : instr_at code (g.threads tr.thread).at.pc ≡ i) (single : is_single i ≡ true) where
-  abbrev t : ℕ
-  t = tr.thread
-
-  abbrev m : Machine
-  m = g.threads tr.thread
-
-  abbrev here : Label
-  here = ls.at (g.threads tr.thread).at.pc
-
-  abbrev after : Global Machine
-  after = after_turn bounds (one_thread code s) g tr
+  open turn_at st tr use {t, m, here, after, view}
+  open resting x code s ls wt g world st tr.thread (may.started, may.next.runs) i is single use {names, tops as top_here, reads}
 
   abbrev Turned : Type 0
   Turned = (w' : World) × State x code s ls after w' × Effect (lang_of x) tr.thread (has_returned (g.threads tr.thread)) (changes_objects (instr_at code (g.threads tr.thread).at.pc) (g.threads tr.thread)) world w'
-
-  abbrev view : View
-  view = view_of st.elements world tr.thread (g.threads tr.thread)
-
-  abbrev names : ℕ → ℤ
-  names = (runs x code s ls wt g world st tr.thread may.started may.next.runs i is single).names
-
-  top_here : TopStands x tr.thread view (g.threads tr.thread).at.refs (g.threads tr.thread).at.ints names here
-  top_here = top x code s ls wt g world st t may.started may.next.runs i is single
 
   below_here : FramesStand x code ls tr.thread view (g.threads tr.thread) here.function
   below_here = (runs x code s ls wt g world st t may.started may.next.runs i is single).below
 
   gate_here : GateStands s world tr.thread (g.threads tr.thread) here.gate
   gate_here = gate x code s ls wt g world st t may.started may.next.runs i is single
-
-  reads : (r : ℕ) → Rattle.sharc_code.specs.Machine.ref (g.threads tr.thread) r ≡ in_ref world (RegisterOf tr.thread ((g.threads tr.thread).at.refs + r))
-  reads r = sym (st.sim.regs t (m.at.refs + r) ∙ register_plain code m (rests x code s ls wt g world st t may.started may.next.runs i is single) (m.at.refs + r))
 
   there : (c : Cell) (f : Field) → HasCell x code here c f → IsThere x s st.cells world tr.thread (g.threads tr.thread) c f
   there c f h = cell_there x code s ls wt fits g world st t m names here top_here reads c f h

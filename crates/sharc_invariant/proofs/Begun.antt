@@ -1,5 +1,5 @@
 -- A thread that is begun and has made no turn stands at the first place.
-use Rattle.sharc_invariant.proofs.{Imports.{◌≡◌, ℕ, pos, ◌+◌, ◌*◌, true, false, refl, sym, ap, ◌∙◌, subst, arith, length-replicate, slice_index, blank, FRAMES, Code, Shape, granules, Machine, no_frame, begun, may_go, most_refs, most_ints, Global, Targets, Empty, Anything, Labels, IsWellTyped, refs_in, ints_in, World, RegisterOf, Shut, in_ref, Heap, State, View, view_of, EntryStands, NumberStands, TopStands, FramesStand, GateStands, Runs, IsThread, ThreadStands, refs_at, types_at, ◌-◌, ◌<◌, ◌≤◌, List, [], ◌∷◌, ⊎_elim, cases_lt, get_or-replicate, get_or_past, length, slice_index_or, replicate, ListsNoted, is_noted, has_note, nothing, Pass, IsIn}, Own.runs_at, Plain.register_plain}
+use Rattle.sharc_invariant.proofs.{Imports.{◌≡◌, ℕ, pos, ◌+◌, ◌*◌, true, false, refl, sym, ap, ◌∙◌, subst, arith, length-replicate, slice_index, blank, FRAMES, Code, Shape, granules, Machine, no_frame, begun, may_go, most_refs, most_ints, Global, Targets, Empty, Anything, Labels, IsWellTyped, refs_in, ints_in, World, RegisterOf, Shut, in_ref, Heap, State, View, view_of, EntryStands, NumberStands, TopStands, FramesStand, GateStands, Runs, IsThread, ThreadStands, refs_at, types_at, ◌<◌, ◌≤◌, List, [], ◌∷◌, ⊎_elim, cases_lt, get_or-replicate, get_or_past, slice_index_or, replicate, ListsNoted, is_noted, has_note, Pass, IsIn}, Own.runs_at, Plain.register_plain}
 
 pub nth_replicate : {A : Type 0} (n i : ℕ) (v : A) → slice_index_or (replicate n v) i v ≡ v
 nth_replicate {A} n i v = ⊎_elim (λ (lt : i < n). get_or-replicate n i v v lt) (λ (ge : n ≤ i). let e = length-replicate n v in get_or_past (replicate n v) i v (omega arith)) (cases_lt i n)

@@ -1,5 +1,5 @@
 -- The bits of shadow words behind each turn, and at each place of a run.
-use Rattle.sharc_invariant.proofs.{Imports.{◌≡◌, ℕ, suc, ◌+◌, ◌*◌, ◌<◌, ◌⊎◌, ◌||◌, Bool, true, false, cond, List, [], ◌∷◌, refl, sym, ap, ◌∙◌, subst, inl, inr, ⊎_elim, arith, cases_eq, cases_Bool, ltb-true, lt-ltb, true_from_ne_false, length, take, slice_index, slice_set, nat_lt, nat_eq, is_some, bit_or, ◌==◌, if◌then◌else◌, THREADS, Load, Swap, Or, Cas, WordStep, MayFollow, word_after, Kind, Read, Write, note_of, site_at, epoch_of, is_of, is_written, stands, WithdrawsWord, AddsAccess, bits_of, cleared_of, withdrawn_of, conflicts_in, noted, ShadowLaws, Code, Layout, Instr, ChkRead, ChkWrite, Clear, Free, New, Spawn, Exit, Register, Shape, Stage, Rests, Looks, Clears, Makes, FreeLooks, FreeClears, Uncounts, Names, Hands, Begins, Withdraws, WithdrawsFrom, Leaves, StateOf as PlaceState, RunsOn, Tries, Stopped, Ended, Stop, Conflict, Fits, granules, granule_at, granule_of, first_shadow, first_cell, shadow_word, state_word, Machine, Own, StepTurn, Local, Asks, step_of, act, instr_at, ref, at_stage, ends, stopped, with_own, with_note, wrote, checked, check, clear, looks, free, free_looks, layout_at, data_granule, data_granules, rests, exit, withdraws, withdrew, row_of, without_own, TurnsComeOut, may_go, turn, asked_by, after as after_step, Turn, Global, put, at, MayTurn, IsRun, Answered, after_turn, result_of, one_thread, bounds, put_same, put_other, put_all, Touch, Untouched, CheckOf, ClearOf, WithdrawOf, Marks, no_marks, with_check, without_thread, cleared_by, freed_by, withdrawn_by, touch_of, marks_by, marks_now, marks_after, BitsStand, AllBitsStand, Passed, Targets, Labels, IsWellTyped, World, Heap, shadow_at, is_ended, is_withdrawing, has_withdrawn, note_number, noted_by, first_place, made_turn, State, IsSmall, StageStands, OnNew, OnSpawn, OnExit, RunsFromTheBeginning, RunsBits, ne_eq, eq_refl}, Stores.index_put, Turns.{local_turn, asks_turn, some_step}, Checks.{noted_numbers, same_kind, other_put}, Withdrawn.{is_row, one_more, row_low, first_row, noted_withdraws, wrote_now}, Opened.shadow_zero, Marked.{MarkedAt, at_same, at_clear, at_read, at_write, at_withdraw}, Touched.{IsFit, fit_calm, IsPlain, KeepsNotes, LeavesWords, leaves, keeps_notes}}
+use Rattle.sharc_invariant.proofs.{Imports.{◌≡◌, ℕ, suc, ◌+◌, ◌*◌, ◌<◌, ◌⊎◌, ◌||◌, Bool, true, false, cond, List, [], ◌∷◌, refl, sym, ap, ◌∙◌, subst, inl, inr, ⊎_elim, arith, cases_eq, cases_Bool, ltb-true, lt-ltb, true_from_ne_false, length, take, slice_index, slice_set, nat_lt, nat_eq, is_some, bit_or, ◌==◌, if◌then◌else◌, THREADS, Load, Swap, Or, Cas, WordStep, MayFollow, word_after, Kind, Read, Write, note_of, site_at, epoch_of, is_of, is_written, stands, WithdrawsWord, AddsAccess, bits_of, cleared_of, withdrawn_of, conflicts_in, noted, ShadowLaws, Code, Layout, Instr, ChkRead, ChkWrite, Clear, Free, New, Spawn, Exit, Register, Shape, Stage, Rests, Looks, Clears, Makes, FreeLooks, FreeClears, Uncounts, Names, Hands, Begins, Withdraws, WithdrawsFrom, Leaves, StateOf as PlaceState, Ended, Stop, Conflict, Fits, granules, granule_at, granule_of, first_shadow, first_cell, shadow_word, state_word, Machine, Own, StepTurn, Local, Asks, step_of, act, instr_at, ref, at_stage, ends, stopped, with_own, with_note, wrote, checked, check, clear, looks, free, free_looks, layout_at, data_granule, data_granules, rests, exit, withdraws, withdrew, row_of, without_own, TurnsComeOut, may_go, turn, asked_by, after as after_step, Turn, Global, put, at, MayTurn, IsRun, Answered, after_turn, result_of, one_thread, bounds, put_same, put_other, put_all, Touch, Untouched, CheckOf, ClearOf, WithdrawOf, Marks, no_marks, with_check, without_thread, cleared_by, freed_by, withdrawn_by, touch_of, marks_by, marks_now, marks_after, BitsStand, AllBitsStand, Passed, Targets, Labels, IsWellTyped, World, Heap, shadow_at, is_ended, is_withdrawing, has_withdrawn, note_number, noted_by, first_place, made_turn, State, IsSmall, StageStands, OnNew, OnSpawn, OnExit, RunsFromTheBeginning, RunsBits, ne_eq, eq_refl}, TurnAt.{turn_at, turn_stands}, Stores.index_put, Turns.{local_turn, asks_turn, some_step}, Checks.{noted_numbers, same_kind, other_put}, Withdrawn.{is_row, one_more, row_low, first_row, noted_withdraws, wrote_now}, Opened.shadow_zero, Marked.{MarkedAt, at_same, at_clear, at_read, at_write, at_withdraw}, Touched.{IsFit, fit_calm, IsPlain, KeepsNotes, LeavesWords, leaves, keeps_notes}}
 use Rattle.sharc_code.specs.Machine.{place}
 
 -- ---- numbers
@@ -121,14 +121,8 @@ found_at code s g tr may step next e =
 
 -- ---- one turn
 module _ (x : Targets) (code : Code) (s : Shape) (ls : Labels) (laws : ShadowLaws) (g : Global Machine) (world : World) (st : State x code s ls g world) (tr : Turn) (may : MayTurn bounds (one_thread code s) g tr) (marks : ℕ → Marks) (h : AllMarked s g marks) where
-  abbrev t : ℕ
-  t = tr.thread
-
-  abbrev m : Machine
-  m = g.threads tr.thread
-
-  abbrev after : Global Machine
-  after = after_turn bounds (one_thread code s) g tr
+  open turn_at st tr use {t, m, after}
+  open turn_stands st tr may use {number}
 
   go : may_go (g.threads tr.thread).at.state ≡ true
   go = may.next.runs
@@ -138,9 +132,6 @@ module _ (x : Targets) (code : Code) (s : Shape) (ls : Labels) (laws : ShadowLaw
 
   few : tr.thread < THREADS
   few = st.begins.few t may.started
-
-  number : (g.threads tr.thread).own.number ≡ tr.thread
-  number = (st.threads t).has.number
 
   stage_here : StageStands code s st.elements world st.heap g.words tr.thread (g.threads tr.thread) (instr_at code (g.threads tr.thread).at.pc) (g.threads tr.thread).own.stage
   stage_here = ((st.threads t).runs may.started go).stage

@@ -1,41 +1,21 @@
 -- The turns of a New before its last: the world stays, and a word of the thread's own block or the top may change.
-use Rattle.sharc_invariant.proofs.{Imports.{◌≡◌, ℕ, zero, suc, ◌+◌, ◌^◌, ◌<◌, ◌≤◌, ◌≢◌, Bool, true, false, cond, List, Option, None, Some, refl, sym, ap, ◌∙◌, subst, ⊎_elim, arith, cases_order, length-set, fun_ext, length, slice_index, slice_set, ◌==◌, THREADS, note_of, epoch_of, Kind, Read, Write, Code, Shape, StateOf, RunsOn, Tries, Stopped, Ended, Stop, Stage, Rests, Makes, Lowers, Links, Names, Hands, Begins, Withdraws, WithdrawsFrom, Leaves, Fits as FitsShape, granules, top_word, Machine, instr_at, may_go, counted, Turn, Global, put, MayTurn, one_thread, bounds, Instr, put_other, put_all, sum_to, Targets, Label, Labels, Fine, IsWellTyped, World, Shut, Heap, Kept, Built, InBlock, IsListed, conc_of, Shows, head_of, is_ended, has_withdrawn, note_number, noted_by, register_of, staged_of, made_turn, KeepsOthers, StopStands, State, Runs, View, view_of, StageStands, SpawnsNow, FramesStand, GateStands, HeapStands, TopStands, label_now}, Listed.{store_ok, within_block, in_use}, Others.OnHold, Quiet.{heap_now, put_self, sum_up, label_held, freed_held, locks_same, heap_stays, sizes_kept}, Changes.{KeepsPart, KeepsLower, conc_now, changed_state}, Stores.{index_put, arena}, Heaps.{apart_stored, built_size, block_word, low_block, built_dead}, Plain.others_stay, Own.begun_in}
+use Rattle.sharc_invariant.proofs.{Imports.{◌≡◌, ℕ, zero, suc, ◌+◌, ◌^◌, ◌<◌, ◌≤◌, ◌≢◌, Bool, true, false, cond, List, Option, None, Some, refl, sym, ap, ◌∙◌, subst, ⊎_elim, arith, cases_order, length-set, fun_ext, length, slice_index, slice_set, ◌==◌, THREADS, note_of, epoch_of, Kind, Read, Write, Code, Shape, StateOf, RunsOn, Tries, Stopped, Ended, Stop, Stage, Rests, Makes, Lowers, Links, Names, Hands, Begins, Withdraws, WithdrawsFrom, Leaves, Fits as FitsShape, granules, top_word, Machine, instr_at, may_go, counted, Turn, Global, put, MayTurn, one_thread, bounds, Instr, put_other, put_all, sum_to, Targets, Label, Labels, Fine, IsWellTyped, World, Shut, Heap, Kept, Built, InBlock, IsListed, conc_of, Shows, head_of, is_ended, has_withdrawn, note_number, noted_by, register_of, staged_of, made_turn, KeepsOthers, StopStands, State, StageStands, SpawnsNow, FramesStand, GateStands, HeapStands, TopStands, label_now}, TurnAt.{turn_at, turn_stands}, Listed.{store_ok, within_block, in_use}, Others.OnHold, Quiet.{heap_now, put_self, sum_up, label_held, freed_held, locks_same, heap_stays, sizes_kept}, Changes.{KeepsPart, KeepsLower, conc_now, changed_state}, Stores.{index_put, arena}, Heaps.{apart_stored, built_size, block_word, low_block, built_dead}, Plain.others_stay, Own.begun_in}
 
 abbrev pub IsMaking : Stage → Type 0
 IsMaking Rests = Unit {0}
 IsMaking (Makes v) = Unit {0}
 IsMaking _ = ⊥
 
-pub making_hold : (y : Stage) → IsMaking y → OnHold y
-making_hold (Links all) h = absurd h
-making_hold _ h = tt
-
-making_staged : (y : Stage) → IsMaking y → staged_of y ≡ 0
-making_staged (Lowers a b c) h = absurd h
-making_staged _ h = refl
-
-making_spawns : (y : Stage) → IsMaking y → (n : ℕ) → SpawnsNow y n → ⊥
-making_spawns (Names k) h n z = h
-making_spawns (Hands k) h n z = h
-making_spawns (Begins k) h n z = h
-making_spawns _ h n z = z
-
-making_withdrawn : (y : Stage) → IsMaking y → (order : List ℕ) (b : Bool) (p : ℕ) → has_withdrawn y order b p ≡ b
-making_withdrawn (Withdraws row) h order b p = absurd h
-making_withdrawn (WithdrawsFrom row seen) h order b p = absurd h
-making_withdrawn Leaves h order b p = absurd h
-making_withdrawn _ h order b p = refl
+-- at such a stage no block is to be linked, nothing is staged, no thread is named and nothing is withdrawn
+pub making_calm : (y : Stage) → IsMaking y → record { hold : OnHold y; staged : staged_of y ≡ 0; spawns : (n : ℕ) → SpawnsNow y n → ⊥; withdrawn : (order : List ℕ) (b : Bool) (p : ℕ) → has_withdrawn y order b p ≡ b }
+making_calm Rests h = record { hold = tt; staged = refl; spawns = λ n z. z; withdrawn = λ order b p. refl }
+making_calm (Makes v) h = record { hold = tt; staged = refl; spawns = λ n z. z; withdrawn = λ order b p. refl }
+making_calm _ h = absurd h
 
 module _ (x : Targets) (code : Code) (s : Shape) (ls : Labels) (wt : IsWellTyped x code ls) (fits : FitsShape code s) (g : Global Machine) (world : World) (st : State x code s ls g world) (tr : Turn)
     (may : MayTurn bounds (one_thread code s) g tr) (r count cells site : ℕ) (is : instr_at code (g.threads tr.thread).at.pc ≡ Instr.New r count cells site) (making : IsMaking (g.threads tr.thread).own.stage) where
-  abbrev t : ℕ
-  t = tr.thread
-
-  abbrev m : Machine
-  m = g.threads tr.thread
-
-  abbrev pub here : Label
-  here = ls.at (g.threads tr.thread).at.pc
+  open turn_at st tr use {t, m, here, view}
+  open turn_stands st tr may use {rn}
 
   pub new_fine : Fine x code ls (g.threads tr.thread).at.pc here (Instr.New r count cells site)
   new_fine = subst (Fine x code ls m.at.pc here) is (wt.fine m.at.pc)
@@ -43,14 +23,8 @@ module _ (x : Targets) (code : Code) (s : Shape) (ls : Labels) (wt : IsWellTyped
   pub new_begun : (pc : ℕ) → (ls.at pc).function ≡ here.function → (pc == 0) ≡ false
   new_begun = begun_in x code ls wt m.at.pc (λ site' z. let q : Instr.New r count cells site ≡ Instr.Start site' = sym is ∙ z in cc) (λ z. let q : Instr.New r count cells site ≡ Instr.Exit = sym is ∙ z in cc)
 
-  abbrev pub rn : Runs x code s ls st.elements world st.heap g tr.thread (g.threads tr.thread)
-  rn = (st.threads tr.thread).runs may.started may.next.runs
-
   now_here : label_now here (instr_at code (g.threads tr.thread).at.pc) (g.threads tr.thread).own.stage ≡ here
-  now_here = label_held here (instr_at code m.at.pc) m.own.stage (making_hold m.own.stage making)
-
-  abbrev view : View
-  view = view_of st.elements world tr.thread (g.threads tr.thread)
+  now_here = label_held here (instr_at code m.at.pc) m.own.stage (making_calm m.own.stage making).hold
 
   pub new_top : TopStands x tr.thread view (g.threads tr.thread).at.refs (g.threads tr.thread).at.ints rn.names here
   new_top = subst (TopStands x t view m.at.refs m.at.ints rn.names) now_here rn.top
@@ -62,13 +36,13 @@ module _ (x : Targets) (code : Code) (s : Shape) (ls : Labels) (wt : IsWellTyped
   new_going = elim (g.threads tr.thread).at.state as (λ y. may_go y ≡ true → is_ended y ≡ false) [ RunsOn ↦ λ e. refl | Tries ↦ λ e. refl | Stopped ↦ λ e. refl | Ended ↦ λ e. absurd (cc) ] may.next.runs
 
   pub new_register : (i : ℕ) → register_of code (g.threads tr.thread) i ≡ slice_index (g.threads tr.thread).refs i
-  new_register i = ap (λ b. cond b 0 (slice_index m.refs i)) (freed_held (instr_at code m.at.pc) m.own.stage m.at.refs i (making_hold m.own.stage making))
+  new_register i = ap (λ b. cond b 0 (slice_index m.refs i)) (freed_held (instr_at code m.at.pc) m.own.stage m.at.refs i (making_calm m.own.stage making).hold)
 
   pub new_noted : (y : Stage) → IsMaking y → (q : StateOf) → is_ended q ≡ false → (kind : Kind) (p : ℕ)
       → cond (has_withdrawn y (g.threads tr.thread).own.table.order (is_ended q) p) 0 (note_number (note_of (g.threads tr.thread).own.table p kind)) ≡ noted_by (g.threads tr.thread) kind p
   new_noted y my q e kind p =
       let f : Bool → ℕ = λ b. cond b 0 (note_number (note_of m.own.table p kind)) in
-      ap f (making_withdrawn y my m.own.table.order (is_ended q) p ∙ e ∙ sym new_going ∙ sym (making_withdrawn m.own.stage making m.own.table.order (is_ended m.at.state) p))
+      ap f ((making_calm y my).withdrawn m.own.table.order (is_ended q) p ∙ e ∙ sym new_going ∙ sym ((making_calm m.own.stage making).withdrawn m.own.table.order (is_ended m.at.state) p))
 
   -- the machine behind such a turn
   abbrev pub with_stage : StateOf → Stage → Option Stop → Machine
@@ -86,7 +60,7 @@ module _ (x : Targets) (code : Code) (s : Shape) (ls : Labels) (wt : IsWellTyped
       sizes = sizes_kept (g.threads tr.thread) (with_stage q y z) (st.threads t).has.table refl refl refl refl;
       held = refl;
       heads = refl;
-      spawns = λ n h. absurd (making_spawns y making' n h);
+      spawns = λ n h. absurd ((making_calm y making').spawns n h);
       begun_before = new_begun m.at.pc refl;
       begun = new_begun m.at.pc refl;
     }
@@ -94,8 +68,8 @@ module _ (x : Targets) (code : Code) (s : Shape) (ls : Labels) (wt : IsWellTyped
     conc_is : conc_of code now ≡ record (conc_of code g) { words = λ j. slice_index words j }
     conc_is =
         let rs = fun_ext (put_self (λ u. register_of code (g.threads u)) t (register_of code m')
-        (fun_ext (λ j. ap (λ b. cond b 0 (slice_index m.refs j)) (freed_held (instr_at code m.at.pc) y m.at.refs j (making_hold y making')) ∙ sym (new_register j)))) in
-        let sg = fun_ext (put_self (λ u. staged_of (g.threads u).own.stage) t (staged_of y) (making_staged y making' ∙ sym (making_staged m.own.stage making))) in
+        (fun_ext (λ j. ap (λ b. cond b 0 (slice_index m.refs j)) (freed_held (instr_at code m.at.pc) y m.at.refs j (making_calm y making').hold) ∙ sym (new_register j)))) in
+        let sg = fun_ext (put_self (λ u. staged_of (g.threads u).own.stage) t (staged_of y) ((making_calm y making').staged ∙ sym (making_calm m.own.stage making).staged)) in
         let n : (kind : Kind) → put (λ u. noted_by (g.threads u) kind) t (noted_by m' kind) ≡ (λ u. noted_by (g.threads u) kind) = λ kind. fun_ext (put_self (λ u. noted_by (g.threads u) kind) t (noted_by m' kind) (fun_ext (new_noted y making' q goes kind))) in
         let a = n Read in
         let b = n Write in
@@ -106,7 +80,7 @@ module _ (x : Targets) (code : Code) (s : Shape) (ls : Labels) (wt : IsWellTyped
         → (may_go q ≡ true → StageStands code s st.elements world heap' words tr.thread (with_stage q y z) (Instr.New r count cells site) y) → g.made tr.thread + counted q ≤ 100000000
         → State x code s ls now world
     builds_state heap' others stands sim same stage few =
-        let hl = label_held here (instr_at code m.at.pc) y (making_hold y making') in
+        let hl = label_held here (instr_at code m.at.pc) y (making_calm y making').hold in
         let below : FramesStand x code ls t view m' here.function = elim here.function as (λ f. FramesStand x code ls t view m f → FramesStand x code ls t view m' f) [ None ↦ λ h. h | Some f ↦ λ h. h ] rn.below in
         changed_state x code s ls wt g world st t may.started words m' own kw st.cells st.elements heap' world others (λ u. refl) (λ u i _. refl)
         st.inv (subst (λ c. Shows x s st.cells st.elements c world) (sym conc_is) sim) st.apart stands (locks_same x code s ls g world st t words m' refl world refl refl) refl refl st.rows st.whole

@@ -1,5 +1,5 @@
 -- A call keeps the invariant: the callee's frame stands above the caller's.
-use Rattle.sharc_invariant.proofs.{Imports.{◌≡◌, ℕ, ℤ, zero, suc, ◌+◌, ◌^◌, ◌<◌, ◌≤◌, Bool, true, false, cond, ◌&&◌, List, [], ◌∷◌, Some, None, refl, sym, ap, ◌∙◌, subst, inl, inr, ⊎_elim, arith, ltb-true, nat_tests, length-set, get_or-set_same, get_or-set_other, length, filter, map, nat_lt, slice_set, ◌==◌, FRAMES, Code, Shape, Frame, RunsOn, Trap, Fits, Machine, Local, instr_at, has_room, stopped, no_frame, turn, counted, Turn, Global, MayTurn, one_thread, bounds, Instr, Targets, ObjectType, Lock, mutex_of, Entry, Empty, Refers, Unknown, Number, Anything, OfElement, Closed, Pass, IsIn, Label, Labels, Leads, Less, HasBase, IsWellTyped, Calls, Passes, PassesLock, called_label, entry_label, below, below_number, below_pass, World, made_turn, State, View, view_of, frame_at, EntryStands, NumberStands, FrameStands, TopStands, StartStands, CallerStands, BelowStands, FramesStand, GateStands, refs_at, types_at, Turned, ne_eq}, Frames.{map_same, at_cell, with_locks, same_ref, less_number, number_kept, less_stands}, Quiet.heap_now, Turns.{local_turn, room_of, unseen}, Own.{runs, rests, top, fine, closed_less, runs_at}, Plain.{is_shut, plain_state, stop_state, keeps_own}}
+use Rattle.sharc_invariant.proofs.{Imports.{◌≡◌, ℕ, ℤ, zero, suc, ◌+◌, ◌^◌, ◌<◌, ◌≤◌, Bool, true, false, cond, ◌&&◌, List, [], ◌∷◌, Some, None, refl, sym, ap, ◌∙◌, subst, inl, inr, ⊎_elim, arith, ltb-true, nat_tests, length-set, get_or-set_same, get_or-set_other, length, filter, map, nat_lt, slice_set, ◌==◌, FRAMES, Code, Shape, Frame, RunsOn, Trap, Fits, Machine, Local, instr_at, has_room, stopped, no_frame, turn, counted, Turn, Global, MayTurn, one_thread, bounds, Instr, Targets, ObjectType, Lock, mutex_of, Entry, Empty, Refers, Unknown, Number, Anything, OfElement, Closed, Pass, IsIn, Label, Labels, Leads, Less, HasBase, IsWellTyped, Calls, Passes, PassesLock, called_label, entry_label, below, below_number, below_pass, World, made_turn, State, View, frame_at, EntryStands, NumberStands, FrameStands, TopStands, StartStands, CallerStands, BelowStands, FramesStand, GateStands, refs_at, types_at, Turned, ne_eq}, TurnAt.turn_at, Frames.{map_same, at_cell, with_locks, same_ref, less_number, number_kept, less_stands}, Quiet.heap_now, Turns.{local_turn, room_of, unseen}, Own.{runs, rests, top, fine, closed_less, runs_at}, Plain.{is_shut, plain_state, stop_state, keeps_own}}
 use Rattle.sharc_tree.specs.declared.trap.Trap.TheVariants as traps
 use Rattle.sharc_invariant.specs.Types.{Global as OfGlobals, Through, Self}
 
@@ -84,17 +84,7 @@ module _ (x : Targets) (t : ℕ) (v : View) (base ints : ℕ) (names : ℕ → �
 
 module _ (x : Targets) (code : Code) (s : Shape) (ls : Labels) (wt : IsWellTyped x code ls) (fits : Fits code s) (g : Global Machine) (world : World) (st : State x code s ls g world) (tr : Turn)
     (may : MayTurn bounds (one_thread code s) g tr) where
-  abbrev t : ℕ
-  t = tr.thread
-
-  abbrev m : Machine
-  m = g.threads tr.thread
-
-  abbrev here : Label
-  here = ls.at (g.threads tr.thread).at.pc
-
-  abbrev view : View
-  view = view_of st.elements world tr.thread (g.threads tr.thread)
+  open turn_at st tr use {t, m, here, view}
 
   both : (a b : Bool) → (a && b) ≡ true → a ≡ true
   both true b h = refl

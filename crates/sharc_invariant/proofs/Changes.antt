@@ -1,5 +1,5 @@
 -- A turn that changes an object, a block or what the thread is in the middle of: what it leaves of the invariant is the same for all.
-use Rattle.sharc_invariant.proofs.{Imports.{◌≡◌, ℕ, ◌+◌, ◌*◌, ◌^◌, ◌<◌, ◌≤◌, ◌≢◌, true, false, List, refl, sym, ap, ◌∙◌, subst, inl, fun_ext, length, slice_index, ◌==◌, THREADS, HeldMutex, IsHeldLog, object_of, Read, Write, Kind, epoch_of, Code, Shape, granules, Machine, reference_of, may_go, counted, Global, put, put_all, sum_to, Targets, cells_of, Labels, IsWellTyped, RegisterOf, ArgumentOf, In, World, in_ref, WorldInvariant, Heap, conc_of, Shows, Apart, register_of, argument_of, staged_of, noted_by, logged, lang_of, made_turn, made_conc, KeepsOthers, StopStands, State, HeapStands, Locks, Runs, SpawnsNow, size_of_run, Kept, ObjectState, top_word, first_cell, head_of}, Quiet.{firsts_stay, reserves_kept, threads_stand, function_stays, argument_stays, begins_stay, started_stay, args_stay, heap_now, heap_stays, locks_same, thread_kept, KeepsSizes, part_put, part_same}}
+use Rattle.sharc_invariant.proofs.{Imports.{◌≡◌, ℕ, ◌+◌, ◌*◌, ◌^◌, ◌<◌, ◌≤◌, ◌≢◌, true, false, List, refl, sym, ap, ◌∙◌, subst, inl, fun_ext, length, slice_index, ◌==◌, THREADS, HeldMutex, IsHeldLog, object_of, Read, Write, Kind, epoch_of, Code, Shape, granules, Machine, reference_of, may_go, counted, Global, put, put_all, sum_to, Targets, cells_of, Labels, IsWellTyped, RegisterOf, ArgumentOf, In, World, in_ref, WorldInvariant, Heap, conc_of, Shows, Apart, register_of, argument_of, staged_of, noted_by, logged, lang_of, made_turn, made_conc, KeepsOthers, StopStands, State, HeapStands, Locks, Runs, SpawnsNow, size_of_run, Kept, ObjectState, top_word, first_cell, head_of}, TurnAt.thread_at, Quiet.{firsts_stay, reserves_kept, threads_stand, function_stays, argument_stays, begins_stay, started_stay, args_stay, heap_now, heap_stays, locks_same, thread_kept, KeepsSizes, part_put, part_same}}
 
 -- what the thread of the turn keeps for itself
 pub record KeepsPart (m m' : Machine) : Type 0 where
@@ -27,8 +27,7 @@ lower k = record { count = k.count; low = λ j l a _. k.low j l a; are_words = k
 
 module _ (x : Targets) (code : Code) (s : Shape) (ls : Labels) (wt : IsWellTyped x code ls) (g : Global Machine) (world : World) (st : State x code s ls g world) (t : ℕ) (on : g.started t ≡ true) (words : List ℕ) (m' : Machine) (own : KeepsPart (g.threads t) m')
     (kw : KeepsLower g.words words) where
-  abbrev m : Machine
-  m = g.threads t
+  open thread_at st t use {m}
 
   abbrev now : Global Machine
   now = made_turn g t words m'

@@ -1,5 +1,5 @@
 -- The turn of a check, from the real words up: it passes, or it is refused.
-use Rattle.sharc_invariant.proofs.{Imports.{◌≡◌, ℕ, ℤ, suc, ◌+◌, ◌*◌, ◌/◌, ◌^◌, ◌<◌, ◌⊎◌, ◌≢◌, Bool, true, false, cond, List, refl, sym, ap, ◌∙◌, subst, inl, inr, ⊎_elim, arith, cases_eq, nat_tests, fun_ext, length, slice_index, slice_set, nat_lt, bit_or, is_some, if◌then◌else◌, THREADS, Or, Kind, Read, Write, Accesses, note_of, site_at, epoch_of, is_write, bits_of, conflicts_in, noted, ShadowLaws, Code, Cell, Instr, Shape, Rests, Conflict, Fits, granules, granule_at, granule_of, Own as Own', Machine, Asks, instr_at, check, checked, wrote, with_note, with_own, stopped, step_of, may_go, turn, Turn, Global, put, MayTurn, after_turn, one_thread, bounds, put_same, put_other, put_all, GranuleState, Passed, Clean, marked, passed, Targets, Field, FieldMode, CellMode, mode_at, mode_in, Closed, Label, Labels, IsWellTyped, HasCell, TypedReference, RegisterOf, In, Slot, CellOf, World, Window, Shut, May, Sole, base_of, in_ref, put2, set_gran, set_win, WorldInvariant, lang_of, MachineView, conc_of, Shows, register_of, noted_by, note_number, is_ended, has_withdrawn, Reads, made_turn, made_conc, KeepsOthers, IsThere, StopStands, Runs, State, size_of_run, base_of_cell, object_of_cell, number_in, ne_eq}, Effects.{put2_all, base_other, sole_at, refuse_ok, pass_ok, set_win_ok, keeps_passed}, Quiet.{KeepsOwn, KeepsWords, heap_now, quiet_state, noted_same, conc_plain, put_self}, Turns.{asks_turn, room_of}, Own.{is_single, runs, rests, top, begun_before}, Plain.{register_plain, is_shut, going, keeps_own}, Stores.{index_put, shadow_store, stored_words, stored_within}, Seen.{shadow_stored, put2_off}, Cells.cell_there, Checks.{marked_reads, passed_reads, clean_check, noted_numbers, noted_table, same_kind, other_put}, Others.loses}
+use Rattle.sharc_invariant.proofs.{Imports.{◌≡◌, ℕ, ℤ, suc, ◌+◌, ◌*◌, ◌/◌, ◌^◌, ◌<◌, ◌⊎◌, ◌≢◌, Bool, true, false, cond, List, refl, sym, ap, ◌∙◌, subst, inl, inr, ⊎_elim, arith, cases_eq, nat_tests, fun_ext, length, slice_index, slice_set, nat_lt, bit_or, is_some, if◌then◌else◌, THREADS, Or, Kind, Read, Write, Accesses, note_of, site_at, epoch_of, is_write, bits_of, conflicts_in, noted, ShadowLaws, Code, Cell, Instr, Shape, Rests, Conflict, Fits, granules, granule_at, granule_of, Own as Own', Machine, Asks, instr_at, check, checked, wrote, with_note, with_own, stopped, step_of, may_go, turn, Turn, Global, put, MayTurn, one_thread, bounds, put_same, put_other, put_all, GranuleState, Passed, Clean, marked, passed, Targets, Field, FieldMode, CellMode, mode_at, mode_in, Closed, Labels, IsWellTyped, HasCell, TypedReference, RegisterOf, In, Slot, CellOf, World, Window, Shut, May, Sole, base_of, in_ref, put2, set_gran, set_win, WorldInvariant, lang_of, MachineView, conc_of, Shows, register_of, noted_by, note_number, is_ended, has_withdrawn, Reads, made_turn, made_conc, KeepsOthers, IsThere, StopStands, Runs, State, size_of_run, base_of_cell, object_of_cell, number_in, ne_eq}, TurnAt.{turn_at, turn_stands}, Effects.{put2_all, base_other, sole_at, refuse_ok, pass_ok, set_win_ok, keeps_passed}, Quiet.{KeepsOwn, KeepsWords, heap_now, quiet_state, noted_same, conc_plain, put_self}, Turns.{asks_turn, room_of}, Own.{is_single, runs, rests, top, begun_before}, Plain.{register_plain, is_shut, going, keeps_own}, Stores.{index_put, shadow_store, stored_words, stored_within}, Seen.{shadow_stored, put2_off}, Cells.cell_there, Checks.{marked_reads, passed_reads, clean_check, noted_numbers, noted_table, same_kind, other_put}, Others.loses}
 use Rattle.sharc_code.specs.Machine.{place}
 
 pub put_put : {A : Type 0} (f : ℕ → A) (t : ℕ) (a b : A) → put (put f t a) t b ≡ put f t b
@@ -23,20 +23,8 @@ module _ (x : Targets) (code : Code) (s : Shape) (ls : Labels) (wt : IsWellTyped
     (may : MayTurn bounds (one_thread code s) g tr) (kind : Kind) (c : Cell) (site : ℕ) (i : Instr) (is : instr_at code (g.threads tr.thread).at.pc ≡ i) (single : is_single i ≡ true)
     (act_is : turn code s (g.threads tr.thread) ≡ check s (g.threads tr.thread) kind (granule_of (place (g.threads tr.thread) c)) site) (closed : (ls.at (g.threads tr.thread).at.pc).gate ≡ Closed)
     (f : Field) (cell : HasCell x code (ls.at (g.threads tr.thread).at.pc) c f) (dynamic : f.mode ≡ FieldMode.Dynamic) where
-  abbrev t : ℕ
-  t = tr.thread
-
-  abbrev m : Machine
-  m = g.threads tr.thread
-
-  abbrev here : Label
-  here = ls.at (g.threads tr.thread).at.pc
-
-  abbrev after : Global Machine
-  after = after_turn bounds (one_thread code s) g tr
-
-  low_t : tr.thread < THREADS
-  low_t = st.begins.few t may.started
+  open turn_at st tr use {t, m, here, after}
+  open turn_stands st tr may use {low_t, number as number_is}
 
   abbrev names : ℕ → ℤ
   names = (runs x code s ls wt g world st tr.thread may.started may.next.runs i is single).names
@@ -83,9 +71,6 @@ module _ (x : Targets) (code : Code) (s : Shape) (ls : Labels) (wt : IsWellTyped
 
   abbrev words : List ℕ
   words = slice_set g.words k v'
-
-  number_is : (g.threads tr.thread).own.number ≡ tr.thread
-  number_is = (st.threads t).has.number
 
   done : (after ≡ made_turn g t words (checked m kind p site found)) × (k < length g.words)
   done =

@@ -1,5 +1,5 @@
 -- The checks of accesses keep the invariant.
-use Rattle.sharc_invariant.proofs.{Imports.{◌≡◌, ℕ, ℤ, ◌+◌, ◌/◌, ◌<◌, ◌⊎◌, Bool, true, false, cond, List, ◌∷◌, Some, None, refl, sym, ap, ◌∙◌, subst, inl, inr, ⊎_elim, length, slice_index, is_some, Kind, Accesses, note_of, site_at, epoch_of, is_write, conflicts_in, noted, ShadowLaws, Code, Cell, Instr, Shape, Rests, Fits, granule_of, Own as Own', Machine, instr_at, check, wrote, with_note, with_own, ref, turn, Turn, Global, MayTurn, one_thread, bounds, put_same, put_other, GranuleState, Passed, marked, passed, Targets, Field, FieldMode, Gate, Closed, Checked, Holds, Loaded, HoldsLoaded, SoleGate, Pass, Label, Labels, Leads, LessGate, gated, IsWellTyped, HasCell, IsPlace, LeadsChecked, World, Window, Shut, May, RegisterOf, in_ref, put2, set_gran, set_win, Silent, Silently, made_turn, Runs, State, View, view_of, TopStands, FramesStand, PassStands, GateStands, base_of_cell, object_of_cell, number_in, refs_at, Turned}, Effects.{put2_all, has_passed as passed_now}, Frames.{Agrees, Always, Low, top_agrees, callers_agree, less_stands}, Quiet.heap_now, Own.{is_single, runs, rests, top, gate, runs_at}, Plain.{is_shut, register_plain}, CheckTurns.{refused, passes_state, all_kept}, Rights.pass_at, Seen.{put2_at as put2_same}}
+use Rattle.sharc_invariant.proofs.{Imports.{◌≡◌, ℕ, ◌+◌, ◌/◌, ◌<◌, ◌⊎◌, Bool, true, false, cond, List, ◌∷◌, Some, None, refl, sym, ap, ◌∙◌, subst, inl, inr, ⊎_elim, length, slice_index, is_some, Kind, Accesses, note_of, site_at, epoch_of, is_write, conflicts_in, noted, ShadowLaws, Code, Cell, Instr, Shape, Rests, Fits, granule_of, Own as Own', Machine, instr_at, check, wrote, with_note, with_own, turn, Turn, Global, MayTurn, one_thread, bounds, put_same, put_other, GranuleState, Passed, marked, passed, Targets, Field, FieldMode, Gate, Closed, Checked, Pass, Label, Labels, Leads, LessGate, gated, IsWellTyped, HasCell, IsPlace, LeadsChecked, World, Window, Shut, May, put2, set_gran, set_win, Silent, Silently, made_turn, Runs, State, View, view_of, TopStands, FramesStand, PassStands, GateStands, base_of_cell, object_of_cell, number_in, refs_at, Turned}, TurnAt.turn_at, Effects.{put2_all, has_passed as passed_now}, Frames.{Agrees, Always, Low, top_agrees, callers_agree, less_stands}, Quiet.heap_now, Own.{is_single, runs, rests, gate, runs_at}, Plain.{resting, is_shut}, CheckTurns.{refused, passes_state, all_kept}, Rights.pass_at, Seen.{put2_at as put2_same}}
 use Rattle.sharc_code.specs.Machine.{place}
 
 pub checked_gate : (b : Bool) (c : Cell) (y : Gate) → LessGate (Checked b c) y → (y ≡ Closed) ⊎ (y ≡ Checked b c)
@@ -15,14 +15,8 @@ module _ (x : Targets) (code : Code) (s : Shape) (ls : Labels) (wt : IsWellTyped
     (act_is : turn code s (g.threads tr.thread) ≡ check s (g.threads tr.thread) kind (granule_of (place (g.threads tr.thread) c)) site) (closed : (ls.at (g.threads tr.thread).at.pc).gate ≡ Closed)
     (f : Field) (cell : HasCell x code (ls.at (g.threads tr.thread).at.pc) c f) (dynamic : f.mode ≡ FieldMode.Dynamic)
     (next : LeadsChecked x ls (ls.at (g.threads tr.thread).at.pc) (g.threads tr.thread).at.pc (is_write kind) c) where
-  abbrev t : ℕ
-  t = tr.thread
-
-  abbrev m : Machine
-  m = g.threads tr.thread
-
-  abbrev here : Label
-  here = ls.at (g.threads tr.thread).at.pc
+  open turn_at st tr use {t, m, here, view}
+  open resting x code s ls wt g world st tr.thread (may.started, may.next.runs) i is single use {names, tops as top_here, reads}
 
   abbrev o : ℕ
   o = object_of_cell (g.threads tr.thread) c
@@ -48,17 +42,8 @@ module _ (x : Targets) (code : Code) (s : Shape) (ls : Labels) (wt : IsWellTyped
   abbrev world' : Window → World
   world' win = set_win (set_gran world o gi (passed old tr.thread (is_write kind))) tr.thread win
 
-  abbrev names : ℕ → ℤ
-  names = (runs x code s ls wt g world st tr.thread may.started may.next.runs i is single).names
-
-  abbrev view : View
-  view = view_of st.elements world tr.thread (g.threads tr.thread)
-
   abbrev view' : View
   view' = view_of st.elements (world' Shut) tr.thread m'
-
-  top_here : TopStands x tr.thread view (g.threads tr.thread).at.refs (g.threads tr.thread).at.ints names here
-  top_here = top x code s ls wt g world st t may.started may.next.runs i is single
 
   kept : (u : ℕ) (b : Bool) (q h : ℕ) → Passed (world.gran q h) u b → Passed (put2 world.gran o gi (passed old tr.thread (is_write kind)) q h) u b
   kept u b = all_kept x code s ls wt fits laws g world st tr may kind c site i is single act_is closed f cell dynamic u b
@@ -68,9 +53,6 @@ module _ (x : Targets) (code : Code) (s : Shape) (ls : Labels) (wt : IsWellTyped
 
   shut : world.win tr.thread ≡ Shut
   shut = is_shut x code s ls wt g world st t may.started may.next.runs i is single closed
-
-  reads : (r : ℕ) → ref (g.threads tr.thread) r ≡ in_ref world (RegisterOf tr.thread ((g.threads tr.thread).at.refs + r))
-  reads r = sym (st.sim.regs t (m.at.refs + r) ∙ register_plain code m (rests x code s ls wt g world st t may.started may.next.runs i is single) (m.at.refs + r))
 
   -- the check is remembered
   remembered : (q : Pass) → q.write ≡ is_write kind → IsPlace x here c q.base q.cell → PassStands view'.gran tr.thread (refs_at view' (g.threads tr.thread).at.refs) q q.base

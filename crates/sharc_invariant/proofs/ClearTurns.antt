@@ -1,22 +1,9 @@
 -- Clear keeps the invariant: it loads how many elements there are, and for each granule its shadow word, and swaps it.
-use Rattle.sharc_invariant.proofs.{Imports.{◌≡◌, ℕ, ◌+◌, ◌<◌, ◌≤◌, ◌≢◌, true, false, cond, List, refl, sym, ap, ◌∙◌, subst, arith, ltb-true, length, slice_index, slice_set, nat_lt, ◌==◌, Load, Swap, ShadowLaws, epoch_of, cleared_of, Code, Shape, Stage, Rests, Looks, Clears, length_word, shadow_word, Machine, step_of, instr_at, ref, looks, clear, data_granules, data_granule, at_stage, act, rests, turn, counted, Turn, Global, MayTurn, after_turn, one_thread, bounds, Instr, cleared, Targets, Label, Labels, Fine, IsWellTyped, World, Sole, set_gran, length_at, shadow_at, staged_of, made_turn, ClearsOf, State, GateStands, StageStands, AreCleared, Turned}, Quiet.{heap_now, label_held}, Walks.{IsWalk, walk_hold}, Turns.{asks_turn, room_of}, Clears.{clear_cases, object, walk_reads, some, live}, Sweeps.{length_is, word_is, shown_epoch, loaded_stays, loaded_goes, quietly, swept, swept_stays, swept_goes}, Own.begun_in}
+use Rattle.sharc_invariant.proofs.{Imports.{◌≡◌, ℕ, ◌+◌, ◌<◌, ◌≤◌, true, false, cond, List, refl, sym, ap, ◌∙◌, subst, arith, ltb-true, length, slice_index, slice_set, nat_lt, ◌==◌, Load, Swap, ShadowLaws, epoch_of, cleared_of, Code, Shape, Stage, Rests, Looks, Clears, length_word, shadow_word, Machine, step_of, instr_at, ref, looks, clear, data_granules, data_granule, at_stage, act, rests, turn, counted, Turn, Global, MayTurn, one_thread, bounds, Instr, cleared, Targets, Label, Labels, Fine, IsWellTyped, World, Sole, set_gran, length_at, shadow_at, staged_of, made_turn, ClearsOf, State, GateStands, StageStands, AreCleared, Turned}, TurnAt.turn_at, Quiet.{heap_now, label_held}, Walks.{IsWalk, walk_hold}, Turns.{asks_turn, room_of}, Clears.{clear_cases, object, walks_over}, Sweeps.{length_is, word_is, shown_epoch, loaded_stays, loaded_goes, quietly, swept, swept_stays, swept_goes}, Own.begun_in}
 
 module _ (x : Targets) (code : Code) (s : Shape) (ls : Labels) (wt : IsWellTyped x code ls) (laws : ShadowLaws) (g : Global Machine) (world : World) (st : State x code s ls g world) (tr : Turn)
     (may : MayTurn bounds (one_thread code s) g tr) (r n : ℕ) (is : instr_at code (g.threads tr.thread).at.pc ≡ Instr.Clear r n) where
-  abbrev t : ℕ
-  t = tr.thread
-
-  abbrev m : Machine
-  m = g.threads tr.thread
-
-  abbrev here : Label
-  here = ls.at (g.threads tr.thread).at.pc
-
-  abbrev after : Global Machine
-  after = after_turn bounds (one_thread code s) g tr
-
-  abbrev base : ℕ
-  base = (g.threads tr.thread).at.refs
+  open turn_at st tr use {t, m, here, after, base}
 
   fine : Fine x code ls (g.threads tr.thread).at.pc here (Instr.Clear r n)
   fine = subst (Fine x code ls m.at.pc here) is (wt.fine m.at.pc)
@@ -50,14 +37,7 @@ module _ (x : Targets) (code : Code) (s : Shape) (ls : Labels) (wt : IsWellTyped
     abbrev o : ℕ
     o = object x code s ls wt g world st tr may walk begun r win fine.1
 
-    reads : ref (g.threads tr.thread) r ≡ o
-    reads = walk_reads x code s ls wt g world st tr may walk begun r win fine.1
-
-    nz : o ≢ 0
-    nz = some x code s ls wt g world st tr may walk begun r win fine.1
-
-    is_live : (world.obj o).live ≡ true
-    is_live = live x code s ls wt g world st tr may walk begun r win fine.1
+    open walks_over x code s ls wt g world st tr may walk begun r win fine.1 use {reads, nz, is_live}
 
     elements_of_it : (all : ℕ) → all ≡ data_granules (st.elements (ref (g.threads tr.thread) r)) n → all ≡ data_granules (st.elements o) n
     elements_of_it all e = e ∙ ap (λ h. data_granules (st.elements h) n) reads

@@ -1,5 +1,5 @@
 -- The granules of an object that a thread has alone are cleared.
-use Rattle.sharc_invariant.proofs.{Imports.{◌≡◌, ℕ, ℤ, zero, suc, ◌+◌, ◌*◌, ◌/◌, ◌^◌, ◌<◌, ◌≤◌, ◌≢◌, Bool, true, false, List, Some, None, refl, sym, ap, ◌∙◌, subst, ⊎_elim, arith, cases_eq, length-set, fun_ext, length, slice_index, slice_set, min, ◌==◌, THREADS, ShadowLaws, epoch_of, cleared_of, Code, Shape, Stage, Rests, Looks, Clears, granules, first_cell, Machine, instr_at, ref, largest, Turn, Global, put, MayTurn, one_thread, bounds, Instr, put_same, put_other, put_all, GranuleState, Passed, cleared, sum_to, Targets, Gate, Label, Labels, Leads, gated, SoleGate, IsWellTyped, IsUnpassed, RegisterOf, In, Slot, World, Sole, in_ref, WorldInvariant, Heap, Kept, Built, InBlock, lang_of, conc_of, Shows, Reads, staged_of, made_turn, KeepsOthers, State, View, view_of, TopStands, FramesStand, PassStands, GateStands, StageStands, refs_at, size_of_run, suc_times}, Effects.{sole_at, only_slot}, Frames.{Agrees, Low, less_stands, frames_agree}, Accesses.gate_top, Own.runs_at, Quiet.{heap_now, label_held}, Changes.KeepsLow, Walks.{IsWalk, walk_hold, walk_register, walk_state, walked, conc_walked}, Stores.{index_put, arena, MayStore}, Listed.store_ok, Sums.sum_one, Others.loses}
+use Rattle.sharc_invariant.proofs.{Imports.{◌≡◌, ℕ, ℤ, zero, suc, ◌+◌, ◌*◌, ◌/◌, ◌^◌, ◌<◌, ◌≤◌, ◌≢◌, Bool, true, false, List, Some, None, refl, sym, ap, ◌∙◌, subst, ⊎_elim, arith, cases_eq, length-set, fun_ext, length, slice_index, slice_set, min, ◌==◌, THREADS, ShadowLaws, epoch_of, cleared_of, Code, Shape, Stage, Rests, Looks, Clears, granules, first_cell, Machine, instr_at, ref, largest, Turn, Global, put, MayTurn, one_thread, bounds, Instr, put_same, put_other, put_all, GranuleState, Passed, cleared, sum_to, Targets, Gate, Label, Labels, Leads, gated, SoleGate, IsWellTyped, IsUnpassed, RegisterOf, In, Slot, World, Sole, in_ref, WorldInvariant, Heap, Kept, Built, InBlock, lang_of, conc_of, Shows, Reads, staged_of, made_turn, KeepsOthers, State, View, view_of, TopStands, FramesStand, PassStands, GateStands, StageStands, refs_at, size_of_run, suc_times, StaticType, Refers, EntryStands, types_at, ObjectType}, TurnAt.turn_at, Effects.{sole_at, only_slot}, Frames.{Agrees, Low, less_stands, frames_agree}, Accesses.gate_top, Own.runs_at, Quiet.{heap_now, label_held}, Changes.KeepsLow, Walks.{IsWalk, walk_hold, walk_register, walk_state, walked, conc_walked}, Stores.{index_put, arena, MayStore}, Listed.store_ok, Sums.sum_one, Others.loses}
 
 -- ---- numbers
 pub cleared_small : (v : ℕ) → cleared_of v < 2 ^ 64
@@ -61,26 +61,19 @@ clear_cases code s elements w heap words t m r n C a b c (Looks done all) h = b 
 clear_cases code s elements w heap words t m r n C a b c (Clears done all seen) h = c done all seen h
 clear_cases code s elements w heap words t m r n C a b c _ h = absurd h
 
+-- the object that a thread walks over, which a register has alone
+pub record Walked (world : World) (m : Machine) (r o : ℕ) : Type 0 where
+  pub reads : ref m r ≡ o
+  pub nz : o ≢ 0
+  pub is_live : (world.obj o).live ≡ true
+
 module _ (x : Targets) (code : Code) (s : Shape) (ls : Labels) (wt : IsWellTyped x code ls) (g : Global Machine) (world : World) (st : State x code s ls g world) (tr : Turn)
     (may : MayTurn bounds (one_thread code s) g tr) (walk : IsWalk (g.threads tr.thread).own.stage) (begun : ((g.threads tr.thread).at.pc == 0) ≡ false)
     (r : ℕ) (win : world.win tr.thread ≡ Sole ((g.threads tr.thread).at.refs + r)) (unpassed : IsUnpassed (ls.at (g.threads tr.thread).at.pc) r) where
-  abbrev t : ℕ
-  t = tr.thread
-
-  abbrev m : Machine
-  m = g.threads tr.thread
-
-  abbrev here : Label
-  here = ls.at (g.threads tr.thread).at.pc
-
-  abbrev base : ℕ
-  base = (g.threads tr.thread).at.refs
+  open turn_at st tr use {t, m, here, base, view}
 
   abbrev pub object : ℕ
   object = in_ref world (RegisterOf tr.thread ((g.threads tr.thread).at.refs + r))
-
-  abbrev view : View
-  view = view_of st.elements world tr.thread (g.threads tr.thread)
 
   abbrev names : ℕ → ℤ
   names = ((st.threads tr.thread).runs may.started may.next.runs).names
@@ -88,17 +81,22 @@ module _ (x : Targets) (code : Code) (s : Shape) (ls : Labels) (wt : IsWellTyped
   pub walk_top : TopStands x tr.thread view (g.threads tr.thread).at.refs (g.threads tr.thread).at.ints names here
   walk_top = subst (TopStands x t view base m.at.ints names) (label_held here (instr_at code m.at.pc) m.own.stage (walk_hold m.own.stage walk)) ((st.threads t).runs may.started may.next.runs).top
 
-  pub walk_reads : ref (g.threads tr.thread) r ≡ object
-  walk_reads = sym (st.sim.regs t (base + r) ∙ walk_register x code s ls wt g world st t may.started may.next.runs begun walk (base + r))
-
   pub alone : (q : Slot) → (q ≡ In (RegisterOf tr.thread ((g.threads tr.thread).at.refs + r)) → ⊥) → (world.slots q).reference ≡ object → ⊥
   alone = only_slot (size_of_run code s) (lang_of x) world st.inv t (base + r) win
 
-  pub some : object ≢ 0
-  some = (sole_at (size_of_run code s) (lang_of x) world st.inv t (base + r) win).0
+  pub walks_over : Walked world (g.threads tr.thread) r object
+  walks_over =
+      let some = (sole_at (size_of_run code s) (lang_of x) world st.inv t (base + r) win).0 in
+      record {
+        reads = sym (st.sim.regs t (base + r) ∙ walk_register x code s ls wt g world st t may.started may.next.runs begun walk (base + r));
+        nz = some;
+        is_live = (st.inv.words.fits (In (RegisterOf t (base + r))) some).live;
+      }
 
-  pub live : (world.obj object).live ≡ true
-  live = (st.inv.words.fits (In (RegisterOf t (base + r))) some).live
+  pub walked_target : (ty : StaticType) → (ls.at (g.threads tr.thread).at.pc).env r ≡ Refers ty → (world.obj object).ty.target ≡ ty.target
+  walked_target ty known =
+      let typed = subst (EntryStands (refs_at view base) (types_at view base) r) known ((walk_top (suc r) 0).env r (omega arith)) walks_over.nz in
+      ap (λ (y : ObjectType). y.target) (st.inv.words.fits (In (RegisterOf t (base + r))) walks_over.nz).typed ∙ ap (λ (y : ObjectType). y.target) typed
 
   -- where granules of the object change alone, and the words are these
   module _ (G : ℕ → ℕ → GranuleState) (off : (q h : ℕ) → (q ≡ object → ⊥) → G q h ≡ world.gran q h) (words : List ℕ) (kw : KeepsLow g.words words)
@@ -121,7 +119,7 @@ module _ (x : Targets) (code : Code) (s : Shape) (ls : Labels) (wt : IsWellTyped
       regs = λ u _ q. refl;
       win = λ u _. refl;
       passed = λ u ne q h b c z. kept_pass q h u b
-          (⊎_elim (λ (e : q ≡ 0) k. some (sym k ∙ e)) (λ c k. alone (In (RegisterOf u c.0)) (λ z. ne (cc)) (c.1.0 ∙ k)) c) z;
+          (⊎_elim (λ (e : q ≡ 0) k. walks_over.nz (sym k ∙ e)) (λ c k. alone (In (RegisterOf u c.0)) (λ z. ne (cc)) (c.1.0 ∙ k)) c) z;
       sole = λ u ne q e h. loses (off (in_ref world (RegisterOf u q)) h (λ k. alone (In (RegisterOf u q)) (λ z. ne (cc)) k));
       cells = λ u _ q _ n. refl;
       built = λ u _ b e. (e, refl);
@@ -138,7 +136,7 @@ module _ (x : Targets) (code : Code) (s : Shape) (ls : Labels) (wt : IsWellTyped
           numbers = h.numbers;
           passed = λ p w.
               elim p.base as (λ c. p.base ≡ c → PassStands world.gran t (refs_at view base) p c → PassStands G t (refs_at view base) p c) [
-                | None ↦ λ e k. kept_pass 0 (p.cell / 2) t p.write (λ z. some (sym z)) k
+                | None ↦ λ e k. kept_pass 0 (p.cell / 2) t p.write (λ z. walks_over.nz (sym z)) k
                 | Some c ↦ λ e k nz. kept_pass (refs_at view base c) (p.cell / 2) t p.write
                     (λ z. ⊎_elim (λ (q : c ≡ r). unpassed p w (e ∙ ap (λ c. Some c) q)) (λ (ne : c ≡ r → ⊥). alone (In (RegisterOf t (base + c))) (λ y. ne (let q : base + c ≡ base + r = cc in omega arith)) z) (cases_eq c r)) (k nz)
               ] refl (h.passed p w);
@@ -153,7 +151,7 @@ module _ (x : Targets) (code : Code) (s : Shape) (ls : Labels) (wt : IsWellTyped
           vals = λ j _. refl;
           elements = λ j _. refl;
           passed = λ q h b c z. kept_pass q h t b
-              (⊎_elim (λ (e : q ≡ 0) k. some (sym k ∙ e))
+              (⊎_elim (λ (e : q ≡ 0) k. walks_over.nz (sym k ∙ e))
               (λ (c : (i : ℕ) × (Low base i × ((view.refs i ≡ q) × (q ≢ 0)))) k. alone (In (RegisterOf t c.0)) (λ y. let q : c.0 ≡ base + r = cc in let lt : c.0 < base = c.1.0 in omega arith) (c.1.1.0 ∙ k)) c) z;
         } in
         frames_agree x code ls t view view' m m' a refl refl refl refl here.function ((st.threads t).runs may.started may.next.runs).below

@@ -1,5 +1,5 @@
 -- Arithmetic gives what its width holds.
-use Rattle.sharc_invariant.proofs.{Imports.{◌≡◌, ℕ, suc, arith, ℤ, pos, negsuc, ◌+◌, ◌^◌, Bool, true, false, cond, not, Result, Ok, Err, refl, subst, int_rem, ◌+ℤ◌, ◌-ℤ◌, ◌*ℤ◌, int_div, int_le, int_lt, nat_lt, ◌&&◌, int_shr, Code, Operator, Subtract, Multiply, Divide, Remainder, ShiftLeft, ShiftRight, And, Xor, Equal, NotEqual, Greater, AtMost, AtLeast, Width, Char, Int, Long, Instr, Shape, holds, in_range, divided, computed, truth, is_zero, value_bits, complement, Machine, instr_at, int, Turn, Global, MayTurn, one_thread, bounds, Targets, Labels, Within, IsWellTyped, is_shift, is_comparison, FitsWidth, World, State, view_of, refs_at, types_at, Turned}, Frames.less_number, Own.{is_single, runs, top, fine}, Operators.{rem_holds, shr_holds, and_holds, or_holds, xor_holds, not_holds}, Steps.{results, numbers, of_turn}}
+use Rattle.sharc_invariant.proofs.{Imports.{◌≡◌, ℕ, suc, arith, ℤ, pos, negsuc, ◌+◌, ◌^◌, Bool, true, false, cond, not, Result, Ok, Err, refl, subst, int_rem, ◌+ℤ◌, ◌-ℤ◌, ◌*ℤ◌, int_div, int_le, int_lt, nat_lt, ◌&&◌, int_shr, Code, Operator, Subtract, Multiply, Divide, Remainder, ShiftLeft, ShiftRight, And, Xor, Equal, NotEqual, Greater, AtMost, AtLeast, Width, Char, Int, Long, Instr, Shape, holds, in_range, divided, computed, truth, is_zero, value_bits, complement, Machine, instr_at, int, Turn, Global, MayTurn, one_thread, bounds, Targets, Labels, Within, IsWellTyped, is_shift, is_comparison, FitsWidth, World, State, view_of, refs_at, types_at, Turned}, TurnAt.turn_at, Frames.less_number, Own.{is_single, runs, top, fine}, Operators.{rem_holds, shr_holds, and_holds, or_holds, xor_holds, not_holds}, Steps.{results, numbers, of_turn}}
 use Rattle.sharc_code.specs.declared.instr.Operator.TheVariants.{Add, Or, Less}
 use Rattle.sharc_tree.specs.declared.trap.Trap.{Trap}
 
@@ -62,8 +62,7 @@ operator_gives w AtMost a b ha hb = truth_gives w (int_le a b)
 operator_gives w AtLeast a b ha hb = truth_gives w (int_le b a)
 
 module _ (x : Targets) (code : Code) (s : Shape) (ls : Labels) (wt : IsWellTyped x code ls) (g : Global Machine) (world : World) (st : State x code s ls g world) (tr : Turn) (may : MayTurn bounds (one_thread code s) g tr) where
-  abbrev mm : Machine
-  mm = g.threads tr.thread
+  open turn_at st tr use {m as mm}
 
   -- an integer of which a width is known
   pub fits_now : (i : Instr) (is : instr_at code (g.threads tr.thread).at.pc ≡ i) (single : is_single i ≡ true) (r : ℕ) (w : Width) → FitsWidth ((ls.at (g.threads tr.thread).at.pc).ints r) w → holds w (int (g.threads tr.thread) r) ≡ true

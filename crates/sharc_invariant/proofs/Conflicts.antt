@@ -1,5 +1,5 @@
 -- What checks find.
-use Rattle.sharc_invariant.proofs.{Imports.{◌≡◌, ℕ, suc, ◌+◌, ◌<◌, ◌≢◌, ◌⊎◌, Bool, true, false, cond, refl, sym, ap, ◌∙◌, subst, inl, inr, ⊎_elim, cases_Bool, eqb-true, slice_index, nat_eq, if◌then◌else◌, Or, Kind, Read, Write, epoch_of, is_of, is_written, stands, Conflicts, bits_of, conflicts_in, ShadowLaws, Code, Instr, ChkRead, ChkWrite, Clear, Free, Exit, Shape, Stage, Clears, FreeClears, WithdrawsFrom, Stop, Conflict, granules, granule_at, granule_of, shadow_word, Machine, Own, step_of, act, instr_at, stopped, with_own, with_note, wrote, checked, check, row_of, ref, TurnsComeOut, may_go, turn, Turn, Global, at, MayTurn, after_turn, result_of, one_thread, bounds, put_same, Touch, Untouched, CheckOf, WithdrawOf, Marks, cleared_by, freed_by, withdrawn_by, touch_of, marks_after, CheckStands, RunsConflict, touch_at, Passed, Targets, Labels, World, shadow_at, is_withdrawing, noted_by, first_place, State, RunsFromTheBeginning, eq_refl}, Turns.asks_turn, Withdrawn.wrote_now, BitTurns.{AllMarked, IsNoExit, in_low, at_low, going_on, noted_calm, check_calm, owned, bit_here, written_here, marked_after}}
+use Rattle.sharc_invariant.proofs.{Imports.{◌≡◌, ℕ, suc, ◌+◌, ◌<◌, ◌≢◌, ◌⊎◌, Bool, true, false, cond, refl, sym, ap, ◌∙◌, subst, inl, inr, ⊎_elim, cases_Bool, eqb-true, slice_index, nat_eq, if◌then◌else◌, Or, Kind, Read, Write, epoch_of, is_of, is_written, stands, Conflicts, bits_of, conflicts_in, ShadowLaws, Code, Instr, ChkRead, ChkWrite, Clear, Free, Exit, Shape, Stage, Clears, FreeClears, WithdrawsFrom, Stop, Conflict, granules, granule_at, granule_of, shadow_word, Machine, Own, step_of, act, instr_at, stopped, with_own, with_note, wrote, checked, check, row_of, ref, TurnsComeOut, may_go, turn, Turn, Global, at, MayTurn, after_turn, result_of, one_thread, bounds, put_same, Touch, Untouched, CheckOf, WithdrawOf, Marks, cleared_by, freed_by, withdrawn_by, touch_of, marks_after, CheckStands, RunsConflict, touch_at, Passed, Targets, Labels, World, shadow_at, is_withdrawing, noted_by, first_place, State, RunsFromTheBeginning, eq_refl}, TurnAt.{turn_at, turn_stands}, Turns.asks_turn, Withdrawn.wrote_now, BitTurns.{AllMarked, IsNoExit, in_low, at_low, going_on, noted_calm, check_calm, owned, bit_here, written_here, marked_after}}
 use Rattle.sharc_code.specs.Machine.{place}
 
 -- a check goes on where it finds no conflict
@@ -35,11 +35,8 @@ no_exit s m found (WithdrawsFrom row seen) kind p ok z =
 no_exit s m found _ kind p ok z = z
 
 module _ (x : Targets) (code : Code) (s : Shape) (ls : Labels) (laws : ShadowLaws) (g : Global Machine) (world : World) (st : State x code s ls g world) (tr : Turn) (may : MayTurn bounds (one_thread code s) g tr) (marks : ℕ → Marks) (h : AllMarked s g marks) where
-  abbrev t : ℕ
-  t = tr.thread
-
-  abbrev m : Machine
-  m = g.threads tr.thread
+  open turn_at st tr use {t, m}
+  open turn_stands st tr may use {number}
 
   -- a bit of a thread that has passed a check, and the written bit
   stands_here : (p j : ℕ) → p < granules s → (marks p).passed j ≡ true → stands (slice_index g.words (shadow_at s p)) j ≡ true
@@ -102,9 +99,6 @@ module _ (x : Targets) (code : Code) (s : Shape) (ls : Labels) (laws : ShadowLaw
           (λ (e : is_of w (epoch_of old) ≡ false). e)
           (cases_Bool (is_of w (epoch_of old))),
     )
-
-  number : (g.threads tr.thread).own.number ≡ tr.thread
-  number = (st.threads t).has.number
 
   check_stands : (i : Instr) (kind : Kind) (granule site : ℕ) → instr_at code (g.threads tr.thread).at.pc ≡ i → IsNoExit i → turn code s (g.threads tr.thread) ≡ check s (g.threads tr.thread) kind granule site
       → CheckStands tr.thread kind (slice_index g.words (shadow_word s (granule_at s granule))) (marks (granule_at s granule)) (may_go ((after_turn bounds (one_thread code s) g tr).threads tr.thread).at.state)

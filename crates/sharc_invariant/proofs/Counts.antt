@@ -1,6 +1,6 @@
 -- Raise and Lower of a register, and what moves references between registers.
-use Rattle.sharc_invariant.proofs.{Imports.{◌≡◌, ℕ, ℤ, zero, suc, ◌+◌, ◌-◌, ◌%◌, ◌^◌, ◌<◌, ◌≤◌, ◌≢◌, true, refl, sym, ap, ◌∙◌, subst, inl, inr, ⊎_elim, arith, List, [], ◌∷◌, Bool, false, cond, ◌||◌, cases_eq, nat_tests, fun_ext, length, slice_index, slice_set, nat_lt, ◌==◌, Add, Sub, word_after, raise_of, lower_of, Code, Instr, Shape, granules, granule_at, count_word, Machine, Local, Asks, instr_at, goes, set_ref, ref, raise, lower, turn, Turn, Global, put, MayTurn, after_turn, one_thread, bounds, put_same, put_other, Through, Self, nothing, Targets, type_of, Lock, SomeNames, Empty, Refers, Unknown, Closed, Label, Labels, Leads, fill, empty, Entry, EntryMentions, IsFree, forgets, forgotten, some_names, IsWellTyped, IsRef, TypedReference, RegisterOf, World, Shut, Sole, In, Slot, in_ref, place, null, none, grow, drop, set_win, set_slot, FitsType as Fits, WorldInvariant, lang_of, conc_of, Shows, count_at, store, set_reg, has_returned, GranuleState, Passed, Silent, Effect, Silently, made_turn, State, View, view_of, EntryStands, TopStands, refs_at, types_at, IsSmall, size_of_run, changes_objects, eq_refl}, Effects.{set_slot_ok, grow_ok, drop_ok, set_win_ok, count_pos, place_other}, Frames.{filled, FilledStands, fill_stands, empty_stands}, Small.total_low, Stores.{index_put, count_store, stored_words, stored_within}, Seen.{count_stored, reg_stored}, Turns.{local_turn, asks_turn, room_of}, Own.{is_single, runs, rests, top, fine}, Plain.{register_plain, is_shut, same_words}, Filled.{SetsRef, filled_state, inside_world, free_shut}}
-use Rattle.sharc_invariant.specs.{Types.Lock.{Global as OfGlobals}, Types.Names}
+use Rattle.sharc_invariant.proofs.{Imports.{◌≡◌, ℕ, ℤ, zero, suc, ◌+◌, ◌-◌, ◌%◌, ◌^◌, ◌<◌, ◌≤◌, ◌≢◌, true, refl, sym, ap, ◌∙◌, subst, inl, inr, ⊎_elim, arith, List, [], ◌∷◌, Bool, false, cond, ◌||◌, cases_eq, nat_tests, fun_ext, length, slice_index, slice_set, nat_lt, ◌==◌, Add, Sub, word_after, raise_of, lower_of, Code, Instr, Shape, granules, granule_at, count_word, Machine, Local, Asks, instr_at, goes, set_ref, ref, raise, lower, turn, Turn, Global, put, MayTurn, one_thread, bounds, put_same, put_other, Through, nothing, Targets, type_of, Lock, SomeNames, Empty, Refers, Unknown, Closed, Label, Labels, Leads, fill, empty, Entry, EntryMentions, IsFree, forgets, forgotten, some_names, IsWellTyped, IsRef, TypedReference, RegisterOf, World, Shut, Sole, In, Slot, in_ref, place, null, none, grow, drop, set_win, set_slot, FitsType as Fits, WorldInvariant, lang_of, conc_of, Shows, count_at, store, set_reg, has_returned, GranuleState, Passed, Silent, Effect, Silently, made_turn, State, EntryStands, TopStands, refs_at, types_at, IsSmall, size_of_run, changes_objects, eq_refl}, TurnAt.turn_at, Effects.{set_slot_ok, grow_ok, drop_ok, set_win_ok, count_pos, place_other}, Frames.{filled, FilledStands, fill_stands, empty_stands}, Small.total_low, Stores.{index_put, count_store, stored_words, stored_within}, Seen.{count_stored, reg_stored}, Turns.{local_turn, asks_turn, room_of}, Own.{is_single, runs, rests, top, fine}, Plain.{register_plain, is_shut, same_words}, Filled.{SetsRef, filled_state, inside_world, free_shut}}
+use Rattle.sharc_invariant.specs.{Types.Names}
 
 pub raise_zero : (s : Shape) (n : ℕ) (m : Machine) → n ≡ 0 → raise s n m ≡ Local m
 raise_zero s n m e = ap (λ n. raise s n m) e
@@ -21,26 +21,7 @@ pub count_is : (s : Shape) (o : ℕ) → o < granules s → count_word s o ≡ c
 count_is s o lt = let e : nat_lt o (granules s) ≡ true = grind (arith, nat_tests) in let q : granule_at s o ≡ o = rw e refl in omega arith
 
 module _ (x : Targets) (code : Code) (s : Shape) (ls : Labels) (wt : IsWellTyped x code ls) (few : IsSmall code s) (g : Global Machine) (world : World) (st : State x code s ls g world) (tr : Turn) (may : MayTurn bounds (one_thread code s) g tr) where
-  abbrev t : ℕ
-  t = tr.thread
-
-  abbrev m : Machine
-  m = g.threads tr.thread
-
-  abbrev here : Label
-  here = ls.at (g.threads tr.thread).at.pc
-
-  abbrev base : ℕ
-  base = (g.threads tr.thread).at.refs
-
-  abbrev view : View
-  view = view_of st.elements world tr.thread (g.threads tr.thread)
-
-  abbrev refs : ℕ → ℕ
-  refs = refs_at view base
-
-  abbrev after : Global Machine
-  after = after_turn bounds (one_thread code s) g tr
+  open turn_at st tr use {t, m, here, base, view, refs, after}
 
   -- the invariant behind the turn, and its effect on the world
   abbrev Turned : Type 0

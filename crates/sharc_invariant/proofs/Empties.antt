@@ -1,5 +1,5 @@
 -- The turns of a Free that empty the pointers of its object, and lower what they held.
-use Rattle.sharc_invariant.proofs.{Imports.{◌≡◌, ℕ, zero, suc, ◌+◌, ◌-◌, ◌*◌, ◌%◌, ◌^◌, ◌<◌, ◌≤◌, ◌≢◌, true, false, cond, List, None, Some, refl, sym, ap, ◌∙◌, subst, ⊎_elim, arith, ltb-true, ◌/◌, cases_eq, nat_tests, fun_ext, length, slice_index, slice_set, nat_lt, min, ◌==◌, THREADS, Swap, Sub, word_after, ShadowLaws, epoch_of, lower_of, Code, Layout, Shape, Stage, Empties, Lowers, FreeLooks, Uncounts, Fits as FitsShape, granules, words_of, first_cell, cell_word, cell_of, count_word, Machine, step_of, instr_at, ref, at_stage, largest, empties, emptied, free, layout_at, fields, pointer_cell, counted, Turn, Global, put, MayTurn, after_turn, one_thread, bounds, Instr, put_other, sum_to, Targets, ObjectType, type_at, Label, Labels, Fine, IsWellTyped, RegisterOf, ArgumentOf, Staged, Slot, In, TypedReference, CellOf, World, Sole, WorldInvariant, in_ref, place, null, none, set_slot, swap, drop, Built, InBlock, Kept, lang_of, conc_of, Shows, cell_at, count_at, staged_of, store, made_turn, KeepsOthers, Silently, State, Runs, View, view_of, StageStands, EntryStands, FramesStand, TopStands, GateStands, AreEmpty, Emptying, all_pointers, label_now, refs_at, types_at, IsSmall, size_of_run, Turned, not_less}, Effects.{set_slot_ok, empty_ok, drop_ok, count_pos, place_same, place_other, slot_cases}, Small.total_low, Quiet.{heap_now, label_held}, Changes.KeepsLow, Walks.{IsWalk, walk_hold, walk_state, walked, conc_held}, Turns.asks_turn, Stores.{index_put, arena, cell_store, count_store, stored_within}, Seen.{cell_stored, count_stored, staged_stored}, Counts.count_is, Clears.{part_words, sum_more, alone, walk_top}, Emptied.{pointer_there, some_cells}, Loads.lang_laws, Frees.{few_of, empties_counted, at_free, granules_split, free_fine, free_win, free_reads, free_some, free_live, free_cells, free_begun, free_act}, Others.loses}
+use Rattle.sharc_invariant.proofs.{Imports.{◌≡◌, ℕ, zero, suc, ◌+◌, ◌-◌, ◌*◌, ◌%◌, ◌^◌, ◌<◌, ◌≤◌, ◌≢◌, true, false, cond, List, None, Some, refl, sym, ap, ◌∙◌, subst, ⊎_elim, arith, ltb-true, ◌/◌, cases_eq, nat_tests, fun_ext, length, slice_index, slice_set, nat_lt, min, ◌==◌, THREADS, Swap, Sub, word_after, ShadowLaws, epoch_of, lower_of, Code, Layout, Shape, Stage, Empties, Lowers, FreeLooks, Uncounts, Fits as FitsShape, granules, words_of, first_cell, cell_word, cell_of, count_word, Machine, step_of, instr_at, ref, at_stage, largest, empties, emptied, layout_at, fields, pointer_cell, counted, Turn, Global, put, MayTurn, after_turn, one_thread, bounds, Instr, put_other, sum_to, Targets, ObjectType, type_at, Label, Labels, Fine, IsWellTyped, RegisterOf, ArgumentOf, Staged, Slot, In, TypedReference, CellOf, World, Sole, WorldInvariant, in_ref, place, null, none, set_slot, swap, drop, Built, InBlock, Kept, lang_of, conc_of, Shows, cell_at, count_at, staged_of, store, made_turn, KeepsOthers, Silently, State, view_of, StageStands, FramesStand, TopStands, GateStands, AreEmpty, Emptying, all_pointers, label_now, IsSmall, size_of_run, Turned, not_less}, TurnAt.{turn_at, turn_stands}, Effects.{set_slot_ok, empty_ok, drop_ok, count_pos, place_same, place_other, slot_cases}, Small.total_low, Quiet.{heap_now, label_held}, Changes.KeepsLow, Walks.{IsWalk, walk_hold, walk_state, walked, conc_held}, Turns.asks_turn, Stores.{index_put, arena, cell_store, count_store, stored_within}, Seen.{cell_stored, count_stored, staged_stored}, Counts.count_is, Clears.{part_words, sum_more, alone, walk_top, walks_over, walked_target}, Emptied.{pointer_there, some_cells}, Loads.lang_laws, Frees.{few_of, empties_counted, at_free, granules_split, free_fine, free_win, free_cells, free_begun, free_act}, Others.loses}
 use Rattle.sharc_invariant.specs.World.{Free}
 
 emptied_next : (i p : ℕ) → i ≤ p → p < 2 ^ 63 → nat_lt i (min p largest) ≡ false → i ≡ p
@@ -28,17 +28,8 @@ none_below i lt = omega arith
 
 module _ (x : Targets) (code : Code) (s : Shape) (ls : Labels) (wt : IsWellTyped x code ls) (fits : FitsShape code s) (few : IsSmall code s) (laws : ShadowLaws) (g : Global Machine) (world : World) (st : State x code s ls g world) (tr : Turn)
     (may : MayTurn bounds (one_thread code s) g tr) (r layout site : ℕ) (is : instr_at code (g.threads tr.thread).at.pc ≡ Instr.Free r layout site) (walk : IsWalk (g.threads tr.thread).own.stage) where
-  abbrev t : ℕ
-  t = tr.thread
-
-  abbrev m : Machine
-  m = g.threads tr.thread
-
-  abbrev here : Label
-  here = ls.at (g.threads tr.thread).at.pc
-
-  abbrev base : ℕ
-  base = (g.threads tr.thread).at.refs
+  open turn_at st tr use {t, m, here, base, view}
+  open turn_stands st tr may use {rn, low_t as on_t}
 
   abbrev k : ℕ
   k = (g.threads tr.thread).at.refs + r
@@ -55,35 +46,16 @@ module _ (x : Targets) (code : Code) (s : Shape) (ls : Labels) (wt : IsWellTyped
   win : world.win tr.thread ≡ Sole k
   win = free_win x code s ls wt laws g world st tr may r layout site is walk
 
-  reads : ref (g.threads tr.thread) r ≡ o
-  reads = free_reads x code s ls wt laws g world st tr may r layout site is walk
-
-  nz : o ≢ 0
-  nz = free_some x code s ls wt laws g world st tr may r layout site is walk
-
-  is_live : (world.obj o).live ≡ true
-  is_live = free_live x code s ls wt laws g world st tr may r layout site is walk
-
   begun : ((g.threads tr.thread).at.pc == 0) ≡ false
   begun = free_begun x code s ls wt laws g world st tr may r layout site is (g.threads tr.thread).at.pc refl
 
-  abbrev rn : Runs x code s ls st.elements world st.heap g tr.thread (g.threads tr.thread)
-  rn = (st.threads tr.thread).runs may.started may.next.runs
-
-  abbrev view : View
-  view = view_of st.elements world tr.thread (g.threads tr.thread)
+  open walks_over x code s ls wt g world st tr may walk begun r win f.2 use {reads, nz, is_live}
 
   tp : TopStands x tr.thread view (g.threads tr.thread).at.refs (g.threads tr.thread).at.ints rn.names here
   tp = walk_top x code s ls wt g world st tr may walk begun r win f.2
 
   target_is : (world.obj o).ty.target ≡ f.3.0.target
-  target_is =
-      let typed = subst (EntryStands (refs_at view base) (types_at view base) r) f.3.1 ((tp (suc r) 0).env r (omega arith)) nz in
-      let fit = st.inv.words.fits (In (RegisterOf t k)) nz in
-      ap (λ (y : ObjectType). y.target) fit.typed ∙ ap (λ (y : ObjectType). y.target) typed
-
-  on_t : tr.thread < THREADS
-  on_t = st.begins.few tr.thread may.started
+  target_is = walked_target x code s ls wt g world st tr may walk begun r win f.2 f.3.0 f.3.1
 
   later : (i : ℕ) → i < granules s → epoch_of (slice_index g.words (97 + i)) ≤ sum_to THREADS (put g.made tr.thread (g.made tr.thread + 1))
   later i lt = let a = st.epochs i lt in let b = sum_more g.made t 1 on_t in omega arith

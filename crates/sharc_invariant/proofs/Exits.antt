@@ -1,5 +1,5 @@
 -- The turns of an Exit: it says that the thread returned, withdraws from each granule of its table, and says that it is gone.
-use Rattle.sharc_invariant.proofs.{Imports.{◌≡◌, ℕ, zero, suc, ◌+◌, ◌*◌, ◌^◌, ◌<◌, ◌≤◌, ◌≢◌, ◌⊎◌, ◌||◌, ◌&&◌, Bool, true, false, cond, List, [], None, refl, sym, ap, ◌∙◌, subst, inl, inr, ⊎_elim, arith, ltb-true, cases_eq, cases_lt, nat_tests, set-get_or, length-set, fun_ext, length, slice_index, slice_set, take, nat_lt, nat_eq, ◌==◌, THREADS, Load, Swap, Cas, ShadowLaws, note_of, withdrawn_of, epoch_of, Kind, Read, Write, Code, Shape, StateOf, RunsOn, Tries, Stopped, Ended, Stage, Rests, Makes, Lowers, Links, Names, Hands, Begins, Withdraws, WithdrawsFrom, Leaves, int_of, Fits as FitsShape, granules, granule_at, top_word, shadow_word, next_thread_word, state_word, function_word, argument_word, Machine, instr_at, step_of, at_stage, exit, withdraws, withdrew, row_of, without_own, turn, may_go, counted, Turn, Global, put, MayTurn, after_turn, one_thread, bounds, Instr, put_same, put_other, put_all, Passed, withdrawn, Targets, nothing, Label, Labels, IsIn, Fine, IsWellTyped, In, RegisterOf, ArgumentOf, TypedReference, World, Shut, WorldInvariant, in_ref, put2, set_gran, Heap, Kept, Built, InBlock, lang_of, conc_of, MachineView, Shows, Reads, store, has_returned, is_withdrawing, has_withdrawn, is_ended, is_unread, is_first, argument_of, making_of, note_number, noted_by, register_of, staged_of, logged, shadow_at, cell_at, count_at, length_at, made_turn, KeepsOthers, Effect, Silently, Returns, WithdrawsOf, events_of, StopStands, State, Runs, View, view_of, StageStands, SpawnsNow, NumberStands, EntryStands, FramesStand, GateStands, Threads, Firsts, TopStands, label_now, size_of_run, Followed, changes_objects, objects_now, ne_eq, eq_refl}, Effects.withdraw_ok, Listed.store_ok, Others.{OnHold, loses}, Quiet.{KeepsThread, KeepsMost, heap_now, put_self, sum_up, label_held, freed_held, most_state, started_still, args_still, sizes_kept, part_same}, Changes.{KeepsPart, KeepsLow, lower, conc_now, alike_state}, Turns.{asks_turn, room_of}, Stores.{index_put, arena, shadow_store, stored_within}, Seen.{shadow_stored, put2_off}, Heaps.apart_stored, Clears.part_words, Uncounted.granule_cases, Withdrawn.{is_row, one_more, row_low, first_row, noted_withdraws, wrote_now, withdrawn_reads, withdrawn_small}, Owned.{effect_objects, behind_same}, Frees.{same_le as two_le}, Plain.{others_stay, same_others}}
+use Rattle.sharc_invariant.proofs.{Imports.{◌≡◌, ℕ, zero, suc, ◌+◌, ◌*◌, ◌^◌, ◌<◌, ◌≤◌, ◌≢◌, ◌⊎◌, ◌||◌, ◌&&◌, Bool, true, false, cond, List, [], None, refl, sym, ap, ◌∙◌, subst, inl, inr, ⊎_elim, arith, ltb-true, cases_eq, cases_lt, nat_tests, set-get_or, length-set, fun_ext, length, slice_index, slice_set, take, nat_lt, nat_eq, ◌==◌, THREADS, Load, Swap, Cas, ShadowLaws, note_of, withdrawn_of, epoch_of, Kind, Read, Write, Code, Shape, StateOf, RunsOn, Tries, Stopped, Ended, Stage, Rests, Makes, Lowers, Links, Names, Hands, Begins, Withdraws, WithdrawsFrom, Leaves, int_of, Fits as FitsShape, granules, granule_at, top_word, shadow_word, next_thread_word, state_word, function_word, argument_word, Machine, instr_at, step_of, at_stage, exit, withdraws, withdrew, row_of, without_own, turn, may_go, counted, Turn, Global, put, MayTurn, one_thread, bounds, Instr, put_same, put_other, put_all, Passed, withdrawn, Targets, nothing, Label, Labels, IsIn, Fine, IsWellTyped, In, RegisterOf, ArgumentOf, TypedReference, World, Shut, WorldInvariant, in_ref, put2, set_gran, Heap, Kept, Built, InBlock, lang_of, conc_of, MachineView, Shows, Reads, store, has_returned, is_withdrawing, has_withdrawn, is_ended, is_unread, is_first, argument_of, making_of, note_number, noted_by, register_of, staged_of, logged, shadow_at, cell_at, count_at, length_at, made_turn, KeepsOthers, Effect, Silently, Returns, WithdrawsOf, events_of, StopStands, State, Runs, View, view_of, StageStands, SpawnsNow, NumberStands, EntryStands, FramesStand, GateStands, Threads, Firsts, TopStands, label_now, size_of_run, Followed, changes_objects, objects_now, ne_eq, eq_refl}, TurnAt.{turn_at, turn_stands}, Effects.withdraw_ok, Listed.store_ok, Others.{OnHold, loses}, Quiet.{KeepsThread, KeepsMost, heap_now, put_self, sum_up, label_held, freed_held, most_state, started_still, args_still, sizes_kept, part_same}, Changes.{KeepsPart, KeepsLow, lower, conc_now, alike_state}, Turns.{asks_turn, room_of}, Stores.{index_put, arena, shadow_store, stored_within}, Seen.{shadow_stored, put2_off}, Heaps.apart_stored, Clears.part_words, Uncounted.granule_cases, Withdrawn.{is_row, one_more, row_low, first_row, noted_withdraws, wrote_now, withdrawn_reads, withdrawn_small}, Owned.{effect_objects, behind_same}, Frees.{same_le as two_le}, Plain.{others_stay, same_others}}
 
 -- ---- the stages
 abbrev pub IsExiting : Stage → Type 0
@@ -9,23 +9,13 @@ IsExiting (WithdrawsFrom row seen) = Unit {0}
 IsExiting Leaves = Unit {0}
 IsExiting _ = ⊥
 
-exiting_hold : (y : Stage) → IsExiting y → OnHold y
-exiting_hold (Links all) h = absurd h
-exiting_hold _ h = tt
-
-exiting_staged : (y : Stage) → IsExiting y → staged_of y ≡ 0
-exiting_staged (Lowers a b c) h = absurd h
-exiting_staged _ h = refl
-
-exiting_making : (y : Stage) → IsExiting y → making_of y ≡ None
-exiting_making (Makes v) h = absurd h
-exiting_making _ h = refl
-
-exiting_spawns : (y : Stage) → IsExiting y → (n : ℕ) → SpawnsNow y n → ⊥
-exiting_spawns (Names k) h n z = h
-exiting_spawns (Hands k) h n z = h
-exiting_spawns (Begins k) h n z = h
-exiting_spawns _ h n z = z
+-- at such a stage no block is to be linked or built, nothing is staged and no thread is named
+exiting_calm : (y : Stage) → IsExiting y → record { hold : OnHold y; staged : staged_of y ≡ 0; making : making_of y ≡ None; spawns : (n : ℕ) → SpawnsNow y n → ⊥ }
+exiting_calm Rests h = record { hold = tt; staged = refl; making = refl; spawns = λ n z. z }
+exiting_calm (Withdraws row) h = record { hold = tt; staged = refl; making = refl; spawns = λ n z. z }
+exiting_calm (WithdrawsFrom row seen) h = record { hold = tt; staged = refl; making = refl; spawns = λ n z. z }
+exiting_calm Leaves h = record { hold = tt; staged = refl; making = refl; spawns = λ n z. z }
+exiting_calm _ h = absurd h
 
 -- a granule of a live object, or of none
 abbrev IsOf : World → (ℕ → ℕ) → ℕ → ℕ → Type 0
@@ -55,14 +45,8 @@ find_granule w cells p (suc n) = ⊎_elim
 
 module _ (x : Targets) (code : Code) (s : Shape) (ls : Labels) (wt : IsWellTyped x code ls) (fits : FitsShape code s) (laws : ShadowLaws) (g : Global Machine) (world : World) (st : State x code s ls g world) (tr : Turn)
     (may : MayTurn bounds (one_thread code s) g tr) (is : instr_at code (g.threads tr.thread).at.pc ≡ Instr.Exit) (exiting : IsExiting (g.threads tr.thread).own.stage) where
-  abbrev t : ℕ
-  t = tr.thread
-
-  abbrev m : Machine
-  m = g.threads tr.thread
-
-  abbrev here : Label
-  here = ls.at (g.threads tr.thread).at.pc
+  open turn_at st tr use {t, m, here, view}
+  open turn_stands st tr may use {rn, low_t as on_t, number}
 
   f : Fine x code ls (g.threads tr.thread).at.pc here Instr.Exit
   f = subst (Fine x code ls m.at.pc here) is (wt.fine m.at.pc)
@@ -70,26 +54,14 @@ module _ (x : Targets) (code : Code) (s : Shape) (ls : Labels) (wt : IsWellTyped
   begun : ((g.threads tr.thread).at.pc == 0) ≡ false
   begun = ne_eq m.at.pc 0 (λ z. let q : Instr.Exit ≡ Instr.Start wt.begin.0 = sym is ∙ ap (instr_at code) z ∙ wt.begin.1 in cc)
 
-  abbrev rn : Runs x code s ls st.elements world st.heap g tr.thread (g.threads tr.thread)
-  rn = (st.threads tr.thread).runs may.started may.next.runs
-
   now_here : (y : Stage) → IsExiting y → label_now here (instr_at code (g.threads tr.thread).at.pc) y ≡ here
-  now_here y ey = label_held here (instr_at code m.at.pc) y (exiting_hold y ey)
+  now_here y ey = label_held here (instr_at code m.at.pc) y (exiting_calm y ey).hold
 
   shut : world.win tr.thread ≡ Shut
   shut = subst (GateStands s world t m) f.0 (subst (λ (l : Label). GateStands s world t m l.gate) (now_here m.own.stage exiting) rn.gate)
 
-  abbrev view : View
-  view = view_of st.elements world tr.thread (g.threads tr.thread)
-
   tp : TopStands x tr.thread view (g.threads tr.thread).at.refs (g.threads tr.thread).at.ints rn.names here
   tp = subst (TopStands x t view m.at.refs m.at.ints rn.names) (now_here m.own.stage exiting) rn.top
-
-  on_t : tr.thread < THREADS
-  on_t = st.begins.few tr.thread may.started
-
-  number : (g.threads tr.thread).own.number ≡ tr.thread
-  number = (st.threads tr.thread).has.number
 
   -- the machine behind such a turn
   abbrev with_stage : StateOf → Stage → Machine
@@ -97,8 +69,8 @@ module _ (x : Targets) (code : Code) (s : Shape) (ls : Labels) (wt : IsWellTyped
 
   same_regs : (q : StateOf) (y : Stage) → IsExiting y → (i : ℕ) → register_of code (with_stage q y) i ≡ register_of code (g.threads tr.thread) i
   same_regs q y ey i =
-      ap (λ b. cond b 0 (slice_index m.refs i)) (freed_held (instr_at code m.at.pc) y m.at.refs i (exiting_hold y ey))
-      ∙ sym (ap (λ b. cond b 0 (slice_index m.refs i)) (freed_held (instr_at code m.at.pc) m.own.stage m.at.refs i (exiting_hold m.own.stage exiting)))
+      ap (λ b. cond b 0 (slice_index m.refs i)) (freed_held (instr_at code m.at.pc) y m.at.refs i (exiting_calm y ey).hold)
+      ∙ sym (ap (λ b. cond b 0 (slice_index m.refs i)) (freed_held (instr_at code m.at.pc) m.own.stage m.at.refs i (exiting_calm m.own.stage exiting).hold))
 
   -- it goes on as it stood, but for passed checks, of which none is remembered
   runs_on : (q : StateOf) (y : Stage) → IsExiting y → (w' : World) → w'.slots ≡ world.slots → w'.win ≡ world.win → (heap' : Heap) (g' : Global Machine) → StageStands code s st.elements w' heap' g'.words tr.thread (with_stage q y) Instr.Exit y
@@ -170,7 +142,7 @@ module _ (x : Targets) (code : Code) (s : Shape) (ls : Labels) (wt : IsWellTyped
         }
 
     own : KeepsThread (g.threads tr.thread) m'
-    own = record { sizes = sizes_kept (g.threads tr.thread) m' (st.threads t).has.table refl refl refl refl; held = refl; heads = refl; making = exiting_making y ey ∙ sym (exiting_making m.own.stage exiting) }
+    own = record { sizes = sizes_kept (g.threads tr.thread) m' (st.threads t).has.table refl refl refl refl; held = refl; heads = refl; making = (exiting_calm y ey).making ∙ sym (exiting_calm m.own.stage exiting).making }
 
     started_now : (u : ℕ) → now.started u ≡ g.started u
     started_now u = started_still x code s ls g world st t words m' u (λ off' _. off (state_word u) (λ e.
@@ -189,7 +161,7 @@ module _ (x : Targets) (code : Code) (s : Shape) (ls : Labels) (wt : IsWellTyped
         let rs : (λ u. register_of code (now.threads u)) ≡ (λ u. register_of code (g.threads u)) = fun_ext (part_same (register_of code) g.threads t m' (fun_ext (same_regs q y ey))) in
         let ar = fun_ext args_same in
         let lo : (λ u. logged (now.threads u)) ≡ (λ u. logged (g.threads u)) = fun_ext (part_same logged g.threads t m' refl) in
-        let sg : (λ u. staged_of (now.threads u).own.stage) ≡ (λ u. staged_of (g.threads u).own.stage) = fun_ext (part_same (λ m. staged_of m.own.stage) g.threads t m' (exiting_staged y ey ∙ sym (exiting_staged m.own.stage exiting))) in
+        let sg : (λ u. staged_of (now.threads u).own.stage) ≡ (λ u. staged_of (g.threads u).own.stage) = fun_ext (part_same (λ m. staged_of m.own.stage) g.threads t m' ((exiting_calm y ey).staged ∙ sym (exiting_calm m.own.stage exiting).staged)) in
         let nt : (kind : Kind) → (λ u. noted_by (now.threads u) kind) ≡ (λ u. noted_by (g.threads u) kind) = λ kind. fun_ext (part_same (λ m. noted_by m kind) g.threads t m' (fun_ext (same_notes kind))) in
         let rd = nt Read in
         let wr = nt Write in
@@ -217,7 +189,7 @@ module _ (x : Targets) (code : Code) (s : Shape) (ls : Labels) (wt : IsWellTyped
     next_same = off next_thread_word (λ e. omega arith)
 
     spawn_before : (u n : ℕ) → SpawnsNow (now.threads u).own.stage n → SpawnsNow (g.threads u).own.stage n
-    spawn_before u n = put_all (λ u (z : Machine). SpawnsNow z.own.stage n → SpawnsNow (g.threads u).own.stage n) g.threads t m' (λ h. absurd (exiting_spawns y ey n h)) (λ u _ h. h) u
+    spawn_before u n = put_all (λ u (z : Machine). SpawnsNow z.own.stage n → SpawnsNow (g.threads u).own.stage n) g.threads t m' (λ h. absurd ((exiting_calm y ey).spawns n h)) (λ u _ h. h) u
 
     threads_now : Threads code ls world now
     threads_now = record {
@@ -267,7 +239,7 @@ module _ (x : Targets) (code : Code) (s : Shape) (ls : Labels) (wt : IsWellTyped
       sizes = sizes_kept (g.threads tr.thread) m1 (st.threads t).has.table refl refl refl refl;
       held = refl;
       heads = refl;
-      spawns = λ n h. absurd (exiting_spawns y ey n h);
+      spawns = λ n h. absurd ((exiting_calm y ey).spawns n h);
       begun_before = begun;
       begun = begun;
     }
@@ -275,7 +247,7 @@ module _ (x : Targets) (code : Code) (s : Shape) (ls : Labels) (wt : IsWellTyped
     conc_row : conc_of code (made_turn g tr.thread words m1) ≡ record (conc_of code g) { words = λ j. slice_index words j; read_notes = put (λ u. noted_by (g.threads u) Read) tr.thread (noted_by m1 Read); write_notes = put (λ u. noted_by (g.threads u) Write) tr.thread (noted_by m1 Write) }
     conc_row =
         let rs = fun_ext (put_self (λ u. register_of code (g.threads u)) t (register_of code m1) (fun_ext (same_regs RunsOn y ey))) in
-        let sg = fun_ext (put_self (λ u. staged_of (g.threads u).own.stage) t (staged_of y) (exiting_staged y ey ∙ sym (exiting_staged m.own.stage exiting))) in
+        let sg = fun_ext (put_self (λ u. staged_of (g.threads u).own.stage) t (staged_of y) ((exiting_calm y ey).staged ∙ sym (exiting_calm m.own.stage exiting).staged)) in
         let R : ℕ → ℕ → ℕ = put (λ u. noted_by (g.threads u) Read) t (noted_by m1 Read) in
         let W : ℕ → ℕ → ℕ = put (λ u. noted_by (g.threads u) Write) t (noted_by m1 Write) in
         conc_now x code s ls wt g world st t may.started words m1 own1 (lower kw) ∙ (λ i. record (conc_of code g) { words = λ j. slice_index words j; regs = rs i; staged = sg i; read_notes = R; write_notes = W })
@@ -286,7 +258,7 @@ module _ (x : Targets) (code : Code) (s : Shape) (ls : Labels) (wt : IsWellTyped
     row_state w' es ew eo em others inv sim epochs stage few =
         let now = made_turn g t words m1 in
         alike_state x code s ls wt g world st t may.started words m1 own1 (lower kw) w' eo em kept (kw.low top_word (omega arith) (λ e. absurd (omega arith)))
-        (λ b. ap (λ z. Rattle.sharc_invariant.specs.Words.head_with z m.own.heads b) (exiting_making y ey ∙ sym (exiting_making m.own.stage exiting)))
+        (λ b. ap (λ z. Rattle.sharc_invariant.specs.Words.head_with z m.own.heads b) ((exiting_calm y ey).making ∙ sym (exiting_calm m.own.stage exiting).making))
         others (λ u. ap (λ (f : Rattle.sharc_invariant.specs.World.Slot → TypedReference). f (In (ArgumentOf u))) es) inv sim
         (λ i lt. let a = st.epochs i lt in let b = epochs i lt in let c = sum_up THREADS g.made t 1 in omega arith)
         (λ _. runs_on RunsOn y ey w' es ew (heap_now st.heap words) now stage) (λ q. absurd (cc)) few
@@ -508,11 +480,7 @@ module _ (x : Targets) (code : Code) (s : Shape) (ls : Labels) (wt : IsWellTyped
 -- ---- all turns of an Exit
 module _ (x : Targets) (code : Code) (s : Shape) (ls : Labels) (wt : IsWellTyped x code ls) (fits : FitsShape code s) (laws : ShadowLaws) (g : Global Machine) (world : World) (st : State x code s ls g world) (tr : Turn)
     (may : MayTurn bounds (one_thread code s) g tr) (is : instr_at code (g.threads tr.thread).at.pc ≡ Instr.Exit) where
-  abbrev n : Machine
-  n = g.threads tr.thread
-
-  abbrev behind : Global Machine
-  behind = after_turn bounds (one_thread code s) g tr
+  open turn_at st tr use {m as n, after as behind}
 
   act_is : (y : Stage) → (g.threads tr.thread).own.stage ≡ y → turn code s (g.threads tr.thread) ≡ exit s (g.threads tr.thread) y
   act_is y e = ap (λ i. Rattle.sharc_code.specs.Machine.act code s i n) is ∙ ap (exit s n) e

@@ -1,5 +1,5 @@
 -- Turns that put a reference into a register of the frame on top, or take it away, perhaps with a store of one word.
-use Rattle.sharc_invariant.proofs.{Imports.{◌≡◌, ℕ, ℤ, pos, ◌+◌, ◌<◌, ◌≤◌, ◌≢◌, true, List, Option, refl, sym, ap, ◌∙◌, subst, arith, get_or-set_same, get_or-set_other, length-set, fun_ext, length, slice_index, slice_index_or, slice_set, Code, Instr, Shape, Frame, Rests, first_cell, At, Own as Own', next, Machine, instr_at, may_go, counted, Global, put, HeldMutex, put_other, put_all, GranuleState, Passed, Targets, ObjectType, Closed, Label, Labels, Less, Leads, IsWellTyped, IsRef, TypedReference, Holder, RegisterOf, ArgumentOf, World, Window, Shut, Sole, In, Slot, CellOf as Cell, in_ref, place, Uses, WorldInvariant, By, put2, Heap, Built, InBlock, lang_of, conc_of, Shows, register_of, is_ended, set_reg, made_turn, made_conc, KeepsOthers, State, View, view_of, vals_of, TopStands, FramesStand, size_of_run}, Effects.{place_same, place_other}, Frames.{filled, frames_agree}, Quiet.{KeepsOwn, KeepsWords, heap_now, quiet_state, noted_same, conc_plain}, Own.{is_single, ref_inside, runs, rests, not_begun}, Plain.{register_plain, next_runs, keeps_own, with_own}, Others.loses}
+use Rattle.sharc_invariant.proofs.{Imports.{◌≡◌, ℕ, ℤ, pos, ◌+◌, ◌<◌, ◌≤◌, ◌≢◌, true, List, Option, refl, sym, ap, ◌∙◌, subst, arith, get_or-set_same, get_or-set_other, length-set, fun_ext, length, slice_index, slice_index_or, slice_set, Code, Instr, Shape, Frame, Rests, first_cell, At, Own as Own', next, Machine, instr_at, may_go, counted, Global, put, HeldMutex, put_other, put_all, GranuleState, Passed, Targets, ObjectType, Closed, Label, Labels, Less, Leads, IsWellTyped, IsRef, TypedReference, Holder, RegisterOf, ArgumentOf, World, Window, Shut, Sole, In, Slot, CellOf as Cell, in_ref, place, Uses, WorldInvariant, By, put2, Heap, Built, InBlock, lang_of, conc_of, Shows, register_of, is_ended, set_reg, made_turn, made_conc, KeepsOthers, State, View, view_of, vals_of, TopStands, FramesStand, size_of_run}, TurnAt.thread_at, Effects.{place_same, place_other}, Frames.{filled, frames_agree}, Quiet.{KeepsOwn, KeepsWords, heap_now, quiet_state, noted_same, conc_plain}, Own.{is_single, ref_inside, runs, rests, not_begun}, Plain.{register_plain, next_runs, keeps_own, with_own}, Others.loses}
 use Rattle.sharc_invariant.specs.World.{Free}
 
 -- ---- the registers of a machine in which one is set
@@ -61,14 +61,7 @@ pub record SetsRef (m m' : Machine) (d o : ℕ) : Type 0 where
 
 module _ (x : Targets) (code : Code) (s : Shape) (ls : Labels) (wt : IsWellTyped x code ls) (g : Global Machine) (world : World) (st : State x code s ls g world) (t : ℕ) (on : g.started t ≡ true) (go : may_go (g.threads t).at.state ≡ true)
     (i : Instr) (is : instr_at code (g.threads t).at.pc ≡ i) (single : is_single i ≡ true) where
-  abbrev m : Machine
-  m = g.threads t
-
-  abbrev here : Label
-  here = ls.at (g.threads t).at.pc
-
-  abbrev view : View
-  view = view_of st.elements world t (g.threads t)
+  open thread_at st t use {m, here, view}
 
   abbrev names : ℕ → ℤ
   names = (runs x code s ls wt g world st t on go i is single).names

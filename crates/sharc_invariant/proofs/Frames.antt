@@ -1,5 +1,5 @@
 -- Frames: what a label says of registers, when it says less, and when registers change.
-use Rattle.sharc_invariant.proofs.Imports.{◌≡◌, ℕ, ℤ, pos, negsuc, zero, suc, ◌+◌, ◌<◌, ◌≤◌, ◌⊎◌, ◌≢◌, Bool, true, false, cond, List, [], ◌∷◌, Some, None, refl, sym, ap, ◌∙◌, subst, inl, inr, ⊎_elim, arith, eqb-false, ltb-true, nat_tests, map, nat_eq, nat_lt, ◌*◌, ◌/◌, ◌&&◌, not, filter, Width, Char, Int, Long, holds, Code, Frame, put, put_same, put_other, put_all, Passed, Targets, ObjectType, Mutex, Lock, StaticType, mutex_of, type_of, SomeNames, Mentions, cells_of, Through, Self, Entry, Empty, Refers, Unknown, Element, Number, Anything, Exactly, Within, Indexes, OfElement, OfGlobal, Pass, IsIn, Label, Labels, SameReference, Itself, IsCopy, HasCopy, Copies, Chained, SameLock, AllSame, SameType, LessEntry, Narrower, LessNumber, Less, EntryMentions, HasBase, IsScoped, fill, empty, without_copies, without_index, without_base, is_base, below, below_copy, below_number, below_pass, called_label, Calls, frame_at, BelowStands, View, EntryStands, NumberStands, PassStands, FrameStands, TopStands, refs_at, types_at, eq_refl, Machine, FRAMES, FramesStand, Option}
+use Rattle.sharc_invariant.proofs.Imports.{◌≡◌, ℕ, ℤ, pos, suc, ◌+◌, ◌<◌, ◌≤◌, ◌⊎◌, ◌≢◌, Bool, true, false, cond, List, [], ◌∷◌, Some, None, refl, sym, ap, ◌∙◌, subst, inl, inr, ⊎_elim, arith, eqb-false, ltb-true, nat_tests, map, nat_eq, nat_lt, ◌*◌, ◌/◌, ◌&&◌, not, filter, Width, Char, Int, Long, holds, Code, Frame, put, put_same, put_other, put_all, Passed, Targets, ObjectType, Mutex, Lock, StaticType, mutex_of, type_of, SomeNames, Mentions, cells_of, Through, Self, Entry, Empty, Refers, Unknown, Element, Number, Anything, Exactly, Within, Indexes, OfElement, OfGlobal, Pass, IsIn, Label, Labels, SameReference, Itself, IsCopy, HasCopy, Copies, Chained, SameLock, AllSame, SameType, LessEntry, Narrower, LessNumber, Less, EntryMentions, HasBase, IsScoped, fill, empty, without_copies, without_index, without_base, is_base, below, below_copy, below_number, below_pass, called_label, Calls, frame_at, BelowStands, View, EntryStands, NumberStands, PassStands, FrameStands, TopStands, refs_at, types_at, eq_refl, Machine, FRAMES, FramesStand, Option}
 use Rattle.sharc_invariant.specs.Types.Lock.{Global}
 
 -- ---- the same reference, lock, type

@@ -1,5 +1,5 @@
 -- The turns of a Free that load and clear: how many elements there are, and each granule.
-use Rattle.sharc_invariant.proofs.{Imports.{◌≡◌, ℕ, ◌+◌, ◌*◌, ◌<◌, ◌≤◌, ◌≢◌, true, false, cond, List, refl, sym, ap, ◌∙◌, subst, arith, ltb-true, length, slice_index, slice_set, nat_lt, ◌==◌, min, Load, Swap, ShadowLaws, epoch_of, cleared_of, Code, Shape, Stage, Rests, Empties, FreeLooks, FreeClears, Uncounts, granules, length_word, shadow_word, Machine, step_of, instr_at, ref, data_granules, data_granule, at_stage, act, largest, free, free_looks, empties, layout_at, fields, turn, counted, Turn, Global, MayTurn, after_turn, one_thread, bounds, Layout, Instr, cleared, Targets, Label, Labels, Fine, IsWellTyped, World, Sole, set_gran, Heap, length_at, shadow_at, staged_of, made_turn, ClearsOf, State, GateStands, StageStands, AreCleared, all_pointers, granules_freed, Emptying, Turned, not_less, zero_le}, Quiet.{heap_now, label_held}, Walks.{IsWalk, walk_hold}, Turns.{asks_turn, room_of}, Clears.{object, walk_reads, some, live}, Sweeps.{length_is, word_is, shown_epoch, loaded_stays, quietly, swept, swept_stays, swept_cells}, Own.begun_in}
+use Rattle.sharc_invariant.proofs.{Imports.{◌≡◌, ℕ, ◌+◌, ◌*◌, ◌<◌, ◌≤◌, true, false, cond, List, refl, sym, ap, ◌∙◌, subst, arith, ltb-true, length, slice_index, slice_set, nat_lt, ◌==◌, min, Load, Swap, ShadowLaws, epoch_of, cleared_of, Code, Shape, Stage, Rests, Empties, FreeLooks, FreeClears, Uncounts, granules, length_word, shadow_word, Machine, step_of, instr_at, ref, data_granules, data_granule, at_stage, act, largest, free, free_looks, empties, layout_at, fields, turn, counted, Turn, Global, MayTurn, one_thread, bounds, Layout, Instr, cleared, Targets, Label, Labels, Fine, IsWellTyped, World, Sole, set_gran, Heap, length_at, shadow_at, staged_of, made_turn, ClearsOf, State, GateStands, StageStands, AreCleared, all_pointers, granules_freed, Emptying, Turned, not_less, zero_le}, TurnAt.turn_at, Quiet.{heap_now, label_held}, Walks.{IsWalk, walk_hold}, Turns.{asks_turn, room_of}, Clears.{object, walks_over}, Sweeps.{length_is, word_is, shown_epoch, loaded_stays, quietly, swept, swept_stays, swept_cells}, Own.begun_in}
 
 pub same_le : (n : ℕ) → n ≤ n
 same_le n = omega arith
@@ -15,20 +15,7 @@ zero_is n e = let a = not_less 0 (min n largest) e in omega arith
 
 module _ (x : Targets) (code : Code) (s : Shape) (ls : Labels) (wt : IsWellTyped x code ls) (laws : ShadowLaws) (g : Global Machine) (world : World) (st : State x code s ls g world) (tr : Turn)
     (may : MayTurn bounds (one_thread code s) g tr) (r layout site : ℕ) (is : instr_at code (g.threads tr.thread).at.pc ≡ Instr.Free r layout site) where
-  abbrev t : ℕ
-  t = tr.thread
-
-  abbrev m : Machine
-  m = g.threads tr.thread
-
-  abbrev here : Label
-  here = ls.at (g.threads tr.thread).at.pc
-
-  abbrev after : Global Machine
-  after = after_turn bounds (one_thread code s) g tr
-
-  abbrev base : ℕ
-  base = (g.threads tr.thread).at.refs
+  open turn_at st tr use {t, m, here, after, base}
 
   abbrev pub lay : Layout
   lay = layout_at code layout
@@ -66,14 +53,7 @@ module _ (x : Targets) (code : Code) (s : Shape) (ls : Labels) (wt : IsWellTyped
     abbrev pub o : ℕ
     o = object x code s ls wt g world st tr may walk begun r free_win free_fine.2
 
-    pub free_reads : ref (g.threads tr.thread) r ≡ o
-    free_reads = walk_reads x code s ls wt g world st tr may walk begun r free_win free_fine.2
-
-    pub free_some : o ≢ 0
-    free_some = some x code s ls wt g world st tr may walk begun r free_win free_fine.2
-
-    pub free_live : (world.obj o).live ≡ true
-    free_live = live x code s ls wt g world st tr may walk begun r free_win free_fine.2
+    open walks_over x code s ls wt g world st tr may walk begun r free_win free_fine.2 use {reads as free_reads, nz as free_some, is_live as free_live}
 
     pub head : o < granules s
     head = st.apart.headers o free_live

@@ -1,28 +1,12 @@
 -- Give keeps the invariant: the object that a thread has alone comes to stand under another type, whose cells are the same.
-use Rattle.sharc_invariant.proofs.{Imports.{◌≡◌, ℕ, ℤ, suc, ◌+◌, ◌<◌, ◌≢◌, true, false, refl, sym, ap, ◌∙◌, subst, inl, arith, ◌*◌, ◌≤◌, set-get_or, length, slice_index, ◌↔◌, ◌==◌, is_some, Contains, Code, Shape, Fits, granules, count_word, Machine, instr_at, goes, ref, act, Turn, Global, put, MayTurn, after_turn, one_thread, bounds, Rests, Instr, put_same, put_other, put_all, Targets, ObjectType, StaticType, type_at, type_of, Mentions, cells_of, field_in, Empty, Refers, Label, Labels, fill, empty, Unknown, LessEntry, IsWellTyped, refs_in, ints_in, Fine, Recasts, TypedReference, RegisterOf, In, Slot, CellOf, World, Shut, Sole, WorldInvariant, in_ref, ArgumentOf, give, LogOf, Staged, ObjectState, lang_of, conc_of, Shows, cell_at, Apart, head_of, made_turn, KeepsOthers, State, View, view_of, TopStands, EntryStands, GateStands, refs_at, types_at, size_of_run, HeapStands, Locks, Runs, FramesStand, Turned, sum_to, Gives, Heap, changes_objects, objects_now, objects_behind, owned, type_held, THREADS, object_of, epoch_of, test_of}, Effects.{place_other, place_all, sole_at, place_same, give_ok}, Frames.{filled, fill_stands, empty_stands, type_kept, put_base}, Turns.{asks_turn, room_of}, Plain.{same_words, register_plain, next_runs}, CheckTurns.put_put, Scoped.scoped_empty, Loads.lang_laws, Quiet.{heap_now, sizes_kept}, Changes.{KeepsPart, KeepsLow, lower, held_same, changed_state}, Walks.{IsWalk, conc_walked}, Clears.sum_more, Filled.{view_filled, below_filled}, Own.{begun_before, not_begun, fine, runs, rests, top, gate}, Recasts.{IsAlike, recast_types, recast_alike}, Others.loses, Owned.owned_is}
+use Rattle.sharc_invariant.proofs.{Imports.{◌≡◌, ℕ, ℤ, suc, ◌+◌, ◌<◌, ◌≢◌, true, false, refl, sym, ap, ◌∙◌, subst, inl, arith, ◌*◌, ◌≤◌, set-get_or, length, slice_index, ◌↔◌, ◌==◌, is_some, Contains, Code, Shape, Fits, granules, count_word, Machine, instr_at, goes, ref, act, Turn, Global, put, MayTurn, after_turn, one_thread, bounds, Rests, Instr, put_same, put_other, put_all, Targets, ObjectType, StaticType, type_at, type_of, Mentions, cells_of, field_in, Empty, Refers, Label, Labels, fill, empty, Unknown, LessEntry, IsWellTyped, refs_in, ints_in, Fine, Recasts, TypedReference, RegisterOf, In, Slot, CellOf, World, Shut, Sole, WorldInvariant, in_ref, ArgumentOf, give, LogOf, Staged, ObjectState, lang_of, conc_of, Shows, cell_at, Apart, head_of, made_turn, KeepsOthers, State, view_of, TopStands, EntryStands, GateStands, refs_at, types_at, size_of_run, HeapStands, Locks, Runs, FramesStand, Turned, sum_to, Gives, Heap, changes_objects, objects_now, objects_behind, owned, type_held, THREADS, object_of, epoch_of, test_of}, TurnAt.turn_at, Effects.{place_other, place_all, sole_at, place_same, give_ok}, Frames.{filled, fill_stands, empty_stands, type_kept, put_base}, Turns.{asks_turn, room_of}, Plain.{same_words, register_plain, next_runs}, CheckTurns.put_put, Scoped.scoped_empty, Loads.lang_laws, Quiet.{heap_now, sizes_kept}, Changes.{KeepsPart, KeepsLow, lower, held_same, changed_state}, Walks.{IsWalk, conc_walked}, Clears.sum_more, Filled.{view_filled, below_filled}, Own.{begun_before, not_begun, fine, runs, rests, top, gate}, Recasts.{IsAlike, recast_types, recast_alike}, Others.loses, Owned.owned_is}
 
 module _ (x : Targets) (code : Code) (s : Shape) (ls : Labels) (wt : IsWellTyped x code ls) (fits : Fits code s) (g : Global Machine) (world : World) (st : State x code s ls g world) (tr : Turn)
     (may : MayTurn bounds (one_thread code s) g tr) (r site : ℕ) (is : instr_at code (g.threads tr.thread).at.pc ≡ Instr.Give r site) where
-  abbrev t : ℕ
-  t = tr.thread
-
-  abbrev m : Machine
-  m = g.threads tr.thread
-
-  abbrev here : Label
-  here = ls.at (g.threads tr.thread).at.pc
-
-  abbrev base : ℕ
-  base = (g.threads tr.thread).at.refs
+  open turn_at st tr use {t, m, here, base, view, refs}
 
   abbrev k : ℕ
   k = (g.threads tr.thread).at.refs + r
-
-  abbrev view : View
-  view = view_of st.elements world tr.thread (g.threads tr.thread)
-
-  abbrev refs : ℕ → ℕ
-  refs = refs_at view (g.threads tr.thread).at.refs
 
   abbrev o : ℕ
   o = in_ref world (RegisterOf tr.thread ((g.threads tr.thread).at.refs + r))

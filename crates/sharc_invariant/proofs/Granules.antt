@@ -1,5 +1,5 @@
 -- What checks, clears and withdrawals keep of a granule.
-use Rattle.sharc_invariant.proofs.{Imports.{◌≡◌, ℕ, suc, ◌+◌, ◌-◌, ◌<◌, ◌≤◌, ◌⊎◌, Bool, true, false, cond, refl, sym, ◌∙◌, subst, inl, inr, ⊎_elim, arith, cases_eq, nat_eq, put, put_same, put_other, put_all, GranuleState, one, Passed, Bits, cleared, marked, passed, withdrawn, Alone, Clean, ne_eq}, Sums.{one_same, one_other}}
+use Rattle.sharc_invariant.proofs.{Imports.{◌≡◌, ℕ, suc, ◌+◌, ◌-◌, ◌<◌, ◌≤◌, ◌⊎◌, Bool, true, false, cond, refl, sym, ◌∙◌, subst, inl, inr, ⊎_elim, arith, cases_eq, put, put_same, put_other, put_all, GranuleState, one, Passed, Bits, cleared, marked, passed, withdrawn, Alone, Clean, ne_eq}, Sums.{one_same, one_other}}
 
 pub up : (f : ℕ → ℕ) (v o : ℕ) → put f v (f v + 1) o ≡ f o + one v o
 up f v = put_all (λ o n. n ≡ f o + one v o) f v (f v + 1) (let e = one_same v in omega arith) (λ o ne. let e = one_other v o (λ i. ne (sym i)) in omega arith)

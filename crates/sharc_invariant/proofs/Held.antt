@@ -1,5 +1,5 @@
 -- The checks of mutexes.
-use Rattle.sharc_invariant.proofs.{Imports.{◌≡◌, ℕ, ℤ, ◌+◌, ◌⊎◌, ◌≢◌, true, false, cond, refl, sym, ap, ◌∙◌, subst, inl, inr, ⊎_elim, ◌==◌, Code, Cell, Instr, Shape, Stop, Trap, NoLock, Fits, cell_word, cell_of, Machine, Local, instr_at, ref, goes, stopped, lock_checked, is_held, is_of_null, word, turn, Turn, Global, MayTurn, one_thread, bounds, put_same, put_other, Targets, Gate, Closed, Holds, Loaded, HoldsLoaded, Label, Labels, Leads, LessGate, gated, IsWellTyped, knows_base, World, Window, Shut, IsLoaded, WinOk, RegisterOf, in_ref, set_win, lang_of, Silently, StopStands, State, view_of, TopStands, GateStands, base_of_cell, number_in, Turned}, Turns.{local_turn, room_of, unseen}, Own.{is_single, runs, top, gate, fine, begun_before}, Quiet.KeepsOwn, Plain.{plain_state, is_shut, same_words, keeps_own}, Accesses.{gate_top, windowed_state}, Steps.{knows_top, stops, asserted, of_turn, reads}, Frames.frames_same}
+use Rattle.sharc_invariant.proofs.{Imports.{◌≡◌, ℕ, ℤ, ◌+◌, ◌⊎◌, ◌≢◌, true, false, cond, refl, sym, ap, ◌∙◌, subst, inl, inr, ⊎_elim, ◌==◌, Code, Cell, Instr, Shape, Stop, Trap, NoLock, Fits, cell_word, cell_of, Machine, Local, instr_at, ref, goes, stopped, lock_checked, is_held, is_of_null, word, turn, Turn, Global, MayTurn, one_thread, bounds, put_same, put_other, Targets, Gate, Closed, Holds, Loaded, HoldsLoaded, Label, Labels, Leads, LessGate, gated, IsWellTyped, knows_base, World, Window, Shut, IsLoaded, WinOk, RegisterOf, in_ref, set_win, lang_of, Silently, StopStands, State, view_of, TopStands, GateStands, base_of_cell, number_in, Turned}, TurnAt.turn_at, Turns.{local_turn, room_of, unseen}, Own.{is_single, runs, top, gate, fine, begun_before}, Quiet.KeepsOwn, Plain.{plain_state, is_shut, same_words, keeps_own}, Accesses.{gate_top, windowed_state}, Steps.{knows_top, stops, asserted, of_turn, reads}, Frames.frames_same}
 use Rattle.sharc_tree.specs.declared.trap.Trap.TheVariants as traps
 
 pub held_gate : (c : Cell) (y : Gate) → LessGate (Holds c) y → (y ≡ Closed) ⊎ (y ≡ Holds c)
@@ -12,14 +12,7 @@ held_goes s m (Cell.Global a p) h = h
 held_goes s m _ h = h
 
 module _ (x : Targets) (code : Code) (s : Shape) (ls : Labels) (wt : IsWellTyped x code ls) (fits : Fits code s) (g : Global Machine) (world : World) (st : State x code s ls g world) (tr : Turn) (may : MayTurn bounds (one_thread code s) g tr) where
-  abbrev m : Machine
-  m = g.threads tr.thread
-
-  abbrev here : Label
-  here = ls.at (g.threads tr.thread).at.pc
-
-  abbrev t : ℕ
-  t = tr.thread
+  open turn_at st tr use {m, here, t}
 
   abbrev Done : Type 0
   Done = Turned x code s ls g world tr

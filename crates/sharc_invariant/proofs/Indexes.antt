@@ -1,5 +1,5 @@
 -- Indexes are within their objects.
-use Rattle.sharc_invariant.proofs.{Imports.{◌≡◌, ℕ, ℤ, pos, negsuc, suc, ◌+◌, ◌-◌, ◌*◌, ◌/◌, ◌^◌, ◌<◌, ◌≤◌, ◌≢◌, true, false, cond, refl, sym, ap, ◌∙◌, subst, ⊎_elim, arith, ltb-true, cases_eq, nat_tests, mul-le-mul_left, mul_comm, slice_index, nat_lt, Load, Code, Instr, Long, Shape, Trap, int_of, Fits, granules, granule_at, length_word, Machine, instr_at, int, ref, goes, set_int, indexed, field_of, stopped, step_of, Turn, Global, put, MayTurn, after_turn, one_thread, bounds, put_same, Targets, ObjectType, cells_of, Element, Named, Nth, Fresh, Number, Anything, Within, Exactly, Indexes, OfElement, OfGlobal, Closed, Label, Labels, Leads, set_number, IsWellTyped, IsInt, IsElement, World, RegisterOf, In, in_ref, length_at, made_turn, State, View, view_of, NumberStands, ElementStands, EntryStands, TopStands, refs_at, types_at, Turned}, Turns.{asks_turn, local_turn, room_of, unseen}, Own.{is_single, runs, rests, top, fine}, Plain.{register_plain, is_shut, stop_state, numbers_state}, Accesses.{back_again, loaded_words}, Steps.number_named}
+use Rattle.sharc_invariant.proofs.{Imports.{◌≡◌, ℕ, ℤ, pos, negsuc, suc, ◌+◌, ◌-◌, ◌*◌, ◌/◌, ◌^◌, ◌<◌, ◌≤◌, ◌≢◌, true, false, cond, refl, sym, ap, ◌∙◌, subst, ⊎_elim, arith, ltb-true, cases_eq, nat_tests, mul-le-mul_left, mul_comm, slice_index, nat_lt, Load, Code, Instr, Long, Shape, Trap, int_of, Fits, granules, granule_at, length_word, Machine, instr_at, int, ref, goes, set_int, indexed, field_of, stopped, step_of, Turn, Global, put, MayTurn, one_thread, bounds, put_same, Targets, ObjectType, cells_of, Element, Named, Nth, Fresh, Number, Anything, Within, Exactly, Indexes, OfElement, OfGlobal, Closed, Label, Labels, Leads, set_number, IsWellTyped, IsInt, IsElement, World, RegisterOf, In, in_ref, length_at, made_turn, State, View, NumberStands, ElementStands, EntryStands, TopStands, refs_at, types_at, Turned}, TurnAt.turn_at, Turns.{asks_turn, local_turn, room_of, unseen}, Own.{is_single, runs, rests, top, fine}, Plain.{register_plain, is_shut, stop_state, numbers_state}, Accesses.{back_again, loaded_words}, Steps.number_named}
 use Rattle.sharc_tree.specs.declared.trap.Trap.TheVariants as traps
 
 -- a new name for a value
@@ -48,20 +48,7 @@ times_le n all count lt =
 
 module _ (x : Targets) (code : Code) (s : Shape) (ls : Labels) (wt : IsWellTyped x code ls) (fits : Fits code s) (g : Global Machine) (world : World) (st : State x code s ls g world) (tr : Turn)
     (may : MayTurn bounds (one_thread code s) g tr) where
-  abbrev t : ℕ
-  t = tr.thread
-
-  abbrev m : Machine
-  m = g.threads tr.thread
-
-  abbrev here : Label
-  here = ls.at (g.threads tr.thread).at.pc
-
-  abbrev after : Global Machine
-  after = after_turn bounds (one_thread code s) g tr
-
-  abbrev view : View
-  view = view_of st.elements world tr.thread (g.threads tr.thread)
+  open turn_at st tr use {t, m, here, after, view}
 
   module _ (i : Instr) (is : instr_at code (g.threads tr.thread).at.pc ≡ i) (single : is_single i ≡ true) where
     abbrev names : ℕ → ℤ

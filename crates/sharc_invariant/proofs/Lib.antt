@@ -6,6 +6,7 @@ pub mod Listed
 pub mod Sums
 pub mod Tested
 pub mod Touched
+pub mod TurnAt
 pub mod Turns
 pub mod Others
 pub mod Quiet

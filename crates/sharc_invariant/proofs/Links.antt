@@ -1,5 +1,5 @@
 -- The last turn of a Free: the block of the dead object goes to the thread's list.
-use Rattle.sharc_invariant.proofs.{Imports.{◌≡◌, ℕ, suc, ◌+◌, ◌*◌, ◌^◌, ◌<◌, ◌≤◌, ◌≢◌, true, false, cond, List, None, Some, refl, sym, ap, ◌∙◌, subst, ⊎_elim, arith, cases_eq, cases_order, get_or-set_same, get_or-set_other, length-set, fun_ext, length, slice_index, slice_set, ◌==◌, THREADS, Swap, ShadowLaws, note_of, epoch_of, Kind, Read, Write, Code, Layout, Instr, Shape, Stage, Rests, Empties, Lowers, FreeLooks, FreeClears, Uncounts, Links, RunsOn, Tries, Stopped, Ended, Fits as FitsShape, granules, top_word, length_word, Machine, step_of, instr_at, ref, layout_at, size_of, free_size, free_head, freed_machine, may_go, Turn, Global, put, MayTurn, after_turn, one_thread, bounds, put_same, put_other, put_all, sum_to, Targets, Label, Labels, empty, Fine, IsWellTyped, World, Shut, put2, Heap, Kept, Built, Live, Listed, pushed, lang_of, conc_of, Shows, head_of, head_with, making_of, is_freed, is_ended, has_withdrawn, note_number, noted_by, register_of, staged_of, length_at, has_returned, made_turn, KeepsOthers, State, Runs, View, view_of, StageStands, FramesStand, GateStands, HeapStands, TopStands, label_now, block_for, IsSmall, Turned, changes_objects, objects_now, frees_object, ne_eq, eq_refl, set_null}, Listed.{push_ok, put2_same, put2_other}, Quiet.{put_self, locks_same, sizes_kept}, Changes.{KeepsPart, KeepsLower, conc_now, changed_state}, Turns.{asks_turn, room_of, unseen}, Stores.{index_put, arena}, Clears.sum_more, Frames.less_stands, Own.{runs_at, closed_less}, Heaps.{size_power, same_power, apart_stored, built_size, block_word, low_block, listed_size, built_dead}, Frees.{free_fine, free_begun, free_act, free_first, free_looks_turn, free_swaps}, Empties.{free_empties, free_lowers}, Uncounted.free_uncounts, Walks.IsWalk, Owned.{effect_objects, behind_same}, Sweeps.length_is, Plain.others_heap}
+use Rattle.sharc_invariant.proofs.{Imports.{◌≡◌, ℕ, suc, ◌+◌, ◌*◌, ◌^◌, ◌<◌, ◌≤◌, ◌≢◌, true, false, cond, List, None, Some, refl, sym, ap, ◌∙◌, subst, ⊎_elim, arith, cases_eq, cases_order, get_or-set_same, get_or-set_other, length-set, fun_ext, length, slice_index, slice_set, ◌==◌, THREADS, Swap, ShadowLaws, note_of, epoch_of, Kind, Read, Write, Code, Layout, Instr, Shape, Stage, Rests, Empties, Lowers, FreeLooks, FreeClears, Uncounts, Links, RunsOn, Tries, Stopped, Ended, Fits as FitsShape, granules, top_word, length_word, Machine, step_of, instr_at, ref, layout_at, size_of, free_size, free_head, freed_machine, may_go, Turn, Global, put, MayTurn, after_turn, one_thread, bounds, put_same, put_other, put_all, sum_to, Targets, Label, Labels, empty, Fine, IsWellTyped, World, Shut, put2, Heap, Kept, Built, Live, Listed, pushed, lang_of, conc_of, Shows, head_of, head_with, making_of, is_freed, is_ended, has_withdrawn, note_number, noted_by, register_of, staged_of, length_at, has_returned, made_turn, KeepsOthers, State, Runs, view_of, StageStands, FramesStand, GateStands, HeapStands, TopStands, label_now, block_for, IsSmall, Turned, changes_objects, objects_now, frees_object, ne_eq, eq_refl, set_null}, TurnAt.{turn_at, turn_stands}, Listed.{push_ok, put2_same, put2_other}, Quiet.{put_self, locks_same, sizes_kept}, Changes.{KeepsPart, KeepsLower, conc_now, changed_state}, Turns.{asks_turn, room_of, unseen}, Stores.{index_put, arena}, Clears.sum_more, Frames.less_stands, Own.{runs_at, closed_less}, Heaps.{size_power, same_power, apart_stored, built_size, block_word, low_block, listed_size, built_dead}, Frees.{free_fine, free_begun, free_act, free_first, free_looks_turn, free_swaps}, Empties.{free_empties, free_lowers}, Uncounted.free_uncounts, Walks.IsWalk, Owned.{effect_objects, behind_same}, Sweeps.length_is, Plain.others_heap}
 
 -- the size of the list is that of the block for the cells
 size_for : (all c : ℕ) → size_of (Rattle.sharc_heap.specs.Block.block_of (Rattle.sharc_code.specs.Machine.all_cells all c)) ≡ size_of (block_for (all * c))
@@ -8,17 +8,8 @@ size_for all c = refl
 
 module _ (x : Targets) (code : Code) (s : Shape) (ls : Labels) (wt : IsWellTyped x code ls) (fits : FitsShape code s) (laws : ShadowLaws) (g : Global Machine) (world : World) (st : State x code s ls g world) (tr : Turn)
     (may : MayTurn bounds (one_thread code s) g tr) (r layout site : ℕ) (is : instr_at code (g.threads tr.thread).at.pc ≡ Instr.Free r layout site) (all : ℕ) (at_stage_is : (g.threads tr.thread).own.stage ≡ Links all) where
-  abbrev t : ℕ
-  t = tr.thread
-
-  abbrev m : Machine
-  m = g.threads tr.thread
-
-  abbrev here : Label
-  here = ls.at (g.threads tr.thread).at.pc
-
-  abbrev base : ℕ
-  base = (g.threads tr.thread).at.refs
+  open turn_at st tr use {t, m, here, base, view}
+  open turn_stands st tr may use {rn, low_t as on_t}
 
   abbrev k : ℕ
   k = (g.threads tr.thread).at.refs + r
@@ -33,17 +24,11 @@ module _ (x : Targets) (code : Code) (s : Shape) (ls : Labels) (wt : IsWellTyped
   f : Fine x code ls (g.threads tr.thread).at.pc here (Instr.Free r layout site)
   f = free_fine x code s ls wt laws g world st tr may r layout site is
 
-  abbrev rn : Runs x code s ls st.elements world st.heap g tr.thread (g.threads tr.thread)
-  rn = (st.threads tr.thread).runs may.started may.next.runs
-
   stage_now : StageStands code s st.elements world st.heap g.words tr.thread (g.threads tr.thread) (Instr.Free r layout site) (Links all)
   stage_now = subst (StageStands code s st.elements world st.heap g.words t m (Instr.Free r layout site)) at_stage_is (subst (λ i. StageStands code s st.elements world st.heap g.words t m i m.own.stage) is rn.stage)
 
   is_label : label_now here (instr_at code (g.threads tr.thread).at.pc) (g.threads tr.thread).own.stage ≡ empty here r
   is_label = ap (λ i. label_now here i m.own.stage) is ∙ ap (label_now here (Instr.Free r layout site)) at_stage_is
-
-  abbrev view : View
-  view = view_of st.elements world tr.thread (g.threads tr.thread)
 
   tp : TopStands x tr.thread view (g.threads tr.thread).at.refs (g.threads tr.thread).at.ints rn.names (empty here r)
   tp = subst (TopStands x t view base m.at.ints rn.names) is_label rn.top
@@ -69,9 +54,6 @@ module _ (x : Targets) (code : Code) (s : Shape) (ls : Labels) (wt : IsWellTyped
 
   number_is : free_size lay all ≡ j
   number_is = size_for all lay.cells ∙ ap size_of (sym stage_now.2 ∙ size_is) ∙ size_power j (let z = low_j in omega arith)
-
-  on_t : tr.thread < THREADS
-  on_t = st.begins.few tr.thread may.started
 
   abbrev old : ℕ
   old = st.heap.heads tr.thread (st.heap.size b)

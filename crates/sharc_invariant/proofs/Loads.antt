@@ -1,5 +1,5 @@
 -- A reference that was loaded from a cell is raised.
-use Rattle.sharc_invariant.proofs.{Imports.{◌≡◌, ℕ, suc, ◌+◌, Bool, false, refl, sym, ap, ◌∙◌, subst, inl, ⊎_elim, arith, cases_eq, slice_set, Code, Cell, Shape, Fits, Machine, Local, Asks, instr_at, goes, accessed, set_ref, ref, raise, turn, Turn, Global, MayTurn, one_thread, bounds, Instr, put_other, Targets, type_at, type_of, Refers, Label, Labels, fill, IsWellTyped, refs_in, ints_in, Laws, TypedReference, RegisterOf, In, CellOf, World, Shut, IsLoaded as Loaded, Sole, WinOk, Right, CanBy, base_of, in_ref, null, set_win, set_slot, grow, FitsType, lang_of, conc_of, Silently, IsThere, State, View, view_of, TopStands, EntryStands, GateStands, IsSmall, refs_at, types_at, size_of_run, base_of_cell, object_of_cell, number_in, Turned}, Effects.{set_slot_ok, cell_fits}, Frames.{filled, fill_stands}, Turns.{local_turn, room_of}, Own.{runs, rests, top, gate, fine}, Plain.{register_plain, same_words}, Seen.reg_stored, Filled.{filled_state, inside_world, free_shut}, Counts.{raise_zero, raise_some, raised_state, filled_silent, closed_inv, closed_shut, closed_sim}, Cells.cell_there, Rights.points_to}
+use Rattle.sharc_invariant.proofs.{Imports.{◌≡◌, ℕ, suc, ◌+◌, Bool, false, refl, sym, ap, ◌∙◌, subst, inl, ⊎_elim, arith, cases_eq, slice_set, Code, Cell, Shape, Fits, Machine, instr_at, goes, accessed, set_ref, ref, raise, turn, Turn, Global, MayTurn, one_thread, bounds, Instr, put_other, Targets, type_at, type_of, Refers, Labels, fill, IsWellTyped, refs_in, ints_in, Laws, TypedReference, RegisterOf, In, CellOf, World, Shut, IsLoaded as Loaded, Sole, WinOk, Right, CanBy, base_of, in_ref, null, set_win, set_slot, grow, FitsType, lang_of, conc_of, Silently, IsThere, State, TopStands, EntryStands, GateStands, IsSmall, refs_at, types_at, size_of_run, base_of_cell, object_of_cell, number_in, Turned}, TurnAt.turn_at, Effects.{set_slot_ok, cell_fits}, Frames.{filled, fill_stands}, Turns.{local_turn, room_of}, Own.{runs, rests, top, gate, fine}, Plain.{register_plain, same_words}, Seen.reg_stored, Filled.{filled_state, inside_world, free_shut}, Counts.{raise_zero, raise_some, raised_state, filled_silent, closed_inv, closed_shut, closed_sim}, Cells.cell_there, Rights.points_to}
 
 -- the table of targets has the laws that the world asks for
 pub lang_laws : (x : Targets) (code : Code) (ls : Labels) → IsWellTyped x code ls → Laws (lang_of x)
@@ -7,20 +7,7 @@ lang_laws x code ls wt = record { whole = wt.targets.whole; private_cells = wt.t
 
 module _ (x : Targets) (code : Code) (s : Shape) (ls : Labels) (wt : IsWellTyped x code ls) (fits : Fits code s) (few : IsSmall code s) (g : Global Machine) (world : World) (st : State x code s ls g world) (tr : Turn)
     (may : MayTurn bounds (one_thread code s) g tr) where
-  abbrev t : ℕ
-  t = tr.thread
-
-  abbrev m : Machine
-  m = g.threads tr.thread
-
-  abbrev here : Label
-  here = ls.at (g.threads tr.thread).at.pc
-
-  abbrev base : ℕ
-  base = (g.threads tr.thread).at.refs
-
-  abbrev view : View
-  view = view_of st.elements world tr.thread (g.threads tr.thread)
+  open turn_at st tr use {t, m, here, base, view}
 
   -- what a thread may read from a cell fits it
   pub read_fits : (k : Bool) (c : Cell) (f : _) → IsThere x s st.cells world tr.thread (g.threads tr.thread) c f → Right (lang_of x) world tr.thread k (base_of_cell (g.threads tr.thread) c) (number_in (g.threads tr.thread) c)

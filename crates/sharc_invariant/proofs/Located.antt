@@ -1,15 +1,8 @@
 -- A cell that an instruction names, whose base is not NULL, is there.
-use Rattle.sharc_invariant.proofs.{Imports.{◌≡◌, ℕ, ◌+◌, Bool, true, false, cond, sym, ap, ◌∙◌, subst, slice_index, ◌==◌, Code, Cell, Shape, Fits, Machine, instr_at, ref, is_of_null, Global, put_same, Targets, Field, Label, Labels, knows, IsWellTyped, HasField, IsAccess as Accesses, RegisterOf, World, Right, in_ref, lang_of, State, Runs, View, TopStands, GateStands, OnHold, base_of_cell, number_in, view_of, IsThere, IsOn}, Quiet.{label_held, freed_held}, Steps.knows_top, Cells.cell_there, Rights.right}
+use Rattle.sharc_invariant.proofs.{Imports.{◌≡◌, ℕ, ◌+◌, Bool, true, false, cond, sym, ap, ◌∙◌, subst, slice_index, ◌==◌, Code, Cell, Shape, Fits, Machine, instr_at, ref, is_of_null, Global, put_same, Targets, Field, Label, Labels, knows, IsWellTyped, HasField, IsAccess as Accesses, RegisterOf, World, Right, in_ref, lang_of, State, Runs, TopStands, GateStands, OnHold, base_of_cell, number_in, IsThere, IsOn}, TurnAt.thread_at, Quiet.{label_held, freed_held}, Steps.knows_top, Cells.cell_there, Rights.right}
 
 module _ (x : Targets) (code : Code) (s : Shape) (ls : Labels) (wt : IsWellTyped x code ls) (fits : Fits code s) (g : Global Machine) (world : World) (st : State x code s ls g world) (t : ℕ) (on : IsOn g t) (hold : OnHold (g.threads t).own.stage) where
-  abbrev m : Machine
-  m = g.threads t
-
-  abbrev here : Label
-  here = ls.at (g.threads t).at.pc
-
-  abbrev view : View
-  view = view_of st.elements world t (g.threads t)
+  open thread_at st t use {m, here, view}
 
   rn : Runs x code s ls st.elements world st.heap g t (g.threads t)
   rn = (st.threads t).runs on.0 on.1

@@ -1,5 +1,5 @@
 -- Taking a mutex and giving it back keep the invariant: the reference of the base goes to the log, and comes back from it.
-use Rattle.sharc_invariant.proofs.{Imports.{◌≡◌, ◌≢◌, ℕ, ℤ, suc, ◌+◌, ◌^◌, ◌<◌, Bool, true, false, cond, List, [], ◌∷◌, ◌++◌, Option, Some, None, refl, sym, ap, ◌∙◌, subst, inl, inr, ⊎_elim, arith, eqb-true, length-set, cases_eq, nat_tests, fun_ext, length, slice_index, slice_set, nat_lt, is_some, Contains, ◌==◌, THREADS, Cas, Swap, Kind, Read, Write, HeldMutex, IsHeldLog, object_of, with_mutex, without, Code, Cell, Instr, Shape, Fits, words_of, Machine, instr_at, ref, word, object, next, goes, fails, is_held, taken, locked, unlocked, reference_of, step_of, Turn, Global, put, MayTurn, after_turn, one_thread, bounds, put_all, Targets, Field, nothing, field_in, is_mutex, type_of, Closed, Holds, Empty, Refers, Unknown, Label, Labels, Leads, IsFree, empty, fill, IsWellTyped, IsRef, IsVacant, IsBaseFree, HasCell, refs_in, ints_in, without_base_of, unlocked_label, TypedReference, Slot, RegisterOf, ArgumentOf, LogOf, In, CellOf, Shut, Sole, World, WorldInvariant, in_ref, none, place, put2, shift, conc_of, lang_of, Shows, cell_at, logged, noted_by, register_of, set_reg, has_returned, Effect, Silent, Unlocks, made_turn, made_conc, State, View, view_of, FramesStand, GateStands, TopStands, EntryStands, object_of_cell, number_in, refs_at, types_at, size_of_run, Turned, changes_objects, some_of}, Effects.{place_other, shift_ok, lock_ok, unlock_ok}, Frames.{filled, FilledStands, fill_stands, empty_stands}, Quiet.{KeepsSelf, loud_state, heap_now, noted_same, put_self, sizes_kept}, Turns.{asks_turn, room_of}, Own.{is_single, runs, rests, top, gate, fine, begun_before, not_begun}, Plain.{register_plain, is_shut, going, next_runs}, Stores.{index_put, cell_store, stored_words, stored_within}, Seen.{reg_stored, cell_cell}, Cells.cell_there, Filled.{refs_set, view_filled, below_filled, free_shut, inside, inside_world}, Accesses.loaded_words, Waits.tries_again, Logs.{found_in, append_other, append_same, contains_append, append_log, without_other, without_same, contains_without, without_lower, without_log}, Mutexes.{mutex_stored, log_stored, locks_changed, Changes, IsLogged}, Others.loses}
+use Rattle.sharc_invariant.proofs.{Imports.{◌≡◌, ◌≢◌, ℕ, ℤ, suc, ◌+◌, ◌^◌, ◌<◌, Bool, true, false, cond, List, [], ◌∷◌, ◌++◌, Option, Some, None, refl, sym, ap, ◌∙◌, subst, inl, inr, ⊎_elim, arith, eqb-true, length-set, cases_eq, nat_tests, fun_ext, length, slice_index, slice_set, nat_lt, is_some, Contains, ◌==◌, Cas, Swap, Kind, Read, Write, HeldMutex, IsHeldLog, object_of, with_mutex, without, Code, Cell, Instr, Shape, Fits, words_of, Machine, instr_at, ref, word, object, next, goes, fails, is_held, taken, locked, unlocked, reference_of, step_of, Turn, Global, put, MayTurn, after_turn, one_thread, bounds, put_all, Targets, Field, nothing, field_in, is_mutex, type_of, Closed, Holds, Empty, Refers, Unknown, Label, Labels, Leads, IsFree, empty, fill, IsWellTyped, IsRef, IsVacant, IsBaseFree, HasCell, refs_in, ints_in, without_base_of, unlocked_label, TypedReference, Slot, RegisterOf, ArgumentOf, LogOf, In, CellOf, Shut, Sole, World, WorldInvariant, in_ref, none, place, put2, shift, conc_of, lang_of, Shows, cell_at, logged, noted_by, register_of, set_reg, has_returned, Effect, Silent, Unlocks, made_turn, made_conc, State, View, view_of, FramesStand, GateStands, TopStands, EntryStands, object_of_cell, number_in, refs_at, types_at, size_of_run, Turned, changes_objects, some_of}, TurnAt.{turn_at, turn_stands}, Effects.{place_other, shift_ok, lock_ok, unlock_ok}, Frames.{filled, FilledStands, fill_stands, empty_stands}, Quiet.{KeepsSelf, loud_state, heap_now, noted_same, put_self, sizes_kept}, Turns.{asks_turn, room_of}, Own.{is_single, runs, top, gate, fine, begun_before, not_begun}, Plain.{resting, register_plain, is_shut, going, next_runs}, Stores.{index_put, cell_store, stored_words, stored_within}, Seen.{reg_stored, cell_cell}, Cells.cell_there, Filled.{refs_set, view_filled, below_filled, free_shut, inside, inside_world}, Accesses.loaded_words, Waits.tries_again, Logs.{found_in, append_other, append_same, contains_append, append_log, without_other, without_same, contains_without, without_lower, without_log}, Mutexes.{mutex_stored, log_stored, locks_changed, Changes, IsLogged}, Others.loses}
 use Rattle.sharc_code.specs.Machine.{without_base}
 use Rattle.sharc_invariant.specs.Effect.{Locks}
 
@@ -17,38 +17,9 @@ same_object m _ = refl
 
 module _ (x : Targets) (code : Code) (s : Shape) (ls : Labels) (wt : IsWellTyped x code ls) (fits : Fits code s) (g : Global Machine) (world : World) (st : State x code s ls g world) (tr : Turn)
     (may : MayTurn bounds (one_thread code s) g tr) (i : Instr) (is : instr_at code (g.threads tr.thread).at.pc ≡ i) (single : is_single i ≡ true) where
-  abbrev t : ℕ
-  t = tr.thread
-
-  abbrev m : Machine
-  m = g.threads tr.thread
-
-  abbrev here : Label
-  here = ls.at (g.threads tr.thread).at.pc
-
-  abbrev base : ℕ
-  base = (g.threads tr.thread).at.refs
-
-  abbrev after : Global Machine
-  after = after_turn bounds (one_thread code s) g tr
-
-  abbrev view : View
-  view = view_of st.elements world tr.thread (g.threads tr.thread)
-
-  abbrev names : ℕ → ℤ
-  names = (runs x code s ls wt g world st tr.thread may.started may.next.runs i is single).names
-
-  tops : TopStands x tr.thread view base (g.threads tr.thread).at.ints names here
-  tops = top x code s ls wt g world st t may.started may.next.runs i is single
-
-  rest : (g.threads tr.thread).own.stage ≡ Rattle.sharc_code.specs.declared.state.Stage.TheVariants.Rests
-  rest = rests x code s ls wt g world st t may.started may.next.runs i is single
-
-  reads : (q : ℕ) → ref (g.threads tr.thread) q ≡ in_ref world (RegisterOf tr.thread (base + q))
-  reads q = sym (st.sim.regs t (base + q) ∙ register_plain code m rest (base + q))
-
-  low_t : tr.thread < THREADS
-  low_t = st.begins.few t may.started
+  open turn_at st tr use {t, m, here, base, after, view}
+  open turn_stands st tr may use {low_t}
+  open resting x code s ls wt g world st tr.thread (may.started, may.next.runs) i is single use {names, tops, rest, reads}
 
   -- the machine behind the turn, and the world
   abbrev moved : List ℕ → List HeldMutex → Machine
@@ -328,14 +299,7 @@ module _ (x : Targets) (code : Code) (s : Shape) (ls : Labels) (wt : IsWellTyped
 
 module _ (x : Targets) (code : Code) (s : Shape) (ls : Labels) (wt : IsWellTyped x code ls) (fits : Fits code s) (g : Global Machine) (world : World) (st : State x code s ls g world) (tr : Turn)
     (may : MayTurn bounds (one_thread code s) g tr) where
-  abbrev who : ℕ
-  who = tr.thread
-
-  abbrev mm : Machine
-  mm = g.threads tr.thread
-
-  abbrev now : Label
-  now = ls.at (g.threads tr.thread).at.pc
+  open turn_at st tr use {t as who, m as mm, here as now}
 
   pub Lock_keeps : (c : Cell) (site : ℕ) → instr_at code (g.threads tr.thread).at.pc ≡ Instr.Lock c site → Turned x code s ls g world tr
   Lock_keeps c site is =
@@ -346,7 +310,7 @@ module _ (x : Targets) (code : Code) (s : Shape) (ls : Labels) (wt : IsWellTyped
       let rn = runs x code s ls wt g world st who on go i is refl in
       let shut = is_shut x code s ls wt g world st who on go i is refl f.0 in
       let low = st.begins.few who on in
-      let th = cell_there x code s ls wt fits g world st who mm rn.names now (top x code s ls wt g world st who on go i is refl) (reads x code s ls wt fits g world st tr may i is refl) c f.2.0 f.2.1 in
+      let th = cell_there x code s ls wt fits g world st who mm rn.names now (top x code s ls wt g world st who on go i is refl) (resting x code s ls wt g world st who (on, go) i is refl).reads c f.2.0 f.2.1 in
       let o = object_of_cell mm c in
       let j = number_in mm c in
       let k = cell_at s o j in
@@ -384,7 +348,7 @@ module _ (x : Targets) (code : Code) (s : Shape) (ls : Labels) (wt : IsWellTyped
       let rn = runs x code s ls wt g world st who on go i is refl in
       let q : GateStands s world who mm (Holds c) = subst (GateStands s world who mm) f.0 (gate x code s ls wt g world st who on go i is refl) in
       let low = st.begins.few who on in
-      let th = cell_there x code s ls wt fits g world st who mm rn.names now (top x code s ls wt g world st who on go i is refl) (reads x code s ls wt fits g world st tr may i is refl) c f.2.0 f.2.1 in
+      let th = cell_there x code s ls wt fits g world st who mm rn.names now (top x code s ls wt g world st who on go i is refl) (resting x code s ls wt g world st who (on, go) i is refl).reads c f.2.0 f.2.1 in
       let o = object_of_cell mm c in
       let j = number_in mm c in
       let k = cell_at s o j in

@@ -1,22 +1,13 @@
 -- The last turn of a New: the length is written, and the object is there.
-use Rattle.sharc_invariant.proofs.{Imports.{◌≡◌, ℕ, suc, ◌+◌, ◌*◌, ◌^◌, ◌<◌, ◌≤◌, ◌≢◌, ◌⊎◌, true, false, cond, List, None, Some, refl, sym, ap, ◌∙◌, subst, inl, ⊎_elim, arith, cases_eq, eqb-true, eqb-false, get_or-set_same, get_or-set_other, length-set, fun_ext, length, slice_index, slice_set, nat_lt, min, max, ◌==◌, ◌↔◌, is_some, Contains, THREADS, Swap, NewLaws, NewView, told, NewArguments, epoch_of, Kind, Read, Write, NewStage, object_of, Code, Shape, RunsOn, Rests, Makes, Fits as FitsShape, granules, top_word, first_cell, Machine, instr_at, int, elements_of, size_of, new_state, asks_new, goes_on_new, made_machine, turn, Turn, Global, put, MayTurn, after_turn, one_thread, bounds, Instr, put_same, put_other, put_all, GranuleState, Bits, Passed, sum_to, Targets, ObjectType, field_in, is_mutex, type_at, type_of, cells_of, Label, Labels, Refers, fill, Unknown, LessEntry, Fine, IsWellTyped, refs_in, ints_in, In, RegisterOf, CellOf, TypedReference, ObjectState, World, Shut, WorldInvariant, in_ref, make, null, place, put2, Heap, Kept, Built, Live, InBlock, IsListed, restated, Apart, MachineView, IsNobodys, lang_of, conc_of, Shows, shown, set_reg, store, cell_at, count_at, length_at, head_of, head_with, making_of, register_of, staged_of, noted_by, has_returned, fresh_granule, made_turn, KeepsOthers, MakesOf, State, View, Runs, view_of, BuildsAt, HeapStands, Locks, TopStands, FramesStand, EntryStands, refs_at, types_at, block_for, size_of_run, Turned, changes_objects, objects_now, objects_behind, owned, makes_object, is_length, new_behind, made_behind}, Effects.{make_ok, place_same, place_other}, Frames.{Agrees, Always, Low, filled, fill_stands, top_agrees, callers_agree, less_stands}, Filled.below_filled, Listed.restate_ok, Quiet.{heap_now, put_self, sum_up, sizes_kept}, Changes.{KeepsPart, conc_now, changed_state, held_same}, Turns.{asks_turn, room_of}, Own.{runs_at, closed_less, ref_inside}, Seen.reg_stored, Stores.arena, Unlogged.logged_entry, Heaps.{IsApart, apart_stored, block_word, built_size, low_block, built_dead}, Builds.{IsMaking, new_fine, new_begun, new_top, new_shut, new_register, new_noted, own_at, own_off, own_low, own_kept, own_others, own_epochs}, News.{IsGiven, is_given, word_in, new_first, clears_cell, counts_one, moves_top}, Objects.{block_is, stale_sound, found_granules, made_sim, positive, factor_low}, Others.loses, Owned.{owned_is, effect_objects, behind_same}}
+use Rattle.sharc_invariant.proofs.{Imports.{◌≡◌, ℕ, suc, ◌+◌, ◌*◌, ◌^◌, ◌<◌, ◌≤◌, ◌≢◌, true, false, cond, List, None, Some, refl, sym, ap, ◌∙◌, subst, inl, ⊎_elim, arith, cases_eq, eqb-true, eqb-false, get_or-set_same, get_or-set_other, length-set, fun_ext, length, slice_index, slice_set, nat_lt, min, max, ◌==◌, ◌↔◌, is_some, Contains, THREADS, Swap, NewLaws, NewView, told, NewArguments, epoch_of, Kind, Read, Write, NewStage, object_of, Code, Shape, RunsOn, Rests, Makes, Fits as FitsShape, granules, top_word, first_cell, Machine, instr_at, int, elements_of, size_of, new_state, asks_new, goes_on_new, made_machine, turn, Turn, Global, put, MayTurn, after_turn, one_thread, bounds, Instr, put_same, put_other, put_all, GranuleState, Bits, Passed, sum_to, Targets, ObjectType, field_in, is_mutex, type_at, type_of, cells_of, Labels, Refers, fill, Unknown, LessEntry, Fine, IsWellTyped, refs_in, ints_in, In, RegisterOf, CellOf, TypedReference, ObjectState, World, Shut, WorldInvariant, in_ref, make, null, place, put2, Heap, Kept, Built, Live, InBlock, IsListed, restated, Apart, MachineView, IsNobodys, lang_of, conc_of, Shows, shown, set_reg, store, cell_at, count_at, length_at, head_of, head_with, making_of, register_of, staged_of, noted_by, has_returned, fresh_granule, made_turn, KeepsOthers, MakesOf, State, View, Runs, view_of, BuildsAt, HeapStands, Locks, TopStands, FramesStand, EntryStands, types_at, block_for, size_of_run, Turned, changes_objects, objects_now, objects_behind, owned, makes_object, is_length, new_behind, made_behind}, TurnAt.{turn_at, turn_stands}, Effects.{make_ok, place_same, place_other}, Frames.{Agrees, Always, Low, filled, fill_stands, top_agrees, callers_agree, less_stands}, Filled.below_filled, Listed.restate_ok, Quiet.{heap_now, put_self, sum_up, sizes_kept}, Changes.{KeepsPart, conc_now, changed_state, held_same}, Turns.{asks_turn, room_of}, Own.{runs_at, closed_less, ref_inside}, Seen.reg_stored, Stores.arena, Unlogged.logged_entry, Heaps.{IsApart, apart_stored, block_word, built_size, low_block, built_dead}, Builds.{IsMaking, new_fine, new_begun, new_top, new_shut, new_register, new_noted, own_at, own_off, own_low, own_kept, own_others, own_epochs}, News.{IsGiven, is_given, word_in, new_first, clears_cell, counts_one, moves_top}, Objects.{block_is, stale_sound, found_granules, made_sim, positive, factor_low}, Others.loses, Owned.{owned_is, effect_objects, behind_same}}
 use Rattle.sharc_heap.specs.Asks.{step_of, length_word}
 
 module _ (x : Targets) (code : Code) (s : Shape) (ls : Labels) (wt : IsWellTyped x code ls) (fits : FitsShape code s) (laws : NewLaws) (g : Global Machine) (world : World) (st : State x code s ls g world) (tr : Turn)
     (may : MayTurn bounds (one_thread code s) g tr) (r count cells site : ℕ) (is : instr_at code (g.threads tr.thread).at.pc ≡ Instr.New r count cells site) (making : IsMaking (g.threads tr.thread).own.stage)
     (v : NewView) (at_v : (g.threads tr.thread).own.stage ≡ Makes v) (ea : v.arguments ≡ (new_state s (g.threads tr.thread) (elements_of (int (g.threads tr.thread) count)) cells).arguments)
     (b : ℕ) (at_b : v.stage ≡ NewStage.Length b) (h : BuildsAt g.words st.heap tr.thread v (NewStage.Length b)) where
-  abbrev t : ℕ
-  t = tr.thread
-
-  abbrev m : Machine
-  m = g.threads tr.thread
-
-  abbrev here : Label
-  here = ls.at (g.threads tr.thread).at.pc
-
-  abbrev base : ℕ
-  base = (g.threads tr.thread).at.refs
+  open turn_at st tr use {t, m, here, base, view, refs}
+  open turn_stands st tr may use {low_t as on_t, rn}
 
   abbrev k : ℕ
   k = (g.threads tr.thread).at.refs + r
@@ -32,9 +23,6 @@ module _ (x : Targets) (code : Code) (s : Shape) (ls : Labels) (wt : IsWellTyped
 
   f : Fine x code ls (g.threads tr.thread).at.pc here (Instr.New r count cells site)
   f = new_fine x code s ls wt fits g world st tr may r count cells site is making
-
-  on_t : tr.thread < THREADS
-  on_t = st.begins.few tr.thread may.started
 
   built : st.heap.state b ≡ Built tr.thread
   built = h.1
@@ -132,15 +120,6 @@ module _ (x : Targets) (code : Code) (s : Shape) (ls : Labels) (wt : IsWellTyped
   off = own_off x code s ls wt fits g world st tr may r count cells site is making b at E built inside elements_low done.1
 
   -- ---- the world
-  abbrev view : View
-  view = view_of st.elements world tr.thread (g.threads tr.thread)
-
-  abbrev refs : ℕ → ℕ
-  refs = refs_at view base
-
-  abbrev rn : Runs x code s ls st.elements world st.heap g tr.thread (g.threads tr.thread)
-  rn = (st.threads tr.thread).runs may.started may.next.runs
-
   tp : TopStands x tr.thread view (g.threads tr.thread).at.refs (g.threads tr.thread).at.ints rn.names here
   tp = new_top x code s ls wt fits g world st tr may r count cells site is making
 

@@ -1,40 +1,19 @@
 -- A reference goes from one register to another.
-use Rattle.sharc_invariant.proofs.{Imports.{◌≡◌, ℕ, ℤ, zero, suc, ◌+◌, ◌<◌, ◌⊎◌, ◌≢◌, true, false, cond, refl, sym, ap, ◌∙◌, subst, inl, inr, ⊎_elim, arith, nat_tests, length-set, set-set, set-get_or, fun_ext, length, slice_index, slice_set, ◌==◌, test_of, Code, Instr, Shape, Fits, count_word, Machine, Local, instr_at, goes, set_ref, move_ref, test, ref, turn, Turn, Global, put, MayTurn, after_turn, one_thread, bounds, put_same, put_other, Targets, nothing, Mentions, Empty, Refers, Unknown, Closed, Label, Labels, Leads, EntryMentions, fill, empty, IsFree, IsWellTyped, IsRef, IsVacant, refs_in, ints_in, moved_copy, TypedReference, RegisterOf, ArgumentOf, In, Slot, CellOf, World, Shut, Sole, in_ref, none, place, put2, shift, lang_of, conc_of, Shows, register_of, set_reg, Silently, made_turn, State, View, view_of, EntryStands, TopStands, FramesStand, refs_at, types_at, size_of_run, Turned}, Effects.{place_other, shift_ok}, Frames.{filled, FilledStands, fill_stands, empty_stands, type_kept, put_base}, Quiet.{KeepsOwn, heap_now, quiet_state, noted_same, conc_plain}, Turns.{local_turn, asks_turn, room_of}, Own.{is_single, runs, rests, top, fine, not_begun}, Plain.{register_plain, is_shut, next_runs, same_words, keeps_own}, Seen.reg_stored, Filled.{refs_set, view_filled, below_filled, free_shut, inside, inside_world}, CheckTurns.put_put, Accesses.loaded_words, Scoped.scoped_empty, Steps.{leads as stays}, Others.loses}
+use Rattle.sharc_invariant.proofs.{Imports.{◌≡◌, ℕ, zero, suc, ◌+◌, ◌<◌, ◌⊎◌, ◌≢◌, true, false, cond, refl, sym, ap, ◌∙◌, subst, inl, inr, ⊎_elim, arith, nat_tests, length-set, set-set, set-get_or, fun_ext, length, slice_index, slice_set, ◌==◌, test_of, Code, Instr, Shape, Fits, count_word, Machine, Local, instr_at, goes, set_ref, move_ref, test, ref, turn, Turn, Global, put, MayTurn, after_turn, one_thread, bounds, put_same, put_other, Targets, nothing, Mentions, Empty, Refers, Unknown, Closed, Label, Labels, Leads, EntryMentions, fill, empty, IsFree, IsWellTyped, IsRef, IsVacant, refs_in, ints_in, moved_copy, TypedReference, RegisterOf, ArgumentOf, In, Slot, CellOf, World, Shut, Sole, in_ref, none, place, put2, shift, lang_of, conc_of, Shows, register_of, set_reg, Silently, made_turn, State, view_of, EntryStands, TopStands, FramesStand, refs_at, types_at, size_of_run, Turned}, TurnAt.turn_at, Effects.{place_other, shift_ok}, Frames.{filled, FilledStands, fill_stands, empty_stands, type_kept, put_base}, Quiet.{KeepsOwn, heap_now, quiet_state, noted_same, conc_plain}, Turns.{local_turn, asks_turn, room_of}, Own.{is_single, runs, rests, fine, not_begun}, Plain.{resting, register_plain, is_shut, next_runs, same_words, keeps_own}, Seen.reg_stored, Filled.{refs_set, view_filled, below_filled, free_shut, inside, inside_world}, CheckTurns.put_put, Accesses.loaded_words, Scoped.scoped_empty, Steps.{leads as stays}, Others.loses}
 
 module _ (x : Targets) (code : Code) (s : Shape) (ls : Labels) (wt : IsWellTyped x code ls) (fits : Fits code s) (g : Global Machine) (world : World) (st : State x code s ls g world) (tr : Turn)
     (may : MayTurn bounds (one_thread code s) g tr) (i : Instr) (is : instr_at code (g.threads tr.thread).at.pc ≡ i) (single : is_single i ≡ true) (r from : ℕ) (gt : (ls.at (g.threads tr.thread).at.pc).gate ≡ Closed)
     (vacant : IsVacant code (ls.at (g.threads tr.thread).at.pc) r) (isf : IsRef code (ls.at (g.threads tr.thread).at.pc) from) (apart : r ≢ from) (free : IsFree (ls.at (g.threads tr.thread).at.pc) from)
     (self : EntryMentions ((ls.at (g.threads tr.thread).at.pc).env from) from → ⊥)
     (leads : Leads ls ((g.threads tr.thread).at.pc + 1) (fill (empty (ls.at (g.threads tr.thread).at.pc) from) r ((ls.at (g.threads tr.thread).at.pc).env from) (moved_copy (ls.at (g.threads tr.thread).at.pc) r from) ((ls.at (g.threads tr.thread).at.pc).known from))) where
-  abbrev t : ℕ
-  t = tr.thread
-
-  abbrev m : Machine
-  m = g.threads tr.thread
-
-  abbrev here : Label
-  here = ls.at (g.threads tr.thread).at.pc
-
-  abbrev base : ℕ
-  base = (g.threads tr.thread).at.refs
+  open turn_at st tr use {t, m, here, base, after, view}
+  open resting x code s ls wt g world st tr.thread (may.started, may.next.runs) i is single use {names, tops}
 
   abbrev kf : ℕ
   kf = (g.threads tr.thread).at.refs + from
 
   abbrev kr : ℕ
   kr = (g.threads tr.thread).at.refs + r
-
-  abbrev after : Global Machine
-  after = after_turn bounds (one_thread code s) g tr
-
-  abbrev view : View
-  view = view_of st.elements world tr.thread (g.threads tr.thread)
-
-  abbrev names : ℕ → ℤ
-  names = (runs x code s ls wt g world st tr.thread may.started may.next.runs i is single).names
-
-  tops : TopStands x tr.thread view base (g.threads tr.thread).at.ints names here
-  tops = top x code s ls wt g world st t may.started may.next.runs i is single
 
   reads : ref (g.threads tr.thread) from ≡ in_ref world (RegisterOf tr.thread kf)
   reads = sym (st.sim.regs t kf ∙ register_plain code m (rests x code s ls wt g world st t may.started may.next.runs i is single) kf)
@@ -150,8 +129,7 @@ move_same m r = ap (λ refs. record m { refs = refs }) (set-set m.refs (m.at.ref
 
 module _ (x : Targets) (code : Code) (s : Shape) (ls : Labels) (wt : IsWellTyped x code ls) (fits : Fits code s) (g : Global Machine) (world : World) (st : State x code s ls g world) (tr : Turn)
     (may : MayTurn bounds (one_thread code s) g tr) where
-  abbrev mm : Machine
-  mm = g.threads tr.thread
+  open turn_at st tr use {m as mm}
 
   pub Move_reference_keeps : (r from : ℕ) → instr_at code (g.threads tr.thread).at.pc ≡ Instr.MoveReference r from → Turned x code s ls g world tr
   Move_reference_keeps r from is =

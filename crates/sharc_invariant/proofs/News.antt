@@ -1,5 +1,5 @@
 -- The turns of a New before its last: from the thread's own list, or from the top.
-use Rattle.sharc_invariant.proofs.{Imports.{◌≡◌, ℕ, zero, suc, ◌+◌, ◌*◌, ◌^◌, ◌<◌, ◌≤◌, ◌≢◌, Bool, true, false, cond, List, None, Some, refl, sym, ap, ◌∙◌, subst, ⊎_elim, arith, ltb-true, cases_eq, cases_lt, eqb-true, eqb-false, nat_tests, set-get_or, get_or_past, length-set, pow_mono, fun_ext, length, slice_index, slice_set, nat_lt, nat_le, nat_eq, ◌==◌, THREADS, Load, Swap, Cas, NewLaws, block_of, NewView, told, turn_of, turn_of_stage, next_stage, next_head, try_from, after_cell, word_number, granule_number, top_number, NewArguments, Do, NewStage, Code, Shape, RunsOn, Stopped, Trap, Stage, Rests, Makes, Fits as FitsShape, granules, granule_at, top_word, first_cell, Machine, instr_at, int, elements_of, all_cells, size_of, new_state, new, asks_new, after_new, goes_on_new, at_stage, trapped, turn, Turn, Global, put, MayTurn, after_turn, one_thread, bounds, Instr, put_same, put_other, put_all, Targets, Labels, IsWellTyped, World, put2, Heap, Kept, Built, Live, Listed, InBlock, popped, carved, conc_of, Shows, head_of, head_with, making_of, length_at, made_turn, KeepsOthers, State, BuildsAt, HeapStands, Turned, ne_eq, eq_refl, not_less as not_lt, le_true}, Listed.{pop_ok, carve_ok, store_ok, below_blocks, put2_same, put2_other}, Quiet.heap_now, Changes.KeepsLower, Turns.{asks_turn, room_of, unseen}, Stores.{index_put, arena}, Heaps.{size_power, same_power, apart_stored, built_size, listed_size, low_block}, Builds.{IsMaking, builds_state, own_state, own_off, own_at}, Others.loses, BitTurns.{in_low as granule_here}, Empties.{none_below as nothing}, Plain.others_heap}
+use Rattle.sharc_invariant.proofs.{Imports.{◌≡◌, ℕ, zero, suc, ◌+◌, ◌*◌, ◌^◌, ◌<◌, ◌≤◌, ◌≢◌, Bool, true, false, cond, List, None, Some, refl, sym, ap, ◌∙◌, subst, ⊎_elim, arith, ltb-true, cases_eq, cases_lt, eqb-true, eqb-false, nat_tests, set-get_or, get_or_past, length-set, pow_mono, fun_ext, length, slice_index, slice_set, nat_lt, nat_le, nat_eq, ◌==◌, THREADS, Load, Swap, Cas, NewLaws, block_of, NewView, told, turn_of, turn_of_stage, next_stage, next_head, try_from, after_cell, word_number, granule_number, top_number, NewArguments, Do, NewStage, Code, Shape, RunsOn, Stopped, Trap, Stage, Rests, Makes, Fits as FitsShape, granules, granule_at, top_word, first_cell, Machine, instr_at, int, elements_of, all_cells, size_of, new_state, new, asks_new, after_new, goes_on_new, at_stage, trapped, turn, Turn, Global, put, MayTurn, one_thread, bounds, Instr, put_same, put_other, put_all, Targets, Labels, IsWellTyped, World, put2, Heap, Kept, Built, Live, Listed, InBlock, popped, carved, conc_of, Shows, head_of, head_with, making_of, length_at, made_turn, KeepsOthers, State, BuildsAt, HeapStands, Turned, ne_eq, eq_refl, not_less as not_lt, le_true}, TurnAt.{turn_at, turn_stands}, Listed.{pop_ok, carve_ok, store_ok, below_blocks, put2_same, put2_other}, Quiet.heap_now, Changes.KeepsLower, Turns.{asks_turn, room_of, unseen}, Stores.{index_put, arena}, Heaps.{size_power, same_power, apart_stored, built_size, listed_size, low_block}, Builds.{IsMaking, builds_state, own_state, own_off, own_at}, Others.loses, BitTurns.{in_low as granule_here}, Empties.{none_below as nothing}, Plain.others_heap}
 use Rattle.sharc_tree.specs.declared.trap.Trap.TheVariants as traps
 use Rattle.sharc_heap.specs.Asks.{step_of, cell_word, count_word, length_word}
 
@@ -46,23 +46,14 @@ granule_in a n lt = let e : nat_lt n a.end ≡ true = grind (arith, nat_tests) i
 
 module _ (x : Targets) (code : Code) (s : Shape) (ls : Labels) (wt : IsWellTyped x code ls) (fits : FitsShape code s) (laws : NewLaws) (g : Global Machine) (world : World) (st : State x code s ls g world) (tr : Turn)
     (may : MayTurn bounds (one_thread code s) g tr) (r count cells site : ℕ) (is : instr_at code (g.threads tr.thread).at.pc ≡ Instr.New r count cells site) (making : IsMaking (g.threads tr.thread).own.stage) where
-  abbrev t : ℕ
-  t = tr.thread
-
-  abbrev m : Machine
-  m = g.threads tr.thread
+  open turn_at st tr use {t, m, after}
+  open turn_stands st tr may use {low_t as on_t}
 
   abbrev E : ℕ
   E = elements_of (int (g.threads tr.thread) count)
 
   abbrev a0 : NewArguments
   a0 = (new_state s (g.threads tr.thread) E cells).arguments
-
-  abbrev after : Global Machine
-  after = after_turn bounds (one_thread code s) g tr
-
-  on_t : tr.thread < THREADS
-  on_t = st.begins.few tr.thread may.started
 
   some_cells : (e c : ℕ) → 1 ≤ all_cells e c
   some_cells e c = omega arith

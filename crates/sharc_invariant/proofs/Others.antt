@@ -1,5 +1,5 @@
 -- A thread that does not make the turn stays as it stood.
-use Rattle.sharc_invariant.proofs.Imports.{◌≡◌, ℕ, ◌+◌, ◌*◌, ◌<◌, ◌≤◌, ◌≢◌, List, Option, Some, None, refl, sym, ap, ◌∙◌, subst, arith, slice_index, NewView, NewArguments, NewStage, Code, Instr, Clear, New, Free, Spawn, Start, Register, Shape, Stage, Rests, Looks, Clears, Makes, Empties, Lowers, FreeLooks, FreeClears, Uncounts, Links, Names, Hands, Begins, Enters, Withdraws, WithdrawsFrom, Leaves, Wakes, function_word, argument_word, first_cell, Machine, ref, pointer_cell, layout_at, GranuleState, Gate, Closed, Checked, Holds, Loaded, HoldsLoaded, SoleGate, RegisterOf, CellOf as Cell, Sole, Shut, IsLoaded, World, in_ref, Heap, Built, KeepsOthers, OnlyLoses, StopStands, GateStands, base_of_cell, number_in, StageStands, OnClear, OnNew, OnFree, OnSpawn, OnStart, AreCleared, Swapping, Emptying, Reserves, SpawnsNow, BuildsAt, all_pointers, granules_freed}
+use Rattle.sharc_invariant.proofs.Imports.{◌≡◌, ℕ, ◌+◌, ◌*◌, ◌<◌, ◌≤◌, ◌≢◌, List, Option, Some, None, refl, sym, ap, ◌∙◌, subst, arith, slice_index, NewView, NewArguments, NewStage, Code, Instr, Clear, New, Free, Spawn, Start, Register, Shape, Stage, Rests, Looks, Clears, Makes, Empties, Lowers, FreeLooks, FreeClears, Uncounts, Links, Names, Hands, Begins, Enters, function_word, argument_word, first_cell, Machine, ref, pointer_cell, layout_at, GranuleState, Gate, Holds, Loaded, HoldsLoaded, RegisterOf, CellOf as Cell, Sole, Shut, IsLoaded, World, in_ref, Heap, Built, KeepsOthers, OnlyLoses, StopStands, GateStands, base_of_cell, number_in, StageStands, OnClear, OnNew, OnFree, OnSpawn, OnStart, AreCleared, Swapping, Emptying, Reserves, SpawnsNow, BuildsAt, all_pointers, granules_freed}
 pub use Rattle.sharc_invariant.specs.State.{OnHold}
 
 -- a granule that is as it was loses nothing

@@ -1,5 +1,5 @@
 -- The thread that makes the turn: where it stands, and where it comes to stand.
-use Rattle.sharc_invariant.proofs.{Imports.{◌≡◌, ℕ, ℤ, zero, suc, ◌+◌, ◌*◌, ◌<◌, ◌≤◌, max, Bool, true, false, List, [], ◌∷◌, Option, Some, None, refl, sym, ap, ◌∙◌, subst, ⊎_elim, arith, mul-le-mul_left, mul_comm, length, slice_index_or, fold, ◌==◌, FRAMES, Code, Function, Instr, Register, Shape, Frame, Stage, Rests, Looks, Clears, Makes, Names, Hands, Begins, Enters, Withdraws, WithdrawsFrom, Leaves, Wakes, Machine, instr_at, function_of, no_function, most_ints, most_refs, may_go, Global, Targets, Gate, Closed, Label, Labels, LessGate, Fine, IsWellTyped, refs_in, ints_in, World, Heap, State, View, BelowStands, FramesStand, frame_at, StageStands, OnClear, OnNew, OnFree, OnSpawn, OnStart, OnExit, OnSignal, Runs, GateStands, TopStands, label_now, view_of, ne_eq, suc_times}, Quiet.label_held, Others.OnHold}
+use Rattle.sharc_invariant.proofs.{Imports.{◌≡◌, ℕ, ℤ, zero, suc, ◌+◌, ◌*◌, ◌<◌, ◌≤◌, max, Bool, true, false, List, [], ◌∷◌, Option, Some, None, refl, sym, ap, ◌∙◌, subst, ⊎_elim, arith, mul-le-mul_left, mul_comm, length, slice_index_or, fold, ◌==◌, FRAMES, Code, Function, Instr, Shape, Frame, Stage, Rests, Machine, instr_at, function_of, no_function, most_ints, most_refs, may_go, Global, Targets, Gate, Closed, Label, Labels, LessGate, Fine, IsWellTyped, refs_in, ints_in, World, Heap, State, View, BelowStands, FramesStand, frame_at, StageStands, Runs, GateStands, TopStands, label_now, view_of, ne_eq, suc_times}, TurnAt.thread_at, Quiet.label_held, Others.OnHold}
 
 -- ---- instructions of one turn
 abbrev pub is_single : Instr → Bool
@@ -12,48 +12,16 @@ is_single Instr.Exit = false
 is_single (Instr.CondSignal c site) = false
 is_single _ = true
 
-no_clear : (P : ℕ → ℕ → Type 0) (i : Instr) → is_single i ≡ true → OnClear P i → ⊥
-no_clear P (Instr.Clear r n) e h = absurd (cc)
-no_clear P _ e h = h
-
-no_new : (P : ℕ → ℕ → ℕ → Type 0) (i : Instr) → is_single i ≡ true → OnNew P i → ⊥
-no_new P (Instr.New r c n site) e h = absurd (cc)
-no_new P _ e h = h
-
-no_free : (P : ℕ → ℕ → Type 0) (i : Instr) → is_single i ≡ true → OnFree P i → ⊥
-no_free P (Instr.Free r l site) e h = absurd (cc)
-no_free P _ e h = h
-
-no_spawn : (P : ℕ → Register → Type 0) (i : Instr) → is_single i ≡ true → OnSpawn P i → ⊥
-no_spawn P (Instr.Spawn r f from site) e h = absurd (cc)
-no_spawn P _ e h = h
-
-no_start : (P : Type 0) (i : Instr) → is_single i ≡ true → OnStart P i → ⊥
-no_start P (Instr.Start site) e h = absurd (cc)
-no_start P _ e h = h
-
-no_exit : (P : Type 0) (i : Instr) → is_single i ≡ true → OnExit P i → ⊥
-no_exit P Instr.Exit e h = absurd (cc)
-no_exit P _ e h = h
-
-no_signal : (i : Instr) → is_single i ≡ true → OnSignal i → ⊥
-no_signal (Instr.CondSignal c site) e h = absurd (cc)
-no_signal _ e h = h
-
 pub single_rests : (code : Code) (s : Shape) (elements : ℕ → ℕ) (w : World) (heap : Heap) (words : List ℕ) (t : ℕ) (m : Machine) (i : Instr) (stage : Stage) → is_single i ≡ true → StageStands code s elements w heap words t m i stage → stage ≡ Rests
 single_rests code s elements w heap words t m i Rests e h = refl
-single_rests code s elements w heap words t m i (Looks a b) e h = absurd (no_clear _ i e h)
-single_rests code s elements w heap words t m i (Clears a b c) e h = absurd (no_clear _ i e h)
-single_rests code s elements w heap words t m i (Makes v) e h = absurd (no_new _ i e h)
-single_rests code s elements w heap words t m i (Names n) e h = absurd (no_spawn _ i e h)
-single_rests code s elements w heap words t m i (Hands n) e h = absurd (no_spawn _ i e h)
-single_rests code s elements w heap words t m i (Begins n) e h = absurd (no_spawn _ i e h)
-single_rests code s elements w heap words t m i (Enters f) e h = absurd (no_start _ i e h)
-single_rests code s elements w heap words t m i (Withdraws a) e h = absurd (no_exit _ i e h)
-single_rests code s elements w heap words t m i (WithdrawsFrom a b) e h = absurd (no_exit _ i e h)
-single_rests code s elements w heap words t m i Leaves e h = absurd (no_exit _ i e h)
-single_rests code s elements w heap words t m i (Wakes a) e h = absurd (no_signal i e h)
-single_rests code s elements w heap words t m i _ e h = absurd (no_free _ i e h)
+single_rests code s elements w heap words t m (Instr.Clear r n) stage e h = absurd (cc)
+single_rests code s elements w heap words t m (Instr.New r c n site) stage e h = absurd (cc)
+single_rests code s elements w heap words t m (Instr.Free r l site) stage e h = absurd (cc)
+single_rests code s elements w heap words t m (Instr.Spawn r f from site) stage e h = absurd (cc)
+single_rests code s elements w heap words t m (Instr.Start site) stage e h = absurd (cc)
+single_rests code s elements w heap words t m Instr.Exit stage e h = absurd (cc)
+single_rests code s elements w heap words t m (Instr.CondSignal c site) stage e h = absurd (cc)
+single_rests code s elements w heap words t m _ stage e h = absurd h
 
 -- ---- registers are within their banks
 most_ge : (f : Function → ℕ) (a : ℕ) (fs : List Function) → a ≤ fold (λ m g. max m (f g)) a fs
@@ -138,11 +106,7 @@ begun_in x code ls wt pc no_start no_exit n e = ne_eq n 0 (λ z. ⊎_elim
 
 module _ (x : Targets) (code : Code) (s : Shape) (ls : Labels) (wt : IsWellTyped x code ls) (g : Global Machine) (world : World) (st : State x code s ls g world) (t : ℕ) (on : g.started t ≡ true) (go : may_go (g.threads t).at.state ≡ true)
     (i : Instr) (is : instr_at code (g.threads t).at.pc ≡ i) (single : is_single i ≡ true) where
-  abbrev pub m : Machine
-  m = g.threads t
-
-  abbrev pub here : Label
-  here = ls.at (g.threads t).at.pc
+  open thread_at st t use {m, here}
 
   pub runs : Runs x code s ls st.elements world st.heap g t (g.threads t)
   runs = (st.threads t).runs on go

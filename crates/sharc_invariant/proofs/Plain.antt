@@ -1,5 +1,5 @@
 -- Turns that change no word: registers alone, tests and jumps.
-use Rattle.sharc_invariant.proofs.{Imports.{◌≡◌, ℕ, ℤ, pos, suc, ◌+◌, ◌<◌, ◌≤◌, true, false, cond, List, Option, refl, sym, ap, ◌∙◌, subst, arith, get_or-set_same, get_or-set_other, length-set, fun_ext, length, slice_index, Code, Instr, Shape, Stop, RunsOn, Tries, Stopped, Ended, Rests, Machine, instr_at, goes, goes_to, set_int, stopped, may_go, counted, Global, put, put_same, put_other, put_all, Targets, Closed, Number, Label, Labels, Less, LessGate, Leads, set_number, IsWellTyped, IsInt, World, Shut, Heap, Kept, MachineView, conc_of, Shows, register_of, is_ended, made_turn, KeepsOthers, StopStands, State, View, view_of, vals_of, NumberStands, TopStands, FramesStand, GateStands, Runs, refs_at, types_at, Own as Own', ◌==◌, argument_of, Built, InBlock, ◌≢◌}, Frames.{less_stands, frames_agree, frames_same}, Quiet.{KeepsOwn, KeepsWords, KeepsWorld, heap_now, quiet_state, freed_held, noted_same, conc_plain, sizes_kept}, Others.{stop_at, OnHold, loses}, Own.{is_single, closed_less, runs_at, int_inside, runs, rests, gate, not_begun, begun_before}}
+use Rattle.sharc_invariant.proofs.{Imports.{◌≡◌, ℕ, ℤ, pos, suc, ◌+◌, ◌<◌, ◌≤◌, true, false, cond, List, Option, refl, sym, ap, ◌∙◌, subst, arith, get_or-set_same, get_or-set_other, length-set, fun_ext, length, slice_index, Code, Instr, Shape, Stop, RunsOn, Tries, Stopped, Ended, Rests, Machine, instr_at, goes, goes_to, set_int, stopped, may_go, counted, Global, put, put_same, put_other, put_all, Targets, Closed, Number, Label, Labels, Less, LessGate, Leads, set_number, IsWellTyped, IsInt, World, Shut, Heap, Kept, MachineView, conc_of, Shows, register_of, is_ended, made_turn, KeepsOthers, StopStands, State, View, view_of, vals_of, NumberStands, TopStands, FramesStand, GateStands, Runs, refs_at, types_at, Own as Own', ◌==◌, argument_of, Built, InBlock, ◌≢◌, in_ref, RegisterOf, IsOn}, TurnAt.thread_at, Frames.{less_stands, frames_agree, frames_same}, Quiet.{KeepsOwn, KeepsWords, KeepsWorld, heap_now, quiet_state, freed_held, noted_same, conc_plain, sizes_kept}, Others.{stop_at, OnHold, loses}, Own.{top, is_single, closed_less, runs_at, int_inside, runs, rests, gate, not_begun, begun_before}}
 
 -- ---- registers as they are seen
 pub register_plain : (code : Code) (m : Machine) → m.own.stage ≡ Rests → (i : ℕ) → register_of code m i ≡ slice_index m.refs i
@@ -43,32 +43,31 @@ same_world w = record { obj = refl; mutex = refl; args = λ u. refl }
 -- registers and arguments that read as before
 pub sim_same : (x : Targets) (s : Shape) (cells elements : ℕ → ℕ) (c : MachineView) (w : World) (regs : ℕ → ℕ → ℕ) (args : ℕ → ℕ) → ((u i : ℕ) → c.regs u i ≡ regs u i) → ((u : ℕ) → c.args u ≡ args u)
     → Shows x s cells elements c w → Shows x s cells elements (record c { regs = regs; args = args }) w
-sim_same x s cells elements c w regs args e a h = record {
-  regs = λ u i. h.regs u i ∙ e u i;
-  args = λ u. h.args u ∙ a u;
-  logs = h.logs;
-  staged = h.staged;
-  pointers = h.pointers;
-  others = h.others;
-  integers = h.integers;
-  counts = h.counts;
-  lengths = h.lengths;
-  mutexes = h.mutexes;
-  shadows = h.shadows;
-  stale = h.stale;
-}
+sim_same x s cells elements c w regs args e a h = subst (λ c. Shows x s cells elements c w) (λ i. record c { regs = fun_ext (λ u. fun_ext (e u)) i; args = fun_ext a i }) h
 
 -- what a turn may keep of what a thread has for itself
 abbrev pub with_own : Own' → Own' → Own'
 with_own o p = record o { number = p.number; held = p.held; heads = p.heads; table = p.table; stage = p.stage }
 
+-- a thread in the middle of nothing: by these names of numbers its registers stand, and it reads what they hold
+pub record Resting (x : Targets) (world : World) (t : ℕ) (v : View) (m : Machine) (l : Label) : Type 0 where
+  pub names : ℕ → ℤ
+  pub tops : TopStands x t v m.at.refs m.at.ints names l
+  pub rest : m.own.stage ≡ Rests
+  pub reads : (r : ℕ) → Rattle.sharc_code.specs.Machine.ref m r ≡ in_ref world (RegisterOf t (m.at.refs + r))
+
+abbrev pub resting : (x : Targets) (code : Code) (s : Shape) (ls : Labels) (wt : IsWellTyped x code ls) (g : Global Machine) (world : World) (st : State x code s ls g world) (t : ℕ) (on : IsOn g t) (i : Instr) → instr_at code (g.threads t).at.pc ≡ i → is_single i ≡ true
+    → Resting x world t (view_of st.elements world t (g.threads t)) (g.threads t) (ls.at (g.threads t).at.pc)
+resting x code s ls wt g world st t on i is single = record {
+  names = (runs x code s ls wt g world st t on.0 on.1 i is single).names;
+  tops = top x code s ls wt g world st t on.0 on.1 i is single;
+  rest = rests x code s ls wt g world st t on.0 on.1 i is single;
+  reads = λ r. sym (st.sim.regs t ((g.threads t).at.refs + r) ∙ register_plain code (g.threads t) (rests x code s ls wt g world st t on.0 on.1 i is single) ((g.threads t).at.refs + r));
+}
+
 module _ (x : Targets) (code : Code) (s : Shape) (ls : Labels) (wt : IsWellTyped x code ls) (g : Global Machine) (world : World) (st : State x code s ls g world) (t : ℕ) (on : g.started t ≡ true) (go : may_go (g.threads t).at.state ≡ true)
     (i : Instr) (is : instr_at code (g.threads t).at.pc ≡ i) (single : is_single i ≡ true) where
-  abbrev m : Machine
-  m = g.threads t
-
-  abbrev here : Label
-  here = ls.at (g.threads t).at.pc
+  open thread_at st t use {m, here, view}
 
   -- the thread's references, world and words stay
   pub plain_state : (m' : Machine) → KeepsOwn (g.threads t) m' → m'.own.table ≡ (g.threads t).own.table → m'.refs ≡ (g.threads t).refs
@@ -95,9 +94,6 @@ module _ (x : Targets) (code : Code) (s : Shape) (ls : Labels) (wt : IsWellTyped
       (subst (FramesStand x code ls t (view_of st.elements w' t m') m') (sym (less.function ∙ fn)) below')
       (subst (GateStands s w' t m') (sym (closed_less new (subst (λ y. LessGate y new) gt less.gate))) shut)
       (λ q. room' (less.room q))
-
-  abbrev pub view : View
-  view = view_of st.elements world t (g.threads t)
 
   below_here : FramesStand x code ls t view (g.threads t) here.function
   below_here = (runs x code s ls wt g world st t on go i is single).below

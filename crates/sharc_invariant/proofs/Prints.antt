@@ -1,19 +1,9 @@
 -- A print keeps the invariant: the count of prints is nobody's word.
-use Rattle.sharc_invariant.proofs.{Imports.{◌≡◌, ℕ, ◌+◌, ◌%◌, ◌^◌, ◌<◌, refl, sym, ap, ◌∙◌, subst, arith, length-set, fun_ext, length, slice_index, slice_set, Add, epoch_of, Code, Shape, Fits, first_cell, prints_word, Machine, instr_at, int, printed, step_of, Turn, Global, put, MayTurn, after_turn, one_thread, bounds, Instr, put_other, put_all, Targets, Label, Labels, IsWellTyped, World, Kept, conc_of, Shows, register_of, made_turn, State, View, view_of, Turned}, Listed.store_ok, Quiet.{KeepsOwn, KeepsWords, heap_now, quiet_state, noted_same, conc_plain, put_self}, Turns.{asks_turn, room_of, unseen}, Own.{runs, rests, top, fine, not_begun}, Plain.{register_plain, is_shut, next_runs, keeps_own, others_stay}, Stores.index_put, Heaps.low_stored, Frames.frames_same}
+use Rattle.sharc_invariant.proofs.{Imports.{◌≡◌, ℕ, ◌+◌, ◌%◌, ◌^◌, ◌<◌, refl, sym, ap, ◌∙◌, subst, arith, length-set, fun_ext, slice_index, slice_set, Add, epoch_of, Code, Shape, Fits, first_cell, prints_word, Machine, instr_at, int, printed, step_of, Turn, Global, put, MayTurn, after_turn, one_thread, bounds, Instr, put_other, put_all, Targets, Labels, IsWellTyped, World, Kept, conc_of, Shows, register_of, made_turn, State, Turned}, TurnAt.turn_at, Listed.store_ok, Quiet.{KeepsOwn, KeepsWords, heap_now, quiet_state, noted_same, conc_plain, put_self}, Turns.{asks_turn, room_of, unseen}, Own.{runs, rests, top, fine, not_begun}, Plain.{register_plain, is_shut, next_runs, keeps_own, others_stay}, Stores.index_put, Heaps.low_stored, Frames.frames_same}
 
 module _ (x : Targets) (code : Code) (s : Shape) (ls : Labels) (wt : IsWellTyped x code ls) (fits : Fits code s) (g : Global Machine) (world : World) (st : State x code s ls g world) (tr : Turn)
     (may : MayTurn bounds (one_thread code s) g tr) where
-  abbrev t : ℕ
-  t = tr.thread
-
-  abbrev m : Machine
-  m = g.threads tr.thread
-
-  abbrev here : Label
-  here = ls.at (g.threads tr.thread).at.pc
-
-  abbrev view : View
-  view = view_of st.elements world tr.thread (g.threads tr.thread)
+  open turn_at st tr use {t, m, here, view}
 
   pub Print_keeps : (r site : ℕ) → instr_at code (g.threads tr.thread).at.pc ≡ Instr.Print r site → Turned x code s ls g world tr
   Print_keeps r site is =

@@ -1,5 +1,5 @@
 -- A return keeps the invariant: what the callee gives back comes to stand in the caller's frame.
-use Rattle.sharc_invariant.proofs.{Imports.{◌≡◌, ℕ, ℤ, zero, suc, ◌+◌, ◌-◌, ◌<◌, ◌≤◌, ◌≢◌, true, false, cond, ◌&&◌, not, List, [], ◌∷◌, Some, None, refl, sym, ap, ◌∙◌, subst, ⊎_elim, arith, cases_eq, cases_order, nat_tests, length, nat_lt, slice_index_or, ◌==◌, FRAMES, Code, Instr, Shape, Frame, Trap, Fits, Machine, Local, instr_at, back_to, goes_to, holds_none, stopped, no_frame, turn, counted, Turn, Global, MayTurn, one_thread, bounds, Targets, ObjectType, type_of, Entry, Empty, Refers, Unknown, Named, HasName, HasBase, Number, Anything, Indexes, OfElement, OfGlobal, Closed, IsIn, Label, Labels, Leads, EntryMentions, IsWellTyped, Fine, IsPlain, called_label, below, below_copy, below_number, World, Shut, made_turn, State, View, view_of, frame_at, EntryStands, NumberStands, FrameStands, TopStands, BelowStands, FramesStand, GateStands, refs_at, types_at, Turned, ne_eq}, Frames.{type_kept, less_entry, less_number, number_kept, less_stands}, Quiet.heap_now, Turns.{local_turn, room_of, unseen}, Own.{runs, rests, top, fine, closed_less, runs_at}, Plain.{is_shut, plain_state, stop_state, keeps_own}, Calls.number_below}
+use Rattle.sharc_invariant.proofs.{Imports.{◌≡◌, ℕ, ℤ, zero, suc, ◌+◌, ◌-◌, ◌<◌, ◌≤◌, ◌≢◌, true, false, cond, ◌&&◌, not, List, [], ◌∷◌, Some, None, refl, sym, ap, ◌∙◌, subst, ⊎_elim, arith, cases_eq, cases_order, nat_tests, length, nat_lt, slice_index_or, ◌==◌, FRAMES, Code, Instr, Shape, Frame, Trap, Fits, Machine, Local, instr_at, back_to, goes_to, holds_none, stopped, no_frame, turn, counted, Turn, Global, MayTurn, one_thread, bounds, Targets, ObjectType, type_of, Entry, Empty, Refers, Unknown, Named, HasName, HasBase, Number, Anything, Indexes, OfElement, OfGlobal, Closed, IsIn, Label, Labels, Leads, EntryMentions, IsWellTyped, Fine, IsPlain, called_label, below, below_copy, below_number, World, Shut, made_turn, State, View, frame_at, EntryStands, NumberStands, FrameStands, TopStands, BelowStands, FramesStand, GateStands, refs_at, types_at, Turned, ne_eq}, TurnAt.turn_at, Frames.{type_kept, less_entry, less_number, number_kept, less_stands}, Quiet.heap_now, Turns.{local_turn, room_of, unseen}, Own.{runs, rests, top, fine, closed_less, runs_at}, Plain.{is_shut, plain_state, stop_state, keeps_own}, Calls.number_below}
 use Rattle.sharc_tree.specs.declared.trap.Trap.TheVariants as traps
 use Rattle.sharc_invariant.specs.Typed.{Returns}
 
@@ -83,20 +83,10 @@ module _ (x : Targets) (t : ℕ) (v : View) (base ints : ℕ) (names names' : �
 
 module _ (x : Targets) (code : Code) (s : Shape) (ls : Labels) (wt : IsWellTyped x code ls) (fits : Fits code s) (g : Global Machine) (world : World) (st : State x code s ls g world) (tr : Turn)
     (may : MayTurn bounds (one_thread code s) g tr) (site : ℕ) (is : instr_at code (g.threads tr.thread).at.pc ≡ Instr.Return site) where
-  abbrev t : ℕ
-  t = tr.thread
-
-  abbrev m : Machine
-  m = g.threads tr.thread
+  open turn_at st tr use {t, m, here, view}
 
   abbrev i : Instr
   i = Instr.Return site
-
-  abbrev here : Label
-  here = ls.at (g.threads tr.thread).at.pc
-
-  abbrev view : View
-  view = view_of st.elements world tr.thread (g.threads tr.thread)
 
   abbrev Done : Type 0
   Done = Turned x code s ls g world tr

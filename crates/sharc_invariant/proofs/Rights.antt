@@ -1,5 +1,5 @@
 -- A thread at a place may make the access that its label lets it make.
-use Rattle.sharc_invariant.proofs.{Imports.{◌≡◌, ℕ, ℤ, pos, zero, suc, ◌+◌, ◌-◌, ◌*◌, ◌/◌, ◌<◌, ◌≤◌, ◌⊎◌, ◌≢◌, Bool, true, false, List, [], ◌∷◌, Option, Some, None, refl, sym, ap, ◌∙◌, subst, inl, inr, ⊎_elim, arith, mod-eq_of_lt, mul-le-mul_right, suc-mul, length, slice_index_or, map, THREADS, Code, Cell, Shape, word_of, Fits, cell_word, cell_of, Machine, ref, int, word, is_held, Global as Place, GranuleState, Passed, Targets, ObjectType, StaticType, Mutex, Lock, FieldLock, FieldMode, CellMode, Field, mode_at, mode_in, lock_mode, lock_number, no_mutex, field_mutex, type_at, cells_of, field_at, field_of_cell, type_in, field_in, is_mutex, is_private, mutex_of, type_of, Through, Self, OfType, OfGlobals, OfSameElement as OfElement, Under, MutexWord, Refers, Element, Named, Nth, Number, OfElement as OfElementCell, OfGlobal as OfGlobalCells, HoldsLoaded, Label, Labels, SameReference, PointsTo, AreFieldLocks, IsGlobalLock, IsAnyGlobalLock, IsFieldLock, IsAnyLock, IsPlace, PointsToMutex, IsWellTyped, HasCell, MayAccess, IsChecked, Directly, Earlier, Covers, IsOwn, IsMutexOf, IsLockCell, IsSibling, no_lock, ObjectState, RegisterOf, In, World, May, base_of, CanBy, Can, Right, in_ref, lang_of, IsThere, PassStands, NumberStands, ElementStands, State, View, view_of, TopStands, FramesStand, GateStands, EntryStands, refs_at, types_at, base_of_cell, object_of_cell, number_in}, Frames.{same_ref, same_lock, map_same, with_locks}, Cells.{cell_there, cell_word_is, field_row}}
+use Rattle.sharc_invariant.proofs.{Imports.{◌≡◌, ℕ, ℤ, pos, zero, suc, ◌+◌, ◌-◌, ◌*◌, ◌/◌, ◌<◌, ◌≤◌, ◌⊎◌, ◌≢◌, Bool, true, false, List, [], ◌∷◌, Option, Some, None, refl, sym, ap, ◌∙◌, subst, inl, inr, ⊎_elim, arith, mod-eq_of_lt, mul-le-mul_right, suc-mul, length, slice_index_or, map, THREADS, Code, Cell, Shape, word_of, Fits, cell_word, cell_of, Machine, ref, int, word, is_held, Global as Place, GranuleState, Passed, Targets, ObjectType, StaticType, Mutex, Lock, FieldLock, FieldMode, CellMode, Field, mode_at, mode_in, lock_mode, lock_number, no_mutex, field_mutex, type_at, cells_of, field_at, field_of_cell, type_in, field_in, is_mutex, is_private, mutex_of, type_of, Through, Self, OfType, OfGlobals, OfSameElement as OfElement, Under, MutexWord, Refers, Element, Named, Nth, Number, OfElement as OfElementCell, OfGlobal as OfGlobalCells, HoldsLoaded, Label, Labels, SameReference, PointsTo, AreFieldLocks, IsGlobalLock, IsAnyGlobalLock, IsFieldLock, IsAnyLock, IsPlace, PointsToMutex, IsWellTyped, HasCell, MayAccess, IsChecked, Directly, Earlier, Covers, IsOwn, IsMutexOf, IsLockCell, IsSibling, no_lock, ObjectState, RegisterOf, In, World, May, base_of, CanBy, Can, Right, in_ref, lang_of, IsThere, PassStands, NumberStands, ElementStands, State, view_of, TopStands, FramesStand, GateStands, EntryStands, types_at, base_of_cell, object_of_cell, number_in}, TurnAt.thread_at, Frames.{same_ref, same_lock, map_same, with_locks}, Cells.{cell_there, cell_word_is, field_row}}
 use Rattle.sharc_code.specs.Machine.{place}
 use Rattle.sharc_invariant.specs.{Types.Lock.Global, Types.FieldMode.{Private, Readonly, Racy, Dynamic, Behind}, World.Base.{By, Global as OfGlobal}}
 
@@ -17,14 +17,7 @@ covers_read x t false false c h = h
 module _ (x : Targets) (code : Code) (s : Shape) (ls : Labels) (wt : IsWellTyped x code ls) (fits : Fits code s) (g : Place Machine) (world : World) (st : State x code s ls g world) (t : ℕ) (low : t < THREADS) (names : ℕ → ℤ) (l : Label)
     (top : TopStands x t (view_of st.elements world t (g.threads t)) (g.threads t).at.refs (g.threads t).at.ints names l) (reads : (r : ℕ) → ref (g.threads t) r ≡ in_ref world (RegisterOf t ((g.threads t).at.refs + r)))
     (below : FramesStand x code ls t (view_of st.elements world t (g.threads t)) (g.threads t) l.function) (gate : GateStands s world t (g.threads t) l.gate) where
-  abbrev m : Machine
-  m = g.threads t
-
-  abbrev view : View
-  view = view_of st.elements world t (g.threads t)
-
-  abbrev refs : ℕ → ℕ
-  refs = refs_at view (g.threads t).at.refs
+  open thread_at st t use {m, view, refs}
 
   there : (c : Cell) (f : Field) → HasCell x code l c f → IsThere x s st.cells world t (g.threads t) c f
   there c f h = cell_there x code s ls wt fits g world st t m names l top reads c f h

@@ -1,5 +1,5 @@
 -- The sample is well typed.
-use Rattle.sharc_invariant.proofs.{Imports.{◌≡◌, ℕ, pos, zero, suc, ◌+◌, ◌%◌, ◌<◌, ◌≤◌, ◌⊎◌, ◌≢◌, Bool, true, false, List, [], ◌∷◌, Some, None, refl, sym, ap, ◌∙◌, subst, inl, inr, arith, eqb-false, length, slice_index, slice_index_or, nat_eq, Code, GlobalCells, Instr, Constant, MoveReference, JumpIfNull, ChkNull, ChkHeld, ChkNotHeld, ChkRoom, ChkLock, ChkWrite, Store, Raise, Lower, New, TakeLocal, TestSole, Clear, Give, Unlock, Spawn, Exit, Char, Int, Long, instr_at, function_of, put, Cell, Register, put_other, put_all, FieldMode, type_in, AreTargets, ObjectType, Field, Content, CellMode, field_at, field_in, field_of_cell, global_field, mode_in, is_private, is_pointer, is_mutex, cells_of, nothing, Under, OfType, OfGlobals, OfSameElement as OfElement, Integer, MutexWord, Waiters, Pointer, Entry, Empty, Refers, Number, Anything, Exactly, Within, Gate, Closed, Checked, Holds, SoleGate as Sole, Label, Labels, Less, Leads, SameReference, Itself, IsCopy, LessEntry, EntryMentions, IsScoped, IsFree, HasBase as BaseOf, fill, empty, gated, knows, set_number, IsPlain, IsWellTyped, AreGlobals, Initial, Fine, HasCell, IsVacant, IsSameContent, MayStart, Directly, refs_in, ints_in, entry_label, the_targets, the_private, the_dynamic, the_instrs, the_labels, the_labels_list, outside, raised, w2, w4, w5, w8, w10, w13, w15, w16, w17, w19, w21, w22, w23, w24, w25, w26, m27, m28, m29, m30, m31, m32, m33, m34, given, m35, m36, m37, m38, m39, m40, m41, IsSample}, Scoped.{less_refl, scoped_gate, scoped_room, scoped_knows, scoped_forgets, scoped_number, scoped_fill, scoped_empty}}
+use Rattle.sharc_invariant.proofs.{Imports.{◌≡◌, ℕ, pos, zero, suc, ◌+◌, ◌%◌, ◌<◌, ◌≤◌, ◌⊎◌, ◌≢◌, Bool, true, false, List, [], ◌∷◌, Some, None, refl, sym, ap, ◌∙◌, subst, inl, inr, arith, eqb-false, length, slice_index, slice_index_or, nat_eq, Code, GlobalCells, Instr, Constant, MoveReference, JumpIfNull, ChkNull, ChkHeld, ChkNotHeld, ChkRoom, ChkLock, ChkWrite, Store, Raise, Lower, New, TakeLocal, TestSole, Clear, Give, Unlock, Spawn, Exit, Char, Int, Long, instr_at, function_of, put, Cell, Register, put_other, put_all, FieldMode, type_in, AreTargets, ObjectType, Field, Content, CellMode, field_at, field_in, field_of_cell, global_field, mode_in, is_private, is_pointer, is_mutex, cells_of, nothing, Under, OfType, OfGlobals, OfSameElement as OfElement, Integer, MutexWord, Waiters, Pointer, Entry, Empty, Refers, Number, Anything, Exactly, Within, Gate, Closed, Checked, Holds, SoleGate as Sole, Label, Labels, Less, Leads, SameReference, Itself, IsCopy, LessEntry, EntryMentions, IsScoped, IsFree, HasBase as BaseOf, fill, empty, gated, knows, set_number, IsPlain, IsWellTyped, AreGlobals, Initial, Fine, HasCell, IsVacant, IsSameContent, MayStart, Directly, refs_in, ints_in, entry_label, the_targets, the_private, the_dynamic, the_instrs, the_labels, the_labels_list, outside, raised, w2, w4, w5, w8, w10, w13, w15, w16, w17, w19, w21, w22, w23, w24, w25, w26, m27, m28, m29, m30, m31, m32, m33, m34, given, m35, m36, m37, m38, m39, m40, m41, IsSample, StaticType}, Scoped.{less_refl, scoped_gate, scoped_room, scoped_knows, scoped_forgets, scoped_number, scoped_fill, scoped_empty}}
 use Rattle.sharc_code.specs.declared.instr.Instr.TheVariants.{Return, Lock}
 use Rattle.sharc_invariant.specs.{Types.row_of, Types.FieldMode.{Private, Readonly, Racy, Dynamic, Behind}}
 
@@ -13,204 +13,160 @@ put_lockless f d e h k = put_all (λ q y. (r : ℕ) → EntryMentions y r → �
 nobody : Lockless (λ r. Empty)
 nobody q r h = h
 
-empty_names : (r : ℕ) → EntryMentions Empty r → ⊥
-empty_names r h = h
-
 abbrev E0 : ℕ → Entry
 E0 = λ r. Empty
-
--- ---- the types
-k2 : Lockless w2.env
-k2 = put_lockless E0 0 (Refers the_dynamic) (λ r h. h) nobody
-
-k3 : Lockless (raised w2 1 0).env
-k3 = put_lockless w2.env 1 (w2.env 0) (k2 0) k2
-
-k8 : Lockless w8.env
-k8 = put_lockless (raised w2 1 0).env 1 Empty empty_names k3
-
-k9 : Lockless (raised w8 1 0).env
-k9 = put_lockless w8.env 1 (w8.env 0) (k8 0) k8
-
-k13 : Lockless w13.env
-k13 = put_lockless (raised w8 1 0).env 1 Empty empty_names k9
-
-k14 : Lockless (raised w13 1 0).env
-k14 = put_lockless w13.env 1 (w13.env 0) (k13 0) k13
-
-k19 : Lockless w19.env
-k19 = put_lockless (raised w13 1 0).env 1 Empty empty_names k14
-
-k20 : Lockless (raised w19 1 0).env
-k20 = put_lockless w19.env 1 (w19.env 0) (k19 0) k19
-
-k23 : Lockless w23.env
-k23 = put_lockless (raised w19 1 0).env 2 (w22.env 1) (k20 1) k20
-
-k24 : Lockless w24.env
-k24 = put_lockless w23.env 2 Empty empty_names k23
-
-k25 : Lockless w25.env
-k25 = put_lockless w24.env 1 Empty empty_names k24
-
-k29 : Lockless m29.env
-k29 = put_lockless E0 2 (Refers the_private) (λ r h. h) nobody
-
-k30 : Lockless m30.env
-k30 = put_lockless (empty m29 2).env 0 (m29.env 2) (k29 2) (put_lockless m29.env 2 Empty empty_names k29)
-
-k31 : Lockless m31.env
-k31 = put_lockless (empty m30 0).env 2 (m30.env 0) (k30 0) (put_lockless m30.env 0 Empty empty_names k30)
-
-k35 : Lockless m35.env
-k35 = put_lockless (empty m31 2).env 2 (Refers the_dynamic) (λ r h. h) (put_lockless m31.env 2 Empty empty_names k31)
-
-k36 : Lockless m36.env
-k36 = put_lockless (empty m35 2).env 1 (m35.env 2) (k35 2) (put_lockless m35.env 2 Empty empty_names k35)
-
-k37 : Lockless m37.env
-k37 = put_lockless m36.env 2 (m36.env 1) (k36 1) k36
-
-k38 : Lockless m38.env
-k38 = put_lockless m37.env 2 Empty empty_names k37
-
-k39 : Lockless m39.env
-k39 = put_lockless m38.env 1 Empty empty_names k38
 
 free_by : (l : Label) (r : ℕ) → Lockless l.env → IsFree l r
 free_by l r k = record { paths = λ q _ m. k q r m }
 
--- ---- the labels are scoped
-first_scoped : (ints refs : ℕ) (l : Label) → ((r : ℕ) → refs ≤ r → l.env r ≡ Empty) → Lockless l.env → l.same ≡ (λ r. r) → l.known ≡ (λ r. false) → l.ints ≡ (λ i. Anything) → l.passed ≡ [] → IsScoped ints refs l
-first_scoped ints refs l few k es ek ei ep = record {
-  few = few;
-  paths = λ r q m. absurd (k r q m);
-  copies = λ r. inl (ap (λ (f : ℕ → ℕ). f r) es);
-  bases = λ i r h. absurd (subst (λ n. BaseOf n r) (ap (λ (f : ℕ → Number). f i) ei) h);
-  known = λ r e. absurd (let z : false ≡ true = sym (ap (λ (f : ℕ → Bool). f r) ek) ∙ e in cc);
-  passes = λ p r h. absurd (subst (λ ps. Rattle.sharc_invariant.specs.Labels.IsIn p ps) ep h);
-  numbers = λ i _. ap (λ (f : ℕ → Number). f i) ei;
+-- ---- the labels are scoped, and no type has a lock
+record Sound (ints refs : ℕ) (l : Label) : Type 0 where
+  pub free : Lockless l.env
+  pub scoped : IsScoped ints refs l
+
+filled : (ints refs : ℕ) (l : Label) (d : ℕ) (s : StaticType) (c : ℕ) (b : Bool) → d < refs → ((r : ℕ) → EntryMentions (Refers s) r → ⊥) → (c ≡ d) ⊎ (l.env c ≢ Empty) → Sound ints refs l → Sound ints refs (fill l d (Refers s) c b)
+filled ints refs l d s c b lt none copy h = record { free = put_lockless l.env d (Refers s) none h.free; scoped = scoped_fill ints refs l d s c b lt (λ q m. absurd (none q m)) copy h.scoped }
+
+emptied : (ints refs : ℕ) (l : Label) (d : ℕ) → Sound ints refs l → Sound ints refs (empty l d)
+emptied ints refs l d h = record { free = put_lockless l.env d Empty (λ r m. m) h.free; scoped = scoped_empty ints refs l d (λ r _ m. h.free r d m) h.scoped }
+
+-- where the types are the same
+also : {ints refs : ℕ} {l l' : Label} → (IsScoped ints refs l → IsScoped ints refs l') → l'.env ≡ l.env → Sound ints refs l → Sound ints refs l'
+also f same h = record { free = subst Lockless (sym same) h.free; scoped = f h.scoped }
+
+first_sound : (ints refs : ℕ) (l : Label) → ((r : ℕ) → refs ≤ r → l.env r ≡ Empty) → Lockless l.env → l.same ≡ (λ r. r) → l.known ≡ (λ r. false) → l.ints ≡ (λ i. Anything) → l.passed ≡ [] → Sound ints refs l
+first_sound ints refs l few k es ek ei ep = record {
+  free = k;
+  scoped = record {
+    few = few;
+    paths = λ r q m. absurd (k r q m);
+    copies = λ r. inl (ap (λ (f : ℕ → ℕ). f r) es);
+    bases = λ i r h. absurd (subst (λ n. BaseOf n r) (ap (λ (f : ℕ → Number). f i) ei) h);
+    known = λ r e. absurd (let z : false ≡ true = sym (ap (λ (f : ℕ → Bool). f r) ek) ∙ e in cc);
+    passes = λ p r h. absurd (subst (λ ps. Rattle.sharc_invariant.specs.Labels.IsIn p ps) ep h);
+    numbers = λ i _. ap (λ (f : ℕ → Number). f i) ei;
+  };
 }
 
-s2 : IsScoped 1 3 w2
-s2 = first_scoped 1 3 w2 (λ r le. put_other E0 0 r (Refers the_dynamic) (λ e. omega arith)) k2 refl refl refl refl
+s2 : Sound 1 3 w2
+s2 = first_sound 1 3 w2 (λ r le. put_other E0 0 r (Refers the_dynamic) (λ e. omega arith)) (put_lockless E0 0 (Refers the_dynamic) (λ r h. h) nobody) refl refl refl refl
 
-s3 : IsScoped 1 3 (raised w2 1 0)
-s3 = scoped_fill 1 3 w2 1 the_dynamic (w2.same 0) (w2.known 0) (omega arith) (λ q h. absurd h) (inr (λ e. cc)) s2
+s3 : Sound 1 3 (raised w2 1 0)
+s3 = filled 1 3 w2 1 the_dynamic (w2.same 0) (w2.known 0) (omega arith) (λ q h. h) (inr (λ e. cc)) s2
 
-s4 : IsScoped 1 3 w4
-s4 = scoped_knows 1 3 (raised w2 1 0) 1 (λ e. cc) s3
+s4 : Sound 1 3 w4
+s4 = also (scoped_knows 1 3 (raised w2 1 0) 1 (λ e. cc)) refl s3
 
-s5 : IsScoped 1 3 w5
-s5 = scoped_number 1 3 w4 0 (Exactly (pos 1)) (omega arith) (λ b h. absurd h) s4
+s5 : Sound 1 3 w5
+s5 = also (scoped_number 1 3 w4 0 (Exactly (pos 1)) (omega arith) (λ b h. absurd h)) refl s4
 
-s6 : IsScoped 1 3 (gated w5 (Checked true (Cell.Object 1 2)))
-s6 = scoped_gate 1 3 w5 (Checked true (Cell.Object 1 2)) s5
+s6 : Sound 1 3 (gated w5 (Checked true (Cell.Object 1 2)))
+s6 = also (scoped_gate 1 3 w5 (Checked true (Cell.Object 1 2))) refl s5
 
-s7 : IsScoped 1 3 (gated (gated w5 (Checked true (Cell.Object 1 2))) Closed)
-s7 = scoped_gate 1 3 (gated w5 (Checked true (Cell.Object 1 2))) Closed s6
+s7 : Sound 1 3 (gated (gated w5 (Checked true (Cell.Object 1 2))) Closed)
+s7 = also (scoped_gate 1 3 (gated w5 (Checked true (Cell.Object 1 2))) Closed) refl s6
 
-s8 : IsScoped 1 3 w8
-s8 = scoped_empty 1 3 (gated (gated w5 (Checked true (Cell.Object 1 2))) Closed) 1 (λ r _ m. k3 r 1 m) s7
+s8 : Sound 1 3 w8
+s8 = emptied 1 3 (gated (gated w5 (Checked true (Cell.Object 1 2))) Closed) 1 s7
 
-s9 : IsScoped 1 3 (raised w8 1 0)
-s9 = scoped_fill 1 3 w8 1 the_dynamic (w8.same 0) (w8.known 0) (omega arith) (λ q h. absurd h) (inr (λ e. cc)) s8
+s9 : Sound 1 3 (raised w8 1 0)
+s9 = filled 1 3 w8 1 the_dynamic (w8.same 0) (w8.known 0) (omega arith) (λ q h. h) (inr (λ e. cc)) s8
 
-s10 : IsScoped 1 3 w10
-s10 = scoped_knows 1 3 (raised w8 1 0) 1 (λ e. cc) s9
+s10 : Sound 1 3 w10
+s10 = also (scoped_knows 1 3 (raised w8 1 0) 1 (λ e. cc)) refl s9
 
-s12 : IsScoped 1 3 (record w10 { room = true })
-s12 = scoped_room 1 3 w10 true s10
+s12 : Sound 1 3 (record w10 { room = true })
+s12 = also (scoped_room 1 3 w10 true) refl s10
 
-s13 : IsScoped 1 3 w13
-s13 = scoped_room 1 3 (empty (record w10 { room = true }) 1) false (scoped_empty 1 3 (record w10 { room = true }) 1 (λ r _ m. k9 r 1 m) s12)
+s13 : Sound 1 3 w13
+s13 = also (scoped_room 1 3 (empty (record w10 { room = true }) 1) false) refl (emptied 1 3 (record w10 { room = true }) 1 s12)
 
-s14 : IsScoped 1 3 (raised w13 1 0)
-s14 = scoped_fill 1 3 w13 1 the_dynamic (w13.same 0) (w13.known 0) (omega arith) (λ q h. absurd h) (inr (λ e. cc)) s13
+s14 : Sound 1 3 (raised w13 1 0)
+s14 = filled 1 3 w13 1 the_dynamic (w13.same 0) (w13.known 0) (omega arith) (λ q h. h) (inr (λ e. cc)) s13
 
-s15 : IsScoped 1 3 w15
-s15 = scoped_knows 1 3 (raised w13 1 0) 1 (λ e. cc) s14
+s15 : Sound 1 3 w15
+s15 = also (scoped_knows 1 3 (raised w13 1 0) 1 (λ e. cc)) refl s14
 
-s16 : IsScoped 1 3 w16
-s16 = scoped_number 1 3 w15 0 (Exactly (pos 2)) (omega arith) (λ b h. absurd h) s15
+s16 : Sound 1 3 w16
+s16 = also (scoped_number 1 3 w15 0 (Exactly (pos 2)) (omega arith) (λ b h. absurd h)) refl s15
 
-s17 : IsScoped 1 3 w17
-s17 = scoped_gate 1 3 (knows w16 1) (Holds (Cell.Object 1 0)) (scoped_knows 1 3 w16 1 (λ e. cc) s16)
+s17 : Sound 1 3 w17
+s17 = also (scoped_gate 1 3 (knows w16 1) (Holds (Cell.Object 1 0))) refl (also (scoped_knows 1 3 w16 1 (λ e. cc)) refl s16)
 
-s18 : IsScoped 1 3 (gated w17 Closed)
-s18 = scoped_gate 1 3 w17 Closed s17
+s18 : Sound 1 3 (gated w17 Closed)
+s18 = also (scoped_gate 1 3 w17 Closed) refl s17
 
-s19 : IsScoped 1 3 w19
-s19 = scoped_empty 1 3 (gated w17 Closed) 1 (λ r _ m. k14 r 1 m) s18
+s19 : Sound 1 3 w19
+s19 = emptied 1 3 (gated w17 Closed) 1 s18
 
-s20 : IsScoped 1 3 (raised w19 1 0)
-s20 = scoped_fill 1 3 w19 1 the_dynamic (w19.same 0) (w19.known 0) (omega arith) (λ q h. absurd h) (inr (λ e. cc)) s19
+s20 : Sound 1 3 (raised w19 1 0)
+s20 = filled 1 3 w19 1 the_dynamic (w19.same 0) (w19.known 0) (omega arith) (λ q h. h) (inr (λ e. cc)) s19
 
-s21 : IsScoped 1 3 w21
-s21 = scoped_knows 1 3 (raised w19 1 0) 1 (λ e. cc) s20
+s21 : Sound 1 3 w21
+s21 = also (scoped_knows 1 3 (raised w19 1 0) 1 (λ e. cc)) refl s20
 
-s22 : IsScoped 1 3 w22
-s22 = scoped_gate 1 3 w21 (Holds (Cell.Object 1 0)) s21
+s22 : Sound 1 3 w22
+s22 = also (scoped_gate 1 3 w21 (Holds (Cell.Object 1 0))) refl s21
 
-s23 : IsScoped 1 3 w23
-s23 = scoped_room 1 3 (fill w22 2 (w22.env 1) (w22.same 1) true) true (scoped_fill 1 3 w22 2 the_dynamic (w22.same 1) true (omega arith) (λ q h. absurd h) (inr (λ e. cc)) s22)
+s23 : Sound 1 3 w23
+s23 = also (scoped_room 1 3 (fill w22 2 (w22.env 1) (w22.same 1) true) true) refl (filled 1 3 w22 2 the_dynamic (w22.same 1) true (omega arith) (λ q h. h) (inr (λ e. cc)) s22)
 
-s24 : IsScoped 1 3 w24
-s24 = scoped_empty 1 3 w23 2 (λ r _ m. k23 r 2 m) s23
+s24 : Sound 1 3 w24
+s24 = emptied 1 3 w23 2 s23
 
-s25 : IsScoped 1 3 w25
-s25 = scoped_empty 1 3 w24 1 (λ r _ m. k24 r 1 m) s24
+s25 : Sound 1 3 w25
+s25 = emptied 1 3 w24 1 s24
 
-s26 : IsScoped 1 3 w26
-s26 = scoped_empty 1 3 w25 0 (λ r _ m. k25 r 0 m) s25
+s26 : Sound 1 3 w26
+s26 = emptied 1 3 w25 0 s25
 
-s27 : IsScoped 2 3 m27
-s27 = first_scoped 2 3 m27 (λ r le. refl) nobody refl refl refl refl
+s27 : Sound 2 3 m27
+s27 = first_sound 2 3 m27 (λ r le. refl) nobody refl refl refl refl
 
-s28 : IsScoped 2 3 m28
-s28 = scoped_number 2 3 m27 0 (Exactly (pos 1)) (omega arith) (λ b h. absurd h) s27
+s28 : Sound 2 3 m28
+s28 = also (scoped_number 2 3 m27 0 (Exactly (pos 1)) (omega arith) (λ b h. absurd h)) refl s27
 
-s29 : IsScoped 2 3 m29
-s29 = scoped_fill 2 3 m28 2 the_private 2 true (omega arith) (λ q h. absurd h) (inl refl) s28
+s29 : Sound 2 3 m29
+s29 = filled 2 3 m28 2 the_private 2 true (omega arith) (λ q h. h) (inl refl) s28
 
-s30 : IsScoped 2 3 m30
-s30 = scoped_fill 2 3 (empty m29 2) 0 the_private 0 true (omega arith) (λ q h. absurd h) (inl refl) (scoped_empty 2 3 m29 2 (λ r _ m. k29 r 2 m) s29)
+s30 : Sound 2 3 m30
+s30 = filled 2 3 (empty m29 2) 0 the_private 0 true (omega arith) (λ q h. h) (inl refl) (emptied 2 3 m29 2 s29)
 
-s31 : IsScoped 2 3 m31
-s31 = scoped_fill 2 3 (empty m30 0) 2 the_private 2 true (omega arith) (λ q h. absurd h) (inl refl) (scoped_empty 2 3 m30 0 (λ r _ m. k30 r 0 m) s30)
+s31 : Sound 2 3 m31
+s31 = filled 2 3 (empty m30 0) 2 the_private 2 true (omega arith) (λ q h. h) (inl refl) (emptied 2 3 m30 0 s30)
 
-s32 : IsScoped 2 3 m32
-s32 = scoped_knows 2 3 m31 2 (λ e. cc) s31
+s32 : Sound 2 3 m32
+s32 = also (scoped_knows 2 3 m31 2 (λ e. cc)) refl s31
 
-s33 : IsScoped 2 3 m33
-s33 = scoped_gate 2 3 m32 (Sole 2 false) s32
+s33 : Sound 2 3 m33
+s33 = also (scoped_gate 2 3 m32 (Sole 2 false)) refl s32
 
-s34 : IsScoped 2 3 m34
-s34 = scoped_gate 2 3 m33 (Sole 2 true) s33
+s34 : Sound 2 3 m34
+s34 = also (scoped_gate 2 3 m33 (Sole 2 true)) refl s33
 
-sg : IsScoped 2 3 given
-sg = scoped_fill 2 3 (empty m34 2) 2 the_dynamic 2 true (omega arith) (λ q h. absurd h) (inl refl) (scoped_empty 2 3 m34 2 (λ r _ m. k31 r 2 m) s34)
+sg : Sound 2 3 given
+sg = filled 2 3 (empty m34 2) 2 the_dynamic 2 true (omega arith) (λ q h. h) (inl refl) (emptied 2 3 m34 2 s34)
 
-s35 : IsScoped 2 3 m35
-s35 = scoped_forgets 2 3 given 2 sg
+s35 : Sound 2 3 m35
+s35 = also (scoped_forgets 2 3 given 2) refl sg
 
-s36 : IsScoped 2 3 m36
-s36 = scoped_fill 2 3 (empty m35 2) 1 the_dynamic 1 false (omega arith) (λ q h. absurd h) (inl refl) (scoped_empty 2 3 m35 2 (λ r _ m. k35 r 2 m) s35)
+s36 : Sound 2 3 m36
+s36 = filled 2 3 (empty m35 2) 1 the_dynamic 1 false (omega arith) (λ q h. h) (inl refl) (emptied 2 3 m35 2 s35)
 
-s37 : IsScoped 2 3 m37
-s37 = scoped_fill 2 3 m36 2 the_dynamic (m36.same 1) (m36.known 1) (omega arith) (λ q h. absurd h) (inr (λ e. cc)) s36
+s37 : Sound 2 3 m37
+s37 = filled 2 3 m36 2 the_dynamic (m36.same 1) (m36.known 1) (omega arith) (λ q h. h) (inr (λ e. cc)) s36
 
-s38 : IsScoped 2 3 m38
-s38 = scoped_number 2 3 (empty m37 2) 1 (Within Char) (omega arith) (λ b h. absurd h) (scoped_empty 2 3 m37 2 (λ r _ m. k37 r 2 m) s37)
+s38 : Sound 2 3 m38
+s38 = also (scoped_number 2 3 (empty m37 2) 1 (Within Char) (omega arith) (λ b h. absurd h)) refl (emptied 2 3 m37 2 s37)
 
-s39 : IsScoped 2 3 m39
-s39 = scoped_empty 2 3 m38 1 (λ r _ m. k38 r 1 m) s38
+s39 : Sound 2 3 m39
+s39 = emptied 2 3 m38 1 s38
 
-s40 : IsScoped 2 3 m40
-s40 = scoped_empty 2 3 m39 0 (λ r _ m. k39 r 0 m) s39
+s40 : Sound 2 3 m40
+s40 = emptied 2 3 m39 0 s39
 
-s41 : IsScoped 2 3 m41
-s41 = scoped_number 2 3 m40 0 (Exactly (pos 0)) (omega arith) (λ b h. absurd h) s40
+s41 : Sound 2 3 m41
+s41 = also (scoped_number 2 3 m40 0 (Exactly (pos 0)) (omega arith) (λ b h. absurd h)) refl s40
 
 abbrev is_behind : FieldMode → Bool
 is_behind (Behind f p) = true
@@ -273,12 +229,12 @@ recast_same _ lt = refl
 
 gone26 : (r : ℕ) → r ≢ 0 → w26.env r ≡ Empty
 gone26 zero ne = absurd (ne refl)
-gone26 (suc (suc (suc n))) ne = s26.few (suc (suc (suc n))) (omega arith)
+gone26 (suc (suc (suc n))) ne = s26.scoped.few (suc (suc (suc n))) (omega arith)
 gone26 _ ne = refl
 
 gone41 : (r : ℕ) → r ≢ 0 → m41.env r ≡ Empty
 gone41 zero ne = absurd (ne refl)
-gone41 (suc (suc (suc n))) ne = s41.few (suc (suc (suc n))) (omega arith)
+gone41 (suc (suc (suc n))) ne = s41.scoped.few (suc (suc (suc n))) (omega arith)
 gone41 _ ne = refl
 
 no_pointer : (field : ℕ) → is_pointer (field_at the_targets 1 field).holds ≡ false
@@ -324,13 +280,13 @@ module _ (code : Code) (is : IsSample code) where
   in_m l e h = subst (λ f. IsScoped (ints_in code f) (refs_in code f) l) (sym e) (subst (λ n. IsScoped n (refs_in code (Some 0)) l) (sym ints_m) (subst (λ n. IsScoped 2 n l) (sym refs_m) h))
 
   out : IsScoped (ints_in code None) (refs_in code None) outside
-  out = first_scoped 0 0 outside (λ r _. refl) nobody refl refl refl refl
+  out = (first_sound 0 0 outside (λ r _. refl) nobody refl refl refl refl).scoped
 
-  w : (pc : ℕ) (l : Label) (i : Instr) → l.function ≡ Some 1 → Fine the_targets code the_labels pc l i → IsScoped 1 3 l → Right pc l i
-  w pc l i e f h = (f, in_w l e h, λ z. absurd (let q : Some 1 ≡ None = sym e ∙ z in cc))
+  w : (pc : ℕ) (l : Label) (i : Instr) → l.function ≡ Some 1 → Fine the_targets code the_labels pc l i → Sound 1 3 l → Right pc l i
+  w pc l i e f h = (f, in_w l e h.scoped, λ z. absurd (let q : Some 1 ≡ None = sym e ∙ z in cc))
 
-  m : (pc : ℕ) (l : Label) (i : Instr) → l.function ≡ Some 0 → Fine the_targets code the_labels pc l i → IsScoped 2 3 l → Right pc l i
-  m pc l i e f h = (f, in_m l e h, λ z. absurd (let q : Some 0 ≡ None = sym e ∙ z in cc))
+  m : (pc : ℕ) (l : Label) (i : Instr) → l.function ≡ Some 0 → Fine the_targets code the_labels pc l i → Sound 2 3 l → Right pc l i
+  m pc l i e f h = (f, in_m l e h.scoped, λ z. absurd (let q : Some 0 ≡ None = sym e ∙ z in cc))
 
   p2 : Right 2 w2 (Raise 1 0)
   p2 = w 2 w2 (Raise 1 0) refl (refl, vacant w2 1 (sym refs_w) (omega arith) refl, (let b = refs_w in omega arith), less_refl (raised w2 1 0)) s2
@@ -348,7 +304,7 @@ module _ (code : Code) (is : IsSample code) where
   p6 = w 6 (gated w5 (Checked true (Cell.Object 1 2))) (Store 0 (Cell.Object 1 2) 1) refl (f_dynamic, Int, record { cell = (has_cell (gated w5 (Checked true (Cell.Object 1 2))) 2 f_dynamic refl refl refl (omega arith) refl); may = Directly true refl tt; apart = tt; mode = is.sites.0 }, refl, refl, less_refl (gated (gated w5 (Checked true (Cell.Object 1 2))) Closed)) s6
 
   p7 : Right 7 (gated (gated w5 (Checked true (Cell.Object 1 2))) Closed) (Lower 1)
-  p7 = w 7 (gated (gated w5 (Checked true (Cell.Object 1 2))) Closed) (Lower 1) refl (refl, (let b = refs_w in omega arith), inl (free_by (gated (gated w5 (Checked true (Cell.Object 1 2))) Closed) 1 k3, less_refl w8)) s7
+  p7 = w 7 (gated (gated w5 (Checked true (Cell.Object 1 2))) Closed) (Lower 1) refl (refl, (let b = refs_w in omega arith), inl (free_by (gated (gated w5 (Checked true (Cell.Object 1 2))) Closed) 1 s7.free, less_refl w8)) s7
 
   p8 : Right 8 w8 (Raise 1 0)
   p8 = w 8 w8 (Raise 1 0) refl (refl, vacant w8 1 (sym refs_w) (omega arith) refl, (let b = refs_w in omega arith), less_refl (raised w8 1 0)) s8
@@ -363,7 +319,7 @@ module _ (code : Code) (is : IsSample code) where
   p11 = w 11 w10 (ChkRoom 0) refl (refl, less_refl (record w10 { room = true })) s10
 
   p12 : Right 12 (record w10 { room = true }) (Lock (Cell.Object 1 0) 0)
-  p12 = w 12 (record w10 { room = true }) (Lock (Cell.Object 1 0) 0) refl (refl, refl, (f_mutex, (has_cell (record w10 { room = true }) 0 f_mutex refl refl refl (omega arith) refl), refl), free_by (record w10 { room = true }) 1 k9, less_refl w13) s12
+  p12 = w 12 (record w10 { room = true }) (Lock (Cell.Object 1 0) 0) refl (refl, refl, (f_mutex, (has_cell (record w10 { room = true }) 0 f_mutex refl refl refl (omega arith) refl), refl), free_by (record w10 { room = true }) 1 s12.free, less_refl w13) s12
 
   p13 : Right 13 w13 (Raise 1 0)
   p13 = w 13 w13 (Raise 1 0) refl (refl, vacant w13 1 (sym refs_w) (omega arith) refl, (let b = refs_w in omega arith), less_refl (raised w13 1 0)) s13
@@ -381,7 +337,7 @@ module _ (code : Code) (is : IsSample code) where
   p17 = w 17 w17 (Store 0 (Cell.Object 1 1) 2) refl (f_locked, Int, record { cell = (has_cell w17 1 f_locked refl refl refl (omega arith) refl); may = (Cell.Object 1 0, f_mutex, refl, (has_cell w17 0 f_mutex refl refl refl (omega arith) refl), refl, (Itself refl, omega arith, omega arith)); apart = tt; mode = (is.sites.1, tt) }, refl, refl, less_refl (gated w17 Closed)) s17
 
   p18 : Right 18 (gated w17 Closed) (Lower 1)
-  p18 = w 18 (gated w17 Closed) (Lower 1) refl (refl, (let b = refs_w in omega arith), inl (free_by (gated w17 Closed) 1 k14, less_refl w19)) s18
+  p18 = w 18 (gated w17 Closed) (Lower 1) refl (refl, (let b = refs_w in omega arith), inl (free_by (gated w17 Closed) 1 s18.free, less_refl w19)) s18
 
   p19 : Right 19 w19 (Raise 1 0)
   p19 = w 19 w19 (Raise 1 0) refl (refl, vacant w19 1 (sym refs_w) (omega arith) refl, (let b = refs_w in omega arith), less_refl (raised w19 1 0)) s19
@@ -396,13 +352,13 @@ module _ (code : Code) (is : IsSample code) where
   p22 = w 22 w22 (Unlock 2 (Cell.Object 1 0) 0) refl (refl, vacant w22 2 (sym refs_w) (omega arith) refl, (f_mutex, (has_cell w22 0 f_mutex refl refl refl (omega arith) refl), refl), less_refl w23) s22
 
   p23 : Right 23 w23 (Lower 2)
-  p23 = w 23 w23 (Lower 2) refl (refl, (let b = refs_w in omega arith), inl (free_by w23 2 k23, less_refl w24)) s23
+  p23 = w 23 w23 (Lower 2) refl (refl, (let b = refs_w in omega arith), inl (free_by w23 2 s23.free, less_refl w24)) s23
 
   p24 : Right 24 w24 (Lower 1)
-  p24 = w 24 w24 (Lower 1) refl (refl, (let b = refs_w in omega arith), inl (free_by w24 1 k24, less_refl w25)) s24
+  p24 = w 24 w24 (Lower 1) refl (refl, (let b = refs_w in omega arith), inl (free_by w24 1 s24.free, less_refl w25)) s24
 
   p25 : Right 25 w25 (Lower 0)
-  p25 = w 25 w25 (Lower 0) refl (refl, (let b = refs_w in omega arith), inl (free_by w25 0 k25, less_refl w26)) s25
+  p25 = w 25 w25 (Lower 0) refl (refl, (let b = refs_w in omega arith), inl (free_by w25 0 s25.free, less_refl w26)) s25
 
   p26 : Right 26 w26 (Return 0)
   p26 = w 26 w26 (Return 0) refl (refl, (1, refl, record { result = refl; result_int = tt; empty = gone26 })) s26
@@ -414,13 +370,13 @@ module _ (code : Code) (is : IsSample code) where
   p28 = m 28 m28 (New 2 0 3 0) refl (refl, vacant m28 2 (sym refs_m) (omega arith) refl, (the_private, (λ e. omega arith), omega arith, refl, omega arith, (λ i. no_pointer (i % cells_of the_targets 1)), (λ h. h), less_refl m29)) s28
 
   p29 : Right 29 m29 (MoveReference 0 2)
-  p29 = m 29 m29 (MoveReference 0 2) refl (refl, inr (vacant m29 0 (sym refs_m) (omega arith) refl, (let b = refs_m in omega arith), (λ e. omega arith), free_by m29 2 k29, (λ h. h), less_refl m30)) s29
+  p29 = m 29 m29 (MoveReference 0 2) refl (refl, inr (vacant m29 0 (sym refs_m) (omega arith) refl, (let b = refs_m in omega arith), (λ e. omega arith), free_by m29 2 s29.free, (λ h. h), less_refl m30)) s29
 
   p30 : Right 30 m30 (TakeLocal 2 0 0)
-  p30 = m 30 m30 (TakeLocal 2 0 0) refl (refl, vacant m30 2 (sym refs_m) (omega arith) refl, (let b = refs_m in omega arith), (λ e. omega arith), free_by m30 0 k30, (λ h. h), less_refl m31) s30
+  p30 = m 30 m30 (TakeLocal 2 0 0) refl (refl, vacant m30 2 (sym refs_m) (omega arith) refl, (let b = refs_m in omega arith), (λ e. omega arith), free_by m30 0 s30.free, (λ h. h), less_refl m31) s30
 
   p31 : Right 31 m31 (JumpIfNull 2 35)
-  p31 = m 31 m31 (JumpIfNull 2 35) refl (refl, inr (free_by m31 2 k31, null_less), less_refl m32) s31
+  p31 = m 31 m31 (JumpIfNull 2 35) refl (refl, inr (free_by m31 2 s31.free, null_less), less_refl m32) s31
 
   p32 : Right 32 m32 (TestSole 2 0)
   p32 = m 32 m32 (TestSole 2 0) refl (refl, (let b = refs_m in omega arith), refl, less_refl m33) s32
@@ -429,22 +385,22 @@ module _ (code : Code) (is : IsSample code) where
   p33 = m 33 m33 (Clear 2 3) refl (refl, (λ p h e. absurd h), (the_private, refl, refl, less_refl m34)) s33
 
   p34 : Right 34 m34 (Give 2 0)
-  p34 = m 34 m34 (Give 2 0) refl (refl, free_by m34 2 k31, (the_private, the_dynamic, refl, record { some = λ e. omega arith; is_row = omega arith; cells = refl; same = recast_same }, (λ h. h), given_less)) s34
+  p34 = m 34 m34 (Give 2 0) refl (refl, free_by m34 2 s34.free, (the_private, the_dynamic, refl, record { some = λ e. omega arith; is_row = omega arith; cells = refl; same = recast_same }, (λ h. h), given_less)) s34
 
   p35 : Right 35 m35 (MoveReference 1 2)
-  p35 = m 35 m35 (MoveReference 1 2) refl (refl, inr (vacant m35 1 (sym refs_m) (omega arith) refl, (let b = refs_m in omega arith), (λ e. omega arith), free_by m35 2 k35, (λ h. h), less_refl m36)) s35
+  p35 = m 35 m35 (MoveReference 1 2) refl (refl, inr (vacant m35 1 (sym refs_m) (omega arith) refl, (let b = refs_m in omega arith), (λ e. omega arith), free_by m35 2 s35.free, (λ h. h), less_refl m36)) s35
 
   p36 : Right 36 m36 (Raise 2 1)
   p36 = m 36 m36 (Raise 2 1) refl (refl, vacant m36 2 (sym refs_m) (omega arith) refl, (let b = refs_m in omega arith), less_refl m37) s36
 
   p37 : Right 37 m37 (Spawn 1 1 (Register.Reference 2) 0)
-  p37 = m 37 m37 (Spawn 1 1 (Register.Reference 2) 0) refl (refl, (let b = ints_m in omega arith), (let b = is.number in omega arith), refl, refl, (is.parameters.1, (let b = refs_m in omega arith), free_by m37 2 k37, (λ q h. h), (refl, tt), refl), less_refl m38) s37
+  p37 = m 37 m37 (Spawn 1 1 (Register.Reference 2) 0) refl (refl, (let b = ints_m in omega arith), (let b = is.number in omega arith), refl, refl, (is.parameters.1, (let b = refs_m in omega arith), free_by m37 2 s37.free, (λ q h. h), (refl, tt), refl), less_refl m38) s37
 
   p38 : Right 38 m38 (Lower 1)
-  p38 = m 38 m38 (Lower 1) refl (refl, (let b = refs_m in omega arith), inl (free_by m38 1 k38, less_refl m39)) s38
+  p38 = m 38 m38 (Lower 1) refl (refl, (let b = refs_m in omega arith), inl (free_by m38 1 s38.free, less_refl m39)) s38
 
   p39 : Right 39 m39 (Lower 0)
-  p39 = m 39 m39 (Lower 0) refl (refl, (let b = refs_m in omega arith), inl (free_by m39 0 k39, less_refl m40)) s39
+  p39 = m 39 m39 (Lower 0) refl (refl, (let b = refs_m in omega arith), inl (free_by m39 0 s39.free, less_refl m40)) s39
 
   p40 : Right 40 m40 (Constant 0 (pos 0))
   p40 = m 40 m40 (Constant 0 (pos 0)) refl (refl, (let b = ints_m in omega arith), less_refl m41) s40

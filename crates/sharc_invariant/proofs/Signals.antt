@@ -1,5 +1,5 @@
 -- A signal keeps the invariant: in one turn it reads who waits, in others it takes the lowest waiter away.
-use Rattle.sharc_invariant.proofs.{Imports.{◌≡◌, ℕ, ◌+◌, ◌-◌, ◌^◌, ◌<◌, ◌⊎◌, Bool, true, false, cond, List, Some, None, refl, sym, ap, ◌∙◌, subst, inl, inr, ⊎_elim, arith, eqb-true, and_le_l, fun_ext, length, slice_index, slice_set, ◌==◌, Load, Cas, Kind, Read, Write, Accesses, without_lowest, Code, Cell, Shape, RunsOn, Tries, Stopped, Ended, Stage, Rests, Wakes, Fits, Machine, instr_at, word, wakes, rests, at_stage, step_of, turn, may_go, Turn, Global, put, MayTurn, after_turn, one_thread, bounds, Instr, Targets, Field, field_in, is_pointer, is_mutex, Waiters, Label, Labels, LessGate, Closed, Fine, IsWellTyped, World, RegisterOf, in_ref, Heap, conc_of, Shows, FitsContent, cell_at, is_ended, staged_of, logged, noted_by, register_of, making_of, made_turn, made_conc, State, View, view_of, FramesStand, GateStands, TopStands, Runs, StageStands, OnSignal, SpawnsNow, label_now, object_of_cell, number_in, Turned}, Frames.less_stands, Others.OnHold, Quiet.{KeepsSelf, loud_state, heap_now, label_held, freed_held, noted_of, put_self, locks_kept, sizes_kept}, Turns.{asks_turn, room_of, unseen}, Own.{closed_less, runs_at, begun_in}, Stores.{index_put, cell_store, stored_words, stored_within}, Seen.integer_stored, Cells.cell_there, Plain.others_stay}
+use Rattle.sharc_invariant.proofs.{Imports.{◌≡◌, ℕ, ◌+◌, ◌-◌, ◌^◌, ◌<◌, ◌⊎◌, Bool, true, false, cond, List, Some, None, refl, sym, ap, ◌∙◌, subst, inl, inr, ⊎_elim, arith, eqb-true, and_le_l, fun_ext, length, slice_index, slice_set, ◌==◌, Load, Cas, Kind, Read, Write, Accesses, without_lowest, Code, Cell, Shape, RunsOn, Tries, Stopped, Ended, Stage, Rests, Wakes, Fits, Machine, instr_at, word, wakes, rests, at_stage, step_of, turn, may_go, Turn, Global, put, MayTurn, one_thread, bounds, Instr, Targets, Field, field_in, is_pointer, is_mutex, Waiters, Label, Labels, LessGate, Closed, Fine, IsWellTyped, World, RegisterOf, in_ref, Heap, conc_of, Shows, FitsContent, cell_at, is_ended, staged_of, logged, noted_by, register_of, making_of, made_turn, made_conc, State, FramesStand, GateStands, TopStands, Runs, StageStands, OnSignal, SpawnsNow, label_now, object_of_cell, number_in, Turned}, TurnAt.{turn_at, turn_stands}, Frames.less_stands, Others.OnHold, Quiet.{KeepsSelf, loud_state, heap_now, label_held, freed_held, noted_of, put_self, locks_kept, sizes_kept}, Turns.{asks_turn, room_of, unseen}, Own.{closed_less, runs_at, begun_in}, Stores.{index_put, cell_store, stored_words, stored_within}, Seen.integer_stored, Cells.cell_there, Plain.others_stay}
 
 -- the stages of a signal
 abbrev IsWaking : Stage → Type 0
@@ -26,23 +26,8 @@ without_low v h = let a = and_le_l v (2 ^ 64 - 1 - 2 ^ Rattle.sharc_locks.specs.
 
 module _ (x : Targets) (code : Code) (s : Shape) (ls : Labels) (wt : IsWellTyped x code ls) (fits : Fits code s) (g : Global Machine) (world : World) (st : State x code s ls g world) (tr : Turn)
     (may : MayTurn bounds (one_thread code s) g tr) (c : Cell) (site : ℕ) (is : instr_at code (g.threads tr.thread).at.pc ≡ Instr.CondSignal c site) where
-  abbrev t : ℕ
-  t = tr.thread
-
-  abbrev m : Machine
-  m = g.threads tr.thread
-
-  abbrev here : Label
-  here = ls.at (g.threads tr.thread).at.pc
-
-  abbrev after : Global Machine
-  after = after_turn bounds (one_thread code s) g tr
-
-  abbrev view : View
-  view = view_of st.elements world tr.thread (g.threads tr.thread)
-
-  rn : Runs x code s ls st.elements world st.heap g tr.thread (g.threads tr.thread)
-  rn = (st.threads t).runs may.started may.next.runs
+  open turn_at st tr use {t, m, here, after, view}
+  open turn_stands st tr may use {rn}
 
   stage : IsWaking (g.threads tr.thread).own.stage
   stage = signal_stage code s st.elements world st.heap g.words t m c site m.own.stage (subst (λ i. StageStands code s st.elements world st.heap g.words t m i m.own.stage) is rn.stage)

@@ -1,5 +1,5 @@
 -- A thread finds that it has the only reference to an object; and a register comes to hold NULL.
-use Rattle.sharc_invariant.proofs.{Imports.{◌≡◌, ℕ, suc, ◌+◌, ◌⊎◌, ◌≢◌, true, false, cond, refl, sym, ap, ◌∙◌, subst, inl, inr, ⊎_elim, arith, eqb-true, fun_ext, slice_index, ◌==◌, test_of, Code, Shape, NotSole, Fits, count_word, Machine, instr_at, goes, set_ref, stopped, tested, ref, Turn, Global, MayTurn, after_turn, one_thread, bounds, Instr, put_same, Targets, Gate, Closed, SoleGate, Label, Labels, LessGate, without_base, IsWellTyped, World, Window, Shut, Sole, WinOk, RegisterOf, In, in_ref, set_win, set_slot, null, lang_of, conc_of, Silently, made_turn, State, View, view_of, TopStands, EntryStands, GateStands, IsSmall, refs_at, types_at, size_of_run, Turned}, Effects.set_slot_ok, Frames.{filled, kept_pass, frames_same}, Quiet.put_self, Turns.{asks_turn, local_turn, room_of, unseen}, Own.{runs, rests, top, fine}, Plain.{register_plain, is_shut, stop_state, same_words}, Seen.reg_stored, Filled.{filled_state, inside_world, free_shut}, Counts.{count_is, filled_silent}, Accesses.{windowed_state, loaded_words, silent_window}}
+use Rattle.sharc_invariant.proofs.{Imports.{◌≡◌, ℕ, suc, ◌+◌, ◌⊎◌, ◌≢◌, true, false, cond, refl, sym, ap, ◌∙◌, subst, inl, inr, ⊎_elim, arith, eqb-true, fun_ext, slice_index, ◌==◌, test_of, Code, Shape, NotSole, Fits, count_word, Machine, instr_at, goes, set_ref, stopped, tested, ref, Turn, Global, MayTurn, one_thread, bounds, Instr, put_same, Targets, Gate, Closed, SoleGate, Labels, LessGate, without_base, IsWellTyped, World, Window, Shut, Sole, WinOk, RegisterOf, In, in_ref, set_win, set_slot, null, lang_of, conc_of, Silently, made_turn, State, TopStands, EntryStands, GateStands, IsSmall, refs_at, types_at, size_of_run, Turned}, TurnAt.turn_at, Effects.set_slot_ok, Frames.{filled, kept_pass, frames_same}, Quiet.put_self, Turns.{asks_turn, local_turn, room_of, unseen}, Own.{runs, rests, top, fine}, Plain.{register_plain, is_shut, stop_state, same_words}, Seen.reg_stored, Filled.{filled_state, inside_world, free_shut}, Counts.{count_is, filled_silent}, Accesses.{windowed_state, loaded_words, silent_window}}
 
 sole_gate : (r : ℕ) (y : Gate) → LessGate (SoleGate r false) y → (y ≡ Closed) ⊎ (y ≡ SoleGate r false)
 sole_gate r Closed h = inl refl
@@ -7,23 +7,7 @@ sole_gate r _ h = inr h
 
 module _ (x : Targets) (code : Code) (s : Shape) (ls : Labels) (wt : IsWellTyped x code ls) (fits : Fits code s) (few : IsSmall code s) (g : Global Machine) (world : World) (st : State x code s ls g world) (tr : Turn)
     (may : MayTurn bounds (one_thread code s) g tr) where
-  abbrev t : ℕ
-  t = tr.thread
-
-  abbrev m : Machine
-  m = g.threads tr.thread
-
-  abbrev here : Label
-  here = ls.at (g.threads tr.thread).at.pc
-
-  abbrev base : ℕ
-  base = (g.threads tr.thread).at.refs
-
-  abbrev view : View
-  view = view_of st.elements world tr.thread (g.threads tr.thread)
-
-  abbrev after : Global Machine
-  after = after_turn bounds (one_thread code s) g tr
+  open turn_at st tr use {t, m, here, base, view, after}
 
   pub Test_sole_keeps : (r site : ℕ) → instr_at code (g.threads tr.thread).at.pc ≡ Instr.TestSole r site → Turned x code s ls g world tr
   Test_sole_keeps r site is =

@@ -1,5 +1,5 @@
 -- Spawn's first three turns keep the invariant: a number is given out, and the function and the argument are written.
-use Rattle.sharc_invariant.proofs.{Imports.{◌≡◌, ℕ, ℤ, pos, zero, suc, ◌+◌, ◌*◌, ◌^◌, ◌<◌, ◌≤◌, ◌≢◌, ◌&&◌, Bool, true, false, cond, List, Option, Some, None, refl, sym, ap, ◌∙◌, subst, inl, inr, ⊎_elim, arith, ltb-true, cases_eq, nat_tests, length-set, get_or-set_same, get_or-set_other, fun_ext, ◌%◌, length, slice_index, slice_set, nat_lt, nat_eq, ◌||◌, ◌==◌, THREADS, Swap, Add, HeldMutex, object_of, Kind, Read, Write, Accesses, note_of, epoch_of, Code, Shape, RunsOn, Stage, Rests, Makes, Lowers, Names, Hands, Begins, Withdraws, WithdrawsFrom, Leaves, holds, int_of, Char, Fits, next_thread_word, state_word, function_word, argument_word, first_cell, top_word, Machine, int, ref, set_int, handed, reference_of, function_of, instr_at, step_of, at_stage, stopped, numbered, argument, spawn, start, begun, turn, may_go, counted, Turn, Global, put, MayTurn, after_turn, one_thread, bounds, Register, Trap, Parameter, Instr, put_same, put_other, put_all, Targets, ObjectType, nothing, is_private, LessGate, Entry, Empty, Refers, Unknown, Number, Anything, Within, Indexes, OfElement, OfGlobal, Named, HasName, empty, set_number, Closed, Label, Labels, Leads, HasBase, IsShared, Passes, IsWellTyped, Fine, Window, TypedReference, RegisterOf, ArgumentOf, In, Slot, CellOf, World, Shut, Sole, WorldInvariant, in_ref, none, place, shift, conc_of, lang_of, Shows, is_first, is_unread, if_reference, note_number, register_of, argument_of, staged_of, noted_by, logged, is_ended, has_withdrawn, set_reg, making_of, store, Silently, made_turn, KeepsOthers, StopStands, State, IsSmall, View, view_of, vals_of, Runs, ThreadStands, Threads, Firsts, Reserves, SpawnsNow, EntryStands, NumberStands, TopStands, FramesStand, GateStands, StageStands, label_now, refs_at, types_at, size_of_run, Turned, Kept, sum_to, ne_eq}, Effects.{place_same, place_other, shift_ok}, Frames.{empty_stands, less_number, filled, less_stands, entry_kept, frames_agree}, Quiet.{KeepsThread, KeepsMost, heap_now, most_state, sum_up, label_held, started_still, args_still, no_argument, sizes_kept, part_put, part_same}, Others.{OnHold, loses}, Turns.{asks_turn, room_of, unseen}, Own.{ref_inside, int_inside, closed_less, runs_at}, Filled.{view_filled, below_filled, free_shut}, Calls.passed_entry, Listed.store_ok, Accesses.back_again, Begun.{begun_stands, begun_regs}, Stores.index_put, Seen.reg_stored, Sums.sum_one, Starts.{register_held, arg_stored}, BitTurns.going_on, Plain.{sim_same, others_stay}, Heaps.low_stored}
+use Rattle.sharc_invariant.proofs.{Imports.{◌≡◌, ℕ, ℤ, pos, zero, suc, ◌+◌, ◌*◌, ◌^◌, ◌<◌, ◌≤◌, ◌≢◌, ◌&&◌, Bool, true, false, cond, List, Option, Some, None, refl, sym, ap, ◌∙◌, subst, inl, inr, ⊎_elim, arith, ltb-true, cases_eq, nat_tests, length-set, get_or-set_same, get_or-set_other, fun_ext, ◌%◌, length, slice_index, slice_set, nat_lt, nat_eq, ◌||◌, ◌==◌, THREADS, Swap, Add, HeldMutex, object_of, Kind, Read, Write, Accesses, note_of, epoch_of, Code, Shape, RunsOn, Stage, Rests, Makes, Lowers, Names, Hands, Begins, Withdraws, WithdrawsFrom, Leaves, holds, int_of, Char, Fits, next_thread_word, state_word, function_word, argument_word, first_cell, top_word, Machine, int, ref, set_int, handed, reference_of, function_of, instr_at, step_of, at_stage, stopped, numbered, argument, spawn, begun, turn, may_go, counted, Turn, Global, put, MayTurn, one_thread, bounds, Register, Trap, Parameter, Instr, put_same, put_other, put_all, Targets, ObjectType, nothing, is_private, LessGate, Entry, Empty, Refers, Unknown, Number, Anything, Within, Indexes, OfElement, OfGlobal, Named, HasName, empty, set_number, Closed, Label, Labels, Leads, HasBase, IsShared, Passes, IsWellTyped, Fine, Window, TypedReference, RegisterOf, ArgumentOf, In, Slot, CellOf, World, Shut, Sole, WorldInvariant, in_ref, none, place, shift, conc_of, lang_of, Shows, is_first, is_unread, if_reference, note_number, register_of, argument_of, staged_of, noted_by, logged, is_ended, has_withdrawn, set_reg, making_of, store, Silently, made_turn, KeepsOthers, StopStands, State, IsSmall, View, view_of, vals_of, Runs, ThreadStands, Threads, Firsts, Reserves, SpawnsNow, EntryStands, NumberStands, TopStands, FramesStand, GateStands, StageStands, label_now, refs_at, types_at, size_of_run, Turned, Kept, sum_to, ne_eq}, TurnAt.{turn_at, turn_stands}, Effects.{place_same, place_other, shift_ok}, Frames.{empty_stands, less_number, filled, less_stands, entry_kept, frames_agree}, Quiet.{KeepsThread, KeepsMost, heap_now, most_state, sum_up, label_held, started_still, args_still, no_argument, sizes_kept, part_put, part_same}, Others.{OnHold, loses}, Turns.{asks_turn, room_of, unseen}, Own.{ref_inside, int_inside, closed_less, runs_at}, Filled.{view_filled, below_filled, free_shut}, Calls.passed_entry, Listed.store_ok, Accesses.back_again, Begun.{begun_stands, begun_regs}, Stores.index_put, Seen.reg_stored, Sums.sum_one, Starts.{register_held, arg_stored, calm_notes}, BitTurns.going_on, Plain.{sim_same, others_stay}, Heaps.low_stored}
 use Rattle.sharc_tree.specs.declared.trap.Trap.TheVariants as traps
 
 abbrev pub is_spawning : Stage → Bool
@@ -9,49 +9,18 @@ is_spawning (Hands n) = true
 is_spawning (Begins n) = true
 is_spawning _ = false
 
-spawning_hold : (y : Stage) → is_spawning y ≡ true → OnHold y
-spawning_hold Rests e = tt
-spawning_hold (Names n) e = tt
-spawning_hold (Hands n) e = tt
-spawning_hold (Begins n) e = tt
-spawning_hold _ e = absurd (cc)
-
-spawning_staged : (y : Stage) → is_spawning y ≡ true → staged_of y ≡ 0
-spawning_staged (Lowers a b c) e = absurd (cc)
-spawning_staged _ e = refl
-
-spawning_making : (y : Stage) → is_spawning y ≡ true → making_of y ≡ None
-spawning_making (Makes v) e = absurd (cc)
-spawning_making _ e = refl
-
-spawning_withdrawn : (y : Stage) (order : List ℕ) (ended : Bool) (p : ℕ) → is_spawning y ≡ true → has_withdrawn y order ended p ≡ ended
-spawning_withdrawn (Withdraws a) order ended p e = absurd (cc)
-spawning_withdrawn (WithdrawsFrom a b) order ended p e = absurd (cc)
-spawning_withdrawn Leaves order ended p e = absurd (cc)
-spawning_withdrawn _ order ended p e = refl
-
-spawning_notes : (m m' : Machine) → m'.own.table ≡ m.own.table → is_spawning m.own.stage ≡ true → is_spawning m'.own.stage ≡ true → is_ended m.at.state ≡ false → is_ended m'.at.state ≡ false → (kind : Kind) (p : ℕ) → noted_by m' kind p ≡ noted_by m kind p
-spawning_notes m m' et es er eb ee kind p =
-    let a = spawning_withdrawn m.own.stage m.own.table.order (is_ended m.at.state) p es ∙ eb in
-    let b = spawning_withdrawn m'.own.stage m'.own.table.order (is_ended m'.at.state) p er ∙ ee in
-    ap (λ b. cond b 0 (note_number (note_of m'.own.table p kind))) b ∙ ap (λ (tb : Accesses). note_number (note_of tb p kind)) et ∙ ap (λ b. cond b 0 (note_number (note_of m.own.table p kind))) (sym a)
+-- at such a stage no block is to be linked or built, nothing is staged and nothing is withdrawn
+spawning_calm : (y : Stage) → is_spawning y ≡ true → record { hold : OnHold y; staged : staged_of y ≡ 0; making : making_of y ≡ None; withdrawn : (order : List ℕ) (ended : Bool) (p : ℕ) → has_withdrawn y order ended p ≡ ended }
+spawning_calm Rests e = record { hold = tt; staged = refl; making = refl; withdrawn = λ order ended p. refl }
+spawning_calm (Names n) e = record { hold = tt; staged = refl; making = refl; withdrawn = λ order ended p. refl }
+spawning_calm (Hands n) e = record { hold = tt; staged = refl; making = refl; withdrawn = λ order ended p. refl }
+spawning_calm (Begins n) e = record { hold = tt; staged = refl; making = refl; withdrawn = λ order ended p. refl }
+spawning_calm _ e = absurd (cc)
 
 module _ (x : Targets) (code : Code) (s : Shape) (ls : Labels) (wt : IsWellTyped x code ls) (fits : Fits code s) (g : Global Machine) (world : World) (st : State x code s ls g world) (tr : Turn)
     (may : MayTurn bounds (one_thread code s) g tr) (r f : ℕ) (from : Register) (site : ℕ) (is : instr_at code (g.threads tr.thread).at.pc ≡ Instr.Spawn r f from site) (spawning : is_spawning (g.threads tr.thread).own.stage ≡ true) where
-  abbrev t : ℕ
-  t = tr.thread
-
-  abbrev m : Machine
-  m = g.threads tr.thread
-
-  abbrev here : Label
-  here = ls.at (g.threads tr.thread).at.pc
-
-  abbrev view : View
-  view = view_of st.elements world tr.thread (g.threads tr.thread)
-
-  rn : Runs x code s ls st.elements world st.heap g tr.thread (g.threads tr.thread)
-  rn = (st.threads tr.thread).runs may.started may.next.runs
+  open turn_at st tr use {t, m, here, view}
+  open turn_stands st tr may use {rn}
 
   fine : Fine x code ls (g.threads tr.thread).at.pc here (Instr.Spawn r f from site)
   fine = subst (Fine x code ls m.at.pc here) is (wt.fine m.at.pc)
@@ -60,7 +29,7 @@ module _ (x : Targets) (code : Code) (s : Shape) (ls : Labels) (wt : IsWellTyped
   not_zero = ne_eq m.at.pc 0 (λ z. let q : Instr.Spawn r f from site ≡ Instr.Start wt.begin.0 = sym is ∙ ap (instr_at code) z ∙ wt.begin.1 in absurd (cc))
 
   now_here : label_now here (instr_at code (g.threads tr.thread).at.pc) (g.threads tr.thread).own.stage ≡ here
-  now_here = label_held here (instr_at code m.at.pc) m.own.stage (spawning_hold m.own.stage spawning)
+  now_here = label_held here (instr_at code m.at.pc) m.own.stage (spawning_calm m.own.stage spawning).hold
 
   shut : world.win tr.thread ≡ Shut
   shut = subst (GateStands s world t m) (ap (λ (l : Label). l.gate) now_here ∙ fine.0) rn.gate
@@ -126,9 +95,9 @@ module _ (x : Targets) (code : Code) (s : Shape) (ls : Labels) (wt : IsWellTyped
         let wd : (λ j. slice_index words j) ≡ put (λ i. slice_index g.words i) k v = fun_ext at in
         let rs : (λ u. register_of code (now.threads u)) ≡ regs_now = part_put (register_of code) g.threads t m' in
         let lo : (λ u. logged (now.threads u)) ≡ (λ u. logged (g.threads u)) = fun_ext (part_same logged g.threads t m' (fun_ext (λ w. ap (λ (h : List HeldMutex). reference_of (object_of h w)) held))) in
-        let sg : (λ u. staged_of (now.threads u).own.stage) ≡ (λ u. staged_of (g.threads u).own.stage) = fun_ext (part_same (λ m. staged_of m.own.stage) g.threads t m' (spawning_staged m'.own.stage spawning' ∙ sym (spawning_staged m.own.stage spawning))) in
+        let sg : (λ u. staged_of (now.threads u).own.stage) ≡ (λ u. staged_of (g.threads u).own.stage) = fun_ext (part_same (λ m. staged_of m.own.stage) g.threads t m' ((spawning_calm m'.own.stage spawning').staged ∙ sym (spawning_calm m.own.stage spawning).staged)) in
         let nt : (kind : Kind) → (λ u. noted_by (now.threads u) kind) ≡ (λ u. noted_by (g.threads u) kind) = λ kind.
-        fun_ext (part_same (λ m. noted_by m kind) g.threads t m' (fun_ext (spawning_notes m m' table spawning spawning' ended_before goes_on kind))) in
+        fun_ext (part_same (λ m. noted_by m kind) g.threads t m' (fun_ext (calm_notes m m' table (spawning_calm m.own.stage spawning).withdrawn (spawning_calm m'.own.stage spawning').withdrawn ended_before goes_on kind))) in
         let rd = nt Read in
         let wr = nt Write in
         λ i. record { words = wd i; regs = rs i; args = argument_of code now; logs = lo i; staged = sg i; read_notes = rd i; write_notes = wr i }
@@ -138,7 +107,7 @@ module _ (x : Targets) (code : Code) (s : Shape) (ls : Labels) (wt : IsWellTyped
         let c = conc_of code g in
         let regs : (u i : ℕ) → c.regs u i ≡ regs_now u i = λ u i.
         put_all (λ u (f : ℕ → ℕ). register_of code (g.threads u) i ≡ f i) (λ u. register_of code (g.threads u)) t (register_of code m')
-        (register_held code m (spawning_hold m.own.stage spawning) i ∙ ap (λ (l : List ℕ). slice_index l i) (sym same_own) ∙ sym (register_held code m' (spawning_hold m'.own.stage spawning') i)) (λ u _. refl) u in
+        (register_held code m (spawning_calm m.own.stage spawning).hold i ∙ ap (λ (l : List ℕ). slice_index l i) (sym same_own) ∙ sym (register_held code m' (spawning_calm m'.own.stage spawning').hold i)) (λ u _. refl) u in
         subst (λ c. Shows x s st.cells st.elements c world) (sym conc_now)
         (sim_same x s st.cells st.elements (store c k v) world regs_now (argument_of code now) regs args_same (low_stored x s st.cells st.elements c world k v low st.apart st.sim))
 
@@ -217,7 +186,7 @@ module _ (x : Targets) (code : Code) (s : Shape) (ls : Labels) (wt : IsWellTyped
         → Runs x code s ls st.elements world (heap_now st.heap words) now tr.thread m'
     stage_runs y e ey stands =
         let m1 = at_stage m y in
-        let eq : label_now here (instr_at code m.at.pc) y ≡ here = label_held here (instr_at code m.at.pc) y (spawning_hold y ey) in
+        let eq : label_now here (instr_at code m.at.pc) y ≡ here = label_held here (instr_at code m.at.pc) y (spawning_calm y ey).hold in
         let below : FramesStand x code ls t view m1 here.function = elim here.function as (λ f. FramesStand x code ls t view m f → FramesStand x code ls t view m1 f) [ None ↦ λ h. h | Some f ↦ λ h. h ] rn.below in
         let runs1 : Runs x code s ls st.elements world (heap_now st.heap words) now t m1 = record {
           names = rn.names;
@@ -240,17 +209,11 @@ sum_most (suc n) f c h = let a = sum_most n f c h in let b = h n in let e : suc 
 
 module _ (x : Targets) (code : Code) (s : Shape) (ls : Labels) (wt : IsWellTyped x code ls) (fits : Fits code s) (few : IsSmall code s) (g : Global Machine) (world : World) (st : State x code s ls g world) (tr : Turn)
     (may : MayTurn bounds (one_thread code s) g tr) (r f : ℕ) (from : Register) (site : ℕ) (is : instr_at code (g.threads tr.thread).at.pc ≡ Instr.Spawn r f from site) where
-  abbrev mm : Machine
-  mm = g.threads tr.thread
-
-  abbrev done_at : Global Machine
-  done_at = after_turn bounds (one_thread code s) g tr
+  open turn_at st tr use {m as mm, after as done_at}
+  open turn_stands st tr may use {low_t as on_t}
 
   abbrev next_number : ℕ
   next_number = slice_index g.words next_thread_word
-
-  on_t : tr.thread < THREADS
-  on_t = st.begins.few tr.thread may.started
 
   settled : (w' : Global Machine) → done_at ≡ w' → State x code s ls w' world → Turned x code s ls g world tr
   settled w' e k = unseen x code s ls g world tr _ e k
@@ -262,7 +225,7 @@ module _ (x : Targets) (code : Code) (s : Shape) (ls : Labels) (wt : IsWellTyped
       omega arith
 
   own_at : (y : Stage) → is_spawning (g.threads tr.thread).own.stage ≡ true → is_spawning y ≡ true → KeepsThread (g.threads tr.thread) (at_stage (g.threads tr.thread) y)
-  own_at y sp sp' = record { sizes = sizes_kept mm (at_stage mm y) (st.threads tr.thread).has.table refl refl refl refl; held = refl; heads = refl; making = spawning_making y sp' ∙ sym (spawning_making mm.own.stage sp) }
+  own_at y sp sp' = record { sizes = sizes_kept mm (at_stage mm y) (st.threads tr.thread).has.table refl refl refl refl; held = refl; heads = refl; making = (spawning_calm y sp').making ∙ sym (spawning_calm mm.own.stage sp).making }
 
   -- a number is given out
   numbers : (rest : (g.threads tr.thread).own.stage ≡ Rests) → done_at ≡ made_turn g tr.thread (slice_set g.words next_thread_word ((next_number + 1) % 2 ^ 64)) (numbered (g.threads tr.thread) site next_number) → next_thread_word < length g.words → Turned x code s ls g world tr
@@ -367,14 +330,14 @@ module _ (x : Targets) (code : Code) (s : Shape) (ls : Labels) (wt : IsWellTyped
   small_argument : (from' : Register) → instr_at code (g.threads tr.thread).at.pc ≡ Instr.Spawn r f from' site → is_spawning (g.threads tr.thread).own.stage ≡ true → argument (g.threads tr.thread) from' < 2 ^ 64
   small_argument (Register.Int i) is' sp =
       let v = view_of st.elements world tr.thread mm in
-      let rn' = rn x code s ls wt fits g world st tr may r f (Register.Int i) site is' sp in
+      let rn' = (st.threads tr.thread).runs may.started may.next.runs in
       let fi = (fine x code s ls wt fits g world st tr may r f (Register.Int i) site is' sp).5.2 in
       let tp = subst (TopStands x tr.thread v mm.at.refs mm.at.ints rn'.names) (now_here x code s ls wt fits g world st tr may r f (Register.Int i) site is' sp) rn'.top in
       (back_again fi.0 (int mm i) (less_number x st.elements (refs_at v mm.at.refs) (types_at v mm.at.refs) rn'.names (int mm i) ((ls.at mm.at.pc).ints i) (Within fi.0) fi.1 ((tp 0 (suc i)).numbers i (omega arith)))).1
   small_argument (Register.Reference q) is' sp =
       let v = ref mm q in
       let a = RegisterOf tr.thread (mm.at.refs + q) in
-      let ev : in_ref world a ≡ v = st.sim.regs tr.thread (mm.at.refs + q) ∙ register_held code mm (spawning_hold mm.own.stage sp) (mm.at.refs + q) in
+      let ev : in_ref world a ≡ v = st.sim.regs tr.thread (mm.at.refs + q) ∙ register_held code mm (spawning_calm mm.own.stage sp).hold (mm.at.refs + q) in
       ⊎_elim (λ (z : v ≡ 0). omega arith)
       (λ (nz : v ≡ 0 → ⊥).
       let fi = st.inv.words.fits (In a) (λ z. nz (sym ev ∙ z)) in
@@ -594,9 +557,9 @@ module _ (x : Targets) (code : Code) (s : Shape) (ls : Labels) (wt : IsWellTyped
       let rs : (λ u. register_of code (then_.threads u)) ≡ regs_last = part_put (register_of code) g.threads t last in
       let lo : (λ u. logged (then_.threads u)) ≡ (λ u. logged (g.threads u)) = fun_ext (λ u. put_all (λ u y. logged y ≡ logged (g.threads u)) g.threads t last refl (λ u _. refl) u) in
       let sg : (λ u. staged_of (then_.threads u).own.stage) ≡ (λ u. staged_of (g.threads u).own.stage) =
-      fun_ext (λ u. put_all (λ u (y : Machine). staged_of y.own.stage ≡ staged_of (g.threads u).own.stage) g.threads t last (sym (spawning_staged m.own.stage sp)) (λ u _. refl) u) in
+      fun_ext (λ u. put_all (λ u (y : Machine). staged_of y.own.stage ≡ staged_of (g.threads u).own.stage) g.threads t last (sym (spawning_calm m.own.stage sp).staged) (λ u _. refl) u) in
       let nt : (kind : Kind) → (λ u. noted_by (then_.threads u) kind) ≡ (λ u. noted_by (g.threads u) kind) = λ kind.
-      fun_ext (λ u. put_all (λ u y. noted_by y kind ≡ noted_by (g.threads u) kind) g.threads t last (fun_ext (spawning_notes m last refl sp refl (ended_before x code s ls wt fits g world st tr may r f from site is sp) refl kind)) (λ u _. refl) u) in
+      fun_ext (λ u. put_all (λ u y. noted_by y kind ≡ noted_by (g.threads u) kind) g.threads t last (fun_ext (calm_notes m last refl (spawning_calm m.own.stage sp).withdrawn (λ order ended p. refl) (ended_before x code s ls wt fits g world st tr may r f from site is sp) refl kind)) (λ u _. refl) u) in
       let rd = nt Read in
       let wr = nt Write in
       λ i. record { words = wd i; regs = rs i; args = argument_of code then_; logs = lo i; staged = sg i; read_notes = rd i; write_notes = wr i }
@@ -612,12 +575,12 @@ module _ (x : Targets) (code : Code) (s : Shape) (ls : Labels) (wt : IsWellTyped
       let m = g.threads tr.thread in
       let new = (ls.at (m.at.pc + 1)).gate in
       let still : w'.win t ≡ Shut = ap (λ (f : ℕ → Window). f t) ew ∙ shut x code s ls wt fits g world st tr may r f from site is sp in
-      let rn' = rn x code s ls wt fits g world st tr may r f from site is sp in
+      let rn' = (st.threads tr.thread).runs may.started may.next.runs in
       let off_n : g.started n ≡ false = (st.begins.started n reserves.few).0 reserves.state in
       let new_thread = begun_stands x code s ls wt st.elements w' (heap_now st.heap begun_words) then_ n (put_other g.threads t n last not_t ∙ waits)
       (λ j. ap (λ (y : TypedReference). y.reference) (ks.regs n not_t j) ∙ begun_regs x code s ls wt g world st n waits j) (ks.win n not_t ∙ (st.threads n).off off_n) in
       most_state x code s ls g world st t may.started begun_words last
-      (record { sizes = sizes_kept m last (st.threads t).has.table refl lr (length-set m.ints (m.at.ints + r) (pos n)) refl; held = refl; heads = refl; making = sym (spawning_making m.own.stage sp) })
+      (record { sizes = sizes_kept m last (st.threads t).has.table refl lr (length-set m.ints (m.at.ints + r) (pos n)) refl; held = refl; heads = refl; making = sym (spawning_calm m.own.stage sp).making })
       most_last w' eo em ks wt inv (subst (λ c. Shows x s st.cells st.elements c w') (sym conc_last) sim) (threads_last w' others entry) (firsts_last number)
       (λ u ne. ⊎_elim (λ (e : u ≡ n). inr (subst (λ u. ThreadStands x code s ls st.elements w' (heap_now st.heap begun_words) then_ u) (sym e) new_thread)) (λ (nn : u ≡ n → ⊥). inl (started_other u nn)) (cases_eq u n))
       (λ _. runs_at x code s ls st.elements w' (heap_now st.heap begun_words) then_ t last names refl
@@ -667,7 +630,7 @@ module _ (x : Targets) (code : Code) (s : Shape) (ls : Labels) (wt : IsWellTyped
       let here = ls.at m.at.pc in
       let spn : is_spawning m.own.stage ≡ true = ap is_spawning stage in
       let v = view_of st.elements world t m in
-      let rn' = rn x code s ls wt fits g world st tr may r f (Register.Int i) site is spn in
+      let rn' = (st.threads tr.thread).runs may.started may.next.runs in
       let fi = fine x code s ls wt fits g world st tr may r f (Register.Int i) site is spn in
       let tp = subst (TopStands x t v m.at.refs m.at.ints rn'.names) (now_here x code s ls wt fits g world st tr may r f (Register.Int i) site is spn) rn'.top in
       let start = wt.starts f fi.3 in
@@ -690,7 +653,7 @@ module _ (x : Targets) (code : Code) (s : Shape) (ls : Labels) (wt : IsWellTyped
       subst (EntryStands (λ r. in_ref world (ArgumentOf n)) (λ r. (world.slots (In (ArgumentOf n))).ty) 0) (sym (start.reference nr)) (st.sim.args n ∙ unset) in
       let regs : (u j : ℕ) → c.regs u j ≡ put (λ u. register_of code (g.threads u)) t (register_of code m') u j = λ u j.
       put_all (λ u (f : ℕ → ℕ). register_of code (g.threads u) j ≡ f j) (λ u. register_of code (g.threads u)) t (register_of code m')
-      (register_held code m (spawning_hold m.own.stage spn) j ∙ sym (register_held code m' tt j)) (λ u _. refl) u in
+      (register_held code m (spawning_calm m.own.stage spn).hold j ∙ sym (register_held code m' tt j)) (λ u _. refl) u in
       let args : (u : ℕ) → c.args u ≡ argument_of code now u = λ u. ⊎_elim
       (λ (e : u ≡ n). ap (argument_of code g) e ∙ unset ∙ sym (ap (argument_of code now) e ∙ new ∙ ap (λ p. if_reference p (slice_index g.words (argument_word n))) fi.5.0)) (λ (ne : u ≡ n → ⊥). other u ne) (cases_eq u n) in
       let sim = sim_same x s st.cells st.elements (store c (state_word n) 1) world (put (λ u. register_of code (g.threads u)) t (register_of code m')) (argument_of code now) regs args (low_stored x s st.cells st.elements c world (state_word n) 1 (omega arith) st.apart st.sim) in
@@ -727,7 +690,7 @@ module _ (x : Targets) (code : Code) (s : Shape) (ls : Labels) (wt : IsWellTyped
       let here = ls.at m.at.pc in
       let spn : is_spawning m.own.stage ≡ true = ap is_spawning stage in
       let v = view_of st.elements world t m in
-      let rn' = rn x code s ls wt fits g world st tr may r f (Register.Reference q) site is spn in
+      let rn' = (st.threads tr.thread).runs may.started may.next.runs in
       let fi = fine x code s ls wt fits g world st tr may r f (Register.Reference q) site is spn in
       let still = shut x code s ls wt fits g world st tr may r f (Register.Reference q) site is spn in
       let tp = subst (TopStands x t v m.at.refs m.at.ints rn'.names) (now_here x code s ls wt fits g world st tr may r f (Register.Reference q) site is spn) rn'.top in
@@ -741,7 +704,7 @@ module _ (x : Targets) (code : Code) (s : Shape) (ls : Labels) (wt : IsWellTyped
       let lt_n = reserves.few in
       let inside = ref_inside x code ls t v m here.function q rn'.below fi.5.1 in
       let lt_q : kq < length m.refs = subst (λ b. kq < b) (sym (st.threads t).has.refs) inside in
-      let value : ref m q ≡ h.reference = sym (st.sim.regs t kq ∙ register_held code m (spawning_hold m.own.stage spn) kq) in
+      let value : ref m q ≡ h.reference = sym (st.sim.regs t kq ∙ register_held code m (spawning_calm m.own.stage spn).hold kq) in
       let unset = unset_n x code s ls wt fits few g world st tr may r f (Register.Reference q) site is n stage reserves named long refs lr in
       let other = args_other x code s ls wt fits few g world st tr may r f (Register.Reference q) site is n stage reserves named long refs lr in
       let new = args_new x code s ls wt fits few g world st tr may r f (Register.Reference q) site is n stage reserves named long refs lr in
@@ -766,7 +729,7 @@ module _ (x : Targets) (code : Code) (s : Shape) (ls : Labels) (wt : IsWellTyped
       let sim1 = reg_stored x s st.cells st.elements c world (low_stored x s st.cells st.elements (conc_of code g) world (state_word n) 1 (omega arith) st.apart st.sim) st.apart t kq none in
       let sim2 = arg_stored x s st.cells st.elements (set_reg c t kq 0) w1 sim1 n h (argument_of code now) arg (λ u ne. sym (other u ne)) in
       let regs2 : register_of code m' ≡ put (R t) kq 0 = fun_ext (λ j. register_held code m' tt j
-      ∙ put_all (λ j y. slice_index refs j ≡ y) (R t) kq 0 (get_or-set_same m.refs kq 0 0 lt_q) (λ j ne. get_or-set_other m.refs kq j 0 0 ne ∙ sym (register_held code m (spawning_hold m.own.stage spn) j)) j) in
+      ∙ put_all (λ j y. slice_index refs j ≡ y) (R t) kq 0 (get_or-set_same m.refs kq 0 0 lt_q) (λ j ne. get_or-set_other m.refs kq j 0 0 ne ∙ sym (register_held code m (spawning_calm m.own.stage spn).hold j)) j) in
       let sim = subst (λ f. Shows x s st.cells st.elements (record c { regs = put R t f; args = argument_of code now }) w2) (sym regs2) sim2 in
       let private : h.reference ≢ 0 → is_private x h.ty ≡ true → t ≡ n = λ nz p. let y = shared_type x v.refs h.reference h.ty takes fi.5.5 held nz in absurd (cc) in
       let inv = shift_ok (size_of_run code s) (lang_of x) world st.inv (RegisterOf t kq) (ArgumentOf n) (λ e. cc) (st.begins.few t may.started, inside) lt_n (st.sim.args n ∙ unset) private (free_shut world t kq still) (λ u r _ e. cc) in

@@ -1,5 +1,5 @@
 -- Start keeps the invariant: a thread loads its function, and then its argument, and enters it.
-use Rattle.sharc_invariant.proofs.{Imports.{◌≡◌, ℕ, ℤ, pos, suc, ◌+◌, ◌*◌, ◌^◌, ◌<◌, ◌≢◌, ◌⊎◌, ◌&&◌, Bool, true, false, cond, List, Some, None, refl, sym, ap, ◌∙◌, subst, inl, inr, ⊎_elim, arith, cases_eq, nat_tests, length-set, get_or-set_same, get_or-set_other, set-get_or, fun_ext, length, slice_index, slice_index_or, slice_set, nat_lt, ◌==◌, THREADS, Load, HeldMutex, object_of, Kind, Read, Write, Accesses, note_of, FRAMES, Code, Parameter, Shape, At, Frame, RunsOn, Stage, Rests, Makes, Enters, int_of, Fits, function_at, state_word, function_word, argument_word, Machine, Asks, reference_of, function_of, instr_at, no_frame, step_of, at_stage, called, trapped, with_parameter, entered, start, turn, counted, most_refs, Turn, Global, put, MayTurn, after_turn, one_thread, bounds, Instr, put_same, put_other, put_all, Targets, nothing, Empty, Refers, Unknown, Label, Labels, Less, HasBase, IsWellTyped, Fine, MayStart, entry_label, refs_in, TypedReference, Holder, RegisterOf, ArgumentOf, LogOf, Staged, In, Slot, CellOf, World, Shut, Sole, WorldInvariant, in_ref, none, place, shift, MachineView, conc_of, lang_of, Shows, is_first, is_unread, if_reference, note_number, register_of, argument_of, staged_of, noted_by, logged, is_ended, has_withdrawn, making_of, Silently, made_turn, KeepsOthers, State, View, view_of, Runs, Threads, Firsts, SpawnsNow, EntryStands, NumberStands, TopStands, StartStands, FramesStand, GateStands, StageStands, OnStart, label_now, frame_at, refs_at, types_at, size_of_run, Turned, ne_eq}, Effects.{place_same, place_other, shift_ok}, Frames.{less_stands, entry_kept, number_kept}, Quiet.{KeepsThread, heap_now, started_same, sum_up, kept_state, label_held, freed_held, sizes_kept, part_put, part_same}, Others.{OnHold, loses}, Turns.{asks_turn, room_of, unseen}, Own.{closed_less, runs_at, refs_most, ints_most}, Plain.{same_words, same_others, sim_same}, Filled.free_shut, Seen.{reg_stored, holder_stored}, BitTurns.going_on}
+use Rattle.sharc_invariant.proofs.{Imports.{◌≡◌, ℕ, ℤ, pos, suc, ◌+◌, ◌*◌, ◌^◌, ◌<◌, ◌≢◌, ◌⊎◌, ◌&&◌, Bool, true, false, cond, List, Some, None, refl, sym, ap, ◌∙◌, subst, inl, inr, ⊎_elim, arith, cases_eq, nat_tests, length-set, get_or-set_same, get_or-set_other, set-get_or, fun_ext, length, slice_index, slice_index_or, slice_set, nat_lt, ◌==◌, THREADS, Load, HeldMutex, object_of, Kind, Read, Write, Accesses, note_of, FRAMES, Code, Parameter, Shape, At, Frame, RunsOn, Stage, Rests, Makes, Enters, int_of, Fits, function_at, state_word, function_word, argument_word, Machine, Asks, reference_of, function_of, instr_at, no_frame, step_of, at_stage, called, trapped, with_parameter, entered, start, turn, counted, most_refs, Turn, Global, put, MayTurn, one_thread, bounds, Instr, put_same, put_other, put_all, Targets, nothing, Empty, Refers, Unknown, Label, Labels, Less, HasBase, IsWellTyped, Fine, MayStart, entry_label, refs_in, TypedReference, Holder, RegisterOf, ArgumentOf, LogOf, Staged, In, Slot, CellOf, World, Shut, Sole, WorldInvariant, in_ref, none, place, shift, MachineView, conc_of, lang_of, Shows, is_first, is_unread, if_reference, note_number, register_of, argument_of, staged_of, noted_by, logged, is_ended, has_withdrawn, making_of, Silently, made_turn, KeepsOthers, State, View, view_of, Runs, Threads, Firsts, SpawnsNow, EntryStands, NumberStands, TopStands, StartStands, FramesStand, GateStands, StageStands, OnStart, label_now, frame_at, refs_at, types_at, size_of_run, Turned, ne_eq}, TurnAt.{turn_at, turn_stands}, Effects.{place_same, place_other, shift_ok}, Frames.{less_stands, entry_kept, number_kept}, Quiet.{KeepsThread, heap_now, started_same, sum_up, kept_state, label_held, freed_held, sizes_kept, part_put, part_same}, Others.{OnHold, loses}, Turns.{asks_turn, room_of, unseen}, Own.{closed_less, runs_at, refs_most, ints_most}, Plain.{same_words, same_others, sim_same}, Filled.free_shut, Seen.{reg_stored, holder_stored}, BitTurns.going_on}
 use Rattle.sharc_tree.specs.declared.trap.Trap.{Trap}
 
 -- ---- the machine that enters a function
@@ -22,39 +22,19 @@ is_early Rests = true
 is_early (Enters f) = true
 is_early _ = false
 
-early_making : (y : Stage) → is_early y ≡ true → making_of y ≡ None
-early_making (Makes v) e = absurd (cc)
-early_making _ e = refl
+-- at such a stage no block is to be linked or built, nothing is staged, no thread is named and nothing is withdrawn
+early_calm : (y : Stage) → is_early y ≡ true
+    → record { hold : OnHold y; staged : staged_of y ≡ 0; making : making_of y ≡ None; spawns : (n : ℕ) → SpawnsNow y n → ⊥; first : is_first y ≡ true; withdrawn : (order : List ℕ) (ended : Bool) (p : ℕ) → has_withdrawn y order ended p ≡ ended }
+early_calm Rests e = record { hold = tt; staged = refl; making = refl; spawns = λ n z. z; first = refl; withdrawn = λ order ended p. refl }
+early_calm (Enters f) e = record { hold = tt; staged = refl; making = refl; spawns = λ n z. z; first = refl; withdrawn = λ order ended p. refl }
+early_calm _ e = absurd (cc)
 
-early_hold : (y : Stage) → is_early y ≡ true → OnHold y
-early_hold Rests e = tt
-early_hold (Enters f) e = tt
-early_hold _ e = absurd (cc)
-
-early_staged : (y : Stage) → is_early y ≡ true → staged_of y ≡ 0
-early_staged Rests e = refl
-early_staged (Enters f) e = refl
-early_staged _ e = absurd (cc)
-
-early_spawns : (y : Stage) (n : ℕ) → is_early y ≡ true → SpawnsNow y n → ⊥
-early_spawns Rests n e h = h
-early_spawns (Enters f) n e h = h
-early_spawns _ n e h = absurd (cc)
-
-early_first : (y : Stage) → is_early y ≡ true → is_first y ≡ true
-early_first Rests e = refl
-early_first (Enters f) e = refl
-early_first _ e = absurd (cc)
-
-early_withdrawn : (y : Stage) (order : List ℕ) (ended : Bool) (p : ℕ) → is_early y ≡ true → has_withdrawn y order ended p ≡ ended
-early_withdrawn Rests order ended p e = refl
-early_withdrawn (Enters f) order ended p e = refl
-early_withdrawn _ order ended p e = absurd (cc)
-
-early_notes : (m m' : Machine) → m'.own.table ≡ m.own.table → is_early m.own.stage ≡ true → is_early m'.own.stage ≡ true → is_ended m.at.state ≡ false → is_ended m'.at.state ≡ false → (kind : Kind) (p : ℕ) → noted_by m' kind p ≡ noted_by m kind p
-early_notes m m' et es er eb ee kind p =
-    let a = early_withdrawn m.own.stage m.own.table.order (is_ended m.at.state) p es ∙ eb in
-    let b = early_withdrawn m'.own.stage m'.own.table.order (is_ended m'.at.state) p er ∙ ee in
+-- who withdraws neither before nor behind a turn that leaves its table has the notes that it had
+pub calm_notes : (m m' : Machine) → m'.own.table ≡ m.own.table → ((order : List ℕ) (ended : Bool) (p : ℕ) → has_withdrawn m.own.stage order ended p ≡ ended) → ((order : List ℕ) (ended : Bool) (p : ℕ) → has_withdrawn m'.own.stage order ended p ≡ ended)
+    → is_ended m.at.state ≡ false → is_ended m'.at.state ≡ false → (kind : Kind) (p : ℕ) → noted_by m' kind p ≡ noted_by m kind p
+calm_notes m m' et w w' eb ee kind p =
+    let a = w m.own.table.order (is_ended m.at.state) p ∙ eb in
+    let b = w' m'.own.table.order (is_ended m'.at.state) p ∙ ee in
     ap (λ b. cond b 0 (note_number (note_of m'.own.table p kind))) b ∙ ap (λ (tb : Accesses). note_number (note_of tb p kind)) et ∙ ap (λ b. cond b 0 (note_number (note_of m.own.table p kind))) (sym a)
 
 from_zero : {A : Type 0} (f : ℕ → A) → f ≡ (λ r. f (0 + r))
@@ -76,26 +56,8 @@ arg_stored x s cells elements c w sim n h args et eu =
 
 module _ (x : Targets) (code : Code) (s : Shape) (ls : Labels) (wt : IsWellTyped x code ls) (fits : Fits code s) (g : Global Machine) (world : World) (st : State x code s ls g world) (tr : Turn)
     (may : MayTurn bounds (one_thread code s) g tr) (site : ℕ) (is : instr_at code (g.threads tr.thread).at.pc ≡ Instr.Start site) where
-  abbrev t : ℕ
-  t = tr.thread
-
-  abbrev m : Machine
-  m = g.threads tr.thread
-
-  abbrev here : Label
-  here = ls.at (g.threads tr.thread).at.pc
-
-  abbrev after : Global Machine
-  after = after_turn bounds (one_thread code s) g tr
-
-  abbrev view : View
-  view = view_of st.elements world tr.thread (g.threads tr.thread)
-
-  low_t : tr.thread < THREADS
-  low_t = st.begins.few tr.thread may.started
-
-  rn : Runs x code s ls st.elements world st.heap g tr.thread (g.threads tr.thread)
-  rn = (st.threads tr.thread).runs may.started may.next.runs
+  open turn_at st tr use {t, m, here, after, view}
+  open turn_stands st tr may use {low_t, rn, number as number_is}
 
   fine : Fine x code ls (g.threads tr.thread).at.pc here (Instr.Start site)
   fine = subst (Fine x code ls m.at.pc here) is (wt.fine m.at.pc)
@@ -109,18 +71,15 @@ module _ (x : Targets) (code : Code) (s : Shape) (ls : Labels) (wt : IsWellTyped
   ended_before : is_ended (g.threads tr.thread).at.state ≡ false
   ended_before = going_on m.at.state may.next.runs
 
-  number_is : (g.threads tr.thread).own.number ≡ tr.thread
-  number_is = (st.threads t).has.number
-
   module _ (early : is_early (g.threads tr.thread).own.stage ≡ true) where
     now_here : label_now here (instr_at code (g.threads tr.thread).at.pc) (g.threads tr.thread).own.stage ≡ here
-    now_here = label_held here (instr_at code m.at.pc) m.own.stage (early_hold m.own.stage early)
+    now_here = label_held here (instr_at code m.at.pc) m.own.stage (early_calm m.own.stage early).hold
 
     shut : world.win tr.thread ≡ Shut
     shut = subst (GateStands s world t m) (ap (λ (l : Label). l.gate) now_here ∙ fine.0) rn.gate
 
     unread : is_unread (g.threads tr.thread) ≡ true
-    unread = ap (λ n. (n == 0) && is_first m.own.stage) pc_zero ∙ early_first m.own.stage early
+    unread = ap (λ n. (n == 0) && is_first m.own.stage) pc_zero ∙ (early_calm m.own.stage early).first
 
     is_one : slice_index g.words (state_word tr.thread) ≡ 1
     is_one = st.firsts.unread t low_t may.started unread
@@ -146,9 +105,9 @@ module _ (x : Targets) (code : Code) (s : Shape) (ls : Labels) (wt : IsWellTyped
       conc_now =
           let rs : (λ u. register_of code (now.threads u)) ≡ regs_now = part_put (register_of code) g.threads t m' in
           let lo : (λ u. logged (now.threads u)) ≡ (λ u. logged (g.threads u)) = fun_ext (part_same logged g.threads t m' (fun_ext (λ w. ap (λ (h : List HeldMutex). reference_of (object_of h w)) held))) in
-          let sg : (λ u. staged_of (now.threads u).own.stage) ≡ (λ u. staged_of (g.threads u).own.stage) = fun_ext (part_same (λ m. staged_of m.own.stage) g.threads t m' (early_staged m'.own.stage early' ∙ sym (early_staged m.own.stage early))) in
+          let sg : (λ u. staged_of (now.threads u).own.stage) ≡ (λ u. staged_of (g.threads u).own.stage) = fun_ext (part_same (λ m. staged_of m.own.stage) g.threads t m' ((early_calm m'.own.stage early').staged ∙ sym (early_calm m.own.stage early).staged)) in
           let nt : (kind : Kind) → (λ u. noted_by (now.threads u) kind) ≡ (λ u. noted_by (g.threads u) kind) = λ kind.
-          fun_ext (part_same (λ m. noted_by m kind) g.threads t m' (fun_ext (early_notes m m' table early early' ended_before (ap is_ended goes_on) kind))) in
+          fun_ext (part_same (λ m. noted_by m kind) g.threads t m' (fun_ext (calm_notes m m' table (early_calm m.own.stage early).withdrawn (early_calm m'.own.stage early').withdrawn ended_before (ap is_ended goes_on) kind))) in
           let rd = nt Read in
           let wr = nt Write in
           λ i. record { words = λ j. slice_index g.words j; regs = rs i; args = argument_of code now; logs = lo i; staged = sg i; read_notes = rd i; write_notes = wr i }
@@ -178,7 +137,7 @@ module _ (x : Targets) (code : Code) (s : Shape) (ls : Labels) (wt : IsWellTyped
               (λ (e : w'.slots (In (ArgumentOf u)) ≡ none). subst P (sym e) (elim f as (λ f. EntryStands (λ r. 0) (λ r. nothing) 0 f) [ Empty ↦ refl | Refers y ↦ λ nz. absurd (nz refl) | Unknown ↦ tt ])) (args u);
           one = λ a b n ha hb.
               let keeps : (u : ℕ) → SpawnsNow (now.threads u).own.stage n → SpawnsNow (g.threads u).own.stage n =
-              put_all (λ u (y : Machine). SpawnsNow y.own.stage n → SpawnsNow (g.threads u).own.stage n) g.threads t m' (λ h. absurd (early_spawns m'.own.stage n early' h)) (λ u _ h. h) in
+              put_all (λ u (y : Machine). SpawnsNow y.own.stage n → SpawnsNow (g.threads u).own.stage n) g.threads t m' (λ h. absurd ((early_calm m'.own.stage early').spawns n h)) (λ u _ h. h) in
               st.begins.one a b n (keeps a ha) (keeps b hb);
         }
 
@@ -190,7 +149,7 @@ module _ (x : Targets) (code : Code) (s : Shape) (ls : Labels) (wt : IsWellTyped
               (cases_eq u t);
           alone = st.firsts.alone;
           number = st.firsts.number;
-          spawns = λ u n h. st.firsts.spawns u n (put_all (λ u (y : Machine). SpawnsNow y.own.stage n → SpawnsNow (g.threads u).own.stage n) g.threads t m' (λ h. absurd (early_spawns m'.own.stage n early' h)) (λ u _ h. h) u h);
+          spawns = λ u n h. st.firsts.spawns u n (put_all (λ u (y : Machine). SpawnsNow y.own.stage n → SpawnsNow (g.threads u).own.stage n) g.threads t m' (λ h. absurd ((early_calm m'.own.stage early').spawns n h)) (λ u _ h. h) u h);
           few = (let a = st.firsts.few in let c = sum_up THREADS g.made t (counted m'.at.state) in omega arith);
         }
 
@@ -199,7 +158,7 @@ module _ (x : Targets) (code : Code) (s : Shape) (ls : Labels) (wt : IsWellTyped
     m1 = at_stage (g.threads tr.thread) (Enters (function_at code function))
 
     own1 : KeepsThread (g.threads tr.thread) m1
-    own1 = record { sizes = sizes_kept m m1 (st.threads t).has.table refl refl refl refl; held = refl; heads = refl; making = sym (early_making m.own.stage early) }
+    own1 = record { sizes = sizes_kept m m1 (st.threads t).has.table refl refl refl refl; held = refl; heads = refl; making = sym (early_calm m.own.stage early).making }
 
     runs1 : Runs x code s ls st.elements world (heap_now st.heap g.words) (made_turn g tr.thread g.words m1) tr.thread m1
     runs1 =
@@ -219,7 +178,7 @@ module _ (x : Targets) (code : Code) (s : Shape) (ls : Labels) (wt : IsWellTyped
         let now = made_turn g t g.words m1 in
         let regs : (u i : ℕ) → c.regs u i ≡ regs_now m1 refl refl refl refl u i = λ u i.
         put_all (λ u (f : ℕ → ℕ). register_of code (g.threads u) i ≡ f i) (λ u. register_of code (g.threads u)) t (register_of code m1)
-        (register_held code m (early_hold m.own.stage early) i ∙ sym (register_held code m1 tt i)) (λ u _. refl) u in
+        (register_held code m (early_calm m.own.stage early).hold i ∙ sym (register_held code m1 tt i)) (λ u _. refl) u in
         let first1 : is_unread m1 ≡ is_unread m = ap (λ n. (n == 0) && true) pc_zero ∙ sym unread in
         let args : (u : ℕ) → c.args u ≡ argument_of code now u = λ u. ⊎_elim
         (λ (e : u ≡ t). ap (argument_of code g) e ∙ ap (λ b. cond ((nat_lt t THREADS && (slice_index g.words (state_word t) == 1)) && b) (if_reference (function_of code function).parameter (slice_index g.words (argument_word t))) 0) (sym first1)
@@ -275,7 +234,7 @@ module _ (x : Targets) (code : Code) (s : Shape) (ls : Labels) (wt : IsWellTyped
       m2 = entered_with ints refs
 
       own2 : KeepsThread (g.threads tr.thread) m2
-      own2 = record { sizes = sizes_kept m m2 (st.threads t).has.table refl lr li (length-set m.frames 0 (record { pc = 1; ints = 0; refs = 0 })); held = refl; heads = refl; making = sym (early_making m.own.stage early) }
+      own2 = record { sizes = sizes_kept m m2 (st.threads t).has.table refl lr li (length-set m.frames 0 (record { pc = 1; ints = 0; refs = 0 })); held = refl; heads = refl; making = sym (early_calm m.own.stage early).making }
 
       args_gone : argument_of code (made_turn g tr.thread g.words m2) tr.thread ≡ 0
       args_gone =
@@ -335,7 +294,7 @@ module _ (x : Targets) (code : Code) (s : Shape) (ls : Labels) (wt : IsWellTyped
     plain_refs ints u i =
         let m2 = entered_with ints m.refs in
         put_all (λ u (f : ℕ → ℕ). register_of code (g.threads u) i ≡ f i) (λ u. register_of code (g.threads u)) t (register_of code m2)
-        (register_held code m (early_hold m.own.stage early) i ∙ sym (register_held code m2 tt i)) (λ u _. refl) u
+        (register_held code m (early_calm m.own.stage early).hold i ∙ sym (register_held code m2 tt i)) (λ u _. refl) u
 
     -- no reference is handed over
     no_reference : (ints : List ℤ) → length ints ≡ length (g.threads tr.thread).ints → ((function_of code function).parameter ≢ Parameter.Reference) → argument_of code g tr.thread ≡ 0
@@ -379,7 +338,7 @@ module _ (x : Targets) (code : Code) (s : Shape) (ls : Labels) (wt : IsWellTyped
         let room : 0 < FRAMES * most_refs code.functions.items = (let a = may_start.frame is_ref in let b = refs_most code function in omega arith) in
         let lt : 0 < length m.refs = (let e = (st.threads t).has.refs in omega arith) in
         let regs2 : register_of code m2 ≡ put (R t) 0 h.reference = fun_ext (λ j. register_held code m2 tt j
-        ∙ put_all (λ j y. slice_index refs j ≡ y) (R t) 0 h.reference (get_or-set_same m.refs 0 argument 0 lt ∙ sym value) (λ j ne. get_or-set_other m.refs 0 j argument 0 ne ∙ sym (register_held code m (early_hold m.own.stage early) j)) j) in
+        ∙ put_all (λ j y. slice_index refs j ≡ y) (R t) 0 h.reference (get_or-set_same m.refs 0 argument 0 lt ∙ sym value) (λ j ne. get_or-set_other m.refs 0 j argument 0 ne ∙ sym (register_held code m (early_calm m.own.stage early).hold j)) j) in
         let args : (u : ℕ) → (w2.slots (In (ArgumentOf u)) ≡ world.slots (In (ArgumentOf u))) ⊎ (w2.slots (In (ArgumentOf u)) ≡ none) = λ u. ⊎_elim
         (λ (e : u ≡ t). inr (ap (λ u. w2.slots (In (ArgumentOf u))) e ∙ arg2)) (λ (ne : u ≡ t → ⊥). inl (away (In (ArgumentOf u)) (λ e. ne (cc)) (λ e. cc))) (cases_eq u t) in
         let others : (r : ℕ) → r ≢ 0 → in_ref w2 (RegisterOf t r) ≡ 0 = λ r ne. ap (λ (y : TypedReference). y.reference) (away (In (RegisterOf t r)) (λ e. cc) (λ e. ne (cc))) ∙ zero_at r in

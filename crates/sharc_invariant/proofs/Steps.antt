@@ -1,5 +1,5 @@
 -- Turns that ask the words nothing: the thread's place and one of its integers change, and what is known there.
-use Rattle.sharc_invariant.proofs.{Imports.{◌≡◌, ℕ, ℤ, suc, ◌+◌, ◌<◌, ◌≤◌, ◌≢◌, Bool, true, false, cond, not, Result, Ok, Err, refl, sym, ap, ◌∙◌, subst, ⊎_elim, arith, eqb-true, nat_tests, neg_ℤ, length, nat_lt, ◌==◌, Code, Cell, Width, Char, Int, Long, Instr, Shape, Stop, Trap as Trapped, holds, in_range, negated, truth, is_zero, Machine, Local, instr_at, int, ref, goes, goes_to, set_int, with_result, asserts, stopped, is_held, word, turn, counted, Turn, Global, put, MayTurn, one_thread, bounds, put_same, put_other, put_all, Targets, ObjectType, Element, Named, Nth, IsNamed, HasName, Fresh, Number, Anything, Within, Exactly, Indexes, OfElement, OfGlobal, empty, Closed, Label, Labels, Less, Leads, set_number, knows, IsWellTyped, Numbers, World, RegisterOf, in_ref, made_turn, State, View, view_of, NumberStands, ElementStands, TopStands, refs_at, types_at, Turned, fun_ext}, Frames.{empty_stands, filled}, Quiet.put_self, Turns.{local_turn, room_of, unseen}, Own.{is_single, runs, rests, top, fine}, Plain.{register_plain, is_shut, jump_state, stop_state, numbers_state}}
+use Rattle.sharc_invariant.proofs.{Imports.{◌≡◌, ℕ, ℤ, suc, ◌+◌, ◌<◌, ◌≤◌, ◌≢◌, Bool, true, false, cond, not, Result, Ok, Err, refl, sym, ap, ◌∙◌, subst, ⊎_elim, arith, eqb-true, nat_tests, neg_ℤ, length, nat_lt, ◌==◌, Code, Cell, Width, Char, Int, Long, Instr, Shape, Stop, Trap as Trapped, holds, in_range, negated, truth, is_zero, Machine, Local, instr_at, int, ref, goes, goes_to, set_int, with_result, asserts, stopped, is_held, word, turn, counted, Turn, Global, put, MayTurn, one_thread, bounds, put_same, put_other, put_all, Targets, ObjectType, Element, Named, Nth, IsNamed, HasName, Fresh, Number, Anything, Within, Exactly, Indexes, OfElement, OfGlobal, empty, Closed, Label, Labels, Less, Leads, set_number, knows, IsWellTyped, Numbers, World, RegisterOf, in_ref, made_turn, State, View, view_of, NumberStands, ElementStands, TopStands, refs_at, types_at, Turned, fun_ext}, TurnAt.turn_at, Frames.{empty_stands, filled}, Quiet.put_self, Turns.{local_turn, room_of, unseen}, Own.{is_single, runs, rests, top, fine}, Plain.{register_plain, is_shut, jump_state, stop_state, numbers_state}}
 use Rattle.sharc_tree.specs.declared.trap.Trap.{Trap}
 
 -- the gate of a label that a check leaves open
@@ -69,20 +69,10 @@ truth_char false = refl
 
 module _ (x : Targets) (code : Code) (s : Shape) (ls : Labels) (wt : IsWellTyped x code ls) (g : Global Machine) (world : World) (st : State x code s ls g world) (tr : Turn)
     (may : MayTurn bounds (one_thread code s) g tr) (i : Instr) (is : instr_at code (g.threads tr.thread).at.pc ≡ i) (single : is_single i ≡ true) where
-  abbrev t : ℕ
-  t = tr.thread
-
-  abbrev m : Machine
-  m = g.threads tr.thread
-
-  abbrev here : Label
-  here = ls.at (g.threads tr.thread).at.pc
+  open turn_at st tr use {t, m, here, view}
 
   abbrev After : Type 0
   After = Turned x code s ls g world tr
-
-  abbrev view : View
-  view = view_of st.elements world tr.thread (g.threads tr.thread)
 
   abbrev names : ℕ → ℤ
   names = (runs x code s ls wt g world st tr.thread may.started may.next.runs i is single).names
@@ -130,14 +120,10 @@ module _ (x : Targets) (code : Code) (s : Shape) (ls : Labels) (wt : IsWellTyped
   of_turn y e = ap (λ i. Rattle.sharc_code.specs.Machine.act code s i m) is ∙ e
 
 module _ (x : Targets) (code : Code) (s : Shape) (ls : Labels) (wt : IsWellTyped x code ls) (g : Global Machine) (world : World) (st : State x code s ls g world) (tr : Turn) (may : MayTurn bounds (one_thread code s) g tr) where
+  open turn_at st tr use {here as l, m as mm}
+
   abbrev pc : ℕ
   pc = (g.threads tr.thread).at.pc
-
-  abbrev l : Label
-  l = ls.at (g.threads tr.thread).at.pc
-
-  abbrev mm : Machine
-  mm = g.threads tr.thread
 
   abbrev Done : Type 0
   Done = Turned x code s ls g world tr

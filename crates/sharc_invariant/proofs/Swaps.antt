@@ -1,5 +1,5 @@
 -- A cell and a register exchange what they refer to.
-use Rattle.sharc_invariant.proofs.{Imports.{◌≡◌, ℕ, ℤ, suc, ◌+◌, ◌/◌, ◌^◌, ◌<◌, ◌≢◌, Bool, true, false, refl, sym, ap, ◌∙◌, subst, inl, ⊎_elim, arith, cases_eq, fun_ext, length, slice_index, slice_set, Swap, Code, Cell, Instr, Shape, Fits, Machine, Asks, step_of, instr_at, goes, accessed, set_ref, ref, word, turn, Turn, Global, put, MayTurn, after_turn, one_thread, bounds, put_same, put_other, Targets, ObjectType, Field, StaticType, type_at, type_of, mode_at, field_in, is_pointer, Mentions, CellMode, Private, Dynamic, Locked, Sibling, Behind, Entry, Empty, Refers, Unknown, Closed, Label, Labels, Leads, LessEntry, fill, empty, IsWellTyped, IsRef, PointsTo, IsAccess, refs_in, ints_in, TypeRules, TypedReference, Holder, RegisterOf, In, Slot, CellOf, World, Shut, Sole, Base, By, Based, Right, CanBy, Inside, WorldInvariant, base_of, in_ref, place, set_win, set_slot, swap, lang_of, conc_of, Shows, cell_at, store, set_reg, made_turn, IsThere, State, View, view_of, TopStands, EntryStands, GateStands, refs_at, types_at, size_of_run, base_of_cell, object_of_cell, number_in, Turned}, Effects.{place_same, place_other, place_all, set_slot_ok, set_win_ok, exchange_ok, sole_at, base_other}, Frames.{filled, fill_stands, empty_stands, type_kept, same_type, put_base}, Turns.{asks_turn, room_of}, Own.{is_single, runs, rests, top, gate, fine}, Plain.register_plain, Stores.{index_put, cell_store, stored_words, stored_within}, Seen.{cell_stored, reg_stored}, Filled.{filled_slots, inside_world, free_shut}, Cells.cell_there, CheckTurns.{sim_win, put_put}, Rights.{right, points_to}, Accesses.gate_alone, Scoped.scoped_empty, Loads.lang_laws}
+use Rattle.sharc_invariant.proofs.{Imports.{◌≡◌, ℕ, suc, ◌+◌, ◌/◌, ◌^◌, ◌<◌, ◌≢◌, Bool, true, false, refl, sym, ap, ◌∙◌, subst, inl, ⊎_elim, arith, cases_eq, fun_ext, length, slice_index, slice_set, Swap, Code, Cell, Instr, Shape, Fits, Machine, Asks, step_of, instr_at, goes, accessed, set_ref, ref, word, turn, Turn, Global, put, MayTurn, one_thread, bounds, put_same, put_other, Targets, ObjectType, Field, StaticType, type_at, type_of, mode_at, field_in, is_pointer, Mentions, CellMode, Private, Dynamic, Locked, Sibling, Behind, Entry, Empty, Refers, Unknown, Closed, Label, Labels, Leads, LessEntry, fill, empty, IsWellTyped, IsRef, PointsTo, IsAccess, refs_in, ints_in, TypeRules, TypedReference, Holder, RegisterOf, In, Slot, CellOf, World, Shut, Sole, Base, By, Based, Right, CanBy, Inside, WorldInvariant, base_of, in_ref, place, set_win, set_slot, swap, lang_of, conc_of, Shows, cell_at, store, set_reg, made_turn, IsThere, State, view_of, TopStands, EntryStands, GateStands, refs_at, types_at, size_of_run, base_of_cell, object_of_cell, number_in, Turned}, TurnAt.turn_at, Effects.{place_same, place_other, place_all, set_slot_ok, set_win_ok, exchange_ok, sole_at, base_other}, Frames.{filled, fill_stands, empty_stands, type_kept, same_type, put_base}, Turns.{asks_turn, room_of}, Own.{is_single, runs, top, gate, fine}, Plain.{resting}, Stores.{index_put, cell_store, stored_words, stored_within}, Seen.{cell_stored, reg_stored}, Filled.{filled_slots, inside_world, free_shut}, Cells.cell_there, CheckTurns.{sim_win, put_put}, Rights.{right, points_to}, Accesses.gate_alone, Scoped.scoped_empty, Loads.lang_laws}
 use Rattle.sharc_invariant.specs.{World.{Global as OfGlobals}, Effect.Accesses}
 
 -- a right counts references, and not their types
@@ -23,32 +23,8 @@ module _ (x : Targets) (code : Code) (s : Shape) (ls : Labels) (wt : IsWellTyped
     (may : MayTurn bounds (one_thread code s) g tr) (i : Instr) (is : instr_at code (g.threads tr.thread).at.pc ≡ i) (single : is_single i ≡ true)
     (r : ℕ) (c : Cell) (site : ℕ) (f : Field) (ty : StaticType) (isr : IsRef code (ls.at (g.threads tr.thread).at.pc) r) (access : IsAccess x code ls (ls.at (g.threads tr.thread).at.pc) true c site f)
     (pt : PointsTo (ls.at (g.threads tr.thread).at.pc) c f ty) where
-  abbrev t : ℕ
-  t = tr.thread
-
-  abbrev m : Machine
-  m = g.threads tr.thread
-
-  abbrev here : Label
-  here = ls.at (g.threads tr.thread).at.pc
-
-  abbrev base : ℕ
-  base = (g.threads tr.thread).at.refs
-
-  abbrev after : Global Machine
-  after = after_turn bounds (one_thread code s) g tr
-
-  abbrev view : View
-  view = view_of st.elements world tr.thread (g.threads tr.thread)
-
-  abbrev names : ℕ → ℤ
-  names = (runs x code s ls wt g world st tr.thread may.started may.next.runs i is single).names
-
-  tops : TopStands x tr.thread view base (g.threads tr.thread).at.ints names here
-  tops = top x code s ls wt g world st t may.started may.next.runs i is single
-
-  reads : (q : ℕ) → ref (g.threads tr.thread) q ≡ in_ref world (RegisterOf tr.thread (base + q))
-  reads q = sym (st.sim.regs t (base + q) ∙ register_plain code m (rests x code s ls wt g world st t may.started may.next.runs i is single) (base + q))
+  open turn_at st tr use {t, m, here, base, after, view}
+  open resting x code s ls wt g world st tr.thread (may.started, may.next.runs) i is single use {names, tops, reads}
 
   abbrev o : ℕ
   o = object_of_cell (g.threads tr.thread) c
@@ -220,11 +196,7 @@ module _ (x : Targets) (code : Code) (s : Shape) (ls : Labels) (wt : IsWellTyped
 
 module _ (x : Targets) (code : Code) (s : Shape) (ls : Labels) (wt : IsWellTyped x code ls) (fits : Fits code s) (g : Global Machine) (world : World) (st : State x code s ls g world) (tr : Turn)
     (may : MayTurn bounds (one_thread code s) g tr) where
-  abbrev mm : Machine
-  mm = g.threads tr.thread
-
-  abbrev l : Label
-  l = ls.at (g.threads tr.thread).at.pc
+  open turn_at st tr use {m as mm, here as l}
 
   -- the type of what a register holds, where its label has one no other than this
   entry_type : (refs : ℕ → ℕ) (types : ℕ → ObjectType) (T : ObjectType) (r : ℕ) (ty : StaticType) (e : Entry) → ((q : ℕ) → refs (l.same q) ≡ refs q) → ((n : ℕ) → T ≡ type_of refs n ty)
@@ -245,7 +217,7 @@ module _ (x : Targets) (code : Code) (s : Shape) (ls : Labels) (wt : IsWellTyped
       let view = view_of st.elements world t mm in
       let rn = runs x code s ls wt g world st t may.started may.next.runs i is refl in
       let tp = top x code s ls wt g world st t may.started may.next.runs i is refl in
-      let rd = reads x code s ls wt fits g world st tr may i is refl r c site fl ty f.0 f.1.2 f.1.3 in
+      let rd = (resting x code s ls wt g world st t (may.started, may.next.runs) i is refl).reads in
       let pointed' = pointed x code s ls wt fits g world st tr may i is refl r c site fl ty f.0 f.1.2 f.1.3 in
       let T = type_at x (world.obj (object_of_cell mm c)).ty (object_of_cell mm c) (number_in mm c) in
       let refs = refs_at view base in

@@ -1,5 +1,5 @@
 -- The granules of an object that a thread has alone are cleared one by one, by whichever instruction: each shadow word is loaded and then swapped.
-use Rattle.sharc_invariant.proofs.{Imports.{◌≡◌, ℕ, suc, ◌+◌, ◌*◌, ◌<◌, ◌≤◌, true, false, List, refl, sym, ap, ◌∙◌, subst, ⊎_elim, arith, cases_eq, nat_tests, set-get_or, fun_ext, length, slice_index, slice_set, nat_lt, ◌==◌, THREADS, ShadowLaws, epoch_of, cleared_of, Code, Shape, Stage, granules, granule_at, first_cell, length_word, shadow_word, Machine, instr_at, ref, clear, data_granules, data_granule, at_stage, rests, Turn, Global, put, MayTurn, after_turn, one_thread, bounds, put_same, put_all, Passed, cleared, sum_to, Targets, ObjectType, cells_of, Labels, IsWellTyped, RegisterOf, In, World, Sole, put2, set_gran, lang_of, conc_of, Shows, length_at, shadow_at, staged_of, made_turn, State, view_of, EntryStands, StageStands, AreCleared, refs_at, types_at, size_of_run, Turned, StaticType, Refers, GranuleState, Kept, Leads, gated, SoleGate, IsUnpassed, ◌^◌}, Effects.clear_ok, Plain.same_words, Quiet.heap_now, Changes.KeepsLow, Walks.IsWalk, Stores.{index_put, shadow_store, stored_within, MayStore}, Seen.{shadow_stored, put2_off}, Clears.{in_cells, sum_more, epochs_low, cleared_small, cleared_reads, part_words, object, walk_top, walk_reads, some, live, stays_on, goes_on}, Turns.unseen}
+use Rattle.sharc_invariant.proofs.{Imports.{◌≡◌, ℕ, suc, ◌+◌, ◌*◌, ◌<◌, ◌≤◌, true, false, List, refl, sym, ap, ◌∙◌, subst, ⊎_elim, arith, cases_eq, nat_tests, set-get_or, fun_ext, length, slice_index, slice_set, nat_lt, ◌==◌, THREADS, ShadowLaws, epoch_of, cleared_of, Code, Shape, Stage, granules, granule_at, first_cell, length_word, shadow_word, Machine, instr_at, ref, data_granules, data_granule, at_stage, rests, Turn, Global, put, MayTurn, after_turn, one_thread, bounds, put_same, put_all, Passed, cleared, sum_to, Targets, cells_of, Labels, IsWellTyped, World, Sole, put2, set_gran, lang_of, conc_of, Shows, length_at, shadow_at, staged_of, made_turn, State, StageStands, AreCleared, size_of_run, Turned, StaticType, Refers, GranuleState, Kept, Leads, gated, SoleGate, IsUnpassed, ◌^◌}, TurnAt.turn_at, Effects.clear_ok, Plain.same_words, Quiet.heap_now, Changes.KeepsLow, Walks.IsWalk, Stores.{index_put, shadow_store, stored_within, MayStore}, Seen.{shadow_stored, put2_off}, Clears.{in_cells, sum_more, epochs_low, cleared_small, cleared_reads, part_words, object, walks_over, walked_target, stays_on, goes_on}, Turns.unseen}
 
 pub length_is : (s : Shape) (o : ℕ) → o < granules s → length_word s o ≡ length_at s o
 length_is s o lt = let e : nat_lt o (granules s) ≡ true = grind (arith, nat_tests) in let q : granule_at s o ≡ o = rw e refl in omega arith
@@ -19,32 +19,16 @@ module _ (x : Targets) (code : Code) (s : Shape) (ls : Labels) (wt : IsWellTyped
     (may : MayTurn bounds (one_thread code s) g tr) (walk : IsWalk (g.threads tr.thread).own.stage) (begun : ((g.threads tr.thread).at.pc == 0) ≡ false)
     (r : ℕ) (win : world.win tr.thread ≡ Sole ((g.threads tr.thread).at.refs + r)) (unpassed : IsUnpassed (ls.at (g.threads tr.thread).at.pc) r)
     (n : ℕ) (ty : StaticType) (known : (ls.at (g.threads tr.thread).at.pc).env r ≡ Refers ty) (n_is : n ≡ cells_of x ty.target) where
-  abbrev t : ℕ
-  t = tr.thread
-
-  abbrev m : Machine
-  m = g.threads tr.thread
-
-  abbrev base : ℕ
-  base = (g.threads tr.thread).at.refs
+  open turn_at st tr use {t, m, base}
 
   abbrev o : ℕ
   o = object x code s ls wt g world st tr may walk begun r win unpassed
 
-  reads : ref (g.threads tr.thread) r ≡ o
-  reads = walk_reads x code s ls wt g world st tr may walk begun r win unpassed
-
-  is_live : (world.obj o).live ≡ true
-  is_live = live x code s ls wt g world st tr may walk begun r win unpassed
+  open walks_over x code s ls wt g world st tr may walk begun r win unpassed use {reads, nz, is_live}
 
   pub swept_cells : st.cells o ≡ st.elements o * n
   swept_cells =
-      let view = view_of st.elements world t m in
-      let nz = some x code s ls wt g world st tr may walk begun r win unpassed in
-      let tp = walk_top x code s ls wt g world st tr may walk begun r win unpassed in
-      let typed = subst (EntryStands (refs_at view base) (types_at view base) r) known ((tp (suc r) 0).env r (omega arith)) nz in
-      let fit = st.inv.words.fits (In (RegisterOf t (base + r))) nz in
-      let target : (world.obj o).ty.target ≡ ty.target = ap (λ (y : ObjectType). y.target) fit.typed ∙ ap (λ (y : ObjectType). y.target) typed in
+      let target = walked_target x code s ls wt g world st tr may walk begun r win unpassed ty known in
       (st.whole o nz is_live).1 ∙ ap (λ c. st.elements o * cells_of x c) target ∙ ap (λ c. st.elements o * c) (sym n_is)
 
   inside : (done : ℕ) → done < data_granules (st.elements o) n → 2 * done < st.cells o

@@ -1,5 +1,5 @@
 -- What a turn does to shadow words and to the notes of its thread: nothing, but for checks, for the Swaps of a Clear or a Free, and for an Exit.
-use Rattle.sharc_invariant.proofs.{Imports.{◌≡◌, ℕ, ℤ, pos, negsuc, zero, suc, ◌+◌, ◌*◌, ◌<◌, ◌≤◌, Bool, true, false, nat_lt, if◌then◌else◌, refl, ap, ◌∙◌, subst, arith, THREADS, WordStep, word_after, WordOp, NewView, told, word_number, NewArguments, NewStage, turn_of_stage, Kind, Read, Write, Code, Layout, Cell, Register, Instr, Bounds, ChkRead, ChkWrite, Store, LoadRef, Exchange, Raise, RaiseLoaded, Lower, New, TakeCell, TakeLocal, TestSole, Clear, Give, Free, Unlock, Spawn, Join, Print, Start, Exit, CondEnter, CondWait, CondSignal, CondBroadcast, Shape, Stage, Looks, Clears, Makes, Empties, Lowers, FreeLooks, FreeClears, Uncounts, Links, Names, Hands, Begins, Enters, Withdraws, WithdrawsFrom, Leaves, Wakes, granules, granule_at, words_of, cell_word, count_word, length_word, first_cell, first_shadow, state_word, function_word, argument_word, TurnOutcome, Notes, own_after, MayComeOut, ComesOut, check_of, is_exit, Machine, Own, StepTurn as Turn, Local, Asks, step_of, act, int, ref, word, raise, lower, test, new, asks_new, new_state, elements_of, clear, free, layout_at, spawn, join, start, signal, goes, set_ref, accessed, move_ref, joined, trapped, is_ended, is_withdrawing, shadow_at}, Ends.{calm_then, unended}}
+use Rattle.sharc_invariant.proofs.{Imports.{◌≡◌, ℕ, ℤ, pos, negsuc, zero, suc, ◌+◌, ◌*◌, ◌<◌, ◌≤◌, Bool, true, false, nat_lt, if◌then◌else◌, refl, ap, ◌∙◌, subst, arith, THREADS, WordStep, word_after, WordOp, NewView, told, word_number, NewArguments, NewStage, turn_of_stage, Kind, Read, Write, Code, Layout, Cell, Register, Instr, Bounds, ChkRead, ChkWrite, Store, LoadRef, Exchange, Raise, RaiseLoaded, Lower, New, TakeCell, TakeLocal, TestSole, Clear, Give, Free, Unlock, Spawn, Join, Print, Start, Exit, CondEnter, CondWait, CondSignal, CondBroadcast, Shape, Stage, Clears, Makes, Empties, Lowers, FreeClears, Uncounts, Links, Names, Hands, Begins, Enters, Withdraws, WithdrawsFrom, Leaves, Wakes, granules, granule_at, words_of, cell_word, count_word, length_word, first_cell, first_shadow, state_word, function_word, argument_word, TurnOutcome, Notes, own_after, MayComeOut, ComesOut, check_of, is_exit, Machine, Own, StepTurn as Turn, Local, Asks, step_of, act, int, ref, word, raise, lower, test, new, asks_new, new_state, elements_of, clear, free, layout_at, spawn, join, start, signal, goes, set_ref, accessed, move_ref, joined, trapped, is_ended, is_withdrawing, shadow_at}, Ends.{calm_then, unended}}
 use Rattle.sharc_tree.specs.declared.trap.Trap.{Trap}
 use Rattle.sharc_code.specs.{declared.instr.Instr.TheVariants.{Load, Lock}, Machine.place}
 

@@ -1,5 +1,5 @@
 -- The turn of a Free that sets the count to 0: the object is dead, and its block the thread's.
-use Rattle.sharc_invariant.proofs.{Imports.{Fits as FitsShape, top_word, granules, count_word, RunsOn, Tries, Stopped, Ended, Stage, Uncounts, Links, layout_at, Machine, Asks, step_of, instr_at, ref, at_stage, data_granules, largest, may_go, turn, Code, Shape, Turn, Global, put, MayTurn, after_turn, one_thread, bounds, Instr, Frees as FreesOf, freed, none, ObjectState, TypedReference, RegisterOf, ArgumentOf, In, Shut, Sole, World, in_ref, put2, place, WorldInvariant, CellOf, nothing, field_in, is_pointer, is_mutex, Targets, ObjectType, cells_of, Heap, Kept, Built, Live, restated, IsListed, Unused, BlockState, is_freed, set_reg, store, FitsContent, Apart, staged_of, is_ended, has_withdrawn, noted_by, note_number, register_of, conc_of, Shows, count_at, cell_at, lang_of, head_of, head_with, making_of, block_for, AreEmpty, all_pointers, label_now, Runs, StageStands, HeapStands, Locks, State, view_of, EntryStands, GateStands, refs_at, types_at, size_of_run, View, FramesStand, TopStands, empty, Label, Labels, sum_to, GranuleState, Bits, Passed, Fine, IsWellTyped, made_turn, KeepsOthers, Turned, changes_objects, objects_now, objects_behind, frees_object, freed_behind, put_same, put_other, put_all, Read, Write, Kind, note_of, ShadowLaws, epoch_of, object_of, ◌≡◌, ℕ, suc, ◌+◌, ◌*◌, ◌<◌, ◌≤◌, ◌≢◌, true, false, cond, List, refl, sym, ap, ◌∙◌, subst, ⊎_elim, arith, Bool, ◌⊎◌, ◌-◌, ◌/◌, ◌^◌, inl, inr, cases_eq, cases_lt, fun_ext, length, slice_index, slice_set, ◌==◌, ◌↔◌, is_some, Contains, min, THREADS, Swap, ne_eq, eq_refl}, Effects.{freed_ok, place_other}, Seen.{count_stored, reg_stored, cell_cell}, Frames.{filled, empty_stands}, Filled.{view_filled, below_filled}, Counts.count_is, Stores.{count_store, stored_within, index_put, arena}, Listed.restate_ok, Changes.{KeepsPart, KeepsLow, lower, conc_now, held_same, changed_state}, Walks.{IsWalk, walk_hold, walk_register}, Clears.{part_words, sum_more}, Emptied.all_empty, Unlogged.{unlogged, logged_entry}, Frees.{free_cells, free_fine, free_win, free_reads, free_some, free_live, free_begun, free_act}, Quiet.{heap_now, label_held, put_self, sizes_kept}, Turns.{asks_turn, room_of}, Others.loses}
+use Rattle.sharc_invariant.proofs.{Imports.{Fits as FitsShape, top_word, granules, count_word, RunsOn, Tries, Stopped, Ended, Stage, Uncounts, Links, layout_at, Machine, Asks, step_of, instr_at, ref, at_stage, data_granules, largest, may_go, turn, Code, Shape, Turn, Global, put, MayTurn, after_turn, one_thread, bounds, Instr, Frees as FreesOf, freed, none, ObjectState, TypedReference, RegisterOf, ArgumentOf, In, Shut, Sole, World, in_ref, put2, place, WorldInvariant, CellOf, nothing, field_in, is_pointer, is_mutex, Targets, cells_of, Heap, Kept, Built, Live, restated, IsListed, Unused, BlockState, is_freed, set_reg, store, FitsContent, Apart, staged_of, is_ended, has_withdrawn, noted_by, note_number, register_of, conc_of, Shows, count_at, cell_at, lang_of, head_of, head_with, making_of, block_for, AreEmpty, all_pointers, label_now, Runs, StageStands, HeapStands, Locks, State, view_of, GateStands, size_of_run, FramesStand, TopStands, empty, Label, Labels, sum_to, GranuleState, Bits, Passed, Fine, IsWellTyped, made_turn, KeepsOthers, Turned, changes_objects, objects_now, objects_behind, frees_object, freed_behind, put_same, put_other, put_all, Read, Write, Kind, note_of, ShadowLaws, epoch_of, object_of, ◌≡◌, ℕ, suc, ◌+◌, ◌*◌, ◌<◌, ◌≤◌, ◌≢◌, true, false, cond, List, refl, sym, ap, ◌∙◌, subst, ⊎_elim, arith, Bool, ◌⊎◌, ◌-◌, ◌/◌, ◌^◌, inl, inr, cases_eq, cases_lt, fun_ext, length, slice_index, slice_set, ◌==◌, ◌↔◌, is_some, Contains, min, THREADS, Swap, ne_eq, eq_refl}, TurnAt.{turn_at, turn_stands}, Effects.{freed_ok, place_other}, Seen.{count_stored, reg_stored, cell_cell}, Frames.{filled, empty_stands}, Filled.{view_filled, below_filled}, Counts.count_is, Stores.{count_store, stored_within, index_put, arena}, Listed.restate_ok, Changes.{KeepsPart, KeepsLow, lower, conc_now, held_same, changed_state}, Walks.{IsWalk, walk_hold, walk_register}, Clears.{part_words, sum_more, walks_over, walked_target}, Emptied.all_empty, Unlogged.{unlogged, logged_entry}, Frees.{free_cells, free_fine, free_win, free_begun, free_act}, Quiet.{heap_now, label_held, put_self, sizes_kept}, Turns.{asks_turn, room_of}, Others.loses}
 
 not_unused : (f : ℕ → BlockState) (o : ℕ) → f o ≡ Live → f o ≡ Unused → ⊥
 not_unused f o a b = let z : Live ≡ Unused = sym a ∙ b in cc
@@ -29,26 +29,14 @@ noted_low n y b none' t =
 
 module _ (x : Targets) (code : Code) (s : Shape) (ls : Labels) (wt : IsWellTyped x code ls) (fits : FitsShape code s) (laws : ShadowLaws) (g : Global Machine) (world : World) (st : State x code s ls g world) (tr : Turn)
     (may : MayTurn bounds (one_thread code s) g tr) (r layout site : ℕ) (is : instr_at code (g.threads tr.thread).at.pc ≡ Instr.Free r layout site) (all : ℕ) (at_stage_is : (g.threads tr.thread).own.stage ≡ Uncounts all) where
-  abbrev t : ℕ
-  t = tr.thread
-
-  abbrev m : Machine
-  m = g.threads tr.thread
-
-  abbrev here : Label
-  here = ls.at (g.threads tr.thread).at.pc
-
-  abbrev base : ℕ
-  base = (g.threads tr.thread).at.refs
+  open turn_at st tr use {t, m, here, base, view}
+  open turn_stands st tr may use {rn}
 
   abbrev k : ℕ
   k = (g.threads tr.thread).at.refs + r
 
   abbrev o : ℕ
   o = in_ref world (RegisterOf tr.thread ((g.threads tr.thread).at.refs + r))
-
-  abbrev view : View
-  view = view_of st.elements world tr.thread (g.threads tr.thread)
 
   walk : IsWalk (g.threads tr.thread).own.stage
   walk = subst IsWalk (sym at_stage_is) tt
@@ -59,20 +47,10 @@ module _ (x : Targets) (code : Code) (s : Shape) (ls : Labels) (wt : IsWellTyped
   win : world.win tr.thread ≡ Sole k
   win = free_win x code s ls wt laws g world st tr may r layout site is walk
 
-  reads : ref (g.threads tr.thread) r ≡ o
-  reads = free_reads x code s ls wt laws g world st tr may r layout site is walk
-
-  nz : o ≢ 0
-  nz = free_some x code s ls wt laws g world st tr may r layout site is walk
-
-  is_live : (world.obj o).live ≡ true
-  is_live = free_live x code s ls wt laws g world st tr may r layout site is walk
-
   begun : ((g.threads tr.thread).at.pc == 0) ≡ false
   begun = free_begun x code s ls wt laws g world st tr may r layout site is m.at.pc refl
 
-  abbrev rn : Runs x code s ls st.elements world st.heap g tr.thread (g.threads tr.thread)
-  rn = (st.threads tr.thread).runs may.started may.next.runs
+  open walks_over x code s ls wt g world st tr may walk begun r win f.2 use {reads, nz, is_live}
 
   stage_now : StageStands code s st.elements world st.heap g.words tr.thread (g.threads tr.thread) (Instr.Free r layout site) (Uncounts all)
   stage_now = subst (StageStands code s st.elements world st.heap g.words t m (Instr.Free r layout site)) at_stage_is (subst (λ i. StageStands code s st.elements world st.heap g.words t m i m.own.stage) is rn.stage)
@@ -81,10 +59,7 @@ module _ (x : Targets) (code : Code) (s : Shape) (ls : Labels) (wt : IsWellTyped
   tp = subst (TopStands x t view base m.at.ints rn.names) (label_held here (instr_at code m.at.pc) m.own.stage (walk_hold m.own.stage walk)) rn.top
 
   target_is : (world.obj o).ty.target ≡ f.3.0.target
-  target_is =
-      let typed = subst (EntryStands (refs_at view base) (types_at view base) r) f.3.1 ((tp (suc r) 0).env r (omega arith)) nz in
-      let fit = st.inv.words.fits (In (RegisterOf t k)) nz in
-      ap (λ (y : ObjectType). y.target) fit.typed ∙ ap (λ (y : ObjectType). y.target) typed
+  target_is = walked_target x code s ls wt g world st tr may walk begun r win f.2 f.3.0 f.3.1
 
   cells_empty : (i : ℕ) → (world.slots (CellOf o i)).reference ≡ 0
   cells_empty = all_empty x code s ls wt fits g world st o layout f.3.0.target nz is_live target_is f.3.2

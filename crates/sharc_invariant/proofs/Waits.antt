@@ -1,23 +1,10 @@
 -- Turns that try again, and those of conditions that no thread waits at.
-use Rattle.sharc_invariant.proofs.{Imports.{◌≡◌, ℕ, ℤ, pos, negsuc, ◌+◌, ◌^◌, ◌<◌, true, false, cond, ◌||◌, refl, sym, ap, ◌∙◌, subst, ⊎_elim, arith, or_lt, pow_below, fun_ext, bit_or, length, slice_index, slice_set, nat_lt, ◌==◌, THREADS, Load, Swap, Or, Code, Cell, Instr, Shape, Stop, Trap, Fits, state_word, Machine, Local, Asks, instr_at, int, word, goes, fails, stopped, joined, join, woken, step_of, turn, Turn, Global, MayTurn, after_turn, one_thread, bounds, waits_in, put_same, Targets, Field, field_in, is_pointer, is_mutex, Waiters, Gate, Holds, LessGate, Closed, Label, Labels, Leads, IsWellTyped, World, Shut, Sole, RegisterOf, in_ref, set_win, conc_of, Shows, FitsContent, cell_at, Silently, made_turn, State, View, view_of, GateStands, object_of_cell, number_in, Turned}, Quiet.heap_now, Turns.{asks_turn, local_turn, room_of, unseen}, Own.{is_single, runs, rests, top, gate, fine, begun_before, runs_at, closed_less}, Plain.{register_plain, is_shut, plain_state, jump_state, stop_state, keeps_own}, Stores.{index_put, cell_store, stored_words, stored_within}, Seen.integer_stored, Cells.cell_there, Held.{held_gate, held_goes}, Accesses.{loaded_words, windowed_state, silent_window}, Frames.frames_same}
+use Rattle.sharc_invariant.proofs.{Imports.{◌≡◌, ℕ, ℤ, pos, negsuc, ◌+◌, ◌^◌, ◌<◌, true, false, cond, ◌||◌, refl, sym, ap, ◌∙◌, subst, ⊎_elim, arith, or_lt, pow_below, fun_ext, bit_or, length, slice_index, slice_set, nat_lt, ◌==◌, THREADS, Load, Swap, Or, Code, Cell, Instr, Shape, Stop, Trap, Fits, state_word, Machine, Local, Asks, instr_at, int, word, goes, fails, stopped, joined, join, woken, step_of, turn, Turn, Global, MayTurn, one_thread, bounds, waits_in, put_same, Targets, Field, field_in, is_pointer, is_mutex, Waiters, Gate, Holds, LessGate, Closed, Labels, Leads, IsWellTyped, World, Shut, Sole, RegisterOf, in_ref, set_win, conc_of, Shows, FitsContent, cell_at, Silently, made_turn, State, GateStands, object_of_cell, number_in, Turned, HasCell, WordOp, word_after}, TurnAt.turn_at, Quiet.heap_now, Turns.{asks_turn, local_turn, room_of, unseen}, Own.{is_single, runs, rests, top, gate, fine, begun_before, runs_at, closed_less}, Plain.{resting, is_shut, plain_state, jump_state, stop_state, keeps_own}, Stores.{index_put, cell_store, stored_words, stored_within}, Seen.integer_stored, Cells.cell_there, Held.{held_gate, held_goes}, Accesses.{loaded_words, windowed_state, silent_window}, Frames.frames_same}
 use Rattle.sharc_tree.specs.declared.trap.Trap.TheVariants as traps
 
 module _ (x : Targets) (code : Code) (s : Shape) (ls : Labels) (wt : IsWellTyped x code ls) (fits : Fits code s) (g : Global Machine) (world : World) (st : State x code s ls g world) (tr : Turn)
     (may : MayTurn bounds (one_thread code s) g tr) where
-  abbrev t : ℕ
-  t = tr.thread
-
-  abbrev m : Machine
-  m = g.threads tr.thread
-
-  abbrev here : Label
-  here = ls.at (g.threads tr.thread).at.pc
-
-  abbrev after : Global Machine
-  after = after_turn bounds (one_thread code s) g tr
-
-  abbrev view : View
-  view = view_of st.elements world tr.thread (g.threads tr.thread)
+  open turn_at st tr use {t, m, here, after, view}
 
   module _ (i : Instr) (is : instr_at code (g.threads tr.thread).at.pc ≡ i) (single : is_single i ≡ true) (gt : here.gate ≡ Closed) where
     shut : world.win tr.thread ≡ Shut
@@ -83,65 +70,56 @@ module _ (x : Targets) (code : Code) (s : Shape) (ls : Labels) (wt : IsWellTyped
         | false ↦ λ e. go_on i is refl f.0 f.2 e
       ] e
 
+  -- the waiters of a word are others, and the thread goes on
+  waiters_keep : (i : Instr) → instr_at code (g.threads tr.thread).at.pc ≡ i → is_single i ≡ true → (c : Cell) (f : Field) → HasCell x code here c f → f.holds ≡ Waiters → (op : WordOp) → turn code s (g.threads tr.thread) ≡ Asks (step_of (word s (g.threads tr.thread) c) op) (λ found. goes (g.threads tr.thread))
+      → word_after op (slice_index g.words (cell_at s (object_of_cell (g.threads tr.thread) c) (number_in (g.threads tr.thread) c))) < 2 ^ 64 → world.win tr.thread ≡ Shut → Leads ls ((g.threads tr.thread).at.pc + 1) here
+      → GateStands s (set_win world tr.thread Shut) tr.thread (goes (g.threads tr.thread)) (ls.at ((g.threads tr.thread).at.pc + 1)).gate → Turned x code s ls g world tr
+  waiters_keep i is single c f cell holds op act_is small shut' leads gate' =
+      let rn = runs x code s ls wt g world st t may.started may.next.runs i is single in
+      let at = resting x code s ls wt g world st t (may.started, may.next.runs) i is single in
+      let th = cell_there x code s ls wt fits g world st t m rn.names here at.tops at.reads c f cell in
+      let o = object_of_cell m c in
+      let j = number_in m c in
+      let k = cell_at s o j in
+      let v = word_after op (slice_index g.words k) in
+      let m' = goes m in
+      let words = slice_set g.words k v in
+      let done0 = asks_turn code s g tr may (step_of (word s m c) op) (λ found. goes m) act_is in
+      let done : after ≡ made_turn g t words m' = done0.0 ∙ ap (λ k. made_turn g t (slice_set g.words k (word_after op (slice_index g.words k))) m') th.word_is in
+      let lt : k < length g.words = subst (λ k. k < length g.words) th.word_is done0.1 in
+      let ms = cell_store x code s ls g world st o j th.live th.number in
+      let content : (field_in x (world.obj o).ty j).holds ≡ Waiters = ap (λ (f : Field). f.holds) th.field ∙ holds in
+      let sim : Shows x s st.cells st.elements (record (conc_of code g) { words = λ n. slice_index words n }) world =
+      subst (λ h. Shows x s st.cells st.elements (record (conc_of code g) { words = h }) world) (sym (fun_ext (index_put g.words k v lt)))
+      (integer_stored x s st.cells st.elements (conc_of code g) world st.sim st.apart o j v th.live th.number (ap is_pointer content) (ap is_mutex content) (subst (λ h. FitsContent h v) (sym content) tt)) in
+      let never : (q : ℕ) → world.win t ≡ Sole q → ⊥ = λ q e. let z : Shut ≡ Sole q = sym shut' ∙ e in cc in (
+        set_win world t Shut,
+        windowed_state x code s ls wt fits g world st tr may i is single m' Shut words here (record { at = refl; refs = refl; ints = refl; frames = refl; own = refl }) done
+            (stored_words x code s ls g world st k v ms lt small (λ n l e. absurd (let h = st.apart.headers o th.live in omega arith))) (stored_within x code s ls g world st k v ms lt)
+            tt sim at.tops (frames_same x code ls t view m m' refl refl refl refl here.function rn.below) leads refl gate' refl,
+        Silently (silent_window x code s ls wt fits g world st tr may i is single Shut never),
+      )
+
   pub Cond_broadcast_keeps : (c : Cell) (site : ℕ) → instr_at code (g.threads tr.thread).at.pc ≡ Instr.CondBroadcast c site → Turned x code s ls g world tr
   Cond_broadcast_keeps c site is =
       let i = Instr.CondBroadcast c site in
       let f = fine x code s ls wt g world st t may.started may.next.runs i is refl in
-      let rn = runs x code s ls wt g world st t may.started may.next.runs i is refl in
-      let tp = top x code s ls wt g world st t may.started may.next.runs i is refl in
-      let reads : (q : ℕ) → Rattle.sharc_code.specs.Machine.ref m q ≡ in_ref world (RegisterOf t (m.at.refs + q)) = λ q. sym (st.sim.regs t (m.at.refs + q) ∙ register_plain code m (rests x code s ls wt g world st t may.started may.next.runs i is refl) (m.at.refs + q)) in
-      let th = cell_there x code s ls wt fits g world st t m rn.names here tp reads c f.1.0 f.1.1 in
-      let o = object_of_cell m c in
-      let j = number_in m c in
-      let k = cell_at s o j in
-      let m' = goes m in
-      let done0 = asks_turn code s g tr may (step_of (word s m c) (Swap 0)) (λ found. goes m) (ap (λ i. Rattle.sharc_code.specs.Machine.act code s i m) is) in
-      let words = slice_set g.words k 0 in
-      let done : after ≡ made_turn g t words m' = done0.0 ∙ ap (λ k. made_turn g t (slice_set g.words k 0) m') th.word_is in
-      let lt : k < length g.words = subst (λ k. k < length g.words) th.word_is done0.1 in
-      let ms = cell_store x code s ls g world st o j th.live th.number in
-      let content : (field_in x (world.obj o).ty j).holds ≡ Waiters = ap (λ (f : Field). f.holds) th.field ∙ f.1.2 in
-      let sim : Shows x s st.cells st.elements (record (conc_of code g) { words = λ n. slice_index words n }) world =
-      subst (λ h. Shows x s st.cells st.elements (record (conc_of code g) { words = h }) world) (sym (fun_ext (index_put g.words k 0 lt)))
-      (integer_stored x s st.cells st.elements (conc_of code g) world st.sim st.apart o j 0 th.live th.number (ap is_pointer content) (ap is_mutex content) (subst (λ h. FitsContent h 0) (sym content) tt)) in
-      let never : (q : ℕ) → world.win t ≡ Sole q → ⊥ = λ q e. let z : Shut ≡ Sole q = sym (shut i is refl f.0) ∙ e in cc in
       let new = (ls.at (m.at.pc + 1)).gate in
-      let closed : new ≡ Closed = closed_less new (subst (λ y. Rattle.sharc_invariant.specs.Labels.LessGate y new) f.0 f.2.gate) in (
-        set_win world t Shut,
-        windowed_state x code s ls wt fits g world st tr may i is refl m' Shut words here (record { at = refl; refs = refl; ints = refl; frames = refl; own = refl }) done
-            (stored_words x code s ls g world st k 0 ms lt (omega arith) (λ n l e. absurd (let h = st.apart.headers o th.live in omega arith))) (stored_within x code s ls g world st k 0 ms lt)
-            tt sim tp (frames_same x code ls t view m m' refl refl refl refl here.function rn.below) f.2 refl (subst (GateStands s (set_win world t Shut) t m') (sym closed) (put_same world.win t Shut)) refl,
-        Silently (silent_window x code s ls wt fits g world st tr may i is refl Shut never),
-      )
+      let closed : new ≡ Closed = closed_less new (subst (λ y. LessGate y new) f.0 f.2.gate) in
+      waiters_keep i is refl c f.1.0 f.1.1 f.1.2 (Swap 0) (ap (λ i. Rattle.sharc_code.specs.Machine.act code s i m) is) (omega arith) (shut i is refl f.0) f.2
+      (subst (GateStands s (set_win world t Shut) t (goes m)) (sym closed) (put_same world.win t Shut))
 
   pub Cond_enter_keeps : (c : Cell) (site : ℕ) → instr_at code (g.threads tr.thread).at.pc ≡ Instr.CondEnter c site → Turned x code s ls g world tr
   Cond_enter_keeps c site is =
       let i = Instr.CondEnter c site in
       let f = fine x code s ls wt g world st t may.started may.next.runs i is refl in
-      let rn = runs x code s ls wt g world st t may.started may.next.runs i is refl in
-      let tp = top x code s ls wt g world st t may.started may.next.runs i is refl in
       let gt = gate x code s ls wt g world st t may.started may.next.runs i is refl in
-      let reads : (q : ℕ) → Rattle.sharc_code.specs.Machine.ref m q ≡ in_ref world (RegisterOf t (m.at.refs + q)) = λ q. sym (st.sim.regs t (m.at.refs + q) ∙ register_plain code m (rests x code s ls wt g world st t may.started may.next.runs i is refl) (m.at.refs + q)) in
-      let th = cell_there x code s ls wt fits g world st t m rn.names here tp reads c f.1.0 f.1.1 in
-      let o = object_of_cell m c in
-      let j = number_in m c in
-      let k = cell_at s o j in
       let m' = goes m in
       let bit = 2 ^ m.own.number in
-      let done0 = asks_turn code s g tr may (step_of (word s m c) (Or bit)) (λ found. goes m) (ap (λ i. Rattle.sharc_code.specs.Machine.act code s i m) is) in
-      let v = bit_or (slice_index g.words k) bit in
-      let words = slice_set g.words k v in
-      let done : after ≡ made_turn g t words m' = done0.0 ∙ ap (λ k. made_turn g t (slice_set g.words k (bit_or (slice_index g.words k) bit)) m') th.word_is in
-      let lt : k < length g.words = subst (λ k. k < length g.words) th.word_is done0.1 in
+      let k = cell_at s (object_of_cell m c) (number_in m c) in
       let low : m.own.number < 64 = let a = (st.threads t).has.number in let b = st.begins.few t may.started in omega arith in
-      let small : v < 2 ^ 64 = or_lt 64 (slice_index g.words k) bit (st.are_words k) (pow_below m.own.number 64 low) in
-      let ms = cell_store x code s ls g world st o j th.live th.number in
-      let content : (field_in x (world.obj o).ty j).holds ≡ Waiters = ap (λ (f : Field). f.holds) th.field ∙ f.1.2 in
-      let sim : Shows x s st.cells st.elements (record (conc_of code g) { words = λ n. slice_index words n }) world =
-      subst (λ h. Shows x s st.cells st.elements (record (conc_of code g) { words = h }) world) (sym (fun_ext (index_put g.words k v lt)))
-      (integer_stored x s st.cells st.elements (conc_of code g) world st.sim st.apart o j v th.live th.number (ap is_pointer content) (ap is_mutex content) (subst (λ h. FitsContent h v) (sym content) tt)) in
+      let small : bit_or (slice_index g.words k) bit < 2 ^ 64 = or_lt 64 (slice_index g.words k) bit (st.are_words k) (pow_below m.own.number 64 low) in
       let shut' : world.win t ≡ Shut = ⊎_elim (λ e. subst (GateStands s world t m) e gt) (λ e. let q : GateStands s world t m (Holds e.0) = subst (GateStands s world t m) e.1 gt in q.0) f.0 in
-      let never : (q : ℕ) → world.win t ≡ Sole q → ⊥ = λ q e. let z : Shut ≡ Sole q = sym shut' ∙ e in cc in
       let new = (ls.at (m.at.pc + 1)).gate in
       let Now : Gate → Type 0 = GateStands s (set_win world t Shut) t m' in
       let gate' : Now new = ⊎_elim
@@ -150,10 +128,5 @@ module _ (x : Targets) (code : Code) (s : Shape) (ls : Labels) (wt : IsWellTyped
       let q : GateStands s world t m (Holds e.0) = subst (GateStands s world t m) e.1 gt in
       ⊎_elim (λ (z : new ≡ Closed). subst Now (sym z) (put_same world.win t Shut)) (λ (z : new ≡ Holds e.0). subst Now (sym z) (put_same world.win t Shut, held_goes s m e.0 q.1))
       (held_gate e.0 new (subst (λ y. LessGate y new) e.1 f.2.gate)))
-      f.0 in (
-        set_win world t Shut,
-        windowed_state x code s ls wt fits g world st tr may i is refl m' Shut words here (record { at = refl; refs = refl; ints = refl; frames = refl; own = refl }) done
-            (stored_words x code s ls g world st k v ms lt small (λ n l e. absurd (let h = st.apart.headers o th.live in omega arith))) (stored_within x code s ls g world st k v ms lt)
-            tt sim tp (frames_same x code ls t view m m' refl refl refl refl here.function rn.below) f.2 refl gate' refl,
-        Silently (silent_window x code s ls wt fits g world st tr may i is refl Shut never),
-      )
+      f.0 in
+      waiters_keep i is refl c f.1.0 f.1.1 f.1.2 (Or bit) (ap (λ i. Rattle.sharc_code.specs.Machine.act code s i m) is) small shut' f.2 gate'

@@ -1,5 +1,5 @@
 -- A turn in the middle of an instruction that walks over an object: the world keeps its objects and mutexes.
-use Rattle.sharc_invariant.proofs.{Imports.{◌≡◌, ℕ, ◌+◌, ◌<◌, ◌≤◌, Bool, true, false, cond, List, None, refl, sym, ap, ◌∙◌, arith, fun_ext, slice_index, ◌==◌, THREADS, Read, Write, Kind, note_of, epoch_of, Code, Shape, RunsOn, Tries, Stopped, Ended, Stage, Rests, Looks, Clears, Makes, Empties, Lowers, FreeLooks, FreeClears, Uncounts, Links, Names, Hands, Begins, Withdraws, WithdrawsFrom, Leaves, top_word, granules, first_cell, Machine, to, instr_at, may_go, Global, put, sum_to, Targets, Labels, IsWellTyped, ArgumentOf, In, World, WorldInvariant, Kept, note_number, making_of, conc_of, Shows, register_of, staged_of, noted_by, is_ended, has_withdrawn, lang_of, made_turn, KeepsOthers, State, Runs, SpawnsNow, size_of_run}, Others.OnHold, Quiet.{heap_now, head_same, freed_held, put_self, sizes_kept}, Changes.{KeepsPart, KeepsLow, lower, conc_now, alike_state}}
+use Rattle.sharc_invariant.proofs.{Imports.{◌≡◌, ℕ, ◌+◌, ◌<◌, ◌≤◌, Bool, true, false, cond, List, None, refl, sym, ap, ◌∙◌, arith, fun_ext, slice_index, ◌==◌, THREADS, Read, Write, Kind, note_of, epoch_of, Code, Shape, RunsOn, Tries, Stopped, Ended, Stage, Rests, Looks, Clears, Makes, Empties, Lowers, FreeLooks, FreeClears, Uncounts, Links, Names, Hands, Begins, Withdraws, WithdrawsFrom, Leaves, top_word, granules, first_cell, Machine, to, instr_at, may_go, Global, put, sum_to, Targets, Labels, IsWellTyped, ArgumentOf, In, World, WorldInvariant, Kept, note_number, making_of, conc_of, Shows, register_of, staged_of, noted_by, is_ended, has_withdrawn, lang_of, made_turn, KeepsOthers, State, Runs, SpawnsNow, size_of_run}, TurnAt.thread_at, Others.OnHold, Quiet.{heap_now, head_same, freed_held, put_self, sizes_kept}, Changes.{KeepsPart, KeepsLow, lower, conc_now, alike_state}}
 
 -- the stages of an instruction that walks over an object, but for that in which the object is dead
 abbrev pub IsWalk : Stage → Type 0
@@ -35,8 +35,7 @@ walk_withdrawn _ h order b p = refl
 
 module _ (x : Targets) (code : Code) (s : Shape) (ls : Labels) (wt : IsWellTyped x code ls) (g : Global Machine) (world : World) (st : State x code s ls g world) (t : ℕ) (on : g.started t ≡ true) (go : may_go (g.threads t).at.state ≡ true)
     (begun : ((g.threads t).at.pc == 0) ≡ false) (walk : IsWalk (g.threads t).own.stage) where
-  abbrev m : Machine
-  m = g.threads t
+  open thread_at st t use {m}
 
   -- the machine at this place and stage
   abbrev pub walked : ℕ → Stage → Machine

@@ -1,6 +1,6 @@
 -- Runs stay in the invariant, and their events obey the sharing rules.
-use Rattle.sharc_invariant.proofs.{Imports.{◌≡◌, ℕ, ◌≢◌, Bool, List, [], ◌∷◌, refl, sym, ap, ◌∙◌, subst, ⊎_elim, cases_eq, ◌++◌, Code, Shape, Machine, instr_at, Turn, Global, at, after_turn, state_now, one_thread, bounds, put_other, TypeRules, World, lang_of, has_returned, size_of_run, Effect, Silently, ClearsOf as Clears, Gives, Frees, MakesOf as Makes, Unlocks, Returns, WithdrawsOf as Withdraws, NoneOf, events_of, Event, Return, Tied, first_world, first_place, Keeps, Followed, RunsStay, RunsFromTheBeginning, StateStands, RunsStand, NothingYet, NoneReturned, MachineInvariant, changes_objects, objects_now}, Obeyed.effect_tied}
-use Rattle.sharc_invariant.specs.{Effect.{Accesses, Locks}, Laws.Begins}
+use Rattle.sharc_invariant.proofs.{Imports.{◌≡◌, ℕ, ◌≢◌, Bool, List, [], ◌∷◌, refl, sym, ap, ◌∙◌, subst, ⊎_elim, cases_eq, ◌++◌, Code, Shape, Machine, instr_at, Turn, Global, at, after_turn, state_now, one_thread, bounds, put_other, TypeRules, World, lang_of, has_returned, size_of_run, Effect, Gives, MakesOf as Makes, Returns, NoneOf, events_of, Event, Return, Tied, first_world, first_place, Keeps, Followed, RunsStay, RunsFromTheBeginning, StateStands, RunsStand, NothingYet, NoneReturned, MachineInvariant, changes_objects, objects_now}, Obeyed.effect_tied}
+use Rattle.sharc_invariant.specs.{Effect.{Accesses}, Laws.Begins}
 
 joined : {A : Type 0} (a b c : List A) → a ++ (b ++ c) ≡ (a ++ b) ++ c
 joined [] b c = refl

@@ -1,5 +1,5 @@
 -- The notes of a thread that withdraws row by row.
-use Rattle.sharc_invariant.proofs.Imports.{◌≡◌, ℕ, zero, suc, ◌+◌, ◌<◌, ◌≤◌, ◌≢◌, ◌||◌, ◌&&◌, Bool, true, false, cond, List, [], ◌∷◌, Option, None, Some, refl, sym, ap, ◌∙◌, ⊎_elim, arith, ◌^◌, cases_lt, eqb-true, eqb-false, nat_tests, and_le_l, length, take, slice_index, slice_index_or, nat_lt, nat_eq, not, is_some, ◌==◌, Contains, bit_and, list_any, Kind, Read, Write, GranuleNotes, blank, has_note, of_kind, Accesses, ListsNoted, is_noted, note_of, site_at, withdrawn_of, all_but, ShadowLaws, epoch_of, is_of, is_written, stands, THREADS, Machine, wrote, withdraws, at_stage, Withdraws, Leaves, put, put_same, put_other, put_all, GranuleState, withdrawn, note_number, noted_by, Reads, ne_eq, eq_refl, same_or}
+use Rattle.sharc_invariant.proofs.Imports.{◌≡◌, ℕ, zero, suc, ◌+◌, ◌<◌, ◌≤◌, ◌≢◌, ◌||◌, ◌&&◌, Bool, true, false, cond, List, [], ◌∷◌, Option, None, Some, refl, sym, ap, ◌∙◌, ⊎_elim, arith, ◌^◌, cases_lt, eqb-true, eqb-false, nat_tests, and_le_l, length, take, slice_index, slice_index_or, nat_lt, nat_eq, not, is_some, ◌==◌, bit_and, list_any, Kind, Read, Write, GranuleNotes, blank, has_note, of_kind, Accesses, ListsNoted, is_noted, note_of, site_at, withdrawn_of, all_but, ShadowLaws, epoch_of, is_of, is_written, stands, THREADS, Machine, wrote, withdraws, at_stage, Withdraws, Leaves, put, put_same, put_other, put_all, GranuleState, withdrawn, note_number, noted_by, Reads, ne_eq, eq_refl, same_or}
 
 -- ---- the rows that were withdrawn from
 abbrev pub is_row : List ℕ → ℕ → Bool

@@ -5,13 +5,13 @@ use Rattle.sharc_history_laws.proofs.laws.causes_law.Goals as goal
 laws_of : goal.After-shadow_laws → TheLaws
 laws_of c = record {
   shadow = c.shadow_laws.ensures;
-  state = c.state_stands.ensures;
-  cells = c.cells_are_there.ensures.cells;
-  pointers = c.cells_are_there.ensures.pointers;
-  rights = c.cells_are_there.ensures.rights;
-  run = c.run_laws.ensures;
-  begins = c.begins.ensures.opens;
-  keeps = c.keeps.ensures;
+  state = c.invariant_laws.ensures.states;
+  cells = c.invariant_laws.ensures.cells;
+  pointers = c.invariant_laws.ensures.pointers;
+  rights = c.invariant_laws.ensures.rights;
+  run = c.invariant_laws.ensures.runs;
+  begins = c.invariant_laws.ensures.opens;
+  keeps = c.invariant_laws.ensures.keeps;
   bits = c.runs_bits.ensures;
   conflicts = c.runs_report.ensures.conflicts;
 }
@@ -33,6 +33,6 @@ returns-clause-named c = λ x code s ls wt fits few run checked t conflict stop.
 
 pub returns-clause-unstarted : goal.returns-clause-unstarted
 returns-clause-unstarted c = λ x code s ls wt fits few run checked u off.
-    let there = c.cells_are_there.ensures in
-    let laws = c.run_laws.ensures in
-    ((consists laws c.begins.ensures.opens c.keeps.ensures there.cells there.pointers x code s ls wt fits few run ((laws.checked code s run).0 checked)).state.threads u).waits off
+    let there = c.invariant_laws.ensures in
+    let laws = c.invariant_laws.ensures.runs in
+    ((consists laws c.invariant_laws.ensures.opens c.invariant_laws.ensures.keeps there.cells there.pointers x code s ls wt fits few run ((laws.checked code s run).0 checked)).state.threads u).waits off

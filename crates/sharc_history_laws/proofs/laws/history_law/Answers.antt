@@ -3,13 +3,13 @@ use Rattle.sharc_history_laws.proofs.laws.history_law.Goals as goal
 
 pub returns : goal.returns
 returns c = λ x code s ls wt fits few run checked.
-    let laws = c.run_laws.ensures in
-    let there = c.cells_are_there.ensures in
+    let laws = c.invariant_laws.ensures.runs in
+    let there = c.invariant_laws.ensures in
     let is_run = (laws.checked code s run).0 checked in
-    let h = obeyed there.cells there.pointers there.rights laws c.begins.ensures.opens c.keeps.ensures x code s ls wt fits few run is_run in
-    let k = shares c.state_stands.ensures there.cells there.pointers there.rights laws c.begins.ensures.opens c.keeps.ensures x code s ls wt fits few run is_run in
-    let l = lock_runs there.cells there.pointers there.rights laws c.begins.ensures.opens c.keeps.ensures x code s ls wt fits few run is_run in
-    let o = keeps_modes c.state_stands.ensures there.cells there.pointers there.rights laws c.begins.ensures.opens c.keeps.ensures x code s ls wt fits few run is_run in
+    let h = obeyed there.cells there.pointers there.rights laws c.invariant_laws.ensures.opens c.invariant_laws.ensures.keeps x code s ls wt fits few run is_run in
+    let k = shares c.invariant_laws.ensures.states there.cells there.pointers there.rights laws c.invariant_laws.ensures.opens c.invariant_laws.ensures.keeps x code s ls wt fits few run is_run in
+    let l = lock_runs there.cells there.pointers there.rights laws c.invariant_laws.ensures.opens c.invariant_laws.ensures.keeps x code s ls wt fits few run is_run in
+    let o = keeps_modes c.invariant_laws.ensures.states there.cells there.pointers there.rights laws c.invariant_laws.ensures.opens c.invariant_laws.ensures.keeps x code s ls wt fits few run is_run in
     record {
       live = λ before e after a stands is. (h.allowed before e after a stands is).there;
       one_mode = one_mode (history_of code s run) o.same;

@@ -8,7 +8,7 @@ both r before e false is h k = k is
 
 pub returns : goal.returns
 returns c = λ x code s ls wt fits few follow r first run checked before e after stands.
-    let laws = c.run_laws.ensures in
-    let there = c.cells_are_there.ensures in
-    let told = awaited c.waiters_laws.ensures c.state_stands.ensures there.cells there.pointers there.rights laws c.begins.ensures.opens c.keeps.ensures x code s ls wt fits few follow r first run ((laws.checked code s run).0 checked) in
+    let laws = c.invariant_laws.ensures.runs in
+    let there = c.invariant_laws.ensures in
+    let told = awaited c.waiters_laws.ensures c.invariant_laws.ensures.states there.cells there.pointers there.rights laws c.invariant_laws.ensures.opens c.invariant_laws.ensures.keeps x code s ls wt fits few follow r first run ((laws.checked code s run).0 checked) in
     both r before e (is_about_waiters e.act) refl (told.legal before e after stands) (c.stores_law.ensures x code s ls wt fits few r first run checked before e after stands)
