@@ -67,7 +67,7 @@ class Locksets:
         place = tree
         while place.op == "element":
             place = place.args[0]
-        if tree.op not in PLACES or line.header and not tree.source or place.type.base().kind not in ("int", "ptr"):
+        if tree.op not in PLACES or place.type.base().kind not in ("int", "ptr"):
             return
         key = self.function, id(place.source or place)
         name, prefix = spelled(place), None

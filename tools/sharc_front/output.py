@@ -8,12 +8,11 @@ from operator import itemgetter
 
 from pycparser import c_ast as A
 from .classes import named
-from .ctype import CHAR, Refusal, Type, array
+from .ctype import CHAR, UNKNOWN, Refusal, Type, array
 from .declare import Symbol
-from .names import Names
+from .names import Names, in_c
 from .places import Places
 from .source import HEADERS, texts
-from .statements import addressed_in
 from .tree import NOTHING, Expr, number, variable
 
 class Front(Places):
@@ -26,13 +25,13 @@ class Front(Places):
         self.firsts = []  # (class of &a[0], class of a): a pointer to the array, unless others of its elements have one
         self.tags, self.typedef_names = {}, {}  # by their nodes; in self.scopes they are with a blank before them
         self.names = set(source.words)
-        self.unions = set()
-        self.lines, self.loops, self.notes, self.cells, self.locals = [], [], [], 0, 0
+        self.lines, self.loops, self.notes, self.cells, self.own_names = [], [], [], 0, set()
         self.pinned, self.bound = False, None  # in a function of the headers: the place of the call, and its argument
         self.out_names, self.text_pool, self.calls_by, self.groups = {}, {}, {}, {}
         self.numbers, self.joins, self.started, self.ends, self.records = {}, [], [], [], {}
         self.reads_strings, self.helpers = False, set()
-        self.addressed = addressed_in(source.tree)
+        # the variables whose address is taken
+        self.addressed = set(re.findall(r"&(\w+)(?:\.\w+)*(?![\w.[]|->)", in_c(source.tree)))
         self.global_names = {item.name for item in source.tree.ext if isinstance(item, A.Decl)}
         self.strings = self.declare("strings", "global", array(CHAR, 1), self.here)
         self.strings.own = True
@@ -56,7 +55,7 @@ class Front(Places):
             keys, kinds = list(root.globals), [self.part(symbol.type, path) for symbol, path in root.globals]
             bases, starts = [kind.base() for kind in kinds], [0, *accumulate(kind.cells() for kind in kinds)]
             inside = [self.part(symbol.type, path[:at]).kind for symbol, path in keys for at in range(len(path))]
-            alike = len({base.key() for base in bases}) == len({base.mode and base.mode[0] for base in bases}) == 1
+            alike = len(set(bases)) == len({base.mode and base.mode[0] for base in bases}) == 1
             root.mixed = not alike or "array" in inside or any(symbol is self.strings for symbol, _ in keys)
             if not root.mixed:
                 name = "_".join(sorted({symbol.name for symbol, _ in keys}))[:40]
@@ -85,8 +84,7 @@ class Front(Places):
         return " ".join(texts)
 
     def new_object(self, target, kind, length, boxes, inner=""):
-        """target = an object of `length` elements, or of pointers to them; `inner`: the mode of these in a struct. The
-        arrays in structs are objects of their own, made while the struct is private."""
+        """target = an object of `length` elements, or of pointers to them; `inner`: the mode of these in a struct."""
         self.refuse_if((length.number or 0) > 65536, "object of over 65536 elements")
         plain, one = self.type_text(kind.bare()).replace(" racy", ""), length.number == 1 and not boxes
         arrays = [(self.part_name(kind.name, path), field) for path, field in self.objects(kind) if not boxes]
@@ -126,8 +124,7 @@ class Front(Places):
         return any((symbol, path[:at]) in self.groups for at in range(len(path) + 1))
 
     def global_text(self, symbol, kind, path=(), context=None):
-        """A global: a variable for each member of a struct; or an array, after the arrays in its elements, which are
-        one after the other."""
+        """A global: a variable for each member of a struct; or an array, after those that the arrays in it become."""
         if self.grouped(symbol, path):
             return ""
         if kind.kind == "struct":
@@ -143,8 +140,9 @@ class Front(Places):
         return " ".join([*inner, f"{text} {name}{f' = {self.text(constant)}' if constant else ''};"])
 
     def program(self):
-        functions = [line for symbol in self.functions.values() if symbol.definition and not symbol.header
-                     for line in self.function_lines(symbol)]
+        functions = {symbol: self.function_lines(symbol) for symbol in self.functions.values()
+                     if symbol.definition and not symbol.header}
+        functions[self.functions["main"]][1:1] = self.initialisers()
         globals_ = [symbol for symbol in self.globals if symbol.uses or not symbol.place[0].startswith(HEADERS)]
         globals_ += dict.fromkeys(group for group, _ in self.groups.values())
         globals_ = [self.written(symbol.place, self.global_text, symbol, symbol.type) for symbol in globals_]
@@ -164,8 +162,7 @@ class Front(Places):
             helpers += sorted(set(re.findall(r"__sharc_\w+", arithmetic[name])) - set(helpers))
         lines = enumerate([line for name in helpers for line in arithmetic[name].split("\n")], 1)
         last += [(("what C does that the language does not", at), line) for at, line in lines]
-        text = self.marked(structs + globals_ + functions + last)
-        self.refuse_if(len(text) > 1048576, "program whose lowered text is over 1048576 bytes")
+        text = self.marked(structs + globals_ + sum(functions.values(), []) + last)
         if self.refusals:
             raise Refusal(*self.refusals)
         return text
@@ -191,8 +188,8 @@ class Front(Places):
         self.here = place
         try:
             return place, act(*arguments)
-        except Refusal as refusal:
-            self.report(refusal)
+        except UNKNOWN as error:
+            self.report(error, "form that the front does not know")
             return place, "?"
 
     def shown(self, line):
@@ -215,18 +212,13 @@ class Front(Places):
                 yield place, "}"
 
     def function_lines(self, symbol):
-        """The function as lines, after what main does first."""
-        lines = [*self.flat(symbol.lines)]
-        yield self.written(symbol.place, self.heading, symbol)
-        yield from self.initialisers() if symbol.name == "main" else []
-        yield from lines
-        yield lines[-1][0] if lines else symbol.place, "}"
+        body = [*self.flat(symbol.lines)]
+        return [self.written(symbol.place, self.heading, symbol), *body, (body[-1][0] if body else symbol.place, "}")]
 
     def heading(self, symbol):
         if symbol.name == "main":
             return "int main(void) {"
-        texts = [f"{self.type_text(param.type)} {self.part_name(param, ())}" for param in symbol.params]
-        self.refuse_if(len(texts) > 16, f"function {symbol.name} with over 16 parameters")
+        texts = [f"{self.type_text(param.type)} {self.part_name(param)}" for param in symbol.params]
         return f"{self.type_text(symbol.type.to)} {self.part_name(symbol)}({', '.join(texts) or 'void'}) {{"
 
     def initialisers(self):

@@ -46,7 +46,6 @@ class Places(Threads):
         """What is called: a function of the program, or the one that calls one of several."""
         if hasattr(callee, "params"):
             return self.part_name(callee)
-        self.refuse_if(self.how(callee) != "function", "call through a pointer that is always NULL")
         if callee.find() not in self.calls_by:
             self.calls_by[callee.find()] = (self.fresh("call"), value.type.to, callee.find(), self.here)
         return self.calls_by[callee.find()][0]
@@ -100,8 +99,7 @@ class Places(Threads):
         if how in HEAP:
             node.pointee_type(self.here)
             return Spot(None, times(index, kind.cells()), self.text(pointer), self.boxes(node))
-        self.refuse_if(how != "global",
-                       "use of a pointer that is always NULL" if how == "none" else "dereference of a number")
+        self.refuse_if(how != "global", "use of a pointer that is always NULL or a number")
         symbol, path = next(iter(node.find().globals))
         self.reads_strings |= symbol is self.strings
         kinds = [self.part(symbol.type, path[:at]) for at in range(len(path) + 1)]
@@ -109,11 +107,9 @@ class Places(Threads):
         for outer, step in zip(kinds, path):
             spot = self.entered(spot, outer.base().name, step)
         arrays = [at for at, part in enumerate(kinds) if part.kind == "array"]
-        self.refuse_if(kinds[-1].base().key() != kind.base().key(),
-                       f"pointer to {kinds[-1].base().shown()} used for {kind.shown()}")
-        self.refuse_if(not arrays and (not index.null() or moves and not pointer.place()),
-                       "arithmetic on a pointer to a single object")
-        self.refuse_if(arrays and moves and arrays[-1] < len(path), "arithmetic on a pointer to a member")
+        self.refuse_if(kinds[-1].base() != kind.base(), f"pointer to {kinds[-1].shown()} used for {kind.shown()}")
+        single = arrays[-1] < len(path) and moves if arrays else not index.null() or moves and not pointer.place()
+        self.refuse_if(single, "arithmetic on a pointer to a single object or a member")
         if arrays:
             spot.index = plus(plus(self.as_number(pointer), times(index, kind.cells())), number(-1))
         return spot
@@ -179,8 +175,7 @@ class Places(Threads):
         if self.how(self.class_of(value)) == "global":
             return self.text(self.as_number(value), 12)
         spot = self.spot(place)
-        self.refuse_if(spot.pointer is None or spot.inner, "address of this form")
-        self.refuse_if(not spot.boxes and not spot.index.null(),
+        self.refuse_if(spot.pointer is None or spot.inner or not spot.boxes and not spot.index.null(),
                        "pointer arithmetic on an object of the heap or a local")
         return f"{spot.pointer}[{self.text(spot.index)}]" if spot.boxes and not is_array else spot.pointer
 
@@ -210,7 +205,7 @@ class Places(Threads):
         if kind.kind == "cond":
             return "struct cond" + mode
         if kind.kind == "struct":
-            self.complete(kind, self.here)
+            self.refuse_if(not self.structs[kind.name].fields, f"struct {kind.name}, which is not defined")
             return "struct " + self.part_name(kind.name) + mode
         self.refuse_if(kind.kind != "ptr", f"type {kind.shown()}")
         how = self.how(kind.node)

@@ -120,8 +120,8 @@ def binary(op, left, right, name):
     """left op right in the C type `name`, to which both operands are converted (the left one alone for shifts)."""
     left, right = convert(left, name), right if op in ("<<", ">>") else convert(right, name)
     value = folded(op, left, right, name) if None not in (left.number, right.number) else None
-    if value is not None:
-        return value
+    if value is not None or op in COMPARED:
+        return value or compared(op, left, right, name)
     small = op in ("+", "-") and right.number is not None and abs(right.number) <= 65536
     if name == "ulong" and op in NAMES64 and not small or name == "uint" and op == "*":
         return joined("__sharc_product32" if name == "uint" else NAMES64[op], name, left, right)
@@ -129,12 +129,9 @@ def binary(op, left, right, name):
         left = joined("+", name, left, number(0, "long"))  # of type long in the text
     return convert(joined(op, "long" if name == "uint" and op in ("+", "-", "<<") else name, left, right), name)
 
-def compare(op, left, right, name):
-    small = all(side.number >= 0 if side.number is not None else side.type.name in UNSIGNED - {"ulong"}
+def compared(op, left, right, name):
+    small = all(side.number >= 0 if side.number is not None else side.bare().type.name in UNSIGNED - {"ulong"}
                 for side in (left, right))  # whether both as an unsigned long are less than 2^63
-    left, right = convert(left, name), convert(right, name)
-    if None not in (left.number, right.number):
-        return folded(op, left, right, name)
     if name != "ulong" or op in ("==", "!=") or small:
         return joined(op, "int", left, right)
     less = joined("__sharc_below64", "int", *((right, left) if op in (">", "<=") else (left, right)))
