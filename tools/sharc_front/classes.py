@@ -20,7 +20,7 @@ def unify(one, other):
 class Node:
     """A class, or a part of one that was united with another: `find` gives the whole."""
     def __init__(self, every, to=None):
-        self.every, self.parent, self.mixed = every, None, False
+        self.every, self.parent = every, None
         self.globals, self.functions = {}, {}  # as sets in order: (symbol, path of members), symbols
         self.types, self.seen = {}, set()  # seen: heap, integer, order, taken, or indexed (another element is used)
         self.parts = {}  # the classes of pointers to other elements ("element",), and to members ("member", ..)

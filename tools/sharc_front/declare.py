@@ -32,7 +32,7 @@ class Field:
     def __init__(self, type, place, made):
         self.type, self.place = type, place
         self.made = made  # the class of pointers to it, or to its elements if it is an array, in objects of the heap
-        self.alone = False  # its address is taken there, so it is an object of its own, as arrays are
+        self.alone = type.kind == "array"  # whether it is an object of its own there; also where its address is taken
 
 class Struct:
     def __init__(self, place):

@@ -70,8 +70,6 @@ class Expressions(Declarations):
 
     def stable(self, value):
         """The value, so that it may be written several times and evaluated later."""
-        if value.op == "cast":
-            return value.with_(args=(self.stable(value.args[0]),))
         if value.op == "address":
             return value.with_(args=(self.stable_place(value.args[0], value.args[0].op == "at"),))
         if value.type.kind == "struct":
@@ -88,7 +86,7 @@ class Expressions(Declarations):
         return place.with_(args=(base, *(self.stable(arg) if isinstance(arg, Expr) else arg for arg in inner)))
 
     def member(self, base, name):
-        fields = self.structs[base.type.name].fields
+        fields = self.structs[base.type.base().name].fields
         field = fields.get(name) or fields[""]  # where one without a name is refused
         self.refuse_if(field.type.kind == "bad", None)
         return Expr("member", (base, name), field.type)
@@ -193,7 +191,7 @@ class Expressions(Declarations):
     def fitting(self, value, kind):
         """A value as an object of this type holds it."""
         if kind.name == "value":
-            return self.copied(kind, value)
+            value = self.copied(value)
         truth = kind.name == "bool"  # 0 or 1
         if truth and value.type.kind == "ptr":
             value = self.operated("!=", value, number(0))
@@ -237,8 +235,7 @@ class Expressions(Declarations):
         self.refuse_if(found.header, f"address of {found.name}")
         kind = self.pointer(found.type)
         kind.node.functions[found] = None
-        shown = str(self.numbers.setdefault(found, len(self.numbers) + 1))
-        return Expr("text", (lambda: shown,), kind)
+        return Expr("number", (), kind, self.numbers.setdefault(found, len(self.numbers) + 1))
 
     def x_StructRef(self, node, _):
         base = self.deref(self.value(node.name)) if node.type == "->" else self.visit(node.name)
@@ -264,7 +261,7 @@ class Expressions(Declarations):
             return self.value(inner.expr)
         if op == "&":
             made = self.visit(inner)
-            return made if made.op == "text" else address(made)  # text: a function
+            return made if made.op == "number" else address(made)  # the number of a function
         if op in ("++", "--", "p++", "p--"):
             place = self.stable_place(self.visit(inner))
             return self.changed(place, wanted, A.Constant("int", "1"), op[-1], after=op[0] == "p")
@@ -409,18 +406,15 @@ class Expressions(Declarations):
             self.emit("free(%s);", value)
         return made
 
-    def copied(self, kind, value):
+    def copied(self, value):
         """A pointer to a new object with the value of a struct, or to that which a call gave."""
         if value.given:
-            made = value.args[0]
-        else:
-            symbol = self.declare("copy", "local", kind.to.bare(), self.here)
-            symbol.own = True
-            self.declare_local(symbol)
-            made = address(variable(symbol), kind.to)
-            self.copy(variable(symbol), self.stable(value))
-        kind.node.unite(self.class_of(made))
-        return made.typed(kind)
+            return value.args[0]
+        symbol = self.declare("copy", "local", value.type.bare(), self.here)
+        symbol.own = True
+        self.declare_local(symbol)
+        self.copy(variable(symbol), self.stable(value))
+        return address(variable(symbol))
 
     def store(self, place, node):
         """place = node, of whatever type."""

@@ -38,7 +38,7 @@ class Library(Statements):
             self.refuse_if(part[4] not in "diuxXocsp", f"conversion %{part[4]}")
             if part[4] in shown:
                 printed.append(self.shown_number(part, value))
-            elif value.height > 2 and (value.type.kind == "int" or value.bare().op in PLACES) or value.calls:
+            elif value.height > 2 and (value.type.kind == "int" or value.op in PLACES) or value.calls:
                 self.spilled(value)  # what it reads is read, though nothing is printed
         for value in [self.spilled(value) if value.calls and len(printed) > 1 else value for value in printed]:
             self.emit("print(%s);", value)
@@ -82,7 +82,6 @@ class Library(Statements):
 
     def factors(self, size):
         """A size in bytes as values that are multiplied."""
-        size = size.bare()
         multiplied = size.op in ("*", "__sharc_product64")
         return [factor for arg in size.args for factor in self.factors(arg)] if multiplied else [self.stable(size)]
 
@@ -99,7 +98,7 @@ class Library(Statements):
         """malloc within an expression: by a variable, which is cast away."""
         made = self.temporary(self.pointer(VOID))
         self.allocate(made, args)
-        return Expr("scast", (made,), made.type, height=3)
+        return Expr("scast", (made, made.type), made.type, height=3)
 
     l_calloc = l_malloc
 
@@ -116,7 +115,7 @@ class Library(Statements):
 
     def l_free(self, args):
         value = self.value(args[0])
-        value = value.bare() if value.bare().op in PLACES or value.null() else self.spilled(value)
+        value = value if value.op in PLACES or value.null() else self.spilled(value)
         self.later(lambda: f"free({self.text(value)});" if self.how(self.class_of(value)) in HEAP else "", value)
 
     def l_sharc_stop(self, args):
@@ -135,7 +134,7 @@ class Library(Statements):
     def l_sharc_scast(self, args):
         kind, place = self.type(args[0].to_type), self.visit(args[1])
         place.type.node.unite(kind.node)
-        return Expr("scast", (place,), kind, height=3)
+        return Expr("scast", (place, kind), kind, height=3)
 
     def l_sharc_give(self, args):
         return self.given(self.value(args[0]))

@@ -28,7 +28,7 @@ class Front(Places):
         self.lines, self.loops, self.notes, self.cells, self.own_names = [], [], [], 0, set()
         self.pinned, self.bound = False, None  # in a function of the headers: the place of the call, and its argument
         self.out_names, self.text_pool, self.calls_by, self.groups = {}, {}, {}, {}
-        self.numbers, self.joins, self.started, self.ends, self.records = {}, [], [], [], {}
+        self.numbers, self.joins, self.started, self.ends = {}, [], [], []
         self.reads_strings, self.helpers = False, set()
         # the variables whose address is taken
         self.addressed = set(re.findall(r"&(\w+)(?:\.\w+)*(?![\w.[]|->)", in_c(source.tree)))
@@ -44,28 +44,30 @@ class Front(Places):
         for symbol in self.thread_functions():
             for node in self.joins if symbol.gives else []:
                 symbol.type.to.node.unite(node)
+        # the names of the struct, the function that is spawned, the one that takes the argument, the table of starts
+        self.records = {symbol: {name: self.own_name(f"{name}_{symbol.name}") for name in
+                                 ("record", "start", "take", "table")} for symbol in self.thread_functions()}
         self.settle()
         self.merge()
 
     def merge(self):
-        """Globals, or parts of them, of one type that one pointer may point to become elements of one array."""
-        while several := [root for root in self.everything() if len(root.globals) > 1 and not root.mixed]:
-            root = min(several, key=lambda root: (max(len(path) for _, path in root.globals),
-                                                  sorted(map(named, root.globals))))
-            keys, kinds = list(root.globals), [self.part(symbol.type, path) for symbol, path in root.globals]
+        """Globals of one type, or members of such structs, to which one pointer may point, become one array."""
+        several = [[*root.globals] for root in self.everything() if len(root.globals) > 1]
+        for keys in sorted(several, key=lambda keys: (max(len(path) for _, path in keys), sorted(map(named, keys)))):
+            kinds = [self.part(symbol.type, path) for symbol, path in keys]
+            around = [self.part(symbol.type, path[:at]).kind for symbol, path in keys for at in range(len(path))]
             bases, starts = [kind.base() for kind in kinds], [0, *accumulate(kind.cells() for kind in kinds)]
-            inside = [self.part(symbol.type, path[:at]).kind for symbol, path in keys for at in range(len(path))]
-            alike = len(set(bases)) == len({base.mode and base.mode[0] for base in bases}) == 1
-            root.mixed = not alike or "array" in inside or any(symbol is self.strings for symbol, _ in keys)
-            if not root.mixed:
+            apart = "array" not in around and not (around and bases[0].kind == "struct")
+            apart &= not any(symbol is self.strings or (symbol, ()) in self.groups for symbol, _ in keys)
+            if apart and len({(base, base.mode and base.mode[0]) for base in bases}) == 1:
                 name = "_".join(sorted({symbol.name for symbol, _ in keys}))[:40]
                 kind = array(bases[0].with_(const=all(base.const for base in bases)), starts.pop())
                 made = Symbol(name, "global", kind, keys[0][0].place, None, self.fresh(name), True)
-                self.groups.update({key: (made, start) for key, start in zip(keys, starts)})
-                for root, (symbol, path) in [(root, key) for root in self.everything() for key in root.globals]:
-                    for at in [at for at in range(len(path) + 1) if (symbol, path[:at]) in keys]:
-                        del root.globals[symbol, path]
-                        root.globals[made, path[at:]] = None
+                self.groups.update({key: (made, number(start)) for key, start in zip(keys, starts)})
+        for root in self.everything():
+            root.globals = dict.fromkeys((self.groups[symbol, path][0], ()) if (symbol, path) in self.groups else
+                                         (self.groups.get((symbol, ()), (symbol, 0))[0], path)
+                                         for symbol, path in root.globals)
 
     def declaration(self, symbol):
         """A local: a variable; one for each member of a struct; or an object, for an array and what has an address."""
@@ -103,33 +105,26 @@ class Front(Places):
 
     def objects(self, kind):
         """The members of a struct in an object that are objects of their own: (path, field)."""
-        leaves = self.leaves(kind, (), True)
-        return [(path, field) for path, _, field in leaves if field.alone or field.type.kind == "array"]
+        return [(path, field) for path, _, field in self.leaves(kind, (), True) if field.alone]
 
     def struct_text(self, name):
         """A struct, with pointers to objects of their own for the arrays in it."""
         texts = []
         for path, struct, field in self.leaves(Type("struct", name), (), True):
             self.here, base, stars = field.place, field.type.base(), ""
-            if field.alone or field.type.kind == "array":
+            if field.alone:
                 mode = field.type.mode or ("racy" if base.kind == "mutex" else "dynamic", None)
                 base = base if base.mode or base.atomic else base.with_(mode=mode)
                 stars = " * readonly" * (1 + self.boxes(field.made))
             shown = self.type_text(base, (struct, name, path[:-1]), False)
             texts.append(f"{shown}{stars} {self.part_name(name, path)};")
-        return f"struct {self.part_name(name)} {{ {' '.join(texts) or 'char unused;'} }};"
-
-    def grouped(self, symbol, path):
-        """Whether a part of a global has become a part of an array of several."""
-        return any((symbol, path[:at]) in self.groups for at in range(len(path) + 1))
+        return f"struct {self.part_name(name)} {{ {' '.join(texts)} }};"
 
     def global_text(self, symbol, kind, path=(), context=None):
         """A global: a variable for each member of a struct; or an array, after those that the arrays in it become."""
-        if self.grouped(symbol, path):
-            return ""
         if kind.kind == "struct":
             return " ".join(self.global_text(symbol, field.type, at, (struct, symbol, at[:-1]))
-                            for at, struct, field in self.leaves(kind))
+                            for at, struct, field in self.leaves(kind) if (symbol, at) not in self.groups)
         base, length, constant = kind.base(), kind.cells(), symbol.constants.get(path)
         inner = [self.global_text(symbol, array(field.type, length), path + at) for at, field in self.objects(base)]
         shared = ("racy", None) if base.kind == "int" and base.const else None
@@ -143,7 +138,8 @@ class Front(Places):
         functions = {symbol: self.function_lines(symbol) for symbol in self.functions.values()
                      if symbol.definition and not symbol.header}
         functions[self.functions["main"]][1:1] = self.initialisers()
-        globals_ = [symbol for symbol in self.globals if symbol.uses or not symbol.place[0].startswith(HEADERS)]
+        globals_ = [symbol for symbol in self.globals if (symbol, ()) not in self.groups and
+                    (symbol.uses or not symbol.place[0].startswith(HEADERS))]
         globals_ += dict.fromkeys(group for group, _ in self.groups.values())
         globals_ = [self.written(symbol.place, self.global_text, symbol, symbol.type) for symbol in globals_]
         globals_ += [self.written(self.here, self.record_lines, symbol) for symbol in self.thread_functions()]
@@ -225,7 +221,7 @@ class Front(Places):
         """What main does before everything else."""
         for symbol in self.globals:
             for path, lines in symbol.rest:
-                if path not in symbol.constants or self.grouped(symbol, path):
+                if path not in symbol.constants or {(symbol, ()), (symbol, path)} & self.groups.keys():
                     yield from self.flat(lines)
                     self.notes.append((symbol.place, f"the initialiser of {symbol.name} is executed by main"))
         for at, byte in enumerate(b"".join(self.text_pool) if self.reads_strings else b""):

@@ -53,25 +53,19 @@ class Places(Threads):
     def spot(self, place):
         base, *rest = place.args
         if place.op == "at":
-            return self.pointed(base, rest[0], place.type)
+            return self.pointed(base, rest[0], base.type.to)
         if place.op == "variable":
-            is_array, is_global = base.type.kind == "array", base.kind == "global"
+            is_global, (base, at) = base.kind == "global", self.groups.get((base, ()), (base, number(0)))
             self.refuse_if(is_global and base not in self.globals and not base.own,
                            f"variable {base.name}, which is not defined here")
+            is_array = base.type.kind == "array"
             if is_global or not is_array and not base.boxed:
-                return self.in_group(Spot(base, number(0) if is_array else None))
+                return Spot(base, at if is_array else None)
             return Spot(base, number(0), self.part_name(base), is_array and self.boxes(base.address))
         spot = self.spot(base)
         if place.op == "member":
-            return self.entered(spot, base.type.name, rest[0])
+            return self.entered(spot, base.type.base().name, rest[0])
         spot.index = plus(spot.index, times(rest[0], place.type.cells()))
-        return spot
-
-    def in_group(self, spot):
-        """The same, where a global has become a part of an array of several."""
-        if (spot.symbol, spot.path) in self.groups:
-            spot.symbol, at = self.groups[(spot.symbol, spot.path)]
-            spot.path, spot.index = (), number(at)
         return spot
 
     def entered(self, spot, struct, name):
@@ -82,7 +76,8 @@ class Places(Threads):
         if spot.index is None:
             spot.path, spot.index = spot.path + (name,), number(0) if is_array and in_global else None
             if in_global:
-                return self.in_group(spot)
+                key = (spot.symbol, spot.path)
+                return Spot(*self.groups[key]) if key in self.groups else spot
         else:
             spot.top, spot.inner = spot.top or struct, spot.inner + (name,)
         if apart and in_global:  # those of all elements are one after the other
@@ -103,9 +98,7 @@ class Places(Threads):
         symbol, path = next(iter(node.find().globals))
         self.reads_strings |= symbol is self.strings
         kinds = [self.part(symbol.type, path[:at]) for at in range(len(path) + 1)]
-        spot, moves = self.spot(variable(symbol)), node.has("order")
-        for outer, step in zip(kinds, path):
-            spot = self.entered(spot, outer.base().name, step)
+        spot, moves = self.spot(self.inner_place(variable(symbol), path)), node.has("order")
         arrays = [at for at, part in enumerate(kinds) if part.kind == "array"]
         self.refuse_if(kinds[-1].base() != kind.base(), f"pointer to {kinds[-1].shown()} used for {kind.shown()}")
         single = arrays[-1] < len(path) and moves if arrays else not index.null() or moves and not pointer.place()
@@ -117,7 +110,7 @@ class Places(Threads):
     def as_number(self, pointer):
         """A pointer to an element of a global as the number that it is, from 1."""
         place = pointer.place()
-        return plus(self.spot(place).index or number(0), number(1)) if place else pointer.bare()
+        return plus(self.spot(place).index or number(0), number(1)) if place else pointer
 
     def spot_text(self, spot):
         name = spot.pointer or self.part_name(spot.symbol, spot.path)
@@ -135,8 +128,6 @@ class Places(Threads):
         """A value, in parentheses where it binds less than `level`."""
         op, args, tight = value.op, value.args, 12
         match op:
-            case "cast":
-                return self.text(args[0], level)
             case "variable" | "member" | "element" | "at":
                 made = self.spot_text(self.spot(value))
                 if value.source is not None:
@@ -149,15 +140,14 @@ class Places(Threads):
             case "call":
                 made = f"{self.called_name(*args[:2])}({', '.join(map(self.text, args[1:]))})"
             case "scast":
-                made = f"SCAST({self.type_text(value.type)}, {self.text(args[0])})"
+                made = f"SCAST({self.type_text(args[1])}, {self.text(args[0])})"
             case "address":
                 made = self.pointer_text(value)
             case "text":
                 made = args[0]()
             case "ordered":
                 made = self.text(args[0])
-                self.refuse_if(self.how(self.class_of(args[0])) != "global",
-                               "order of pointers to objects of the heap or locals")
+                self.refuse_if(self.how(self.class_of(args[0])) != "global", "order of pointers to the heap or locals")
             case _ if op in LEVELS:
                 tight = LEVELS[op]
                 made = f"{self.text(args[0], tight)} {op} {self.text(args[1], tight + 1)}"
@@ -207,7 +197,6 @@ class Places(Threads):
         if kind.kind == "struct":
             self.refuse_if(not self.structs[kind.name].fields, f"struct {kind.name}, which is not defined")
             return "struct " + self.part_name(kind.name) + mode
-        self.refuse_if(kind.kind != "ptr", f"type {kind.shown()}")
         how = self.how(kind.node)
         if how not in HEAP:
             return ("long" if how == "integer" else "int") + mode

@@ -158,15 +158,15 @@ class Statements(Expressions):
         self.scopes[item.name] = item
 
     def prototype(self, decl):
-        """The symbol of a function, with its parameters."""
+        """The symbol of a function, with its parameters if it is not defined yet."""
         kind, place = self.type(decl.type), place_of(decl, self.here)
         symbol = self.functions.setdefault(decl.name, Symbol(decl.name, "function", kind, place))
         self.scopes.maps[-1][decl.name] = symbol
+        unify(symbol.type, kind)
         if symbol.definition is None:
-            unify(symbol.type, kind)
-            names = [getattr(param, "name", None) for param in decl.type.args.params] if decl.type.args else []
-            symbol.type, symbol.params = kind, [self.declare(name or "unnamed", "param", param, decl)
-                                                for name, param in zip(names, kind.params or ())]
+            symbol.type, names = kind, [param.name for param in decl.type.args.params] if kind.params else []
+            symbol.params = [self.declare(name or "unnamed", "param", param, decl)
+                             for name, param in zip(names, kind.params or ())]
         return symbol
 
     def s_FuncDef(self, item):

@@ -33,7 +33,7 @@ class Threads(Library):
         def lines():
             """Starts one of the functions that `start` may be."""
             functions = start.type.node.find().functions
-            texts = [START.substitute(self.record(symbol), own=self.own_name("own"), given=self.own_name("given"),
+            texts = [START.substitute(self.records[symbol], own=self.own_name("own"), given=self.own_name("given"),
                                       target=self.text(place), argument=self.text(value)) for symbol in functions]
             return texts[0] if len(texts) == 1 else " ".join(f"if ({self.text(start)} == {self.numbers[symbol]}) {text}"
                                                              for symbol, text in zip(functions, texts))
@@ -68,18 +68,11 @@ class Threads(Library):
         alone = self.boxes(local.address) if whole is not place else local.started == [local.loop]
         return alone and self.how(value.type.node) in HEAP
 
-    def record(self, symbol):
-        """Names: of the struct, the function that is spawned, the one that takes the argument, the table of starts."""
-        if symbol not in self.records:
-            self.records[symbol] = {name: self.own_name(f"{name}_{symbol.name}")
-                                    for name in ("record", "start", "take", "table")}
-        return self.records[symbol]
-
     def record_lines(self, symbol):
         kinds = [param.type.kind for param in symbol.params] + [symbol.type.to.kind]
         self.refuse_if(kinds != ["ptr", "ptr"], f"thread function {symbol.name}, not of pointers", symbol.place)
         argument, result = symbol.params[0].type, self.type_text(symbol.type.to.bare())
-        return RECORD.substitute(self.record(symbol), function=self.part_name(symbol), result=result,
+        return RECORD.substitute(self.records[symbol], function=self.part_name(symbol), result=result,
                                  argument=self.type_text(argument.bare()), none=self.null_text(argument.node))
 
     def l_pthread_join(self, args):
@@ -91,9 +84,8 @@ class Threads(Library):
         self.refuse_if(place.type.kind != "ptr", "result of a thread that is no pointer")
         self.joins.append(place.type.node)
         self.put(place, number(0))
-
         self.later(lambda: " ".join(
-            RESULT.substitute(self.record(symbol), thread=self.text(thread), target=self.text(place),
+            RESULT.substitute(self.records[symbol], thread=self.text(thread), target=self.text(place),
                               none=self.null_text(place.type.node))
             for symbol in self.thread_functions() if symbol.gives), place)
 
