@@ -116,7 +116,7 @@ class Classes:
         in_heap = root.has("heap") and not root.globals
         for (struct, name), node in [(key[1:], node) for key, node in root.parts.items() if key[0] == "member"]:
             node.find().globals.update({(symbol, path + (name,)): None for symbol, path in root.globals
-                                        if self.part(symbol.type, path).base().name == struct})
+                                        if self.part(symbol, path).type.base().name == struct})
             if in_heap:
                 node.mark("heap")
                 self.structs[struct].fields[name].made.unite(node)
@@ -133,9 +133,3 @@ class Classes:
                 yield from self.leaves(field.type, path + (name,), apart)
             elif field.type.kind != "bad":
                 yield path + (name,), kind.name, field
-
-    def part(self, kind, path):
-        """The type of a part: members and indices."""
-        for step in path:
-            kind = kind.to if isinstance(step, int) else self.structs[kind.base().name].fields[step].type
-        return kind

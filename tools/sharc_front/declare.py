@@ -222,7 +222,8 @@ class Declarations(Classes):
                 name, *more = item.name
                 at = steps.index(name.name if kind.kind == "struct" else self.constant(name))
                 items[0] = A.NamedInitializer(more, item.expr) if more else item.expr
-            part, inside = self.part(kind, steps[at : at + 1]), path + (steps[at],)
+            part = kind.to if kind.kind == "array" else self.structs[kind.name].fields[steps[at]].type
+            inside = path + (steps[at],)
             yield from self.parts(part, [items.pop(0)], inside, True) if more else self.scalars(part, items, inside)
             at += 1
 

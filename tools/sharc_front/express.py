@@ -96,6 +96,9 @@ class Expressions(Declarations):
             base = element(base, number(step)) if isinstance(step, int) else self.member(base, step)
         return base
 
+    def part(self, symbol, path):
+        return self.inner_place(variable(symbol), path)
+
     @staticmethod
     def at(value, index):
         """Element `index` of what a pointer points to, as a place."""

@@ -13,7 +13,7 @@ from .declare import Symbol
 from .names import Names, in_c
 from .places import Places
 from .source import HEADERS, texts
-from .tree import NOTHING, Expr, number, variable
+from .tree import NOTHING, Expr, number
 
 class Front(Places):
     def __init__(self, source, words):
@@ -54,8 +54,8 @@ class Front(Places):
         """Globals of one type, or members of such structs, to which one pointer may point, become one array."""
         several = [[*root.globals] for root in self.everything() if len(root.globals) > 1]
         for keys in sorted(several, key=lambda keys: (max(len(path) for _, path in keys), sorted(map(named, keys)))):
-            kinds = [self.part(symbol.type, path) for symbol, path in keys]
-            around = [self.part(symbol.type, path[:at]).kind for symbol, path in keys for at in range(len(path))]
+            kinds = [self.part(symbol, path).type for symbol, path in keys]
+            around = [self.part(symbol, path[:at]).type.kind for symbol, path in keys for at in range(len(path))]
             bases, starts = [kind.base() for kind in kinds], [0, *accumulate(kind.cells() for kind in kinds)]
             apart = "array" not in around and not (around and bases[0].kind == "struct")
             apart &= not any(symbol is self.strings or (symbol, ()) in self.groups for symbol, _ in keys)
@@ -78,7 +78,7 @@ class Front(Places):
         for path, part in parts:
             name, made = self.part_name(symbol, path), ""
             if part.kind == "array":
-                node = self.address_class(self.inner_place(variable(symbol), path)).find()
+                node = self.address_class(self.part(symbol, path)).find()
                 node.mark("heap")
                 made = " " + self.new_object(name, part.base(), number(part.cells()), self.boxes(node))
                 part = Type("ptr", to=part.base(), node=node)
@@ -230,7 +230,7 @@ class Front(Places):
     def set_initialiser(self, symbol, values):
         """The constants that parts of a global are declared with; main assigns the rest."""
         for path, item in values:
-            lines, _ = self.captured(self.store, self.inner_place(variable(symbol), path), item)
+            lines, _ = self.captured(self.store, self.part(symbol, path), item)
             value = lines[0].parts[-1] if len(lines) == 1 and lines[0].text == "%s = %s;" else NOTHING
             if value.op == "number" and value.number > -(1 << 63) and not any(isinstance(step, int) for step in path):
                 symbol.constants.update({path: value} if value.number else {})

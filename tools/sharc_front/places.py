@@ -97,8 +97,8 @@ class Places(Threads):
         self.refuse_if(how != "global", "use of a pointer that is always NULL or a number")
         symbol, path = next(iter(node.find().globals))
         self.reads_strings |= symbol is self.strings
-        kinds = [self.part(symbol.type, path[:at]) for at in range(len(path) + 1)]
-        spot, moves = self.spot(self.inner_place(variable(symbol), path)), node.has("order")
+        kinds = [self.part(symbol, path[:at]).type for at in range(len(path) + 1)]
+        spot, moves = self.spot(self.part(symbol, path)), node.has("order")
         arrays = [at for at, part in enumerate(kinds) if part.kind == "array"]
         self.refuse_if(kinds[-1].base() != kind.base(), f"pointer to {kinds[-1].shown()} used for {kind.shown()}")
         single = arrays[-1] < len(path) and moves if arrays else not index.null() or moves and not pointer.place()

@@ -42,6 +42,8 @@ def preprocessed(path, options):
 def octal(found):
     """An escape with three digits, so that it ends where it did when strings are joined."""
     number, digits, letter = found.groups()
+    if letter in ("u", "U"):
+        return found[0]
     code = int(number, 16) if number else int(digits, 8) if digits else LETTERS.get(letter, ord(letter))
     return f"\\{code & 255:03o}"
 

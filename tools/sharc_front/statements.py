@@ -96,7 +96,7 @@ class Statements(Expressions):
         if symbol.kind == "local":
             self.later(lambda: self.declaration(symbol), declares=True)
         for path, item in values:
-            self.blocked(self.store, self.inner_place(variable(symbol), path), item)
+            self.blocked(self.store, self.part(symbol, path), item)
 
     def loop(self, cond, step, body, around=None, ends=False):
         """`step` is at the end of the body, and before each continue: self.loops has it for each loop around, and the
